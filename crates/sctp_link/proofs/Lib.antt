@@ -1,3 +1,4 @@
+pub mod Names
 pub mod sides
 pub mod sender
 pub mod abandonment

@@ -3,5 +3,4 @@ pub mod FlightAcked
 pub mod StreamsLess
 pub mod Rebased
 pub mod Reporting
-pub mod SackFrames
 pub mod SackTaken

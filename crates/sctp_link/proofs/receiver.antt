@@ -7,5 +7,4 @@ pub mod Hears
 pub mod Slots
 pub mod SlotLists
 pub mod Received
-pub mod NewSlots
 pub mod Spans

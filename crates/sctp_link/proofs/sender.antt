@@ -5,9 +5,7 @@ pub mod Starting
 pub mod Modes
 pub mod Outgoing
 pub mod Between
-pub mod Ahead
 pub mod Noted
-pub mod Flying
 pub mod Sending
 pub mod SentLists
 pub mod Gone

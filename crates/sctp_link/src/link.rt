@@ -280,12 +280,3 @@ fn memory(refusal: SenderRefusal) -> Error
         _ => unreachable!(),
     }
 }
-
-/// Puts an item where room was made for it.
-/// Precondition: there is room.
-fn put<T: Drop>(items: &mut Vec<T>, item: T)
-    requires { vec_len items.old < vec_capacity items.old }
-    ensures { items.new.items ≡ items.old.items ++ item ∷ [] }
-{
-    let _ = items.push(item);
-}

@@ -5,3 +5,6 @@ pub mod amounts
 pub mod arriving
 pub mod reading
 pub mod skipping
+pub mod Histories
+pub mod Lists
+pub mod Walks

@@ -7,3 +7,4 @@ pub mod StreamCounters
 pub mod AnsweredSums
 pub mod NoLarger
 pub mod Sizes
+pub mod Bounds

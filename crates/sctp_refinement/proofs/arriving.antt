@@ -13,3 +13,6 @@ pub mod Carried
 pub mod FilterQueue
 pub mod Opened
 pub mod SpanEnds
+pub mod NewSlots
+pub mod SlotSpans
+pub mod SlotDistances

@@ -13,3 +13,5 @@ pub mod InLine
 pub mod SlotsGoOn
 pub mod Begun
 pub mod BegunRun
+pub mod Ahead
+pub mod Flying

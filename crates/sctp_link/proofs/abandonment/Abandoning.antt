@@ -1,59 +1,28 @@
 -- A message is abandoned: what a link keeps.
-use Rattle.std.proofs.Common.{◌≡◌, ℕ, ◌+◌, ◌-◌, ◌<◌, Bool, true, false, List, [], ◌∷◌, ◌++◌, length, map, Some, None, refl, ap, sym, ◌∙◌, arith}
-use Rattle.std.specs.Prelude.{if◌then◌else◌, ◌==◌, slice_get, slice_index_or, slice_set}
-use Rattle.std.proofs.Math.Path.{subst}
-use Rattle.std.proofs.lemmas.List.{map-append}
-use Rattle.sctp_list_lemmas.specs.Lists.{change_where, change_at}
-use Rattle.sctp_list_lemmas.proofs.Edits.{length-change_where}
-use Rattle.sctp_list_lemmas.proofs.Getting.{length-mapped}
-use Rattle.sctp_outbound.specs.outbound_queue.OutboundQueue.{Outbound}
-use Rattle.sctp_model.specs.declared.event.Event.{Event}
+use Rattle.sctp_link.proofs.Names.{◌≡◌, ℕ, ◌+◌, ◌-◌, ◌<◌, Bool, true, false, List, [], ◌∷◌, ◌++◌, length, map, Some, None, refl, ap, sym, ◌∙◌, arith}
+use Rattle.sctp_link.proofs.Names.{if◌then◌else◌, ◌==◌, slice_get, slice_index_or, slice_set, subst, map-append, change_where, change_at, length-change_where}
+use Rattle.sctp_link.proofs.Names.{length-mapped, Outbound, Event, LinkRecord, message_at, ordered_before, sent_of, is_partially_sent, next_of, contents_of}
+use Rattle.sctp_link.proofs.Names.{cumulative_tsn, filter_of, in_all, written_bytes, after_abandon, mark_abandoned, IsSetup, StandsFor, refusal_of, after}
+use Rattle.sctp_link.proofs.Names.{reply_to, fragments_accepted, Quiet, shape, amount, held_bytes, reassembly_of, counters_on, is_write, is_read, begun_on}
+use Rattle.sctp_link.proofs.Names.{Indexed, SendsNone, terminal_of, abandoned-is, count-then, before-then, KeepsNext, counters-same, OpenStream, has_number}
+use Rattle.sctp_link.proofs.Names.{less_by, Message, Slot, terminals, State, IsOpenStream, IsLinked, stats_of, message_record, progress_of, slot_record}
+use Rattle.sctp_link.proofs.Names.{stream_record, IsDatagram, map-set_same, get_or-map, stands-then, map-set}
 use Rattle.sctp_model.specs.LinkRecord as W
-use Rattle.sctp_model.specs.LinkRecord.{LinkRecord}
-use Rattle.sctp_model.specs.Messages.{message_at, ordered_before, sent_of, is_partially_sent}
-use Rattle.sctp_model.specs.Receiver.{next_of}
-use Rattle.sctp_model.specs.Contents.{contents_of, cumulative_tsn}
-use Rattle.sctp_model.specs.Queues.{filter_of}
-use Rattle.sctp_model.specs.Amounts.{in_all, written_bytes}
-use Rattle.sctp_model.specs.Changes.{after_abandon, mark_abandoned}
-use Rattle.sctp_model.specs.Laws.{IsSetup}
-use Rattle.sctp_model.specs.Steps.{StandsFor, refusal_of, after, reply_to, fragments_accepted}
 use Rattle.sctp_model.proofs.sender.Moves
-use Rattle.sctp_model.proofs.sender.Moves.{Quiet}
-use Rattle.sctp_model.proofs.sender.Shape.{shape}
-use Rattle.sctp_refinement.specs.Amount.{amount, held_bytes}
-use Rattle.sctp_refinement.specs.Holds.{reassembly_of}
-use Rattle.sctp_refinement.specs.Counts.{counters_on, is_write, is_read}
-use Rattle.sctp_refinement.specs.Indexes.{begun_on}
-use Rattle.sctp_refinement.proofs.sending.Begun.{Indexed}
-use Rattle.sctp_refinement.proofs.sending.BegunRun.{SendsNone}
 use Rattle.sctp_refinement.proofs.abandonment.AbandonedLate.{sent-then}
-use Rattle.sctp_refinement.proofs.abandonment.AbandonedLink.{terminal_of, abandoned-is, count-then, before-then}
-use Rattle.sctp_refinement.proofs.reading.ReadOne.{KeepsNext}
 use Rattle.sctp_refinement.proofs.abandonment.NothingHeld.{amount-abandoned}
-use Rattle.sctp_refinement.proofs.amounts.StreamCounters.{counters-same}
-use Rattle.sctp_link.specs.Streams.{OpenStream, has_number, less_by}
-use Rattle.sctp_link.specs.declared.record.Message.{Message}
-use Rattle.sctp_link.specs.declared.record.Slot.{Slot}
-use Rattle.sctp_link.specs.OpenStreams.{terminals}
-use Rattle.sctp_link.specs.Linked.{State, IsOpenStream, IsLinked, stats_of}
-use Rattle.sctp_link.specs.Records.{message_record, progress_of, slot_record, stream_record}
 use Rattle.sctp_link.proofs.abandonment.QueueAnswers.{Gives}
-use Rattle.sctp_link.proofs.upkeep.Apart.{map-set}
 use Rattle.sctp_link.proofs.upkeep.StreamPlaces.{apart-changed}
 use Rattle.sctp_link.proofs.sender.Beginning.{index_kept}
 use Rattle.sctp_link.proofs.upkeep.ChangedStreams.{fields-same, changed-at}
-use Rattle.sctp_link.proofs.upkeep.Facts.{facts, stands-then}
-use Rattle.sctp_link.proofs.receiver.Hears.{raw-at}
-use Rattle.sctp_link.specs.Encodings.{IsDatagram}
+use Rattle.sctp_link.proofs.upkeep.Facts.{facts}
 use Rattle.sctp_link.proofs.upkeep.Frames.{moved, encodings-same, next-kept, held-quiet, filter-kept, begun-kept, indexed-kept, fragments-same, written-kept}
-use Rattle.sctp_stream.proofs.StreamPlaces.{map-set_same}
 
 network-same : (w : LinkRecord) (n : ℕ) → (after_abandon w n).network ≡ w.network
 network-same w n = ap (λ u. u.network) (abandoned-is w n)
 
 -- an event that abandons a message of which some was sent
-module _ (sum : List ℕ → ℕ) (x : State) (l : IsLinked sum x) (e : Event) (ok : refusal_of x.recorded e ≡ None) (n s bytes : ℕ) (q : Outbound) (next : ℕ)
+module _ {sum : List ℕ → ℕ} {x : State} (l : IsLinked sum x) {e : Event} (ok : refusal_of x.recorded e ≡ None) {n s bytes : ℕ} {q : Outbound} {next : ℕ}
     (r : Gives x e n s bytes q next) (keeps : KeepsNext e) (none : SendsNone e) (no-write : is_write e ≡ false) (no-read : is_read e ≡ false) where
   abbrev w : LinkRecord
   w = x.recorded
@@ -62,7 +31,7 @@ module _ (sum : List ℕ → ℕ) (x : State) (l : IsLinked sum x) (e : Event) (
   v = after_abandon x.recorded n
 
   quiet : Quiet x.recorded (after x.recorded e)
-  quiet = subst (Quiet x.recorded) (sym r.is) (Moves.quiet-abandoned x.recorded.setup x.recorded n (facts sum x l).consistent)
+  quiet = subst (Quiet x.recorded) (sym r.is) (Moves.quiet-abandoned x.recorded.setup x.recorded n (facts l).consistent)
 
   setup-same : v.setup ≡ w.setup
   setup-same = ap (λ u. u.setup) (abandoned-is w n)
@@ -73,16 +42,16 @@ module _ (sum : List ℕ → ℕ) (x : State) (l : IsLinked sum x) (e : Event) (
   stream-by y bytes i less =
       let t = y.state.stream_identifier in
       record {
-        held = i.held ∙ sym (ap (λ u. reassembly_of u t) (sym r.is) ∙ held-quiet sum x l e ok quiet t);
+        held = i.held ∙ sym (ap (λ u. reassembly_of u t) (sym r.is) ∙ held-quiet l e ok quiet t);
         si = i.si;
         largest = i.largest ∙ ap (λ s. s.largest) (sym setup-same);
         size = i.size ∙ ap (λ s. s.size) (sym setup-same);
         ordered = i.ordered ∙ sym (ap (ordered_before v t) (count-then w n) ∙ before-then w n t (length w.messages));
         number = i.number;
-        begun = i.begun ∙ sym (ap (λ u. begun_on u t) (sym r.is) ∙ begun-kept sum x l e ok none t);
-        next = i.next ∙ sym (ap (λ u. next_of u t) (sym r.is) ∙ next-kept sum x l e ok keeps t);
+        begun = i.begun ∙ sym (ap (λ u. begun_on u t) (sym r.is) ∙ begun-kept l e ok none t);
+        next = i.next ∙ sym (ap (λ u. next_of u t) (sym r.is) ∙ next-kept l e ok keeps t);
         amount = omega (arith, i.amount, less);
-        stats = i.stats ∙ ap stats_of (sym (ap (λ u. counters_on u t) (sym r.is) ∙ counters-same w.setup w e t (facts sum x l).consistent no-write no-read));
+        stats = i.stats ∙ ap stats_of (sym (ap (λ u. counters_on u t) (sym r.is) ∙ counters-same w.setup w e t (facts l).consistent no-write no-read));
       }
 
   stream-given : (y : OpenStream) → IsOpenStream w y
@@ -115,28 +84,28 @@ module _ (sum : List ℕ → ℕ) (x : State) (l : IsLinked sum x) (e : Event) (
       (stream-given y (l.open_streams k d inside))
 
   indexed-then : Indexed (shape v) (index_kept x.progress)
-  indexed-then = subst (λ u. Indexed (shape u) (index_kept x.progress)) r.is (indexed-kept sum x l e ok none)
+  indexed-then = subst (λ u. Indexed (shape u) (index_kept x.progress)) r.is (indexed-kept l e ok none)
 
   linked-after : IsLinked sum (record x { recorded = v; open_streams = ls; outbound = q; next_tsn = next })
   linked-after = record {
     setup = subst IsSetup (sym setup-same) l.setup;
     history = (e, reply_to w e) ∷ l.history;
     stands = subst (λ t. StandsFor t v ((e, reply_to w e) ∷ l.history)) (sym setup-same)
-        (subst (λ u. StandsFor w.setup u ((e, reply_to w e) ∷ l.history)) r.is (stands-then w.setup w l.history e ok l.stands));
+        (subst (λ u. StandsFor w.setup u ((e, reply_to w e) ∷ l.history)) r.is (stands-then e ok l.stands));
     outbound = r.refines;
     unstarted = l.unstarted ∙ sym r.unstarted;
-    filter = l.filter ∙ sym (ap filter_of (sym r.is) ∙ filter-kept sum x l e ok quiet);
+    filter = l.filter ∙ sym (ap filter_of (sym r.is) ∙ filter-kept l e ok quiet);
     next = r.next_is;
     acked = l.acked ∙ ap (λ u. cumulative_tsn u u.taken) (sym (abandoned-is w n));
-    fragments = l.fragments ∙ sym (ap fragments_accepted (sym r.is) ∙ fragments-same sum x l e ok no-write);
-    written = l.written ∙ sym (ap (λ u. in_all u (written_bytes u)) (sym r.is) ∙ written-kept sum x l e ok no-write);
+    fragments = l.fragments ∙ sym (ap fragments_accepted (sym r.is) ∙ fragments-same l e ok no-write);
+    written = l.written ∙ sym (ap (λ u. in_all u (written_bytes u)) (sym r.is) ∙ written-kept l e ok no-write);
     sents = λ k lt. l.sents k (omega (arith, lt, count-then w n)) ∙ sym (sent-then w n k);
     indexes = indexed-then.is;
     low = indexed-then.low;
     open_streams = each;
     apart = apart-changed s (less_by bytes) x.open_streams (λ y. refl) l.apart;
     encodings = λ k d g t. subst (λ u. slice_get u.network k ≡ Some g → IsDatagram sum (contents_of u g) (slice_index_or x.datagrams k d)) r.is
-        (λ t'. encodings-same sum x l e ok (ap (λ u. u.network) r.is ∙ network-same w n) k d g t') t;
+        (λ t'. encodings-same l e ok (ap (λ u. u.network) r.is ∙ network-same w n) k d g t') t;
   }
 
   -- with the lists that a link then has
@@ -148,7 +117,7 @@ module _ (sum : List ℕ → ℕ) (x : State) (l : IsLinked sum x) (e : Event) (
     lt = omega (arith, r.made, ap length em, length-mapped message_record ms)
 
     sent-is : m.sent ≡ sent_of w n
-    sent-is = ap (λ (t : Message). t.sent) here ∙ sym (ap (λ (p : ℕ × ℕ). p.0) (raw-at progress_of ms n (0, 0) m lt))
+    sent-is = ap (λ (t : Message). t.sent) here ∙ sym (ap (λ (p : ℕ × ℕ). p.0) (get_or-map progress_of ms n m (0, 0) lt))
         ∙ ap (λ (ps : List (ℕ × ℕ)). (slice_index_or ps n (0, 0)).0) (sym ep) ∙ l.sents n r.made
 
     slots-given : map slot_record ss' ≡ w.slots ++ terminal_of w n
@@ -165,8 +134,14 @@ module _ (sum : List ℕ → ℕ) (x : State) (l : IsLinked sum x) (e : Event) (
     taken : m' ≡ record (slice_index_or ms n m) { abandoned = true }
     taken = took ∙ ap (λ (t : Message). record t { abandoned = true }) here
 
-    pub recorded-given : record x.recorded { streams = map stream_record ls; messages = map message_record (slice_set ms n m'); slots = map slot_record ss' }
-        ≡ after_abandon x.recorded n
+    -- the record then, and a link with these parts
+    abbrev recorded-then : LinkRecord
+    recorded-then = record x.recorded { streams = map stream_record ls; messages = map message_record (slice_set ms n m'); slots = map slot_record ss' }
+
+    abbrev state-then : LinkRecord → List (ℕ × ℕ) → State
+    state-then u p = record x { recorded = u; open_streams = ls; progress = p; outbound = q; next_tsn = next }
+
+    pub recorded-given : recorded-then ≡ after_abandon x.recorded n
     recorded-given =
         ap (λ r. record x.recorded { streams = r; messages = map message_record (slice_set ms n m'); slots = map slot_record ss' })
         (fields-same stream_record (less_by bytes) (λ y. refl) s x.open_streams ∙ sym streams)
@@ -174,24 +149,6 @@ module _ (sum : List ℕ → ℕ) (x : State) (l : IsLinked sum x) (e : Event) (
         (map-set message_record mark_abandoned ms n m' m lt (ap message_record taken) ∙ ap (change_at mark_abandoned n) (sym em))
         ∙ ap (λ r. record x.recorded { messages = change_at mark_abandoned n x.recorded.messages; slots = r }) slots-given ∙ sym (abandoned-is x.recorded n)
 
-    pub linked-given : IsLinked sum (record x {
-      recorded = record x.recorded { streams = map stream_record ls; messages = map message_record (slice_set ms n m'); slots = map slot_record ss' };
-      open_streams = ls;
-      progress = map progress_of (slice_set ms n m');
-      outbound = q;
-      next_tsn = next;
-    })
-    linked-given =
-        subst (λ p. IsLinked sum (record x {
-          recorded = record x.recorded { streams = map stream_record ls; messages = map message_record (slice_set ms n m'); slots = map slot_record ss' };
-          open_streams = ls;
-          progress = p;
-          outbound = q;
-          next_tsn = next;
-        })) (sym (map-set_same progress_of ms n m' m (ap progress_of taken) ∙ sym ep))
-        (moved sum (record x {
-          recorded = record x.recorded { streams = map stream_record ls; messages = map message_record (slice_set ms n m'); slots = map slot_record ss' };
-          open_streams = ls;
-          outbound = q;
-          next_tsn = next;
-        }) v recorded-given linked-after)
+    pub linked-given : IsLinked sum (state-then recorded-then (map progress_of (slice_set ms n m')))
+    linked-given = subst (λ p. IsLinked sum (state-then recorded-then p)) (sym (map-set_same progress_of ms n m' m (ap progress_of taken) ∙ sym ep))
+        (moved sum (state-then recorded-then x.progress) v recorded-given linked-after)

@@ -1,43 +1,24 @@
 -- A message is abandoned: what the outbound queue answers.
-use Rattle.std.proofs.Common.{◌≡◌, ℕ, ◌+◌, ◌-◌, ◌<◌, ◌≤◌, ◌^◌, Bool, true, false, List, [], ◌∷◌, length, length-append, Option, Some, None, refl, ap, sym, ◌∙◌}
-use Rattle.std.proofs.Common.{arith}
-use Rattle.std.specs.Prelude.{if◌then◌else◌, ◌==◌, ◌&&◌, not, nat_le, nat_lt, find, is_some, option_map}
-use Rattle.std.proofs.Math.Path.{subst}
-use Rattle.std.proofs.lemmas.Bool.{lt-ltb}
-use Rattle.std.proofs.lemmas.Bool.Decides.{nat_tests}
-use Rattle.sctp_data.specs.Reliability.{is_past}
-use Rattle.sctp_list_lemmas.proofs.More.{both}
-use Rattle.sctp_data.specs.declared.chunk.chunk_payload_data.ChunkPayloadData.{ChunkPayloadData}
-use Rattle.sctp_serial.specs.DataChunks.{has_tsn}
-use Rattle.sctp_outbound.specs.pending_queue.PendingQueue.{next_pending}
-use Rattle.sctp_outbound.specs.outbound_queue.OutboundQueue as queue
-use Rattle.sctp_outbound.specs.outbound_queue.OutboundQueue.{Outbound, to_abandon, abandoned_of, tsn_after_of, has_tail, total_bytes, expiring_tail}
-use Rattle.sctp_model.specs.declared.event.Event.{Event}
-use Rattle.sctp_model.specs.declared.event.Event.TheVariants as E
-use Rattle.sctp_model.specs.declared.event.LinkRefusal.TheVariants.{NotInFlight}
-use Rattle.sctp_model.specs.LinkRecord.{LinkRecord, Slot}
-use Rattle.sctp_model.specs.Messages.{message_at, message_of, tsn_of, place_of, sent_of, fragment_count, deadline_of, is_past_deadline, is_partially_sent}
-use Rattle.sctp_model.specs.Messages.{is_in_flight}
-use Rattle.sctp_model.specs.Amounts.{growth}
-use Rattle.sctp_model.specs.Changes.{after_abandon, tailing, after_tail, front_if}
-use Rattle.sctp_model.specs.Reply as R
-use Rattle.sctp_model.specs.Steps.{IsRight, refusal_of, reply_to, tail_reply, after, record_of}
-use Rattle.sctp_model.proofs.sender.SenderRun.{unless-holds, consistent-run}
-use Rattle.sctp_model.proofs.sender.Few
+use Rattle.sctp_link.proofs.Names.{◌≡◌, ℕ, ◌+◌, ◌-◌, ◌<◌, ◌≤◌, ◌^◌, Bool, true, false, List, [], ◌∷◌, length, length-append, Option, Some, None, refl, ap, sym}
+use Rattle.sctp_link.proofs.Names.{◌∙◌, arith, if◌then◌else◌, ◌==◌, ◌&&◌, not, nat_le, nat_lt, find, is_some, option_map, subst, lt-ltb, nat_tests, both}
+use Rattle.sctp_link.proofs.Names.{ChunkPayloadData, has_tsn, next_pending, Outbound, to_abandon, abandoned_of, tsn_after_of, has_tail, total_bytes}
+use Rattle.sctp_link.proofs.Names.{expiring_tail, Event, NotInFlight, LinkRecord, message_at, message_of, tsn_of, place_of, sent_of, fragment_count}
+use Rattle.sctp_link.proofs.Names.{deadline_of, is_past_deadline, is_partially_sent, is_in_flight, growth, after_abandon, tailing, after_tail, front_if}
+use Rattle.sctp_link.proofs.Names.{IsRight, refusal_of, reply_to, tail_reply, after, record_of, unless-holds, consistent-run, front-takes, shape, held_bytes}
+use Rattle.sctp_link.proofs.Names.{RefinesOutbound, terminal_of, abandoned-is, Found, found-in, State, IsLinked, some-same, stands-then}
+use Rattle.sctp_refinement.proofs.abandonment.ChunkStreams.{flying-answer, tail-stream}
+use Rattle.sctp_refinement.proofs.abandonment.Released.{growth-abandon, growth-tail}
 use Rattle.sctp_model.proofs.sender.SenderSteps.{is-partial}
-use Rattle.sctp_model.proofs.sender.Fronts.{front-takes}
-use Rattle.sctp_model.proofs.sender.Shape.{shape}
-use Rattle.sctp_refinement.specs.Amount.{held_bytes}
-use Rattle.sctp_refinement.specs.Refines.{RefinesOutbound}
-use Rattle.sctp_refinement.proofs.abandonment.AbandonedLink.{terminal_of, abandoned-is}
+use Rattle.sctp_data.specs.Reliability.{is_past}
+use Rattle.sctp_outbound.specs.outbound_queue.OutboundQueue as queue
+use Rattle.sctp_model.specs.declared.event.Event.TheVariants as E
+use Rattle.sctp_model.specs.LinkRecord.{Slot}
+use Rattle.sctp_model.specs.Reply as R
+use Rattle.sctp_model.proofs.sender.Few
 use Rattle.sctp_refinement.proofs.abandonment.AbandonedBytes.{bytes-abandon, bytes-tail}
 use Rattle.sctp_refinement.proofs.abandonment.AbandonedEvents.{refines-abandon, next-abandon, refines-tail, next-tail, tail-is, tail-tsn}
-use Rattle.sctp_refinement.proofs.abandonment.ChunkStreams.{flying-answer, tail-stream}
-use Rattle.sctp_refinement.proofs.sending.InFlight.{Found, found-in}
-use Rattle.sctp_refinement.proofs.abandonment.Released.{growth-abandon, growth-tail}
-use Rattle.sctp_link.specs.Linked.{State, IsLinked}
-use Rattle.sctp_link.proofs.upkeep.Facts.{facts, over, stands-then}
-use Rattle.sctp_link.proofs.sender.Flying.{flying}
+use Rattle.sctp_link.proofs.upkeep.Facts.{facts, over}
+use Rattle.sctp_refinement.proofs.sending.Flying.{flying}
 use Rattle.sctp_link.proofs.sender.Sending.{Next, next-is, none-next}
 
 -- the event abandons the message: its stream, the bytes that left, the queue and the next TSN then
@@ -55,14 +36,11 @@ unstarted-same : (o : Option ℕ) (tsn : ℕ) (q : Outbound) → (abandoned_of o
 unstarted-same None tsn q = refl
 unstarted-same (Some n) tsn q = refl
 
-inner : {A : Type 0} {a b : A} → Some a ≡ Some b → a ≡ b
-inner e = cc
-
 -- where the message is partially sent its terminal chunk takes a slot, so a further TSN may be given out
-partial-fits : (sum : List ℕ → ℕ) (x : State) (l : IsLinked sum x) (e : Event) (n : ℕ) → refusal_of x.recorded e ≡ None
+partial-fits : {sum : List ℕ → ℕ} {x : State} (l : IsLinked sum x) (e : Event) (n : ℕ) → refusal_of x.recorded e ≡ None
     → after x.recorded e ≡ after_abandon x.recorded n → is_partially_sent x.recorded n ≡ true → nat_lt (length x.outbound.inflight.chunks + 1) (2 ^ 31) ≡ true
-partial-fits sum x l e n ok is partial =
-    let s = stands-then x.recorded.setup x.recorded l.history e ok l.stands in
+partial-fits {x} l e n ok is partial =
+    let s = stands-then e ok l.stands in
     let few = Few.few x.recorded.setup (record_of x.recorded.setup ((e, reply_to x.recorded e) ∷ l.history))
     (consistent-run x.recorded.setup ((e, reply_to x.recorded e) ∷ l.history) s.run) in
     let count : length (record_of x.recorded.setup ((e, reply_to x.recorded e) ∷ l.history)).slots ≡ length x.recorded.slots + 1 =
@@ -73,7 +51,7 @@ partial-fits sum x l e n ok is partial =
 
 -- ## The message of a TSN in flight
 
-module _ (sum : List ℕ → ℕ) (x : State) (l : IsLinked sum x) (tsn : ℕ) (fits : tsn < 2 ^ 32) (ok : refusal_of x.recorded (E.Abandon tsn) ≡ None) where
+module _ {sum : List ℕ → ℕ} {x : State} (l : IsLinked sum x) (tsn : ℕ) (fits : tsn < 2 ^ 32) (ok : refusal_of x.recorded (E.Abandon tsn) ≡ None) where
   abbrev w : LinkRecord
   w = x.recorded
 
@@ -93,20 +71,20 @@ module _ (sum : List ℕ → ℕ) (x : State) (l : IsLinked sum x) (tsn : ℕ) (
   high = let a = (both (nat_le w.taken p) (nat_lt p (length w.slots)) flies).1 in grind (arith, nat_tests)
 
   pub made : n < length w.messages
-  made = (facts sum x l).consistent.sender.made p high
+  made = (facts l).consistent.sender.made p high
 
   back : tsn_of w p ≡ tsn
   back = let f = l.setup.first in omega (arith, f, fits)
 
   pub partial-tail : has_tail (to_abandon (find (has_tsn tsn) x.outbound.inflight.chunks)) x.outbound ≡ is_partially_sent w n
   partial-tail =
-      let f = facts sum x l in
+      let f = facts l in
       subst (λ t. has_tail (to_abandon (find (has_tsn t) x.outbound.inflight.chunks)) x.outbound ≡ is_partially_sent w n) back
       (tail-tsn w.setup w p x.outbound f.consistent low high l.outbound)
 
   found : Found w p x.outbound.inflight.chunks
   found =
-      let f = facts sum x l in
+      let f = facts l in
       found-in w p (omega (arith, high, f.few)) x.outbound.inflight.chunks w.taken (length w.slots - w.taken)
       (omega (arith, f.few, f.taken)) low (omega (arith, high, f.taken)) l.outbound.in_flight
 
@@ -116,23 +94,23 @@ module _ (sum : List ℕ → ℕ) (x : State) (l : IsLinked sum x) (tsn : ℕ) (
 
   pub tail-fits : has_tail (to_abandon (find (has_tsn tsn) x.outbound.inflight.chunks)) x.outbound ≡ true
       → nat_lt (length x.outbound.inflight.chunks + 1) (2 ^ 31) ≡ true
-  tail-fits tail = partial-fits sum x l (E.Abandon tsn) n ok refl (sym partial-tail ∙ tail)
+  tail-fits tail = partial-fits l (E.Abandon tsn) n ok refl (sym partial-tail ∙ tail)
 
   -- the stream that the queue answers is the message's
   pub stream-is : (s : ℕ) → Some s ≡ option_map (λ (c : ChunkPayloadData). c.stream_identifier) (find (has_tsn tsn) x.outbound.inflight.chunks)
       → s ≡ (message_at x.recorded (message_of x.recorded (place_of x.recorded tsn))).stream
-  stream-is s e = inner (e ∙ flying-answer w.setup w tsn x.outbound (facts sum x l).consistent l.setup.first fits flies l.outbound)
+  stream-is s e = some-same (e ∙ flying-answer w.setup w tsn x.outbound (facts l).consistent l.setup.first fits flies l.outbound)
 
   pub gives : (s bytes : ℕ) (q : Outbound) (next : ℕ) → Some s ≡ option_map (λ (c : ChunkPayloadData). c.stream_identifier)
       (find (has_tsn tsn) x.outbound.inflight.chunks) → q ≡ abandoned_of (to_abandon (find (has_tsn tsn) x.outbound.inflight.chunks)) x.next_tsn x.outbound
       → next ≡ tsn_after_of (to_abandon (find (has_tsn tsn) x.outbound.inflight.chunks)) x.next_tsn x.outbound → total_bytes q + bytes ≡ total_bytes x.outbound
       → Gives x (E.Abandon tsn) n s bytes q next
   gives s bytes q next es eq en eb =
-      let f = facts sum x l in
+      let f = facts l in
       let g = f.consistent in
       let o = to_abandon (find (has_tsn tsn) x.outbound.inflight.chunks) in
       let here : q ≡ abandoned_of o (tsn_of w (length w.slots)) x.outbound = eq ∙ ap (λ t. abandoned_of o t x.outbound) l.next in
-      let left = over sum x (λ u. (r : Outbound) → refusal_of u (E.Abandon tsn) ≡ None → RefinesOutbound u r → growth u (after u (E.Abandon tsn))
+      let left = over (λ u. (r : Outbound) → refusal_of u (E.Abandon tsn) ≡ None → RefinesOutbound u r → growth u (after u (E.Abandon tsn))
       ≡ total_bytes r - total_bytes (abandoned_of (to_abandon (find (has_tsn tsn) r.inflight.chunks)) (tsn_of u (length u.slots)) r)) l
       (λ r ok' t. bytes-abandon w.setup l.history l.setup l.stands.run r t tsn fits ok') x.outbound ok l.outbound in
       let held = growth-abandon w.setup w tsn g ok l.setup in
@@ -150,16 +128,16 @@ module _ (sum : List ℕ → ℕ) (x : State) (l : IsLinked sum x) (tsn : ℕ) (
 
 -- ## The message in front
 
-module _ (sum : List ℕ → ℕ) (x : State) (l : IsLinked sum x) (now : ℕ) where
+module _ {sum : List ℕ → ℕ} {x : State} (l : IsLinked sum x) (now : ℕ) where
   pub none-tails : next_pending x.outbound.pending ≡ None → tailing x.recorded now ≡ None
-  none-tails e = ap (front_if x.recorded (λ n. is_partially_sent x.recorded n && is_past_deadline x.recorded now n)) (none-next sum x l e)
+  none-tails e = ap (front_if x.recorded (λ n. is_partially_sent x.recorded n && is_past_deadline x.recorded now n)) (none-next l e)
 
   module _ (c : ChunkPayloadData) (e : next_pending x.outbound.pending ≡ Some c) where
     abbrev k : ℕ
     k = c.message_id
 
     next : Next x.recorded c
-    next = next-is sum x l c e
+    next = next-is l c e
 
     begins-is : c.beginning_fragment ≡ (sent_of x.recorded k == 0)
     begins-is = ap (λ (d : ChunkPayloadData). d.beginning_fragment) next.is
@@ -171,7 +149,7 @@ module _ (sum : List ℕ → ℕ) (x : State) (l : IsLinked sum x) (now : ℕ) w
         by true z = let y : nat_lt 0 (sent_of x.recorded k) ≡ false = grind (arith, nat_tests) in
             ap (λ b. b && (nat_lt (sent_of x.recorded k) (fragment_count x.recorded k) && not (message_at x.recorded k).abandoned)) (sym y)
         by false z =
-            let t = front-takes (shape x.recorded) k (facts sum x l).consistent.sender next.front in
+            let t = front-takes (shape x.recorded) k (facts l).consistent.sender next.front in
             let some : 0 < sent_of x.recorded k = grind (arith, nat_tests) in
             sym (is-partial (shape x.recorded) k some t.more t.alive)
 
@@ -211,7 +189,7 @@ module _ (sum : List ℕ → ℕ) (x : State) (l : IsLinked sum x) (now : ℕ) w
   -- where it is partially sent and late the queue abandons it
   module _ (n : ℕ) (e : tailing x.recorded now ≡ Some n) where
     answered : queue.message_of (expiring_tail now x.outbound) ≡ Some n
-    answered = tail-is x.recorded.setup x.recorded now x.outbound (facts sum x l).going l.outbound ∙ e
+    answered = tail-is x.recorded.setup x.recorded now x.outbound (facts l).going l.outbound ∙ e
 
     pub past_deadline : is_some (expiring_tail now x.outbound) ≡ true
     past_deadline = by (expiring_tail now x.outbound) answered
@@ -221,10 +199,10 @@ module _ (sum : List ℕ → ℕ) (x : State) (l : IsLinked sum x) (now : ℕ) w
         by (Some c) t = refl
 
     pub number-is : (a : ℕ) → queue.message_of (expiring_tail now x.outbound) ≡ Some a → a ≡ n
-    number-is a h = inner (sym h ∙ answered)
+    number-is a h = some-same (sym h ∙ answered)
 
     pub rest-fits : is_partially_sent x.recorded n ≡ true → nat_lt (length x.outbound.inflight.chunks + 1) (2 ^ 31) ≡ true
-    rest-fits partial = partial-fits sum x l (E.Tail now) n refl (ap (after_tail x.recorded) e) partial
+    rest-fits partial = partial-fits l (E.Tail now) n refl (ap (after_tail x.recorded) e) partial
 
     -- the stream that the queue answers is the message's
     stream-tail : (s : ℕ) → Some s ≡ option_map (λ (c : ChunkPayloadData). c.stream_identifier) (expiring_tail now x.outbound)
@@ -235,8 +213,8 @@ module _ (sum : List ℕ → ℕ) (x : State) (l : IsLinked sum x) (now : ℕ) w
             → Some s ≡ option_map (λ (c : ChunkPayloadData). c.stream_identifier) o → s ≡ (message_at x.recorded n).stream
         by None h t e = cc
         by (Some c) h t e =
-            inner e ∙ tail-stream x.recorded.setup x.recorded now x.outbound c (facts sum x l).going l.outbound h
-            ∙ ap (λ k. (message_at x.recorded k).stream) (inner t)
+            some-same e ∙ tail-stream x.recorded.setup x.recorded now x.outbound c (facts l).going l.outbound h
+            ∙ ap (λ k. (message_at x.recorded k).stream) (some-same t)
 
     pub gives-tail : (s bytes : ℕ) (q : Outbound) (next : ℕ) → n < length x.recorded.messages
         → Some s ≡ option_map (λ (c : ChunkPayloadData). c.stream_identifier) (expiring_tail now x.outbound)
@@ -244,13 +222,13 @@ module _ (sum : List ℕ → ℕ) (x : State) (l : IsLinked sum x) (now : ℕ) w
         → next ≡ tsn_after_of (queue.message_of (expiring_tail now x.outbound)) x.next_tsn x.outbound → total_bytes q + bytes ≡ total_bytes x.outbound
         → Gives x (E.Tail now) n s bytes q next
     gives-tail s bytes q next made es eq en eb =
-        let f = facts sum x l in
+        let f = facts l in
         let g = f.consistent in
         let w = x.recorded in
         let o = queue.message_of (expiring_tail now x.outbound) in
         let is : after w (E.Tail now) ≡ after_abandon w n = ap (after_tail w) e in
         let here : q ≡ abandoned_of o (tsn_of w (length w.slots)) x.outbound = eq ∙ ap (λ t. abandoned_of o t x.outbound) l.next in
-        let left = over sum x (λ u. (r : Outbound) → RefinesOutbound u r → growth u (after u (E.Tail now))
+        let left = over (λ u. (r : Outbound) → RefinesOutbound u r → growth u (after u (E.Tail now))
         ≡ total_bytes r - total_bytes (abandoned_of (queue.message_of (expiring_tail now r)) (tsn_of u (length u.slots)) r)) l
         (λ r t. bytes-tail w.setup l.history l.setup l.stands.run r t now) x.outbound l.outbound in
         let held = growth-tail w.setup w now n g l.setup e in

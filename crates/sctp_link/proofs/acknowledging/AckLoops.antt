@@ -1,26 +1,16 @@
 -- The loops by which a SACK is taken: one slot after another is acknowledged.
-use Rattle.std.proofs.Common.{◌≡◌, ℕ, zero, suc, ◌+◌, ◌-◌, ◌<◌, ◌≤◌, Bool, true, false, List, [], ◌∷◌, length, length-set, get_or, set, take, refl, ap, sym}
-use Rattle.std.proofs.Common.{◌∙◌, inl, inr, add-one, arith}
-use Rattle.std.specs.Prelude.{◌==◌, ◌&&◌, ◌||◌, nat_lt, nat_le, max, slice_index_or}
-use Rattle.std.specs.List.{list_any}
-use Rattle.std.proofs.lemmas.Bool.{cases_lt, cases_eq, eq-eqb, ne_eqb, lt-ltb, le-ltb, le-leb, lt-leb, leb-true, ltb-true}
-use Rattle.std.proofs.lemmas.List.{get_or-set_same, get_or-set_other}
-use Rattle.sctp_list_lemmas.proofs.More.{same_test}
-use Rattle.sctp_data.specs.declared.chunk.chunk_selective_ack.GapAckBlock.{GapAckBlock}
+use Rattle.sctp_link.proofs.Names.{◌≡◌, ℕ, ◌+◌, ◌-◌, ◌<◌, ◌≤◌, Bool, true, false, List, length, length-set, get_or, set, take, refl, ap, sym, ◌∙◌, inl, inr}
+use Rattle.sctp_link.proofs.Names.{arith, ◌==◌, ◌&&◌, ◌||◌, nat_lt, nat_le, max, slice_index_or, list_any, cases_lt, cases_eq, eq-eqb, ne_eqb, lt-ltb, le-ltb}
+use Rattle.sctp_link.proofs.Names.{le-leb, lt-leb, leb-true, ltb-true, get_or-set_same, get_or-set_other, same_test, GapAckBlock, LinkRecord, slot_at, Slot}
+use Rattle.sctp_link.proofs.Names.{slot_record, IsMarking, and_one, and_run, and_blocks, in_block, or_assoc, or-none, or-true, and-none, and}
+use Rattle.std.proofs.lemmas.List.Folds.{list_any_more}
 use Rattle.sctp_model.specs.LinkRecord as W
-use Rattle.sctp_model.specs.LinkRecord.{LinkRecord}
-use Rattle.sctp_model.specs.Messages.{slot_at}
-use Rattle.sctp_link.specs.declared.record.Slot.{Slot}
-use Rattle.sctp_link.specs.Records.{slot_record}
-use Rattle.sctp_link.specs.Acking.{IsMarking, and_one, and_run, and_blocks, in_block}
-use Rattle.sctp_list_lemmas.proofs.Edits.{or_assoc}
-use Rattle.sctp_list_lemmas.proofs.Cases.{or-none, or-true, and-none}
 
 -- ## Tests that agree
 
 -- what is acknowledged may be told by another test that agrees
-pub marking-same : (w : LinkRecord) (s t : ℕ → Bool) (slots : List Slot) → ((k : ℕ) → s k ≡ t k) → IsMarking w s slots → IsMarking w t slots
-marking-same w s t slots same i = record { count = i.count; slots = λ k d lt. i.slots k d lt ∙ ap (acknowledged_if (slot_at w k)) (same k) }
+pub marking-same : {w : LinkRecord} {s : ℕ → Bool} (t : ℕ → Bool) {slots : List Slot} → ((k : ℕ) → s k ≡ t k) → IsMarking w s slots → IsMarking w t slots
+marking-same {w} t {slots} same i = record { count = i.count; slots = λ k d lt. i.slots k d lt ∙ ap (acknowledged_if (slot_at w k)) (same k) }
   where
     acknowledged_if : W.Slot → Bool → W.Slot
     acknowledged_if x b = record x { acknowledged = b }
@@ -55,9 +45,9 @@ slots-marked w acked slots p r lt i k d within = elim (cases_eq k p) [
     acknowledged' x = record x { acknowledged = true }
 
 -- the slots, with this one acknowledged too
-pub marking-one : (w : LinkRecord) (acked : ℕ → Bool) (slots : List Slot) (p : ℕ) (r : Slot) → p < length slots → IsMarking w acked slots
+pub marking-one : {w : LinkRecord} {acked : ℕ → Bool} {slots : List Slot} (p : ℕ) (r : Slot) → p < length slots → IsMarking w acked slots
     → IsMarking w (and_one acked p) (set slots p (record (get_or slots p r) { acknowledged = true }))
-marking-one w acked slots p r lt i = record { count = length-set slots p _ ∙ i.count; slots = slots-marked w acked slots p r lt i.slots }
+marking-one {w} {acked} {slots} p r lt i = record { count = length-set slots p _ ∙ i.count; slots = slots-marked w acked slots p r lt i.slots }
 
 -- ## A run of slots
 
@@ -87,15 +77,9 @@ run-more acked from p le k =
 
 no-run : (from p k : ℕ) → p ≤ from → (nat_le from k && nat_lt k p) ≡ false
 no-run from p k le = elim (cases_lt k from) [
-  | inl low ↦ below (nat_le from k) (nat_lt k p) (lt-leb from k low)
-  | inr high ↦ above (nat_le from k) (nat_lt k p) (le-ltb k p (omega (arith, le, high)))
+  | inl low ↦ ap (λ t. t && nat_lt k p) (lt-leb from k low)
+  | inr high ↦ ap (λ t. nat_le from k && t) (le-ltb k p (omega (arith, le, high))) ∙ and-none (nat_le from k)
 ]
-  where
-    below : (a b : Bool) → a ≡ false → (a && b) ≡ false
-    below a b e = rw e refl
-
-    above : (a b : Bool) → b ≡ false → (a && b) ≡ false
-    above a b e = rw e (and-none a)
 
 -- all of them
 pub run-all : (acked : ℕ → Bool) (from p to : ℕ) → to ≤ p → p ≤ max from to → (k : ℕ) → and_run acked from p k ≡ and_run acked from to k
@@ -105,21 +89,6 @@ run-all acked from p to le reach k = elim (cases_lt to from) [
 ]
 
 -- ## Gap blocks
-
-any-suc : {X : Type 0} (p : X → Bool) (xs : List X) (i : ℕ) (d : X) → i < length xs
-    → list_any p (take (suc i) xs) ≡ (list_any p (take i xs) || p (get_or xs i d))
-any-suc p [] i d lt = absurd (omega (arith, lt))
-any-suc p (x ∷ xs) zero d lt = or-none (p x)
-any-suc p (x ∷ xs) (suc i) d lt = ap (λ b. p x || b) (any-suc p xs i d (omega (arith, lt))) ∙ sym (or_assoc (p x) (list_any p (take i xs)) (p (get_or xs i d)))
-
-any-more : {X : Type 0} (p : X → Bool) (xs : List X) (i : ℕ) (d : X) → i < length xs
-    → list_any p (take (i + 1) xs) ≡ (list_any p (take i xs) || p (get_or xs i d))
-any-more p xs i d lt = rw add-one (any-suc p xs i d lt)
-
-pub any-at : {X : Type 0} (p : X → Bool) (xs : List X) (i : ℕ) (d : X) → i < length xs → p (get_or xs i d) ≡ true → list_any p xs ≡ true
-any-at p [] i d lt e = absurd (omega (arith, lt))
-any-at p (x ∷ xs) zero d lt e = ap (λ b. b || list_any p xs) e
-any-at p (x ∷ xs) (suc i) d lt e = ap (λ b. p x || b) (any-at p xs i d (omega (arith, lt)) e) ∙ or-true (p x)
 
 -- the run of a block is what it reports
 run-is : (cumulative k : ℕ) (b : GapAckBlock) → (nat_le (cumulative + b.start - 1) k && nat_lt k (cumulative + b.end)) ≡ in_block cumulative k b
@@ -135,13 +104,10 @@ pub block-more : (acked : ℕ → Bool) (cumulative : ℕ) (bs : List GapAckBloc
 block-more acked cumulative bs i d lt k =
     ap (λ b. (acked k || list_any (in_block cumulative k) (take i bs)) || b) (run-is cumulative k (slice_index_or bs i d))
     ∙ or_assoc (acked k) (list_any (in_block cumulative k) (take i bs)) (in_block cumulative k (slice_index_or bs i d))
-    ∙ ap (λ b. acked k || b) (sym (any-more (in_block cumulative k) bs i d lt))
+    ∙ ap (λ b. acked k || b) (sym (list_any_more (in_block cumulative k) bs i d lt))
 
 -- its last slot is one that it reports
 pub block-last : (cumulative : ℕ) (b : GapAckBlock) (k : ℕ) → cumulative + b.start - 1 < cumulative + b.end → k + 1 ≡ cumulative + b.end
     → in_block cumulative k b ≡ true
 block-last cumulative b k lt e = sym (run-is cumulative k b)
-    ∙ both (nat_le (cumulative + b.start - 1) k) (nat_lt k (cumulative + b.end)) (le-leb _ _ (omega (arith, lt, e))) (lt-ltb _ _ (omega (arith, e)))
-  where
-    both : (x y : Bool) → x ≡ true → y ≡ true → (x && y) ≡ true
-    both x y e f = rw (e, f) refl
+    ∙ and (nat_le (cumulative + b.start - 1) k) (nat_lt k (cumulative + b.end)) (le-leb _ _ (omega (arith, lt, e))) (lt-ltb _ _ (omega (arith, e)))

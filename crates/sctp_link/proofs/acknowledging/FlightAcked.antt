@@ -1,60 +1,13 @@
 -- What is in flight once a SACK was taken, slot by slot.
-use Rattle.std.proofs.Common.{◌≡◌, ℕ, zero, suc, ◌+◌, ◌-◌, ◌<◌, ◌≤◌, ◌^◌, Bool, true, false, List, [], ◌∷◌, map, None, refl, ap, sym, ◌∙◌, inl, inr, arith}
-use Rattle.std.specs.Prelude.{if◌then◌else◌, ◌&&◌, ◌||◌, not, nat_lt, nat_le, max}
-use Rattle.std.specs.List.{list_any}
-use Rattle.std.proofs.Math.Path.{subst}
-use Rattle.std.proofs.lemmas.Bool.{cases_lt, lt-ltb, le-ltb, le-leb, leb-true}
-use Rattle.sctp_list_lemmas.specs.Lists.{change_where}
-use Rattle.sctp_list_lemmas.specs.Kept.{numbers_where, always}
-use Rattle.sctp_list_lemmas.specs.Serial.{distance, comes_before, at_or_before}
-use Rattle.sctp_list_lemmas.proofs.More.{same_test}
-use Rattle.sctp_list_lemmas.proofs.Distances.{not_before_from, before_irrefl}
-use Rattle.sctp_data.specs.declared.chunk.chunk_payload_data.ChunkPayloadData.{ChunkPayloadData}
-use Rattle.sctp_data.specs.declared.chunk.chunk_selective_ack.GapAckBlock.{GapAckBlock}
-use Rattle.sctp_data.specs.SelectiveAck.{Sack}
-use Rattle.sctp_outbound.specs.Marks.{as_acknowledged}
-use Rattle.sctp_outbound.specs.payload_queue.Blocks.{is_in_blocks}
-use Rattle.sctp_outbound.specs.payload_queue.PayloadQueue.{past}
-use Rattle.sctp_sender.specs.Flight.{reports, reports_anew}
-use Rattle.sctp_model.specs.LinkRecord.{LinkRecord}
-use Rattle.sctp_model.specs.Messages.{tsn_of}
-use Rattle.sctp_model.specs.Contents.{cumulative_tsn}
-use Rattle.sctp_refinement.specs.Refines.{Sending, sending_of, sending_by, IsInFlight}
-use Rattle.sctp_link.specs.Acking.{in_block}
-use Rattle.sctp_refinement.proofs.sending.InFlight.{head_of, tail_of}
+use Rattle.sctp_link.proofs.Names.{◌≡◌, ℕ, zero, suc, ◌+◌, ◌-◌, ◌<◌, ◌≤◌, ◌^◌, Bool, true, false, List, [], ◌∷◌, map, None, refl, ap, sym, ◌∙◌, inl, inr, arith}
+use Rattle.sctp_link.proofs.Names.{if◌then◌else◌, ◌&&◌, ◌||◌, not, nat_lt, nat_le, max, list_any, subst, cases_lt, lt-ltb, le-ltb, le-leb, leb-true}
+use Rattle.sctp_link.proofs.Names.{change_where, numbers_where, always, same_test, ChunkPayloadData, GapAckBlock, Sack, as_acknowledged, is_in_blocks, past}
+use Rattle.sctp_link.proofs.Names.{reports, reports_anew, LinkRecord, tsn_of, cumulative_tsn, Sending, sending_of, sending_by, IsInFlight, in_block, head_of}
+use Rattle.sctp_link.proofs.Names.{tail_of}
+use Rattle.sctp_refinement.proofs.acknowledging.SackDistances.{far, at-top}
+use Rattle.sctp_list_lemmas.specs.Serial.{distance, at_or_before}
 
 -- ## Distances
-
--- from the last TSN before a place to that of a slot
-far : (w : LinkRecord) (top k : ℕ) → w.setup.first < 2 ^ 32 → top ≤ k → k < 2 ^ 31 → distance (cumulative_tsn w top) (tsn_of w k) ≡ k + 1 - top
-unfolding distance
-far w top k first le short = omega (arith, first, le, short)
-
--- from one cumulative TSN to a later one
-pub between : (w : LinkRecord) (from top : ℕ) → w.setup.first < 2 ^ 32 → from ≤ top → top < 2 ^ 31
-    → distance (cumulative_tsn w from) (cumulative_tsn w top) ≡ top - from
-unfolding distance
-between w from top first le short = omega (arith, first, le, short)
-
-back : (w : LinkRecord) (from top : ℕ) → w.setup.first < 2 ^ 32 → from < top → top < 2 ^ 31 → 2 ^ 31 ≤ distance (cumulative_tsn w top) (cumulative_tsn w from)
-unfolding distance
-back w from top first lt short = omega (arith, first, lt, short)
-
--- the later one is not out of date
-pub up-to-date : (w : LinkRecord) (from top : ℕ) → w.setup.first < 2 ^ 32 → from ≤ top → top < 2 ^ 31
-    → comes_before (cumulative_tsn w top) (cumulative_tsn w from) ≡ false
-up-to-date w from top first le short = elim (cases_lt from top) [
-  | inl lt ↦ not_before_from (cumulative_tsn w top) (cumulative_tsn w from) (back w from top first lt short)
-  | inr ge ↦ let same : from ≡ top = omega (arith, le, ge) in
-      ap (λ n. comes_before (cumulative_tsn w top) (cumulative_tsn w n)) same ∙ before_irrefl (cumulative_tsn w top) (omega arith)
-]
-
-at-top : (w : LinkRecord) (top k : ℕ) → w.setup.first < 2 ^ 32 → top < 2 ^ 31 → k < 2 ^ 31 → at_or_before (tsn_of w k) (cumulative_tsn w top) ≡ nat_lt k top
-unfolding at_or_before distance
-at-top w top k first short near = elim (cases_lt k top) [
-  | inl lt ↦ lt-ltb _ _ (omega (arith, first, short, near, lt)) ∙ sym (lt-ltb k top lt)
-  | inr le ↦ le-ltb _ _ (omega (arith, first, short, near, le)) ∙ sym (le-ltb k top le)
-]
 
 -- ## What a SACK reports
 

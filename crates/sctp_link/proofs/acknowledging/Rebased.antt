@@ -1,14 +1,8 @@
 -- A SACK told from a later cumulative TSN.
-use Rattle.std.proofs.Common.{◌≡◌, ℕ, suc, ◌+◌, ◌-◌, ◌<◌, ◌≤◌, Bool, List, [], ◌∷◌, length, length-set, get_or, set, max, refl, ap, sym, ◌∙◌, inl, inr, arith}
-use Rattle.std.specs.Prelude.{◌&&◌, ◌||◌, nat_le}
-use Rattle.std.specs.List.{list_any}
-use Rattle.std.proofs.Math.Path.{subst}
-use Rattle.std.proofs.lemmas.Bool.{cases_eq, cases_lt, le-leb, leb-true}
-use Rattle.std.proofs.lemmas.List.{get_or-set_same, get_or-set_other, get_or_default}
-use Rattle.sctp_list_lemmas.proofs.More.{same_test}
-use Rattle.sctp_data.specs.declared.chunk.chunk_selective_ack.GapAckBlock.{GapAckBlock}
-use Rattle.sctp_outbound.specs.payload_queue.Blocks.{is_in_blocks, is_in_block}
-use Rattle.sctp_link.specs.Acking.{IsNearer}
+use Rattle.sctp_link.proofs.Names.{◌≡◌, ℕ, ◌+◌, ◌-◌, ◌<◌, ◌≤◌, List, length, length-set, get_or, set, max, refl, ap, sym, ◌∙◌, inl, inr, arith, ◌&&◌, nat_le}
+use Rattle.sctp_link.proofs.Names.{subst, cases_eq, cases_lt, le-leb, leb-true, get_or-set_same, get_or-set_other, get_or_default, same_test, GapAckBlock}
+use Rattle.sctp_link.proofs.Names.{is_in_blocks, is_in_block, IsNearer}
+use Rattle.sctp_refinement.proofs.Lists.{any-same}
 
 -- both ends are so much less, but for the first of them
 pub nearer-is : (behind start end : ℕ) (b : GapAckBlock) → start ≡ max (b.start - behind) 1 → end ≡ b.end - behind
@@ -52,14 +46,6 @@ one-nearer behind place old new b c lt is near n = record {
 pub all-begin : (behind place : ℕ) (old new : List GapAckBlock) → length old ≤ place → Nearer behind place old new → (i : ℕ) (d : GapAckBlock) → i < length new
     → 0 < (get_or new i d).start
 all-begin behind place old new all n i d lt = (n.done i d (omega (arith, lt, all, n.count)) (omega (arith, lt, n.count))).begin
-
-any-same : (p q : GapAckBlock → Bool) (old new : List GapAckBlock) → length new ≡ length old
-    → ((i : ℕ) (d : GapAckBlock) → i < length old → p (get_or new i d) ≡ q (get_or old i d)) → list_any p new ≡ list_any q old
-any-same p q [] [] e h = refl
-any-same p q [] (c ∷ cs) e h = absurd (omega (arith, e))
-any-same p q (b ∷ bs) [] e h = absurd (omega (arith, e))
-any-same p q (b ∷ bs) (c ∷ cs) e h = ap (λ t. t || list_any p cs) (h 0 b (omega arith))
-    ∙ ap (λ t. q b || t) (any-same p q bs cs (omega (arith, e)) (λ i d lt. h (suc i) d (omega (arith, lt))))
 
 pub all-covers : (behind place : ℕ) (old new : List GapAckBlock) → length old ≤ place → Nearer behind place old new → (n : ℕ) → 0 < n
     → is_in_blocks new n ≡ is_in_blocks old (n + behind)

@@ -1,64 +1,29 @@
 -- A SACK is made.
-use Rattle.std.proofs.Common.{◌≡◌, ℕ, zero, suc, ◌+◌, ◌-◌, ◌<◌, ◌≤◌, ◌%◌, ◌^◌, List, [], ◌∷◌, ◌++◌, length, map, take, min, refl, ap, sym, ◌∙◌, arith}
-use Rattle.std.specs.Prelude.{slice_index_or}
-use Rattle.std.proofs.Math.Path.{subst}
-use Rattle.std.proofs.lemmas.List.{take-map}
-use Rattle.sctp_list_lemmas.specs.Kept.{runs_of}
-use Rattle.sctp_list_lemmas.proofs.Getting.{length-mapped}
-use Rattle.sctp_data.specs.declared.chunk.chunk_selective_ack.GapAckBlock.{GapAckBlock}
-use Rattle.sctp_data.specs.SelectiveAck.{Sack, sack_value}
-use Rattle.sctp_chunks.specs.Wire.{sack_chunk}
-use Rattle.sctp_chunks.proofs.Lengths.{length_sack_value}
-use Rattle.sctp_packets.specs.Packet.{ReadsPacket, packet_encoding}
-use Rattle.sctp_outbound.specs.payload_queue.Blocks.{gap_offsets, ends_of}
-use Rattle.sctp_model.specs.declared.event.Event.TheVariants as E
-use Rattle.sctp_model.specs.LinkRecord.{LinkRecord}
-use Rattle.sctp_model.specs.LinkRecord as W
-use Rattle.sctp_model.specs.Messages.{tsn_of}
-use Rattle.sctp_model.specs.Receiver.{cumulative}
+use Rattle.sctp_link.proofs.Names.{◌≡◌, ℕ, ◌+◌, ◌-◌, ◌<◌, ◌≤◌, ◌%◌, ◌^◌, List, [], ◌∷◌, ◌++◌, length, map, take, min, refl, ap, sym, ◌∙◌, arith, slice_index_or}
+use Rattle.sctp_link.proofs.Names.{subst, take-map, runs_of, length-mapped, GapAckBlock, Sack, sack_value, sack_chunk, ReadsPacket, packet_encoding}
+use Rattle.sctp_link.proofs.Names.{gap_offsets, ends_of, LinkRecord, tsn_of, cumulative, contents_of, cumulative_tsn, FilterRecord, after_ack, reply_to}
+use Rattle.sctp_link.proofs.Names.{Reception, sack, Filter, gap_ack_blocks, placeholder, IsDatagram, packet_with, block_of, State, IsLinked, cumulative-le}
+use Rattle.sctp_link.proofs.Names.{length-take, stands-then}
+use Rattle.sctp_refinement.proofs.Lists.{take-min}
 use Rattle.sctp_model.specs.Reports.{report_of, gap_blocks}
-use Rattle.sctp_model.specs.Contents.{contents_of, cumulative_tsn}
-use Rattle.sctp_model.specs.Queues.{FilterRecord}
-use Rattle.sctp_model.specs.Changes.{after_ack}
-use Rattle.sctp_model.specs.Steps.{reply_to}
+use Rattle.sctp_chunks.proofs.Lengths.{length_sack_value}
+use Rattle.sctp_model.specs.declared.event.Event.TheVariants as E
+use Rattle.sctp_model.specs.LinkRecord as W
 use Rattle.sctp_refinement.proofs.acknowledging.SackMade.{blocks-are, reported-outbound}
-use Rattle.sctp_receiver.specs.Receiver.{Reception, filter_of, sack}
-use Rattle.sctp_receiver.specs.TsnFilter.{Filter, gap_ack_blocks, placeholder}
-use Rattle.sctp_link.specs.Encodings.{IsDatagram, packet_with, block_of}
-use Rattle.sctp_link.specs.Linked.{State, IsLinked}
+use Rattle.sctp_receiver.specs.Receiver.{filter_of}
 use Rattle.sctp_link.proofs.receiver.Came.{blocks-ends, tsns-beyond}
-use Rattle.sctp_link.proofs.upkeep.Facts.{facts, stands-then}
+use Rattle.sctp_link.proofs.upkeep.Facts.{facts}
 use Rattle.sctp_link.proofs.upkeep.Frames.{stream-same, encodings-more}
-use Rattle.sctp_model.proofs.receiver.Arrivals.{cumulative-le}
 use Rattle.sctp_receiver.proofs.FilterCalls.{blocks-of}
-
--- no more are taken than there are
-take-min : {A : Type 0} (n k : ℕ) (xs : List A) → k ≡ min n (length xs) → take k xs ≡ take n xs
-take-min zero zero [] e = refl
-take-min (suc n) zero [] e = refl
-take-min n (suc k) [] e = absurd (omega (arith, e))
-take-min zero k (x ∷ xs) e = let z : k ≡ 0 = omega (arith, e) in ap (λ j. take j (x ∷ xs)) z
-take-min (suc n) zero (x ∷ xs) e = absurd (omega (arith, e))
-take-min (suc n) (suc k) (x ∷ xs) e = ap (λ l. x ∷ l) (take-min n k xs (omega (arith, e)))
-
-length-take : {A : Type 0} (n : ℕ) (xs : List A) → length (take n xs) ≡ min n (length xs)
-length-take zero xs = omega arith
-length-take (suc n) [] = omega arith
-length-take (suc n) (x ∷ xs) = omega (arith, length-take n xs)
-
-length-taken : {A : Type 0} (n : ℕ) (xs : List A) → length (take n xs) ≤ n
-length-taken zero xs = omega arith
-length-taken (suc n) [] = omega arith
-length-taken (suc n) (x ∷ xs) = omega (arith, length-taken n xs)
 
 -- so many entries fit
 sack-short : (s : Sack) → length s.gap_ack_blocks ≤ 16379 → length s.duplicate_tsn ≤ 16379 - length s.gap_ack_blocks → 4 + length (sack_value s) < 2 ^ 16
 sack-short s a b = omega (arith, length_sack_value s, a, b)
 
 taken-short : {A : Type 0} (xs ys : List A) → ys ≡ take 16379 xs → length ys ≤ 16379
-taken-short xs ys e = omega (arith, ap length e, length-taken 16379 xs)
+taken-short xs ys e = omega (arith, ap length e, length-take 16379 xs)
 
-module _ (sum : List ℕ → ℕ) (x : State) (l : IsLinked sum x) (credit : ℕ) where
+module _ {sum : List ℕ → ℕ} {x : State} (l : IsLinked sum x) (credit : ℕ) where
   abbrev w : LinkRecord
   w = x.recorded
 
@@ -77,7 +42,7 @@ module _ (sum : List ℕ → ℕ) (x : State) (l : IsLinked sum x) (credit : ℕ
 
   pub cumulative-place : ((x.filter.cumulative_tsn + (2 ^ 32 - w.setup.first)) % 2 ^ 32 + 1) % 2 ^ 32 ≡ cumulative w
   cumulative-place =
-      let f = facts sum x l in
+      let f = facts l in
       let top = cumulative-le w f.valid.valid.skipped_made in
       let first = l.setup.first in
       let few = f.few in
@@ -108,7 +73,7 @@ module _ (sum : List ℕ → ℕ) (x : State) (l : IsLinked sum x) (credit : ℕ
   module _ (all bs : List GapAckBlock) (runs : all ≡ gap_ack_blocks x.filter) (cut : bs ≡ take 16379 all) where
     pub blocks-made : map ends_of bs ≡ gap_blocks w
     blocks-made =
-        let f = facts sum x l in
+        let f = facts l in
         ap (map ends_of) cut ∙ sym (take-map ends_of 16379 all) ∙ ap (take 16379) (ap (map ends_of) runs ∙ blocks-ends x.filter)
         ∙ ap (λ t. take 16379 (runs_of (gap_offsets t (map placeholder x.filter.beyond)))) cumulative-is
         ∙ sym (blocks-are w credit (map placeholder x.filter.beyond) f.valid.valid.skipped_made f.few (tsns-beyond w x.filter l.filter))
@@ -169,7 +134,7 @@ module _ (sum : List ℕ → ℕ) (x : State) (l : IsLinked sum x) (credit : ℕ
           subst (λ f. IsLinked sum (record x { recorded = v; datagrams = x.datagrams ++ bytes ∷ []; filter = f })) (sym ef) (record {
             setup = l.setup;
             history = (E.Ack credit, reply_to w (E.Ack credit)) ∷ l.history;
-            stands = stands-then w.setup w l.history (E.Ack credit) refl l.stands;
+            stands = stands-then (E.Ack credit) refl l.stands;
             outbound = reported-outbound w credit x.outbound l.outbound;
             unstarted = l.unstarted;
             filter = ap (λ (f : FilterRecord). let r : FilterRecord = record { cumulative = f.cumulative; held = f.held; duplicates = [] } in r) l.filter;
@@ -180,10 +145,10 @@ module _ (sum : List ℕ → ℕ) (x : State) (l : IsLinked sum x) (credit : ℕ
             sents = l.sents;
             indexes = l.indexes;
             low = l.low;
-            open_streams = λ k d lt. stream-same w v (slice_index_or x.open_streams k d)
+            open_streams = λ k d lt. stream-same (slice_index_or x.open_streams k d)
                 (record { setup = refl; held = refl; ordered = refl; next = refl; amount = refl; counters = refl }) refl (l.open_streams k d lt);
             apart = l.apart;
-            encodings = encodings-more sum x l (E.Ack credit) refl (W.Sack (report_of w credit)) bytes refl len is;
+            encodings = encodings-more l (E.Ack credit) refl (W.Sack (report_of w credit)) bytes refl len is;
           })
         where
           is : IsDatagram sum (contents_of v (W.Sack (report_of w credit))) bytes

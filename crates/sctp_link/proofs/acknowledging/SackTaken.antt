@@ -1,76 +1,39 @@
 -- A SACK is taken: what a link keeps then is what the record says.
-use Rattle.std.proofs.Common.{◌≡◌, ℕ, zero, suc, ◌+◌, ◌-◌, ◌<◌, ◌≤◌, ◌%◌, ◌^◌, Bool, true, false, List, [], ◌∷◌, length, get_or, map, Option, Some, None, refl}
-use Rattle.std.proofs.Common.{ap, sym, ◌∙◌, inl, inr, arith}
-use Rattle.std.specs.Prelude.{if◌then◌else◌, ◌&&◌, ◌||◌, nat_le, nat_lt, max, slice_get, slice_index_or}
-use Rattle.std.specs.List.{list_any, list_all, filter}
-use Rattle.std.proofs.Math.Path.{subst}
-use Rattle.std.proofs.lemmas.Bool.{cases_lt, lt-ltb, le-ltb, le-leb}
-use Rattle.std.proofs.lemmas.List.{get_or-map, get_or_default}
-use Rattle.sctp_list_lemmas.specs.Lists.{change_where}
-use Rattle.sctp_list_lemmas.specs.Serial.{distance, comes_before}
-use Rattle.sctp_list_lemmas.proofs.Getting.{length-mapped, length-numbered, numbered-at, map-at}
-use Rattle.sctp_data.specs.declared.chunk.chunk_selective_ack.GapAckBlock.{GapAckBlock}
-use Rattle.sctp_data.specs.declared.chunk.chunk_payload_data.ChunkPayloadData.{ChunkPayloadData}
+use Rattle.sctp_link.proofs.Names.{◌≡◌, ℕ, zero, suc, ◌+◌, ◌-◌, ◌<◌, ◌≤◌, ◌%◌, ◌^◌, Bool, true, false, List, [], ◌∷◌, length, get_or, map, Some, None, refl, ap}
+use Rattle.sctp_link.proofs.Names.{sym, ◌∙◌, inl, inr, arith, if◌then◌else◌, ◌&&◌, ◌||◌, nat_le, nat_lt, max, slice_get, slice_index_or, list_any, list_all}
+use Rattle.sctp_link.proofs.Names.{filter, subst, cases_lt, lt-ltb, le-ltb, le-leb, get_or-map, change_where, comes_before, length-mapped, length-numbered}
+use Rattle.sctp_link.proofs.Names.{numbered-at, map-at, GapAckBlock, ChunkPayloadData, sack_chunk, ReadsPacket, as_acknowledged, is_in_blocks, past, Outbound}
+use Rattle.sctp_link.proofs.Names.{with_inflight, InflightQueueTsnPop, TsnRequestNotExist, Flight, reports_anew, is_within, sack_refusal, take_sack, after_sack}
+use Rattle.sctp_link.proofs.Names.{is_whole, released_of, released_by, bytes_of, LinkRecord, Report, slot_at, no_slot, message_at, message_of, tsn_of, growth}
+use Rattle.sctp_link.proofs.Names.{is_expired_or_abandoned, slot_bytes, pending_bytes, contents_of, cumulative_tsn, after_acked, acknowledged_by, StandsFor}
+use Rattle.sctp_link.proofs.Names.{refusal_of, reply_to, after, shape, sent, Sender, bytes_but_for, unacked_on, bytes_at, acknowledged_at, acknowledged_then}
+use Rattle.sctp_link.proofs.Names.{IsInFlight, Indexed, OpenStream, after_releases, stream_numbers, Slot, Datagram, slot_record, datagram_record, stream_record}
+use Rattle.sctp_link.proofs.Names.{State, IsLinked, IsOpenStream, IsApart, IsDatagram, block_of, packet_with, Acks, IsMarking, amount_with, and_run, and_blocks}
+use Rattle.sctp_link.proofs.Names.{in_block, fragment_slot, list_any_at, and, or-right, ext_get_or, new_open_stream, stands-then, says-still, count-made}
+use Rattle.sctp_link.proofs.Names.{piece-short}
+use Rattle.sctp_refinement.proofs.acknowledging.SackDistances.{between, up-to-date}
+use Rattle.sctp_refinement.proofs.Lists.{all-from}
+use Rattle.sctp_refinement.proofs.amounts.InFlightBytes.{chunk-on, bytes-unacked, taken-acknowledged, then-below}
+use Rattle.sctp_refinement.proofs.acknowledging.Reported.{Reported, reported-run}
+use Rattle.sctp_list_lemmas.specs.Serial.{distance}
 use Rattle.sctp_data.specs.SelectiveAck
-use Rattle.sctp_chunks.specs.Wire.{sack_chunk}
-use Rattle.sctp_packets.specs.Packet.{ReadsPacket}
-use Rattle.sctp_outbound.specs.Marks.{as_acknowledged}
-use Rattle.sctp_outbound.specs.payload_queue.Blocks.{is_in_blocks}
-use Rattle.sctp_outbound.specs.payload_queue.PayloadQueue.{past}
-use Rattle.sctp_outbound.specs.outbound_queue.OutboundQueue.{Outbound, with_inflight}
-use Rattle.sctp_sender.specs.declared.sender.refusal.SenderRefusal.TheVariants.{InflightQueueTsnPop, TsnRequestNotExist}
-use Rattle.sctp_sender.specs.Flight.{Flight, reports_anew, is_within, sack_refusal, take_sack, after_sack, is_whole, released_of, released_by}
-use Rattle.sctp_serial.specs.DataChunks.{bytes_of}
 use Rattle.sctp_model.specs.declared.event.Event.TheVariants as E
-use Rattle.sctp_model.specs.declared.event.LinkRefusal.TheVariants.{NoSuchDatagram}
-use Rattle.sctp_model.specs.LinkRecord.{Setup, LinkRecord, Report, Sack, Forward}
+use Rattle.sctp_model.specs.LinkRecord.{Sack}
 use Rattle.sctp_model.specs.LinkRecord as W
-use Rattle.sctp_model.specs.Messages.{slot_at, no_slot, message_at, message_of, tsn_of}
-use Rattle.sctp_model.specs.Amounts.{growth, is_expired_or_abandoned, slot_bytes, on_stream, pending_bytes}
-use Rattle.sctp_model.specs.Reports.{reports}
-use Rattle.sctp_model.specs.Contents.{contents_of, cumulative_tsn}
-use Rattle.sctp_model.specs.Changes.{after_acked, acknowledged_by}
-use Rattle.sctp_model.specs.Steps.{History, IsRun, StandsFor, record_of, refusal_of, reply_to, after, unless, is_for_sender}
-use Rattle.sctp_model.specs.Log.{log_of}
-use Rattle.sctp_model.specs.Laws.{IsSetup}
-use Rattle.sctp_model.proofs.sender.Shape.{shape, sent}
-use Rattle.sctp_model.proofs.sender.Sender.{Sender}
+use Rattle.sctp_model.specs.Amounts.{on_stream}
 use Rattle.sctp_model.proofs.sender.Shapes
-use Rattle.sctp_model.proofs.acknowledgement.Acknowledged
-use Rattle.sctp_model.proofs.receiver.Received.{received-run}
-use Rattle.sctp_refinement.specs.Amount.{bytes_but_for, unacked_on, bytes_at, acknowledged_at, acknowledged_then}
-use Rattle.sctp_refinement.specs.Refines.{IsInFlight}
 use Rattle.sctp_refinement.proofs.acknowledging.Acked.{in-flight-first, in-flight-same, refines-taken}
 use Rattle.sctp_refinement.proofs.acknowledging.Unacked.{amount-is, amount-acked, growth-acked}
 use Rattle.sctp_refinement.proofs.sending.Begun
-use Rattle.sctp_refinement.proofs.sending.Begun.{Indexed}
-use Rattle.sctp_refinement.proofs.amounts.InFlightBytes.{chunk-on, bytes-unacked, taken-acknowledged, then-below}
-use Rattle.sctp_link.specs.Streams.{OpenStream, after_releases, stream_numbers}
-use Rattle.sctp_link.specs.declared.record.Slot.{Slot}
-use Rattle.sctp_link.specs.declared.record.Datagram.{Datagram}
-use Rattle.sctp_link.specs.Records.{slot_record, datagram_record, stream_record}
-use Rattle.sctp_link.specs.Linked.{State, IsLinked, IsOpenStream}
-use Rattle.sctp_link.specs.Places.{IsApart}
-use Rattle.sctp_link.specs.Encodings.{IsDatagram, block_of, packet_with}
-use Rattle.sctp_link.specs.Acking.{Acks, IsMarking, amount_with, and_run, and_blocks, in_block}
-use Rattle.sctp_link.proofs.upkeep.Facts.{facts, over, stands-then, says-still}
-use Rattle.sctp_link.proofs.acknowledging.AckLoops.{marking-same, any-at}
-use Rattle.sctp_link.proofs.acknowledging.FlightAcked.{answered, covered-at, between, up-to-date, marked-all, front-leaves}
+use Rattle.sctp_link.proofs.upkeep.Facts.{facts, over}
+use Rattle.sctp_link.proofs.acknowledging.AckLoops.{marking-same}
+use Rattle.sctp_link.proofs.acknowledging.FlightAcked.{answered, covered-at, marked-all, front-leaves}
 use Rattle.sctp_link.proofs.acknowledging.StreamsLess.{with_amount, released_on, chunks_on, length-released, released-at, answered-on, on-unacked}
-use Rattle.sctp_link.proofs.sender.Flying.{flying}
+use Rattle.sctp_refinement.proofs.sending.Flying.{flying}
 use Rattle.sctp_link.proofs.sender.Beginning.{index_kept, indexed-of}
-use Rattle.sctp_link.specs.OpenStreams.{fragment_slot}
-use Rattle.sctp_link.proofs.acknowledging.SackFrames.{reassembly-taken, filter-taken}
-use Rattle.sctp_link.proofs.sender.Outgoing.{piece-short}
+use Rattle.sctp_refinement.proofs.acknowledging.SackFrames.{reassembly-taken, filter-taken}
 
 -- ## The SACK that is there
-
--- what is for the sender is a SACK
-pub sack-there : (o : Option W.Datagram) → unless (is_for_sender o) NoSuchDatagram None ≡ None → (r : Report) × (o ≡ Some (Sack r))
-sack-there None e = cc
-sack-there (Some (W.Data ps)) e = cc
-sack-there (Some (Forward upto names)) e = cc
-sack-there (Some (Sack r)) e = (r, refl)
 
 -- what it says
 abbrev pub wire_sack : LinkRecord → Report → SelectiveAck.Sack
@@ -88,10 +51,10 @@ get-bytes (x ∷ ds) zero d g e = refl
 get-bytes (x ∷ ds) (suc k) d g e = get-bytes ds k d g e
 
 -- and its bytes read so
-pub reads-sack : (sum : List ℕ → ℕ) (x : State) (ds : List Datagram) (k : ℕ) (d : Datagram) (r : Report) → IsLinked sum x
+pub reads-sack : {sum : List ℕ → ℕ} {x : State} (ds : List Datagram) (k : ℕ) (d : Datagram) (r : Report) → IsLinked sum x
     → x.recorded.network ≡ map datagram_record ds → x.datagrams ≡ map (λ d. d.bytes) ds → d ≡ slice_index_or ds k d
     → slice_get x.recorded.network k ≡ Some (Sack r) → ReadsPacket sum d.bytes (packet_with (sack_chunk (wire_sack x.recorded r) ∷ []))
-reads-sack sum x ds k d r l network bytes is there =
+reads-sack {sum} {x} ds k d r l network bytes is there =
     let encoding = l.encodings k [] (Sack r) there in
     let here : slice_index_or x.datagrams k [] ≡ d.bytes = ap (λ n. slice_index_or n k []) bytes
     ∙ get-bytes ds k d (Sack r) (ap (λ n. slice_get n k) (sym network) ∙ there) ∙ ap (λ (y : Datagram). y.bytes) (sym is) in
@@ -102,29 +65,8 @@ pub count-is : (first count t : ℕ) → first < 2 ^ 32 → count < 2 ^ 31 → t
     → ((t + (2 ^ 32 - first)) % 2 ^ 32 + 1) % 2 ^ 32 ≡ count
 count-is first count t fits short e = omega (arith, fits, short, e)
 
--- only slots that are there are reported
-abbrev pub Reported : LinkRecord → Type 0
-Reported w = (k : ℕ) (r : Report) → slice_get w.network k ≡ Some (Sack r) → (p : ℕ) → reports r p ≡ true → p < length w.slots
-
-reported-run : (setup : Setup) (h : History) → IsSetup setup → IsRun setup h → Reported (record_of setup h)
-reported-run setup h is run = λ k r e p t. Acknowledged.seen-made (record_of setup h) (log_of setup h) p (received-run setup h is run).known.arrivals
-    (Acknowledged.sack-at (log_of setup h) (record_of setup h).network k (Sack r) (Acknowledged.sacks-run setup h is run) e p t)
-
-pub reported : (sum : List ℕ → ℕ) (x : State) (l : IsLinked sum x) → Reported x.recorded
-reported sum x l = over sum x Reported l (reported-run x.recorded.setup l.history l.setup l.stands.run)
-
-pub count-made : (w : LinkRecord) (k : ℕ) (r : Report) → Reported w → slice_get w.network k ≡ Some (Sack r) → r.cumulative ≤ length w.slots
-count-made w k r made there = elim (cases_lt 0 r.cumulative) [
-  | inl some ↦
-      let last = made k r there (r.cumulative - 1)
-      (first-true (nat_lt (r.cumulative - 1) r.cumulative) _ (lt-ltb (r.cumulative - 1) r.cumulative (omega (arith, some)))) in
-      omega (arith, some, last)
-  | inr none ↦ omega (arith, none)
-]
-  where
-    first-true : (a b : Bool) → a ≡ true → (a || b) ≡ true
-    first-true true b e = refl
-    first-true false b e = cc
+pub reported : {sum : List ℕ → ℕ} {x : State} (l : IsLinked sum x) → Reported x.recorded
+reported {x} l = over Reported l (reported-run x.recorded.setup l.history l.setup l.stands.run)
 
 any-mapped : (cumulative k : ℕ) (bs : List (ℕ × ℕ))
     → list_any (in_block cumulative k) (map block_of bs) ≡ list_any (λ b. nat_le (cumulative + b.0) (k + 1) && nat_le (k + 1) (cumulative + b.1)) bs
@@ -134,11 +76,7 @@ any-mapped cumulative k (b ∷ bs) = ap (λ t. (nat_le (cumulative + b.0) (k + 1
 -- what gap blocks report is there
 pub blocks-made : (w : LinkRecord) (k : ℕ) (r : Report) → Reported w → slice_get w.network k ≡ Some (Sack r) → (p : ℕ)
     → list_any (in_block r.cumulative p) (map block_of r.blocks) ≡ true → p < length w.slots
-blocks-made w k r made there p e = made k r there p (second-true (nat_lt p r.cumulative) _ (sym (any-mapped r.cumulative p r.blocks) ∙ e))
-  where
-    second-true : (a b : Bool) → b ≡ true → (a || b) ≡ true
-    second-true true b e = refl
-    second-true false b e = e
+blocks-made w k r made there p e = made k r there p (or-right (nat_lt p r.cumulative) _ (sym (any-mapped r.cumulative p r.blocks) ∙ e))
 
 -- ## Before the first slot
 
@@ -151,9 +89,9 @@ bytes-short w p le = part (slot_at w p).is_terminal_chunk (is_expired_or_abandon
     part false true short = omega arith
     part false false short = omega (arith, short, le)
 
-pub acks : (sum : List ℕ → ℕ) (x : State) (l : IsLinked sum x) → Acks x.recorded.setup.first x.recorded
-acks sum x l =
-    let f = facts sum x l in
+pub acks : {sum : List ℕ → ℕ} {x : State} (l : IsLinked sum x) → Acks x.recorded.setup.first x.recorded
+acks {x} l =
+    let f = facts l in
     record {
       first_is = refl;
       in_range = l.setup.first;
@@ -163,36 +101,27 @@ acks sum x l =
       shares = λ p t b c lt says. chunk-on x.recorded b p t c f.consistent.sender lt says;
     }
 
-pub marking-first : (sum : List ℕ → ℕ) (x : State) (xs : List Slot) → IsLinked sum x → x.recorded.slots ≡ map slot_record xs
+pub marking-first : {sum : List ℕ → ℕ} {x : State} (xs : List Slot) → IsLinked sum x → x.recorded.slots ≡ map slot_record xs
     → IsMarking x.recorded (acknowledged_at x.recorded) xs
-marking-first sum x xs l slots = record {
+marking-first xs l slots = record {
   count = sym (ap length slots ∙ length-mapped slot_record xs);
   slots = λ k d lt. sym (ap (λ ys. slice_index_or ys k no_slot) slots ∙ get_or-map slot_record xs k d no_slot lt);
 }
 
 -- ## After the last
 
-same-lists : {A : Type 0} (xs ys : List A) → length xs ≡ length ys → ((k : ℕ) (d : A) → k < length xs → get_or xs k d ≡ get_or ys k d) → xs ≡ ys
-same-lists [] [] e h = refl
-same-lists [] (y ∷ ys) e h = absurd (omega (arith, e))
-same-lists (x ∷ xs) [] e h = absurd (omega (arith, e))
-same-lists (x ∷ xs) (y ∷ ys) e h = ap (λ z. z ∷ xs) (h 0 x (omega arith))
-    ∙ ap (λ zs. y ∷ zs) (same-lists xs ys (omega (arith, e)) (λ k d lt. h (suc k) d (omega (arith, lt))))
-
 -- the slots are those of the record
-pub slots-then : (w : LinkRecord) (r : Report) (xs : List Slot) → IsMarking w (acknowledged_then w r) xs
+pub slots-then : {w : LinkRecord} (r : Report) {xs : List Slot} → IsMarking w (acknowledged_then w r) xs
     → map slot_record xs ≡ (after_acked w (Some (Sack r))).slots
-slots-then w r xs i =
-    same-lists (map slot_record xs)
-    (after_acked w (Some (Sack r))).slots (length-mapped slot_record xs ∙ i.count ∙ sym (length-numbered (acknowledged_by r) 0 w.slots))
-    (λ k d lt.
+slots-then {w} r {xs} i =
+    ext_get_or no_slot (map slot_record xs)
+    (after_acked w (Some (Sack r))).slots (length-mapped slot_record xs ∙ i.count ∙ sym (length-numbered (acknowledged_by r) 0 w.slots)) (λ k lt.
     let here : k < length xs = omega (arith, lt, length-mapped slot_record xs) in
     let made : k < length w.slots = omega (arith, here, i.count) in
-    get_or-map slot_record xs k none d here
+    get_or-map slot_record xs k none no_slot here
     ∙ i.slots k none here
     ∙ ap (λ j. acknowledged_by r j (slot_at w k)) (let z : k ≡ 0 + k = omega arith in z)
-    ∙ ap (acknowledged_by r (0 + k)) (get_or_default w.slots k no_slot d made)
-    ∙ sym (numbered-at (acknowledged_by r) 0 k w.slots d made))
+    ∙ sym (numbered-at (acknowledged_by r) 0 k w.slots no_slot made))
   where
     none : Slot
     none = fragment_slot 0 0
@@ -203,8 +132,8 @@ as_left w r l = with_amount (amount_with w (acknowledged_then w r) l.state.strea
 
 streams-then : (w : LinkRecord) (r : Report) (first now : List OpenStream) → length now ≡ length first
     → ((k : ℕ) (d : OpenStream) → k < length first → slice_index_or now k d ≡ as_left w r (slice_index_or first k d)) → now ≡ map (as_left w r) first
-streams-then w r first now count each = same-lists now (map (as_left w r) first) (count ∙ sym (length-mapped (as_left w r) first))
-    (λ k d lt. each k d (omega (arith, lt, count)) ∙ sym (map-at (as_left w r) k first d (omega (arith, lt, count))))
+streams-then w r first now count each = ext_get_or (new_open_stream 0 0 0) now (map (as_left w r) first) (count ∙ sym (length-mapped (as_left w r) first))
+    (λ k lt. each k _ (omega (arith, lt, count)) ∙ sym (map-at (as_left w r) k first _ (omega (arith, lt, count))))
 
 numbers-left : (w : LinkRecord) (r : Report) (ls : List OpenStream) → stream_numbers (map (as_left w r) ls) ≡ stream_numbers ls
 numbers-left w r [] = refl
@@ -231,19 +160,18 @@ abbrev taken_state : State → Report → List OpenStream → Outbound → ℕ �
 taken_state x r open_streams outbound acked =
     record x { recorded = after_acked x.recorded (Some (Sack r)); open_streams = open_streams; outbound = outbound; acked_tsn = acked }
 
-linked-taken : (sum : List ℕ → ℕ) (x : State) (k : ℕ) (r : Report) (cs : List ChunkPayloadData) (acked : ℕ) (l : IsLinked sum x)
+linked-taken : {sum : List ℕ → ℕ} {x : State} (k : ℕ) (r : Report) (cs : List ChunkPayloadData) (acked : ℕ) (l : IsLinked sum x)
     → acked ≡ cumulative_tsn x.recorded (max x.recorded.taken r.cumulative) → refusal_of x.recorded (E.Acked k) ≡ None
     → slice_get x.recorded.network k ≡ Some (Sack r) → IsInFlight x.recorded (acknowledged_then x.recorded r) (max x.recorded.taken r.cumulative)
     (length x.recorded.slots - max x.recorded.taken r.cumulative) cs
     → IsLinked sum (taken_state x r (map (as_left x.recorded r) x.open_streams) (with_inflight x.outbound cs) acked)
-linked-taken sum x k r cs acked l acked_is none there e =
-    let w = x.recorded in
-    let f = facts sum x l in
+linked-taken {sum} {x} k r cs acked l acked_is none there e =
+    let f = facts l in
     record {
       setup = l.setup;
       history = (E.Acked k, reply_to x.recorded (E.Acked k)) ∷ l.history;
       stands = subst (λ o. StandsFor x.recorded.setup (after_acked x.recorded o) ((E.Acked k, reply_to x.recorded (E.Acked k)) ∷ l.history)) there
-          (stands-then x.recorded.setup x.recorded l.history (E.Acked k) none l.stands);
+          (stands-then (E.Acked k) none l.stands);
       outbound = refines-taken x.recorded r x.outbound cs l.outbound e;
       unstarted = l.unstarted;
       filter = l.filter ∙ sym (filter-taken x.recorded r);
@@ -252,16 +180,15 @@ linked-taken sum x k r cs acked l acked_is none there e =
       fragments = l.fragments;
       written = l.written;
       sents = λ n lt. l.sents n lt ∙ sym (ap (λ y. sent y n) (Shapes.shape-acknowledged x.recorded r (max x.recorded.taken r.cumulative)));
-      indexes = (subst (λ y. Indexed y (index_kept x.progress)) (sym (Shapes.shape-acknowledged x.recorded r (max x.recorded.taken r.cumulative)))
-          (indexed-of sum x l)).is;
+      indexes =
+          (subst (λ y. Indexed y (index_kept x.progress)) (sym (Shapes.shape-acknowledged x.recorded r (max x.recorded.taken r.cumulative))) (indexed-of l)).is;
       low = l.low;
       open_streams = λ j d lt. let here : j < length x.open_streams = omega (arith, lt, length-mapped (as_left x.recorded r) x.open_streams) in
           subst (IsOpenStream (after_acked x.recorded (Some (Sack r)))) (sym (map-at (as_left x.recorded r) j x.open_streams d here))
           (stream-left x.recorded r (slice_index_or x.open_streams j d) f.consistent.sender (l.open_streams j d here));
       apart = subst IsApart (sym (numbers-left x.recorded r x.open_streams)) l.apart;
       encodings = λ j d g there'.
-          let says =
-          says-still x.recorded f (E.Acked k) none j g g there' (subst (λ o. slice_get (after_acked x.recorded o).network j ≡ Some g) (sym there) there') in
+          let says = says-still f (E.Acked k) none j g g there' (subst (λ o. slice_get (after_acked x.recorded o).network j ≡ Some g) (sym there) there') in
           subst (λ c. IsDatagram sum c (slice_index_or x.datagrams j d))
           (sym (subst (λ o. contents_of (after_acked x.recorded o) g ≡ contents_of x.recorded g) there says)) (l.encodings j d g there');
     }
@@ -285,21 +212,13 @@ pub record Taken (sum : List ℕ → ℕ) (x : State) (k : ℕ) (now : List Open
 abbrev pub flight_in : State → Flight
 flight_in x = record { queue = x.outbound; next_tsn = x.next_tsn; acked_tsn = x.acked_tsn }
 
--- each element passes
-all-from : {X : Type 0} (p : X → Bool) (xs : List X) → ((i : ℕ) (d : X) → i < length xs → p (get_or xs i d) ≡ true) → list_all p xs ≡ true
-all-from p [] h = refl
-all-from p (x ∷ xs) h = both (p x) (list_all p xs) (h 0 x (omega arith)) (all-from p xs (λ i d lt. h (suc i) d (omega (arith, lt))))
-  where
-    both : (a b : Bool) → a ≡ true → b ≡ true → (a && b) ≡ true
-    both a b e f = rw (e, f) refl
-
-module _ (sum : List ℕ → ℕ) (x : State) (k : ℕ) (r : Report) (l : IsLinked sum x) (none : refusal_of x.recorded (E.Acked k) ≡ None)
+module _ {sum : List ℕ → ℕ} {x : State} (k : ℕ) (r : Report) (l : IsLinked sum x) (none : refusal_of x.recorded (E.Acked k) ≡ None)
     (there : slice_get x.recorded.network k ≡ Some (Sack r)) where
   below-first : (p : ℕ) → p < x.recorded.taken → acknowledged_at x.recorded p ≡ true
-  below-first = over sum x (λ w. (p : ℕ) → p < w.taken → acknowledged_at w p ≡ true) l (taken-acknowledged x.recorded.setup l.history l.setup l.stands.run)
+  below-first = over (λ w. (p : ℕ) → p < w.taken → acknowledged_at w p ≡ true) l (taken-acknowledged x.recorded.setup l.history l.setup l.stands.run)
 
   enough : r.cumulative ≤ length x.recorded.slots
-  enough = count-made x.recorded k r (reported sum x l) there
+  enough = count-made x.recorded k r (reported l) there
 
   -- ## The SACK, told from the last cumulative TSN
 
@@ -307,10 +226,10 @@ module _ (sum : List ℕ → ℕ) (x : State) (k : ℕ) (r : Report) (l : IsLink
       (covers : (n : ℕ) → 0 < n → is_in_blocks s.gap_ack_blocks n ≡ is_in_blocks (map block_of r.blocks) (n + (top - r.cumulative)))
       (begin : (i : ℕ) (d : GapAckBlock) → i < length s.gap_ack_blocks → 0 < (slice_index_or s.gap_ack_blocks i d).start) where
     top-made : top ≤ length x.recorded.slots
-    top-made = let t = (facts sum x l).taken in omega (arith, top_is, t, enough)
+    top-made = let t = (facts l).taken in omega (arith, top_is, t, enough)
 
     top-short : top < 2 ^ 31
-    top-short = let f = (facts sum x l).few in omega (arith, f, top-made)
+    top-short = let f = (facts l).few in omega (arith, f, top-made)
 
     first-fits : x.recorded.setup.first < 2 ^ 32
     first-fits = l.setup.first
@@ -370,7 +289,7 @@ module _ (sum : List ℕ → ℕ) (x : State) (k : ℕ) (r : Report) (l : IsLink
     pub within-blocks : (j : ℕ) → list_any (in_block top j) s.gap_ack_blocks ≡ true → j < length x.recorded.slots
     within-blocks j any = elim (cases_lt j top) [
       | inl low ↦ omega (arith, low, top-made)
-      | inr high ↦ blocks-made x.recorded k r (reported sum x l) there j (sym (beyond j high) ∙ any)
+      | inr high ↦ blocks-made x.recorded k r (reported l) there j (sym (beyond j high) ∙ any)
     ]
 
     flying-count : length x.outbound.inflight.chunks ≡ length x.recorded.slots - x.recorded.taken
@@ -396,7 +315,7 @@ module _ (sum : List ℕ → ℕ) (x : State) (k : ℕ) (r : Report) (l : IsLink
               ap (λ t. t || (nat_lt 0 b.start && nat_le b.end (length x.outbound.inflight.chunks - (top - x.recorded.taken)))) (lt-ltb b.end b.start none)
           | inr some ↦
               let last : list_any (in_block top (top + b.end - 1)) s.gap_ack_blocks ≡ true =
-              any-at (in_block top (top + b.end - 1)) s.gap_ack_blocks i d lt (ap (in_block top (top + b.end - 1)) is ∙ holds b pos some) in
+              list_any_at (in_block top (top + b.end - 1)) s.gap_ack_blocks i d lt (ap (in_block top (top + b.end - 1)) is ∙ holds b pos some) in
               let made = within-blocks (top + b.end - 1) last in
               second (nat_lt b.end b.start) (nat_lt 0 b.start) (nat_le b.end (length x.outbound.inflight.chunks - (top - x.recorded.taken)))
               (lt-ltb 0 b.start pos)
@@ -404,11 +323,8 @@ module _ (sum : List ℕ → ℕ) (x : State) (k : ℕ) (r : Report) (l : IsLink
         ]
           where
             holds : (b : GapAckBlock) → 0 < b.start → b.start ≤ b.end → in_block top (top + b.end - 1) b ≡ true
-            holds b pos some = both (nat_le (top + b.start) (top + b.end - 1 + 1)) (nat_le (top + b.end - 1 + 1) (top + b.end))
+            holds b pos some = and (nat_le (top + b.start) (top + b.end - 1 + 1)) (nat_le (top + b.end - 1 + 1) (top + b.end))
                 (le-leb _ _ (omega (arith, pos, some))) (le-leb _ _ (omega (arith, pos, some)))
-              where
-                both : (p q : Bool) → p ≡ true → q ≡ true → (p && q) ≡ true
-                both p q e f = rw (e, f) refl
 
             second : (p q t : Bool) → q ≡ true → t ≡ true → (p || (q && t)) ≡ true
             second true q t e f = refl
@@ -444,7 +360,7 @@ module _ (sum : List ℕ → ℕ) (x : State) (k : ℕ) (r : Report) (l : IsLink
     marked : IsInFlight x.recorded (acknowledged_then x.recorded r) x.recorded.taken (length x.recorded.slots - x.recorded.taken)
         (change_where (reports_anew s) as_acknowledged x.outbound.inflight.chunks)
     marked =
-        let f = facts sum x l in
+        let f = facts l in
         let few = f.few in
         in-flight-same x.recorded (λ j. acknowledged_at x.recorded j || answered top s.gap_ack_blocks j) (acknowledged_then x.recorded r) x.recorded.taken
         (length x.recorded.slots - x.recorded.taken) (change_where (reports_anew s) as_acknowledged x.outbound.inflight.chunks) (λ j a b. answered-is j)
@@ -454,7 +370,7 @@ module _ (sum : List ℕ → ℕ) (x : State) (k : ℕ) (r : Report) (l : IsLink
     left : IsInFlight x.recorded (acknowledged_then x.recorded r) (max x.recorded.taken r.cumulative)
         (length x.recorded.slots - max x.recorded.taken r.cumulative) left-chunks
     left =
-        let f = facts sum x l in
+        let f = facts l in
         let few = f.few in
         let t = f.taken in
         let all : x.recorded.taken + (length x.recorded.slots - x.recorded.taken) ≡ length x.recorded.slots = omega (arith, t) in
@@ -472,14 +388,14 @@ module _ (sum : List ℕ → ℕ) (x : State) (k : ℕ) (r : Report) (l : IsLink
         → slice_index_or (after_releases (map (released_of (is_whole s (flight_in x))) (filter (reports_anew s) x.outbound.inflight.chunks)) x.open_streams) j d
         ≡ as_left x.recorded r (slice_index_or x.open_streams j d)
     amounts j d lt =
-        let f = facts sum x l in
+        let f = facts l in
         let le = f.taken in
         let t : ℕ = (slice_index_or x.open_streams j d).state.stream_identifier in
-        let a = acks sum x l in
-        let old = on-unacked x.recorded.setup.first x.recorded a (acknowledged_at x.recorded) t x.outbound.inflight.chunks x.recorded.taken le below-first
+        let a = acks l in
+        let old = on-unacked a (acknowledged_at x.recorded) t x.outbound.inflight.chunks x.recorded.taken le below-first
         (in-flight-first x.recorded x.outbound l.outbound) in
-        let new = on-unacked x.recorded.setup.first x.recorded a (acknowledged_then x.recorded r) t (change_where (reports_anew s) as_acknowledged
-        x.outbound.inflight.chunks) x.recorded.taken le (λ p lt. then-below x.recorded r p below-first (omega (arith, lt))) marked in
+        let new = on-unacked a (acknowledged_then x.recorded r) t (change_where (reports_anew s) as_acknowledged x.outbound.inflight.chunks) x.recorded.taken le
+        (λ p lt. then-below x.recorded r p below-first (omega (arith, lt))) marked in
         let less = answered-on (is_whole s (flight_in x)) (reports_anew s) t x.outbound.inflight.chunks in
         let had = (l.open_streams j d lt).amount ∙ amount-is x.recorded t f.consistent.sender in
         released-at (map (released_of (is_whole s (flight_in x))) (filter (reports_anew s) x.outbound.inflight.chunks)) x.open_streams j d lt
@@ -493,7 +409,7 @@ module _ (sum : List ℕ → ℕ) (x : State) (k : ℕ) (r : Report) (l : IsLink
 
     bytes-left : bytes_of x.outbound.inflight.chunks - bytes_of left-chunks ≡ growth x.recorded (after_acked x.recorded (Some (Sack r)))
     bytes-left =
-        let f = facts sum x l in
+        let f = facts l in
         let sender = f.consistent.sender in
         let first = bytes-unacked x.recorded (acknowledged_at x.recorded) x.outbound.inflight.chunks x.recorded.taken sender f.taken below-first
         (in-flight-first x.recorded x.outbound l.outbound) in
@@ -505,19 +421,17 @@ module _ (sum : List ℕ → ℕ) (x : State) (k : ℕ) (r : Report) (l : IsLink
     then-is : after_acked x.recorded (Some (Sack r)) ≡ after x.recorded (E.Acked k)
     then-is = ap (after_acked x.recorded) (sym there)
 
-    pub taken-all : (now : List OpenStream) (xs : List Slot) (g : Flight)
-        → x.recorded.streams ≡ map stream_record x.open_streams → now ≡ after_releases (released_by s (flight_in x)) x.open_streams
-        → g ≡ after_sack s (flight_in x)
+    pub taken-all : (now : List OpenStream) {xs : List Slot} (g : Flight) → x.recorded.streams ≡ map stream_record x.open_streams
+        → now ≡ after_releases (released_by s (flight_in x)) x.open_streams → g ≡ after_sack s (flight_in x)
         → IsMarking x.recorded (and_blocks (and_run (acknowledged_at x.recorded) x.recorded.taken top) top s.gap_ack_blocks) xs → Taken sum x k now xs g top
-    taken-all now xs g streams items moved marks =
+    taken-all now {xs} g streams items moved marks =
         let items' : now ≡ after_releases (map (released_of (is_whole s (flight_in x))) (filter (reports_anew s) x.outbound.inflight.chunks)) x.open_streams =
         items ∙ ap (λ t. after_releases t x.open_streams) answered-those in
         let ls : now ≡ map (as_left x.recorded r) x.open_streams =
         items' ∙ streams-then x.recorded r x.open_streams
         (after_releases (map (released_of (is_whole s (flight_in x))) (filter (reports_anew s) x.outbound.inflight.chunks)) x.open_streams)
         (length-released (map (released_of (is_whole s (flight_in x))) (filter (reports_anew s) x.outbound.inflight.chunks)) x.open_streams) amounts in
-        let slots = slots-then x.recorded r xs (marking-same x.recorded (and_blocks
-        (and_run (acknowledged_at x.recorded) x.recorded.taken top) top s.gap_ack_blocks) (acknowledged_then x.recorded r) xs loops-answered marks) in
+        let slots = slots-then r (marking-same (acknowledged_then x.recorded r) loops-answered marks) in
         let recorded : record_taken x.recorded now xs top ≡ after_acked x.recorded (Some (Sack r)) =
         ap (λ ys. record_taken x.recorded ys xs top) ls
         ∙ ap (λ rs. let v : LinkRecord = record x.recorded { streams = rs; slots = map slot_record xs; taken = top } in v)
@@ -534,9 +448,8 @@ module _ (sum : List ℕ → ℕ) (x : State) (k : ℕ) (r : Report) (l : IsLink
                 outbound = h.queue;
                 next_tsn = h.next_tsn;
                 acked_tsn = h.acked_tsn;
-              })) (sym complete)
-              (subst (λ ys. IsLinked sum (taken_state x r ys (with_inflight x.outbound left-chunks) s.cumulative_tsn_ack)) (sym ls)
-              (linked-taken sum x k r left-chunks s.cumulative_tsn_ack l (cum ∙ ap (cumulative_tsn x.recorded) top_is) none there left)));
+              })) (sym complete) (subst (λ ys. IsLinked sum (taken_state x r ys (with_inflight x.outbound left-chunks) s.cumulative_tsn_ack)) (sym ls)
+              (linked-taken k r left-chunks s.cumulative_tsn_ack l (cum ∙ ap (cumulative_tsn x.recorded) top_is) none there left)));
           moves = recorded ∙ then-is;
           bytes = ap (λ (h : Flight). bytes_of x.outbound.inflight.chunks - bytes_of h.queue.inflight.chunks) complete ∙ bytes-left
               ∙ ap (growth x.recorded) then-is;

@@ -1,23 +1,10 @@
 -- Each stream has less by what left of it.
-use Rattle.std.proofs.Common.{◌≡◌, ℕ, zero, suc, ◌+◌, ◌-◌, ◌<◌, ◌≤◌, Bool, true, false, List, [], ◌∷◌, length, map, refl, ap, ◌∙◌, arith}
-use Rattle.std.specs.Prelude.{if◌then◌else◌, ◌==◌, ◌&&◌, not, slice_index_or}
-use Rattle.std.specs.List.{filter}
-use Rattle.sctp_list_lemmas.specs.Lists.{change_where}
-use Rattle.sctp_list_lemmas.specs.Kept.{numbers_where, always, total_over}
-use Rattle.sctp_list_lemmas.proofs.Edits.{change_where-map, length-change_where}
-use Rattle.sctp_list_lemmas.proofs.Getting.{map-at}
+use Rattle.sctp_link.proofs.Names.{◌≡◌, ℕ, zero, suc, ◌+◌, ◌-◌, ◌<◌, ◌≤◌, Bool, true, false, List, [], ◌∷◌, length, map, refl, ap, ◌∙◌, arith, if◌then◌else◌}
+use Rattle.sctp_link.proofs.Names.{◌==◌, ◌&&◌, not, slice_index_or, filter, change_where, numbers_where, always, total_over, change_where-map}
+use Rattle.sctp_link.proofs.Names.{length-change_where, map-at, ChunkPayloadData, as_acknowledged, Released, released_of, LinkRecord, unacked_on}
+use Rattle.sctp_link.proofs.Names.{stream_of_slot, bytes_at, sending_of, IsInFlight, same-turned, OpenStream, has_number, less_by, after_releases, Acks}
+use Rattle.sctp_link.proofs.Names.{head_of, tail_of}
 use Rattle.sctp_list_lemmas.proofs.Totals.{total-none, total-append, total-where, total-kept_same, numbers-append}
-use Rattle.sctp_data.specs.declared.chunk.chunk_payload_data.ChunkPayloadData.{ChunkPayloadData}
-use Rattle.sctp_outbound.specs.Marks.{as_acknowledged}
-use Rattle.sctp_sender.specs.declared.sender.flight.Released.{Released}
-use Rattle.sctp_sender.specs.Flight.{released_of}
-use Rattle.sctp_model.specs.LinkRecord.{LinkRecord}
-use Rattle.sctp_refinement.specs.Amount.{unacked_on, stream_of_slot, bytes_at}
-use Rattle.sctp_refinement.specs.Refines.{sending_of, IsInFlight}
-use Rattle.sctp_refinement.proofs.amounts.StreamAmounts.{same-turned}
-use Rattle.sctp_link.specs.Streams.{OpenStream, has_number, less_by, after_releases}
-use Rattle.sctp_link.specs.Acking.{Acks}
-use Rattle.sctp_refinement.proofs.sending.InFlight.{head_of, tail_of}
 
 -- a stream with another buffered amount
 abbrev pub with_amount : ℕ → OpenStream → OpenStream
@@ -92,7 +79,7 @@ answered-on whole p t (c ∷ cs) = step (p c) (answered-on whole p t cs)
     step true ih = let z = none-on (c.stream_identifier == t) in omega (arith, ih, z)
     step false ih = omega (arith, ih)
 
-module _ (first : ℕ) (w : LinkRecord) (a : Acks first w) where
+module _ {first : ℕ} {w : LinkRecord} (a : Acks first w) where
   flying-on : (acked : ℕ → Bool) (t : ℕ) (cs : List ChunkPayloadData) (from count : ℕ) → from + count ≤ length w.slots → IsInFlight w acked from count cs
       → chunks_on t cs ≡ total_over (λ p. if stream_of_slot w p == t then (if acked p then 0 else bytes_at w p) else 0) (numbers_where always from count)
   flying-on acked t [] from zero le e = refl

@@ -1,19 +1,6 @@
 -- Slots that arrive one after another, as a link records them.
-use Rattle.std.proofs.Common.{◌≡◌, ℕ, zero, suc, ◌+◌, ◌<◌, Bool, true, false, List, [], ◌∷◌, ◌++◌, length, drop, refl, ap, sym, ◌∙◌, arith}
-use Rattle.std.specs.Prelude.{slice_index_or, slice_set}
-use Rattle.std.specs.List.{list_any}
-use Rattle.std.proofs.lemmas.List.{drop_more}
-use Rattle.sctp_list_lemmas.specs.Lists.{change_at}
-use Rattle.sctp_receiver.specs.declared.receiver.arrival.Arrival.{Arrival}
-use Rattle.sctp_receiver.specs.declared.receiver.arrival.Arrival.TheVariants.{New, Repeat}
-use Rattle.sctp_link.specs.declared.record.Slot.{Slot}
-use Rattle.sctp_link.specs.Receiving.{with_arrival, arrived_in, repeated_of, is_first}
-
--- an element is changed in its place
-pub set-changed : {A : Type 0} (f : A → A) (xs : List A) (i : ℕ) (d : A) → i < length xs → slice_set xs i (f (slice_index_or xs i d)) ≡ change_at f i xs
-set-changed f [] i d lt = absurd (omega arith)
-set-changed f (x ∷ xs) zero d lt = refl
-set-changed f (x ∷ xs) (suc i) d lt = ap (λ ys. x ∷ ys) (set-changed f xs i d (omega arith))
+use Rattle.sctp_link.proofs.Names.{◌≡◌, ℕ, ◌+◌, ◌<◌, Bool, true, false, List, [], ◌∷◌, ◌++◌, length, drop, refl, ap, sym, ◌∙◌, arith, slice_index_or, list_any}
+use Rattle.sctp_link.proofs.Names.{drop_more, change_at, Arrival, New, Repeat, Slot, with_arrival, arrived_in, repeated_of, is_first}
 
 -- one more at the end, and others
 pub more : (xs : List ℕ) (y : ℕ) (ys : List ℕ) → (xs ++ y ∷ []) ++ ys ≡ xs ++ y ∷ ys

@@ -1,61 +1,23 @@
 -- What the filter of TSNs tells of slots, and what calls make of it, against the record.
-use Rattle.std.proofs.Common.{◌≡◌, ℕ, ◌+◌, ◌-◌, ◌<◌, ◌≤◌, ◌%◌, ◌^◌, Bool, true, false, List, [], ◌∷◌, ◌++◌, length, map, refl, ap, sym, ◌∙◌, inl, inr, arith}
-use Rattle.std.specs.Prelude.{◌⊎◌, ◌==◌, ◌&&◌, ◌||◌, not, nat_le, nat_lt}
-use Rattle.std.specs.List.{list_any, filter}
-use Rattle.std.proofs.lemmas.Bool.{cases_lt}
-use Rattle.std.proofs.lemmas.Bool.Decides.{nat_tests}
-use Rattle.sctp_list_lemmas.specs.Kept.{runs_of}
-use Rattle.sctp_list_lemmas.specs.Lists.{advance_over, insert_before, Seen}
-use Rattle.sctp_list_lemmas.specs.Serial.{distance, comes_before, at_or_before}
-use Rattle.sctp_list_lemmas.proofs.More.{fails}
-use Rattle.sctp_serial.specs.Window
-use Rattle.sctp_outbound.specs.payload_queue.Blocks.{gap_offsets, is_offset, ends_of}
-use Rattle.sctp_model.specs.LinkRecord.{LinkRecord}
-use Rattle.sctp_model.specs.Messages.{tsn_of}
-use Rattle.sctp_model.specs.Receiver.{arrived_at, cumulative, is_new}
-use Rattle.sctp_model.specs.Changes.{receive_slot}
-use Rattle.sctp_model.specs.Queues.{FilterRecord, filter_of}
-use Rattle.sctp_model.specs.Valid.{Valid}
-use Rattle.sctp_refinement.specs.Holds.{seen_of}
+use Rattle.sctp_link.proofs.Names.{◌≡◌, ℕ, ◌+◌, ◌-◌, ◌<◌, ◌≤◌, ◌^◌, Bool, true, false, List, [], ◌∷◌, ◌++◌, length, map, refl, ap, sym, ◌∙◌, inl, inr, arith}
+use Rattle.sctp_link.proofs.Names.{◌⊎◌, ◌==◌, ◌||◌, not, nat_le, nat_lt, list_any, filter, cases_lt, nat_tests, runs_of, advance_over, insert_before, Seen}
+use Rattle.sctp_link.proofs.Names.{comes_before, fails, gap_offsets, is_offset, ends_of, LinkRecord, tsn_of, cumulative, is_new, receive_slot, FilterRecord}
+use Rattle.sctp_link.proofs.Names.{filter_of, Valid, seen_of, Filter, has_come, is_opposite, with_tsn, with_duplicate, skipped_to, offsets, gap_ack_blocks}
+use Rattle.sctp_link.proofs.Names.{placeholder, tsns-placeholder, filter_shown, cumulative-le, tsns}
+use Rattle.sctp_refinement.proofs.arriving.SlotDistances.{ahead, behind, back-before, back-past, past-front}
 use Rattle.sctp_refinement.proofs.arriving.Filter.{tsn_before}
+use Rattle.sctp_list_lemmas.specs.Serial.{distance, at_or_before}
+use Rattle.sctp_serial.specs.Window
 use Rattle.sctp_refinement.proofs.arriving.FilterQueue.{new-is}
 use Rattle.sctp_refinement.proofs.arriving.SlotArrives
-use Rattle.sctp_receiver.specs.TsnFilter.{Filter, has_come, is_opposite, with_tsn, with_duplicate, skipped_to, offsets, gap_ack_blocks, block_of, placeholder}
+use Rattle.sctp_receiver.specs.TsnFilter.{block_of}
 use Rattle.sctp_receiver.proofs.Placeholders as Placeholders
-use Rattle.sctp_receiver.proofs.Placeholders.{tsns-placeholder}
-use Rattle.sctp_link.specs.Linked.{filter_shown}
-use Rattle.sctp_model.proofs.receiver.Arrivals.{cumulative-le}
-use Rattle.sctp_serial.specs.DataChunks.{tsns}
 
 -- ## Which slots came
 
 turned : (a b : Bool) → not a ≡ b → a ≡ not b
 turned true b e = ap not e
 turned false b e = ap not e
-
-ahead : (first c k : ℕ) → c ≤ k → k < 2 ^ 31 → distance (tsn_before first c) ((first + k) % 2 ^ 32) ≡ k + 1 - c
-unfolding distance
-ahead first c k le lt = omega arith
-
-behind : (first c k : ℕ) → k < c → c < 2 ^ 31 → distance (tsn_before first c) ((first + k) % 2 ^ 32) ≡ (2 ^ 32 + k + 1 - c) % 2 ^ 32
-unfolding distance
-behind first c k lt few = omega arith
-
--- and back
-back-before : (first c k : ℕ) → k < c → c < 2 ^ 31 → distance ((first + k) % 2 ^ 32) (tsn_before first c) ≡ c - 1 - k
-unfolding distance
-back-before first c k lt few = omega arith
-
-back-past : (first c k : ℕ) → c ≤ k → k < 2 ^ 31 → distance ((first + k) % 2 ^ 32) (tsn_before first c) ≡ 2 ^ 32 + c - 1 - k
-unfolding distance
-back-past first c k le lt = omega arith
-
-past-front : (w : LinkRecord) (p : ℕ) → is_new w p ≡ true → cumulative w ≤ p
-past-front w p e = step (nat_le (cumulative w) p) (arrived_at w p) refl e
-  where
-    step : (a b : Bool) → nat_le (cumulative w) p ≡ a → (a && not b) ≡ true → cumulative w ≤ p
-    step true b h e = grind (arith, nat_tests)
-    step false b h e = cc
 
 -- the TSNs beyond, as the placeholders that a queue keeps
 pub tsns-beyond : (w : LinkRecord) (f : Filter) → filter_shown f ≡ filter_of w → tsns (map placeholder f.beyond) ≡ (seen_of w).held
@@ -137,12 +99,10 @@ abbrev seen-with : List ℕ → Seen → FilterRecord
 seen-with dups s = record { cumulative = s.cum; held = s.held; duplicates = dups }
 
 -- a slot comes for the first time
-pub filter-new : (w : LinkRecord) (p : ℕ) (f then' : Filter) → Valid w → p < length w.slots → is_new w p ≡ true → filter_shown f ≡ filter_of w
+pub filter-new : {w : LinkRecord} (p : ℕ) (f then' : Filter) → Valid w → p < length w.slots → is_new w p ≡ true → filter_shown f ≡ filter_of w
     → then' ≡ with_tsn (tsn_of w p) f → filter_shown then' ≡ filter_of (receive_slot w p)
-filter-new w p f then' valid made new is e =
-    ap filter_shown e
-    ∙ ap (came (tsn_of w p)) is
-    ∙ ap (seen-with (filter_of w).duplicates) (sym (SlotArrives.filter-slot w p valid made new))
+filter-new {w} p f then' valid made new is e =
+    ap filter_shown e ∙ ap (came (tsn_of w p)) is ∙ ap (seen-with (filter_of w).duplicates) (sym (SlotArrives.filter-slot w p valid made new))
     ∙ ap (λ d. seen-with d (seen_of (receive_slot w p))) (sym (SlotArrives.duplicates-slot w p new))
 
 -- it comes again

@@ -1,31 +1,13 @@
 -- What the bytes of a datagram that comes read as.
-use Rattle.std.proofs.Common.{Vec, Global, ◌≡◌, ℕ, zero, suc, ◌<◌, List, [], ◌∷◌, length, map, Option, Some, None, refl, ap, sym, ◌∙◌, arith}
-use Rattle.std.specs.Prelude.{slice_get, slice_index_or}
-use Rattle.std.proofs.Math.Path.{subst}
-use Rattle.std.proofs.lemmas.Option.{slice_get_within}
+use Rattle.sctp_link.proofs.Names.{Vec, Global, ◌≡◌, ℕ, zero, suc, ◌<◌, List, [], ◌∷◌, length, map, Option, Some, None, refl, ap, sym, ◌∙◌, arith, slice_get}
+use Rattle.sctp_link.proofs.Names.{slice_index_or, subst, slice_get_within, NoSuchDatagram, SpanTooWide, refusal_of, unless, is_for_receiver, arrival_fits}
+use Rattle.sctp_link.proofs.Names.{data_of, fresh, data_chunk, ReadsPacket, Report, LinkRecord, Data, chunk_at, Kind, Datagram, State, IsLinked, kind_record}
+use Rattle.sctp_link.proofs.Names.{datagram_record, packet_with, wire_data, length-mapped, get_or-map, some-same}
 use Rattle.sctp_model.specs.declared.event.Event.TheVariants as E
-use Rattle.sctp_model.specs.declared.event.LinkRefusal.TheVariants.{NoSuchDatagram, SpanTooWide}
-use Rattle.sctp_model.specs.Steps.{refusal_of, unless, is_for_receiver, arrival_fits}
-use Rattle.sctp_data.specs.PayloadData.{Data as DataParts, data_of}
-use Rattle.sctp_data.specs.ChunkSet.{fresh}
-use Rattle.sctp_chunks.specs.Wire.{data_chunk}
-use Rattle.sctp_packets.specs.Packet.{ReadsPacket}
-use Rattle.sctp_model.specs.LinkRecord.{Report, LinkRecord, Data, Sack}
+use Rattle.sctp_data.specs.PayloadData.{Data as DataParts}
+use Rattle.sctp_model.specs.LinkRecord.{Sack}
 use Rattle.sctp_model.specs.LinkRecord as W
-use Rattle.sctp_model.specs.Contents.{chunk_at}
-use Rattle.sctp_link.specs.declared.record.Kind.{Kind}
 use Rattle.sctp_link.specs.declared.record.Kind.TheVariants as K
-use Rattle.sctp_link.specs.declared.record.Datagram.{Datagram}
-use Rattle.sctp_link.specs.Linked.{State, IsLinked}
-use Rattle.sctp_link.specs.Records.{kind_record, datagram_record}
-use Rattle.sctp_link.specs.Encodings.{packet_with, wire_data}
-use Rattle.sctp_link.proofs.receiver.Hears.{raw-at}
-use Rattle.sctp_list_lemmas.proofs.Getting.{length-mapped}
-
-pub made-at : {A : Type 0} (ds : List A) (k : ℕ) (g : A) → slice_get ds k ≡ Some g → k < length ds
-made-at [] k g e = cc
-made-at (d ∷ ds) zero g e = omega arith
-made-at (d ∷ ds) (suc k) g e = omega (arith, made-at ds k g e)
 
 -- what the chunks of slots say
 abbrev pub said : LinkRecord → List ℕ → List DataParts
@@ -40,13 +22,13 @@ said-fresh w [] = refl
 said-fresh w (p ∷ ps) = ap (λ cs. chunk_at w p ∷ cs) (said-fresh w ps)
 
 -- the bytes of a datagram of slots read back
-pub says-data : (sum : List ℕ → ℕ) (x : State) (k : ℕ) (ps : List ℕ) (ds : List Datagram) (y : Datagram) → IsLinked sum x
+pub says-data : {sum : List ℕ → ℕ} {x : State} (k : ℕ) (ps : List ℕ) (ds : List Datagram) (y : Datagram) → IsLinked sum x
     → x.recorded.network ≡ map datagram_record ds → x.datagrams ≡ map (λ d. d.bytes) ds → slice_get x.recorded.network k ≡ Some (Data ps)
     → y ≡ slice_index_or ds k y → ReadsPacket sum y.bytes (packet_with (map data_chunk (said x.recorded ps)))
-says-data sum x k ps ds y l network same e is =
-    let lt : k < length ds = omega (arith, made-at x.recorded.network k (Data ps) e, ap length network, length-mapped datagram_record ds) in
+says-data {sum} {x} k ps ds y l network same e is =
+    let lt : k < length ds = omega (arith, slice_get_within x.recorded.network k (Data ps) e, ap length network, length-mapped datagram_record ds) in
     let t = l.encodings k y.bytes (Data ps) e in
-    let bytes : slice_index_or x.datagrams k y.bytes ≡ y.bytes = ap (λ bs. slice_index_or bs k y.bytes) same ∙ raw-at (λ d. d.bytes) ds k y.bytes y lt
+    let bytes : slice_index_or x.datagrams k y.bytes ≡ y.bytes = ap (λ bs. slice_index_or bs k y.bytes) same ∙ get_or-map (λ d. d.bytes) ds k y y.bytes lt
     ∙ ap (λ (d : Datagram). d.bytes) (sym is) in
     subst (λ b. ReadsPacket sum b (packet_with (map data_chunk (said x.recorded ps)))) bytes
     (subst (λ ws. ReadsPacket sum (slice_index_or x.datagrams k y.bytes) (packet_with ws)) (said-wire x.recorded ps) t.reads)
@@ -55,23 +37,15 @@ says-data sum x k ps ds y l network same e is =
 pub places-kept : (ds : List Datagram) (k : ℕ) (y : Datagram) (answered places : List ℕ) → slice_get (map datagram_record ds) k ≡ Some (W.Data places)
     → y ≡ slice_index_or ds k y → kind_record y.kind ≡ W.Data answered → answered ≡ places
 places-kept [] k y answered places e is kind = cc
-places-kept (d ∷ ds) zero y answered places e is kind = inner (sym kind ∙ ap datagram_record is ∙ found (datagram_record d) e)
-  where
-    found : (g : W.Datagram) → Some g ≡ Some (W.Data places) → g ≡ W.Data places
-    found g h = cc
-
-    inner : W.Data answered ≡ W.Data places → answered ≡ places
-    inner h = cc
+places-kept (d ∷ ds) zero y answered places e is kind =
+    let same : W.Data answered ≡ W.Data places = sym kind ∙ ap datagram_record is ∙ some-same e in cc
 places-kept (d ∷ ds) (suc k) y answered places e is kind = places-kept ds k y answered places e is kind
 
 -- a kind whose record is of slots is of slots
 pub kind-data : (ds : List Datagram) (k : ℕ) (y : Datagram) (places : List ℕ) → slice_get (map datagram_record ds) k ≡ Some (W.Data places)
     → y ≡ slice_index_or ds k y → kind_record y.kind ≡ W.Data places
 kind-data [] k y places e is = cc
-kind-data (d ∷ ds) zero y places e is = ap datagram_record is ∙ found (datagram_record d) e
-  where
-    found : (g : W.Datagram) → Some g ≡ Some (W.Data places) → g ≡ W.Data places
-    found g h = cc
+kind-data (d ∷ ds) zero y places e is = ap datagram_record is ∙ some-same e
 kind-data (d ∷ ds) (suc k) y places e is = kind-data ds k y places e is
 
 -- no other kind has a record of slots

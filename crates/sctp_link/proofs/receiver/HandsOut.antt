@@ -1,74 +1,37 @@
 -- What a read makes of a link.
-use Rattle.std.proofs.Common.{◌≡◌, ℕ, zero, suc, ◌+◌, ◌<◌, Bool, true, false, List, [], ◌∷◌, length, map, drop, Some, None, refl, ap, sym, ◌∙◌, inl, inr, arith}
-use Rattle.std.proofs.Common.{length-append, ◌-◌, ◌^◌, ◌%◌}
-use Rattle.std.specs.Prelude.{◌⊎◌, ◌==◌, ◌&&◌, is_some, if◌then◌else◌, find, unwrap_or, slice_index_or, slice_set, Option, option_map}
-use Rattle.std.specs.List.{list_any}
-use Rattle.std.proofs.Math.Path.{subst}
-use Rattle.std.proofs.lemmas.List.{length-set, get_or-set_same}
+use Rattle.sctp_link.proofs.Names.{◌≡◌, ℕ, ◌+◌, ◌<◌, Bool, true, false, List, [], ◌∷◌, length, map, drop, Some, None, refl, ap, sym, ◌∙◌, inl, inr, arith}
+use Rattle.sctp_link.proofs.Names.{length-append, ◌-◌, ◌^◌, ◌%◌, ◌⊎◌, ◌==◌, ◌&&◌, is_some, if◌then◌else◌, find, unwrap_or, slice_index_or, slice_set, Option}
+use Rattle.sctp_link.proofs.Names.{option_map, list_any, subst, length-set, get_or-set_same, counted_as, change_at, change_where, same-yes, same-is, or-left}
+use Rattle.sctp_link.proofs.Names.{front-kept, FrontOf, ChunkSet, ChunkPayloadData, bytes_of, PayloadProtocolIdentifier, Dcep, String, Binary, StringEmpty}
+use Rattle.sctp_link.proofs.Names.{BinaryEmpty, Unknown, message_read, rest_read, state_read, at_start, StreamUnknown, LinkRecord, StreamRecord, message_at}
+use Rattle.sctp_link.proofs.Names.{stream_at, stream_of, index_of, sent_of, no_stream, is_held, held_on, next_of, next_read, read_of, after_reading, mark_read}
+use Rattle.sctp_link.proofs.Names.{without_first, filter_of, set_of, complete_set_of, handed_out, IsSpan, refusal_of, reply_to, after, read_reply, unless}
+use Rattle.sctp_link.proofs.Names.{shape, slot-sent, reassembly_of, counters_on, received_more, ReadsComplete, ReadsOrdered, Begins, set-begins}
+use Rattle.sctp_link.proofs.Names.{complete-begins, counters-read, counters-nothing, OpenStream, both_ways, has_number, on_inbound, read_recorded, stats_in}
+use Rattle.sctp_link.proofs.Names.{stream_numbers, Message, count_read, stream_read, DataChannelStats, StreamState, State, IsLinked, IsOpenStream, stats_of}
+use Rattle.sctp_link.proofs.Names.{message_record, stream_record, progress_of, IsApart, map-set_same, chunk_at, Inside, Slot, record_in, sides_in, state_in}
+use Rattle.sctp_link.proofs.Names.{map-set}
+use Rattle.sctp_model.specs.Log.{joined_bytes}
+use Rattle.sctp_stream.specs.Stats.{with_received}
 use Rattle.std.proofs.lemmas.List.Sums.{sum_by-cons}
-use Rattle.sctp_data.specs.PayloadTypes.{counted_as}
-use Rattle.sctp_list_lemmas.specs.Lists.{change_at, change_where}
-use Rattle.sctp_list_lemmas.proofs.Cases.{same-yes, same-is, or-left}
-use Rattle.sctp_list_lemmas.proofs.Passing.{front-kept, FrontOf}
-use Rattle.sctp_data.specs.ChunkSet.{ChunkSet}
-use Rattle.sctp_data.specs.declared.chunk.chunk_payload_data.ChunkPayloadData.{ChunkPayloadData}
-use Rattle.sctp_serial.specs.DataChunks.{bytes_of}
-use Rattle.sctp_data.specs.declared.chunk.chunk_payload_data.PayloadProtocolIdentifier.{PayloadProtocolIdentifier}
-use Rattle.sctp_data.specs.declared.chunk.chunk_payload_data.PayloadProtocolIdentifier.TheVariants.{Dcep, String, Binary, StringEmpty, BinaryEmpty, Unknown}
-use Rattle.sctp_reassembly.specs.reassembly_queue.ReassemblyQueue.{message_read, rest_read, state_read, at_start}
+use Rattle.std.proofs.Common.{set-set}
 use Rattle.sctp_reassembly.specs.declared.reassembly_queue.chunks.Chunks.{Chunks}
 use Rattle.sctp_model.specs.declared.event.Event.TheVariants as E
-use Rattle.sctp_model.specs.declared.event.LinkRefusal.TheVariants.{StreamUnknown}
-use Rattle.sctp_model.specs.LinkRecord.{LinkRecord, StreamRecord}
 use Rattle.sctp_model.specs.LinkRecord as W
-use Rattle.sctp_model.specs.Log.{joined_bytes}
-use Rattle.sctp_model.specs.Messages.{message_at, stream_at, stream_of, index_of, sent_of, no_stream}
-use Rattle.sctp_model.specs.Receiver.{is_held, held_on, next_of, next_read}
-use Rattle.sctp_model.specs.Changes.{read_of, after_reading, mark_read, without_first}
-use Rattle.sctp_model.specs.Queues.{filter_of, set_of, complete_set_of, handed_out}
 use Rattle.sctp_model.specs.Reply as R
-use Rattle.sctp_model.specs.Valid.{IsSpan}
-use Rattle.sctp_model.specs.Steps.{refusal_of, reply_to, after, read_reply, unless}
 use Rattle.sctp_model.proofs.sender.Network
-use Rattle.sctp_model.proofs.sender.Shape.{shape}
-use Rattle.sctp_model.proofs.sender.Fronts.{slot-sent}
 use Rattle.sctp_model.proofs.receiver.Shown.{read-joined}
-use Rattle.sctp_refinement.specs.Holds.{reassembly_of}
-use Rattle.sctp_refinement.specs.Counts.{counters_on, received_more}
 use Rattle.sctp_refinement.proofs.reading.Line
 use Rattle.sctp_refinement.proofs.reading.NextRead
 use Rattle.sctp_refinement.proofs.acknowledging.QuietSender
 use Rattle.sctp_refinement.proofs.reading.ReadOne
-use Rattle.sctp_refinement.proofs.reading.ReadOne.{ReadsComplete, ReadsOrdered}
-use Rattle.sctp_refinement.proofs.arriving.SpanEnds.{Begins, set-begins, complete-begins}
-use Rattle.sctp_refinement.proofs.amounts.StreamCounters.{counters-read, counters-nothing}
-use Rattle.sctp_link.specs.Streams.{OpenStream, both_ways, has_number, on_inbound, read_recorded, stats_in, stream_numbers}
-use Rattle.sctp_link.specs.declared.record.Message.{Message}
-use Rattle.sctp_receiver.specs.Inbound.{count_read, stream_read}
-use Rattle.sctp_stream.specs.declared.stream.DataChannelStats.{DataChannelStats}
-use Rattle.sctp_stream.specs.declared.stream.StreamState.{StreamState}
-use Rattle.sctp_link.specs.Linked.{State, IsLinked, IsOpenStream, stats_of}
-use Rattle.sctp_link.specs.Records.{message_record, stream_record, progress_of}
-use Rattle.sctp_stream.specs.Stats.{with_received}
 use Rattle.sctp_link.proofs.sender.Beginning.{index_kept}
-use Rattle.sctp_link.specs.Places.{IsApart}
-use Rattle.sctp_link.proofs.upkeep.Apart.{differ, each-set, number-found, streams-set, map-set}
+use Rattle.sctp_link.proofs.upkeep.Apart.{differ, each-set, number-found, streams-set}
 use Rattle.sctp_link.proofs.upkeep.StreamPlaces.{apart-set, changed-found, placed}
 use Rattle.sctp_link.proofs.upkeep.Facts.{facts, over}
 use Rattle.sctp_link.proofs.upkeep.StreamsAfter.{stream-then, linked-then}
 use Rattle.sctp_link.proofs.upkeep.Lookups.{some-open, none-open}
-use Rattle.sctp_stream.proofs.StreamPlaces.{map-set_same}
-use Rattle.sctp_model.specs.Contents.{chunk_at}
-use Rattle.sctp_link.specs.declared.link.Link.TheInside.{Inside}
-use Rattle.sctp_link.specs.declared.record.Slot.{Slot}
-use Rattle.sctp_link.specs.Fields.{record_in, sides_in, state_in}
 use Rattle.sctp_link.proofs.receiver.Hears.{lead-slot, lead-number, messages-made, message-raw, kept-raw}
-
--- set twice
-set-set : {A : Type 0} (xs : List A) (i : ℕ) (a b : A) → slice_set (slice_set xs i a) i b ≡ slice_set xs i b
-set-set [] i a b = refl
-set-set (x ∷ xs) zero a b = refl
-set-set (x ∷ xs) (suc i) a b = ap (λ ys. x ∷ ys) (set-set xs i a b)
 
 -- a message read, counted as the record counts it
 counted-read : (ppi : PayloadProtocolIdentifier) (len : ℕ) (w : LinkRecord) (t : ℕ)
@@ -114,7 +77,7 @@ pub record HandsOut (w : LinkRecord) (s n : ℕ) : Type 0 where
   pub other : (t : ℕ) → (t ≡ s → ⊥) → next_of (after_reading w s) t ≡ next_of w t
   pub complete : (if (message_at w n).ordered then (stream_of w s).complete else drop 1 (stream_of w s).complete) ≡ drop 1 (stream_of w s).complete
 
-module _ (sum : List ℕ → ℕ) (x : State) (l : IsLinked sum x) (s at : ℕ) (d : OpenStream) (streams_are : x.recorded.streams ≡ map stream_record x.open_streams)
+module _ {sum : List ℕ → ℕ} {x : State} (l : IsLinked sum x) (s at : ℕ) (d : OpenStream) (streams_are : x.recorded.streams ≡ map stream_record x.open_streams)
     (lt : at < length x.open_streams) (found : (d : OpenStream) → find (has_number s) x.open_streams ≡ Some (slice_index_or x.open_streams at d)) where
   abbrev w : LinkRecord
   w = x.recorded
@@ -147,13 +110,13 @@ module _ (sum : List ℕ → ℕ) (x : State) (l : IsLinked sum x) (s at : ℕ) 
   here = (l.open_streams at d lt).held ∙ ap (reassembly_of w) (id-at d)
 
   span : IsSpan w s []
-  span = (facts sum x l).valid.near s
+  span = (facts l).valid.near s
 
   complete-are : (stream_of w s).complete ≡ y.complete
   complete-are = ap (λ o. (unwrap_or o (no_stream s)).complete) open'
 
   rest : rest_read y.inbound.queue.held ≡ reassembly_of v s
-  rest = let f = facts sum x l in ap rest_read here ∙ NextRead.rest-is w s r f.valid.valid f.valid.unassembled span open'
+  rest = let f = facts l in ap rest_read here ∙ NextRead.rest-is w s r f.valid.valid f.valid.unassembled span open'
 
   streams-apart : IsApart (stream_numbers x.open_streams)
   streams-apart = l.apart
@@ -166,9 +129,9 @@ module _ (sum : List ℕ → ℕ) (x : State) (l : IsLinked sum x) (s at : ℕ) 
       → z.state.max_payload_size ≡ y.state.max_payload_size → z.state.sequence_number ≡ y.state.sequence_number → z.state.buffered_amount
       ≡ y.state.buffered_amount → z.ordered ≡ y.ordered → z.begun ≡ y.begun → z.next ≡ next_of v s → stats_in z ≡ stats_of (counters_on v s) → IsOpenStream v z
   stream-read z id queue size number bytes ordered begun next stats =
-      stream-then sum x l (E.Read s) none frame refl y z (l.open_streams at d lt) id (ap (λ q. q.held) queue ∙ rest ∙ ap (reassembly_of v) (sym (id-at d)))
-      (ap (λ q. q.si) queue) (ap (λ q. q.max_message_size) queue) size ordered number begun
-      (next ∙ ap (next_of v) (sym (id-at d))) bytes (stats ∙ ap (λ t. stats_of (counters_on v t)) (sym (id-at d)))
+      stream-then l (E.Read s) none frame refl y z (l.open_streams at d lt) id (ap (λ q. q.held) queue ∙ rest ∙ ap (reassembly_of v) (sym (id-at d)))
+      (ap (λ q. q.si) queue) (ap (λ q. q.max_message_size) queue) size ordered number begun (next ∙ ap (next_of v) (sym (id-at d))) bytes (stats
+      ∙ ap (λ t. stats_of (counters_on v t)) (sym (id-at d)))
 
   each-read : (z : OpenStream) → IsOpenStream v z → ((t : ℕ) → (t ≡ s → ⊥) → next_of v t ≡ next_of w t)
       → ((t : ℕ) → (t ≡ s → ⊥) → counters_on v t ≡ counters_on w t) → (j : ℕ) (c : OpenStream) → j < length (slice_set x.open_streams at z)
@@ -179,11 +142,11 @@ module _ (sum : List ℕ → ℕ) (x : State) (l : IsLinked sum x) (s at : ℕ) 
     where
       other : j < length x.open_streams → (j ≡ at → ⊥) → IsOpenStream v (slice_index_or x.open_streams j c)
       other inside ne =
-          let f = facts sum x l in
+          let f = facts l in
           let i = l.open_streams j c inside in
           let t = slice_index_or x.open_streams j c in
           let off : t.state.stream_identifier ≡ s → ⊥ = λ h. differ x.open_streams j at c streams-apart inside lt ne (h ∙ sym (id-at c)) in
-          stream-then sum x l (E.Read s) none frame refl t t i refl (i.held
+          stream-then l (E.Read s) none frame refl t t i refl (i.held
           ∙ sym (NextRead.read-others w s r f.valid.valid f.valid.unassembled span open' t.state.stream_identifier off)) refl refl refl refl refl refl
           (i.next ∙ sym (next t.state.stream_identifier off)) refl (i.stats ∙ ap stats_of (sym (counters t.state.stream_identifier off)))
 
@@ -209,7 +172,7 @@ module _ (sum : List ℕ → ℕ) (x : State) (l : IsLinked sum x) (s at : ℕ) 
 
   module _ (e : message_read (slice_index_or x.open_streams at d).inbound.queue.held ≡ None) where
     nothing : next_read w s ≡ None
-    nothing = let f = facts sum x l in ReadOne.none-due w s r f.valid.valid f.valid.unassembled span open' (ap message_read (sym here) ∙ e)
+    nothing = let f = facts l in ReadOne.none-due w s r f.valid.valid f.valid.unassembled span open' (ap message_read (sym here) ∙ e)
 
     still : v ≡ w
     still = ReadOne.nothing-read w s nothing
@@ -225,14 +188,12 @@ module _ (sum : List ℕ → ℕ) (x : State) (l : IsLinked sum x) (s at : ℕ) 
         (record x { recorded = record w { streams = map stream_record (slice_set x.open_streams at taken) }; open_streams = slice_set x.open_streams at taken })
     linked-same =
         let i = l.open_streams at d lt in
-        linked-then sum x l (E.Read s) none frame x.progress (slice_set x.open_streams at taken) x.filter
+        linked-then l (E.Read s) none frame x.progress (slice_set x.open_streams at taken) x.filter
         (record w { streams = map stream_record (slice_set x.open_streams at taken) }) refl (l.filter ∙ sym filter-stays)
-        (each-read taken (stream-read taken refl refl refl refl refl refl refl (i.next ∙ ap (next_of w) (id-at d)
-        ∙ ap (λ u. next_of u s) (sym still)) (ap (λ o. both_ways y.state.stats (count_read o y.inbound.stats)) e ∙ i.stats
-        ∙ ap (λ t. stats_of (counters_on w t)) (id-at d) ∙ ap stats_of (sym (counters-nothing w s s nothing))))
-        (λ t ne. ap (λ u. next_of u t) still) (λ t ne. counters-nothing w s t nothing))
-        (apart-set x.open_streams at taken d l.apart refl)
-        quiet recorded-same
+        (each-read taken (stream-read taken refl refl refl refl refl refl refl (i.next ∙ ap (next_of w) (id-at d) ∙ ap (λ u. next_of u s) (sym still))
+        (ap (λ o. both_ways y.state.stats (count_read o y.inbound.stats)) e ∙ i.stats ∙ ap (λ t. stats_of (counters_on w t)) (id-at d)
+        ∙ ap stats_of (sym (counters-nothing w s s nothing)))) (λ t ne. ap (λ u. next_of u t) still) (λ t ne. counters-nothing w s t nothing))
+        (apart-set x.open_streams at taken d l.apart refl) quiet recorded-same
 
     pub recorded-nothing : record w { streams = map stream_record (change_where (has_number s) (on_inbound stream_read) x.open_streams) } ≡ v
     recorded-nothing = ap {B = LinkRecord} (λ ls. record w { streams = map stream_record ls }) read-once ∙ recorded-same
@@ -248,7 +209,7 @@ module _ (sum : List ℕ → ℕ) (x : State) (l : IsLinked sum x) (s at : ℕ) 
 
   hands-complete : (n : ℕ) → ReadsComplete w s n → HandsOut w s n
   hands-complete n o =
-      let f = facts sum x l in
+      let f = facts l in
       let kind = o.unordered in
       let any : list_any (λ k. k == n) (stream_of w s).complete ≡ true = ap (list_any (λ k. k == n)) o.complete
       ∙ or-left (n == n) (list_any (λ k. k == n) o.rest) (same-yes n) in
@@ -265,7 +226,7 @@ module _ (sum : List ℕ → ℕ) (x : State) (l : IsLinked sum x) (s at : ℕ) 
 
   hands-ordered : (n : ℕ) → ReadsOrdered w s n → HandsOut w s n
   hands-ordered n o =
-      let f = facts sum x l in
+      let f = facts l in
       let kind = Line.on-ordered w s n o.due.on in
       let held = front-held w s (held_on w s) n o.rest (front-kept (is_held w s) 0 (length w.messages)) o.front in
       record {
@@ -285,13 +246,13 @@ module _ (sum : List ℕ → ℕ) (x : State) (l : IsLinked sum x) (s at : ℕ) 
 
   module _ (set : ChunkSet) (e : message_read (slice_index_or x.open_streams at d).inbound.queue.held ≡ Some set) where
     pub read-is : (n : ℕ) × (next_read w s ≡ Some n) × (set ≡ handed_out w n)
-    read-is = let f = facts sum x l in ReadOne.some-read w s r f.valid.valid f.valid.unassembled span open' set (ap message_read (sym here) ∙ e)
+    read-is = let f = facts l in ReadOne.some-read w s r f.valid.valid f.valid.unassembled span open' set (ap message_read (sym here) ∙ e)
 
     abbrev n : ℕ
     n = read-is.0
 
     pub hands : HandsOut w s read-is.0
-    hands = let f = facts sum x l in by (ReadOne.reads-one w s r f.valid.valid f.valid.unassembled span open' read-is.0 read-is.1)
+    hands = let f = facts l in by (ReadOne.reads-one w s r f.valid.valid f.valid.unassembled span open' read-is.0 read-is.1)
       where
         by : ReadsComplete w s read-is.0 ⊎ ReadsOrdered w s read-is.0 → HandsOut w s read-is.0
         by (inl o) = hands-complete read-is.0 o
@@ -303,9 +264,8 @@ module _ (sum : List ℕ → ℕ) (x : State) (l : IsLinked sum x) (s at : ℕ) 
     -- it has the bytes of its message
     bytes-read : bytes_of set.chunks ≡ length (message_at w read-is.0).bytes
     bytes-read =
-        ap (λ (c : ChunkSet). bytes_of c.chunks) read-is.2
-        ∙ sym (joined-length (handed_out w read-is.0).chunks)
-        ∙ ap length (over sum x (λ (u : LinkRecord). next_read u s ≡ Some read-is.0 → joined_bytes (handed_out u read-is.0).chunks
+        ap (λ (c : ChunkSet). bytes_of c.chunks) read-is.2 ∙ sym (joined-length (handed_out w read-is.0).chunks)
+        ∙ ap length (over (λ (u : LinkRecord). next_read u s ≡ Some read-is.0 → joined_bytes (handed_out u read-is.0).chunks
         ≡ (message_at u read-is.0).bytes) l (λ h. read-joined w.setup l.history l.setup l.stands.run s read-is.0 h) read-is.1)
 
     pub low : index_kept x.progress read-is.0 < length w.messages
@@ -313,7 +273,7 @@ module _ (sum : List ℕ → ℕ) (x : State) (l : IsLinked sum x) (s at : ℕ) 
 
     -- it has its index, as some of it was sent
     sent-some : 0 < sent_of w read-is.0
-    sent-some = subst (λ n. 0 < sent_of w n) hands-begins.of (slot-sent (shape w) hands-begins.place (facts sum x l).consistent.sender hands-begins.made)
+    sent-some = subst (λ n. 0 < sent_of w n) hands-begins.of (slot-sent (shape w) hands-begins.place (facts l).consistent.sender hands-begins.made)
 
     pub reply-read : R.Message s (message_at w read-is.0).ppi set ≡ reply_to w (E.Read s)
     reply-read = ap (λ c. R.Message s (message_at w read-is.0).ppi c) read-is.2
@@ -343,7 +303,7 @@ module _ (sum : List ℕ → ℕ) (x : State) (l : IsLinked sum x) (s at : ℕ) 
       counters-at : (t : ℕ) → counters_on v t ≡ (if t == s
           then received_more (counted_as (message_at w read-is.0).ppi (length (message_at w read-is.0).bytes)) (counters_on w t) else counters_on w t)
       counters-at t =
-          over sum x (λ (u : LinkRecord). next_read u s ≡ Some read-is.0 → counters_on (after_reading u s) t ≡ (if t == s
+          over (λ (u : LinkRecord). next_read u s ≡ Some read-is.0 → counters_on (after_reading u s) t ≡ (if t == s
           then received_more (counted_as (message_at u read-is.0).ppi (length (message_at u read-is.0).bytes)) (counters_on u t) else counters_on u t)) l
           (λ h. counters-read w.setup l.history l.setup l.stands.run s t read-is.0 h) read-is.1
 
@@ -397,9 +357,9 @@ module _ (sum : List ℕ → ℕ) (x : State) (l : IsLinked sum x) (s at : ℕ) 
 
       recorded-read : record w { streams = map stream_record (slice_set x.open_streams at z); messages = messages } ≡ v
       recorded-read =
-          ap {B = LinkRecord} (λ rs. record w { streams = rs; messages = messages }) streams-are
-          ∙ ap {B = LinkRecord} (λ ms. record w { streams = map (λ (t : StreamRecord). if t.stream == s then without_first t else t) w.streams; messages = ms })
-          messages_are ∙ sym (ap (read_of w s) read-is.1)
+          ap (λ rs. record w { streams = rs; messages = messages }) streams-are
+          ∙ ap (λ ms. record w { streams = map (λ (t : StreamRecord). if t.stream == s then without_first t else t) w.streams; messages = ms }) messages_are
+          ∙ sym (ap (read_of w s) read-is.1)
 
       linked-read : (progress : List (ℕ × ℕ)) → progress ≡ x.progress → IsLinked sum (record x {
         recorded = record w { streams = map stream_record (slice_set x.open_streams at z); messages = messages };
@@ -407,11 +367,9 @@ module _ (sum : List ℕ → ℕ) (x : State) (l : IsLinked sum x) (s at : ℕ) 
         open_streams = slice_set x.open_streams at z;
       })
       linked-read progress same =
-          linked-then sum x l (E.Read s) none frame progress (slice_set x.open_streams at z) x.filter
+          linked-then l (E.Read s) none frame progress (slice_set x.open_streams at z) x.filter
           (record w { streams = map stream_record (slice_set x.open_streams at z); messages = messages }) same (l.filter ∙ sym filter-stays)
-          (each-read z open_stream-is hands.other counters-other)
-          (apart-set x.open_streams at z d l.apart refl)
-          quiet recorded-read
+          (each-read z open_stream-is hands.other counters-other) (apart-set x.open_streams at z d l.apart refl) quiet recorded-read
 
       -- so the progress records it
       pub recorded-recorded : record w { streams = map stream_record recorded; messages = messages } ≡ v
@@ -474,19 +432,12 @@ pub record IsHanded {C : Type 0} (a : Inside C) (n : ℕ) (y : Slot) (m : Messag
   pub reads : map message_record (slice_set a.messages.items y.message (marked m)) ≡ change_at mark_read n (record_in a).messages
   pub progress : map progress_of (slice_set a.messages.items y.message (marked m)) ≡ map progress_of a.messages.items
 
-module _ {C : Type 0} (sum : List ℕ → ℕ) (a : Inside C) (l : IsLinked sum (state_in a)) (s : ℕ) where
+module _ {C : Type 0} {sum : List ℕ → ℕ} (a : Inside C) (l : IsLinked sum (state_in a)) (s : ℕ) where
   pub placed-at : refusal_of (record_in a) (E.Read s) ≡ None → IsPlaced s (sides_in a).streams
   placed-at ok =
       let t = open-there (record_in a) s (sides_in a).streams refl ok in
       let place = placed s (sides_in a).streams t.0 t.1 in
-      record {
-        at = place.0;
-        d = t.0;
-        lt = place.1.0;
-        is = t.1;
-        here = place.1.1 t.0;
-        found = λ e. t.1 ∙ ap (λ l. Some l) (sym (place.1.1 e));
-      }
+      record { at = place.0; d = t.0; lt = place.1.0; is = t.1; here = place.1.1 t.0; found = λ e. t.1 ∙ ap (λ l. Some l) (sym (place.1.1 e)) }
 
   module _ (p : IsPlaced s (sides_in a).streams) where
     pub none-handed : None ≡ option_map at_start (message_read p.d.inbound.queue.held)
@@ -499,19 +450,15 @@ module _ {C : Type 0} (sum : List ℕ → ℕ) (a : Inside C) (l : IsLinked sum 
 
     module _ (r : Chunks) (e : message_read (slice_index_or (sides_in a).streams p.at p.d).inbound.queue.held ≡ Some r.set) where
       abbrev pub handed : ℕ
-      handed = (read-is sum (state_in a) l s p.at p.d refl p.lt p.found r.set e).0
+      handed = (read-is l s p.at p.d refl p.lt p.found r.set e).0
 
       pub slot-handed : (d : ChunkPayloadData) → ((slice_index_or r.set.chunks 0 d).tsn + (2 ^ 32 - a.first_tsn)) % 2 ^ 32 < length a.slots.items
       slot-handed d =
-          lead-slot sum (state_in a) l a.slots.items a.messages.items refl refl handed r.set.chunks d
-          (hands-begins sum (state_in a) l s p.at p.d refl p.lt p.found r.set e) (hands sum (state_in a) l s p.at p.d refl p.lt p.found r.set e).made
+          lead-slot l a.slots.items a.messages.items refl refl handed r.set.chunks d (hands-begins l s p.at p.d refl p.lt p.found r.set e)
+          (hands l s p.at p.d refl p.lt p.found r.set e).made
 
       pub handed-made : handed < length a.messages.items
-      handed-made = omega (
-        arith,
-        (hands sum (state_in a) l s p.at p.d refl p.lt p.found r.set e).made,
-        messages-made sum (state_in a) l a.slots.items a.messages.items refl refl,
-      )
+      handed-made = omega (arith, (hands l s p.at p.d refl p.lt p.found r.set e).made, messages-made l a.slots.items a.messages.items refl refl)
 
       -- the slot y is that of the first TSN
       module _ (first : ℕ) (first_is : (d : ChunkPayloadData) → first ≡ (slice_index_or r.set.chunks 0 d).tsn) (y : Slot)
@@ -519,16 +466,16 @@ module _ {C : Type 0} (sum : List ℕ → ℕ) (a : Inside C) (l : IsLinked sum 
         pub number-handed : y.message ≡ handed
         number-handed =
             let d = chunk_at (record_in a) 0 in
-            lead-number sum (state_in a) l a.slots.items a.messages.items refl refl handed r.set.chunks d
-            (hands-begins sum (state_in a) l s p.at p.d refl p.lt p.found r.set e) (hands sum (state_in a) l s p.at p.d refl p.lt p.found r.set e).made
-            y (y_is ∙ ap (λ t. slice_index_or a.slots.items ((t + (2 ^ 32 - a.first_tsn)) % 2 ^ 32) y) (first_is d))
+            lead-number l a.slots.items a.messages.items refl refl handed r.set.chunks d (hands-begins l s p.at p.d refl p.lt p.found r.set e)
+            (hands l s p.at p.d refl p.lt p.found r.set e).made y (y_is
+            ∙ ap (λ t. slice_index_or a.slots.items ((t + (2 ^ 32 - a.first_tsn)) % 2 ^ 32) y) (first_is d))
 
         pub message-handed : (m : Message) → m ≡ slice_index_or a.messages.items y.message m → IsHanded a handed y m
         message-handed m is =
             let here : m ≡ slice_index_or a.messages.items handed m = is ∙ ap (λ i. slice_index_or a.messages.items i m) number-handed in
             record {
-              message = message-raw sum (state_in a) l a.slots.items a.messages.items refl refl handed m handed-made ∙ ap message_record (sym here);
-              index = ap (λ (t : Message). t.index) here ∙ sym (kept-raw sum (state_in a) l a.slots.items a.messages.items refl refl refl handed m handed-made);
+              message = message-raw l a.slots.items a.messages.items refl refl handed m handed-made ∙ ap message_record (sym here);
+              index = ap (λ (t : Message). t.index) here ∙ sym (kept-raw l a.slots.items a.messages.items refl refl refl handed m handed-made);
               reads = ap (λ i. map message_record (slice_set a.messages.items i (marked m))) number-handed
                   ∙ map-set message_record mark_read a.messages.items handed (marked m) m handed-made (ap (λ (t : Message). message_record (marked t)) here);
               progress = map-set_same progress_of a.messages.items y.message (marked m) m (ap progress_of is);

@@ -1,40 +1,18 @@
 -- What a link's queues tell of what comes to its receiver.
-use Rattle.std.proofs.Common.{◌≡◌, ℕ, zero, suc, ◌+◌, ◌-◌, ◌<◌, ◌^◌, ◌%◌, true, false, List, [], ◌∷◌, length, map, Option, Some, None, refl, ap, sym, ◌∙◌}
-use Rattle.std.proofs.Common.{arith}
-use Rattle.std.specs.Prelude.{find, min, max, option_map, slice_index_or}
-use Rattle.std.proofs.Math.Path.{subst}
-use Rattle.sctp_list_lemmas.proofs.More.{not_both}
-use Rattle.sctp_data.specs.declared.chunk.chunk_payload_data.ChunkPayloadData.{ChunkPayloadData}
-use Rattle.sctp_data.specs.ChunkSet.{ChunkSet}
-use Rattle.sctp_reassembly.specs.reassembly_queue.ReassemblyQueue.{ReassemblyState}
-use Rattle.sctp_model.specs.LinkRecord.{LinkRecord}
-use Rattle.sctp_model.specs.Messages.{message_at, slot_at, message_of, index_of, sent_of, tsn_of, place_of, no_message, no_slot}
-use Rattle.sctp_model.specs.Receiver.{is_held, held_on, next_of, least, greatest}
-use Rattle.sctp_model.specs.Queues.{set_of}
-use Rattle.sctp_model.proofs.sender.Shape.{shape}
-use Rattle.sctp_model.proofs.sender.Fronts.{slot-sent}
-use Rattle.sctp_refinement.specs.Holds.{ordered_sets}
+use Rattle.sctp_link.proofs.Names.{◌≡◌, ℕ, zero, suc, ◌+◌, ◌-◌, ◌<◌, ◌^◌, ◌%◌, true, false, List, [], length, map, Option, Some, None, refl, ap, sym, ◌∙◌}
+use Rattle.sctp_link.proofs.Names.{arith, find, min, max, option_map, slice_index_or, subst, not_both, ChunkPayloadData, ChunkSet, ReassemblyState, LinkRecord}
+use Rattle.sctp_link.proofs.Names.{message_at, slot_at, message_of, index_of, sent_of, tsn_of, place_of, no_message, no_slot, is_held, held_on, next_of, least}
+use Rattle.sctp_link.proofs.Names.{greatest, set_of, shape, slot-sent, ordered_sets, Carried, Begins, set-begins, set-at, sets-held, ends-none, lowest-front}
+use Rattle.sctp_link.proofs.Names.{highest-back, OpenStream, has_number, Message, Slot, State, IsLinked, message_record, slot_record, progress_of}
+use Rattle.sctp_link.proofs.Names.{length-mapped, some-same, get_or-map, nil_from_length}
 use Rattle.sctp_refinement.proofs.arriving.Arrival
-use Rattle.sctp_refinement.proofs.arriving.Carried.{Carried}
 use Rattle.sctp_refinement.proofs.reading.Line
 use Rattle.sctp_refinement.proofs.reading.Taken
-use Rattle.sctp_refinement.proofs.arriving.SpanEnds.{Begins, set-begins, set-at, sets-held, ends-none, lowest-front, highest-back}
-use Rattle.sctp_link.specs.Streams.{OpenStream, has_number}
-use Rattle.sctp_link.specs.declared.record.Message.{Message}
-use Rattle.sctp_link.specs.declared.record.Slot.{Slot}
-use Rattle.sctp_link.specs.Linked.{State, IsLinked}
-use Rattle.sctp_link.specs.Records.{message_record, slot_record, progress_of}
 use Rattle.sctp_link.proofs.sender.Beginning.{index_kept}
 use Rattle.sctp_link.proofs.upkeep.Facts.{facts}
 use Rattle.sctp_link.proofs.upkeep.Apart.{number-found}
-use Rattle.sctp_list_lemmas.proofs.Getting.{length-mapped}
 
 -- ## Elements of the record as the link keeps them
-
-pub raw-at : {A B : Type 0} (f : A → B) (xs : List A) (i : ℕ) (e : B) (d : A) → i < length xs → slice_index_or (map f xs) i e ≡ f (slice_index_or xs i d)
-raw-at f [] i e d lt = absurd (omega arith)
-raw-at f (x ∷ xs) zero e d lt = refl
-raw-at f (x ∷ xs) (suc i) e d lt = raw-at f xs i e d (omega arith)
 
 -- ## Which message a set is of
 
@@ -49,7 +27,7 @@ leads w n chunks d b =
     let back : place_of w (slice_index_or chunks 0 d).tsn ≡ b.place = ap (place_of w) tsn ∙ b.back in
     record { made = omega (arith, back, b.made); of = ap (message_of w) back ∙ b.of }
 
-module _ (sum : List ℕ → ℕ) (x : State) (l : IsLinked sum x) (slots : List Slot) (messages : List Message)
+module _ {sum : List ℕ → ℕ} {x : State} (l : IsLinked sum x) (slots : List Slot) (messages : List Message)
     (slots_are : x.recorded.slots ≡ map slot_record slots) (messages_are : x.recorded.messages ≡ map message_record messages) where
   pub slots-made : length x.recorded.slots ≡ length slots
   slots-made = ap length slots_are ∙ length-mapped slot_record slots
@@ -58,20 +36,20 @@ module _ (sum : List ℕ → ℕ) (x : State) (l : IsLinked sum x) (slots : List
   messages-made = ap length messages_are ∙ length-mapped message_record messages
 
   pub slot-raw : (p : ℕ) (d : Slot) → p < length slots → slot_at x.recorded p ≡ slot_record (slice_index_or slots p d)
-  slot-raw p d lt = ap (λ xs. slice_index_or xs p no_slot) slots_are ∙ raw-at slot_record slots p no_slot d lt
+  slot-raw p d lt = ap (λ xs. slice_index_or xs p no_slot) slots_are ∙ get_or-map slot_record slots p d no_slot lt
 
   pub message-raw : (n : ℕ) (d : Message) → n < length messages → message_at x.recorded n ≡ message_record (slice_index_or messages n d)
-  message-raw n d lt = ap (λ xs. slice_index_or xs n no_message) messages_are ∙ raw-at message_record messages n no_message d lt
+  message-raw n d lt = ap (λ xs. slice_index_or xs n no_message) messages_are ∙ get_or-map message_record messages n d no_message lt
 
   pub kept-raw : x.progress ≡ map progress_of messages → (n : ℕ) (d : Message) → n < length messages
       → index_kept x.progress n ≡ (slice_index_or messages n d).index
-  kept-raw kept n d lt = ap (λ ps. index_kept ps n) kept ∙ ap (λ p. p.1) (raw-at progress_of messages n (0, 0) d lt)
+  kept-raw kept n d lt = ap (λ ps. index_kept ps n) kept ∙ ap (λ p. p.1) (get_or-map progress_of messages n d (0, 0) lt)
 
   -- the set of a message that is held
   pub held-begins : (s n : ℕ) (set : ChunkSet) (chunks : List ChunkPayloadData) → chunks ≡ set.chunks → is_held x.recorded s n ≡ true
       → set ≡ set_of x.recorded n → Begins x.recorded n chunks
   held-begins s n set chunks shown h e =
-      let f = facts sum x l in
+      let f = facts l in
       subst (Begins x.recorded n) (sym (shown ∙ ap (λ (y : ChunkSet). y.chunks) e)) (set-begins x.recorded s n f.valid.valid f.setup.first h)
 
   pub held-ordered : (s n : ℕ) → is_held x.recorded s n ≡ true → (message_at x.recorded n).ordered ≡ true
@@ -101,9 +79,8 @@ module _ (sum : List ℕ → ℕ) (x : State) (l : IsLinked sum x) (slots : List
         → m.index ≡ index_of x.recorded n
     lead-index kept o y m z t =
         ap (λ (t : Message). t.index) (t ∙ ap (λ k. slice_index_or messages k m) (lead-number y z))
-        ∙ sym (kept-raw kept n m (omega (arith, made, messages-made)))
-        ∙ l.indexes n (subst (λ k. 0 < sent_of x.recorded k) led.of
-        (slot-sent (shape x.recorded) (place_of x.recorded (slice_index_or chunks 0 d).tsn) (facts sum x l).consistent.sender led.made)) o
+        ∙ sym (kept-raw kept n m (omega (arith, made, messages-made))) ∙ l.indexes n (subst (λ k. 0 < sent_of x.recorded k) led.of
+        (slot-sent (shape x.recorded) (place_of x.recorded (slice_index_or chunks 0 d).tsn) (facts l).consistent.sender led.made)) o
 
 -- ## What is told of an open stream
 
@@ -113,25 +90,16 @@ none-answered (Some l) e = cc
 
 pub answered-next : (o : Option OpenStream) (n : ℕ) → Some n ≡ option_map (λ l. l.next) o → (l : OpenStream) × ((o ≡ Some l) × (n ≡ l.next))
 answered-next None n e = cc
-answered-next (Some l) n e = (l, (refl, inner e))
-  where
-    inner : Some n ≡ Some l.next → n ≡ l.next
-    inner h = cc
+answered-next (Some l) n e = (l, (refl, some-same e))
 
 pub answered-queue : (o : Option OpenStream) (l : OpenStream) (q : ReassemblyState) → o ≡ Some l → Some q ≡ option_map (λ l. l.inbound.queue) o
     → q ≡ l.inbound.queue
 answered-queue None l q f e = cc
-answered-queue (Some k) l q f e = inner e ∙ ap (λ (t : OpenStream). t.inbound.queue) (same f)
-  where
-    inner : Some q ≡ Some k.inbound.queue → q ≡ k.inbound.queue
-    inner h = cc
-
-    same : Some k ≡ Some l → k ≡ l
-    same h = cc
+answered-queue (Some k) l q f e = some-same e ∙ ap (λ (t : OpenStream). t.inbound.queue) (some-same f)
 
 -- ## The ends of what is held
 
-module _ (sum : List ℕ → ℕ) (x : State) (l : IsLinked sum x) (at s : ℕ) (d : OpenStream) (lt : at < length x.open_streams)
+module _ {sum : List ℕ → ℕ} {x : State} (l : IsLinked sum x) (at s : ℕ) (d : OpenStream) (lt : at < length x.open_streams)
     (found : find (has_number s) x.open_streams ≡ Some (slice_index_or x.open_streams at d)) where
   pub stream-number : (slice_index_or x.open_streams at d).state.stream_identifier ≡ s
   stream-number = number-found s x.open_streams (slice_index_or x.open_streams at d) found
@@ -142,16 +110,12 @@ module _ (sum : List ℕ → ℕ) (x : State) (l : IsLinked sum x) (at s : ℕ) 
   pub stream-next : (slice_index_or x.open_streams at d).next ≡ next_of x.recorded s
   stream-next = (l.open_streams at d lt).next ∙ ap (next_of x.recorded) stream-number
 
-  empty : (xs : List ℕ) → length xs ≡ 0 → xs ≡ []
-  empty [] e = refl
-  empty (y ∷ ys) e = absurd (omega arith)
-
   -- nothing is held
   pub ends-empty : length (slice_index_or x.open_streams at d).inbound.queue.held.ordered ≡ 0
       → ((slice_index_or x.open_streams at d).next ≡ least (next_of x.recorded s) (map (index_of x.recorded) (held_on x.recorded s)))
       × ((slice_index_or x.open_streams at d).next ≡ greatest (next_of x.recorded s) (map (index_of x.recorded) (held_on x.recorded s)))
   ends-empty e =
-      let none : held_on x.recorded s ≡ [] = empty (held_on x.recorded s) (sym (sets-held x.recorded s) ∙ sym (ap length stream-ordered) ∙ e) in
+      let none : held_on x.recorded s ≡ [] = nil_from_length (held_on x.recorded s) (sym (sets-held x.recorded s) ∙ sym (ap length stream-ordered) ∙ e) in
       let ends = ends-none x.recorded s none in (stream-next ∙ sym ends.0, stream-next ∙ sym ends.1)
 
   -- a set of the queue is of a message that is held
@@ -159,7 +123,7 @@ module _ (sum : List ℕ → ℕ) (x : State) (l : IsLinked sum x) (at s : ℕ) 
       → (is_held x.recorded s (slice_index_or (held_on x.recorded s) i 0) ≡ true)
       × (slice_index_or (slice_index_or x.open_streams at d).inbound.queue.held.ordered i e ≡ set_of x.recorded (slice_index_or (held_on x.recorded s) i 0))
   set-held i e less =
-      let f = facts sum x l in
+      let f = facts l in
       let o = set-at x.recorded s i 0 e f.valid.valid f.setup.first (omega (arith, less, ap length stream-ordered)) in
       (o.held, ap (λ ss. slice_index_or ss i e) stream-ordered ∙ o.is)
 
@@ -184,15 +148,15 @@ module _ (sum : List ℕ → ℕ) (x : State) (l : IsLinked sum x) (at s : ℕ) 
 
 -- ## The message of a slot that comes
 
-module _ (sum : List ℕ → ℕ) (x : State) (l : IsLinked sum x) (p : ℕ) (c : Carried x.recorded p) where
+module _ {sum : List ℕ → ℕ} {x : State} (l : IsLinked sum x) {p : ℕ} (c : Carried x.recorded p) where
   abbrev n : ℕ
   n = message_of x.recorded p
 
   pub come-message : n < length x.recorded.messages
-  come-message = (facts sum x l).valid.valid.made n p (Arrival.has-fragment x.recorded p c.fragment)
+  come-message = (facts l).valid.valid.made n p (Arrival.has-fragment x.recorded p c.fragment)
 
   pub come-index : (message_at x.recorded n).ordered ≡ true → index_kept x.progress n ≡ index_of x.recorded n
-  come-index o = l.indexes n (slot-sent (shape x.recorded) p (facts sum x l).consistent.sender c.made) o
+  come-index o = l.indexes n (slot-sent (shape x.recorded) p (facts l).consistent.sender c.made) o
 
 pub none-there : (n : ℕ) → (0 < n → false ≡ true) → n ≡ 0
 none-there zero h = refl

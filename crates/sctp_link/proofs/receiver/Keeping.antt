@@ -1,5 +1,5 @@
 -- What holds of an error alone.
-use Rattle.std.specs.Prelude.{Result, Ok, Err, OnErr}
+use Rattle.sctp_link.proofs.Names.{Result, Ok, Err, OnErr}
 
 pub on-err : {T E : Type 0} (r : Result T E) (P : Type 0) → P → OnErr r P
 on-err (Ok v) P p = tt

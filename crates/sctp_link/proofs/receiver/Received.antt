@@ -1,56 +1,27 @@
 -- The slots of a datagram of a link come to a valid record, and what the link is after them.
-use Rattle.std.proofs.Common.{◌≡◌, ℕ, zero, suc, ◌+◌, ◌<◌, ◌≤◌, ◌%◌, ◌^◌, Bool, true, false, List, [], ◌∷◌, ◌++◌, length, map, Some, None, refl, ap, sym, ◌∙◌}
-use Rattle.std.proofs.Common.{arith}
-use Rattle.std.specs.Prelude.{◌==◌, not, if◌then◌else◌, fold, slice_get, slice_index_or}
-use Rattle.std.specs.List.{list_any}
-use Rattle.std.proofs.Math.Path.{subst}
+use Rattle.sctp_link.proofs.Names.{◌≡◌, ℕ, zero, suc, ◌+◌, ◌<◌, ◌≤◌, ◌%◌, ◌^◌, Bool, true, false, List, [], ◌∷◌, ◌++◌, length, map, Some, None, refl, ap, sym}
+use Rattle.sctp_link.proofs.Names.{◌∙◌, arith, ◌==◌, not, if◌then◌else◌, fold, slice_get, slice_index_or, list_any, subst, pieces, fresh, ChunkPayloadData}
+use Rattle.sctp_link.proofs.Names.{is_too_large, Setup, LinkRecord, Data, message_at, slot_at, message_of, is_new, next_of, receive_slot, after_arrive}
+use Rattle.sctp_link.proofs.Names.{note_completion, becomes_complete, chunk_at, filter_of, History, IsRun, record_of, refusal_of, after, IsRight, arrive_reply}
+use Rattle.sctp_link.proofs.Names.{IsSetup, ComesValid, AllFragments, Shape, shape, index, parts, Consistent, consistent-run, consistent-received, size-some}
+use Rattle.sctp_link.proofs.Names.{reassembly_of, counters_on, counters-same, SameToSender, same-then, with_arrived, Carried, carried, enters, next-arrive}
+use Rattle.sctp_link.proofs.Names.{OpenStream, stats_in, stream_numbers, Sides, reception_of, Slot, State, IsLinked, IsOpenStream, stats_of, filter_shown}
+use Rattle.sctp_link.proofs.Names.{slot_record, stream_record, IsReceiver, Comes, AllCome, IsApart, length-mapped, get_or-map, append_assoc}
+use Rattle.sctp_refinement.proofs.amounts.NoLarger.{no-larger}
+use Rattle.sctp_model.proofs.receiver.ValidRun.{slots_come_valid}
 use Rattle.std.proofs.lemmas.List.Sums.{fold-append}
-use Rattle.sctp_list_lemmas.specs.Lists.{pieces}
-use Rattle.sctp_data.specs.ChunkSet.{fresh}
-use Rattle.sctp_data.specs.declared.chunk.chunk_payload_data.ChunkPayloadData.{ChunkPayloadData}
-use Rattle.sctp_reassembly.specs.reassembly_queue.ReassemblyQueue.{is_too_large}
 use Rattle.sctp_model.specs.declared.event.Event.TheVariants as E
 use Rattle.sctp_model.specs.Reply as R
-use Rattle.sctp_model.specs.LinkRecord.{Setup, LinkRecord, Data}
-use Rattle.sctp_model.specs.Messages.{message_at, slot_at, message_of}
-use Rattle.sctp_model.specs.Receiver.{is_new, next_of}
-use Rattle.sctp_model.specs.Changes.{receive_slot, after_arrive, note_completion, becomes_complete}
-use Rattle.sctp_model.specs.Contents.{chunk_at}
-use Rattle.sctp_model.specs.Queues.{filter_of}
-use Rattle.sctp_model.specs.Steps.{History, IsRun, record_of, refusal_of, after, IsRight, arrive_reply}
-use Rattle.sctp_model.specs.Laws.{IsSetup}
-use Rattle.sctp_model.specs.Valid.{ComesValid, AllFragments}
-use Rattle.sctp_model.proofs.sender.Shape.{Shape, shape, index, parts}
-use Rattle.sctp_model.proofs.sender.SenderRun.{Consistent, consistent-run, consistent-received}
 use Rattle.sctp_model.proofs.sender.Network
-use Rattle.sctp_model.proofs.receiver.ValidRun.{slots_come_valid}
-use Rattle.sctp_model.proofs.acknowledgement.Bytes.{size-some}
-use Rattle.sctp_refinement.specs.Holds.{reassembly_of}
-use Rattle.sctp_refinement.specs.Counts.{counters_on}
 use Rattle.sctp_refinement.proofs.sending.SlotsGoOn.{AllGoOn, goes-run}
-use Rattle.sctp_refinement.proofs.amounts.NoLarger.{no-larger}
 use Rattle.sctp_refinement.proofs.amounts.Sizes.{never-too-large}
-use Rattle.sctp_refinement.proofs.amounts.StreamCounters.{counters-same}
 use Rattle.sctp_refinement.proofs.acknowledging.QuietSender
-use Rattle.sctp_refinement.proofs.acknowledging.QuietSender.{SameToSender, same-then}
 use Rattle.sctp_refinement.proofs.arriving.Arrival
-use Rattle.sctp_refinement.proofs.arriving.Arrival.{with_arrived}
-use Rattle.sctp_refinement.proofs.arriving.Carried.{Carried, carried, enters}
 use Rattle.sctp_refinement.proofs.arriving.SlotArrives
-use Rattle.sctp_refinement.proofs.reading.ReadOne.{next-arrive}
 use Rattle.sctp_receiver.specs.Receiver.{filter_of as held_filter}
-use Rattle.sctp_link.specs.Streams.{OpenStream, stats_in, stream_numbers}
-use Rattle.sctp_link.specs.Sides.{Sides, reception_of}
-use Rattle.sctp_link.specs.declared.record.Slot.{Slot}
-use Rattle.sctp_link.specs.Linked.{State, IsLinked, IsOpenStream, stats_of, filter_shown}
-use Rattle.sctp_link.specs.Records.{slot_record, stream_record}
-use Rattle.sctp_link.specs.Receiving.{IsReceiver, Comes, AllCome}
-use Rattle.sctp_link.specs.Places.{IsApart}
 use Rattle.sctp_link.proofs.upkeep.Facts.{facts, over}
 use Rattle.sctp_link.proofs.upkeep.StreamsAfter.{stream-then, linked-then}
-use Rattle.sctp_link.proofs.receiver.Hears.{raw-at}
 use Rattle.sctp_link.proofs.receiver.Slots.{core}
-use Rattle.sctp_list_lemmas.proofs.Getting.{length-mapped}
 
 -- ## They come to a valid record
 
@@ -104,27 +75,23 @@ module _ (setup : Setup) (h : History) (is : IsSetup setup) (run : IsRun setup h
   comes-from v front (p ∷ qs) eq g e = (
     comes-one v front p qs eq g e,
     comes-from (receive_slot v p) (front ++ p ∷ []) qs (ap (λ u. receive_slot u p) eq ∙ sym (fold-append receive_slot w front (p ∷ [])))
-        (consistent-received setup v p g) (e ∙ ap (λ ps. Some (Data ps)) (sym (assoc front p qs))),
+        (consistent-received setup v p g) (e ∙ ap (λ ps. Some (Data ps)) (sym (append_assoc front (p ∷ []) qs))),
   )
-    where
-      assoc : (xs : List ℕ) (y : ℕ) (ys : List ℕ) → (xs ++ y ∷ []) ++ ys ≡ xs ++ y ∷ ys
-      assoc [] y ys = refl
-      assoc (x ∷ xs) y ys = ap (λ zs. x ∷ zs) (assoc xs y ys)
 
   comes-run : (ps : List ℕ) → slice_get w.network k ≡ Some (Data ps) → AllCome w ps (map (chunk_at w) ps)
   comes-run ps e = comes-from w [] ps refl (consistent-run setup h run) e
 
 -- so do those of a datagram of a link
-pub all-come : (sum : List ℕ → ℕ) (x : State) (l : IsLinked sum x) (k : ℕ) (ps : List ℕ) → refusal_of x.recorded (E.Arrive k) ≡ None
+pub all-come : {sum : List ℕ → ℕ} {x : State} (l : IsLinked sum x) (k : ℕ) (ps : List ℕ) → refusal_of x.recorded (E.Arrive k) ≡ None
     → slice_get x.recorded.network k ≡ Some (Data ps) → AllCome x.recorded ps (map (chunk_at x.recorded) ps)
-all-come sum x l k ps none e =
-    over sum x (λ (u : LinkRecord). refusal_of u (E.Arrive k) ≡ None → slice_get u.network k ≡ Some (Data ps) → AllCome u ps (map (chunk_at u) ps)) l
-    (λ n i. comes-run x.recorded.setup l.history l.setup l.stands.run k n ps i) none e
+all-come {x} l k ps none e =
+    over (λ (u : LinkRecord). refusal_of u (E.Arrive k) ≡ None → slice_get u.network k ≡ Some (Data ps)
+    → AllCome u ps (map (chunk_at u) ps)) l (λ n i. comes-run x.recorded.setup l.history l.setup l.stands.run k n ps i) none e
 
 -- what the sides of a link have for it
-pub receiver-of : (sum : List ℕ → ℕ) (x : State) (l : IsLinked sum x) (h : Sides) → x.recorded.streams ≡ map stream_record h.streams
+pub receiver-of : {sum : List ℕ → ℕ} {x : State} (l : IsLinked sum x) (h : Sides) → x.recorded.streams ≡ map stream_record h.streams
     → x.open_streams ≡ h.streams → x.filter ≡ held_filter (reception_of h) → IsReceiver x.recorded h
-receiver-of sum x l h a b c = record {
+receiver-of {x} l h a b c = record {
   streams_are = a;
   filter_is = ap filter_shown (sym c) ∙ l.filter;
   queues = λ k d lt. let i = subst (λ ls. IsOpenStream x.recorded (slice_index_or ls k d)) b (l.open_streams k d (omega (arith, lt, ap length b))) in
@@ -170,7 +137,7 @@ quiet-slots w v (p ∷ ps) f = quiet-slots w (receive_slot v p) ps (same-then w 
 
 -- ## The link after them
 
-module _ (sum : List ℕ → ℕ) (x : State) (l : IsLinked sum x) (k : ℕ) (ps : List ℕ) (none : refusal_of x.recorded (E.Arrive k) ≡ None)
+module _ {sum : List ℕ → ℕ} {x : State} (l : IsLinked sum x) (k : ℕ) (ps : List ℕ) (none : refusal_of x.recorded (E.Arrive k) ≡ None)
     (e : slice_get x.recorded.network k ≡ Some (Data ps)) where
   abbrev here : LinkRecord
   here = x.recorded
@@ -190,31 +157,30 @@ module _ (sum : List ℕ → ℕ) (x : State) (l : IsLinked sum x) (k : ℕ) (ps
 
   next-stays : (t : ℕ) → next_of then' t ≡ next_of here t
   next-stays t =
-      over sum x (λ (u : LinkRecord). slice_get u.network k ≡ Some (Data ps) → next_of (after u (E.Arrive k)) t ≡ next_of u t) l
-      (λ i. next-arrive x.recorded.setup l.history k t ps i) e
+      over (λ (u : LinkRecord). slice_get u.network k ≡ Some (Data ps)
+      → next_of (after u (E.Arrive k)) t ≡ next_of u t) l (λ i. next-arrive x.recorded.setup l.history k t ps i) e
 
   counters-stay : (t : ℕ) → counters_on then' t ≡ counters_on here t
-  counters-stay t = let f = facts sum x l in counters-same here.setup here (E.Arrive k) t f.consistent refl refl
+  counters-stay t = let f = facts l in counters-same here.setup here (E.Arrive k) t f.consistent refl refl
 
-  module _ (y : Sides) (slots : List Slot) (dups : List ℕ) (r : IsReceiver (fold receive_slot x.recorded ps) y)
+  module _ {y : Sides} (slots : List Slot) (dups : List ℕ) (r : IsReceiver (fold receive_slot x.recorded ps) y)
       (cores : map core y.streams ≡ map core x.open_streams) (slots_are : (fold receive_slot x.recorded ps).slots ≡ map slot_record slots)
       (dups_are : (fold receive_slot x.recorded ps).duplicates ≡ dups) where
     recorded-received : record x.recorded { streams = map stream_record y.streams; slots = map slot_record slots; duplicates = dups }
         ≡ fold receive_slot x.recorded ps
     recorded-received =
         let v = fold receive_slot x.recorded ps in
-        ap {B = LinkRecord} (λ a. record x.recorded { streams = a; slots = map slot_record slots; duplicates = dups }) (sym r.streams_are)
-        ∙ ap {B = LinkRecord} (λ a. record x.recorded { streams = v.streams; slots = a; duplicates = dups }) (sym slots_are)
-        ∙ ap {B = LinkRecord} (λ a. record x.recorded { streams = v.streams; slots = v.slots; duplicates = a }) (sym dups_are)
-        ∙ sym (rest-all x.recorded x.recorded ps refl)
+        ap (λ a. record x.recorded { streams = a; slots = map slot_record slots; duplicates = dups }) (sym r.streams_are)
+        ∙ ap (λ a. record x.recorded { streams = v.streams; slots = a; duplicates = dups }) (sym slots_are)
+        ∙ ap (λ a. record x.recorded { streams = v.streams; slots = v.slots; duplicates = a }) (sym dups_are) ∙ sym (rest-all x.recorded x.recorded ps refl)
 
     many : length y.streams ≡ length x.open_streams
     many = sym (length-mapped core y.streams) ∙ ap length cores ∙ length-mapped core x.open_streams
 
     core-at : (j : ℕ) (d : OpenStream) → j < length y.streams → core (slice_index_or y.streams j d) ≡ core (slice_index_or x.open_streams j d)
     core-at j d lt =
-        sym (raw-at core y.streams j (core d) d lt) ∙ ap (λ ls. slice_index_or ls j (core d)) cores
-        ∙ raw-at core x.open_streams j (core d) d (omega (arith, lt, many))
+        sym (get_or-map core y.streams j d (core d) lt) ∙ ap (λ ls. slice_index_or ls j (core d)) cores
+        ∙ get_or-map core x.open_streams j d (core d) (omega (arith, lt, many))
 
     stream-received : (j : ℕ) (d : OpenStream) → j < length y.streams → IsOpenStream then' (slice_index_or y.streams j d)
     stream-received j d lt =
@@ -224,14 +190,12 @@ module _ (sum : List ℕ → ℕ) (x : State) (l : IsLinked sum x) (k : ℕ) (ps
         let c = core-at j d lt in
         let q = r.queues j d lt in
         let id = ap (λ (t : OpenStream). t.state.stream_identifier) c in
-        stream-then sum x l (E.Arrive k) none frame refl o z i id
-        (q.held ∙ ap (reassembly_of (fold receive_slot here ps)) id ∙ ap (λ u. reassembly_of u o.state.stream_identifier) (sym after-is))
-        (q.si ∙ id ∙ sym i.si)
-        (q.largest ∙ ap (λ s. s.largest) (Network.same-slots here ps).setup ∙ sym i.largest)
-        (ap (λ (t : OpenStream). t.state.max_payload_size) c) (ap (λ (t : OpenStream). t.ordered) c) (ap (λ (t : OpenStream). t.state.sequence_number) c)
-        (ap (λ (t : OpenStream). t.begun) c)
-        (ap (λ (t : OpenStream). t.next) c ∙ i.next ∙ sym (next-stays o.state.stream_identifier))
-        (ap (λ (t : OpenStream). t.state.buffered_amount) c) (ap stats_in c ∙ i.stats ∙ ap stats_of (sym (counters-stay o.state.stream_identifier)))
+        stream-then l (E.Arrive k) none frame refl o z i id (q.held ∙ ap (reassembly_of (fold receive_slot here ps)) id
+        ∙ ap (λ u. reassembly_of u o.state.stream_identifier) (sym after-is)) (q.si ∙ id ∙ sym i.si)
+        (q.largest ∙ ap (λ s. s.largest) (Network.same-slots here ps).setup ∙ sym i.largest) (ap (λ (t : OpenStream). t.state.max_payload_size) c)
+        (ap (λ (t : OpenStream). t.ordered) c) (ap (λ (t : OpenStream). t.state.sequence_number) c) (ap (λ (t : OpenStream). t.begun) c)
+        (ap (λ (t : OpenStream). t.next) c ∙ i.next ∙ sym (next-stays o.state.stream_identifier)) (ap (λ (t : OpenStream). t.state.buffered_amount) c)
+        (ap stats_in c ∙ i.stats ∙ ap stats_of (sym (counters-stay o.state.stream_identifier)))
 
     numbers-same : stream_numbers y.streams ≡ stream_numbers x.open_streams
     numbers-same = numbers-core y.streams ∙ ap (map (λ (t : OpenStream). t.state.stream_identifier)) cores ∙ sym (numbers-core x.open_streams)
@@ -246,9 +210,9 @@ module _ (sum : List ℕ → ℕ) (x : State) (l : IsLinked sum x) (k : ℕ) (ps
       filter = held_filter (reception_of y);
     })
     linked-received =
-        linked-then sum x l (E.Arrive k) none frame x.progress y.streams (held_filter (reception_of y))
-        (record x.recorded { streams = map stream_record y.streams; slots = map slot_record slots; duplicates = dups }) refl
-        (r.filter_is ∙ ap filter_of (sym after-is)) stream-received (subst IsApart (sym numbers-same) l.apart) quiet (recorded-received ∙ sym after-is)
+        linked-then l (E.Arrive k) none frame x.progress y.streams (held_filter (reception_of y))
+        (record x.recorded { streams = map stream_record y.streams; slots = map slot_record slots; duplicates = dups }) refl (r.filter_is
+        ∙ ap filter_of (sym after-is)) stream-received (subst IsApart (sym numbers-same) l.apart) quiet (recorded-received ∙ sym after-is)
 
     pub right-received : (new : Bool) (reply : R.Reply) → new ≡ list_any (is_new x.recorded) ps → reply ≡ (if new then R.New else R.Repeat)
         → IsRight x.recorded (E.Arrive k) reply (record x.recorded { streams = map stream_record y.streams; slots = map slot_record slots; duplicates = dups })
@@ -259,7 +223,7 @@ module _ (sum : List ℕ → ℕ) (x : State) (l : IsLinked sum x) (k : ℕ) (ps
 
 -- ## What is known of them before
 
-module _ (sum : List ℕ → ℕ) (x : State) (l : IsLinked sum x) (k : ℕ) (ps : List ℕ) (e : slice_get x.recorded.network k ≡ Some (Data ps)) where
+module _ {sum : List ℕ → ℕ} {x : State} (l : IsLinked sum x) (k : ℕ) (ps : List ℕ) (e : slice_get x.recorded.network k ≡ Some (Data ps)) where
   fragment-at : (qs : List ℕ) (i : ℕ) → AllFragments x.recorded qs → i < length qs
       → (slice_index_or qs i 0 < length x.recorded.slots) × ((slot_at x.recorded (slice_index_or qs i 0)).is_terminal_chunk ≡ false)
   fragment-at [] i a lt = absurd (omega arith)
@@ -267,10 +231,10 @@ module _ (sum : List ℕ → ℕ) (x : State) (l : IsLinked sum x) (k : ℕ) (ps
   fragment-at (q ∷ qs) (suc i) a lt = fragment-at qs i a.2 (omega arith)
 
   all-fragments : AllFragments x.recorded ps
-  all-fragments = (facts sum x l).valid.network.carried k ps e
+  all-fragments = (facts l).valid.network.carried k ps e
 
   pub all-inside : (i : ℕ) → i < length ps → slice_index_or ps i 0 < length x.recorded.slots
   all-inside i lt = (fragment-at ps i all-fragments lt).0
 
   pub all-carried : (i : ℕ) → i < length ps → Carried x.recorded (slice_index_or ps i 0)
-  all-carried i lt = let f = fragment-at ps i all-fragments lt in carried x.recorded.setup x.recorded (slice_index_or ps i 0) (facts sum x l).consistent f.0 f.1
+  all-carried i lt = let f = fragment-at ps i all-fragments lt in carried x.recorded.setup x.recorded (slice_index_or ps i 0) (facts l).consistent f.0 f.1

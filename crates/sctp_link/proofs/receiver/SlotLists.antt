@@ -1,23 +1,10 @@
 -- The slots of a datagram come to the receiver of a link, one after another.
-use Rattle.std.proofs.Common.{◌≡◌, ℕ, zero, suc, Bool, true, false, List, [], ◌∷◌, ◌++◌, length, map, refl, ap, sym, ◌∙◌, append-nil}
-use Rattle.std.specs.Prelude.{◌||◌, if◌then◌else◌, fold, slice_index_or}
-use Rattle.std.specs.List.{list_any}
-use Rattle.std.proofs.Math.Path.{subst}
-use Rattle.sctp_list_lemmas.specs.Lists.{change_at}
-use Rattle.sctp_data.specs.declared.chunk.chunk_payload_data.ChunkPayloadData.{ChunkPayloadData}
-use Rattle.sctp_model.specs.LinkRecord.{LinkRecord}
-use Rattle.sctp_model.specs.Messages.{message_of, no_slot}
-use Rattle.sctp_model.specs.Receiver.{is_new}
-use Rattle.sctp_model.specs.Changes.{receive_slot, mark_arrived}
+use Rattle.sctp_link.proofs.Names.{◌≡◌, ℕ, zero, suc, Bool, true, false, List, [], ◌∷◌, ◌++◌, length, map, refl, ap, sym, ◌∙◌, append-nil, ◌||◌, if◌then◌else◌}
+use Rattle.sctp_link.proofs.Names.{fold, slice_index_or, list_any, subst, change_at, ChunkPayloadData, LinkRecord, message_of, no_slot, is_new, receive_slot}
+use Rattle.sctp_link.proofs.Names.{mark_arrived, Arrival, New, Repeat, arrival_of, is_answered_complete, Sides, reception_of, CanTake, TakesEach, Slot}
+use Rattle.sctp_link.proofs.Names.{slot_record, IsReceiver, AllCome, number_at, with_arrival, arrived_in, repeated_of, is_first}
 use Rattle.sctp_model.proofs.sender.Network
 use Rattle.sctp_refinement.proofs.arriving.SlotArrives
-use Rattle.sctp_receiver.specs.declared.receiver.arrival.Arrival.{Arrival}
-use Rattle.sctp_receiver.specs.declared.receiver.arrival.Arrival.TheVariants.{New, Repeat}
-use Rattle.sctp_receiver.specs.Receiver.{arrival_of, is_answered_complete}
-use Rattle.sctp_link.specs.Sides.{Sides, reception_of, CanTake, TakesEach}
-use Rattle.sctp_link.specs.declared.record.Slot.{Slot}
-use Rattle.sctp_link.specs.Records.{slot_record}
-use Rattle.sctp_link.specs.Receiving.{IsReceiver, AllCome, number_at, with_arrival, arrived_in, repeated_of, is_first}
 use Rattle.sctp_link.proofs.receiver.Arrivals.{more}
 use Rattle.sctp_link.proofs.receiver.Slots.{One, core, accepted, opened, one}
 
@@ -35,16 +22,16 @@ numbers-stay : (w : LinkRecord) (p q : ℕ) → message_of (receive_slot w p) q 
 numbers-stay w p q = ap (λ y. (y.slot q).message) (Network.same-slot w p).shape_is
 
 -- the receiver refuses none of them
-pub can : (f : ℕ → ℕ) (ps : List ℕ) (cs : List ChunkPayloadData) (w : LinkRecord) (x : Sides) → ((q : ℕ) → f q ≡ message_of w q) → IsReceiver w x
+pub can : (f : ℕ → ℕ) (ps : List ℕ) (cs : List ChunkPayloadData) {w : LinkRecord} {x : Sides} → ((q : ℕ) → f q ≡ message_of w q) → IsReceiver w x
     → AllCome w ps cs → CanTake cs (map f ps) x
-can f [] [] w x num r m = tt
-can f [] (c ∷ cs) w x num r m = absurd m
-can f (p ∷ ps) [] w x num r m = absurd m
-can f (p ∷ ps) (c ∷ cs) w x num r m = (
-  accepted w x r p c m.0,
-  opened w x r p c m.0,
-  λ complete y t. can f ps cs (receive_slot w p) y (λ q. num q ∙ sym (numbers-stay w p q))
-      (one w x r p c m.0 (f p) complete (arrival_of c.tsn complete (reception_of x)) y (num p) refl t).receiver m.1,
+can f [] [] num r m = tt
+can f [] (c ∷ cs) num r m = absurd m
+can f (p ∷ ps) [] num r m = absurd m
+can f (p ∷ ps) (c ∷ cs) {w} {x} num r m = (
+  accepted r p c m.0,
+  opened r p c m.0,
+  λ complete y t. can f ps cs (λ q. num q ∙ sym (numbers-stay w p q))
+      (one r p c m.0 (f p) complete (arrival_of c.tsn complete (reception_of x)) y (num p) refl t).receiver m.1,
 )
 
 -- what they make
@@ -92,9 +79,9 @@ came-more w x mid y p ps a bs o e = record {
     duplicates (New complete) h = ap (λ d. d ++ repeated_of ps bs) h
     duplicates Repeat h = ap (λ d. d ++ repeated_of ps bs) h ∙ more w.duplicates p (repeated_of ps bs)
 
-pub came : (f : ℕ → ℕ) (ps : List ℕ) (cs : List ChunkPayloadData) (bs : List Arrival) (w : LinkRecord) (x y : Sides) → ((q : ℕ) → f q ≡ message_of w q)
-    → IsReceiver w x → AllCome w ps cs → TakesEach cs (map f ps) bs x y → Came w x ps bs y
-came f [] [] [] w x y num r m t = record {
+pub came : (f : ℕ → ℕ) (ps : List ℕ) (cs : List ChunkPayloadData) (bs : List Arrival) {w : LinkRecord} {x : Sides} (y : Sides)
+    → ((q : ℕ) → f q ≡ message_of w q) → IsReceiver w x → AllCome w ps cs → TakesEach cs (map f ps) bs x y → Came w x ps bs y
+came f [] [] [] {w} {x} y num r m t = record {
   receiver = subst (IsReceiver w) (sym t) r;
   cores = ap (λ (z : Sides). map core z.streams) t;
   rest =
@@ -104,10 +91,10 @@ came f [] [] [] w x y num r m t = record {
   slots = λ ss same. same;
   duplicates = sym (append-nil w.duplicates);
 }
-came f [] [] (b ∷ bs) w x y num r m t = absurd t
-came f [] (c ∷ cs) bs w x y num r m t = absurd m
-came f (p ∷ ps) [] bs w x y num r m t = absurd m
-came f (p ∷ ps) (c ∷ cs) [] w x y num r m t = absurd t
-came f (p ∷ ps) (c ∷ cs) (a ∷ bs) w x y num r m t =
-    let o = one w x r p c m.0 (f p) (is_answered_complete a) a t.0 (num p) t.1.0.answer t.1.0.taken in
-    came-more w x t.0 y p ps a bs o (came f ps cs bs (receive_slot w p) t.0 y (λ q. num q ∙ sym (numbers-stay w p q)) o.receiver m.1 t.1.1)
+came f [] [] (b ∷ bs) y num r m t = absurd t
+came f [] (c ∷ cs) bs y num r m t = absurd m
+came f (p ∷ ps) [] bs y num r m t = absurd m
+came f (p ∷ ps) (c ∷ cs) [] y num r m t = absurd t
+came f (p ∷ ps) (c ∷ cs) (a ∷ bs) {w} {x} y num r m t =
+    let o = one r p c m.0 (f p) (is_answered_complete a) a t.0 (num p) t.1.0.answer t.1.0.taken in
+    came-more w x t.0 y p ps a bs o (came f ps cs bs y (λ q. num q ∙ sym (numbers-stay w p q)) o.receiver m.1 t.1.1)

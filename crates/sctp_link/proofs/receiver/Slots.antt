@@ -1,44 +1,24 @@
 -- A slot of a datagram comes: what the receiver of a link has then.
-use Rattle.std.proofs.Common.{◌≡◌, ℕ, suc, ◌<◌, Bool, true, false, List, [], ◌∷◌, ◌++◌, length, map, Option, Some, None, refl, ap, sym, ◌∙◌, arith}
-use Rattle.std.specs.Prelude.{◌==◌, ◌&&◌, not, nat_le, if◌then◌else◌, find, option_map, is_some, slice_index_or, slice_set}
-use Rattle.std.specs.List.{list_all}
-use Rattle.std.proofs.Math.Path.{subst}
-use Rattle.std.proofs.lemmas.List.{length-set}
-use Rattle.sctp_list_lemmas.specs.Lists.{change_at, change_where, insert_before}
-use Rattle.sctp_list_lemmas.proofs.Cases.{and-none, and-true}
-use Rattle.sctp_data.specs.declared.chunk.chunk_payload_data.ChunkPayloadData.{ChunkPayloadData}
-use Rattle.sctp_serial.specs.DataChunks.{chunk_before}
-use Rattle.sctp_reassembly.specs.reassembly_queue.ReassemblyQueue.{Reassembly, ReassemblyState, is_too_large, held_after_ordered_push, BecomesComplete}
-use Rattle.sctp_model.specs.LinkRecord.{LinkRecord, StreamRecord}
-use Rattle.sctp_model.specs.Messages.{message_at, message_of, slots_of, index_of, tsn_of}
-use Rattle.sctp_model.specs.Receiver.{is_new, has_arrived}
-use Rattle.sctp_model.specs.Changes.{receive_slot, becomes_complete, with_complete, note_completion, stream_changed, mark_arrived}
-use Rattle.sctp_model.specs.Contents.{chunk_at}
-use Rattle.sctp_model.specs.Valid.{IsSpan}
+use Rattle.sctp_link.proofs.Names.{◌≡◌, ℕ, suc, ◌<◌, Bool, true, false, List, [], ◌∷◌, ◌++◌, length, map, Option, Some, None, refl, ap, sym, ◌∙◌, arith, ◌==◌}
+use Rattle.sctp_link.proofs.Names.{◌&&◌, not, nat_le, if◌then◌else◌, find, option_map, is_some, slice_index_or, slice_set, list_all, subst, length-set}
+use Rattle.sctp_link.proofs.Names.{change_at, change_where, insert_before, and-none, and-true, ChunkPayloadData, chunk_before, Reassembly, ReassemblyState}
+use Rattle.sctp_link.proofs.Names.{is_too_large, held_after_ordered_push, BecomesComplete, LinkRecord, StreamRecord, message_at, message_of, slots_of, index_of}
+use Rattle.sctp_link.proofs.Names.{tsn_of, is_new, has_arrived, receive_slot, becomes_complete, with_complete, note_completion, stream_changed, mark_arrived}
+use Rattle.sctp_link.proofs.Names.{chunk_at, IsSpan, reassembly_of, with_arrived, StreamState, Arrival, New, Repeat, ReceiverRefusal, TsnOpposite}
+use Rattle.sctp_link.proofs.Names.{MessageTooLarge, stream_refusal, data_refusal, arrival_of, Filter, has_come, is_opposite, with_tsn, with_duplicate, Keeps}
+use Rattle.sctp_link.proofs.Names.{OpenStream, has_number, stream_numbers, Sides, reception_of, with_filter_of, on_stream, Accepts, Takes, repeat_tsn}
+use Rattle.sctp_link.proofs.Names.{stream_record, HoldsQueue, IsReceiver, Comes, is_first, IsApart, map-set_same}
+use Rattle.sctp_refinement.proofs.arriving.SlotArrives.{Enters, ordered-slot, unordered-slot}
 use Rattle.sctp_model.proofs.sender.Network
-use Rattle.sctp_refinement.specs.Holds.{reassembly_of}
-use Rattle.sctp_refinement.proofs.arriving.Arrival.{with_arrived}
 use Rattle.sctp_refinement.proofs.arriving.RunsOnce.{becomes-same}
 use Rattle.sctp_refinement.proofs.arriving.SlotArrives
-use Rattle.sctp_refinement.proofs.arriving.SlotArrives.{Enters, ordered-slot, unordered-slot}
 use Rattle.sctp_refinement.proofs.reading.Keeps
-use Rattle.sctp_stream.specs.declared.stream.StreamState.{StreamState}
-use Rattle.sctp_receiver.specs.declared.receiver.arrival.Arrival.{Arrival}
-use Rattle.sctp_receiver.specs.declared.receiver.arrival.Arrival.TheVariants.{New, Repeat}
-use Rattle.sctp_receiver.specs.declared.receiver.refusal.ReceiverRefusal.{ReceiverRefusal}
-use Rattle.sctp_receiver.specs.declared.receiver.refusal.ReceiverRefusal.TheVariants.{TsnOpposite, MessageTooLarge}
 use Rattle.sctp_receiver.specs.Inbound as Inbound
-use Rattle.sctp_receiver.specs.Receiver.{filter_of as held_filter, stream_of as inbound_of, stream_refusal, data_refusal, arrival_of}
-use Rattle.sctp_receiver.specs.TsnFilter.{Filter, has_come, is_opposite, with_tsn, with_duplicate}
-use Rattle.sctp_link.specs.Streams.{Keeps, OpenStream, has_number, stream_numbers}
-use Rattle.sctp_link.specs.Sides.{Sides, reception_of, with_filter_of, on_stream, is_open, Accepts, Takes, repeat_tsn}
-use Rattle.sctp_link.specs.Records.{stream_record}
-use Rattle.sctp_link.specs.Receiving.{HoldsQueue, IsReceiver, Comes, is_first}
-use Rattle.sctp_link.specs.Places.{IsApart}
+use Rattle.sctp_receiver.specs.Receiver.{filter_of as held_filter, stream_of as inbound_of}
+use Rattle.sctp_link.specs.Sides.{is_open}
 use Rattle.sctp_link.proofs.upkeep.Apart.{differ, each-set, number-found, stream-found, streams-set}
 use Rattle.sctp_link.proofs.upkeep.StreamPlaces.{placed, changed-found, apart-set}
 use Rattle.sctp_link.proofs.receiver.Came.{come-is, near-is, filter-new, filter-again}
-use Rattle.sctp_stream.proofs.StreamPlaces.{map-set_same}
 
 -- a stream with these complete messages
 abbrev pub shown : ℕ → StreamState → List ℕ → StreamRecord
@@ -87,7 +67,7 @@ pub record One (w : LinkRecord) (x : Sides) (p : ℕ) (a : Arrival) (y : Sides) 
   pub slots : (receive_slot w p).slots ≡ (if is_first a then change_at mark_arrived p w.slots else w.slots)
   pub duplicates : (receive_slot w p).duplicates ≡ (if is_first a then w.duplicates else w.duplicates ++ p ∷ [])
 
-module _ (w : LinkRecord) (x : Sides) (r : IsReceiver w x) (p : ℕ) (c : ChunkPayloadData) (m : Comes w p c) where
+module _ {w : LinkRecord} {x : Sides} (r : IsReceiver w x) (p : ℕ) (c : ChunkPayloadData) (m : Comes w p c) where
   abbrev n : ℕ
   n = message_of w p
 
@@ -264,7 +244,7 @@ module _ (w : LinkRecord) (x : Sides) (r : IsReceiver w x) (p : ℕ) (c : ChunkP
         all-is : receive_slot w p ≡ record (with_arrived w p) { streams = map stream_record (slice_set x.streams at z) }
         all-is =
             let b = becomes_complete (with_arrived w p) n in
-            noted-is ∙ rest-is b ∙ ap {B = LinkRecord} (λ rs. record (with_arrived w p) { streams = rs }) (streams-are b refl)
+            noted-is ∙ rest-is b ∙ ap (λ rs. record (with_arrived w p) { streams = rs }) (streams-are b refl)
 
         queue-then : (k : ℕ) (e : OpenStream) → k < length (slice_set x.streams at z)
             → HoldsQueue (receive_slot w p) (slice_index_or (slice_set x.streams at z) k e)
@@ -287,7 +267,7 @@ module _ (w : LinkRecord) (x : Sides) (r : IsReceiver w x) (p : ℕ) (c : ChunkP
         kept : IsReceiver (receive_slot w p) (with_filter_of (with_tsn c.tsn f) (record x { streams = slice_set x.streams at z }))
         kept = record {
           streams_are = ap (λ v. v.streams) all-is;
-          filter_is = filter-new w p f (with_tsn c.tsn f) m.valid.valid m.valid.made new r.filter_is (ap (λ t. with_tsn t f) tsn-is);
+          filter_is = filter-new p f (with_tsn c.tsn f) m.valid.valid m.valid.made new r.filter_is (ap (λ t. with_tsn t f) tsn-is);
           queues = queue-then;
           apart = apart-set x.streams at z d r.apart same-id;
         }

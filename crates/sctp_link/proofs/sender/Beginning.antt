@@ -1,30 +1,18 @@
 -- A message is begun: what its stream counts then, and the index that it takes.
-use Rattle.std.proofs.Common.{◌≡◌, ℕ, zero, suc, ◌+◌, ◌<◌, Bool, true, false, List, [], ◌∷◌, ◌++◌, length, map, Option, Some, None, refl, ap, sym, ◌∙◌, arith}
-use Rattle.std.specs.Prelude.{if◌then◌else◌, ◌==◌, ◌&&◌, find, option_map, slice_index_or}
-use Rattle.std.proofs.Math.Path.{subst}
-use Rattle.sctp_list_lemmas.specs.Lists.{change_where}
-use Rattle.sctp_list_lemmas.proofs.Cases.{some-same}
-use Rattle.sctp_model.proofs.sender.Shape.{shape}
-use Rattle.sctp_refinement.proofs.sending.Begun.{Indexed}
-use Rattle.sctp_refinement.proofs.amounts.StreamAmounts.{same-turned}
-use Rattle.sctp_stream.specs.declared.stream.StreamState.{StreamState}
-use Rattle.sctp_receiver.specs.declared.receiver.inbound_streams.InboundStream.{InboundStream}
+use Rattle.sctp_link.proofs.Names.{◌≡◌, ℕ, zero, suc, ◌+◌, ◌<◌, Bool, true, false, List, [], ◌∷◌, ◌++◌, length, map, Option, Some, None, refl, ap, sym, ◌∙◌}
+use Rattle.sctp_link.proofs.Names.{arith, if◌then◌else◌, ◌==◌, ◌&&◌, find, option_map, slice_index_or, subst, change_where, some-same, shape, Indexed}
+use Rattle.sctp_link.proofs.Names.{same-turned, StreamState, InboundStream, Standing, Message, begins, begun_of, begun_by, OpenStream, join_each, has_number}
+use Rattle.sctp_link.proofs.Names.{stream_numbers, State, IsLinked, stream_record}
 use Rattle.sctp_progress.specs.Progress as Progress
-use Rattle.sctp_progress.specs.Progress.{Standing}
-use Rattle.sctp_link.specs.declared.record.Message.{Message}
-use Rattle.sctp_link.specs.OpenStreams.{begins, begun_of, begun_by}
-use Rattle.sctp_link.specs.Streams.{OpenStream, join_each, has_number, stream_numbers}
 use Rattle.sctp_link.proofs.sides.Joined.{Alike, found-progress, progress-changed}
 use Rattle.sctp_link.proofs.sides.Aligned.{standing-changed}
-use Rattle.sctp_link.specs.Linked.{State, IsLinked}
-use Rattle.sctp_link.specs.Records.{stream_record}
 
 -- the index that a link keeps of each message
 abbrev pub index_kept : List (ℕ × ℕ) → ℕ → ℕ
 index_kept ps n = (slice_index_or ps n (0, 0)).1
 
-pub indexed-of : (sum : List ℕ → ℕ) (x : State) → IsLinked sum x → Indexed (shape x.recorded) (index_kept x.progress)
-indexed-of sum x l = record { is = l.indexes; low = l.low }
+pub indexed-of : {sum : List ℕ → ℕ} {x : State} → IsLinked sum x → Indexed (shape x.recorded) (index_kept x.progress)
+indexed-of l = record { is = l.indexes; low = l.low }
 
 -- a new message has the index that stands past the last one
 pub progress-more : (ps : List (ℕ × ℕ)) (n : ℕ) → slice_index_or (ps ++ (0, 0) ∷ []) n (0, 0) ≡ slice_index_or ps n (0, 0)

@@ -1,14 +1,8 @@
 -- A link with nothing opened yet.
-use Rattle.std.proofs.Common.{◌≡◌, ℕ, ◌+◌, ◌-◌, ◌<◌, ◌≤◌, ◌%◌, ◌^◌, List, [], map, refl, ap, arith}
+use Rattle.sctp_link.proofs.Names.{◌≡◌, ℕ, ◌+◌, ◌-◌, ◌<◌, ◌≤◌, ◌%◌, ◌^◌, List, [], map, refl, ap, arith, FilterRecord, Sides, reception_of, Message, Slot}
+use Rattle.sctp_link.proofs.Names.{Datagram, setup_of, State, IsLinked, stream_record, message_record, slot_record, datagram_record, progress_of}
 use Rattle.sctp_receiver.specs.Receiver.{filter_of}
-use Rattle.sctp_model.specs.Queues.{FilterRecord}
-use Rattle.sctp_link.specs.Sides.{Sides, reception_of, fresh}
-use Rattle.sctp_link.specs.declared.record.Message.{Message}
-use Rattle.sctp_link.specs.declared.record.Slot.{Slot}
-use Rattle.sctp_link.specs.declared.record.Datagram.{Datagram}
-use Rattle.sctp_link.specs.Fields.{setup_of}
-use Rattle.sctp_link.specs.Linked.{State, IsLinked}
-use Rattle.sctp_link.specs.Records.{stream_record, message_record, slot_record, datagram_record, progress_of}
+use Rattle.sctp_link.specs.Sides.{fresh}
 
 abbrev pub start_state : ℕ → ℕ → Sides → List Message → List Slot → List Datagram → List ℕ → State
 start_state first limit sides messages slots network duplicates =

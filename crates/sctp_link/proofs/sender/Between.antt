@@ -1,55 +1,32 @@
 -- Between two fragments of a Send: what the sender's side of a link holds is what the record says then.
-use Rattle.std.proofs.Common.{◌≡◌, ℕ, zero, suc, ◌+◌, ◌<◌, ◌≤◌, ◌^◌, Bool, true, false, List, [], ◌∷◌, ◌++◌, length, map, get_or, Option, Some, None, refl, ap}
-use Rattle.std.proofs.Common.{sym, ◌∙◌, arith, length-append}
-use Rattle.std.specs.Prelude.{◌==◌, ◌&&◌, if◌then◌else◌, find, is_some, slice_index_or, slice_set}
-use Rattle.std.proofs.Math.Path.{subst}
-use Rattle.std.proofs.lemmas.List.{map-append}
-use Rattle.sctp_list_lemmas.specs.Lists.{change_at}
-use Rattle.sctp_list_lemmas.proofs.Getting.{length-mapped}
-use Rattle.sctp_list_lemmas.proofs.Passing.{length-kept-le}
-use Rattle.sctp_list_lemmas.proofs.More.{changed-same, changed-other, not_both}
-use Rattle.sctp_list_lemmas.proofs.Cases.{by_same, same-yes, some-same}
-use Rattle.sctp_data.specs.declared.chunk.chunk_payload_data.ChunkPayloadData.{ChunkPayloadData}
-use Rattle.sctp_outbound.specs.pending_queue.PendingQueue.{next_pending, start_pending as pending_started}
-use Rattle.sctp_outbound.specs.outbound_queue.OutboundQueue.{Outbound, all_started, sent_of, sent_peeked, sent_next}
-use Rattle.sctp_model.specs.LinkRecord.{LinkRecord}
+use Rattle.sctp_link.proofs.Names.{◌≡◌, ℕ, zero, suc, ◌+◌, ◌<◌, ◌≤◌, ◌^◌, Bool, true, false, List, [], ◌∷◌, ◌++◌, length, map, get_or, Option, Some, None, refl}
+use Rattle.sctp_link.proofs.Names.{ap, sym, ◌∙◌, arith, length-append, ◌==◌, ◌&&◌, if◌then◌else◌, find, is_some, slice_index_or, slice_set, subst, map-append}
+use Rattle.sctp_link.proofs.Names.{change_at, length-mapped, length-kept-le, changed-same, changed-other, not_both, by_same, same-yes, some-same}
+use Rattle.sctp_link.proofs.Names.{ChunkPayloadData, next_pending, Outbound, all_started, sent_peeked, sent_next, LinkRecord, front, message_at, no_message}
+use Rattle.sctp_link.proofs.Names.{tsn_of, after_start, start_lifetime, with_slot, send_fragment, send_fragment_of, shape, slotted, front-takes, sent-slotted}
+use Rattle.sctp_link.proofs.Names.{waiting_at, RefinesOutbound, begun_on, is_begun_on, Indexed, indexed-taken, after_fragments, after-next, next-tsn, shown}
+use Rattle.sctp_link.proofs.Names.{all-begun, refines-fragment, going-started, refines-started, StreamState, InboundStream, OpenStream, join_each, has_number}
+use Rattle.sctp_link.proofs.Names.{stream_numbers, Message, State, IsLinked, start_from, fragment_slot, begins, begun_of, with_fragment, message_record}
+use Rattle.sctp_link.proofs.Names.{progress_of, slot_record, stream_record, Outgoing, CanSend, Leaves, Leave, map-set_same, following_tsn, get_or-map}
+use Rattle.sctp_link.proofs.Names.{messages-few, map-set}
+use Rattle.sctp_refinement.proofs.sending.KindsRun.{Going, going-takes}
+use Rattle.sctp_outbound.specs.pending_queue.PendingQueue.{start_pending as pending_started}
+use Rattle.sctp_outbound.specs.outbound_queue.OutboundQueue.{sent_of}
 use Rattle.sctp_model.specs.LinkRecord as W
 use Rattle.sctp_model.specs.Messages as M
-use Rattle.sctp_model.specs.Messages.{front, message_at, no_message, tsn_of}
-use Rattle.sctp_model.specs.Changes.{after_start, start_lifetime, with_slot, send_fragment, send_fragment_of}
-use Rattle.sctp_model.proofs.sender.Shape.{shape, slotted, sent as sent_by}
+use Rattle.sctp_model.proofs.sender.Shape.{sent as sent_by}
 use Rattle.sctp_model.proofs.sender.Shapes
 use Rattle.sctp_model.proofs.sender.Few
-use Rattle.sctp_model.proofs.sender.Fronts.{front-takes}
-use Rattle.sctp_model.proofs.sender.Sender.{sent-slotted}
 use Rattle.sctp_model.proofs.sender.SenderSteps.{Takes}
-use Rattle.sctp_refinement.specs.Refines.{waiting_at, RefinesOutbound}
-use Rattle.sctp_refinement.specs.Indexes.{begun_on, is_begun_on}
 use Rattle.sctp_refinement.proofs.sending.Begun
-use Rattle.sctp_refinement.proofs.sending.Begun.{Indexed, indexed-taken}
-use Rattle.sctp_refinement.proofs.sending.FilledDatagrams.{after_fragments, after-next, next-tsn}
-use Rattle.sctp_refinement.proofs.sending.Fragments.{shown, all-begun, refines-fragment, going-started}
-use Rattle.sctp_refinement.proofs.sending.KindsRun.{Going, going-takes}
-use Rattle.sctp_refinement.proofs.sending.LifetimesStart.{refines-started}
-use Rattle.sctp_stream.specs.declared.stream.StreamState.{StreamState}
-use Rattle.sctp_receiver.specs.declared.receiver.inbound_streams.InboundStream.{InboundStream}
-use Rattle.sctp_link.specs.Streams.{OpenStream, join_each, has_number, stream_numbers}
-use Rattle.sctp_link.specs.declared.record.Message.{Message}
-use Rattle.sctp_link.specs.Linked.{State, IsLinked}
-use Rattle.sctp_link.specs.OpenStreams.{start_from, fragment_slot, begins, begun_of, with_fragment}
-use Rattle.sctp_link.specs.Records.{message_record, progress_of, slot_record, stream_record}
-use Rattle.sctp_link.specs.Sends.{Outgoing, CanSend, Leaves, Leave}
-use Rattle.sctp_link.proofs.upkeep.Apart.{map-set, number-found}
-use Rattle.sctp_link.proofs.upkeep.Bounds.{messages-few}
+use Rattle.sctp_link.proofs.upkeep.Apart.{number-found}
 use Rattle.sctp_link.proofs.upkeep.Facts.{facts}
 use Rattle.sctp_link.proofs.upkeep.Lookups.{none-open}
-use Rattle.sctp_link.proofs.sender.Flying.{one-more-fits}
+use Rattle.sctp_refinement.proofs.sending.Flying.{one-more-fits}
 use Rattle.sctp_link.proofs.sides.Joined.{Alike}
 use Rattle.sctp_link.proofs.sender.Beginning.{index_kept, begun_with, indexed-of, begun_in, begun-joined, begun-streams, begun-alike, plus_begun, numbers-begun}
 use Rattle.sctp_link.proofs.sender.Beginning.{records-begun, length-begun, begun-at, found-one}
 use Rattle.sctp_link.proofs.sender.Starting.{starts-records, start-progress}
-use Rattle.sctp_stream.proofs.StreamPlaces.{map-set_same}
-use Rattle.sctp_serial.specs.DataChunks.{following_tsn}
 
 -- a message with one fragment more sent, which takes this index where it is begun
 abbrev pub took : Bool → ℕ → ℕ × ℕ → ℕ × ℕ
@@ -80,27 +57,27 @@ pub record Between (states : List StreamState) (inbounds : List InboundStream) (
 -- ## Before the first one
 
 -- more room in flight is nothing that the record knows
-pub refines-room : (w : LinkRecord) (q r : Outbound) (room : ℕ) → r ≡ record q { inflight = record q.inflight { room = room } } → RefinesOutbound w q
-    → RefinesOutbound w r
-refines-room w q r room e t = subst (RefinesOutbound w) (sym e)
+pub refines-room : {w : LinkRecord} {q : Outbound} (r : Outbound) (room : ℕ) → r ≡ record q { inflight = record q.inflight { room = room } }
+    → RefinesOutbound w q → RefinesOutbound w r
+refines-room {w} r room e t = subst (RefinesOutbound w) (sym e)
     (record { pending = t.pending; in_flight = t.in_flight; next = t.next; unstarted = t.unstarted; started = t.started; begun = t.begun })
 
-module _ (states : List StreamState) (inbounds : List InboundStream) (sum : List ℕ → ℕ) (x : State) (l : IsLinked sum x) (now : ℕ) (ms : List Message)
+module _ (states : List StreamState) (inbounds : List InboundStream) {sum : List ℕ → ℕ} {x : State} (l : IsLinked sum x) (now : ℕ) (ms : List Message)
     (em : x.recorded.messages ≡ map message_record ms) (es : x.progress ≡ map progress_of ms) where
-  pub between-none : (s : Outgoing) (q : Outbound) → RefinesOutbound x.recorded q → s.outbound ≡ all_started now q → s.messages ≡ start_from x.unstarted now ms
+  pub between-none : (s : Outgoing) {q : Outbound} → RefinesOutbound x.recorded q → s.outbound ≡ all_started now q → s.messages ≡ start_from x.unstarted now ms
       → Alike states inbounds s.progress → (join_each states inbounds s.progress) ≡ x.open_streams → x.recorded.streams ≡ map stream_record x.open_streams
       → x.recorded.slots ≡ map slot_record s.slots → s.next_tsn ≡ x.next_tsn → Between states inbounds x now (after_start x.recorded now) s
-  between-none s q t out is same streams rs ew next = record {
+  between-none s {q} t out is same streams rs ew next = record {
     alike = same;
-    going = going-started x.recorded.setup x.recorded now (facts sum x l).going;
+    going = going-started x.recorded.setup x.recorded now (facts l).going;
     only = refl;
-    taken = (facts sum x l).taken;
+    taken = (facts l).taken;
     outbound = subst (RefinesOutbound (after_start x.recorded now)) (sym out) (refines-started x.recorded now q t);
     begun = ap (λ (r : Outbound). r.next_unstarted) out ∙ all-begun x.recorded now q t;
-    messages = ap (map message_record) is ∙ starts-records sum x l now ms em;
+    messages = ap (map message_record) is ∙ starts-records l now ms em;
     sents = λ k lt. ap (λ (ps : List (ℕ × ℕ)). (slice_index_or ps k (0, 0)).0) progress ∙ l.sents k lt;
     indexed = subst (λ ps. Indexed (shape (after_start x.recorded now)) (index_kept ps)) (sym progress)
-        (subst (λ y. Indexed y (index_kept x.progress)) (sym (Shapes.shape-started x.recorded now)) (indexed-of sum x l));
+        (subst (λ y. Indexed y (index_kept x.progress)) (sym (Shapes.shape-started x.recorded now)) (indexed-of l));
     records = ap (map stream_record) streams ∙ sym rs;
     numbers = ap stream_numbers streams;
     streams = λ k d lt. ap (λ ls. slice_index_or ls k d) streams
@@ -114,12 +91,6 @@ module _ (states : List StreamState) (inbounds : List InboundStream) (sum : List
       progress = ap (map progress_of) is ∙ start-progress now x.unstarted ms ∙ sym es
 
 -- ## One more
-
--- a field of an element
-get-mapped : {A B : Type 0} (f : A → B) (k : ℕ) (xs : List A) (d : A) (e : B) → k < length xs → get_or (map f xs) k e ≡ f (get_or xs k d)
-get-mapped f k [] d e lt = absurd (omega arith)
-get-mapped f zero (x ∷ xs) d e lt = refl
-get-mapped f (suc k) (x ∷ xs) d e lt = get-mapped f k xs d e (omega arith)
 
 -- lifetimes that have all started start no more
 none-start : (q : Outbound) (now : ℕ) → q.next_unstarted ≡ q.next_message_id → all_started now q ≡ q
@@ -150,10 +121,10 @@ module _ (states : List StreamState) (inbounds : List InboundStream) (x : State)
     within = omega (arith, made, count-kept)
 
     pub sent-is : m.sent ≡ M.sent_of v n
-    sent-is = ap (λ (m : Message). m.sent) at ∙ sym (ap (λ (p : ℕ × ℕ). p.0) (get-mapped progress_of n s.messages m (0, 0) within)) ∙ b.sents n made
+    sent-is = ap (λ (m : Message). m.sent) at ∙ sym (ap (λ (p : ℕ × ℕ). p.0) (get_or-map progress_of s.messages n m (0, 0) within)) ∙ b.sents n made
 
     record-is : message_record m ≡ message_at v n
-    record-is = ap message_record at ∙ sym (get-mapped message_record n s.messages m no_message within)
+    record-is = ap message_record at ∙ sym (get_or-map message_record s.messages n m no_message within)
         ∙ ap (λ l. get_or l n no_message) (b.messages ∙ sym (ap (λ (z : LinkRecord). z.messages) b.only))
 
     kind-is : m.ordered ≡ (message_at v n).ordered

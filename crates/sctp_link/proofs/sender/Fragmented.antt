@@ -1,30 +1,13 @@
 -- The fragments of a write are one message, and wait as the record says.
-use Rattle.std.proofs.Common.{◌≡◌, ℕ, ◌+◌, ◌-◌, ◌<◌, ◌%◌, ◌^◌, Bool, false, List, [], ◌∷◌, ◌++◌, length, map, Some, refl, ap, sym, ◌∙◌, arith}
-use Rattle.std.specs.Prelude.{◌==◌, not, slice_index_or}
-use Rattle.sctp_data.specs.ChunkSet.{fresh}
-use Rattle.sctp_data.specs.PayloadTypes.{is_ordered}
-use Rattle.sctp_list_lemmas.specs.Kept.{numbers_from}
-use Rattle.sctp_list_lemmas.specs.Lists.{pieces}
-use Rattle.sctp_data.specs.declared.chunk.chunk_payload_data.ChunkPayloadData.{ChunkPayloadData}
-use Rattle.sctp_data.specs.declared.chunk.chunk_payload_data.PayloadProtocolIdentifier.{PayloadProtocolIdentifier}
-use Rattle.sctp_outbound.specs.outbound_queue.OutboundQueue.{with_message_id}
-use Rattle.sctp_sender.specs.Outgoing.{fragments_with_mode}
-use Rattle.sctp_model.specs.LinkRecord.{LinkRecord, StreamRecord}
-use Rattle.sctp_model.specs.Messages.{message_of, fragment_count, ordered_before}
-use Rattle.sctp_model.specs.Changes.{message_on}
-use Rattle.sctp_refinement.specs.Refines.{waiting_at, waiting_of}
+use Rattle.sctp_link.proofs.Names.{◌≡◌, ℕ, ◌+◌, ◌-◌, ◌<◌, ◌%◌, ◌^◌, Bool, false, List, [], ◌∷◌, ◌++◌, length, map, Some, ap, sym, ◌∙◌, arith, ◌==◌, not}
+use Rattle.sctp_link.proofs.Names.{slice_index_or, fresh, is_ordered, numbers_from, pieces, ChunkPayloadData, PayloadProtocolIdentifier, with_message_id}
+use Rattle.sctp_link.proofs.Names.{fragments_with_mode, LinkRecord, StreamRecord, message_of, fragment_count, ordered_before, message_on, waiting_at}
+use Rattle.sctp_link.proofs.Names.{waiting_of, StreamState, map-twice}
+use Rattle.sctp_stream.specs.Stream.{pieces_of}
+use Rattle.sctp_refinement.proofs.arriving.Stays.{map-all}
 use Rattle.sctp_refinement.proofs.sending.Waiting
 use Rattle.sctp_refinement.proofs.sending.Written
-use Rattle.sctp_stream.specs.declared.stream.StreamState.{StreamState}
-use Rattle.sctp_stream.specs.Stream.{pieces_of}
-use Rattle.sctp_list_lemmas.proofs.Getting.{map-twice}
 use Rattle.sctp_sender.proofs.SenderStreams.{made, fragments-made}
-
--- ## Lists
-
-map-same : {A B : Type 0} (f g : A → B) → ((x : A) → f x ≡ g x) → (xs : List A) → map f xs ≡ map g xs
-map-same f g e [] = refl
-map-same f g e (x ∷ xs) = ap (λ y. y ∷ map f xs) (e x) ∙ ap (λ l. g x ∷ l) (map-same f g e xs)
 
 -- ## As the record has them
 
@@ -69,7 +52,7 @@ module _ (w : LinkRecord) (s : StreamState) (r : StreamRecord) (ppi : PayloadPro
       (Waiting.message-new w (message_on w r ppi bytes)) in
       ap (map (with_message_id n)) (fragments-made s ppi bytes)
       ∙ map-twice (with_message_id n) (made s ppi bytes) (numbers_from 0 (length (pieces_of s bytes)))
-      ∙ map-same (λ i. with_message_id n (made s ppi bytes i)) (waiting_at v n) one-waits (numbers_from 0 (length (pieces_of s bytes)))
+      ∙ map-all (λ i. with_message_id n (made s ppi bytes i)) (waiting_at v n) (numbers_from 0 (length (pieces_of s bytes))) one-waits
       ∙ ap (λ k. map (waiting_at v n) (numbers_from 0 (length (pieces (length bytes) k bytes)))) size
       ∙ ap (λ k. map (waiting_at v n) (numbers_from 0 k)) (sym count ∙ complete)
       ∙ sym (ap (λ k. map (waiting_at v n) (numbers_from k (fragment_count v n - k))) unsent)

@@ -1,21 +1,11 @@
 -- A stream takes another mode.
-use Rattle.std.proofs.Common.{◌≡◌, ℕ, Bool, true, List, ◌∷◌, map, None, refl, ap, sym, ◌∙◌}
-use Rattle.std.specs.Prelude.{◌==◌, if◌then◌else◌, slice_index_or, find, is_some}
-use Rattle.sctp_list_lemmas.proofs.More.{not_both}
-use Rattle.sctp_data.specs.declared.chunk.chunk_payload_data.ReliabilityType.{ReliabilityType}
+use Rattle.sctp_link.proofs.Names.{◌≡◌, ℕ, Bool, true, List, ◌∷◌, map, None, refl, ap, sym, ◌∙◌, ◌==◌, if◌then◌else◌, slice_index_or, find, is_some, not_both}
+use Rattle.sctp_link.proofs.Names.{ReliabilityType, LinkRecord, is_open, after_mode, refusal_of, reply_to, outbound-same, same-self, change_where, OpenStream}
+use Rattle.sctp_link.proofs.Names.{has_number, on_state, stream_record, State, IsOpenStream, IsLinked, stands-then}
 use Rattle.sctp_model.specs.declared.event.Event.TheVariants as E
-use Rattle.sctp_model.specs.LinkRecord.{LinkRecord}
-use Rattle.sctp_model.specs.Messages.{is_open}
-use Rattle.sctp_model.specs.Changes.{after_mode, with_mode}
-use Rattle.sctp_model.specs.Steps.{refusal_of, reply_to}
+use Rattle.sctp_model.specs.Changes.{with_mode}
 use Rattle.sctp_refinement.proofs.arriving.Opened
-use Rattle.sctp_refinement.proofs.acknowledging.QuietSender.{outbound-same, same-self}
-use Rattle.sctp_list_lemmas.specs.Lists.{change_where}
 use Rattle.sctp_sender.specs.Outgoing as Outgoing
-use Rattle.sctp_link.specs.Streams.{OpenStream, has_number, on_state}
-use Rattle.sctp_link.specs.Records.{stream_record}
-use Rattle.sctp_link.specs.Linked.{State, IsOpenStream, IsLinked}
-use Rattle.sctp_link.proofs.upkeep.Facts.{stands-then}
 use Rattle.sctp_link.proofs.upkeep.Frames.{stream-same, next-kept, encodings-same}
 use Rattle.sctp_link.proofs.sender.Opening.{open-found}
 use Rattle.sctp_link.proofs.upkeep.ChangedStreams.{records-changed, each-changed}
@@ -27,19 +17,18 @@ pub found-open : (x : State) (s : ℕ) → x.recorded.streams ≡ map stream_rec
 found-open x s streams open' none =
     not_both (sym (ap is_some none) ∙ open-found s x.open_streams ∙ ap (λ rs. is_some (find (λ r. r.stream == s) rs)) (sym streams) ∙ open')
 
-module _ (sum : List ℕ → ℕ) (x : State) (l : IsLinked sum x) (s : ℕ) (unordered : Bool) (reliability : ReliabilityType) (value : ℕ)
+module _ {sum : List ℕ → ℕ} {x : State} (l : IsLinked sum x) (s : ℕ) (unordered : Bool) (reliability : ReliabilityType) (value : ℕ)
     (ok : refusal_of x.recorded (E.Mode s unordered reliability value) ≡ None) (streams : x.recorded.streams ≡ map stream_record x.open_streams) where
   abbrev v : LinkRecord
   v = after_mode x.recorded s unordered reliability value
 
   kept : (t : OpenStream) → IsOpenStream x.recorded t → IsOpenStream v t
   kept t i =
-      stream-same x.recorded v t
-      (record {
+      stream-same t (record {
         setup = refl;
         held = Opened.mode-same x.recorded s unordered reliability value t.state.stream_identifier;
         ordered = refl;
-        next = next-kept sum x l (E.Mode s unordered reliability value) ok tt t.state.stream_identifier;
+        next = next-kept l (E.Mode s unordered reliability value) ok tt t.state.stream_identifier;
         amount = refl;
         counters = refl;
       })
@@ -72,7 +61,7 @@ module _ (sum : List ℕ → ℕ) (x : State) (l : IsLinked sum x) (s : ℕ) (un
   linked-mode = record {
     setup = l.setup;
     history = (E.Mode s unordered reliability value, reply_to x.recorded (E.Mode s unordered reliability value)) ∷ l.history;
-    stands = stands-then x.recorded.setup x.recorded l.history (E.Mode s unordered reliability value) ok l.stands;
+    stands = stands-then (E.Mode s unordered reliability value) ok l.stands;
     outbound = outbound-same x.recorded v (same-self x.recorded v refl refl refl refl) x.outbound l.outbound;
     unstarted = l.unstarted;
     filter = l.filter;
@@ -87,5 +76,5 @@ module _ (sum : List ℕ → ℕ) (x : State) (l : IsLinked sum x) (s : ℕ) (un
         (λ k d lt e. changes (slice_index_or x.open_streams k d) (kept (slice_index_or x.open_streams k d) (l.open_streams k d lt)))
         (λ k d lt ne. kept (slice_index_or x.open_streams k d) (l.open_streams k d lt));
     apart = apart-changed s (on_state (Outgoing.with_mode unordered reliability value)) x.open_streams (λ t. refl) l.apart;
-    encodings = encodings-same sum x l (E.Mode s unordered reliability value) ok refl;
+    encodings = encodings-same l (E.Mode s unordered reliability value) ok refl;
   }

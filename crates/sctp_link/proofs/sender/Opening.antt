@@ -1,30 +1,12 @@
 -- A stream opens.
-use Rattle.std.proofs.Common.{◌≡◌, ℕ, Bool, true, false, List, [], ◌∷◌, ◌++◌, length, map, Option, Some, None, refl, ap, sym, ◌∙◌, arith, length-append}
-use Rattle.std.specs.Prelude.{◌==◌, if◌then◌else◌, slice_index_or, find, is_some}
-use Rattle.std.proofs.Math.Path.{subst}
-use Rattle.std.proofs.lemmas.List.{map-append}
-use Rattle.sctp_list_lemmas.proofs.Getting.{get-snoc_old, get-snoc_new}
-use Rattle.sctp_list_lemmas.proofs.Cases.{by_last, negated}
-use Rattle.sctp_reassembly.specs.reassembly_queue.ReassemblyQueue.{Reassembly}
+use Rattle.sctp_link.proofs.Names.{◌≡◌, ℕ, Bool, true, false, List, [], ◌∷◌, ◌++◌, length, map, Some, None, refl, ap, sym, ◌∙◌, arith, length-append, ◌==◌}
+use Rattle.sctp_link.proofs.Names.{if◌then◌else◌, slice_index_or, find, is_some, subst, map-append, get-snoc_old, get-snoc_new, by_last, negated, Reassembly}
+use Rattle.sctp_link.proofs.Names.{StreamOpen, LinkRecord, is_open, no_stream, next_of, after_open, refusal_of, reply_to, unless-holds, begun-closed, next-same}
+use Rattle.sctp_link.proofs.Names.{amount-none, counters-none, outbound-same, same-self, reassembly_of, OpenStream, has_number, new_open_stream, stream_record}
+use Rattle.sctp_link.proofs.Names.{State, IsOpenStream, IsLinked, stats_of, none-of, stands-then, Facts}
 use Rattle.sctp_model.specs.declared.event.Event.TheVariants as E
-use Rattle.sctp_model.specs.declared.event.LinkRefusal.TheVariants.{StreamOpen}
-use Rattle.sctp_model.specs.LinkRecord.{LinkRecord}
-use Rattle.sctp_model.specs.Messages.{is_open, no_stream}
-use Rattle.sctp_model.specs.Receiver.{next_of}
-use Rattle.sctp_model.specs.Changes.{after_open}
-use Rattle.sctp_model.specs.Steps.{refusal_of, reply_to}
-use Rattle.sctp_model.proofs.sender.SenderRun.{unless-holds}
-use Rattle.sctp_refinement.proofs.sending.BegunRun.{begun-closed}
 use Rattle.sctp_refinement.proofs.arriving.Opened
-use Rattle.sctp_refinement.proofs.reading.ReadOne.{next-same}
-use Rattle.sctp_refinement.proofs.amounts.StreamAmounts.{amount-none}
-use Rattle.sctp_refinement.proofs.amounts.StreamCounters.{counters-none}
-use Rattle.sctp_refinement.proofs.acknowledging.QuietSender.{outbound-same, same-self}
-use Rattle.sctp_refinement.specs.Holds.{reassembly_of}
-use Rattle.sctp_link.specs.Streams.{OpenStream, has_number, new_open_stream}
-use Rattle.sctp_link.specs.Records.{stream_record}
-use Rattle.sctp_link.specs.Linked.{State, IsOpenStream, IsLinked, stats_of}
-use Rattle.sctp_link.proofs.upkeep.Facts.{Facts, facts, stands-then}
+use Rattle.sctp_link.proofs.upkeep.Facts.{facts}
 use Rattle.sctp_link.proofs.upkeep.Frames.{stream-same, encodings-same}
 use Rattle.sctp_link.proofs.upkeep.StreamPlaces.{apart-more}
 
@@ -47,21 +29,20 @@ streams-more s size largest ls = map-append stream_record ls (new_open_stream s 
 
 -- ## The event
 
-module _ (sum : List ℕ → ℕ) (x : State) (l : IsLinked sum x) (s : ℕ) (ok : refusal_of x.recorded (E.Open s) ≡ None)
+module _ {sum : List ℕ → ℕ} {x : State} (l : IsLinked sum x) (s : ℕ) (ok : refusal_of x.recorded (E.Open s) ≡ None)
     (streams : x.recorded.streams ≡ map stream_record x.open_streams) where
   abbrev v : LinkRecord
   v = after_open x.recorded s
 
   f : Facts x.recorded
-  f = facts sum x l
+  f = facts l
 
   closed : is_open x.recorded s ≡ false
   closed = negated (is_open x.recorded s) (unless-holds _ StreamOpen None ok).0
 
   stream-old : (t : OpenStream) → IsOpenStream x.recorded t → IsOpenStream (after_open x.recorded s) t
   stream-old t i =
-      stream-same x.recorded (after_open x.recorded s) t
-      (record {
+      stream-same t (record {
         setup = refl;
         held = Opened.opened-same x.recorded s t.state.stream_identifier closed;
         ordered = refl;
@@ -95,11 +76,7 @@ module _ (sum : List ℕ → ℕ) (x : State) (l : IsLinked sum x) (s : ℕ) (ok
   -- and no open stream has its number
   pub new-number : find (has_number s) x.open_streams ≡ None
   new-number =
-      none (find (has_number s) x.open_streams) (open-found s x.open_streams ∙ ap (λ rs. is_some (find (λ r. r.stream == s) rs)) (sym streams) ∙ closed)
-    where
-      none : (o : Option OpenStream) → is_some o ≡ false → o ≡ None
-      none None e = refl
-      none (Some t) e = cc
+      none-of (find (has_number s) x.open_streams) (open-found s x.open_streams ∙ ap (λ rs. is_some (find (λ r. r.stream == s) rs)) (sym streams) ∙ closed)
 
   -- the stream that opens
   abbrev pub m : OpenStream
@@ -109,7 +86,7 @@ module _ (sum : List ℕ → ℕ) (x : State) (l : IsLinked sum x) (s : ℕ) (ok
   linked-open = record {
     setup = l.setup;
     history = (E.Open s, reply_to x.recorded (E.Open s)) ∷ l.history;
-    stands = stands-then x.recorded.setup x.recorded l.history (E.Open s) ok l.stands;
+    stands = stands-then (E.Open s) ok l.stands;
     outbound = outbound-same x.recorded (after_open x.recorded s) (same-self x.recorded (after_open x.recorded s) refl refl refl refl) x.outbound l.outbound;
     unstarted = l.unstarted;
     filter = l.filter;
@@ -127,5 +104,5 @@ module _ (sum : List ℕ → ℕ) (x : State) (l : IsLinked sum x) (s : ℕ) (ok
         (λ z. subst (IsOpenStream (after_open x.recorded s))
         (sym (ap (λ j. slice_index_or (x.open_streams ++ m ∷ []) j d) z ∙ get-snoc_new x.open_streams m d)) stream-new);
     apart = apart-more x.open_streams m l.apart new-number;
-    encodings = encodings-same sum x l (E.Open s) ok refl;
+    encodings = encodings-same l (E.Open s) ok refl;
   }

@@ -1,62 +1,27 @@
 -- The datagrams that a link makes of DATA chunks.
-use Rattle.std.proofs.Common.{◌≡◌, ℕ, zero, suc, ◌+◌, ◌-◌, ◌<◌, ◌≤◌, ◌^◌, true, false, List, [], ◌∷◌, ◌++◌, length, map, take, drop, get_or, Some, None, refl}
-use Rattle.std.proofs.Common.{ap, sym, ◌∙◌, arith}
-use Rattle.std.specs.Prelude.{◌&&◌, ◌||◌, not, nat_le, nat_lt, slice_index_or, find}
-use Rattle.std.proofs.Math.Path.{subst}
-use Rattle.std.proofs.lemmas.List.{map-append}
-use Rattle.std.proofs.lemmas.Bool.Decides.{nat_tests}
-use Rattle.sctp_list_lemmas.specs.Lists.{pieces, change_where}
-use Rattle.sctp_list_lemmas.proofs.More.{both}
-use Rattle.sctp_list_lemmas.proofs.Cases.{negated}
-use Rattle.sctp_data.specs.declared.chunk.chunk_payload_data.ChunkPayloadData.{ChunkPayloadData}
-use Rattle.sctp_data.specs.PayloadData.{Data, data_of, data_value}
-use Rattle.sctp_chunks.specs.Wire.{data_chunk}
+use Rattle.sctp_link.proofs.Names.{◌≡◌, ℕ, ◌+◌, ◌-◌, ◌<◌, ◌≤◌, ◌^◌, true, false, List, [], ◌∷◌, ◌++◌, length, map, get_or, Some, None, refl, ap, sym, ◌∙◌}
+use Rattle.sctp_link.proofs.Names.{arith, ◌&&◌, ◌||◌, not, nat_le, nat_lt, slice_index_or, find, subst, map-append, nat_tests, pieces, change_where, both}
+use Rattle.sctp_link.proofs.Names.{negated, ChunkPayloadData, data_of, data_value, data_chunk, ReadsPacket, packet_encoding, has_tsn, with_nsent, Outbound}
+use Rattle.sctp_link.proofs.Names.{with_inflight, NotInFlight, LinkRecord, slot_at, message_at, message_of, tsn_of, place_of, is_in_flight, chunk_at}
+use Rattle.sctp_link.proofs.Names.{contents_of, is_cleared, after_resend, refusal_of, reply_to, can_resend, unless-holds, RefinesOutbound, Found, found-in}
+use Rattle.sctp_link.proofs.Names.{says-same, refines-marked, nsent-quiet, outbound-same, same-self, Kind, Datagram, datagram_record, kind_record, IsDatagram}
+use Rattle.sctp_link.proofs.Names.{packet_with, State, IsLinked, some-same, stands-then, piece-short}
 use Rattle.sctp_chunks.proofs.Lengths.{length_data_value}
-use Rattle.sctp_packets.specs.Packet.{ReadsPacket, packet_encoding}
-use Rattle.sctp_serial.specs.DataChunks.{has_tsn}
-use Rattle.sctp_outbound.specs.Marks.{with_nsent}
-use Rattle.sctp_outbound.specs.outbound_queue.OutboundQueue.{Outbound, with_inflight}
+use Rattle.sctp_data.specs.PayloadData.{Data}
 use Rattle.sctp_model.specs.declared.event.Event.TheVariants as E
-use Rattle.sctp_model.specs.declared.event.LinkRefusal.TheVariants.{NotInFlight}
-use Rattle.sctp_model.specs.LinkRecord.{LinkRecord}
 use Rattle.sctp_model.specs.LinkRecord as W
-use Rattle.sctp_model.specs.Messages.{slot_at, message_at, message_of, tsn_of, place_of, is_in_flight}
-use Rattle.sctp_model.specs.Contents.{chunk_at, contents_of}
-use Rattle.sctp_model.specs.Queues.{is_cleared}
-use Rattle.sctp_model.specs.Changes.{after_resend}
-use Rattle.sctp_model.specs.Steps.{refusal_of, reply_to, can_resend}
-use Rattle.sctp_model.proofs.sender.SenderRun.{unless-holds}
-use Rattle.sctp_refinement.specs.Refines.{RefinesOutbound}
-use Rattle.sctp_refinement.proofs.sending.InFlight.{Found, found-in, says-same, refines-marked, nsent-quiet}
-use Rattle.sctp_refinement.proofs.acknowledging.QuietSender.{outbound-same, same-self}
-use Rattle.sctp_link.specs.declared.record.Kind.{Kind}
-use Rattle.sctp_link.specs.declared.record.Datagram.{Datagram}
-use Rattle.sctp_link.specs.Records.{datagram_record, kind_record}
-use Rattle.sctp_link.specs.Encodings.{IsDatagram, packet_with}
-use Rattle.sctp_link.specs.Linked.{State, IsLinked}
-use Rattle.sctp_link.proofs.upkeep.Facts.{facts, stands-then}
+use Rattle.sctp_link.proofs.upkeep.Facts.{facts}
 use Rattle.sctp_link.proofs.upkeep.Frames.{stream-same, encodings-more}
 
 -- ## Lengths
-
-pub piece-short : (most size : ℕ) (bytes : List ℕ) (i : ℕ) → length (get_or (pieces most size bytes) i []) ≤ size
-piece-short zero size bytes i = omega arith
-piece-short (suc most) size [] i = omega arith
-piece-short (suc most) size (x ∷ xs) zero = short size (x ∷ xs)
-  where
-    short : (n : ℕ) (xs : List ℕ) → length (take n xs) ≤ n
-    short zero xs = omega arith
-    short (suc n) [] = omega arith
-    short (suc n) (x ∷ xs) = omega (arith, short n xs)
-piece-short (suc most) size (x ∷ xs) (suc i) = piece-short most size (drop size (x ∷ xs)) i
 
 -- a chunk with a fragment has an encoding
 pub chunk-short : (d : Data) → length d.user_data ≤ 65519 → 4 + length (data_value d) < 2 ^ 16
 chunk-short d le = omega (arith, length_data_value d, le)
 
-pub fragment-short : (sum : List ℕ → ℕ) (x : State) → IsLinked sum x → (n i : ℕ)
+pub fragment-short : {sum : List ℕ → ℕ} {x : State} → IsLinked sum x → (n i : ℕ)
     → length (get_or (pieces (length (message_at x.recorded n).bytes) x.recorded.setup.size (message_at x.recorded n).bytes) i []) ≤ 65519
-fragment-short sum x l n i =
+fragment-short {x} l n i =
     omega (arith, piece-short (length (message_at x.recorded n).bytes) x.recorded.setup.size (message_at x.recorded n).bytes i, l.setup.size)
 
 -- ## Datagrams
@@ -80,7 +45,7 @@ bytes-more ds es k bytes e = ap (map (λ d. d.bytes)) e
 
 -- ## A chunk leaves again
 
-module _ (sum : List ℕ → ℕ) (x : State) (l : IsLinked sum x) (tsn : ℕ) (small : tsn < 2 ^ 32) (ok : refusal_of x.recorded (E.Resend tsn) ≡ None) where
+module _ {sum : List ℕ → ℕ} {x : State} (l : IsLinked sum x) (tsn : ℕ) (small : tsn < 2 ^ 32) (ok : refusal_of x.recorded (E.Resend tsn) ≡ None) where
   abbrev p : ℕ
   p = place_of x.recorded tsn
 
@@ -114,7 +79,7 @@ module _ (sum : List ℕ → ℕ) (x : State) (l : IsLinked sum x) (tsn : ℕ) (
   -- the chunk in flight with the TSN
   pub found : Found x.recorded p cs
   found =
-      let f = facts sum x l in
+      let f = facts l in
       found-in x.recorded p (omega (arith, below, f.few)) cs x.recorded.taken (length x.recorded.slots - x.recorded.taken)
       (omega (arith, f.few, f.taken)) from (omega (arith, below, f.taken)) l.outbound.in_flight
 
@@ -123,15 +88,12 @@ module _ (sum : List ℕ → ℕ) (x : State) (l : IsLinked sum x) (tsn : ℕ) (
 
   -- what is found says what its slot does
   pub resend-says : (c : ChunkPayloadData) → find (has_tsn tsn) cs ≡ Some c → data_of c ≡ data_of (chunk_at x.recorded p)
-  resend-says c e = ap data_of (inner (sym e ∙ there)) ∙ says-same x.recorded p found.chunk found.says clear
-    where
-      inner : {A : Type 0} {a b : A} → Some a ≡ Some b → a ≡ b
-      inner e = cc
+  resend-says c e = ap data_of (some-same (sym e ∙ there)) ∙ says-same x.recorded p found.chunk found.says clear
 
   pub resend-fits : (c : ChunkPayloadData) → find (has_tsn tsn) cs ≡ Some c → 4 + length (data_value (data_of c)) < 2 ^ 16
   resend-fits c e =
       let is : c.user_data ≡ (chunk_at x.recorded p).user_data = ap (λ (d : Data). d.user_data) (resend-says c e) in
-      chunk-short (data_of c) (omega (arith, ap length is, fragment-short sum x l (message_of x.recorded p) (slot_at x.recorded p).fragment))
+      chunk-short (data_of c) (omega (arith, ap length is, fragment-short l (message_of x.recorded p) (slot_at x.recorded p).fragment))
 
   pub linked-resend : (c : ChunkPayloadData) (bytes : List ℕ) (nsent : ℕ) (q : Outbound) → find (has_tsn tsn) cs ≡ Some c
       → bytes ≡ packet_encoding sum (packet_with (data_chunk (data_of c) ∷ [])) → ReadsPacket sum bytes (packet_with (data_chunk (data_of c) ∷ []))
@@ -140,7 +102,7 @@ module _ (sum : List ℕ → ℕ) (x : State) (l : IsLinked sum x) (tsn : ℕ) (
   linked-resend c bytes nsent q e encoding reads count eq = record {
     setup = l.setup;
     history = (E.Resend tsn, reply_to x.recorded (E.Resend tsn)) ∷ l.history;
-    stands = stands-then x.recorded.setup x.recorded l.history (E.Resend tsn) ok l.stands;
+    stands = stands-then (E.Resend tsn) ok l.stands;
     outbound = subst (RefinesOutbound v) (sym eq) (outbound-same x.recorded v (same-self x.recorded v refl refl refl refl) _
         (refines-marked x.recorded x.outbound (has_tsn tsn) (with_nsent nsent) (nsent-quiet nsent) l.outbound));
     unstarted = l.unstarted ∙ sym (ap (λ (r : Outbound). r.next_unstarted) eq);
@@ -152,11 +114,11 @@ module _ (sum : List ℕ → ℕ) (x : State) (l : IsLinked sum x) (tsn : ℕ) (
     sents = l.sents;
     indexes = l.indexes;
     low = l.low;
-    open_streams = λ k d lt. stream-same x.recorded v (slice_index_or x.open_streams k d)
+    open_streams = λ k d lt. stream-same (slice_index_or x.open_streams k d)
         (record { setup = refl; held = refl; ordered = refl; next = refl; amount = refl; counters = refl }) refl (l.open_streams k d lt);
     apart = l.apart;
     encodings =
-        encodings-more sum x l (E.Resend tsn) ok (W.Data (p ∷ [])) bytes refl count (says-data sum v p bytes (data_of c) (resend-says c e) encoding reads);
+        encodings-more l (E.Resend tsn) ok (W.Data (p ∷ [])) bytes refl count (says-data sum v p bytes (data_of c) (resend-says c e) encoding reads);
   }
     where
       v : LinkRecord

@@ -1,58 +1,26 @@
 -- A datagram of fragments leaves.
-use Rattle.std.proofs.Common.{◌≡◌, ℕ, ◌-◌, ◌<◌, ◌≤◌, List, [], ◌∷◌, ◌++◌, length, map, Option, Some, None, refl, ap, sym, ◌∙◌, arith}
-use Rattle.std.specs.Prelude.{IfSome, slice_get, slice_index_or}
-use Rattle.std.specs.List.{AllByRecursion}
-use Rattle.std.proofs.Math.Path.{subst}
-use Rattle.sctp_list_lemmas.specs.Kept.{numbers_from}
-use Rattle.sctp_list_lemmas.proofs.Getting.{length-mapped}
-use Rattle.sctp_chunks.specs.declared.chunk.chunk_kind.ChunkKind.{ChunkKind}
+use Rattle.sctp_link.proofs.Names.{◌≡◌, ℕ, ◌-◌, ◌<◌, ◌≤◌, List, [], ◌∷◌, ◌++◌, length, map, Option, Some, None, refl, ap, sym, ◌∙◌, arith, IfSome, slice_get}
+use Rattle.sctp_link.proofs.Names.{slice_index_or, AllByRecursion, subst, numbers_from, length-mapped, ChunkKind, ChunkPayloadData, wire_of, data_of}
+use Rattle.sctp_link.proofs.Names.{data_chunk, HasEncoding, Canonical, ReadsPacket, packet_encoding, next_pending, after_sends, LinkRecord, StreamRecord}
+use Rattle.sctp_link.proofs.Names.{message_at, tsn_of, front, ordered_before, ssn_of, chunk_at, contents_of, filter_of, in_all, written_bytes, after_start}
+use Rattle.sctp_link.proofs.Names.{start_lifetime, after_send, send_from, with_datagram, send_fragments, IsRight, StandsFor, reply_to, sent_reply}
+use Rattle.sctp_link.proofs.Names.{fragments_accepted, shape, front-takes, Quiet, chunks_taken, begun_on, waiting_at, RefinesOutbound, Indexed, Fills}
+use Rattle.sctp_link.proofs.Names.{fill-sent, fill-started, sent-started, after_fragments, only-slots, shown-after, shown, idle, before-started, outbound-same}
+use Rattle.sctp_link.proofs.Names.{same-self, OpenStream, join_each, IsApart, IsDatagram, packet_with, wire_data, State, IsLinked, IsOpenStream, progress_of}
+use Rattle.sctp_link.proofs.Names.{StreamState, InboundStream, Outgoing, some-same, stands-then, piece-short}
 use Rattle.sctp_chunks.specs.declared.chunk.chunk_kind.ChunkKind.TheVariants as C
-use Rattle.sctp_data.specs.declared.chunk.chunk_payload_data.ChunkPayloadData.{ChunkPayloadData}
-use Rattle.sctp_chunks.specs.Kind.{wire_of}
-use Rattle.sctp_data.specs.PayloadData.{data_of}
-use Rattle.sctp_chunks.specs.Wire.{data_chunk, HasEncoding}
-use Rattle.sctp_chunks.specs.Fits.{Canonical}
-use Rattle.sctp_packets.specs.Packet.{ReadsPacket, packet_encoding}
-use Rattle.sctp_outbound.specs.pending_queue.PendingQueue.{next_pending}
-use Rattle.sctp_outbound.specs.outbound_queue.OutboundQueue.{after_sends}
 use Rattle.sctp_model.specs.declared.event.Event.TheVariants as E
-use Rattle.sctp_model.specs.LinkRecord.{LinkRecord, StreamRecord, Slot, Message}
+use Rattle.sctp_model.specs.LinkRecord.{Slot, Message}
 use Rattle.sctp_model.specs.LinkRecord as W
 use Rattle.sctp_model.specs.Messages as M
-use Rattle.sctp_model.specs.Messages.{message_at, tsn_of, front, ordered_before, ssn_of}
-use Rattle.sctp_model.specs.Contents.{chunk_at, contents_of}
-use Rattle.sctp_model.specs.Queues.{filter_of}
-use Rattle.sctp_model.specs.Amounts.{in_all, written_bytes}
 use Rattle.sctp_model.specs.Reply as R
-use Rattle.sctp_model.specs.Changes.{after_start, start_lifetime, after_send, send_from, with_datagram, send_fragments}
-use Rattle.sctp_model.specs.Steps.{IsRight, StandsFor, reply_to, sent_reply, fragments_accepted}
-use Rattle.sctp_model.proofs.sender.Shape.{shape}
-use Rattle.sctp_model.proofs.sender.Fronts.{front-takes}
 use Rattle.sctp_model.proofs.sender.Moves
-use Rattle.sctp_model.proofs.sender.Moves.{Quiet}
-use Rattle.sctp_refinement.specs.Filling.{chunks_taken}
-use Rattle.sctp_refinement.specs.Indexes.{begun_on}
-use Rattle.sctp_refinement.specs.Refines.{waiting_at, RefinesOutbound}
 use Rattle.sctp_refinement.proofs.sending.Begun
-use Rattle.sctp_refinement.proofs.sending.Begun.{Indexed}
-use Rattle.sctp_refinement.proofs.sending.FilledDatagrams.{Fills, fill-sent, fill-started, sent-started, after_fragments, only-slots, shown-after}
-use Rattle.sctp_refinement.proofs.sending.Fragments.{shown, idle}
-use Rattle.sctp_refinement.proofs.sending.InLine.{before-started}
-use Rattle.sctp_refinement.proofs.acknowledging.QuietSender.{outbound-same, same-self}
-use Rattle.sctp_link.specs.Streams.{OpenStream, join_each}
-use Rattle.sctp_link.specs.Places.{IsApart}
-use Rattle.sctp_link.specs.Encodings.{IsDatagram, packet_with, wire_data}
-use Rattle.sctp_link.specs.Linked.{State, IsLinked, IsOpenStream}
-use Rattle.sctp_link.specs.Records.{progress_of}
-use Rattle.sctp_stream.specs.declared.stream.StreamState.{StreamState}
-use Rattle.sctp_receiver.specs.declared.receiver.inbound_streams.InboundStream.{InboundStream}
-use Rattle.sctp_link.specs.Sends.{Outgoing}
-use Rattle.sctp_link.proofs.upkeep.Facts.{facts, stands-then}
+use Rattle.sctp_link.proofs.upkeep.Facts.{facts}
 use Rattle.sctp_link.proofs.upkeep.Frames.{SameStream, stream-with, stream-quiet, filter-kept, encodings-more, fragments-same, written-kept}
 use Rattle.sctp_link.proofs.sender.Beginning.{index_kept}
 use Rattle.sctp_link.proofs.sender.Between.{Between}
-use Rattle.sctp_link.proofs.sender.Outgoing.{piece-short, chunk-short}
-use Rattle.sctp_list_lemmas.proofs.Cases.{some-same}
+use Rattle.sctp_link.proofs.sender.Outgoing.{chunk-short}
 
 -- ## What is sent next
 
@@ -65,7 +33,7 @@ pub record Next (w : LinkRecord) (c : ChunkPayloadData) : Type 0 where
 nothing : {A : Type 0} {a : A} → Some a ≡ None → ⊥
 nothing e = cc
 
-module _ (sum : List ℕ → ℕ) (x : State) (l : IsLinked sum x) where
+module _ {sum : List ℕ → ℕ} {x : State} (l : IsLinked sum x) where
   pub next-is : (c : ChunkPayloadData) → next_pending x.outbound.pending ≡ Some c → Next x.recorded c
   next-is c e = by (front x.recorded) refl
     where
@@ -75,19 +43,19 @@ module _ (sum : List ℕ → ℕ) (x : State) (l : IsLinked sum x) where
           record {
             front = fr ∙ ap Some own;
             is = same ∙ ap (λ k. waiting_at x.recorded k (M.sent_of x.recorded k)) own;
-            made = let t = (front-takes (shape x.recorded) n (facts sum x l).consistent.sender fr).made in omega (arith, t, own);
+            made = let t = (front-takes (shape x.recorded) n (facts l).consistent.sender fr).made in omega (arith, t, own);
           }
 
       by : (o : Option ℕ) → front x.recorded ≡ o → Next x.recorded c
       by None fr = absurd (nothing (sym e ∙ idle x.recorded x.outbound l.outbound fr))
-      by (Some n) fr = of n fr (some-same (sym e ∙ shown x.recorded.setup x.recorded n x.outbound (facts sum x l).going fr l.outbound))
+      by (Some n) fr = of n fr (some-same (sym e ∙ shown x.recorded.setup x.recorded n x.outbound (facts l).going fr l.outbound))
 
   pub none-next : next_pending x.outbound.pending ≡ None → front x.recorded ≡ None
   none-next e = by (front x.recorded) refl
     where
       by : (o : Option ℕ) → front x.recorded ≡ o → front x.recorded ≡ None
       by None fr = fr
-      by (Some n) fr = absurd (nothing (sym (shown x.recorded.setup x.recorded n x.outbound (facts sum x l).going fr l.outbound) ∙ e))
+      by (Some n) fr = absurd (nothing (sym (shown x.recorded.setup x.recorded n x.outbound (facts l).going fr l.outbound) ∙ e))
 
   pub idle-right : (now : ℕ) (new : LinkRecord) → next_pending x.outbound.pending ≡ None → new ≡ after_start x.recorded now
       → IsRight x.recorded (E.Send now) R.Idle new
@@ -120,21 +88,20 @@ canonical-at v (p ∷ ps) = (tt, canonical-at v ps)
 
 -- ## The event
 
-module _ (sum : List ℕ → ℕ) (x : State) (l : IsLinked sum x) (now : ℕ) where
+module _ {sum : List ℕ → ℕ} {x : State} (l : IsLinked sum x) (now : ℕ) where
   -- each fragment that is looked at is short
   pub looks-short : (i : ℕ) → IfSome (next_pending (after_sends i x.outbound.pending)) (λ c. length c.user_data ≤ 65519)
   looks-short i =
       let w = x.recorded in
       let z = after_fragments i w in
-      shown-after w.setup i w x.outbound.pending (λ c. length c.user_data ≤ 65519) (facts sum x l).going l.outbound.pending
-      (λ n. omega (
+      shown-after w.setup i w x.outbound.pending (λ c. length c.user_data ≤ 65519) (facts l).going l.outbound.pending (λ n. omega (
         arith,
         l.setup.size,
         ap (λ (y : LinkRecord). y.setup.size) (only-slots i w),
         piece-short (length (message_at z n).bytes) z.setup.size (message_at z n).bytes (M.sent_of z n),
       ))
 
-module _ (sum : List ℕ → ℕ) (x : State) (l : IsLinked sum x) (now n : ℕ) (fr : front x.recorded ≡ Some n) where
+module _ {sum : List ℕ → ℕ} {x : State} (l : IsLinked sum x) (now n : ℕ) (fr : front x.recorded ≡ Some n) where
   abbrev w : LinkRecord
   w = x.recorded
 
@@ -148,7 +115,7 @@ module _ (sum : List ℕ → ℕ) (x : State) (l : IsLinked sum x) (now n : ℕ)
   pub fills : Fills (after_start x.recorded now) (send_fragments (after_start x.recorded now))
       (chunks_taken x.recorded.setup.limit x.next_tsn x.outbound.pending)
   fills =
-      let f = facts sum x l in
+      let f = facts l in
       subst (λ z. Fills u z cs) (sym (sent-started w now))
       (fill-started w (send_fragments w) now cs (fill-sent w.setup x.next_tsn n w x.outbound.pending f.going l.outbound.pending fr l.next))
 
@@ -204,14 +171,14 @@ module _ (sum : List ℕ → ℕ) (x : State) (l : IsLinked sum x) (now n : ℕ)
       record { encoding = encoding ∙ ap (λ ws. packet_encoding sum (packet_with ws)) e; reads = subst (λ ws. ReadsPacket sum bytes (packet_with ws)) e reads }
 
   quiet : Quiet w (after_send w now)
-  quiet = Moves.quiet-sent w.setup w now (front w) (facts sum x l).consistent
+  quiet = Moves.quiet-sent w.setup w now (front w) (facts l).consistent
 
   before : (t : ℕ) → ordered_before (after_send w now) t (length (after_send w now).messages) ≡ ordered_before w t (length w.messages)
   before t = ap (λ y. ordered_before y t (length y.messages)) sent-moves ∙ ap (ordered_before u t) (length-mapped (start_lifetime now) w.messages)
       ∙ before-started w now t (length w.messages)
 
   stream-kept : (t : ℕ) → SameStream w v t
-  stream-kept t = subst (λ y. SameStream w y t) sent-moves (stream-quiet sum x l (E.Send now) refl quiet tt refl refl refl before t)
+  stream-kept t = subst (λ y. SameStream w y t) sent-moves (stream-quiet l (E.Send now) refl quiet tt refl refl refl before t)
 
   -- the record that the link then has
   pub recorded-is : (rs : List StreamRecord) (ms : List Message) (ss : List Slot) (ns : List W.Datagram) → rs ≡ w.streams → ms ≡ u.messages → ss ≡ z.slots
@@ -235,17 +202,15 @@ module _ (sum : List ℕ → ℕ) (x : State) (l : IsLinked sum x) (now n : ℕ)
         let long : length (join_each states inbounds s.progress) ≡ length x.open_streams =
         sym (length-mapped (λ (l : OpenStream). l.state.stream_identifier) (join_each states inbounds s.progress)) ∙ ap length b.numbers
         ∙ length-mapped (λ (l : OpenStream). l.state.stream_identifier) x.open_streams in
-        subst (IsOpenStream v) (sym (b.streams k d lt))
-        (stream-with w v y (begun_on z y.state.stream_identifier) (stream-kept y.state.stream_identifier)
+        subst (IsOpenStream v) (sym (b.streams k d lt)) (stream-with y (begun_on z y.state.stream_identifier) (stream-kept y.state.stream_identifier)
         (ap (λ h. Begun.begun h y.state.stream_identifier) shape-same) (l.open_streams k d (omega (arith, lt, long))))
 
     encodings-sent : (k : ℕ) (d : List ℕ) (g : W.Datagram) → slice_get v.network k ≡ Some g
         → IsDatagram sum (contents_of v g) (slice_index_or (x.datagrams ++ bytes ∷ []) k d)
     encodings-sent =
-        subst (λ y. (k : ℕ) (d : List ℕ) (g : W.Datagram) → slice_get y.network k ≡ Some g
-        → IsDatagram sum (contents_of y g) (slice_index_or (x.datagrams ++ bytes ∷ []) k d)) sent-moves
-        (encodings-more sum x l (E.Send now) refl (W.Data places) bytes (ap (λ (y : LinkRecord). y.network) sent-moves) count
-        (subst (λ y. IsDatagram sum (contents_of y (W.Data places)) bytes) (sym sent-moves) encoding))
+        subst (λ y. (k : ℕ) (d : List ℕ) (g : W.Datagram) → slice_get y.network k ≡ Some g → IsDatagram sum (contents_of y g)
+        (slice_index_or (x.datagrams ++ bytes ∷ []) k d)) sent-moves (encodings-more l (E.Send now) refl (W.Data places) bytes
+        (ap (λ (y : LinkRecord). y.network) sent-moves) count (subst (λ y. IsDatagram sum (contents_of y (W.Data places)) bytes) (sym sent-moves) encoding))
 
     indexed-sent : Indexed (shape v) (index_kept (map progress_of s.messages))
     indexed-sent = subst (λ h. Indexed h (index_kept (map progress_of s.messages))) shape-same b.indexed
@@ -266,15 +231,14 @@ module _ (sum : List ℕ → ℕ) (x : State) (l : IsLinked sum x) (now n : ℕ)
     linked-send = record {
       setup = l.setup;
       history = (E.Send now, reply_to w (E.Send now)) ∷ l.history;
-      stands = subst (λ y. StandsFor w.setup y ((E.Send now, reply_to w (E.Send now)) ∷ l.history)) sent-moves
-          (stands-then w.setup w l.history (E.Send now) refl l.stands);
+      stands = subst (λ y. StandsFor w.setup y ((E.Send now, reply_to w (E.Send now)) ∷ l.history)) sent-moves (stands-then (E.Send now) refl l.stands);
       outbound = outbound-sent;
       unstarted = sym b.begun;
-      filter = l.filter ∙ sym (ap filter_of (sym sent-moves) ∙ filter-kept sum x l (E.Send now) refl quiet);
+      filter = l.filter ∙ sym (ap filter_of (sym sent-moves) ∙ filter-kept l (E.Send now) refl quiet);
       next = b.next ∙ ap (λ y. tsn_of y (length z.slots)) only;
       acked = l.acked;
-      fragments = l.fragments ∙ sym (ap fragments_accepted (sym sent-moves) ∙ fragments-same sum x l (E.Send now) refl refl);
-      written = l.written ∙ sym (ap (λ y. in_all y (written_bytes y)) (sym sent-moves) ∙ written-kept sum x l (E.Send now) refl refl);
+      fragments = l.fragments ∙ sym (ap fragments_accepted (sym sent-moves) ∙ fragments-same l (E.Send now) refl refl);
+      written = l.written ∙ sym (ap (λ y. in_all y (written_bytes y)) (sym sent-moves) ∙ written-kept l (E.Send now) refl refl);
       sents = λ k lt. b.sents k (omega (arith, lt, length-mapped (start_lifetime now) w.messages));
       indexes = indexed-sent.is;
       low = indexed-sent.low;

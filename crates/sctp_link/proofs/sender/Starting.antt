@@ -1,23 +1,10 @@
 -- Lifetimes start.
-use Rattle.std.proofs.Common.{◌≡◌, ℕ, zero, suc, ◌<◌, ◌≤◌, true, false, List, [], ◌∷◌, length, map, Option, Some, None, refl, ap, sym, ◌∙◌, arith}
-use Rattle.std.specs.Prelude.{slice_index_or, is_some, not, nat_le}
-use Rattle.std.proofs.Math.Path.{subst}
-use Rattle.std.proofs.lemmas.Bool.Decides.{nat_tests}
-use Rattle.sctp_list_lemmas.proofs.Getting.{length-mapped}
-use Rattle.sctp_outbound.specs.outbound_queue.OutboundQueue.{Outbound, all_started}
+use Rattle.sctp_link.proofs.Names.{◌≡◌, ℕ, zero, suc, ◌<◌, ◌≤◌, true, false, List, [], ◌∷◌, length, map, Option, Some, None, refl, ap, sym, ◌∙◌, arith}
+use Rattle.sctp_link.proofs.Names.{slice_index_or, is_some, not, nat_le, subst, nat_tests, length-mapped, Outbound, all_started, no_message, ordered_before}
+use Rattle.sctp_link.proofs.Names.{after_start, start_lifetime, reply_to, refines-started, all-begun, before-started, Message, message_record, progress_of}
+use Rattle.sctp_link.proofs.Names.{with_start, start_from, State, IsLinked, stands-then}
 use Rattle.sctp_model.specs.declared.event.Event.TheVariants as E
-use Rattle.sctp_model.specs.Messages.{no_message, ordered_before}
-use Rattle.sctp_model.specs.Changes.{after_start, start_lifetime}
-use Rattle.sctp_model.specs.Steps.{reply_to}
 use Rattle.sctp_model.proofs.sender.Moves
-use Rattle.sctp_refinement.proofs.sending.LifetimesStart.{refines-started}
-use Rattle.sctp_refinement.proofs.sending.Fragments.{all-begun}
-use Rattle.sctp_refinement.proofs.sending.InLine.{before-started}
-use Rattle.sctp_link.specs.declared.record.Message.{Message}
-use Rattle.sctp_link.specs.Records.{message_record, progress_of}
-use Rattle.sctp_link.specs.OpenStreams.{with_start, start_from}
-use Rattle.sctp_link.specs.Linked.{State, IsLinked}
-use Rattle.sctp_link.proofs.upkeep.Facts.{stands-then}
 use Rattle.sctp_link.proofs.upkeep.Frames.{stream-same, stream-quiet, begun-kept, indexed-kept, encodings-same, fragments-same, written-kept}
 
 -- ## The messages
@@ -61,7 +48,7 @@ start-progress now (suc first) (m ∷ ms) = ap (λ l. progress_of m ∷ l) (star
 
 -- ## The event
 
-module _ (sum : List ℕ → ℕ) (x : State) (l : IsLinked sum x) (now : ℕ) where
+module _ {sum : List ℕ → ℕ} {x : State} (l : IsLinked sum x) (now : ℕ) where
   pub starts-records : (ms : List Message) → x.recorded.messages ≡ map message_record ms
       → map message_record (start_from x.unstarted now ms) ≡ (after_start x.recorded now).messages
   starts-records ms e =
@@ -85,42 +72,40 @@ module _ (sum : List ℕ → ℕ) (x : State) (l : IsLinked sum x) (now : ℕ) w
   linked-start = record {
     setup = l.setup;
     history = (E.Start now, reply_to x.recorded (E.Start now)) ∷ l.history;
-    stands = stands-then x.recorded.setup x.recorded l.history (E.Start now) refl l.stands;
+    stands = stands-then (E.Start now) refl l.stands;
     outbound = refines-started x.recorded now x.outbound l.outbound;
     unstarted = sym (all-begun x.recorded now x.outbound l.outbound);
     filter = l.filter;
     next = l.next;
     acked = l.acked;
-    fragments = l.fragments ∙ sym (fragments-same sum x l (E.Start now) refl refl);
-    written = l.written ∙ sym (written-kept sum x l (E.Start now) refl refl);
+    fragments = l.fragments ∙ sym (fragments-same l (E.Start now) refl refl);
+    written = l.written ∙ sym (written-kept l (E.Start now) refl refl);
     sents = λ n lt. l.sents n (omega (arith, lt, length-mapped (start_lifetime now) x.recorded.messages));
-    indexes = (indexed-kept sum x l (E.Start now) refl tt).is;
+    indexes = (indexed-kept l (E.Start now) refl tt).is;
     low = l.low;
-    open_streams = λ k d lt. stream-same x.recorded (after_start x.recorded now) (slice_index_or x.open_streams k d)
-        (stream-quiet sum x l (E.Start now) refl (Moves.quiet-started x.recorded now) tt refl refl refl
-        (λ s. ap (ordered_before (after_start x.recorded now) s) (length-mapped (start_lifetime now) x.recorded.messages)
+    open_streams = λ k d lt. stream-same (slice_index_or x.open_streams k d) (stream-quiet l (E.Start now) refl (Moves.quiet-started x.recorded now) tt refl
+        refl refl (λ s. ap (ordered_before (after_start x.recorded now) s) (length-mapped (start_lifetime now) x.recorded.messages)
         ∙ before-started x.recorded now s (length x.recorded.messages)) (slice_index_or x.open_streams k d).state.stream_identifier)
-        (begun-kept sum x l (E.Start now) refl tt (slice_index_or x.open_streams k d).state.stream_identifier) (l.open_streams k d lt);
+        (begun-kept l (E.Start now) refl tt (slice_index_or x.open_streams k d).state.stream_identifier) (l.open_streams k d lt);
     apart = l.apart;
-    encodings = encodings-same sum x l (E.Start now) refl refl;
+    encodings = encodings-same l (E.Start now) refl refl;
   }
 
 -- the record and what stands beside it, where the messages are those that started
-pub linked-starts : (sum : List ℕ → ℕ) (x : State) (now : ℕ) (ms started' : List Message) (unstarted : ℕ) (q : Outbound) → IsLinked sum x
+pub linked-starts : {sum : List ℕ → ℕ} {x : State} (now : ℕ) (ms started' : List Message) (unstarted : ℕ) (q : Outbound) → IsLinked sum x
     → x.recorded.messages ≡ map message_record ms → x.progress ≡ map progress_of ms → started' ≡ start_from x.unstarted now ms → unstarted ≡ length ms
     → q ≡ all_started now x.outbound → IsLinked sum (record x
     { recorded = record x.recorded { messages = map message_record started' }; progress = map progress_of started'; unstarted = unstarted; outbound = q })
-linked-starts sum x now ms started' unstarted q l em es e eu eq =
-    let is : map message_record started' ≡ (after_start x.recorded now).messages = ap (map message_record) e ∙ starts-records sum x l now ms em in
+linked-starts {sum} {x} now ms started' unstarted q l em es e eu eq =
+    let is : map message_record started' ≡ (after_start x.recorded now).messages = ap (map message_record) e ∙ starts-records l now ms em in
     let same : map progress_of started' ≡ x.progress = ap (map progress_of) e ∙ start-progress now x.unstarted ms ∙ sym es in
     let count : unstarted ≡ length x.recorded.messages = eu ∙ sym (length-mapped message_record ms) ∙ ap length (sym em) in
-    subst (λ a. IsLinked sum
-    (record x { recorded = record x.recorded { messages = a }; progress = map progress_of started'; unstarted = unstarted; outbound = q })) (sym is)
-    (subst (λ a. IsLinked sum (record x { recorded = after_start x.recorded now; progress = a; unstarted = unstarted; outbound = q })) (sym same)
-    (subst (λ a. IsLinked sum (record x { recorded = after_start x.recorded now; unstarted = a; outbound = q })) (sym count)
-    (subst (λ a. IsLinked sum (record x { recorded = after_start x.recorded now; unstarted = length x.recorded.messages; outbound = a })) (sym eq)
-    (linked-start sum x l now))))
+    subst (λ a.
+    IsLinked sum (record x { recorded = record x.recorded { messages = a }; progress = map progress_of started'; unstarted = unstarted; outbound = q }))
+    (sym is) (subst (λ a. IsLinked sum (record x { recorded = after_start x.recorded now; progress = a; unstarted = unstarted; outbound = q })) (sym same)
+    (subst (λ a. IsLinked sum (record x { recorded = after_start x.recorded now; unstarted = a; outbound = q })) (sym count) (subst (λ a. IsLinked sum
+    (record x { recorded = after_start x.recorded now; unstarted = length x.recorded.messages; outbound = a })) (sym eq) (linked-start l now))))
 
-pub start-moves : (sum : List ℕ → ℕ) (x : State) (now : ℕ) (ms started' : List Message) → IsLinked sum x → x.recorded.messages ≡ map message_record ms
+pub start-moves : {sum : List ℕ → ℕ} {x : State} (now : ℕ) (ms started' : List Message) → IsLinked sum x → x.recorded.messages ≡ map message_record ms
     → started' ≡ start_from x.unstarted now ms → record x.recorded { messages = map message_record started' } ≡ after_start x.recorded now
-start-moves sum x now ms started' l em e = ap (λ a. record x.recorded { messages = a }) (ap (map message_record) e ∙ starts-records sum x l now ms em)
+start-moves {x} now ms started' l em e = ap (λ a. record x.recorded { messages = a }) (ap (map message_record) e ∙ starts-records l now ms em)

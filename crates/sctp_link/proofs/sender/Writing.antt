@@ -1,54 +1,26 @@
 -- A write is taken.
-use Rattle.std.proofs.Common.{◌≡◌, ℕ, ◌+◌, ◌<◌, ◌%◌, ◌^◌, Bool, true, false, List, [], ◌∷◌, ◌++◌, length, map, drop, Option, Some, None, refl, ap, sym, ◌∙◌}
-use Rattle.std.proofs.Common.{arith, length-append}
-use Rattle.std.specs.Prelude.{◌==◌, ◌&&◌, not, if◌then◌else◌, nat_lt, slice_index_or, find, unwrap_or}
+use Rattle.sctp_link.proofs.Names.{◌≡◌, ℕ, ◌+◌, ◌<◌, ◌%◌, ◌^◌, Bool, true, false, List, [], ◌∷◌, ◌++◌, length, map, drop, Option, Some, None, refl, ap, sym}
+use Rattle.sctp_link.proofs.Names.{◌∙◌, arith, length-append, ◌==◌, ◌&&◌, not, if◌then◌else◌, nat_lt, slice_index_or, find, unwrap_or, subst, map-append}
+use Rattle.sctp_link.proofs.Names.{nat_tests, counted_as, is_ordered, numbers_from, pieces, by_last, same-yes, same-is, fails, ChunkPayloadData}
+use Rattle.sctp_link.proofs.Names.{PayloadProtocolIdentifier, Dcep, String, Binary, StringEmpty, BinaryEmpty, Unknown, Outbound, with_message, LinkRecord}
+use Rattle.sctp_link.proofs.Names.{StreamRecord, stream_of, no_stream, sent_of, ordered_before, next_of, in_all, written_bytes, after_write, message_on}
+use Rattle.sctp_link.proofs.Names.{refusal_of, reply_to, fragments_accepted, fragments_in, shape, Consistent, consistent-after, Indexed, RefinesOutbound}
+use Rattle.sctp_link.proofs.Names.{amount, counters_on, sent_more, amount-wrote, written-wrote, counters-wrote, change_where, fragments_with_mode}
+use Rattle.sctp_link.proofs.Names.{with_reliability, OpenStream, both_ways, has_number, written_of, wrote_to, Message, stream_record, message_record}
+use Rattle.sctp_link.proofs.Names.{message_written, State, IsOpenStream, IsLinked, stats_of, DataChannelStats, stands-then, Facts, written-few}
+use Rattle.sctp_refinement.proofs.amounts.MessageSums.{sum-written}
+use Rattle.sctp_stream.specs.Stats.{with_sent}
 use Rattle.std.specs.Option.{option_map}
-use Rattle.std.proofs.Math.Path.{subst}
-use Rattle.std.proofs.lemmas.List.{map-append}
-use Rattle.std.proofs.lemmas.Bool.Decides.{nat_tests}
-use Rattle.sctp_data.specs.PayloadTypes.{counted_as, is_ordered}
-use Rattle.sctp_list_lemmas.specs.Kept.{numbers_from}
-use Rattle.sctp_list_lemmas.specs.Lists.{pieces}
-use Rattle.sctp_list_lemmas.proofs.Cases.{by_last, same-yes, same-is}
-use Rattle.sctp_list_lemmas.proofs.More.{fails}
-use Rattle.sctp_data.specs.declared.chunk.chunk_payload_data.ChunkPayloadData.{ChunkPayloadData}
-use Rattle.sctp_data.specs.declared.chunk.chunk_payload_data.PayloadProtocolIdentifier.{PayloadProtocolIdentifier}
-use Rattle.sctp_data.specs.declared.chunk.chunk_payload_data.PayloadProtocolIdentifier.TheVariants.{Dcep, String, Binary, StringEmpty, BinaryEmpty, Unknown}
-use Rattle.sctp_outbound.specs.outbound_queue.OutboundQueue.{Outbound, with_message}
 use Rattle.sctp_model.specs.declared.event.Event.TheVariants as E
-use Rattle.sctp_model.specs.LinkRecord.{LinkRecord, StreamRecord}
 use Rattle.sctp_model.specs.LinkRecord as W
-use Rattle.sctp_model.specs.Messages.{stream_of, no_stream, sent_of, ordered_before}
-use Rattle.sctp_model.specs.Receiver.{next_of}
-use Rattle.sctp_model.specs.Amounts.{in_all, written_bytes}
-use Rattle.sctp_model.specs.Changes.{after_write, message_on}
-use Rattle.sctp_model.specs.Steps.{refusal_of, reply_to, fragments_accepted, fragments_in}
-use Rattle.sctp_model.proofs.sender.Shape.{shape}
-use Rattle.sctp_model.proofs.sender.SenderRun.{Consistent, consistent-after}
-use Rattle.sctp_refinement.proofs.sending.Begun.{Indexed}
 use Rattle.sctp_model.proofs.sender.Moves
-use Rattle.sctp_refinement.specs.Refines.{RefinesOutbound}
-use Rattle.sctp_refinement.specs.Amount.{amount}
-use Rattle.sctp_refinement.specs.Counts.{counters_on, sent_more}
 use Rattle.sctp_refinement.proofs.sending.Written
 use Rattle.sctp_refinement.proofs.sending.InLine
-use Rattle.sctp_refinement.proofs.amounts.MessageSums.{sum-written}
-use Rattle.sctp_refinement.proofs.amounts.StreamAmounts.{amount-wrote}
-use Rattle.sctp_refinement.proofs.amounts.StreamCounters.{written-wrote, counters-wrote}
-use Rattle.sctp_list_lemmas.specs.Lists.{change_where}
-use Rattle.sctp_sender.specs.Outgoing.{fragments_with_mode, with_reliability}
-use Rattle.sctp_link.specs.Streams.{OpenStream, both_ways, has_number, written_of, wrote_to}
-use Rattle.sctp_link.specs.declared.record.Message.{Message}
-use Rattle.sctp_link.specs.Records.{stream_record, message_record}
-use Rattle.sctp_stream.specs.Stats.{with_sent}
 use Rattle.sctp_stream.specs.Stream as stream
-use Rattle.sctp_link.specs.OpenStreams.{message_written}
-use Rattle.sctp_link.specs.Linked.{State, IsOpenStream, IsLinked, stats_of}
-use Rattle.sctp_stream.specs.declared.stream.DataChannelStats.{DataChannelStats}
-use Rattle.sctp_link.proofs.upkeep.Facts.{Facts, facts, stands-then}
+use Rattle.sctp_link.proofs.upkeep.Facts.{facts}
 use Rattle.sctp_link.proofs.upkeep.Frames.{stream-same, begun-kept, indexed-kept, held-quiet, next-kept, encodings-same}
 use Rattle.sctp_link.proofs.sender.Beginning.{index_kept, progress-more}
-use Rattle.sctp_link.proofs.upkeep.Bounds.{written-few, amount-few}
+use Rattle.sctp_link.proofs.upkeep.Bounds.{amount-few}
 use Rattle.sctp_link.proofs.sender.Fragmented.{all-wait}
 use Rattle.sctp_link.proofs.upkeep.ChangedStreams.{fields-same, each-changed}
 use Rattle.sctp_link.proofs.upkeep.StreamPlaces.{placed, only-found, apart-changed}
@@ -78,7 +50,7 @@ stats-next Unknown len w t = refl
 
 -- ## The event
 
-module _ (sum : List ℕ → ℕ) (x : State) (l : IsLinked sum x) (s : ℕ) (ppi : PayloadProtocolIdentifier) (b : ℕ) (bs : List ℕ)
+module _ {sum : List ℕ → ℕ} {x : State} (l : IsLinked sum x) (s : ℕ) (ppi : PayloadProtocolIdentifier) (b : ℕ) (bs : List ℕ)
     (ok : refusal_of x.recorded (E.Write s ppi (b ∷ bs)) ≡ None) (streams : x.recorded.streams ≡ map stream_record x.open_streams) where
   abbrev w : LinkRecord
   w = x.recorded
@@ -90,7 +62,7 @@ module _ (sum : List ℕ → ℕ) (x : State) (l : IsLinked sum x) (s : ℕ) (pp
   v = after_write x.recorded s ppi (b ∷ bs)
 
   f : Facts x.recorded
-  f = facts sum x l
+  f = facts l
 
   consistent-new : Consistent x.recorded.setup v
   consistent-new = consistent-after x.recorded.setup x.recorded (E.Write s ppi bytes) ok f.consistent
@@ -140,17 +112,16 @@ module _ (sum : List ℕ → ℕ) (x : State) (l : IsLinked sum x) (s : ℕ) (pp
         ∙ ap (λ k. ordered_before w t (length w.messages) + (if (k == t) && is_ordered m.state.unordered ppi then 1 else 0)) own
 
     next-same : (t : ℕ) → next_of v t ≡ next_of w t
-    next-same t = next-kept sum x l (E.Write s ppi bytes) ok tt t
+    next-same t = next-kept l (E.Write s ppi bytes) ok tt t
 
     other : (t : OpenStream) → (t.state.stream_identifier ≡ s → ⊥) → IsOpenStream w t → IsOpenStream v t
     other t ne j =
         let n = t.state.stream_identifier in
         let off : (n == s) ≡ false = fails (n == s) (λ e. ne (same-is n s e)) in
         let off' : (s == n) ≡ false = fails (s == n) (λ e. ne (sym (same-is s n e))) in
-        stream-same w v t
-        (record {
+        stream-same t (record {
           setup = refl;
-          held = held-quiet sum x l (E.Write s ppi bytes) ok (Moves.quiet-written w.setup w s ppi bytes f.consistent) n;
+          held = held-quiet l (E.Write s ppi bytes) ok (Moves.quiet-written w.setup w s ppi bytes f.consistent) n;
           ordered = before-wrote n ∙ ap (λ c. ordered_before w n (length w.messages) + (if c && is_ordered m.state.unordered ppi then 1 else 0)) off'
               ∙ plus-none (ordered_before w n (length w.messages));
           next = next-same n;
@@ -158,7 +129,7 @@ module _ (sum : List ℕ → ℕ) (x : State) (l : IsLinked sum x) (s : ℕ) (pp
               ∙ plus-none (amount w n);
           counters = counters-wrote w s n ppi bytes ok
               ∙ ap (λ c. if c && not (length bytes == 0) then sent_more (counted_as ppi (length bytes)) (counters_on w n) else counters_on w n) off;
-        }) (begun-kept sum x l (E.Write s ppi bytes) ok tt n) j
+        }) (begun-kept l (E.Write s ppi bytes) ok tt n) j
       where
         plus-none : (a : ℕ) → a + 0 ≡ a
         plus-none a = omega arith
@@ -173,16 +144,16 @@ module _ (sum : List ℕ → ℕ) (x : State) (l : IsLinked sum x) (s : ℕ) (pp
         let on' : (n == s) ≡ true = ap (λ k. k == s) own ∙ same-yes s in
         let grown : amount v n ≡ amount w n + length bytes = amount-wrote w.setup w s n ppi bytes l.setup f.consistent ok
         ∙ ap (λ c. amount w n + (if c then length bytes else 0)) on' in
-        let short = amount-few sum x n l in
+        let short = amount-few n l in
         record {
-          held = i.held ∙ sym (held-quiet sum x l (E.Write s ppi bytes) ok (Moves.quiet-written w.setup w s ppi bytes f.consistent) n);
+          held = i.held ∙ sym (held-quiet l (E.Write s ppi bytes) ok (Moves.quiet-written w.setup w s ppi bytes f.consistent) n);
           si = i.si;
           largest = i.largest;
           size = i.size;
           ordered = adds (is_ordered m.state.unordered ppi) m.ordered (ordered_before w n (length w.messages)) i.ordered
               ∙ sym (before-wrote n ∙ ap (λ c. ordered_before w n (length w.messages) + (if c && is_ordered m.state.unordered ppi then 1 else 0)) on);
           number = number-next (is_ordered m.state.unordered ppi) b bs m.state.sequence_number m.ordered i.number;
-          begun = i.begun ∙ sym (begun-kept sum x l (E.Write s ppi bytes) ok tt n);
+          begun = i.begun ∙ sym (begun-kept l (E.Write s ppi bytes) ok tt n);
           next = i.next ∙ sym (next-same n);
           amount = omega (arith, i.amount, grown, short, few);
           stats = sent-both (counted_as ppi (length bytes)) m.state.stats m.inbound.stats ∙ ap (with_sent (counted_as ppi (length bytes))) i.stats
@@ -207,8 +178,8 @@ module _ (sum : List ℕ → ℕ) (x : State) (l : IsLinked sum x) (s : ℕ) (pp
     abbrev frags : List ChunkPayloadData
     frags = fragments_with_mode m.state ppi bytes
 
-    outbound-wrote : (q : Outbound) → RefinesOutbound w q → RefinesOutbound v (with_message frags q)
-    outbound-wrote q t =
+    outbound-wrote : {q : Outbound} → RefinesOutbound w q → RefinesOutbound v (with_message frags q)
+    outbound-wrote {q} t =
         let mode : ChunkPayloadData → ChunkPayloadData = with_reliability m.state.reliability_type m.state.reliability_value in
         let known = f.consistent.sender.made in
         let r = stream_of w s in
@@ -242,7 +213,7 @@ module _ (sum : List ℕ → ℕ) (x : State) (l : IsLinked sum x) (s : ℕ) (pp
 
     indexes-wrote : (progress : List (ℕ × ℕ)) → progress ≡ x.progress ++ (0, 0) ∷ [] → Indexed (shape v) (index_kept progress)
     indexes-wrote progress e =
-        let i = indexed-kept sum x l (E.Write s ppi bytes) ok tt in
+        let i = indexed-kept l (E.Write s ppi bytes) ok tt in
         let same : (k : ℕ)
         → index_kept progress k ≡ index_kept x.progress k = λ k. ap (λ a. index_kept a k) e ∙ ap (λ (p : ℕ × ℕ). p.1) (progress-more x.progress k) in
         record { is = λ k pos o. same k ∙ i.is k pos o; low = λ k. omega (arith, same k, i.low k) }
@@ -253,8 +224,8 @@ module _ (sum : List ℕ → ℕ) (x : State) (l : IsLinked sum x) (s : ℕ) (pp
     linked-write progress fragments written count each es ef ec ew = record {
       setup = l.setup;
       history = (E.Write s ppi bytes, reply_to w (E.Write s ppi bytes)) ∷ l.history;
-      stands = stands-then w.setup w l.history (E.Write s ppi bytes) ok l.stands;
-      outbound = outbound-wrote x.outbound l.outbound;
+      stands = stands-then (E.Write s ppi bytes) ok l.stands;
+      outbound = outbound-wrote l.outbound;
       unstarted = l.unstarted;
       filter = l.filter;
       next = l.next;
@@ -268,7 +239,7 @@ module _ (sum : List ℕ → ℕ) (x : State) (l : IsLinked sum x) (s : ℕ) (pp
           (λ k d lt e. subst (λ t. IsOpenStream v (wrote_to ppi bytes t)) (sym (alone k d lt e)) written-stream)
           (λ k d lt ne. other (slice_index_or x.open_streams k d) ne (l.open_streams k d lt));
       apart = apart-changed s (wrote_to ppi bytes) x.open_streams (λ t. refl) l.apart;
-      encodings = encodings-same sum x l (E.Write s ppi bytes) ok refl;
+      encodings = encodings-same l (E.Write s ppi bytes) ok refl;
     }
       where
         alone : (k : ℕ) (d : OpenStream) → k < length x.open_streams → (slice_index_or x.open_streams k d).state.stream_identifier ≡ s

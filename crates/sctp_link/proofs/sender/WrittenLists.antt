@@ -1,39 +1,22 @@
 -- What the lists of a link are once a write was taken.
-use Rattle.std.proofs.Common.{◌≡◌, ℕ, ◌+◌, ◌<◌, ◌≤◌, ◌^◌, Bool, true, false, List, [], ◌∷◌, ◌++◌, length, map, Option, Some, None, option_map, is_some, refl}
-use Rattle.std.proofs.Common.{ap, sym, ◌∙◌, arith}
-use Rattle.std.specs.Prelude.{◌==◌, ◌||◌, not, if◌then◌else◌, nat_le, nat_lt, find}
-use Rattle.std.proofs.Math.Path.{subst}
-use Rattle.std.proofs.lemmas.List.{map-append}
-use Rattle.std.proofs.lemmas.Bool.Decides.{nat_tests}
-use Rattle.sctp_list_lemmas.proofs.Getting.{length-mapped}
-use Rattle.sctp_list_lemmas.proofs.Passing.{length-kept-le}
-use Rattle.sctp_data.specs.declared.chunk.chunk_payload_data.PayloadProtocolIdentifier.{PayloadProtocolIdentifier}
-use Rattle.sctp_outbound.specs.outbound_queue.OutboundQueue.{with_message, total_bytes}
+use Rattle.sctp_link.proofs.Names.{◌≡◌, ℕ, ◌+◌, ◌<◌, ◌≤◌, ◌^◌, Bool, true, false, List, [], ◌∷◌, ◌++◌, length, map, Option, Some, None, is_some, refl, ap, sym}
+use Rattle.sctp_link.proofs.Names.{◌∙◌, arith, ◌==◌, ◌||◌, not, if◌then◌else◌, nat_le, nat_lt, find, subst, map-append, nat_tests, length-mapped}
+use Rattle.sctp_link.proofs.Names.{length-kept-le, PayloadProtocolIdentifier, with_message, total_bytes, LinkRefusal, StreamUnknown, is_open, after_write}
+use Rattle.sctp_link.proofs.Names.{refusal_of, unless, IsRight, fragments_in, fragments_accepted, unless-holds, write-open, change_where, fragments_with_mode}
+use Rattle.sctp_link.proofs.Names.{Transmission, is_full_of, write_refusal, OpenStream, has_number, written_of, wrote_to, Message, stream_record}
+use Rattle.sctp_link.proofs.Names.{message_record, progress_of, message_written, State, IsOpenStream, IsLinked, messages-few, LinkRecord}
+use Rattle.std.proofs.Common.{option_map}
 use Rattle.sctp_model.specs.declared.event.Event.TheVariants as E
-use Rattle.sctp_model.specs.declared.event.LinkRefusal.{LinkRefusal}
-use Rattle.sctp_model.specs.declared.event.LinkRefusal.TheVariants.{StreamUnknown, MessageTooLarge, TsnsUsedUp}
+use Rattle.sctp_model.specs.declared.event.LinkRefusal.TheVariants.{MessageTooLarge, TsnsUsedUp}
 use Rattle.sctp_model.specs.Reply as R
-use Rattle.sctp_model.specs.Messages.{is_open}
-use Rattle.sctp_model.specs.Changes.{after_write}
-use Rattle.sctp_model.specs.Steps.{refusal_of, unless, IsRight, fragments_in, fragments_accepted}
-use Rattle.sctp_model.proofs.sender.SenderRun.{unless-holds}
 use Rattle.sctp_model.specs.Messages as M
-use Rattle.sctp_refinement.proofs.amounts.StreamAmounts.{write-open}
-use Rattle.sctp_list_lemmas.specs.Lists.{change_where}
 use Rattle.sctp_sender.specs.Outgoing as Outgoing
-use Rattle.sctp_sender.specs.Outgoing.{fragments_with_mode}
-use Rattle.sctp_sender.specs.Sender.{Transmission, is_full_of, write_refusal}
 use Rattle.sctp_sender.proofs.SenderStreams
-use Rattle.sctp_link.specs.Streams.{OpenStream, has_number, written_of, wrote_to}
 use Rattle.sctp_link.proofs.upkeep.StreamPlaces.{placed}
-use Rattle.sctp_link.specs.declared.record.Message.{Message}
-use Rattle.sctp_link.specs.Records.{stream_record, message_record, progress_of}
-use Rattle.sctp_link.specs.OpenStreams.{message_written}
-use Rattle.sctp_link.specs.Linked.{State, IsOpenStream, IsLinked}
 use Rattle.sctp_link.proofs.upkeep.Facts.{facts}
 use Rattle.sctp_link.proofs.upkeep.Frames.{moved}
 use Rattle.sctp_link.proofs.sender.Modes.{found-open}
-use Rattle.sctp_link.proofs.upkeep.Bounds.{queued-few, messages-few}
+use Rattle.sctp_link.proofs.upkeep.Bounds.{queued-few}
 use Rattle.sctp_link.proofs.sender.Writing
 
 -- a list that is not empty
@@ -50,7 +33,7 @@ state-found s (l ∷ ls) = step (l.state.stream_identifier == s) (state-found s 
     step true e = refl
     step false e = e
 
-module _ (sum : List ℕ → ℕ) (x : State) (l : IsLinked sum x) (s : ℕ) (ppi : PayloadProtocolIdentifier) (bytes : List ℕ) (some : 0 < length bytes)
+module _ {sum : List ℕ → ℕ} {x : State} (l : IsLinked sum x) (s : ℕ) (ppi : PayloadProtocolIdentifier) (bytes : List ℕ) (some : 0 < length bytes)
     (ok : refusal_of x.recorded (E.Write s ppi bytes) ≡ None) (streams : x.recorded.streams ≡ map stream_record x.open_streams) where
   pub write-found : find (has_number s) x.open_streams ≡ None → ⊥
   write-found none = found-open x s streams (write-open x.recorded s ppi bytes ok) none
@@ -60,7 +43,7 @@ module _ (sum : List ℕ → ℕ) (x : State) (l : IsLinked sum x) (s : ℕ) (pp
     where
       by : (bytes : List ℕ) → 0 < length bytes → refusal_of x.recorded (E.Write s ppi bytes) ≡ None → x.written + length bytes < 2 ^ 47
       by [] some ok = absurd (omega arith)
-      by (b ∷ bs) some ok = let few = Writing.few sum x l s ppi b bs ok streams in omega (arith, few, l.written)
+      by (b ∷ bs) some ok = let few = Writing.few l s ppi b bs ok streams in omega (arith, few, l.written)
 
   pub fits-64 : (n : ℕ) → n ≡ length bytes → x.written + n < 2 ^ 64
   fits-64 n e = omega (arith, write-few, e)
@@ -91,14 +74,14 @@ module _ (sum : List ℕ → ℕ) (x : State) (l : IsLinked sum x) (s : ℕ) (pp
           arith,
           i.ordered,
           length-kept-le (M.is_ordered_on x.recorded m.state.stream_identifier) 0 (length x.recorded.messages),
-          messages-few x.recorded.setup x.recorded (facts sum x l).consistent,
+          messages-few x.recorded.setup x.recorded (facts l).consistent,
         )
 
     -- the sender takes it
     not-full : is_full_of (length bytes) x.outbound ≡ false
     not-full =
-        let queued = queued-few sum x l in
-        let few = messages-few x.recorded.setup x.recorded (facts sum x l).consistent in
+        let queued = queued-few l in
+        let few = messages-few x.recorded.setup x.recorded (facts l).consistent in
         let a : nat_lt (x.outbound.next_message_id + 1)
         (2 ^ 64) ≡ true = (let lt : x.outbound.next_message_id + 1 < 2 ^ 64 = omega (arith, l.outbound.next, few) in grind (arith, nat_tests)) in
         let b : nat_lt (total_bytes x.outbound + length bytes) (2 ^ 64) ≡ true =
@@ -113,29 +96,38 @@ module _ (sum : List ℕ → ℕ) (x : State) (l : IsLinked sum x) (s : ℕ) (pp
         ∙ ap (λ o. is_some (option_map (λ l. l.state) o)) here)
         (omega (arith, write-small, em)) (ap (is_full_of (length bytes)) eq ∙ not-full)
 
-    abbrev pub streams_then : List OpenStream
-    streams_then = change_where (has_number s) (wrote_to ppi bytes) x.open_streams
-
     abbrev pub kept : Message
     kept = message_written s (written_of m ppi) ppi bytes
 
     module _ (ms more : List Message) (em : x.recorded.messages ≡ map message_record ms) (es : x.progress ≡ map progress_of ms)
         (e : more ≡ ms ++ kept ∷ []) where
-      pub recorded-wrote : record x.recorded { streams = map stream_record streams_then; messages = map message_record more }
-          ≡ after_write x.recorded s ppi bytes
+      -- the record once bytes were written, and a link with these parts
+      abbrev recorded-then : List ℕ → LinkRecord
+      recorded-then bytes = record x.recorded
+          { streams = map stream_record (change_where (has_number s) (wrote_to ppi bytes) x.open_streams); messages = map message_record more }
+
+      abbrev state-then : LinkRecord → List ℕ → ℕ → ℕ → State
+      state-then w bytes fragments written = record x {
+        recorded = w;
+        open_streams = change_where (has_number s) (wrote_to ppi bytes) x.open_streams;
+        progress = map progress_of more;
+        outbound = with_message (fragments_with_mode m.state ppi bytes) x.outbound;
+        fragments = fragments;
+        written = written;
+      }
+
+      pub recorded-wrote : recorded-then bytes ≡ after_write x.recorded s ppi bytes
       recorded-wrote = by bytes some ok e
         where
           by : (bytes : List ℕ) → 0 < length bytes → refusal_of x.recorded (E.Write s ppi bytes) ≡ None
-              → more ≡ ms ++ message_written s (written_of m ppi) ppi bytes ∷ [] → record x.recorded
-              { streams = map stream_record (change_where (has_number s) (wrote_to ppi bytes) x.open_streams); messages = map message_record more }
-              ≡ after_write x.recorded s ppi bytes
+              → more ≡ ms ++ message_written s (written_of m ppi) ppi bytes ∷ [] → recorded-then bytes ≡ after_write x.recorded s ppi bytes
           by [] some ok e = absurd (omega arith)
           by (b ∷ bs) some ok e =
-              ap (λ a. record x.recorded { streams = a; messages = map message_record more }) (Writing.streams-wrote sum x l s ppi b bs ok streams m here)
-              ∙ ap (λ a. record x.recorded { messages = a }) (Writing.messages-wrote sum x l s ppi b bs ok streams m here ms more em e)
+              ap (λ a. record x.recorded { streams = a; messages = map message_record more }) (Writing.streams-wrote l s ppi b bs ok streams m here)
+              ∙ ap (λ a. record x.recorded { messages = a }) (Writing.messages-wrote l s ppi b bs ok streams m here ms more em e)
 
-      pub write-right : (number count : ℕ) → number ≡ length ms → count ≡ fragments_in x.recorded bytes → IsRight x.recorded (E.Write s ppi bytes)
-          (R.Wrote (Some number) count) (record x.recorded { streams = map stream_record streams_then; messages = map message_record more })
+      pub write-right : (number count : ℕ) → number ≡ length ms → count ≡ fragments_in x.recorded bytes
+          → IsRight x.recorded (E.Write s ppi bytes) (R.Wrote (Some number) count) (recorded-then bytes)
       write-right number count en ec = record {
         right = ap (λ k. R.Wrote (Some k) count) (en ∙ sym (length-mapped message_record ms) ∙ ap length (sym em))
             ∙ ap (R.Wrote (Some (length x.recorded.messages))) ec
@@ -147,39 +139,16 @@ module _ (sum : List ℕ → ℕ) (x : State) (l : IsLinked sum x) (s : ℕ) (pp
           full = grind (arith, nat_tests)
 
       pub linked-wrote : (fragments written count : ℕ) → fragments ≡ x.fragments + count → count ≡ fragments_in x.recorded bytes
-          → written ≡ x.written + length bytes → IsLinked sum (record x {
-            recorded = record x.recorded { streams = map stream_record streams_then; messages = map message_record more };
-            open_streams = streams_then;
-            progress = map progress_of more;
-            outbound = with_message (fragments_with_mode m.state ppi bytes) x.outbound;
-            fragments = fragments;
-            written = written;
-          })
+          → written ≡ x.written + length bytes → IsLinked sum (state-then (recorded-then bytes) bytes fragments written)
       linked-wrote fragments written count ef ec ew =
-          moved sum (record x {
-            recorded = record x.recorded { streams = map stream_record streams_then; messages = map message_record more };
-            open_streams = streams_then;
-            progress = map progress_of more;
-            outbound = with_message (fragments_with_mode m.state ppi bytes) x.outbound;
-            fragments = fragments;
-            written = written;
-          }) (after_write x.recorded s ppi bytes) recorded-wrote
+          moved sum (state-then (recorded-then bytes) bytes fragments written) (after_write x.recorded s ppi bytes) recorded-wrote
           (by bytes some ok e ec ew)
         where
           by : (bytes : List ℕ) → 0 < length bytes → refusal_of x.recorded (E.Write s ppi bytes) ≡ None
               → more ≡ ms ++ message_written s (written_of m ppi) ppi bytes ∷ [] → count ≡ fragments_in x.recorded bytes → written ≡ x.written + length bytes
-              → IsLinked sum (record x {
-                recorded = after_write x.recorded s ppi bytes;
-                open_streams = change_where (has_number s) (wrote_to ppi bytes) x.open_streams;
-                progress = map progress_of more;
-                outbound = with_message (fragments_with_mode m.state ppi bytes) x.outbound;
-                fragments = fragments;
-                written = written;
-              })
+              → IsLinked sum (state-then (after_write x.recorded s ppi bytes) bytes fragments written)
           by [] some ok e ec ew = absurd (omega arith)
           by (b ∷ bs) some ok e ec ew =
-              Writing.linked-write sum x l s ppi b bs ok streams m here (map progress_of more) fragments written count
-              (ap length es ∙ length-mapped progress_of ms ∙ sym (ap length em ∙ length-mapped message_record ms))
-              (ap (map progress_of) e ∙ map-append progress_of ms (message_written s (written_of m ppi) ppi (b ∷ bs) ∷ [])
-              ∙ ap (λ a. a ++ (0, 0) ∷ []) (sym es))
-              ef ec ew
+              Writing.linked-write l s ppi b bs ok streams m here (map progress_of more) fragments written count (ap length es ∙ length-mapped progress_of ms
+              ∙ sym (ap length em ∙ length-mapped message_record ms)) (ap (map progress_of) e
+              ∙ map-append progress_of ms (message_written s (written_of m ppi) ppi (b ∷ bs) ∷ []) ∙ ap (λ a. a ++ (0, 0) ∷ []) (sym es)) ef ec ew

@@ -1,22 +1,16 @@
 -- A sender, a receiver and the progress of their streams, where they have the same streams.
-use Rattle.std.proofs.Common.{◌≡◌, ℕ, List, [], ◌∷◌, length, map, Bool, true, false, Option, Some, None, refl, ap, sym, ◌∙◌}
-use Rattle.std.specs.Prelude.{if◌then◌else◌, option_map, is_some}
-use Rattle.sctp_list_lemmas.specs.Lists.{change_where}
-use Rattle.sctp_data.specs.ForwardTsn.{ForwardTsn}
-use Rattle.sctp_reassembly.specs.reassembly_queue.ReassemblyQueue.{message_read}
-use Rattle.sctp_receiver.specs.declared.receiver.inbound_streams.InboundStream.{InboundStream}
+use Rattle.sctp_link.proofs.Names.{◌≡◌, ℕ, List, [], ◌∷◌, length, map, Bool, true, false, Option, Some, None, refl, ap, sym, ◌∙◌, if◌then◌else◌, option_map}
+use Rattle.sctp_link.proofs.Names.{is_some, change_where, ForwardTsn, message_read, InboundStream, Reception, Transmission, Standing, OpenStream, join_each}
+use Rattle.sctp_link.proofs.Names.{has_number, stream_numbers, on_inbound, Sides, sides, IsAligned, reception_of, stream_in, on_stream, follow_forward_tsn}
+use Rattle.sctp_link.proofs.Names.{after_forward}
+use Rattle.sctp_receiver.proofs.Forwarded.{followed-mapped, after-numbers, after-size}
 use Rattle.sctp_receiver.specs.Inbound as Inbound
 use Rattle.sctp_receiver.specs.Receiver as R
-use Rattle.sctp_receiver.specs.Receiver.{Reception}
 use Rattle.sctp_receiver.proofs.Inbounds.{stays-changed}
-use Rattle.sctp_receiver.proofs.Forwarded.{followed-mapped, after-numbers, after-size}
 use Rattle.sctp_sender.specs.Outgoing as Outgoing
 use Rattle.sctp_sender.specs.Sender as S
-use Rattle.sctp_sender.specs.Sender.{Transmission}
 use Rattle.sctp_progress.specs.Progress as Progress
-use Rattle.sctp_progress.specs.Progress.{Standing}
-use Rattle.sctp_link.specs.Streams.{OpenStream, join_each, number, has_number, stream_numbers, on_inbound}
-use Rattle.sctp_link.specs.Sides.{Sides, sides, IsAligned, reception_of, stream_in, is_open, on_stream, follow_forward_tsn, after_forward}
+use Rattle.sctp_link.specs.Sides.{is_open}
 use Rattle.sctp_link.proofs.sides.Joined.{Alike, inbounds-joined, length-joined, numbers-joined, found-state, found-inbound, inbound-changed, inbound-mapped}
 
 after-limits : (f : ForwardTsn) (r : Reception) → (R.after_forward f r).limits ≡ r.limits
@@ -40,7 +34,7 @@ module _ (f : Standing → Standing) (same : (p : Standing) → (f p).number ≡
   standing-mapped [] = refl
   standing-mapped (x ∷ xs) = ap (λ n. n ∷ Progress.numbers_of (map f xs)) (same x) ∙ ap (λ ns. x.number ∷ ns) (standing-mapped xs)
 
-module _ (t : Transmission) (r : Reception) (ps : List Standing) (a : IsAligned t r ps) where
+module _ {t : Transmission} {r : Reception} {ps : List Standing} (a : IsAligned t r ps) where
   pub alike : Alike t.streams r.streams ps
   alike = record { numbers = a.receives; progresses = a.progresses }
 

@@ -1,36 +1,20 @@
 -- What changes of the sender and of the progress make of a link's sides, and what is told of a stream by its number.
-use Rattle.std.proofs.Common.{◌≡◌, ℕ, zero, suc, ◌+◌, ◌-◌, ◌<◌, List, [], ◌∷◌, length, map, set, Bool, true, false, Option, Some, None, Result, Ok, Err, inl}
-use Rattle.std.proofs.Common.{inr, refl, ap, sym, ◌∙◌, arith, subst}
-use Rattle.std.specs.Prelude.{◌⊎◌, slice_index_or, find, if◌then◌else◌, option_map, is_some, OnOk, OnErr, IfErr, IfSome}
-use Rattle.sctp_list_lemmas.specs.Lists.{change_where}
-use Rattle.sctp_list_lemmas.proofs.Cases.{some-same}
-use Rattle.sctp_data.specs.PayloadTypes.{is_ordered}
-use Rattle.sctp_data.specs.SelectiveAck.{Sack}
-use Rattle.sctp_data.specs.declared.chunk.chunk_payload_data.ChunkPayloadData.{ChunkPayloadData}
-use Rattle.sctp_data.specs.declared.chunk.chunk_payload_data.PayloadProtocolIdentifier.{PayloadProtocolIdentifier}
-use Rattle.sctp_data.specs.declared.chunk.chunk_payload_data.ReliabilityType.{ReliabilityType}
-use Rattle.sctp_outbound.specs.outbound_queue.OutboundQueue.{with_message, expired_of}
-use Rattle.sctp_stream.specs.declared.stream.DataChannelStats.{DataChannelStats}
-use Rattle.sctp_stream.specs.declared.stream.StreamState.{StreamState}
-use Rattle.sctp_receiver.specs.declared.receiver.inbound_streams.InboundStream.{InboundStream}
+use Rattle.sctp_link.proofs.Names.{◌≡◌, ℕ, ◌+◌, ◌-◌, ◌<◌, List, [], ◌∷◌, length, set, Bool, true, false, Option, Some, None, Result, Ok, Err, inl, inr, refl}
+use Rattle.sctp_link.proofs.Names.{ap, sym, ◌∙◌, subst, ◌⊎◌, slice_index_or, find, if◌then◌else◌, option_map, is_some, OnOk, OnErr, IfErr, IfSome, change_where}
+use Rattle.sctp_link.proofs.Names.{some-same, is_ordered, Sack, ChunkPayloadData, PayloadProtocolIdentifier, ReliabilityType, with_message, expired_of}
+use Rattle.sctp_link.proofs.Names.{DataChannelStats, StreamState, InboundStream, Reception, Released, OutOfMemory, Flight, with_queue, after_sack, released_by}
+use Rattle.sctp_link.proofs.Names.{fragments_with_mode, Transmission, Standing, Written, IsApart, OpenStream, join_each, number, has_number, stream_numbers}
+use Rattle.sctp_link.proofs.Names.{on_state, after_releases, stats_in, both_ways, written_of, wrote_to, read_recorded, Sides, IsAligned, stream_in, on_stream}
+use Rattle.sctp_link.proofs.Names.{sack_taken, written_on, expired_unsent, sides}
+use Rattle.sctp_refinement.proofs.Lists.{none-changed, twice, same-at}
 use Rattle.sctp_receiver.specs.Receiver as R
-use Rattle.sctp_receiver.specs.Receiver.{Reception}
-use Rattle.sctp_sender.specs.declared.sender.flight.Released.{Released}
 use Rattle.sctp_sender.specs.declared.sender.refusal.SenderRefusal.{SenderRefusal}
-use Rattle.sctp_sender.specs.declared.sender.refusal.SenderRefusal.TheVariants.{StreamUnknown, OutOfMemory}
-use Rattle.sctp_sender.specs.Flight.{Flight, with_queue, after_sack, released_by}
+use Rattle.sctp_sender.specs.declared.sender.refusal.SenderRefusal.TheVariants.{StreamUnknown}
 use Rattle.sctp_sender.specs.Keeping.{kept_after}
 use Rattle.sctp_sender.specs.Outgoing as Outgoing
-use Rattle.sctp_sender.specs.Outgoing.{fragments_with_mode}
 use Rattle.sctp_sender.specs.Sender as S
-use Rattle.sctp_sender.specs.Sender.{Transmission}
 use Rattle.sctp_progress.specs.Progress as Progress
-use Rattle.sctp_progress.specs.Progress.{Standing}
-use Rattle.sctp_link.specs.declared.record.Written.{Written}
-use Rattle.sctp_link.specs.Places.{IsApart}
-use Rattle.sctp_link.specs.Streams.{OpenStream, join_each, number, has_number, stream_numbers, on_state, after_releases, stats_in, both_ways, written_of}
-use Rattle.sctp_link.specs.Streams.{wrote_to, read_recorded}
-use Rattle.sctp_link.specs.Sides.{Sides, IsAligned, stream_in, on_stream, with_flight, sack_taken, written_on, expired_unsent, sides}
+use Rattle.sctp_link.specs.Sides.{with_flight}
 use Rattle.sctp_link.proofs.sides.Joined.{found-progress, state-changed, progress-changed}
 use Rattle.sctp_link.proofs.sides.Aligned.{alike, numbers-are, state-in, inbound-in, with-sender, with-progress, standing-changed}
 use Rattle.sctp_link.proofs.upkeep.Apart.{number-found}
@@ -59,16 +43,6 @@ pub released-stays : (rs : List Released) (ss : List StreamState) → Outgoing.n
 released-stays [] ss = refl
 released-stays (r ∷ rs) ss = released-stays rs (change_where (Outgoing.has_number r.stream) (Outgoing.less_by r.bytes) ss)
     ∙ stays (Outgoing.less_by r.bytes) (λ s. refl) (Outgoing.has_number r.stream) ss
-
--- none is changed where none is found
-pub none-changed : {X : Type 0} (p : X → Bool) (f : X → X) (xs : List X) → is_some (find p xs) ≡ false → change_where p f xs ≡ xs
-none-changed p f [] none = refl
-none-changed p f (x ∷ xs) none = by (p x) none (none-changed p f xs)
-  where
-    by : (b : Bool) → is_some (if b then Some x else find p xs) ≡ false → (is_some (find p xs) ≡ false → change_where p f xs ≡ xs)
-        → (if b then f x else x) ∷ change_where p f xs ≡ x ∷ xs
-    by true e rest = absurd (cc)
-    by false e rest = ap (λ ys. x ∷ ys) (rest e)
 
 pub mode-set : {T : Type 0} (r : Result T SenderRefusal) (s : ℕ) (unordered : Bool) (reliability : ReliabilityType) (value : ℕ) (old new : Transmission)
     → OnOk r (new ≡ S.with_mode_on s unordered reliability value old) → IfErr r (λ e. (e ≡ StreamUnknown) × (S.is_open s old ≡ false)) → OnErr r (new ≡ old)
@@ -106,25 +80,6 @@ both-answered (Some l) x y sent read e f sends reads =
     let r : read ≡ l.inbound.stats = cc in
     ap (λ z. Some (both_ways z read)) s ∙ ap (λ z. Some (both_ways l.state.stats z)) r
 
-same-at : {A B : Type 0} (f : A → ℕ) (g : B → ℕ) (xs : List A) (ys : List B) (k : ℕ) (d : A) (e : B) → map f xs ≡ map g ys → k < length xs
-    → f (slice_index_or xs k d) ≡ g (slice_index_or ys k e)
-same-at f g [] ys k d e same lt = absurd (omega (arith, lt))
-same-at f g (x ∷ xs) [] k d e same lt = cc
-same-at f g (x ∷ xs) (y ∷ ys) zero d e same lt = cc
-same-at f g (x ∷ xs) (y ∷ ys) (suc k) d e same lt = let h : map f xs ≡ map g ys = cc in same-at f g xs ys k d e h (omega (arith, lt))
-
--- one change after another
-pub twice : {X : Type 0} (p : X → Bool) (f g : X → X) → ((x : X) → p (f x) ≡ p x) → (xs : List X)
-    → change_where p g (change_where p f xs) ≡ change_where p (λ x. g (f x)) xs
-twice p f g same [] = refl
-twice p f g same (x ∷ xs) = ap (λ y. y ∷ change_where p g (change_where p f xs)) (by (p x) refl (same x))
-    ∙ ap (λ ys. (if p x then g (f x) else x) ∷ ys) (twice p f g same xs)
-  where
-    by : (b : Bool) → p x ≡ b → p (f x) ≡ b
-        → (if p (if b then f x else x) then g (if b then f x else x) else (if b then f x else x)) ≡ (if b then g (f x) else x)
-    by true e h = ap (λ c. if c then g (f x) else f x) h
-    by false e h = ap (λ c. if c then g x else x) e
-
 -- changes that are the same for the one stream with a number
 pub same-found : (s : ℕ) (ls : List OpenStream) (l : OpenStream) → IsApart (stream_numbers ls) → find (has_number s) ls ≡ Some l
     → (f g : OpenStream → OpenStream) → f l ≡ g l → change_where (has_number s) f ls ≡ change_where (has_number s) g ls
@@ -159,13 +114,13 @@ expired-keeps : (unordered : Bool) (bytes : ℕ) (l : StreamState) → (Outgoing
 expired-keeps true bytes l = refl
 expired-keeps false bytes l = refl
 
-module _ (t : Transmission) (r : Reception) (ps : List Standing) (a : IsAligned t r ps) where
+module _ {t : Transmission} {r : Reception} {ps : List Standing} (a : IsAligned t r ps) where
   -- ## The sender changes
 
   module _ (n : ℕ) (f : StreamState → StreamState) (g : Flight) (x : Transmission)
       (e : x ≡ (let y : Transmission = record t { streams = change_where (Outgoing.has_number n) f t.streams; flight = g } in y)) where
     pub on-aligned : ((s : StreamState) → (f s).stream_identifier ≡ s.stream_identifier) → IsAligned x r ps
-    on-aligned same = with-sender t r ps a x (ap (λ (y : Transmission). Outgoing.numbers_of y.streams) e ∙ stays f same (Outgoing.has_number n) t.streams)
+    on-aligned same = with-sender a x (ap (λ (y : Transmission). Outgoing.numbers_of y.streams) e ∙ stays f same (Outgoing.has_number n) t.streams)
         (ap (λ (y : Transmission). y.max_message_size) e) (ap (λ (y : Transmission). y.kept) e)
 
     pub on-sides : sides x r ps ≡ with_flight g (on_stream n (on_state f) (sides t r ps))
@@ -173,12 +128,12 @@ module _ (t : Transmission) (r : Reception) (ps : List Standing) (a : IsAligned 
         ∙ ap (λ ls. let y : Sides = record (sides t r ps) { streams = ls; flight = g } in y) (state-changed n f t.streams r.streams ps)
 
   pub flight-aligned : (x : Transmission) (g : Flight) → x ≡ S.with_flight g t → IsAligned x r ps
-  flight-aligned x g e = with-sender t r ps a x (ap (λ (y : Transmission). Outgoing.numbers_of y.streams) e) (ap (λ (y : Transmission). y.max_message_size) e)
+  flight-aligned x g e = with-sender a x (ap (λ (y : Transmission). Outgoing.numbers_of y.streams) e) (ap (λ (y : Transmission). y.max_message_size) e)
       (ap (λ (y : Transmission). y.kept) e)
 
   module _ (s : Sack) (x : Transmission) (e : x ≡ S.after_acked s t) where
     pub acked-aligned : IsAligned x r ps
-    acked-aligned = with-sender t r ps a x (ap (λ (y : Transmission). Outgoing.numbers_of y.streams) e ∙ released-stays (released_by s t.flight) t.streams)
+    acked-aligned = with-sender a x (ap (λ (y : Transmission). Outgoing.numbers_of y.streams) e ∙ released-stays (released_by s t.flight) t.streams)
         (ap (λ (y : Transmission). y.max_message_size) e)
         (ap (λ (y : Transmission). y.kept) e ∙ ap (option_map (kept_after s t.flight)) a.forgets ∙ sym a.forgets)
 
@@ -204,20 +159,19 @@ module _ (t : Transmission) (r : Reception) (ps : List Standing) (a : IsAligned 
 
   pub state-answered : {B : Type 0} (g : StreamState → B) (s : ℕ) (o : Option B) → o ≡ option_map g (S.stream_of s t)
       → o ≡ option_map (λ l. g l.state) (stream_in s (sides t r ps))
-  state-answered g s o e = e ∙ ap (option_map g) (sym (state-in t r ps a s)) ∙ of-state g (stream_in s (sides t r ps))
+  state-answered g s o e = e ∙ ap (option_map g) (sym (state-in a s)) ∙ of-state g (stream_in s (sides t r ps))
 
   pub inbound-answered : {B : Type 0} (g : InboundStream → B) (s : ℕ) (o : Option B) → o ≡ option_map g (R.stream_of s r)
       → o ≡ option_map (λ l. g l.inbound) (stream_in s (sides t r ps))
-  inbound-answered g s o e = e ∙ ap (option_map g) (sym (inbound-in t r ps a s)) ∙ of-inbound g (stream_in s (sides t r ps))
+  inbound-answered g s o e = e ∙ ap (option_map g) (sym (inbound-in a s)) ∙ of-inbound g (stream_in s (sides t r ps))
 
   pub next-answered : (s : ℕ) (o : Option ℕ) → o ≡ option_map (λ p. p.next) (find (Progress.has_number s) ps)
       → o ≡ option_map (λ l. l.next) (stream_in s (sides t r ps))
-  next-answered s o e = e
-      ∙ sym (found-progress (λ (l : OpenStream). l.next) (λ (p : Standing). p.next) (λ s i p. refl) s t.streams r.streams ps (alike t r ps a))
+  next-answered s o e = e ∙ sym (found-progress (λ (l : OpenStream). l.next) (λ (p : Standing). p.next) (λ s i p. refl) s t.streams r.streams ps (alike a))
 
   pub ordered-answered : (s : ℕ) (l : OpenStream) → stream_in s (sides t r ps) ≡ Some l → Progress.ordered_in (find (Progress.has_number s) ps) ≡ l.ordered
   ordered-answered s l e = by (find (Progress.has_number s) ps)
-      (sym (found-progress (λ (l : OpenStream). l.ordered) (λ (p : Standing). p.ordered) (λ s i p. refl) s t.streams r.streams ps (alike t r ps a))
+      (sym (found-progress (λ (l : OpenStream). l.ordered) (λ (p : Standing). p.ordered) (λ s i p. refl) s t.streams r.streams ps (alike a))
       ∙ ap (option_map (λ (l : OpenStream). l.ordered)) e)
     where
       by : (o : Option Standing) → option_map (λ p. p.ordered) o ≡ Some l.ordered → Progress.ordered_in o ≡ l.ordered
@@ -226,7 +180,7 @@ module _ (t : Transmission) (r : Reception) (ps : List Standing) (a : IsAligned 
 
   pub open-answered : (s : ℕ) → is_some (find (Progress.has_number s) ps) ≡ is_some (stream_in s (sides t r ps))
   open-answered s = mapped (λ (p : Standing). p.next) (find (Progress.has_number s) ps)
-      ∙ ap is_some (sym (found-progress (λ (l : OpenStream). l.next) (λ (p : Standing). p.next) (λ s i p. refl) s t.streams r.streams ps (alike t r ps a)))
+      ∙ ap is_some (sym (found-progress (λ (l : OpenStream). l.next) (λ (p : Standing). p.next) (λ s i p. refl) s t.streams r.streams ps (alike a)))
       ∙ sym (mapped (λ (l : OpenStream). l.next) (stream_in s (sides t r ps)))
     where
       mapped : {A B : Type 0} (g : A → B) (o : Option A) → is_some o ≡ is_some (option_map g o)
@@ -235,13 +189,13 @@ module _ (t : Transmission) (r : Reception) (ps : List Standing) (a : IsAligned 
 
   pub number-answered : (k : ℕ) (d : Standing) (e : OpenStream) → k < length ps
       → (slice_index_or ps k d).number ≡ (slice_index_or (join_each t.streams r.streams ps) k e).state.stream_identifier
-  number-answered k d e lt = same-at Progress.number number ps (join_each t.streams r.streams ps) k d e (sym a.progresses ∙ sym (numbers-are t r ps a)) lt
+  number-answered k d e lt = same-at Progress.number number ps (join_each t.streams r.streams ps) k d e (sym a.progresses ∙ sym (numbers-are a)) lt
 
   -- ## A write
 
   module _ (s : ℕ) (l : OpenStream) (is : stream_in s (sides t r ps) ≡ Some l) where
     pub sender-has : S.stream_of s t ≡ Some l.state
-    sender-has = sym (state-in t r ps a s) ∙ ap (option_map (λ (z : OpenStream). z.state)) is
+    sender-has = sym (state-in a s) ∙ ap (option_map (λ (z : OpenStream). z.state)) is
 
     pub state-is : (z : StreamState) → Some z ≡ S.stream_of s t → z ≡ l.state
     state-is z e = some-same (e ∙ sender-has)
@@ -254,7 +208,7 @@ module _ (t : Transmission) (r : Reception) (ps : List Standing) (a : IsAligned 
       wrote-aligned = on-aligned s (Outgoing.wrote ppi bytes) flight x e (λ z. refl)
 
       pub written-aligned : (ordered : Bool) → IsAligned x r (change_where (Progress.has_number s) (Progress.with_write ordered) ps)
-      written-aligned ordered = with-progress x r ps wrote-aligned _ (standing-changed (Progress.with_write ordered) (λ p. refl) (Progress.has_number s) ps)
+      written-aligned ordered = with-progress wrote-aligned _ (standing-changed (Progress.with_write ordered) (λ p. refl) (Progress.has_number s) ps)
 
       pub written-sides : (ordered : Bool) → ordered ≡ is_ordered l.state.unordered ppi → IsApart (stream_numbers (join_each t.streams r.streams ps))
           → sides x r (change_where (Progress.has_number s) (Progress.with_write ordered) ps) ≡ written_on l s ppi bytes (sides t r ps)
@@ -279,7 +233,7 @@ module _ (t : Transmission) (r : Reception) (ps : List Standing) (a : IsAligned 
 
     pub expired-aligned : IsAligned x r (change_where (Progress.has_number c.stream_identifier) (Progress.with_expiry c.unordered) ps)
     expired-aligned =
-        with-progress x r ps expire-aligned _ (standing-changed (Progress.with_expiry c.unordered) (λ p. refl) (Progress.has_number c.stream_identifier) ps)
+        with-progress expire-aligned _ (standing-changed (Progress.with_expiry c.unordered) (λ p. refl) (Progress.has_number c.stream_identifier) ps)
 
     pub expired-sides : sides x r (change_where (Progress.has_number c.stream_identifier) (Progress.with_expiry c.unordered) ps)
         ≡ expired_unsent c bytes (sides t r ps)

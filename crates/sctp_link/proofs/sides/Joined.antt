@@ -1,15 +1,11 @@
 -- What the sender has of each stream, what the receiver has, and its progress, joined: changes of a part are changes of the whole.
-use Rattle.std.proofs.Common.{◌≡◌, ℕ, suc, Bool, true, false, List, [], ◌∷◌, ◌++◌, length, map, Some, refl, ap, sym, ◌∙◌}
-use Rattle.std.specs.Prelude.{◌==◌, if◌then◌else◌, option_map}
+use Rattle.sctp_link.proofs.Names.{◌≡◌, ℕ, suc, Bool, true, false, List, [], ◌∷◌, ◌++◌, length, map, Some, refl, ap, sym, ◌∙◌, ◌==◌, if◌then◌else◌, option_map}
+use Rattle.sctp_link.proofs.Names.{change_where, StreamState, InboundStream, Standing, OpenStream, join, join_each, has_number, stream_numbers, on_state}
+use Rattle.sctp_link.proofs.Names.{on_inbound}
 use Rattle.std.specs.List.{find}
-use Rattle.sctp_list_lemmas.specs.Lists.{change_where}
-use Rattle.sctp_stream.specs.declared.stream.StreamState.{StreamState}
-use Rattle.sctp_receiver.specs.declared.receiver.inbound_streams.InboundStream.{InboundStream}
 use Rattle.sctp_receiver.specs.Inbound as Inbound
 use Rattle.sctp_sender.specs.Outgoing as Outgoing
 use Rattle.sctp_progress.specs.Progress as Progress
-use Rattle.sctp_progress.specs.Progress.{Standing}
-use Rattle.sctp_link.specs.Streams.{OpenStream, join, join_each, has_number, stream_numbers, on_state, on_inbound}
 
 -- one list for each part, with the same streams in the same order
 pub record Alike (ss : List StreamState) (is : List InboundStream) (ps : List Standing) : Type 0 where

@@ -1,21 +1,13 @@
 -- A stream is opened at both ends, or the opening is undone.
-use Rattle.std.proofs.Common.{◌≡◌, ℕ, List, [], ◌∷◌, ◌++◌, Some, None, Result, Ok, Err, Bool, true, false, Option, refl, ap, sym, ◌∙◌}
-use Rattle.std.specs.Prelude.{find, is_some, is_err, option_map, OnOk, OnErr, IsOk}
-use Rattle.std.proofs.lemmas.List.{map-append}
-use Rattle.sctp_list_lemmas.proofs.Cases.{same-yes}
-use Rattle.sctp_data.specs.declared.chunk.chunk_payload_data.PayloadProtocolIdentifier.TheVariants.{Unknown}
+use Rattle.sctp_link.proofs.Names.{◌≡◌, ℕ, List, [], ◌∷◌, ◌++◌, None, Result, Ok, Err, Bool, true, false, ap, sym, ◌∙◌, find, is_some, is_err, option_map, OnOk}
+use Rattle.sctp_link.proofs.Names.{OnErr, IsOk, map-append, same-yes, Unknown, taken-back, Reception, Transmission, Standing, OpenStream, join_each}
+use Rattle.sctp_link.proofs.Names.{new_open_stream, Sides, IsAligned, stream_in, opened_on, sides, none-of}
 use Rattle.sctp_stream.specs.Stream.{new_stream}
-use Rattle.sctp_stream.proofs.StreamPlaces.{taken-back}
 use Rattle.sctp_receiver.specs.Inbound as Inbound
 use Rattle.sctp_receiver.specs.Receiver as R
-use Rattle.sctp_receiver.specs.Receiver.{Reception}
 use Rattle.sctp_sender.specs.Outgoing as Outgoing
 use Rattle.sctp_sender.specs.Sender as S
-use Rattle.sctp_sender.specs.Sender.{Transmission}
 use Rattle.sctp_progress.specs.Progress as Progress
-use Rattle.sctp_progress.specs.Progress.{Standing}
-use Rattle.sctp_link.specs.Streams.{OpenStream, join_each, has_number, new_open_stream}
-use Rattle.sctp_link.specs.Sides.{Sides, IsAligned, stream_in, opened_on, sides}
 use Rattle.sctp_link.proofs.sides.Joined.{joined-more}
 use Rattle.sctp_link.proofs.sides.Aligned.{alike, state-in, inbound-in}
 use Rattle.sctp_link.proofs.sides.Changes.{open-answered}
@@ -32,19 +24,15 @@ pub not-err : {T E : Type 0} (r : Result T E) → IsOk r → is_err r ≡ true �
 not-err (Ok x) ok e = let no : false ≡ true = e in cc
 not-err (Err x) ok e = let no : false ≡ true = ok in cc
 
-none-of : {A : Type 0} (o : Option A) → is_some o ≡ false → o ≡ None
-none-of None e = refl
-none-of (Some x) e = cc
-
-module _ (t : Transmission) (r : Reception) (ps : List Standing) (a : IsAligned t r ps) (s : ℕ) (none : stream_in s (sides t r ps) ≡ None) where
+module _ {t : Transmission} {r : Reception} {ps : List Standing} (a : IsAligned t r ps) (s : ℕ) (none : stream_in s (sides t r ps) ≡ None) where
   pub no-progress : find (Progress.has_number s) ps ≡ None
-  no-progress = none-of (find (Progress.has_number s) ps) (open-answered t r ps a s ∙ ap is_some none)
+  no-progress = none-of (find (Progress.has_number s) ps) (open-answered a s ∙ ap is_some none)
 
   no-state : find (Outgoing.has_number s) t.streams ≡ None
-  no-state = sym (state-in t r ps a s) ∙ ap (λ o. option_map (λ (l : OpenStream). l.state) o) none
+  no-state = sym (state-in a s) ∙ ap (λ o. option_map (λ (l : OpenStream). l.state) o) none
 
   no-inbound : find (Inbound.has_number s) r.streams ≡ None
-  no-inbound = sym (inbound-in t r ps a s) ∙ ap (λ o. option_map (λ (l : OpenStream). l.inbound) o) none
+  no-inbound = sym (inbound-in a s) ∙ ap (λ o. option_map (λ (l : OpenStream). l.inbound) o) none
 
   pub sender-undone : (x : Transmission) → x ≡ S.close_stream s (S.open_stream s t) → x ≡ t
   sender-undone x e =
@@ -63,9 +51,8 @@ module _ (t : Transmission) (r : Reception) (ps : List Standing) (a : IsAligned 
     pub opened-sides : sides x y qs ≡ opened_on s (sides t r ps)
     opened-sides =
         ap (λ z. sides z y qs) sent ∙ ap (λ z. sides (S.open_stream s t) z qs) received ∙ ap (sides (S.open_stream s t) (R.open_stream s r)) put
-        ∙ ap (λ ls. let z : Sides = record (sides t r ps) { streams = ls } in z)
-        (joined-more (new_stream s t.fragment_size t.max_message_size Unknown) (Inbound.new_stream s r.max_message_size)
-        (Progress.fresh s) t.streams r.streams ps (alike t r ps a)
+        ∙ ap (λ ls. let z : Sides = record (sides t r ps) { streams = ls } in z) (joined-more (new_stream s t.fragment_size t.max_message_size Unknown)
+        (Inbound.new_stream s r.max_message_size) (Progress.fresh s) t.streams r.streams ps (alike a)
         ∙ ap (λ m. let z : OpenStream = record (new_open_stream s t.fragment_size m) { state = new_stream s t.fragment_size t.max_message_size Unknown } in
         join_each t.streams r.streams ps ++ z ∷ []) a.size)
 

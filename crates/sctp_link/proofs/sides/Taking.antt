@@ -1,30 +1,19 @@
 -- DATA chunks that are taken, one after another: their streams' queues, and the numbers of the messages that they complete.
-use Rattle.std.proofs.Common.{◌≡◌, ℕ, zero, suc, ◌≤◌, List, [], ◌∷◌, ◌++◌, length, take, Bool, true, false, Option, Some, None, refl, ap, sym, ◌∙◌, subst}
-use Rattle.std.proofs.Common.{arith}
-use Rattle.std.specs.Prelude.{◌&&◌, if◌then◌else◌, option_map, slice_get}
-use Rattle.sctp_list_lemmas.specs.Lists.{change_where}
-use Rattle.sctp_list_lemmas.proofs.Cases.{some-same}
-use Rattle.sctp_data.specs.declared.chunk.chunk_payload_data.ChunkPayloadData.{ChunkPayloadData}
-use Rattle.sctp_reassembly.specs.reassembly_queue.ReassemblyQueue.{ReassemblyState, PushesUnordered, after_ordered_push}
-use Rattle.sctp_receiver.specs.declared.receiver.arrival.Arrival.{Arrival}
-use Rattle.sctp_receiver.specs.declared.receiver.arrival.Arrival.TheVariants.{New, Repeat}
-use Rattle.sctp_receiver.specs.declared.receiver.inbound_streams.InboundStream.{InboundStream}
-use Rattle.sctp_receiver.specs.declared.receiver.refusal.ReceiverRefusal.{ReceiverRefusal}
-use Rattle.sctp_receiver.specs.Inbound.{Pushes, PushesAs, with_queue}
+use Rattle.sctp_link.proofs.Names.{◌≡◌, ℕ, zero, suc, ◌≤◌, List, [], ◌∷◌, ◌++◌, length, take, Bool, true, false, Option, Some, None, refl, ap, sym, ◌∙◌, subst}
+use Rattle.sctp_link.proofs.Names.{arith, ◌&&◌, if◌then◌else◌, option_map, slice_get, change_where, some-same, ChunkPayloadData, ReassemblyState}
+use Rattle.sctp_link.proofs.Names.{PushesUnordered, after_ordered_push, Arrival, New, Repeat, InboundStream, ReceiverRefusal, Pushes, PushesAs, Reception}
+use Rattle.sctp_link.proofs.Names.{is_answered_complete, data_refusal, Transmission, Standing, after_one, after_each, IsApart, OpenStream, join_each}
+use Rattle.sctp_link.proofs.Names.{has_number, stream_numbers, on_inbound, Sides, IsAligned, stream_in, on_stream, Takes, TakesEach, CanTake, sides}
+use Rattle.sctp_refinement.proofs.Lists.{twice, unchanged}
+use Rattle.sctp_receiver.specs.Inbound.{with_queue}
 use Rattle.sctp_receiver.specs.Receiver as R
-use Rattle.sctp_receiver.specs.Receiver.{Reception, is_answered_complete, data_refusal}
 use Rattle.sctp_receiver.proofs.DataEach.{takes-keeps}
 use Rattle.sctp_sender.specs.Outgoing as Outgoing
-use Rattle.sctp_sender.specs.Sender.{Transmission}
 use Rattle.sctp_progress.specs.Progress as Progress
-use Rattle.sctp_progress.specs.Progress.{Standing, after_one, after_each}
 use Rattle.sctp_progress.proofs.Completing.{one-numbers, each-numbers}
-use Rattle.sctp_link.specs.Places.{IsApart}
-use Rattle.sctp_link.specs.Streams.{OpenStream, join_each, has_number, stream_numbers, on_inbound}
-use Rattle.sctp_link.specs.Sides.{Sides, IsAligned, stream_in, on_stream, Takes, TakesEach, CanTake, sides}
 use Rattle.sctp_link.proofs.sides.Joined.{progress-changed}
 use Rattle.sctp_link.proofs.sides.Aligned.{numbers-are, reception-is, inbound-in, inbound-on, with-receiver, with-progress}
-use Rattle.sctp_link.proofs.sides.Changes.{twice, same-found}
+use Rattle.sctp_link.proofs.sides.Changes.{same-found}
 
 -- ## Whether a message became complete
 
@@ -37,14 +26,8 @@ answered : (c : ChunkPayloadData) (complete : Bool) (old new : ReassemblyState) 
 answered c complete old new p = by c.unordered refl p
   where
     by : (u : Bool) → c.unordered ≡ u → PushesAs u c complete old new → Answered c complete old new
-    by false e q = record {
-      ordered = λ _. q.0;
-      unordered = λ z. let no : false ≡ true = sym e ∙ z in absurd (cc);
-    }
-    by true e q = record {
-      ordered = λ z. let no : true ≡ false = sym e ∙ z in absurd (cc);
-      unordered = λ _. q;
-    }
+    by false e q = record { ordered = λ _. q.0; unordered = λ z. let no : false ≡ true = sym e ∙ z in absurd (cc) }
+    by true e q = record { ordered = λ z. let no : true ≡ false = sym e ∙ z in absurd (cc); unordered = λ _. q }
 
 -- ## A chunk
 
@@ -52,11 +35,11 @@ takes-limits : (c : ChunkPayloadData) (b : Arrival) (old new : Reception) → R.
 takes-limits c (New complete) old new t = ap (λ (r : Reception). r.limits) t.after
 takes-limits c Repeat old new t = ap (λ (r : Reception). r.limits) t
 
-pub taken-aligned : (t : Transmission) (r : Reception) (ps : List Standing) → IsAligned t r ps → (c : ChunkPayloadData) (n : ℕ) (b : Arrival) (x : Reception)
+pub taken-aligned : {t : Transmission} {r : Reception} {ps : List Standing} → IsAligned t r ps → (c : ChunkPayloadData) (n : ℕ) (b : Arrival) (x : Reception)
     → R.Takes c b r x → IsAligned t x (after_one c n b ps)
-taken-aligned t r ps a c n b x h =
+taken-aligned {r} {ps} a c n b x h =
     let k = takes-keeps c b r x h in
-    with-progress t x ps (with-receiver t r ps a x k.0 k.1 (takes-limits c b r x h)) _ (one-numbers c n b ps)
+    with-progress (with-receiver a x k.0 k.1 (takes-limits c b r x h)) _ (one-numbers c n b ps)
 
 -- the stream that the receiver found
 found-of : (o : Option OpenStream) (i : InboundStream) → option_map (λ l. l.inbound) o ≡ Some i → (l : OpenStream) × ((o ≡ Some l) × (l.inbound ≡ i))
@@ -67,20 +50,12 @@ found-of (Some l) i e = (l, (refl, some-same e))
 abbrev completed : Bool → ℕ → OpenStream → OpenStream
 completed b n l = record l { complete = if b then l.complete ++ n ∷ [] else l.complete }
 
-unchanged : {A : Type 0} (p : A → Bool) (f : A → A) → ((x : A) → f x ≡ x) → (xs : List A) → change_where p f xs ≡ xs
-unchanged p f same [] = refl
-unchanged p f same (x ∷ xs) = ap (λ y. y ∷ change_where p f xs) (by (p x)) ∙ ap (λ ys. x ∷ ys) (unchanged p f same xs)
-  where
-    by : (b : Bool) → (if b then f x else x) ≡ x
-    by true = same x
-    by false = refl
-
-module _ (t : Transmission) (r : Reception) (ps : List Standing) (a : IsAligned t r ps) (apart : IsApart (Outgoing.numbers_of t.streams)) where
+module _ {t : Transmission} {r : Reception} {ps : List Standing} (a : IsAligned t r ps) (apart : IsApart (Outgoing.numbers_of t.streams)) where
   abbrev ls : List OpenStream
   ls = join_each t.streams r.streams ps
 
   pub parts : IsApart (stream_numbers ls)
-  parts = subst IsApart (sym (numbers-are t r ps a)) apart
+  parts = subst IsApart (sym (numbers-are a)) apart
 
   after-joined : (s n : ℕ) (b : Bool) → join_each t.streams r.streams (if b then change_where (Progress.has_number s) (Progress.with_complete n) ps else ps)
       ≡ change_where (has_number s) (completed b n) ls
@@ -88,26 +63,24 @@ module _ (t : Transmission) (r : Reception) (ps : List Standing) (a : IsAligned 
   after-joined s n false = sym (unchanged (has_number s) (completed false n) (λ x. refl) ls)
 
 -- one is taken
-pub takes-one : (t : Transmission) (r : Reception) (ps : List Standing) → IsAligned t r ps → IsApart (Outgoing.numbers_of t.streams)
+pub takes-one : {t : Transmission} {r : Reception} {ps : List Standing} → IsAligned t r ps → IsApart (Outgoing.numbers_of t.streams)
     → (c : ChunkPayloadData) (n : ℕ) (b : Arrival) (x : Reception) → R.Takes c b r x → Takes c n b (sides t r ps) (sides t x (after_one c n b ps))
-takes-one t r ps a apart c n Repeat x h =
-    ap (λ z. sides t z ps) h
-    ∙ ap (λ l. let z : Reception = record r { duplicates = R.noted_by l c.tsn r.duplicates } in sides t z ps) a.unlimited
-takes-one t r ps a apart c n (New b) x h =
+takes-one {t} {r} {ps} a apart c n Repeat x h =
+    ap (λ z. sides t z ps) h ∙ ap (λ l. let z : Reception = record r { duplicates = R.noted_by l c.tsn r.duplicates } in sides t z ps) a.unlimited
+takes-one {t} {r} {ps} a apart c n (New b) x h =
     let s = c.stream_identifier in
     let gone = b && c.unordered in
     let old = join_each t.streams r.streams ps in
-    let there = found-of (stream_in s (sides t r ps)) h.stream (inbound-in t r ps a s ∙ h.found) in
+    let there = found-of (stream_in s (sides t r ps)) h.stream (inbound-in a s ∙ h.found) in
     let l = there.0 in
     let kept : OpenStream = record l { inbound = with_queue h.queue l.inbound; complete = if gone then l.complete ++ n ∷ [] else l.complete } in
     let k = takes-keeps c (New b) r x h in
-    let mid = with-receiver t r ps a x k.0 k.1 (takes-limits c (New b) r x h) in
+    let mid = with-receiver a x k.0 k.1 (takes-limits c (New b) r x h) in
     let pushed = answered c b l.inbound.queue h.queue (subst (λ (i : InboundStream). Pushes c b i.queue h.queue) (sym there.1.1) h.pushed) in
-    let streams : join_each t.streams x.streams (after_one c n (New b) ps) ≡ change_where (has_number s) (λ _. kept) old =
-    after-joined t x ps mid apart s n gone
+    let streams : join_each t.streams x.streams (after_one c n (New b) ps) ≡ change_where (has_number s) (λ _. kept) old = after-joined mid apart s n gone
     ∙ ap (change_where (has_number s) (completed gone n)) (ap (λ (z : Reception). join_each t.streams z.streams ps) h.after
-    ∙ inbound-on t r ps a s (with_queue h.queue)) ∙ twice (has_number s) (on_inbound (with_queue h.queue)) (completed gone n) (λ m. refl) old
-    ∙ same-found s old l (parts t r ps a apart) there.1.0 (λ m. completed gone n (on_inbound (with_queue h.queue) m)) (λ _. kept) refl in
+    ∙ inbound-on a s (with_queue h.queue)) ∙ twice (has_number s) (on_inbound (with_queue h.queue)) (completed gone n) (λ m. refl) old
+    ∙ same-found s old l (parts a apart) there.1.0 (λ m. completed gone n (on_inbound (with_queue h.queue) m)) (λ _. kept) refl in
     record {
       stream = l;
       found = there.1.0;
@@ -121,9 +94,9 @@ takes-one t r ps a apart c n (New b) x h =
 
 -- ## Several, one after another
 
-pub each-aligned : (t : Transmission) (r s : Reception) (ps : List Standing) (cs : List ChunkPayloadData) (ns : List ℕ) (bs : List Arrival) → IsAligned t r ps
-    → R.TakesEachBy data_refusal cs bs r s → IsAligned t s (after_each cs ns bs ps)
-each-aligned t r s ps cs ns bs a h = with-progress t s ps (received t r s ps cs bs a h) _ (each-numbers cs ns bs ps)
+pub each-aligned : {t : Transmission} {r : Reception} (s : Reception) {ps : List Standing} (cs : List ChunkPayloadData) (ns : List ℕ) (bs : List Arrival)
+    → IsAligned t r ps → R.TakesEachBy data_refusal cs bs r s → IsAligned t s (after_each cs ns bs ps)
+each-aligned {t} {r} s {ps} cs ns bs a h = with-progress (received t r s ps cs bs a h) _ (each-numbers cs ns bs ps)
   where
     received : (t : Transmission) (r s : Reception) (ps : List Standing) (cs : List ChunkPayloadData) (bs : List Arrival) → IsAligned t r ps
         → R.TakesEachBy data_refusal cs bs r s → IsAligned t s ps
@@ -132,41 +105,38 @@ each-aligned t r s ps cs ns bs a h = with-progress t s ps (received t r s ps cs 
     received t r s ps (c ∷ cs) [] a h = absurd h
     received t r s ps (c ∷ cs) (b ∷ bs) a h =
         let k = takes-keeps c b r h.0 h.1.0.taken in
-        received t h.0 s ps cs bs (with-receiver t r ps a h.0 k.0 k.1 (takes-limits c b r h.0 h.1.0.taken)) h.1.1
+        received t h.0 s ps cs bs (with-receiver a h.0 k.0 k.1 (takes-limits c b r h.0 h.1.0.taken)) h.1.1
 
-pub each-taken : (t : Transmission) (r s : Reception) (ps : List Standing) (cs : List ChunkPayloadData) (ns : List ℕ) (bs : List Arrival) → IsAligned t r ps
-    → IsApart (Outgoing.numbers_of t.streams) → length cs ≤ length ns → R.TakesEachBy data_refusal cs bs r s
+pub each-taken : {t : Transmission} {r : Reception} (s : Reception) {ps : List Standing} (cs : List ChunkPayloadData) (ns : List ℕ) (bs : List Arrival)
+    → IsAligned t r ps → IsApart (Outgoing.numbers_of t.streams) → length cs ≤ length ns → R.TakesEachBy data_refusal cs bs r s
     → TakesEach cs ns bs (sides t r ps) (sides t s (after_each cs ns bs ps))
-each-taken t r s ps [] ns [] a apart le h = ap (λ z. sides t z ps) h
-each-taken t r s ps [] ns (b ∷ bs) a apart le h = absurd h
-each-taken t r s ps (c ∷ cs) [] bs a apart le h = absurd (omega (arith, le))
-each-taken t r s ps (c ∷ cs) (n ∷ ns) [] a apart le h = absurd h
-each-taken t r s ps (c ∷ cs) (n ∷ ns) (b ∷ bs) a apart le h = (
+each-taken {t} s {ps} [] ns [] a apart le h = ap (λ z. sides t z ps) h
+each-taken s [] ns (b ∷ bs) a apart le h = absurd h
+each-taken s (c ∷ cs) [] bs a apart le h = absurd (omega (arith, le))
+each-taken s (c ∷ cs) (n ∷ ns) [] a apart le h = absurd h
+each-taken {t} {r} s {ps} (c ∷ cs) (n ∷ ns) (b ∷ bs) a apart le h = (
   sides t h.0 (after_one c n b ps),
   (
-    record {
-      answer = h.1.0.answer ∙ ap (R.arrival_of c.tsn (is_answered_complete b)) (sym (reception-is t r ps a));
-      taken = takes-one t r ps a apart c n b h.0 h.1.0.taken;
-    },
-    each-taken t h.0 s (after_one c n b ps) cs ns bs (taken-aligned t r ps a c n b h.0 h.1.0.taken) apart (omega (arith, le)) h.1.1,
+    record { answer = h.1.0.answer ∙ ap (R.arrival_of c.tsn (is_answered_complete b)) (sym (reception-is a)); taken = takes-one a apart c n b h.0 h.1.0.taken },
+    each-taken {r = h.0} s cs ns bs (taken-aligned a c n b h.0 h.1.0.taken) apart (omega (arith, le)) h.1.1,
   ),
 )
 
 -- where the receiver refuses none, it stops at none
-pub never-stops : (t : Transmission) (r : Reception) (ps : List Standing) (cs : List ChunkPayloadData) (ns : List ℕ) → IsAligned t r ps
+pub never-stops : {t : Transmission} {r : Reception} {ps : List Standing} (cs : List ChunkPayloadData) (ns : List ℕ) → IsAligned t r ps
     → IsApart (Outgoing.numbers_of t.streams) → CanTake cs ns (sides t r ps) → (count : ℕ) (bs : List Arrival) (mid : Reception) (c : ChunkPayloadData)
     (e : ReceiverRefusal) → R.TakesEachBy data_refusal (take count cs) bs r mid → slice_get cs count ≡ Some c → data_refusal c mid ≡ Some e → ⊥
-never-stops t r ps [] ns a apart can count bs mid c e h at why = cc
-never-stops t r ps (d ∷ cs) [] a apart can count bs mid c e h at why = can
-never-stops t r ps (d ∷ cs) (n ∷ ns) a apart can zero [] mid c e h at why =
-    let none : data_refusal d r ≡ None = ap (data_refusal d) (sym (reception-is t r ps a)) ∙ can.0 in
+never-stops [] ns a apart can count bs mid c e h at why = cc
+never-stops (d ∷ cs) [] a apart can count bs mid c e h at why = can
+never-stops {r} (d ∷ cs) (n ∷ ns) a apart can zero [] mid c e h at why =
+    let none : data_refusal d r ≡ None = ap (data_refusal d) (sym (reception-is a)) ∙ can.0 in
     let same : data_refusal c mid ≡ data_refusal d r = ap (λ z. data_refusal z mid) (sym (some-same at)) ∙ ap (data_refusal d) h in
     let no : None ≡ Some e = sym (same ∙ none) ∙ why in
     cc
-never-stops t r ps (d ∷ cs) (n ∷ ns) a apart can zero (b ∷ bs) mid c e h at why = h
-never-stops t r ps (d ∷ cs) (n ∷ ns) a apart can (suc count) [] mid c e h at why = h
-never-stops t r ps (d ∷ cs) (n ∷ ns) a apart can (suc count) (b ∷ bs) mid c e h at why =
-    let answered = h.1.0.answer ∙ ap (R.arrival_of d.tsn (is_answered_complete b)) (sym (reception-is t r ps a)) in
-    let next = subst (λ z. Takes d n z (sides t r ps) (sides t h.0 (after_one d n b ps))) answered (takes-one t r ps a apart d n b h.0 h.1.0.taken) in
-    never-stops t h.0 (after_one d n b ps) cs ns (taken-aligned t r ps a d n b h.0 h.1.0.taken) apart
+never-stops (d ∷ cs) (n ∷ ns) a apart can zero (b ∷ bs) mid c e h at why = h
+never-stops (d ∷ cs) (n ∷ ns) a apart can (suc count) [] mid c e h at why = h
+never-stops {t} {r} {ps} (d ∷ cs) (n ∷ ns) a apart can (suc count) (b ∷ bs) mid c e h at why =
+    let answered = h.1.0.answer ∙ ap (R.arrival_of d.tsn (is_answered_complete b)) (sym (reception-is a)) in
+    let next = subst (λ z. Takes d n z (sides t r ps) (sides t h.0 (after_one d n b ps))) answered (takes-one a apart d n b h.0 h.1.0.taken) in
+    never-stops {r = h.0} cs ns (taken-aligned a d n b h.0 h.1.0.taken) apart
     (can.2 (is_answered_complete b) (sides t h.0 (after_one d n b ps)) next) count bs mid c e h.1.1 at why

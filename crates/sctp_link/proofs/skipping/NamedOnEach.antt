@@ -1,16 +1,8 @@
 -- What a skip names on the open streams of a link, by its messages and by its record.
-use Rattle.std.proofs.Common.{◌≡◌, ℕ, ◌<◌, List, [], length, Some, refl, ap, sym, ◌∙◌}
-use Rattle.std.specs.Prelude.{slice_get, slice_index_or}
-use Rattle.std.proofs.lemmas.List.{get_or_default}
-use Rattle.sctp_model.specs.LinkRecord.{Forward, StreamRecord}
+use Rattle.sctp_link.proofs.Names.{◌≡◌, ℕ, ◌<◌, List, [], length, Some, refl, ap, sym, ◌∙◌, slice_get, slice_index_or, get_or_default, Forward, StreamRecord}
+use Rattle.sctp_link.proofs.Names.{Inside, Named, record_in, state_in, sides_in, IsLinked, IsAligned, named_from, none_named, new_open_stream}
 use Rattle.sctp_progress.specs.Progress.{fresh}
-use Rattle.sctp_link.specs.declared.link.Link.TheInside.{Inside}
-use Rattle.sctp_link.specs.declared.skipped.Named.{Named}
-use Rattle.sctp_link.specs.Fields.{record_in, state_in, sides_in}
-use Rattle.sctp_link.specs.Linked.{IsLinked}
-use Rattle.sctp_link.specs.Sides.{IsAligned}
-use Rattle.sctp_link.specs.Skips.{named_from, none_named, named_in, HasNames}
-use Rattle.sctp_link.specs.Streams.{new_open_stream}
+use Rattle.sctp_link.specs.Skips.{named_in, HasNames}
 use Rattle.sctp_link.proofs.sides.Changes.{number-answered}
 use Rattle.sctp_link.proofs.skipping.SkipComes.{record-at, skips-in, names-are}
 

@@ -1,18 +1,12 @@
 -- What a skip names on each stream, in a table, while one message more is counted in.
-use Rattle.std.proofs.Common.{◌≡◌, ℕ, zero, suc, ◌+◌, ◌<◌, ◌≤◌, Bool, true, false, List, [], ◌∷◌, length, map, Some, refl, ap, sym, ◌∙◌, subst, arith}
-use Rattle.std.specs.Prelude.{◌==◌, ◌&&◌, not, if◌then◌else◌, min, max, slice_get, slice_index_or, slice_set}
-use Rattle.std.specs.List.{filter}
-use Rattle.std.proofs.lemmas.Bool.{ne_eqb}
-use Rattle.sctp_list_lemmas.proofs.Cases.{some-same}
-use Rattle.sctp_list_lemmas.proofs.Getting.{get-beyond, length-mapped}
-use Rattle.sctp_model.specs.Messages.{no_message}
-use Rattle.sctp_model.specs.Receiver.{least, greatest}
+use Rattle.sctp_link.proofs.Names.{◌≡◌, ℕ, zero, suc, ◌+◌, ◌<◌, ◌≤◌, Bool, true, false, List, [], ◌∷◌, length, map, Some, refl, ap, sym, ◌∙◌, arith, ◌==◌, ◌&&◌}
+use Rattle.sctp_link.proofs.Names.{not, if◌then◌else◌, min, max, slice_get, slice_index_or, slice_set, filter, ne_eqb, some-same, length-mapped, no_message}
+use Rattle.sctp_link.proofs.Names.{least, greatest, Standing, Named, Message, message_record, index_in, message_in, is_on, named_from, none_named}
+use Rattle.std.proofs.Common.{subst}
+use Rattle.sctp_list_lemmas.proofs.Getting.{get-beyond}
 use Rattle.sctp_stream.specs.Numbers.{IsAbsent, IsOnlyPlace}
-use Rattle.sctp_progress.specs.Progress.{Standing, numbers_of}
-use Rattle.sctp_link.specs.declared.skipped.Named.{Named}
-use Rattle.sctp_link.specs.declared.record.Message.{Message}
-use Rattle.sctp_link.specs.Records.{message_record}
-use Rattle.sctp_link.specs.Skips.{index_in, message_in, is_on, named_from, none_named, with_name, HasNames}
+use Rattle.sctp_progress.specs.Progress.{numbers_of}
+use Rattle.sctp_link.specs.Skips.{with_name, HasNames}
 use Rattle.sctp_link.proofs.receiver.Hears.{raw-at}
 
 -- what holds of an element that is put at a place, and of all others, holds of each

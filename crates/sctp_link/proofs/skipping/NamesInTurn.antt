@@ -1,31 +1,15 @@
 -- The names of a FORWARD-TSN that arrives, one after another: what they have for a stream, and what becomes of its queue.
-use Rattle.std.proofs.Common.{◌≡◌, ℕ, ◌≤◌, ◌^◌, ◌%◌, Bool, true, false, List, [], ◌∷◌, map, Some, None, refl, ap, sym, ◌∙◌}
-use Rattle.std.specs.Prelude.{if◌then◌else◌, ◌==◌, ◌&&◌, not, is_some, slice_get}
-use Rattle.std.specs.List.{filter}
-use Rattle.sctp_list_lemmas.proofs.Cases.{same-yes, same-is}
-use Rattle.sctp_list_lemmas.proofs.More.{same_test}
-use Rattle.sctp_data.specs.declared.chunk.chunk_forward_tsn.ChunkForwardTsnStream.{ChunkForwardTsnStream}
-use Rattle.sctp_reassembly.specs.reassembly_queue.ReassemblyQueue.{ReassemblyState, after_ordered_skip, held_after_ordered_skips}
-use Rattle.sctp_model.specs.declared.event.Event.TheVariants as E
-use Rattle.sctp_model.specs.LinkRecord.{LinkRecord, StreamRecord, Forward}
-use Rattle.sctp_model.specs.Messages.{message_at, stream_at, is_ordered_on, index_of, ssn_of}
-use Rattle.sctp_model.specs.Receiver.{cumulative}
-use Rattle.sctp_model.specs.Contents.{name_of}
-use Rattle.sctp_model.specs.Steps.{refusal_of}
-use Rattle.sctp_model.proofs.sender.Shape.{shape}
-use Rattle.sctp_model.proofs.sender.Sender.{Sender}
-use Rattle.sctp_model.proofs.sender.Slots.{sent-alive}
-use Rattle.sctp_model.proofs.sender.Network.{IsNamable, NamesFit}
-use Rattle.sctp_refinement.specs.Holds.{reassembly_of}
-use Rattle.sctp_refinement.specs.Naming.{on_stream, end_named}
+use Rattle.sctp_link.proofs.Names.{◌≡◌, ℕ, ◌≤◌, ◌^◌, ◌%◌, Bool, true, false, List, [], ◌∷◌, map, Some, None, refl, ap, sym, ◌∙◌, if◌then◌else◌, ◌==◌, ◌&&◌, not}
+use Rattle.sctp_link.proofs.Names.{is_some, slice_get, filter, same-yes, same-is, same_test, ReassemblyState, after_ordered_skip, held_after_ordered_skips}
+use Rattle.sctp_link.proofs.Names.{LinkRecord, StreamRecord, Forward, message_at, stream_at, is_ordered_on, index_of, ssn_of, cumulative, name_of, refusal_of}
+use Rattle.sctp_link.proofs.Names.{shape, Sender, IsNamable, NamesFit, reassembly_of, end_named, ssns_of, skipped_each, Message, State, IsLinked}
+use Rattle.sctp_link.proofs.Names.{message_record, progress_of, index_in, message_in, pair_in, named_stream, and-true}
 use Rattle.sctp_refinement.proofs.skipping.SkipSpans.{gone_forward}
+use Rattle.sctp_data.specs.declared.chunk.chunk_forward_tsn.ChunkForwardTsnStream.{ChunkForwardTsnStream}
+use Rattle.sctp_model.specs.declared.event.Event.TheVariants as E
+use Rattle.sctp_model.proofs.sender.Slots.{sent-alive}
+use Rattle.sctp_refinement.specs.Naming.{on_stream}
 use Rattle.sctp_refinement.proofs.skipping.SkipsInTurn.{skips-in-turn}
-use Rattle.sctp_receiver.specs.Inbound.{ssns_of, skipped_each}
-use Rattle.sctp_link.specs.declared.record.Message.{Message}
-use Rattle.sctp_link.specs.Linked.{State, IsLinked}
-use Rattle.sctp_link.specs.Records.{message_record, progress_of}
-use Rattle.sctp_link.specs.Skips.{index_in, message_in, pair_in}
-use Rattle.sctp_link.specs.Encodings.{named_stream}
 use Rattle.sctp_link.proofs.upkeep.Facts.{facts}
 use Rattle.sctp_link.proofs.skipping.SkipComes.{index-is, skips-in, spans}
 
@@ -38,17 +22,13 @@ pairs_of w names = map named_stream (map (name_of w) names)
 -- a message that can be named stands on its stream
 named-on : (w : LinkRecord) (upto s n : ℕ) → Sender (shape w) → IsNamable (shape w) upto n → (s == (message_at w n).stream) ≡ is_ordered_on w s n
 named-on w upto s n sender i =
-    turn s (message_at w n).stream ∙ plain ((message_at w n).stream == s) ∙ ap (λ b. ((message_at w n).stream == s) && b) (sym live)
+    turn s (message_at w n).stream ∙ sym (and-true ((message_at w n).stream == s)) ∙ ap (λ b. ((message_at w n).stream == s) && b) (sym live)
   where
     turn : (a b : ℕ) → (a == b) ≡ (b == a)
     turn a b = same_test (a == b) (b == a) (λ e. ap (λ k. k == a) (sym (same-is a b e)) ∙ same-yes a) (λ e. ap (λ k. k == b) (sym (same-is b a e)) ∙ same-yes b)
 
     live : ((message_at w n).ordered && not (message_at w n).expired) ≡ true
     live = ap (λ b. b && not (message_at w n).expired) i.ordered ∙ ap not (sent-alive (shape w) n sender i.some)
-
-    plain : (b : Bool) → b ≡ (b && true)
-    plain true = refl
-    plain false = refl
 
 pub names-in-turn : (w : LinkRecord) (upto s : ℕ) (names : List ℕ) → Sender (shape w) → NamesFit (shape w) upto names
     → ssns_of s (pairs_of w names) ≡ map (λ n. index_of w n % 2 ^ 16) (on_stream w s names)
@@ -70,18 +50,18 @@ names-in-turn w upto s (n ∷ ns) sender fit =
     step false ih = ih
 
 -- the pairs that a link makes of its messages are these
-pub pairs-are : (sum : List ℕ → ℕ) (x : State) (l : IsLinked sum x) (ms : List Message) → x.recorded.messages ≡ map message_record ms → x.progress
+pub pairs-are : {sum : List ℕ → ℕ} {x : State} (l : IsLinked sum x) (ms : List Message) → x.recorded.messages ≡ map message_record ms → x.progress
     ≡ map progress_of ms → (upto : ℕ) (names : List ℕ) → NamesFit (shape x.recorded) upto names → map (pair_in ms) names ≡ pairs_of x.recorded names
-pairs-are sum x l ms messages_are progress_are upto [] fit = refl
-pairs-are sum x l ms messages_are progress_are upto (n ∷ ns) fit =
+pairs-are l ms messages_are progress_are upto [] fit = refl
+pairs-are {x} l ms messages_are progress_are upto (n ∷ ns) fit =
     let w = x.recorded in
     let stream : (message_in ms n).stream ≡ (message_at w n).stream = ap (λ rs. (message_at (record w { messages = rs }) n).stream) (sym messages_are) in
-    let index = index-is sum x l ms messages_are progress_are upto n fit.0 in
+    let index = index-is l ms messages_are progress_are upto n fit.0 in
     let ssn = ap (λ b. (if b then index_of w n else (message_at w n).before) % 2 ^ 16) fit.0.ordered in
     ap (λ s. named_stream (s, index_in ms n % 2 ^ 16) ∷ map (pair_in ms) ns) stream
     ∙ ap (λ i. named_stream ((message_at w n).stream, i % 2 ^ 16) ∷ map (pair_in ms) ns) index
     ∙ ap (λ i. named_stream ((message_at w n).stream, i) ∷ map (pair_in ms) ns) (sym ssn)
-    ∙ ap (λ ps. named_stream (name_of w n) ∷ ps) (pairs-are sum x l ms messages_are progress_are upto ns fit.1)
+    ∙ ap (λ ps. named_stream (name_of w n) ∷ ps) (pairs-are l ms messages_are progress_are upto ns fit.1)
 
 -- ## What becomes of a queue
 
@@ -90,7 +70,7 @@ held-each : (ssns : List ℕ) (q : ReassemblyState) → (skipped_each ssns q).he
 held-each [] q = refl
 held-each (ssn ∷ ssns) q = held-each ssns (after_ordered_skip ssn q)
 
-module _ (sum : List ℕ → ℕ) (x : State) (l : IsLinked sum x) (k upto : ℕ) (names : List ℕ) (none : refusal_of x.recorded (E.Arrive k) ≡ None)
+module _ {sum : List ℕ → ℕ} {x : State} (l : IsLinked sum x) (k upto : ℕ) (names : List ℕ) (none : refusal_of x.recorded (E.Arrive k) ≡ None)
     (e : slice_get x.recorded.network k ≡ Some (Forward upto names)) (counts : cumulative x.recorded ≤ upto) where
   abbrev w : LinkRecord
   w = x.recorded
@@ -99,9 +79,9 @@ module _ (sum : List ℕ → ℕ) (x : State) (l : IsLinked sum x) (k upto : ℕ
   pub queue-in-turn : (s : ℕ) (r : StreamRecord) (q : ReassemblyState) → stream_at w s ≡ Some r → q.held ≡ reassembly_of w s
       → (skipped_each (ssns_of s (pairs_of w names)) q).held ≡ gone_forward (end_named w s names) (reassembly_of w s)
   queue-in-turn s r q o held =
-      let f = facts sum x l in
-      let skips = skips-in sum x l k upto names e in
-      let sp = spans sum x l k upto names none e counts s (ap is_some o) in
+      let f = facts l in
+      let skips = skips-in l k upto names e in
+      let sp = spans l k upto names none e counts s (ap is_some o) in
       let ssns = names-in-turn w upto s names f.consistent.sender skips.fit in
       held-each (ssns_of s (pairs_of w names)) q
       ∙ ap (λ is. held_after_ordered_skips is q.held) ssns

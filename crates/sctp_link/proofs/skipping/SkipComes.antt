@@ -1,53 +1,27 @@
 -- The arrival of a FORWARD-TSN: what it names, and its span test.
-use Rattle.std.proofs.Common.{◌≡◌, ℕ, zero, suc, ◌+◌, ◌-◌, ◌<◌, ◌≤◌, ◌^◌, Bool, true, false, List, [], ◌∷◌, length, map, Some, None, refl, ap, sym, ◌∙◌, arith}
-use Rattle.std.proofs.Common.{add-one}
-use Rattle.std.specs.Prelude.{if◌then◌else◌, ◌==◌, ◌&&◌, min, max, nat_lt, find, take, slice_get, slice_index_or}
-use Rattle.std.specs.List.{list_all, filter}
-use Rattle.std.proofs.Math.Path.{subst}
-use Rattle.std.proofs.lemmas.Bool.Decides.{nat_tests}
-use Rattle.sctp_list_lemmas.proofs.Cases.{same-yes}
-use Rattle.sctp_list_lemmas.proofs.More.{and, both, same_test}
-use Rattle.sctp_data.specs.ChunkSet.{ChunkSet}
-use Rattle.sctp_chunks.specs.Wire.{forward_tsn_chunk}
-use Rattle.sctp_packets.specs.Packet.{ReadsPacket}
-use Rattle.sctp_reassembly.specs.reassembly_queue.Fragments.{is_complete}
-use Rattle.sctp_model.specs.declared.event.Event.TheVariants as E
-use Rattle.sctp_model.specs.LinkRecord.{LinkRecord, StreamRecord, Forward}
-use Rattle.sctp_model.specs.LinkRecord as W
-use Rattle.sctp_model.specs.Messages.{stream_at, is_open, is_ordered_on, index_of}
-use Rattle.sctp_model.specs.Receiver.{cumulative, next_of, is_held, is_complete_message, held_on, fits, greatest, least}
-use Rattle.sctp_model.specs.Changes.{after_arrive}
-use Rattle.sctp_model.specs.Queues.{set_of}
-use Rattle.sctp_model.specs.Steps.{refusal_of, arrival_fits}
-use Rattle.sctp_model.specs.Valid.{IsSpan}
-use Rattle.sctp_model.proofs.sender.Shape.{shape}
-use Rattle.sctp_model.proofs.sender.Network.{IsNamable, NamesFit, fit-at}
+use Rattle.sctp_link.proofs.Names.{◌≡◌, ℕ, zero, suc, ◌+◌, ◌-◌, ◌<◌, ◌≤◌, ◌^◌, Bool, true, false, List, [], ◌∷◌, length, map, Some, None, refl, ap, sym, ◌∙◌}
+use Rattle.sctp_link.proofs.Names.{arith, if◌then◌else◌, ◌==◌, ◌&&◌, min, max, nat_lt, find, slice_get, slice_index_or, list_all, filter, subst, nat_tests}
+use Rattle.sctp_link.proofs.Names.{same-yes, and, same_test, ChunkSet, forward_tsn_chunk, ReadsPacket, is_complete, LinkRecord, StreamRecord, Forward}
+use Rattle.sctp_link.proofs.Names.{stream_at, is_open, is_ordered_on, index_of, cumulative, next_of, is_held, is_complete_message, held_on, fits, greatest}
+use Rattle.sctp_link.proofs.Names.{least, after_arrive, set_of, refusal_of, arrival_fits, IsSpan, shape, IsNamable, NamesFit, fit-at, low_named, end_named}
+use Rattle.sctp_link.proofs.Names.{lowest_held, highest_held, complete_first, min_with, names_fit, with_skip, skip-step, sets-held, OpenStream, has_number}
+use Rattle.sctp_link.proofs.Names.{Named, Message, Datagram, State, IsLinked, message_record, progress_of, stream_record, datagram_record, kind_record}
+use Rattle.sctp_link.proofs.Names.{index_in, is_on, named_from, none_named, wire_skip, packet_with, length-mapped, get_or-map, some-same, slice_get_within}
+use Rattle.sctp_link.proofs.Names.{messages-few}
+use Rattle.sctp_refinement.proofs.skipping.SkipSpans.{least-start, fits-both, skip-fits, next-short}
 use Rattle.sctp_model.proofs.receiver.ValidRun.{skips_come_valid}
-use Rattle.sctp_refinement.specs.Naming.{on_stream, low_named, end_named, lowest_held, highest_held, complete_first, min_with, names_fit}
+use Rattle.sctp_model.specs.declared.event.Event.TheVariants as E
+use Rattle.sctp_refinement.specs.Naming.{on_stream}
 use Rattle.sctp_refinement.proofs.arriving.Arrival
 use Rattle.sctp_refinement.proofs.reading.Line
 use Rattle.sctp_refinement.proofs.reading.Taken
-use Rattle.sctp_refinement.proofs.skipping.SkipStep.{with_skip, skip-step}
-use Rattle.sctp_refinement.proofs.skipping.SkipSpans.{fits-both, skip-fits, next-short, least-start}
-use Rattle.sctp_refinement.proofs.arriving.SpanEnds.{sets-held}
-use Rattle.sctp_link.specs.Streams.{OpenStream, has_number}
-use Rattle.sctp_link.specs.declared.skipped.Named.{Named}
-use Rattle.sctp_link.specs.declared.record.Message.{Message}
-use Rattle.sctp_link.specs.declared.record.Datagram.{Datagram}
-use Rattle.sctp_link.specs.Linked.{State, IsLinked}
-use Rattle.sctp_link.specs.Records.{message_record, progress_of, stream_record, datagram_record, kind_record}
-use Rattle.sctp_link.specs.Skips.{index_in, is_on, named_from, none_named, wire_skip}
-use Rattle.sctp_link.specs.Encodings.{packet_with}
-use Rattle.sctp_link.proofs.upkeep.Bounds.{messages-few}
-use Rattle.sctp_link.proofs.receiver.Comes.{made-at}
 use Rattle.sctp_link.proofs.upkeep.Facts.{facts, over}
-use Rattle.sctp_link.proofs.receiver.Hears.{raw-at, stream-ordered}
-use Rattle.sctp_list_lemmas.proofs.Getting.{length-mapped}
+use Rattle.sctp_link.proofs.receiver.Hears.{stream-ordered}
 
 -- ## What it names
 
 -- the names of the record, by the messages that a link keeps
-module _ (sum : List ℕ → ℕ) (x : State) (l : IsLinked sum x) (ms : List Message) (messages_are : x.recorded.messages ≡ map message_record ms)
+module _ {sum : List ℕ → ℕ} {x : State} (l : IsLinked sum x) (ms : List Message) (messages_are : x.recorded.messages ≡ map message_record ms)
     (progress_are : x.progress ≡ map progress_of ms) where
   on-is : (s n : ℕ) → is_on ms s n ≡ is_ordered_on x.recorded s n
   on-is s n = ap (λ rs. is_ordered_on (record x.recorded { messages = rs }) s n) (sym messages_are)
@@ -93,7 +67,7 @@ pub open-at : (x : State) → x.recorded.streams ≡ map stream_record x.open_st
 open-at x streams_are j d lt =
     let f = found-at j (map stream_record x.open_streams) (stream_record d) (omega (arith, lt, length-mapped stream_record x.open_streams)) in
     let same : (slice_index_or (map stream_record x.open_streams) j (stream_record d)).stream ≡ (slice_index_or x.open_streams j d).state.stream_identifier =
-    ap (λ (q : StreamRecord). q.stream) (raw-at stream_record x.open_streams j (stream_record d) d lt) in (
+    ap (λ (q : StreamRecord). q.stream) (get_or-map stream_record x.open_streams j d (stream_record d) lt) in (
       f.0,
       ap (λ t. find (λ (q : StreamRecord). q.stream == t) x.recorded.streams) (sym same)
           ∙ ap (find (λ q. q.stream == (slice_index_or (map stream_record x.open_streams) j (stream_record d)).stream)) streams_are ∙ f.1,
@@ -116,18 +90,18 @@ first-at w s some = by (held_on w s) some
     by [] lt = absurd (omega arith)
     by (n ∷ ns) lt = refl
 
-pub complete-set : (sum : List ℕ → ℕ) (x : State) (l : IsLinked sum x) (s n : ℕ) (set : ChunkSet) → is_held x.recorded s n ≡ true → set ≡ set_of x.recorded n
+pub complete-set : {sum : List ℕ → ℕ} {x : State} (l : IsLinked sum x) (s n : ℕ) (set : ChunkSet) → is_held x.recorded s n ≡ true → set ≡ set_of x.recorded n
     → is_complete set.chunks ≡ is_complete_message x.recorded n
-complete-set sum x l s n set h e =
+complete-set {x} l s n set h e =
     let on = (Taken.held x.recorded s n h).on in
-    ap (λ (q : ChunkSet). is_complete q.chunks) e ∙ Arrival.set_is_complete x.recorded n (facts sum x l).valid.valid (Line.on-made x.recorded s n on)
+    ap (λ (q : ChunkSet). is_complete q.chunks) e ∙ Arrival.set_is_complete x.recorded n (facts l).valid.valid (Line.on-made x.recorded s n on)
     ∙ sym (Taken.complete-ordered x.recorded s n on)
 
 -- a stream found at a place
-module _ (sum : List ℕ → ℕ) (x : State) (l : IsLinked sum x) (at s : ℕ) (d : OpenStream) (lt : at < length x.open_streams)
+module _ {sum : List ℕ → ℕ} {x : State} (l : IsLinked sum x) (at s : ℕ) (d : OpenStream) (lt : at < length x.open_streams)
     (found : find (has_number s) x.open_streams ≡ Some (slice_index_or x.open_streams at d)) where
   held-count : length (slice_index_or x.open_streams at d).inbound.queue.held.ordered ≡ length (held_on x.recorded s)
-  held-count = ap length (stream-ordered sum x l at s d lt found) ∙ sets-held x.recorded s
+  held-count = ap length (stream-ordered l at s d lt found) ∙ sets-held x.recorded s
 
   pub stream-some : 0 < length (slice_index_or x.open_streams at d).inbound.queue.held.ordered → 0 < length (held_on x.recorded s)
   stream-some some = omega (arith, some, held-count)
@@ -159,9 +133,9 @@ first-over w s a = by (held_on w s)
 
 -- ## The span test
 
-pub lowest-short : (sum : List ℕ → ℕ) (x : State) → IsLinked sum x → (s : ℕ) → lowest_held x.recorded s < 2 ^ 31
-lowest-short sum x l s =
-    let f = facts sum x l in
+pub lowest-short : {sum : List ℕ → ℕ} {x : State} → IsLinked sum x → (s : ℕ) → lowest_held x.recorded s < 2 ^ 31
+lowest-short {x} l s =
+    let f = facts l in
     omega (arith, next-short x.recorded s f.valid.valid, least-start x.recorded s, messages-few x.recorded.setup x.recorded f.consistent)
 
 -- the code's test against the one of the record
@@ -209,67 +183,42 @@ all-same : (f g : StreamRecord → Bool) (rs : List StreamRecord)
 all-same f g [] h = refl
 all-same f g (r ∷ rs) h = ap (λ b. b && list_all f rs) (h 0 r (omega arith)) ∙ ap (λ b. g r && b) (all-same f g rs (λ i d lt. h (suc i) d (omega arith)))
 
-all-next : {X : Type 0} (P : X → Bool) (rs : List X) (i : ℕ) (b : Bool) → i < length rs → ((r : X) → slice_get rs i ≡ Some r → b ≡ P r)
-    → list_all P (take i rs) ≡ true → list_all P (take (suc i) rs) ≡ b
-all-next P [] i b lt h e = absurd (omega arith)
-all-next P (r ∷ rs) zero b lt h e = or-true (P r) ∙ sym (h r refl)
-  where
-    or-true : (c : Bool) → (c && true) ≡ c
-    or-true true = refl
-    or-true false = refl
-all-next P (r ∷ rs) (suc i) b lt h e =
-    let t = both (P r) (list_all P (take i rs)) e in
-    ap (λ c. c && list_all P (take (suc i) rs)) t.0 ∙ all-next P rs i b (omega arith) h t.1
-
-pub all-more : {X : Type 0} (P : X → Bool) (rs : List X) (i : ℕ) (b : Bool) → i < length rs → ((r : X) → slice_get rs i ≡ Some r → b ≡ P r)
-    → list_all P (take i rs) ≡ true → list_all P (take (i + 1) rs) ≡ b
-all-more P rs i b lt h e = ap (λ k. list_all P (take k rs)) (add-one i) ∙ all-next P rs i b lt h e
-
-pub all-no : {X : Type 0} (P : X → Bool) (rs : List X) (i : ℕ) → list_all P (take i rs) ≡ false → list_all P rs ≡ false
-all-no P rs zero e = cc
-all-no P [] (suc i) e = cc
-all-no P (r ∷ rs) (suc i) e = step (P r) e (λ h. all-no P rs i h)
-  where
-    step : (b : Bool) → (b && list_all P (take i rs)) ≡ false → (list_all P (take i rs) ≡ false → list_all P rs ≡ false) → (b && list_all P rs) ≡ false
-    step true e ih = ih e
-    step false e ih = refl
-
 -- a skip that lies in the network
 pub record Skips (w : LinkRecord) (upto : ℕ) (names : List ℕ) : Type 0 where
   pub made : upto < length w.slots
   pub fit : NamesFit (shape w) upto names
 
-pub skips-in : (sum : List ℕ → ℕ) (x : State) (l : IsLinked sum x) (k upto : ℕ) (names : List ℕ) → slice_get x.recorded.network k ≡ Some (Forward upto names)
+pub skips-in : {sum : List ℕ → ℕ} {x : State} (l : IsLinked sum x) (k upto : ℕ) (names : List ℕ) → slice_get x.recorded.network k ≡ Some (Forward upto names)
     → Skips x.recorded upto names
-skips-in sum x l k upto names e =
-    let f = fit-at (shape x.recorded) x.recorded.network k (Forward upto names) (facts sum x l).fit e in
+skips-in {x} l k upto names e =
+    let f = fit-at (shape x.recorded) x.recorded.network k (Forward upto names) (facts l).fit e in
     record { made = f.0; fit = f.1 }
 
 -- on an open stream
-pub stream-fits : (sum : List ℕ → ℕ) (x : State) (l : IsLinked sum x) (s upto : ℕ) (names : List ℕ) (r : StreamRecord) → stream_at x.recorded s ≡ Some r
+pub stream-fits : {sum : List ℕ → ℕ} {x : State} (l : IsLinked sum x) (s upto : ℕ) (names : List ℕ) (r : StreamRecord) → stream_at x.recorded s ≡ Some r
     → (fits x.recorded (map (index_of x.recorded) (on_stream x.recorded s names)) s
     && fits (with_skip x.recorded upto names) (map (index_of x.recorded) (on_stream x.recorded s names)) s) ≡ names_fit x.recorded s names
-stream-fits sum x l s upto names r e =
-    let f = facts sum x l in
+stream-fits {x} l s upto names r e =
+    let f = facts l in
     fits-both x.recorded s upto names r f.valid.valid e (messages-few x.recorded.setup x.recorded f.consistent)
 
 -- all of them
-pub all-fit : (sum : List ℕ → ℕ) (x : State) (l : IsLinked sum x) (upto : ℕ) (names : List ℕ) → cumulative x.recorded ≤ upto
+pub all-fit : {sum : List ℕ → ℕ} {x : State} (l : IsLinked sum x) (upto : ℕ) (names : List ℕ) → cumulative x.recorded ≤ upto
     → list_all (λ r. names_fit x.recorded r.stream names) x.recorded.streams ≡ arrival_fits x.recorded (Some (Forward upto names))
-all-fit sum x l upto names counts =
-    sym (skip-fits x.recorded upto names counts
-    ∙ all-same (λ r. fits x.recorded (map (index_of x.recorded) (on_stream x.recorded r.stream names)) r.stream && fits (with_skip x.recorded upto names)
-    (map (index_of x.recorded) (on_stream x.recorded r.stream names)) r.stream) (λ r. names_fit x.recorded r.stream names) x.recorded.streams
-    (λ i d lt. let f = found-at i x.recorded.streams d lt in stream-fits sum x l (slice_index_or x.recorded.streams i d).stream upto names f.0 f.1))
+all-fit {x} l upto names counts =
+    sym (skip-fits x.recorded upto names counts ∙ all-same (λ r. fits x.recorded (map (index_of x.recorded) (on_stream x.recorded r.stream names)) r.stream
+    && fits (with_skip x.recorded upto names) (map (index_of x.recorded) (on_stream x.recorded r.stream names)) r.stream)
+    (λ r. names_fit x.recorded r.stream names) x.recorded.streams (λ i d lt. let f = found-at i x.recorded.streams d lt in
+    stream-fits l (slice_index_or x.recorded.streams i d).stream upto names f.0 f.1))
 
 -- what its bytes read as
-pub reads-skip : (sum : List ℕ → ℕ) (x : State) (k upto : ℕ) (names : List ℕ) (ds : List Datagram) (y : Datagram) → IsLinked sum x
+pub reads-skip : {sum : List ℕ → ℕ} {x : State} (k upto : ℕ) (names : List ℕ) (ds : List Datagram) (y : Datagram) → IsLinked sum x
     → x.recorded.network ≡ map datagram_record ds → x.datagrams ≡ map (λ d. d.bytes) ds → slice_get x.recorded.network k ≡ Some (Forward upto names)
     → y ≡ slice_index_or ds k y → ReadsPacket sum y.bytes (packet_with (forward_tsn_chunk (wire_skip x.recorded upto names) ∷ []))
-reads-skip sum x k upto names ds y l network same e is =
-    let lt : k < length ds = omega (arith, made-at x.recorded.network k (Forward upto names) e, ap length network, length-mapped datagram_record ds) in
+reads-skip {sum} {x} k upto names ds y l network same e is =
+    let lt : k < length ds = omega (arith, slice_get_within x.recorded.network k (Forward upto names) e, ap length network, length-mapped datagram_record ds) in
     let t = l.encodings k y.bytes (Forward upto names) e in
-    let bytes : slice_index_or x.datagrams k y.bytes ≡ y.bytes = ap (λ bs. slice_index_or bs k y.bytes) same ∙ raw-at (λ d. d.bytes) ds k y.bytes y lt
+    let bytes : slice_index_or x.datagrams k y.bytes ≡ y.bytes = ap (λ bs. slice_index_or bs k y.bytes) same ∙ get_or-map (λ d. d.bytes) ds k y y.bytes lt
     ∙ ap (λ (d : Datagram). d.bytes) (sym is) in
     subst (λ b. ReadsPacket sum b (packet_with (forward_tsn_chunk (wire_skip x.recorded upto names) ∷ []))) bytes t.reads
 
@@ -284,25 +233,17 @@ kept-kind (d ∷ ds) (suc k) y lt is = kept-kind ds k y (omega arith) is
 pub names-kept : (ds : List Datagram) (k : ℕ) (y : Datagram) (u upto : ℕ) (answered names : List ℕ)
     → slice_get (map datagram_record ds) k ≡ Some (Forward upto names) → y ≡ slice_index_or ds k y → kind_record y.kind ≡ Forward u answered → answered ≡ names
 names-kept [] k y u upto answered names e is kind = cc
-names-kept (d ∷ ds) zero y u upto answered names e is kind = inner (sym kind ∙ ap datagram_record is ∙ found (datagram_record d) e)
-  where
-    found : (g : W.Datagram) → Some g ≡ Some (Forward upto names) → g ≡ Forward upto names
-    found g h = cc
-
-    inner : Forward u answered ≡ Forward upto names → answered ≡ names
-    inner h = cc
+names-kept (d ∷ ds) zero y u upto answered names e is kind =
+    let same : Forward u answered ≡ Forward upto names = sym kind ∙ ap datagram_record is ∙ some-same e in cc
 names-kept (d ∷ ds) (suc k) y u upto answered names e is kind = names-kept ds k y u upto answered names e is kind
 
 pub same-names : (w : LinkRecord) (k upto : ℕ) (names others : List ℕ) → slice_get w.network k ≡ Some (Forward upto names)
     → slice_get w.network k ≡ Some (Forward upto others) → names ≡ others
-same-names w k upto names others e f = inner (sym e ∙ f)
-  where
-    inner : Some (Forward upto names) ≡ Some (Forward upto others) → names ≡ others
-    inner h = cc
+same-names w k upto names others e f = let same : Some (Forward upto names) ≡ Some (Forward upto others) = sym e ∙ f in cc
 
 -- ## What counts
 
-module _ (sum : List ℕ → ℕ) (x : State) (l : IsLinked sum x) (k upto : ℕ) (names : List ℕ) (none : refusal_of x.recorded (E.Arrive k) ≡ None)
+module _ {sum : List ℕ → ℕ} {x : State} (l : IsLinked sum x) (k upto : ℕ) (names : List ℕ) (none : refusal_of x.recorded (E.Arrive k) ≡ None)
     (e : slice_get x.recorded.network k ≡ Some (Forward upto names)) (counts : cumulative x.recorded ≤ upto) where
   abbrev w : LinkRecord
   w = x.recorded
@@ -310,8 +251,7 @@ module _ (sum : List ℕ → ℕ) (x : State) (l : IsLinked sum x) (k upto : ℕ
   pub spans : (s : ℕ) → is_open w s ≡ true
       → IsSpan w s (map (index_of w) (on_stream w s names)) × IsSpan (with_skip w upto names) s (map (index_of w) (on_stream w s names))
   spans s o =
-      let two =
-      over sum x (λ (u : LinkRecord). refusal_of u (E.Arrive k) ≡ None → slice_get u.network k ≡ Some (Forward upto names) → cumulative u ≤ upto
+      let two = over (λ (u : LinkRecord). refusal_of u (E.Arrive k) ≡ None → slice_get u.network k ≡ Some (Forward upto names) → cumulative u ≤ upto
       → is_open u s ≡ true → IsSpan u s (map (index_of u) (filter (is_ordered_on u s) names))
       × IsSpan (after_arrive u (Some (Forward upto names))) s (map (index_of u) (filter (is_ordered_on u s) names))) l
       (λ a b c d. skips_come_valid w.setup l.history l.setup l.stands.run k upto names a b c s d) none e counts o in

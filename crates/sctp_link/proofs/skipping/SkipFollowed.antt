@@ -1,64 +1,35 @@
 -- A FORWARD-TSN that counts is followed: what it makes of a link.
-use Rattle.std.proofs.Common.{◌≡◌, ℕ, ◌+◌, ◌<◌, ◌≤◌, false, List, [], ◌∷◌, length, map, Option, Some, None, Result, Ok, Err, refl, ap, sym, ◌∙◌, arith, not}
-use Rattle.std.proofs.Common.{true}
-use Rattle.std.specs.Prelude.{if◌then◌else◌, OnOk, IfErr, max, slice_get, slice_index_or, is_some, nat_le}
-use Rattle.std.proofs.Math.Path.{subst}
-use Rattle.std.proofs.lemmas.Bool.Decides.{nat_tests}
-use Rattle.sctp_data.specs.ForwardTsn.{ForwardTsn}
-use Rattle.sctp_reassembly.specs.reassembly_queue.ReassemblyQueue.{held_after_unordered_skip}
-use Rattle.sctp_model.specs.declared.event.Event.TheVariants as E
-use Rattle.sctp_model.specs.LinkRecord.{LinkRecord, StreamRecord, Forward}
-use Rattle.sctp_model.specs.Messages.{stream_at, tsn_of}
-use Rattle.sctp_model.specs.Receiver.{cumulative, next_of}
-use Rattle.sctp_model.specs.Changes.{named_by, receive_skip, after_arrive}
-use Rattle.sctp_model.specs.Queues.{filter_of}
-use Rattle.sctp_model.specs.Steps.{refusal_of, after}
-use Rattle.sctp_model.proofs.sender.Network
-use Rattle.sctp_refinement.specs.Holds.{reassembly_of, seen_of}
-use Rattle.sctp_refinement.specs.Naming.{on_stream, low_named, end_named}
-use Rattle.sctp_refinement.specs.Counts.{counters_on}
+use Rattle.sctp_link.proofs.Names.{◌≡◌, ℕ, ◌+◌, ◌<◌, ◌≤◌, false, List, [], ◌∷◌, length, map, Option, Some, None, Result, Ok, Err, refl, ap, sym, ◌∙◌, arith}
+use Rattle.sctp_link.proofs.Names.{not, true, if◌then◌else◌, OnOk, IfErr, max, slice_get, slice_index_or, is_some, nat_le, subst, nat_tests, ForwardTsn}
+use Rattle.sctp_link.proofs.Names.{held_after_unordered_skip, LinkRecord, StreamRecord, Forward, stream_at, tsn_of, cumulative, next_of, named_by, receive_skip}
+use Rattle.sctp_link.proofs.Names.{after_arrive, filter_of, refusal_of, after, reassembly_of, seen_of, low_named, end_named, counters_on, with_skip, skip-step}
+use Rattle.sctp_link.proofs.Names.{counters-same, ssns_of, skipped_each, Reception, forward_refusal, TsnOpposite, Filter, skipped_to, is_opposite}
+use Rattle.sctp_link.proofs.Names.{ReceiverRefusal, Transmission, Standing, OpenStream, join, stream_numbers, on_inbound, forwarded_on, Sides, IsAligned, sides}
+use Rattle.sctp_link.proofs.Names.{reception_of, with_filter_of, follow_forward_tsn, after_forward, Named, Message, State, IsLinked, IsOpenStream, stats_of}
+use Rattle.sctp_link.proofs.Names.{filter_shown, IsApart, message_record, progress_of, stream_record, named_from, none_named, with_names, standing_named}
+use Rattle.sctp_link.proofs.Names.{wire_skip, length-mapped, get_or-map, map-twice}
 use Rattle.sctp_refinement.proofs.arriving.Filter.{filter-skipped}
-use Rattle.sctp_refinement.proofs.acknowledging.QuietSender
-use Rattle.sctp_refinement.proofs.skipping.SkipStep.{with_skip, skip-step}
 use Rattle.sctp_refinement.proofs.skipping.SkipSpans.{queue-skip, next-skip, named-from}
-use Rattle.sctp_refinement.proofs.amounts.StreamCounters.{counters-same}
-use Rattle.sctp_receiver.specs.Inbound.{ssns_of, skipped_each}
-use Rattle.sctp_receiver.specs.Receiver.{Reception, forward_refusal}
+use Rattle.sctp_receiver.proofs.Forwarded.{skipped-number, skipped-size}
+use Rattle.sctp_model.specs.declared.event.Event.TheVariants as E
+use Rattle.sctp_model.proofs.sender.Network
+use Rattle.sctp_refinement.specs.Naming.{on_stream}
+use Rattle.sctp_refinement.proofs.acknowledging.QuietSender
 use Rattle.sctp_receiver.specs.Receiver as R
-use Rattle.sctp_receiver.specs.declared.receiver.refusal.ReceiverRefusal.TheVariants.{TsnOpposite}
-use Rattle.sctp_receiver.specs.TsnFilter.{Filter, skipped_to, is_opposite}
 use Rattle.sctp_list_lemmas.specs.Serial.{at_or_before}
-use Rattle.sctp_receiver.specs.declared.receiver.refusal.ReceiverRefusal.{ReceiverRefusal}
-use Rattle.sctp_sender.specs.Sender.{Transmission}
-use Rattle.sctp_progress.specs.Progress.{Standing}
-use Rattle.sctp_link.specs.Streams.{OpenStream, join, stream_numbers, on_inbound, forwarded_on}
-use Rattle.sctp_link.specs.Sides.{Sides, IsAligned, sides, reception_of, with_filter_of, follow_forward_tsn, after_forward}
 use Rattle.sctp_link.proofs.sides.Aligned.{reception-is, forward-aligned, forward-sides, standing-mapped, with-progress}
 use Rattle.sctp_link.proofs.sides.Joined.{progress-mapped}
-use Rattle.sctp_link.specs.declared.skipped.Named.{Named}
-use Rattle.sctp_link.specs.declared.record.Message.{Message}
-use Rattle.sctp_link.specs.Linked.{State, IsLinked, IsOpenStream, stats_of, filter_shown}
-use Rattle.sctp_link.specs.Places.{IsApart}
-use Rattle.sctp_link.specs.Records.{message_record, progress_of, stream_record}
-use Rattle.sctp_link.specs.Skips.{named_from, none_named, with_names, standing_named, wire_skip}
 use Rattle.sctp_link.proofs.receiver.Came.{filter-gone, never-opposite, passed-is}
-use Rattle.sctp_link.proofs.receiver.Hears.{raw-at}
 use Rattle.sctp_link.proofs.upkeep.Facts.{facts}
 use Rattle.sctp_link.proofs.upkeep.StreamsAfter.{stream-then, linked-then}
 use Rattle.sctp_link.proofs.skipping.SkipComes.{Skips, skips-in, names-are, open-at, spans}
 use Rattle.sctp_link.proofs.skipping.NamesInTurn.{pairs_of, queue-in-turn}
-use Rattle.sctp_list_lemmas.proofs.Getting.{length-mapped}
-use Rattle.sctp_receiver.proofs.Forwarded.{skipped-number, skipped-size}
 
 -- a stream after it
 abbrev pub skipped_stream : LinkRecord → ℕ → List ℕ → List Message → OpenStream → OpenStream
 skipped_stream w upto names ms y = with_names ms names (on_inbound (forwarded_on (wire_skip w upto names).streams (tsn_of w upto)) y)
 
-mapped-twice : {A B C : Type 0} (f : A → B) (g : B → C) (xs : List A) → map g (map f xs) ≡ map (λ x. g (f x)) xs
-mapped-twice f g [] = refl
-mapped-twice f g (x ∷ xs) = ap (λ ys. g (f x) ∷ ys) (mapped-twice f g xs)
-
-module _ (sum : List ℕ → ℕ) (x : State) (l : IsLinked sum x) (k upto : ℕ) (names : List ℕ) (none : refusal_of x.recorded (E.Arrive k) ≡ None)
+module _ {sum : List ℕ → ℕ} {x : State} (l : IsLinked sum x) (k upto : ℕ) (names : List ℕ) (none : refusal_of x.recorded (E.Arrive k) ≡ None)
     (e : slice_get x.recorded.network k ≡ Some (Forward upto names)) (counts : cumulative x.recorded ≤ upto) where
   abbrev w : LinkRecord
   w = x.recorded
@@ -76,10 +47,10 @@ module _ (sum : List ℕ → ℕ) (x : State) (l : IsLinked sum x) (k upto : ℕ
   quiet = subst (QuietSender.SameToSender w) (sym (ap (after_arrive w) e)) (QuietSender.same-skip w upto names)
 
   counters-stay : (t : ℕ) → counters_on v t ≡ counters_on w t
-  counters-stay t = counters-same w.setup w (E.Arrive k) t (facts sum x l).consistent refl refl
+  counters-stay t = counters-same w.setup w (E.Arrive k) t (facts l).consistent refl refl
 
   skips : Skips w upto names
-  skips = skips-in sum x l k upto names e
+  skips = skips-in l k upto names e
 
   -- ## Both sides
 
@@ -87,14 +58,14 @@ module _ (sum : List ℕ → ℕ) (x : State) (l : IsLinked sum x) (k upto : ℕ
     -- its TSN is past what came
     pub never-refused : forward_refusal f (reception_of y) ≡ None
     never-refused =
-        let t = facts sum x l in
+        let t = facts l in
         ap (λ (g : ForwardTsn). forward_refusal g (reception_of y)) says
         ∙ ap (λ g. if is_opposite (tsn_of w upto) g then Some TsnOpposite else None) (sym same)
         ∙ ap (λ b. if b then Some TsnOpposite else None) (never-opposite w x.filter t.valid.valid.skipped_made t.few l.filter upto skips.made)
 
     not-stale : at_or_before (tsn_of w upto) y.cumulative_tsn ≡ false
     not-stale =
-        let t = facts sum x l in
+        let t = facts l in
         let past : nat_le (cumulative w) upto ≡ true = grind (arith, nat_tests) in
         ap (λ (g : Filter). at_or_before (tsn_of w upto) g.cumulative_tsn) (sym same)
         ∙ passed-is w x.filter t.valid.valid.skipped_made t.few l.filter upto skips.made
@@ -108,12 +79,12 @@ module _ (sum : List ℕ → ℕ) (x : State) (l : IsLinked sum x) (k upto : ℕ
         ∙ ap (λ c. if c then y else follow_forward_tsn (wire_skip w upto names) y) not-stale in
         b ∙ ap (λ (s : Sides). record s { streams = map (with_names ms names) s.streams }) one
         ∙ ap (λ ls. record (with_filter_of (skipped_to (tsn_of w upto) (R.filter_of (reception_of y))) y) { streams = ls })
-        (mapped-twice (on_inbound (forwarded_on (wire_skip w upto names).streams (tsn_of w upto))) (with_names ms names) y.streams)
+        (map-twice (with_names ms names) (on_inbound (forwarded_on (wire_skip w upto names).streams (tsn_of w upto))) y.streams)
 
   module _ (ms : List Message) (messages_are : x.recorded.messages ≡ map message_record ms) (progress_are : x.progress ≡ map progress_of ms)
       (streams_are : x.recorded.streams ≡ map stream_record x.open_streams) where
     named-is : (s : ℕ) → named_from ms s none_named names ≡ (let r : Named = record { low = low_named w s names; end = end_named w s names } in r)
-    named-is s = names-are sum x l ms messages_are progress_are upto s names skips.fit
+    named-is s = names-are l ms messages_are progress_are upto s names skips.fit
 
     abbrev turned : OpenStream → OpenStream
     turned = skipped_stream x.recorded upto names ms
@@ -140,27 +111,25 @@ module _ (sum : List ℕ → ℕ) (x : State) (l : IsLinked sum x) (k upto : ℕ
     stream-skipped : (y : OpenStream) (r : StreamRecord) → stream_at w y.state.stream_identifier ≡ Some r → IsOpenStream w y → IsOpenStream v (turned y)
     stream-skipped y r o i =
         let s = y.state.stream_identifier in
-        let f = facts sum x l in
+        let f = facts l in
         let tsn = tsn_of w upto in
         let end = (named_from ms s none_named names).end in
         let end-is : end ≡ end_named w s names = ap (λ (n : Named). n.end) (named-is s) in
-        let sp = spans sum x l k upto names none e counts s (ap is_some o) in
+        let sp = spans l k upto names none e counts s (ap is_some o) in
         let queue = queue-skip w s upto names r f.valid.valid skips.made counts o sp.0 sp.1 in
         let ssns = ssns_of y.inbound.queue.si (pairs_of w names) in
-        stream-then sum x l (E.Arrive k) none frame refl y (turned y) i refl
+        stream-then l (E.Arrive k) none frame refl y (turned y) i refl
         (ap (λ t. held_after_unordered_skip tsn (skipped_each (ssns_of t (pairs_of w names)) y.inbound.queue).held) i.si
-        ∙ ap (held_after_unordered_skip tsn) (queue-in-turn sum x l k upto names none e counts s r y.inbound.queue o i.held)
-        ∙ sym queue ∙ ap (λ u. reassembly_of u s) (sym after-is))
-        (skipped-number ssns y.inbound.queue) (skipped-size ssns y.inbound.queue) refl refl refl refl
-        (ap (λ n. max y.next n) end-is ∙ ap (λ n. max n (end_named w s names)) i.next ∙ sym (next-skip w s upto names r f.valid.valid o)
-        ∙ ap (λ u. next_of u s) (sym after-is))
-        refl (i.stats ∙ ap stats_of (sym (counters-stay s)))
+        ∙ ap (held_after_unordered_skip tsn) (queue-in-turn l k upto names none e counts s r y.inbound.queue o i.held) ∙ sym queue
+        ∙ ap (λ u. reassembly_of u s) (sym after-is)) (skipped-number ssns y.inbound.queue)
+        (skipped-size ssns y.inbound.queue) refl refl refl refl (ap (λ n. max y.next n) end-is ∙ ap (λ n. max n (end_named w s names)) i.next
+        ∙ sym (next-skip w s upto names r f.valid.valid o) ∙ ap (λ u. next_of u s) (sym after-is)) refl (i.stats ∙ ap stats_of (sym (counters-stay s)))
 
     each-skipped : (j : ℕ) (d : OpenStream) → j < length (map turned x.open_streams) → IsOpenStream v (slice_index_or (map turned x.open_streams) j d)
     each-skipped j d lt =
         let inside : j < length x.open_streams = omega (arith, lt, length-mapped turned x.open_streams) in
         let o = open-at x streams_are j d inside in
-        subst (IsOpenStream v) (sym (raw-at turned x.open_streams j d d inside))
+        subst (IsOpenStream v) (sym (get_or-map turned x.open_streams j d d inside))
         (stream-skipped (slice_index_or x.open_streams j d) o.0 o.1 (l.open_streams j d inside))
 
     numbers-same : (ls : List OpenStream) → stream_numbers (map turned ls) ≡ stream_numbers ls
@@ -171,14 +140,13 @@ module _ (sum : List ℕ → ℕ) (x : State) (l : IsLinked sum x) (k upto : ℕ
 
     pub filter-then : (filter : Filter) → filter ≡ skipped_to (tsn_of w upto) x.filter → filter_shown filter ≡ filter_of v
     filter-then filter is =
-        filter-gone w v (tsn_of w upto) x.filter filter l.filter is
-        (ap seen_of after-is ∙ filter-skipped w upto (facts sum x l).few skips.made counts)
+        filter-gone w v (tsn_of w upto) x.filter filter l.filter is (ap seen_of after-is ∙ filter-skipped w upto (facts l).few skips.made counts)
         (ap (λ u. (filter_of u).duplicates) after-is)
 
     pub linked-skip : (filter : Filter) (u : LinkRecord) → filter_shown filter ≡ filter_of v → u ≡ v
         → IsLinked sum (record x { recorded = u; open_streams = map turned x.open_streams; filter = filter })
     linked-skip filter u held same =
-        linked-then sum x l (E.Arrive k) none frame x.progress (map turned x.open_streams) filter u refl held each-skipped
+        linked-then l (E.Arrive k) none frame x.progress (map turned x.open_streams) filter u refl held each-skipped
         (subst IsApart (sym (numbers-same x.open_streams)) l.apart) quiet same
 
     pub received-follow : (skipped : ℕ) → skipped ≡ upto + 1
@@ -200,23 +168,23 @@ unless-refused : {T E P : Type 0} (r : Result T E) (o : Option E) → OnOk r P �
 unless-refused (Ok x) o p h none = p
 unless-refused (Err e) o p h none = absurd (cc)
 
-module _ (t : Transmission) (r s : Reception) (ps : List Standing) (a : IsAligned t r ps) (f : ForwardTsn)
+module _ {t : Transmission} {r : Reception} (s : Reception) {ps : List Standing} (a : IsAligned t r ps) (f : ForwardTsn)
     (none : forward_refusal f (reception_of (sides t r ps)) ≡ None) where
   module _ {T : Type 0} (res : Result T ReceiverRefusal) (ok : OnOk res (s ≡ R.after_forward f r))
       (refused : IfErr res (λ e. forward_refusal f r ≡ Some e)) where
     takes : s ≡ R.after_forward f r
-    takes = unless-refused res (forward_refusal f r) ok refused (ap (forward_refusal f) (sym (reception-is t r ps a)) ∙ none)
+    takes = unless-refused res (forward_refusal f r) ok refused (ap (forward_refusal f) (sym (reception-is a)) ∙ none)
 
     pub followed-aligned : IsAligned t s ps
-    followed-aligned = forward-aligned t r ps a f s takes
+    followed-aligned = forward-aligned a f s takes
 
     pub followed-sides : sides t s ps ≡ after_forward f (sides t r ps)
-    followed-sides = forward-sides t r ps a f s takes
+    followed-sides = forward-sides a f s takes
 
 -- and it is recorded how far the messages of each stream were named
-module _ (t : Transmission) (r : Reception) (ps : List Standing) (a : IsAligned t r ps) (ms : List Message) (names : List ℕ) where
+module _ {t : Transmission} {r : Reception} {ps : List Standing} (a : IsAligned t r ps) (ms : List Message) (names : List ℕ) where
   pub named-aligned : IsAligned t r (map (standing_named ms names) ps)
-  named-aligned = with-progress t r ps a _ (standing-mapped (standing_named ms names) (λ p. refl) ps)
+  named-aligned = with-progress a _ (standing-mapped (standing_named ms names) (λ p. refl) ps)
 
   pub named-sides : sides t r (map (standing_named ms names) ps) ≡ record (sides t r ps) { streams = map (with_names ms names) (sides t r ps).streams }
   named-sides =

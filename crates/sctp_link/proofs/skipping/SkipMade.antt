@@ -1,39 +1,17 @@
 -- A FORWARD-TSN is made: what it may name, what it says, and the link after it.
-use Rattle.std.proofs.Common.{◌≡◌, ℕ, ◌+◌, ◌<◌, ◌≤◌, ◌^◌, true, false, List, [], ◌∷◌, ◌++◌, length, map, None, refl, ap, sym, ◌∙◌, inl, inr, arith, not}
-use Rattle.std.specs.Prelude.{◌⊎◌, ◌&&◌, nat_le, nat_lt, slice_get, slice_index_or, Some}
-use Rattle.std.specs.List.{list_all}
-use Rattle.std.proofs.Math.Path.{subst}
-use Rattle.std.proofs.lemmas.Bool.{cases_lt}
-use Rattle.std.proofs.lemmas.Bool.Decides.{nat_tests}
-use Rattle.sctp_list_lemmas.proofs.Alls.{all-kept, all-at}
-use Rattle.sctp_list_lemmas.proofs.More.{both, fails, not_both}
-use Rattle.sctp_data.specs.ForwardTsn.{ForwardTsn, forward_tsn_value}
-use Rattle.sctp_chunks.specs.Wire.{forward_tsn_chunk}
+use Rattle.sctp_link.proofs.Names.{◌≡◌, ℕ, ◌+◌, ◌<◌, ◌≤◌, ◌^◌, true, false, List, [], ◌∷◌, ◌++◌, length, map, None, refl, ap, sym, ◌∙◌, inl, inr, arith, not}
+use Rattle.sctp_link.proofs.Names.{◌⊎◌, ◌&&◌, nat_le, nat_lt, slice_get, slice_index_or, Some, list_all, subst, cases_lt, nat_tests, both, fails, not_both}
+use Rattle.sctp_link.proofs.Names.{ForwardTsn, forward_tsn_value, forward_tsn_chunk, ReadsPacket, packet_encoding, Event, SkipUnassigned, SkipNames, LinkRecord}
+use Rattle.sctp_link.proofs.Names.{Forward, message_of, belongs_to, slots_where, tsn_of, contents_of, with_datagram, StandsFor, refusal_of, reply_to, after}
+use Rattle.sctp_link.proofs.Names.{can_name, skip_refusal, NamesFit, names-fit, unless-holds, shape, outbound-same, same-self, Message, Slot, message_record}
+use Rattle.sctp_link.proofs.Names.{slot_record, progress_of, pair_in, wire_skip, IsDatagram, packet_with, State, IsLinked, length-mapped, stands-then}
 use Rattle.sctp_chunks.proofs.Lengths.{length_forward_tsn_value}
-use Rattle.sctp_packets.specs.Packet.{ReadsPacket, packet_encoding}
-use Rattle.sctp_model.specs.declared.event.Event.{Event}
-use Rattle.sctp_model.specs.declared.event.LinkRefusal.TheVariants.{SkipUnassigned, SkipNames}
-use Rattle.sctp_model.specs.LinkRecord.{LinkRecord, Forward}
+use Rattle.sctp_list_lemmas.proofs.Alls.{all-kept, all-at}
 use Rattle.sctp_model.specs.LinkRecord as W
-use Rattle.sctp_model.specs.Messages.{message_of, belongs_to, slots_where, tsn_of}
-use Rattle.sctp_model.specs.Contents.{contents_of}
-use Rattle.sctp_model.specs.Changes.{with_datagram}
-use Rattle.sctp_model.specs.Steps.{StandsFor, refusal_of, reply_to, after, can_name, skip_refusal}
-use Rattle.sctp_model.proofs.sender.Network.{NamesFit, names-fit}
-use Rattle.sctp_model.proofs.sender.SenderRun.{unless-holds}
-use Rattle.sctp_model.proofs.sender.Shape.{shape}
-use Rattle.sctp_refinement.proofs.acknowledging.QuietSender.{outbound-same, same-self}
-use Rattle.sctp_link.specs.declared.record.Message.{Message}
-use Rattle.sctp_link.specs.declared.record.Slot.{Slot}
-use Rattle.sctp_link.specs.Records.{message_record, slot_record, progress_of}
-use Rattle.sctp_link.specs.Skips.{pair_in, wire_skip}
-use Rattle.sctp_link.specs.Encodings.{IsDatagram, packet_with}
-use Rattle.sctp_link.specs.Linked.{State, IsLinked}
-use Rattle.sctp_link.proofs.upkeep.Facts.{facts, stands-then}
+use Rattle.sctp_link.proofs.upkeep.Facts.{facts}
 use Rattle.sctp_link.proofs.upkeep.Frames.{stream-same, encodings-more}
 use Rattle.sctp_link.proofs.receiver.Hears.{slot-raw}
 use Rattle.sctp_link.proofs.skipping.NamesInTurn.{pairs-are}
-use Rattle.sctp_list_lemmas.proofs.Getting.{length-mapped}
 
 -- ## What it may name
 
@@ -53,10 +31,10 @@ past-some w n upto p lt inside e =
     (length w.slots) (omega arith) (omega (arith, inside)) e a in let le : p ≤ upto = grind (arith, nat_tests) in absurd (omega (arith, le, lt)))))
 
 -- the message of a slot, as a link keeps it
-pub slot-of : (sum : List ℕ → ℕ) (x : State) (l : IsLinked sum x) (slots : List Slot) (messages : List Message) → x.recorded.slots ≡ map slot_record slots
+pub slot-of : {sum : List ℕ → ℕ} {x : State} (l : IsLinked sum x) (slots : List Slot) (messages : List Message) → x.recorded.slots ≡ map slot_record slots
     → x.recorded.messages ≡ map message_record messages → (p : ℕ) (y : Slot) → p < length slots → y ≡ slice_index_or slots p y
     → message_of x.recorded p ≡ y.message
-slot-of sum x l slots messages a b p y lt is = ap (λ t. t.message) (slot-raw sum x l slots messages a b p y lt) ∙ ap (λ (t : Slot). t.message) (sym is)
+slot-of l slots messages a b p y lt is = ap (λ t. t.message) (slot-raw l slots messages a b p y lt) ∙ ap (λ (t : Slot). t.message) (sym is)
 
 -- ## What it says
 
@@ -79,7 +57,7 @@ accepted w upto names ok =
 pub skip-short : (f : ForwardTsn) → length f.streams ≤ 16381 → 4 + length (forward_tsn_value f) < 2 ^ 16
 skip-short f le = omega (arith, length_forward_tsn_value f, le)
 
-module _ (sum : List ℕ → ℕ) (x : State) (l : IsLinked sum x) (upto : ℕ) (names : List ℕ) (ok : skip_refusal x.recorded upto names ≡ None) where
+module _ {sum : List ℕ → ℕ} {x : State} (l : IsLinked sum x) (upto : ℕ) (names : List ℕ) (ok : skip_refusal x.recorded upto names ≡ None) where
   abbrev w : LinkRecord
   w = x.recorded
 
@@ -87,14 +65,13 @@ module _ (sum : List ℕ → ℕ) (x : State) (l : IsLinked sum x) (upto : ℕ) 
   v = with_datagram x.recorded (Forward upto names)
 
   fit : NamesFit (shape w) upto names
-  fit = names-fit w upto names (facts sum x l).consistent.sender (accepted w upto names ok).can
+  fit = names-fit w upto names (facts l).consistent.sender (accepted w upto names ok).can
 
   module _ (ms : List Message) (messages_are : x.recorded.messages ≡ map message_record ms) (progress_are : x.progress ≡ map progress_of ms) where
     pub skip-says : (f : ForwardTsn) → f.new_cumulative_tsn ≡ tsn_of w upto → f.streams ≡ map (pair_in ms) names → f ≡ wire_skip w upto names
     skip-says f a b =
-        ap (λ t. let r : ForwardTsn = record { new_cumulative_tsn = t; streams = f.streams } in r) a
-        ∙ ap (λ ps. let r : ForwardTsn = record { new_cumulative_tsn = tsn_of w upto; streams = ps } in r)
-        (b ∙ pairs-are sum x l ms messages_are progress_are upto names fit)
+        ap (λ t. let r : ForwardTsn = record { new_cumulative_tsn = t; streams = f.streams } in r) a ∙ ap (λ ps. let r : ForwardTsn =
+        record { new_cumulative_tsn = tsn_of w upto; streams = ps } in r) (b ∙ pairs-are l ms messages_are progress_are upto names fit)
 
     pub pairs-short : (f : ForwardTsn) → f.streams ≡ map (pair_in ms) names → 4 + length (forward_tsn_value f) < 2 ^ 16
     pairs-short f b = skip-short f (omega (arith, ap length b, length-mapped (pair_in ms) names, (accepted w upto names ok).few))
@@ -105,7 +82,7 @@ module _ (sum : List ℕ → ℕ) (x : State) (l : IsLinked sum x) (upto : ℕ) 
   linked-made f says bytes e none is encoding reads count = record {
     setup = l.setup;
     history = (e, reply_to w e) ∷ l.history;
-    stands = subst (λ u. StandsFor w.setup u ((e, reply_to w e) ∷ l.history)) is (stands-then w.setup w l.history e none l.stands);
+    stands = subst (λ u. StandsFor w.setup u ((e, reply_to w e) ∷ l.history)) is (stands-then e none l.stands);
     outbound = outbound-same w v (same-self w v refl refl refl refl) x.outbound l.outbound;
     unstarted = l.unstarted;
     filter = l.filter;
@@ -116,13 +93,12 @@ module _ (sum : List ℕ → ℕ) (x : State) (l : IsLinked sum x) (upto : ℕ) 
     sents = l.sents;
     indexes = l.indexes;
     low = l.low;
-    open_streams = λ k d lt. stream-same w v (slice_index_or x.open_streams k d)
+    open_streams = λ k d lt. stream-same (slice_index_or x.open_streams k d)
         (record { setup = refl; held = refl; ordered = refl; next = refl; amount = refl; counters = refl }) refl (l.open_streams k d lt);
     apart = l.apart;
     encodings = subst (λ (u : LinkRecord). (k : ℕ) (d : List ℕ) (g : W.Datagram) → slice_get u.network k ≡ Some g
-        → IsDatagram sum (contents_of u g) (slice_index_or (x.datagrams ++ bytes ∷ []) k d)) is
-        (encodings-more sum x l e none (Forward upto names) bytes (ap (λ (u : LinkRecord). u.network) is) count
-        (subst (λ (u : LinkRecord). IsDatagram sum (contents_of u (Forward upto names)) bytes) (sym is) (record {
+        → IsDatagram sum (contents_of u g) (slice_index_or (x.datagrams ++ bytes ∷ []) k d)) is (encodings-more l e none (Forward upto names) bytes
+        (ap (λ (u : LinkRecord). u.network) is) count (subst (λ (u : LinkRecord). IsDatagram sum (contents_of u (Forward upto names)) bytes) (sym is) (record {
           encoding = encoding ∙ ap (λ t. packet_encoding sum (packet_with (forward_tsn_chunk t ∷ []))) says;
           reads = subst (λ t. ReadsPacket sum bytes (packet_with (forward_tsn_chunk t ∷ []))) says reads;
         })));

@@ -1,33 +1,20 @@
 -- What a link tells of itself.
-use Rattle.std.proofs.Common.{◌≡◌, ℕ, ◌-◌, false, List, map, Bor, Option, Some, None, refl, ap, sym, ◌∙◌}
-use Rattle.std.specs.Prelude.{option_map, option_copied, find, if◌then◌else◌, MatchOption}
-use Rattle.sctp_outbound.specs.pending_queue.PendingQueue.{total_bytes}
-use Rattle.sctp_serial.specs.DataChunks.{bytes_of}
-use Rattle.sctp_reassembly.specs.reassembly_queue.ReassemblyQueue.{ReassemblyState}
-use Rattle.sctp_outbound.specs.outbound_queue.OutboundQueue.{Outbound}
-use Rattle.sctp_model.specs.LinkRecord.{LinkRecord}
-use Rattle.sctp_model.specs.Messages.{is_open}
-use Rattle.sctp_model.specs.Amounts.{ledger, in_all, written_bytes, buffered_amount, counters_of}
-use Rattle.sctp_refinement.specs.Refines.{RefinesOutbound}
+use Rattle.sctp_link.proofs.Names.{◌≡◌, ℕ, ◌-◌, false, List, map, Bor, Option, Some, None, refl, ap, sym, ◌∙◌, option_map, option_copied, find, if◌then◌else◌}
+use Rattle.sctp_link.proofs.Names.{MatchOption, bytes_of, ReassemblyState, Outbound, LinkRecord, is_open, ledger, in_all, written_bytes, buffered_amount}
+use Rattle.sctp_link.proofs.Names.{counters_of, RefinesOutbound, amount, counters_on, reassembly_of, OpenStream, has_number, stats_in, State, IsLinked}
+use Rattle.sctp_link.proofs.Names.{ledger_of, stats_of, stream_record, some-same}
 use Rattle.sctp_refinement.proofs.amounts.InFlightBytes.{ledger-is, ledger_by}
-use Rattle.sctp_refinement.specs.Amount.{amount}
-use Rattle.sctp_refinement.specs.Counts.{counters_on}
-use Rattle.sctp_refinement.specs.Holds.{reassembly_of}
-use Rattle.sctp_link.specs.Streams.{OpenStream, has_number, stats_in}
+use Rattle.sctp_outbound.specs.pending_queue.PendingQueue.{total_bytes}
 use Rattle.sctp_link.specs.declared.link.accessors.Ledger.{Ledger}
-use Rattle.sctp_link.specs.Linked.{State, IsLinked, ledger_of, stats_of}
-use Rattle.sctp_link.specs.Records.{stream_record}
 use Rattle.sctp_link.proofs.upkeep.Facts.{over}
 use Rattle.sctp_link.proofs.upkeep.Lookups.{IsKept, kept-at, none-open}
 use Rattle.sctp_link.proofs.upkeep.StreamPlaces.{placed}
-use Rattle.sctp_list_lemmas.proofs.Cases.{some-same}
 
 -- the ledger, by what the queues hold
-pub ledger-now : (sum : List ℕ → ℕ) (x : State) → IsLinked sum x
+pub ledger-now : {sum : List ℕ → ℕ} {x : State} → IsLinked sum x
     → ledger x.recorded ≡ ledger_by (in_all x.recorded (written_bytes x.recorded)) (total_bytes x.outbound.pending) (bytes_of x.outbound.inflight.chunks)
-ledger-now sum x l =
-    over sum x (λ w. (q : Outbound) → RefinesOutbound w q
-    → ledger w ≡ ledger_by (in_all w (written_bytes w)) (total_bytes q.pending) (bytes_of q.inflight.chunks)) l
+ledger-now {x} l =
+    over (λ w. (q : Outbound) → RefinesOutbound w q → ledger w ≡ ledger_by (in_all w (written_bytes w)) (total_bytes q.pending) (bytes_of q.inflight.chunks)) l
     (ledger-is x.recorded.setup l.history l.setup l.stands.run) x.outbound l.outbound
 
 pub same-ledger : {a p f r w q g : ℕ} → a ≡ w → p ≡ q → f ≡ g → r ≡ a - p - f
@@ -37,17 +24,17 @@ same-ledger a p f r = rw (r, a, p, f) refl
 -- ## A stream
 
 -- what is kept of one that is found
-pub kept-found : (sum : List ℕ → ℕ) (x : State) (s : ℕ) (l : OpenStream) → x.recorded.streams ≡ map stream_record x.open_streams → IsLinked sum x
+pub kept-found : {sum : List ℕ → ℕ} {x : State} (s : ℕ) (l : OpenStream) → x.recorded.streams ≡ map stream_record x.open_streams → IsLinked sum x
     → find (has_number s) x.open_streams ≡ Some l → IsKept sum x s l
-kept-found sum x s l same i e =
+kept-found {x} s l same i e =
     let p = placed s x.open_streams l e in
-    kept-at sum x s p.0 l same i p.1.0 (e ∙ ap (λ y. Some y) (sym (p.1.1 l))) (sym (p.1.1 l))
+    kept-at s p.0 l same i p.1.0 (e ∙ ap (λ y. Some y) (sym (p.1.1 l))) (sym (p.1.1 l))
 
 -- what came on a stream and was not read, where it is open
 abbrev pub TellsQueue : LinkRecord → ℕ → Option (Bor ReassemblyState) → Type 0
 TellsQueue w s r = MatchOption r (is_open w s ≡ false) (λ q. (q.now.held ≡ reassembly_of w s) × (q.now.si ≡ s) × (q.now.max_message_size ≡ w.setup.largest))
 
-module _ (sum : List ℕ → ℕ) (x : State) (i : IsLinked sum x) (s : ℕ) (same : x.recorded.streams ≡ map stream_record x.open_streams) where
+module _ {sum : List ℕ → ℕ} {x : State} (i : IsLinked sum x) (s : ℕ) (same : x.recorded.streams ≡ map stream_record x.open_streams) where
   pub amount-is : option_map (λ (l : OpenStream). l.state.buffered_amount) (find (has_number s) x.open_streams) ≡ buffered_amount x.recorded s
   amount-is = by (find (has_number s) x.open_streams) refl
     where
@@ -55,7 +42,7 @@ module _ (sum : List ℕ → ℕ) (x : State) (i : IsLinked sum x) (s : ℕ) (sa
           → option_map (λ (l : OpenStream). l.state.buffered_amount) o ≡ buffered_amount x.recorded s
       by None e = sym (ap (λ b. if b then Some (amount x.recorded s) else None) (none-open x.recorded s x.open_streams same e))
       by (Some l) e =
-          let k = kept-found sum x s l same i e in
+          let k = kept-found s l same i e in
           ap (λ n. Some n) (k.open_stream.amount ∙ ap (amount x.recorded) k.number) ∙ sym (ap (λ b. if b then Some (amount x.recorded s) else None) k.is_open)
 
   pub stats-is : option_map stats_in (find (has_number s) x.open_streams) ≡ option_map stats_of (counters_of x.recorded s)
@@ -64,7 +51,7 @@ module _ (sum : List ℕ → ℕ) (x : State) (i : IsLinked sum x) (s : ℕ) (sa
       by : (o : Option OpenStream) → find (has_number s) x.open_streams ≡ o → option_map stats_in o ≡ option_map stats_of (counters_of x.recorded s)
       by None e = sym (ap (λ b. option_map stats_of (if b then Some (counters_on x.recorded s) else None)) (none-open x.recorded s x.open_streams same e))
       by (Some l) e =
-          let k = kept-found sum x s l same i e in
+          let k = kept-found s l same i e in
           ap (λ n. Some n) (k.open_stream.stats ∙ ap (λ t. stats_of (counters_on x.recorded t)) k.number)
           ∙ sym (ap (λ b. option_map stats_of (if b then Some (counters_on x.recorded s) else None)) k.is_open)
 
@@ -78,7 +65,7 @@ module _ (sum : List ℕ → ℕ) (x : State) (i : IsLinked sum x) (s : ℕ) (sa
       by None (Some l) e z = cc
       by (Some q) None e z = cc
       by (Some q) (Some l) e z =
-          let k = kept-found sum x s l same i e in
+          let k = kept-found s l same i e in
           let here : q.now ≡ l.inbound.queue = some-same z in (
             ap (λ (t : ReassemblyState). t.held) here ∙ k.open_stream.held ∙ ap (reassembly_of x.recorded) k.number,
             ap (λ (t : ReassemblyState). t.si) here ∙ k.open_stream.si ∙ k.number,

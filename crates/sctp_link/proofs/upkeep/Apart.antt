@@ -1,19 +1,8 @@
 -- No stream of a link is open twice, and what the change of one of its streams, slots or messages makes of the record.
-use Rattle.std.proofs.Common.{◌≡◌, ℕ, zero, suc, ◌<◌, Bool, true, false, List, [], ◌∷◌, length, map, Some, refl, ap, sym, ◌∙◌, arith}
-use Rattle.std.specs.Prelude.{◌==◌, find, if◌then◌else◌, slice_index_or, slice_set}
+use Rattle.sctp_link.proofs.Names.{◌≡◌, ℕ, zero, suc, ◌<◌, Bool, true, false, List, [], ◌∷◌, length, map, Some, refl, ap, sym, ◌∙◌, arith, ◌==◌, find}
+use Rattle.sctp_link.proofs.Names.{if◌then◌else◌, slice_index_or, slice_set, list_any, subst, get_or-set_same, get_or-set_other, same-yes, same-is, not_both}
+use Rattle.sctp_link.proofs.Names.{StreamRecord, by_place, same-turned, IsApart, OpenStream, has_number, stream_numbers, stream_record}
 use Rattle.std.specs.Option.{option_map}
-use Rattle.std.specs.List.{list_any}
-use Rattle.std.proofs.Math.Path.{subst}
-use Rattle.std.proofs.lemmas.List.{get_or-set_same, get_or-set_other}
-use Rattle.sctp_list_lemmas.specs.Lists.{change_at}
-use Rattle.sctp_list_lemmas.proofs.Cases.{same-yes, same-is}
-use Rattle.sctp_list_lemmas.proofs.More.{not_both}
-use Rattle.sctp_model.specs.LinkRecord.{StreamRecord}
-use Rattle.sctp_refinement.proofs.arriving.Stays.{by_place}
-use Rattle.sctp_refinement.proofs.amounts.StreamAmounts.{same-turned}
-use Rattle.sctp_link.specs.Places.{IsApart}
-use Rattle.sctp_link.specs.Streams.{OpenStream, has_number, stream_numbers}
-use Rattle.sctp_link.specs.Records.{stream_record}
 use Rattle.sctp_serial.proofs.lemmas.ListEdits.{neither}
 
 -- ## Open streams
@@ -55,12 +44,6 @@ differ (l ∷ ls) (suc j) zero d a lj lk ne e = not_both (sym (none-at l.state.s
 differ (l ∷ ls) (suc j) (suc k) d a lj lk ne e = differ ls j k d a.1 (omega arith) (omega arith) (λ z. ne (ap suc z)) e
 
 -- ## One element is set
-
-pub map-set : {A B : Type 0} (f : A → B) (g : B → B) (xs : List A) (i : ℕ) (y d : A) → i < length xs → f y ≡ g (f (slice_index_or xs i d))
-    → map f (slice_set xs i y) ≡ change_at g i (map f xs)
-map-set f g [] i y d lt e = absurd (omega arith)
-map-set f g (x ∷ xs) zero y d lt e = ap (λ b. b ∷ map f xs) e
-map-set f g (x ∷ xs) (suc i) y d lt e = ap (λ bs. f x ∷ bs) (map-set f g xs i y d (omega arith) e)
 
 untouched : (s : ℕ) (f : StreamRecord → StreamRecord) (ls : List OpenStream) → list_any (λ k. k == s) (stream_numbers ls) ≡ false
     → map (λ r. if r.stream == s then f r else r) (map stream_record ls) ≡ map stream_record ls

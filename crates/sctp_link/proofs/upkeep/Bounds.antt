@@ -1,75 +1,26 @@
 -- How much can have been written.
-use Rattle.std.proofs.Common.{◌≡◌, ℕ, zero, suc, ◌+◌, ◌*◌, ◌<◌, ◌≤◌, ◌^◌, List, [], ◌∷◌, length, drop, refl, arith}
-use Rattle.std.specs.Prelude.{◌==◌}
-use Rattle.std.proofs.lemmas.List.{length-drop}
-use Rattle.sctp_list_lemmas.specs.Kept.{numbers_where, always, total_over, numbers_from}
-use Rattle.sctp_list_lemmas.specs.Lists.{pieces}
-use Rattle.sctp_list_lemmas.proofs.Totals.{total-wider, total-le}
-use Rattle.sctp_serial.specs.DataChunks.{bytes_of}
-use Rattle.sctp_outbound.specs.outbound_queue.OutboundQueue.{total_bytes}
-use Rattle.sctp_model.specs.LinkRecord.{Setup, LinkRecord}
-use Rattle.sctp_model.specs.Messages.{message_at, fragment_count}
-use Rattle.sctp_model.specs.Amounts.{in_all, on_stream, written_bytes, pending_bytes, in_flight_bytes, released_bytes}
-use Rattle.sctp_model.specs.Steps.{fragments_accepted}
-use Rattle.sctp_model.specs.Laws.{IsSetup}
-use Rattle.sctp_model.proofs.sender.SenderRun.{Consistent}
-use Rattle.sctp_model.proofs.acknowledgement.Bytes.{balances}
-use Rattle.sctp_refinement.specs.Amount.{amount}
-use Rattle.sctp_refinement.specs.Refines.{RefinesOutbound}
-use Rattle.sctp_refinement.proofs.amounts.PendingBytes.{pending-bytes}
+use Rattle.sctp_link.proofs.Names.{◌≡◌, ℕ, ◌+◌, ◌≤◌, List, length, refl, arith, ◌==◌, always, bytes_of, total_bytes, message_at, in_all, written_bytes}
+use Rattle.sctp_link.proofs.Names.{pending_bytes, in_flight_bytes, released_bytes, balances, amount, RefinesOutbound, Outbound, State, IsLinked}
 use Rattle.sctp_refinement.proofs.amounts.InFlightBytes.{in-flight-bytes}
-use Rattle.sctp_outbound.specs.outbound_queue.OutboundQueue.{Outbound}
-use Rattle.sctp_link.specs.Linked.{State, IsLinked}
+use Rattle.sctp_list_lemmas.proofs.Totals.{total-wider}
+use Rattle.sctp_model.specs.Amounts.{on_stream}
+use Rattle.sctp_refinement.proofs.amounts.PendingBytes.{pending-bytes}
 use Rattle.sctp_link.proofs.upkeep.Facts.{over}
-
--- a piece has at most so many bytes
-pieces-many : (most size : ℕ) (bytes : List ℕ) → 0 < size → size ≤ 65519 → length bytes ≤ most → length bytes ≤ 65519 * length (pieces most size bytes)
-pieces-many zero size [] some small le = omega arith
-pieces-many zero size (x ∷ xs) some small le = absurd (omega (arith, le))
-pieces-many (suc most) size [] some small le = omega arith
-pieces-many (suc most) size (x ∷ xs) some small le =
-    let rest = length-drop size (x ∷ xs) in
-    let more = pieces-many most size (drop size (x ∷ xs)) some small (omega (arith, rest, le, some)) in
-    omega (arith, rest, more, small)
-
-total-times : (f g : ℕ → ℕ) (ns : List ℕ) → ((n : ℕ) → f n ≤ 65519 * g n) → total_over f ns ≤ 65519 * total_over g ns
-total-times f g [] le = omega arith
-total-times f g (n ∷ ns) le = omega (arith, le n, total-times f g ns le)
-
--- the bytes written, by the fragments that are accepted
-pub written-few : (setup : Setup) (w : LinkRecord) → IsSetup w.setup → Consistent setup w → in_all w (written_bytes w) < 2 ^ 47
-written-few setup w is g =
-    let each : (n : ℕ) → written_bytes w n ≤ 65519 * fragment_count w n =
-    λ n. pieces-many (length (message_at w n).bytes) w.setup.size (message_at w n).bytes is.some is.size (omega arith) in
-    let all = total-times (written_bytes w) (fragment_count w) (numbers_from 0 (length w.messages)) each in
-    let few : fragments_accepted w < 2 ^ 31 = g.accepted in
-    omega (arith, all, few)
-
-ones : (from count : ℕ) → total_over (λ n. 1) (numbers_where always from count) ≡ count
-ones from zero = refl
-ones from (suc count) = omega (arith, ones (from + 1) count)
-
--- each message has a fragment
-pub messages-few : (setup : Setup) (w : LinkRecord) → Consistent setup w → length w.messages < 2 ^ 31
-messages-few setup w g =
-    let all = total-le (λ n. 1) (fragment_count w) 0 (length w.messages) (λ k a b. let some = g.sender.some k (omega (arith, b)) in omega (arith, some)) in
-    let few : fragments_accepted w < 2 ^ 31 = g.accepted in
-    omega (arith, all, few, ones 0 (length w.messages))
 
 -- ## What is pending and in flight
 
-pub queued-few : (sum : List ℕ → ℕ) (x : State) → IsLinked sum x → total_bytes x.outbound ≤ in_all x.recorded (written_bytes x.recorded)
-queued-few sum x l =
+pub queued-few : {sum : List ℕ → ℕ} {x : State} → IsLinked sum x → total_bytes x.outbound ≤ in_all x.recorded (written_bytes x.recorded)
+queued-few {x} l =
     let p = pending-bytes x.recorded x.outbound.pending l.outbound.pending in
-    let f = over sum x (λ w. (q : Outbound) → RefinesOutbound w q → bytes_of q.inflight.chunks ≡ in_all w (in_flight_bytes w)) l
+    let f = over (λ w. (q : Outbound) → RefinesOutbound w q → bytes_of q.inflight.chunks ≡ in_all w (in_flight_bytes w)) l
     (in-flight-bytes x.recorded.setup l.history l.setup l.stands.run) x.outbound l.outbound in
-    let b = over sum x (λ w. in_all w (written_bytes w) ≡ in_all w (pending_bytes w) + in_all w (in_flight_bytes w) + in_all w (released_bytes w)) l
+    let b = over (λ w. in_all w (written_bytes w) ≡ in_all w (pending_bytes w) + in_all w (in_flight_bytes w) + in_all w (released_bytes w)) l
     (balances x.recorded.setup l.history l.setup l.stands.run).0 in
     omega (arith, p, f, b)
 
-pub amount-few : (sum : List ℕ → ℕ) (x : State) (t : ℕ) → IsLinked sum x → amount x.recorded t ≤ in_all x.recorded (written_bytes x.recorded)
-amount-few sum x t l =
-    let b = over sum x (λ w. (t : ℕ) → on_stream w t (written_bytes w) ≡ on_stream w t (pending_bytes w) + on_stream w t (in_flight_bytes w)
+pub amount-few : {sum : List ℕ → ℕ} {x : State} (t : ℕ) → IsLinked sum x → amount x.recorded t ≤ in_all x.recorded (written_bytes x.recorded)
+amount-few {x} t l =
+    let b = over (λ w. (t : ℕ) → on_stream w t (written_bytes w) ≡ on_stream w t (pending_bytes w) + on_stream w t (in_flight_bytes w)
     + on_stream w t (released_bytes w)) l (balances x.recorded.setup l.history l.setup l.stands.run).1 t in
     let wide = total-wider (written_bytes x.recorded) (λ n. (message_at x.recorded n).stream == t) always 0 (length x.recorded.messages) (λ k a b e. refl) in
     omega (arith, b, wide)

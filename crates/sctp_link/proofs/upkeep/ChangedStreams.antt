@@ -1,16 +1,7 @@
 -- Streams of one number are changed: what of a list stays, and what stands at each place.
-use Rattle.sctp_link.specs.Streams.{OpenStream, has_number}
-use Rattle.std.proofs.Common.{◌≡◌, ℕ, ◌<◌, Bool, true, false, List, [], ◌∷◌, length, map, refl, ap, sym, ◌∙◌, arith}
-use Rattle.std.specs.Prelude.{if◌then◌else◌, ◌==◌, slice_index_or}
-use Rattle.sctp_list_lemmas.specs.Lists.{change_where}
-use Rattle.std.proofs.Math.Path.{subst}
-use Rattle.sctp_list_lemmas.proofs.Cases.{same-is, same-yes}
-use Rattle.sctp_list_lemmas.proofs.More.{not_both}
-use Rattle.sctp_list_lemmas.proofs.Edits.{change_where-map, length-change_where}
-use Rattle.sctp_model.specs.LinkRecord.{StreamRecord}
-use Rattle.sctp_link.specs.Records.{stream_record}
-use Rattle.sctp_list_lemmas.proofs.Getting.{map-at}
-use Rattle.sctp_refinement.proofs.amounts.StreamAmounts.{same-turned}
+use Rattle.sctp_link.proofs.Names.{OpenStream, has_number, ◌≡◌, ℕ, ◌<◌, Bool, true, false, List, [], ◌∷◌, length, map, refl, ap, sym, ◌∙◌, arith, if◌then◌else◌}
+use Rattle.sctp_link.proofs.Names.{◌==◌, slice_index_or, change_where, subst, same-is, same-yes, not_both, change_where-map, length-change_where, StreamRecord}
+use Rattle.sctp_link.proofs.Names.{stream_record, map-at, same-turned}
 
 -- what the change leaves of a stream it leaves of the list
 pub fields-same : {A : Type 0} (f : OpenStream → A) (g : OpenStream → OpenStream) → ((l : OpenStream) → f (g l) ≡ f l) → (s : ℕ) (ls : List OpenStream)

@@ -1,42 +1,18 @@
 -- What an event leaves of a link's streams, bytes and datagrams.
-use Rattle.std.proofs.Common.{◌≡◌, ℕ, true, false, List, [], ◌∷◌, ◌++◌, length, Some, None, refl, ap, sym, ◌∙◌, arith, length-append}
-use Rattle.std.specs.Prelude.{slice_get, slice_index_or}
-use Rattle.std.proofs.Math.Path.{subst}
-use Rattle.std.proofs.lemmas.Option.{slice_get_within}
-use Rattle.sctp_list_lemmas.specs.Lists.{pieces}
-use Rattle.sctp_list_lemmas.proofs.Getting.{get-snoc_old, get-snoc_new, get-last, slice-front}
-use Rattle.sctp_list_lemmas.proofs.Cases.{by_last}
-use Rattle.sctp_model.specs.declared.event.Event.{Event}
-use Rattle.sctp_model.specs.LinkRecord.{LinkRecord}
-use Rattle.sctp_model.specs.LinkRecord as W
-use Rattle.sctp_model.specs.Messages.{ordered_before, message_at}
-use Rattle.sctp_model.specs.Receiver.{next_of}
-use Rattle.sctp_model.specs.Contents.{contents_of}
-use Rattle.sctp_model.specs.Steps.{refusal_of, after, fragments_accepted, record_of}
-use Rattle.sctp_model.specs.Amounts.{in_all, written_bytes}
-use Rattle.sctp_model.specs.Log.{log_of}
-use Rattle.sctp_model.specs.Queues.{filter_of}
-use Rattle.sctp_model.proofs.sender.SenderRun.{consistent-run, consistent-after}
-use Rattle.sctp_model.proofs.sender.Moves.{Quiet}
-use Rattle.sctp_model.proofs.sender.Shape.{shape}
-use Rattle.sctp_model.proofs.receiver.Received.{received-run}
-use Rattle.sctp_refinement.specs.Holds.{reassembly_of}
-use Rattle.sctp_refinement.specs.Amount.{amount, keeps_amounts}
-use Rattle.sctp_refinement.specs.Counts.{counters_on, is_write, is_read}
-use Rattle.sctp_refinement.specs.Indexes.{begun_on}
-use Rattle.sctp_refinement.proofs.sending.Begun.{Indexed}
-use Rattle.sctp_refinement.proofs.sending.BegunRun.{SendsNone, none-after, counted-after}
+use Rattle.sctp_link.proofs.Names.{◌≡◌, ℕ, true, false, List, [], ◌∷◌, ◌++◌, length, Some, None, refl, ap, sym, ◌∙◌, arith, length-append, slice_get}
+use Rattle.sctp_link.proofs.Names.{slice_index_or, subst, slice_get_within, pieces, get-snoc_old, get-snoc_new, get-last, slice-front, by_last, Event}
+use Rattle.sctp_link.proofs.Names.{LinkRecord, ordered_before, message_at, next_of, contents_of, refusal_of, after, fragments_accepted, record_of, in_all}
+use Rattle.sctp_link.proofs.Names.{written_bytes, filter_of, consistent-run, consistent-after, Quiet, shape, reassembly_of, amount, keeps_amounts, counters_on}
+use Rattle.sctp_link.proofs.Names.{is_write, is_read, begun_on, Indexed, SendsNone, none-after, counted-after, written-same, counters-same, amount-same}
+use Rattle.sctp_link.proofs.Names.{KeepsNext, next-same, OpenStream, IsDatagram, State, IsOpenStream, IsLinked, stats_of, some-same, says-still}
 use Rattle.sctp_refinement.proofs.amounts.MessageSums.{sum-same}
-use Rattle.sctp_refinement.proofs.amounts.AnsweredSums.{answered-after}
-use Rattle.sctp_refinement.proofs.amounts.StreamCounters.{written-same, counters-same}
-use Rattle.sctp_refinement.proofs.amounts.StreamAmounts.{amount-same}
 use Rattle.sctp_model.proofs.receiver.ValidRun.{record_is_valid}
+use Rattle.sctp_model.proofs.receiver.Received.{received-run}
+use Rattle.sctp_model.specs.Log.{log_of}
+use Rattle.sctp_model.specs.LinkRecord as W
+use Rattle.sctp_refinement.proofs.amounts.AnsweredSums.{answered-after}
 use Rattle.sctp_refinement.proofs.sending.QuietReceiver.{reassembly-quiet, filter-quiet}
-use Rattle.sctp_refinement.proofs.reading.ReadOne.{KeepsNext, next-same}
-use Rattle.sctp_link.specs.Streams.{OpenStream}
-use Rattle.sctp_link.specs.Encodings.{IsDatagram}
-use Rattle.sctp_link.specs.Linked.{State, IsOpenStream, IsLinked, stats_of}
-use Rattle.sctp_link.proofs.upkeep.Facts.{facts, says-still}
+use Rattle.sctp_link.proofs.upkeep.Facts.{facts}
 use Rattle.sctp_link.proofs.sender.Beginning.{index_kept, indexed-of}
 
 -- ## A stream
@@ -50,9 +26,9 @@ pub record SameStream (w v : LinkRecord) (s : ℕ) : Type 0 where
   pub amount : amount v s ≡ amount w s
   pub counters : counters_on v s ≡ counters_on w s
 
-pub stream-with : (w v : LinkRecord) (l : OpenStream) (n : ℕ) → SameStream w v l.state.stream_identifier → n ≡ begun_on v l.state.stream_identifier
+pub stream-with : {w v : LinkRecord} (l : OpenStream) (n : ℕ) → SameStream w v l.state.stream_identifier → n ≡ begun_on v l.state.stream_identifier
     → IsOpenStream w l → IsOpenStream v (record l { begun = n })
-stream-with w v l n f e i = record {
+stream-with l n f e i = record {
   held = i.held ∙ sym f.held;
   si = i.si;
   largest = i.largest ∙ ap (λ t. t.largest) (sym f.setup);
@@ -65,13 +41,13 @@ stream-with w v l n f e i = record {
   stats = i.stats ∙ ap stats_of (sym f.counters);
 }
 
-pub stream-same : (w v : LinkRecord) (l : OpenStream) → SameStream w v l.state.stream_identifier
+pub stream-same : {w v : LinkRecord} (l : OpenStream) → SameStream w v l.state.stream_identifier
     → begun_on v l.state.stream_identifier ≡ begun_on w l.state.stream_identifier → IsOpenStream w l → IsOpenStream v l
-stream-same w v l f same i = stream-with w v l l.begun f (i.begun ∙ sym same) i
+stream-same l f same i = stream-with l l.begun f (i.begun ∙ sym same) i
 
 -- ## What an event leaves
 
-module _ (sum : List ℕ → ℕ) (x : State) (l : IsLinked sum x) (e : Event) (ok : refusal_of x.recorded e ≡ None) where
+module _ {sum : List ℕ → ℕ} {x : State} (l : IsLinked sum x) (e : Event) (ok : refusal_of x.recorded e ≡ None) where
   abbrev w : LinkRecord
   w = x.recorded
 
@@ -79,13 +55,13 @@ module _ (sum : List ℕ → ℕ) (x : State) (l : IsLinked sum x) (e : Event) (
   v = after x.recorded e
 
   pub setup-same : v.setup ≡ w.setup
-  setup-same = (consistent-after w.setup w e ok (facts sum x l).consistent).setup_is
+  setup-same = (consistent-after w.setup w e ok (facts l).consistent).setup_is
 
   -- a datagram that was there
   pub encoding-old : (k : ℕ) (d : List ℕ) (g : W.Datagram) → slice_get w.network k ≡ Some g → slice_get v.network k ≡ Some g
       → IsDatagram sum (contents_of v g) (slice_index_or x.datagrams k d)
   encoding-old k d g old new =
-      subst (λ c. IsDatagram sum c (slice_index_or x.datagrams k d)) (sym (says-still w (facts sum x l) e ok k g g old new)) (l.encodings k d g old)
+      subst (λ c. IsDatagram sum c (slice_index_or x.datagrams k d)) (sym (says-still (facts l) e ok k g g old new)) (l.encodings k d g old)
 
   -- no datagram is made
   pub encodings-same : v.network ≡ w.network → (k : ℕ) (d : List ℕ) (g : W.Datagram) → slice_get v.network k ≡ Some g
@@ -102,12 +78,9 @@ module _ (sum : List ℕ → ℕ) (x : State) (l : IsLinked sum x) (e : Event) (
       (λ lt. subst (IsDatagram sum (contents_of v g)) (sym (get-snoc_old x.datagrams bytes k d (λ z. absurd (omega (arith, lt, z, count)))))
       (encoding-old k d g (sym (slice-front w.network (n ∷ []) k lt) ∙ ap (λ ds. slice_get ds k) (sym more) ∙ e') e'))
       (λ z. subst (λ g. IsDatagram sum (contents_of v g) (slice_index_or (x.datagrams ++ bytes ∷ []) k d))
-      (inner (sym (get-last w.network n) ∙ ap (λ ds. slice_get ds (length w.network)) (sym more) ∙ ap (slice_get v.network) (sym z) ∙ e'))
+      (some-same (sym (get-last w.network n) ∙ ap (λ ds. slice_get ds (length w.network)) (sym more) ∙ ap (slice_get v.network) (sym z) ∙ e'))
       (subst (IsDatagram sum (contents_of v n))
       (sym (ap (λ j. slice_index_or (x.datagrams ++ bytes ∷ []) j d) (z ∙ sym count) ∙ get-snoc_new x.datagrams bytes d)) is))
-    where
-      inner : {A : Type 0} {a b : A} → Some a ≡ Some b → a ≡ b
-      inner e = cc
 
   -- the index expected next
   pub next-kept : KeepsNext e → (t : ℕ) → next_of v t ≡ next_of w t
@@ -135,11 +108,11 @@ module _ (sum : List ℕ → ℕ) (x : State) (l : IsLinked sum x) (e : Event) (
 
   -- indexes, where no fragment is sent
   pub begun-kept : SendsNone e → (t : ℕ) → begun_on v t ≡ begun_on w t
-  begun-kept none t = (none-after w.setup w e (facts sum x l).consistent none).begun t
+  begun-kept none t = (none-after w.setup w e (facts l).consistent none).begun t
 
   pub indexed-kept : SendsNone e → Indexed (shape v) (index_kept x.progress)
-  indexed-kept none = (counted-after w.setup w e (index_kept x.progress) (begun_on w) ok (facts sum x l).consistent none
-      (record { indexed = indexed-of sum x l; begun = λ s. refl })).indexed
+  indexed-kept none = (counted-after w.setup w e (index_kept x.progress) (begun_on w) ok (facts l).consistent none
+      (record { indexed = indexed-of l; begun = λ s. refl })).indexed
 
   -- so a stream is as it was, where nothing is written
   pub stream-quiet : Quiet w v → KeepsNext e → keeps_amounts e ≡ true → is_write e ≡ false → is_read e ≡ false
@@ -149,20 +122,20 @@ module _ (sum : List ℕ → ℕ) (x : State) (l : IsLinked sum x) (e : Event) (
     held = held-quiet q s;
     ordered = before s;
     next = next-kept keeps s;
-    amount = amount-same w.setup w e s l.setup (facts sum x l).consistent amounts;
-    counters = counters-same w.setup w e s (facts sum x l).consistent no-write no-read;
+    amount = amount-same w.setup w e s l.setup (facts l).consistent amounts;
+    counters = counters-same w.setup w e s (facts l).consistent no-write no-read;
   }
 
   -- what was accepted and what was written
   pub fragments-same : is_write e ≡ false → fragments_accepted v ≡ fragments_accepted w
   fragments-same no-write =
-      let t = answered-after w.setup w e (facts sum x l).consistent no-write in
+      let t = answered-after w.setup w e (facts l).consistent no-write in
       ap (λ s. in_all v (λ n. length (pieces (length (message_at v n).bytes) s.size (message_at v n).bytes))) setup-same
       ∙ sum-same w v (λ m. true) (λ m. length (pieces (length m.bytes) w.setup.size m.bytes)) t.count (λ n lt. refl)
       (λ n lt. ap (λ b. length (pieces (length b) w.setup.size b)) (t.bytes n lt))
 
   pub written-kept : is_write e ≡ false → in_all v (written_bytes v) ≡ in_all w (written_bytes w)
-  written-kept no-write = written-same w.setup w e (facts sum x l).consistent no-write
+  written-kept no-write = written-same w.setup w e (facts l).consistent no-write
 
 -- another name for the record
 pub moved : (sum : List ℕ → ℕ) (y : State) (v : LinkRecord) → y.recorded ≡ v → IsLinked sum (record y { recorded = v }) → IsLinked sum y

@@ -1,13 +1,7 @@
 -- A stream looked up among those that a link keeps.
-use Rattle.std.proofs.Common.{◌≡◌, ℕ, ◌<◌, true, false, List, length, map, Option, Some, None, refl, ap, sym, ◌∙◌}
-use Rattle.std.specs.Prelude.{◌==◌, find, is_some, option_map, slice_index_or}
-use Rattle.std.proofs.Math.Path.{subst}
-use Rattle.sctp_reassembly.specs.reassembly_queue.ReassemblyQueue.{ReassemblyState}
-use Rattle.sctp_model.specs.LinkRecord.{LinkRecord}
-use Rattle.sctp_model.specs.Messages.{is_open, stream_at}
-use Rattle.sctp_link.specs.Streams.{OpenStream, has_number}
-use Rattle.sctp_link.specs.Linked.{State, IsLinked, IsOpenStream}
-use Rattle.sctp_link.specs.Records.{stream_record}
+use Rattle.sctp_link.proofs.Names.{◌≡◌, ℕ, ◌<◌, true, false, List, length, map, Option, Some, None, refl, ap, sym, ◌∙◌, ◌==◌, find, is_some, option_map}
+use Rattle.sctp_link.proofs.Names.{slice_index_or, subst, ReassemblyState, LinkRecord, is_open, stream_at, OpenStream, has_number, State, IsLinked}
+use Rattle.sctp_link.proofs.Names.{IsOpenStream, stream_record}
 use Rattle.sctp_link.proofs.upkeep.Apart.{number-found, stream-found}
 use Rattle.sctp_link.proofs.upkeep.StreamPlaces.{placed}
 
@@ -25,10 +19,10 @@ pub record IsKept (sum : List ℕ → ℕ) (x : State) (s : ℕ) (l : OpenStream
   pub number : l.state.stream_identifier ≡ s
   pub open_stream : IsOpenStream x.recorded l
 
-pub kept-at : (sum : List ℕ → ℕ) (x : State) (s k : ℕ) (l : OpenStream) → x.recorded.streams ≡ map stream_record x.open_streams → IsLinked sum x
+pub kept-at : {sum : List ℕ → ℕ} {x : State} (s k : ℕ) (l : OpenStream) → x.recorded.streams ≡ map stream_record x.open_streams → IsLinked sum x
     → k < length x.open_streams → find (has_number s) x.open_streams ≡ Some (slice_index_or x.open_streams k l) → l ≡ slice_index_or x.open_streams k l
     → IsKept sum x s l
-kept-at sum x s k l same i lt found is = record {
+kept-at {x} s k l same i lt found is = record {
   is_open = ap is_some (some-open x.recorded s x.open_streams l same here);
   number = number-found s x.open_streams l here;
   open_stream = subst (IsOpenStream x.recorded) (sym is) (i.open_streams k l lt);

@@ -1,19 +1,8 @@
 -- What a link tells that is asked of it: which streams are open, what a datagram's bytes say, which TSNs can be sent again.
-use Rattle.std.proofs.Common.{◌≡◌, ℕ, zero, suc, ◌<◌, ◌≤◌, ◌^◌, Bool, true, false, List, [], ◌∷◌, length, map, Some, refl, ap, sym, ◌∙◌, arith}
-use Rattle.std.specs.Prelude.{◌&&◌, ◌||◌, not, slice_get, slice_index_or, nat_le, nat_lt}
-use Rattle.std.proofs.lemmas.Bool.{lt-ltb, le-leb}
-use Rattle.std.proofs.lemmas.List.{get_or-map}
-use Rattle.sctp_list_lemmas.proofs.Getting.{length-mapped}
-use Rattle.sctp_model.specs.LinkRecord.{LinkRecord}
-use Rattle.sctp_model.specs.Queues.{is_cleared}
-use Rattle.sctp_model.specs.Messages.{message_at, message_of, slot_at, no_slot}
-use Rattle.sctp_model.specs.Contents.{Contents, contents_of, contents_in, datagram}
-use Rattle.sctp_model.specs.Steps.{can_resend}
-use Rattle.sctp_link.specs.declared.record.Datagram.{Datagram}
-use Rattle.sctp_link.specs.declared.record.Slot.{Slot}
-use Rattle.sctp_link.specs.Linked.{State, IsLinked}
-use Rattle.sctp_link.specs.Records.{datagram_record, slot_record}
-use Rattle.sctp_link.specs.Encodings.{datagram_encoding}
+use Rattle.sctp_link.proofs.Names.{◌≡◌, ℕ, zero, suc, ◌<◌, ◌≤◌, ◌^◌, Bool, true, false, List, [], ◌∷◌, length, map, Some, refl, ap, sym, ◌∙◌, arith, ◌&&◌, ◌||◌}
+use Rattle.sctp_link.proofs.Names.{not, slice_get, slice_index_or, nat_le, nat_lt, lt-ltb, le-leb, get_or-map, length-mapped, LinkRecord, is_cleared}
+use Rattle.sctp_link.proofs.Names.{message_at, message_of, slot_at, no_slot, Contents, contents_of, contents_in, datagram, can_resend, Datagram, Slot, State}
+use Rattle.sctp_link.proofs.Names.{IsLinked, datagram_record, slot_record, datagram_encoding}
 use Rattle.sctp_link.proofs.upkeep.Facts.{facts}
 
 -- a datagram that was made, in its place
@@ -23,10 +12,10 @@ get-record (x ∷ ds) zero d lt = refl
 get-record (x ∷ ds) (suc k) d lt = get-record ds k d (omega (arith, lt))
 
 -- its bytes are what the record says
-pub says-bytes : (sum : List ℕ → ℕ) (x : State) (ds : List Datagram) (k : ℕ) (d : Datagram) → IsLinked sum x → x.recorded.network ≡ map datagram_record ds
+pub says-bytes : {sum : List ℕ → ℕ} {x : State} (ds : List Datagram) (k : ℕ) (d : Datagram) → IsLinked sum x → x.recorded.network ≡ map datagram_record ds
     → x.datagrams ≡ map (λ d. d.bytes) ds → k < length ds → d ≡ slice_index_or ds k d
     → (c : Contents) × (datagram x.recorded k ≡ Some c) × (d.bytes ≡ datagram_encoding sum c)
-says-bytes sum x ds k d l network bytes lt is =
+says-bytes {x} ds k d l network bytes lt is =
     let g = datagram_record (slice_index_or ds k d) in
     let made : slice_get x.recorded.network k ≡ Some g = ap (λ n. slice_get n k) network ∙ get-record ds k d lt in
     let encoding = l.encodings k [] g made in
@@ -35,23 +24,21 @@ says-bytes sum x ds k d l network bytes lt is =
     (contents_of x.recorded g, ap (contents_in x.recorded) made, ap (λ (y : Datagram). y.bytes) is ∙ sym here ∙ encoding.encoding)
 
 -- fewer fragments than TSNs were accepted
-pub few-fragments : (sum : List ℕ → ℕ) (x : State) → IsLinked sum x → x.fragments < 2 ^ 31
-few-fragments sum x l = omega (arith, l.fragments, (facts sum x l).consistent.accepted)
+pub few-fragments : {sum : List ℕ → ℕ} {x : State} → IsLinked sum x → x.fragments < 2 ^ 31
+few-fragments l = omega (arith, l.fragments, (facts l).consistent.accepted)
 
 all-right : (a b c d : Bool) → a ≡ true → b ≡ true → ((a && b) && (not c && not d)) ≡ not (c || d)
-all-right true true true d h i = refl
-all-right true true false d h i = refl
-all-right true false c d h i = cc
-all-right false b c d h i = cc
+all-right a b true d h i = rw (h, i) refl
+all-right a b false d h i = rw (h, i) refl
 
 -- the message of a slot
-pub slot-message : (sum : List ℕ → ℕ) (x : State) (xs : List Slot) (p : ℕ) (s : Slot) → IsLinked sum x → x.recorded.slots ≡ map slot_record xs
+pub slot-message : {sum : List ℕ → ℕ} {x : State} (xs : List Slot) (p : ℕ) (s : Slot) → IsLinked sum x → x.recorded.slots ≡ map slot_record xs
     → p < length x.recorded.slots → s ≡ slice_index_or xs p s → (slot_at x.recorded p ≡ slot_record s) × (s.message < length x.recorded.messages)
-slot-message sum x xs p s l slots lt is =
+slot-message {x} xs p s l slots lt is =
     let within : p < length xs = omega (arith, lt, ap length slots, length-mapped slot_record xs) in
     let same : slot_at x.recorded p ≡ slot_record s = ap (λ ys. slice_index_or ys p no_slot) slots ∙ get_or-map slot_record xs p s no_slot within
     ∙ ap slot_record (sym is) in
-    let made = (facts sum x l).consistent.sender.made p lt in
+    let made = (facts l).consistent.sender.made p lt in
     (same, omega (arith, made, ap (λ t. t.message) same))
 
 -- one that is neither, among those in flight, can be sent again

@@ -1,17 +1,9 @@
 -- Packets of one chunk.
-use Rattle.std.proofs.Common.{◌≡◌, List, [], ◌∷◌, ◌++◌, map, refl, ap, ◌∙◌}
-use Rattle.std.specs.List.{AllByRecursion}
-use Rattle.sctp_chunks.specs.declared.chunk.chunk_kind.ChunkKind.{ChunkKind}
+use Rattle.sctp_link.proofs.Names.{◌≡◌, List, [], ◌∷◌, ◌++◌, map, refl, ap, ◌∙◌, ChunkKind, ChunkPayloadData, ChunkSelectiveAck, data_of, Sack, ForwardTsn}
+use Rattle.sctp_link.proofs.Names.{fresh, IsFreshData, Wire, data_chunk, sack_chunk, forward_tsn_chunk, wire_of}
 use Rattle.sctp_chunks.specs.declared.chunk.chunk_kind.ChunkKind.TheVariants as K
-use Rattle.sctp_data.specs.declared.chunk.chunk_payload_data.ChunkPayloadData.{ChunkPayloadData}
-use Rattle.sctp_data.specs.declared.chunk.chunk_selective_ack.ChunkSelectiveAck.{ChunkSelectiveAck}
 use Rattle.sctp_data.specs.declared.chunk.chunk_forward_tsn.ChunkForwardTsn.{ChunkForwardTsn}
-use Rattle.sctp_data.specs.PayloadData.{Data, data_of}
-use Rattle.sctp_data.specs.SelectiveAck.{Sack}
-use Rattle.sctp_data.specs.ForwardTsn.{ForwardTsn}
-use Rattle.sctp_data.specs.ChunkSet.{fresh, IsFreshData}
-use Rattle.sctp_chunks.specs.Wire.{Wire, data_chunk, sack_chunk, forward_tsn_chunk}
-use Rattle.sctp_chunks.specs.Kind.{wire_of}
+use Rattle.sctp_data.specs.PayloadData.{Data}
 
 -- a list of chunks whose wire parts are one has a last one
 pub some_kind : (ks : List ChunkKind) (w : Wire) → ks ≡ [] → map wire_of ks ≡ w ∷ [] → ⊥
@@ -24,61 +16,18 @@ last_kind [] kind w one = cc
 last_kind (k ∷ []) kind w one = cc
 last_kind (k ∷ j ∷ ks) kind w one = cc
 
-pub all_last : {X : Type 0} (P : X → Type 0) (xs : List X) (x : X) → AllByRecursion P (xs ++ x ∷ []) → P x
-all_last P [] x all = all.0
-all_last P (y ∷ ys) x all = all_last P ys x all.1
-
 -- the wire part of a DATA chunk, of a SACK or of a FORWARD-TSN is of no other kind
 pub data_kind : (k : ChunkKind) (d : Data) → ((c : ChunkPayloadData) → k ≡ K.PayloadData c → ⊥) → wire_of k ≡ data_chunk d → ⊥
 data_kind (K.PayloadData c) d other e = other c refl
-data_kind (K.Init c) d other e = cc
-data_kind (K.SelectiveAck c) d other e = cc
-data_kind (K.Heartbeat c) d other e = cc
-data_kind (K.HeartbeatAck c) d other e = cc
-data_kind (K.Abort c) d other e = cc
-data_kind (K.Shutdown c) d other e = cc
-data_kind (K.ShutdownAck c) d other e = cc
-data_kind (K.Error c) d other e = cc
-data_kind (K.CookieEcho c) d other e = cc
-data_kind (K.CookieAck c) d other e = cc
-data_kind (K.ShutdownComplete c) d other e = cc
-data_kind (K.Reconfig c) d other e = cc
-data_kind (K.ForwardTsn c) d other e = cc
-data_kind (K.IForwardTsn c) d other e = cc
+data_kind k d other e = cc
 
 pub sack_kind : (k : ChunkKind) (s : Sack) → ((c : ChunkSelectiveAck) → k ≡ K.SelectiveAck c → ⊥) → wire_of k ≡ sack_chunk s → ⊥
 sack_kind (K.SelectiveAck c) s other e = other c refl
-sack_kind (K.PayloadData c) s other e = cc
-sack_kind (K.Init c) s other e = cc
-sack_kind (K.Heartbeat c) s other e = cc
-sack_kind (K.HeartbeatAck c) s other e = cc
-sack_kind (K.Abort c) s other e = cc
-sack_kind (K.Shutdown c) s other e = cc
-sack_kind (K.ShutdownAck c) s other e = cc
-sack_kind (K.Error c) s other e = cc
-sack_kind (K.CookieEcho c) s other e = cc
-sack_kind (K.CookieAck c) s other e = cc
-sack_kind (K.ShutdownComplete c) s other e = cc
-sack_kind (K.Reconfig c) s other e = cc
-sack_kind (K.ForwardTsn c) s other e = cc
-sack_kind (K.IForwardTsn c) s other e = cc
+sack_kind k s other e = cc
 
 pub forward_tsn_kind : (k : ChunkKind) (f : ForwardTsn) → ((c : ChunkForwardTsn) → k ≡ K.ForwardTsn c → ⊥) → wire_of k ≡ forward_tsn_chunk f → ⊥
 forward_tsn_kind (K.ForwardTsn c) f other e = other c refl
-forward_tsn_kind (K.PayloadData c) f other e = cc
-forward_tsn_kind (K.Init c) f other e = cc
-forward_tsn_kind (K.SelectiveAck c) f other e = cc
-forward_tsn_kind (K.Heartbeat c) f other e = cc
-forward_tsn_kind (K.HeartbeatAck c) f other e = cc
-forward_tsn_kind (K.Abort c) f other e = cc
-forward_tsn_kind (K.Shutdown c) f other e = cc
-forward_tsn_kind (K.ShutdownAck c) f other e = cc
-forward_tsn_kind (K.Error c) f other e = cc
-forward_tsn_kind (K.CookieEcho c) f other e = cc
-forward_tsn_kind (K.CookieAck c) f other e = cc
-forward_tsn_kind (K.ShutdownComplete c) f other e = cc
-forward_tsn_kind (K.Reconfig c) f other e = cc
-forward_tsn_kind (K.IForwardTsn c) f other e = cc
+forward_tsn_kind k f other e = cc
 
 same_data : (c d : Data) → data_chunk c ≡ data_chunk d → c ≡ d
 same_data c d e = cc
@@ -118,15 +67,7 @@ last_data (k ∷ ks) kind (d ∷ ds) e =
       last = r.last;
     }
 
-pub front_all : {X : Type 0} (P : X → Type 0) (xs : List X) (x : X) → AllByRecursion P (xs ++ x ∷ []) → AllByRecursion P xs
-front_all P [] x all = tt
-front_all P (y ∷ ys) x all = (all.0, front_all P ys x all.1)
-
 -- no chunks
 pub none_data : (front : List Data) → [] ≡ map data_chunk front → front ≡ []
 none_data [] e = refl
 none_data (d ∷ ds) e = cc
-
-pub append_more : (xs : List Data) (y : Data) (ys : List Data) → (xs ++ y ∷ []) ++ ys ≡ xs ++ y ∷ ys
-append_more [] y ys = refl
-append_more (x ∷ xs) y ys = ap (λ zs. x ∷ zs) (append_more xs y ys)

@@ -1,17 +1,9 @@
 -- The streams of a link, by their numbers: the place of one that is found, and what its change makes of them all.
-use Rattle.std.proofs.Common.{◌≡◌, ℕ, zero, suc, ◌<◌, Bool, true, false, List, [], ◌∷◌, ◌++◌, length, get_or, set, Some, None, refl, ap, sym, ◌∙◌, arith}
-use Rattle.std.specs.Prelude.{◌==◌, ◌||◌, if◌then◌else◌, find, slice_index_or, slice_set}
-use Rattle.std.specs.List.{list_any}
-use Rattle.std.proofs.Math.Path.{subst}
-use Rattle.std.proofs.lemmas.Bool.{ne_eqb, eq-eqb}
-use Rattle.sctp_list_lemmas.specs.Lists.{change_where}
-use Rattle.sctp_list_lemmas.proofs.Edits.{change_where-only}
-use Rattle.sctp_refinement.proofs.arriving.Stays.{by_place}
-use Rattle.sctp_link.specs.Streams.{OpenStream, number, has_number, stream_numbers}
-use Rattle.sctp_link.specs.Places.{IsApart}
+use Rattle.sctp_link.proofs.Names.{◌≡◌, ℕ, suc, ◌<◌, Bool, true, false, List, [], ◌∷◌, ◌++◌, length, get_or, set, Some, None, refl, ap, sym, ◌∙◌, arith, ◌==◌}
+use Rattle.sctp_link.proofs.Names.{◌||◌, if◌then◌else◌, find, slice_index_or, slice_set, list_any, subst, ne_eqb, eq-eqb, change_where, change_where-only}
+use Rattle.sctp_link.proofs.Names.{by_place, OpenStream, number, has_number, stream_numbers, IsApart, map-set_same, get_or_default}
 use Rattle.sctp_link.proofs.upkeep.Apart.{number-found, differ}
 use Rattle.sctp_link.proofs.upkeep.ChangedStreams.{fields-same}
-use Rattle.sctp_stream.proofs.StreamPlaces.{map-set_same}
 
 -- the place of a stream that is found
 pub placed : (s : ℕ) (ls : List OpenStream) (l : OpenStream) → find (has_number s) ls ≡ Some l
@@ -43,13 +35,8 @@ changed-found s ls a f k d lt e = sym (change_where-only (has_number s) f ls k d
   elsewhere = λ j c less ne. ne_eqb _ _ (λ z. differ ls j k c a less lt ne (z ∙ sym (at-any c)));
 }))
   where
-    any : (ls : List OpenStream) (k : ℕ) (c d : OpenStream) → k < length ls → slice_index_or ls k c ≡ slice_index_or ls k d
-    any [] k c d lt = absurd (omega (arith, lt))
-    any (x ∷ ls) zero c d lt = refl
-    any (x ∷ ls) (suc k) c d lt = any ls k c d (omega (arith, lt))
-
     at-any : (c : OpenStream) → (slice_index_or ls k c).state.stream_identifier ≡ s
-    at-any c = ap (λ (l : OpenStream). l.state.stream_identifier) (any ls k c d lt) ∙ e
+    at-any c = ap (λ (l : OpenStream). l.state.stream_identifier) (get_or_default ls k c d lt) ∙ e
 
 -- ## No number twice
 

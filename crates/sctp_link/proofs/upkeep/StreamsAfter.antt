@@ -1,36 +1,15 @@
 -- What an event that leaves the sender's side as it was makes of a link.
-use Rattle.std.proofs.Common.{◌≡◌, ℕ, ◌+◌, ◌-◌, ◌<◌, ◌%◌, ◌^◌, true, List, ◌∷◌, length, Some, None, ap, sym, ◌∙◌}
-use Rattle.std.specs.Prelude.{slice_get, slice_index_or}
-use Rattle.std.proofs.Math.Path.{subst}
-use Rattle.sctp_list_lemmas.specs.Kept.{numbers_where, numbers_from, total_over}
-use Rattle.sctp_model.specs.declared.event.Event.{Event}
-use Rattle.sctp_model.specs.LinkRecord.{Setup, LinkRecord}
+use Rattle.sctp_link.proofs.Names.{◌≡◌, ℕ, ◌+◌, ◌-◌, ◌<◌, ◌%◌, ◌^◌, true, List, ◌∷◌, length, Some, None, ap, sym, ◌∙◌, slice_get, slice_index_or, subst}
+use Rattle.sctp_link.proofs.Names.{numbers_where, numbers_from, total_over, Event, Setup, LinkRecord, ordered_before, tsn_of, next_of, contents_of, filter_of}
+use Rattle.sctp_link.proofs.Names.{StandsFor, refusal_of, reply_to, after, IsSetup, Shape, shape, sent, parts, on, Same, reassembly_of, Filter, amount}
+use Rattle.sctp_link.proofs.Names.{keeps_amounts, counters_on, begun_on, Indexed, SameToSender, outbound-same, amount-same, OpenStream, stats_in}
+use Rattle.sctp_link.proofs.Names.{stream_numbers, State, IsLinked, IsOpenStream, stats_of, filter_shown, IsDatagram, IsApart, stands-then, says-still}
 use Rattle.sctp_model.specs.LinkRecord as W
-use Rattle.sctp_model.specs.Messages.{ordered_before, tsn_of}
-use Rattle.sctp_model.specs.Receiver.{next_of}
-use Rattle.sctp_model.specs.Contents.{contents_of}
-use Rattle.sctp_model.specs.Queues.{filter_of}
-use Rattle.sctp_model.specs.Steps.{StandsFor, refusal_of, reply_to, after}
-use Rattle.sctp_model.specs.Laws.{IsSetup}
-use Rattle.sctp_model.proofs.sender.Shape.{Shape, shape, sent, parts, on}
-use Rattle.sctp_model.proofs.sender.Network.{Same}
-use Rattle.sctp_refinement.specs.Holds.{reassembly_of}
-use Rattle.sctp_receiver.specs.TsnFilter.{Filter}
-use Rattle.sctp_refinement.specs.Amount.{amount, keeps_amounts}
-use Rattle.sctp_refinement.specs.Counts.{counters_on}
-use Rattle.sctp_refinement.specs.Indexes.{begun_on}
 use Rattle.sctp_refinement.proofs.sending.Begun
-use Rattle.sctp_refinement.proofs.sending.Begun.{Indexed}
-use Rattle.sctp_refinement.proofs.acknowledging.QuietSender.{SameToSender, outbound-same}
-use Rattle.sctp_refinement.proofs.amounts.StreamAmounts.{amount-same}
-use Rattle.sctp_link.specs.Streams.{OpenStream, stats_in, stream_numbers}
-use Rattle.sctp_link.specs.Linked.{State, IsLinked, IsOpenStream, stats_of, filter_shown}
-use Rattle.sctp_link.specs.Encodings.{IsDatagram}
-use Rattle.sctp_link.specs.Places.{IsApart}
-use Rattle.sctp_link.proofs.upkeep.Facts.{facts, stands-then, says-still}
+use Rattle.sctp_link.proofs.upkeep.Facts.{facts}
 use Rattle.sctp_link.proofs.sender.Beginning.{index_kept, indexed-of}
 
-module _ (sum : List ℕ → ℕ) (x : State) (l : IsLinked sum x) (e : Event) (none : refusal_of x.recorded e ≡ None)
+module _ {sum : List ℕ → ℕ} {x : State} (l : IsLinked sum x) (e : Event) (none : refusal_of x.recorded e ≡ None)
     (s : Same x.recorded (after x.recorded e)) where
   abbrev w : LinkRecord
   w = x.recorded
@@ -45,12 +24,12 @@ module _ (sum : List ℕ → ℕ) (x : State) (l : IsLinked sum x) (e : Event) (
   first-same = ap (λ t. t.first) s.setup
 
   stands-same : StandsFor v.setup v ((e, reply_to w e) ∷ l.history)
-  stands-same = subst (λ (t : Setup). StandsFor t v ((e, reply_to w e) ∷ l.history)) (sym s.setup) (stands-then w.setup w l.history e none l.stands)
+  stands-same = subst (λ (t : Setup). StandsFor t v ((e, reply_to w e) ∷ l.history)) (sym s.setup) (stands-then e none l.stands)
 
   encodings-same : (k : ℕ) (d : List ℕ) (g : W.Datagram) → slice_get v.network k ≡ Some g → IsDatagram sum (contents_of v g) (slice_index_or x.datagrams k d)
   encodings-same k d g new =
       let old : slice_get w.network k ≡ Some g = ap (λ ds. slice_get ds k) (sym s.network) ∙ new in
-      let says = says-still w (facts sum x l) e none k g g old new in
+      let says = says-still (facts l) e none k g g old new in
       subst (λ c. IsDatagram sum c (slice_index_or x.datagrams k d)) (sym says) (l.encodings k d g old)
 
   -- what such an event leaves of an open stream
@@ -61,7 +40,7 @@ module _ (sum : List ℕ → ℕ) (x : State) (l : IsLinked sum x) (e : Event) (
       → z.state.buffered_amount ≡ y.state.buffered_amount → stats_in z ≡ stats_of (counters_on v y.state.stream_identifier) → IsOpenStream v z
   stream-then keeps y z i id held si largest size ordered number begun next bytes stats =
       let t = y.state.stream_identifier in
-      let f = facts sum x l in
+      let f = facts l in
       let before : ordered_before v t (length v.messages) ≡ ordered_before w t (length w.messages) =
       ap (λ (b : Shape). length (numbers_where (on b t) 0 b.count)) s.shape_is in
       let same = amount-same w.setup w e t f.setup f.consistent keeps in
@@ -82,7 +61,7 @@ module _ (sum : List ℕ → ℕ) (x : State) (l : IsLinked sum x) (e : Event) (
       (filter_is : filter_shown filter ≡ filter_of v) (each : (k : ℕ) (d : OpenStream) → k < length open_streams
       → IsOpenStream v (slice_index_or open_streams k d)) (found : IsApart (stream_numbers open_streams)) (q : SameToSender w v) (is : u ≡ v) where
     indexed-then : Indexed (shape v) (index_kept progress)
-    indexed-then = subst (λ ps. Indexed (shape v) (index_kept ps)) (sym progress_same) (on-shape (λ b. Indexed b (index_kept x.progress)) (indexed-of sum x l))
+    indexed-then = subst (λ ps. Indexed (shape v) (index_kept ps)) (sym progress_same) (on-shape (λ b. Indexed b (index_kept x.progress)) (indexed-of l))
 
     at-after : IsLinked sum (record x { recorded = v; progress = progress; open_streams = open_streams; filter = filter })
     at-after = record {

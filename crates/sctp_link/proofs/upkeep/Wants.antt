@@ -1,10 +1,6 @@
 -- Want of memory refuses where an accepted event can take some.
-use Rattle.std.proofs.Common.{◌≡◌, Bool, true, Option, None, refl}
-use Rattle.std.specs.Prelude.{◌&&◌, is_none}
-use Rattle.sctp_model.specs.declared.event.Event.{Event}
-use Rattle.sctp_model.specs.declared.event.LinkRefusal.{LinkRefusal}
-use Rattle.sctp_model.specs.LinkRecord.{LinkRecord}
-use Rattle.sctp_model.specs.Steps.{refusal_of, takes_memory, may_want_memory}
+use Rattle.sctp_link.proofs.Names.{◌≡◌, Bool, true, Option, None, refl, ◌&&◌, is_none, Event, LinkRefusal, LinkRecord, refusal_of, takes_memory}
+use Rattle.sctp_link.proofs.Names.{may_want_memory}
 
 both : (b : Bool) (o : Option LinkRefusal) → o ≡ None → b ≡ true → (b && is_none o) ≡ true
 both b o e f = rw (e, f) refl

@@ -6,7 +6,7 @@ ghost use Rattle.sctp_base.specs.declared.error.Error.TheVariants.{ErrOutOfMemor
 ghost use Rattle.sctp_link.specs.OpenStreams.{terminals};
 
 use super::streams::fragments_in;
-use super::{Link, memory, put};
+use super::{Link, memory};
 use crate::event::{LinkRefusal, Reply};
 use crate::record::{Message, Slot};
 use sctp_base::error::Result;
@@ -146,15 +146,12 @@ fn settle(message: &mut Message, slots: &mut Vec<Slot>, number: u64, partial: bo
 {
     message.abandoned = true;
     if partial {
-        put(
-            slots,
-            Slot {
-                message: number,
-                fragment: message.sent,
-                is_terminal_chunk: true,
-                arrived: false,
-                acknowledged: false,
-            },
-        );
+        slots.push_reserved(Slot {
+            message: number,
+            fragment: message.sent,
+            is_terminal_chunk: true,
+            arrived: false,
+            acknowledged: false,
+        });
     }
 }

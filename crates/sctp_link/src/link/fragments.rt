@@ -15,18 +15,17 @@ ghost use Rattle.sctp_serial.specs.DataChunks.{under_tsn};
 use super::streams::start_from;
 use crate::record::{Message, Slot};
 use sctp_base::error::Result;
+use sctp_chunks::chunk::chunk_header::CHUNK_HEADER_SIZE;
 use sctp_chunks::chunk::chunk_kind::ChunkKind;
-use sctp_chunks::chunk::chunk_payload_data::ChunkPayloadData;
+use sctp_chunks::chunk::chunk_payload_data::{ChunkPayloadData, PAYLOAD_DATA_HEADER_SIZE};
+use sctp_packets::packet::PACKET_HEADER_SIZE;
 use sctp_progress::Progress;
 use sctp_queues::outbound_queue::OutboundQueue;
 use sctp_sender::sender::Sender;
 use std::alloc::Global;
 
-/// The length of a packet's common header (RFC 4960 3.1).
-const COMMON_HEADER: usize = 12;
-
 /// The length of a DATA chunk without its user data (RFC 4960 3.3.1).
-const DATA_HEADER: usize = 16;
+const DATA_HEADER: usize = CHUNK_HEADER_SIZE + PAYLOAD_DATA_HEADER_SIZE;
 
 /// The chunks of the next datagram, of which the first has this TSN: the next fragment, and further ones, each the
 /// next then, for as long as the datagram is no longer than the limit. Refuses only for memory.
@@ -48,7 +47,7 @@ pub(super) fn next_chunks(
     let mut chunks = Vec::new(alloc);
     push_under(&mut chunks, first, tsn)?;
     let mut tsn = tsn;
-    let mut used = COMMON_HEADER + chunk_length(first.user_data.len());
+    let mut used = PACKET_HEADER_SIZE + chunk_length(first.user_data.len());
     // Each further chunk has a header at least.
     for sent in 0..limit as usize / DATA_HEADER {
         let Some(chunk) = outbound.peek_pending_at(sent + 1) else {

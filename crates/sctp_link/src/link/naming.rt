@@ -4,8 +4,8 @@ ghost use Rattle.std.specs.Prelude.{◌≡◌, ◌<◌, ◌≤◌, ◌+◌, ◌-
 ghost use Rattle.std.specs.List.{list_all};
 ghost use Rattle.sctp_base.specs.declared.error.Error.TheVariants.{ErrOutOfMemory};
 
+use super::Link;
 use super::streams::fragments_in;
-use super::{Link, put};
 use crate::datagram::write_datagram;
 use crate::event::{LinkRefusal, Reply};
 use crate::record::{Datagram, Kind};
@@ -123,7 +123,7 @@ impl<C: Checksum + Drop> Link<C> {
         let upto = upto.wrapping_sub(self.first_tsn) as u64;
         let datagram = self.network.len() as u64;
         let kind = Kind::Forward { upto, messages };
-        put(&mut self.network, Datagram { kind, bytes });
+        self.network.push_reserved(Datagram { kind, bytes });
         Ok(Reply::Skip { datagram })
     }
 }

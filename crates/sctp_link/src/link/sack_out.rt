@@ -3,7 +3,7 @@
 ghost use Rattle.std.specs.Prelude.{◌≡◌, None, OnErr, IfOk, IsOkUnless};
 ghost use Rattle.sctp_base.specs.declared.error.Error.TheVariants.{ErrOutOfMemory};
 
-use super::{Link, put};
+use super::Link;
 use crate::datagram::write_datagram;
 use crate::event::{LinkRefusal, Reply};
 use crate::record::{Datagram, Kind};
@@ -45,7 +45,7 @@ impl<C: Checksum + Drop> Link<C> {
         let datagram = self.network.len() as u64;
         self.receiver.sack_sent();
         self.duplicates.clear();
-        put(&mut self.network, Datagram { kind, bytes });
+        self.network.push_reserved(Datagram { kind, bytes });
         Ok(Reply::Ack { datagram })
     }
 }

@@ -15,7 +15,7 @@ ghost use Rattle.sctp_link.specs.Encodings.{packet_with};
 ghost use Rattle.sctp_link.specs.Sends.{counted_again};
 
 use super::fragments::{next_chunks, places_from, send_fragments};
-use super::{Link, memory, put};
+use super::{Link, memory};
 use crate::datagram::{write_chunks, write_datagram};
 use crate::event::{LinkRefusal, Reply};
 use crate::record::{Datagram, Kind};
@@ -70,7 +70,7 @@ impl<C: Checksum + Drop> Link<C> {
         self.unstarted = self.messages.len();
         let datagram = self.network.len() as u64;
         let kind = Kind::Data { places };
-        put(&mut self.network, Datagram { kind, bytes });
+        self.network.push_reserved(Datagram { kind, bytes });
         Ok(Reply::Sent {
             datagram,
             tsn,
@@ -114,7 +114,7 @@ impl<C: Checksum + Drop> Link<C> {
         let bytes = write_again(self.alloc, &mut self.sender, tsn, &self.checksum)?;
         let datagram = self.network.len() as u64;
         let kind = Kind::Data { places };
-        put(&mut self.network, Datagram { kind, bytes });
+        self.network.push_reserved(Datagram { kind, bytes });
         Ok(Reply::Resent { datagram })
     }
 }

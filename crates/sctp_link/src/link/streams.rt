@@ -7,7 +7,7 @@ ghost use Rattle.sctp_data.specs.PayloadTypes.{is_ordered};
 ghost use Rattle.sctp_link.specs.OpenStreams.{start_from, message_written};
 ghost use Rattle.sctp_link.specs.declared.record.Message.{Message};
 
-use super::{Link, memory, put};
+use super::{Link, memory};
 use crate::event::{LinkRefusal, Reply};
 use crate::record::{Message, Written};
 use bytes::Bytes;
@@ -121,10 +121,8 @@ impl<C: Checksum + Drop> Link<C> {
         }
         self.progress.record_write(stream, written.ordered);
         let number = self.messages.len() as u64;
-        put(
-            &mut self.messages,
-            message_written(stream, written, ppi, bytes),
-        );
+        self.messages
+            .push_reserved(message_written(stream, written, ppi, bytes));
         self.fragments += count;
         self.written += len as u64;
         Ok(Reply::Wrote {

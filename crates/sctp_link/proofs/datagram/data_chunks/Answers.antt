@@ -1,10 +1,7 @@
-use Rattle.std.proofs.Common.{◌≡◌, ◌++◌, ◌∷◌, [], map, ap, sym, subst, ◌∙◌, arith, rules}
-use Rattle.std.specs.Prelude.{reverse}
-use Rattle.std.specs.List.{AllByRecursion}
-use Rattle.std.proofs.lemmas.List.{reverse-append, nil_from_length}
-use Rattle.sctp_data.specs.ChunkSet.{fresh}
-use Rattle.sctp_chunks.specs.Kind.{wire_of, IsFreshKind}
-use Rattle.sctp_link.proofs.upkeep.Packets.{data_kind, fresh_data, last_data, front_all, all_last, none_data, append_more}
+use Rattle.sctp_link.proofs.Names.{◌≡◌, ◌++◌, ◌∷◌, [], map, ap, sym, subst, ◌∙◌, arith, rules, reverse, AllByRecursion, reverse-append, nil_from_length, fresh}
+use Rattle.sctp_link.proofs.Names.{wire_of, IsFreshKind, append_assoc}
+use Rattle.sctp_refinement.proofs.Lists.{front_all, all_last}
+use Rattle.sctp_link.proofs.upkeep.Packets.{data_kind, fresh_data, last_data, none_data}
 use Rattle.sctp_link.proofs.datagram.data_chunks.Goals as goal
 
 pub unreachable-requires : goal.unreachable-requires
@@ -25,7 +22,7 @@ loop-kind-preserved c =
           (ap wire_of (sym c.in-PayloadData.is) ∙ r.last) in (
             r.less,
             r.final ∷ k.1,
-            k.2 ∙ ap (λ xs. xs ++ k.1) r.all ∙ append_more r.less r.final k.1,
+            k.2 ∙ ap (λ xs. xs ++ k.1) r.all ∙ append_assoc r.less (r.final ∷ []) k.1,
             r.rest,
             ap reverse c.in_ok-push.ensures.items ∙ reverse-append c.loop-kind.chunks.items (c.in-PayloadData.chunk ∷ [])
                 ∙ ap (λ x. x ∷ reverse c.loop-kind.chunks.items) one ∙ ap (λ xs. fresh r.final ∷ xs) k.4,

@@ -1,10 +1,5 @@
-use Rattle.std.proofs.Common.{◌≡◌, ◌++◌, List, length, map}
-use Rattle.std.specs.Prelude.{reverse}
-use Rattle.std.specs.List.{AllByRecursion}
+use Rattle.sctp_link.proofs.Names.{◌≡◌, ◌++◌, List, length, map, reverse, AllByRecursion, fresh, data_chunk, wire_of, IsFreshKind}
 use Rattle.sctp_data.specs.PayloadData.{Data}
-use Rattle.sctp_data.specs.ChunkSet.{fresh}
-use Rattle.sctp_chunks.specs.Wire.{data_chunk}
-use Rattle.sctp_chunks.specs.Kind.{wire_of, IsFreshKind}
 use Rattle.sctp_link.proofs.datagram.data_chunks.Given as goal
 
 abbrev pub invariant-loop-kind : goal.invariant-loop-kind

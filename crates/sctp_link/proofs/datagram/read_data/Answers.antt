@@ -1,7 +1,4 @@
-use Rattle.sctp_link.specs.Encodings.{packet_with}
-use Rattle.std.proofs.Common.{ap, map}
-use Rattle.std.proofs.lemmas.Result.{err_from_is_err_and}
-use Rattle.sctp_chunks.specs.Wire.{data_chunk}
+use Rattle.sctp_link.proofs.Names.{packet_with, ap, map, err_from_is_err_and, data_chunk}
 use Rattle.sctp_link.proofs.datagram.read_data.Goals as goal
 
 pub returns-in_err-packet-clause-memory : goal.returns-in_err-packet-clause-memory

@@ -1,11 +1,7 @@
-use Rattle.std.proofs.Common.{◌≡◌, ◌∷◌, [], ap, sym, subst, ◌∙◌, arith}
-use Rattle.std.specs.Prelude.{map}
-use Rattle.std.specs.List.{AllByRecursion}
-use Rattle.std.proofs.lemmas.Result.{err_from_is_err_and}
-use Rattle.std.proofs.lemmas.List.{nil_from_length}
-use Rattle.sctp_chunks.specs.Kind.{wire_of, IsFreshKind}
-use Rattle.sctp_link.specs.Encodings.{packet_with}
-use Rattle.sctp_link.proofs.upkeep.Packets.{some_kind, last_kind, all_last}
+use Rattle.sctp_link.proofs.Names.{◌≡◌, ◌∷◌, [], ap, sym, subst, ◌∙◌, arith, map, AllByRecursion, err_from_is_err_and, nil_from_length, wire_of, IsFreshKind}
+use Rattle.sctp_link.proofs.Names.{packet_with}
+use Rattle.sctp_refinement.proofs.Lists.{all_last}
+use Rattle.sctp_link.proofs.upkeep.Packets.{some_kind, last_kind}
 use Rattle.sctp_link.proofs.datagram.read_datagram.Goals as goal
 
 pub returns-in_err-packet-clause-memory : goal.returns-in_err-packet-clause-memory

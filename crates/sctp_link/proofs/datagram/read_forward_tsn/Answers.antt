@@ -1,7 +1,4 @@
-use Rattle.std.proofs.Common.{ap, sym, ◌∙◌}
-use Rattle.sctp_data.specs.ForwardTsn.{forward_tsn_of}
-use Rattle.sctp_chunks.specs.Kind.{wire_of}
-use Rattle.sctp_chunks.specs.Wire.{forward_tsn_chunk}
+use Rattle.sctp_link.proofs.Names.{ap, sym, ◌∙◌, forward_tsn_of, wire_of, forward_tsn_chunk}
 use Rattle.sctp_link.proofs.upkeep.Packets.{forward_tsn_kind, same_forward_tsn}
 use Rattle.sctp_link.proofs.datagram.read_forward_tsn.Goals as goal
 

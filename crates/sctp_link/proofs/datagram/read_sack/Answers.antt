@@ -1,7 +1,4 @@
-use Rattle.std.proofs.Common.{ap, sym, ◌∙◌}
-use Rattle.sctp_data.specs.SelectiveAck.{sack_of}
-use Rattle.sctp_chunks.specs.Kind.{wire_of}
-use Rattle.sctp_chunks.specs.Wire.{sack_chunk}
+use Rattle.sctp_link.proofs.Names.{ap, sym, ◌∙◌, sack_of, wire_of, sack_chunk}
 use Rattle.sctp_link.proofs.upkeep.Packets.{sack_kind, same_sack}
 use Rattle.sctp_link.proofs.datagram.read_sack.Goals as goal
 

@@ -1,5 +1,4 @@
-use Rattle.std.proofs.Common.{◌≡◌, drop}
-use Rattle.sctp_link.specs.Skips.{named_from, none_named}
+use Rattle.sctp_link.proofs.Names.{◌≡◌, drop, named_from, none_named}
 use Rattle.sctp_link.proofs.skipped.named_on.Given as goal
 
 abbrev pub invariant-loop-number : goal.invariant-loop-number

@@ -1,5 +1,4 @@
-use Rattle.std.proofs.Common.{◌≡◌, map, take}
-use Rattle.sctp_link.specs.Skips.{pair_in}
+use Rattle.sctp_link.proofs.Names.{◌≡◌, map, take, pair_in}
 use Rattle.sctp_link.proofs.skipped.pairs_of.Given as goal
 
 abbrev pub invariant-loop-number : goal.invariant-loop-number

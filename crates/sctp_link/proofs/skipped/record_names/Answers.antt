@@ -1,8 +1,5 @@
-use Rattle.std.proofs.Common.{ap, ◌∙◌, length, arith}
-use Rattle.sctp_list_lemmas.proofs.More.{length-changed}
-use Rattle.sctp_progress.specs.Progress.{fresh, with_named}
-use Rattle.sctp_link.specs.declared.skipped.Named.{Named}
-use Rattle.sctp_link.specs.Skips.{named_from, none_named}
+use Rattle.sctp_link.proofs.Names.{ap, ◌∙◌, length, arith, length-changed, with_named, Named, named_from, none_named}
+use Rattle.sctp_progress.specs.Progress.{fresh}
 use Rattle.sctp_link.proofs.skipping.Skipping.{names-next}
 use Rattle.sctp_link.proofs.skipped.record_names.Goals as goal
 

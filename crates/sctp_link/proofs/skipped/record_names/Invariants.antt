@@ -1,5 +1,4 @@
-use Rattle.std.proofs.Common.{◌≡◌, ◌++◌, length, map, take, drop}
-use Rattle.sctp_link.specs.Skips.{standing_named}
+use Rattle.sctp_link.proofs.Names.{◌≡◌, ◌++◌, length, map, take, drop, standing_named}
 use Rattle.sctp_link.proofs.skipped.record_names.Given as goal
 
 abbrev pub invariant-loop-place : goal.invariant-loop-place

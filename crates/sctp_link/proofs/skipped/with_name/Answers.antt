@@ -1,5 +1,4 @@
-use Rattle.std.proofs.Common.{◌<◌, length, ap, ◌∙◌, sym, arith}
-use Rattle.std.proofs.lemmas.Bool.Decides.{nat_tests}
+use Rattle.sctp_link.proofs.Names.{◌<◌, length, ap, ◌∙◌, sym, arith, nat_tests}
 use Rattle.sctp_link.proofs.skipping.Skipping.{index-raw}
 use Rattle.sctp_link.proofs.skipped.with_name.Goals as goal
 

@@ -1,21 +1,13 @@
-use Rattle.std.proofs.Common.{◌≡◌, ◌<◌, ◌^◌, ◌++◌, Bool, true, false, ap, sym, ◌∙◌, Some, None, refl, map, rules, arith, subst}
-use Rattle.sctp_list_lemmas.proofs.Getting.{length-mapped}
-use Rattle.std.specs.Prelude.{slice_set, if◌then◌else◌, not, ◌&&◌}
+use Rattle.sctp_link.proofs.Names.{◌≡◌, ◌<◌, ◌^◌, ◌++◌, Bool, true, false, ap, sym, ◌∙◌, Some, None, refl, map, rules, arith, subst, length-mapped, slice_set}
+use Rattle.sctp_link.proofs.Names.{if◌then◌else◌, not, ◌&&◌, TsnsUsedUp, message_to_abandon, after_abandonment, has_tail_at, may_send, IsLinked, Sides}
+use Rattle.sctp_link.proofs.Names.{abandoned_on, growth, message_of, place_of, is_partially_sent, refusal_of, state_in, record_in, state_from, record_from}
+use Rattle.sctp_link.proofs.Names.{sides_in, terminals, message_record, slot_record, progress_of}
 use Rattle.sctp_serial.specs.Window.{is_held}
-use Rattle.sctp_sender.specs.declared.sender.refusal.SenderRefusal.TheVariants.{NotInFlight, TsnsUsedUp}
+use Rattle.sctp_sender.specs.declared.sender.refusal.SenderRefusal.TheVariants.{NotInFlight}
 use Rattle.sctp_sender.specs.Abandonment.{abandon_refusal}
-use Rattle.sctp_sender.specs.Flight.{message_to_abandon, after_abandonment, has_tail_at, may_send}
 use Rattle.sctp_sender.specs.Outgoing.{less_by}
 use Rattle.sctp_link.proofs.sides.Changes.{only-memory, on-aligned, on-sides}
-use Rattle.sctp_link.specs.Linked.{IsLinked}
-use Rattle.sctp_link.specs.Sides.{Sides, abandoned_on}
-use Rattle.sctp_model.specs.Amounts.{growth}
-use Rattle.sctp_model.specs.Messages.{message_of, place_of, is_partially_sent}
-use Rattle.sctp_model.specs.Steps.{refusal_of}
 use Rattle.sctp_model.specs.declared.event.Event.TheVariants as E
-use Rattle.sctp_link.specs.Fields.{state_in, record_in, state_from, record_from, sides_in}
-use Rattle.sctp_link.specs.OpenStreams.{terminals}
-use Rattle.sctp_link.specs.Records.{message_record, slot_record, progress_of}
 use Rattle.sctp_link.proofs.abandonment.Abandoning.{recorded-given, linked-given}
 use Rattle.sctp_link.proofs.abandonment.QueueAnswers.{Gives, gives, stream-is, high, held, partial-tail, tail-fits}
 use Rattle.sctp_link.proofs.upkeep.Observed.{slot-message}
@@ -36,9 +28,8 @@ pub is_partially_sent-partial-requires : goal.is_partially_sent-partial-requires
 is_partially_sent-partial-requires g c =
     let ok : refusal_of (record_in c.self.inside) (E.Abandon c.args.tsn) ≡ None = rw (← c.self.view_is) at c.requires in
     let fits : c.args.tsn < 2 ^ 32 = search rules in
-    let there = slot-message (g.C.Checksum.sum c.self.inside.checksum)
-    (state_in c.self.inside) c.self.inside.slots.items (place_of (record_in c.self.inside) c.args.tsn) c.index.result.now c.self.invariant.1 refl
-    (high (g.C.Checksum.sum c.self.inside.checksum) (state_in c.self.inside) c.self.invariant.1 c.args.tsn fits ok) c.index.ensures in
+    let there = slot-message c.self.inside.slots.items (place_of (record_in c.self.inside) c.args.tsn) c.index.result.now c.self.invariant.1 refl
+    (high c.self.invariant.1 c.args.tsn fits ok) c.index.ensures in
     rw (← c.self.view_is) there.1
 
 pub memory-requires : goal.memory-requires
@@ -48,9 +39,8 @@ memory-requires g c =
     let sum = g.C.Checksum.sum c.self.inside.checksum in
     only-memory c.in-Err.refusal (abandon_refusal c.args.tsn c.self.inside.sender.flight)
     (no-refusal (is_held c.self.inside.sender.flight.queue.inflight.chunks c.args.tsn) (has_tail_at c.self.inside.sender.flight c.args.tsn)
-    (may_send c.self.inside.sender.flight)
-    (held sum (state_in c.self.inside) c.self.invariant.1 c.args.tsn fits ok) (tail-fits sum (state_in c.self.inside) c.self.invariant.1 c.args.tsn fits ok))
-    c.in-Err.ensures.refused
+    (may_send c.self.inside.sender.flight) (held c.self.invariant.1 c.args.tsn fits ok)
+    (tail-fits c.self.invariant.1 c.args.tsn fits ok)) c.in-Err.ensures.refused
 
 pub returns-in-Err-clause-wants : goal.returns-in-Err-clause-wants
 returns-in-Err-clause-wants g c =
@@ -58,16 +48,15 @@ returns-in-Err-clause-wants g c =
     let fits : c.args.tsn < 2 ^ 32 = search rules in
     rw (← c.self.view_is)
     (must (is_partially_sent (record_in c.self.inside) (message_of (record_in c.self.inside) (place_of (record_in c.self.inside) c.args.tsn)))
-    (λ none. c.in-Err.ensures.no_tail (held (g.C.Checksum.sum c.self.inside.checksum) (state_in c.self.inside) c.self.invariant.1 c.args.tsn fits ok)
-    (partial-tail (g.C.Checksum.sum c.self.inside.checksum) (state_in c.self.inside) c.self.invariant.1 c.args.tsn fits ok ∙ none)))
+    (λ none. c.in-Err.ensures.no_tail (held c.self.invariant.1 c.args.tsn fits ok)
+    (partial-tail c.self.invariant.1 c.args.tsn fits ok ∙ none)))
 
 pub index_mut-message-requires : goal.index_mut-message-requires
 index_mut-message-requires g c =
     let ok : refusal_of (record_in c.self.inside) (E.Abandon c.args.tsn) ≡ None = rw (← c.self.view_is) at c.requires in
     let fits : c.args.tsn < 2 ^ 32 = search rules in
-    let there = slot-message (g.C.Checksum.sum c.self.inside.checksum)
-    (state_in c.self.inside) c.self.inside.slots.items (place_of (record_in c.self.inside) c.args.tsn) c.index.result.now c.self.invariant.1 refl
-    (high (g.C.Checksum.sum c.self.inside.checksum) (state_in c.self.inside) c.self.invariant.1 c.args.tsn fits ok) c.index.ensures in
+    let there = slot-message c.self.inside.slots.items (place_of (record_in c.self.inside) c.args.tsn) c.index.result.now c.self.invariant.1 refl
+    (high c.self.invariant.1 c.args.tsn fits ok) c.index.ensures in
     omega (arith, there.1, length-mapped message_record c.self.inside.messages.items, c.self.inside.messages.ok.0)
 
 pub invariant_of-self-2 : goal.invariant_of-self-2
@@ -80,14 +69,14 @@ invariant_of-self-2 g c =
     let n = c.index.result.now.message in
     let s = c.in-Ok.gone.stream in
     let bytes = c.in-Ok.gone.bytes in
-    let there = slot-message sum x c.self.inside.slots.items (place_of (record_in c.self.inside) c.args.tsn) c.index.result.now l refl
-    (high sum x l c.args.tsn fits ok) c.index.ensures in
+    let there = slot-message c.self.inside.slots.items (place_of (record_in c.self.inside) c.args.tsn) c.index.result.now l refl
+    (high l c.args.tsn fits ok) c.index.ensures in
     let number : message_of (record_in c.self.inside) (place_of (record_in c.self.inside) c.args.tsn) ≡ n = ap (λ t. t.message) there.0 in
     let then' : Sides = abandoned_on (message_to_abandon c.args.tsn c.self.inside.sender.flight) s bytes (sides_in c.self.inside) in
     let left = rw c.in-Ok.ensures.ok at c.in-Ok.ensures.released in
     let r = subst (λ k. Gives x (E.Abandon c.args.tsn) k s bytes then'.flight.queue then'.flight.next_tsn) number
-    (gives sum x l c.args.tsn fits ok s bytes then'.flight.queue then'.flight.next_tsn c.in-Ok.ensures.stream refl refl left) in
-    let both = on-sides c.self.inside.sender c.self.inside.receiver c.self.inside.progress c.self.invariant.0 s (less_by bytes)
+    (gives l c.args.tsn fits ok s bytes then'.flight.queue then'.flight.next_tsn c.in-Ok.ensures.stream refl refl left) in
+    let both = on-sides c.self.invariant.0 s (less_by bytes)
     (after_abandonment (message_to_abandon c.args.tsn c.self.inside.sender.flight) c.self.inside.sender.flight) c.abandon.new.self c.in-Ok.ensures.ok in
     let ms = slice_set c.self.inside.messages.items n c.settle.new.message in
     let ss = c.settle.new.slots.items in
@@ -95,34 +84,32 @@ invariant_of-self-2 g c =
     rw (← c.self.view_is) at c.is_partially_sent-partial.ensures in
     let more : c.settle.new.slots.items ≡ c.self.inside.slots.items ++ terminals c.is_partially_sent-partial.result n c.index_mut-message.result.now.sent =
     c.settle.ensures.slots ∙ ap (λ a. a ++ terminals c.is_partially_sent-partial.result n c.index_mut-message.result.now.sent) c.make_room.ensures.items in (
-      on-aligned c.self.inside.sender c.self.inside.receiver c.self.inside.progress c.self.invariant.0 s (less_by bytes) (after_abandonment
+      on-aligned c.self.invariant.0 s (less_by bytes) (after_abandonment
           (message_to_abandon c.args.tsn c.self.inside.sender.flight) c.self.inside.sender.flight) c.abandon.new.self c.in-Ok.ensures.ok (λ l. refl),
       subst (λ (y : Sides). IsLinked sum (record (state_from y c.self.inside)
           { recorded = record (record_from y c.self.inside) { messages = map message_record ms; slots = map slot_record ss }; progress = map progress_of ms }))
-          (sym both)
-          (linked-given sum x l (E.Abandon c.args.tsn) ok n s bytes then'.flight.queue then'.flight.next_tsn r tt tt refl refl
-          c.self.inside.messages.items c.index_mut-message.result.now c.settle.new.message c.self.inside.slots.items c.settle.new.slots.items
-          c.is_partially_sent-partial.result refl refl refl refl c.index_mut-message.ensures.value c.settle.ensures.message partial more),
+          (sym both) (linked-given l ok r tt tt refl refl c.self.inside.messages.items c.index_mut-message.result.now c.settle.new.message
+          c.self.inside.slots.items c.settle.new.slots.items c.is_partially_sent-partial.result refl refl refl refl c.index_mut-message.ensures.value
+          c.settle.ensures.message partial more),
     )
 
 pub returns-clause-moves : goal.returns-clause-moves
 returns-clause-moves g c =
     let ok : refusal_of (record_in c.self.inside) (E.Abandon c.args.tsn) ≡ None = rw (← c.self.view_is) at c.requires in
     let fits : c.args.tsn < 2 ^ 32 = search rules in
-    let sum = g.C.Checksum.sum c.self.inside.checksum in
     let x = state_in c.self.inside in
     let l = c.self.invariant.1 in
     let n = c.index.result.now.message in
     let s = c.in-Ok.gone.stream in
     let bytes = c.in-Ok.gone.bytes in
-    let there = slot-message sum x c.self.inside.slots.items (place_of (record_in c.self.inside) c.args.tsn) c.index.result.now l refl
-    (high sum x l c.args.tsn fits ok) c.index.ensures in
+    let there = slot-message c.self.inside.slots.items (place_of (record_in c.self.inside) c.args.tsn) c.index.result.now l refl
+    (high l c.args.tsn fits ok) c.index.ensures in
     let number : message_of (record_in c.self.inside) (place_of (record_in c.self.inside) c.args.tsn) ≡ n = ap (λ t. t.message) there.0 in
     let then' : Sides = abandoned_on (message_to_abandon c.args.tsn c.self.inside.sender.flight) s bytes (sides_in c.self.inside) in
     let left = rw c.in-Ok.ensures.ok at c.in-Ok.ensures.released in
     let r = subst (λ k. Gives x (E.Abandon c.args.tsn) k s bytes then'.flight.queue then'.flight.next_tsn) number
-    (gives sum x l c.args.tsn fits ok s bytes then'.flight.queue then'.flight.next_tsn c.in-Ok.ensures.stream refl refl left) in
-    let both = on-sides c.self.inside.sender c.self.inside.receiver c.self.inside.progress c.self.invariant.0 s (less_by bytes)
+    (gives l c.args.tsn fits ok s bytes then'.flight.queue then'.flight.next_tsn c.in-Ok.ensures.stream refl refl left) in
+    let both = on-sides c.self.invariant.0 s (less_by bytes)
     (after_abandonment (message_to_abandon c.args.tsn c.self.inside.sender.flight) c.self.inside.sender.flight) c.abandon.new.self c.in-Ok.ensures.ok in
     let ms = slice_set c.self.inside.messages.items n c.settle.new.message in
     let ss = c.settle.new.slots.items in
@@ -130,36 +117,33 @@ returns-clause-moves g c =
     rw (← c.self.view_is) at c.is_partially_sent-partial.ensures in
     let more : c.settle.new.slots.items ≡ c.self.inside.slots.items ++ terminals c.is_partially_sent-partial.result n c.index_mut-message.result.now.sent =
     c.settle.ensures.slots ∙ ap (λ a. a ++ terminals c.is_partially_sent-partial.result n c.index_mut-message.result.now.sent) c.make_room.ensures.items in
-    rw (← c.self.view_is)
-    (ap (λ (y : Sides). record (record_from y c.self.inside) { messages = map message_record ms; slots = map slot_record ss }) both
-    ∙ recorded-given sum x l (E.Abandon c.args.tsn) ok n s bytes then'.flight.queue then'.flight.next_tsn r tt tt refl refl
-    c.self.inside.messages.items c.index_mut-message.result.now c.settle.new.message c.self.inside.slots.items c.settle.new.slots.items
-    c.is_partially_sent-partial.result refl refl refl refl c.index_mut-message.ensures.value c.settle.ensures.message partial more ∙ sym r.is)
+    rw (← c.self.view_is) (ap (λ (y : Sides). record (record_from y c.self.inside) { messages = map message_record ms; slots = map slot_record ss }) both
+    ∙ recorded-given l ok r tt tt refl refl c.self.inside.messages.items c.index_mut-message.result.now c.settle.new.message c.self.inside.slots.items
+    c.settle.new.slots.items c.is_partially_sent-partial.result refl refl refl refl c.index_mut-message.ensures.value c.settle.ensures.message partial more
+    ∙ sym r.is)
 
 pub returns-clause-stream : goal.returns-clause-stream
 returns-clause-stream g c =
     let ok : refusal_of (record_in c.self.inside) (E.Abandon c.args.tsn) ≡ None = rw (← c.self.view_is) at c.requires in
-    rw (← c.self.view_is) (stream-is (g.C.Checksum.sum c.self.inside.checksum) (state_in c.self.inside) c.self.invariant.1 c.args.tsn
-    (search rules) ok c.in-Ok.gone.stream c.in-Ok.ensures.stream)
+    rw (← c.self.view_is) (stream-is c.self.invariant.1 c.args.tsn (search rules) ok c.in-Ok.gone.stream c.in-Ok.ensures.stream)
 
 pub returns-clause-bytes : goal.returns-clause-bytes
 returns-clause-bytes g c =
     let ok : refusal_of (record_in c.self.inside) (E.Abandon c.args.tsn) ≡ None = rw (← c.self.view_is) at c.requires in
     let fits : c.args.tsn < 2 ^ 32 = search rules in
-    let sum = g.C.Checksum.sum c.self.inside.checksum in
     let x = state_in c.self.inside in
     let l = c.self.invariant.1 in
     let n = c.index.result.now.message in
     let s = c.in-Ok.gone.stream in
     let bytes = c.in-Ok.gone.bytes in
-    let there = slot-message sum x c.self.inside.slots.items (place_of (record_in c.self.inside) c.args.tsn) c.index.result.now l refl
-    (high sum x l c.args.tsn fits ok) c.index.ensures in
+    let there = slot-message c.self.inside.slots.items (place_of (record_in c.self.inside) c.args.tsn) c.index.result.now l refl
+    (high l c.args.tsn fits ok) c.index.ensures in
     let number : message_of (record_in c.self.inside) (place_of (record_in c.self.inside) c.args.tsn) ≡ n = ap (λ t. t.message) there.0 in
     let then' : Sides = abandoned_on (message_to_abandon c.args.tsn c.self.inside.sender.flight) s bytes (sides_in c.self.inside) in
     let left = rw c.in-Ok.ensures.ok at c.in-Ok.ensures.released in
     let r = subst (λ k. Gives x (E.Abandon c.args.tsn) k s bytes then'.flight.queue then'.flight.next_tsn) number
-    (gives sum x l c.args.tsn fits ok s bytes then'.flight.queue then'.flight.next_tsn c.in-Ok.ensures.stream refl refl left) in
-    let both = on-sides c.self.inside.sender c.self.inside.receiver c.self.inside.progress c.self.invariant.0 s (less_by bytes)
+    (gives l c.args.tsn fits ok s bytes then'.flight.queue then'.flight.next_tsn c.in-Ok.ensures.stream refl refl left) in
+    let both = on-sides c.self.invariant.0 s (less_by bytes)
     (after_abandonment (message_to_abandon c.args.tsn c.self.inside.sender.flight) c.self.inside.sender.flight) c.abandon.new.self c.in-Ok.ensures.ok in
     let ms = slice_set c.self.inside.messages.items n c.settle.new.message in
     let ss = c.settle.new.slots.items in
@@ -167,9 +151,7 @@ returns-clause-bytes g c =
     rw (← c.self.view_is) at c.is_partially_sent-partial.ensures in
     let more : c.settle.new.slots.items ≡ c.self.inside.slots.items ++ terminals c.is_partially_sent-partial.result n c.index_mut-message.result.now.sent =
     c.settle.ensures.slots ∙ ap (λ a. a ++ terminals c.is_partially_sent-partial.result n c.index_mut-message.result.now.sent) c.make_room.ensures.items in
-    rw (← c.self.view_is)
-    (r.grows ∙ ap (growth (record_in c.self.inside))
-    (sym (ap (λ (y : Sides). record (record_from y c.self.inside) { messages = map message_record ms; slots = map slot_record ss }) both
-    ∙ recorded-given sum x l (E.Abandon c.args.tsn) ok n s bytes then'.flight.queue then'.flight.next_tsn r tt tt refl refl
-    c.self.inside.messages.items c.index_mut-message.result.now c.settle.new.message c.self.inside.slots.items c.settle.new.slots.items
+    rw (← c.self.view_is) (r.grows ∙ ap (growth (record_in c.self.inside))
+    (sym (ap (λ (y : Sides). record (record_from y c.self.inside) { messages = map message_record ms; slots = map slot_record ss }) both ∙ recorded-given l
+    ok r tt tt refl refl c.self.inside.messages.items c.index_mut-message.result.now c.settle.new.message c.self.inside.slots.items c.settle.new.slots.items
     c.is_partially_sent-partial.result refl refl refl refl c.index_mut-message.ensures.value c.settle.ensures.message partial more)))

@@ -1,9 +1,4 @@
-use Rattle.std.proofs.Common.{ap, sym, ◌∙◌, None}
-use Rattle.sctp_model.specs.Messages.{place_of, is_in_flight, is_partially_sent}
-use Rattle.sctp_model.specs.Steps.{unless}
-use Rattle.sctp_model.specs.declared.event.LinkRefusal.TheVariants.{NotInFlight}
-use Rattle.sctp_refinement.specs.InTurn.{message_of_tsn}
-use Rattle.sctp_refinement.proofs.abandonment.AbandonedInTurn.{find-among}
+use Rattle.sctp_link.proofs.Names.{ap, sym, ◌∙◌, None, place_of, is_in_flight, is_partially_sent, unless, NotInFlight, message_of_tsn, find-among}
 use Rattle.sctp_link.proofs.link.Link.abandon_partially_sent.Goals as goal
 
 pub abandon_message-requires : goal.abandon_message-requires

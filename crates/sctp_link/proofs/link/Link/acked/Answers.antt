@@ -1,31 +1,14 @@
-use Rattle.std.proofs.Common.{◌≡◌, ◌+◌, ◌-◌, ◌<◌, ◌≤◌, ◌%◌, ◌^◌, ℕ, List, true, ap, sym, ◌∙◌, refl, length, subst, arith, Some, None}
-use Rattle.std.specs.Prelude.{max, slice_get}
-use Rattle.std.specs.List.{list_any}
-use Rattle.sctp_data.specs.declared.chunk.chunk_selective_ack.ChunkSelectiveAck.{ChunkSelectiveAck}
-use Rattle.sctp_data.specs.SelectiveAck.{sack_of}
-use Rattle.sctp_serial.specs.DataChunks.{bytes_of}
-use Rattle.sctp_outbound.specs.payload_queue.Blocks.{is_in_blocks}
-use Rattle.sctp_outbound.specs.outbound_queue.OutboundQueue.{Outbound}
-use Rattle.std.specs.Vec.{with_items}
-use Rattle.std.proofs.lemmas.List.{with_items_is}
+use Rattle.sctp_link.proofs.Names.{◌≡◌, ◌+◌, ◌-◌, ◌<◌, ◌≤◌, ◌%◌, ◌^◌, ℕ, List, true, ap, sym, ◌∙◌, refl, length, subst, arith, Some, None, max, slice_get}
+use Rattle.sctp_link.proofs.Names.{list_any, ChunkSelectiveAck, sack_of, bytes_of, is_in_blocks, Outbound, with_items, with_items_is, cumulative_tsn, Report}
+use Rattle.sctp_link.proofs.Names.{refusal_of, acknowledged_at, released_by, after_sack, sack_refusal, after_releases, Sides, Transmission, IsMarking, and_run}
+use Rattle.sctp_link.proofs.Names.{and_blocks, in_block, IsLinked, Inside, Slot, state_from, record_from, record_in, state_in, sides_in, count-made}
+use Rattle.sctp_refinement.proofs.acknowledging.Reported.{sack-there}
 use Rattle.sctp_model.specs.declared.event.Event.TheVariants as E
-use Rattle.sctp_model.specs.Contents.{cumulative_tsn}
-use Rattle.sctp_model.specs.LinkRecord.{Report, Sack}
+use Rattle.sctp_model.specs.LinkRecord.{Sack}
 use Rattle.sctp_model.specs.Reply as R
-use Rattle.sctp_model.specs.Steps.{refusal_of}
-use Rattle.sctp_refinement.specs.Amount.{acknowledged_at}
-use Rattle.sctp_sender.specs.Flight.{released_by, after_sack, sack_refusal}
-use Rattle.sctp_link.specs.Streams.{after_releases}
-use Rattle.sctp_link.specs.Sides.{Sides}
-use Rattle.sctp_sender.specs.Sender.{Transmission}
-use Rattle.sctp_link.specs.Acking.{IsMarking, and_run, and_blocks, in_block}
 use Rattle.sctp_link.proofs.sides.Changes.{only-memory, acked-aligned, acked-sides}
-use Rattle.sctp_link.specs.Linked.{IsLinked}
-use Rattle.sctp_link.specs.declared.link.Link.TheInside.{Inside}
-use Rattle.sctp_link.specs.declared.record.Slot.{Slot}
-use Rattle.sctp_link.specs.Fields.{state_from, record_from, record_in, state_in, sides_in}
 use Rattle.sctp_link.proofs.upkeep.Facts.{facts}
-use Rattle.sctp_link.proofs.acknowledging.SackTaken.{Taken, sack-there, wire_sack, reads-sack, count-is, count-made, reported, marking-first, not-refused}
+use Rattle.sctp_link.proofs.acknowledging.SackTaken.{Taken, wire_sack, reads-sack, count-is, reported, marking-first, not-refused}
 use Rattle.sctp_link.proofs.acknowledging.SackTaken.{within-run, within-blocks, taken-all}
 use Rattle.sctp_link.proofs.link.Link.acked.Given.{Over}
 use Rattle.sctp_link.proofs.link.Link.acked.Goals.{After-max-taken, After-rebase, After-acknowledge_blocks}
@@ -35,8 +18,7 @@ pub read_sack-requires : goal.read_sack-requires
 read_sack-requires g c =
     let there = sack-there _ (ap (λ s. refusal_of s.recorded (E.Acked c.args.k)) c.self.view_is ∙ c.requires) in (
       wire_sack (record_in c.self.inside) there.0,
-      reads-sack (g.C.Checksum.sum c.self.inside.checksum)
-          (state_in c.self.inside) c.self.inside.network.items c.args.k c.index.result.now there.0 c.self.invariant.1 refl refl c.index.ensures there.1,
+      reads-sack c.self.inside.network.items c.args.k c.index.result.now there.0 c.self.invariant.1 refl refl c.index.ensures there.1,
     )
 
 -- What was read is a SACK of the network, and so many slots are acknowledged cumulatively with it.
@@ -51,16 +33,14 @@ record Counted {C : Type 0} (a : Inside C) (k : ℕ) (sack : ChunkSelectiveAck) 
 
 counted : (g : Over) (c : After-max-taken g) → Counted c.self.inside c.args.k c.in_ok-sack.sack c.max-taken.result
 counted g c =
-    let sum = g.C.Checksum.sum c.self.inside.checksum in
-    let x = state_in c.self.inside in
     let l = c.self.invariant.1 in
     let none = ap (λ s. refusal_of s.recorded (E.Acked c.args.k)) c.self.view_is ∙ c.requires in
     let there = sack-there _ none in
-    let reads = reads-sack sum x c.self.inside.network.items c.args.k c.index.result.now there.0 l refl refl c.index.ensures there.1 in
+    let reads = reads-sack c.self.inside.network.items c.args.k c.index.result.now there.0 l refl refl c.index.ensures there.1 in
     let says = c.in_ok-sack.ensures.chunk (wire_sack (record_in c.self.inside) there.0) reads in
-    let made = count-made (record_in c.self.inside) c.args.k there.0 (reported sum x l) there.1 in
-    let few = (facts sum x l).few in
-    let before = (facts sum x l).taken in
+    let made = count-made (record_in c.self.inside) c.args.k there.0 (reported l) there.1 in
+    let few = (facts l).few in
+    let before = (facts l).taken in
     let count = count-is c.self.inside.first_tsn there.0.cumulative c.in_ok-sack.sack.cumulative_tsn_ack l.setup.first (omega (arith, made, few))
     (ap (λ s. s.cumulative_tsn_ack) says) in
     let top : c.max-taken.result ≡ max c.self.inside.taken there.0.cumulative = c.max-taken.ensures ∙ ap (max c.self.inside.taken) count in
@@ -79,8 +59,6 @@ record Answered {C : Type 0} (sum : List ℕ → ℕ) (a : Inside C) (k : ℕ) (
 answered : (g : Over) (c : After-rebase g) → Counted c.self.inside c.args.k c.in_ok-sack.sack c.max-taken.result
     → Answered (g.C.Checksum.sum c.self.inside.checksum) c.self.inside c.args.k c.rebase.new.sack c.max-taken.result
 answered g c t =
-    let sum = g.C.Checksum.sum c.self.inside.checksum in
-    let x = state_in c.self.inside in
     let l = c.self.invariant.1 in
     let s = sack_of c.rebase.new.sack in
     let top = c.max-taken.result in
@@ -92,15 +70,14 @@ answered g c t =
     (ap (λ s. s.gap_ack_blocks) t.says)
     ∙ ap (λ m. is_in_blocks (wire_sack (record_in c.self.inside) t.report).gap_ack_blocks (n + (top - m))) t.count in
     let begin = c.rebase.ensures.begin in
-    let first = marking-first sum x c.self.inside.slots.items l refl in
+    let first = marking-first c.self.inside.slots.items l refl in
     record {
-      accepted = not-refused sum x c.args.k t.report l t.none t.there s top t.greater cum covers begin;
-      run = λ some. omega (arith, within-run sum x c.args.k t.report l t.none t.there s top t.greater cum covers begin some, first.count);
-      blocks = λ p any. omega (arith, within-blocks sum x c.args.k t.report l t.none t.there s top t.greater cum covers begin p any, first.count);
+      accepted = not-refused c.args.k t.report l t.none t.there s top t.greater cum covers begin;
+      run = λ some. omega (arith, within-run c.args.k t.report l t.none t.there s top t.greater cum covers begin some, first.count);
+      blocks = λ p any. omega (arith, within-blocks c.args.k t.report l t.none t.there s top t.greater cum covers begin p any, first.count);
       first = first;
-      taken = λ xs marks. taken-all sum x c.args.k t.report l t.none t.there s top t.greater cum covers begin
-          (after_releases (released_by s c.self.inside.sender.flight) (sides_in c.self.inside).streams) xs (after_sack s c.self.inside.sender.flight)
-          refl refl refl marks;
+      taken = λ xs marks. taken-all c.args.k t.report l t.none t.there s top t.greater cum covers begin (after_releases
+          (released_by s c.self.inside.sender.flight) (sides_in c.self.inside).streams) (after_sack s c.self.inside.sender.flight) refl refl refl marks;
     }
 
 taken : (g : Over) (c : After-acknowledge_blocks g)
@@ -146,12 +123,10 @@ acknowledge_blocks-requires-clause-within g c = λ p any.
 
 pub invariant_of-self-2 : goal.invariant_of-self-2
 invariant_of-self-2 g c = (
-  acked-aligned c.self.inside.sender c.self.inside.receiver c.self.inside.progress c.self.invariant.0
-      (sack_of c.rebase.new.sack) c.acked.new.self c.in-Ok.ensures.ok,
+  acked-aligned c.self.invariant.0 (sack_of c.rebase.new.sack) c.acked.new.self c.in-Ok.ensures.ok,
   subst (λ (y : Sides). IsLinked (g.C.Checksum.sum c.self.inside.checksum) (state_from y (record c.self.inside
       { slots = with_items (with_items c.self.inside.slots c.acknowledge_run.new.slots) c.acknowledge_blocks.new.slots; taken = c.max-taken.result })))
-      (sym (acked-sides c.self.inside.sender c.self.inside.receiver c.self.inside.progress c.self.invariant.0
-      (sack_of c.rebase.new.sack) c.acked.new.self c.in-Ok.ensures.ok))
+      (sym (acked-sides c.self.invariant.0 (sack_of c.rebase.new.sack) c.acked.new.self c.in-Ok.ensures.ok))
       (let p = goal.at.invariant_of-self-2 g c in taken g p.After-acknowledge_blocks (answered g p.After-rebase (counted g p.After-max-taken))).linked,
 )
 
@@ -167,6 +142,5 @@ returns-clause-ok g c =
           ∙ ap (λ (u : Transmission). bytes_of u.flight.queue.inflight.chunks) c.in-Ok.ensures.ok) ∙ t.bytes);
       moves = ap (λ (y : Sides). record_from y (record c.self.inside
           { slots = with_items (with_items c.self.inside.slots c.acknowledge_run.new.slots) c.acknowledge_blocks.new.slots; taken = c.max-taken.result }))
-          (acked-sides c.self.inside.sender c.self.inside.receiver c.self.inside.progress c.self.invariant.0
-          (sack_of c.rebase.new.sack) c.acked.new.self c.in-Ok.ensures.ok) ∙ t.moves;
+          (acked-sides c.self.invariant.0 (sack_of c.rebase.new.sack) c.acked.new.self c.in-Ok.ensures.ok) ∙ t.moves;
     })

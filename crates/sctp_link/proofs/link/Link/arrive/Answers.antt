@@ -1,8 +1,5 @@
-use Rattle.std.proofs.Common.{◌≡◌, Some, None, ap, ◌∙◌, arith, refl}
-use Rattle.sctp_model.specs.Steps.{refusal_of}
+use Rattle.sctp_link.proofs.Names.{◌≡◌, Some, None, ap, ◌∙◌, arith, refl, refusal_of, record_in, kind_record}
 use Rattle.sctp_model.specs.declared.event.Event.TheVariants as E
-use Rattle.sctp_link.specs.Fields.{record_in}
-use Rattle.sctp_link.specs.Records.{kind_record}
 use Rattle.sctp_link.proofs.receiver.Comes.{never-sack, there-is}
 use Rattle.sctp_link.proofs.skipping.SkipComes.{kept-kind}
 use Rattle.sctp_link.proofs.link.Link.arrive.Goals as goal

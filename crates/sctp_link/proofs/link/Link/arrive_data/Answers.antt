@@ -1,45 +1,26 @@
-use Rattle.std.proofs.Common.{◌≡◌, ◌≤◌, ℕ, List, None, Some, inl, inr, ◌++◌, length, map, refl, ap, sym, ◌∙◌, arith, rules, subst}
-use Rattle.std.specs.Prelude.{◌⊎◌, ◌<◌, slice_get, slice_index_or, fold}
-use Rattle.std.specs.Vec.{with_items, vec_len}
-use Rattle.std.proofs.lemmas.List.{with_items_is}
-use Rattle.std.specs.List.{list_any}
-use Rattle.sctp_model.specs.LinkRecord.{Data}
-use Rattle.sctp_model.specs.Contents.{chunk_at}
-use Rattle.sctp_model.specs.Changes.{receive_slot}
-use Rattle.sctp_model.specs.Steps.{refusal_of, IsRight}
+use Rattle.sctp_link.proofs.Names.{◌≡◌, ◌≤◌, ℕ, List, None, Some, inl, inr, ◌++◌, length, map, refl, ap, sym, ◌∙◌, arith, rules, subst, ◌⊎◌, ◌<◌, slice_get}
+use Rattle.sctp_link.proofs.Names.{slice_index_or, fold, with_items, vec_len, with_items_is, list_any, Data, chunk_at, receive_slot, refusal_of, IsRight}
+use Rattle.sctp_link.proofs.Names.{ChunkPayloadData, Reception, StopsAtBy, data_refusal, ReceiverRefusal, numbers_of, Transmission, Standing, IsApart, Sides}
+use Rattle.sctp_link.proofs.Names.{IsAligned, CanTake, TakesEach, sides, record_in, record_from, state_from, sides_in, IsLinked, Inside, Slot, kind_record}
+use Rattle.sctp_link.proofs.Names.{slot_record, number_at, arrived_in, repeated_of, is_first, length-mapped}
 use Rattle.sctp_model.specs.declared.event.Event.TheVariants as E
-use Rattle.sctp_data.specs.declared.chunk.chunk_payload_data.ChunkPayloadData.{ChunkPayloadData}
-use Rattle.sctp_receiver.specs.Receiver.{Reception, StopsAtBy, data_refusal}
-use Rattle.sctp_receiver.specs.declared.receiver.refusal.ReceiverRefusal.{ReceiverRefusal}
 use Rattle.sctp_receiver.specs.declared.receiver.refusal.ReceiverRefusal.TheVariants.{OutOfMemory}
-use Rattle.sctp_sender.specs.Outgoing.{numbers_of}
-use Rattle.sctp_sender.specs.Sender.{Transmission}
-use Rattle.sctp_progress.specs.Progress.{Standing}
-use Rattle.sctp_link.specs.Places.{IsApart}
-use Rattle.sctp_link.specs.Sides.{Sides, IsAligned, CanTake, TakesEach, sides}
 use Rattle.sctp_link.proofs.sides.Aligned as Aligned
 use Rattle.sctp_link.proofs.sides.Taking.{each-aligned, each-taken, never-stops}
-use Rattle.sctp_link.specs.Fields.{record_in, record_from, state_in, state_from, sides_in}
-use Rattle.sctp_link.specs.Linked.{IsLinked}
-use Rattle.sctp_link.specs.declared.link.Link.TheInside.{Inside}
-use Rattle.sctp_link.specs.declared.record.Slot.{Slot}
-use Rattle.sctp_link.specs.Records.{kind_record, slot_record}
 use Rattle.sctp_link.specs.Replies.{reply_of}
-use Rattle.sctp_link.specs.Receiving.{number_at, arrived_in, repeated_of, is_first}
 use Rattle.sctp_link.proofs.receiver.Comes.{said, said-fresh, says-data, places-kept, kind-data, never-other, there-is}
 use Rattle.sctp_link.proofs.receiver.SlotLists.{Came, numbers-are, can, came}
 use Rattle.sctp_link.proofs.receiver.Received.{all-come, receiver-of, all-inside, linked-received, right-received}
 use Rattle.sctp_link.proofs.link.Link.arrive_data.Given.{Over}
 use Rattle.sctp_link.proofs.link.Link.arrive_data.Goals.{After-index, In-Data, After-deref-4, In-Ok, After-record_arrivals-new}
 use Rattle.sctp_link.proofs.link.Link.arrive_data.Goals as goal
-use Rattle.sctp_list_lemmas.proofs.Getting.{length-mapped}
 
 -- no chunk is refused but for memory
-only-memory : (t : Transmission) (r : Reception) (ps : List Standing) (cs : List ChunkPayloadData) (ns : List ℕ) → IsAligned t r ps
+only-memory : {t : Transmission} {r : Reception} {ps : List Standing} (cs : List ChunkPayloadData) (ns : List ℕ) → IsAligned t r ps
     → IsApart (numbers_of t.streams) → CanTake cs ns (sides t r ps) → (e : ReceiverRefusal) → (e ≡ OutOfMemory) ⊎ StopsAtBy data_refusal cs r e
     → e ≡ OutOfMemory
-only-memory t r ps cs ns a apart able e (inl h) = h
-only-memory t r ps cs ns a apart able e (inr h) = absurd (never-stops t r ps cs ns a apart able h.count h.arrivals h.mid h.chunk e h.taken h.next h.refused)
+only-memory cs ns a apart able e (inl h) = h
+only-memory cs ns a apart able e (inr h) = absurd (never-stops cs ns a apart able h.count h.arrivals h.mid h.chunk e h.taken h.next h.refused)
 
 -- What lies in the network under the number.
 there : (g : Over) (c : After-index g) → (places : List ℕ) × (slice_get (record_in c.self.inside).network c.args.k ≡ Some (Data places))
@@ -67,8 +48,7 @@ handed g c t =
     let w = record_in c.self.inside in
     let ps = c.in-Data.places.items in
     let slots = c.self.inside.slots.items in
-    let reads = says-data (g.C.Checksum.sum c.self.inside.checksum) (state_in c.self.inside) c.args.k ps c.self.inside.network.items c.index.result.now
-    c.self.invariant.1 refl refl t c.index.ensures in
+    let reads = says-data c.args.k ps c.self.inside.network.items c.index.result.now c.self.invariant.1 refl refl t c.index.ensures in
     let chunks : c.deref-3.result.now ≡ map (chunk_at w) ps = c.deref-3.ensures.value ∙ c.in_ok-chunks.ensures.chunks (said w ps) reads ∙ said-fresh w ps in
     let numbers : c.deref-4.result.now ≡ map (number_at slots) ps =
     c.deref-4.ensures.value ∙ c.in_ok-numbers.ensures.numbers ∙ ap (λ ss. map (number_at ss) c.deref-2.result.now) c.deref.ensures.value
@@ -81,7 +61,7 @@ handed g c t =
     }
 
 apart : (g : Over) (c : After-index g) → IsApart (numbers_of c.self.inside.sender.streams)
-apart g c = subst IsApart (Aligned.numbers-are c.self.inside.sender c.self.inside.receiver c.self.inside.progress c.self.invariant.0) c.self.invariant.1.apart
+apart g c = subst IsApart (Aligned.numbers-are c.self.invariant.0) c.self.invariant.1.apart
 
 -- All of them come.
 done : (g : Over) (c : In-Ok g) → refusal_of (record_in c.self.inside) (E.Arrive c.args.k) ≡ None
@@ -91,18 +71,15 @@ done : (g : Over) (c : In-Ok g) → refusal_of (record_in c.self.inside) (E.Arri
 done g c ok apart' h =
     let a = c.self.inside in
     let w = record_in a in
-    let sum = g.C.Checksum.sum a.checksum in
-    let x = state_in a in
     let ps = c.in-Data.places.items in
     let bs = c.in-Ok.arrivals.items in
     let y = sides a.sender c.data_each.new.receiver c.data_each.new.self in
     let each = subst (λ qs. TakesEach c.deref-3.result.now c.deref-4.result.now bs (sides_in a) (sides a.sender c.data_each.new.receiver qs))
     (sym c.in-Ok.ensures.ok)
-    (each-taken a.sender a.receiver c.data_each.new.receiver a.progress c.deref-3.result.now c.deref-4.result.now bs c.self.invariant.0 apart' h.many
-    c.in-Ok.ensures.taken) in
+    (each-taken c.data_each.new.receiver c.deref-3.result.now c.deref-4.result.now bs c.self.invariant.0 apart' h.many c.in-Ok.ensures.taken) in
     let taken : TakesEach (map (chunk_at w) ps) (map (number_at a.slots.items) ps) bs (sides_in a) y = rw (h.chunks, h.numbers) at each in
-    came (number_at a.slots.items) ps (map (chunk_at w) ps) bs w (sides_in a) y (numbers-are w a.slots.items refl)
-    (receiver-of sum x c.self.invariant.1 (sides_in a) refl refl refl) (all-come sum x c.self.invariant.1 c.args.k ps ok h.there) taken
+    came (number_at a.slots.items) ps (map (chunk_at w) ps) bs y (numbers-are w a.slots.items refl) (receiver-of c.self.invariant.1 (sides_in a) refl refl refl)
+    (all-come c.self.invariant.1 c.args.k ps ok h.there) taken
 
 -- What is recorded of them.
 record Recorded {C : Type 0} (a : Inside C) (ps : List ℕ) (slots : List Slot) (dups : List ℕ) : Type 0 where
@@ -133,8 +110,7 @@ pub read_data-requires : goal.read_data-requires
 read_data-requires g c =
     let t = there g (goal.at.read_data-requires g c).After-index in (
       said (record_in c.self.inside) t.0,
-      says-data (g.C.Checksum.sum c.self.inside.checksum) (state_in c.self.inside) c.args.k t.0 c.self.inside.network.items c.index.result.now
-          c.self.invariant.1 refl refl t.1 c.index.ensures,
+      says-data c.args.k t.0 c.self.inside.network.items c.index.result.now c.self.invariant.1 refl refl t.1 c.index.ensures,
     )
 
 pub index-requires-2 : goal.index-requires-2
@@ -151,11 +127,7 @@ unreachable-requires g c =
 inside : (g : Over) (c : In-Data g) → slice_get (record_in c.self.inside).network c.args.k ≡ Some (Data c.in-Data.places.items)
     → (i : ℕ) → i < length c.in-Data.places.items → slice_index_or c.in-Data.places.items i 0 < length c.self.inside.slots.items
 inside g c t i lt =
-    omega (
-      arith,
-      all-inside (g.C.Checksum.sum c.self.inside.checksum) (state_in c.self.inside) c.self.invariant.1 c.args.k c.in-Data.places.items t i lt,
-      length-mapped slot_record c.self.inside.slots.items,
-    )
+    omega (arith, all-inside c.self.invariant.1 c.args.k c.in-Data.places.items t i lt, length-mapped slot_record c.self.inside.slots.items)
 
 pub message_numbers-requires : goal.message_numbers-requires
 message_numbers-requires g c =
@@ -170,15 +142,12 @@ memory_of_receiver-requires g c =
     let p = goal.at.memory_of_receiver-requires g c in
     let h = handed g p.After-deref-4 (found g p.In-Data (there g p.After-index)) in
     let a = c.self.inside in
-    let sum = g.C.Checksum.sum a.checksum in
     let w = record_in a in
     let ps = c.in-Data.places.items in
     let able : CanTake c.deref-3.result.now c.deref-4.result.now (sides_in a) = rw (h.chunks, h.numbers)
-    (can (number_at a.slots.items) ps (map (chunk_at w) ps) w (sides_in a) (numbers-are w a.slots.items refl)
-    (receiver-of sum (state_in a) c.self.invariant.1 (sides_in a) refl refl refl)
-    (all-come sum (state_in a) c.self.invariant.1 c.args.k ps (none g p.After-index) h.there)) in
-    only-memory a.sender a.receiver a.progress c.deref-3.result.now c.deref-4.result.now c.self.invariant.0 (apart g p.After-index) able
-    c.in-Err.refusal c.in-Err.ensures.refused
+    (can (number_at a.slots.items) ps (map (chunk_at w) ps) (numbers-are w a.slots.items refl) (receiver-of c.self.invariant.1 (sides_in a) refl refl refl)
+    (all-come c.self.invariant.1 c.args.k ps (none g p.After-index) h.there)) in
+    only-memory c.deref-3.result.now c.deref-4.result.now c.self.invariant.0 (apart g p.After-index) able c.in-Err.refusal c.in-Err.ensures.refused
 
 pub record_arrivals-new-requires-clause-inside : goal.record_arrivals-new-requires-clause-inside
 record_arrivals-new-requires-clause-inside g c =
@@ -203,11 +172,10 @@ invariant_of-self-2 g c =
     let y = sides a.sender c.data_each.new.receiver c.data_each.new.self in
     let marked = with_items a.slots c.record_arrivals-new.new.slots in (
       subst (λ qs. IsAligned a.sender c.data_each.new.receiver qs) (sym c.in-Ok.ensures.ok)
-          (each-aligned a.sender a.receiver c.data_each.new.receiver a.progress c.deref-3.result.now c.deref-4.result.now c.in-Ok.arrivals.items
-          c.self.invariant.0 c.in-Ok.ensures.taken),
+          (each-aligned c.data_each.new.receiver c.deref-3.result.now c.deref-4.result.now c.in-Ok.arrivals.items c.self.invariant.0 c.in-Ok.ensures.taken),
       subst (λ (h : Sides). IsLinked sum (state_from h (record a { slots = marked; duplicates = c.record_arrivals-new.new.duplicates }))) (sym d.rest)
-          (linked-received sum (state_in a) c.self.invariant.1 c.args.k c.in-Data.places.items ok at y marked.items
-          c.record_arrivals-new.new.duplicates.items d.receiver d.cores r.slots_are r.dups_are),
+          (linked-received c.self.invariant.1 c.args.k c.in-Data.places.items ok at marked.items c.record_arrivals-new.new.duplicates.items d.receiver d.cores
+          r.slots_are r.dups_are),
     )
 
 pub returns-clause-ok : goal.returns-clause-ok
@@ -220,8 +188,7 @@ returns-clause-ok g c =
     let a = c.self.inside in
     let y = sides a.sender c.data_each.new.receiver c.data_each.new.self in
     let marked = with_items a.slots c.record_arrivals-new.new.slots in
-    rw (← c.self.view_is) (subst (λ (h : Sides). IsRight (record_in a) (E.Arrive c.args.k) (reply_of c.reply_to_data.result)
-    (record_from h (record a { slots = marked; duplicates = c.record_arrivals-new.new.duplicates }))) (sym d.rest)
-    (right-received (g.C.Checksum.sum a.checksum) (state_in a) c.self.invariant.1 c.args.k c.in-Data.places.items ok at y marked.items
-    c.record_arrivals-new.new.duplicates.items d.receiver d.cores r.slots_are r.dups_are c.record_arrivals-new.result (reply_of c.reply_to_data.result)
-    (c.record_arrivals-new.ensures.new ∙ ap (list_any is_first) c.deref-6.ensures.value ∙ d.new) c.reply_to_data.ensures))
+    rw (← c.self.view_is) (subst (λ (h : Sides). IsRight (record_in a) (E.Arrive c.args.k) (reply_of c.reply_to_data.result) (record_from h (record a
+    { slots = marked; duplicates = c.record_arrivals-new.new.duplicates }))) (sym d.rest) (right-received c.self.invariant.1 c.args.k c.in-Data.places.items ok
+    at marked.items c.record_arrivals-new.new.duplicates.items d.receiver d.cores r.slots_are r.dups_are c.record_arrivals-new.result
+    (reply_of c.reply_to_data.result) (c.record_arrivals-new.ensures.new ∙ ap (list_any is_first) c.deref-6.ensures.value ∙ d.new) c.reply_to_data.ensures))

@@ -1,52 +1,37 @@
-use Rattle.std.proofs.Common.{◌≡◌, ℕ, ◌≤◌, true, List, Some, refl, ap, sym, ◌∙◌, arith}
-use Rattle.std.specs.Prelude.{slice_get, if◌then◌else◌}
-use Rattle.std.proofs.lemmas.Bool.Decides.{nat_tests}
-use Rattle.sctp_model.specs.LinkRecord.{Forward}
-use Rattle.sctp_model.specs.Receiver.{cumulative}
-use Rattle.sctp_model.specs.Changes.{skip_counts, after_arrive}
-use Rattle.sctp_model.specs.Steps.{arrive_reply}
+use Rattle.sctp_link.proofs.Names.{◌≡◌, ℕ, ◌≤◌, true, List, Some, refl, ap, sym, ◌∙◌, arith, slice_get, if◌then◌else◌, nat_tests, Forward, cumulative}
+use Rattle.sctp_link.proofs.Names.{skip_counts, after_arrive, arrive_reply, record_in, wire_skip}
 use Rattle.sctp_model.specs.Reply as R
-use Rattle.sctp_link.specs.Fields.{record_in, state_in}
 use Rattle.sctp_link.proofs.acknowledging.Reporting.{cumulative-place}
-use Rattle.sctp_link.specs.Skips.{wire_skip}
 use Rattle.sctp_link.proofs.skipping.SkipComes.{reads-skip}
 use Rattle.sctp_link.proofs.link.Link.arrive_skip.Goals as goal
 
 pub read_forward_tsn-requires : goal.read_forward_tsn-requires
 read_forward_tsn-requires g c =
     let w = record_in c.self.inside in
-    let sum = g.C.Checksum.sum c.self.inside.checksum in
-    let x = state_in c.self.inside in
     let lies : (names : List ℕ) × (slice_get w.network c.args.k ≡ Some (Forward c.args.upto names)) = rw (← c.self.view_is) at c.requires.lies in (
       wire_skip w c.args.upto lies.0,
-      reads-skip sum x c.args.k c.args.upto lies.0 c.self.inside.network.items c.index.result.now c.self.invariant.1 refl refl lies.1 c.index.ensures,
+      reads-skip c.args.k c.args.upto lies.0 c.self.inside.network.items c.index.result.now c.self.invariant.1 refl refl lies.1 c.index.ensures,
     )
 
 pub follow-requires-clause-says : goal.follow-requires-clause-says
 follow-requires-clause-says g c =
     let w = record_in c.self.inside in
-    let sum = g.C.Checksum.sum c.self.inside.checksum in
-    let x = state_in c.self.inside in
     rw (← c.self.view_is) (λ names e. c.in_ok-chunk.ensures.chunk (wire_skip w c.args.upto names)
-    (reads-skip sum x c.args.k c.args.upto names c.self.inside.network.items c.index.result.now c.self.invariant.1 refl refl e c.index.ensures))
+    (reads-skip c.args.k c.args.upto names c.self.inside.network.items c.index.result.now c.self.invariant.1 refl refl e c.index.ensures))
 
 pub follow-requires-clause-counts : goal.follow-requires-clause-counts
 follow-requires-clause-counts g c =
     let w = record_in c.self.inside in
-    let sum = g.C.Checksum.sum c.self.inside.checksum in
-    let x = state_in c.self.inside in
     let past : cumulative w ≤ c.args.upto =
-    omega (arith, c.if-cumulative-upto.false, c.count_of-cumulative.ensures, c.cumulative_tsn.ensures, cumulative-place sum x c.self.invariant.1 0) in
+    omega (arith, c.if-cumulative-upto.false, c.count_of-cumulative.ensures, c.cumulative_tsn.ensures, cumulative-place c.self.invariant.1 0) in
     let counted : skip_counts w c.args.upto ≡ true = grind (arith, nat_tests) in
     rw (← c.self.view_is) counted
 
 pub returns-clause-ok : goal.returns-clause-ok
 returns-clause-ok g c =
     let w = record_in c.self.inside in
-    let sum = g.C.Checksum.sum c.self.inside.checksum in
-    let x = state_in c.self.inside in
     let past : cumulative w ≤ c.args.upto =
-    omega (arith, c.if-cumulative-upto.false, c.count_of-cumulative.ensures, c.cumulative_tsn.ensures, cumulative-place sum x c.self.invariant.1 0) in
+    omega (arith, c.if-cumulative-upto.false, c.count_of-cumulative.ensures, c.cumulative_tsn.ensures, cumulative-place c.self.invariant.1 0) in
     let counted : skip_counts w c.args.upto ≡ true = grind (arith, nat_tests) in
     let v = c.args.self.now.recorded in
     let counts : skip_counts v c.args.upto ≡ true = rw (← c.self.view_is) counted in

@@ -1,6 +1,4 @@
-use Rattle.std.proofs.Common.{◌≡◌, true, take}
-use Rattle.std.specs.List.{list_all}
-use Rattle.sctp_model.specs.Steps.{can_name}
+use Rattle.sctp_link.proofs.Names.{◌≡◌, true, take, list_all, can_name}
 use Rattle.sctp_link.proofs.link.Link.can_name_each.Given as goal
 
 abbrev pub invariant-loop-at : goal.invariant-loop-at

@@ -1,24 +1,16 @@
-use Rattle.std.proofs.Common.{◌≡◌, ◌<◌, ap, sym, ◌∙◌, subst, true, Some, None, refl, map, rules, arith, length}
-use Rattle.std.specs.Prelude.{is_some, slice_set}
-use Rattle.sctp_list_lemmas.proofs.Getting.{length-mapped}
-use Rattle.sctp_outbound.specs.pending_queue.PendingQueue.{next_pending}
-use Rattle.sctp_outbound.specs.outbound_queue.OutboundQueue.{expired_of, expiring}
-use Rattle.sctp_list_lemmas.specs.Lists.{change_where}
-use Rattle.sctp_progress.specs.Progress.{has_number, with_expiry}
-use Rattle.sctp_link.specs.Linked.{IsLinked}
-use Rattle.sctp_link.specs.Sides.{Sides, IsAligned, sides, expired_unsent}
+use Rattle.sctp_link.proofs.Names.{◌≡◌, ◌<◌, ap, sym, ◌∙◌, subst, true, Some, None, refl, map, rules, arith, length, is_some, slice_set, length-mapped}
+use Rattle.sctp_link.proofs.Names.{next_pending, expired_of, change_where, with_expiry, IsLinked, Sides, IsAligned, sides, expired_unsent, Message, state_from}
+use Rattle.sctp_link.proofs.Names.{record_from, sides_in, message_record, progress_of}
+use Rattle.sctp_outbound.specs.outbound_queue.OutboundQueue.{expiring}
+use Rattle.sctp_progress.specs.Progress.{has_number}
 use Rattle.sctp_link.proofs.sides.Changes.{some-of, expired-aligned, expired-sides}
-use Rattle.sctp_link.specs.declared.record.Message.{Message}
-use Rattle.sctp_link.specs.Fields.{state_in, state_from, record_from, sides_in}
-use Rattle.sctp_link.specs.Records.{message_record, progress_of}
 use Rattle.sctp_link.proofs.abandonment.Expiring.{idle-right, none-waits, none-past_deadline, shown-past_deadline, expires, linked-expired, moves-expired}
 use Rattle.sctp_link.proofs.link.Link.expire.Goals as goal
 
 pub returns-in_default-clause-right : goal.returns-in_default-clause-right
 returns-in_default-clause-right g c =
     let none : next_pending c.self.inside.sender.flight.queue.pending ≡ None = search rules in
-    rw (← c.self.view_is) (idle-right (g.C.Checksum.sum c.self.inside.checksum) (state_in c.self.inside) c.self.invariant.1 c.args.now
-    (none-waits (g.C.Checksum.sum c.self.inside.checksum) (state_in c.self.inside) c.self.invariant.1 c.args.now none))
+    rw (← c.self.view_is) (idle-right c.self.invariant.1 c.args.now (none-waits c.self.invariant.1 c.args.now none))
 
 pub invariant_of-self : goal.invariant_of-self
 invariant_of-self g c = rw (c.in_default-expire.ensures.idle refl) c.self.invariant
@@ -26,14 +18,11 @@ invariant_of-self g c = rw (c.in_default-expire.ensures.idle refl) c.self.invari
 pub returns-in_default-expire-clause-right : goal.returns-in_default-expire-clause-right
 returns-in_default-expire-clause-right g c =
     rw (c.in_default-expire.ensures.idle refl, ← c.self.view_is)
-    (idle-right (g.C.Checksum.sum c.self.inside.checksum) (state_in c.self.inside) c.self.invariant.1 c.args.now (none-past_deadline
-    (g.C.Checksum.sum c.self.inside.checksum) (state_in c.self.inside) c.self.invariant.1 c.args.now (sym c.in_default-expire.ensures.none)))
+    (idle-right c.self.invariant.1 c.args.now (none-past_deadline c.self.invariant.1 c.args.now (sym c.in_default-expire.ensures.none)))
 
 pub index_mut-requires : goal.index_mut-requires
 index_mut-requires g c =
     let shown : next_pending c.self.inside.sender.flight.queue.pending ≡ Some c.in-Some.chunk.now = search rules in
-    let sum = g.C.Checksum.sum c.self.inside.checksum in
-    let x = state_in c.self.inside in
     let l = c.self.invariant.1 in
     let now = c.args.now in
     let d = c.in-Some.chunk.now in
@@ -44,14 +33,13 @@ index_mut-requires g c =
     let answered = some-of _ _ d is c.in-Some-expire.ensures.some in
     let then' : Sides = expired_unsent d bytes (sides_in c.self.inside) in
     let left = rw answered.1 at c.in-Some-expire.ensures.released in
-    let r = expires sum x l now d bytes then'.flight.queue shown past_deadline left refl in
+    let r = expires l now d bytes then'.flight.queue shown past_deadline left refl in
     omega (arith, r.made, length-mapped message_record c.self.inside.messages.items, c.self.inside.messages.ok.0)
 
 pub invariant_of-self-2 : goal.invariant_of-self-2
 invariant_of-self-2 g c =
     let shown : next_pending c.self.inside.sender.flight.queue.pending ≡ Some c.in-Some.chunk.now = search rules in
     let sum = g.C.Checksum.sum c.self.inside.checksum in
-    let x = state_in c.self.inside in
     let l = c.self.invariant.1 in
     let now = c.args.now in
     let d = c.in-Some.chunk.now in
@@ -62,29 +50,26 @@ invariant_of-self-2 g c =
     let answered = some-of _ _ d is c.in-Some-expire.ensures.some in
     let then' : Sides = expired_unsent d bytes (sides_in c.self.inside) in
     let left = rw answered.1 at c.in-Some-expire.ensures.released in
-    let r = expires sum x l now d bytes then'.flight.queue shown past_deadline left refl in
+    let r = expires l now d bytes then'.flight.queue shown past_deadline left refl in
     let gone : Message = record c.index_mut.result.now { expired = true } in
     let ms = slice_set c.self.inside.messages.items d.message_id gone in
     let both = ap (λ k. sides c.expire.new.self c.self.inside.receiver k)
     (c.record_expiry.ensures ∙ ap (λ s. change_where (has_number s) (with_expiry d.unordered) c.self.inside.progress) answered.0)
-    ∙ expired-sides c.self.inside.sender c.self.inside.receiver c.self.inside.progress c.self.invariant.0 d bytes now c.expire.new.self answered.1 in
+    ∙ expired-sides c.self.invariant.0 d bytes now c.expire.new.self answered.1 in
     let lt : d.message_id < length c.self.inside.messages.items = omega (arith, r.made, length-mapped message_record c.self.inside.messages.items) in (
       subst (λ ps. IsAligned c.expire.new.self c.self.inside.receiver ps)
           (sym (c.record_expiry.ensures ∙ ap (λ s. change_where (has_number s) (with_expiry d.unordered) c.self.inside.progress) answered.0))
-          (expired-aligned c.self.inside.sender c.self.inside.receiver c.self.inside.progress c.self.invariant.0 d bytes now c.expire.new.self answered.1),
+          (expired-aligned c.self.invariant.0 d bytes now c.expire.new.self answered.1),
       subst (λ (y : Sides). IsLinked sum (record (state_from y c.self.inside)
           { recorded = record (record_from y c.self.inside) { messages = map message_record ms }; progress = map progress_of ms })) (sym both)
-          (linked-expired sum x l now d.message_id r.is d.stream_identifier bytes d.unordered then'.streams then'.flight.queue r.stream r.kind r.held refl
-          (ap (λ o. expired_of o c.self.inside.sender.flight.queue) (sym is))
-          c.self.inside.messages.items (record c.index_mut.result.now { expired = true }) c.index_mut.result.now refl refl refl lt
-          (ap (λ (t : Message). record t { expired = true }) c.index_mut.ensures.value)),
+          (linked-expired l now d.message_id r.is d.stream_identifier bytes d.unordered then'.streams then'.flight.queue r.stream r.kind r.held refl
+          (ap (λ o. expired_of o c.self.inside.sender.flight.queue) (sym is)) c.self.inside.messages.items (record c.index_mut.result.now { expired = true })
+          c.index_mut.result.now refl refl refl lt (ap (λ (t : Message). record t { expired = true }) c.index_mut.ensures.value)),
     )
 
 pub returns-clause-right : goal.returns-clause-right
 returns-clause-right g c =
     let shown : next_pending c.self.inside.sender.flight.queue.pending ≡ Some c.in-Some.chunk.now = search rules in
-    let sum = g.C.Checksum.sum c.self.inside.checksum in
-    let x = state_in c.self.inside in
     let l = c.self.invariant.1 in
     let now = c.args.now in
     let d = c.in-Some.chunk.now in
@@ -95,18 +80,17 @@ returns-clause-right g c =
     let answered = some-of _ _ d is c.in-Some-expire.ensures.some in
     let then' : Sides = expired_unsent d bytes (sides_in c.self.inside) in
     let left = rw answered.1 at c.in-Some-expire.ensures.released in
-    let r = expires sum x l now d bytes then'.flight.queue shown past_deadline left refl in
+    let r = expires l now d bytes then'.flight.queue shown past_deadline left refl in
     let gone : Message = record c.index_mut.result.now { expired = true } in
     let ms = slice_set c.self.inside.messages.items d.message_id gone in
     let both = ap (λ k. sides c.expire.new.self c.self.inside.receiver k)
     (c.record_expiry.ensures ∙ ap (λ s. change_where (has_number s) (with_expiry d.unordered) c.self.inside.progress) answered.0)
-    ∙ expired-sides c.self.inside.sender c.self.inside.receiver c.self.inside.progress c.self.invariant.0 d bytes now c.expire.new.self answered.1 in
+    ∙ expired-sides c.self.invariant.0 d bytes now c.expire.new.self answered.1 in
     let lt : d.message_id < length c.self.inside.messages.items = omega (arith, r.made, length-mapped message_record c.self.inside.messages.items) in
     rw (answered.0, ← c.self.view_is) (record {
       right = r.right;
       moves = ap (λ (y : Sides). record (record_from y c.self.inside) { messages = map message_record ms }) both
-          ∙ moves-expired sum x l now d.message_id r.is d.stream_identifier bytes d.unordered then'.streams then'.flight.queue r.stream r.kind r.held refl
-          (ap (λ o. expired_of o c.self.inside.sender.flight.queue) (sym is))
-          c.self.inside.messages.items (record c.index_mut.result.now { expired = true }) c.index_mut.result.now refl refl refl lt
-          (ap (λ (t : Message). record t { expired = true }) c.index_mut.ensures.value);
+          ∙ moves-expired l now d.message_id r.is d.stream_identifier bytes d.unordered then'.streams then'.flight.queue r.stream r.kind r.held refl
+          (ap (λ o. expired_of o c.self.inside.sender.flight.queue) (sym is)) c.self.inside.messages.items (record c.index_mut.result.now { expired = true })
+          c.index_mut.result.now refl refl refl lt (ap (λ (t : Message). record t { expired = true }) c.index_mut.ensures.value);
     })

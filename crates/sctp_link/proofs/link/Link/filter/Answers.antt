@@ -1,11 +1,5 @@
-use Rattle.std.proofs.Common.{◌≡◌, ap, sym, ◌∙◌}
-use Rattle.sctp_model.specs.Queues.{FilterRecord}
-use Rattle.sctp_model.specs.Receiver.{cumulative}
-use Rattle.sctp_model.specs.Contents.{cumulative_tsn}
-use Rattle.sctp_receiver.proofs.Placeholders.{tsns-placeholder}
-use Rattle.sctp_link.specs.Fields.{record_in}
+use Rattle.sctp_link.proofs.Names.{◌≡◌, ap, sym, ◌∙◌, FilterRecord, cumulative, cumulative_tsn, tsns-placeholder, record_in, tsns}
 use Rattle.sctp_link.proofs.link.Link.filter.Goals as goal
-use Rattle.sctp_serial.specs.DataChunks.{tsns}
 
 pub returns : goal.returns
 returns g c =

@@ -1,11 +1,7 @@
-use Rattle.std.proofs.Common.{◌≡◌, true, false, refl, ap, sym, ◌∙◌, arith, drop}
-use Rattle.std.specs.Prelude.{find, slice_index_or}
-use Rattle.std.specs.List.{list_all}
-use Rattle.sctp_model.specs.Messages.{place_of, is_in_flight, is_partially_sent}
-use Rattle.sctp_refinement.specs.InTurn.{message_of_tsn}
-use Rattle.sctp_refinement.proofs.abandonment.AbandonedInTurn.{each-of}
-use Rattle.sctp_link.specs.Fields.{state_in, record_in}
-use Rattle.sctp_link.proofs.abandonment.LateTsns.{found-step, found-none, place-made}
+use Rattle.sctp_link.proofs.Names.{◌≡◌, true, false, refl, ap, sym, ◌∙◌, arith, drop, find, slice_index_or, list_all, place_of, is_in_flight, is_partially_sent}
+use Rattle.sctp_link.proofs.Names.{message_of_tsn, each-of, record_in}
+use Rattle.sctp_refinement.proofs.Lists.{found-step, found-none}
+use Rattle.sctp_link.proofs.abandonment.LateTsns.{place-made}
 use Rattle.sctp_link.proofs.upkeep.Observed.{slot-message}
 use Rattle.sctp_link.proofs.link.Link.first_partially_sent.Goals as goal
 
@@ -16,8 +12,7 @@ is_partially_sent-requires g c =
     let t = slice_index_or c.args.tsns.now c.loop-at.at 0 in
     let all : list_all (λ t. is_in_flight w (place_of w t)) ts ≡ true = rw (← c.self.view_is) at c.requires in
     let high = place-made w t (each-of (λ t. is_in_flight w (place_of w t)) ts c.loop-at.at 0 all c.loop-at-test.true) in
-    let there = slot-message (g.C.Checksum.sum c.self.inside.checksum)
-    (state_in c.self.inside) c.self.inside.slots.items (place_of w t) c.index.result.now c.self.invariant.1 refl high c.index.ensures in
+    let there = slot-message c.self.inside.slots.items (place_of w t) c.index.result.now c.self.invariant.1 refl high c.index.ensures in
     rw (← c.self.view_is) there.1
 
 pub returns-then-is_partially_sent : goal.returns-then-is_partially_sent
@@ -27,8 +22,7 @@ returns-then-is_partially_sent g c =
     let t = slice_index_or c.args.tsns.now c.loop-at.at 0 in
     let all : list_all (λ t. is_in_flight w (place_of w t)) ts ≡ true = rw (← c.self.view_is) at c.requires in
     let high = place-made w t (each-of (λ t. is_in_flight w (place_of w t)) ts c.loop-at.at 0 all c.loop-at-test.true) in
-    let there = slot-message (g.C.Checksum.sum c.self.inside.checksum)
-    (state_in c.self.inside) c.self.inside.slots.items (place_of w t) c.index.result.now c.self.invariant.1 refl high c.index.ensures in
+    let there = slot-message c.self.inside.slots.items (place_of w t) c.index.result.now c.self.invariant.1 refl high c.index.ensures in
     let answered : c.is_partially_sent.result ≡ is_partially_sent w c.index.result.now.message = rw (← c.self.view_is) at c.is_partially_sent.ensures in
     let so-far : find (λ t. is_partially_sent w (message_of_tsn w t)) ts ≡ find (λ t. is_partially_sent w (message_of_tsn w t))
     (drop c.loop-at.at ts) = rw (← c.self.view_is) at c.loop-at.invariant in
@@ -43,8 +37,7 @@ loop-at-preserved g c =
     let t = slice_index_or c.args.tsns.now c.loop-at.at 0 in
     let all : list_all (λ t. is_in_flight w (place_of w t)) ts ≡ true = rw (← c.self.view_is) at c.requires in
     let high = place-made w t (each-of (λ t. is_in_flight w (place_of w t)) ts c.loop-at.at 0 all c.loop-at-test.true) in
-    let there = slot-message (g.C.Checksum.sum c.self.inside.checksum)
-    (state_in c.self.inside) c.self.inside.slots.items (place_of w t) c.index.result.now c.self.invariant.1 refl high c.index.ensures in
+    let there = slot-message c.self.inside.slots.items (place_of w t) c.index.result.now c.self.invariant.1 refl high c.index.ensures in
     let answered : c.is_partially_sent.result ≡ is_partially_sent w c.index.result.now.message = rw (← c.self.view_is) at c.is_partially_sent.ensures in
     let so-far : find (λ t. is_partially_sent w (message_of_tsn w t)) ts ≡ find (λ t. is_partially_sent w (message_of_tsn w t))
     (drop c.loop-at.at ts) = rw (← c.self.view_is) at c.loop-at.invariant in

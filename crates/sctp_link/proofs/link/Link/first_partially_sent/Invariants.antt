@@ -1,7 +1,4 @@
-use Rattle.std.proofs.Common.{◌≡◌, drop}
-use Rattle.std.specs.Prelude.{find}
-use Rattle.sctp_model.specs.Messages.{is_partially_sent}
-use Rattle.sctp_refinement.specs.InTurn.{message_of_tsn}
+use Rattle.sctp_link.proofs.Names.{◌≡◌, drop, find, is_partially_sent, message_of_tsn}
 use Rattle.sctp_link.proofs.link.Link.first_partially_sent.Given as goal
 
 abbrev pub invariant-loop-at : goal.invariant-loop-at

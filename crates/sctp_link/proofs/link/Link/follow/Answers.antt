@@ -1,17 +1,7 @@
-use Rattle.std.proofs.Common.{◌≡◌, ℕ, ◌≤◌, ◌+◌, true, List, None, Some, refl, ap, sym, ◌∙◌, subst, arith, map}
-use Rattle.std.specs.Prelude.{slice_get}
-use Rattle.std.proofs.lemmas.Bool.Decides.{nat_tests}
-use Rattle.sctp_data.specs.ForwardTsn.{forward_tsn_of}
-use Rattle.sctp_model.specs.LinkRecord.{Forward}
+use Rattle.sctp_link.proofs.Names.{◌≡◌, ℕ, ◌≤◌, ◌+◌, true, List, None, Some, refl, ap, sym, ◌∙◌, subst, arith, map, slice_get, nat_tests, forward_tsn_of}
+use Rattle.sctp_link.proofs.Names.{Forward, cumulative, skip_counts, receive_skip, refusal_of, IsLinked, Sides, IsAligned, sides, record_in, state_from}
+use Rattle.sctp_link.proofs.Names.{record_from, sides_in, kind_record, with_names, standing_named, wire_skip}
 use Rattle.sctp_model.specs.declared.event.Event.TheVariants as E
-use Rattle.sctp_model.specs.Receiver.{cumulative}
-use Rattle.sctp_model.specs.Changes.{skip_counts, receive_skip}
-use Rattle.sctp_model.specs.Steps.{refusal_of}
-use Rattle.sctp_link.specs.Linked.{IsLinked}
-use Rattle.sctp_link.specs.Sides.{Sides, IsAligned, sides}
-use Rattle.sctp_link.specs.Fields.{record_in, state_in, state_from, record_from, sides_in}
-use Rattle.sctp_link.specs.Records.{kind_record}
-use Rattle.sctp_link.specs.Skips.{with_names, standing_named, wire_skip}
 use Rattle.sctp_link.proofs.upkeep.Facts.{facts}
 use Rattle.sctp_link.proofs.skipping.SkipComes.{skips-in, names-kept, same-names}
 use Rattle.sctp_link.proofs.skipping.SkipFollowed.{never-refused, followed-aligned, followed-sides, named-aligned, named-sides, sides-then, linked-follow}
@@ -21,17 +11,14 @@ use Rattle.sctp_link.proofs.link.Link.follow.Goals as goal
 pub overflow_add-self : goal.overflow_add-self
 overflow_add-self g c =
     let w = record_in c.self.inside in
-    let sum = g.C.Checksum.sum c.self.inside.checksum in
-    let x = state_in c.self.inside in
     let lies : (names : List ℕ) × (slice_get w.network c.args.k ≡ Some (Forward c.args.upto names)) = rw (← c.self.view_is) at c.requires.lies in
-    let skips = skips-in sum x c.self.invariant.1 c.args.k c.args.upto lies.0 lies.1 in
-    omega (arith, skips.made, (facts sum x c.self.invariant.1).few)
+    let skips = skips-in c.self.invariant.1 c.args.k c.args.upto lies.0 lies.1 in
+    omega (arith, skips.made, (facts c.self.invariant.1).few)
 
 pub invariant_of-self : goal.invariant_of-self
 invariant_of-self g c =
     let w = record_in c.self.inside in
     let sum = g.C.Checksum.sum c.self.inside.checksum in
-    let x = state_in c.self.inside in
     let ms = c.self.inside.messages.items in
     let k = c.args.k in
     let upto = c.args.upto in
@@ -42,13 +29,13 @@ invariant_of-self g c =
     let counts : cumulative w ≤ upto = grind (arith, nat_tests) in
     let says : (names : List ℕ) → slice_get w.network k ≡ Some (Forward upto names)
     → forward_tsn_of c.args.chunk.now ≡ wire_skip w upto names = rw (← c.self.view_is) at c.requires.says in
-    let never = never-refused sum x c.self.invariant.1 k upto lies.0 none lies.1 counts (forward_tsn_of c.args.chunk.now) (sides_in c.self.inside)
+    let never = never-refused c.self.invariant.1 k upto lies.0 none lies.1 counts (forward_tsn_of c.args.chunk.now) (sides_in c.self.inside)
     (says lies.0 lies.1) refl in
     let calls = c.forward_tsn_by_names in
-    let aligned = followed-aligned c.self.inside.sender c.self.inside.receiver calls.new.self c.self.inside.progress c.self.invariant.0
-    (forward_tsn_of c.args.chunk.now) never calls.result calls.ensures.ok calls.ensures.refused in
-    let followed = followed-sides c.self.inside.sender c.self.inside.receiver calls.new.self c.self.inside.progress c.self.invariant.0
-    (forward_tsn_of c.args.chunk.now) never calls.result calls.ensures.ok calls.ensures.refused in
+    let aligned =
+    followed-aligned calls.new.self c.self.invariant.0 (forward_tsn_of c.args.chunk.now) never calls.result calls.ensures.ok calls.ensures.refused in
+    let followed =
+    followed-sides calls.new.self c.self.invariant.0 (forward_tsn_of c.args.chunk.now) never calls.result calls.ensures.ok calls.ensures.refused in
     let names = names-kept c.self.inside.network.items k c.index.result.now c.in-Forward.upto upto c.in-Forward.messages.items lies.0 lies.1 c.index.ensures
     (ap kind_record c.in-Forward.is) in
     let standing : c.record_names.new.progress ≡ map (standing_named ms lies.0) c.self.inside.progress = c.record_names.ensures
@@ -56,20 +43,17 @@ invariant_of-self g c =
     ∙ ap (λ ns. map (standing_named ms ns) c.self.inside.progress) (c.deref-2.ensures.value ∙ names) in
     let last = sides c.self.inside.sender calls.new.self c.record_names.new.progress in
     let answered : last ≡ record mid { streams = map (with_names ms lies.0) mid.streams } = ap (sides c.self.inside.sender calls.new.self) standing
-    ∙ named-sides c.self.inside.sender calls.new.self c.self.inside.progress aligned ms lies.0 in
-    let both = sides-then sum x c.self.invariant.1 k upto lies.0 none lies.1 counts (forward_tsn_of c.args.chunk.now) (sides_in c.self.inside)
+    ∙ named-sides aligned ms lies.0 in
+    let both = sides-then c.self.invariant.1 k upto lies.0 none lies.1 counts (forward_tsn_of c.args.chunk.now) (sides_in c.self.inside)
     (says lies.0 lies.1) refl ms mid last followed answered in (
-      subst (λ ps. IsAligned c.self.inside.sender calls.new.self ps) (sym standing)
-          (named-aligned c.self.inside.sender calls.new.self c.self.inside.progress aligned ms lies.0),
+      subst (λ ps. IsAligned c.self.inside.sender calls.new.self ps) (sym standing) (named-aligned aligned ms lies.0),
       subst (λ (y : Sides). IsLinked sum (state_from y (record c.self.inside { skipped = upto + 1 }))) (sym both)
-          (linked-follow sum x c.self.invariant.1 k upto lies.0 none lies.1 counts ms refl refl refl (upto + 1) _ refl refl),
+          (linked-follow c.self.invariant.1 k upto lies.0 none lies.1 counts ms refl refl refl (upto + 1) _ refl refl),
     )
 
 pub returns-clause-followed : goal.returns-clause-followed
 returns-clause-followed g c =
     let w = record_in c.self.inside in
-    let sum = g.C.Checksum.sum c.self.inside.checksum in
-    let x = state_in c.self.inside in
     let ms = c.self.inside.messages.items in
     let k = c.args.k in
     let upto = c.args.upto in
@@ -80,13 +64,13 @@ returns-clause-followed g c =
     let counts : cumulative w ≤ upto = grind (arith, nat_tests) in
     let says : (names : List ℕ) → slice_get w.network k ≡ Some (Forward upto names)
     → forward_tsn_of c.args.chunk.now ≡ wire_skip w upto names = rw (← c.self.view_is) at c.requires.says in
-    let never = never-refused sum x c.self.invariant.1 k upto lies.0 none lies.1 counts (forward_tsn_of c.args.chunk.now) (sides_in c.self.inside)
+    let never = never-refused c.self.invariant.1 k upto lies.0 none lies.1 counts (forward_tsn_of c.args.chunk.now) (sides_in c.self.inside)
     (says lies.0 lies.1) refl in
     let calls = c.forward_tsn_by_names in
-    let aligned = followed-aligned c.self.inside.sender c.self.inside.receiver calls.new.self c.self.inside.progress c.self.invariant.0
-    (forward_tsn_of c.args.chunk.now) never calls.result calls.ensures.ok calls.ensures.refused in
-    let followed = followed-sides c.self.inside.sender c.self.inside.receiver calls.new.self c.self.inside.progress c.self.invariant.0
-    (forward_tsn_of c.args.chunk.now) never calls.result calls.ensures.ok calls.ensures.refused in
+    let aligned =
+    followed-aligned calls.new.self c.self.invariant.0 (forward_tsn_of c.args.chunk.now) never calls.result calls.ensures.ok calls.ensures.refused in
+    let followed =
+    followed-sides calls.new.self c.self.invariant.0 (forward_tsn_of c.args.chunk.now) never calls.result calls.ensures.ok calls.ensures.refused in
     let names = names-kept c.self.inside.network.items k c.index.result.now c.in-Forward.upto upto c.in-Forward.messages.items lies.0 lies.1 c.index.ensures
     (ap kind_record c.in-Forward.is) in
     let standing : c.record_names.new.progress ≡ map (standing_named ms lies.0) c.self.inside.progress = c.record_names.ensures
@@ -94,9 +78,9 @@ returns-clause-followed g c =
     ∙ ap (λ ns. map (standing_named ms ns) c.self.inside.progress) (c.deref-2.ensures.value ∙ names) in
     let last = sides c.self.inside.sender calls.new.self c.record_names.new.progress in
     let answered : last ≡ record mid { streams = map (with_names ms lies.0) mid.streams } = ap (sides c.self.inside.sender calls.new.self) standing
-    ∙ named-sides c.self.inside.sender calls.new.self c.self.inside.progress aligned ms lies.0 in
-    let both = sides-then sum x c.self.invariant.1 k upto lies.0 none lies.1 counts (forward_tsn_of c.args.chunk.now) (sides_in c.self.inside)
+    ∙ named-sides aligned ms lies.0 in
+    let both = sides-then c.self.invariant.1 k upto lies.0 none lies.1 counts (forward_tsn_of c.args.chunk.now) (sides_in c.self.inside)
     (says lies.0 lies.1) refl ms mid last followed answered in
     rw (← c.self.view_is) (λ others e. ap (λ (y : Sides). record_from y (record c.self.inside { skipped = upto + 1 })) both
-    ∙ received-follow sum x c.self.invariant.1 k upto lies.0 none lies.1 counts ms refl refl refl (upto + 1) refl
+    ∙ received-follow c.self.invariant.1 k upto lies.0 none lies.1 counts ms refl refl refl (upto + 1) refl
     ∙ ap (receive_skip w upto) (same-names w k upto lies.0 others lies.1 e))

@@ -1,5 +1,4 @@
-use Rattle.std.proofs.Common.{◌≡◌, ℕ, ◌<◌, false}
-use Rattle.sctp_model.specs.Messages.{belongs_to}
+use Rattle.sctp_link.proofs.Names.{◌≡◌, ℕ, ◌<◌, false, belongs_to}
 use Rattle.sctp_link.proofs.link.Link.goes_past.Given as goal
 
 abbrev pub invariant-loop-later : goal.invariant-loop-later

@@ -1,16 +1,6 @@
-use Rattle.std.proofs.Common.{◌≡◌, ℕ, ap, sym, ◌∙◌, ◌<◌, ◌-◌, true, List, Some, None, refl, arith, length}
-use Rattle.std.specs.Prelude.{find, min, max, option_map, slice_index_or}
-use Rattle.std.specs.VecDeque.{deque_len}
-use Rattle.sctp_list_lemmas.proofs.More.{not_both}
-use Rattle.sctp_data.specs.ChunkSet.{ChunkSet}
-use Rattle.sctp_reassembly.specs.reassembly_queue.ReassemblyQueue.{ReassemblyState}
-use Rattle.sctp_model.specs.Messages.{is_open, index_of}
-use Rattle.sctp_model.specs.Receiver.{held_on, is_held}
-use Rattle.sctp_model.specs.Queues.{set_of}
-use Rattle.sctp_link.specs.Streams.{OpenStream, has_number}
-use Rattle.sctp_link.specs.Fields.{record_in, state_in, sides_in}
-use Rattle.sctp_link.specs.Linked.{State, IsLinked}
-use Rattle.sctp_receiver.specs.declared.receiver.inbound_streams.InboundStream.{InboundStream}
+use Rattle.sctp_link.proofs.Names.{◌≡◌, ℕ, ap, sym, ◌∙◌, ◌<◌, ◌-◌, true, List, Some, None, refl, arith, length, find, min, max, option_map, slice_index_or}
+use Rattle.sctp_link.proofs.Names.{deque_len, not_both, ChunkSet, ReassemblyState, is_open, index_of, held_on, is_held, set_of, OpenStream, has_number}
+use Rattle.sctp_link.proofs.Names.{record_in, state_in, sides_in, State, IsLinked, InboundStream}
 use Rattle.sctp_link.proofs.sides.Changes.{inbound-answered, next-answered}
 use Rattle.sctp_link.proofs.upkeep.Lookups.{none-open, queue-none}
 use Rattle.sctp_link.proofs.upkeep.StreamPlaces.{placed}
@@ -20,15 +10,14 @@ use Rattle.sctp_link.proofs.link.Link.index_range.Goals as goal
 pub unreachable-requires : goal.unreachable-requires
 unreachable-requires g c =
     let o : is_open (record_in c.self.inside) c.args.stream ≡ true = rw (← c.self.view_is) at c.requires in
-    not_both (sym (none-open (record_in c.self.inside) c.args.stream (sides_in c.self.inside).streams refl
-    (none-answered (find (has_number c.args.stream) (sides_in c.self.inside).streams)
-    (next-answered c.self.inside.sender c.self.inside.receiver c.self.inside.progress c.self.invariant.0 c.args.stream None c.in_default.ensures))) ∙ o)
+    not_both (sym (none-open (record_in c.self.inside) c.args.stream (sides_in c.self.inside).streams refl (none-answered
+    (find (has_number c.args.stream) (sides_in c.self.inside).streams) (next-answered c.self.invariant.0 c.args.stream None c.in_default.ensures))) ∙ o)
 
 pub unreachable-requires-in_default-reassembly : goal.unreachable-requires-in_default-reassembly
 unreachable-requires-in_default-reassembly g c =
     let o : is_open (record_in c.self.inside) c.args.stream ≡ true = rw (← c.self.view_is) at c.requires in
-    let none = queue-none c.args.stream (sides_in c.self.inside).streams (inbound-answered c.self.inside.sender c.self.inside.receiver c.self.inside.progress
-    c.self.invariant.0 (λ (l : InboundStream). l.queue) c.args.stream None c.in_default-reassembly.ensures) in
+    let none = queue-none c.args.stream (sides_in c.self.inside).streams
+    (inbound-answered c.self.invariant.0 (λ (l : InboundStream). l.queue) c.args.stream None c.in_default-reassembly.ensures) in
     not_both (sym (none-open (record_in c.self.inside) c.args.stream (sides_in c.self.inside).streams refl none) ∙ o)
 
 -- What a link tells of a stream: where it stands, which index is expected next, and the ordered sets that are held.
@@ -58,97 +47,87 @@ answered-at x s next q next_answered queue_answered sets_are =
     }
 
 -- The set at a place is of the message that is held there.
-set-answered : (sum : List ℕ → ℕ) (x : State) (l : IsLinked sum x) (s next : ℕ) (sets : List ChunkSet) (t : IsAnswered x s next sets) (i : ℕ) (e : ChunkSet)
+set-answered : {sum : List ℕ → ℕ} {x : State} (l : IsLinked sum x) (s next : ℕ) (sets : List ChunkSet) (t : IsAnswered x s next sets) (i : ℕ) (e : ChunkSet)
     → i < length sets → e ≡ slice_index_or sets i e
     → (is_held x.recorded s (slice_index_or (held_on x.recorded s) i 0) ≡ true) × (e ≡ set_of x.recorded (slice_index_or (held_on x.recorded s) i 0))
-set-answered sum x l s next sets t i e lt is =
-    let h = set-held sum x l t.at s t.d t.lt t.found i e (omega (arith, lt, ap length t.held)) in
+set-answered l s next sets t i e lt is =
+    let h = set-held l t.at s t.d t.lt t.found i e (omega (arith, lt, ap length t.held)) in
     (h.0, is ∙ ap (λ ys. slice_index_or ys i e) t.held ∙ h.1)
 
 pub returns-in_default-front-clause-low : goal.returns-in_default-front-clause-low
 returns-in_default-front-clause-low g c =
     let x = state_in c.self.inside in
     let t = answered-at x c.args.stream c.in-Some.next c.in-Some-reassembly.queue.now
-    (next-answered c.self.inside.sender c.self.inside.receiver c.self.inside.progress c.self.invariant.0 c.args.stream (Some c.in-Some.next) c.in-Some.ensures)
-    (inbound-answered c.self.inside.sender c.self.inside.receiver c.self.inside.progress c.self.invariant.0 (λ (l : InboundStream). l.queue) c.args.stream
-    (Some c.in-Some-reassembly.queue.now) c.in-Some-reassembly.ensures) c.ordered-held.ensures in
+    (next-answered c.self.invariant.0 c.args.stream (Some c.in-Some.next) c.in-Some.ensures) (inbound-answered c.self.invariant.0
+    (λ (l : InboundStream). l.queue) c.args.stream (Some c.in-Some-reassembly.queue.now) c.in-Some-reassembly.ensures) c.ordered-held.ensures in
     let empty : length (slice_index_or x.open_streams t.at t.d).inbound.queue.held.ordered ≡ 0 =
     omega (arith, ap length t.held, none-there (deque_len c.ordered-held.result.now) c.in_default-front.ensures.variant.1) in
-    rw (← c.self.view_is) (t.next_is ∙ (ends-empty (g.C.Checksum.sum c.self.inside.checksum) x c.self.invariant.1 t.at c.args.stream t.d t.lt t.found empty).0)
+    rw (← c.self.view_is) (t.next_is ∙ (ends-empty c.self.invariant.1 t.at c.args.stream t.d t.lt t.found empty).0)
 
 pub returns-in_default-front-clause-high : goal.returns-in_default-front-clause-high
 returns-in_default-front-clause-high g c =
     let x = state_in c.self.inside in
     let t = answered-at x c.args.stream c.in-Some.next c.in-Some-reassembly.queue.now
-    (next-answered c.self.inside.sender c.self.inside.receiver c.self.inside.progress c.self.invariant.0 c.args.stream (Some c.in-Some.next) c.in-Some.ensures)
-    (inbound-answered c.self.inside.sender c.self.inside.receiver c.self.inside.progress c.self.invariant.0 (λ (l : InboundStream). l.queue) c.args.stream
-    (Some c.in-Some-reassembly.queue.now) c.in-Some-reassembly.ensures) c.ordered-held.ensures in
+    (next-answered c.self.invariant.0 c.args.stream (Some c.in-Some.next) c.in-Some.ensures) (inbound-answered c.self.invariant.0
+    (λ (l : InboundStream). l.queue) c.args.stream (Some c.in-Some-reassembly.queue.now) c.in-Some-reassembly.ensures) c.ordered-held.ensures in
     let empty : length (slice_index_or x.open_streams t.at t.d).inbound.queue.held.ordered ≡ 0 =
     omega (arith, ap length t.held, none-there (deque_len c.ordered-held.result.now) c.in_default-front.ensures.variant.1) in
-    rw (← c.self.view_is) (t.next_is ∙ (ends-empty (g.C.Checksum.sum c.self.inside.checksum) x c.self.invariant.1 t.at c.args.stream t.d t.lt t.found empty).1)
+    rw (← c.self.view_is) (t.next_is ∙ (ends-empty c.self.invariant.1 t.at c.args.stream t.d t.lt t.found empty).1)
 
 pub index_of-requires : goal.index_of-requires
 index_of-requires g c =
-    let sum = g.C.Checksum.sum c.self.inside.checksum in
     let x = state_in c.self.inside in
     let sets = c.ordered-held.result.now.items in
     let t = answered-at x c.args.stream c.in-Some.next c.in-Some-reassembly.queue.now
-    (next-answered c.self.inside.sender c.self.inside.receiver c.self.inside.progress c.self.invariant.0 c.args.stream (Some c.in-Some.next) c.in-Some.ensures)
-    (inbound-answered c.self.inside.sender c.self.inside.receiver c.self.inside.progress c.self.invariant.0 (λ (l : InboundStream). l.queue) c.args.stream
-    (Some c.in-Some-reassembly.queue.now) c.in-Some-reassembly.ensures) c.ordered-held.ensures in
+    (next-answered c.self.invariant.0 c.args.stream (Some c.in-Some.next) c.in-Some.ensures) (inbound-answered c.self.invariant.0
+    (λ (l : InboundStream). l.queue) c.args.stream (Some c.in-Some-reassembly.queue.now) c.in-Some-reassembly.ensures) c.ordered-held.ensures in
     let some : 0 < length sets = omega (arith, c.in-Some-front.ensures.variant.0 refl) in
-    let h = set-answered sum x c.self.invariant.1 c.args.stream c.in-Some.next sets t 0 c.in-Some-front.first.now some c.in-Some-front.ensures.lookup in
+    let h = set-answered c.self.invariant.1 c.args.stream c.in-Some.next sets t 0 c.in-Some-front.first.now some c.in-Some-front.ensures.lookup in
     rw (← c.self.view_is) (c.args.stream, slice_index_or (held_on x.recorded c.args.stream) 0 0, h.0, h.1)
 
 pub index_of-requires-2 : goal.index_of-requires-2
 index_of-requires-2 g c =
-    let sum = g.C.Checksum.sum c.self.inside.checksum in
     let x = state_in c.self.inside in
     let sets = c.ordered-held.result.now.items in
     let t = answered-at x c.args.stream c.in-Some.next c.in-Some-reassembly.queue.now
-    (next-answered c.self.inside.sender c.self.inside.receiver c.self.inside.progress c.self.invariant.0 c.args.stream (Some c.in-Some.next) c.in-Some.ensures)
-    (inbound-answered c.self.inside.sender c.self.inside.receiver c.self.inside.progress c.self.invariant.0 (λ (l : InboundStream). l.queue) c.args.stream
-    (Some c.in-Some-reassembly.queue.now) c.in-Some-reassembly.ensures) c.ordered-held.ensures in
+    (next-answered c.self.invariant.0 c.args.stream (Some c.in-Some.next) c.in-Some.ensures) (inbound-answered c.self.invariant.0
+    (λ (l : InboundStream). l.queue) c.args.stream (Some c.in-Some-reassembly.queue.now) c.in-Some-reassembly.ensures) c.ordered-held.ensures in
     let some : 0 < length sets = omega (arith, c.in-Some-front.ensures.variant.0 refl) in
     let many : deque_len c.ordered-held.result.now ≡ length sets = omega arith in
     let last = c.in-Some-back.last.now in
-    let h = set-answered sum x c.self.invariant.1 c.args.stream c.in-Some.next sets t (length sets - 1) last (omega (arith, some))
+    let h = set-answered c.self.invariant.1 c.args.stream c.in-Some.next sets t (length sets - 1) last (omega (arith, some))
     (c.in-Some-back.ensures.lookup ∙ ap (λ k. slice_index_or sets (k - 1) last) many) in
     rw (← c.self.view_is) (c.args.stream, slice_index_or (held_on x.recorded c.args.stream) (length sets - 1) 0, h.0, h.1)
 
 pub returns-clause-low : goal.returns-clause-low
 returns-clause-low g c =
-    let sum = g.C.Checksum.sum c.self.inside.checksum in
     let x = state_in c.self.inside in
     let sets = c.ordered-held.result.now.items in
     let t = answered-at x c.args.stream c.in-Some.next c.in-Some-reassembly.queue.now
-    (next-answered c.self.inside.sender c.self.inside.receiver c.self.inside.progress c.self.invariant.0 c.args.stream (Some c.in-Some.next) c.in-Some.ensures)
-    (inbound-answered c.self.inside.sender c.self.inside.receiver c.self.inside.progress c.self.invariant.0 (λ (l : InboundStream). l.queue) c.args.stream
-    (Some c.in-Some-reassembly.queue.now) c.in-Some-reassembly.ensures) c.ordered-held.ensures in
+    (next-answered c.self.invariant.0 c.args.stream (Some c.in-Some.next) c.in-Some.ensures) (inbound-answered c.self.invariant.0
+    (λ (l : InboundStream). l.queue) c.args.stream (Some c.in-Some-reassembly.queue.now) c.in-Some-reassembly.ensures) c.ordered-held.ensures in
     let some : 0 < length sets = omega (arith, c.in-Some-front.ensures.variant.0 refl) in
-    let h = set-answered sum x c.self.invariant.1 c.args.stream c.in-Some.next sets t 0 c.in-Some-front.first.now some c.in-Some-front.ensures.lookup in
+    let h = set-answered c.self.invariant.1 c.args.stream c.in-Some.next sets t 0 c.in-Some-front.first.now some c.in-Some-front.ensures.lookup in
     let answered : (s n : ℕ) → is_held x.recorded s n ≡ true → c.in-Some-front.first.now ≡ set_of x.recorded n
     → c.index_of.result ≡ index_of x.recorded n = rw (← c.self.view_is) at c.index_of.ensures in
-    rw (← c.self.view_is) (c.min-low.ensures ∙ ap (λ n. min n c.index_of.result) t.next_is ∙ low-front sum x c.self.invariant.1 t.at c.args.stream t.d t.lt
-    t.found c.index_of.result (omega (arith, some, ap length t.held)) (answered c.args.stream (slice_index_or (held_on x.recorded c.args.stream) 0 0) h.0 h.1))
+    rw (← c.self.view_is) (c.min-low.ensures ∙ ap (λ n. min n c.index_of.result) t.next_is ∙ low-front c.self.invariant.1 t.at c.args.stream t.d t.lt t.found
+    c.index_of.result (omega (arith, some, ap length t.held)) (answered c.args.stream (slice_index_or (held_on x.recorded c.args.stream) 0 0) h.0 h.1))
 
 pub returns-clause-high : goal.returns-clause-high
 returns-clause-high g c =
-    let sum = g.C.Checksum.sum c.self.inside.checksum in
     let x = state_in c.self.inside in
     let sets = c.ordered-held.result.now.items in
     let t = answered-at x c.args.stream c.in-Some.next c.in-Some-reassembly.queue.now
-    (next-answered c.self.inside.sender c.self.inside.receiver c.self.inside.progress c.self.invariant.0 c.args.stream (Some c.in-Some.next) c.in-Some.ensures)
-    (inbound-answered c.self.inside.sender c.self.inside.receiver c.self.inside.progress c.self.invariant.0 (λ (l : InboundStream). l.queue) c.args.stream
-    (Some c.in-Some-reassembly.queue.now) c.in-Some-reassembly.ensures) c.ordered-held.ensures in
+    (next-answered c.self.invariant.0 c.args.stream (Some c.in-Some.next) c.in-Some.ensures) (inbound-answered c.self.invariant.0
+    (λ (l : InboundStream). l.queue) c.args.stream (Some c.in-Some-reassembly.queue.now) c.in-Some-reassembly.ensures) c.ordered-held.ensures in
     let some : 0 < length sets = omega (arith, c.in-Some-front.ensures.variant.0 refl) in
     let many : deque_len c.ordered-held.result.now ≡ length sets = omega arith in
     let last = c.in-Some-back.last.now in
-    let h = set-answered sum x c.self.invariant.1 c.args.stream c.in-Some.next sets t (length sets - 1) last (omega (arith, some))
+    let h = set-answered c.self.invariant.1 c.args.stream c.in-Some.next sets t (length sets - 1) last (omega (arith, some))
     (c.in-Some-back.ensures.lookup ∙ ap (λ k. slice_index_or sets (k - 1) last) many) in
     let answered : (s n : ℕ) → is_held x.recorded s n ≡ true → last ≡ set_of x.recorded n
     → c.index_of-2.result ≡ index_of x.recorded n = rw (← c.self.view_is) at c.index_of-2.ensures in
     let is = answered c.args.stream (slice_index_or (held_on x.recorded c.args.stream) (length sets - 1) 0) h.0 h.1 in
     rw (← c.self.view_is) (c.max-high.ensures ∙ ap (λ n. max n c.index_of-2.result) t.next_is
-    ∙ high-back sum x c.self.invariant.1 t.at c.args.stream t.d t.lt t.found c.index_of-2.result (omega (arith, some, ap length t.held)) (is
+    ∙ high-back c.self.invariant.1 t.at c.args.stream t.d t.lt t.found c.index_of-2.result (omega (arith, some, ap length t.held)) (is
     ∙ ap (λ (ys : List ChunkSet). index_of x.recorded (slice_index_or (held_on x.recorded c.args.stream) (length ys - 1) 0)) t.held))

@@ -1,8 +1,4 @@
-use Rattle.std.proofs.Common.{◌≡◌}
-use Rattle.std.specs.Prelude.{find}
-use Rattle.sctp_model.specs.Messages.{is_partially_sent}
-use Rattle.sctp_refinement.specs.InTurn.{message_of_tsn}
-use Rattle.sctp_refinement.proofs.abandonment.AbandonedInTurn.{GivesInTurn}
+use Rattle.sctp_link.proofs.Names.{◌≡◌, find, is_partially_sent, message_of_tsn, GivesInTurn}
 use Rattle.sctp_link.proofs.link.Link.late.Given as goal
 
 abbrev pub invariant-loop-at : goal.invariant-loop-at

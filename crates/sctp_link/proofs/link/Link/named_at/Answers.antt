@@ -1,16 +1,9 @@
-use Rattle.std.proofs.Common.{◌≡◌, ℕ, ◌<◌, length, Some, ap, arith, ◌∙◌}
-use Rattle.std.specs.Prelude.{slice_get, slice_index_or}
-use Rattle.std.proofs.lemmas.List.{get_or_default}
-use Rattle.sctp_model.specs.LinkRecord.{Forward}
+use Rattle.sctp_link.proofs.Names.{◌≡◌, ℕ, ◌<◌, length, Some, ap, arith, ◌∙◌, slice_get, slice_index_or, get_or_default, Forward, Named, record_in, sides_in}
+use Rattle.sctp_link.proofs.Names.{stream_record, named_from, none_named, length-mapped}
 use Rattle.sctp_progress.specs.Progress.{fresh}
-use Rattle.sctp_link.specs.declared.skipped.Named.{Named}
-use Rattle.sctp_link.specs.Fields.{record_in, sides_in}
-use Rattle.sctp_link.specs.Records.{stream_record}
-use Rattle.sctp_link.specs.Skips.{named_from, none_named}
 use Rattle.sctp_link.proofs.sides.Aligned.{count-is}
 use Rattle.sctp_link.proofs.skipping.NamedOnEach.{named-there}
 use Rattle.sctp_link.proofs.link.Link.named_at.Goals as goal
-use Rattle.sctp_list_lemmas.proofs.Getting.{length-mapped}
 
 pub number_at-requires : goal.number_at-requires
 number_at-requires g c =

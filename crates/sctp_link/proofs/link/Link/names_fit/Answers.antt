@@ -1,17 +1,11 @@
-use Rattle.sctp_link.specs.Fields.{record_in, sides_in}
-use Rattle.std.proofs.Common.{◌≡◌, ℕ, ◌<◌, ◌≤◌, ◌+◌, [], Some, refl, ap, sym, ◌∙◌, subst, arith, length}
-use Rattle.std.specs.Prelude.{slice_get}
-use Rattle.sctp_model.specs.LinkRecord.{Forward}
-use Rattle.std.specs.List.{list_all}
-use Rattle.std.proofs.lemmas.List.{take_all}
-use Rattle.sctp_refinement.specs.Naming.{names_fit}
-use Rattle.sctp_link.specs.Records.{stream_record}
+use Rattle.sctp_link.proofs.Names.{length-mapped, record_in, sides_in, ◌≡◌, ℕ, ◌<◌, ◌≤◌, ◌+◌, [], Some, refl, ap, sym, ◌∙◌, arith, length, slice_get, Forward}
+use Rattle.sctp_link.proofs.Names.{list_all, take_all, names_fit, stream_record}
+use Rattle.std.proofs.Common.{subst}
 use Rattle.sctp_link.specs.Skips.{HasNames}
 use Rattle.sctp_link.proofs.sides.Aligned.{count-is}
-use Rattle.sctp_link.proofs.skipping.SkipComes.{all-more, all-no}
+use Rattle.sctp_refinement.proofs.Lists.{all-more, all-no}
 use Rattle.sctp_link.proofs.skipping.NamedOnEach.{table-there}
 use Rattle.sctp_link.proofs.link.Link.names_fit.Goals as goal
-use Rattle.sctp_list_lemmas.proofs.Getting.{length-mapped}
 
 pub loop-at-init : goal.loop-at-init
 loop-at-init g c = refl
@@ -22,7 +16,7 @@ stream_fits-requires-clause-inside g c =
       arith,
       c.loop-at-test.true,
       c.len-at-end.ensures,
-      count-is c.self.inside.sender c.self.inside.receiver c.self.inside.progress c.self.invariant.0,
+      count-is c.self.invariant.0,
       length-mapped stream_record (sides_in c.self.inside).streams,
     ))
 
@@ -45,7 +39,7 @@ returns-then-not-stream_fits g c =
       arith,
       c.loop-at-test.true,
       c.len-at-end.ensures,
-      count-is c.self.inside.sender c.self.inside.receiver c.self.inside.progress c.self.invariant.0,
+      count-is c.self.invariant.0,
       length-mapped stream_record (sides_in c.self.inside).streams,
     )) in
     sym (all-no (λ r. names_fit v r.stream c.args.names.now) v.streams (c.loop-at.at + 1) (all-more (λ r. names_fit v r.stream c.args.names.now) v.streams
@@ -58,7 +52,7 @@ loop-at-preserved g c =
       arith,
       c.loop-at-test.true,
       c.len-at-end.ensures,
-      count-is c.self.inside.sender c.self.inside.receiver c.self.inside.progress c.self.invariant.0,
+      count-is c.self.invariant.0,
       length-mapped stream_record (sides_in c.self.inside).streams,
     )) in
     all-more (λ r. names_fit v r.stream c.args.names.now) v.streams c.loop-at.at c.stream_fits.result lt c.stream_fits.ensures c.loop-at.invariant
@@ -71,7 +65,7 @@ returns g c =
       arith,
       c.loop-at-test.false,
       c.len-at-end.ensures,
-      count-is c.self.inside.sender c.self.inside.receiver c.self.inside.progress c.self.invariant.0,
+      count-is c.self.invariant.0,
       length-mapped stream_record (sides_in c.self.inside).streams,
     )) in
     sym (ap (list_all (λ r. names_fit v r.stream c.args.names.now)) (sym (take_all c.loop-at.at v.streams le)) ∙ c.loop-at.invariant)

@@ -1,6 +1,4 @@
-use Rattle.std.proofs.Common.{◌≡◌, true, take}
-use Rattle.std.specs.List.{list_all}
-use Rattle.sctp_refinement.specs.Naming.{names_fit}
+use Rattle.sctp_link.proofs.Names.{◌≡◌, true, take, list_all, names_fit}
 use Rattle.sctp_link.proofs.link.Link.names_fit.Given as goal
 
 abbrev pub invariant-loop-at : goal.invariant-loop-at

@@ -1,5 +1,5 @@
 use Rattle.sctp_refinement.proofs.sending.Lent.{pending-shown, in-flight-shown}
-use Rattle.sctp_link.specs.Fields.{record_in}
+use Rattle.sctp_link.proofs.Names.{record_in}
 use Rattle.sctp_link.proofs.link.Link.outbound.Goals as goal
 
 pub returns-clause-pending : goal.returns-clause-pending

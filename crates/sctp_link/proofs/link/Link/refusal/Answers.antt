@@ -1,5 +1,4 @@
-use Rattle.std.proofs.Common.{ap, sym, ◌∙◌}
-use Rattle.sctp_model.specs.Steps.{refusal_of}
+use Rattle.sctp_link.proofs.Names.{ap, sym, ◌∙◌, refusal_of}
 use Rattle.sctp_link.proofs.link.Link.refusal.Goals as goal
 
 pub returns-in-Write : goal.returns-in-Write

@@ -1,23 +1,17 @@
-use Rattle.std.proofs.Common.{◌≡◌, ◌<◌, Some, None, ap, sym, ◌∙◌, rules, length}
-use Rattle.std.specs.Prelude.{Option, slice_get}
-use Rattle.sctp_model.specs.LinkRecord.{Datagram, Data, Forward}
-use Rattle.sctp_model.specs.Steps.{unless, is_for_receiver, arrival_fits}
-use Rattle.sctp_model.specs.declared.event.LinkRefusal.TheVariants.{NoSuchDatagram, SpanTooWide}
-use Rattle.sctp_link.specs.Fields.{record_in}
-use Rattle.sctp_link.specs.Records.{kind_record}
+use Rattle.sctp_link.proofs.Names.{◌≡◌, ◌<◌, Some, None, ap, sym, ◌∙◌, rules, length, Option, slice_get, Data, Forward, unless, is_for_receiver, arrival_fits}
+use Rattle.sctp_link.proofs.Names.{NoSuchDatagram, SpanTooWide, record_in, kind_record}
+use Rattle.sctp_model.specs.LinkRecord.{Datagram}
 use Rattle.sctp_link.proofs.skipping.SkipComes.{kept-kind}
 use Rattle.sctp_link.proofs.link.Link.refusal_arrive.Goals as goal
 
 pub span_fits-requires : goal.span_fits-requires
 span_fits-requires g c =
-    let w = record_in c.self.inside in
     let lt : c.args.k < length c.self.inside.network.items = search rules in
     let e = kept-kind c.self.inside.network.items c.args.k c.index.result.now lt c.index.ensures in
     rw (← c.self.view_is) (c.args.k, e ∙ ap (λ k. Some (kind_record k)) c.in-Data.is ∙ ap (λ ps. Some (Data ps)) (sym c.deref.ensures.value))
 
 pub skip_fits-requires : goal.skip_fits-requires
 skip_fits-requires g c =
-    let w = record_in c.self.inside in
     let lt : c.args.k < length c.self.inside.network.items = search rules in
     let e = kept-kind c.self.inside.network.items c.args.k c.index.result.now lt c.index.ensures in
     rw (← c.self.view_is)

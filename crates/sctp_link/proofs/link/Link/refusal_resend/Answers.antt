@@ -1,10 +1,5 @@
-use Rattle.std.proofs.Common.{ap, sym, ◌∙◌, ◌≡◌, ◌%◌, ◌+◌, ◌-◌, ◌<◌, ◌^◌, not, length, None, arith}
-use Rattle.sctp_list_lemmas.proofs.Getting.{length-mapped}
-use Rattle.sctp_model.specs.Queues.{is_cleared}
-use Rattle.sctp_model.specs.Steps.{unless}
-use Rattle.sctp_model.specs.declared.event.LinkRefusal.TheVariants.{NotInFlight}
-use Rattle.sctp_link.specs.Fields.{record_in}
-use Rattle.sctp_link.specs.Records.{slot_record}
+use Rattle.sctp_link.proofs.Names.{ap, sym, ◌∙◌, ◌≡◌, ◌%◌, ◌+◌, ◌-◌, ◌<◌, ◌^◌, not, length, None, arith, length-mapped, is_cleared, unless, NotInFlight}
+use Rattle.sctp_link.proofs.Names.{record_in, slot_record}
 use Rattle.sctp_link.proofs.upkeep.Observed.{can-resend}
 use Rattle.sctp_link.proofs.link.Link.refusal_resend.Goals as goal
 

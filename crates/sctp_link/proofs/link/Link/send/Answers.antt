@@ -1,146 +1,119 @@
-use Rattle.std.proofs.Common.{◌≡◌, List, map, length, rules, refl, ap, None, Some, ◌∙◌}
-use Rattle.std.specs.Prelude.{is_some}
-use Rattle.std.specs.Vec.{with_items, vec_len}
-use Rattle.std.proofs.lemmas.List.{with_items_is}
-use Rattle.sctp_list_lemmas.specs.Kept.{numbers_from}
+use Rattle.sctp_link.proofs.Names.{◌≡◌, List, map, length, rules, refl, ap, None, Some, ◌∙◌, is_some, with_items, vec_len, with_items_is, numbers_from}
+use Rattle.sctp_link.proofs.Names.{next_pending, Outbound, after_start, chunks_taken, Slot, Datagram, slot_record, datagram_record, record_in}
 use Rattle.sctp_chunks.specs.declared.chunk.chunk_kind.ChunkKind.TheVariants as C
-use Rattle.sctp_outbound.specs.pending_queue.PendingQueue.{next_pending}
-use Rattle.sctp_outbound.specs.outbound_queue.OutboundQueue.{Outbound}
-use Rattle.sctp_model.specs.Changes.{after_start}
-use Rattle.sctp_refinement.specs.Filling.{chunks_taken}
-use Rattle.sctp_link.specs.declared.record.Slot.{Slot}
-use Rattle.sctp_link.specs.declared.record.Datagram.{Datagram}
-use Rattle.sctp_link.specs.Records.{slot_record, datagram_record}
-use Rattle.sctp_link.specs.Fields.{state_in, record_in}
 use Rattle.sctp_link.proofs.receiver.Keeping.{on-err}
 use Rattle.sctp_link.proofs.sender.Sending.{next-is, idle-right, looks-short}
 use Rattle.sctp_link.proofs.sender.SentLists.{encodings-each, canonical-each}
 use Rattle.sctp_link.proofs.sender.Gone.{aligned, can, linked, right}
+use Rattle.sctp_link.proofs.link.Link.send.Given.{Over}
+use Rattle.sctp_link.proofs.link.Link.send.Goals.{After-len-count}
 use Rattle.sctp_link.proofs.link.Link.send.Goals as goal
 
 pub returns-in_default-clause-ok : goal.returns-in_default-clause-ok
 returns-in_default-clause-ok g c =
     let none : next_pending c.self.inside.sender.flight.queue.pending ≡ None = search rules in
     let moves : c.start.new.self.recorded ≡ after_start (record_in c.self.inside) c.args.now = rw (← c.self.view_is) at c.start.ensures.right.moves in
-    rw (← c.self.view_is)
-    (idle-right (g.C.Checksum.sum c.self.inside.checksum) (state_in c.self.inside) c.self.invariant.1 c.args.now c.start.new.self.recorded none moves)
+    rw (← c.self.view_is) (idle-right c.self.invariant.1 c.args.now c.start.new.self.recorded none moves)
 
 pub next_chunks-requires-clause-short : goal.next_chunks-requires-clause-short
-next_chunks-requires-clause-short g c =
-    rw c.outbound-2.ensures (looks-short (g.C.Checksum.sum c.self.inside.checksum) (state_in c.self.inside) c.self.invariant.1 c.args.now)
+next_chunks-requires-clause-short g c = rw c.outbound-2.ensures (looks-short c.self.invariant.1 c.args.now)
+
+-- The chunks that leave.
+chosen : (g : Over) (c : After-len-count g) → c.in_ok-chunks.chunks.items
+    ≡ map C.PayloadData (chunks_taken c.self.inside.limit c.self.inside.sender.flight.next_tsn c.self.inside.sender.flight.queue.pending)
+chosen g c =
+    c.in_ok-chunks.ensures.chunks ∙ ap (λ t. map C.PayloadData (chunks_taken c.self.inside.limit t c.outbound-2.result.now.pending)) c.next_tsn-tsn.ensures
+    ∙ ap (λ (q : Outbound). map C.PayloadData (chunks_taken c.self.inside.limit c.self.inside.sender.flight.next_tsn q.pending)) c.outbound-2.ensures
 
 pub write_chunks-requires-clause-encoding : goal.write_chunks-requires-clause-encoding
 write_chunks-requires-clause-encoding g c =
     let e : next_pending c.self.inside.sender.flight.queue.pending ≡ Some c.in-Some.first.now = search rules in
-    let chunks : c.in_ok-chunks.chunks.items
-    ≡ map C.PayloadData (chunks_taken c.self.inside.limit c.self.inside.sender.flight.next_tsn c.self.inside.sender.flight.queue.pending) =
-    c.in_ok-chunks.ensures.chunks ∙ ap (λ t. map C.PayloadData (chunks_taken c.self.inside.limit t c.outbound-2.result.now.pending)) c.next_tsn-tsn.ensures
-    ∙ ap (λ (q : Outbound). map C.PayloadData (chunks_taken c.self.inside.limit c.self.inside.sender.flight.next_tsn q.pending)) c.outbound-2.ensures in
-    encodings-each (g.C.Checksum.sum c.self.inside.checksum)
-    (state_in c.self.inside) c.self.invariant.1 c.args.now c.in-Some.first.now e c.in_ok-chunks.chunks.items chunks
+    let chunks = chosen g (goal.at.write_chunks-requires-clause-encoding g c).After-len-count in
+    encodings-each c.self.invariant.1 c.args.now c.in-Some.first.now e c.in_ok-chunks.chunks.items chunks
 
 pub write_chunks-requires-clause-canonical : goal.write_chunks-requires-clause-canonical
 write_chunks-requires-clause-canonical g c =
     let e : next_pending c.self.inside.sender.flight.queue.pending ≡ Some c.in-Some.first.now = search rules in
-    let chunks : c.in_ok-chunks.chunks.items
-    ≡ map C.PayloadData (chunks_taken c.self.inside.limit c.self.inside.sender.flight.next_tsn c.self.inside.sender.flight.queue.pending) =
-    c.in_ok-chunks.ensures.chunks ∙ ap (λ t. map C.PayloadData (chunks_taken c.self.inside.limit t c.outbound-2.result.now.pending)) c.next_tsn-tsn.ensures
-    ∙ ap (λ (q : Outbound). map C.PayloadData (chunks_taken c.self.inside.limit c.self.inside.sender.flight.next_tsn q.pending)) c.outbound-2.ensures in
-    canonical-each (g.C.Checksum.sum c.self.inside.checksum)
-    (state_in c.self.inside) c.self.invariant.1 c.args.now c.in-Some.first.now e c.in_ok-chunks.chunks.items chunks
+    let chunks = chosen g (goal.at.write_chunks-requires-clause-canonical g c).After-len-count in
+    canonical-each c.self.invariant.1 c.args.now c.in-Some.first.now e c.in_ok-chunks.chunks.items chunks
 
 pub send_fragments-requires-clause-able : goal.send_fragments-requires-clause-able
 send_fragments-requires-clause-able g c =
     let e : next_pending c.self.inside.sender.flight.queue.pending ≡ Some c.in-Some.first.now = search rules in
-    let chunks : c.in_ok-chunks.chunks.items
-    ≡ map C.PayloadData (chunks_taken c.self.inside.limit c.self.inside.sender.flight.next_tsn c.self.inside.sender.flight.queue.pending) =
-    c.in_ok-chunks.ensures.chunks ∙ ap (λ t. map C.PayloadData (chunks_taken c.self.inside.limit t c.outbound-2.result.now.pending)) c.next_tsn-tsn.ensures
-    ∙ ap (λ (q : Outbound). map C.PayloadData (chunks_taken c.self.inside.limit c.self.inside.sender.flight.next_tsn q.pending)) c.outbound-2.ensures in
+    let chunks = chosen g (goal.at.send_fragments-requires-clause-able g c).After-len-count in
     let len : c.len-count.result ≡ length c.in_ok-chunks.chunks.items = search rules in
-    can (g.C.Checksum.sum c.self.inside.checksum) c.self.inside c.self.invariant.0 c.self.invariant.1 c.args.now c.in-Some.first.now e
-    c.in_ok-chunks.chunks.items
-    chunks c.len-count.result len c.reserve-3.new.self c.len-count.result c.in-Ok.ensures.ok c.deref_mut.result.now c.deref_mut.ensures.value
-    c.reserve.new.self.items c.reserve.ensures.items
+    can c.self.inside c.self.invariant.0 c.self.invariant.1 c.args.now c.in-Some.first.now e c.in_ok-chunks.chunks.items chunks c.len-count.result len
+    c.reserve-3.new.self
+    c.len-count.result c.in-Ok.ensures.ok c.deref_mut.result.now c.deref_mut.ensures.value c.reserve.new.self.items c.reserve.ensures.items
 
 pub invariant_of-self-2 : goal.invariant_of-self-2
 invariant_of-self-2 g c =
     let e : next_pending c.self.inside.sender.flight.queue.pending ≡ Some c.in-Some.first.now = search rules in
-    let chunks : c.in_ok-chunks.chunks.items
-    ≡ map C.PayloadData (chunks_taken c.self.inside.limit c.self.inside.sender.flight.next_tsn c.self.inside.sender.flight.queue.pending) =
-    c.in_ok-chunks.ensures.chunks ∙ ap (λ t. map C.PayloadData (chunks_taken c.self.inside.limit t c.outbound-2.result.now.pending)) c.next_tsn-tsn.ensures
-    ∙ ap (λ (q : Outbound). map C.PayloadData (chunks_taken c.self.inside.limit c.self.inside.sender.flight.next_tsn q.pending)) c.outbound-2.ensures in
+    let chunks = chosen g (goal.at.invariant_of-self-2 g c).After-len-count in
     let len : c.len-count.result ≡ length c.in_ok-chunks.chunks.items = search rules in
     let kept : length c.send_fragments.new.messages ≡ vec_len c.self.inside.messages = search rules in
     let places : c.in_ok-places.places.items ≡ numbers_from (length c.self.inside.slots.items) c.len-count.result = search rules in (
-      aligned (g.C.Checksum.sum c.self.inside.checksum) c.self.inside c.self.invariant.0 c.self.invariant.1 c.args.now c.in-Some.first.now e
-          c.in_ok-chunks.chunks.items
-          chunks c.len-count.result len c.reserve-3.new.self c.len-count.result c.in-Ok.ensures.ok c.deref_mut.result.now c.deref_mut.ensures.value
-          c.reserve.new.self.items c.reserve.ensures.items c.send_fragments.new.sender c.send_fragments.new.progress c.send_fragments.new.messages
-          c.send_fragments.new.slots.items c.send_fragments.ensures.leave c.send_fragments.ensures.rest,
-      linked (g.C.Checksum.sum c.self.inside.checksum) c.self.inside c.self.invariant.0 c.self.invariant.1 c.args.now c.in-Some.first.now e
-          c.in_ok-chunks.chunks.items
-          chunks c.len-count.result len c.reserve-3.new.self c.len-count.result c.in-Ok.ensures.ok c.deref_mut.result.now c.deref_mut.ensures.value
-          c.reserve.new.self.items c.reserve.ensures.items c.send_fragments.new.sender c.send_fragments.new.progress c.send_fragments.new.messages
-          c.send_fragments.new.slots.items c.send_fragments.ensures.leave c.send_fragments.ensures.rest
-          (with_items c.self.inside.messages c.send_fragments.new.messages) (with_items_is c.self.inside.messages c.send_fragments.new.messages kept)
-          c.send_fragments.new.slots refl c.put.new.items c.in_ok-places.places c.in_ok-bytes.bytes places (search rules) c.len-self-inside.result
-          c.in_ok-bytes.ensures.encoding c.in_ok-bytes.ensures.reads (search rules),
+      aligned c.self.inside c.self.invariant.0 c.self.invariant.1 c.args.now c.in-Some.first.now e c.in_ok-chunks.chunks.items chunks c.len-count.result len
+          c.reserve-3.new.self c.len-count.result c.in-Ok.ensures.ok c.deref_mut.result.now c.deref_mut.ensures.value c.reserve.new.self.items
+          c.reserve.ensures.items c.send_fragments.new.sender c.send_fragments.new.progress c.send_fragments.new.messages c.send_fragments.new.slots.items
+          c.send_fragments.ensures.leave c.send_fragments.ensures.rest,
+      linked c.self.inside c.self.invariant.0 c.self.invariant.1 c.args.now c.in-Some.first.now e c.in_ok-chunks.chunks.items chunks c.len-count.result len
+          c.reserve-3.new.self c.len-count.result c.in-Ok.ensures.ok c.deref_mut.result.now c.deref_mut.ensures.value c.reserve.new.self.items
+          c.reserve.ensures.items c.send_fragments.new.sender c.send_fragments.new.progress c.send_fragments.new.messages c.send_fragments.new.slots.items
+          c.send_fragments.ensures.leave c.send_fragments.ensures.rest (with_items c.self.inside.messages c.send_fragments.new.messages)
+          (with_items_is c.self.inside.messages c.send_fragments.new.messages kept) c.send_fragments.new.slots refl c.push_reserved.new.self c.in_ok-places.places
+          c.in_ok-bytes.bytes places (search rules) c.len-self-inside.result c.in_ok-bytes.ensures.encoding c.in_ok-bytes.ensures.reads (search rules),
     )
 
 pub returns-clause-ok : goal.returns-clause-ok
 returns-clause-ok g c =
     let e : next_pending c.self.inside.sender.flight.queue.pending ≡ Some c.in-Some.first.now = search rules in
-    let chunks : c.in_ok-chunks.chunks.items
-    ≡ map C.PayloadData (chunks_taken c.self.inside.limit c.self.inside.sender.flight.next_tsn c.self.inside.sender.flight.queue.pending) =
-    c.in_ok-chunks.ensures.chunks ∙ ap (λ t. map C.PayloadData (chunks_taken c.self.inside.limit t c.outbound-2.result.now.pending)) c.next_tsn-tsn.ensures
-    ∙ ap (λ (q : Outbound). map C.PayloadData (chunks_taken c.self.inside.limit c.self.inside.sender.flight.next_tsn q.pending)) c.outbound-2.ensures in
+    let chunks = chosen g (goal.at.returns-clause-ok g c).After-len-count in
     let len : c.len-count.result ≡ length c.in_ok-chunks.chunks.items = search rules in
     let kept : length c.send_fragments.new.messages ≡ vec_len c.self.inside.messages = search rules in
     let places : c.in_ok-places.places.items ≡ numbers_from (length c.self.inside.slots.items) c.len-count.result = search rules in
     rw (← c.self.view_is)
-    (right (g.C.Checksum.sum c.self.inside.checksum) c.self.inside c.self.invariant.0 c.self.invariant.1 c.args.now c.in-Some.first.now e
-    c.in_ok-chunks.chunks.items
-    chunks c.len-count.result len c.reserve-3.new.self c.len-count.result c.in-Ok.ensures.ok c.deref_mut.result.now c.deref_mut.ensures.value
-    c.reserve.new.self.items c.reserve.ensures.items c.send_fragments.new.sender c.send_fragments.new.progress c.send_fragments.new.messages
-    c.send_fragments.new.slots.items c.send_fragments.ensures.leave c.send_fragments.ensures.rest
-    (with_items c.self.inside.messages c.send_fragments.new.messages) (with_items_is c.self.inside.messages c.send_fragments.new.messages kept)
-    c.send_fragments.new.slots refl c.put.new.items c.in_ok-places.places c.in_ok-bytes.bytes places (search rules) c.len-self-inside.result
-    c.len-datagram.result c.next_tsn-tsn.result (search rules) c.next_tsn-tsn.ensures)
+    (right c.self.inside c.self.invariant.0 c.self.invariant.1 c.args.now c.in-Some.first.now e c.in_ok-chunks.chunks.items chunks c.len-count.result
+    len c.reserve-3.new.self c.len-count.result c.in-Ok.ensures.ok c.deref_mut.result.now c.deref_mut.ensures.value c.reserve.new.self.items
+    c.reserve.ensures.items c.send_fragments.new.sender c.send_fragments.new.progress c.send_fragments.new.messages c.send_fragments.new.slots.items
+    c.send_fragments.ensures.leave c.send_fragments.ensures.rest (with_items c.self.inside.messages c.send_fragments.new.messages)
+    (with_items_is c.self.inside.messages c.send_fragments.new.messages kept) c.send_fragments.new.slots refl c.push_reserved.new.self c.in_ok-places.places
+    c.in_ok-bytes.bytes places (search rules) c.len-self-inside.result c.len-datagram.result c.next_tsn-tsn.result (search rules) c.next_tsn-tsn.ensures)
 
 pub returns-in_err-chunks-clause-wants : goal.returns-in_err-chunks-clause-wants
 returns-in_err-chunks-clause-wants g c =
     let e : next_pending c.self.inside.sender.flight.queue.pending ≡ Some c.in-Some.first.now = search rules in
-    let f = (next-is (g.C.Checksum.sum c.self.inside.checksum) (state_in c.self.inside) c.self.invariant.1 c.in-Some.first.now e).front in
+    let f = (next-is c.self.invariant.1 c.in-Some.first.now e).front in
     rw (← c.self.view_is) (on-err c.from_residual.result _ (ap is_some f))
 
 pub returns-in_err-bytes-clause-wants : goal.returns-in_err-bytes-clause-wants
 returns-in_err-bytes-clause-wants g c =
     let e : next_pending c.self.inside.sender.flight.queue.pending ≡ Some c.in-Some.first.now = search rules in
-    let f = (next-is (g.C.Checksum.sum c.self.inside.checksum) (state_in c.self.inside) c.self.invariant.1 c.in-Some.first.now e).front in
+    let f = (next-is c.self.invariant.1 c.in-Some.first.now e).front in
     rw (← c.self.view_is) (on-err c.from_residual-in_err-bytes.result _ (ap is_some f))
 
 pub returns-in_err-places-clause-wants : goal.returns-in_err-places-clause-wants
 returns-in_err-places-clause-wants g c =
     let e : next_pending c.self.inside.sender.flight.queue.pending ≡ Some c.in-Some.first.now = search rules in
-    let f = (next-is (g.C.Checksum.sum c.self.inside.checksum) (state_in c.self.inside) c.self.invariant.1 c.in-Some.first.now e).front in
+    let f = (next-is c.self.invariant.1 c.in-Some.first.now e).front in
     rw (← c.self.view_is) (on-err c.from_residual-in_err-places.result _ (ap is_some f))
 
 pub returns-in_err-reserve-clause-wants : goal.returns-in_err-reserve-clause-wants
 returns-in_err-reserve-clause-wants g c =
     let e : next_pending c.self.inside.sender.flight.queue.pending ≡ Some c.in-Some.first.now = search rules in
-    let f = (next-is (g.C.Checksum.sum c.self.inside.checksum) (state_in c.self.inside) c.self.invariant.1 c.in-Some.first.now e).front in
+    let f = (next-is c.self.invariant.1 c.in-Some.first.now e).front in
     rw (← c.self.view_is) (on-err c.from_residual-in_err-reserve.result _ (ap is_some f))
 
 pub returns-in_err-reserve-2-clause-wants : goal.returns-in_err-reserve-2-clause-wants
 returns-in_err-reserve-2-clause-wants g c =
     let e : next_pending c.self.inside.sender.flight.queue.pending ≡ Some c.in-Some.first.now = search rules in
-    let f = (next-is (g.C.Checksum.sum c.self.inside.checksum) (state_in c.self.inside) c.self.invariant.1 c.in-Some.first.now e).front in
+    let f = (next-is c.self.invariant.1 c.in-Some.first.now e).front in
     rw (← c.self.view_is) (on-err c.from_residual-in_err-reserve-2.result _ (ap is_some f))
 
 pub returns-in-Err-clause-wants : goal.returns-in-Err-clause-wants
 returns-in-Err-clause-wants g c =
     let e : next_pending c.self.inside.sender.flight.queue.pending ≡ Some c.in-Some.first.now = search rules in
-    let f = (next-is (g.C.Checksum.sum c.self.inside.checksum) (state_in c.self.inside) c.self.invariant.1 c.in-Some.first.now e).front in
+    let f = (next-is c.self.invariant.1 c.in-Some.first.now e).front in
     rw (← c.self.view_is) (ap is_some f)
 
 pub returns-in_err-reserve-clause-err : goal.returns-in_err-reserve-clause-err

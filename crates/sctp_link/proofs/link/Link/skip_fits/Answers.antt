@@ -1,11 +1,5 @@
-use Rattle.std.proofs.Common.{◌≡◌, ◌<◌, ◌≤◌, false, sym, ◌∙◌, arith}
-use Rattle.std.specs.List.{list_all}
-use Rattle.std.proofs.lemmas.Bool.Decides.{nat_tests}
-use Rattle.sctp_model.specs.Changes.{skip_counts}
-use Rattle.sctp_model.specs.Receiver.{cumulative}
-use Rattle.sctp_refinement.specs.Naming.{names_fit}
+use Rattle.sctp_link.proofs.Names.{◌≡◌, ◌<◌, ◌≤◌, false, sym, ◌∙◌, arith, list_all, nat_tests, skip_counts, cumulative, names_fit, record_in}
 use Rattle.sctp_refinement.proofs.skipping.SkipSpans.{stale-fits}
-use Rattle.sctp_link.specs.Fields.{record_in, state_in}
 use Rattle.sctp_link.proofs.upkeep.Facts.{facts}
 use Rattle.sctp_link.proofs.acknowledging.Reporting.{cumulative-place}
 use Rattle.sctp_link.proofs.skipping.SkipComes.{all-fit}
@@ -14,19 +8,15 @@ use Rattle.sctp_link.proofs.link.Link.skip_fits.Goals as goal
 pub returns-then-cumulative-upto : goal.returns-then-cumulative-upto
 returns-then-cumulative-upto g c =
     let w = record_in c.self.inside in
-    let sum = g.C.Checksum.sum c.self.inside.checksum in
-    let x = state_in c.self.inside in
     let past : c.args.upto < cumulative w =
-    omega (arith, c.if-cumulative-upto.true, c.count_of-cumulative.ensures, c.cumulative_tsn.ensures, cumulative-place sum x c.self.invariant.1 0) in
+    omega (arith, c.if-cumulative-upto.true, c.count_of-cumulative.ensures, c.cumulative_tsn.ensures, cumulative-place c.self.invariant.1 0) in
     let stale : skip_counts w c.args.upto ≡ false = grind (arith, nat_tests) in
-    rw (← c.self.view_is) (sym (stale-fits w c.args.upto c.args.names.now stale (facts sum x c.self.invariant.1).spans))
+    rw (← c.self.view_is) (sym (stale-fits w c.args.upto c.args.names.now stale (facts c.self.invariant.1).spans))
 
 pub returns : goal.returns
 returns g c =
     let w = record_in c.self.inside in
-    let sum = g.C.Checksum.sum c.self.inside.checksum in
-    let x = state_in c.self.inside in
     let past : cumulative w ≤ c.args.upto =
-    omega (arith, c.if-cumulative-upto.false, c.count_of-cumulative.ensures, c.cumulative_tsn.ensures, cumulative-place sum x c.self.invariant.1 0) in
+    omega (arith, c.if-cumulative-upto.false, c.count_of-cumulative.ensures, c.cumulative_tsn.ensures, cumulative-place c.self.invariant.1 0) in
     let all : c.names_fit.result ≡ list_all (λ r. names_fit w r.stream c.args.names.now) w.streams = rw (← c.self.view_is) at c.names_fit.ensures in
-    rw (← c.self.view_is) (all ∙ all-fit sum x c.self.invariant.1 c.args.upto c.args.names.now past)
+    rw (← c.self.view_is) (all ∙ all-fit c.self.invariant.1 c.args.upto c.args.names.now past)

@@ -1,34 +1,29 @@
-use Rattle.std.proofs.Common.{◌≡◌, ap, sym, ◌∙◌, ◌-◌, ◌≤◌, [], ◌∷◌, true, false, arith}
-use Rattle.std.specs.Prelude.{is_some, if◌then◌else◌, max, nat_lt, ◌&&◌}
-use Rattle.sctp_model.specs.Messages.{message_at, message_of, index_of, is_open}
-use Rattle.sctp_model.specs.Receiver.{is_new, next_of, fits}
-use Rattle.sctp_refinement.specs.Naming.{lowest_held, highest_held}
-use Rattle.sctp_link.specs.Fields.{record_in, state_in}
-use Rattle.sctp_link.specs.Records.{message_record}
+use Rattle.sctp_link.proofs.Names.{◌≡◌, ap, sym, ◌∙◌, ◌-◌, ◌≤◌, [], ◌∷◌, true, false, arith, is_some, if◌then◌else◌, max, nat_lt, ◌&&◌, message_at, message_of}
+use Rattle.sctp_link.proofs.Names.{index_of, is_open, is_new, next_of, fits, lowest_held, highest_held, record_in, message_record, and-none}
 use Rattle.sctp_link.proofs.receiver.Hears.{come-index}
-use Rattle.sctp_link.proofs.receiver.Spans.{IsKept, kept-at, number-kept, message-kept, index-kept, kept-past, fits-new}
-use Rattle.sctp_list_lemmas.proofs.Cases.{and-none}
+use Rattle.sctp_link.proofs.receiver.Spans.{IsKept, kept-at, number-kept, message-kept, index-kept, kept-past}
+use Rattle.sctp_refinement.proofs.arriving.SlotSpans.{fits-new}
 use Rattle.sctp_link.proofs.link.Link.slot_fits.Given.{Over}
 use Rattle.sctp_link.proofs.link.Link.slot_fits.Goals.{After-index, After-index-message}
 use Rattle.sctp_link.proofs.link.Link.slot_fits.Goals as goal
 
 kept : (g : Over) (c : After-index g) → IsKept c.self.inside c.args.place
-kept g c = kept-at (g.C.Checksum.sum c.self.inside.checksum) c.self.inside c.self.invariant.1 c.args.place (rw (← c.self.view_is) at c.requires)
+kept g c = kept-at c.self.inside c.self.invariant.1 c.args.place (rw (← c.self.view_is) at c.requires)
 
 message : (g : Over) (c : After-index-message g) → IsKept c.self.inside c.args.place
     → message_at (record_in c.self.inside) (message_of (record_in c.self.inside) c.args.place) ≡ message_record c.index-message.result.now
-message g c k = message-kept (g.C.Checksum.sum c.self.inside.checksum) c.self.inside c.self.invariant.1 c.args.place k c.index.result.now c.index.ensures
-    c.index-message.result.now c.index-message.ensures
+message g c k =
+    message-kept c.self.inside c.self.invariant.1 c.args.place k c.index.result.now c.index.ensures c.index-message.result.now c.index-message.ensures
 
 pub index-requires : goal.index-requires
 index-requires g c =
-    let k = kept-at (g.C.Checksum.sum c.self.inside.checksum) c.self.inside c.self.invariant.1 c.args.place (rw (← c.self.view_is) at c.requires) in
+    let k = kept-at c.self.inside c.self.invariant.1 c.args.place (rw (← c.self.view_is) at c.requires) in
     omega (arith, k.inside)
 
 pub index-message-requires : goal.index-message-requires
 index-message-requires g c =
     let k = kept g (goal.at.index-message-requires g c).After-index in
-    let number = number-kept (g.C.Checksum.sum c.self.inside.checksum) c.self.inside c.self.invariant.1 c.args.place k c.index.result.now c.index.ensures in
+    let number = number-kept c.self.inside c.self.invariant.1 c.args.place k c.index.result.now c.index.ensures in
     omega (arith, number, k.made)
 
 pub is_new-requires : goal.is_new-requires
@@ -66,7 +61,6 @@ returns g c =
     let q = goal.at.returns g c in
     let a = c.self.inside in
     let w = record_in a in
-    let sum = g.C.Checksum.sum a.checksum in
     let p = c.args.place in
     let n = message_of w p in
     let k = kept g q.After-index in
@@ -78,10 +72,10 @@ returns g c =
     let kind : (message_at w n).ordered ≡ true = ap (λ t. t.ordered) m_is ∙ c.if-not-message.false in
     let low : c.index_range-low.result.0 ≡ lowest_held w m.stream = rw (← c.self.view_is) at c.index_range-low.ensures.low in
     let high : c.index_range-low.result.1 ≡ highest_held w m.stream = rw (← c.self.view_is) at c.index_range-low.ensures.high in
-    let index : m.index ≡ index_of w n = sym (index-kept sum a c.self.invariant.1 p k c.index.result.now c.index.ensures m c.index-message.ensures)
-    ∙ come-index sum (state_in a) c.self.invariant.1 p k.carried kind in
+    let index : m.index ≡ index_of w n = sym (index-kept c.self.inside c.self.invariant.1 p k c.index.result.now c.index.ensures m c.index-message.ensures)
+    ∙ come-index c.self.invariant.1 k.carried kind in
     let start = ap (λ t. next_of w t.stream) (sym m_is) in
-    let past : next_of w m.stream ≤ index_of w n = omega (arith, start, kept-past sum a c.self.invariant.1 p k new kind) in
+    let past : next_of w m.stream ≤ index_of w n = omega (arith, start, kept-past c.self.inside c.self.invariant.1 p k new kind) in
     rw (← c.self.view_is) (
     ap (λ d. nat_lt d 32768) (c.saturating_sub.ensures
     ∙ ap (λ b. b - c.index_range-low.result.0) (c.max.ensures ∙ ap (λ b. max b m.index) high ∙ ap (max (highest_held w m.stream)) index)

@@ -1,6 +1,4 @@
-use Rattle.std.proofs.Common.{◌≡◌, true, take}
-use Rattle.std.specs.List.{list_all}
-use Rattle.sctp_link.specs.Receiving.{slot_fits}
+use Rattle.sctp_link.proofs.Names.{◌≡◌, true, take, list_all, slot_fits}
 use Rattle.sctp_link.proofs.link.Link.span_fits.Given as goal
 
 abbrev pub invariant-loop-at : goal.invariant-loop-at

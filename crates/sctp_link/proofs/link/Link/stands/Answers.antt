@@ -1,4 +1,4 @@
-use Rattle.sctp_link.specs.Fields.{state_in}
+use Rattle.sctp_link.proofs.Names.{state_in}
 use Rattle.sctp_link.proofs.link.Link.stands.Goals as goal
 
 pub returns : goal.returns

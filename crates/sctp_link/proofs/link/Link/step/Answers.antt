@@ -1,5 +1,4 @@
-use Rattle.std.proofs.Common.{◌≡◌, rules, None}
-use Rattle.sctp_model.specs.Steps.{refusal_of}
+use Rattle.sctp_link.proofs.Names.{◌≡◌, rules, None, refusal_of}
 use Rattle.sctp_link.proofs.upkeep.Wants.{may-want}
 use Rattle.sctp_link.proofs.link.Link.step.Goals as goal
 

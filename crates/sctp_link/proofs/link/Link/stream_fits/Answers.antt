@@ -1,22 +1,12 @@
-use Rattle.std.proofs.Common.{◌≡◌, ℕ, ◌+◌, ◌<◌, true, List, Some, refl, ap, sym, ◌∙◌, arith, length, map}
-use Rattle.std.specs.Prelude.{is_some, slice_get, slice_index_or, nat_lt}
-use Rattle.sctp_model.specs.LinkRecord.{StreamRecord}
-use Rattle.sctp_model.specs.Messages.{is_open, index_of}
-use Rattle.sctp_model.specs.Receiver.{held_on, next_of, least, greatest}
-use Rattle.sctp_refinement.specs.Naming.{names_fit, complete_first, min_with, lowest_held, highest_held}
+use Rattle.sctp_link.proofs.Names.{length-mapped, ◌≡◌, ℕ, ◌+◌, ◌<◌, true, List, Some, refl, ap, sym, ◌∙◌, arith, length, map, is_some, slice_get}
+use Rattle.sctp_link.proofs.Names.{slice_index_or, nat_lt, StreamRecord, is_open, index_of, held_on, next_of, least, greatest, names_fit, complete_first}
+use Rattle.sctp_link.proofs.Names.{min_with, lowest_held, highest_held, Inside, Named, record_in, state_in, sides_in, stream_record}
 use Rattle.sctp_progress.specs.Progress.{fresh}
-use Rattle.sctp_link.specs.Sides.{IsAligned}
-use Rattle.sctp_link.specs.Streams.{OpenStream, new_open_stream}
 use Rattle.sctp_link.proofs.sides.Aligned.{count-is}
 use Rattle.sctp_link.proofs.sides.Changes.{number-answered}
-use Rattle.sctp_link.specs.declared.link.Link.TheInside.{Inside}
-use Rattle.sctp_link.specs.declared.skipped.Named.{Named}
-use Rattle.sctp_link.specs.Fields.{record_in, state_in, sides_in}
-use Rattle.sctp_link.specs.Records.{stream_record}
 use Rattle.sctp_link.specs.Skips.{named_in}
 use Rattle.sctp_link.proofs.skipping.SkipComes.{Judged, open-at, record-at, judged, lowest-short}
 use Rattle.sctp_link.proofs.link.Link.stream_fits.Goals as goal
-use Rattle.sctp_list_lemmas.proofs.Getting.{length-mapped}
 
 -- The stream at a place is open, and it is the one that the record has there.
 record IsOpenAt {C : Type 0} (a : Inside C) (at s : ℕ) : Type 0 where
@@ -24,7 +14,7 @@ record IsOpenAt {C : Type 0} (a : Inside C) (at s : ℕ) : Type 0 where
   there : (r : StreamRecord) → slice_get (record_in a).streams at ≡ Some r → s ≡ r.stream
 
 at-inside : {C : Type 0} (a : Inside C) → IsAligned a.sender a.receiver a.progress → (at : ℕ) → at < length (record_in a).streams → at < length a.progress
-at-inside a al at inside = omega (arith, inside, length-mapped stream_record (sides_in a).streams, count-is a.sender a.receiver a.progress al)
+at-inside a al at inside = omega (arith, inside, length-mapped stream_record (sides_in a).streams, count-is al)
 
 pub number_at-stream-requires : goal.number_at-stream-requires
 number_at-stream-requires g c =
@@ -54,7 +44,7 @@ index_range-low-requires g c =
     let a = c.self.inside in
     let inside : c.args.at < length (record_in a).streams = rw (← c.self.view_is) at c.requires.inside in
     rw (← c.self.view_is) (open-one a c.args.at c.number_at-stream.result inside (λ e. c.number_at-stream.ensures (fresh 0)
-    ∙ number-answered a.sender a.receiver a.progress c.self.invariant.0 c.args.at (fresh 0) e (at-inside a c.self.invariant.0 c.args.at inside))).opened
+    ∙ number-answered c.self.invariant.0 c.args.at (fresh 0) e (at-inside a c.self.invariant.0 c.args.at inside))).opened
 
 pub overflow_add-span : goal.overflow_add-span
 overflow_add-span g c =
@@ -62,7 +52,7 @@ overflow_add-span g c =
     let w = record_in a in
     let s = c.number_at-stream.result in
     let low : c.index_range-low.result.0 ≡ least (next_of w s) (map (index_of w) (held_on w s)) = rw (← c.self.view_is) at c.index_range-low.ensures.low in
-    omega (arith, c.min-span.ensures, low, lowest-short (g.C.Checksum.sum a.checksum) (state_in a) c.self.invariant.1 s)
+    omega (arith, c.min-span.ensures, low, lowest-short c.self.invariant.1 s)
 
 pub returns-then-max-span : goal.returns-then-max-span
 returns-then-max-span g c =
@@ -71,7 +61,7 @@ returns-then-max-span g c =
     let s = c.number_at-stream.result in
     let inside : c.args.at < length w.streams = rw (← c.self.view_is) at c.requires.inside in
     let o = open-one a c.args.at s inside (λ e. c.number_at-stream.ensures (fresh 0)
-    ∙ number-answered a.sender a.receiver a.progress c.self.invariant.0 c.args.at (fresh 0) e (at-inside a c.self.invariant.0 c.args.at inside)) in
+    ∙ number-answered c.self.invariant.0 c.args.at (fresh 0) e (at-inside a c.self.invariant.0 c.args.at inside)) in
     let low : c.index_range-low.result.0 ≡ least (next_of w s) (map (index_of w) (held_on w s)) = rw (← c.self.view_is) at c.index_range-low.ensures.low in
     let high : c.index_range-low.result.1 ≡ greatest (next_of w s) (map (index_of w) (held_on w s)) = rw (← c.self.view_is) at c.index_range-low.ensures.high in
     let named : (r : StreamRecord) → slice_get w.streams c.args.at ≡ Some r → c.named_at-named.result ≡ named_in w r.stream c.args.names.now =
@@ -85,7 +75,7 @@ least_left-requires g c =
     let a = c.self.inside in
     let inside : c.args.at < length (record_in a).streams = rw (← c.self.view_is) at c.requires.inside in
     rw (← c.self.view_is) (open-one a c.args.at c.number_at-stream.result inside (λ e. c.number_at-stream.ensures (fresh 0)
-    ∙ number-answered a.sender a.receiver a.progress c.self.invariant.0 c.args.at (fresh 0) e (at-inside a c.self.invariant.0 c.args.at inside))).opened
+    ∙ number-answered c.self.invariant.0 c.args.at (fresh 0) e (at-inside a c.self.invariant.0 c.args.at inside))).opened
 
 pub returns-then-named-span : goal.returns-then-named-span
 returns-then-named-span g c =
@@ -94,7 +84,7 @@ returns-then-named-span g c =
     let s = c.number_at-stream.result in
     let inside : c.args.at < length w.streams = rw (← c.self.view_is) at c.requires.inside in
     let o = open-one a c.args.at s inside (λ e. c.number_at-stream.ensures (fresh 0)
-    ∙ number-answered a.sender a.receiver a.progress c.self.invariant.0 c.args.at (fresh 0) e (at-inside a c.self.invariant.0 c.args.at inside)) in
+    ∙ number-answered c.self.invariant.0 c.args.at (fresh 0) e (at-inside a c.self.invariant.0 c.args.at inside)) in
     let low : c.index_range-low.result.0 ≡ least (next_of w s) (map (index_of w) (held_on w s)) = rw (← c.self.view_is) at c.index_range-low.ensures.low in
     let high : c.index_range-low.result.1 ≡ greatest (next_of w s) (map (index_of w) (held_on w s)) = rw (← c.self.view_is) at c.index_range-low.ensures.high in
     let named : (r : StreamRecord) → slice_get w.streams c.args.at ≡ Some r → c.named_at-named.result ≡ named_in w r.stream c.args.names.now =
@@ -111,7 +101,7 @@ returns-else-named-span g c =
     let s = c.number_at-stream.result in
     let inside : c.args.at < length w.streams = rw (← c.self.view_is) at c.requires.inside in
     let o = open-one a c.args.at s inside (λ e. c.number_at-stream.ensures (fresh 0)
-    ∙ number-answered a.sender a.receiver a.progress c.self.invariant.0 c.args.at (fresh 0) e (at-inside a c.self.invariant.0 c.args.at inside)) in
+    ∙ number-answered c.self.invariant.0 c.args.at (fresh 0) e (at-inside a c.self.invariant.0 c.args.at inside)) in
     let low : c.index_range-low.result.0 ≡ least (next_of w s) (map (index_of w) (held_on w s)) = rw (← c.self.view_is) at c.index_range-low.ensures.low in
     let high : c.index_range-low.result.1 ≡ greatest (next_of w s) (map (index_of w) (held_on w s)) = rw (← c.self.view_is) at c.index_range-low.ensures.high in
     let named : (r : StreamRecord) → slice_get w.streams c.args.at ≡ Some r → c.named_at-named.result ≡ named_in w r.stream c.args.names.now =

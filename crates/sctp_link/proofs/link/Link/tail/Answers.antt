@@ -1,26 +1,11 @@
-use Rattle.std.proofs.Common.{◌≡◌, ℕ, ◌+◌, ◌<◌, ◌++◌, true, ap, sym, ◌∙◌, Option, Some, None, refl, map, subst, rules, arith, length}
-use Rattle.std.specs.Prelude.{slice_set, is_some, if◌then◌else◌, option_map, option_to_list}
-use Rattle.std.specs.List.{sum_by}
-use Rattle.sctp_list_lemmas.proofs.Cases.{some-same}
-use Rattle.sctp_data.specs.declared.chunk.chunk_payload_data.ChunkPayloadData.{ChunkPayloadData}
+use Rattle.sctp_link.proofs.Names.{◌≡◌, ℕ, ◌+◌, ◌<◌, ◌++◌, true, ap, sym, ◌∙◌, Option, Some, None, refl, map, subst, rules, arith, length, slice_set, is_some}
+use Rattle.sctp_link.proofs.Names.{if◌then◌else◌, option_map, option_to_list, sum_by, some-same, ChunkPayloadData, OutOfMemory, TsnsUsedUp, after_abandonment}
+use Rattle.sctp_link.proofs.Names.{Transmission, length-mapped, next_pending, expiring_tail, total_bytes, growth, tailing, is_partially_sent, IsLinked, Sides}
+use Rattle.sctp_link.proofs.Names.{abandoned_on, record_in, state_from, record_from, sides_in, terminals, message_record, slot_record, progress_of}
 use Rattle.sctp_sender.specs.declared.sender.flight.late.AbandonedMessage.{AbandonedMessage}
-use Rattle.sctp_sender.specs.declared.sender.refusal.SenderRefusal.TheVariants.{OutOfMemory, TsnsUsedUp}
-use Rattle.sctp_sender.specs.Flight.{after_abandonment}
 use Rattle.sctp_sender.specs.Outgoing.{less_by}
-use Rattle.sctp_sender.specs.Sender.{Transmission}
 use Rattle.sctp_link.proofs.sides.Changes.{on-aligned, on-sides, some-of}
-use Rattle.sctp_list_lemmas.proofs.Getting.{length-mapped}
-use Rattle.sctp_outbound.specs.pending_queue.PendingQueue.{next_pending}
-use Rattle.sctp_outbound.specs.outbound_queue.OutboundQueue.{expiring_tail, message_of, total_bytes}
-use Rattle.sctp_model.specs.Amounts.{growth}
-use Rattle.sctp_model.specs.Changes.{tailing}
-use Rattle.sctp_model.specs.Messages.{is_partially_sent}
-use Rattle.sctp_model.specs.declared.event.Event.TheVariants as E
-use Rattle.sctp_link.specs.Linked.{IsLinked}
-use Rattle.sctp_link.specs.Sides.{Sides, abandoned_on}
-use Rattle.sctp_link.specs.Fields.{state_in, record_in, state_from, record_from, sides_in}
-use Rattle.sctp_link.specs.OpenStreams.{terminals}
-use Rattle.sctp_link.specs.Records.{message_record, slot_record, progress_of}
+use Rattle.sctp_outbound.specs.outbound_queue.OutboundQueue.{message_of}
 use Rattle.sctp_link.proofs.abandonment.Abandoning.{recorded-given, linked-given}
 use Rattle.sctp_link.proofs.abandonment.QueueAnswers.{none-tails, partial-front, complete-idle, early-idle, tails, idle-tail, tail-right, past_deadline}
 use Rattle.sctp_link.proofs.abandonment.QueueAnswers.{number-is}
@@ -61,65 +46,60 @@ left-of new old (Some b) a is h u e =
 pub returns-in_default-clause-ok : goal.returns-in_default-clause-ok
 returns-in_default-clause-ok g c =
     let none : next_pending c.self.inside.sender.flight.queue.pending ≡ None = search rules in
-    rw (← c.self.view_is) (idle-tail (g.C.Checksum.sum c.self.inside.checksum) (state_in c.self.inside) c.self.invariant.1 c.args.now
-    (none-tails (g.C.Checksum.sum c.self.inside.checksum) (state_in c.self.inside) c.self.invariant.1 c.args.now none))
+    rw (← c.self.view_is) (idle-tail c.self.invariant.1 c.args.now (none-tails c.self.invariant.1 c.args.now none))
 
 pub returns-then-chunk-clause-ok : goal.returns-then-chunk-clause-ok
 returns-then-chunk-clause-ok g c =
     let shown : next_pending c.self.inside.sender.flight.queue.pending ≡ Some c.in-Some.chunk.now = search rules in
-    rw (← c.self.view_is) (idle-tail (g.C.Checksum.sum c.self.inside.checksum) (state_in c.self.inside) c.self.invariant.1 c.args.now (complete-idle
-    (g.C.Checksum.sum c.self.inside.checksum) (state_in c.self.inside) c.self.invariant.1 c.args.now c.in-Some.chunk.now shown c.if-chunk.true))
+    rw (← c.self.view_is) (idle-tail c.self.invariant.1 c.args.now (complete-idle c.self.invariant.1 c.args.now c.in-Some.chunk.now shown c.if-chunk.true))
 
 pub returns-then-not-is_past-clause-ok : goal.returns-then-not-is_past-clause-ok
 returns-then-not-is_past-clause-ok g c =
     let shown : next_pending c.self.inside.sender.flight.queue.pending ≡ Some c.in-Some.chunk.now = search rules in
-    rw (← c.self.view_is) (idle-tail (g.C.Checksum.sum c.self.inside.checksum) (state_in c.self.inside) c.self.invariant.1 c.args.now
-    (early-idle (g.C.Checksum.sum c.self.inside.checksum) (state_in c.self.inside) c.self.invariant.1 c.args.now c.in-Some.chunk.now shown
-    (sym c.is_past.ensures ∙ c.if-not-is_past.true)))
+    rw (← c.self.view_is) (idle-tail c.self.invariant.1 c.args.now
+    (early-idle c.self.invariant.1 c.args.now c.in-Some.chunk.now shown (sym c.is_past.ensures ∙ c.if-not-is_past.true)))
 
 pub returns-in_err-make_room-clause-wants : goal.returns-in_err-make_room-clause-wants
 returns-in_err-make_room-clause-wants g c =
     let shown : next_pending c.self.inside.sender.flight.queue.pending ≡ Some c.in-Some.chunk.now = search rules in
-    let late : tailing (record_in c.self.inside) c.args.now ≡ Some c.in-Some.chunk.now.message_id = tails (g.C.Checksum.sum c.self.inside.checksum)
-    (state_in c.self.inside) c.self.invariant.1 c.args.now c.in-Some.chunk.now shown c.if-chunk.false (sym c.is_past.ensures ∙ c.if-not-is_past.false) in
+    let late : tailing (record_in c.self.inside) c.args.now ≡ Some c.in-Some.chunk.now.message_id =
+    tails c.self.invariant.1 c.args.now c.in-Some.chunk.now shown c.if-chunk.false (sym c.is_past.ensures ∙ c.if-not-is_past.false) in
     rw (← c.self.view_is) (on-err c.from_residual.result _ (ap is_some late))
 
 pub memory-requires : goal.memory-requires
 memory-requires g c =
     let shown : next_pending c.self.inside.sender.flight.queue.pending ≡ Some c.in-Some.chunk.now = search rules in
-    let late : tailing (record_in c.self.inside) c.args.now ≡ Some c.in-Some.chunk.now.message_id = tails (g.C.Checksum.sum c.self.inside.checksum)
-    (state_in c.self.inside) c.self.invariant.1 c.args.now c.in-Some.chunk.now shown c.if-chunk.false (sym c.is_past.ensures ∙ c.if-not-is_past.false) in
-    let next = rest-fits (g.C.Checksum.sum c.self.inside.checksum)
-    (state_in c.self.inside) c.self.invariant.1 c.args.now c.in-Some.chunk.now.message_id late (sym (partial-front (g.C.Checksum.sum c.self.inside.checksum)
-    (state_in c.self.inside) c.self.invariant.1 c.args.now c.in-Some.chunk.now shown c.if-chunk.false)) in
+    let late : tailing (record_in c.self.inside) c.args.now ≡ Some c.in-Some.chunk.now.message_id =
+    tails c.self.invariant.1 c.args.now c.in-Some.chunk.now shown c.if-chunk.false (sym c.is_past.ensures ∙ c.if-not-is_past.false) in
+    let next = rest-fits c.self.invariant.1 c.args.now c.in-Some.chunk.now.message_id late
+    (sym (partial-front c.self.invariant.1 c.args.now c.in-Some.chunk.now shown c.if-chunk.false)) in
     c.in-Err.ensures.refused ∙ ap (λ b. if b then OutOfMemory else TsnsUsedUp) next
 
 pub unreachable-requires : goal.unreachable-requires
 unreachable-requires g c =
     let shown : next_pending c.self.inside.sender.flight.queue.pending ≡ Some c.in-Some.chunk.now = search rules in
-    let late : tailing (record_in c.self.inside) c.args.now ≡ Some c.in-Some.chunk.now.message_id = tails (g.C.Checksum.sum c.self.inside.checksum)
-    (state_in c.self.inside) c.self.invariant.1 c.args.now c.in-Some.chunk.now shown c.if-chunk.false (sym c.is_past.ensures ∙ c.if-not-is_past.false) in
+    let late : tailing (record_in c.self.inside) c.args.now ≡ Some c.in-Some.chunk.now.message_id =
+    tails c.self.invariant.1 c.args.now c.in-Some.chunk.now shown c.if-chunk.false (sym c.is_past.ensures ∙ c.if-not-is_past.false) in
     never-none c.in-Ok.gone (expiring_tail c.args.now c.self.inside.sender.flight.queue) c.in_default-gone.is c.in-Ok.ensures.answer
-    (past_deadline (g.C.Checksum.sum c.self.inside.checksum) (state_in c.self.inside) c.self.invariant.1 c.args.now c.in-Some.chunk.now.message_id late)
+    (past_deadline c.self.invariant.1 c.args.now c.in-Some.chunk.now.message_id late)
 
 pub returns-in-Err-clause-wants : goal.returns-in-Err-clause-wants
 returns-in-Err-clause-wants g c =
     let shown : next_pending c.self.inside.sender.flight.queue.pending ≡ Some c.in-Some.chunk.now = search rules in
-    let late : tailing (record_in c.self.inside) c.args.now ≡ Some c.in-Some.chunk.now.message_id = tails (g.C.Checksum.sum c.self.inside.checksum)
-    (state_in c.self.inside) c.self.invariant.1 c.args.now c.in-Some.chunk.now shown c.if-chunk.false (sym c.is_past.ensures ∙ c.if-not-is_past.false) in
+    let late : tailing (record_in c.self.inside) c.args.now ≡ Some c.in-Some.chunk.now.message_id =
+    tails c.self.invariant.1 c.args.now c.in-Some.chunk.now shown c.if-chunk.false (sym c.is_past.ensures ∙ c.if-not-is_past.false) in
     rw (← c.self.view_is) (ap is_some late)
 
 pub index_mut-message-requires : goal.index_mut-message-requires
 index_mut-message-requires g c =
     let shown : next_pending c.self.inside.sender.flight.queue.pending ≡ Some c.in-Some.chunk.now = search rules in
-    let late : tailing (record_in c.self.inside) c.args.now ≡ Some c.in-Some.chunk.now.message_id = tails (g.C.Checksum.sum c.self.inside.checksum)
-    (state_in c.self.inside) c.self.invariant.1 c.args.now c.in-Some.chunk.now shown c.if-chunk.false (sym c.is_past.ensures ∙ c.if-not-is_past.false) in
+    let late : tailing (record_in c.self.inside) c.args.now ≡ Some c.in-Some.chunk.now.message_id =
+    tails c.self.invariant.1 c.args.now c.in-Some.chunk.now shown c.if-chunk.false (sym c.is_past.ensures ∙ c.if-not-is_past.false) in
     let answered =
     answered-of c.in-Ok.gone c.in-Some-gone.gone (expiring_tail c.args.now c.self.inside.sender.flight.queue) c.in-Some-gone.is c.in-Ok.ensures.answer in
-    let number : c.in-Some-gone.gone.number ≡ c.in-Some.chunk.now.message_id = number-is (g.C.Checksum.sum c.self.inside.checksum)
-    (state_in c.self.inside) c.self.invariant.1 c.args.now c.in-Some.chunk.now.message_id late c.in-Some-gone.gone.number answered.number in
-    let made : c.in-Some-gone.gone.number < length (record_in c.self.inside).messages = let m =
-    (next-is (g.C.Checksum.sum c.self.inside.checksum) (state_in c.self.inside) c.self.invariant.1 c.in-Some.chunk.now shown).made in
+    let number : c.in-Some-gone.gone.number ≡ c.in-Some.chunk.now.message_id =
+    number-is c.self.invariant.1 c.args.now c.in-Some.chunk.now.message_id late c.in-Some-gone.gone.number answered.number in
+    let made : c.in-Some-gone.gone.number < length (record_in c.self.inside).messages = let m = (next-is c.self.invariant.1 c.in-Some.chunk.now shown).made in
     omega (arith, m, number) in
     omega (arith, made, length-mapped message_record c.self.inside.messages.items, c.self.inside.messages.ok.0)
 
@@ -127,74 +107,68 @@ pub invariant_of-self-2 : goal.invariant_of-self-2
 invariant_of-self-2 g c =
     let shown : next_pending c.self.inside.sender.flight.queue.pending ≡ Some c.in-Some.chunk.now = search rules in
     let sum = g.C.Checksum.sum c.self.inside.checksum in
-    let x = state_in c.self.inside in
     let l = c.self.invariant.1 in
     let now = c.args.now in
     let n = c.in-Some-gone.gone.number in
     let s = c.in-Some-gone.gone.stream in
     let bytes = c.in-Some-gone.gone.bytes in
     let late : tailing (record_in c.self.inside) now ≡ Some c.in-Some.chunk.now.message_id =
-    tails sum x l now c.in-Some.chunk.now shown c.if-chunk.false (sym c.is_past.ensures ∙ c.if-not-is_past.false) in
+    tails l now c.in-Some.chunk.now shown c.if-chunk.false (sym c.is_past.ensures ∙ c.if-not-is_past.false) in
     let answered =
     answered-of c.in-Ok.gone c.in-Some-gone.gone (expiring_tail c.args.now c.self.inside.sender.flight.queue) c.in-Some-gone.is c.in-Ok.ensures.answer in
-    let number : n ≡ c.in-Some.chunk.now.message_id = number-is sum x l now c.in-Some.chunk.now.message_id late n answered.number in
-    let made : n < length (record_in c.self.inside).messages = let m = (next-is sum x l c.in-Some.chunk.now shown).made in omega (arith, m, number) in
+    let number : n ≡ c.in-Some.chunk.now.message_id = number-is l now c.in-Some.chunk.now.message_id late n answered.number in
+    let made : n < length (record_in c.self.inside).messages = let m = (next-is l c.in-Some.chunk.now shown).made in omega (arith, m, number) in
     let due : tailing (record_in c.self.inside) now ≡ Some n = late ∙ ap Some (sym number) in
     let then' : Sides = abandoned_on (message_of (expiring_tail now c.self.inside.sender.flight.queue)) s bytes (sides_in c.self.inside) in
     let sent = some-of _ c.in-Ok.gone c.in-Some-gone.gone c.in-Some-gone.is c.in-Ok.ensures.some in
     let left = left-of c.expire_tail.new.self c.self.inside.sender c.in-Ok.gone c.in-Some-gone.gone c.in-Some-gone.is c.in-Ok.ensures.released _ sent in
-    let r = gives-tail sum x l now n due s bytes then'.flight.queue then'.flight.next_tsn made answered.stream refl refl left in
-    let both = on-sides c.self.inside.sender c.self.inside.receiver c.self.inside.progress c.self.invariant.0 s (less_by bytes)
+    let r = gives-tail l now n due s bytes then'.flight.queue then'.flight.next_tsn made answered.stream refl refl left in
+    let both = on-sides c.self.invariant.0 s (less_by bytes)
     (after_abandonment (message_of (expiring_tail now c.self.inside.sender.flight.queue)) c.self.inside.sender.flight) c.expire_tail.new.self sent in
     let ms = slice_set c.self.inside.messages.items n c.settle.new.message in
     let ss = c.settle.new.slots.items in
-    let partial : true ≡ is_partially_sent (record_in c.self.inside) n = partial-front sum x l now c.in-Some.chunk.now shown c.if-chunk.false
+    let partial : true ≡ is_partially_sent (record_in c.self.inside) n = partial-front l now c.in-Some.chunk.now shown c.if-chunk.false
     ∙ ap (is_partially_sent (record_in c.self.inside)) (sym number) in
     let more : c.settle.new.slots.items ≡ c.self.inside.slots.items ++ terminals true n c.index_mut-message.result.now.sent = c.settle.ensures.slots
     ∙ ap (λ a. a ++ terminals true n c.index_mut-message.result.now.sent) c.make_room.ensures.items in (
-      on-aligned c.self.inside.sender c.self.inside.receiver c.self.inside.progress c.self.invariant.0 s (less_by bytes) (after_abandonment
+      on-aligned c.self.invariant.0 s (less_by bytes) (after_abandonment
           (message_of (expiring_tail now c.self.inside.sender.flight.queue)) c.self.inside.sender.flight) c.expire_tail.new.self sent (λ l. refl),
       subst (λ (y : Sides). IsLinked sum (record (state_from y c.self.inside)
           { recorded = record (record_from y c.self.inside) { messages = map message_record ms; slots = map slot_record ss }; progress = map progress_of ms }))
-          (sym both)
-          (linked-given sum x l (E.Tail now) refl n s bytes then'.flight.queue then'.flight.next_tsn r tt tt refl refl
-          c.self.inside.messages.items c.index_mut-message.result.now c.settle.new.message c.self.inside.slots.items c.settle.new.slots.items true refl refl
-          refl refl c.index_mut-message.ensures.value c.settle.ensures.message partial more),
+          (sym both) (linked-given l refl r tt tt refl refl c.self.inside.messages.items c.index_mut-message.result.now c.settle.new.message
+          c.self.inside.slots.items c.settle.new.slots.items true refl refl refl refl c.index_mut-message.ensures.value c.settle.ensures.message partial more),
     )
 
 pub returns-clause-ok : goal.returns-clause-ok
 returns-clause-ok g c =
     let shown : next_pending c.self.inside.sender.flight.queue.pending ≡ Some c.in-Some.chunk.now = search rules in
-    let sum = g.C.Checksum.sum c.self.inside.checksum in
-    let x = state_in c.self.inside in
     let l = c.self.invariant.1 in
     let now = c.args.now in
     let n = c.in-Some-gone.gone.number in
     let s = c.in-Some-gone.gone.stream in
     let bytes = c.in-Some-gone.gone.bytes in
     let late : tailing (record_in c.self.inside) now ≡ Some c.in-Some.chunk.now.message_id =
-    tails sum x l now c.in-Some.chunk.now shown c.if-chunk.false (sym c.is_past.ensures ∙ c.if-not-is_past.false) in
+    tails l now c.in-Some.chunk.now shown c.if-chunk.false (sym c.is_past.ensures ∙ c.if-not-is_past.false) in
     let answered =
     answered-of c.in-Ok.gone c.in-Some-gone.gone (expiring_tail c.args.now c.self.inside.sender.flight.queue) c.in-Some-gone.is c.in-Ok.ensures.answer in
-    let number : n ≡ c.in-Some.chunk.now.message_id = number-is sum x l now c.in-Some.chunk.now.message_id late n answered.number in
-    let made : n < length (record_in c.self.inside).messages = let m = (next-is sum x l c.in-Some.chunk.now shown).made in omega (arith, m, number) in
+    let number : n ≡ c.in-Some.chunk.now.message_id = number-is l now c.in-Some.chunk.now.message_id late n answered.number in
+    let made : n < length (record_in c.self.inside).messages = let m = (next-is l c.in-Some.chunk.now shown).made in omega (arith, m, number) in
     let due : tailing (record_in c.self.inside) now ≡ Some n = late ∙ ap Some (sym number) in
     let then' : Sides = abandoned_on (message_of (expiring_tail now c.self.inside.sender.flight.queue)) s bytes (sides_in c.self.inside) in
     let sent = some-of _ c.in-Ok.gone c.in-Some-gone.gone c.in-Some-gone.is c.in-Ok.ensures.some in
     let left = left-of c.expire_tail.new.self c.self.inside.sender c.in-Ok.gone c.in-Some-gone.gone c.in-Some-gone.is c.in-Ok.ensures.released _ sent in
-    let r = gives-tail sum x l now n due s bytes then'.flight.queue then'.flight.next_tsn made answered.stream refl refl left in
-    let both = on-sides c.self.inside.sender c.self.inside.receiver c.self.inside.progress c.self.invariant.0 s (less_by bytes)
+    let r = gives-tail l now n due s bytes then'.flight.queue then'.flight.next_tsn made answered.stream refl refl left in
+    let both = on-sides c.self.invariant.0 s (less_by bytes)
     (after_abandonment (message_of (expiring_tail now c.self.inside.sender.flight.queue)) c.self.inside.sender.flight) c.expire_tail.new.self sent in
     let ms = slice_set c.self.inside.messages.items n c.settle.new.message in
     let ss = c.settle.new.slots.items in
-    let partial : true ≡ is_partially_sent (record_in c.self.inside) n = partial-front sum x l now c.in-Some.chunk.now shown c.if-chunk.false
+    let partial : true ≡ is_partially_sent (record_in c.self.inside) n = partial-front l now c.in-Some.chunk.now shown c.if-chunk.false
     ∙ ap (is_partially_sent (record_in c.self.inside)) (sym number) in
     let more : c.settle.new.slots.items ≡ c.self.inside.slots.items ++ terminals true n c.index_mut-message.result.now.sent = c.settle.ensures.slots
     ∙ ap (λ a. a ++ terminals true n c.index_mut-message.result.now.sent) c.make_room.ensures.items in
     rw (← c.self.view_is) (record {
-      right = tail-right sum x l now n s bytes due r.stream (r.grows ∙ ap (growth (record_in c.self.inside)) (sym r.is));
+      right = tail-right l now n s bytes due r.stream (r.grows ∙ ap (growth (record_in c.self.inside)) (sym r.is));
       moves = ap (λ (y : Sides). record (record_from y c.self.inside) { messages = map message_record ms; slots = map slot_record ss }) both
-          ∙ recorded-given sum x l (E.Tail now) refl n s bytes then'.flight.queue then'.flight.next_tsn r tt tt refl refl
-          c.self.inside.messages.items c.index_mut-message.result.now c.settle.new.message c.self.inside.slots.items c.settle.new.slots.items true refl refl
-          refl refl c.index_mut-message.ensures.value c.settle.ensures.message partial more ∙ sym r.is;
+          ∙ recorded-given l refl r tt tt refl refl c.self.inside.messages.items c.index_mut-message.result.now c.settle.new.message c.self.inside.slots.items
+          c.settle.new.slots.items true refl refl refl refl c.index_mut-message.ensures.value c.settle.ensures.message partial more ∙ sym r.is;
     })

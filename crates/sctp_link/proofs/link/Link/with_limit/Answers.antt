@@ -1,7 +1,5 @@
-use Rattle.std.proofs.Common.{◌≡◌, None, refl, ap, ◌∙◌}
-use Rattle.sctp_receiver.specs.Receiver.{at_first}
-use Rattle.sctp_sender.specs.Sender.{with_nothing}
-use Rattle.sctp_link.specs.Sides.{sides, fresh}
+use Rattle.sctp_link.proofs.Names.{◌≡◌, None, refl, ap, ◌∙◌, at_first, with_nothing, sides}
+use Rattle.sctp_link.specs.Sides.{fresh}
 use Rattle.sctp_link.proofs.sender.Begins.{linked-fresh}
 use Rattle.sctp_link.proofs.link.Link.with_limit.Goals as goal
 

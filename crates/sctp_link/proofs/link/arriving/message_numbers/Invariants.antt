@@ -1,5 +1,4 @@
-use Rattle.std.proofs.Common.{◌≡◌, map, take}
-use Rattle.sctp_link.specs.Receiving.{number_at}
+use Rattle.sctp_link.proofs.Names.{◌≡◌, map, take, number_at}
 use Rattle.sctp_link.proofs.link.arriving.message_numbers.Given as goal
 
 abbrev pub invariant-loop-place : goal.invariant-loop-place

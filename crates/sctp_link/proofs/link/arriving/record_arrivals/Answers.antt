@@ -1,11 +1,10 @@
-use Rattle.std.proofs.Common.{Vec, Global, ℕ, ◌+◌, ◌++◌, ◌<◌, drop, length, ap, sym, ◌∙◌, arith}
-use Rattle.std.specs.Prelude.{◌||◌, slice_index_or, vec_len, vec_capacity}
-use Rattle.std.specs.List.{list_any}
-use Rattle.sctp_link.specs.Receiving.{with_arrival, arrived_in, repeated_of, is_first}
-use Rattle.sctp_link.proofs.receiver.Arrivals.{set-changed, slots-first, repeated-first, any-first, slots-again, repeated-again, any-again}
+use Rattle.sctp_link.proofs.Names.{Vec, Global, ℕ, ◌+◌, ◌++◌, ◌<◌, drop, length, ap, sym, ◌∙◌, arith, ◌||◌, slice_index_or, vec_capacity, list_any}
+use Rattle.sctp_link.proofs.Names.{with_arrival, arrived_in, repeated_of, is_first, or-true}
+use Rattle.sctp_refinement.proofs.Lists.{set-changed}
+use Rattle.std.specs.Prelude.{vec_len}
+use Rattle.sctp_link.proofs.receiver.Arrivals.{slots-first, repeated-first, any-first, slots-again, repeated-again, any-again}
 use Rattle.sctp_link.proofs.link.arriving.record_arrivals.Goals as goal
 use Rattle.sctp_link.proofs.link.arriving.record_arrivals.Goals.{in-New, in-Repeat}
-use Rattle.sctp_list_lemmas.proofs.Cases.{or-true}
 
 pub loop-at-preserved : goal.loop-at-preserved
 loop-at-preserved c =

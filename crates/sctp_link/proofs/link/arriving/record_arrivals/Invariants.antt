@@ -1,7 +1,5 @@
-use Rattle.std.proofs.Common.{◌≡◌, ◌≤◌, ◌+◌, ◌++◌, length, drop}
-use Rattle.std.specs.Prelude.{◌||◌, vec_len, vec_capacity}
-use Rattle.std.specs.List.{list_any}
-use Rattle.sctp_link.specs.Receiving.{arrived_in, repeated_of, is_first}
+use Rattle.sctp_link.proofs.Names.{◌≡◌, ◌≤◌, ◌+◌, ◌++◌, length, drop, ◌||◌, vec_capacity, list_any, arrived_in, repeated_of, is_first}
+use Rattle.std.specs.Prelude.{vec_len}
 use Rattle.sctp_link.proofs.link.arriving.record_arrivals.Given as goal
 
 abbrev pub invariant-loop-at : goal.invariant-loop-at

@@ -1,15 +1,8 @@
-use Rattle.std.proofs.Common.{◌≡◌, ◌≤◌, ◌+◌, ◌-◌, ◌/◌, map, ◌∷◌, ◌++◌, [], Some, None, length, rules, sym, arith}
-use Rattle.std.specs.Prelude.{IfSome}
-use Rattle.std.proofs.Math.Path.{subst}
-use Rattle.sctp_data.specs.declared.chunk.chunk_payload_data.ChunkPayloadData.{ChunkPayloadData}
+use Rattle.sctp_link.proofs.Names.{◌≡◌, ◌≤◌, ◌+◌, ◌-◌, ◌/◌, map, ◌∷◌, ◌++◌, [], Some, None, length, rules, sym, arith, IfSome, subst, ChunkPayloadData}
+use Rattle.sctp_link.proofs.Names.{next_pending, after_sends, chunk_length, further, chunks_taken, following_tsn, under_tsn}
 use Rattle.sctp_chunks.specs.declared.chunk.chunk_kind.ChunkKind.TheVariants as C
-use Rattle.sctp_outbound.specs.pending_queue.PendingQueue.{next_pending}
-use Rattle.sctp_outbound.specs.outbound_queue.OutboundQueue.{after_sends}
-use Rattle.sctp_model.specs.Changes.{chunk_length}
-use Rattle.sctp_refinement.specs.Filling.{further, chunks_taken}
-use Rattle.sctp_link.proofs.sender.Ahead.{begins, goes-on, stops-none, stops-full}
+use Rattle.sctp_refinement.proofs.sending.Ahead.{begins, goes-on, stops-none, stops-full}
 use Rattle.sctp_link.proofs.link.fragments.next_chunks.Goals as goal
-use Rattle.sctp_serial.specs.DataChunks.{following_tsn, under_tsn}
 
 pub chunk_length-used-requires : goal.chunk_length-used-requires
 chunk_length-used-requires c =
@@ -23,7 +16,7 @@ loop-sent-init c =
     let le : length c.args.first.now.user_data ≤ 65519 =
     subst (λ o. IfSome o (λ (d : ChunkPayloadData). length d.user_data ≤ 65519)) c.requires.shown (c.requires.short 0) in
     record {
-      chunks = begins c.args.limit c.args.tsn
+      chunks = begins C.PayloadData c.args.limit c.args.tsn
           (12 + c.chunk_length-used.result) c.args.outbound.now.pending c.args.first.now c.push_under.new.chunks.items c.requires.shown one (search rules);
       used = search rules;
     }
@@ -31,12 +24,12 @@ loop-sent-init c =
 pub returns-in_default-clause-chunks : goal.returns-in_default-clause-chunks
 returns-in_default-clause-chunks c =
     let none : next_pending (after_sends (c.loop-sent.sent + 1) c.args.outbound.now.pending) ≡ None = search rules in
-    stops-none _ c.args.limit c.loop-sent.used _ _ _ _ none c.loop-sent.invariant.chunks
+    stops-none C.PayloadData _ c.args.limit c.loop-sent.used _ _ _ _ none c.loop-sent.invariant.chunks
 
 pub returns-then-used-limit-clause-chunks : goal.returns-then-used-limit-clause-chunks
 returns-then-used-limit-clause-chunks c =
     let some : next_pending (after_sends (c.loop-sent.sent + 1) c.args.outbound.now.pending) ≡ Some c.in-Some.chunk.now = search rules in
-    stops-full _ c.args.limit c.loop-sent.used _ _ c.in-Some.chunk.now _ _ some (omega arith) c.loop-sent.invariant.chunks
+    stops-full C.PayloadData _ c.args.limit c.loop-sent.used _ _ c.in-Some.chunk.now _ _ some (omega arith) c.loop-sent.invariant.chunks
 
 pub loop-sent-preserved : goal.loop-sent-preserved
 loop-sent-preserved c =
@@ -51,7 +44,7 @@ loop-sent-preserved c =
           subst (λ k. c.push_under-in-loop-sent.new.chunks.items ++ map C.PayloadData (further (c.args.limit / 16 - (c.loop-sent.sent + 1)) c.args.limit
           (c.loop-sent.used + k) (following_tsn (following_tsn c.loop-sent.tsn)) (after_sends (c.loop-sent.sent + 1 + 1) c.args.outbound.now.pending))
           ≡ map C.PayloadData (chunks_taken c.args.limit c.args.tsn c.args.outbound.now.pending)) (sym len)
-          (goes-on (c.args.limit / 16) c.args.limit c.loop-sent.used (following_tsn c.loop-sent.tsn) c.loop-sent.sent c.args.outbound.now.pending
+          (goes-on C.PayloadData (c.args.limit / 16) c.args.limit c.loop-sent.used (following_tsn c.loop-sent.tsn) c.loop-sent.sent c.args.outbound.now.pending
           c.in-Some.chunk.now c.loop-sent.chunks.items c.push_under-in-loop-sent.new.chunks.items (map C.PayloadData
           (chunks_taken c.args.limit c.args.tsn c.args.outbound.now.pending)) below some (omega (arith, fits, len)) more c.loop-sent.invariant.chunks);
       used = omega (arith, fits, c.ranges.limit.fits);

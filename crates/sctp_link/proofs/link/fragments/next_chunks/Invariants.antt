@@ -1,9 +1,6 @@
-use Rattle.std.proofs.Common.{◌≡◌, ◌<◌, ◌+◌, ◌-◌, ◌/◌, ◌^◌, ◌++◌, map}
+use Rattle.sctp_link.proofs.Names.{◌≡◌, ◌<◌, ◌+◌, ◌-◌, ◌/◌, ◌^◌, ◌++◌, map, after_sends, further, chunks_taken, following_tsn}
 use Rattle.sctp_chunks.specs.declared.chunk.chunk_kind.ChunkKind.TheVariants as C
-use Rattle.sctp_outbound.specs.outbound_queue.OutboundQueue.{after_sends}
-use Rattle.sctp_refinement.specs.Filling.{further, chunks_taken}
 use Rattle.sctp_link.proofs.link.fragments.next_chunks.Given as goal
-use Rattle.sctp_serial.specs.DataChunks.{following_tsn}
 
 abbrev pub invariant-loop-sent : goal.invariant-loop-sent
 invariant-loop-sent l = record {

@@ -1,6 +1,4 @@
-use Rattle.std.proofs.Common.{◌≡◌, ◌+◌, ◌∷◌, ◌++◌, [], rules, refl, ap, sym, ◌∙◌, add-one}
-use Rattle.sctp_list_lemmas.specs.Kept.{always, numbers_from}
-use Rattle.sctp_list_lemmas.proofs.Passing.{kept-snoc_in}
+use Rattle.sctp_link.proofs.Names.{◌≡◌, ◌+◌, ◌∷◌, ◌++◌, [], rules, refl, ap, sym, ◌∙◌, add-one, always, numbers_from, kept-snoc_in}
 use Rattle.sctp_link.proofs.link.fragments.places_from.Goals as goal
 
 pub loop-at-preserved : goal.loop-at-preserved

@@ -1,5 +1,4 @@
-use Rattle.std.proofs.Common.{◌≡◌}
-use Rattle.sctp_list_lemmas.specs.Kept.{numbers_from}
+use Rattle.sctp_link.proofs.Names.{◌≡◌, numbers_from}
 use Rattle.sctp_link.proofs.link.fragments.places_from.Given as goal
 
 abbrev pub invariant-loop-at : goal.invariant-loop-at

@@ -1,10 +1,4 @@
-use Rattle.std.proofs.Common.{List, ap, ◌∙◌, arith}
-use Rattle.std.proofs.Math.Path.{subst}
-use Rattle.sctp_data.specs.declared.chunk.chunk_payload_data.ChunkPayloadData.{ChunkPayloadData}
-use Rattle.sctp_outbound.specs.payload_queue.PayloadQueue.{Payload}
-use Rattle.sctp_sender.specs.Sender.{Transmission}
-use Rattle.sctp_sender.proofs.Flights.{started-inflight}
-use Rattle.sctp_link.specs.Sends.{AreNoted}
+use Rattle.sctp_link.proofs.Names.{List, ap, ◌∙◌, arith, subst, ChunkPayloadData, Payload, Transmission, started-inflight, AreNoted}
 use Rattle.sctp_link.proofs.link.fragments.send_fragments.Goals as goal
 
 pub take_fragments-requires-clause-able : goal.take_fragments-requires-clause-able

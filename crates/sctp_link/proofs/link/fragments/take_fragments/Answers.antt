@@ -1,4 +1,4 @@
-use Rattle.std.proofs.Common.{arith}
+use Rattle.sctp_link.proofs.Names.{arith}
 use Rattle.sctp_link.proofs.link.fragments.take_fragments.Goals as goal
 
 pub take_next-requires-clause-able : goal.take_next-requires-clause-able

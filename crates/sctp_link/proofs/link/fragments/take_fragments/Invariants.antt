@@ -1,6 +1,5 @@
-use Rattle.std.proofs.Common.{◌≤◌, ◌+◌}
-use Rattle.std.specs.Prelude.{vec_len, vec_capacity}
-use Rattle.sctp_link.specs.Sends.{AreNoted, outgoing_of, Leave, SendsOnly}
+use Rattle.sctp_link.proofs.Names.{◌≤◌, ◌+◌, vec_capacity, AreNoted, outgoing_of, Leave, SendsOnly}
+use Rattle.std.specs.Prelude.{vec_len}
 use Rattle.sctp_link.proofs.link.fragments.take_fragments.Given as goal
 
 abbrev pub invariant-loop-at : goal.invariant-loop-at

@@ -1,15 +1,9 @@
-use Rattle.std.proofs.Common.{◌≡◌, ◌+◌, ◌<◌, ◌^◌, true, Some, length, ap, rules, arith, refl, sym, ◌∙◌}
-use Rattle.std.specs.Prelude.{is_some, if◌then◌else◌}
-use Rattle.std.proofs.lemmas.Bool.Decides.{nat_tests}
-use Rattle.sctp_outbound.specs.pending_queue.PendingQueue.{next_pending}
-use Rattle.sctp_outbound.specs.outbound_queue.OutboundQueue.{sent_next}
-use Rattle.sctp_sender.specs.Flight.{may_send}
-use Rattle.sctp_link.specs.OpenStreams.{begun_by}
+use Rattle.sctp_link.proofs.Names.{◌≡◌, ◌+◌, ◌<◌, ◌^◌, true, Some, length, ap, rules, arith, refl, sym, ◌∙◌, is_some, if◌then◌else◌, nat_tests, next_pending}
+use Rattle.sctp_link.proofs.Names.{sent_next, may_send, begun_by, following_tsn}
 use Rattle.sctp_link.proofs.sides.Opening.{on-ok, not-err}
-use Rattle.sctp_link.proofs.sender.Ahead.{room-less}
+use Rattle.sctp_refinement.proofs.sending.Ahead.{room-less}
 use Rattle.sctp_link.proofs.sender.Noted.{noted-next}
 use Rattle.sctp_link.proofs.link.fragments.take_next.Goals as goal
-use Rattle.sctp_serial.specs.DataChunks.{following_tsn}
 
 pub unreachable-requires-then-is_err : goal.unreachable-requires-then-is_err
 unreachable-requires-then-is_err c =

@@ -1,6 +1,4 @@
-use Rattle.std.proofs.Common.{◌≡◌, ℕ, Bool, length, take}
-use Rattle.sctp_model.specs.LinkRecord.{LinkRecord}
-use Rattle.sctp_link.specs.Acking.{IsMarking, and_blocks}
+use Rattle.sctp_link.proofs.Names.{◌≡◌, ℕ, Bool, length, take, LinkRecord, IsMarking, and_blocks}
 use Rattle.sctp_link.proofs.link.sack_in.acknowledge_blocks.Given as goal
 
 abbrev pub invariant-loop-block : goal.invariant-loop-block

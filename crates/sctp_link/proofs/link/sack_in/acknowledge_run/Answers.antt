@@ -1,6 +1,4 @@
-use Rattle.std.proofs.Common.{◌+◌, ◌<◌, ◌∙◌, arith, length, length-set}
-use Rattle.sctp_link.specs.Acking.{and_one, and_run}
-use Rattle.sctp_link.specs.OpenStreams.{fragment_slot}
+use Rattle.sctp_link.proofs.Names.{◌+◌, ◌<◌, ◌∙◌, arith, length, length-set, and_one, and_run, fragment_slot}
 use Rattle.sctp_link.proofs.acknowledging.AckLoops.{marking-same, marking-one, run-more, run-all}
 use Rattle.sctp_link.proofs.link.sack_in.acknowledge_run.Goals as goal
 
@@ -11,17 +9,13 @@ loop-place-preserved c =
     let all = c.requires (omega (arith, test, low)) in
     let lt : c.loop-place.place < length c.loop-place.slots = omega (arith, all, test, c.loop-place.invariant.count) in
     record {
-      acked = λ w acked i.
-          marking-same w (and_one (and_run acked c.args.from c.loop-place.place) c.loop-place.place) (and_run acked c.args.from (c.loop-place.place + 1)) _
-          (run-more acked c.args.from c.loop-place.place c.loop-place.auto.place)
-          (marking-one w (and_run acked c.args.from c.loop-place.place) c.loop-place.slots c.loop-place.place (fragment_slot 0 0) lt
-          (c.loop-place.invariant.acked w acked i));
+      acked =
+          λ w acked i. marking-same (and_run acked c.args.from (c.loop-place.place + 1)) (run-more acked c.args.from c.loop-place.place c.loop-place.auto.place)
+          (marking-one c.loop-place.place (fragment_slot 0 0) lt (c.loop-place.invariant.acked w acked i));
       count = length-set c.loop-place.slots c.loop-place.place _ ∙ c.loop-place.invariant.count;
       reach = omega (arith, c.loop-place-test.true);
     }
 
 pub returns : goal.returns
-returns c = λ w acked i.
-    marking-same w (and_run acked c.args.from c.loop-place.place) (and_run acked c.args.from c.args.to) c.loop-place.slots
-    (run-all acked c.args.from c.loop-place.place c.args.to c.loop-place-test.false c.loop-place.invariant.reach)
-    (c.loop-place.invariant.acked w acked i)
+returns c = λ w acked i. marking-same (and_run acked c.args.from c.args.to)
+    (run-all acked c.args.from c.loop-place.place c.args.to c.loop-place-test.false c.loop-place.invariant.reach) (c.loop-place.invariant.acked w acked i)

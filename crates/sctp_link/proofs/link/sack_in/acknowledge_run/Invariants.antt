@@ -1,7 +1,4 @@
-use Rattle.std.proofs.Common.{◌≡◌, ◌≤◌, ℕ, Bool, length}
-use Rattle.std.specs.Prelude.{max}
-use Rattle.sctp_model.specs.LinkRecord.{LinkRecord}
-use Rattle.sctp_link.specs.Acking.{IsMarking, and_run}
+use Rattle.sctp_link.proofs.Names.{◌≡◌, ◌≤◌, ℕ, Bool, length, max, LinkRecord, IsMarking, and_run}
 use Rattle.sctp_link.proofs.link.sack_in.acknowledge_run.Given as goal
 
 abbrev pub invariant-loop-place : goal.invariant-loop-place

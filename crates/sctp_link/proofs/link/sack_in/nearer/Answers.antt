@@ -1,5 +1,4 @@
-use Rattle.std.proofs.Common.{◌∙◌, ap}
-use Rattle.std.specs.Prelude.{max}
+use Rattle.sctp_link.proofs.Names.{◌∙◌, ap, max}
 use Rattle.sctp_link.proofs.acknowledging.Rebased.{nearer-is}
 use Rattle.sctp_link.proofs.link.sack_in.nearer.Goals as goal
 

@@ -1,4 +1,4 @@
-use Rattle.std.proofs.Common.{◌≤◌, ◌<◌, length, refl, rules}
+use Rattle.sctp_link.proofs.Names.{◌≤◌, ◌<◌, length, refl, rules}
 use Rattle.sctp_link.proofs.acknowledging.Rebased.{none-nearer, one-nearer, all-begin, all-covers}
 use Rattle.sctp_link.proofs.link.sack_in.rebase.Goals as goal
 

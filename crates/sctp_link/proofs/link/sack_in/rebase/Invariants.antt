@@ -1,4 +1,4 @@
-use Rattle.std.proofs.Common.{◌≡◌}
+use Rattle.sctp_link.proofs.Names.{◌≡◌}
 use Rattle.sctp_link.proofs.acknowledging.Rebased.{Nearer}
 use Rattle.sctp_link.proofs.link.sack_in.rebase.Given as goal
 

@@ -1,8 +1,4 @@
-use Rattle.std.proofs.Common.{◌+◌, ◌-◌, ◌^◌, refl, ap, ◌∙◌}
-use Rattle.std.specs.Prelude.{find, min}
-use Rattle.sctp_outbound.specs.Marks.{with_nsent}
-use Rattle.sctp_serial.specs.DataChunks.{has_tsn}
-use Rattle.sctp_sender.specs.Sender.{Transmission}
+use Rattle.sctp_link.proofs.Names.{◌+◌, ◌-◌, ◌^◌, refl, ap, ◌∙◌, find, min, with_nsent, has_tsn, Transmission}
 use Rattle.sctp_sender.proofs.Walks.{found-changed}
 use Rattle.sctp_link.proofs.link.sending.write_again.Goals as goal
 

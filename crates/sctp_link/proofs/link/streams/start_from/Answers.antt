@@ -1,13 +1,9 @@
-use Rattle.std.proofs.Common.{◌∙◌, refl, length-set, arith}
-use Rattle.sctp_link.specs.OpenStreams.{with_start}
-use Rattle.sctp_link.proofs.upkeep.Walks.{changed_none, changed_more, changed_all}
+use Rattle.sctp_link.proofs.Names.{◌∙◌, refl, length-set, arith, with_start}
+use Rattle.sctp_refinement.proofs.Walks.{changed_none, changed_more, changed_all}
 use Rattle.sctp_link.proofs.link.streams.start_from.Goals as goal
 
 pub loop-place-init : goal.loop-place-init
-loop-place-init c = record {
-  changed = changed_none (with_start c.args.now) c.args.messages.now c.args.first;
-  same_length = refl;
-}
+loop-place-init c = record { changed = changed_none (with_start c.args.now) c.args.messages.now c.args.first; same_length = refl }
 
 pub loop-place-preserved : goal.loop-place-preserved
 loop-place-preserved c = record {

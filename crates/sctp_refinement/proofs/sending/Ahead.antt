@@ -1,12 +1,10 @@
--- The fragments of a datagram, looked at before they leave.
+-- The fragments of a datagram, looked at before they leave, each as the chunk that is made of it.
 use Rattle.std.proofs.Common.{◌≡◌, ℕ, zero, suc, ◌+◌, ◌-◌, ◌/◌, ◌<◌, ◌≤◌, Bool, true, false, List, [], ◌∷◌, ◌++◌, length, map, Option, Some, None, refl, ap}
 use Rattle.std.proofs.Common.{sym, ◌∙◌, arith, add-one, append_assoc}
 use Rattle.std.specs.Prelude.{if◌then◌else◌, nat_le, is_some, ◌==◌}
 use Rattle.std.proofs.lemmas.Bool.Decides.{nat_tests}
 use Rattle.std.proofs.lemmas.List.{append-nil}
 use Rattle.sctp_data.specs.declared.chunk.chunk_payload_data.ChunkPayloadData.{ChunkPayloadData}
-use Rattle.sctp_chunks.specs.declared.chunk.chunk_kind.ChunkKind.{ChunkKind}
-use Rattle.sctp_chunks.specs.declared.chunk.chunk_kind.ChunkKind.TheVariants as C
 use Rattle.sctp_outbound.specs.pending_queue.PendingQueue.{Pending, next_pending, start_pending}
 use Rattle.sctp_outbound.specs.outbound_queue.OutboundQueue.{Outbound, sent_of, sent_next, all_started, after_sends, taken_of}
 use Rattle.sctp_outbound.proofs.lemmas.outbound_queue.Outbounds.{peeked_all_started}
@@ -21,19 +19,19 @@ after-send (suc i) q = after-send i (taken_of (next_pending q) q)
 
 -- ## The loop
 
-pub begins : (limit tsn used : ℕ) (q : Pending) (c : ChunkPayloadData) (ks : List ChunkKind) → next_pending q ≡ Some c
-    → ks ≡ C.PayloadData (under_tsn tsn c) ∷ [] → used ≡ 12 + chunk_length (length c.user_data) → ks
-    ++ map C.PayloadData (further (limit / 16 - 0) limit used (following_tsn tsn) (taken_of (next_pending q) q)) ≡ map C.PayloadData (chunks_taken limit tsn q)
-begins limit tsn used q c ks shown one is =
+pub begins : {A : Type 0} (f : ChunkPayloadData → A) (limit tsn used : ℕ) (q : Pending) (c : ChunkPayloadData) (ks : List A) → next_pending q ≡ Some c
+    → ks ≡ f (under_tsn tsn c) ∷ [] → used ≡ 12 + chunk_length (length c.user_data) → ks
+    ++ map f (further (limit / 16 - 0) limit used (following_tsn tsn) (taken_of (next_pending q) q)) ≡ map f (chunks_taken limit tsn q)
+begins f limit tsn used q c ks shown one is =
     let fuel : limit / 16 - 0 ≡ limit / 16 = omega arith in
     let all : limit / 16 + (limit - limit / 16) ≡ limit = omega arith in
-    ap (λ l. l ++ map C.PayloadData (further (limit / 16 - 0) limit used (following_tsn tsn) (taken_of (next_pending q) q))) one
-    ∙ ap (λ k. C.PayloadData (under_tsn tsn c) ∷ map C.PayloadData (further k limit used (following_tsn tsn) (taken_of (next_pending q) q))) fuel
-    ∙ ap (λ l. C.PayloadData (under_tsn tsn c) ∷ map C.PayloadData l)
+    ap (λ l. l ++ map f (further (limit / 16 - 0) limit used (following_tsn tsn) (taken_of (next_pending q) q))) one
+    ∙ ap (λ k. f (under_tsn tsn c) ∷ map f (further k limit used (following_tsn tsn) (taken_of (next_pending q) q))) fuel
+    ∙ ap (λ l. f (under_tsn tsn c) ∷ map f l)
     (sym (turns-enough (limit / 16) (limit - limit / 16) limit used (following_tsn tsn) (taken_of (next_pending q) q) (omega arith)))
-    ∙ ap (λ k. C.PayloadData (under_tsn tsn c) ∷ map C.PayloadData (further k limit used (following_tsn tsn) (taken_of (next_pending q) q))) all
-    ∙ ap (λ k. C.PayloadData (under_tsn tsn c) ∷ map C.PayloadData (further limit limit k (following_tsn tsn) (taken_of (next_pending q) q))) is ∙ ap
-    (λ o. map C.PayloadData (leaving tsn o ++ further limit limit (plus 12 (length_shown o)) (following_tsn tsn) (taken_of (next_pending q) q))) (sym shown)
+    ∙ ap (λ k. f (under_tsn tsn c) ∷ map f (further k limit used (following_tsn tsn) (taken_of (next_pending q) q))) all
+    ∙ ap (λ k. f (under_tsn tsn c) ∷ map f (further limit limit k (following_tsn tsn) (taken_of (next_pending q) q))) is ∙ ap
+    (λ o. map f (leaving tsn o ++ further limit limit (plus 12 (length_shown o)) (following_tsn tsn) (taken_of (next_pending q) q))) (sym shown)
 
 -- with the next one
 further-fits : (most limit used tsn : ℕ) (q : Pending) (c : ChunkPayloadData) → next_pending q ≡ Some c → used + chunk_length (length c.user_data) ≤ limit
@@ -45,20 +43,20 @@ further-fits most limit used tsn q c shown le =
     then leaving tsn o ++ further most limit (plus used (length_shown o)) (following_tsn tsn) (taken_of (next_pending q) q) else []) shown ∙ ap (λ b. if b
     then under_tsn tsn c ∷ further most limit (used + chunk_length (length c.user_data)) (following_tsn tsn) (taken_of (next_pending q) q) else []) fits
 
-pub goes-on : (most limit used tsn i : ℕ) (q : Pending) (c : ChunkPayloadData) (ks ls complete : List ChunkKind) → i < most
-    → next_pending (after_sends (i + 1) q) ≡ Some c → used + chunk_length (length c.user_data) ≤ limit → ls ≡ ks ++ C.PayloadData (under_tsn tsn c) ∷ []
-    → ks ++ map C.PayloadData (further (most - i) limit used tsn (after_sends (i + 1) q)) ≡ complete → ls
-    ++ map C.PayloadData (further (most - (i + 1)) limit (used + chunk_length (length c.user_data)) (following_tsn tsn) (after_sends (i + 1 + 1) q)) ≡ complete
-goes-on most limit used tsn i q c ks ls complete lt shown le more e =
+pub goes-on : {A : Type 0} (f : ChunkPayloadData → A) (most limit used tsn i : ℕ) (q : Pending) (c : ChunkPayloadData) (ks ls complete : List A) → i < most
+    → next_pending (after_sends (i + 1) q) ≡ Some c → used + chunk_length (length c.user_data) ≤ limit → ls ≡ ks ++ f (under_tsn tsn c) ∷ []
+    → ks ++ map f (further (most - i) limit used tsn (after_sends (i + 1) q)) ≡ complete → ls
+    ++ map f (further (most - (i + 1)) limit (used + chunk_length (length c.user_data)) (following_tsn tsn) (after_sends (i + 1 + 1) q)) ≡ complete
+goes-on f most limit used tsn i q c ks ls complete lt shown le more e =
     let fuel : most - i ≡ suc (most - (i + 1)) = omega (arith, lt) in
     let rest = further (most - (i + 1)) limit (used + chunk_length (length c.user_data)) (following_tsn tsn) (after_sends (i + 1 + 1) q) in
     let next : after_sends (i + 1 + 1) q ≡ taken_of (next_pending (after_sends (i + 1) q)) (after_sends (i + 1) q) = ap (λ k. after_sends k q) (add-one (i + 1))
     ∙ after-send (i + 1) q in
-    ap (λ l. l ++ map C.PayloadData rest) more
-    ∙ append_assoc ks (C.PayloadData (under_tsn tsn c) ∷ []) (map C.PayloadData rest)
-    ∙ ap (λ r. ks ++ map C.PayloadData (under_tsn tsn c ∷ further (most - (i + 1)) limit (used + chunk_length (length c.user_data)) (following_tsn tsn) r)) next
-    ∙ sym (ap (λ k. ks ++ map C.PayloadData (further k limit used tsn (after_sends (i + 1) q))) fuel
-    ∙ ap (λ l. ks ++ map C.PayloadData l) (further-fits (most - (i + 1)) limit used tsn (after_sends (i + 1) q) c shown le)) ∙ e
+    ap (λ l. l ++ map f rest) more
+    ∙ append_assoc ks (f (under_tsn tsn c) ∷ []) (map f rest)
+    ∙ ap (λ r. ks ++ map f (under_tsn tsn c ∷ further (most - (i + 1)) limit (used + chunk_length (length c.user_data)) (following_tsn tsn) r)) next
+    ∙ sym (ap (λ k. ks ++ map f (further k limit used tsn (after_sends (i + 1) q))) fuel
+    ∙ ap (λ l. ks ++ map f l) (further-fits (most - (i + 1)) limit used tsn (after_sends (i + 1) q) c shown le)) ∙ e
 
 -- no further one
 further-none : (most limit used tsn : ℕ) (q : Pending) → next_pending q ≡ None → further most limit used tsn q ≡ []
@@ -66,9 +64,9 @@ further-none zero limit used tsn q none = refl
 further-none (suc most) limit used tsn q none = ap (λ o. if fits_in limit used (length_shown o)
     then leaving tsn o ++ further most limit (plus used (length_shown o)) (following_tsn tsn) (taken_of (next_pending q) q) else []) none
 
-pub stops-none : (most limit used tsn : ℕ) (q : Pending) (ks complete : List ChunkKind) → next_pending q ≡ None
-    → ks ++ map C.PayloadData (further most limit used tsn q) ≡ complete → ks ≡ complete
-stops-none most limit used tsn q ks complete none e = sym (append-nil ks) ∙ ap (λ l. ks ++ map C.PayloadData l) (sym (further-none most limit used tsn q none))
+pub stops-none : {A : Type 0} (f : ChunkPayloadData → A) (most limit used tsn : ℕ) (q : Pending) (ks complete : List A) → next_pending q ≡ None
+    → ks ++ map f (further most limit used tsn q) ≡ complete → ks ≡ complete
+stops-none f most limit used tsn q ks complete none e = sym (append-nil ks) ∙ ap (λ l. ks ++ map f l) (sym (further-none most limit used tsn q none))
     ∙ e
 
 -- none that fits
@@ -81,10 +79,10 @@ further-full (suc most) limit used tsn q c shown lt =
     then leaving tsn o ++ further most limit (plus used (length_shown o)) (following_tsn tsn) (taken_of (next_pending q) q) else []) shown ∙ ap (λ b. if b
     then under_tsn tsn c ∷ further most limit (used + chunk_length (length c.user_data)) (following_tsn tsn) (taken_of (next_pending q) q) else []) no'
 
-pub stops-full : (most limit used tsn : ℕ) (q : Pending) (c : ChunkPayloadData) (ks complete : List ChunkKind) → next_pending q ≡ Some c
-    → limit < used + chunk_length (length c.user_data) → ks ++ map C.PayloadData (further most limit used tsn q) ≡ complete → ks ≡ complete
-stops-full most limit used tsn q c ks complete shown lt e = sym (append-nil ks)
-    ∙ ap (λ l. ks ++ map C.PayloadData l) (sym (further-full most limit used tsn q c shown lt)) ∙ e
+pub stops-full : {A : Type 0} (f : ChunkPayloadData → A) (most limit used tsn : ℕ) (q : Pending) (c : ChunkPayloadData) (ks complete : List A)
+    → next_pending q ≡ Some c → limit < used + chunk_length (length c.user_data) → ks ++ map f (further most limit used tsn q) ≡ complete → ks ≡ complete
+stops-full f most limit used tsn q c ks complete shown lt e = sym (append-nil ks)
+    ∙ ap (λ l. ks ++ map f l) (sym (further-full most limit used tsn q c shown lt)) ∙ e
 
 -- ## Room
 
