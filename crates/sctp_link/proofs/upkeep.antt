@@ -6,7 +6,6 @@ pub mod Apart
 pub mod Facts
 pub mod Lookups
 pub mod Accessors
-pub mod Wants
 pub mod Packets
 pub mod Observed
 pub mod Bounds

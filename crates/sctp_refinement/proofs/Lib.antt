@@ -8,3 +8,4 @@ pub mod skipping
 pub mod Histories
 pub mod Lists
 pub mod Walks
+pub mod Wants

@@ -162,3 +162,10 @@ piece-short zero size bytes i = omega arith
 piece-short (suc most) size [] i = omega arith
 piece-short (suc most) size (x ∷ xs) zero = omega (arith, length-take size (x ∷ xs))
 piece-short (suc most) size (x ∷ xs) (suc i) = piece-short most size (drop size (x ∷ xs)) i
+
+-- a new message has the index that stands past the last one
+pub progress-more : (ps : List (ℕ × ℕ)) (n : ℕ) → slice_index_or (ps ++ (0, 0) ∷ []) n (0, 0) ≡ slice_index_or ps n (0, 0)
+progress-more [] zero = refl
+progress-more [] (suc n) = refl
+progress-more (p ∷ ps) zero = refl
+progress-more (p ∷ ps) (suc n) = progress-more ps n

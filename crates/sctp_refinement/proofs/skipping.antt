@@ -2,3 +2,4 @@ pub mod Skips
 pub mod SkipStep
 pub mod SkipSpans
 pub mod SkipsInTurn
+pub mod StreamsAt

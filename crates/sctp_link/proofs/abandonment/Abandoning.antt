@@ -6,7 +6,10 @@ use Rattle.sctp_link.proofs.Names.{cumulative_tsn, filter_of, in_all, written_by
 use Rattle.sctp_link.proofs.Names.{reply_to, fragments_accepted, Quiet, shape, amount, held_bytes, reassembly_of, counters_on, is_write, is_read, begun_on}
 use Rattle.sctp_link.proofs.Names.{Indexed, SendsNone, terminal_of, abandoned-is, count-then, before-then, KeepsNext, counters-same, OpenStream, has_number}
 use Rattle.sctp_link.proofs.Names.{less_by, Message, Slot, terminals, State, IsOpenStream, IsLinked, stats_of, message_record, progress_of, slot_record}
-use Rattle.sctp_link.proofs.Names.{stream_record, IsDatagram, map-set_same, get_or-map, stands-then, map-set}
+use Rattle.sctp_link.proofs.Names.{stream_record, IsDatagram, map-set_same, get_or-map, stands-then, map-set, Inside, Sides, IsAligned, sides, record_from}
+use Rattle.sctp_link.proofs.Names.{record_in, state_from, state_in, Transmission, after_abandonment, growth, Option}
+use Rattle.sctp_link.proofs.sides.Changes.{on-aligned, on-sides}
+use Rattle.sctp_sender.specs.Outgoing as Outgoing
 use Rattle.sctp_model.specs.LinkRecord as W
 use Rattle.sctp_model.proofs.sender.Moves
 use Rattle.sctp_refinement.proofs.abandonment.AbandonedLate.{sent-then}
@@ -141,7 +144,7 @@ module _ {sum : List ℕ → ℕ} {x : State} (l : IsLinked sum x) {e : Event} (
     abbrev state-then : LinkRecord → List (ℕ × ℕ) → State
     state-then u p = record x { recorded = u; open_streams = ls; progress = p; outbound = q; next_tsn = next }
 
-    pub recorded-given : recorded-then ≡ after_abandon x.recorded n
+    recorded-given : recorded-then ≡ after_abandon x.recorded n
     recorded-given =
         ap (λ r. record x.recorded { streams = r; messages = map message_record (slice_set ms n m'); slots = map slot_record ss' })
         (fields-same stream_record (less_by bytes) (λ y. refl) s x.open_streams ∙ sym streams)
@@ -149,6 +152,41 @@ module _ {sum : List ℕ → ℕ} {x : State} (l : IsLinked sum x) {e : Event} (
         (map-set message_record mark_abandoned ms n m' m lt (ap message_record taken) ∙ ap (change_at mark_abandoned n) (sym em))
         ∙ ap (λ r. record x.recorded { messages = change_at mark_abandoned n x.recorded.messages; slots = r }) slots-given ∙ sym (abandoned-is x.recorded n)
 
-    pub linked-given : IsLinked sum (state-then recorded-then (map progress_of (slice_set ms n m')))
+    linked-given : IsLinked sum (state-then recorded-then (map progress_of (slice_set ms n m')))
     linked-given = subst (λ p. IsLinked sum (state-then recorded-then p)) (sym (map-set_same progress_of ms n m' m (ap progress_of taken) ∙ sym ep))
         (moved sum (state-then recorded-then x.progress) v recorded-given linked-after)
+
+-- ## At a link
+
+-- the record with these messages and slots
+abbrev pub with_lists : {C : Type 0} → Inside C → List Message → List Slot → Sides → LinkRecord
+with_lists a ms ss y = record (record_from y a) { messages = map message_record ms; slots = map slot_record ss }
+
+-- what a link is whose sender gave a message up, once its message and its slots are settled
+pub record Settled {C : Type 0} (sum : List ℕ → ℕ) (a : Inside C) (e : Event) (bytes : ℕ) (t : Transmission) (ms : List Message) (ss : List Slot) : Type 0 where
+  pub aligned : IsAligned t a.receiver a.progress
+  pub linked : IsLinked sum (record (state_from (sides t a.receiver a.progress) a)
+      { recorded = with_lists a ms ss (sides t a.receiver a.progress); progress = map progress_of ms })
+  pub moves : with_lists a ms ss (sides t a.receiver a.progress) ≡ after (record_in a) e
+  pub grows : bytes ≡ growth (record_in a) (with_lists a ms ss (sides t a.receiver a.progress))
+
+pub settled : {C : Type 0} {sum : List ℕ → ℕ} (a : Inside C) → IsAligned a.sender a.receiver a.progress → IsLinked sum (state_in a) → (e : Event)
+    → refusal_of (record_in a) e ≡ None → {n s bytes : ℕ} (o : Option ℕ)
+    → Gives (state_in a) e n s bytes (after_abandonment o a.sender.flight).queue (after_abandonment o a.sender.flight).next_tsn → KeepsNext e → SendsNone e
+    → is_write e ≡ false → is_read e ≡ false → (t : Transmission) → t ≡ (let u : Transmission = record a.sender
+    { streams = change_where (Outgoing.has_number s) (Outgoing.less_by bytes) a.sender.streams; flight = after_abandonment o a.sender.flight } in u)
+    → (m m' : Message) (ss : List Slot) (partial : Bool) → m ≡ slice_index_or a.messages.items n m → m' ≡ record m { abandoned = true }
+    → partial ≡ is_partially_sent (record_in a) n → ss ≡ a.slots.items ++ terminals partial n m.sent
+    → Settled sum a e bytes t (slice_set a.messages.items n m') ss
+settled {sum = sum} a al l e ok {n = n} {s = s} {bytes = bytes} o r keeps none no-write no-read t is m m' ss partial here took partial_is more =
+    let ms = slice_set a.messages.items n m' in
+    let both = on-sides al s (Outgoing.less_by bytes) (after_abandonment o a.sender.flight) t is in
+    let given = ap (with_lists a ms ss) both
+    ∙ recorded-given l ok r keeps none no-write no-read a.messages.items m m' a.slots.items ss partial refl refl refl refl here took partial_is more in
+    record {
+      aligned = on-aligned al s (Outgoing.less_by bytes) (after_abandonment o a.sender.flight) t is (λ z. refl);
+      linked = subst (λ (y : Sides). IsLinked sum (record (state_from y a) { recorded = with_lists a ms ss y; progress = map progress_of ms })) (sym both)
+          (linked-given l ok r keeps none no-write no-read a.messages.items m m' a.slots.items ss partial refl refl refl refl here took partial_is more);
+      moves = given ∙ sym r.is;
+      grows = r.grows ∙ ap (growth (record_in a)) (sym given);
+    }

@@ -1,16 +1,16 @@
 -- A SACK is taken: what a link keeps then is what the record says.
-use Rattle.sctp_link.proofs.Names.{◌≡◌, ℕ, zero, suc, ◌+◌, ◌-◌, ◌<◌, ◌≤◌, ◌%◌, ◌^◌, Bool, true, false, List, [], ◌∷◌, length, get_or, map, Some, None, refl, ap}
-use Rattle.sctp_link.proofs.Names.{sym, ◌∙◌, inl, inr, arith, if◌then◌else◌, ◌&&◌, ◌||◌, nat_le, nat_lt, max, slice_get, slice_index_or, list_any, list_all}
-use Rattle.sctp_link.proofs.Names.{filter, subst, cases_lt, lt-ltb, le-ltb, le-leb, get_or-map, change_where, comes_before, length-mapped, length-numbered}
-use Rattle.sctp_link.proofs.Names.{numbered-at, map-at, GapAckBlock, ChunkPayloadData, sack_chunk, ReadsPacket, as_acknowledged, is_in_blocks, past, Outbound}
-use Rattle.sctp_link.proofs.Names.{with_inflight, InflightQueueTsnPop, TsnRequestNotExist, Flight, reports_anew, is_within, sack_refusal, take_sack, after_sack}
-use Rattle.sctp_link.proofs.Names.{is_whole, released_of, released_by, bytes_of, LinkRecord, Report, slot_at, no_slot, message_at, message_of, tsn_of, growth}
+use Rattle.sctp_link.proofs.Names.{◌≡◌, ℕ, ◌+◌, ◌-◌, ◌<◌, ◌≤◌, ◌%◌, ◌^◌, Bool, true, false, List, [], ◌∷◌, length, get_or, map, Some, None, refl, ap, sym, ◌∙◌}
+use Rattle.sctp_link.proofs.Names.{inl, inr, arith, if◌then◌else◌, ◌&&◌, ◌||◌, nat_le, nat_lt, max, slice_get, slice_index_or, list_any, list_all, filter}
+use Rattle.sctp_link.proofs.Names.{subst, cases_lt, lt-ltb, le-ltb, le-leb, get_or-map, change_where, comes_before, length-mapped, length-numbered, numbered-at}
+use Rattle.sctp_link.proofs.Names.{map-at, GapAckBlock, ChunkPayloadData, sack_chunk, ReadsPacket, as_acknowledged, is_in_blocks, past, Outbound, with_inflight}
+use Rattle.sctp_link.proofs.Names.{InflightQueueTsnPop, TsnRequestNotExist, Flight, reports_anew, is_within, sack_refusal, take_sack, after_sack, is_whole}
+use Rattle.sctp_link.proofs.Names.{released_of, released_by, bytes_of, LinkRecord, Report, slot_at, no_slot, message_at, message_of, tsn_of, growth}
 use Rattle.sctp_link.proofs.Names.{is_expired_or_abandoned, slot_bytes, pending_bytes, contents_of, cumulative_tsn, after_acked, acknowledged_by, StandsFor}
 use Rattle.sctp_link.proofs.Names.{refusal_of, reply_to, after, shape, sent, Sender, bytes_but_for, unacked_on, bytes_at, acknowledged_at, acknowledged_then}
 use Rattle.sctp_link.proofs.Names.{IsInFlight, Indexed, OpenStream, after_releases, stream_numbers, Slot, Datagram, slot_record, datagram_record, stream_record}
 use Rattle.sctp_link.proofs.Names.{State, IsLinked, IsOpenStream, IsApart, IsDatagram, block_of, packet_with, Acks, IsMarking, amount_with, and_run, and_blocks}
 use Rattle.sctp_link.proofs.Names.{in_block, fragment_slot, list_any_at, and, or-right, ext_get_or, new_open_stream, stands-then, says-still, count-made}
-use Rattle.sctp_link.proofs.Names.{piece-short}
+use Rattle.sctp_link.proofs.Names.{piece-short, slice_get_within}
 use Rattle.sctp_refinement.proofs.acknowledging.SackDistances.{between, up-to-date}
 use Rattle.sctp_refinement.proofs.Lists.{all-from}
 use Rattle.sctp_refinement.proofs.amounts.InFlightBytes.{chunk-on, bytes-unacked, taken-acknowledged, then-below}
@@ -44,12 +44,6 @@ wire_sack w r = record {
   duplicate_tsn = map (tsn_of w) r.duplicates;
 }
 
-get-bytes : (ds : List Datagram) (k : ℕ) (d : Datagram) (g : W.Datagram) → slice_get (map datagram_record ds) k ≡ Some g
-    → slice_index_or (map (λ d. d.bytes) ds) k [] ≡ (slice_index_or ds k d).bytes
-get-bytes [] k d g e = cc
-get-bytes (x ∷ ds) zero d g e = refl
-get-bytes (x ∷ ds) (suc k) d g e = get-bytes ds k d g e
-
 -- and its bytes read so
 pub reads-sack : {sum : List ℕ → ℕ} {x : State} (ds : List Datagram) (k : ℕ) (d : Datagram) (r : Report) → IsLinked sum x
     → x.recorded.network ≡ map datagram_record ds → x.datagrams ≡ map (λ d. d.bytes) ds → d ≡ slice_index_or ds k d
@@ -57,7 +51,9 @@ pub reads-sack : {sum : List ℕ → ℕ} {x : State} (ds : List Datagram) (k : 
 reads-sack {sum} {x} ds k d r l network bytes is there =
     let encoding = l.encodings k [] (Sack r) there in
     let here : slice_index_or x.datagrams k [] ≡ d.bytes = ap (λ n. slice_index_or n k []) bytes
-    ∙ get-bytes ds k d (Sack r) (ap (λ n. slice_get n k) (sym network) ∙ there) ∙ ap (λ (y : Datagram). y.bytes) (sym is) in
+    ∙ get_or-map (λ (y : Datagram). y.bytes) ds k d []
+    (omega (arith, slice_get_within x.recorded.network k (Sack r) there, ap length network, length-mapped datagram_record ds))
+    ∙ ap (λ (y : Datagram). y.bytes) (sym is) in
     subst (λ b. ReadsPacket sum b (packet_with (sack_chunk (wire_sack x.recorded r) ∷ []))) here encoding.reads
 
 -- the count that a cumulative TSN tells

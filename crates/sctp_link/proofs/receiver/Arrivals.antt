@@ -1,11 +1,6 @@
 -- Slots that arrive one after another, as a link records them.
-use Rattle.sctp_link.proofs.Names.{◌≡◌, ℕ, ◌+◌, ◌<◌, Bool, true, false, List, [], ◌∷◌, ◌++◌, length, drop, refl, ap, sym, ◌∙◌, arith, slice_index_or, list_any}
-use Rattle.sctp_link.proofs.Names.{drop_more, change_at, Arrival, New, Repeat, Slot, with_arrival, arrived_in, repeated_of, is_first}
-
--- one more at the end, and others
-pub more : (xs : List ℕ) (y : ℕ) (ys : List ℕ) → (xs ++ y ∷ []) ++ ys ≡ xs ++ y ∷ ys
-more [] y ys = refl
-more (x ∷ xs) y ys = ap (λ zs. x ∷ zs) (more xs y ys)
+use Rattle.sctp_link.proofs.Names.{◌≡◌, ℕ, ◌+◌, ◌<◌, Bool, true, false, List, [], ◌∷◌, ◌++◌, length, drop, ap, sym, ◌∙◌, arith, slice_index_or, list_any}
+use Rattle.sctp_link.proofs.Names.{drop_more, change_at, Arrival, New, Repeat, Slot, with_arrival, arrived_in, repeated_of, is_first, append_assoc}
 
 -- the answer at a place, and those that are left from there on
 module _ (ps : List ℕ) (bs : List Arrival) (i : ℕ) (inside : i < length ps) (count : length bs ≡ length ps) where
@@ -36,7 +31,7 @@ module _ (ps : List ℕ) (bs : List Arrival) (i : ℕ) (inside : i < length ps) 
     pub repeated-again : (ds : List ℕ)
         → (ds ++ slice_index_or ps i 0 ∷ []) ++ repeated_of (drop (i + 1) ps) (drop (i + 1) bs) ≡ ds ++ repeated_of (drop i ps) (drop i bs)
     repeated-again ds =
-        more ds (slice_index_or ps i 0) (repeated_of (drop (i + 1) ps) (drop (i + 1) bs))
+        append_assoc ds (slice_index_or ps i 0 ∷ []) (repeated_of (drop (i + 1) ps) (drop (i + 1) bs))
         ∙ ap (λ rs. ds ++ rs)
         (sym (ap (λ qs. repeated_of qs (drop i bs)) places-left ∙ ap (repeated_of (slice_index_or ps i 0 ∷ drop (i + 1) ps)) (answers-left Repeat e)))
 

@@ -1,12 +1,13 @@
 -- The slots of a datagram of a link come to a valid record, and what the link is after them.
-use Rattle.sctp_link.proofs.Names.{◌≡◌, ℕ, zero, suc, ◌+◌, ◌<◌, ◌≤◌, ◌%◌, ◌^◌, Bool, true, false, List, [], ◌∷◌, ◌++◌, length, map, Some, None, refl, ap, sym}
-use Rattle.sctp_link.proofs.Names.{◌∙◌, arith, ◌==◌, not, if◌then◌else◌, fold, slice_get, slice_index_or, list_any, subst, pieces, fresh, ChunkPayloadData}
-use Rattle.sctp_link.proofs.Names.{is_too_large, Setup, LinkRecord, Data, message_at, slot_at, message_of, is_new, next_of, receive_slot, after_arrive}
-use Rattle.sctp_link.proofs.Names.{note_completion, becomes_complete, chunk_at, filter_of, History, IsRun, record_of, refusal_of, after, IsRight, arrive_reply}
-use Rattle.sctp_link.proofs.Names.{IsSetup, ComesValid, AllFragments, Shape, shape, index, parts, Consistent, consistent-run, consistent-received, size-some}
-use Rattle.sctp_link.proofs.Names.{reassembly_of, counters_on, counters-same, SameToSender, same-then, with_arrived, Carried, carried, enters, next-arrive}
-use Rattle.sctp_link.proofs.Names.{OpenStream, stats_in, stream_numbers, Sides, reception_of, Slot, State, IsLinked, IsOpenStream, stats_of, filter_shown}
-use Rattle.sctp_link.proofs.Names.{slot_record, stream_record, IsReceiver, Comes, AllCome, IsApart, length-mapped, get_or-map, append_assoc}
+use Rattle.sctp_link.proofs.Names.{◌≡◌, ℕ, zero, suc, ◌<◌, ◌≤◌, Bool, true, false, List, [], ◌∷◌, ◌++◌, length, map, Some, None, refl, ap, sym, ◌∙◌, arith}
+use Rattle.sctp_link.proofs.Names.{if◌then◌else◌, fold, slice_get, slice_index_or, list_any, subst, is_too_large, Setup, LinkRecord, Data, message_at, slot_at}
+use Rattle.sctp_link.proofs.Names.{message_of, is_new, next_of, receive_slot, after_arrive, note_completion, becomes_complete, chunk_at, filter_of, History}
+use Rattle.sctp_link.proofs.Names.{IsRun, record_of, refusal_of, after, IsRight, arrive_reply, IsSetup, ComesValid, AllFragments, Consistent, consistent-run}
+use Rattle.sctp_link.proofs.Names.{consistent-received, size-some, reassembly_of, counters_on, counters-same, SameToSender, same-then, with_arrived, Carried}
+use Rattle.sctp_link.proofs.Names.{carried, enters, next-arrive, OpenStream, stats_in, stream_numbers, Sides, reception_of, Slot, State, IsLinked, IsOpenStream}
+use Rattle.sctp_link.proofs.Names.{stats_of, filter_shown, slot_record, stream_record, IsReceiver, Comes, AllCome, IsApart, length-mapped, get_or-map}
+use Rattle.sctp_link.proofs.Names.{append_assoc}
+use Rattle.sctp_refinement.proofs.sending.SameChunks.{chunk-same}
 use Rattle.sctp_refinement.proofs.amounts.NoLarger.{no-larger}
 use Rattle.sctp_model.proofs.receiver.ValidRun.{slots_come_valid}
 use Rattle.std.proofs.lemmas.List.Sums.{fold-append}
@@ -24,24 +25,6 @@ use Rattle.sctp_link.proofs.upkeep.StreamsAfter.{stream-then, linked-then}
 use Rattle.sctp_link.proofs.receiver.Slots.{core}
 
 -- ## They come to a valid record
-
--- the chunk of a slot, by what the sender knows
-abbrev chunk_by : Shape → ℕ → ℕ → ChunkPayloadData
-chunk_by y first p =
-    fresh (record {
-      unordered = not (y.message (y.slot p).message).ordered;
-      beginning_fragment = (y.slot p).fragment == 0;
-      ending_fragment = (y.slot p).fragment + 1 == parts y (y.slot p).message;
-      immediate_sack = false;
-      tsn = (first + p) % 2 ^ 32;
-      stream_identifier = (y.message (y.slot p).message).stream;
-      stream_sequence_number = (if (y.message (y.slot p).message).ordered then index y (y.slot p).message else (y.message (y.slot p).message).before) % 2 ^ 16;
-      payload_type = (y.message (y.slot p).message).ppi;
-      user_data = slice_index_or (pieces (length (y.message (y.slot p).message).bytes) y.size (y.message (y.slot p).message).bytes) (y.slot p).fragment [];
-    })
-
-chunk-same : (w v : LinkRecord) (p : ℕ) → Network.Same w v → chunk_at w p ≡ chunk_at v p
-chunk-same w v p s = ap (λ y. chunk_by y w.setup.first p) (sym s.shape_is) ∙ ap (λ t. chunk_by (shape v) t.first p) (sym s.setup)
 
 module _ (setup : Setup) (h : History) (is : IsSetup setup) (run : IsRun setup h) (k : ℕ) (none : refusal_of (record_of setup h) (E.Arrive k) ≡ None) where
   abbrev w : LinkRecord

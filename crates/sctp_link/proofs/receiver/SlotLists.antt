@@ -2,10 +2,9 @@
 use Rattle.sctp_link.proofs.Names.{◌≡◌, ℕ, zero, suc, Bool, true, false, List, [], ◌∷◌, ◌++◌, length, map, refl, ap, sym, ◌∙◌, append-nil, ◌||◌, if◌then◌else◌}
 use Rattle.sctp_link.proofs.Names.{fold, slice_index_or, list_any, subst, change_at, ChunkPayloadData, LinkRecord, message_of, no_slot, is_new, receive_slot}
 use Rattle.sctp_link.proofs.Names.{mark_arrived, Arrival, New, Repeat, arrival_of, is_answered_complete, Sides, reception_of, CanTake, TakesEach, Slot}
-use Rattle.sctp_link.proofs.Names.{slot_record, IsReceiver, AllCome, number_at, with_arrival, arrived_in, repeated_of, is_first}
+use Rattle.sctp_link.proofs.Names.{slot_record, IsReceiver, AllCome, number_at, with_arrival, arrived_in, repeated_of, is_first, append_assoc}
 use Rattle.sctp_model.proofs.sender.Network
 use Rattle.sctp_refinement.proofs.arriving.SlotArrives
-use Rattle.sctp_link.proofs.receiver.Arrivals.{more}
 use Rattle.sctp_link.proofs.receiver.Slots.{One, core, accepted, opened, one}
 
 -- the numbers of the messages of slots, as a link keeps them
@@ -77,7 +76,7 @@ came-more w x mid y p ps a bs o e = record {
     duplicates : (a : Arrival) → (receive_slot w p).duplicates ≡ (if is_first a then w.duplicates else w.duplicates ++ p ∷ [])
         → (receive_slot w p).duplicates ++ repeated_of ps bs ≡ w.duplicates ++ repeated_of (p ∷ ps) (a ∷ bs)
     duplicates (New complete) h = ap (λ d. d ++ repeated_of ps bs) h
-    duplicates Repeat h = ap (λ d. d ++ repeated_of ps bs) h ∙ more w.duplicates p (repeated_of ps bs)
+    duplicates Repeat h = ap (λ d. d ++ repeated_of ps bs) h ∙ append_assoc w.duplicates (p ∷ []) (repeated_of ps bs)
 
 pub came : (f : ℕ → ℕ) (ps : List ℕ) (cs : List ChunkPayloadData) (bs : List Arrival) {w : LinkRecord} {x : Sides} (y : Sides)
     → ((q : ℕ) → f q ≡ message_of w q) → IsReceiver w x → AllCome w ps cs → TakesEach cs (map f ps) bs x y → Came w x ps bs y

@@ -1,8 +1,8 @@
 -- A message is begun: what its stream counts then, and the index that it takes.
-use Rattle.sctp_link.proofs.Names.{◌≡◌, ℕ, zero, suc, ◌+◌, ◌<◌, Bool, true, false, List, [], ◌∷◌, ◌++◌, length, map, Option, Some, None, refl, ap, sym, ◌∙◌}
-use Rattle.sctp_link.proofs.Names.{arith, if◌then◌else◌, ◌==◌, ◌&&◌, find, option_map, slice_index_or, subst, change_where, some-same, shape, Indexed}
-use Rattle.sctp_link.proofs.Names.{same-turned, StreamState, InboundStream, Standing, Message, begins, begun_of, begun_by, OpenStream, join_each, has_number}
-use Rattle.sctp_link.proofs.Names.{stream_numbers, State, IsLinked, stream_record}
+use Rattle.sctp_link.proofs.Names.{◌≡◌, ℕ, zero, suc, ◌+◌, ◌<◌, Bool, true, false, List, [], ◌∷◌, length, map, Option, Some, None, refl, ap, sym, ◌∙◌, arith}
+use Rattle.sctp_link.proofs.Names.{if◌then◌else◌, ◌==◌, ◌&&◌, find, option_map, slice_index_or, subst, change_where, some-same, shape, Indexed, same-turned}
+use Rattle.sctp_link.proofs.Names.{StreamState, InboundStream, Standing, Message, begins, begun_of, begun_by, OpenStream, join_each, has_number, stream_numbers}
+use Rattle.sctp_link.proofs.Names.{State, IsLinked, stream_record}
 use Rattle.sctp_progress.specs.Progress as Progress
 use Rattle.sctp_link.proofs.sides.Joined.{Alike, found-progress, progress-changed}
 use Rattle.sctp_link.proofs.sides.Aligned.{standing-changed}
@@ -13,13 +13,6 @@ index_kept ps n = (slice_index_or ps n (0, 0)).1
 
 pub indexed-of : {sum : List ℕ → ℕ} {x : State} → IsLinked sum x → Indexed (shape x.recorded) (index_kept x.progress)
 indexed-of l = record { is = l.indexes; low = l.low }
-
--- a new message has the index that stands past the last one
-pub progress-more : (ps : List (ℕ × ℕ)) (n : ℕ) → slice_index_or (ps ++ (0, 0) ∷ []) n (0, 0) ≡ slice_index_or ps n (0, 0)
-progress-more [] zero = refl
-progress-more [] (suc n) = refl
-progress-more (p ∷ ps) zero = refl
-progress-more (p ∷ ps) (suc n) = progress-more ps n
 
 -- ## The streams, one of which begins a message or none
 

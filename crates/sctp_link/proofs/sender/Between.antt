@@ -9,9 +9,8 @@ use Rattle.sctp_link.proofs.Names.{all-begun, refines-fragment, going-started, r
 use Rattle.sctp_link.proofs.Names.{stream_numbers, Message, State, IsLinked, start_from, fragment_slot, begins, begun_of, with_fragment, message_record}
 use Rattle.sctp_link.proofs.Names.{progress_of, slot_record, stream_record, Outgoing, CanSend, Leaves, Leave, map-set_same, following_tsn, get_or-map}
 use Rattle.sctp_link.proofs.Names.{messages-few, map-set}
+use Rattle.sctp_refinement.proofs.sending.Rooms.{none-start, next-unstarted}
 use Rattle.sctp_refinement.proofs.sending.KindsRun.{Going, going-takes}
-use Rattle.sctp_outbound.specs.pending_queue.PendingQueue.{start_pending as pending_started}
-use Rattle.sctp_outbound.specs.outbound_queue.OutboundQueue.{sent_of}
 use Rattle.sctp_model.specs.LinkRecord as W
 use Rattle.sctp_model.specs.Messages as M
 use Rattle.sctp_model.proofs.sender.Shape.{sent as sent_by}
@@ -56,12 +55,6 @@ pub record Between (states : List StreamState) (inbounds : List InboundStream) (
 
 -- ## Before the first one
 
--- more room in flight is nothing that the record knows
-pub refines-room : {w : LinkRecord} {q : Outbound} (r : Outbound) (room : ℕ) → r ≡ record q { inflight = record q.inflight { room = room } }
-    → RefinesOutbound w q → RefinesOutbound w r
-refines-room {w} r room e t = subst (RefinesOutbound w) (sym e)
-    (record { pending = t.pending; in_flight = t.in_flight; next = t.next; unstarted = t.unstarted; started = t.started; begun = t.begun })
-
 module _ (states : List StreamState) (inbounds : List InboundStream) {sum : List ℕ → ℕ} {x : State} (l : IsLinked sum x) (now : ℕ) (ms : List Message)
     (em : x.recorded.messages ≡ map message_record ms) (es : x.progress ≡ map progress_of ms) where
   pub between-none : (s : Outgoing) {q : Outbound} → RefinesOutbound x.recorded q → s.outbound ≡ all_started now q → s.messages ≡ start_from x.unstarted now ms
@@ -91,15 +84,6 @@ module _ (states : List StreamState) (inbounds : List InboundStream) {sum : List
       progress = ap (map progress_of) is ∙ start-progress now x.unstarted ms ∙ sym es
 
 -- ## One more
-
--- lifetimes that have all started start no more
-none-start : (q : Outbound) (now : ℕ) → q.next_unstarted ≡ q.next_message_id → all_started now q ≡ q
-none-start q now e = ap (λ b. if b then q else record q { pending = pending_started q.next_unstarted now q.pending; next_unstarted = q.next_message_id })
-    (ap (λ k. k == q.next_message_id) e ∙ same-yes q.next_message_id)
-
-next-unstarted : (q : Outbound) (tsn now : ℕ) (o : Option ChunkPayloadData) → (sent_of o q tsn now).next_unstarted ≡ q.next_unstarted
-next-unstarted q tsn now None = refl
-next-unstarted q tsn now (Some c) = refl
 
 module _ (states : List StreamState) (inbounds : List InboundStream) (x : State) (now : ℕ) (v : LinkRecord) (s : Outgoing)
     (b : Between states inbounds x now v s) where

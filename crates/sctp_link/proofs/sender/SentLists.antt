@@ -4,13 +4,14 @@ use Rattle.sctp_link.proofs.Names.{ChunkKind, ChunkPayloadData, wire_of, HasEnco
 use Rattle.sctp_link.proofs.Names.{all_started, after_start, send_fragments, IsRight, chunks_taken, Fills, Message, Slot, Datagram, Kind, message_record}
 use Rattle.sctp_link.proofs.Names.{progress_of, slot_record, kind_record, datagram_record, stream_record, start_from, StreamState, InboundStream, join_each}
 use Rattle.sctp_link.proofs.Names.{Outgoing, CanSend, Leave, packet_with, State, IsLinked, LinkRecord}
+use Rattle.sctp_refinement.proofs.sending.Rooms.{refines-room}
 use Rattle.sctp_chunks.specs.declared.chunk.chunk_kind.ChunkKind.TheVariants as C
 use Rattle.sctp_model.specs.declared.event.Event.TheVariants as E
 use Rattle.sctp_model.specs.Reply as R
 use Rattle.sctp_model.specs.LinkRecord as W
 use Rattle.sctp_link.proofs.sides.Joined.{Alike}
 use Rattle.sctp_link.proofs.upkeep.Frames.{moved}
-use Rattle.sctp_link.proofs.sender.Between.{Between, refines-room, between-none, between-after, each-can}
+use Rattle.sctp_link.proofs.sender.Between.{Between, between-none, between-after, each-can}
 use Rattle.sctp_link.proofs.sender.Outgoing.{network-more, bytes-more}
 use Rattle.sctp_link.proofs.sender.Sending
 use Rattle.sctp_link.proofs.sender.Sending.{Next, next-is}

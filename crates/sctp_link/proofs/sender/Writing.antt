@@ -8,6 +8,7 @@ use Rattle.sctp_link.proofs.Names.{refusal_of, reply_to, fragments_accepted, fra
 use Rattle.sctp_link.proofs.Names.{amount, counters_on, sent_more, amount-wrote, written-wrote, counters-wrote, change_where, fragments_with_mode}
 use Rattle.sctp_link.proofs.Names.{with_reliability, OpenStream, both_ways, has_number, written_of, wrote_to, Message, stream_record, message_record}
 use Rattle.sctp_link.proofs.Names.{message_written, State, IsOpenStream, IsLinked, stats_of, DataChannelStats, stands-then, Facts, written-few}
+use Rattle.sctp_refinement.proofs.Lists.{progress-more}
 use Rattle.sctp_refinement.proofs.amounts.MessageSums.{sum-written}
 use Rattle.sctp_stream.specs.Stats.{with_sent}
 use Rattle.std.specs.Option.{option_map}
@@ -19,7 +20,7 @@ use Rattle.sctp_refinement.proofs.sending.InLine
 use Rattle.sctp_stream.specs.Stream as stream
 use Rattle.sctp_link.proofs.upkeep.Facts.{facts}
 use Rattle.sctp_link.proofs.upkeep.Frames.{stream-same, begun-kept, indexed-kept, held-quiet, next-kept, encodings-same}
-use Rattle.sctp_link.proofs.sender.Beginning.{index_kept, progress-more}
+use Rattle.sctp_link.proofs.sender.Beginning.{index_kept}
 use Rattle.sctp_link.proofs.upkeep.Bounds.{amount-few}
 use Rattle.sctp_link.proofs.sender.Fragmented.{all-wait}
 use Rattle.sctp_link.proofs.upkeep.ChangedStreams.{fields-same, each-changed}

@@ -1,13 +1,13 @@
 -- The arrival of a FORWARD-TSN: what it names, and its span test.
 use Rattle.sctp_link.proofs.Names.{◌≡◌, ℕ, zero, suc, ◌+◌, ◌-◌, ◌<◌, ◌≤◌, ◌^◌, Bool, true, false, List, [], ◌∷◌, length, map, Some, None, refl, ap, sym, ◌∙◌}
-use Rattle.sctp_link.proofs.Names.{arith, if◌then◌else◌, ◌==◌, ◌&&◌, min, max, nat_lt, find, slice_get, slice_index_or, list_all, filter, subst, nat_tests}
-use Rattle.sctp_link.proofs.Names.{same-yes, and, same_test, ChunkSet, forward_tsn_chunk, ReadsPacket, is_complete, LinkRecord, StreamRecord, Forward}
-use Rattle.sctp_link.proofs.Names.{stream_at, is_open, is_ordered_on, index_of, cumulative, next_of, is_held, is_complete_message, held_on, fits, greatest}
-use Rattle.sctp_link.proofs.Names.{least, after_arrive, set_of, refusal_of, arrival_fits, IsSpan, shape, IsNamable, NamesFit, fit-at, low_named, end_named}
-use Rattle.sctp_link.proofs.Names.{lowest_held, highest_held, complete_first, min_with, names_fit, with_skip, skip-step, sets-held, OpenStream, has_number}
-use Rattle.sctp_link.proofs.Names.{Named, Message, Datagram, State, IsLinked, message_record, progress_of, stream_record, datagram_record, kind_record}
-use Rattle.sctp_link.proofs.Names.{index_in, is_on, named_from, none_named, wire_skip, packet_with, length-mapped, get_or-map, some-same, slice_get_within}
-use Rattle.sctp_link.proofs.Names.{messages-few}
+use Rattle.sctp_link.proofs.Names.{arith, if◌then◌else◌, ◌==◌, ◌&&◌, min, max, nat_lt, find, slice_get, slice_index_or, list_all, filter, subst, nat_tests, and}
+use Rattle.sctp_link.proofs.Names.{same_test, ChunkSet, forward_tsn_chunk, ReadsPacket, is_complete, LinkRecord, StreamRecord, Forward, stream_at, is_open}
+use Rattle.sctp_link.proofs.Names.{is_ordered_on, index_of, cumulative, next_of, is_held, is_complete_message, held_on, fits, greatest, least, after_arrive}
+use Rattle.sctp_link.proofs.Names.{set_of, refusal_of, arrival_fits, IsSpan, shape, IsNamable, NamesFit, fit-at, low_named, end_named, lowest_held}
+use Rattle.sctp_link.proofs.Names.{highest_held, complete_first, min_with, names_fit, with_skip, skip-step, sets-held, OpenStream, has_number, Named, Message}
+use Rattle.sctp_link.proofs.Names.{Datagram, State, IsLinked, message_record, progress_of, stream_record, datagram_record, kind_record, index_in, is_on}
+use Rattle.sctp_link.proofs.Names.{named_from, none_named, wire_skip, packet_with, length-mapped, get_or-map, some-same, slice_get_within, messages-few}
+use Rattle.sctp_refinement.proofs.skipping.StreamsAt.{found-at, all-same}
 use Rattle.sctp_refinement.proofs.skipping.SkipSpans.{least-start, fits-both, skip-fits, next-short}
 use Rattle.sctp_model.proofs.receiver.ValidRun.{skips_come_valid}
 use Rattle.sctp_model.specs.declared.event.Event.TheVariants as E
@@ -50,17 +50,6 @@ module _ {sum : List ℕ → ℕ} {x : State} (l : IsLinked sum x) (ms : List Me
       ∙ ap (λ is. let r : Named = record { low = low_named x.recorded s ns; end = greatest 0 is } in r) end
 
 -- ## A stream at a place
-
-pub found-at : (i : ℕ) (rs : List StreamRecord) (d : StreamRecord) → i < length rs
-    → (r : StreamRecord) × (find (λ q. q.stream == (slice_index_or rs i d).stream) rs ≡ Some r)
-found-at i [] d lt = absurd (omega arith)
-found-at zero (q ∷ rs) d lt = (q, ap (λ b. if b then Some q else find (λ p. p.stream == q.stream) rs) (same-yes q.stream))
-found-at (suc i) (q ∷ rs) d lt = step (q.stream == (slice_index_or rs i d).stream) (found-at i rs d (omega arith))
-  where
-    step : (b : Bool) → (r : StreamRecord) × (find (λ p. p.stream == (slice_index_or rs i d).stream) rs ≡ Some r)
-        → (r : StreamRecord) × ((if b then Some q else find (λ p. p.stream == (slice_index_or rs i d).stream) rs) ≡ Some r)
-    step true f = (q, refl)
-    step false f = f
 
 pub open-at : (x : State) → x.recorded.streams ≡ map stream_record x.open_streams → (j : ℕ) (d : OpenStream) → j < length x.open_streams
     → (r : StreamRecord) × (stream_at x.recorded (slice_index_or x.open_streams j d).state.stream_identifier ≡ Some r)
@@ -177,11 +166,6 @@ judged w s names lo hi nm a b c =
         (λ e. let t : a < b + 2 ^ 15 = grind (arith, nat_tests) in let u : a - 32768 < b = omega (arith, t, le) in grind (arith, nat_tests))
 
 -- ## On all streams
-
-all-same : (f g : StreamRecord → Bool) (rs : List StreamRecord)
-    → ((i : ℕ) (d : StreamRecord) → i < length rs → f (slice_index_or rs i d) ≡ g (slice_index_or rs i d)) → list_all f rs ≡ list_all g rs
-all-same f g [] h = refl
-all-same f g (r ∷ rs) h = ap (λ b. b && list_all f rs) (h 0 r (omega arith)) ∙ ap (λ b. g r && b) (all-same f g rs (λ i d lt. h (suc i) d (omega arith)))
 
 -- a skip that lies in the network
 pub record Skips (w : LinkRecord) (upto : ℕ) (names : List ℕ) : Type 0 where

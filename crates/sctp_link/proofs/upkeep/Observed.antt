@@ -1,8 +1,7 @@
 -- What a link tells that is asked of it: which streams are open, what a datagram's bytes say, which TSNs can be sent again.
-use Rattle.sctp_link.proofs.Names.{◌≡◌, ℕ, zero, suc, ◌<◌, ◌≤◌, ◌^◌, Bool, true, false, List, [], ◌∷◌, length, map, Some, refl, ap, sym, ◌∙◌, arith, ◌&&◌, ◌||◌}
-use Rattle.sctp_link.proofs.Names.{not, slice_get, slice_index_or, nat_le, nat_lt, lt-ltb, le-leb, get_or-map, length-mapped, LinkRecord, is_cleared}
-use Rattle.sctp_link.proofs.Names.{message_at, message_of, slot_at, no_slot, Contents, contents_of, contents_in, datagram, can_resend, Datagram, Slot, State}
-use Rattle.sctp_link.proofs.Names.{IsLinked, datagram_record, slot_record, datagram_encoding}
+use Rattle.sctp_link.proofs.Names.{◌≡◌, ℕ, zero, suc, ◌<◌, ◌^◌, List, [], ◌∷◌, length, map, Some, refl, ap, sym, ◌∙◌, arith, slice_get, slice_index_or}
+use Rattle.sctp_link.proofs.Names.{get_or-map, length-mapped, slot_at, no_slot, Contents, contents_of, contents_in, datagram, Datagram, Slot, State, IsLinked}
+use Rattle.sctp_link.proofs.Names.{datagram_record, slot_record, datagram_encoding}
 use Rattle.sctp_link.proofs.upkeep.Facts.{facts}
 
 -- a datagram that was made, in its place
@@ -27,10 +26,6 @@ says-bytes {x} ds k d l network bytes lt is =
 pub few-fragments : {sum : List ℕ → ℕ} {x : State} → IsLinked sum x → x.fragments < 2 ^ 31
 few-fragments l = omega (arith, l.fragments, (facts l).consistent.accepted)
 
-all-right : (a b c d : Bool) → a ≡ true → b ≡ true → ((a && b) && (not c && not d)) ≡ not (c || d)
-all-right a b true d h i = rw (h, i) refl
-all-right a b false d h i = rw (h, i) refl
-
 -- the message of a slot
 pub slot-message : {sum : List ℕ → ℕ} {x : State} (xs : List Slot) (p : ℕ) (s : Slot) → IsLinked sum x → x.recorded.slots ≡ map slot_record xs
     → p < length x.recorded.slots → s ≡ slice_index_or xs p s → (slot_at x.recorded p ≡ slot_record s) × (s.message < length x.recorded.messages)
@@ -40,8 +35,3 @@ slot-message {x} xs p s l slots lt is =
     ∙ ap slot_record (sym is) in
     let made = (facts l).consistent.sender.made p lt in
     (same, omega (arith, made, ap (λ t. t.message) same))
-
--- one that is neither, among those in flight, can be sent again
-pub can-resend : (w : LinkRecord) (p : ℕ) → w.taken ≤ p → p < length w.slots → can_resend w p ≡ not (is_cleared w p)
-can-resend w p le lt = all-right (nat_le w.taken p) (nat_lt p (length w.slots))
-    (slot_at w p).acknowledged (message_at w (message_of w p)).abandoned (le-leb w.taken p le) (lt-ltb p (length w.slots) lt)

@@ -5,6 +5,8 @@ use Rattle.sctp_link.proofs.sides.Changes.{inbound-answered, next-answered}
 use Rattle.sctp_link.proofs.upkeep.Lookups.{none-open, queue-none}
 use Rattle.sctp_link.proofs.upkeep.StreamPlaces.{placed}
 use Rattle.sctp_link.proofs.receiver.Hears.{none-answered, answered-next, answered-queue, ends-empty, set-held, low-front, high-back, none-there}
+use Rattle.sctp_link.proofs.link.Link.index_range.Given.{Over}
+use Rattle.sctp_link.proofs.link.Link.index_range.Goals.{After-ordered-held}
 use Rattle.sctp_link.proofs.link.Link.index_range.Goals as goal
 
 pub unreachable-requires : goal.unreachable-requires
@@ -46,6 +48,11 @@ answered-at x s next q next_answered queue_answered sets_are =
           ∙ ap (λ (l : OpenStream). l.inbound.queue.held.ordered) (sym is);
     }
 
+at : (g : Over) (c : After-ordered-held g) → IsAnswered (state_in c.self.inside) c.args.stream c.in-Some.next c.ordered-held.result.now.items
+at g c = answered-at (state_in c.self.inside) c.args.stream c.in-Some.next c.in-Some-reassembly.queue.now
+    (next-answered c.self.invariant.0 c.args.stream (Some c.in-Some.next) c.in-Some.ensures) (inbound-answered c.self.invariant.0
+    (λ (l : InboundStream). l.queue) c.args.stream (Some c.in-Some-reassembly.queue.now) c.in-Some-reassembly.ensures) c.ordered-held.ensures
+
 -- The set at a place is of the message that is held there.
 set-answered : {sum : List ℕ → ℕ} {x : State} (l : IsLinked sum x) (s next : ℕ) (sets : List ChunkSet) (t : IsAnswered x s next sets) (i : ℕ) (e : ChunkSet)
     → i < length sets → e ≡ slice_index_or sets i e
@@ -57,9 +64,7 @@ set-answered l s next sets t i e lt is =
 pub returns-in_default-front-clause-low : goal.returns-in_default-front-clause-low
 returns-in_default-front-clause-low g c =
     let x = state_in c.self.inside in
-    let t = answered-at x c.args.stream c.in-Some.next c.in-Some-reassembly.queue.now
-    (next-answered c.self.invariant.0 c.args.stream (Some c.in-Some.next) c.in-Some.ensures) (inbound-answered c.self.invariant.0
-    (λ (l : InboundStream). l.queue) c.args.stream (Some c.in-Some-reassembly.queue.now) c.in-Some-reassembly.ensures) c.ordered-held.ensures in
+    let t = at g (goal.at.returns-in_default-front-clause-low g c).After-ordered-held in
     let empty : length (slice_index_or x.open_streams t.at t.d).inbound.queue.held.ordered ≡ 0 =
     omega (arith, ap length t.held, none-there (deque_len c.ordered-held.result.now) c.in_default-front.ensures.variant.1) in
     rw (← c.self.view_is) (t.next_is ∙ (ends-empty c.self.invariant.1 t.at c.args.stream t.d t.lt t.found empty).0)
@@ -67,9 +72,7 @@ returns-in_default-front-clause-low g c =
 pub returns-in_default-front-clause-high : goal.returns-in_default-front-clause-high
 returns-in_default-front-clause-high g c =
     let x = state_in c.self.inside in
-    let t = answered-at x c.args.stream c.in-Some.next c.in-Some-reassembly.queue.now
-    (next-answered c.self.invariant.0 c.args.stream (Some c.in-Some.next) c.in-Some.ensures) (inbound-answered c.self.invariant.0
-    (λ (l : InboundStream). l.queue) c.args.stream (Some c.in-Some-reassembly.queue.now) c.in-Some-reassembly.ensures) c.ordered-held.ensures in
+    let t = at g (goal.at.returns-in_default-front-clause-high g c).After-ordered-held in
     let empty : length (slice_index_or x.open_streams t.at t.d).inbound.queue.held.ordered ≡ 0 =
     omega (arith, ap length t.held, none-there (deque_len c.ordered-held.result.now) c.in_default-front.ensures.variant.1) in
     rw (← c.self.view_is) (t.next_is ∙ (ends-empty c.self.invariant.1 t.at c.args.stream t.d t.lt t.found empty).1)
@@ -78,9 +81,7 @@ pub index_of-requires : goal.index_of-requires
 index_of-requires g c =
     let x = state_in c.self.inside in
     let sets = c.ordered-held.result.now.items in
-    let t = answered-at x c.args.stream c.in-Some.next c.in-Some-reassembly.queue.now
-    (next-answered c.self.invariant.0 c.args.stream (Some c.in-Some.next) c.in-Some.ensures) (inbound-answered c.self.invariant.0
-    (λ (l : InboundStream). l.queue) c.args.stream (Some c.in-Some-reassembly.queue.now) c.in-Some-reassembly.ensures) c.ordered-held.ensures in
+    let t = at g (goal.at.index_of-requires g c).After-ordered-held in
     let some : 0 < length sets = omega (arith, c.in-Some-front.ensures.variant.0 refl) in
     let h = set-answered c.self.invariant.1 c.args.stream c.in-Some.next sets t 0 c.in-Some-front.first.now some c.in-Some-front.ensures.lookup in
     rw (← c.self.view_is) (c.args.stream, slice_index_or (held_on x.recorded c.args.stream) 0 0, h.0, h.1)
@@ -89,9 +90,7 @@ pub index_of-requires-2 : goal.index_of-requires-2
 index_of-requires-2 g c =
     let x = state_in c.self.inside in
     let sets = c.ordered-held.result.now.items in
-    let t = answered-at x c.args.stream c.in-Some.next c.in-Some-reassembly.queue.now
-    (next-answered c.self.invariant.0 c.args.stream (Some c.in-Some.next) c.in-Some.ensures) (inbound-answered c.self.invariant.0
-    (λ (l : InboundStream). l.queue) c.args.stream (Some c.in-Some-reassembly.queue.now) c.in-Some-reassembly.ensures) c.ordered-held.ensures in
+    let t = at g (goal.at.index_of-requires-2 g c).After-ordered-held in
     let some : 0 < length sets = omega (arith, c.in-Some-front.ensures.variant.0 refl) in
     let many : deque_len c.ordered-held.result.now ≡ length sets = omega arith in
     let last = c.in-Some-back.last.now in
@@ -103,9 +102,7 @@ pub returns-clause-low : goal.returns-clause-low
 returns-clause-low g c =
     let x = state_in c.self.inside in
     let sets = c.ordered-held.result.now.items in
-    let t = answered-at x c.args.stream c.in-Some.next c.in-Some-reassembly.queue.now
-    (next-answered c.self.invariant.0 c.args.stream (Some c.in-Some.next) c.in-Some.ensures) (inbound-answered c.self.invariant.0
-    (λ (l : InboundStream). l.queue) c.args.stream (Some c.in-Some-reassembly.queue.now) c.in-Some-reassembly.ensures) c.ordered-held.ensures in
+    let t = at g (goal.at.returns-clause-low g c).After-ordered-held in
     let some : 0 < length sets = omega (arith, c.in-Some-front.ensures.variant.0 refl) in
     let h = set-answered c.self.invariant.1 c.args.stream c.in-Some.next sets t 0 c.in-Some-front.first.now some c.in-Some-front.ensures.lookup in
     let answered : (s n : ℕ) → is_held x.recorded s n ≡ true → c.in-Some-front.first.now ≡ set_of x.recorded n
@@ -117,9 +114,7 @@ pub returns-clause-high : goal.returns-clause-high
 returns-clause-high g c =
     let x = state_in c.self.inside in
     let sets = c.ordered-held.result.now.items in
-    let t = answered-at x c.args.stream c.in-Some.next c.in-Some-reassembly.queue.now
-    (next-answered c.self.invariant.0 c.args.stream (Some c.in-Some.next) c.in-Some.ensures) (inbound-answered c.self.invariant.0
-    (λ (l : InboundStream). l.queue) c.args.stream (Some c.in-Some-reassembly.queue.now) c.in-Some-reassembly.ensures) c.ordered-held.ensures in
+    let t = at g (goal.at.returns-clause-high g c).After-ordered-held in
     let some : 0 < length sets = omega (arith, c.in-Some-front.ensures.variant.0 refl) in
     let many : deque_len c.ordered-held.result.now ≡ length sets = omega arith in
     let last = c.in-Some-back.last.now in

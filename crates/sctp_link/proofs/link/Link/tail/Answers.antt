@@ -1,17 +1,19 @@
-use Rattle.sctp_link.proofs.Names.{◌≡◌, ℕ, ◌+◌, ◌<◌, ◌++◌, true, ap, sym, ◌∙◌, Option, Some, None, refl, map, subst, rules, arith, length, slice_set, is_some}
+use Rattle.sctp_link.proofs.Names.{◌≡◌, ℕ, ◌+◌, ◌<◌, ◌++◌, true, ap, sym, ◌∙◌, Option, Some, None, refl, rules, arith, length, slice_set, is_some}
 use Rattle.sctp_link.proofs.Names.{if◌then◌else◌, option_map, option_to_list, sum_by, some-same, ChunkPayloadData, OutOfMemory, TsnsUsedUp, after_abandonment}
-use Rattle.sctp_link.proofs.Names.{Transmission, length-mapped, next_pending, expiring_tail, total_bytes, growth, tailing, is_partially_sent, IsLinked, Sides}
-use Rattle.sctp_link.proofs.Names.{abandoned_on, record_in, state_from, record_from, sides_in, terminals, message_record, slot_record, progress_of}
+use Rattle.sctp_link.proofs.Names.{Transmission, length-mapped, next_pending, expiring_tail, total_bytes, tailing, is_partially_sent, record_in, terminals}
+use Rattle.sctp_link.proofs.Names.{message_record, message_at, growth}
 use Rattle.sctp_sender.specs.declared.sender.flight.late.AbandonedMessage.{AbandonedMessage}
-use Rattle.sctp_sender.specs.Outgoing.{less_by}
-use Rattle.sctp_link.proofs.sides.Changes.{on-aligned, on-sides, some-of}
+use Rattle.sctp_link.proofs.sides.Changes.{some-of}
 use Rattle.sctp_outbound.specs.outbound_queue.OutboundQueue.{message_of}
-use Rattle.sctp_link.proofs.abandonment.Abandoning.{recorded-given, linked-given}
+use Rattle.sctp_model.specs.declared.event.Event.TheVariants as E
+use Rattle.sctp_link.proofs.abandonment.Abandoning.{Settled, settled}
 use Rattle.sctp_link.proofs.abandonment.QueueAnswers.{none-tails, partial-front, complete-idle, early-idle, tails, idle-tail, tail-right, past_deadline}
 use Rattle.sctp_link.proofs.abandonment.QueueAnswers.{number-is}
 use Rattle.sctp_link.proofs.abandonment.QueueAnswers.{rest-fits, gives-tail}
 use Rattle.sctp_link.proofs.receiver.Keeping.{on-err}
 use Rattle.sctp_link.proofs.sender.Sending.{next-is}
+use Rattle.sctp_link.proofs.link.Link.tail.Given.{Over}
+use Rattle.sctp_link.proofs.link.Link.tail.Goals.{After-make_room, After-settle}
 use Rattle.sctp_link.proofs.link.Link.tail.Goals as goal
 
 -- what is answered of the message that is abandoned
@@ -59,36 +61,29 @@ returns-then-not-is_past-clause-ok g c =
     rw (← c.self.view_is) (idle-tail c.self.invariant.1 c.args.now
     (early-idle c.self.invariant.1 c.args.now c.in-Some.chunk.now shown (sym c.is_past.ensures ∙ c.if-not-is_past.true)))
 
+-- The front message is late.
+late : (g : Over) (c : After-make_room g) → tailing (record_in c.self.inside) c.args.now ≡ Some c.in-Some.chunk.now.message_id
+late g c = tails c.self.invariant.1 c.args.now c.in-Some.chunk.now (search rules) c.if-chunk.false (sym c.is_past.ensures ∙ c.if-not-is_past.false)
+
 pub returns-in_err-make_room-clause-wants : goal.returns-in_err-make_room-clause-wants
 returns-in_err-make_room-clause-wants g c =
-    let shown : next_pending c.self.inside.sender.flight.queue.pending ≡ Some c.in-Some.chunk.now = search rules in
-    let late : tailing (record_in c.self.inside) c.args.now ≡ Some c.in-Some.chunk.now.message_id =
-    tails c.self.invariant.1 c.args.now c.in-Some.chunk.now shown c.if-chunk.false (sym c.is_past.ensures ∙ c.if-not-is_past.false) in
-    rw (← c.self.view_is) (on-err c.from_residual.result _ (ap is_some late))
+    rw (← c.self.view_is)
+    (on-err c.from_residual.result _ (ap is_some (late g (goal.at.returns-in_err-make_room-clause-wants g c).After-make_room)))
 
 pub memory-requires : goal.memory-requires
 memory-requires g c =
-    let shown : next_pending c.self.inside.sender.flight.queue.pending ≡ Some c.in-Some.chunk.now = search rules in
-    let late : tailing (record_in c.self.inside) c.args.now ≡ Some c.in-Some.chunk.now.message_id =
-    tails c.self.invariant.1 c.args.now c.in-Some.chunk.now shown c.if-chunk.false (sym c.is_past.ensures ∙ c.if-not-is_past.false) in
-    let next = rest-fits c.self.invariant.1 c.args.now c.in-Some.chunk.now.message_id late
-    (sym (partial-front c.self.invariant.1 c.args.now c.in-Some.chunk.now shown c.if-chunk.false)) in
+    let next = rest-fits c.self.invariant.1 c.args.now c.in-Some.chunk.now.message_id (late g (goal.at.memory-requires g c).After-make_room)
+    (sym (partial-front c.self.invariant.1 c.args.now c.in-Some.chunk.now (search rules) c.if-chunk.false)) in
     c.in-Err.ensures.refused ∙ ap (λ b. if b then OutOfMemory else TsnsUsedUp) next
 
 pub unreachable-requires : goal.unreachable-requires
 unreachable-requires g c =
-    let shown : next_pending c.self.inside.sender.flight.queue.pending ≡ Some c.in-Some.chunk.now = search rules in
-    let late : tailing (record_in c.self.inside) c.args.now ≡ Some c.in-Some.chunk.now.message_id =
-    tails c.self.invariant.1 c.args.now c.in-Some.chunk.now shown c.if-chunk.false (sym c.is_past.ensures ∙ c.if-not-is_past.false) in
     never-none c.in-Ok.gone (expiring_tail c.args.now c.self.inside.sender.flight.queue) c.in_default-gone.is c.in-Ok.ensures.answer
-    (past_deadline c.self.invariant.1 c.args.now c.in-Some.chunk.now.message_id late)
+    (past_deadline c.self.invariant.1 c.args.now c.in-Some.chunk.now.message_id (late g (goal.at.unreachable-requires g c).After-make_room))
 
 pub returns-in-Err-clause-wants : goal.returns-in-Err-clause-wants
 returns-in-Err-clause-wants g c =
-    let shown : next_pending c.self.inside.sender.flight.queue.pending ≡ Some c.in-Some.chunk.now = search rules in
-    let late : tailing (record_in c.self.inside) c.args.now ≡ Some c.in-Some.chunk.now.message_id =
-    tails c.self.invariant.1 c.args.now c.in-Some.chunk.now shown c.if-chunk.false (sym c.is_past.ensures ∙ c.if-not-is_past.false) in
-    rw (← c.self.view_is) (ap is_some late)
+    rw (← c.self.view_is) (ap is_some (late g (goal.at.returns-in-Err-clause-wants g c).After-make_room))
 
 pub index_mut-message-requires : goal.index_mut-message-requires
 index_mut-message-requires g c =
@@ -103,72 +98,44 @@ index_mut-message-requires g c =
     omega (arith, m, number) in
     omega (arith, made, length-mapped message_record c.self.inside.messages.items, c.self.inside.messages.ok.0)
 
-pub invariant_of-self-2 : goal.invariant_of-self-2
-invariant_of-self-2 g c =
+-- What becomes of its message.
+gone : (g : Over) (c : After-settle g) → Settled (g.C.Checksum.sum c.self.inside.checksum) c.self.inside (E.Tail c.args.now) c.in-Some-gone.gone.bytes
+    c.expire_tail.new.self (slice_set c.self.inside.messages.items c.in-Some-gone.gone.number c.settle.new.message) c.settle.new.slots.items
+    × (tailing (record_in c.self.inside) c.args.now ≡ Some c.in-Some-gone.gone.number)
+    × (c.in-Some-gone.gone.stream ≡ (message_at (record_in c.self.inside) c.in-Some-gone.gone.number).stream)
+gone g c =
     let shown : next_pending c.self.inside.sender.flight.queue.pending ≡ Some c.in-Some.chunk.now = search rules in
-    let sum = g.C.Checksum.sum c.self.inside.checksum in
     let l = c.self.invariant.1 in
     let now = c.args.now in
     let n = c.in-Some-gone.gone.number in
-    let s = c.in-Some-gone.gone.stream in
-    let bytes = c.in-Some-gone.gone.bytes in
-    let late : tailing (record_in c.self.inside) now ≡ Some c.in-Some.chunk.now.message_id =
-    tails l now c.in-Some.chunk.now shown c.if-chunk.false (sym c.is_past.ensures ∙ c.if-not-is_past.false) in
-    let answered =
-    answered-of c.in-Ok.gone c.in-Some-gone.gone (expiring_tail c.args.now c.self.inside.sender.flight.queue) c.in-Some-gone.is c.in-Ok.ensures.answer in
+    let o = expiring_tail now c.self.inside.sender.flight.queue in
+    let late = tails l now c.in-Some.chunk.now shown c.if-chunk.false (sym c.is_past.ensures ∙ c.if-not-is_past.false) in
+    let answered = answered-of c.in-Ok.gone c.in-Some-gone.gone o c.in-Some-gone.is c.in-Ok.ensures.answer in
     let number : n ≡ c.in-Some.chunk.now.message_id = number-is l now c.in-Some.chunk.now.message_id late n answered.number in
     let made : n < length (record_in c.self.inside).messages = let m = (next-is l c.in-Some.chunk.now shown).made in omega (arith, m, number) in
     let due : tailing (record_in c.self.inside) now ≡ Some n = late ∙ ap Some (sym number) in
-    let then' : Sides = abandoned_on (message_of (expiring_tail now c.self.inside.sender.flight.queue)) s bytes (sides_in c.self.inside) in
     let sent = some-of _ c.in-Ok.gone c.in-Some-gone.gone c.in-Some-gone.is c.in-Ok.ensures.some in
     let left = left-of c.expire_tail.new.self c.self.inside.sender c.in-Ok.gone c.in-Some-gone.gone c.in-Some-gone.is c.in-Ok.ensures.released _ sent in
-    let r = gives-tail l now n due s bytes then'.flight.queue then'.flight.next_tsn made answered.stream refl refl left in
-    let both = on-sides c.self.invariant.0 s (less_by bytes)
-    (after_abandonment (message_of (expiring_tail now c.self.inside.sender.flight.queue)) c.self.inside.sender.flight) c.expire_tail.new.self sent in
-    let ms = slice_set c.self.inside.messages.items n c.settle.new.message in
-    let ss = c.settle.new.slots.items in
+    let r = gives-tail l now n due c.in-Some-gone.gone.stream c.in-Some-gone.gone.bytes
+    (after_abandonment (message_of o) c.self.inside.sender.flight).queue (after_abandonment (message_of o) c.self.inside.sender.flight).next_tsn
+    made answered.stream refl refl left in
     let partial : true ≡ is_partially_sent (record_in c.self.inside) n = partial-front l now c.in-Some.chunk.now shown c.if-chunk.false
-    ∙ ap (is_partially_sent (record_in c.self.inside)) (sym number) in
-    let more : c.settle.new.slots.items ≡ c.self.inside.slots.items ++ terminals true n c.index_mut-message.result.now.sent = c.settle.ensures.slots
-    ∙ ap (λ a. a ++ terminals true n c.index_mut-message.result.now.sent) c.make_room.ensures.items in (
-      on-aligned c.self.invariant.0 s (less_by bytes) (after_abandonment
-          (message_of (expiring_tail now c.self.inside.sender.flight.queue)) c.self.inside.sender.flight) c.expire_tail.new.self sent (λ l. refl),
-      subst (λ (y : Sides). IsLinked sum (record (state_from y c.self.inside)
-          { recorded = record (record_from y c.self.inside) { messages = map message_record ms; slots = map slot_record ss }; progress = map progress_of ms }))
-          (sym both) (linked-given l refl r tt tt refl refl c.self.inside.messages.items c.index_mut-message.result.now c.settle.new.message
-          c.self.inside.slots.items c.settle.new.slots.items true refl refl refl refl c.index_mut-message.ensures.value c.settle.ensures.message partial more),
+    ∙ ap (is_partially_sent (record_in c.self.inside)) (sym number) in (
+      settled c.self.inside c.self.invariant.0 l (E.Tail now) refl (message_of o) r tt tt refl refl c.expire_tail.new.self sent
+          c.index_mut-message.result.now c.settle.new.message c.settle.new.slots.items true c.index_mut-message.ensures.value c.settle.ensures.message partial
+          (c.settle.ensures.slots ∙ ap (λ a. a ++ terminals true n c.index_mut-message.result.now.sent) c.make_room.ensures.items),
+      due,
+      r.stream,
     )
+
+pub invariant_of-self-2 : goal.invariant_of-self-2
+invariant_of-self-2 g c = let t = (gone g (goal.at.invariant_of-self-2 g c).After-settle).0 in (t.aligned, t.linked)
 
 pub returns-clause-ok : goal.returns-clause-ok
 returns-clause-ok g c =
-    let shown : next_pending c.self.inside.sender.flight.queue.pending ≡ Some c.in-Some.chunk.now = search rules in
-    let l = c.self.invariant.1 in
-    let now = c.args.now in
-    let n = c.in-Some-gone.gone.number in
-    let s = c.in-Some-gone.gone.stream in
-    let bytes = c.in-Some-gone.gone.bytes in
-    let late : tailing (record_in c.self.inside) now ≡ Some c.in-Some.chunk.now.message_id =
-    tails l now c.in-Some.chunk.now shown c.if-chunk.false (sym c.is_past.ensures ∙ c.if-not-is_past.false) in
-    let answered =
-    answered-of c.in-Ok.gone c.in-Some-gone.gone (expiring_tail c.args.now c.self.inside.sender.flight.queue) c.in-Some-gone.is c.in-Ok.ensures.answer in
-    let number : n ≡ c.in-Some.chunk.now.message_id = number-is l now c.in-Some.chunk.now.message_id late n answered.number in
-    let made : n < length (record_in c.self.inside).messages = let m = (next-is l c.in-Some.chunk.now shown).made in omega (arith, m, number) in
-    let due : tailing (record_in c.self.inside) now ≡ Some n = late ∙ ap Some (sym number) in
-    let then' : Sides = abandoned_on (message_of (expiring_tail now c.self.inside.sender.flight.queue)) s bytes (sides_in c.self.inside) in
-    let sent = some-of _ c.in-Ok.gone c.in-Some-gone.gone c.in-Some-gone.is c.in-Ok.ensures.some in
-    let left = left-of c.expire_tail.new.self c.self.inside.sender c.in-Ok.gone c.in-Some-gone.gone c.in-Some-gone.is c.in-Ok.ensures.released _ sent in
-    let r = gives-tail l now n due s bytes then'.flight.queue then'.flight.next_tsn made answered.stream refl refl left in
-    let both = on-sides c.self.invariant.0 s (less_by bytes)
-    (after_abandonment (message_of (expiring_tail now c.self.inside.sender.flight.queue)) c.self.inside.sender.flight) c.expire_tail.new.self sent in
-    let ms = slice_set c.self.inside.messages.items n c.settle.new.message in
-    let ss = c.settle.new.slots.items in
-    let partial : true ≡ is_partially_sent (record_in c.self.inside) n = partial-front l now c.in-Some.chunk.now shown c.if-chunk.false
-    ∙ ap (is_partially_sent (record_in c.self.inside)) (sym number) in
-    let more : c.settle.new.slots.items ≡ c.self.inside.slots.items ++ terminals true n c.index_mut-message.result.now.sent = c.settle.ensures.slots
-    ∙ ap (λ a. a ++ terminals true n c.index_mut-message.result.now.sent) c.make_room.ensures.items in
+    let t = gone g (goal.at.returns-clause-ok g c).After-settle in
     rw (← c.self.view_is) (record {
-      right = tail-right l now n s bytes due r.stream (r.grows ∙ ap (growth (record_in c.self.inside)) (sym r.is));
-      moves = ap (λ (y : Sides). record (record_from y c.self.inside) { messages = map message_record ms; slots = map slot_record ss }) both
-          ∙ recorded-given l refl r tt tt refl refl c.self.inside.messages.items c.index_mut-message.result.now c.settle.new.message c.self.inside.slots.items
-          c.settle.new.slots.items true refl refl refl refl c.index_mut-message.ensures.value c.settle.ensures.message partial more ∙ sym r.is;
+      right = tail-right c.self.invariant.1 c.args.now c.in-Some-gone.gone.number c.in-Some-gone.gone.stream c.in-Some-gone.gone.bytes t.1 t.2
+          (t.0.grows ∙ ap (growth (record_in c.self.inside)) t.0.moves);
+      moves = t.0.moves;
     })
