@@ -154,7 +154,7 @@ pub use Rattle.sctp_link.specs.Encodings.{IsDatagram, packet_with, block_of, wir
 pub use Rattle.sctp_link.specs.Places.{IsApart}
 pub use Rattle.sctp_link.specs.Acking.{IsMarking, and_one, and_run, and_blocks, in_block, IsNearer, Acks, amount_with}
 pub use Rattle.sctp_link.specs.declared.record.Datagram.{Datagram}
-pub use Rattle.sctp_link.specs.Sides.{Sides, abandoned_on, IsAligned, CanTake, TakesEach, sides, expired_unsent, on_stream, stream_in, written_on, reception_of}
+pub use Rattle.sctp_link.specs.Sides.{Sides, IsAligned, CanTake, TakesEach, sides, expired_unsent, on_stream, stream_in, written_on, reception_of}
 pub use Rattle.sctp_link.specs.Sides.{with_filter_of, Accepts, Takes, repeat_tsn, follow_forward_tsn, after_forward, sack_taken, opened_on}
 pub use Rattle.sctp_link.specs.Fields.{state_in, record_in, state_from, record_from, sides_in, setup_of}
 pub use Rattle.sctp_link.specs.declared.record.Kind.{Kind}

@@ -10,7 +10,7 @@ use Rattle.sctp_outbound.specs.outbound_queue.OutboundQueue.{expired_of, with_me
 use Rattle.sctp_receiver.specs.declared.receiver.arrival.Arrival.{Arrival}
 use Rattle.sctp_receiver.specs.declared.receiver.arrival.Arrival.TheVariants.{New, Repeat}
 use Rattle.sctp_sender.specs.Flight as Flight
-use Rattle.sctp_sender.specs.Flight.{Flight, with_queue, after_abandonment, after_sack, released_by}
+use Rattle.sctp_sender.specs.Flight.{Flight, with_queue, after_sack, released_by}
 use Rattle.sctp_receiver.specs.Inbound as Inbound
 use Rattle.sctp_sender.specs.Outgoing as Outgoing
 use Rattle.sctp_sender.specs.Outgoing.{fragments_with_mode}
@@ -19,7 +19,7 @@ use Rattle.sctp_sender.specs.Sender.{Transmission}
 use Rattle.sctp_receiver.specs.TsnFilter.{Filter, with_tsn, with_duplicate, skipped_to}
 use Rattle.sctp_progress.specs.Progress as Progress
 use Rattle.sctp_progress.specs.Progress.{Standing}
-use Rattle.sctp_link.specs.Streams.{OpenStream, Keeps, join_each, has_number, new_open_stream, on_inbound, wrote_to, less_by, after_releases, expired_on}
+use Rattle.sctp_link.specs.Streams.{OpenStream, Keeps, join_each, has_number, new_open_stream, on_inbound, wrote_to, after_releases, expired_on}
 use Rattle.sctp_link.specs.Streams.{forwarded_on}
 use Rattle.sctp_serial.specs.DataChunks.{preceding_tsn}
 
@@ -117,11 +117,6 @@ sack_taken s x =
       streams = after_releases (released_by s x.flight) x.streams;
       flight = after_sack s x.flight;
     }
-
--- a message is abandoned, and its stream has so many bytes less
-abbrev pub abandoned_on : Option ℕ → ℕ → ℕ → Sides → Sides
-abandoned_on message stream bytes x =
-    with_flight (after_abandonment message x.flight) (on_stream stream (less_by bytes) x)
 
 -- the message that begins with a chunk is gone, unsent
 abbrev pub expired_unsent : ChunkPayloadData → ℕ → Sides → Sides

@@ -80,8 +80,7 @@ module _ {sum : List ℕ → ℕ} {x : State} (l : IsLinked sum x) {e : Event} (
       let inside : k < length x.open_streams = omega (arith, lt, length-change_where (has_number s) (less_by bytes) x.open_streams) in
       subst (IsOpenStream v)
       (sym (
-      changed-at (less_by bytes) s x.open_streams k d inside
-      ∙ ap (λ t. if t == y.state.stream_identifier then less_by bytes y else y) r.stream
+      changed-at (less_by bytes) s x.open_streams k d inside ∙ ap (λ t. if t == y.state.stream_identifier then less_by bytes y else y) r.stream
       ∙ ap (λ b. if (message_at w n).stream == y.state.stream_identifier then less_by b y else y) r.held
       ))
       (stream-given y (l.open_streams k d inside))

@@ -24,14 +24,11 @@ slots-marked : (w : LinkRecord) (acked : ℕ → Bool) (slots : List Slot) (p : 
     (slice_index_or (set slots p (record (get_or slots p r) { acknowledged = true })) k d) ≡ record (slot_at w k) { acknowledged = and_one acked p k }
 slots-marked w acked slots p r lt i k d within = elim (cases_eq k p) [
   | inl same ↦
-      ap (λ j. slot_record (slice_index_or (set slots p marked) j d)) same
-      ∙ ap slot_record (get_or-set_same slots p marked d lt)
-      ∙ ap acknowledged' (i p r lt)
+      ap (λ j. slot_record (slice_index_or (set slots p marked) j d)) same ∙ ap slot_record (get_or-set_same slots p marked d lt) ∙ ap acknowledged' (i p r lt)
       ∙ ap (λ j. acknowledged' (slot_at w j)) (sym same)
       ∙ ap (λ b. with_mark b (slot_at w k)) (sym (ap (λ b. acked k || b) (eq-eqb k p same) ∙ or-true (acked k)))
   | inr other ↦
-      ap slot_record (get_or-set_other slots p k marked d other)
-      ∙ i k d (omega (arith, within, length-set slots p marked))
+      ap slot_record (get_or-set_other slots p k marked d other) ∙ i k d (omega (arith, within, length-set slots p marked))
       ∙ ap (λ b. with_mark b (slot_at w k)) (sym (ap (λ b. acked k || b) (ne_eqb k p other) ∙ or-none (acked k)))
 ]
   where
@@ -57,8 +54,7 @@ join l a b c a' b' c' e f g h = rw (e, f, g) h
 -- one slot more at its end
 pub run-more : (acked : ℕ → Bool) (from p : ℕ) → from ≤ p → (k : ℕ) → and_one (and_run acked from p) p k ≡ and_run acked from (p + 1) k
 run-more acked from p le k =
-    or_assoc (acked k) (nat_le from k && nat_lt k p) (k == p)
-    ∙ ap (λ b. acked k || b) (elim (cases_lt k p) [
+    or_assoc (acked k) (nat_le from k && nat_lt k p) (k == p) ∙ ap (λ b. acked k || b) (elim (cases_lt k p) [
       | inl low ↦ join (nat_le from k) (nat_lt k p) (k == p) (nat_lt k (p + 1)) true false true (lt-ltb k p low) (ne_eqb k p (λ e. omega (arith, low, e)))
           (lt-ltb k (p + 1) (omega (arith, low))) (or-none (nat_le from k && true))
       | inr high ↦ elim (cases_eq k p) [

@@ -33,8 +33,7 @@ reports-at : (w : LinkRecord) (s : Sack) (top k : ℕ) (x : ChunkPayloadData) �
 reports-at w s top k x first short near cum tsn =
     ap (λ t. at_or_before t s.cumulative_tsn_ack || is_in_blocks s.gap_ack_blocks (distance s.cumulative_tsn_ack t)) tsn
     ∙ ap (λ c. at_or_before (tsn_of w k) c || is_in_blocks s.gap_ack_blocks (distance c (tsn_of w k))) cum
-    ∙ ap (λ b. b || is_in_blocks s.gap_ack_blocks (distance (cumulative_tsn w top) (tsn_of w k))) (at-top w top k first short near)
-    ∙ elim (cases_lt k top) [
+    ∙ ap (λ b. b || is_in_blocks s.gap_ack_blocks (distance (cumulative_tsn w top) (tsn_of w k))) (at-top w top k first short near) ∙ elim (cases_lt k top) [
       | inl lt ↦ either (nat_lt k top) _ _ (lt-ltb k top lt)
       | inr le ↦ ap (λ b. nat_lt k top || b) (ap (is_in_blocks s.gap_ack_blocks) (far w top k first le near) ∙ covered-at top k s.gap_ack_blocks le)
     ]

@@ -50,8 +50,7 @@ pub reads-sack : {sum : List ℕ → ℕ} {x : State} (ds : List Datagram) (k : 
     → slice_get x.recorded.network k ≡ Some (Sack r) → ReadsPacket sum d.bytes (packet_with (sack_chunk (wire_sack x.recorded r) ∷ []))
 reads-sack {sum} {x} ds k d r l network bytes is there =
     let encoding = l.encodings k [] (Sack r) there in
-    let here : slice_index_or x.datagrams k [] ≡ d.bytes = ap (λ n. slice_index_or n k []) bytes
-    ∙ get_or-map (λ (y : Datagram). y.bytes) ds k d []
+    let here : slice_index_or x.datagrams k [] ≡ d.bytes = ap (λ n. slice_index_or n k []) bytes ∙ get_or-map (λ (y : Datagram). y.bytes) ds k d []
     (omega (arith, slice_get_within x.recorded.network k (Sack r) there, ap length network, length-mapped datagram_record ds))
     ∙ ap (λ (y : Datagram). y.bytes) (sym is) in
     subst (λ b. ReadsPacket sum b (packet_with (sack_chunk (wire_sack x.recorded r) ∷ []))) here encoding.reads
@@ -114,9 +113,7 @@ slots-then {w} r {xs} i =
     (after_acked w (Some (Sack r))).slots (length-mapped slot_record xs ∙ i.count ∙ sym (length-numbered (acknowledged_by r) 0 w.slots)) (λ k lt.
     let here : k < length xs = omega (arith, lt, length-mapped slot_record xs) in
     let made : k < length w.slots = omega (arith, here, i.count) in
-    get_or-map slot_record xs k none no_slot here
-    ∙ i.slots k none here
-    ∙ ap (λ j. acknowledged_by r j (slot_at w k)) (let z : k ≡ 0 + k = omega arith in z)
+    get_or-map slot_record xs k none no_slot here ∙ i.slots k none here ∙ ap (λ j. acknowledged_by r j (slot_at w k)) (let z : k ≡ 0 + k = omega arith in z)
     ∙ sym (numbered-at (acknowledged_by r) 0 k w.slots no_slot made))
   where
     none : Slot
@@ -233,8 +230,7 @@ module _ {sum : List ℕ → ℕ} {x : State} (k : ℕ) (r : Report) (l : IsLink
     -- beyond it both report the same
     beyond : (j : ℕ) → top ≤ j → list_any (in_block top j) s.gap_ack_blocks ≡ list_any (in_block r.cumulative j) (map block_of r.blocks)
     beyond j le =
-        sym (covered-at top j s.gap_ack_blocks le)
-        ∙ covers (j + 1 - top) (omega (arith, le))
+        sym (covered-at top j s.gap_ack_blocks le) ∙ covers (j + 1 - top) (omega (arith, le))
         ∙ ap (is_in_blocks (map block_of r.blocks)) (let z : j + 1 - top + (top - r.cumulative) ≡ j + 1 - r.cumulative = omega (arith, le, top_is) in z)
         ∙ covered-at r.cumulative j (map block_of r.blocks) (omega (arith, le, top_is))
 

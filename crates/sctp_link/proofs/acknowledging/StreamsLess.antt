@@ -15,8 +15,7 @@ streams-less : (ls : List OpenStream) (s n k : ℕ) (d : OpenStream) → k < len
     ≡ with_amount ((slice_index_or ls k d).state.buffered_amount - (if s == (slice_index_or ls k d).state.stream_identifier then n else 0))
     (slice_index_or ls k d)
 streams-less ls s n k d lt =
-    ap (λ ys. slice_index_or ys k d) (change_where-map (has_number s) (less_by n) ls)
-    ∙ map-at (λ x. if has_number s x then less_by n x else x) k ls d lt
+    ap (λ ys. slice_index_or ys k d) (change_where-map (has_number s) (less_by n) ls) ∙ map-at (λ x. if has_number s x then less_by n x else x) k ls d lt
     ∙ one (slice_index_or ls k d)
   where
     by : (x : OpenStream) (b : Bool) → (if b then less_by n x else x) ≡ with_amount (x.state.buffered_amount - (if b then n else 0)) x

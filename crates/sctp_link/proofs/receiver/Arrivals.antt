@@ -31,8 +31,7 @@ module _ (ps : List ℕ) (bs : List Arrival) (i : ℕ) (inside : i < length ps) 
     pub repeated-again : (ds : List ℕ)
         → (ds ++ slice_index_or ps i 0 ∷ []) ++ repeated_of (drop (i + 1) ps) (drop (i + 1) bs) ≡ ds ++ repeated_of (drop i ps) (drop i bs)
     repeated-again ds =
-        append_assoc ds (slice_index_or ps i 0 ∷ []) (repeated_of (drop (i + 1) ps) (drop (i + 1) bs))
-        ∙ ap (λ rs. ds ++ rs)
+        append_assoc ds (slice_index_or ps i 0 ∷ []) (repeated_of (drop (i + 1) ps) (drop (i + 1) bs)) ∙ ap (λ rs. ds ++ rs)
         (sym (ap (λ qs. repeated_of qs (drop i bs)) places-left ∙ ap (repeated_of (slice_index_or ps i 0 ∷ drop (i + 1) ps)) (answers-left Repeat e)))
 
     pub any-again : list_any is_first (drop (i + 1) bs) ≡ list_any is_first (drop i bs)

@@ -109,8 +109,7 @@ filter-new {w} p f then' valid made new is e =
 pub filter-again : (w : LinkRecord) (p : ℕ) (f then' : Filter) → is_new w p ≡ false → filter_shown f ≡ filter_of w → then' ≡ with_duplicate (tsn_of w p) f
     → filter_shown then' ≡ filter_of (receive_slot w p)
 filter-again w p f then' old is e =
-    ap filter_shown e
-    ∙ ap {B = FilterRecord} (λ (r : FilterRecord). record r { duplicates = r.duplicates ++ tsn_of w p ∷ [] }) is
+    ap filter_shown e ∙ ap {B = FilterRecord} (λ (r : FilterRecord). record r { duplicates = r.duplicates ++ tsn_of w p ∷ [] }) is
     ∙ sym (SlotArrives.repeated-filter w p old)
 
 -- all up to a TSN counts as come
@@ -118,10 +117,7 @@ pub filter-gone : (w v : LinkRecord) (tsn : ℕ) (f then' : Filter) → filter_s
     → seen_of v ≡ advance_over tsn (filter (λ t. not (at_or_before t tsn)) (seen_of w).held) → (filter_of v).duplicates ≡ (filter_of w).duplicates
     → filter_shown then' ≡ filter_of v
 filter-gone w v tsn f then' is e seen same =
-    ap filter_shown e
-    ∙ ap (gone tsn) is
-    ∙ ap (seen-with (filter_of w).duplicates) (sym seen)
-    ∙ ap (λ d. seen-with d (seen_of v)) (sym same)
+    ap filter_shown e ∙ ap (gone tsn) is ∙ ap (seen-with (filter_of w).duplicates) (sym seen) ∙ ap (λ d. seen-with d (seen_of v)) (sym same)
 
 -- ## What a SACK says of it
 

@@ -324,10 +324,8 @@ module _ {sum : List ℕ → ℕ} {x : State} (l : IsLinked sum x) (s at : ℕ) 
           let read = y.inbound.stats in
           ap (λ o. both_ways sent (count_read o read)) e
           ∙ ap (λ p. both_ways sent (with_received (counted_as p (bytes_of set.chunks)) read)) (ap (λ (c : ChunkSet). c.ppi) read-is.2 ∙ ppi-handed w read-is.0)
-          ∙ ap (λ k. both_ways sent (with_received (counted_as ppi k) read)) bytes-read
-          ∙ read-both (counted_as ppi len) sent read
-          ∙ ap (with_received (counted_as ppi len)) ((l.open_streams at d lt).stats ∙ ap (λ t. stats_of (counters_on w t)) (id-at d))
-          ∙ counted-read ppi len w s
+          ∙ ap (λ k. both_ways sent (with_received (counted_as ppi k) read)) bytes-read ∙ read-both (counted_as ppi len) sent read
+          ∙ ap (with_received (counted_as ppi len)) ((l.open_streams at d lt).stats ∙ ap (λ t. stats_of (counters_on w t)) (id-at d)) ∙ counted-read ppi len w s
           ∙ ap stats_of (sym (counters-at s ∙ ap (λ b. if b then received_more (counted_as (message_at w read-is.0).ppi (length (message_at w read-is.0).bytes))
           (counters_on w s) else counters_on w s) (same-yes s)))
 

@@ -140,8 +140,7 @@ module _ {sum : List ℕ → ℕ} {x : State} (l : IsLinked sum x) (at s : ℕ) 
   high-back i some e =
       let same : length (slice_index_or x.open_streams at d).inbound.queue.held.ordered ≡ length (held_on x.recorded s) = ap length stream-ordered
       ∙ sets-held x.recorded s in
-      ap (max (slice_index_or x.open_streams at d).next) e
-      ∙ ap (λ n. max n (index_of x.recorded
+      ap (max (slice_index_or x.open_streams at d).next) e ∙ ap (λ n. max n (index_of x.recorded
       (slice_index_or (held_on x.recorded s) (length (slice_index_or x.open_streams at d).inbound.queue.held.ordered - 1) 0))) stream-next
       ∙ ap (λ k. max (next_of x.recorded s) (index_of x.recorded (slice_index_or (held_on x.recorded s) (k - 1) 0))) same
       ∙ sym (highest-back x.recorded s 0 (omega (arith, some, same)))

@@ -223,8 +223,7 @@ module _ {w : LinkRecord} {x : Sides} (r : IsReceiver w x) (p : ℕ) (c : ChunkP
         shown-is : (b : Bool) → becomes_complete (with_arrived w p) n ≡ b
             → stream_record z ≡ shown y.named y.state (if b then y.complete ++ n ∷ [] else y.complete)
         shown-is b h =
-            ap (λ (t : StreamState). shown z.named t z.complete) state-is
-            ∙ ap (λ n. shown n y.state z.complete) (ap (λ (l : OpenStream). l.named) keeps.rest)
+            ap (λ (t : StreamState). shown z.named t z.complete) state-is ∙ ap (λ n. shown n y.state z.complete) (ap (λ (l : OpenStream). l.named) keeps.rest)
             ∙ ap (shown y.named y.state) (ap (λ (l : OpenStream). l.complete) keeps.rest ∙ ap (λ c. if c then y.complete ++ number ∷ []
             else y.complete) (holds.noted ∙ h) ∙ ap (λ i. if b then y.complete ++ i ∷ [] else y.complete) number_is)
 

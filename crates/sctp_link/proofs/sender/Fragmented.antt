@@ -33,8 +33,7 @@ module _ (w : LinkRecord) (s : StreamState) (r : StreamRecord) (ppi : PayloadPro
 
   one-waits : (i : ℕ) → with_message_id (length w.messages) (made s ppi bytes i) ≡ waiting_at v (length w.messages) i
   one-waits i =
-      ap (λ (t : ℕ). record (with_message_id (length w.messages) (made s ppi bytes i)) { stream_identifier = t }) (sym number)
-      ∙ ap (λ t.
+      ap (λ (t : ℕ). record (with_message_id (length w.messages) (made s ppi bytes i)) { stream_identifier = t }) (sym number) ∙ ap (λ t.
       record (built w r ppi bytes i (is_ordered s.unordered ppi) s.max_payload_size s.sequence_number) { reliability = Some (t, s.reliability_value) })
       (sym reliability)
       ∙ ap (λ t. record (built w r ppi bytes i (is_ordered s.unordered ppi) s.max_payload_size s.sequence_number) { reliability = Some (r.reliability, t) })
@@ -50,8 +49,7 @@ module _ (w : LinkRecord) (s : StreamState) (r : StreamRecord) (ppi : PayloadPro
       let complete : fragment_count v n ≡ fragment_count v n - 0 = omega arith in
       let count : fragment_count v n ≡ length (pieces (length bytes) w.setup.size bytes) = ap (λ m. length (pieces (length m.bytes) w.setup.size m.bytes))
       (Waiting.message-new w (message_on w r ppi bytes)) in
-      ap (map (with_message_id n)) (fragments-made s ppi bytes)
-      ∙ map-twice (with_message_id n) (made s ppi bytes) (numbers_from 0 (length (pieces_of s bytes)))
+      ap (map (with_message_id n)) (fragments-made s ppi bytes) ∙ map-twice (with_message_id n) (made s ppi bytes) (numbers_from 0 (length (pieces_of s bytes)))
       ∙ map-all (λ i. with_message_id n (made s ppi bytes i)) (waiting_at v n) (numbers_from 0 (length (pieces_of s bytes))) one-waits
       ∙ ap (λ k. map (waiting_at v n) (numbers_from 0 (length (pieces (length bytes) k bytes)))) size
       ∙ ap (λ k. map (waiting_at v n) (numbers_from 0 k)) (sym count ∙ complete)

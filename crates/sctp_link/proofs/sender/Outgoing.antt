@@ -117,8 +117,7 @@ module _ {sum : List ℕ → ℕ} {x : State} (l : IsLinked sum x) (tsn : ℕ) (
     open_streams = λ k d lt. stream-same (slice_index_or x.open_streams k d)
         (record { setup = refl; held = refl; ordered = refl; next = refl; amount = refl; counters = refl }) refl (l.open_streams k d lt);
     apart = l.apart;
-    encodings =
-        encodings-more l (E.Resend tsn) ok (W.Data (p ∷ [])) bytes refl count (says-data sum v p bytes (data_of c) (resend-says c e) encoding reads);
+    encodings = encodings-more l (E.Resend tsn) ok (W.Data (p ∷ [])) bytes refl count (says-data sum v p bytes (data_of c) (resend-says c e) encoding reads);
   }
     where
       v : LinkRecord

@@ -141,9 +141,7 @@ module _ {sum : List ℕ → ℕ} {x : State} (l : IsLinked sum x) (now n : ℕ)
 
   sent-moves : after_send w now ≡ v
   sent-moves =
-      ap (send_from u) fr
-      ∙ ap (λ k. with_datagram z (W.Data (numbers_from (length x.recorded.slots) k))) many
-      ∙ ap (λ y. with_datagram y (W.Data places)) only
+      ap (send_from u) fr ∙ ap (λ k. with_datagram z (W.Data (numbers_from (length x.recorded.slots) k))) many ∙ ap (λ y. with_datagram y (W.Data places)) only
 
   pub send-right : (ssn : ℕ) → ssn ≡ ssn_of w n → IsRight w (E.Send now) (R.Sent (length w.network) x.next_tsn ssn (length cs)) v
   send-right ssn e = record {
@@ -184,10 +182,8 @@ module _ {sum : List ℕ → ℕ} {x : State} (l : IsLinked sum x) (now n : ℕ)
   pub recorded-is : (rs : List StreamRecord) (ms : List Message) (ss : List Slot) (ns : List W.Datagram) → rs ≡ w.streams → ms ≡ u.messages → ss ≡ z.slots
       → ns ≡ w.network ++ W.Data places ∷ [] → record w { streams = rs; messages = ms; slots = ss; network = ns } ≡ v
   recorded-is rs ms ss ns r a b c =
-      ap (λ t. record w { streams = t; messages = ms; slots = ss; network = ns }) r
-      ∙ ap (λ m. record w { messages = m; slots = ss; network = ns }) a
-      ∙ ap (λ m. record u { slots = m; network = ns }) b
-      ∙ ap (λ m. record u { slots = z.slots; network = m }) c
+      ap (λ t. record w { streams = t; messages = ms; slots = ss; network = ns }) r ∙ ap (λ m. record w { messages = m; slots = ss; network = ns }) a
+      ∙ ap (λ m. record u { slots = m; network = ns }) b ∙ ap (λ m. record u { slots = z.slots; network = m }) c
 
   module _ (states : List StreamState) (inbounds : List InboundStream) (s : Outgoing)
       (b : Between states inbounds x now (send_fragments (after_start x.recorded now)) s) (bytes : List ℕ)

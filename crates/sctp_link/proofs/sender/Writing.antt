@@ -80,8 +80,7 @@ module _ {sum : List ℕ → ℕ} {x : State} (l : IsLinked sum x) (s : ℕ) (pp
 
     stream-is : stream_of w s ≡ stream_record m
     stream-is =
-        ap (λ rs. unwrap_or (find (λ r. r.stream == s) rs) (no_stream s)) streams
-        ∙ ap (λ o. unwrap_or o (no_stream s)) (stream-found s x.open_streams)
+        ap (λ rs. unwrap_or (find (λ r. r.stream == s) rs) (no_stream s)) streams ∙ ap (λ o. unwrap_or o (no_stream s)) (stream-found s x.open_streams)
         ∙ ap (λ o. unwrap_or (option_map stream_record o) (no_stream s)) here
 
     abbrev msg : W.Message
@@ -94,13 +93,11 @@ module _ {sum : List ℕ → ℕ} {x : State} (l : IsLinked sum x) (s : ℕ) (pp
     message-is : message_record kept ≡ msg
     message-is =
         ap (λ t. message_record (message_written t (written_of m ppi) ppi bytes)) (sym own)
-        ∙ ap (λ k. record (message_on w (stream_record m) ppi bytes) { before = k }) i.ordered
-        ∙ ap (λ r. message_on w r ppi bytes) (sym stream-is)
+        ∙ ap (λ k. record (message_on w (stream_record m) ppi bytes) { before = k }) i.ordered ∙ ap (λ r. message_on w r ppi bytes) (sym stream-is)
 
     pub messages-wrote : (ms more : List Message) → w.messages ≡ map message_record ms → more ≡ ms ++ kept ∷ [] → map message_record more ≡ v.messages
     messages-wrote ms more em e =
-        ap (map message_record) e ∙ map-append message_record ms (kept ∷ [])
-        ∙ ap (λ a. a ++ message_record kept ∷ []) (sym em)
+        ap (map message_record) e ∙ map-append message_record ms (kept ∷ []) ∙ ap (λ a. a ++ message_record kept ∷ []) (sym em)
         ∙ ap (λ a. w.messages ++ a ∷ []) message-is
 
     -- ## The streams

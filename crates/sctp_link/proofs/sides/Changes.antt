@@ -87,9 +87,7 @@ same-found s ls l apart found f g same =
     let p = placed s ls l found in
     let here = p.1.1 l in
     let num : (slice_index_or ls p.0 l).state.stream_identifier ≡ s = ap (λ (x : OpenStream). x.state.stream_identifier) here ∙ number-found s ls l found in
-    sym (changed-found s ls apart f p.0 l p.1.0 num)
-    ∙ ap (set ls p.0) (ap f here ∙ same ∙ sym (ap g here))
-    ∙ changed-found s ls apart g p.0 l p.1.0 num
+    sym (changed-found s ls apart f p.0 l p.1.0 num) ∙ ap (set ls p.0) (ap f here ∙ same ∙ sym (ap g here)) ∙ changed-found s ls apart g p.0 l p.1.0 num
 
 -- what is recorded of a write, by its parts
 pub recorded : (w : Written) (s : StreamState) (ppi : PayloadProtocolIdentifier) (before : ℕ) (l : OpenStream) → w.ordered ≡ is_ordered s.unordered ppi

@@ -87,8 +87,7 @@ takes-one {t} {r} {ps} a apart c n (New b) x h =
       kept = kept;
       keeps = record { complete = b; ordered_queue = pushed.ordered; unordered_queue = pushed.unordered; rest = refl };
       after =
-          ap (λ zs. let z : Sides = record (sides t x (after_one c n (New b) ps)) { streams = zs } in z) streams
-          ∙ ap (λ (w : Reception). let z : Sides =
+          ap (λ zs. let z : Sides = record (sides t x (after_one c n (New b) ps)) { streams = zs } in z) streams ∙ ap (λ (w : Reception). let z : Sides =
           record (on_stream s (λ _. kept) (sides t r ps)) { cumulative_tsn = w.cumulative_tsn; beyond = w.beyond; duplicates = w.duplicates } in z) h.after;
     }
 

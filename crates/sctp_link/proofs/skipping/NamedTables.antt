@@ -54,8 +54,7 @@ module _ (ms : List Message) (n : ℕ) where
   on-none : (s : ℕ) → length ms ≤ n → is_on ms s n ≡ false
   on-none s le =
       ap (λ m. (m.stream == s) && (m.ordered && not m.expired))
-      (get-beyond (map message_record ms) n no_message (omega (arith, le, length-mapped message_record ms)))
-      ∙ off ((no_message).stream == s)
+      (get-beyond (map message_record ms) n no_message (omega (arith, le, length-mapped message_record ms))) ∙ off ((no_message).stream == s)
     where
       off : (b : Bool) → (b && false) ≡ false
       off true = refl

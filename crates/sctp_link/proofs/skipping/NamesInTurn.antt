@@ -83,7 +83,6 @@ module _ {sum : List ℕ → ℕ} {x : State} (l : IsLinked sum x) (k upto : ℕ
       let skips = skips-in l k upto names e in
       let sp = spans l k upto names none e counts s (ap is_some o) in
       let ssns = names-in-turn w upto s names f.consistent.sender skips.fit in
-      held-each (ssns_of s (pairs_of w names)) q
-      ∙ ap (λ is. held_after_ordered_skips is q.held) ssns
+      held-each (ssns_of s (pairs_of w names)) q ∙ ap (λ is. held_after_ordered_skips is q.held) ssns
       ∙ ap (held_after_ordered_skips (map (λ n. index_of w n % 2 ^ 16) (on_stream w s names))) held
       ∙ skips-in-turn w s upto names r f.valid.valid skips.made counts o sp.0 sp.1

@@ -59,8 +59,7 @@ module _ {sum : List ℕ → ℕ} {x : State} (l : IsLinked sum x) (k upto : ℕ
     pub never-refused : forward_refusal f (reception_of y) ≡ None
     never-refused =
         let t = facts l in
-        ap (λ (g : ForwardTsn). forward_refusal g (reception_of y)) says
-        ∙ ap (λ g. if is_opposite (tsn_of w upto) g then Some TsnOpposite else None) (sym same)
+        ap (λ (g : ForwardTsn). forward_refusal g (reception_of y)) says ∙ ap (λ g. if is_opposite (tsn_of w upto) g then Some TsnOpposite else None) (sym same)
         ∙ ap (λ b. if b then Some TsnOpposite else None) (never-opposite w x.filter t.valid.valid.skipped_made t.few l.filter upto skips.made)
 
     not-stale : at_or_before (tsn_of w upto) y.cumulative_tsn ≡ false
@@ -68,8 +67,7 @@ module _ {sum : List ℕ → ℕ} {x : State} (l : IsLinked sum x) (k upto : ℕ
         let t = facts l in
         let past : nat_le (cumulative w) upto ≡ true = grind (arith, nat_tests) in
         ap (λ (g : Filter). at_or_before (tsn_of w upto) g.cumulative_tsn) (sym same)
-        ∙ passed-is w x.filter t.valid.valid.skipped_made t.few l.filter upto skips.made
-        ∙ ap not past
+        ∙ passed-is w x.filter t.valid.valid.skipped_made t.few l.filter upto skips.made ∙ ap not past
 
     -- the streams discard what is named, and it is recorded how far they were named
     pub sides-then : (ms : List Message) (z u : Sides) → z ≡ after_forward f y → u ≡ record z { streams = map (with_names ms names) z.streams }
@@ -103,8 +101,7 @@ module _ {sum : List ℕ → ℕ} {x : State} (l : IsLinked sum x) (k upto : ℕ
     pub recorded-skipped : (skipped : ℕ) → skipped ≡ upto + 1 → record w { streams = map stream_record (map turned x.open_streams); skipped = skipped } ≡ v
     recorded-skipped skipped same =
         ap (λ n. record w { streams = map stream_record (map turned x.open_streams); skipped = n }) same
-        ∙ ap (λ rs. record w { streams = rs; skipped = upto + 1 }) (streams-are x.open_streams ∙ ap (map (named_by w names)) (sym streams_are))
-        ∙ sym after-is
+        ∙ ap (λ rs. record w { streams = rs; skipped = upto + 1 }) (streams-are x.open_streams ∙ ap (map (named_by w names)) (sym streams_are)) ∙ sym after-is
 
     -- ## The streams
 

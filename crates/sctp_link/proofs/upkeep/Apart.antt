@@ -60,8 +60,7 @@ pub streams-set : (ls : List OpenStream) (k : ℕ) (y d : OpenStream) (f : Strea
 streams-set [] k y d f a lt e = absurd (omega arith)
 streams-set (l ∷ ls) zero y d f a lt e =
     let s = l.state.stream_identifier in
-    ap (λ r. r ∷ map stream_record ls) e
-    ∙ ap (λ rs. f (stream_record l) ∷ rs) (sym (untouched s f ls a.0))
+    ap (λ r. r ∷ map stream_record ls) e ∙ ap (λ rs. f (stream_record l) ∷ rs) (sym (untouched s f ls a.0))
     ∙ ap (λ b. (if b then f (stream_record l) else stream_record l) ∷ map (λ r. if r.stream == s then f r else r) (map stream_record ls)) (sym (same-yes s))
 streams-set (l ∷ ls) (suc k) y d f a lt e =
     let s = (slice_index_or ls k d).state.stream_identifier in

@@ -17,8 +17,7 @@ fields-same f g e s (l ∷ ls) = ap (λ x. x ∷ map f (change_where (has_number
 pub changed-at : (g : OpenStream → OpenStream) (s : ℕ) (ls : List OpenStream) (k : ℕ) (d : OpenStream) → k < length ls → slice_index_or
     (change_where (has_number s) g ls) k d ≡ (if s == (slice_index_or ls k d).state.stream_identifier then g (slice_index_or ls k d) else slice_index_or ls k d)
 changed-at g s ls k d lt =
-    ap (λ ys. slice_index_or ys k d) (change_where-map (has_number s) g ls)
-    ∙ map-at (λ x. if has_number s x then g x else x) k ls d lt
+    ap (λ ys. slice_index_or ys k d) (change_where-map (has_number s) g ls) ∙ map-at (λ x. if has_number s x then g x else x) k ls d lt
     ∙ ap (λ b. if b then g (slice_index_or ls k d) else slice_index_or ls k d) (same-turned (slice_index_or ls k d).state.stream_identifier s)
 
 -- so their records change

@@ -8,8 +8,7 @@ returns-in_err-packet-clause-memory g c =
     rw (p.1, p.2) only
 
 pub data_chunks-requires-clause-data : goal.data_chunks-requires-clause-data
-data_chunks-requires-clause-data g c =
-    (c.requires.0, ap (λ p. p.chunks) (c.in_ok-packet.ensures.only (packet_with (map data_chunk c.requires.0)) c.requires.1))
+data_chunks-requires-clause-data g c = (c.requires.0, ap (λ p. p.chunks) (c.in_ok-packet.ensures.only (packet_with (map data_chunk c.requires.0)) c.requires.1))
 
 pub returns-clause-chunks : goal.returns-clause-chunks
 returns-clause-chunks g c =

@@ -1,7 +1,6 @@
-use Rattle.std.proofs.Common.{◌≡◌, ◌+◌, ◌<◌, ◌∷◌, length, drop, ap, subst, add-one, drop-cons}
-use Rattle.std.specs.Prelude.{slice_index_or}
-use Rattle.std.proofs.lemmas.List.{drop_all}
-use Rattle.sctp_link.specs.Skips.{named_from, HasNames}
+use Rattle.sctp_link.proofs.Names.{◌≡◌, ◌+◌, ◌<◌, ◌∷◌, length, drop, ap, add-one, slice_index_or, drop_all, named_from}
+use Rattle.std.proofs.Common.{subst, drop-cons}
+use Rattle.sctp_link.specs.Skips.{HasNames}
 use Rattle.sctp_link.proofs.skipped.named_on_each.Goals as goal
 
 pub loop-number-init : goal.loop-number-init

@@ -1,4 +1,4 @@
-use Rattle.std.proofs.Common.{drop}
+use Rattle.sctp_link.proofs.Names.{drop}
 use Rattle.sctp_link.specs.Skips.{HasNames}
 use Rattle.sctp_link.proofs.skipped.named_on_each.Given as goal
 

@@ -1,6 +1,5 @@
-use Rattle.std.proofs.Common.{◌<◌, ◌≤◌, length, sym, subst, arith}
-use Rattle.std.specs.Prelude.{slice_set}
-use Rattle.std.proofs.lemmas.Bool.Decides.{nat_tests}
+use Rattle.sctp_link.proofs.Names.{◌<◌, ◌≤◌, length, sym, arith, slice_set, nat_tests}
+use Rattle.sctp_link.proofs.Names.{subst}
 use Rattle.sctp_link.specs.Skips.{HasNames}
 use Rattle.sctp_link.proofs.skipping.NamedTables.{named-none, named-absent, named-past, named-put}
 use Rattle.sctp_link.proofs.skipped.put_name.Goals as goal

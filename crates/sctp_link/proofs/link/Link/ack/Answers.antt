@@ -29,7 +29,8 @@ invariant_of-self-2 g c =
     let kept : c.in_ok-blocks.blocks.items ≡ s.gap_ack_blocks = search rules in
     let noted : c.in_ok-duplicates.duplicates.items ≡ take (length s.duplicate_tsn) c.self.inside.duplicates.items = search rules in
     let kind : Kind = K.Sack c.from.result c.args.credit c.in_ok-blocks.blocks c.in_ok-duplicates.duplicates in
-    let more : c.push_reserved.new.self.items ≡ c.self.inside.network.items ++ (let d : Datagram = record { kind = kind; bytes = c.in_ok-bytes.bytes } in d) ∷ [] =
+    let more : c.push_reserved.new.self.items
+    ≡ c.self.inside.network.items ++ (let d : Datagram = record { kind = kind; bytes = c.in_ok-bytes.bytes } in d) ∷ [] =
     search rules in
     let bytes = bytes-more c.self.inside.network.items c.push_reserved.new.self.items kind c.in_ok-bytes.bytes more in
     let network = network-more c.self.inside.network.items c.push_reserved.new.self.items kind c.in_ok-bytes.bytes more in
@@ -43,7 +44,8 @@ invariant_of-self-2 g c =
     let sent = c.sack_sent.ensures in (
       with-receiver c.self.invariant.0 c.sack_sent.new.self (ap (λ (z : Reception). numbers_of z.streams) sent)
           (ap (λ (z : Reception). z.max_message_size) sent) (ap (λ (z : Reception). z.limits) sent),
-      subst (λ (z : Reception). IsLinked sum (state_in (record c.self.inside { receiver = z; network = c.push_reserved.new.self; duplicates = c.clear.new.self })))
+      subst (λ (z : Reception).
+          IsLinked sum (state_in (record c.self.inside { receiver = z; network = c.push_reserved.new.self; duplicates = c.clear.new.self })))
           (sym sent) (moved _ _ (after_ack (record_in c.self.inside) c.args.credit) moves (rw bytes (linked-ack c.self.invariant.1 c.args.credit _
           s.gap_ack_blocks refl cut (length s.duplicate_tsn) counted s c.in_ok-bytes.bytes (record (filter_of r) { duplicates = [] }) tsn (ap (λ (t : Sack).
           t.advertised_receiver_window_credit) is) refl (answered-is c.self.invariant.1 c.args.credit r refl s is) (search rules) (search rules) len refl))),
@@ -59,7 +61,8 @@ returns-clause-ok g c =
     let kept : c.in_ok-blocks.blocks.items ≡ s.gap_ack_blocks = search rules in
     let noted : c.in_ok-duplicates.duplicates.items ≡ take (length s.duplicate_tsn) c.self.inside.duplicates.items = search rules in
     let kind : Kind = K.Sack c.from.result c.args.credit c.in_ok-blocks.blocks c.in_ok-duplicates.duplicates in
-    let more : c.push_reserved.new.self.items ≡ c.self.inside.network.items ++ (let d : Datagram = record { kind = kind; bytes = c.in_ok-bytes.bytes } in d) ∷ [] =
+    let more : c.push_reserved.new.self.items
+    ≡ c.self.inside.network.items ++ (let d : Datagram = record { kind = kind; bytes = c.in_ok-bytes.bytes } in d) ∷ [] =
     search rules in
     let network = network-more c.self.inside.network.items c.push_reserved.new.self.items kind c.in_ok-bytes.bytes more in
     let tsn : c.in-Ok.sack.cumulative_tsn_ack ≡ c.self.inside.receiver.cumulative_tsn = ap (λ (t : Sack). t.cumulative_tsn_ack) is in

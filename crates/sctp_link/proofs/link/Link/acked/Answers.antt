@@ -67,8 +67,7 @@ answered g c t =
     ≡ is_in_blocks (wire_sack (record_in c.self.inside) t.report).gap_ack_blocks (n + (top - t.report.cumulative)) =
     λ n pos. c.rebase.ensures.covers n pos ∙ ap (λ bs.
     is_in_blocks bs (n + (top - (((c.in_ok-sack.sack.cumulative_tsn_ack + (2 ^ 32 - c.self.inside.first_tsn)) % 2 ^ 32 + 1) % 2 ^ 32))))
-    (ap (λ s. s.gap_ack_blocks) t.says)
-    ∙ ap (λ m. is_in_blocks (wire_sack (record_in c.self.inside) t.report).gap_ack_blocks (n + (top - m))) t.count in
+    (ap (λ s. s.gap_ack_blocks) t.says) ∙ ap (λ m. is_in_blocks (wire_sack (record_in c.self.inside) t.report).gap_ack_blocks (n + (top - m))) t.count in
     let begin = c.rebase.ensures.begin in
     let first = marking-first c.self.inside.slots.items l refl in
     record {

@@ -64,8 +64,7 @@ apart : (g : Over) (c : After-index g) → IsApart (numbers_of c.self.inside.sen
 apart g c = subst IsApart (Aligned.numbers-are c.self.invariant.0) c.self.invariant.1.apart
 
 -- All of them come.
-done : (g : Over) (c : In-Ok g) → refusal_of (record_in c.self.inside) (E.Arrive c.args.k) ≡ None
-    → IsApart (numbers_of c.self.inside.sender.streams)
+done : (g : Over) (c : In-Ok g) → refusal_of (record_in c.self.inside) (E.Arrive c.args.k) ≡ None → IsApart (numbers_of c.self.inside.sender.streams)
     → Handed c.self.inside c.args.k c.in-Data.places.items c.deref-3.result.now c.deref-4.result.now → Came (record_in c.self.inside) (sides_in c.self.inside)
     c.in-Data.places.items c.in-Ok.arrivals.items (sides c.self.inside.sender c.data_each.new.receiver c.data_each.new.self)
 done g c ok apart' h =
@@ -100,8 +99,7 @@ recorded g c d =
           ∙ sym (ap (map slot_record) (with_items_is c.self.inside.slots c.record_arrivals-new.new.slots same ∙ arrived.slots
           ∙ ap (λ qs. arrived_in qs c.deref-6.result.now c.deref_mut.result.now) c.deref-5.ensures.value
           ∙ ap (λ cs. arrived_in ps cs c.deref_mut.result.now) c.deref-6.ensures.value ∙ ap (arrived_in ps bs) c.deref_mut.ensures.value));
-      dups_are = d.duplicates ∙ sym (arrived.duplicates
-          ∙ ap (λ ds. ds ++ repeated_of c.deref-5.result.now c.deref-6.result.now) c.in_ok-reserve.ensures.items
+      dups_are = d.duplicates ∙ sym (arrived.duplicates ∙ ap (λ ds. ds ++ repeated_of c.deref-5.result.now c.deref-6.result.now) c.in_ok-reserve.ensures.items
           ∙ ap (λ qs. c.self.inside.duplicates.items ++ repeated_of qs c.deref-6.result.now) c.deref-5.ensures.value
           ∙ ap (λ cs. c.self.inside.duplicates.items ++ repeated_of ps cs) c.deref-6.ensures.value);
     }
@@ -126,8 +124,7 @@ unreachable-requires g c =
 -- each place is that of a slot
 inside : (g : Over) (c : In-Data g) → slice_get (record_in c.self.inside).network c.args.k ≡ Some (Data c.in-Data.places.items)
     → (i : ℕ) → i < length c.in-Data.places.items → slice_index_or c.in-Data.places.items i 0 < length c.self.inside.slots.items
-inside g c t i lt =
-    omega (arith, all-inside c.self.invariant.1 c.args.k c.in-Data.places.items t i lt, length-mapped slot_record c.self.inside.slots.items)
+inside g c t i lt = omega (arith, all-inside c.self.invariant.1 c.args.k c.in-Data.places.items t i lt, length-mapped slot_record c.self.inside.slots.items)
 
 pub message_numbers-requires : goal.message_numbers-requires
 message_numbers-requires g c =

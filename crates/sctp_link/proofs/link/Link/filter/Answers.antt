@@ -12,5 +12,4 @@ returns g c =
     (ap (λ t. let r : FilterRecord = record { cumulative = t; held = tsns c.filter.result.now.chunks; duplicates = c.filter.result.now.duplicates } in r) base
     ∙ ap (λ ts. let r : FilterRecord = record { cumulative = c.self.inside.receiver.cumulative_tsn; held = ts; duplicates = c.filter.result.now.duplicates } in
     r) held ∙ ap (λ ds. let r : FilterRecord =
-    record { cumulative = c.self.inside.receiver.cumulative_tsn; held = c.self.inside.receiver.beyond; duplicates = ds } in r) c.filter.ensures.duplicates
-    ∙ f)
+    record { cumulative = c.self.inside.receiver.cumulative_tsn; held = c.self.inside.receiver.beyond; duplicates = ds } in r) c.filter.ensures.duplicates ∙ f)

@@ -79,6 +79,5 @@ returns g c =
     let complete : is_complete first.chunks ≡ true = sym c.is_complete.ensures ∙ c.if-not-is_complete.false in
     let answered : (s n : ℕ) → is_held w s n ≡ true → first ≡ set_of w n → c.index_of.result ≡ index_of w n = rw (← c.self.view_is) at c.index_of.ensures in
     rw (← c.self.view_is)
-    (c.min.ensures ∙ ap (min c.args.low) (answered s (slice_index_or (held_on w s) 0 0) h.0 is)
-    ∙ ap (λ o. min_with o c.args.low)
+    (c.min.ensures ∙ ap (min c.args.low) (answered s (slice_index_or (held_on w s) 0 0) h.0 is) ∙ ap (λ o. min_with o c.args.low)
     (sym (first-at w s count ∙ ap (λ b. if b then Some (index_of w (slice_index_or (held_on w s) 0 0)) else None) (sym set-complete ∙ complete))))

@@ -1,6 +1,6 @@
 use Rattle.sctp_link.proofs.Names.{length-mapped, record_in, sides_in, ◌≡◌, ℕ, ◌<◌, ◌≤◌, ◌+◌, [], Some, refl, ap, sym, ◌∙◌, arith, length, slice_get, Forward}
 use Rattle.sctp_link.proofs.Names.{list_all, take_all, names_fit, stream_record}
-use Rattle.std.proofs.Common.{subst}
+use Rattle.sctp_link.proofs.Names.{subst}
 use Rattle.sctp_link.specs.Skips.{HasNames}
 use Rattle.sctp_link.proofs.sides.Aligned.{count-is}
 use Rattle.sctp_refinement.proofs.Lists.{all-more, all-no}

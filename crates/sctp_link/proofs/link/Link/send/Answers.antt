@@ -61,7 +61,8 @@ invariant_of-self-2 g c =
           c.reserve-3.new.self c.len-count.result c.in-Ok.ensures.ok c.deref_mut.result.now c.deref_mut.ensures.value c.reserve.new.self.items
           c.reserve.ensures.items c.send_fragments.new.sender c.send_fragments.new.progress c.send_fragments.new.messages c.send_fragments.new.slots.items
           c.send_fragments.ensures.leave c.send_fragments.ensures.rest (with_items c.self.inside.messages c.send_fragments.new.messages)
-          (with_items_is c.self.inside.messages c.send_fragments.new.messages kept) c.send_fragments.new.slots refl c.push_reserved.new.self c.in_ok-places.places
+          (with_items_is c.self.inside.messages c.send_fragments.new.messages kept) c.send_fragments.new.slots refl c.push_reserved.new.self
+          c.in_ok-places.places
           c.in_ok-bytes.bytes places (search rules) c.len-self-inside.result c.in_ok-bytes.ensures.encoding c.in_ok-bytes.ensures.reads (search rules),
     )
 

@@ -79,8 +79,7 @@ returns g c =
     rw (← c.self.view_is) (
     ap (λ d. nat_lt d 32768) (c.saturating_sub.ensures
     ∙ ap (λ b. b - c.index_range-low.result.0) (c.max.ensures ∙ ap (λ b. max b m.index) high ∙ ap (max (highest_held w m.stream)) index)
-    ∙ ap (λ b. max (highest_held w m.stream) (index_of w n) - b) low)
-    ∙ fits-new w m.stream (index_of w n) past
+    ∙ ap (λ b. max (highest_held w m.stream) (index_of w n) - b) low) ∙ fits-new w m.stream (index_of w n) past
     ∙ ap (fits w (index_of w n ∷ [])) (sym (ap (λ t. t.stream) m_is))
     ∙ sym (ap (λ b. if b && (message_at w n).ordered then test else true) new ∙ ap (λ b. if b then test else true) kind)
     )

@@ -33,8 +33,7 @@ open-one a at s inside id =
 
 -- What was found of the stream and of the names is what the record has.
 judged-at : {C : Type 0} (a : Inside C) (at s : ℕ) (names : List ℕ) (o : IsOpenAt a at s) (low high : ℕ) (named : Named) → low ≡ lowest_held (record_in a) s
-    → high ≡ highest_held (record_in a) s
-    → ((r : StreamRecord) → slice_get (record_in a).streams at ≡ Some r → named ≡ named_in (record_in a) r.stream names)
+    → high ≡ highest_held (record_in a) s → ((r : StreamRecord) → slice_get (record_in a).streams at ≡ Some r → named ≡ named_in (record_in a) r.stream names)
     → (r : StreamRecord) → slice_get (record_in a).streams at ≡ Some r → Judged (record_in a) s names low high named
 judged-at a at s names o low high named low_is high_is named_is r e =
     judged (record_in a) s names low high named low_is high_is (named_is r e ∙ ap (λ t. named_in (record_in a) t names) (sym (o.there r e)))

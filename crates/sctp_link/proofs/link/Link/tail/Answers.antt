@@ -82,8 +82,7 @@ unreachable-requires g c =
     (past_deadline c.self.invariant.1 c.args.now c.in-Some.chunk.now.message_id (late g (goal.at.unreachable-requires g c).After-make_room))
 
 pub returns-in-Err-clause-wants : goal.returns-in-Err-clause-wants
-returns-in-Err-clause-wants g c =
-    rw (← c.self.view_is) (ap is_some (late g (goal.at.returns-in-Err-clause-wants g c).After-make_room))
+returns-in-Err-clause-wants g c = rw (← c.self.view_is) (ap is_some (late g (goal.at.returns-in-Err-clause-wants g c).After-make_room))
 
 pub index_mut-message-requires : goal.index_mut-message-requires
 index_mut-message-requires g c =

@@ -60,7 +60,8 @@ invariant_of-self-2 g c =
     ap (sides c.write.new.self c.self.inside.receiver) c.record_write.ensures ∙ written-sides c.self.invariant.0 c.args.stream on.0 on.1 c.args.ppi c.args.bytes
     c.write.new.self sent kind (ap (λ (w : Written). w.ordered) written) c.self.invariant.1.apart in
     let kept : c.reserve.new.self.items ≡ c.self.inside.messages.items = search rules in
-    let more : c.push_reserved.new.self.items ≡ c.self.inside.messages.items ++ message_written c.args.stream (written_of on.0 c.args.ppi) c.args.ppi c.args.bytes ∷ [] =
+    let more : c.push_reserved.new.self.items
+    ≡ c.self.inside.messages.items ++ message_written c.args.stream (written_of on.0 c.args.ppi) c.args.ppi c.args.bytes ∷ [] =
     c.push_reserved.ensures.items ∙ ap (λ ms. ms ++ c.message_written.result ∷ []) kept ∙ ap (λ m. c.self.inside.messages.items ++ m ∷ [])
     (c.message_written.ensures ∙ ap (λ w. message_written c.args.stream w c.args.ppi c.args.bytes) written) in
     let count : c.fragments_in-count.result ≡ fragments_in (record_in c.self.inside) c.args.bytes =
@@ -73,7 +74,8 @@ invariant_of-self-2 g c =
         fragments = c.self.inside.fragments + c.fragments_in-count.result;
         written = c.self.inside.written + c.len-len.result;
       }))) (sym both) (linked-wrote c.self.invariant.1 c.args.stream c.args.ppi c.args.bytes some ok refl on.0 on.1 c.self.inside.messages.items
-          c.push_reserved.new.self.items refl refl more _ _ c.fragments_in-count.result refl count (ap (λ n. c.self.inside.written + n) c.len-len.ensures.value)),
+          c.push_reserved.new.self.items refl refl more _ _ c.fragments_in-count.result refl count
+          (ap (λ n. c.self.inside.written + n) c.len-len.ensures.value)),
     )
 
 pub returns-clause-ok : goal.returns-clause-ok
@@ -92,7 +94,8 @@ returns-clause-ok g c =
     ap (sides c.write.new.self c.self.inside.receiver) c.record_write.ensures ∙ written-sides c.self.invariant.0 c.args.stream on.0 on.1 c.args.ppi c.args.bytes
     c.write.new.self sent kind (ap (λ (w : Written). w.ordered) written) c.self.invariant.1.apart in
     let kept : c.reserve.new.self.items ≡ c.self.inside.messages.items = search rules in
-    let more : c.push_reserved.new.self.items ≡ c.self.inside.messages.items ++ message_written c.args.stream (written_of on.0 c.args.ppi) c.args.ppi c.args.bytes ∷ [] =
+    let more : c.push_reserved.new.self.items
+    ≡ c.self.inside.messages.items ++ message_written c.args.stream (written_of on.0 c.args.ppi) c.args.ppi c.args.bytes ∷ [] =
     c.push_reserved.ensures.items ∙ ap (λ ms. ms ++ c.message_written.result ∷ []) kept ∙ ap (λ m. c.self.inside.messages.items ++ m ∷ [])
     (c.message_written.ensures ∙ ap (λ w. message_written c.args.stream w c.args.ppi c.args.bytes) written) in
     let count : c.fragments_in-count.result ≡ fragments_in (record_in c.self.inside) c.args.bytes =
@@ -101,5 +104,6 @@ returns-clause-ok g c =
     let number : c.len-number.result ≡ length c.self.inside.messages.items = search rules in
     rw (← c.self.view_is) (subst (λ (y : Sides). IsRight (record_in c.self.inside) (E.Write c.args.stream c.args.ppi c.args.bytes)
     (R.Wrote (Some c.len-number.result) c.fragments_in-count.result) (record_from y (record c.self.inside { messages = c.push_reserved.new.self }))) (sym both)
-    (write-right c.self.invariant.1 c.args.stream c.args.ppi c.args.bytes some ok refl on.0 on.1 c.self.inside.messages.items c.push_reserved.new.self.items refl
+    (write-right c.self.invariant.1 c.args.stream c.args.ppi c.args.bytes some ok refl on.0 on.1 c.self.inside.messages.items c.push_reserved.new.self.items
+    refl
     refl more c.len-number.result c.fragments_in-count.result number count))
