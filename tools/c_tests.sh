@@ -75,10 +75,14 @@ if command -v python3 >/dev/null; then python3 tools/built_libraries.py; fi
 ARCHIVE=crates/sctp_c/out/libsctp_c.a
 sed -n '/^typedef uint32_t sctp_code;/,/^};/s/^    \(SCTP_[A-Z0-9_]*\) = [0-9]*,*$/ROW(\1)/p' include/sctp.h >"$BUILD/codes.inc"
 
-# usrsctp takes two minutes; the rest goes on meanwhile.
+# What takes a minute or two goes on beside the rest, and is counted at the end.
 if [ "$usrsctp" = yes ]; then
     tools/interop.sh 5 14000 1 >"$BUILD/interop.log" 2>&1 &
     interop=$!
+fi
+if [ -x crates/sctpdump/out/sctpdump ]; then
+    python3 tools/dump_tests.py >"$BUILD/dump_tests.log" 2>&1 &
+    dump_tests=$!
 fi
 
 # The header is C++ too, and the kit's memory calls serve.
@@ -114,7 +118,8 @@ done
 # The archive is not compiled with a sanitizer: valgrind sees what it reads and writes.
 if [ "$valgrind" = yes ]; then
     try $CC -std=c99 -g -O1 -Iinclude c_tests/any_calls.c c_tests/memory.c "$ARCHIVE" -o "$BUILD/any_calls_plain"
-    try quietly valgrind -q --error-exitcode=1 --leak-check=full "$BUILD/any_calls_plain" 400000 2 exact
+    valgrind -q --error-exitcode=1 --leak-check=full "$BUILD/any_calls_plain" 400000 2 exact >"$BUILD/memcheck.log" 2>&1 &
+    memcheck=$!
 else
     leave_out "any calls under valgrind" "there is no valgrind"
 fi
@@ -218,13 +223,20 @@ fi
 
 # Frames, recorded runs and the version, on the program that rt ci has built.
 if [ -x crates/sctpdump/out/sctpdump ]; then
-    python3 tools/dump_tests.py 2>&1 | sed '$s/^/sctpdump: /' >"$BUILD/sctpdump.log"
+    wait "$dump_tests" || true
+    sed '$s/^/sctpdump: /' "$BUILD/dump_tests.log" >"$BUILD/sctpdump.log"
     count sctpdump
 else
     leave_out "the runs of sctpdump" "rt ci has not built it"
 fi
 
-# ---- usrsctp -----------------------------------------------------------------------------------------------------------------
+# ---- valgrind, usrsctp -------------------------------------------------------------------------------------------------------
+
+# Whether valgrind found no fault: its output is shown where it did.
+is_clean() {
+    wait "$memcheck" || { cat "$BUILD/memcheck.log"; return 1; }
+}
+if [ "$valgrind" = yes ]; then try is_clean; fi
 
 # Each of the five runs is a test.
 if [ "$usrsctp" = yes ]; then
