@@ -14,9 +14,9 @@ module _ {C : Type 0} (sum : List ℕ → ℕ) (a : Inside C) (al : IsAligned a.
   named-there s number r e =
       let y = new_open_stream 0 0 0 in
       let same : s ≡ r.stream =
-      number ∙ number-answered a.sender a.receiver a.progress al at' (fresh 0) y inside ∙ sym (record-at (sides_in a).streams at' y r e) in
+      number ∙ number-answered al at' (fresh 0) y inside ∙ sym (record-at (sides_in a).streams at' y r e) in
       ap (λ t. named_from a.messages.items t none_named names) same
-      ∙ names-are sum (state_in a) l a.messages.items refl refl upto r.stream names (skips-in sum (state_in a) l k upto names lies).fit
+      ∙ names-are l a.messages.items refl refl upto r.stream names (skips-in l k upto names lies).fit
 
   -- as a table has it
   pub table-there : (table : List Named) → HasNames a.messages.items names [] a.progress table → (r : StreamRecord) (d : Named)

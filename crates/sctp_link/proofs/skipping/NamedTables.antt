@@ -1,13 +1,11 @@
 -- What a skip names on each stream, in a table, while one message more is counted in.
 use Rattle.sctp_link.proofs.Names.{◌≡◌, ℕ, zero, suc, ◌+◌, ◌<◌, ◌≤◌, Bool, true, false, List, [], ◌∷◌, length, map, Some, refl, ap, sym, ◌∙◌, arith, ◌==◌, ◌&&◌}
 use Rattle.sctp_link.proofs.Names.{not, if◌then◌else◌, min, max, slice_get, slice_index_or, slice_set, filter, ne_eqb, some-same, length-mapped, no_message}
-use Rattle.sctp_link.proofs.Names.{least, greatest, Standing, Named, Message, message_record, index_in, message_in, is_on, named_from, none_named}
-use Rattle.std.proofs.Common.{subst}
+use Rattle.sctp_link.proofs.Names.{get_or-map, subst, least, greatest, Standing, Named, Message, message_record, index_in, message_in, is_on, named_from, none_named}
 use Rattle.sctp_list_lemmas.proofs.Getting.{get-beyond}
 use Rattle.sctp_stream.specs.Numbers.{IsAbsent, IsOnlyPlace}
 use Rattle.sctp_progress.specs.Progress.{numbers_of}
 use Rattle.sctp_link.specs.Skips.{with_name, HasNames}
-use Rattle.sctp_link.proofs.receiver.Hears.{raw-at}
 
 -- what holds of an element that is put at a place, and of all others, holds of each
 each-put : {X : Type 0} (P : ℕ → X → Type 0) (xs : List X) (j : ℕ) (y : X) → P j y
@@ -69,7 +67,7 @@ module _ (ms : List Message) (n : ℕ) (ps : List Standing) (names rest : List �
 
   module _ (m : Message) (some : n < length ms) (is-m : m ≡ slice_index_or ms n m) where
     stream-is : (message_in ms n).stream ≡ m.stream
-    stream-is = ap (λ x. x.stream) (raw-at message_record ms n no_message m some) ∙ ap (λ (x : Message). x.stream) (sym is-m)
+    stream-is = ap (λ x. x.stream) (get_or-map message_record ms n m no_message some) ∙ ap (λ (x : Message). x.stream) (sym is-m)
 
     -- its stream is not open
     pub named-absent : IsAbsent m.stream (numbers_of ps) → HasNames ms names (n ∷ rest) ps table → HasNames ms names rest ps table

@@ -9,7 +9,7 @@ pub number_at-requires : goal.number_at-requires
 number_at-requires g c =
     let a = c.self.inside in
     let inside : c.args.at < length (record_in a).streams = rw (← c.self.view_is) at c.requires.inside in
-    omega (arith, inside, length-mapped stream_record (sides_in a).streams, count-is a.sender a.receiver a.progress c.self.invariant.0)
+    omega (arith, inside, length-mapped stream_record (sides_in a).streams, count-is c.self.invariant.0)
 
 pub returns-then-at-table : goal.returns-then-at-table
 returns-then-at-table g c = λ r e.
@@ -24,7 +24,7 @@ returns g c =
     let inside : c.args.at < length w.streams = rw (← c.self.view_is) at c.requires.inside in
     let lies : (k : ℕ) × (slice_get w.network k ≡ Some (Forward c.args.upto c.args.names.now)) = rw (← c.self.view_is) at c.requires.lies in
     let lt : c.args.at < length a.progress =
-    omega (arith, inside, length-mapped stream_record (sides_in a).streams, count-is a.sender a.receiver a.progress c.self.invariant.0) in
+    omega (arith, inside, length-mapped stream_record (sides_in a).streams, count-is c.self.invariant.0) in
     rw (← c.self.view_is)
     (λ r e. c.named_on.ensures ∙ ap (λ ms. named_from ms c.number_at.result none_named c.args.names.now) c.deref.ensures.value
     ∙ named-there (g.C.Checksum.sum a.checksum) a c.self.invariant.0 c.self.invariant.1 lies.0 c.args.upto c.args.names.now lies.1 c.args.at lt

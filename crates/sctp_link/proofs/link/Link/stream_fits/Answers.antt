@@ -1,6 +1,6 @@
 use Rattle.sctp_link.proofs.Names.{length-mapped, ◌≡◌, ℕ, ◌+◌, ◌<◌, true, List, Some, refl, ap, sym, ◌∙◌, arith, length, map, is_some, slice_get}
 use Rattle.sctp_link.proofs.Names.{slice_index_or, nat_lt, StreamRecord, is_open, index_of, held_on, next_of, least, greatest, names_fit, complete_first}
-use Rattle.sctp_link.proofs.Names.{min_with, lowest_held, highest_held, Inside, Named, record_in, state_in, sides_in, stream_record}
+use Rattle.sctp_link.proofs.Names.{IsAligned, OpenStream, new_open_stream, min_with, lowest_held, highest_held, Inside, Named, record_in, state_in, sides_in, stream_record}
 use Rattle.sctp_progress.specs.Progress.{fresh}
 use Rattle.sctp_link.proofs.sides.Aligned.{count-is}
 use Rattle.sctp_link.proofs.sides.Changes.{number-answered}
