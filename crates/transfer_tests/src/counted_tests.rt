@@ -76,7 +76,7 @@ fn acknowledged(rt: HostRuntime) {
     assert!(rt; a_host_is_acknowledged(rt.alloc()));
 }
 
-// What a receiver makes of a whole message.
+// What a receiver makes of a complete message.
 fn comes(alloc: Global, receiver: &mut Receiver, tsn: u32) -> Result<Arrival, ReceiverRefusal> {
     match chunk(alloc, tsn, true, true, b"a") {
         Ok(one) => receiver.data_counted(&one, &mut Turns::new()),
