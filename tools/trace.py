@@ -17,6 +17,7 @@ don't, and a call of that name is of several types, it stands under `perhaps`.
 """
 import os
 import re
+import signal
 import sys
 
 from sources import Sources, crates, files_below, lines_of
@@ -242,4 +243,6 @@ def main():
 
 
 if __name__ == "__main__":
+    # a reader that goes away, as head does, ends it
+    signal.signal(signal.SIGPIPE, signal.SIG_DFL)
     main()
