@@ -13,7 +13,7 @@ use Rattle.sctp_capture.specs.declared.record.Fault.TheVariants.{NotHex}
 use Rattle.sctp_capture.specs.Lead.{no_lead}
 use Rattle.sctp_capture.specs.Record.{line_in, after_line, HoldsLine, IsLineFound}
 use Rattle.sctp_capture.specs.Dump.{is_dump, goes_on, says_offset, bytes_in}
-use Rattle.sctp_capture.specs.Text.{after_lines, width_by, said_by, are_right, IsDumpRecord, IsDump, IsLed, IsText, IsTextTaken, IsNextText, taken_text}
+use Rattle.sctp_capture.specs.Text.{after_lines, width_by, said_by, are_right, IsDumpRecord, IsDump, IsLed, IsTextTaken, IsNextText, taken_text}
 use Rattle.sctp_capture.proofs.Lines.{line_cut, line_joined}
 
 -- ---- lines that are too long

@@ -17,7 +17,6 @@ use Rattle.sctp_receiver.specs.declared.receiver.inbound_streams.InboundStream.{
 use Rattle.sctp_receiver.specs.Inbound as inbound
 use Rattle.sctp_receiver.specs.Skips.{after_forward_tsn, incomplete_forwarded}
 use Rattle.sctp_receiver.specs.Receiver as receiver
-use Rattle.sctp_receiver.specs.Receiver.{Reception}
 use Rattle.sctp_reassembly.specs.reassembly_queue.ReassemblyQueue.{after_ordered_push}
 use Rattle.sctp_sender.specs.declared.sender.flight.Released.{Released}
 use Rattle.sctp_sender.specs.Flight.{released_by}
@@ -31,7 +30,7 @@ use Rattle.sctp_delivery.specs.Complete.{is_exhausted}
 use Rattle.sctp_delivery.specs.ReceiverCalls as incoming
 use Rattle.sctp_delivery.specs.ReceiverCalls.{follows, reads, reports, takes}
 use Rattle.sctp_delivery.specs.SenderCalls as outgoing
-use Rattle.sctp_delivery.specs.SenderCalls.{Write, abandons, data_chunk, forward_tsn, forwards, made_after, sends, takes_sack, writes, written_after}
+use Rattle.sctp_delivery.specs.SenderCalls.{Write, abandons, data_chunk, forwards, sends, takes_sack, writes}
 use Rattle.sctp_delivery.specs.Session.{Call, ReceiverFollows, RunsTo, SenderFollows, Session, of_receiver, of_sender}
 use Rattle.sctp_delivery.proofs.Examples.{waiting, first_chunk, start, sending, receiving, opened, opens, one_write, written, writes-one, in_flight, sends-one}
 use Rattle.sctp_delivery.proofs.Examples.{lost, abandoned_one, abandons-one, skip, skipped, makes-skip}

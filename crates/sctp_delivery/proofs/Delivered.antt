@@ -25,7 +25,6 @@ use Rattle.sctp_delivery.proofs.Queues.{IsOnceMore}
 use Rattle.sctp_delivery.proofs.Senders.{AreSent, IsHeld, IsMoreBy}
 use Rattle.sctp_delivery.proofs.Sent.{Numbered, AreApart, Entry, GoesOn, IsLine, IsPart, WasSent, fragment, part-line, same-tsn, stands-behind}
 use Rattle.sctp_delivery.proofs.Sessions as sessions
-use Rattle.sctp_delivery.proofs.Sessions.{each-read, fails, receiver-runs, receiver_calls}
 
 -- ## All that a sender gave TSNs to, in every session
 

@@ -14,7 +14,7 @@ use Rattle.sctp_reassembly.specs.reassembly_queue.ReassemblyQueue.{Reassembly, a
 use Rattle.sctp_reassembly.specs.reassembly_queue.ReassemblyQueue.{without_first}
 use Rattle.sctp_receiver.specs.Inbound.{has_number, new_stream, stream_read}
 use Rattle.sctp_receiver.specs.Receiver as receiver
-use Rattle.sctp_receiver.specs.Receiver.{Reception, is_open, open_stream}
+use Rattle.sctp_receiver.specs.Receiver.{is_open, open_stream}
 use Rattle.sctp_receiver.specs.ReceiverRuns as receiver_runs
 use Rattle.sctp_receiver.specs.ReceiverRuns.{messages_after}
 use Rattle.sctp_receiver.specs.declared.receiver.inbound_streams.InboundStream.{InboundStream}

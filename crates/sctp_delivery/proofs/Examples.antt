@@ -35,7 +35,7 @@ use Rattle.sctp_delivery.specs.Complete.{fragments_held, holds_nothing, is_exhau
 use Rattle.sctp_delivery.specs.Ending.{CanEnd}
 use Rattle.sctp_delivery.specs.Order.{ordered_places}
 use Rattle.sctp_delivery.specs.ReceiverCalls as incoming
-use Rattle.sctp_delivery.specs.ReceiverCalls.{follows, reads, reports, takes}
+use Rattle.sctp_delivery.specs.ReceiverCalls.{reads, reports, takes}
 use Rattle.sctp_delivery.specs.Refused.{IsInFlight, MayMake, is_due_named, is_takable}
 use Rattle.sctp_delivery.specs.Sacks.{is_reported, reports_tsn, tsns_given, was_passed, was_taken}
 use Rattle.sctp_delivery.specs.SenderCalls as outgoing

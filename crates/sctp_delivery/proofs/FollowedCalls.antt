@@ -42,7 +42,7 @@ use Rattle.sctp_delivery.specs.SenderCalls.{forward_tsn}
 use Rattle.sctp_delivery.specs.Session.{ReceiverFollows, Session}
 use Rattle.sctp_delivery.proofs.InTheEnd.{some-of}
 use Rattle.sctp_delivery.proofs.CurrentSets as current
-use Rattle.sctp_delivery.proofs.CurrentSets.{IsCurrent, IsSome, IsWholeAt}
+use Rattle.sctp_delivery.proofs.CurrentSets.{IsCurrent}
 use Rattle.sctp_delivery.proofs.Delivered.{EachSent}
 use Rattle.sctp_delivery.proofs.Every.{Every, every-contained, every-joined, every-of, every-at, every-of-all, every-passing, one-of}
 use Rattle.sctp_delivery.proofs.FollowedSets.{each-dropped, each-leading, filter-split, leading, leading-split, left-orderly, left-tidy, skipped-orderly}

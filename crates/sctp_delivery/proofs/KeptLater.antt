@@ -31,7 +31,6 @@ use Rattle.sctp_delivery.proofs.TakenTsns.{come}
 use Rattle.sctp_delivery.proofs.TsnPlaces.{base, same-place}
 use Rattle.sctp_delivery.proofs.UnwrappedHolds as holds
 use Rattle.sctp_delivery.proofs.UnwrappedReads as reads
-use Rattle.sctp_delivery.proofs.UnwrappedReads.{IsDue}
 
 entry-later : (x : Entry) (sent : List Entry) (y : ℕ) (d : Data) (w : Numbered) → IsEntryAt sent y d w → IsEntryAt (x ∷ sent) y d w
 entry-later x sent y d w i = record { after = i.after; entries = i.entries; part = inr i.part; place = i.place }

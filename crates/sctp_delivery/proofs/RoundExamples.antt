@@ -17,7 +17,6 @@ use Rattle.sctp_receiver.specs.declared.receiver.inbound_streams.InboundStream.{
 use Rattle.sctp_receiver.specs.Inbound as inbound
 use Rattle.sctp_receiver.specs.Skips.{after_forward_tsn}
 use Rattle.sctp_receiver.specs.Receiver as receiver
-use Rattle.sctp_receiver.specs.Receiver.{Reception}
 use Rattle.sctp_reassembly.specs.reassembly_queue.ReassemblyQueue.{after_ordered_push}
 use Rattle.sctp_outbound.specs.pending_queue.PendingQueue.{last_of}
 use Rattle.sctp_sender.specs.declared.sender.flight.Released.{Released}
@@ -30,7 +29,7 @@ use Rattle.sctp_stream.specs.declared.stream.StreamState.{StreamState}
 use Rattle.sctp_stream.specs.Stream.{new_stream}
 use Rattle.sctp_delivery.specs.Complete.{is_all_acknowledged}
 use Rattle.sctp_delivery.specs.ReceiverCalls as incoming
-use Rattle.sctp_delivery.specs.ReceiverCalls.{follows, reads, reports, takes}
+use Rattle.sctp_delivery.specs.ReceiverCalls.{follows, reports, takes}
 use Rattle.sctp_delivery.specs.Rounds as rounds
 use Rattle.sctp_delivery.specs.Rounds.{IsCaughtUp, IsRound, Rounds, chunks_left}
 use Rattle.sctp_delivery.specs.Sacks.{was_taken}

@@ -17,7 +17,7 @@ use Rattle.sctp_sender.specs.Outgoing.{fragments_with_mode}
 use Rattle.sctp_sender.specs.Sender.{Transmission, after_expire, stream_of}
 use Rattle.sctp_delivery.specs.Sacks.{passes, reports_tsn, was_taken}
 use Rattle.sctp_delivery.specs.SenderCalls as outgoing
-use Rattle.sctp_delivery.specs.SenderCalls.{Made, SenderCall, data_chunk, forward_tsn, made_after, with_chunk}
+use Rattle.sctp_delivery.specs.SenderCalls.{Made, SenderCall, forward_tsn, made_after, with_chunk}
 use Rattle.sctp_delivery.specs.Session.{SenderFollows, Session}
 use Rattle.sctp_delivery.proofs.Every.{Every, every-contained, every-of}
 use Rattle.sctp_delivery.proofs.GivenTsns.{IsNumbered}

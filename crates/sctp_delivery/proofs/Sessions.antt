@@ -10,7 +10,7 @@ use Rattle.sctp_data.specs.declared.chunk.chunk_payload_data.ChunkPayloadData.{C
 use Rattle.sctp_data.specs.PayloadData.{Data, data_of}
 use Rattle.sctp_receiver.specs.declared.receiver.arrival.Arrival.TheVariants.{New, Repeat}
 use Rattle.sctp_receiver.specs.ReceiverRuns as receiver_runs
-use Rattle.sctp_receiver.specs.ReceiverRuns.{Message, Stand, fragments_read}
+use Rattle.sctp_receiver.specs.ReceiverRuns.{Message, fragments_read}
 use Rattle.sctp_receiver.proofs.Handed as handed
 use Rattle.sctp_sender.specs.Sender.{Transmission}
 use Rattle.sctp_sender.specs.SenderRuns as sender_runs

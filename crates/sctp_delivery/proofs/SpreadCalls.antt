@@ -20,7 +20,7 @@ use Rattle.sctp_sender.proofs.Sent.{as-noted, none-noted}
 use Rattle.sctp_delivery.specs.ReceiverCalls.{ReceiverCall}
 use Rattle.sctp_delivery.specs.Sacks.{tsns_given}
 use Rattle.sctp_delivery.specs.SenderCalls as outgoing
-use Rattle.sctp_delivery.specs.SenderCalls.{IsAccepted, Made, SenderCall, data_chunk, made_after, next_chunk, with_chunk}
+use Rattle.sctp_delivery.specs.SenderCalls.{IsAccepted, SenderCall, made_after, next_chunk, with_chunk}
 use Rattle.sctp_delivery.specs.Session.{Call, ReceiverFollows, RunsTo, SenderFollows, Session, at_start, of_receiver, of_sender}
 use Rattle.sctp_delivery.proofs.Calls.{numbered_after, sent_by}
 use Rattle.sctp_delivery.proofs.Delivered as delivered

@@ -1,7 +1,7 @@
 -- The kept numbers as a line with places.
-use Rattle.std.proofs.Common.{◌≡◌, ℕ, zero, suc, ◌+◌, ◌<◌, ◌≤◌, Bool, true, false, List, [], ◌∷◌, ◌++◌, length, take, drop, refl, ap, sym, arith, add-zero}
+use Rattle.std.proofs.Common.{◌≡◌, ℕ, zero, suc, ◌+◌, ◌<◌, ◌≤◌, Bool, true, false, List, [], ◌∷◌, ◌++◌, length, take, drop, refl, ap, sym, arith}
 use Rattle.std.specs.Prelude.{if◌then◌else◌}
-use Rattle.sctp_list_lemmas.specs.Kept.{numbers_where, leading}
+use Rattle.sctp_list_lemmas.specs.Kept.{numbers_where}
 
 -- the number n is the one at this place of the kept ones
 pub record IsAt (p : ℕ → Bool) (from count n place : ℕ) : Type 0 where

@@ -1,10 +1,9 @@
 -- Numbers that wrap at 2^32, against places that do not.
 use Rattle.std.proofs.Common.{◌≡◌, ℕ, ◌+◌, ◌-◌, ◌<◌, ◌≤◌, ◌%◌, ◌^◌, true, false, inl, inr, arith}
-use Rattle.std.specs.Prelude.{◌⊎◌, ◌==◌, nat_lt, nat_le, ◌&&◌}
+use Rattle.std.specs.Prelude.{◌⊎◌, ◌==◌, nat_lt, ◌&&◌}
 use Rattle.std.proofs.lemmas.Bool.{cases_lt}
 use Rattle.std.proofs.lemmas.Bool.Decides.{nat_tests}
 use Rattle.sctp_list_lemmas.specs.Serial.{distance, comes_before}
-use Rattle.sctp_list_lemmas.proofs.Passing.{IsRound}
 
 -- the TSN of a place, and the one before it
 abbrev pub tsn : ℕ → ℕ → ℕ

@@ -1,11 +1,10 @@
 -- Messages are read one after the other.
 use Rattle.std.proofs.Common.{◌≡◌, ℕ, true, false, List, [], ◌∷◌, ◌++◌, Some, None, refl, sym, ap, subst, ◌∙◌}
-use Rattle.std.specs.Prelude.{Option, is_some, option_map}
+use Rattle.std.specs.Prelude.{option_map}
 use Rattle.std.proofs.lemmas.List.{append-nil, append_assoc}
-use Rattle.sctp_receiver.specs.declared.receiver.inbound_streams.InboundStream.{InboundStream}
 use Rattle.sctp_reassembly.specs.declared.reassembly_queue.chunks.Chunks.{Chunks}
 use Rattle.sctp_reassembly.specs.reassembly_queue.ReassemblyQueue.{at_start}
-use Rattle.sctp_receiver.specs.Receiver.{Reception, stream_of, is_open, message_of, message_on, after_read}
+use Rattle.sctp_receiver.specs.Receiver.{Reception, message_on, after_read}
 use Rattle.sctp_messages.specs.Messages.{Reads, ReadsOnto}
 
 -- one more is read

@@ -15,7 +15,7 @@ use Rattle.sctp_model.specs.Messages
 use Rattle.sctp_model.specs.Log
 use Rattle.sctp_model.specs.Log.{LogEntry, SlotReceived, SkipReceived, SackMade, arrived_new, is_skipped, were_complete, is_complete_by, run_by, complete_by}
 use Rattle.sctp_model.specs.Log.{named_by, log_of, Shown, Mode, written_on, writes_on, writes_in, modes_in}
-use Rattle.sctp_model.specs.Steps.{History, record_of, reply_to, IsRun}
+use Rattle.sctp_model.specs.Steps.{History, record_of, IsRun}
 use Rattle.sctp_model.specs.declared.event.Event.TheVariants as E
 use Rattle.sctp_model.specs.Reply as R
 use Rattle.sctp_model.specs.Laws.{OnEveryRun, IsSetup, IsReadWholly, ReadsAreSettled, ReadsByArrivals, NoneIsLost, messages_on, fragment_arrived}
@@ -29,8 +29,8 @@ use Rattle.sctp_model.proofs.receiver.Due.{take-kept}
 use Rattle.sctp_model.proofs.receiver.ReadLaws.{nothing_where_read, passing-kept}
 use Rattle.sctp_model.proofs.sender.Written.{messages_are_writes}
 use Rattle.sctp_model.proofs.sender.Modes.{modes_are_kept}
-use Rattle.sctp_model.proofs.Lossless.{Lossless, alive-run, is_skip, no-skips, none-named, none-skipped}
-use Rattle.sctp_list_lemmas.proofs.Cases.{same-yes, same-is, negated, or-left, or-right, or-split, and-none}
+use Rattle.sctp_model.proofs.Lossless.{alive-run, is_skip, no-skips, none-named, none-skipped}
+use Rattle.sctp_list_lemmas.proofs.Cases.{same-yes, same-is, negated, or-left, or-right, or-split}
 use Rattle.sctp_list_lemmas.proofs.Getting.{length-mapped}
 use Rattle.sctp_list_lemmas.proofs.Rows.{numbered}
 use Rattle.sctp_list_lemmas.proofs.Alls.{all-kept, all-same}

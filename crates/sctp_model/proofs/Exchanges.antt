@@ -15,7 +15,6 @@ use Rattle.sctp_list_lemmas.proofs.Tests.{any-in, all-out, FirstOf, first-kept}
 use Rattle.sctp_model.specs.declared.event.Event.{Event}
 use Rattle.sctp_model.specs.declared.event.Event.TheVariants as E
 use Rattle.sctp_model.specs.declared.event.LinkRefusal.TheVariants.{NotInFlight, StreamUnknown, MessageTooLarge, TsnsUsedUp, SkipNames, SkipUnassigned}
-use Rattle.sctp_model.specs.Reply.{Reply}
 use Rattle.sctp_model.specs.Reply as R
 use Rattle.sctp_model.specs.LinkRecord.{Setup, Datagram, Data, Forward, Sack, LinkRecord}
 use Rattle.sctp_model.specs.Messages
@@ -24,7 +23,7 @@ use Rattle.sctp_model.specs.Reports.{report_of, reports, distances, gap_blocks}
 use Rattle.sctp_model.specs.Changes
 use Rattle.sctp_model.specs.Contents.{chunk_at}
 use Rattle.sctp_model.specs.Log
-use Rattle.sctp_model.specs.Log.{log_of, seen_count, arrived_new}
+use Rattle.sctp_model.specs.Log.{log_of, seen_count}
 use Rattle.sctp_model.specs.Steps.{History, record_of, IsRun, after, refusal_of, sent_reply, unless, can_resend, can_name, fragments_accepted, fragments_in}
 use Rattle.sctp_model.specs.Laws.{OnEveryRun, is_ordered, sent_before, shown_of}
 use Rattle.sctp_model.specs.Exchanges

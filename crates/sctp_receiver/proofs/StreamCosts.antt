@@ -20,7 +20,7 @@ use Rattle.sctp_receiver.specs.Limits.{cost_of}
 use Rattle.sctp_receiver.specs.Resets.{stream_reset}
 use Rattle.sctp_receiver.specs.Skips.{incomplete_forwarded}
 use Rattle.sctp_receiver.proofs.Weights as weights
-use Rattle.sctp_receiver.proofs.Weights.{weight, message_weight}
+use Rattle.sctp_receiver.proofs.Weights.{weight}
 
 -- ## Chunks and bytes of a queue
 

@@ -6,7 +6,6 @@ use Rattle.std.specs.List.{filter}
 use Rattle.std.proofs.lemmas.Bool.{cases_lt, false≢true}
 use Rattle.std.proofs.lemmas.Bool.Decides.{nat_tests}
 use Rattle.std.proofs.lemmas.List.{append-nil}
-use Rattle.sctp_list_lemmas.specs.Serial.{distance}
 use Rattle.sctp_list_lemmas.proofs.Edits.{those-more}
 use Rattle.sctp_data.specs.declared.chunk.chunk_payload_data.ChunkPayloadData.{ChunkPayloadData}
 use Rattle.sctp_data.specs.declared.chunk.chunk_forward_tsn.ChunkForwardTsnStream.{ChunkForwardTsnStream}
@@ -15,7 +14,7 @@ use Rattle.sctp_outbound.specs.pending_queue.Whole.{ends}
 use Rattle.sctp_serial.specs.DataChunks.{following_tsn, has_tsn}
 use Rattle.sctp_sender.specs.Flight.{Flight, IsContiguous}
 use Rattle.sctp_sender.specs.Abandonment.{IsFirstPair, IsLastEnd, IsMore, IsNoPair, IsTooLong, Name, advanced_ack_point, ahead, can_skip_to, ends_in, is_end}
-use Rattle.sctp_sender.specs.Abandonment.{is_named, is_pair_of, last_end, named_up_to, pair_of, skip_end}
+use Rattle.sctp_sender.specs.Abandonment.{is_named, is_pair_of, last_end, pair_of, skip_end}
 use Rattle.sctp_sender.proofs.Names.{added, last-push, renamed}
 use Rattle.sctp_sender.proofs.Places.{place-is}
 use Rattle.sctp_sender.proofs.Runs.{found-at, tsn-at}

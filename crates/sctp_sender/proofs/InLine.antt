@@ -15,7 +15,7 @@ use Rattle.sctp_data.specs.declared.chunk.chunk_payload_data.ChunkPayloadData.{C
 use Rattle.sctp_serial.specs.DataChunks.{has_tsn, chunk_before, following_tsn, tsns}
 use Rattle.sctp_outbound.specs.Marks.{as_abandoned, is_of}
 use Rattle.sctp_outbound.specs.outbound_queue.OutboundQueue.{Outbound, abandoned_of, all_started, as_sent, expired_of, is_expired_tail, message_of, passing}
-use Rattle.sctp_outbound.specs.outbound_queue.OutboundQueue.{sent_of, sent_next, terminal_chunk, to_abandon, with_inflight, with_message, with_message_id}
+use Rattle.sctp_outbound.specs.outbound_queue.OutboundQueue.{sent_of, sent_next, terminal_chunk, to_abandon, with_inflight}
 use Rattle.sctp_outbound.specs.outbound_queue.OutboundQueue.{with_terminal_chunk}
 use Rattle.sctp_outbound.specs.payload_queue.PayloadQueue as payload
 use Rattle.sctp_outbound.specs.pending_queue.PendingQueue.{closed_up, is_to_start, last_removed, list_to_pop, next_pending, rest_after, start_pending}
@@ -23,7 +23,7 @@ use Rattle.sctp_outbound.specs.pending_queue.PendingQueue.{with_deadline, withou
 use Rattle.sctp_outbound.specs.pending_queue.Whole.{GoesOn, IsSendable, partial_of, partially_sent, waits}
 use Rattle.sctp_outbound.proofs.lemmas.outbound_queue.Abandoned.{last_is_of, last_removed_none}
 use Rattle.sctp_outbound.proofs.lemmas.outbound_queue.Sendable.{found_in, goes_on, partial_gone, partial_in_front, sendable-changed, sendable-sent}
-use Rattle.sctp_outbound.proofs.lemmas.outbound_queue.SideBySide.{partial_appended, partial_before, partial_rest, peeked_waits, some_is}
+use Rattle.sctp_outbound.proofs.lemmas.outbound_queue.SideBySide.{partial_before, partial_rest, peeked_waits, some_is}
 use Rattle.sctp_outbound.proofs.lemmas.pending_queue.CompleteMessages.{KeepsMessage}
 use Rattle.sctp_sender.specs.Flight.{tsns_from}
 use Rattle.sctp_sender.specs.SideBySide.{StandSideBySide, is_number, messages_in_line, messages_of, number_of_half}

@@ -1,13 +1,10 @@
 -- A walk over the first places of a list that changes some of what stands there.
-use Rattle.std.proofs.Common.{◌≡◌, ℕ, suc, ◌+◌, ◌-◌, ◌<◌, ◌≤◌, Bool, true, false, List, [], ◌∷◌, ◌++◌, length, length-append, map, take, drop, get_or}
-use Rattle.std.proofs.Common.{slice_get, set, Some, refl, ap, sym, ◌∙◌, arith}
+use Rattle.std.proofs.Common.{◌≡◌, ℕ, suc, ◌+◌, ◌-◌, ◌<◌, ◌≤◌, Bool, true, false, List, [], ◌∷◌, ◌++◌, length, map, take, drop, get_or}
+use Rattle.std.proofs.Common.{Some, refl, ap, sym, ◌∙◌, arith}
 use Rattle.std.specs.Prelude.{if◌then◌else◌}
 use Rattle.std.specs.List.{All, filter}
-use Rattle.std.proofs.lemmas.List.{append-nil, length-map, length-take-le, length-drop, take-append-drop, get_or-append_right, get_or-drop}
-use Rattle.std.proofs.lemmas.Option.{slice_get-get_or}
-use Rattle.sctp_list_lemmas.specs.Lists.{change_where}
-use Rattle.sctp_list_lemmas.proofs.Edits.{changed_step, unchanged_step, those-more, length-change_where, change_where-append, change_where-none, those-append}
-use Rattle.sctp_sender.proofs.Walks.{read-of}
+use Rattle.std.proofs.lemmas.List.{append-nil, length-drop, take-append-drop, get_or-drop}
+use Rattle.sctp_list_lemmas.proofs.Edits.{those-append}
 
 -- ## Nothing passes behind the first so many
 

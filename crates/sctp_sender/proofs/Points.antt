@@ -6,7 +6,7 @@ use Rattle.std.specs.List.{filter}
 use Rattle.sctp_list_lemmas.specs.Serial.{distance}
 use Rattle.sctp_list_lemmas.proofs.Edits.{those-more}
 use Rattle.sctp_data.specs.declared.chunk.chunk_payload_data.ChunkPayloadData.{ChunkPayloadData}
-use Rattle.sctp_serial.specs.DataChunks.{has_tsn, following_tsn, preceding_tsn}
+use Rattle.sctp_serial.specs.DataChunks.{following_tsn, preceding_tsn}
 use Rattle.sctp_sender.specs.Flight.{Flight, IsContiguous}
 use Rattle.sctp_sender.specs.Abandonment.{advanced_ack_point, ahead, is_kept, is_named}
 use Rattle.sctp_sender.proofs.Runs.{tsn-at}

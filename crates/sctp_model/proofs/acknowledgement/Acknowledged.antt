@@ -19,7 +19,7 @@ use Rattle.sctp_model.specs.Receiver.{arrived_at, cumulative, is_new, next_read}
 use Rattle.sctp_model.specs.Changes
 use Rattle.sctp_model.specs.Reports.{report_of, reports, distances, gap_blocks}
 use Rattle.sctp_model.specs.Log
-use Rattle.sctp_model.specs.Log.{LogEntry, SlotReceived, SkipReceived, SackMade, is_seen, arrived_new, is_skipped, seen_count, duplicates_in, log_of, made_in}
+use Rattle.sctp_model.specs.Log.{LogEntry, SlotReceived, is_seen, arrived_new, is_skipped, seen_count, log_of, made_in}
 use Rattle.sctp_model.specs.Log.{Made, MadeData, MadeForward, MadeSack, is_acknowledged_in, taken_in, reported_by}
 use Rattle.sctp_model.specs.Steps.{History, record_of, IsRun, after}
 use Rattle.sctp_model.specs.Contents.{SackContents, cumulative_tsn, contents_in}

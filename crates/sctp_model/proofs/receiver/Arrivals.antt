@@ -16,7 +16,7 @@ use Rattle.sctp_model.specs.Receiver.{arrived_at, cumulative, is_new}
 use Rattle.sctp_model.specs.Changes
 use Rattle.sctp_model.specs.Steps.{History, record_of, IsRun, arrive_reply}
 use Rattle.sctp_model.specs.Log
-use Rattle.sctp_model.specs.Log.{LogEntry, SlotReceived, SkipReceived, SackMade}
+use Rattle.sctp_model.specs.Log.{LogEntry, SlotReceived, SkipReceived}
 use Rattle.sctp_model.specs.Laws.{IsSetup, OnEveryRun, ArrivedIsNew, CumulativeIsSeen, ArrivalsAnswered}
 use Rattle.sctp_model.proofs.receiver.Events.{Keeps, run-keeps}
 use Rattle.sctp_list_lemmas.proofs.Cases.{by_same, same-yes}

@@ -12,7 +12,6 @@ use Rattle.sctp_list_lemmas.proofs.Cases.{same-is}
 use Rattle.sctp_list_lemmas.proofs.Alls
 use Rattle.sctp_model.specs.declared.event.Event.TheVariants as E
 use Rattle.sctp_model.specs.declared.event.LinkRefusal.TheVariants.{StreamUnknown}
-use Rattle.sctp_model.specs.Reply.{Reply}
 use Rattle.sctp_model.specs.Reply as R
 use Rattle.sctp_model.specs.LinkRecord.{Setup, LinkRecord}
 use Rattle.sctp_model.specs.Messages
@@ -27,7 +26,7 @@ use Rattle.sctp_model.proofs.sender.Shape.{shape, on, index}
 use Rattle.sctp_model.proofs.sender.SenderRun.{Consistent, consistent-run, unless-holds}
 use Rattle.sctp_model.proofs.receiver.Events.{step-moves}
 use Rattle.sctp_model.proofs.receiver.View
-use Rattle.sctp_model.proofs.receiver.View.{View, view, all_come, complete_at, read_in, line, run, next, next_read}
+use Rattle.sctp_model.proofs.receiver.View.{View, view, complete_at, read_in, line, run, next, next_read}
 use Rattle.sctp_model.proofs.receiver.Indexes.{on-stream, on-ordered, index_on}
 use Rattle.sctp_model.proofs.receiver.Names.{named_is_named}
 use Rattle.sctp_model.proofs.receiver.KnownRun.{completeness_agrees}
@@ -39,7 +38,7 @@ use Rattle.sctp_model.proofs.receiver.Due.{take-kept, take-none}
 use Rattle.sctp_model.proofs.Lossless.{no-skips, none-named}
 use Rattle.sctp_model.proofs.receiver.Received.{received-run}
 use Rattle.sctp_model.proofs.receiver.SoFar
-use Rattle.sctp_model.proofs.receiver.SoFar.{SoFar, so_far-as, read_on, was_read, complete_list-is, passing-append}
+use Rattle.sctp_model.proofs.receiver.SoFar.{SoFar, so_far-as, read_on, complete_list-is}
 use Rattle.sctp_model.proofs.receiver.SoFarSteps.{Answered, answered-moving, so_far-elsewhere, so_far-unordered, so_far-ordered}
 
 -- ## What was read, in every history

@@ -11,18 +11,18 @@ use Rattle.sctp_list_lemmas.proofs.Cases.{same-is}
 use Rattle.sctp_list_lemmas.proofs.Alls
 use Rattle.sctp_model.specs.LinkRecord.{LinkRecord}
 use Rattle.sctp_model.specs.Log
-use Rattle.sctp_model.specs.Log.{LogEntry, SlotReceived, SkipReceived, SackMade, Shown}
+use Rattle.sctp_model.specs.Log.{LogEntry, SlotReceived, SkipReceived, SackMade}
 use Rattle.sctp_model.proofs.sender.Shape.{Shape, shape, has, on, sent, parts}
 use Rattle.sctp_model.proofs.sender.Sender.{Sender}
 use Rattle.sctp_model.proofs.sender.SenderSteps.{of-has}
 use Rattle.sctp_model.proofs.sender.Grows.{Grows}
 use Rattle.sctp_model.proofs.receiver.View
-use Rattle.sctp_model.proofs.receiver.View.{View, view, all_come, arrived_in, noted_in, skipped_in, read_in, line, run, next}
+use Rattle.sctp_model.proofs.receiver.View.{View, next}
 use Rattle.sctp_model.proofs.receiver.Indexes.{on-ordered}
 use Rattle.sctp_model.proofs.receiver.Names.{on-grown}
 use Rattle.sctp_model.proofs.receiver.CompleteMessages.{SlotsReceived, complete_in, slots_in, complete-later, new-received, were-new, some-kept}
 use Rattle.sctp_model.proofs.receiver.Known
-use Rattle.sctp_model.proofs.receiver.Known.{Known, Complete, Still, IsReady, ReadsRun, still-of, hears, differ-more, noting}
+use Rattle.sctp_model.proofs.receiver.Known.{Known, Complete, Still}
 use Rattle.sctp_model.proofs.receiver.Ordered.{Ordered}
 use Rattle.sctp_list_lemmas.proofs.Tests.{all-more}
 

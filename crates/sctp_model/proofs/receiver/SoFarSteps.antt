@@ -20,19 +20,19 @@ use Rattle.sctp_model.proofs.sender.Network.{NamesFit}
 use Rattle.sctp_model.proofs.receiver.Events.{Moving}
 use Rattle.sctp_model.proofs.receiver.Arrivals.{with_arrived}
 use Rattle.sctp_model.proofs.receiver.View
-use Rattle.sctp_model.proofs.receiver.View.{View, view, all_come, arrived_in, noted_in, skipped_in, read_in, line, run, next}
+use Rattle.sctp_model.proofs.receiver.View.{View, view, all_come, arrived_in, noted_in, skipped_in, read_in, next}
 use Rattle.sctp_model.proofs.receiver.Indexes.{on-stream, on-ordered}
 use Rattle.sctp_model.proofs.receiver.Names.{view-skip}
 use Rattle.sctp_model.proofs.receiver.CompleteMessages
 use Rattle.sctp_model.proofs.receiver.CompleteMessages.{complete_in, due, Hears}
 use Rattle.sctp_model.proofs.receiver.Known
-use Rattle.sctp_model.proofs.receiver.Known.{Known, Complete, Still, IsReady, ReadsComplete, ReadsRun, still-of, hears, differ-more, noting, ready-first}
+use Rattle.sctp_model.proofs.receiver.Known.{Known, Complete, ReadsComplete, ReadsRun, still-of, hears, noting, ready-first}
 use Rattle.sctp_model.proofs.receiver.KnownRun.{new-not, hears-new}
 use Rattle.sctp_model.proofs.receiver.Ordered.{Ordered, read-other, read-here, ordered-at, stays-read}
 use Rattle.sctp_model.proofs.receiver.Due.{IsDue}
 use Rattle.sctp_model.proofs.receiver.Received.{Received, received-keeps}
 use Rattle.sctp_model.proofs.receiver.SoFar
-use Rattle.sctp_model.proofs.receiver.SoFar.{SoFar, was_read, read_on, complete_list, became, off, kept-one, kept-last, passing-append, was-made, so_far-as}
+use Rattle.sctp_model.proofs.receiver.SoFar.{SoFar, was_read, read_on, complete_list, became, off, kept-one, kept-last, passing-append, so_far-as}
 use Rattle.sctp_list_lemmas.proofs.Cases.{or-none, and-none}
 use Rattle.sctp_list_lemmas.proofs.Tests.{all-more}
 

@@ -30,7 +30,7 @@ use Rattle.sctp_list_lemmas.proofs.Cases.{by_same, negated}
 use Rattle.sctp_model.proofs.sender.SenderRun.{Consistent, consistent-run, consistent-after, unless-holds, found}
 use Rattle.sctp_model.proofs.sender.Moves.{Quiet, quiet-written, quiet-started, quiet-sent, quiet-expire, quiet-tail, quiet-lates, quiet-abandoned}
 use Rattle.sctp_model.proofs.receiver.View
-use Rattle.sctp_model.proofs.receiver.View.{View, view, come_count, all_come, complete_at, held, line, next, read_in}
+use Rattle.sctp_model.proofs.receiver.View.{View, view, come_count, complete_at, held, line, next, read_in}
 use Rattle.sctp_model.proofs.receiver.Indexes.{on-stream, on-ordered, index-lt, next_reads}
 use Rattle.sctp_model.proofs.receiver.Known
 use Rattle.sctp_model.proofs.receiver.Known.{Still, Complete, ReadsComplete, ReadsRun, reads, still-of, come-still, come-sent, complete-still, complete-read}

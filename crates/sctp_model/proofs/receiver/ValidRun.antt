@@ -16,7 +16,7 @@ use Rattle.sctp_list_lemmas.proofs.Rows.{IsRow}
 use Rattle.sctp_list_lemmas.proofs.Totals.{total-at, length-numbers}
 use Rattle.sctp_model.specs.declared.event.Event.TheVariants as E
 use Rattle.sctp_model.specs.declared.event.LinkRefusal.TheVariants.{NoSuchDatagram, SpanTooWide}
-use Rattle.sctp_model.specs.LinkRecord.{Setup, StreamRecord, Datagram, Forward, Sack, LinkRecord}
+use Rattle.sctp_model.specs.LinkRecord.{Setup, StreamRecord, Datagram, Forward, LinkRecord}
 use Rattle.sctp_model.specs.LinkRecord as W
 use Rattle.sctp_model.specs.Messages
 use Rattle.sctp_model.specs.Receiver
@@ -37,7 +37,7 @@ use Rattle.sctp_model.proofs.sender.SenderRun.{Consistent, consistent-run, consi
 use Rattle.sctp_model.proofs.sender.Network
 use Rattle.sctp_model.proofs.sender.Network.{SlotsFit, NamesFit, fit-at, fit-run}
 use Rattle.sctp_model.proofs.receiver.View
-use Rattle.sctp_model.proofs.receiver.View.{View, view, come_count, all_come, complete_at, held, next, line}
+use Rattle.sctp_model.proofs.receiver.View.{View, view, come_count, all_come, complete_at, held, next}
 use Rattle.sctp_model.proofs.receiver.Arrivals.{with_arrived, new-unseen}
 use Rattle.sctp_model.proofs.receiver.Indexes.{on-ordered, on-stream}
 use Rattle.sctp_model.proofs.receiver.CompleteMessages
@@ -46,7 +46,7 @@ use Rattle.sctp_model.proofs.receiver.Known
 use Rattle.sctp_model.proofs.receiver.Ordered
 use Rattle.sctp_model.proofs.receiver.Received.{Received, received-keeps, received-run}
 use Rattle.sctp_model.proofs.receiver.Spans
-use Rattle.sctp_model.proofs.receiver.Spans.{AllNear, IsNear, near-run}
+use Rattle.sctp_model.proofs.receiver.Spans.{AllNear, near-run}
 
 -- ## Numbers of messages and places of slots
 

@@ -5,7 +5,7 @@ use Rattle.std.proofs.lemmas.List.{map-append}
 use Rattle.sctp_list_lemmas.specs.Kept.{numbers_from}
 use Rattle.sctp_model.specs.declared.event.Event.{Event}
 use Rattle.sctp_model.specs.declared.event.Event.TheVariants as E
-use Rattle.sctp_model.specs.LinkRecord.{Setup, Datagram, Forward, Sack, LinkRecord, start}
+use Rattle.sctp_model.specs.LinkRecord.{Setup, Datagram, Forward, LinkRecord, start}
 use Rattle.sctp_model.specs.LinkRecord as W
 use Rattle.sctp_model.specs.Messages
 use Rattle.sctp_model.specs.Receiver

@@ -15,7 +15,7 @@ use Rattle.sctp_data.specs.declared.chunk.chunk_payload_data.ChunkPayloadData.{C
 use Rattle.sctp_serial.specs.DataChunks.{chunk_before}
 use Rattle.sctp_outbound.specs.outbound_queue.OutboundQueue.{Outbound, as_sent, sent_of, sent_peeked}
 use Rattle.sctp_model.specs.LinkRecord.{LinkRecord, Slot}
-use Rattle.sctp_model.specs.Messages.{message_at, slot_at, message_of, no_slot, tsn_of, front}
+use Rattle.sctp_model.specs.Messages.{message_at, slot_at, message_of, no_slot, tsn_of}
 use Rattle.sctp_model.specs.Messages
 use Rattle.sctp_model.specs.Changes.{with_slot}
 use Rattle.sctp_refinement.specs.Refines.{waiting_at, Sending, sending_of, sending_at, sendings_of, RefinesOutbound}

@@ -1,13 +1,13 @@
 -- Numbers in serial order: where one goes, by how far it lies from the first, and edits that keep the order.
 use Rattle.std.proofs.Common.{◌≡◌, ◌≢◌, ℕ, zero, suc, ◌+◌, ◌-◌, ◌*◌, ◌^◌, ◌<◌, ◌≤◌, ◌⊎◌, ◌==◌, Bool, true, false, IsTrue, List, [], ◌∷◌, length, map, get_or}
-use Rattle.std.proofs.Common.{take, drop, refl, sym, ap, subst, ◌∙◌, inl, inr, mod-eq_of_lt, arith}
+use Rattle.std.proofs.Common.{drop, refl, sym, ap, subst, ◌∙◌, inl, inr, mod-eq_of_lt, arith}
 use native.Mathlib.Nat.{mod-eq-sub-mod}
 use Rattle.std.specs.List.{All, AllPairs, insert, list_any, remove, position_or_len, filter}
 use Rattle.std.specs.List.Sorted.{IsNonDecreasingBy, IsPartitionPoint}
 use Rattle.std.proofs.lemmas.Bool.{cases_lt, cases_eq, false≢true}
 use Rattle.std.proofs.lemmas.Bool.Decides.{nat_tests}
-use Rattle.std.proofs.lemmas.List.{get_or-map, get_or_default, get_or-take, get_or-drop, length-map, length-drop, length-take}
-use Rattle.std.proofs.lemmas.List.Elements.{All-drop, All-take, All-filter}
+use Rattle.std.proofs.lemmas.List.{get_or-map, get_or_default, get_or-drop, length-map, length-drop}
+use Rattle.std.proofs.lemmas.List.Elements.{All-drop, All-filter}
 use Rattle.std.proofs.lemmas.List.Quantifiers.{all_pairs_remove}
 use Rattle.std.proofs.lemmas.List.Kept.{AllPairs-filter}
 use Rattle.std.proofs.lemmas.List.Edits.{length-insert, get_or-insert_below, get_or-insert_at, get_or-insert_above, length-remove, get_or-remove_below}

@@ -1,9 +1,7 @@
 -- How often a range can be halved.
 use Rattle.std.proofs.Common.{◌≡◌, ℕ, ◌+◌, ◌*◌, ◌-◌, ◌^◌, ◌<◌, ◌≤◌, ◌∙◌, subst, arith}
 use Rattle.std.proofs.Math.Nat.{mul-le-mul_left, mul_comm}
-use Rattle.std.proofs.Math.Pow.{pow_mono}
 use Rattle.std.proofs.lemmas.Grind.{pow_more}
-use Rattle.sctp_serial.specs.Turns.{IsWithinDigits}
 
 -- one step more
 pub one_more : (t u v : ℕ) → t ≤ u → v ≡ u + 1 → 2 ^ (v - t) ≡ 2 * 2 ^ (u - t)

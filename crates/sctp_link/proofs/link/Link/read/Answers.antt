@@ -1,5 +1,5 @@
 use Rattle.sctp_link.proofs.Names.{◌≡◌, ap, sym, ◌∙◌, None, true, false, refl, subst, arith, map, length, is_some, option_map, slice_index_or, slice_set}
-use Rattle.sctp_link.proofs.Names.{ChunkSet, chunk_at, refusal_of, at_start, with_read, IsLinked, Sides, IsAligned, sides, on_stream, read_recorded, record_in}
+use Rattle.sctp_link.proofs.Names.{ChunkSet, chunk_at, at_start, with_read, IsLinked, Sides, IsAligned, sides, on_stream, read_recorded, record_in}
 use Rattle.sctp_link.proofs.Names.{record_from, state_from, sides_in, message_record, progress_of, on_inbound, Some}
 use Rattle.sctp_model.specs.Reply as R
 use Rattle.sctp_link.proofs.Names.{stream_read, message_read}

@@ -1,4 +1,4 @@
-use Rattle.sctp_link.proofs.Names.{◌+◌, ◌<◌, ◌∙◌, arith, length, length-set, and_one, and_run, fragment_slot}
+use Rattle.sctp_link.proofs.Names.{◌+◌, ◌<◌, ◌∙◌, arith, length, length-set, and_run, fragment_slot}
 use Rattle.sctp_link.proofs.acknowledging.AckLoops.{marking-same, marking-one, run-more, run-all}
 use Rattle.sctp_link.proofs.link.sack_in.acknowledge_run.Goals as goal
 

@@ -1,6 +1,6 @@
-use Rattle.std.proofs.Common.{◌++◌, ◌∷◌, [], List, length, length-append, length-set, ap, subst, sym, ◌∙◌, refl, arith}
+use Rattle.std.proofs.Common.{◌++◌, ◌∷◌, [], List, length, ap, subst, sym, ◌∙◌, refl, arith}
 use Rattle.sctp_data.specs.declared.chunk.chunk_forward_tsn.ChunkForwardTsnStream.{ChunkForwardTsnStream}
-use Rattle.sctp_sender.specs.Abandonment.{Name, pair_of}
+use Rattle.sctp_sender.specs.Abandonment.{Name}
 use Rattle.sctp_sender.proofs.Names.{renamed, added}
 use Rattle.sctp_sender.proofs.sender.flight.skipping.name_within.Goals as goal
 

@@ -1,8 +1,7 @@
 use Rattle.std.proofs.Common.{◌++◌, ◌∷◌, [], List, ap, sym, subst, length, ◌∙◌}
-use Rattle.std.proofs.lemmas.List.{map-append}
 use Rattle.sctp_data.specs.declared.chunk.chunk_forward_tsn.ChunkForwardTsnStream.{ChunkForwardTsnStream}
 use Rattle.sctp_stream.specs.Numbers.{IsAbsent}
-use Rattle.sctp_sender.specs.Abandonment.{IsNoPair, streams_of}
+use Rattle.sctp_sender.specs.Abandonment.{IsNoPair}
 use Rattle.sctp_sender.proofs.Pairs.{absent}
 use Rattle.sctp_sender.proofs.sender.flight.pairs.Pairs.push.Goals as goal
 
