@@ -1,8 +1,9 @@
 -- What is written of chunks.
 use Rattle.std.proofs.Common.{◌≡◌, ℕ, zero, suc, ◌+◌, ◌-◌, ◌<◌, ◌≤◌, List, [], ◌∷◌, ◌++◌, length, get_or, take, replicate, refl, arith, ap, ◌∙◌, length-append}
 use Rattle.std.proofs.Common.{append_assoc, inl, inr}
-use Rattle.std.specs.Prelude.{map}
+use Rattle.std.specs.Prelude.{map, min}
 use Rattle.std.specs.List.{AllByRecursion}
+use Rattle.std.proofs.lemmas.Bool.{cases_lt}
 use Rattle.std.proofs.lemmas.List.{length-replicate}
 use Rattle.std.proofs.lemmas.List.Concat.{flat_map-cons}
 use Rattle.sctp_base.specs.declared.error.Error.{Error}
@@ -85,8 +86,24 @@ length_packet_encoding sum p =
 pub lacks_encoding : (sum : List ℕ → ℕ) (room : ℕ) (p : Parts) → LacksRoom room 12 p.chunks → room < length (packet_encoding sum p)
 lacks_encoding sum room p lacks = omega (arith, lacks.2, length_body_take lacks.0 p.chunks, length_packet_encoding sum p)
 
+-- what lacks room with more of it lacks it with less
+pub less_room : (room more head : ℕ) (ws : List Wire) → room ≤ more → LacksRoom more head ws → LacksRoom room head ws
+less_room room more head ws le lacks = (lacks.0, lacks.1, omega (arith, le, lacks.2))
+
 -- a packet whose writing names a fault has no encoding
 pub no_packet_encoding : (e : Error) (ws : List Wire) → FirstEncodingFault e ws → IsEncodingError e × (AllByRecursion HasEncoding ws → ⊥)
 no_packet_encoding e [] fault = absurd fault
 no_packet_encoding e (w ∷ ws) (inl fault) = let n = no_encoding e w fault in (n.0, λ all. n.1 all.0)
 no_packet_encoding e (w ∷ ws) (inr more) = let n = no_packet_encoding e ws more.1 in (n.0, λ all. n.1 all.1)
+
+-- a total up to the greatest number, and one chunk more
+pub summed_up : (top before value len sum total after : ℕ) → len ≡ min (min value top + 4) top → sum ≡ min (len + padding_of len) top
+    → total ≡ min (min (12 + before) top + sum) top → after ≡ before + (4 + value + padding_of (4 + value)) → total ≡ min (12 + after) top
+summed_up top before value len sum total after is-len is-sum is-total is-after =
+    elim (cases_lt top (4 + value)) [
+      | inr fits ↦
+          let exact : len ≡ 4 + value = omega (arith, is-len, fits) in
+          let added = rw exact at is-sum in
+          omega (arith, added, is-total, is-after)
+      | inl over ↦ omega (arith, is-len, is-sum, is-total, is-after, over)
+    ]

@@ -2,7 +2,7 @@
 //! The header is source port and destination port, two bytes each, the verification tag and the checksum, four
 //! bytes each. The checksum stands with its lowest byte first, every other number with its highest.
 
-ghost use Rattle.std.specs.Prelude.{◌≡◌, ◌<◌, ◌^◌, ◌+◌, ◌++◌, ℕ, List, true, length, map, drop, ◌⊎◌, IfOk, IfErr, IsOkUnless, OnOk, OnErr, take, ◌≤◌};
+ghost use Rattle.std.specs.Prelude.{◌≡◌, ◌<◌, ◌^◌, ◌+◌, ◌-◌, ◌++◌, ℕ, min, List, true, length, map, drop, ◌⊎◌, IfOk, IfErr, IsOkUnless, OnOk, OnErr, take, ◌≤◌};
 ghost use Rattle.std.specs.List.{AllByRecursion};
 ghost use Rattle.std.specs.Prelude.{[]};
 ghost use Rattle.sctp_base.specs.Field.{le32, u16_at, u32_at};
@@ -34,6 +34,9 @@ use std::fmt;
 
 /// The bytes of a header.
 pub const PACKET_HEADER_SIZE: usize = 12;
+
+// No IP datagram has more bytes (RFC 791 3.1).
+const MAX_DATAGRAM: usize = 65_535;
 
 /// What the header says beside the checksum (RFC 4960 3.1).
 #[derive(Clone, Copy, Debug, PartialEq, Eq)]
@@ -167,6 +170,18 @@ fn put_chunk(buf: &mut BytesMut, chunk: &ChunkKind) -> Result<()>
     }
 }
 
+/// How many bytes a packet of these chunks has, up to the greatest `usize`.
+fn length_with(chunks: &[ChunkKind]) -> usize
+    ensures { result ≡ min (12 + length (body_of (map wire_of chunks.now))) (2 ^ 64 - 1) }
+{
+    let mut total = PACKET_HEADER_SIZE;
+    for chunk in chunks {
+        let length = chunk.value_length().saturating_add(CHUNK_HEADER_SIZE);
+        total = total.saturating_add(length.saturating_add(get_padding_size(length)));
+    }
+    total
+}
+
 /// Appends chunks, each with its padding. After a refusal some may stand there.
 fn put_chunks(buf: &mut BytesMut, chunks: &[ChunkKind]) -> Result<()>
     ensures ok { OnOk result (AllByRecursion HasEncoding (map wire_of chunks.now)
@@ -278,6 +293,8 @@ impl Packet {
             ⊎ ((e ≡ ErrOutOfMemory) × LacksRoom buf.old.spare 12 (parts_of self.now).chunks)) }
     {
         let start = buf.len();
+        // Room for all at once, so that the buffer doesn't grow for each part. Where memory is refused the parts tell of it.
+        let _ = buf.reserve(length_with(&self.chunks).min(MAX_DATAGRAM));
         match self.put(buf, checksum) {
             Ok(()) => Ok(buf.len()),
             Err(e) => {
