@@ -314,7 +314,8 @@ impl Packet {
             (IsEncodingError e × (HavePacketEncoding (parts_of self.now) → ⊥))) }
         ensures names { IfErr result (λ e. OrMemory e (PacketEncodingFault e (parts_of self.now))) }
     {
-        let mut buf = BytesMut::new(alloc);
+        let length = length_with(&self.chunks).min(MAX_DATAGRAM);
+        let mut buf = BytesMut::with_capacity(alloc, length)?;
         self.marshal_to(&mut buf, checksum)?;
         Ok(buf.freeze()?)
     }
