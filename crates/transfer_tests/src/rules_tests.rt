@@ -11,7 +11,7 @@ use sctp_receiver::receiver::arrival::{Arrival, Forwarded};
 use sctp_sender::sender::flight::late::AbandonedMessage;
 use std::alloc::Global;
 
-// A whole message of stream 1 with the TSN 1, whose length is that of its header alone (RFC 4960 3.3.1).
+// A complete message of stream 1 with the TSN 1, whose length is that of its header alone (RFC 4960 3.3.1).
 const EMPTY: [u8; 16] = [0, 3, 0, 16, 0, 0, 0, 1, 0, 1, 0, 0, 0, 0, 0, 53];
 
 fn empty(alloc: Global) -> Result<ChunkPayloadData, Error> {
