@@ -78,9 +78,10 @@ REASONS = {
 RULES = [
     ("a DATA chunk without user data is taken as one of no bytes; an ABORT with cause 9 is the association's", "4960 6.2, 3.3.10.9",
      [("sctp_data", "PayloadData", "ReadsData")], ["sctp_chunks::ChunkPayloadData::unmarshal", "sctp_receiver::Receiver::data"],
-     ["queue_tests::an_empty_fragment_is_one_piece"]),
+     ["transfer_tests::no_user_data"]),
     ("the checksum is taken with 0 in its field", "4960 6.8",
-     [("sctp_packets", "Packet", "checksum_input")], ["sctp_packets::Packet::unmarshal", "sctp_packets::Packet::marshal"], ["crc32c::datagrams"]),
+     [("sctp_packets", "Packet", "checksum_input")], ["sctp_packets::Packet::unmarshal", "sctp_packets::Packet::marshal"],
+     ["packet_tests::recorded_datagrams_are_written_back"]),
     ("padding is not counted in a chunk's length", "4960 3.2",
      [("sctp_base", "Padding", "padded_length"), ("sctp_packets", "Packet", "after")],
      ["sctp_base::get_padding_size", "sctp_packets::Packet::unmarshal"], ["packet_tests::fronts"]),
@@ -98,9 +99,10 @@ RULES = [
      ["transfer_tests::lifetime_ends_in_flight"]),
     ("of a message that is abandoned when partially sent the rest takes one TSN, which is never sent", "3758 3.5",
      [("sctp_outbound", "outbound_queue.OutboundQueue", "terminal_chunk"), ("sctp_model", "Laws", "NoTerminalChunkIsSent")],
-     ["sctp_sender::Sender::abandon", "sctp_sender::Sender::expire_tail", "sctp_model::slots_are_valid"], ["transfer_tests::lifetime_ends_in_flight"]),
+     ["sctp_sender::Sender::abandon", "sctp_sender::Sender::expire_tail", "sctp_model::slots_are_valid"],
+     ["transfer_tests::abandoned_when_partially_sent"]),
     ("a FORWARD-TSN that is not past the cumulative TSN changes nothing", "3758 3.6",
-     [("sctp_receiver", "Receiver", "is_stale")], ["sctp_receiver::Receiver::forward_tsn"], ["transfer_tests::skips"]),
+     [("sctp_receiver", "Receiver", "is_stale")], ["sctp_receiver::Receiver::forward_tsn"], ["transfer_tests::stale_forward_tsn"]),
 ]
 
 

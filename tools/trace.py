@@ -7,24 +7,26 @@
 
 run at the top of the repository. NAME is a function (`sna32lt`), a type's function (`PayloadQueue::push`), or either behind a crate's
 name (`sctp_outbound::PayloadQueue::push`), public or not; or a word of the clauses (`after_sack`, `sctp_receiver::is_stale`), of which it prints
-the definition and the calls whose clauses name it. Of a CRATE it lists the public calls, each with the first sentence of its comment and the names
+the definition, the calls whose clauses name it, and those whose clauses name a definition that uses it. Where a NAME is of several functions, or of
+words of several crates, it lists them, each with its crate. Of a CRATE it lists the public calls, each with the first sentence of its comment and the names
 of its clauses. With --all it prints each public call of a library that misses something: a clause or a test that reaches it, and a wrong body or a
 caller, or, of a law, its proof; then a count, and the exit status is 0 where nothing is missing. It reads texts alone, and proves nothing.
 
-Definitions are those of the words that the clauses name, where they stand in a crate of this repository. What has no clause of its own and is a
-trait's has the trait's. A caller is a function that calls it by a value of its type, as far as parameters, fields and results tell; where they
-don't, and a call of that name is of several types, it stands under `perhaps`.
+Definitions are those of the words that the clauses name, and those that these use, where they stand in a crate of this repository. What has no
+clause of its own and is a trait's has the trait's. A caller is a function that calls it by a value of its type, as far as parameters, fields and
+results tell; where they don't, and a call of that name is of several types, it stands under `perhaps`.
 """
 import os
 import re
 import signal
 import sys
 
-from sources import Sources, crates, files_below, lines_of
+from sources import Sources, crates, files_below, imports, lines_of
 from wrong_bodies import bodies_of, function_of
 
 # crates that only call others
 PROGRAMS = ("uses", "bench", "benchlib", "linkrun", "sctpdump", "refusals", "association", "sctp_delivery")
+DEFINED = re.compile(r"(?:(?:abbrev|opaque|unfoldable|pub|record|data) )+([^\s:(]+)")
 DEFINES = r"^\s*(?:(?:abbrev|opaque|unfoldable) )?(?:pub )?(?:abbrev |record |data |let )?"
 
 
@@ -39,14 +41,73 @@ def definition_at(crate, module, word):
     return None
 
 
+class Definitions:
+    """What each file of the specs defines, and which definitions use which: each is a crate, a module and a word."""
+
+    def __init__(self):
+        self.places, self.texts, self.brought = {}, {}, {}
+        for crate in crates():
+            for path in files_below(f"crates/{crate}/specs", ".antt"):
+                self.read(crate, path.removeprefix(f"crates/{crate}/specs/").removesuffix(".antt").replace("/", "."), path)
+        self.uses = {it: self.used_by(it) for it in self.texts}
+        self.users = {}
+        for it, used in self.uses.items():
+            for one in used:
+                self.users.setdefault(one, []).append(it)
+
+    def read(self, crate, module, path):
+        words, lines = {}, lines_of(path)
+        for at, line in enumerate(lines, 1):
+            imports(f"ghost {line.removeprefix('pub ')};", words)
+            named = DEFINED.match(line)
+            if named:
+                self.places.setdefault((crate, module, named[1]), f"{path}:{at}")
+                end = next((it for it in range(at, len(lines)) if not lines[it].strip()), len(lines))
+                self.texts[crate, module, named[1]] = [it for it in lines[at - 1:end] if not it.startswith("--")]
+        self.brought[crate, module] = words
+
+    def used_by(self, definition):
+        """Returns the definitions that this one uses, where they stand in a crate of this repository."""
+        crate, module, word = definition
+        words, found = self.brought[crate, module], []
+        for first, second in re.findall(r"(?<![\w.])(\w+)(?:\.(\w+))?", " ".join(self.texts[definition])):
+            room, place, own = words.get(first, (crate, module, first))
+            one = (room, place, own or second)
+            if one in self.places and one != definition:
+                found.append(one)
+        return list(dict.fromkeys(found))
+
+    def behind(self, call):
+        """Returns the definitions that those of a call's contract use, but for the latter."""
+        named = [it for it in named_by(call) if it in self.uses]
+        found = dict.fromkeys(it for one in named for it in self.uses[one] if it not in named)
+        return [f"{it[2]}  {self.places[it]}" for it in found]
+
+    def calls_behind(self, definition, functions):
+        """Returns the calls whose clauses name a definition that uses this one, and not it: each with those that it names."""
+        users, found = set(self.users.get(definition, [])), []
+        for it in functions:
+            named = named_by(it) if users else []
+            by = [one[2] for one in named if one in users]
+            if by and definition not in named:
+                found.append(f"{it.title()}  {it.path}:{it.line}  by {', '.join(by)}")
+        return found
+
+
+def named_by(call):
+    """Returns what the clauses of a call name: a crate, a module and a word each."""
+    found = []
+    for first, second in re.findall(r"(?<![\w.])(\w+)(?:\.(\w+))?", " ".join(call.clauses)):
+        if first in call.words:
+            crate, module, own = call.words[first]
+            found.append((crate, module, own or second))
+    return list(dict.fromkeys(found))
+
+
 def definitions_of(call):
     """Returns where the words of the contract are defined."""
     found = []
-    for first, second in re.findall(r"(?<![\w.])(\w+)(?:\.(\w+))?", " ".join(call.clauses)):
-        if first not in call.words:
-            continue
-        crate, module, own = call.words[first]
-        word = own or second
+    for crate, module, word in named_by(call):
         at = word and definition_at(crate, module, word)
         if at:
             found.append(f"{word}  {at}")
@@ -164,13 +225,14 @@ def comment_of(call):
     return [it.strip().removeprefix("///").strip() for it in lines[begin:call.line - 1] if it.strip().startswith("///")]
 
 
-def trace(call, traits, bodies, callers):
+def trace(call, traits, bodies, callers, definitions):
     print(f"{call.title()}{'' if call.is_public else '  (private)'}")
     show("code", [f"{call.path}:{call.line}"], "")
     show("comment", comment_of(call), "none", 60)
     origin = traits.get((call.path, call.line))
     show("contract", ([origin] if origin else []) + call.clauses, "no clause: it is safe and total", len(call.clauses) + 1)
     show("definitions", definitions_of(call), "none beside those of its types")
+    show("what these use", definitions.behind(call), "none")
     show("proof", proofs_of(call), "found by the prover alone")
     show("wrong bodies", sorted(bodies.get((call.path, call.owner, call.name), [])), "none")
     rows, perhaps = callers.of(call)
@@ -200,19 +262,28 @@ def list_calls(crate, sources):
             print(f"    {first[1] if first else 'no comment'}" + (f" ({', '.join(clauses)})" if clauses else ""))
 
 
-def trace_word(word, sources, rooms):
-    """Prints the definition of a word of the clauses in these crates, and the calls whose clauses name it; returns whether there is such a word."""
-    found = [at for crate in rooms for path in files_below(f"crates/{crate}/specs", ".antt")
-             for at in [definition_at(crate, path.removeprefix(f"crates/{crate}/specs/").removesuffix(".antt").replace("/", "."), word)] if at]
-    for at in found:
+def trace_word(word, sources, rooms, definitions):
+    """Prints the definition of a word of the clauses in these crates, and the calls whose clauses name it, or a definition that uses it; where
+    several crates have such a word, a list of them. Returns whether there is one."""
+    found = [(crate, module, at) for crate in rooms for path in files_below(f"crates/{crate}/specs", ".antt")
+             for module in [path.removeprefix(f"crates/{crate}/specs/").removesuffix(".antt").replace("/", ".")]
+             for at in [definition_at(crate, module, word)] if at]
+    if len({crate for crate, _, _ in found}) > 1:
+        show(f"{word}: words of the clauses", [f"{crate}::{word}  {at}" for crate, _, at in found], "", len(found))
+        return True
+    for crate, module, at in found:
         print(f"{word}  {at}")
         show("definition", text_at(at), "", 20)
-        crate = at.split("/")[1]
-        rows = [f"{it.title()}  {it.path}:{it.line}" for it in sources.functions
-                if any(own == word and room == crate and re.search(rf"(?<![\w.]){re.escape(named)}\b", " ".join(it.clauses))
-                       for named, (room, _, own) in it.words.items())]
+        rows = [f"{it.title()}  {it.path}:{it.line}" for it in sources.functions if (crate, module, word) in named_by(it)]
         show("calls whose clauses name it", rows, "none")
+        show("calls whose clauses name a definition that uses it", definitions.calls_behind((crate, module, word), sources.functions), "none")
     return bool(found)
+
+
+def candidates(parts, sources):
+    """Returns the functions of a name, of which parts may be left out at its front, or its type between a crate and its function."""
+    return [it for it in sources.functions if it.title().split("::")[-len(parts):] == parts or
+            (it.crate == parts[0] and it.title().split("::")[1:][-len(parts[1:]):] == parts[1:])]
 
 
 def main():
@@ -224,13 +295,15 @@ def main():
     traits, callers = with_traits(sources), Callers(sources)
     bodies = {crate: wrong_bodies_of(crate) for crate in crates()}
     if sys.argv[1] != "--all":
-        parts = sys.argv[1].split("::")
-        found = [it for it in sources.functions if it.title().split("::")[-len(parts):] == parts or
-                 (it.crate == parts[0] and it.title().split("::")[1:][-len(parts[1:]):] == parts[1:])]
-        for call in sorted(found, key=lambda it: not it.is_public):
-            trace(call, traits, bodies[call.crate], callers)
+        parts, definitions = sys.argv[1].split("::"), Definitions()
+        found = sorted(candidates(parts, sources), key=lambda it: not it.is_public)
+        if len({it.title() for it in found}) > 1:
+            show(f"{sys.argv[1]}: functions", [f"{it.title()}  {it.path}:{it.line}" for it in found], "", len(found))
+        else:
+            for call in found:
+                trace(call, traits, bodies[call.crate], callers, definitions)
         rooms = crates() if len(parts) == 1 else [parts[0]] if len(parts) == 2 and parts[0] in crates() else []
-        word = trace_word(parts[-1], sources, rooms)
+        word = trace_word(parts[-1], sources, rooms, definitions)
         sys.exit(0 if found or word else f"trace.py: no call and no word of the clauses is named {sys.argv[1]}")
     calls = [it for it in sources.functions if it.is_public and (it.crate not in PROGRAMS or it.path.endswith("laws.rt")) and not it.crate.endswith("_tests")]
     count = 0

@@ -1,5 +1,6 @@
 #!/usr/bin/env python3
-"""Asks trace.py's reading for what was found by hand: callers of twenty-one calls, contracts of traits, definitions, and comments.
+"""Asks trace.py's reading for what was found by hand: callers of twenty-one calls, contracts of traits, definitions, what these use, names that
+several functions have, and comments.
 
     python3 tools/trace_test.py
 
@@ -9,7 +10,7 @@ looks by hand again. Prints what differs; the exit status is 0 where nothing doe
 import sys
 
 from sources import Sources
-from trace import Callers, comment_of, definitions_of, with_traits
+from trace import Callers, Definitions, candidates, comment_of, definitions_of, with_traits
 
 CALLERS = {
     "sctp_sender::InFlight::expire_late": {"sctp_sender/sender/abandonment expire_late"},
@@ -50,6 +51,19 @@ DEFINITIONS = {
     "crc32c::Crc::update": {"Holds"},
     "sctp_receiver::Receiver::data_each": {"TakesEach", "StopsAt"},
 }
+# what the definitions of a contract use, and which calls name a definition that uses this one, by which
+BEHIND = {
+    "sctp_sender::Sender::advanced_ack_point": {"Flight", "is_kept", "preceding_tsn"},
+}
+CALLS_BEHIND = {
+    ("sctp_sender", "Abandonment", "skip_end"): {"sctp_delivery::what_is_abandoned_can_be_passed by SkipsToPoint"},
+}
+# which functions a name has
+CANDIDATES = {
+    "expire_late": {"sctp_sender::Sender::expire_late", "sctp_sender::InFlight::expire_late", "sctp_delivery::expire_late"},
+    "Sender::expire_late": {"sctp_sender::Sender::expire_late"},
+    "sctp_sender::expire_late": {"sctp_sender::Sender::expire_late", "sctp_sender::InFlight::expire_late"},
+}
 # how a comment begins, and how many lines it has
 COMMENTS = {
     "sctp_sender::Sender::retransmit_all": ("Marks each outstanding chunk in flight for retransmission", 2),
@@ -78,12 +92,21 @@ def main():
         if found != want:
             wrong += 1
             print(f"{title}: definitions {sorted(found)}, not {sorted(want)}")
+    definitions = Definitions()
+    found = {title: {it.split("  ")[0] for it in definitions.behind(calls[title])} for title in BEHIND}
+    found |= {it: {f"{row.split('  ')[0]} {row.split('  ')[2]}" for row in definitions.calls_behind(it, sources.functions)} for it in CALLS_BEHIND}
+    found |= {name: {it.title() for it in candidates(name.split("::"), sources)} for name in CANDIDATES}
+    for it, want in (BEHIND | CALLS_BEHIND | CANDIDATES).items():
+        if found[it] != want:
+            wrong += 1
+            print(f"{it}: {sorted(found[it])}, not {sorted(want)}")
     for title, (begins, count) in COMMENTS.items():
         found = comment_of(calls[title])
         if len(found) != count or not found[0].startswith(begins):
             wrong += 1
             print(f"{title}: comment of {len(found)} lines, {found[:1]}")
-    print(f"{len(CALLERS) + len(TRAITS) + len(DEFINITIONS) + len(COMMENTS)} asked, {wrong} differ")
+    tables = (CALLERS, TRAITS, DEFINITIONS, BEHIND, CALLS_BEHIND, CANDIDATES, COMMENTS)
+    print(f"{sum(len(it) for it in tables)} asked, {wrong} differ")
     sys.exit(1 if wrong else 0)
 
 

@@ -1,8 +1,18 @@
-//! The calls that add their turns: what they answer, and what they leave.
+//! The calls that add their turns: what they answer, and what they leave; of some what they look at in a case that is counted by hand.
+
+ghost use Rattle.std.specs.Prelude.{◌≡◌, ◌+◌, ◌-◌, ◌≤◌, [], ◌∷◌, OnOk, length};
+ghost use Rattle.sctp_data.specs.declared.chunk.chunk_forward_tsn.ChunkForwardTsnStream.{ChunkForwardTsnStream};
+ghost use Rattle.sctp_receiver.specs.Datagrams.{IsWithinDatagram, datagram_looks};
+ghost use Rattle.sctp_receiver.specs.SkipCosts.{held_fragments, held_messages};
+ghost use Rattle.sctp_receiver.specs.Visited.{to_visit};
 
 use crate::host::{Host, sends};
 use crate::part::{chunk, comes_again, is_new, named, numbered, reads};
+use sctp_base::error::Error;
+use sctp_chunks::chunk::chunk_forward_tsn::ChunkForwardTsn;
+use sctp_chunks::chunk::chunk_payload_data::ChunkPayloadData;
 use sctp_chunks::chunk::chunk_selective_ack::ChunkSelectiveAck;
+use sctp_receiver::laws::{a_datagram_costs_by_its_chunks, a_skip_costs_by_what_is_held};
 use sctp_receiver::receiver::Receiver;
 use sctp_receiver::receiver::arrival::{Arrival, Forwarded};
 use sctp_receiver::receiver::refusal::ReceiverRefusal;
@@ -170,4 +180,115 @@ fn skipped(rt: HostRuntime) {
     let well = first_is_skipped(alloc, &mut receiver)
         && numbered(alloc, &mut receiver, 3, 1) == Ok(Arrival::New { complete: true });
     assert!(rt; well && reads(&mut receiver, b"a"));
+}
+
+// Takes DATA chunks together. Two of them, where no TSN is beyond the cumulative one, look at 24 at most beside the pushes: each three
+// times at both binary digits of two, and at six more.
+fn take_each(
+    receiver: &mut Receiver,
+    chunks: &[ChunkPayloadData],
+    turns: &mut Turns,
+) -> Result<Vec<Arrival>, ReceiverRefusal>
+    ensures looks { OnOk result
+        (IsWithinDatagram chunks.now receiver.old receiver.new (turns.new - turns.old)) }
+    ensures by_hand { datagram_looks 2 0 ≡ 24 }
+{
+    a_datagram_costs_by_its_chunks();
+    receiver.data_each_counted(chunks, turns)
+}
+
+// A message of two fragments, the last one first.
+fn two_fragments(alloc: Global) -> Result<Vec<ChunkPayloadData>, Error> {
+    let mut chunks = Vec::new(alloc);
+    chunks.push(chunk(alloc, 2, false, true, b"b")?)?;
+    chunks.push(chunk(alloc, 1, true, false, b"a")?)?;
+    Ok(chunks)
+}
+
+// Whether chunks are taken together with these answers.
+fn are_taken(receiver: &mut Receiver, chunks: &[ChunkPayloadData], due: &[Arrival]) -> bool {
+    match take_each(receiver, chunks, &mut Turns::new()) {
+        Ok(arrivals) => arrivals.as_slice() == due,
+        Err(_) => false,
+    }
+}
+
+// The fragments come twice.
+fn two_come_twice(receiver: &mut Receiver, chunks: &[ChunkPayloadData]) -> bool {
+    let first = Arrival::New { complete: false };
+    let second = Arrival::New { complete: true };
+    are_taken(receiver, chunks, &[first, second])
+        && are_taken(receiver, chunks, &[Arrival::Repeat, Arrival::Repeat])
+        && reads(receiver, b"ab")
+}
+
+/// DATA chunks are taken together as `data_each` takes them.
+#[test]
+fn taken_together(rt: HostRuntime) {
+    let alloc = rt.alloc();
+    let mut receiver = Receiver::new(alloc, 1, 100, None);
+    let well = match two_fragments(alloc) {
+        Ok(chunks) => receiver.open(1).is_ok() && two_come_twice(&mut receiver, &chunks),
+        Err(_) => false,
+    };
+    assert!(rt; well);
+}
+
+// The calls that count what a FORWARD-TSN looks at within streams.
+#[derive(Clone, Copy)]
+enum Way {
+    Known,
+    PastClosed,
+    ByNames,
+}
+
+// Follows a FORWARD-TSN. Of one name, where one message of one fragment is held, it looks 22 times at most: one for the name, one for
+// the stream, 14 for the message, six for its fragment.
+fn follow(
+    receiver: &mut Receiver,
+    skip: &ChunkForwardTsn,
+    way: Way,
+    skips: &mut Turns,
+) -> Result<Forwarded, ReceiverRefusal>
+    ensures looks { (n : ChunkForwardTsnStream) → skip.now.streams.items ≡ n ∷ []
+        → held_messages receiver.old.streams ≡ 1 → held_fragments receiver.old.streams ≡ 1
+        → length (to_visit receiver.old.streams) ≡ 1 → skips.new ≤ skips.old + 22 }
+{
+    a_skip_costs_by_what_is_held();
+    let mut turns = Turns::new();
+    match way {
+        Way::Known => receiver.forward_tsn_skips_counted(skip, &mut turns, skips),
+        Way::PastClosed => {
+            receiver.forward_tsn_past_closed_skips_counted(skip, &mut turns, skips)
+        }
+        Way::ByNames => receiver.forward_tsn_by_names_skips_counted(skip, &mut turns, skips),
+    }
+}
+
+// Whether a FORWARD-TSN that names the message 0 of stream 1 is followed.
+fn is_followed(alloc: Global, receiver: &mut Receiver, way: Way) -> bool {
+    match named(alloc, 2, 1, 0) {
+        Ok(skip) => follow(receiver, &skip, way, &mut Turns::new()) == Ok(Forwarded::Skipped),
+        Err(_) => false,
+    }
+}
+
+// Of the message 0 one of two fragments came; the message 1 is read once it is skipped.
+fn next_is_read(alloc: Global, receiver: &mut Receiver, way: Way) -> bool {
+    receiver.open(1).is_ok()
+        && is_new(alloc, receiver, 1, (true, false), b"b")
+        && is_followed(alloc, receiver, way)
+        && receiver.cumulative_tsn() == 2
+        && numbered(alloc, receiver, 3, 1) == Ok(Arrival::New { complete: true })
+        && reads(receiver, b"a")
+}
+
+/// A FORWARD-TSN is followed by each call that counts its looks within streams as by the one that does not.
+#[test]
+fn skipped_by_each(rt: HostRuntime) {
+    let alloc = rt.alloc();
+    for way in [Way::Known, Way::PastClosed, Way::ByNames] {
+        let mut receiver = Receiver::new(alloc, 1, 100, None);
+        assert!(rt; next_is_read(alloc, &mut receiver, way));
+    }
 }

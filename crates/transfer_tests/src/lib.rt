@@ -25,6 +25,8 @@ pub mod receiving;
 #[cfg(test)]
 mod repeat_tests;
 #[cfg(test)]
+mod rules_tests;
+#[cfg(test)]
 mod saving_tests;
 #[cfg(test)]
 mod sender_tests;
