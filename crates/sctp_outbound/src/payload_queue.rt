@@ -192,6 +192,9 @@ fn run_end(
     while step < end - last {
         let ahead = held.tsn_at(last + step, turns);
         if distance(tsn, ahead) as usize != step {
+            if step == 1 {
+                return (last, Some(ahead));
+            }
             return run_end_between(held, last, tsn, last + step, Some(ahead), turns);
         }
         last += step;
@@ -202,7 +205,9 @@ fn run_end(
 }
 
 // The same by halves, where the TSN at the end may have been seen: as many turns as the number of places behind the first has
-// binary digits.
+// binary digits. It stands apart, so that what short runs take stays small.
+#[cold]
+#[inline(never)]
 fn run_end_between(
     held: &Held,
     place: usize,

@@ -201,12 +201,11 @@ impl PendingQueue {
         ensures rest { self.new ≡ rest_of unordered self.old (list_of unordered self.old) }
     {
         if unordered {
-            // looked at where it stands, so that it is copied once, into the result
             note_sent(&mut self.selected, true, self.unordered.get(0)?);
-            return self.unordered.pop_front();
+            return Some(self.unordered.take_front());
         }
         note_sent(&mut self.selected, false, self.ordered.get(0)?);
-        self.ordered.pop_front()
+        Some(self.ordered.take_front())
     }
 
     /// The list that the flag names.

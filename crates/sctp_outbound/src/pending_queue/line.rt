@@ -19,7 +19,7 @@ use std::alloc::Global;
 use std::collections::VecDeque;
 use std::marker::Model;
 
-// For how many chunks an empty line keeps memory, where its room does not ask for more: 122,880 bytes.
+// For how many chunks a line that gets empty keeps memory, where its room does not ask for more: 122,880 bytes.
 const MOST_KEPT: usize = 1024;
 
 /// Chunks in the order in which they came. The next `room` pushes take no memory.
@@ -201,27 +201,24 @@ impl Line {
             ≡ with_chunks self.new (chunk ∷ self.new.chunks)) }
         ensures empty { IfNone result ((self.old.chunks ≡ []) × (self.new ≡ self.old)) }
     {
-        if self.chunks.len() == 1 && self.chunks.capacity() > MOST_KEPT {
-            return self.pop_last();
+        if self.chunks.is_empty() {
+            return None;
         }
-        // looked at where it stands, so that it is copied once, into the result
-        let chunk = self.chunks.front()?;
-        self.n_bytes -= chunk.user_data.len();
-        self.chunks.pop_front()
+        Some(self.take_front())
     }
 
-    // Takes out the first chunk, and gives back memory where it was the last.
-    #[cold]
-    #[inline(never)]
-    fn pop_last(&mut self) -> Option<ChunkPayloadData>
-        ensures popped { IfSome result (λ chunk. self.old
-            ≡ with_chunks self.new (chunk ∷ self.new.chunks)) }
-        ensures empty { IfNone result ((self.old.chunks ≡ []) × (self.new ≡ self.old)) }
+    /// Takes out the first chunk. It is looked at where it stands, so that it is copied once, into the result.
+    /// Precondition: there is one.
+    pub(crate) fn take_front(&mut self) -> ChunkPayloadData
+        requires { 0 < length self.old.chunks }
+        ensures { self.old ≡ with_chunks self.new (result ∷ self.new.chunks) }
     {
-        let chunk = self.chunks.pop_front()?;
-        self.n_bytes -= chunk.user_data.len();
         self.give_back();
-        Some(chunk)
+        self.n_bytes -= self.chunks[0].user_data.len();
+        match self.chunks.pop_front() {
+            Some(chunk) => chunk,
+            None => unreachable!(),
+        }
     }
 
     // Takes out the first chunk, if it is of the message.
@@ -256,13 +253,23 @@ impl Line {
         (before - self.get_num_bytes(), last)
     }
 
-    // Gives back memory where no chunk waits: all but that for `MOST_KEPT` chunks and for the room.
+    // Gives back memory where at most one chunk waits: all but that for `MOST_KEPT` chunks, and for that one and the room.
     fn give_back(&mut self)
         ensures { self.new ≡ self.old }
     {
-        if self.chunks.is_empty() && self.chunks.capacity() > MOST_KEPT {
-            self.chunks.shrink_to(MOST_KEPT.max(self.room));
+        if self.chunks.len() <= 1 && self.chunks.capacity() > MOST_KEPT {
+            self.shrink();
         }
+    }
+
+    // Gives back memory: all but that for `MOST_KEPT` chunks, and for those that wait and the room.
+    #[cold]
+    #[inline(never)]
+    fn shrink(&mut self)
+        ensures { self.new ≡ self.old }
+    {
+        let least = self.chunks.len() + self.room;
+        self.chunks.shrink_to(MOST_KEPT.max(least));
     }
 
     /// Removes what waits of a message, and answers its bytes and the last of it.
@@ -285,7 +292,8 @@ impl Line {
             (change_where (is_on stream_identifier) (lower_by by) self.old.chunks) }
         ensures bytes { bytes_of self.new.chunks ≡ bytes_of self.old.chunks }
     {
-        lower_ssns_in(&mut self.chunks, stream_identifier, by);
+        // in one slice, so that the walk tests no wrap
+        lower_ssns_in(self.chunks.make_contiguous(), stream_identifier, by);
     }
 
     /// Starts the lifetimes of timed messages numbered from `first_message_id` on
@@ -362,14 +370,10 @@ fn remove_from(
 }
 
 // Lowers the stream sequence numbers of a stream by so many.
-fn lower_ssns_in(chunks: &mut VecDeque<ChunkPayloadData>, stream_identifier: u16, by: u16)
-    ensures items { chunks.new.items
-        ≡ change_where (is_on stream_identifier) (lower_by by) chunks.old.items }
-    ensures len { deque_len chunks.new ≡ deque_len chunks.old }
-    ensures capacity { deque_capacity chunks.new ≡ deque_capacity chunks.old }
+fn lower_ssns_in(chunks: &mut [ChunkPayloadData], stream_identifier: u16, by: u16)
+    ensures { chunks.new ≡ change_where (is_on stream_identifier) (lower_by by) chunks.old }
 {
-    for place in 0..chunks.len() {
-        let chunk = &mut chunks[place];
+    for chunk in chunks.iter_mut() {
         if chunk.stream_identifier != stream_identifier {
             continue;
         }

@@ -2,13 +2,13 @@
 use Rattle.std.proofs.Common.{◌≡◌, ◌≢◌, ℕ, zero, suc, ◌<◌, ◌≤◌, List, [], ◌∷◌, length, get_or, set, take, drop, min, is_some, cond, IsSome, Option, None, Some}
 use Rattle.std.proofs.Common.{refl, sym, ap, ap₂, ◌∙◌, subst, arith}
 use Rattle.std.specs.List.{AllByRecursion, insert, remove}
-use Rattle.std.proofs.lemmas.List.Elements.{All-append, All-cons, All-take, All-drop}
+use Rattle.std.proofs.lemmas.List.Elements.{All-append, All-cons, All-set, All-take, All-drop}
 use Rattle.std.proofs.lemmas.List.Sums.{sum_by-set}
 use Rattle.slab.specs.Slab.{Slab, ContainsKey, get, slab_len, with_value}
 use Rattle.slab.proofs.SlabLemmas.{ContainsKey-within, Updates-with_value}
 use Rattle.sctp_data.specs.declared.chunk.chunk_payload_data.ChunkPayloadData.{ChunkPayloadData}
 use Rattle.sctp_outbound.specs.declared.payload_queue.held.Place.{Place}
-use Rattle.sctp_outbound.specs.Stored.{Stored, IsNotBefore, NoneBefore}
+use Rattle.sctp_outbound.specs.Stored.{Stored, IsNotBefore, NoneBefore, with_chunks}
 use Rattle.sctp_outbound.proofs.lemmas.payload_queue.Deadlines.{none_sooner, not_sooner}
 use Rattle.sctp_outbound.specs.payload_queue.Places.{AreHeldAt, chunks_at}
 
@@ -171,22 +171,54 @@ none_before_insert m n k xs c moment e h own =
     All-append (IsNotBefore moment) (take k xs) (c ∷ drop k xs) (All-take (IsNotBefore moment) k xs each)
     (All-cons (IsNotBefore moment) c (drop k xs) (not_sooner n moment c (omega (arith, e)) own) (All-drop (IsNotBefore moment) k xs each))
 
--- a chunk rewritten in its slab, where its TSN stays
-pub rewritten : (slab : Slab ChunkPayloadData) (ps : List Place) (n : ℕ) (p : Place) (x y : ChunkPayloadData) → n < length ps → p ≡ get_or ps n p
-    → get slab p.key ≡ Some x → y.tsn ≡ x.tsn → AreHeldAt (get slab) ps (chunks_at (get slab) ps)
-    → (chunks_at (get (with_value slab p.key y)) ps ≡ set (chunks_at (get slab) ps) n y)
-    × AreHeldAt (get (with_value slab p.key y)) ps (chunks_at (get (with_value slab p.key y)) ps) × (slab_len (with_value slab p.key y) ≡ slab_len slab)
-rewritten slab ps n p x y lt e is same h =
-    let present : ContainsKey slab p.key = subst IsSome (sym is) refl in
-    let within = ContainsKey-within slab p.key present in
+-- the key of a place is in the slab
+pub is_kept : (slab : Slab ChunkPayloadData) (ps : List Place) (n : ℕ) (p : Place) → n < length (chunks_at (get slab) ps) → p ≡ get_or ps n p
+    → AreHeldAt (get slab) ps (chunks_at (get slab) ps) → ContainsKey slab p.key
+is_kept slab ps n p lt e h =
+    let found = held_at (get slab) ps _ h n p (omega (arith, lt, held_length _ _ _ h)) e in
+    subst IsSome (sym found.1) refl
+
+-- what is held once the chunk x under the key of a place is rewritten as y
+pub record IsRewritten (slab : Slab ChunkPayloadData) (ps : List Place) (n key moment : ℕ) (x y : ChunkPayloadData) : Type 0 where
+  pub read : (d : ChunkPayloadData) → get_or (chunks_at (get slab) ps) n d ≡ x
+  pub chunks : chunks_at (get (with_value slab key y)) ps ≡ set (chunks_at (get slab) ps) n y
+  pub held : AreHeldAt (get (with_value slab key y)) ps (chunks_at (get (with_value slab key y)) ps)
+  pub counted : length (chunks_at (get (with_value slab key y)) ps) ≡ length (chunks_at (get slab) ps)
+  pub len : slab_len (with_value slab key y) ≡ slab_len slab
+  pub deadlines : NoneBefore moment (chunks_at (get (with_value slab key y)) ps)
+
+-- so it is where its TSN stays and its deadline comes no nearer
+pub rewritten : (slab : Slab ChunkPayloadData) (ps : List Place) (n moment : ℕ) (p : Place) (x y : ChunkPayloadData) → n < length (chunks_at (get slab) ps)
+    → p ≡ get_or ps n p → get slab p.key ≡ Some x → y.tsn ≡ x.tsn → (IsNotBefore moment x → IsNotBefore moment y)
+    → AreHeldAt (get slab) ps (chunks_at (get slab) ps) → NoneBefore moment (chunks_at (get slab) ps) → IsRewritten slab ps n p.key moment x y
+rewritten slab ps n moment p x y lt e is same later h before =
+    let xs = chunks_at (get slab) ps in
+    let present = is_kept slab ps n p lt e h in
     let updates = Updates-with_value slab p.key y present in
-    let found = held_at (get slab) ps _ h n p lt e in
-    let number : y.tsn ≡ (get_or (chunks_at (get slab) ps) n x).tsn = same
-    ∙ ap (λ (c : ChunkPayloadData). c.tsn) (same_chunk _ _ _ is found.1 ∙ sym (found.3 x)) in
-    let both = written (get slab)
-    (get (with_value slab p.key y)) p.key updates.others y x updates.changed ps n p lt (ap (λ (r : Place). r.key) (sym e)) number h in
-    let moved = sum_by-set (λ o. cond (is_some o) 1 0) slab.slots p.key (Some y) None within in
-    (both.0, both.1, omega (arith, rw is at moved))
+    let short : n < length ps = omega (arith, lt, held_length _ _ _ h) in
+    let found = held_at (get slab) ps _ h n p short e in
+    let read = λ (d : ChunkPayloadData). found.3 d ∙ same_chunk _ _ _ found.1 is in
+    let number : y.tsn ≡ (get_or xs n x).tsn = same ∙ ap (λ (c : ChunkPayloadData). c.tsn) (sym (read x)) in
+    let both = written (get slab) (get (with_value slab p.key y)) p.key updates.others y x updates.changed ps n p short
+    (ap (λ (r : Place). r.key) (sym e)) number h in
+    let moved = sum_by-set (λ o. cond (is_some o) 1 0) slab.slots p.key (Some y) None (ContainsKey-within slab p.key present) in
+    record {
+      read = read;
+      chunks = both.0;
+      held = both.1;
+      counted = omega (arith, held_length _ _ _ both.1, held_length _ _ _ h);
+      len = omega (arith, rw is at moved);
+      deadlines = subst (NoneBefore moment) (sym both.0)
+          (All-set (IsNotBefore moment) xs n y (later (subst (IsNotBefore moment) (read x) (before n x lt))) before);
+    }
+
+-- what callers see of it, where the chunk is changed by f
+pub rewritten_as : (slab : Slab ChunkPayloadData) (ps : List Place) (n key moment room : ℕ) (x y : ChunkPayloadData) (f : ChunkPayloadData → ChunkPayloadData)
+    (now : Stored) → IsRewritten slab ps n key moment x y → y ≡ f x → as_stored (chunks_at (get slab) ps) room ≡ now → (d : ChunkPayloadData)
+    → as_stored (chunks_at (get (with_value slab key y)) ps) room ≡ with_chunks now (set now.chunks n (f (get_or now.chunks n d)))
+rewritten_as slab ps n key moment room x y f now r e viewed d =
+    stored _ _ _ _ (r.chunks ∙ ap (set (chunks_at (get slab) ps) n) (e ∙ ap f (sym (r.read d)))
+    ∙ ap (λ s. set s.chunks n (f (get_or s.chunks n d))) viewed) (ap (λ s. s.room) viewed)
 
 pub none_before_remove : (m k : ℕ) (xs : List ChunkPayloadData) → NoneBefore m xs → NoneBefore m (remove xs k)
 none_before_remove m k xs h = All-append (IsNotBefore m) (take k xs) (drop (suc k) xs) (All-take (IsNotBefore m) k xs h) (All-drop (IsNotBefore m) (suc k) xs h)

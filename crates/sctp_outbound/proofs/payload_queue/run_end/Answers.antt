@@ -85,3 +85,31 @@ returns-clause-cost c =
     (omega (arith, c.run_end_between-2.ensures.cost, inv.known)) in
     turns_of_both c.args.turns.now c.loop-step.turns c.run_end_between-2.new.turns _ inv.not_back c.run_end_between-2.ensures.not_back
     (omega (arith, inv.cost, inv.from, run.from)) (omega (arith, second, inv.known, inv.from, run.from))
+
+pub returns-then-step-eq1-clause-run : goal.returns-then-step-eq1-clause-run
+returns-then-step-eq1-clause-run c =
+    let xs = c.args.held.now.chunks in
+    let last = c.loop-step.last in
+    let step = c.loop-step.step in
+    let inv = c.loop-step.invariant in
+    let one : step ≡ 1 = c.if-step-eq1.true in
+    let short : last + step < length xs = omega (arith, c.requires.in_range) in
+    run_cut xs c.args.place last (last + step) c.args.end last (omega arith) c.requires.in_range inv.from inv.rising
+    (breaks_ahead xs c.requires.serial last c.loop-step.tsn step c.tsn_at-ahead.result short inv.number c.tsn_at-ahead.ensures.value
+    (λ e. c.if-distance-step.true (c.distance.ensures.value ∙ e)))
+    (record {
+      from = omega arith;
+      to = omega arith;
+      rising = λ k d ge below. absurd (omega arith);
+      stops = λ within d. absurd (omega arith);
+    })
+
+pub returns-then-step-eq1-clause-cost : goal.returns-then-step-eq1-clause-cost
+returns-then-step-eq1-clause-cost c =
+    let inv = c.loop-step.invariant in
+    let more = one_more c.args.turns.now c.loop-step.turns c.tsn_at-ahead.new.turns inv.not_back c.tsn_at-ahead.ensures.turn in
+    omega (
+      arith,
+      product (2 ^ (c.tsn_at-ahead.new.turns - c.args.turns.now)) 1 (c.loop-step.last + 1 - c.args.place)
+          (omega (arith, more, inv.cost, inv.from)) (omega (arith, inv.from)),
+    )
