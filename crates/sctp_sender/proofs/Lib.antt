@@ -1,3 +1,4 @@
+pub mod Seen
 pub mod Runs
 pub mod MarkedRuns
 pub mod MarkedPlaces

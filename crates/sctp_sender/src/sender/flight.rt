@@ -58,8 +58,9 @@ pub struct InFlight {
     queue: OutboundQueue,
     next_tsn: u32,
     acked_tsn: u32,
-    // The gap ack blocks of the last SACK that was taken, in ascending order: distances from `acked_tsn`. None where a report was taken
-    // back since. What they report is acknowledged, and the next SACK does not look at it.
+    // Gap ack blocks in ascending order, as distances from `acked_tsn`: those of the last SACK that was taken, or what a sender was left of
+    // those that it kept, where a report was taken back since; none behind a lone `restore`. What they report is acknowledged, and the
+    // next SACK does not look at it.
     known: Vec<GapAckBlock>,
 }
 
