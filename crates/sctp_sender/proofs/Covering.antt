@@ -1,5 +1,5 @@
 -- What a SACK takes back of what is covered, and what covers it afterwards.
-use Rattle.std.proofs.Common.{◌≡◌, ℕ, zero, suc, ◌+◌, ◌-◌, ◌<◌, ◌≤◌, ◌^◌, Bool, true, false, List, [], ◌∷◌, length, length-drop, map, drop, get_or, Option}
+use Rattle.std.proofs.Common.{◌≡◌, ℕ, zero, suc, ◌+◌, ◌-◌, ◌<◌, ◌≤◌, Bool, true, false, List, [], ◌∷◌, length, length-drop, map, drop, get_or, Option}
 use Rattle.std.proofs.Common.{Result, Ok, Err, Some, None, inl, inr, refl, ap, sym, ◌∙◌, arith}
 use Rattle.std.specs.Prelude.{IfOk, if◌then◌else◌, ◌&&◌, ◌||◌, not, nat_lt}
 use Rattle.std.specs.List.{list_any}
@@ -17,15 +17,15 @@ use Rattle.sctp_data.specs.SelectiveAck.{Sack}
 use Rattle.sctp_outbound.specs.Marks.{as_acknowledged}
 use Rattle.sctp_outbound.specs.payload_queue.Blocks.{is_in_blocks}
 use Rattle.sctp_serial.specs.DataChunks.{following_tsn}
-use Rattle.sctp_sender.specs.Flight.{Flight, IsContiguous, after_sack, is_outdated, reports, reports_anew, sack_refusal, take_sack}
+use Rattle.sctp_sender.specs.Flight.{Flight, IsContiguous, after_sack, reports, reports_anew, take_sack}
 use Rattle.sctp_sender.specs.Keeping.{Cover, back_each, back_of, can_at, can_come_back, is_uncovered, keep_each, kept_after, return_at, returns_at, trimmed}
 use Rattle.sctp_sender.specs.Keeping.{kept_from}
-use Rattle.sctp_sender.specs.Reporting.{AreKnown, AreSorted, ascends_from}
+use Rattle.sctp_sender.specs.Reporting.{AreKnown, ascends_from}
 use Rattle.sctp_sender.specs.Telling.{is_reached}
 use Rattle.sctp_sender.proofs.Covers.{neither}
 use Rattle.sctp_sender.proofs.Keepings.{length-keep_each, taken-within}
 use Rattle.sctp_sender.proofs.Known.{known-at}
-use Rattle.sctp_sender.proofs.Reported.{changed-at, ends, reached}
+use Rattle.sctp_sender.proofs.Reported.{IsTaken, changed-at, ends, reached}
 use Rattle.sctp_sender.proofs.Runs.{any_chunk, past-is, tsn-at}
 use Rattle.sctp_sender.proofs.Sacks.{apart, count as marked-count, cum-is, run as marked-run}
 
@@ -71,198 +71,201 @@ module _ (f : Flight) (inv : IsContiguous f) where
         unless true h = refl
         unless false h = absurd (not_both (sym h))
 
-  module _ (s : Sack) (fits : s.cumulative_tsn_ack < 2 ^ 32) (taken : sack_refusal s f ≡ None) (current : is_outdated s f ≡ false) (sorted : List GapAckBlock)
-      (are : AreSorted sorted s.gap_ack_blocks) where
-    abbrev count : ℕ
-    count = distance f.acked_tsn s.cumulative_tsn_ack
+module _ {s : Sack} {f : Flight} {sorted : List GapAckBlock} (taken : IsTaken s f sorted) where
+  abbrev now : List ChunkPayloadData
+  now = f.queue.inflight.chunks
 
-    within : count ≤ length cs
-    within = taken-within s f taken current
+  abbrev count : ℕ
+  count = distance f.acked_tsn s.cumulative_tsn_ack
 
-    reports-here : (k : ℕ) (d : ChunkPayloadData) → k < length cs → reports s (get_or cs k d) ≡ is_reached count sorted k
-    reports-here k d lt = reached f inv s fits taken current sorted are k d lt
+  within : count ≤ length now
+  within = taken-within s f taken.none taken.current
 
-    -- what comes back, place by place
-    pub back-is : (ks : List (Option (List ℕ))) (k : ℕ) → get_or (back_each s cs ks) k None ≡ return_at count sorted cs ks k
-    back-is ks k = elim (cases_lt k (length cs)) [
-      | inl lt ↦
-          let c : ChunkPayloadData = get_or cs k any_chunk in
-          let returns : returns_at count sorted cs k ≡ (can_come_back c && not (reports s c)) =
-          ap (λ b. b && not (is_reached count sorted k)) (can-here cs k any_chunk lt)
-          ∙ ap (λ b. can_come_back c && not b) (sym (reports-here k any_chunk lt)) in
-          one cs ks k any_chunk lt ∙ ap (λ b. if b then get_or ks k None else None) (sym returns)
-      | inr ge ↦
-          let none : can_at cs k ≡ false = get_or_past (map can_come_back cs) k false (let n = length-map cs can_come_back in omega (arith, n, ge)) in
-          past cs ks k ge ∙ sym (ap (λ b. if b && not (is_reached count sorted k) then get_or ks k None else None) none)
-    ]
-      where
-        nil : (k : ℕ) → get_or {A = Option (List ℕ)} [] k None ≡ None
-        nil k = get_or_past [] k None (omega arith)
+  reports-here : (k : ℕ) (d : ChunkPayloadData) → k < length now → reports s (get_or now k d) ≡ is_reached count sorted k
+  reports-here k d lt = reached taken k d lt
 
-        one : (xs : List ChunkPayloadData) (ks : List (Option (List ℕ))) (k : ℕ) (d : ChunkPayloadData) → k < length xs
-            → get_or (back_each s xs ks) k None ≡ back_of s (get_or xs k d) (get_or ks k None)
-        one xs [] k d lt = nil k ∙ sym (ap (λ x. back_of s (get_or xs k d) x) (nil k) ∙ same (can_come_back (get_or xs k d) && not (reports s (get_or xs k d))))
-          where
-            same : (b : Bool) → (let x : Option (List ℕ) = None in if b then x else None) ≡ None
-            same true = refl
-            same false = refl
-        one [] (x ∷ ks) k d lt = absurd (omega (arith, lt))
-        one (c ∷ xs) (x ∷ ks) zero d lt = refl
-        one (c ∷ xs) (x ∷ ks) (suc k) d lt = one xs ks k d (omega (arith, lt))
+  -- what comes back, place by place
+  pub back-is : (ks : List (Option (List ℕ))) (k : ℕ) → get_or (back_each s now ks) k None ≡ return_at count sorted now ks k
+  back-is ks k = elim (cases_lt k (length now)) [
+    | inl lt ↦
+        let c : ChunkPayloadData = get_or now k any_chunk in
+        let returns : returns_at count sorted now k ≡ (can_come_back c && not (reports s c)) =
+        ap (λ b. b && not (is_reached count sorted k)) (can-here now k any_chunk lt)
+        ∙ ap (λ b. can_come_back c && not b) (sym (reports-here k any_chunk lt)) in
+        one now ks k any_chunk lt ∙ ap (λ b. if b then get_or ks k None else None) (sym returns)
+    | inr ge ↦
+        let none : can_at now k ≡ false = get_or_past (map can_come_back now) k false (let n = length-map now can_come_back in omega (arith, n, ge)) in
+        past now ks k ge ∙ sym (ap (λ b. if b && not (is_reached count sorted k) then get_or ks k None else None) none)
+  ]
+    where
+      nil : (k : ℕ) → get_or {A = Option (List ℕ)} [] k None ≡ None
+      nil k = get_or_past [] k None (omega arith)
 
-        past : (xs : List ChunkPayloadData) (ks : List (Option (List ℕ))) (k : ℕ) → length xs ≤ k → get_or (back_each s xs ks) k None ≡ None
-        past xs [] k ge = nil k
-        past [] (x ∷ ks) k ge = nil k
-        past (c ∷ xs) (x ∷ ks) zero ge = absurd (omega (arith, ge))
-        past (c ∷ xs) (x ∷ ks) (suc k) ge = past xs ks k (omega (arith, ge))
+      one : (xs : List ChunkPayloadData) (ks : List (Option (List ℕ))) (k : ℕ) (d : ChunkPayloadData) → k < length xs
+          → get_or (back_each s xs ks) k None ≡ back_of s (get_or xs k d) (get_or ks k None)
+      one xs [] k d lt = nil k ∙ sym (ap (λ x. back_of s (get_or xs k d) x) (nil k) ∙ same (can_come_back (get_or xs k d) && not (reports s (get_or xs k d))))
+        where
+          same : (b : Bool) → (let x : Option (List ℕ) = None in if b then x else None) ≡ None
+          same true = refl
+          same false = refl
+      one [] (x ∷ ks) k d lt = absurd (omega (arith, lt))
+      one (c ∷ xs) (x ∷ ks) zero d lt = refl
+      one (c ∷ xs) (x ∷ ks) (suc k) d lt = one xs ks k d (omega (arith, lt))
 
-    -- ## After it
+      past : (xs : List ChunkPayloadData) (ks : List (Option (List ℕ))) (k : ℕ) → length xs ≤ k → get_or (back_each s xs ks) k None ≡ None
+      past xs [] k ge = nil k
+      past [] (x ∷ ks) k ge = nil k
+      past (c ∷ xs) (x ∷ ks) zero ge = absurd (omega (arith, ge))
+      past (c ∷ xs) (x ∷ ks) (suc k) ge = past xs ks k (omega (arith, ge))
 
-    abbrev marked : List ChunkPayloadData
-    marked = change_where (reports_anew s) as_acknowledged cs
+  -- ## After it
 
-    after-is : (after_sack s f).queue.inflight.chunks ≡ drop count marked
-    after-is =
-        let n = marked-count f inv s fits in
-        let few = inv.few in
-        ap (λ b. (if b then f else take_sack s f).queue.inflight.chunks) current
-        ∙ past-is marked f.acked_tsn s.cumulative_tsn_ack inv.in_range fits (omega (arith, few, n)) (omega (arith, within, n)) (marked-run f inv s fits)
+  abbrev marked : List ChunkPayloadData
+  marked = change_where (reports_anew s) as_acknowledged now
 
-    -- the chunk there was in flight before
-    now-at : (k : ℕ) (d : ChunkPayloadData) → count + k < length cs
-        → get_or (drop count marked) k d
-        ≡ (if reports_anew s (get_or cs (count + k) d) then as_acknowledged (get_or cs (count + k) d) else get_or cs (count + k) d)
-    now-at k d lt = get_or-drop count marked k d ∙ changed-at (reports_anew s) as_acknowledged cs (count + k) d lt
+  after-is : (after_sack s f).queue.inflight.chunks ≡ drop count marked
+  after-is =
+      let n = marked-count f taken.whole s taken.fits in
+      let few = taken.whole.few in
+      ap (λ b. (if b then f else take_sack s f).queue.inflight.chunks) taken.current
+      ∙ past-is marked f.acked_tsn s.cumulative_tsn_ack taken.whole.in_range taken.fits (omega (arith, few, n)) (omega (arith, within, n))
+      (marked-run f taken.whole s taken.fits)
 
-    now-far : (k : ℕ) (d : ChunkPayloadData) → count + k < length cs → distance s.cumulative_tsn_ack (get_or cs (count + k) d).tsn ≡ suc k
-    now-far k d lt =
-        let tsn = tsn-at cs (following_tsn f.acked_tsn) (count + k) d (omega arith) inv.run lt in
-        let cum = cum-is f.acked_tsn s.cumulative_tsn_ack inv.in_range fits in
-        let few = inv.few in
-        apart (get_or cs (count + k) d).tsn s.cumulative_tsn_ack k fits (omega (arith, few, lt)) (omega (arith, tsn, cum)) ∙ omega arith
+  -- the chunk there was in flight before
+  now-at : (k : ℕ) (d : ChunkPayloadData) → count + k < length now
+      → get_or (drop count marked) k d
+      ≡ (if reports_anew s (get_or now (count + k) d) then as_acknowledged (get_or now (count + k) d) else get_or now (count + k) d)
+  now-at k d lt = get_or-drop count marked k d ∙ changed-at (reports_anew s) as_acknowledged now (count + k) d lt
 
-    kept-length : (ks : List (Option (List ℕ))) → length (kept_after s f ks) ≤ length (drop count marked)
-    kept-length ks =
-        let all : List (Option (List ℕ)) = keep_each s cs ks in
-        let n = length-keep_each s cs ks in
-        let m = marked-count f inv s fits in
-        let a = length-drop count all in
-        let b = length-drop count marked in
-        let t = trimmed-length (drop count all) in
-        let is = ap (λ (x : Bool). length (if x then ks else trimmed (drop count all))) current in
-        omega (arith, n, m, a, b, t, is)
-      where
-        trimmed-length : (xs : List (Option (List ℕ))) → length (trimmed xs) ≤ length xs
-        trimmed-length [] = omega arith
-        trimmed-length (x ∷ xs) = by x (trimmed xs) (trimmed-length xs)
-          where
-            by : (x : Option (List ℕ)) (ys : List (Option (List ℕ))) → length ys ≤ length xs → length (kept_from x ys) ≤ suc (length xs)
-            by None [] h = omega arith
-            by None (y ∷ ys) h = omega (arith, h)
-            by (Some bytes) ys h = omega (arith, h)
+  now-far : (k : ℕ) (d : ChunkPayloadData) → count + k < length now → distance s.cumulative_tsn_ack (get_or now (count + k) d).tsn ≡ suc k
+  now-far k d lt =
+      let tsn = tsn-at now (following_tsn f.acked_tsn) (count + k) d (omega arith) taken.whole.run lt in
+      let cum = cum-is f.acked_tsn s.cumulative_tsn_ack taken.whole.in_range taken.fits in
+      let few = taken.whole.few in
+      apart (get_or now (count + k) d).tsn s.cumulative_tsn_ack k taken.fits (omega (arith, few, lt)) (omega (arith, tsn, cum)) ∙ omega arith
 
-    kept-trimmed : (ks : List (Option (List ℕ))) → trimmed (kept_after s f ks) ≡ kept_after s f ks
-    kept-trimmed ks =
-        ap (λ (b : Bool). trimmed (if b then ks else trimmed (drop count (keep_each s cs ks)))) current
-        ∙ twice (drop count (keep_each s cs ks)) ∙ sym (ap (λ (b : Bool). if b then ks else trimmed (drop count (keep_each s cs ks))) current)
-      where
-        again : (x : Option (List ℕ)) (ys : List (Option (List ℕ))) → trimmed ys ≡ ys → trimmed (kept_from x ys) ≡ kept_from x ys
-        again None [] h = refl
-        again None (y ∷ ys) h = ap (kept_from None) h
-        again (Some bytes) ys h = ap (kept_from (Some bytes)) h
+  kept-length : (ks : List (Option (List ℕ))) → length (kept_after s f ks) ≤ length (drop count marked)
+  kept-length ks =
+      let all : List (Option (List ℕ)) = keep_each s now ks in
+      let n = length-keep_each s now ks in
+      let m = marked-count f taken.whole s taken.fits in
+      let a = length-drop count all in
+      let b = length-drop count marked in
+      let t = trimmed-length (drop count all) in
+      let is = ap (λ (x : Bool). length (if x then ks else trimmed (drop count all))) taken.current in
+      omega (arith, n, m, a, b, t, is)
+    where
+      trimmed-length : (xs : List (Option (List ℕ))) → length (trimmed xs) ≤ length xs
+      trimmed-length [] = omega arith
+      trimmed-length (x ∷ xs) = by x (trimmed xs) (trimmed-length xs)
+        where
+          by : (x : Option (List ℕ)) (ys : List (Option (List ℕ))) → length ys ≤ length xs → length (kept_from x ys) ≤ suc (length xs)
+          by None [] h = omega arith
+          by None (y ∷ ys) h = omega (arith, h)
+          by (Some bytes) ys h = omega (arith, h)
 
-        twice : (xs : List (Option (List ℕ))) → trimmed (trimmed xs) ≡ trimmed xs
-        twice [] = refl
-        twice (x ∷ xs) = again x (trimmed xs) (twice xs)
+  kept-trimmed : (ks : List (Option (List ℕ))) → trimmed (kept_after s f ks) ≡ kept_after s f ks
+  kept-trimmed ks =
+      ap (λ (b : Bool). trimmed (if b then ks else trimmed (drop count (keep_each s now ks)))) taken.current
+      ∙ twice (drop count (keep_each s now ks)) ∙ sym (ap (λ (b : Bool). if b then ks else trimmed (drop count (keep_each s now ks))) taken.current)
+    where
+      again : (x : Option (List ℕ)) (ys : List (Option (List ℕ))) → trimmed ys ≡ ys → trimmed (kept_from x ys) ≡ kept_from x ys
+      again None [] h = refl
+      again None (y ∷ ys) h = ap (kept_from None) h
+      again (Some bytes) ys h = ap (kept_from (Some bytes)) h
 
-    acked-now : (k : ℕ) (d : ChunkPayloadData) → count + k < length cs
-        → ((get_or cs (count + k) d).acked || reports s (get_or cs (count + k) d)) ≡ true → (get_or (drop count marked) k d).acked ≡ true
-    acked-now k d lt h = ap (λ (x : ChunkPayloadData). x.acked) (now-at k d lt)
-        ∙ by (get_or cs (count + k) d).acked (reports s (get_or cs (count + k) d)) refl refl h
+      twice : (xs : List (Option (List ℕ))) → trimmed (trimmed xs) ≡ trimmed xs
+      twice [] = refl
+      twice (x ∷ xs) = again x (trimmed xs) (twice xs)
+
+  acked-now : (k : ℕ) (d : ChunkPayloadData) → count + k < length now
+      → ((get_or now (count + k) d).acked || reports s (get_or now (count + k) d)) ≡ true → (get_or (drop count marked) k d).acked ≡ true
+  acked-now k d lt h = ap (λ (x : ChunkPayloadData). x.acked) (now-at k d lt)
+      ∙ by (get_or now (count + k) d).acked (reports s (get_or now (count + k) d)) refl refl h
+    where
+      c : ChunkPayloadData
+      c = get_or now (count + k) d
+
+      by : (a r : Bool) → c.acked ≡ a → reports s c ≡ r → (a || r) ≡ true → (if reports_anew s c then as_acknowledged c else c).acked ≡ true
+      by true r e g o = ap (λ b. (if not b && reports s c then as_acknowledged c else c).acked) e ∙ e
+      by false true e g o = ap (λ b. (if not b && reports s c then as_acknowledged c else c).acked) e ∙ ap (λ b. (if b then as_acknowledged c else c).acked) g
+      by false false e g o = absurd (false≢true o)
+
+  -- what these blocks or earlier ones report is acknowledged then
+  pub after-known : (bs listed : List GapAckBlock) → AreKnown listed now → ((k : ℕ) → is_in_blocks bs (suc k) ≡ true
+      → (is_in_blocks sorted (suc k) || is_in_blocks listed (suc (count + k))) ≡ true) → AreKnown bs (after_sack s f).queue.inflight.chunks
+  after-known bs listed known from k e =
+      ap (λ (xs : List ChunkPayloadData). get_or (map (λ (c : ChunkPayloadData). c.acked) xs) k false) after-is
+      ∙ by (is_in_blocks sorted (suc k)) refl (from k e)
+    where
+      at : count + k < length now → ((get_or now (count + k) any_chunk).acked || reports s (get_or now (count + k) any_chunk)) ≡ true
+          → get_or (map (λ (c : ChunkPayloadData). c.acked) (drop count marked)) k false ≡ true
+      at lt h =
+          let n = length-drop count marked in
+          let m = marked-count f taken.whole s taken.fits in
+          get_or-map (λ (c : ChunkPayloadData). c.acked) (drop count marked) k any_chunk false (omega (arith, n, m, lt)) ∙ acked-now k any_chunk lt h
+
+      by : (b : Bool) → is_in_blocks sorted (suc k) ≡ b → (b || is_in_blocks listed (suc (count + k))) ≡ true
+          → get_or (map (λ (c : ChunkPayloadData). c.acked) (drop count marked)) k false ≡ true
+      by true there o =
+          let end = ends taken (suc k) there in
+          let lt : count + k < length now = omega (arith, end) in
+          let same : suc (count + k) - count ≡ suc k = omega arith in
+          at lt (or-right (get_or now (count + k) any_chunk).acked (reports s (get_or now (count + k) any_chunk)) (reports-here (count + k) any_chunk lt
+          ∙ or-right (nat_lt (count + k) count) (is_in_blocks sorted (suc (count + k) - count)) (ap (is_in_blocks sorted) same ∙ there)))
+      by false there o =
+          let h = known-at listed now known (count + k) any_chunk o in
+          at h.0 (or-left (get_or now (count + k) any_chunk).acked (reports s (get_or now (count + k) any_chunk)) h.1)
+
+  module _ (bs : List GapAckBlock) (ks : List (Option (List ℕ))) (ascend : ascends_from 0 bs ≡ true)
+      (theirs : (k : ℕ) → is_in_blocks sorted (suc k) ≡ true → is_in_blocks bs (suc k) ≡ true)
+      (left : (k : ℕ) → count + k < length now → returns_at count sorted now (count + k) ≡ true → is_in_blocks bs (suc k) ≡ true) where
+    uncovered-none : (k : ℕ) (d : ChunkPayloadData) → count + k < length now → is_uncovered bs s.cumulative_tsn_ack (get_or (drop count marked) k d) ≡ false
+    uncovered-none k d lt =
+        ap (is_uncovered bs s.cumulative_tsn_ack) (now-at k d lt) ∙ by (reports s c) refl
       where
         c : ChunkPayloadData
-        c = get_or cs (count + k) d
+        c = get_or now (count + k) d
 
-        by : (a r : Bool) → c.acked ≡ a → reports s c ≡ r → (a || r) ≡ true → (if reports_anew s c then as_acknowledged c else c).acked ≡ true
-        by true r e g o = ap (λ b. (if not b && reports s c then as_acknowledged c else c).acked) e ∙ e
-        by false true e g o = ap (λ b. (if not b && reports s c then as_acknowledged c else c).acked) e ∙ ap (λ b. (if b then as_acknowledged c else c).acked) g
-        by false false e g o = absurd (false≢true o)
+        in' : is_in_blocks bs (suc k) ≡ true → (x : ChunkPayloadData) → x.tsn ≡ c.tsn → is_uncovered bs s.cumulative_tsn_ack x ≡ false
+        in' e x same =
+            ap (λ t. can_come_back x && not (is_in_blocks bs (distance s.cumulative_tsn_ack t))) same
+            ∙ ap (λ n. can_come_back x && not (is_in_blocks bs n)) (now-far k d lt)
+            ∙ ap (λ b. can_come_back x && not b) e ∙ and-none (can_come_back x)
 
-    -- what these blocks or earlier ones report is acknowledged then
-    pub after-known : (bs listed : List GapAckBlock) → AreKnown listed cs → ((k : ℕ) → is_in_blocks bs (suc k) ≡ true
-        → (is_in_blocks sorted (suc k) || is_in_blocks listed (suc (count + k))) ≡ true) → AreKnown bs (after_sack s f).queue.inflight.chunks
-    after-known bs listed known from k e =
-        ap (λ (xs : List ChunkPayloadData). get_or (map (λ (c : ChunkPayloadData). c.acked) xs) k false) after-is
-        ∙ by (is_in_blocks sorted (suc k)) refl (from k e)
-      where
-        at : count + k < length cs → ((get_or cs (count + k) any_chunk).acked || reports s (get_or cs (count + k) any_chunk)) ≡ true
-            → get_or (map (λ (c : ChunkPayloadData). c.acked) (drop count marked)) k false ≡ true
-        at lt h =
-            let n = length-drop count marked in
-            let m = marked-count f inv s fits in
-            get_or-map (λ (c : ChunkPayloadData). c.acked) (drop count marked) k any_chunk false (omega (arith, n, m, lt)) ∙ acked-now k any_chunk lt h
+        tsn-same : (b : Bool) → (if b then as_acknowledged c else c).tsn ≡ c.tsn
+        tsn-same true = refl
+        tsn-same false = refl
 
-        by : (b : Bool) → is_in_blocks sorted (suc k) ≡ b → (b || is_in_blocks listed (suc (count + k))) ≡ true
-            → get_or (map (λ (c : ChunkPayloadData). c.acked) (drop count marked)) k false ≡ true
-        by true there o =
-            let end = ends f inv s fits taken current sorted are (suc k) there in
-            let lt : count + k < length cs = omega (arith, end) in
+        out : (b : Bool) → can_come_back c ≡ b → reports s c ≡ false → is_uncovered bs s.cumulative_tsn_ack c ≡ false
+        out false e r = ap (λ b. b && not (is_in_blocks bs (distance s.cumulative_tsn_ack c.tsn))) e
+        out true e r = in' (left k lt (ap (λ b. b && not (is_reached count sorted (count + k))) (can-here now (count + k) d lt ∙ e)
+            ∙ ap not (sym (reports-here (count + k) d lt) ∙ r))) c refl
+
+        by : (r : Bool) → reports s c ≡ r
+            → is_uncovered bs s.cumulative_tsn_ack (if reports_anew s c then as_acknowledged c else c) ≡ false
+        by true e =
+            let at : is_reached count sorted (count + k) ≡ true = sym (reports-here (count + k) d lt) ∙ e in
+            let behind : nat_lt (count + k) count ≡ false = grind (arith, nat_tests) in
             let same : suc (count + k) - count ≡ suc k = omega arith in
-            at lt (or-right (get_or cs (count + k) any_chunk).acked (reports s (get_or cs (count + k) any_chunk)) (reports-here (count + k) any_chunk lt
-            ∙ or-right (nat_lt (count + k) count) (is_in_blocks sorted (suc (count + k) - count)) (ap (is_in_blocks sorted) same ∙ there)))
-        by false there o =
-            let h = known-at listed cs known (count + k) any_chunk o in
-            at h.0 (or-left (get_or cs (count + k) any_chunk).acked (reports s (get_or cs (count + k) any_chunk)) h.1)
+            let there : is_in_blocks sorted (suc k) ≡ true = sym (ap (is_in_blocks sorted) same)
+            ∙ sym (ap (λ b. b || is_in_blocks sorted (suc (count + k) - count)) behind) ∙ at in
+            in' (theirs k there) (if reports_anew s c then as_acknowledged c else c) (tsn-same (reports_anew s c))
+        by false e =
+            let old : reports_anew s c ≡ false = ap (λ b. not c.acked && b) e ∙ and-none (not c.acked) in
+            ap (λ b. is_uncovered bs s.cumulative_tsn_ack (if b then as_acknowledged c else c)) old ∙ out (can_come_back c) refl e
 
-    module _ (bs : List GapAckBlock) (ks : List (Option (List ℕ))) (ascend : ascends_from 0 bs ≡ true)
-        (theirs : (k : ℕ) → is_in_blocks sorted (suc k) ≡ true → is_in_blocks bs (suc k) ≡ true)
-        (left : (k : ℕ) → count + k < length cs → returns_at count sorted cs (count + k) ≡ true → is_in_blocks bs (suc k) ≡ true) where
-      uncovered-none : (k : ℕ) (d : ChunkPayloadData) → count + k < length cs → is_uncovered bs s.cumulative_tsn_ack (get_or (drop count marked) k d) ≡ false
-      uncovered-none k d lt =
-          ap (is_uncovered bs s.cumulative_tsn_ack) (now-at k d lt) ∙ by (reports s c) refl
-        where
-          c : ChunkPayloadData
-          c = get_or cs (count + k) d
-
-          in' : is_in_blocks bs (suc k) ≡ true → (x : ChunkPayloadData) → x.tsn ≡ c.tsn → is_uncovered bs s.cumulative_tsn_ack x ≡ false
-          in' e x same =
-              ap (λ t. can_come_back x && not (is_in_blocks bs (distance s.cumulative_tsn_ack t))) same
-              ∙ ap (λ n. can_come_back x && not (is_in_blocks bs n)) (now-far k d lt)
-              ∙ ap (λ b. can_come_back x && not b) e ∙ and-none (can_come_back x)
-
-          tsn-same : (b : Bool) → (if b then as_acknowledged c else c).tsn ≡ c.tsn
-          tsn-same true = refl
-          tsn-same false = refl
-
-          out : (b : Bool) → can_come_back c ≡ b → reports s c ≡ false → is_uncovered bs s.cumulative_tsn_ack c ≡ false
-          out false e r = ap (λ b. b && not (is_in_blocks bs (distance s.cumulative_tsn_ack c.tsn))) e
-          out true e r = in' (left k lt (ap (λ b. b && not (is_reached count sorted (count + k))) (can-here cs (count + k) d lt ∙ e)
-              ∙ ap not (sym (reports-here (count + k) d lt) ∙ r))) c refl
-
-          by : (r : Bool) → reports s c ≡ r
-              → is_uncovered bs s.cumulative_tsn_ack (if reports_anew s c then as_acknowledged c else c) ≡ false
-          by true e =
-              let at : is_reached count sorted (count + k) ≡ true = sym (reports-here (count + k) d lt) ∙ e in
-              let behind : nat_lt (count + k) count ≡ false = grind (arith, nat_tests) in
-              let same : suc (count + k) - count ≡ suc k = omega arith in
-              let there : is_in_blocks sorted (suc k) ≡ true = sym (ap (is_in_blocks sorted) same)
-              ∙ sym (ap (λ b. b || is_in_blocks sorted (suc (count + k) - count)) behind) ∙ at in
-              in' (theirs k there) (if reports_anew s c then as_acknowledged c else c) (tsn-same (reports_anew s c))
-          by false e =
-              let old : reports_anew s c ≡ false = ap (λ b. not c.acked && b) e ∙ and-none (not c.acked) in
-              ap (λ b. is_uncovered bs s.cumulative_tsn_ack (if b then as_acknowledged c else c)) old ∙ out (can_come_back c) refl e
-
-      pub after-covered : Cover bs (kept_after s f ks) (after_sack s f)
-      after-covered = record {
-        ascend = ascend;
-        each = ap (λ (g : Flight). list_any (is_uncovered bs g.acked_tsn) g.queue.inflight.chunks)
-            (ap (λ b. if b then f else take_sack s f) current)
-            ∙ ap (list_any (is_uncovered bs s.cumulative_tsn_ack)) (sym (ap (λ b. (if b then f else take_sack s f).queue.inflight.chunks) current) ∙ after-is)
-            ∙ list_any_none (is_uncovered bs s.cumulative_tsn_ack) (drop count marked) (λ k d less. uncovered-none k d
-            (let n = length-drop count marked in let m = marked-count f inv s fits in omega (arith, n, m, less)));
-        within = let a = ap length after-is in let b = kept-length ks in omega (arith, a, b);
-        trim = kept-trimmed ks;
-      }
+    pub after-covered : Cover bs (kept_after s f ks) (after_sack s f)
+    after-covered = record {
+      ascend = ascend;
+      each = ap (λ (g : Flight). list_any (is_uncovered bs g.acked_tsn) g.queue.inflight.chunks)
+          (ap (λ b. if b then f else take_sack s f) taken.current)
+          ∙ ap (list_any (is_uncovered bs s.cumulative_tsn_ack)) (sym (ap (λ b. (if b then f else take_sack s f).queue.inflight.chunks) taken.current)
+          ∙ after-is) ∙ list_any_none (is_uncovered bs s.cumulative_tsn_ack) (drop count marked) (λ k d less. uncovered-none k d
+          (let n = length-drop count marked in let m = marked-count f taken.whole s taken.fits in omega (arith, n, m, less)));
+      within = let a = ap length after-is in let b = kept-length ks in omega (arith, a, b);
+      trim = kept-trimmed ks;
+    }
 
 -- what holds of an answer holds of what follows from it
 pub each-ok : {A E : Type 0} (r : Result A E) {P Q : A → Type 0} → ((a : A) → P a → Q a) → IfOk r P → IfOk r Q

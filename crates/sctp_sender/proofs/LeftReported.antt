@@ -1,6 +1,6 @@
 -- Blocks that are left of what was reported, once something came back.
-use Rattle.std.proofs.Common.{◌≡◌, ℕ, suc, ◌+◌, ◌<◌, ◌≤◌, Bool, true, false, List, length, get_or, Option, Some, None, refl, ap, sym, ◌∙◌, arith}
-use Rattle.std.specs.Prelude.{◌&&◌, not, is_some}
+use Rattle.std.proofs.Common.{◌≡◌, ℕ, suc, ◌+◌, ◌<◌, ◌≤◌, Bool, true, false, List, length, get_or, Option, Some, None, refl, ap, sym, subst, ◌∙◌, arith}
+use Rattle.std.specs.Prelude.{◌&&◌, not, IfSome, is_some}
 use Rattle.std.specs.List.{list_any}
 use Rattle.std.proofs.lemmas.Bool.{false≢true}
 use Rattle.std.proofs.lemmas.List.{get_or-map}
@@ -10,9 +10,10 @@ use Rattle.sctp_list_lemmas.proofs.Cases.{and-true}
 use Rattle.sctp_data.specs.declared.chunk.chunk_payload_data.ChunkPayloadData.{ChunkPayloadData}
 use Rattle.sctp_data.specs.declared.chunk.chunk_selective_ack.GapAckBlock.{GapAckBlock}
 use Rattle.sctp_outbound.specs.payload_queue.Blocks.{is_in_blocks}
+use Rattle.sctp_sender.specs.declared.sender.flight.listing.Left.{Left}
 use Rattle.sctp_sender.specs.declared.sender.flight.taking_back.PlacedData.{PlacedData}
 use Rattle.sctp_sender.specs.Flight.{Flight, IsContiguous}
-use Rattle.sctp_sender.specs.Keeping.{Cover, can_come_back, is_at, is_uncovered, placed, restored, with_restored}
+use Rattle.sctp_sender.specs.Keeping.{Cover, blocks_left, can_come_back, is_at, is_uncovered, placed, restored, with_restored}
 use Rattle.sctp_sender.specs.Reporting.{AreKnown, ascends_from}
 use Rattle.sctp_sender.proofs.Anew.{both}
 use Rattle.sctp_sender.proofs.Covering.{can-here, covered-at, far-at}
@@ -73,3 +74,9 @@ module _ (f : Flight) (inv : IsContiguous f) (listed : List GapAckBlock) (ks : L
       nothing : (o : Option (List ℕ)) → not (is_some o) ≡ true → o ≡ None
       nothing None g = refl
       nothing (Some bytes) g = absurd (false≢true g)
+
+-- what holds of the blocks that are left holds of those that are noted twice
+pub noted-twice : (P : List GapAckBlock → Type 0) (left : Option Left) (bs : List GapAckBlock) → IfSome left (λ l. l.known.items ≡ l.reported.items)
+    → P (blocks_left left bs) → IfSome left (λ l. P l.known.items)
+noted-twice P None bs same h = tt
+noted-twice P (Some l) bs same h = subst P (sym same) h

@@ -1,3 +1,4 @@
+pub mod Seen
 pub mod Runs
 pub mod MarkedRuns
 pub mod MarkedPlaces
@@ -41,6 +42,7 @@ pub mod Placed
 pub mod Covering
 pub mod AnewKept
 pub mod LeftReported
+pub mod Expiries
 pub mod KeepCosts
 pub mod Lows
 mod Examples

@@ -13,7 +13,7 @@ use Rattle.sctp_stream.specs.declared.stream.StreamState.{StreamState}
 use Rattle.sctp_sender.specs.declared.sender.flight.Released.{Released}
 use Rattle.sctp_sender.specs.declared.sender.flight.late.AbandonedMessage.{AbandonedMessage}
 use Rattle.sctp_sender.specs.Late.{after_leaving}
-use Rattle.sctp_sender.specs.Outgoing.{after_expiry, after_releases, has_number, less_by, number}
+use Rattle.sctp_sender.specs.Outgoing.{after_expiries, after_releases, has_number, less_by, number}
 use Rattle.sctp_sender.specs.Thresholds.{falls_in, falls_on, is_above, tells_low, tells_message_low, with_lows, with_message_lows}
 
 -- ## The stream that is found after a change
@@ -56,14 +56,14 @@ above-before : (o : Option StreamState) (n : ℕ) → is_above (option_map (less
 above-before None n e = e
 above-before (Some l) n e = lower l.buffered_amount_low l.buffered_amount n e
 
-expiry-above : (b : Bool) (n : ℕ) (o : Option StreamState) → is_above (option_map (after_expiry b n) o) ≡ is_above (option_map (less_by n) o)
-expiry-above b n None = refl
-expiry-above true n (Some l) = refl
-expiry-above false n (Some l) = refl
+expiry-above : (b : Bool) (m n : ℕ) (o : Option StreamState) → is_above (option_map (after_expiries b m n) o) ≡ is_above (option_map (less_by n) o)
+expiry-above b m n None = refl
+expiry-above true m n (Some l) = refl
+expiry-above false m n (Some l) = refl
 
-pub expiry-number : (b : Bool) (n : ℕ) (l : StreamState) → number (after_expiry b n l) ≡ number l
-expiry-number true n l = refl
-expiry-number false n l = refl
+pub expiry-number : (b : Bool) (m n : ℕ) (l : StreamState) → number (after_expiries b m n l) ≡ number l
+expiry-number true m n l = refl
+expiry-number false m n l = refl
 
 -- what a release of one stream tells
 pub release-falls : (s n : ℕ) (ls : List StreamState)
@@ -72,12 +72,12 @@ release-falls s n ls =
     falls-above (find (has_number s) ls) n
     ∙ ap (λ o. is_above (find (has_number s) ls) && not (is_above o)) (sym (found-same (less_by n) (λ l. refl) s ls))
 
-pub expiry-falls : (s : ℕ) (b : Bool) (n : ℕ) (ls : List StreamState)
-    → falls_on s n ls ≡ (is_above (find (has_number s) ls) && not (is_above (find (has_number s) (change_where (has_number s) (after_expiry b n) ls))))
-expiry-falls s b n ls =
+pub expiry-falls : (s : ℕ) (b : Bool) (m n : ℕ) (ls : List StreamState)
+    → falls_on s n ls ≡ (is_above (find (has_number s) ls) && not (is_above (find (has_number s) (change_where (has_number s) (after_expiries b m n) ls))))
+expiry-falls s b m n ls =
     falls-above (find (has_number s) ls) n
     ∙ ap (λ a. is_above (find (has_number s) ls) && not a)
-    (sym (expiry-above b n (find (has_number s) ls)) ∙ ap is_above (sym (found-same (after_expiry b n) (expiry-number b n) s ls)))
+    (sym (expiry-above b m n (find (has_number s) ls)) ∙ ap is_above (sym (found-same (after_expiries b m n) (expiry-number b m n) s ls)))
 
 -- ## One release after another
 
@@ -186,8 +186,8 @@ module _ (s : ℕ) (ls ms : List StreamState) where
   pub release-answered : (n : ℕ) (b : Bool) → b ≡ falls_on s n ls → ms ≡ change_where (has_number s) (less_by n) ls → b ≡ fallen
   release-answered n b low less = low ∙ release-falls s n ls ∙ ap (λ ks. above s ls && not (above s ks)) (sym less)
 
-  pub expiry-answered : (u : Bool) (n : ℕ) (b : Bool) → b ≡ falls_on s n ls → ms ≡ change_where (has_number s) (after_expiry u n) ls → b ≡ fallen
-  expiry-answered u n b low less = low ∙ expiry-falls s u n ls ∙ ap (λ ks. above s ls && not (above s ks)) (sym less)
+  pub expiry-answered : (u : Bool) (m n : ℕ) (b : Bool) → b ≡ falls_on s n ls → ms ≡ change_where (has_number s) (after_expiries u m n) ls → b ≡ fallen
+  expiry-answered u m n b low less = low ∙ expiry-falls s u m n ls ∙ ap (λ ks. above s ls && not (above s ks)) (sym less)
 
   module _ (rs xs : List Released) (lows : xs ≡ with_lows rs ls) (less : ms ≡ after_releases rs ls) where
     counted : count_by (tells_low s) xs ≡ one_if fallen

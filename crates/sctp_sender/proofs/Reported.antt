@@ -74,8 +74,15 @@ taken-blocks s f taken current = by (nat_lt (length f.queue.inflight.chunks) (co
 block-ends : (left n : ℕ) (b : GapAckBlock) → is_within left b ≡ true → is_in_block n b ≡ true → n ≤ left
 block-ends left n b e h = let t = both (nat_le b.start n) (nat_le n b.end) h in grind (arith, nat_tests, e, t.0, t.1)
 
-module _ (f : Flight) (inv : IsContiguous f) (s : Sack) (fits : s.cumulative_tsn_ack < 2 ^ 32) (taken : sack_refusal s f ≡ None)
-    (current : is_outdated s f ≡ false) where
+-- a SACK that is neither refused nor out of date, and its blocks in ascending order
+pub record IsTaken (s : Sack) (f : Flight) (sorted : List GapAckBlock) : Type 0 where
+  pub whole : IsContiguous f
+  pub fits : s.cumulative_tsn_ack < 2 ^ 32
+  pub none : sack_refusal s f ≡ None
+  pub current : is_outdated s f ≡ false
+  pub are : AreSorted sorted s.gap_ack_blocks
+
+module _ {s : Sack} {f : Flight} {sorted : List GapAckBlock} (taken : IsTaken s f sorted) where
   abbrev cs : List ChunkPayloadData
   cs = f.queue.inflight.chunks
 
@@ -83,7 +90,7 @@ module _ (f : Flight) (inv : IsContiguous f) (s : Sack) (fits : s.cumulative_tsn
   count = distance f.acked_tsn s.cumulative_tsn_ack
 
   within : count ≤ length cs
-  within = taken-within s f taken current
+  within = taken-within s f taken.none taken.current
 
   reports-at : (k : ℕ) (d : ChunkPayloadData) → k < length cs → reports s (get_or cs k d) ≡ (nat_lt k count || is_in_blocks s.gap_ack_blocks (suc k - count))
   reports-at k d lt = elim (cases_lt k count) [
@@ -91,11 +98,11 @@ module _ (f : Flight) (inv : IsContiguous f) (s : Sack) (fits : s.cumulative_tsn
         let c : ChunkPayloadData = get_or cs k d in
         let front : nat_lt k count ≡ true = grind (arith, nat_tests, low) in
         let base : ℕ = (f.acked_tsn + k) % 2 ^ 32 in
-        let near : count < 2 ^ 31 = omega (arith, within, inv.few) in
-        let far : distance base s.cumulative_tsn_ack ≡ count - k = before f.acked_tsn s.cumulative_tsn_ack count k inv.in_range near low cum in
+        let near : count < 2 ^ 31 = omega (arith, within, taken.whole.few) in
+        let far : distance base s.cumulative_tsn_ack ≡ count - k = before f.acked_tsn s.cumulative_tsn_ack count k taken.whole.in_range near low cum in
         let next : c.tsn ≡ following_tsn base = omega (arith, tsn k d lt) in
         let upto : at_or_before c.tsn s.cumulative_tsn_ack ≡ true = ap (λ t. at_or_before t s.cumulative_tsn_ack) next
-        ∙ back base s.cumulative_tsn_ack (omega arith) fits (omega (arith, far, low)) (omega (arith, far, near)) in
+        ∙ back base s.cumulative_tsn_ack (omega arith) taken.fits (omega (arith, far, low)) (omega (arith, far, near)) in
         ap (λ b. b || is_in_blocks s.gap_ack_blocks (distance s.cumulative_tsn_ack c.tsn)) upto
         ∙ sym (ap (λ b. b || is_in_blocks s.gap_ack_blocks (suc k - count)) front)
     | inr high ↦
@@ -103,61 +110,60 @@ module _ (f : Flight) (inv : IsContiguous f) (s : Sack) (fits : s.cumulative_tsn
         let n : ℕ = k - count in
         let behind : nat_lt k count ≡ false = grind (arith, nat_tests, high) in
         let is : c.tsn ≡ (s.cumulative_tsn_ack + n + 1) % 2 ^ 32 = omega (arith, tsn k d lt, cum, high) in
-        let near : n + 1 < 2 ^ 31 = omega (arith, inv.few, lt) in
-        let after : at_or_before c.tsn s.cumulative_tsn_ack ≡ false = later c.tsn s.cumulative_tsn_ack n fits near is in
-        let away : distance s.cumulative_tsn_ack c.tsn ≡ suc k - count = apart c.tsn s.cumulative_tsn_ack n fits near is ∙ omega (arith, high) in
+        let near : n + 1 < 2 ^ 31 = omega (arith, taken.whole.few, lt) in
+        let after : at_or_before c.tsn s.cumulative_tsn_ack ≡ false = later c.tsn s.cumulative_tsn_ack n taken.fits near is in
+        let away : distance s.cumulative_tsn_ack c.tsn ≡ suc k - count = apart c.tsn s.cumulative_tsn_ack n taken.fits near is ∙ omega (arith, high) in
         ap (λ b. b || is_in_blocks s.gap_ack_blocks (distance s.cumulative_tsn_ack c.tsn)) after ∙ ap (is_in_blocks s.gap_ack_blocks) away
         ∙ sym (ap (λ b. b || is_in_blocks s.gap_ack_blocks (suc k - count)) behind)
   ]
     where
       cum : s.cumulative_tsn_ack ≡ (f.acked_tsn + count) % 2 ^ 32
-      cum = cum-is f.acked_tsn s.cumulative_tsn_ack inv.in_range fits
+      cum = cum-is f.acked_tsn s.cumulative_tsn_ack taken.whole.in_range taken.fits
 
       tsn : (k : ℕ) (d : ChunkPayloadData) → k < length cs → (get_or cs k d).tsn ≡ (following_tsn f.acked_tsn + k) % 2 ^ 32
-      tsn k d lt = tsn-at cs (following_tsn f.acked_tsn) k d (omega arith) inv.run lt
+      tsn k d lt = tsn-at cs (following_tsn f.acked_tsn) k d (omega arith) taken.whole.run lt
 
-  module _ (sorted : List GapAckBlock) (are : AreSorted sorted s.gap_ack_blocks) where
-    pub reached : (k : ℕ) (d : ChunkPayloadData) → k < length cs → reports s (get_or cs k d) ≡ is_reached count sorted k
-    reached k d lt = elim (cases_lt k count) [
-      | inl low ↦
-          let front : nat_lt k count ≡ true = grind (arith, nat_tests, low) in
-          reports-at k d lt ∙ ap (λ b. b || is_in_blocks s.gap_ack_blocks (suc k - count)) front
-          ∙ sym (ap (λ b. b || is_in_blocks sorted (suc k - count)) front)
-      | inr high ↦ reports-at k d lt ∙ ap (λ b. nat_lt k count || b) (sym (are.same (suc k - count) (omega (arith, high))))
-    ]
+  pub reached : (k : ℕ) (d : ChunkPayloadData) → k < length cs → reports s (get_or cs k d) ≡ is_reached count sorted k
+  reached k d lt = elim (cases_lt k count) [
+    | inl low ↦
+        let front : nat_lt k count ≡ true = grind (arith, nat_tests, low) in
+        reports-at k d lt ∙ ap (λ b. b || is_in_blocks s.gap_ack_blocks (suc k - count)) front
+        ∙ sym (ap (λ b. b || is_in_blocks sorted (suc k - count)) front)
+    | inr high ↦ reports-at k d lt ∙ ap (λ b. nat_lt k count || b) (sym (taken.are.same (suc k - count) (omega (arith, high))))
+  ]
 
-    pub picks : PicksAnew (reports_anew s) count sorted cs
-    picks k d lt = ap (λ b. not (get_or cs k d).acked && b) (reached k d lt)
+  pub picks : PicksAnew (reports_anew s) count sorted cs
+  picks k d lt = ap (λ b. not (get_or cs k d).acked && b) (reached k d lt)
 
-    pub ends : (n : ℕ) → is_in_blocks sorted n ≡ true → count + n ≤ length cs
-    ends n h = elim (cases_lt 0 n) [
-      | inl pos ↦
-          let p = any-place (is_in_block n) s.gap_ack_blocks (sym (are.same n pos) ∙ h) in
-          let any : GapAckBlock = record { start = 0; end = 0 } in
-          let e = all-at (is_within (length cs - count)) s.gap_ack_blocks p.0 any (taken-blocks s f taken current) p.1 in
-          let le = block-ends (length cs - count) n (get_or s.gap_ack_blocks p.0 any) e (p.2 any) in
-          omega (arith, le, within)
-      | inr none ↦ omega (arith, none, within)
-    ]
+  pub ends : (n : ℕ) → is_in_blocks sorted n ≡ true → count + n ≤ length cs
+  ends n h = elim (cases_lt 0 n) [
+    | inl pos ↦
+        let p = any-place (is_in_block n) s.gap_ack_blocks (sym (taken.are.same n pos) ∙ h) in
+        let any : GapAckBlock = record { start = 0; end = 0 } in
+        let e = all-at (is_within (length cs - count)) s.gap_ack_blocks p.0 any (taken-blocks s f taken.none taken.current) p.1 in
+        let le = block-ends (length cs - count) n (get_or s.gap_ack_blocks p.0 any) e (p.2 any) in
+        omega (arith, le, within)
+    | inr none ↦ omega (arith, none, within)
+  ]
 
-    -- what it reports beyond its cumulative TSN is known to be acknowledged after it
-    pub known-then : AreKnown sorted (drop count (change_where (reports_anew s) as_acknowledged cs))
-    known-then k h =
-        let marked : List ChunkPayloadData = change_where (reports_anew s) as_acknowledged cs in
-        let far : ℕ = count + k in
-        let lt : far < length cs = let e = ends (suc k) h in omega (arith, e) in
-        let n = length-change_where (reports_anew s) as_acknowledged cs in
-        let less : k < length (drop count marked) = let m = length-drop count marked in omega (arith, m, n, lt) in
-        let same : suc far - count ≡ suc k = omega arith in
-        let c : ChunkPayloadData = get_or cs far any_chunk in
-        let said : reports s c ≡ true = reached far any_chunk lt ∙ or-in (nat_lt far count) (ap (is_in_blocks sorted) same ∙ h) in
-        get_or-map (λ (c : ChunkPayloadData). c.acked) (drop count marked) k any_chunk false less
-        ∙ ap (λ (c : ChunkPayloadData). c.acked) (get_or-drop count marked k any_chunk ∙ changed-at (reports_anew s) as_acknowledged cs far any_chunk lt)
-        ∙ acked-then s c said
-      where
-        or-in : (a : Bool) {b : Bool} → b ≡ true → (a || b) ≡ true
-        or-in true e = refl
-        or-in false e = e
+  -- what it reports beyond its cumulative TSN is known to be acknowledged after it
+  pub known-then : AreKnown sorted (drop count (change_where (reports_anew s) as_acknowledged cs))
+  known-then k h =
+      let marked : List ChunkPayloadData = change_where (reports_anew s) as_acknowledged cs in
+      let far : ℕ = count + k in
+      let lt : far < length cs = let e = ends (suc k) h in omega (arith, e) in
+      let n = length-change_where (reports_anew s) as_acknowledged cs in
+      let less : k < length (drop count marked) = let m = length-drop count marked in omega (arith, m, n, lt) in
+      let same : suc far - count ≡ suc k = omega arith in
+      let c : ChunkPayloadData = get_or cs far any_chunk in
+      let said : reports s c ≡ true = reached far any_chunk lt ∙ or-in (nat_lt far count) (ap (is_in_blocks sorted) same ∙ h) in
+      get_or-map (λ (c : ChunkPayloadData). c.acked) (drop count marked) k any_chunk false less
+      ∙ ap (λ (c : ChunkPayloadData). c.acked) (get_or-drop count marked k any_chunk ∙ changed-at (reports_anew s) as_acknowledged cs far any_chunk lt)
+      ∙ acked-then s c said
+    where
+      or-in : (a : Bool) {b : Bool} → b ≡ true → (a || b) ≡ true
+      or-in true e = refl
+      or-in false e = e
 
 -- ## What is told in the end
 

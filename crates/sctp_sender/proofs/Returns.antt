@@ -98,17 +98,22 @@ pub record Walked (count : ℕ) (listed blocks : List GapAckBlock) (cs : List Ch
   pub passed : ArePassed 0 i listed place
   pub reported : ArePassed count j blocks place
 
-module _ (count : ℕ) (listed blocks : List GapAckBlock) (cs : List ChunkPayloadData) (ascend : ascends_from 0 listed ≡ true)
-    (sorted : ascends_from 0 blocks ≡ true) (covered : (k : ℕ) → can_at cs k ≡ true → is_in_blocks listed (suc k) ≡ true) where
-  unlisted : (k : ℕ) → is_in_blocks listed (suc k) ≡ false → returns_at count blocks cs k ≡ false
-  unlisted k e =
-      let none : can_at cs k ≡ false = fails (can_at cs k) (λ h. false≢true (sym e ∙ covered k h)) in
+-- both lists ascend, and one reports each place at which something can come back
+pub record AreListed (listed blocks : List GapAckBlock) (cs : List ChunkPayloadData) : Type 0 where
+  pub ascend : ascends_from 0 listed ≡ true
+  pub sorted : ascends_from 0 blocks ≡ true
+  pub covered : (k : ℕ) → can_at cs k ≡ true → is_in_blocks listed (suc k) ≡ true
+
+module _ {listed blocks : List GapAckBlock} {cs : List ChunkPayloadData} (are : AreListed listed blocks cs) where
+  unlisted : (count k : ℕ) → is_in_blocks listed (suc k) ≡ false → returns_at count blocks cs k ≡ false
+  unlisted count k e =
+      let none : can_at cs k ≡ false = fails (can_at cs k) (λ h. false≢true (sym e ∙ are.covered k h)) in
       ap (λ b. b && not (is_reached count blocks k)) none
 
-  reported-at : (k : ℕ) → is_reached count blocks k ≡ true → returns_at count blocks cs k ≡ false
-  reported-at k e = ap (λ b. can_at cs k && not b) e ∙ and-none (can_at cs k)
+  reported-at : (count k : ℕ) → is_reached count blocks k ≡ true → returns_at count blocks cs k ≡ false
+  reported-at count k e = ap (λ b. can_at cs k && not b) e ∙ and-none (can_at cs k)
 
-  module _ (from place i j : ℕ) (w : Walked count listed blocks cs from place i j) where
+  module _ {count from place i j : ℕ} (w : Walked count listed blocks cs from place i j) where
     moved : (next : ℕ) → place ≤ next → ((k : ℕ) → place ≤ k → k < next → returns_at count blocks cs k ≡ false) → Walked count listed blocks cs from next i j
     moved next le none = record {
       on = let h = w.on in omega (arith, le, h);
@@ -121,9 +126,9 @@ module _ (count : ℕ) (listed blocks : List GapAckBlock) (cs : List ChunkPayloa
     module _ (b : GapAckBlock) (lt : i < length listed) (is : b ≡ get_or listed i b) where
       -- to where the next run of what is listed begins
       pub to-start : (next : ℕ) → place ≤ next → ((k : ℕ) → place ≤ k → k < next → suc k < b.start) → Walked count listed blocks cs from next i j
-      to-start next le near = moved next le (λ k low high. unlisted k
+      to-start next le near = moved next le (λ k low high. unlisted count k
           (between 0 i listed place (suc k) w.passed (omega (arith, low))
-          (λ x less same. subst (λ (y : GapAckBlock). suc k < y.start) (at-one x b same is) (near k low high)) ascend))
+          (λ x less same. subst (λ (y : GapAckBlock). suc k < y.start) (at-one x b same is) (near k low high)) are.ascend))
         where
           at-one : (x b : GapAckBlock) → x ≡ get_or listed i x → b ≡ get_or listed i b → b ≡ x
           at-one x b f g = g ∙ get_or_default listed i b x lt ∙ sym f
@@ -153,14 +158,14 @@ module _ (count : ℕ) (listed blocks : List GapAckBlock) (cs : List ChunkPayloa
       to-end next start le end = moved next le (λ k low high.
           let there : is_in_block (suc k - count) (get_or blocks j b) ≡ true = ap (is_in_block (suc k - count)) (sym is)
           ∙ in-block (suc k - count) b (omega (arith, start, low)) (omega (arith, high, end)) in
-          reported-at k (or-right (nat_lt k count) (is_in_blocks blocks (suc k - count)) (any-at (is_in_block (suc k - count)) blocks j b lt there)))
+          reported-at count k (or-right (nat_lt k count) (is_in_blocks blocks (suc k - count)) (any-at (is_in_block (suc k - count)) blocks j b lt there)))
 
     -- a place that no block reports
     pub unreached : ((b : GapAckBlock) → j < length blocks → b ≡ get_or blocks j b → place + 1 < count + b.start) → is_reached count blocks place ≡ false
     unreached next =
         let least = w.least in
         let out : is_in_blocks blocks (suc place - count) ≡ false = between count j blocks place (suc place - count) w.reported (omega (arith, least))
-        (λ b lt is. let n = next b lt is in omega (arith, n, least)) sorted in
+        (λ b lt is. let n = next b lt is in omega (arith, n, least)) are.sorted in
         let behind : nat_lt place count ≡ false = grind (arith, nat_tests, least) in
         ap (λ k. k || is_in_blocks blocks (suc place - count)) behind ∙ out
 
@@ -176,7 +181,7 @@ module _ (count : ℕ) (listed blocks : List GapAckBlock) (cs : List ChunkPayloa
     pub ended : length listed ≤ i → (k : ℕ) → from ≤ k → returns_at count blocks cs k ≡ false
     ended all k low = elim (cases_lt k place) [
       | inl lt ↦ w.before k low lt
-      | inr ge ↦ unlisted k (between 0 i listed place (suc k) w.passed (omega (arith, ge)) (λ b lt is. absurd (omega (arith, lt, all))) ascend)
+      | inr ge ↦ unlisted count k (between 0 i listed place (suc k) w.passed (omega (arith, ge)) (λ b lt is. absurd (omega (arith, lt, all))) are.ascend)
     ]
 
 pub can-none : (cs : List ChunkPayloadData) (k : ℕ) → slice_get cs k ≡ None → can_at cs k ≡ false
@@ -201,25 +206,25 @@ module _ (count : ℕ) (blocks : List GapAckBlock) (cs : List ChunkPayloadData) 
 
 -- ## At the next run of what is listed
 
-module _ (count : ℕ) (listed blocks : List GapAckBlock) (cs : List ChunkPayloadData) (ascend : ascends_from 0 listed ≡ true)
-    (sorted : ascends_from 0 blocks ≡ true) (covered : (k : ℕ) → can_at cs k ≡ true → is_in_blocks listed (suc k) ≡ true) (from place i j : ℕ) where
-  pub record IsAtRun (next : ℕ) : Type 0 where
-    pub some : 0 < (get_or listed i no_block).start
-    pub is : get_or listed i no_block ≡ get_or listed i (get_or listed i no_block)
-    pub on : place ≤ next
-    pub walked : Walked count listed blocks cs from next i j
-    pub lists : next < (get_or listed i no_block).end → is_in_blocks listed (suc next) ≡ true
+pub record IsAtRun (count : ℕ) (listed blocks : List GapAckBlock) (cs : List ChunkPayloadData) (from place i j next : ℕ) : Type 0 where
+  pub some : 0 < (get_or listed i no_block).start
+  pub is : get_or listed i no_block ≡ get_or listed i (get_or listed i no_block)
+  pub on : place ≤ next
+  pub walked : Walked count listed blocks cs from next i j
+  pub lists : next < (get_or listed i no_block).end → is_in_blocks listed (suc next) ≡ true
 
-  pub at-run : (w : Walked count listed blocks cs from place i j) → i < length listed → (next : ℕ) → place ≤ next
-      → (get_or listed i no_block).start ≤ next + 1 → ((k : ℕ) → place ≤ k → k < next → suc k < (get_or listed i no_block).start) → IsAtRun next
-  at-run w lt next on start near =
-      let b : GapAckBlock = get_or listed i no_block in
-      let is : b ≡ get_or listed i b = get_or_default listed i no_block b lt in
-      record {
-        some = (block-at listed i b ascend lt is).past;
-        is = is;
-        on = on;
-        walked = to-start count listed blocks cs ascend sorted covered from place i j w b lt is next on near;
-        lists = λ less. any-at (is_in_block (suc next)) listed i b lt
-            (ap (is_in_block (suc next)) (sym is) ∙ in-block (suc next) b (omega (arith, start)) (omega (arith, less)));
-      }
+pub at-run : {count : ℕ} {listed blocks : List GapAckBlock} {cs : List ChunkPayloadData} {from place i j : ℕ} → AreListed listed blocks cs
+    → Walked count listed blocks cs from place i j → i < length listed → (next : ℕ) → place ≤ next
+    → (get_or listed i no_block).start ≤ next + 1 → ((k : ℕ) → place ≤ k → k < next → suc k < (get_or listed i no_block).start)
+    → IsAtRun count listed blocks cs from place i j next
+at-run {count} {listed} {blocks} {cs} {from} {place} {i} {j} are w lt next on start near =
+    let b : GapAckBlock = get_or listed i no_block in
+    let is : b ≡ get_or listed i b = get_or_default listed i no_block b lt in
+    record {
+      some = (block-at listed i b are.ascend lt is).past;
+      is = is;
+      on = on;
+      walked = to-start are w b lt is next on near;
+      lists = λ less. any-at (is_in_block (suc next)) listed i b lt
+          (ap (is_in_block (suc next)) (sym is) ∙ in-block (suc next) b (omega (arith, start)) (omega (arith, less)));
+    }

@@ -1,5 +1,5 @@
 -- How much a SACK reports, and of which messages.
-use Rattle.std.proofs.Common.{◌≡◌, ℕ, suc, ◌+◌, ◌-◌, ◌<◌, ◌≤◌, ◌^◌, true, false, List, length, map, take, get_or, Option, Some, None, refl, ap, ◌∙◌, arith, []}
+use Rattle.std.proofs.Common.{◌≡◌, ℕ, suc, ◌+◌, ◌-◌, ◌≤◌, true, false, List, length, map, take, get_or, Option, Some, None, refl, ap, ◌∙◌, arith, []}
 use Rattle.std.proofs.Common.{◌∷◌, ◌*◌, sym, Bool}
 use Rattle.std.specs.Prelude.{nat_lt, cond, not, ◌&&◌}
 use Rattle.std.specs.List.{count_by, filter}
@@ -15,20 +15,19 @@ use Rattle.sctp_outbound.specs.Marks.{as_acknowledged, as_taken_back}
 use Rattle.sctp_outbound.specs.payload_queue.Blocks.{is_in_blocks}
 use Rattle.sctp_sender.specs.declared.sender.flight.Released.{Released}
 use Rattle.sctp_sender.specs.Costs.{PicksLeftOut, chunks_of, distances_in, is_left_out, keeping_turns, messages_anew, sack_turns, take_back_turns, to_sort}
-use Rattle.sctp_sender.specs.Flight.{Flight, IsContiguous, is_outdated, released_of, reports, reports_anew, sack_refusal}
+use Rattle.sctp_sender.specs.Flight.{Flight, released_of, reports, reports_anew}
 use Rattle.sctp_sender.specs.Keeping.{answered_back, places_kept, restored, restored_with, with_restored}
-use Rattle.sctp_sender.specs.Reporting.{AreKnown, AreSorted, ascends_from}
+use Rattle.sctp_sender.specs.Reporting.{AreKnown, ascends_from}
 use Rattle.sctp_sender.specs.SideBySide.{messages_of}
 use Rattle.sctp_sender.specs.Telling.{no_message}
 use Rattle.sctp_sender.proofs.Counts.{among, count-blocks, count-run, known-few, numbers-of-those, numbers_of}
 use Rattle.sctp_sender.proofs.InLine.{messages-changed}
 use Rattle.sctp_sender.proofs.Known.{known-at}
-use Rattle.sctp_sender.proofs.Reported.{ends, reached}
+use Rattle.sctp_sender.proofs.Reported.{IsTaken, ends, reached}
 use Rattle.sctp_sender.proofs.Keepings.{taken-within}
 use Rattle.sctp_sender.proofs.Runs.{any_chunk}
 
-module _ (f : Flight) (inv : IsContiguous f) (s : Sack) (fits : s.cumulative_tsn_ack < 2 ^ 32) (taken : sack_refusal s f ≡ None)
-    (current : is_outdated s f ≡ false) (sorted : List GapAckBlock) (are : AreSorted sorted s.gap_ack_blocks) where
+module _ {s : Sack} {f : Flight} {sorted : List GapAckBlock} (taken : IsTaken s f sorted) where
   abbrev cs : List ChunkPayloadData
   cs = f.queue.inflight.chunks
 
@@ -38,14 +37,14 @@ module _ (f : Flight) (inv : IsContiguous f) (s : Sack) (fits : s.cumulative_tsn
   -- it reports each place that it passes, and each distance of its blocks
   pub all-reported : distance f.acked_tsn s.cumulative_tsn_ack + distances_in sorted ≤ count_by (reports s) f.queue.inflight.chunks
   all-reported =
-      let within : count ≤ length cs = taken-within s f taken current in
+      let within : count ≤ length cs = taken-within s f taken.none taken.current in
       let front = count-run (reports s) cs any_chunk 0 count (omega (arith, within)) (λ k low high.
       let less : nat_lt k count ≡ true = grind (arith, nat_tests, high) in
-      reached f inv s fits taken current sorted are k any_chunk (omega (arith, high, within))
+      reached taken k any_chunk (omega (arith, high, within))
       ∙ or-left (nat_lt k count) (is_in_blocks sorted (suc k - count)) less) in
-      let behind = count-blocks (reports s) cs any_chunk count sorted 0 are.ascend (ends f inv s fits taken current sorted are) (λ k low h.
-      let end = ends f inv s fits taken current sorted are (suc k - count) h in
-      reached f inv s fits taken current sorted are k any_chunk (omega (arith, end, low))
+      let behind = count-blocks (reports s) cs any_chunk count sorted 0 taken.are.ascend (ends taken) (λ k low h.
+      let end = ends taken (suc k - count) h in
+      reached taken k any_chunk (omega (arith, end, low))
       ∙ or-right (nat_lt k count) (is_in_blocks sorted (suc k - count)) h) in
       let e : 0 + count ≡ count + 0 = omega arith in
       let same = ap (λ k. count_by (reports s) (take k cs)) e in
@@ -56,7 +55,7 @@ module _ (f : Flight) (inv : IsContiguous f) (s : Sack) (fits : s.cumulative_tsn
       → PicksLeftOut (is_left_out s) (distance f.acked_tsn s.cumulative_tsn_ack) listed sorted f.queue.inflight.chunks
   left-out listed known k d lists left =
       let at = known-at listed cs known k d lists in
-      let none : reports s (get_or cs k d) ≡ false = reached f inv s fits taken current sorted are k d at.0 ∙ left in
+      let none : reports s (get_or cs k d) ≡ false = reached taken k d at.0 ∙ left in
       (at.0, ap (λ a. a && not (reports s (get_or cs k d))) at.1 ∙ ap not none)
 
 -- blocks that are known are no more than chunks that are acknowledged

@@ -67,12 +67,6 @@ module _ (s len : ℕ) (t : Transmission) where
         else (if nat_lt t.max_message_size len then Some MessageTooLarge else (if is_full len t then Some QueueFull else None))) open'
         ∙ ap (λ b. if b then Some MessageTooLarge else (if is_full len t then Some QueueFull else None)) e
 
-    pub full : len ≤ t.max_message_size → is_full len t ≡ true → write_refusal s len t ≡ Some QueueFull
-    full le e = by-room le ∙ ap (λ b. if b then Some QueueFull else None) e
-
-    pub fine : len ≤ t.max_message_size → is_full len t ≡ false → write_refusal s len t ≡ None
-    fine le e = by-room le ∙ ap (λ b. if b then Some QueueFull else None) e
-
 -- ## The fragments of a write are one message
 
 abbrev pub made : StreamState → PayloadProtocolIdentifier → List ℕ → ℕ → ChunkPayloadData

@@ -17,6 +17,7 @@ use Rattle.sctp_stream.specs.declared.stream.StreamState.{StreamState}
 use Rattle.sctp_sender.specs.declared.sender.flight.anew.Anew.{Anew}
 use Rattle.sctp_sender.specs.declared.sender.flight.keeping.Kept.{Kept}
 use Rattle.sctp_sender.specs.declared.sender.flight.keeping.TakenBack.{TakenBack}
+use Rattle.sctp_sender.specs.declared.sender.flight.listing.Left.{Left}
 use Rattle.sctp_sender.specs.declared.sender.flight.taking_back.PlacedData.{PlacedData}
 use Rattle.sctp_sender.specs.Flight.{Flight, count_acked, is_outdated, reports, reports_anew, with_queue}
 use Rattle.sctp_sender.specs.Outgoing.{has_number}
@@ -244,6 +245,6 @@ blocks_after None bs = bs
 blocks_after (Some a) bs = a.reported.items
 
 -- the blocks that are left, or the same where nothing is cut out of them
-abbrev pub blocks_left : Option (List GapAckBlock) → List GapAckBlock → List GapAckBlock
+abbrev pub blocks_left : Option Left → List GapAckBlock → List GapAckBlock
 blocks_left None bs = bs
-blocks_left (Some left) bs = left
+blocks_left (Some l) bs = l.reported.items

@@ -63,8 +63,11 @@ after_releases [] ls = ls
 after_releases (r ∷ rs) ls =
     after_releases rs (change_where (has_number r.stream) (less_by r.bytes) ls)
 
--- a message that was not sent is gone: the next write takes the number of an ordered one
+-- so many messages that were not sent are gone: the next write takes the number of the first ordered one
+abbrev pub after_expiries : Bool → ℕ → ℕ → StreamState → StreamState
+after_expiries true messages bytes l = less_by bytes l
+after_expiries false messages bytes l =
+    record (less_by bytes l) { sequence_number = (l.sequence_number + (2 ^ 16 - messages)) % 2 ^ 16 }
+
 abbrev pub after_expiry : Bool → ℕ → StreamState → StreamState
-after_expiry true bytes l = less_by bytes l
-after_expiry false bytes l =
-    record (less_by bytes l) { sequence_number = (l.sequence_number + (2 ^ 16 - 1)) % 2 ^ 16 }
+after_expiry unordered bytes l = after_expiries unordered 1 bytes l

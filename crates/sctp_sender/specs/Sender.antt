@@ -8,14 +8,14 @@ use Rattle.sctp_data.specs.declared.chunk.chunk_payload_data.PayloadProtocolIden
 use Rattle.sctp_data.specs.declared.chunk.chunk_payload_data.PayloadProtocolIdentifier.TheVariants.{Unknown}
 use Rattle.sctp_data.specs.declared.chunk.chunk_payload_data.ReliabilityType.{ReliabilityType}
 use Rattle.sctp_data.specs.SelectiveAck.{Sack}
-use Rattle.sctp_outbound.specs.outbound_queue.OutboundQueue.{Outbound, with_message, total_bytes, expired_of}
+use Rattle.sctp_outbound.specs.outbound_queue.OutboundQueue.{Outbound, with_message, total_bytes, expired_of, expired_times}
 use Rattle.sctp_stream.specs.declared.stream.StreamState.{StreamState}
 use Rattle.sctp_sender.specs.declared.sender.flight.keeping.TakenBack.{TakenBack}
 use Rattle.sctp_sender.specs.declared.sender.refusal.SenderRefusal.{SenderRefusal}
 use Rattle.sctp_sender.specs.declared.sender.refusal.SenderRefusal.TheVariants.{StreamUnknown, MessageTooLarge, QueueFull}
 use Rattle.sctp_sender.specs.Flight.{Flight, with_queue, at_first, after_sack, released_by, is_outdated, sack_refusal, after_abandonment}
 use Rattle.sctp_sender.specs.Keeping.{after_returns, bytes_back, coming_back, kept_after, answered_back, with_restored}
-use Rattle.sctp_sender.specs.Outgoing.{has_number, with_mode, fragments_with_mode, wrote, after_releases, less_by, after_expiry}
+use Rattle.sctp_sender.specs.Outgoing.{has_number, with_mode, fragments_with_mode, wrote, after_releases, less_by, after_expiries, after_expiry}
 use Rattle.sctp_stream.specs.Stream.{new_stream}
 
 -- the open streams in the order in which they were opened; what waits and what is in flight; how long a fragment is, and how
@@ -147,4 +147,12 @@ after_expire c bytes now t = record t {
   streams = change_where (has_number c.stream_identifier)
       (after_expiry c.unordered bytes) t.streams;
   flight = with_queue t.flight (expired_of (Some c) t.flight.queue);
+}
+
+-- and so many such messages of one stream, one after another
+abbrev pub after_expire_run : ℕ → Bool → ℕ → ℕ → ℕ → Transmission → Transmission
+after_expire_run stream unordered messages bytes now t = record t {
+  streams = change_where (has_number stream)
+      (after_expiries unordered messages bytes) t.streams;
+  flight = with_queue t.flight (expired_times now messages t.flight.queue);
 }

@@ -38,7 +38,7 @@ pub data Call : Type 0 where
   writes : List ℕ → Call
   -- `send_next`, `send_next_tsn`, `send_next_tsn_unbounded`
   sends : Call
-  -- `abandon`, `expire`, `expire_tail`: so many bytes leave, none where the call answers None
+  -- `abandon`, `expire`, `expire_run`, `expire_tail`: so many bytes leave, none where the call answers None
   abandons : ℕ → Call
   -- `expire_late`, `expire_rexmit`
   abandons_late : List AbandonedMessage → Call

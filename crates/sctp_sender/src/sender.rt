@@ -1,6 +1,6 @@
 //! The sending half of a link (RFC 4960 6.1, 6.2.1, 6.9).
 
-ghost use Rattle.std.specs.Prelude.{◌≡◌, ◌≢◌, ◌==◌, ◌<◌, ◌≤◌, ◌⊎◌, ℕ, Bool, true, false, not, None, Some, OnOk, OnErr, IfOk, IfErr, IfSome, IsOk, IsOkUnless, ◌+◌, option_map, option_copied, option_to_list, is_some, map, find, length, if◌then◌else◌};
+ghost use Rattle.std.specs.Prelude.{◌≡◌, ◌≢◌, ◌==◌, ◌<◌, ◌≤◌, ◌^◌, ◌⊎◌, ℕ, Bool, true, false, not, None, Some, OnOk, OnErr, IfOk, IfErr, IfNone, IfSome, IsOk, IsOkUnless, ◌+◌, option_map, option_copied, option_to_list, is_some, map, find, length, if◌then◌else◌};
 ghost use Rattle.std.specs.List.{count_by, list_any, sum_by};
 ghost use Rattle.sctp_sender.specs.Outgoing.{after_releases};
 ghost use Rattle.sctp_sender.specs.Thresholds.{with_lows};
@@ -45,6 +45,21 @@ pub struct ExpiredMessage {
     pub is_low: bool,
 }
 
+/// Messages of one stream that expired, one after another.
+#[derive(Clone, Copy, Debug, PartialEq, Eq)]
+pub struct ExpiredMessages {
+    /// Their stream.
+    pub stream: u16,
+    /// Whether they were unordered, or all ordered.
+    pub unordered: bool,
+    /// How many they are.
+    pub messages: u16,
+    /// How many bytes they had.
+    pub bytes: usize,
+    /// Whether with them the buffered amount of their stream fell from above the low threshold to at most it.
+    pub is_low: bool,
+}
+
 /// The sending half of a link: what was written and is not yet acknowledged. It takes every SACK that a peer may send.
 ///
 /// It keeps the open streams, what waits and what is in flight. Of a message that was acknowledged or abandoned, and whose
@@ -82,7 +97,7 @@ impl Model for Sender {
 
 impl Sender {
     ghost use Rattle.sctp_data.specs.SelectiveAck.{sack_of};
-    ghost use Rattle.sctp_outbound.specs.outbound_queue.OutboundQueue.{all_started, as_sent, sent_next, expiring, expiring_tail, message_of, total_bytes, after_sends};
+    ghost use Rattle.sctp_outbound.specs.outbound_queue.OutboundQueue.{all_started, as_sent, sent_next, AreExpiredOf, expiring, expiring_tail, stream_and_kind, message_of, total_bytes, after_sends};
     ghost use Rattle.sctp_stream.specs.declared.stream.StreamState.{StreamState};
     ghost use Rattle.sctp_outbound.specs.pending_queue.PendingQueue.{next_pending};
     ghost use Rattle.sctp_serial.specs.DataChunks.{has_tsn};
@@ -94,7 +109,7 @@ impl Sender {
     ghost use Rattle.sctp_sender.specs.Numbers.{send_refusal};
     ghost use Rattle.sctp_sender.specs.Outgoing.{fragments_with_mode};
     ghost use Rattle.sctp_sender.specs.Totals.{bytes_in};
-    ghost use Rattle.sctp_sender.specs.Sender.{with_nothing, stream_of, is_open, open_stream, close_stream, with_mode_on, with_flight, write_refusal, written_to, after_acked, after_abandon, after_expire};
+    ghost use Rattle.sctp_sender.specs.Sender.{with_nothing, stream_of, is_open, open_stream, close_stream, with_mode_on, with_flight, write_refusal, written_to, after_acked, after_abandon, after_expire, after_expire_run};
     ghost use Rattle.sctp_sender.specs.Thresholds.{fell, tells_low};
 
     /// A sender with no stream, whose first chunk gets the first TSN. It takes no memory.
@@ -486,10 +501,44 @@ impl Sender {
         ensures low { IfSome result (λ r. r.is_low ≡ fell r.stream self.old self.new) }
     {
         let (stream, unordered, bytes) = self.flight.expire(now)?;
-        let is_low = self.streams.expire(stream, unordered, bytes);
+        let is_low = self.streams.expire(stream, unordered, 1, bytes);
         Some(ExpiredMessage {
             stream,
             bytes,
+            is_low,
+        })
+    }
+
+    /// As `expire` so often as it removes messages of one stream, all ordered or all unordered, but at most 65,535 times, and answers
+    /// them together. It looks at these messages, and where they are ordered once at all that waits in order. `now` is in nanoseconds.
+    /// It takes no memory.
+    pub fn expire_run(&mut self, now: u64) -> Option<ExpiredMessages>
+        ensures some { IfSome result (λ r. self.new
+            ≡ after_expire_run r.stream r.unordered r.messages r.bytes now self.old) }
+        ensures of_one { IfSome result (λ r.
+            AreExpiredOf r.stream r.unordered now r.messages self.old.flight.queue) }
+        ensures any { IfSome result (λ r. 0 < r.messages) }
+        // none of them is left in front, but where the count is at its greatest
+        ensures all { IfSome result (λ r. r.messages + 1 < 2 ^ 16
+            → stream_and_kind (expiring now self.new.flight.queue) ≢ Some (r.stream, r.unordered)) }
+        ensures none { IfNone result ((expiring now self.old.flight.queue ≡ None)
+            × (self.new ≡ self.old)) }
+        ensures released { IfSome result (λ r. total_bytes self.new.flight.queue + r.bytes
+            ≡ total_bytes self.old.flight.queue) }
+        ensures low { IfSome result (λ r. r.is_low ≡ fell r.stream self.old self.new) }
+    {
+        let gone = self.flight.expire_run(now)?;
+        let is_low = self.streams.expire(
+            gone.stream_identifier,
+            gone.unordered,
+            gone.messages,
+            gone.bytes,
+        );
+        Some(ExpiredMessages {
+            stream: gone.stream_identifier,
+            unordered: gone.unordered,
+            messages: gone.messages,
+            bytes: gone.bytes,
             is_low,
         })
     }

@@ -1,6 +1,6 @@
 //! What is in flight: each TSN from the one behind the acknowledged ones to the one before the next.
 
-ghost use Rattle.std.specs.Prelude.{◌≡◌, not, ◌+◌, ◌-◌, ◌<◌, ◌≤◌, ◌^◌, ℕ, true, false, is_some, Some, None, OnOk, OnErr, IfOk, IfErr, IsOk, option_map, find, Bool, List};
+ghost use Rattle.std.specs.Prelude.{◌≡◌, ◌≢◌, not, ◌+◌, ◌-◌, ◌<◌, ◌≤◌, ◌^◌, ℕ, true, false, is_some, Some, None, OnOk, OnErr, IfOk, IfErr, IfNone, IfSome, IsOk, option_map, find, Bool, List};
 ghost use Rattle.sctp_data.specs.declared.chunk.chunk_payload_data.ChunkPayloadData.{ChunkPayloadData};
 ghost use Rattle.sctp_data.specs.declared.chunk.chunk_selective_ack.GapAckBlock.{GapAckBlock};
 ghost use Rattle.sctp_sender.specs.Reporting.{AreKnown};
@@ -25,7 +25,7 @@ mod walking;
 use crate::sender::refusal::SenderRefusal;
 use sctp_data::chunk::chunk_payload_data::ChunkPayloadData;
 use sctp_data::chunk::chunk_selective_ack::GapAckBlock;
-use sctp_outbound::outbound_queue::OutboundQueue;
+use sctp_outbound::outbound_queue::{ExpiredRun, OutboundQueue};
 use std::alloc::Global;
 use std::marker::Model;
 
@@ -58,8 +58,9 @@ pub struct InFlight {
     queue: OutboundQueue,
     next_tsn: u32,
     acked_tsn: u32,
-    // The gap ack blocks of the last SACK that was taken, in ascending order: distances from `acked_tsn`. None where a report was taken
-    // back since. What they report is acknowledged, and the next SACK does not look at it.
+    // Gap ack blocks in ascending order, as distances from `acked_tsn`: those of the last SACK that was taken, or what a sender was left of
+    // those that it kept, where a report was taken back since; none behind a lone `restore`. What they report is acknowledged, and the
+    // next SACK does not look at it.
     known: Vec<GapAckBlock>,
 }
 
@@ -89,7 +90,7 @@ impl Model for InFlight {
 }
 
 impl InFlight {
-    ghost use Rattle.sctp_outbound.specs.outbound_queue.OutboundQueue.{with_message, has_room, total_bytes, all_started, as_sent, sent_next, expired_of, expiring, expiring_tail, message_of, released_of as bytes_left, expired_bytes, tail_bytes};
+    ghost use Rattle.sctp_outbound.specs.outbound_queue.OutboundQueue.{with_message, has_room, total_bytes, all_started, as_sent, sent_next, AreExpiredOf, expired_of, expired_times, expiring, stream_and_kind, expiring_tail, message_of, released_of as bytes_left, expired_bytes, tail_bytes};
     ghost use Rattle.sctp_outbound.specs.pending_queue.PendingQueue as pending;
     ghost use Rattle.sctp_outbound.specs.pending_queue.Whole.{IsMessageOrNone};
     ghost use Rattle.sctp_sender.specs.Flight.{with_queue, with_room, at_first, may_send, next_after_send, resent, message_to_abandon, has_tail_at, after_abandonment};
@@ -254,6 +255,24 @@ impl InFlight {
             ≡ with_queue self.old (expired_of (expiring now self.old.queue) self.old.queue) }
     {
         self.queue.expire_pending(now)
+    }
+
+    /// As `expire` so often as it removes messages of one stream, all ordered or all unordered, but at most 65,535 times: the queue's
+    /// `expire_pending_run`. It takes no memory.
+    pub fn expire_run(&mut self, now: u64) -> Option<ExpiredRun>
+        ensures expired { IfSome result (λ run. self.new
+            ≡ with_queue self.old (expired_times now run.messages self.old.queue)) }
+        ensures of_one { IfSome result (λ run. AreExpiredOf
+            run.stream_identifier run.unordered now run.messages self.old.queue) }
+        ensures some { IfSome result (λ run. 0 < run.messages) }
+        ensures all { IfSome result (λ run. run.messages + 1 < 2 ^ 16
+            → stream_and_kind (expiring now self.new.queue)
+            ≢ Some (run.stream_identifier, run.unordered)) }
+        ensures released { IfSome result (λ run. total_bytes self.new.queue + run.bytes
+            ≡ total_bytes self.old.queue) }
+        ensures none { IfNone result ((expiring now self.old.queue ≡ None) × (self.new ≡ self.old)) }
+    {
+        self.queue.expire_pending_run(now)
     }
 
     /// Abandons the rest of the partially sent message in front, where it is past its deadline, as the queue's `expire_pending_tail` does.

@@ -10,7 +10,7 @@ ghost use Rattle.sctp_sender.specs.declared.sender.refusal.SenderRefusal.TheVari
 
 use super::Sender;
 use super::flight::anew::Anew;
-use super::flight::keeping::{Kept, TakenBack, answered_back_counted, set_reported};
+use super::flight::keeping::{Kept, TakenBack, answered_back_counted, set_left};
 use super::outbound_streams::OutboundStreams;
 use crate::sender::refusal::SenderRefusal;
 use sctp_data::chunk::chunk_selective_ack::ChunkSelectiveAck;
@@ -115,7 +115,7 @@ impl Sender {
             return Err(SenderRefusal::QueueFull);
         }
         self.flight.restore_counted(backs, turns);
-        set_reported(&mut self.kept, left);
+        set_left(&mut self.flight, &mut self.kept, left);
         return_each(&mut self.streams, &answered, turns);
         Ok(answered)
     }

@@ -10,7 +10,7 @@ ghost use Rattle.sctp_sender.specs.declared.sender.refusal.SenderRefusal.TheVari
 ghost use Rattle.sctp_stream.specs.Numbers.{IsOnlyPlace, IsAbsent};
 ghost use Rattle.sctp_stream.specs.Stream.{falls_low};
 ghost use Rattle.sctp_sender.specs.Keeping.{more_by};
-ghost use Rattle.sctp_sender.specs.Outgoing.{with_reliability, with_size, wrote, after_expiry, less_by};
+ghost use Rattle.sctp_sender.specs.Outgoing.{with_reliability, with_size, wrote, after_expiries, less_by};
 
 use crate::sender::refusal::SenderRefusal;
 use bytes::Bytes;
@@ -230,17 +230,17 @@ impl OutboundStreams {
         raise(&mut self.items[place], bytes);
     }
 
-    /// Takes a message that was not sent off its stream, where it is open, and says whether its amount fell from above its low
-    /// threshold to at most it. It takes no memory.
-    pub fn expire(&mut self, stream: u16, unordered: bool, bytes: usize) -> bool
+    /// Takes so many messages that were not sent off their stream, where it is open, and says whether its amount fell from above its
+    /// low threshold to at most it. It takes no memory.
+    pub fn expire(&mut self, stream: u16, unordered: bool, messages: u16, bytes: usize) -> bool
         ensures low { result ≡ falls_on stream bytes self.old }
         ensures less { self.new ≡ change_where (has_number stream)
-            (after_expiry unordered bytes) self.old }
+            (after_expiries unordered messages bytes) self.old }
     {
         let Some(place) = self.numbers.place_of(stream) else {
             return false;
         };
-        expire_message(&mut self.items[place], unordered, bytes)
+        expire_messages(&mut self.items[place], unordered, messages, bytes)
     }
 }
 
@@ -273,14 +273,15 @@ fn count_write(state: &mut StreamState, ppi: PayloadProtocolIdentifier, len: usi
     state.set_stats(stats);
 }
 
-// Takes a message that was not sent off its stream, and says whether the amount fell from above the low threshold to at most it.
-fn expire_message(state: &mut StreamState, unordered: bool, bytes: usize) -> bool
+// Takes so many messages that were not sent off their stream, and says whether the amount fell from above the low threshold to at most
+// it.
+fn expire_messages(state: &mut StreamState, unordered: bool, messages: u16, bytes: usize) -> bool
     ensures low { result ≡ falls_low state.old bytes }
-    ensures less { state.new ≡ after_expiry unordered bytes state.old }
+    ensures less { state.new ≡ after_expiries unordered messages bytes state.old }
 {
     let is_low = lower(state, bytes);
     if !unordered {
-        let number = state.sequence_number().wrapping_sub(1);
+        let number = state.sequence_number().wrapping_sub(messages);
         state.set_sequence_number(number);
     }
     is_low

@@ -1,16 +1,16 @@
 //! What is kept of the chunks that gap ack blocks reported, and what a SACK takes back of that (RFC 4960 6.2.1 D iv).
 
-ghost use Rattle.std.specs.Prelude.{◌≡◌, ◌+◌, ◌<◌, ◌≤◌, ◌^◌, ℕ, List, Option, true, None, IfOk, IfErr, length, map, option_copied, option_map, slice_index_or};
+ghost use Rattle.std.specs.Prelude.{◌≡◌, ◌+◌, ◌<◌, ◌≤◌, ◌^◌, ℕ, List, Option, true, None, IfOk, IfErr, IfSome, length, map, option_copied, option_map, slice_index_or};
 ghost use Rattle.std.specs.List.{All};
 ghost use Rattle.sctp_data.specs.SelectiveAck.{Sack};
 ghost use Rattle.sctp_data.specs.declared.chunk.chunk_payload_data.ChunkPayloadData.{ChunkPayloadData};
 ghost use Rattle.sctp_outbound.specs.outbound_queue.OutboundQueue.{total_bytes, with_inflight};
 ghost use Rattle.sctp_sender.specs.declared.sender.refusal.SenderRefusal.TheVariants.{OutOfMemory};
 ghost use Rattle.sctp_sender.specs.Keeping.{Cover, answered_back, back_each, blocks_left, bytes_coming, placed, put_back, answered_of_placed, restored, rises_from, with_restored};
-ghost use Rattle.sctp_sender.specs.Reporting.{AreKnown};
+ghost use Rattle.sctp_sender.specs.Reporting.{AreKnown, ascends_from};
 
 use super::InFlight;
-use super::listing::without;
+use super::listing::{Left, without};
 use super::taking_back::PlacedData;
 use crate::sender::refusal::SenderRefusal;
 use bytes::Bytes;
@@ -48,7 +48,9 @@ pub struct Kept {
 impl InFlight {
     ghost use Rattle.sctp_sender.specs.Flight.{can_resend};
 
-    /// Each chunk with which something comes back is outstanding again, and has it. It takes no memory.
+    /// Each chunk with which something comes back is outstanding again, and has it. It takes no memory, so that no block of the last SACK
+    /// can be parted in two, as where the second of three chunks comes back: the next SACK looks at all that it reports. Behind the
+    /// `take_back` of a `Sender`, which has taken memory for the parts, it does not.
     /// Precondition: each has its place in flight; and the bytes that wait and are in flight, with these, are fewer than 2^64.
     pub fn restore(&mut self, backs: Vec<PlacedData>)
         requires within { All (λ b. b.place < length self.old.queue.inflight.chunks) backs.items }
@@ -96,18 +98,20 @@ impl InFlight {
         kept: &Kept,
         backs: &[PlacedData],
         turns: &mut Turns,
-    ) -> Result<Option<Vec<GapAckBlock>>, SenderRefusal>
+    ) -> Result<Option<Left>, SenderRefusal>
         requires covered { Cover kept.now.reported.items kept.now.user_data.items self.now }
         requires in_order { rises_from 0 backs.now ≡ true }
         ensures covered { IfOk result (λ left. (bs : List (Option (List ℕ)))
             → backs.now ≡ placed 0 bs → length bs ≤ length self.now.queue.inflight.chunks
-            → Cover (blocks_left (option_map (λ l. l.items) left) kept.now.reported.items)
+            → Cover (blocks_left left kept.now.reported.items)
             kept.now.user_data.items (with_restored bs self.now)) }
         ensures known { IfOk result (λ left. (bs : List (Option (List ℕ)))
             → AreKnown kept.now.reported.items self.now.queue.inflight.chunks
             → backs.now ≡ placed 0 bs
-            → AreKnown (blocks_left (option_map (λ l. l.items) left) kept.now.reported.items)
+            → AreKnown (blocks_left left kept.now.reported.items)
             (restored bs self.now.queue.inflight.chunks)) }
+        ensures twice { IfOk result (λ left.
+            IfSome left (λ l. l.known.items ≡ l.reported.items)) }
         ensures memory { IfErr result (λ e. e ≡ OutOfMemory) }
         ensures not_back { turns.old ≤ turns.new }
         ensures cost { turns.new
@@ -118,21 +122,24 @@ impl InFlight {
     }
 }
 
-/// From here on these blocks report what can come back, if they do not stay.
-pub(crate) fn set_reported(kept: &mut Option<Kept>, left: Option<Vec<GapAckBlock>>)
+/// From here on these blocks report what can come back, and are those that the next SACK does not look at, if they do not stay.
+pub(crate) fn set_left(flight: &mut InFlight, kept: &mut Option<Kept>, left: Option<Left>)
+    requires known { IfSome left (λ l. AreKnown l.known.items flight.old.queue.inflight.chunks) }
+    requires ascend { IfSome left (λ l. ascends_from 0 l.known.items ≡ true) }
+    ensures flight { flight.new ≡ flight.old }
     ensures data { option_map (λ k. k.user_data.items) kept.new
         ≡ option_map (λ k. k.user_data.items) kept.old }
     ensures blocks { option_map (λ k. k.reported.items) kept.new
-        ≡ option_map (λ k. blocks_left (option_map (λ l. l.items) left) k.reported.items)
-        kept.old }
+        ≡ option_map (λ k. blocks_left left k.reported.items) kept.old }
 {
-    let Some(kept) = kept else {
-        return;
-    };
     let Some(left) = left else {
         return;
     };
-    kept.reported = left;
+    flight.known = left.known;
+    let Some(kept) = kept else {
+        return;
+    };
+    kept.reported = left.reported;
 }
 
 /// What is told of the chunks with which something comes back. Refuses only for memory.

@@ -1,6 +1,6 @@
 //! Blocks that report what is acknowledged: without what comes back, or with those of a further SACK (RFC 4960 6.2.1 D iv).
 
-ghost use Rattle.std.specs.Prelude.{◌≡◌, ℕ, suc, ◌+◌, ◌<◌, ◌≤◌, ◌^◌, ◌&&◌, ◌||◌, not, true, false, nat_le, IfOk, IfErr, OnOk, length, option_map, slice_index_or};
+ghost use Rattle.std.specs.Prelude.{◌≡◌, ℕ, suc, ◌+◌, ◌<◌, ◌≤◌, ◌^◌, ◌&&◌, ◌||◌, ◌++◌, ◌∷◌, [], not, true, false, nat_le, IfOk, IfErr, IfSome, OnOk, length, slice_index_or};
 ghost use Rattle.std.specs.List.{list_any};
 ghost use Rattle.sctp_data.specs.declared.chunk.chunk_selective_ack.GapAckBlock.{GapAckBlock};
 ghost use Rattle.sctp_outbound.specs.payload_queue.Blocks.{is_in_blocks};
@@ -16,6 +16,15 @@ use sctp_serial::turns::Turns;
 use sctp_stream::stream_numbers::put;
 use std::alloc::Global;
 
+/// Blocks that are left of what was reported, twice: one list for what is kept, and one for what is in flight.
+#[derive(Drop)]
+pub(crate) struct Left {
+    /// Those that report what can come back.
+    pub reported: Vec<GapAckBlock>,
+    /// The same: those that the next SACK does not look at.
+    pub known: Vec<GapAckBlock>,
+}
+
 /// The blocks without the places with which something comes back; None, and no memory, where that is none. Refuses only for memory.
 /// Turns: at most one for each block, and one for each such place.
 pub(super) fn without(
@@ -23,14 +32,14 @@ pub(super) fn without(
     blocks: &[GapAckBlock],
     backs: &[PlacedData],
     turns: &mut Turns,
-) -> Result<Option<Vec<GapAckBlock>>, SenderRefusal>
+) -> Result<Option<Left>, SenderRefusal>
     requires ascend { ascends_from 0 blocks.now ≡ true }
     requires in_order { rises_from 0 backs.now ≡ true }
-    ensures ascend { IfOk result (λ left. ascends_from 0
-        (blocks_left (option_map (λ l. l.items) left) blocks.now) ≡ true) }
+    ensures ascend { IfOk result (λ left. ascends_from 0 (blocks_left left blocks.now) ≡ true) }
     ensures same { IfOk result (λ left. (k : ℕ)
-        → is_in_blocks (blocks_left (option_map (λ l. l.items) left) blocks.now) (suc k)
+        → is_in_blocks (blocks_left left blocks.now) (suc k)
         ≡ (is_in_blocks blocks.now (suc k) && not (list_any (is_at k) backs.now))) }
+    ensures twice { IfOk result (λ left. IfSome left (λ l. l.known.items ≡ l.reported.items)) }
     ensures memory { IfErr result (λ e. e ≡ OutOfMemory) }
     ensures not_back { turns.old ≤ turns.new }
     ensures cost { turns.new ≤ turns.old + length blocks.now + length backs.now }
@@ -48,17 +57,21 @@ fn parted(
     blocks: &[GapAckBlock],
     backs: &[PlacedData],
     turns: &mut Turns,
-) -> Result<Vec<GapAckBlock>, SenderRefusal>
+) -> Result<Left, SenderRefusal>
     requires ascend { ascends_from 0 blocks.now ≡ true }
     requires in_order { rises_from 0 backs.now ≡ true }
-    ensures ascend { IfOk result (λ left. ascends_from 0 left.items ≡ true) }
-    ensures same { IfOk result (λ left. (k : ℕ) → is_in_blocks left.items (suc k)
+    ensures ascend { IfOk result (λ left. ascends_from 0 left.reported.items ≡ true) }
+    ensures same { IfOk result (λ left. (k : ℕ) → is_in_blocks left.reported.items (suc k)
         ≡ (is_in_blocks blocks.now (suc k) && not (list_any (is_at k) backs.now))) }
+    ensures twice { IfOk result (λ left. left.known.items ≡ left.reported.items) }
     ensures memory { IfErr result (λ e. e ≡ OutOfMemory) }
     ensures not_back { turns.old ≤ turns.new }
     ensures cost { turns.new ≤ turns.old + length blocks.now + length backs.now }
 {
-    let mut left = Vec::new(alloc);
+    let mut left = Left {
+        reported: Vec::new(alloc),
+        known: Vec::new(alloc),
+    };
     let mut from: usize = 1;
     let mut next = 0;
     let mut back = 0;
@@ -68,12 +81,12 @@ fn parted(
         let start = from.max(blocks[next].start as usize);
         let place = place_at(backs, back, end);
         if place < end {
-            put_run(&mut left, start, place)?;
+            put_twice(&mut left, start, place)?;
             from = from.max(place + 2);
             back += 1;
             continue;
         }
-        put_run(&mut left, start, end)?;
+        put_twice(&mut left, start, end)?;
         from = from.max(end + 1);
         next += 1;
     }
@@ -166,6 +179,8 @@ fn put_run(blocks: &mut Vec<GapAckBlock>, start: usize, end: usize) -> Result<()
     requires short { end < 2 ^ 16 }
     requires ascend { ascends_from 0 blocks.old.items ≡ true }
     requires behind { (n : ℕ) → start ≤ n → is_in_blocks blocks.old.items n ≡ false }
+    ensures items { OnOk result (start ≤ end → blocks.new.items
+        ≡ blocks.old.items ++ record { start = start; end = end } ∷ []) }
     ensures ascend { OnOk result (ascends_from 0 blocks.new.items ≡ true) }
     ensures same { OnOk result ((n : ℕ) → is_in_blocks blocks.new.items n
         ≡ (is_in_blocks blocks.old.items n || (nat_le start n && nat_le n end))) }
@@ -177,12 +192,42 @@ fn put_run(blocks: &mut Vec<GapAckBlock>, start: usize, end: usize) -> Result<()
     if blocks.reserve(1).is_err() {
         return Err(SenderRefusal::OutOfMemory);
     }
-    put(
-        blocks,
-        GapAckBlock {
-            start: start as u16,
-            end: end as u16,
-        },
-    );
+    put(blocks, run(start, end));
     Ok(())
+}
+
+// The same for both lists.
+fn put_twice(left: &mut Left, start: usize, end: usize) -> Result<(), SenderRefusal>
+    requires some { 0 < start }
+    requires short { end < 2 ^ 16 }
+    requires ascend { ascends_from 0 left.old.reported.items ≡ true }
+    requires behind { (n : ℕ) → start ≤ n → is_in_blocks left.old.reported.items n ≡ false }
+    requires twice { left.old.known.items ≡ left.old.reported.items }
+    ensures ascend { OnOk result (ascends_from 0 left.new.reported.items ≡ true) }
+    ensures same { OnOk result ((n : ℕ) → is_in_blocks left.new.reported.items n
+        ≡ (is_in_blocks left.old.reported.items n || (nat_le start n && nat_le n end))) }
+    ensures twice { OnOk result (left.new.known.items ≡ left.new.reported.items) }
+    ensures memory { IfErr result (λ e. e ≡ OutOfMemory) }
+{
+    if end < start {
+        return Ok(());
+    }
+    if left.known.reserve(1).is_err() {
+        return Err(SenderRefusal::OutOfMemory);
+    }
+    put_run(&mut left.reported, start, end)?;
+    put(&mut left.known, run(start, end));
+    Ok(())
+}
+
+// The block from one distance to another.
+fn run(start: usize, end: usize) -> GapAckBlock
+    requires start { start < 2 ^ 16 }
+    requires end { end < 2 ^ 16 }
+    ensures { result ≡ record { start = start; end = end } }
+{
+    GapAckBlock {
+        start: start as u16,
+        end: end as u16,
+    }
 }

@@ -22,4 +22,4 @@ invariant_of-self-2 c =
     )
 
 pub returns-clause-low : goal.returns-clause-low
-returns-clause-low c = rw (← c.self.view_is) (expiry-answered _ _ _ _ _ _ c.expire-is_low.ensures.low c.expire-is_low.ensures.less)
+returns-clause-low c = rw (← c.self.view_is) (expiry-answered _ _ _ _ _ _ _ c.expire-is_low.ensures.low c.expire-is_low.ensures.less)

@@ -1,5 +1,4 @@
 use Rattle.std.proofs.Common.{◌≡◌, ap, subst, sym, ◌∙◌, ℕ, None}
-use Rattle.std.specs.Option.{option_map}
 use Rattle.std.specs.Prelude.{if◌then◌else◌, is_some}
 use Rattle.sctp_outbound.specs.outbound_queue.OutboundQueue.{Outbound, sent_next, total_bytes}
 use Rattle.sctp_outbound.specs.pending_queue.PendingQueue.{next_pending}
@@ -13,19 +12,14 @@ use Rattle.sctp_sender.proofs.Settled.{started-settled, sent-settled}
 use Rattle.sctp_sender.specs.Keeping.{AreReported, IsCovered}
 use Rattle.sctp_sender.proofs.Covers.{sent-covered, started-covered}
 use Rattle.sctp_sender.proofs.Listed.{reported-on, started-reported}
+use Rattle.sctp_sender.proofs.Seen.{sender_in}
 use Rattle.sctp_sender.proofs.sender.Sender.send_next_tsn_unbounded.Goals as goal
 use Rattle.sctp_serial.specs.DataChunks.{following_tsn}
 
 pub returns-in_default-clause-ok : goal.returns-in_default-clause-ok
 returns-in_default-clause-ok c =
     let f : Flight = c.self.inside.flight in
-    let t : Transmission = record {
-      streams = c.self.inside.streams;
-      flight = c.self.inside.flight;
-      fragment_size = c.self.inside.fragment_size;
-      max_message_size = c.self.inside.max_message_size;
-      kept = option_map (λ k. k.user_data.items) c.self.inside.kept;
-    } in
+    let t : Transmission = sender_in c.self.inside in
     let none : None ≡ next_pending f.queue.pending = c.in_default.ensures.value ∙ ap (λ (o : Outbound). next_pending o.pending) c.queue-2.ensures in
     let same : (if is_some (next_pending f.queue.pending) then following_tsn f.next_tsn else f.next_tsn) ≡ f.next_tsn =
     ap (λ o. if is_some o then following_tsn f.next_tsn else f.next_tsn) (sym none) in

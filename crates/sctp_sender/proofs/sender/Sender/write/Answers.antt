@@ -1,91 +1,67 @@
-use Rattle.std.proofs.Common.{◌≡◌, ◌+◌, ◌<◌, ◌≤◌, ap, sym, ◌∙◌, true, false, subst, inr, None, rules, arith, length}
-use Rattle.std.specs.Option.{option_map}
+use Rattle.std.proofs.Common.{◌≡◌, ◌+◌, ◌<◌, ap, sym, ◌∙◌, true, false, subst, inr, None, rules, arith, length}
+use Rattle.std.specs.Prelude.{Some, if◌then◌else◌}
 use Rattle.std.specs.List.{list_any}
 use Rattle.std.proofs.Common.{List}
 use Rattle.sctp_data.specs.declared.chunk.chunk_payload_data.ChunkPayloadData.{ChunkPayloadData}
 use Rattle.sctp_outbound.specs.pending_queue.Whole.{IsMessageOrNone}
 use Rattle.sctp_outbound.specs.outbound_queue.OutboundQueue.{total_bytes}
+use Rattle.sctp_sender.specs.declared.sender.refusal.SenderRefusal.TheVariants.{QueueFull}
 use Rattle.sctp_sender.specs.Flight.{Flight}
 use Rattle.sctp_sender.proofs.Amounts.{message-bytes}
-use Rattle.sctp_sender.specs.Sender.{Transmission, is_open, is_full, is_full_of, write_refusal}
-use Rattle.sctp_sender.proofs.SenderStreams.{closed, open-at, found-at, unknown, too-large, full, fine, one-message, refused-not}
+use Rattle.sctp_sender.specs.Sender.{Transmission, is_open, is_full_of, write_refusal}
+use Rattle.sctp_sender.proofs.SenderStreams.{closed, open-at, found-at, unknown, too-large, by-room, one-message, refused-not}
 use Rattle.sctp_sender.specs.Totals.{AreSettled, IsAllSettled}
 use Rattle.sctp_sender.proofs.Settled.{fragments-settled, message-settled}
 use Rattle.sctp_sender.specs.Keeping.{AreReported, IsCovered}
+use Rattle.sctp_sender.proofs.Seen.{sender_in}
 use Rattle.sctp_sender.proofs.Covers.{fragments-unacked, message-covered}
 use Rattle.sctp_sender.proofs.Listed.{message-reported}
+use Rattle.sctp_sender.proofs.sender.Sender.write.Goals.{After-is_full, Else-is_full, In-Some, Then-is_full}
 use Rattle.sctp_sender.proofs.sender.Sender.write.Goals as goal
+
+-- The stream is open.
+opens : (c : In-Some) → is_open c.args.stream (sender_in c.self.inside) ≡ true
+opens c = open-at c.self.inside.streams c.args.stream c.in-Some.place c.in-Some.ensures
+
+-- What refuses the write where its message is not too large.
+judged : (c : After-is_full) → is_open c.args.stream (sender_in c.self.inside) ≡ true
+    → write_refusal c.args.stream (length c.args.bytes.now) (sender_in c.self.inside) ≡ (if c.is_full.result then Some QueueFull else None)
+judged c open' =
+    by-room c.args.stream (length c.args.bytes.now) (sender_in c.self.inside) open' (omega (arith, c.if-len-self.false, c.len-len.ensures.value))
+    ∙ ap (λ b. if b then Some QueueFull else None) (ap (λ n. is_full_of n c.self.inside.flight.queue) (sym c.len-len.ensures.value)
+    ∙ ap (is_full_of c.len-len.result) (sym c.queue.ensures) ∙ sym c.is_full.ensures)
+
+filled : (c : Then-is_full) → write_refusal c.args.stream (length c.args.bytes.now) (sender_in c.self.inside)
+    ≡ (if c.is_full.result then Some QueueFull else None) → write_refusal c.args.stream (length c.args.bytes.now) (sender_in c.self.inside) ≡ Some QueueFull
+filled c e = e ∙ ap (λ b. if b then Some QueueFull else None) c.if-is_full.true
+
+taken : (c : Else-is_full) → write_refusal c.args.stream (length c.args.bytes.now) (sender_in c.self.inside)
+    ≡ (if c.is_full.result then Some QueueFull else None) → write_refusal c.args.stream (length c.args.bytes.now) c.args.self.now ≡ None
+taken c e = rw (← c.self.view_is) (e ∙ ap (λ b. if b then Some QueueFull else None) c.if-is_full.false)
 
 pub returns-in_default-clause-refused : goal.returns-in_default-clause-refused
 returns-in_default-clause-refused c =
-    let t : Transmission = record {
-      streams = c.self.inside.streams;
-      flight = c.self.inside.flight;
-      fragment_size = c.self.inside.fragment_size;
-      max_message_size = c.self.inside.max_message_size;
-      kept = option_map (λ k. k.user_data.items) c.self.inside.kept;
-    } in
-    inr (rw (← c.self.view_is) (unknown c.args.stream (length c.args.bytes.now) t (closed c.self.inside.streams c.args.stream c.in_default.ensures)))
+    inr (rw (← c.self.view_is) (unknown c.args.stream (length c.args.bytes.now) (sender_in c.self.inside)
+    (closed c.self.inside.streams c.args.stream c.in_default.ensures)))
 
 pub returns-then-len-self-clause-refused : goal.returns-then-len-self-clause-refused
 returns-then-len-self-clause-refused c =
-    let t : Transmission = record {
-      streams = c.self.inside.streams;
-      flight = c.self.inside.flight;
-      fragment_size = c.self.inside.fragment_size;
-      max_message_size = c.self.inside.max_message_size;
-      kept = option_map (λ k. k.user_data.items) c.self.inside.kept;
-    } in
-    let open' : is_open c.args.stream t ≡ true = open-at c.self.inside.streams c.args.stream c.in-Some.place c.in-Some.ensures in
-    inr (rw (← c.self.view_is) (too-large c.args.stream (length c.args.bytes.now) t open' (omega (arith, c.if-len-self.true, c.len-len.ensures.value))))
+    inr (rw (← c.self.view_is)
+    (too-large c.args.stream (length c.args.bytes.now) (sender_in c.self.inside) (opens (goal.at.returns-then-len-self-clause-refused c).In-Some)
+    (omega (arith, c.if-len-self.true, c.len-len.ensures.value))))
 
 pub returns-then-is_full-clause-refused : goal.returns-then-is_full-clause-refused
 returns-then-is_full-clause-refused c =
-    let t : Transmission = record {
-      streams = c.self.inside.streams;
-      flight = c.self.inside.flight;
-      fragment_size = c.self.inside.fragment_size;
-      max_message_size = c.self.inside.max_message_size;
-      kept = option_map (λ k. k.user_data.items) c.self.inside.kept;
-    } in
-    let open' : is_open c.args.stream t ≡ true = open-at c.self.inside.streams c.args.stream c.in-Some.place c.in-Some.ensures in
-    let le : length c.args.bytes.now ≤ t.max_message_size = omega (arith, c.if-len-self.false, c.len-len.ensures.value) in
-    let room : is_full (length c.args.bytes.now) t ≡ true = ap (λ n. is_full_of n t.flight.queue) (sym c.len-len.ensures.value)
-    ∙ ap (is_full_of c.len-len.result) (sym c.queue.ensures) ∙ sym c.is_full.ensures ∙ c.if-is_full.true in
-    inr (rw (← c.self.view_is) (full c.args.stream (length c.args.bytes.now) t open' le room))
+    let p = goal.at.returns-then-is_full-clause-refused c in inr (rw (← c.self.view_is) (filled p.Then-is_full (judged p.After-is_full (opens p.In-Some))))
 
 pub returns-then-len-eq0-clause-accepted : goal.returns-then-len-eq0-clause-accepted
 returns-then-len-eq0-clause-accepted c =
-    let t : Transmission = record {
-      streams = c.self.inside.streams;
-      flight = c.self.inside.flight;
-      fragment_size = c.self.inside.fragment_size;
-      max_message_size = c.self.inside.max_message_size;
-      kept = option_map (λ k. k.user_data.items) c.self.inside.kept;
-    } in
-    let open' : is_open c.args.stream t ≡ true = open-at c.self.inside.streams c.args.stream c.in-Some.place c.in-Some.ensures in
-    let le : length c.args.bytes.now ≤ t.max_message_size = omega (arith, c.if-len-self.false, c.len-len.ensures.value) in
-    let room : is_full (length c.args.bytes.now) t ≡ false = ap (λ n. is_full_of n t.flight.queue) (sym c.len-len.ensures.value)
-    ∙ ap (is_full_of c.len-len.result) (sym c.queue.ensures) ∙ sym c.is_full.ensures ∙ c.if-is_full.false in
-    let none : write_refusal c.args.stream (length c.args.bytes.now) c.args.self.now ≡ None = rw (← c.self.view_is)
-    (fine c.args.stream (length c.args.bytes.now) t open' le room) in
-    λ _. none
+    let p = goal.at.returns-then-len-eq0-clause-accepted c in λ _. taken p.Else-is_full (judged p.After-is_full (opens p.In-Some))
 
 pub returns-in_err-chunks-clause-refused : goal.returns-in_err-chunks-clause-refused
 returns-in_err-chunks-clause-refused c =
-    let t : Transmission = record {
-      streams = c.self.inside.streams;
-      flight = c.self.inside.flight;
-      fragment_size = c.self.inside.fragment_size;
-      max_message_size = c.self.inside.max_message_size;
-      kept = option_map (λ k. k.user_data.items) c.self.inside.kept;
-    } in
-    let open' : is_open c.args.stream t ≡ true = open-at c.self.inside.streams c.args.stream c.in-Some.place c.in-Some.ensures in
-    let le : length c.args.bytes.now ≤ t.max_message_size = omega (arith, c.if-len-self.false, c.len-len.ensures.value) in
-    let room : is_full (length c.args.bytes.now) t ≡ false = ap (λ n. is_full_of n t.flight.queue) (sym c.len-len.ensures.value)
-    ∙ ap (is_full_of c.len-len.result) (sym c.queue.ensures) ∙ sym c.is_full.ensures ∙ c.if-is_full.false in
-    let none : write_refusal c.args.stream (length c.args.bytes.now) c.args.self.now ≡ None = rw (← c.self.view_is)
-    (fine c.args.stream (length c.args.bytes.now) t open' le room) in
+    let p = goal.at.returns-in_err-chunks-clause-refused c in
+    let none = taken p.Else-is_full (judged p.After-is_full (opens p.In-Some)) in
     search rules
 
 pub push-requires-clause-message : goal.push-requires-clause-message
@@ -96,47 +72,17 @@ push-requires-clause-message c =
 
 pub returns-in_err-push-clause-refused : goal.returns-in_err-push-clause-refused
 returns-in_err-push-clause-refused c =
-    let t : Transmission = record {
-      streams = c.self.inside.streams;
-      flight = c.self.inside.flight;
-      fragment_size = c.self.inside.fragment_size;
-      max_message_size = c.self.inside.max_message_size;
-      kept = option_map (λ k. k.user_data.items) c.self.inside.kept;
-    } in
-    let open' : is_open c.args.stream t ≡ true = open-at c.self.inside.streams c.args.stream c.in-Some.place c.in-Some.ensures in
-    let le : length c.args.bytes.now ≤ t.max_message_size = omega (arith, c.if-len-self.false, c.len-len.ensures.value) in
-    let room : is_full (length c.args.bytes.now) t ≡ false = ap (λ n. is_full_of n t.flight.queue) (sym c.len-len.ensures.value)
-    ∙ ap (is_full_of c.len-len.result) (sym c.queue.ensures) ∙ sym c.is_full.ensures ∙ c.if-is_full.false in
-    let none : write_refusal c.args.stream (length c.args.bytes.now) c.args.self.now ≡ None = rw (← c.self.view_is)
-    (fine c.args.stream (length c.args.bytes.now) t open' le room) in
+    let p = goal.at.returns-in_err-push-clause-refused c in
+    let none = taken p.Else-is_full (judged p.After-is_full (opens p.In-Some)) in
     search rules
 
 pub returns-clause-accepted : goal.returns-clause-accepted
 returns-clause-accepted c =
-    let t : Transmission = record {
-      streams = c.self.inside.streams;
-      flight = c.self.inside.flight;
-      fragment_size = c.self.inside.fragment_size;
-      max_message_size = c.self.inside.max_message_size;
-      kept = option_map (λ k. k.user_data.items) c.self.inside.kept;
-    } in
-    let open' : is_open c.args.stream t ≡ true = open-at c.self.inside.streams c.args.stream c.in-Some.place c.in-Some.ensures in
-    let le : length c.args.bytes.now ≤ t.max_message_size = omega (arith, c.if-len-self.false, c.len-len.ensures.value) in
-    let room : is_full (length c.args.bytes.now) t ≡ false = ap (λ n. is_full_of n t.flight.queue) (sym c.len-len.ensures.value)
-    ∙ ap (is_full_of c.len-len.result) (sym c.queue.ensures) ∙ sym c.is_full.ensures ∙ c.if-is_full.false in
-    let none : write_refusal c.args.stream (length c.args.bytes.now) c.args.self.now ≡ None = rw (← c.self.view_is)
-    (fine c.args.stream (length c.args.bytes.now) t open' le room) in
-    λ _. none
+    let p = goal.at.returns-clause-accepted c in λ _. taken p.Else-is_full (judged p.After-is_full (opens p.In-Some))
 
 pub returns-in_default-clause-idle : goal.returns-in_default-clause-idle
 returns-in_default-clause-idle c = λ len none.
-    let t : Transmission = record {
-      streams = c.self.inside.streams;
-      flight = c.self.inside.flight;
-      fragment_size = c.self.inside.fragment_size;
-      max_message_size = c.self.inside.max_message_size;
-      kept = option_map (λ k. k.user_data.items) c.self.inside.kept;
-    } in
+    let t : Transmission = sender_in c.self.inside in
     let here : write_refusal c.args.stream 0 t ≡ None = rw (← c.self.view_is) at none in
     refused-not c.args.stream (length c.args.bytes.now) t _
     (unknown c.args.stream (length c.args.bytes.now) t (closed c.self.inside.streams c.args.stream c.in_default.ensures)) len here
@@ -146,19 +92,10 @@ returns-then-len-self-clause-idle c = λ len none. absurd (omega (arith, c.if-le
 
 pub returns-then-is_full-clause-idle : goal.returns-then-is_full-clause-idle
 returns-then-is_full-clause-idle c = λ len none.
-    let t : Transmission = record {
-      streams = c.self.inside.streams;
-      flight = c.self.inside.flight;
-      fragment_size = c.self.inside.fragment_size;
-      max_message_size = c.self.inside.max_message_size;
-      kept = option_map (λ k. k.user_data.items) c.self.inside.kept;
-    } in
-    let open' : is_open c.args.stream t ≡ true = open-at c.self.inside.streams c.args.stream c.in-Some.place c.in-Some.ensures in
-    let le : length c.args.bytes.now ≤ t.max_message_size = omega (arith, c.if-len-self.false, c.len-len.ensures.value) in
-    let room : is_full (length c.args.bytes.now) t ≡ true = ap (λ n. is_full_of n t.flight.queue) (sym c.len-len.ensures.value)
-    ∙ ap (is_full_of c.len-len.result) (sym c.queue.ensures) ∙ sym c.is_full.ensures ∙ c.if-is_full.true in
+    let p = goal.at.returns-then-is_full-clause-idle c in
+    let t : Transmission = sender_in c.self.inside in
     let here : write_refusal c.args.stream 0 t ≡ None = rw (← c.self.view_is) at none in
-    refused-not c.args.stream (length c.args.bytes.now) t _ (full c.args.stream (length c.args.bytes.now) t open' le room) len here
+    refused-not c.args.stream (length c.args.bytes.now) t _ (filled p.Then-is_full (judged p.After-is_full (opens p.In-Some))) len here
 
 pub returns-in_err-chunks-clause-idle : goal.returns-in_err-chunks-clause-idle
 returns-in_err-chunks-clause-idle c = λ len none. absurd (omega (arith, c.if-len-eq0.false, c.len-len.ensures.value, len))

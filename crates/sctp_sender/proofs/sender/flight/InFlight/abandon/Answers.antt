@@ -8,21 +8,22 @@ use Rattle.sctp_sender.specs.Flight.{Flight, may_send}
 use Rattle.sctp_sender.proofs.InLine.{abandoned-in-line, found-partial}
 use Rattle.sctp_sender.proofs.Flights.{fresh, window, after-abandoning}
 use Rattle.sctp_sender.proofs.Known.{abandoned-known}
+use Rattle.sctp_sender.proofs.Seen.{flight_in}
 use Rattle.sctp_sender.proofs.sender.flight.InFlight.abandon.Goals as goal
 
 pub abandon_between-requires-clause-fresh : goal.abandon_between-requires-clause-fresh
 abandon_between-requires-clause-fresh c =
-    let f : Flight = record { queue = c.self.inside.queue; next_tsn = c.self.inside.next_tsn; acked_tsn = c.self.inside.acked_tsn } in
+    let f : Flight = flight_in c.self.inside in
     fresh f c.self.invariant.contiguous
 
 pub abandon_between-requires-clause-window : goal.abandon_between-requires-clause-window
 abandon_between-requires-clause-window c =
-    let f : Flight = record { queue = c.self.inside.queue; next_tsn = c.self.inside.next_tsn; acked_tsn = c.self.inside.acked_tsn } in
+    let f : Flight = flight_in c.self.inside in
     window f c.self.invariant.contiguous
 
 pub invariant_of-self-2 : goal.invariant_of-self-2
 invariant_of-self-2 c =
-    let f : Flight = record { queue = c.self.inside.queue; next_tsn = c.self.inside.next_tsn; acked_tsn = c.self.inside.acked_tsn } in
+    let f : Flight = flight_in c.self.inside in
     let room : has_tail (to_abandon (find (has_tsn c.args.tsn) f.queue.inflight.chunks)) f.queue ≡ true
     → may_send f ≡ true = rw (← c.self.view_is) at c.requires in
     record {
@@ -46,6 +47,6 @@ abandon_between-requires-clause-between c =
 
 pub returns-clause-known : goal.returns-clause-known
 returns-clause-known c =
-    let f : Flight = record { queue = c.self.inside.queue; next_tsn = c.self.inside.next_tsn; acked_tsn = c.self.inside.acked_tsn } in
+    let f : Flight = flight_in c.self.inside in
     rw (← c.self.view_is) (λ bs k. abandoned-known bs f c.self.invariant.contiguous k (to_abandon (find (has_tsn c.args.tsn) f.queue.inflight.chunks))
     c.abandon_between.new.self c.in_ok-abandoned.ensures.ok)

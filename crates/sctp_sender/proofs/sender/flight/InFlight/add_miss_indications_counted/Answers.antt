@@ -8,11 +8,12 @@ use Rattle.sctp_sender.proofs.InLine.{part-marked-in-line}
 use Rattle.sctp_sender.proofs.Flights.{kept}
 use Rattle.sctp_sender.specs.Reporting.{AreKnown}
 use Rattle.sctp_sender.proofs.Known.{part-changed-known}
+use Rattle.sctp_sender.proofs.Seen.{flight_in}
 use Rattle.sctp_sender.proofs.sender.flight.InFlight.add_miss_indications_counted.Goals as goal
 
 pub invariant_of-self : goal.invariant_of-self
 invariant_of-self c =
-    let f : Flight = record { queue = c.self.inside.queue; next_tsn = c.self.inside.next_tsn; acked_tsn = c.self.inside.acked_tsn } in
+    let f : Flight = flight_in c.self.inside in
     record {
       contiguous = (kept f (record f { queue = c.count_missing.new.queue }) (ap (λ (o : Outbound). tsns o.inflight.chunks) c.count_missing.ensures.missed
           ∙ part-run can_miss missed (λ d. refl) f.queue.inflight.chunks c.count_before-count.result) refl refl

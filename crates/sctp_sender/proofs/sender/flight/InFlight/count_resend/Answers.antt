@@ -8,11 +8,12 @@ use Rattle.sctp_sender.proofs.InLine.{marked-in-line}
 use Rattle.sctp_sender.proofs.Flights.{kept}
 use Rattle.sctp_sender.specs.Reporting.{AreKnown}
 use Rattle.sctp_sender.proofs.Known.{changed-known}
+use Rattle.sctp_sender.proofs.Seen.{flight_in}
 use Rattle.sctp_sender.proofs.sender.flight.InFlight.count_resend.Goals as goal
 
 pub invariant_of-self : goal.invariant_of-self
 invariant_of-self c =
-    let f : Flight = record { queue = c.self.inside.queue; next_tsn = c.self.inside.next_tsn; acked_tsn = c.self.inside.acked_tsn } in
+    let f : Flight = flight_in c.self.inside in
     record {
       contiguous = (kept f (record f { queue = c.set_nsent.new.self }) (ap (λ (o : Outbound). tsns o.inflight.chunks) c.set_nsent.ensures.changed
           ∙ changed-run (has_tsn c.args.tsn) (with_nsent c.saturating_add-nsent.result) (λ d. refl) f.queue.inflight.chunks) refl refl

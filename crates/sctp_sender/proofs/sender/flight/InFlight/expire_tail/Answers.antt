@@ -7,21 +7,22 @@ use Rattle.sctp_sender.specs.Flight.{Flight, may_send}
 use Rattle.sctp_sender.proofs.InLine.{abandoned-in-line, tail-partial}
 use Rattle.sctp_sender.proofs.Flights.{fresh, window, after-abandoning, tail-there}
 use Rattle.sctp_sender.proofs.Known.{abandoned-known}
+use Rattle.sctp_sender.proofs.Seen.{flight_in}
 use Rattle.sctp_sender.proofs.sender.flight.InFlight.expire_tail.Goals as goal
 
 pub expire_pending_tail-requires-clause-fresh : goal.expire_pending_tail-requires-clause-fresh
 expire_pending_tail-requires-clause-fresh c =
-    let f : Flight = record { queue = c.self.inside.queue; next_tsn = c.self.inside.next_tsn; acked_tsn = c.self.inside.acked_tsn } in
+    let f : Flight = flight_in c.self.inside in
     fresh f c.self.invariant.contiguous
 
 pub expire_pending_tail-requires-clause-window : goal.expire_pending_tail-requires-clause-window
 expire_pending_tail-requires-clause-window c =
-    let f : Flight = record { queue = c.self.inside.queue; next_tsn = c.self.inside.next_tsn; acked_tsn = c.self.inside.acked_tsn } in
+    let f : Flight = flight_in c.self.inside in
     window f c.self.invariant.contiguous
 
 pub invariant_of-self-2 : goal.invariant_of-self-2
 invariant_of-self-2 c =
-    let f : Flight = record { queue = c.self.inside.queue; next_tsn = c.self.inside.next_tsn; acked_tsn = c.self.inside.acked_tsn } in
+    let f : Flight = flight_in c.self.inside in
     let room : is_some (expiring_tail c.args.now f.queue) ≡ true → may_send f ≡ true = rw (← c.self.view_is) at c.requires in
     record {
       contiguous = (after-abandoning f _ c.expire_pending_tail.new.self c.expire_pending_tail.new.next_tsn c.self.invariant.contiguous
@@ -38,6 +39,6 @@ invariant_of-self-2 c =
 
 pub returns-clause-known : goal.returns-clause-known
 returns-clause-known c =
-    let f : Flight = record { queue = c.self.inside.queue; next_tsn = c.self.inside.next_tsn; acked_tsn = c.self.inside.acked_tsn } in
+    let f : Flight = flight_in c.self.inside in
     rw (← c.self.view_is) (λ bs k. abandoned-known bs f c.self.invariant.contiguous k (message_of (expiring_tail c.args.now f.queue))
     c.expire_pending_tail.new.self c.in_ok-abandoned.ensures.ok)

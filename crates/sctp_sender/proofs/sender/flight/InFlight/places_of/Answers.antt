@@ -4,11 +4,12 @@ use Rattle.sctp_sender.specs.Flight.{Flight}
 use Rattle.sctp_sender.specs.SideBySide.{messages_of, number_of_half}
 use Rattle.sctp_sender.proofs.InLine.{shorter}
 use Rattle.sctp_sender.proofs.Places.{between, place-is}
+use Rattle.sctp_sender.proofs.Seen.{flight_in}
 use Rattle.sctp_sender.proofs.sender.flight.InFlight.places_of.Goals as goal
 
 pub returns-then-ahead-eq0 : goal.returns-then-ahead-eq0
 returns-then-ahead-eq0 c =
-    let f : Flight = record { queue = c.self.inside.queue; next_tsn = c.self.inside.next_tsn; acked_tsn = c.self.inside.acked_tsn } in
+    let f : Flight = flight_in c.self.inside in
     rw (← c.self.view_is) (λ x found.
     let h = place-is f c.self.invariant.contiguous c.args.tsn x found in
     let far : c.distance-ahead.result ≡ suc h.0 = c.distance-ahead.ensures.value ∙ h.2 in
@@ -16,7 +17,7 @@ returns-then-ahead-eq0 c =
 
 pub returns-then-ahead-inflight_len : goal.returns-then-ahead-inflight_len
 returns-then-ahead-inflight_len c =
-    let f : Flight = record { queue = c.self.inside.queue; next_tsn = c.self.inside.next_tsn; acked_tsn = c.self.inside.acked_tsn } in
+    let f : Flight = flight_in c.self.inside in
     rw (← c.self.view_is) (λ x found.
     let h = place-is f c.self.invariant.contiguous c.args.tsn x found in
     let far : c.distance-ahead.result ≡ suc h.0 = c.distance-ahead.ensures.value ∙ h.2 in
@@ -24,7 +25,7 @@ returns-then-ahead-inflight_len c =
 
 pub returns : goal.returns
 returns c =
-    let f : Flight = record { queue = c.self.inside.queue; next_tsn = c.self.inside.next_tsn; acked_tsn = c.self.inside.acked_tsn } in
+    let f : Flight = flight_in c.self.inside in
     let cs = f.queue.inflight.chunks in
     let beside = shorter (messages_of cs) (number_of_half (partially_sent f.queue.pending)) c.self.invariant.contiguous.side_by_side in
     rw (← c.self.view_is) (λ x found.

@@ -11,11 +11,12 @@ use Rattle.sctp_sender.proofs.InLine.{marked-in-line}
 use Rattle.sctp_sender.proofs.Flights.{kept}
 use Rattle.sctp_sender.specs.Reporting.{AreKnown}
 use Rattle.sctp_sender.proofs.Known.{changed-known}
+use Rattle.sctp_sender.proofs.Seen.{flight_in}
 use Rattle.sctp_sender.proofs.sender.flight.InFlight.resend.Goals as goal
 
 pub invariant_of-self : goal.invariant_of-self
 invariant_of-self c =
-    let f : Flight = record { queue = c.self.inside.queue; next_tsn = c.self.inside.next_tsn; acked_tsn = c.self.inside.acked_tsn } in
+    let f : Flight = flight_in c.self.inside in
     record {
       contiguous = (kept f (record f { queue = c.note_sent_again.new.queue }) (ap (λ (o : Outbound). tsns o.inflight.chunks) c.note_sent_again.ensures
           ∙ changed-run (has_tsn c.args.tsn) (sent_again c.saturating_add-count.result c.args.now) (λ d. refl) f.queue.inflight.chunks) refl refl
@@ -29,7 +30,7 @@ invariant_of-self c =
 
 pub returns-clause-noted : goal.returns-clause-noted
 returns-clause-noted c =
-    let f : Flight = record { queue = c.self.inside.queue; next_tsn = c.self.inside.next_tsn; acked_tsn = c.self.inside.acked_tsn } in
+    let f : Flight = flight_in c.self.inside in
     let p = has_tsn c.args.tsn in
     let g = sent_again c.saturating_add-count.result c.args.now in
     ap (λ (o : Outbound). find p o.inflight.chunks) c.note_sent_again.ensures

@@ -11,11 +11,12 @@ use Rattle.sctp_list_lemmas.proofs.Cases.{same-is}
 use Rattle.sctp_sender.proofs.TakenBacks.{outstanding}
 use Rattle.sctp_sender.specs.Reporting.{AreKnown, ascends_from}
 use Rattle.sctp_sender.proofs.Known.{none-known}
+use Rattle.sctp_sender.proofs.Seen.{flight_in}
 use Rattle.sctp_sender.proofs.sender.flight.InFlight.restore_counted.Goals as goal
 
 pub invariant_of-self : goal.invariant_of-self
 invariant_of-self c =
-    let f : Flight = record { queue = c.self.inside.queue; next_tsn = c.self.inside.next_tsn; acked_tsn = c.self.inside.acked_tsn } in
+    let f : Flight = flight_in c.self.inside in
     record {
       contiguous = subst (λ (o : Outbound). IsContiguous (record { queue = o; next_tsn = f.next_tsn; acked_tsn = f.acked_tsn }))
           (sym c.restore_each.ensures.value) (put-contiguous c.args.backs.items f c.self.invariant.contiguous);
@@ -41,14 +42,14 @@ returns-then-is_empty-clause-outstanding c = λ s ks is.
 
 pub returns-clause-restored : goal.returns-clause-restored
 returns-clause-restored c = λ bs is le.
-    let f : Flight = record { queue = c.self.inside.queue; next_tsn = c.self.inside.next_tsn; acked_tsn = c.self.inside.acked_tsn } in
+    let f : Flight = flight_in c.self.inside in
     let short : length bs ≤ length f.queue.inflight.chunks = subst (λ (g : Flight). length bs ≤ length g.queue.inflight.chunks) (sym c.self.view_is) le in
     ap (λ (o : Outbound). let g : Flight = record f { queue = o } in g) c.restore_each.ensures.value ∙ put-restored f c.args.backs.items bs is short
     ∙ ap (with_restored bs) c.self.view_is
 
 pub returns-clause-outstanding : goal.returns-clause-outstanding
 returns-clause-outstanding c = λ s ks is.
-    let f : Flight = record { queue = c.self.inside.queue; next_tsn = c.self.inside.next_tsn; acked_tsn = c.self.inside.acked_tsn } in
+    let f : Flight = flight_in c.self.inside in
     let g : Flight = record f { queue = c.restore_each.new.queue } in
     let cs = f.queue.inflight.chunks in
     let bs = back_each s cs ks in

@@ -3,11 +3,12 @@ use Rattle.sctp_sender.specs.Flight.{Flight}
 use Rattle.sctp_sender.proofs.Flights.{kept}
 use Rattle.sctp_sender.proofs.InLine.{started-chunks, started-in-line}
 use Rattle.sctp_sender.proofs.Known.{started-known}
+use Rattle.sctp_sender.proofs.Seen.{flight_in}
 use Rattle.sctp_sender.proofs.sender.flight.InFlight.start.Goals as goal
 
 pub invariant_of-self : goal.invariant_of-self
 invariant_of-self c =
-    let f : Flight = record { queue = c.self.inside.queue; next_tsn = c.self.inside.next_tsn; acked_tsn = c.self.inside.acked_tsn } in
+    let f : Flight = flight_in c.self.inside in
     record {
       contiguous = (kept f (record f { queue = c.start_timed_messages.new.self })
           (started-chunks c.args.now f.queue c.start_timed_messages.new.self c.start_timed_messages.ensures) refl refl

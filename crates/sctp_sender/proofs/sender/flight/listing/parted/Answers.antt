@@ -4,13 +4,13 @@ use Rattle.sctp_sender.proofs.Listing.{IsStart, any_place, behind, left-to-end, 
 use Rattle.sctp_sender.proofs.Returns.{no_block}
 use Rattle.sctp_sender.proofs.sender.flight.listing.parted.Goals as goal
 
-pub put_run-requires-clause-behind : goal.put_run-requires-clause-behind
-put_run-requires-clause-behind c = λ n le.
-    behind _ c.loop-next.left.items c.loop-next.from c.loop-next.invariant.swept n (omega (arith, c.max-start.ensures, le))
+pub put_twice-requires-clause-behind : goal.put_twice-requires-clause-behind
+put_twice-requires-clause-behind c = λ n le.
+    behind _ c.loop-next.left.reported.items c.loop-next.from c.loop-next.invariant.swept n (omega (arith, c.max-start.ensures, le))
 
-pub put_run-requires-in-loop-next-clause-behind : goal.put_run-requires-in-loop-next-clause-behind
-put_run-requires-in-loop-next-clause-behind c = λ n le.
-    behind _ c.loop-next.left.items c.loop-next.from c.loop-next.invariant.swept n (omega (arith, c.max-start.ensures, le))
+pub put_twice-requires-in-loop-next-clause-behind : goal.put_twice-requires-in-loop-next-clause-behind
+put_twice-requires-in-loop-next-clause-behind c = λ n le.
+    behind _ c.loop-next.left.reported.items c.loop-next.from c.loop-next.invariant.swept n (omega (arith, c.max-start.ensures, le))
 
 pub loop-next-preserved-then-place-end : goal.loop-next-preserved-then-place-end
 loop-next-preserved-then-place-end c =
@@ -35,11 +35,13 @@ loop-next-preserved-then-place-end c =
     } in
     let on : from ≤ c.max-from.result = omega (arith, c.max-from.ensures) in
     record {
-      swept = swept-on _ c.loop-next.left.items from inv.swept c.put_run.new.blocks.items c.max-start.result place c.max-from.result start.low on
-          (omega (arith, c.max-from.ensures)) c.in_ok-put_run.ensures.ascend c.in_ok-put_run.ensures.same (λ k low high.
+      swept =
+          swept-on _ c.loop-next.left.reported.items from inv.swept c.put_twice.new.left.reported.items c.max-start.result place c.max-from.result start.low on
+          (omega (arith, c.max-from.ensures)) c.in_ok-put_twice.ensures.ascend c.in_ok-put_twice.ensures.same (λ k low high.
           left-to-place bs c.requires.ascend from i inv.swept.some inv.past lt ps c.requires.in_order j inv.gone c.max-start.result start less place there short
           k low (omega (arith, low, high, c.max-from.ensures)));
       past = none-on bs from i c.max-from.result on inv.past;
+      twice = c.in_ok-put_twice.ensures.twice;
       gone = λ k le. there-taken ps j k less (omega (arith, le, c.max-from.ensures, there)) (inv.gone k (omega (arith, le, on)));
       blocks = inv.blocks;
       backs = omega (arith, less);
@@ -65,13 +67,15 @@ loop-next-preserved c =
     let after : j < length ps → (get_or bs i no_block).end ≤ (get_or ps j any_place).place = λ less.
     (let there = c.place_at-place.ensures.there any_place less in omega (arith, c.if-place-end.false, there)) in
     record {
-      swept = swept-on _ c.loop-next.left.items from inv.swept c.put_run-in-loop-next.new.blocks.items c.max-start.result (get_or bs i no_block).end
+      swept = swept-on _ c.loop-next.left.reported.items from inv.swept c.put_twice-in-loop-next.new.left.reported.items c.max-start.result
+          (get_or bs i no_block).end
           c.max-from-in-loop-next.result start.low on
-          (omega (arith, c.max-from-in-loop-next.ensures)) c.in_ok-put_run-2.ensures.ascend c.in_ok-put_run-2.ensures.same (λ k low high.
+          (omega (arith, c.max-from-in-loop-next.ensures)) c.in_ok-put_twice-2.ensures.ascend c.in_ok-put_twice-2.ensures.same (λ k low high.
           left-to-end bs c.requires.ascend from i inv.swept.some inv.past lt ps c.requires.in_order j inv.gone c.max-start.result start after
           k low (omega (arith, low, high, c.max-from-in-loop-next.ensures)));
       past =
           none-past bs c.requires.ascend from i inv.swept.some inv.past lt c.max-from-in-loop-next.result on (omega (arith, c.max-from-in-loop-next.ensures));
+      twice = c.in_ok-put_twice-2.ensures.twice;
       gone = λ k le. inv.gone k (omega (arith, le, on));
       blocks = omega (arith, lt);
       backs = inv.backs;

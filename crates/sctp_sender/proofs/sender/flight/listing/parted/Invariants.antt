@@ -8,7 +8,8 @@ use Rattle.sctp_sender.proofs.sender.flight.listing.parted.Given as goal
 
 abbrev pub invariant-loop-next : goal.invariant-loop-next
 invariant-loop-next l = record {
-  swept : Swept (λ k. is_in_blocks l.blocks (suc k) && not (list_any (is_at k) l.backs)) l.left.items l.from;
+  swept : Swept (λ k. is_in_blocks l.blocks (suc k) && not (list_any (is_at k) l.backs)) l.left.reported.items l.from;
+  twice : l.left.known.items ≡ l.left.reported.items;
   past : NoneFrom l.from l.next l.blocks;
   gone : (k : ℕ) → l.from ≤ suc k → list_any (is_at k) (take l.back l.backs) ≡ false;
   blocks : l.next ≤ length l.blocks;

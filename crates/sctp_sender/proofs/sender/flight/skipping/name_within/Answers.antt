@@ -1,4 +1,4 @@
-use Rattle.std.proofs.Common.{◌++◌, ◌∷◌, [], List, length, ap, subst, sym, ◌∙◌, refl, arith}
+use Rattle.std.proofs.Common.{◌++◌, ◌∷◌, [], List, subst, sym, refl}
 use Rattle.sctp_data.specs.declared.chunk.chunk_forward_tsn.ChunkForwardTsnStream.{ChunkForwardTsnStream}
 use Rattle.sctp_sender.specs.Abandonment.{Name}
 use Rattle.sctp_sender.proofs.Names.{renamed, added}

@@ -1,4 +1,4 @@
-use Rattle.std.proofs.Common.{length, ◌≡◌, ℕ, ◌+◌, ◌*◌, ◌≤◌, ◌++◌, Bool, List, take, get_or, Some, None, inl, inr, refl, ap, sym, subst, ◌∙◌, arith}
+use Rattle.std.proofs.Common.{length, ◌≡◌, ℕ, ◌+◌, ◌*◌, ◌≤◌, ◌++◌, Bool, List, [], Option, take, get_or, Some, None, inl, inr, refl, ap, sym, subst, ◌∙◌, arith}
 use Rattle.std.specs.Prelude.{false}
 use Rattle.std.specs.List.{count_by}
 use Rattle.std.proofs.lemmas.Bool.{cases_lt}
@@ -7,10 +7,11 @@ use Rattle.sctp_data.specs.declared.chunk.chunk_selective_ack.GapAckBlock.{GapAc
 use Rattle.sctp_outbound.specs.payload_queue.Blocks.{is_in_blocks}
 use Rattle.sctp_sender.specs.declared.sender.flight.taking_back.PlacedData.{PlacedData}
 use Rattle.sctp_sender.specs.Costs.{PicksLeftOut}
-use Rattle.sctp_sender.specs.Keeping.{return_at}
+use Rattle.sctp_sender.specs.Keeping.{placed, return_at}
 use Rattle.sctp_sender.proofs.Counts.{count-in}
 use Rattle.sctp_sender.proofs.Placed.{one, placed-end, placed-more, placed-same, placed-some}
 use Rattle.sctp_sender.proofs.Returns.{none-at, none-below, some-at}
+use Rattle.sctp_sender.proofs.sender.flight.taking_back.returning.Goals.{After-next_return, In-Some}
 use Rattle.sctp_sender.proofs.sender.flight.taking_back.returning.Goals as goal
 
 pub loop-at-init : goal.loop-at-init
@@ -97,72 +98,44 @@ returns-clause-ok c = λ bs is.
     ∙ sym (placed-end 0 c.loop-at.at.place bs (λ k low. is k ∙ none-at c.args.count c.args.blocks.now c.args.queue.now.inflight.chunks
     c.args.kept.now.user_data.items k (c.next_return.ensures.none c.loop-at-test.false k low)))
 
-pub returns-in_err-user_data-clause-idle : goal.returns-in_err-user_data-clause-idle
-returns-in_err-user_data-clause-idle c = λ bs is none.
+-- Memory is taken only where something comes back.
+comes : (c : In-Some) {A : Type 0} (bs : List (Option (List ℕ))) → ((k : ℕ) → get_or bs k None
+    ≡ return_at c.args.count c.args.blocks.now c.args.queue.now.inflight.chunks c.args.kept.now.user_data.items k) → placed 0 bs ≡ [] → A
+comes c bs is none =
     let p = c.next_return.new.at.place in
     let full = is p ∙ some-at c.args.count c.args.blocks.now c.args.queue.now.inflight.chunks c.args.kept.now.user_data.items p
     (c.next_return.ensures.found c.loop-at-test.true) ∙ sym c.in-Some.ensures in
     let some = placed-some 0 p bs c.in-Some.bytes.now full in
     let n = ap length none in
     absurd (omega (arith, some, n))
+
+pub returns-in_err-user_data-clause-idle : goal.returns-in_err-user_data-clause-idle
+returns-in_err-user_data-clause-idle c = comes (goal.at.returns-in_err-user_data-clause-idle c).In-Some
 
 pub returns-then-is_err-clause-idle : goal.returns-then-is_err-clause-idle
-returns-then-is_err-clause-idle c = λ bs is none.
-    let p = c.next_return.new.at.place in
-    let full = is p ∙ some-at c.args.count c.args.blocks.now c.args.queue.now.inflight.chunks c.args.kept.now.user_data.items p
-    (c.next_return.ensures.found c.loop-at-test.true) ∙ sym c.in-Some.ensures in
-    let some = placed-some 0 p bs c.in-Some.bytes.now full in
-    let n = ap length none in
-    absurd (omega (arith, some, n))
+returns-then-is_err-clause-idle c = comes (goal.at.returns-then-is_err-clause-idle c).In-Some
 
-module _ (q : ChunkPayloadData → Bool) (cs : List ChunkPayloadData) (began first last i j blocks listed count place end : ℕ)
-    (so-far : first + count_by q (take count cs) ≤ began + i + 2 * j + count_by q (take place cs)) where
-  -- once all was walked over
-  all-walked : (l b : ℕ) → last + i + 2 * j + count_by q (take place cs) ≤ first + l + 2 * b + count_by q (take end cs) + 1 → l ≤ listed → b ≤ blocks
-      → last ≤ began + listed + 2 * blocks + count_by q cs + 1
-  all-walked l b more inside within = let n = count-in q cs end in omega (arith, so-far, more, inside, within, n)
+-- What it costs, once all is walked over that is.
+walked : (c : After-next_return) (q : ChunkPayloadData → Bool)
+    → PicksLeftOut q c.args.count c.args.kept.now.reported.items c.args.blocks.now c.args.queue.now.inflight.chunks
+    → c.next_return.new.turns ≤ c.args.turns.now + length c.args.kept.now.reported.items + 2 * length c.args.blocks.now
+    + count_by q c.args.queue.now.inflight.chunks + 1
+walked c q picks =
+    let cs = c.args.queue.now.inflight.chunks in
+    let e = c.next_return.ensures in
+    let inv = c.loop-at.invariant in
+    let n = ap length c.deref.ensures.value in
+    let there = subst (λ (xs : List GapAckBlock). PicksLeftOut q c.args.count xs c.args.blocks.now cs) (sym c.deref.ensures.value) picks in
+    omega (arith, inv.cost q picks, e.cost q there, e.inside (omega (arith, n, inv.inside)), n, e.within inv.within, count-in q cs c.next_return.new.at.place)
 
 pub returns-in_err-user_data-clause-cost : goal.returns-in_err-user_data-clause-cost
-returns-in_err-user_data-clause-cost c = λ q picks.
-    let e = c.next_return.ensures in
-    let inv = c.loop-at.invariant in
-    let n = ap length c.deref.ensures.value in
-    let inside = e.inside (omega (arith, n, inv.inside)) in
-    all-walked q c.args.queue.now.inflight.chunks c.args.turns.now c.loop-at.turns
-    c.next_return.new.turns c.loop-at.at.listed c.loop-at.at.block (length c.args.blocks.now)
-    (length c.args.kept.now.reported.items) c.args.count c.loop-at.at.place
-    c.next_return.new.at.place
-    (inv.cost q picks) c.next_return.new.at.listed c.next_return.new.at.block
-    (e.cost q (subst (λ (xs : List GapAckBlock). PicksLeftOut q c.args.count xs c.args.blocks.now c.args.queue.now.inflight.chunks)
-    (sym c.deref.ensures.value) picks)) (omega (arith, n, inside)) (e.within inv.within)
+returns-in_err-user_data-clause-cost c = walked (goal.at.returns-in_err-user_data-clause-cost c).After-next_return
 
 pub returns-then-is_err-clause-cost : goal.returns-then-is_err-clause-cost
-returns-then-is_err-clause-cost c = λ q picks.
-    let e = c.next_return.ensures in
-    let inv = c.loop-at.invariant in
-    let n = ap length c.deref.ensures.value in
-    let inside = e.inside (omega (arith, n, inv.inside)) in
-    all-walked q c.args.queue.now.inflight.chunks c.args.turns.now c.loop-at.turns
-    c.next_return.new.turns c.loop-at.at.listed c.loop-at.at.block (length c.args.blocks.now)
-    (length c.args.kept.now.reported.items) c.args.count c.loop-at.at.place
-    c.next_return.new.at.place
-    (inv.cost q picks) c.next_return.new.at.listed c.next_return.new.at.block
-    (e.cost q (subst (λ (xs : List GapAckBlock). PicksLeftOut q c.args.count xs c.args.blocks.now c.args.queue.now.inflight.chunks)
-    (sym c.deref.ensures.value) picks)) (omega (arith, n, inside)) (e.within inv.within)
+returns-then-is_err-clause-cost c = walked (goal.at.returns-then-is_err-clause-cost c).After-next_return
 
 pub returns-clause-cost : goal.returns-clause-cost
-returns-clause-cost c = λ q picks.
-    let e = c.next_return.ensures in
-    let inv = c.loop-at.invariant in
-    let n = ap length c.deref.ensures.value in
-    let inside = e.inside (omega (arith, n, inv.inside)) in
-    all-walked q c.args.queue.now.inflight.chunks c.args.turns.now c.loop-at.turns
-    c.next_return.new.turns c.loop-at.at.listed c.loop-at.at.block (length c.args.blocks.now)
-    (length c.args.kept.now.reported.items) c.args.count c.loop-at.at.place
-    c.next_return.new.at.place
-    (inv.cost q picks) c.next_return.new.at.listed c.next_return.new.at.block
-    (e.cost q (subst (λ (xs : List GapAckBlock). PicksLeftOut q c.args.count xs c.args.blocks.now c.args.queue.now.inflight.chunks)
-    (sym c.deref.ensures.value) picks)) (omega (arith, n, inside)) (e.within inv.within)
+returns-clause-cost c = walked (goal.at.returns-clause-cost c).After-next_return
 
 pub returns-in_err-user_data-clause-not_back : goal.returns-in_err-user_data-clause-not_back
 returns-in_err-user_data-clause-not_back c = let h = c.loop-at.invariant.not_back in omega (arith, h, c.next_return.ensures.not_back)

@@ -1,5 +1,5 @@
 use Rattle.std.proofs.Common.{rules, ap, sym, ◌∙◌}
-use Rattle.sctp_sender.specs.Outgoing.{number, after_expiry}
+use Rattle.sctp_sender.specs.Outgoing.{number, after_expiries}
 use Rattle.sctp_sender.specs.Thresholds.{falls_in}
 use Rattle.sctp_stream.proofs.StreamPlaces.{absent-change, absent-find, inside, changed, found, numbers-stay}
 use Rattle.sctp_sender.proofs.Lows.{expiry-number}
@@ -11,7 +11,7 @@ returns-in_default-clause-low c = rw (← c.self.view_is) (sym (ap (λ o. falls_
 
 pub returns-in_default-clause-less : goal.returns-in_default-clause-less
 returns-in_default-clause-less c = rw (← c.self.view_is) (absent-change number c.self.inside.items.items c.self.inside.numbers c.self.invariant c.args.stream
-    (after_expiry c.args.unordered c.args.bytes) c.in_default.ensures)
+    (after_expiries c.args.unordered c.args.messages c.args.bytes) c.in_default.ensures)
 
 pub index_mut-requires : goal.index_mut-requires
 index_mut-requires c =
@@ -19,14 +19,15 @@ index_mut-requires c =
 
 pub invariant_of-self : goal.invariant_of-self
 invariant_of-self c = numbers-stay number c.self.inside.items.items c.self.inside.numbers c.self.invariant c.args.stream c.in-Some.place c.in-Some.ensures
-    c.index_mut.result.now c.expire_message.new.state c.index_mut.ensures.value (ap number c.expire_message.ensures.less
-    ∙ expiry-number c.args.unordered c.args.bytes c.index_mut.result.now)
+    c.index_mut.result.now c.expire_messages.new.state c.index_mut.ensures.value (ap number c.expire_messages.ensures.less
+    ∙ expiry-number c.args.unordered c.args.messages c.args.bytes c.index_mut.result.now)
 
 pub returns-clause-low : goal.returns-clause-low
-returns-clause-low c = rw (← c.self.view_is) (c.expire_message.ensures.low ∙ sym (ap (λ o. falls_in o c.args.bytes) (found number c.self.inside.items.items
+returns-clause-low c = rw (← c.self.view_is) (c.expire_messages.ensures.low ∙ sym (ap (λ o. falls_in o c.args.bytes) (found number c.self.inside.items.items
     c.self.inside.numbers c.self.invariant c.args.stream c.in-Some.place c.in-Some.ensures c.index_mut.result.now c.index_mut.ensures.value)))
 
 pub returns-clause-less : goal.returns-clause-less
 returns-clause-less c =
     rw (← c.self.view_is) (changed number c.self.inside.items.items c.self.inside.numbers c.self.invariant c.args.stream c.in-Some.place c.in-Some.ensures
-    (after_expiry c.args.unordered c.args.bytes) c.index_mut.result.now c.expire_message.new.state c.index_mut.ensures.value c.expire_message.ensures.less)
+    (after_expiries c.args.unordered c.args.messages c.args.bytes) c.index_mut.result.now c.expire_messages.new.state c.index_mut.ensures.value
+    c.expire_messages.ensures.less)

@@ -1,4 +1,4 @@
-use Rattle.std.proofs.Common.{◌++◌, ◌∷◌, [], List, ap, sym, subst, length, ◌∙◌}
+use Rattle.std.proofs.Common.{List, sym, subst, length}
 use Rattle.sctp_data.specs.declared.chunk.chunk_forward_tsn.ChunkForwardTsnStream.{ChunkForwardTsnStream}
 use Rattle.sctp_stream.specs.Numbers.{IsAbsent}
 use Rattle.sctp_sender.specs.Abandonment.{IsNoPair}
