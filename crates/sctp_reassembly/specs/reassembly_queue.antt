@@ -6,6 +6,7 @@ pub mod Costs
 pub mod Counts
 pub mod Fragments
 pub mod Loose
+pub mod OrderedSkips
 pub mod Orders
 pub mod PoolUndo
 pub mod ReassemblyQueue

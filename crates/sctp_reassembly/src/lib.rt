@@ -5,4 +5,4 @@ pub mod reassembly_queue;
 
 pub use reassembly_queue::chunks::{Chunk, Chunks, Fragments};
 pub use reassembly_queue::fragment::Fragment;
-pub use reassembly_queue::{ReassemblyQueue, chunks, fragment, unassembled, undo};
+pub use reassembly_queue::{ReassemblyQueue, chunks, fragment, ordered_skips, unassembled, undo};

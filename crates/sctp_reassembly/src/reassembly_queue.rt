@@ -23,6 +23,7 @@ pub mod fragment;
 mod fragment_places;
 mod incomplete;
 mod ordered_sets;
+pub mod ordered_skips;
 mod outward;
 mod pool;
 mod resets;
@@ -36,6 +37,7 @@ use self::chunks::{Chunks, Fragments};
 use self::counted_sets::CountedSets;
 use self::fragment::Fragment;
 use self::ordered_sets::OrderedSets;
+use self::ordered_skips::SsnSpan;
 use self::pool::Pool;
 use self::sizes::{bytes_of_front, size_after, size_before};
 use self::skips::{earliest_from, goal, has_settled, latest_passable};
@@ -572,9 +574,8 @@ impl ReassemblyQueue {
             → turns.new ≤ turns.old + 4 * length self.old.held.ordered }
         ensures walk { turns.new ≤ turns.old + ordered_skip_walk self.old.held }
     {
-        self.next_ssn = ssn_past(self.next_ssn, last_ssn);
-        let gone = self.ordered.discard(Some(last_ssn), None, turns);
-        self.release(gone);
+        let noted = self.note_ordered_skip(None, last_ssn);
+        self.forward_tsn_for_ordered_noted_counted(noted, turns);
     }
 
     /// Discards every incomplete set at or before `last_ssn` that is seen to miss a TSN at or before `new_cumulative_tsn`: the
@@ -590,7 +591,7 @@ impl ReassemblyQueue {
         let goal = goal(self.ordered.as_deque(), last_ssn, new_cumulative_tsn);
         self.next_ssn = ssn_upto(self.next_ssn, goal);
         let gone = self.ordered.discard(
-            Some(last_ssn),
+            Some(SsnSpan::upto(last_ssn)),
             Some(new_cumulative_tsn),
             &mut Turns::new(),
         );

@@ -12,6 +12,7 @@ pub mod ChunkSets
 pub mod ChunkCounts
 pub mod SizeBounds
 pub mod LastFragments
+pub mod NotedSkips
 pub mod Resets
 pub mod TakenBack
 pub mod TakenRuns

@@ -5,7 +5,9 @@ use Rattle.sctp_list_lemmas.specs.Serial.{comes_before, comes_after, at_or_befor
 use Rattle.sctp_data.specs.declared.chunk.chunk_payload_data.ChunkPayloadData.{ChunkPayloadData}
 use Rattle.sctp_data.specs.ChunkSet.{ChunkSet}
 use Rattle.sctp_reassembly.specs.reassembly_queue.Fragments.{is_complete, has_ssn}
-use Rattle.sctp_reassembly.specs.reassembly_queue.ReassemblyQueue.{Reassembly, ReassemblyState, set_bytes, is_passed}
+use Rattle.sctp_reassembly.specs.reassembly_queue.ReassemblyQueue.{Reassembly, ReassemblyState, set_bytes}
+use Rattle.sctp_reassembly.specs.declared.reassembly_queue.ordered_skips.SsnSpan.{SsnSpan}
+use Rattle.sctp_reassembly.specs.reassembly_queue.OrderedSkips.{is_in, is_skipped}
 use Rattle.sctp_serial.specs.DataChunks.{following_tsn, preceding_tsn}
 
 -- behind x a TSN at or before t is missing
@@ -31,12 +33,12 @@ is_abandoned last t set =
 abbrev pub cannot_complete : ℕ → ChunkSet → Bool
 cannot_complete t set = not (is_complete set.chunks) && misses t set.chunks
 
--- a set that a skip discards: an incomplete one, at or before the SSN where there is one, and missing a TSN where there is a bound
-abbrev pub is_discarded : Option ℕ → Option ℕ → ChunkSet → Bool
+-- a set that a skip discards: an incomplete one, of a number in the stretch where there is one, and missing a TSN where there is a bound
+abbrev pub is_discarded : Option SsnSpan → Option ℕ → ChunkSet → Bool
 is_discarded None None set = not (is_complete set.chunks)
 is_discarded None (Some t) set = cannot_complete t set
-is_discarded (Some last) None set = is_passed last set
-is_discarded (Some last) (Some t) set = is_abandoned last t set
+is_discarded (Some span) None set = is_skipped span set
+is_discarded (Some span) (Some t) set = is_in span set.ssn && cannot_complete t set
 
 -- a set that a bounded skip does not pass: at or before the SSN, and complete with a TSN after t, or incomplete and missing none
 abbrev pub is_unaffected : ℕ → ℕ → ChunkSet → Bool

@@ -15,6 +15,7 @@ ghost use Rattle.sctp_reassembly.specs.reassembly_queue.Skips.{is_discarded};
 
 use crate::reassembly_queue::chunks::{Fragments, Placed};
 use crate::reassembly_queue::fragment::Fragment;
+use crate::reassembly_queue::ordered_skips::SsnSpan;
 use crate::reassembly_queue::{resets, skips};
 use sctp_base::error::Result;
 use sctp_serial::turns::Turns;
@@ -210,26 +211,26 @@ impl CountedSets {
         self.n_chunks = self.n_chunks.saturating_add(more);
     }
 
-    /// Removes the sets that a skip discards: the incomplete ones, those alone at or before the number where there is
+    /// Removes the sets that a skip discards: the incomplete ones, those alone whose numbers are in the stretch where there is
     /// one, and those alone that miss a TSN where there is a bound. Counts their bytes up to the greatest number. Its turns are added:
     /// four for each set at most where there is no bound and TSNs ascend in each.
     pub(crate) fn discard(
         &mut self,
-        last_ssn: Option<u16>,
+        passed: Option<SsnSpan>,
         bound: Option<u32>,
         turns: &mut Turns,
     ) -> usize
         ensures rest { self.new.items
-            ≡ filter (λ s. not (is_discarded last_ssn bound s)) self.old.items }
+            ≡ filter (λ s. not (is_discarded passed bound s)) self.old.items }
         ensures bytes { result
-            ≡ min (set_bytes (filter (is_discarded last_ssn bound) self.old.items)) (2 ^ 64 - 1) }
+            ≡ min (set_bytes (filter (is_discarded passed bound) self.old.items)) (2 ^ 64 - 1) }
         ensures not_back { turns.old ≤ turns.new }
         ensures few { bound ≡ None → All IsInOrder self.old.items
             → turns.new ≤ turns.old + 4 * length self.old.items }
         ensures walk { turns.new
             ≤ turns.old + 4 * length self.old.items + 2 * set_chunks self.old.items }
     {
-        let gone = skips::discard(&mut self.sets, last_ssn, bound, turns);
+        let gone = skips::discard(&mut self.sets, passed, bound, turns);
         self.n_chunks = chunks_in(&self.sets, turns);
         gone
     }

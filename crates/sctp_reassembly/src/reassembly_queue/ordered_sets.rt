@@ -21,6 +21,7 @@ ghost use Rattle.sctp_base.specs.declared.error.Error.TheVariants.{ErrOutOfMemor
 use crate::reassembly_queue::chunks::Fragments;
 use crate::reassembly_queue::counted_sets::CountedSets;
 use crate::reassembly_queue::fragment::Fragment;
+use crate::reassembly_queue::ordered_skips::SsnSpan;
 use sctp_base::error::Result;
 use sctp_base::util::sna16lt;
 use sctp_serial::serial::{Insertion, distance, upper_half};
@@ -213,25 +214,25 @@ impl OrderedSets {
         self.ascending = still_ascending(self.ascending, sets, &mut Turns::new());
     }
 
-    /// Removes the sets that a skip discards: the incomplete ones, those alone at or before the number where there is
+    /// Removes the sets that a skip discards: the incomplete ones, those alone whose numbers are in the stretch where there is
     /// one, and those alone that miss a TSN where there is a bound. Counts their bytes up to the greatest number. Its turns are added:
     /// four for each set at most where there is no bound, numbers ascend, and TSNs in each set.
     pub(crate) fn discard(
         &mut self,
-        last_ssn: Option<u16>,
+        passed: Option<SsnSpan>,
         bound: Option<u32>,
         turns: &mut Turns,
     ) -> usize
-        ensures rest { self.new ≡ filter (λ s. not (is_discarded last_ssn bound s)) self.old }
+        ensures rest { self.new ≡ filter (λ s. not (is_discarded passed bound s)) self.old }
         ensures bytes { result
-            ≡ min (set_bytes (filter (is_discarded last_ssn bound) self.old)) (2 ^ 64 - 1) }
+            ≡ min (set_bytes (filter (is_discarded passed bound) self.old)) (2 ^ 64 - 1) }
         ensures not_back { turns.old ≤ turns.new }
         ensures few { bound ≡ None → IsOrderly self.old
             → turns.new ≤ turns.old + 4 * length self.old }
         ensures walk { turns.new
             ≤ turns.old + 5 * length self.old + 2 * set_chunks self.old }
     {
-        let gone = self.sets.discard(last_ssn, bound, turns);
+        let gone = self.sets.discard(passed, bound, turns);
         let sets = self.sets.as_deque();
         self.ascending = still_ascending(self.ascending, sets, turns);
         gone

@@ -11,6 +11,7 @@ ghost use Rattle.sctp_reassembly.specs.reassembly_queue.Skips.{misses, misses_be
 
 use crate::reassembly_queue::chunks::Fragments;
 use crate::reassembly_queue::fragment::Fragment;
+use crate::reassembly_queue::ordered_skips::SsnSpan;
 use sctp_base::util::{sna16gt, sna16lt, sna16lte, sna32gt, sna32lt, sna32lte};
 use sctp_serial::turns::Turns;
 use std::collections::VecDeque;
@@ -49,19 +50,19 @@ fn misses_behind(first: &Fragment, rest: &[Fragment], tsn: u32, turns: &mut Turn
     !last.ending_fragment && sna32lte(last.tsn.wrapping_add(1), tsn)
 }
 
-/// Removes the sets that a skip discards: the incomplete ones, those alone at or before the number where there is
+/// Removes the sets that a skip discards: the incomplete ones, those alone whose numbers are in the stretch where there is
 /// one, and those alone that miss a TSN where there is a bound. Counts their bytes up to the greatest number. Its turns are added:
 /// three for each set at most where there is no bound and TSNs ascend in each.
 pub(crate) fn discard(
     sets: &mut VecDeque<Fragments>,
-    last_ssn: Option<u16>,
+    passed: Option<SsnSpan>,
     bound: Option<u32>,
     turns: &mut Turns,
 ) -> usize
     ensures rest { sets.new.items ≡ filter (λ s. not
-        (is_discarded last_ssn bound s)) sets.old.items }
+        (is_discarded passed bound s)) sets.old.items }
     ensures bytes { result
-        ≡ min (set_bytes (filter (is_discarded last_ssn bound) sets.old.items)) (2 ^ 64 - 1) }
+        ≡ min (set_bytes (filter (is_discarded passed bound) sets.old.items)) (2 ^ 64 - 1) }
     ensures not_back { turns.old ≤ turns.new }
     ensures few { bound ≡ None → All IsInOrder sets.old.items
         → turns.new ≤ turns.old + 3 * length sets.old.items }
@@ -71,7 +72,7 @@ pub(crate) fn discard(
     let mut gone = 0usize;
     let mut place = 0;
     while place < sets.len() {
-        if !is_discarded(&sets[place], last_ssn, bound, turns) {
+        if !is_discarded(&sets[place], passed, bound, turns) {
             place += 1;
             continue;
         }
@@ -88,18 +89,18 @@ pub(crate) fn discard(
 // Whether a skip gives the set up.
 fn is_discarded(
     set: &Fragments,
-    last_ssn: Option<u16>,
+    passed: Option<SsnSpan>,
     bound: Option<u32>,
     turns: &mut Turns,
 ) -> bool
-    ensures value { result ≡ is_discarded last_ssn bound set.now }
+    ensures value { result ≡ is_discarded passed bound set.now }
     ensures not_back { turns.old ≤ turns.new }
     ensures few { bound ≡ None → IsInOrder set.now → turns.new ≤ turns.old + 3 }
     ensures walk { turns.new ≤ turns.old + 2 * length set.now.chunks + 3 }
 {
     turns.tick();
-    if let Some(last_ssn) = last_ssn
-        && !sna16lte(set.ssn(), last_ssn)
+    if let Some(passed) = passed
+        && !passed.holds(set.ssn())
     {
         return false;
     }

@@ -177,7 +177,7 @@ drop_counted t q h = omega (arith, h, dropped t q.held.unassembled)
 pub incomplete_counted : (t : ℕ) (q : ReassemblyState) → IsCounted q → IsCounted (after_incomplete_skip t q)
 incomplete_counted t q h = omega (arith, h, skipped (cannot_complete t) q.held.ordered)
 
-complete_not_passed : (a b : Bool) → b ≡ true → not (a && not b) ≡ true
+pub complete_not_passed : (a b : Bool) → b ≡ true → not (a && not b) ≡ true
 complete_not_passed true true e = refl
 complete_not_passed true false e = absurd (true≢false (sym e))
 complete_not_passed false b e = refl

@@ -21,21 +21,21 @@ loop-place-preserved c =
     let x = c.index.result.now in
     let within : i < length xs = omega arith in
     let n = length-remove xs i within in
-    let passed : is_discarded c.args.last_ssn c.args.bound x ≡ true = sym c.is_discarded.ensures.value ∙ c.if-not-is_discarded.false in
+    let passed : is_discarded c.args.passed c.args.bound x ≡ true = sym c.is_discarded.ensures.value ∙ c.if-not-is_discarded.false in
     let taken = ap (λ (s : ChunkSet). bytes_of s.chunks) (c.in-Some.ensures.value ∙ get_or_default xs i c.in-Some.set x within ∙ sym c.index.ensures) in
     let left = left_with xs i x within c.index.ensures in
-    let next = removed_next (is_discarded c.args.last_ssn c.args.bound) xs i x within c.index.ensures passed in
+    let next = removed_next (is_discarded c.args.passed c.args.bound) xs i x within c.index.ensures passed in
     let sums = ap (sum_by (λ (s : ChunkSet). bytes_of s.chunks)) next in
     rw c.in-Some.ensures.items record {
       in_range = omega arith;
-      kept = removed_step (λ s. not (is_discarded c.args.last_ssn c.args.bound s)) xs i x within c.index.ensures (ap not passed) ∙ c.loop-place.invariant.kept;
+      kept = removed_step (λ s. not (is_discarded c.args.passed c.args.bound s)) xs i x within c.index.ensures (ap not passed) ∙ c.loop-place.invariant.kept;
       small = omega (arith, c.saturating_add-gone.ensures);
       counted = omega (
         arith,
         c.loop-place.invariant.counted,
         sums,
         taken,
-        sum_by-cons (λ (s : ChunkSet). bytes_of s.chunks) x (filter (is_discarded c.args.last_ssn c.args.bound) (drop i (remove xs i))),
+        sum_by-cons (λ (s : ChunkSet). bytes_of s.chunks) x (filter (is_discarded c.args.passed c.args.bound) (drop i (remove xs i))),
         c.len-in-Some.ensures,
         c.saturating_add-gone.ensures,
       );
@@ -104,5 +104,5 @@ pub returns-clause-bytes : goal.returns-clause-bytes
 returns-clause-bytes c = omega (
   arith,
   c.loop-place.invariant.counted,
-  at_drop_all (λ xs. set_bytes (filter (is_discarded c.args.last_ssn c.args.bound) xs)) c.loop-place.sets.items c.loop-place.place (omega arith),
+  at_drop_all (λ xs. set_bytes (filter (is_discarded c.args.passed c.args.bound) xs)) c.loop-place.sets.items c.loop-place.place (omega arith),
 )

@@ -9,11 +9,11 @@ use Rattle.sctp_reassembly.proofs.reassembly_queue.skips.discard.Given as goal
 abbrev pub invariant-loop-place : goal.invariant-loop-place
 invariant-loop-place l = record {
   in_range : l.place ≤ length l.sets.items;
-  kept : take l.place l.sets.items ++ filter (λ s. not (is_discarded l.last_ssn l.bound s))
-      (drop l.place l.sets.items) ≡ filter (λ s. not (is_discarded l.last_ssn l.bound s)) l.initial.sets.items;
+  kept : take l.place l.sets.items ++ filter (λ s. not (is_discarded l.passed l.bound s))
+      (drop l.place l.sets.items) ≡ filter (λ s. not (is_discarded l.passed l.bound s)) l.initial.sets.items;
   small : l.gone ≤ 2 ^ 64 - 1;
-  counted : min (l.gone + set_bytes (filter (is_discarded l.last_ssn l.bound) (drop l.place l.sets.items)))
-      (2 ^ 64 - 1) ≡ min (set_bytes (filter (is_discarded l.last_ssn l.bound) l.initial.sets.items)) (2 ^ 64 - 1);
+  counted : min (l.gone + set_bytes (filter (is_discarded l.passed l.bound) (drop l.place l.sets.items)))
+      (2 ^ 64 - 1) ≡ min (set_bytes (filter (is_discarded l.passed l.bound) l.initial.sets.items)) (2 ^ 64 - 1);
   not_back : l.initial.turns ≤ l.turns;
   in_order : All IsInOrder l.initial.sets.items → All IsInOrder (drop l.place l.sets.items);
   few : l.bound ≡ None → All IsInOrder l.initial.sets.items → l.turns + 3 * length (drop l.place l.sets.items) ≤ l.initial.turns

@@ -11,7 +11,7 @@ pub returns-clause-few : goal.returns-clause-few
 returns-clause-few c e h =
     let xs = c.self.inside.sets.items in
     let same = ap (λ (s : SetDeque). s.items) c.self.view_is in
-    let left = fewer (λ (s : ChunkSet). not (is_discarded c.args.last_ssn c.args.bound s)) xs in
+    let left = fewer (λ (s : ChunkSet). not (is_discarded c.args.passed c.args.bound s)) xs in
     omega (
       arith,
       ap length same,
@@ -25,7 +25,7 @@ pub returns-clause-walk : goal.returns-clause-walk
 returns-clause-walk c =
     let xs = c.self.inside.sets.items in
     let same = ap (λ (s : SetDeque). s.items) c.self.view_is in
-    let left = fewer (λ (s : ChunkSet). not (is_discarded c.args.last_ssn c.args.bound s)) xs in
+    let left = fewer (λ (s : ChunkSet). not (is_discarded c.args.passed c.args.bound s)) xs in
     omega (
       arith,
       ap length same,

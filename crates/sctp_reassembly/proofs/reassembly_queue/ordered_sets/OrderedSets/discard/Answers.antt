@@ -23,7 +23,7 @@ pub still_ascending-self-inside-requires : goal.still_ascending-self-inside-requ
 still_ascending-self-inside-requires c on =
     let num = (λ (s : ChunkSet). upper_half s.ssn) in
     let xs = c.self.inside.sets.items in
-    let p = (λ (s : ChunkSet). not (is_discarded c.args.last_ssn c.args.bound s)) in
+    let p = (λ (s : ChunkSet). not (is_discarded c.args.passed c.args.bound s)) in
     subst (λ ys. IsAscending (map num ys)) (sym (c.as_deque-sets.ensures ∙ c.discard-gone.ensures.rest))
     (ascending num (filter p xs) (ascends_those num p xs (order_on num c.self.inside.ascending xs on c.self.invariant.order)))
 
@@ -43,7 +43,7 @@ returns-clause-few c e o =
 pub returns-clause-walk : goal.returns-clause-walk
 returns-clause-walk c =
     let xs = c.self.inside.sets.items in
-    let left = fewer (λ (s : ChunkSet). not (is_discarded c.args.last_ssn c.args.bound s)) xs in
+    let left = fewer (λ (s : ChunkSet). not (is_discarded c.args.passed c.args.bound s)) xs in
     omega (
       arith,
       ap length c.self.view_is,
