@@ -1,9 +1,17 @@
 //! A sender that keeps what was reported in gaps, and a peer that takes such a report back (RFC 4960 6.2.1 D iv).
 
+ghost use Rattle.std.specs.Prelude.{◌≡◌, ◌+◌, ◌≤◌, length};
+ghost use Rattle.std.specs.List.{count_by};
+ghost use Rattle.sctp_data.specs.SelectiveAck.{sack_of};
+ghost use Rattle.sctp_sender.specs.Costs.{is_left_out, to_sort};
+ghost use Rattle.sctp_sender.specs.Sender.{taken_back_by};
+
 use crate::host::{Host, sends};
 use sctp_chunks::chunk::chunk_selective_ack::{ChunkSelectiveAck, GapAckBlock};
+use sctp_sender::sender::Sender;
 use sctp_sender::sender::flight::keeping::TakenBack;
 use sctp_sender::sender::refusal::SenderRefusal;
+use sctp_serial::turns::Turns;
 use std::alloc::Global;
 
 // The SACK up to a TSN with one block.
@@ -67,6 +75,43 @@ fn are_taken_back(alloc: Global, a: &mut Host) -> bool {
     comes(a, sack(alloc, u32::MAX - 1, 2, 3), &[], (9, 4))
         && comes(a, sack(alloc, u32::MAX - 1, 3, 3), &[back(0, 3)], (7, 7))
         && comes(a, sack(alloc, u32::MAX - 1, 4, 4), &[back(1, 2)], (9, 8))
+}
+
+// Takes back what a SACK leaves out. With one block, where it leaves out the one chunk in flight that is acknowledged, it looks 16
+// times at most: seven for the block, two for the chunk, one as it is left out, five as it comes back, and one.
+fn take_back(
+    sender: &mut Sender,
+    sack: &ChunkSelectiveAck,
+    turns: &mut Turns,
+) -> Result<Vec<TakenBack>, SenderRefusal>
+    ensures looks { length sack.now.gap_ack_blocks.items ≡ 1
+        → to_sort sack.now.gap_ack_blocks.items ≡ 0
+        → count_by (λ c. c.acked) sender.old.flight.queue.inflight.chunks ≡ 1
+        → count_by (is_left_out (sack_of sack.now)) sender.old.flight.queue.inflight.chunks ≡ 1
+        → length (taken_back_by (sack_of sack.now) sender.old) ≡ 1
+        → turns.new ≤ turns.old + 16 }
+{
+    sender.take_back_counted(sack, turns)
+}
+
+// The second chunk is reported, then the third alone.
+fn one_comes_back(alloc: Global, a: &mut Host) -> bool {
+    let first = comes(a, sack(alloc, u32::MAX - 1, 2, 2), &[], (9, 6));
+    let Some(sack) = sack(alloc, u32::MAX - 1, 3, 3) else {
+        return false;
+    };
+    match take_back(&mut a.sender, &sack, &mut Turns::new()) {
+        Ok(taken) => {
+            first && taken.as_slice() == [back(0, 3)].as_slice() && a.sender.bytes_in_flight() == 9
+        }
+        Err(_) => false,
+    }
+}
+
+/// With its turns counted it comes back as without.
+#[test]
+fn taken_back_and_counted(rt: HostRuntime) {
+    assert!(rt; goes_well(rt.alloc(), u32::MAX, 7, Case::TakenBackAndCounted));
 }
 
 // Whether the chunk with a TSN is sent again with these bytes.
@@ -159,6 +204,7 @@ fn not_kept(rt: HostRuntime) {
 #[derive(Clone, Copy)]
 enum Case {
     TakenBack,
+    TakenBackAndCounted,
     MissedAfterItWasTakenBack,
     AbandonedForGood,
     NotKept,
@@ -171,6 +217,9 @@ fn holds(alloc: Global, case: Case, a: &mut Host, b: &mut Host) -> bool {
             && four_in_flight(alloc, a, b)
             && are_taken_back(alloc, a)
             && are_resent(a),
+        Case::TakenBackAndCounted => a.sender.keep_reported().is_ok()
+            && four_in_flight(alloc, a, b)
+            && one_comes_back(alloc, a),
         Case::MissedAfterItWasTakenBack => a.sender.keep_reported().is_ok()
             && four_in_flight(alloc, a, b)
             && are_taken_back(alloc, a)
