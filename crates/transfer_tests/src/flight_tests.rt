@@ -4,10 +4,10 @@ use crate::host::{Host, sends};
 use crate::sending::{highest_acked, send_again};
 use sctp_chunks::chunk::chunk_payload_data::ReliabilityType;
 use sctp_chunks::chunk::chunk_selective_ack::{ChunkSelectiveAck, GapAckBlock};
-use sctp_sender::sender::ExpiredMessage;
 use sctp_sender::sender::flight::Released;
 use sctp_sender::sender::flight::late::AbandonedMessage;
 use sctp_sender::sender::refusal::SenderRefusal;
+use sctp_sender::sender::{ExpiredMessage, ExpiredMessages, Sender};
 use std::alloc::Global;
 
 // The SACK up to a TSN with one block.
@@ -327,6 +327,41 @@ fn abandoned_down_to_the_threshold(rt: HostRuntime) {
     assert!(rt; goes_well(rt.alloc(), u32::MAX, 7, Case::AbandonedDownToTheThreshold));
 }
 
+// Three messages of six bytes expire unsent by one call, and the next one that is written is sent with the number of the first of them.
+fn three_expire(alloc: Global, a: &mut Host) -> bool {
+    let timed = a.sender.set_mode(1, false, ReliabilityType::Timed, 1);
+    let well = timed.is_ok()
+        && a.writes(alloc, b"jk")
+        && a.writes(alloc, b"l")
+        && a.writes(alloc, b"mno");
+    a.sender.start(0);
+    let due = ExpiredMessages {
+        stream: 1,
+        unordered: false,
+        messages: 3,
+        bytes: 6,
+        is_low: false,
+    };
+    well && a.sender.expire_run(1_000_000) == Some(due)
+        && a.sender.expire_run(1_000_000).is_none()
+        && a.writes(alloc, b"p")
+        && is_third(&mut a.sender)
+}
+
+// Whether the next chunk that is sent is of the third ordered message.
+fn is_third(sender: &mut Sender) -> bool {
+    match sender.send_next(0) {
+        Ok(Some(chunk)) => chunk.stream_sequence_number == 2,
+        _ => false,
+    }
+}
+
+/// Messages of one stream that expire one after another leave by one call.
+#[test]
+fn expired_together(rt: HostRuntime) {
+    assert!(rt; goes_well(rt.alloc(), u32::MAX, 7, Case::ExpiredTogether));
+}
+
 // Whether the FORWARD-TSN up to a TSN goes to this one, if anywhere.
 fn goes_to(a: &Host, tsn: u32, due: Option<u32>) -> bool {
     match a.sender.forward_tsn_to(tsn) {
@@ -368,6 +403,7 @@ enum Case {
     Settings,
     AcknowledgedDownToTheThreshold,
     AbandonedDownToTheThreshold,
+    ExpiredTogether,
     SkipsCompleteMessages,
 }
 
@@ -391,6 +427,7 @@ fn holds(alloc: Global, case: Case, a: &mut Host, b: &mut Host) -> bool {
         Case::AbandonedDownToTheThreshold => four_in_flight(alloc, a, b)
             && is_low_abandoned(a)
             && is_low_expired(alloc, a),
+        Case::ExpiredTogether => four_in_flight(alloc, a, b) && three_expire(alloc, a),
         Case::SkipsCompleteMessages => four_in_flight(alloc, a, b) && ends_with_a_message(a),
     }
 }
