@@ -207,7 +207,7 @@ impl Line {
         Some(self.take_front())
     }
 
-    /// Takes out the first chunk. It is looked at where it stands, so that it is copied once, into the result.
+    /// Takes out the first chunk. Its bytes are counted where it stands, not in a copy.
     /// Precondition: there is one.
     pub(crate) fn take_front(&mut self) -> ChunkPayloadData
         requires { 0 < length self.old.chunks }
