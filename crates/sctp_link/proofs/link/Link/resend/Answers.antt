@@ -1,6 +1,6 @@
-use Rattle.sctp_link.proofs.Names.{◌≡◌, ◌+◌, ◌-◌, ◌^◌, ◌++◌, ◌∷◌, [], length, rules, refl, ap, None, ◌∙◌, sym, subst, is_some, min, length-mapped, change_where}
-use Rattle.sctp_link.proofs.Names.{has_tsn, with_nsent, with_inflight, after_resend, Data, refusal_of, IsRight, Transmission, Datagram, datagram_record}
-use Rattle.sctp_link.proofs.Names.{state_in, record_in, IsLinked}
+use Rattle.sctp_link.proofs.Names.{◌≡◌, ◌+◌, ◌-◌, ◌^◌, ◌++◌, ◌∷◌, [], length, rules, refl, ap, None, ◌∙◌, sym, subst, is_some, min, length-mapped}
+use Rattle.sctp_link.proofs.Names.{change_where, has_tsn, with_nsent, with_inflight, after_resend, Data, refusal_of, IsRight, Transmission, Datagram}
+use Rattle.sctp_link.proofs.Names.{datagram_record, state_in, record_in, IsLinked}
 use Rattle.sctp_model.specs.declared.event.Event.TheVariants as E
 use Rattle.sctp_model.specs.Reply as R
 use Rattle.sctp_link.proofs.sides.Changes.{flight-aligned}
