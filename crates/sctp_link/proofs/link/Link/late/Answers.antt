@@ -2,7 +2,7 @@ use Rattle.sctp_link.proofs.Names.{◌≡◌, ◌<◌, ◌+◌, true, refl, ap, 
 use Rattle.sctp_link.proofs.Names.{is_partially_sent, growth, message_of_tsn, abandoned_tsn, GivesInTurn, accepted-now, takes-none, goes-on, record_in, on-err}
 use Rattle.sctp_refinement.proofs.abandonment.LateTsns.{fly, takes, takes-unless, begun, done, turn-few}
 use Rattle.sctp_link.proofs.link.Link.late.Given.{Over}
-use Rattle.sctp_link.proofs.link.Link.late.Goals.{After-index}
+use Rattle.sctp_link.proofs.link.Link.late.Goals.{After-index, After-abandon_fully_sent-bytes}
 use Rattle.sctp_link.proofs.link.Link.late.Goals as goal
 use Rattle.sctp_link.proofs.upkeep.Facts.{sends}
 
@@ -60,29 +60,29 @@ abandon_fully_sent-bytes-requires-clause-complete g c =
     let o = find (λ t. is_partially_sent w (message_of_tsn w t)) ts in
     takes-none w ts o (all g p) c.loop-at.self.recorded c.loop-at.at c.loop-at.bytes c.index.result.now c.loop-at.invariant.turns (inside g p) c.index.ensures
 
+-- What one more gives.
+next : (g : Over) (c : After-abandon_fully_sent-bytes g) → list_all (λ t. is_in_flight c.args.self.now.recorded (place_of c.args.self.now.recorded t))
+    c.in_ok-tsns.tsns.items ≡ true → c.loop-at.at < length c.in_ok-tsns.tsns.items → GivesInTurn c.args.self.now.recorded
+    c.abandon_fully_sent-bytes.new.self.recorded (find (λ t. is_partially_sent c.args.self.now.recorded (message_of_tsn c.args.self.now.recorded t))
+    c.in_ok-tsns.tsns.items) c.in_ok-tsns.tsns.items (c.loop-at.at + 1) (c.loop-at.bytes + c.abandon_fully_sent-bytes.result)
+next g c all inside =
+    goes-on c.args.self.now.recorded c.in_ok-tsns.tsns.items _ all c.loop-at.self.recorded c.loop-at.at c.loop-at.bytes c.index.result.now
+    c.loop-at.invariant.turns inside c.index.ensures c.abandon_fully_sent-bytes.new.self.recorded c.abandon_fully_sent-bytes.result
+    c.abandon_fully_sent-bytes.ensures.moves c.abandon_fully_sent-bytes.ensures.bytes
+
 pub overflow_add-bytes : goal.overflow_add-bytes
 overflow_add-bytes g c =
-    let p = (goal.at.overflow_add-bytes g c).After-index in
-    let w = c.args.self.now.recorded in
-    let ts = c.in_ok-tsns.tsns.items in
-    let o = find (λ t. is_partially_sent w (message_of_tsn w t)) ts in
-    let next : GivesInTurn w c.abandon_fully_sent-bytes.new.self.recorded o ts (c.loop-at.at + 1)
-    (c.loop-at.bytes + c.abandon_fully_sent-bytes.result) = goes-on w ts o (all g p) c.loop-at.self.recorded c.loop-at.at c.loop-at.bytes c.index.result.now
-    c.loop-at.invariant.turns (inside g p) c.index.ensures c.abandon_fully_sent-bytes.new.self.recorded c.abandon_fully_sent-bytes.result
-    c.abandon_fully_sent-bytes.ensures.moves c.abandon_fully_sent-bytes.ensures.bytes in
-    omega (arith, next.bytes_are, turn-few w c.abandon_fully_sent-bytes.new.self.recorded next.turn)
+    let p = goal.at.overflow_add-bytes g c in
+    let n = next g p.After-abandon_fully_sent-bytes (all g p.After-index) (inside g p.After-index) in
+    omega (arith, n.bytes_are, turn-few c.args.self.now.recorded c.abandon_fully_sent-bytes.new.self.recorded n.turn)
 
 pub loop-at-preserved : goal.loop-at-preserved
 loop-at-preserved g c =
-    let p = (goal.at.loop-at-preserved g c).After-index in
-    let w = c.args.self.now.recorded in
-    let ts = c.in_ok-tsns.tsns.items in
-    let o = find (λ t. is_partially_sent w (message_of_tsn w t)) ts in
-    let next : GivesInTurn w c.abandon_fully_sent-bytes.new.self.recorded o ts (c.loop-at.at + 1)
-    (c.loop-at.bytes + c.abandon_fully_sent-bytes.result) = goes-on w ts o (all g p) c.loop-at.self.recorded c.loop-at.at c.loop-at.bytes c.index.result.now
-    c.loop-at.invariant.turns (inside g p) c.index.ensures c.abandon_fully_sent-bytes.new.self.recorded c.abandon_fully_sent-bytes.result
-    c.abandon_fully_sent-bytes.ensures.moves c.abandon_fully_sent-bytes.ensures.bytes in
-    record { turns = next; checksum = c.abandon_fully_sent-bytes.ensures.checksum ∙ c.loop-at.invariant.checksum }
+    let p = goal.at.loop-at-preserved g c in
+    record {
+      turns = next g p.After-abandon_fully_sent-bytes (all g p.After-index) (inside g p.After-index);
+      checksum = c.abandon_fully_sent-bytes.ensures.checksum ∙ c.loop-at.invariant.checksum;
+    }
 
 pub returns-clause-ok : goal.returns-clause-ok
 returns-clause-ok g c =
