@@ -24,14 +24,14 @@ returns-in_err-bytes-clause-wants g c =
 
 pub loop-at-init : goal.loop-at-init
 loop-at-init g c =
-    let l = c.self.invariant.1 in
     let w = record_in c.self.inside in
     let v = c.abandon_partially_sent.new.self.recorded in
     let ts = c.in_ok-tsns.tsns.items in
     let o = find (λ t. is_partially_sent w (message_of_tsn w t)) ts in
     let moves : v ≡ abandoned_tsn w o = rw (c.deref.ensures.value, ← c.self.view_is) at c.in_ok-bytes.ensures.moves in
     let bytes : c.in_ok-bytes.bytes ≡ growth w v = rw (← c.self.view_is) at c.in_ok-bytes.ensures.bytes in
-    let first : GivesInTurn w v o ts 0 c.in_ok-bytes.bytes = subst (λ u. GivesInTurn w u o ts 0 c.in_ok-bytes.bytes) (sym moves) (begun (sends l) c.args.now ts
+    let first : GivesInTurn w v o ts 0 c.in_ok-bytes.bytes = subst (λ u. GivesInTurn w u o ts 0 c.in_ok-bytes.bytes) (sym moves)
+    (begun (sends c.self.invariant.1) c.args.now ts
     (c.in_ok-tsns.ensures.ok ∙ ap (late_tsns c.args.now) (c.outbound.ensures)) o c.in_ok-bytes.bytes refl (bytes ∙ ap (growth w) moves)) in
     record { turns = rw (← c.self.view_is) first; checksum = c.in_ok-bytes.ensures.checksum }
 
@@ -49,16 +49,14 @@ abandon_fully_sent-bytes-requires-clause-accepted g c =
     let p = (goal.at.abandon_fully_sent-bytes-requires-clause-accepted g c).After-index in
     let w = c.args.self.now.recorded in
     let ts = c.in_ok-tsns.tsns.items in
-    let o = find (λ t. is_partially_sent w (message_of_tsn w t)) ts in
-    accepted-now w ts o (all g p) c.loop-at.self.recorded c.loop-at.at c.loop-at.bytes c.index.result.now c.loop-at.invariant.turns (inside g p) c.index.ensures
+    accepted-now w ts _ (all g p) c.loop-at.self.recorded c.loop-at.at c.loop-at.bytes c.index.result.now c.loop-at.invariant.turns (inside g p) c.index.ensures
 
 pub abandon_fully_sent-bytes-requires-clause-complete : goal.abandon_fully_sent-bytes-requires-clause-complete
 abandon_fully_sent-bytes-requires-clause-complete g c =
     let p = (goal.at.abandon_fully_sent-bytes-requires-clause-complete g c).After-index in
     let w = c.args.self.now.recorded in
     let ts = c.in_ok-tsns.tsns.items in
-    let o = find (λ t. is_partially_sent w (message_of_tsn w t)) ts in
-    takes-none w ts o (all g p) c.loop-at.self.recorded c.loop-at.at c.loop-at.bytes c.index.result.now c.loop-at.invariant.turns (inside g p) c.index.ensures
+    takes-none w ts _ (all g p) c.loop-at.self.recorded c.loop-at.at c.loop-at.bytes c.index.result.now c.loop-at.invariant.turns (inside g p) c.index.ensures
 
 -- What one more gives.
 next : (g : Over) (c : After-abandon_fully_sent-bytes g) → list_all (λ t. is_in_flight c.args.self.now.recorded (place_of c.args.self.now.recorded t))
@@ -86,7 +84,6 @@ loop-at-preserved g c =
 
 pub returns-clause-ok : goal.returns-clause-ok
 returns-clause-ok g c =
-    let l = c.self.invariant.1 in
     let w = record_in c.self.inside in
     let v = c.loop-at.self.recorded in
     let ts = c.in_ok-tsns.tsns.items in
@@ -94,7 +91,7 @@ returns-clause-ok g c =
     let so-far : GivesInTurn w v o ts c.loop-at.at c.loop-at.bytes = rw (← c.self.view_is) at c.loop-at.invariant.turns in
     let end : c.loop-at.at ≡ length ts = omega (arith, c.loop-at-test.false, c.loop-at.auto.at-end, c.len-at-end.ensures) in
     let count : c.len.result ≡ length ts = omega (arith, c.len.ensures, c.in_ok-tsns.tsns.ok.0) in
-    rw (count, ← c.self.view_is) (done (sends l) c.args.now ts (c.in_ok-tsns.ensures.ok
+    rw (count, ← c.self.view_is) (done (sends c.self.invariant.1) c.args.now ts (c.in_ok-tsns.ensures.ok
     ∙ ap (late_tsns c.args.now) (c.outbound.ensures)) v o c.loop-at.bytes refl (subst (λ k. GivesInTurn w v o ts k c.loop-at.bytes) end so-far))
 
 pub returns-clause-checksum : goal.returns-clause-checksum

@@ -34,7 +34,6 @@ moves g c =
 pub invariant_of-self-2 : goal.invariant_of-self-2
 invariant_of-self-2 g c =
     let ok : refusal_of (record_in c.self.inside) (E.Resend c.args.tsn) ≡ None = rw (← c.self.view_is) at c.requires in
-    let sum = g.C.Checksum.sum c.self.inside.checksum in
     let l = c.self.invariant.1 in
     let small = c.ranges.tsn.fits in
     let d = (found l c.args.tsn small ok).chunk in
@@ -45,7 +44,8 @@ invariant_of-self-2 g c =
     ≡ c.self.inside.network.items ++ (let d : Datagram = record { kind = K.Data places; bytes = c.in_ok-bytes.bytes } in d) ∷ [] = search rules in
     let bytes = bytes-more c.self.inside.network.items c.push_reserved.new.self.items (K.Data places) c.in_ok-bytes.bytes more in (
       flight-aligned c.self.invariant.0 c.write_again.new.sender _ counted,
-      subst (λ (u : Transmission). IsLinked sum (state_in (record c.self.inside { sender = u; network = c.push_reserved.new.self }))) (sym counted)
+      subst (λ (u : Transmission).
+          IsLinked (g.C.Checksum.sum c.self.inside.checksum) (state_in (record c.self.inside { sender = u; network = c.push_reserved.new.self }))) (sym counted)
           (moved _ _ (after_resend (record_in c.self.inside) c.args.tsn) (moves g (goal.at.invariant_of-self-2 g c).After-push_reserved)
           (rw bytes (linked-resend l c.args.tsn small ok d c.in_ok-bytes.bytes (min (d.nsent + 1) (2 ^ 32 - 1)) (with_inflight c.self.inside.sender.flight.queue
           (change_where (has_tsn c.args.tsn) (with_nsent (min (d.nsent + 1) (2 ^ 32 - 1))) c.self.inside.sender.flight.queue.inflight.chunks)) e
@@ -60,10 +60,9 @@ returns-clause-ok g c =
     let small = c.ranges.tsn.fits in
     let d = (found l c.args.tsn small ok).chunk in
     let e = there l c.args.tsn small ok in
-    let counted = c.in_ok-bytes.ensures.counted d e in
     let len : c.len-datagram.result ≡ length c.self.inside.network.items = search rules in
     rw (← c.self.view_is) (subst (λ (u : Transmission). IsRight (record_in c.self.inside) (E.Resend c.args.tsn) (R.Resent c.len-datagram.result)
-    (record_in (record c.self.inside { sender = u; network = c.push_reserved.new.self }))) (sym counted)
+    (record_in (record c.self.inside { sender = u; network = c.push_reserved.new.self }))) (sym (c.in_ok-bytes.ensures.counted d e))
     (record {
       right = ap R.Resent (len ∙ sym (length-mapped datagram_record c.self.inside.network.items));
       moves = moves g (goal.at.returns-clause-ok g c).After-push_reserved;
