@@ -85,16 +85,13 @@ returns-in-Err-clause-wants g c = rw (← c.self.view_is) (ap is_some (late g (g
 pub index_mut-message-requires : goal.index_mut-message-requires
 index_mut-message-requires g c =
     let shown : next_pending c.self.inside.sender.flight.queue.pending ≡ Some c.in-Some.chunk.now = search rules in
-    let late : tailing (record_in c.self.inside) c.args.now ≡ Some c.in-Some.chunk.now.message_id =
-    tails (sends c.self.invariant.1) c.args.now c.in-Some.chunk.now shown c.if-chunk.false (sym c.is_past.ensures ∙ c.if-not-is_past.false) in
+    let is-late = late g (goal.at.index_mut-message-requires g c).After-make_room in
     let answered =
     answered-of c.in-Ok.gone c.in-Some-gone.gone (expiring_tail c.args.now c.self.inside.sender.flight.queue) c.in-Some-gone.is c.in-Ok.ensures.answer in
     let number : c.in-Some-gone.gone.number ≡ c.in-Some.chunk.now.message_id =
-    number-is (sends c.self.invariant.1) c.args.now c.in-Some.chunk.now.message_id late c.in-Some-gone.gone.number answered.number in
-    let made : c.in-Some-gone.gone.number < length (record_in c.self.inside).messages = let m =
-    (next-is (sends c.self.invariant.1) c.in-Some.chunk.now shown).made in
-    omega (arith, m, number) in
-    omega (arith, made, length-mapped message_record c.self.inside.messages.items, c.self.inside.messages.ok.0)
+    number-is (sends c.self.invariant.1) c.args.now c.in-Some.chunk.now.message_id is-late c.in-Some-gone.gone.number answered.number in
+    let made = (next-is (sends c.self.invariant.1) c.in-Some.chunk.now shown).made in
+    omega (arith, made, number, length-mapped message_record c.self.inside.messages.items, c.self.inside.messages.ok.0)
 
 -- What becomes of its message.
 gone : (g : Over) (c : After-settle g) → Settled (g.C.Checksum.sum c.self.inside.checksum) c.self.inside (E.Tail c.args.now) c.in-Some-gone.gone.bytes
