@@ -1,4 +1,2 @@
 pub mod Expiring
 pub mod Abandoning
-pub mod QueueAnswers
-pub mod LateTsns

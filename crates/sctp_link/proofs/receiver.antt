@@ -1,7 +1,6 @@
 pub mod Arrivals
 pub mod Comes
 pub mod HandsOut
-pub mod Keeping
 pub mod Came
 pub mod Hears
 pub mod Slots

@@ -1,5 +1,5 @@
 -- What a skip names on a stream of a link (RFC 3758 3.6).
-use Rattle.std.specs.Prelude.{◌≡◌, ℕ, ◌<◌, ◌+◌, ◌-◌, ◌%◌, ◌^◌, min, max, Bool, ◌&&◌, not, ◌==◌, if◌then◌else◌, List, length, map, slice_index_or}
+use Rattle.std.specs.Prelude.{◌≡◌, ◌⊎◌, ℕ, ◌<◌, ◌+◌, ◌-◌, ◌%◌, ◌^◌, min, max, Bool, ◌&&◌, not, ◌==◌, if◌then◌else◌, List, length, map, slice_index_or}
 use Rattle.std.specs.List.{filter}
 use Rattle.sctp_data.specs.declared.chunk.chunk_forward_tsn.ChunkForwardTsnStream.{ChunkForwardTsnStream}
 use Rattle.sctp_data.specs.ForwardTsn.{ForwardTsn}
@@ -56,6 +56,10 @@ HasNames ms names further ps table =
     (k : ℕ) (p : Standing) (d : Named) → k < length table → k < length ps
     → p ≡ slice_index_or ps k p → d ≡ slice_index_or table k d
     → named_from ms p.number d further ≡ named_from ms p.number none_named names
+
+-- a table has so many places, or none
+abbrev pub IsFullOrEmpty : ℕ → List Named → Type 0
+IsFullOrEmpty count table = (length table ≡ count) ⊎ (length table ≡ 0)
 
 -- what these messages name on stream s, as the record has it
 abbrev pub named_in : LinkRecord → ℕ → List ℕ → Named

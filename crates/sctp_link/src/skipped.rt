@@ -3,7 +3,7 @@
 ghost use Rattle.std.specs.Prelude.{◌≡◌, ◌+◌, ◌<◌, ◌^◌, ◌∷◌, ℕ, List, [], length, map, slice_index_or, IfOk, IsOkUnless};
 ghost use Rattle.sctp_base.specs.declared.error.Error.TheVariants.{ErrOutOfMemory};
 ghost use Rattle.sctp_link.specs.declared.skipped.Named.{Named};
-ghost use Rattle.sctp_link.specs.Skips.{index_in, named_from, none_named, with_name, pair_in, standing_named, HasNames};
+ghost use Rattle.sctp_link.specs.Skips.{index_in, named_from, none_named, with_name, pair_in, standing_named, HasNames, IsFullOrEmpty};
 
 use crate::record::Message;
 use sctp_base::error::Result;
@@ -52,7 +52,7 @@ fn with_name(messages: &[Message], stream: u16, number: u64, named: Named) -> Na
 }
 
 /// What a skip that names these messages names on each open stream, in the order in which they were opened: in a time that grows with
-/// the names and the streams, and not with their product. Where memory is refused it has no elements.
+/// the names and the streams, and not with their product. Where memory is refused it has no places.
 /// Precondition: the index of each message is below the greatest u64.
 pub fn named_on_each(
     alloc: Global,
@@ -61,7 +61,8 @@ pub fn named_on_each(
     names: &[u64],
 ) -> Vec<Named>
     requires { (n : ℕ) → index_in messages.now n + 1 < 2 ^ 64 }
-    ensures { HasNames messages.now names.now [] progress.now result.items }
+    ensures names { HasNames messages.now names.now [] progress.now result.items }
+    ensures count { IsFullOrEmpty (length progress.now) result.items }
 {
     let mut table = none_named(alloc, progress.len());
     for number in names {
@@ -70,10 +71,11 @@ pub fn named_on_each(
     table
 }
 
-// Nothing is named on so many streams.
+// Nothing is named on so many streams. Where memory is refused there are no places.
 fn none_named(alloc: Global, count: usize) -> Vec<Named>
-    ensures { (k : ℕ) (d : Named)
+    ensures none { (k : ℕ) (d : Named)
         → k < length result.items → d ≡ slice_index_or result.items k d → d ≡ none_named }
+    ensures count { IsFullOrEmpty count result.items }
 {
     let mut table = Vec::new(alloc);
     let none = Named {
@@ -87,9 +89,10 @@ fn none_named(alloc: Global, count: usize) -> Vec<Named>
 // One message more is named, on the stream that it is one of.
 fn put_name(table: &mut Vec<Named>, progress: &Progress, messages: &[Message], number: u64)
     requires { (n : ℕ) → index_in messages.now n + 1 < 2 ^ 64 }
-    ensures { (names rest : List ℕ)
+    ensures names { (names rest : List ℕ)
         → HasNames messages.now names (number ∷ rest) progress.now table.old.items
         → HasNames messages.now names rest progress.now table.new.items }
+    ensures count { length table.new.items ≡ length table.old.items }
 {
     let Some(message) = messages.get(number as usize) else {
         return;
@@ -126,14 +129,33 @@ pub fn pairs_of(
     Ok(pairs)
 }
 
-/// Records, on each open stream, how far its ordered messages were named by a skip that names these. It takes no memory.
+/// Records, on each open stream, how far its ordered messages were named by a skip that names these: in a time that grows with the names
+/// alone. It takes no memory.
 /// Precondition: the index of each message is below the greatest u64.
 pub fn record_names(progress: &mut Progress, messages: &[Message], names: &[u64])
     requires { (n : ℕ) → index_in messages.now n + 1 < 2 ^ 64 }
     ensures { progress.new ≡ map (standing_named messages.now names.now) progress.old }
 {
-    for place in 0..progress.len() {
-        let named = named_on(messages, progress.number_at(place), names);
-        progress.record_named(place, named.end);
+    for number in names {
+        record_name(progress, messages, *number);
     }
+}
+
+// So of one that names this message alone.
+fn record_name(progress: &mut Progress, messages: &[Message], number: u64)
+    requires { (n : ℕ) → index_in messages.now n + 1 < 2 ^ 64 }
+    ensures { progress.new ≡ map (standing_named messages.now (number ∷ [])) progress.old }
+{
+    let Some(message) = messages.get(number as usize) else {
+        return;
+    };
+    let Some(place) = progress.place_of(message.stream) else {
+        return;
+    };
+    let none = Named {
+        low: u64::MAX,
+        end: 0,
+    };
+    let named = with_name(messages, message.stream, number, none);
+    progress.record_named(place, named.end);
 }

@@ -5,7 +5,7 @@ use Rattle.std.proofs.Math.Path.{subst}
 use Rattle.std.proofs.lemmas.Option.{slice_get_within}
 use Rattle.sctp_model.specs.declared.event.Event.{Event}
 use Rattle.sctp_model.specs.LinkRecord.{Setup, LinkRecord}
-use Rattle.sctp_model.specs.Messages.{message_at}
+use Rattle.sctp_model.specs.Messages.{message_at, tsn_of}
 use Rattle.sctp_model.specs.Receiver.{spans_fit}
 use Rattle.sctp_model.specs.Contents.{contents_of, contents_in, datagram}
 use Rattle.sctp_model.specs.Steps.{History, StandsFor, IsRun, record_of, refusal_of, reply_to, after}
@@ -22,6 +22,8 @@ use Rattle.sctp_refinement.proofs.amounts.NoLarger.{no-larger}
 use Rattle.sctp_list_lemmas.proofs.Cases.{some-same}
 use Rattle.sctp_model.specs.LinkRecord as W
 use Rattle.sctp_model.proofs.sender.Few
+use Rattle.sctp_outbound.specs.outbound_queue.OutboundQueue.{Outbound}
+use Rattle.sctp_refinement.specs.Refines.{RefinesOutbound}
 
 -- what every record that a history leads to keeps
 pub record Facts (w : LinkRecord) : Type 0 where
@@ -70,3 +72,23 @@ says-still {w} f e none k g g' old new =
     let lt = slice_get_within w.network k g old in
     let same = f.stays e k none lt in
     some-same (ap (contents_in (after w e)) (sym new) ∙ same ∙ ap (contents_in w) old)
+
+-- ## A record that stands for a history
+
+pub record Stands (w : LinkRecord) : Type 0 where
+  pub setup : IsSetup w.setup
+  pub history : History
+  pub stands : StandsFor w.setup w history
+
+pub facts : {w : LinkRecord} → Stands w → Facts w
+facts {w} s = subst Facts (sym s.stands.is) (of-run w.setup s.history s.setup s.stands.run (ap (λ v. v.setup) (sym s.stands.is)))
+
+-- a property of every record that a history leads to, at this one
+pub over : {w : LinkRecord} (P : LinkRecord → Type 0) (s : Stands w) → P (record_of w.setup s.history) → P w
+over P s p = subst P (sym s.stands.is) p
+
+-- and the outbound queue and the next TSN that it has
+pub record Sends (w : LinkRecord) (q : Outbound) (tsn : ℕ) : Type 0 where
+  pub told : Stands w
+  pub outbound : RefinesOutbound w q
+  pub next : tsn ≡ tsn_of w (length w.slots)

@@ -9,3 +9,5 @@ pub mod Histories
 pub mod Lists
 pub mod Walks
 pub mod Wants
+pub mod Kept
+pub mod Results

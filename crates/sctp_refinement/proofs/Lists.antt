@@ -1,6 +1,6 @@
 -- Lists that are tested, changed, put into order or cut.
 use Rattle.std.proofs.Common.{◌≡◌, ℕ, suc, ◌<◌, Bool, true, List, [], ◌∷◌, length, get_or, refl, arith, zero, ◌+◌, false, Some, ap, sym, ◌∙◌, take, ◌≤◌, drop}
-use Rattle.std.proofs.Common.{None, ◌++◌, map, add-one, length-take}
+use Rattle.std.proofs.Common.{None, ◌++◌, map, length-take}
 use Rattle.std.specs.List.{list_all, list_any, AllByRecursion, filter}
 use Rattle.std.specs.Prelude.{◌&&◌, slice_get, ◌||◌, find, if◌then◌else◌, slice_index_or, slice_set, is_some, min}
 use Rattle.std.proofs.lemmas.Option.{slice_get-get_or}
@@ -112,20 +112,6 @@ unchanged p f same (x ∷ xs) = ap (λ y. y ∷ change_where p f xs) (by (p x)) 
     by true = same x
     by false = refl
 
--- one place more of a walk that changes each element: there another function makes the same of it
-pub turned-next : {X : Type 0} (f g : X → X) (xs ys : List X) (i : ℕ) (d : X) → i < length xs → ys ≡ map f (take i xs) ++ drop i xs
-    → g (slice_index_or ys i d) ≡ f (slice_index_or ys i d) → change_at g i ys ≡ map f (take (i + 1) xs) ++ drop (i + 1) xs
-turned-next {X} f g xs ys i d lt is same =
-    ap (change_at g i) is
-    ∙ by xs i lt (subst (λ zs. g (slice_index_or zs i d) ≡ f (slice_index_or zs i d)) is same)
-    ∙ ap (λ k. map f (take k xs) ++ drop k xs) (sym (add-one i))
-  where
-    by : (xs : List X) (i : ℕ) → i < length xs → g (slice_index_or (map f (take i xs) ++ drop i xs) i d)
-        ≡ f (slice_index_or (map f (take i xs) ++ drop i xs) i d) → change_at g i (map f (take i xs) ++ drop i xs) ≡ map f (take (suc i) xs) ++ drop (suc i) xs
-    by [] i lt e = absurd (omega (arith, lt))
-    by (x ∷ xs) zero lt e = ap (λ y. y ∷ xs) e
-    by (x ∷ xs) (suc i) lt e = ap (λ ys. f x ∷ ys) (by xs i (omega (arith, lt)) e)
-
 -- ## Parts
 
 -- what doesn't pass is left out, wherever it was put
@@ -169,3 +155,14 @@ progress-more [] zero = refl
 progress-more [] (suc n) = refl
 progress-more (p ∷ ps) zero = refl
 progress-more (p ∷ ps) (suc n) = progress-more ps n
+
+-- what holds of an element that is put at a place, and of all others, holds of each
+pub each-put : {X : Type 0} (P : ℕ → X → Type 0) (xs : List X) (j : ℕ) (y : X) → P j y
+    → ((k : ℕ) (d : X) → k < length xs → d ≡ slice_index_or xs k d → (k ≡ j → ⊥) → P k d)
+    → (k : ℕ) (d : X) → k < length (slice_set xs j y) → d ≡ slice_index_or (slice_set xs j y) k d → P k d
+each-put P [] j y here rest k d lt e = absurd (omega (arith, lt))
+each-put P (x ∷ xs) zero y here rest zero d lt e = subst (P zero) (sym e) here
+each-put P (x ∷ xs) zero y here rest (suc k) d lt e = rest (suc k) d (omega (arith, lt)) e (λ z. omega (arith, z))
+each-put P (x ∷ xs) (suc j) y here rest zero d lt e = rest zero d (omega arith) e (λ z. omega (arith, z))
+each-put P (x ∷ xs) (suc j) y here rest (suc k) d lt e =
+    each-put (λ i. P (suc i)) xs j y here (λ i z less f ne. rest (suc i) z (omega (arith, less)) f (λ q. ne (omega (arith, q)))) k d (omega (arith, lt)) e

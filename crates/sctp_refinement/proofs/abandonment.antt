@@ -11,3 +11,6 @@ pub mod AbandonedLink
 pub mod AbandonedInTurn
 pub mod AbandonedBytes
 pub mod ChunkStreams
+pub mod QueueAnswers
+pub mod LateTsns
+pub mod QueueExpires

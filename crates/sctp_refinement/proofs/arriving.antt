@@ -16,3 +16,6 @@ pub mod SpanEnds
 pub mod NewSlots
 pub mod SlotSpans
 pub mod SlotDistances
+pub mod SlotsCome
+pub mod SlotFits
+pub mod AllCome

@@ -5,3 +5,4 @@ pub mod Keeps
 pub mod UnorderedRead
 pub mod NextRead
 pub mod ReadOne
+pub mod HandsOut

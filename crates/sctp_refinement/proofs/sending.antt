@@ -18,3 +18,5 @@ pub mod Flying
 pub mod SameChunks
 pub mod Rooms
 pub mod Resending
+pub mod NextFragment
+pub mod FlyingTsn

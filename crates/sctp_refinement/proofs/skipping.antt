@@ -3,3 +3,4 @@ pub mod SkipStep
 pub mod SkipSpans
 pub mod SkipsInTurn
 pub mod StreamsAt
+pub mod SkipFits

@@ -6,3 +6,4 @@ pub mod Counts
 pub mod Indexes
 pub mod InTurn
 pub mod Filling
+pub mod Arriving

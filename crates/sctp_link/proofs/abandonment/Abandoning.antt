@@ -7,26 +7,27 @@ use Rattle.sctp_link.proofs.Names.{reply_to, fragments_accepted, Quiet, shape, a
 use Rattle.sctp_link.proofs.Names.{Indexed, SendsNone, terminal_of, abandoned-is, count-then, before-then, KeepsNext, counters-same, OpenStream, has_number}
 use Rattle.sctp_link.proofs.Names.{less_by, Message, Slot, terminals, State, IsOpenStream, IsLinked, stats_of, message_record, progress_of, slot_record}
 use Rattle.sctp_link.proofs.Names.{stream_record, IsDatagram, map-set_same, get_or-map, stands-then, map-set, Inside, Sides, IsAligned, sides, record_from}
-use Rattle.sctp_link.proofs.Names.{record_in, state_from, state_in, Transmission, after_abandonment, growth, Option}
+use Rattle.sctp_link.proofs.Names.{record_in, state_from, state_in, Transmission, after_abandonment, growth, Option, Gives, next-kept, held-quiet, filter-kept}
+use Rattle.sctp_link.proofs.Names.{begun-kept, fragments-same, written-kept}
 use Rattle.sctp_link.proofs.sides.Changes.{on-aligned, on-sides}
 use Rattle.sctp_sender.specs.Outgoing as Outgoing
 use Rattle.sctp_model.specs.LinkRecord as W
 use Rattle.sctp_model.proofs.sender.Moves
 use Rattle.sctp_refinement.proofs.abandonment.AbandonedLate.{sent-then}
 use Rattle.sctp_refinement.proofs.abandonment.NothingHeld.{amount-abandoned}
-use Rattle.sctp_link.proofs.abandonment.QueueAnswers.{Gives}
 use Rattle.sctp_link.proofs.upkeep.StreamPlaces.{apart-changed}
 use Rattle.sctp_link.proofs.sender.Beginning.{index_kept}
 use Rattle.sctp_link.proofs.upkeep.ChangedStreams.{fields-same, changed-at}
-use Rattle.sctp_link.proofs.upkeep.Facts.{facts}
-use Rattle.sctp_link.proofs.upkeep.Frames.{moved, encodings-same, next-kept, held-quiet, filter-kept, begun-kept, indexed-kept, fragments-same, written-kept}
+use Rattle.sctp_link.proofs.upkeep.Facts.{facts, told}
+use Rattle.sctp_link.proofs.upkeep.Frames.{moved, encodings-same, indexed-kept}
 
 network-same : (w : LinkRecord) (n : ℕ) → (after_abandon w n).network ≡ w.network
 network-same w n = ap (λ u. u.network) (abandoned-is w n)
 
 -- an event that abandons a message of which some was sent
 module _ {sum : List ℕ → ℕ} {x : State} (l : IsLinked sum x) {e : Event} (ok : refusal_of x.recorded e ≡ None) {n s bytes : ℕ} {q : Outbound} {next : ℕ}
-    (r : Gives x e n s bytes q next) (keeps : KeepsNext e) (none : SendsNone e) (no-write : is_write e ≡ false) (no-read : is_read e ≡ false) where
+    (r : Gives x.recorded x.outbound e n s bytes q next) (keeps : KeepsNext e) (none : SendsNone e) (no-write : is_write e ≡ false)
+    (no-read : is_read e ≡ false) where
   abbrev w : LinkRecord
   w = x.recorded
 
@@ -45,14 +46,14 @@ module _ {sum : List ℕ → ℕ} {x : State} (l : IsLinked sum x) {e : Event} (
   stream-by y bytes i less =
       let t = y.state.stream_identifier in
       record {
-        held = i.held ∙ sym (ap (λ u. reassembly_of u t) (sym r.is) ∙ held-quiet l e ok quiet t);
+        held = i.held ∙ sym (ap (λ u. reassembly_of u t) (sym r.is) ∙ held-quiet (told l) e ok quiet t);
         si = i.si;
         largest = i.largest ∙ ap (λ s. s.largest) (sym setup-same);
         size = i.size ∙ ap (λ s. s.size) (sym setup-same);
         ordered = i.ordered ∙ sym (ap (ordered_before v t) (count-then w n) ∙ before-then w n t (length w.messages));
         number = i.number;
-        begun = i.begun ∙ sym (ap (λ u. begun_on u t) (sym r.is) ∙ begun-kept l e ok none t);
-        next = i.next ∙ sym (ap (λ u. next_of u t) (sym r.is) ∙ next-kept l e ok keeps t);
+        begun = i.begun ∙ sym (ap (λ u. begun_on u t) (sym r.is) ∙ begun-kept (told l) e ok none t);
+        next = i.next ∙ sym (ap (λ u. next_of u t) (sym r.is) ∙ next-kept (told l) e ok keeps t);
         amount = omega (arith, i.amount, less);
         stats = i.stats ∙ ap stats_of (sym (ap (λ u. counters_on u t) (sym r.is) ∙ counters-same w.setup w e t (facts l).consistent no-write no-read));
       }
@@ -96,11 +97,11 @@ module _ {sum : List ℕ → ℕ} {x : State} (l : IsLinked sum x) {e : Event} (
         (subst (λ u. StandsFor w.setup u ((e, reply_to w e) ∷ l.history)) r.is (stands-then e ok l.stands));
     outbound = r.refines;
     unstarted = l.unstarted ∙ sym r.unstarted;
-    filter = l.filter ∙ sym (ap filter_of (sym r.is) ∙ filter-kept l e ok quiet);
+    filter = l.filter ∙ sym (ap filter_of (sym r.is) ∙ filter-kept (told l) e ok quiet);
     next = r.next_is;
     acked = l.acked ∙ ap (λ u. cumulative_tsn u u.taken) (sym (abandoned-is w n));
-    fragments = l.fragments ∙ sym (ap fragments_accepted (sym r.is) ∙ fragments-same l e ok no-write);
-    written = l.written ∙ sym (ap (λ u. in_all u (written_bytes u)) (sym r.is) ∙ written-kept l e ok no-write);
+    fragments = l.fragments ∙ sym (ap fragments_accepted (sym r.is) ∙ fragments-same (told l) e ok no-write);
+    written = l.written ∙ sym (ap (λ u. in_all u (written_bytes u)) (sym r.is) ∙ written-kept (told l) e ok no-write);
     sents = λ k lt. l.sents k (omega (arith, lt, count-then w n)) ∙ sym (sent-then w n k);
     indexes = indexed-then.is;
     low = indexed-then.low;
@@ -171,8 +172,8 @@ pub record Settled {C : Type 0} (sum : List ℕ → ℕ) (a : Inside C) (e : Eve
 
 pub settled : {C : Type 0} {sum : List ℕ → ℕ} (a : Inside C) → IsAligned a.sender a.receiver a.progress → IsLinked sum (state_in a) → (e : Event)
     → refusal_of (record_in a) e ≡ None → {n s bytes : ℕ} (o : Option ℕ)
-    → Gives (state_in a) e n s bytes (after_abandonment o a.sender.flight).queue (after_abandonment o a.sender.flight).next_tsn → KeepsNext e → SendsNone e
-    → is_write e ≡ false → is_read e ≡ false → (t : Transmission) → t ≡ (let u : Transmission = record a.sender
+    → Gives (record_in a) a.sender.flight.queue e n s bytes (after_abandonment o a.sender.flight).queue (after_abandonment o a.sender.flight).next_tsn
+    → KeepsNext e → SendsNone e → is_write e ≡ false → is_read e ≡ false → (t : Transmission) → t ≡ (let u : Transmission = record a.sender
     { streams = change_where (Outgoing.has_number s) (Outgoing.less_by bytes) a.sender.streams; flight = after_abandonment o a.sender.flight } in u)
     → (m m' : Message) (ss : List Slot) (partial : Bool) → m ≡ slice_index_or a.messages.items n m → m' ≡ record m { abandoned = true }
     → partial ≡ is_partially_sent (record_in a) n → ss ≡ a.slots.items ++ terminals partial n m.sent

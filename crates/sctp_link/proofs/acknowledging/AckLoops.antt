@@ -2,8 +2,7 @@
 use Rattle.sctp_link.proofs.Names.{◌≡◌, ℕ, ◌+◌, ◌-◌, ◌<◌, ◌≤◌, Bool, true, false, List, length, length-set, get_or, set, take, refl, ap, sym, ◌∙◌, inl, inr}
 use Rattle.sctp_link.proofs.Names.{arith, ◌==◌, ◌&&◌, ◌||◌, nat_lt, nat_le, max, slice_index_or, list_any, cases_lt, cases_eq, eq-eqb, ne_eqb, lt-ltb, le-ltb}
 use Rattle.sctp_link.proofs.Names.{le-leb, lt-leb, leb-true, ltb-true, get_or-set_same, get_or-set_other, same_test, GapAckBlock, LinkRecord, slot_at, Slot}
-use Rattle.sctp_link.proofs.Names.{slot_record, IsMarking, and_one, and_run, and_blocks, in_block, or_assoc, or-none, or-true, and-none, and}
-use Rattle.std.proofs.lemmas.List.Folds.{list_any_more}
+use Rattle.sctp_link.proofs.Names.{slot_record, IsMarking, and_one, and_run, and_blocks, in_block, or_assoc, or-none, or-true, and-none, and, list_any_more}
 use Rattle.sctp_model.specs.LinkRecord as W
 
 -- ## Tests that agree

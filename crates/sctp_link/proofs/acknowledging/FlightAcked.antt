@@ -1,13 +1,9 @@
 -- What is in flight once a SACK was taken, slot by slot.
-use Rattle.sctp_link.proofs.Names.{◌≡◌, ℕ, zero, suc, ◌+◌, ◌-◌, ◌<◌, ◌≤◌, ◌^◌, Bool, true, false, List, [], ◌∷◌, map, None, refl, ap, sym, ◌∙◌, inl, inr, arith}
-use Rattle.sctp_link.proofs.Names.{if◌then◌else◌, ◌&&◌, ◌||◌, not, nat_lt, nat_le, max, list_any, subst, cases_lt, lt-ltb, le-ltb, le-leb, leb-true}
+use Rattle.sctp_link.proofs.Names.{◌≡◌, ℕ, zero, suc, ◌+◌, ◌-◌, ◌<◌, ◌≤◌, ◌^◌, Bool, true, false, List, [], ◌∷◌, map, None, refl, ap, sym, ◌∙◌, inl, inr}
+use Rattle.sctp_link.proofs.Names.{arith, if◌then◌else◌, ◌&&◌, ◌||◌, not, nat_lt, nat_le, max, list_any, subst, cases_lt, lt-ltb, le-ltb, le-leb, leb-true}
 use Rattle.sctp_link.proofs.Names.{change_where, numbers_where, always, same_test, ChunkPayloadData, GapAckBlock, Sack, as_acknowledged, is_in_blocks, past}
 use Rattle.sctp_link.proofs.Names.{reports, reports_anew, LinkRecord, tsn_of, cumulative_tsn, Sending, sending_of, sending_by, IsInFlight, in_block, head_of}
-use Rattle.sctp_link.proofs.Names.{tail_of}
-use Rattle.sctp_refinement.proofs.acknowledging.SackDistances.{far, at-top}
-use Rattle.sctp_list_lemmas.specs.Serial.{distance, at_or_before}
-
--- ## Distances
+use Rattle.sctp_link.proofs.Names.{tail_of, far, at-top, distance, at_or_before}
 
 -- ## What a SACK reports
 

@@ -1,8 +1,7 @@
 -- A SACK told from a later cumulative TSN.
 use Rattle.sctp_link.proofs.Names.{◌≡◌, ℕ, ◌+◌, ◌-◌, ◌<◌, ◌≤◌, List, length, length-set, get_or, set, max, refl, ap, sym, ◌∙◌, inl, inr, arith, ◌&&◌, nat_le}
 use Rattle.sctp_link.proofs.Names.{subst, cases_eq, cases_lt, le-leb, leb-true, get_or-set_same, get_or-set_other, get_or_default, same_test, GapAckBlock}
-use Rattle.sctp_link.proofs.Names.{is_in_blocks, is_in_block, IsNearer}
-use Rattle.sctp_refinement.proofs.Lists.{any-same}
+use Rattle.sctp_link.proofs.Names.{is_in_blocks, is_in_block, IsNearer, any-same}
 
 -- both ends are so much less, but for the first of them
 pub nearer-is : (behind start end : ℕ) (b : GapAckBlock) → start ≡ max (b.start - behind) 1 → end ≡ b.end - behind

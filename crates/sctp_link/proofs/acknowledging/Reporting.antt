@@ -1,20 +1,18 @@
 -- A SACK is made.
-use Rattle.sctp_link.proofs.Names.{◌≡◌, ℕ, ◌+◌, ◌-◌, ◌<◌, ◌≤◌, ◌%◌, ◌^◌, List, [], ◌∷◌, ◌++◌, length, map, take, min, refl, ap, sym, ◌∙◌, arith, slice_index_or}
-use Rattle.sctp_link.proofs.Names.{subst, take-map, runs_of, length-mapped, GapAckBlock, Sack, sack_value, sack_chunk, ReadsPacket, packet_encoding}
-use Rattle.sctp_link.proofs.Names.{gap_offsets, ends_of, LinkRecord, tsn_of, cumulative, contents_of, cumulative_tsn, FilterRecord, after_ack, reply_to}
-use Rattle.sctp_link.proofs.Names.{Reception, sack, Filter, gap_ack_blocks, placeholder, IsDatagram, packet_with, block_of, State, IsLinked, cumulative-le}
-use Rattle.sctp_link.proofs.Names.{length-take, stands-then}
-use Rattle.sctp_refinement.proofs.Lists.{take-min}
+use Rattle.sctp_link.proofs.Names.{◌≡◌, ℕ, ◌+◌, ◌-◌, ◌<◌, ◌≤◌, ◌%◌, ◌^◌, List, [], ◌∷◌, ◌++◌, length, map, take, min, refl, ap, sym, ◌∙◌, arith, subst}
+use Rattle.sctp_link.proofs.Names.{take-map, runs_of, length-mapped, GapAckBlock, Sack, sack_value, sack_chunk, ReadsPacket, packet_encoding, gap_offsets}
+use Rattle.sctp_link.proofs.Names.{ends_of, LinkRecord, tsn_of, cumulative, contents_of, cumulative_tsn, FilterRecord, after_ack, Reception, sack, Filter}
+use Rattle.sctp_link.proofs.Names.{gap_ack_blocks, placeholder, IsDatagram, packet_with, block_of, State, IsLinked, cumulative-le, length-take, take-min}
+use Rattle.sctp_link.proofs.Names.{length_sack_value}
 use Rattle.sctp_model.specs.Reports.{report_of, gap_blocks}
-use Rattle.sctp_chunks.proofs.Lengths.{length_sack_value}
 use Rattle.sctp_model.specs.declared.event.Event.TheVariants as E
 use Rattle.sctp_model.specs.LinkRecord as W
-use Rattle.sctp_refinement.proofs.acknowledging.SackMade.{blocks-are, reported-outbound}
+use Rattle.sctp_refinement.proofs.acknowledging.SackMade.{blocks-are}
 use Rattle.sctp_receiver.specs.Receiver.{filter_of}
 use Rattle.sctp_link.proofs.receiver.Came.{blocks-ends, tsns-beyond}
 use Rattle.sctp_link.proofs.upkeep.Facts.{facts}
-use Rattle.sctp_link.proofs.upkeep.Frames.{stream-same, encodings-more}
 use Rattle.sctp_receiver.proofs.FilterCalls.{blocks-of}
+use Rattle.sctp_link.proofs.upkeep.Frames.{linked-more}
 
 -- so many entries fit
 sack-short : (s : Sack) → length s.gap_ack_blocks ≤ 16379 → length s.duplicate_tsn ≤ 16379 - length s.gap_ack_blocks → 4 + length (sack_value s) < 2 ^ 16
@@ -131,25 +129,9 @@ module _ {sum : List ℕ → ℕ} {x : State} (l : IsLinked sum x) (credit : ℕ
           → ReadsPacket sum bytes (packet_with (sack_chunk s ∷ [])) → length x.datagrams ≡ length w.network → filter ≡ record x.filter { duplicates = [] }
           → IsLinked sum (record x { recorded = v; datagrams = x.datagrams ++ bytes ∷ []; filter = filter })
       linked-ack s bytes filter ea eb ec ed encoding reads len ef =
-          subst (λ f. IsLinked sum (record x { recorded = v; datagrams = x.datagrams ++ bytes ∷ []; filter = f })) (sym ef) (record {
-            setup = l.setup;
-            history = (E.Ack credit, reply_to w (E.Ack credit)) ∷ l.history;
-            stands = stands-then (E.Ack credit) refl l.stands;
-            outbound = reported-outbound w credit x.outbound l.outbound;
-            unstarted = l.unstarted;
-            filter = ap (λ (f : FilterRecord). let r : FilterRecord = record { cumulative = f.cumulative; held = f.held; duplicates = [] } in r) l.filter;
-            next = l.next;
-            acked = l.acked;
-            fragments = l.fragments;
-            written = l.written;
-            sents = l.sents;
-            indexes = l.indexes;
-            low = l.low;
-            open_streams = λ k d lt. stream-same (slice_index_or x.open_streams k d)
-                (record { setup = refl; held = refl; ordered = refl; next = refl; amount = refl; counters = refl }) refl (l.open_streams k d lt);
-            apart = l.apart;
-            encodings = encodings-more l (E.Ack credit) refl (W.Sack (report_of w credit)) bytes refl len is;
-          })
+          subst (λ f. IsLinked sum (record x { recorded = v; datagrams = x.datagrams ++ bytes ∷ []; filter = f })) (sym ef)
+          (linked-more l (E.Ack credit) refl (W.Sack (report_of w credit)) [] bytes x.outbound (record x.filter { duplicates = [] }) refl l.outbound l.unstarted
+          (ap (λ (f : FilterRecord). let r : FilterRecord = record { cumulative = f.cumulative; held = f.held; duplicates = [] } in r) l.filter) len is)
         where
           is : IsDatagram sum (contents_of v (W.Sack (report_of w credit))) bytes
           is =

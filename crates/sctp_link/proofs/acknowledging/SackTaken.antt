@@ -1,25 +1,20 @@
 -- A SACK is taken: what a link keeps then is what the record says.
 use Rattle.sctp_link.proofs.Names.{◌≡◌, ℕ, ◌+◌, ◌-◌, ◌<◌, ◌≤◌, ◌%◌, ◌^◌, Bool, true, false, List, [], ◌∷◌, length, get_or, map, Some, None, refl, ap, sym, ◌∙◌}
 use Rattle.sctp_link.proofs.Names.{inl, inr, arith, if◌then◌else◌, ◌&&◌, ◌||◌, nat_le, nat_lt, max, slice_get, slice_index_or, list_any, list_all, filter}
-use Rattle.sctp_link.proofs.Names.{subst, cases_lt, lt-ltb, le-ltb, le-leb, get_or-map, change_where, comes_before, length-mapped, length-numbered, numbered-at}
-use Rattle.sctp_link.proofs.Names.{map-at, GapAckBlock, ChunkPayloadData, sack_chunk, ReadsPacket, as_acknowledged, is_in_blocks, past, Outbound, with_inflight}
-use Rattle.sctp_link.proofs.Names.{InflightQueueTsnPop, TsnRequestNotExist, Flight, reports_anew, is_within, sack_refusal, take_sack, after_sack, is_whole}
-use Rattle.sctp_link.proofs.Names.{released_of, released_by, bytes_of, LinkRecord, Report, slot_at, no_slot, message_at, message_of, tsn_of, growth}
-use Rattle.sctp_link.proofs.Names.{is_expired_or_abandoned, slot_bytes, pending_bytes, contents_of, cumulative_tsn, after_acked, acknowledged_by, StandsFor}
-use Rattle.sctp_link.proofs.Names.{refusal_of, reply_to, after, shape, sent, Sender, bytes_but_for, unacked_on, bytes_at, acknowledged_at, acknowledged_then}
-use Rattle.sctp_link.proofs.Names.{IsInFlight, Indexed, OpenStream, after_releases, stream_numbers, Slot, Datagram, slot_record, datagram_record, stream_record}
-use Rattle.sctp_link.proofs.Names.{State, IsLinked, IsOpenStream, IsApart, IsDatagram, block_of, packet_with, Acks, IsMarking, amount_with, and_run, and_blocks}
-use Rattle.sctp_link.proofs.Names.{in_block, fragment_slot, list_any_at, and, or-right, ext_get_or, new_open_stream, stands-then, says-still, count-made}
-use Rattle.sctp_link.proofs.Names.{piece-short, slice_get_within}
-use Rattle.sctp_refinement.proofs.acknowledging.SackDistances.{between, up-to-date}
-use Rattle.sctp_refinement.proofs.Lists.{all-from}
-use Rattle.sctp_refinement.proofs.amounts.InFlightBytes.{chunk-on, bytes-unacked, taken-acknowledged, then-below}
-use Rattle.sctp_refinement.proofs.acknowledging.Reported.{Reported, reported-run}
-use Rattle.sctp_list_lemmas.specs.Serial.{distance}
+use Rattle.sctp_link.proofs.Names.{subst, cases_lt, lt-ltb, le-ltb, le-leb, get_or-map, change_where, comes_before, length-mapped, length-numbered}
+use Rattle.sctp_link.proofs.Names.{numbered-at, map-at, GapAckBlock, ChunkPayloadData, sack_chunk, ReadsPacket, as_acknowledged, is_in_blocks, past, Outbound}
+use Rattle.sctp_link.proofs.Names.{with_inflight, InflightQueueTsnPop, TsnRequestNotExist, Flight, reports_anew, is_within, sack_refusal, take_sack}
+use Rattle.sctp_link.proofs.Names.{after_sack, is_whole, released_of, released_by, bytes_of, LinkRecord, Report, slot_at, no_slot, message_at, message_of}
+use Rattle.sctp_link.proofs.Names.{tsn_of, growth, is_expired_or_abandoned, slot_bytes, pending_bytes, contents_of, cumulative_tsn, after_acked}
+use Rattle.sctp_link.proofs.Names.{acknowledged_by, StandsFor, refusal_of, reply_to, after, shape, sent, Sender, bytes_but_for, unacked_on, bytes_at}
+use Rattle.sctp_link.proofs.Names.{acknowledged_at, acknowledged_then, IsInFlight, Indexed, OpenStream, after_releases, stream_numbers, Slot, Datagram}
+use Rattle.sctp_link.proofs.Names.{slot_record, datagram_record, stream_record, State, IsLinked, IsOpenStream, IsApart, IsDatagram, block_of, packet_with}
+use Rattle.sctp_link.proofs.Names.{Acks, IsMarking, amount_with, and_run, and_blocks, in_block, fragment_slot, list_any_at, and, or-right, ext_get_or}
+use Rattle.sctp_link.proofs.Names.{new_open_stream, stands-then, says-still, count-made, piece-short, between, up-to-date, all-from, chunk-on, bytes-unacked}
+use Rattle.sctp_link.proofs.Names.{taken-acknowledged, then-below, Reported, reported-run, distance, flying}
 use Rattle.sctp_data.specs.SelectiveAck
 use Rattle.sctp_model.specs.declared.event.Event.TheVariants as E
 use Rattle.sctp_model.specs.LinkRecord.{Sack}
-use Rattle.sctp_model.specs.LinkRecord as W
 use Rattle.sctp_model.specs.Amounts.{on_stream}
 use Rattle.sctp_model.proofs.sender.Shapes
 use Rattle.sctp_refinement.proofs.acknowledging.Acked.{in-flight-first, in-flight-same, refines-taken}
@@ -29,9 +24,9 @@ use Rattle.sctp_link.proofs.upkeep.Facts.{facts, over}
 use Rattle.sctp_link.proofs.acknowledging.AckLoops.{marking-same}
 use Rattle.sctp_link.proofs.acknowledging.FlightAcked.{answered, covered-at, marked-all, front-leaves}
 use Rattle.sctp_link.proofs.acknowledging.StreamsLess.{with_amount, released_on, chunks_on, length-released, released-at, answered-on, on-unacked}
-use Rattle.sctp_refinement.proofs.sending.Flying.{flying}
 use Rattle.sctp_link.proofs.sender.Beginning.{index_kept, indexed-of}
 use Rattle.sctp_refinement.proofs.acknowledging.SackFrames.{reassembly-taken, filter-taken}
+use Rattle.sctp_link.proofs.upkeep.Observed.{encoded}
 
 -- ## The SACK that is there
 
@@ -48,12 +43,7 @@ wire_sack w r = record {
 pub reads-sack : {sum : List ℕ → ℕ} {x : State} (ds : List Datagram) (k : ℕ) (d : Datagram) (r : Report) → IsLinked sum x
     → x.recorded.network ≡ map datagram_record ds → x.datagrams ≡ map (λ d. d.bytes) ds → d ≡ slice_index_or ds k d
     → slice_get x.recorded.network k ≡ Some (Sack r) → ReadsPacket sum d.bytes (packet_with (sack_chunk (wire_sack x.recorded r) ∷ []))
-reads-sack {sum} {x} ds k d r l network bytes is there =
-    let encoding = l.encodings k [] (Sack r) there in
-    let here : slice_index_or x.datagrams k [] ≡ d.bytes = ap (λ n. slice_index_or n k []) bytes ∙ get_or-map (λ (y : Datagram). y.bytes) ds k d []
-    (omega (arith, slice_get_within x.recorded.network k (Sack r) there, ap length network, length-mapped datagram_record ds))
-    ∙ ap (λ (y : Datagram). y.bytes) (sym is) in
-    subst (λ b. ReadsPacket sum b (packet_with (sack_chunk (wire_sack x.recorded r) ∷ []))) here encoding.reads
+reads-sack ds k d r l network bytes is there = (encoded ds k d (Sack r) l network bytes there is).reads
 
 -- the count that a cumulative TSN tells
 pub count-is : (first count t : ℕ) → first < 2 ^ 32 → count < 2 ^ 31 → t ≡ (first + (2 ^ 32 - 1) + count) % 2 ^ 32

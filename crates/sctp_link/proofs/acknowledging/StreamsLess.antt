@@ -3,8 +3,7 @@ use Rattle.sctp_link.proofs.Names.{◌≡◌, ℕ, zero, suc, ◌+◌, ◌-◌, 
 use Rattle.sctp_link.proofs.Names.{◌==◌, ◌&&◌, not, slice_index_or, filter, change_where, numbers_where, always, total_over, change_where-map}
 use Rattle.sctp_link.proofs.Names.{length-change_where, map-at, ChunkPayloadData, as_acknowledged, Released, released_of, LinkRecord, unacked_on}
 use Rattle.sctp_link.proofs.Names.{stream_of_slot, bytes_at, sending_of, IsInFlight, same-turned, OpenStream, has_number, less_by, after_releases, Acks}
-use Rattle.sctp_link.proofs.Names.{head_of, tail_of}
-use Rattle.sctp_list_lemmas.proofs.Totals.{total-none, total-append, total-where, total-kept_same, numbers-append}
+use Rattle.sctp_link.proofs.Names.{head_of, tail_of, total-none, total-append, total-where, total-kept_same, numbers-append}
 
 -- a stream with another buffered amount
 abbrev pub with_amount : ℕ → OpenStream → OpenStream

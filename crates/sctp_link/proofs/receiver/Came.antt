@@ -3,15 +3,14 @@ use Rattle.sctp_link.proofs.Names.{◌≡◌, ℕ, ◌+◌, ◌-◌, ◌<◌, �
 use Rattle.sctp_link.proofs.Names.{◌⊎◌, ◌==◌, ◌||◌, not, nat_le, nat_lt, list_any, filter, cases_lt, nat_tests, runs_of, advance_over, insert_before, Seen}
 use Rattle.sctp_link.proofs.Names.{comes_before, fails, gap_offsets, is_offset, ends_of, LinkRecord, tsn_of, cumulative, is_new, receive_slot, FilterRecord}
 use Rattle.sctp_link.proofs.Names.{filter_of, Valid, seen_of, Filter, has_come, is_opposite, with_tsn, with_duplicate, skipped_to, offsets, gap_ack_blocks}
-use Rattle.sctp_link.proofs.Names.{placeholder, tsns-placeholder, filter_shown, cumulative-le, tsns}
+use Rattle.sctp_link.proofs.Names.{placeholder, tsns-placeholder, filter_shown, cumulative-le, tsns, tsn_before, distance}
 use Rattle.sctp_refinement.proofs.arriving.SlotDistances.{ahead, behind, back-before, back-past, past-front}
-use Rattle.sctp_refinement.proofs.arriving.Filter.{tsn_before}
-use Rattle.sctp_list_lemmas.specs.Serial.{distance, at_or_before}
 use Rattle.sctp_serial.specs.Window
 use Rattle.sctp_refinement.proofs.arriving.FilterQueue.{new-is}
 use Rattle.sctp_refinement.proofs.arriving.SlotArrives
 use Rattle.sctp_receiver.specs.TsnFilter.{block_of}
 use Rattle.sctp_receiver.proofs.Placeholders as Placeholders
+use Rattle.sctp_list_lemmas.specs.Serial.{at_or_before}
 
 -- ## Which slots came
 

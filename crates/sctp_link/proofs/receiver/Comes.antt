@@ -1,13 +1,14 @@
 -- What the bytes of a datagram that comes read as.
-use Rattle.sctp_link.proofs.Names.{Vec, Global, ◌≡◌, ℕ, zero, suc, ◌<◌, List, [], ◌∷◌, length, map, Option, Some, None, refl, ap, sym, ◌∙◌, arith, slice_get}
+use Rattle.sctp_link.proofs.Names.{Vec, Global, ◌≡◌, ℕ, ◌<◌, List, [], ◌∷◌, length, map, Option, Some, None, refl, ap, sym, ◌∙◌, arith, slice_get}
 use Rattle.sctp_link.proofs.Names.{slice_index_or, subst, slice_get_within, NoSuchDatagram, SpanTooWide, refusal_of, unless, is_for_receiver, arrival_fits}
 use Rattle.sctp_link.proofs.Names.{data_of, fresh, data_chunk, ReadsPacket, Report, LinkRecord, Data, chunk_at, Kind, Datagram, State, IsLinked, kind_record}
-use Rattle.sctp_link.proofs.Names.{datagram_record, packet_with, wire_data, length-mapped, get_or-map, some-same}
+use Rattle.sctp_link.proofs.Names.{datagram_record, packet_with, wire_data, length-mapped}
 use Rattle.sctp_model.specs.declared.event.Event.TheVariants as E
 use Rattle.sctp_data.specs.PayloadData.{Data as DataParts}
 use Rattle.sctp_model.specs.LinkRecord.{Sack}
 use Rattle.sctp_model.specs.LinkRecord as W
 use Rattle.sctp_link.specs.declared.record.Kind.TheVariants as K
+use Rattle.sctp_link.proofs.upkeep.Observed.{encoded, kind-there}
 
 -- what the chunks of slots say
 abbrev pub said : LinkRecord → List ℕ → List DataParts
@@ -26,27 +27,13 @@ pub says-data : {sum : List ℕ → ℕ} {x : State} (k : ℕ) (ps : List ℕ) (
     → x.recorded.network ≡ map datagram_record ds → x.datagrams ≡ map (λ d. d.bytes) ds → slice_get x.recorded.network k ≡ Some (Data ps)
     → y ≡ slice_index_or ds k y → ReadsPacket sum y.bytes (packet_with (map data_chunk (said x.recorded ps)))
 says-data {sum} {x} k ps ds y l network same e is =
-    let lt : k < length ds = omega (arith, slice_get_within x.recorded.network k (Data ps) e, ap length network, length-mapped datagram_record ds) in
-    let t = l.encodings k y.bytes (Data ps) e in
-    let bytes : slice_index_or x.datagrams k y.bytes ≡ y.bytes = ap (λ bs. slice_index_or bs k y.bytes) same ∙ get_or-map (λ d. d.bytes) ds k y y.bytes lt
-    ∙ ap (λ (d : Datagram). d.bytes) (sym is) in
-    subst (λ b. ReadsPacket sum b (packet_with (map data_chunk (said x.recorded ps)))) bytes
-    (subst (λ ws. ReadsPacket sum (slice_index_or x.datagrams k y.bytes) (packet_with ws)) (said-wire x.recorded ps) t.reads)
+    subst (λ ws. ReadsPacket sum y.bytes (packet_with ws)) (said-wire x.recorded ps) (encoded ds k y (Data ps) l network same e is).reads
 
 -- the places that a link keeps of a datagram
 pub places-kept : (ds : List Datagram) (k : ℕ) (y : Datagram) (answered places : List ℕ) → slice_get (map datagram_record ds) k ≡ Some (W.Data places)
     → y ≡ slice_index_or ds k y → kind_record y.kind ≡ W.Data answered → answered ≡ places
-places-kept [] k y answered places e is kind = cc
-places-kept (d ∷ ds) zero y answered places e is kind =
-    let same : W.Data answered ≡ W.Data places = sym kind ∙ ap datagram_record is ∙ some-same e in cc
-places-kept (d ∷ ds) (suc k) y answered places e is kind = places-kept ds k y answered places e is kind
-
--- a kind whose record is of slots is of slots
-pub kind-data : (ds : List Datagram) (k : ℕ) (y : Datagram) (places : List ℕ) → slice_get (map datagram_record ds) k ≡ Some (W.Data places)
-    → y ≡ slice_index_or ds k y → kind_record y.kind ≡ W.Data places
-kind-data [] k y places e is = cc
-kind-data (d ∷ ds) zero y places e is = ap datagram_record is ∙ some-same e
-kind-data (d ∷ ds) (suc k) y places e is = kind-data ds k y places e is
+places-kept ds k y answered places e is kind =
+    let same : W.Data answered ≡ W.Data places = sym kind ∙ kind-there ds k y (W.Data places) e is in cc
 
 -- no other kind has a record of slots
 pub never-other : (kind : Kind) (places : List ℕ) → ((answered : Vec ℕ Global) → kind ≡ K.Data answered → ⊥) → kind_record kind ≡ W.Data places → ⊥

@@ -1,27 +1,22 @@
 -- What a read makes of a link.
-use Rattle.sctp_link.proofs.Names.{◌≡◌, ℕ, ◌+◌, ◌<◌, Bool, true, false, List, [], ◌∷◌, length, map, drop, Some, None, refl, ap, sym, ◌∙◌, inl, inr, arith}
-use Rattle.sctp_link.proofs.Names.{length-append, ◌-◌, ◌^◌, ◌%◌, ◌⊎◌, ◌==◌, ◌&&◌, is_some, if◌then◌else◌, find, unwrap_or, slice_index_or, slice_set, Option}
-use Rattle.sctp_link.proofs.Names.{option_map, list_any, subst, length-set, get_or-set_same, counted_as, change_at, change_where, same-yes, same-is, or-left}
-use Rattle.sctp_link.proofs.Names.{front-kept, FrontOf, ChunkSet, ChunkPayloadData, bytes_of, PayloadProtocolIdentifier, Dcep, String, Binary, StringEmpty}
-use Rattle.sctp_link.proofs.Names.{BinaryEmpty, Unknown, message_read, rest_read, state_read, at_start, StreamUnknown, LinkRecord, StreamRecord, message_at}
-use Rattle.sctp_link.proofs.Names.{stream_at, stream_of, index_of, sent_of, no_stream, is_held, held_on, next_of, next_read, read_of, after_reading, mark_read}
-use Rattle.sctp_link.proofs.Names.{without_first, filter_of, set_of, complete_set_of, handed_out, IsSpan, refusal_of, reply_to, after, read_reply, unless}
-use Rattle.sctp_link.proofs.Names.{shape, slot-sent, reassembly_of, counters_on, received_more, ReadsComplete, ReadsOrdered, Begins, set-begins}
-use Rattle.sctp_link.proofs.Names.{complete-begins, counters-read, counters-nothing, OpenStream, both_ways, has_number, on_inbound, read_recorded, stats_in}
-use Rattle.sctp_link.proofs.Names.{stream_numbers, Message, count_read, stream_read, DataChannelStats, StreamState, State, IsLinked, IsOpenStream, stats_of}
-use Rattle.sctp_link.proofs.Names.{message_record, stream_record, progress_of, IsApart, map-set_same, chunk_at, Inside, Slot, record_in, sides_in, state_in}
-use Rattle.sctp_link.proofs.Names.{map-set}
+use Rattle.sctp_link.proofs.Names.{◌≡◌, ℕ, ◌+◌, ◌<◌, Bool, true, false, List, [], length, map, drop, Some, None, refl, ap, sym, ◌∙◌, arith, ◌-◌, ◌^◌, ◌%◌}
+use Rattle.sctp_link.proofs.Names.{◌==◌, ◌&&◌, is_some, if◌then◌else◌, find, unwrap_or, slice_index_or, slice_set, Option, option_map, subst, length-set}
+use Rattle.sctp_link.proofs.Names.{get_or-set_same, counted_as, change_at, change_where, same-yes, same-is, ChunkSet, ChunkPayloadData, bytes_of}
+use Rattle.sctp_link.proofs.Names.{PayloadProtocolIdentifier, Dcep, String, Binary, StringEmpty, BinaryEmpty, Unknown, message_read, rest_read, state_read}
+use Rattle.sctp_link.proofs.Names.{at_start, StreamUnknown, LinkRecord, StreamRecord, message_at, stream_at, stream_of, index_of, sent_of, no_stream, next_of}
+use Rattle.sctp_link.proofs.Names.{next_read, read_of, after_reading, mark_read, without_first, filter_of, handed_out, IsSpan, refusal_of, reply_to, after}
+use Rattle.sctp_link.proofs.Names.{read_reply, unless, shape, slot-sent, reassembly_of, counters_on, received_more, Begins, counters-read, counters-nothing}
+use Rattle.sctp_link.proofs.Names.{OpenStream, both_ways, has_number, on_inbound, read_recorded, stats_in, stream_numbers, Message, count_read, stream_read}
+use Rattle.sctp_link.proofs.Names.{DataChannelStats, StreamState, State, IsLinked, IsOpenStream, stats_of, message_record, stream_record, progress_of, IsApart}
+use Rattle.sctp_link.proofs.Names.{map-set_same, chunk_at, Inside, Slot, record_in, sides_in, state_in, map-set, with_received, set-set, filter-read}
+use Rattle.sctp_link.proofs.Names.{joined-length, ppi-handed, HandsOut, hands-out, none-mapped, some-mapped, unless-holds, is_open}
 use Rattle.sctp_model.specs.Log.{joined_bytes}
-use Rattle.sctp_stream.specs.Stats.{with_received}
-use Rattle.std.proofs.lemmas.List.Sums.{sum_by-cons}
-use Rattle.std.proofs.Common.{set-set}
 use Rattle.sctp_reassembly.specs.declared.reassembly_queue.chunks.Chunks.{Chunks}
 use Rattle.sctp_model.specs.declared.event.Event.TheVariants as E
 use Rattle.sctp_model.specs.LinkRecord as W
 use Rattle.sctp_model.specs.Reply as R
 use Rattle.sctp_model.proofs.sender.Network
 use Rattle.sctp_model.proofs.receiver.Shown.{read-joined}
-use Rattle.sctp_refinement.proofs.reading.Line
 use Rattle.sctp_refinement.proofs.reading.NextRead
 use Rattle.sctp_refinement.proofs.acknowledging.QuietSender
 use Rattle.sctp_refinement.proofs.reading.ReadOne
@@ -30,7 +25,7 @@ use Rattle.sctp_link.proofs.upkeep.Apart.{differ, each-set, number-found, stream
 use Rattle.sctp_link.proofs.upkeep.StreamPlaces.{apart-set, changed-found, placed}
 use Rattle.sctp_link.proofs.upkeep.Facts.{facts, over}
 use Rattle.sctp_link.proofs.upkeep.StreamsAfter.{stream-then, linked-then}
-use Rattle.sctp_link.proofs.upkeep.Lookups.{some-open, none-open}
+use Rattle.sctp_link.proofs.upkeep.Lookups.{some-open, open-kept}
 use Rattle.sctp_link.proofs.receiver.Hears.{lead-slot, lead-number, messages-made, message-raw, kept-raw}
 
 -- a message read, counted as the record counts it
@@ -43,39 +38,9 @@ counted-read StringEmpty len w t = refl
 counted-read BinaryEmpty len w t = refl
 counted-read Unknown len w t = refl
 
-filter-read : (w : LinkRecord) (s : ℕ) (o : Option ℕ) → filter_of (read_of w s o) ≡ filter_of w
-filter-read w s None = refl
-filter-read w s (Some n) = refl
-
-front-held : (w : LinkRecord) (s : ℕ) (l : List ℕ) (k : ℕ) (rest : List ℕ) → FrontOf (is_held w s) 0 (length w.messages) l → l ≡ k ∷ rest → is_held w s k ≡ true
-front-held w s [] k rest f e = cc
-front-held w s (j ∷ r) k rest f e = let z : j ≡ k = cc in ap (is_held w s) (sym z) ∙ f.passes
-
 read-both : (o : Option ℕ) (a b : DataChannelStats) → both_ways a (with_received o b) ≡ with_received o (both_ways a b)
 read-both None a b = refl
 read-both (Some n) a b = refl
-
-joined-length : (cs : List ChunkPayloadData) → length (joined_bytes cs) ≡ bytes_of cs
-joined-length [] = refl
-joined-length (c ∷ cs) = let more = sum_by-cons (λ (x : ChunkPayloadData). length x.user_data) c cs in
-    omega (arith, length-append c.user_data (joined_bytes cs), joined-length cs, more)
-
--- what is handed out has the payload type of its message
-pub ppi-handed : (w : LinkRecord) (n : ℕ) → (handed_out w n).ppi ≡ (message_at w n).ppi
-ppi-handed w n = by (message_at w n).ordered
-  where
-    by : (b : Bool) → (if b then set_of w n else complete_set_of w n).ppi ≡ (message_at w n).ppi
-    by true = refl
-    by false = refl
-
--- what is read, by its kind
-pub record HandsOut (w : LinkRecord) (s n : ℕ) : Type 0 where
-  pub begins : Begins w n (handed_out w n).chunks
-  pub made : n < length w.messages
-  pub stream : (message_at w n).stream ≡ s
-  pub next : next_of (after_reading w s) s ≡ (if (message_at w n).ordered && (index_of w n == next_of w s) then index_of w n + 1 else next_of w s)
-  pub other : (t : ℕ) → (t ≡ s → ⊥) → next_of (after_reading w s) t ≡ next_of w t
-  pub complete : (if (message_at w n).ordered then (stream_of w s).complete else drop 1 (stream_of w s).complete) ≡ drop 1 (stream_of w s).complete
 
 module _ {sum : List ℕ → ℕ} {x : State} (l : IsLinked sum x) (s at : ℕ) (d : OpenStream) (streams_are : x.recorded.streams ≡ map stream_record x.open_streams)
     (lt : at < length x.open_streams) (found : (d : OpenStream) → find (has_number s) x.open_streams ≡ Some (slice_index_or x.open_streams at d)) where
@@ -207,43 +172,6 @@ module _ {sum : List ℕ → ℕ} {x : State} (l : IsLinked sum x) (s at : ℕ) 
 
   -- ## A message is read
 
-  hands-complete : (n : ℕ) → ReadsComplete w s n → HandsOut w s n
-  hands-complete n o =
-      let f = facts l in
-      let kind = o.unordered in
-      let any : list_any (λ k. k == n) (stream_of w s).complete ≡ true = ap (list_any (λ k. k == n)) o.complete
-      ∙ or-left (n == n) (list_any (λ k. k == n) o.rest) (same-yes n) in
-      let waits = f.valid.unassembled.waits s n any in
-      record {
-        begins = subst (λ (c : ChunkSet). Begins w n c.chunks) (sym (ap (λ b. if b then set_of w n else complete_set_of w n) kind))
-            (complete-begins w s n f.valid.valid f.valid.unassembled f.setup.first any);
-        made = waits.made;
-        stream = waits.stream;
-        next = o.next s ∙ sym (ap (λ b. if b && (index_of w n == next_of w s) then index_of w n + 1 else next_of w s) kind);
-        other = λ t ne. o.next t;
-        complete = ap (λ b. if b then (stream_of w s).complete else drop 1 (stream_of w s).complete) kind;
-      }
-
-  hands-ordered : (n : ℕ) → ReadsOrdered w s n → HandsOut w s n
-  hands-ordered n o =
-      let f = facts l in
-      let kind = Line.on-ordered w s n o.due.on in
-      let held = front-held w s (held_on w s) n o.rest (front-kept (is_held w s) 0 (length w.messages)) o.front in
-      record {
-        begins = subst (λ (c : ChunkSet). Begins w n c.chunks) (sym (ap (λ b. if b then set_of w n else complete_set_of w n) kind))
-            (set-begins w s n f.valid.valid f.setup.first held);
-        made = Line.on-made w s n o.due.on;
-        stream = Line.on-stream w s n o.due.on;
-        next = o.here ∙ step (index_of w n == next_of w s) refl
-            ∙ sym (ap (λ b. if b && (index_of w n == next_of w s) then index_of w n + 1 else next_of w s) kind);
-        other = o.other;
-        complete = ap (λ b. if b then (stream_of w s).complete else drop 1 (stream_of w s).complete) kind ∙ o.none ∙ sym (ap (drop 1) o.none);
-      }
-    where
-      step : (b : Bool) → (index_of w n == next_of w s) ≡ b → (if b then next_of w s + 1 else next_of w s) ≡ (if b then index_of w n + 1 else next_of w s)
-      step true h = ap (λ k. k + 1) (sym (same-is (index_of w n) (next_of w s) h))
-      step false h = refl
-
   module _ (set : ChunkSet) (e : message_read (slice_index_or x.open_streams at d).inbound.queue.held ≡ Some set) where
     pub read-is : (n : ℕ) × (next_read w s ≡ Some n) × (set ≡ handed_out w n)
     read-is = let f = facts l in ReadOne.some-read w s r f.valid.valid f.valid.unassembled span open' set (ap message_read (sym here) ∙ e)
@@ -252,11 +180,7 @@ module _ {sum : List ℕ → ℕ} {x : State} (l : IsLinked sum x) (s at : ℕ) 
     n = read-is.0
 
     pub hands : HandsOut w s read-is.0
-    hands = let f = facts l in by (ReadOne.reads-one w s r f.valid.valid f.valid.unassembled span open' read-is.0 read-is.1)
-      where
-        by : ReadsComplete w s read-is.0 ⊎ ReadsOrdered w s read-is.0 → HandsOut w s read-is.0
-        by (inl o) = hands-complete read-is.0 o
-        by (inr o) = hands-ordered read-is.0 o
+    hands = let f = facts l in hands-out f s read-is.0 (ReadOne.reads-one w s r f.valid.valid f.valid.unassembled span open' read-is.0 read-is.1)
 
     pub hands-begins : Begins w read-is.0 set.chunks
     hands-begins = subst (λ (c : ChunkSet). Begins w read-is.0 c.chunks) (sym read-is.2) hands.begins
@@ -382,33 +306,6 @@ module _ {sum : List ℕ → ℕ} {x : State} (l : IsLinked sum x) (s at : ℕ) 
           (sym (read-twice m.ordered m.index))
           (linked-read progress same)
 
--- ## What the queue answered
-
-pub none-mapped : (o : Option ChunkSet) → None ≡ option_map at_start o → o ≡ None
-none-mapped None e = refl
-none-mapped (Some t) e = cc
-
-pub some-mapped : (o : Option ChunkSet) (c : Chunks) → Some c ≡ option_map at_start o → o ≡ Some c.set
-some-mapped None c e = cc
-some-mapped (Some t) c e = let z : c ≡ at_start t = cc in ap (λ (a : Chunks). Some a.set) (sym z)
-
--- a stream that is read is open
-never-shut : (w : LinkRecord) (s : ℕ) (open_streams : List OpenStream) → w.streams ≡ map stream_record open_streams → refusal_of w (E.Read s) ≡ None
-    → find (has_number s) open_streams ≡ None → ⊥
-never-shut w s open_streams same ok shut =
-    let o : unless (is_some (stream_at w s)) StreamUnknown None ≡ Some StreamUnknown = ap (λ b. unless b StreamUnknown None)
-    (none-open w s open_streams same shut) in
-    let z : Some StreamUnknown ≡ None = sym o ∙ ok in
-    cc
-
-pub open-there : (w : LinkRecord) (s : ℕ) (open_streams : List OpenStream) → w.streams ≡ map stream_record open_streams → refusal_of w (E.Read s) ≡ None
-    → (t : OpenStream) × (find (has_number s) open_streams ≡ Some t)
-open-there w s open_streams same ok = by (find (has_number s) open_streams) refl
-  where
-    by : (o : Option OpenStream) → find (has_number s) open_streams ≡ o → (t : OpenStream) × (find (has_number s) open_streams ≡ Some t)
-    by None e = absurd (never-shut w s open_streams same ok e)
-    by (Some t) e = (t, e)
-
 -- ## The message that a link is handed
 
 -- a stream stands at a place of the open ones
@@ -433,7 +330,7 @@ pub record IsHanded {C : Type 0} (a : Inside C) (n : ℕ) (y : Slot) (m : Messag
 module _ {C : Type 0} {sum : List ℕ → ℕ} (a : Inside C) (l : IsLinked sum (state_in a)) (s : ℕ) where
   pub placed-at : refusal_of (record_in a) (E.Read s) ≡ None → IsPlaced s (sides_in a).streams
   placed-at ok =
-      let t = open-there (record_in a) s (sides_in a).streams refl ok in
+      let t = open-kept (record_in a) s (sides_in a).streams refl (unless-holds (is_open (record_in a) s) StreamUnknown None ok).0 in
       let place = placed s (sides_in a).streams t.0 t.1 in
       record { at = place.0; d = t.0; lt = place.1.0; is = t.1; here = place.1.1 t.0; found = λ e. t.1 ∙ ap (λ l. Some l) (sym (place.1.1 e)) }
 

@@ -1,18 +1,16 @@
 -- What a link's queues tell of what comes to its receiver.
 use Rattle.sctp_link.proofs.Names.{◌≡◌, ℕ, zero, suc, ◌+◌, ◌-◌, ◌<◌, ◌^◌, ◌%◌, true, false, List, [], length, map, Option, Some, None, refl, ap, sym, ◌∙◌}
-use Rattle.sctp_link.proofs.Names.{arith, find, min, max, option_map, slice_index_or, subst, not_both, ChunkPayloadData, ChunkSet, ReassemblyState, LinkRecord}
-use Rattle.sctp_link.proofs.Names.{message_at, slot_at, message_of, index_of, sent_of, tsn_of, place_of, no_message, no_slot, is_held, held_on, next_of, least}
-use Rattle.sctp_link.proofs.Names.{greatest, set_of, shape, slot-sent, ordered_sets, Carried, Begins, set-begins, set-at, sets-held, ends-none, lowest-front}
+use Rattle.sctp_link.proofs.Names.{arith, find, min, max, option_map, slice_index_or, subst, not_both, ChunkPayloadData, ChunkSet, LinkRecord, message_at}
+use Rattle.sctp_link.proofs.Names.{slot_at, message_of, index_of, sent_of, tsn_of, place_of, no_message, no_slot, is_held, held_on, next_of, least, greatest}
+use Rattle.sctp_link.proofs.Names.{set_of, shape, slot-sent, ordered_sets, Carried, Begins, set-begins, set-at, sets-held, ends-none, lowest-front}
 use Rattle.sctp_link.proofs.Names.{highest-back, OpenStream, has_number, Message, Slot, State, IsLinked, message_record, slot_record, progress_of}
-use Rattle.sctp_link.proofs.Names.{length-mapped, some-same, get_or-map, nil_from_length}
+use Rattle.sctp_link.proofs.Names.{length-mapped, get_or-map, nil_from_length}
 use Rattle.sctp_refinement.proofs.arriving.Arrival
 use Rattle.sctp_refinement.proofs.reading.Line
 use Rattle.sctp_refinement.proofs.reading.Taken
 use Rattle.sctp_link.proofs.sender.Beginning.{index_kept}
 use Rattle.sctp_link.proofs.upkeep.Facts.{facts}
 use Rattle.sctp_link.proofs.upkeep.Apart.{number-found}
-
--- ## Elements of the record as the link keeps them
 
 -- ## Which message a set is of
 
@@ -87,15 +85,6 @@ module _ {sum : List ℕ → ℕ} {x : State} (l : IsLinked sum x) (slots : List
 pub none-answered : (o : Option OpenStream) → None ≡ option_map (λ l. l.next) o → o ≡ None
 none-answered None e = refl
 none-answered (Some l) e = cc
-
-pub answered-next : (o : Option OpenStream) (n : ℕ) → Some n ≡ option_map (λ l. l.next) o → (l : OpenStream) × ((o ≡ Some l) × (n ≡ l.next))
-answered-next None n e = cc
-answered-next (Some l) n e = (l, (refl, some-same e))
-
-pub answered-queue : (o : Option OpenStream) (l : OpenStream) (q : ReassemblyState) → o ≡ Some l → Some q ≡ option_map (λ l. l.inbound.queue) o
-    → q ≡ l.inbound.queue
-answered-queue None l q f e = cc
-answered-queue (Some k) l q f e = some-same e ∙ ap (λ (t : OpenStream). t.inbound.queue) (some-same f)
 
 -- ## The ends of what is held
 

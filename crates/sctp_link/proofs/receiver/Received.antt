@@ -1,75 +1,16 @@
--- The slots of a datagram of a link come to a valid record, and what the link is after them.
-use Rattle.sctp_link.proofs.Names.{◌≡◌, ℕ, zero, suc, ◌<◌, ◌≤◌, Bool, true, false, List, [], ◌∷◌, ◌++◌, length, map, Some, None, refl, ap, sym, ◌∙◌, arith}
-use Rattle.sctp_link.proofs.Names.{if◌then◌else◌, fold, slice_get, slice_index_or, list_any, subst, is_too_large, Setup, LinkRecord, Data, message_at, slot_at}
-use Rattle.sctp_link.proofs.Names.{message_of, is_new, next_of, receive_slot, after_arrive, note_completion, becomes_complete, chunk_at, filter_of, History}
-use Rattle.sctp_link.proofs.Names.{IsRun, record_of, refusal_of, after, IsRight, arrive_reply, IsSetup, ComesValid, AllFragments, Consistent, consistent-run}
-use Rattle.sctp_link.proofs.Names.{consistent-received, size-some, reassembly_of, counters_on, counters-same, SameToSender, same-then, with_arrived, Carried}
-use Rattle.sctp_link.proofs.Names.{carried, enters, next-arrive, OpenStream, stats_in, stream_numbers, Sides, reception_of, Slot, State, IsLinked, IsOpenStream}
-use Rattle.sctp_link.proofs.Names.{stats_of, filter_shown, slot_record, stream_record, IsReceiver, Comes, AllCome, IsApart, length-mapped, get_or-map}
-use Rattle.sctp_link.proofs.Names.{append_assoc}
-use Rattle.sctp_refinement.proofs.sending.SameChunks.{chunk-same}
-use Rattle.sctp_refinement.proofs.amounts.NoLarger.{no-larger}
-use Rattle.sctp_model.proofs.receiver.ValidRun.{slots_come_valid}
-use Rattle.std.proofs.lemmas.List.Sums.{fold-append}
+-- What a link is after the slots of a datagram have come.
+use Rattle.sctp_link.proofs.Names.{◌≡◌, ℕ, ◌<◌, Bool, List, [], ◌∷◌, length, map, Some, None, refl, ap, sym, ◌∙◌, arith, if◌then◌else◌, fold, slice_get}
+use Rattle.sctp_link.proofs.Names.{slice_index_or, list_any, subst, LinkRecord, Data, is_new, next_of, receive_slot, after_arrive, filter_of, refusal_of}
+use Rattle.sctp_link.proofs.Names.{after, IsRight, arrive_reply, reassembly_of, counters_on, counters-same, SameToSender, next-arrive, OpenStream, stats_in}
+use Rattle.sctp_link.proofs.Names.{stream_numbers, Sides, reception_of, Slot, State, IsLinked, IsOpenStream, stats_of, filter_shown, slot_record}
+use Rattle.sctp_link.proofs.Names.{stream_record, IsReceiver, IsApart, length-mapped, get_or-map, rest-all, quiet-slots}
 use Rattle.sctp_model.specs.declared.event.Event.TheVariants as E
 use Rattle.sctp_model.specs.Reply as R
 use Rattle.sctp_model.proofs.sender.Network
-use Rattle.sctp_refinement.proofs.sending.SlotsGoOn.{AllGoOn, goes-run}
-use Rattle.sctp_refinement.proofs.amounts.Sizes.{never-too-large}
-use Rattle.sctp_refinement.proofs.acknowledging.QuietSender
-use Rattle.sctp_refinement.proofs.arriving.Arrival
-use Rattle.sctp_refinement.proofs.arriving.SlotArrives
 use Rattle.sctp_receiver.specs.Receiver.{filter_of as held_filter}
 use Rattle.sctp_link.proofs.upkeep.Facts.{facts, over}
 use Rattle.sctp_link.proofs.upkeep.StreamsAfter.{stream-then, linked-then}
 use Rattle.sctp_link.proofs.receiver.Slots.{core}
-
--- ## They come to a valid record
-
-module _ (setup : Setup) (h : History) (is : IsSetup setup) (run : IsRun setup h) (k : ℕ) (none : refusal_of (record_of setup h) (E.Arrive k) ≡ None) where
-  abbrev w : LinkRecord
-  w = record_of setup h
-
-  comes-one : (v : LinkRecord) (front : List ℕ) (p : ℕ) (qs : List ℕ) → v ≡ fold receive_slot w front → Consistent setup v
-      → slice_get w.network k ≡ Some (Data (front ++ p ∷ qs)) → Comes v p (chunk_at w p)
-  comes-one v front p qs eq g e =
-      let valid : ComesValid v p = subst (λ u. ComesValid u p) (sym eq) (slots_come_valid setup h is run k front p qs none e) in
-      let same : Network.Same w v = subst (Network.Same w) (sym eq) (Network.same-slots w front) in
-      let c = carried setup v p g valid.made valid.fragment in
-      let chunk = chunk-same w v p same in
-      let n = message_of v p in
-      let made : n < length w.messages = omega (arith, valid.valid.made n p (Arrival.has-fragment v p valid.fragment), ap (λ y. y.count) same.shape_is) in
-      let short : length (message_at v n).bytes ≤ v.setup.largest =
-      omega (arith, no-larger setup h n is run made, ap (λ y. length (y.message n).bytes) same.shape_is, ap (λ s. s.largest) g.setup_is) in
-      record {
-        valid = valid;
-        alive = c.alive;
-        known = c.known;
-        chunk = chunk;
-        small = λ new q held limit. ap (λ x. is_too_large x q) chunk
-            ∙ never-too-large setup v p q g valid.valid valid.unassembled (subst AllGoOn (sym same.shape_is) (goes-run setup h run))
-            (size-some setup v is g) c new
-            (λ o. valid.near (message_at v n).stream (SlotArrives.ordered-on v (message_at v n).stream p (enters v p c new) o) new) short held limit;
-      }
-
-  comes-from : (v : LinkRecord) (front rest : List ℕ) → v ≡ fold receive_slot w front → Consistent setup v → slice_get w.network k ≡ Some (Data (front ++ rest))
-      → AllCome v rest (map (chunk_at w) rest)
-  comes-from v front [] eq g e = tt
-  comes-from v front (p ∷ qs) eq g e = (
-    comes-one v front p qs eq g e,
-    comes-from (receive_slot v p) (front ++ p ∷ []) qs (ap (λ u. receive_slot u p) eq ∙ sym (fold-append receive_slot w front (p ∷ [])))
-        (consistent-received setup v p g) (e ∙ ap (λ ps. Some (Data ps)) (sym (append_assoc front (p ∷ []) qs))),
-  )
-
-  comes-run : (ps : List ℕ) → slice_get w.network k ≡ Some (Data ps) → AllCome w ps (map (chunk_at w) ps)
-  comes-run ps e = comes-from w [] ps refl (consistent-run setup h run) e
-
--- so do those of a datagram of a link
-pub all-come : {sum : List ℕ → ℕ} {x : State} (l : IsLinked sum x) (k : ℕ) (ps : List ℕ) → refusal_of x.recorded (E.Arrive k) ≡ None
-    → slice_get x.recorded.network k ≡ Some (Data ps) → AllCome x.recorded ps (map (chunk_at x.recorded) ps)
-all-come {x} l k ps none e =
-    over (λ (u : LinkRecord). refusal_of u (E.Arrive k) ≡ None → slice_get u.network k ≡ Some (Data ps)
-    → AllCome u ps (map (chunk_at u) ps)) l (λ n i. comes-run x.recorded.setup l.history l.setup l.stands.run k n ps i) none e
 
 -- what the sides of a link have for it
 pub receiver-of : {sum : List ℕ → ℕ} {x : State} (l : IsLinked sum x) (h : Sides) → x.recorded.streams ≡ map stream_record h.streams
@@ -81,44 +22,6 @@ receiver-of {x} l h a b c = record {
       record { held = i.held; si = i.si; largest = i.largest };
   apart = subst (λ ls. IsApart (stream_numbers ls)) b l.apart;
 }
-
--- ## The record after them
-
--- slots change streams, slots and duplicates alone
-rest-one : (w : LinkRecord) (p : ℕ)
-    → receive_slot w p ≡ record w { streams = (receive_slot w p).streams; slots = (receive_slot w p).slots; duplicates = (receive_slot w p).duplicates }
-rest-one w p = by (is_new w p) refl
-  where
-    noted : (b : Bool) → becomes_complete (with_arrived w p) (message_of w p) ≡ b → note_completion (with_arrived w p) (message_of w p) ≡ record w {
-      streams = (note_completion (with_arrived w p) (message_of w p)).streams;
-      slots = (note_completion (with_arrived w p) (message_of w p)).slots;
-      duplicates = (note_completion (with_arrived w p) (message_of w p)).duplicates;
-    }
-    noted true e = rw e refl
-    noted false e = rw e refl
-
-    by : (b : Bool) → is_new w p ≡ b
-        → receive_slot w p ≡ record w { streams = (receive_slot w p).streams; slots = (receive_slot w p).slots; duplicates = (receive_slot w p).duplicates }
-    by true e =
-        let is : receive_slot w p ≡ note_completion (with_arrived w p) (message_of w p) =
-        ap (λ b. if b then note_completion (with_arrived w p) (message_of w p) else record w { duplicates = w.duplicates ++ p ∷ [] }) e in
-        subst (λ (v : LinkRecord). v ≡ record w { streams = v.streams; slots = v.slots; duplicates = v.duplicates }) (sym is)
-        (noted (becomes_complete (with_arrived w p) (message_of w p)) refl)
-    by false e =
-        subst (λ (v : LinkRecord). v ≡ record w { streams = v.streams; slots = v.slots; duplicates = v.duplicates }) (sym (SlotArrives.repeated w p e)) refl
-
-rest-all : (w v : LinkRecord) (ps : List ℕ) → v ≡ record w { streams = v.streams; slots = v.slots; duplicates = v.duplicates }
-    → (let u = fold receive_slot v ps in u ≡ record w { streams = u.streams; slots = u.slots; duplicates = u.duplicates })
-rest-all w v [] e = e
-rest-all w v (p ∷ ps) e =
-    let u = receive_slot v p in
-    rest-all w u ps (rest-one v p ∙ ap {B = LinkRecord} (λ (z : LinkRecord). record z { streams = u.streams; slots = u.slots; duplicates = u.duplicates }) e)
-
-quiet-slots : (w v : LinkRecord) (ps : List ℕ) → SameToSender w v → SameToSender w (fold receive_slot v ps)
-quiet-slots w v [] f = f
-quiet-slots w v (p ∷ ps) f = quiet-slots w (receive_slot v p) ps (same-then w v (receive_slot v p) f (QuietSender.same-slot v p))
-
--- ## The link after them
 
 module _ {sum : List ℕ → ℕ} {x : State} (l : IsLinked sum x) (k : ℕ) (ps : List ℕ) (none : refusal_of x.recorded (E.Arrive k) ≡ None)
     (e : slice_get x.recorded.network k ≡ Some (Data ps)) where
@@ -203,21 +106,3 @@ module _ {sum : List ℕ → ℕ} {x : State} (l : IsLinked sum x) (k : ℕ) (ps
       right = b ∙ ap (λ c. if c then R.New else R.Repeat) a ∙ sym (ap (arrive_reply here) e);
       moves = recorded-received ∙ sym after-is;
     }
-
--- ## What is known of them before
-
-module _ {sum : List ℕ → ℕ} {x : State} (l : IsLinked sum x) (k : ℕ) (ps : List ℕ) (e : slice_get x.recorded.network k ≡ Some (Data ps)) where
-  fragment-at : (qs : List ℕ) (i : ℕ) → AllFragments x.recorded qs → i < length qs
-      → (slice_index_or qs i 0 < length x.recorded.slots) × ((slot_at x.recorded (slice_index_or qs i 0)).is_terminal_chunk ≡ false)
-  fragment-at [] i a lt = absurd (omega arith)
-  fragment-at (q ∷ qs) zero a lt = (a.0, a.1)
-  fragment-at (q ∷ qs) (suc i) a lt = fragment-at qs i a.2 (omega arith)
-
-  all-fragments : AllFragments x.recorded ps
-  all-fragments = (facts l).valid.network.carried k ps e
-
-  pub all-inside : (i : ℕ) → i < length ps → slice_index_or ps i 0 < length x.recorded.slots
-  all-inside i lt = (fragment-at ps i all-fragments lt).0
-
-  pub all-carried : (i : ℕ) → i < length ps → Carried x.recorded (slice_index_or ps i 0)
-  all-carried i lt = let f = fragment-at ps i all-fragments lt in carried x.recorded.setup x.recorded (slice_index_or ps i 0) (facts l).consistent f.0 f.1

@@ -2,12 +2,12 @@
 use Rattle.sctp_link.proofs.Names.{◌≡◌, ℕ, suc, ◌<◌, Bool, true, false, List, [], ◌∷◌, ◌++◌, length, map, Option, Some, None, refl, ap, sym, ◌∙◌, arith, ◌==◌}
 use Rattle.sctp_link.proofs.Names.{◌&&◌, not, nat_le, if◌then◌else◌, find, option_map, is_some, slice_index_or, slice_set, list_all, subst, length-set}
 use Rattle.sctp_link.proofs.Names.{change_at, change_where, insert_before, and-none, and-true, ChunkPayloadData, chunk_before, Reassembly, ReassemblyState}
-use Rattle.sctp_link.proofs.Names.{is_too_large, held_after_ordered_push, BecomesComplete, LinkRecord, StreamRecord, message_at, message_of, slots_of, index_of}
-use Rattle.sctp_link.proofs.Names.{tsn_of, is_new, has_arrived, receive_slot, becomes_complete, with_complete, note_completion, stream_changed, mark_arrived}
-use Rattle.sctp_link.proofs.Names.{chunk_at, IsSpan, reassembly_of, with_arrived, StreamState, Arrival, New, Repeat, ReceiverRefusal, TsnOpposite}
-use Rattle.sctp_link.proofs.Names.{MessageTooLarge, stream_refusal, data_refusal, arrival_of, Filter, has_come, is_opposite, with_tsn, with_duplicate, Keeps}
-use Rattle.sctp_link.proofs.Names.{OpenStream, has_number, stream_numbers, Sides, reception_of, with_filter_of, on_stream, Accepts, Takes, repeat_tsn}
-use Rattle.sctp_link.proofs.Names.{stream_record, HoldsQueue, IsReceiver, Comes, is_first, IsApart, map-set_same}
+use Rattle.sctp_link.proofs.Names.{is_too_large, held_after_ordered_push, BecomesComplete, LinkRecord, StreamRecord, message_at, message_of, slots_of}
+use Rattle.sctp_link.proofs.Names.{index_of, tsn_of, is_new, has_arrived, receive_slot, becomes_complete, with_complete, note_completion, stream_changed}
+use Rattle.sctp_link.proofs.Names.{mark_arrived, chunk_at, IsSpan, reassembly_of, with_arrived, StreamState, Arrival, New, Repeat, ReceiverRefusal}
+use Rattle.sctp_link.proofs.Names.{TsnOpposite, MessageTooLarge, stream_refusal, data_refusal, arrival_of, Filter, has_come, is_opposite, with_tsn}
+use Rattle.sctp_link.proofs.Names.{with_duplicate, Keeps, OpenStream, has_number, stream_numbers, Sides, reception_of, with_filter_of, on_stream, Accepts}
+use Rattle.sctp_link.proofs.Names.{Takes, repeat_tsn, stream_record, HoldsQueue, IsReceiver, Comes, is_first, IsApart, map-set_same}
 use Rattle.sctp_refinement.proofs.arriving.SlotArrives.{Enters, ordered-slot, unordered-slot}
 use Rattle.sctp_model.proofs.sender.Network
 use Rattle.sctp_refinement.proofs.arriving.RunsOnce.{becomes-same}

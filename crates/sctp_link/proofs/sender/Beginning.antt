@@ -1,8 +1,8 @@
 -- A message is begun: what its stream counts then, and the index that it takes.
 use Rattle.sctp_link.proofs.Names.{◌≡◌, ℕ, zero, suc, ◌+◌, ◌<◌, Bool, true, false, List, [], ◌∷◌, length, map, Option, Some, None, refl, ap, sym, ◌∙◌, arith}
 use Rattle.sctp_link.proofs.Names.{if◌then◌else◌, ◌==◌, ◌&&◌, find, option_map, slice_index_or, subst, change_where, some-same, shape, Indexed, same-turned}
-use Rattle.sctp_link.proofs.Names.{StreamState, InboundStream, Standing, Message, begins, begun_of, begun_by, OpenStream, join_each, has_number, stream_numbers}
-use Rattle.sctp_link.proofs.Names.{State, IsLinked, stream_record}
+use Rattle.sctp_link.proofs.Names.{StreamState, InboundStream, Standing, Message, begins, begun_of, begun_by, OpenStream, join_each, has_number}
+use Rattle.sctp_link.proofs.Names.{stream_numbers, State, IsLinked, stream_record}
 use Rattle.sctp_progress.specs.Progress as Progress
 use Rattle.sctp_link.proofs.sides.Joined.{Alike, found-progress, progress-changed}
 use Rattle.sctp_link.proofs.sides.Aligned.{standing-changed}

@@ -1,15 +1,14 @@
 -- Between two fragments of a Send: what the sender's side of a link holds is what the record says then.
-use Rattle.sctp_link.proofs.Names.{◌≡◌, ℕ, zero, suc, ◌+◌, ◌<◌, ◌≤◌, ◌^◌, Bool, true, false, List, [], ◌∷◌, ◌++◌, length, map, get_or, Option, Some, None, refl}
-use Rattle.sctp_link.proofs.Names.{ap, sym, ◌∙◌, arith, length-append, ◌==◌, ◌&&◌, if◌then◌else◌, find, is_some, slice_index_or, slice_set, subst, map-append}
-use Rattle.sctp_link.proofs.Names.{change_at, length-mapped, length-kept-le, changed-same, changed-other, not_both, by_same, same-yes, some-same}
+use Rattle.sctp_link.proofs.Names.{◌≡◌, ℕ, zero, suc, ◌+◌, ◌<◌, ◌≤◌, ◌^◌, Bool, true, false, List, [], ◌∷◌, ◌++◌, length, map, get_or, Option, Some, None}
+use Rattle.sctp_link.proofs.Names.{refl, ap, sym, ◌∙◌, arith, length-append, ◌==◌, ◌&&◌, if◌then◌else◌, find, is_some, slice_index_or, slice_set, subst}
+use Rattle.sctp_link.proofs.Names.{map-append, change_at, length-mapped, length-kept-le, changed-same, changed-other, not_both, by_same, same-yes, some-same}
 use Rattle.sctp_link.proofs.Names.{ChunkPayloadData, next_pending, Outbound, all_started, sent_peeked, sent_next, LinkRecord, front, message_at, no_message}
 use Rattle.sctp_link.proofs.Names.{tsn_of, after_start, start_lifetime, with_slot, send_fragment, send_fragment_of, shape, slotted, front-takes, sent-slotted}
 use Rattle.sctp_link.proofs.Names.{waiting_at, RefinesOutbound, begun_on, is_begun_on, Indexed, indexed-taken, after_fragments, after-next, next-tsn, shown}
 use Rattle.sctp_link.proofs.Names.{all-begun, refines-fragment, going-started, refines-started, StreamState, InboundStream, OpenStream, join_each, has_number}
 use Rattle.sctp_link.proofs.Names.{stream_numbers, Message, State, IsLinked, start_from, fragment_slot, begins, begun_of, with_fragment, message_record}
 use Rattle.sctp_link.proofs.Names.{progress_of, slot_record, stream_record, Outgoing, CanSend, Leaves, Leave, map-set_same, following_tsn, get_or-map}
-use Rattle.sctp_link.proofs.Names.{messages-few, map-set}
-use Rattle.sctp_refinement.proofs.sending.Rooms.{none-start, next-unstarted}
+use Rattle.sctp_link.proofs.Names.{messages-few, map-set, none-start, next-unstarted, one-more-fits}
 use Rattle.sctp_refinement.proofs.sending.KindsRun.{Going, going-takes}
 use Rattle.sctp_model.specs.LinkRecord as W
 use Rattle.sctp_model.specs.Messages as M
@@ -21,10 +20,9 @@ use Rattle.sctp_refinement.proofs.sending.Begun
 use Rattle.sctp_link.proofs.upkeep.Apart.{number-found}
 use Rattle.sctp_link.proofs.upkeep.Facts.{facts}
 use Rattle.sctp_link.proofs.upkeep.Lookups.{none-open}
-use Rattle.sctp_refinement.proofs.sending.Flying.{one-more-fits}
 use Rattle.sctp_link.proofs.sides.Joined.{Alike}
-use Rattle.sctp_link.proofs.sender.Beginning.{index_kept, begun_with, indexed-of, begun_in, begun-joined, begun-streams, begun-alike, plus_begun, numbers-begun}
-use Rattle.sctp_link.proofs.sender.Beginning.{records-begun, length-begun, begun-at, found-one}
+use Rattle.sctp_link.proofs.sender.Beginning.{index_kept, begun_with, indexed-of, begun_in, begun-joined, begun-streams, begun-alike, plus_begun}
+use Rattle.sctp_link.proofs.sender.Beginning.{numbers-begun, records-begun, length-begun, begun-at, found-one}
 use Rattle.sctp_link.proofs.sender.Starting.{starts-records, start-progress}
 
 -- a message with one fragment more sent, which takes this index where it is begun

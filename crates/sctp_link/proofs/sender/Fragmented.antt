@@ -2,14 +2,10 @@
 use Rattle.sctp_link.proofs.Names.{◌≡◌, ℕ, ◌+◌, ◌-◌, ◌<◌, ◌%◌, ◌^◌, Bool, false, List, [], ◌∷◌, ◌++◌, length, map, Some, ap, sym, ◌∙◌, arith, ◌==◌, not}
 use Rattle.sctp_link.proofs.Names.{slice_index_or, fresh, is_ordered, numbers_from, pieces, ChunkPayloadData, PayloadProtocolIdentifier, with_message_id}
 use Rattle.sctp_link.proofs.Names.{fragments_with_mode, LinkRecord, StreamRecord, message_of, fragment_count, ordered_before, message_on, waiting_at}
-use Rattle.sctp_link.proofs.Names.{waiting_of, StreamState, map-twice}
-use Rattle.sctp_stream.specs.Stream.{pieces_of}
-use Rattle.sctp_refinement.proofs.arriving.Stays.{map-all}
+use Rattle.sctp_link.proofs.Names.{waiting_of, StreamState, map-twice, pieces_of, map-all}
 use Rattle.sctp_refinement.proofs.sending.Waiting
 use Rattle.sctp_refinement.proofs.sending.Written
 use Rattle.sctp_sender.proofs.SenderStreams.{made, fragments-made}
-
--- ## As the record has them
 
 abbrev built : LinkRecord → StreamRecord → PayloadProtocolIdentifier → List ℕ → ℕ → Bool → ℕ → ℕ → ChunkPayloadData
 built w r ppi bytes i ordered size ssn =

@@ -1,21 +1,15 @@
 -- A stream takes another mode.
-use Rattle.sctp_link.proofs.Names.{◌≡◌, ℕ, Bool, true, List, ◌∷◌, map, None, refl, ap, sym, ◌∙◌, ◌==◌, if◌then◌else◌, slice_index_or, find, is_some, not_both}
-use Rattle.sctp_link.proofs.Names.{ReliabilityType, LinkRecord, is_open, after_mode, refusal_of, reply_to, outbound-same, same-self, change_where, OpenStream}
-use Rattle.sctp_link.proofs.Names.{has_number, on_state, stream_record, State, IsOpenStream, IsLinked, stands-then}
+use Rattle.sctp_link.proofs.Names.{◌≡◌, ℕ, Bool, List, map, None, refl, ap, sym, ◌∙◌, ◌==◌, if◌then◌else◌, slice_index_or, ReliabilityType, LinkRecord}
+use Rattle.sctp_link.proofs.Names.{after_mode, refusal_of, change_where, OpenStream, has_number, on_state, stream_record, State, IsOpenStream, IsLinked}
+use Rattle.sctp_link.proofs.Names.{next-kept}
 use Rattle.sctp_model.specs.declared.event.Event.TheVariants as E
 use Rattle.sctp_model.specs.Changes.{with_mode}
 use Rattle.sctp_refinement.proofs.arriving.Opened
 use Rattle.sctp_sender.specs.Outgoing as Outgoing
-use Rattle.sctp_link.proofs.upkeep.Frames.{stream-same, next-kept, encodings-same}
-use Rattle.sctp_link.proofs.sender.Opening.{open-found}
+use Rattle.sctp_link.proofs.upkeep.Frames.{stream-same, encodings-same, linked-beside}
 use Rattle.sctp_link.proofs.upkeep.ChangedStreams.{records-changed, each-changed}
 use Rattle.sctp_link.proofs.upkeep.StreamPlaces.{apart-changed}
-
--- an open stream is found
-pub found-open : (x : State) (s : ℕ) → x.recorded.streams ≡ map stream_record x.open_streams → is_open x.recorded s ≡ true
-    → find (has_number s) x.open_streams ≡ None → ⊥
-found-open x s streams open' none =
-    not_both (sym (ap is_some none) ∙ open-found s x.open_streams ∙ ap (λ rs. is_some (find (λ r. r.stream == s) rs)) (sym streams) ∙ open')
+use Rattle.sctp_link.proofs.upkeep.Facts.{told}
 
 module _ {sum : List ℕ → ℕ} {x : State} (l : IsLinked sum x) (s : ℕ) (unordered : Bool) (reliability : ReliabilityType) (value : ℕ)
     (ok : refusal_of x.recorded (E.Mode s unordered reliability value) ≡ None) (streams : x.recorded.streams ≡ map stream_record x.open_streams) where
@@ -28,7 +22,7 @@ module _ {sum : List ℕ → ℕ} {x : State} (l : IsLinked sum x) (s : ℕ) (un
         setup = refl;
         held = Opened.mode-same x.recorded s unordered reliability value t.state.stream_identifier;
         ordered = refl;
-        next = next-kept l (E.Mode s unordered reliability value) ok tt t.state.stream_identifier;
+        next = next-kept (told l) (E.Mode s unordered reliability value) ok tt t.state.stream_identifier;
         amount = refl;
         counters = refl;
       })
@@ -58,23 +52,11 @@ module _ {sum : List ℕ → ℕ} {x : State} (l : IsLinked sum x) (s : ℕ) (un
       ∙ ap (map (λ r. if r.stream == s then with_mode unordered reliability value r else r)) (sym streams)
 
   pub linked-mode : IsLinked sum (record x { recorded = v; open_streams = streams_then })
-  linked-mode = record {
-    setup = l.setup;
-    history = (E.Mode s unordered reliability value, reply_to x.recorded (E.Mode s unordered reliability value)) ∷ l.history;
-    stands = stands-then (E.Mode s unordered reliability value) ok l.stands;
-    outbound = outbound-same x.recorded v (same-self x.recorded v refl refl refl refl) x.outbound l.outbound;
-    unstarted = l.unstarted;
-    filter = l.filter;
-    next = l.next;
-    acked = l.acked;
-    fragments = l.fragments;
-    written = l.written;
-    sents = l.sents;
-    indexes = l.indexes;
-    low = l.low;
-    open_streams = each-changed (IsOpenStream v) (on_state (Outgoing.with_mode unordered reliability value)) s x.open_streams
-        (λ k d lt e. changes (slice_index_or x.open_streams k d) (kept (slice_index_or x.open_streams k d) (l.open_streams k d lt)))
-        (λ k d lt ne. kept (slice_index_or x.open_streams k d) (l.open_streams k d lt));
-    apart = apart-changed s (on_state (Outgoing.with_mode unordered reliability value)) x.open_streams (λ t. refl) l.apart;
-    encodings = encodings-same l (E.Mode s unordered reliability value) ok refl;
-  }
+  linked-mode =
+      linked-beside l (E.Mode s unordered reliability value) ok v.streams x.recorded.network x.recorded.duplicates refl streams_then x.datagrams x.outbound
+      x.filter l.outbound l.unstarted l.filter
+      (each-changed (IsOpenStream v) (on_state (Outgoing.with_mode unordered reliability value)) s x.open_streams
+      (λ k d lt e. changes (slice_index_or x.open_streams k d) (kept (slice_index_or x.open_streams k d) (l.open_streams k d lt)))
+      (λ k d lt ne. kept (slice_index_or x.open_streams k d) (l.open_streams k d lt)))
+      (apart-changed s (on_state (Outgoing.with_mode unordered reliability value)) x.open_streams (λ t. refl) l.apart)
+      (encodings-same l (E.Mode s unordered reliability value) ok refl)

@@ -1,7 +1,7 @@
 -- What is noted of fragments that leave.
 use Rattle.sctp_link.proofs.Names.{◌≡◌, ℕ, ◌+◌, true, List, length, Option, Some, None, ap, ◌∙◌, is_some, not, filter, same-yes, ChunkPayloadData, Payload}
 use Rattle.sctp_link.proofs.Names.{next_pending, Outbound, all_started, as_sent, sent_next, chunk_before, started-inflight, AreNoted, is_sent_at}
-use Rattle.sctp_refinement.proofs.Lists.{filter-inserted, length-inserted}
+use Rattle.sctp_link.proofs.Names.{filter-inserted, length-inserted}
 use Rattle.sctp_outbound.proofs.lemmas.outbound_queue.Outbounds.{peeked_all_started}
 use Rattle.sctp_outbound.specs.outbound_queue.OutboundQueue.{sent_of}
 

@@ -1,13 +1,13 @@
 -- A stream opens.
 use Rattle.sctp_link.proofs.Names.{◌≡◌, ℕ, Bool, true, false, List, [], ◌∷◌, ◌++◌, length, map, Some, None, refl, ap, sym, ◌∙◌, arith, length-append, ◌==◌}
 use Rattle.sctp_link.proofs.Names.{if◌then◌else◌, slice_index_or, find, is_some, subst, map-append, get-snoc_old, get-snoc_new, by_last, negated, Reassembly}
-use Rattle.sctp_link.proofs.Names.{StreamOpen, LinkRecord, is_open, no_stream, next_of, after_open, refusal_of, reply_to, unless-holds, begun-closed, next-same}
-use Rattle.sctp_link.proofs.Names.{amount-none, counters-none, outbound-same, same-self, reassembly_of, OpenStream, has_number, new_open_stream, stream_record}
-use Rattle.sctp_link.proofs.Names.{State, IsOpenStream, IsLinked, stats_of, none-of, stands-then, Facts}
+use Rattle.sctp_link.proofs.Names.{StreamOpen, LinkRecord, is_open, no_stream, next_of, after_open, refusal_of, unless-holds, begun-closed, next-same}
+use Rattle.sctp_link.proofs.Names.{amount-none, counters-none, reassembly_of, OpenStream, has_number, new_open_stream, stream_record, State, IsOpenStream}
+use Rattle.sctp_link.proofs.Names.{IsLinked, stats_of, none-of, Facts}
 use Rattle.sctp_model.specs.declared.event.Event.TheVariants as E
 use Rattle.sctp_refinement.proofs.arriving.Opened
 use Rattle.sctp_link.proofs.upkeep.Facts.{facts}
-use Rattle.sctp_link.proofs.upkeep.Frames.{stream-same, encodings-same}
+use Rattle.sctp_link.proofs.upkeep.Frames.{stream-same, encodings-same, linked-beside}
 use Rattle.sctp_link.proofs.upkeep.StreamPlaces.{apart-more}
 
 -- ## Streams among those that are open
@@ -83,26 +83,13 @@ module _ {sum : List ℕ → ℕ} {x : State} (l : IsLinked sum x) (s : ℕ) (ok
   m = new_open_stream s x.recorded.setup.size x.recorded.setup.largest
 
   pub linked-open : IsLinked sum (record x { recorded = v; open_streams = x.open_streams ++ m ∷ [] })
-  linked-open = record {
-    setup = l.setup;
-    history = (E.Open s, reply_to x.recorded (E.Open s)) ∷ l.history;
-    stands = stands-then (E.Open s) ok l.stands;
-    outbound = outbound-same x.recorded (after_open x.recorded s) (same-self x.recorded (after_open x.recorded s) refl refl refl refl) x.outbound l.outbound;
-    unstarted = l.unstarted;
-    filter = l.filter;
-    next = l.next;
-    acked = l.acked;
-    fragments = l.fragments;
-    written = l.written;
-    sents = l.sents;
-    indexes = l.indexes;
-    low = l.low;
-    open_streams = λ k d lt. by_last {P = IsOpenStream (after_open x.recorded s) (slice_index_or (x.open_streams ++ m ∷ []) k d)} k (length x.open_streams)
-        (omega (arith, lt, length-append x.open_streams (m ∷ [])))
-        (λ below. subst (IsOpenStream (after_open x.recorded s)) (sym (get-snoc_old x.open_streams m k d (λ z. absurd (omega (arith, below, z)))))
-        (stream-old (slice_index_or x.open_streams k d) (l.open_streams k d below)))
-        (λ z. subst (IsOpenStream (after_open x.recorded s))
-        (sym (ap (λ j. slice_index_or (x.open_streams ++ m ∷ []) j d) z ∙ get-snoc_new x.open_streams m d)) stream-new);
-    apart = apart-more x.open_streams m l.apart new-number;
-    encodings = encodings-same l (E.Open s) ok refl;
-  }
+  linked-open =
+      linked-beside l (E.Open s) ok v.streams x.recorded.network x.recorded.duplicates refl
+      (x.open_streams ++ m ∷ []) x.datagrams x.outbound x.filter l.outbound
+      l.unstarted l.filter (λ k d lt. by_last {P = IsOpenStream (after_open x.recorded s) (slice_index_or (x.open_streams ++ m ∷ []) k d)} k
+      (length x.open_streams) (omega (arith, lt, length-append x.open_streams (m ∷ [])))
+      (λ below. subst (IsOpenStream (after_open x.recorded s)) (sym (get-snoc_old x.open_streams m k d (λ z. absurd (omega (arith, below, z)))))
+      (stream-old (slice_index_or x.open_streams k d) (l.open_streams k d below)))
+      (λ z. subst (IsOpenStream (after_open x.recorded s))
+      (sym (ap (λ j. slice_index_or (x.open_streams ++ m ∷ []) j d) z ∙ get-snoc_new x.open_streams m d)) stream-new))
+      (apart-more x.open_streams m l.apart new-number) (encodings-same l (E.Open s) ok refl)

@@ -1,17 +1,16 @@
 -- The datagrams that a link makes of DATA chunks.
-use Rattle.sctp_link.proofs.Names.{◌≡◌, ℕ, ◌+◌, ◌-◌, ◌<◌, ◌≤◌, ◌^◌, true, false, List, [], ◌∷◌, ◌++◌, length, map, get_or, Some, None, refl, ap, sym, ◌∙◌}
-use Rattle.sctp_link.proofs.Names.{arith, ◌&&◌, ◌||◌, not, nat_le, nat_lt, slice_index_or, find, subst, map-append, nat_tests, pieces, change_where, both}
-use Rattle.sctp_link.proofs.Names.{negated, ChunkPayloadData, data_of, data_value, data_chunk, ReadsPacket, packet_encoding, has_tsn, with_nsent, Outbound}
-use Rattle.sctp_link.proofs.Names.{with_inflight, NotInFlight, LinkRecord, slot_at, message_at, message_of, tsn_of, place_of, is_in_flight, chunk_at}
-use Rattle.sctp_link.proofs.Names.{contents_of, is_cleared, after_resend, refusal_of, reply_to, can_resend, unless-holds, RefinesOutbound, Found, found-in}
-use Rattle.sctp_link.proofs.Names.{says-same, refines-marked, nsent-quiet, outbound-same, same-self, Kind, Datagram, datagram_record, kind_record, IsDatagram}
-use Rattle.sctp_link.proofs.Names.{packet_with, State, IsLinked, some-same, stands-then, piece-short}
-use Rattle.sctp_chunks.proofs.Lengths.{length_data_value}
+use Rattle.sctp_link.proofs.Names.{◌≡◌, ℕ, ◌+◌, ◌<◌, ◌≤◌, ◌^◌, true, false, List, [], ◌∷◌, ◌++◌, length, map, get_or, Some, None, refl, ap, sym, ◌∙◌, arith}
+use Rattle.sctp_link.proofs.Names.{◌&&◌, ◌||◌, not, find, subst, map-append, pieces, change_where, both, negated, ChunkPayloadData, data_of, data_value}
+use Rattle.sctp_link.proofs.Names.{data_chunk, ReadsPacket, packet_encoding, has_tsn, with_nsent, Outbound, with_inflight, NotInFlight, LinkRecord, slot_at}
+use Rattle.sctp_link.proofs.Names.{message_at, message_of, place_of, is_in_flight, chunk_at, contents_of, is_cleared, after_resend, refusal_of, can_resend}
+use Rattle.sctp_link.proofs.Names.{unless-holds, RefinesOutbound, Found, says-same, refines-marked, nsent-quiet, Kind, Datagram, datagram_record, kind_record}
+use Rattle.sctp_link.proofs.Names.{IsDatagram, packet_with, State, IsLinked, some-same, piece-short, length_data_value}
 use Rattle.sctp_data.specs.PayloadData.{Data}
 use Rattle.sctp_model.specs.declared.event.Event.TheVariants as E
 use Rattle.sctp_model.specs.LinkRecord as W
-use Rattle.sctp_link.proofs.upkeep.Facts.{facts}
-use Rattle.sctp_link.proofs.upkeep.Frames.{stream-same, encodings-more}
+use Rattle.sctp_refinement.proofs.sending.FlyingTsn
+use Rattle.sctp_link.proofs.upkeep.Facts.{sends}
+use Rattle.sctp_link.proofs.upkeep.Frames.{linked-more}
 
 -- ## Lengths
 
@@ -55,17 +54,11 @@ module _ {sum : List ℕ → ℕ} {x : State} (l : IsLinked sum x) (tsn : ℕ) (
   can : can_resend x.recorded p ≡ true
   can = (unless-holds (can_resend x.recorded p) NotInFlight None ok).0
 
-  flies : is_in_flight x.recorded p ≡ true
+  pub flies : is_in_flight x.recorded p ≡ true
   flies = (both (is_in_flight x.recorded p) _ can).0
 
   rest : (not (slot_at x.recorded p).acknowledged && not (message_at x.recorded (message_of x.recorded p)).abandoned) ≡ true
   rest = (both (is_in_flight x.recorded p) _ can).1
-
-  pub from : x.recorded.taken ≤ p
-  from = let e = (both (nat_le x.recorded.taken p) (nat_lt p (length x.recorded.slots)) flies).0 in grind (arith, nat_tests)
-
-  pub below : p < length x.recorded.slots
-  below = let e = (both (nat_le x.recorded.taken p) (nat_lt p (length x.recorded.slots)) flies).1 in grind (arith, nat_tests)
 
   clear : is_cleared x.recorded p ≡ false
   clear =
@@ -73,18 +66,12 @@ module _ {sum : List ℕ → ℕ} {x : State} (l : IsLinked sum x) (tsn : ℕ) (
       ap (λ b. b || (message_at x.recorded (message_of x.recorded p)).abandoned) (negated (slot_at x.recorded p).acknowledged r.0)
       ∙ negated (message_at x.recorded (message_of x.recorded p)).abandoned r.1
 
-  own : tsn_of x.recorded p ≡ tsn
-  own = let f = l.setup.first in omega (arith, f, small)
-
   -- the chunk in flight with the TSN
-  pub found : Found x.recorded p cs
-  found =
-      let f = facts l in
-      found-in x.recorded p (omega (arith, below, f.few)) cs x.recorded.taken (length x.recorded.slots - x.recorded.taken)
-      (omega (arith, f.few, f.taken)) from (omega (arith, below, f.taken)) l.outbound.in_flight
+  abbrev pub found : Found x.recorded p cs
+  found = FlyingTsn.found (sends l) tsn small flies
 
   pub there : find (has_tsn tsn) cs ≡ Some found.chunk
-  there = ap (λ t. find (has_tsn t) cs) (sym own) ∙ found.is
+  there = FlyingTsn.there (sends l) tsn small flies
 
   -- what is found says what its slot does
   pub resend-says : (c : ChunkPayloadData) → find (has_tsn tsn) cs ≡ Some c → data_of c ≡ data_of (chunk_at x.recorded p)
@@ -99,26 +86,8 @@ module _ {sum : List ℕ → ℕ} {x : State} (l : IsLinked sum x) (tsn : ℕ) (
       → bytes ≡ packet_encoding sum (packet_with (data_chunk (data_of c) ∷ [])) → ReadsPacket sum bytes (packet_with (data_chunk (data_of c) ∷ []))
       → length x.datagrams ≡ length x.recorded.network → q ≡ with_inflight x.outbound (change_where (has_tsn tsn) (with_nsent nsent) cs)
       → IsLinked sum (record x { recorded = after_resend x.recorded tsn; datagrams = x.datagrams ++ bytes ∷ []; outbound = q })
-  linked-resend c bytes nsent q e encoding reads count eq = record {
-    setup = l.setup;
-    history = (E.Resend tsn, reply_to x.recorded (E.Resend tsn)) ∷ l.history;
-    stands = stands-then (E.Resend tsn) ok l.stands;
-    outbound = subst (RefinesOutbound v) (sym eq) (outbound-same x.recorded v (same-self x.recorded v refl refl refl refl) _
-        (refines-marked x.recorded x.outbound (has_tsn tsn) (with_nsent nsent) (nsent-quiet nsent) l.outbound));
-    unstarted = l.unstarted ∙ sym (ap (λ (r : Outbound). r.next_unstarted) eq);
-    filter = l.filter;
-    next = l.next;
-    acked = l.acked;
-    fragments = l.fragments;
-    written = l.written;
-    sents = l.sents;
-    indexes = l.indexes;
-    low = l.low;
-    open_streams = λ k d lt. stream-same (slice_index_or x.open_streams k d)
-        (record { setup = refl; held = refl; ordered = refl; next = refl; amount = refl; counters = refl }) refl (l.open_streams k d lt);
-    apart = l.apart;
-    encodings = encodings-more l (E.Resend tsn) ok (W.Data (p ∷ [])) bytes refl count (says-data sum v p bytes (data_of c) (resend-says c e) encoding reads);
-  }
-    where
-      v : LinkRecord
-      v = after_resend x.recorded tsn
+  linked-resend c bytes nsent q e encoding reads count eq =
+      linked-more l (E.Resend tsn) ok (W.Data (p ∷ [])) x.recorded.duplicates bytes q x.filter refl (subst (RefinesOutbound x.recorded) (sym eq)
+      (refines-marked x.recorded x.outbound (has_tsn tsn) (with_nsent nsent) (nsent-quiet nsent) l.outbound))
+      (l.unstarted ∙ sym (ap (λ (r : Outbound). r.next_unstarted) eq)) l.filter count
+      (says-data sum (after_resend x.recorded tsn) p bytes (data_of c) (resend-says c e) encoding reads)

@@ -1,13 +1,13 @@
 -- A datagram of fragments leaves.
-use Rattle.sctp_link.proofs.Names.{◌≡◌, ℕ, ◌-◌, ◌<◌, ◌≤◌, List, [], ◌∷◌, ◌++◌, length, map, Option, Some, None, refl, ap, sym, ◌∙◌, arith, IfSome, slice_get}
-use Rattle.sctp_link.proofs.Names.{slice_index_or, AllByRecursion, subst, numbers_from, length-mapped, ChunkKind, ChunkPayloadData, wire_of, data_of}
-use Rattle.sctp_link.proofs.Names.{data_chunk, HasEncoding, Canonical, ReadsPacket, packet_encoding, next_pending, after_sends, LinkRecord, StreamRecord}
-use Rattle.sctp_link.proofs.Names.{message_at, tsn_of, front, ordered_before, ssn_of, chunk_at, contents_of, filter_of, in_all, written_bytes, after_start}
-use Rattle.sctp_link.proofs.Names.{start_lifetime, after_send, send_from, with_datagram, send_fragments, IsRight, StandsFor, reply_to, sent_reply}
-use Rattle.sctp_link.proofs.Names.{fragments_accepted, shape, front-takes, Quiet, chunks_taken, begun_on, waiting_at, RefinesOutbound, Indexed, Fills}
-use Rattle.sctp_link.proofs.Names.{fill-sent, fill-started, sent-started, after_fragments, only-slots, shown-after, shown, idle, before-started, outbound-same}
+use Rattle.sctp_link.proofs.Names.{◌≡◌, ℕ, ◌-◌, ◌<◌, ◌≤◌, List, [], ◌∷◌, ◌++◌, length, map, Some, refl, ap, sym, ◌∙◌, arith, slice_get, slice_index_or}
+use Rattle.sctp_link.proofs.Names.{AllByRecursion, subst, numbers_from, length-mapped, ChunkKind, ChunkPayloadData, wire_of, data_of, data_chunk, HasEncoding}
+use Rattle.sctp_link.proofs.Names.{Canonical, ReadsPacket, packet_encoding, LinkRecord, StreamRecord, message_at, tsn_of, front, ordered_before, ssn_of}
+use Rattle.sctp_link.proofs.Names.{chunk_at, contents_of, filter_of, in_all, written_bytes, after_start, start_lifetime, after_send, send_from, with_datagram}
+use Rattle.sctp_link.proofs.Names.{send_fragments, IsRight, StandsFor, reply_to, sent_reply, fragments_accepted, shape, Quiet, chunks_taken, begun_on}
+use Rattle.sctp_link.proofs.Names.{RefinesOutbound, Indexed, Fills, fill-sent, fill-started, sent-started, only-slots, before-started, outbound-same}
 use Rattle.sctp_link.proofs.Names.{same-self, OpenStream, join_each, IsApart, IsDatagram, packet_with, wire_data, State, IsLinked, IsOpenStream, progress_of}
-use Rattle.sctp_link.proofs.Names.{StreamState, InboundStream, Outgoing, some-same, stands-then, piece-short}
+use Rattle.sctp_link.proofs.Names.{StreamState, InboundStream, Outgoing, stands-then, piece-short, SameStream, stream-quiet, filter-kept, fragments-same}
+use Rattle.sctp_link.proofs.Names.{written-kept}
 use Rattle.sctp_chunks.specs.declared.chunk.chunk_kind.ChunkKind.TheVariants as C
 use Rattle.sctp_model.specs.declared.event.Event.TheVariants as E
 use Rattle.sctp_model.specs.LinkRecord.{Slot, Message}
@@ -16,52 +16,11 @@ use Rattle.sctp_model.specs.Messages as M
 use Rattle.sctp_model.specs.Reply as R
 use Rattle.sctp_model.proofs.sender.Moves
 use Rattle.sctp_refinement.proofs.sending.Begun
-use Rattle.sctp_link.proofs.upkeep.Facts.{facts}
-use Rattle.sctp_link.proofs.upkeep.Frames.{SameStream, stream-with, stream-quiet, filter-kept, encodings-more, fragments-same, written-kept}
+use Rattle.sctp_link.proofs.upkeep.Facts.{facts, told}
+use Rattle.sctp_link.proofs.upkeep.Frames.{stream-with, encodings-more}
 use Rattle.sctp_link.proofs.sender.Beginning.{index_kept}
 use Rattle.sctp_link.proofs.sender.Between.{Between}
 use Rattle.sctp_link.proofs.sender.Outgoing.{chunk-short}
-
--- ## What is sent next
-
--- the chunk shown is the next fragment of the front
-pub record Next (w : LinkRecord) (c : ChunkPayloadData) : Type 0 where
-  pub front : front w ≡ Some c.message_id
-  pub is : c ≡ waiting_at w c.message_id (M.sent_of w c.message_id)
-  pub made : c.message_id < length w.messages
-
-nothing : {A : Type 0} {a : A} → Some a ≡ None → ⊥
-nothing e = cc
-
-module _ {sum : List ℕ → ℕ} {x : State} (l : IsLinked sum x) where
-  pub next-is : (c : ChunkPayloadData) → next_pending x.outbound.pending ≡ Some c → Next x.recorded c
-  next-is c e = by (front x.recorded) refl
-    where
-      of : (n : ℕ) → front x.recorded ≡ Some n → c ≡ waiting_at x.recorded n (M.sent_of x.recorded n) → Next x.recorded c
-      of n fr same =
-          let own : n ≡ c.message_id = sym (ap (λ (d : ChunkPayloadData). d.message_id) same) in
-          record {
-            front = fr ∙ ap Some own;
-            is = same ∙ ap (λ k. waiting_at x.recorded k (M.sent_of x.recorded k)) own;
-            made = let t = (front-takes (shape x.recorded) n (facts l).consistent.sender fr).made in omega (arith, t, own);
-          }
-
-      by : (o : Option ℕ) → front x.recorded ≡ o → Next x.recorded c
-      by None fr = absurd (nothing (sym e ∙ idle x.recorded x.outbound l.outbound fr))
-      by (Some n) fr = of n fr (some-same (sym e ∙ shown x.recorded.setup x.recorded n x.outbound (facts l).going fr l.outbound))
-
-  pub none-next : next_pending x.outbound.pending ≡ None → front x.recorded ≡ None
-  none-next e = by (front x.recorded) refl
-    where
-      by : (o : Option ℕ) → front x.recorded ≡ o → front x.recorded ≡ None
-      by None fr = fr
-      by (Some n) fr = absurd (nothing (sym (shown x.recorded.setup x.recorded n x.outbound (facts l).going fr l.outbound) ∙ e))
-
-  pub idle-right : (now : ℕ) (new : LinkRecord) → next_pending x.outbound.pending ≡ None → new ≡ after_start x.recorded now
-      → IsRight x.recorded (E.Send now) R.Idle new
-  idle-right now new e is =
-      let fr = none-next e in
-      record { right = sym (ap (sent_reply x.recorded (after_send x.recorded now)) fr); moves = is ∙ sym (ap (send_from (after_start x.recorded now)) fr) }
 
 -- ## What the chunks say
 
@@ -85,21 +44,6 @@ encodings-at v (p ∷ ps) le = ((tt, chunk-short (data_of (chunk_at v p)) (at-sh
 canonical-at : (v : LinkRecord) (ps : List ℕ) → AllByRecursion Canonical (map wire_data (map (chunk_at v) ps))
 canonical-at v [] = tt
 canonical-at v (p ∷ ps) = (tt, canonical-at v ps)
-
--- ## The event
-
-module _ {sum : List ℕ → ℕ} {x : State} (l : IsLinked sum x) (now : ℕ) where
-  -- each fragment that is looked at is short
-  pub looks-short : (i : ℕ) → IfSome (next_pending (after_sends i x.outbound.pending)) (λ c. length c.user_data ≤ 65519)
-  looks-short i =
-      let w = x.recorded in
-      let z = after_fragments i w in
-      shown-after w.setup i w x.outbound.pending (λ c. length c.user_data ≤ 65519) (facts l).going l.outbound.pending (λ n. omega (
-        arith,
-        l.setup.size,
-        ap (λ (y : LinkRecord). y.setup.size) (only-slots i w),
-        piece-short (length (message_at z n).bytes) z.setup.size (message_at z n).bytes (M.sent_of z n),
-      ))
 
 module _ {sum : List ℕ → ℕ} {x : State} (l : IsLinked sum x) (now n : ℕ) (fr : front x.recorded ≡ Some n) where
   abbrev w : LinkRecord
@@ -176,7 +120,7 @@ module _ {sum : List ℕ → ℕ} {x : State} (l : IsLinked sum x) (now n : ℕ)
       ∙ before-started w now t (length w.messages)
 
   stream-kept : (t : ℕ) → SameStream w v t
-  stream-kept t = subst (λ y. SameStream w y t) sent-moves (stream-quiet l (E.Send now) refl quiet tt refl refl refl before t)
+  stream-kept t = subst (λ y. SameStream w y t) sent-moves (stream-quiet (told l) (E.Send now) refl quiet tt refl refl refl before t)
 
   -- the record that the link then has
   pub recorded-is : (rs : List StreamRecord) (ms : List Message) (ss : List Slot) (ns : List W.Datagram) → rs ≡ w.streams → ms ≡ u.messages → ss ≡ z.slots
@@ -230,11 +174,11 @@ module _ {sum : List ℕ → ℕ} {x : State} (l : IsLinked sum x) (now n : ℕ)
       stands = subst (λ y. StandsFor w.setup y ((E.Send now, reply_to w (E.Send now)) ∷ l.history)) sent-moves (stands-then (E.Send now) refl l.stands);
       outbound = outbound-sent;
       unstarted = sym b.begun;
-      filter = l.filter ∙ sym (ap filter_of (sym sent-moves) ∙ filter-kept l (E.Send now) refl quiet);
+      filter = l.filter ∙ sym (ap filter_of (sym sent-moves) ∙ filter-kept (told l) (E.Send now) refl quiet);
       next = b.next ∙ ap (λ y. tsn_of y (length z.slots)) only;
       acked = l.acked;
-      fragments = l.fragments ∙ sym (ap fragments_accepted (sym sent-moves) ∙ fragments-same l (E.Send now) refl refl);
-      written = l.written ∙ sym (ap (λ y. in_all y (written_bytes y)) (sym sent-moves) ∙ written-kept l (E.Send now) refl refl);
+      fragments = l.fragments ∙ sym (ap fragments_accepted (sym sent-moves) ∙ fragments-same (told l) (E.Send now) refl refl);
+      written = l.written ∙ sym (ap (λ y. in_all y (written_bytes y)) (sym sent-moves) ∙ written-kept (told l) (E.Send now) refl refl);
       sents = λ k lt. b.sents k (omega (arith, lt, length-mapped (start_lifetime now) w.messages));
       indexes = indexed-sent.is;
       low = indexed-sent.low;

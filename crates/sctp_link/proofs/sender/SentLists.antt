@@ -1,10 +1,9 @@
 -- What the lists of a link are once a datagram of fragments has left.
-use Rattle.sctp_link.proofs.Names.{◌≡◌, ℕ, ◌<◌, List, [], ◌∷◌, ◌++◌, length, map, Some, ap, sym, ◌∙◌, arith, AllByRecursion, subst, numbers_from, length-mapped}
-use Rattle.sctp_link.proofs.Names.{ChunkKind, ChunkPayloadData, wire_of, HasEncoding, Canonical, ReadsPacket, packet_encoding, next_pending, Outbound}
-use Rattle.sctp_link.proofs.Names.{all_started, after_start, send_fragments, IsRight, chunks_taken, Fills, Message, Slot, Datagram, Kind, message_record}
-use Rattle.sctp_link.proofs.Names.{progress_of, slot_record, kind_record, datagram_record, stream_record, start_from, StreamState, InboundStream, join_each}
-use Rattle.sctp_link.proofs.Names.{Outgoing, CanSend, Leave, packet_with, State, IsLinked, LinkRecord}
-use Rattle.sctp_refinement.proofs.sending.Rooms.{refines-room}
+use Rattle.sctp_link.proofs.Names.{◌≡◌, ℕ, ◌<◌, List, [], ◌∷◌, ◌++◌, length, map, Some, ap, sym, ◌∙◌, arith, AllByRecursion, subst, numbers_from}
+use Rattle.sctp_link.proofs.Names.{length-mapped, ChunkKind, ChunkPayloadData, wire_of, HasEncoding, Canonical, ReadsPacket, packet_encoding, next_pending}
+use Rattle.sctp_link.proofs.Names.{Outbound, all_started, after_start, send_fragments, IsRight, chunks_taken, Fills, Message, Slot, Datagram, Kind}
+use Rattle.sctp_link.proofs.Names.{message_record, progress_of, slot_record, kind_record, datagram_record, stream_record, start_from, StreamState}
+use Rattle.sctp_link.proofs.Names.{InboundStream, join_each, Outgoing, CanSend, Leave, packet_with, State, IsLinked, LinkRecord, refines-room, Next, next-is}
 use Rattle.sctp_chunks.specs.declared.chunk.chunk_kind.ChunkKind.TheVariants as C
 use Rattle.sctp_model.specs.declared.event.Event.TheVariants as E
 use Rattle.sctp_model.specs.Reply as R
@@ -14,13 +13,13 @@ use Rattle.sctp_link.proofs.upkeep.Frames.{moved}
 use Rattle.sctp_link.proofs.sender.Between.{Between, between-none, between-after, each-can}
 use Rattle.sctp_link.proofs.sender.Outgoing.{network-more, bytes-more}
 use Rattle.sctp_link.proofs.sender.Sending
-use Rattle.sctp_link.proofs.sender.Sending.{Next, next-is}
+use Rattle.sctp_link.proofs.upkeep.Facts.{sends}
 
 -- ## The chunks
 
 module _ {sum : List ℕ → ℕ} {x : State} (l : IsLinked sum x) (now : ℕ) (c : ChunkPayloadData) (e : next_pending x.outbound.pending ≡ Some c) where
   pub next : Next x.recorded c
-  next = next-is l c e
+  next = next-is (sends l) c e
 
   -- how many there are
   abbrev pub many : ℕ

@@ -2,10 +2,11 @@
 use Rattle.sctp_link.proofs.Names.{◌≡◌, ℕ, zero, suc, ◌<◌, ◌≤◌, true, false, List, [], ◌∷◌, length, map, Option, Some, None, refl, ap, sym, ◌∙◌, arith}
 use Rattle.sctp_link.proofs.Names.{slice_index_or, is_some, not, nat_le, subst, nat_tests, length-mapped, Outbound, all_started, no_message, ordered_before}
 use Rattle.sctp_link.proofs.Names.{after_start, start_lifetime, reply_to, refines-started, all-begun, before-started, Message, message_record, progress_of}
-use Rattle.sctp_link.proofs.Names.{with_start, start_from, State, IsLinked, stands-then}
+use Rattle.sctp_link.proofs.Names.{with_start, start_from, State, IsLinked, stands-then, stream-quiet, begun-kept, fragments-same, written-kept}
 use Rattle.sctp_model.specs.declared.event.Event.TheVariants as E
 use Rattle.sctp_model.proofs.sender.Moves
-use Rattle.sctp_link.proofs.upkeep.Frames.{stream-same, stream-quiet, begun-kept, indexed-kept, encodings-same, fragments-same, written-kept}
+use Rattle.sctp_link.proofs.upkeep.Frames.{stream-same, indexed-kept, encodings-same}
+use Rattle.sctp_link.proofs.upkeep.Facts.{told}
 
 -- ## The messages
 
@@ -78,15 +79,16 @@ module _ {sum : List ℕ → ℕ} {x : State} (l : IsLinked sum x) (now : ℕ) w
     filter = l.filter;
     next = l.next;
     acked = l.acked;
-    fragments = l.fragments ∙ sym (fragments-same l (E.Start now) refl refl);
-    written = l.written ∙ sym (written-kept l (E.Start now) refl refl);
+    fragments = l.fragments ∙ sym (fragments-same (told l) (E.Start now) refl refl);
+    written = l.written ∙ sym (written-kept (told l) (E.Start now) refl refl);
     sents = λ n lt. l.sents n (omega (arith, lt, length-mapped (start_lifetime now) x.recorded.messages));
     indexes = (indexed-kept l (E.Start now) refl tt).is;
     low = l.low;
-    open_streams = λ k d lt. stream-same (slice_index_or x.open_streams k d) (stream-quiet l (E.Start now) refl (Moves.quiet-started x.recorded now) tt refl
+    open_streams =
+        λ k d lt. stream-same (slice_index_or x.open_streams k d) (stream-quiet (told l) (E.Start now) refl (Moves.quiet-started x.recorded now) tt refl
         refl refl (λ s. ap (ordered_before (after_start x.recorded now) s) (length-mapped (start_lifetime now) x.recorded.messages)
         ∙ before-started x.recorded now s (length x.recorded.messages)) (slice_index_or x.open_streams k d).state.stream_identifier)
-        (begun-kept l (E.Start now) refl tt (slice_index_or x.open_streams k d).state.stream_identifier) (l.open_streams k d lt);
+        (begun-kept (told l) (E.Start now) refl tt (slice_index_or x.open_streams k d).state.stream_identifier) (l.open_streams k d lt);
     apart = l.apart;
     encodings = encodings-same l (E.Start now) refl refl;
   }

@@ -7,10 +7,9 @@ use Rattle.sctp_link.proofs.Names.{StreamRecord, stream_of, no_stream, sent_of, 
 use Rattle.sctp_link.proofs.Names.{refusal_of, reply_to, fragments_accepted, fragments_in, shape, Consistent, consistent-after, Indexed, RefinesOutbound}
 use Rattle.sctp_link.proofs.Names.{amount, counters_on, sent_more, amount-wrote, written-wrote, counters-wrote, change_where, fragments_with_mode}
 use Rattle.sctp_link.proofs.Names.{with_reliability, OpenStream, both_ways, has_number, written_of, wrote_to, Message, stream_record, message_record}
-use Rattle.sctp_link.proofs.Names.{message_written, State, IsOpenStream, IsLinked, stats_of, DataChannelStats, stands-then, Facts, written-few}
-use Rattle.sctp_refinement.proofs.Lists.{progress-more}
+use Rattle.sctp_link.proofs.Names.{message_written, State, IsOpenStream, IsLinked, stats_of, DataChannelStats, stands-then, Facts, written-few, progress-more}
+use Rattle.sctp_link.proofs.Names.{with_sent, begun-kept, held-quiet, next-kept}
 use Rattle.sctp_refinement.proofs.amounts.MessageSums.{sum-written}
-use Rattle.sctp_stream.specs.Stats.{with_sent}
 use Rattle.std.specs.Option.{option_map}
 use Rattle.sctp_model.specs.declared.event.Event.TheVariants as E
 use Rattle.sctp_model.specs.LinkRecord as W
@@ -18,8 +17,8 @@ use Rattle.sctp_model.proofs.sender.Moves
 use Rattle.sctp_refinement.proofs.sending.Written
 use Rattle.sctp_refinement.proofs.sending.InLine
 use Rattle.sctp_stream.specs.Stream as stream
-use Rattle.sctp_link.proofs.upkeep.Facts.{facts}
-use Rattle.sctp_link.proofs.upkeep.Frames.{stream-same, begun-kept, indexed-kept, held-quiet, next-kept, encodings-same}
+use Rattle.sctp_link.proofs.upkeep.Facts.{facts, told}
+use Rattle.sctp_link.proofs.upkeep.Frames.{stream-same, indexed-kept, encodings-same}
 use Rattle.sctp_link.proofs.sender.Beginning.{index_kept}
 use Rattle.sctp_link.proofs.upkeep.Bounds.{amount-few}
 use Rattle.sctp_link.proofs.sender.Fragmented.{all-wait}
@@ -110,7 +109,7 @@ module _ {sum : List ℕ → ℕ} {x : State} (l : IsLinked sum x) (s : ℕ) (pp
         ∙ ap (λ k. ordered_before w t (length w.messages) + (if (k == t) && is_ordered m.state.unordered ppi then 1 else 0)) own
 
     next-same : (t : ℕ) → next_of v t ≡ next_of w t
-    next-same t = next-kept l (E.Write s ppi bytes) ok tt t
+    next-same t = next-kept (told l) (E.Write s ppi bytes) ok tt t
 
     other : (t : OpenStream) → (t.state.stream_identifier ≡ s → ⊥) → IsOpenStream w t → IsOpenStream v t
     other t ne j =
@@ -119,7 +118,7 @@ module _ {sum : List ℕ → ℕ} {x : State} (l : IsLinked sum x) (s : ℕ) (pp
         let off' : (s == n) ≡ false = fails (s == n) (λ e. ne (sym (same-is s n e))) in
         stream-same t (record {
           setup = refl;
-          held = held-quiet l (E.Write s ppi bytes) ok (Moves.quiet-written w.setup w s ppi bytes f.consistent) n;
+          held = held-quiet (told l) (E.Write s ppi bytes) ok (Moves.quiet-written w.setup w s ppi bytes f.consistent) n;
           ordered = before-wrote n ∙ ap (λ c. ordered_before w n (length w.messages) + (if c && is_ordered m.state.unordered ppi then 1 else 0)) off'
               ∙ plus-none (ordered_before w n (length w.messages));
           next = next-same n;
@@ -127,7 +126,7 @@ module _ {sum : List ℕ → ℕ} {x : State} (l : IsLinked sum x) (s : ℕ) (pp
               ∙ plus-none (amount w n);
           counters = counters-wrote w s n ppi bytes ok
               ∙ ap (λ c. if c && not (length bytes == 0) then sent_more (counted_as ppi (length bytes)) (counters_on w n) else counters_on w n) off;
-        }) (begun-kept l (E.Write s ppi bytes) ok tt n) j
+        }) (begun-kept (told l) (E.Write s ppi bytes) ok tt n) j
       where
         plus-none : (a : ℕ) → a + 0 ≡ a
         plus-none a = omega arith
@@ -144,14 +143,14 @@ module _ {sum : List ℕ → ℕ} {x : State} (l : IsLinked sum x) (s : ℕ) (pp
         ∙ ap (λ c. amount w n + (if c then length bytes else 0)) on' in
         let short = amount-few n l in
         record {
-          held = i.held ∙ sym (held-quiet l (E.Write s ppi bytes) ok (Moves.quiet-written w.setup w s ppi bytes f.consistent) n);
+          held = i.held ∙ sym (held-quiet (told l) (E.Write s ppi bytes) ok (Moves.quiet-written w.setup w s ppi bytes f.consistent) n);
           si = i.si;
           largest = i.largest;
           size = i.size;
           ordered = adds (is_ordered m.state.unordered ppi) m.ordered (ordered_before w n (length w.messages)) i.ordered
               ∙ sym (before-wrote n ∙ ap (λ c. ordered_before w n (length w.messages) + (if c && is_ordered m.state.unordered ppi then 1 else 0)) on);
           number = number-next (is_ordered m.state.unordered ppi) b bs m.state.sequence_number m.ordered i.number;
-          begun = i.begun ∙ sym (begun-kept l (E.Write s ppi bytes) ok tt n);
+          begun = i.begun ∙ sym (begun-kept (told l) (E.Write s ppi bytes) ok tt n);
           next = i.next ∙ sym (next-same n);
           amount = omega (arith, i.amount, grown, short, few);
           stats = sent-both (counted_as ppi (length bytes)) m.state.stats m.inbound.stats ∙ ap (with_sent (counted_as ppi (length bytes))) i.stats

@@ -15,9 +15,9 @@ use Rattle.sctp_sender.proofs.SenderStreams
 use Rattle.sctp_link.proofs.upkeep.StreamPlaces.{placed}
 use Rattle.sctp_link.proofs.upkeep.Facts.{facts}
 use Rattle.sctp_link.proofs.upkeep.Frames.{moved}
-use Rattle.sctp_link.proofs.sender.Modes.{found-open}
 use Rattle.sctp_link.proofs.upkeep.Bounds.{queued-few}
 use Rattle.sctp_link.proofs.sender.Writing
+use Rattle.sctp_link.proofs.upkeep.Lookups.{open-kept}
 
 -- a list that is not empty
 pub some-bytes : (bytes : List ℕ) (b : Bool) → b ≡ (length bytes == 0) → b ≡ false → 0 < length bytes
@@ -35,9 +35,6 @@ state-found s (l ∷ ls) = step (l.state.stream_identifier == s) (state-found s 
 
 module _ {sum : List ℕ → ℕ} {x : State} (l : IsLinked sum x) (s : ℕ) (ppi : PayloadProtocolIdentifier) (bytes : List ℕ) (some : 0 < length bytes)
     (ok : refusal_of x.recorded (E.Write s ppi bytes) ≡ None) (streams : x.recorded.streams ≡ map stream_record x.open_streams) where
-  pub write-found : find (has_number s) x.open_streams ≡ None → ⊥
-  write-found none = found-open x s streams (write-open x.recorded s ppi bytes ok) none
-
   pub write-few : x.written + length bytes < 2 ^ 47
   write-few = by bytes some ok
     where
@@ -50,11 +47,7 @@ module _ {sum : List ℕ → ℕ} {x : State} (l : IsLinked sum x) (s : ℕ) (pp
 
   -- the stream is found
   pub write-on : (m : OpenStream) × (find (has_number s) x.open_streams ≡ Some m)
-  write-on = by (find (has_number s) x.open_streams) refl
-    where
-      by : (o : Option OpenStream) → find (has_number s) x.open_streams ≡ o → (m : OpenStream) × (find (has_number s) x.open_streams ≡ Some m)
-      by None e = absurd (write-found e)
-      by (Some m) e = (m, e)
+  write-on = open-kept x.recorded s x.open_streams streams (write-open x.recorded s ppi bytes ok)
 
   write-small : length bytes ≤ x.recorded.setup.largest
   write-small =

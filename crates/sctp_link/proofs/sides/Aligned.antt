@@ -2,8 +2,7 @@
 use Rattle.sctp_link.proofs.Names.{◌≡◌, ℕ, List, [], ◌∷◌, length, map, Bool, true, false, Option, Some, None, refl, ap, sym, ◌∙◌, if◌then◌else◌, option_map}
 use Rattle.sctp_link.proofs.Names.{is_some, change_where, ForwardTsn, message_read, InboundStream, Reception, Transmission, Standing, OpenStream, join_each}
 use Rattle.sctp_link.proofs.Names.{has_number, stream_numbers, on_inbound, Sides, sides, IsAligned, reception_of, stream_in, on_stream, follow_forward_tsn}
-use Rattle.sctp_link.proofs.Names.{after_forward}
-use Rattle.sctp_receiver.proofs.Forwarded.{followed-mapped, after-numbers, after-size}
+use Rattle.sctp_link.proofs.Names.{after_forward, followed-mapped, after-numbers, after-size}
 use Rattle.sctp_receiver.specs.Inbound as Inbound
 use Rattle.sctp_receiver.specs.Receiver as R
 use Rattle.sctp_receiver.proofs.Inbounds.{stays-changed}

@@ -1,12 +1,11 @@
 -- What changes of the sender and of the progress make of a link's sides, and what is told of a stream by its number.
 use Rattle.sctp_link.proofs.Names.{◌≡◌, ℕ, ◌+◌, ◌-◌, ◌<◌, List, [], ◌∷◌, length, set, Bool, true, false, Option, Some, None, Result, Ok, Err, inl, inr, refl}
-use Rattle.sctp_link.proofs.Names.{ap, sym, ◌∙◌, subst, ◌⊎◌, slice_index_or, find, if◌then◌else◌, option_map, is_some, OnOk, OnErr, IfErr, IfSome, change_where}
-use Rattle.sctp_link.proofs.Names.{some-same, is_ordered, Sack, ChunkPayloadData, PayloadProtocolIdentifier, ReliabilityType, with_message, expired_of}
-use Rattle.sctp_link.proofs.Names.{DataChannelStats, StreamState, InboundStream, Reception, Released, OutOfMemory, Flight, with_queue, after_sack, released_by}
-use Rattle.sctp_link.proofs.Names.{fragments_with_mode, Transmission, Standing, Written, IsApart, OpenStream, join_each, number, has_number, stream_numbers}
-use Rattle.sctp_link.proofs.Names.{on_state, after_releases, stats_in, both_ways, written_of, wrote_to, read_recorded, Sides, IsAligned, stream_in, on_stream}
-use Rattle.sctp_link.proofs.Names.{sack_taken, written_on, expired_unsent, sides}
-use Rattle.sctp_refinement.proofs.Lists.{none-changed, twice, same-at}
+use Rattle.sctp_link.proofs.Names.{ap, sym, ◌∙◌, subst, ◌⊎◌, slice_index_or, find, if◌then◌else◌, option_map, is_some, OnOk, OnErr, IfErr, IfSome}
+use Rattle.sctp_link.proofs.Names.{change_where, some-same, is_ordered, Sack, ChunkPayloadData, PayloadProtocolIdentifier, ReliabilityType, with_message}
+use Rattle.sctp_link.proofs.Names.{expired_of, DataChannelStats, StreamState, InboundStream, Reception, Released, OutOfMemory, Flight, with_queue, after_sack}
+use Rattle.sctp_link.proofs.Names.{released_by, fragments_with_mode, Transmission, Standing, Written, IsApart, OpenStream, join_each, number, has_number}
+use Rattle.sctp_link.proofs.Names.{stream_numbers, on_state, after_releases, stats_in, both_ways, written_of, wrote_to, read_recorded, Sides, IsAligned}
+use Rattle.sctp_link.proofs.Names.{stream_in, on_stream, sack_taken, written_on, expired_unsent, sides, none-changed, twice, same-at}
 use Rattle.sctp_receiver.specs.Receiver as R
 use Rattle.sctp_sender.specs.declared.sender.refusal.SenderRefusal.{SenderRefusal}
 use Rattle.sctp_sender.specs.declared.sender.refusal.SenderRefusal.TheVariants.{StreamUnknown}
@@ -27,8 +26,6 @@ only-memory e o none (inr h) = let no : None ≡ Some e = sym none ∙ h in absu
 
 pub some-of : {T : Type 0} (Q : T → Type 0) (o : Option T) (x : T) → o ≡ Some x → IfSome o Q → Q x
 some-of Q o x e h = subst (λ p. IfSome p Q) e h
-
--- ## Numbers that stay
 
 module _ (f : StreamState → StreamState) (same : (s : StreamState) → (f s).stream_identifier ≡ s.stream_identifier) (p : StreamState → Bool) where
   pub stays : (ss : List StreamState) → Outgoing.numbers_of (change_where p f ss) ≡ Outgoing.numbers_of ss

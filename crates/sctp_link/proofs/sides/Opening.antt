@@ -1,8 +1,7 @@
 -- A stream is opened at both ends, or the opening is undone.
-use Rattle.sctp_link.proofs.Names.{◌≡◌, ℕ, List, [], ◌∷◌, ◌++◌, None, Result, Ok, Err, Bool, true, false, ap, sym, ◌∙◌, find, is_some, is_err, option_map, OnOk}
-use Rattle.sctp_link.proofs.Names.{OnErr, IsOk, map-append, same-yes, Unknown, taken-back, Reception, Transmission, Standing, OpenStream, join_each}
-use Rattle.sctp_link.proofs.Names.{new_open_stream, Sides, IsAligned, stream_in, opened_on, sides, none-of}
-use Rattle.sctp_stream.specs.Stream.{new_stream}
+use Rattle.sctp_link.proofs.Names.{◌≡◌, ℕ, List, [], ◌∷◌, ◌++◌, None, ap, sym, ◌∙◌, find, is_some, option_map, map-append, same-yes, Unknown, taken-back}
+use Rattle.sctp_link.proofs.Names.{Reception, Transmission, Standing, OpenStream, join_each, new_open_stream, Sides, IsAligned, stream_in, opened_on, sides}
+use Rattle.sctp_link.proofs.Names.{none-of, new_stream, subst, refl}
 use Rattle.sctp_receiver.specs.Inbound as Inbound
 use Rattle.sctp_receiver.specs.Receiver as R
 use Rattle.sctp_sender.specs.Outgoing as Outgoing
@@ -11,18 +10,6 @@ use Rattle.sctp_progress.specs.Progress as Progress
 use Rattle.sctp_link.proofs.sides.Joined.{joined-more}
 use Rattle.sctp_link.proofs.sides.Aligned.{alike, state-in, inbound-in}
 use Rattle.sctp_link.proofs.sides.Changes.{open-answered}
-
-pub on-error : {T E P : Type 0} (r : Result T E) (b : Bool) → b ≡ is_err r → b ≡ true → OnErr r P → P
-on-error (Ok x) b e t p = cc
-on-error (Err e) b is t p = p
-
-pub on-ok : {T E P : Type 0} (r : Result T E) (b : Bool) → b ≡ is_err r → b ≡ false → OnOk r P → P
-on-ok (Ok x) b e t p = p
-on-ok (Err e) b is t p = cc
-
-pub not-err : {T E : Type 0} (r : Result T E) → IsOk r → is_err r ≡ true → ⊥
-not-err (Ok x) ok e = let no : false ≡ true = e in cc
-not-err (Err x) ok e = let no : false ≡ true = ok in cc
 
 module _ {t : Transmission} {r : Reception} {ps : List Standing} (a : IsAligned t r ps) (s : ℕ) (none : stream_in s (sides t r ps) ≡ None) where
   pub no-progress : find (Progress.has_number s) ps ≡ None
@@ -70,16 +57,9 @@ module _ {t : Transmission} {r : Reception} {ps : List Standing} (a : IsAligned 
     }
 
 -- each part is what it was
-module _ (t : Transmission) (r : Reception) (ps : List Standing) (x : Transmission) (y : Reception) (qs : List Standing) (sent : x ≡ t) (received : y ≡ r)
-    (put : qs ≡ ps) where
-  pub aligned-same : IsAligned t r ps → IsAligned x y qs
-  aligned-same a = record {
-    receives = ap (λ (z : Transmission). Outgoing.numbers_of z.streams) sent ∙ a.receives ∙ ap (λ (z : Reception). Inbound.numbers_of z.streams) (sym received);
-    progresses = ap (λ (z : Transmission). Outgoing.numbers_of z.streams) sent ∙ a.progresses ∙ ap Progress.numbers_of (sym put);
-    size = ap (λ (z : Reception). z.max_message_size) received ∙ a.size ∙ ap (λ (z : Transmission). z.max_message_size) (sym sent);
-    unlimited = ap (λ (z : Reception). z.limits) received ∙ a.unlimited;
-    forgets = ap (λ (z : Transmission). z.kept) sent ∙ a.forgets;
-  }
-
-  pub sides-same : sides x y qs ≡ sides t r ps
-  sides-same = ap (λ z. sides z y qs) sent ∙ ap (λ z. sides t z qs) received ∙ ap (sides t r) put
+pub same-parts : {t : Transmission} {r : Reception} {ps : List Standing} (x : Transmission) (y : Reception) (qs : List Standing) → x ≡ t → y ≡ r → qs ≡ ps
+    → IsAligned t r ps → IsAligned x y qs × (sides x y qs ≡ sides t r ps)
+same-parts {t} {r} {ps} x y qs sent received put a =
+    subst (λ z. IsAligned z y qs × (sides z y qs ≡ sides t r ps)) (sym sent)
+    (subst (λ z. IsAligned t z qs × (sides t z qs ≡ sides t r ps)) (sym received)
+    (subst (λ z. IsAligned t r z × (sides t r z ≡ sides t r ps)) (sym put) (a, refl)))

@@ -3,8 +3,8 @@ use Rattle.sctp_link.proofs.Names.{◌≡◌, ℕ, zero, suc, ◌≤◌, List, [
 use Rattle.sctp_link.proofs.Names.{arith, ◌&&◌, if◌then◌else◌, option_map, slice_get, change_where, some-same, ChunkPayloadData, ReassemblyState}
 use Rattle.sctp_link.proofs.Names.{PushesUnordered, after_ordered_push, Arrival, New, Repeat, InboundStream, ReceiverRefusal, Pushes, PushesAs, Reception}
 use Rattle.sctp_link.proofs.Names.{is_answered_complete, data_refusal, Transmission, Standing, after_one, after_each, IsApart, OpenStream, join_each}
-use Rattle.sctp_link.proofs.Names.{has_number, stream_numbers, on_inbound, Sides, IsAligned, stream_in, on_stream, Takes, TakesEach, CanTake, sides}
-use Rattle.sctp_refinement.proofs.Lists.{twice, unchanged}
+use Rattle.sctp_link.proofs.Names.{has_number, stream_numbers, on_inbound, Sides, IsAligned, stream_in, on_stream, Takes, TakesEach, CanTake, sides, twice}
+use Rattle.sctp_link.proofs.Names.{unchanged}
 use Rattle.sctp_receiver.specs.Inbound.{with_queue}
 use Rattle.sctp_receiver.specs.Receiver as R
 use Rattle.sctp_receiver.proofs.DataEach.{takes-keeps}

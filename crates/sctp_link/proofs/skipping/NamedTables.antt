@@ -1,22 +1,9 @@
 -- What a skip names on each stream, in a table, while one message more is counted in.
-use Rattle.sctp_link.proofs.Names.{◌≡◌, ℕ, zero, suc, ◌+◌, ◌<◌, ◌≤◌, Bool, true, false, List, [], ◌∷◌, length, map, Some, refl, ap, sym, ◌∙◌, arith, ◌==◌, ◌&&◌}
-use Rattle.sctp_link.proofs.Names.{not, if◌then◌else◌, min, max, slice_get, slice_index_or, slice_set, filter, ne_eqb, some-same, length-mapped, no_message}
-use Rattle.sctp_link.proofs.Names.{get_or-map, subst, least, greatest, Standing, Named, Message, message_record, index_in, message_in, is_on, named_from, none_named}
-use Rattle.sctp_list_lemmas.proofs.Getting.{get-beyond}
-use Rattle.sctp_stream.specs.Numbers.{IsAbsent, IsOnlyPlace}
+use Rattle.sctp_link.proofs.Names.{◌≡◌, ℕ, zero, suc, ◌+◌, ◌<◌, ◌≤◌, Bool, true, false, List, [], ◌∷◌, length, map, Some, refl, ap, sym, ◌∙◌, arith, ◌==◌}
+use Rattle.sctp_link.proofs.Names.{◌&&◌, not, if◌then◌else◌, min, max, slice_get, slice_index_or, slice_set, filter, ne_eqb, some-same, length-mapped}
+use Rattle.sctp_link.proofs.Names.{no_message, get_or-map, least, greatest, Standing, Named, Message, message_record, index_in, message_in, is_on, named_from}
+use Rattle.sctp_link.proofs.Names.{none_named, get-beyond, IsAbsent, IsOnlyPlace, with_name, HasNames, each-put}
 use Rattle.sctp_progress.specs.Progress.{numbers_of}
-use Rattle.sctp_link.specs.Skips.{with_name, HasNames}
-
--- what holds of an element that is put at a place, and of all others, holds of each
-each-put : {X : Type 0} (P : ℕ → X → Type 0) (xs : List X) (j : ℕ) (y : X) → P j y
-    → ((k : ℕ) (d : X) → k < length xs → d ≡ slice_index_or xs k d → (k ≡ j → ⊥) → P k d)
-    → (k : ℕ) (d : X) → k < length (slice_set xs j y) → d ≡ slice_index_or (slice_set xs j y) k d → P k d
-each-put P [] j y here rest k d lt e = absurd (omega (arith, lt))
-each-put P (x ∷ xs) zero y here rest zero d lt e = subst (P zero) (sym e) here
-each-put P (x ∷ xs) zero y here rest (suc k) d lt e = rest (suc k) d (omega (arith, lt)) e (λ z. omega (arith, z))
-each-put P (x ∷ xs) (suc j) y here rest zero d lt e = rest zero d (omega arith) e (λ z. omega (arith, z))
-each-put P (x ∷ xs) (suc j) y here rest (suc k) d lt e =
-    each-put (λ i. P (suc i)) xs j y here (λ i z less f ne. rest (suc i) z (omega (arith, less)) f (λ q. ne (omega (arith, q)))) k d (omega (arith, lt)) e
 
 number-of : (ps : List Standing) (k : ℕ) (p : Standing) → k < length ps → p ≡ slice_index_or ps k p → slice_get (numbers_of ps) k ≡ Some p.number
 number-of [] k p lt e = absurd (omega (arith, lt))
@@ -27,7 +14,7 @@ number-of (y ∷ ys) (suc k) p lt e = number-of ys k p (omega (arith, lt)) e
 
 module _ (ms : List Message) (n : ℕ) where
   -- it is counted in
-  name-next : (s : ℕ) (d : Named) (rest : List ℕ) → named_from ms s d (n ∷ rest) ≡ named_from ms s (with_name ms s n d) rest
+  pub name-next : (s : ℕ) (d : Named) (rest : List ℕ) → named_from ms s d (n ∷ rest) ≡ named_from ms s (with_name ms s n d) rest
   name-next s d rest = by (is_on ms s n)
     where
       names : List ℕ
@@ -41,15 +28,15 @@ module _ (ms : List Message) (n : ℕ) where
       by false = refl
 
   -- on another stream it names nothing
-  name-other : (s : ℕ) (d : Named) (rest : List ℕ) → is_on ms s n ≡ false → named_from ms s d (n ∷ rest) ≡ named_from ms s d rest
+  pub name-other : (s : ℕ) (d : Named) (rest : List ℕ) → is_on ms s n ≡ false → named_from ms s d (n ∷ rest) ≡ named_from ms s d rest
   name-other s d rest e = name-next s d rest
       ∙ ap (λ b. named_from ms s (if b then record { low = min d.low (index_in ms n); end = max d.end (index_in ms n + 1) } else d) rest) e
 
-  on-other : (s : ℕ) → ((message_in ms n).stream ≡ s → ⊥) → is_on ms s n ≡ false
+  pub on-other : (s : ℕ) → ((message_in ms n).stream ≡ s → ⊥) → is_on ms s n ≡ false
   on-other s ne = ap (λ b. b && ((message_in ms n).ordered && not (message_in ms n).expired)) (ne_eqb _ _ ne)
 
   -- nor does one that is not there
-  on-none : (s : ℕ) → length ms ≤ n → is_on ms s n ≡ false
+  pub on-none : (s : ℕ) → length ms ≤ n → is_on ms s n ≡ false
   on-none s le =
       ap (λ m. (m.stream == s) && (m.ordered && not m.expired))
       (get-beyond (map message_record ms) n no_message (omega (arith, le, length-mapped message_record ms))) ∙ off ((no_message).stream == s)
@@ -66,7 +53,7 @@ module _ (ms : List Message) (n : ℕ) (ps : List Standing) (names rest : List �
   named-none le h = λ k p d lt inside at' is. sym (name-other ms n p.number d rest (on-none ms n p.number le)) ∙ h k p d lt inside at' is
 
   module _ (m : Message) (some : n < length ms) (is-m : m ≡ slice_index_or ms n m) where
-    stream-is : (message_in ms n).stream ≡ m.stream
+    pub stream-is : (message_in ms n).stream ≡ m.stream
     stream-is = ap (λ x. x.stream) (get_or-map message_record ms n m no_message some) ∙ ap (λ (x : Message). x.stream) (sym is-m)
 
     -- its stream is not open

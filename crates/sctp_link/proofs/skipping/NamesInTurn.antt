@@ -1,34 +1,21 @@
 -- The names of a FORWARD-TSN that arrives, one after another: what they have for a stream, and what becomes of its queue.
-use Rattle.sctp_link.proofs.Names.{◌≡◌, ℕ, ◌≤◌, ◌^◌, ◌%◌, Bool, true, false, List, [], ◌∷◌, map, Some, None, refl, ap, sym, ◌∙◌, if◌then◌else◌, ◌==◌, ◌&&◌, not}
-use Rattle.sctp_link.proofs.Names.{is_some, slice_get, filter, same-yes, same-is, same_test, ReassemblyState, after_ordered_skip, held_after_ordered_skips}
-use Rattle.sctp_link.proofs.Names.{LinkRecord, StreamRecord, Forward, message_at, stream_at, is_ordered_on, index_of, ssn_of, cumulative, name_of, refusal_of}
-use Rattle.sctp_link.proofs.Names.{shape, Sender, IsNamable, NamesFit, reassembly_of, end_named, ssns_of, skipped_each, Message, State, IsLinked}
-use Rattle.sctp_link.proofs.Names.{message_record, progress_of, index_in, message_in, pair_in, named_stream, and-true}
-use Rattle.sctp_refinement.proofs.skipping.SkipSpans.{gone_forward}
+use Rattle.sctp_link.proofs.Names.{◌≡◌, ℕ, ◌≤◌, ◌^◌, ◌%◌, Bool, true, false, List, [], ◌∷◌, map, Some, None, refl, ap, sym, ◌∙◌, if◌then◌else◌, ◌==◌, is_some}
+use Rattle.sctp_link.proofs.Names.{slice_get, filter, ReassemblyState, after_ordered_skip, held_after_ordered_skips, LinkRecord, StreamRecord, Forward}
+use Rattle.sctp_link.proofs.Names.{message_at, stream_at, is_ordered_on, index_of, ssn_of, cumulative, name_of, refusal_of, shape, Sender, NamesFit}
+use Rattle.sctp_link.proofs.Names.{reassembly_of, end_named, ssns_of, skipped_each, Message, State, IsLinked, message_record, progress_of, index_in}
+use Rattle.sctp_link.proofs.Names.{message_in, pair_in, named_stream, gone_forward, skips-in, named-on}
 use Rattle.sctp_data.specs.declared.chunk.chunk_forward_tsn.ChunkForwardTsnStream.{ChunkForwardTsnStream}
 use Rattle.sctp_model.specs.declared.event.Event.TheVariants as E
-use Rattle.sctp_model.proofs.sender.Slots.{sent-alive}
 use Rattle.sctp_refinement.specs.Naming.{on_stream}
 use Rattle.sctp_refinement.proofs.skipping.SkipsInTurn.{skips-in-turn}
 use Rattle.sctp_link.proofs.upkeep.Facts.{facts}
-use Rattle.sctp_link.proofs.skipping.SkipComes.{index-is, skips-in, spans}
+use Rattle.sctp_link.proofs.skipping.SkipComes.{index-is, spans}
 
 -- ## What they have for a stream
 
 -- the pairs that name these messages
 abbrev pub pairs_of : LinkRecord → List ℕ → List ChunkForwardTsnStream
 pairs_of w names = map named_stream (map (name_of w) names)
-
--- a message that can be named stands on its stream
-named-on : (w : LinkRecord) (upto s n : ℕ) → Sender (shape w) → IsNamable (shape w) upto n → (s == (message_at w n).stream) ≡ is_ordered_on w s n
-named-on w upto s n sender i =
-    turn s (message_at w n).stream ∙ sym (and-true ((message_at w n).stream == s)) ∙ ap (λ b. ((message_at w n).stream == s) && b) (sym live)
-  where
-    turn : (a b : ℕ) → (a == b) ≡ (b == a)
-    turn a b = same_test (a == b) (b == a) (λ e. ap (λ k. k == a) (sym (same-is a b e)) ∙ same-yes a) (λ e. ap (λ k. k == b) (sym (same-is b a e)) ∙ same-yes b)
-
-    live : ((message_at w n).ordered && not (message_at w n).expired) ≡ true
-    live = ap (λ b. b && not (message_at w n).expired) i.ordered ∙ ap not (sent-alive (shape w) n sender i.some)
 
 pub names-in-turn : (w : LinkRecord) (upto s : ℕ) (names : List ℕ) → Sender (shape w) → NamesFit (shape w) upto names
     → ssns_of s (pairs_of w names) ≡ map (λ n. index_of w n % 2 ^ 16) (on_stream w s names)
@@ -80,7 +67,7 @@ module _ {sum : List ℕ → ℕ} {x : State} (l : IsLinked sum x) (k upto : ℕ
       → (skipped_each (ssns_of s (pairs_of w names)) q).held ≡ gone_forward (end_named w s names) (reassembly_of w s)
   queue-in-turn s r q o held =
       let f = facts l in
-      let skips = skips-in l k upto names e in
+      let skips = skips-in (facts l) k upto names e in
       let sp = spans l k upto names none e counts s (ap is_some o) in
       let ssns = names-in-turn w upto s names f.consistent.sender skips.fit in
       held-each (ssns_of s (pairs_of w names)) q ∙ ap (λ is. held_after_ordered_skips is q.held) ssns

@@ -1,28 +1,25 @@
 -- A FORWARD-TSN that counts is followed: what it makes of a link.
-use Rattle.sctp_link.proofs.Names.{◌≡◌, ℕ, ◌+◌, ◌<◌, ◌≤◌, false, List, [], ◌∷◌, length, map, Option, Some, None, Result, Ok, Err, refl, ap, sym, ◌∙◌, arith}
-use Rattle.sctp_link.proofs.Names.{not, true, if◌then◌else◌, OnOk, IfErr, max, slice_get, slice_index_or, is_some, nat_le, subst, nat_tests, ForwardTsn}
-use Rattle.sctp_link.proofs.Names.{held_after_unordered_skip, LinkRecord, StreamRecord, Forward, stream_at, tsn_of, cumulative, next_of, named_by, receive_skip}
-use Rattle.sctp_link.proofs.Names.{after_arrive, filter_of, refusal_of, after, reassembly_of, seen_of, low_named, end_named, counters_on, with_skip, skip-step}
-use Rattle.sctp_link.proofs.Names.{counters-same, ssns_of, skipped_each, Reception, forward_refusal, TsnOpposite, Filter, skipped_to, is_opposite}
-use Rattle.sctp_link.proofs.Names.{ReceiverRefusal, Transmission, Standing, OpenStream, join, stream_numbers, on_inbound, forwarded_on, Sides, IsAligned, sides}
-use Rattle.sctp_link.proofs.Names.{reception_of, with_filter_of, follow_forward_tsn, after_forward, Named, Message, State, IsLinked, IsOpenStream, stats_of}
-use Rattle.sctp_link.proofs.Names.{filter_shown, IsApart, message_record, progress_of, stream_record, named_from, none_named, with_names, standing_named}
-use Rattle.sctp_link.proofs.Names.{wire_skip, length-mapped, get_or-map, map-twice}
-use Rattle.sctp_refinement.proofs.arriving.Filter.{filter-skipped}
-use Rattle.sctp_refinement.proofs.skipping.SkipSpans.{queue-skip, next-skip, named-from}
-use Rattle.sctp_receiver.proofs.Forwarded.{skipped-number, skipped-size}
+use Rattle.sctp_link.proofs.Names.{◌≡◌, ℕ, ◌+◌, ◌<◌, ◌≤◌, false, List, [], ◌∷◌, length, map, Some, None, Result, refl, ap, sym, ◌∙◌, arith, not, true}
+use Rattle.sctp_link.proofs.Names.{if◌then◌else◌, OnOk, IfErr, max, slice_get, slice_index_or, is_some, nat_le, subst, nat_tests, ForwardTsn}
+use Rattle.sctp_link.proofs.Names.{held_after_unordered_skip, LinkRecord, StreamRecord, Forward, stream_at, tsn_of, cumulative, next_of, named_by}
+use Rattle.sctp_link.proofs.Names.{receive_skip, after_arrive, filter_of, refusal_of, after, reassembly_of, seen_of, low_named, end_named, counters_on}
+use Rattle.sctp_link.proofs.Names.{with_skip, skip-step, counters-same, ssns_of, skipped_each, Reception, forward_refusal, TsnOpposite, Filter, skipped_to}
+use Rattle.sctp_link.proofs.Names.{is_opposite, ReceiverRefusal, Transmission, Standing, OpenStream, join, stream_numbers, on_inbound, forwarded_on, Sides}
+use Rattle.sctp_link.proofs.Names.{IsAligned, sides, reception_of, with_filter_of, follow_forward_tsn, after_forward, Named, Message, State, IsLinked}
+use Rattle.sctp_link.proofs.Names.{IsOpenStream, stats_of, filter_shown, IsApart, message_record, progress_of, stream_record, named_from, none_named}
+use Rattle.sctp_link.proofs.Names.{with_names, standing_named, wire_skip, length-mapped, get_or-map, map-twice, filter-skipped, queue-skip, next-skip}
+use Rattle.sctp_link.proofs.Names.{named-from, skipped-number, skipped-size, at_or_before, Skips, skips-in, unless-refused}
 use Rattle.sctp_model.specs.declared.event.Event.TheVariants as E
 use Rattle.sctp_model.proofs.sender.Network
 use Rattle.sctp_refinement.specs.Naming.{on_stream}
 use Rattle.sctp_refinement.proofs.acknowledging.QuietSender
 use Rattle.sctp_receiver.specs.Receiver as R
-use Rattle.sctp_list_lemmas.specs.Serial.{at_or_before}
 use Rattle.sctp_link.proofs.sides.Aligned.{reception-is, forward-aligned, forward-sides, standing-mapped, with-progress}
 use Rattle.sctp_link.proofs.sides.Joined.{progress-mapped}
 use Rattle.sctp_link.proofs.receiver.Came.{filter-gone, never-opposite, passed-is}
 use Rattle.sctp_link.proofs.upkeep.Facts.{facts}
 use Rattle.sctp_link.proofs.upkeep.StreamsAfter.{stream-then, linked-then}
-use Rattle.sctp_link.proofs.skipping.SkipComes.{Skips, skips-in, names-are, open-at, spans}
+use Rattle.sctp_link.proofs.skipping.SkipComes.{names-are, open-at, spans}
 use Rattle.sctp_link.proofs.skipping.NamesInTurn.{pairs_of, queue-in-turn}
 
 -- a stream after it
@@ -50,7 +47,7 @@ module _ {sum : List ℕ → ℕ} {x : State} (l : IsLinked sum x) (k upto : ℕ
   counters-stay t = counters-same w.setup w (E.Arrive k) t (facts l).consistent refl refl
 
   skips : Skips w upto names
-  skips = skips-in l k upto names e
+  skips = skips-in (facts l) k upto names e
 
   -- ## Both sides
 
@@ -158,12 +155,6 @@ module _ {sum : List ℕ → ℕ} {x : State} (l : IsLinked sum x) (k upto : ℕ
     linked-follow skipped filter count is =
         linked-skip filter (record w { streams = map stream_record (map turned x.open_streams); skipped = skipped }) (filter-then filter is)
         (recorded-skipped skipped count)
-
--- ## The receiver, and the progress
-
-unless-refused : {T E P : Type 0} (r : Result T E) (o : Option E) → OnOk r P → IfErr r (λ e. o ≡ Some e) → o ≡ None → P
-unless-refused (Ok x) o p h none = p
-unless-refused (Err e) o p h none = absurd (cc)
 
 module _ {t : Transmission} {r : Reception} (s : Reception) {ps : List Standing} (a : IsAligned t r ps) (f : ForwardTsn)
     (none : forward_refusal f (reception_of (sides t r ps)) ≡ None) where

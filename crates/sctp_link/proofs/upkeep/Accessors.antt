@@ -2,8 +2,7 @@
 use Rattle.sctp_link.proofs.Names.{◌≡◌, ℕ, ◌-◌, false, List, map, Bor, Option, Some, None, refl, ap, sym, ◌∙◌, option_map, option_copied, find, if◌then◌else◌}
 use Rattle.sctp_link.proofs.Names.{MatchOption, bytes_of, ReassemblyState, Outbound, LinkRecord, is_open, ledger, in_all, written_bytes, buffered_amount}
 use Rattle.sctp_link.proofs.Names.{counters_of, RefinesOutbound, amount, counters_on, reassembly_of, OpenStream, has_number, stats_in, State, IsLinked}
-use Rattle.sctp_link.proofs.Names.{ledger_of, stats_of, stream_record, some-same}
-use Rattle.sctp_refinement.proofs.amounts.InFlightBytes.{ledger-is, ledger_by}
+use Rattle.sctp_link.proofs.Names.{ledger_of, stats_of, stream_record, some-same, ledger-is, ledger_by}
 use Rattle.sctp_outbound.specs.pending_queue.PendingQueue.{total_bytes}
 use Rattle.sctp_link.specs.declared.link.accessors.Ledger.{Ledger}
 use Rattle.sctp_link.proofs.upkeep.Facts.{over}

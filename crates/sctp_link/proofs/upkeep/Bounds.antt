@@ -1,8 +1,7 @@
 -- How much can have been written.
 use Rattle.sctp_link.proofs.Names.{◌≡◌, ℕ, ◌+◌, ◌≤◌, List, length, refl, arith, ◌==◌, always, bytes_of, total_bytes, message_at, in_all, written_bytes}
 use Rattle.sctp_link.proofs.Names.{pending_bytes, in_flight_bytes, released_bytes, balances, amount, RefinesOutbound, Outbound, State, IsLinked}
-use Rattle.sctp_refinement.proofs.amounts.InFlightBytes.{in-flight-bytes}
-use Rattle.sctp_list_lemmas.proofs.Totals.{total-wider}
+use Rattle.sctp_link.proofs.Names.{in-flight-bytes, total-wider}
 use Rattle.sctp_model.specs.Amounts.{on_stream}
 use Rattle.sctp_refinement.proofs.amounts.PendingBytes.{pending-bytes}
 use Rattle.sctp_link.proofs.upkeep.Facts.{over}

@@ -1,7 +1,7 @@
 -- Streams of one number are changed: what of a list stays, and what stands at each place.
-use Rattle.sctp_link.proofs.Names.{OpenStream, has_number, ◌≡◌, ℕ, ◌<◌, Bool, true, false, List, [], ◌∷◌, length, map, refl, ap, sym, ◌∙◌, arith, if◌then◌else◌}
-use Rattle.sctp_link.proofs.Names.{◌==◌, slice_index_or, change_where, subst, same-is, same-yes, not_both, change_where-map, length-change_where, StreamRecord}
-use Rattle.sctp_link.proofs.Names.{stream_record, map-at, same-turned}
+use Rattle.sctp_link.proofs.Names.{OpenStream, has_number, ◌≡◌, ℕ, ◌<◌, Bool, true, false, List, [], ◌∷◌, length, map, refl, ap, sym, ◌∙◌, arith}
+use Rattle.sctp_link.proofs.Names.{if◌then◌else◌, ◌==◌, slice_index_or, change_where, subst, same-is, same-yes, not_both, change_where-map}
+use Rattle.sctp_link.proofs.Names.{length-change_where, StreamRecord, stream_record, map-at, same-turned}
 
 -- what the change leaves of a stream it leaves of the list
 pub fields-same : {A : Type 0} (f : OpenStream → A) (g : OpenStream → OpenStream) → ((l : OpenStream) → f (g l) ≡ f l) → (s : ℕ) (ls : List OpenStream)

@@ -1,7 +1,7 @@
 -- A stream looked up among those that a link keeps.
 use Rattle.sctp_link.proofs.Names.{◌≡◌, ℕ, ◌<◌, true, false, List, length, map, Option, Some, None, refl, ap, sym, ◌∙◌, ◌==◌, find, is_some, option_map}
 use Rattle.sctp_link.proofs.Names.{slice_index_or, subst, ReassemblyState, LinkRecord, is_open, stream_at, OpenStream, has_number, State, IsLinked}
-use Rattle.sctp_link.proofs.Names.{IsOpenStream, stream_record}
+use Rattle.sctp_link.proofs.Names.{IsOpenStream, stream_record, not_both}
 use Rattle.sctp_link.proofs.upkeep.Apart.{number-found, stream-found}
 use Rattle.sctp_link.proofs.upkeep.StreamPlaces.{placed}
 
@@ -12,6 +12,15 @@ none-open w s ls same e = ap is_some (ap (find (λ r. r.stream == s)) same ∙ s
 pub some-open : (w : LinkRecord) (s : ℕ) (ls : List OpenStream) (l : OpenStream) → w.streams ≡ map stream_record ls → find (has_number s) ls ≡ Some l
     → stream_at w s ≡ Some (stream_record l)
 some-open w s ls l same e = ap (find (λ r. r.stream == s)) same ∙ stream-found s ls ∙ ap (option_map stream_record) e
+
+-- an open one is kept
+pub open-kept : (w : LinkRecord) (s : ℕ) (ls : List OpenStream) → w.streams ≡ map stream_record ls → is_open w s ≡ true
+    → (l : OpenStream) × (find (has_number s) ls ≡ Some l)
+open-kept w s ls same open' = by (find (has_number s) ls) refl
+  where
+    by : (o : Option OpenStream) → find (has_number s) ls ≡ o → (l : OpenStream) × (find (has_number s) ls ≡ Some l)
+    by None e = absurd (not_both (sym (none-open w s ls same e) ∙ open'))
+    by (Some l) e = (l, e)
 
 -- what is kept of an open stream, at its place
 pub record IsKept (sum : List ℕ → ℕ) (x : State) (s : ℕ) (l : OpenStream) : Type 0 where

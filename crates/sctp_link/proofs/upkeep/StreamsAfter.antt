@@ -1,13 +1,13 @@
 -- What an event that leaves the sender's side as it was makes of a link.
-use Rattle.sctp_link.proofs.Names.{◌≡◌, ℕ, ◌+◌, ◌-◌, ◌<◌, ◌%◌, ◌^◌, true, List, ◌∷◌, length, Some, None, ap, sym, ◌∙◌, slice_get, slice_index_or, subst}
-use Rattle.sctp_link.proofs.Names.{numbers_where, numbers_from, total_over, Event, Setup, LinkRecord, ordered_before, tsn_of, next_of, contents_of, filter_of}
-use Rattle.sctp_link.proofs.Names.{StandsFor, refusal_of, reply_to, after, IsSetup, Shape, shape, sent, parts, on, Same, reassembly_of, Filter, amount}
-use Rattle.sctp_link.proofs.Names.{keeps_amounts, counters_on, begun_on, Indexed, SameToSender, outbound-same, amount-same, OpenStream, stats_in}
-use Rattle.sctp_link.proofs.Names.{stream_numbers, State, IsLinked, IsOpenStream, stats_of, filter_shown, IsDatagram, IsApart, stands-then, says-still}
-use Rattle.sctp_model.specs.LinkRecord as W
+use Rattle.sctp_link.proofs.Names.{◌≡◌, ℕ, ◌+◌, ◌-◌, ◌<◌, ◌%◌, ◌^◌, true, List, ◌∷◌, length, None, ap, sym, ◌∙◌, slice_index_or, subst, numbers_where}
+use Rattle.sctp_link.proofs.Names.{numbers_from, total_over, Event, Setup, LinkRecord, ordered_before, tsn_of, next_of, filter_of, StandsFor, refusal_of}
+use Rattle.sctp_link.proofs.Names.{reply_to, after, IsSetup, Shape, shape, sent, parts, on, Same, reassembly_of, Filter, amount, keeps_amounts, counters_on}
+use Rattle.sctp_link.proofs.Names.{begun_on, Indexed, SameToSender, outbound-same, amount-same, OpenStream, stats_in, stream_numbers, State, IsLinked}
+use Rattle.sctp_link.proofs.Names.{IsOpenStream, stats_of, filter_shown, IsApart, stands-then}
 use Rattle.sctp_refinement.proofs.sending.Begun
 use Rattle.sctp_link.proofs.upkeep.Facts.{facts}
 use Rattle.sctp_link.proofs.sender.Beginning.{index_kept, indexed-of}
+use Rattle.sctp_link.proofs.upkeep.Frames.{encodings-same}
 
 module _ {sum : List ℕ → ℕ} {x : State} (l : IsLinked sum x) (e : Event) (none : refusal_of x.recorded e ≡ None)
     (s : Same x.recorded (after x.recorded e)) where
@@ -25,12 +25,6 @@ module _ {sum : List ℕ → ℕ} {x : State} (l : IsLinked sum x) (e : Event) (
 
   stands-same : StandsFor v.setup v ((e, reply_to w e) ∷ l.history)
   stands-same = subst (λ (t : Setup). StandsFor t v ((e, reply_to w e) ∷ l.history)) (sym s.setup) (stands-then e none l.stands)
-
-  encodings-same : (k : ℕ) (d : List ℕ) (g : W.Datagram) → slice_get v.network k ≡ Some g → IsDatagram sum (contents_of v g) (slice_index_or x.datagrams k d)
-  encodings-same k d g new =
-      let old : slice_get w.network k ≡ Some g = ap (λ ds. slice_get ds k) (sym s.network) ∙ new in
-      let says = says-still (facts l) e none k g g old new in
-      subst (λ c. IsDatagram sum c (slice_index_or x.datagrams k d)) (sym says) (l.encodings k d g old)
 
   -- what such an event leaves of an open stream
   pub stream-then : keeps_amounts e ≡ true → (y z : OpenStream) → IsOpenStream w y → z.state.stream_identifier ≡ y.state.stream_identifier
@@ -81,7 +75,7 @@ module _ {sum : List ℕ → ℕ} {x : State} (l : IsLinked sum x) (e : Event) (
       low = indexed-then.low;
       open_streams = each;
       apart = found;
-      encodings = encodings-same;
+      encodings = encodings-same l e none s.network;
     }
 
     -- the link after it

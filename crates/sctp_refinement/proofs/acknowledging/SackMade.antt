@@ -1,22 +1,15 @@
 -- The next SACK says what the filter of TSNs holds.
-use Rattle.std.proofs.Common.{◌≡◌, ℕ, ◌<◌, ◌≤◌, ◌^◌, List, length, take, refl, ap, sym}
+use Rattle.std.proofs.Common.{◌≡◌, ℕ, ◌<◌, ◌≤◌, ◌^◌, List, length, take, ap, sym}
 use Rattle.sctp_list_lemmas.specs.Kept.{runs_of}
 use Rattle.sctp_data.specs.declared.chunk.chunk_payload_data.ChunkPayloadData.{ChunkPayloadData}
 use Rattle.sctp_outbound.specs.payload_queue.Blocks.{gap_offsets}
-use Rattle.sctp_outbound.specs.outbound_queue.OutboundQueue.{Outbound}
 use Rattle.sctp_model.specs.LinkRecord.{LinkRecord}
 use Rattle.sctp_model.specs.Reports.{report_of}
-use Rattle.sctp_model.specs.Changes.{after_ack}
 use Rattle.sctp_refinement.specs.Holds.{seen_of}
-use Rattle.sctp_refinement.specs.Refines.{RefinesOutbound}
 use Rattle.sctp_refinement.proofs.arriving.FilterQueue.{distances-is}
-use Rattle.sctp_refinement.proofs.acknowledging.QuietSender.{outbound-same, same-self}
 use Rattle.sctp_serial.specs.DataChunks.{tsns}
 
 -- its gap blocks are the first that fit of those that the queue tells
 pub blocks-are : (w : LinkRecord) (credit : ℕ) (cs : List ChunkPayloadData) → w.skipped ≤ length w.slots → length w.slots < 2 ^ 31 → tsns cs ≡ (seen_of w).held
     → (report_of w credit).blocks ≡ take 16379 (runs_of (gap_offsets (seen_of w).cum cs))
 blocks-are w credit cs made few held = ap (λ ds. take 16379 (runs_of ds)) (sym (distances-is w cs made few held))
-
-pub reported-outbound : (w : LinkRecord) (credit : ℕ) (q : Outbound) → RefinesOutbound w q → RefinesOutbound (after_ack w credit) q
-reported-outbound w credit q t = outbound-same w (after_ack w credit) (same-self w (after_ack w credit) refl refl refl refl) q t

@@ -1,6 +1,5 @@
 use Rattle.sctp_link.proofs.Names.{◌≡◌, ◌++◌, ◌∷◌, [], map, ap, sym, subst, ◌∙◌, arith, rules, reverse, AllByRecursion, reverse-append, nil_from_length, fresh}
-use Rattle.sctp_link.proofs.Names.{wire_of, IsFreshKind, append_assoc}
-use Rattle.sctp_refinement.proofs.Lists.{front_all, all_last}
+use Rattle.sctp_link.proofs.Names.{wire_of, IsFreshKind, append_assoc, front_all, all_last}
 use Rattle.sctp_link.proofs.upkeep.Packets.{data_kind, fresh_data, last_data, none_data}
 use Rattle.sctp_link.proofs.datagram.data_chunks.Goals as goal
 

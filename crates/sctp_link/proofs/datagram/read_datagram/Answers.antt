@@ -1,6 +1,5 @@
 use Rattle.sctp_link.proofs.Names.{◌≡◌, ◌∷◌, [], ap, sym, subst, ◌∙◌, arith, map, AllByRecursion, err_from_is_err_and, nil_from_length, wire_of, IsFreshKind}
-use Rattle.sctp_link.proofs.Names.{packet_with}
-use Rattle.sctp_refinement.proofs.Lists.{all_last}
+use Rattle.sctp_link.proofs.Names.{packet_with, all_last}
 use Rattle.sctp_link.proofs.upkeep.Packets.{some_kind, last_kind}
 use Rattle.sctp_link.proofs.datagram.read_datagram.Goals as goal
 

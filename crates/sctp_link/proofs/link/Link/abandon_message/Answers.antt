@@ -1,17 +1,18 @@
 use Rattle.sctp_link.proofs.Names.{◌≡◌, ◌<◌, ◌^◌, ◌++◌, Bool, true, false, ap, ◌∙◌, Some, None, refl, rules, arith, subst, length-mapped, slice_set}
 use Rattle.sctp_link.proofs.Names.{if◌then◌else◌, not, ◌&&◌, TsnsUsedUp, message_to_abandon, after_abandonment, has_tail_at, may_send, message_of, place_of}
-use Rattle.sctp_link.proofs.Names.{is_partially_sent, refusal_of, state_in, record_in, terminals, message_record}
+use Rattle.sctp_link.proofs.Names.{is_partially_sent, refusal_of, record_in, terminals, message_record, Gives, gives, stream-is, high, held, partial-tail}
+use Rattle.sctp_link.proofs.Names.{tail-fits}
 use Rattle.sctp_serial.specs.Window.{is_held}
 use Rattle.sctp_sender.specs.declared.sender.refusal.SenderRefusal.TheVariants.{NotInFlight}
 use Rattle.sctp_sender.specs.Abandonment.{abandon_refusal}
 use Rattle.sctp_link.proofs.sides.Changes.{only-memory}
 use Rattle.sctp_model.specs.declared.event.Event.TheVariants as E
 use Rattle.sctp_link.proofs.abandonment.Abandoning.{Settled, settled}
-use Rattle.sctp_link.proofs.abandonment.QueueAnswers.{Gives, gives, stream-is, high, held, partial-tail, tail-fits}
 use Rattle.sctp_link.proofs.upkeep.Observed.{slot-message}
 use Rattle.sctp_link.proofs.link.Link.abandon_message.Given.{Over}
 use Rattle.sctp_link.proofs.link.Link.abandon_message.Goals.{After-settle}
 use Rattle.sctp_link.proofs.link.Link.abandon_message.Goals as goal
+use Rattle.sctp_link.proofs.upkeep.Facts.{sends}
 
 must : (b : Bool) → (b ≡ false → false ≡ true) → b ≡ true
 must true h = refl
@@ -29,7 +30,7 @@ is_partially_sent-partial-requires g c =
     let ok : refusal_of (record_in c.self.inside) (E.Abandon c.args.tsn) ≡ None = rw (← c.self.view_is) at c.requires in
     let fits : c.args.tsn < 2 ^ 32 = search rules in
     let there = slot-message c.self.inside.slots.items (place_of (record_in c.self.inside) c.args.tsn) c.index.result.now c.self.invariant.1 refl
-    (high c.self.invariant.1 c.args.tsn fits ok) c.index.ensures in
+    (high (sends c.self.invariant.1) c.args.tsn fits ok) c.index.ensures in
     rw (← c.self.view_is) there.1
 
 pub memory-requires : goal.memory-requires
@@ -39,8 +40,8 @@ memory-requires g c =
     let sum = g.C.Checksum.sum c.self.inside.checksum in
     only-memory c.in-Err.refusal (abandon_refusal c.args.tsn c.self.inside.sender.flight)
     (no-refusal (is_held c.self.inside.sender.flight.queue.inflight.chunks c.args.tsn) (has_tail_at c.self.inside.sender.flight c.args.tsn)
-    (may_send c.self.inside.sender.flight) (held c.self.invariant.1 c.args.tsn fits ok)
-    (tail-fits c.self.invariant.1 c.args.tsn fits ok)) c.in-Err.ensures.refused
+    (may_send c.self.inside.sender.flight) (held (sends c.self.invariant.1) c.args.tsn fits ok)
+    (tail-fits (sends c.self.invariant.1) c.args.tsn fits ok)) c.in-Err.ensures.refused
 
 pub returns-in-Err-clause-wants : goal.returns-in-Err-clause-wants
 returns-in-Err-clause-wants g c =
@@ -48,15 +49,15 @@ returns-in-Err-clause-wants g c =
     let fits : c.args.tsn < 2 ^ 32 = search rules in
     rw (← c.self.view_is)
     (must (is_partially_sent (record_in c.self.inside) (message_of (record_in c.self.inside) (place_of (record_in c.self.inside) c.args.tsn)))
-    (λ none. c.in-Err.ensures.no_tail (held c.self.invariant.1 c.args.tsn fits ok)
-    (partial-tail c.self.invariant.1 c.args.tsn fits ok ∙ none)))
+    (λ none. c.in-Err.ensures.no_tail (held (sends c.self.invariant.1) c.args.tsn fits ok)
+    (partial-tail (sends c.self.invariant.1) c.args.tsn fits ok ∙ none)))
 
 pub index_mut-message-requires : goal.index_mut-message-requires
 index_mut-message-requires g c =
     let ok : refusal_of (record_in c.self.inside) (E.Abandon c.args.tsn) ≡ None = rw (← c.self.view_is) at c.requires in
     let fits : c.args.tsn < 2 ^ 32 = search rules in
     let there = slot-message c.self.inside.slots.items (place_of (record_in c.self.inside) c.args.tsn) c.index.result.now c.self.invariant.1 refl
-    (high c.self.invariant.1 c.args.tsn fits ok) c.index.ensures in
+    (high (sends c.self.invariant.1) c.args.tsn fits ok) c.index.ensures in
     omega (arith, there.1, length-mapped message_record c.self.inside.messages.items, c.self.inside.messages.ok.0)
 
 -- What becomes of the message.
@@ -72,10 +73,11 @@ gone g c =
     let o = message_to_abandon c.args.tsn c.self.inside.sender.flight in
     let then' = after_abandonment o c.self.inside.sender.flight in
     let there = slot-message c.self.inside.slots.items (place_of (record_in c.self.inside) c.args.tsn) c.index.result.now l refl
-    (high l c.args.tsn fits ok) c.index.ensures in
+    (high (sends l) c.args.tsn fits ok) c.index.ensures in
     let left = rw c.in-Ok.ensures.ok at c.in-Ok.ensures.released in
-    let r = subst (λ k. Gives (state_in c.self.inside) (E.Abandon c.args.tsn) k s bytes then'.queue then'.next_tsn) (ap (λ t. t.message) there.0)
-    (gives l c.args.tsn fits ok s bytes then'.queue then'.next_tsn c.in-Ok.ensures.stream refl refl left) in
+    let r = subst (λ k. Gives (record_in c.self.inside) c.self.inside.sender.flight.queue (E.Abandon c.args.tsn) k s bytes then'.queue then'.next_tsn)
+    (ap (λ t. t.message) there.0)
+    (gives (sends l) c.args.tsn fits ok s bytes then'.queue then'.next_tsn c.in-Ok.ensures.stream refl refl left) in
     let partial : c.is_partially_sent-partial.result ≡ is_partially_sent (record_in c.self.inside) n =
     rw (← c.self.view_is) at c.is_partially_sent-partial.ensures in
     settled c.self.inside c.self.invariant.0 l (E.Abandon c.args.tsn) ok o r tt tt refl refl c.abandon.new.self c.in-Ok.ensures.ok
@@ -92,7 +94,7 @@ returns-clause-moves g c = rw (← c.self.view_is) (gone g (goal.at.returns-clau
 pub returns-clause-stream : goal.returns-clause-stream
 returns-clause-stream g c =
     let ok : refusal_of (record_in c.self.inside) (E.Abandon c.args.tsn) ≡ None = rw (← c.self.view_is) at c.requires in
-    rw (← c.self.view_is) (stream-is c.self.invariant.1 c.args.tsn (search rules) ok c.in-Ok.gone.stream c.in-Ok.ensures.stream)
+    rw (← c.self.view_is) (stream-is (sends c.self.invariant.1) c.args.tsn (search rules) ok c.in-Ok.gone.stream c.in-Ok.ensures.stream)
 
 pub returns-clause-bytes : goal.returns-clause-bytes
 returns-clause-bytes g c = rw (← c.self.view_is) (gone g (goal.at.returns-clause-bytes g c).After-settle).grows

@@ -2,14 +2,14 @@ use Rattle.sctp_link.proofs.Names.{◌≡◌, ◌+◌, ◌-◌, ◌<◌, ◌≤�
 use Rattle.sctp_link.proofs.Names.{list_any, ChunkSelectiveAck, sack_of, bytes_of, is_in_blocks, Outbound, with_items, with_items_is, cumulative_tsn, Report}
 use Rattle.sctp_link.proofs.Names.{refusal_of, acknowledged_at, released_by, after_sack, sack_refusal, after_releases, Sides, Transmission, IsMarking, and_run}
 use Rattle.sctp_link.proofs.Names.{and_blocks, in_block, IsLinked, Inside, Slot, state_from, record_from, record_in, state_in, sides_in, count-made}
-use Rattle.sctp_refinement.proofs.acknowledging.Reported.{sack-there}
+use Rattle.sctp_link.proofs.Names.{sack-there}
 use Rattle.sctp_model.specs.declared.event.Event.TheVariants as E
 use Rattle.sctp_model.specs.LinkRecord.{Sack}
 use Rattle.sctp_model.specs.Reply as R
 use Rattle.sctp_link.proofs.sides.Changes.{only-memory, acked-aligned, acked-sides}
 use Rattle.sctp_link.proofs.upkeep.Facts.{facts}
-use Rattle.sctp_link.proofs.acknowledging.SackTaken.{Taken, wire_sack, reads-sack, count-is, reported, marking-first, not-refused}
-use Rattle.sctp_link.proofs.acknowledging.SackTaken.{within-run, within-blocks, taken-all}
+use Rattle.sctp_link.proofs.acknowledging.SackTaken.{Taken, wire_sack, reads-sack, count-is, reported, marking-first, not-refused, within-run, within-blocks}
+use Rattle.sctp_link.proofs.acknowledging.SackTaken.{taken-all}
 use Rattle.sctp_link.proofs.link.Link.acked.Given.{Over}
 use Rattle.sctp_link.proofs.link.Link.acked.Goals.{After-max-taken, After-rebase, After-acknowledge_blocks}
 use Rattle.sctp_link.proofs.link.Link.acked.Goals as goal

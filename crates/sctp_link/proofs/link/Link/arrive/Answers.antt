@@ -1,7 +1,7 @@
 use Rattle.sctp_link.proofs.Names.{◌≡◌, Some, None, ap, ◌∙◌, arith, refl, refusal_of, record_in, kind_record}
 use Rattle.sctp_model.specs.declared.event.Event.TheVariants as E
 use Rattle.sctp_link.proofs.receiver.Comes.{never-sack, there-is}
-use Rattle.sctp_link.proofs.skipping.SkipComes.{kept-kind}
+use Rattle.sctp_link.proofs.upkeep.Observed.{kept-kind}
 use Rattle.sctp_link.proofs.link.Link.arrive.Goals as goal
 
 pub index-requires : goal.index-requires

@@ -2,18 +2,21 @@ use Rattle.sctp_link.proofs.Names.{◌≡◌, ◌≤◌, ℕ, List, None, Some, 
 use Rattle.sctp_link.proofs.Names.{slice_index_or, fold, with_items, vec_len, with_items_is, list_any, Data, chunk_at, receive_slot, refusal_of, IsRight}
 use Rattle.sctp_link.proofs.Names.{ChunkPayloadData, Reception, StopsAtBy, data_refusal, ReceiverRefusal, numbers_of, Transmission, Standing, IsApart, Sides}
 use Rattle.sctp_link.proofs.Names.{IsAligned, CanTake, TakesEach, sides, record_in, record_from, state_from, sides_in, IsLinked, Inside, Slot, kind_record}
-use Rattle.sctp_link.proofs.Names.{slot_record, number_at, arrived_in, repeated_of, is_first, length-mapped}
+use Rattle.sctp_link.proofs.Names.{slot_record, number_at, arrived_in, repeated_of, is_first, length-mapped, all-inside}
 use Rattle.sctp_model.specs.declared.event.Event.TheVariants as E
 use Rattle.sctp_receiver.specs.declared.receiver.refusal.ReceiverRefusal.TheVariants.{OutOfMemory}
 use Rattle.sctp_link.proofs.sides.Aligned as Aligned
 use Rattle.sctp_link.proofs.sides.Taking.{each-aligned, each-taken, never-stops}
 use Rattle.sctp_link.specs.Replies.{reply_of}
-use Rattle.sctp_link.proofs.receiver.Comes.{said, said-fresh, says-data, places-kept, kind-data, never-other, there-is}
+use Rattle.sctp_link.proofs.receiver.Comes.{said, said-fresh, says-data, places-kept, never-other, there-is}
 use Rattle.sctp_link.proofs.receiver.SlotLists.{Came, numbers-are, can, came}
-use Rattle.sctp_link.proofs.receiver.Received.{all-come, receiver-of, all-inside, linked-received, right-received}
+use Rattle.sctp_link.proofs.receiver.Received.{receiver-of, linked-received, right-received}
+use Rattle.sctp_refinement.proofs.arriving.AllCome.{all-come}
 use Rattle.sctp_link.proofs.link.Link.arrive_data.Given.{Over}
 use Rattle.sctp_link.proofs.link.Link.arrive_data.Goals.{After-index, In-Data, After-deref-4, In-Ok, After-record_arrivals-new}
 use Rattle.sctp_link.proofs.link.Link.arrive_data.Goals as goal
+use Rattle.sctp_link.proofs.upkeep.Facts.{facts, told}
+use Rattle.sctp_link.proofs.upkeep.Observed.{kind-there}
 
 -- no chunk is refused but for memory
 only-memory : {t : Transmission} {r : Reception} {ps : List Standing} (cs : List ChunkPayloadData) (ns : List ℕ) → IsAligned t r ps
@@ -78,7 +81,7 @@ done g c ok apart' h =
     (each-taken c.data_each.new.receiver c.deref-3.result.now c.deref-4.result.now bs c.self.invariant.0 apart' h.many c.in-Ok.ensures.taken) in
     let taken : TakesEach (map (chunk_at w) ps) (map (number_at a.slots.items) ps) bs (sides_in a) y = rw (h.chunks, h.numbers) at each in
     came (number_at a.slots.items) ps (map (chunk_at w) ps) bs y (numbers-are w a.slots.items refl) (receiver-of c.self.invariant.1 (sides_in a) refl refl refl)
-    (all-come c.self.invariant.1 c.args.k ps ok h.there) taken
+    (all-come (told c.self.invariant.1) c.args.k ps ok h.there) taken
 
 -- What is recorded of them.
 record Recorded {C : Type 0} (a : Inside C) (ps : List ℕ) (slots : List Slot) (dups : List ℕ) : Type 0 where
@@ -119,12 +122,13 @@ pub unreachable-requires : goal.unreachable-requires
 unreachable-requires g c =
     let t = there g (goal.at.unreachable-requires g c).After-index in
     never-other c.index-2.result.now.kind t.0 c.in_default.not-Data
-    (kind-data c.self.inside.network.items c.args.k c.index-2.result.now t.0 t.1 c.index-2.ensures)
+    (kind-there c.self.inside.network.items c.args.k c.index-2.result.now (Data t.0) t.1 c.index-2.ensures)
 
 -- each place is that of a slot
 inside : (g : Over) (c : In-Data g) → slice_get (record_in c.self.inside).network c.args.k ≡ Some (Data c.in-Data.places.items)
     → (i : ℕ) → i < length c.in-Data.places.items → slice_index_or c.in-Data.places.items i 0 < length c.self.inside.slots.items
-inside g c t i lt = omega (arith, all-inside c.self.invariant.1 c.args.k c.in-Data.places.items t i lt, length-mapped slot_record c.self.inside.slots.items)
+inside g c t i lt =
+    omega (arith, all-inside (facts c.self.invariant.1) c.args.k c.in-Data.places.items t i lt, length-mapped slot_record c.self.inside.slots.items)
 
 pub message_numbers-requires : goal.message_numbers-requires
 message_numbers-requires g c =
@@ -143,7 +147,7 @@ memory_of_receiver-requires g c =
     let ps = c.in-Data.places.items in
     let able : CanTake c.deref-3.result.now c.deref-4.result.now (sides_in a) = rw (h.chunks, h.numbers)
     (can (number_at a.slots.items) ps (map (chunk_at w) ps) (numbers-are w a.slots.items refl) (receiver-of c.self.invariant.1 (sides_in a) refl refl refl)
-    (all-come c.self.invariant.1 c.args.k ps (none g p.After-index) h.there)) in
+    (all-come (told c.self.invariant.1) c.args.k ps (none g p.After-index) h.there)) in
     only-memory c.deref-3.result.now c.deref-4.result.now c.self.invariant.0 (apart g p.After-index) able c.in-Err.refusal c.in-Err.ensures.refused
 
 pub record_arrivals-new-requires-clause-inside : goal.record_arrivals-new-requires-clause-inside

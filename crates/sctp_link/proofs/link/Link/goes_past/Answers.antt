@@ -1,8 +1,8 @@
 use Rattle.sctp_link.proofs.Names.{◌≡◌, ℕ, ◌<◌, true, false, refl, ap, ◌∙◌, arith, length, ◌==◌, nat_tests, by_last, same-yes, belongs_to, message_of}
-use Rattle.sctp_link.proofs.Names.{record_in}
+use Rattle.sctp_link.proofs.Names.{record_in, past-none, past-some}
 use Rattle.sctp_link.proofs.upkeep.Facts.{facts}
 use Rattle.sctp_link.proofs.receiver.Hears.{slots-made}
-use Rattle.sctp_link.proofs.skipping.SkipMade.{past-none, past-some, slot-of}
+use Rattle.sctp_link.proofs.skipping.SkipMade.{slot-of}
 use Rattle.sctp_link.proofs.link.Link.goes_past.Goals as goal
 
 pub overflow_step-later : goal.overflow_step-later

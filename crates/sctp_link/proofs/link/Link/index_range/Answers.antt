@@ -1,10 +1,9 @@
 use Rattle.sctp_link.proofs.Names.{◌≡◌, ℕ, ap, sym, ◌∙◌, ◌<◌, ◌-◌, true, List, Some, None, refl, arith, length, find, min, max, option_map, slice_index_or}
 use Rattle.sctp_link.proofs.Names.{deque_len, not_both, ChunkSet, ReassemblyState, is_open, index_of, held_on, is_held, set_of, OpenStream, has_number}
-use Rattle.sctp_link.proofs.Names.{record_in, state_in, sides_in, State, IsLinked, InboundStream}
+use Rattle.sctp_link.proofs.Names.{record_in, state_in, sides_in, State, IsLinked, InboundStream, some-same}
 use Rattle.sctp_link.proofs.sides.Changes.{inbound-answered, next-answered}
-use Rattle.sctp_link.proofs.upkeep.Lookups.{none-open, queue-none}
-use Rattle.sctp_link.proofs.upkeep.StreamPlaces.{placed}
-use Rattle.sctp_link.proofs.receiver.Hears.{none-answered, answered-next, answered-queue, ends-empty, set-held, low-front, high-back, none-there}
+use Rattle.sctp_link.proofs.upkeep.Lookups.{none-open, queue-none, queue-at}
+use Rattle.sctp_link.proofs.receiver.Hears.{none-answered, ends-empty, set-held, low-front, high-back, none-there}
 use Rattle.sctp_link.proofs.link.Link.index_range.Given.{Over}
 use Rattle.sctp_link.proofs.link.Link.index_range.Goals.{After-ordered-held}
 use Rattle.sctp_link.proofs.link.Link.index_range.Goals as goal
@@ -31,27 +30,18 @@ record IsAnswered (x : State) (s next : ℕ) (sets : List ChunkSet) : Type 0 whe
   next_is : next ≡ (slice_index_or x.open_streams at d).next
   held : sets ≡ (slice_index_or x.open_streams at d).inbound.queue.held.ordered
 
-answered-at : (x : State) (s next : ℕ) (q : ReassemblyState) {sets : List ChunkSet} → Some next ≡ option_map (λ l. l.next) (find (has_number s) x.open_streams)
-    → Some q ≡ option_map (λ l. l.inbound.queue) (find (has_number s) x.open_streams) → sets ≡ q.held.ordered → IsAnswered x s next sets
-answered-at x s next q next_answered queue_answered sets_are =
-    let answered = answered-next (find (has_number s) x.open_streams) next next_answered in
-    let place = placed s x.open_streams answered.0 answered.1.0 in
-    let is : slice_index_or x.open_streams place.0 answered.0 ≡ answered.0 = place.1.1 answered.0 in
-    record {
-      at = place.0;
-      d = answered.0;
-      lt = place.1.0;
-      found = answered.1.0 ∙ ap (λ l. Some l) (sym is);
-      next_is = answered.1.1 ∙ ap (λ (l : OpenStream). l.next) (sym is);
-      held = sets_are
-          ∙ ap (λ (r : ReassemblyState). r.held.ordered) (answered-queue (find (has_number s) x.open_streams) answered.0 q answered.1.0 queue_answered)
-          ∙ ap (λ (l : OpenStream). l.inbound.queue.held.ordered) (sym is);
-    }
-
 at : (g : Over) (c : After-ordered-held g) → IsAnswered (state_in c.self.inside) c.args.stream c.in-Some.next c.ordered-held.result.now.items
-at g c = answered-at (state_in c.self.inside) c.args.stream c.in-Some.next c.in-Some-reassembly.queue.now
-    (next-answered c.self.invariant.0 c.args.stream (Some c.in-Some.next) c.in-Some.ensures) (inbound-answered c.self.invariant.0
-    (λ (l : InboundStream). l.queue) c.args.stream (Some c.in-Some-reassembly.queue.now) c.in-Some-reassembly.ensures) c.ordered-held.ensures
+at g c =
+    let p = queue-at c.args.stream (sides_in c.self.inside).streams c.in-Some-reassembly.queue.now (inbound-answered c.self.invariant.0
+    (λ (l : InboundStream). l.queue) c.args.stream (Some c.in-Some-reassembly.queue.now) c.in-Some-reassembly.ensures) in
+    record {
+      at = p.at;
+      d = p.stream;
+      lt = p.inside;
+      found = p.found;
+      next_is = some-same (next-answered c.self.invariant.0 c.args.stream (Some c.in-Some.next) c.in-Some.ensures ∙ ap (option_map (λ l. l.next)) p.found);
+      held = c.ordered-held.ensures ∙ ap (λ (r : ReassemblyState). r.held.ordered) p.queue;
+    }
 
 -- The set at a place is of the message that is held there.
 set-answered : {sum : List ℕ → ℕ} {x : State} (l : IsLinked sum x) (s next : ℕ) (sets : List ChunkSet) (t : IsAnswered x s next sets) (i : ℕ) (e : ChunkSet)

@@ -1,16 +1,14 @@
-use Rattle.sctp_link.proofs.Names.{◌≡◌, ap, sym, ◌∙◌, None, true, false, refl, subst, arith, map, length, is_some, option_map, slice_index_or, slice_set}
-use Rattle.sctp_link.proofs.Names.{ChunkSet, chunk_at, at_start, with_read, IsLinked, Sides, IsAligned, sides, on_stream, read_recorded, record_in}
-use Rattle.sctp_link.proofs.Names.{record_from, state_from, sides_in, message_record, progress_of, on_inbound, Some}
+use Rattle.sctp_link.proofs.Names.{◌≡◌, ap, sym, ◌∙◌, true, false, refl, subst, arith, map, length, is_some, option_map, slice_index_or, slice_set, ChunkSet}
+use Rattle.sctp_link.proofs.Names.{chunk_at, at_start, with_read, IsLinked, Sides, IsAligned, sides, on_stream, read_recorded, record_in, record_from}
+use Rattle.sctp_link.proofs.Names.{state_from, sides_in, message_record, progress_of, on_inbound, Some, stream_read, message_read, ppi-handed}
 use Rattle.sctp_model.specs.Reply as R
-use Rattle.sctp_link.proofs.Names.{stream_read, message_read}
 use Rattle.sctp_progress.specs.Progress.{has_number}
 use Rattle.sctp_link.proofs.sides.Aligned.{open-is, read-message, read-aligned, read-sides, with-progress, standing-changed}
 use Rattle.sctp_link.proofs.sides.Changes.{read-recorded}
 use Rattle.sctp_link.proofs.receiver.Hears.{messages-made}
-use Rattle.sctp_link.proofs.receiver.HandsOut.{IsPlaced, IsHanded, placed-at, none-handed, some-handed, handed, marked, slot-handed, handed-made, number-handed}
-use Rattle.sctp_link.proofs.receiver.HandsOut.{message-handed}
-use Rattle.sctp_link.proofs.receiver.HandsOut.{recorded-nothing, linked-nothing, reply-nothing, read-is, hands-begins, ppi-handed, low, reply-read}
-use Rattle.sctp_link.proofs.receiver.HandsOut.{recorded-recorded, linked-recorded}
+use Rattle.sctp_link.proofs.receiver.HandsOut.{IsPlaced, IsHanded, placed-at, none-handed, some-handed, handed, marked, slot-handed, handed-made}
+use Rattle.sctp_link.proofs.receiver.HandsOut.{number-handed, message-handed, recorded-nothing, linked-nothing, reply-nothing, read-is, hands-begins, low}
+use Rattle.sctp_link.proofs.receiver.HandsOut.{reply-read, recorded-recorded, linked-recorded}
 use Rattle.sctp_link.proofs.link.Link.read.Given.{Over}
 use Rattle.sctp_link.proofs.link.Link.read.Goals.{In-Some, After-read, After-index_mut-message, After-record_read}
 use Rattle.sctp_link.proofs.link.Link.read.Goals as goal

@@ -1,7 +1,7 @@
 use Rattle.sctp_link.proofs.Names.{◌≡◌, ◌<◌, Some, None, ap, sym, ◌∙◌, rules, length, Option, slice_get, Data, Forward, unless, is_for_receiver, arrival_fits}
 use Rattle.sctp_link.proofs.Names.{NoSuchDatagram, SpanTooWide, record_in, kind_record}
 use Rattle.sctp_model.specs.LinkRecord.{Datagram}
-use Rattle.sctp_link.proofs.skipping.SkipComes.{kept-kind}
+use Rattle.sctp_link.proofs.upkeep.Observed.{kept-kind}
 use Rattle.sctp_link.proofs.link.Link.refusal_arrive.Goals as goal
 
 pub span_fits-requires : goal.span_fits-requires

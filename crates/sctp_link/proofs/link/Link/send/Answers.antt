@@ -1,22 +1,22 @@
 use Rattle.sctp_link.proofs.Names.{◌≡◌, List, map, length, rules, refl, ap, None, Some, ◌∙◌, is_some, with_items, vec_len, with_items_is, numbers_from}
-use Rattle.sctp_link.proofs.Names.{next_pending, Outbound, after_start, chunks_taken, Slot, Datagram, slot_record, datagram_record, record_in}
+use Rattle.sctp_link.proofs.Names.{next_pending, Outbound, after_start, chunks_taken, Slot, Datagram, slot_record, datagram_record, record_in, next-is}
+use Rattle.sctp_link.proofs.Names.{idle-right, looks-short, front, true, on-err}
 use Rattle.sctp_chunks.specs.declared.chunk.chunk_kind.ChunkKind.TheVariants as C
-use Rattle.sctp_link.proofs.receiver.Keeping.{on-err}
-use Rattle.sctp_link.proofs.sender.Sending.{next-is, idle-right, looks-short}
 use Rattle.sctp_link.proofs.sender.SentLists.{encodings-each, canonical-each}
 use Rattle.sctp_link.proofs.sender.Gone.{aligned, can, linked, right}
 use Rattle.sctp_link.proofs.link.Link.send.Given.{Over}
-use Rattle.sctp_link.proofs.link.Link.send.Goals.{After-len-count}
+use Rattle.sctp_link.proofs.link.Link.send.Goals.{After-len-count, In-Some}
 use Rattle.sctp_link.proofs.link.Link.send.Goals as goal
+use Rattle.sctp_link.proofs.upkeep.Facts.{sends}
 
 pub returns-in_default-clause-ok : goal.returns-in_default-clause-ok
 returns-in_default-clause-ok g c =
     let none : next_pending c.self.inside.sender.flight.queue.pending ≡ None = search rules in
     let moves : c.start.new.self.recorded ≡ after_start (record_in c.self.inside) c.args.now = rw (← c.self.view_is) at c.start.ensures.right.moves in
-    rw (← c.self.view_is) (idle-right c.self.invariant.1 c.args.now c.start.new.self.recorded none moves)
+    rw (← c.self.view_is) (idle-right (sends c.self.invariant.1) c.args.now c.start.new.self.recorded none moves)
 
 pub next_chunks-requires-clause-short : goal.next_chunks-requires-clause-short
-next_chunks-requires-clause-short g c = rw c.outbound-2.ensures (looks-short c.self.invariant.1 c.args.now)
+next_chunks-requires-clause-short g c = rw c.outbound-2.ensures (looks-short (sends c.self.invariant.1))
 
 -- The chunks that leave.
 chosen : (g : Over) (c : After-len-count g) → c.in_ok-chunks.chunks.items
@@ -81,41 +81,34 @@ returns-clause-ok g c =
     (with_items_is c.self.inside.messages c.send_fragments.new.messages kept) c.send_fragments.new.slots refl c.push_reserved.new.self c.in_ok-places.places
     c.in_ok-bytes.bytes places (search rules) c.len-self-inside.result c.len-datagram.result c.next_tsn-tsn.result (search rules) c.next_tsn-tsn.ensures)
 
+-- A fragment is to be sent.
+due : (g : Over) (c : In-Some g) → is_some (front (record_in c.self.inside)) ≡ true
+due g c =
+    let e : next_pending c.self.inside.sender.flight.queue.pending ≡ Some c.in-Some.first.now = search rules in
+    ap is_some (next-is (sends c.self.invariant.1) c.in-Some.first.now e).front
+
 pub returns-in_err-chunks-clause-wants : goal.returns-in_err-chunks-clause-wants
 returns-in_err-chunks-clause-wants g c =
-    let e : next_pending c.self.inside.sender.flight.queue.pending ≡ Some c.in-Some.first.now = search rules in
-    let f = (next-is c.self.invariant.1 c.in-Some.first.now e).front in
-    rw (← c.self.view_is) (on-err c.from_residual.result _ (ap is_some f))
+    rw (← c.self.view_is) (on-err c.from_residual.result _ (due g (goal.at.returns-in_err-chunks-clause-wants g c).In-Some))
 
 pub returns-in_err-bytes-clause-wants : goal.returns-in_err-bytes-clause-wants
 returns-in_err-bytes-clause-wants g c =
-    let e : next_pending c.self.inside.sender.flight.queue.pending ≡ Some c.in-Some.first.now = search rules in
-    let f = (next-is c.self.invariant.1 c.in-Some.first.now e).front in
-    rw (← c.self.view_is) (on-err c.from_residual-in_err-bytes.result _ (ap is_some f))
+    rw (← c.self.view_is) (on-err c.from_residual-in_err-bytes.result _ (due g (goal.at.returns-in_err-bytes-clause-wants g c).In-Some))
 
 pub returns-in_err-places-clause-wants : goal.returns-in_err-places-clause-wants
 returns-in_err-places-clause-wants g c =
-    let e : next_pending c.self.inside.sender.flight.queue.pending ≡ Some c.in-Some.first.now = search rules in
-    let f = (next-is c.self.invariant.1 c.in-Some.first.now e).front in
-    rw (← c.self.view_is) (on-err c.from_residual-in_err-places.result _ (ap is_some f))
+    rw (← c.self.view_is) (on-err c.from_residual-in_err-places.result _ (due g (goal.at.returns-in_err-places-clause-wants g c).In-Some))
 
 pub returns-in_err-reserve-clause-wants : goal.returns-in_err-reserve-clause-wants
 returns-in_err-reserve-clause-wants g c =
-    let e : next_pending c.self.inside.sender.flight.queue.pending ≡ Some c.in-Some.first.now = search rules in
-    let f = (next-is c.self.invariant.1 c.in-Some.first.now e).front in
-    rw (← c.self.view_is) (on-err c.from_residual-in_err-reserve.result _ (ap is_some f))
+    rw (← c.self.view_is) (on-err c.from_residual-in_err-reserve.result _ (due g (goal.at.returns-in_err-reserve-clause-wants g c).In-Some))
 
 pub returns-in_err-reserve-2-clause-wants : goal.returns-in_err-reserve-2-clause-wants
 returns-in_err-reserve-2-clause-wants g c =
-    let e : next_pending c.self.inside.sender.flight.queue.pending ≡ Some c.in-Some.first.now = search rules in
-    let f = (next-is c.self.invariant.1 c.in-Some.first.now e).front in
-    rw (← c.self.view_is) (on-err c.from_residual-in_err-reserve-2.result _ (ap is_some f))
+    rw (← c.self.view_is) (on-err c.from_residual-in_err-reserve-2.result _ (due g (goal.at.returns-in_err-reserve-2-clause-wants g c).In-Some))
 
 pub returns-in-Err-clause-wants : goal.returns-in-Err-clause-wants
-returns-in-Err-clause-wants g c =
-    let e : next_pending c.self.inside.sender.flight.queue.pending ≡ Some c.in-Some.first.now = search rules in
-    let f = (next-is c.self.invariant.1 c.in-Some.first.now e).front in
-    rw (← c.self.view_is) (ap is_some f)
+returns-in-Err-clause-wants g c = rw (← c.self.view_is) (due g (goal.at.returns-in-Err-clause-wants g c).In-Some)
 
 pub returns-in_err-reserve-clause-err : goal.returns-in_err-reserve-clause-err
 returns-in_err-reserve-clause-err g c =

@@ -1,8 +1,7 @@
-use Rattle.sctp_link.proofs.Names.{◌≡◌, ◌<◌, ◌≤◌, false, sym, ◌∙◌, arith, list_all, nat_tests, skip_counts, cumulative, names_fit, record_in}
-use Rattle.sctp_refinement.proofs.skipping.SkipSpans.{stale-fits}
+use Rattle.sctp_link.proofs.Names.{◌≡◌, ◌<◌, ◌≤◌, false, sym, ◌∙◌, arith, list_all, nat_tests, skip_counts, cumulative, names_fit, record_in, stale-fits}
+use Rattle.sctp_link.proofs.Names.{all-fit}
 use Rattle.sctp_link.proofs.upkeep.Facts.{facts}
 use Rattle.sctp_link.proofs.acknowledging.Reporting.{cumulative-place}
-use Rattle.sctp_link.proofs.skipping.SkipComes.{all-fit}
 use Rattle.sctp_link.proofs.link.Link.skip_fits.Goals as goal
 
 pub returns-then-cumulative-upto : goal.returns-then-cumulative-upto
@@ -19,4 +18,4 @@ returns g c =
     let past : cumulative w ≤ c.args.upto =
     omega (arith, c.if-cumulative-upto.false, c.count_of-cumulative.ensures, c.cumulative_tsn.ensures, cumulative-place c.self.invariant.1 0) in
     let all : c.names_fit.result ≡ list_all (λ r. names_fit w r.stream c.args.names.now) w.streams = rw (← c.self.view_is) at c.names_fit.ensures in
-    rw (← c.self.view_is) (all ∙ all-fit c.self.invariant.1 c.args.upto c.args.names.now past)
+    rw (← c.self.view_is) (all ∙ all-fit (facts c.self.invariant.1) c.args.upto c.args.names.now past)

@@ -1,8 +1,7 @@
 use Rattle.sctp_link.proofs.Names.{◌≡◌, ap, sym, ◌∙◌, ◌-◌, ◌≤◌, [], ◌∷◌, true, false, arith, is_some, if◌then◌else◌, max, nat_lt, ◌&&◌, message_at, message_of}
-use Rattle.sctp_link.proofs.Names.{index_of, is_open, is_new, next_of, fits, lowest_held, highest_held, record_in, message_record, and-none}
+use Rattle.sctp_link.proofs.Names.{index_of, is_open, is_new, next_of, fits, lowest_held, highest_held, record_in, message_record, and-none, fits-new}
 use Rattle.sctp_link.proofs.receiver.Hears.{come-index}
 use Rattle.sctp_link.proofs.receiver.Spans.{IsKept, kept-at, number-kept, message-kept, index-kept, kept-past}
-use Rattle.sctp_refinement.proofs.arriving.SlotSpans.{fits-new}
 use Rattle.sctp_link.proofs.link.Link.slot_fits.Given.{Over}
 use Rattle.sctp_link.proofs.link.Link.slot_fits.Goals.{After-index, After-index-message}
 use Rattle.sctp_link.proofs.link.Link.slot_fits.Goals as goal

@@ -1,6 +1,5 @@
 use Rattle.sctp_link.proofs.Names.{Vec, Global, ℕ, ◌+◌, ◌++◌, ◌<◌, drop, length, ap, sym, ◌∙◌, arith, ◌||◌, slice_index_or, vec_capacity, list_any}
-use Rattle.sctp_link.proofs.Names.{with_arrival, arrived_in, repeated_of, is_first, or-true}
-use Rattle.sctp_refinement.proofs.Lists.{set-changed}
+use Rattle.sctp_link.proofs.Names.{with_arrival, arrived_in, repeated_of, is_first, or-true, set-changed}
 use Rattle.std.specs.Prelude.{vec_len}
 use Rattle.sctp_link.proofs.receiver.Arrivals.{slots-first, repeated-first, any-first, slots-again, repeated-again, any-again}
 use Rattle.sctp_link.proofs.link.arriving.record_arrivals.Goals as goal

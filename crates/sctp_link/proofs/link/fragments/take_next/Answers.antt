@@ -1,7 +1,5 @@
 use Rattle.sctp_link.proofs.Names.{◌≡◌, ◌+◌, ◌<◌, ◌^◌, true, Some, length, ap, rules, arith, refl, sym, ◌∙◌, is_some, if◌then◌else◌, nat_tests, next_pending}
-use Rattle.sctp_link.proofs.Names.{sent_next, may_send, begun_by, following_tsn}
-use Rattle.sctp_link.proofs.sides.Opening.{on-ok, not-err}
-use Rattle.sctp_refinement.proofs.sending.Ahead.{room-less}
+use Rattle.sctp_link.proofs.Names.{sent_next, may_send, begun_by, following_tsn, room-less, on-ok, not-err}
 use Rattle.sctp_link.proofs.sender.Noted.{noted-next}
 use Rattle.sctp_link.proofs.link.fragments.take_next.Goals as goal
 

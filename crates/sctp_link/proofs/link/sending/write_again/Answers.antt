@@ -1,5 +1,4 @@
-use Rattle.sctp_link.proofs.Names.{◌+◌, ◌-◌, ◌^◌, refl, ap, ◌∙◌, find, min, with_nsent, has_tsn, Transmission}
-use Rattle.sctp_sender.proofs.Walks.{found-changed}
+use Rattle.sctp_link.proofs.Names.{◌+◌, ◌-◌, ◌^◌, refl, ap, ◌∙◌, find, min, with_nsent, has_tsn, Transmission, found-changed}
 use Rattle.sctp_link.proofs.link.sending.write_again.Goals as goal
 
 pub returns-clause-noted : goal.returns-clause-noted

@@ -1,5 +1,4 @@
-use Rattle.sctp_link.proofs.Names.{◌∙◌, refl, length-set, arith, with_start}
-use Rattle.sctp_refinement.proofs.Walks.{changed_none, changed_more, changed_all}
+use Rattle.sctp_link.proofs.Names.{◌∙◌, refl, length-set, arith, with_start, changed_none, changed_more, changed_all}
 use Rattle.sctp_link.proofs.link.streams.start_from.Goals as goal
 
 pub loop-place-init : goal.loop-place-init

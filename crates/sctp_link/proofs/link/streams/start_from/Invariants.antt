@@ -1,5 +1,4 @@
-use Rattle.sctp_link.proofs.Names.{◌≡◌, length, with_start}
-use Rattle.sctp_refinement.proofs.Walks.{changed_to}
+use Rattle.sctp_link.proofs.Names.{◌≡◌, length, with_start, changed_to}
 use Rattle.sctp_link.proofs.link.streams.start_from.Given as goal
 
 abbrev pub invariant-loop-place : goal.invariant-loop-place
