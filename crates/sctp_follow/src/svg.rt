@@ -134,16 +134,20 @@ impl Frame {
     }
 
     /// How far down a height stands.
-    fn down(&self, height: u32) -> u64
+    fn down(&self, height: u64) -> u64
         ensures { result ≤ 2600 }
     {
-        HEIGHT as u64 - scaled(self.heights, HEIGHT, height as u64)
+        HEIGHT as u64 - scaled(self.heights, HEIGHT, height)
     }
 
     /// Where a mark stands: how far right, and how far down its highest TSN and its lowest one.
     fn corner(&self, mark: &Mark) -> (u64, u64, u64) {
         let across = self.across(place_of(mark, self.is_timed));
-        (across, self.down(mark.high), self.down(mark.low))
+        (
+            across,
+            self.down(mark.high as u64),
+            self.down(mark.low as u64),
+        )
     }
 }
 
@@ -242,20 +246,34 @@ fn quarter_of(range: Range, quarters: u64) -> u64 {
     range.low.saturating_add(part as u64)
 }
 
-/// The numbers beside and below a panel.
-fn put_labels(text: &mut String, frame: &Frame) -> Result<(), AllocError> {
+/// The numbers beside a panel, each at its height.
+fn put_heights(text: &mut String, frame: &Frame) -> Result<(), AllocError> {
     for quarters in 0..=4u64 {
         let height = quarter_of(frame.heights, quarters);
-        let y = HEIGHT as u64 / 10 - HEIGHT as u64 / 40 * quarters + 4;
+        if quarters > 0 && height == quarter_of(frame.heights, quarters - 1) {
+            continue;
+        }
+        let y = frame.down(height) / 10 + 4;
         let sign = if height < ORIGIN as u64 { "-" } else { "" };
         let number = height.abs_diff(ORIGIN as u64);
         write!(
             text,
             "<text class=\"e\" x=\"-8\" y=\"{y}\">{sign}{number}</text>"
         )?;
-        let x = WIDTH as u64 / 40 * quarters;
+    }
+    text.push_str("\n")
+}
+
+/// The times or records below a panel, each at its place.
+fn put_places(text: &mut String, frame: &Frame) -> Result<(), AllocError> {
+    for quarters in 0..=4u64 {
+        let place = quarter_of(frame.places, quarters);
+        if quarters > 0 && place == quarter_of(frame.places, quarters - 1) {
+            continue;
+        }
+        let x = frame.across(place) / 10;
         write!(text, "<text class=\"m\" x=\"{x}\" y=\"278\">")?;
-        put_span(text, frame.is_timed, quarter_of(frame.places, quarters))?;
+        put_span(text, frame.is_timed, place)?;
         text.push_str("</text>\n")?;
     }
     Ok(())
@@ -275,7 +293,8 @@ fn put_panel(
         text,
         "<g transform=\"translate(110 {top})\"><text y=\"-8\">{arrow} TSNs relative to {base}</text>\n"
     )?;
-    put_labels(text, frame)?;
+    put_heights(text, frame)?;
+    put_places(text, frame)?;
     text.push_str("<g transform=\"scale(.1)\">\n")?;
     put_stand(text, frame, panel)?;
     write!(text, "<path class=\"a\" d=\"M0 0V{HEIGHT}H{WIDTH}\"/>\n")?;
