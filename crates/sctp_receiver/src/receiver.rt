@@ -1,9 +1,6 @@
 //! The receiving half of a link (RFC 4960 6.2; RFC 3758 3.6).
 
-ghost use Rattle.std.specs.Prelude.{◌≡◌, ◌==◌, ◌⊎◌, true, false, not, None, Some, OnOk, OnErr, IfOk, IfErr, IsOk, IsOkUnless, option_map, option_copied, is_some, find, map, min, length, slice_index_or, ◌<◌, ◌≤◌, ◌+◌, ◌-◌, ◌^◌, if◌then◌else◌};
-ghost use Rattle.sctp_data.specs.declared.chunk.chunk_forward_tsn.ChunkForwardTsnStream.{ChunkForwardTsnStream};
-ghost use Rattle.sctp_list_lemmas.specs.Lists.{change_where};
-ghost use Rattle.sctp_receiver.specs.Inbound.{named_forwarded, has_number, ssn_forwarded};
+ghost use Rattle.std.specs.Prelude.{◌≡◌, ◌⊎◌, true, false, not, None, Some, OnOk, OnErr, IfOk, IfErr, IsOk, option_map, option_copied, is_some, find, map, min, length, ◌<◌, ◌≤◌, ◌+◌, ◌-◌, ◌^◌, if◌then◌else◌};
 ghost use Rattle.sctp_receiver.specs.declared.receiver.refusal.ReceiverRefusal.TheVariants.{StreamOpen, StreamUnknown, OutOfMemory};
 
 pub mod arrival;
@@ -29,7 +26,7 @@ use self::refusal::ReceiverRefusal;
 use self::taking::{Rules, note_repeat, take};
 use self::tsn_filter::TsnFilter;
 use sctp_base::util::sna32lte;
-use sctp_data::chunk::chunk_forward_tsn::{ChunkForwardTsn, ChunkForwardTsnStream};
+use sctp_data::chunk::chunk_forward_tsn::ChunkForwardTsn;
 use sctp_data::chunk::chunk_payload_data::{ChunkPayloadData, PayloadProtocolIdentifier};
 use sctp_outbound::payload_queue::PayloadQueue;
 use sctp_reassembly::chunks::Chunks;
