@@ -10,7 +10,6 @@ pub mod UndoCosts
 pub mod Datagrams
 pub mod Forwarded
 pub mod Receptions
-pub mod RepeatedNames
 pub mod Resetting
 pub mod DataEach
 pub mod Weights
@@ -27,6 +26,7 @@ pub mod Listing
 pub mod GapCounts
 pub mod StreamCosts
 pub mod SkipCosts
+pub mod NotedNames
 pub mod HeldSkips
 pub mod HeldBound
 mod Examples

@@ -13,6 +13,8 @@ use Rattle.sctp_data.specs.declared.chunk.chunk_forward_tsn.ChunkForwardTsnStrea
 use Rattle.sctp_reassembly.specs.reassembly_queue.Fragments.{is_complete}
 use Rattle.sctp_reassembly.specs.reassembly_queue.ReassemblyQueue.{Reassembly, ReassemblyState, after_unordered_skip, leading_upto}
 use Rattle.sctp_reassembly.specs.reassembly_queue.ReassemblyQueue.{after_read, front_readable, rest_among, without_first, is_passed}
+use Rattle.sctp_reassembly.specs.declared.reassembly_queue.ordered_skips.OrderedSkips.{OrderedSkips}
+use Rattle.sctp_reassembly.specs.reassembly_queue.OrderedSkips.{is_skipped, after_noted_skips}
 use Rattle.sctp_reassembly.specs.reassembly_queue.Skips.{cannot_complete, misses}
 use Rattle.sctp_reassembly.proofs.lemmas.reassembly_queue.ByteCounts.{incomplete_agrees}
 use Rattle.sctp_serial.proofs.lemmas.ListEdits.{neither}
@@ -89,10 +91,16 @@ read-none l h = among l.queue.held.unordered
     among [] = front (front_readable q.next_ssn q.ordered)
     among (u ∷ us) = h
 
+thinned : (p : ChunkSet → Bool) (sets : List ChunkSet) → list_any is_incomplete sets ≡ false → list_any is_incomplete (filter p sets) ≡ false
+thinned p sets e = fails (list_any is_incomplete (filter p sets)) (λ t. not_both (sym e ∙ list_any-those is_incomplete p sets t))
+
 pub named-none : (ssn : ℕ) (l : InboundStream) → holds_incomplete l.queue.held ≡ false → holds_incomplete (ssn_forwarded ssn l).queue.held ≡ false
-named-none ssn l h = fewer-sets l.queue.held (ssn_forwarded ssn l).queue.held refl
-    (λ e. fails (list_any is_incomplete (filter (λ set. not (is_passed ssn set)) l.queue.held.ordered))
-    (λ t. not_both (sym e ∙ list_any-those is_incomplete (λ set. not (is_passed ssn set)) l.queue.held.ordered t))) h
+named-none ssn l h = fewer-sets l.queue.held (ssn_forwarded ssn l).queue.held refl (thinned (λ set. not (is_passed ssn set)) l.queue.held.ordered) h
+
+pub noted-none : (skips : OrderedSkips) (l : InboundStream) → holds_incomplete l.queue.held ≡ false
+    → holds_incomplete (after_noted_skips skips l.queue).held ≡ false
+noted-none skips l h =
+    fewer-sets l.queue.held (after_noted_skips skips l.queue).held refl (thinned (λ set. not (is_skipped skips.passed set)) l.queue.held.ordered) h
 
 -- ## No more streams to visit
 

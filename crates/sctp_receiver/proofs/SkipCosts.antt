@@ -1,13 +1,12 @@
 -- What the skips of a FORWARD-TSN look at within streams.
-use Rattle.std.proofs.Common.{◌≡◌, ℕ, zero, suc, ◌+◌, ◌-◌, ◌<◌, ◌≤◌, Bool, true, false, List, [], ◌∷◌, length, map, drop, drop-cons, add-one, get_or, Option}
+use Rattle.std.proofs.Common.{◌≡◌, ℕ, zero, suc, ◌+◌, ◌<◌, ◌≤◌, Bool, true, false, List, [], ◌∷◌, length, map, Option}
 use Rattle.std.proofs.Common.{Some, None, refl, ap, sym, ◌∙◌}
 use Rattle.std.proofs.Common.{arith}
-use Rattle.std.specs.Prelude.{find, not, if◌then◌else◌, slice_get, slice_set}
+use Rattle.std.specs.Prelude.{not, if◌then◌else◌, slice_get, slice_set}
 use Rattle.std.specs.List.{sum_by, filter}
-use Rattle.std.proofs.lemmas.Bool.{le-ltb, ne_eqb}
+use Rattle.std.proofs.lemmas.Bool.{le-ltb}
 use Rattle.std.proofs.lemmas.List.Sums.{sum_by-cons, sum_by-set}
-use Rattle.std.proofs.lemmas.Option.{slice_get_within, slice_get-get_or, get_or_from_slice_get}
-use Rattle.sctp_list_lemmas.specs.Lists.{change_where}
+use Rattle.std.proofs.lemmas.Option.{slice_get_within, get_or_from_slice_get}
 use Rattle.sctp_list_lemmas.proofs.Cases.{some-same}
 use Rattle.sctp_list_lemmas.proofs.More.{not_both}
 use Rattle.sctp_data.specs.ChunkSet.{ChunkSet}
@@ -20,9 +19,9 @@ use Rattle.sctp_reassembly.specs.reassembly_queue.Skips.{cannot_complete}
 use Rattle.sctp_receiver.specs.declared.receiver.inbound_streams.InboundStream.{InboundStream}
 use Rattle.sctp_receiver.specs.declared.receiver.visiting.Skip.{Skip}
 use Rattle.sctp_receiver.specs.declared.receiver.visiting.Skip.TheVariants.{Unassembled, Incomplete}
-use Rattle.sctp_receiver.specs.Inbound.{has_number, ssn_forwarded, named_forwarded, unassembled_forwarded}
+use Rattle.sctp_receiver.specs.Inbound.{ssn_forwarded, named_forwarded, unassembled_forwarded}
 use Rattle.sctp_receiver.specs.Receiver.{Reception, after_forward, follow_forward_tsn, is_stale}
-use Rattle.sctp_receiver.specs.SkipCosts.{name_walk, names_walk_behind, name_before, is_repeated, settle_walk, unordered_skips_walk, incomplete_skips_walk}
+use Rattle.sctp_receiver.specs.SkipCosts.{settle_walk, unordered_skips_walk, incomplete_skips_walk}
 use Rattle.sctp_receiver.specs.Visited.{AreInverse, is_spot_before, holds_any, skip_forwarded, to_visit}
 use Rattle.sctp_receiver.proofs.Settled.{named-any, unassembled-any}
 use Rattle.sctp_receiver.proofs.StreamCosts.{mapped-cost, named-cost}
@@ -143,7 +142,7 @@ visited-less m x y keeps le = by (any x) (any y) keeps
 
 -- ## Fewer sets
 
-fewer-length : {A : Type 0} (p : A → Bool) (xs : List A) → length (filter p xs) ≤ length xs
+pub fewer-length : {A : Type 0} (p : A → Bool) (xs : List A) → length (filter p xs) ≤ length xs
 fewer-length p [] = omega arith
 fewer-length p (x ∷ xs) = by (p x) (fewer-length p xs)
   where
@@ -184,42 +183,6 @@ pub settle-less : (skip : Skip) (tsn : ℕ) (l : InboundStream)
     → settle_walk skip (skip_forwarded skip tsn l).queue.held ≤ settle_walk skip l.queue.held
 settle-less Unassembled tsn l = omega arith
 settle-less Incomplete tsn l = fewer-length (λ set. not (cannot_complete tsn set)) l.queue.held.ordered
-
--- ## Names
-
--- no name costs more after another one
-pub name-less : (s k ssn : ℕ) (ls : List InboundStream)
-    → name_walk (find (has_number s) (change_where (has_number k) (ssn_forwarded ssn) ls)) ≤ name_walk (find (has_number s) ls)
-name-less s k ssn [] = omega arith
-name-less s k ssn (l ∷ ls) = by (has_number k l) (name-less s k ssn ls)
-  where
-    rest : List InboundStream
-    rest = change_where (has_number k) (ssn_forwarded ssn) ls
-
-    at : (b : Bool) (x : InboundStream) → ordered_walk x ≤ ordered_walk l → name_walk (find (has_number s) rest) ≤ name_walk (find (has_number s) ls)
-        → name_walk (if b then Some x else find (has_number s) rest) ≤ name_walk (if b then Some l else find (has_number s) ls)
-    at true x le ih = le
-    at false x le ih = ih
-
-    by : (a : Bool) → name_walk (find (has_number s) rest) ≤ name_walk (find (has_number s) ls)
-        → name_walk (find (has_number s) ((if a then ssn_forwarded ssn l else l) ∷ rest)) ≤ name_walk (find (has_number s) (l ∷ ls))
-    by true ih = at (has_number s l) (ssn_forwarded ssn l) (named-ordered ssn l) ih
-    by false ih = at (has_number s l) l (omega arith) ih
-
--- the name at a place, and those behind it
-pub at-name : (ns : List ChunkForwardTsnStream) (ls : List InboundStream) (i : ℕ) (d : ChunkForwardTsnStream) → i < length ns
-    → names_walk_behind (name_before i ns) (drop i ns) ls
-    ≡ (if is_repeated (name_before i ns) (get_or ns i d) then 0 else name_walk (find (has_number (get_or ns i d).identifier) ls))
-    + names_walk_behind (name_before (i + 1) ns) (drop (i + 1) ns) ls
-at-name ns ls i d lt =
-    let n = get_or ns i d in
-    let next : Some n ≡ name_before (i + 1) ns = sym (slice_get-get_or ns i d lt)
-    ∙ ap (slice_get ns) {x = i} {y = i + 1 - 1} (omega arith)
-    ∙ ap (λ (b : Bool). if b then None else slice_get ns (i + 1 - 1)) (sym (ne_eqb (i + 1) 0 (λ e. omega (arith, e)))) in
-    ap (λ ms. names_walk_behind (name_before i ns) ms ls) (drop-cons ns i d lt)
-    ∙ ap (λ o. (if is_repeated (name_before i ns) n then 0 else name_walk (find (has_number n.identifier) ls)) + names_walk_behind o (drop (suc i) ns) ls) next
-    ∙ ap (λ k. (if is_repeated (name_before i ns) n then 0 else name_walk (find (has_number n.identifier) ls))
-    + names_walk_behind (name_before (i + 1) ns) (drop k ns) ls) (sym (add-one i))
 
 -- ## All of them
 

@@ -1,5 +1,6 @@
 pub mod TsnFilter
 pub mod Inbound
+pub mod Noted
 pub mod Receiver
 pub mod Refusals
 pub mod Limits

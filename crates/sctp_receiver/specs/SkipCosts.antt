@@ -1,7 +1,6 @@
 -- What a FORWARD-TSN looks at within streams: bounds of its turns. A turn is one look at an ordered message or at a fragment.
-use Rattle.std.specs.Prelude.{◌≡◌, ℕ, ◌+◌, ◌*◌, ◌≤◌, ◌==◌, ◌&&◌, Bool, true, false, not, if◌then◌else◌, ◌-◌, List, [], ◌∷◌, length, find, slice_get, Option}
-use Rattle.std.specs.Prelude.{Some, None}
-use Rattle.std.specs.List.{list_any, sum_by}
+use Rattle.std.specs.Prelude.{ℕ, ◌+◌, ◌*◌, ◌≤◌, List, length, Option, Some, None}
+use Rattle.std.specs.List.{sum_by, filter}
 use Rattle.sctp_data.specs.ForwardTsn.{ForwardTsn}
 use Rattle.sctp_data.specs.declared.chunk.chunk_forward_tsn.ChunkForwardTsnStream.{ChunkForwardTsnStream}
 use Rattle.sctp_reassembly.specs.reassembly_queue.Costs.{ordered_skip_walk, incomplete_skip_walk, unordered_skip_walk}
@@ -10,7 +9,7 @@ use Rattle.sctp_reassembly.specs.reassembly_queue.ReassemblyQueue.{Reassembly}
 use Rattle.sctp_receiver.specs.declared.receiver.inbound_streams.InboundStream.{InboundStream}
 use Rattle.sctp_receiver.specs.declared.receiver.visiting.Skip.{Skip}
 use Rattle.sctp_receiver.specs.declared.receiver.visiting.Skip.TheVariants.{Unassembled, Incomplete}
-use Rattle.sctp_receiver.specs.Inbound.{has_number}
+use Rattle.sctp_receiver.specs.Noted.{is_named}
 use Rattle.sctp_receiver.specs.Receiver.{Reception}
 use Rattle.sctp_receiver.specs.Visited.{to_visit}
 
@@ -19,25 +18,17 @@ abbrev pub name_walk : Option InboundStream → ℕ
 name_walk None = 0
 name_walk (Some l) = ordered_skip_walk l.queue.held
 
--- the name repeats the one before it, if there is one
-abbrev pub is_repeated : Option ChunkForwardTsnStream → ChunkForwardTsnStream → Bool
-is_repeated None n = false
-is_repeated (Some m) n = (m.identifier == n.identifier) && (m.sequence == n.sequence)
+-- the streams that are named
+abbrev pub named_streams : List ChunkForwardTsnStream → List InboundStream → List InboundStream
+named_streams names ls = filter (λ l. is_named names (Some l.queue.si)) ls
 
--- behind such a name, those that do not repeat the one before them, each on its stream as it is before the chunk
-abbrev pub names_walk_behind : Option ChunkForwardTsnStream → List ChunkForwardTsnStream
-    → List InboundStream → ℕ
-names_walk_behind before [] ls = 0
-names_walk_behind before (n ∷ ns) ls =
-    (if is_repeated before n then 0 else name_walk (find (has_number n.identifier) ls))
-    + names_walk_behind (Some n) ns ls
+-- all names: each once, and what each stream that is named holds, once
+abbrev pub named_walk : List ChunkForwardTsnStream → List InboundStream → ℕ
+named_walk names ls =
+    length names + sum_by (λ l. ordered_skip_walk l.queue.held) (named_streams names ls)
 
 abbrev pub names_walk : ForwardTsn → Reception → ℕ
-names_walk f r = names_walk_behind None f.streams r.streams
-
--- the name before a place, none before the first one
-abbrev pub name_before : ℕ → List ChunkForwardTsnStream → Option ChunkForwardTsnStream
-name_before place ns = if place == 0 then None else slice_get ns (place - 1)
+names_walk f r = named_walk f.streams r.streams
 
 -- what is discarded without a name, on one stream
 abbrev pub visit_walk : Skip → Reassembly → ℕ
@@ -67,12 +58,6 @@ skips_walk f r =
 
 -- ## By what is held
 
--- no stream is named twice
-abbrev pub are_named_once : List ChunkForwardTsnStream → Bool
-are_named_once [] = true
-are_named_once (n ∷ ns) =
-    not (list_any (λ m. n.identifier == m.identifier) ns) && are_named_once ns
-
 -- ordered messages that were not read, and their fragments and those that are unassembled
 abbrev pub held_messages : List InboundStream → ℕ
 held_messages ls = sum_by (λ l. length l.queue.held.ordered) ls
@@ -81,9 +66,9 @@ abbrev pub held_fragments : List InboundStream → ℕ
 held_fragments ls =
     sum_by (λ l. set_chunks l.queue.held.ordered + length l.queue.held.unassembled) ls
 
--- where no stream is named twice: one for each name, one for each stream that is visited, 14 for each message and six for each fragment
+-- two for each name, one for each stream that is visited, 14 for each message and six for each fragment
 abbrev pub SkipsCostByWhatIsHeld : Type 0
 SkipsCostByWhatIsHeld =
-    (f : ForwardTsn) (r : Reception) → are_named_once f.streams ≡ true → skips_walk f r
-    ≤ length f.streams + length (to_visit r.streams) + 14 * held_messages r.streams
+    (f : ForwardTsn) (r : Reception) → skips_walk f r
+    ≤ 2 * length f.streams + length (to_visit r.streams) + 14 * held_messages r.streams
     + 6 * held_fragments r.streams

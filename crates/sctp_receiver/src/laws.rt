@@ -27,10 +27,9 @@ pub fn what_is_held_is_bounded()
     ensures duplicates { AfterEachRunWithin NotesFewDuplicates }
 {}
 
-/// What a FORWARD-TSN looks at within streams, by the bound of `Receiver::forward_tsn_skips_counted` (`skips_walk`), where it names no stream
-/// twice, as it holds the greatest number of each (RFC 3758 3.2): each ordered message that was not read at most 14 times, each of their
-/// fragments and each unassembled one six times, and once for each name, and for each stream that has any of these. So it costs what
-/// is held, once, and not that for each name.
+/// What a FORWARD-TSN looks at within streams, by the bound of `Receiver::forward_tsn_skips_counted` (`skips_walk`): each ordered message
+/// that was not read at most 14 times, each of their fragments and each unassembled one six times, each name twice, and once each of the
+/// streams that have any of these. So it costs what is held, once, however often it names a stream.
 pub fn a_skip_costs_by_what_is_held()
     ensures { SkipsCostByWhatIsHeld }
 {}

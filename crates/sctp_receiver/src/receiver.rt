@@ -1,16 +1,13 @@
 //! The receiving half of a link (RFC 4960 6.2; RFC 3758 3.6).
 
-ghost use Rattle.std.specs.Prelude.{◌≡◌, ◌==◌, ◌⊎◌, true, false, not, None, Some, OnOk, OnErr, IfOk, IfErr, IsOk, IsOkUnless, option_map, option_copied, is_some, find, map, min, length, slice_index_or, ◌<◌, ◌≤◌, ◌+◌, ◌-◌, ◌^◌, if◌then◌else◌};
-ghost use Rattle.sctp_data.specs.declared.chunk.chunk_forward_tsn.ChunkForwardTsnStream.{ChunkForwardTsnStream};
-ghost use Rattle.sctp_list_lemmas.specs.Lists.{change_where};
-ghost use Rattle.sctp_receiver.specs.Inbound.{named_forwarded, has_number, ssn_forwarded};
-ghost use Rattle.sctp_receiver.specs.SkipCosts.{name_walk, names_walk_behind, name_before, is_repeated};
+ghost use Rattle.std.specs.Prelude.{◌≡◌, ◌⊎◌, true, false, not, None, Some, OnOk, OnErr, IfOk, IfErr, IsOk, option_map, option_copied, is_some, find, map, min, length, ◌<◌, ◌≤◌, ◌+◌, ◌-◌, ◌^◌, if◌then◌else◌};
 ghost use Rattle.sctp_receiver.specs.declared.receiver.refusal.ReceiverRefusal.TheVariants.{StreamOpen, StreamUnknown, OutOfMemory};
 
 pub mod arrival;
 pub mod data_each;
 pub mod inbound_streams;
 pub mod limits;
+mod naming;
 pub mod refusal;
 pub mod resetting;
 pub mod sack_out;
@@ -29,7 +26,7 @@ use self::refusal::ReceiverRefusal;
 use self::taking::{Rules, note_repeat, take};
 use self::tsn_filter::TsnFilter;
 use sctp_base::util::sna32lte;
-use sctp_data::chunk::chunk_forward_tsn::{ChunkForwardTsn, ChunkForwardTsnStream};
+use sctp_data::chunk::chunk_forward_tsn::ChunkForwardTsn;
 use sctp_data::chunk::chunk_payload_data::{ChunkPayloadData, PayloadProtocolIdentifier};
 use sctp_outbound::payload_queue::PayloadQueue;
 use sctp_reassembly::chunks::Chunks;
@@ -342,8 +339,7 @@ impl Receiver {
     }
 
     /// The same, and its turns are added: at most one for each name, one for each stream that has unassembled fragments or ordered
-    /// messages that were not read, one for each TSN beyond that leaves, and one more. A name that repeats the one before it takes its
-    /// turn, and nothing is looked at for it; what another name looks at in its stream takes no turn.
+    /// messages that were not read, one for each TSN beyond that leaves, and one more. What is looked at within streams takes no turn.
     pub fn forward_tsn_by_names_counted(
         &mut self,
         chunk: &ChunkForwardTsn,
@@ -364,9 +360,9 @@ impl Receiver {
         self.forward_tsn_by_names_skips_counted(chunk, turns, &mut Turns::new())
     }
 
-    /// The same, and what it looks at within streams is added to `skips`: for each name that does not repeat the one before it five turns for
-    /// each ordered message that its stream held before the chunk, and two for each of their fragments, at most; and in all streams six
-    /// for each unassembled fragment, and one more for each stream that has these or ordered messages.
+    /// The same, and what it looks at within streams is added to `skips`: one turn for each name; for each stream that is named, however
+    /// often, five for each ordered message that it held before the chunk, and two for each of their fragments, at most; and in all
+    /// streams six for each unassembled fragment, and one more for each stream that has these or ordered messages.
     pub fn forward_tsn_by_names_skips_counted(
         &mut self,
         chunk: &ChunkForwardTsn,
@@ -395,7 +391,8 @@ impl Receiver {
         if sna32lte(tsn, self.filter.cumulative_tsn()) {
             return Ok(Forwarded::Stale);
         }
-        forward_named(&mut self.streams, &chunk.streams, turns, skips);
+        self.streams
+            .forward_named_counted(&chunk.streams, turns, skips);
         self.streams
             .forward_unordered_skips_counted(tsn, turns, skips);
         self.filter.skip_to_counted(tsn, turns);
@@ -437,60 +434,4 @@ impl Receiver {
             None => None,
         }
     }
-}
-
-// Discards what a FORWARD-TSN names, one name after another. A name that repeats the one before it changes nothing, and costs no walk.
-// A turn is taken for each name, and those of the skips are added to `skips`.
-fn forward_named(
-    streams: &mut InboundStreams,
-    names: &[ChunkForwardTsnStream],
-    turns: &mut Turns,
-    skips: &mut Turns,
-)
-    ensures value { streams.new ≡ named_forwarded names.now streams.old }
-    ensures cost { turns.new ≡ turns.old + length names.now }
-    ensures skips_not_back { skips.old ≤ skips.new }
-    ensures walk { skips.new ≤ skips.old + names_walk_behind None names.now streams.old }
-{
-    for place in 0..names.len() {
-        turns.tick();
-        if is_repeat(names, place) {
-            continue;
-        }
-        forward_name(
-            streams,
-            names[place].identifier,
-            names[place].sequence,
-            skips,
-        );
-    }
-}
-
-// Whether a name repeats the one before it.
-fn is_repeat(names: &[ChunkForwardTsnStream], place: usize) -> bool
-    requires { place < length names.now }
-    ensures same { result ≡ true → (0 < place) × ((d : ChunkForwardTsnStream)
-        → slice_index_or names.now (place - 1) d ≡ slice_index_or names.now place d) }
-    ensures repeats { (d : ChunkForwardTsnStream) → result
-        ≡ is_repeated (name_before place names.now) (slice_index_or names.now place d) }
-{
-    if place == 0 {
-        return false;
-    }
-    let before = &names[place - 1];
-    let name = &names[place];
-    before.identifier == name.identifier && before.sequence == name.sequence
-}
-
-// Discards what one name says. Another time it would change nothing.
-fn forward_name(streams: &mut InboundStreams, stream: u16, ssn: u16, skips: &mut Turns)
-    ensures value { streams.new
-        ≡ change_where (has_number stream) (ssn_forwarded ssn) streams.old }
-    ensures again { change_where (has_number stream) (ssn_forwarded ssn) streams.new
-        ≡ streams.new }
-    ensures not_back { skips.old ≤ skips.new }
-    ensures walk { skips.new
-        ≤ skips.old + name_walk (find (has_number stream) streams.old) }
-{
-    streams.forward_ordered_counted(stream, ssn, skips);
 }

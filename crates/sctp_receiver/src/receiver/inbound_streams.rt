@@ -13,17 +13,20 @@ ghost use Rattle.sctp_receiver.specs.Inbound.{unassembled_forwarded};
 ghost use Rattle.sctp_receiver.specs.Limits.{held_cost};
 ghost use Rattle.sctp_receiver.specs.Receiver.{readable_streams};
 ghost use Rattle.sctp_receiver.specs.Resets.{stream_reset, keeps_message};
-ghost use Rattle.sctp_receiver.specs.SkipCosts.{name_walk, unordered_skips_walk, incomplete_skips_walk, visit_walk, settle_walk};
+ghost use Rattle.sctp_receiver.specs.SkipCosts.{name_walk, named_walk, unordered_skips_walk, incomplete_skips_walk, visit_walk, settle_walk};
 ghost use Rattle.sctp_receiver.specs.Skips.{incomplete_forwarded};
 ghost use Rattle.sctp_receiver.specs.Undo.{stream_undone, undone_on, CanUndoOn};
 ghost use Rattle.sctp_receiver.specs.Visited.{skip_forwarded, to_visit};
 
 use crate::receiver::limits::{cost_of, cost_of_each};
+use crate::receiver::naming::{make_each, make_room, note_each};
 use crate::receiver::refusal::ReceiverRefusal;
 use crate::receiver::visiting::{Skip, forward_each, renew, settle, visit_all};
 use crate::receiver::visits::Visits;
+use sctp_data::chunk::chunk_forward_tsn::ChunkForwardTsnStream;
 use sctp_data::chunk::chunk_payload_data::ChunkPayloadData;
 use sctp_reassembly::chunks::Chunks;
+use sctp_reassembly::ordered_skips::OrderedSkips;
 use sctp_reassembly::reassembly_queue::ReassemblyQueue;
 use sctp_reassembly::reassembly_queue::undo::PushUndo;
 use sctp_serial::turns::Turns;
@@ -154,21 +157,24 @@ impl InboundStream {
 /// The streams of a receiver, in the order in which they were opened. Each is found at once by its number, and the sum of what they
 /// hold is kept: of each stream up to the greatest usize, so that it can be lowered again. So are the places of the streams that a
 /// FORWARD-TSN visits: of each that holds something incomplete, and of none that holds neither ordered messages nor unassembled
-/// fragments.
+/// fragments. There is room to note what a FORWARD-TSN names on each stream.
 #[derive(Drop)]
 pub struct InboundStreams {
     numbers: StreamNumbers,
     items: Vec<InboundStream>,
     cost: u128,
     visits: Visits,
+    // by place, nothing but while the names of a FORWARD-TSN are followed
+    noted: Vec<Option<OrderedSkips>>,
 }
 
 impl Model for InboundStreams {
-    ghost use Rattle.std.specs.Prelude.{◌≡◌, List};
+    ghost use Rattle.std.specs.Prelude.{◌≡◌, ◌≤◌, List, length};
     ghost use Rattle.sctp_receiver.specs.declared.receiver.inbound_streams.InboundStream.{InboundStream};
     ghost use Rattle.std.specs.List.{sum_by};
     ghost use Rattle.sctp_receiver.specs.Inbound.{numbers_of};
     ghost use Rattle.sctp_receiver.specs.Limits.{cost_within};
+    ghost use Rattle.sctp_receiver.specs.Noted.{AreNone};
     ghost use Rattle.sctp_receiver.specs.Visited.{IsListing};
 
     ghost Value = { List InboundStream };
@@ -179,12 +185,14 @@ impl Model for InboundStreams {
       numbers : s.numbers ≡ numbers_of s.items.items;
       cost : s.cost ≡ sum_by cost_within s.items.items;
       visits : IsListing s.visits s.items.items;
+      places : length s.numbers ≤ length s.noted.items;
+      none : AreNone s.noted.items;
     } };
 }
 
 impl InboundStreams {
     ghost use Rattle.sctp_reassembly.specs.reassembly_queue.ReassemblyQueue.{at_start};
-    ghost use Rattle.sctp_receiver.specs.Inbound.{has_number, numbers_of, new_stream, PushesOn, stream_read, ssn_forwarded};
+    ghost use Rattle.sctp_receiver.specs.Inbound.{has_number, numbers_of, new_stream, PushesOn, stream_read, ssn_forwarded, named_forwarded};
     ghost use Rattle.sctp_receiver.specs.Receiver.{message_of, stream_refusal, IsRefusedFor};
 
     /// No streams. It takes no memory.
@@ -196,6 +204,7 @@ impl InboundStreams {
             items: Vec::new(alloc),
             cost: 0,
             visits: Visits::new(alloc),
+            noted: Vec::new(alloc),
         }
     }
 
@@ -256,6 +265,7 @@ impl InboundStreams {
         if self.items.reserve(1).is_err() || self.visits.reserve().is_err() {
             return Err(ReceiverRefusal::OutOfMemory);
         }
+        make_room(&mut self.noted, self.items.len())?;
         self.numbers.push(stream)?;
         put(&mut self.items, opened);
         self.visits.push();
@@ -427,6 +437,32 @@ impl InboundStreams {
         inbound.queue.forward_tsn_for_ordered_counted(ssn, skips);
         self.cost = moved(self.cost, before, cost_of(&inbound.queue));
         renew(&mut self.visits, place, &inbound.queue, false);
+    }
+
+    /// Discards what a FORWARD-TSN names, one name after another (RFC 3758 3.6); what it names on a stream that is not open is passed over.
+    /// A turn is taken for each name. What it looks at within streams is added to `skips`: one turn for each name, and for each stream
+    /// that is named, however often, five for each ordered message and two for each of their fragments, at most. It takes no memory.
+    pub fn forward_named_counted(
+        &mut self,
+        names: &[ChunkForwardTsnStream],
+        turns: &mut Turns,
+        skips: &mut Turns,
+    )
+        ensures value { self.new ≡ named_forwarded names.now self.old }
+        ensures cost { turns.new ≡ turns.old + length names.now }
+        ensures skips_not_back { skips.old ≤ skips.new }
+        ensures walk { skips.new ≤ skips.old + named_walk names.now self.old }
+    {
+        note_each(&self.numbers, &self.items, &mut self.noted, names, turns);
+        self.cost = make_each(
+            &self.numbers,
+            &mut self.items,
+            self.cost,
+            &mut self.visits,
+            &mut self.noted,
+            names,
+            skips,
+        );
     }
 
     /// Discards the unassembled fragments of all streams up to a TSN (RFC 3758 3.6). It takes no memory.

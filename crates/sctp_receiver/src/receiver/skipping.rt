@@ -47,9 +47,8 @@ impl Receiver {
     }
 
     /// The same, and its turns are added: at most one for each name, two for each stream that has unassembled fragments or ordered
-    /// messages that were not read, one for each TSN beyond that leaves, and one more. A name that repeats the one before it takes its
-    /// turn, and nothing is looked at for it but in the tests of the refusals; what these tests, another name and a visit look at in a
-    /// stream takes no turn.
+    /// messages that were not read, one for each TSN beyond that leaves, and one more. What the tests of the refusals, the names and a
+    /// visit look at in a stream takes no turn.
     pub fn forward_tsn_counted(
         &mut self,
         chunk: &ChunkForwardTsn,
@@ -74,12 +73,12 @@ impl Receiver {
         self.forward_tsn_skips_counted(chunk, turns, &mut Turns::new())
     }
 
-    /// The same, and what it looks at within streams is added to `skips` (`skips_walk`): one turn for each name, for the test of its number;
-    /// for each that does not repeat the one before it five for each ordered message that its stream held before the chunk, and two for
-    /// each of their fragments, at most; and in all streams nine for each ordered message, four for each of their fragments, six for
-    /// each unassembled fragment, and one more for each stream that has any of these. So where no stream is named twice (RFC 3758 3.2) it
-    /// costs what is held, once (`laws::a_skip_costs_by_what_is_held`); else each further name of a stream as much again. In the
-    /// tests whether a message is complete, beside those of the skips, that message takes one turn, also where its TSNs do not ascend.
+    /// The same, and what it looks at within streams is added to `skips` (`skips_walk`): two turns for each name, one of them for the test
+    /// of its number; for each stream that is named, however often, five for each ordered message that it held before the chunk, and two
+    /// for each of their fragments, at most; and in all streams nine for each ordered message, four for each of their fragments, six for
+    /// each unassembled fragment, and one more for each stream that has any of these. So it costs what is held, once, also where it names
+    /// a stream with several numbers, of which the greatest would do (RFC 3758 3.2; `laws::a_skip_costs_by_what_is_held`). In the tests
+    /// whether a message is complete, beside those of the skips, that message takes one turn, also where its TSNs do not ascend.
     pub fn forward_tsn_skips_counted(
         &mut self,
         chunk: &ChunkForwardTsn,

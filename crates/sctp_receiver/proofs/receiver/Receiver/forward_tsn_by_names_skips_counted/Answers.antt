@@ -1,9 +1,9 @@
-use Rattle.std.proofs.Common.{◌≡◌, ap, sym, ◌∙◌, false, None, length, arith}
+use Rattle.std.proofs.Common.{◌≡◌, ap, sym, ◌∙◌, false, length, arith}
 use Rattle.sctp_list_lemmas.specs.Serial.{at_or_before}
 use Rattle.sctp_receiver.specs.Visited.{to_visit}
 use Rattle.sctp_receiver.proofs.Receptions.{after}
 use Rattle.sctp_receiver.proofs.Settled.{fewer-named}
-use Rattle.sctp_receiver.specs.SkipCosts.{names_walk_behind, unordered_skips_walk}
+use Rattle.sctp_receiver.specs.SkipCosts.{named_walk, unordered_skips_walk}
 use Rattle.sctp_receiver.proofs.SkipCosts.{unordered-after-names}
 use Rattle.sctp_receiver.proofs.receiver.Receiver.forward_tsn_by_names_skips_counted.Goals as goal
 
@@ -19,14 +19,14 @@ pub returns-clause-cost : goal.returns-clause-cost
 returns-clause-cost c =
     let few = fewer-named c.deref.result.now c.self.inside.streams in
     let names = ap length c.deref.ensures.value in
-    let named = ap (λ ls. length (to_visit ls)) c.forward_named.ensures.value in
+    let named = ap (λ ls. length (to_visit ls)) c.forward_named_counted.ensures.value in
     rw (← c.self.view_is)
-    (omega (arith, c.forward_named.ensures.cost, c.forward_unordered_skips_counted.ensures.cost, c.skip_to_counted.ensures.cost, few, named, names))
+    (omega (arith, c.forward_named_counted.ensures.cost, c.forward_unordered_skips_counted.ensures.cost, c.skip_to_counted.ensures.cost, few, named, names))
 
 pub returns-clause-walk : goal.returns-clause-walk
 returns-clause-walk c =
     let ls = c.self.inside.streams in
     let few = unordered-after-names c.deref.result.now ls in
-    let names = ap (λ ns. names_walk_behind None ns ls) c.deref.ensures.value in
-    let named = ap unordered_skips_walk c.forward_named.ensures.value in
-    rw (← c.self.view_is) (omega (arith, c.forward_named.ensures.walk, c.forward_unordered_skips_counted.ensures.walk, few, named, names))
+    let names = ap (λ ns. named_walk ns ls) c.deref.ensures.value in
+    let named = ap unordered_skips_walk c.forward_named_counted.ensures.value in
+    rw (← c.self.view_is) (omega (arith, c.forward_named_counted.ensures.walk, c.forward_unordered_skips_counted.ensures.walk, few, named, names))

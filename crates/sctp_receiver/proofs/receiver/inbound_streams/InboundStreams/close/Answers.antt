@@ -1,9 +1,11 @@
-use Rattle.std.proofs.Common.{rules, ◌≡◌, ap, ◌∙◌, sym, subst, arith}
+use Rattle.std.proofs.Common.{rules, length, ◌≡◌, ap, ◌∙◌, sym, subst, arith}
 use Rattle.std.specs.Prelude.{slice_index_or}
 use Rattle.std.specs.List.{sum_by}
 use Rattle.sctp_receiver.specs.Limits.{cost_within}
 use Rattle.sctp_receiver.specs.Visited.{IsListing}
 use Rattle.sctp_receiver.proofs.CostSums.{removed-sum}
+use Rattle.sctp_receiver.proofs.SkipCosts.{fewer-length}
+use Rattle.sctp_stream.specs.Numbers.{is_other}
 use Rattle.sctp_receiver.specs.Inbound.{number, numbers_of}
 use Rattle.sctp_stream.proofs.StreamPlaces.{absent-those, inside, without, numbers-without}
 use Rattle.sctp_receiver.proofs.receiver.inbound_streams.InboundStreams.close.Goals as goal
@@ -29,6 +31,8 @@ invariant_of-self c =
           ∙ ap numbers_of (sym c.remove-closed.ensures.items);
       cost = omega (arith, h, items, c.self.invariant.cost, c.cost_of.ensures);
       visits = subst (IsListing c.visit_all.new.visits) c.deref.ensures.value c.visit_all.ensures;
+      places = omega (arith, c.self.invariant.places, ap length c.remove.ensures, fewer-length (is_other c.args.stream) c.self.inside.numbers);
+      none = c.self.invariant.none;
     }
 
 pub returns : goal.returns

@@ -22,6 +22,8 @@ invariant_of-self c = record {
       ∙ stays-mapped number (skip_forwarded c.args.skip c.args.tsn) (number-stays c.args.skip c.args.tsn) c.self.inside.items.items);
   cost = c.forward_each-self-inside.ensures.cost;
   visits = subst (IsListing c.settle.new.visits) c.deref.ensures.value c.settle.ensures.listing;
+  places = c.self.invariant.places;
+  none = c.self.invariant.none;
 }
 
 pub returns-clause-walk : goal.returns-clause-walk

@@ -54,6 +54,8 @@ invariant_of-self c =
           c.renew.ensures.here
           (λ h. ap (λ (q : ReassemblyState). holds_incomplete q.held) c.forward_tsn_for_ordered_counted.ensures.value
           ∙ named-none c.args.ssn c.index_mut-inbound.result.now h);
+      places = c.self.invariant.places;
+      none = c.self.invariant.none;
     }
 
 pub returns-clause-value : goal.returns-clause-value

@@ -1,10 +1,11 @@
-use Rattle.std.proofs.Common.{◌≡◌, ◌+◌, ◌++◌, ◌∷◌, [], length, ap, ap₂, sym, subst, ◌∙◌, refl}
+use Rattle.std.proofs.Common.{rules, arith, ◌≡◌, ◌+◌, ◌++◌, ◌∷◌, [], length, length-append, ap, ap₂, sym, subst, ◌∙◌, refl}
 use Rattle.std.specs.List.{sum_by}
 use Rattle.std.proofs.lemmas.List.{map-append}
 use Rattle.sctp_receiver.specs.Inbound.{number, numbers_of, new_stream}
 use Rattle.sctp_receiver.specs.Limits.{cost_within}
 use Rattle.sctp_receiver.specs.Visited.{VisitOrder, IsListing, is_visited}
 use Rattle.sctp_receiver.proofs.CostSums.{opened-sum}
+use Rattle.sctp_list_lemmas.proofs.Getting.{length-mapped}
 use Rattle.sctp_receiver.proofs.Listing.{one-opened}
 use Rattle.sctp_receiver.proofs.receiver.inbound_streams.InboundStreams.open.Goals as goal
 
@@ -21,4 +22,17 @@ invariant_of-self-2 c =
       visits = subst (IsListing c.push-2.new.self) (sym items) (one-opened c.self.inside.visits c.push-2.new.self ls l c.self.invariant.visits
           (c.push-2.ensures.places ∙ ap (λ (v : VisitOrder). length v.spots + 1) rest)
           (λ p. c.push-2.ensures.visited p ∙ ap (is_visited p) rest) refl);
+      places =
+          let many : c.len.result ≡ length c.reserve.new.self.items = search rules in
+          omega (
+            arith,
+            c.in_ok-make_room.ensures.ok,
+            many,
+            ap length c.reserve.ensures.items,
+            ap length c.in_ok-push.ensures.ok,
+            length-append c.self.inside.numbers (c.args.stream ∷ []),
+            ap length c.self.invariant.numbers,
+            length-mapped number ls,
+          );
+      none = c.make_room.ensures.none;
     }

@@ -1,13 +1,26 @@
 use Rattle.std.proofs.Common.{rules, ◌<◌, ◌-◌, ◌^◌, ◌∙◌, refl, sym, subst, length, length-set, arith}
+use Rattle.std.proofs.lemmas.Bool.{eq-eqb}
+use Rattle.sctp_list_lemmas.proofs.Cases.{some-same}
 use Rattle.sctp_receiver.specs.Costs.{IsWithinPushOn}
 use Rattle.sctp_stream.specs.Numbers.{IsOnlyPlace}
 use Rattle.sctp_receiver.specs.Inbound.{number, numbers_of}
 use Rattle.sctp_stream.proofs.StreamPlaces.{inside, numbers-stay}
 use Rattle.sctp_receiver.proofs.Listing.{renewed-more}
+use Rattle.sctp_receiver.proofs.SkipCosts.{at-map}
+use Rattle.sctp_receiver.proofs.VisitOrders.{read-at}
 use Rattle.sctp_receiver.proofs.CostSums.{is-part, changed-fits, changed-sum}
 use Rattle.sctp_receiver.proofs.Inbounds.{number-stays, is-found, pushes, fits, refused}
 use Rattle.sctp_receiver.proofs.Undone.{push-undone, push-can}
 use Rattle.sctp_receiver.proofs.receiver.inbound_streams.InboundStreams.push_undoable_at_counted.Goals as goal
+
+pub push_undoable_counted-pushed-requires : goal.push_undoable_counted-pushed-requires
+push_undoable_counted-pushed-requires c =
+    let ls = c.self.inside.items.items in
+    let p : IsOnlyPlace c.args.chunk.now.stream_identifier (numbers_of ls) c.args.place = rw (← c.self.view_is) at c.requires in
+    let lt = inside number ls (numbers_of ls) refl c.args.chunk.now.stream_identifier c.args.place p in
+    let x = c.index_mut-stream.result.now in
+    let here = at-map number ls c.args.place x (read-at ls c.args.place x lt c.index_mut-stream.ensures.value) in
+    eq-eqb _ _ (some-same (sym p.here ∙ here))
 
 pub moved-self-inside-requires-clause-part : goal.moved-self-inside-requires-clause-part
 moved-self-inside-requires-clause-part c =
@@ -43,6 +56,8 @@ invariant_of-self c =
           c.index_mut-stream.result.now c.push_undoable_counted-pushed.new.self lt c.index_mut-stream.ensures.value c.self.invariant.visits
           c.renew.ensures.places
           (length-set ls c.args.place c.push_undoable_counted-pushed.new.self) c.renew.ensures.others c.renew.ensures.here;
+      places = c.self.invariant.places;
+      none = c.self.invariant.none;
     }
 
 pub returns-clause-ok : goal.returns-clause-ok

@@ -42,6 +42,8 @@ invariant_of-self c =
           c.index_mut-inbound.result.now c.read-message.new.self lt c.index_mut-inbound.ensures.value c.self.invariant.visits c.renew.ensures.places
           (length-set ls c.args.place c.read-message.new.self) c.renew.ensures.others c.renew.ensures.here
           (λ h. ap (λ l. holds_incomplete l.queue.held) c.read-message.ensures.rest ∙ read-none c.index_mut-inbound.result.now h);
+      places = c.self.invariant.places;
+      none = c.self.invariant.none;
     }
 
 pub returns-clause-message : goal.returns-clause-message

@@ -39,6 +39,8 @@ invariant_of-self c =
       visits = renewed-more c.self.inside.visits c.renew.new.visits ls c.args.place
           c.index_mut-inbound.result.now c.reset-answer.new.self lt c.index_mut-inbound.ensures.value c.self.invariant.visits c.renew.ensures.places
           (length-set ls c.args.place c.reset-answer.new.self) c.renew.ensures.others c.renew.ensures.here;
+      places = c.self.invariant.places;
+      none = c.self.invariant.none;
     }
 
 pub returns-clause-ok : goal.returns-clause-ok

@@ -39,6 +39,8 @@ invariant_of-self c =
       visits = renewed-more c.self.inside.visits c.renew.new.visits ls c.args.place
           c.index_mut-inbound.result.now c.undo_push.new.self lt c.index_mut-inbound.ensures.value c.self.invariant.visits c.renew.ensures.places
           (length-set ls c.args.place c.undo_push.new.self) c.renew.ensures.others c.renew.ensures.here;
+      places = c.self.invariant.places;
+      none = c.self.invariant.none;
     }
 
 pub returns : goal.returns
