@@ -1,7 +1,6 @@
 //! The calls that add their turns: what they answer, and what they leave; of some what they look at in a case that is counted by hand.
 
-ghost use Rattle.std.specs.Prelude.{◌≡◌, ◌+◌, ◌-◌, ◌≤◌, [], ◌∷◌, OnOk, length};
-ghost use Rattle.sctp_data.specs.declared.chunk.chunk_forward_tsn.ChunkForwardTsnStream.{ChunkForwardTsnStream};
+ghost use Rattle.std.specs.Prelude.{◌≡◌, ◌+◌, ◌-◌, ◌*◌, ◌≤◌, OnOk, length};
 ghost use Rattle.sctp_receiver.specs.Datagrams.{IsWithinDatagram, datagram_looks};
 ghost use Rattle.sctp_receiver.specs.SkipCosts.{held_fragments, held_messages};
 ghost use Rattle.sctp_receiver.specs.Visited.{to_visit};
@@ -242,17 +241,17 @@ enum Way {
     ByNames,
 }
 
-// Follows a FORWARD-TSN. Of one name, where one message of one fragment is held, it looks 22 times at most: one for the name, one for
-// the stream, 14 for the message, six for its fragment.
+// Follows a FORWARD-TSN. Where one message of one fragment is held, it looks at most twice for each name, once for the stream, 14 times
+// for the message and six times for its fragment.
 fn follow(
     receiver: &mut Receiver,
     skip: &ChunkForwardTsn,
     way: Way,
     skips: &mut Turns,
 ) -> Result<Forwarded, ReceiverRefusal>
-    ensures looks { (n : ChunkForwardTsnStream) → skip.now.streams.items ≡ n ∷ []
-        → held_messages receiver.old.streams ≡ 1 → held_fragments receiver.old.streams ≡ 1
-        → length (to_visit receiver.old.streams) ≡ 1 → skips.new ≤ skips.old + 22 }
+    ensures looks { held_messages receiver.old.streams ≡ 1
+        → held_fragments receiver.old.streams ≡ 1 → length (to_visit receiver.old.streams) ≡ 1
+        → skips.new ≤ skips.old + 2 * length skip.now.streams.items + 21 }
 {
     a_skip_costs_by_what_is_held();
     let mut turns = Turns::new();
