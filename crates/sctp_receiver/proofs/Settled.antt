@@ -94,9 +94,6 @@ read-none l h = among l.queue.held.unordered
 thinned : (p : ChunkSet → Bool) (sets : List ChunkSet) → list_any is_incomplete sets ≡ false → list_any is_incomplete (filter p sets) ≡ false
 thinned p sets e = fails (list_any is_incomplete (filter p sets)) (λ t. not_both (sym e ∙ list_any-those is_incomplete p sets t))
 
-pub named-none : (ssn : ℕ) (l : InboundStream) → holds_incomplete l.queue.held ≡ false → holds_incomplete (ssn_forwarded ssn l).queue.held ≡ false
-named-none ssn l h = fewer-sets l.queue.held (ssn_forwarded ssn l).queue.held refl (thinned (λ set. not (is_passed ssn set)) l.queue.held.ordered) h
-
 pub noted-none : (skips : OrderedSkips) (l : InboundStream) → holds_incomplete l.queue.held ≡ false
     → holds_incomplete (after_noted_skips skips l.queue).held ≡ false
 noted-none skips l h =

@@ -172,9 +172,6 @@ module _ (ssn : ℕ) (l : InboundStream) where
   kept-chunks : set_chunks (ssn_forwarded ssn l).queue.held.ordered ≤ set_chunks l.queue.held.ordered
   kept-chunks = fewer-chunks (λ set. not (is_passed ssn set)) l.queue.held.ordered
 
-  named-ordered : ordered_walk (ssn_forwarded ssn l) ≤ ordered_walk l
-  named-ordered = let a = kept in let b = kept-chunks in omega (arith, a, b)
-
   named-incomplete : incomplete_walk (ssn_forwarded ssn l) ≤ incomplete_walk l
   named-incomplete = let a = kept in let b = kept-chunks in omega (arith, a, b)
 

@@ -1,5 +1,5 @@
 -- What a FORWARD-TSN looks at within streams: bounds of its turns. A turn is one look at an ordered message or at a fragment.
-use Rattle.std.specs.Prelude.{ℕ, ◌+◌, ◌*◌, ◌≤◌, List, length, Option, Some, None}
+use Rattle.std.specs.Prelude.{ℕ, ◌+◌, ◌*◌, ◌≤◌, List, length, Some}
 use Rattle.std.specs.List.{sum_by, filter}
 use Rattle.sctp_data.specs.ForwardTsn.{ForwardTsn}
 use Rattle.sctp_data.specs.declared.chunk.chunk_forward_tsn.ChunkForwardTsnStream.{ChunkForwardTsnStream}
@@ -12,11 +12,6 @@ use Rattle.sctp_receiver.specs.declared.receiver.visiting.Skip.TheVariants.{Unas
 use Rattle.sctp_receiver.specs.Noted.{is_named}
 use Rattle.sctp_receiver.specs.Receiver.{Reception}
 use Rattle.sctp_receiver.specs.Visited.{to_visit}
-
--- a name, whatever its stream holds: each ordered message of that five times, and each of their fragments twice; none where it is not open
-abbrev pub name_walk : Option InboundStream → ℕ
-name_walk None = 0
-name_walk (Some l) = ordered_skip_walk l.queue.held
 
 -- the streams that are named
 abbrev pub named_streams : List ChunkForwardTsnStream → List InboundStream → List InboundStream

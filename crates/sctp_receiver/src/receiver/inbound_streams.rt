@@ -1,8 +1,7 @@
 //! The streams of a receiver.
 
-ghost use Rattle.std.specs.Prelude.{◌≡◌, ◌==◌, ◌<◌, ◌≤◌, ◌+◌, ◌-◌, ◌^◌, ◌++◌, ◌∷◌, ◌⊎◌, [], not, true, false, Some, None, OnOk, OnErr, IfOk, IfErr, IsOk, IsOkUnless, MatchOption, length, map, find, option_map, option_copied, slice_get, if◌then◌else◌};
+ghost use Rattle.std.specs.Prelude.{◌≡◌, ◌==◌, ◌<◌, ◌≤◌, ◌+◌, ◌-◌, ◌^◌, ◌++◌, ◌∷◌, ◌⊎◌, [], not, true, false, Some, None, OnOk, OnErr, IfOk, IfErr, IsOk, MatchOption, length, map, find, option_map, option_copied, if◌then◌else◌};
 ghost use Rattle.std.specs.List.{filter, sum_by};
-ghost use Rattle.sctp_base.specs.declared.error.Error.TheVariants.{ErrOutOfMemory};
 ghost use Rattle.sctp_list_lemmas.specs.Lists.{change_where};
 ghost use Rattle.sctp_receiver.specs.declared.receiver.refusal.ReceiverRefusal.TheVariants.{MessageTooLarge, OutOfMemory};
 ghost use Rattle.sctp_stream.specs.Numbers.{IsOnlyPlace, IsAbsent};
@@ -13,7 +12,7 @@ ghost use Rattle.sctp_receiver.specs.Inbound.{unassembled_forwarded};
 ghost use Rattle.sctp_receiver.specs.Limits.{held_cost};
 ghost use Rattle.sctp_receiver.specs.Receiver.{readable_streams};
 ghost use Rattle.sctp_receiver.specs.Resets.{stream_reset, keeps_message};
-ghost use Rattle.sctp_receiver.specs.SkipCosts.{name_walk, named_walk, unordered_skips_walk, incomplete_skips_walk, visit_walk, settle_walk};
+ghost use Rattle.sctp_receiver.specs.SkipCosts.{named_walk, unordered_skips_walk, incomplete_skips_walk, visit_walk, settle_walk};
 ghost use Rattle.sctp_receiver.specs.Skips.{incomplete_forwarded};
 ghost use Rattle.sctp_receiver.specs.Undo.{stream_undone, undone_on, CanUndoOn};
 ghost use Rattle.sctp_receiver.specs.Visited.{skip_forwarded, to_visit};
@@ -192,7 +191,7 @@ impl Model for InboundStreams {
 
 impl InboundStreams {
     ghost use Rattle.sctp_reassembly.specs.reassembly_queue.ReassemblyQueue.{at_start};
-    ghost use Rattle.sctp_receiver.specs.Inbound.{has_number, numbers_of, new_stream, PushesOn, stream_read, ssn_forwarded, named_forwarded};
+    ghost use Rattle.sctp_receiver.specs.Inbound.{has_number, numbers_of, new_stream, PushesOn, stream_read, named_forwarded};
     ghost use Rattle.sctp_receiver.specs.Receiver.{message_of, stream_refusal, IsRefusedFor};
 
     /// No streams. It takes no memory.
@@ -415,30 +414,6 @@ impl InboundStreams {
         self.items = saved;
     }
 
-    /// Discards the messages of a stream up to a stream sequence number, where it is open (RFC 3758 3.6). It takes no memory.
-    pub fn forward_ordered(&mut self, stream: u16, ssn: u16)
-        ensures { self.new ≡ change_where (has_number stream) (ssn_forwarded ssn) self.old }
-    {
-        self.forward_ordered_counted(stream, ssn, &mut Turns::new());
-    }
-
-    /// The same, and its turns are added: those of the skip in the queue of that stream, and none where it is not open.
-    pub fn forward_ordered_counted(&mut self, stream: u16, ssn: u16, skips: &mut Turns)
-        ensures value { self.new ≡ change_where (has_number stream) (ssn_forwarded ssn) self.old }
-        ensures not_back { skips.old ≤ skips.new }
-        ensures walk { skips.new
-            ≤ skips.old + name_walk (find (has_number stream) self.old) }
-    {
-        let Some(place) = self.numbers.place_of(stream) else {
-            return;
-        };
-        let inbound = &mut self.items[place];
-        let before = cost_of(&inbound.queue);
-        inbound.queue.forward_tsn_for_ordered_counted(ssn, skips);
-        self.cost = moved(self.cost, before, cost_of(&inbound.queue));
-        renew(&mut self.visits, place, &inbound.queue, false);
-    }
-
     /// Discards what a FORWARD-TSN names, one name after another (RFC 3758 3.6); what it names on a stream that is not open is passed over.
     /// A turn is taken for each name. What it looks at within streams is added to `skips`: one turn for each name, and for each stream
     /// that is named, however often, five for each ordered message and two for each of their fragments, at most. It takes no memory.
@@ -465,24 +440,9 @@ impl InboundStreams {
         );
     }
 
-    /// Discards the unassembled fragments of all streams up to a TSN (RFC 3758 3.6). It takes no memory.
-    pub fn forward_unordered(&mut self, tsn: u32)
-        ensures { self.new ≡ map (unassembled_forwarded tsn) self.old }
-    {
-        self.forward_unordered_counted(tsn, &mut Turns::new());
-    }
-
-    /// The same, and its turns are added: at most one for each stream that has unassembled fragments or ordered messages.
-    pub fn forward_unordered_counted(&mut self, tsn: u32, turns: &mut Turns)
-        ensures value { self.new ≡ map (unassembled_forwarded tsn) self.old }
-        ensures not_back { turns.old ≤ turns.new }
-        ensures cost { turns.new ≤ turns.old + length (to_visit self.old) }
-    {
-        self.forward_unordered_skips_counted(tsn, turns, &mut Turns::new());
-    }
-
-    /// The same, and what it looks at within these streams is added to `skips`: six turns for each unassembled fragment at most, and
-    /// one more for each stream.
+    /// Discards the unassembled fragments of all streams up to a TSN (RFC 3758 3.6). Its turns are added: at most one for each stream that
+    /// has unassembled fragments or ordered messages. What it looks at within these streams is added to `skips`: six turns for each
+    /// unassembled fragment at most, and one more for each stream. It takes no memory.
     pub fn forward_unordered_skips_counted(
         &mut self,
         tsn: u32,
@@ -498,25 +458,9 @@ impl InboundStreams {
         self.forward(Skip::Unassembled, tsn, turns, skips);
     }
 
-    /// Discards the incomplete ordered messages of all streams that miss a TSN at or before the given one (RFC 3758 3.6). It takes no
-    /// memory.
-    pub fn forward_incomplete(&mut self, tsn: u32)
-        ensures { self.new ≡ map (incomplete_forwarded tsn) self.old }
-    {
-        self.forward_incomplete_counted(tsn, &mut Turns::new());
-    }
-
-    /// The same, and its turns are added: at most one for each stream that has unassembled fragments or ordered messages.
-    pub fn forward_incomplete_counted(&mut self, tsn: u32, turns: &mut Turns)
-        ensures value { self.new ≡ map (incomplete_forwarded tsn) self.old }
-        ensures not_back { turns.old ≤ turns.new }
-        ensures cost { turns.new ≤ turns.old + length (to_visit self.old) }
-    {
-        self.forward_incomplete_skips_counted(tsn, turns, &mut Turns::new());
-    }
-
-    /// The same, and what it looks at within these streams is added to `skips`: nine turns for each ordered message at most, and four for
-    /// each of their fragments.
+    /// Discards the incomplete ordered messages of all streams that miss a TSN at or before the given one (RFC 3758 3.6). Its turns are
+    /// added: at most one for each stream that has unassembled fragments or ordered messages. What it looks at within these streams is
+    /// added to `skips`: nine turns for each ordered message at most, and four for each of their fragments. It takes no memory.
     pub fn forward_incomplete_skips_counted(
         &mut self,
         tsn: u32,
