@@ -89,7 +89,7 @@ fn receiving_name(call: Receiving) -> &'static str {
         Receiving::Sack => "Receiver::sack",
         Receiving::Read => "Receiver::read",
         Receiving::Skip => "Receiver::forward_tsn",
-        Receiving::SkipNames => "Receiver::forward_tsn, 16381 equal names,",
+        Receiving::SkipNames => "Receiver::forward_tsn, 16381 numbers of a stream,",
     }
 }
 

@@ -23,7 +23,7 @@ pub enum Receiving {
     Read,
     /// A FORWARD-TSN over one of so many unordered messages that are incomplete.
     Skip,
-    /// One that names the first of so many ordered messages 16,381 times.
+    /// One that names 16,381 of so many ordered messages, each by its number.
     SkipNames,
 }
 
@@ -95,12 +95,12 @@ fn open_each(receiver: &mut Receiver, count: u32) -> usize {
     opened
 }
 
-// Names the first ordered message over and over.
+// Names so many ordered messages of one stream, each by its number.
 fn name_each(names: &mut Vec<ChunkForwardTsnStream>, count: u32) -> bool {
-    for _ in 0..count {
+    for place in 0..count {
         let name = ChunkForwardTsnStream {
             identifier: STREAM,
-            sequence: 0,
+            sequence: (place % 65_536) as u16,
         };
         if names.push(name).is_err() {
             return false;
