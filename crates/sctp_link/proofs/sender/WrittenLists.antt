@@ -12,6 +12,7 @@ use Rattle.sctp_model.specs.Reply as R
 use Rattle.sctp_model.specs.Messages as M
 use Rattle.sctp_sender.specs.Outgoing as Outgoing
 use Rattle.sctp_sender.proofs.SenderStreams
+use Rattle.sctp_sender.specs.declared.sender.refusal.SenderRefusal.TheVariants.{QueueFull}
 use Rattle.sctp_link.proofs.upkeep.StreamPlaces.{placed}
 use Rattle.sctp_link.proofs.upkeep.Facts.{facts}
 use Rattle.sctp_link.proofs.upkeep.Frames.{moved}
@@ -84,10 +85,10 @@ module _ {sum : List ℕ → ℕ} {x : State} (l : IsLinked sum x) (s : ℕ) (pp
     pub sender-takes : (t : Transmission) → t.streams ≡ map (λ l. l.state) x.open_streams → t.flight.queue ≡ x.outbound
         → t.max_message_size ≡ x.recorded.setup.largest → write_refusal s (length bytes) t ≡ None
     sender-takes t es eq em =
-        SenderStreams.fine s (length bytes) t
+        SenderStreams.by-room s (length bytes) t
         (ap (λ ls. is_some (find (Outgoing.has_number s) ls)) es ∙ ap is_some (state-found s x.open_streams)
         ∙ ap (λ o. is_some (option_map (λ l. l.state) o)) here)
-        (omega (arith, write-small, em)) (ap (is_full_of (length bytes)) eq ∙ not-full)
+        (omega (arith, write-small, em)) ∙ ap (λ b. if b then Some QueueFull else None) (ap (is_full_of (length bytes)) eq ∙ not-full)
 
     abbrev pub kept : Message
     kept = message_written s (written_of m ppi) ppi bytes
