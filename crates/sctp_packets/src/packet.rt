@@ -38,6 +38,15 @@ pub const PACKET_HEADER_SIZE: usize = 12;
 // No IP datagram has more bytes (RFC 791 3.1).
 const MAX_DATAGRAM: usize = 65_535;
 
+// What a packet over IPv4 has at most until a greater path MTU is found (RFC 8831 5).
+const USUAL_PACKET: usize = 1_200;
+
+// The bytes of a SACK without blocks (RFC 4960 3.3.4); a chunk of DATA has more.
+const USUAL_CHUNK: usize = 16;
+
+// How many chunks a list that is read has room for at first, at most.
+const FIRST_CHUNKS: usize = 4;
+
 /// What the header says beside the checksum (RFC 4960 3.1).
 #[derive(Clone, Copy, Debug, PartialEq, Eq)]
 pub struct CommonHeader {
@@ -106,7 +115,7 @@ fn read_chunks(alloc: Global, raw: Bytes) -> Result<Vec<ChunkKind>>
     ensures canonical { IfOk result (λ v. AllByRecursion Canonical (map wire_of v.items)) }
     ensures fresh { IfOk result (λ v. AllByRecursion IsFreshKind v.items) }
 {
-    let mut chunks = Vec::new(alloc);
+    let mut chunks = Vec::with_capacity(alloc, (raw.len() / USUAL_CHUNK).min(FIRST_CHUNKS))?;
     let mut rest = raw;
     'walk: while !rest.is_empty() {
         let (chunk, length) = read_step(alloc, &rest)?;
@@ -180,6 +189,17 @@ fn length_with(chunks: &[ChunkKind]) -> usize
         total = total.saturating_add(length.saturating_add(get_padding_size(length)));
     }
     total
+}
+
+/// Makes room for a packet of these chunks at once, so that the buffer doesn't grow for each part. It measures them only where
+/// less than a usual packet's room is left. Where memory is refused the parts tell of it.
+fn make_room(buf: &mut BytesMut, chunks: &[ChunkKind])
+    ensures items { buf.new.items ≡ buf.old.items }
+    ensures spare { buf.old.spare ≤ buf.new.spare }
+{
+    if buf.capacity() - buf.len() < USUAL_PACKET {
+        let _ = buf.reserve(length_with(chunks).min(MAX_DATAGRAM));
+    }
 }
 
 /// Appends chunks, each with its padding. After a refusal some may stand there.
@@ -293,8 +313,7 @@ impl Packet {
             ⊎ ((e ≡ ErrOutOfMemory) × LacksRoom buf.old.spare 12 (parts_of self.now).chunks)) }
     {
         let start = buf.len();
-        // Room for all at once, so that the buffer doesn't grow for each part. Where memory is refused the parts tell of it.
-        let _ = buf.reserve(length_with(&self.chunks).min(MAX_DATAGRAM));
+        make_room(buf, &self.chunks);
         match self.put(buf, checksum) {
             Ok(()) => Ok(buf.len()),
             Err(e) => {
@@ -316,7 +335,7 @@ impl Packet {
     {
         let length = length_with(&self.chunks).min(MAX_DATAGRAM);
         let mut buf = BytesMut::with_capacity(alloc, length)?;
-        self.marshal_to(&mut buf, checksum)?;
+        self.put(&mut buf, checksum)?;
         Ok(buf.freeze()?)
     }
 

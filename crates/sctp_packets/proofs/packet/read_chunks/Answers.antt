@@ -14,10 +14,10 @@ use Rattle.sctp_packets.proofs.packet.read_chunks.Goals as goal
 
 pub walk-init : goal.walk-init
 walk-init c = record {
-  walk = rw c.new-chunks.ensures.items (walks_none Steps after c.args.raw);
-  rewritable = rw c.new-chunks.ensures.items tt;
-  canonical = rw c.new-chunks.ensures.items tt;
-  fresh = rw c.new-chunks.ensures.items tt;
+  walk = rw c.in_ok-chunks.ensures.items (walks_none Steps after c.args.raw);
+  rewritable = rw c.in_ok-chunks.ensures.items tt;
+  canonical = rw c.in_ok-chunks.ensures.items tt;
+  fresh = rw c.in_ok-chunks.ensures.items tt;
 }
 
 pub walk-preserved : goal.walk-preserved
@@ -37,14 +37,14 @@ walk-preserved c =
 
 pub returns-in_err-chunk-clause-only : goal.returns-in_err-chunk-clause-only
 returns-in_err-chunk-clause-only c = λ ws whole.
-    let p = err_from_is_err_and c.from_residual.result c.from_residual.ensures.1 in
+    let p = err_from_is_err_and c.from_residual-in_err-chunk.result c.from_residual-in_err-chunk.ensures.1 in
     let next = goes_on c.args.raw (map wire_of c.walk.chunks.items) ws c.walk.rest c.walk.invariant.walk whole (grind (arith, common_steps)) in
     rw (p.1, p.2) (c.in_err-chunk.ensures.only next.0 next.1)
 
 pub returns-in_err-chunk-clause-fault : goal.returns-in_err-chunk-clause-fault
 unfolding WalkFault
 returns-in_err-chunk-clause-fault c =
-    let p = err_from_is_err_and c.from_residual.result c.from_residual.ensures.1 in
+    let p = err_from_is_err_and c.from_residual-in_err-chunk.result c.from_residual-in_err-chunk.ensures.1 in
     rw (p.1, p.2) (elim c.in_err-chunk.ensures.fault [
       | inl memory ↦ inl memory
       | inr fault ↦ inr (map wire_of c.walk.chunks.items, c.walk.rest, c.walk.invariant.walk, fault)
