@@ -118,8 +118,9 @@ fn read_chunks(alloc: Global, raw: Bytes) -> Result<Vec<ChunkKind>>
     let mut chunks = Vec::with_capacity(alloc, (raw.len() / USUAL_CHUNK).min(FIRST_CHUNKS))?;
     let mut rest = raw;
     'walk: while !rest.is_empty() {
+        chunks.reserve(1)?;
         let (chunk, length) = read_step(alloc, &rest)?;
-        chunks.push(chunk)?;
+        chunks.push_reserved(chunk);
         rest.advance(length);
     }
     Ok(chunks)
@@ -336,7 +337,10 @@ impl Packet {
         let length = length_with(&self.chunks).min(MAX_DATAGRAM);
         let mut buf = BytesMut::with_capacity(alloc, length)?;
         self.put(&mut buf, checksum)?;
-        Ok(buf.freeze()?)
+        match buf.freeze() {
+            Ok(bytes) => Ok(bytes),
+            Err(_) => Err(Error::ErrOutOfMemory),
+        }
     }
 
     // After a refusal a part may stand there.

@@ -29,10 +29,11 @@ walk-preserved c =
     (wire_of c.in_ok-chunk.chunk) c.walk.invariant.rewritable c.in_ok-chunk.ensures.rewritable in
     let again = all_next Canonical (map wire_of c.walk.chunks.items) (wire_of c.in_ok-chunk.chunk) c.walk.invariant.canonical c.in_ok-chunk.ensures.canonical in
     record {
-      walk = rw (c.in_ok-push.ensures.items, map-append, c.advance.ensures, c.in_ok-chunk.ensures.length) next;
-      rewritable = rw (c.in_ok-push.ensures.items, map-append) encodings;
-      canonical = rw (c.in_ok-push.ensures.items, map-append) again;
-      fresh = rw c.in_ok-push.ensures.items (all_next IsFreshKind c.walk.chunks.items c.in_ok-chunk.chunk c.walk.invariant.fresh c.in_ok-chunk.ensures.fresh);
+      walk = rw (c.push_reserved.ensures.items, c.reserve.ensures.items, map-append, c.advance.ensures, c.in_ok-chunk.ensures.length) next;
+      rewritable = rw (c.push_reserved.ensures.items, c.reserve.ensures.items, map-append) encodings;
+      canonical = rw (c.push_reserved.ensures.items, c.reserve.ensures.items, map-append) again;
+      fresh = rw (c.push_reserved.ensures.items, c.reserve.ensures.items)
+          (all_next IsFreshKind c.walk.chunks.items c.in_ok-chunk.chunk c.walk.invariant.fresh c.in_ok-chunk.ensures.fresh);
     }
 
 pub returns-in_err-chunk-clause-only : goal.returns-in_err-chunk-clause-only

@@ -13,9 +13,9 @@ returns-in_err-put-clause-refused g c =
       | inr memory ↦ inl memory.0
     ])
 
-pub returns-clause-reads_back : goal.returns-clause-reads_back
-returns-clause-reads_back g c = λ plain.
+pub returns-in-Ok-clause-reads_back : goal.returns-in-Ok-clause-reads_back
+returns-in-Ok-clause-reads_back g c = λ plain.
     let p = parts_of c.args.self.now in
     let put = c.in_ok-put.ensures in
-    rw (c.in_ok-freeze.ensures.ok, put.ok.1, c.in_ok-buf.ensures.items)
+    rw (c.in-Ok.ensures.ok, put.ok.1, c.in_ok-buf.ensures.items)
     (packet_again (g.C.Checksum.sum c.args.checksum.now) p put.fits plain put.ok.0 put.sum_fits)
