@@ -1,4 +1,5 @@
-//! Chunks that wait in a line: first in, first out.
+//! Chunks that wait in a line: first in, first out. What puts and takes one is inlined, as are the calls above, so that a
+//! chunk is made where it waits, and what a caller does not read of it is not copied out.
 
 ghost use Rattle.std.specs.Prelude.{◌≡◌, ◌==◌, ◌+◌, ◌-◌, ◌^◌, ◌<◌, ◌≤◌, ◌++◌, [], ◌∷◌, length, map, max, OnOk, OnErr, IfSome, IfNone, IsOk, IsOkUnless, option_copied, slice_get, take, true, false};
 ghost use Rattle.std.specs.List.{All, list_any, filter};
@@ -143,6 +144,7 @@ impl Line {
     /// Puts a chunk behind the others.
     /// Precondition: the bytes of all are fewer than 2^64.
     /// Refuses only for memory, and never within the room. Nothing changes then.
+    #[inline(always)]
     pub(crate) fn push_back(&mut self, chunk: ChunkPayloadData) -> Result<()>
         requires { bytes_of self.old.chunks + length chunk.user_data < 2 ^ 64 }
         ensures ok { OnOk result (self.new
@@ -151,17 +153,20 @@ impl Line {
         ensures memory { IsOkUnless result ErrOutOfMemory }
         ensures succeeds { 0 < self.old.room → IsOk result }
     {
-        let len = chunk.user_data.len();
-        self.chunks.push_back(chunk)?;
-        self.room = self.room.saturating_sub(1);
-        self.n_bytes += len;
+        self.reserve(1)?;
+        self.push_within_room(chunk);
         Ok(())
     }
 
     /// Puts the fragments of a message behind, under its number.
     /// Precondition: the bytes of all are fewer than 2^64.
     /// Refuses only for memory, and never within the room. Nothing changes then.
-    pub(crate) fn append(&mut self, chunks: Vec<ChunkPayloadData>, message_id: u64) -> Result<()>
+    #[inline(always)]
+    pub(crate) fn append(
+        &mut self,
+        mut chunks: Vec<ChunkPayloadData>,
+        message_id: u64,
+    ) -> Result<()>
         requires { bytes_of self.old.chunks + bytes_of chunks.items < 2 ^ 64 }
         ensures ok { OnOk result (self.new
             ≡ record {
@@ -174,25 +179,55 @@ impl Line {
         ensures memory { IsOkUnless result ErrOutOfMemory }
         ensures succeeds { length chunks.items ≤ self.old.room → IsOk result }
     {
-        self.reserve(chunks.len())?;
+        if chunks.len() != 1 {
+            self.reserve(chunks.len())?;
+            self.append_within_room(chunks, message_id);
+            return Ok(());
+        }
+        // numbered where it is, and copied once, from there to its place
+        chunks[0].message_id = message_id;
+        self.reserve(1)?;
+        match chunks.pop() {
+            Some(chunk) => self.push_within_room(chunk),
+            None => unreachable!(),
+        }
+        Ok(())
+    }
+
+    // Puts the fragments of a message behind, under its number. There is room for them.
+    #[inline(never)]
+    fn append_within_room(&mut self, chunks: Vec<ChunkPayloadData>, message_id: u64)
+        requires bytes { bytes_of self.old.chunks + bytes_of chunks.items < 2 ^ 64 }
+        requires room { length chunks.items ≤ self.old.room }
+        ensures added { self.new
+            ≡ record {
+              chunks = self.old.chunks ++ map (with_message_id message_id) chunks.items;
+              room = self.old.room - length chunks.items;
+            } }
+        ensures bytes { bytes_of self.new.chunks
+            ≡ bytes_of self.old.chunks + bytes_of chunks.items }
+    {
         let mut rest = VecDeque::from_vec(chunks);
         while let Some(mut chunk) = rest.pop_front() {
             chunk.message_id = message_id;
             self.push_within_room(chunk);
         }
-        Ok(())
     }
 
     // Puts a chunk behind the others, for which there is room.
+    #[inline(always)]
     fn push_within_room(&mut self, chunk: ChunkPayloadData)
         requires bytes { bytes_of self.old.chunks + length chunk.user_data < 2 ^ 64 }
         requires room { 0 < self.old.room }
         ensures { self.new
             ≡ record { chunks = self.old.chunks ++ chunk ∷ []; room = self.old.room - 1 } }
     {
-        self.n_bytes += chunk.user_data.len();
-        self.room -= 1;
+        // no write comes before the chunk's, so that it takes one copy
+        let n_bytes = self.n_bytes + chunk.user_data.len();
+        let left = self.room - 1;
         self.chunks.push_back_reserved(chunk);
+        self.n_bytes = n_bytes;
+        self.room = left;
     }
 
     /// Takes out the first chunk; None where there are none.
@@ -209,6 +244,7 @@ impl Line {
 
     /// Takes out the first chunk. Its bytes are counted where it stands, not in a copy.
     /// Precondition: there is one.
+    #[inline(always)]
     pub(crate) fn take_front(&mut self) -> ChunkPayloadData
         requires { 0 < length self.old.chunks }
         ensures { self.old ≡ with_chunks self.new (result ∷ self.new.chunks) }
