@@ -153,8 +153,11 @@ impl Line {
         ensures memory { IsOkUnless result ErrOutOfMemory }
         ensures succeeds { 0 < self.old.room → IsOk result }
     {
-        self.reserve(1)?;
-        self.push_within_room(chunk);
+        let len = chunk.user_data.len();
+        self.chunks.reserve(1)?;
+        self.chunks.push_back_reserved(chunk);
+        self.room = self.room.saturating_sub(1);
+        self.n_bytes += len;
         Ok(())
     }
 
@@ -184,13 +187,16 @@ impl Line {
             self.append_within_room(chunks, message_id);
             return Ok(());
         }
-        // numbered where it is, and copied once, from there to its place
+        // numbered and counted where it is, so that it is copied once, from there to its place
         chunks[0].message_id = message_id;
-        self.reserve(1)?;
+        let len = chunks[0].user_data.len();
+        self.chunks.reserve(1)?;
         match chunks.pop() {
-            Some(chunk) => self.push_within_room(chunk),
+            Some(chunk) => self.chunks.push_back_reserved(chunk),
             None => unreachable!(),
         }
+        self.room = self.room.saturating_sub(1);
+        self.n_bytes += len;
         Ok(())
     }
 
@@ -215,19 +221,15 @@ impl Line {
     }
 
     // Puts a chunk behind the others, for which there is room.
-    #[inline(always)]
     fn push_within_room(&mut self, chunk: ChunkPayloadData)
         requires bytes { bytes_of self.old.chunks + length chunk.user_data < 2 ^ 64 }
         requires room { 0 < self.old.room }
         ensures { self.new
             ≡ record { chunks = self.old.chunks ++ chunk ∷ []; room = self.old.room - 1 } }
     {
-        // no write comes before the chunk's, so that it takes one copy
-        let n_bytes = self.n_bytes + chunk.user_data.len();
-        let left = self.room - 1;
+        self.n_bytes += chunk.user_data.len();
+        self.room -= 1;
         self.chunks.push_back_reserved(chunk);
-        self.n_bytes = n_bytes;
-        self.room = left;
     }
 
     /// Takes out the first chunk; None where there are none.
@@ -242,7 +244,7 @@ impl Line {
         Some(self.take_front())
     }
 
-    /// Takes out the first chunk. Its bytes are counted where it stands, not in a copy.
+    /// Takes out the first chunk.
     /// Precondition: there is one.
     #[inline(always)]
     pub(crate) fn take_front(&mut self) -> ChunkPayloadData
@@ -250,9 +252,11 @@ impl Line {
         ensures { self.old ≡ with_chunks self.new (result ∷ self.new.chunks) }
     {
         self.give_back();
-        self.n_bytes -= self.chunks[0].user_data.len();
         match self.chunks.pop_front() {
-            Some(chunk) => chunk,
+            Some(chunk) => {
+                self.n_bytes -= chunk.user_data.len();
+                chunk
+            }
             None => unreachable!(),
         }
     }
