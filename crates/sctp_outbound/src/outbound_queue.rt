@@ -87,6 +87,7 @@ impl OutboundQueue {
 
     /// Whether `push` may be called with these chunks: they are none or one complete message, all ordered or all unordered; the number
     /// of the next message is below the greatest u64; and all bytes, with theirs, are at most the greatest usize.
+    #[inline(always)]
     pub fn can_push(&self, chunks: &[ChunkPayloadData]) -> bool
         ensures message { result ≡ true → IsMessageOrNone chunks.now }
         ensures number { result ≡ true → self.now.next_message_id + 1 < 2 ^ 64 }
@@ -106,6 +107,7 @@ impl OutboundQueue {
     /// Precondition: the list is empty, or one complete message, all ordered or all unordered; the number is
     /// below the greatest u64; and the bytes that wait and are in flight, with these, are fewer than 2^64. `can_push` tells.
     /// Refuses only for memory, and never within the room of `reserve`. The queue is as it was then.
+    #[inline(always)]
     pub fn push(&mut self, chunks: Vec<ChunkPayloadData>) -> Result<()>
         requires message { IsMessageOrNone chunks.items }
         requires number { self.old.next_message_id + 1 < 2 ^ 64 }

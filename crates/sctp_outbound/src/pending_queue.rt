@@ -76,6 +76,7 @@ impl PendingQueue {
     /// Puts a chunk behind the others of the list that its `unordered` names.
     /// Precondition: the bytes of all, with its own, are fewer than 2^64.
     /// Refuses only for memory, and never within the room of `reserve`. The queue is as it was then.
+    #[inline(always)]
     pub fn push(&mut self, chunk: ChunkPayloadData) -> Result<()>
         requires { total_bytes self.old + length chunk.user_data < 2 ^ 64 }
         ensures ok { OnOk result (self.new ≡ push_pending self.old chunk) }
@@ -93,6 +94,7 @@ impl PendingQueue {
     /// Puts the fragments of a message behind those of one list, under its number.
     /// Precondition: the bytes of all, with theirs, are fewer than 2^64.
     /// Refuses only for memory, and never within the room of `reserve`. The queue is as it was then.
+    #[inline(always)]
     pub(crate) fn push_message(
         &mut self,
         chunks: Vec<ChunkPayloadData>,
@@ -187,6 +189,7 @@ impl PendingQueue {
     /// Takes the front of the partially sent message's list; with none partially sent that of the
     /// list that `unordered` names, where `beginning_fragment` is true. Handed the flags of
     /// what a peek shows, it takes that chunk, if a message is partially sent or begins there.
+    #[inline(always)]
     pub fn pop(&mut self, beginning_fragment: bool, unordered: bool) -> Option<ChunkPayloadData>
         ensures popped { result ≡ chunk_to_pop beginning_fragment unordered self.old }
         ensures rest { self.new ≡ rest_after beginning_fragment unordered self.old }
@@ -196,6 +199,7 @@ impl PendingQueue {
     }
 
     // Takes the front of a list.
+    #[inline(always)]
     fn pop_from(&mut self, unordered: bool) -> Option<ChunkPayloadData>
         ensures popped { result ≡ slice_get (list_of unordered self.old) 0 }
         ensures rest { self.new ≡ rest_of unordered self.old (list_of unordered self.old) }

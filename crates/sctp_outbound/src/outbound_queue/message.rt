@@ -8,6 +8,7 @@ use sctp_data::chunk::chunk_payload_data::ChunkPayloadData;
 
 /// Whether these are no fragments, or those of one complete message: the first begins it and the last ends it, and no other does; all
 /// are ordered or all unordered.
+#[inline]
 pub(crate) fn is_message_or_none(chunks: &[ChunkPayloadData]) -> bool
     ensures yes { result ≡ true → IsMessageOrNone chunks.now }
     ensures no { IsMessageOrNone chunks.now → result ≡ true }
@@ -31,6 +32,7 @@ pub(crate) fn is_message_or_none(chunks: &[ChunkPayloadData]) -> bool
 }
 
 /// Whether so many bytes and those of the chunks are together at most the greatest usize.
+#[inline]
 pub(crate) fn is_room_for(n_bytes: usize, chunks: &[ChunkPayloadData]) -> bool
     ensures { result ≡ nat_lt (n_bytes + bytes_of chunks.now) (2 ^ 64) }
 {

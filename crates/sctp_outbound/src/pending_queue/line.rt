@@ -1,4 +1,5 @@
-//! Chunks that wait in a line: first in, first out.
+//! Chunks that wait in a line: first in, first out. What puts and takes one is inlined, as are the calls above, so that a
+//! chunk is made where it waits, and what a caller does not read of it is not copied out.
 
 ghost use Rattle.std.specs.Prelude.{◌≡◌, ◌==◌, ◌+◌, ◌-◌, ◌^◌, ◌<◌, ◌≤◌, ◌++◌, [], ◌∷◌, length, map, max, OnOk, OnErr, IfSome, IfNone, IsOk, IsOkUnless, option_copied, slice_get, take, true, false};
 ghost use Rattle.std.specs.List.{All, list_any, filter};
@@ -143,6 +144,7 @@ impl Line {
     /// Puts a chunk behind the others.
     /// Precondition: the bytes of all are fewer than 2^64.
     /// Refuses only for memory, and never within the room. Nothing changes then.
+    #[inline(always)]
     pub(crate) fn push_back(&mut self, chunk: ChunkPayloadData) -> Result<()>
         requires { bytes_of self.old.chunks + length chunk.user_data < 2 ^ 64 }
         ensures ok { OnOk result (self.new
@@ -152,7 +154,8 @@ impl Line {
         ensures succeeds { 0 < self.old.room → IsOk result }
     {
         let len = chunk.user_data.len();
-        self.chunks.push_back(chunk)?;
+        self.chunks.reserve(1)?;
+        self.chunks.push_back_reserved(chunk);
         self.room = self.room.saturating_sub(1);
         self.n_bytes += len;
         Ok(())
@@ -161,7 +164,12 @@ impl Line {
     /// Puts the fragments of a message behind, under its number.
     /// Precondition: the bytes of all are fewer than 2^64.
     /// Refuses only for memory, and never within the room. Nothing changes then.
-    pub(crate) fn append(&mut self, chunks: Vec<ChunkPayloadData>, message_id: u64) -> Result<()>
+    #[inline(always)]
+    pub(crate) fn append(
+        &mut self,
+        mut chunks: Vec<ChunkPayloadData>,
+        message_id: u64,
+    ) -> Result<()>
         requires { bytes_of self.old.chunks + bytes_of chunks.items < 2 ^ 64 }
         ensures ok { OnOk result (self.new
             ≡ record {
@@ -174,13 +182,42 @@ impl Line {
         ensures memory { IsOkUnless result ErrOutOfMemory }
         ensures succeeds { length chunks.items ≤ self.old.room → IsOk result }
     {
-        self.reserve(chunks.len())?;
+        if chunks.len() != 1 {
+            self.reserve(chunks.len())?;
+            self.append_within_room(chunks, message_id);
+            return Ok(());
+        }
+        // numbered and counted where it is, so that it is copied once, from there to its place
+        chunks[0].message_id = message_id;
+        let len = chunks[0].user_data.len();
+        self.chunks.reserve(1)?;
+        match chunks.pop() {
+            Some(chunk) => self.chunks.push_back_reserved(chunk),
+            None => unreachable!(),
+        }
+        self.room = self.room.saturating_sub(1);
+        self.n_bytes += len;
+        Ok(())
+    }
+
+    // Puts the fragments of a message behind, under its number. There is room for them.
+    #[inline(never)]
+    fn append_within_room(&mut self, chunks: Vec<ChunkPayloadData>, message_id: u64)
+        requires bytes { bytes_of self.old.chunks + bytes_of chunks.items < 2 ^ 64 }
+        requires room { length chunks.items ≤ self.old.room }
+        ensures added { self.new
+            ≡ record {
+              chunks = self.old.chunks ++ map (with_message_id message_id) chunks.items;
+              room = self.old.room - length chunks.items;
+            } }
+        ensures bytes { bytes_of self.new.chunks
+            ≡ bytes_of self.old.chunks + bytes_of chunks.items }
+    {
         let mut rest = VecDeque::from_vec(chunks);
         while let Some(mut chunk) = rest.pop_front() {
             chunk.message_id = message_id;
             self.push_within_room(chunk);
         }
-        Ok(())
     }
 
     // Puts a chunk behind the others, for which there is room.
@@ -207,16 +244,19 @@ impl Line {
         Some(self.take_front())
     }
 
-    /// Takes out the first chunk. Its bytes are counted where it stands, not in a copy.
+    /// Takes out the first chunk.
     /// Precondition: there is one.
+    #[inline(always)]
     pub(crate) fn take_front(&mut self) -> ChunkPayloadData
         requires { 0 < length self.old.chunks }
         ensures { self.old ≡ with_chunks self.new (result ∷ self.new.chunks) }
     {
         self.give_back();
-        self.n_bytes -= self.chunks[0].user_data.len();
         match self.chunks.pop_front() {
-            Some(chunk) => chunk,
+            Some(chunk) => {
+                self.n_bytes -= chunk.user_data.len();
+                chunk
+            }
             None => unreachable!(),
         }
     }

@@ -1,7 +1,7 @@
 use Rattle.std.proofs.Common.{◌≡◌, ◌+◌, ◌≤◌, ◌++◌, length, map}
 use Rattle.sctp_serial.specs.DataChunks.{bytes_of}
 use Rattle.sctp_outbound.specs.outbound_queue.OutboundQueue.{with_message_id}
-use Rattle.sctp_outbound.proofs.pending_queue.line.Line.append.Given as goal
+use Rattle.sctp_outbound.proofs.pending_queue.line.Line.append_within_room.Given as goal
 
 abbrev pub invariant-loop-chunk : goal.invariant-loop-chunk
 invariant-loop-chunk l = record {
