@@ -1,5 +1,6 @@
 -- What gap ack blocks report (RFC 4960 3.3.4).
-use Rattle.std.specs.Prelude.{◌≡◌, ◌≢◌, ℕ, ◌+◌, ◌%◌, ◌^◌, ◌<◌, ◌≤◌, Bool, false, ◌&&◌, nat_le, nat_lt, ◌==◌, List, [], ◌∷◌, ◌++◌, map, length, min, ◌-◌, slice_index_or}
+use Rattle.std.specs.Prelude.{◌≡◌, ◌≢◌, ℕ, ◌+◌, ◌%◌, ◌^◌, ◌<◌, ◌≤◌, Bool, false, ◌&&◌, nat_le, nat_lt, ◌==◌, List, [], ◌∷◌, ◌++◌, map, length, min, ◌-◌}
+use Rattle.std.specs.Prelude.{slice_index_or}
 use Rattle.std.specs.Prelude.{codes}
 use Rattle.std.specs.Fmt.{decimal}
 use Rattle.std.specs.List.{All, AllPairs, list_any, filter}
@@ -73,11 +74,11 @@ offset_at cumulative chunks place =
 
 -- the chunk at the place lies at a distance that a block can hold
 pub record IsAtOffset (cumulative : ℕ) (chunks : List ChunkPayloadData) (place offset : ℕ) : Type 0
-    where
-  pub in_range : place < length chunks
-  pub positive : 0 < offset
-  pub small : offset < 2 ^ 16
-  pub here : offset ≡ offset_at cumulative chunks place
+  where
+    pub in_range : place < length chunks
+    pub positive : 0 < offset
+    pub small : offset < 2 ^ 16
+    pub here : offset ≡ offset_at cumulative chunks place
 
 -- the run from the place on, as far as a block can hold it, and what is told of the chunk behind it
 pub record IsRunFrom (cumulative : ℕ) (chunks : List ChunkPayloadData) (place offset : ℕ) (run : Run)

@@ -1,10 +1,10 @@
 //! The first gap ack blocks of what a payload queue holds: as many as are asked for, and no look at what lies behind them.
 
-ghost use Rattle.std.specs.Prelude.{◌≡◌, ◌+◌, ◌*◌, ◌-◌, ◌<◌, ◌≤◌, ◌^◌, [], ◌∷◌, ◌++◌, length, map, min, take, IfOk, IfSome, IsOkUnless, slice_index_or};
+ghost use Rattle.std.specs.Prelude.{◌≡◌, ◌+◌, ◌*◌, ◌-◌, ◌<◌, ◌≤◌, length, map, min, take, IfOk, IfSome, IsOkUnless, slice_index_or};
+ghost use Rattle.std.specs.Vec.{vec_len, vec_capacity};
 ghost use Rattle.sctp_base.specs.declared.error.Error.TheVariants.{ErrOutOfMemory};
 ghost use Rattle.sctp_list_lemmas.specs.Kept.{runs_of};
 ghost use Rattle.sctp_list_lemmas.specs.Serial.{distance};
-ghost use Rattle.sctp_serial.specs.Runs.{IsRising};
 ghost use Rattle.sctp_serial.specs.Turns.{IsWithinDigits};
 ghost use Rattle.sctp_serial.specs.Window.{IsSerial};
 ghost use Rattle.sctp_outbound.specs.payload_queue.Blocks.{IsAtOffset, IsRunFrom, Reports, gap_offsets, ends_of, is_offset, offset_at};
@@ -65,8 +65,8 @@ fn offset_behind(
     }
 }
 
-// The run from a place on, as far as a block can hold it. Runs of one TSN and of two are found here, with a look at each and at
-// the one behind.
+// The run from a place on, as far as a block can hold it. Runs of one TSN and of two are found here, with a look at each and at the
+// one behind.
 #[inline]
 fn run_from(
     held: &Held,
@@ -85,7 +85,7 @@ fn run_from(
 {
     let next = place + 1;
     let second = offset_at(tsns, cumulative_tsn, next, turns);
-    if second != offset + 1 || second == 65536 {
+    if second != offset + 1 {
         return Run {
             end: offset,
             next,
@@ -94,17 +94,23 @@ fn run_from(
     }
     let next = place + 2;
     let third = offset_at(tsns, cumulative_tsn, next, turns);
-    if third != offset + 2 || third == 65536 {
+    if third != offset + 2 && offset < 65534 {
         return Run {
             end: second,
             next,
             behind: third,
         };
     }
-    long_run_from(held, cumulative_tsn, place, offset, turns)
+    let (next, behind) = long_run_from(held, cumulative_tsn, place, offset, turns);
+    Run {
+        end: offset + (next - 1 - place) as u32,
+        next,
+        behind,
+    }
 }
 
-// The same of a run of three or more. It stands apart, so that what short runs take stays small.
+// The place behind a run of three TSNs or more, or of two of which a block can hold no more, and the distance there. It stands
+// apart, so that what short runs take stays small.
 #[cold]
 #[inline(never)]
 fn long_run_from(
@@ -113,50 +119,44 @@ fn long_run_from(
     place: usize,
     offset: u32,
     turns: &mut Turns,
-) -> Run
+) -> (usize, u32)
     requires serial { IsSerial held.now.chunks }
     requires at { IsAtOffset cumulative_tsn held.now.chunks place offset }
-    requires third { IsAtOffset cumulative_tsn held.now.chunks (place + 2) (offset + 2) }
-    requires rising { IsRising held.now.chunks place (place + 2) }
-    ensures run { IsRunFrom cumulative_tsn held.now.chunks place offset result }
+    requires second { offset + 1 ≡ offset_at cumulative_tsn held.now.chunks (place + 1) }
+    requires third { offset < 65534
+        → offset + 2 ≡ offset_at cumulative_tsn held.now.chunks (place + 2) }
+    ensures run { IsRunFrom cumulative_tsn held.now.chunks place offset
+        (record { end = offset + (result.0 - 1 - place); next = result.0; behind = result.1 }) }
     ensures not_back { turns.old ≤ turns.new }
     ensures cost { turns.new ≤ turns.old + 32 }
 {
     // a block cannot reach past 65,535
     let reach = (held.len() - place).min(65536 - offset as usize);
+    if reach < 3 {
+        let next = place + reach;
+        let behind = offset_behind(held, cumulative_tsn, next, None, turns);
+        return (next, behind);
+    }
     let tsn = cumulative_tsn.wrapping_add(offset + 2);
     let (last, seen) = run_end(held, place, tsn, place + reach, turns);
     let next = last + 1;
-    Run {
-        end: offset + (last - place) as u32,
-        next,
-        behind: offset_behind(held, cumulative_tsn, next, seen, turns),
-    }
+    let behind = offset_behind(held, cumulative_tsn, next, seen, turns);
+    (next, behind)
 }
 
-// The list with one block more.
-#[inline]
-fn with_block(blocks: Vec<GapAckBlock>, block: GapAckBlock) -> Result<Vec<GapAckBlock>>
-    ensures ok { IfOk result (λ more. more.items ≡ blocks.items ++ block ∷ []) }
-    ensures memory { IsOkUnless result ErrOutOfMemory }
-{
-    let mut blocks = blocks;
-    if blocks.len() == blocks.capacity() {
-        return grown_with_block(blocks, block);
-    }
-    blocks.push_reserved(block);
-    Ok(blocks)
-}
+// How many blocks more a full list gets room for, at least.
+const MORE_ROOM: usize = 16;
 
-// The same of a list that has no room for it. It stands apart, as it is seldom called.
+// The list with room for one block more. It stands apart, as it is seldom called.
 #[cold]
 #[inline(never)]
-fn grown_with_block(blocks: Vec<GapAckBlock>, block: GapAckBlock) -> Result<Vec<GapAckBlock>>
-    ensures ok { IfOk result (λ more. more.items ≡ blocks.items ++ block ∷ []) }
+fn grown(blocks: Vec<GapAckBlock>) -> Result<Vec<GapAckBlock>>
+    ensures items { IfOk result (λ more. more.items ≡ blocks.items) }
+    ensures room { IfOk result (λ more. vec_len more < vec_capacity more) }
     ensures memory { IsOkUnless result ErrOutOfMemory }
 {
     let mut blocks = blocks;
-    blocks.push(block)?;
+    blocks.reserve(MORE_ROOM)?;
     Ok(blocks)
 }
 
@@ -191,11 +191,13 @@ impl PayloadQueue {
                 return Ok(blocks);
             }
             let run = run_from(&self.held, &tsns, cumulative_tsn, place, offset, turns);
-            let block = GapAckBlock {
+            if blocks.len() == blocks.capacity() {
+                blocks = grown(blocks)?;
+            }
+            blocks.push_reserved(GapAckBlock {
                 start: offset as u16,
                 end: run.end as u16,
-            };
-            blocks = with_block(blocks, block)?;
+            });
             place = run.next;
             offset = run.behind;
         }

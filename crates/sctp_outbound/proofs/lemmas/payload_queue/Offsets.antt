@@ -108,3 +108,13 @@ module _ (cumulative : ℕ) (xs : List ChunkPayloadData) (fits : cumulative < 2 
       ends = omega arith;
       goes_on = behind ∙ ap (offset_at cumulative xs) (sym next);
     }
+
+    -- a run of which a block can hold two at most
+    pub run_cut_off : (place offset reach : ℕ) → IsAtOffset cumulative xs place offset → offset + 1 ≡ offset_at cumulative xs (place + 1)
+        → reach ≡ min (length xs - place) (2 ^ 16 - offset) → reach < 3 → IsRunUntil xs (place + reach) place (place + reach - 1)
+    run_cut_off place offset reach at next e short = record {
+      from = omega (arith, at);
+      to = omega (arith, at);
+      rising = λ k d le lt. rises_one place offset at (at_offset (place + 1) (offset + 1) next (omega arith) (omega arith)) k d le (omega arith);
+      stops = λ within. absurd (omega (arith, at));
+    }

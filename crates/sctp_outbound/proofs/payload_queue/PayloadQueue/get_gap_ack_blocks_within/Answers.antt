@@ -1,7 +1,7 @@
 use Rattle.std.proofs.Math.Nat.{pow-le-pow_right}
 use Rattle.std.proofs.lemmas.Bool.Decides.{nat_tests}
-use Rattle.std.proofs.Common.{◌*◌, List, length-append, ◌≡◌, ◌||◌, ◌&&◌, true, false, ℕ, ◌+◌, ◌-◌, ◌^◌, ◌<◌, ◌≤◌, [], ◌∷◌, ◌++◌, min, length, map, take}
-use Rattle.std.proofs.Common.{get_or, sym, ap, ◌∙◌, subst, arith}
+use Rattle.std.proofs.Common.{◌*◌, List, length-append, ◌≡◌, ◌||◌, ◌&&◌, true, ℕ, ◌+◌, ◌-◌, ◌^◌, ◌<◌, ◌≤◌, [], ◌∷◌, ◌++◌, min, length, map, take}
+use Rattle.std.proofs.Common.{Vec, Global, get_or, sym, ap, ◌∙◌, subst, arith}
 use Rattle.std.specs.Prelude.{nat_le}
 use Rattle.std.specs.List.{All, list_any}
 use Rattle.std.proofs.lemmas.List.{length-map, map-append, take_all}
@@ -20,6 +20,7 @@ use Rattle.sctp_outbound.proofs.lemmas.payload_queue.Gaps.{rest_offsets, rest_re
 use Rattle.sctp_outbound.proofs.lemmas.payload_queue.Marked.{any_chunk}
 use Rattle.sctp_outbound.proofs.lemmas.payload_queue.Offsets.{at_offset, offset_here, out_at}
 use Rattle.sctp_outbound.proofs.payload_queue.PayloadQueue.get_gap_ack_blocks_within.Goals as goal
+use Rattle.sctp_outbound.proofs.payload_queue.PayloadQueue.get_gap_ack_blocks_within.Goals.{then-len-capacity+in_ok-blocks, else-len-capacity}
 
 -- fewer turns are within as many digits
 fewer : (n s t : ℕ) → s ≤ t → IsWithinDigits n t → IsWithinDigits n s
@@ -85,7 +86,8 @@ loop-tsns-init c =
 pub run_from-run-requires-clause-at : goal.run_from-run-requires-clause-at
 run_from-run-requires-clause-at c =
     let reached = held_by_block c.loop-tsns.offset (sym c.is_offset.ensures ∙ c.loop-tsns-test.true) in
-    at_offset c.args.cumulative_tsn c.self.inside.held.chunks c.ranges.cumulative_tsn.fits c.loop-tsns.place c.loop-tsns.offset c.loop-tsns.invariant.here reached.0 reached.1
+    at_offset c.args.cumulative_tsn c.self.inside.held.chunks c.ranges.cumulative_tsn.fits c.loop-tsns.place c.loop-tsns.offset c.loop-tsns.invariant.here
+    reached.0 reached.1
 
 pub loop-tsns-preserved : goal.loop-tsns-preserved
 loop-tsns-preserved c =
@@ -113,7 +115,11 @@ loop-tsns-preserved c =
     let apart : All (λ b. b.end + 1 < offset) bs = subst (λ o. All (λ (b : GapAckBlock). b.end + 1 < o) bs) here
     (inv.behind place any_chunk (omega arith) at.in_range (omega (arith, here, at))) in
     let next : place + (last - place) + 1 ≡ run.next = omega (arith, told.some) in
-    let items = c.in_ok-blocks.ensures.ok in
+    let kept : c.if-len-capacity.blocks.items ≡ bs = elim c.if-len-capacity.branch [
+      | then-len-capacity+in_ok-blocks w ↦ ap (λ (v : Vec GapAckBlock Global). v.items) w.blocks-is ∙ w.in_ok-blocks.ensures.items
+      | else-len-capacity w ↦ ap (λ (v : Vec GapAckBlock Global). v.items) w.blocks-is
+    ] in
+    let items = c.push_reserved.ensures.items ∙ ap (λ (ys : List GapAckBlock). ys ++ block ∷ []) kept in
     record {
       in_range = omega (arith, told.some, told.rises.to);
       here = told.goes_on;
@@ -128,8 +134,12 @@ loop-tsns-preserved c =
       behind = λ j d le lt small. subst (All (λ (b : GapAckBlock). b.end + 1 < distance cumulative (get_or xs j d).tsn)) (sym items)
           (All-push (λ (b : GapAckBlock). b.end + 1 < distance cumulative (get_or xs j d).tsn) bs block
           (inv.behind j d (omega (arith, told.some)) lt small)
-          (omega (arith, told.ends, run_apart cumulative xs place (place + min (length xs - place) (2 ^ 16 - offset)) last offset fits serial inv.ahead
-          (omega arith) (λ cut. omega (arith, at)) told.rises j d (offset_here cumulative xs place offset at d) (omega (arith, told.some)) lt small)));
+          (omega (
+            arith,
+            told.ends,
+            run_apart cumulative xs place (place + min (length xs - place) (2 ^ 16 - offset)) last offset fits serial inv.ahead
+                (omega arith) (λ cut. omega (arith, at)) told.rises j d (offset_here cumulative xs place offset at d) (omega (arith, told.some)) lt small,
+          )));
       not_back = omega (arith, c.run_from-run.ensures.not_back, inv.not_back);
       cost = fewer (length xs) _ _ (omega (arith, c.run_from-run.ensures.cost, ap length items, length-append bs (block ∷ []))) inv.cost;
       exact = λ n. ap (λ ys. is_in_blocks ys n) items ∙ list_any-append (is_in_block n) bs (block ∷ [])
