@@ -7,12 +7,13 @@ ghost use Rattle.sctp_base.specs.declared.error.Error.TheVariants.{ErrOutOfMemor
 ghost use Rattle.sctp_list_lemmas.specs.Kept.{runs_of};
 ghost use Rattle.sctp_list_lemmas.specs.Serial.{distance};
 ghost use Rattle.sctp_list_lemmas.specs.Lists.{change_where};
+ghost use Rattle.sctp_serial.specs.Runs.{IsRising};
 ghost use Rattle.sctp_serial.specs.Turns.{IsWithinDigits};
 ghost use Rattle.sctp_serial.specs.Window.{IsSerial, IsPlaceFor, IsHeldAt, IsWindow, SpansOneWindow, is_held, is_new};
 ghost use Rattle.sctp_serial.specs.DataChunks.{has_tsn, bytes_of};
 ghost use Rattle.sctp_outbound.specs.Stored.{NoneBefore};
 ghost use Rattle.sctp_outbound.specs.Marks.{IsBetween, is_outstanding};
-ghost use Rattle.sctp_outbound.specs.payload_queue.Blocks.{IsFirstAfter, IsRunUntil, Reports, gap_offsets, ends_of, is_offset, gap_text};
+ghost use Rattle.sctp_outbound.specs.payload_queue.Blocks.{IsFirstAfter, IsRunUntil, Reports, gap_offsets, ends_of, gap_text};
 
 mod arrival;
 mod blocks;
@@ -117,20 +118,6 @@ fn free_place(held: &Held, tsn: u32, turns: &mut Turns) -> Option<usize>
     }
 }
 
-// The distance from the cumulative TSN to a TSN, where a gap ack block can hold it.
-fn gap_offset(cumulative_tsn: u32, tsn: u32) -> Option<u16>
-    ensures some { IfSome result (λ offset. (offset ≡ distance cumulative_tsn tsn)
-        × (0 < offset) × (offset < 2 ^ 16)) }
-    ensures test { is_some result ≡ is_offset (distance cumulative_tsn tsn) }
-    ensures fits { cumulative_tsn < 2 ^ 32 }
-{
-    let offset = distance(cumulative_tsn, tsn);
-    if offset == 0 || offset > 65535 {
-        return None;
-    }
-    Some(offset as u16)
-}
-
 // The place of the first chunk after the cumulative TSN, from where on each is farther after it.
 fn first_after(held: &Held, cumulative_tsn: u32, turns: &mut Turns) -> usize
     requires { IsSerial held.now.chunks }
@@ -150,24 +137,8 @@ fn first_after(held: &Held, cumulative_tsn: u32, turns: &mut Turns) -> usize
     }
 }
 
-// The TSN at a place: the one that was seen there, or else a look.
-fn seen_or_look(held: &Held, place: usize, seen: Option<u32>, turns: &mut Turns) -> u32
-    requires in_range { place < length held.now.chunks }
-    requires seen { IfSome seen (λ tsn. (d : _)
-        → (slice_index_or held.now.chunks place d).tsn ≡ tsn) }
-    ensures number { (d : _) → (slice_index_or held.now.chunks place d).tsn ≡ result }
-    ensures not_back { turns.old ≤ turns.new }
-    ensures cost { turns.new ≤ turns.old + 1 }
-{
-    match seen {
-        Some(tsn) => tsn,
-        None => held.tsn_at(place, turns),
-    }
-}
-
-// The last place before `end` up to which TSNs rise by one, from a place that has the TSN, and the TSN behind it where it was seen.
-// It looks at the next one, then as far ahead as the run reaches, then between: fewer turns than twice one more than the run's
-// binary logarithm.
+// The last place before `end` up to which TSNs rise by one, from a place behind which two do, up to this TSN; and the TSN behind it
+// where it was seen. It looks as far ahead as the run reaches, then between: fewer turns than twice the run's binary logarithm.
 fn run_end(
     held: &Held,
     place: usize,
@@ -176,25 +147,23 @@ fn run_end(
     turns: &mut Turns,
 ) -> (usize, Option<u32>)
     requires serial { IsSerial held.now.chunks }
-    requires number { (d : _) → (slice_index_or held.now.chunks place d).tsn ≡ tsn }
-    requires some { place < end }
+    requires rising { IsRising held.now.chunks place (place + 2) }
+    requires number { (d : _) → (slice_index_or held.now.chunks (place + 2) d).tsn ≡ tsn }
+    requires some { place + 2 < end }
     requires in_range { end ≤ length held.now.chunks }
     ensures run { IsRunUntil held.now.chunks end place result.0 }
     ensures seen { IfSome result.1 (λ tsn. (d : _)
         → (slice_index_or held.now.chunks (result.0 + 1) d).tsn ≡ tsn) }
     ensures not_back { turns.old ≤ turns.new }
     ensures cost { 2 ^ (turns.new - turns.old)
-        < 4 * ((result.0 + 1 - place) * (result.0 + 1 - place)) }
+        < (result.0 + 1 - place) * (result.0 + 1 - place) }
 {
-    let mut last = place;
+    let mut last = place + 2;
     let mut tsn = tsn;
-    let mut step = 1;
+    let mut step = 2;
     while step < end - last {
         let ahead = held.tsn_at(last + step, turns);
         if distance(tsn, ahead) as usize != step {
-            if step == 1 {
-                return (last, Some(ahead));
-            }
             return run_end_between(held, last, tsn, last + step, Some(ahead), turns);
         }
         last += step;

@@ -1,5 +1,6 @@
 -- What gap ack blocks report (RFC 4960 3.3.4).
-use Rattle.std.specs.Prelude.{◌≡◌, ◌≢◌, ℕ, ◌+◌, ◌%◌, ◌^◌, ◌<◌, ◌≤◌, Bool, false, ◌&&◌, nat_le, nat_lt, ◌==◌, List, [], ◌∷◌, ◌++◌, map, length, slice_index_or}
+use Rattle.std.specs.Prelude.{◌≡◌, ◌≢◌, ℕ, ◌+◌, ◌%◌, ◌^◌, ◌<◌, ◌≤◌, Bool, false, ◌&&◌, nat_le, nat_lt, ◌==◌, List, [], ◌∷◌, ◌++◌, map, length, min, ◌-◌}
+use Rattle.std.specs.Prelude.{slice_index_or}
 use Rattle.std.specs.Prelude.{codes}
 use Rattle.std.specs.Fmt.{decimal}
 use Rattle.std.specs.List.{All, AllPairs, list_any, filter}
@@ -7,6 +8,7 @@ use Rattle.sctp_data.specs.declared.chunk.chunk_payload_data.ChunkPayloadData.{C
 use Rattle.sctp_data.specs.declared.chunk.chunk_selective_ack.GapAckBlock.{GapAckBlock}
 use Rattle.sctp_list_lemmas.specs.Serial.{distance}
 use Rattle.sctp_serial.specs.Runs.{IsRising}
+use Rattle.sctp_outbound.specs.declared.payload_queue.blocks.Run.{Run}
 
 -- each block is a run, and ends more than one before each later one begins
 pub record BlocksAscend (blocks : List GapAckBlock) : Type 0 where
@@ -64,6 +66,28 @@ pub record IsRunUntil (chunks : List ChunkPayloadData) (end first last : ℕ) : 
   pub rising : IsRising chunks first last
   pub stops : last + 1 < end → (d : ChunkPayloadData)
       → (slice_index_or chunks (last + 1) d).tsn ≢ ((slice_index_or chunks last d).tsn + 1) % 2 ^ 32
+
+-- how far the chunk at a place lies after the cumulative TSN; 0 past the last
+abbrev pub offset_at : ℕ → List ChunkPayloadData → ℕ → ℕ
+offset_at cumulative chunks place =
+    distance cumulative (slice_index_or (map (λ c. c.tsn) chunks) place cumulative)
+
+-- the chunk at the place lies at a distance that a block can hold
+pub record IsAtOffset (cumulative : ℕ) (chunks : List ChunkPayloadData) (place offset : ℕ) : Type 0
+  where
+    pub in_range : place < length chunks
+    pub positive : 0 < offset
+    pub small : offset < 2 ^ 16
+    pub here : offset ≡ offset_at cumulative chunks place
+
+-- the run from the place on, as far as a block can hold it, and what is told of the chunk behind it
+pub record IsRunFrom (cumulative : ℕ) (chunks : List ChunkPayloadData) (place offset : ℕ) (run : Run)
+    : Type 0 where
+  pub some : place < run.next
+  pub rises : IsRunUntil chunks (place + min (length chunks - place) (2 ^ 16 - offset))
+      place (run.next - 1)
+  pub ends : run.end ≡ offset + (run.next - 1 - place)
+  pub goes_on : run.behind ≡ offset_at cumulative chunks run.next
 
 -- runs as text, a comma before each: `,2-3,5-5`
 abbrev pub runs_text : List (ℕ × ℕ) → List ℕ

@@ -1,16 +1,164 @@
 //! The first gap ack blocks of what a payload queue holds: as many as are asked for, and no look at what lies behind them.
 
-ghost use Rattle.std.specs.Prelude.{◌≡◌, ◌+◌, ◌*◌, ◌-◌, ◌<◌, ◌≤◌, length, map, min, take, IfOk, IsOkUnless};
+ghost use Rattle.std.specs.Prelude.{◌≡◌, ◌+◌, ◌*◌, ◌-◌, ◌<◌, ◌≤◌, length, map, min, take, IfOk, IfSome, IsOkUnless, slice_index_or};
+ghost use Rattle.std.specs.Vec.{vec_len, vec_capacity};
 ghost use Rattle.sctp_base.specs.declared.error.Error.TheVariants.{ErrOutOfMemory};
 ghost use Rattle.sctp_list_lemmas.specs.Kept.{runs_of};
-ghost use Rattle.sctp_outbound.specs.payload_queue.Blocks.{Reports, gap_offsets, ends_of};
+ghost use Rattle.sctp_list_lemmas.specs.Serial.{distance};
 ghost use Rattle.sctp_serial.specs.Turns.{IsWithinDigits};
+ghost use Rattle.sctp_serial.specs.Window.{IsSerial};
+ghost use Rattle.sctp_outbound.specs.payload_queue.Blocks.{IsAtOffset, IsRunFrom, Reports, gap_offsets, ends_of, is_offset, offset_at};
 
-use super::{PayloadQueue, first_after, gap_offset, run_end, seen_or_look};
+use super::held::{Held, Tsns};
+use super::{PayloadQueue, first_after, run_end};
 use sctp_base::error::Result;
 use sctp_data::chunk::chunk_selective_ack::GapAckBlock;
+use sctp_serial::serial::distance;
 use sctp_serial::turns::Turns;
 use std::alloc::Global;
+
+// A run of TSNs, told by distances from the cumulative TSN: that of its last one, the place behind it, and the distance there.
+#[derive(Clone, Copy)]
+struct Run {
+    end: u32,
+    next: usize,
+    behind: u32,
+}
+
+// Whether a gap ack block can hold a distance.
+fn is_offset(offset: u32) -> bool
+    ensures { result ≡ is_offset offset }
+{
+    offset != 0 && offset < 65536
+}
+
+// How far the TSN at a place lies after the cumulative TSN; 0 past the last.
+#[inline]
+fn offset_at(tsns: &Tsns<'_>, cumulative_tsn: u32, place: usize, turns: &mut Turns) -> u32
+    ensures value { result
+        ≡ distance cumulative_tsn (slice_index_or tsns.now place cumulative_tsn) }
+    ensures turn { turns.new ≡ turns.old + 1 }
+{
+    distance(cumulative_tsn, tsns.tsn_or(place, cumulative_tsn, turns))
+}
+
+// The same, where the TSN may have been seen.
+fn offset_behind(
+    held: &Held,
+    cumulative_tsn: u32,
+    place: usize,
+    seen: Option<u32>,
+    turns: &mut Turns,
+) -> u32
+    requires { IfSome seen (λ tsn. (d : _)
+        → (slice_index_or held.now.chunks place d).tsn ≡ tsn) }
+    ensures value { result ≡ offset_at cumulative_tsn held.now.chunks place }
+    ensures not_back { turns.old ≤ turns.new }
+    ensures cost { turns.new ≤ turns.old + 1 }
+{
+    if place >= held.len() {
+        return 0;
+    }
+    match seen {
+        Some(tsn) => distance(cumulative_tsn, tsn),
+        None => distance(cumulative_tsn, held.tsn_at(place, turns)),
+    }
+}
+
+// The run from a place on, as far as a block can hold it. Runs of one TSN and of two are found here, with a look at each and at the
+// one behind.
+#[inline]
+fn run_from(
+    held: &Held,
+    tsns: &Tsns<'_>,
+    cumulative_tsn: u32,
+    place: usize,
+    offset: u32,
+    turns: &mut Turns,
+) -> Run
+    requires serial { IsSerial held.now.chunks }
+    requires tsns { tsns.now ≡ map (λ c. c.tsn) held.now.chunks }
+    requires at { IsAtOffset cumulative_tsn held.now.chunks place offset }
+    ensures run { IsRunFrom cumulative_tsn held.now.chunks place offset result }
+    ensures not_back { turns.old ≤ turns.new }
+    ensures cost { turns.new ≤ turns.old + 34 }
+{
+    let next = place + 1;
+    let second = offset_at(tsns, cumulative_tsn, next, turns);
+    if second != offset + 1 {
+        return Run {
+            end: offset,
+            next,
+            behind: second,
+        };
+    }
+    let next = place + 2;
+    let third = offset_at(tsns, cumulative_tsn, next, turns);
+    if third != offset + 2 && offset < 65534 {
+        return Run {
+            end: second,
+            next,
+            behind: third,
+        };
+    }
+    let (next, behind) = long_run_from(held, cumulative_tsn, place, offset, turns);
+    Run {
+        end: offset + (next - 1 - place) as u32,
+        next,
+        behind,
+    }
+}
+
+// The place behind a run of three TSNs or more, or of two of which a block can hold no more, and the distance there. It stands
+// apart, so that what short runs take stays small.
+#[cold]
+#[inline(never)]
+fn long_run_from(
+    held: &Held,
+    cumulative_tsn: u32,
+    place: usize,
+    offset: u32,
+    turns: &mut Turns,
+) -> (usize, u32)
+    requires serial { IsSerial held.now.chunks }
+    requires at { IsAtOffset cumulative_tsn held.now.chunks place offset }
+    requires second { offset + 1 ≡ offset_at cumulative_tsn held.now.chunks (place + 1) }
+    requires third { offset < 65534
+        → offset + 2 ≡ offset_at cumulative_tsn held.now.chunks (place + 2) }
+    ensures run { IsRunFrom cumulative_tsn held.now.chunks place offset
+        (record { end = offset + (result.0 - 1 - place); next = result.0; behind = result.1 }) }
+    ensures not_back { turns.old ≤ turns.new }
+    ensures cost { turns.new ≤ turns.old + 32 }
+{
+    // a block cannot reach past 65,535
+    let reach = (held.len() - place).min(65536 - offset as usize);
+    if reach < 3 {
+        let next = place + reach;
+        let behind = offset_behind(held, cumulative_tsn, next, None, turns);
+        return (next, behind);
+    }
+    let tsn = cumulative_tsn.wrapping_add(offset + 2);
+    let (last, seen) = run_end(held, place, tsn, place + reach, turns);
+    let next = last + 1;
+    let behind = offset_behind(held, cumulative_tsn, next, seen, turns);
+    (next, behind)
+}
+
+// How many blocks more a full list gets room for, at least.
+const MORE_ROOM: usize = 16;
+
+// The list with room for one block more. It stands apart, as it is seldom called.
+#[cold]
+#[inline(never)]
+fn grown(blocks: Vec<GapAckBlock>) -> Result<Vec<GapAckBlock>>
+    ensures items { IfOk result (λ more. more.items ≡ blocks.items) }
+    ensures room { IfOk result (λ more. vec_len more < vec_capacity more) }
+    ensures memory { IsOkUnless result ErrOutOfMemory }
+{
+    let mut blocks = blocks;
+    blocks.reserve(MORE_ROOM)?;
+    Ok(blocks)
+}
 
 impl PayloadQueue {
     /// The first `most` of the blocks of `get_gap_ack_blocks`, or all where there are no more. Turns are added: at most 34 for each block
@@ -34,24 +182,24 @@ impl PayloadQueue {
         ensures cost_of_runs { IsWithinDigits (length self.now.chunks) (turns.new - turns.old
             - 34 * min most (length (runs_of (gap_offsets cumulative_tsn self.now.chunks))) - 1) }
     {
+        let tsns = self.held.tsns();
         let mut blocks = Vec::new(alloc);
         let mut place = first_after(&self.held, cumulative_tsn, turns);
-        let mut seen = None;
-        while place < self.held.len() {
-            let tsn = seen_or_look(&self.held, place, seen, turns);
-            let Some(offset) = gap_offset(cumulative_tsn, tsn) else {
-                return Ok(blocks);
-            };
+        let mut offset = offset_at(&tsns, cumulative_tsn, place, turns);
+        while is_offset(offset) {
             if blocks.len() == most {
                 return Ok(blocks);
             }
-            // a block cannot reach past 65,535
-            let reach = (self.held.len() - place).min(65536 - offset as usize);
-            let (last, next) = run_end(&self.held, place, tsn, place + reach, turns);
-            let end = offset + (last - place) as u16;
-            blocks.push(GapAckBlock { start: offset, end })?;
-            place = last + 1;
-            seen = next;
+            let run = run_from(&self.held, &tsns, cumulative_tsn, place, offset, turns);
+            if blocks.len() == blocks.capacity() {
+                blocks = grown(blocks)?;
+            }
+            blocks.push_reserved(GapAckBlock {
+                start: offset as u16,
+                end: run.end as u16,
+            });
+            place = run.next;
+            offset = run.behind;
         }
         Ok(blocks)
     }

@@ -1,7 +1,7 @@
 //! Held chunks: a slab of them, and a deque of their TSNs and keys in order, so that a search reads TSNs alone and an edit moves no chunk.
-//! `look`, `tsn_at`, `mark` and `take_back` take a turn; `at`, `front_tsn`, `last_tsn` and the edits take none.
+//! `look`, `tsn_at`, `tsn_or`, `mark` and `take_back` take a turn; `at`, `front_tsn`, `last_tsn`, `tsns` and the edits take none.
 
-ghost use Rattle.std.specs.Prelude.{◌≡◌, ◌==◌, ◌+◌, ◌-◌, ◌<◌, ◌≤◌, [], ◌∷◌, false, length, max, min, insert, remove, slice_get, slice_index_or, slice_set, OnOk, OnErr, IfSome, IfNone, IsOk, IsOkUnless};
+ghost use Rattle.std.specs.Prelude.{◌≡◌, ◌==◌, ◌+◌, ◌-◌, ◌<◌, ◌≤◌, [], ◌∷◌, false, length, map, max, min, insert, remove, slice_get, slice_index_or, slice_set, OnOk, OnErr, IfSome, IfNone, IsOk, IsOkUnless};
 ghost use Rattle.std.specs.Option.{option_map};
 ghost use Rattle.std.specs.VecDeque.{deque_capacity, deque_len};
 ghost use Rattle.sctp_base.specs.declared.error.Error.TheVariants.{ErrOutOfMemory};
@@ -78,6 +78,40 @@ impl Mark {
 struct Place {
     tsn: u32,
     key: usize,
+}
+
+/// The TSNs of chunks by place, in the two slices in which a deque holds them, where a look is short.
+#[derive(Drop)]
+pub(crate) struct Tsns<'a> {
+    front: &'a [Place],
+    back: &'a [Place],
+}
+
+impl<'a> Model for Tsns<'a> {
+    ghost use Rattle.std.specs.Prelude.{ℕ, List, ◌++◌, map};
+
+    ghost Value = { List ℕ };
+
+    ghost view = { λ t. map (λ p. p.tsn) (t.front.now ++ t.back.now) };
+}
+
+impl<'a> Tsns<'a> {
+    /// Looks at the TSN at a place, which is a turn. Past the last it is `none`.
+    #[inline]
+    pub(crate) fn tsn_or(&self, place: usize, none: u32, turns: &mut Turns) -> u32
+        ensures value { result ≡ slice_index_or self.now place none }
+        ensures turn { turns.new ≡ turns.old + 1 }
+    {
+        turns.tick();
+        if place < self.front.len() {
+            return self.front[place].tsn;
+        }
+        let behind = place - self.front.len();
+        if behind < self.back.len() {
+            return self.back[behind].tsn;
+        }
+        none
+    }
 }
 
 /// Chunks by place, from 0. The next `room` insertions take no memory. None that is not abandoned has a deadline before `earliest`.
@@ -175,6 +209,14 @@ impl Held {
     {
         turns.tick();
         self.places[place].tsn
+    }
+
+    /// The TSNs of all, to be looked at over and over.
+    pub(crate) fn tsns(&self) -> Tsns<'_>
+        ensures { result ≡ map (λ c. c.tsn) self.now.chunks }
+    {
+        let (front, back) = self.places.as_slices();
+        Tsns { front, back }
     }
 
     /// The TSN of the first chunk; None where there are none.

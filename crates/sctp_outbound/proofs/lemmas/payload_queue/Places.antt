@@ -1,5 +1,6 @@
 -- Chunks in a slab by their places: what an edit of one key leaves.
-use Rattle.std.proofs.Common.{◌≡◌, ◌≢◌, ℕ, zero, suc, ◌<◌, ◌≤◌, List, [], ◌∷◌, length, get_or, set, take, drop, min, is_some, cond, IsSome, Option, None, Some}
+use Rattle.std.proofs.Common.{◌≡◌, ◌≢◌, ℕ, zero, suc, ◌<◌, ◌≤◌, List, [], ◌∷◌, length, map, get_or, set, take, drop, min, is_some, cond, IsSome, Option, None}
+use Rattle.std.proofs.Common.{Some}
 use Rattle.std.proofs.Common.{refl, sym, ap, ap₂, ◌∙◌, subst, arith}
 use Rattle.std.specs.List.{AllByRecursion, insert, remove}
 use Rattle.std.proofs.lemmas.List.Elements.{All-append, All-cons, All-set, All-take, All-drop}
@@ -45,6 +46,14 @@ module _ (under : ℕ → Option ChunkPayloadData) where
   held_length [] (c ∷ cs) h = absurd h
   held_length (p ∷ ps) [] h = absurd h
   held_length (p ∷ ps) (c ∷ cs) h = ap suc (held_length ps cs h.3)
+
+  -- the TSNs of the places are those of the chunks
+  pub held_tsns : (ps : List Place) (cs : List ChunkPayloadData) → AreHeldAt under ps cs
+      → map (λ (p : Place). p.tsn) ps ≡ map (λ (c : ChunkPayloadData). c.tsn) cs
+  held_tsns [] [] h = refl
+  held_tsns [] (c ∷ cs) h = absurd h
+  held_tsns (p ∷ ps) [] h = absurd h
+  held_tsns (p ∷ ps) (c ∷ cs) h = ap₂ (λ n ns. n ∷ ns) h.1 (held_tsns ps cs h.3)
 
   -- the chunk of a place
   pub held_at : (ps : List Place) (cs : List ChunkPayloadData) → AreHeldAt under ps cs → (n : ℕ) (p : Place) → n < length ps → p ≡ get_or ps n p

@@ -17,19 +17,18 @@ no_greater n j s e h = elim (cases_lt j n) [
 ]
 
 -- p is 2 to the turns of the first loop, q to those of the second, and l the run's length
-product : (p q l : ℕ) → p < 4 * l → q ≤ l → p * q < 4 * (l * l)
+product : (p q l : ℕ) → p < l → q ≤ l → p * q < l * l
 product p q l hp hq =
     let most : p * q ≤ p * l = mul-le-mul (omega arith) hq in
-    let more : (p + 1) * l ≤ 4 * l * l = mul-le-mul (omega arith) (omega arith) in
+    let more : (p + 1) * l ≤ l * l = mul-le-mul (omega arith) (omega arith) in
     let parts : (p + 1) * l ≡ p * l + l = grind arith in
-    let same : 4 * l * l ≡ 4 * (l * l) = grind arith in
     omega arith
 
 -- the turns of both
-turns_of_both : (t u v l : ℕ) → t ≤ u → u ≤ v → 2 ^ (u - t) < 4 * l → 2 ^ (v - u) ≤ l → 2 ^ (v - t) < 4 * (l * l)
+turns_of_both : (t u v l : ℕ) → t ≤ u → u ≤ v → 2 ^ (u - t) < l → 2 ^ (v - u) ≤ l → 2 ^ (v - t) < l * l
 turns_of_both t u v l tu uv first second =
-    subst (λ n. 2 ^ n < 4 * (l * l)) {x = u - t + (v - u)} (omega arith)
-    (subst (λ n. n < 4 * (l * l)) (sym (pow-add 2 (u - t) (v - u))) (product (2 ^ (u - t)) (2 ^ (v - u)) l first second))
+    subst (λ n. 2 ^ n < l * l) {x = u - t + (v - u)} (omega arith)
+    (subst (λ n. n < l * l) (sym (pow-add 2 (u - t) (v - u))) (product (2 ^ (u - t)) (2 ^ (v - u)) l first second))
 
 pub returns-then-distance-step-clause-run : goal.returns-then-distance-step-clause-run
 returns-then-distance-step-clause-run c =
@@ -38,7 +37,7 @@ returns-then-distance-step-clause-run c =
     let step = c.loop-step.step in
     let short : last + step < length xs = omega (arith, c.requires.in_range) in
     run_cut xs c.args.place last (last + step) c.args.end c.run_end_between.result.0
-    (omega arith) c.requires.in_range c.loop-step.invariant.from c.loop-step.invariant.rising
+    (omega arith) c.requires.in_range (omega (arith, c.loop-step.invariant.from)) c.loop-step.invariant.rising
     (breaks_ahead xs c.requires.serial last c.loop-step.tsn step c.tsn_at-ahead.result short c.loop-step.invariant.number c.tsn_at-ahead.ensures.value
     (λ e. c.if-distance-step.true (c.distance.ensures.value ∙ e)))
     c.run_end_between.ensures.run
@@ -53,6 +52,18 @@ returns-then-distance-step-clause-cost c =
     turns_of_both c.args.turns.now c.tsn_at-ahead.new.turns c.run_end_between.new.turns _ (omega arith) c.run_end_between.ensures.not_back
     (omega (arith, more, inv.cost, inv.from, run.from)) (omega (arith, second, inv.known, inv.from, run.from))
 
+pub loop-step-init : goal.loop-step-init
+loop-step-init c = record {
+  from = omega arith;
+  in_range = omega arith;
+  known = omega arith;
+  power = (1, omega arith);
+  number = c.requires.number;
+  rising = c.requires.rising;
+  not_back = omega arith;
+  cost = subst (λ n. 2 * 2 ^ n ≤ c.args.place + 2 - c.args.place) {x = 0} (omega arith) (omega arith);
+}
+
 pub loop-step-preserved : goal.loop-step-preserved
 loop-step-preserved c =
     let xs = c.args.held.now.chunks in
@@ -65,10 +76,7 @@ loop-step-preserved c =
       from = omega arith;
       in_range = omega arith;
       known = omega (arith, inv.known, inv.from);
-      power = elim (cases_lt 0 (last - c.args.place)) [
-        | inl some ↦ (inv.power.0 + 1, omega (arith, inv.power.1, inv.known, inv.from, pow-add 2 inv.power.0 1))
-        | inr none ↦ (0, omega (arith, inv.known, inv.from))
-      ];
+      power = (inv.power.0 + 1, omega (arith, inv.power.1, inv.known, inv.from, pow-add 2 inv.power.0 1));
       number = c.tsn_at-ahead.ensures.value;
       rising = rising_on xs c.args.place last (last + step) inv.rising
           (rises_ahead xs c.requires.serial last c.loop-step.tsn step c.tsn_at-ahead.result short inv.number c.tsn_at-ahead.ensures.value
@@ -85,31 +93,3 @@ returns-clause-cost c =
     (omega (arith, c.run_end_between-2.ensures.cost, inv.known)) in
     turns_of_both c.args.turns.now c.loop-step.turns c.run_end_between-2.new.turns _ inv.not_back c.run_end_between-2.ensures.not_back
     (omega (arith, inv.cost, inv.from, run.from)) (omega (arith, second, inv.known, inv.from, run.from))
-
-pub returns-then-step-eq1-clause-run : goal.returns-then-step-eq1-clause-run
-returns-then-step-eq1-clause-run c =
-    let xs = c.args.held.now.chunks in
-    let last = c.loop-step.last in
-    let step = c.loop-step.step in
-    let inv = c.loop-step.invariant in
-    let one : step ≡ 1 = c.if-step-eq1.true in
-    let short : last + step < length xs = omega (arith, c.requires.in_range) in
-    run_cut xs c.args.place last (last + step) c.args.end last (omega arith) c.requires.in_range inv.from inv.rising
-    (breaks_ahead xs c.requires.serial last c.loop-step.tsn step c.tsn_at-ahead.result short inv.number c.tsn_at-ahead.ensures.value
-    (λ e. c.if-distance-step.true (c.distance.ensures.value ∙ e)))
-    (record {
-      from = omega arith;
-      to = omega arith;
-      rising = λ k d ge below. absurd (omega arith);
-      stops = λ within d. absurd (omega arith);
-    })
-
-pub returns-then-step-eq1-clause-cost : goal.returns-then-step-eq1-clause-cost
-returns-then-step-eq1-clause-cost c =
-    let inv = c.loop-step.invariant in
-    let more = one_more c.args.turns.now c.loop-step.turns c.tsn_at-ahead.new.turns inv.not_back c.tsn_at-ahead.ensures.turn in
-    omega (
-      arith,
-      product (2 ^ (c.tsn_at-ahead.new.turns - c.args.turns.now)) 1 (c.loop-step.last + 1 - c.args.place)
-          (omega (arith, more, inv.cost, inv.from)) (omega (arith, inv.from)),
-    )
