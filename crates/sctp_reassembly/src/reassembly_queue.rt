@@ -43,7 +43,7 @@ use self::sizes::{bytes_of_front, size_after, size_before};
 use self::skips::{earliest_from, goal, has_settled, latest_passable};
 use self::unassembled::Loose;
 use self::unassembled_places::{front_upto, place_for};
-use self::undo::{PushChange, PushUndo};
+use self::undo::{MessageUndo, PushChange, PushUndo};
 use sctp_base::error::Result;
 use sctp_base::util::{sna16gt, sna16lt, sna16lte, sna32lte};
 use sctp_data::chunk::chunk_payload_data::{ChunkPayloadData, PayloadProtocolIdentifier};
@@ -431,6 +431,7 @@ impl ReassemblyQueue {
         let before = self.n_bytes;
         let len = chunk.user_data.len();
         self.unordered.reserve(1)?;
+        let n_chunks = self.unordered.chunk_count();
         let (run, undo) = self
             .unordered_chunks
             .put_undoable(self.alloc, place, chunk, turns)?;
@@ -438,6 +439,7 @@ impl ReassemblyQueue {
         match run {
             Some(chunks) => {
                 self.unordered.push_back_reserved(set_of_run(chunks, turns));
+                let undo = MessageUndo::of(undo, n_chunks);
                 Ok((true, PushUndo::of(PushChange::Message(undo), before)))
             }
             None => Ok((false, PushUndo::of(PushChange::Unassembled(undo), before))),

@@ -1,5 +1,5 @@
 -- What it looks at to take chunks back.
-use Rattle.std.proofs.Common.{◌≡◌, ℕ, suc, ◌+◌, ◌-◌, ◌*◌, ◌^◌, ◌≤◌, List, [], ◌∷◌, ◌++◌, length, take, Option, Some, None, refl, ap, sym, ◌∙◌, subst, arith}
+use Rattle.std.proofs.Common.{◌≡◌, ℕ, suc, ◌+◌, ◌-◌, ◌*◌, ◌^◌, ◌≤◌, List, [], ◌∷◌, ◌++◌, take, Option, Some, None, refl, ap, sym, ◌∙◌, subst, arith}
 use Rattle.std.proofs.Common.{Result, Ok, Err}
 use Rattle.std.specs.Prelude.{slice_get, OnErr}
 use Rattle.std.proofs.Math.Nat.{suc-mul}
@@ -8,7 +8,8 @@ use Rattle.sctp_reassembly.specs.reassembly_queue.Orders.{digits}
 use Rattle.sctp_reassembly.proofs.lemmas.reassembly_queue.Digits.{within_digits}
 use Rattle.sctp_receiver.specs.declared.receiver.refusal.ReceiverRefusal.{ReceiverRefusal}
 use Rattle.sctp_receiver.specs.declared.receiver.taking.ChunkUndo.{ChunkUndo}
-use Rattle.sctp_receiver.specs.Costs.{IsWithinData, IsWithinNext, IsWithinRefusedBy, IsWithinUndone, TakesWithin, TakesEachWithin, undo_looks, undo_each_looks}
+use Rattle.sctp_receiver.specs.Costs.{IsWithinData, IsWithinNext, IsWithinRefusedBy, IsWithinUndone, TakesWithin, TakesEachWithin, Counts, counts_of, counts_in}
+use Rattle.sctp_receiver.specs.Costs.{undo_looks, undo_each_looks}
 use Rattle.sctp_receiver.specs.Receiver.{Reception}
 use Rattle.sctp_receiver.specs.Undo.{Parts, chunk_undone, chunks_undone}
 use Rattle.sctp_receiver.proofs.PushCosts.{data-less, data-none}
@@ -37,18 +38,18 @@ put-back-cost now was back held before after e f h =
 
 -- the last one of several
 pub looks-last : (us : List ChunkUndo) (u : ChunkUndo) (p : Parts) → undo_each_looks (us ++ u ∷ []) p
-    ≡ undo_each_looks us (chunk_undone u p) + undo_looks (length (chunk_undone u p).filter.beyond) (length p.filter.beyond)
+    ≡ undo_each_looks us (chunk_undone u p) + undo_looks (counts_in (chunk_undone u p)) (counts_in p)
 looks-last [] u p = omega arith
 looks-last (v ∷ us) u p =
-    let e = ap (λ (q : Parts). length q.filter.beyond) (undone-last us u p) in
-    let f = ap (λ (q : Parts). length (chunk_undone v q).filter.beyond) (undone-last us u p) in
+    let e = ap counts_in (undone-last us u p) in
+    let f = ap (λ (q : Parts). counts_in (chunk_undone v q)) (undone-last us u p) in
     let ih = looks-last us u p in
-    ap₂' (length (chunk_undone v (chunks_undone (us ++ u ∷ []) p)).filter.beyond) _ (length (chunks_undone (us ++ u ∷ []) p).filter.beyond) _ f e ih
+    ap₂' (counts_in (chunk_undone v (chunks_undone (us ++ u ∷ []) p))) _ (counts_in (chunks_undone (us ++ u ∷ []) p)) _ f e ih
   where
-    ap₂' : (a b c d : ℕ) → a ≡ b → c ≡ d → undo_each_looks (us ++ u ∷ []) p
-        ≡ undo_each_looks us (chunk_undone u p) + undo_looks (length (chunk_undone u p).filter.beyond) (length p.filter.beyond)
+    ap₂' : (a b c d : Counts) → a ≡ b → c ≡ d → undo_each_looks (us ++ u ∷ []) p
+        ≡ undo_each_looks us (chunk_undone u p) + undo_looks (counts_in (chunk_undone u p)) (counts_in p)
         → undo_looks a c + undo_each_looks (us ++ u ∷ []) p
-        ≡ undo_looks b d + undo_each_looks us (chunk_undone u p) + undo_looks (length (chunk_undone u p).filter.beyond) (length p.filter.beyond)
+        ≡ undo_looks b d + undo_each_looks us (chunk_undone u p) + undo_looks (counts_in (chunk_undone u p)) (counts_in p)
     ap₂' a b c d e f ih = rw (e, f, ih) (omega arith)
 
 module _ (why : ChunkPayloadData → Reception → Option ReceiverRefusal) where
@@ -91,9 +92,10 @@ module _ (why : ChunkPayloadData → Reception → Option ReceiverRefusal) where
 
 -- what is taken back costs that too
 pub undone-within : (x : ChunkPayloadData) (old new : Reception) (looks : ℕ) → IsWithinData x old new looks
-    → IsWithinUndone x old new (looks + undo_looks (length old.beyond) (length new.beyond))
+    → IsWithinUndone x old new (looks + undo_looks (counts_of old.streams old.beyond) (counts_of new.streams new.beyond))
 undone-within x old new looks h =
-    data-less x old new (looks + undo_looks (length old.beyond) (length new.beyond) - undo_looks (length old.beyond) (length new.beyond)) looks (omega arith) h
+    let more = undo_looks (counts_of old.streams old.beyond) (counts_of new.streams new.beyond) in
+    data-less x old new (looks + more - more) looks (omega arith) h
 
 -- none is looked at
 none-next : (o : Option ChunkPayloadData) (r : Reception) (turns : ℕ) → turns ≡ 0 → IsWithinNext o r turns

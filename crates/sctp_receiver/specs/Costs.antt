@@ -1,6 +1,7 @@
 -- What calls of a receiver look at: bounds of their turns. A turn is one look at a TSN that is held beyond the cumulative one, at a
 -- name of a FORWARD-TSN that is followed, or at a stream that it visits.
 use Rattle.std.specs.Prelude.{◌≡◌, ℕ, ◌+◌, ◌*◌, ◌-◌, ◌≤◌, true, false, List, [], ◌∷◌, length, take, slice_get, Option, Some, None}
+use Rattle.std.specs.List.{sum_by}
 use Rattle.sctp_data.specs.declared.chunk.chunk_payload_data.ChunkPayloadData.{ChunkPayloadData}
 use Rattle.sctp_data.specs.ForwardTsn.{ForwardTsn}
 use Rattle.sctp_serial.specs.Turns.{IsWithinDigits}
@@ -84,22 +85,43 @@ abbrev pub IsWithinEachBy : (ChunkPayloadData → Reception → Option ReceiverR
     → List ChunkPayloadData → Reception → Reception → ℕ → Type 0
 IsWithinEachBy refusal = TakesEachWithin refusal IsWithinData
 
--- a chunk is taken back, where so many TSNs were beyond before it came and so many are since: one, and for each TSN that is beyond
--- again one more than the digits of their number
-abbrev pub undo_looks : ℕ → ℕ → ℕ
-undo_looks before since = (before - since) * (digits before + 1) + 1
+-- how many fragments of unordered messages are not complete, on all streams
+abbrev pub unassembled_on : List InboundStream → ℕ
+unassembled_on streams = sum_by (λ l. length l.queue.held.unassembled) streams
+
+-- how many these are, and how many TSNs are beyond
+pub record Counts : Type 0 where
+  pub beyond : ℕ
+  pub unassembled : ℕ
+
+abbrev pub counts_of : List InboundStream → List ℕ → Counts
+counts_of streams beyond = record { beyond = length beyond; unassembled = unassembled_on streams }
+
+-- a chunk is taken back, where so many were there before it came and so many are since: two, and to find its TSN the digits of the number
+-- of TSNs beyond; for each TSN that is beyond again one more than the digits of their number; one for each fragment that is unassembled
+-- again
+abbrev pub undo_looks : Counts → Counts → ℕ
+undo_looks before since =
+    digits since.beyond
+    + (before.beyond - since.beyond) * (digits before.beyond + 1)
+    + (before.unassembled + 1 - since.unassembled)
+    + 1
 
 -- several are, the last one first
+abbrev pub counts_in : Parts → Counts
+counts_in p = counts_of p.streams p.filter.beyond
+
 abbrev pub undo_each_looks : List ChunkUndo → Parts → ℕ
 undo_each_looks [] p = 0
 undo_each_looks (u ∷ us) p =
-    undo_looks (length (chunks_undone (u ∷ us) p).filter.beyond)
-    (length (chunks_undone us p).filter.beyond) + undo_each_looks us p
+    undo_looks (counts_in (chunks_undone (u ∷ us) p)) (counts_in (chunks_undone us p))
+    + undo_each_looks us p
 
 -- the chunk is taken, and taken back
 abbrev pub IsWithinUndone : ChunkPayloadData → Reception → Reception → ℕ → Type 0
 IsWithinUndone x old new turns =
-    IsWithinData x old new (turns - undo_looks (length old.beyond) (length new.beyond))
+    IsWithinData x old new
+    (turns - undo_looks (counts_of old.streams old.beyond) (counts_of new.streams new.beyond))
 
 -- the next one is refused, if there is one
 abbrev pub IsWithinNext : Option ChunkPayloadData → Reception → ℕ → Type 0

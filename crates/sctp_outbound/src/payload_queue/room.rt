@@ -3,6 +3,7 @@
 ghost use Rattle.std.specs.Prelude.{◌≡◌, ◌+◌, ◌-◌, ◌≤◌, length, drop, min, take, find};
 ghost use Rattle.sctp_outbound.specs.payload_queue.PayloadQueue.{front_with, without_front, without};
 ghost use Rattle.sctp_serial.specs.DataChunks.{has_tsn};
+ghost use Rattle.sctp_serial.specs.Turns.{IsWithinDigits};
 
 use super::{PayloadQueue, search};
 use sctp_data::chunk::chunk_payload_data::ChunkPayloadData;
@@ -44,7 +45,26 @@ impl PayloadQueue {
         ensures places { length self.new.chunks + self.new.room
             ≡ length self.old.chunks + self.old.room }
     {
-        match search(&self.held, tsn, &mut Turns::new()) {
+        self.take_leaving_room_counted(tsn, &mut Turns::new())
+    }
+
+    /// The same, and its turns are added: at most as many as the number of chunks has binary digits.
+    pub fn take_leaving_room_counted(
+        &mut self,
+        tsn: u32,
+        turns: &mut Turns,
+    ) -> Option<ChunkPayloadData>
+        ensures taken { result ≡ find (has_tsn tsn) self.old.chunks }
+        ensures rest { self.new ≡ record self.old {
+          chunks = without tsn self.old.chunks;
+          room = self.new.room;
+        } }
+        ensures places { length self.new.chunks + self.new.room
+            ≡ length self.old.chunks + self.old.room }
+        ensures not_back { turns.old ≤ turns.new }
+        ensures cost { IsWithinDigits (length self.old.chunks) (turns.new - turns.old) }
+    {
+        match search(&self.held, tsn, turns) {
             Ok((place, _)) => {
                 let chunk = self.held.remove_leaving_room(place);
                 self.n_bytes -= chunk.user_data.len();

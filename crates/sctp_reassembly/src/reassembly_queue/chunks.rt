@@ -11,6 +11,7 @@ ghost use Rattle.sctp_reassembly.specs.reassembly_queue.Resets.{chunks_upto, res
 ghost use Rattle.sctp_serial.specs.DataChunks.{bytes_of};
 ghost use Rattle.sctp_serial.specs.Ascending.{IsAscending, IsOrder};
 ghost use Rattle.sctp_reassembly.specs.reassembly_queue.Orders.{digits, IsOffOnlyOutOfOrder};
+ghost use Rattle.sctp_reassembly.specs.reassembly_queue.Undo.{IsNotedOf};
 ghost use Rattle.sctp_base.specs.declared.error.Error.TheVariants.{ErrOutOfMemory, ErrShortBuffer};
 
 use crate::reassembly_queue::fragment::Fragment;
@@ -198,15 +199,26 @@ impl Fragments {
         }))
     }
 
-    /// Takes out the fragment at a place. It takes no memory.
-    /// Precondition: the place has one.
-    pub(crate) fn remove(&mut self, place: usize)
-        requires { place < length self.old.chunks }
+    /// What is noted of them.
+    pub(crate) fn noted(&self) -> Noted
+        ensures { IsNotedOf result self.now.chunks }
+    {
+        Noted {
+            n_bytes: self.n_bytes,
+            ascending: self.ascending,
+        }
+    }
+
+    /// Takes out the fragment at a place, with what was noted before it was put in. It takes no memory, and looks at no other.
+    /// Precondition: the place has one, and what was noted holds of the others.
+    pub(crate) fn remove(&mut self, place: usize, noted: Noted)
+        requires in_range { place < length self.old.chunks }
+        requires noted { IsNotedOf noted (without_chunk place self.old).chunks }
         ensures { self.new ≡ without_chunk place self.old }
     {
-        let chunk = self.chunks.remove(place);
-        self.n_bytes = bytes_without(self.n_bytes, chunk.user_data.len(), &self.chunks);
-        self.ascending = still_ascending(self.ascending, &self.chunks, &mut Turns::new());
+        self.chunks.remove(place);
+        self.n_bytes = noted.n_bytes;
+        self.ascending = noted.ascending;
     }
 
     /// Keeps the fragments past the TSN, and counts the bytes of the others up to the greatest number. It takes no memory.
@@ -222,6 +234,13 @@ impl Fragments {
         self.ascending = still_ascending(self.ascending, &self.chunks, &mut turns);
         gone
     }
+}
+
+/// What is noted of the fragments of a set, beside themselves: their bytes up to the greatest number, and whether their TSNs ascend.
+#[derive(Clone, Copy)]
+pub(crate) struct Noted {
+    n_bytes: usize,
+    ascending: bool,
 }
 
 /// Where a fragment was put in, and whether the set is complete with it.
@@ -602,17 +621,6 @@ pub(crate) fn bytes_in(chunks: &[Fragment], turns: &mut Turns) -> usize
         len = len.saturating_add(chunk.user_data.len());
     }
     len
-}
-
-// The bytes of the fragments that are left, where so many were taken of so many: past the greatest number they are counted anew.
-fn bytes_without(n_bytes: usize, gone: usize, chunks: &[Fragment]) -> usize
-    ensures { n_bytes ≡ min (gone + bytes_of chunks.now) (2 ^ 64 - 1)
-        → result ≡ min (bytes_of chunks.now) (2 ^ 64 - 1) }
-{
-    if n_bytes < usize::MAX {
-        return n_bytes.saturating_sub(gone);
-    }
-    bytes_in(chunks, &mut Turns::new())
 }
 
 // How many bytes the fragments at or before the TSN carry, or the greatest number where they are more.

@@ -12,8 +12,9 @@ ghost use Rattle.sctp_reassembly.specs.reassembly_queue.Fragments.{with_chunk, w
 ghost use Rattle.sctp_reassembly.specs.reassembly_queue.ReassemblyQueue.{set_bytes};
 ghost use Rattle.sctp_reassembly.specs.reassembly_queue.Resets.{is_old_message, of_new_use, dropped_bytes};
 ghost use Rattle.sctp_reassembly.specs.reassembly_queue.Skips.{is_discarded};
+ghost use Rattle.sctp_reassembly.specs.reassembly_queue.Undo.{IsNotedOf};
 
-use crate::reassembly_queue::chunks::{Fragments, Placed};
+use crate::reassembly_queue::chunks::{Fragments, Noted, Placed};
 use crate::reassembly_queue::fragment::Fragment;
 use crate::reassembly_queue::ordered_skips::SsnSpan;
 use crate::reassembly_queue::{resets, skips};
@@ -134,42 +135,56 @@ impl CountedSets {
         Ok(put)
     }
 
-    /// Takes the chunk at a place out of the set at a place. It takes no memory.
-    /// Precondition: both places exist.
-    pub(crate) fn remove_from(&mut self, place: usize, at: usize)
+    /// What is noted of the set at a place.
+    /// Precondition: the place has one.
+    pub(crate) fn noted_at(&self, place: usize) -> Noted
+        requires { place < length self.now.items }
+        ensures { (d : ChunkSet) → IsNotedOf result (slice_index_or self.now.items place d).chunks }
+    {
+        self.sets[place].noted()
+    }
+
+    /// Takes the chunk at a place out of the set at a place, with what was noted of that set before it was put in, and how many chunks all
+    /// had. It takes no memory, and looks at no other set.
+    /// Precondition: both places exist, and what was noted holds of what is left.
+    pub(crate) fn remove_from(&mut self, place: usize, at: usize, noted: Noted, n_chunks: usize)
         requires set { place < length self.old.items }
         requires chunk { (d : ChunkSet)
             → at < length (slice_index_or self.old.items place d).chunks }
+        requires noted { (d : ChunkSet) → IsNotedOf noted
+            (without_chunk at (slice_index_or self.old.items place d)).chunks }
+        requires counted { n_chunks ≡ min
+            (set_chunks (change_at (without_chunk at) place self.old.items)) (2 ^ 64 - 1) }
         ensures { self.new.items ≡ change_at (without_chunk at) place self.old.items }
     {
-        self.sets[place].remove(at);
-        self.n_chunks = chunks_without(self.n_chunks, 1, &self.sets, &mut Turns::new());
+        self.sets[place].remove(at, noted);
+        self.n_chunks = n_chunks;
     }
 
-    /// Takes out the set at a place. It takes no memory.
-    /// Precondition: the place has one.
-    pub(crate) fn remove(&mut self, place: usize)
-        requires { place < length self.old.items }
+    /// Takes out the set at a place, where all had so many chunks before it was put in. It takes no memory, and looks at no other set.
+    /// Precondition: the place has one, and so many chunks are left.
+    pub(crate) fn remove(&mut self, place: usize, n_chunks: usize)
+        requires in_range { place < length self.old.items }
+        requires counted { n_chunks
+            ≡ min (set_chunks (remove self.old.items place)) (2 ^ 64 - 1) }
         ensures { self.new.items ≡ remove self.old.items place }
     {
-        let gone = match self.sets.remove(place) {
-            Some(set) => set.fragments().len(),
-            None => 0,
-        };
-        self.n_chunks = chunks_without(self.n_chunks, gone, &self.sets, &mut Turns::new());
+        self.sets.remove(place);
+        self.n_chunks = n_chunks;
     }
 
-    /// Takes out the last set. It takes no memory.
-    /// Precondition: there is one.
-    pub(crate) fn pop_back(&mut self) -> Fragments
-        requires { 0 < length self.old.items }
+    /// Takes out the last set, where all had so many chunks before it was put in. It takes no memory, and looks at no other set.
+    /// Precondition: there is one, and so many chunks are left.
+    pub(crate) fn pop_back(&mut self, n_chunks: usize) -> Fragments
+        requires some { 0 < length self.old.items }
+        requires counted { n_chunks ≡ min
+            (set_chunks (remove self.old.items (length self.old.items - 1))) (2 ^ 64 - 1) }
         ensures { self.old.items ≡ self.new.items ++ result ∷ [] }
     {
         let Some(set) = self.sets.pop_back() else {
             unreachable!()
         };
-        let gone = set.fragments().len();
-        self.n_chunks = chunks_without(self.n_chunks, gone, &self.sets, &mut Turns::new());
+        self.n_chunks = n_chunks;
         set
     }
 

@@ -10,7 +10,7 @@ ghost use Rattle.sctp_reassembly.specs.reassembly_queue.Skips.{is_discarded};
 ghost use Rattle.sctp_reassembly.specs.reassembly_queue.Fragments.{is_complete, has_ssn, chunks_of_ssn, sets_with, answer_with, new_set, set_before};
 ghost use Rattle.sctp_reassembly.specs.reassembly_queue.Counts.{set_chunks};
 ghost use Rattle.sctp_reassembly.specs.declared.reassembly_queue.ordered_sets.OrderedPut.{OrderedPut};
-ghost use Rattle.sctp_reassembly.specs.reassembly_queue.Undo.{CanUndoOrdered, ordered_undone};
+ghost use Rattle.sctp_reassembly.specs.reassembly_queue.Undo.{AreNoted, CanUndoOrdered, ordered_undone};
 ghost use Rattle.sctp_serial.specs.DataChunks.{bytes_of};
 ghost use Rattle.sctp_serial.specs.Ascending.{IsAscending, IsOrder, IsInsertion, upper_half};
 ghost use Rattle.sctp_serial.specs.Turns.{IsWithinDigits};
@@ -18,7 +18,7 @@ ghost use Rattle.sctp_data.specs.ChunkSet.{ChunkSet};
 ghost use Rattle.sctp_reassembly.specs.reassembly_queue.Orders.{digits, IsOffOnlyOutOfOrder, IsOrderly};
 ghost use Rattle.sctp_base.specs.declared.error.Error.TheVariants.{ErrOutOfMemory};
 
-use crate::reassembly_queue::chunks::Fragments;
+use crate::reassembly_queue::chunks::{Fragments, Noted};
 use crate::reassembly_queue::counted_sets::CountedSets;
 use crate::reassembly_queue::fragment::Fragment;
 use crate::reassembly_queue::ordered_skips::SsnSpan;
@@ -39,13 +39,33 @@ pub(crate) struct OrderedSets {
     ascending: bool,
 }
 
+/// What is noted of sets, beside themselves: how many chunks they have, up to the greatest number, and whether their numbers ascend.
+#[derive(Clone, Copy)]
+pub(crate) struct SetsNoted {
+    n_chunks: usize,
+    ascending: bool,
+}
+
 /// Where a chunk was put, so that it can be taken out again.
 #[derive(Clone, Copy)]
-pub(crate) enum OrderedUndo {
-    /// Into the set at a place, at a place among its chunks.
-    InSet { set: usize, place: usize },
+pub(crate) enum OrderedPlace {
+    /// Into the set at a place, at a place among its chunks; and what was noted of that set before.
+    InSet {
+        set: usize,
+        place: usize,
+        noted: Noted,
+    },
     /// Into a new set, at a place.
-    NewSet { set: usize },
+    NewSet {
+        set: usize,
+    },
+}
+
+/// Where a chunk was put, and what was noted of the sets before.
+#[derive(Clone, Copy)]
+pub(crate) struct OrderedUndo {
+    at: OrderedPlace,
+    noted: SetsNoted,
 }
 
 /// Whether the set of a chunk that was put in is complete, and how it is undone.
@@ -106,6 +126,16 @@ impl OrderedSets {
         ensures { result ≡ min (set_chunks self.now) (2 ^ 64 - 1) }
     {
         self.sets.chunk_count()
+    }
+
+    // What is noted of them.
+    fn noted(&self) -> SetsNoted
+        ensures { AreNoted result self.now }
+    {
+        SetsNoted {
+            n_chunks: self.sets.chunk_count(),
+            ascending: self.ascending,
+        }
     }
 
     /// The first set.
@@ -175,15 +205,19 @@ impl OrderedSets {
             + digits (length (chunks_of_ssn chunk.stream_sequence_number self.old)) + 11 }
     {
         let ssn = chunk.stream_sequence_number;
+        let noted = self.noted();
         match seek(self.ascending, self.sets.as_deque(), ssn, turns) {
             Ok(set) => {
+                let set_noted = self.sets.noted_at(set);
                 let Some(put) = self.sets.put_into(set, chunk, turns)? else {
                     return Ok(None);
                 };
-                let undo = OrderedUndo::InSet {
+                let at = OrderedPlace::InSet {
                     set,
                     place: put.place,
+                    noted: set_noted,
                 };
+                let undo = OrderedUndo { at, noted };
                 Ok(Some(OrderedPut {
                     whole: put.whole,
                     undo,
@@ -194,24 +228,27 @@ impl OrderedSets {
                 let whole = set.is_complete_counted(turns);
                 self.sets.insert(at.place, set)?;
                 self.ascending = at.ascending;
-                let undo = OrderedUndo::NewSet { set: at.place };
+                let at = OrderedPlace::NewSet { set: at.place };
+                let undo = OrderedUndo { at, noted };
                 Ok(Some(OrderedPut { whole, undo }))
             }
         }
     }
 
-    /// Undoes a `put`. It takes no memory.
-    /// Precondition: the places that it says exist.
+    /// Undoes a `put`. It takes no memory, and looks at no other set or fragment.
+    /// Precondition: the places that it says exist, and what was noted before will hold again.
     pub(crate) fn undo_put(&mut self, undo: OrderedUndo)
         requires { CanUndoOrdered undo self.old }
         ensures { self.new ≡ ordered_undone undo self.old }
     {
-        match undo {
-            OrderedUndo::InSet { set, place } => self.sets.remove_from(set, place),
-            OrderedUndo::NewSet { set } => self.sets.remove(set),
+        let n_chunks = undo.noted.n_chunks;
+        match undo.at {
+            OrderedPlace::InSet { set, place, noted } => {
+                self.sets.remove_from(set, place, noted, n_chunks);
+            }
+            OrderedPlace::NewSet { set } => self.sets.remove(set, n_chunks),
         }
-        let sets = self.sets.as_deque();
-        self.ascending = still_ascending(self.ascending, sets, &mut Turns::new());
+        self.ascending = undo.noted.ascending;
     }
 
     /// Removes the sets that a skip discards: the incomplete ones, those alone whose numbers are in the stretch where there is

@@ -207,12 +207,26 @@ impl Loose {
         requires { CanUndoInsertion undo kept.items self.old }
         ensures { self.new ≡ insertion_undone undo kept.items self.old }
     {
+        self.put_back_counted(undo, kept, &mut Turns::new());
+    }
+
+    /// The same, and a turn is added for each that is put back.
+    pub(crate) fn put_back_counted(
+        &mut self,
+        undo: InsertionUndo,
+        kept: Vec<Fragment>,
+        turns: &mut Turns,
+    )
+        requires { CanUndoInsertion undo kept.items self.old }
+        ensures value { self.new ≡ insertion_undone undo kept.items self.old }
+        ensures turns { turns.new ≡ turns.old + length kept.items }
+    {
         let InsertionUndo {
             place,
             first,
             flags,
         } = undo;
-        put_back(&mut self.chunks, first, kept);
+        put_back(&mut self.chunks, first, kept, turns);
         take_out(&mut self.chunks, place);
         self.n_bytes = flags.n_bytes;
         self.serial = flags.serial;
@@ -476,17 +490,19 @@ fn take_each(chunks: &mut VecDeque<Fragment>, first: usize, count: usize, kept: 
     chunks.rotate_right(first);
 }
 
-/// Puts neighbours back at a place, by the same turns.
+/// Puts neighbours back at a place, as they were taken out. A turn is added for each.
 /// Preconditions: the place is at most the number of fragments; the deque has room for all.
-fn put_back(chunks: &mut VecDeque<Fragment>, first: usize, kept: Vec<Fragment>)
+fn put_back(chunks: &mut VecDeque<Fragment>, first: usize, kept: Vec<Fragment>, turns: &mut Turns)
     requires in_range { first ≤ length chunks.old.items }
     requires room { length chunks.old.items + length kept.items ≤ deque_capacity chunks.old }
     ensures value { chunks.new.items ≡ put_back first kept.items chunks.old.items }
     ensures capacity { deque_capacity chunks.old ≤ deque_capacity chunks.new }
+    ensures turns { turns.new ≡ turns.old + length kept.items }
 {
     let mut kept = kept;
     chunks.rotate_left(first);
     while let Some(fragment) = kept.pop() {
+        turns.tick();
         match chunks.push_front(fragment) {
             Ok(()) => {}
             Err(_) => unreachable!(),

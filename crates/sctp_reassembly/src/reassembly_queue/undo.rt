@@ -1,9 +1,9 @@
 //! Chunks taken so that they can be taken back.
 
-ghost use Rattle.std.specs.Prelude.{◌≡◌, ℕ, ◌==◌, ◌+◌, ◌^◌, ◌<◌, ◌≤◌, length, OnErr, IfOk, IfErr, IsOk, IsOkAnd, true, false, if◌then◌else◌};
+ghost use Rattle.std.specs.Prelude.{◌≡◌, ℕ, ◌==◌, ◌+◌, ◌-◌, ◌^◌, ◌<◌, ◌≤◌, length, OnErr, IfOk, IfErr, IsOk, IsOkAnd, true, false, if◌then◌else◌};
 ghost use Rattle.sctp_reassembly.specs.reassembly_queue.ReassemblyQueue.{is_too_large, after_ordered_push, is_complete_with, PushesUnordered, IsCounted, held_bytes};
 ghost use Rattle.sctp_reassembly.specs.reassembly_queue.PoolUndo.{CanUndoPut, pool_undone};
-ghost use Rattle.sctp_reassembly.specs.reassembly_queue.Undo.{undone, CanUndo, last_chunks, unassembled_of, with_unassembled, without_last};
+ghost use Rattle.sctp_reassembly.specs.reassembly_queue.Undo.{undone, CanUndo, CanUndoMessage, last_chunks, unassembled_of, with_unassembled, without_last};
 ghost use Rattle.sctp_reassembly.specs.reassembly_queue.Costs.{ordered_push_looks, ordered_push_walk, FitsInOrder, Joins, JoinsAtEnd, unordered_push_looks, unordered_push_walk};
 ghost use Rattle.sctp_reassembly.specs.reassembly_queue.Orders.{digits, IsOrderly};
 ghost use Rattle.sctp_base.specs.declared.error.Error.TheVariants.{ErrOutOfMemory, ErrInboundPacketTooLarge};
@@ -33,7 +33,24 @@ pub(crate) enum PushChange {
     /// An unordered chunk came, and no message became whole.
     Unassembled(PoolUndo),
     /// An unordered chunk came, and a message became whole.
-    Message(PoolUndo),
+    Message(MessageUndo),
+}
+
+/// What a chunk by which an unordered message became whole did.
+#[derive(Clone, Copy)]
+pub(crate) struct MessageUndo {
+    put: PoolUndo,
+    // how many chunks the complete messages had before, up to the greatest usize
+    n_chunks: usize,
+}
+
+impl MessageUndo {
+    /// The undo of this, where the complete messages had so many chunks.
+    pub(crate) fn of(put: PoolUndo, n_chunks: usize) -> Self
+        ensures { result ≡ record { put = put; n_chunks = n_chunks } }
+    {
+        MessageUndo { put, n_chunks }
+    }
 }
 
 impl PushUndo {
@@ -126,27 +143,40 @@ impl ReassemblyQueue {
         requires { CanUndo undo self.old }
         ensures { self.new ≡ undone undo self.old }
     {
+        self.undo_push_counted(undo, &mut Turns::new());
+    }
+
+    /// The same, and its turns are added: one for each fragment of the message that it takes apart, where the chunk completed an unordered
+    /// one, and else none.
+    pub fn undo_push_counted(&mut self, undo: PushUndo, turns: &mut Turns)
+        requires { CanUndo undo self.old }
+        ensures value { self.new ≡ undone undo self.old }
+        ensures not_back { turns.old ≤ turns.new }
+        ensures cost { turns.new ≤ turns.old
+            + (length self.new.held.unassembled + 1 - length self.old.held.unassembled) }
+    {
         let PushUndo { change, n_bytes } = undo;
         match change {
             PushChange::NotKept => {}
             PushChange::Ordered(put) => self.ordered.undo_put(put),
             PushChange::Unassembled(put) => {
-                self.unordered_chunks.undo_put(put, Vec::new(self.alloc));
+                self.unordered_chunks
+                    .undo_put(put, Vec::new(self.alloc), turns);
             }
-            PushChange::Message(put) => self.undo_message(put),
+            PushChange::Message(put) => self.undo_message(put, turns),
         }
         self.n_bytes = n_bytes;
     }
 
     // Takes the message that became whole last apart again, and puts its fragments back but for the one that completed it.
-    fn undo_message(&mut self, put: PoolUndo)
-        requires some { 0 < length self.old.held.unordered }
-        requires can { CanUndoPut put (last_chunks self.old.held.unordered)
-            (unassembled_of self.old) }
-        ensures { self.new ≡ with_unassembled (without_last self.old)
-            (pool_undone put (last_chunks self.old.held.unordered) (unassembled_of self.old)) }
+    // A turn is added for each of its fragments.
+    fn undo_message(&mut self, undo: MessageUndo, turns: &mut Turns)
+        requires { CanUndoMessage undo self.old }
+        ensures value { self.new ≡ with_unassembled (without_last self.old)
+            (pool_undone undo.put (last_chunks self.old.held.unordered) (unassembled_of self.old)) }
+        ensures turns { turns.new ≡ turns.old + length (last_chunks self.old.held.unordered) }
     {
-        let run = self.unordered.pop_back().into_fragments();
-        self.unordered_chunks.undo_put(put, run);
+        let run = self.unordered.pop_back(undo.n_chunks).into_fragments();
+        self.unordered_chunks.undo_put(undo.put, run, turns);
     }
 }

@@ -35,9 +35,10 @@ impl Receiver {
     }
 
     /// The same, and its turns are added: for each chunk those of `data_counted`, as the receiver is when its turn comes
-    /// (`IsWithinEach`). Where one is refused, none is looked at behind it, and each before it takes as many more as `undo_looks` says: one,
-    /// and for each TSN that is beyond the cumulative one again one more than the number of those has binary digits
-    /// (`IsWithinRefused`). What takes its fragment back, and the search for its TSN beyond, take no turn.
+    /// (`IsWithinEach`). Where one is refused, none is looked at behind it, and each before it takes as many more as `undo_looks` says, two
+    /// and: to find its TSN as many as the number of TSNs beyond the cumulative one has binary digits; for each TSN that is beyond again
+    /// one more than the number of those has; and one for each other fragment of an unordered message that it completed
+    /// (`IsWithinRefused`).
     pub fn data_each_counted(
         &mut self,
         chunks: &[ChunkPayloadData],

@@ -7,7 +7,7 @@ ghost use Rattle.sctp_receiver.specs.declared.receiver.refusal.ReceiverRefusal.T
 ghost use Rattle.sctp_stream.specs.Numbers.{IsOnlyPlace, IsAbsent};
 ghost use Rattle.sctp_reassembly.specs.reassembly_queue.ReassemblyQueue.{is_too_large};
 ghost use Rattle.sctp_reassembly.specs.reassembly_queue.Undo.{CanUndo};
-ghost use Rattle.sctp_receiver.specs.Costs.{IsWithinPush, IsWithinPushOn};
+ghost use Rattle.sctp_receiver.specs.Costs.{IsWithinPush, IsWithinPushOn, unassembled_on};
 ghost use Rattle.sctp_receiver.specs.Inbound.{unassembled_forwarded};
 ghost use Rattle.sctp_receiver.specs.Limits.{held_cost};
 ghost use Rattle.sctp_receiver.specs.Receiver.{readable_streams};
@@ -128,7 +128,18 @@ impl InboundStream {
         requires { CanUndo undo self.old.queue }
         ensures { self.new ≡ stream_undone undo self.old }
     {
-        self.queue.undo_push(undo);
+        self.undo_push_counted(undo, &mut Turns::new());
+    }
+
+    /// The same, and its turns are added: one for each fragment of an unordered message that it completed.
+    pub fn undo_push_counted(&mut self, undo: PushUndo, turns: &mut Turns)
+        requires { CanUndo undo self.old.queue }
+        ensures value { self.new ≡ stream_undone undo self.old }
+        ensures not_back { turns.old ≤ turns.new }
+        ensures cost { turns.new ≤ turns.old + (length self.new.queue.held.unassembled + 1
+            - length self.old.queue.held.unassembled) }
+    {
+        self.queue.undo_push_counted(undo, turns);
     }
 
     /// Takes the next message out, where there is one, and counts it. It takes no memory.
@@ -344,10 +355,27 @@ impl InboundStreams {
         requires { CanUndoOn stream place undo self.old }
         ensures { self.new ≡ undone_on stream undo self.old }
     {
+        self.undo_push_at_counted(place, stream, undo, &mut Turns::new());
+    }
+
+    /// The same, and its turns are added: one for each fragment of an unordered message that it completed.
+    pub fn undo_push_at_counted(
+        &mut self,
+        place: usize,
+        stream: u16,
+        undo: PushUndo,
+        turns: &mut Turns,
+    )
+        requires { CanUndoOn stream place undo self.old }
+        ensures value { self.new ≡ undone_on stream undo self.old }
+        ensures not_back { turns.old ≤ turns.new }
+        ensures cost { turns.new
+            ≤ turns.old + (unassembled_on self.new + 1 - unassembled_on self.old) }
+    {
         let _number_of_it = stream;
         let inbound = &mut self.items[place];
         let before = cost_of(&inbound.queue);
-        inbound.undo_push(undo);
+        inbound.undo_push_counted(undo, turns);
         self.cost = moved(self.cost, before, cost_of(&inbound.queue));
         renew(&mut self.visits, place, &inbound.queue, true);
     }

@@ -4,7 +4,7 @@ ghost use Rattle.std.specs.Prelude.{◌≡◌, ◌+◌, ◌-◌, ◌≤◌, leng
 ghost use Rattle.sctp_receiver.specs.declared.receiver.refusal.ReceiverRefusal.TheVariants.{OutOfMemory};
 ghost use Rattle.sctp_receiver.specs.Receiver.{data_refusal, refusal_for, IsRefusedFor, takes_memory, arrival_of, is_answered_complete, Takes, stream_of, is_full_by, noted_by};
 ghost use Rattle.sctp_reassembly.specs.reassembly_queue.Orders.{digits};
-ghost use Rattle.sctp_receiver.specs.Costs.{IsWithinData, undo_looks, undo_each_looks};
+ghost use Rattle.sctp_receiver.specs.Costs.{IsWithinData, counts_of, undo_looks, undo_each_looks};
 ghost use Rattle.sctp_receiver.specs.Ssns.{is_kept_on};
 ghost use Rattle.sctp_receiver.specs.TsnFilter.{has_come};
 ghost use Rattle.sctp_receiver.specs.Undo.{parts, reception_of, chunk_undone, CanUndoChunk, chunks_undone, CanUndoChunks, repeat_undone};
@@ -48,8 +48,8 @@ pub(crate) enum ChunkUndo {
     },
 }
 
-// Takes a chunk, and answers what it was, and how it is taken back. Where memory is refused for its TSN, its fragment is taken back here,
-// which takes no turn. Its turns are added.
+// Takes a chunk, and answers what it was, and how it is taken back. Where memory is refused for its TSN, its fragment is taken back here:
+// that adds no turns. Its own turns are added.
 pub(crate) fn take(
     streams: &mut InboundStreams,
     filter: &mut TsnFilter,
@@ -216,7 +216,7 @@ pub(crate) fn undo_each(
     }
 }
 
-// Takes a chunk back. A turn is taken for it, and those of its TSN.
+// Takes a chunk back. A turn is taken for it, and those of its TSN and of its fragment.
 fn undo_chunk(
     streams: &mut InboundStreams,
     filter: &mut TsnFilter,
@@ -228,7 +228,8 @@ fn undo_chunk(
         ≡ chunk_undone undo (parts streams.old filter.old) }
     ensures not_back { turns.old ≤ turns.new }
     ensures cost { turns.new ≤ turns.old
-        + undo_looks (length filter.new.beyond) (length filter.old.beyond) }
+        + undo_looks (counts_of streams.new filter.new.beyond)
+        (counts_of streams.old filter.old.beyond) }
 {
     turns.tick();
     match undo {
@@ -239,7 +240,7 @@ fn undo_chunk(
             stream,
             queue,
         } => {
-            streams.undo_push_at(place, stream, queue);
+            streams.undo_push_at_counted(place, stream, queue, turns);
             filter.retract_counted(tsn, turns);
         }
     }

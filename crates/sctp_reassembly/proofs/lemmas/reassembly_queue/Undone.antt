@@ -1,5 +1,5 @@
 -- What is put among sets, and taken out again.
-use Rattle.std.proofs.Common.{◌≡◌, ℕ, zero, suc, ◌-◌, ◌<◌, ◌++◌, remove, append-nil, length-append, Option, Some, None, MatchOption, List, [], ◌∷◌, map, length}
+use Rattle.std.proofs.Common.{◌≡◌, ℕ, zero, suc, ◌-◌, ◌<◌, ◌++◌, remove, append-nil, length-append, Option, Some, None, MatchOption, List, [], ◌∷◌, length}
 use Rattle.std.proofs.Common.{get_or, set, refl, sym, ap, subst, ◌∙◌, arith}
 use Rattle.std.proofs.lemmas.List.{set-get_or, get_or-set_same}
 use Rattle.sctp_list_lemmas.specs.Lists.{change_at}
@@ -22,6 +22,11 @@ changed-back f i [] y d lt e = refl
 changed-back f zero (x ∷ xs) y d lt e = ap (λ z. z ∷ xs) e
 changed-back f (suc i) (x ∷ xs) y d lt e = ap (λ ys. x ∷ ys) (changed-back f i xs y d (omega arith) e)
 
+-- what stood at a place before is what a change makes of what stands there
+pub stood-there : {X : Type 0} (f : X → X) (i : ℕ) (xs ys : List X) (d : X) → i < length ys → change_at f i ys ≡ xs → get_or xs i d ≡ f (get_or ys i d)
+stood-there f i xs ys d lt back =
+    ap (λ zs. get_or zs i d) (sym back ∙ changed-set f i ys d) ∙ get_or-set_same ys i (f (get_or ys i d)) d lt
+
 -- a chunk that can be taken out of a set can be taken out of that set among others
 pub among_others : (xs : List ChunkSet) (i : ℕ) (old new : ChunkSet) (put : Option Placed) → i < length xs → old ≡ get_or xs i old
     → MatchOption put (new ≡ old) (λ p. (p.place < length new.chunks) × (without_chunk p.place new ≡ old))
@@ -32,12 +37,6 @@ among_others xs i old new (Some p) lt read (short, back) = (
   (λ d. subst (λ (s : ChunkSet). p.place < length s.chunks) (sym (get_or-set_same xs i new d lt)) short),
   changed-back (without_chunk p.place) i xs new old lt (back ∙ read),
 )
-
--- a change that keeps the number of each keeps the numbers of all
-pub same_numbers : {X : Type 0} (num : X → ℕ) (f : X → X) → ((x : X) → num (f x) ≡ num x) → (i : ℕ) (xs : List X) → map num (change_at f i xs) ≡ map num xs
-same_numbers num f same i [] = refl
-same_numbers num f same zero (x ∷ xs) = ap (λ n. n ∷ map num xs) (same x)
-same_numbers num f same (suc i) (x ∷ xs) = ap (λ ns. num x ∷ ns) (same_numbers num f same i xs)
 
 -- the fragments of the last set
 pub last_there : (xs : List ChunkSet) (y : ChunkSet) → last_chunks (xs ++ y ∷ []) ≡ y.chunks

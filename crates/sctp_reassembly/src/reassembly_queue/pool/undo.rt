@@ -94,14 +94,16 @@ impl Pool {
         }
     }
 
-    /// Takes back what `put_undoable` did, where the fragments of the run that it answered are given back. It takes no memory.
+    /// Takes back what `put_undoable` did, where the fragments of the run that it answered are given back. It takes no memory. A turn is
+    /// added for each of these.
     /// Precondition: `CanUndoPut`, which that call promises of what it left.
-    pub(crate) fn undo_put(&mut self, undo: PoolUndo, run: Vec<Fragment>)
+    pub(crate) fn undo_put(&mut self, undo: PoolUndo, run: Vec<Fragment>, turns: &mut Turns)
         requires { CanUndoPut undo run.items self.old }
-        ensures { self.new ≡ pool_undone undo run.items self.old }
+        ensures value { self.new ≡ pool_undone undo run.items self.old }
+        ensures turns { turns.new ≡ turns.old + length run.items }
     {
         let PoolUndo { put, searched } = undo;
-        self.unassembled.put_back(put, run);
+        self.unassembled.put_back_counted(put, run, turns);
         self.searched = searched;
     }
 }

@@ -90,18 +90,19 @@ impl TsnFilter {
         self.retract_counted(undo, &mut Turns::new());
     }
 
-    /// The same, and its turns are added: for each TSN that is beyond again at most one more than the number of those has binary digits.
-    /// The search for one that goes takes no turn.
+    /// The same, and its turns are added: to find its TSN at most as many as the number of those beyond has binary digits; and for each that
+    /// is beyond again at most one more than the number of these has.
     pub fn retract_counted(&mut self, undo: FilterUndo, turns: &mut Turns)
         requires { CanRetract undo self.old }
         ensures value { self.new ≡ retracted undo self.old }
         ensures not_back { turns.old ≤ turns.new }
-        ensures cost { turns.new ≤ turns.old + (length self.new.beyond - length self.old.beyond)
+        ensures cost { turns.new ≤ turns.old + digits (length self.old.beyond)
+            + (length self.new.beyond - length self.old.beyond)
             * (digits (length self.new.beyond) + 1) }
     {
         match undo {
             FilterUndo::Beyond { tsn, room } => {
-                let _ = self.queue.take_leaving_room(tsn);
+                let _ = self.queue.take_leaving_room_counted(tsn, turns);
                 self.queue.limit_room(room);
             }
             FilterUndo::Next {

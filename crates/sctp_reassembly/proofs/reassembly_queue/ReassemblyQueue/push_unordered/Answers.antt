@@ -1,4 +1,4 @@
-use Rattle.std.proofs.Common.{◌≡◌, ◌-◌, ◌<◌, ◌∷◌, ◌++◌, [], List, length, length-append, remove, refl, sym, ap, ap₂, subst, ◌∙◌, arith}
+use Rattle.std.proofs.Common.{◌≡◌, ◌-◌, ◌^◌, ◌<◌, ◌∷◌, ◌++◌, [], List, length, min, length-append, remove, refl, sym, ap, ap₂, subst, ◌∙◌, arith}
 use Rattle.std.proofs.lemmas.List.Edits.{length-insert}
 use Rattle.sctp_list_lemmas.specs.Lists.{insert_before}
 use Rattle.sctp_serial.specs.DataChunks.{chunk_before}
@@ -6,6 +6,7 @@ use Rattle.sctp_data.specs.ChunkSet.{ChunkSet}
 use Rattle.sctp_data.specs.declared.chunk.chunk_payload_data.ChunkPayloadData.{ChunkPayloadData}
 use Rattle.sctp_serial.specs.Runs.{IsRun, HasNoRun}
 use Rattle.sctp_reassembly.specs.reassembly_queue.ReassemblyQueue.{Reassembly, ReassemblyState, set_of_run, count_up}
+use Rattle.sctp_reassembly.specs.reassembly_queue.Counts.{set_chunks}
 use Rattle.sctp_reassembly.specs.reassembly_queue.Loose.{Unassembled, place_among}
 use Rattle.sctp_reassembly.specs.reassembly_queue.Undo.{last_chunks}
 use Rattle.sctp_reassembly.proofs.lemmas.reassembly_queue.ChunkSets.{state_of}
@@ -68,7 +69,7 @@ returns-in-Some-clause-undo c =
     let with_last : more ≡ q.unordered.items ++ set ∷ [] = c.push_back_reserved.ensures.items ∙ ap (λ us. us ++ set ∷ []) c.in_ok-reserve.ensures.items in
     let last = last_is q.unordered.items more set c.in-Some.chunks.items with_last c.set_of_run.ensures.value in
     let back = rw c.in-Some.is at c.in_ok-run.ensures.undo in
-    rw (c.of.ensures, ← c.self.view_is, last.1)
+    rw (c.of.ensures, c.of-undo.ensures, ← c.self.view_is, last.1)
     (ap₂ (λ us (p : Unassembled). state_of q.si q.next_ssn q.ordered us p.chunks q.n_bytes q.max_message_size p.places) last.0 back)
 
 pub returns-in-Some-clause-can : goal.returns-in-Some-clause-can
@@ -80,7 +81,11 @@ returns-in-Some-clause-can c =
     let last = last_is q.unordered.items more set c.in-Some.chunks.items with_last c.set_of_run.ensures.value in
     let can = rw c.in-Some.is at c.in_ok-run.ensures.can in
     let some : 0 < length more = omega (arith, ap length with_last, length-append q.unordered.items (set ∷ [])) in
-    rw (c.of.ensures, last.1) (can, some)
+    rw (c.of.ensures, c.of-undo.ensures) (record {
+      put = rw last.1 can;
+      some = some;
+      counted = c.chunk_count-n_chunks.ensures ∙ ap (λ us. min (set_chunks us) (2 ^ 64 - 1)) (c.in_ok-reserve.ensures.items ∙ sym last.0);
+    })
 
 -- ## Looks
 

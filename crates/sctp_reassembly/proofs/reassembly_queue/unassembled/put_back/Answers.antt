@@ -21,3 +21,8 @@ returns-clause-value c =
     ∙ ap₂ (λ i ys. drop i ys ++ take i ys) at all
     ∙ ap₂ (λ us vs. us ++ vs) (drop-append_seam (ks ++ drop f xs) (take f xs)) (take-append_seam (ks ++ drop f xs) (take f xs))
     ∙ sym (append_assoc (take f xs) ks (drop f xs))
+
+pub returns-clause-turns : goal.returns-clause-turns
+returns-clause-turns c =
+    let none : c.loop-fragment.kept.items ≡ [] = search rules in
+    omega (arith, c.loop-fragment.invariant.turns, ap length none)

@@ -7,6 +7,7 @@ invariant-loop-fragment l = record {
   value : l.kept.items ++ l.chunks.items ≡ l.initial.kept.items ++ l.initial.chunks.items;
   room : length l.chunks.items + length l.kept.items ≤ deque_capacity l.chunks;
   capacity : deque_capacity l.initial.chunks ≤ deque_capacity l.chunks;
+  turns : l.turns + length l.kept.items ≡ l.initial.turns + length l.initial.kept.items;
 }
 
 abbrev pub decreases-loop-fragment : goal.decreases-loop-fragment

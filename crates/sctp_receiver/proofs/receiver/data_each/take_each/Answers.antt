@@ -5,7 +5,7 @@ use Rattle.std.proofs.lemmas.Option.{slice_get_read}
 use Rattle.sctp_data.specs.declared.chunk.chunk_payload_data.ChunkPayloadData.{ChunkPayloadData}
 use Rattle.sctp_receiver.specs.declared.receiver.arrival.Arrival.{Arrival}
 use Rattle.sctp_receiver.specs.declared.receiver.taking.ChunkUndo.{ChunkUndo}
-use Rattle.sctp_receiver.specs.Costs.{IsWithinData, IsWithinUndone, TakesEachWithin, undo_looks, undo_each_looks}
+use Rattle.sctp_receiver.specs.Costs.{IsWithinData, IsWithinUndone, TakesEachWithin, counts_in, undo_looks, undo_each_looks}
 use Rattle.sctp_receiver.specs.Receiver.{Reception, TakesEachBy, TakesFirstBy, refusal_for}
 use Rattle.sctp_receiver.specs.Undo.{Parts, parts, reception_of, chunks_undone, CanUndoChunks}
 use Rattle.sctp_receiver.proofs.DataEach.{takes-more, stops}
@@ -73,9 +73,9 @@ loop-chunk-preserved c =
     let rest : CanUndoChunks l.undos.items _ = subst (CanUndoChunks l.undos.items) (sym c.in-Ok.ensures.undo) v.can in
     let more = c.take.new.turns - l.turns in
     let looks : undo_each_looks c.put-in-Ok.new.items.items q
-    ≡ undo_each_looks l.undos.items p + undo_looks (length p.filter.beyond) (length q.filter.beyond) = ap (λ us. undo_each_looks us q) undos
+    ≡ undo_each_looks l.undos.items p + undo_looks (counts_in p) (counts_in q) = ap (λ us. undo_each_looks us q) undos
     ∙ looks-last l.undos.items u q
-    ∙ ap (λ (r : Parts). undo_each_looks l.undos.items r + undo_looks (length r.filter.beyond) (length q.filter.beyond)) c.in-Ok.ensures.undo in
+    ∙ ap (λ (r : Parts). undo_each_looks l.undos.items r + undo_looks (counts_in r) (counts_in q)) c.in-Ok.ensures.undo in
     record {
       taken = subst (λ (bs : List Arrival). TakesEachBy why (take (i + 1) cs) bs start new) (sym answers)
           (subst (λ (ys : List ChunkPayloadData). TakesEachBy why ys (l.arrivals.items ++ a ∷ []) start new) front
@@ -93,7 +93,7 @@ loop-chunk-preserved c =
       cost_undone = subst (λ ys. TakesEachWithin why IsWithinUndone ys start new
           (c.take.new.turns - c.args.turns.now + undo_each_looks c.put-in-Ok.new.items.items q)) front
           (more-within why IsWithinUndone (take i cs) x start old new (l.turns - c.args.turns.now + undo_each_looks l.undos.items p)
-          (more + undo_looks (length p.filter.beyond) (length q.filter.beyond))
+          (more + undo_looks (counts_in p) (counts_in q))
           (c.take.new.turns - c.args.turns.now + undo_each_looks c.put-in-Ok.new.items.items q)
           (omega (arith, v.not_back, c.take.ensures.not_back, looks)) v.cost_undone
           (record { arrival = a; taken = first; within = undone-within x old new more c.take.ensures.cost }));

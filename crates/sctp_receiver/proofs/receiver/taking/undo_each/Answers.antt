@@ -1,5 +1,5 @@
-use Rattle.std.proofs.Common.{◌≡◌, ◌++◌, ◌∷◌, [], length, ap, sym, subst, ◌∙◌, arith}
-use Rattle.sctp_receiver.specs.Costs.{undo_looks, undo_each_looks}
+use Rattle.std.proofs.Common.{◌≡◌, ◌++◌, ◌∷◌, [], ap, sym, subst, ◌∙◌, arith}
+use Rattle.sctp_receiver.specs.Costs.{counts_in, undo_looks, undo_each_looks}
 use Rattle.sctp_receiver.specs.Undo.{Parts, parts, chunks_undone, CanUndoChunks}
 use Rattle.sctp_receiver.proofs.UndoCosts.{looks-last}
 use Rattle.sctp_receiver.proofs.Undone.{undone-last, can-last}
@@ -28,7 +28,7 @@ loop-undo-preserved c =
         ap (λ vs. undo_each_looks vs p) items,
         looks-last us c.in-Some.undo p,
         ap (undo_each_looks us) c.undo_chunk.ensures.value,
-        ap (λ (q : Parts). undo_looks (length q.filter.beyond) (length p.filter.beyond)) c.undo_chunk.ensures.value,
+        ap (λ (q : Parts). undo_looks (counts_in q) (counts_in p)) c.undo_chunk.ensures.value,
         c.undo_chunk.ensures.cost,
         c.loop-undo.invariant.cost,
       );

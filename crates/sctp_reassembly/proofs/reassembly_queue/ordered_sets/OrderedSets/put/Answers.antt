@@ -4,13 +4,15 @@ use Rattle.std.proofs.lemmas.List.{length-set}
 use Rattle.std.proofs.lemmas.List.Edits.{length-insert}
 use Rattle.sctp_data.specs.ChunkSet.{ChunkSet}
 use Rattle.sctp_data.specs.declared.chunk.chunk_payload_data.ChunkPayloadData.{ChunkPayloadData}
-use Rattle.sctp_reassembly.specs.reassembly_queue.Fragments.{is_complete, has_ssn, chunks_of_ssn, with_chunk, sets_with, answer_with, new_set}
+use Rattle.sctp_reassembly.specs.reassembly_queue.Fragments.{is_complete, has_ssn, chunks_of_ssn, with_chunk, without_chunk, sets_with, answer_with, new_set}
 use Rattle.sctp_serial.proofs.lemmas.ListEdits.{any_at, first_changed, remove-insert}
 use Rattle.sctp_reassembly.proofs.lemmas.reassembly_queue.ChunkSets.{chunks_at, chunks_none}
 use Rattle.sctp_serial.specs.Ascending.{IsOrder, upper_half}
 use Rattle.sctp_reassembly.specs.reassembly_queue.Orders.{digits, IsInOrder, IsOrderly, IsOffOnlyOutOfOrder}
+use Rattle.sctp_reassembly.specs.reassembly_queue.Undo.{AreNoted, IsNotedOf}
 use Rattle.std.proofs.Math.Seq.{map-set_same}
 use Rattle.sctp_reassembly.proofs.lemmas.reassembly_queue.ExactFlags.{flag_on}
+use Rattle.sctp_reassembly.proofs.lemmas.reassembly_queue.Undone.{stood-there}
 use Rattle.sctp_reassembly.proofs.reassembly_queue.ordered_sets.OrderedSets.put.Goals as goal
 
 -- the place is that of the first set of the chunk's number
@@ -98,8 +100,24 @@ returns-in-Some-clause-undo c =
     let d = new_set c.args.chunk in
     let at = rw (c.deref.ensures, c.as_deque.ensures) at c.in-Ok.ensures.there in
     let undo = rw c.in-Some.is at c.in_ok-put-in-Ok.ensures.undo in
+    let ys = c.put_into.new.self.items in
     let long = ap length (c.in_ok-put-in-Ok.ensures.ok d) in
-    ((omega (arith, at.1, long, length-set xs i (with_chunk c.args.chunk (get_or xs i d))), undo.0), undo.1 ∙ c.self.view_is)
+    let lt : i < length ys = omega (arith, at.1, long, length-set xs i (with_chunk c.args.chunk (get_or xs i d))) in
+    let f = without_chunk c.in-Some.put.place in
+    let back = undo.1 ∙ c.self.view_is in (
+      record {
+        place = (
+          lt,
+          λ e. record {
+            in_range = undo.0 e;
+            noted =
+                subst (λ (s : ChunkSet). IsNotedOf c.noted_at-set_noted.result s.chunks) (stood-there f i xs ys e lt undo.1) (c.noted_at-set_noted.ensures e);
+          },
+        );
+        noted = subst (AreNoted c.noted-noted.result) (sym back) c.noted-noted.ensures;
+      },
+      back,
+    )
 
 pub returns-in_ok-insert-in-Err-clause-answer : goal.returns-in_ok-insert-in-Err-clause-answer
 returns-in_ok-insert-in-Err-clause-answer c =
@@ -117,9 +135,13 @@ returns-in_ok-insert-in-Err-clause-undo c =
     let xs = c.self.inside.sets.items in
     let i = c.in-Err.at.place in
     let y = c.in_ok-set-in-Err.set in
-    let le : i ≤ length xs = omega (arith, c.in-Err.ensures.free.in_range, ap length c.as_deque.ensures) in (
-      omega (arith, le, length-insert xs i y le, ap length c.in_ok-insert-in-Err.ensures.ok),
-      ap (λ ys. remove ys i) c.in_ok-insert-in-Err.ensures.ok ∙ remove-insert xs i y le ∙ c.self.view_is,
+    let le : i ≤ length xs = omega (arith, c.in-Err.ensures.free.in_range, ap length c.as_deque.ensures) in
+    let back = ap (λ ys. remove ys i) c.in_ok-insert-in-Err.ensures.ok ∙ remove-insert xs i y le ∙ c.self.view_is in (
+      record {
+        place = omega (arith, le, length-insert xs i y le, ap length c.in_ok-insert-in-Err.ensures.ok);
+        noted = subst (AreNoted c.noted-noted.result) (sym back) c.noted-noted.ensures;
+      },
+      back,
     )
 
 pub returns-in_err-put-in-Ok-clause-cost : goal.returns-in_err-put-in-Ok-clause-cost

@@ -2,6 +2,8 @@ use Rattle.std.proofs.Common.{◌≡◌, ◌-◌, ◌++◌, length, ap, sym, sub
 use Rattle.std.proofs.lemmas.List.{length-append}
 use Rattle.sctp_list_lemmas.specs.Serial.{distance}
 use Rattle.sctp_outbound.specs.payload_queue.PayloadQueue.{Payload}
+use Rattle.sctp_reassembly.specs.reassembly_queue.Orders.{digits}
+use Rattle.sctp_reassembly.proofs.lemmas.reassembly_queue.Digits.{within_digits}
 use Rattle.sctp_receiver.specs.declared.receiver.tsn_filter.undo.FilterUndo.TheVariants.{Beyond, Next}
 use Rattle.sctp_receiver.specs.TsnFilter.{Filter, placeholder}
 use Rattle.sctp_receiver.specs.Undo.{retracted, CanRetract, tsns_from, passed}
@@ -17,7 +19,7 @@ invariant_of-self c =
     let n = c.self.inside.cumulative_tsn in
     let q = c.self.inside.queue in
     let can : CanRetract (Beyond c.in-Beyond.tsn c.in-Beyond.room) c.args.self.now = subst (λ u. CanRetract u c.args.self.now) c.in-Beyond.is c.requires in
-    let out = c.take_leaving_room in
+    let out = c.take_leaving_room_counted in
     record {
       in_range = c.self.invariant.in_range;
       placeholders =
@@ -32,7 +34,7 @@ returns-in-Beyond-clause-value c =
     let n = c.self.inside.cumulative_tsn in
     let q = c.self.inside.queue in
     let can : CanRetract (Beyond c.in-Beyond.tsn c.in-Beyond.room) c.args.self.now = subst (λ u. CanRetract u c.args.self.now) c.in-Beyond.is c.requires in
-    let out = c.take_leaving_room in
+    let out = c.take_leaving_room_counted in
     gone-is n q c.args.self.now c.self.view_is c.self.invariant.placeholders c.in-Beyond.tsn c.in-Beyond.room out.new.self c.limit_room.new.self
     out.ensures.rest out.ensures.places c.limit_room.ensures can
     ∙ ap (λ u. retracted u c.args.self.now) (sym c.in-Beyond.is)
@@ -92,6 +94,17 @@ returns-in-Next-clause-cost c =
     let long = length-append (tsns_from first (d - 1)) (tsns q.chunks) in
     let run = length-run first (d - 1) in
     let was = held-count q.chunks in
+    let cost =
     put-back-cost (length (tsns c.limit_room-in-Next.new.self.chunks)) (length c.args.self.now.beyond) (d - 1) (length q.chunks) c.args.turns.now
     c.put_back.new.turns (omega (arith, now, put, held, long, run, was)) (omega (arith, ap (λ (f : Filter). length f.beyond) c.self.view_is, was))
-    c.put_back.ensures.cost
+    c.put_back.ensures.cost in
+    omega (arith, cost)
+
+pub returns-in-Beyond-clause-cost : goal.returns-in-Beyond-clause-cost
+returns-in-Beyond-clause-cost c =
+    let q = c.self.inside.queue in
+    let out = c.take_leaving_room_counted in
+    let looked = within_digits (length q.chunks) (out.new.turns - c.args.turns.now) out.ensures.cost in
+    let all : digits (length q.chunks) ≡ digits (length c.args.self.now.beyond) = ap digits (sym (held-count q.chunks)
+    ∙ ap (λ (f : Filter). length f.beyond) c.self.view_is) in
+    omega (arith, looked, all, out.ensures.not_back)

@@ -1,12 +1,14 @@
 use Rattle.std.proofs.Common.{rules, ◌<◌, ◌^◌, ap, ◌∙◌, refl, length, length-set, arith}
+use Rattle.std.proofs.lemmas.List.Sums.{sum_by-set}
 use Rattle.sctp_stream.specs.Numbers.{IsOnlyPlace}
+use Rattle.sctp_receiver.specs.declared.receiver.inbound_streams.InboundStream.{InboundStream}
 use Rattle.sctp_receiver.specs.Inbound.{number, numbers_of}
 use Rattle.sctp_receiver.specs.Undo.{stream_undone, CanUndoOn}
 use Rattle.sctp_receiver.proofs.Listing.{renewed-more}
 use Rattle.sctp_receiver.proofs.CostSums.{is-part, changed-fits, changed-sum}
 use Rattle.sctp_stream.proofs.StreamPlaces.{inside, changed, numbers-stay}
 use Rattle.sctp_receiver.proofs.Undone.{undone-number, can-here}
-use Rattle.sctp_receiver.proofs.receiver.inbound_streams.InboundStreams.undo_push_at.Goals as goal
+use Rattle.sctp_receiver.proofs.receiver.inbound_streams.InboundStreams.undo_push_at_counted.Goals as goal
 
 pub moved-self-inside-requires-clause-part : goal.moved-self-inside-requires-clause-part
 moved-self-inside-requires-clause-part c =
@@ -22,7 +24,7 @@ moved-self-inside-requires-clause-fits c =
     let p : IsOnlyPlace c.args.stream (numbers_of ls) c.args.place = rw (← c.self.view_is) at c.requires.placed in
     let lt = inside number ls (numbers_of ls) refl c.args.stream c.args.place p in
     let few : length ls < 2 ^ 64 = search rules in
-    let h = changed-fits ls c.args.place c.index_mut-inbound.result.now lt c.index_mut-inbound.ensures.value few c.undo_push.new.self in
+    let h = changed-fits ls c.args.place c.index_mut-inbound.result.now lt c.index_mut-inbound.ensures.value few c.undo_push_counted.new.self in
     omega (arith, h, c.self.invariant.cost, c.cost_of-before.ensures, c.cost_of.ensures)
 
 pub invariant_of-self : goal.invariant_of-self
@@ -30,28 +32,28 @@ invariant_of-self c =
     let ls = c.self.inside.items.items in
     let p : IsOnlyPlace c.args.stream (numbers_of ls) c.args.place = rw (← c.self.view_is) at c.requires.placed in
     let lt = inside number ls (numbers_of ls) refl c.args.stream c.args.place p in
-    let h = changed-sum ls c.args.place c.index_mut-inbound.result.now lt c.index_mut-inbound.ensures.value c.undo_push.new.self in
+    let h = changed-sum ls c.args.place c.index_mut-inbound.result.now lt c.index_mut-inbound.ensures.value c.undo_push_counted.new.self in
     record {
       numbers = c.self.invariant.numbers ∙ numbers-stay number ls (numbers_of ls) refl c.args.stream c.args.place p c.index_mut-inbound.result.now
-          c.undo_push.new.self c.index_mut-inbound.ensures.value (ap number c.undo_push.ensures
+          c.undo_push_counted.new.self c.index_mut-inbound.ensures.value (ap number c.undo_push_counted.ensures.value
           ∙ undone-number c.args.undo c.index_mut-inbound.result.now);
       cost = omega (arith, h, c.moved-self-inside.ensures, c.self.invariant.cost, c.cost_of-before.ensures, c.cost_of.ensures);
       visits = renewed-more c.self.inside.visits c.renew.new.visits ls c.args.place
-          c.index_mut-inbound.result.now c.undo_push.new.self lt c.index_mut-inbound.ensures.value c.self.invariant.visits c.renew.ensures.places
-          (length-set ls c.args.place c.undo_push.new.self) c.renew.ensures.others c.renew.ensures.here;
+          c.index_mut-inbound.result.now c.undo_push_counted.new.self lt c.index_mut-inbound.ensures.value c.self.invariant.visits c.renew.ensures.places
+          (length-set ls c.args.place c.undo_push_counted.new.self) c.renew.ensures.others c.renew.ensures.here;
       places = c.self.invariant.places;
       none = c.self.invariant.none;
     }
 
-pub returns : goal.returns
-returns c =
+pub returns-clause-value : goal.returns-clause-value
+returns-clause-value c =
     let ls = c.self.inside.items.items in
     let p : IsOnlyPlace c.args.stream (numbers_of ls) c.args.place = rw (← c.self.view_is) at c.requires.placed in
     rw (← c.self.view_is) (changed number ls (numbers_of ls) refl c.args.stream c.args.place p (stream_undone c.args.undo)
-    c.index_mut-inbound.result.now c.undo_push.new.self c.index_mut-inbound.ensures.value c.undo_push.ensures)
+    c.index_mut-inbound.result.now c.undo_push_counted.new.self c.index_mut-inbound.ensures.value c.undo_push_counted.ensures.value)
 
-pub undo_push-requires : goal.undo_push-requires
-undo_push-requires c =
+pub undo_push_counted-requires : goal.undo_push_counted-requires
+undo_push_counted-requires c =
     let ls = c.self.inside.items.items in
     let can : CanUndoOn c.args.stream c.args.place c.args.undo ls = rw (← c.self.view_is) at c.requires in
     can-here c.args.stream c.args.place c.args.undo ls c.index_mut-inbound.result.now c.index_mut-inbound.ensures.value can
@@ -62,3 +64,13 @@ renew-requires c =
     let p : IsOnlyPlace c.args.stream (numbers_of ls) c.args.place = rw (← c.self.view_is) at c.requires.placed in
     let lt = inside number ls (numbers_of ls) refl c.args.stream c.args.place p in
     omega (arith, lt, c.self.invariant.visits.listed.places)
+
+pub returns-clause-cost : goal.returns-clause-cost
+returns-clause-cost c =
+    let ls = c.self.inside.items.items in
+    let p : IsOnlyPlace c.args.stream (numbers_of ls) c.args.place = rw (← c.self.view_is) at c.requires.placed in
+    let lt = inside number ls (numbers_of ls) refl c.args.stream c.args.place p in
+    let count = (λ (l : InboundStream). length l.queue.held.unassembled) in
+    let sums = sum_by-set count ls c.args.place c.undo_push_counted.new.self c.index_mut-inbound.result.now lt in
+    let read = ap count c.index_mut-inbound.ensures.value in
+    rw (← c.self.view_is) (omega (arith, sums, read, c.undo_push_counted.ensures.cost))

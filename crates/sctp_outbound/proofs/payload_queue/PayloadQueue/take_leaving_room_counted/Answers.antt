@@ -5,7 +5,7 @@ use Rattle.sctp_serial.proofs.lemmas.Serials.{serial_remove, only_here}
 use Rattle.sctp_outbound.proofs.lemmas.payload_queue.Payloads.{same_but_chunks}
 use Rattle.sctp_list_lemmas.proofs.Edits.{those-only, those-none}
 use Rattle.sctp_serial.proofs.lemmas.Serials.{fails_from_absent, find_held, not_found, read_is}
-use Rattle.sctp_outbound.proofs.payload_queue.PayloadQueue.take_leaving_room.Goals as goal
+use Rattle.sctp_outbound.proofs.payload_queue.PayloadQueue.take_leaving_room_counted.Goals as goal
 
 pub invariant_of-self : goal.invariant_of-self
 invariant_of-self c =
@@ -29,9 +29,9 @@ returns-in-Ok-clause-rest c =
     rw (← c.self.view_is, c.remove_leaving_room-chunk.ensures.removed) (same_but_chunks
     (sym (those-only (has_tsn c.args.tsn) xs c.in-Ok.place (only_here xs c.args.tsn c.in-Ok.place _ c.self.invariant.serial c.in-Ok.ensures.found))))
 
-pub returns-clause-taken : goal.returns-clause-taken
-returns-clause-taken c = rw (← c.self.view_is) (sym (not_found _ c.args.tsn c.in-Err.ensures.absent))
+pub returns-in-Err-clause-taken : goal.returns-in-Err-clause-taken
+returns-in-Err-clause-taken c = rw (← c.self.view_is) (sym (not_found _ c.args.tsn c.in-Err.ensures.absent))
 
-pub returns-clause-rest : goal.returns-clause-rest
-returns-clause-rest c =
+pub returns-in-Err-clause-rest : goal.returns-in-Err-clause-rest
+returns-in-Err-clause-rest c =
     rw (← c.self.view_is) (same_but_chunks (sym (those-none (has_tsn c.args.tsn) _ (fails_from_absent _ c.args.tsn c.in-Err.ensures.absent))))
