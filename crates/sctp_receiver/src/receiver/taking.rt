@@ -140,13 +140,15 @@ fn take_any_ssn(
         streams.undo_push_at(place, stream, queue);
         return Err(ReceiverRefusal::OutOfMemory);
     };
-    let undo = ChunkUndo::New {
-        tsn,
-        place,
-        stream,
-        queue,
-    };
-    Ok((Arrival::New { complete }, undo))
+    Ok((
+        Arrival::New { complete },
+        ChunkUndo::New {
+            tsn,
+            place,
+            stream,
+            queue,
+        },
+    ))
 }
 
 // A TSN comes again: it is noted, unless the limits are there and as many duplicates are noted as a SACK can report. Answers whether it
