@@ -257,6 +257,7 @@ impl OrderedSets {
 }
 
 // A set that a chunk alone makes. Where it is the complete message there is room for it alone.
+#[inline(never)]
 fn new_set(alloc: Global, chunk: Fragment, turns: &mut Turns) -> Result<Fragments>
     ensures ok { IfOk result (λ set. set ≡ new_set chunk) }
     ensures memory { IfErr result (λ e. e ≡ ErrOutOfMemory) }
@@ -271,7 +272,8 @@ fn new_set(alloc: Global, chunk: Fragment, turns: &mut Turns) -> Result<Fragment
     Ok(Fragments::new_counted(ssn, ppi, chunks, turns))
 }
 
-// The place of the first set of a number, or where a set of it is put in: by halves among numbers that ascend.
+// The place of the first set of a number, or where a set of it is put in. Among numbers that ascend the last set is looked at
+// first: most chunks are of it.
 fn seek(
     ascending: bool,
     sets: &VecDeque<Fragments>,
@@ -290,6 +292,38 @@ fn seek(
     ensures cost { turns.new ≤ turns.old + 2 * length sets.now.items + 4 }
     ensures few { ascending ≡ true
         → turns.new ≤ turns.old + digits (length sets.now.items) + 4 }
+{
+    let len = sets.len();
+    if ascending && len > 0 {
+        turns.tick();
+        if sets[len - 1].ssn() == ssn {
+            return Ok(len - 1);
+        }
+    }
+    seek_among(ascending, sets, ssn, turns)
+}
+
+// The same by halves among numbers that ascend, else by a walk. It stands apart, so that what chunks of the last set take stays
+// small.
+#[inline(never)]
+fn seek_among(
+    ascending: bool,
+    sets: &VecDeque<Fragments>,
+    ssn: u16,
+    turns: &mut Turns,
+) -> result::Result<usize, Insertion>
+    requires order { IsOrder ascending (map (λ s. upper_half s.ssn) sets.now.items) }
+    requires exact { IsOffOnlyOutOfOrder ascending (map (λ s. upper_half s.ssn) sets.now.items) }
+    ensures there { IfOk result (λ place. (place ≡ position_or_len (has_ssn ssn) sets.now.items)
+        × (place < length sets.now.items)) }
+    ensures free { IfErr result (λ at. IsInsertion
+        (has_ssn ssn) (λ s. upper_half s.ssn) set_before sets.now.items at.place at.ascending) }
+    ensures exact { IfErr result (λ at. (x : ChunkSet) → x.ssn ≡ ssn → IsOffOnlyOutOfOrder
+        at.ascending (map (λ s. upper_half s.ssn) (insert sets.now.items at.place x))) }
+    ensures not_back { turns.old ≤ turns.new }
+    ensures cost { turns.new ≤ turns.old + 2 * length sets.now.items + 3 }
+    ensures few { ascending ≡ true
+        → turns.new ≤ turns.old + digits (length sets.now.items) + 3 }
 {
     let len = sets.len();
     if len == 0 {
