@@ -407,7 +407,6 @@ impl ReassemblyQueue {
     /// Takes an unordered chunk, and says how it is undone. Its turns are added.
     /// Precondition: `place` is where it goes among the unassembled fragments.
     /// Refuses only for memory.
-    #[inline(never)]
     fn push_unordered(
         &mut self,
         chunk: ChunkPayloadData,

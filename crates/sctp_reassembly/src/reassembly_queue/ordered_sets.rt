@@ -1,6 +1,6 @@
 //! The sets of ordered messages, in the order of their numbers where these lie within half a circle.
 
-ghost use Rattle.std.specs.Prelude.{◌≡◌, ◌+◌, ◌-◌, ◌*◌, ◌^◌, ◌<◌, ◌≤◌, ◌&&◌, [], ◌∷◌, ◌++◌, length, map, min, true, false, not, option_map, MatchOption, OnOk, OnErr, IfOk, IfErr, IfSome, IfNone, None};
+ghost use Rattle.std.specs.Prelude.{◌≡◌, ◌+◌, ◌-◌, ◌*◌, ◌^◌, ◌<◌, ◌≤◌, ◌&&◌, [], ◌∷◌, ◌++◌, length, map, min, true, false, not, option_map, MatchOption, OnOk, OnErr, IfOk, IfErr, IfSome, IfNone, Some, None};
 ghost use Rattle.std.specs.List.{list_any, position_or_len, filter, insert};
 ghost use Rattle.std.specs.List.Sorted.{IsNonDecreasingBy, IsPartitionPoint};
 ghost use Rattle.sctp_list_lemmas.specs.Serial.{comes_before16, distance};
@@ -30,6 +30,9 @@ use std::alloc::Global;
 use std::collections::VecDeque;
 use std::marker::Model;
 use std::result;
+
+// For how many fragments a set has room at first.
+const FEW: usize = 8;
 
 /// The sets of ordered messages.
 #[derive(Drop)]
@@ -189,15 +192,43 @@ impl OrderedSets {
                     undo,
                 }))
             }
-            Err(at) => {
-                let set = new_set(alloc, chunk, turns)?;
-                let whole = set.is_complete_counted(turns);
-                self.sets.insert(at.place, set)?;
-                self.ascending = at.ascending;
-                let undo = OrderedUndo::NewSet { set: at.place };
-                Ok(Some(OrderedPut { whole, undo }))
-            }
+            Err(at) => Ok(Some(self.put_new(alloc, chunk, at, turns)?)),
         }
+    }
+
+    // Puts a chunk into a new set, and says whether it is complete, and how it is undone. It stands apart, so that what chunks of
+    // sets that are there take stays small. Its turns are added: five at most.
+    // Precondition: no set has the number, and a set of it goes to that place.
+    // Refuses only for memory, and nothing changes then.
+    #[inline(never)]
+    fn put_new(
+        &mut self,
+        alloc: Global,
+        chunk: Fragment,
+        at: Insertion,
+        turns: &mut Turns,
+    ) -> Result<OrderedPut>
+        requires free { IsInsertion (has_ssn chunk.stream_sequence_number)
+            (λ s. upper_half s.ssn) set_before self.old at.place at.ascending }
+        requires exact { (x : ChunkSet) → x.ssn ≡ chunk.stream_sequence_number
+            → IsOffOnlyOutOfOrder at.ascending
+            (map (λ s. upper_half s.ssn) (insert self.old at.place x)) }
+        ensures ok { OnOk result (self.new ≡ sets_with chunk self.old) }
+        ensures answer { IfOk result (λ put. Some put.whole
+            ≡ answer_with chunk (chunks_of_ssn chunk.stream_sequence_number self.old)) }
+        ensures undo { IfOk result (λ put. CanUndoOrdered put.undo self.new
+            × (ordered_undone put.undo self.new ≡ self.old)) }
+        ensures err { OnErr result (self.new ≡ self.old) }
+        ensures memory { IfErr result (λ e. e ≡ ErrOutOfMemory) }
+        ensures not_back { turns.old ≤ turns.new }
+        ensures few { turns.new ≤ turns.old + 5 }
+    {
+        let set = new_set(alloc, chunk, turns)?;
+        let whole = set.is_complete_counted(turns);
+        self.sets.insert(at.place, set)?;
+        self.ascending = at.ascending;
+        let undo = OrderedUndo::NewSet { set: at.place };
+        Ok(OrderedPut { whole, undo })
     }
 
     /// Undoes a `put`. It takes no memory.
@@ -256,7 +287,7 @@ impl OrderedSets {
     }
 }
 
-// A set that a chunk alone makes. Where it is the complete message there is room for it alone.
+// A set that a chunk alone makes, with room for a few. Where it is the complete message there is room for it alone.
 #[inline(never)]
 fn new_set(alloc: Global, chunk: Fragment, turns: &mut Turns) -> Result<Fragments>
     ensures ok { IfOk result (λ set. set ≡ new_set chunk) }
@@ -266,8 +297,12 @@ fn new_set(alloc: Global, chunk: Fragment, turns: &mut Turns) -> Result<Fragment
 {
     let ssn = chunk.stream_sequence_number;
     let ppi = chunk.payload_type;
-    let alone = usize::from(chunk.beginning_fragment && chunk.ending_fragment);
-    let mut chunks = Vec::with_capacity(alloc, alone)?;
+    let room = if chunk.beginning_fragment && chunk.ending_fragment {
+        1
+    } else {
+        FEW
+    };
+    let mut chunks = Vec::with_capacity(alloc, room)?;
     chunks.push(chunk)?;
     Ok(Fragments::new_counted(ssn, ppi, chunks, turns))
 }

@@ -676,6 +676,7 @@ pub fn run_around(unassembled: &Loose, place: usize, turns: &mut Turns) -> Optio
 }
 
 /// The place and the length of the run that ends earliest, by a scan that looks at each once; None where there is none.
+#[inline(never)]
 pub fn find_run(unassembled: &Loose, turns: &mut Turns) -> Option<(usize, usize)>
     ensures found { IfSome result (λ run. IsEarliestRun unassembled.now.chunks run.0 run.1) }
     ensures none { IfNone result (HasNoRun unassembled.now.chunks) }
