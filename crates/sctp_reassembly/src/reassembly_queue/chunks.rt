@@ -1,7 +1,7 @@
 //! The fragments of one message.
 
 ghost use Rattle.std.specs.Prelude.{◌≡◌, ◌==◌, ◌+◌, ◌*◌, ◌%◌, ◌^◌, ◌-◌, ◌<◌, ◌≤◌, ◌&&◌, [], ◌∷◌, length, map, min, take, drop, ◌++◌, option_map, slice_index_or, true, false, not, OnOk, OnErr, IfOk, IfErr, IfSome, IfNone, MatchOption, if◌then◌else◌};
-ghost use Rattle.std.specs.List.{concat};
+ghost use Rattle.std.specs.List.{concat, insert};
 ghost use Rattle.sctp_reassembly.specs.reassembly_queue.Chunks.{left_from, left_of, piece_of, left_after, taken_whole, bytes_given};
 ghost use Rattle.sctp_reassembly.specs.declared.reassembly_queue.chunks.Chunk.{Chunk};
 ghost use Rattle.sctp_reassembly.specs.declared.reassembly_queue.chunks.Placed.{Placed};
@@ -189,7 +189,7 @@ impl Fragments {
             return Ok(None);
         };
         let len = chunk.user_data.len();
-        self.chunks.insert(at.place, chunk)?;
+        put_in(&mut self.chunks, at.place, chunk)?;
         self.n_bytes = self.n_bytes.saturating_add(len);
         self.ascending = at.ascending;
         let whole = self.is_complete_counted(turns);
@@ -440,6 +440,21 @@ impl Chunks {
         self.offset = offset;
         Ok(Some(Chunk { bytes }))
     }
+}
+
+// Puts a fragment at a place, before the one that is there; most go to the end. Refuses only for memory, and nothing changes then.
+fn put_in(chunks: &mut Vec<Fragment>, place: usize, chunk: Fragment) -> Result<()>
+    requires { place ≤ length chunks.old.items }
+    ensures ok { OnOk result (chunks.new.items ≡ insert chunks.old.items place chunk) }
+    ensures err { OnErr result (chunks.new.items ≡ chunks.old.items) }
+    ensures memory { IfErr result (λ e. e ≡ ErrOutOfMemory) }
+{
+    if place == chunks.len() {
+        chunks.push(chunk)?;
+    } else {
+        chunks.insert(place, chunk)?;
+    }
+    Ok(())
 }
 
 // Writes bytes into a buffer from a place on.

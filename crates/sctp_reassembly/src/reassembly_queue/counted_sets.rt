@@ -191,6 +191,7 @@ impl CountedSets {
     /// Puts a set at a place, before the one that is there.
     /// Precondition: the place is at most their number.
     /// Refuses only for memory, and nothing changes then.
+    #[inline(never)]
     pub(crate) fn insert(&mut self, place: usize, set: Fragments) -> Result<()>
         requires { place ≤ length self.old.items }
         ensures ok { OnOk result (self.new.items ≡ insert self.old.items place set) }

@@ -118,6 +118,7 @@ fn place_within(chunks: &[Fragment], first: u32, far: u32, turns: &mut Turns) ->
 }
 
 // The same by halves.
+#[inline(never)]
 fn by_halves(chunks: &[Fragment], first: u32, far: u32, turns: &mut Turns) -> usize
     requires { IsNonDecreasingBy (λ c. distance first c.tsn) chunks.now }
     ensures in_range { result ≤ length chunks.now }
@@ -142,6 +143,7 @@ fn by_halves(chunks: &[Fragment], first: u32, far: u32, turns: &mut Turns) -> us
 }
 
 // The same by a walk, among TSNs that do not ascend.
+#[inline(never)]
 fn insertion_by_walk(chunks: &[Fragment], tsn: u32, turns: &mut Turns) -> Option<Insertion>
     requires { IsAscending (map (λ c. c.tsn) chunks.now) → ⊥ }
     ensures there { IfNone result (list_any (has_tsn tsn) chunks.now ≡ true) }

@@ -1,6 +1,6 @@
 //! The sets of ordered messages, in the order of their numbers where these lie within half a circle.
 
-ghost use Rattle.std.specs.Prelude.{◌≡◌, ◌+◌, ◌-◌, ◌*◌, ◌^◌, ◌<◌, ◌≤◌, ◌&&◌, [], ◌∷◌, ◌++◌, length, map, min, true, false, not, option_map, MatchOption, OnOk, OnErr, IfOk, IfErr, IfSome, IfNone, None};
+ghost use Rattle.std.specs.Prelude.{◌≡◌, ◌+◌, ◌-◌, ◌*◌, ◌^◌, ◌<◌, ◌≤◌, ◌&&◌, [], ◌∷◌, ◌++◌, length, map, min, true, false, not, option_map, MatchOption, OnOk, OnErr, IfOk, IfErr, IfSome, IfNone, Some, None};
 ghost use Rattle.std.specs.List.{list_any, position_or_len, filter, insert};
 ghost use Rattle.std.specs.List.Sorted.{IsNonDecreasingBy, IsPartitionPoint};
 ghost use Rattle.sctp_list_lemmas.specs.Serial.{comes_before16, distance};
@@ -30,6 +30,9 @@ use std::alloc::Global;
 use std::collections::VecDeque;
 use std::marker::Model;
 use std::result;
+
+// For how many fragments a set has room at first.
+const FEW: usize = 8;
 
 /// The sets of ordered messages.
 #[derive(Drop)]
@@ -205,9 +208,9 @@ impl OrderedSets {
             + digits (length (chunks_of_ssn chunk.stream_sequence_number self.old)) + 11 }
     {
         let ssn = chunk.stream_sequence_number;
-        let noted = self.noted();
         match seek(self.ascending, self.sets.as_deque(), ssn, turns) {
             Ok(set) => {
+                let noted = self.noted();
                 let set_noted = self.sets.noted_at(set);
                 let Some(put) = self.sets.put_into(set, chunk, turns)? else {
                     return Ok(None);
@@ -223,16 +226,45 @@ impl OrderedSets {
                     undo,
                 }))
             }
-            Err(at) => {
-                let set = new_set(alloc, chunk, turns)?;
-                let whole = set.is_complete_counted(turns);
-                self.sets.insert(at.place, set)?;
-                self.ascending = at.ascending;
-                let at = OrderedPlace::NewSet { set: at.place };
-                let undo = OrderedUndo { at, noted };
-                Ok(Some(OrderedPut { whole, undo }))
-            }
+            Err(at) => Ok(Some(self.put_new(alloc, chunk, at, turns)?)),
         }
+    }
+
+    // Puts a chunk into a new set, and says whether it is complete, and how it is undone. It stands apart, so that what chunks of
+    // sets that are there take stays small. Its turns are added: five at most.
+    // Precondition: no set has the number, and a set of it goes to that place.
+    // Refuses only for memory, and nothing changes then.
+    #[inline(never)]
+    fn put_new(
+        &mut self,
+        alloc: Global,
+        chunk: Fragment,
+        at: Insertion,
+        turns: &mut Turns,
+    ) -> Result<OrderedPut>
+        requires free { IsInsertion (has_ssn chunk.stream_sequence_number)
+            (λ s. upper_half s.ssn) set_before self.old at.place at.ascending }
+        requires exact { (x : ChunkSet) → x.ssn ≡ chunk.stream_sequence_number
+            → IsOffOnlyOutOfOrder at.ascending
+            (map (λ s. upper_half s.ssn) (insert self.old at.place x)) }
+        ensures ok { OnOk result (self.new ≡ sets_with chunk self.old) }
+        ensures answer { IfOk result (λ put. Some put.whole
+            ≡ answer_with chunk (chunks_of_ssn chunk.stream_sequence_number self.old)) }
+        ensures undo { IfOk result (λ put. CanUndoOrdered put.undo self.new
+            × (ordered_undone put.undo self.new ≡ self.old)) }
+        ensures err { OnErr result (self.new ≡ self.old) }
+        ensures memory { IfErr result (λ e. e ≡ ErrOutOfMemory) }
+        ensures not_back { turns.old ≤ turns.new }
+        ensures few { turns.new ≤ turns.old + 5 }
+    {
+        let noted = self.noted();
+        let set = new_set(alloc, chunk, turns)?;
+        let whole = set.is_complete_counted(turns);
+        self.sets.insert(at.place, set)?;
+        self.ascending = at.ascending;
+        let at = OrderedPlace::NewSet { set: at.place };
+        let undo = OrderedUndo { at, noted };
+        Ok(OrderedPut { whole, undo })
     }
 
     /// Undoes a `put`. It takes no memory, and looks at no other set or fragment.
@@ -293,7 +325,8 @@ impl OrderedSets {
     }
 }
 
-// A set that a chunk alone makes. Where it is the complete message there is room for it alone.
+// A set that a chunk alone makes, with room for a few. Where it is the complete message there is room for it alone.
+#[inline(never)]
 fn new_set(alloc: Global, chunk: Fragment, turns: &mut Turns) -> Result<Fragments>
     ensures ok { IfOk result (λ set. set ≡ new_set chunk) }
     ensures memory { IfErr result (λ e. e ≡ ErrOutOfMemory) }
@@ -302,13 +335,18 @@ fn new_set(alloc: Global, chunk: Fragment, turns: &mut Turns) -> Result<Fragment
 {
     let ssn = chunk.stream_sequence_number;
     let ppi = chunk.payload_type;
-    let alone = usize::from(chunk.beginning_fragment && chunk.ending_fragment);
-    let mut chunks = Vec::with_capacity(alloc, alone)?;
+    let room = if chunk.beginning_fragment && chunk.ending_fragment {
+        1
+    } else {
+        FEW
+    };
+    let mut chunks = Vec::with_capacity(alloc, room)?;
     chunks.push(chunk)?;
     Ok(Fragments::new_counted(ssn, ppi, chunks, turns))
 }
 
-// The place of the first set of a number, or where a set of it is put in: by halves among numbers that ascend.
+// The place of the first set of a number, or where a set of it is put in. Among numbers that ascend the last set is looked at
+// first: most chunks are of it.
 fn seek(
     ascending: bool,
     sets: &VecDeque<Fragments>,
@@ -327,6 +365,38 @@ fn seek(
     ensures cost { turns.new ≤ turns.old + 2 * length sets.now.items + 4 }
     ensures few { ascending ≡ true
         → turns.new ≤ turns.old + digits (length sets.now.items) + 4 }
+{
+    let len = sets.len();
+    if ascending && len > 0 {
+        turns.tick();
+        if sets[len - 1].ssn() == ssn {
+            return Ok(len - 1);
+        }
+    }
+    seek_among(ascending, sets, ssn, turns)
+}
+
+// The same by halves among numbers that ascend, else by a walk. It stands apart, so that what chunks of the last set take stays
+// small.
+#[inline(never)]
+fn seek_among(
+    ascending: bool,
+    sets: &VecDeque<Fragments>,
+    ssn: u16,
+    turns: &mut Turns,
+) -> result::Result<usize, Insertion>
+    requires order { IsOrder ascending (map (λ s. upper_half s.ssn) sets.now.items) }
+    requires exact { IsOffOnlyOutOfOrder ascending (map (λ s. upper_half s.ssn) sets.now.items) }
+    ensures there { IfOk result (λ place. (place ≡ position_or_len (has_ssn ssn) sets.now.items)
+        × (place < length sets.now.items)) }
+    ensures free { IfErr result (λ at. IsInsertion
+        (has_ssn ssn) (λ s. upper_half s.ssn) set_before sets.now.items at.place at.ascending) }
+    ensures exact { IfErr result (λ at. (x : ChunkSet) → x.ssn ≡ ssn → IsOffOnlyOutOfOrder
+        at.ascending (map (λ s. upper_half s.ssn) (insert sets.now.items at.place x))) }
+    ensures not_back { turns.old ≤ turns.new }
+    ensures cost { turns.new ≤ turns.old + 2 * length sets.now.items + 3 }
+    ensures few { ascending ≡ true
+        → turns.new ≤ turns.old + digits (length sets.now.items) + 3 }
 {
     let len = sets.len();
     if len == 0 {

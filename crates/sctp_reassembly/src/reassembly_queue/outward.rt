@@ -6,6 +6,7 @@ ghost use Rattle.sctp_serial.specs.Runs.{IsEarliestRunAround, HasNoRunAround, Ha
 ghost use Rattle.sctp_reassembly.specs.reassembly_queue.Outward.{IsFront, IsBack, IsStepBack, IsStepOn};
 
 use crate::reassembly_queue::unassembled::Loose;
+use sctp_data::chunk::chunk_payload_data::ChunkPayloadData;
 use sctp_serial::turns::Turns;
 
 /// How far a search has come to one side: a place, the TSN there, and whether the message begins, or ends, there.
@@ -81,6 +82,23 @@ fn step_on(unassembled: &Loose, place: usize, side: Side, turns: &mut Turns) -> 
     })
 }
 
+// Whether no run holds the place since its message goes on beyond all fragments: at the back it does not end, or at the front it
+// does not begin. So of each fragment of a message that comes in order or reversed, but the last.
+fn goes_on_beyond(unassembled: &Loose, place: usize, here: &ChunkPayloadData) -> bool
+    requires in_range { place < length unassembled.now.chunks }
+    requires value { here.now ≡ slice_index_or unassembled.now.chunks place here.now }
+    ensures { result ≡ true → HasNoRunAround unassembled.now.chunks place }
+{
+    let len = unassembled.len();
+    if place + 1 == len && !here.ending_fragment {
+        return true;
+    }
+    if place == 0 && !here.beginning_fragment {
+        return true;
+    }
+    false
+}
+
 /// The place and the length of the run that holds the place; None where there is none. Without the fragment at the place there is
 /// no run at all, so that a fragment that ends a message stops the search back, as one that begins stops it on.
 ///
@@ -114,6 +132,9 @@ pub(crate) fn run_outward(
     // places fit, and so does the length of a run
     let _len = unassembled.len();
     let here = unassembled.look(place, turns);
+    if goes_on_beyond(unassembled, place, here) {
+        return None;
+    }
     let mut front = Side {
         place,
         tsn: here.tsn,

@@ -177,7 +177,7 @@ impl Loose {
         let serial = self.stays_serial(place, chunk.tsn, turns);
         let len = chunk.user_data.len();
         let fragment = Fragment::new(alloc, chunk)?;
-        self.chunks.insert(place, fragment)?;
+        put_among(&mut self.chunks, place, fragment)?;
         self.n_bytes = self.n_bytes.saturating_add(len);
         self.serial = serial;
         self.places = self.places.max(self.chunks.len());
@@ -322,6 +322,28 @@ impl Loose {
         self.n_bytes = bytes_without(self.n_bytes, gone, &self.chunks, turns);
         self.serial = is_still_serial(self.serial, &self.chunks, turns);
     }
+}
+
+// Puts a fragment at a place, before the one that is there; those of a message in order go to the back, reversed to the front.
+// Refuses only for memory, and nothing changes then.
+fn put_among(
+    chunks: &mut VecDeque<Fragment>,
+    place: usize,
+    fragment: Fragment,
+) -> Result<(), AllocError>
+    requires { place ≤ length chunks.old.items }
+    ensures ok { OnOk result (chunks.new.items ≡ insert chunks.old.items place fragment) }
+    ensures err { OnErr result (chunks.new.items ≡ chunks.old.items) }
+    ensures capacity { deque_capacity chunks.old ≤ deque_capacity chunks.new }
+{
+    if place == chunks.len() {
+        chunks.push_back(fragment)?;
+    } else if place == 0 {
+        chunks.push_front(fragment)?;
+    } else {
+        chunks.insert(place, fragment)?;
+    }
+    Ok(())
 }
 
 // Whether a number comes before another; both fit.
@@ -670,6 +692,7 @@ pub fn run_around(unassembled: &Loose, place: usize, turns: &mut Turns) -> Optio
 }
 
 /// The place and the length of the run that ends earliest, by a scan that looks at each once; None where there is none.
+#[inline(never)]
 pub fn find_run(unassembled: &Loose, turns: &mut Turns) -> Option<(usize, usize)>
     ensures found { IfSome result (λ run. IsEarliestRun unassembled.now.chunks run.0 run.1) }
     ensures none { IfNone result (HasNoRun unassembled.now.chunks) }

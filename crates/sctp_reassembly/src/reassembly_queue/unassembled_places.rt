@@ -42,6 +42,7 @@ pub(crate) fn place_for(unassembled: &Loose, tsn: u32, turns: &mut Turns) -> usi
 }
 
 // The place of the first fragment that the number comes before, or the end, by a walk.
+#[inline(never)]
 fn first_after(unassembled: &Loose, tsn: u32, turns: &mut Turns) -> usize
     ensures place { result ≡ place_among tsn unassembled.now.chunks }
     ensures in_range { result ≤ length unassembled.now.chunks }
@@ -155,6 +156,7 @@ pub(crate) fn place_after(
 }
 
 // The place of the last fragment of this TSN, by a walk.
+#[inline(never)]
 fn last_among(unassembled: &Loose, tsn: u32, turns: &mut Turns) -> Option<usize>
     ensures in_range { IfSome result (λ place. place < length unassembled.now.chunks) }
     ensures fits { IfSome result (λ place. place + 1 < 2 ^ 64) }

@@ -10,6 +10,6 @@ returns-clause-undo c =
     let place = c.in-Some.at.place in
     let x = c.args.chunk in
     let le : place ≤ length xs = omega (arith, c.in-Some.ensures.free.in_range, ap length c.deref.ensures.value) in (
-      omega (arith, le, length-insert xs place x le, ap length c.in_ok-insert.ensures.items),
-      same_but_chunks (ap (λ ys. remove ys place) c.in_ok-insert.ensures.items ∙ remove-insert xs place x le) ∙ c.self.view_is,
+      omega (arith, le, length-insert xs place x le, ap length c.in_ok-put_in.ensures.ok),
+      same_but_chunks (ap (λ ys. remove ys place) c.in_ok-put_in.ensures.ok ∙ remove-insert xs place x le) ∙ c.self.view_is,
     )

@@ -1,12 +1,11 @@
-use Rattle.std.proofs.Common.{◌≡◌, ◌+◌, ◌*◌, ◌≤◌, ◌<◌, ℕ, Bool, List, Option, length, map, get_or, set, refl, sym, ap, subst, ◌∙◌, Some, arith}
-use Rattle.std.specs.List.{position_or_len, remove}
+use Rattle.std.proofs.Common.{◌≡◌, ◌+◌, ◌*◌, ◌≤◌, ◌<◌, ℕ, Bool, List, Option, length, map, get_or, set, refl, sym, ap, subst, ◌∙◌, arith}
+use Rattle.std.specs.List.{position_or_len}
 use Rattle.std.proofs.lemmas.List.{length-set}
-use Rattle.std.proofs.lemmas.List.Edits.{length-insert}
 use Rattle.sctp_data.specs.ChunkSet.{ChunkSet}
 use Rattle.sctp_data.specs.declared.chunk.chunk_payload_data.ChunkPayloadData.{ChunkPayloadData}
-use Rattle.sctp_reassembly.specs.reassembly_queue.Fragments.{is_complete, has_ssn, chunks_of_ssn, with_chunk, without_chunk, sets_with, answer_with, new_set}
-use Rattle.sctp_serial.proofs.lemmas.ListEdits.{any_at, first_changed, remove-insert}
-use Rattle.sctp_reassembly.proofs.lemmas.reassembly_queue.ChunkSets.{chunks_at, chunks_none}
+use Rattle.sctp_reassembly.specs.reassembly_queue.Fragments.{has_ssn, chunks_of_ssn, with_chunk, without_chunk, sets_with, answer_with, new_set}
+use Rattle.sctp_serial.proofs.lemmas.ListEdits.{any_at, first_changed}
+use Rattle.sctp_reassembly.proofs.lemmas.reassembly_queue.ChunkSets.{chunks_at}
 use Rattle.sctp_serial.specs.Ascending.{IsOrder, upper_half}
 use Rattle.sctp_reassembly.specs.reassembly_queue.Orders.{digits, IsInOrder, IsOrderly, IsOffOnlyOutOfOrder}
 use Rattle.sctp_reassembly.specs.reassembly_queue.Undo.{AreNoted, IsNotedOf}
@@ -114,31 +113,6 @@ returns-in-Some-clause-undo c =
                 subst (λ (s : ChunkSet). IsNotedOf c.noted_at-set_noted.result s.chunks) (stood-there f i xs ys e lt undo.1) (c.noted_at-set_noted.ensures e);
           },
         );
-        noted = subst (AreNoted c.noted-noted.result) (sym back) c.noted-noted.ensures;
-      },
-      back,
-    )
-
-pub returns-in_ok-insert-in-Err-clause-answer : goal.returns-in_ok-insert-in-Err-clause-answer
-returns-in_ok-insert-in-Err-clause-answer c =
-    let xs = c.self.inside.sets.items in
-    let x = c.args.chunk in
-    let ssn = x.stream_sequence_number in
-    let none = rw (c.deref.ensures, c.as_deque.ensures) at c.in-Err.ensures.free.absent in
-    rw (← c.self.view_is)
-    (ap (λ b. Some b) c.is_complete_counted-whole.ensures.value
-    ∙ ap (λ (s : ChunkSet). Some (is_complete s.chunks)) c.in_ok-set-in-Err.ensures.ok
-    ∙ ap (answer_with x) (sym (chunks_none ssn xs none)))
-
-pub returns-in_ok-insert-in-Err-clause-undo : goal.returns-in_ok-insert-in-Err-clause-undo
-returns-in_ok-insert-in-Err-clause-undo c =
-    let xs = c.self.inside.sets.items in
-    let i = c.in-Err.at.place in
-    let y = c.in_ok-set-in-Err.set in
-    let le : i ≤ length xs = omega (arith, c.in-Err.ensures.free.in_range, ap length c.as_deque.ensures) in
-    let back = ap (λ ys. remove ys i) c.in_ok-insert-in-Err.ensures.ok ∙ remove-insert xs i y le ∙ c.self.view_is in (
-      record {
-        place = omega (arith, le, length-insert xs i y le, ap length c.in_ok-insert-in-Err.ensures.ok);
         noted = subst (AreNoted c.noted-noted.result) (sym back) c.noted-noted.ensures;
       },
       back,
