@@ -1,5 +1,5 @@
 -- Packets: a header, and chunks that fill the rest exactly (RFC 4960 3).
-use Rattle.std.specs.Prelude.{◌≡◌, ℕ, ◌≤◌, ◌<◌, ◌^◌, List, [], ◌++◌, length, take, drop, map, replicate}
+use Rattle.std.specs.Prelude.{◌≡◌, ℕ, ◌≤◌, ◌<◌, ◌^◌, List, [], ◌∷◌, ◌++◌, length, take, drop, map, replicate}
 use Rattle.std.specs.List.{flat_map, AllByRecursion}
 use Rattle.sctp_base.specs.Field.{be16, be32, le32, u16_at, u32_at, u32_le_at}
 use Rattle.sctp_base.specs.Padding.{padding_of, padded_length, four_zeroes}
@@ -7,7 +7,8 @@ use Rattle.sctp_base.specs.Walk.{Walks}
 use Rattle.sctp_chunks.specs.Framing.{declared_length}
 use Rattle.sctp_chunks.specs.Wire.{Wire, ReadsChunk, HasEncoding, encoding_of}
 use Rattle.sctp_chunks.specs.Fits.{Fits, Canonical}
-use Rattle.sctp_chunks.specs.Kind.{wire_of, IsRead}
+use Rattle.sctp_chunks.specs.Kind.{wire_of, IsRead, IsFreshKind}
+use Rattle.sctp_chunks.specs.declared.chunk.chunk_kind.ChunkKind.{ChunkKind}
 use Rattle.sctp_packets.specs.declared.packet.Packet.{Packet}
 
 -- the wire parts of a packet
@@ -38,6 +39,15 @@ after bytes = drop (padded_length (declared_length bytes)) bytes
 -- what a checksum is taken of
 abbrev pub checksum_input : List ℕ → List ℕ
 checksum_input bytes = take 8 bytes ++ four_zeroes ++ drop 12 bytes
+
+-- Behind the chunks before stands the one that the bytes begin with, as reading gives it.
+pub record TakesChunk (bytes : List ℕ) (before : List ChunkKind) (behind : List ChunkKind) : Type 0 where
+  pub chunk : ChunkKind
+  pub items : behind ≡ before ++ chunk ∷ []
+  pub found : Steps bytes (wire_of chunk)
+  pub rewritable : HasEncoding (wire_of chunk)
+  pub canonical : Canonical (wire_of chunk)
+  pub fresh : IsFreshKind chunk
 
 -- the bytes begin with a header, and its checksum is theirs
 pub record IsHeaded (sum : List ℕ → ℕ) (bytes : List ℕ) : Type 0 where

@@ -2,7 +2,7 @@
 //! The header is source port and destination port, two bytes each, the verification tag and the checksum, four
 //! bytes each. The checksum stands with its lowest byte first, every other number with its highest.
 
-ghost use Rattle.std.specs.Prelude.{◌≡◌, ◌<◌, ◌^◌, ◌+◌, ◌-◌, ◌++◌, ℕ, min, List, true, length, map, drop, ◌⊎◌, IfOk, IfErr, IsOkUnless, OnOk, OnErr, take, ◌≤◌};
+ghost use Rattle.std.specs.Prelude.{◌≡◌, ◌<◌, ◌^◌, ◌+◌, ◌-◌, ◌++◌, ℕ, min, List, true, length, map, drop, ◌⊎◌, IfOk, IfErr, IsOkUnless, OnOk, OnErr, take, ◌≤◌, vec_len, vec_capacity};
 ghost use Rattle.std.specs.List.{AllByRecursion};
 ghost use Rattle.std.specs.Prelude.{[]};
 ghost use Rattle.sctp_base.specs.Field.{le32, u16_at, u32_at};
@@ -15,7 +15,7 @@ ghost use Rattle.sctp_chunks.specs.Wire.{Wire, HasEncoding};
 ghost use Rattle.sctp_chunks.specs.Framing.{declared_length};
 ghost use Rattle.sctp_base.specs.Padding.{padded_length, four_zeroes};
 ghost use Rattle.sctp_base.specs.Walk.{Walks};
-ghost use Rattle.sctp_packets.specs.Packet.{Parts, parts_of, IsCanonical, IsHeaded, ReadsPacket, Steps, after, padded_encoding, body_of, head_encoding, head_of, HavePacketEncoding, packet_encoding, FitsParts};
+ghost use Rattle.sctp_packets.specs.Packet.{Parts, parts_of, IsCanonical, IsHeaded, ReadsPacket, Steps, TakesChunk, after, padded_encoding, body_of, head_encoding, head_of, HavePacketEncoding, packet_encoding, FitsParts};
 ghost use Rattle.sctp_packets.specs.Valid.{is_init, has_init, IsValid, InitFault, ValidFault};
 ghost use Rattle.sctp_packets.specs.Fault.{HeadFault, PacketFault, PlaceFault, WalkFault, FirstEncodingFault, PacketEncodingFault, LacksRoom};
 
@@ -80,17 +80,16 @@ impl fmt::Display for Packet {
     }
 }
 
-/// Reads the chunk at the front, and how many bytes it takes with its padding, which has to be
-/// there. Refuses with `ErrParseSctpChunkNotEnoughData`, or as `ChunkKind::unmarshal` does.
-/// Precondition: there are bytes.
-fn read_step(alloc: Global, rest: &Bytes) -> Result<(ChunkKind, usize)>
-    requires { 0 < length rest.now }
-    ensures found { IfOk result (λ x. Steps rest.now (wire_of x.0)) }
-    ensures length { IfOk result (λ x. x.1 ≡ padded_length (declared_length rest.now)) }
-    ensures rewritable { IfOk result (λ x. HasEncoding (wire_of x.0)) }
-    ensures canonical { IfOk result (λ x. Canonical (wire_of x.0)) }
-    ensures fresh { IfOk result (λ x. IsFreshKind x.0) }
-    ensures only { (w : Wire) → Steps rest.now w → GivesUnlessMemory result (λ x. wire_of x.0 ≡ w) }
+/// Reads the chunk at the front to the end of the list, and gives how many bytes it takes with its padding, which has
+/// to be there. Refuses with `ErrParseSctpChunkNotEnoughData`, or as `ChunkKind::unmarshal` does; the list is as it was then.
+/// Precondition: there are bytes, and the list has room.
+fn read_step(alloc: Global, rest: &Bytes, chunks: &mut Vec<ChunkKind>) -> Result<usize>
+    requires bytes { 0 < length rest.now }
+    requires room { vec_len chunks.old < vec_capacity chunks.old }
+    ensures found { OnOk result (TakesChunk rest.now chunks.old.items chunks.new.items) }
+    ensures length { IfOk result (λ n. n ≡ padded_length (declared_length rest.now)) }
+    ensures only { (w : Wire) → Steps rest.now w → IsOkUnless result ErrOutOfMemory }
+    ensures err { OnErr result (chunks.new.items ≡ chunks.old.items) }
     ensures fault { IfErr result (λ e. OrMemory e (PlaceFault e rest.now)) }
 {
     if rest.len() < CHUNK_HEADER_SIZE {
@@ -102,7 +101,8 @@ fn read_step(alloc: Global, rest: &Bytes) -> Result<(ChunkKind, usize)>
     if rest.len() < length {
         return Err(Error::ErrParseSctpChunkNotEnoughData);
     }
-    Ok((chunk, length))
+    chunks.push_reserved(chunk);
+    Ok(length)
 }
 
 /// Reads chunks up to the end of the bytes. Refuses as `read_step` does at a place that the walk comes to.
@@ -119,8 +119,7 @@ fn read_chunks(alloc: Global, raw: Bytes) -> Result<Vec<ChunkKind>>
     let mut rest = raw;
     'walk: while !rest.is_empty() {
         chunks.reserve(1)?;
-        let (chunk, length) = read_step(alloc, &rest)?;
-        chunks.push_reserved(chunk);
+        let length = read_step(alloc, &rest, &mut chunks)?;
         rest.advance(length);
     }
     Ok(chunks)

@@ -23,30 +23,31 @@ walk-init c = record {
 pub walk-preserved : goal.walk-preserved
 unfolding after
 walk-preserved c =
+    let taken = c.in_ok-length.ensures.found in
     let next = walks_next Steps after c.args.raw (map wire_of c.walk.chunks.items) c.walk.rest
-    (wire_of c.in_ok-chunk.chunk) c.walk.invariant.walk c.in_ok-chunk.ensures.found in
+    (wire_of taken.chunk) c.walk.invariant.walk taken.found in
     let encodings = all_next HasEncoding (map wire_of c.walk.chunks.items)
-    (wire_of c.in_ok-chunk.chunk) c.walk.invariant.rewritable c.in_ok-chunk.ensures.rewritable in
-    let again = all_next Canonical (map wire_of c.walk.chunks.items) (wire_of c.in_ok-chunk.chunk) c.walk.invariant.canonical c.in_ok-chunk.ensures.canonical in
+    (wire_of taken.chunk) c.walk.invariant.rewritable taken.rewritable in
+    let again = all_next Canonical (map wire_of c.walk.chunks.items) (wire_of taken.chunk) c.walk.invariant.canonical taken.canonical in
     record {
-      walk = rw (c.push_reserved.ensures.items, c.reserve.ensures.items, map-append, c.advance.ensures, c.in_ok-chunk.ensures.length) next;
-      rewritable = rw (c.push_reserved.ensures.items, c.reserve.ensures.items, map-append) encodings;
-      canonical = rw (c.push_reserved.ensures.items, c.reserve.ensures.items, map-append) again;
-      fresh = rw (c.push_reserved.ensures.items, c.reserve.ensures.items)
-          (all_next IsFreshKind c.walk.chunks.items c.in_ok-chunk.chunk c.walk.invariant.fresh c.in_ok-chunk.ensures.fresh);
+      walk = rw (taken.items, c.reserve.ensures.items, map-append, c.advance.ensures, c.in_ok-length.ensures.length) next;
+      rewritable = rw (taken.items, c.reserve.ensures.items, map-append) encodings;
+      canonical = rw (taken.items, c.reserve.ensures.items, map-append) again;
+      fresh = rw (taken.items, c.reserve.ensures.items)
+          (all_next IsFreshKind c.walk.chunks.items taken.chunk c.walk.invariant.fresh taken.fresh);
     }
 
-pub returns-in_err-chunk-clause-only : goal.returns-in_err-chunk-clause-only
-returns-in_err-chunk-clause-only c = λ ws whole.
-    let p = err_from_is_err_and c.from_residual-in_err-chunk.result c.from_residual-in_err-chunk.ensures.1 in
+pub returns-in_err-length-clause-only : goal.returns-in_err-length-clause-only
+returns-in_err-length-clause-only c = λ ws whole.
+    let p = err_from_is_err_and c.from_residual-in_err-length.result c.from_residual-in_err-length.ensures.1 in
     let next = goes_on c.args.raw (map wire_of c.walk.chunks.items) ws c.walk.rest c.walk.invariant.walk whole (grind (arith, common_steps)) in
-    rw (p.1, p.2) (c.in_err-chunk.ensures.only next.0 next.1)
+    rw (p.1, p.2) (c.in_err-length.ensures.only next.0 next.1)
 
-pub returns-in_err-chunk-clause-fault : goal.returns-in_err-chunk-clause-fault
+pub returns-in_err-length-clause-fault : goal.returns-in_err-length-clause-fault
 unfolding WalkFault
-returns-in_err-chunk-clause-fault c =
-    let p = err_from_is_err_and c.from_residual-in_err-chunk.result c.from_residual-in_err-chunk.ensures.1 in
-    rw (p.1, p.2) (elim c.in_err-chunk.ensures.fault [
+returns-in_err-length-clause-fault c =
+    let p = err_from_is_err_and c.from_residual-in_err-length.result c.from_residual-in_err-length.ensures.1 in
+    rw (p.1, p.2) (elim c.in_err-length.ensures.fault [
       | inl memory ↦ inl memory
       | inr fault ↦ inr (map wire_of c.walk.chunks.items, c.walk.rest, c.walk.invariant.walk, fault)
     ])
