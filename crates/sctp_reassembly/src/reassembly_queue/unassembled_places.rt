@@ -1,4 +1,5 @@
-//! Places among the unassembled fragments, by TSN: found by halves where they stand in serial order, else by a walk.
+//! Places among the unassembled fragments, by TSN: found by halves where they stand in serial order, else by a walk. The searches stand
+//! apart (`inline(never)`), so that what an ordered chunk takes in the same call stays small.
 
 ghost use Rattle.std.specs.Prelude.{◌≡◌, ℕ, ◌==◌, ◌+◌, ◌-◌, ◌^◌, ◌<◌, ◌≤◌, ◌≢◌, [], length, take, drop, reverse, slice_index_or, true, false, not, IfSome, IfNone};
 ghost use Rattle.std.specs.List.{position_or_len};
@@ -17,6 +18,7 @@ use sctp_serial::turns::Turns;
 /// Where a fragment of this number is put in: before the first that it comes before, or at the end.
 ///
 /// In serial order the first two looks are at both ends, so that what comes behind all takes no more.
+#[inline(never)]
 pub(crate) fn place_for(unassembled: &Loose, tsn: u32, turns: &mut Turns) -> usize
     ensures place { result ≡ place_among tsn unassembled.now.chunks }
     ensures in_range { result ≤ length unassembled.now.chunks }
