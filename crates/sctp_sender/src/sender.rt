@@ -488,8 +488,8 @@ impl Sender {
         })
     }
 
-    /// Removes the message in front, where it is past its deadline and wholly unsent, and answers it. `now` is in nanoseconds. It
-    /// takes no memory.
+    /// Removes the message in front, where it is past its deadline and wholly unsent, and answers it (RFC 3758 4.1). `now` is in
+    /// nanoseconds. It takes no memory.
     pub fn expire(&mut self, now: u64) -> Option<ExpiredMessage>
         ensures some { IfSome result (λ r. IfSome (expiring now self.old.flight.queue)
             (λ c. (r.stream ≡ c.stream_identifier)
@@ -510,8 +510,8 @@ impl Sender {
     }
 
     /// As `expire` so often as it removes messages of one stream, all ordered or all unordered, but at most 65,535 times, and answers
-    /// them together. It looks at these messages, and where they are ordered once at all that waits in order. `now` is in nanoseconds.
-    /// It takes no memory.
+    /// them together (RFC 3758 4.1). It looks at these messages, and where they are ordered once at all that waits in order. `now` is
+    /// in nanoseconds. It takes no memory.
     pub fn expire_run(&mut self, now: u64) -> Option<ExpiredMessages>
         ensures some { IfSome result (λ r. self.new
             ≡ after_expire_run r.stream r.unordered r.messages r.bytes now self.old) }

@@ -10,8 +10,8 @@ use sctp_sender::sender::refusal::SenderRefusal;
 use sctp_sender::sender::{ExpiredMessage, ExpiredMessages, Sender};
 use std::alloc::Global;
 
-// The SACK up to a TSN with one block.
-fn sack(alloc: Global, tsn: u32, start: u16, end: u16) -> Option<ChunkSelectiveAck> {
+/// The SACK up to a TSN with one block.
+pub(crate) fn sack(alloc: Global, tsn: u32, start: u16, end: u16) -> Option<ChunkSelectiveAck> {
     let mut sack = ChunkSelectiveAck {
         cumulative_tsn_ack: tsn,
         advertised_receiver_window_credit: 1000,
@@ -24,8 +24,8 @@ fn sack(alloc: Global, tsn: u32, start: u16, end: u16) -> Option<ChunkSelectiveA
     }
 }
 
-// Two hosts, of which the first has the TSNs 4294967295, 0, 1, 2 in flight: three bytes, three, two, one.
-fn four_in_flight(alloc: Global, a: &mut Host, b: &mut Host) -> bool {
+/// Two hosts, of which the first has the TSNs 4294967295, 0, 1, 2 in flight: three bytes, three, two, one.
+pub(crate) fn four_in_flight(alloc: Global, a: &mut Host, b: &mut Host) -> bool {
     let mut well = a.opens() && b.opens() && a.writes(alloc, b"abcdefgh") && a.writes(alloc, b"i");
     for _ in 0..4 {
         well = well && sends(alloc, a, b, true);

@@ -6,36 +6,14 @@ ghost use Rattle.sctp_data.specs.SelectiveAck.{sack_of};
 ghost use Rattle.sctp_sender.specs.Costs.{is_left_out, to_sort};
 ghost use Rattle.sctp_sender.specs.Sender.{taken_back_by};
 
-use crate::host::{Host, sends};
-use sctp_chunks::chunk::chunk_selective_ack::{ChunkSelectiveAck, GapAckBlock};
+use crate::flight_tests::{four_in_flight, sack};
+use crate::host::Host;
+use sctp_chunks::chunk::chunk_selective_ack::ChunkSelectiveAck;
 use sctp_sender::sender::Sender;
 use sctp_sender::sender::flight::keeping::TakenBack;
 use sctp_sender::sender::refusal::SenderRefusal;
 use sctp_serial::turns::Turns;
 use std::alloc::Global;
-
-// The SACK up to a TSN with one block.
-fn sack(alloc: Global, tsn: u32, start: u16, end: u16) -> Option<ChunkSelectiveAck> {
-    let mut sack = ChunkSelectiveAck {
-        cumulative_tsn_ack: tsn,
-        advertised_receiver_window_credit: 1000,
-        gap_ack_blocks: Vec::new(alloc),
-        duplicate_tsn: Vec::new(alloc),
-    };
-    match sack.gap_ack_blocks.push(GapAckBlock { start, end }) {
-        Ok(()) => Some(sack),
-        Err(_) => None,
-    }
-}
-
-// Two hosts, of which the first has the TSNs 4294967295, 0, 1, 2 in flight: three bytes, three, two, one.
-fn four_in_flight(alloc: Global, a: &mut Host, b: &mut Host) -> bool {
-    let mut well = a.opens() && b.opens() && a.writes(alloc, b"abcdefgh") && a.writes(alloc, b"i");
-    for _ in 0..4 {
-        well = well && sends(alloc, a, b, true);
-    }
-    well
-}
 
 // A SACK comes: whether it takes back these chunks, and whether so many bytes are in flight and buffered before it is taken, and
 // after.
