@@ -1,8 +1,9 @@
 #!/usr/bin/env python3
-"""Tries every wrong body of a crate and judges each by the function that it turns; or packs them into few files.
+"""Tries every wrong body of a crate and judges each by the function that it turns; or packs them into few files, or looks for their texts.
 
     python3 tools/wrong_bodies.py CRATE [JOBS [WORD..]]
     python3 tools/wrong_bodies.py --pack CRATE
+    python3 tools/wrong_bodies.py --texts
 
 run at the top of the repository. The first finds the kit's command `rt` on the PATH and runs over libraries that `rt check` has proved. The gate
 asks of a file must-fail/*.edit only that the crate with all its wrong bodies is refused, and does not try must-fail/*.md; here the bodies of both
@@ -15,6 +16,9 @@ With --pack it tries nothing: it writes must-fail/ anew. 0_bodies.edit, which th
 whose first line begins with "First: "; a crate of whose wrong bodies the gate tries none has no such file. All others stand in 1_bodies.md,
 2_bodies.md, .., in as few as have at most one in each function. A file whose first line begins with "Alone: " stays as it is. Each body keeps
 its texts and its title; the body of a file without titles takes the file's name as its title, in words.
+
+With --texts it tries nothing either: it prints each text of all crates' wrong bodies that does not stand once in its file, and ends with a count; the
+exit status is 0 where there is none.
 """
 import importlib.machinery
 import importlib.util
@@ -196,6 +200,20 @@ def check_packed(folder, before, written):
         functions_of(folder, it, [pair for _, pairs in after[it] for pair in pairs])
 
 
+def misplaced(folder):
+    """Returns a line for each text of a crate's wrong bodies that does not stand once in its file."""
+    room, found = f"{folder}/must-fail", []
+    for edit in sorted(it for it in os.listdir(room) if it.endswith(ENDINGS)):
+        for name, pairs in named(f"{room}/{edit}"):
+            texts = {}
+            for path, old, new in pairs:
+                text = texts.get(path) or source_of(folder, path)
+                if text.count(old) != 1:
+                    found.append(f"{room}/{name}: stands {text.count(old)} times in {path}: {old}")
+                texts[path] = text.replace(old, new)
+    return found
+
+
 def refused_in(out):
     """Returns the functions that a check did not prove for what they are themselves, not only for a function that they call."""
     found = set()
@@ -240,6 +258,11 @@ def main():
         for name in sys.argv[2:]:
             pack(f"crates/{name}")
         return 0
+    if sys.argv[1:2] == ["--texts"]:
+        crates = [f"crates/{it}" for it in sorted(os.listdir("crates")) if os.path.isdir(f"crates/{it}/must-fail")]
+        found = [line for folder in crates for line in misplaced(folder)]
+        print("\n".join([*found, f"{len(found)} texts that do not stand once"]))
+        return 1 if found else 0
     crate_name, jobs, words = sys.argv[1], sys.argv[2] if len(sys.argv) > 2 else "4", sys.argv[3:]
     sys.argv = ["rt"]
     rt = kit()
