@@ -5,10 +5,10 @@ use crate::reassembly::length_of;
 use crate::stream::text;
 use crate::subject::{FRAGMENTS, STREAM};
 use bytes::Bytes;
-use sctp_base::util::Checksum;
 use sctp_chunks::chunk::chunk_kind::ChunkKind;
 use sctp_chunks::chunk::chunk_payload_data::PayloadProtocolIdentifier;
 use sctp_packets::packet::{CommonHeader, Packet};
+use sctp_util::util::Checksum;
 
 // A chunk comes to the half that it is for; whether it is taken.
 fn takes(ends: &mut Ends, chunk: &ChunkKind) -> bool {

@@ -4,10 +4,10 @@ use crate::reassembly::length_of;
 use crate::stream::text;
 use crate::subject::{FRAGMENT, FRAGMENTS, MESSAGE, STREAM};
 use crate::timing::Measured;
-use sctp_base::util::Checksum;
 use sctp_chunks::chunk::chunk_payload_data::PayloadProtocolIdentifier;
 use sctp_link::event::{Event, Reply};
 use sctp_link::link::Link;
+use sctp_util::util::Checksum;
 use std::alloc::Global;
 use std::time::{Clock, Instant};
 

@@ -6,10 +6,10 @@ ghost use Rattle.benchlib.specs.Near.{AreBelow};
 
 use crate::subject::whole;
 use crate::timing::Measured;
-use sctp_base::error::Result;
 use sctp_chunks::chunk::chunk_payload_data::ChunkPayloadData;
 use sctp_queues::outbound_queue::OutboundQueue;
 use sctp_queues::pending_queue::PendingQueue;
+use sctp_util::error::Result;
 use std::alloc::Global;
 use std::time::{Clock, Instant};
 

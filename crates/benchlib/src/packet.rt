@@ -3,12 +3,12 @@
 use crate::timing::{Fastest, Measured};
 use bytes::{Bytes, BytesMut};
 use crc32c::Crc;
-use sctp_base::error::Result;
-use sctp_base::util::Checksum;
 use sctp_chunks::chunk::chunk_kind::ChunkKind;
 use sctp_chunks::chunk::chunk_payload_data::PayloadProtocolIdentifier;
 use sctp_dissect::dissection::dissect;
 use sctp_packets::packet::{CommonHeader, Packet};
+use sctp_util::error::Result;
+use sctp_util::util::Checksum;
 use std::alloc::Global;
 use std::time::{Clock, Instant};
 

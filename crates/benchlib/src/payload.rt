@@ -5,8 +5,8 @@ ghost use Rattle.benchlib.specs.Near.{AreBelow};
 
 use crate::subject::{CALLS, Order, number_at, whole};
 use crate::timing::Measured;
-use sctp_base::error::Result;
 use sctp_queues::payload_queue::PayloadQueue;
+use sctp_util::error::Result;
 use std::alloc::Global;
 use std::time::{Clock, Instant};
 

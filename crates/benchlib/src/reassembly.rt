@@ -5,9 +5,9 @@ ghost use Rattle.std.specs.Prelude.{◌<◌};
 use crate::subject::{Delivery, FRAGMENTS, Order, STREAM, fragment, number_at};
 use crate::timing::Measured;
 use bytes::Bytes;
-use sctp_base::error::Result;
 use sctp_queues::chunks::Chunks;
 use sctp_queues::reassembly_queue::ReassemblyQueue;
+use sctp_util::error::Result;
 use std::alloc::Global;
 use std::time::{Clock, Instant};
 

@@ -3,9 +3,9 @@
 use crate::subject::CALLS;
 use crate::timing::Measured;
 use bytes::BytesMut;
-use sctp_base::error::Result;
 use sctp_chunks::chunk::Chunk;
 use sctp_chunks::chunk::chunk_selective_ack::{ChunkSelectiveAck, GapAckBlock};
+use sctp_util::error::Result;
 use std::alloc::Global;
 use std::time::{Clock, Instant};
 

@@ -4,10 +4,10 @@ use crate::tests::{
     Counted, Zero, acked, acks, arrivals_ask, arrives, buffers, carries, does, hands_out,
     has_nothing, sends, sent, sums, takes,
 };
-use sctp_base::util::Checksum;
 use sctp_chunks::chunk::chunk_payload_data::ReliabilityType;
 use sctp_link::event::{Event, Reply};
 use sctp_link::link::Link;
+use sctp_util::util::Checksum;
 use std::alloc::Global;
 use std::cell::Cell;
 

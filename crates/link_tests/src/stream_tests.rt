@@ -1,11 +1,11 @@
 //! Worked examples of streams.
 
 use bytes::Bytes;
-use sctp_base::error::Error;
 use sctp_chunks::PayloadProtocolIdentifier;
 use sctp_chunks::chunk::chunk_payload_data::ChunkPayloadData;
 use sctp_link::stream::ReliabilityType;
 use sctp_link::{DataChannelStats, RecvSendState, StreamState};
+use sctp_util::error::Error;
 use std::alloc::Global;
 
 // Stream 1 with fragments of 3 bytes.

@@ -1,11 +1,11 @@
 use bytes::{Bytes, BytesMut};
-use sctp_base::util::Checksum;
 use sctp_chunks::chunk::chunk_payload_data::{PayloadProtocolIdentifier, ReliabilityType};
 use sctp_link::event::{Event, LinkRefusal, Reply};
 use sctp_link::link::Link;
 use sctp_link::link::accessors::Ledger;
 use sctp_link::stream::DataChannelStats;
 use sctp_queues::chunks::Chunks;
+use sctp_util::util::Checksum;
 use std::alloc::{AllocError, Global};
 use std::cell::Cell;
 

@@ -3,7 +3,7 @@
 ghost use Rattle.std.specs.Prelude.{◌≡◌, ◌⊎◌, IfOk};
 
 use crate::script::{LineFault, Play, print_reply, read_event, read_link};
-use sctp_base::util::Checksum;
+use sctp_util::util::Checksum;
 use std::alloc::Global;
 use std::io::{ErrorKind, Read, Write};
 use std::str::Split;

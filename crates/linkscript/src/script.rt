@@ -4,11 +4,11 @@ ghost use Rattle.std.specs.Prelude.{◌≤◌, ℕ, IfSome};
 
 use crate::field::{FieldFault, field_bytes, field_text};
 use crate::run::RunFault;
-use sctp_base::util::Checksum;
 use sctp_chunks::chunk::chunk_payload_data::{PayloadProtocolIdentifier, ReliabilityType};
 use sctp_link::event::{Event, LinkRefusal, Reply};
 use sctp_link::link::Link;
 use sctp_queues::chunks::Chunks;
+use sctp_util::util::Checksum;
 use std::alloc::Global;
 use std::io::{self, Write};
 

@@ -1,11 +1,11 @@
 use crate::tests::{Answer, ZERO, packet_bytes, read_chunks};
 use bytes::Bytes;
-use sctp_base::error::Error;
-use sctp_base::util::{CT_COOKIE_ACK, CT_COOKIE_ECHO, CT_INIT, CT_INIT_ACK, ChunkType};
 use sctp_chunks::chunk::chunk_init::ChunkInit;
 use sctp_chunks::chunk::chunk_kind::ChunkKind;
 use sctp_packets::packet::{CommonHeader, Packet, PartialDecode};
 use sctp_params::param::param_kind::ParamKind;
+use sctp_util::error::Error;
+use sctp_util::util::{CT_COOKIE_ACK, CT_COOKIE_ECHO, CT_INIT, CT_INIT_ACK, ChunkType};
 use std::alloc::Global;
 
 // Of an INIT: its tag, credit, outbound and inbound streams, first TSN, and how many parameters it has.

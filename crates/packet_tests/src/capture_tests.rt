@@ -1,9 +1,9 @@
 //! Datagrams that real stacks wrote, read and written back.
 
 use bytes::Bytes;
-use sctp_base::error::Error;
 use sctp_packets::checksum::Crc32c;
 use sctp_packets::packet::Packet;
+use sctp_util::error::Error;
 use std::alloc::Global;
 
 /// What becomes of a datagram.

@@ -1,7 +1,5 @@
 use crate::tests::{is_rewritten, packet_of, read_chunks, refusal, written_behind};
 use bytes::{Bytes, BytesMut};
-use sctp_base::error::Error;
-use sctp_base::util::{CT_ABORT, CT_FORWARD_TSN, CT_I_FORWARD_TSN, CT_SACK};
 use sctp_chunks::chunk::chunk_abort::ChunkAbort;
 use sctp_chunks::chunk::chunk_forward_tsn::{ChunkForwardTsn, ChunkForwardTsnStream};
 use sctp_chunks::chunk::chunk_header::ChunkHeader;
@@ -17,6 +15,8 @@ use sctp_packets::Packet;
 use sctp_params::param::param_forward_tsn_supported::ParamForwardTsnSupported;
 use sctp_params::param::param_heartbeat_info::ParamHeartbeatInfo;
 use sctp_params::param::param_kind::ParamKind;
+use sctp_util::error::Error;
+use sctp_util::util::{CT_ABORT, CT_FORWARD_TSN, CT_I_FORWARD_TSN, CT_SACK};
 use std::alloc::Global;
 
 // The packet's chunks as they print.

@@ -1,6 +1,4 @@
 use bytes::{Bytes, BytesMut};
-use sctp_base::error::Error;
-use sctp_base::util::{CT_FORWARD_TSN, CT_RECONFIG};
 use sctp_params::param::Param;
 use sctp_params::param::param_chunk_list::ParamChunkList;
 use sctp_params::param::param_forward_tsn_supported::ParamForwardTsnSupported;
@@ -18,6 +16,8 @@ use sctp_params::param::param_supported_address_types::ParamSupportedAddressType
 use sctp_params::param::param_supported_extensions::ParamSupportedExtensions;
 use sctp_params::param::param_type::ParamType;
 use sctp_params::param::param_unknown::ParamUnknown;
+use sctp_util::error::Error;
+use sctp_util::util::{CT_FORWARD_TSN, CT_RECONFIG};
 use std::alloc::Global;
 use std::fmt::Display;
 

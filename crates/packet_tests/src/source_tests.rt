@@ -1,6 +1,6 @@
 use bytes::Bytes;
-use sctp_base::error::Result;
-use sctp_base::util::bytes_source::{ByteSlice, BytesArray, BytesSource, constant_time_eq};
+use sctp_util::error::Result;
+use sctp_util::util::bytes_source::{ByteSlice, BytesArray, BytesSource, constant_time_eq};
 use std::alloc::Global;
 use std::test::Fail;
 

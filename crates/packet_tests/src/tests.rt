@@ -1,14 +1,14 @@
 use bytes::{Bytes, BytesMut};
-use sctp_base::error::Error;
-use sctp_base::util::{
-    CT_PAYLOAD_DATA, Checksum, get_padding_size, sna16eq, sna16gt, sna16lt, sna32eq, sna32gt,
-    sna32gte, sna32lt, sna32lte,
-};
 use sctp_chunks::chunk::Chunk;
 use sctp_chunks::chunk::chunk_header::ChunkHeader;
 use sctp_chunks::chunk::chunk_kind::ChunkKind;
 use sctp_chunks::chunk::chunk_payload_data::{ChunkPayloadData, PayloadProtocolIdentifier};
 use sctp_packets::packet::{CommonHeader, Packet};
+use sctp_util::error::Error;
+use sctp_util::util::{
+    CT_PAYLOAD_DATA, Checksum, get_padding_size, sna16eq, sna16gt, sna16lt, sna32eq, sna32gt,
+    sna32gte, sna32lt, sna32lte,
+};
 use std::alloc::Global;
 use std::cell::Cell;
 

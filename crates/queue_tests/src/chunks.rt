@@ -2,10 +2,10 @@
 //! from the order of serial numbers by hand.
 
 use crate::part::{FIRST, LAST, MIDDLE, WHOLE, ordered};
-use sctp_base::error::Error;
 use sctp_chunks::chunk::chunk_payload_data::PayloadProtocolIdentifier;
 use sctp_queues::chunks::{Chunks, Fragments};
 use sctp_queues::fragment::Fragment;
+use sctp_util::error::Error;
 use std::alloc::Global;
 
 // Whether this fragment makes the message whole, or does not.

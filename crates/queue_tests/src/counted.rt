@@ -3,11 +3,11 @@
 
 use crate::chunk::chunk;
 use crate::part::{FIRST, LAST, MIDDLE, WHOLE, ordered, unordered};
-use sctp_base::error::Error;
 use sctp_queues::chunks::Chunks;
 use sctp_queues::payload_queue::PayloadQueue;
 use sctp_queues::reassembly_queue::ReassemblyQueue;
 use sctp_queues::turns::Turns;
+use sctp_util::error::Error;
 use std::alloc::Global;
 
 // Pushes after the cumulative TSN 10 where that is allowed.

@@ -2,9 +2,9 @@
 
 use crate::chunk::chunk;
 use bytes::Bytes;
-use sctp_base::error::Error;
 use sctp_chunks::chunk::chunk_payload_data::{ChunkPayloadData, ReliabilityType};
 use sctp_queues::outbound_queue::{ExpiredRun, OutboundQueue};
+use sctp_util::error::Error;
 use std::alloc::Global;
 
 const MILLISECOND: u64 = 1_000_000;

@@ -1,8 +1,8 @@
 //! Fragments by what they carry and where they stand.
 
 use bytes::Bytes;
-use sctp_base::error::Error;
 use sctp_chunks::chunk::chunk_payload_data::{ChunkPayloadData, PayloadProtocolIdentifier};
+use sctp_util::error::Error;
 use std::alloc::Global;
 
 // What a fragment carries, and where it stands in its message.

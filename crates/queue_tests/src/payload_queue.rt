@@ -1,9 +1,9 @@
 //! Worked examples of a payload queue.
 
 use crate::chunk::chunk;
-use sctp_base::error::Error;
 use sctp_queues::payload_queue::PayloadQueue;
 use sctp_queues::turns::Turns;
+use sctp_util::error::Error;
 use std::alloc::Global;
 
 // Whether these are pushed, where that is allowed; what the pushes answer is left out.

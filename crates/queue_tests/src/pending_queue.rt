@@ -3,9 +3,9 @@
 ghost use Rattle.std.specs.Prelude.{◌≡◌, length};
 
 use crate::chunk::chunk;
-use sctp_base::error::Error;
 use sctp_chunks::chunk::chunk_payload_data::ChunkPayloadData;
 use sctp_queues::pending_queue::PendingQueue;
+use sctp_util::error::Error;
 
 // A chunk of one byte that begins a message.
 fn beginning(message_id: u64, unordered: bool, ending_fragment: bool) -> ChunkPayloadData

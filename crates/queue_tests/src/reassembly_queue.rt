@@ -1,9 +1,9 @@
 //! Worked examples of a reassembly queue. Where sets stand is worked out from the order of serial numbers by hand.
 
 use crate::part::{FIRST, LAST, MIDDLE, Part, WHOLE, chunk, ordered, unordered};
-use sctp_base::error::Error;
 use sctp_queues::chunks::Chunks;
 use sctp_queues::reassembly_queue::ReassemblyQueue;
+use sctp_util::error::Error;
 use std::alloc::Global;
 
 // Whether the message has these bytes.

@@ -3,9 +3,9 @@
 use crate::compare::difference;
 use crate::script::event;
 use crate::told::told_by;
-use sctp_base::util::Checksum;
 use sctp_link::event::{Event, LinkRefusal, Reply};
 use sctp_link::link::Link;
+use sctp_util::util::Checksum;
 use std::alloc::Global;
 
 /// The checksum that is always 0.

@@ -1,10 +1,10 @@
 //! Recorded packets under CRC-32C.
 
 use bytes::Bytes;
-use sctp_base::error::Error;
-use sctp_base::util::Checksum;
 use sctp_packets::checksum::Crc32c;
 use sctp_packets::packet::{Packet, PartialDecode};
+use sctp_util::error::Error;
+use sctp_util::util::Checksum;
 use std::alloc::Global;
 
 /// Four zero bytes are part of each checksum.

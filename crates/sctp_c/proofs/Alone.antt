@@ -3,9 +3,9 @@ use Rattle.std.proofs.Common.{◌≡◌, ℕ, ◌+◌, ◌-◌, ◌<◌, ◌≤�
 use Rattle.std.specs.Prelude.{◌≢◌, ◌*◌, ◌%◌, ◌⊎◌}
 use Rattle.std.proofs.lemmas.List.{drop-take, length-take-le, take-take, get_or-take, nil_from_length, length-drop}
 use Rattle.std.specs.Int.{w16, from_be_bytes}
-use Rattle.sctp_base.specs.Outcome.{OrMemory}
-use Rattle.sctp_base.specs.declared.error.Error.{Error}
-use Rattle.sctp_base.specs.Field.{u16_at}
+use Rattle.sctp_util.specs.Outcome.{OrMemory}
+use Rattle.sctp_util.specs.declared.error.Error.{Error}
+use Rattle.sctp_util.specs.Field.{u16_at}
 use Rattle.sctp_chunks.specs.Fault.{HeaderFault, OpenFault, IsChunk, IsInitChunk, DataFault, SackFault, CausesFault, ShutdownFault}
 use Rattle.sctp_chunks.specs.Fault.{ForwardTsnFault, IForwardTsnFault, InitFault, InfoFault, PairValueFault}
 use Rattle.sctp_chunks.specs.Framing.{IsFramed, type_at, flags_at, value_at, declared_length}

@@ -3,8 +3,8 @@ use Rattle.std.proofs.Common.{◌≡◌, ℕ, ◌+◌, ◌<◌, true, false, Lis
 use Rattle.std.specs.Prelude.{◌⊎◌}
 use Rattle.std.specs.List.{AllByRecursion}
 use Rattle.std.proofs.lemmas.List.{drop-drop}
-use Rattle.sctp_base.specs.Padding.{padded_length}
-use Rattle.sctp_base.specs.Walk.{Walks}
+use Rattle.sctp_util.specs.Padding.{padded_length}
+use Rattle.sctp_util.specs.Walk.{Walks}
 use Rattle.sctp_chunks.specs.Framing.{declared_length, type_at}
 use Rattle.sctp_chunks.specs.Wire.{Wire}
 use Rattle.sctp_packets.specs.Packet.{IsHeaded, Steps, after}

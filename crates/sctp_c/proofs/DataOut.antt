@@ -2,8 +2,8 @@
 use Rattle.std.proofs.Common.{◌≡◌, ℕ, ◌+◌, ◌++◌, ◌∷◌, [], List, length, length-append, drop, refl, ap, sym, ◌∙◌, arith}
 use Rattle.std.specs.Prelude.{replicate}
 use Rattle.std.proofs.lemmas.List.{append_assoc, drop-drop, length-replicate}
-use Rattle.sctp_base.specs.Field.{be16, be32}
-use Rattle.sctp_base.specs.Padding.{padding_of}
+use Rattle.sctp_util.specs.Field.{be16, be32}
+use Rattle.sctp_util.specs.Padding.{padding_of}
 use Rattle.sctp_chunks.specs.Wire.{data_chunk, encoding_of}
 use Rattle.sctp_data.specs.PayloadData.{Data, data_flags, data_value, payload_type_number}
 use Rattle.sctp_c.specs.Out.{at_front, padded}

@@ -1,10 +1,10 @@
 -- A FORWARD-TSN within a buffer's room.
 use Rattle.std.proofs.Common.{◌≡◌, ℕ, ◌+◌, ◌*◌, ◌≤◌, List, length, Option, Some, subst, ap, inl, inr, arith, length-append}
 use Rattle.std.specs.Prelude.{◌⊎◌, min, option_map, IfSome}
-use Rattle.sctp_base.proofs.Fields.{length_be16}
-use Rattle.sctp_base.specs.Field.{be16}
-use Rattle.sctp_base.specs.declared.error.Error.{Error}
-use Rattle.sctp_base.specs.declared.error.Error.TheVariants.{ErrOutOfMemory}
+use Rattle.sctp_util.proofs.Fields.{length_be16}
+use Rattle.sctp_util.specs.Field.{be16}
+use Rattle.sctp_util.specs.declared.error.Error.{Error}
+use Rattle.sctp_util.specs.declared.error.Error.TheVariants.{ErrOutOfMemory}
 use Rattle.sctp_chunks.specs.Check.{EncodingFault}
 use Rattle.sctp_chunks.proofs.Lengths.{length_forward_tsn_value}
 use Rattle.sctp_chunks.specs.Wire.{HasEncoding, encoding_of, forward_tsn_chunk}

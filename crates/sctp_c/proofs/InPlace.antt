@@ -2,11 +2,11 @@
 use Rattle.std.proofs.Common.{◌≡◌, ℕ, ◌+◌, ◌<◌, ◌≤◌, List, [], ◌∷◌, length, refl, sym, subst, ap, ◌∙◌, inl, inr, arith}
 use Rattle.std.specs.Prelude.{◌*◌, map}
 use Rattle.std.specs.List.{AllByRecursion}
-use Rattle.sctp_base.specs.Walk.{Walks}
-use Rattle.sctp_base.proofs.EachAt.{length_each}
-use Rattle.sctp_base.specs.Each.{each}
-use Rattle.sctp_base.specs.Field.{u32_at}
-use Rattle.sctp_base.specs.declared.error.Error.{Error}
+use Rattle.sctp_util.specs.Walk.{Walks}
+use Rattle.sctp_util.proofs.EachAt.{length_each}
+use Rattle.sctp_util.specs.Each.{each}
+use Rattle.sctp_util.specs.Field.{u32_at}
+use Rattle.sctp_util.specs.declared.error.Error.{Error}
 use Rattle.sctp_chunks.specs.Fault.{IsChunk, DataFault, SackFault}
 use Rattle.sctp_chunks.specs.Framing.{type_at, flags_at, value_at}
 use Rattle.sctp_chunks.specs.Kind.{KindFault}

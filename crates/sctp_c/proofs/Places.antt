@@ -2,10 +2,10 @@
 use Rattle.std.proofs.Common.{◌≡◌, ℕ, ◌+◌, ◌-◌, ◌<◌, ◌≤◌, List, [], ◌∷◌, ◌++◌, length, ap, sym, subst, refl, arith, length-append}
 use Rattle.std.specs.Prelude.{zero, suc, drop}
 use Rattle.std.proofs.lemmas.List.{length-drop, drop-drop}
-use Rattle.sctp_base.specs.Field.{u16_at, u32_at}
-use Rattle.sctp_base.specs.Padding.{padded_length}
-use Rattle.sctp_base.specs.Walk.{Walks}
-use Rattle.sctp_base.proofs.Walks.{walks_none, walks_next}
+use Rattle.sctp_util.specs.Field.{u16_at, u32_at}
+use Rattle.sctp_util.specs.Padding.{padded_length}
+use Rattle.sctp_util.specs.Walk.{Walks}
+use Rattle.sctp_util.proofs.Walks.{walks_none, walks_next}
 use Rattle.sctp_chunks.specs.Framing.{declared_length}
 use Rattle.sctp_chunks.specs.Wire.{Wire}
 use Rattle.sctp_packets.specs.Packet.{IsHeaded, Steps, after}

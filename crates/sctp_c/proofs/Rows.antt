@@ -4,8 +4,8 @@ use Rattle.std.specs.Prelude.{◌⊎◌, zero, suc, take, drop, map, min}
 use Rattle.std.proofs.lemmas.Bool.{cases_lt}
 use Rattle.std.proofs.lemmas.List.{drop-append-le, drop_at}
 use Rattle.std.proofs.Math.Seq.{drop-nil, take-nil}
-use Rattle.sctp_base.proofs.EachAt.{length_each}
-use Rattle.sctp_base.specs.Each.{each}
+use Rattle.sctp_util.proofs.EachAt.{length_each}
+use Rattle.sctp_util.specs.Each.{each}
 
 -- what follows an item
 pub drop-tail : {T : Type 0} (i : ℕ) (xs : List T) (x : T) (rest : List T) → drop i xs ≡ x ∷ rest → drop (suc i) xs ≡ rest

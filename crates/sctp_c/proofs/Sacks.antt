@@ -1,10 +1,10 @@
 -- A SACK within a buffer's room can be written.
 use Rattle.std.proofs.Common.{◌≡◌, ℕ, ◌+◌, ◌*◌, ◌<◌, ◌≤◌, List, [], ◌++◌, length, inl, inr, ap, ◌∙◌, arith, length-append}
 use Rattle.std.specs.Prelude.{◌⊎◌, max}
-use Rattle.sctp_base.proofs.Fields.{length_be16}
-use Rattle.sctp_base.specs.Field.{be16}
-use Rattle.sctp_base.specs.declared.error.Error.{Error}
-use Rattle.sctp_base.specs.declared.error.Error.TheVariants.{ErrOutOfMemory}
+use Rattle.sctp_util.proofs.Fields.{length_be16}
+use Rattle.sctp_util.specs.Field.{be16}
+use Rattle.sctp_util.specs.declared.error.Error.{Error}
+use Rattle.sctp_util.specs.declared.error.Error.TheVariants.{ErrOutOfMemory}
 use Rattle.sctp_chunks.proofs.Lengths.{length_sack_value}
 use Rattle.sctp_chunks.specs.Check.{EncodingFault}
 use Rattle.sctp_chunks.specs.Wire.{HasEncoding, encoding_of, sack_chunk}

@@ -1,13 +1,13 @@
 -- What the strict reading of a packet reads, the reading past unknown chunks reads too.
 use Rattle.std.proofs.Common.{◌≡◌, ℕ, ◌+◌, ◌≤◌, Bool, true, false, List, [], ◌∷◌, length, refl, sym, subst, ap, ◌∙◌, inl, inr, drop}
 use Rattle.std.proofs.lemmas.Bool.{false≢true}
-use Rattle.sctp_base.specs.declared.error.Error.{Error}
-use Rattle.sctp_base.specs.declared.error.Error.TheVariants.{ErrUnmarshalUnknownChunkType}
+use Rattle.sctp_util.specs.declared.error.Error.{Error}
+use Rattle.sctp_util.specs.declared.error.Error.TheVariants.{ErrUnmarshalUnknownChunkType}
 use Rattle.sctp_chunks.specs.Kind.{KindFault}
 use Rattle.std.specs.Prelude.{not, ◌&&◌, nat_lt}
 use Rattle.std.proofs.lemmas.List.{drop-drop}
-use Rattle.sctp_base.specs.Padding.{padded_length}
-use Rattle.sctp_base.specs.Walk.{Walks}
+use Rattle.sctp_util.specs.Padding.{padded_length}
+use Rattle.sctp_util.specs.Walk.{Walks}
 use Rattle.sctp_chunks.specs.Framing.{declared_length, type_at}
 use Rattle.sctp_chunks.specs.Init.{ack_type}
 use Rattle.sctp_chunks.specs.Wire.{Wire, data_chunk, init_chunk, sack_chunk, heartbeat_chunk, heartbeat_ack_chunk, abort_chunk, shutdown_chunk}

@@ -1,7 +1,7 @@
 -- Chunks that are written.
 use Rattle.std.proofs.Common.{◌≡◌, ℕ, List, ap}
 use Rattle.std.specs.Prelude.{Result, Ok, Err, IfOk}
-use Rattle.sctp_base.specs.declared.error.Error.{Error}
+use Rattle.sctp_util.specs.declared.error.Error.{Error}
 use Rattle.sctp_chunks.specs.Framing.{chunk_encoding}
 use Rattle.sctp_chunks.specs.Wire.{Wire, ReadsChunk, encoding_of, type_of, value_of}
 use Rattle.sctp_c.specs.Out.{padded}

@@ -1,6 +1,6 @@
 -- What a caller in C is told of chunks and parameters: their fields as plain numbers, and lists by their lengths.
 use Rattle.std.specs.Prelude.{◌≡◌, ℕ, ◌-◌, min, List, length, map}
-use Rattle.sctp_base.specs.Padding.{padded_length}
+use Rattle.sctp_util.specs.Padding.{padded_length}
 use Rattle.sctp_params.specs.Param.{Parameter, param_number_of}
 use Rattle.sctp_params.specs.ParamFraming.{param_declared_length}
 use Rattle.sctp_params.specs.ParamKind.{ReadsParam}

@@ -1,8 +1,8 @@
 -- Packets that may have chunks of types that are not read, as RFC 4960 3.2 has a receiver take them.
 use Rattle.std.specs.Prelude.{◌≡◌, ◌⊎◌, ℕ, ◌+◌, ◌%◌, ◌<◌, ◌≤◌, Bool, true, false, not, ◌&&◌, ◌||◌, ◌==◌, nat_lt, nat_le, List, [], ◌∷◌, ◌++◌, length, drop}
-use Rattle.sctp_base.specs.declared.error.Error.{Error}
-use Rattle.sctp_base.specs.declared.error.Error.TheVariants.{ErrParseSctpChunkNotEnoughData}
-use Rattle.sctp_base.specs.Padding.{padded_length}
+use Rattle.sctp_util.specs.declared.error.Error.{Error}
+use Rattle.sctp_util.specs.declared.error.Error.TheVariants.{ErrParseSctpChunkNotEnoughData}
+use Rattle.sctp_util.specs.Padding.{padded_length}
 use Rattle.sctp_chunks.specs.Fault.{HeaderFault}
 use Rattle.sctp_chunks.specs.Framing.{IsFramed, type_at, flags_at, declared_length}
 use Rattle.sctp_chunks.specs.Kind.{KindFault}

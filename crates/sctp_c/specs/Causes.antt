@@ -1,7 +1,7 @@
 -- Error causes as a caller in C reads and writes them (RFC 4960 3.3.10).
 use Rattle.std.specs.Prelude.{◌≡◌, ℕ, ◌-◌, min, List, length}
-use Rattle.sctp_base.specs.Field.{u16_at}
-use Rattle.sctp_base.specs.Padding.{padded_length}
+use Rattle.sctp_util.specs.Field.{u16_at}
+use Rattle.sctp_util.specs.Padding.{padded_length}
 use Rattle.sctp_chunks.specs.declared.chunk.error_cause.ErrorCause.{ErrorCause}
 use Rattle.sctp_chunks.specs.ErrorCause.{IsCause, HasCauseEncoding, cause_declared_length, cause_encoding}
 use Rattle.sctp_c.specs.Out.{padded}

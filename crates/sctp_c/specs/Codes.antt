@@ -1,24 +1,24 @@
 -- The numbers and the names of what a call of the library for C answers. Under 16 the call was done, from 16 on it was refused. A number
 -- or a name that was given out never changes: new ones follow the last.
 use Rattle.std.specs.Prelude.{ℕ}
-use Rattle.sctp_base.specs.declared.error.Error.{Error}
-use Rattle.sctp_base.specs.declared.error.Error.TheVariants.{ErrPacketRawTooSmall, ErrChecksumMismatch, ErrParseSctpChunkNotEnoughData}
-use Rattle.sctp_base.specs.declared.error.Error.TheVariants.{ErrUnmarshalUnknownChunkType, ErrSctpPacketSourcePortZero, ErrSctpPacketDestinationPortZero}
-use Rattle.sctp_base.specs.declared.error.Error.TheVariants.{ErrInitChunkBundled, ErrInitChunkVerifyTagNotZero, ErrChunkHeaderTooSmall}
-use Rattle.sctp_base.specs.declared.error.Error.TheVariants.{ErrChunkHeaderInvalidLength, ErrChunkHeaderNotEnoughSpace, ErrChunkHeaderPaddingNonZero}
-use Rattle.sctp_base.specs.declared.error.Error.TheVariants.{ErrChunkTypeNotAbort, ErrChunkTypeNotCookieAck, ErrChunkTypeNotCookieEcho, ErrChunkTypeNotCt}
-use Rattle.sctp_base.specs.declared.error.Error.TheVariants.{ErrChunkTypeNotForwardTsn, ErrChunkTypeNotHeartbeat, ErrChunkTypeNotHeartbeatAck}
-use Rattle.sctp_base.specs.declared.error.Error.TheVariants.{ErrChunkTypeNotTypeInit, ErrChunkTypeNotPayloadData, ErrChunkTypeNotReconfig, ErrChunkTypeNotSack}
-use Rattle.sctp_base.specs.declared.error.Error.TheVariants.{ErrChunkTypeNotShutdown, ErrChunkTypeNotShutdownAck, ErrChunkTypeNotShutdownComplete}
-use Rattle.sctp_base.specs.declared.error.Error.TheVariants.{ErrChunkTooShort, ErrChunkPayloadSmall, ErrChunkValueNotLongEnough, ErrChunkTypeInitFlagZero}
-use Rattle.sctp_base.specs.declared.error.Error.TheVariants.{ErrChunkTypeInitInitiateTagZero, ErrInitInboundStreamRequestZero, ErrInitOutboundStreamRequestZero}
-use Rattle.sctp_base.specs.declared.error.Error.TheVariants.{ErrInitAdvertisedReceiver1500, ErrHeartbeatNotLongEnoughInfo, ErrHeartbeatParam}
-use Rattle.sctp_base.specs.declared.error.Error.TheVariants.{ErrHeartbeatAckParams, ErrHeartbeatAckNotHeartbeatInfo, ErrChunkReconfigInvalidParamA}
-use Rattle.sctp_base.specs.declared.error.Error.TheVariants.{ErrChunkReconfigInvalidParamCombination, ErrSackSizeNotLargeEnoughInfo, ErrInvalidChunkSize}
-use Rattle.sctp_base.specs.declared.error.Error.TheVariants.{ErrErrorCauseTooSmall, ErrParamHeaderTooShort, ErrParamTypeUnhandled, ErrParamTypeUnexpected}
-use Rattle.sctp_base.specs.declared.error.Error.TheVariants.{ErrSsnResetRequestParamTooShort, ErrSsnResetRequestParamInvalidLength}
-use Rattle.sctp_base.specs.declared.error.Error.TheVariants.{ErrReconfigRespParamTooShort, ErrInvalidAlgorithmType, ErrSupportedAddressTypesParamInvalidLength}
-use Rattle.sctp_base.specs.declared.error.Error.TheVariants.{ErrInboundPacketTooLarge, ErrShortBuffer, ErrLengthTooLarge, ErrOutOfMemory}
+use Rattle.sctp_util.specs.declared.error.Error.{Error}
+use Rattle.sctp_util.specs.declared.error.Error.TheVariants.{ErrPacketRawTooSmall, ErrChecksumMismatch, ErrParseSctpChunkNotEnoughData}
+use Rattle.sctp_util.specs.declared.error.Error.TheVariants.{ErrUnmarshalUnknownChunkType, ErrSctpPacketSourcePortZero, ErrSctpPacketDestinationPortZero}
+use Rattle.sctp_util.specs.declared.error.Error.TheVariants.{ErrInitChunkBundled, ErrInitChunkVerifyTagNotZero, ErrChunkHeaderTooSmall}
+use Rattle.sctp_util.specs.declared.error.Error.TheVariants.{ErrChunkHeaderInvalidLength, ErrChunkHeaderNotEnoughSpace, ErrChunkHeaderPaddingNonZero}
+use Rattle.sctp_util.specs.declared.error.Error.TheVariants.{ErrChunkTypeNotAbort, ErrChunkTypeNotCookieAck, ErrChunkTypeNotCookieEcho, ErrChunkTypeNotCt}
+use Rattle.sctp_util.specs.declared.error.Error.TheVariants.{ErrChunkTypeNotForwardTsn, ErrChunkTypeNotHeartbeat, ErrChunkTypeNotHeartbeatAck}
+use Rattle.sctp_util.specs.declared.error.Error.TheVariants.{ErrChunkTypeNotTypeInit, ErrChunkTypeNotPayloadData, ErrChunkTypeNotReconfig, ErrChunkTypeNotSack}
+use Rattle.sctp_util.specs.declared.error.Error.TheVariants.{ErrChunkTypeNotShutdown, ErrChunkTypeNotShutdownAck, ErrChunkTypeNotShutdownComplete}
+use Rattle.sctp_util.specs.declared.error.Error.TheVariants.{ErrChunkTooShort, ErrChunkPayloadSmall, ErrChunkValueNotLongEnough, ErrChunkTypeInitFlagZero}
+use Rattle.sctp_util.specs.declared.error.Error.TheVariants.{ErrChunkTypeInitInitiateTagZero, ErrInitInboundStreamRequestZero, ErrInitOutboundStreamRequestZero}
+use Rattle.sctp_util.specs.declared.error.Error.TheVariants.{ErrInitAdvertisedReceiver1500, ErrHeartbeatNotLongEnoughInfo, ErrHeartbeatParam}
+use Rattle.sctp_util.specs.declared.error.Error.TheVariants.{ErrHeartbeatAckParams, ErrHeartbeatAckNotHeartbeatInfo, ErrChunkReconfigInvalidParamA}
+use Rattle.sctp_util.specs.declared.error.Error.TheVariants.{ErrChunkReconfigInvalidParamCombination, ErrSackSizeNotLargeEnoughInfo, ErrInvalidChunkSize}
+use Rattle.sctp_util.specs.declared.error.Error.TheVariants.{ErrErrorCauseTooSmall, ErrParamHeaderTooShort, ErrParamTypeUnhandled, ErrParamTypeUnexpected}
+use Rattle.sctp_util.specs.declared.error.Error.TheVariants.{ErrSsnResetRequestParamTooShort, ErrSsnResetRequestParamInvalidLength}
+use Rattle.sctp_util.specs.declared.error.Error.TheVariants.{ErrReconfigRespParamTooShort, ErrInvalidAlgorithmType, ErrSupportedAddressTypesParamInvalidLength}
+use Rattle.sctp_util.specs.declared.error.Error.TheVariants.{ErrInboundPacketTooLarge, ErrShortBuffer, ErrLengthTooLarge, ErrOutOfMemory}
 use Rattle.sctp_receiver.specs.declared.receiver.refusal.ReceiverRefusal.{ReceiverRefusal}
 use Rattle.sctp_receiver.specs.declared.receiver.refusal.ReceiverRefusal.TheVariants as receiver
 use Rattle.sctp_sender.specs.declared.sender.refusal.SenderRefusal.{SenderRefusal}

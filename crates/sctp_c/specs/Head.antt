@@ -1,9 +1,9 @@
 -- Packets as a caller in C sees them: a header, and where the chunks lie.
 use Rattle.std.specs.Prelude.{◌≡◌, ℕ, zero, suc, ◌+◌, ◌≤◌, List, [], ◌∷◌, ◌++◌, length, drop}
 use Rattle.crc32c.specs.Castagnoli.{crc32c_of}
-use Rattle.sctp_base.specs.Field.{le32, u16_at, u32_at}
-use Rattle.sctp_base.specs.Padding.{padded_length, four_zeroes}
-use Rattle.sctp_base.specs.Walk.{Walks}
+use Rattle.sctp_util.specs.Field.{le32, u16_at, u32_at}
+use Rattle.sctp_util.specs.Padding.{padded_length, four_zeroes}
+use Rattle.sctp_util.specs.Walk.{Walks}
 use Rattle.sctp_chunks.specs.Framing.{type_at, flags_at, declared_length}
 use Rattle.sctp_chunks.specs.Wire.{Wire, data_chunk, sack_chunk}
 use Rattle.sctp_packets.specs.Packet.{Parts, ReadsPacket, Steps, after, head_encoding}

@@ -1,6 +1,6 @@
 -- What a call writes into a caller's memory.
 use Rattle.std.specs.Prelude.{◌≡◌, ℕ, ◌<◌, List, ◌++◌, length, take, drop, replicate}
-use Rattle.sctp_base.specs.Padding.{padding_of}
+use Rattle.sctp_util.specs.Padding.{padding_of}
 
 -- bytes, and zeros behind them up to a multiple of four
 unfoldable pub padded : List ℕ → List ℕ

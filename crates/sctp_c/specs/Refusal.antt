@@ -1,7 +1,7 @@
 -- Why a call refused bytes.
 use Rattle.std.specs.Prelude.{◌≡◌, ℕ}
-use Rattle.sctp_base.specs.declared.error.Error.{Error}
-use Rattle.sctp_base.specs.Outcome.{OrMemory}
+use Rattle.sctp_util.specs.declared.error.Error.{Error}
+use Rattle.sctp_util.specs.Outcome.{OrMemory}
 use Rattle.sctp_c.specs.Codes.{error_code}
 
 -- the code is that of an error with a fault behind it, or of memory that ran out

@@ -1,8 +1,8 @@
 -- What is written for a caller in C, and why it is not.
 use Rattle.std.specs.Prelude.{◌≡◌, ℕ, ◌<◌, ◌⊎◌, ◌==◌, if◌then◌else◌, List, ◌++◌, length}
-use Rattle.sctp_base.specs.declared.error.Error.{Error}
-use Rattle.sctp_base.specs.declared.error.Error.TheVariants.{ErrLengthTooLarge}
-use Rattle.sctp_base.specs.Field.{be16, be32}
+use Rattle.sctp_util.specs.declared.error.Error.{Error}
+use Rattle.sctp_util.specs.declared.error.Error.TheVariants.{ErrLengthTooLarge}
+use Rattle.sctp_util.specs.Field.{be16, be32}
 use Rattle.sctp_params.specs.Param.{Parameter}
 use Rattle.sctp_params.specs.ParamFraming.{param_framed}
 use Rattle.sctp_params.specs.ParamKind.{ReadsParam, ParamFault}

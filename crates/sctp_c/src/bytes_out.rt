@@ -4,7 +4,7 @@ ghost use Rattle.std.specs.Prelude.{◌≡◌, ◌≢◌, ◌<◌, length};
 ghost use Rattle.sctp_c.specs.Out.{padded, at_front};
 
 use crate::code::{SCTP_OK, SCTP_SHORT_BUFFER};
-use sctp_base::util::get_padding_size;
+use sctp_util::util::get_padding_size;
 
 /// Writes bytes at the front of the buffer, and zeros behind them up to a multiple of four. `written` becomes how many that is. Refuses
 /// with `SCTP_SHORT_BUFFER` where the buffer is shorter, and writes nothing into it.

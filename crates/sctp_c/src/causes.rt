@@ -1,8 +1,8 @@
 //! Error causes, which ABORT and ERROR carry (RFC 4960 3.3.10).
 
 ghost use Rattle.std.specs.Prelude.{◌≡◌, ◌≢◌, ◌⊎◌, ◌<◌, IfOk, IfErr, IsOkUnless, length};
-ghost use Rattle.sctp_base.specs.Outcome.{OrMemory};
-ghost use Rattle.sctp_base.specs.declared.error.Error.TheVariants.{ErrErrorCauseTooSmall, ErrLengthTooLarge, ErrOutOfMemory};
+ghost use Rattle.sctp_util.specs.Outcome.{OrMemory};
+ghost use Rattle.sctp_util.specs.declared.error.Error.TheVariants.{ErrErrorCauseTooSmall, ErrLengthTooLarge, ErrOutOfMemory};
 ghost use Rattle.sctp_chunks.specs.ErrorCause.{IsCause, ReadsCause};
 ghost use Rattle.sctp_c.specs.Causes.{IsPaddedCause, TellsCause};
 ghost use Rattle.sctp_c.specs.Out.{padded, IsWritten, IsTooShort};
@@ -10,10 +10,10 @@ ghost use Rattle.sctp_c.specs.Out.{padded, IsWritten, IsTooShort};
 use crate::bytes_out::put_padded;
 use crate::code::{SCTP_OK, of_error};
 use bytes::Bytes;
-use sctp_base::error::Result;
-use sctp_base::field::read_u16;
-use sctp_base::util::get_padding_size;
 use sctp_chunks::chunk::error_cause::{ErrorCause, ErrorCauseCode};
+use sctp_util::error::Result;
+use sctp_util::field::read_u16;
+use sctp_util::util::get_padding_size;
 use std::alloc::Global;
 
 /// A cause: its value is `length` bytes from byte 4 on, and the next one begins at byte `next` (RFC 4960 3.3.10).

@@ -2,12 +2,12 @@
 //! follow the last.
 
 ghost use Rattle.std.specs.Prelude.{◌≡◌, ◌≢◌, ◌≤◌};
-ghost use Rattle.sctp_base.specs.declared.error.Error.TheVariants.{ErrOutOfMemory};
+ghost use Rattle.sctp_util.specs.declared.error.Error.TheVariants.{ErrOutOfMemory};
 ghost use Rattle.sctp_c.specs.Codes.{error_code, sender_code, receiver_code};
 
-use sctp_base::error::Error;
 use sctp_receiver::receiver::refusal::ReceiverRefusal;
 use sctp_sender::sender::refusal::SenderRefusal;
+use sctp_util::error::Error;
 
 /// Done.
 pub const SCTP_OK: u32 = 0;

@@ -1,20 +1,20 @@
 //! DATA chunks that go out into a caller's buffer (RFC 4960 3.3.1), each byte of user data copied once.
 
 ghost use Rattle.std.specs.Prelude.{◌≡◌, ◌+◌, ◌≤◌, ◌<◌, ◌++◌, ◌∷◌, [], length, replicate, Some, None, IfSome};
-ghost use Rattle.sctp_base.specs.Field.{be16, be32};
+ghost use Rattle.sctp_util.specs.Field.{be16, be32};
 ghost use Rattle.sctp_c.specs.Out.{padded, at_front};
 ghost use Rattle.sctp_chunks.specs.Wire.{data_chunk, encoding_of};
 ghost use Rattle.sctp_data.specs.PayloadData.{data_flags, data_of, payload_type_number};
 
-use sctp_base::util::get_padding_size;
 use sctp_chunks::chunk::Chunk;
 use sctp_data::chunk::chunk_payload_data::ChunkPayloadData;
+use sctp_util::util::get_padding_size;
 
 // The header of a DATA chunk and the numbers before its user data.
 const HEAD: usize = 16;
 
 /// How many bytes a DATA chunk takes with its padding; None where its length is past 65,535.
-#[tactic(auto, unfolding(crate::specs::Out::padded, sctp_data::specs::PayloadData::data_value, sctp_base::specs::Field::be16, sctp_base::specs::Field::be32))]
+#[tactic(auto, unfolding(crate::specs::Out::padded, sctp_data::specs::PayloadData::data_value, sctp_util::specs::Field::be16, sctp_util::specs::Field::be32))]
 pub fn data_size(chunk: &ChunkPayloadData) -> Option<usize>
     ensures some { IfSome result (λ n. n ≡ length (padded (encoding_of (data_chunk (data_of chunk.now))))) }
     ensures short { IfSome result (λ _. length chunk.now.user_data ≤ 65519) }
@@ -28,7 +28,7 @@ pub fn data_size(chunk: &ChunkPayloadData) -> Option<usize>
 }
 
 // What stands before the user data.
-#[tactic(auto, unfolding(sctp_base::specs::Field::be16, sctp_base::specs::Field::be32))]
+#[tactic(auto, unfolding(sctp_util::specs::Field::be16, sctp_util::specs::Field::be32))]
 fn put_head(place: &mut [u8], chunk: &ChunkPayloadData)
     requires place { length place.old ≡ 16 }
     requires short { length chunk.now.user_data ≤ 65519 }

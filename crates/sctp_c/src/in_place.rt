@@ -1,11 +1,11 @@
 //! Chunks read where they lie (RFC 4960 3.2): DATA and SACK without a copy, another kind over a copy of its chunk alone.
 
 ghost use Rattle.std.specs.Prelude.{◌≡◌, ◌+◌, ◌*◌, ◌≤◌, ◌<◌, length, IfOk, IfErr, OnOk, IsOk, IsOkUnless};
-ghost use Rattle.sctp_base.specs.Each.{each};
-ghost use Rattle.sctp_base.specs.Field.{u32_at};
-ghost use Rattle.sctp_base.specs.Outcome.{OrMemory};
-ghost use Rattle.sctp_base.specs.Padding.{padded_length};
-ghost use Rattle.sctp_base.specs.declared.error.Error.TheVariants.{ErrOutOfMemory, ErrParseSctpChunkNotEnoughData};
+ghost use Rattle.sctp_util.specs.Each.{each};
+ghost use Rattle.sctp_util.specs.Field.{u32_at};
+ghost use Rattle.sctp_util.specs.Outcome.{OrMemory};
+ghost use Rattle.sctp_util.specs.Padding.{padded_length};
+ghost use Rattle.sctp_util.specs.declared.error.Error.TheVariants.{ErrOutOfMemory, ErrParseSctpChunkNotEnoughData};
 ghost use Rattle.sctp_chunks.specs.Fault.{DataFault, HeaderFault, IsChunk, OpenFault, SackFault};
 ghost use Rattle.sctp_chunks.specs.Framing.{IsFramed, declared_length, value_at};
 ghost use Rattle.sctp_chunks.specs.Kind.{KindFault};
@@ -17,9 +17,6 @@ ghost use Rattle.sctp_c.specs.Head.{IsInPlace};
 ghost use Rattle.sctp_data.specs.SelectiveAck.{block_at, blocks_in, duplicates_in, sack_of};
 
 use bytes::Bytes;
-use sctp_base::error::{Error, Result};
-use sctp_base::field::{read_u16, read_u32};
-use sctp_base::util::{CT_PAYLOAD_DATA, CT_SACK, ChunkType, get_padding_size};
 use sctp_chunks::chunk::Chunk;
 use sctp_chunks::chunk::chunk_header::CHUNK_HEADER_SIZE;
 use sctp_chunks::chunk::chunk_kind::ChunkKind;
@@ -30,6 +27,9 @@ use sctp_chunks::chunk::chunk_payload_data::{
 use sctp_chunks::chunk::chunk_selective_ack::{
     ChunkSelectiveAck, GapAckBlock, SELECTIVE_ACK_HEADER_SIZE,
 };
+use sctp_util::error::{Error, Result};
+use sctp_util::field::{read_u16, read_u32};
+use sctp_util::util::{CT_PAYLOAD_DATA, CT_SACK, ChunkType, get_padding_size};
 use std::alloc::Global;
 
 /// Whether a chunk of a type is read.
@@ -148,7 +148,7 @@ pub fn read_data(alloc: Global, bytes: &[u8]) -> Result<ChunkPayloadData>
 }
 
 // The gap ack blocks in the value of a SACK that has so many. Refuses only for memory.
-#[tactic(auto, using(sctp_base::proofs::EachAt::each_none, sctp_base::proofs::EachAt::each_next))]
+#[tactic(auto, using(sctp_util::proofs::EachAt::each_none, sctp_util::proofs::EachAt::each_next))]
 fn read_gaps(alloc: Global, value: &[u8], count: usize) -> Result<Vec<GapAckBlock>>
     requires { 12 + 4 * count ≤ length value.now }
     ensures ok { IfOk result (λ v. v.items ≡ each count (λ i. block_at value.now (12 + 4 * i))) }
@@ -164,7 +164,7 @@ fn read_gaps(alloc: Global, value: &[u8], count: usize) -> Result<Vec<GapAckBloc
 }
 
 // So many numbers of four bytes, from a place on. Refuses only for memory.
-#[tactic(auto, using(sctp_base::proofs::EachAt::each_none, sctp_base::proofs::EachAt::each_next))]
+#[tactic(auto, using(sctp_util::proofs::EachAt::each_none, sctp_util::proofs::EachAt::each_next))]
 fn read_numbers(alloc: Global, bytes: &[u8], at: usize, count: usize) -> Result<Vec<u32>>
     requires { at + 4 * count ≤ length bytes.now }
     ensures ok { IfOk result (λ v. v.items ≡ each count (λ i. u32_at bytes.now (at + 4 * i))) }

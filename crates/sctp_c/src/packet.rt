@@ -3,11 +3,11 @@
 ghost use Rattle.std.specs.Prelude.{◌≡◌, ◌≢◌, ◌+◌, ◌≤◌, ◌<◌, ◌++◌, [], List, length, take, drop, IfOk, IfErr, OnOk, IsOk, IsOkUnless};
 ghost use Rattle.std.specs.List.{AllByRecursion};
 ghost use Rattle.crc32c.specs.Castagnoli.{crc32c_of};
-ghost use Rattle.sctp_base.specs.Field.{le32};
-ghost use Rattle.sctp_base.specs.Padding.{four_zeroes, padded_length};
-ghost use Rattle.sctp_base.specs.Outcome.{OrMemory};
-ghost use Rattle.sctp_base.specs.Walk.{Walks};
-ghost use Rattle.sctp_base.specs.declared.error.Error.TheVariants.{ErrOutOfMemory};
+ghost use Rattle.sctp_util.specs.Field.{le32};
+ghost use Rattle.sctp_util.specs.Padding.{four_zeroes, padded_length};
+ghost use Rattle.sctp_util.specs.Outcome.{OrMemory};
+ghost use Rattle.sctp_util.specs.Walk.{Walks};
+ghost use Rattle.sctp_util.specs.declared.error.Error.TheVariants.{ErrOutOfMemory};
 ghost use Rattle.sctp_chunks.specs.Framing.{declared_length};
 ghost use Rattle.sctp_chunks.specs.Wire.{Wire};
 ghost use Rattle.sctp_packets.specs.Fault.{HeadFault, PacketFault, PlaceFault, WalkFault};
@@ -21,12 +21,12 @@ pub mod any;
 
 use crate::code::{SCTP_OK, SCTP_SHORT_BUFFER, of_error};
 use crate::in_place::{padded_span, read_length};
-use sctp_base::error::{Error, Result};
-use sctp_base::field::{read_u16, read_u32, read_u32_le, u32_le_bytes};
-use sctp_base::util::{Checksum, get_padding_size};
 use sctp_chunks::chunk::chunk_header::CHUNK_HEADER_SIZE;
 use sctp_packets::checksum::Crc32c;
 use sctp_packets::packet::PACKET_HEADER_SIZE;
+use sctp_util::error::{Error, Result};
+use sctp_util::field::{read_u16, read_u32, read_u32_le, u32_le_bytes};
+use sctp_util::util::{Checksum, get_padding_size};
 use std::alloc::Global;
 
 /// A packet's header but for the checksum.
@@ -248,7 +248,7 @@ pub extern "C" fn sctp_read_packet_with_sum(
 }
 
 // Writes a header up to the checksum.
-#[tactic(auto, unfolding(sctp_packets::specs::Packet::head_encoding, sctp_base::specs::Field::be16, sctp_base::specs::Field::be32))]
+#[tactic(auto, unfolding(sctp_packets::specs::Packet::head_encoding, sctp_util::specs::Field::be16, sctp_util::specs::Field::be32))]
 fn put_head(place: &mut [u8], head: &SctpHead)
     requires { length place.old ≡ 8 }
     ensures { place.new ≡ head_bytes head.now }

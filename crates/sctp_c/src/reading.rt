@@ -1,9 +1,9 @@
 //! Chunks and parameters that came, as numbers.
 
 ghost use Rattle.std.specs.Prelude.{◌≡◌, ◌≢◌, ◌+◌, ◌*◌, ◌≤◌, ℕ, length, map, IfOk, IfErr};
-ghost use Rattle.sctp_base.specs.Each.{each};
-ghost use Rattle.sctp_base.specs.Field.{u32_at};
-ghost use Rattle.sctp_base.specs.Outcome.{OrMemory, GivesUnlessMemory};
+ghost use Rattle.sctp_util.specs.Each.{each};
+ghost use Rattle.sctp_util.specs.Field.{u32_at};
+ghost use Rattle.sctp_util.specs.Outcome.{OrMemory, GivesUnlessMemory};
 ghost use Rattle.sctp_params.specs.Param.{Parameter};
 ghost use Rattle.sctp_params.specs.ParamKind.{ReadsParam, ParamFault, parameter_of};
 ghost use Rattle.sctp_chunks.specs.Fault.{DataFault, SackFault, ForwardTsnFault, InitFault, ShutdownFault};
@@ -19,9 +19,6 @@ ghost use Rattle.sctp_c.specs.Answered.{IsData, IsSack, IsForwardTsn, IsInit, Is
 use crate::code::{SCTP_OK, of_error};
 use crate::in_place::{data_value, sack_value};
 use bytes::Bytes;
-use sctp_base::error::Result;
-use sctp_base::field::{read_u16, read_u32};
-use sctp_base::util::get_padding_size;
 use sctp_chunks::chunk::Chunk;
 use sctp_chunks::chunk::chunk_forward_tsn::{ChunkForwardTsn, ChunkForwardTsnStream};
 use sctp_chunks::chunk::chunk_init::ChunkInit;
@@ -33,6 +30,9 @@ use sctp_chunks::chunk::chunk_payload_data::{
 use sctp_chunks::chunk::chunk_selective_ack::SELECTIVE_ACK_HEADER_SIZE;
 use sctp_chunks::chunk::chunk_shutdown::ChunkShutdown;
 use sctp_params::param::param_kind::{ParamKind, build_param};
+use sctp_util::error::Result;
+use sctp_util::field::{read_u16, read_u32};
+use sctp_util::util::get_padding_size;
 use std::alloc::Global;
 
 /// A DATA chunk but for its user data, which are `length` bytes from byte 16 of the chunk on (RFC 4960 3.3.1). The flags are 0 or 1.

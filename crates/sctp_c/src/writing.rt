@@ -1,8 +1,8 @@
 //! Chunks and parameters that go out, into a caller's buffer.
 
 ghost use Rattle.std.specs.Prelude.{◌≡◌, ◌≢◌, ◌+◌, ◌^◌, ◌<◌, length, IfOk, IfErr, IsOkUnless};
-ghost use Rattle.sctp_base.specs.declared.error.Error.TheVariants.{ErrLengthTooLarge, ErrOutOfMemory};
-ghost use Rattle.sctp_base.specs.Outcome.{OrMemory};
+ghost use Rattle.sctp_util.specs.declared.error.Error.TheVariants.{ErrLengthTooLarge, ErrOutOfMemory};
+ghost use Rattle.sctp_util.specs.Outcome.{OrMemory};
 ghost use Rattle.sctp_params.specs.Param.{Parameter};
 ghost use Rattle.sctp_params.specs.ParamFraming.{param_framed};
 ghost use Rattle.sctp_params.specs.ParamKind.{ReadsParam};
@@ -17,12 +17,12 @@ use crate::bytes_out::put_padded;
 use crate::code::of_error;
 use crate::reading::SctpInit;
 use bytes::{Bytes, BytesMut};
-use sctp_base::error::{Error, Result};
-use sctp_base::field::{put_u16, put_u32};
 use sctp_chunks::chunk::chunk_header::put_header;
 use sctp_chunks::chunk::chunk_kind::ChunkKind;
 use sctp_chunks::chunk::{Chunk, ChunkType};
 use sctp_params::param::param_kind::build_param;
+use sctp_util::error::{Error, Result};
+use sctp_util::field::{put_u16, put_u32};
 use std::alloc::Global;
 
 // A header, and the value behind it.
@@ -199,7 +199,7 @@ pub extern "C" fn sctp_write_init(
     }
 }
 
-#[tactic(auto, unfolding(sctp_base::specs::Field::be16))]
+#[tactic(auto, unfolding(sctp_util::specs::Field::be16))]
 fn framed_param(alloc: Global, typ: u16, value: &[u8]) -> Result<Bytes>
     ensures ok { IfOk result (λ b. b ≡ param_framed typ value.now) }
     ensures short { IfOk result (λ _. 4 + length value.now < 2 ^ 16) }

@@ -7,7 +7,7 @@ use Rattle.std.proofs.lemmas.Bool.{cases_lt}
 use Rattle.std.proofs.lemmas.List.{append-nil, take-append-le, length-drop, length-append, nil_from_length}
 use Rattle.std.proofs.Math.ListN.{drop_of_length-le}
 use lib.Seq.{drop-append-le}
-use Rattle.sctp_base.specs.Field.{u32_at, u32_le_at}
+use Rattle.sctp_util.specs.Field.{u32_at, u32_le_at}
 use Rattle.sctp_capture.specs.declared.record.Order.{Order}
 use Rattle.sctp_capture.specs.declared.record.Order.TheVariants.{Big, Little}
 use Rattle.sctp_capture.specs.declared.record.Head.{Head}

@@ -1,7 +1,7 @@
 -- Which parts of a frame its headers rule out.
 use Rattle.std.proofs.Common.{◌≡◌, ℕ, ◌+◌, ◌/◌, ◌<◌, ◌≤◌, ◌⊎◌, inl, inr, List, length, Result, Ok, Err, IfErr, arith}
 use Rattle.std.specs.Prelude.{slice_index, ◌≢◌}
-use Rattle.sctp_base.specs.Field.{u16_at}
+use Rattle.sctp_util.specs.Field.{u16_at}
 use Rattle.std.proofs.lemmas.Bool.{cases_order}
 use Rattle.sctp_capture.specs.Frame.{InUdp, IsCarried, IsIpv4Payload, IsIpv6Payload, IsIpPayload, IsTypePlace, IsMplsPlace, IsNetworkPlace, IsEthernetPlace}
 use Rattle.sctp_capture.specs.Frame.{IsRawIp, IsPlace, InFrame}

@@ -9,7 +9,7 @@ use Rattle.sctp_capture.specs.declared.input.Format.TheVariants.{Lines, Capture,
 use Rattle.sctp_capture.specs.Window.{Drops}
 use Rattle.sctp_capture.specs.Record.{IsHead}
 use Rattle.sctp_capture.specs.Blocks.{IsBlocks}
-use Rattle.sctp_base.specs.Field.{u32_at}
+use Rattle.sctp_util.specs.Field.{u32_at}
 use Rattle.sctp_capture.specs.Kind.{kind_by, IsNoOther}
 use Rattle.sctp_capture.specs.Input.{IsOpened}
 use Rattle.sctp_capture.proofs.Entries.{number_more}

@@ -2,7 +2,7 @@
 use Rattle.std.proofs.Common.{◌≡◌, ℕ, ◌+◌, ◌-◌, ◌<◌, ◌≤◌, Bool, true, false, suc, List, length, None, Some, refl, arith}
 use Rattle.std.specs.Prelude.{◌≢◌, ◌==◌, ltb}
 use Rattle.std.proofs.lemmas.Bool.Decides.{nat_tests}
-use Rattle.sctp_base.specs.Field.{u16_at}
+use Rattle.sctp_util.specs.Field.{u16_at}
 use Rattle.sctp_capture.specs.Exported.{tag_end, tag_at}
 
 one_more : (k : ℕ) → k < 64 → 64 - k ≡ suc (64 - (k + 1))

@@ -3,7 +3,7 @@ use Rattle.std.proofs.Common.{◌≡◌, ◌≢◌, ℕ, zero, suc, ◌+◌, ◌
 use Rattle.std.specs.Prelude.{Option}
 use Rattle.std.specs.Option.{IfNone}
 use Rattle.std.proofs.lemmas.Grind.{common_steps}
-use Rattle.sctp_base.specs.Field.{u16_at}
+use Rattle.sctp_util.specs.Field.{u16_at}
 use Rattle.sctp_capture.specs.Frame.{IsIpPayload, IsVersion0, gre_header, gre_rest, IsNetworkPlace, IsEthernetPlace, IsGrePlace, IsGre, IsTunnelled, IsInner}
 use Rattle.sctp_capture.specs.Frame.{InIp}
 use Rattle.sctp_capture.proofs.Uppers.{only_upper}

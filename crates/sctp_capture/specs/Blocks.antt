@@ -1,7 +1,7 @@
 -- The blocks of a capture in the newer format (pcapng), by its bytes.
 use Rattle.std.specs.Prelude.{◌≡◌, ◌≢◌, ℕ, ◌+◌, ◌*◌, ◌/◌, ◌%◌, ◌<◌, ◌≤◌, ◌⊎◌, Bool, true, false, ◌==◌, ltb, leb, not, min, if◌then◌else◌, List, [], ◌∷◌, ◌++◌}
 use Rattle.std.specs.Prelude.{length, drop, take, slice_get, slice_range, Option, Some, None, Ok, Err, IsSomeAnd}
-use Rattle.sctp_base.specs.Field.{u32_at, u32_le_at}
+use Rattle.sctp_util.specs.Field.{u32_at, u32_le_at}
 use Rattle.sctp_capture.specs.declared.record.Order.{Order}
 use Rattle.sctp_capture.specs.declared.record.Order.TheVariants.{Big, Little}
 use Rattle.sctp_capture.specs.declared.record.Time.{Time}

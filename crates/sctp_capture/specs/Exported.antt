@@ -2,7 +2,7 @@
 use Rattle.std.specs.Prelude.{◌≡◌, ℕ, zero, suc, ◌+◌, ◌⊎◌, Bool, true, false, ◌==◌, ◌||◌, ◌&&◌, ltb, if◌then◌else◌, List, length, slice_index, slice_range}
 use Rattle.std.specs.Prelude.{codes, Option, Some, None, IfSome}
 use Rattle.std.specs.declared.net.ip_addr.IpAddr.{IpAddr}
-use Rattle.sctp_base.specs.Field.{u16_at}
+use Rattle.sctp_util.specs.Field.{u16_at}
 use Rattle.sctp_capture.specs.Lead.{begins_so}
 use Rattle.sctp_capture.specs.Frame.{IsIpv4At, IsIpv6At, InFrame, HasEnds}
 

@@ -3,7 +3,7 @@ use Rattle.std.specs.Prelude.{◌≡◌, ◌≢◌, ℕ, zero, suc, ◌+◌, ◌
 use Rattle.std.specs.Prelude.{Option, IsSomeAnd}
 use Rattle.std.specs.Net.Addr.{ipv4_octets, ipv6_segments, segments_of, IsV4And, IsV6And}
 use Rattle.std.specs.declared.net.ip_addr.IpAddr.{IpAddr}
-use Rattle.sctp_base.specs.Field.{u16_at}
+use Rattle.sctp_util.specs.Field.{u16_at}
 
 -- where an IP packet or a UDP datagram ends that has its length at this place: there, or, if it is 0, with the bytes that it is in
 abbrev pub end_of : List ℕ → ℕ → ℕ → ℕ

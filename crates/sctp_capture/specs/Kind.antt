@@ -1,6 +1,6 @@
 -- Kinds of files that are known by the number that their first four bytes are.
 use Rattle.std.specs.Prelude.{◌≡◌, ℕ, ◌≤◌, List, length, ◌/◌, ◌==◌, ◌||◌, if◌then◌else◌, Option, Some, None}
-use Rattle.sctp_base.specs.Field.{u32_at}
+use Rattle.sctp_util.specs.Field.{u32_at}
 use Rattle.sctp_capture.specs.declared.kind.Kind.{Kind}
 use Rattle.sctp_capture.specs.declared.kind.Kind.TheVariants as kind
 

@@ -4,7 +4,7 @@ use Rattle.std.specs.Prelude.{Some, None, Ok, Err, MatchResult}
 use Rattle.std.specs.Io.KnownBytes.{Keeps}
 use Rattle.std.specs.Io.BufRead.{drop_through}
 use Rattle.hex.specs.Hex.{decode_of}
-use Rattle.sctp_base.specs.Field.{u32_at, u32_le_at}
+use Rattle.sctp_util.specs.Field.{u32_at, u32_le_at}
 use Rattle.sctp_capture.specs.declared.record.Order.{Order}
 use Rattle.sctp_capture.specs.declared.record.Order.TheVariants.{Big, Little}
 use Rattle.sctp_capture.specs.declared.record.Head.{Head}

@@ -13,7 +13,7 @@ use crate::input::ReadFault;
 use crate::record::{Fault, MAX_RECORD, Order, Record, Time, read_number};
 use crate::window::Window;
 use bytes::Bytes;
-use sctp_base::field::{read_u32, read_u32_le};
+use sctp_util::field::{read_u32, read_u32_le};
 use std::alloc::{AllocError, Global};
 use std::io::Read;
 

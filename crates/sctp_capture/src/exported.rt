@@ -1,14 +1,14 @@
 //! PDUs that Wireshark exports (link type 252): tags, and behind them the PDU.
 
 ghost use Rattle.std.specs.Prelude.{◌≡◌, ◌≤◌, ◌+◌, ℕ, List, length, IfOk, IfErr, IfSome};
-ghost use Rattle.sctp_base.specs.Field.{u16_at};
+ghost use Rattle.sctp_util.specs.Field.{u16_at};
 ghost use Rattle.sctp_capture.specs.Exported as exported;
 ghost use Rattle.sctp_capture.specs.Exported.{IsExported, IsFour, IsSix, IsAddress, AreExportedEnds};
 
 use crate::frame::{ipv4_at, ipv6_at};
 use crate::lead::begins_so;
 use crate::record::Fault;
-use sctp_base::field::read_u16;
+use sctp_util::field::read_u16;
 use std::net::IpAddr;
 
 /// How many tags are looked at.

@@ -3,11 +3,11 @@
 ghost use Rattle.std.specs.Prelude.{◌≡◌, ◌≢◌, ◌↔◌, ◌+◌, ◌≤◌, ◌<◌, ◌^◌, ℕ, List, length, IsTrue, IfOk, IfErr, IfSome, IfNone, IsOkAnd, IsSomeAnd, None};
 ghost use Rattle.sctp_capture.specs.Frame.{InUdp, IsCarried, end_of, held_to, cut_to, IsIpv4Payload, IsAtomic, IsPassed, passed_bytes, IsUpper, IsIpv6Payload, IsIpPayload, InIp, IsTag, IsTypePlace, IsPppoePlace, IsMplsPlace, IsNetworkPlace, IsEthernetPlace, IsVersion0, gre_header, IsGrePlace, IsGre, IsTunnelled, IsInner, IsPlace, InFrame, IsIpv4At, IsIpv6At, AreEnds, HasEnds};
 ghost use Rattle.sctp_capture.specs.Exported.{IsExported, AreExportedEnds, IsHeld, AreHeldEnds};
-ghost use Rattle.sctp_base.specs.Field;
+ghost use Rattle.sctp_util.specs.Field;
 
 use crate::exported::{exported_ends, exported_pdu};
 use crate::record::Fault;
-use sctp_base::field::read_u16;
+use sctp_util::field::read_u16;
 use std::net::IpAddr;
 
 /// The protocol numbers of UDP, GRE and SCTP.

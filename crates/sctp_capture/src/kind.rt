@@ -1,10 +1,10 @@
 //! Kinds of files that are known by their first bytes, but not read.
 
 ghost use Rattle.std.specs.Prelude.{◌≡◌, ◌<◌, ◌≤◌, Option, None, length};
-ghost use Rattle.sctp_base.specs.Field.{u32_at};
+ghost use Rattle.sctp_util.specs.Field.{u32_at};
 ghost use Rattle.sctp_capture.specs.Kind as kinds;
 
-use sctp_base::field::read_u32;
+use sctp_util::field::read_u32;
 use std::fmt;
 
 /// A kind of file that a capture may come as, but which is not read.

@@ -14,7 +14,7 @@ use crate::lead::{Lead, lead_of};
 use crate::window::Window;
 use bytes::Bytes;
 use hex::FromHexError;
-use sctp_base::field::{read_u32, read_u32_le};
+use sctp_util::field::{read_u32, read_u32_le};
 use std::alloc::{AllocError, Global};
 use std::fmt;
 use std::io::Read;

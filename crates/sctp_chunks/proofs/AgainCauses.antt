@@ -4,9 +4,9 @@ use Rattle.std.proofs.Common.{length-append}
 use Rattle.std.specs.List.{AllByRecursion}
 use Rattle.std.proofs.lemmas.List.{take_at, drop_at}
 use Rattle.std.proofs.lemmas.List.Concat.{flat_map-cons}
-use Rattle.sctp_base.specs.Field.{be16, u16_at}
-use Rattle.sctp_base.specs.Walk.{Walks}
-use Rattle.sctp_base.proofs.Fields.{length_be16, u16_at_be16}
+use Rattle.sctp_util.specs.Field.{be16, u16_at}
+use Rattle.sctp_util.specs.Walk.{Walks}
+use Rattle.sctp_util.proofs.Fields.{length_be16, u16_at_be16}
 use Rattle.sctp_chunks.specs.declared.chunk.error_cause.ErrorCause.{ErrorCause}
 use Rattle.sctp_chunks.specs.ErrorCause.{ReadsCause, ReadsCauses, HasCauseEncoding, after_cause, cause_declared_length, cause_value_at, cause_encoding}
 use Rattle.sctp_chunks.specs.ErrorCause.{causes_encoding}

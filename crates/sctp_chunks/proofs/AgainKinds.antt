@@ -6,9 +6,9 @@ use Rattle.std.specs.List.{flat_map}
 use Rattle.std.proofs.lemmas.List.{append-nil, drop_at}
 use Rattle.std.proofs.lemmas.List.Elements.{All-nil}
 use Rattle.std.proofs.Math.Seq.{get_or-append_seam}
-use Rattle.sctp_base.specs.Each.{each}
-use Rattle.sctp_base.specs.Field.{be16, be32, u16_at, u32_at}
-use Rattle.sctp_base.proofs.Fields.{length_be16, length_be32, u16_at_be16, u32_at_be32}
+use Rattle.sctp_util.specs.Each.{each}
+use Rattle.sctp_util.specs.Field.{be16, be32, u16_at, u32_at}
+use Rattle.sctp_util.proofs.Fields.{length_be16, length_be32, u16_at_be16, u32_at_be32}
 use Rattle.sctp_data.specs.declared.chunk.chunk_selective_ack.GapAckBlock.{GapAckBlock}
 use Rattle.sctp_data.specs.declared.chunk.chunk_forward_tsn.ChunkForwardTsnStream.{ChunkForwardTsnStream}
 use Rattle.sctp_chunks.specs.declared.chunk.chunk_i_forward_tsn.ChunkIForwardTsnStream.{ChunkIForwardTsnStream}

@@ -3,7 +3,7 @@ use Rattle.std.proofs.Common.{◌≡◌, ℕ, zero, suc, ◌+◌, ◌*◌, List,
 use Rattle.std.specs.List.{flat_map, AllByRecursion}
 use Rattle.std.proofs.lemmas.List.Concat.{flat_map-cons}
 use Rattle.std.proofs.Math.Nat.{mul-suc}
-use Rattle.sctp_base.specs.Each.{each}
+use Rattle.sctp_util.specs.Each.{each}
 
 each_front : {A : Type 0} (n : ℕ) (f : ℕ → A) → each (suc n) f ≡ f 0 ∷ each n (λ i. f (suc i))
 unfolding each

@@ -3,8 +3,8 @@ use Rattle.std.proofs.Common.{◌≡◌, ℕ, ◌+◌, true, false, List, [], �
 use Rattle.std.specs.Prelude.{Option, Some, None}
 use Rattle.std.proofs.lemmas.List.{append-nil, length-replicate}
 use Rattle.std.proofs.Math.ListN.{drop_of_length-le}
-use Rattle.sctp_base.specs.Padding.{padding_of}
-use Rattle.sctp_base.specs.Walk.{Walks}
+use Rattle.sctp_util.specs.Padding.{padding_of}
+use Rattle.sctp_util.specs.Walk.{Walks}
 use Rattle.sctp_params.specs.ParamFraming.{param_declared_length, after_param}
 use Rattle.sctp_params.specs.Param.{Parameter, heartbeat_info, ReadsBack, param_encoding, param_value_of}
 use Rattle.sctp_params.specs.ParamKind.{IsReadAs, ReadsParam}

@@ -3,8 +3,8 @@ use Rattle.std.proofs.Common.{◌≡◌, ℕ, zero, suc, ◌+◌, ◌-◌, ◌�
 use Rattle.std.proofs.Common.{length-take, length-drop}
 use Rattle.std.proofs.lemmas.List.{append-nil, take_more}
 use Rattle.std.proofs.lemmas.List.Concat.{flat_map-cons, flat_map-append}
-use Rattle.sctp_base.proofs.Fields.{length_be16}
-use Rattle.sctp_base.specs.Walk.{Walks}
+use Rattle.sctp_util.proofs.Fields.{length_be16}
+use Rattle.sctp_util.specs.Walk.{Walks}
 use Rattle.sctp_chunks.specs.declared.chunk.error_cause.ErrorCause.{ErrorCause}
 use Rattle.sctp_chunks.specs.ErrorCause.{ReadsCause, ReadsCauses, after_cause, cause_declared_length, cause_value_at, cause_encoding, causes_encoding}
 

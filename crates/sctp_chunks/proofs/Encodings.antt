@@ -1,7 +1,7 @@
 -- Why a chunk has no encoding.
 use Rattle.std.proofs.Common.{List, [], ◌∷◌, inl, inr}
 use Rattle.std.specs.Prelude.{Option, Some, None}
-use Rattle.sctp_base.specs.declared.error.Error.{Error}
+use Rattle.sctp_util.specs.declared.error.Error.{Error}
 use Rattle.sctp_params.specs.Param.{Parameter}
 use Rattle.sctp_chunks.specs.Heartbeat.{IsOneInfo, OneInfoFault}
 use Rattle.sctp_chunks.specs.Wire.{Wire, heartbeat_ack_chunk, reconfig_chunk, HasFirst, HasEncoding}

@@ -1,8 +1,8 @@
 -- How long the value of each kind is.
 use Rattle.std.proofs.Common.{◌≡◌, ℕ, ◌+◌, ◌*◌, ◌^◌, ◌<◌, ◌≤◌, false, length, arith, length-append}
-use Rattle.sctp_base.proofs.Fields.{length_be16, length_be32}
+use Rattle.sctp_util.proofs.Fields.{length_be16, length_be32}
 use Rattle.sctp_params.proofs.ParamLengths.{length_flat_map}
-use Rattle.sctp_base.specs.Field.{be32}
+use Rattle.sctp_util.specs.Field.{be32}
 use Rattle.sctp_data.specs.PayloadData.{Data, data_value}
 use Rattle.sctp_chunks.specs.Params.{params_encoding}
 use Rattle.sctp_chunks.specs.Init.{Init, init_value}

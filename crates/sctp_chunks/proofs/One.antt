@@ -1,6 +1,6 @@
 -- Bytes begin with one chunk at most.
 use Rattle.std.proofs.Common.{◌≡◌, ℕ, ◌<◌, ◌≤◌, Bool, true, false, List, length, drop, refl, ap, sym, ◌∙◌, arith}
-use Rattle.sctp_base.proofs.Walks.{walks_one}
+use Rattle.sctp_util.proofs.Walks.{walks_one}
 use Rattle.sctp_chunks.specs.declared.chunk.error_cause.ErrorCause.{ErrorCause}
 use Rattle.std.specs.Prelude.{Option, Some, None}
 use Rattle.sctp_params.specs.Param.{Parameter, heartbeat_info}

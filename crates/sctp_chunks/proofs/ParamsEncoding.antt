@@ -5,8 +5,8 @@ use Rattle.std.specs.Prelude.{map, ◌||◌, Option, Some, None, option_map}
 use Rattle.std.proofs.lemmas.List.{append-nil, length-replicate}
 use Rattle.std.proofs.lemmas.Bool.{eqb-true}
 use Rattle.std.proofs.Math.ListN.{drop_of_length-le}
-use Rattle.sctp_base.specs.Padding.{padded_length}
-use Rattle.sctp_base.specs.Walk.{Walks}
+use Rattle.sctp_util.specs.Padding.{padded_length}
+use Rattle.sctp_util.specs.Walk.{Walks}
 use Rattle.sctp_params.specs.declared.param.param_kind.ParamKind.{ParamKind}
 use Rattle.sctp_params.specs.Param.{Parameter, heartbeat_info, param_value_of, param_encoding}
 use Rattle.sctp_params.specs.ParamKind.{IsReadAs, ReadsParam, parameter_of}

@@ -1,7 +1,7 @@
 -- What is asked of a chunk beside its encoding: by `check`, and before it is written.
 use Rattle.std.specs.Prelude.{◌≡◌, ◌≢◌, ◌<◌, ◌≤◌, ◌⊎◌, Option, Some, None}
-use Rattle.sctp_base.specs.declared.error.Error.{Error}
-use Rattle.sctp_base.specs.declared.error.Error.TheVariants as errors
+use Rattle.sctp_util.specs.declared.error.Error.{Error}
+use Rattle.sctp_util.specs.declared.error.Error.TheVariants as errors
 use Rattle.sctp_params.specs.Param.{Parameter}
 use Rattle.sctp_chunks.specs.Init.{Init}
 use Rattle.sctp_chunks.specs.Heartbeat.{OneInfoFault}

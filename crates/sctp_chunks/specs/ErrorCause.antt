@@ -1,8 +1,8 @@
 -- Error causes: a code, a length with its four header bytes, a value (RFC 4960 3.3.10).
 use Rattle.std.specs.Prelude.{◌≡◌, ℕ, ◌+◌, ◌^◌, ◌<◌, ◌≤◌, List, ◌++◌, length, drop, slice_range}
 use Rattle.std.specs.List.{flat_map}
-use Rattle.sctp_base.specs.Field.{be16, u16_at}
-use Rattle.sctp_base.specs.Walk.{Walks}
+use Rattle.sctp_util.specs.Field.{be16, u16_at}
+use Rattle.sctp_util.specs.Walk.{Walks}
 use Rattle.sctp_chunks.specs.declared.chunk.error_cause.ErrorCause.{ErrorCause}
 
 abbrev pub cause_declared_length : List ℕ → ℕ

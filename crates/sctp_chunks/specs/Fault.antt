@@ -1,15 +1,15 @@
 -- What must stand in the bytes for each refusal: one row each. A value is at fault only in a chunk that is framed and of the kind.
 use Rattle.std.specs.Prelude.{◌≡◌, ◌≢◌, ℕ, ◌+◌, ◌-◌, ◌*◌, ◌%◌, ◌<◌, ◌≤◌, ◌⊎◌, List, length, drop, All}
 use Rattle.sctp_chunks.specs.Framing.{type_at, flags_at, value_at, declared_length, IsFramed}
-use Rattle.sctp_base.specs.Walk.{Walks}
+use Rattle.sctp_util.specs.Walk.{Walks}
 use Rattle.sctp_chunks.specs.declared.chunk.error_cause.ErrorCause.{ErrorCause}
 use Rattle.sctp_chunks.specs.ErrorCause.{IsCause, ReadsCause, after_cause}
 use Rattle.sctp_data.specs.SelectiveAck.{blocks_in, duplicates_in}
 use Rattle.sctp_params.specs.ParamFraming.{IsParam, param_type_at, after_param}
 use Rattle.sctp_params.specs.ParamKind.{ParamFault}
 use Rattle.sctp_chunks.specs.Params.{ParamsFault}
-use Rattle.sctp_base.specs.declared.error.Error.{Error}
-use Rattle.sctp_base.specs.declared.error.Error.TheVariants as errors
+use Rattle.sctp_util.specs.declared.error.Error.{Error}
+use Rattle.sctp_util.specs.declared.error.Error.TheVariants as errors
 
 -- the header of the chunk that the bytes begin with
 abbrev pub HeaderFault : Error → List ℕ → Type 0

@@ -3,8 +3,8 @@ use Rattle.std.specs.Prelude.{◌≡◌, ◌≢◌, ℕ, List, [], ◌∷◌}
 use Rattle.sctp_params.specs.Param.{Parameter, heartbeat_info, ReadsBack, param_type_of}
 use Rattle.sctp_params.specs.ParamKind.{IsReadAs, ReadsParam}
 use Rattle.sctp_params.specs.declared.param.param_type.ParamType.TheVariants as types
-use Rattle.sctp_base.specs.declared.error.Error.{Error}
-use Rattle.sctp_base.specs.declared.error.Error.TheVariants as errors
+use Rattle.sctp_util.specs.declared.error.Error.{Error}
+use Rattle.sctp_util.specs.declared.error.Error.TheVariants as errors
 
 -- one parameter; bytes after it are ignored
 pub record ReadsHeartbeat (value : List ℕ) (ps : List Parameter) : Type 0 where

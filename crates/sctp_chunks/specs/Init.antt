@@ -1,6 +1,6 @@
 -- INIT and INIT-ACK: how an association begins (RFC 4960 3.3.2, 3.3.3).
 use Rattle.std.specs.Prelude.{◌≡◌, ℕ, ◌≤◌, Bool, true, false, List, ◌++◌, length, drop, map}
-use Rattle.sctp_base.specs.Field.{be16, be32, u16_at, u32_at}
+use Rattle.sctp_util.specs.Field.{be16, be32, u16_at, u32_at}
 use Rattle.sctp_params.specs.Param.{Parameter}
 use Rattle.sctp_params.specs.ParamKind.{parameter_of}
 use Rattle.sctp_chunks.specs.Params.{ReadsParams, params_encoding}

@@ -1,12 +1,12 @@
 -- Parameters one behind the other, read and written (RFC 4960 3.2.1).
 use Rattle.std.specs.Prelude.{ℕ, ◌<◌, ◌≤◌, Bool, true, false, List, [], ◌∷◌, ◌++◌, length, replicate}
 use Rattle.std.specs.List.{AllByRecursion}
-use Rattle.sctp_base.specs.Padding.{padding_of}
-use Rattle.sctp_base.specs.Walk.{Walks}
+use Rattle.sctp_util.specs.Padding.{padding_of}
+use Rattle.sctp_util.specs.Walk.{Walks}
 use Rattle.sctp_params.specs.ParamFraming.{after_param}
 use Rattle.sctp_params.specs.Param.{Parameter, ReadsBack, param_encoding}
 use Rattle.sctp_params.specs.ParamKind.{IsReadAs, ReadsParam, ParamFault}
-use Rattle.sctp_base.specs.declared.error.Error.{Error}
+use Rattle.sctp_util.specs.declared.error.Error.{Error}
 
 -- the parameters, by their declared lengths; up to three bytes after the last one are ignored
 pub record ReadsParams (bytes : List ℕ) (ps : List Parameter) : Type 0 where

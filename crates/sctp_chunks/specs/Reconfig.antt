@@ -5,8 +5,8 @@ use Rattle.sctp_params.specs.Param.{Parameter, ReadsBack, param_type_of}
 use Rattle.sctp_params.specs.ParamKind.{IsReadAs, ReadsParam, parameter_of}
 use Rattle.sctp_params.specs.declared.param.param_type.ParamType.{ParamType}
 use Rattle.sctp_params.specs.declared.param.param_type.ParamType.TheVariants as types
-use Rattle.sctp_base.specs.declared.error.Error.{Error}
-use Rattle.sctp_base.specs.declared.error.Error.TheVariants as errors
+use Rattle.sctp_util.specs.declared.error.Error.{Error}
+use Rattle.sctp_util.specs.declared.error.Error.TheVariants as errors
 use Rattle.sctp_chunks.specs.Params.{padded_param}
 use Rattle.sctp_chunks.specs.declared.chunk.chunk_reconfig.ChunkReconfig.{ChunkReconfig}
 

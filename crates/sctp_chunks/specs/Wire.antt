@@ -1,6 +1,6 @@
 -- Chunks of every kind, as their wire parts: what bytes say of them, and how they are written.
 use Rattle.std.specs.Prelude.{◌≡◌, ℕ, ◌+◌, ◌^◌, ◌<◌, true, Option, Some, None, List, [], length}
-use Rattle.sctp_base.specs.Field.{be32, u32_at}
+use Rattle.sctp_util.specs.Field.{be32, u32_at}
 use Rattle.sctp_chunks.specs.declared.chunk.error_cause.ErrorCause.{ErrorCause}
 use Rattle.sctp_chunks.specs.Framing.{type_at, flags_at, value_at, IsFramed, chunk_encoding}
 use Rattle.sctp_data.specs.PayloadData.{Data, ReadsData, data_flags, data_value}

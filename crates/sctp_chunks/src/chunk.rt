@@ -2,12 +2,12 @@
 //! The length counts the four header bytes and the value, not the padding behind it.
 
 ghost use Rattle.std.specs.Prelude.{◌≡◌, ◌+◌, ◌^◌, ◌≤◌, ◌<◌, ◌++◌, ◌⊎◌, ℕ, List, length, min, IfOk, IfErr, OnOk, OnErr};
-ghost use Rattle.sctp_base.specs.declared.error.Error.{Error};
-ghost use Rattle.sctp_base.specs.declared.error.Error.TheVariants.{ErrOutOfMemory, ErrLengthTooLarge};
+ghost use Rattle.sctp_util.specs.declared.error.Error.{Error};
+ghost use Rattle.sctp_util.specs.declared.error.Error.TheVariants.{ErrOutOfMemory, ErrLengthTooLarge};
 ghost use Rattle.sctp_chunks.specs.Wire.{Wire, ReadsChunk, HasForm, HasLength, HasEncoding, encoding_of, type_of, flags_of, value_of};
 ghost use Rattle.sctp_chunks.specs.Fits.{Fits, Canonical};
 ghost use Rattle.sctp_chunks.specs.Check.{IsChecked, CheckFault, FormFault, EncodingFault};
-ghost use Rattle.sctp_base.specs.Outcome.{OrMemory, GivesUnlessMemory};
+ghost use Rattle.sctp_util.specs.Outcome.{OrMemory, GivesUnlessMemory};
 
 pub mod chunk_abort;
 pub mod chunk_cookie_ack;
@@ -31,8 +31,8 @@ mod params;
 
 use bytes::{Bytes, BytesMut};
 use chunk_header::{ChunkHeader, put_header};
-use sctp_base::error::Result;
-pub use sctp_base::util::ChunkType;
+use sctp_util::error::Result;
+pub use sctp_util::util::ChunkType;
 use std::alloc::Global;
 
 /// What every kind of chunk can do. Values and lengths count bytes, without the padding behind the chunk.

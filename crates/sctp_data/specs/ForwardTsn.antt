@@ -1,8 +1,8 @@
 -- FORWARD-TSN: TSNs up to a new cumulative one will not be sent again (RFC 3758 3.2).
 use Rattle.std.specs.Prelude.{◌≡◌, ℕ, ◌+◌, ◌-◌, ◌*◌, ◌/◌, ◌%◌, ◌^◌, ◌<◌, ◌≤◌, List, ◌++◌, length}
 use Rattle.std.specs.List.{flat_map}
-use Rattle.sctp_base.specs.Each.{each}
-use Rattle.sctp_base.specs.Field.{be16, be32, u16_at, u32_at}
+use Rattle.sctp_util.specs.Each.{each}
+use Rattle.sctp_util.specs.Field.{be16, be32, u16_at, u32_at}
 use Rattle.sctp_data.specs.declared.chunk.chunk_forward_tsn.ChunkForwardTsnStream.{ChunkForwardTsnStream}
 use Rattle.sctp_data.specs.declared.chunk.chunk_forward_tsn.ChunkForwardTsn.{ChunkForwardTsn}
 

@@ -1,6 +1,6 @@
 -- The printed names of error causes (RFC 4960 3.3.10), of payload types (RFC 8831 8) and of reliability types (RFC 8832 5.1).
 use Rattle.std.specs.Prelude.{ℕ, List, [], ◌∷◌, codes, Option}
-use Rattle.sctp_base.specs.Names.{name_in}
+use Rattle.sctp_util.specs.Names.{name_in}
 use Rattle.sctp_data.specs.declared.chunk.error_cause.ErrorCauseCode.{ErrorCauseCode}
 use Rattle.sctp_data.specs.declared.chunk.chunk_payload_data.PayloadProtocolIdentifier.{PayloadProtocolIdentifier}
 use Rattle.sctp_data.specs.declared.chunk.chunk_payload_data.PayloadProtocolIdentifier.TheVariants as types

@@ -1,6 +1,6 @@
 -- DATA: what a chunk of user data says, and how it is written.
 use Rattle.std.specs.Prelude.{◌≡◌, ℕ, ◌+◌, ◌≤◌, Bool, not, ◌==◌, if◌then◌else◌, List, ◌++◌, length, drop, bit_and}
-use Rattle.sctp_base.specs.Field.{be16, be32, u16_at, u32_at}
+use Rattle.sctp_util.specs.Field.{be16, be32, u16_at, u32_at}
 use Rattle.sctp_data.specs.declared.chunk.chunk_payload_data.PayloadProtocolIdentifier.{PayloadProtocolIdentifier}
 use Rattle.sctp_data.specs.declared.chunk.chunk_payload_data.PayloadProtocolIdentifier.TheVariants.{Dcep, String, Binary, StringEmpty, BinaryEmpty, Unknown}
 use Rattle.sctp_data.specs.declared.chunk.chunk_payload_data.ChunkPayloadData.{ChunkPayloadData}

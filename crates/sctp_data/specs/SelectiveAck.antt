@@ -1,8 +1,8 @@
 -- SACK: what arrived (RFC 4960 3.3.4).
 use Rattle.std.specs.Prelude.{◌≡◌, ℕ, ◌+◌, ◌*◌, ◌≤◌, List, ◌++◌, length}
 use Rattle.std.specs.List.{flat_map}
-use Rattle.sctp_base.specs.Each.{each}
-use Rattle.sctp_base.specs.Field.{be16, be32, u16_at, u32_at}
+use Rattle.sctp_util.specs.Each.{each}
+use Rattle.sctp_util.specs.Field.{be16, be32, u16_at, u32_at}
 use Rattle.sctp_data.specs.declared.chunk.chunk_selective_ack.GapAckBlock.{GapAckBlock}
 use Rattle.sctp_data.specs.declared.chunk.chunk_selective_ack.ChunkSelectiveAck.{ChunkSelectiveAck}
 

@@ -4,11 +4,11 @@ use Rattle.std.proofs.Common.{◌≡◌, ℕ, ◌+◌, ◌-◌, ◌%◌, ◌^◌
 use Rattle.std.proofs.Common.{inl, inr, refl, ap, sym, subst, ◌∙◌, arith, not}
 use Rattle.std.specs.Prelude.{◌==◌, if◌then◌else◌, find, option_map, option_to_list, IfSome, nat_eq}
 use Rattle.std.proofs.lemmas.Option.{none-some}
-use Rattle.sctp_list_lemmas.specs.Lists.{change_where}
-use Rattle.sctp_list_lemmas.specs.Serial.{at_or_before}
-use Rattle.sctp_list_lemmas.proofs.Cases.{or-left, or-right, same-is, same-yes, some-same}
-use Rattle.sctp_list_lemmas.proofs.Edits.{list_any-append}
-use Rattle.sctp_list_lemmas.proofs.More.{not_both}
+use Rattle.sctp_util.specs.Lists.{change_where}
+use Rattle.sctp_util.specs.Serial.{at_or_before}
+use Rattle.sctp_util.proofs.Cases.{or-left, or-right, same-is, same-yes, some-same}
+use Rattle.sctp_util.proofs.Edits.{list_any-append}
+use Rattle.sctp_util.proofs.More.{not_both}
 use Rattle.sctp_data.specs.declared.chunk.chunk_payload_data.ChunkPayloadData.{ChunkPayloadData}
 use Rattle.sctp_data.specs.SelectiveAck.{Sack}
 use Rattle.sctp_outbound.specs.declared.pending_queue.Selected.{Selected}

@@ -4,8 +4,8 @@ use Rattle.std.specs.Prelude.{◌||◌, if◌then◌else◌, option_to_list}
 use Rattle.std.specs.List.{find, list_any}
 use Rattle.std.proofs.lemmas.Bool.{cases_lt}
 use Rattle.std.proofs.lemmas.Option.{none-some}
-use Rattle.sctp_list_lemmas.proofs.Cases.{or-left, or-right, same-yes, some-same}
-use Rattle.sctp_list_lemmas.proofs.More.{not_both}
+use Rattle.sctp_util.proofs.Cases.{or-left, or-right, same-yes, some-same}
+use Rattle.sctp_util.proofs.More.{not_both}
 use Rattle.sctp_data.specs.declared.chunk.chunk_payload_data.ChunkPayloadData.{ChunkPayloadData}
 use Rattle.sctp_outbound.specs.Marks.{is_of}
 use Rattle.sctp_outbound.specs.outbound_queue.OutboundQueue.{expiring, expiring_tail, is_expired, is_expired_tail, message_of, passing, to_abandon}

@@ -3,9 +3,9 @@ use Rattle.std.proofs.Common.{◌≡◌, ℕ, Bool, true, false, List, [], ◌�
 use Rattle.std.specs.Prelude.{◌==◌, ◌&&◌, ◌||◌, if◌then◌else◌}
 use Rattle.std.specs.List.{list_any}
 use Rattle.std.proofs.lemmas.Option.{none-some}
-use Rattle.sctp_list_lemmas.proofs.Cases.{or-left, or-right, or-split, same-yes, some-same}
-use Rattle.sctp_list_lemmas.proofs.Edits.{list_any-append}
-use Rattle.sctp_list_lemmas.proofs.More.{and}
+use Rattle.sctp_util.proofs.Cases.{or-left, or-right, or-split, same-yes, some-same}
+use Rattle.sctp_util.proofs.Edits.{list_any-append}
+use Rattle.sctp_util.proofs.More.{and}
 use Rattle.sctp_data.specs.declared.chunk.chunk_payload_data.ChunkPayloadData.{ChunkPayloadData}
 use Rattle.sctp_data.specs.declared.chunk.chunk_payload_data.PayloadProtocolIdentifier.{PayloadProtocolIdentifier}
 use Rattle.sctp_outbound.specs.declared.pending_queue.Selected.{Selected}

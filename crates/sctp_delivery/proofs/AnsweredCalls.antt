@@ -4,11 +4,11 @@ use Rattle.std.specs.Prelude.{if◌then◌else◌, ◌==◌, ◌||◌, ◌⊎◌
 use Rattle.std.specs.List.{list_any}
 use Rattle.std.proofs.lemmas.Bool.{cases_lt}
 use Rattle.std.proofs.lemmas.Bool.Decides.{nat_tests}
-use Rattle.sctp_list_lemmas.specs.Kept.{runs_of}
-use Rattle.sctp_list_lemmas.specs.Serial.{at_or_before, comes_before, distance}
-use Rattle.sctp_list_lemmas.proofs.Cases.{or-left, or-right, or-split, same-is}
-use Rattle.sctp_list_lemmas.proofs.More.{and, fails, not_both}
-use Rattle.sctp_list_lemmas.proofs.Round.{tsn, distance-tsn, distance-tsn_back}
+use Rattle.sctp_util.specs.Kept.{runs_of}
+use Rattle.sctp_util.specs.Serial.{at_or_before, comes_before, distance}
+use Rattle.sctp_util.proofs.Cases.{or-left, or-right, or-split, same-is}
+use Rattle.sctp_util.proofs.More.{and, fails, not_both}
+use Rattle.sctp_util.proofs.Round.{tsn, distance-tsn, distance-tsn_back}
 use Rattle.sctp_data.specs.declared.chunk.chunk_payload_data.ChunkPayloadData.{ChunkPayloadData}
 use Rattle.sctp_data.specs.ForwardTsn.{ForwardTsn}
 use Rattle.sctp_data.specs.PayloadData.{data_of}

@@ -3,9 +3,9 @@ use Rattle.std.proofs.Common.{◌≡◌, ℕ, zero, suc, ◌+◌, ◌<◌, ◌�
 use Rattle.std.specs.Prelude.{if◌then◌else◌, ◌==◌, ◌⊎◌, nat_le}
 use Rattle.std.specs.List.{filter, list_any}
 use Rattle.std.proofs.lemmas.Bool.Decides.{nat_tests}
-use Rattle.sctp_list_lemmas.specs.Kept.{put_before_runs, runs_of}
-use Rattle.sctp_list_lemmas.proofs.Cases.{or-left, or-right, or-split, same-is, same-yes}
-use Rattle.sctp_list_lemmas.proofs.More.{and, both, not_both}
+use Rattle.sctp_util.specs.Kept.{put_before_runs, runs_of}
+use Rattle.sctp_util.proofs.Cases.{or-left, or-right, or-split, same-is, same-yes}
+use Rattle.sctp_util.proofs.More.{and, both, not_both}
 use Rattle.sctp_delivery.proofs.Every.{Every}
 use Rattle.sctp_delivery.proofs.ArrivedTsns.{in_run}
 

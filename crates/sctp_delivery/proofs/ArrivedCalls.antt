@@ -4,10 +4,10 @@ use Rattle.std.specs.Prelude.{if◌then◌else◌, not, nat_le, Contains}
 use Rattle.std.specs.List.{filter, list_any}
 use Rattle.std.proofs.lemmas.Bool.Decides.{nat_tests}
 use Rattle.std.proofs.lemmas.List.Folds.{list_any_at}
-use Rattle.sctp_list_lemmas.specs.Lists.{insert_before}
-use Rattle.sctp_list_lemmas.specs.Serial.{at_or_before, comes_before}
-use Rattle.sctp_list_lemmas.proofs.Cases.{or-left, or-right, same-yes}
-use Rattle.sctp_list_lemmas.proofs.Round.{tsn}
+use Rattle.sctp_util.specs.Lists.{insert_before}
+use Rattle.sctp_util.specs.Serial.{at_or_before, comes_before}
+use Rattle.sctp_util.proofs.Cases.{or-left, or-right, same-yes}
+use Rattle.sctp_util.proofs.Round.{tsn}
 use Rattle.sctp_data.specs.ForwardTsn.{ForwardTsn}
 use Rattle.sctp_data.specs.PayloadData.{data_of}
 use Rattle.sctp_receiver.specs.declared.receiver.arrival.Arrival.TheVariants.{New, Repeat}

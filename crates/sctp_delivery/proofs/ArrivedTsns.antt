@@ -4,12 +4,12 @@ use Rattle.std.specs.Prelude.{if◌then◌else◌, ◌==◌, ◌&&◌, nat_le}
 use Rattle.std.specs.List.{filter, list_any}
 use Rattle.std.proofs.lemmas.Bool.{cases_lt}
 use Rattle.std.proofs.lemmas.Bool.Decides.{nat_tests}
-use Rattle.sctp_list_lemmas.specs.Kept.{put_before_runs, runs_of}
-use Rattle.sctp_list_lemmas.specs.Lists.{advance_over, Seen}
-use Rattle.sctp_list_lemmas.specs.Serial.{distance}
-use Rattle.sctp_list_lemmas.proofs.Cases.{or-left, or-right, or-split, same-is}
-use Rattle.sctp_list_lemmas.proofs.More.{both, and, not_both}
-use Rattle.sctp_list_lemmas.proofs.Round.{tsn, distance-tsn, distance-tsn_back}
+use Rattle.sctp_util.specs.Kept.{put_before_runs, runs_of}
+use Rattle.sctp_util.specs.Lists.{advance_over, Seen}
+use Rattle.sctp_util.specs.Serial.{distance}
+use Rattle.sctp_util.proofs.Cases.{or-left, or-right, or-split, same-is}
+use Rattle.sctp_util.proofs.More.{both, and, not_both}
+use Rattle.sctp_util.proofs.Round.{tsn, distance-tsn, distance-tsn_back}
 use Rattle.sctp_delivery.proofs.Every.{Every}
 use Rattle.sctp_delivery.proofs.TsnPlaces.{next-place, same-place}
 

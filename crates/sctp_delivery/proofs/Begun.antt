@@ -5,10 +5,10 @@ use Rattle.std.specs.Prelude.{⊤, ◌==◌, ◌&&◌, ◌||◌, if◌then◌els
 use Rattle.std.specs.List.{list_any}
 use Rattle.std.proofs.lemmas.Bool.{cases_lt}
 use Rattle.std.proofs.lemmas.Option.{none-some}
-use Rattle.sctp_list_lemmas.specs.Lists.{change_where}
-use Rattle.sctp_list_lemmas.proofs.Cases.{or-left, or-right, or-split, same-is, same-yes, some-same}
-use Rattle.sctp_list_lemmas.proofs.Edits.{list_any-append}
-use Rattle.sctp_list_lemmas.proofs.More.{and, both, fails, not_both}
+use Rattle.sctp_util.specs.Lists.{change_where}
+use Rattle.sctp_util.proofs.Cases.{or-left, or-right, or-split, same-is, same-yes, some-same}
+use Rattle.sctp_util.proofs.Edits.{list_any-append}
+use Rattle.sctp_util.proofs.More.{and, both, fails, not_both}
 use Rattle.sctp_data.specs.declared.chunk.chunk_payload_data.ChunkPayloadData.{ChunkPayloadData}
 use Rattle.sctp_data.specs.PayloadData.{Data}
 use Rattle.sctp_outbound.specs.declared.pending_queue.Selected.{Selected}

@@ -3,11 +3,11 @@ use Rattle.std.proofs.Common.{◌≡◌, ℕ, ◌+◌, ◌-◌, ◌%◌, ◌^◌
 use Rattle.std.proofs.Common.{ap, sym, subst, ◌∙◌, arith}
 use Rattle.std.specs.Prelude.{if◌then◌else◌, nat_lt, find, IfSome}
 use Rattle.std.proofs.lemmas.Bool.Decides.{nat_tests}
-use Rattle.sctp_list_lemmas.specs.Lists.{change_where}
-use Rattle.sctp_list_lemmas.specs.Serial.{comes_before, distance}
-use Rattle.sctp_list_lemmas.proofs.Edits.{length-change_where}
-use Rattle.sctp_list_lemmas.proofs.More.{not_both}
-use Rattle.sctp_list_lemmas.proofs.Round.{distance-tsn, tsn}
+use Rattle.sctp_util.specs.Lists.{change_where}
+use Rattle.sctp_util.specs.Serial.{comes_before, distance}
+use Rattle.sctp_util.proofs.Edits.{length-change_where}
+use Rattle.sctp_util.proofs.More.{not_both}
+use Rattle.sctp_util.proofs.Round.{distance-tsn, tsn}
 use Rattle.sctp_data.specs.declared.chunk.chunk_payload_data.ChunkPayloadData.{ChunkPayloadData}
 use Rattle.sctp_data.specs.SelectiveAck.{Sack}
 use Rattle.sctp_outbound.specs.Marks.{as_acknowledged, is_outstanding, with_retransmit}

@@ -6,10 +6,10 @@ use Rattle.std.specs.Prelude.{if◌then◌else◌, ◌==◌}
 use Rattle.std.specs.List.{filter}
 use Rattle.std.proofs.lemmas.List.{map-append, take-append-drop}
 use Rattle.std.proofs.lemmas.Option.{none-some}
-use Rattle.sctp_list_lemmas.specs.Lists.{change_where}
-use Rattle.sctp_list_lemmas.proofs.Cases.{same-is, same-yes, some-same}
-use Rattle.sctp_list_lemmas.proofs.More.{fails, not_both}
-use Rattle.sctp_list_lemmas.proofs.Round.{tsn}
+use Rattle.sctp_util.specs.Lists.{change_where}
+use Rattle.sctp_util.proofs.Cases.{same-is, same-yes, some-same}
+use Rattle.sctp_util.proofs.More.{fails, not_both}
+use Rattle.sctp_util.proofs.Round.{tsn}
 use Rattle.sctp_data.specs.declared.chunk.chunk_payload_data.ChunkPayloadData.{ChunkPayloadData}
 use Rattle.sctp_outbound.specs.Marks.{as_abandoned, is_of}
 use Rattle.sctp_outbound.specs.outbound_queue.OutboundQueue.{Outbound}

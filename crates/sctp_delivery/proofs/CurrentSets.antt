@@ -6,12 +6,12 @@ use Rattle.std.specs.Prelude.{◌⊎◌, ◌==◌, ◌&&◌, ◌||◌, if◌then
 use Rattle.std.specs.List.{filter, list_any}
 use Rattle.std.proofs.lemmas.Bool.{cases_lt, eq-eqb}
 use Rattle.std.proofs.lemmas.Bool.Decides.{nat_tests}
-use Rattle.sctp_list_lemmas.specs.Lists.{change_first, insert_before}
-use Rattle.sctp_list_lemmas.specs.Serial.{at_or_before16, comes_before16, distance16}
-use Rattle.sctp_list_lemmas.proofs.Cases.{or-left, or-split, same-is}
-use Rattle.sctp_list_lemmas.proofs.More.{and, both, fails, not_both}
-use Rattle.sctp_list_lemmas.proofs.Round.{tsn}
-use Rattle.sctp_list_lemmas.proofs.Wraps.{at_or_before16-index, comes_before16-index, next16}
+use Rattle.sctp_util.specs.Lists.{change_first, insert_before}
+use Rattle.sctp_util.specs.Serial.{at_or_before16, comes_before16, distance16}
+use Rattle.sctp_util.proofs.Cases.{or-left, or-split, same-is}
+use Rattle.sctp_util.proofs.More.{and, both, fails, not_both}
+use Rattle.sctp_util.proofs.Round.{tsn}
+use Rattle.sctp_util.proofs.Wraps.{at_or_before16-index, comes_before16-index, next16}
 use Rattle.sctp_data.specs.declared.chunk.chunk_payload_data.ChunkPayloadData.{ChunkPayloadData}
 use Rattle.sctp_data.specs.ChunkSet.{ChunkSet}
 use Rattle.sctp_reassembly.specs.reassembly_queue.Fragments.{has_ssn, is_complete, new_set, set_before, sets_with, with_chunk}

@@ -4,8 +4,8 @@ use Rattle.std.proofs.Common.{subst, ◌∙◌, arith}
 use Rattle.std.specs.Prelude.{All, Contains, find, ◌==◌, ◌&&◌, ◌||◌, if◌then◌else◌, slice_index_or}
 use Rattle.std.specs.List.{filter, list_all, list_any, sum_by}
 use Rattle.std.proofs.lemmas.List.Sums.{sum_by-append, sum_by-cons, AllPass-from_list_all}
-use Rattle.sctp_list_lemmas.proofs.Cases.{or-split, same-is, same-yes}
-use Rattle.sctp_list_lemmas.proofs.More.{both, fails, not_both}
+use Rattle.sctp_util.proofs.Cases.{or-split, same-is, same-yes}
+use Rattle.sctp_util.proofs.More.{both, fails, not_both}
 use Rattle.sctp_data.specs.declared.chunk.chunk_payload_data.ChunkPayloadData.{ChunkPayloadData}
 use Rattle.sctp_data.specs.PayloadData.{Data, data_of}
 use Rattle.sctp_data.specs.ChunkSet.{ChunkSet}

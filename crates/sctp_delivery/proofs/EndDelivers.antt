@@ -6,12 +6,12 @@ use Rattle.std.specs.List.{list_any}
 use Rattle.std.proofs.lemmas.Bool.Decides.{nat_tests}
 use Rattle.std.proofs.lemmas.List.{get_or_default}
 use Rattle.std.proofs.lemmas.Bool.{cases_lt}
-use Rattle.sctp_list_lemmas.proofs.Cases.{or-left, or-split, same-is, same-yes}
-use Rattle.sctp_list_lemmas.proofs.Edits.{length-change_where}
-use Rattle.sctp_list_lemmas.proofs.More.{fails, not_both}
-use Rattle.sctp_list_lemmas.proofs.Round.{distance-tsn, tsn}
-use Rattle.sctp_list_lemmas.specs.Lists.{change_where}
-use Rattle.sctp_list_lemmas.specs.Serial.{at_or_before, distance}
+use Rattle.sctp_util.proofs.Cases.{or-left, or-split, same-is, same-yes}
+use Rattle.sctp_util.proofs.Edits.{length-change_where}
+use Rattle.sctp_util.proofs.More.{fails, not_both}
+use Rattle.sctp_util.proofs.Round.{distance-tsn, tsn}
+use Rattle.sctp_util.specs.Lists.{change_where}
+use Rattle.sctp_util.specs.Serial.{at_or_before, distance}
 use Rattle.sctp_data.specs.PayloadData.{data_of}
 use Rattle.sctp_data.specs.declared.chunk.chunk_payload_data.ChunkPayloadData.{ChunkPayloadData}
 use Rattle.sctp_reassembly.specs.reassembly_queue.ReassemblyQueue.{ReassemblyState, after_ordered_push, is_complete_with}

@@ -2,7 +2,7 @@
 use Rattle.std.proofs.Common.{◌≡◌, ◌+◌, true, List, [], ◌∷◌, length, None, refl, ap, arith}
 use Rattle.std.specs.Prelude.{Contains, nat_eq, ◌-◌}
 use Rattle.std.specs.List.{list_any}
-use Rattle.sctp_list_lemmas.specs.Serial.{distance}
+use Rattle.sctp_util.specs.Serial.{distance}
 use Rattle.sctp_data.specs.declared.chunk.chunk_payload_data.PayloadProtocolIdentifier.TheVariants.{Binary}
 use Rattle.sctp_delivery.specs.Abandoned.{abandoned_in}
 use Rattle.sctp_delivery.specs.Ending.{CanEnd, chunks_waiting, takes_all_of}

@@ -5,11 +5,11 @@ use Rattle.std.specs.Prelude.{◌==◌, ◌&&◌, All, if◌then◌else◌, nat_
 use Rattle.std.specs.List.{filter, list_all, list_any, sum_by}
 use Rattle.std.proofs.lemmas.Bool.Decides.{nat_tests}
 use Rattle.std.proofs.lemmas.Option.{none-some}
-use Rattle.sctp_list_lemmas.proofs.Cases.{same-is, some-same}
-use Rattle.sctp_list_lemmas.proofs.More.{and, both}
-use Rattle.sctp_list_lemmas.proofs.Round.{tsn}
-use Rattle.sctp_list_lemmas.specs.Lists.{Seen, advance_over}
-use Rattle.sctp_list_lemmas.specs.Serial.{at_or_before, distance}
+use Rattle.sctp_util.proofs.Cases.{same-is, some-same}
+use Rattle.sctp_util.proofs.More.{and, both}
+use Rattle.sctp_util.proofs.Round.{tsn}
+use Rattle.sctp_util.specs.Lists.{Seen, advance_over}
+use Rattle.sctp_util.specs.Serial.{at_or_before, distance}
 use Rattle.sctp_data.specs.ForwardTsn.{ForwardTsn}
 use Rattle.sctp_data.specs.SelectiveAck.{Sack}
 use Rattle.sctp_data.specs.declared.chunk.chunk_forward_tsn.ChunkForwardTsnStream.{ChunkForwardTsnStream}

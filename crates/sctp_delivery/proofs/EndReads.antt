@@ -6,9 +6,9 @@ use Rattle.std.specs.List.{list_all, sum_by}
 use Rattle.std.proofs.lemmas.List.Folds.{list_all-append}
 use Rattle.std.proofs.lemmas.List.Sums.{sum_by-cons}
 use Rattle.std.proofs.lemmas.Option.{none-some}
-use Rattle.sctp_list_lemmas.proofs.Cases.{same-yes}
-use Rattle.sctp_list_lemmas.proofs.More.{and, not_both}
-use Rattle.sctp_list_lemmas.specs.Lists.{change_where}
+use Rattle.sctp_util.proofs.Cases.{same-yes}
+use Rattle.sctp_util.proofs.More.{and, not_both}
+use Rattle.sctp_util.specs.Lists.{change_where}
 use Rattle.sctp_data.specs.ChunkSet.{ChunkSet}
 use Rattle.sctp_reassembly.specs.reassembly_queue.ReassemblyQueue.{Reassembly, after_read, front_readable, message_among, message_read, rest_among, rest_read}
 use Rattle.sctp_reassembly.specs.reassembly_queue.ReassemblyQueue.{without_first}

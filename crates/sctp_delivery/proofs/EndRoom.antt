@@ -5,11 +5,11 @@ use Rattle.std.specs.List.{list_any, sum_by}
 use Rattle.std.proofs.lemmas.Bool.Decides.{nat_tests}
 use Rattle.std.proofs.lemmas.List.Sums.{sum_by-cons}
 use Rattle.std.proofs.lemmas.Option.{none-some}
-use Rattle.sctp_list_lemmas.proofs.Cases.{and-none, same-yes, some-same}
-use Rattle.sctp_list_lemmas.proofs.Edits.{sum_by-inserted}
-use Rattle.sctp_list_lemmas.proofs.More.{both}
-use Rattle.sctp_list_lemmas.specs.Lists.{change_where, insert_before}
-use Rattle.sctp_list_lemmas.specs.Serial.{at_or_before, comes_before, distance}
+use Rattle.sctp_util.proofs.Cases.{and-none, same-yes, some-same}
+use Rattle.sctp_util.proofs.Edits.{sum_by-inserted}
+use Rattle.sctp_util.proofs.More.{both}
+use Rattle.sctp_util.specs.Lists.{change_where, insert_before}
+use Rattle.sctp_util.specs.Serial.{at_or_before, comes_before, distance}
 use Rattle.sctp_data.specs.ForwardTsn.{ForwardTsn}
 use Rattle.sctp_data.specs.declared.chunk.chunk_payload_data.ChunkPayloadData.{ChunkPayloadData}
 use Rattle.sctp_outbound.specs.Marks.{as_acknowledged}

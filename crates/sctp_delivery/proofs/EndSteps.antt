@@ -1,9 +1,9 @@
 -- Sessions that can end: a call in front of others that end one.
 use Rattle.std.proofs.Common.{◌≡◌, ℕ, ◌+◌, ◌-◌, ◌^◌, ◌<◌, ◌≤◌, true, List, [], ◌∷◌, ◌++◌, length, refl, ap, sym, subst, ◌∙◌, arith, Option}
 use Rattle.std.specs.List.{list_all}
-use Rattle.sctp_list_lemmas.proofs.More.{and, not_both}
-use Rattle.sctp_list_lemmas.proofs.Round.{distance-tsn}
-use Rattle.sctp_list_lemmas.specs.Serial.{distance}
+use Rattle.sctp_util.proofs.More.{and, not_both}
+use Rattle.sctp_util.proofs.Round.{distance-tsn}
+use Rattle.sctp_util.specs.Serial.{distance}
 use Rattle.sctp_receiver.proofs.StreamCosts.{are_apart}
 use Rattle.sctp_receiver.specs.Inbound.{numbers_of}
 use Rattle.sctp_receiver.specs.declared.receiver.limits.Limits.{Limits}

@@ -7,9 +7,9 @@ use Rattle.std.specs.List.{list_any}
 use Rattle.std.proofs.lemmas.Bool.{cases_lt}
 use Rattle.std.proofs.lemmas.List.{reverse-append}
 use Rattle.std.proofs.lemmas.List.Sums.{sum_by-cons}
-use Rattle.sctp_list_lemmas.specs.Lists.{after_leading}
-use Rattle.sctp_list_lemmas.proofs.Cases.{same-is, same-yes}
-use Rattle.sctp_list_lemmas.proofs.More.{fails, not_both}
+use Rattle.sctp_util.specs.Lists.{after_leading}
+use Rattle.sctp_util.proofs.Cases.{same-is, same-yes}
+use Rattle.sctp_util.proofs.More.{fails, not_both}
 use Rattle.sctp_data.specs.declared.chunk.chunk_payload_data.ChunkPayloadData.{ChunkPayloadData}
 use Rattle.sctp_data.specs.PayloadData.{Data, data_of}
 use Rattle.sctp_serial.specs.DataChunks.{bytes_of, following_tsn, has_tsn, preceding_tsn}

@@ -2,9 +2,9 @@
 use Rattle.std.proofs.Common.{◌≡◌, ℕ, ◌<◌, Bool, true, false, List, [], ◌∷◌, Some, None, refl, ap, arith, inl}
 use Rattle.std.specs.Prelude.{AllPairs, if◌then◌else◌, ◌==◌, ◌≤◌, ◌^◌, length}
 use Rattle.std.specs.List.{filter, list_all}
-use Rattle.sctp_list_lemmas.specs.Lists.{change_where}
-use Rattle.sctp_list_lemmas.specs.Serial.{at_or_before, at_or_before16, comes_before, comes_before16, distance, distance16}
-use Rattle.sctp_list_lemmas.proofs.Cases.{some-same}
+use Rattle.sctp_util.specs.Lists.{change_where}
+use Rattle.sctp_util.specs.Serial.{at_or_before, at_or_before16, comes_before, comes_before16, distance, distance16}
+use Rattle.sctp_util.proofs.Cases.{some-same}
 use Rattle.sctp_data.specs.declared.chunk.chunk_payload_data.ChunkPayloadData.{ChunkPayloadData}
 use Rattle.sctp_data.specs.declared.chunk.chunk_payload_data.PayloadProtocolIdentifier.TheVariants.{Binary, Unknown}
 use Rattle.sctp_data.specs.declared.chunk.chunk_payload_data.ReliabilityType.TheVariants.{Reliable}

@@ -3,9 +3,9 @@ use Rattle.std.proofs.Common.{◌≡◌, ℕ, ◌+◌, ◌<◌, ◌≤◌, ◌^�
 use Rattle.std.specs.Prelude.{if◌then◌else◌}
 use Rattle.std.specs.List.{filter, sum_by}
 use Rattle.std.proofs.lemmas.List.Sums.{sum_by-append, sum_by-cons}
-use Rattle.sctp_list_lemmas.specs.Lists.{after_leading}
-use Rattle.sctp_list_lemmas.specs.Serial.{at_or_before}
-use Rattle.sctp_list_lemmas.proofs.More.{and, both}
+use Rattle.sctp_util.specs.Lists.{after_leading}
+use Rattle.sctp_util.specs.Serial.{at_or_before}
+use Rattle.sctp_util.proofs.More.{and, both}
 use Rattle.sctp_data.specs.declared.chunk.chunk_payload_data.ChunkPayloadData.{ChunkPayloadData}
 use Rattle.sctp_data.specs.ChunkSet.{ChunkSet}
 use Rattle.sctp_reassembly.specs.reassembly_queue.ReassemblyQueue.{Reassembly, ReassemblyState, after_ordered_skip, after_unordered_skip}

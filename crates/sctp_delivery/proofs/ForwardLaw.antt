@@ -5,10 +5,10 @@ use Rattle.std.specs.Prelude.{◌⊎◌, ◌==◌, ◌&&◌, ◌||◌, if◌then
 use Rattle.std.specs.List.{filter, list_all, list_any}
 use Rattle.std.proofs.lemmas.Bool.{cases_lt}
 use Rattle.std.proofs.lemmas.Bool.Decides.{nat_tests}
-use Rattle.sctp_list_lemmas.specs.Serial.{distance, distance16}
-use Rattle.sctp_list_lemmas.proofs.Cases.{same-yes}
-use Rattle.sctp_list_lemmas.proofs.More.{both, not_both}
-use Rattle.sctp_list_lemmas.proofs.Round.{distance-tsn, tsn}
+use Rattle.sctp_util.specs.Serial.{distance, distance16}
+use Rattle.sctp_util.proofs.Cases.{same-yes}
+use Rattle.sctp_util.proofs.More.{both, not_both}
+use Rattle.sctp_util.proofs.Round.{distance-tsn, tsn}
 use Rattle.sctp_data.specs.declared.chunk.chunk_payload_data.ChunkPayloadData.{ChunkPayloadData}
 use Rattle.sctp_data.specs.declared.chunk.chunk_forward_tsn.ChunkForwardTsnStream.{ChunkForwardTsnStream}
 use Rattle.sctp_data.specs.ChunkSet.{ChunkSet}

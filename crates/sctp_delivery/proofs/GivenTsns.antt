@@ -4,11 +4,11 @@ use Rattle.std.proofs.Common.{Option, Some, None, refl, ap, sym, subst, ◌∙�
 use Rattle.std.specs.Prelude.{if◌then◌else◌, is_some, nat_lt}
 use Rattle.std.proofs.lemmas.List.{length-map}
 use Rattle.std.proofs.lemmas.Bool.Decides.{nat_tests}
-use Rattle.sctp_list_lemmas.specs.Lists.{change_where, insert_before}
-use Rattle.sctp_list_lemmas.specs.Serial.{distance, comes_before}
-use Rattle.sctp_list_lemmas.proofs.Edits.{length-change_where}
-use Rattle.sctp_list_lemmas.proofs.More.{not_both}
-use Rattle.sctp_list_lemmas.proofs.Round.{tsn, distance-tsn}
+use Rattle.sctp_util.specs.Lists.{change_where, insert_before}
+use Rattle.sctp_util.specs.Serial.{distance, comes_before}
+use Rattle.sctp_util.proofs.Edits.{length-change_where}
+use Rattle.sctp_util.proofs.More.{not_both}
+use Rattle.sctp_util.proofs.Round.{tsn, distance-tsn}
 use Rattle.sctp_data.specs.declared.chunk.chunk_payload_data.ChunkPayloadData.{ChunkPayloadData}
 use Rattle.sctp_data.specs.SelectiveAck.{Sack}
 use Rattle.sctp_serial.specs.DataChunks.{chunk_before, following_tsn, tsns}

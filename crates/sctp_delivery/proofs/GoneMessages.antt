@@ -1,9 +1,9 @@
 -- Of an entry up to a place that a FORWARD-TSN goes to: its TSN was taken, or its message is gone, and then so are all fragments of it.
 use Rattle.std.proofs.Common.{◌≡◌, ℕ, suc, ◌+◌, ◌<◌, ◌≤◌, ◌^◌, Bool, true, false, List, [], ◌∷◌, length, ◌⊎◌, inl, inr, refl, ap, sym, subst, ◌∙◌, arith}
 use Rattle.std.specs.Prelude.{◌==◌, ◌||◌, if◌then◌else◌}
-use Rattle.sctp_list_lemmas.proofs.Cases.{or-split, same-is}
-use Rattle.sctp_list_lemmas.proofs.More.{not_both}
-use Rattle.sctp_list_lemmas.proofs.Round.{tsn}
+use Rattle.sctp_util.proofs.Cases.{or-split, same-is}
+use Rattle.sctp_util.proofs.More.{not_both}
+use Rattle.sctp_util.proofs.Round.{tsn}
 use Rattle.sctp_data.specs.declared.chunk.chunk_payload_data.ChunkPayloadData.{ChunkPayloadData}
 use Rattle.sctp_data.specs.PayloadData.{Data, data_of}
 use Rattle.sctp_delivery.specs.Sacks.{was_taken}

@@ -7,10 +7,10 @@ use Rattle.std.proofs.lemmas.Bool.{eq-eqb}
 use Rattle.std.proofs.lemmas.List.Folds.{find-append}
 use Rattle.std.proofs.lemmas.List.Sums.{sum_by-append, sum_by-cons}
 use Rattle.std.proofs.lemmas.Option.{none-some}
-use Rattle.sctp_list_lemmas.specs.Lists.{insert_before}
-use Rattle.sctp_list_lemmas.proofs.Cases.{negated, same-is, some-same}
-use Rattle.sctp_list_lemmas.proofs.Edits.{sum_by-inserted}
-use Rattle.sctp_list_lemmas.proofs.More.{both, fails, not_both}
+use Rattle.sctp_util.specs.Lists.{insert_before}
+use Rattle.sctp_util.proofs.Cases.{negated, same-is, some-same}
+use Rattle.sctp_util.proofs.Edits.{sum_by-inserted}
+use Rattle.sctp_util.proofs.More.{both, fails, not_both}
 use Rattle.sctp_data.specs.declared.chunk.chunk_payload_data.ChunkPayloadData.{ChunkPayloadData}
 use Rattle.sctp_data.specs.ChunkSet.{ChunkSet}
 use Rattle.sctp_data.specs.PayloadData.{data_of}

@@ -4,9 +4,9 @@ use Rattle.std.proofs.Common.{◌∙◌, arith}
 use Rattle.std.specs.Prelude.{◌⊎◌}
 use Rattle.std.specs.List.{list_any}
 use Rattle.std.proofs.lemmas.Bool.{cases_lt}
-use Rattle.sctp_list_lemmas.proofs.Cases.{or-split, same-is}
-use Rattle.sctp_list_lemmas.proofs.More.{fails, not_both}
-use Rattle.sctp_list_lemmas.proofs.Round.{tsn}
+use Rattle.sctp_util.proofs.Cases.{or-split, same-is}
+use Rattle.sctp_util.proofs.More.{fails, not_both}
+use Rattle.sctp_util.proofs.Round.{tsn}
 use Rattle.sctp_data.specs.declared.chunk.chunk_payload_data.ChunkPayloadData.{ChunkPayloadData}
 use Rattle.sctp_data.specs.ChunkSet.{ChunkSet}
 use Rattle.sctp_data.specs.PayloadData.{Data, data_of}

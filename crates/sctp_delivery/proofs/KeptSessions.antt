@@ -1,7 +1,7 @@
 -- In each session of few TSNs: what was taken is held or was read, but for fragments of messages that were abandoned or have expired.
 use Rattle.std.proofs.Common.{◌≡◌, ℕ, ◌+◌, ◌^◌, ◌<◌, List, [], ◌∷◌, ◌++◌, Option, refl, ap, sym, subst, ◌∙◌, append_assoc, arith}
 use Rattle.std.proofs.lemmas.List.{append-nil}
-use Rattle.sctp_list_lemmas.specs.Serial.{distance}
+use Rattle.sctp_util.specs.Serial.{distance}
 use Rattle.sctp_receiver.specs.declared.receiver.limits.Limits.{Limits}
 use Rattle.sctp_delivery.specs.Abandoned.{abandoned_by, abandoned_in}
 use Rattle.sctp_delivery.specs.ReceiverCalls as incoming

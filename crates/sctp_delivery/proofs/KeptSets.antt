@@ -4,12 +4,12 @@ use Rattle.std.specs.Prelude.{⊤, ◌==◌, ◌||◌, if◌then◌else◌, nat_
 use Rattle.std.specs.List.{list_any, sum_by}
 use Rattle.std.proofs.lemmas.Bool.Decides.{nat_tests}
 use Rattle.std.proofs.lemmas.List.Sums.{sum_by-cons}
-use Rattle.sctp_list_lemmas.specs.Lists.{change_first, insert_before}
-use Rattle.sctp_list_lemmas.specs.Serial.{at_or_before16, comes_before16, distance16}
-use Rattle.sctp_list_lemmas.proofs.Cases.{same-yes}
-use Rattle.sctp_list_lemmas.proofs.Edits.{sum_by-inserted}
-use Rattle.sctp_list_lemmas.proofs.More.{both, not_both}
-use Rattle.sctp_list_lemmas.proofs.Wraps.{at_or_before16-index, comes_before16-index, next16}
+use Rattle.sctp_util.specs.Lists.{change_first, insert_before}
+use Rattle.sctp_util.specs.Serial.{at_or_before16, comes_before16, distance16}
+use Rattle.sctp_util.proofs.Cases.{same-yes}
+use Rattle.sctp_util.proofs.Edits.{sum_by-inserted}
+use Rattle.sctp_util.proofs.More.{both, not_both}
+use Rattle.sctp_util.proofs.Wraps.{at_or_before16-index, comes_before16-index, next16}
 use Rattle.sctp_data.specs.declared.chunk.chunk_payload_data.ChunkPayloadData.{ChunkPayloadData}
 use Rattle.sctp_data.specs.ChunkSet.{ChunkSet}
 use Rattle.sctp_reassembly.specs.reassembly_queue.Fragments.{has_ssn, is_complete, new_set, set_before, sets_with, with_chunk}

@@ -3,7 +3,7 @@
 use Rattle.std.proofs.Common.{◌≡◌, ℕ, zero, suc, ◌<◌, ◌≤◌, Bool, true, false, not, List, [], ◌∷◌, length, ◌⊎◌, inl, inr, refl, ap, sym, subst, ◌∙◌, arith}
 use Rattle.std.specs.Prelude.{◌==◌, ◌&&◌}
 use Rattle.std.proofs.lemmas.Bool.{cases_lt}
-use Rattle.sctp_list_lemmas.proofs.More.{both, not_both}
+use Rattle.sctp_util.proofs.More.{both, not_both}
 use Rattle.sctp_data.specs.PayloadData.{Data}
 use Rattle.sctp_delivery.proofs.OrderedEntries.{AreJoined, Joins, begins_on, one}
 use Rattle.sctp_delivery.proofs.PassedMessages.{AreCutGone, EndsGone, EndsMessage, is_gone}

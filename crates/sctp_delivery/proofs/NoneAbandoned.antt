@@ -1,7 +1,7 @@
 -- In a reliable session no message is abandoned: what is said of the other messages is said of all.
 use Rattle.std.proofs.Common.{◌≡◌, ◌++◌, true, List, [], ◌∷◌, refl, ap₂}
 use Rattle.std.specs.List.{list_all}
-use Rattle.sctp_list_lemmas.proofs.More.{both, not_both}
+use Rattle.sctp_util.proofs.More.{both, not_both}
 use Rattle.sctp_sender.specs.Sender.{Transmission}
 use Rattle.sctp_delivery.specs.Abandoned.{EachOtherIsReadOnce, abandoned_by, abandoned_in}
 use Rattle.sctp_delivery.specs.Complete.{EachIsReadOnce, is_reliable, is_reliable_at_receiver, is_reliable_at_sender}

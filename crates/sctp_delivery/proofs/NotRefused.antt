@@ -6,11 +6,11 @@ use Rattle.std.specs.List.{list_any}
 use Rattle.std.proofs.lemmas.Bool.{cases_lt}
 use Rattle.std.proofs.lemmas.Bool.Decides.{nat_tests}
 use Rattle.std.proofs.lemmas.Option.{none-some}
-use Rattle.sctp_list_lemmas.specs.Serial.{at_or_before, at_or_before16, comes_before16, distance16}
-use Rattle.sctp_list_lemmas.proofs.Cases.{or-left, or-split}
-use Rattle.sctp_list_lemmas.proofs.More.{and, both, not_both}
-use Rattle.sctp_list_lemmas.proofs.Round.{tsn}
-use Rattle.sctp_list_lemmas.proofs.Wraps.{at_or_before16-index, comes_before16-index}
+use Rattle.sctp_util.specs.Serial.{at_or_before, at_or_before16, comes_before16, distance16}
+use Rattle.sctp_util.proofs.Cases.{or-left, or-split}
+use Rattle.sctp_util.proofs.More.{and, both, not_both}
+use Rattle.sctp_util.proofs.Round.{tsn}
+use Rattle.sctp_util.proofs.Wraps.{at_or_before16-index, comes_before16-index}
 use Rattle.sctp_data.specs.declared.chunk.chunk_payload_data.ChunkPayloadData.{ChunkPayloadData}
 use Rattle.sctp_data.specs.ChunkSet.{ChunkSet}
 use Rattle.sctp_data.specs.PayloadData.{data_of}

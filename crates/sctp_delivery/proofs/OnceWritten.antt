@@ -2,9 +2,9 @@
 use Rattle.std.proofs.Common.{◌≡◌, ◌≢◌, ℕ, zero, suc, ◌<◌, Bool, true, false, not, List, [], ◌∷◌, ◌++◌, length, inl, inr, refl, ap, sym, subst, ◌∙◌, arith}
 use Rattle.std.specs.Prelude.{⊤, All, AllPairs, ◌==◌, ◌&&◌, ◌||◌, slice_index_or}
 use Rattle.std.specs.List.{list_any}
-use Rattle.sctp_list_lemmas.proofs.Cases.{negated, or-left, or-right, same-yes}
-use Rattle.sctp_list_lemmas.proofs.Edits.{list_any-append, pairs_cons}
-use Rattle.sctp_list_lemmas.proofs.More.{and, both, not_both}
+use Rattle.sctp_util.proofs.Cases.{negated, or-left, or-right, same-yes}
+use Rattle.sctp_util.proofs.Edits.{list_any-append, pairs_cons}
+use Rattle.sctp_util.proofs.More.{and, both, not_both}
 use Rattle.sctp_data.specs.declared.chunk.chunk_payload_data.ChunkPayloadData.{ChunkPayloadData}
 use Rattle.sctp_data.specs.PayloadData.{Data, data_of}
 use Rattle.sctp_receiver.specs.ReceiverRuns.{Message}

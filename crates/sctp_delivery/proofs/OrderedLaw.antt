@@ -2,8 +2,8 @@
 use Rattle.std.proofs.Common.{◌≡◌, ℕ, zero, suc, ◌<◌, ◌≤◌, true, false, not, List, [], ◌∷◌, ◌⊎◌, inl, inr, ap, sym, subst, ◌∙◌, arith}
 use Rattle.std.specs.Prelude.{All, ◌==◌}
 use Rattle.std.specs.List.{list_all}
-use Rattle.sctp_list_lemmas.proofs.Cases.{negated, same-is}
-use Rattle.sctp_list_lemmas.proofs.More.{and, both}
+use Rattle.sctp_util.proofs.Cases.{negated, same-is}
+use Rattle.sctp_util.proofs.More.{and, both}
 use Rattle.sctp_data.specs.declared.chunk.chunk_payload_data.ChunkPayloadData.{ChunkPayloadData}
 use Rattle.sctp_data.specs.PayloadData.{data_of}
 use Rattle.sctp_receiver.specs.ReceiverRuns.{Message}

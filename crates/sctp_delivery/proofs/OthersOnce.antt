@@ -1,7 +1,7 @@
 -- In the end each write is read exactly once, but for those whose messages were abandoned; in a reliable session none was.
 use Rattle.std.proofs.Common.{length, ap, arith, ◌≡◌, ◌<◌, true, subst, sym, ◌∙◌}
 use Rattle.std.specs.Prelude.{All}
-use Rattle.sctp_list_lemmas.proofs.More.{both}
+use Rattle.sctp_util.proofs.More.{both}
 use Rattle.sctp_receiver.specs.Receiver.{stream_of}
 use Rattle.sctp_delivery.specs.Abandoned.{AfterEachSessionOfMessages, AreOfWrites, EachOtherIsReadOnce, IsEachOtherReadInTheEnd, IsHeldReadOrPassed}
 use Rattle.sctp_delivery.specs.Abandoned.{OnlyTheirsAreMarked, abandoned_in}

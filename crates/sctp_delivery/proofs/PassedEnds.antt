@@ -3,9 +3,9 @@ use Rattle.std.proofs.Common.{◌≡◌, ℕ, ◌≤◌, Bool, true, false, List
 use Rattle.std.specs.Prelude.{⊤, if◌then◌else◌, option_map}
 use Rattle.std.specs.List.{find, filter}
 use Rattle.std.proofs.lemmas.Option.{none-some}
-use Rattle.sctp_list_lemmas.proofs.Cases.{same-is, some-same}
-use Rattle.sctp_list_lemmas.proofs.More.{both, not_both}
-use Rattle.sctp_list_lemmas.proofs.Round.{tsn}
+use Rattle.sctp_util.proofs.Cases.{same-is, some-same}
+use Rattle.sctp_util.proofs.More.{both, not_both}
+use Rattle.sctp_util.proofs.Round.{tsn}
 use Rattle.sctp_data.specs.declared.chunk.chunk_payload_data.ChunkPayloadData.{ChunkPayloadData}
 use Rattle.sctp_outbound.specs.pending_queue.PendingQueue.{last_of}
 use Rattle.sctp_outbound.specs.pending_queue.Whole.{ends}

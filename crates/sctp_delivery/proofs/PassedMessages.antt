@@ -2,7 +2,7 @@
 use Rattle.std.proofs.Common.{◌≡◌, ℕ, Bool, true, false, List, [], ◌∷◌, length}
 use Rattle.std.specs.Prelude.{⊤, ◌||◌, nat_eq}
 use Rattle.std.specs.List.{list_any}
-use Rattle.sctp_list_lemmas.proofs.Round.{tsn}
+use Rattle.sctp_util.proofs.Round.{tsn}
 use Rattle.sctp_data.specs.ForwardTsn.{ForwardTsn}
 use Rattle.sctp_delivery.specs.Sacks.{was_taken}
 use Rattle.sctp_delivery.specs.SenderCalls.{Made, data_chunk, forward_tsn}

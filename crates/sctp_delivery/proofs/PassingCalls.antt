@@ -6,10 +6,10 @@ use Rattle.std.specs.List.{filter, find, list_any}
 use Rattle.std.proofs.lemmas.Bool.{cases_lt}
 use Rattle.std.proofs.lemmas.Bool.Decides.{nat_tests}
 use Rattle.std.proofs.lemmas.Option.{none-some}
-use Rattle.sctp_list_lemmas.specs.Serial.{at_or_before, distance}
-use Rattle.sctp_list_lemmas.proofs.Cases.{or-left, or-right, or-split, same-is, some-same}
-use Rattle.sctp_list_lemmas.proofs.More.{both, not_both}
-use Rattle.sctp_list_lemmas.proofs.Round.{tsn}
+use Rattle.sctp_util.specs.Serial.{at_or_before, distance}
+use Rattle.sctp_util.proofs.Cases.{or-left, or-right, or-split, same-is, some-same}
+use Rattle.sctp_util.proofs.More.{both, not_both}
+use Rattle.sctp_util.proofs.Round.{tsn}
 use Rattle.sctp_data.specs.declared.chunk.chunk_payload_data.ChunkPayloadData.{ChunkPayloadData}
 use Rattle.sctp_data.specs.ForwardTsn.{ForwardTsn}
 use Rattle.sctp_data.specs.PayloadData.{Data}

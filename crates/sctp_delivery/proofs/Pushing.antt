@@ -3,9 +3,9 @@ use Rattle.std.proofs.Common.{◌≡◌, ℕ, ◌+◌, ◌%◌, ◌^◌, Bool, t
 use Rattle.std.specs.Prelude.{◌==◌, ◌&&◌, if◌then◌else◌}
 use Rattle.std.specs.List.{list_any}
 use Rattle.std.proofs.lemmas.Option.{none-some}
-use Rattle.sctp_list_lemmas.specs.Lists.{change_where}
-use Rattle.sctp_list_lemmas.proofs.Cases.{by_same, or-left, same-is, same-yes, some-same}
-use Rattle.sctp_list_lemmas.proofs.More.{fails, not_both}
+use Rattle.sctp_util.specs.Lists.{change_where}
+use Rattle.sctp_util.proofs.Cases.{by_same, or-left, same-is, same-yes, some-same}
+use Rattle.sctp_util.proofs.More.{fails, not_both}
 use Rattle.sctp_data.specs.declared.chunk.chunk_payload_data.ChunkPayloadData.{ChunkPayloadData}
 use Rattle.sctp_outbound.specs.declared.pending_queue.Selected.{Selected}
 use Rattle.sctp_outbound.specs.Marks.{is_of}
@@ -16,7 +16,7 @@ use Rattle.sctp_outbound.specs.pending_queue.Whole.{GoesOn, IsMessage}
 use Rattle.sctp_outbound.proofs.lemmas.outbound_queue.Sendable.{goes_on, made, sendable-ordered_changed, sendable-pushed, sendable-without}
 use Rattle.sctp_outbound.proofs.lemmas.pending_queue.CompleteMessages.{KeepsMessage}
 use Rattle.sctp_serial.specs.DataChunks.{is_on}
-use Rattle.sctp_list_lemmas.proofs.Edits.{list_any-those}
+use Rattle.sctp_util.proofs.Edits.{list_any-those}
 use Rattle.sctp_delivery.proofs.Begun.{begins, begins-changed, begun-less, begun-ordered, begun-unordered}
 use Rattle.sctp_delivery.proofs.OrderedEntries.{begun_on, ranked-changed, ranked-more, ranked-those, ranked-written}
 use Rattle.sctp_delivery.proofs.Queues.{Stands}

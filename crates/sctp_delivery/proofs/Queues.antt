@@ -4,9 +4,9 @@ use Rattle.std.proofs.Common.{arith, not}
 use Rattle.std.specs.Prelude.{◌==◌, if◌then◌else◌}
 use Rattle.std.specs.List.{list_any}
 use Rattle.std.proofs.lemmas.Option.{none-some}
-use Rattle.sctp_list_lemmas.specs.Lists.{change_where, insert_before}
-use Rattle.sctp_list_lemmas.proofs.Cases.{or-left, same-yes, some-same}
-use Rattle.sctp_list_lemmas.proofs.More.{fails, not_both}
+use Rattle.sctp_util.specs.Lists.{change_where, insert_before}
+use Rattle.sctp_util.proofs.Cases.{or-left, same-yes, some-same}
+use Rattle.sctp_util.proofs.More.{fails, not_both}
 use Rattle.sctp_data.specs.declared.chunk.chunk_payload_data.ChunkPayloadData.{ChunkPayloadData}
 use Rattle.sctp_data.specs.PayloadData.{data_of}
 use Rattle.sctp_outbound.specs.declared.pending_queue.Selected.{Selected}
@@ -21,7 +21,7 @@ use Rattle.sctp_outbound.proofs.lemmas.outbound_queue.Abandoned.{abandoned_none,
 use Rattle.sctp_outbound.proofs.lemmas.outbound_queue.Sendable.{partial_gone, sendable-changed, sendable-fewer, sendable-marked, sendable-sent}
 use Rattle.sctp_outbound.proofs.lemmas.pending_queue.CompleteMessages.{KeepsMessage}
 use Rattle.sctp_serial.specs.DataChunks.{chunk_before, following_tsn}
-use Rattle.sctp_list_lemmas.proofs.Edits.{list_any-inserted, list_any-those}
+use Rattle.sctp_util.proofs.Edits.{list_any-inserted, list_any-those}
 use Rattle.sctp_delivery.proofs.Begun.{IsBegun, begins, begins-changed, begun-ended, begun-less, begun-sent}
 use Rattle.sctp_delivery.proofs.InFlight.{AreKnown, KeepsData, abandoned-keeps, abandoned-not, known-changed, known-inserted, known-more}
 use Rattle.sctp_delivery.proofs.OrderedEntries.{ranked-changed, ranked-ended, ranked-those}

@@ -1,8 +1,8 @@
 -- Sessions that were reached from a start, call by call: the chunks in flight are continued, and no more are left in an exchange.
 use Rattle.std.proofs.Common.{◌≡◌, ℕ, ◌+◌, ◌^◌, ◌<◌, ◌≤◌, true, List, [], ◌∷◌, ◌++◌, Option, refl, ap, sym, subst, arith}
 use Rattle.std.specs.List.{list_all}
-use Rattle.sctp_list_lemmas.specs.Serial.{distance}
-use Rattle.sctp_list_lemmas.proofs.More.{and, both}
+use Rattle.sctp_util.specs.Serial.{distance}
+use Rattle.sctp_util.proofs.More.{and, both}
 use Rattle.sctp_receiver.specs.declared.receiver.limits.Limits.{Limits}
 use Rattle.sctp_sender.specs.SenderRuns.{Ledger}
 use Rattle.sctp_delivery.specs.Complete.{is_reliable}

@@ -1,6 +1,6 @@
 -- After rounds of reliable calls each write was read.
 use Rattle.std.proofs.Common.{◌≡◌, ℕ, zero, suc, ◌+◌, ◌^◌, ◌<◌, refl, subst, sym, arith}
-use Rattle.sctp_list_lemmas.proofs.More.{and}
+use Rattle.sctp_util.proofs.More.{and}
 use Rattle.sctp_delivery.specs.Complete.{is_all_acknowledged, reads_nothing}
 use Rattle.sctp_delivery.specs.Rounds.{AfterEachFitReliableSession, AllIsReadAfterRounds, AreReliable, IsAnswered, Rounds, tsns_in_rounds}
 use Rattle.sctp_delivery.specs.Sacks.{tsns_given}

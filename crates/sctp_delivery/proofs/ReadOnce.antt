@@ -3,8 +3,8 @@ use Rattle.std.proofs.Common.{◌≡◌, ℕ, ◌+◌, ◌≤◌, Bool, true, fa
 use Rattle.std.specs.Prelude.{◌==◌, ◌&&◌, ◌||◌, if◌then◌else◌}
 use Rattle.std.specs.List.{filter, list_all, list_any, sum_by}
 use Rattle.std.proofs.lemmas.List.Sums.{sum_by-cons, sum_by-append}
-use Rattle.sctp_list_lemmas.proofs.Cases.{negated, or-right, same-is, same-yes}
-use Rattle.sctp_list_lemmas.proofs.More.{and, both, not_both}
+use Rattle.sctp_util.proofs.Cases.{negated, or-right, same-is, same-yes}
+use Rattle.sctp_util.proofs.More.{and, both, not_both}
 use Rattle.sctp_data.specs.declared.chunk.chunk_payload_data.ChunkPayloadData.{ChunkPayloadData}
 use Rattle.sctp_receiver.specs.ReceiverRuns.{Message, fragments_read}
 use Rattle.sctp_receiver.proofs.Handed as handed

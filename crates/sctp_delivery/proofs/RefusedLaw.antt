@@ -7,10 +7,10 @@ use Rattle.std.specs.Option.{option_or}
 use Rattle.std.proofs.lemmas.Bool.{cases_lt}
 use Rattle.std.proofs.lemmas.Bool.Decides.{nat_tests}
 use Rattle.std.proofs.lemmas.Option.{none-some}
-use Rattle.sctp_list_lemmas.specs.Serial.{distance16}
-use Rattle.sctp_list_lemmas.proofs.Cases.{or-left, or-split, same-is, same-yes, and-none, or-right, some-same}
-use Rattle.sctp_list_lemmas.proofs.More.{and, not_both, both, fails}
-use Rattle.sctp_list_lemmas.proofs.Round.{tsn}
+use Rattle.sctp_util.specs.Serial.{distance16}
+use Rattle.sctp_util.proofs.Cases.{or-left, or-split, same-is, same-yes, and-none, or-right, some-same}
+use Rattle.sctp_util.proofs.More.{and, not_both, both, fails}
+use Rattle.sctp_util.proofs.Round.{tsn}
 use Rattle.sctp_data.specs.declared.chunk.chunk_payload_data.ChunkPayloadData.{ChunkPayloadData}
 use Rattle.sctp_data.specs.ChunkSet.{ChunkSet}
 use Rattle.sctp_data.specs.PayloadData.{Data, data_of}
@@ -54,8 +54,8 @@ use Rattle.sctp_delivery.proofs.AnsweredCalls as answered
 use Rattle.sctp_delivery.proofs.TsnPlaces.{IsGiven, base}
 use Rattle.sctp_delivery.proofs.UnwrappedHolds.{AreDue, Came, DueOn, IsOf, rises-put, Fits}
 use Rattle.sctp_delivery.proofs.UnwrappedSessions as sessions
-use Rattle.sctp_list_lemmas.proofs.Edits.{sum_by-inserted}
-use Rattle.sctp_list_lemmas.specs.Lists.{insert_before}
+use Rattle.sctp_util.proofs.Edits.{sum_by-inserted}
+use Rattle.sctp_util.specs.Lists.{insert_before}
 use Rattle.sctp_reassembly.specs.reassembly_queue.Fragments.{chunks_of_ssn}
 use Rattle.sctp_reassembly.specs.reassembly_queue.Sizes.{projected_size, size_after, size_before}
 use Rattle.sctp_receiver.specs.Inbound.{has_number}

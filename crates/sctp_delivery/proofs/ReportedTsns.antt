@@ -5,11 +5,11 @@ use Rattle.std.specs.Prelude.{if◌then◌else◌, ◌&&◌, ◌||◌, nat_lt, n
 use Rattle.std.specs.List.{filter, list_all, list_any}
 use Rattle.std.proofs.lemmas.Bool.{cases_lt}
 use Rattle.std.proofs.lemmas.Bool.Decides.{nat_tests}
-use Rattle.sctp_list_lemmas.specs.Kept.{runs_of}
-use Rattle.sctp_list_lemmas.specs.Serial.{distance, comes_before, at_or_before}
-use Rattle.sctp_list_lemmas.proofs.Cases.{or-left, or-right, or-split}
-use Rattle.sctp_list_lemmas.proofs.More.{and, both, not_both}
-use Rattle.sctp_list_lemmas.proofs.Round.{tsn, distance-tsn, distance-tsn_back}
+use Rattle.sctp_util.specs.Kept.{runs_of}
+use Rattle.sctp_util.specs.Serial.{distance, comes_before, at_or_before}
+use Rattle.sctp_util.proofs.Cases.{or-left, or-right, or-split}
+use Rattle.sctp_util.proofs.More.{and, both, not_both}
+use Rattle.sctp_util.proofs.Round.{tsn, distance-tsn, distance-tsn_back}
 use Rattle.sctp_data.specs.declared.chunk.chunk_selective_ack.GapAckBlock.{GapAckBlock}
 use Rattle.sctp_data.specs.SelectiveAck.{Sack}
 use Rattle.sctp_outbound.specs.payload_queue.Blocks.{is_in_block, is_in_blocks, is_offset}

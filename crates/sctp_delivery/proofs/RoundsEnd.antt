@@ -3,9 +3,9 @@ use Rattle.std.proofs.Common.{◌≡◌, ℕ, zero, suc, ◌+◌, ◌-◌, ◌^�
 use Rattle.std.specs.Prelude.{if◌then◌else◌, ◌==◌}
 use Rattle.std.proofs.lemmas.Bool.{cases_lt}
 use Rattle.std.proofs.lemmas.Bool.Decides.{nat_tests}
-use Rattle.sctp_list_lemmas.specs.Serial.{distance}
-use Rattle.sctp_list_lemmas.proofs.More.{and}
-use Rattle.sctp_list_lemmas.proofs.Round.{distance-tsn}
+use Rattle.sctp_util.specs.Serial.{distance}
+use Rattle.sctp_util.proofs.More.{and}
+use Rattle.sctp_util.proofs.Round.{distance-tsn}
 use Rattle.sctp_data.specs.SelectiveAck.{Sack}
 use Rattle.sctp_outbound.specs.pending_queue.PendingQueue.{chunk_count}
 use Rattle.sctp_sender.specs.Flight.{Flight, after_sack, is_outdated, take_sack}

@@ -4,10 +4,10 @@ use Rattle.std.proofs.Common.{arith, None}
 use Rattle.std.specs.Prelude.{if◌then◌else◌, ◌||◌, not, nat_le, nat_lt, All}
 use Rattle.std.specs.List.{filter, list_any}
 use Rattle.std.proofs.lemmas.Bool.Decides.{nat_tests}
-use Rattle.sctp_list_lemmas.specs.Serial.{distance, at_or_before, comes_before}
-use Rattle.sctp_list_lemmas.proofs.Cases.{or-left, or-right, or-split}
-use Rattle.sctp_list_lemmas.proofs.More.{both}
-use Rattle.sctp_list_lemmas.proofs.Round.{tsn}
+use Rattle.sctp_util.specs.Serial.{distance, at_or_before, comes_before}
+use Rattle.sctp_util.proofs.Cases.{or-left, or-right, or-split}
+use Rattle.sctp_util.proofs.More.{both}
+use Rattle.sctp_util.proofs.Round.{tsn}
 use Rattle.sctp_data.specs.declared.chunk.chunk_payload_data.ChunkPayloadData.{ChunkPayloadData}
 use Rattle.sctp_data.specs.SelectiveAck.{Sack}
 use Rattle.sctp_receiver.specs.declared.receiver.arrival.Arrival.TheVariants.{New, Repeat}

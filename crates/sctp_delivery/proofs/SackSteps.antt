@@ -6,9 +6,9 @@ use Rattle.std.specs.List.{filter, list_any}
 use Rattle.std.proofs.lemmas.Bool.Decides.{nat_tests}
 use Rattle.std.proofs.lemmas.List.{length-map}
 use Rattle.std.proofs.lemmas.Option.{none-some}
-use Rattle.sctp_list_lemmas.specs.Serial.{distance, at_or_before, comes_before}
-use Rattle.sctp_list_lemmas.proofs.More.{not_both}
-use Rattle.sctp_list_lemmas.proofs.Round.{tsn, distance-tsn}
+use Rattle.sctp_util.specs.Serial.{distance, at_or_before, comes_before}
+use Rattle.sctp_util.proofs.More.{not_both}
+use Rattle.sctp_util.proofs.Round.{tsn, distance-tsn}
 use Rattle.sctp_data.specs.declared.chunk.chunk_payload_data.ChunkPayloadData.{ChunkPayloadData}
 use Rattle.sctp_data.specs.SelectiveAck.{Sack}
 use Rattle.sctp_outbound.specs.Marks.{is_outstanding, with_retransmit}

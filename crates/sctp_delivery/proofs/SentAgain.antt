@@ -1,10 +1,10 @@
 -- What is in flight can be sent again, unless it came or is abandoned.
 use Rattle.std.proofs.Common.{◌≡◌, ℕ, ◌+◌, ◌^◌, ◌<◌, Bool, true, false, length, get_or, Some, refl, ap, sym, ◌∙◌, arith}
 use Rattle.std.specs.Prelude.{◌&&◌, ◌||◌, not, find}
-use Rattle.sctp_list_lemmas.proofs.Cases.{or-left, or-right}
-use Rattle.sctp_list_lemmas.proofs.More.{not_both}
+use Rattle.sctp_util.proofs.Cases.{or-left, or-right}
+use Rattle.sctp_util.proofs.More.{not_both}
 use Rattle.sctp_data.specs.declared.chunk.chunk_payload_data.ChunkPayloadData.{ChunkPayloadData}
-use Rattle.sctp_list_lemmas.proofs.Round.{tsn}
+use Rattle.sctp_util.proofs.Round.{tsn}
 use Rattle.sctp_outbound.specs.Marks.{is_outstanding}
 use Rattle.sctp_serial.specs.DataChunks.{has_tsn}
 use Rattle.sctp_sender.specs.Flight.{can_resend, is_outstanding_in}

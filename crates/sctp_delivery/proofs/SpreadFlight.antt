@@ -6,10 +6,10 @@ use Rattle.std.specs.List.{filter, find}
 use Rattle.std.proofs.lemmas.Bool.{cases_lt}
 use Rattle.std.proofs.lemmas.Bool.Decides.{nat_tests}
 use Rattle.std.proofs.lemmas.Option.{none-some}
-use Rattle.sctp_list_lemmas.specs.Serial.{distance}
-use Rattle.sctp_list_lemmas.proofs.Cases.{same-is, some-same}
-use Rattle.sctp_list_lemmas.proofs.More.{both, not_both}
-use Rattle.sctp_list_lemmas.proofs.Round.{tsn, distance-tsn}
+use Rattle.sctp_util.specs.Serial.{distance}
+use Rattle.sctp_util.proofs.Cases.{same-is, some-same}
+use Rattle.sctp_util.proofs.More.{both, not_both}
+use Rattle.sctp_util.proofs.Round.{tsn, distance-tsn}
 use Rattle.sctp_data.specs.declared.chunk.chunk_payload_data.ChunkPayloadData.{ChunkPayloadData}
 use Rattle.sctp_data.specs.declared.chunk.chunk_forward_tsn.ChunkForwardTsnStream.{ChunkForwardTsnStream}
 use Rattle.sctp_data.specs.ForwardTsn.{ForwardTsn}

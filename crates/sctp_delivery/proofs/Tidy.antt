@@ -3,8 +3,8 @@
 use Rattle.std.proofs.Common.{◌≡◌, ℕ, suc, ◌+◌, ◌^◌, ◌<◌, Bool, true, false, List, [], ◌∷◌, length, take, drop, Some, None, refl, ap, sym, subst, arith}
 use Rattle.std.specs.Prelude.{if◌then◌else◌, remove}
 use Rattle.std.specs.List.{list_any}
-use Rattle.sctp_list_lemmas.specs.Lists.{change_first, insert_before}
-use Rattle.sctp_list_lemmas.specs.Serial.{comes_before16}
+use Rattle.sctp_util.specs.Lists.{change_first, insert_before}
+use Rattle.sctp_util.specs.Serial.{comes_before16}
 use Rattle.sctp_data.specs.declared.chunk.chunk_payload_data.ChunkPayloadData.{ChunkPayloadData}
 use Rattle.sctp_data.specs.ChunkSet.{ChunkSet}
 use Rattle.sctp_reassembly.specs.reassembly_queue.Fragments.{has_ssn, new_set, set_before, sets_with, with_chunk}

@@ -5,8 +5,8 @@ use Rattle.std.specs.Prelude.{◌⊎◌, ◌==◌, ◌&&◌, if◌then◌else◌
 use Rattle.std.specs.List.{find}
 use Rattle.std.proofs.lemmas.Bool.{cases_lt}
 use Rattle.std.proofs.lemmas.Bool.Decides.{nat_tests}
-use Rattle.sctp_list_lemmas.proofs.Cases.{negated, same-is}
-use Rattle.sctp_list_lemmas.proofs.More.{both, not_both}
+use Rattle.sctp_util.proofs.Cases.{negated, same-is}
+use Rattle.sctp_util.proofs.More.{both, not_both}
 use Rattle.sctp_data.specs.declared.chunk.chunk_payload_data.ChunkPayloadData.{ChunkPayloadData}
 use Rattle.sctp_data.specs.PayloadData.{data_of}
 use Rattle.sctp_sender.specs.Flight.{Flight}

@@ -3,8 +3,8 @@ use Rattle.std.proofs.Common.{◌≡◌, ℕ, ◌+◌, ◌-◌, ◌<◌, ◌≤�
 use Rattle.std.specs.Prelude.{◌⊎◌, nat_lt, nat_le, ◌&&◌}
 use Rattle.std.proofs.lemmas.Bool.{cases_lt}
 use Rattle.std.proofs.lemmas.Bool.Decides.{nat_tests}
-use Rattle.sctp_list_lemmas.specs.Serial.{distance, comes_before, at_or_before}
-use Rattle.sctp_list_lemmas.proofs.Round.{tsn, distance-tsn, distance-tsn_back}
+use Rattle.sctp_util.specs.Serial.{distance, comes_before, at_or_before}
+use Rattle.sctp_util.proofs.Round.{tsn, distance-tsn, distance-tsn_back}
 
 pub same-place : (p j k : ℕ) → j < 2 ^ 32 → k < 2 ^ 32 → tsn p j ≡ tsn p k → j ≡ k
 same-place p j k a b e = omega (arith, e)

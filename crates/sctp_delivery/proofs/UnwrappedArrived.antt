@@ -4,10 +4,10 @@ use Rattle.std.specs.Prelude.{⊤, ◌==◌, ◌&&◌, ◌||◌, if◌then◌els
 use Rattle.std.specs.List.{list_any}
 use Rattle.std.proofs.lemmas.Bool.{cases_lt}
 use Rattle.std.proofs.lemmas.Bool.Decides.{nat_tests}
-use Rattle.sctp_list_lemmas.specs.Serial.{at_or_before}
-use Rattle.sctp_list_lemmas.proofs.Cases.{negated, or-split, same-is, same-yes}
-use Rattle.sctp_list_lemmas.proofs.More.{both, fails, not_both}
-use Rattle.sctp_list_lemmas.proofs.Round.{tsn}
+use Rattle.sctp_util.specs.Serial.{at_or_before}
+use Rattle.sctp_util.proofs.Cases.{negated, or-split, same-is, same-yes}
+use Rattle.sctp_util.proofs.More.{both, fails, not_both}
+use Rattle.sctp_util.proofs.Round.{tsn}
 use Rattle.sctp_data.specs.declared.chunk.chunk_payload_data.ChunkPayloadData.{ChunkPayloadData}
 use Rattle.sctp_reassembly.specs.reassembly_queue.Skips.{misses, misses_behind}
 use Rattle.sctp_serial.specs.DataChunks.{following_tsn, has_tsn, preceding_tsn}

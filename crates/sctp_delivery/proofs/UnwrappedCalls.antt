@@ -7,12 +7,12 @@ use Rattle.std.specs.Option.{option_or}
 use Rattle.std.proofs.lemmas.Bool.{cases_lt, eq-eqb}
 use Rattle.std.proofs.lemmas.Bool.Decides.{nat_tests}
 use Rattle.std.proofs.lemmas.List.Folds.{find-append}
-use Rattle.sctp_list_lemmas.specs.Lists.{change_where, insert_before}
-use Rattle.sctp_list_lemmas.specs.Serial.{at_or_before, comes_before}
-use Rattle.sctp_list_lemmas.proofs.Cases.{negated, or-left, or-right, or-split, same-is}
-use Rattle.sctp_list_lemmas.proofs.Edits.{list_any-inserted, list_any-those}
-use Rattle.sctp_list_lemmas.proofs.More.{both, fails, not_both, same_test}
-use Rattle.sctp_list_lemmas.proofs.Round.{tsn}
+use Rattle.sctp_util.specs.Lists.{change_where, insert_before}
+use Rattle.sctp_util.specs.Serial.{at_or_before, comes_before}
+use Rattle.sctp_util.proofs.Cases.{negated, or-left, or-right, or-split, same-is}
+use Rattle.sctp_util.proofs.Edits.{list_any-inserted, list_any-those}
+use Rattle.sctp_util.proofs.More.{both, fails, not_both, same_test}
+use Rattle.sctp_util.proofs.Round.{tsn}
 use Rattle.sctp_data.specs.declared.chunk.chunk_payload_data.ChunkPayloadData.{ChunkPayloadData}
 use Rattle.sctp_data.specs.declared.chunk.chunk_forward_tsn.ChunkForwardTsnStream.{ChunkForwardTsnStream}
 use Rattle.sctp_data.specs.ChunkSet.{ChunkSet}

@@ -4,11 +4,11 @@ use Rattle.std.specs.Prelude.{⊤, ◌⊎◌, ◌==◌, ◌&&◌, ◌||◌, if�
 use Rattle.std.specs.List.{list_any}
 use Rattle.std.proofs.lemmas.Bool.{cases_lt, eq-eqb}
 use Rattle.std.proofs.lemmas.Bool.Decides.{nat_tests}
-use Rattle.sctp_list_lemmas.specs.Lists.{Seen, advance_over, insert_before}
-use Rattle.sctp_list_lemmas.specs.Serial.{at_or_before, comes_before}
-use Rattle.sctp_list_lemmas.proofs.Cases.{negated, or-left, or-right, or-split, same-is}
-use Rattle.sctp_list_lemmas.proofs.More.{both, not_both}
-use Rattle.sctp_list_lemmas.proofs.Round.{tsn}
+use Rattle.sctp_util.specs.Lists.{Seen, advance_over, insert_before}
+use Rattle.sctp_util.specs.Serial.{at_or_before, comes_before}
+use Rattle.sctp_util.proofs.Cases.{negated, or-left, or-right, or-split, same-is}
+use Rattle.sctp_util.proofs.More.{both, not_both}
+use Rattle.sctp_util.proofs.Round.{tsn}
 use Rattle.sctp_data.specs.declared.chunk.chunk_payload_data.ChunkPayloadData.{ChunkPayloadData}
 use Rattle.sctp_data.specs.ChunkSet.{ChunkSet}
 use Rattle.sctp_serial.specs.DataChunks.{chunk_before, following_tsn, has_tsn, preceding_tsn}

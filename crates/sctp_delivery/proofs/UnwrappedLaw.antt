@@ -1,8 +1,8 @@
 -- The ordered messages of a stream are read in the order of their writes.
 use Rattle.std.proofs.Common.{◌≡◌, ℕ, ◌+◌, ◌^◌, ◌<◌, ◌≤◌, Bool, true, false, List, [], ◌∷◌, length, refl, ap, sym, subst, ◌∙◌, arith}
 use Rattle.std.specs.Prelude.{All, AllPairs, if◌then◌else◌}
-use Rattle.sctp_list_lemmas.proofs.Edits.{pairs_cons}
-use Rattle.sctp_list_lemmas.proofs.More.{not_both}
+use Rattle.sctp_util.proofs.Edits.{pairs_cons}
+use Rattle.sctp_util.proofs.More.{not_both}
 use Rattle.sctp_data.specs.declared.chunk.chunk_payload_data.ChunkPayloadData.{ChunkPayloadData}
 use Rattle.sctp_data.specs.PayloadData.{Data, data_of}
 use Rattle.sctp_receiver.specs.ReceiverRuns.{Message}

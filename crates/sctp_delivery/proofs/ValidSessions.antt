@@ -2,8 +2,8 @@
 use Rattle.std.proofs.Common.{◌≡◌, ℕ, ◌+◌, ◌^◌, ◌<◌, true, List, [], ◌∷◌, Option, refl, ap, sym, subst, ◌∙◌, arith}
 use Rattle.std.specs.Prelude.{◌==◌}
 use Rattle.std.proofs.lemmas.List.Folds.{find-append}
-use Rattle.sctp_list_lemmas.specs.Serial.{distance}
-use Rattle.sctp_list_lemmas.proofs.More.{not_both}
+use Rattle.sctp_util.specs.Serial.{distance}
+use Rattle.sctp_util.proofs.More.{not_both}
 use Rattle.sctp_data.specs.PayloadData.{data_of}
 use Rattle.sctp_receiver.specs.declared.receiver.arrival.Arrival.TheVariants.{New, Repeat}
 use Rattle.sctp_receiver.specs.declared.receiver.limits.Limits.{Limits}

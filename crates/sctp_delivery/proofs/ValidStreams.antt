@@ -5,11 +5,11 @@ use Rattle.std.proofs.Common.{subst, ◌∙◌, arith, drop, take}
 use Rattle.std.specs.Prelude.{⊤, ◌==◌, ◌&&◌, if◌then◌else◌}
 use Rattle.std.specs.List.{list_any}
 use Rattle.std.proofs.lemmas.Bool.{cases_lt, eq-eqb}
-use Rattle.sctp_list_lemmas.specs.Lists.{change_first, insert_before}
-use Rattle.sctp_list_lemmas.specs.Serial.{comes_before16}
-use Rattle.sctp_list_lemmas.proofs.Cases.{or-left, or-right, same-is}
-use Rattle.sctp_list_lemmas.proofs.More.{both, not_both}
-use Rattle.sctp_list_lemmas.proofs.Round.{tsn}
+use Rattle.sctp_util.specs.Lists.{change_first, insert_before}
+use Rattle.sctp_util.specs.Serial.{comes_before16}
+use Rattle.sctp_util.proofs.Cases.{or-left, or-right, same-is}
+use Rattle.sctp_util.proofs.More.{both, not_both}
+use Rattle.sctp_util.proofs.Round.{tsn}
 use Rattle.sctp_data.specs.declared.chunk.chunk_payload_data.ChunkPayloadData.{ChunkPayloadData}
 use Rattle.sctp_data.specs.ChunkSet.{ChunkSet}
 use Rattle.sctp_data.specs.PayloadData.{data_of}

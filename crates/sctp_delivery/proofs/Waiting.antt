@@ -1,7 +1,7 @@
 -- What waits in a list of a sender: messages one behind another, each the fragments of a write, or the rest of one and then such.
 use Rattle.std.proofs.Common.{◌≡◌, ℕ, ◌+◌, ◌-◌, ◌%◌, ◌^◌, Bool, true, false, not, List, [], ◌∷◌, ◌++◌, Option, Some, None, refl, ap, sym, subst, ◌∙◌}
 use Rattle.std.specs.Prelude.{⊤, ◌==◌, if◌then◌else◌}
-use Rattle.sctp_list_lemmas.specs.Lists.{change_where}
+use Rattle.sctp_util.specs.Lists.{change_where}
 use Rattle.sctp_data.specs.declared.chunk.chunk_payload_data.ChunkPayloadData.{ChunkPayloadData}
 use Rattle.sctp_data.specs.PayloadData.{data_of}
 use Rattle.sctp_outbound.specs.declared.pending_queue.Selected.{Selected}

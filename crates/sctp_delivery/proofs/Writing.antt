@@ -4,10 +4,10 @@ use Rattle.std.proofs.Common.{arith}
 use Rattle.std.specs.Prelude.{◌==◌, ◌&&◌, if◌then◌else◌, nat_lt}
 use Rattle.std.proofs.lemmas.Bool.Decides.{nat_tests}
 use Rattle.std.proofs.lemmas.Option.{none-some}
-use Rattle.sctp_list_lemmas.specs.Kept.{always, numbers_where}
-use Rattle.sctp_list_lemmas.specs.Lists.{change_where, pieces}
-use Rattle.sctp_list_lemmas.proofs.Cases.{by_same, negated, same-is, same-yes, some-same}
-use Rattle.sctp_list_lemmas.proofs.More.{both, fails, not_both}
+use Rattle.sctp_util.specs.Kept.{always, numbers_where}
+use Rattle.sctp_util.specs.Lists.{change_where, pieces}
+use Rattle.sctp_util.proofs.Cases.{by_same, negated, same-is, same-yes, some-same}
+use Rattle.sctp_util.proofs.More.{both, fails, not_both}
 use Rattle.sctp_data.specs.declared.chunk.chunk_payload_data.ChunkPayloadData.{ChunkPayloadData}
 use Rattle.sctp_data.specs.declared.chunk.chunk_payload_data.PayloadProtocolIdentifier.{PayloadProtocolIdentifier}
 use Rattle.sctp_data.specs.PayloadTypes.{is_ordered}

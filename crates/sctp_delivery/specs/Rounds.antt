@@ -1,7 +1,7 @@
 -- Exchanges that get through empty the sender (RFC 4960 6.2.1; RFC 3758 3.5).
 use Rattle.std.specs.Prelude.{◌≡◌, ⊤, ℕ, zero, suc, ◌+◌, ◌-◌, ◌^◌, ◌<◌, ◌≤◌, ◌⊎◌, ◌||◌, Bool, true, false, List, [], ◌∷◌, length, All, Option, Some}
 use Rattle.std.specs.List.{list_all}
-use Rattle.sctp_list_lemmas.specs.Serial.{at_or_before}
+use Rattle.sctp_util.specs.Serial.{at_or_before}
 use Rattle.sctp_data.specs.declared.chunk.chunk_payload_data.ChunkPayloadData.{ChunkPayloadData}
 use Rattle.sctp_data.specs.SelectiveAck.{Sack}
 use Rattle.sctp_outbound.specs.pending_queue.PendingQueue.{chunk_count}

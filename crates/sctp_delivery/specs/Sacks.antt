@@ -1,7 +1,7 @@
 -- What SACKs and FORWARD-TSNs say in a session of two hosts (RFC 4960 3.3.4, 6.2.1; RFC 3758 3.5).
 use Rattle.std.specs.Prelude.{◌≡◌, ℕ, ◌+◌, ◌^◌, ◌<◌, nat_le, Bool, true, false, not, ◌&&◌, ◌||◌, List, [], ◌∷◌, length, All, Contains, Option, None}
 use Rattle.std.specs.List.{list_any}
-use Rattle.sctp_list_lemmas.specs.Serial.{distance, at_or_before}
+use Rattle.sctp_util.specs.Serial.{distance, at_or_before}
 use Rattle.sctp_data.specs.declared.chunk.chunk_payload_data.ChunkPayloadData.{ChunkPayloadData}
 use Rattle.sctp_data.specs.SelectiveAck.{Sack}
 use Rattle.sctp_outbound.specs.payload_queue.Blocks.{is_in_blocks}

@@ -3,8 +3,8 @@ use Rattle.std.proofs.Common.{◌≡◌, ℕ, ◌≤◌, List, [], ◌∷◌, �
 use Rattle.std.specs.Prelude.{min}
 use Rattle.std.specs.List.{flat_map}
 use Rattle.std.proofs.lemmas.List.{take-append-drop, length-take}
-use Rattle.sctp_base.specs.Walk.{Walks}
-use Rattle.sctp_base.specs.Padding.{padded_length}
+use Rattle.sctp_util.specs.Walk.{Walks}
+use Rattle.sctp_util.specs.Padding.{padded_length}
 use Rattle.sctp_chunks.specs.ErrorCause.{cause_declared_length}
 use Rattle.sctp_dissect.specs.declared.causes.CauseItem.{CauseItem}
 use Rattle.sctp_dissect.specs.Causes.{cause_span, after_padded_cause, ShowsCause, cause_bytes}

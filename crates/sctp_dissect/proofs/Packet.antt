@@ -3,8 +3,8 @@ use Rattle.std.proofs.Common.{◌≡◌, ℕ, ◌≤◌, List, ◌++◌, length,
 use Rattle.std.specs.Prelude.{Some}
 use Rattle.std.specs.List.{flat_map}
 use Rattle.std.proofs.lemmas.List.{take-append-drop}
-use Rattle.sctp_base.specs.Walk.{Walks}
-use Rattle.sctp_base.specs.Field.{u32_le_at}
+use Rattle.sctp_util.specs.Walk.{Walks}
+use Rattle.sctp_util.specs.Field.{u32_le_at}
 use Rattle.sctp_packets.specs.Packet.{Parts, ReadsPacket, after, checksum_input}
 use Rattle.sctp_dissect.specs.declared.dissection.Header.{Header}
 use Rattle.sctp_dissect.specs.declared.dissection.Dissection.{Dissection}

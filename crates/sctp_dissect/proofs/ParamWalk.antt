@@ -3,8 +3,8 @@ use Rattle.std.proofs.Common.{◌≡◌, ℕ, ◌≤◌, List, [], ◌∷◌, �
 use Rattle.std.specs.Prelude.{min}
 use Rattle.std.specs.List.{flat_map}
 use Rattle.std.proofs.lemmas.List.{take-append-drop, length-take}
-use Rattle.sctp_base.specs.Walk.{Walks}
-use Rattle.sctp_base.specs.Padding.{padded_length}
+use Rattle.sctp_util.specs.Walk.{Walks}
+use Rattle.sctp_util.specs.Padding.{padded_length}
 use Rattle.sctp_params.specs.ParamFraming.{param_declared_length, after_param}
 use Rattle.sctp_dissect.specs.declared.params.ParamItem.{ParamItem}
 use Rattle.sctp_dissect.specs.Params.{param_span, ShowsParam, param_bytes}

@@ -1,6 +1,6 @@
 -- What bytes show as error causes, whatever they are: items by their declared lengths, each with its padding, and a rest.
 use Rattle.std.specs.Prelude.{◌≡◌, ℕ, List, take, drop}
-use Rattle.sctp_base.specs.Padding.{padded_length}
+use Rattle.sctp_util.specs.Padding.{padded_length}
 use Rattle.sctp_chunks.specs.ErrorCause.{cause_declared_length, ReadsCause}
 use Rattle.sctp_dissect.specs.declared.causes.CauseItem.{CauseItem}
 

@@ -1,8 +1,8 @@
 -- What a datagram shows, whatever its bytes: a header, items by their declared lengths, and a rest.
 use Rattle.std.specs.Prelude.{◌≡◌, ℕ, ◌≤◌, ◌<◌, List, [], ◌++◌, length, take, map, Option, Some, None}
 use Rattle.std.specs.List.{flat_map}
-use Rattle.sctp_base.specs.Field.{u16_at, u32_at, u32_le_at}
-use Rattle.sctp_base.specs.Padding.{padded_length}
+use Rattle.sctp_util.specs.Field.{u16_at, u32_at, u32_le_at}
+use Rattle.sctp_util.specs.Padding.{padded_length}
 use Rattle.sctp_chunks.specs.Framing.{type_at, flags_at, declared_length, value_at}
 use Rattle.sctp_chunks.specs.Wire.{Wire}
 use Rattle.sctp_chunks.specs.Kind.{wire_of, IsFreshKind}

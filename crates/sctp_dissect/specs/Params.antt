@@ -1,6 +1,6 @@
 -- What bytes show as parameters, whatever they are: items by their declared lengths, and a rest.
 use Rattle.std.specs.Prelude.{◌≡◌, ℕ, List, take}
-use Rattle.sctp_base.specs.Padding.{padded_length}
+use Rattle.sctp_util.specs.Padding.{padded_length}
 use Rattle.sctp_params.specs.Param.{Parameter}
 use Rattle.sctp_params.specs.ParamFraming.{IsParam, param_type_at, param_declared_length, param_value_at}
 use Rattle.sctp_params.specs.ParamKind.{parameter_of, ReadsParam, ParamFault}

@@ -2,15 +2,15 @@
 
 ghost use Rattle.std.specs.Prelude.{◌≡◌, ◌++◌, IfOk, IfSome, IfNone};
 ghost use Rattle.std.specs.List.{flat_map};
-ghost use Rattle.sctp_base.specs.Walk.{Walks};
+ghost use Rattle.sctp_util.specs.Walk.{Walks};
 ghost use Rattle.sctp_chunks.specs.ErrorCause.{IsCause};
 ghost use Rattle.sctp_dissect.specs.Causes.{after_padded_cause, ShowsCause, cause_bytes};
 
 use bytes::Bytes;
-use sctp_base::error::Error;
-use sctp_base::field::read_u16;
-use sctp_base::util::get_padding_size;
 use sctp_chunks::chunk::error_cause::ErrorCause;
+use sctp_util::error::Error;
+use sctp_util::field::read_u16;
+use sctp_util::util::get_padding_size;
 use std::alloc::{AllocError, Global};
 
 /// A cause and its bytes.

@@ -1,9 +1,9 @@
 //! What a datagram shows: its header, and item by item its chunks, read or raw.
 
 ghost use Rattle.std.specs.Prelude.{◌≡◌, ◌≢◌, ◌↔◌, ◌≤◌, ◌<◌, ℕ, List, [], length, drop, MatchOption, IsTrue, IfOk, IfErr, IfSome, IsSomeAnd, Some};
-ghost use Rattle.sctp_base.specs.declared.error.Error.TheVariants.{ErrOutOfMemory};
-ghost use Rattle.sctp_base.specs.Outcome.{OrMemory, GivesUnlessMemory};
-ghost use Rattle.sctp_base.specs.Walk.{Walks};
+ghost use Rattle.sctp_util.specs.declared.error.Error.TheVariants.{ErrOutOfMemory};
+ghost use Rattle.sctp_util.specs.Outcome.{OrMemory, GivesUnlessMemory};
+ghost use Rattle.sctp_util.specs.Walk.{Walks};
 ghost use Rattle.sctp_chunks.specs.Kind.{wire_of, IsFreshKind};
 ghost use Rattle.sctp_chunks.specs.Wire.{Wire};
 ghost use Rattle.sctp_packets.specs.Packet.{Parts, ReadsPacket, Steps, after};
@@ -11,13 +11,13 @@ ghost use Rattle.sctp_packets.specs.Fault.{PlaceFault};
 ghost use Rattle.sctp_dissect.specs.Dissection.{IsWhole, span, ReadsHeader, IsRaw, Reads, Shows, Stops, IsShort, IsPacket, shown_bytes};
 
 use bytes::Bytes;
-use sctp_base::error::Error;
-use sctp_base::field::{read_u16, read_u32, read_u32_le};
-use sctp_base::util::{Checksum, ChunkType, get_padding_size};
 use sctp_chunks::chunk::Chunk;
 use sctp_chunks::chunk::chunk_header::CHUNK_HEADER_SIZE;
 use sctp_chunks::chunk::chunk_kind::ChunkKind;
 use sctp_packets::packet::{CommonHeader, PACKET_HEADER_SIZE};
+use sctp_util::error::Error;
+use sctp_util::field::{read_u16, read_u32, read_u32_le};
+use sctp_util::util::{Checksum, ChunkType, get_padding_size};
 use std::alloc::{AllocError, Global};
 
 /// The header of a datagram, and its checksum (RFC 4960 3.1).

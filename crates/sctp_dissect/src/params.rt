@@ -2,18 +2,18 @@
 
 ghost use Rattle.std.specs.Prelude.{◌≡◌, ◌↔◌, ◌++◌, List, IsTrue, IfOk};
 ghost use Rattle.std.specs.List.{flat_map};
-ghost use Rattle.sctp_base.specs.Walk.{Walks};
+ghost use Rattle.sctp_util.specs.Walk.{Walks};
 ghost use Rattle.sctp_params.specs.Param.{Parameter};
 ghost use Rattle.sctp_params.specs.ParamFraming.{IsParam, after_param};
 ghost use Rattle.sctp_params.specs.ParamKind.{ReadsParam, ParamFault};
 ghost use Rattle.sctp_dissect.specs.Params.{param_span, IsRawParam, ReadsAsParam, ShowsParam, param_bytes};
 
 use bytes::Bytes;
-use sctp_base::error::Error;
-use sctp_base::field::read_u16;
-use sctp_base::util::get_padding_size;
 use sctp_params::param::param_header::PARAM_HEADER_LENGTH;
 use sctp_params::param::param_kind::{ParamKind, build_param};
+use sctp_util::error::Error;
+use sctp_util::field::read_u16;
+use sctp_util::util::get_padding_size;
 use std::alloc::{AllocError, Global};
 
 /// A parameter that is refused by the reader of parameters.

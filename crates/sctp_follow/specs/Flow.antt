@@ -1,6 +1,6 @@
 -- What is counted of the chunks that go one way.
 use Rattle.std.specs.Prelude.{ℕ, ◌+◌, ◌-◌, ◌==◌, ◌&&◌, ◌||◌, leb, Bool, if◌then◌else◌, is_some, min, List, length, Option, Some, None}
-use Rattle.sctp_base.specs.Field.{u16_at, u32_at}
+use Rattle.sctp_util.specs.Field.{u16_at, u32_at}
 use Rattle.sctp_chunks.specs.Framing.{type_at}
 use Rattle.sctp_show.specs.Filter.{tsn_of}
 

@@ -1,6 +1,6 @@
 -- Where the marks of a picture stand.
 use Rattle.std.specs.Prelude.{◌≡◌, ℕ, ◌+◌, ◌-◌, ◌*◌, ◌/◌, ◌%◌, ◌^◌, min, max, List, [], ◌∷◌, ◌++◌, leb, if◌then◌else◌}
-use Rattle.sctp_list_lemmas.specs.Serial.{distance}
+use Rattle.sctp_util.specs.Serial.{distance}
 use Rattle.sctp_follow.specs.declared.plot.Mark.{Mark}
 
 -- how high a TSN stands: 2^31 and how far it lies after the base, or before it (RFC 1982)

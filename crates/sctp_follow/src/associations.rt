@@ -2,9 +2,9 @@
 
 use crate::flow::{Flow, counted};
 use crate::packet::Packet;
-use sctp_base::field::read_u32;
 use sctp_capture::record::Time;
 use sctp_dissect::dissection::{Header, Item};
+use sctp_util::field::read_u32;
 use std::alloc::{AllocError, Global};
 use std::net::IpAddr;
 

@@ -4,16 +4,16 @@ ghost use Rattle.std.specs.Prelude.{◌≡◌, ◌≤◌, ◌<◌, ◌+◌, true
 ghost use Rattle.std.specs.BTreeSet.{contains, Updates};
 ghost use Rattle.std.specs.Ordering.{nat_cmp};
 ghost use Rattle.sctp_show.specs.Filter as filters;
-ghost use Rattle.sctp_base.specs.Field.{u32_at};
+ghost use Rattle.sctp_util.specs.Field.{u32_at};
 ghost use Rattle.sctp_chunks.specs.Framing.{type_at};
 ghost use Rattle.sctp_follow.specs.Flow as flows;
 ghost use Rattle.sctp_follow.specs.Flow.{counted, base_after};
 
-use sctp_base::field::{read_u16, read_u32};
 use sctp_capture::record::Time;
 use sctp_dissect::dissection::Item;
 use sctp_serial::serial::distance;
 use sctp_show::filter::is_data;
+use sctp_util::field::{read_u16, read_u32};
 use std::alloc::{AllocError, Global};
 use std::collections::{BTreeMap, BTreeSet};
 

@@ -7,12 +7,12 @@ ghost use Rattle.sctp_follow.specs.Plot as plots;
 ghost use Rattle.sctp_follow.specs.declared.plot.Sign.TheVariants.{Data, Again};
 
 use crate::flow::is_init;
-use sctp_base::field::read_u32;
 use sctp_chunks::chunk::chunk_kind::ChunkKind;
 use sctp_chunks::chunk::chunk_selective_ack::ChunkSelectiveAck;
 use sctp_dissect::dissection::{Item, Reading};
 use sctp_serial::serial::distance;
 use sctp_show::filter::is_data;
+use sctp_util::field::read_u32;
 use std::alloc::{AllocError, Global};
 use std::collections::BTreeSet;
 

@@ -22,15 +22,15 @@ pub use Rattle.sctp_packets.specs.Packet.{ReadsPacket, packet_encoding}
 pub use Rattle.sctp_chunks.specs.Kind.{wire_of, IsFreshKind}
 pub use Rattle.sctp_chunks.specs.declared.chunk.chunk_kind.ChunkKind.{ChunkKind}
 pub use Rattle.sctp_chunks.specs.Fits.{Canonical}
-pub use Rattle.sctp_list_lemmas.specs.Lists.{change_where, change_at, pieces, advance_over, insert_before, Seen}
-pub use Rattle.sctp_list_lemmas.proofs.Edits.{length-change_where, or_assoc, change_where-map, change_where-only}
-pub use Rattle.sctp_list_lemmas.proofs.Getting.{length-mapped, length-numbered, numbered-at, map-at, map-twice, get-snoc_old, get-snoc_new, get-last}
-pub use Rattle.sctp_list_lemmas.proofs.Getting.{slice-front, get-beyond}
-pub use Rattle.sctp_list_lemmas.proofs.More.{length-changed, both, same_test, not_both, fails, and, changed-same, changed-other}
-pub use Rattle.sctp_list_lemmas.proofs.Cases.{or-none, or-true, and-none, by_last, same-yes, some-same, same-is, or-left, negated, and-true, by_same, or-right}
-pub use Rattle.sctp_list_lemmas.specs.Kept.{numbers_where, always, runs_of, total_over, numbers_from}
-pub use Rattle.sctp_list_lemmas.specs.Serial.{comes_before, distance, at_or_before}
-pub use Rattle.sctp_list_lemmas.proofs.Passing.{kept-snoc_in, front-kept, FrontOf, length-kept-le}
+pub use Rattle.sctp_util.specs.Lists.{change_where, change_at, pieces, advance_over, insert_before, Seen}
+pub use Rattle.sctp_util.proofs.Edits.{length-change_where, or_assoc, change_where-map, change_where-only}
+pub use Rattle.sctp_util.proofs.Getting.{length-mapped, length-numbered, numbered-at, map-at, map-twice, get-snoc_old, get-snoc_new, get-last}
+pub use Rattle.sctp_util.proofs.Getting.{slice-front, get-beyond}
+pub use Rattle.sctp_util.proofs.More.{length-changed, both, same_test, not_both, fails, and, changed-same, changed-other}
+pub use Rattle.sctp_util.proofs.Cases.{or-none, or-true, and-none, by_last, same-yes, some-same, same-is, or-left, negated, and-true, by_same, or-right}
+pub use Rattle.sctp_util.specs.Kept.{numbers_where, always, runs_of, total_over, numbers_from}
+pub use Rattle.sctp_util.specs.Serial.{comes_before, distance, at_or_before}
+pub use Rattle.sctp_util.proofs.Passing.{kept-snoc_in, front-kept, FrontOf, length-kept-le}
 pub use Rattle.sctp_data.specs.declared.chunk.chunk_payload_data.ChunkPayloadData.{ChunkPayloadData}
 pub use Rattle.sctp_data.specs.declared.chunk.chunk_selective_ack.GapAckBlock.{GapAckBlock}
 pub use Rattle.sctp_data.specs.SelectiveAck.{Sack, sack_value, sack_of}
@@ -194,7 +194,7 @@ pub use Rattle.sctp_model.proofs.receiver.ValidRun.{span-open, slots_come_valid,
 pub use Rattle.sctp_refinement.proofs.arriving.Filter.{tsn_before, filter-skipped}
 pub use Rattle.sctp_refinement.proofs.acknowledging.SackDistances.{between, up-to-date, far, at-top}
 pub use Rattle.sctp_refinement.proofs.amounts.InFlightBytes.{chunk-on, bytes-unacked, taken-acknowledged, then-below, ledger-is, ledger_by, in-flight-bytes}
-pub use Rattle.sctp_list_lemmas.proofs.Totals.{total-none, total-append, total-where, total-kept_same, numbers-append, total-wider}
+pub use Rattle.sctp_util.proofs.Totals.{total-none, total-append, total-where, total-kept_same, numbers-append, total-wider}
 pub use Rattle.sctp_stream.specs.Numbers.{IsAbsent, IsOnlyPlace}
 pub use Rattle.sctp_refinement.proofs.Results.{on-err, on-error, on-ok, not-err, unless-refused}
 pub use Rattle.sctp_refinement.proofs.arriving.SlotFits.{data-fits, lying}

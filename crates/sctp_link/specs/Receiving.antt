@@ -1,6 +1,6 @@
 -- The receiver of a link while the slots of a datagram come, one after another.
 use Rattle.std.specs.Prelude.{◌≡◌, ℕ, ◌<◌, Bool, true, false, List, [], ◌∷◌, length, map, slice_index_or}
-use Rattle.sctp_list_lemmas.specs.Lists.{change_at}
+use Rattle.sctp_util.specs.Lists.{change_at}
 use Rattle.sctp_model.specs.LinkRecord.{LinkRecord}
 use Rattle.sctp_model.specs.Queues.{filter_of}
 use Rattle.sctp_refinement.specs.Holds.{reassembly_of}

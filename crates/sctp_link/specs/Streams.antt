@@ -1,7 +1,7 @@
 -- An open stream as the sender, the receiver and the progress of a link have it.
 use Rattle.std.specs.Prelude.{◌≡◌, ℕ, ◌+◌, ◌-◌, max, Bool, true, false, ◌&&◌, ◌==◌, if◌then◌else◌, List, [], ◌∷◌, ◌++◌, map, drop}
 use Rattle.sctp_data.specs.PayloadTypes.{is_ordered}
-use Rattle.sctp_list_lemmas.specs.Lists.{change_where}
+use Rattle.sctp_util.specs.Lists.{change_where}
 use Rattle.sctp_data.specs.declared.chunk.chunk_payload_data.ChunkPayloadData.{ChunkPayloadData}
 use Rattle.sctp_data.specs.declared.chunk.chunk_payload_data.PayloadProtocolIdentifier.{PayloadProtocolIdentifier}
 use Rattle.sctp_data.specs.declared.chunk.chunk_payload_data.PayloadProtocolIdentifier.TheVariants.{Unknown}

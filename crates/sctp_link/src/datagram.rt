@@ -2,7 +2,7 @@
 
 ghost use Rattle.std.specs.Prelude.{◌≡◌, ◌≤◌, ◌+◌, ◌∷◌, [], List, length, map, IfOk, IsOkUnless};
 ghost use Rattle.std.specs.List.{AllByRecursion};
-ghost use Rattle.sctp_base.specs.declared.error.Error.TheVariants.{ErrOutOfMemory};
+ghost use Rattle.sctp_util.specs.declared.error.Error.TheVariants.{ErrOutOfMemory};
 ghost use Rattle.sctp_data.specs.PayloadData.{Data, data_of};
 ghost use Rattle.sctp_data.specs.SelectiveAck.{Sack, sack_of};
 ghost use Rattle.sctp_data.specs.ForwardTsn.{ForwardTsn, forward_tsn_of};
@@ -14,13 +14,13 @@ ghost use Rattle.sctp_packets.specs.Packet.{ReadsPacket, packet_encoding};
 ghost use Rattle.sctp_link.specs.Encodings.{packet_with};
 
 use bytes::Bytes;
-use sctp_base::error::{Error, Result};
-use sctp_base::util::Checksum;
 use sctp_chunks::chunk::chunk_forward_tsn::ChunkForwardTsn;
 use sctp_chunks::chunk::chunk_kind::ChunkKind;
 use sctp_chunks::chunk::chunk_payload_data::ChunkPayloadData;
 use sctp_chunks::chunk::chunk_selective_ack::ChunkSelectiveAck;
 use sctp_packets::packet::{CommonHeader, Packet};
+use sctp_util::error::{Error, Result};
+use sctp_util::util::Checksum;
 use std::alloc::Global;
 
 const PORT: u16 = 5000;

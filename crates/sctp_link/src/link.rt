@@ -1,7 +1,7 @@
 //! The link: each event is answered as its record says, by a sender and a receiver.
 
 ghost use Rattle.std.specs.Prelude.{◌≡◌, ◌==◌, ◌<◌, ◌≤◌, ◌+◌, ◌∷◌, ◌++◌, ℕ, [], None, Some, List, OnOk, OnErr, IfOk, IsOkUnless, MatchOption, length, vec_len, vec_capacity, option_map, find, true};
-ghost use Rattle.sctp_base.specs.declared.error.Error.TheVariants.{ErrOutOfMemory};
+ghost use Rattle.sctp_util.specs.declared.error.Error.TheVariants.{ErrOutOfMemory};
 ghost use Rattle.sctp_sender.specs.declared.sender.refusal.SenderRefusal.TheVariants.{OutOfMemory};
 
 mod abandoning;
@@ -21,12 +21,12 @@ mod streams;
 use crate::event::{Event, LinkRefusal, Reply};
 use crate::record::{Datagram, Kind, Message, Slot};
 use bytes::Bytes;
-use sctp_base::error::Error;
-use sctp_base::util::Checksum;
 use sctp_progress::Progress;
 use sctp_receiver::receiver::Receiver;
 use sctp_sender::sender::Sender;
 use sctp_sender::sender::refusal::SenderRefusal;
+use sctp_util::error::Error;
+use sctp_util::util::Checksum;
 use std::alloc::Global;
 use std::marker::Model;
 

@@ -1,14 +1,14 @@
 //! What a FORWARD-TSN names on a stream (RFC 3758 3.2, 3.6).
 
 ghost use Rattle.std.specs.Prelude.{◌≡◌, ◌+◌, ◌<◌, ◌^◌, ◌∷◌, ℕ, List, [], length, map, slice_index_or, IfOk, IsOkUnless};
-ghost use Rattle.sctp_base.specs.declared.error.Error.TheVariants.{ErrOutOfMemory};
+ghost use Rattle.sctp_util.specs.declared.error.Error.TheVariants.{ErrOutOfMemory};
 ghost use Rattle.sctp_link.specs.declared.skipped.Named.{Named};
 ghost use Rattle.sctp_link.specs.Skips.{index_in, named_from, none_named, with_name, pair_in, standing_named, HasNames, IsFullOrEmpty};
 
 use crate::record::Message;
-use sctp_base::error::Result;
 use sctp_chunks::chunk::chunk_forward_tsn::ChunkForwardTsnStream;
 use sctp_progress::Progress;
+use sctp_util::error::Result;
 use std::alloc::Global;
 
 /// What a skip names on a stream: the least index, and one more than the greatest, or 0 where it names none.

@@ -1,8 +1,6 @@
 //! The messages that go one way in an association.
 
 use crate::reading::{read_all, take_chunk};
-use sctp_base::field::{read_u16, read_u32};
-use sctp_base::util::sna32lt;
 use sctp_chunks::chunk::chunk_kind::ChunkKind;
 use sctp_chunks::chunk::chunk_reconfig::ChunkReconfig;
 use sctp_data::chunk::chunk_forward_tsn::{ChunkForwardTsn, ChunkForwardTsnStream};
@@ -16,6 +14,8 @@ use sctp_receiver::receiver::Receiver;
 use sctp_receiver::receiver::arrival::Arrival;
 use sctp_receiver::receiver::refusal::ReceiverRefusal;
 use sctp_show::filter::is_data;
+use sctp_util::field::{read_u16, read_u32};
+use sctp_util::util::sna32lt;
 use std::alloc::{AllocError, Global};
 use std::collections::BTreeMap;
 

@@ -6,10 +6,10 @@ use Rattle.std.specs.List.{list_any, list_all, filter}
 use Rattle.std.proofs.Math.Nat.{eq-or-lt_of_le}
 use Rattle.std.proofs.lemmas.Bool.{cases_lt}
 use Rattle.std.proofs.lemmas.Bool.Decides.{nat_tests}
-use Rattle.sctp_list_lemmas.specs.Kept.{numbers_where, always, numbers_from, leading}
-use Rattle.sctp_list_lemmas.specs.Lists.{pieces}
-use Rattle.sctp_list_lemmas.proofs.Passing.{kept-same, kept-none, map-kept-same, length-kept-lt}
-use Rattle.sctp_list_lemmas.proofs.More.{fails, not_both, both, and, same_test}
+use Rattle.sctp_util.specs.Kept.{numbers_where, always, numbers_from, leading}
+use Rattle.sctp_util.specs.Lists.{pieces}
+use Rattle.sctp_util.proofs.Passing.{kept-same, kept-none, map-kept-same, length-kept-lt}
+use Rattle.sctp_util.proofs.More.{fails, not_both, both, and, same_test}
 use Rattle.sctp_model.specs.LinkRecord.{Setup, LinkRecord}
 use Rattle.sctp_model.specs.Messages
 use Rattle.sctp_model.specs.Log
@@ -30,11 +30,11 @@ use Rattle.sctp_model.proofs.receiver.ReadLaws.{nothing_where_read, passing-kept
 use Rattle.sctp_model.proofs.sender.Written.{messages_are_writes}
 use Rattle.sctp_model.proofs.sender.Modes.{modes_are_kept}
 use Rattle.sctp_model.proofs.Lossless.{alive-run, is_skip, no-skips, none-named, none-skipped}
-use Rattle.sctp_list_lemmas.proofs.Cases.{same-yes, same-is, negated, or-left, or-right, or-split}
-use Rattle.sctp_list_lemmas.proofs.Getting.{length-mapped}
-use Rattle.sctp_list_lemmas.proofs.Rows.{numbered}
-use Rattle.sctp_list_lemmas.proofs.Alls.{all-kept, all-same}
-use Rattle.sctp_list_lemmas.proofs.Tests.{any-out, any-in, all-out, all-more, among-kept, any-append}
+use Rattle.sctp_util.proofs.Cases.{same-yes, same-is, negated, or-left, or-right, or-split}
+use Rattle.sctp_util.proofs.Getting.{length-mapped}
+use Rattle.sctp_util.proofs.Rows.{numbered}
+use Rattle.sctp_util.proofs.Alls.{all-kept, all-same}
+use Rattle.sctp_util.proofs.Tests.{any-out, any-in, all-out, all-more, among-kept, any-append}
 
 -- ## Complete messages
 

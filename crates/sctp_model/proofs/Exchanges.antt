@@ -5,13 +5,13 @@ use Rattle.std.specs.Prelude.{◌⊎◌, if◌then◌else◌, ◌==◌, ◌&&◌
 use Rattle.std.specs.List.{list_all, list_any}
 use Rattle.std.proofs.lemmas.Bool.{cases_lt}
 use Rattle.std.proofs.lemmas.Bool.Decides.{nat_tests}
-use Rattle.sctp_list_lemmas.specs.Kept.{numbers_where, always, numbers_from, runs_of, put_before_runs, first_of, or_else}
-use Rattle.sctp_list_lemmas.proofs.Passing.{map-kept-same, unbroken-le}
-use Rattle.sctp_list_lemmas.proofs.More.{both, and, not_both, length-kept-positive, fails}
-use Rattle.sctp_list_lemmas.proofs.Cases.{same-yes, negated, or-right, or-split}
-use Rattle.sctp_list_lemmas.proofs.Getting.{map-twice, length-mapped, numbered-at, get-last, get-snoc_new, get-snoc_old}
-use Rattle.sctp_list_lemmas.proofs.Totals.{length-numbers}
-use Rattle.sctp_list_lemmas.proofs.Tests.{any-in, all-out, FirstOf, first-kept}
+use Rattle.sctp_util.specs.Kept.{numbers_where, always, numbers_from, runs_of, put_before_runs, first_of, or_else}
+use Rattle.sctp_util.proofs.Passing.{map-kept-same, unbroken-le}
+use Rattle.sctp_util.proofs.More.{both, and, not_both, length-kept-positive, fails}
+use Rattle.sctp_util.proofs.Cases.{same-yes, negated, or-right, or-split}
+use Rattle.sctp_util.proofs.Getting.{map-twice, length-mapped, numbered-at, get-last, get-snoc_new, get-snoc_old}
+use Rattle.sctp_util.proofs.Totals.{length-numbers}
+use Rattle.sctp_util.proofs.Tests.{any-in, all-out, FirstOf, first-kept}
 use Rattle.sctp_model.specs.declared.event.Event.{Event}
 use Rattle.sctp_model.specs.declared.event.Event.TheVariants as E
 use Rattle.sctp_model.specs.declared.event.LinkRefusal.TheVariants.{NotInFlight, StreamUnknown, MessageTooLarge, TsnsUsedUp, SkipNames, SkipUnassigned}
@@ -34,7 +34,7 @@ use Rattle.sctp_model.proofs.sender.Shape.{shape, front_of, index}
 use Rattle.sctp_model.proofs.sender.Network.{same-network, network-written, network-expired, network-tail, network-late, network-abandoned, same-received}
 use Rattle.sctp_model.proofs.sender.Network.{same-taken, same-read}
 use Rattle.sctp_model.proofs.sender.Shapes
-use Rattle.sctp_list_lemmas.specs.Lists.{pieces}
+use Rattle.sctp_util.specs.Lists.{pieces}
 use Rattle.sctp_model.proofs.sender.SenderSteps.{of-has}
 use Rattle.sctp_model.proofs.sender.SenderRun.{consistent-run, filled-keeps, unless-holds}
 use Rattle.sctp_model.proofs.sender.Slots.{slots_in_order, indexes_leave_no_gap}

@@ -3,7 +3,7 @@ use Rattle.std.proofs.Common.{◌≡◌, ℕ, zero, suc, ◌<◌, Bool, true, fa
 use Rattle.std.specs.Prelude.{◌||◌, slice_get, slice_index_or}
 use Rattle.std.specs.List.{list_any, list_all}
 use Rattle.std.proofs.Math.Path.{subst}
-use Rattle.sctp_list_lemmas.proofs.More.{not_both, both}
+use Rattle.sctp_util.proofs.More.{not_both, both}
 use Rattle.sctp_model.specs.declared.event.Event.{Event}
 use Rattle.sctp_model.specs.declared.event.Event.TheVariants as E
 use Rattle.sctp_model.specs.Reply.{Reply}
@@ -23,7 +23,7 @@ use Rattle.sctp_model.proofs.sender.SenderEnds.{message-old, message-new}
 use Rattle.sctp_model.proofs.sender.SenderRun.{written_as}
 use Rattle.sctp_model.proofs.sender.Network
 use Rattle.sctp_model.proofs.acknowledgement.BytesAnswered.{messages-sent}
-use Rattle.sctp_list_lemmas.proofs.Cases.{by_last}
+use Rattle.sctp_util.proofs.Cases.{by_last}
 
 -- ## No message expires or is abandoned
 

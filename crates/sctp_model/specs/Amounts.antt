@@ -1,6 +1,6 @@
 -- Bytes: each written one is pending, in flight or released. And the counters of a stream.
 use Rattle.std.specs.Prelude.{ℕ, ◌+◌, ◌-◌, ◌^◌, min, Bool, ◌&&◌, ◌||◌, not, ◌==◌, if◌then◌else◌, length, Option, Some, None}
-use Rattle.sctp_list_lemmas.specs.Kept.{total_over, numbers_from}
+use Rattle.sctp_util.specs.Kept.{total_over, numbers_from}
 use Rattle.sctp_data.specs.PayloadTypes.{has_bytes, is_counted}
 use Rattle.sctp_model.specs.LinkRecord.{LinkRecord}
 use Rattle.sctp_model.specs.Messages.{message_at, slot_at, messages_where, slots_where, has_fragment, sent_of, fragment_count, fragment_at, is_open}

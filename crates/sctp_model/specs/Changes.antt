@@ -3,8 +3,8 @@ use Rattle.std.specs.Prelude.{ℕ, zero, suc, ◌+◌, ◌-◌, ◌%◌, max, Bo
 use Rattle.std.specs.Prelude.{drop, map, fold, Option, Some, None, is_none}
 use Rattle.std.specs.List.{list_all, filter}
 use Rattle.sctp_data.specs.PayloadTypes.{is_ordered}
-use Rattle.sctp_list_lemmas.specs.Kept.{numbers_from}
-use Rattle.sctp_list_lemmas.specs.Lists.{change_at, each_numbered}
+use Rattle.sctp_util.specs.Kept.{numbers_from}
+use Rattle.sctp_util.specs.Lists.{change_at, each_numbered}
 use Rattle.sctp_data.specs.declared.chunk.chunk_payload_data.ReliabilityType.{ReliabilityType}
 use Rattle.sctp_data.specs.declared.chunk.chunk_payload_data.PayloadProtocolIdentifier.{PayloadProtocolIdentifier}
 use Rattle.sctp_model.specs.LinkRecord.{StreamRecord, Message, Slot, Report, Datagram, Data, Forward, Sack, LinkRecord}

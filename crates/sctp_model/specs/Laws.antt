@@ -2,7 +2,7 @@
 use Rattle.std.specs.Prelude.{◌≡◌, ℕ, ◌+◌, ◌-◌, ◌*◌, ◌/◌, ◌^◌, ◌<◌, ◌≤◌, ◌↔◌, min, Bool, true, false, ◌&&◌, ◌||◌, not, ◌==◌, nat_lt, nat_le, if◌then◌else◌}
 use Rattle.std.specs.Prelude.{List, [], ◌∷◌, ◌++◌, length, take, map, slice_get, Option, Some, None, option_to_list, Result, Ok}
 use Rattle.std.specs.List.{list_any, list_all, filter}
-use Rattle.sctp_list_lemmas.specs.Kept.{numbers_where, leading, numbers_from, first_of, runs_of}
+use Rattle.sctp_util.specs.Kept.{numbers_where, leading, numbers_from, first_of, runs_of}
 use Rattle.sctp_model.specs.declared.event.Event.{Event}
 use Rattle.sctp_model.specs.declared.event.Event.TheVariants as E
 use Rattle.sctp_data.specs.declared.chunk.chunk_payload_data.ChunkPayloadData.{ChunkPayloadData}

@@ -4,7 +4,7 @@ use Rattle.std.specs.Prelude.{ℕ, ◌%◌, ◌^◌, ◌+◌, ◌-◌, ◌*◌, 
 use Rattle.std.specs.Prelude.{length, take, drop, map, slice_get, Option, Some, None, option_to_list}
 use Rattle.std.specs.List.{list_any, list_all, filter}
 use Rattle.sctp_data.specs.PayloadTypes.{has_bytes, is_counted, is_ordered}
-use Rattle.sctp_list_lemmas.specs.Kept.{unbroken, leading, numbers_from, or_else}
+use Rattle.sctp_util.specs.Kept.{unbroken, leading, numbers_from, or_else}
 use Rattle.sctp_model.specs.declared.event.Event.{Event}
 use Rattle.sctp_model.specs.declared.event.Event.TheVariants as E
 use Rattle.sctp_model.specs.Reply.{Reply}

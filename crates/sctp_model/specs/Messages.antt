@@ -1,8 +1,8 @@
 -- Streams, messages, fragments and slots.
 use Rattle.std.specs.Prelude.{slice_index_or, ℕ, ◌+◌, ◌-◌, ◌%◌, ◌^◌, Bool, true, false, ◌&&◌, not, ◌==◌, nat_lt, nat_le, if◌then◌else◌, List, [], length, find}
 use Rattle.std.specs.Prelude.{Option, Some, None, is_some, unwrap_or}
-use Rattle.sctp_list_lemmas.specs.Kept.{numbers_where, first_of, or_else}
-use Rattle.sctp_list_lemmas.specs.Lists.{pieces}
+use Rattle.sctp_util.specs.Kept.{numbers_where, first_of, or_else}
+use Rattle.sctp_util.specs.Lists.{pieces}
 use Rattle.sctp_data.specs.declared.chunk.chunk_payload_data.ReliabilityType.TheVariants.{Reliable}
 use Rattle.sctp_data.specs.declared.chunk.chunk_payload_data.PayloadProtocolIdentifier.TheVariants.{Unknown}
 use Rattle.sctp_data.specs.PayloadTypes.{is_dcep}

@@ -1,7 +1,7 @@
 -- What the queues that a link lends hold.
 use Rattle.std.specs.Prelude.{ℕ, ◌-◌, ◌%◌, ◌^◌, Bool, ◌&&◌, ◌||◌, not, nat_le, if◌then◌else◌, List, [], length, map, Option, Some, None}
 use Rattle.std.specs.List.{flat_map}
-use Rattle.sctp_list_lemmas.specs.Kept.{numbers_where, numbers_from, first_of}
+use Rattle.sctp_util.specs.Kept.{numbers_where, numbers_from, first_of}
 use Rattle.sctp_data.specs.declared.chunk.chunk_payload_data.ChunkPayloadData.{ChunkPayloadData}
 use Rattle.sctp_data.specs.declared.chunk.chunk_payload_data.ReliabilityType.{ReliabilityType}
 use Rattle.sctp_data.specs.PayloadData.{Data}

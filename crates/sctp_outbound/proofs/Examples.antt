@@ -3,8 +3,8 @@ use Rattle.std.proofs.Common.{◌≡◌, ℕ, Bool, true, false, List, [], ◌�
 use Rattle.sctp_data.specs.ChunkSet.{fresh}
 use Rattle.sctp_data.specs.declared.chunk.chunk_payload_data.ChunkPayloadData.{ChunkPayloadData}
 use Rattle.sctp_data.specs.declared.chunk.chunk_payload_data.PayloadProtocolIdentifier.TheVariants as identifiers
-use Rattle.sctp_list_lemmas.specs.Kept.{runs_of}
-use Rattle.sctp_list_lemmas.specs.Serial.{comes_before, distance}
+use Rattle.sctp_util.specs.Kept.{runs_of}
+use Rattle.sctp_util.specs.Serial.{comes_before, distance}
 use Rattle.sctp_outbound.specs.outbound_queue.Numbering.{Call, push, send_next, abandon, mark_as_acked, pop, after_all, at_first}
 use Rattle.sctp_serial.specs.Turns.{IsWithinDigits}
 

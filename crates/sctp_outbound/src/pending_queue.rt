@@ -2,7 +2,7 @@
 
 ghost use Rattle.std.specs.Prelude.{◌≡◌, ◌==◌, ◌+◌, ◌^◌, ◌<◌, ◌≤◌, ◌||◌, [], length, map, OnOk, OnErr, IsOk, IsOkUnless, IfSome, IfNone, option_copied, slice_get, true, false};
 ghost use Rattle.std.specs.List.{list_any};
-ghost use Rattle.sctp_base.specs.declared.error.Error.TheVariants.{ErrOutOfMemory};
+ghost use Rattle.sctp_util.specs.declared.error.Error.TheVariants.{ErrOutOfMemory};
 ghost use Rattle.sctp_outbound.specs.Marks.{is_of};
 ghost use Rattle.sctp_outbound.specs.outbound_queue.OutboundQueue.{append_chunks, with_message_id};
 ghost use Rattle.sctp_outbound.specs.pending_queue.Whole.{AreWhole, NumbersAscend, order_of, ordered_first, stage_of, stand_in_front};
@@ -12,8 +12,8 @@ ghost use Rattle.sctp_outbound.specs.pending_queue.PendingQueue.{list_to_pop, se
 pub(crate) mod line;
 
 use self::line::Line;
-use sctp_base::error::Result;
 use sctp_data::chunk::chunk_payload_data::ChunkPayloadData;
+use sctp_util::error::Result;
 use std::alloc::Global;
 use std::marker::Model;
 

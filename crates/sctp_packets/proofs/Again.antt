@@ -5,15 +5,15 @@ use Rattle.std.specs.List.{AllByRecursion}
 use Rattle.std.proofs.lemmas.List.{take_at, drop_at, append-nil, length-replicate}
 use Rattle.std.proofs.lemmas.List.Elements.{All-replicate}
 use Rattle.std.proofs.lemmas.List.Concat.{flat_map-cons}
-use Rattle.sctp_base.specs.Field.{be16, be32, le32, u16_at, u32_at, u32_le_at}
-use Rattle.sctp_base.specs.Padding.{padding_of, padded_length, four_zeroes}
-use Rattle.sctp_base.proofs.Fields.{length_be16, length_le32, u16_at_be16, u32_at_be32, u32_le_at_le32}
+use Rattle.sctp_util.specs.Field.{be16, be32, le32, u16_at, u32_at, u32_le_at}
+use Rattle.sctp_util.specs.Padding.{padding_of, padded_length, four_zeroes}
+use Rattle.sctp_util.proofs.Fields.{length_be16, length_le32, u16_at_be16, u32_at_be32, u32_le_at_le32}
 use Rattle.sctp_chunks.specs.Framing.{declared_length}
 use Rattle.sctp_chunks.specs.Wire.{Wire, HasEncoding, encoding_of, type_of, flags_of, value_of}
 use Rattle.sctp_chunks.specs.Fits.{Fits, Canonical}
 use Rattle.sctp_chunks.proofs.Again.{framed_declared}
 use Rattle.sctp_chunks.proofs.AgainKinds.{chunk_again}
-use Rattle.sctp_base.specs.Walk.{Walks}
+use Rattle.sctp_util.specs.Walk.{Walks}
 use Rattle.sctp_packets.specs.Packet.{Parts, Steps, after, IsCanonical, padded_encoding, body_of, head_encoding, head_of, packet_encoding, checksum_input}
 use Rattle.sctp_packets.specs.Packet.{ReadsPacket, HavePacketEncoding, FitsParts}
 use Rattle.sctp_packets.proofs.Sealed.{length_head_encoding}

@@ -1,7 +1,7 @@
 -- Where a packet begins with a chunk.
 use Rattle.std.proofs.Common.{ℕ, ◌<◌, ◌≤◌, List, [], ◌∷◌, length, ap, arith, inl, inr}
-use Rattle.sctp_base.specs.declared.error.Error.{Error}
-use Rattle.sctp_base.specs.Walk.{Walks}
+use Rattle.sctp_util.specs.declared.error.Error.{Error}
+use Rattle.sctp_util.specs.Walk.{Walks}
 use Rattle.sctp_chunks.specs.Framing.{IsFramed, type_at, value_at}
 use Rattle.sctp_chunks.specs.Fault.{HeaderFault}
 use Rattle.sctp_chunks.specs.Wire.{Wire, init_chunk}

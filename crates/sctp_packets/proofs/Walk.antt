@@ -1,8 +1,8 @@
 -- Walks over the chunks of a packet.
 use Rattle.std.proofs.Common.{◌≡◌, ℕ, ◌<◌, List, [], ◌∷◌, ◌++◌, length, ap, arith}
 use Rattle.std.specs.List.{AllByRecursion}
-use Rattle.sctp_base.specs.Walk.{Walks}
-use Rattle.sctp_base.proofs.Walks.{walks_step, walks_one}
+use Rattle.sctp_util.specs.Walk.{Walks}
+use Rattle.sctp_util.proofs.Walks.{walks_step, walks_one}
 use Rattle.sctp_chunks.specs.Wire.{Wire}
 use Rattle.sctp_chunks.proofs.One.{reads_one}
 use Rattle.sctp_packets.specs.Packet.{Steps, after}

@@ -6,16 +6,16 @@ use Rattle.std.specs.List.{AllByRecursion}
 use Rattle.std.proofs.lemmas.Bool.{cases_lt}
 use Rattle.std.proofs.lemmas.List.{length-replicate}
 use Rattle.std.proofs.lemmas.List.Concat.{flat_map-cons}
-use Rattle.sctp_base.specs.declared.error.Error.{Error}
-use Rattle.sctp_base.specs.Padding.{padding_of}
+use Rattle.sctp_util.specs.declared.error.Error.{Error}
+use Rattle.sctp_util.specs.Padding.{padding_of}
 use Rattle.sctp_chunks.specs.declared.chunk.chunk_kind.ChunkKind.{ChunkKind}
 use Rattle.sctp_chunks.specs.Kind.{wire_of}
 use Rattle.sctp_chunks.specs.Wire.{Wire, HasEncoding, encoding_of, value_of}
 use Rattle.sctp_chunks.specs.Check.{EncodingFault, IsEncodingError}
 use Rattle.sctp_chunks.proofs.Encodings.{no_encoding}
-use Rattle.sctp_base.specs.Field.{be16, le32}
-use Rattle.sctp_base.specs.Padding.{four_zeroes}
-use Rattle.sctp_base.proofs.Fields.{length_be16, length_le32}
+use Rattle.sctp_util.specs.Field.{be16, le32}
+use Rattle.sctp_util.specs.Padding.{four_zeroes}
+use Rattle.sctp_util.proofs.Fields.{length_be16, length_le32}
 use Rattle.sctp_packets.specs.Packet.{Parts, padded_encoding, body_of, head_of, packet_encoding}
 use Rattle.sctp_packets.specs.Fault.{FirstEncodingFault, LacksRoom}
 use Rattle.sctp_packets.proofs.Sealed.{length_head_encoding}

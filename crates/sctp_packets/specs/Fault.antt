@@ -1,15 +1,15 @@
 -- What must stand in the bytes of a packet for each refusal, and why a packet is not written.
 use Rattle.std.specs.Prelude.{◌≡◌, ◌≢◌, ℕ, ◌+◌, ◌<◌, ◌≤◌, ◌⊎◌, List, [], ◌∷◌, length, take, drop}
 use Rattle.std.specs.List.{AllByRecursion}
-use Rattle.sctp_base.specs.declared.error.Error.{Error}
-use Rattle.sctp_base.specs.declared.error.Error.TheVariants as errors
-use Rattle.sctp_base.specs.Field.{u32_le_at}
-use Rattle.sctp_base.specs.Padding.{padded_length}
+use Rattle.sctp_util.specs.declared.error.Error.{Error}
+use Rattle.sctp_util.specs.declared.error.Error.TheVariants as errors
+use Rattle.sctp_util.specs.Field.{u32_le_at}
+use Rattle.sctp_util.specs.Padding.{padded_length}
 use Rattle.sctp_chunks.specs.Framing.{declared_length}
 use Rattle.sctp_chunks.specs.Wire.{Wire, HasEncoding}
 use Rattle.sctp_chunks.specs.Check.{EncodingFault}
 use Rattle.sctp_chunks.specs.Kind.{KindFault}
-use Rattle.sctp_base.specs.Walk.{Walks}
+use Rattle.sctp_util.specs.Walk.{Walks}
 use Rattle.sctp_packets.specs.Packet.{Parts, IsHeaded, Steps, after, checksum_input, body_of}
 
 -- where the walk stands

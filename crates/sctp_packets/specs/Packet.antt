@@ -1,9 +1,9 @@
 -- Packets: a header, and chunks that fill the rest exactly (RFC 4960 3).
 use Rattle.std.specs.Prelude.{◌≡◌, ℕ, ◌≤◌, ◌<◌, ◌^◌, List, [], ◌∷◌, ◌++◌, length, take, drop, map, replicate}
 use Rattle.std.specs.List.{flat_map, AllByRecursion}
-use Rattle.sctp_base.specs.Field.{be16, be32, le32, u16_at, u32_at, u32_le_at}
-use Rattle.sctp_base.specs.Padding.{padding_of, padded_length, four_zeroes}
-use Rattle.sctp_base.specs.Walk.{Walks}
+use Rattle.sctp_util.specs.Field.{be16, be32, le32, u16_at, u32_at, u32_le_at}
+use Rattle.sctp_util.specs.Padding.{padding_of, padded_length, four_zeroes}
+use Rattle.sctp_util.specs.Walk.{Walks}
 use Rattle.sctp_chunks.specs.Framing.{declared_length}
 use Rattle.sctp_chunks.specs.Wire.{Wire, ReadsChunk, HasEncoding, encoding_of}
 use Rattle.sctp_chunks.specs.Fits.{Fits, Canonical}

@@ -1,9 +1,9 @@
 -- A packet of which only the header and the first chunk's header were read.
 use Rattle.std.specs.Prelude.{◌≡◌, ℕ, ◌≤◌, ◌<◌, ◌⊎◌, ◌==◌, ◌||◌, if◌then◌else◌, List, [], length, drop, Option, Some, None}
-use Rattle.sctp_base.specs.declared.error.Error.{Error}
-use Rattle.sctp_base.specs.declared.error.Error.TheVariants as errors
-use Rattle.sctp_base.specs.Field.{u16_at, u32_at}
-use Rattle.sctp_base.specs.Walk.{Walks}
+use Rattle.sctp_util.specs.declared.error.Error.{Error}
+use Rattle.sctp_util.specs.declared.error.Error.TheVariants as errors
+use Rattle.sctp_util.specs.Field.{u16_at, u32_at}
+use Rattle.sctp_util.specs.Walk.{Walks}
 use Rattle.sctp_chunks.specs.Framing.{IsFramed, type_at, value_at}
 use Rattle.sctp_chunks.specs.Fault.{HeaderFault, IsInitChunk}
 use Rattle.sctp_packets.specs.declared.packet.partial_decode.PartialDecode.{PartialDecode}

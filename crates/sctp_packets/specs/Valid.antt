@@ -1,8 +1,8 @@
 -- What `check_packet` asks for (RFC 4960 3.1, 8.5.1, and 6.10 of an INIT alone: of INIT-ACK and SHUTDOWN-COMPLETE nothing is asked).
 use Rattle.std.specs.Prelude.{◌≡◌, ◌≢◌, ◌⊎◌, Bool, not, true, false, List, length}
 use Rattle.std.specs.List.{list_any}
-use Rattle.sctp_base.specs.declared.error.Error.{Error}
-use Rattle.sctp_base.specs.declared.error.Error.TheVariants as errors
+use Rattle.sctp_util.specs.declared.error.Error.{Error}
+use Rattle.sctp_util.specs.declared.error.Error.TheVariants as errors
 use Rattle.sctp_chunks.specs.Wire.{Wire, init_chunk}
 use Rattle.sctp_packets.specs.Packet.{Parts}
 

@@ -3,7 +3,7 @@
 ghost use Rattle.crc32c.specs.Castagnoli.{crc32c_of};
 
 use crc32c::Crc;
-use sctp_base::util::Checksum;
+use sctp_util::util::Checksum;
 
 /// CRC-32C, the checksum of SCTP packets (RFC 4960 Appendix B).
 #[derive(Clone, Copy)]

@@ -5,16 +5,16 @@
 ghost use Rattle.std.specs.Prelude.{◌≡◌, ◌<◌, ◌^◌, ◌+◌, ◌-◌, ◌++◌, ℕ, min, List, true, length, map, drop, ◌⊎◌, IfOk, IfErr, IsOkUnless, OnOk, OnErr, take, ◌≤◌, vec_len, vec_capacity};
 ghost use Rattle.std.specs.List.{AllByRecursion};
 ghost use Rattle.std.specs.Prelude.{[]};
-ghost use Rattle.sctp_base.specs.Field.{le32, u16_at, u32_at};
-ghost use Rattle.sctp_base.specs.declared.error.Error.TheVariants.{ErrOutOfMemory};
-ghost use Rattle.sctp_base.specs.Outcome.{OrMemory, GivesUnlessMemory};
+ghost use Rattle.sctp_util.specs.Field.{le32, u16_at, u32_at};
+ghost use Rattle.sctp_util.specs.declared.error.Error.TheVariants.{ErrOutOfMemory};
+ghost use Rattle.sctp_util.specs.Outcome.{OrMemory, GivesUnlessMemory};
 ghost use Rattle.sctp_chunks.specs.Check.{EncodingFault, IsEncodingError};
 ghost use Rattle.sctp_chunks.specs.Kind.{wire_of, IsFreshKind};
 ghost use Rattle.sctp_chunks.specs.Fits.{Fits, Canonical};
 ghost use Rattle.sctp_chunks.specs.Wire.{Wire, HasEncoding};
 ghost use Rattle.sctp_chunks.specs.Framing.{declared_length};
-ghost use Rattle.sctp_base.specs.Padding.{padded_length, four_zeroes};
-ghost use Rattle.sctp_base.specs.Walk.{Walks};
+ghost use Rattle.sctp_util.specs.Padding.{padded_length, four_zeroes};
+ghost use Rattle.sctp_util.specs.Walk.{Walks};
 ghost use Rattle.sctp_packets.specs.Packet.{Parts, parts_of, IsCanonical, IsHeaded, ReadsPacket, Steps, TakesChunk, after, padded_encoding, body_of, head_encoding, head_of, HavePacketEncoding, packet_encoding, FitsParts};
 ghost use Rattle.sctp_packets.specs.Valid.{is_init, has_init, IsValid, InitFault, ValidFault};
 ghost use Rattle.sctp_packets.specs.Fault.{HeadFault, PacketFault, PlaceFault, WalkFault, FirstEncodingFault, PacketEncodingFault, LacksRoom};
@@ -23,12 +23,12 @@ pub mod partial_decode;
 
 use bytes::{BufMut, Bytes, BytesMut};
 pub use partial_decode::PartialDecode;
-use sctp_base::error::{Error, Result};
-use sctp_base::field::{put_u16, put_u32, read_u16, read_u32, read_u32_le, u32_le_bytes};
-use sctp_base::util::{Checksum, get_padding_size};
 use sctp_chunks::chunk::Chunk;
 use sctp_chunks::chunk::chunk_header::CHUNK_HEADER_SIZE;
 use sctp_chunks::chunk::chunk_kind::ChunkKind;
+use sctp_util::error::{Error, Result};
+use sctp_util::field::{put_u16, put_u32, read_u16, read_u32, read_u32_le, u32_le_bytes};
+use sctp_util::util::{Checksum, get_padding_size};
 use std::alloc::Global;
 use std::fmt;
 

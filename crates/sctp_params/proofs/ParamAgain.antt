@@ -5,12 +5,12 @@ use Rattle.std.specs.Prelude.{Option, Some, None, if◌then◌else◌, nat_le}
 use Rattle.std.specs.List.{flat_map}
 use Rattle.std.proofs.Math.Seq.{take-length, take-add}
 use Rattle.std.proofs.lemmas.List.{take_at, drop_at, length-take-le, length-drop, append-nil, take-append-drop}
-use Rattle.sctp_base.specs.Field.{be16, be32, u16_at, u32_at}
-use Rattle.sctp_base.proofs.Fields.{length_be16, length_be32, u16_at_be16, u32_at_be32}
-use Rattle.sctp_base.proofs.Bytes.{be32_u32, u32_fits, u16_at_take, written_each, each_same}
+use Rattle.sctp_util.specs.Field.{be16, be32, u16_at, u32_at}
+use Rattle.sctp_util.proofs.Fields.{length_be16, length_be32, u16_at_be16, u32_at_be32}
+use Rattle.sctp_util.proofs.Bytes.{be32_u32, u32_fits, u16_at_take, written_each, each_same}
 use Rattle.sctp_params.proofs.ParamTypes.{number_of_type_from}
 use Rattle.sctp_params.proofs.ParamLengths.{length_response_value, value_no_longer, length_param_encoding}
-use Rattle.sctp_base.specs.declared.util.ChunkType.{ChunkType}
+use Rattle.sctp_util.specs.declared.util.ChunkType.{ChunkType}
 use Rattle.sctp_params.specs.declared.param.param_type.ParamType.{ParamType}
 use Rattle.sctp_params.specs.declared.param.param_reconfig_response.ReconfigResult.{ReconfigResult}
 use Rattle.sctp_params.specs.declared.param.param_reconfig_response.ReconfigResult.TheVariants.{SuccessNop, SuccessPerformed, Denied, ErrorWrongSsn}
@@ -18,8 +18,8 @@ use Rattle.sctp_params.specs.declared.param.param_reconfig_response.ReconfigResu
 use Rattle.sctp_params.specs.declared.param.param_reconfig_response.ReconfigResult.TheVariants.{InProgress, Unknown}
 use Rattle.sctp_params.specs.declared.param.param_reconfig_response.ParamReconfigResponse.{ParamReconfigResponse}
 use Rattle.sctp_params.specs.declared.param.param_requested_hmac_algorithm.HmacAlgorithm.{HmacAlgorithm}
-use Rattle.sctp_base.specs.Each.{each}
-use Rattle.sctp_base.specs.Padding.{padding_of, padded_length}
+use Rattle.sctp_util.specs.Each.{each}
+use Rattle.sctp_util.specs.Padding.{padding_of, padded_length}
 use Rattle.sctp_params.specs.ParamType.{type_from}
 use Rattle.sctp_params.specs.AddressTypes.{ReadsAddressTypes, address_types_value, type_encoding}
 use Rattle.sctp_params.specs.ResetRequest.{ResetRequest, ReadsResetRequest, reset_request_value}

@@ -3,7 +3,7 @@ use Rattle.std.proofs.Common.{◌≡◌, [], ◌∷◌, refl, arith}
 use Rattle.std.specs.Prelude.{Some}
 use Rattle.sctp_params.specs.declared.param.param_type.ParamType.TheVariants.{AdaptLayerInd}
 use Rattle.sctp_params.specs.declared.param.param_reconfig_response.ReconfigResult.TheVariants.{SuccessPerformed}
-use Rattle.sctp_base.specs.Field.{be16, be32, u16_at, u32_at}
+use Rattle.sctp_util.specs.Field.{be16, be32, u16_at, u32_at}
 use Rattle.sctp_params.specs.ParamType.{type_from}
 use Rattle.sctp_params.specs.ParamFraming.{param_value_at}
 use Rattle.sctp_params.specs.ResetRequest.{reset_request_value}

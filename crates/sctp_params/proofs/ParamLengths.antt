@@ -4,11 +4,11 @@ use Rattle.std.specs.Prelude.{Option, Some, None, is_some, if◌then◌else◌, 
 use borrow.Author.Tests.{leb-true}
 use Rattle.std.specs.List.{flat_map}
 use Rattle.std.proofs.lemmas.List.Concat.{flat_map-cons}
-use Rattle.sctp_base.specs.Each.{each}
-use Rattle.sctp_base.proofs.EachAt.{length_each}
-use Rattle.sctp_base.specs.Field.{be16, u16_at, u32_at}
-use Rattle.sctp_base.proofs.Fields.{length_be16, length_be32}
-use Rattle.sctp_base.specs.declared.util.ChunkType.{ChunkType}
+use Rattle.sctp_util.specs.Each.{each}
+use Rattle.sctp_util.proofs.EachAt.{length_each}
+use Rattle.sctp_util.specs.Field.{be16, u16_at, u32_at}
+use Rattle.sctp_util.proofs.Fields.{length_be16, length_be32}
+use Rattle.sctp_util.specs.declared.util.ChunkType.{ChunkType}
 use Rattle.sctp_params.specs.ParamType.{type_from}
 use Rattle.sctp_params.specs.ParamFraming.{param_declared_length, param_value_at}
 use Rattle.sctp_params.specs.Param.{Parameter, heartbeat_info, state_cookie, supported_address_types, outgoing_reset_request, reconfig_response, random}

@@ -1,6 +1,6 @@
 -- Bytes begin with one parameter of a kind at most.
 use Rattle.std.proofs.Common.{◌≡◌, ℕ, ◌<◌, length, List, refl, ap, sym, ◌∙◌, arith}
-use Rattle.sctp_base.specs.declared.util.ChunkType.{ChunkType}
+use Rattle.sctp_util.specs.declared.util.ChunkType.{ChunkType}
 use Rattle.sctp_params.specs.declared.param.param_type.ParamType.{ParamType}
 use Rattle.sctp_params.specs.declared.param.param_reconfig_response.ParamReconfigResponse.{ParamReconfigResponse}
 use Rattle.sctp_params.specs.declared.param.param_requested_hmac_algorithm.HmacAlgorithm.{HmacAlgorithm}

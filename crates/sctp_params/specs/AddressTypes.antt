@@ -2,8 +2,8 @@
 use Rattle.std.specs.Prelude.{◌≡◌, ℕ, ◌*◌, ◌/◌, ◌%◌, List, length}
 use Rattle.std.specs.List.{flat_map}
 use Rattle.sctp_params.specs.declared.param.param_type.ParamType.{ParamType}
-use Rattle.sctp_base.specs.Field.{be16, u16_at}
-use Rattle.sctp_base.specs.Each.{each}
+use Rattle.sctp_util.specs.Field.{be16, u16_at}
+use Rattle.sctp_util.specs.Each.{each}
 use Rattle.sctp_params.specs.ParamType.{type_number, type_from}
 
 -- a value of address types: two bytes each

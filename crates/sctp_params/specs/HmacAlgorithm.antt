@@ -3,8 +3,8 @@ use Rattle.std.specs.Prelude.{◌≡◌, ℕ, ◌==◌, ◌*◌, ◌/◌, ◌<�
 use Rattle.std.specs.List.{flat_map}
 use Rattle.sctp_params.specs.declared.param.param_requested_hmac_algorithm.HmacAlgorithm.{HmacAlgorithm}
 use Rattle.sctp_params.specs.declared.param.param_requested_hmac_algorithm.HmacAlgorithm.TheVariants.{HmacResv1, HmacSha128, HmacResv2, HmacSha256, Unknown}
-use Rattle.sctp_base.specs.Field.{be16, u16_at}
-use Rattle.sctp_base.specs.Each.{each}
+use Rattle.sctp_util.specs.Field.{be16, u16_at}
+use Rattle.sctp_util.specs.Each.{each}
 
 unfoldable pub algorithm_from : ℕ → HmacAlgorithm
 algorithm_from n =

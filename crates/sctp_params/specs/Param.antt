@@ -1,6 +1,6 @@
 -- Parameters of every kind, as their wire parts: what bytes say of them, and how they are written.
 use Rattle.std.specs.Prelude.{◌≡◌, ℕ, ◌+◌, ◌^◌, ◌<◌, List, [], ◌++◌, length, map}
-use Rattle.sctp_base.specs.declared.util.ChunkType.{ChunkType}
+use Rattle.sctp_util.specs.declared.util.ChunkType.{ChunkType}
 use Rattle.sctp_params.specs.declared.param.param_type.ParamType.{ParamType}
 use Rattle.sctp_params.specs.declared.param.param_type.ParamType.TheVariants as types
 use Rattle.sctp_params.specs.declared.param.param_reconfig_response.ParamReconfigResponse.{ParamReconfigResponse}

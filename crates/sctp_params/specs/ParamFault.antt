@@ -1,8 +1,8 @@
 -- What must stand in the bytes for each refusal of a parameter: one row each.
 use Rattle.std.specs.Prelude.{◌≡◌, ◌≢◌, ℕ, ◌*◌, ◌/◌, ◌%◌, ◌<◌, ◌≤◌, ◌⊎◌, List, length}
-use Rattle.sctp_base.specs.declared.error.Error.{Error}
-use Rattle.sctp_base.specs.declared.error.Error.TheVariants as errors
-use Rattle.sctp_base.specs.Field.{u16_at}
+use Rattle.sctp_util.specs.declared.error.Error.{Error}
+use Rattle.sctp_util.specs.declared.error.Error.TheVariants as errors
+use Rattle.sctp_util.specs.Field.{u16_at}
 use Rattle.sctp_params.specs.ParamFraming.{IsParam, param_type_at, param_declared_length, param_value_at}
 use Rattle.sctp_params.specs.HmacAlgorithm.{IsRequestable}
 

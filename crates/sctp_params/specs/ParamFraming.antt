@@ -1,7 +1,7 @@
 -- How a parameter is framed: type, length, value (RFC 4960 3.2.1).
 use Rattle.std.specs.Prelude.{ℕ, ◌+◌, ◌^◌, ◌<◌, ◌≤◌, List, ◌++◌, length, drop, slice_range}
-use Rattle.sctp_base.specs.Field.{be16, u16_at, AreBytes}
-use Rattle.sctp_base.specs.Padding.{padded_length}
+use Rattle.sctp_util.specs.Field.{be16, u16_at, AreBytes}
+use Rattle.sctp_util.specs.Padding.{padded_length}
 
 abbrev pub param_type_at : List ℕ → ℕ
 param_type_at bytes = u16_at bytes 0

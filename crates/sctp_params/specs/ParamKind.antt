@@ -1,7 +1,7 @@
 -- Which parameters are read, by their type numbers.
 use Rattle.std.specs.Prelude.{◌≡◌, ◌≢◌, ℕ, ◌^◌, ◌<◌, ◌≤◌, ◌⊎◌, List, length}
-use Rattle.sctp_base.specs.declared.error.Error.{Error}
-use Rattle.sctp_base.specs.declared.error.Error.TheVariants as errors
+use Rattle.sctp_util.specs.declared.error.Error.{Error}
+use Rattle.sctp_util.specs.declared.error.Error.TheVariants as errors
 use Rattle.sctp_params.specs.declared.param.param_kind.ParamKind.{ParamKind}
 use Rattle.sctp_params.specs.declared.param.param_kind.ParamKind.TheVariants.{HeartbeatInfo, StateCookie, SupportedAddressTypes, OutgoingResetRequest}
 use Rattle.sctp_params.specs.declared.param.param_kind.ParamKind.TheVariants.{ReconfigResponse, Random, ChunkList, RequestedHmacAlgorithm, SupportedExtensions}

@@ -5,7 +5,7 @@ use Rattle.sctp_params.specs.declared.param.param_reconfig_response.ReconfigResu
 use Rattle.sctp_params.specs.declared.param.param_reconfig_response.ReconfigResult.TheVariants.{ErrorRequestAlreadyInProgress, ErrorBadSequenceNumber}
 use Rattle.sctp_params.specs.declared.param.param_reconfig_response.ReconfigResult.TheVariants.{InProgress, Unknown}
 use Rattle.sctp_params.specs.declared.param.param_reconfig_response.ParamReconfigResponse.{ParamReconfigResponse}
-use Rattle.sctp_base.specs.Field.{be32, u32_at}
+use Rattle.sctp_util.specs.Field.{be32, u32_at}
 
 unfoldable pub result_from : ℕ → ReconfigResult
 result_from n =

@@ -2,8 +2,8 @@
 use Rattle.std.specs.Prelude.{◌≡◌, ℕ, ◌+◌, ◌*◌, ◌-◌, ◌/◌, ◌%◌, ◌≤◌, List, ◌++◌, length}
 use Rattle.std.specs.List.{flat_map}
 use Rattle.sctp_params.specs.declared.param.param_outgoing_reset_request.ParamOutgoingResetRequest.{ParamOutgoingResetRequest}
-use Rattle.sctp_base.specs.Field.{be16, be32, u16_at, u32_at}
-use Rattle.sctp_base.specs.Each.{each}
+use Rattle.sctp_util.specs.Field.{be16, be32, u16_at, u32_at}
+use Rattle.sctp_util.specs.Each.{each}
 
 -- the wire part of a request
 pub record ResetRequest : Type 0 where

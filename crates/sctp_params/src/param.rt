@@ -2,9 +2,9 @@
 //! The length counts its four header bytes and the value, not the padding behind it.
 
 ghost use Rattle.std.specs.Prelude.{◌≡◌, ◌+◌, ◌≤◌, ◌<◌, ◌^◌, ◌++◌, ◌⊎◌, ℕ, List, length, IfOk, IfErr, OnErr, IsOkUnless};
-ghost use Rattle.sctp_base.specs.declared.error.Error.{Error};
-ghost use Rattle.sctp_base.specs.declared.error.Error.TheVariants.{ErrOutOfMemory, ErrLengthTooLarge};
-ghost use Rattle.sctp_base.specs.Outcome.{OrMemory, GivesUnlessMemory};
+ghost use Rattle.sctp_util.specs.declared.error.Error.{Error};
+ghost use Rattle.sctp_util.specs.declared.error.Error.TheVariants.{ErrOutOfMemory, ErrLengthTooLarge};
+ghost use Rattle.sctp_util.specs.Outcome.{OrMemory, GivesUnlessMemory};
 ghost use Rattle.sctp_params.specs.Param.{Parameter, Reads, ReadsBack, HasOwnType, HasParamEncoding, chunk_type_numbers, chunk_types, param_encoding, param_type_of, param_value_of};
 
 pub mod param_chunk_list;
@@ -25,8 +25,8 @@ pub mod param_unknown;
 use bytes::{Bytes, BytesMut};
 use param_header::{PARAM_HEADER_LENGTH, ParamHeader, put_header};
 use param_type::ParamType;
-use sctp_base::error::Result;
-use sctp_base::util::ChunkType;
+use sctp_util::error::Result;
+use sctp_util::util::ChunkType;
 use std::alloc::Global;
 use std::fmt;
 

@@ -3,9 +3,9 @@ use Rattle.std.proofs.Common.{◌≡◌, ℕ, zero, suc, ◌<◌, Bool, true, fa
 use Rattle.std.specs.Prelude.{◌==◌, if◌then◌else◌, find, is_some, slice_get, slice_index_or, slice_set, MatchOption}
 use Rattle.std.proofs.lemmas.Bool.{eq-eqb}
 use Rattle.std.proofs.lemmas.List.{get_or_default}
-use Rattle.sctp_list_lemmas.specs.Lists.{change_where, change_at}
-use Rattle.sctp_list_lemmas.proofs.Getting.{map-twice}
-use Rattle.sctp_list_lemmas.proofs.Cases.{some-same}
+use Rattle.sctp_util.specs.Lists.{change_where, change_at}
+use Rattle.sctp_util.proofs.Getting.{map-twice}
+use Rattle.sctp_util.proofs.Cases.{some-same}
 use Rattle.sctp_stream.specs.Numbers.{IsOnlyPlace, IsAbsent}
 use Rattle.sctp_stream.proofs.StreamPlaces as Places
 use Rattle.sctp_progress.specs.declared.progress.StreamProgress.{StreamProgress}

@@ -1,18 +1,18 @@
 //! How far the messages of each open stream are.
 
 ghost use Rattle.std.specs.Prelude.{◌≡◌, ◌<◌, ◌≤◌, ◌+◌, ◌^◌, ◌⊎◌, ◌++◌, ◌∷◌, [], None, Some, OnOk, OnErr, IfOk, IfErr, IsOkUnless, MatchOption, find, is_some, length, map, option_map, slice_index_or, if◌then◌else◌};
-ghost use Rattle.sctp_base.specs.declared.error.Error.TheVariants.{ErrOutOfMemory};
+ghost use Rattle.sctp_util.specs.declared.error.Error.TheVariants.{ErrOutOfMemory};
 ghost use Rattle.sctp_progress.specs.Progress.{Standing, standing_of, fresh};
 
 mod completing;
 
 use self::completing::{make_room, record_complete};
-use sctp_base::error::Error;
 use sctp_data::chunk::chunk_payload_data::ChunkPayloadData;
 use sctp_receiver::receiver::Receiver;
 use sctp_receiver::receiver::arrival::Arrival;
 use sctp_receiver::receiver::refusal::ReceiverRefusal;
 use sctp_stream::stream_numbers::{StreamNumbers, put};
+use sctp_util::error::Error;
 use std::alloc::Global;
 use std::collections::VecDeque;
 use std::marker::Model;
@@ -74,7 +74,7 @@ impl Model for Progress {
 }
 
 impl Progress {
-    ghost use Rattle.sctp_list_lemmas.specs.Lists.{change_at, change_where};
+    ghost use Rattle.sctp_util.specs.Lists.{change_at, change_where};
     ghost use Rattle.sctp_receiver.specs.Receiver.{TakesEachBy, StopsAtBy, data_refusal};
     ghost use Rattle.sctp_receiver.specs.declared.receiver.refusal.ReceiverRefusal.TheVariants.{OutOfMemory};
     ghost use Rattle.sctp_stream.specs.Numbers.{IsAbsent, IsOnlyPlace};

@@ -2,7 +2,7 @@
 
 ghost use Rattle.std.specs.Prelude.{◌≡◌, ℕ, insert, ◌==◌, nat_lt, ◌+◌, ◌-◌, ◌*◌, ◌%◌, ◌^◌, ◌<◌, ◌≤◌, [], ◌∷◌, length, map, min, OnOk, OnErr, true, false, IfOk, IfErr, IfSome, IfNone, IsOk, IsTrue, Ok, Err, Some, None, MatchOption, not, is_some, option_map, slice_index_or, if◌then◌else◌};
 ghost use Rattle.std.specs.List.{list_any, position_or_len, filter};
-ghost use Rattle.sctp_list_lemmas.specs.Serial.{comes_before16, at_or_before, at_or_before16};
+ghost use Rattle.sctp_util.specs.Serial.{comes_before16, at_or_before, at_or_before16};
 ghost use Rattle.sctp_reassembly.specs.reassembly_queue.ReassemblyQueue.{is_passed, set_bytes, set_of_run};
 ghost use Rattle.sctp_reassembly.specs.reassembly_queue.Fragments.{has_ssn, chunks_of_ssn, sets_with, answer_with, new_set};
 ghost use Rattle.sctp_serial.specs.DataChunks.{bytes_of};
@@ -15,7 +15,7 @@ ghost use Rattle.sctp_reassembly.specs.reassembly_queue.Orders.{digits, IsOrderl
 ghost use Rattle.sctp_reassembly.specs.reassembly_queue.Costs.{ordered_push_looks, ordered_push_walk, read_walk, FitsInOrder, Joins, IsAtEnd, JoinsAtEnd, unordered_push_looks, unordered_push_walk, StandsInOrder, unordered_skip_walk, ordered_skip_walk};
 ghost use Rattle.sctp_reassembly.specs.reassembly_queue.Skips.{after_bounded_skip, applicable, is_upto};
 ghost use Rattle.sctp_reassembly.specs.reassembly_queue.Undo.{undone, CanUndo};
-ghost use Rattle.sctp_base.specs.declared.error.Error.TheVariants.{ErrOutOfMemory, ErrInboundPacketTooLarge};
+ghost use Rattle.sctp_util.specs.declared.error.Error.TheVariants.{ErrOutOfMemory, ErrInboundPacketTooLarge};
 
 pub mod chunks;
 mod counted_sets;
@@ -44,10 +44,10 @@ use self::skips::{earliest_from, goal, has_settled, latest_passable};
 use self::unassembled::Loose;
 use self::unassembled_places::{front_upto, place_for};
 use self::undo::{MessageUndo, PushChange, PushUndo};
-use sctp_base::error::Result;
-use sctp_base::util::{sna16gt, sna16lt, sna16lte, sna32lte};
 use sctp_data::chunk::chunk_payload_data::{ChunkPayloadData, PayloadProtocolIdentifier};
 use sctp_serial::turns::Turns;
+use sctp_util::error::Result;
+use sctp_util::util::{sna16gt, sna16lt, sna16lte, sna32lte};
 use std::alloc::Global;
 use std::collections::VecDeque;
 use std::marker::Model;
@@ -266,15 +266,6 @@ impl ReassemblyQueue {
     {
         let (whole, _undo) = self.push_undoable_counted(chunk, turns)?;
         Ok(whole)
-    }
-
-    /// Whether `push` refuses a chunk with `ErrInboundPacketTooLarge`: it is of this stream, and its bytes and those held of
-    /// its message are together more than `max_message_size`. A chunk that `push` would not keep counts as well, so that a
-    /// repeat of an ordered fragment counts twice. It takes no memory.
-    pub fn is_too_large(&self, chunk: &ChunkPayloadData) -> bool
-        ensures { result ≡ is_too_large chunk.now self.now }
-    {
-        self.is_too_large_counted(chunk, &mut Turns::new())
     }
 
     /// The same, and what it looks at is added: no more than `push_counted` says of a push.

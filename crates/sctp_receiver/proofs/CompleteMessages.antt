@@ -6,9 +6,9 @@ use Rattle.std.specs.List.{list_all, filter}
 use Rattle.std.proofs.lemmas.Bool.{eq-eqb}
 use Rattle.std.proofs.lemmas.List.{get_or-drop, length-drop}
 use Rattle.std.proofs.lemmas.List.Folds.{list_all-append}
-use Rattle.sctp_list_lemmas.specs.Lists.{insert_before}
-use Rattle.sctp_list_lemmas.specs.Serial.{at_or_before, comes_before16, at_or_before16}
-use Rattle.sctp_list_lemmas.proofs.More.{and, both}
+use Rattle.sctp_util.specs.Lists.{insert_before}
+use Rattle.sctp_util.specs.Serial.{at_or_before, comes_before16, at_or_before16}
+use Rattle.sctp_util.proofs.More.{and, both}
 use Rattle.sctp_data.specs.declared.chunk.chunk_payload_data.ChunkPayloadData.{ChunkPayloadData}
 use Rattle.sctp_data.specs.ChunkSet.{ChunkSet}
 use Rattle.sctp_serial.specs.DataChunks.{chunk_before, following_tsn}

@@ -5,7 +5,7 @@ use Rattle.sctp_data.specs.ChunkSet.{fresh}
 use Rattle.sctp_data.specs.ForwardTsn.{ForwardTsn}
 use Rattle.sctp_data.specs.declared.chunk.chunk_payload_data.PayloadProtocolIdentifier.TheVariants as identifiers
 use Rattle.sctp_data.specs.declared.chunk.chunk_payload_data.ChunkPayloadData.{ChunkPayloadData}
-use Rattle.sctp_list_lemmas.specs.Serial.{distance, comes_before, at_or_before, comes_before16, at_or_before16, distance16}
+use Rattle.sctp_util.specs.Serial.{distance, comes_before, at_or_before, comes_before16, at_or_before16, distance16}
 use Rattle.sctp_receiver.specs.declared.receiver.limits.Limits.{Limits}
 use Rattle.sctp_receiver.specs.declared.receiver.refusal.ReceiverRefusal.TheVariants.{StreamUnknown, MessageTooLarge, TsnTooFar, WindowFull, SsnTooFar}
 use Rattle.sctp_receiver.specs.declared.receiver.refusal.ReceiverRefusal.TheVariants.{NamedStreamUnknown, NamedSsnTooFar}
@@ -13,7 +13,7 @@ use Rattle.sctp_receiver.specs.declared.receiver.arrival.Arrival.TheVariants.{Ne
 use Rattle.sctp_receiver.specs.Inbound.{new_stream, has_number, with_queue}
 use Rattle.sctp_receiver.specs.Receiver.{Reception, at_first, open_stream, data_refusal, arrival_refusal, filter_of, with_filter, repeat_tsn, noted_by}
 use Rattle.sctp_receiver.specs.Receiver.{TakesEach, discard_refusal, window}
-use Rattle.sctp_list_lemmas.specs.Lists.{change_where}
+use Rattle.sctp_util.specs.Lists.{change_where}
 use Rattle.sctp_reassembly.specs.reassembly_queue.ReassemblyQueue.{Reassembly, ReassemblyState, after_ordered_push}
 use Rattle.sctp_receiver.specs.Ssns.{lowest_ssn, is_ssn_too_far, is_name_too_far}
 use Rattle.sctp_receiver.specs.Skips.{skip_refusal, past_closed_refusal}

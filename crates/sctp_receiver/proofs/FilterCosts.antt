@@ -4,10 +4,10 @@ use Rattle.std.proofs.Common.{inl, inr, arith}
 use Rattle.std.specs.List.{filter}
 use Rattle.std.proofs.lemmas.Bool.{cases_lt}
 use Rattle.std.proofs.lemmas.List.{length-map}
-use Rattle.sctp_list_lemmas.specs.Kept.{runs_of}
-use Rattle.sctp_list_lemmas.specs.Serial.{distance, comes_before}
-use Rattle.sctp_list_lemmas.proofs.Distances.{before_is}
-use Rattle.sctp_list_lemmas.proofs.More.{not_both}
+use Rattle.sctp_util.specs.Kept.{runs_of}
+use Rattle.sctp_util.specs.Serial.{distance, comes_before}
+use Rattle.sctp_util.proofs.Distances.{before_is}
+use Rattle.sctp_util.proofs.More.{not_both}
 use Rattle.sctp_data.specs.declared.chunk.chunk_payload_data.ChunkPayloadData.{ChunkPayloadData}
 use Rattle.sctp_serial.specs.DataChunks.{tsns}
 use Rattle.sctp_serial.specs.Turns.{IsWithinDigits}

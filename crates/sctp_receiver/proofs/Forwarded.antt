@@ -2,7 +2,7 @@
 use Rattle.std.proofs.Common.{◌≡◌, refl, ap, ◌∙◌, ℕ, Bool, true, false, List, [], ◌∷◌, map, Some}
 use Rattle.std.specs.Prelude.{◌==◌, if◌then◌else◌, find, option_map}
 use Rattle.std.specs.List.{filter}
-use Rattle.sctp_list_lemmas.specs.Lists.{change_where}
+use Rattle.sctp_util.specs.Lists.{change_where}
 use Rattle.sctp_data.specs.declared.chunk.chunk_forward_tsn.ChunkForwardTsnStream.{ChunkForwardTsnStream}
 use Rattle.sctp_data.specs.ForwardTsn.{ForwardTsn}
 use Rattle.sctp_reassembly.specs.reassembly_queue.ReassemblyQueue.{ReassemblyState, after_ordered_skip}
@@ -11,7 +11,7 @@ use Rattle.sctp_receiver.specs.Inbound.{number, numbers_of, has_number, with_que
 use Rattle.sctp_receiver.specs.Inbound.{skipped_each, stream_forwarded}
 use Rattle.sctp_receiver.specs.Receiver.{Reception, stream_of, follow_forward_tsn, after_forward, is_stale}
 use Rattle.sctp_receiver.proofs.Inbounds.{stays-mapped}
-use Rattle.sctp_list_lemmas.proofs.Getting.{map-twice}
+use Rattle.sctp_util.proofs.Getting.{map-twice}
 
 -- ## Skips
 

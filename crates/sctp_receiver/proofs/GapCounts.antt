@@ -5,9 +5,9 @@ use Rattle.std.specs.Prelude.{if◌then◌else◌, ◌==◌, not, slice_get, unw
 use Rattle.std.specs.List.{list_any, filter}
 use Rattle.std.proofs.lemmas.Bool.{cases_lt}
 use Rattle.std.proofs.lemmas.List.Sums.{length-filter, count_by-le-length}
-use Rattle.sctp_list_lemmas.specs.Lists.{insert_before, advance_over, Seen}
-use Rattle.sctp_list_lemmas.specs.Serial.{distance, comes_before, at_or_before}
-use Rattle.sctp_list_lemmas.proofs.Distances.{before_is}
+use Rattle.sctp_util.specs.Lists.{insert_before, advance_over, Seen}
+use Rattle.sctp_util.specs.Serial.{distance, comes_before, at_or_before}
+use Rattle.sctp_util.proofs.Distances.{before_is}
 use Rattle.sctp_serial.specs.DataChunks.{following_tsn}
 use Rattle.sctp_serial.proofs.lemmas.AscendingEdits.{distance_self, distance_rest, before_farther}
 use Rattle.sctp_serial.proofs.lemmas.ListEdits.{neither}

@@ -2,8 +2,8 @@
 use Rattle.std.proofs.Common.{◌≡◌, ℕ, ◌+◌, ◌<◌, Bool, true, false, List, [], ◌∷◌, ◌++◌, length, length-append, ap, sym, ◌∙◌, arith}
 use Rattle.std.specs.Prelude.{◌==◌, ◌&&◌, ◌||◌, slice_get, slice_index_or, slice_set}
 use Rattle.std.proofs.lemmas.Option.{slice_get_past}
-use Rattle.sctp_list_lemmas.proofs.Cases.{by_same, some-same}
-use Rattle.sctp_list_lemmas.proofs.More.{not_both}
+use Rattle.sctp_util.proofs.Cases.{by_same, some-same}
+use Rattle.sctp_util.proofs.More.{not_both}
 use Rattle.sctp_receiver.specs.declared.receiver.inbound_streams.InboundStream.{InboundStream}
 use Rattle.sctp_receiver.specs.Visited.{VisitOrder, is_spot_before, is_visited, holds_any, holds_incomplete, IsListing}
 use Rattle.sctp_receiver.proofs.Settled.{none-incomplete}

@@ -6,10 +6,10 @@ use Rattle.std.specs.List.{list_all, list_any, filter}
 use Rattle.std.proofs.lemmas.Bool.{eq-eqb}
 use Rattle.std.proofs.lemmas.List.{get_or-drop, get_or-take, get_or_default, length-drop, length-take}
 use Rattle.std.proofs.lemmas.List.Folds.{list_all-append}
-use Rattle.sctp_list_lemmas.specs.Lists.{insert_before, change_first, after_leading}
-use Rattle.sctp_list_lemmas.specs.Serial.{at_or_before, comes_before16}
-use Rattle.sctp_list_lemmas.proofs.Cases.{same-is, same-yes, negated}
-use Rattle.sctp_list_lemmas.proofs.More.{and, both, fails}
+use Rattle.sctp_util.specs.Lists.{insert_before, change_first, after_leading}
+use Rattle.sctp_util.specs.Serial.{at_or_before, comes_before16}
+use Rattle.sctp_util.proofs.Cases.{same-is, same-yes, negated}
+use Rattle.sctp_util.proofs.More.{and, both, fails}
 use Rattle.sctp_data.specs.declared.chunk.chunk_payload_data.ChunkPayloadData.{ChunkPayloadData}
 use Rattle.sctp_data.specs.ChunkSet.{ChunkSet}
 use Rattle.sctp_serial.specs.DataChunks.{chunk_before, has_tsn, is_on}

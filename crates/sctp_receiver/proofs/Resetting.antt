@@ -2,7 +2,7 @@
 use Rattle.std.proofs.Common.{◌≡◌, ℕ, true, false, List, [], ◌∷◌, map, Some, refl, ap, ap₂, ◌∙◌, Result, Ok, Err}
 use Rattle.std.specs.Prelude.{find, slice_index_or, slice_set, OnOk, OnErr}
 use Rattle.std.specs.List.{list_any}
-use Rattle.sctp_list_lemmas.specs.Lists.{change_where}
+use Rattle.sctp_util.specs.Lists.{change_where}
 use Rattle.sctp_serial.proofs.lemmas.ListEdits.{neither}
 use Rattle.sctp_reassembly.specs.reassembly_queue.Skips.{cannot_complete}
 use Rattle.sctp_reassembly.proofs.lemmas.reassembly_queue.ByteCounts.{incomplete_agrees}

@@ -4,7 +4,7 @@ use native.Mathlib.Nat.{mod-eq-sub-mod}
 use Rattle.std.specs.Prelude.{not, ◌||◌, nat_lt, if◌then◌else◌}
 use Rattle.std.proofs.lemmas.Bool.{cases_lt}
 use Rattle.std.proofs.lemmas.Bool.Decides.{nat_tests}
-use Rattle.sctp_list_lemmas.specs.Serial.{distance16, comes_before16, at_or_before16}
+use Rattle.sctp_util.specs.Serial.{distance16, comes_before16, at_or_before16}
 use Rattle.sctp_data.specs.ChunkSet.{ChunkSet}
 use Rattle.sctp_reassembly.specs.reassembly_queue.ReassemblyQueue.{Reassembly}
 use Rattle.sctp_receiver.specs.Ssns.{lowest_among, lowest_ssn, ssn_distance, is_ssn_too_far, is_kept_or_passed}

@@ -4,9 +4,9 @@ use Rattle.std.specs.Prelude.{if◌then◌else◌, find, not, ⊤, ◌==◌, ◌
 use Rattle.std.specs.List.{list_any, sum_by, filter}
 use Rattle.std.proofs.lemmas.List.Sums.{sum_by-cons, sum_by-append}
 use Rattle.std.proofs.lemmas.Bool.{eq-eqb}
-use Rattle.sctp_list_lemmas.specs.Lists.{change_where}
-use Rattle.sctp_list_lemmas.proofs.Cases.{same-is}
-use Rattle.sctp_list_lemmas.proofs.More.{and, both, fails, not_both}
+use Rattle.sctp_util.specs.Lists.{change_where}
+use Rattle.sctp_util.proofs.Cases.{same-is}
+use Rattle.sctp_util.proofs.More.{and, both, fails, not_both}
 use Rattle.sctp_data.specs.declared.chunk.chunk_payload_data.ChunkPayloadData.{ChunkPayloadData}
 use Rattle.sctp_data.specs.declared.chunk.chunk_forward_tsn.ChunkForwardTsnStream.{ChunkForwardTsnStream}
 use Rattle.sctp_data.specs.ChunkSet.{ChunkSet}

@@ -4,11 +4,11 @@ use Rattle.std.specs.Prelude.{if◌then◌else◌, ◌==◌, ◌&&◌, ◌||◌,
 use Rattle.std.specs.List.{list_any, filter}
 use Rattle.std.proofs.lemmas.Bool.{cases_lt}
 use Rattle.std.proofs.lemmas.Bool.Decides.{nat_tests}
-use Rattle.sctp_list_lemmas.specs.Lists.{insert_before, advance_over, Seen}
-use Rattle.sctp_list_lemmas.specs.Serial.{distance, comes_before, at_or_before}
-use Rattle.sctp_list_lemmas.proofs.Cases.{same-yes, same-is}
-use Rattle.sctp_list_lemmas.proofs.More.{fails, not_both, both, and}
-use Rattle.sctp_list_lemmas.proofs.Distances.{distance_cases}
+use Rattle.sctp_util.specs.Lists.{insert_before, advance_over, Seen}
+use Rattle.sctp_util.specs.Serial.{distance, comes_before, at_or_before}
+use Rattle.sctp_util.proofs.Cases.{same-yes, same-is}
+use Rattle.sctp_util.proofs.More.{fails, not_both, both, and}
+use Rattle.sctp_util.proofs.Distances.{distance_cases}
 use Rattle.sctp_serial.proofs.lemmas.AscendingEdits.{distance_rest, distance_back, same_distance, before_farther, not_before_nearer}
 use Rattle.sctp_receiver.specs.TsnFilter.{rise_beyond}
 use Rattle.sctp_serial.specs.DataChunks.{following_tsn}

@@ -5,7 +5,7 @@ use Rattle.std.specs.Prelude.{◌==◌, Option, nat_lt, if◌then◌else◌, sli
 use Rattle.std.proofs.lemmas.Bool.{lt-ltb, le-ltb}
 use Rattle.std.proofs.lemmas.Bool.Decides.{nat_tests}
 use Rattle.std.proofs.lemmas.Option.{slice_get_within, slice_get_past, slice_get_read}
-use Rattle.sctp_list_lemmas.proofs.Cases.{by_same, same-yes, some-same}
+use Rattle.sctp_util.proofs.Cases.{by_same, same-yes, some-same}
 use Rattle.sctp_receiver.specs.Visited.{AreInverse, is_spot_before, swapped}
 
 -- ## What stands at a place of a list

@@ -7,7 +7,7 @@ use Rattle.std.proofs.lemmas.Bool.{lt-ltb, le-ltb, ltb-true}
 use Rattle.std.proofs.lemmas.Bool.Decides.{nat_tests}
 use Rattle.std.proofs.lemmas.List.Sums.{sum_by-cons, sum_by-set}
 use Rattle.std.proofs.lemmas.Option.{slice_get_within, slice_get-get_or, get_or_from_slice_get}
-use Rattle.sctp_list_lemmas.proofs.Cases.{by_same, same-yes, some-same}
+use Rattle.sctp_util.proofs.Cases.{by_same, same-yes, some-same}
 use Rattle.sctp_receiver.specs.Visited.{AreInverse, VisitOrder, is_spot_before, is_visited, swapped}
 use Rattle.sctp_receiver.proofs.VisitOrders.{set-here, set-there, first-swapped, other-swapped}
 

@@ -4,9 +4,9 @@ use Rattle.std.specs.Prelude.{not, if◌then◌else◌}
 use Rattle.std.specs.List.{list_any, sum_by, filter}
 use Rattle.std.proofs.lemmas.List.Sums.{sum_by-cons, sum_by-append}
 use Rattle.std.proofs.lemmas.List.{take-append-drop}
-use Rattle.sctp_list_lemmas.specs.Lists.{insert_before, change_first, after_leading}
-use Rattle.sctp_list_lemmas.specs.Serial.{at_or_before, comes_before16}
-use Rattle.sctp_list_lemmas.proofs.Edits.{sum_by-inserted}
+use Rattle.sctp_util.specs.Lists.{insert_before, change_first, after_leading}
+use Rattle.sctp_util.specs.Serial.{at_or_before, comes_before16}
+use Rattle.sctp_util.proofs.Edits.{sum_by-inserted}
 use Rattle.sctp_data.specs.declared.chunk.chunk_payload_data.ChunkPayloadData.{ChunkPayloadData}
 use Rattle.sctp_data.specs.ChunkSet.{ChunkSet}
 use Rattle.sctp_serial.specs.DataChunks.{has_tsn, chunk_before}

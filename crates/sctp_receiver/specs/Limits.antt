@@ -1,7 +1,7 @@
 -- What the limits of a receiver refuse, and what they leave of its window (RFC 4960 6.2, 3.3.4).
 use Rattle.std.specs.Prelude.{ℕ, ◌+◌, ◌*◌, ◌-◌, ◌^◌, ◌&&◌, Bool, nat_lt, nat_le, min, if◌then◌else◌, List, Option, Some, None}
 use Rattle.std.specs.List.{sum_by}
-use Rattle.sctp_list_lemmas.specs.Serial.{distance, comes_before}
+use Rattle.sctp_util.specs.Serial.{distance, comes_before}
 use Rattle.sctp_reassembly.specs.reassembly_queue.ReassemblyQueue.{held_chunks}
 use Rattle.sctp_receiver.specs.declared.receiver.inbound_streams.InboundStream.{InboundStream}
 use Rattle.sctp_receiver.specs.declared.receiver.limits.Limits.{Limits}

@@ -3,8 +3,8 @@ use Rattle.std.specs.Prelude.{◌≡◌, ◌⊎◌, ℕ, Bool, true, false, not,
 use Rattle.std.specs.Prelude.{drop, slice_get, Option, Some, None, is_some}
 use Rattle.std.specs.List.{find, filter}
 use Rattle.std.specs.Option.{option_or}
-use Rattle.sctp_list_lemmas.specs.Lists.{change_where}
-use Rattle.sctp_list_lemmas.specs.Serial.{at_or_before}
+use Rattle.sctp_util.specs.Lists.{change_where}
+use Rattle.sctp_util.specs.Serial.{at_or_before}
 use Rattle.sctp_data.specs.declared.chunk.chunk_payload_data.ChunkPayloadData.{ChunkPayloadData}
 use Rattle.sctp_data.specs.ChunkSet.{ChunkSet}
 use Rattle.sctp_data.specs.ForwardTsn.{ForwardTsn}

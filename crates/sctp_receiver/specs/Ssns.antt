@@ -1,7 +1,7 @@
 -- Which stream sequence numbers can be told from those that are still to be read (RFC 1982 3.2; RFC 4960 6.5, 6.6; RFC 3758 3.6).
 use Rattle.std.specs.Prelude.{ℕ, ◌+◌, ◌-◌, ◌^◌, ◌==◌, Bool, true, false, not, ◌&&◌, ◌||◌, nat_lt, nat_le, if◌then◌else◌, List, [], ◌∷◌, Option, Some, None}
 use Rattle.std.specs.Prelude.{is_some}
-use Rattle.sctp_list_lemmas.specs.Serial.{distance16, comes_before16, at_or_before16}
+use Rattle.sctp_util.specs.Serial.{distance16, comes_before16, at_or_before16}
 use Rattle.sctp_data.specs.ChunkSet.{ChunkSet}
 use Rattle.sctp_data.specs.declared.chunk.chunk_payload_data.ChunkPayloadData.{ChunkPayloadData}
 use Rattle.sctp_data.specs.declared.chunk.chunk_forward_tsn.ChunkForwardTsnStream.{ChunkForwardTsnStream}

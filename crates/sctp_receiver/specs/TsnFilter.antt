@@ -1,9 +1,9 @@
 -- The TSNs that came: the cumulative one, and those beyond it (RFC 4960 6.2; RFC 3758 3.6).
 use Rattle.std.specs.Prelude.{ℕ, ◌-◌, ◌^◌, ◌==◌, Bool, true, false, not, ◌&&◌, ◌||◌, nat_lt, List, [], ◌∷◌, ◌++◌, length, map, slice_get, unwrap_or}
 use Rattle.std.specs.List.{list_any, filter}
-use Rattle.sctp_list_lemmas.specs.Kept.{runs_of}
-use Rattle.sctp_list_lemmas.specs.Lists.{advance_over, insert_before, Seen}
-use Rattle.sctp_list_lemmas.specs.Serial.{distance, comes_before, at_or_before}
+use Rattle.sctp_util.specs.Kept.{runs_of}
+use Rattle.sctp_util.specs.Lists.{advance_over, insert_before, Seen}
+use Rattle.sctp_util.specs.Serial.{distance, comes_before, at_or_before}
 use Rattle.sctp_data.specs.ChunkSet.{fresh}
 use Rattle.sctp_data.specs.declared.chunk.chunk_payload_data.PayloadProtocolIdentifier.TheVariants.{Unknown}
 use Rattle.sctp_data.specs.declared.chunk.chunk_payload_data.ChunkPayloadData.{ChunkPayloadData}

@@ -25,7 +25,6 @@ use self::limits::Limits;
 use self::refusal::ReceiverRefusal;
 use self::taking::{Rules, note_repeat, take};
 use self::tsn_filter::TsnFilter;
-use sctp_base::util::sna32lte;
 use sctp_data::chunk::chunk_forward_tsn::ChunkForwardTsn;
 use sctp_data::chunk::chunk_payload_data::{ChunkPayloadData, PayloadProtocolIdentifier};
 use sctp_outbound::payload_queue::PayloadQueue;
@@ -33,6 +32,7 @@ use sctp_reassembly::chunks::Chunks;
 use sctp_reassembly::reassembly_queue::ReassemblyQueue;
 use sctp_serial::turns::Turns;
 use sctp_stream::stream::DataChannelStats;
+use sctp_util::util::sna32lte;
 use std::alloc::Global;
 use std::marker::Model;
 
@@ -171,24 +171,6 @@ impl Receiver {
         ensures cost { IsWithinData chunk.now self.old self.new (turns.new - turns.old) }
     {
         self.take(chunk, false, turns)
-    }
-
-    /// Takes a DATA chunk as `data` does, but for `SsnTooFar`: an ordered one of any stream sequence number, as a replay of a record
-    /// may want it. Its TSN counts as come where it is not kept too, because its number comes before the next one.
-    pub fn data_with_any_ssn(
-        &mut self,
-        chunk: &ChunkPayloadData,
-    ) -> Result<Arrival, ReceiverRefusal>
-        ensures answer { IfOk result (λ arrival. arrival
-            ≡ arrival_of chunk.now.tsn (is_answered_complete arrival) self.old) }
-        ensures ok { IfOk result (λ arrival. Takes chunk.now arrival self.old self.new) }
-        ensures accepted { IsOk result → data_refusal chunk.now self.old ≡ None }
-        ensures refused { IfErr result (λ e. IsRefusedFor (data_refusal chunk.now self.old) e) }
-        ensures wants { IfErr result (λ e. e ≡ OutOfMemory
-            → takes_memory chunk.now self.old ≡ true) }
-        ensures err { OnErr result (self.new ≡ self.old) }
-    {
-        self.take(chunk, true, &mut Turns::new())
     }
 
     // Takes a DATA chunk, an ordered one of any stream sequence number or not, and how it could be taken back is dropped. Its turns
@@ -335,29 +317,7 @@ impl Receiver {
             ≡ Some e) }
         ensures err { OnErr result (self.new ≡ self.old) }
     {
-        self.forward_tsn_by_names_counted(chunk, &mut Turns::new())
-    }
-
-    /// The same, and its turns are added: at most one for each name, one for each stream that has unassembled fragments or ordered
-    /// messages that were not read, one for each TSN beyond that leaves, and one more. What is looked at within streams takes no turn.
-    pub fn forward_tsn_by_names_counted(
-        &mut self,
-        chunk: &ChunkForwardTsn,
-        turns: &mut Turns,
-    ) -> Result<Forwarded, ReceiverRefusal>
-        ensures answer { IfOk result (λ forwarded. forwarded
-            ≡ forwarded_of (forward_tsn_of chunk.now) self.old) }
-        ensures ok { OnOk result (self.new ≡ after_forward (forward_tsn_of chunk.now) self.old) }
-        ensures accepted { IsOk result
-            → forward_refusal (forward_tsn_of chunk.now) self.old ≡ None }
-        ensures refused { IfErr result (λ e. forward_refusal (forward_tsn_of chunk.now) self.old
-            ≡ Some e) }
-        ensures err { OnErr result (self.new ≡ self.old) }
-        ensures not_back { turns.old ≤ turns.new }
-        ensures cost { turns.new
-            ≤ turns.old + names_turns (forward_tsn_of chunk.now) self.old self.new }
-    {
-        self.forward_tsn_by_names_skips_counted(chunk, turns, &mut Turns::new())
+        self.forward_tsn_by_names_skips_counted(chunk, &mut Turns::new(), &mut Turns::new())
     }
 
     /// The same, and what it looks at within streams is added to `skips`: one turn for each name; for each stream that is named, however

@@ -19,7 +19,7 @@ use Rattle.sctp_model.proofs.receiver.ValidRun.{record_is_valid}
 use Rattle.sctp_refinement.proofs.sending.KindsRun.{Going, taken-run}
 use Rattle.sctp_refinement.proofs.sending.Fragments.{going-run}
 use Rattle.sctp_refinement.proofs.amounts.NoLarger.{no-larger}
-use Rattle.sctp_list_lemmas.proofs.Cases.{some-same}
+use Rattle.sctp_util.proofs.Cases.{some-same}
 use Rattle.sctp_model.specs.LinkRecord as W
 use Rattle.sctp_model.proofs.sender.Few
 use Rattle.sctp_outbound.specs.outbound_queue.OutboundQueue.{Outbound}

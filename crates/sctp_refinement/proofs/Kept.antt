@@ -1,7 +1,7 @@
 -- What an event leaves of a record that stands for a history.
 use Rattle.std.proofs.Common.{◌≡◌, ℕ, true, false, length, None, refl, ap, sym, ◌∙◌}
 use Rattle.std.proofs.Math.Path.{subst}
-use Rattle.sctp_list_lemmas.specs.Lists.{pieces}
+use Rattle.sctp_util.specs.Lists.{pieces}
 use Rattle.sctp_model.specs.declared.event.Event.{Event}
 use Rattle.sctp_model.specs.LinkRecord.{LinkRecord}
 use Rattle.sctp_model.specs.Messages.{ordered_before, message_at}

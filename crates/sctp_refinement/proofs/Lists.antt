@@ -8,9 +8,9 @@ use Rattle.std.proofs.lemmas.List.Folds.{list_all_more}
 use Rattle.std.proofs.Math.ListN.{drop_of_length-le}
 use Rattle.std.proofs.Math.Seq.{drop-cons}
 use Rattle.std.proofs.Math.Path.{subst}
-use Rattle.sctp_list_lemmas.proofs.More.{and}
+use Rattle.sctp_util.proofs.More.{and}
 use Rattle.sctp_data.specs.declared.chunk.chunk_selective_ack.GapAckBlock.{GapAckBlock}
-use Rattle.sctp_list_lemmas.specs.Lists.{change_at, change_where, insert_before, pieces}
+use Rattle.sctp_util.specs.Lists.{change_at, change_where, insert_before, pieces}
 
 -- ## Tests of all and of some
 

@@ -1,6 +1,6 @@
 -- What a stream still has to send or to see acknowledged, and the bytes of it that slots hold.
 use Rattle.std.specs.Prelude.{ℕ, ◌+◌, Bool, true, false, ◌&&◌, ◌||◌, not, ◌==◌, if◌then◌else◌}
-use Rattle.sctp_list_lemmas.specs.Kept.{total_over}
+use Rattle.sctp_util.specs.Kept.{total_over}
 use Rattle.sctp_model.specs.declared.event.Event.{Event}
 use Rattle.sctp_model.specs.declared.event.Event.TheVariants as E
 use Rattle.sctp_model.specs.LinkRecord.{LinkRecord, Report}

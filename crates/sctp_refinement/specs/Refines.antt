@@ -1,7 +1,7 @@
 -- What a link's queues hold, against its record.
 use Rattle.std.specs.Prelude.{◌≡◌, ◌<◌, ◌≤◌, ◌-◌, ◌||◌, if◌then◌else◌, ℕ, Bool, ◌&&◌, not, List, [], length, map, nat_le, is_some, Option, Some, None}
 use Rattle.std.specs.List.{flat_map}
-use Rattle.sctp_list_lemmas.specs.Kept.{numbers_where, always, numbers_from, first_of}
+use Rattle.sctp_util.specs.Kept.{numbers_where, always, numbers_from, first_of}
 use Rattle.sctp_data.specs.declared.chunk.chunk_payload_data.ChunkPayloadData.{ChunkPayloadData}
 use Rattle.sctp_data.specs.declared.chunk.chunk_payload_data.ReliabilityType.{ReliabilityType}
 use Rattle.sctp_data.specs.declared.chunk.chunk_payload_data.ReliabilityType.TheVariants.{Reliable}

@@ -11,7 +11,7 @@ use Rattle.sctp_outbound.specs.pending_queue.Whole.{IsSendable}
 use Rattle.sctp_outbound.proofs.lemmas.outbound_queue.Sendable.{popped_bytes, sendable-changed, sendable-sent}
 use Rattle.sctp_outbound.proofs.lemmas.pending_queue.Waiting.{bytes_of-change_where}
 use Rattle.sctp_outbound.proofs.lemmas.pending_queue.CompleteMessages.{KeepsMessage}
-use Rattle.sctp_list_lemmas.proofs.Edits.{sum_by-inserted}
+use Rattle.sctp_util.proofs.Edits.{sum_by-inserted}
 use Rattle.sctp_serial.specs.DataChunks.{bytes_of, chunk_before}
 
 abbrev size : ChunkPayloadData → ℕ

@@ -6,8 +6,8 @@ use Rattle.std.specs.List.{filter, list_all, list_any}
 use Rattle.std.proofs.lemmas.Bool.{cases_lt, false≢true}
 use Rattle.std.proofs.lemmas.Bool.Decides.{nat_tests}
 use Rattle.std.proofs.lemmas.List.{append-nil, get_or-map}
-use Rattle.sctp_list_lemmas.proofs.Cases.{and-none, and-true, or-left, or-none, or-right}
-use Rattle.sctp_list_lemmas.proofs.Edits.{list_any-append, those-more}
+use Rattle.sctp_util.proofs.Cases.{and-none, and-true, or-left, or-none, or-right}
+use Rattle.sctp_util.proofs.Edits.{list_any-append, those-more}
 use Rattle.sctp_data.specs.declared.chunk.chunk_payload_data.ChunkPayloadData.{ChunkPayloadData}
 use Rattle.sctp_data.specs.declared.chunk.chunk_selective_ack.GapAckBlock.{GapAckBlock}
 use Rattle.sctp_outbound.specs.payload_queue.Blocks.{is_in_block, is_in_blocks}

@@ -7,8 +7,8 @@ use Rattle.std.specs.List.{All, list_any}
 use Rattle.std.proofs.lemmas.Bool.{cases_lt, false≢true}
 use Rattle.std.proofs.lemmas.List.{get_or-drop, get_or_past}
 use Rattle.std.proofs.lemmas.Option.{none-some}
-use Rattle.sctp_list_lemmas.proofs.Cases.{or-none, same-is, same-yes, some-same}
-use Rattle.sctp_list_lemmas.proofs.Edits.{list_any-append}
+use Rattle.sctp_util.proofs.Cases.{or-none, same-is, same-yes, some-same}
+use Rattle.sctp_util.proofs.Edits.{list_any-append}
 use Rattle.sctp_data.specs.declared.chunk.chunk_payload_data.ChunkPayloadData.{ChunkPayloadData}
 use Rattle.sctp_data.specs.declared.chunk.chunk_selective_ack.GapAckBlock.{GapAckBlock}
 use Rattle.sctp_data.specs.SelectiveAck.{Sack}

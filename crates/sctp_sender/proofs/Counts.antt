@@ -7,9 +7,9 @@ use Rattle.std.proofs.lemmas.Bool.{cases_eq, cases_lt, false≢true}
 use Rattle.std.proofs.lemmas.Bool.Decides.{nat_tests}
 use Rattle.std.proofs.lemmas.List.{get_or-map, get_or-take, get_or_past, length-map, length-take-le, map-append, take-append-drop, take_more}
 use Rattle.std.proofs.lemmas.List.Sums.{count_by_more_yes, sum_by-cons, sum_by-drop_more, sum_by-le-sum_by, sum_by-take-drop, sum_by-take-le}
-use Rattle.sctp_list_lemmas.proofs.Cases.{or-left, or-none, or-right}
-use Rattle.sctp_list_lemmas.proofs.Edits.{list_any-append}
-use Rattle.sctp_list_lemmas.proofs.Getting.{map-twice}
+use Rattle.sctp_util.proofs.Cases.{or-left, or-none, or-right}
+use Rattle.sctp_util.proofs.Edits.{list_any-append}
+use Rattle.sctp_util.proofs.Getting.{map-twice}
 use Rattle.sctp_data.specs.declared.chunk.chunk_payload_data.ChunkPayloadData.{ChunkPayloadData}
 use Rattle.sctp_data.specs.declared.chunk.chunk_selective_ack.GapAckBlock.{GapAckBlock}
 use Rattle.sctp_outbound.specs.payload_queue.Blocks.{is_in_block, is_in_blocks}

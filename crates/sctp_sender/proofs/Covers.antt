@@ -4,15 +4,15 @@ use Rattle.std.proofs.Common.{Some}
 use Rattle.std.proofs.Common.{None, Result, Ok, Err, refl, ap, sym, subst, ◌∙◌, arith}
 use Rattle.std.specs.Prelude.{IfSome, IsOk, OnErr, OnOk, if◌then◌else◌, ◌==◌, ◌&&◌, ◌||◌, not, find, slice_get}
 use Rattle.std.specs.List.{filter, list_any}
-use Rattle.sctp_list_lemmas.specs.Kept.{numbers_from}
+use Rattle.sctp_util.specs.Kept.{numbers_from}
 use Rattle.std.proofs.lemmas.Bool.{false≢true}
 use Rattle.std.proofs.lemmas.List.{take-append-drop}
 use Rattle.std.proofs.lemmas.Option.{none-some}
-use Rattle.sctp_list_lemmas.specs.Lists.{change_where, insert_before}
-use Rattle.sctp_list_lemmas.specs.Serial.{distance}
-use Rattle.sctp_list_lemmas.proofs.Cases.{and-none}
-use Rattle.sctp_list_lemmas.proofs.Edits.{length-change_where, list_any-append, list_any-inserted, list_any-those}
-use Rattle.sctp_list_lemmas.proofs.More.{fails, not_both}
+use Rattle.sctp_util.specs.Lists.{change_where, insert_before}
+use Rattle.sctp_util.specs.Serial.{distance}
+use Rattle.sctp_util.proofs.Cases.{and-none}
+use Rattle.sctp_util.proofs.Edits.{length-change_where, list_any-append, list_any-inserted, list_any-those}
+use Rattle.sctp_util.proofs.More.{fails, not_both}
 use Rattle.sctp_data.specs.declared.chunk.chunk_payload_data.ChunkPayloadData.{ChunkPayloadData}
 use Rattle.sctp_data.specs.declared.chunk.chunk_payload_data.PayloadProtocolIdentifier.{PayloadProtocolIdentifier}
 use Rattle.sctp_data.specs.declared.chunk.chunk_selective_ack.GapAckBlock.{GapAckBlock}

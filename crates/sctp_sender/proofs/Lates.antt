@@ -4,10 +4,10 @@ use Rattle.std.proofs.Common.{subst, ◌∙◌, inl, inr, arith}
 use Rattle.std.specs.Prelude.{if◌then◌else◌, find, not, option_map, option_to_list}
 use Rattle.std.specs.List.{list_all, list_any}
 use Rattle.std.proofs.lemmas.Option.{none-some}
-use Rattle.sctp_list_lemmas.specs.Lists.{change_where}
-use Rattle.sctp_list_lemmas.proofs.Cases.{negated, or-left, or-right, or-split, same-yes}
-use Rattle.sctp_list_lemmas.proofs.Edits.{list_any-those}
-use Rattle.sctp_list_lemmas.proofs.More.{and, both, fails, not_both}
+use Rattle.sctp_util.specs.Lists.{change_where}
+use Rattle.sctp_util.proofs.Cases.{negated, or-left, or-right, or-split, same-yes}
+use Rattle.sctp_util.proofs.Edits.{list_any-those}
+use Rattle.sctp_util.proofs.More.{and, both, fails, not_both}
 use Rattle.sctp_data.specs.declared.chunk.chunk_payload_data.ChunkPayloadData.{ChunkPayloadData}
 use Rattle.sctp_outbound.specs.Marks.{as_abandoned, is_of}
 use Rattle.sctp_outbound.specs.outbound_queue.OutboundQueue.{Outbound, abandoned_of, has_tail, to_abandon, with_terminal_chunk}

@@ -3,8 +3,8 @@ use Rattle.std.proofs.Common.{◌≡◌, ℕ, true, List, [], ◌∷◌, Option,
 use Rattle.std.specs.Prelude.{◌⊎◌, IfSome, IsOk, OnErr, OnOk, find, if◌then◌else◌}
 use Rattle.std.specs.Option.{option_map}
 use Rattle.std.proofs.lemmas.Option.{none-some}
-use Rattle.sctp_list_lemmas.proofs.Cases.{some-same}
-use Rattle.sctp_list_lemmas.proofs.More.{not_both}
+use Rattle.sctp_util.proofs.Cases.{some-same}
+use Rattle.sctp_util.proofs.More.{not_both}
 use Rattle.sctp_data.specs.declared.chunk.chunk_payload_data.ChunkPayloadData.{ChunkPayloadData}
 use Rattle.sctp_data.specs.declared.chunk.chunk_selective_ack.GapAckBlock.{GapAckBlock}
 use Rattle.sctp_data.specs.SelectiveAck.{Sack}

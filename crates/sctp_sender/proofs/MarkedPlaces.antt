@@ -4,7 +4,7 @@ use Rattle.std.proofs.Common.{refl, ap, sym, ◌∙◌, arith}
 use Rattle.std.specs.Prelude.{if◌then◌else◌}
 use Rattle.std.specs.List.{All, filter}
 use Rattle.std.proofs.lemmas.List.{append-nil, length-drop, take-append-drop, get_or-drop}
-use Rattle.sctp_list_lemmas.proofs.Edits.{those-append}
+use Rattle.sctp_util.proofs.Edits.{those-append}
 
 -- ## Nothing passes behind the first so many
 

@@ -6,8 +6,8 @@ use Rattle.std.specs.Prelude.{if◌then◌else◌, find}
 use Rattle.std.proofs.lemmas.List.{length-map, length-take-le, take-append-drop, get_or-append_right, get_or-drop}
 use Rattle.std.specs.List.{filter}
 use Rattle.std.proofs.lemmas.Option.{slice_get-get_or}
-use Rattle.sctp_list_lemmas.specs.Lists.{change_where}
-use Rattle.sctp_list_lemmas.proofs.Edits.{change_where-only, changed_step, unchanged_step, those-more, length-change_where}
+use Rattle.sctp_util.specs.Lists.{change_where}
+use Rattle.sctp_util.proofs.Edits.{change_where-only, changed_step, unchanged_step, those-more, length-change_where}
 use Rattle.sctp_data.specs.declared.chunk.chunk_payload_data.ChunkPayloadData.{ChunkPayloadData}
 use Rattle.sctp_serial.specs.DataChunks.{has_tsn, tsns}
 use Rattle.sctp_sender.specs.Flight.{tsns_from}

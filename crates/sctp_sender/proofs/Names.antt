@@ -4,8 +4,8 @@ use Rattle.std.proofs.Common.{◌∙◌, arith}
 use Rattle.std.specs.Prelude.{if◌then◌else◌, ◌==◌}
 use Rattle.std.proofs.lemmas.List.{append-nil}
 use Rattle.std.specs.List.{filter}
-use Rattle.sctp_list_lemmas.proofs.Cases.{same-is}
-use Rattle.sctp_list_lemmas.proofs.Edits.{those-append}
+use Rattle.sctp_util.proofs.Cases.{same-is}
+use Rattle.sctp_util.proofs.Edits.{those-append}
 use Rattle.sctp_data.specs.declared.chunk.chunk_payload_data.ChunkPayloadData.{ChunkPayloadData}
 use Rattle.sctp_data.specs.declared.chunk.chunk_forward_tsn.ChunkForwardTsnStream.{ChunkForwardTsnStream}
 use Rattle.sctp_outbound.specs.pending_queue.PendingQueue.{last_of}

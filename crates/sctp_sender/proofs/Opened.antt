@@ -6,8 +6,8 @@ use Rattle.std.specs.List.{list_any}
 use Rattle.std.proofs.lemmas.Bool.{cases_lt, ne_eqb}
 use Rattle.std.proofs.lemmas.Bool.Decides.{nat_tests}
 use Rattle.std.proofs.lemmas.List.{take-append-drop}
-use Rattle.sctp_list_lemmas.proofs.Cases.{or-left, or-right}
-use Rattle.sctp_list_lemmas.proofs.Edits.{list_any-append}
+use Rattle.sctp_util.proofs.Cases.{or-left, or-right}
+use Rattle.sctp_util.proofs.Edits.{list_any-append}
 use Rattle.sctp_data.specs.declared.chunk.chunk_payload_data.ChunkPayloadData.{ChunkPayloadData}
 use Rattle.sctp_sender.specs.SideBySide.{IsApartAt, StandSideBySide, messages_of}
 use Rattle.sctp_sender.specs.Telling.{is_open, is_open_of}

@@ -4,8 +4,8 @@ use Rattle.std.proofs.Common.{subst, ◌∙◌, arith}
 use Rattle.std.specs.Prelude.{IfSome, MatchOption}
 use Rattle.std.proofs.lemmas.Bool.{eq-eqb, false≢true}
 use Rattle.std.proofs.lemmas.Option.{none-some}
-use Rattle.sctp_list_lemmas.proofs.Cases.{same-is}
-use Rattle.sctp_list_lemmas.proofs.More.{fails}
+use Rattle.sctp_util.proofs.Cases.{same-is}
+use Rattle.sctp_util.proofs.More.{fails}
 use Rattle.sctp_data.specs.declared.chunk.chunk_forward_tsn.ChunkForwardTsnStream.{ChunkForwardTsnStream}
 use Rattle.sctp_stream.specs.Numbers.{IsAbsent, IsOnlyPlace}
 use Rattle.sctp_sender.specs.Abandonment.{IsFirstPair, IsNoPair, is_pair_of, streams_of}

@@ -6,7 +6,7 @@ use Rattle.std.specs.List.{list_any}
 use Rattle.std.proofs.lemmas.Bool.{ne_eqb}
 use Rattle.std.proofs.lemmas.Bool.Decides.{nat_tests}
 use Rattle.std.proofs.lemmas.List.{get_or_default}
-use Rattle.sctp_list_lemmas.specs.Serial.{distance}
+use Rattle.sctp_util.specs.Serial.{distance}
 use Rattle.sctp_data.specs.declared.chunk.chunk_payload_data.ChunkPayloadData.{ChunkPayloadData}
 use Rattle.sctp_outbound.specs.Marks.{IsBetween, is_of}
 use Rattle.sctp_serial.specs.DataChunks.{following_tsn, has_tsn}

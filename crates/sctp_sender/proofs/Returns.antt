@@ -7,9 +7,9 @@ use Rattle.std.proofs.lemmas.Bool.{cases_lt, false≢true}
 use Rattle.std.proofs.lemmas.Bool.Decides.{nat_tests}
 use Rattle.std.proofs.lemmas.List.{drop_more, get_or_default, take_more, take-append-drop}
 use Rattle.std.proofs.lemmas.Option.{none-some}
-use Rattle.sctp_list_lemmas.proofs.Cases.{and-none, and-true, or-none, or-right}
-use Rattle.sctp_list_lemmas.proofs.Edits.{list_any-append}
-use Rattle.sctp_list_lemmas.proofs.More.{fails}
+use Rattle.sctp_util.proofs.Cases.{and-none, and-true, or-none, or-right}
+use Rattle.sctp_util.proofs.Edits.{list_any-append}
+use Rattle.sctp_util.proofs.More.{fails}
 use Rattle.sctp_data.specs.declared.chunk.chunk_payload_data.ChunkPayloadData.{ChunkPayloadData}
 use Rattle.sctp_data.specs.declared.chunk.chunk_selective_ack.GapAckBlock.{GapAckBlock}
 use Rattle.sctp_outbound.specs.payload_queue.Blocks.{is_in_block, is_in_blocks}

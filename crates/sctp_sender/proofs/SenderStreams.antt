@@ -6,9 +6,9 @@ use Rattle.std.proofs.lemmas.Bool.Decides.{nat_tests}
 use Rattle.std.proofs.lemmas.List.{get_or_default}
 use Rattle.std.proofs.lemmas.List.Sums.{sum_by-cons}
 use Rattle.sctp_data.specs.PayloadTypes.{is_ordered}
-use Rattle.sctp_list_lemmas.specs.Kept.{numbers_where, always, numbers_from}
-use Rattle.sctp_list_lemmas.specs.Lists.{pieces}
-use Rattle.sctp_list_lemmas.proofs.Cases.{same-yes}
+use Rattle.sctp_util.specs.Kept.{numbers_where, always, numbers_from}
+use Rattle.sctp_util.specs.Lists.{pieces}
+use Rattle.sctp_util.proofs.Cases.{same-yes}
 use Rattle.sctp_data.specs.declared.chunk.chunk_payload_data.ChunkPayloadData.{ChunkPayloadData}
 use Rattle.sctp_data.specs.declared.chunk.chunk_payload_data.PayloadProtocolIdentifier.{PayloadProtocolIdentifier}
 use Rattle.sctp_data.specs.declared.chunk.chunk_payload_data.PayloadProtocolIdentifier.TheVariants.{Unknown}
@@ -25,7 +25,7 @@ use Rattle.sctp_stream.specs.Numbers.{IsOnlyPlace, IsAbsent}
 use Rattle.sctp_sender.specs.Outgoing.{number, numbers_of, has_number, with_reliability, fragments_with_mode}
 use Rattle.sctp_stream.specs.Stream.{fragment_at, pieces_of, new_stream}
 use Rattle.sctp_stream.proofs.StreamPlaces.{absent-find, inside, found}
-use Rattle.sctp_list_lemmas.proofs.Getting.{map-twice}
+use Rattle.sctp_util.proofs.Getting.{map-twice}
 
 module _ (ls : List StreamState) (s : ℕ) where
   pub closed : IsAbsent s (numbers_of ls) → find (has_number s) ls ≡ None

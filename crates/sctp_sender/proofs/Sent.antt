@@ -3,7 +3,7 @@ use Rattle.std.proofs.Common.{◌≡◌, ℕ, Bool, true, false, List, [], ◌�
 use Rattle.std.specs.Prelude.{if◌then◌else◌, ◌==◌, find, is_some, option_map}
 use Rattle.std.proofs.lemmas.Option.{none-some}
 use Rattle.sctp_data.specs.declared.chunk.chunk_payload_data.ChunkPayloadData.{ChunkPayloadData}
-use Rattle.sctp_list_lemmas.proofs.Cases.{same-yes}
+use Rattle.sctp_util.proofs.Cases.{same-yes}
 use Rattle.sctp_outbound.specs.declared.pending_queue.Selected.{Selected}
 use Rattle.sctp_outbound.specs.outbound_queue.OutboundQueue.{Outbound, all_started, as_sent, sent_next, sent_of}
 use Rattle.sctp_outbound.specs.payload_queue.PayloadQueue as payload

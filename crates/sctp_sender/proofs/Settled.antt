@@ -5,9 +5,9 @@ use Rattle.std.specs.Prelude.{IsOk, OnErr, OnOk, drop, take, if◌then◌else◌
 use Rattle.std.proofs.lemmas.List.Sums.{sum_by-cons}
 use Rattle.std.proofs.lemmas.Option.{none-some}
 use Rattle.std.specs.List.{filter}
-use Rattle.sctp_list_lemmas.specs.Lists.{change_where, insert_before}
-use Rattle.sctp_list_lemmas.specs.Serial.{at_or_before, distance}
-use Rattle.sctp_list_lemmas.proofs.More.{not_both}
+use Rattle.sctp_util.specs.Lists.{change_where, insert_before}
+use Rattle.sctp_util.specs.Serial.{at_or_before, distance}
+use Rattle.sctp_util.proofs.More.{not_both}
 use Rattle.sctp_data.specs.declared.chunk.chunk_payload_data.ChunkPayloadData.{ChunkPayloadData}
 use Rattle.sctp_data.specs.declared.chunk.chunk_payload_data.PayloadProtocolIdentifier.{PayloadProtocolIdentifier}
 use Rattle.sctp_data.specs.SelectiveAck.{Sack}

@@ -4,9 +4,9 @@ use Rattle.std.proofs.Common.{refl, ap, sym, subst, ◌∙◌, arith}
 use Rattle.std.specs.Prelude.{OnOk, if◌then◌else◌, ◌==◌, ◌&&◌, ◌||◌, not, find}
 use Rattle.std.specs.List.{filter, list_all, list_any}
 use Rattle.std.proofs.lemmas.Bool.{eq-eqb}
-use Rattle.sctp_list_lemmas.specs.Lists.{change_where, insert_before}
-use Rattle.sctp_list_lemmas.proofs.Cases.{same-is, same-yes}
-use Rattle.sctp_list_lemmas.proofs.More.{and, both, not_both}
+use Rattle.sctp_util.specs.Lists.{change_where, insert_before}
+use Rattle.sctp_util.proofs.Cases.{same-is, same-yes}
+use Rattle.sctp_util.proofs.More.{and, both, not_both}
 use Rattle.sctp_data.specs.declared.chunk.chunk_payload_data.ChunkPayloadData.{ChunkPayloadData}
 use Rattle.sctp_outbound.specs.Marks.{as_abandoned, is_of}
 use Rattle.sctp_outbound.specs.outbound_queue.OutboundQueue.{terminal_chunk, to_abandon, with_terminal_chunk}

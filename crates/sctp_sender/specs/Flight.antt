@@ -2,8 +2,8 @@
 use Rattle.std.specs.Prelude.{◌≡◌, ℕ, zero, suc, ◌+◌, ◌-◌, ◌%◌, ◌^◌, ◌<◌, Bool, false, not, ◌&&◌, ◌||◌, ◌==◌, nat_eq, nat_lt, nat_le, if◌then◌else◌, List, []}
 use Rattle.std.specs.Prelude.{◌∷◌, length, map, min, max, Option, Some, None, is_some}
 use Rattle.std.specs.List.{list_all, list_any, find, filter}
-use Rattle.sctp_list_lemmas.specs.Lists.{change_where}
-use Rattle.sctp_list_lemmas.specs.Serial.{distance, comes_before, at_or_before}
+use Rattle.sctp_util.specs.Lists.{change_where}
+use Rattle.sctp_util.specs.Serial.{distance, comes_before, at_or_before}
 use Rattle.sctp_data.specs.declared.chunk.chunk_payload_data.ChunkPayloadData.{ChunkPayloadData}
 use Rattle.sctp_data.specs.declared.chunk.chunk_selective_ack.GapAckBlock.{GapAckBlock}
 use Rattle.sctp_data.specs.SelectiveAck.{Sack}

@@ -4,8 +4,8 @@ use Rattle.std.specs.Prelude.{length, map, take}
 use Rattle.std.specs.Prelude.{drop, slice_index_or}
 use Rattle.std.specs.Prelude.{Option, Some, None, IfSome}
 use Rattle.std.specs.List.{All, list_any, sum_by}
-use Rattle.sctp_list_lemmas.specs.Lists.{change_at, change_where}
-use Rattle.sctp_list_lemmas.specs.Serial.{distance}
+use Rattle.sctp_util.specs.Lists.{change_at, change_where}
+use Rattle.sctp_util.specs.Serial.{distance}
 use Rattle.sctp_data.specs.declared.chunk.chunk_payload_data.ChunkPayloadData.{ChunkPayloadData}
 use Rattle.sctp_data.specs.declared.chunk.chunk_selective_ack.GapAckBlock.{GapAckBlock}
 use Rattle.sctp_data.specs.SelectiveAck.{Sack}

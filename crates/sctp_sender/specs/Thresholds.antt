@@ -1,7 +1,7 @@
 -- Which of the bytes that leave take the buffered amount of a stream down to its low threshold.
 use Rattle.std.specs.Prelude.{ℕ, Bool, false, not, ◌&&◌, ◌==◌, nat_lt, List, [], ◌∷◌, Option, Some, None}
 use Rattle.std.specs.List.{find}
-use Rattle.sctp_list_lemmas.specs.Lists.{change_where}
+use Rattle.sctp_util.specs.Lists.{change_where}
 use Rattle.sctp_stream.specs.declared.stream.StreamState.{StreamState}
 use Rattle.sctp_stream.specs.Stream.{falls_low}
 use Rattle.sctp_sender.specs.declared.sender.flight.Released.{Released}

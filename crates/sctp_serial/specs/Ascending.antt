@@ -1,8 +1,8 @@
 -- Numbers in serial order (RFC 1982 3.2): each comes before every later one.
 use Rattle.std.specs.Prelude.{◌≡◌, ℕ, ◌*◌, ◌^◌, ◌<◌, ◌≤◌, Bool, true, false, IsTrue, List, map, length}
 use Rattle.std.specs.List.{All, AllPairs, list_any, insert}
-use Rattle.sctp_list_lemmas.specs.Serial.{comes_before}
-use Rattle.sctp_list_lemmas.specs.Lists.{insert_before}
+use Rattle.sctp_util.specs.Serial.{comes_before}
+use Rattle.sctp_util.specs.Lists.{insert_before}
 
 -- so they lie within half a circle of the first, each farther than those in front of it
 pub record IsAscending (ns : List ℕ) : Type 0 where

@@ -2,7 +2,7 @@
 use Rattle.std.specs.Prelude.{ℕ, ◌+◌, ◌-◌, ◌%◌, ◌^◌, ◌==◌, Bool, List, length, map}
 use Rattle.std.specs.List.{sum_by}
 use Rattle.sctp_data.specs.declared.chunk.chunk_payload_data.ChunkPayloadData.{ChunkPayloadData}
-use Rattle.sctp_list_lemmas.specs.Serial.{comes_before}
+use Rattle.sctp_util.specs.Serial.{comes_before}
 
 -- the chunk with this TSN
 abbrev pub has_tsn : ℕ → ChunkPayloadData → Bool

@@ -1,7 +1,7 @@
 //! Numbers in serial order: how far they lie apart, and where an element of a list goes.
 
 ghost use Rattle.std.specs.Prelude.{◌≡◌, ◌^◌, ◌<◌};
-ghost use Rattle.sctp_list_lemmas.specs.Serial.{distance};
+ghost use Rattle.sctp_util.specs.Serial.{distance};
 ghost use Rattle.sctp_serial.specs.Ascending.{upper_half};
 
 /// The place where an element is put in, and whether the list is known to ascend then.
@@ -12,7 +12,7 @@ pub struct Insertion {
 }
 
 /// How far `to` lies after `from`, modulo 2^32 (RFC 1982 3.2).
-#[tactic(auto, unfolding(sctp_list_lemmas::specs::Serial::distance))]
+#[tactic(auto, unfolding(sctp_util::specs::Serial::distance))]
 pub fn distance(from: u32, to: u32) -> u32
     ensures value { result ≡ distance from to }
     ensures from_fits { from < 2 ^ 32 }

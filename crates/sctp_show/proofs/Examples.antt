@@ -1,8 +1,8 @@
 -- Worked examples, by computation.
 use Rattle.std.proofs.Common.{◌≡◌, ℕ, true, false, List, [], ◌∷◌, ◌++◌, Some, None, refl}
 use Rattle.std.specs.Prelude.{replicate}
-use Rattle.sctp_list_lemmas.specs.Serial.{distance}
-use Rattle.sctp_base.specs.Field as field
+use Rattle.sctp_util.specs.Serial.{distance}
+use Rattle.sctp_util.specs.Field as field
 use Rattle.sctp_show.specs.declared.filter.TsnRange.{TsnRange}
 use Rattle.sctp_show.specs.Filter.{tsn_of, stream_of, payload_type_of, is_asked, is_asked_of, is_in_range}
 

@@ -1,7 +1,7 @@
 -- What is printed of a chunk.
 use Rattle.std.specs.Prelude.{ℕ, List, [], ◌++◌, length, drop, codes, decimal, Bool, true, false, ◌==◌, if◌then◌else◌}
-use Rattle.sctp_list_lemmas.specs.Serial.{distance}
-use Rattle.sctp_base.specs.Field.{u16_at, u32_at}
+use Rattle.sctp_util.specs.Serial.{distance}
+use Rattle.sctp_util.specs.Field.{u16_at, u32_at}
 use Rattle.sctp_data.specs.declared.chunk.chunk_payload_data.ChunkPayloadData.{ChunkPayloadData}
 use Rattle.sctp_show.specs.declared.chunk_text.Head.{Head}
 use Rattle.sctp_show.specs.declared.page.Form.{Form}

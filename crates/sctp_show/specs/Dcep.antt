@@ -1,6 +1,6 @@
 -- Messages of the Data Channel Establishment Protocol (RFC 8832 5).
 use Rattle.std.specs.Prelude.{◌≡◌, ℕ, ◌+◌, List, [], ◌∷◌, length, slice_index, slice_range}
-use Rattle.sctp_base.specs.Field.{u16_at, u32_at}
+use Rattle.sctp_util.specs.Field.{u16_at, u32_at}
 use Rattle.sctp_show.specs.declared.dcep.Open.{Open}
 use Rattle.sctp_show.specs.declared.dcep.Message.{Message}
 use Rattle.sctp_show.specs.declared.dcep.Message.TheVariants as messages

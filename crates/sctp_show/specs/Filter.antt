@@ -1,8 +1,8 @@
 -- Which packets are shown.
 use Rattle.std.specs.Prelude.{ℕ, ◌/◌, ◌%◌, Bool, true, false, ◌==◌, ◌&&◌, ◌||◌, not, leb, if◌then◌else◌, is_some, List, length, Option, Some, None}
 use Rattle.std.specs.List.{list_any}
-use Rattle.sctp_list_lemmas.specs.Serial.{distance}
-use Rattle.sctp_base.specs.Field.{u16_at, u32_at}
+use Rattle.sctp_util.specs.Serial.{distance}
+use Rattle.sctp_util.specs.Field.{u16_at, u32_at}
 use Rattle.sctp_chunks.specs.Framing.{type_at, flags_at}
 use Rattle.sctp_dissect.specs.declared.dissection.Header.{Header}
 use Rattle.sctp_dissect.specs.declared.dissection.Reading.{Reading}

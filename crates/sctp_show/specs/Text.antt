@@ -1,7 +1,7 @@
 -- What is written for records.
 use Rattle.std.specs.Prelude.{◌≡◌, ◌≢◌, ℕ, ◌+◌, ◌≤◌, ◌<◌, ◌⊎◌, true, false, if◌then◌else◌, List, [], ◌∷◌, ◌++◌, length, drop, codes, decimal, MatchResult}
 use Rattle.std.specs.Prelude.{IsSomeAnd}
-use Rattle.sctp_base.specs.Walk.{Walks}
+use Rattle.sctp_util.specs.Walk.{Walks}
 use Rattle.sctp_packets.specs.Packet.{after}
 use Rattle.sctp_dissect.specs.declared.dissection.Dissection.{Dissection}
 use Rattle.sctp_dissect.specs.Dissection.{ReadsHeader, Shows, Stops, IsShort}

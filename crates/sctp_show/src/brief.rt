@@ -2,7 +2,7 @@
 
 ghost use Rattle.std.specs.Prelude.{◌≡◌, ◌++◌, decimal, OnOk};
 ghost use Rattle.std.specs.String.{string_bytes};
-ghost use Rattle.sctp_list_lemmas.specs.Serial.{distance};
+ghost use Rattle.sctp_util.specs.Serial.{distance};
 
 use crate::chunk_text::{type_of, u16_at, u32_at};
 use crate::dcep::put_brief_message;

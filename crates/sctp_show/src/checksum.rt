@@ -5,7 +5,7 @@ ghost use Rattle.sctp_show.specs.Sum as sums;
 ghost use Rattle.sctp_show.specs.Sum.{sum_of};
 
 use crc32c::Crc;
-use sctp_base::util::Checksum;
+use sctp_util::util::Checksum;
 
 /// CRC-32C, the checksum of SCTP packets (RFC 4960 Appendix B), or none: then each sum is 0.
 #[derive(Clone, Copy, PartialEq, Eq)]

@@ -2,7 +2,7 @@
 
 ghost use Rattle.std.specs.Prelude.{◌≡◌, ◌≤◌, ◌+◌, ◌++◌, length, slice_index, OnOk};
 ghost use Rattle.std.specs.String.{string_bytes};
-ghost use Rattle.sctp_base.specs.Field;
+ghost use Rattle.sctp_util.specs.Field;
 ghost use Rattle.sctp_show.specs.ChunkText.{data_text, init_text, i_data_text, payload_text, block_lines, block_object, block_text};
 
 use crate::brief::DCEP;
@@ -11,8 +11,6 @@ use crate::follow::Bases;
 use crate::names::{ChunkName, parameter_name, payload_name};
 use crate::page::{Form, Page};
 use bytes::Bytes;
-use sctp_base::error::Error;
-use sctp_base::field::{read_u16, read_u32};
 use sctp_chunks::chunk::chunk_forward_tsn::ChunkForwardTsn;
 use sctp_chunks::chunk::chunk_i_forward_tsn::ChunkIForwardTsn;
 use sctp_chunks::chunk::chunk_kind::ChunkKind;
@@ -23,6 +21,8 @@ use sctp_dissect::causes::{CauseItem, dissect_causes};
 use sctp_dissect::dissection::{Item, RawChunk, Reading};
 use sctp_dissect::params::{ParamItem, ParamReading, dissect_params};
 use sctp_serial::serial::distance;
+use sctp_util::error::Error;
+use sctp_util::field::{read_u16, read_u32};
 use std::alloc::{AllocError, Global};
 
 /// The type of I-DATA (RFC 8260 2.1).

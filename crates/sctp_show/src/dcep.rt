@@ -5,7 +5,7 @@ ghost use Rattle.sctp_show.specs.Dcep.{IsMessage};
 ghost use Rattle.sctp_show.specs.declared.dcep.Message.{Message};
 
 use crate::page::{Form, Page, put_quoted};
-use sctp_base::field::{read_u16, read_u32};
+use sctp_util::field::{read_u16, read_u32};
 use std::alloc::AllocError;
 
 /// The bytes of a DATA_CHANNEL_OPEN before its label.

@@ -6,9 +6,9 @@ ghost use Rattle.sctp_show.specs.Filter as filters;
 
 use crate::chunk_text::type_of;
 use crate::names::ChunkName;
-use sctp_base::field::{read_u16, read_u32};
 use sctp_dissect::dissection::{Dissection, Header, Item, Reading};
 use sctp_serial::serial::distance;
+use sctp_util::field::{read_u16, read_u32};
 use std::alloc::{AllocError, Global};
 
 /// TSNs from one to another, going up, and from 2^32 - 1 on to 0.

@@ -5,8 +5,8 @@ use Rattle.std.specs.List.{remove}
 use Rattle.std.proofs.lemmas.Bool.{cases_lt, cases_eq}
 use Rattle.std.proofs.lemmas.List.Edits.{length-remove}
 use Rattle.std.proofs.lemmas.Option.{slice_get_within, none-some}
-use Rattle.sctp_list_lemmas.proofs.Getting.{get-last, slice-front}
-use Rattle.sctp_list_lemmas.proofs.Cases.{some-same}
+use Rattle.sctp_util.proofs.Getting.{get-last, slice-front}
+use Rattle.sctp_util.proofs.Cases.{some-same}
 use Rattle.sctp_stream.specs.Numbers.{IsPlaced, IsOnlyPlace, IsAbsent}
 
 -- ## What a look finds

@@ -4,8 +4,8 @@ use Rattle.std.specs.List.{remove, filter}
 use Rattle.std.specs.Prelude.{◌==◌, slice_get, slice_set}
 use Rattle.std.proofs.lemmas.Bool.{cases_lt, ne_eqb}
 use Rattle.std.proofs.lemmas.Option.{slice_get_within, slice_get-get_or, get_or_from_slice_get}
-use Rattle.sctp_list_lemmas.proofs.Edits.{OnlyAt, those-only, those-none}
-use Rattle.sctp_list_lemmas.proofs.Cases.{same-yes, some-same}
+use Rattle.sctp_util.proofs.Edits.{OnlyAt, those-only, those-none}
+use Rattle.sctp_util.proofs.Cases.{same-yes, some-same}
 use Rattle.sctp_stream.specs.Numbers.{IsPlaced, IsOnlyPlace, IsAbsent, is_other}
 use Rattle.sctp_stream.proofs.NumberPlaces.{set-same, set-other, removed-below, removed-above}
 

@@ -1,8 +1,8 @@
 -- What a stream keeps, its fragments and its counters.
 use Rattle.std.specs.Prelude.{ℕ, ◌+◌, ◌-◌, ◌%◌, ◌^◌, Bool, false, ◌&&◌, not, ◌==◌, nat_lt, nat_le, ℤ, pos, negsuc, if◌then◌else◌, List, [], length, map}
 use Rattle.std.specs.Prelude.{slice_index_or}
-use Rattle.sctp_list_lemmas.specs.Kept.{numbers_from}
-use Rattle.sctp_list_lemmas.specs.Lists.{pieces}
+use Rattle.sctp_util.specs.Kept.{numbers_from}
+use Rattle.sctp_util.specs.Lists.{pieces}
 use Rattle.sctp_data.specs.ChunkSet.{fresh}
 use Rattle.sctp_data.specs.declared.chunk.chunk_payload_data.PayloadProtocolIdentifier.{PayloadProtocolIdentifier}
 use Rattle.sctp_data.specs.declared.chunk.chunk_payload_data.ChunkPayloadData.{ChunkPayloadData}

@@ -2,16 +2,16 @@
 
 ghost use Rattle.std.specs.Prelude.{◌≡◌, ◌==◌, ◌&&◌, ◌||◌, ◌+◌, ◌-◌, ◌^◌, ◌<◌, ◌≤◌, ◌⊎◌, ℕ, pos, not, false, true, length, map, List, [], OnOk, OnErr, IfOk, IfErr, IsOk, Ok, None};
 ghost use Rattle.sctp_data.specs.PayloadTypes.{counted_as};
-ghost use Rattle.sctp_list_lemmas.specs.Kept.{numbers_from};
-ghost use Rattle.sctp_base.specs.declared.error.Error.TheVariants.{ErrOutOfMemory, ErrInboundPacketTooLarge};
+ghost use Rattle.sctp_util.specs.Kept.{numbers_from};
+ghost use Rattle.sctp_util.specs.declared.error.Error.TheVariants.{ErrOutOfMemory, ErrInboundPacketTooLarge};
 ghost use Rattle.sctp_stream.specs.Stats.{with_sent, with_received, count_up};
 
 use bytes::Bytes;
-use sctp_base::error::{Error, Result};
 pub use sctp_data::chunk::chunk_payload_data::ReliabilityType;
 use sctp_data::chunk::chunk_payload_data::{ChunkPayloadData, PayloadProtocolIdentifier};
 use sctp_data::chunk::error_cause::ErrorCauseCode;
 use sctp_reassembly::reassembly_queue::ReassemblyQueue;
+use sctp_util::error::{Error, Result};
 use std::alloc::Global;
 use std::marker::Model;
 

@@ -2,10 +2,10 @@
 
 ghost use Rattle.std.specs.Prelude.{◌≡◌, ◌++◌, ◌∷◌, [], OnOk, OnErr, IsOkUnless, MatchOption, Some, ℕ, length, slice_get, vec_len, vec_capacity, ◌<◌, ◌≤◌, ◌^◌};
 ghost use Rattle.std.specs.List.{filter};
-ghost use Rattle.sctp_base.specs.declared.error.Error.TheVariants.{ErrOutOfMemory};
+ghost use Rattle.sctp_util.specs.declared.error.Error.TheVariants.{ErrOutOfMemory};
 ghost use Rattle.sctp_stream.specs.Numbers.{IsOnlyPlace, IsAbsent, is_other};
 
-use sctp_base::error::Result;
+use sctp_util::error::Result;
 use std::alloc::Global;
 use std::marker::Model;
 

@@ -7,7 +7,6 @@ ghost use Rattle.sctp_receiver.specs.Visited.{to_visit};
 
 use crate::host::{Host, sends};
 use crate::part::{chunk, comes_again, is_new, named, numbered, reads};
-use sctp_base::error::Error;
 use sctp_chunks::chunk::chunk_forward_tsn::ChunkForwardTsn;
 use sctp_chunks::chunk::chunk_payload_data::ChunkPayloadData;
 use sctp_chunks::chunk::chunk_selective_ack::ChunkSelectiveAck;
@@ -19,6 +18,7 @@ use sctp_sender::sender::Sender;
 use sctp_sender::sender::flight::Released;
 use sctp_sender::sender::refusal::SenderRefusal;
 use sctp_serial::turns::Turns;
+use sctp_util::error::Error;
 use std::alloc::Global;
 
 // Whether one chunk, of one byte, is reported, by which its message is whole and the buffered amount falls to 0.
@@ -156,7 +156,7 @@ fn skips(
     stream: u16,
 ) -> Result<Forwarded, ReceiverRefusal> {
     match named(alloc, tsn, stream, 0) {
-        Ok(skip) => receiver.forward_tsn_counted(&skip, &mut Turns::new()),
+        Ok(skip) => receiver.forward_tsn_skips_counted(&skip, &mut Turns::new(), &mut Turns::new()),
         Err(_) => Err(ReceiverRefusal::OutOfMemory),
     }
 }

@@ -1,12 +1,12 @@
 //! Two hosts, each with a sender and a receiver, which hand one another packets.
 
 use bytes::Bytes;
-use sctp_base::util::Checksum;
 use sctp_chunks::chunk::chunk_kind::ChunkKind;
 use sctp_chunks::chunk::chunk_payload_data::PayloadProtocolIdentifier;
 use sctp_packets::packet::{CommonHeader, Packet};
 use sctp_receiver::receiver::Receiver;
 use sctp_sender::sender::Sender;
+use sctp_util::util::Checksum;
 use std::alloc::Global;
 
 /// The checksum that is always 0.

@@ -1,12 +1,12 @@
 //! DATA chunks of stream 1, and what a receiver makes of them.
 
 use bytes::Bytes;
-use sctp_base::error::Error;
 use sctp_chunks::chunk::chunk_forward_tsn::{ChunkForwardTsn, ChunkForwardTsnStream};
 use sctp_chunks::chunk::chunk_payload_data::{ChunkPayloadData, PayloadProtocolIdentifier};
 use sctp_receiver::receiver::Receiver;
 use sctp_receiver::receiver::arrival::Arrival;
 use sctp_receiver::receiver::refusal::ReceiverRefusal;
+use sctp_util::error::Error;
 use std::alloc::Global;
 
 /// A chunk of the stream, ordered, with the stream sequence number 0.

@@ -3,12 +3,12 @@
 use crate::host::{Host, acknowledges, sends, skips};
 use crate::part::{is_new, named, reads, reports};
 use bytes::Bytes;
-use sctp_base::error::Error;
 use sctp_chunks::chunk::Chunk;
 use sctp_chunks::chunk::chunk_payload_data::ChunkPayloadData;
 use sctp_receiver::receiver::Receiver;
 use sctp_receiver::receiver::arrival::{Arrival, Forwarded};
 use sctp_sender::sender::flight::late::AbandonedMessage;
+use sctp_util::error::Error;
 use std::alloc::Global;
 
 // A complete message of stream 1 with the TSN 1, whose length is that of its header alone (RFC 4960 3.3.1).

@@ -1,16 +1,16 @@
 //! Callers of `sctp_packets`: one reads a datagram, one writes the answer to it.
 
 ghost use Rattle.std.specs.Prelude.{◌≡◌, ◌∷◌, [], length, IfOk, IsOkUnless};
-ghost use Rattle.sctp_base.specs.declared.error.Error.TheVariants.{ErrOutOfMemory};
+ghost use Rattle.sctp_util.specs.declared.error.Error.TheVariants.{ErrOutOfMemory};
 ghost use Rattle.sctp_chunks.specs.Wire.{sack_chunk};
 ghost use Rattle.sctp_packets.specs.Packet.{Parts, ReadsPacket};
 
 use bytes::Bytes;
-use sctp_base::error::Result;
-use sctp_base::util::Checksum;
 use sctp_chunks::chunk::chunk_kind::ChunkKind;
 use sctp_chunks::chunk::chunk_selective_ack::ChunkSelectiveAck;
 use sctp_packets::packet::{CommonHeader, Packet};
+use sctp_util::error::Result;
+use sctp_util::util::Checksum;
 use std::alloc::Global;
 
 /// How many chunks a datagram has.

@@ -1,12 +1,12 @@
-//! A caller of `sctp_base`.
+//! A caller of `sctp_util`.
 
 ghost use Rattle.std.specs.Prelude.{IfOk, IfSome};
 ghost use Rattle.sctp_params.specs.Param.{state_cookie};
 ghost use Rattle.sctp_params.specs.ParamKind.{ReadsParam};
 
 use bytes::Bytes;
-use sctp_base::error::Result;
 use sctp_params::param::param_kind::{ParamKind, build_param};
+use sctp_util::error::Result;
 use std::alloc::Global;
 
 /// The cookie, where the bytes begin with a State Cookie parameter (RFC 4960 3.3.3.1).

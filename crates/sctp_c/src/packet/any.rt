@@ -3,10 +3,10 @@
 ghost use Rattle.std.specs.Prelude.{◌≡◌, ◌≢◌, ◌+◌, ◌≤◌, [], List, length, drop, true, IfOk, IfErr, OnOk, IsOk, IsOkUnless};
 ghost use Rattle.std.specs.List.{AllByRecursion};
 ghost use Rattle.crc32c.specs.Castagnoli.{crc32c_of};
-ghost use Rattle.sctp_base.specs.Outcome.{OrMemory};
-ghost use Rattle.sctp_base.specs.Padding.{padded_length};
-ghost use Rattle.sctp_base.specs.Walk.{Walks};
-ghost use Rattle.sctp_base.specs.declared.error.Error.TheVariants.{ErrOutOfMemory};
+ghost use Rattle.sctp_util.specs.Outcome.{OrMemory};
+ghost use Rattle.sctp_util.specs.Padding.{padded_length};
+ghost use Rattle.sctp_util.specs.Walk.{Walks};
+ghost use Rattle.sctp_util.specs.declared.error.Error.TheVariants.{ErrOutOfMemory};
 ghost use Rattle.sctp_c.specs.AnyChunks as any;
 ghost use Rattle.sctp_c.specs.AnyChunks.{AnyPacketFault, AnyPlaceFault, AnyWalkFault, HasAnyChunks, IsAnyPacket, IsThere, NextFault, TellsAll};
 ghost use Rattle.sctp_c.specs.AnyChunks.{any_chunk_at, any_chunks_from};
@@ -21,12 +21,12 @@ ghost use Rattle.sctp_packets.specs.Packet.{IsHeaded, Parts, ReadsPacket, Steps,
 use super::{Given, SctpHead, check_head, head_at};
 use crate::code::{SCTP_OK, of_error};
 use crate::in_place::{chunk_length, is_read_type, padded_span, read_length};
-use sctp_base::error::{Error, Result};
-use sctp_base::field::read_u16;
-use sctp_base::util::{Checksum, get_padding_size};
 use sctp_chunks::chunk::chunk_header::CHUNK_HEADER_SIZE;
 use sctp_packets::checksum::Crc32c;
 use sctp_packets::packet::PACKET_HEADER_SIZE;
+use sctp_util::error::{Error, Result};
+use sctp_util::field::read_u16;
+use sctp_util::util::{Checksum, get_padding_size};
 use std::alloc::Global;
 
 /// Where a chunk lies in its packet: `length` bytes from `at` on, its header of four bytes with them and its padding not.

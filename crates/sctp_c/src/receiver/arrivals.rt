@@ -1,7 +1,7 @@
 //! What a peer sent (RFC 4960 6.2; RFC 3758 3.6).
 
 ghost use Rattle.std.specs.Prelude.{◌≡◌, ◌≢◌, ◌≤◌, ◌⊎◌, false, true, IfOk, IfErr};
-ghost use Rattle.sctp_base.specs.Outcome.{OrMemory};
+ghost use Rattle.sctp_util.specs.Outcome.{OrMemory};
 ghost use Rattle.sctp_chunks.specs.Fault.{DataFault, ForwardTsnFault};
 ghost use Rattle.sctp_chunks.specs.Wire.{ReadsChunk, forward_tsn_chunk};
 ghost use Rattle.sctp_data.specs.ForwardTsn.{forward_tsn_of};
@@ -16,10 +16,10 @@ use super::SctpReceiver;
 use crate::code::{SCTP_OK, SCTP_REPEAT, SCTP_STALE, of_error, of_receiver};
 use crate::in_place::read_data;
 use bytes::Bytes;
-use sctp_base::error::Error;
 use sctp_chunks::chunk::Chunk;
 use sctp_chunks::chunk::chunk_forward_tsn::ChunkForwardTsn;
 use sctp_receiver::receiver::arrival::{Arrival, Forwarded};
+use sctp_util::error::Error;
 use std::alloc::Global;
 
 // Reads bytes as a FORWARD-TSN.

@@ -17,11 +17,11 @@ use crate::code::{
     SCTP_CHUNKS_IN_FLIGHT, SCTP_OK, SCTP_SHORT_BUFFER, SCTP_STALE, of_error, of_sender,
 };
 use crate::in_place::read_sack;
-use sctp_base::util::sna32lt;
 use sctp_chunks::chunk::chunk_selective_ack::ChunkSelectiveAck;
 use sctp_sender::sender::Sender;
 use sctp_sender::sender::flight::Released;
 use sctp_sender::sender::flight::keeping::TakenBack;
+use sctp_util::util::sna32lt;
 use std::alloc::Global;
 
 /// A chunk that a SACK acknowledged.

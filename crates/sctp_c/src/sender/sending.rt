@@ -1,7 +1,7 @@
 //! Chunks that go out (RFC 4960 6.1, 6.3.3, 7.2.4).
 
 ghost use Rattle.std.specs.Prelude.{◌≡◌, ◌≢◌, ◌<◌, ◌≤◌, ◌⊎◌, ◌+◌, false, None, Some, find, length, option_map, if◌then◌else◌, IfOk, IsOkUnless};
-ghost use Rattle.sctp_base.specs.declared.error.Error.TheVariants.{ErrLengthTooLarge, ErrOutOfMemory};
+ghost use Rattle.sctp_util.specs.declared.error.Error.TheVariants.{ErrLengthTooLarge, ErrOutOfMemory};
 ghost use Rattle.sctp_c.specs.Out.{padded};
 ghost use Rattle.sctp_c.specs.Sending.{IsSenderCode, Sends, Resends, after_send, encoding_with, with_tsn};
 ghost use Rattle.sctp_chunks.specs.Wire.{data_chunk, encoding_of};
@@ -19,9 +19,9 @@ use crate::code::{
     SCTP_NOT_IN_FLIGHT, SCTP_NOTHING, SCTP_OK, SCTP_SHORT_BUFFER, of_error, of_sender,
 };
 use crate::data_out::{data_size, put_data};
-use sctp_base::error::{Error, Result};
 use sctp_data::chunk::chunk_payload_data::ChunkPayloadData;
 use sctp_sender::sender::Sender;
+use sctp_util::error::{Error, Result};
 
 /// Starts the lifetimes of the messages written since the last time. `sctp_sender_send_next` does so too. It takes no memory.
 #[unsafe(no_mangle)]

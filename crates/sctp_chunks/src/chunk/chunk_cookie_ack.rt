@@ -2,13 +2,13 @@
 
 ghost use Rattle.sctp_chunks.specs.Wire.{cookie_ack_chunk, IsCookieAck};
 ghost use Rattle.sctp_chunks.specs.Fault.{OpenFault};
-ghost use Rattle.sctp_base.specs.declared.error.Error.TheVariants.{ErrChunkTypeNotCookieAck};
+ghost use Rattle.sctp_util.specs.declared.error.Error.TheVariants.{ErrChunkTypeNotCookieAck};
 
 use super::Chunk;
 use super::chunk_header::open_chunk;
 use bytes::{Bytes, BytesMut};
-use sctp_base::error::{Error, Result};
-use sctp_base::util::{CT_COOKIE_ACK, ChunkType};
+use sctp_util::error::{Error, Result};
+use sctp_util::util::{CT_COOKIE_ACK, ChunkType};
 use std::alloc::Global;
 use std::fmt;
 

@@ -1,14 +1,14 @@
 //! COOKIE-ECHO: the peer's state cookie, given back.
 
-ghost use Rattle.sctp_base.specs.declared.error.Error.TheVariants.{ErrChunkTypeNotCookieEcho};
+ghost use Rattle.sctp_util.specs.declared.error.Error.TheVariants.{ErrChunkTypeNotCookieEcho};
 ghost use Rattle.sctp_chunks.specs.Wire.{cookie_echo_chunk, IsCookieEcho};
 ghost use Rattle.sctp_chunks.specs.Fault.{OpenFault};
 
 use super::Chunk;
 use super::chunk_header::{open_chunk, share_value};
 use bytes::{Bytes, BytesMut};
-use sctp_base::error::{Error, Result};
-use sctp_base::util::{CT_COOKIE_ECHO, ChunkType};
+use sctp_util::error::{Error, Result};
+use sctp_util::util::{CT_COOKIE_ECHO, ChunkType};
 use std::alloc::Global;
 use std::fmt;
 

@@ -7,8 +7,8 @@ use super::Chunk;
 use super::chunk_header::{open_chunk, share_value};
 use super::error_cause::{ErrorCause, causes_length, put_causes, read_causes};
 use bytes::{Bytes, BytesMut};
-use sctp_base::error::{Error, Result};
-use sctp_base::util::{CT_ERROR, ChunkType};
+use sctp_util::error::{Error, Result};
+use sctp_util::util::{CT_ERROR, ChunkType};
 use std::alloc::Global;
 use std::fmt;
 

@@ -2,8 +2,8 @@
 
 ghost use Rattle.std.specs.Prelude.{◌≡◌, ◌+◌, ◌*◌, ◌<◌, ◌≤◌, ◌++◌, length, IfOk, IsOkUnless};
 ghost use Rattle.std.specs.List.{flat_map, AllByRecursion};
-ghost use Rattle.sctp_base.specs.Each.{each};
-ghost use Rattle.sctp_base.specs.declared.error.Error.TheVariants.{ErrOutOfMemory, ErrChunkTooShort};
+ghost use Rattle.sctp_util.specs.Each.{each};
+ghost use Rattle.sctp_util.specs.declared.error.Error.TheVariants.{ErrOutOfMemory, ErrChunkTooShort};
 ghost use Rattle.sctp_data.specs.ForwardTsn.{FitsStream, stream_at, stream_encoding, forward_tsn_of};
 ghost use Rattle.sctp_chunks.specs.Wire.{forward_tsn_chunk, IsForwardTsn};
 ghost use Rattle.sctp_chunks.specs.Fault.{ForwardTsnFault};
@@ -11,18 +11,18 @@ ghost use Rattle.sctp_chunks.specs.Fault.{ForwardTsnFault};
 use super::Chunk;
 use super::chunk_header::open_chunk;
 use bytes::{Bytes, BytesMut};
-use sctp_base::error::{Error, Result};
-use sctp_base::field::{put_u32, read_u32};
-use sctp_base::util::{CT_FORWARD_TSN, ChunkType};
 use sctp_data::chunk::chunk_forward_tsn::read_stream;
 pub use sctp_data::chunk::chunk_forward_tsn::{
     ChunkForwardTsn, ChunkForwardTsnStream, FORWARD_TSN_STREAM_LENGTH, NEW_CUMULATIVE_TSN_LENGTH,
 };
+use sctp_util::error::{Error, Result};
+use sctp_util::field::{put_u32, read_u32};
+use sctp_util::util::{CT_FORWARD_TSN, ChunkType};
 use std::alloc::Global;
 
 /// Reads so many pairs, which stand behind the new cumulative TSN. Refuses only for memory.
 /// Precondition: they are there.
-#[tactic(auto, using(sctp_base::proofs::EachAt::each_none, sctp_base::proofs::EachAt::each_next))]
+#[tactic(auto, using(sctp_util::proofs::EachAt::each_none, sctp_util::proofs::EachAt::each_next))]
 fn read_streams(alloc: Global, value: &[u8], count: usize) -> Result<Vec<ChunkForwardTsnStream>>
     requires { 4 + 4 * count ≤ length value.now }
     ensures ok { IfOk result (λ v. v.items ≡ each count (λ i. stream_at value.now (4 + 4 * i))) }
@@ -48,7 +48,7 @@ fn put_streams(buf: &mut BytesMut, streams: &[ChunkForwardTsnStream])
     }
 }
 
-#[tactic(auto, using(crate::proofs::One::forward_tsn_one, sctp_base::proofs::EachAt::length_each, crate::proofs::Lengths::length_forward_tsn_value))]
+#[tactic(auto, using(crate::proofs::One::forward_tsn_one, sctp_util::proofs::EachAt::length_each, crate::proofs::Lengths::length_forward_tsn_value))]
 impl Chunk for ChunkForwardTsn {
     ghost wire = { λ c. forward_tsn_chunk (forward_tsn_of c) };
 

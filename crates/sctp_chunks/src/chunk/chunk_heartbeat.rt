@@ -1,7 +1,7 @@
 //! HEARTBEAT: is the peer there.
 
 ghost use Rattle.std.specs.Prelude.{◌≡◌, List, map, IfOk, IfErr};
-ghost use Rattle.sctp_base.specs.Outcome.{OrMemory, GivesUnlessMemory};
+ghost use Rattle.sctp_util.specs.Outcome.{OrMemory, GivesUnlessMemory};
 ghost use Rattle.sctp_params.specs.Param.{Parameter};
 ghost use Rattle.sctp_chunks.specs.Heartbeat.{ReadsHeartbeat, IsReadHeartbeat};
 ghost use Rattle.sctp_params.specs.ParamKind.{parameter_of};
@@ -12,10 +12,10 @@ use super::Chunk;
 use super::chunk_header::{open_chunk, share_value};
 use super::params::{params_length, put_params};
 use bytes::{Bytes, BytesMut};
-use sctp_base::error::{Error, Result};
-use sctp_base::util::{CT_HEARTBEAT, ChunkType};
 use sctp_params::param::param_header::PARAM_HEADER_LENGTH;
 use sctp_params::param::param_kind::{ParamKind, build_param};
+use sctp_util::error::{Error, Result};
+use sctp_util::util::{CT_HEARTBEAT, ChunkType};
 use std::alloc::Global;
 use std::fmt;
 

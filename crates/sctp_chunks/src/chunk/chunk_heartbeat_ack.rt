@@ -10,11 +10,11 @@ use super::chunk_header::{open_chunk, share_value};
 use super::chunk_heartbeat::read_info;
 use super::params::{params_length, put_params};
 use bytes::{Bytes, BytesMut};
-use sctp_base::error::{Error, Result};
-use sctp_base::util::{CT_HEARTBEAT_ACK, ChunkType};
 use sctp_params::param::Param;
 use sctp_params::param::param_kind::ParamKind;
 use sctp_params::param::param_type::ParamType;
+use sctp_util::error::{Error, Result};
+use sctp_util::util::{CT_HEARTBEAT_ACK, ChunkType};
 use std::alloc::Global;
 use std::fmt;
 

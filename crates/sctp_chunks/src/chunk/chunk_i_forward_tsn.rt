@@ -2,8 +2,8 @@
 
 ghost use Rattle.std.specs.Prelude.{◌≡◌, ◌+◌, ◌*◌, ◌^◌, ◌<◌, ◌≤◌, ◌++◌, length, IfOk, IsOkUnless};
 ghost use Rattle.std.specs.List.{flat_map, AllByRecursion};
-ghost use Rattle.sctp_base.specs.Each.{each};
-ghost use Rattle.sctp_base.specs.declared.error.Error.TheVariants.{ErrOutOfMemory};
+ghost use Rattle.sctp_util.specs.Each.{each};
+ghost use Rattle.sctp_util.specs.declared.error.Error.TheVariants.{ErrOutOfMemory};
 ghost use Rattle.sctp_chunks.specs.Fits.{FitsEntry};
 ghost use Rattle.sctp_chunks.specs.IForwardTsn.{entry_at, entry_encoding, i_forward_tsn_of};
 ghost use Rattle.sctp_chunks.specs.Wire.{i_forward_tsn_chunk, IsIForwardTsn};
@@ -13,9 +13,9 @@ use super::Chunk;
 use super::chunk_forward_tsn::NEW_CUMULATIVE_TSN_LENGTH;
 use super::chunk_header::open_chunk;
 use bytes::{Bytes, BytesMut};
-use sctp_base::error::{Error, Result};
-use sctp_base::field::{put_u16, put_u32, read_u16, read_u32};
-use sctp_base::util::{CT_I_FORWARD_TSN, ChunkType};
+use sctp_util::error::{Error, Result};
+use sctp_util::field::{put_u16, put_u32, read_u16, read_u32};
+use sctp_util::util::{CT_I_FORWARD_TSN, ChunkType};
 use std::alloc::Global;
 use std::fmt;
 
@@ -50,7 +50,7 @@ fn read_entry(bytes: &[u8], at: usize) -> ChunkIForwardTsnStream
 
 /// Reads so many entries, which stand behind the new cumulative TSN. Refuses only for memory.
 /// Precondition: they are there.
-#[tactic(auto, using(sctp_base::proofs::EachAt::each_none, sctp_base::proofs::EachAt::each_next))]
+#[tactic(auto, using(sctp_util::proofs::EachAt::each_none, sctp_util::proofs::EachAt::each_next))]
 fn read_entries(alloc: Global, value: &[u8], count: usize) -> Result<Vec<ChunkIForwardTsnStream>>
     requires { 4 + 8 * count ≤ length value.now }
     ensures ok { IfOk result (λ v. v.items ≡ each count (λ i. entry_at value.now (4 + 8 * i))) }
@@ -120,7 +120,7 @@ impl fmt::Display for ChunkIForwardTsn {
     }
 }
 
-#[tactic(auto, using(crate::proofs::One::i_forward_tsn_one, sctp_base::proofs::EachAt::length_each, crate::proofs::Lengths::length_i_forward_tsn_value))]
+#[tactic(auto, using(crate::proofs::One::i_forward_tsn_one, sctp_util::proofs::EachAt::length_each, crate::proofs::Lengths::length_i_forward_tsn_value))]
 impl Chunk for ChunkIForwardTsn {
     ghost wire = { λ c. i_forward_tsn_chunk (i_forward_tsn_of c) };
 

@@ -3,7 +3,7 @@
 ghost use Rattle.std.specs.Prelude.{◌≡◌, ◌++◌, ◌∷◌, [], map, IfOk, OnOk, OnErr, IsOkUnless};
 ghost use Rattle.sctp_params.specs.Param.{supported_extensions};
 ghost use Rattle.sctp_params.specs.ParamKind.{parameter_of};
-ghost use Rattle.sctp_base.specs.declared.error.Error.TheVariants.{ErrOutOfMemory};
+ghost use Rattle.sctp_util.specs.declared.error.Error.TheVariants.{ErrOutOfMemory};
 ghost use Rattle.sctp_chunks.specs.Init.{init_of};
 ghost use Rattle.sctp_chunks.specs.Wire.{init_chunk, IsInit};
 ghost use Rattle.sctp_chunks.specs.Fault.{InitFault};
@@ -12,11 +12,11 @@ use super::Chunk;
 use super::chunk_header::{open_any, share_value};
 use super::params::{params_length, put_params, read_params};
 use bytes::{Bytes, BytesMut};
-use sctp_base::error::{Error, Result};
-use sctp_base::field::{put_u16, put_u32, read_u16, read_u32};
-use sctp_base::util::{CT_FORWARD_TSN, CT_INIT, CT_INIT_ACK, CT_RECONFIG, ChunkType};
 use sctp_params::param::param_kind::ParamKind;
 use sctp_params::param::param_supported_extensions::ParamSupportedExtensions;
+use sctp_util::error::{Error, Result};
+use sctp_util::field::{put_u16, put_u32, read_u16, read_u32};
+use sctp_util::util::{CT_FORWARD_TSN, CT_INIT, CT_INIT_ACK, CT_RECONFIG, ChunkType};
 use std::alloc::Global;
 use std::fmt;
 

@@ -20,8 +20,8 @@ use super::chunk_shutdown::ChunkShutdown;
 use super::chunk_shutdown_ack::ChunkShutdownAck;
 use super::chunk_shutdown_complete::ChunkShutdownComplete;
 use bytes::{Bytes, BytesMut};
-use sctp_base::error::{Error, Result};
-use sctp_base::util::{
+use sctp_util::error::{Error, Result};
+use sctp_util::util::{
     CT_ABORT, CT_COOKIE_ACK, CT_COOKIE_ECHO, CT_ERROR, CT_FORWARD_TSN, CT_HEARTBEAT,
     CT_HEARTBEAT_ACK, CT_I_FORWARD_TSN, CT_INIT, CT_INIT_ACK, CT_PAYLOAD_DATA, CT_RECONFIG,
     CT_SACK, CT_SHUTDOWN, CT_SHUTDOWN_ACK, CT_SHUTDOWN_COMPLETE, ChunkType,

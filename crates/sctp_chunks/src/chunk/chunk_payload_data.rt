@@ -8,14 +8,14 @@ ghost use Rattle.sctp_chunks.specs.Fault.{DataFault};
 use super::Chunk;
 use super::chunk_header::{open_chunk, share_value};
 use bytes::{Bytes, BytesMut};
-use sctp_base::error::{Error, Result};
-use sctp_base::field::{put_u16, put_u32, read_u16, read_u32};
-use sctp_base::util::{CT_PAYLOAD_DATA, ChunkType};
 pub use sctp_data::chunk::chunk_payload_data::{
     ChunkPayloadData, PAYLOAD_DATA_BEGINING_FRAGMENT_BITMASK, PAYLOAD_DATA_ENDING_FRAGMENT_BITMASK,
     PAYLOAD_DATA_HEADER_SIZE, PAYLOAD_DATA_IMMEDIATE_SACK, PAYLOAD_DATA_UNORDERED_BITMASK,
     PayloadProtocolIdentifier, ReliabilityType,
 };
+use sctp_util::error::{Error, Result};
+use sctp_util::field::{put_u16, put_u32, read_u16, read_u32};
+use sctp_util::util::{CT_PAYLOAD_DATA, ChunkType};
 use std::alloc::Global;
 
 #[tactic(auto, using(crate::proofs::One::data_one, crate::proofs::Lengths::length_data_value))]

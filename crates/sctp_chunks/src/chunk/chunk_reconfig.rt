@@ -1,10 +1,10 @@
 //! RECONFIG: streams are reset or added.
 
 ghost use Rattle.std.specs.Prelude.{◌≡◌, ◌↔◌, Option, IfOk, IfErr, IsOkUnless, IsTrue, option_map};
-ghost use Rattle.sctp_base.specs.Outcome.{OrMemory, GivesUnlessMemory};
+ghost use Rattle.sctp_util.specs.Outcome.{OrMemory, GivesUnlessMemory};
 ghost use Rattle.sctp_params.specs.Param.{Parameter};
 ghost use Rattle.sctp_params.specs.ParamKind.{parameter_of};
-ghost use Rattle.sctp_base.specs.declared.error.Error.TheVariants.{ErrOutOfMemory};
+ghost use Rattle.sctp_util.specs.declared.error.Error.TheVariants.{ErrOutOfMemory};
 ghost use Rattle.sctp_chunks.specs.Reconfig.{ReadsPair, PairReadsBack, MayStandTogether, reconfig_of};
 ghost use Rattle.sctp_chunks.specs.Wire.{reconfig_chunk, IsReconfig};
 ghost use Rattle.sctp_chunks.specs.Fault.{ReconfigFault, PairValueFault};
@@ -13,12 +13,12 @@ use super::Chunk;
 use super::chunk_header::{open_chunk, share_value};
 use super::params::{param_length, put_param, read_param};
 use bytes::{Bytes, BytesMut};
-use sctp_base::error::{Error, Result};
-use sctp_base::util::{CT_RECONFIG, ChunkType};
 use sctp_params::param::Param;
 use sctp_params::param::param_header::PARAM_HEADER_LENGTH;
 use sctp_params::param::param_kind::{ParamKind, build_param};
 use sctp_params::param::param_type::ParamType;
+use sctp_util::error::{Error, Result};
+use sctp_util::util::{CT_RECONFIG, ChunkType};
 use std::alloc::Global;
 use std::fmt;
 

@@ -2,9 +2,9 @@
 
 ghost use Rattle.std.specs.Prelude.{◌≡◌, ◌+◌, ◌*◌, ◌^◌, ◌<◌, ◌≤◌, ◌++◌, length, IfOk, IsOkUnless};
 ghost use Rattle.std.specs.List.{flat_map, AllByRecursion};
-ghost use Rattle.sctp_base.specs.Each.{each};
-ghost use Rattle.sctp_base.specs.Field.{be32, u32_at};
-ghost use Rattle.sctp_base.specs.declared.error.Error.TheVariants.{ErrOutOfMemory};
+ghost use Rattle.sctp_util.specs.Each.{each};
+ghost use Rattle.sctp_util.specs.Field.{be32, u32_at};
+ghost use Rattle.sctp_util.specs.declared.error.Error.TheVariants.{ErrOutOfMemory};
 ghost use Rattle.sctp_chunks.specs.Fits.{FitsBlock};
 ghost use Rattle.sctp_data.specs.SelectiveAck.{block_at, block_encoding, sack_of};
 ghost use Rattle.sctp_chunks.specs.Wire.{sack_chunk, IsSack};
@@ -13,17 +13,17 @@ ghost use Rattle.sctp_chunks.specs.Fault.{SackFault};
 use super::Chunk;
 use super::chunk_header::open_chunk;
 use bytes::{Bytes, BytesMut};
-use sctp_base::error::{Error, Result};
-use sctp_base::field::{put_u16, put_u32, read_u16, read_u32};
-use sctp_base::util::{CT_SACK, ChunkType};
 pub use sctp_data::chunk::chunk_selective_ack::{
     ChunkSelectiveAck, GapAckBlock, SELECTIVE_ACK_HEADER_SIZE,
 };
+use sctp_util::error::{Error, Result};
+use sctp_util::field::{put_u16, put_u32, read_u16, read_u32};
+use sctp_util::util::{CT_SACK, ChunkType};
 use std::alloc::Global;
 
 /// Reads so many blocks from `at` on. Refuses only for memory.
 /// Precondition: they are there.
-#[tactic(auto, using(sctp_base::proofs::EachAt::each_none, sctp_base::proofs::EachAt::each_next))]
+#[tactic(auto, using(sctp_util::proofs::EachAt::each_none, sctp_util::proofs::EachAt::each_next))]
 fn read_blocks(alloc: Global, value: &[u8], at: usize, count: usize) -> Result<Vec<GapAckBlock>>
     requires { at + 4 * count ≤ length value.now }
     ensures ok { IfOk result (λ v. v.items ≡ each count (λ i. block_at value.now (at + 4 * i))) }
@@ -40,7 +40,7 @@ fn read_blocks(alloc: Global, value: &[u8], at: usize, count: usize) -> Result<V
 
 /// Reads so many numbers of four bytes from `at` on. Refuses only for memory.
 /// Precondition: they are there.
-#[tactic(auto, using(sctp_base::proofs::EachAt::each_none, sctp_base::proofs::EachAt::each_next))]
+#[tactic(auto, using(sctp_util::proofs::EachAt::each_none, sctp_util::proofs::EachAt::each_next))]
 fn read_numbers(alloc: Global, value: &[u8], at: usize, count: usize) -> Result<Vec<u32>>
     requires { at + 4 * count ≤ length value.now }
     ensures ok { IfOk result (λ v. v.items ≡ each count (λ i. u32_at value.now (at + 4 * i))) }
@@ -80,7 +80,7 @@ fn put_numbers(buf: &mut BytesMut, numbers: &[u32])
     }
 }
 
-#[tactic(auto, using(crate::proofs::One::sack_one, sctp_base::proofs::EachAt::length_each, crate::proofs::Lengths::length_sack_value))]
+#[tactic(auto, using(crate::proofs::One::sack_one, sctp_util::proofs::EachAt::length_each, crate::proofs::Lengths::length_sack_value))]
 impl Chunk for ChunkSelectiveAck {
     ghost wire = { λ c. sack_chunk (sack_of c) };
 

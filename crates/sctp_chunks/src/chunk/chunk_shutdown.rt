@@ -6,9 +6,9 @@ ghost use Rattle.sctp_chunks.specs.Fault.{ShutdownFault};
 use super::Chunk;
 use super::chunk_header::open_chunk;
 use bytes::{Bytes, BytesMut};
-use sctp_base::error::{Error, Result};
-use sctp_base::field::{put_u32, read_u32};
-use sctp_base::util::{CT_SHUTDOWN, ChunkType};
+use sctp_util::error::{Error, Result};
+use sctp_util::field::{put_u32, read_u32};
+use sctp_util::util::{CT_SHUTDOWN, ChunkType};
 use std::alloc::Global;
 use std::fmt;
 
@@ -29,7 +29,7 @@ impl fmt::Display for ChunkShutdown {
     }
 }
 
-#[tactic(auto, using(crate::proofs::One::shutdown_one, sctp_base::proofs::Fields::length_be32))]
+#[tactic(auto, using(crate::proofs::One::shutdown_one, sctp_util::proofs::Fields::length_be32))]
 impl Chunk for ChunkShutdown {
     ghost wire = { λ c. shutdown_chunk c.cumulative_tsn_ack };
 

@@ -2,22 +2,22 @@
 
 ghost use Rattle.std.specs.Prelude.{◌≡◌, ◌+◌, ◌^◌, ◌<◌, ◌≤◌, ◌++◌, ◌⊎◌, List, length, min, drop, IfOk, IfErr, OnErr};
 ghost use Rattle.std.specs.List.{AllByRecursion};
-ghost use Rattle.sctp_base.specs.Outcome.{OrMemory, GivesUnlessMemory};
-ghost use Rattle.sctp_base.specs.declared.error.Error.TheVariants.{ErrOutOfMemory, ErrLengthTooLarge, ErrErrorCauseTooSmall};
+ghost use Rattle.sctp_util.specs.Outcome.{OrMemory, GivesUnlessMemory};
+ghost use Rattle.sctp_util.specs.declared.error.Error.TheVariants.{ErrOutOfMemory, ErrLengthTooLarge, ErrErrorCauseTooSmall};
 ghost use Rattle.sctp_chunks.specs.declared.chunk.error_cause.ErrorCause.{ErrorCause};
 ghost use Rattle.sctp_chunks.specs.ErrorCause.{IsCause, ReadsCause, ReadsCauses, HasCauseEncoding, after_cause, cause_encoding, causes_encoding};
 ghost use Rattle.sctp_chunks.specs.Fault.{CausesFault};
 ghost use Rattle.sctp_chunks.specs.Fits.{FitsCause};
 
 use bytes::{Bytes, BytesMut};
-use sctp_base::error::{Error, Result};
-use sctp_base::field::{put_u16, read_u16};
 pub use sctp_data::chunk::error_cause::{
     COOKIE_RECEIVED_WHILE_SHUTTING_DOWN, ErrorCauseCode, INVALID_MANDATORY_PARAMETER,
     INVALID_STREAM_IDENTIFIER, MISSING_MANDATORY_PARAMETER, NO_USER_DATA, OUT_OF_RESOURCE,
     PROTOCOL_VIOLATION, RESTART_OF_AN_ASSOCIATION_WITH_NEW_ADDRESSES, STALE_COOKIE_ERROR,
     UNRECOGNIZED_CHUNK_TYPE, UNRECOGNIZED_PARAMETERS, UNRESOLVABLE_ADDRESS, USER_INITIATED_ABORT,
 };
+use sctp_util::error::{Error, Result};
+use sctp_util::field::{put_u16, read_u16};
 use std::alloc::Global;
 use std::fmt;
 

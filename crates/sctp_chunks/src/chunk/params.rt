@@ -1,19 +1,19 @@
 //! Parameters one behind the other, as INIT, HEARTBEAT and RECONFIG carry them.
 
 ghost use Rattle.std.specs.Prelude.{◌≡◌, ◌<◌, ◌≤◌, ◌+◌, ◌-◌, ◌++◌, ◌||◌, ◌==◌, List, length, map, drop, min, ◌^◌, IfOk, IfErr};
-ghost use Rattle.sctp_base.specs.Outcome.{OrMemory, GivesUnlessMemory};
+ghost use Rattle.sctp_util.specs.Outcome.{OrMemory, GivesUnlessMemory};
 ghost use Rattle.sctp_params.specs.ParamFraming.{after_param};
 ghost use Rattle.sctp_params.specs.Param.{Parameter, ReadsBack, param_value_of};
 ghost use Rattle.sctp_params.specs.ParamKind.{IsReadAs, ReadsParam, ParamFault, parameter_of};
 ghost use Rattle.sctp_chunks.specs.Params.{ReadsParams, ReadBack, ParamsFault, padded_param, params_encoding, gap};
 
 use bytes::{Bytes, BytesMut};
-use sctp_base::error::Result;
-use sctp_base::field::read_u16;
-use sctp_base::util::get_padding_size;
 use sctp_params::param::Param;
 use sctp_params::param::param_header::PARAM_HEADER_LENGTH;
 use sctp_params::param::param_kind::{ParamKind, build_param};
+use sctp_util::error::Result;
+use sctp_util::field::read_u16;
+use sctp_util::util::get_padding_size;
 use std::alloc::Global;
 
 /// Reads the parameter at the front, and how many bytes it takes with the padding

@@ -1,13 +1,13 @@
 //! FORWARD-TSN: TSNs that will not be sent again.
 
 ghost use Rattle.std.specs.Prelude.{◌≡◌, ◌+◌, ◌<◌, ◌≤◌, ◌++◌, length, IfOk, IfErr, OnErr, IsOkUnless};
-ghost use Rattle.sctp_base.specs.declared.error.Error.TheVariants.{ErrOutOfMemory, ErrChunkTooShort};
+ghost use Rattle.sctp_util.specs.declared.error.Error.TheVariants.{ErrOutOfMemory, ErrChunkTooShort};
 ghost use Rattle.sctp_data.specs.ForwardTsn.{FitsStream, stream_at, stream_encoding};
 
 use bytes::{Bytes, BytesMut};
-use sctp_base::error::{Error, Result};
-use sctp_base::field::{put_u16, read_u16};
-use sctp_base::util::CT_FORWARD_TSN;
+use sctp_util::error::{Error, Result};
+use sctp_util::field::{put_u16, read_u16};
+use sctp_util::util::CT_FORWARD_TSN;
 use std::alloc::Global;
 use std::fmt;
 

@@ -5,11 +5,11 @@ ghost use Rattle.sctp_data.specs.PayloadData.{payload_type_from, payload_type_nu
 ghost use Rattle.sctp_data.specs.Names.{payload_type_name, reliability_name};
 ghost use Rattle.sctp_data.specs.PayloadTypes.{is_dcep};
 ghost use Rattle.sctp_data.specs.Reliability.{reliability_from};
-ghost use Rattle.sctp_base.specs.declared.error.Error.TheVariants.{ErrOutOfMemory};
+ghost use Rattle.sctp_util.specs.declared.error.Error.TheVariants.{ErrOutOfMemory};
 
 use bytes::Bytes;
-use sctp_base::error::Result;
-use sctp_base::util::CT_PAYLOAD_DATA;
+use sctp_util::error::Result;
+use sctp_util::util::CT_PAYLOAD_DATA;
 use std::fmt;
 
 /// The flag E: the last fragment of a message (RFC 4960 3.3.1).

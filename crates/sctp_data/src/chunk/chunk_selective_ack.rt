@@ -1,10 +1,10 @@
 //! SACK: what arrived.
 
 ghost use Rattle.std.specs.Prelude.{◌≡◌, IfOk, IsOkUnless};
-ghost use Rattle.sctp_base.specs.declared.error.Error.TheVariants.{ErrOutOfMemory};
+ghost use Rattle.sctp_util.specs.declared.error.Error.TheVariants.{ErrOutOfMemory};
 ghost use Rattle.sctp_data.specs.SelectiveAck.{sack_of};
 
-use sctp_base::error::Result;
+use sctp_util::error::Result;
 use std::alloc::Global;
 use std::fmt;
 

@@ -10,7 +10,7 @@ use Rattle.sctp_refinement.proofs.arriving.FilterQueue.{new-is}
 use Rattle.sctp_refinement.proofs.arriving.SlotArrives
 use Rattle.sctp_receiver.specs.TsnFilter.{block_of}
 use Rattle.sctp_receiver.proofs.Placeholders as Placeholders
-use Rattle.sctp_list_lemmas.specs.Serial.{at_or_before}
+use Rattle.sctp_util.specs.Serial.{at_or_before}
 
 -- ## Which slots came
 

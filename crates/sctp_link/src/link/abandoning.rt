@@ -2,15 +2,15 @@
 
 ghost use Rattle.std.specs.Prelude.{◌≡◌, ◌<◌, ◌++◌, Bool, true, None, OnOk, OnErr, IfOk, IsOkUnless, length, vec_len, vec_capacity};
 ghost use Rattle.sctp_data.specs.Reliability.{is_past};
-ghost use Rattle.sctp_base.specs.declared.error.Error.TheVariants.{ErrOutOfMemory};
+ghost use Rattle.sctp_util.specs.declared.error.Error.TheVariants.{ErrOutOfMemory};
 ghost use Rattle.sctp_link.specs.OpenStreams.{terminals};
 
 use super::streams::fragments_in;
 use super::{Link, memory};
 use crate::event::{LinkRefusal, Reply};
 use crate::record::{Message, Slot};
-use sctp_base::error::Result;
-use sctp_base::util::Checksum;
+use sctp_util::error::Result;
+use sctp_util::util::Checksum;
 
 impl<C: Checksum + Drop> Link<C> {
     ghost use Rattle.sctp_model.specs.Messages.{message_at, message_of, place_of, is_partially_sent};

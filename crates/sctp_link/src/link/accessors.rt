@@ -4,11 +4,11 @@ ghost use Rattle.std.specs.Prelude.{◌≡◌, ◌==◌, ℕ, None, Some, true, 
 ghost use Rattle.sctp_outbound.specs.payload_queue.PayloadQueue.{Payload};
 
 use super::Link;
-use sctp_base::util::Checksum;
 use sctp_queues::outbound_queue::OutboundQueue;
 use sctp_queues::payload_queue::PayloadQueue;
 use sctp_queues::reassembly_queue::ReassemblyQueue;
 use sctp_stream::stream::DataChannelStats;
+use sctp_util::util::Checksum;
 
 /// The bytes of all messages: each written one is pending, in flight or released.
 #[derive(Clone, Copy, Debug, PartialEq, Eq)]

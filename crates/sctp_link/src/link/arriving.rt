@@ -2,12 +2,12 @@
 
 ghost use Rattle.std.specs.Prelude.{◌≡◌, ◌<◌, ◌≤◌, ◌+◌, ◌++◌, ℕ, IfOk, IsOkUnless, length, map, slice_index_or, vec_len, vec_capacity};
 ghost use Rattle.std.specs.List.{list_any};
-ghost use Rattle.sctp_base.specs.declared.error.Error.TheVariants.{ErrOutOfMemory};
+ghost use Rattle.sctp_util.specs.declared.error.Error.TheVariants.{ErrOutOfMemory};
 ghost use Rattle.sctp_link.specs.Receiving.{number_at, arrived_in, repeated_of, is_first};
 
 use crate::record::Slot;
-use sctp_base::error::Result;
 use sctp_receiver::receiver::arrival::Arrival;
+use sctp_util::error::Result;
 use std::alloc::Global;
 
 /// The numbers of the messages of these slots. Refuses only for memory.

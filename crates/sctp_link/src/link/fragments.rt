@@ -1,8 +1,8 @@
 //! The fragments of a datagram: looked at before they leave, then taken one after another.
 
 ghost use Rattle.std.specs.Prelude.{◌≡◌, ◌<◌, ◌≤◌, ◌+◌, ◌^◌, ◌∷◌, ◌++◌, ℕ, [], Some, IfOk, IfSome, IsOkUnless, length, map, vec_len, vec_capacity};
-ghost use Rattle.sctp_base.specs.declared.error.Error.TheVariants.{ErrOutOfMemory};
-ghost use Rattle.sctp_list_lemmas.specs.Kept.{numbers_from};
+ghost use Rattle.sctp_util.specs.declared.error.Error.TheVariants.{ErrOutOfMemory};
+ghost use Rattle.sctp_util.specs.Kept.{numbers_from};
 ghost use Rattle.sctp_chunks.specs.declared.chunk.chunk_kind.ChunkKind.TheVariants as C;
 ghost use Rattle.sctp_outbound.specs.pending_queue.PendingQueue.{next_pending};
 ghost use Rattle.sctp_outbound.specs.outbound_queue.OutboundQueue.{after_sends};
@@ -14,7 +14,6 @@ ghost use Rattle.sctp_serial.specs.DataChunks.{under_tsn};
 
 use super::streams::start_from;
 use crate::record::{Message, Slot};
-use sctp_base::error::Result;
 use sctp_chunks::chunk::chunk_header::CHUNK_HEADER_SIZE;
 use sctp_chunks::chunk::chunk_kind::ChunkKind;
 use sctp_chunks::chunk::chunk_payload_data::{ChunkPayloadData, PAYLOAD_DATA_HEADER_SIZE};
@@ -22,6 +21,7 @@ use sctp_packets::packet::PACKET_HEADER_SIZE;
 use sctp_progress::Progress;
 use sctp_queues::outbound_queue::OutboundQueue;
 use sctp_sender::sender::Sender;
+use sctp_util::error::Result;
 use std::alloc::Global;
 
 /// The length of a DATA chunk without its user data (RFC 4960 3.3.1).

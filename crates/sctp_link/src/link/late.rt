@@ -2,13 +2,13 @@
 
 ghost use Rattle.std.specs.Prelude.{◌≡◌, ◌<◌, true, false, None, OnOk, OnErr, IfOk, IsOkUnless, find, length};
 ghost use Rattle.std.specs.List.{list_all};
-ghost use Rattle.sctp_base.specs.declared.error.Error.TheVariants.{ErrOutOfMemory};
+ghost use Rattle.sctp_util.specs.declared.error.Error.TheVariants.{ErrOutOfMemory};
 ghost use Rattle.sctp_refinement.specs.InTurn.{message_of_tsn, abandoned_tsn};
 
 use super::Link;
 use crate::event::Reply;
-use sctp_base::error::Result;
-use sctp_base::util::Checksum;
+use sctp_util::error::Result;
+use sctp_util::util::Checksum;
 
 impl<C: Checksum + Drop> Link<C> {
     ghost use Rattle.sctp_model.specs.Messages.{place_of, is_in_flight, is_partially_sent};

@@ -2,7 +2,7 @@
 
 ghost use Rattle.std.specs.Prelude.{◌≡◌, ◌<◌, ◌≤◌, ◌+◌, ◌-◌, ◌^◌, ◌∷◌, ◌++◌, ℕ, [], true, false, not, None, Some, OnErr, IfOk, IsOkUnless, length, nat_le};
 ghost use Rattle.std.specs.List.{list_all};
-ghost use Rattle.sctp_base.specs.declared.error.Error.TheVariants.{ErrOutOfMemory};
+ghost use Rattle.sctp_util.specs.declared.error.Error.TheVariants.{ErrOutOfMemory};
 
 use super::Link;
 use super::streams::fragments_in;
@@ -10,10 +10,10 @@ use crate::datagram::write_datagram;
 use crate::event::{LinkRefusal, Reply};
 use crate::record::{Datagram, Kind};
 use crate::skipped::pairs_of;
-use sctp_base::error::Result;
-use sctp_base::util::Checksum;
 use sctp_chunks::chunk::chunk_forward_tsn::ChunkForwardTsn;
 use sctp_chunks::chunk::chunk_kind::ChunkKind;
+use sctp_util::error::Result;
+use sctp_util::util::Checksum;
 
 // The greatest count of names in a FORWARD-TSN that fits its length.
 const MAX_NAMES: usize = 16381;

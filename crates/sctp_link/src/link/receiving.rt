@@ -1,7 +1,7 @@
 //! What comes to the receiver of a link, and what is read there.
 
 ghost use Rattle.std.specs.Prelude.{◌≡◌, ◌<◌, ◌≤◌, ◌+◌, ◌-◌, ◌^◌, ◌∷◌, ℕ, List, [], true, None, Some, OnErr, IfOk, IsOkUnless, length, slice_get, slice_index_or, map, min, max, if◌then◌else◌};
-ghost use Rattle.sctp_base.specs.declared.error.Error.TheVariants.{ErrOutOfMemory};
+ghost use Rattle.sctp_util.specs.declared.error.Error.TheVariants.{ErrOutOfMemory};
 ghost use Rattle.sctp_data.specs.declared.chunk.chunk_payload_data.ChunkPayloadData.{ChunkPayloadData};
 ghost use Rattle.sctp_model.specs.Steps.{unless};
 ghost use Rattle.sctp_model.specs.Reply as R;
@@ -15,10 +15,10 @@ use super::skipping::count_of;
 use crate::datagram::read_data;
 use crate::event::{LinkRefusal, Reply};
 use crate::record::Kind;
-use sctp_base::error::{Error, Result};
-use sctp_base::util::Checksum;
 use sctp_queues::chunks::{Chunks, Fragments};
 use sctp_receiver::receiver::refusal::ReceiverRefusal;
+use sctp_util::error::{Error, Result};
+use sctp_util::util::Checksum;
 
 impl<C: Checksum + Drop> Link<C> {
     ghost use Rattle.sctp_model.specs.LinkRecord.{Data};

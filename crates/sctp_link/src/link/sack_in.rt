@@ -2,7 +2,7 @@
 
 ghost use Rattle.std.specs.Prelude.{◌≡◌, ◌<◌, ◌≤◌, ◌+◌, ◌-◌, ◌^◌, ℕ, Bool, true, None, OnOk, OnErr, IfOk, IsOkUnless, length, slice_index_or};
 ghost use Rattle.std.specs.List.{list_any};
-ghost use Rattle.sctp_base.specs.declared.error.Error.TheVariants.{ErrOutOfMemory};
+ghost use Rattle.sctp_util.specs.declared.error.Error.TheVariants.{ErrOutOfMemory};
 ghost use Rattle.sctp_outbound.specs.payload_queue.Blocks.{is_in_blocks};
 ghost use Rattle.sctp_model.specs.LinkRecord.{LinkRecord};
 ghost use Rattle.sctp_link.specs.Acking.{IsMarking, IsNearer, and_run, and_blocks, in_block};
@@ -11,9 +11,9 @@ use super::{Link, memory};
 use crate::datagram::read_sack;
 use crate::event::{LinkRefusal, Reply};
 use crate::record::{Kind, Slot};
-use sctp_base::error::Result;
-use sctp_base::util::Checksum;
 use sctp_chunks::chunk::chunk_selective_ack::{ChunkSelectiveAck, GapAckBlock};
+use sctp_util::error::Result;
+use sctp_util::util::Checksum;
 
 impl<C: Checksum + Drop> Link<C> {
     ghost use Rattle.sctp_model.specs.Steps.{IsRight, refusal_of};

@@ -1,15 +1,15 @@
 //! What a link acknowledges (RFC 4960 3.3.4, 6.2).
 
 ghost use Rattle.std.specs.Prelude.{◌≡◌, None, OnErr, IfOk, IsOkUnless};
-ghost use Rattle.sctp_base.specs.declared.error.Error.TheVariants.{ErrOutOfMemory};
+ghost use Rattle.sctp_util.specs.declared.error.Error.TheVariants.{ErrOutOfMemory};
 
 use super::Link;
 use crate::datagram::write_datagram;
 use crate::event::{LinkRefusal, Reply};
 use crate::record::{Datagram, Kind};
-use sctp_base::error::{Error, Result};
-use sctp_base::util::Checksum;
 use sctp_chunks::chunk::chunk_kind::ChunkKind;
+use sctp_util::error::{Error, Result};
+use sctp_util::util::Checksum;
 
 impl<C: Checksum + Drop> Link<C> {
     ghost use Rattle.sctp_model.specs.Steps.{IsRight, refusal_of};

@@ -1,7 +1,7 @@
 //! What a link sends, and sends again.
 
 ghost use Rattle.std.specs.Prelude.{◌≡◌, ◌<◌, ◌≤◌, ◌+◌, ◌-◌, ◌^◌, ◌∷◌, ◌++◌, ℕ, [], None, Some, OnOk, OnErr, IfOk, IsOkUnless, find, is_some, length, true};
-ghost use Rattle.sctp_base.specs.declared.error.Error.TheVariants.{ErrOutOfMemory};
+ghost use Rattle.sctp_util.specs.declared.error.Error.TheVariants.{ErrOutOfMemory};
 ghost use Rattle.sctp_data.specs.declared.chunk.chunk_payload_data.ChunkPayloadData.{ChunkPayloadData};
 ghost use Rattle.sctp_chunks.specs.declared.chunk.chunk_kind.ChunkKind.TheVariants.{PayloadData};
 ghost use Rattle.sctp_chunks.specs.Wire.{HasEncoding};
@@ -20,10 +20,10 @@ use crate::datagram::{write_chunks, write_datagram};
 use crate::event::{LinkRefusal, Reply};
 use crate::record::{Datagram, Kind};
 use bytes::Bytes;
-use sctp_base::error::Result;
-use sctp_base::util::Checksum;
 use sctp_chunks::chunk::chunk_kind::ChunkKind;
 use sctp_sender::sender::Sender;
+use sctp_util::error::Result;
+use sctp_util::util::Checksum;
 use std::alloc::Global;
 
 impl<C: Checksum + Drop> Link<C> {

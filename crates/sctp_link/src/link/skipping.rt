@@ -2,16 +2,16 @@
 
 ghost use Rattle.std.specs.Prelude.{◌≡◌, ◌<◌, ◌≤◌, ◌+◌, ◌-◌, ◌%◌, ◌^◌, ◌∷◌, ℕ, List, true, None, Some, OnErr, IfOk, IsOkUnless, length, slice_get, slice_index_or};
 ghost use Rattle.std.specs.List.{list_all};
-ghost use Rattle.sctp_base.specs.declared.error.Error.TheVariants.{ErrOutOfMemory};
+ghost use Rattle.sctp_util.specs.declared.error.Error.TheVariants.{ErrOutOfMemory};
 
 use super::Link;
 use crate::datagram::read_forward_tsn;
 use crate::event::Reply;
 use crate::record::Kind;
 use crate::skipped::{Named, named_on, named_on_each, record_names};
-use sctp_base::error::Result;
-use sctp_base::util::Checksum;
 use sctp_chunks::chunk::chunk_forward_tsn::ChunkForwardTsn;
+use sctp_util::error::Result;
+use sctp_util::util::Checksum;
 
 impl<C: Checksum + Drop> Link<C> {
     ghost use Rattle.sctp_model.specs.LinkRecord.{Forward, StreamRecord};

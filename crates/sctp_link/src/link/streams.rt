@@ -1,8 +1,8 @@
 //! Streams and writes of a link.
 
 ghost use Rattle.std.specs.Prelude.{◌≡◌, ◌<◌, ◌≤◌, ◌+◌, ◌-◌, ◌^◌, ◌∷◌, ◌++◌, ℕ, [], None, Some, List, OnOk, OnErr, IfOk, IsOkUnless, length, nat_le, if◌then◌else◌, true};
-ghost use Rattle.sctp_base.specs.declared.error.Error.TheVariants.{ErrOutOfMemory};
-ghost use Rattle.sctp_list_lemmas.specs.Lists.{pieces};
+ghost use Rattle.sctp_util.specs.declared.error.Error.TheVariants.{ErrOutOfMemory};
+ghost use Rattle.sctp_util.specs.Lists.{pieces};
 ghost use Rattle.sctp_data.specs.PayloadTypes.{is_ordered};
 ghost use Rattle.sctp_link.specs.OpenStreams.{start_from, message_written};
 ghost use Rattle.sctp_link.specs.declared.record.Message.{Message};
@@ -11,10 +11,10 @@ use super::{Link, memory};
 use crate::event::{LinkRefusal, Reply};
 use crate::record::{Message, Written};
 use bytes::Bytes;
-use sctp_base::error::{Error, Result};
-use sctp_base::util::Checksum;
 use sctp_chunks::chunk::chunk_payload_data::{PayloadProtocolIdentifier, ReliabilityType};
 use sctp_stream::stream::StreamState;
+use sctp_util::error::{Error, Result};
+use sctp_util::util::Checksum;
 
 impl<C: Checksum + Drop> Link<C> {
     ghost use Rattle.sctp_model.specs.Steps.{IsRight, refusal_of, takes_memory};

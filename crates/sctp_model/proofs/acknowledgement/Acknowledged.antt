@@ -6,10 +6,10 @@ use Rattle.std.proofs.Math.Path.{subst}
 use Rattle.std.proofs.Math.Nat.{eq-or-lt_of_le}
 use Rattle.std.proofs.lemmas.Bool.{cases_lt}
 use Rattle.std.proofs.lemmas.Bool.Decides.{nat_tests}
-use Rattle.sctp_list_lemmas.specs.Kept.{numbers_where, runs_of, put_before_runs, numbers_from}
-use Rattle.sctp_list_lemmas.specs.Lists.{change_at}
-use Rattle.sctp_list_lemmas.proofs.Passing.{kept-same}
-use Rattle.sctp_list_lemmas.proofs.More.{fails, not_both, both, and, changed-keeps, length-changed}
+use Rattle.sctp_util.specs.Kept.{numbers_where, runs_of, put_before_runs, numbers_from}
+use Rattle.sctp_util.specs.Lists.{change_at}
+use Rattle.sctp_util.proofs.Passing.{kept-same}
+use Rattle.sctp_util.proofs.More.{fails, not_both, both, and, changed-keeps, length-changed}
 use Rattle.sctp_model.specs.declared.event.Event.{Event}
 use Rattle.sctp_model.specs.declared.event.Event.TheVariants as E
 use Rattle.sctp_model.specs.Reply.{Reply}
@@ -28,9 +28,9 @@ use Rattle.sctp_model.proofs.receiver.Arrivals.{Arrivals, arrivals-run, seen_by,
 use Rattle.sctp_model.proofs.sender.SenderRun.{consistent-run, fold-keeps}
 use Rattle.sctp_model.proofs.sender.Moves
 use Rattle.sctp_model.proofs.sender.Network
-use Rattle.sctp_list_lemmas.proofs.Cases.{or-split}
-use Rattle.sctp_list_lemmas.proofs.Getting.{length-numbered, numbered-at, get-last}
-use Rattle.sctp_list_lemmas.proofs.Cases.{or-right}
+use Rattle.sctp_util.proofs.Cases.{or-split}
+use Rattle.sctp_util.proofs.Getting.{length-numbered, numbered-at, get-last}
+use Rattle.sctp_util.proofs.Cases.{or-right}
 
 -- Only what arrived or was skipped is acknowledged.
 

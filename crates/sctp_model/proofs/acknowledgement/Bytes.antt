@@ -1,6 +1,6 @@
 use Rattle.std.proofs.Common.{◌≡◌, ℕ, ◌+◌, ◌-◌, ◌<◌, Bool, true, false, length, refl, ap, ◌∙◌, arith}
 use Rattle.std.specs.Prelude.{if◌then◌else◌, ◌==◌}
-use Rattle.sctp_list_lemmas.specs.Kept.{numbers_where, always, numbers_from, total_over}
+use Rattle.sctp_util.specs.Kept.{numbers_where, always, numbers_from, total_over}
 use Rattle.sctp_model.specs.LinkRecord.{LinkRecord}
 use Rattle.sctp_model.specs.Messages
 use Rattle.sctp_model.specs.Amounts
@@ -10,9 +10,9 @@ use Rattle.sctp_model.proofs.sender.Shape.{shape, has}
 use Rattle.sctp_model.proofs.sender.Sender.{Sender}
 use Rattle.sctp_model.proofs.sender.SenderSteps.{of-has}
 use Rattle.sctp_model.proofs.sender.SenderRun.{Consistent, consistent-run}
-use Rattle.sctp_list_lemmas.proofs.Pieces.{lengths-pieces, total-lengths}
-use Rattle.sctp_list_lemmas.proofs.Rows.{numbered}
-use Rattle.sctp_list_lemmas.proofs.Totals.{total-plus, total-append, total-split, total-map, numbers-append}
+use Rattle.sctp_util.proofs.Pieces.{lengths-pieces, total-lengths}
+use Rattle.sctp_util.proofs.Rows.{numbered}
+use Rattle.sctp_util.proofs.Totals.{total-plus, total-append, total-split, total-map, numbers-append}
 
 -- Each written byte is pending, in flight or released.
 

@@ -3,10 +3,10 @@ use Rattle.std.proofs.Common.{add-one}
 use Rattle.std.proofs.Math.Path.{fun_ext}
 use Rattle.std.specs.Prelude.{if◌then◌else◌, ◌==◌, ◌&&◌, ◌||◌, not, fold, slice_get, slice_index_or, max}
 use Rattle.std.specs.List.{list_any}
-use Rattle.sctp_list_lemmas.specs.Kept.{numbers_where, always, numbers_from, total_over}
-use Rattle.sctp_list_lemmas.specs.Lists.{pieces}
-use Rattle.sctp_list_lemmas.proofs.Passing.{kept-same, kept-none, kept-snoc_in}
-use Rattle.sctp_list_lemmas.proofs.More.{fails, not_both, both, and, kept-short, length-changed}
+use Rattle.sctp_util.specs.Kept.{numbers_where, always, numbers_from, total_over}
+use Rattle.sctp_util.specs.Lists.{pieces}
+use Rattle.sctp_util.proofs.Passing.{kept-same, kept-none, kept-snoc_in}
+use Rattle.sctp_util.proofs.More.{fails, not_both, both, and, kept-short, length-changed}
 use Rattle.sctp_model.proofs.sender.Sender.{Sender}
 use Rattle.sctp_model.specs.declared.event.Event.{Event}
 use Rattle.sctp_model.specs.declared.event.Event.TheVariants as E
@@ -31,8 +31,8 @@ use Rattle.sctp_model.proofs.sender.Network
 use Rattle.sctp_model.proofs.acknowledgement.Bytes.{balance, size-some}
 use Rattle.sctp_model.proofs.acknowledgement.Acknowledged.{as-datagram, as-read}
 use Rattle.sctp_model.proofs.sender.Written.{shown_part, messages_are_writes}
-use Rattle.sctp_list_lemmas.proofs.Getting.{length-mapped, numbered-at}
-use Rattle.sctp_list_lemmas.proofs.Totals.{total-le, total-append, total-kept_same, total-wider}
+use Rattle.sctp_util.proofs.Getting.{length-mapped, numbered-at}
+use Rattle.sctp_util.proofs.Totals.{total-le, total-append, total-kept_same, total-wider}
 
 -- What was written and what was released, by the writes and the replies.
 

@@ -5,10 +5,10 @@ use Rattle.std.specs.List.{list_any}
 use Rattle.std.proofs.Math.Nat.{eq-or-lt_of_le}
 use Rattle.std.proofs.lemmas.Bool.{cases_lt}
 use Rattle.std.proofs.lemmas.Bool.Decides.{nat_tests}
-use Rattle.sctp_list_lemmas.specs.Kept.{numbers_where, always, numbers_from, unbroken}
-use Rattle.sctp_list_lemmas.specs.Lists.{change_at}
-use Rattle.sctp_list_lemmas.proofs.Passing.{unbroken-same, unbroken-le, unbroken-passes, unbroken-stops, unbroken-on}
-use Rattle.sctp_list_lemmas.proofs.More.{not_both, length-changed, changed-same, changed-other}
+use Rattle.sctp_util.specs.Kept.{numbers_where, always, numbers_from, unbroken}
+use Rattle.sctp_util.specs.Lists.{change_at}
+use Rattle.sctp_util.proofs.Passing.{unbroken-same, unbroken-le, unbroken-passes, unbroken-stops, unbroken-on}
+use Rattle.sctp_util.proofs.More.{not_both, length-changed, changed-same, changed-other}
 use Rattle.sctp_model.specs.Reply as R
 use Rattle.sctp_model.specs.LinkRecord.{Setup, Sack, LinkRecord}
 use Rattle.sctp_model.specs.Messages
@@ -19,9 +19,9 @@ use Rattle.sctp_model.specs.Log
 use Rattle.sctp_model.specs.Log.{LogEntry, SlotReceived, SkipReceived}
 use Rattle.sctp_model.specs.Laws.{IsSetup, OnEveryRun, ArrivedIsNew, CumulativeIsSeen, ArrivalsAnswered}
 use Rattle.sctp_model.proofs.receiver.Events.{Keeps, run-keeps}
-use Rattle.sctp_list_lemmas.proofs.Cases.{by_same, same-yes}
-use Rattle.sctp_list_lemmas.proofs.Getting.{get-beyond, get-numbered, length-numbered}
-use Rattle.sctp_list_lemmas.proofs.Cases.{or-right, or-none}
+use Rattle.sctp_util.proofs.Cases.{by_same, same-yes}
+use Rattle.sctp_util.proofs.Getting.{get-beyond, get-numbered, length-numbered}
+use Rattle.sctp_util.proofs.Cases.{or-right, or-none}
 
 -- What arrived in the record is what the order of arrivals says.
 

@@ -4,19 +4,19 @@ use Rattle.std.specs.Prelude.{◌⊎◌, if◌then◌else◌, ◌==◌, ◌&&◌
 use Rattle.std.specs.List.{list_any, list_all}
 use Rattle.std.proofs.lemmas.Bool.{cases_lt}
 use Rattle.std.proofs.lemmas.Bool.Decides.{nat_tests}
-use Rattle.sctp_list_lemmas.specs.Kept.{numbers_where}
-use Rattle.sctp_list_lemmas.proofs.Passing.{kept-same}
-use Rattle.sctp_list_lemmas.proofs.More.{fails, both, and}
-use Rattle.sctp_list_lemmas.proofs.Alls
+use Rattle.sctp_util.specs.Kept.{numbers_where}
+use Rattle.sctp_util.proofs.Passing.{kept-same}
+use Rattle.sctp_util.proofs.More.{fails, both, and}
+use Rattle.sctp_util.proofs.Alls
 use Rattle.sctp_model.specs.Log
 use Rattle.sctp_model.specs.Log.{LogEntry, SlotReceived, SkipReceived, SackMade}
 use Rattle.sctp_model.proofs.sender.Shape.{Shape, has, sent, parts}
 use Rattle.sctp_model.proofs.sender.Sender.{Sender}
 use Rattle.sctp_model.proofs.sender.Grows.{Grows, parts-grown}
 use Rattle.sctp_model.proofs.receiver.View.{View, come_count, all_come, complete_at}
-use Rattle.sctp_list_lemmas.proofs.Cases.{same-yes, same-is}
-use Rattle.sctp_list_lemmas.proofs.Cases.{or-left, or-right, or-split}
-use Rattle.sctp_list_lemmas.proofs.Tests.{all-more}
+use Rattle.sctp_util.proofs.Cases.{same-yes, same-is}
+use Rattle.sctp_util.proofs.Cases.{or-left, or-right, or-split}
+use Rattle.sctp_util.proofs.Tests.{all-more}
 
 -- A message is complete in the record exactly where the order of arrivals makes it complete.
 

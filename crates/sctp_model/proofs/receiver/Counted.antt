@@ -8,8 +8,8 @@ use Rattle.sctp_model.proofs.receiver.Known.{HasRead, differ-more}
 use Rattle.sctp_model.proofs.receiver.Shown.{has-read, reads_show_messages}
 use Rattle.std.proofs.lemmas.Bool.{cases_lt}
 use Rattle.std.proofs.lemmas.Bool.Decides.{nat_tests}
-use Rattle.sctp_list_lemmas.specs.Kept.{numbers_where, always, total_over}
-use Rattle.sctp_list_lemmas.proofs.More.{fails, both, changed-keeps, changed-same, changed-other, length-changed}
+use Rattle.sctp_util.specs.Kept.{numbers_where, always, total_over}
+use Rattle.sctp_util.proofs.More.{fails, both, changed-keeps, changed-same, changed-other, length-changed}
 use Rattle.sctp_model.specs.declared.event.Event.{Event}
 use Rattle.sctp_model.specs.declared.event.Event.TheVariants as E
 use Rattle.sctp_model.specs.Reply.{Reply}
@@ -27,9 +27,9 @@ use Rattle.sctp_model.proofs.sender.Moves
 use Rattle.sctp_model.proofs.sender.Lifetimes.{messages-received, messages-taken}
 use Rattle.sctp_model.proofs.sender.Written.{messages_are_writes}
 use Rattle.sctp_model.proofs.acknowledgement.BytesAnswered.{total-answered}
-use Rattle.sctp_list_lemmas.proofs.Cases.{by_same, same-yes, same-is}
-use Rattle.sctp_list_lemmas.proofs.Tests.{any-append}
-use Rattle.sctp_list_lemmas.proofs.Totals.{total-none, total-one, total-kept_same, total-where}
+use Rattle.sctp_util.proofs.Cases.{by_same, same-yes, same-is}
+use Rattle.sctp_util.proofs.Tests.{any-append}
+use Rattle.sctp_util.proofs.Totals.{total-none, total-one, total-kept_same, total-where}
 
 -- The counters of a stream are sums over its writes and its reads.
 

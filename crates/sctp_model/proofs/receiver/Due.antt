@@ -4,13 +4,13 @@ use Rattle.std.proofs.Common.{arith}
 use Rattle.std.specs.Prelude.{if◌then◌else◌, ◌&&◌, not, nat_lt, nat_le}
 use Rattle.std.proofs.lemmas.Bool.Decides.{nat_tests}
 use Rattle.std.specs.List.{filter}
-use Rattle.sctp_list_lemmas.specs.Kept.{numbers_where, leading, first_of}
-use Rattle.sctp_list_lemmas.proofs.Passing.{kept-same, kept-none, front-kept, FrontOf, IsFront}
-use Rattle.sctp_list_lemmas.proofs.More.{fails, not_both, both}
+use Rattle.sctp_util.specs.Kept.{numbers_where, leading, first_of}
+use Rattle.sctp_util.proofs.Passing.{kept-same, kept-none, front-kept, FrontOf, IsFront}
+use Rattle.sctp_util.proofs.More.{fails, not_both, both}
 use Rattle.sctp_model.proofs.receiver.View.{View, line, run, next, complete_at}
 use Rattle.sctp_model.proofs.sender.Shape.{on, index}
 use Rattle.sctp_model.proofs.receiver.Indexes.{index_on}
-use Rattle.sctp_list_lemmas.proofs.Cases.{negated}
+use Rattle.sctp_util.proofs.Cases.{negated}
 
 abbrev pub wanted : (ℕ → Bool) → (ℕ → Bool) → ℕ → Bool
 wanted wh r x = not (r x) && wh x

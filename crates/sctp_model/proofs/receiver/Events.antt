@@ -21,7 +21,7 @@ use Rattle.sctp_model.proofs.sender.Moves.{Quiet, quiet-none, quiet-datagram, qu
 use Rattle.sctp_model.proofs.sender.Moves.{quiet-abandoned}
 use Rattle.sctp_model.proofs.sender.Network.{SlotsFit, NamesFit, Fits, fit-at, fit-run, same-slot}
 use Rattle.sctp_model.proofs.sender.Made.{made-run}
-use Rattle.sctp_list_lemmas.proofs.Cases.{negated}
+use Rattle.sctp_util.proofs.Cases.{negated}
 
 -- each change keeps P, which speaks of the record and of what came
 pub record Keeps (setup : Setup) (P : LinkRecord → List LogEntry → Type 0) : Type 0 where

@@ -2,13 +2,13 @@
 use Rattle.std.proofs.Common.{◌≡◌, ℕ, ◌+◌, ◌-◌, ◌<◌, ◌≤◌, true, false, length, drop, get_or, refl, ap, sym, ◌∙◌, inl, inr, arith, zero-add}
 use Rattle.std.specs.Prelude.{◌⊎◌, ◌==◌, ◌&&◌, not}
 use Rattle.std.proofs.lemmas.Bool.{cases_lt}
-use Rattle.sctp_list_lemmas.specs.Kept.{numbers_where, leading}
-use Rattle.sctp_list_lemmas.proofs.Passing.{length-kept-lt}
-use Rattle.sctp_list_lemmas.proofs.More.{both}
-use Rattle.sctp_list_lemmas.proofs.Places.{leading-passes, leading-stops, leading-le, leading-is, get-drop, length-dropped, kept-get, kept-place}
+use Rattle.sctp_util.specs.Kept.{numbers_where, leading}
+use Rattle.sctp_util.proofs.Passing.{length-kept-lt}
+use Rattle.sctp_util.proofs.More.{both}
+use Rattle.sctp_util.proofs.Places.{leading-passes, leading-stops, leading-le, leading-is, get-drop, length-dropped, kept-get, kept-place}
 use Rattle.sctp_model.proofs.sender.Shape.{Shape, on, index}
 use Rattle.sctp_model.proofs.receiver.View.{View, line, next}
-use Rattle.sctp_list_lemmas.proofs.Cases.{same-is}
+use Rattle.sctp_util.proofs.Cases.{same-is}
 
 -- ## Indexes
 

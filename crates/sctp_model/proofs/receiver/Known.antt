@@ -5,10 +5,10 @@ use Rattle.std.specs.List.{list_any, list_all, filter}
 use Rattle.std.proofs.Math.Path.{subst}
 use Rattle.std.proofs.lemmas.Bool.{cases_lt}
 use Rattle.std.proofs.lemmas.Bool.Decides.{nat_tests}
-use Rattle.sctp_list_lemmas.specs.Kept.{numbers_where, leading, first_of, or_else}
-use Rattle.sctp_list_lemmas.proofs.Passing.{kept-same}
-use Rattle.sctp_list_lemmas.proofs.More.{fails, not_both, both, and, kept-short}
-use Rattle.sctp_list_lemmas.proofs.Alls
+use Rattle.sctp_util.specs.Kept.{numbers_where, leading, first_of, or_else}
+use Rattle.sctp_util.proofs.Passing.{kept-same}
+use Rattle.sctp_util.proofs.More.{fails, not_both, both, and, kept-short}
+use Rattle.sctp_util.proofs.Alls
 use Rattle.sctp_model.specs.LinkRecord.{Setup, LinkRecord}
 use Rattle.sctp_model.specs.Messages
 use Rattle.sctp_model.specs.Receiver.{is_new}
@@ -28,9 +28,9 @@ use Rattle.sctp_model.proofs.receiver.View
 use Rattle.sctp_model.proofs.receiver.View.{View, view, has_come, come_count, all_come, complete_at, arrived_in, noted_in, skipped_in, read_in, run, line}
 use Rattle.sctp_model.proofs.receiver.View.{next_read}
 use Rattle.sctp_model.proofs.receiver.CompleteMessages
-use Rattle.sctp_list_lemmas.proofs.Cases.{by_same, same-yes, same-is, negated}
-use Rattle.sctp_list_lemmas.proofs.Cases.{or-right, or-split, or-none, and-none}
-use Rattle.sctp_list_lemmas.proofs.Tests.{all-more, any-append}
+use Rattle.sctp_util.proofs.Cases.{by_same, same-yes, same-is, negated}
+use Rattle.sctp_util.proofs.Cases.{or-right, or-split, or-none, and-none}
+use Rattle.sctp_util.proofs.Tests.{all-more, any-append}
 
 -- In every history what is complete in the record is what the order of arrivals makes complete.
 

@@ -6,11 +6,11 @@ use Rattle.std.proofs.Math.Path.{subst}
 use Rattle.std.proofs.Math.Nat.{eq-or-lt_of_le}
 use Rattle.std.proofs.lemmas.Bool.{cases_lt}
 use Rattle.std.proofs.lemmas.Bool.Decides.{nat_tests}
-use Rattle.sctp_list_lemmas.proofs.More.{fails, not_both, and}
+use Rattle.sctp_util.proofs.More.{fails, not_both, and}
 use Rattle.sctp_model.specs.Receiver.{greatest}
 use Rattle.sctp_model.proofs.sender.Shape.{has, on, index, sent, parts}
 use Rattle.sctp_model.proofs.sender.Sender.{Sender}
-use Rattle.sctp_list_lemmas.proofs.Cases.{by_same, same-yes, same-is}
+use Rattle.sctp_util.proofs.Cases.{by_same, same-yes, same-is}
 use Rattle.sctp_model.proofs.sender.Network.{IsNamable, NamesFit, namable-grown}
 use Rattle.sctp_model.proofs.sender.Slots.{sent-made}
 use Rattle.sctp_model.proofs.receiver.View.{View, come_count, all_come, complete_at, arrived_in, noted_in, skipped_in, read_in, line, next, named_more}

@@ -5,11 +5,11 @@ use Rattle.std.specs.Prelude.{◌⊎◌, if◌then◌else◌, ◌==◌, ◌&&◌
 use Rattle.std.specs.List.{list_all, filter}
 use Rattle.std.proofs.Math.Path.{subst}
 use Rattle.std.proofs.lemmas.Bool.Decides.{nat_tests}
-use Rattle.sctp_list_lemmas.specs.Kept.{numbers_where, leading, first_of, or_else}
-use Rattle.sctp_list_lemmas.proofs.Passing.{kept-same, kept-none}
-use Rattle.sctp_list_lemmas.proofs.More.{fails, not_both, both, and}
-use Rattle.sctp_list_lemmas.proofs.Cases.{same-is}
-use Rattle.sctp_list_lemmas.proofs.Alls
+use Rattle.sctp_util.specs.Kept.{numbers_where, leading, first_of, or_else}
+use Rattle.sctp_util.proofs.Passing.{kept-same, kept-none}
+use Rattle.sctp_util.proofs.More.{fails, not_both, both, and}
+use Rattle.sctp_util.proofs.Cases.{same-is}
+use Rattle.sctp_util.proofs.Alls
 use Rattle.sctp_model.specs.declared.event.Event.TheVariants as E
 use Rattle.sctp_model.specs.declared.event.LinkRefusal.TheVariants.{StreamUnknown}
 use Rattle.sctp_model.specs.Reply as R

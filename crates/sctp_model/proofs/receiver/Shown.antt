@@ -4,14 +4,14 @@ use Rattle.std.specs.Prelude.{◌⊎◌, if◌then◌else◌, ◌==◌, ◌&&◌
 use Rattle.std.specs.List.{list_all}
 use Rattle.std.proofs.lemmas.Bool.Decides.{nat_tests}
 use Rattle.std.proofs.lemmas.List.{map-append}
-use Rattle.sctp_list_lemmas.specs.Kept.{numbers_where, always}
-use Rattle.sctp_list_lemmas.specs.Lists.{pieces}
-use Rattle.sctp_list_lemmas.proofs.Passing.{kept-same}
-use Rattle.sctp_list_lemmas.proofs.Lines.{take-drop}
-use Rattle.sctp_list_lemmas.proofs.More.{both, and}
-use Rattle.sctp_list_lemmas.proofs.Cases.{same-is, same-yes}
-use Rattle.sctp_list_lemmas.proofs.Rows.{numbered}
-use Rattle.sctp_list_lemmas.proofs.Tests.{all-out}
+use Rattle.sctp_util.specs.Kept.{numbers_where, always}
+use Rattle.sctp_util.specs.Lists.{pieces}
+use Rattle.sctp_util.proofs.Passing.{kept-same}
+use Rattle.sctp_util.proofs.Lines.{take-drop}
+use Rattle.sctp_util.proofs.More.{both, and}
+use Rattle.sctp_util.proofs.Cases.{same-is, same-yes}
+use Rattle.sctp_util.proofs.Rows.{numbered}
+use Rattle.sctp_util.proofs.Tests.{all-out}
 use Rattle.sctp_model.specs.declared.event.Event.{Event}
 use Rattle.sctp_model.specs.declared.event.Event.TheVariants as E
 use Rattle.sctp_model.specs.Reply.{Reply}
@@ -35,8 +35,8 @@ use Rattle.sctp_model.proofs.receiver.Arrivals.{arrivals-run}
 use Rattle.sctp_model.proofs.receiver.View.{view}
 use Rattle.sctp_model.proofs.receiver.Known.{HasRead, ReadsComplete, ReadsRun, reads, run-is, ready-first, ready-complete}
 use Rattle.sctp_model.proofs.receiver.KnownRun.{known-run, completeness_agrees}
-use Rattle.sctp_list_lemmas.proofs.Alls.{all-append}
-use Rattle.sctp_list_lemmas.proofs.Tests.{all-more}
+use Rattle.sctp_util.proofs.Alls.{all-append}
+use Rattle.sctp_util.proofs.Tests.{all-more}
 
 -- Each read hands out a message as it was written.
 

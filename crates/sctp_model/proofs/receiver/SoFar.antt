@@ -4,11 +4,11 @@ use Rattle.std.specs.Prelude.{if◌then◌else◌, ◌==◌, ◌&&◌, not, nat_
 use Rattle.std.specs.List.{list_all, filter}
 use Rattle.std.proofs.Math.Path.{subst}
 use Rattle.std.proofs.lemmas.Bool.Decides.{nat_tests}
-use Rattle.sctp_list_lemmas.specs.Kept.{numbers_where}
-use Rattle.sctp_list_lemmas.proofs.Passing.{kept-same, kept-none, kept-snoc_in}
-use Rattle.sctp_list_lemmas.proofs.More.{fails, not_both, both, and, kept-short}
-use Rattle.sctp_list_lemmas.proofs.Cases.{same-is}
-use Rattle.sctp_list_lemmas.proofs.Alls
+use Rattle.sctp_util.specs.Kept.{numbers_where}
+use Rattle.sctp_util.proofs.Passing.{kept-same, kept-none, kept-snoc_in}
+use Rattle.sctp_util.proofs.More.{fails, not_both, both, and, kept-short}
+use Rattle.sctp_util.proofs.Cases.{same-is}
+use Rattle.sctp_util.proofs.Alls
 use Rattle.sctp_model.specs.LinkRecord.{LinkRecord}
 use Rattle.sctp_model.specs.Log
 use Rattle.sctp_model.specs.Log.{LogEntry, SlotReceived, SkipReceived, SackMade}
@@ -24,7 +24,7 @@ use Rattle.sctp_model.proofs.receiver.CompleteMessages.{SlotsReceived, complete_
 use Rattle.sctp_model.proofs.receiver.Known
 use Rattle.sctp_model.proofs.receiver.Known.{Known, Complete, Still}
 use Rattle.sctp_model.proofs.receiver.Ordered.{Ordered}
-use Rattle.sctp_list_lemmas.proofs.Tests.{all-more}
+use Rattle.sctp_util.proofs.Tests.{all-more}
 
 -- ## Lists
 

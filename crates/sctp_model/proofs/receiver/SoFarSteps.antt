@@ -4,10 +4,10 @@ use Rattle.std.specs.Prelude.{◌⊎◌, if◌then◌else◌, ◌==◌, ◌&&◌
 use Rattle.std.specs.List.{list_all, filter}
 use Rattle.std.proofs.lemmas.Bool.{cases_lt}
 use Rattle.std.proofs.lemmas.Bool.Decides.{nat_tests}
-use Rattle.sctp_list_lemmas.proofs.Passing.{kept-same}
-use Rattle.sctp_list_lemmas.proofs.More.{fails, not_both, both, and}
-use Rattle.sctp_list_lemmas.proofs.Cases.{by_same, same-yes, same-is}
-use Rattle.sctp_list_lemmas.proofs.Alls
+use Rattle.sctp_util.proofs.Passing.{kept-same}
+use Rattle.sctp_util.proofs.More.{fails, not_both, both, and}
+use Rattle.sctp_util.proofs.Cases.{by_same, same-yes, same-is}
+use Rattle.sctp_util.proofs.Alls
 use Rattle.sctp_model.specs.LinkRecord.{Setup, Sack, LinkRecord}
 use Rattle.sctp_model.specs.Messages
 use Rattle.sctp_model.specs.Receiver.{is_new}
@@ -33,8 +33,8 @@ use Rattle.sctp_model.proofs.receiver.Due.{IsDue}
 use Rattle.sctp_model.proofs.receiver.Received.{Received, received-keeps}
 use Rattle.sctp_model.proofs.receiver.SoFar
 use Rattle.sctp_model.proofs.receiver.SoFar.{SoFar, was_read, read_on, complete_list, became, off, kept-one, kept-last, passing-append, so_far-as}
-use Rattle.sctp_list_lemmas.proofs.Cases.{or-none, and-none}
-use Rattle.sctp_list_lemmas.proofs.Tests.{all-more}
+use Rattle.sctp_util.proofs.Cases.{or-none, and-none}
+use Rattle.sctp_util.proofs.Tests.{all-more}
 
 -- What each change makes of what was read so far.
 

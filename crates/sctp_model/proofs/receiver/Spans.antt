@@ -7,10 +7,10 @@ use Rattle.std.proofs.Math.Path.{subst}
 use Rattle.std.proofs.Math.Nat.{eq-or-lt_of_le}
 use Rattle.std.proofs.lemmas.Bool.{cases_lt}
 use Rattle.std.proofs.lemmas.Bool.Decides.{nat_tests}
-use Rattle.sctp_list_lemmas.specs.Kept.{numbers_where}
-use Rattle.sctp_list_lemmas.proofs.Passing.{kept-none}
-use Rattle.sctp_list_lemmas.proofs.More.{fails, not_both, both, and}
-use Rattle.sctp_list_lemmas.proofs.Places.{leading-le, length-dropped}
+use Rattle.sctp_util.specs.Kept.{numbers_where}
+use Rattle.sctp_util.proofs.Passing.{kept-none}
+use Rattle.sctp_util.proofs.More.{fails, not_both, both, and}
+use Rattle.sctp_util.proofs.Places.{leading-le, length-dropped}
 use Rattle.sctp_model.specs.declared.event.Event.{Event}
 use Rattle.sctp_model.specs.declared.event.Event.TheVariants as E
 use Rattle.sctp_model.specs.declared.event.LinkRefusal.TheVariants.{StreamUnknown, StreamOpen, NoSuchDatagram, SpanTooWide}
@@ -26,7 +26,7 @@ use Rattle.sctp_model.specs.Log.{LogEntry}
 use Rattle.sctp_model.specs.Laws.{IsSetup, OnEveryRun, SpansFit}
 use Rattle.sctp_model.proofs.sender.Shape.{shape, on, index, sent}
 use Rattle.sctp_model.proofs.sender.Sender.{Sender}
-use Rattle.sctp_list_lemmas.proofs.Cases.{by_same, negated}
+use Rattle.sctp_util.proofs.Cases.{by_same, negated}
 use Rattle.sctp_model.proofs.sender.SenderRun.{Consistent, consistent-run, consistent-after, unless-holds, found}
 use Rattle.sctp_model.proofs.sender.Moves.{Quiet, quiet-written, quiet-started, quiet-sent, quiet-expire, quiet-tail, quiet-lates, quiet-abandoned}
 use Rattle.sctp_model.proofs.receiver.View

@@ -6,14 +6,14 @@ use Rattle.std.specs.List.{list_any, filter}
 use Rattle.std.proofs.Math.Path.{subst}
 use Rattle.std.proofs.lemmas.Bool.{cases_lt}
 use Rattle.std.proofs.lemmas.Bool.Decides.{nat_tests}
-use Rattle.sctp_list_lemmas.specs.Kept.{numbers_where, always, leading}
-use Rattle.sctp_list_lemmas.proofs.Passing.{length-kept-lt}
-use Rattle.sctp_list_lemmas.proofs.More.{not_both, both, and}
-use Rattle.sctp_list_lemmas.proofs.Cases.{same-yes, same-is, negated, or-right, or-split}
-use Rattle.sctp_list_lemmas.proofs.Places.{kept-get}
-use Rattle.sctp_list_lemmas.proofs.Getting.{get-beyond}
-use Rattle.sctp_list_lemmas.proofs.Rows.{IsRow}
-use Rattle.sctp_list_lemmas.proofs.Totals.{total-at, length-numbers}
+use Rattle.sctp_util.specs.Kept.{numbers_where, always, leading}
+use Rattle.sctp_util.proofs.Passing.{length-kept-lt}
+use Rattle.sctp_util.proofs.More.{not_both, both, and}
+use Rattle.sctp_util.proofs.Cases.{same-yes, same-is, negated, or-right, or-split}
+use Rattle.sctp_util.proofs.Places.{kept-get}
+use Rattle.sctp_util.proofs.Getting.{get-beyond}
+use Rattle.sctp_util.proofs.Rows.{IsRow}
+use Rattle.sctp_util.proofs.Totals.{total-at, length-numbers}
 use Rattle.sctp_model.specs.declared.event.Event.TheVariants as E
 use Rattle.sctp_model.specs.declared.event.LinkRefusal.TheVariants.{NoSuchDatagram, SpanTooWide}
 use Rattle.sctp_model.specs.LinkRecord.{Setup, StreamRecord, Datagram, Forward, LinkRecord}
@@ -26,7 +26,7 @@ use Rattle.sctp_model.specs.Log
 use Rattle.sctp_model.specs.Log.{LogEntry}
 use Rattle.sctp_model.specs.Laws.{OnEveryRun}
 use Rattle.sctp_model.specs.Valid.{IsLaid, IsSpan, Valid, ValidUnassembled, InOrder, AllFragments, AllNamable, RecordIsValid, SlotsComeValid, SkipsComeValid}
-use Rattle.sctp_list_lemmas.specs.Lists.{pieces}
+use Rattle.sctp_util.specs.Lists.{pieces}
 use Rattle.sctp_model.proofs.sender.SenderEnds.{sent-none}
 use Rattle.sctp_model.proofs.sender.Shape.{Shape, shape, has, sent, parts, on, index}
 use Rattle.sctp_model.proofs.sender.Sender.{Sender}

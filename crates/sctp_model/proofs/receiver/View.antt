@@ -3,8 +3,8 @@ use Rattle.std.proofs.Common.{◌≡◌, ℕ, ◌+◌, ◌<◌, Bool, true, fals
 use Rattle.std.proofs.Math.Path.{fun_ext}
 use Rattle.std.specs.Prelude.{if◌then◌else◌, ◌==◌, ◌&&◌, ◌||◌, not, nat_lt, nat_le, find, is_some, unwrap_or, max}
 use Rattle.std.specs.List.{list_any, filter}
-use Rattle.sctp_list_lemmas.specs.Kept.{numbers_where, leading, first_of, or_else}
-use Rattle.sctp_list_lemmas.proofs.More.{not_both, changed-same, changed-other}
+use Rattle.sctp_util.specs.Kept.{numbers_where, leading, first_of, or_else}
+use Rattle.sctp_util.proofs.More.{not_both, changed-same, changed-other}
 use Rattle.sctp_data.specs.declared.chunk.chunk_payload_data.ReliabilityType.{ReliabilityType}
 use Rattle.sctp_model.specs.LinkRecord.{StreamRecord, Sack, Report, LinkRecord}
 use Rattle.sctp_model.specs.Messages
@@ -15,8 +15,8 @@ use Rattle.sctp_model.proofs.sender.Shape.{Shape, shape, has, parts, on, index}
 use Rattle.sctp_model.proofs.sender.Shapes
 use Rattle.sctp_model.proofs.sender.SenderRun.{found}
 use Rattle.sctp_model.proofs.receiver.Arrivals.{with_arrived}
-use Rattle.sctp_list_lemmas.proofs.Cases.{by_same, same-yes, same-is}
-use Rattle.sctp_list_lemmas.proofs.Getting.{get-changed, get-numbered}
+use Rattle.sctp_util.proofs.Cases.{by_same, same-yes, same-is}
+use Rattle.sctp_util.proofs.Getting.{get-changed, get-numbered}
 
 pub record View : Type 0 where
   pub x : Shape

@@ -1,7 +1,7 @@
 -- A script played by the definitions: the answer to each event in the record reached so far, and what is shown of that record.
 use Rattle.std.proofs.Common.{◌≡◌, refl}
 use Rattle.std.specs.Prelude.{ℕ, Bool, true, false, ◌&&◌, List, [], ◌∷◌, length, map, Option, Some, None, is_none, unwrap_or}
-use Rattle.sctp_list_lemmas.proofs.More.{both}
+use Rattle.sctp_util.proofs.More.{both}
 use Rattle.sctp_model.specs.declared.event.Event.{Event}
 use Rattle.sctp_data.specs.declared.chunk.chunk_payload_data.PayloadProtocolIdentifier.{PayloadProtocolIdentifier}
 use Rattle.sctp_data.specs.declared.chunk.chunk_payload_data.ChunkPayloadData.{ChunkPayloadData}

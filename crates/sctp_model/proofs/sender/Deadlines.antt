@@ -6,10 +6,10 @@ use Rattle.std.proofs.lemmas.Bool.{cases_lt}
 use Rattle.std.proofs.lemmas.Bool.Decides.{nat_tests}
 use Rattle.sctp_data.specs.Reliability.{is_past, is_timed}
 use Rattle.sctp_data.specs.PayloadTypes.{is_dcep}
-use Rattle.sctp_list_lemmas.specs.Kept.{numbers_where, always, first_of}
-use Rattle.sctp_list_lemmas.proofs.Cases.{or-none}
-use Rattle.sctp_list_lemmas.proofs.Getting.{get-beyond}
-use Rattle.sctp_list_lemmas.proofs.Passing.{kept-same}
+use Rattle.sctp_util.specs.Kept.{numbers_where, always, first_of}
+use Rattle.sctp_util.proofs.Cases.{or-none}
+use Rattle.sctp_util.proofs.Getting.{get-beyond}
+use Rattle.sctp_util.proofs.Passing.{kept-same}
 use Rattle.sctp_data.specs.declared.chunk.chunk_payload_data.ReliabilityType.{ReliabilityType}
 use Rattle.sctp_data.specs.declared.chunk.chunk_payload_data.ReliabilityType.TheVariants as T
 use Rattle.sctp_data.specs.declared.chunk.chunk_payload_data.PayloadProtocolIdentifier.{PayloadProtocolIdentifier}

@@ -2,14 +2,14 @@
 use Rattle.std.proofs.Common.{◌≡◌, ℕ, zero, suc, ◌+◌, ◌<◌, ◌≤◌, ◌^◌, Bool, true, false, [], ◌∷◌, ◌++◌, length, refl, ap, sym, ◌∙◌, arith, length-append}
 use Rattle.std.specs.Prelude.{if◌then◌else◌, ◌==◌, ◌&&◌, not, nat_lt}
 use Rattle.std.proofs.lemmas.Bool.Decides.{nat_tests}
-use Rattle.sctp_list_lemmas.specs.Kept.{numbers_where, always, total_over}
-use Rattle.sctp_list_lemmas.proofs.Passing.{kept-snoc}
+use Rattle.sctp_util.specs.Kept.{numbers_where, always, total_over}
+use Rattle.sctp_util.proofs.Passing.{kept-snoc}
 use Rattle.sctp_model.specs.LinkRecord.{Setup, LinkRecord}
 use Rattle.sctp_model.proofs.sender.Shape.{Shape, shape, sent, parts}
 use Rattle.sctp_model.proofs.sender.Sender.{Sender}
 use Rattle.sctp_model.proofs.sender.SenderRun.{Consistent, accepted_of}
-use Rattle.sctp_list_lemmas.proofs.Cases.{by_same, same-yes}
-use Rattle.sctp_list_lemmas.proofs.Totals.{total-none, total-one, total-le}
+use Rattle.sctp_util.proofs.Cases.{by_same, same-yes}
+use Rattle.sctp_util.proofs.Totals.{total-none, total-one, total-le}
 
 -- each of so many things is of one of the messages
 counted : (g : ℕ → ℕ) (most things : ℕ) → ((p : ℕ) → p < things → g p < most)

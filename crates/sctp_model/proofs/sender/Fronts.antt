@@ -1,14 +1,14 @@
 use Rattle.std.proofs.Common.{◌≡◌, ℕ, ◌<◌, ◌≤◌, Bool, true, false, length, Option, Some, None, refl, ap, sym, ◌∙◌, inl, inr, arith}
 use Rattle.std.specs.Prelude.{◌⊎◌, if◌then◌else◌, ◌==◌, ◌&&◌, not, nat_lt}
 use Rattle.std.proofs.lemmas.Bool.{cases_lt}
-use Rattle.sctp_list_lemmas.specs.Kept.{numbers_where, first_of, or_else}
-use Rattle.sctp_list_lemmas.proofs.More.{fails, not_both, both, and, length-kept-positive}
+use Rattle.sctp_util.specs.Kept.{numbers_where, first_of, or_else}
+use Rattle.sctp_util.proofs.More.{fails, not_both, both, and, length-kept-positive}
 use Rattle.sctp_model.proofs.sender.Shape.{Shape, sent, parts, partial, unsent, front_of}
 use Rattle.sctp_model.proofs.sender.Sender.{Sender, is_terminal}
 use Rattle.sctp_model.proofs.sender.SenderSteps.{Takes, sent-some, of-partial, partial-one}
 use Rattle.sctp_model.proofs.sender.SenderEnds.{sent-none}
-use Rattle.sctp_list_lemmas.proofs.Cases.{same-yes, same-is, negated}
-use Rattle.sctp_list_lemmas.proofs.Tests.{FirstOf, first-kept}
+use Rattle.sctp_util.proofs.Cases.{same-yes, same-is, negated}
+use Rattle.sctp_util.proofs.Tests.{FirstOf, first-kept}
 
 -- The message to send from is one whose next fragment can take a slot.
 

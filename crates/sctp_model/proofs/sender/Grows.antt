@@ -1,17 +1,17 @@
 use Rattle.std.proofs.Common.{◌≡◌, ℕ, ◌+◌, ◌<◌, ◌≤◌, Bool, true, false, length, refl, ap, sym, ◌∙◌, inl, inr, arith}
 use Rattle.std.specs.Prelude.{◌⊎◌, if◌then◌else◌, ◌==◌, ◌&&◌, ◌||◌, not}
 use Rattle.std.proofs.Math.Path.{subst}
-use Rattle.sctp_list_lemmas.specs.Kept.{numbers_where}
-use Rattle.sctp_list_lemmas.specs.Lists.{pieces}
-use Rattle.sctp_list_lemmas.proofs.Passing.{kept-same}
-use Rattle.sctp_list_lemmas.proofs.More.{not_both, and}
+use Rattle.sctp_util.specs.Kept.{numbers_where}
+use Rattle.sctp_util.specs.Lists.{pieces}
+use Rattle.sctp_util.proofs.Passing.{kept-same}
+use Rattle.sctp_util.proofs.More.{not_both, and}
 use Rattle.sctp_model.proofs.sender.Shape.{Shape, MessagePart, sent, parts, on, index, slotted, written, abandoned_at, expired_at}
 use Rattle.sctp_model.proofs.sender.Sender.{Sender, sent-slotted, slot-old}
 use Rattle.sctp_model.proofs.sender.SenderSteps.{Takes, sent-other, sent-grows}
 use Rattle.sctp_model.proofs.sender.SenderEnds.{message-old, on-old}
 use Rattle.sctp_model.proofs.sender.Slots.{sent-made, sent-alive}
-use Rattle.sctp_list_lemmas.proofs.Cases.{by_same, same-yes}
-use Rattle.sctp_list_lemmas.proofs.Cases.{or-right}
+use Rattle.sctp_util.proofs.Cases.{by_same, same-yes}
+use Rattle.sctp_util.proofs.Cases.{or-right}
 
 -- What later messages and slots leave as it was.
 

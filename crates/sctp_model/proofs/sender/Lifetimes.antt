@@ -4,9 +4,9 @@ use Rattle.std.specs.Prelude.{◌⊎◌, if◌then◌else◌, ◌==◌, ◌||◌
 use Rattle.std.specs.List.{list_any, filter}
 use Rattle.std.proofs.lemmas.Bool.{cases_lt}
 use Rattle.std.proofs.lemmas.Bool.Decides.{nat_tests}
-use Rattle.sctp_list_lemmas.specs.Kept.{numbers_where, always, or_else}
-use Rattle.sctp_list_lemmas.specs.Lists.{change_at}
-use Rattle.sctp_list_lemmas.proofs.More.{changed-keeps, length-changed, same_test}
+use Rattle.sctp_util.specs.Kept.{numbers_where, always, or_else}
+use Rattle.sctp_util.specs.Lists.{change_at}
+use Rattle.sctp_util.proofs.More.{changed-keeps, length-changed, same_test}
 use Rattle.sctp_model.specs.declared.event.Event.{Event}
 use Rattle.sctp_model.specs.declared.event.Event.TheVariants as E
 use Rattle.sctp_model.specs.Reply.{Reply}
@@ -22,9 +22,9 @@ use Rattle.sctp_model.proofs.sender.SenderRun.{fold-keeps, consistent-run, writt
 use Rattle.sctp_model.proofs.sender.Network.{extends-after}
 use Rattle.sctp_model.proofs.sender.Written.{messages_are_writes}
 use Rattle.sctp_model.proofs.acknowledgement.BytesAnswered.{messages-sent, count-abandoned, count-late}
-use Rattle.sctp_list_lemmas.proofs.Getting.{get-snoc_old, get-snoc_new, length-mapped, map-at}
-use Rattle.sctp_list_lemmas.proofs.Tests.{any-append}
-use Rattle.sctp_list_lemmas.proofs.Totals.{length-numbers}
+use Rattle.sctp_util.proofs.Getting.{get-snoc_old, get-snoc_new, length-mapped, map-at}
+use Rattle.sctp_util.proofs.Tests.{any-append}
+use Rattle.sctp_util.proofs.Totals.{length-numbers}
 
 -- When lifetimes start, and what Late abandons.
 

@@ -3,8 +3,8 @@ use Rattle.std.proofs.Common.{◌≡◌, ℕ, ◌-◌, ◌<◌, ◌≤◌, Bool,
 use Rattle.std.proofs.Common.{arith, length-append, append-nil, append_assoc}
 use Rattle.std.specs.Prelude.{◌⊎◌, if◌then◌else◌, ◌==◌, ◌&&◌, fold}
 use Rattle.std.proofs.lemmas.Bool.{cases_lt}
-use Rattle.sctp_list_lemmas.proofs.More.{length-changed, changed-keeps}
-use Rattle.sctp_list_lemmas.specs.Lists.{change_at}
+use Rattle.sctp_util.proofs.More.{length-changed, changed-keeps}
+use Rattle.sctp_util.specs.Lists.{change_at}
 use Rattle.sctp_data.specs.declared.chunk.chunk_payload_data.PayloadProtocolIdentifier.{PayloadProtocolIdentifier}
 use Rattle.sctp_model.specs.LinkRecord.{Setup, Message, Slot, Datagram, Data, LinkRecord}
 use Rattle.sctp_model.specs.Messages
@@ -15,11 +15,11 @@ use Rattle.sctp_model.proofs.sender.Shapes
 use Rattle.sctp_model.proofs.sender.Fronts.{front-takes, of-unsent}
 use Rattle.sctp_model.proofs.sender.SenderRun.{Consistent, consistent-takes, consistent-abandoned, consistent-started, filled-keeps, written_as, AllSent}
 use Rattle.sctp_model.proofs.sender.SenderRun.{sent-all, late-sent}
-use Rattle.sctp_list_lemmas.specs.Kept.{numbers_from}
+use Rattle.sctp_util.specs.Kept.{numbers_from}
 use Rattle.sctp_model.proofs.sender.Grows.{Grows, grows-same, grows-by, grows-then, grows-takes, grows-abandoned, grows-marked, grows-terminals, grows-expired}
 use Rattle.sctp_model.proofs.sender.Grows.{grows-written}
-use Rattle.sctp_list_lemmas.proofs.Cases.{by_same}
-use Rattle.sctp_list_lemmas.proofs.Getting.{get-beyond, get-snoc_old, get-snoc_new, get-snoc, get-map, length-mapped}
+use Rattle.sctp_util.proofs.Cases.{by_same}
+use Rattle.sctp_util.proofs.Getting.{get-beyond, get-snoc_old, get-snoc_new, get-snoc, get-map, length-mapped}
 
 -- what a sender's change leaves
 pub record Quiet (w v : LinkRecord) : Type 0 where

@@ -5,10 +5,10 @@ use Rattle.std.specs.List.{list_any, list_all}
 use Rattle.std.proofs.Math.Path.{subst}
 use Rattle.std.proofs.lemmas.Bool.{cases_lt}
 use Rattle.std.proofs.lemmas.Bool.Decides.{nat_tests}
-use Rattle.sctp_list_lemmas.specs.Kept.{numbers_where, always, numbers_from}
-use Rattle.sctp_list_lemmas.specs.Lists.{change_at, pieces}
-use Rattle.sctp_list_lemmas.proofs.Passing.{length-kept-lt, length-kept-mono, kept-same}
-use Rattle.sctp_list_lemmas.proofs.More.{fails, not_both, both}
+use Rattle.sctp_util.specs.Kept.{numbers_where, always, numbers_from}
+use Rattle.sctp_util.specs.Lists.{change_at, pieces}
+use Rattle.sctp_util.proofs.Passing.{length-kept-lt, length-kept-mono, kept-same}
+use Rattle.sctp_util.proofs.More.{fails, not_both, both}
 use Rattle.sctp_data.specs.PayloadData.{Data}
 use Rattle.sctp_data.specs.ChunkSet.{fresh}
 use Rattle.sctp_model.specs.declared.event.Event.{Event}
@@ -32,9 +32,9 @@ use Rattle.sctp_model.proofs.sender.Grows.{Grows, IsEnded, as_written, grows-sam
 use Rattle.sctp_model.proofs.sender.Moves
 use Rattle.sctp_model.proofs.sender.Fronts.{slot-sent, mark-abandoned}
 use Rattle.sctp_data.specs.declared.chunk.chunk_payload_data.PayloadProtocolIdentifier.{PayloadProtocolIdentifier}
-use Rattle.sctp_list_lemmas.proofs.Cases.{by_last, same-is, negated}
-use Rattle.sctp_list_lemmas.proofs.Getting.{slice-front}
-use Rattle.sctp_list_lemmas.proofs.Tests.{all-out}
+use Rattle.sctp_util.proofs.Cases.{by_last, same-is, negated}
+use Rattle.sctp_util.proofs.Getting.{slice-front}
+use Rattle.sctp_util.proofs.Tests.{all-out}
 
 -- What lies in the network stays true as the record grows.
 

@@ -2,8 +2,8 @@
 use Rattle.std.proofs.Common.{◌≡◌, ℕ, ◌+◌, ◌<◌, ◌≤◌, Bool, true, false, List, [], ◌∷◌, ◌++◌, length, refl, ap, ◌∙◌, arith, add-one, length-append}
 use Rattle.std.specs.Prelude.{if◌then◌else◌, ◌==◌, ◌&&◌, not, nat_lt}
 use Rattle.std.proofs.lemmas.Bool.Decides.{nat_tests}
-use Rattle.sctp_list_lemmas.specs.Kept.{numbers_where}
-use Rattle.sctp_list_lemmas.proofs.Passing.{kept-same, kept-snoc}
+use Rattle.sctp_util.specs.Kept.{numbers_where}
+use Rattle.sctp_util.proofs.Passing.{kept-same, kept-snoc}
 use Rattle.sctp_model.proofs.sender.Shape.{Shape, SlotPart, has, sent, parts, partial, on, slotted}
 
 abbrev pub is_terminal : Shape → ℕ → ℕ → Bool

@@ -3,15 +3,15 @@ use Rattle.std.proofs.Common.{◌≡◌, ℕ, ◌+◌, ◌<◌, ◌≤◌, Bool,
 use Rattle.std.specs.Prelude.{◌⊎◌, if◌then◌else◌, ◌==◌, ◌&&◌, ◌||◌, not, nat_lt}
 use Rattle.std.proofs.lemmas.Bool.{cases_lt}
 use Rattle.std.proofs.lemmas.Bool.Decides.{nat_tests}
-use Rattle.sctp_list_lemmas.specs.Kept.{numbers_where}
-use Rattle.sctp_list_lemmas.proofs.Passing.{kept-none}
-use Rattle.sctp_list_lemmas.proofs.More.{fails, not_both, both, and}
+use Rattle.sctp_util.specs.Kept.{numbers_where}
+use Rattle.sctp_util.proofs.Passing.{kept-none}
+use Rattle.sctp_util.proofs.More.{fails, not_both, both, and}
 use Rattle.sctp_model.proofs.sender.Shape.{Shape, MessagePart, has, sent, parts, partial, on, slotted, written, abandoned_at, expired_at}
 use Rattle.sctp_model.proofs.sender.Sender.{Sender, is_terminal, sent-slotted, terminals-slotted, slot-old, slot-new}
 use Rattle.sctp_model.proofs.sender.SenderSteps.{of-has, sent-some, of-partial, is-partial, partial-one, has-old, has-new, number-slotted, made-slotted, Next}
 use Rattle.sctp_model.proofs.sender.SenderSteps.{Last}
 use Rattle.sctp_model.proofs.sender.SenderSteps.{terminals_due}
-use Rattle.sctp_list_lemmas.proofs.Cases.{by_last, by_same, same-yes, same-is}
+use Rattle.sctp_util.proofs.Cases.{by_last, by_same, same-yes, same-is}
 
 -- ## Abandonment
 

@@ -5,10 +5,10 @@ use Rattle.std.specs.Prelude.{if◌then◌else◌, ◌==◌, ◌&&◌, nat_lt, f
 use Rattle.std.proofs.Math.Path.{subst}
 use Rattle.std.proofs.lemmas.Bool.Decides.{nat_tests}
 use Rattle.std.specs.List.{filter}
-use Rattle.sctp_list_lemmas.specs.Kept.{numbers_where, always, numbers_from, total_over}
-use Rattle.sctp_list_lemmas.specs.Lists.{change_at, pieces}
-use Rattle.sctp_list_lemmas.proofs.Passing.{kept-snoc_in}
-use Rattle.sctp_list_lemmas.proofs.More.{both}
+use Rattle.sctp_util.specs.Kept.{numbers_where, always, numbers_from, total_over}
+use Rattle.sctp_util.specs.Lists.{change_at, pieces}
+use Rattle.sctp_util.proofs.Passing.{kept-snoc_in}
+use Rattle.sctp_util.proofs.More.{both}
 use Rattle.sctp_model.specs.declared.event.Event.{Event}
 use Rattle.sctp_model.specs.declared.event.Event.TheVariants as E
 use Rattle.sctp_model.specs.declared.event.LinkRefusal.{LinkRefusal}
@@ -25,8 +25,8 @@ use Rattle.sctp_model.proofs.sender.SenderSteps.{sender-takes, of-partial, sent-
 use Rattle.sctp_model.proofs.sender.SenderEnds.{sender-marked, sender-abandoned, sender-expired, sender-written, message-old, message-new, parts-old}
 use Rattle.sctp_model.proofs.sender.Shapes
 use Rattle.sctp_model.proofs.sender.Fronts.{front-takes, slot-sent, of-unsent}
-use Rattle.sctp_list_lemmas.proofs.Cases.{by_last}
-use Rattle.sctp_list_lemmas.proofs.Totals.{total-append, total-kept_same}
+use Rattle.sctp_util.proofs.Cases.{by_last}
+use Rattle.sctp_util.proofs.Totals.{total-append, total-kept_same}
 
 -- ## The invariant
 

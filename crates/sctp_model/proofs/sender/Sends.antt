@@ -3,8 +3,8 @@ use Rattle.std.proofs.Common.{length-append}
 use Rattle.std.specs.Prelude.{◌⊎◌, if◌then◌else◌, ◌&&◌, ◌||◌, not, ◌↔◌, slice_get, is_some, Result, Ok, Err}
 use Rattle.std.proofs.lemmas.Bool.{cases_lt}
 use Rattle.std.specs.List.{flat_map}
-use Rattle.sctp_list_lemmas.specs.Kept.{numbers_where, always, numbers_from, total_over}
-use Rattle.sctp_list_lemmas.proofs.More.{not_both}
+use Rattle.sctp_util.specs.Kept.{numbers_where, always, numbers_from, total_over}
+use Rattle.sctp_util.proofs.More.{not_both}
 use Rattle.sctp_model.specs.declared.event.Event.TheVariants as E
 use Rattle.sctp_model.specs.declared.event.LinkRefusal.{LinkRefusal}
 use Rattle.sctp_model.specs.declared.event.LinkRefusal.TheVariants.{StreamUnknown, StreamOpen, MessageTooLarge, TsnsUsedUp, NoSuchDatagram, NotInFlight}
@@ -23,8 +23,8 @@ use Rattle.sctp_model.proofs.sender.SenderSteps.{Takes, is-partial, sent-other, 
 use Rattle.sctp_model.proofs.sender.Fronts.{front-takes, front-none, is-unsent}
 use Rattle.sctp_model.proofs.sender.SenderRun.{Consistent, consistent-run, consistent-takes, consistent-started, filled-keeps}
 use Rattle.sctp_model.proofs.sender.Shapes
-use Rattle.sctp_list_lemmas.proofs.Getting.{length-mapped, get-last}
-use Rattle.sctp_list_lemmas.proofs.Totals.{length-numbers, length-gathered, total-plus, total-none, total-at, total-one}
+use Rattle.sctp_util.proofs.Getting.{length-mapped, get-last}
+use Rattle.sctp_util.proofs.Totals.{length-numbers, length-gathered, total-plus, total-none, total-at, total-one}
 
 -- Each send takes fragments that wait.
 

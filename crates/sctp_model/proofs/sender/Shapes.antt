@@ -1,13 +1,13 @@
 use Rattle.std.proofs.Common.{◌≡◌, ℕ, ◌+◌, Bool, true, false, List, [], ◌∷◌, ◌++◌, length, map, get_or, refl, ap, ◌∙◌, length-append}
 use Rattle.std.proofs.Math.Path.{fun_ext}
 use Rattle.std.specs.Prelude.{if◌then◌else◌, ◌==◌, ◌||◌}
-use Rattle.sctp_list_lemmas.specs.Lists.{change_at, each_numbered}
-use Rattle.sctp_list_lemmas.proofs.More.{length-changed, changed-keeps}
+use Rattle.sctp_util.specs.Lists.{change_at, each_numbered}
+use Rattle.sctp_util.proofs.More.{length-changed, changed-keeps}
 use Rattle.sctp_model.specs.LinkRecord.{Message, Slot, Report, LinkRecord}
 use Rattle.sctp_model.specs.Messages.{message_at, slot_at, no_message, no_slot, sent_of}
 use Rattle.sctp_model.specs.Changes
 use Rattle.sctp_model.proofs.sender.Shape.{Shape, MessagePart, SlotPart, shape, message_part, slot_part, slotted, written, abandoned_at, expired_at}
-use Rattle.sctp_list_lemmas.proofs.Getting.{get-snoc, get-changed, get-map, length-mapped, get-numbered, length-numbered}
+use Rattle.sctp_util.proofs.Getting.{get-snoc, get-changed, get-map, length-mapped, get-numbered, length-numbered}
 
 -- The shape of the record after each change.
 

@@ -2,9 +2,9 @@ use Rattle.std.proofs.Common.{◌≡◌, ℕ, zero, suc, ◌<◌, ◌≤◌, Boo
 use Rattle.std.specs.Prelude.{◌⊎◌, ◌==◌, ◌&&◌, not, nat_lt}
 use Rattle.std.proofs.lemmas.Bool.{cases_lt}
 use Rattle.std.proofs.lemmas.Bool.Decides.{nat_tests}
-use Rattle.sctp_list_lemmas.specs.Kept.{numbers_where, always, first_of}
-use Rattle.sctp_list_lemmas.proofs.Passing.{kept-same}
-use Rattle.sctp_list_lemmas.proofs.More.{fails, not_both, and, same_test}
+use Rattle.sctp_util.specs.Kept.{numbers_where, always, first_of}
+use Rattle.sctp_util.proofs.Passing.{kept-same}
+use Rattle.sctp_util.proofs.More.{fails, not_both, and, same_test}
 use Rattle.sctp_model.specs.LinkRecord.{LinkRecord}
 use Rattle.sctp_model.specs.Messages
 use Rattle.sctp_model.specs.Steps.{record_of}
@@ -14,10 +14,10 @@ use Rattle.sctp_model.proofs.sender.Sender.{Sender}
 use Rattle.sctp_model.proofs.sender.SenderSteps.{of-has, partial-one}
 use Rattle.sctp_model.proofs.sender.SenderEnds.{sent-none}
 use Rattle.sctp_model.proofs.sender.SenderRun.{consistent-run}
-use Rattle.sctp_list_lemmas.proofs.Cases.{same-yes}
-use Rattle.sctp_list_lemmas.proofs.Getting.{get-beyond}
-use Rattle.sctp_list_lemmas.proofs.Rows.{numbered, IsRow, row, at-most-one}
-use Rattle.sctp_list_lemmas.proofs.Totals.{length-numbers}
+use Rattle.sctp_util.proofs.Cases.{same-yes}
+use Rattle.sctp_util.proofs.Getting.{get-beyond}
+use Rattle.sctp_util.proofs.Rows.{numbered, IsRow, row, at-most-one}
+use Rattle.sctp_util.proofs.Totals.{length-numbers}
 
 -- The slots of a message, in words of their own.
 

@@ -2,8 +2,8 @@
 use Rattle.std.proofs.Common.{◌≡◌, ℕ, ◌+◌, ◌^◌, Bool, true, false, List, [], ◌∷◌, ◌++◌, length, map, Option, Some, None, refl, ap, ◌∙◌, arith, add-one}
 use Rattle.std.specs.Prelude.{if◌then◌else◌, ◌==◌, find, is_some, slice_get, unwrap_or, nat_le, nat_lt}
 use Rattle.std.proofs.lemmas.List.{map-append}
-use Rattle.sctp_list_lemmas.specs.Kept.{numbers_where, always}
-use Rattle.sctp_list_lemmas.proofs.Passing.{map-kept-same, kept-snoc_in}
+use Rattle.sctp_util.specs.Kept.{numbers_where, always}
+use Rattle.sctp_util.proofs.Passing.{map-kept-same, kept-snoc_in}
 use Rattle.sctp_data.specs.declared.chunk.chunk_payload_data.PayloadProtocolIdentifier.{PayloadProtocolIdentifier}
 use Rattle.sctp_model.specs.declared.event.Event.{Event}
 use Rattle.sctp_model.specs.declared.event.Event.TheVariants as E

@@ -3,7 +3,7 @@ use Rattle.std.specs.Prelude.{◌≡◌, ℕ, ◌==◌, Bool, true, ◌&&◌, Li
 use Rattle.std.specs.List.{find, list_any, filter}
 use Rattle.std.specs.Option.{option_map}
 use Rattle.sctp_data.specs.declared.chunk.chunk_payload_data.ChunkPayloadData.{ChunkPayloadData}
-use Rattle.sctp_list_lemmas.specs.Lists.{change_where}
+use Rattle.sctp_util.specs.Lists.{change_where}
 use Rattle.sctp_serial.specs.DataChunks.{has_tsn, following_tsn}
 use Rattle.sctp_outbound.specs.Marks.{as_acknowledged, is_of, is_outstanding, with_miss_indicator, with_nsent, with_retransmit, with_since}
 use Rattle.sctp_outbound.specs.outbound_queue.OutboundQueue.{Outbound, new_outbound, abandoned_of, all_started, terminal_chunk, expired_of, expiring}

@@ -6,7 +6,7 @@ use Rattle.std.specs.List.{filter}
 use Rattle.sctp_data.specs.PayloadTypes.{is_dcep}
 use Rattle.sctp_data.specs.Reliability.{is_past}
 use Rattle.sctp_data.specs.declared.chunk.chunk_payload_data.ChunkPayloadData.{ChunkPayloadData}
-use Rattle.sctp_list_lemmas.specs.Lists.{change_where}
+use Rattle.sctp_util.specs.Lists.{change_where}
 use Rattle.sctp_outbound.specs.Marks.{is_of, as_abandoned}
 use Rattle.sctp_outbound.specs.payload_queue.PayloadQueue as payload
 use Rattle.sctp_outbound.specs.pending_queue.PendingQueue as pending

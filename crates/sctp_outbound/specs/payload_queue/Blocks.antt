@@ -6,7 +6,7 @@ use Rattle.std.specs.Fmt.{decimal}
 use Rattle.std.specs.List.{All, AllPairs, list_any, filter}
 use Rattle.sctp_data.specs.declared.chunk.chunk_payload_data.ChunkPayloadData.{ChunkPayloadData}
 use Rattle.sctp_data.specs.declared.chunk.chunk_selective_ack.GapAckBlock.{GapAckBlock}
-use Rattle.sctp_list_lemmas.specs.Serial.{distance}
+use Rattle.sctp_util.specs.Serial.{distance}
 use Rattle.sctp_serial.specs.Runs.{IsRising}
 use Rattle.sctp_outbound.specs.declared.payload_queue.blocks.Run.{Run}
 

@@ -6,7 +6,7 @@ use Rattle.sctp_data.specs.declared.chunk.chunk_payload_data.ChunkPayloadData.{C
 use Rattle.sctp_data.specs.declared.chunk.chunk_payload_data.ReliabilityType.{ReliabilityType}
 use Rattle.sctp_data.specs.PayloadTypes.{is_dcep}
 use Rattle.sctp_data.specs.Reliability.{is_timed, deadline_at}
-use Rattle.sctp_list_lemmas.specs.Lists.{change_where}
+use Rattle.sctp_util.specs.Lists.{change_where}
 use Rattle.sctp_outbound.specs.declared.pending_queue.Selected.{Selected}
 use Rattle.sctp_outbound.specs.Marks.{is_of}
 use Rattle.sctp_serial.specs.DataChunks.{bytes_of, is_on}

@@ -7,13 +7,6 @@ ghost use Rattle.sctp_outbound.specs.pending_queue.Whole.{IsSendable, partially_
 use super::{OutboundQueue, is_expired_tail};
 
 impl OutboundQueue {
-    /// Whether a fragment of the message with this number waits.
-    pub fn waits(&self, message_id: u64) -> bool
-        ensures { result ≡ waits message_id self.now.pending }
-    {
-        self.pending.contains_message(message_id)
-    }
-
     /// Whether a fragment of the message with this number waits, told by what is in front alone.
     /// Precondition: where one waits, the message is partially sent, as each that is in flight (`are_whole`).
     pub fn rest_waits(&self, message_id: u64) -> bool

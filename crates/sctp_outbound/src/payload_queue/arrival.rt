@@ -1,17 +1,17 @@
 //! What came is put into a payload queue, or noted as a duplicate.
 
 ghost use Rattle.std.specs.Prelude.{◌≡◌, ◌+◌, ◌-◌, ◌^◌, ◌<◌, ◌≤◌, length, OnErr, IfOk, IsOk, IsOkUnless, IsTrue, if◌then◌else◌};
-ghost use Rattle.sctp_base.specs.declared.error.Error.TheVariants.{ErrOutOfMemory};
+ghost use Rattle.sctp_util.specs.declared.error.Error.TheVariants.{ErrOutOfMemory};
 ghost use Rattle.sctp_outbound.specs.payload_queue.PayloadQueue.{push_chunk, add_duplicate};
 ghost use Rattle.sctp_serial.specs.DataChunks.{bytes_of};
 ghost use Rattle.sctp_serial.specs.Turns.{IsWithinDigits};
 ghost use Rattle.sctp_serial.specs.Window.{IsWindow, is_new};
 
 use super::{PayloadQueue, free_place};
-use sctp_base::error::Result;
-use sctp_base::util::sna32lte;
 use sctp_data::chunk::chunk_payload_data::ChunkPayloadData;
 use sctp_serial::turns::Turns;
+use sctp_util::error::Result;
+use sctp_util::util::sna32lte;
 
 impl PayloadQueue {
     /// Puts a chunk that came. One that is held, or at or before `cumulative_tsn`, is noted as

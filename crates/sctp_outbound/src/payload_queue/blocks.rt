@@ -2,19 +2,19 @@
 
 ghost use Rattle.std.specs.Prelude.{◌≡◌, ◌+◌, ◌*◌, ◌-◌, ◌<◌, ◌≤◌, length, map, min, take, IfOk, IfSome, IsOkUnless, slice_index_or};
 ghost use Rattle.std.specs.Vec.{vec_len, vec_capacity};
-ghost use Rattle.sctp_base.specs.declared.error.Error.TheVariants.{ErrOutOfMemory};
-ghost use Rattle.sctp_list_lemmas.specs.Kept.{runs_of};
-ghost use Rattle.sctp_list_lemmas.specs.Serial.{distance};
+ghost use Rattle.sctp_util.specs.declared.error.Error.TheVariants.{ErrOutOfMemory};
+ghost use Rattle.sctp_util.specs.Kept.{runs_of};
+ghost use Rattle.sctp_util.specs.Serial.{distance};
 ghost use Rattle.sctp_serial.specs.Turns.{IsWithinDigits};
 ghost use Rattle.sctp_serial.specs.Window.{IsSerial};
 ghost use Rattle.sctp_outbound.specs.payload_queue.Blocks.{IsAtOffset, IsRunFrom, Reports, gap_offsets, ends_of, is_offset, offset_at};
 
 use super::held::{Held, Tsns};
 use super::{PayloadQueue, first_after, run_end};
-use sctp_base::error::Result;
 use sctp_data::chunk::chunk_selective_ack::GapAckBlock;
 use sctp_serial::serial::distance;
 use sctp_serial::turns::Turns;
+use sctp_util::error::Result;
 use std::alloc::Global;
 
 // A run of TSNs, told by distances from the cumulative TSN: that of its last one, the place behind it, and the distance there.

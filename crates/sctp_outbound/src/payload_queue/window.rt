@@ -1,13 +1,13 @@
 //! Which TSNs fit beside those held: tests that look at the first chunk and at the last.
 
 ghost use Rattle.std.specs.Prelude.{◌≡◌, ◌-◌, ◌^◌, ◌<◌, All, length, slice_index_or, true};
-ghost use Rattle.sctp_list_lemmas.specs.Serial.{at_or_before};
+ghost use Rattle.sctp_util.specs.Serial.{at_or_before};
 ghost use Rattle.sctp_serial.specs.Window.{IsSerial, IsWithinHalf, SpansOneWindow, first_among};
 
 use crate::payload_queue::held::Held;
-use sctp_base::util::{sna32lt, sna32lte};
 use sctp_serial::serial::distance;
 use sctp_serial::turns::Turns;
+use sctp_util::util::{sna32lt, sna32lte};
 
 // Whether a TSN lies at distance 1 to 2^31 after the base.
 fn is_within_half(base: u32, tsn: u32) -> bool

@@ -4,18 +4,18 @@
 ghost use Rattle.std.specs.Prelude.{◌≡◌, ◌==◌, ◌+◌, ◌-◌, ◌^◌, ◌<◌, ◌≤◌, ◌++◌, [], ◌∷◌, length, map, max, OnOk, OnErr, IfSome, IfNone, IsOk, IsOkUnless, option_copied, slice_get, take, true, false};
 ghost use Rattle.std.specs.List.{All, list_any, filter};
 ghost use Rattle.std.specs.VecDeque.{deque_capacity, deque_len};
-ghost use Rattle.sctp_base.specs.declared.error.Error.TheVariants.{ErrOutOfMemory};
-ghost use Rattle.sctp_list_lemmas.specs.Lists.{change_where};
+ghost use Rattle.sctp_util.specs.declared.error.Error.TheVariants.{ErrOutOfMemory};
+ghost use Rattle.sctp_util.specs.Lists.{change_where};
 ghost use Rattle.sctp_outbound.specs.Marks.{is_of};
 ghost use Rattle.sctp_outbound.specs.outbound_queue.OutboundQueue.{with_message_id};
 ghost use Rattle.sctp_outbound.specs.pending_queue.PendingQueue.{removed_bytes, last_of, without_message, lower_by, is_to_start, with_deadline, has_lifetime};
 ghost use Rattle.sctp_outbound.specs.pending_queue.Whole.{AreWhole, NumbersAscend, begins_with, begun, stand_in_front, until_end};
 ghost use Rattle.sctp_serial.specs.DataChunks.{bytes_of, is_on};
 
-use sctp_base::error::Result;
 use sctp_data::chunk::chunk_payload_data::{
     ChunkPayloadData, PayloadProtocolIdentifier, ReliabilityType,
 };
+use sctp_util::error::Result;
 use std::alloc::Global;
 use std::collections::VecDeque;
 use std::marker::Model;

@@ -2,9 +2,9 @@
 
 ghost use Rattle.std.specs.Prelude.{◌≡◌, ◌≤◌, ◌<◌, ◌==◌, ◌||◌, if◌then◌else◌, IfOk, IfErr, OnOk, Option, Some, None, length, drop};
 ghost use Rattle.std.specs.List.{AllByRecursion};
-ghost use Rattle.sctp_base.specs.declared.error.Error.TheVariants.{ErrChunkValueNotLongEnough};
-ghost use Rattle.sctp_base.specs.Outcome.{OrMemory, GivesUnlessMemory};
-ghost use Rattle.sctp_base.specs.Field.{u32_at};
+ghost use Rattle.sctp_util.specs.declared.error.Error.TheVariants.{ErrChunkValueNotLongEnough};
+ghost use Rattle.sctp_util.specs.Outcome.{OrMemory, GivesUnlessMemory};
+ghost use Rattle.sctp_util.specs.Field.{u32_at};
 ghost use Rattle.sctp_chunks.specs.Kind.{IsFreshKind};
 ghost use Rattle.sctp_packets.specs.Packet.{Parts, parts_of, HavePacketEncoding, IsCanonical, ReadsPacket};
 ghost use Rattle.sctp_packets.specs.Fault.{WalkFault};
@@ -12,10 +12,10 @@ ghost use Rattle.sctp_packets.specs.Partial.{ReadsPartial, Finishes, HasChunks, 
 
 use super::{CommonHeader, PACKET_HEADER_SIZE, Packet, open_packet, read_chunks};
 use bytes::Bytes;
-use sctp_base::error::{Error, Result};
-use sctp_base::field::read_u32;
-use sctp_base::util::{CT_COOKIE_ECHO, CT_INIT, CT_INIT_ACK, Checksum, ChunkType};
 use sctp_chunks::chunk::chunk_header::{CHUNK_HEADER_SIZE, open_any, share_value};
+use sctp_util::error::{Error, Result};
+use sctp_util::field::read_u32;
+use sctp_util::util::{CT_COOKIE_ECHO, CT_INIT, CT_INIT_ACK, Checksum, ChunkType};
 use std::alloc::Global;
 
 /// The bytes of an initiate tag, which a value begins with.

@@ -1,17 +1,17 @@
 //! The header that every parameter begins with (RFC 4960 3.2.1).
 
 ghost use Rattle.std.specs.Prelude.{◌≡◌, ◌+◌, ◌⊎◌, ◌≤◌, ◌<◌, ◌^◌, ◌++◌, Some, OnErr, IfOk, IfErr, length, slice_range};
-ghost use Rattle.sctp_base.specs.declared.error.Error.TheVariants.{ErrOutOfMemory, ErrLengthTooLarge};
-ghost use Rattle.sctp_base.specs.Field.{be16, AreBytes};
-ghost use Rattle.sctp_base.specs.Outcome.{OrMemory};
+ghost use Rattle.sctp_util.specs.declared.error.Error.TheVariants.{ErrOutOfMemory, ErrLengthTooLarge};
+ghost use Rattle.sctp_util.specs.Field.{be16, AreBytes};
+ghost use Rattle.sctp_util.specs.Outcome.{OrMemory};
 ghost use Rattle.sctp_params.specs.ParamType.{type_number, type_from, type_name};
 ghost use Rattle.sctp_params.specs.ParamFraming.{IsParam, IsParamValue, param_type_at, param_declared_length, param_value_at};
 ghost use Rattle.sctp_params.specs.ParamFault.{ParamHeaderFault};
 
 use super::param_type::ParamType;
 use bytes::{Bytes, BytesMut};
-use sctp_base::error::{Error, Result};
-use sctp_base::field::{put_u16, read_u16};
+use sctp_util::error::{Error, Result};
+use sctp_util::field::{put_u16, read_u16};
 use std::alloc::Global;
 use std::fmt;
 

@@ -1,7 +1,7 @@
 //! A parameter of any kind.
 
 ghost use Rattle.std.specs.Prelude.{◌≡◌, IfOk, IfErr};
-ghost use Rattle.sctp_base.specs.Outcome.{OrMemory, GivesUnlessMemory};
+ghost use Rattle.sctp_util.specs.Outcome.{OrMemory, GivesUnlessMemory};
 ghost use Rattle.sctp_params.specs.Param.{Parameter, ReadsBack};
 ghost use Rattle.sctp_params.specs.ParamKind.{parameter_of, IsReadAs, ReadsParam, ParamFault};
 
@@ -20,8 +20,8 @@ use super::param_supported_extensions::ParamSupportedExtensions;
 use super::param_type::ParamType;
 use super::param_unknown::ParamUnknown;
 use bytes::{Bytes, BytesMut};
-use sctp_base::error::{Error, Result};
-use sctp_base::field::read_u16;
+use sctp_util::error::{Error, Result};
+use sctp_util::field::read_u16;
 use std::alloc::Global;
 use std::fmt;
 

@@ -1,10 +1,10 @@
 //! The request to reset outgoing streams (RFC 6525 4.1).
 
 ghost use Rattle.std.specs.Prelude.{◌≡◌, ◌+◌, ◌*◌, ◌≤◌, ◌++◌, length, IfOk, IsOkUnless};
-ghost use Rattle.sctp_base.specs.declared.error.Error.TheVariants.{ErrOutOfMemory};
+ghost use Rattle.sctp_util.specs.declared.error.Error.TheVariants.{ErrOutOfMemory};
 ghost use Rattle.std.specs.List.{flat_map};
-ghost use Rattle.sctp_base.specs.Field.{be16, u16_at};
-ghost use Rattle.sctp_base.specs.Each.{each};
+ghost use Rattle.sctp_util.specs.Field.{be16, u16_at};
+ghost use Rattle.sctp_util.specs.Each.{each};
 ghost use Rattle.sctp_params.specs.ResetRequest.{reset_request_of};
 ghost use Rattle.sctp_params.specs.Param.{outgoing_reset_request};
 ghost use Rattle.sctp_params.specs.ParamKinds.{IsOutgoingResetRequest};
@@ -14,8 +14,8 @@ use super::Param;
 use super::param_header::open_param;
 use super::param_type::ParamType;
 use bytes::{Bytes, BytesMut};
-use sctp_base::error::{Error, Result};
-use sctp_base::field::{put_u16, put_u32, read_u16, read_u32};
+use sctp_util::error::{Error, Result};
+use sctp_util::field::{put_u16, put_u32, read_u16, read_u32};
 use std::alloc::Global;
 use std::fmt;
 
@@ -55,7 +55,7 @@ impl fmt::Display for ParamOutgoingResetRequest {
 
 /// Reads so many stream identifiers from `at` on, two bytes each. Refuses only for memory.
 /// Precondition: they are there.
-#[tactic(auto, using(sctp_base::proofs::EachAt::each_none, sctp_base::proofs::EachAt::each_next))]
+#[tactic(auto, using(sctp_util::proofs::EachAt::each_none, sctp_util::proofs::EachAt::each_next))]
 fn read_streams(alloc: Global, value: &[u8], at: usize, count: usize) -> Result<Vec<u16>>
     requires { at + 2 * count ≤ length value.now }
     ensures ok { IfOk result (λ v. v.items ≡ each count (λ i. u16_at value.now (at + 2 * i))) }

@@ -10,8 +10,8 @@ use super::Param;
 use super::param_header::open_param;
 use super::param_type::ParamType;
 use bytes::{Bytes, BytesMut};
-use sctp_base::error::{Error, Result};
-use sctp_base::field::{put_u32, read_u32};
+use sctp_util::error::{Error, Result};
+use sctp_util::field::{put_u32, read_u32};
 use std::alloc::Global;
 use std::fmt;
 

@@ -1,8 +1,8 @@
 //! The algorithms that a sender asks its peer to authenticate chunks by (RFC 4895 3.3).
 
 ghost use Rattle.std.specs.Prelude.{◌≡◌, ◌+◌, ◌*◌, ◌/◌, ◌≤◌, ◌<◌, ◌++◌, Some, length, IfOk, IfErr};
-ghost use Rattle.sctp_base.specs.declared.error.Error.TheVariants.{ErrInvalidAlgorithmType};
-ghost use Rattle.sctp_base.specs.Outcome.{OrMemory};
+ghost use Rattle.sctp_util.specs.declared.error.Error.TheVariants.{ErrInvalidAlgorithmType};
+ghost use Rattle.sctp_util.specs.Outcome.{OrMemory};
 ghost use Rattle.std.specs.List.{flat_map};
 ghost use Rattle.sctp_params.specs.HmacAlgorithm.{algorithm_from, algorithm_name, algorithm_number, algorithm_encoding, ReadsAlgorithms};
 ghost use Rattle.sctp_params.specs.Param.{requested_hmac_algorithm};
@@ -13,8 +13,8 @@ use super::param_header::open_param;
 use super::param_type::ParamType;
 use super::{Param, write_joined};
 use bytes::{Bytes, BytesMut};
-use sctp_base::error::{Error, Result};
-use sctp_base::field::{put_u16, read_u16};
+use sctp_util::error::{Error, Result};
+use sctp_util::field::{put_u16, read_u16};
 use std::alloc::Global;
 use std::fmt;
 
@@ -90,7 +90,7 @@ impl fmt::Display for ParamRequestedHmacAlgorithm {
 }
 
 /// Reads the algorithms, two bytes each. A last odd byte is ignored.
-#[tactic(auto, using(sctp_base::proofs::EachAt::each_none, sctp_base::proofs::EachAt::each_next))]
+#[tactic(auto, using(sctp_util::proofs::EachAt::each_none, sctp_util::proofs::EachAt::each_next))]
 fn read_algorithms(alloc: Global, value: &[u8]) -> Result<Vec<HmacAlgorithm>>
     ensures found { IfOk result (λ v. ReadsAlgorithms value.now v.items) }
     ensures fault { IfErr result

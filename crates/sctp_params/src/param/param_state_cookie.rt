@@ -1,7 +1,7 @@
 //! The cookie of an INIT-ACK (RFC 4960 3.3.3.1).
 
 ghost use Rattle.std.specs.Prelude.{◌≡◌, IfOk, IsOkUnless};
-ghost use Rattle.sctp_base.specs.declared.error.Error.TheVariants.{ErrOutOfMemory};
+ghost use Rattle.sctp_util.specs.declared.error.Error.TheVariants.{ErrOutOfMemory};
 ghost use Rattle.sctp_params.specs.Param.{state_cookie};
 ghost use Rattle.sctp_params.specs.ParamKinds.{IsStateCookie};
 ghost use Rattle.sctp_params.specs.ParamFault.{ParamHeaderFault};
@@ -10,7 +10,7 @@ use super::Param;
 use super::param_header::share_param;
 use super::param_type::ParamType;
 use bytes::{Bytes, BytesMut};
-use sctp_base::error::Result;
+use sctp_util::error::Result;
 use std::alloc::Global;
 use std::fmt;
 

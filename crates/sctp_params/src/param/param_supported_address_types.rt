@@ -2,9 +2,9 @@
 
 ghost use Rattle.std.specs.Prelude.{◌≡◌, ◌+◌, ◌*◌, ◌≤◌, ◌++◌, length, IfOk, IsOkUnless};
 ghost use Rattle.std.specs.List.{flat_map};
-ghost use Rattle.sctp_base.specs.declared.error.Error.TheVariants.{ErrOutOfMemory};
-ghost use Rattle.sctp_base.specs.Field.{u16_at};
-ghost use Rattle.sctp_base.specs.Each.{each};
+ghost use Rattle.sctp_util.specs.declared.error.Error.TheVariants.{ErrOutOfMemory};
+ghost use Rattle.sctp_util.specs.Field.{u16_at};
+ghost use Rattle.sctp_util.specs.Each.{each};
 ghost use Rattle.sctp_params.specs.ParamType.{type_from};
 ghost use Rattle.sctp_params.specs.AddressTypes.{type_encoding};
 ghost use Rattle.sctp_params.specs.Param.{supported_address_types};
@@ -15,8 +15,8 @@ use super::Param;
 use super::param_header::open_param;
 use super::param_type::ParamType;
 use bytes::{Bytes, BytesMut};
-use sctp_base::error::{Error, Result};
-use sctp_base::field::{put_u16, read_u16};
+use sctp_util::error::{Error, Result};
+use sctp_util::field::{put_u16, read_u16};
 use std::alloc::Global;
 use std::fmt;
 
@@ -40,7 +40,7 @@ impl fmt::Display for ParamSupportedAddressTypes {
 
 /// Reads so many types, two bytes each. Refuses only for memory.
 /// Precondition: they are there.
-#[tactic(auto, using(sctp_base::proofs::EachAt::each_none, sctp_base::proofs::EachAt::each_next))]
+#[tactic(auto, using(sctp_util::proofs::EachAt::each_none, sctp_util::proofs::EachAt::each_next))]
 fn read_types(alloc: Global, value: &[u8], count: usize) -> Result<Vec<ParamType>>
     requires { 2 * count ≤ length value.now }
     ensures ok { IfOk result (λ v. v.items

@@ -8,8 +8,8 @@ use super::param_header::open_param;
 use super::param_type::ParamType;
 use super::{Param, put_chunk_types, read_chunk_types, write_joined};
 use bytes::{Bytes, BytesMut};
-use sctp_base::error::Result;
-use sctp_base::util::ChunkType;
+use sctp_util::error::Result;
+use sctp_util::util::ChunkType;
 use std::alloc::Global;
 use std::fmt;
 

@@ -8,7 +8,7 @@ use super::Param;
 use super::param_header::share_param;
 use super::param_type::ParamType;
 use bytes::{Bytes, BytesMut};
-use sctp_base::error::Result;
+use sctp_util::error::Result;
 use std::alloc::Global;
 use std::fmt;
 

@@ -1,17 +1,17 @@
 //! The numbers of the unordered messages that DATA chunks complete (RFC 4960 6.6).
 
 ghost use Rattle.std.specs.Prelude.{◌≡◌, ◌<◌, ◌≤◌, ◌+◌, ◌^◌, ◌&&◌, ◌∷◌, List, [], OnOk, IsOk, IsOkUnless, length, map, take};
-ghost use Rattle.sctp_base.specs.declared.error.Error.TheVariants.{ErrOutOfMemory};
+ghost use Rattle.sctp_util.specs.declared.error.Error.TheVariants.{ErrOutOfMemory};
 ghost use Rattle.sctp_data.specs.declared.chunk.chunk_payload_data.ChunkPayloadData.{ChunkPayloadData};
 ghost use Rattle.sctp_receiver.specs.Receiver.{is_answered_complete};
 ghost use Rattle.sctp_progress.specs.Progress.{standing_of, after_one, after_each};
 ghost use Rattle.sctp_progress.specs.Rooms.{HasRoom, HasCounted};
 
 use super::StreamProgress;
-use sctp_base::error::Result;
 use sctp_data::chunk::chunk_payload_data::ChunkPayloadData;
 use sctp_receiver::receiver::arrival::Arrival;
 use sctp_stream::stream_numbers::StreamNumbers;
+use sctp_util::error::Result;
 
 /// Makes room on each stream that is open for as many numbers as there are chunks of it, in a time that grows with the chunks alone.
 /// Where there is room already it takes no memory. Refuses only for memory.

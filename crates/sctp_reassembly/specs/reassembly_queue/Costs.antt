@@ -1,6 +1,6 @@
 -- What calls of a queue look at, counted in turns.
 use Rattle.std.specs.Prelude.{◌≡◌, ◌⊎◌, ℕ, ◌+◌, ◌-◌, ◌*◌, ◌^◌, ◌<◌, ◌≤◌, false, length}
-use Rattle.sctp_list_lemmas.specs.Lists.{insert_before}
+use Rattle.sctp_util.specs.Lists.{insert_before}
 use Rattle.sctp_data.specs.declared.chunk.chunk_payload_data.ChunkPayloadData.{ChunkPayloadData}
 use Rattle.sctp_reassembly.specs.reassembly_queue.Counts.{set_chunks}
 use Rattle.sctp_reassembly.specs.reassembly_queue.Fragments.{chunks_of_ssn}

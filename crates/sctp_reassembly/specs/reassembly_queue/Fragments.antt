@@ -1,8 +1,8 @@
 -- The fragments of one message, and what makes them whole (RFC 4960 3.3.1, 6.5, 6.6).
 use Rattle.std.specs.Prelude.{ℕ, remove, Bool, false, ◌&&◌, ◌==◌, not, if◌then◌else◌, Option, Some, None, List, [], ◌∷◌, ◌++◌}
 use Rattle.std.specs.List.{list_any}
-use Rattle.sctp_list_lemmas.specs.Serial.{comes_before16}
-use Rattle.sctp_list_lemmas.specs.Lists.{insert_before, change_first}
+use Rattle.sctp_util.specs.Serial.{comes_before16}
+use Rattle.sctp_util.specs.Lists.{insert_before, change_first}
 use Rattle.sctp_data.specs.declared.chunk.chunk_payload_data.ChunkPayloadData.{ChunkPayloadData}
 use Rattle.sctp_data.specs.ChunkSet.{ChunkSet}
 use Rattle.sctp_serial.specs.DataChunks.{has_tsn, chunk_before, following_tsn}

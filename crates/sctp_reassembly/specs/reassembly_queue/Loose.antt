@@ -1,7 +1,7 @@
 -- Unassembled fragments, out of which runs are taken.
 use Rattle.std.specs.Prelude.{◌≡◌, ℕ, ◌+◌, ◌++◌, Bool, true, false, List, length, max, insert, take, drop}
 use Rattle.std.specs.List.{position_or_len}
-use Rattle.sctp_list_lemmas.specs.Serial.{comes_before}
+use Rattle.sctp_util.specs.Serial.{comes_before}
 use Rattle.sctp_data.specs.declared.chunk.chunk_payload_data.ChunkPayloadData.{ChunkPayloadData}
 use Rattle.sctp_serial.specs.Runs.{IsEarliestRun, HasNoRun}
 use Rattle.sctp_serial.specs.Window.{IsSerial}

@@ -1,7 +1,7 @@
 -- Skips of ordered messages that are noted one after another, and then made at once.
 use Rattle.std.specs.Prelude.{ℕ, ◌+◌, ◌-◌, ◌^◌, Bool, ◌&&◌, not, nat_lt, Option, Some, None}
 use Rattle.std.specs.List.{filter}
-use Rattle.sctp_list_lemmas.specs.Serial.{distance16}
+use Rattle.sctp_util.specs.Serial.{distance16}
 use Rattle.sctp_data.specs.ChunkSet.{ChunkSet}
 use Rattle.sctp_reassembly.specs.declared.reassembly_queue.ordered_skips.SsnSpan.{SsnSpan}
 use Rattle.sctp_reassembly.specs.declared.reassembly_queue.ordered_skips.OrderedSkips.{OrderedSkips}

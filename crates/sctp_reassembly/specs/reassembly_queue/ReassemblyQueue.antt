@@ -2,8 +2,8 @@
 use Rattle.std.specs.Prelude.{◌≡◌, ℕ, ◌+◌, ◌-◌, ◌%◌, ◌^◌, Bool, true, false, ◌&&◌, not, ◌==◌, min, max, nat_lt, if◌then◌else◌, List, [], ◌∷◌, ◌++◌, length}
 use Rattle.std.specs.Prelude.{take, drop, Option, Some, None}
 use Rattle.std.specs.List.{list_any, sum_by, filter}
-use Rattle.sctp_list_lemmas.specs.Serial.{comes_before16, at_or_before, at_or_before16}
-use Rattle.sctp_list_lemmas.specs.Lists.{insert_before, after_leading}
+use Rattle.sctp_util.specs.Serial.{comes_before16, at_or_before, at_or_before16}
+use Rattle.sctp_util.specs.Lists.{insert_before, after_leading}
 use Rattle.sctp_data.specs.declared.chunk.chunk_payload_data.ChunkPayloadData.{ChunkPayloadData}
 use Rattle.sctp_data.specs.declared.chunk.chunk_payload_data.PayloadProtocolIdentifier.TheVariants.{Unknown}
 use Rattle.sctp_data.specs.ChunkSet.{ChunkSet}

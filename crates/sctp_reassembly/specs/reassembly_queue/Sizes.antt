@@ -1,7 +1,7 @@
 -- How long the message of a chunk would be with it.
 use Rattle.std.specs.Prelude.{ℕ, ◌+◌, not, ◌==◌, if◌then◌else◌, List, [], ◌∷◌, length, reverse}
 use Rattle.std.specs.List.{list_any}
-use Rattle.sctp_list_lemmas.specs.Lists.{after_leading}
+use Rattle.sctp_util.specs.Lists.{after_leading}
 use Rattle.sctp_data.specs.declared.chunk.chunk_payload_data.ChunkPayloadData.{ChunkPayloadData}
 use Rattle.sctp_data.specs.ChunkSet.{ChunkSet}
 use Rattle.sctp_reassembly.specs.reassembly_queue.Fragments.{chunks_of_ssn}

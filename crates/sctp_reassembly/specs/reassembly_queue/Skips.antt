@@ -1,7 +1,7 @@
 -- Skips that stop before messages whose TSNs lie past a bound.
 use Rattle.std.specs.Prelude.{ℕ, ◌+◌, ◌-◌, ◌%◌, ◌^◌, Bool, false, ◌&&◌, ◌||◌, not, ◌==◌, if◌then◌else◌, List, [], ◌∷◌, Option, Some, None, unwrap_or}
 use Rattle.std.specs.List.{list_any, list_all, filter}
-use Rattle.sctp_list_lemmas.specs.Serial.{comes_before, comes_after, at_or_before, comes_before16, comes_after16, at_or_before16}
+use Rattle.sctp_util.specs.Serial.{comes_before, comes_after, at_or_before, comes_before16, comes_after16, at_or_before16}
 use Rattle.sctp_data.specs.declared.chunk.chunk_payload_data.ChunkPayloadData.{ChunkPayloadData}
 use Rattle.sctp_data.specs.ChunkSet.{ChunkSet}
 use Rattle.sctp_reassembly.specs.reassembly_queue.Fragments.{is_complete, has_ssn}

@@ -1,6 +1,6 @@
 -- A push taken back.
 use Rattle.std.specs.Prelude.{◌≡◌, ℕ, ◌-◌, ◌^◌, ◌<◌, List, [], ◌∷◌, length, map, min, remove, slice_index_or}
-use Rattle.sctp_list_lemmas.specs.Lists.{change_at}
+use Rattle.sctp_util.specs.Lists.{change_at}
 use Rattle.sctp_data.specs.ChunkSet.{ChunkSet}
 use Rattle.sctp_data.specs.declared.chunk.chunk_payload_data.ChunkPayloadData.{ChunkPayloadData}
 use Rattle.sctp_reassembly.specs.declared.reassembly_queue.chunks.Noted.{Noted}

@@ -12,16 +12,16 @@ ghost use Rattle.sctp_serial.specs.DataChunks.{bytes_of};
 ghost use Rattle.sctp_serial.specs.Ascending.{IsAscending, IsOrder};
 ghost use Rattle.sctp_reassembly.specs.reassembly_queue.Orders.{digits, IsOffOnlyOutOfOrder};
 ghost use Rattle.sctp_reassembly.specs.reassembly_queue.Undo.{IsNotedOf};
-ghost use Rattle.sctp_base.specs.declared.error.Error.TheVariants.{ErrOutOfMemory, ErrShortBuffer};
+ghost use Rattle.sctp_util.specs.declared.error.Error.TheVariants.{ErrOutOfMemory, ErrShortBuffer};
 
 use crate::reassembly_queue::fragment::Fragment;
 use crate::reassembly_queue::fragment_places::{insertion, tsn_of};
 use bytes::{Bytes, BytesMut};
-use sctp_base::error::{Error, Result};
-use sctp_base::util::sna32lte;
 use sctp_data::chunk::chunk_payload_data::{ChunkPayloadData, PayloadProtocolIdentifier};
 use sctp_serial::serial::distance;
 use sctp_serial::turns::Turns;
+use sctp_util::error::{Error, Result};
+use sctp_util::util::sna32lte;
 use std::alloc::Global;
 use std::marker::Model;
 

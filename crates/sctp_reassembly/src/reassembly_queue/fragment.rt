@@ -1,10 +1,10 @@
 //! A fragment by itself on the heap.
 
 ghost use Rattle.std.specs.Prelude.{◌≡◌, IfOk, IfErr};
-ghost use Rattle.sctp_base.specs.declared.error.Error.TheVariants.{ErrOutOfMemory};
+ghost use Rattle.sctp_util.specs.declared.error.Error.TheVariants.{ErrOutOfMemory};
 
-use sctp_base::error::Error;
 use sctp_data::chunk::chunk_payload_data::ChunkPayloadData;
+use sctp_util::error::Error;
 use std::alloc::{AllocError, Global};
 use std::marker::Model;
 use std::ops::Deref;

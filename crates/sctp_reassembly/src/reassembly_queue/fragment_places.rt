@@ -4,17 +4,17 @@ ghost use Rattle.std.specs.Prelude.{◌≡◌, ◌+◌, ◌*◌, ◌^◌, ◌-�
 ghost use Rattle.std.specs.List.{list_any, position_or_len, insert};
 ghost use Rattle.std.specs.List.Sorted.{IsNonDecreasingBy, IsPartitionPoint};
 ghost use Rattle.sctp_data.specs.declared.chunk.chunk_payload_data.ChunkPayloadData.{ChunkPayloadData};
-ghost use Rattle.sctp_list_lemmas.specs.Serial.{comes_before, distance};
-ghost use Rattle.sctp_list_lemmas.specs.Lists.{insert_before};
+ghost use Rattle.sctp_util.specs.Serial.{comes_before, distance};
+ghost use Rattle.sctp_util.specs.Lists.{insert_before};
 ghost use Rattle.sctp_serial.specs.DataChunks.{has_tsn, chunk_before};
 ghost use Rattle.sctp_serial.specs.Ascending.{IsAscending, IsOrder, IsInsertion};
 ghost use Rattle.sctp_serial.specs.Turns.{IsWithinDigits};
 ghost use Rattle.sctp_reassembly.specs.reassembly_queue.Orders.{digits, IsOffOnlyOutOfOrder};
 
 use crate::reassembly_queue::fragment::Fragment;
-use sctp_base::util::sna32lt;
 use sctp_serial::serial::{Insertion, distance};
 use sctp_serial::turns::Turns;
+use sctp_util::util::sna32lt;
 
 // Where a fragment of this number is put in: before the first that it comes before, or at the end.
 fn insertion_place(chunks: &[Fragment], tsn: u32, turns: &mut Turns) -> usize

@@ -1,7 +1,7 @@
 //! Incomplete messages that no name of a FORWARD-TSN covers (RFC 3758 3.6).
 
 ghost use Rattle.std.specs.Prelude.{◌≡◌, ◌+◌, ◌-◌, ◌*◌, ◌%◌, ◌^◌, ◌≤◌, length, not, false, None, Some, if◌then◌else◌};
-ghost use Rattle.sctp_list_lemmas.specs.Serial.{at_or_before16};
+ghost use Rattle.sctp_util.specs.Serial.{at_or_before16};
 ghost use Rattle.std.specs.List.{list_any, filter};
 ghost use Rattle.sctp_reassembly.specs.reassembly_queue.Costs.{incomplete_skip_walk};
 ghost use Rattle.sctp_reassembly.specs.reassembly_queue.Counts.{set_chunks};

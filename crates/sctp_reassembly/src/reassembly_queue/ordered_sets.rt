@@ -3,7 +3,7 @@
 ghost use Rattle.std.specs.Prelude.{◌≡◌, ◌+◌, ◌-◌, ◌*◌, ◌^◌, ◌<◌, ◌≤◌, ◌&&◌, [], ◌∷◌, ◌++◌, length, map, min, true, false, not, option_map, MatchOption, OnOk, OnErr, IfOk, IfErr, IfSome, IfNone, Some, None};
 ghost use Rattle.std.specs.List.{list_any, position_or_len, filter, insert};
 ghost use Rattle.std.specs.List.Sorted.{IsNonDecreasingBy, IsPartitionPoint};
-ghost use Rattle.sctp_list_lemmas.specs.Serial.{comes_before16, distance};
+ghost use Rattle.sctp_util.specs.Serial.{comes_before16, distance};
 ghost use Rattle.sctp_reassembly.specs.reassembly_queue.ReassemblyQueue.{set_bytes, without_first};
 ghost use Rattle.sctp_reassembly.specs.reassembly_queue.Resets.{is_old_message, of_new_use, dropped_bytes};
 ghost use Rattle.sctp_reassembly.specs.reassembly_queue.Skips.{is_discarded};
@@ -16,16 +16,16 @@ ghost use Rattle.sctp_serial.specs.Ascending.{IsAscending, IsOrder, IsInsertion,
 ghost use Rattle.sctp_serial.specs.Turns.{IsWithinDigits};
 ghost use Rattle.sctp_data.specs.ChunkSet.{ChunkSet};
 ghost use Rattle.sctp_reassembly.specs.reassembly_queue.Orders.{digits, IsOffOnlyOutOfOrder, IsOrderly};
-ghost use Rattle.sctp_base.specs.declared.error.Error.TheVariants.{ErrOutOfMemory};
+ghost use Rattle.sctp_util.specs.declared.error.Error.TheVariants.{ErrOutOfMemory};
 
 use crate::reassembly_queue::chunks::{Fragments, Noted};
 use crate::reassembly_queue::counted_sets::CountedSets;
 use crate::reassembly_queue::fragment::Fragment;
 use crate::reassembly_queue::ordered_skips::SsnSpan;
-use sctp_base::error::Result;
-use sctp_base::util::sna16lt;
 use sctp_serial::serial::{Insertion, distance, upper_half};
 use sctp_serial::turns::Turns;
+use sctp_util::error::Result;
+use sctp_util::util::sna16lt;
 use std::alloc::Global;
 use std::collections::VecDeque;
 use std::marker::Model;

@@ -1,7 +1,7 @@
 //! Skips of ordered messages that are noted one after another, and then made at once.
 
 ghost use Rattle.std.specs.Prelude.{◌≡◌, ℕ, ◌+◌, ◌*◌, ◌≤◌, ◌||◌, Some, length};
-ghost use Rattle.sctp_list_lemmas.specs.Serial.{at_or_before16};
+ghost use Rattle.sctp_util.specs.Serial.{at_or_before16};
 ghost use Rattle.sctp_reassembly.specs.reassembly_queue.Costs.{ordered_skip_walk};
 ghost use Rattle.sctp_reassembly.specs.reassembly_queue.Orders.{IsOrderly};
 ghost use Rattle.sctp_reassembly.specs.reassembly_queue.OrderedSkips.{is_in, after_noted_skips, after_noted};
@@ -26,7 +26,7 @@ impl SsnSpan {
     }
 
     /// Whether a number is in it.
-    #[tactic(auto, unfolding(sctp_list_lemmas::specs::Serial::distance16))]
+    #[tactic(auto, unfolding(sctp_util::specs::Serial::distance16))]
     pub(crate) fn holds(self, ssn: u16) -> bool
         ensures { result ≡ is_in self ssn }
     {

@@ -6,7 +6,7 @@ ghost use Rattle.sctp_reassembly.specs.reassembly_queue.Costs.{IsAtEnd};
 ghost use Rattle.sctp_serial.specs.DataChunks.{bytes_of};
 ghost use Rattle.sctp_serial.specs.Runs.{HasNoRun, IsEarliestRun, IsStretch};
 ghost use Rattle.sctp_serial.specs.Window.{IsSerial};
-ghost use Rattle.sctp_base.specs.declared.error.Error.TheVariants.{ErrOutOfMemory};
+ghost use Rattle.sctp_util.specs.declared.error.Error.TheVariants.{ErrOutOfMemory};
 ghost use Rattle.sctp_reassembly.specs.reassembly_queue.Loose.{IsRunTaken, IsFlag, with_chunks};
 
 pub(crate) mod undo;
@@ -14,8 +14,8 @@ pub(crate) mod undo;
 use crate::reassembly_queue::fragment::Fragment;
 use crate::reassembly_queue::outward::run_outward;
 use crate::reassembly_queue::unassembled::{Loose, find_run};
-use sctp_base::error::Error;
 use sctp_serial::turns::Turns;
+use sctp_util::error::Error;
 use std::alloc::{AllocError, Global};
 use std::marker::Model;
 

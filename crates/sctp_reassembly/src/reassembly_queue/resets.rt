@@ -3,14 +3,14 @@
 ghost use Rattle.std.specs.Prelude.{◌≡◌, ◌+◌, ◌-◌, ◌^◌, ◌<◌, ◌≤◌, ◌&&◌, [], ◌∷◌, ◌++◌, length, min, true, false, OnOk, OnErr, IfErr, IsOk};
 ghost use Rattle.std.specs.List.{list_any, list_all, filter};
 ghost use Rattle.std.specs.VecDeque.{deque_len, deque_capacity};
-ghost use Rattle.sctp_base.specs.declared.error.Error.TheVariants.{ErrOutOfMemory};
+ghost use Rattle.sctp_util.specs.declared.error.Error.TheVariants.{ErrOutOfMemory};
 ghost use Rattle.sctp_reassembly.specs.reassembly_queue.Resets.{is_old_message, of_new_use, dropped_bytes, after_reset};
 
 use crate::reassembly_queue::ReassemblyQueue;
 use crate::reassembly_queue::chunks::Fragments;
 use crate::reassembly_queue::counted_sets::CountedSets;
 use crate::reassembly_queue::skips::lies_upto;
-use sctp_base::error::Result;
+use sctp_util::error::Result;
 use std::collections::VecDeque;
 
 impl ReassemblyQueue {

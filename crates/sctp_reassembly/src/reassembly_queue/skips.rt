@@ -2,7 +2,7 @@
 
 ghost use Rattle.std.specs.Prelude.{◌≡◌, ◌==◌, ◌+◌, ◌-◌, ◌*◌, ◌%◌, ◌^◌, ◌≤◌, ◌&&◌, ◌||◌, length, min, not, None, if◌then◌else◌};
 ghost use Rattle.std.specs.List.{All, list_any, list_all, filter};
-ghost use Rattle.sctp_list_lemmas.specs.Serial.{comes_before16, at_or_before, comes_after};
+ghost use Rattle.sctp_util.specs.Serial.{comes_before16, at_or_before, comes_after};
 ghost use Rattle.sctp_reassembly.specs.reassembly_queue.Counts.{set_chunks};
 ghost use Rattle.sctp_reassembly.specs.reassembly_queue.Fragments.{has_ssn};
 ghost use Rattle.sctp_reassembly.specs.reassembly_queue.Orders.{IsInOrder};
@@ -12,8 +12,8 @@ ghost use Rattle.sctp_reassembly.specs.reassembly_queue.Skips.{misses, misses_be
 use crate::reassembly_queue::chunks::Fragments;
 use crate::reassembly_queue::fragment::Fragment;
 use crate::reassembly_queue::ordered_skips::SsnSpan;
-use sctp_base::util::{sna16gt, sna16lt, sna16lte, sna32gt, sna32lt, sna32lte};
 use sctp_serial::turns::Turns;
+use sctp_util::util::{sna16gt, sna16lt, sna16lte, sna32gt, sna32lt, sna32lte};
 use std::collections::VecDeque;
 
 // Whether a TSN at or before the given one is missing in a set.

@@ -3,9 +3,9 @@
 ghost use Rattle.std.specs.Prelude.{◌≡◌, ℕ, ◌==◌, ◌+◌, ◌-◌, ◌^◌, ◌<◌, ◌≤◌, ◌*◌, ◌&&◌, [], ◌∷◌, length, vec_capacity, min, slice_index_or, insert, remove, take, drop, ◌++◌, OnOk, OnErr, IfOk, IfErr, IfSome, IfNone, Some, None, true, false, IsTrue, not, if◌then◌else◌};
 ghost use Rattle.std.specs.VecDeque.{deque_capacity};
 ghost use Rattle.sctp_serial.specs.Runs.{IsEarliestRunAround, HasNoRunAround, IsStretch, IsEarliestRun, HasNoRun};
-ghost use Rattle.sctp_base.specs.declared.error.Error.TheVariants.{ErrOutOfMemory};
+ghost use Rattle.sctp_util.specs.declared.error.Error.TheVariants.{ErrOutOfMemory};
 ghost use Rattle.sctp_data.specs.declared.chunk.chunk_payload_data.ChunkPayloadData.{ChunkPayloadData};
-ghost use Rattle.sctp_list_lemmas.specs.Serial.{comes_before};
+ghost use Rattle.sctp_util.specs.Serial.{comes_before};
 ghost use Rattle.sctp_reassembly.specs.reassembly_queue.Around.{IsStart, HasNoStart, IsEnd, IsFirstEnding, HasNoEnd};
 ghost use Rattle.sctp_serial.specs.DataChunks.{bytes_of, following_tsn};
 ghost use Rattle.sctp_reassembly.specs.reassembly_queue.Loose.{IsOrderFlag};
@@ -13,10 +13,10 @@ ghost use Rattle.sctp_reassembly.specs.reassembly_queue.PoolUndo.{put_back};
 ghost use Rattle.sctp_serial.specs.Window.{IsSerial};
 
 use crate::reassembly_queue::fragment::Fragment;
-use sctp_base::error::Error;
-use sctp_base::util::sna32lt;
 use sctp_data::chunk::chunk_payload_data::ChunkPayloadData;
 use sctp_serial::turns::Turns;
+use sctp_util::error::Error;
+use sctp_util::util::sna32lt;
 use std::alloc::{AllocError, Global};
 use std::collections::VecDeque;
 use std::marker::Model;

@@ -4,7 +4,7 @@
 ghost use Rattle.std.specs.Prelude.{◌≡◌, ℕ, ◌==◌, ◌+◌, ◌-◌, ◌^◌, ◌<◌, ◌≤◌, ◌≢◌, [], length, take, drop, reverse, slice_index_or, true, false, not, IfSome, IfNone};
 ghost use Rattle.std.specs.List.{position_or_len};
 ghost use Rattle.sctp_data.specs.declared.chunk.chunk_payload_data.ChunkPayloadData.{ChunkPayloadData};
-ghost use Rattle.sctp_list_lemmas.specs.Serial.{comes_before, at_or_before};
+ghost use Rattle.sctp_util.specs.Serial.{comes_before, at_or_before};
 ghost use Rattle.sctp_reassembly.specs.reassembly_queue.Loose.{place_among};
 ghost use Rattle.sctp_reassembly.specs.reassembly_queue.Sizes.{back_from, on_from};
 ghost use Rattle.sctp_serial.specs.Turns.{IsWithinDigits};
@@ -12,8 +12,8 @@ ghost use Rattle.sctp_serial.specs.Window.{IsSerial};
 ghost use Rattle.sctp_serial.specs.DataChunks.{following_tsn, preceding_tsn};
 
 use crate::reassembly_queue::unassembled::Loose;
-use sctp_base::util::{sna32lt, sna32lte};
 use sctp_serial::turns::Turns;
+use sctp_util::util::{sna32lt, sna32lte};
 
 /// Where a fragment of this number is put in: before the first that it comes before, or at the end.
 ///

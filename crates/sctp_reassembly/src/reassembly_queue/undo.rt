@@ -6,14 +6,14 @@ ghost use Rattle.sctp_reassembly.specs.reassembly_queue.PoolUndo.{CanUndoPut, po
 ghost use Rattle.sctp_reassembly.specs.reassembly_queue.Undo.{undone, CanUndo, CanUndoMessage, last_chunks, unassembled_of, with_unassembled, without_last};
 ghost use Rattle.sctp_reassembly.specs.reassembly_queue.Costs.{ordered_push_looks, ordered_push_walk, FitsInOrder, Joins, JoinsAtEnd, unordered_push_looks, unordered_push_walk};
 ghost use Rattle.sctp_reassembly.specs.reassembly_queue.Orders.{digits, IsOrderly};
-ghost use Rattle.sctp_base.specs.declared.error.Error.TheVariants.{ErrOutOfMemory, ErrInboundPacketTooLarge};
+ghost use Rattle.sctp_util.specs.declared.error.Error.TheVariants.{ErrOutOfMemory, ErrInboundPacketTooLarge};
 
 use crate::reassembly_queue::ReassemblyQueue;
 use crate::reassembly_queue::ordered_sets::OrderedUndo;
 use crate::reassembly_queue::pool::undo::PoolUndo;
-use sctp_base::error::{Error, Result};
 use sctp_data::chunk::chunk_payload_data::ChunkPayloadData;
 use sctp_serial::turns::Turns;
+use sctp_util::error::{Error, Result};
 
 /// What `push_undoable` did, so that `undo_push` can take it back.
 #[derive(Drop)]

@@ -2,7 +2,7 @@
 
 ghost use Rattle.std.specs.Prelude.{◌≡◌, ◌==◌, ◌<◌, ◌≤◌, ◌+◌, ◌-◌, ◌^◌, ◌++◌, ◌∷◌, ◌⊎◌, [], not, true, false, Some, None, OnOk, OnErr, IfOk, IfErr, IsOk, MatchOption, length, map, find, option_map, option_copied, if◌then◌else◌};
 ghost use Rattle.std.specs.List.{filter, sum_by};
-ghost use Rattle.sctp_list_lemmas.specs.Lists.{change_where};
+ghost use Rattle.sctp_util.specs.Lists.{change_where};
 ghost use Rattle.sctp_receiver.specs.declared.receiver.refusal.ReceiverRefusal.TheVariants.{MessageTooLarge, OutOfMemory};
 ghost use Rattle.sctp_stream.specs.Numbers.{IsOnlyPlace, IsAbsent};
 ghost use Rattle.sctp_reassembly.specs.reassembly_queue.ReassemblyQueue.{is_too_large};
@@ -48,7 +48,7 @@ impl InboundStream {
     ghost use Rattle.sctp_receiver.specs.Inbound.{new_stream, Pushes, stream_read};
 
     /// A stream on which nothing came. It takes no memory.
-    pub fn new(alloc: Global, stream: u16, max_message_size: u32) -> Self
+    pub(crate) fn new(alloc: Global, stream: u16, max_message_size: u32) -> Self
         ensures { result ≡ new_stream stream max_message_size }
     {
         InboundStream {
@@ -65,7 +65,7 @@ impl InboundStream {
     }
 
     /// An equal stream, which shares its bytes. Refuses only for memory.
-    pub fn try_clone(&self, alloc: Global) -> Result<Self, ReceiverRefusal>
+    pub(crate) fn try_clone(&self, alloc: Global) -> Result<Self, ReceiverRefusal>
         ensures ok { IfOk result (λ stream. stream ≡ self.now) }
         ensures memory { IfErr result (λ e. e ≡ OutOfMemory) }
     {
@@ -75,30 +75,8 @@ impl InboundStream {
         })
     }
 
-    /// Takes a fragment, and answers whether a message became complete by it, and what `undo_push` takes it back by. Refuses with
-    /// `MessageTooLarge`, exactly where its message would be longer with it than a message may be, or for memory. The stream is as it
-    /// was then.
-    /// Precondition: the fragment is of this stream.
-    pub fn push_undoable(
-        &mut self,
-        chunk: &ChunkPayloadData,
-    ) -> Result<(bool, PushUndo), ReceiverRefusal>
-        requires { (chunk.now.stream_identifier == self.old.queue.si) ≡ true }
-        ensures ok { IfOk result (λ put.
-            Pushes chunk.now put.0 self.old.queue self.new.queue) }
-        ensures undo { IfOk result (λ put. stream_undone put.1 self.new ≡ self.old) }
-        ensures can { IfOk result (λ put. CanUndo put.1 self.new.queue) }
-        ensures rest { self.new ≡ record self.old { queue = self.new.queue } }
-        ensures fits { IsOk result → is_too_large chunk.now self.old.queue ≡ false }
-        ensures refused { IfErr result (λ e.
-            e ≡ (if is_too_large chunk.now self.old.queue then MessageTooLarge else OutOfMemory)) }
-        ensures err { OnErr result (self.new ≡ self.old) }
-    {
-        self.push_undoable_counted(chunk, &mut Turns::new())
-    }
-
     /// The same, and its turns are added: those of a push in its queue.
-    pub fn push_undoable_counted(
+    pub(crate) fn push_undoable_counted(
         &mut self,
         chunk: &ChunkPayloadData,
         turns: &mut Turns,
@@ -122,17 +100,8 @@ impl InboundStream {
         Ok(self.queue.push_undoable_counted(fragment, turns)?)
     }
 
-    /// Takes a fragment back by what `push_undoable` answered. It takes no memory.
-    /// Precondition: the stream is as that left it (`CanUndo`).
-    pub fn undo_push(&mut self, undo: PushUndo)
-        requires { CanUndo undo self.old.queue }
-        ensures { self.new ≡ stream_undone undo self.old }
-    {
-        self.undo_push_counted(undo, &mut Turns::new());
-    }
-
     /// The same, and its turns are added: one for each fragment of an unordered message that it completed.
-    pub fn undo_push_counted(&mut self, undo: PushUndo, turns: &mut Turns)
+    pub(crate) fn undo_push_counted(&mut self, undo: PushUndo, turns: &mut Turns)
         requires { CanUndo undo self.old.queue }
         ensures value { self.new ≡ stream_undone undo self.old }
         ensures not_back { turns.old ≤ turns.new }
@@ -143,7 +112,7 @@ impl InboundStream {
     }
 
     /// Takes the next message out, where there is one, and counts it. It takes no memory.
-    pub fn read(&mut self) -> Option<Chunks>
+    pub(crate) fn read(&mut self) -> Option<Chunks>
         ensures message { result ≡ option_map at_start (message_read self.old.queue.held) }
         ensures rest { self.new ≡ stream_read self.old }
     {
@@ -154,7 +123,7 @@ impl InboundStream {
 
     /// Resets the stream, whose old use ends with the TSN (RFC 6525 5.2.2). Its counters stay. Refuses only for memory, and only where
     /// a complete ordered message is to be kept; the stream is as it was then.
-    pub fn reset(&mut self, last_tsn: u32) -> Result<(), ReceiverRefusal>
+    pub(crate) fn reset(&mut self, last_tsn: u32) -> Result<(), ReceiverRefusal>
         ensures ok { OnOk result (self.new ≡ stream_reset last_tsn self.old) }
         ensures wants { OnErr result (keeps_message last_tsn (Some self.old) ≡ true) }
         ensures err { OnErr result (self.new ≡ self.old) }
@@ -206,7 +175,7 @@ impl InboundStreams {
     ghost use Rattle.sctp_receiver.specs.Receiver.{message_of, stream_refusal, IsRefusedFor};
 
     /// No streams. It takes no memory.
-    pub fn new(alloc: Global) -> Self
+    pub(crate) fn new(alloc: Global) -> Self
         ensures { result ≡ [] }
     {
         InboundStreams {
@@ -219,14 +188,14 @@ impl InboundStreams {
     }
 
     /// What they hold counts for, up to the greatest usize.
-    pub fn held_bytes(&self) -> usize
+    pub(crate) fn held_bytes(&self) -> usize
         ensures { result ≡ held_cost self.now }
     {
         self.cost.min(usize::MAX as u128) as usize
     }
 
     /// The place of the stream with a number, None where it is not open.
-    pub fn place_of(&self, stream: u16) -> Option<usize>
+    pub(crate) fn place_of(&self, stream: u16) -> Option<usize>
         ensures { MatchOption result
             (IsAbsent stream (numbers_of self.now)) (IsOnlyPlace stream (numbers_of self.now)) }
     {
@@ -234,7 +203,7 @@ impl InboundStreams {
     }
 
     /// The stream with a number, None where it is not open.
-    pub fn find(&self, stream: u16) -> Option<&InboundStream>
+    pub(crate) fn find(&self, stream: u16) -> Option<&InboundStream>
         ensures { option_copied result ≡ find (has_number stream) self.now }
     {
         let Some(place) = self.numbers.place_of(stream) else {
@@ -244,14 +213,14 @@ impl InboundStreams {
     }
 
     /// The streams, lent.
-    pub fn as_slice(&self) -> &[InboundStream]
+    pub(crate) fn as_slice(&self) -> &[InboundStream]
         ensures { result.now ≡ self.now }
     {
         &self.items
     }
 
     /// The numbers of the streams with a message to read, in their order. Refuses only for memory.
-    pub fn readable(&self, alloc: Global) -> Result<Vec<u16>, ReceiverRefusal>
+    pub(crate) fn readable(&self, alloc: Global) -> Result<Vec<u16>, ReceiverRefusal>
         ensures ok { IfOk result (λ numbers. numbers.items ≡ readable_streams self.now) }
         ensures memory { IfErr result (λ e. e ≡ OutOfMemory) }
     {
@@ -260,7 +229,7 @@ impl InboundStreams {
 
     /// Opens a stream. Refuses only for memory, and the streams are as they were then.
     /// Precondition: it is not open.
-    pub fn open(
+    pub(crate) fn open(
         &mut self,
         alloc: Global,
         stream: u16,
@@ -283,7 +252,7 @@ impl InboundStreams {
     }
 
     /// Closes a stream, where it is open: what came on it and was not read is dropped. It takes no memory.
-    pub fn close(&mut self, stream: u16)
+    pub(crate) fn close(&mut self, stream: u16)
         ensures { self.new ≡ filter (λ l. not (has_number stream l)) self.old }
     {
         let Some(place) = self.numbers.place_of(stream) else {
@@ -295,32 +264,8 @@ impl InboundStreams {
         visit_all(&mut self.visits, &self.items);
     }
 
-    /// Takes a fragment on the stream at a place, and answers whether a message became complete by it, and what `undo_push_at` takes it
-    /// back by. Refuses with `MessageTooLarge`, exactly where its message would be longer with it than a message may be, or for memory.
-    /// The streams are as they were then.
-    /// Precondition: the fragment is of that stream.
-    pub fn push_undoable_at(
-        &mut self,
-        place: usize,
-        chunk: &ChunkPayloadData,
-    ) -> Result<(bool, PushUndo), ReceiverRefusal>
-        requires { IsOnlyPlace chunk.now.stream_identifier (numbers_of self.old) place }
-        ensures ok { IfOk result (λ put. PushesOn chunk.now put.0 self.old self.new) }
-        ensures undo { IfOk result (λ put.
-            undone_on chunk.now.stream_identifier put.1 self.new ≡ self.old) }
-        ensures can { IfOk result (λ put.
-            CanUndoOn chunk.now.stream_identifier place put.1 self.new) }
-        ensures fits { IsOk result → stream_refusal chunk.now
-            (find (has_number chunk.now.stream_identifier) self.old) ≡ None }
-        ensures refused { IfErr result (λ e. IsRefusedFor
-            (stream_refusal chunk.now (find (has_number chunk.now.stream_identifier) self.old)) e) }
-        ensures err { OnErr result (self.new ≡ self.old) }
-    {
-        self.push_undoable_at_counted(place, chunk, &mut Turns::new())
-    }
-
     /// The same, and its turns are added: those of a push in the queue of that stream.
-    pub fn push_undoable_at_counted(
+    pub(crate) fn push_undoable_at_counted(
         &mut self,
         place: usize,
         chunk: &ChunkPayloadData,
@@ -351,7 +296,7 @@ impl InboundStreams {
 
     /// Takes a fragment of a stream back by what `push_undoable_at` answered. It takes no memory.
     /// Precondition: the streams are as that left them (`CanUndoOn`), so that the stream stands at the place.
-    pub fn undo_push_at(&mut self, place: usize, stream: u16, undo: PushUndo)
+    pub(crate) fn undo_push_at(&mut self, place: usize, stream: u16, undo: PushUndo)
         requires { CanUndoOn stream place undo self.old }
         ensures { self.new ≡ undone_on stream undo self.old }
     {
@@ -359,7 +304,7 @@ impl InboundStreams {
     }
 
     /// The same, and its turns are added: one for each fragment of an unordered message that it completed.
-    pub fn undo_push_at_counted(
+    pub(crate) fn undo_push_at_counted(
         &mut self,
         place: usize,
         stream: u16,
@@ -382,7 +327,7 @@ impl InboundStreams {
 
     /// Takes the next message of a stream out, where there is one. It takes no memory.
     /// Precondition: that stream stands at the place.
-    pub fn read_at(&mut self, place: usize, stream: u16) -> Option<Chunks>
+    pub(crate) fn read_at(&mut self, place: usize, stream: u16) -> Option<Chunks>
         requires { IsOnlyPlace stream (numbers_of self.old) place }
         ensures message { result
             ≡ option_map at_start (message_of (find (has_number stream) self.old)) }
@@ -400,7 +345,7 @@ impl InboundStreams {
     /// Resets a stream, whose old use ends with the TSN (RFC 6525 5.2.2). Refuses only for memory, and only where a complete ordered
     /// message is to be kept; the streams are as they were then.
     /// Precondition: that stream stands at the place.
-    pub fn reset_at(
+    pub(crate) fn reset_at(
         &mut self,
         place: usize,
         stream: u16,
@@ -424,7 +369,7 @@ impl InboundStreams {
     }
 
     /// An equal copy of each stream, in their order. Refuses only for memory.
-    pub fn save(&self, alloc: Global) -> Result<Vec<InboundStream>, ReceiverRefusal>
+    pub(crate) fn save(&self, alloc: Global) -> Result<Vec<InboundStream>, ReceiverRefusal>
         ensures ok { IfOk result (λ saved. saved.items ≡ self.now) }
         ensures memory { IfErr result (λ e. e ≡ OutOfMemory) }
     {
@@ -433,7 +378,7 @@ impl InboundStreams {
 
     /// Puts streams in the place of those that are there. It takes no memory.
     /// Precondition: they have the same numbers, in the same order.
-    pub fn put_back(&mut self, saved: Vec<InboundStream>)
+    pub(crate) fn put_back(&mut self, saved: Vec<InboundStream>)
         requires { numbers_of saved.items ≡ numbers_of self.old }
         ensures { self.new ≡ saved.items }
     {
@@ -445,7 +390,7 @@ impl InboundStreams {
     /// Discards what a FORWARD-TSN names, one name after another (RFC 3758 3.6); what it names on a stream that is not open is passed over.
     /// A turn is taken for each name. What it looks at within streams is added to `skips`: one turn for each name, and for each stream
     /// that is named, however often, five for each ordered message and two for each of their fragments, at most. It takes no memory.
-    pub fn forward_named_counted(
+    pub(crate) fn forward_named_counted(
         &mut self,
         names: &[ChunkForwardTsnStream],
         turns: &mut Turns,
@@ -471,7 +416,7 @@ impl InboundStreams {
     /// Discards the unassembled fragments of all streams up to a TSN (RFC 3758 3.6). Its turns are added: at most one for each stream that
     /// has unassembled fragments or ordered messages. What it looks at within these streams is added to `skips`: six turns for each
     /// unassembled fragment at most, and one more for each stream. It takes no memory.
-    pub fn forward_unordered_skips_counted(
+    pub(crate) fn forward_unordered_skips_counted(
         &mut self,
         tsn: u32,
         turns: &mut Turns,
@@ -489,7 +434,7 @@ impl InboundStreams {
     /// Discards the incomplete ordered messages of all streams that miss a TSN at or before the given one (RFC 3758 3.6). Its turns are
     /// added: at most one for each stream that has unassembled fragments or ordered messages. What it looks at within these streams is
     /// added to `skips`: nine turns for each ordered message at most, and four for each of their fragments. It takes no memory.
-    pub fn forward_incomplete_skips_counted(
+    pub(crate) fn forward_incomplete_skips_counted(
         &mut self,
         tsn: u32,
         turns: &mut Turns,

@@ -9,9 +9,9 @@ use crate::receiver::Receiver;
 use crate::receiver::inbound_streams::{InboundStream, InboundStreams};
 use crate::receiver::refusal::ReceiverRefusal;
 use crate::receiver::tsn_filter::TsnFilter;
-use sctp_base::util::sna32lt;
 use sctp_reassembly::reassembly_queue::ReassemblyQueue;
 use sctp_serial::serial::distance;
+use sctp_util::util::sna32lt;
 
 /// What a chunk that is held counts for, beside its bytes: no less than it takes on the heap.
 pub const CHUNK_COST: usize = 200;

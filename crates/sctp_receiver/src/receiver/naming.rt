@@ -3,8 +3,8 @@
 
 ghost use Rattle.std.specs.Prelude.{◌≡◌, ◌<◌, ◌≤◌, ◌+◌, ◌⊎◌, ℕ, Some, None, MatchOption, IsOkUnless, OnOk, length, slice_get, slice_set, slice_index_or};
 ghost use Rattle.std.specs.List.{sum_by};
-ghost use Rattle.sctp_base.specs.declared.error.Error.TheVariants.{ErrOutOfMemory};
-ghost use Rattle.sctp_list_lemmas.specs.Lists.{change_where};
+ghost use Rattle.sctp_util.specs.declared.error.Error.TheVariants.{ErrOutOfMemory};
+ghost use Rattle.sctp_util.specs.Lists.{change_where};
 ghost use Rattle.sctp_reassembly.specs.declared.reassembly_queue.ordered_skips.OrderedSkips.{OrderedSkips};
 ghost use Rattle.sctp_reassembly.specs.reassembly_queue.Costs.{ordered_skip_walk};
 ghost use Rattle.sctp_receiver.specs.declared.receiver.inbound_streams.InboundStream.{InboundStream};
@@ -19,11 +19,11 @@ use crate::receiver::inbound_streams::{InboundStream, moved};
 use crate::receiver::limits::cost_of;
 use crate::receiver::visiting::renew;
 use crate::receiver::visits::Visits;
-use sctp_base::error::Result;
 use sctp_data::chunk::chunk_forward_tsn::ChunkForwardTsnStream;
 use sctp_reassembly::ordered_skips::OrderedSkips;
 use sctp_serial::turns::Turns;
 use sctp_stream::stream_numbers::StreamNumbers;
+use sctp_util::error::Result;
 
 /// Makes room for the notes of one stream more. Refuses only for memory.
 /// Precondition: there is room for those of so many streams, and nothing is noted.

@@ -1,6 +1,6 @@
 //! Why a receiver refuses.
 
-use sctp_base::error::Error;
+use sctp_util::error::Error;
 
 /// Why a call of a receiver changed nothing.
 #[derive(Clone, Copy, Debug, PartialEq, Eq)]

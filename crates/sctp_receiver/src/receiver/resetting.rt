@@ -5,7 +5,7 @@ ghost use Rattle.sctp_receiver.specs.declared.receiver.refusal.ReceiverRefusal.T
 
 use crate::receiver::Receiver;
 use crate::receiver::refusal::ReceiverRefusal;
-use sctp_base::util::sna32lt;
+use sctp_util::util::sna32lt;
 
 impl Receiver {
     ghost use Rattle.sctp_receiver.specs.Receiver.{IsRefusedFor};

@@ -107,17 +107,6 @@ impl Receiver {
         Ok(sack)
     }
 
-    /// The SACK that `sack` makes, and nothing is forgotten: while it is not sent, the next one reports
-    /// the same duplicates again. Refuses only for memory.
-    pub fn make_sack(&self) -> Result<ChunkSelectiveAck, ReceiverRefusal>
-        ensures sack { IfOk result (λ s. sack_of s ≡ sack (window self.now) self.now) }
-        ensures fits { IfOk result (λ s.
-            length s.gap_ack_blocks.items + length s.duplicate_tsn.items ≤ 16379) }
-        ensures memory { IfErr result (λ e. e ≡ OutOfMemory) }
-    {
-        self.make_sack_with(self.window())
-    }
-
     /// The SACK that `make_sack` makes, with another credit.
     pub fn make_sack_with(&self, credit: u32) -> Result<ChunkSelectiveAck, ReceiverRefusal>
         ensures sack { IfOk result (λ s. sack_of s ≡ sack credit self.now) }

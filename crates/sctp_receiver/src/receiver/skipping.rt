@@ -43,34 +43,7 @@ impl Receiver {
             (after_forward (forward_tsn_of chunk.now) self.old).streams ≡ false
             → OnOk result (self.new ≡ after_forward (forward_tsn_of chunk.now) self.old) }
     {
-        self.forward_tsn_counted(chunk, &mut Turns::new())
-    }
-
-    /// The same, and its turns are added: at most one for each name, two for each stream that has unassembled fragments or ordered
-    /// messages that were not read, one for each TSN beyond that leaves, and one more. What the tests of the refusals, the names and a
-    /// visit look at in a stream takes no turn.
-    pub fn forward_tsn_counted(
-        &mut self,
-        chunk: &ChunkForwardTsn,
-        turns: &mut Turns,
-    ) -> Result<Forwarded, ReceiverRefusal>
-        ensures answer { IfOk result (λ forwarded. forwarded
-            ≡ forwarded_of (forward_tsn_of chunk.now) self.old) }
-        ensures ok { OnOk result (self.new
-            ≡ after_forward_tsn (forward_tsn_of chunk.now) self.old) }
-        ensures accepted { IsOk result
-            → skip_refusal (forward_tsn_of chunk.now) self.old ≡ None }
-        ensures refused { IfErr result (λ e. skip_refusal (forward_tsn_of chunk.now) self.old
-            ≡ Some e) }
-        ensures err { OnErr result (self.new ≡ self.old) }
-        ensures agrees { has_incomplete chunk.now.new_cumulative_tsn
-            (after_forward (forward_tsn_of chunk.now) self.old).streams ≡ false
-            → OnOk result (self.new ≡ after_forward (forward_tsn_of chunk.now) self.old) }
-        ensures not_back { turns.old ≤ turns.new }
-        ensures cost { turns.new
-            ≤ turns.old + forward_turns (forward_tsn_of chunk.now) self.old self.new }
-    {
-        self.forward_tsn_skips_counted(chunk, turns, &mut Turns::new())
+        self.forward_tsn_skips_counted(chunk, &mut Turns::new(), &mut Turns::new())
     }
 
     /// The same, and what it looks at within streams is added to `skips` (`skips_walk`): two turns for each name, one of them for the test
@@ -129,32 +102,7 @@ impl Receiver {
             (after_forward (forward_tsn_of chunk.now) self.old).streams ≡ false
             → OnOk result (self.new ≡ after_forward (forward_tsn_of chunk.now) self.old) }
     {
-        self.forward_tsn_past_closed_counted(chunk, &mut Turns::new())
-    }
-
-    /// The same, and its turns are added as `forward_tsn_counted` adds them.
-    pub fn forward_tsn_past_closed_counted(
-        &mut self,
-        chunk: &ChunkForwardTsn,
-        turns: &mut Turns,
-    ) -> Result<Forwarded, ReceiverRefusal>
-        ensures answer { IfOk result (λ forwarded. forwarded
-            ≡ forwarded_of (forward_tsn_of chunk.now) self.old) }
-        ensures ok { OnOk result (self.new
-            ≡ after_forward_tsn (forward_tsn_of chunk.now) self.old) }
-        ensures accepted { IsOk result
-            → past_closed_refusal (forward_tsn_of chunk.now) self.old ≡ None }
-        ensures refused { IfErr result
-            (λ e. past_closed_refusal (forward_tsn_of chunk.now) self.old ≡ Some e) }
-        ensures err { OnErr result (self.new ≡ self.old) }
-        ensures agrees { has_incomplete chunk.now.new_cumulative_tsn
-            (after_forward (forward_tsn_of chunk.now) self.old).streams ≡ false
-            → OnOk result (self.new ≡ after_forward (forward_tsn_of chunk.now) self.old) }
-        ensures not_back { turns.old ≤ turns.new }
-        ensures cost { turns.new
-            ≤ turns.old + forward_turns (forward_tsn_of chunk.now) self.old self.new }
-    {
-        self.forward_tsn_past_closed_skips_counted(chunk, turns, &mut Turns::new())
+        self.forward_tsn_past_closed_skips_counted(chunk, &mut Turns::new(), &mut Turns::new())
     }
 
     /// The same, and its looks within streams are added to `skips` as `forward_tsn_skips_counted` adds them.

@@ -3,7 +3,7 @@
 ghost use Rattle.std.specs.Prelude.{◌≡◌, ◌<◌, ◌≤◌, ◌+◌, ◌^◌, true, false, find, length, not, ◌&&◌};
 ghost use Rattle.std.specs.List.{list_any};
 ghost use Rattle.sctp_data.specs.ForwardTsn.{forward_tsn_of};
-ghost use Rattle.sctp_list_lemmas.specs.Serial.{comes_before, distance16};
+ghost use Rattle.sctp_util.specs.Serial.{comes_before, distance16};
 ghost use Rattle.sctp_reassembly.specs.reassembly_queue.Orders.{digits};
 ghost use Rattle.sctp_receiver.specs.Inbound.{has_number};
 ghost use Rattle.sctp_receiver.specs.Ssns.{lowest_ssn, is_lowest_complete, is_ssn_too_far, is_kept_or_passed, is_name_too_far, is_too_far_on, is_kept_on};
@@ -12,11 +12,11 @@ ghost use Rattle.sctp_receiver.specs.TsnFilter.{has_come};
 use crate::receiver::Receiver;
 use crate::receiver::inbound_streams::InboundStreams;
 use crate::receiver::tsn_filter::TsnFilter;
-use sctp_base::util::{sna16lte, sna32lt};
 use sctp_data::chunk::chunk_forward_tsn::{ChunkForwardTsn, ChunkForwardTsnStream};
 use sctp_data::chunk::chunk_payload_data::ChunkPayloadData;
 use sctp_reassembly::reassembly_queue::ReassemblyQueue;
 use sctp_serial::turns::Turns;
+use sctp_util::util::{sna16lte, sna32lt};
 
 // Half the circle of stream sequence numbers (RFC 1982 3.2).
 const HALF_CIRCLE: u16 = 1 << 15;
@@ -166,7 +166,7 @@ fn is_lowest_complete(queue: &ReassemblyQueue) -> bool
 }
 
 // How far `to` lies after `from`, modulo 2^16 (RFC 1982 3.2).
-#[tactic(auto, unfolding(sctp_list_lemmas::specs::Serial::distance16))]
+#[tactic(auto, unfolding(sctp_util::specs::Serial::distance16))]
 fn distance(from: u16, to: u16) -> u16
     ensures value { result ≡ distance16 from to }
     ensures from_fits { from < 2 ^ 16 }

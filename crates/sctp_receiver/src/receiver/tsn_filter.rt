@@ -1,9 +1,9 @@
 //! The TSNs that came (RFC 4960 6.2).
 
 ghost use Rattle.std.specs.Prelude.{◌≡◌, ◌==◌, ◌<◌, ◌≤◌, ◌+◌, ◌-◌, ◌^◌, ◌∷◌, ◌++◌, [], ℕ, true, false, OnOk, OnErr, IfOk, IsOkUnless, length, map, drop, take, slice_get, min, IsTrue};
-ghost use Rattle.sctp_base.specs.declared.error.Error.TheVariants.{ErrOutOfMemory};
-ghost use Rattle.sctp_list_lemmas.specs.Lists.{advance_over};
-ghost use Rattle.sctp_list_lemmas.specs.Serial.{comes_before};
+ghost use Rattle.sctp_util.specs.declared.error.Error.TheVariants.{ErrOutOfMemory};
+ghost use Rattle.sctp_util.specs.Lists.{advance_over};
+ghost use Rattle.sctp_util.specs.Serial.{comes_before};
 ghost use Rattle.sctp_reassembly.specs.reassembly_queue.Orders.{digits};
 ghost use Rattle.sctp_receiver.specs.Costs.{IsWithinBlocks};
 ghost use Rattle.sctp_receiver.specs.TsnFilter.{placeholder};
@@ -13,13 +13,13 @@ ghost use Rattle.sctp_serial.specs.Turns.{IsWithinDigits};
 pub mod undo;
 
 use bytes::Bytes;
-use sctp_base::error::Result;
-use sctp_base::util::sna32lte;
 use sctp_data::chunk::chunk_payload_data::{ChunkPayloadData, PayloadProtocolIdentifier};
 use sctp_data::chunk::chunk_selective_ack::GapAckBlock;
 use sctp_outbound::payload_queue::PayloadQueue;
 use sctp_serial::serial::distance;
 use sctp_serial::turns::Turns;
+use sctp_util::error::Result;
+use sctp_util::util::sna32lte;
 use std::alloc::Global;
 use std::marker::Model;
 
@@ -59,7 +59,7 @@ impl TsnFilter {
     ghost use Rattle.sctp_receiver.specs.TsnFilter.{has_come, is_opposite, highest_tsn, with_tsn, with_duplicate, skipped_to, has_room, gap_ack_blocks};
 
     /// Nothing came: the first TSN is expected next. It takes no memory.
-    pub fn new(alloc: Global, first_tsn: u32) -> Self
+    pub(crate) fn new(alloc: Global, first_tsn: u32) -> Self
         ensures { result ≡ record {
           cumulative_tsn = preceding_tsn first_tsn;
           beyond = [];
@@ -74,7 +74,7 @@ impl TsnFilter {
     }
 
     /// An equal filter; its room is as great. Refuses only for memory.
-    pub fn try_clone(&self, alloc: Global) -> Result<TsnFilter>
+    pub(crate) fn try_clone(&self, alloc: Global) -> Result<TsnFilter>
         ensures ok { IfOk result (λ filter. filter ≡ self.now) }
         ensures memory { IsOkUnless result ErrOutOfMemory }
     {
@@ -86,14 +86,14 @@ impl TsnFilter {
     }
 
     /// The TSN up to which all came.
-    pub fn cumulative_tsn(&self) -> u32
+    pub(crate) fn cumulative_tsn(&self) -> u32
         ensures { result ≡ self.now.cumulative_tsn }
     {
         self.cumulative_tsn
     }
 
     /// The TSNs beyond, each as a chunk that says nothing else, and those that came again.
-    pub fn queue(&self) -> &PayloadQueue
+    pub(crate) fn queue(&self) -> &PayloadQueue
         ensures beyond { result.now.chunks ≡ map placeholder self.now.beyond }
         ensures duplicates { result.now.duplicates ≡ self.now.duplicates }
     {
@@ -101,14 +101,14 @@ impl TsnFilter {
     }
 
     /// Whether a TSN came. For the one that is expected next nothing is looked up.
-    pub fn has_come(&self, tsn: u32) -> bool
+    pub(crate) fn has_come(&self, tsn: u32) -> bool
         ensures { result ≡ has_come tsn self.now }
     {
         self.has_come_counted(tsn, &mut Turns::new())
     }
 
     /// The same, and its turns are added: at most as many as the number of TSNs beyond has binary digits.
-    pub fn has_come_counted(&self, tsn: u32, turns: &mut Turns) -> bool
+    pub(crate) fn has_come_counted(&self, tsn: u32, turns: &mut Turns) -> bool
         ensures answer { result ≡ has_come tsn self.now }
         ensures not_back { turns.old ≤ turns.new }
         ensures cost { IsWithinDigits (length self.now.beyond) (turns.new - turns.old) }
@@ -120,7 +120,7 @@ impl TsnFilter {
     }
 
     /// Whether a TSN is neither before nor after the cumulative one.
-    pub fn is_opposite(&self, tsn: u32) -> bool
+    pub(crate) fn is_opposite(&self, tsn: u32) -> bool
         ensures value { result ≡ is_opposite tsn self.now }
         ensures tsn_fits { tsn < 2 ^ 32 }
         ensures cumulative_fits { self.now.cumulative_tsn < 2 ^ 32 }
@@ -129,7 +129,7 @@ impl TsnFilter {
     }
 
     /// The highest TSN that came: the last of those beyond the cumulative one, or that one.
-    pub fn highest_tsn(&self) -> u32
+    pub(crate) fn highest_tsn(&self) -> u32
         ensures { result ≡ highest_tsn self.now }
     {
         match self.queue.get_last_tsn_received() {
@@ -139,7 +139,7 @@ impl TsnFilter {
     }
 
     /// Makes room for a new TSN: the one that is expected next needs none. Refuses only for memory.
-    pub fn reserve_for(&mut self, tsn: u32) -> Result<()>
+    pub(crate) fn reserve_for(&mut self, tsn: u32) -> Result<()>
         ensures room { OnOk result (has_room tsn self.new ≡ true) }
         ensures rest { self.new ≡ record self.old { room = self.new.room } }
         ensures more { self.old.room ≤ self.new.room }
@@ -158,7 +158,7 @@ impl TsnFilter {
     /// all that stand next to it, whose places are room then. It takes no memory.
     /// Precondition: it did not come (`has_come`), is not opposite to the cumulative one (`is_opposite`), and there is
     /// room for it (`reserve_for`).
-    pub fn accept(&mut self, tsn: u32)
+    pub(crate) fn accept(&mut self, tsn: u32)
         requires new { has_come tsn self.old ≡ false }
         requires near { is_opposite tsn self.old ≡ false }
         requires room { has_room tsn self.old ≡ true }
@@ -170,7 +170,7 @@ impl TsnFilter {
     }
 
     /// The same, and its turns are added: as many as TSNs beyond leave, and else at most one more than their number has binary digits.
-    pub fn accept_counted(&mut self, tsn: u32, turns: &mut Turns)
+    pub(crate) fn accept_counted(&mut self, tsn: u32, turns: &mut Turns)
         requires new { has_come tsn self.old ≡ false }
         requires near { is_opposite tsn self.old ≡ false }
         requires room { has_room tsn self.old ≡ true }
@@ -189,19 +189,8 @@ impl TsnFilter {
         let _ = self.queue.push_counted(placeholder(tsn), from, turns);
     }
 
-    /// A TSN comes again. Refuses only for memory, and the filter is as it was then.
-    /// Precondition: it came (`has_come`).
-    pub fn record_duplicate(&mut self, tsn: u32) -> Result<()>
-        requires { has_come tsn self.old ≡ true }
-        ensures ok { OnOk result (self.new ≡ with_duplicate tsn self.old) }
-        ensures err { OnErr result (self.new ≡ self.old) }
-        ensures memory { IsOkUnless result ErrOutOfMemory }
-    {
-        self.record_duplicate_counted(tsn, &mut Turns::new())
-    }
-
     /// The same, and its turns are added: at most one more than the number of TSNs beyond has binary digits.
-    pub fn record_duplicate_counted(&mut self, tsn: u32, turns: &mut Turns) -> Result<()>
+    pub(crate) fn record_duplicate_counted(&mut self, tsn: u32, turns: &mut Turns) -> Result<()>
         requires { has_come tsn self.old ≡ true }
         ensures ok { OnOk result (self.new ≡ with_duplicate tsn self.old) }
         ensures err { OnErr result (self.new ≡ self.old) }
@@ -214,17 +203,8 @@ impl TsnFilter {
         Ok(())
     }
 
-    /// All up to a TSN counts as come (RFC 3758 3.6). It takes no memory.
-    /// Precondition: it comes after the cumulative one.
-    pub fn skip_to(&mut self, tsn: u32)
-        requires { comes_before self.old.cumulative_tsn tsn ≡ true }
-        ensures { self.new ≡ skipped_to tsn self.old }
-    {
-        self.skip_to_counted(tsn, &mut Turns::new());
-    }
-
     /// The same, and its turns are added: at most one more than TSNs beyond leave.
-    pub fn skip_to_counted(&mut self, tsn: u32, turns: &mut Turns)
+    pub(crate) fn skip_to_counted(&mut self, tsn: u32, turns: &mut Turns)
         requires { comes_before self.old.cumulative_tsn tsn ≡ true }
         ensures value { self.new ≡ skipped_to tsn self.old }
         ensures not_back { turns.old ≤ turns.new }
@@ -237,27 +217,9 @@ impl TsnFilter {
         self.queue.limit_room(room);
     }
 
-    /// The runs of TSNs beyond the cumulative one, of those at most 65,535 past it (RFC 4960 3.3.4). Refuses only for memory.
-    pub fn gap_ack_blocks(&self, alloc: Global) -> Result<Vec<GapAckBlock>>
-        ensures blocks { IfOk result (λ blocks. blocks.items ≡ gap_ack_blocks self.now) }
-        ensures memory { IsOkUnless result ErrOutOfMemory }
-    {
-        let blocks = self.queue.get_gap_ack_blocks(alloc, self.cumulative_tsn)?;
-        Ok(blocks)
-    }
-
-    /// The first `most` of these runs, or all where there are no more; it looks at those alone. Refuses only for memory.
-    pub fn gap_ack_blocks_within(&self, alloc: Global, most: usize) -> Result<Vec<GapAckBlock>>
-        ensures blocks { IfOk result (λ blocks.
-            blocks.items ≡ take most (gap_ack_blocks self.now)) }
-        ensures memory { IsOkUnless result ErrOutOfMemory }
-    {
-        self.gap_ack_blocks_within_counted(alloc, most, &mut Turns::new())
-    }
-
     /// The same, and its turns are added: at most 34 for each block, one more, and as many as the number of TSNs beyond has binary
     /// digits; where memory runs out, for each block that there would be else.
-    pub fn gap_ack_blocks_within_counted(
+    pub(crate) fn gap_ack_blocks_within_counted(
         &self,
         alloc: Global,
         most: usize,
@@ -280,14 +242,14 @@ impl TsnFilter {
     }
 
     /// So many of the TSNs that came again are forgotten, those that came first. It takes no memory.
-    pub fn forget_duplicates(&mut self, count: usize)
+    pub(crate) fn forget_duplicates(&mut self, count: usize)
         ensures { self.new ≡ record self.old { duplicates = drop count self.old.duplicates } }
     {
         self.queue.forget_duplicates(count);
     }
 
     /// The TSNs that came again, which are forgotten. It takes no memory.
-    pub fn take_duplicates(&mut self, alloc: Global) -> Vec<u32>
+    pub(crate) fn take_duplicates(&mut self, alloc: Global) -> Vec<u32>
         ensures taken { result.items ≡ self.old.duplicates }
         ensures rest { self.new ≡ record self.old { duplicates = [] } }
     {

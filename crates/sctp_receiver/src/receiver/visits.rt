@@ -1,11 +1,11 @@
 //! Of the places of streams, which a FORWARD-TSN visits.
 
 ghost use Rattle.std.specs.Prelude.{◌≡◌, ◌==◌, ◌<◌, ◌≤◌, ◌+◌, ◌-◌, ℕ, [], true, false, Some, IsOkUnless, OnOk, length, slice_get, option_map, min, vec_capacity, if◌then◌else◌};
-ghost use Rattle.sctp_base.specs.declared.error.Error.TheVariants.{ErrOutOfMemory};
+ghost use Rattle.sctp_util.specs.declared.error.Error.TheVariants.{ErrOutOfMemory};
 ghost use Rattle.sctp_receiver.specs.Visited.{AreInverse, is_visited, swapped};
 
-use sctp_base::error::Result;
 use sctp_stream::stream_numbers::put;
+use sctp_util::error::Result;
 use std::alloc::Global;
 use std::marker::Model;
 

@@ -6,12 +6,12 @@ use Rattle.std.proofs.Math.Path.{subst}
 use Rattle.std.proofs.lemmas.Bool.Decides.{nat_tests}
 use Rattle.std.proofs.lemmas.List.{map-append}
 use Rattle.std.specs.List.{flat_map}
-use Rattle.sctp_list_lemmas.specs.Kept.{numbers_where, always, numbers_from, first_of}
-use Rattle.sctp_list_lemmas.specs.Lists.{pieces, change_where}
-use Rattle.sctp_list_lemmas.proofs.Passing.{kept-same, kept-none, map-kept-same, kept-snoc_in, front-kept, FrontOf}
-use Rattle.sctp_list_lemmas.proofs.More.{length-changed, changed-keeps, fails, not_both}
-use Rattle.sctp_list_lemmas.proofs.Getting.{get-snoc_old, get-snoc_new}
-use Rattle.sctp_list_lemmas.proofs.Cases.{by_last, by_same, same-yes}
+use Rattle.sctp_util.specs.Kept.{numbers_where, always, numbers_from, first_of}
+use Rattle.sctp_util.specs.Lists.{pieces, change_where}
+use Rattle.sctp_util.proofs.Passing.{kept-same, kept-none, map-kept-same, kept-snoc_in, front-kept, FrontOf}
+use Rattle.sctp_util.proofs.More.{length-changed, changed-keeps, fails, not_both}
+use Rattle.sctp_util.proofs.Getting.{get-snoc_old, get-snoc_new}
+use Rattle.sctp_util.proofs.Cases.{by_last, by_same, same-yes}
 use Rattle.sctp_data.specs.declared.chunk.chunk_payload_data.ChunkPayloadData.{ChunkPayloadData}
 use Rattle.sctp_data.specs.PayloadData.{data_of}
 use Rattle.sctp_data.specs.ChunkSet.{fresh}

@@ -8,10 +8,10 @@ use Rattle.std.proofs.lemmas.Bool.Decides.{nat_tests}
 use Rattle.std.specs.List.{filter}
 use Rattle.sctp_data.specs.Reliability.{is_past, is_timed}
 use Rattle.sctp_data.specs.PayloadTypes.{is_dcep}
-use Rattle.sctp_list_lemmas.specs.Kept.{numbers_where, always}
-use Rattle.sctp_list_lemmas.proofs.Passing.{kept-skip}
-use Rattle.sctp_list_lemmas.proofs.More.{both, and}
-use Rattle.sctp_list_lemmas.proofs.Getting.{get-snoc_old}
+use Rattle.sctp_util.specs.Kept.{numbers_where, always}
+use Rattle.sctp_util.proofs.Passing.{kept-skip}
+use Rattle.sctp_util.proofs.More.{both, and}
+use Rattle.sctp_util.proofs.Getting.{get-snoc_old}
 use Rattle.sctp_data.specs.declared.chunk.chunk_payload_data.ChunkPayloadData.{ChunkPayloadData}
 use Rattle.sctp_serial.specs.DataChunks.{has_tsn}
 use Rattle.sctp_outbound.specs.pending_queue.Whole.{waits}

@@ -8,9 +8,9 @@ use Rattle.std.proofs.lemmas.Bool.Decides.{nat_tests}
 use Rattle.std.proofs.lemmas.List.{map-append}
 use Rattle.std.proofs.lemmas.List.Sums.{fold-append}
 use Rattle.std.proofs.Math.Seq.{take-suc, take-length}
-use Rattle.sctp_list_lemmas.proofs.Cases.{same-yes}
-use Rattle.sctp_list_lemmas.proofs.Getting.{length-mapped}
-use Rattle.sctp_list_lemmas.proofs.More.{both, and}
+use Rattle.sctp_util.proofs.Cases.{same-yes}
+use Rattle.sctp_util.proofs.Getting.{length-mapped}
+use Rattle.sctp_util.proofs.More.{both, and}
 use Rattle.sctp_outbound.specs.outbound_queue.OutboundQueue.{Outbound, late_tsns}
 use Rattle.sctp_model.specs.declared.event.Event.TheVariants as E
 use Rattle.sctp_model.specs.declared.event.LinkRefusal.TheVariants.{NotInFlight}

@@ -1,7 +1,7 @@
 -- Abandoning the messages of late slots: the order and repeats do not matter.
 use Rattle.std.proofs.Common.{◌≡◌, ℕ, zero, suc, Bool, true, false, List, [], ◌∷◌, get_or, refl, ap, sym, ◌∙◌}
 use Rattle.std.specs.Prelude.{if◌then◌else◌, ◌==◌, ◌&&◌, ◌||◌, not, nat_lt}
-use Rattle.sctp_list_lemmas.specs.Lists.{change_at}
+use Rattle.sctp_util.specs.Lists.{change_at}
 use Rattle.sctp_model.specs.LinkRecord.{LinkRecord, Message}
 use Rattle.sctp_model.specs.Messages.{message_at, no_message, fragment_count, sent_of, is_partially_sent}
 use Rattle.sctp_model.specs.Changes.{after_abandon, with_slot, message_changed, mark_abandoned}

@@ -1,8 +1,8 @@
 -- What else a link keeps, as it abandons: what it writes into its record, and the place of a TSN.
 use Rattle.std.proofs.Common.{◌≡◌, ℕ, ◌<◌, ◌^◌, Bool, true, false, List, [], ◌∷◌, ◌++◌, length, refl, ap, sym, ◌∙◌, arith, append-nil}
 use Rattle.std.specs.Prelude.{if◌then◌else◌}
-use Rattle.sctp_list_lemmas.specs.Lists.{change_at}
-use Rattle.sctp_list_lemmas.proofs.More.{length-changed}
+use Rattle.sctp_util.specs.Lists.{change_at}
+use Rattle.sctp_util.proofs.More.{length-changed}
 use Rattle.sctp_model.specs.LinkRecord.{LinkRecord, Slot}
 use Rattle.sctp_model.specs.Messages.{ordered_before, sent_of, is_partially_sent, tsn_of, place_of}
 use Rattle.sctp_model.specs.Changes.{after_abandon, with_slot, message_changed, mark_abandoned}

@@ -5,11 +5,11 @@ use Rattle.std.specs.Prelude.{◌⊎◌, if◌then◌else◌, ◌==◌, ◌&&◌
 use Rattle.std.specs.List.{list_any, filter, flat_map}
 use Rattle.std.proofs.lemmas.Bool.{cases_lt}
 use Rattle.std.proofs.lemmas.Bool.Decides.{nat_tests}
-use Rattle.sctp_list_lemmas.specs.Kept.{numbers_where, always, numbers_from}
-use Rattle.sctp_list_lemmas.proofs.Edits.{those-append}
-use Rattle.sctp_list_lemmas.proofs.Passing.{kept-none}
-use Rattle.sctp_list_lemmas.proofs.More.{both, not_both, fails}
-use Rattle.sctp_list_lemmas.proofs.Cases.{by_same, same-yes, same-is}
+use Rattle.sctp_util.specs.Kept.{numbers_where, always, numbers_from}
+use Rattle.sctp_util.proofs.Edits.{those-append}
+use Rattle.sctp_util.proofs.Passing.{kept-none}
+use Rattle.sctp_util.proofs.More.{both, not_both, fails}
+use Rattle.sctp_util.proofs.Cases.{by_same, same-yes, same-is}
 use Rattle.sctp_data.specs.declared.chunk.chunk_payload_data.ChunkPayloadData.{ChunkPayloadData}
 use Rattle.sctp_outbound.specs.Marks.{is_of}
 use Rattle.sctp_outbound.specs.pending_queue.PendingQueue.{Pending, last_of, last_removed}

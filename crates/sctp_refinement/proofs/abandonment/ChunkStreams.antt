@@ -2,7 +2,7 @@
 use Rattle.std.proofs.Common.{◌≡◌, ℕ, ◌-◌, ◌<◌, ◌≤◌, ◌^◌, Bool, true, false, length, Option, Some, None, refl, ap, sym, ◌∙◌, arith}
 use Rattle.std.specs.Prelude.{if◌then◌else◌, nat_lt, nat_le, find, option_map}
 use Rattle.std.proofs.lemmas.Bool.Decides.{nat_tests}
-use Rattle.sctp_list_lemmas.proofs.More.{both}
+use Rattle.sctp_util.proofs.More.{both}
 use Rattle.sctp_data.specs.declared.chunk.chunk_payload_data.ChunkPayloadData.{ChunkPayloadData}
 use Rattle.sctp_serial.specs.DataChunks.{has_tsn}
 use Rattle.sctp_outbound.specs.pending_queue.PendingQueue.{next_pending}
@@ -16,7 +16,7 @@ use Rattle.sctp_refinement.specs.Refines.{waiting_at, RefinesOutbound}
 use Rattle.sctp_refinement.proofs.sending.InFlight.{Found, found-in}
 use Rattle.sctp_refinement.proofs.sending.Fragments.{idle, shown}
 use Rattle.sctp_refinement.proofs.sending.KindsRun.{Going}
-use Rattle.sctp_list_lemmas.proofs.Cases.{some-same}
+use Rattle.sctp_util.proofs.Cases.{some-same}
 
 -- ## The chunk of a TSN in flight
 

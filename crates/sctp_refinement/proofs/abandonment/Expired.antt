@@ -9,11 +9,11 @@ use Rattle.std.proofs.lemmas.Bool.Decides.{nat_tests}
 use Rattle.std.specs.List.{flat_map}
 use Rattle.sctp_data.specs.Reliability.{is_past, is_timed}
 use Rattle.sctp_data.specs.PayloadTypes.{is_dcep}
-use Rattle.sctp_list_lemmas.specs.Kept.{numbers_where, numbers_from, first_of}
-use Rattle.sctp_list_lemmas.specs.Lists.{change_where, pieces}
-use Rattle.sctp_list_lemmas.proofs.Passing.{kept-same, kept-none}
-use Rattle.sctp_list_lemmas.proofs.More.{not_both, both, and, length-changed, changed-same, changed-other, changed-keeps, length-kept-one_more}
-use Rattle.sctp_list_lemmas.proofs.Cases.{by_same, negated, same-yes, same-is}
+use Rattle.sctp_util.specs.Kept.{numbers_where, numbers_from, first_of}
+use Rattle.sctp_util.specs.Lists.{change_where, pieces}
+use Rattle.sctp_util.proofs.Passing.{kept-same, kept-none}
+use Rattle.sctp_util.proofs.More.{not_both, both, and, length-changed, changed-same, changed-other, changed-keeps, length-kept-one_more}
+use Rattle.sctp_util.proofs.Cases.{by_same, negated, same-yes, same-is}
 use Rattle.sctp_data.specs.declared.chunk.chunk_payload_data.ChunkPayloadData.{ChunkPayloadData}
 use Rattle.sctp_data.specs.declared.chunk.chunk_payload_data.PayloadProtocolIdentifier.{PayloadProtocolIdentifier}
 use Rattle.sctp_data.specs.declared.chunk.chunk_payload_data.PayloadProtocolIdentifier.TheVariants.{Dcep, String, Binary, StringEmpty, BinaryEmpty, Unknown}

@@ -3,8 +3,8 @@ use Rattle.std.proofs.Common.{◌≡◌, ℕ, ◌+◌, ◌-◌, ◌<◌, ◌%◌
 use Rattle.std.specs.Prelude.{if◌then◌else◌, ◌==◌, ◌&&◌, not}
 use Rattle.std.specs.Option.{option_map}
 use Rattle.std.proofs.Math.Path.{subst}
-use Rattle.sctp_list_lemmas.proofs.More.{both}
-use Rattle.sctp_list_lemmas.proofs.Cases.{same-is}
+use Rattle.sctp_util.proofs.More.{both}
+use Rattle.sctp_util.proofs.Cases.{same-is}
 use Rattle.sctp_outbound.specs.pending_queue.PendingQueue.{next_pending}
 use Rattle.sctp_outbound.specs.outbound_queue.OutboundQueue as outbound
 use Rattle.sctp_outbound.specs.outbound_queue.OutboundQueue.{Outbound, expired_of, expired_bytes, total_bytes}

@@ -1,13 +1,13 @@
 -- What expiring or abandoning a message releases.
 use Rattle.std.proofs.Common.{◌≡◌, ℕ, ◌+◌, ◌-◌, ◌<◌, Bool, true, false, [], ◌∷◌, length, get_or, refl, ap, sym, ◌∙◌, arith, add-one, length-append}
 use Rattle.std.specs.Prelude.{if◌then◌else◌, ◌==◌, ◌&&◌, ◌||◌, not}
-use Rattle.sctp_list_lemmas.specs.Kept.{numbers_where, numbers_from, total_over}
-use Rattle.sctp_list_lemmas.specs.Lists.{pieces}
-use Rattle.sctp_list_lemmas.proofs.Cases.{and-none}
-use Rattle.sctp_list_lemmas.proofs.Getting.{get-snoc_old, get-snoc_new}
-use Rattle.sctp_list_lemmas.proofs.Passing.{kept-same, kept-snoc_out}
-use Rattle.sctp_list_lemmas.proofs.More.{length-changed, changed-same, changed-other}
-use Rattle.sctp_list_lemmas.proofs.Totals.{total-one, total-plus, total-where, total-kept_same}
+use Rattle.sctp_util.specs.Kept.{numbers_where, numbers_from, total_over}
+use Rattle.sctp_util.specs.Lists.{pieces}
+use Rattle.sctp_util.proofs.Cases.{and-none}
+use Rattle.sctp_util.proofs.Getting.{get-snoc_old, get-snoc_new}
+use Rattle.sctp_util.proofs.Passing.{kept-same, kept-snoc_out}
+use Rattle.sctp_util.proofs.More.{length-changed, changed-same, changed-other}
+use Rattle.sctp_util.proofs.Totals.{total-one, total-plus, total-where, total-kept_same}
 use Rattle.sctp_model.specs.LinkRecord.{Message, Slot, LinkRecord}
 use Rattle.sctp_model.specs.Messages
 use Rattle.sctp_model.specs.Messages.{message_at, slot_at, messages_where, has_fragment, sent_of, no_message, no_slot, is_partially_sent}

@@ -22,7 +22,7 @@ use Rattle.sctp_model.proofs.sender.Shape.{shape}
 use Rattle.sctp_refinement.specs.Amount.{held_bytes}
 use Rattle.sctp_refinement.specs.Refines.{RefinesOutbound}
 use Rattle.sctp_refinement.proofs.abandonment.AbandonedLink.{terminal_of, abandoned-is}
-use Rattle.sctp_list_lemmas.proofs.Cases.{some-same}
+use Rattle.sctp_util.proofs.Cases.{some-same}
 use Rattle.sctp_refinement.proofs.Histories.{stands-then, Sends, facts, over}
 use Rattle.sctp_refinement.proofs.abandonment.ChunkStreams.{flying-answer, tail-stream}
 use Rattle.sctp_refinement.proofs.abandonment.Released.{growth-abandon, growth-tail}

@@ -15,7 +15,7 @@ use Rattle.sctp_model.proofs.sender.Moves.{Quiet}
 use Rattle.sctp_model.proofs.sender.Shape.{shape}
 use Rattle.sctp_refinement.specs.Refines.{RefinesOutbound}
 use Rattle.sctp_refinement.specs.Amount.{held_bytes}
-use Rattle.sctp_list_lemmas.proofs.Cases.{some-same}
+use Rattle.sctp_util.proofs.Cases.{some-same}
 use Rattle.sctp_refinement.proofs.abandonment.ChunkStreams.{peeked-stream}
 use Rattle.std.specs.Option.{option_map}
 use Rattle.sctp_outbound.specs.outbound_queue.OutboundQueue as outbound

@@ -1,9 +1,9 @@
 -- What is released as messages are abandoned, by the record and by what the queues hold.
 use Rattle.std.proofs.Common.{◌≡◌, ℕ, ◌+◌, ◌-◌, ◌<◌, Bool, true, false, ◌∷◌, length, Option, Some, None, refl, ap, sym, ◌∙◌, arith}
 use Rattle.std.specs.Prelude.{if◌then◌else◌, ◌==◌, ◌&&◌}
-use Rattle.sctp_list_lemmas.specs.Kept.{always}
-use Rattle.sctp_list_lemmas.proofs.More.{both}
-use Rattle.sctp_list_lemmas.proofs.Totals.{total-plus}
+use Rattle.sctp_util.specs.Kept.{always}
+use Rattle.sctp_util.proofs.More.{both}
+use Rattle.sctp_util.proofs.Totals.{total-plus}
 use Rattle.sctp_outbound.specs.outbound_queue.OutboundQueue.{Outbound, total_bytes}
 use Rattle.sctp_model.specs.declared.event.Event.{Event}
 use Rattle.sctp_model.specs.declared.event.Event.TheVariants as E

@@ -1,9 +1,9 @@
 -- A SACK is taken: what is in flight then is what the record says.
 use Rattle.std.proofs.Common.{◌≡◌, ℕ, ◌+◌, ◌-◌, ◌<◌, ◌≤◌, Bool, List, [], ◌∷◌, length, map, Some, refl, ap, sym, ◌∙◌, arith}
 use Rattle.std.specs.Prelude.{◌&&◌, ◌||◌, not, nat_lt, max}
-use Rattle.sctp_list_lemmas.specs.Kept.{always, numbers_from, first_of}
-use Rattle.sctp_list_lemmas.proofs.Passing.{map-kept-same, kept-same}
-use Rattle.sctp_list_lemmas.proofs.Getting.{get-numbered, numbered-at, length-numbered}
+use Rattle.sctp_util.specs.Kept.{always, numbers_from, first_of}
+use Rattle.sctp_util.proofs.Passing.{map-kept-same, kept-same}
+use Rattle.sctp_util.proofs.Getting.{get-numbered, numbered-at, length-numbered}
 use Rattle.sctp_data.specs.declared.chunk.chunk_payload_data.ChunkPayloadData.{ChunkPayloadData}
 use Rattle.sctp_outbound.specs.outbound_queue.OutboundQueue.{Outbound, with_inflight}
 use Rattle.sctp_model.specs.LinkRecord.{LinkRecord, Report, Sack}

@@ -4,10 +4,10 @@ use Rattle.std.specs.Prelude.{if◌then◌else◌, ◌==◌, ◌&&◌, ◌||◌,
 use Rattle.std.specs.List.{flat_map}
 use Rattle.sctp_data.specs.Reliability.{is_timed}
 use Rattle.sctp_data.specs.PayloadTypes.{is_dcep}
-use Rattle.sctp_list_lemmas.specs.Kept.{numbers_where, always, numbers_from, first_of}
-use Rattle.sctp_list_lemmas.specs.Lists.{pieces}
-use Rattle.sctp_list_lemmas.proofs.Passing.{kept-same, map-kept-same}
-use Rattle.sctp_list_lemmas.proofs.More.{length-changed, changed-keeps}
+use Rattle.sctp_util.specs.Kept.{numbers_where, always, numbers_from, first_of}
+use Rattle.sctp_util.specs.Lists.{pieces}
+use Rattle.sctp_util.proofs.Passing.{kept-same, map-kept-same}
+use Rattle.sctp_util.proofs.More.{length-changed, changed-keeps}
 use Rattle.sctp_data.specs.declared.chunk.chunk_payload_data.ChunkPayloadData.{ChunkPayloadData}
 use Rattle.sctp_data.specs.PayloadData.{Data, data_of}
 use Rattle.sctp_data.specs.ChunkSet.{fresh}

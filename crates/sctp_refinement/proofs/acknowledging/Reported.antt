@@ -8,7 +8,7 @@ use Rattle.sctp_model.specs.Steps.{History, IsRun, record_of, unless, is_for_sen
 use Rattle.sctp_model.specs.Log.{log_of}
 use Rattle.sctp_model.specs.Laws.{IsSetup}
 use Rattle.sctp_model.proofs.receiver.Received.{received-run}
-use Rattle.sctp_list_lemmas.proofs.Cases.{or-left}
+use Rattle.sctp_util.proofs.Cases.{or-left}
 use Rattle.sctp_model.specs.Reports.{reports}
 use Rattle.sctp_model.specs.LinkRecord as W
 use Rattle.sctp_model.proofs.acknowledgement.Acknowledged

@@ -2,11 +2,11 @@
 use Rattle.std.proofs.Common.{◌≡◌, ℕ, ◌+◌, ◌-◌, ◌<◌, ◌≤◌, ◌^◌, false, ap, sym, ◌∙◌, inl, inr, arith}
 use Rattle.std.specs.Prelude.{nat_lt}
 use Rattle.std.proofs.lemmas.Bool.{cases_lt, lt-ltb, le-ltb}
-use Rattle.sctp_list_lemmas.specs.Serial.{comes_before, distance, at_or_before}
+use Rattle.sctp_util.specs.Serial.{comes_before, distance, at_or_before}
 use Rattle.sctp_model.specs.LinkRecord.{LinkRecord}
 use Rattle.sctp_model.specs.Messages.{tsn_of}
 use Rattle.sctp_model.specs.Contents.{cumulative_tsn}
-use Rattle.sctp_list_lemmas.proofs.Distances.{not_before_from, before_irrefl}
+use Rattle.sctp_util.proofs.Distances.{not_before_from, before_irrefl}
 
 -- from the last TSN before a place to that of a slot
 pub far : (w : LinkRecord) (top k : ℕ) → w.setup.first < 2 ^ 32 → top ≤ k → k < 2 ^ 31 → distance (cumulative_tsn w top) (tsn_of w k) ≡ k + 1 - top

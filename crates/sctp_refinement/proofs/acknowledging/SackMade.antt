@@ -1,6 +1,6 @@
 -- The next SACK says what the filter of TSNs holds.
 use Rattle.std.proofs.Common.{◌≡◌, ℕ, ◌<◌, ◌≤◌, ◌^◌, List, length, take, ap, sym}
-use Rattle.sctp_list_lemmas.specs.Kept.{runs_of}
+use Rattle.sctp_util.specs.Kept.{runs_of}
 use Rattle.sctp_data.specs.declared.chunk.chunk_payload_data.ChunkPayloadData.{ChunkPayloadData}
 use Rattle.sctp_outbound.specs.payload_queue.Blocks.{gap_offsets}
 use Rattle.sctp_model.specs.LinkRecord.{LinkRecord}

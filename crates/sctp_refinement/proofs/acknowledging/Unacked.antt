@@ -2,12 +2,12 @@
 use Rattle.std.proofs.Common.{◌≡◌, ℕ, ◌+◌, ◌-◌, ◌<◌, Bool, true, false, [], length, get_or, Some, refl, ap, sym, ◌∙◌, arith, zero-add}
 use Rattle.std.proofs.Math.Path.{subst}
 use Rattle.std.specs.Prelude.{if◌then◌else◌, ◌==◌, ◌&&◌, ◌||◌, not, max}
-use Rattle.sctp_list_lemmas.specs.Kept.{numbers_where, always, numbers_from, total_over}
-use Rattle.sctp_list_lemmas.specs.Lists.{pieces}
-use Rattle.sctp_list_lemmas.proofs.Passing.{kept-same}
-use Rattle.sctp_list_lemmas.proofs.Cases.{and-true}
-use Rattle.sctp_list_lemmas.proofs.Getting.{numbered-at}
-use Rattle.sctp_list_lemmas.proofs.Totals.{total-none, total-plus, total-split, total-where, total-kept_same}
+use Rattle.sctp_util.specs.Kept.{numbers_where, always, numbers_from, total_over}
+use Rattle.sctp_util.specs.Lists.{pieces}
+use Rattle.sctp_util.proofs.Passing.{kept-same}
+use Rattle.sctp_util.proofs.Cases.{and-true}
+use Rattle.sctp_util.proofs.Getting.{numbered-at}
+use Rattle.sctp_util.proofs.Totals.{total-none, total-plus, total-split, total-where, total-kept_same}
 use Rattle.sctp_model.specs.LinkRecord.{LinkRecord, Report, Sack}
 use Rattle.sctp_model.specs.Messages.{message_at, slot_at, message_of, messages_where, slots_where, has_fragment, no_slot}
 use Rattle.sctp_model.specs.Amounts.{is_expired_or_abandoned, slot_bytes, in_all, on_stream, written_bytes, pending_bytes, in_flight_bytes, released_bytes}

@@ -2,10 +2,10 @@
 use Rattle.std.proofs.Common.{◌≡◌, ℕ, ◌+◌, ◌<◌, Bool, true, false, List, [], ◌∷◌, length, Option, Some, None, refl, ap, sym, ◌∙◌, arith}
 use Rattle.std.specs.Prelude.{if◌then◌else◌, ◌==◌, ◌&&◌, not, slice_get, slice_index_or}
 use Rattle.std.proofs.lemmas.Bool.Decides.{nat_tests}
-use Rattle.sctp_list_lemmas.specs.Kept.{numbers_where, total_over}
-use Rattle.sctp_list_lemmas.proofs.Getting.{length-mapped}
-use Rattle.sctp_list_lemmas.proofs.More.{length-changed, changed-keeps, changed-same, changed-other}
-use Rattle.sctp_list_lemmas.proofs.Totals.{total-one, total-where}
+use Rattle.sctp_util.specs.Kept.{numbers_where, total_over}
+use Rattle.sctp_util.proofs.Getting.{length-mapped}
+use Rattle.sctp_util.proofs.More.{length-changed, changed-keeps, changed-same, changed-other}
+use Rattle.sctp_util.proofs.Totals.{total-one, total-where}
 use Rattle.sctp_data.specs.declared.chunk.chunk_payload_data.PayloadProtocolIdentifier.{PayloadProtocolIdentifier}
 use Rattle.sctp_model.specs.declared.event.Event.{Event}
 use Rattle.sctp_model.specs.declared.event.Event.TheVariants as E

@@ -1,9 +1,9 @@
 -- How much can have been written.
 use Rattle.std.proofs.Common.{◌≡◌, ℕ, zero, suc, ◌+◌, ◌*◌, ◌<◌, ◌≤◌, ◌^◌, List, [], ◌∷◌, length, drop, refl, arith}
 use Rattle.std.proofs.lemmas.List.{length-drop}
-use Rattle.sctp_list_lemmas.specs.Kept.{numbers_where, always, total_over, numbers_from}
-use Rattle.sctp_list_lemmas.specs.Lists.{pieces}
-use Rattle.sctp_list_lemmas.proofs.Totals.{total-le}
+use Rattle.sctp_util.specs.Kept.{numbers_where, always, total_over, numbers_from}
+use Rattle.sctp_util.specs.Lists.{pieces}
+use Rattle.sctp_util.proofs.Totals.{total-le}
 use Rattle.sctp_model.specs.LinkRecord.{Setup, LinkRecord}
 use Rattle.sctp_model.specs.Messages.{message_at, fragment_count}
 use Rattle.sctp_model.specs.Amounts.{in_all, written_bytes}

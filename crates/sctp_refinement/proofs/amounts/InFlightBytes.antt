@@ -5,10 +5,10 @@ use Rattle.std.specs.Prelude.{◌⊎◌, if◌then◌else◌, ◌==◌, ◌||◌
 use Rattle.std.proofs.lemmas.Bool.{cases_lt}
 use Rattle.std.proofs.lemmas.Bool.Decides.{nat_tests}
 use Rattle.std.proofs.lemmas.List.Sums.{sum_by-cons}
-use Rattle.sctp_list_lemmas.specs.Kept.{numbers_where, always, total_over}
-use Rattle.sctp_list_lemmas.proofs.Cases.{or-left, or-right}
-use Rattle.sctp_list_lemmas.proofs.More.{fails, not_both}
-use Rattle.sctp_list_lemmas.proofs.Totals.{total-none, total-append, total-where, total-kept_same, numbers-append}
+use Rattle.sctp_util.specs.Kept.{numbers_where, always, total_over}
+use Rattle.sctp_util.proofs.Cases.{or-left, or-right}
+use Rattle.sctp_util.proofs.More.{fails, not_both}
+use Rattle.sctp_util.proofs.Totals.{total-none, total-append, total-where, total-kept_same, numbers-append}
 use Rattle.sctp_data.specs.declared.chunk.chunk_payload_data.ChunkPayloadData.{ChunkPayloadData}
 use Rattle.sctp_serial.specs.DataChunks.{bytes_of}
 use Rattle.sctp_outbound.specs.outbound_queue.OutboundQueue.{Outbound}

@@ -1,9 +1,9 @@
 -- Sums over the messages as more are written, and as they stay.
 use Rattle.std.proofs.Common.{◌≡◌, ℕ, suc, ◌+◌, ◌<◌, Bool, true, false, [], ◌∷◌, length, refl, ap, ◌∙◌, arith, add-one, length-append}
 use Rattle.std.specs.Prelude.{if◌then◌else◌, ◌==◌}
-use Rattle.sctp_list_lemmas.specs.Kept.{numbers_where, total_over}
-use Rattle.sctp_list_lemmas.proofs.Passing.{kept-same, kept-snoc}
-use Rattle.sctp_list_lemmas.proofs.Totals.{total-append, total-kept_same}
+use Rattle.sctp_util.specs.Kept.{numbers_where, total_over}
+use Rattle.sctp_util.proofs.Passing.{kept-same, kept-snoc}
+use Rattle.sctp_util.proofs.Totals.{total-append, total-kept_same}
 use Rattle.sctp_model.specs.LinkRecord.{Message, LinkRecord}
 use Rattle.sctp_model.specs.Messages.{message_at, messages_where}
 use Rattle.sctp_refinement.proofs.sending.InLine.{with_message, message-before, message-last}

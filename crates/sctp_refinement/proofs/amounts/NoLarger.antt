@@ -4,8 +4,8 @@ use Rattle.std.specs.Prelude.{◌⊎◌, nat_le, nat_lt, None}
 use Rattle.std.specs.List.{list_all}
 use Rattle.std.proofs.Math.Nat.{eq-or-lt_of_le}
 use Rattle.std.proofs.lemmas.Bool.Decides.{nat_tests}
-use Rattle.sctp_list_lemmas.specs.Kept.{numbers_where, always}
-use Rattle.sctp_list_lemmas.proofs.More.{both, and}
+use Rattle.sctp_util.specs.Kept.{numbers_where, always}
+use Rattle.sctp_util.proofs.More.{both, and}
 use Rattle.sctp_data.specs.declared.chunk.chunk_payload_data.PayloadProtocolIdentifier.{PayloadProtocolIdentifier}
 use Rattle.sctp_model.specs.declared.event.Event.{Event}
 use Rattle.sctp_model.specs.declared.event.Event.TheVariants as E

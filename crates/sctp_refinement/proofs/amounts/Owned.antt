@@ -1,10 +1,10 @@
 -- Sums over things of which each has one owner.
 use Rattle.std.proofs.Common.{◌≡◌, ℕ, zero, suc, ◌+◌, ◌<◌, ◌≤◌, refl, ap, sym, ◌∙◌, arith, zero-add}
 use Rattle.std.specs.Prelude.{if◌then◌else◌, ◌==◌}
-use Rattle.sctp_list_lemmas.specs.Kept.{numbers_where, always, total_over}
-use Rattle.sctp_list_lemmas.proofs.Cases.{same-yes, same-is}
-use Rattle.sctp_list_lemmas.proofs.More.{fails}
-use Rattle.sctp_list_lemmas.proofs.Totals.{total-none, total-one, total-plus}
+use Rattle.sctp_util.specs.Kept.{numbers_where, always, total_over}
+use Rattle.sctp_util.proofs.Cases.{same-yes, same-is}
+use Rattle.sctp_util.proofs.More.{fails}
+use Rattle.sctp_util.proofs.Totals.{total-none, total-one, total-plus}
 
 -- the sum over the owners of what is theirs is the sum over all
 pub total-owned : (owner : ℕ → ℕ) (f : ℕ → ℕ → ℕ) (owners from count : ℕ) → ((p : ℕ) → from ≤ p → p < from + count → owner p < owners)

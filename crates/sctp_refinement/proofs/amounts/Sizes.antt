@@ -8,13 +8,13 @@ use Rattle.std.proofs.lemmas.Bool.{cases_lt}
 use Rattle.std.proofs.lemmas.Bool.Decides.{nat_tests}
 use Rattle.std.proofs.lemmas.List.{reverse-append}
 use Rattle.std.proofs.lemmas.List.Sums.{sum_by-cons}
-use Rattle.sctp_list_lemmas.specs.Kept.{numbers_where, always, total_over}
-use Rattle.sctp_list_lemmas.specs.Lists.{after_leading}
-use Rattle.sctp_list_lemmas.proofs.Passing.{kept-snoc_in}
-use Rattle.sctp_list_lemmas.proofs.More.{not_both, both, and}
-use Rattle.sctp_list_lemmas.proofs.Cases.{same-yes, same-is, negated, and-none}
-use Rattle.sctp_list_lemmas.proofs.Totals.{total-append, total-at, total-where, total-split, total-kept_same, numbers-append}
-use Rattle.sctp_list_lemmas.proofs.Wraps.{same16-index}
+use Rattle.sctp_util.specs.Kept.{numbers_where, always, total_over}
+use Rattle.sctp_util.specs.Lists.{after_leading}
+use Rattle.sctp_util.proofs.Passing.{kept-snoc_in}
+use Rattle.sctp_util.proofs.More.{not_both, both, and}
+use Rattle.sctp_util.proofs.Cases.{same-yes, same-is, negated, and-none}
+use Rattle.sctp_util.proofs.Totals.{total-append, total-at, total-where, total-split, total-kept_same, numbers-append}
+use Rattle.sctp_util.proofs.Wraps.{same16-index}
 use Rattle.sctp_data.specs.declared.chunk.chunk_payload_data.ChunkPayloadData.{ChunkPayloadData}
 use Rattle.sctp_data.specs.ChunkSet.{ChunkSet}
 use Rattle.sctp_reassembly.specs.reassembly_queue.Fragments.{has_ssn, chunks_of_ssn}

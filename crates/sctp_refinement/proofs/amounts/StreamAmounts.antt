@@ -2,13 +2,13 @@
 use Rattle.std.proofs.Common.{◌≡◌, ℕ, ◌+◌, ◌-◌, ◌<◌, ◌^◌, Bool, true, false, List, [], ◌∷◌, length, get_or, Option, Some, None, refl, ap, sym, ◌∙◌, arith}
 use Rattle.std.proofs.Math.Path.{fun_ext}
 use Rattle.std.specs.Prelude.{if◌then◌else◌, ◌==◌, ◌&&◌, ◌||◌, not, nat_le, nat_lt, find, is_some, unwrap_or, slice_get, slice_index_or}
-use Rattle.sctp_list_lemmas.specs.Kept.{numbers_where, total_over}
-use Rattle.sctp_list_lemmas.specs.Lists.{pieces}
-use Rattle.sctp_list_lemmas.proofs.Cases.{by_same, same-yes, same-is}
-use Rattle.sctp_list_lemmas.proofs.Getting.{length-mapped}
-use Rattle.sctp_list_lemmas.proofs.Passing.{kept-same, kept-none}
-use Rattle.sctp_list_lemmas.proofs.More.{fails, not_both, kept-short}
-use Rattle.sctp_list_lemmas.proofs.Totals.{total-plus, total-kept_same}
+use Rattle.sctp_util.specs.Kept.{numbers_where, total_over}
+use Rattle.sctp_util.specs.Lists.{pieces}
+use Rattle.sctp_util.proofs.Cases.{by_same, same-yes, same-is}
+use Rattle.sctp_util.proofs.Getting.{length-mapped}
+use Rattle.sctp_util.proofs.Passing.{kept-same, kept-none}
+use Rattle.sctp_util.proofs.More.{fails, not_both, kept-short}
+use Rattle.sctp_util.proofs.Totals.{total-plus, total-kept_same}
 use Rattle.sctp_data.specs.declared.chunk.chunk_payload_data.PayloadProtocolIdentifier.{PayloadProtocolIdentifier}
 use Rattle.sctp_model.specs.declared.event.Event.{Event}
 use Rattle.sctp_model.specs.declared.event.Event.TheVariants as E

@@ -4,23 +4,23 @@ use Rattle.std.specs.Prelude.{◌⊎◌, ◌==◌, not, nat_lt}
 use Rattle.std.proofs.lemmas.Bool.{cases_lt}
 use Rattle.std.proofs.lemmas.Bool.Decides.{nat_tests}
 use Rattle.std.proofs.lemmas.Grind.{common_steps}
-use Rattle.sctp_list_lemmas.specs.Kept.{numbers_where}
-use Rattle.sctp_list_lemmas.specs.Lists.{change_at, insert_before}
+use Rattle.sctp_util.specs.Kept.{numbers_where}
+use Rattle.sctp_util.specs.Lists.{change_at, insert_before}
 use Rattle.sctp_data.specs.ChunkSet.{ChunkSet}
 use Rattle.sctp_reassembly.specs.reassembly_queue.Fragments.{is_complete}
 use Rattle.sctp_serial.specs.DataChunks.{chunk_before}
 use Rattle.sctp_model.specs.Contents.{chunk_at}
 use Rattle.sctp_refinement.specs.Holds.{has_come, chunks_come}
 use Rattle.sctp_model.specs.Queues.{set_of}
-use Rattle.sctp_list_lemmas.proofs.Passing.{kept-same, kept-skip, map-kept-same, map-kept-inserted}
-use Rattle.sctp_list_lemmas.proofs.Round.{comes_before-tsn}
+use Rattle.sctp_util.proofs.Passing.{kept-same, kept-skip, map-kept-same, map-kept-inserted}
+use Rattle.sctp_util.proofs.Round.{comes_before-tsn}
 use Rattle.sctp_model.specs.LinkRecord.{LinkRecord}
 use Rattle.sctp_model.specs.Messages.{slot_at, message_of, no_slot, fragment_count, has_fragment}
 use Rattle.sctp_model.specs.Receiver.{arrived_at, arrived_of, has_arrived, is_held}
 use Rattle.sctp_model.specs.Changes.{mark_arrived}
 use Rattle.sctp_model.specs.Valid.{IsLaid, Valid}
-use Rattle.sctp_list_lemmas.proofs.More.{fails, not_both, both, same_test, length-changed, changed-same, changed-other, changed-keeps, kept-short}
-use Rattle.sctp_list_lemmas.proofs.More.{length-kept-one_more}
+use Rattle.sctp_util.proofs.More.{fails, not_both, both, same_test, length-changed, changed-same, changed-other, changed-keeps, kept-short}
+use Rattle.sctp_util.proofs.More.{length-kept-one_more}
 use Rattle.sctp_refinement.proofs.arriving.Complete.{IsMessage, complete-kept}
 
 abbrev pub with_arrived : LinkRecord → ℕ → LinkRecord

@@ -1,7 +1,7 @@
 -- A slot that a DATA datagram carries, and the forms that the record may have after it.
 use Rattle.std.proofs.Common.{◌≡◌, ℕ, ◌<◌, Bool, true, false, [], ◌∷◌, ◌++◌, length, Option, Some, None, refl, arith}
 use Rattle.std.specs.Prelude.{if◌then◌else◌, is_some}
-use Rattle.sctp_list_lemmas.proofs.More.{fails, length-kept-positive}
+use Rattle.sctp_util.proofs.More.{fails, length-kept-positive}
 use Rattle.sctp_model.specs.LinkRecord.{Setup, LinkRecord, StreamRecord}
 use Rattle.sctp_model.specs.Messages.{message_at, slot_at, message_of, stream_at, has_fragment}
 use Rattle.sctp_model.specs.Receiver.{is_new}

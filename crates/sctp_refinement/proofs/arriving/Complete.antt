@@ -2,12 +2,12 @@
 use Rattle.std.proofs.Common.{◌≡◌, ℕ, zero, suc, ◌+◌, ◌<◌, ◌≤◌, ◌%◌, ◌^◌, Bool, true, false, List, [], ◌∷◌, length, map, refl, ap, sym, ◌∙◌, arith}
 use Rattle.std.specs.Prelude.{if◌then◌else◌, ◌==◌, ◌&&◌}
 use Rattle.std.proofs.lemmas.Bool.Decides.{nat_tests}
-use Rattle.sctp_list_lemmas.specs.Kept.{numbers_where}
-use Rattle.sctp_list_lemmas.proofs.Passing.{length-kept-le, front-kept, FrontOf}
-use Rattle.sctp_list_lemmas.proofs.Round.{tsn}
+use Rattle.sctp_util.specs.Kept.{numbers_where}
+use Rattle.sctp_util.proofs.Passing.{length-kept-le, front-kept, FrontOf}
+use Rattle.sctp_util.proofs.Round.{tsn}
 use Rattle.sctp_data.specs.declared.chunk.chunk_payload_data.ChunkPayloadData.{ChunkPayloadData}
 use Rattle.sctp_reassembly.specs.reassembly_queue.Fragments.{completes, is_complete}
-use Rattle.sctp_list_lemmas.proofs.More.{fails, same_test}
+use Rattle.sctp_util.proofs.More.{fails, same_test}
 
 -- the chunks of a message that lies at count places from base on
 pub record IsMessage (first : ℕ) (f : ℕ → ChunkPayloadData) (p : ℕ → Bool) (base count : ℕ) : Type 0 where

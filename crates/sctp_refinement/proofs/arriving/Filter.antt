@@ -4,17 +4,17 @@ use Rattle.std.specs.Prelude.{◌⊎◌, nat_lt, nat_le, not, ◌&&◌}
 use Rattle.std.proofs.lemmas.Bool.{cases_lt, lt-ltb, le-ltb}
 use Rattle.std.proofs.lemmas.Bool.Decides.{nat_tests}
 use Rattle.std.specs.List.{filter}
-use Rattle.sctp_list_lemmas.specs.Kept.{numbers_where, unbroken}
-use Rattle.sctp_list_lemmas.specs.Lists.{insert_before, advance_over, Seen}
+use Rattle.sctp_util.specs.Kept.{numbers_where, unbroken}
+use Rattle.sctp_util.specs.Lists.{insert_before, advance_over, Seen}
 use Rattle.sctp_refinement.specs.Holds.{seen_of}
-use Rattle.sctp_list_lemmas.specs.Serial.{comes_before, at_or_before}
-use Rattle.sctp_list_lemmas.proofs.Passing.{unbroken-passes, unbroken-on, map-kept-inserted, IsRound, advanced-kept, kept-same, kept-skip}
-use Rattle.sctp_list_lemmas.proofs.Round.{tsn_differ, tsn_same, comes_before-tsn, tsn}
+use Rattle.sctp_util.specs.Serial.{comes_before, at_or_before}
+use Rattle.sctp_util.proofs.Passing.{unbroken-passes, unbroken-on, map-kept-inserted, IsRound, advanced-kept, kept-same, kept-skip}
+use Rattle.sctp_util.proofs.Round.{tsn_differ, tsn_same, comes_before-tsn, tsn}
 use Rattle.sctp_model.specs.LinkRecord.{LinkRecord}
 use Rattle.sctp_model.specs.Messages.{tsn_of}
 use Rattle.sctp_model.specs.Receiver.{arrived_at, cumulative}
-use Rattle.sctp_list_lemmas.proofs.More.{those-kept}
-use Rattle.sctp_list_lemmas.proofs.Wraps.{at_or_before-tsn}
+use Rattle.sctp_util.proofs.More.{those-kept}
+use Rattle.sctp_util.proofs.Wraps.{at_or_before-tsn}
 use Rattle.sctp_refinement.proofs.arriving.Arrival
 use Rattle.sctp_refinement.proofs.arriving.Arrival.{with_arrived}
 use Rattle.sctp_model.proofs.receiver.Arrivals.{cumulative-le}

@@ -4,11 +4,11 @@ use Rattle.std.specs.Prelude.{◌⊎◌, if◌then◌else◌, ◌==◌, ◌&&◌
 use Rattle.std.specs.List.{list_any, filter}
 use Rattle.std.proofs.lemmas.Bool.{cases_lt}
 use Rattle.std.proofs.lemmas.Bool.Decides.{nat_tests}
-use Rattle.sctp_list_lemmas.specs.Kept.{numbers_where}
-use Rattle.sctp_list_lemmas.specs.Serial.{distance, at_or_before}
-use Rattle.sctp_list_lemmas.proofs.Passing.{any-kept, kept-same}
-use Rattle.sctp_list_lemmas.proofs.More.{fails, not_both, kept-short, those-kept}
-use Rattle.sctp_list_lemmas.proofs.Round.{tsn, tsn_differ, tsn_same}
+use Rattle.sctp_util.specs.Kept.{numbers_where}
+use Rattle.sctp_util.specs.Serial.{distance, at_or_before}
+use Rattle.sctp_util.proofs.Passing.{any-kept, kept-same}
+use Rattle.sctp_util.proofs.More.{fails, not_both, kept-short, those-kept}
+use Rattle.sctp_util.proofs.Round.{tsn, tsn_differ, tsn_same}
 use Rattle.sctp_data.specs.declared.chunk.chunk_payload_data.ChunkPayloadData.{ChunkPayloadData}
 use Rattle.sctp_serial.specs.Window
 use Rattle.sctp_serial.specs.Window.{is_held}

@@ -3,9 +3,9 @@ use Rattle.std.proofs.Common.{◌≡◌, ℕ, ◌+◌, ◌<◌, ◌≤◌, Bool,
 use Rattle.std.specs.Prelude.{◌⊎◌, ◌||◌, not, nat_lt}
 use Rattle.std.proofs.lemmas.Bool.{cases_lt}
 use Rattle.std.proofs.lemmas.Bool.Decides.{nat_tests}
-use Rattle.sctp_list_lemmas.proofs.Cases.{negated}
-use Rattle.sctp_list_lemmas.proofs.More.{fails, not_both}
-use Rattle.sctp_list_lemmas.proofs.Passing.{length-kept-le}
+use Rattle.sctp_util.proofs.Cases.{negated}
+use Rattle.sctp_util.proofs.More.{fails, not_both}
+use Rattle.sctp_util.proofs.Passing.{length-kept-le}
 use Rattle.sctp_model.specs.LinkRecord.{LinkRecord}
 use Rattle.sctp_model.specs.Messages.{message_at, message_of, stream_of, is_ordered_on, index_of, fragment_count, has_fragment}
 use Rattle.sctp_model.specs.Receiver.{arrived_at, arrived_of, is_new, next_of}

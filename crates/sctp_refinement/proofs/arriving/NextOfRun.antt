@@ -3,8 +3,8 @@ use Rattle.std.proofs.Common.{◌≡◌, ℕ, zero, suc, ◌+◌, ◌-◌, Bool,
 use Rattle.std.specs.Prelude.{if◌then◌else◌, ◌&&◌, not, nat_lt, nat_le}
 use Rattle.std.proofs.lemmas.Bool.Decides.{nat_tests}
 use Rattle.std.specs.List.{filter}
-use Rattle.sctp_list_lemmas.specs.Kept.{numbers_where, first_of}
-use Rattle.sctp_list_lemmas.proofs.Passing.{kept-same}
+use Rattle.sctp_util.specs.Kept.{numbers_where, first_of}
+use Rattle.sctp_util.proofs.Passing.{kept-same}
 use Rattle.sctp_model.specs.LinkRecord.{LinkRecord}
 use Rattle.sctp_model.specs.Messages.{message_at, stream_of, is_ordered_on, index_of, ordered_on}
 use Rattle.sctp_model.specs.Receiver.{is_complete_message, is_unread, run_of, next_of}

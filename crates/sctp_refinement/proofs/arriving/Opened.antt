@@ -1,9 +1,9 @@
 -- Streams open and change their mode: the receiver's queues.
 use Rattle.std.proofs.Common.{◌≡◌, ℕ, ◌+◌, ◌<◌, Bool, true, false, [], length, map, Option, Some, None, refl, ap, sym, ◌∙◌, arith}
 use Rattle.std.specs.Prelude.{is_some, drop, unwrap_or}
-use Rattle.sctp_list_lemmas.specs.Kept.{leading}
-use Rattle.sctp_list_lemmas.proofs.Passing.{kept-none}
-use Rattle.sctp_list_lemmas.proofs.More.{fails, not_both}
+use Rattle.sctp_util.specs.Kept.{leading}
+use Rattle.sctp_util.proofs.Passing.{kept-none}
+use Rattle.sctp_util.proofs.More.{fails, not_both}
 use Rattle.sctp_data.specs.declared.chunk.chunk_payload_data.ReliabilityType.{ReliabilityType}
 use Rattle.sctp_reassembly.specs.reassembly_queue.ReassemblyQueue.{Reassembly}
 use Rattle.sctp_model.specs.LinkRecord.{Setup, StreamRecord, LinkRecord}

@@ -5,8 +5,8 @@ use Rattle.std.specs.List.{list_any}
 use Rattle.std.proofs.lemmas.Bool.{cases_lt, lt-ltb, le-ltb}
 use Rattle.std.proofs.lemmas.Bool.Decides.{nat_tests}
 use Rattle.std.proofs.lemmas.Grind.{common_steps}
-use Rattle.sctp_list_lemmas.specs.Kept.{numbers_where}
-use Rattle.sctp_list_lemmas.specs.Lists.{insert_before}
+use Rattle.sctp_util.specs.Kept.{numbers_where}
+use Rattle.sctp_util.specs.Lists.{insert_before}
 use Rattle.sctp_data.specs.ChunkSet.{ChunkSet}
 use Rattle.sctp_reassembly.specs.reassembly_queue.Fragments.{set_before, has_ssn, with_chunk, new_set, sets_with}
 use Rattle.sctp_serial.specs.DataChunks.{chunk_before, has_tsn}
@@ -14,18 +14,18 @@ use Rattle.sctp_reassembly.specs.reassembly_queue.ReassemblyQueue.{held_after_or
 use Rattle.sctp_model.specs.Contents.{chunk_at}
 use Rattle.sctp_refinement.specs.Holds.{has_come, chunks_come, ordered_sets, reassembly_of}
 use Rattle.sctp_model.specs.Queues.{set_of}
-use Rattle.sctp_list_lemmas.specs.Serial.{comes_before16}
-use Rattle.sctp_list_lemmas.proofs.Passing.{kept-same, map-kept-same, map-kept-inserted, length-kept-le}
-use Rattle.sctp_list_lemmas.proofs.Round.{tsn_differ, tsn_same}
+use Rattle.sctp_util.specs.Serial.{comes_before16}
+use Rattle.sctp_util.proofs.Passing.{kept-same, map-kept-same, map-kept-inserted, length-kept-le}
+use Rattle.sctp_util.proofs.Round.{tsn_differ, tsn_same}
 use Rattle.sctp_model.specs.LinkRecord.{LinkRecord}
 use Rattle.sctp_model.specs.Messages.{message_at, slot_at, message_of, stream_of, is_ordered_on, index_of, ssn_of, fragment_count, has_fragment}
 use Rattle.sctp_model.specs.Messages.{is_unordered_on}
 use Rattle.sctp_model.specs.Receiver.{arrived_at, arrived_of, has_arrived, cumulative, is_complete_message, is_unread, is_held, next_of, is_new}
 use Rattle.sctp_model.specs.Changes.{receive_slot, becomes_complete}
-use Rattle.sctp_list_lemmas.specs.Lists.{change_first}
+use Rattle.sctp_util.specs.Lists.{change_first}
 use Rattle.sctp_model.specs.Valid.{IsLaid, IsSpan, Valid}
-use Rattle.sctp_list_lemmas.proofs.More.{fails, not_both, both, any-kept_one, change_first-kept}
-use Rattle.sctp_list_lemmas.proofs.Wraps.{comes_before16-index, same16-index}
+use Rattle.sctp_util.proofs.More.{fails, not_both, both, any-kept_one, change_first-kept}
+use Rattle.sctp_util.proofs.Wraps.{comes_before16-index, same16-index}
 use Rattle.sctp_refinement.proofs.reading.Line.{index-lt, index-same, ssn_on, on-made, on-ordered, on-stream, next_reads}
 use Rattle.sctp_refinement.proofs.arriving.Stays
 use Rattle.sctp_refinement.proofs.arriving.Arrival

@@ -3,10 +3,10 @@ use Rattle.std.proofs.Common.{◌≡◌, ℕ, ◌+◌, ◌<◌, ◌≤◌, Bool,
 use Rattle.std.specs.Prelude.{◌==◌, ◌&&◌, not, nat_le}
 use Rattle.std.proofs.lemmas.Bool.Decides.{nat_tests}
 use Rattle.std.proofs.lemmas.List.{map-append}
-use Rattle.sctp_list_lemmas.specs.Lists.{insert_before, advance_over}
-use Rattle.sctp_list_lemmas.specs.Serial.{comes_before}
-use Rattle.sctp_list_lemmas.proofs.Passing.{front-kept, FrontOf}
-use Rattle.sctp_list_lemmas.proofs.More.{fails, not_both, and}
+use Rattle.sctp_util.specs.Lists.{insert_before, advance_over}
+use Rattle.sctp_util.specs.Serial.{comes_before}
+use Rattle.sctp_util.proofs.Passing.{front-kept, FrontOf}
+use Rattle.sctp_util.proofs.More.{fails, not_both, and}
 use Rattle.sctp_data.specs.declared.chunk.chunk_payload_data.ChunkPayloadData.{ChunkPayloadData}
 use Rattle.sctp_data.specs.ChunkSet.{ChunkSet}
 use Rattle.sctp_serial.specs.DataChunks.{chunk_before}

@@ -3,7 +3,7 @@ use Rattle.std.proofs.Common.{◌≡◌, ℕ, ◌<◌, ◌≤◌, Bool, true, fa
 use Rattle.std.specs.Prelude.{◌==◌, ◌&&◌, is_some, if◌then◌else◌, fold, slice_get, slice_index_or}
 use Rattle.std.specs.List.{list_any, list_all, filter}
 use Rattle.std.proofs.Math.Path.{subst}
-use Rattle.sctp_list_lemmas.proofs.More.{both, and, same_test}
+use Rattle.sctp_util.proofs.More.{both, and, same_test}
 use Rattle.sctp_model.specs.LinkRecord.{LinkRecord, StreamRecord, Data}
 use Rattle.sctp_model.specs.Messages.{message_at, message_of, index_of}
 use Rattle.sctp_model.specs.Receiver.{is_new, next_of, fits, spans_fit}

@@ -5,8 +5,8 @@ use Rattle.std.specs.Prelude.{◌==◌, ◌&&◌, ◌||◌, not, if◌then◌els
 use Rattle.std.specs.List.{list_any, list_all, filter}
 use Rattle.std.proofs.Math.Path.{subst}
 use Rattle.std.proofs.lemmas.Bool.Decides.{nat_tests}
-use Rattle.sctp_list_lemmas.proofs.Cases.{same-yes, same-is}
-use Rattle.sctp_list_lemmas.proofs.More.{both, and, not_both, same_test}
+use Rattle.sctp_util.proofs.Cases.{same-yes, same-is}
+use Rattle.sctp_util.proofs.More.{both, and, not_both, same_test}
 use Rattle.sctp_model.specs.LinkRecord.{LinkRecord}
 use Rattle.sctp_model.specs.Messages.{message_at, message_of, index_of, is_ordered_on}
 use Rattle.sctp_model.specs.Receiver.{is_new, arrived_at, held_on, next_of, least, greatest, fits, spans_fit}
@@ -25,7 +25,7 @@ use Rattle.sctp_refinement.proofs.reading.Taken.{held}
 use Rattle.sctp_model.proofs.receiver.Spans.{greatest-append, least-append}
 use Rattle.sctp_refinement.specs.Naming.{lowest_held, highest_held}
 use Rattle.sctp_refinement.proofs.skipping.SkipSpans.{least-start}
-use Rattle.sctp_list_lemmas.proofs.Cases.{or-right}
+use Rattle.sctp_util.proofs.Cases.{or-right}
 
 -- ## What slots add
 

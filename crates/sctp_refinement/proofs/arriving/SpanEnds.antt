@@ -5,10 +5,10 @@ use Rattle.std.specs.Prelude.{if◌then◌else◌, ◌==◌, ◌||◌, min, max,
 use Rattle.std.specs.List.{list_any, list_all}
 use Rattle.std.proofs.Math.Path.{subst}
 use Rattle.std.proofs.lemmas.Bool.Decides.{nat_tests}
-use Rattle.sctp_list_lemmas.specs.Kept.{numbers_where}
-use Rattle.sctp_list_lemmas.proofs.Passing.{front-kept, FrontOf}
-use Rattle.sctp_list_lemmas.proofs.More.{both, and, length-kept-positive}
-use Rattle.sctp_list_lemmas.proofs.Cases.{same-yes, same-is, or-left, or-right}
+use Rattle.sctp_util.specs.Kept.{numbers_where}
+use Rattle.sctp_util.proofs.Passing.{front-kept, FrontOf}
+use Rattle.sctp_util.proofs.More.{both, and, length-kept-positive}
+use Rattle.sctp_util.proofs.Cases.{same-yes, same-is, or-left, or-right}
 use Rattle.sctp_data.specs.declared.chunk.chunk_payload_data.ChunkPayloadData.{ChunkPayloadData}
 use Rattle.sctp_data.specs.ChunkSet.{ChunkSet}
 use Rattle.sctp_model.specs.LinkRecord.{LinkRecord, StreamRecord}
@@ -30,7 +30,7 @@ use Rattle.sctp_refinement.proofs.arriving.Unassembled.{get-map, length-map}
 use Rattle.sctp_refinement.proofs.arriving.Carried.{noted, by_step}
 use Rattle.sctp_refinement.proofs.reading.Taken.{held, is-held, complete-ordered}
 use Rattle.sctp_refinement.proofs.arriving.UnorderedStep
-use Rattle.sctp_list_lemmas.proofs.Places.{kept-place}
+use Rattle.sctp_util.proofs.Places.{kept-place}
 use Rattle.sctp_model.proofs.receiver.Spans.{greatest-append, least-append}
 use Rattle.sctp_refinement.specs.Naming.{lowest_held, highest_held}
 

@@ -2,8 +2,8 @@
 use Rattle.std.proofs.Common.{◌≡◌, ℕ, ◌<◌, ◌≤◌, Bool, true, false, List, [], ◌∷◌, length, map, refl, ap, sym, ◌∙◌, inl, inr, arith}
 use Rattle.std.specs.Prelude.{◌⊎◌, ◌==◌, ◌&&◌, ◌||◌, not, nat_lt, nat_le}
 use Rattle.std.proofs.lemmas.Bool.{cases_lt}
-use Rattle.sctp_list_lemmas.specs.Kept.{numbers_where}
-use Rattle.sctp_list_lemmas.proofs.Passing.{kept-same, map-kept-same}
+use Rattle.sctp_util.specs.Kept.{numbers_where}
+use Rattle.sctp_util.proofs.Passing.{kept-same, map-kept-same}
 use Rattle.sctp_model.specs.LinkRecord.{LinkRecord}
 use Rattle.sctp_model.specs.Messages.{message_at, message_of, stream_of, is_ordered_on, index_of, has_fragment, slots_of, is_unordered_on}
 use Rattle.sctp_model.specs.Receiver.{arrived_at, arrived_of, is_complete_message, is_unread, is_held}
@@ -11,7 +11,7 @@ use Rattle.sctp_data.specs.ChunkSet.{ChunkSet}
 use Rattle.sctp_model.specs.Contents.{chunk_at}
 use Rattle.sctp_model.specs.Queues.{set_of, complete_set_of, is_unassembled}
 use Rattle.sctp_refinement.specs.Holds.{ordered_sets, complete_sets, unassembled_chunks}
-use Rattle.sctp_list_lemmas.proofs.More.{fails, not_both, both}
+use Rattle.sctp_util.proofs.More.{fails, not_both, both}
 use Rattle.sctp_refinement.proofs.arriving.Arrival
 use Rattle.sctp_refinement.proofs.arriving.Arrival.{with_arrived}
 

@@ -5,9 +5,9 @@ use Rattle.std.specs.Prelude.{◌⊎◌, if◌then◌else◌, ◌==◌, ◌&&◌
 use Rattle.std.specs.List.{list_all}
 use Rattle.std.proofs.lemmas.Bool.{cases_lt}
 use Rattle.std.proofs.lemmas.Bool.Decides.{nat_tests}
-use Rattle.sctp_list_lemmas.specs.Kept.{numbers_where}
-use Rattle.sctp_list_lemmas.proofs.Passing.{length-kept-le}
-use Rattle.sctp_list_lemmas.proofs.Lines.{IsAt}
+use Rattle.sctp_util.specs.Kept.{numbers_where}
+use Rattle.sctp_util.proofs.Passing.{length-kept-le}
+use Rattle.sctp_util.proofs.Lines.{IsAt}
 use Rattle.sctp_model.specs.LinkRecord.{LinkRecord}
 use Rattle.sctp_model.specs.Messages.{slot_at, message_of, fragment_count, has_fragment, is_unordered_on}
 use Rattle.sctp_model.specs.Receiver.{arrived_at, is_complete_message}
@@ -16,10 +16,10 @@ use Rattle.sctp_serial.specs.Runs.{IsRun}
 use Rattle.sctp_model.specs.Contents.{chunk_at}
 use Rattle.sctp_model.specs.Queues.{is_unassembled}
 use Rattle.sctp_model.specs.Valid.{Valid, ValidUnassembled}
-use Rattle.sctp_list_lemmas.proofs.More.{not_both, both, and}
+use Rattle.sctp_util.proofs.More.{not_both, both, and}
 use Rattle.sctp_refinement.proofs.arriving.Arrival
-use Rattle.sctp_list_lemmas.proofs.Cases.{negated}
-use Rattle.sctp_list_lemmas.proofs.Places.{kept-place}
+use Rattle.sctp_util.proofs.Cases.{negated}
+use Rattle.sctp_util.proofs.Places.{kept-place}
 
 -- ## Lists
 

@@ -5,29 +5,29 @@ use Rattle.std.specs.Prelude.{◌⊎◌, ◌==◌, ◌&&◌, not, nat_le}
 use Rattle.std.specs.List.{list_all}
 use Rattle.std.proofs.lemmas.Bool.{cases_lt}
 use Rattle.std.proofs.lemmas.Bool.Decides.{nat_tests}
-use Rattle.sctp_list_lemmas.specs.Kept.{numbers_where}
-use Rattle.sctp_list_lemmas.specs.Lists.{insert_before}
+use Rattle.sctp_util.specs.Kept.{numbers_where}
+use Rattle.sctp_util.specs.Lists.{insert_before}
 use Rattle.sctp_data.specs.declared.chunk.chunk_payload_data.ChunkPayloadData.{ChunkPayloadData}
 use Rattle.sctp_serial.specs.Runs.{IsRun, IsEarliestRun, HasNoRun}
 use Rattle.sctp_serial.specs.DataChunks.{chunk_before}
 use Rattle.sctp_model.specs.Contents.{chunk_at}
 use Rattle.sctp_refinement.specs.Holds.{has_come, unassembled_chunks}
 use Rattle.sctp_model.specs.Queues.{is_unassembled}
-use Rattle.sctp_list_lemmas.proofs.Passing.{map-kept-same, map-kept-inserted, kept-snoc_in, length-kept-le, length-kept-mono}
+use Rattle.sctp_util.proofs.Passing.{map-kept-same, map-kept-inserted, kept-snoc_in, length-kept-le, length-kept-mono}
 use Rattle.sctp_model.specs.LinkRecord.{LinkRecord}
 use Rattle.sctp_model.specs.Messages.{message_at, slot_at, message_of, fragment_count, has_fragment, slots_of, is_unordered_on}
 use Rattle.sctp_model.specs.Receiver.{arrived_at, arrived_of, has_arrived, cumulative, is_complete_message}
 use Rattle.sctp_model.specs.Changes.{becomes_complete}
 use Rattle.sctp_model.specs.Valid.{IsLaid, Valid, IsWaiting, ValidUnassembled}
-use Rattle.sctp_list_lemmas.proofs.More.{fails, not_both, both, and}
+use Rattle.sctp_util.proofs.More.{fails, not_both, both, and}
 use Rattle.sctp_refinement.proofs.arriving.Arrival
 use Rattle.sctp_refinement.proofs.arriving.Arrival.{with_arrived}
 use Rattle.sctp_refinement.proofs.arriving.Stays
 use Rattle.sctp_refinement.proofs.arriving.Stays.{by_place}
 use Rattle.sctp_refinement.proofs.arriving.Unassembled.{get-map, length-map, length-kept-all, kept-full, all-kept, kept-all, unassembled, is-unassembled}
 use Rattle.sctp_refinement.proofs.arriving.Unassembled.{IsCompleteRun, run-is}
-use Rattle.sctp_list_lemmas.proofs.Cases.{negated}
-use Rattle.sctp_list_lemmas.proofs.Places.{kept-get}
+use Rattle.sctp_util.proofs.Cases.{negated}
+use Rattle.sctp_util.proofs.Places.{kept-get}
 
 -- what an accepted Arrive of a new slot of an unordered message knows
 pub record ArrivesUnassembled (w : LinkRecord) (s p : ℕ) : Type 0 where

@@ -5,8 +5,8 @@ use Rattle.std.specs.Prelude.{◌⊎◌, if◌then◌else◌, ◌==◌, ◌&&◌
 use Rattle.std.specs.List.{list_any}
 use Rattle.std.proofs.lemmas.Bool.Decides.{nat_tests}
 use Rattle.std.proofs.lemmas.List.{map-append}
-use Rattle.sctp_list_lemmas.specs.Kept.{numbers_where}
-use Rattle.sctp_list_lemmas.specs.Lists.{insert_before}
+use Rattle.sctp_util.specs.Kept.{numbers_where}
+use Rattle.sctp_util.specs.Lists.{insert_before}
 use Rattle.sctp_data.specs.declared.chunk.chunk_payload_data.ChunkPayloadData.{ChunkPayloadData}
 use Rattle.sctp_data.specs.ChunkSet.{ChunkSet}
 use Rattle.sctp_serial.specs.Runs.{IsEarliestRun, HasNoRun}
@@ -14,14 +14,14 @@ use Rattle.sctp_serial.specs.DataChunks.{chunk_before}
 use Rattle.sctp_model.specs.Contents.{chunk_at}
 use Rattle.sctp_model.specs.Queues.{set_of, complete_set_of, is_unassembled}
 use Rattle.sctp_refinement.specs.Holds.{ordered_sets, complete_sets, unassembled_chunks}
-use Rattle.sctp_list_lemmas.proofs.Passing.{kept-same, kept-none, map-kept-same}
+use Rattle.sctp_util.proofs.Passing.{kept-same, kept-none, map-kept-same}
 use Rattle.sctp_model.specs.LinkRecord.{LinkRecord, StreamRecord}
 use Rattle.sctp_model.specs.Messages.{message_at, message_of, stream_at, stream_of, no_stream, is_ordered_on, index_of, fragment_count, has_fragment}
 use Rattle.sctp_model.specs.Messages.{is_unordered_on}
 use Rattle.sctp_model.specs.Receiver.{arrived_at, arrived_of, has_arrived, is_complete_message, is_unread, is_held, next_of, is_new}
 use Rattle.sctp_model.specs.Changes.{stream_changed, with_complete, becomes_complete, receive_slot}
 use Rattle.sctp_model.specs.Valid.{Valid, ValidUnassembled}
-use Rattle.sctp_list_lemmas.proofs.More.{fails, not_both}
+use Rattle.sctp_util.proofs.More.{fails, not_both}
 use Rattle.sctp_refinement.proofs.reading.Line.{on-ordered}
 use Rattle.sctp_refinement.proofs.arriving.Arrival
 use Rattle.sctp_refinement.proofs.arriving.Arrival.{with_arrived, kept-window}

@@ -4,8 +4,8 @@ use Rattle.std.proofs.Common.{Option}
 use Rattle.std.specs.Prelude.{◌⊎◌, ◌==◌, ◌&&◌, if◌then◌else◌, option_map}
 use Rattle.std.specs.List.{list_any}
 use Rattle.std.proofs.Math.Path.{subst}
-use Rattle.sctp_list_lemmas.proofs.Cases.{same-yes, same-is, or-left}
-use Rattle.sctp_list_lemmas.proofs.Passing.{front-kept, FrontOf}
+use Rattle.sctp_util.proofs.Cases.{same-yes, same-is, or-left}
+use Rattle.sctp_util.proofs.Passing.{front-kept, FrontOf}
 use Rattle.sctp_data.specs.ChunkSet.{ChunkSet}
 use Rattle.sctp_data.specs.declared.chunk.chunk_payload_data.ChunkPayloadData.{ChunkPayloadData}
 use Rattle.sctp_serial.specs.DataChunks.{bytes_of}

@@ -3,7 +3,7 @@ use Rattle.std.proofs.Common.{◌≡◌, ℕ, Bool, true, false, List, [], lengt
 use Rattle.std.specs.Prelude.{if◌then◌else◌, ◌==◌, ◌&&◌, ◌||◌, not, nat_le, unwrap_or}
 use Rattle.std.specs.List.{list_any}
 use Rattle.std.proofs.lemmas.Bool.Decides.{nat_tests}
-use Rattle.sctp_list_lemmas.proofs.Passing.{map-kept-same}
+use Rattle.sctp_util.proofs.Passing.{map-kept-same}
 use Rattle.sctp_model.specs.LinkRecord.{LinkRecord, StreamRecord}
 use Rattle.sctp_model.specs.Messages.{message_at, message_of, stream_at, stream_of, no_stream, is_ordered_on, is_unordered_on}
 use Rattle.sctp_model.specs.Receiver.{arrived_at, has_arrived, is_complete_message}
@@ -12,7 +12,7 @@ use Rattle.sctp_model.specs.Changes
 use Rattle.sctp_model.specs.Contents.{chunk_at}
 use Rattle.sctp_model.specs.Queues.{complete_set_of, is_unassembled}
 use Rattle.sctp_refinement.specs.Holds.{reassembly_of}
-use Rattle.sctp_list_lemmas.proofs.More.{fails, not_both}
+use Rattle.sctp_util.proofs.More.{fails, not_both}
 use Rattle.sctp_refinement.proofs.arriving.Arrival.{with_arrived}
 use Rattle.sctp_refinement.proofs.arriving.Stays
 use Rattle.sctp_refinement.proofs.arriving.Stays.{by_place}

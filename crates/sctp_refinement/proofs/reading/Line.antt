@@ -4,13 +4,13 @@ use Rattle.std.specs.Prelude.{◌⊎◌, ◌==◌, ◌&&◌, not}
 use Rattle.std.proofs.lemmas.Bool.{cases_lt}
 use Rattle.std.proofs.lemmas.Bool.Decides.{nat_tests}
 use Rattle.std.proofs.lemmas.Grind.{common_steps}
-use Rattle.sctp_list_lemmas.specs.Kept.{numbers_where, leading}
-use Rattle.sctp_list_lemmas.proofs.Passing.{length-kept-lt}
+use Rattle.sctp_util.specs.Kept.{numbers_where, leading}
+use Rattle.sctp_util.proofs.Passing.{length-kept-lt}
 use Rattle.sctp_model.specs.LinkRecord.{LinkRecord}
 use Rattle.sctp_model.specs.Messages.{message_at, stream_of, is_ordered_on, index_of, ssn_of, ordered_on, no_message}
 use Rattle.sctp_model.specs.Receiver.{next_of}
-use Rattle.sctp_list_lemmas.proofs.More.{not_both, both}
-use Rattle.sctp_list_lemmas.proofs.Places.{leading-passes, leading-stops, leading-le, leading-is, get-drop, length-dropped, kept-get, kept-place}
+use Rattle.sctp_util.proofs.More.{not_both, both}
+use Rattle.sctp_util.proofs.Places.{leading-passes, leading-stops, leading-le, leading-is, get-drop, length-dropped, kept-get, kept-place}
 
 -- ## Indexes
 

@@ -2,9 +2,9 @@
 use Rattle.std.proofs.Common.{◌≡◌, ℕ, ◌<◌, true, false, List, [], ◌∷◌, length, map, Option, Some, None, refl, ap, sym, ◌∙◌}
 use Rattle.std.specs.Prelude.{if◌then◌else◌, ◌==◌, ◌&&◌, not, nat_le}
 use Rattle.std.specs.List.{list_any, filter}
-use Rattle.sctp_list_lemmas.specs.Kept.{numbers_where, first_of, or_else}
-use Rattle.sctp_list_lemmas.proofs.Passing.{map-kept-same}
-use Rattle.sctp_list_lemmas.proofs.More.{fails}
+use Rattle.sctp_util.specs.Kept.{numbers_where, first_of, or_else}
+use Rattle.sctp_util.proofs.Passing.{map-kept-same}
+use Rattle.sctp_util.proofs.More.{fails}
 use Rattle.sctp_reassembly.specs.reassembly_queue.ReassemblyQueue.{Reassembly, after_read, without_first, message_among, message_read, rest_among, rest_read}
 use Rattle.sctp_model.specs.LinkRecord.{LinkRecord, StreamRecord}
 use Rattle.sctp_model.specs.Messages.{message_at, message_of, stream_at, stream_of, is_unordered_on}

@@ -4,25 +4,25 @@ use Rattle.std.proofs.Common.{arith}
 use Rattle.std.specs.Prelude.{◌⊎◌, if◌then◌else◌, ◌==◌, ◌&&◌, not, nat_le}
 use Rattle.std.proofs.lemmas.Bool.Decides.{nat_tests}
 use Rattle.std.proofs.Math.Nat.{eq-or-lt_of_le}
-use Rattle.sctp_list_lemmas.specs.Kept.{numbers_where}
-use Rattle.sctp_list_lemmas.specs.Lists.{change_at}
+use Rattle.sctp_util.specs.Kept.{numbers_where}
+use Rattle.sctp_util.specs.Lists.{change_at}
 use Rattle.sctp_reassembly.specs.reassembly_queue.ReassemblyQueue.{after_read, without_first}
 use Rattle.sctp_model.specs.Contents.{chunk_at}
 use Rattle.sctp_model.specs.Queues.{set_of, complete_set_of, is_unassembled}
 use Rattle.sctp_refinement.specs.Holds.{ordered_sets, complete_sets, unassembled_chunks, reassembly_of}
-use Rattle.sctp_list_lemmas.proofs.Passing.{kept-same, kept-skip, map-kept-same, front-kept, FrontOf, IsFront}
+use Rattle.sctp_util.proofs.Passing.{kept-same, kept-skip, map-kept-same, front-kept, FrontOf, IsFront}
 use Rattle.sctp_model.specs.LinkRecord.{LinkRecord}
 use Rattle.sctp_model.specs.Messages.{message_at, message_of, stream_of, no_message, is_ordered_on, index_of, ssn_of, fragments_of, has_fragment, ordered_on}
 use Rattle.sctp_model.specs.Messages.{slots_of, is_unordered_on}
 use Rattle.sctp_model.specs.Receiver.{arrived_at, is_complete_message, is_held, held_on, next_of}
 use Rattle.sctp_model.specs.Changes.{mark_read}
 use Rattle.sctp_model.specs.Valid.{IsSpan, Valid}
-use Rattle.sctp_list_lemmas.proofs.More.{fails, not_both, length-changed, changed-same, changed-other, changed-keeps}
-use Rattle.sctp_list_lemmas.proofs.Wraps.{same16-index}
+use Rattle.sctp_util.proofs.More.{fails, not_both, length-changed, changed-same, changed-other, changed-keeps}
+use Rattle.sctp_util.proofs.Wraps.{same16-index}
 use Rattle.sctp_refinement.proofs.reading.Line
 use Rattle.sctp_refinement.proofs.reading.Line.{on-made, on-ordered, ssn_on, line-at, index-at, next_is, next_le, next_passes}
 use Rattle.sctp_refinement.proofs.arriving.Stays.{map-all, by_place}
-use Rattle.sctp_list_lemmas.proofs.Wraps
+use Rattle.sctp_util.proofs.Wraps
 use Rattle.sctp_refinement.proofs.reading.Taken
 use Rattle.sctp_refinement.proofs.reading.Taken.{held, IsDue, complete_held}
 

@@ -5,22 +5,22 @@ use Rattle.std.specs.Prelude.{◌⊎◌, if◌then◌else◌, ◌&&◌, ◌||◌
 use Rattle.std.proofs.lemmas.Bool.{cases_lt}
 use Rattle.std.proofs.lemmas.Bool.Decides.{nat_tests}
 use Rattle.std.proofs.Math.Nat.{eq-or-lt_of_le}
-use Rattle.sctp_list_lemmas.specs.Kept.{numbers_where, first_of}
-use Rattle.sctp_list_lemmas.proofs.Passing.{kept-none, kept-skip, front-kept, FrontOf, IsFront}
+use Rattle.sctp_util.specs.Kept.{numbers_where, first_of}
+use Rattle.sctp_util.proofs.Passing.{kept-none, kept-skip, front-kept, FrontOf, IsFront}
 use Rattle.sctp_model.specs.LinkRecord.{LinkRecord}
 use Rattle.sctp_model.specs.Messages.{message_at, stream_of, is_ordered_on, index_of, ssn_of, fragment_count}
 use Rattle.sctp_model.specs.Receiver.{arrived_of, has_arrived, is_complete_message, is_unread, is_held, held_on, next_of}
 use Rattle.sctp_reassembly.specs.reassembly_queue.Fragments.{is_complete}
 use Rattle.sctp_reassembly.specs.reassembly_queue.ReassemblyQueue.{is_readable, front_readable}
-use Rattle.sctp_list_lemmas.specs.Serial.{at_or_before16}
+use Rattle.sctp_util.specs.Serial.{at_or_before16}
 use Rattle.sctp_model.specs.Queues.{set_of}
 use Rattle.sctp_refinement.specs.Holds.{ordered_sets, chunks_come}
 use Rattle.sctp_model.specs.Valid.{IsSpan, Valid}
-use Rattle.sctp_list_lemmas.proofs.More.{fails, not_both, both, and}
-use Rattle.sctp_list_lemmas.proofs.Wraps.{at_or_before16-index}
+use Rattle.sctp_util.proofs.More.{fails, not_both, both, and}
+use Rattle.sctp_util.proofs.Wraps.{at_or_before16-index}
 use Rattle.sctp_refinement.proofs.reading.Line.{on-made, on-ordered, ssn_on, index-lt, next_reads}
 use Rattle.sctp_refinement.proofs.arriving.Arrival.{set_is_complete}
-use Rattle.sctp_list_lemmas.proofs.Cases.{negated}
+use Rattle.sctp_util.proofs.Cases.{negated}
 
 -- an ordered message that may be read: complete, unread, and not after the one expected next
 abbrev pub is_due : LinkRecord → ℕ → ℕ → Bool

@@ -3,8 +3,8 @@ use Rattle.std.proofs.Common.{◌≡◌, ℕ, ◌<◌, Bool, true, false, List, 
 use Rattle.std.specs.Prelude.{if◌then◌else◌, ◌==◌, ◌&&◌, ◌||◌, not, nat_le}
 use Rattle.std.specs.List.{list_any}
 use Rattle.std.proofs.lemmas.Bool.Decides.{nat_tests}
-use Rattle.sctp_list_lemmas.specs.Kept.{numbers_where}
-use Rattle.sctp_list_lemmas.proofs.Passing.{map-kept-same}
+use Rattle.sctp_util.specs.Kept.{numbers_where}
+use Rattle.sctp_util.proofs.Passing.{map-kept-same}
 use Rattle.sctp_model.specs.LinkRecord.{LinkRecord, StreamRecord}
 use Rattle.sctp_model.specs.Messages.{message_at, message_of, stream_at, stream_of, is_ordered_on, ordered_on, is_unordered_on}
 use Rattle.sctp_model.specs.Receiver.{arrived_at, has_arrived, is_complete_message, is_held, next_of}
@@ -15,7 +15,7 @@ use Rattle.sctp_model.specs.Contents.{chunk_at}
 use Rattle.sctp_refinement.specs.Holds.{ordered_sets, unassembled_chunks, reassembly_of}
 use Rattle.sctp_model.specs.Queues.{set_of, complete_set_of, is_unassembled}
 use Rattle.sctp_model.specs.Valid.{Valid}
-use Rattle.sctp_list_lemmas.proofs.More.{fails, not_both}
+use Rattle.sctp_util.proofs.More.{fails, not_both}
 use Rattle.sctp_refinement.proofs.reading.Line
 use Rattle.sctp_refinement.proofs.reading.Line.{index-at, next_is, next_le, next_passes}
 use Rattle.sctp_refinement.proofs.arriving.Stays

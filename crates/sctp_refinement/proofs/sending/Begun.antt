@@ -3,10 +3,10 @@ use Rattle.std.proofs.Common.{◌≡◌, ℕ, ◌+◌, ◌-◌, ◌<◌, ◌≤�
 use Rattle.std.specs.Prelude.{◌⊎◌, if◌then◌else◌, ◌==◌, ◌&&◌, not, nat_lt}
 use Rattle.std.proofs.lemmas.Bool.{cases_lt}
 use Rattle.std.proofs.lemmas.Bool.Decides.{nat_tests}
-use Rattle.sctp_list_lemmas.specs.Kept.{numbers_where}
-use Rattle.sctp_list_lemmas.proofs.Passing.{kept-same, kept-snoc_out, length-kept-le}
-use Rattle.sctp_list_lemmas.proofs.More.{fails, both, and, same_test, length-kept-one_more, kept-short}
-use Rattle.sctp_list_lemmas.proofs.Cases.{by_same, same-yes, same-is, negated}
+use Rattle.sctp_util.specs.Kept.{numbers_where}
+use Rattle.sctp_util.proofs.Passing.{kept-same, kept-snoc_out, length-kept-le}
+use Rattle.sctp_util.proofs.More.{fails, both, and, same_test, length-kept-one_more, kept-short}
+use Rattle.sctp_util.proofs.Cases.{by_same, same-yes, same-is, negated}
 use Rattle.sctp_model.proofs.sender.Shape.{Shape, MessagePart, sent, on, index, slotted, written}
 use Rattle.sctp_model.proofs.sender.Sender.{Sender, sent-slotted}
 use Rattle.sctp_model.proofs.sender.SenderSteps.{Takes, sent-other, sent-here}

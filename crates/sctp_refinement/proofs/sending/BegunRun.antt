@@ -13,9 +13,9 @@ use Rattle.sctp_model.proofs.sender.Shapes
 use Rattle.sctp_model.proofs.sender.Sender.{sent-slotted}
 use Rattle.sctp_model.proofs.sender.SenderRun.{Consistent}
 use Rattle.sctp_model.proofs.sender.Network.{extends-after, same-received, same-taken, same-read}
-use Rattle.sctp_list_lemmas.proofs.Passing.{kept-none}
-use Rattle.sctp_list_lemmas.proofs.More.{fails, not_both, both}
-use Rattle.sctp_list_lemmas.proofs.Cases.{same-is}
+use Rattle.sctp_util.proofs.Passing.{kept-none}
+use Rattle.sctp_util.proofs.More.{fails, not_both, both}
+use Rattle.sctp_util.proofs.Cases.{same-is}
 use Rattle.sctp_refinement.proofs.sending.Begun.{begins_on, begun, begun-written, begun-marked, Indexed, indexed-grown}
 
 -- no fragment is sent

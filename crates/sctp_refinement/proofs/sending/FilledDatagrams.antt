@@ -4,9 +4,9 @@ use Rattle.std.proofs.Common.{◌∙◌, arith, length-append, ◌*◌}
 use Rattle.std.specs.Prelude.{if◌then◌else◌, nat_le, is_some, IfSome, not, ◌==◌, ◌%◌, ◌^◌}
 use Rattle.std.proofs.Math.Path.{subst}
 use Rattle.std.proofs.lemmas.Bool.Decides.{nat_tests}
-use Rattle.sctp_list_lemmas.specs.Kept.{numbers_from}
-use Rattle.sctp_list_lemmas.specs.Lists.{pieces}
-use Rattle.sctp_list_lemmas.proofs.Getting.{get-snoc_old, get-snoc_new}
+use Rattle.sctp_util.specs.Kept.{numbers_from}
+use Rattle.sctp_util.specs.Lists.{pieces}
+use Rattle.sctp_util.proofs.Getting.{get-snoc_old, get-snoc_new}
 use Rattle.sctp_data.specs.declared.chunk.chunk_payload_data.ChunkPayloadData.{ChunkPayloadData}
 use Rattle.sctp_data.specs.PayloadData.{Data, data_of}
 use Rattle.sctp_outbound.specs.pending_queue.PendingQueue.{Pending, next_pending}

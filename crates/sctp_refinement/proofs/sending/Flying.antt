@@ -1,8 +1,8 @@
 -- What is in flight, against the record.
 use Rattle.std.proofs.Common.{◌≡◌, ◌+◌, ◌-◌, ◌<◌, ◌^◌, length, ap, sym, ◌∙◌, arith}
-use Rattle.sctp_list_lemmas.specs.Kept.{numbers_from}
-use Rattle.sctp_list_lemmas.proofs.Getting.{length-mapped}
-use Rattle.sctp_list_lemmas.proofs.Totals.{length-numbers}
+use Rattle.sctp_util.specs.Kept.{numbers_from}
+use Rattle.sctp_util.proofs.Getting.{length-mapped}
+use Rattle.sctp_util.proofs.Totals.{length-numbers}
 use Rattle.sctp_outbound.specs.outbound_queue.OutboundQueue.{Outbound}
 use Rattle.sctp_model.specs.LinkRecord.{Setup, LinkRecord}
 use Rattle.sctp_model.proofs.sender.Few

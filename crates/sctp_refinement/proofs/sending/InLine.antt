@@ -1,9 +1,9 @@
 -- The count of the ordered messages before a message: what events leave of it, and what a write adds.
 use Rattle.std.proofs.Common.{◌≡◌, ℕ, ◌+◌, ◌<◌, ◌≤◌, Bool, true, false, List, [], ◌∷◌, ◌++◌, length, refl, ap, ◌∙◌, arith, add-one, length-append}
 use Rattle.std.specs.Prelude.{if◌then◌else◌, ◌==◌, ◌&&◌, not}
-use Rattle.sctp_list_lemmas.specs.Kept.{numbers_where}
-use Rattle.sctp_list_lemmas.proofs.Passing.{kept-same, kept-snoc}
-use Rattle.sctp_list_lemmas.proofs.Getting.{get-snoc_old, get-snoc_new, get-map}
+use Rattle.sctp_util.specs.Kept.{numbers_where}
+use Rattle.sctp_util.proofs.Passing.{kept-same, kept-snoc}
+use Rattle.sctp_util.proofs.Getting.{get-snoc_old, get-snoc_new, get-map}
 use Rattle.sctp_model.specs.LinkRecord.{Message, LinkRecord}
 use Rattle.sctp_model.specs.Messages.{message_at, no_message, is_ordered_on, ordered_before}
 use Rattle.sctp_model.specs.Changes.{after_start, start_lifetime}

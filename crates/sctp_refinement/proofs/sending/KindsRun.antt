@@ -4,7 +4,7 @@ use Rattle.std.specs.Prelude.{◌⊎◌, if◌then◌else◌, ◌==◌, ◌&&◌
 use Rattle.std.proofs.Math.Path.{subst}
 use Rattle.std.proofs.lemmas.Bool.{cases_lt}
 use Rattle.std.proofs.lemmas.Bool.Decides.{nat_tests}
-use Rattle.sctp_list_lemmas.proofs.Cases.{by_same}
+use Rattle.sctp_util.proofs.Cases.{by_same}
 use Rattle.sctp_model.specs.declared.event.Event.{Event}
 use Rattle.sctp_model.specs.declared.event.Event.TheVariants as E
 use Rattle.sctp_model.specs.LinkRecord.{Setup, Datagram, Forward, Sack, LinkRecord, start}
@@ -19,8 +19,8 @@ use Rattle.sctp_model.specs.Log.{log_of}
 use Rattle.sctp_model.specs.Laws.{IsSetup}
 use Rattle.sctp_model.proofs.sender.Shape.{Shape, MessagePart, shape, sent, partial, unsent, slotted, written, abandoned_at, expired_at, message_part}
 use Rattle.sctp_model.proofs.sender.Sender.{Sender, sent-slotted}
-use Rattle.sctp_list_lemmas.specs.Lists.{pieces}
-use Rattle.sctp_list_lemmas.proofs.Getting.{length-numbered}
+use Rattle.sctp_util.specs.Lists.{pieces}
+use Rattle.sctp_util.proofs.Getting.{length-numbered}
 use Rattle.sctp_model.proofs.sender.SenderSteps.{of-partial, is-partial, sent-other}
 use Rattle.sctp_model.proofs.sender.SenderEnds.{sent-none}
 use Rattle.sctp_model.proofs.sender.SenderRun.{Consistent, consistent-run, consistent-takes, consistent-started, sends-keep, fold-keeps}

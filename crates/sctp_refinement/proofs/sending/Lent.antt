@@ -2,7 +2,7 @@
 use Rattle.std.proofs.Common.{◌≡◌, ℕ, ◌-◌, List, [], ◌∷◌, ◌++◌, length, map, Option, Some, None, refl, ap, sym, ◌∙◌}
 use Rattle.std.proofs.lemmas.List.{map-append}
 use Rattle.std.specs.List.{flat_map}
-use Rattle.sctp_list_lemmas.specs.Kept.{numbers_from, first_of}
+use Rattle.sctp_util.specs.Kept.{numbers_from, first_of}
 use Rattle.sctp_outbound.specs.pending_queue.PendingQueue.{Pending}
 use Rattle.sctp_outbound.specs.outbound_queue.OutboundQueue.{Outbound}
 use Rattle.sctp_model.specs.LinkRecord.{LinkRecord}
@@ -10,7 +10,7 @@ use Rattle.sctp_model.specs.Messages.{messages_where, is_partially_sent, sent_of
 use Rattle.sctp_model.specs.Queues.{PendingRecord, pending_fragments, pending_of, in_flight_of, kind_of}
 use Rattle.sctp_refinement.specs.Refines.{waiting_at, waiting_of, sending_of, RefinesPending, RefinesOutbound, pending_shown, in_flight_shown, selected_shown}
 use Rattle.sctp_refinement.specs.Refines.{selected_of, shown}
-use Rattle.sctp_list_lemmas.proofs.Getting.{map-twice}
+use Rattle.sctp_util.proofs.Getting.{map-twice}
 
 map-gathered : {A B : Type 0} (f : A → B) (g : ℕ → List A) (h : ℕ → List B) (xs : List ℕ) → ((n : ℕ) → map f (g n) ≡ h n)
     → map f (flat_map g xs) ≡ flat_map h xs

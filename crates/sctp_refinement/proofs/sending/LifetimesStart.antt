@@ -7,10 +7,10 @@ use Rattle.std.proofs.lemmas.Bool.Decides.{nat_tests}
 use Rattle.std.specs.List.{flat_map}
 use Rattle.sctp_data.specs.Reliability.{is_timed}
 use Rattle.sctp_data.specs.PayloadTypes.{is_dcep}
-use Rattle.sctp_list_lemmas.specs.Kept.{numbers_where, numbers_from, first_of}
-use Rattle.sctp_list_lemmas.specs.Lists.{change_where, pieces}
-use Rattle.sctp_list_lemmas.proofs.Passing.{kept-same, front-kept, FrontOf}
-use Rattle.sctp_list_lemmas.proofs.Getting.{map-at, length-mapped}
+use Rattle.sctp_util.specs.Kept.{numbers_where, numbers_from, first_of}
+use Rattle.sctp_util.specs.Lists.{change_where, pieces}
+use Rattle.sctp_util.proofs.Passing.{kept-same, front-kept, FrontOf}
+use Rattle.sctp_util.proofs.Getting.{map-at, length-mapped}
 use Rattle.sctp_data.specs.declared.chunk.chunk_payload_data.ChunkPayloadData.{ChunkPayloadData}
 use Rattle.sctp_data.specs.declared.chunk.chunk_payload_data.PayloadProtocolIdentifier.{PayloadProtocolIdentifier}
 use Rattle.sctp_data.specs.declared.chunk.chunk_payload_data.PayloadProtocolIdentifier.TheVariants.{Dcep, String, Binary, StringEmpty, BinaryEmpty, Unknown}

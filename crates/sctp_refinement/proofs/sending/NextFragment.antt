@@ -13,7 +13,7 @@ use Rattle.sctp_model.proofs.sender.Fronts.{front-takes}
 use Rattle.sctp_refinement.specs.Refines.{waiting_at}
 use Rattle.sctp_refinement.proofs.sending.FilledDatagrams.{after_fragments, only-slots, shown-after}
 use Rattle.sctp_refinement.proofs.sending.Fragments.{shown, idle}
-use Rattle.sctp_list_lemmas.proofs.Cases.{some-same}
+use Rattle.sctp_util.proofs.Cases.{some-same}
 use Rattle.sctp_refinement.proofs.Lists.{piece-short}
 use Rattle.sctp_model.specs.declared.event.Event.TheVariants as E
 use Rattle.sctp_model.specs.Messages as M

@@ -4,11 +4,11 @@ use Rattle.std.proofs.Common.{inr, arith, append-nil, length-append}
 use Rattle.std.specs.Prelude.{◌⊎◌, if◌then◌else◌, ◌==◌, ◌&&◌, ◌||◌, not, nat_le, nat_lt}
 use Rattle.std.specs.List.{list_any}
 use Rattle.std.proofs.lemmas.Bool.{cases_lt}
-use Rattle.sctp_list_lemmas.specs.Kept.{numbers_where, unbroken}
-use Rattle.sctp_list_lemmas.proofs.Passing.{kept-same, map-kept-same, unbroken-same}
-use Rattle.sctp_list_lemmas.proofs.Cases.{same-yes, same-is, or-left, or-right}
+use Rattle.sctp_util.specs.Kept.{numbers_where, unbroken}
+use Rattle.sctp_util.proofs.Passing.{kept-same, map-kept-same, unbroken-same}
+use Rattle.sctp_util.proofs.Cases.{same-yes, same-is, or-left, or-right}
 use Rattle.sctp_refinement.proofs.arriving.UnorderedStep.{kept-split}
-use Rattle.sctp_list_lemmas.proofs.More.{fails, kept-short}
+use Rattle.sctp_util.proofs.More.{fails, kept-short}
 use Rattle.sctp_data.specs.ChunkSet.{ChunkSet}
 use Rattle.sctp_model.specs.LinkRecord.{Setup, LinkRecord}
 use Rattle.sctp_model.specs.Messages.{message_at, message_of, stream_of, is_ordered_on, is_unordered_on, index_of, ssn_of, has_fragment, slots_of, sent_of}

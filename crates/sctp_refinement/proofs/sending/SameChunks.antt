@@ -1,7 +1,7 @@
 -- What a chunk says, where the same is known of its slot.
 use Rattle.std.proofs.Common.{◌≡◌, ℕ, ◌+◌, ◌%◌, ◌^◌, false, [], length, ap, sym, ◌∙◌}
 use Rattle.std.specs.Prelude.{◌==◌, not, if◌then◌else◌, slice_index_or}
-use Rattle.sctp_list_lemmas.specs.Lists.{pieces}
+use Rattle.sctp_util.specs.Lists.{pieces}
 use Rattle.sctp_data.specs.ChunkSet.{fresh}
 use Rattle.sctp_data.specs.declared.chunk.chunk_payload_data.ChunkPayloadData.{ChunkPayloadData}
 use Rattle.sctp_model.specs.LinkRecord.{LinkRecord}

@@ -6,11 +6,11 @@ use Rattle.std.proofs.Math.Path.{subst}
 use Rattle.std.proofs.lemmas.Bool.{cases_lt}
 use Rattle.std.proofs.lemmas.Bool.Decides.{nat_tests}
 use Rattle.std.specs.List.{flat_map}
-use Rattle.sctp_list_lemmas.specs.Kept.{numbers_where, numbers_from, first_of, or_else}
-use Rattle.sctp_list_lemmas.proofs.Passing.{kept-none, front-kept, FrontOf}
-use Rattle.sctp_list_lemmas.proofs.More.{fails, not_both, both}
-use Rattle.sctp_list_lemmas.proofs.Cases.{by_same, negated, same-yes, same-is}
-use Rattle.sctp_list_lemmas.proofs.Tests.{FirstOf, first-kept}
+use Rattle.sctp_util.specs.Kept.{numbers_where, numbers_from, first_of, or_else}
+use Rattle.sctp_util.proofs.Passing.{kept-none, front-kept, FrontOf}
+use Rattle.sctp_util.proofs.More.{fails, not_both, both}
+use Rattle.sctp_util.proofs.Cases.{by_same, negated, same-yes, same-is}
+use Rattle.sctp_util.proofs.Tests.{FirstOf, first-kept}
 use Rattle.sctp_data.specs.declared.chunk.chunk_payload_data.ChunkPayloadData.{ChunkPayloadData}
 use Rattle.sctp_outbound.specs.declared.pending_queue.Selected.{Selected}
 use Rattle.sctp_outbound.specs.pending_queue.PendingQueue.{Pending, list_of, front_of, next_pending, next_pending_of, list_to_pop, rest_after, rest_from}

@@ -4,13 +4,13 @@ use Rattle.std.specs.Prelude.{if◌then◌else◌}
 use Rattle.std.proofs.Math.Path.{subst}
 use Rattle.std.proofs.lemmas.Bool.Decides.{nat_tests}
 use Rattle.std.proofs.lemmas.List.{map-append}
-use Rattle.sctp_list_lemmas.specs.Kept.{numbers_where, always, numbers_from}
-use Rattle.sctp_list_lemmas.specs.Lists.{insert_before}
-use Rattle.sctp_list_lemmas.specs.Serial.{comes_before}
-use Rattle.sctp_list_lemmas.proofs.Passing.{map-kept-same, kept-snoc_in}
-use Rattle.sctp_list_lemmas.proofs.Getting.{get-snoc_old, get-snoc_new}
-use Rattle.sctp_list_lemmas.proofs.Round.{comes_before-tsn}
-use Rattle.sctp_list_lemmas.proofs.Cases.{by_last}
+use Rattle.sctp_util.specs.Kept.{numbers_where, always, numbers_from}
+use Rattle.sctp_util.specs.Lists.{insert_before}
+use Rattle.sctp_util.specs.Serial.{comes_before}
+use Rattle.sctp_util.proofs.Passing.{map-kept-same, kept-snoc_in}
+use Rattle.sctp_util.proofs.Getting.{get-snoc_old, get-snoc_new}
+use Rattle.sctp_util.proofs.Round.{comes_before-tsn}
+use Rattle.sctp_util.proofs.Cases.{by_last}
 use Rattle.sctp_data.specs.declared.chunk.chunk_payload_data.ChunkPayloadData.{ChunkPayloadData}
 use Rattle.sctp_serial.specs.DataChunks.{chunk_before}
 use Rattle.sctp_outbound.specs.outbound_queue.OutboundQueue.{Outbound, as_sent, sent_of, sent_peeked}

@@ -2,10 +2,10 @@
 use Rattle.std.proofs.Common.{◌≡◌, ℕ, ◌+◌, ◌<◌, Bool, true, false, List, [], ◌∷◌, length, Option, Some, None, refl, ap, sym, ◌∙◌, arith, add-one, length-append}
 use Rattle.std.specs.Prelude.{if◌then◌else◌, ◌==◌, ◌||◌, not, fold, slice_get}
 use Rattle.std.proofs.Math.Path.{subst}
-use Rattle.sctp_list_lemmas.specs.Kept.{numbers_where}
-use Rattle.sctp_list_lemmas.proofs.Passing.{kept-snoc_in}
-use Rattle.sctp_list_lemmas.proofs.More.{not_both, and}
-use Rattle.sctp_list_lemmas.proofs.Cases.{by_last, by_same, same-yes}
+use Rattle.sctp_util.specs.Kept.{numbers_where}
+use Rattle.sctp_util.proofs.Passing.{kept-snoc_in}
+use Rattle.sctp_util.proofs.More.{not_both, and}
+use Rattle.sctp_util.proofs.Cases.{by_last, by_same, same-yes}
 use Rattle.sctp_model.specs.declared.event.Event.{Event}
 use Rattle.sctp_model.specs.declared.event.Event.TheVariants as E
 use Rattle.sctp_model.specs.LinkRecord.{Setup, LinkRecord}

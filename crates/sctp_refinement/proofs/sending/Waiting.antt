@@ -4,9 +4,9 @@ use Rattle.std.proofs.Common.{inr, arith, append-nil}
 use Rattle.std.specs.Prelude.{◌⊎◌, if◌then◌else◌, ◌==◌, ◌&&◌, not}
 use Rattle.std.proofs.lemmas.Bool.{cases_lt}
 use Rattle.std.specs.List.{flat_map}
-use Rattle.sctp_list_lemmas.specs.Kept.{numbers_where, always, numbers_from}
-use Rattle.sctp_list_lemmas.proofs.Passing.{kept-same, map-kept-same, kept-snoc}
-use Rattle.sctp_list_lemmas.proofs.Getting.{get-snoc_old, get-snoc_new}
+use Rattle.sctp_util.specs.Kept.{numbers_where, always, numbers_from}
+use Rattle.sctp_util.proofs.Passing.{kept-same, map-kept-same, kept-snoc}
+use Rattle.sctp_util.proofs.Getting.{get-snoc_old, get-snoc_new}
 use Rattle.sctp_model.specs.LinkRecord.{LinkRecord, Message}
 use Rattle.sctp_model.specs.Messages.{message_at, is_ordered_on, ordered_before, ssn_of, fragment_count, sent_of, no_message}
 use Rattle.sctp_refinement.specs.Refines.{waiting_at, waiting_of, waiting_where}

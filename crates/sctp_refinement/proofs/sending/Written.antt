@@ -6,11 +6,11 @@ use Rattle.std.proofs.Math.Path.{subst}
 use Rattle.std.proofs.lemmas.Bool.Decides.{nat_tests}
 use Rattle.sctp_data.specs.Reliability.{is_timed}
 use Rattle.sctp_data.specs.PayloadTypes.{is_dcep, is_ordered}
-use Rattle.sctp_list_lemmas.specs.Kept.{numbers_where, always, numbers_from, first_of}
-use Rattle.sctp_list_lemmas.specs.Lists.{pieces}
-use Rattle.sctp_list_lemmas.proofs.Passing.{kept-same, map-kept-same, kept-snoc_out, kept-none, front-kept, FrontOf}
-use Rattle.sctp_list_lemmas.proofs.More.{fails, both}
-use Rattle.sctp_list_lemmas.proofs.Cases.{by_last}
+use Rattle.sctp_util.specs.Kept.{numbers_where, always, numbers_from, first_of}
+use Rattle.sctp_util.specs.Lists.{pieces}
+use Rattle.sctp_util.proofs.Passing.{kept-same, map-kept-same, kept-snoc_out, kept-none, front-kept, FrontOf}
+use Rattle.sctp_util.proofs.More.{fails, both}
+use Rattle.sctp_util.proofs.Cases.{by_last}
 use Rattle.sctp_data.specs.declared.chunk.chunk_payload_data.ChunkPayloadData.{ChunkPayloadData}
 use Rattle.sctp_data.specs.declared.chunk.chunk_payload_data.PayloadProtocolIdentifier.{PayloadProtocolIdentifier}
 use Rattle.sctp_data.specs.ChunkSet.{fresh}

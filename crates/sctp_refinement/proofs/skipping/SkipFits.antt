@@ -3,7 +3,7 @@ use Rattle.std.proofs.Common.{◌≡◌, ℕ, ◌+◌, ◌-◌, ◌<◌, ◌≤�
 use Rattle.std.specs.Prelude.{if◌then◌else◌, ◌&&◌, min, max, nat_lt, slice_get, slice_index_or, not, ◌⊎◌, nat_le, ◌==◌}
 use Rattle.std.specs.List.{list_all}
 use Rattle.std.proofs.lemmas.Bool.Decides.{nat_tests}
-use Rattle.sctp_list_lemmas.proofs.More.{and, same_test, both, fails, not_both}
+use Rattle.sctp_util.proofs.More.{and, same_test, both, fails, not_both}
 use Rattle.sctp_data.specs.ChunkSet.{ChunkSet}
 use Rattle.sctp_reassembly.specs.reassembly_queue.Fragments.{is_complete}
 use Rattle.sctp_model.specs.LinkRecord.{LinkRecord, StreamRecord, Forward}
@@ -25,8 +25,8 @@ use Rattle.sctp_refinement.proofs.Histories.{Facts}
 use Rattle.std.proofs.lemmas.Bool.{cases_lt}
 use Rattle.sctp_model.specs.declared.event.LinkRefusal.TheVariants.{SkipUnassigned, SkipNames}
 use Rattle.sctp_model.proofs.sender.SenderRun.{unless-holds}
-use Rattle.sctp_list_lemmas.proofs.Alls.{all-kept, all-at}
-use Rattle.sctp_list_lemmas.proofs.Cases.{same-yes, same-is, and-true}
+use Rattle.sctp_util.proofs.Alls.{all-kept, all-at}
+use Rattle.sctp_util.proofs.Cases.{same-yes, same-is, and-true}
 use Rattle.sctp_model.proofs.sender.Sender.{Sender}
 use Rattle.sctp_model.proofs.sender.Slots.{sent-alive}
 

@@ -6,10 +6,10 @@ use Rattle.std.specs.List.{list_any, list_all}
 use Rattle.std.proofs.Math.Nat.{eq-or-lt_of_le}
 use Rattle.std.proofs.lemmas.Bool.{cases_lt}
 use Rattle.std.proofs.lemmas.Bool.Decides.{nat_tests}
-use Rattle.sctp_list_lemmas.specs.Kept.{numbers_where}
-use Rattle.sctp_list_lemmas.proofs.Passing.{front-kept, FrontOf, length-kept-le}
-use Rattle.sctp_list_lemmas.proofs.More.{not_both, and, same_test}
-use Rattle.sctp_list_lemmas.proofs.Cases.{same-yes, same-is, or-left, or-right, or-split}
+use Rattle.sctp_util.specs.Kept.{numbers_where}
+use Rattle.sctp_util.proofs.Passing.{front-kept, FrontOf, length-kept-le}
+use Rattle.sctp_util.proofs.More.{not_both, and, same_test}
+use Rattle.sctp_util.proofs.Cases.{same-yes, same-is, or-left, or-right, or-split}
 use Rattle.sctp_model.specs.LinkRecord.{LinkRecord, StreamRecord, Forward}
 use Rattle.sctp_model.specs.Messages.{message_at, stream_at, stream_of, is_ordered_on, index_of, ssn_of, tsn_of}
 use Rattle.sctp_model.specs.Receiver.{cumulative, is_complete_message, is_held, held_on, next_of, least, greatest, fits, spans_fit}

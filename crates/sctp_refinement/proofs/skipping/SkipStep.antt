@@ -3,14 +3,14 @@ use Rattle.std.proofs.Common.{◌≡◌, ℕ, ◌+◌, ◌<◌, ◌≤◌, ◌%�
 use Rattle.std.specs.Prelude.{if◌then◌else◌, ◌==◌, ◌&&◌, ◌||◌, nat_le, max, find, unwrap_or}
 use Rattle.std.specs.List.{list_any, filter}
 use Rattle.std.proofs.lemmas.Bool.Decides.{nat_tests}
-use Rattle.sctp_list_lemmas.specs.Kept.{numbers_where}
-use Rattle.sctp_list_lemmas.proofs.Passing.{map-kept-same}
+use Rattle.sctp_util.specs.Kept.{numbers_where}
+use Rattle.sctp_util.proofs.Passing.{map-kept-same}
 use Rattle.sctp_model.specs.LinkRecord.{LinkRecord, StreamRecord}
 use Rattle.sctp_model.specs.Messages.{message_at, message_of, stream_at, stream_of, no_stream, is_ordered_on, index_of, ssn_of, tsn_of}
 use Rattle.sctp_model.specs.Receiver.{arrived_at, has_arrived, cumulative, is_complete_message, is_held, next_of}
 use Rattle.sctp_model.specs.Changes.{named_by, receive_skip, skip_counts}
-use Rattle.sctp_list_lemmas.specs.Lists.{after_leading}
-use Rattle.sctp_list_lemmas.specs.Serial.{at_or_before}
+use Rattle.sctp_util.specs.Lists.{after_leading}
+use Rattle.sctp_util.specs.Serial.{at_or_before}
 use Rattle.sctp_data.specs.declared.chunk.chunk_payload_data.ChunkPayloadData.{ChunkPayloadData}
 use Rattle.sctp_data.specs.ChunkSet.{ChunkSet}
 use Rattle.sctp_reassembly.specs.reassembly_queue.ReassemblyQueue.{Reassembly, held_after_ordered_skip, held_after_ordered_skips, held_after_unordered_skip}
@@ -18,8 +18,8 @@ use Rattle.sctp_model.specs.Contents.{chunk_at}
 use Rattle.sctp_model.specs.Queues.{set_of, complete_set_of, is_unassembled}
 use Rattle.sctp_refinement.specs.Holds.{ordered_sets, complete_sets, unassembled_chunks, reassembly_of}
 use Rattle.sctp_model.specs.Valid.{IsSpan, Valid}
-use Rattle.sctp_list_lemmas.proofs.More.{after_leading-kept}
-use Rattle.sctp_list_lemmas.proofs.Wraps.{at_or_before-tsn}
+use Rattle.sctp_util.proofs.More.{after_leading-kept}
+use Rattle.sctp_util.proofs.Wraps.{at_or_before-tsn}
 use Rattle.sctp_refinement.proofs.skipping.Skips
 use Rattle.sctp_refinement.proofs.skipping.Skips.{held_past, next_past, queue_past, next_past-is, IsNear, AllNear, named_with, forwarded-one, forwarded-all}
 

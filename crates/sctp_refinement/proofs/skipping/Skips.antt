@@ -4,22 +4,22 @@ use Rattle.std.proofs.Common.{arith}
 use Rattle.std.specs.Prelude.{◌⊎◌, if◌then◌else◌, ◌&&◌, ◌||◌, not, nat_lt, nat_le, max}
 use Rattle.std.proofs.lemmas.Bool.{cases_lt}
 use Rattle.std.proofs.lemmas.Bool.Decides.{nat_tests}
-use Rattle.sctp_list_lemmas.specs.Kept.{numbers_where, leading}
+use Rattle.sctp_util.specs.Kept.{numbers_where, leading}
 use Rattle.sctp_model.specs.LinkRecord.{LinkRecord}
 use Rattle.sctp_model.specs.Messages.{message_at, stream_of, is_ordered_on, index_of, ssn_of, ordered_on}
 use Rattle.sctp_model.specs.Receiver.{arrived_of, is_complete_message, is_unread, is_held, next_of, greatest}
-use Rattle.sctp_list_lemmas.specs.Serial.{at_or_before16}
+use Rattle.sctp_util.specs.Serial.{at_or_before16}
 use Rattle.sctp_reassembly.specs.reassembly_queue.ReassemblyQueue.{Reassembly, is_passed, held_after_ordered_skip, held_after_ordered_skips}
 use Rattle.sctp_reassembly.specs.reassembly_queue.Fragments.{is_complete}
 use Rattle.sctp_refinement.specs.Holds.{chunks_come, complete_sets, unassembled_chunks}
 use Rattle.sctp_model.specs.Queues.{set_of}
 use Rattle.sctp_model.specs.Valid.{Valid}
-use Rattle.sctp_list_lemmas.proofs.More.{fails, both, those-kept}
-use Rattle.sctp_list_lemmas.proofs.Wraps.{at_or_before16-index, next16}
+use Rattle.sctp_util.proofs.More.{fails, both, those-kept}
+use Rattle.sctp_util.proofs.Wraps.{at_or_before16-index, next16}
 use Rattle.sctp_refinement.proofs.reading.Line.{on-made, ssn_on, index-at, next_le, next_passes, next_unread, read_at}
 use Rattle.sctp_refinement.proofs.arriving.Arrival.{set_is_complete}
 use Rattle.sctp_refinement.proofs.reading.Taken.{complete-ordered}
-use Rattle.sctp_list_lemmas.proofs.Places.{leading-is, get-drop, length-dropped}
+use Rattle.sctp_util.proofs.Places.{leading-is, get-drop, length-dropped}
 
 -- ## The queue, had so many been named
 

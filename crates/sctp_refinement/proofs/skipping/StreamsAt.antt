@@ -2,7 +2,7 @@
 use Rattle.std.proofs.Common.{◌≡◌, ℕ, zero, suc, ◌<◌, Bool, true, false, List, [], ◌∷◌, length, Some, refl, ap, ◌∙◌, arith}
 use Rattle.std.specs.Prelude.{if◌then◌else◌, ◌==◌, ◌&&◌, find, slice_index_or}
 use Rattle.std.specs.List.{list_all}
-use Rattle.sctp_list_lemmas.proofs.Cases.{same-yes}
+use Rattle.sctp_util.proofs.Cases.{same-yes}
 use Rattle.sctp_model.specs.LinkRecord.{StreamRecord}
 
 pub found-at : (i : ℕ) (rs : List StreamRecord) (d : StreamRecord) → i < length rs

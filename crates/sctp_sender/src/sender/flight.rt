@@ -108,7 +108,7 @@ impl InFlight {
     }
 
     /// What waits and what is in flight.
-    pub fn queue(&self) -> &OutboundQueue
+    pub(crate) fn queue(&self) -> &OutboundQueue
         ensures { result.now ≡ self.now.queue }
     {
         &self.queue
@@ -129,7 +129,7 @@ impl InFlight {
     }
 
     /// Whether a further TSN may be given out: fewer than 2^31 - 1 are in flight.
-    pub fn may_send(&self) -> bool
+    pub(crate) fn may_send(&self) -> bool
         ensures { result ≡ may_send self.now }
     {
         self.queue.inflight_len() + 1 < 1 << 31
@@ -152,25 +152,9 @@ impl InFlight {
         Ok(())
     }
 
-    /// From here on so many pushes of ordered and of unordered fragments take no memory.
-    /// Refuses only for memory, and all is as it was then.
-    pub fn reserve(&mut self, ordered: usize, unordered: usize) -> Result<(), SenderRefusal>
-        ensures ok { OnOk result (self.new ≡ with_queue self.old
-            (record self.old.queue {
-              pending = pending.with_room self.old.queue.pending ordered unordered;
-            })) }
-        ensures err { OnErr result (self.new ≡ self.old) }
-        ensures memory { IfErr result (λ e. e ≡ OutOfMemory) }
-        ensures succeeds { ordered ≤ self.old.queue.pending.ordered_room
-            → unordered ≤ self.old.queue.pending.unordered_room → IsOk result }
-    {
-        self.queue.reserve(ordered, unordered)?;
-        Ok(())
-    }
-
     /// From here on so many sends and terminal chunks take no memory.
     /// Refuses only for memory, and all is as it was then.
-    pub fn reserve_inflight(&mut self, sends: usize) -> Result<(), SenderRefusal>
+    pub(crate) fn reserve_inflight(&mut self, sends: usize) -> Result<(), SenderRefusal>
         ensures ok { OnOk result (self.new ≡ with_queue self.old (with_room sends self.old.queue)) }
         ensures err { OnErr result (self.new ≡ self.old) }
         ensures memory { IfErr result (λ e. e ≡ OutOfMemory) }
@@ -181,7 +165,7 @@ impl InFlight {
     }
 
     /// Starts the lifetimes of the messages pushed since the last time; `now` is in nanoseconds. It takes no memory.
-    pub fn start(&mut self, now: u64)
+    pub(crate) fn start(&mut self, now: u64)
         ensures { self.new ≡ with_queue self.old (all_started now self.old.queue) }
     {
         self.queue.start_timed_messages(now);
@@ -191,7 +175,7 @@ impl InFlight {
     /// nothing waits. `now` is in nanoseconds.
     /// Precondition: a further TSN may be given out; `may_send` tells.
     /// Refuses only for memory, and not where nothing waits nor within the room of `reserve_inflight`. All is as it was then.
-    pub fn send_next(&mut self, now: u64) -> Result<Option<u32>, SenderRefusal>
+    pub(crate) fn send_next(&mut self, now: u64) -> Result<Option<u32>, SenderRefusal>
         requires { may_send self.old ≡ true }
         ensures sent { IfOk result (λ sent. sent
             ≡ option_map (λ _. self.old.next_tsn) (pending.next_pending self.old.queue.pending)) }
@@ -221,7 +205,7 @@ impl InFlight {
     /// `may_send` tells.
     /// Refuses only for memory, and not where the message has no tail nor within the room of `reserve_inflight`. All is as it
     /// was then.
-    pub fn abandon(&mut self, tsn: u32) -> Result<Option<(u16, usize)>, SenderRefusal>
+    pub(crate) fn abandon(&mut self, tsn: u32) -> Result<Option<(u16, usize)>, SenderRefusal>
         requires { has_tail_at self.old tsn ≡ true → may_send self.old ≡ true }
         ensures answer { IfOk result (λ r. option_map (λ a. a.0) r ≡ option_map
             (λ c. c.stream_identifier) (find (has_tsn tsn) self.old.queue.inflight.chunks)) }
@@ -246,7 +230,7 @@ impl InFlight {
 
     /// Removes the message in front, where it is past its deadline and wholly unsent, as the queue's `expire_pending` does. It
     /// takes no memory.
-    pub fn expire(&mut self, now: u64) -> Option<(u16, bool, usize)>
+    pub(crate) fn expire(&mut self, now: u64) -> Option<(u16, bool, usize)>
         ensures answer { option_map {U = ℕ × Bool} (λ a. (a.0, a.1)) result ≡ option_map {U = ℕ
             × Bool} (λ c. (c.stream_identifier, c.unordered)) (expiring now self.old.queue) }
         ensures released { total_bytes self.new.queue + expired_bytes result
@@ -259,7 +243,7 @@ impl InFlight {
 
     /// As `expire` so often as it removes messages of one stream, all ordered or all unordered, but at most 65,535 times: the queue's
     /// `expire_pending_run`. It takes no memory.
-    pub fn expire_run(&mut self, now: u64) -> Option<ExpiredRun>
+    pub(crate) fn expire_run(&mut self, now: u64) -> Option<ExpiredRun>
         ensures expired { IfSome result (λ run. self.new
             ≡ with_queue self.old (expired_times now run.messages self.old.queue)) }
         ensures of_one { IfSome result (λ run. AreExpiredOf
@@ -279,7 +263,10 @@ impl InFlight {
     /// Precondition: where there is such a message, a further TSN may be given out; `may_send` tells.
     /// Refuses only for memory, and not where there is no such message nor within the room of `reserve_inflight`. All is as it
     /// was then.
-    pub fn expire_tail(&mut self, now: u64) -> Result<Option<(u16, u64, usize)>, SenderRefusal>
+    pub(crate) fn expire_tail(
+        &mut self,
+        now: u64,
+    ) -> Result<Option<(u16, u64, usize)>, SenderRefusal>
         requires { is_some (expiring_tail now self.old.queue) ≡ true → may_send self.old ≡ true }
         ensures ok { OnOk result (self.new
             ≡ after_abandonment (message_of (expiring_tail now self.old.queue)) self.old) }
@@ -302,7 +289,7 @@ impl InFlight {
 
     /// Counts one more sending of the chunk in flight with a TSN, up to the greatest u32; none is counted where the TSN is not in
     /// flight. It takes no memory.
-    pub fn count_resend(&mut self, tsn: u32)
+    pub(crate) fn count_resend(&mut self, tsn: u32)
         ensures counted { (c : ChunkPayloadData)
             → find (has_tsn tsn) self.old.queue.inflight.chunks ≡ Some c
             → self.new ≡ resent tsn c self.old }

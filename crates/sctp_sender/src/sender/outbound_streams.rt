@@ -2,9 +2,9 @@
 
 ghost use Rattle.std.specs.Prelude.{◌≡◌, ◌<◌, ◌≤◌, ◌^◌, ◌++◌, ◌∷◌, [], ℕ, List, not, true, false, Some, None, OnOk, OnErr, IfOk, IfErr, IsOkUnless, MatchOption, length, map, find, option_copied};
 ghost use Rattle.std.specs.List.{filter};
-ghost use Rattle.sctp_base.specs.declared.error.Error.TheVariants.{ErrOutOfMemory};
+ghost use Rattle.sctp_util.specs.declared.error.Error.TheVariants.{ErrOutOfMemory};
 ghost use Rattle.sctp_data.specs.declared.chunk.chunk_payload_data.PayloadProtocolIdentifier.TheVariants.{Unknown};
-ghost use Rattle.sctp_list_lemmas.specs.Lists.{change_where};
+ghost use Rattle.sctp_util.specs.Lists.{change_where};
 ghost use Rattle.sctp_serial.specs.DataChunks.{bytes_of};
 ghost use Rattle.sctp_sender.specs.declared.sender.refusal.SenderRefusal.TheVariants.{OutOfMemory};
 ghost use Rattle.sctp_stream.specs.Numbers.{IsOnlyPlace, IsAbsent};
@@ -14,12 +14,12 @@ ghost use Rattle.sctp_sender.specs.Outgoing.{with_reliability, with_size, wrote,
 
 use crate::sender::refusal::SenderRefusal;
 use bytes::Bytes;
-use sctp_base::error::Result;
 use sctp_data::chunk::chunk_payload_data::{
     ChunkPayloadData, PayloadProtocolIdentifier, ReliabilityType,
 };
 use sctp_stream::stream::StreamState;
 use sctp_stream::stream_numbers::{StreamNumbers, put};
+use sctp_util::error::Result;
 use std::alloc::Global;
 use std::marker::Model;
 
@@ -48,7 +48,7 @@ impl OutboundStreams {
     ghost use Rattle.sctp_sender.specs.Thresholds.{falls_on};
 
     /// No streams. It takes no memory.
-    pub fn new(alloc: Global) -> Self
+    pub(crate) fn new(alloc: Global) -> Self
         ensures { result ≡ [] }
     {
         OutboundStreams {
@@ -58,7 +58,7 @@ impl OutboundStreams {
     }
 
     /// The place of the stream with a number, None where it is not open.
-    pub fn place_of(&self, stream: u16) -> Option<usize>
+    pub(crate) fn place_of(&self, stream: u16) -> Option<usize>
         ensures { MatchOption result
             (IsAbsent stream (numbers_of self.now)) (IsOnlyPlace stream (numbers_of self.now)) }
     {
@@ -66,7 +66,7 @@ impl OutboundStreams {
     }
 
     /// The stream with a number, None where it is not open.
-    pub fn find(&self, stream: u16) -> Option<&StreamState>
+    pub(crate) fn find(&self, stream: u16) -> Option<&StreamState>
         ensures { option_copied result ≡ find (has_number stream) self.now }
     {
         let Some(place) = self.numbers.place_of(stream) else {
@@ -77,7 +77,7 @@ impl OutboundStreams {
 
     /// Opens a stream. Refuses only for memory, and the streams are as they were then.
     /// Precondition: it is not open, and `fragment_size` is 1 to 65,519.
-    pub fn open(
+    pub(crate) fn open(
         &mut self,
         alloc: Global,
         stream: u16,
@@ -107,7 +107,7 @@ impl OutboundStreams {
     }
 
     /// Closes a stream, where it is open. It takes no memory.
-    pub fn close(&mut self, stream: u16)
+    pub(crate) fn close(&mut self, stream: u16)
         ensures { self.new ≡ filter (λ l. not (has_number stream l)) self.old }
     {
         let Some(place) = self.numbers.place_of(stream) else {
@@ -119,7 +119,12 @@ impl OutboundStreams {
 
     /// Sets the mode of later writes of the stream at a place. It takes no memory.
     /// Precondition: that stream stands there.
-    pub fn set_mode_at(&mut self, place: usize, stream: u16, mode: (bool, ReliabilityType, u32))
+    pub(crate) fn set_mode_at(
+        &mut self,
+        place: usize,
+        stream: u16,
+        mode: (bool, ReliabilityType, u32),
+    )
         requires { IsOnlyPlace stream (numbers_of self.old) place }
         ensures { self.new
             ≡ change_where (has_number stream) (with_mode mode.0 mode.1 mode.2) self.old }
@@ -130,7 +135,7 @@ impl OutboundStreams {
 
     /// Later writes are cut into fragments of this size, on every stream. It takes no memory.
     /// Precondition: 1 to 65,519.
-    pub fn set_fragment_size(&mut self, size: u32)
+    pub(crate) fn set_fragment_size(&mut self, size: u32)
         requires { (0 < size) × (size ≤ 65519) }
         ensures { self.new ≡ map (with_size size) self.old }
     {
@@ -139,7 +144,7 @@ impl OutboundStreams {
 
     /// Sets the low threshold of the stream at a place, in bytes. It takes no memory.
     /// Precondition: that stream stands there.
-    pub fn set_low_at(&mut self, place: usize, stream: u16, bytes: usize)
+    pub(crate) fn set_low_at(&mut self, place: usize, stream: u16, bytes: usize)
         requires { IsOnlyPlace stream (numbers_of self.old) place }
         ensures { self.new ≡ change_where (has_number stream) (with_low bytes) self.old }
     {
@@ -149,7 +154,7 @@ impl OutboundStreams {
 
     /// The next ordered message of the stream at a place has the number 0. It takes no memory.
     /// Precondition: that stream stands there.
-    pub fn restart_at(&mut self, place: usize, stream: u16)
+    pub(crate) fn restart_at(&mut self, place: usize, stream: u16)
         requires { IsOnlyPlace stream (numbers_of self.old) place }
         ensures { self.new ≡ change_where (has_number stream) from_first self.old }
     {
@@ -158,7 +163,7 @@ impl OutboundStreams {
     }
 
     /// The streams.
-    pub fn all(&self) -> &[StreamState]
+    pub(crate) fn all(&self) -> &[StreamState]
         ensures { result.now ≡ self.now }
     {
         &self.items
@@ -166,7 +171,7 @@ impl OutboundStreams {
 
     /// The fragments of a write to the stream at a place, with its mode. Refuses only for memory.
     /// Precondition: that stream stands there.
-    pub fn fragments_at(
+    pub(crate) fn fragments_at(
         &self,
         alloc: Global,
         place: usize,
@@ -193,7 +198,7 @@ impl OutboundStreams {
 
     /// A write to the stream at a place was accepted. It takes no memory.
     /// Precondition: that stream stands there.
-    pub fn wrote_at(
+    pub(crate) fn wrote_at(
         &mut self,
         place: usize,
         stream: u16,
@@ -210,7 +215,7 @@ impl OutboundStreams {
 
     /// Takes bytes off the amount of a stream, where it is open, and says whether it fell from above its low threshold to at most
     /// it. It takes no memory.
-    pub fn release(&mut self, stream: u16, bytes: usize) -> bool
+    pub(crate) fn release(&mut self, stream: u16, bytes: usize) -> bool
         ensures low { result ≡ falls_on stream bytes self.old }
         ensures less { self.new ≡ change_where (has_number stream) (less_by bytes) self.old }
     {
@@ -221,7 +226,7 @@ impl OutboundStreams {
     }
 
     /// Adds bytes to the amount of a stream, where it is open. It takes no memory.
-    pub fn raise(&mut self, stream: u16, bytes: usize)
+    pub(crate) fn raise(&mut self, stream: u16, bytes: usize)
         ensures { self.new ≡ change_where (has_number stream) (more_by bytes) self.old }
     {
         let Some(place) = self.numbers.place_of(stream) else {
@@ -232,7 +237,13 @@ impl OutboundStreams {
 
     /// Takes so many messages that were not sent off their stream, where it is open, and says whether its amount fell from above its
     /// low threshold to at most it. It takes no memory.
-    pub fn expire(&mut self, stream: u16, unordered: bool, messages: u16, bytes: usize) -> bool
+    pub(crate) fn expire(
+        &mut self,
+        stream: u16,
+        unordered: bool,
+        messages: u16,
+        bytes: usize,
+    ) -> bool
         ensures low { result ≡ falls_on stream bytes self.old }
         ensures less { self.new ≡ change_where (has_number stream)
             (after_expiries unordered messages bytes) self.old }

@@ -1,6 +1,6 @@
 //! Why a sender refuses.
 
-use sctp_base::error::Error;
+use sctp_util::error::Error;
 
 /// Why a call of a sender changed nothing.
 #[derive(Clone, Copy, Debug, PartialEq, Eq)]

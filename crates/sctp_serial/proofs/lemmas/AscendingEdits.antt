@@ -14,11 +14,11 @@ use Rattle.std.proofs.lemmas.List.Edits.{length-insert, get_or-insert_below, get
 use Rattle.std.proofs.lemmas.List.Edits.{get_or-remove_above}
 use Rattle.std.proofs.lemmas.List.Folds.{list_any_none}
 use Rattle.std.proofs.lemmas.List.Sums.{position_or_len_is}
-use Rattle.sctp_list_lemmas.specs.Lists.{insert_before}
-use Rattle.sctp_list_lemmas.specs.Serial.{distance, comes_before, distance16, comes_before16}
-use Rattle.sctp_list_lemmas.proofs.Edits.{pairs_insert, those-filter}
-use Rattle.sctp_list_lemmas.proofs.More.{fails}
-use Rattle.sctp_list_lemmas.proofs.Distances.{distance_cases, before_is, comes_before_from, not_before_from, before_irrefl}
+use Rattle.sctp_util.specs.Lists.{insert_before}
+use Rattle.sctp_util.specs.Serial.{distance, comes_before, distance16, comes_before16}
+use Rattle.sctp_util.proofs.Edits.{pairs_insert, those-filter}
+use Rattle.sctp_util.proofs.More.{fails}
+use Rattle.sctp_util.proofs.Distances.{distance_cases, before_is, comes_before_from, not_before_from, before_irrefl}
 use Rattle.sctp_serial.specs.Ascending.{IsAscending, IsOrder, IsInsertion, upper_half}
 use Rattle.sctp_serial.proofs.lemmas.ListEdits.{an_element, inserted-position, same_position}
 

@@ -4,7 +4,7 @@ use Rattle.std.proofs.Common.{get_or, set, refl, sym, ap, ◌∙◌, subst, arit
 use Rattle.std.proofs.lemmas.Bool.{true≢false}
 use Rattle.std.specs.List.{All, list_any, position_or_len, remove, insert}
 use Rattle.std.proofs.Math.ListN.{take-append-drop}
-use Rattle.sctp_list_lemmas.specs.Lists.{insert_before, change_first, after_leading}
+use Rattle.sctp_util.specs.Lists.{insert_before, change_first, after_leading}
 
 pub neither : (a b : Bool) → (a || b) ≡ false → (a ≡ false) × (b ≡ false)
 neither true b h = (h, absurd (true≢false h))

@@ -14,10 +14,10 @@ use Rattle.std.proofs.lemmas.List.Edits.{length-insert, get_or-insert_below, get
 use Rattle.std.proofs.lemmas.List.Edits.{get_or-remove_above}
 use Rattle.std.proofs.lemmas.Option.{slice_get-get_or}
 use Rattle.sctp_data.specs.declared.chunk.chunk_payload_data.ChunkPayloadData.{ChunkPayloadData}
-use Rattle.sctp_list_lemmas.specs.Lists.{insert_before}
-use Rattle.sctp_list_lemmas.specs.Serial.{comes_before}
-use Rattle.sctp_list_lemmas.proofs.Edits.{OnlyAt, find-none, inserted-at, pairs_insert}
-use Rattle.sctp_list_lemmas.proofs.Distances.{before_asym, before_irrefl}
+use Rattle.sctp_util.specs.Lists.{insert_before}
+use Rattle.sctp_util.specs.Serial.{comes_before}
+use Rattle.sctp_util.proofs.Edits.{OnlyAt, find-none, inserted-at, pairs_insert}
+use Rattle.sctp_util.proofs.Distances.{before_asym, before_irrefl}
 use Rattle.sctp_serial.specs.Window.{IsSerial, IsHeldAt, IsPlaceFor, SpansOneWindow, is_held}
 use Rattle.sctp_serial.specs.DataChunks.{has_tsn, chunk_before, tsns}
 

@@ -1,6 +1,6 @@
 use Rattle.std.proofs.Common.{◌≡◌, ◌+◌, ◌++◌, replicate, ap, ap₂, ◌∙◌}
-use Rattle.sctp_base.specs.Padding.{padding_of}
-use Rattle.sctp_base.specs.Field.{be16, be32}
+use Rattle.sctp_util.specs.Padding.{padding_of}
+use Rattle.sctp_util.specs.Field.{be16, be32}
 use Rattle.sctp_data.specs.PayloadData.{data_of}
 use Rattle.sctp_c.specs.Out.{at_front}
 use Rattle.sctp_c.proofs.DataOut.{head_of, joined}

@@ -1,5 +1,5 @@
 use Rattle.std.proofs.Common.{◌≡◌, ◌+◌, ◌*◌}
-use Rattle.sctp_base.specs.Each.{each}
+use Rattle.sctp_util.specs.Each.{each}
 use Rattle.sctp_data.specs.SelectiveAck.{block_at}
 use Rattle.sctp_c.proofs.in_place.read_gaps.Given as goal
 

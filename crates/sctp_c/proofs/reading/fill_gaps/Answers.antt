@@ -1,8 +1,8 @@
 use Rattle.std.proofs.Common.{◌≡◌, ◌+◌, ◌*◌, ◌∙◌, List, length, add-one, arith}
 use Rattle.std.specs.Prelude.{map}
-use Rattle.sctp_list_lemmas.proofs.Getting.{length-mapped}
-use Rattle.sctp_base.proofs.EachAt.{length_each}
-use Rattle.sctp_base.specs.Each.{each}
+use Rattle.sctp_util.proofs.Getting.{length-mapped}
+use Rattle.sctp_util.proofs.EachAt.{length_each}
+use Rattle.sctp_util.specs.Each.{each}
 use Rattle.sctp_data.specs.SelectiveAck.{block_at}
 use Rattle.sctp_data.specs.declared.chunk.chunk_selective_ack.GapAckBlock.{GapAckBlock}
 use Rattle.sctp_c.specs.Answered.{gap_answered}

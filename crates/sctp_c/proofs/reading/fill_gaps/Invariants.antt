@@ -1,6 +1,6 @@
 use Rattle.std.proofs.Common.{◌≡◌, ◌+◌, ◌*◌, ◌++◌}
 use Rattle.std.specs.Prelude.{map, take, drop}
-use Rattle.sctp_base.specs.Each.{each}
+use Rattle.sctp_util.specs.Each.{each}
 use Rattle.sctp_data.specs.SelectiveAck.{block_at}
 use Rattle.sctp_c.specs.Answered.{gap_answered}
 use Rattle.sctp_c.proofs.reading.fill_gaps.Given as goal

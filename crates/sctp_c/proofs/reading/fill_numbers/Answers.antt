@@ -1,7 +1,7 @@
 use Rattle.std.proofs.Common.{◌≡◌, ℕ, ◌+◌, ◌*◌, List, length, add-one, arith}
-use Rattle.sctp_base.proofs.EachAt.{length_each}
-use Rattle.sctp_base.specs.Each.{each}
-use Rattle.sctp_base.specs.Field.{u32_at}
+use Rattle.sctp_util.proofs.EachAt.{length_each}
+use Rattle.sctp_util.specs.Each.{each}
+use Rattle.sctp_util.specs.Field.{u32_at}
 use Rattle.sctp_c.proofs.Rows.{drop-each, filled-step, filled-done}
 use Rattle.sctp_c.proofs.reading.fill_numbers.Goals as goal
 

@@ -1,7 +1,7 @@
 use Rattle.std.proofs.Common.{◌≡◌, ◌+◌, ◌*◌, ◌++◌}
 use Rattle.std.specs.Prelude.{take, drop}
-use Rattle.sctp_base.specs.Each.{each}
-use Rattle.sctp_base.specs.Field.{u32_at}
+use Rattle.sctp_util.specs.Each.{each}
+use Rattle.sctp_util.specs.Field.{u32_at}
 use Rattle.sctp_c.proofs.reading.fill_numbers.Given as goal
 
 abbrev pub invariant-loop-i : goal.invariant-loop-i

@@ -1,6 +1,6 @@
 use Rattle.std.proofs.Common.{◌≡◌, length, add-one, arith}
 use Rattle.std.specs.Prelude.{map}
-use Rattle.sctp_list_lemmas.proofs.Getting.{length-mapped}
+use Rattle.sctp_util.proofs.Getting.{length-mapped}
 use Rattle.sctp_data.specs.declared.chunk.chunk_forward_tsn.ChunkForwardTsnStream.{ChunkForwardTsnStream}
 use Rattle.sctp_c.specs.Answered.{skip_answered}
 use Rattle.sctp_c.proofs.Rows.{drop-map, filled-step, filled-done}

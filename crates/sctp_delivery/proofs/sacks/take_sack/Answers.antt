@@ -8,7 +8,7 @@ use Rattle.sctp_sender.specs.Thresholds.{with_lows}
 use Rattle.sctp_sender.specs.declared.sender.flight.Released.{Released}
 use Rattle.sctp_sender.specs.declared.sender.refusal.SenderRefusal.{SenderRefusal}
 use Rattle.sctp_stream.specs.declared.stream.StreamState.{StreamState}
-use Rattle.sctp_list_lemmas.specs.Lists.{change_where}
+use Rattle.sctp_util.specs.Lists.{change_where}
 use Rattle.sctp_delivery.specs.Sacks.{AfterEachSessionOfFewTsns, was_taken}
 use Rattle.sctp_delivery.specs.Session.{Session}
 use Rattle.sctp_delivery.proofs.Every.{Every, all-of-every, every-of-all}

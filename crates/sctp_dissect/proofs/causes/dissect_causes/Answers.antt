@@ -1,6 +1,6 @@
 use Rattle.std.proofs.Common.{arith}
 use Rattle.std.proofs.lemmas.Grind.{common_steps}
-use Rattle.sctp_base.proofs.Walks.{walks_none, walks_next}
+use Rattle.sctp_util.proofs.Walks.{walks_none, walks_next}
 use Rattle.sctp_dissect.specs.Causes.{after_padded_cause, ShowsCause}
 use Rattle.sctp_dissect.proofs.CauseWalk.{causes_join, left_after_cause, cause_some}
 use Rattle.sctp_dissect.proofs.causes.dissect_causes.Goals as goal

@@ -1,5 +1,5 @@
 use Rattle.std.proofs.Common.{length}
-use Rattle.sctp_base.specs.Walk.{Walks}
+use Rattle.sctp_util.specs.Walk.{Walks}
 use Rattle.sctp_dissect.specs.Causes.{after_padded_cause, ShowsCause}
 use Rattle.sctp_dissect.proofs.causes.dissect_causes.Given as goal
 

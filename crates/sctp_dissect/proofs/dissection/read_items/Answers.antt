@@ -1,6 +1,6 @@
 use Rattle.std.proofs.Common.{arith}
 use Rattle.std.proofs.lemmas.Grind.{common_steps}
-use Rattle.sctp_base.proofs.Walks.{walks_none, walks_next}
+use Rattle.sctp_util.proofs.Walks.{walks_none, walks_next}
 use Rattle.sctp_packets.specs.Packet.{after}
 use Rattle.sctp_dissect.specs.Dissection.{Shows}
 use Rattle.sctp_dissect.proofs.Walk.{left_after, taken_some}

@@ -1,5 +1,5 @@
 use Rattle.std.proofs.Common.{length}
-use Rattle.sctp_base.specs.Walk.{Walks}
+use Rattle.sctp_util.specs.Walk.{Walks}
 use Rattle.sctp_packets.specs.Packet.{after}
 use Rattle.sctp_dissect.specs.Dissection.{Shows}
 use Rattle.sctp_dissect.proofs.dissection.read_items.Given as goal

@@ -1,6 +1,6 @@
 use Rattle.std.proofs.Common.{arith}
 use Rattle.std.proofs.lemmas.Grind.{common_steps}
-use Rattle.sctp_base.proofs.Walks.{walks_none, walks_next}
+use Rattle.sctp_util.proofs.Walks.{walks_none, walks_next}
 use Rattle.sctp_params.specs.ParamFraming.{after_param}
 use Rattle.sctp_dissect.specs.Params.{ShowsParam}
 use Rattle.sctp_dissect.proofs.ParamWalk.{params_join, left_after_param, param_some}

@@ -1,5 +1,5 @@
 use Rattle.std.proofs.Common.{length}
-use Rattle.sctp_base.specs.Walk.{Walks}
+use Rattle.sctp_util.specs.Walk.{Walks}
 use Rattle.sctp_params.specs.ParamFraming.{after_param}
 use Rattle.sctp_dissect.specs.Params.{ShowsParam}
 use Rattle.sctp_dissect.proofs.params.dissect_params.Given as goal

@@ -6,8 +6,8 @@ use Rattle.std.proofs.lemmas.Bool.{false≢true, cases_lt}
 use Rattle.std.proofs.lemmas.Bool.Decides.{nat_tests}
 use Rattle.std.proofs.lemmas.Option.{none-some}
 use Rattle.sctp_data.specs.declared.chunk.chunk_payload_data.ChunkPayloadData.{ChunkPayloadData}
-use Rattle.sctp_list_lemmas.specs.Lists.{change_where, insert_before}
-use Rattle.sctp_list_lemmas.proofs.Edits.{length-change_where, list_any-inserted, those-none}
+use Rattle.sctp_util.specs.Lists.{change_where, insert_before}
+use Rattle.sctp_util.proofs.Edits.{length-change_where, list_any-inserted, those-none}
 use Rattle.sctp_outbound.specs.declared.pending_queue.Selected.{Selected}
 use Rattle.sctp_outbound.specs.Marks.{is_of, as_abandoned}
 use Rattle.sctp_outbound.specs.outbound_queue.OutboundQueue.{Outbound, abandon_chunks, terminal_chunk, with_terminal_chunk}
@@ -19,8 +19,8 @@ use Rattle.sctp_serial.specs.Window.{IsWithinHalf, SpansOneWindow, is_held}
 use Rattle.sctp_outbound.proofs.lemmas.outbound_queue.Sendable.{made, or_false, sendable-marked, sendable-without}
 use Rattle.sctp_outbound.proofs.lemmas.pending_queue.CompleteMessages.{KeepsMessage, none_past, none_without}
 use Rattle.sctp_serial.proofs.lemmas.ListEdits.{neither}
-use Rattle.sctp_list_lemmas.proofs.Cases.{or-left, or-right}
-use Rattle.sctp_list_lemmas.proofs.More.{fails}
+use Rattle.sctp_util.proofs.Cases.{or-left, or-right}
+use Rattle.sctp_util.proofs.More.{fails}
 
 -- ## Changes that leave the TSNs
 

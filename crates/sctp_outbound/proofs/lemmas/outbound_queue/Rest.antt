@@ -10,8 +10,8 @@ use Rattle.sctp_outbound.specs.pending_queue.PendingQueue.{Pending, list_of, nex
 use Rattle.sctp_outbound.specs.pending_queue.Whole.{GoesOn, IsSendable, partially_sent, stage_of, stand_in_front, waits}
 use Rattle.sctp_outbound.proofs.lemmas.outbound_queue.Sendable.{goes_on, made}
 use Rattle.sctp_outbound.proofs.lemmas.outbound_queue.SideBySide.{peeked_waits}
-use Rattle.sctp_list_lemmas.proofs.Cases.{or-left}
-use Rattle.sctp_list_lemmas.proofs.More.{fails}
+use Rattle.sctp_util.proofs.Cases.{or-left}
+use Rattle.sctp_util.proofs.More.{fails}
 use Rattle.sctp_outbound.specs.declared.pending_queue.Selected.{Selected}
 use Rattle.sctp_outbound.specs.Marks.{is_of}
 use Rattle.sctp_outbound.proofs.lemmas.pending_queue.Front.{front_stands, none_stands}

@@ -7,8 +7,8 @@ use Rattle.std.proofs.lemmas.Bool.Decides.{nat_tests}
 use Rattle.std.proofs.lemmas.List.Sums.{sum_by-cons}
 use Rattle.std.proofs.lemmas.Option.{none-some}
 use Rattle.sctp_data.specs.declared.chunk.chunk_payload_data.ChunkPayloadData.{ChunkPayloadData}
-use Rattle.sctp_list_lemmas.specs.Lists.{change_where, insert_before}
-use Rattle.sctp_list_lemmas.proofs.Edits.{list_any-append, list_any-inserted, list_any-those}
+use Rattle.sctp_util.specs.Lists.{change_where, insert_before}
+use Rattle.sctp_util.proofs.Edits.{list_any-append, list_any-inserted, list_any-those}
 use Rattle.sctp_outbound.specs.declared.pending_queue.Selected.{Selected}
 use Rattle.sctp_outbound.specs.Marks.{is_of}
 use Rattle.sctp_outbound.specs.outbound_queue.OutboundQueue.{Outbound, abandon_chunks, with_message_id, append_chunks, after_sends, taken_of, tsn_after}
@@ -23,8 +23,8 @@ use Rattle.sctp_outbound.specs.pending_queue.Whole.{partially_sent, in_order, or
 use Rattle.sctp_outbound.proofs.lemmas.pending_queue.CompleteMessages.{IsWhole-append, IsWhole-message, IsWhole-without, IsWhole-change_where, KeepsMessage}
 use Rattle.sctp_outbound.proofs.lemmas.pending_queue.CompleteMessages.{list_any-change_where, list_any-message, none_before, none_past, none_without}
 use Rattle.sctp_outbound.proofs.lemmas.pending_queue.CompleteMessages.{stage_below, stage_without, weaken_bound, weaken_start}
-use Rattle.sctp_list_lemmas.proofs.Cases.{or-left, or-right}
-use Rattle.sctp_list_lemmas.proofs.More.{fails}
+use Rattle.sctp_util.proofs.Cases.{or-left, or-right}
+use Rattle.sctp_util.proofs.More.{fails}
 
 abbrev pub made : List ChunkPayloadData → List ChunkPayloadData → Option Selected → ℕ → ℕ → Pending
 made os us sel ro ru = record { ordered = os; unordered = us; selected = sel; ordered_room = ro; unordered_room = ru }

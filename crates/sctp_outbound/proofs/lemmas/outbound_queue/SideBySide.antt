@@ -7,8 +7,8 @@ use Rattle.std.proofs.lemmas.Bool.{false≢true}
 use Rattle.std.proofs.lemmas.Bool.Decides.{nat_tests}
 use Rattle.std.proofs.lemmas.Option.{none-some}
 use Rattle.sctp_data.specs.declared.chunk.chunk_payload_data.ChunkPayloadData.{ChunkPayloadData}
-use Rattle.sctp_list_lemmas.specs.Lists.{change_where, insert_before}
-use Rattle.sctp_list_lemmas.proofs.Edits.{list_any-inserted}
+use Rattle.sctp_util.specs.Lists.{change_where, insert_before}
+use Rattle.sctp_util.proofs.Edits.{list_any-inserted}
 use Rattle.sctp_outbound.specs.declared.pending_queue.Selected.{Selected}
 use Rattle.sctp_serial.specs.DataChunks.{chunk_before, has_tsn, following_tsn, is_on}
 use Rattle.sctp_outbound.specs.Marks.{as_acknowledged, as_abandoned, is_of, is_outstanding, with_miss_indicator, with_nsent, with_retransmit, with_since}
@@ -29,7 +29,7 @@ use Rattle.sctp_outbound.proofs.lemmas.outbound_queue.Outbounds.{peeked_all_star
 use Rattle.sctp_outbound.proofs.lemmas.outbound_queue.Sendable.{found_in, goes_on, partial_gone, partial_in_front, made, sendable-changed, sendable-fewer}
 use Rattle.sctp_outbound.proofs.lemmas.outbound_queue.Sendable.{sendable-ordered_changed, sendable-pushed, sendable-sent, sendable-without}
 use Rattle.sctp_outbound.proofs.lemmas.pending_queue.CompleteMessages.{KeepsMessage, list_any-change_where}
-use Rattle.sctp_list_lemmas.proofs.Cases.{or-left, or-right}
+use Rattle.sctp_util.proofs.Cases.{or-left, or-right}
 
 -- ## What is kept
 

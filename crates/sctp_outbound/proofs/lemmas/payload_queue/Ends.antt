@@ -5,8 +5,8 @@ use Rattle.std.specs.List.{All}
 use Rattle.std.proofs.lemmas.Bool.{cases_lt, false≢true}
 use Rattle.std.proofs.lemmas.Bool.Decides.{nat_tests}
 use Rattle.sctp_data.specs.declared.chunk.chunk_payload_data.ChunkPayloadData.{ChunkPayloadData}
-use Rattle.sctp_list_lemmas.specs.Serial.{distance, comes_before, at_or_before}
-use Rattle.sctp_list_lemmas.proofs.Distances.{before_is, before_by_distance, distance_by_before}
+use Rattle.sctp_util.specs.Serial.{distance, comes_before, at_or_before}
+use Rattle.sctp_util.proofs.Distances.{before_is, before_by_distance, distance_by_before}
 use Rattle.sctp_outbound.proofs.lemmas.payload_queue.Marked.{any_chunk}
 use Rattle.sctp_serial.specs.Window.{IsSerial, IsWindow, IsWithinHalf, SpansOneWindow, first_among, is_held, is_new}
 

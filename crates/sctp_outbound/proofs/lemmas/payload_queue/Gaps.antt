@@ -12,15 +12,15 @@ use Rattle.std.proofs.lemmas.List.Elements.{All-head, All-tail}
 use Rattle.std.proofs.lemmas.List.Folds.{list_any_more, list_any_none}
 use Rattle.sctp_data.specs.declared.chunk.chunk_selective_ack.GapAckBlock.{GapAckBlock}
 use Rattle.sctp_data.specs.declared.chunk.chunk_payload_data.ChunkPayloadData.{ChunkPayloadData}
-use Rattle.sctp_list_lemmas.specs.Kept.{put_before_runs, runs_of}
-use Rattle.sctp_list_lemmas.specs.Serial.{distance, comes_before, at_or_before}
-use Rattle.sctp_list_lemmas.proofs.Edits.{those-append, list_any-append, or_assoc}
-use Rattle.sctp_list_lemmas.proofs.Distances.{distance_cases, before_is, distance_by_before}
+use Rattle.sctp_util.specs.Kept.{put_before_runs, runs_of}
+use Rattle.sctp_util.specs.Serial.{distance, comes_before, at_or_before}
+use Rattle.sctp_util.proofs.Edits.{those-append, list_any-append, or_assoc}
+use Rattle.sctp_util.proofs.Distances.{distance_cases, before_is, distance_by_before}
 use Rattle.sctp_serial.specs.Runs.{IsRising}
 use Rattle.sctp_serial.specs.Window.{IsSerial, IsHeldAt, IsPlaceFor, IsWithinHalf, SpansOneWindow}
 use Rattle.sctp_outbound.proofs.lemmas.payload_queue.Marked.{any_chunk}
 use Rattle.sctp_outbound.specs.payload_queue.Blocks.{AscendsFrom, IsFirstAfter, IsRunUntil, is_offset, is_reported, is_in_blocks, gap_offsets, ends_of}
-use Rattle.sctp_list_lemmas.proofs.Cases.{or-none}
+use Rattle.sctp_util.proofs.Cases.{or-none}
 use Rattle.sctp_serial.proofs.lemmas.AscendingEdits.{distance_self}
 
 -- ## Distances

@@ -3,8 +3,8 @@ use Rattle.std.proofs.Common.{◌≡◌, ◌+◌, ◌-◌, ◌%◌, ◌^◌, ◌
 use Rattle.std.proofs.lemmas.Bool.{cases_lt}
 use Rattle.std.proofs.lemmas.List.{get_or-map, get_or_default, get_or_past, length-map}
 use Rattle.sctp_data.specs.declared.chunk.chunk_payload_data.ChunkPayloadData.{ChunkPayloadData}
-use Rattle.sctp_list_lemmas.specs.Serial.{distance}
-use Rattle.sctp_list_lemmas.proofs.Distances.{distance_cases}
+use Rattle.sctp_util.specs.Serial.{distance}
+use Rattle.sctp_util.proofs.Distances.{distance_cases}
 use Rattle.sctp_serial.specs.Runs.{IsRising}
 use Rattle.sctp_serial.specs.Window.{IsSerial}
 use Rattle.sctp_serial.proofs.lemmas.AscendingEdits.{distance_self}

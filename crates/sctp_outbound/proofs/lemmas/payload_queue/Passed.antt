@@ -6,9 +6,9 @@ use Rattle.std.proofs.lemmas.Bool.{cases_lt, false≢true}
 use Rattle.std.proofs.lemmas.Bool.Decides.{nat_tests}
 use Rattle.std.proofs.lemmas.List.{drop-drop, get_or_default}
 use Rattle.sctp_data.specs.declared.chunk.chunk_payload_data.ChunkPayloadData.{ChunkPayloadData}
-use Rattle.sctp_list_lemmas.specs.Serial.{distance, at_or_before}
-use Rattle.sctp_list_lemmas.proofs.Edits.{those-none}
-use Rattle.sctp_list_lemmas.proofs.Distances.{distance_cases, before_is, distance_by_before}
+use Rattle.sctp_util.specs.Serial.{distance, at_or_before}
+use Rattle.sctp_util.proofs.Edits.{those-none}
+use Rattle.sctp_util.proofs.Distances.{distance_cases, before_is, distance_by_before}
 use Rattle.sctp_serial.specs.Window.{IsSerial}
 use Rattle.sctp_serial.proofs.lemmas.AscendingEdits.{distance_self}
 use Rattle.sctp_outbound.specs.payload_queue.PayloadQueue.{FrontGoesFirst, past}

@@ -3,8 +3,8 @@ use Rattle.std.proofs.Common.{◌≡◌, ◌≢◌, ℕ, ◌+◌, ◌-◌, ◌^�
 use Rattle.std.specs.List.{All}
 use Rattle.std.proofs.lemmas.Bool.{cases_lt, false≢true}
 use Rattle.sctp_data.specs.declared.chunk.chunk_payload_data.ChunkPayloadData.{ChunkPayloadData}
-use Rattle.sctp_list_lemmas.specs.Serial.{comes_before}
-use Rattle.sctp_list_lemmas.proofs.Distances.{before_asym, before_irrefl, before_total, before_trans}
+use Rattle.sctp_util.specs.Serial.{comes_before}
+use Rattle.sctp_util.proofs.Distances.{before_asym, before_irrefl, before_total, before_trans}
 use Rattle.sctp_outbound.proofs.lemmas.payload_queue.Marked.{any_chunk}
 use Rattle.sctp_serial.specs.Window.{IsSerial, IsPlaceFor, IsWindow, IsWithinHalf}
 

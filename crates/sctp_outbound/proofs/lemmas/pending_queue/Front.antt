@@ -6,7 +6,7 @@ use Rattle.std.specs.List.{list_any, filter}
 use Rattle.std.proofs.lemmas.Bool.{false≢true}
 use Rattle.std.proofs.lemmas.Bool.Decides.{nat_tests}
 use Rattle.sctp_data.specs.declared.chunk.chunk_payload_data.ChunkPayloadData.{ChunkPayloadData}
-use Rattle.sctp_list_lemmas.proofs.More.{fails}
+use Rattle.sctp_util.proofs.More.{fails}
 use Rattle.sctp_outbound.specs.declared.pending_queue.Selected.{Selected}
 use Rattle.sctp_outbound.specs.Marks.{is_of}
 use Rattle.sctp_outbound.specs.pending_queue.PendingQueue.{last_of, without_message}

@@ -1,7 +1,7 @@
 use Rattle.std.proofs.Common.{◌≡◌, ◌+◌, ◌-◌, ◌^◌, suc, length, take, arith}
 use Rattle.std.specs.Prelude.{map, min}
 use Rattle.std.proofs.lemmas.List.{take-map}
-use Rattle.sctp_base.specs.Padding.{padding_of}
+use Rattle.sctp_util.specs.Padding.{padding_of}
 use Rattle.sctp_chunks.specs.Kind.{wire_of}
 use Rattle.sctp_chunks.specs.Wire.{value_of}
 use Rattle.sctp_packets.specs.Packet.{body_of}

@@ -5,7 +5,7 @@ use Rattle.std.proofs.lemmas.Grind.{common_steps}
 use Rattle.std.proofs.lemmas.List.{map-append, nil_from_length}
 use Rattle.sctp_chunks.specs.Wire.{HasEncoding}
 use Rattle.sctp_chunks.specs.Kind.{wire_of, IsFreshKind}
-use Rattle.sctp_base.proofs.Walks.{walks_none, walks_next}
+use Rattle.sctp_util.proofs.Walks.{walks_none, walks_next}
 use Rattle.sctp_packets.specs.Packet.{Steps, after}
 use Rattle.sctp_chunks.specs.Fits.{Canonical}
 use Rattle.sctp_packets.specs.Fault.{WalkFault}

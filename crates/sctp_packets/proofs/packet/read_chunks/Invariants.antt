@@ -3,7 +3,7 @@ use Rattle.std.specs.Prelude.{map}
 use Rattle.sctp_chunks.specs.Kind.{wire_of, IsFreshKind}
 use Rattle.std.specs.List.{AllByRecursion}
 use Rattle.sctp_chunks.specs.Wire.{HasEncoding}
-use Rattle.sctp_base.specs.Walk.{Walks}
+use Rattle.sctp_util.specs.Walk.{Walks}
 use Rattle.sctp_chunks.specs.Fits.{Canonical}
 use Rattle.sctp_packets.specs.Packet.{Steps, after}
 use Rattle.sctp_packets.proofs.packet.read_chunks.Given as goal

@@ -4,8 +4,8 @@ use Rattle.std.proofs.Common.{arith}
 use Rattle.std.proofs.lemmas.Bool.Decides.{nat_tests}
 use Rattle.std.proofs.lemmas.List.{get_or_default}
 use Rattle.sctp_data.specs.declared.chunk.chunk_payload_data.ChunkPayloadData.{ChunkPayloadData}
-use Rattle.sctp_list_lemmas.specs.Serial.{distance}
-use Rattle.sctp_list_lemmas.proofs.Distances.{distance_cases}
+use Rattle.sctp_util.specs.Serial.{distance}
+use Rattle.sctp_util.proofs.Distances.{distance_cases}
 use Rattle.sctp_serial.specs.Ascending.{IsAscending}
 use Rattle.sctp_serial.specs.DataChunks.{following_tsn}
 use Rattle.sctp_serial.proofs.lemmas.AscendingEdits.{Ascends, ascends, half, farther}

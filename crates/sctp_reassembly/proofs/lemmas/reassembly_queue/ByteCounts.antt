@@ -5,8 +5,8 @@ use Rattle.std.specs.List.{list_any, sum_by, filter}
 use Rattle.std.proofs.lemmas.Bool.{true≢false}
 use Rattle.std.proofs.lemmas.List.{take-append-drop, drop-drop}
 use Rattle.std.proofs.lemmas.List.Sums.{sum_by-cons, sum_by-append}
-use Rattle.sctp_list_lemmas.specs.Serial.{at_or_before, at_or_before16, comes_before16}
-use Rattle.sctp_list_lemmas.specs.Lists.{insert_before, change_first, after_leading}
+use Rattle.sctp_util.specs.Serial.{at_or_before, at_or_before16, comes_before16}
+use Rattle.sctp_util.specs.Lists.{insert_before, change_first, after_leading}
 use Rattle.sctp_data.specs.declared.chunk.chunk_payload_data.ChunkPayloadData.{ChunkPayloadData}
 use Rattle.sctp_data.specs.ChunkSet.{ChunkSet}
 use Rattle.sctp_reassembly.specs.reassembly_queue.Fragments.{has_ssn, with_chunk, new_set, sets_with, chunks_of_ssn, set_before, is_complete}

@@ -3,11 +3,11 @@ use Rattle.std.proofs.Common.{◌≡◌, ℕ, ◌+◌, ◌-◌, ◌^◌, ◌<◌
 use Rattle.std.specs.List.{All, insert, position_or_len}
 use Rattle.std.proofs.lemmas.Bool.Decides.{nat_tests}
 use Rattle.std.proofs.lemmas.List.Edits.{length-insert, get_or-insert_at, get_or-insert_above, get_or-insert_below}
-use Rattle.sctp_list_lemmas.specs.Serial.{distance, comes_before}
+use Rattle.sctp_util.specs.Serial.{distance, comes_before}
 use Rattle.std.proofs.lemmas.List.Folds.{list_any_none}
 use Rattle.std.proofs.lemmas.List.Sums.{position_or_len_is}
-use Rattle.sctp_list_lemmas.proofs.More.{fails}
-use Rattle.sctp_list_lemmas.proofs.Distances.{before_is, not_before_from}
+use Rattle.sctp_util.proofs.More.{fails}
+use Rattle.sctp_util.proofs.Distances.{before_is, not_before_from}
 use Rattle.sctp_serial.specs.Ascending.{IsAscending, IsOrder, IsInsertion}
 use Rattle.sctp_serial.proofs.lemmas.ListEdits.{remove-insert, an_element, inserted-position, same_position}
 use Rattle.sctp_serial.proofs.lemmas.AscendingEdits.{Ascends, ascends, ascending, ascends_remove, half, farther, first_small, distance_back}

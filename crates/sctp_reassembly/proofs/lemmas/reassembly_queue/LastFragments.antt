@@ -5,7 +5,7 @@ use Rattle.std.specs.List.{list_any}
 use Rattle.std.proofs.Math.Bool.{or-true}
 use Rattle.std.proofs.lemmas.List.{reverse-append, take_more, append-nil}
 use Rattle.std.proofs.Math.ListN.{take-append-drop}
-use Rattle.sctp_list_lemmas.specs.Lists.{after_leading}
+use Rattle.sctp_util.specs.Lists.{after_leading}
 use Rattle.sctp_data.specs.declared.chunk.chunk_payload_data.ChunkPayloadData.{ChunkPayloadData}
 use Rattle.sctp_serial.specs.DataChunks.{has_tsn}
 use Rattle.sctp_serial.proofs.lemmas.ListEdits.{neither}

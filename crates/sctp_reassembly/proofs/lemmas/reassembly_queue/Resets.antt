@@ -7,8 +7,8 @@ use Rattle.std.proofs.lemmas.Bool.{true≢false}
 use Rattle.std.proofs.lemmas.List.{map-append, take-append-drop}
 use Rattle.std.proofs.lemmas.List.Elements.{filter-append}
 use Rattle.std.proofs.lemmas.List.Sums.{sum_by-cons, sum_by-append}
-use Rattle.sctp_list_lemmas.proofs.Edits.{sum_by-those_both}
-use Rattle.sctp_list_lemmas.specs.Serial.{at_or_before}
+use Rattle.sctp_util.proofs.Edits.{sum_by-those_both}
+use Rattle.sctp_util.specs.Serial.{at_or_before}
 use Rattle.sctp_data.specs.declared.chunk.chunk_payload_data.ChunkPayloadData.{ChunkPayloadData}
 use Rattle.sctp_data.specs.ChunkSet.{ChunkSet}
 use Rattle.sctp_serial.specs.Ascending.{upper_half}

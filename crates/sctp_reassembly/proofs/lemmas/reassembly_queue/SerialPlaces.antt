@@ -10,10 +10,10 @@ use Rattle.std.proofs.lemmas.List.Edits.{length-insert, get_or-insert_below, get
 use Rattle.std.proofs.lemmas.List.Folds.{list_any_none}
 use Rattle.std.proofs.lemmas.List.Sums.{position_or_len_is, fails_before_first, passes_at_first, prefix_len-le-length}
 use Rattle.sctp_data.specs.declared.chunk.chunk_payload_data.ChunkPayloadData.{ChunkPayloadData}
-use Rattle.sctp_list_lemmas.specs.Serial.{distance, comes_before}
-use Rattle.sctp_list_lemmas.proofs.Edits.{pairs_insert}
-use Rattle.sctp_list_lemmas.proofs.More.{fails}
-use Rattle.sctp_list_lemmas.proofs.Distances.{distance_cases, before_is, comes_before_from, before_irrefl}
+use Rattle.sctp_util.specs.Serial.{distance, comes_before}
+use Rattle.sctp_util.proofs.Edits.{pairs_insert}
+use Rattle.sctp_util.proofs.More.{fails}
+use Rattle.sctp_util.proofs.Distances.{distance_cases, before_is, comes_before_from, before_irrefl}
 use Rattle.sctp_serial.specs.DataChunks.{has_tsn, following_tsn, preceding_tsn}
 use Rattle.sctp_reassembly.specs.reassembly_queue.Loose.{IsOrderFlag, place_among}
 use Rattle.sctp_serial.specs.Window.{IsSerial}

@@ -3,10 +3,10 @@ use Rattle.std.proofs.Common.{◌≡◌, ◌≢◌, suc, ◌+◌, ◌-◌, ◌%�
 use Rattle.std.proofs.Common.{arith}
 use Rattle.std.proofs.lemmas.Bool.{true≢false}
 use Rattle.std.proofs.Math.Nat.{mod-add-mod}
-use Rattle.sctp_list_lemmas.proofs.More.{fails, both}
+use Rattle.sctp_util.proofs.More.{fails, both}
 use Rattle.sctp_data.specs.declared.chunk.chunk_payload_data.ChunkPayloadData.{ChunkPayloadData}
 use Rattle.sctp_reassembly.specs.reassembly_queue.Fragments.{completes, is_complete}
-use Rattle.sctp_list_lemmas.proofs.Cases.{same-is}
+use Rattle.sctp_util.proofs.Cases.{same-is}
 use Rattle.sctp_serial.specs.DataChunks.{following_tsn}
 
 -- the last one ends

@@ -9,10 +9,10 @@ use Rattle.std.proofs.lemmas.List.{reverse-append, get_or-take}
 use Rattle.std.proofs.lemmas.List.Folds.{list_any_none}
 use Rattle.std.proofs.lemmas.List.Sums.{sum_by-cons, sum_by-append, sum_by-take-drop}
 use Rattle.sctp_data.specs.declared.chunk.chunk_payload_data.ChunkPayloadData.{ChunkPayloadData}
-use Rattle.sctp_list_lemmas.specs.Lists.{after_leading}
-use Rattle.sctp_list_lemmas.specs.Serial.{comes_before}
-use Rattle.sctp_list_lemmas.proofs.More.{fails}
-use Rattle.sctp_list_lemmas.proofs.Distances.{comes_before_from}
+use Rattle.sctp_util.specs.Lists.{after_leading}
+use Rattle.sctp_util.specs.Serial.{comes_before}
+use Rattle.sctp_util.proofs.More.{fails}
+use Rattle.sctp_util.proofs.Distances.{comes_before_from}
 use Rattle.sctp_serial.specs.DataChunks.{bytes_of, has_tsn, following_tsn, preceding_tsn}
 use Rattle.sctp_reassembly.specs.reassembly_queue.Loose.{place_among}
 use Rattle.sctp_reassembly.specs.reassembly_queue.Sizes.{bytes_down, bytes_up, back_from, on_from, size_before, size_after}

@@ -8,7 +8,7 @@ use Rattle.sctp_data.specs.ChunkSet.{ChunkSet}
 use Rattle.sctp_reassembly.specs.reassembly_queue.Counts.{set_chunks}
 use Rattle.sctp_reassembly.specs.reassembly_queue.Orders.{IsInOrder}
 use Rattle.sctp_reassembly.specs.reassembly_queue.Skips.{cannot_complete, ssn_past_sets}
-use Rattle.sctp_list_lemmas.specs.Serial.{at_or_before16}
+use Rattle.sctp_util.specs.Serial.{at_or_before16}
 
 -- behind one that is removed stands what stood behind it
 pub drop_removed : {X : Type 0} (i : ℕ) (xs : List X) → drop i (remove xs i) ≡ drop (i + 1) xs

@@ -3,9 +3,9 @@ use Rattle.std.proofs.Common.{◌≡◌, ◌≢◌, ℕ, ◌+◌, ◌-◌, ◌^�
 use Rattle.std.proofs.Common.{subst, ◌∙◌, inl, inr, arith}
 use Rattle.std.specs.List.{insert}
 use Rattle.std.proofs.lemmas.Bool.{cases_eq, false≢true}
-use Rattle.sctp_list_lemmas.specs.Lists.{insert_before}
-use Rattle.sctp_list_lemmas.specs.Serial.{comes_before}
-use Rattle.sctp_list_lemmas.proofs.Distances.{before_irrefl}
+use Rattle.sctp_util.specs.Lists.{insert_before}
+use Rattle.sctp_util.specs.Serial.{comes_before}
+use Rattle.sctp_util.proofs.Distances.{before_irrefl}
 use Rattle.sctp_serial.proofs.lemmas.ListEdits.{inserted-position, remove-insert}
 use Rattle.sctp_serial.specs.Window.{IsSerial}
 use Rattle.sctp_reassembly.specs.reassembly_queue.Costs.{FitsInOrder, Joins, IsAtEnd}

@@ -5,8 +5,8 @@ use Rattle.std.proofs.lemmas.Bool.{cases_lt}
 use Rattle.std.proofs.lemmas.List.{get_or-drop, get_or-take, get_or_append_left}
 use Rattle.std.proofs.Math.Seq.{get_or-append_right}
 use Rattle.sctp_data.specs.declared.chunk.chunk_payload_data.ChunkPayloadData.{ChunkPayloadData}
-use Rattle.sctp_list_lemmas.specs.Serial.{distance}
-use Rattle.sctp_list_lemmas.proofs.Distances.{before_is}
+use Rattle.sctp_util.specs.Serial.{distance}
+use Rattle.sctp_util.proofs.Distances.{before_is}
 use Rattle.sctp_reassembly.specs.reassembly_queue.Loose.{IsFlag, IsOrderFlag}
 use Rattle.sctp_serial.specs.Runs.{IsRun, HasNoRun}
 use Rattle.sctp_serial.specs.Window.{IsSerial}

@@ -2,7 +2,7 @@
 use Rattle.std.proofs.Common.{◌≡◌, ℕ, zero, suc, ◌-◌, ◌<◌, ◌++◌, remove, append-nil, length-append, Option, Some, None, MatchOption, List, [], ◌∷◌, length}
 use Rattle.std.proofs.Common.{get_or, set, refl, sym, ap, subst, ◌∙◌, arith}
 use Rattle.std.proofs.lemmas.List.{set-get_or, get_or-set_same}
-use Rattle.sctp_list_lemmas.specs.Lists.{change_at}
+use Rattle.sctp_util.specs.Lists.{change_at}
 use Rattle.sctp_serial.proofs.lemmas.ListEdits.{remove_seam}
 use Rattle.sctp_data.specs.ChunkSet.{ChunkSet}
 use Rattle.sctp_reassembly.specs.declared.reassembly_queue.chunks.Placed.{Placed}

@@ -1,8 +1,8 @@
 //! A fragment put among the unassembled ones so that it can be taken back.
 
 ghost use Rattle.std.specs.Prelude.{◌≡◌, ℕ, ◌+◌, ◌-◌, ◌*◌, ◌^◌, ◌<◌, ◌≤◌, [], length, insert, max, OnOk, OnErr, IfOk, IfErr, MatchOption};
-ghost use Rattle.sctp_base.specs.declared.error.Error.TheVariants.{ErrOutOfMemory};
-ghost use Rattle.sctp_list_lemmas.specs.Lists.{insert_before};
+ghost use Rattle.sctp_util.specs.declared.error.Error.TheVariants.{ErrOutOfMemory};
+ghost use Rattle.sctp_util.specs.Lists.{insert_before};
 ghost use Rattle.sctp_serial.specs.DataChunks.{bytes_of, chunk_before};
 ghost use Rattle.sctp_serial.specs.Runs.{HasNoRun, IsStretch};
 ghost use Rattle.sctp_serial.specs.Window.{IsSerial};
@@ -13,9 +13,9 @@ ghost use Rattle.sctp_reassembly.specs.reassembly_queue.PoolUndo.{CanUndoPut, po
 use crate::reassembly_queue::fragment::Fragment;
 use crate::reassembly_queue::pool::{Pool, is_known, is_searched, search};
 use crate::reassembly_queue::unassembled::InsertionUndo;
-use sctp_base::error::Result;
 use sctp_data::chunk::chunk_payload_data::ChunkPayloadData;
 use sctp_serial::turns::Turns;
+use sctp_util::error::Result;
 use std::alloc::Global;
 
 /// What `put_undoable` did.

@@ -1,17 +1,17 @@
 //! A TSN that came is taken back.
 
 ghost use Rattle.std.specs.Prelude.{◌≡◌, ◌<◌, ◌≤◌, ◌+◌, ◌-◌, ◌*◌, ◌^◌, ◌++◌, true, false, OnOk, OnErr, IfOk, IsOkUnless, length, map, take};
-ghost use Rattle.sctp_base.specs.declared.error.Error.TheVariants.{ErrOutOfMemory};
+ghost use Rattle.sctp_util.specs.declared.error.Error.TheVariants.{ErrOutOfMemory};
 ghost use Rattle.sctp_reassembly.specs.reassembly_queue.Orders.{digits};
 ghost use Rattle.sctp_receiver.specs.TsnFilter.{placeholder, rise_beyond};
 ghost use Rattle.sctp_receiver.specs.Undo.{tsns_from, undo_of};
 ghost use Rattle.sctp_serial.specs.DataChunks.{following_tsn, tsns};
 
 use super::{TsnFilter, placeholder};
-use sctp_base::error::Result;
 use sctp_outbound::payload_queue::PayloadQueue;
 use sctp_serial::serial::distance;
 use sctp_serial::turns::Turns;
+use sctp_util::error::Result;
 
 /// What `accept_undoable` did, so that `retract` can take it back.
 #[derive(Clone, Copy)]
@@ -26,24 +26,12 @@ impl TsnFilter {
     ghost use Rattle.sctp_receiver.specs.TsnFilter.{has_come, is_opposite, with_tsn};
     ghost use Rattle.sctp_receiver.specs.Undo.{retracted, CanRetract};
 
-    /// A new TSN comes, as `accept` takes it, and room is made for it. Answers what `retract` takes it back by. Refuses only for memory,
-    /// and the filter is as it was then.
-    /// Precondition: it did not come (`has_come`), and is not opposite to the cumulative one (`is_opposite`).
-    pub fn accept_undoable(&mut self, tsn: u32) -> Result<FilterUndo>
-        requires new { has_come tsn self.old ≡ false }
-        requires near { is_opposite tsn self.old ≡ false }
-        ensures ok { OnOk result
-            (self.new ≡ record (with_tsn tsn self.old) { room = self.new.room }) }
-        ensures undo { IfOk result (λ u. retracted u self.new ≡ self.old) }
-        ensures can { IfOk result (λ u. CanRetract u self.new) }
-        ensures err { OnErr result (self.new ≡ self.old) }
-        ensures memory { IsOkUnless result ErrOutOfMemory }
-    {
-        self.accept_undoable_counted(tsn, &mut Turns::new())
-    }
-
     /// The same, and its turns are added as `accept_counted` adds them.
-    pub fn accept_undoable_counted(&mut self, tsn: u32, turns: &mut Turns) -> Result<FilterUndo>
+    pub(crate) fn accept_undoable_counted(
+        &mut self,
+        tsn: u32,
+        turns: &mut Turns,
+    ) -> Result<FilterUndo>
         requires new { has_come tsn self.old ≡ false }
         requires near { is_opposite tsn self.old ≡ false }
         ensures ok { OnOk result
@@ -81,18 +69,9 @@ impl TsnFilter {
         }
     }
 
-    /// Takes a TSN back by what `accept_undoable` answered. It takes no memory.
-    /// Precondition: the filter is as that left it (`CanRetract`).
-    pub fn retract(&mut self, undo: FilterUndo)
-        requires { CanRetract undo self.old }
-        ensures { self.new ≡ retracted undo self.old }
-    {
-        self.retract_counted(undo, &mut Turns::new());
-    }
-
     /// The same, and its turns are added: to find its TSN at most as many as the number of those beyond has binary digits; and for each that
     /// is beyond again at most one more than the number of these has.
-    pub fn retract_counted(&mut self, undo: FilterUndo, turns: &mut Turns)
+    pub(crate) fn retract_counted(&mut self, undo: FilterUndo, turns: &mut Turns)
         requires { CanRetract undo self.old }
         ensures value { self.new ≡ retracted undo self.old }
         ensures not_back { turns.old ≤ turns.new }
@@ -118,7 +97,7 @@ impl TsnFilter {
     }
 
     /// The TSN that was noted last as a duplicate is noted no more. It takes no memory.
-    pub fn forget_last_duplicate(&mut self)
+    pub(crate) fn forget_last_duplicate(&mut self)
         ensures { self.new ≡ record self.old {
           duplicates = take (length self.old.duplicates - 1) self.old.duplicates;
         } }

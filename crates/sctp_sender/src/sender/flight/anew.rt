@@ -42,31 +42,10 @@ pub struct Anew {
 impl InFlight {
     ghost use Rattle.sctp_sender.specs.Flight.{after_sack, count_acked, is_outdated, reports, reports_anew, sack_refusal};
 
-    /// What a SACK makes of what is kept.
-    /// Precondition: `is_current` answers true. Refuses only for memory.
-    pub fn anew(
-        &self,
-        alloc: Global,
-        sack: &ChunkSelectiveAck,
-        kept: &Kept,
-    ) -> Result<Anew, SenderRefusal>
-        requires taken { sack_refusal (sack_of sack.now) self.now ≡ None }
-        requires current { is_outdated (sack_of sack.now) self.now ≡ false }
-        requires covered { Cover kept.now.reported.items kept.now.user_data.items self.now }
-        ensures anew { IfOk result (λ a. (a.count ≡ count_acked (sack_of sack.now) self.now)
-            × AreAnew (sack_of sack.now) self.now a.chunks.items) }
-        ensures covered { IfOk result (λ a. Cover a.reported.items
-            (kept_after (sack_of sack.now) self.now kept.now.user_data.items)
-            (after_sack (sack_of sack.now) self.now)) }
-        ensures memory { IfErr result (λ e. e ≡ OutOfMemory) }
-    {
-        self.anew_counted(alloc, sack, kept, &mut Turns::new())
-    }
-
     /// The same, where what was reported is acknowledged, and its turns are added: at most seven for each block, and where these do not
     /// ascend six for each distance up to the greatest that they report; three for each chunk in flight that was acknowledged before, and
     /// one for each such that the SACK does not report; two for each that it reports, and one more where it does so anew; and one.
-    pub fn anew_counted(
+    pub(crate) fn anew_counted(
         &self,
         alloc: Global,
         sack: &ChunkSelectiveAck,

@@ -48,28 +48,8 @@ pub struct Kept {
 impl InFlight {
     ghost use Rattle.sctp_sender.specs.Flight.{can_resend};
 
-    /// Each chunk with which something comes back is outstanding again, and has it. It takes no memory, so that no block of the last SACK
-    /// can be parted in two, as where the second of three chunks comes back: the next SACK looks at all that it reports. Behind the
-    /// `take_back` of a `Sender`, which has taken memory for the parts, it does not.
-    /// Precondition: each has its place in flight; and the bytes that wait and are in flight, with these, are fewer than 2^64.
-    pub fn restore(&mut self, backs: Vec<PlacedData>)
-        requires within { All (λ b. b.place < length self.old.queue.inflight.chunks) backs.items }
-        requires bytes { total_bytes self.old.queue + bytes_coming backs.items < 2 ^ 64 }
-        ensures restored { (bs : List (Option (List ℕ))) → backs.items ≡ placed 0 bs
-            → length bs ≤ length self.old.queue.inflight.chunks
-            → self.new ≡ with_restored bs self.old }
-        // where they are what a SACK takes back, it can be sent again
-        ensures outstanding { (s : Sack) (ks : List (Option (List ℕ)))
-            → backs.items ≡ placed 0 (back_each s self.old.queue.inflight.chunks ks)
-            → All (λ b. can_resend b.tsn self.new ≡ true)
-            (answered_back (back_each s self.old.queue.inflight.chunks ks)
-            self.old.queue.inflight.chunks) }
-    {
-        self.restore_counted(backs, &mut Turns::new());
-    }
-
     /// The same, a turn for each.
-    pub fn restore_counted(&mut self, backs: Vec<PlacedData>, turns: &mut Turns)
+    pub(crate) fn restore_counted(&mut self, backs: Vec<PlacedData>, turns: &mut Turns)
         requires within { All (λ b. b.place < length self.old.queue.inflight.chunks) backs.items }
         requires bytes { total_bytes self.old.queue + bytes_coming backs.items < 2 ^ 64 }
         ensures restored { (bs : List (Option (List ℕ))) → backs.items ≡ placed 0 bs

@@ -37,7 +37,7 @@ impl InFlight {
     /// late chunk of each, but for the message of which some waits, which comes first. Refuses, only where there is such a one,
     /// with `TsnsUsedUp`, where 2^31 - 1 chunks are in flight; and for memory, but not where no message is late. All is as it
     /// was then.
-    pub fn expire_late(
+    pub(crate) fn expire_late(
         &mut self,
         alloc: Global,
         now: u64,
@@ -67,7 +67,10 @@ impl InFlight {
     /// Abandons each message in flight that was sent again as often as it may be (RFC 7496 3.1) and of which a chunk is marked for
     /// retransmission, outstanding and sent more often than its limit and once; never a DCEP message (RFC 8832 6). The answer and
     /// the refusals are those of `expire_late`. All is as it was then.
-    pub fn expire_rexmit(&mut self, alloc: Global) -> Result<Vec<AbandonedMessage>, SenderRefusal>
+    pub(crate) fn expire_rexmit(
+        &mut self,
+        alloc: Global,
+    ) -> Result<Vec<AbandonedMessage>, SenderRefusal>
         ensures ok { OnOk result (self.new ≡ abandoned_each (worn_order self.old) self.old) }
         ensures none_left { OnOk result (worn_tsns self.new ≡ []) }
         ensures answer { IfOk result (λ abandoned. abandoned.items
@@ -181,7 +184,7 @@ impl InFlight {
 
     /// Whether some of the message of a TSN in flight, which is not abandoned, still waits, so that abandoning it needs a terminal
     /// chunk under a further TSN; false where the TSN is not in flight.
-    pub fn has_tail_at(&self, tsn: u32) -> bool
+    pub(crate) fn has_tail_at(&self, tsn: u32) -> bool
         ensures { result ≡ has_tail_at self.now tsn }
     {
         self.queue.are_whole();

@@ -16,7 +16,7 @@ impl InFlight {
     /// Whether the chunk begins an ordered message whose number is 2^14 or more past that of the first ordered chunk of its stream in
     /// flight, be that acknowledged, abandoned or terminal. So many messages have as many chunks in flight: where fewer are, it is not,
     /// and nothing is looked for. Else it looks as far as that chunk.
-    pub fn is_too_far(&self, chunk: &ChunkPayloadData) -> bool
+    pub(crate) fn is_too_far(&self, chunk: &ChunkPayloadData) -> bool
         ensures { result ≡ is_too_far self.now chunk.now }
     {
         if !begins_ordered(chunk) || self.queue.inflight_len() < REACH as usize {

@@ -31,7 +31,7 @@ impl Model for Pairs {
 
 impl Pairs {
     /// No pairs. It takes no memory.
-    pub fn new(alloc: Global) -> Self
+    pub(crate) fn new(alloc: Global) -> Self
         ensures { result ≡ [] }
     {
         Pairs {
@@ -41,14 +41,14 @@ impl Pairs {
     }
 
     /// How many there are.
-    pub fn len(&self) -> usize
+    pub(crate) fn len(&self) -> usize
         ensures { result ≡ length self.now }
     {
         self.items.len()
     }
 
     /// Where the first pair of a stream stands, None where there is none.
-    pub fn place_of(&self, stream: u16) -> Option<usize>
+    pub(crate) fn place_of(&self, stream: u16) -> Option<usize>
         ensures some { IfSome result (λ k. IsFirstPair stream self.now k) }
         ensures none { result ≡ None → IsNoPair stream self.now (length self.now) }
     {
@@ -57,7 +57,7 @@ impl Pairs {
 
     /// Puts a pair in the place of that of its stream.
     /// Precondition: that stands there.
-    pub fn set(&mut self, place: usize, pair: ChunkForwardTsnStream)
+    pub(crate) fn set(&mut self, place: usize, pair: ChunkForwardTsnStream)
         requires { IsFirstPair pair.identifier self.old place }
         ensures { self.new ≡ slice_set self.old place pair }
     {
@@ -66,7 +66,7 @@ impl Pairs {
 
     /// Puts a pair behind the others. Refuses only for memory.
     /// Precondition: there is none of its stream.
-    pub fn push(&mut self, pair: ChunkForwardTsnStream) -> Result<(), SenderRefusal>
+    pub(crate) fn push(&mut self, pair: ChunkForwardTsnStream) -> Result<(), SenderRefusal>
         requires { IsNoPair pair.identifier self.old (length self.old) }
         ensures ok { OnOk result (self.new ≡ self.old ++ pair ∷ []) }
         ensures memory { IfErr result (λ e. e ≡ OutOfMemory) }
@@ -80,7 +80,7 @@ impl Pairs {
     }
 
     /// The pairs, in the order in which they were put.
-    pub fn into_items(self) -> Vec<ChunkForwardTsnStream>
+    pub(crate) fn into_items(self) -> Vec<ChunkForwardTsnStream>
         ensures { result.items ≡ self }
     {
         self.items

@@ -14,7 +14,7 @@ use sctp_serial::serial::distance;
 impl InFlight {
     /// Where the chunks of the message of a TSN in flight stand: from the first place on, and before the second. It looks at these,
     /// and at one on each side. Twice 0 where the TSN is not in flight.
-    pub fn places_of(&self, tsn: u32) -> (usize, usize)
+    pub(crate) fn places_of(&self, tsn: u32) -> (usize, usize)
         ensures { (c : ChunkPayloadData)
             → find (has_tsn tsn) self.now.queue.inflight.chunks ≡ Some c
             → IsBetween c.message_id result.0 result.1 self.now.queue.inflight.chunks }

@@ -2,7 +2,7 @@
 
 ghost use Rattle.std.specs.Prelude.{◌≡◌, ◌≢◌, ◌-◌, ◌&&◌, ◌||◌, Bool, not, nat_eq, nat_lt, ◌+◌, ◌*◌, ◌<◌, ◌≤◌, ◌^◌, ◌⊎◌, [], ℕ, true, false, Some, None, OnOk, OnErr, IfOk, IfErr, IsOk, is_some, length, map, drop, take, vec_capacity, slice_index_or};
 ghost use Rattle.std.specs.List.{list_all, list_any, filter};
-ghost use Rattle.sctp_list_lemmas.specs.Lists.{change_where};
+ghost use Rattle.sctp_util.specs.Lists.{change_where};
 ghost use Rattle.sctp_data.specs.SelectiveAck.{sack_of};
 ghost use Rattle.sctp_data.specs.declared.chunk.chunk_payload_data.ChunkPayloadData.{ChunkPayloadData};
 ghost use Rattle.sctp_outbound.specs.Marks.{as_acknowledged};
@@ -19,13 +19,13 @@ use super::sorting::sorted_blocks;
 use super::telling::{acknowledge_answered, judge_each, tell_anew};
 use super::{InFlight, Released};
 use crate::sender::refusal::SenderRefusal;
-use sctp_base::util::sna32lt;
 use sctp_data::chunk::chunk_payload_data::ChunkPayloadData;
 use sctp_data::chunk::chunk_selective_ack::{ChunkSelectiveAck, GapAckBlock};
 use sctp_outbound::outbound_queue::OutboundQueue;
 use sctp_serial::serial::distance;
 use sctp_serial::turns::Turns;
 use sctp_stream::stream_numbers::put;
+use sctp_util::util::sna32lt;
 use std::alloc::Global;
 
 impl InFlight {
@@ -46,7 +46,7 @@ impl InFlight {
     ///
     /// What it looks at `acked_counted` says. Blocks that do not ascend take memory for as many marks as the greatest distance that they
     /// report, and one, at most 65,536.
-    pub fn acked(
+    pub(crate) fn acked(
         &mut self,
         alloc: Global,
         sack: &ChunkSelectiveAck,
@@ -72,7 +72,7 @@ impl InFlight {
     /// else is in flight costs nothing, however much it is. What both this SACK and the one taken before it have in blocks is passed
     /// over, a block at a time. One that is out of date takes no turn, and one that is refused for what it claims at most one for each
     /// block.
-    pub fn acked_counted(
+    pub(crate) fn acked_counted(
         &mut self,
         alloc: Global,
         sack: &ChunkSelectiveAck,
@@ -123,19 +123,8 @@ impl InFlight {
         Ok(released)
     }
 
-    /// Whether a SACK is not out of date. Refuses what `acked` refuses, but not for memory: it takes none.
-    pub fn is_current(&self, sack: &ChunkSelectiveAck) -> Result<bool, SenderRefusal>
-        ensures answer { IfOk result (λ current. current
-            ≡ not (is_outdated (sack_of sack.now) self.now)) }
-        ensures accepted { IsOk result → sack_refusal (sack_of sack.now) self.now ≡ None }
-        ensures refused { IfErr result (λ e. sack_refusal (sack_of sack.now) self.now ≡ Some e) }
-        ensures outdated { is_outdated (sack_of sack.now) self.now ≡ true → IsOk result }
-    {
-        self.is_current_counted(sack, &mut Turns::new())
-    }
-
     /// The same, and its turns are added: at most one for each block, and none where the SACK is out of date.
-    pub fn is_current_counted(
+    pub(crate) fn is_current_counted(
         &self,
         sack: &ChunkSelectiveAck,
         turns: &mut Turns,

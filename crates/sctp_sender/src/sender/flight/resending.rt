@@ -2,7 +2,7 @@
 
 ghost use Rattle.std.specs.Prelude.{◌≡◌, ◌==◌, ◌+◌, ◌*◌, ◌-◌, ◌^◌, ◌<◌, ◌≤◌, ◌++◌, [], min, true, None, Some, OnOk, OnErr, IfOk, IfErr, IfSome, IsOk, drop, find, length, option_copied, option_map, slice_get, take, if◌then◌else◌};
 ghost use Rattle.std.specs.List.{filter};
-ghost use Rattle.sctp_list_lemmas.specs.Lists.{change_where};
+ghost use Rattle.sctp_util.specs.Lists.{change_where};
 ghost use Rattle.sctp_data.specs.declared.chunk.chunk_payload_data.ChunkPayloadData.{ChunkPayloadData};
 ghost use Rattle.sctp_outbound.specs.outbound_queue.OutboundQueue.{with_inflight};
 ghost use Rattle.sctp_sender.specs.declared.sender.refusal.SenderRefusal.TheVariants.{NotInFlight, OutOfMemory};
@@ -13,13 +13,13 @@ ghost use Rattle.sctp_serial.specs.DataChunks.{has_tsn, tsns};
 
 use super::InFlight;
 use crate::sender::refusal::SenderRefusal;
-use sctp_base::util::sna32lt;
 use sctp_data::chunk::chunk_payload_data::{ChunkPayloadData, ReliabilityType};
 use sctp_data::chunk::chunk_selective_ack::GapAckBlock;
 use sctp_outbound::outbound_queue::OutboundQueue;
 use sctp_serial::serial::distance;
 use sctp_serial::turns::Turns;
 use sctp_stream::stream_numbers::put;
+use sctp_util::util::sna32lt;
 use std::alloc::Global;
 
 impl InFlight {
@@ -29,7 +29,7 @@ impl InFlight {
     /// Sends the chunk in flight with a TSN again: it is counted, `now` is noted, in nanoseconds, and it is no longer marked for
     /// retransmission. Answers it as it is noted then. Refuses with `NotInFlight`, where none is, or it is acknowledged or
     /// abandoned; and for memory. All is as it was then.
-    pub fn resend(&mut self, tsn: u32, now: u64) -> Result<ChunkPayloadData, SenderRefusal>
+    pub(crate) fn resend(&mut self, tsn: u32, now: u64) -> Result<ChunkPayloadData, SenderRefusal>
         ensures answer { IfOk result (λ again. (c : ChunkPayloadData)
             → find (has_tsn tsn) self.old.queue.inflight.chunks ≡ Some c
             → again ≡ sent_again (min (c.nsent + 1) (2 ^ 32 - 1)) now c) }
@@ -59,14 +59,14 @@ impl InFlight {
     }
 
     /// Marks each outstanding chunk for retransmission (RFC 4960 6.3.3). It takes no memory.
-    pub fn retransmit_all(&mut self)
+    pub(crate) fn retransmit_all(&mut self)
         ensures { self.new ≡ all_marked self.old }
     {
         self.queue.mark_all_to_retransmit();
     }
 
     /// The first chunk in flight that is marked for retransmission and outstanding.
-    pub fn next_to_retransmit(&self) -> Option<&ChunkPayloadData>
+    pub(crate) fn next_to_retransmit(&self) -> Option<&ChunkPayloadData>
         ensures { option_copied result ≡ find is_to_resend self.now.queue.inflight.chunks }
     {
         match self.first_to_resend() {
@@ -92,20 +92,9 @@ impl InFlight {
         None
     }
 
-    /// Counts each outstanding chunk in flight whose TSN is before this one as missing once more (RFC 4960 7.2.4), up to 3, and
-    /// marks for retransmission what is missing for the third time. Answers how many chunks that are. It takes no memory, and
-    /// looks only at what is before the TSN, but not at what the SACK taken last reports in blocks. Nothing changes where the TSN is
-    /// not past what is acknowledged.
-    pub fn add_miss_indications(&mut self, before: u32) -> usize
-        ensures missed { self.new ≡ after_misses (count_before before self.old) self.old }
-        ensures thirds { result ≡ length (thirds (count_before before self.old) self.old) }
-    {
-        self.add_miss_indications_counted(before, &mut Turns::new())
-    }
-
     /// The same, and its turns are added: at most two for each chunk in flight whose TSN is before this one. The look-up by which a chunk
     /// is counted takes none.
-    pub fn add_miss_indications_counted(&mut self, before: u32, turns: &mut Turns) -> usize
+    pub(crate) fn add_miss_indications_counted(&mut self, before: u32, turns: &mut Turns) -> usize
         ensures missed { self.new ≡ after_misses (count_before before self.old) self.old }
         ensures thirds { result ≡ length (thirds (count_before before self.old) self.old) }
         ensures not_back { turns.old ≤ turns.new }
@@ -130,7 +119,7 @@ impl InFlight {
 
     /// The TSNs in flight that are marked for retransmission, and were sent again as often as their limit allows (RFC 7496 3.1), but
     /// for those of DCEP messages (RFC 8832 6). Refuses only for memory, and not where there are none.
-    pub fn worn_tsns(&self, alloc: Global) -> Result<Vec<u32>, SenderRefusal>
+    pub(crate) fn worn_tsns(&self, alloc: Global) -> Result<Vec<u32>, SenderRefusal>
         ensures ok { IfOk result (λ tsns. tsns.items ≡ worn_tsns self.now) }
         ensures memory { IfErr result (λ e. e ≡ OutOfMemory) }
         ensures idle { worn_tsns self.now ≡ [] → IsOk result }

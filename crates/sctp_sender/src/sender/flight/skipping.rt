@@ -22,7 +22,7 @@ impl InFlight {
 
     /// The greatest TSN such that the message of it and of each in flight before it is abandoned: RFC 3758 3.5 calls it the
     /// Advanced.Peer.Ack.Point. The TSN up to which all was acknowledged, where none in flight is passed.
-    pub fn advanced_ack_point(&self) -> u32
+    pub(crate) fn advanced_ack_point(&self) -> u32
         ensures { result ≡ advanced_ack_point self.now }
     {
         match first_kept(&self.queue) {
@@ -35,7 +35,7 @@ impl InFlight {
     /// some fragments of a message may be sent the others still. Of each stream that has an ordered chunk up to there which is abandoned
     /// it names the number of the last one. None where no message ends up to there, and where the TSN is not past what is acknowledged,
     /// or lies beyond `advanced_ack_point`. Refuses only for memory, and takes none where it answers None.
-    pub fn forward_tsn_to(
+    pub(crate) fn forward_tsn_to(
         &self,
         alloc: Global,
         tsn: u32,
@@ -69,7 +69,7 @@ impl InFlight {
     /// As `forward_tsn_to` the `advanced_ack_point`, as far as the names fit into a chunk of so many bytes: 8 for its header and its TSN,
     /// and 4 a name. It goes to a TSN at which a message ends, and a chunk to each later one would be longer. None where there is no
     /// such TSN. Refuses only for memory, and not where there is nothing to tell.
-    pub fn forward_tsn_within(
+    pub(crate) fn forward_tsn_within(
         &self,
         alloc: Global,
         bytes: usize,

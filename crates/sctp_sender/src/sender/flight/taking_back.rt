@@ -35,33 +35,10 @@ pub struct PlacedData {
 impl InFlight {
     ghost use Rattle.sctp_sender.specs.Flight.{after_sack, is_outdated, sack_refusal};
 
-    /// What comes back by a SACK, in order of TSNs. It looks at each block of it and of what was reported, and at each place of these
-    /// that it does not report.
-    /// Precondition: `is_current` answers true. Refuses only for memory, and takes none where nothing comes back and the blocks
-    /// ascend.
-    pub fn coming_back(
-        &self,
-        alloc: Global,
-        sack: &ChunkSelectiveAck,
-        kept: &Kept,
-    ) -> Result<Vec<PlacedData>, SenderRefusal>
-        requires taken { sack_refusal (sack_of sack.now) self.now ≡ None }
-        requires current { is_outdated (sack_of sack.now) self.now ≡ false }
-        requires covered { Cover kept.now.reported.items kept.now.user_data.items self.now }
-        ensures ok { IfOk result (λ backs. backs.items ≡ placed 0 (back_each (sack_of sack.now)
-            self.now.queue.inflight.chunks kept.now.user_data.items)) }
-        ensures memory { IfErr result (λ e. e ≡ OutOfMemory) }
-        ensures idle { ascends_from 0 (sack_of sack.now).gap_ack_blocks ≡ true
-            → placed 0 (back_each (sack_of sack.now)
-            self.now.queue.inflight.chunks kept.now.user_data.items) ≡ [] → IsOk result }
-    {
-        self.coming_back_counted(alloc, sack, kept, &mut Turns::new())
-    }
-
     /// The same, where what was reported is acknowledged, and its turns are added: at most six for each block, and where these do not
     /// ascend four for each distance up to the greatest that they report; one for each chunk in flight that is acknowledged, and one for
     /// each such that the SACK does not report; and one more.
-    pub fn coming_back_counted(
+    pub(crate) fn coming_back_counted(
         &self,
         alloc: Global,
         sack: &ChunkSelectiveAck,

@@ -4,7 +4,7 @@ ghost use Rattle.std.specs.Prelude.{◌≡◌, ℕ, Bool, ◌+◌, ◌*◌, ◌-
 ghost use Rattle.std.specs.List.{count_by, filter, list_all, list_any};
 ghost use Rattle.sctp_data.specs.declared.chunk.chunk_payload_data.ChunkPayloadData.{ChunkPayloadData};
 ghost use Rattle.sctp_data.specs.declared.chunk.chunk_selective_ack.GapAckBlock.{GapAckBlock};
-ghost use Rattle.sctp_list_lemmas.specs.Lists.{change_where};
+ghost use Rattle.sctp_util.specs.Lists.{change_where};
 ghost use Rattle.sctp_outbound.specs.Marks.{as_acknowledged};
 ghost use Rattle.sctp_outbound.specs.outbound_queue.OutboundQueue.{with_inflight};
 ghost use Rattle.sctp_outbound.specs.payload_queue.Blocks.{is_in_blocks};

@@ -8,14 +8,14 @@ use sctp_data::chunk::chunk_payload_data::ChunkPayloadData;
 
 impl InFlight {
     /// The chunk in flight at a place; the first has the place 0. None where there are no more.
-    pub fn at(&self, place: usize) -> Option<&ChunkPayloadData>
+    pub(crate) fn at(&self, place: usize) -> Option<&ChunkPayloadData>
         ensures { option_copied result ≡ slice_get self.now.queue.inflight.chunks place }
     {
         self.queue.inflight_at(place)
     }
 
     /// How many bytes of user data the chunk in flight with a TSN has; None where there is none.
-    pub fn bytes_of(&self, tsn: u32) -> Option<usize>
+    pub(crate) fn bytes_of(&self, tsn: u32) -> Option<usize>
         ensures { result ≡ option_map (λ c. length c.user_data)
             (find (has_tsn tsn) self.now.queue.inflight.chunks) }
     {

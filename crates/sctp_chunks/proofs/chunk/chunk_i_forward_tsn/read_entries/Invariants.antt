@@ -1,5 +1,5 @@
 use Rattle.std.proofs.Common.{◌≡◌, ◌+◌, ◌*◌}
-use Rattle.sctp_base.specs.Each.{each}
+use Rattle.sctp_util.specs.Each.{each}
 use Rattle.sctp_chunks.specs.IForwardTsn.{entry_at}
 use Rattle.sctp_chunks.proofs.chunk.chunk_i_forward_tsn.read_entries.Given as goal
 

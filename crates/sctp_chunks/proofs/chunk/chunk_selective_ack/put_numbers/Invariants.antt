@@ -1,6 +1,6 @@
 use Rattle.std.proofs.Common.{◌≡◌, ◌+◌, ◌*◌, ◌<◌, ◌^◌, ◌++◌, take}
 use Rattle.std.specs.List.{flat_map, AllByRecursion}
-use Rattle.sctp_base.specs.Field.{be32}
+use Rattle.sctp_util.specs.Field.{be32}
 use Rattle.sctp_chunks.proofs.chunk.chunk_selective_ack.put_numbers.Given as goal
 
 abbrev pub invariant-loop-number : goal.invariant-loop-number

@@ -1,5 +1,5 @@
 use Rattle.std.proofs.Common.{◌≡◌, ◌+◌, ◌*◌}
-use Rattle.sctp_base.specs.Each.{each}
+use Rattle.sctp_util.specs.Each.{each}
 use Rattle.sctp_data.specs.SelectiveAck.{block_at}
 use Rattle.sctp_chunks.proofs.chunk.chunk_selective_ack.read_blocks.Given as goal
 

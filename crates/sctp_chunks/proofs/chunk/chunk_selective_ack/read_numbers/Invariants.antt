@@ -1,6 +1,6 @@
 use Rattle.std.proofs.Common.{◌≡◌, ◌+◌, ◌*◌}
-use Rattle.sctp_base.specs.Field.{u32_at}
-use Rattle.sctp_base.specs.Each.{each}
+use Rattle.sctp_util.specs.Field.{u32_at}
+use Rattle.sctp_util.specs.Each.{each}
 use Rattle.sctp_chunks.proofs.chunk.chunk_selective_ack.read_numbers.Given as goal
 
 abbrev pub invariant-loop-i : goal.invariant-loop-i

@@ -1,6 +1,6 @@
 use Rattle.std.proofs.Common.{◌≡◌, length, arith, ap, inl, inr}
 use Rattle.std.proofs.lemmas.Result.{err_from_is_err_and}
-use Rattle.sctp_base.proofs.Walks.{walks_none, walks_next, walks_step}
+use Rattle.sctp_util.proofs.Walks.{walks_none, walks_next, walks_step}
 use Rattle.sctp_chunks.specs.ErrorCause.{ReadsCause, after_cause}
 use Rattle.sctp_chunks.specs.Fault.{CausesFault}
 use Rattle.sctp_chunks.proofs.One.{no_cause, causes_one}

@@ -1,5 +1,5 @@
 use Rattle.std.proofs.Common.{length}
-use Rattle.sctp_base.specs.Walk.{Walks}
+use Rattle.sctp_util.specs.Walk.{Walks}
 use Rattle.sctp_chunks.specs.ErrorCause.{ReadsCause, after_cause}
 use Rattle.sctp_chunks.proofs.chunk.error_cause.read_causes.Given as goal
 

@@ -5,7 +5,7 @@ use Rattle.std.proofs.lemmas.List.{map-append}
 use Rattle.sctp_params.specs.Param.{Parameter, ReadsBack}
 use Rattle.sctp_params.specs.ParamKind.{IsReadAs, ReadsParam, parameter_of}
 use Rattle.sctp_params.specs.ParamFraming.{after_param}
-use Rattle.sctp_base.proofs.Walks.{walks_none, walks_next, walks_step}
+use Rattle.sctp_util.proofs.Walks.{walks_none, walks_next, walks_step}
 use Rattle.sctp_params.proofs.ParamOne.{no_param}
 use Rattle.sctp_chunks.specs.Params.{ReadBack, ParamsFault}
 use Rattle.sctp_chunks.proofs.One.{params_one}

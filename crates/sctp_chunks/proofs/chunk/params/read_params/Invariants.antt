@@ -1,6 +1,6 @@
 use Rattle.std.proofs.Common.{length}
 use Rattle.std.specs.Prelude.{map}
-use Rattle.sctp_base.specs.Walk.{Walks}
+use Rattle.sctp_util.specs.Walk.{Walks}
 use Rattle.sctp_params.specs.ParamKind.{ReadsParam, parameter_of}
 use Rattle.sctp_params.specs.ParamFraming.{after_param}
 use Rattle.sctp_chunks.specs.Params.{ReadBack}

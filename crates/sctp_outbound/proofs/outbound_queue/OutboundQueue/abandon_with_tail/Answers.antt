@@ -1,6 +1,6 @@
 use Rattle.std.proofs.Common.{◌≡◌, true, false, Some, length, refl, sym, ◌∙◌, subst, arith}
 use Rattle.sctp_data.specs.declared.chunk.chunk_payload_data.ChunkPayloadData.{ChunkPayloadData}
-use Rattle.sctp_list_lemmas.proofs.Edits.{sum_by-inserted}
+use Rattle.sctp_util.proofs.Edits.{sum_by-inserted}
 use Rattle.sctp_outbound.specs.Marks.{is_of, as_abandoned}
 use Rattle.sctp_outbound.specs.outbound_queue.OutboundQueue.{terminal_chunk}
 use Rattle.sctp_serial.specs.DataChunks.{chunk_before}

@@ -1,7 +1,7 @@
 use Rattle.std.proofs.Common.{◌≡◌, Some, length, refl, sym, ap, ◌∙◌, arith}
 use Rattle.std.proofs.lemmas.Option.{none-some}
 use Rattle.sctp_data.specs.declared.chunk.chunk_payload_data.ChunkPayloadData.{ChunkPayloadData}
-use Rattle.sctp_list_lemmas.proofs.Edits.{sum_by-inserted}
+use Rattle.sctp_util.proofs.Edits.{sum_by-inserted}
 use Rattle.sctp_outbound.specs.outbound_queue.OutboundQueue.{as_sent}
 use Rattle.sctp_serial.specs.DataChunks.{chunk_before}
 use Rattle.sctp_outbound.proofs.lemmas.outbound_queue.Sendable.{popped_bytes, sendable-sent}

@@ -1,11 +1,11 @@
 use Rattle.std.proofs.Common.{◌≡◌, ◌<◌, ◌++◌, length, length-set, get_or, set, take, drop, refl, sym, subst, ap, ◌∙◌, arith}
 use Rattle.std.proofs.lemmas.Bool.Decides.{nat_tests}
 use Rattle.std.proofs.lemmas.List.Sums.{sum_by-set}
-use Rattle.sctp_list_lemmas.specs.Lists.{change_where}
+use Rattle.sctp_util.specs.Lists.{change_where}
 use Rattle.sctp_outbound.specs.Marks.{IsBetween, is_of, as_abandoned}
 use Rattle.sctp_outbound.specs.payload_queue.PayloadQueue.{Payload}
 use Rattle.sctp_serial.proofs.lemmas.Serials.{serial_set_of}
-use Rattle.sctp_list_lemmas.proofs.Edits.{changed_step, unchanged_step}
+use Rattle.sctp_util.proofs.Edits.{changed_step, unchanged_step}
 use Rattle.sctp_outbound.proofs.lemmas.payload_queue.Between.{each-changed, none-yet}
 use Rattle.sctp_outbound.proofs.payload_queue.PayloadQueue.abandon_between.Goals as goal
 

@@ -2,7 +2,7 @@ use Rattle.std.proofs.Math.Nat.{pow-le-pow_right}
 use Rattle.std.proofs.Common.{◌≡◌, ℕ, ◌*◌, ◌-◌, ◌<◌, ◌≤◌, List, length, map, min, take, length-take, ap, ◌∙◌, arith}
 use Rattle.std.proofs.lemmas.List.{length-map, take_all}
 use Rattle.sctp_data.specs.declared.chunk.chunk_selective_ack.GapAckBlock.{GapAckBlock}
-use Rattle.sctp_list_lemmas.specs.Kept.{runs_of}
+use Rattle.sctp_util.specs.Kept.{runs_of}
 use Rattle.sctp_serial.specs.Turns.{IsWithinDigits}
 use Rattle.sctp_outbound.specs.payload_queue.Blocks.{ends_of, gap_offsets}
 use Rattle.sctp_outbound.proofs.payload_queue.PayloadQueue.get_gap_ack_blocks_counted.Goals as goal

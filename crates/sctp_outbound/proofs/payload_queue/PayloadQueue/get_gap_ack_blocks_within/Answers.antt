@@ -9,10 +9,10 @@ use Rattle.std.proofs.lemmas.List.Elements.{All-push}
 use Rattle.std.proofs.lemmas.List.Quantifiers.{all_pairs_push}
 use Rattle.sctp_data.specs.declared.chunk.chunk_payload_data.ChunkPayloadData.{ChunkPayloadData}
 use Rattle.sctp_data.specs.declared.chunk.chunk_selective_ack.GapAckBlock.{GapAckBlock}
-use Rattle.sctp_list_lemmas.specs.Kept.{runs_of}
-use Rattle.sctp_list_lemmas.specs.Serial.{distance}
-use Rattle.sctp_list_lemmas.proofs.Cases.{or-none}
-use Rattle.sctp_list_lemmas.proofs.Edits.{list_any-append}
+use Rattle.sctp_util.specs.Kept.{runs_of}
+use Rattle.sctp_util.specs.Serial.{distance}
+use Rattle.sctp_util.proofs.Cases.{or-none}
+use Rattle.sctp_util.proofs.Edits.{list_any-append}
 use Rattle.sctp_serial.specs.Turns.{IsWithinDigits}
 use Rattle.sctp_outbound.specs.payload_queue.Blocks.{BlocksAscend, IsAtOffset, Reports, is_in_block, is_reported, is_in_blocks, gap_offsets, ends_of, is_offset}
 use Rattle.sctp_outbound.proofs.lemmas.payload_queue.Gaps.{InReach, runs_more, covered_more, run_distances, run_apart, front_offsets, front_reported}

@@ -1,8 +1,8 @@
 use Rattle.std.proofs.Common.{◌≡◌, ℕ, ◌+◌, ◌-◌, ◌*◌, ◌^◌, ◌<◌, ◌≤◌, length, map, take, get_or}
 use Rattle.std.specs.List.{All, list_any}
 use Rattle.sctp_data.specs.declared.chunk.chunk_payload_data.ChunkPayloadData.{ChunkPayloadData}
-use Rattle.sctp_list_lemmas.specs.Kept.{runs_of}
-use Rattle.sctp_list_lemmas.specs.Serial.{distance}
+use Rattle.sctp_util.specs.Kept.{runs_of}
+use Rattle.sctp_util.specs.Serial.{distance}
 use Rattle.sctp_serial.specs.Turns.{IsWithinDigits}
 use Rattle.sctp_outbound.specs.payload_queue.Blocks.{AscendsFrom, BlocksAscend, is_in_blocks, is_reported, gap_offsets, ends_of, offset_at}
 use Rattle.sctp_outbound.proofs.payload_queue.PayloadQueue.get_gap_ack_blocks_within.Given as goal

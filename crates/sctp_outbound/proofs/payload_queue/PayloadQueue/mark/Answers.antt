@@ -4,7 +4,7 @@ use Rattle.sctp_serial.specs.DataChunks.{has_tsn}
 use Rattle.sctp_outbound.specs.Marks.{with_mark}
 use Rattle.sctp_serial.proofs.lemmas.Serials.{serial_set_of, only_here}
 use Rattle.sctp_outbound.proofs.lemmas.payload_queue.Payloads.{same_but_chunks}
-use Rattle.sctp_list_lemmas.proofs.Edits.{change_where-only, change_where-none}
+use Rattle.sctp_util.proofs.Edits.{change_where-only, change_where-none}
 use Rattle.sctp_serial.proofs.lemmas.Serials.{fails_from_absent, find_held, not_found}
 use Rattle.sctp_outbound.proofs.lemmas.payload_queue.Marked.{marked-tsn}
 use Rattle.sctp_outbound.proofs.payload_queue.PayloadQueue.mark.Goals as goal

@@ -2,7 +2,7 @@ use Rattle.std.proofs.Common.{◌<◌, true, length, length-set, get_or, set, re
 use Rattle.std.proofs.lemmas.List.Sums.{sum_by-set}
 use Rattle.sctp_outbound.specs.Marks.{is_outstanding, with_retransmit}
 use Rattle.sctp_serial.proofs.lemmas.Serials.{serial_set_of}
-use Rattle.sctp_list_lemmas.proofs.Edits.{changed_step, unchanged_step}
+use Rattle.sctp_util.proofs.Edits.{changed_step, unchanged_step}
 use Rattle.sctp_outbound.proofs.payload_queue.PayloadQueue.mark_all_to_retransmit.Goals as goal
 
 pub loop-place-preserved : goal.loop-place-preserved

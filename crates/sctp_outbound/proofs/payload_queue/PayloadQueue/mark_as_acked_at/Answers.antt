@@ -8,7 +8,7 @@ use Rattle.sctp_outbound.specs.payload_queue.PayloadQueue.{Payload}
 use Rattle.sctp_outbound.specs.Marks.{as_acknowledged}
 use Rattle.sctp_serial.proofs.lemmas.Serials.{serial_set_of, only_here}
 use Rattle.sctp_outbound.proofs.lemmas.payload_queue.Payloads.{same_but_chunks}
-use Rattle.sctp_list_lemmas.proofs.Edits.{change_where-only}
+use Rattle.sctp_util.proofs.Edits.{change_where-only}
 use Rattle.sctp_outbound.proofs.lemmas.payload_queue.Marked.{any_chunk}
 use Rattle.sctp_outbound.proofs.payload_queue.PayloadQueue.mark_as_acked_at.Goals as goal
 

@@ -4,10 +4,10 @@ use Rattle.std.proofs.lemmas.List.{take-append-drop, get_or_default}
 use Rattle.std.proofs.lemmas.List.Edits.{length-remove}
 use Rattle.std.proofs.lemmas.List.Sums.{sum_by-remove}
 use Rattle.sctp_serial.proofs.lemmas.Serials.{serial_remove}
-use Rattle.sctp_list_lemmas.proofs.Edits.{removed_step}
+use Rattle.sctp_util.proofs.Edits.{removed_step}
 use Rattle.sctp_data.specs.declared.chunk.chunk_payload_data.ChunkPayloadData.{ChunkPayloadData}
 use Rattle.sctp_outbound.specs.payload_queue.PayloadQueue.{Payload, past}
-use Rattle.sctp_list_lemmas.specs.Serial.{at_or_before}
+use Rattle.sctp_util.specs.Serial.{at_or_before}
 use Rattle.sctp_outbound.proofs.lemmas.payload_queue.Marked.{any_chunk}
 use Rattle.sctp_outbound.proofs.lemmas.payload_queue.Passed.{rest_removed, rest_stays, stays_behind, stays_step}
 use Rattle.sctp_outbound.proofs.payload_queue.PayloadQueue.pop_up_to_counted.Goals as goal

@@ -3,7 +3,7 @@ use Rattle.std.proofs.lemmas.List.Sums.{sum_by-remove}
 use Rattle.sctp_serial.specs.DataChunks.{has_tsn}
 use Rattle.sctp_serial.proofs.lemmas.Serials.{serial_remove, only_here}
 use Rattle.sctp_outbound.proofs.lemmas.payload_queue.Payloads.{same_but_chunks}
-use Rattle.sctp_list_lemmas.proofs.Edits.{those-only, those-none}
+use Rattle.sctp_util.proofs.Edits.{those-only, those-none}
 use Rattle.sctp_serial.proofs.lemmas.Serials.{fails_from_absent, find_held, not_found, read_is}
 use Rattle.sctp_outbound.proofs.payload_queue.PayloadQueue.take_leaving_room_counted.Goals as goal
 

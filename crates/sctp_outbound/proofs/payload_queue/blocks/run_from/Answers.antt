@@ -1,6 +1,6 @@
 use Rattle.std.proofs.Common.{inl, inr, ◌≡◌, ◌+◌, ℕ, List, map, get_or, refl, sym, ap, ◌∙◌, subst, arith}
 use Rattle.sctp_data.specs.declared.chunk.chunk_payload_data.ChunkPayloadData.{ChunkPayloadData}
-use Rattle.sctp_list_lemmas.specs.Serial.{distance}
+use Rattle.sctp_util.specs.Serial.{distance}
 use Rattle.sctp_outbound.specs.payload_queue.Blocks.{offset_at}
 use Rattle.sctp_outbound.proofs.lemmas.payload_queue.Offsets.{at_offset, place_small, rises_one, run_ended}
 use Rattle.sctp_outbound.proofs.payload_queue.blocks.run_from.Goals as goal

@@ -1,7 +1,7 @@
 use Rattle.std.proofs.Common.{◌<◌, length, length-set, set, sym, ap, ◌∙◌, arith}
 use Rattle.std.proofs.lemmas.Bool.Decides.{nat_tests}
 use Rattle.sctp_data.specs.declared.chunk.chunk_payload_data.ChunkPayloadData.{ChunkPayloadData}
-use Rattle.sctp_list_lemmas.proofs.Edits.{changed_step, rewritten_step}
+use Rattle.sctp_util.proofs.Edits.{changed_step, rewritten_step}
 use Rattle.sctp_outbound.specs.pending_queue.PendingQueue.{lower_by}
 use Rattle.sctp_outbound.proofs.pending_queue.line.lower_ssns_in.Goals as goal
 use Rattle.sctp_serial.specs.DataChunks.{is_on}

@@ -1,5 +1,5 @@
 use Rattle.std.proofs.Common.{◌≡◌, ◌++◌, length, take, drop}
-use Rattle.sctp_list_lemmas.specs.Lists.{change_where}
+use Rattle.sctp_util.specs.Lists.{change_where}
 use Rattle.sctp_outbound.specs.pending_queue.PendingQueue.{lower_by}
 use Rattle.sctp_outbound.proofs.pending_queue.line.lower_ssns_in.Given as goal
 use Rattle.sctp_serial.specs.DataChunks.{is_on}

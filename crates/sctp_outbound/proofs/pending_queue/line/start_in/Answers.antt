@@ -1,6 +1,6 @@
 use Rattle.std.proofs.Common.{◌<◌, ◌++◌, length, length-set, set, take, drop, refl, sym, ap, ◌∙◌, arith}
 use Rattle.std.proofs.lemmas.List.{take-append-drop}
-use Rattle.sctp_list_lemmas.proofs.Edits.{change_where-none, changed_step, rewritten_step}
+use Rattle.sctp_util.proofs.Edits.{change_where-none, changed_step, rewritten_step}
 use Rattle.sctp_outbound.specs.pending_queue.PendingQueue.{is_to_start, with_deadline}
 use Rattle.sctp_outbound.proofs.pending_queue.line.start_in.Goals as goal
 

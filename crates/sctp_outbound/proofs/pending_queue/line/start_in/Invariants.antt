@@ -1,6 +1,6 @@
 use Rattle.std.proofs.Common.{◌≡◌, ◌++◌, length, take, drop}
 use Rattle.std.specs.VecDeque.{deque_len, deque_capacity}
-use Rattle.sctp_list_lemmas.specs.Lists.{change_where}
+use Rattle.sctp_util.specs.Lists.{change_where}
 use Rattle.sctp_outbound.specs.pending_queue.PendingQueue.{is_to_start, with_deadline}
 use Rattle.sctp_outbound.proofs.pending_queue.line.start_in.Given as goal
 

@@ -1,6 +1,6 @@
 use Rattle.std.proofs.Common.{◌≡◌, ℕ, List, ◌++◌, refl, append_assoc, arith, inl, inr, subst, ◌<◌, ◌^◌}
 use Rattle.std.specs.Prelude.{map}
-use Rattle.sctp_base.specs.Padding.{four_zeroes}
+use Rattle.sctp_util.specs.Padding.{four_zeroes}
 use Rattle.sctp_chunks.specs.Kind.{wire_of}
 use Rattle.sctp_packets.specs.Packet.{parts_of, head_of, body_of}
 use Rattle.sctp_packets.proofs.Sealed.{length_head_encoding, unsealed_long, sealed, summed_is, kept_front}

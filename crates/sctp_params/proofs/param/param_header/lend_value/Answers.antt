@@ -1,6 +1,6 @@
 use Rattle.std.proofs.Common.{rules}
-use Rattle.sctp_base.specs.Field.{AreBytes}
-use Rattle.sctp_base.proofs.Bytes.{bytes_drop, bytes_take}
+use Rattle.sctp_util.specs.Field.{AreBytes}
+use Rattle.sctp_util.proofs.Bytes.{bytes_drop, bytes_take}
 use Rattle.sctp_params.proofs.param.param_header.lend_value.Goals as goal
 
 pub returns-clause-bytes : goal.returns-clause-bytes

@@ -1,6 +1,6 @@
 use Rattle.std.proofs.Common.{◌≡◌, ◌+◌, ◌*◌, ◌++◌, take}
 use Rattle.std.specs.List.{flat_map}
-use Rattle.sctp_base.specs.Field.{be16}
+use Rattle.sctp_util.specs.Field.{be16}
 use Rattle.sctp_params.proofs.param.param_outgoing_reset_request.put_streams.Given as goal
 
 abbrev pub invariant-loop-stream : goal.invariant-loop-stream

@@ -1,6 +1,6 @@
 use Rattle.std.proofs.Common.{◌≡◌, ◌+◌, ◌*◌}
-use Rattle.sctp_base.specs.Field.{u16_at}
-use Rattle.sctp_base.specs.Each.{each}
+use Rattle.sctp_util.specs.Field.{u16_at}
+use Rattle.sctp_util.specs.Each.{each}
 use Rattle.sctp_params.proofs.param.param_outgoing_reset_request.read_streams.Given as goal
 
 abbrev pub invariant-loop-i : goal.invariant-loop-i

@@ -1,6 +1,6 @@
 use Rattle.std.proofs.Common.{◌≡◌, ℕ, ◌*◌, ◌<◌}
-use Rattle.sctp_base.specs.Field.{u16_at}
-use Rattle.sctp_base.specs.Each.{each}
+use Rattle.sctp_util.specs.Field.{u16_at}
+use Rattle.sctp_util.specs.Each.{each}
 use Rattle.sctp_params.specs.HmacAlgorithm.{algorithm_from, IsRequestable}
 use Rattle.sctp_params.proofs.param.param_requested_hmac_algorithm.read_algorithms.Given as goal
 

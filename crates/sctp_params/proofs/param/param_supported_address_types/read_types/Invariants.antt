@@ -1,6 +1,6 @@
 use Rattle.std.proofs.Common.{◌≡◌, ◌*◌}
-use Rattle.sctp_base.specs.Field.{u16_at}
-use Rattle.sctp_base.specs.Each.{each}
+use Rattle.sctp_util.specs.Field.{u16_at}
+use Rattle.sctp_util.specs.Each.{each}
 use Rattle.sctp_params.specs.ParamType.{type_from}
 use Rattle.sctp_params.proofs.param.param_supported_address_types.read_types.Given as goal
 

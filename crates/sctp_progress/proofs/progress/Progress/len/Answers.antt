@@ -1,5 +1,5 @@
 use Rattle.std.proofs.Common.{◌≡◌, ◌∙◌, sym, length, rules}
-use Rattle.sctp_list_lemmas.proofs.Getting.{length-mapped}
+use Rattle.sctp_util.proofs.Getting.{length-mapped}
 use Rattle.sctp_progress.specs.Progress.{standing_of}
 use Rattle.sctp_progress.proofs.progress.Progress.len.Goals as goal
 

@@ -1,7 +1,7 @@
 use Rattle.std.proofs.Common.{◌≡◌, ◌<◌, ap, sym, ◌∙◌, length, map, arith, rules}
 use Rattle.std.specs.Prelude.{slice_index_or}
 use Rattle.std.proofs.lemmas.List.{get_or_default}
-use Rattle.sctp_list_lemmas.proofs.Getting.{length-mapped}
+use Rattle.sctp_util.proofs.Getting.{length-mapped}
 use Rattle.sctp_progress.specs.Progress.{Standing, standing_of}
 use Rattle.sctp_progress.proofs.Kept.{mapped-at}
 use Rattle.sctp_progress.proofs.progress.Progress.number_at.Goals as goal

@@ -1,6 +1,6 @@
 use Rattle.std.proofs.Common.{◌<◌, map, ap, ◌∙◌, refl, arith, length}
 use Rattle.std.specs.Prelude.{max}
-use Rattle.sctp_list_lemmas.proofs.Getting.{length-mapped}
+use Rattle.sctp_util.proofs.Getting.{length-mapped}
 use Rattle.sctp_progress.specs.declared.progress.StreamProgress.{StreamProgress}
 use Rattle.sctp_progress.specs.Progress.{standing_of, with_named}
 use Rattle.sctp_progress.proofs.Kept.{numbered, put-at}

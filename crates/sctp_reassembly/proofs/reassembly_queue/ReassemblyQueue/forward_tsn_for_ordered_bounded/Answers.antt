@@ -1,6 +1,6 @@
 use Rattle.std.proofs.Common.{◌-◌, ◌^◌, not, min, Some, if◌then◌else◌, ap, ap₂, ◌∙◌, sym, subst}
 use Rattle.std.specs.List.{filter}
-use Rattle.sctp_list_lemmas.specs.Serial.{comes_before16}
+use Rattle.sctp_util.specs.Serial.{comes_before16}
 use Rattle.sctp_data.specs.ChunkSet.{ChunkSet}
 use Rattle.sctp_reassembly.specs.reassembly_queue.ReassemblyQueue.{set_bytes}
 use Rattle.sctp_reassembly.specs.reassembly_queue.Skips.{is_abandoned, is_discarded, goal_of}

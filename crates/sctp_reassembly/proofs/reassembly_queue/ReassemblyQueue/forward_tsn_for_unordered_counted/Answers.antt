@@ -1,7 +1,7 @@
 use Rattle.std.proofs.Common.{◌≡◌, ◌-◌, ◌^◌, ◌<◌, not, length, length-take-le, take, drop, sym, ap, ap₂, ◌∙◌, subst, arith}
 use Rattle.std.specs.List.{position_or_len}
-use Rattle.sctp_list_lemmas.specs.Serial.{at_or_before}
-use Rattle.sctp_list_lemmas.specs.Lists.{after_leading}
+use Rattle.sctp_util.specs.Serial.{at_or_before}
+use Rattle.sctp_util.specs.Lists.{after_leading}
 use Rattle.sctp_serial.specs.DataChunks.{bytes_of}
 use Rattle.sctp_serial.proofs.lemmas.ListEdits.{after_leading-position}
 use Rattle.sctp_reassembly.proofs.lemmas.reassembly_queue.ChunkSets.{state_of, leading_upto-position}

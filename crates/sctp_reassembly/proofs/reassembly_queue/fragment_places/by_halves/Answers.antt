@@ -1,6 +1,6 @@
 use Rattle.std.proofs.Common.{◌≡◌, ◌-◌, ap, ◌∙◌, arith}
 use Rattle.sctp_data.specs.declared.chunk.chunk_payload_data.ChunkPayloadData.{ChunkPayloadData}
-use Rattle.sctp_list_lemmas.specs.Serial.{distance}
+use Rattle.sctp_util.specs.Serial.{distance}
 use Rattle.sctp_serial.proofs.lemmas.Halves.{halved, digits_left, one_more}
 use Rattle.sctp_reassembly.proofs.lemmas.reassembly_queue.Digits.{cut_on, cut_back}
 use Rattle.sctp_reassembly.proofs.reassembly_queue.fragment_places.by_halves.Goals as goal

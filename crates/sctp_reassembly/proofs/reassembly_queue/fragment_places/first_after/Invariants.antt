@@ -1,6 +1,6 @@
 use Rattle.std.proofs.Common.{◌≡◌, ◌+◌, drop}
 use Rattle.std.specs.List.{position_or_len}
-use Rattle.sctp_list_lemmas.specs.Serial.{comes_before}
+use Rattle.sctp_util.specs.Serial.{comes_before}
 use Rattle.sctp_reassembly.proofs.reassembly_queue.fragment_places.first_after.Given as goal
 
 abbrev pub invariant-loop-place : goal.invariant-loop-place

@@ -3,7 +3,7 @@ use Rattle.std.specs.List.Sorted.{IsPartitionPoint}
 use Rattle.std.proofs.lemmas.Bool.Decides.{nat_tests}
 use Rattle.std.proofs.lemmas.List.{get_or_default}
 use Rattle.sctp_data.specs.declared.chunk.chunk_payload_data.ChunkPayloadData.{ChunkPayloadData}
-use Rattle.sctp_list_lemmas.specs.Serial.{distance, comes_before}
+use Rattle.sctp_util.specs.Serial.{distance, comes_before}
 use Rattle.sctp_serial.specs.DataChunks.{has_tsn, chunk_before}
 use Rattle.sctp_serial.proofs.lemmas.AscendingEdits.{before_half, first_small, sorted, place_from_split, place_positive, order_on, insertion_between}
 use Rattle.sctp_serial.proofs.lemmas.AscendingEdits.{insertion_in_front}

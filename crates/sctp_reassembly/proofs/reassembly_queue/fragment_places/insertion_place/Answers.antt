@@ -1,6 +1,6 @@
 use Rattle.std.proofs.Common.{sym, ap, ◌∙◌}
 use Rattle.std.specs.List.{position_or_len, insert}
-use Rattle.sctp_list_lemmas.specs.Serial.{comes_before}
+use Rattle.sctp_util.specs.Serial.{comes_before}
 use Rattle.sctp_serial.specs.DataChunks.{chunk_before}
 use Rattle.sctp_serial.proofs.lemmas.ListEdits.{inserted-position}
 use Rattle.sctp_reassembly.proofs.reassembly_queue.fragment_places.insertion_place.Goals as goal

@@ -1,7 +1,7 @@
 use Rattle.std.proofs.Common.{◌≡◌, ◌-◌, length, slice_index_or, sym, ap, ◌∙◌, arith}
 use Rattle.std.proofs.lemmas.List.{get_or_default}
 use Rattle.sctp_data.specs.declared.chunk.chunk_payload_data.ChunkPayloadData.{ChunkPayloadData}
-use Rattle.sctp_list_lemmas.specs.Serial.{distance}
+use Rattle.sctp_util.specs.Serial.{distance}
 use Rattle.sctp_reassembly.proofs.lemmas.reassembly_queue.Digits.{within_digits}
 use Rattle.sctp_reassembly.proofs.reassembly_queue.fragment_places.place_within.Goals as goal
 use Rattle.sctp_reassembly.proofs.reassembly_queue.fragment_places.place_within.Goals.{then-len-gt0+else-distance-far, else-len-gt0}

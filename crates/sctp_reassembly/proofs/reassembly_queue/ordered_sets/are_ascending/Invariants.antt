@@ -1,6 +1,6 @@
 use Rattle.std.proofs.Common.{◌≡◌, ◌+◌, ◌-◌, ◌^◌, ◌<◌, get_or}
 use Rattle.sctp_data.specs.ChunkSet.{ChunkSet}
-use Rattle.sctp_list_lemmas.specs.Serial.{distance}
+use Rattle.sctp_util.specs.Serial.{distance}
 use Rattle.sctp_serial.specs.Ascending.{upper_half}
 use Rattle.sctp_serial.proofs.lemmas.AscendingEdits.{IsRising}
 use Rattle.sctp_reassembly.proofs.reassembly_queue.ordered_sets.are_ascending.Given as goal

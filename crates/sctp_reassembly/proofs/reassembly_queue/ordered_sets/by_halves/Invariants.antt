@@ -1,6 +1,6 @@
 use Rattle.std.proofs.Common.{◌-◌, ◌+◌, ◌*◌, ◌^◌, ◌≤◌, length}
 use Rattle.sctp_data.specs.ChunkSet.{ChunkSet}
-use Rattle.sctp_list_lemmas.specs.Serial.{distance}
+use Rattle.sctp_util.specs.Serial.{distance}
 use Rattle.sctp_serial.specs.Ascending.{upper_half}
 use Rattle.sctp_reassembly.proofs.lemmas.reassembly_queue.Digits.{IsCut}
 use Rattle.sctp_reassembly.proofs.reassembly_queue.ordered_sets.by_halves.Given as goal

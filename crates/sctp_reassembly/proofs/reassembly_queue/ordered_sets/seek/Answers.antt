@@ -4,9 +4,9 @@ use Rattle.std.proofs.lemmas.Bool.{false≢true}
 use Rattle.std.proofs.lemmas.Bool.Decides.{nat_tests}
 use Rattle.std.proofs.lemmas.List.Sums.{position_or_len_is}
 use Rattle.sctp_data.specs.ChunkSet.{ChunkSet}
-use Rattle.sctp_list_lemmas.proofs.Distances.{before_irrefl}
-use Rattle.sctp_list_lemmas.proofs.More.{fails}
-use Rattle.sctp_list_lemmas.specs.Serial.{comes_before}
+use Rattle.sctp_util.proofs.Distances.{before_irrefl}
+use Rattle.sctp_util.proofs.More.{fails}
+use Rattle.sctp_util.specs.Serial.{comes_before}
 use Rattle.sctp_reassembly.specs.reassembly_queue.Fragments.{has_ssn}
 use Rattle.sctp_serial.specs.Ascending.{upper_half}
 use Rattle.sctp_serial.proofs.lemmas.AscendingEdits.{Ascends, order_on}

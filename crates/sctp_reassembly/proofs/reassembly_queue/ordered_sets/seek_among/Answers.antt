@@ -3,7 +3,7 @@ use Rattle.std.specs.List.Sorted.{IsPartitionPoint}
 use Rattle.std.proofs.lemmas.Bool.Decides.{nat_tests}
 use Rattle.std.proofs.lemmas.List.{get_or_default, nil_from_length}
 use Rattle.sctp_data.specs.ChunkSet.{ChunkSet}
-use Rattle.sctp_list_lemmas.specs.Serial.{distance}
+use Rattle.sctp_util.specs.Serial.{distance}
 use Rattle.sctp_reassembly.specs.reassembly_queue.Fragments.{has_ssn, set_before}
 use Rattle.sctp_serial.specs.Ascending.{IsAscending, IsInsertion, upper_half}
 use Rattle.std.specs.List.{insert}

@@ -1,7 +1,7 @@
 use Rattle.std.proofs.Common.{◌≡◌, insert, sym, ap, ◌∙◌, arith}
 use Rattle.std.specs.List.{position_or_len}
 use Rattle.std.proofs.lemmas.Bool.Decides.{nat_tests}
-use Rattle.sctp_list_lemmas.specs.Serial.{comes_before16}
+use Rattle.sctp_util.specs.Serial.{comes_before16}
 use Rattle.sctp_data.specs.ChunkSet.{ChunkSet}
 use Rattle.sctp_reassembly.specs.reassembly_queue.Fragments.{has_ssn, set_before}
 use Rattle.sctp_serial.proofs.lemmas.ListEdits.{none_at, inserted-position}

@@ -1,6 +1,6 @@
 use Rattle.std.proofs.Common.{◌≡◌, ◌+◌, drop}
 use Rattle.std.specs.List.{position_or_len}
-use Rattle.sctp_list_lemmas.specs.Serial.{comes_before16}
+use Rattle.sctp_util.specs.Serial.{comes_before16}
 use Rattle.sctp_reassembly.proofs.reassembly_queue.ordered_sets.set_gap.Given as goal
 
 abbrev pub invariant-loop-place : goal.invariant-loop-place

@@ -12,7 +12,7 @@ use Rattle.sctp_serial.specs.DataChunks.{bytes_of}
 use Rattle.sctp_reassembly.specs.reassembly_queue.ReassemblyQueue.{set_bytes}
 use Rattle.sctp_reassembly.specs.reassembly_queue.Skips.{is_discarded}
 use Rattle.sctp_reassembly.proofs.reassembly_queue.skips.discard.Goals as goal
-use Rattle.sctp_list_lemmas.proofs.Edits.{removed_step, removed_next}
+use Rattle.sctp_util.proofs.Edits.{removed_step, removed_next}
 
 pub loop-place-preserved : goal.loop-place-preserved
 loop-place-preserved c =

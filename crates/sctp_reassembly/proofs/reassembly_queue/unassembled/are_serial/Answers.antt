@@ -1,6 +1,6 @@
 use Rattle.std.proofs.Common.{◌≡◌, IsTrue, get_or, sym, ◌∙◌, subst, arith}
 use Rattle.std.proofs.lemmas.Bool.{false≢true}
-use Rattle.sctp_list_lemmas.specs.Serial.{comes_before}
+use Rattle.sctp_util.specs.Serial.{comes_before}
 use Rattle.sctp_reassembly.proofs.lemmas.reassembly_queue.SerialPlaces.{number_at, upto_more}
 use Rattle.sctp_reassembly.proofs.reassembly_queue.unassembled.are_serial.Goals as goal
 

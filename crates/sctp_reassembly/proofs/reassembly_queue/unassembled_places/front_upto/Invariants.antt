@@ -1,6 +1,6 @@
 use Rattle.std.proofs.Common.{◌≡◌, ◌+◌, not, drop}
 use Rattle.std.specs.List.{position_or_len}
-use Rattle.sctp_list_lemmas.specs.Serial.{at_or_before}
+use Rattle.sctp_util.specs.Serial.{at_or_before}
 use Rattle.sctp_reassembly.proofs.reassembly_queue.unassembled_places.front_upto.Given as goal
 
 abbrev pub invariant-loop-place : goal.invariant-loop-place

@@ -1,5 +1,5 @@
 use Rattle.std.proofs.Common.{◌≡◌, ap, sym, ◌∙◌, false, length, arith}
-use Rattle.sctp_list_lemmas.specs.Serial.{at_or_before}
+use Rattle.sctp_util.specs.Serial.{at_or_before}
 use Rattle.sctp_receiver.specs.Visited.{to_visit}
 use Rattle.sctp_receiver.proofs.Receptions.{after}
 use Rattle.sctp_receiver.proofs.Settled.{fewer-named}

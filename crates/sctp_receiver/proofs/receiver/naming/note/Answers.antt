@@ -1,7 +1,7 @@
 use Rattle.std.proofs.Common.{◌≡◌, ◌<◌, length, Some, inl, inr, ap, sym, ◌∙◌, arith}
 use Rattle.std.specs.Prelude.{slice_get}
 use Rattle.std.proofs.lemmas.Option.{slice_get_within}
-use Rattle.sctp_list_lemmas.proofs.Cases.{by_same}
+use Rattle.sctp_util.proofs.Cases.{by_same}
 use Rattle.sctp_reassembly.specs.reassembly_queue.OrderedSkips.{after_noted}
 use Rattle.sctp_reassembly.specs.reassembly_queue.ReassemblyQueue.{after_ordered_skip}
 use Rattle.sctp_receiver.specs.Inbound.{number, ssn_forwarded}

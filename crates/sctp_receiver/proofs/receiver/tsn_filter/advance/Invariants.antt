@@ -1,5 +1,5 @@
 use Rattle.std.proofs.Common.{◌≡◌, ◌+◌, ◌≤◌, length, map}
-use Rattle.sctp_list_lemmas.specs.Lists.{advance_over}
+use Rattle.sctp_util.specs.Lists.{advance_over}
 use Rattle.sctp_receiver.specs.TsnFilter.{placeholder}
 use Rattle.sctp_receiver.proofs.receiver.tsn_filter.advance.Given as goal
 use Rattle.sctp_serial.specs.DataChunks.{tsns}

@@ -3,8 +3,8 @@ use Rattle.std.proofs.Common.{◌∙◌, arith}
 use Rattle.std.proofs.Math.Nat.{suc-mul}
 use Rattle.std.proofs.lemmas.List.{map-append, append-nil, take_all}
 use Rattle.std.proofs.Math.Seq.{take-add}
-use Rattle.sctp_list_lemmas.specs.Kept.{numbers_from, always}
-use Rattle.sctp_list_lemmas.proofs.Passing.{kept-snoc_in}
+use Rattle.sctp_util.specs.Kept.{numbers_from, always}
+use Rattle.sctp_util.proofs.Passing.{kept-snoc_in}
 use Rattle.sctp_data.specs.declared.chunk.chunk_payload_data.ChunkPayloadData.{ChunkPayloadData}
 use Rattle.sctp_reassembly.specs.reassembly_queue.Fragments.{payload_of}
 use Rattle.sctp_reassembly.proofs.lemmas.reassembly_queue.PiecesTaken.{payload-append}

@@ -1,5 +1,5 @@
 use Rattle.std.proofs.Common.{◌≡◌, ◌*◌, ◌-◌, ◌≤◌, min, map, length, take}
-use Rattle.sctp_list_lemmas.specs.Kept.{numbers_from}
+use Rattle.sctp_util.specs.Kept.{numbers_from}
 use Rattle.sctp_reassembly.specs.reassembly_queue.Fragments.{payload_of}
 use Rattle.sctp_stream.specs.Stream.{fragment_at, pieces_of}
 use Rattle.sctp_stream.proofs.stream.StreamState.fragments.Given as goal

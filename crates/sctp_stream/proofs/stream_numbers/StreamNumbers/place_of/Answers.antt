@@ -1,7 +1,7 @@
 use Rattle.std.proofs.Common.{◌≡◌, ◌∙◌, Some, None, sym, rules}
 use Rattle.std.specs.Prelude.{slice_get}
 use Rattle.std.proofs.lemmas.Option.{none-some}
-use Rattle.sctp_list_lemmas.proofs.Cases.{some-same}
+use Rattle.sctp_util.proofs.Cases.{some-same}
 use Rattle.sctp_stream.proofs.NumberPlaces.{no-entry, astray, only-place}
 use Rattle.sctp_stream.proofs.stream_numbers.StreamNumbers.place_of.Goals as goal
 

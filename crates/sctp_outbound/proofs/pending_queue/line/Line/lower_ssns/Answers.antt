@@ -1,8 +1,8 @@
 use Rattle.std.proofs.Common.{◌≡◌, ℕ, List, length, refl, sym, ap, ◌∙◌, arith}
 use Rattle.std.specs.List.{refill}
 use Rattle.sctp_data.specs.declared.chunk.chunk_payload_data.ChunkPayloadData.{ChunkPayloadData}
-use Rattle.sctp_list_lemmas.proofs.Edits.{length-change_where}
-use Rattle.sctp_list_lemmas.specs.Lists.{change_where}
+use Rattle.sctp_util.proofs.Edits.{length-change_where}
+use Rattle.sctp_util.specs.Lists.{change_where}
 use Rattle.sctp_serial.specs.DataChunks.{bytes_of, is_on}
 use Rattle.sctp_outbound.specs.pending_queue.PendingQueue.{lower_by}
 use Rattle.sctp_outbound.proofs.lemmas.pending_queue.Waiting.{bytes_of-change_where}

@@ -1,5 +1,5 @@
 use Rattle.std.proofs.Common.{◌≡◌, ℕ, ◌-◌, ◌^◌, ◌<◌, List, length, min, get_or, set, ap, subst, sym, ◌∙◌}
-use Rattle.sctp_list_lemmas.specs.Lists.{change_at}
+use Rattle.sctp_util.specs.Lists.{change_at}
 use Rattle.sctp_data.specs.ChunkSet.{ChunkSet}
 use Rattle.sctp_reassembly.specs.declared.reassembly_queue.chunks.Noted.{Noted}
 use Rattle.sctp_reassembly.specs.reassembly_queue.Counts.{SetDeque, set_chunks}

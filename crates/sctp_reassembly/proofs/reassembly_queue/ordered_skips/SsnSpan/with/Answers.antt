@@ -1,6 +1,6 @@
 use Rattle.std.proofs.Common.{rules, ◌<◌, ◌^◌, ◌+◌, ap, ◌∙◌}
 use Rattle.std.specs.Prelude.{nat_lt}
-use Rattle.sctp_list_lemmas.specs.Serial.{distance16}
+use Rattle.sctp_util.specs.Serial.{distance16}
 use Rattle.sctp_reassembly.proofs.lemmas.reassembly_queue.NotedSkips.{in-ahead, in-behind}
 use Rattle.sctp_reassembly.proofs.reassembly_queue.ordered_skips.SsnSpan.with.Goals as goal
 

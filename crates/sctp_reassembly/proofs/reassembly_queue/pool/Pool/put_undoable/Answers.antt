@@ -4,7 +4,7 @@ use Rattle.std.proofs.Common.{take}
 use Rattle.std.proofs.Common.{drop, refl, sym, ap, ap₂, subst, ◌∙◌, arith}
 use Rattle.std.proofs.lemmas.List.Edits.{length-insert, get_or-insert_at}
 use Rattle.sctp_data.specs.declared.chunk.chunk_payload_data.ChunkPayloadData.{ChunkPayloadData}
-use Rattle.sctp_list_lemmas.specs.Lists.{insert_before}
+use Rattle.sctp_util.specs.Lists.{insert_before}
 use Rattle.sctp_serial.specs.DataChunks.{bytes_of, chunk_before}
 use Rattle.sctp_serial.specs.Runs.{HasNoRun, IsRun, IsStretch}
 use Rattle.sctp_serial.specs.Window.{IsSerial}

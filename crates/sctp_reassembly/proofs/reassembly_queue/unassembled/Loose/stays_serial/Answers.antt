@@ -1,6 +1,6 @@
 use Rattle.std.proofs.Common.{◌≤◌, ◌^◌, ◌<◌, IsTrue, length, get_or, sym, subst, arith}
 use Rattle.std.specs.List.{insert}
-use Rattle.sctp_list_lemmas.specs.Serial.{comes_before}
+use Rattle.sctp_util.specs.Serial.{comes_before}
 use Rattle.sctp_reassembly.specs.reassembly_queue.Loose.{IsOrderFlag}
 use Rattle.sctp_serial.specs.Window.{IsSerial}
 use Rattle.sctp_reassembly.proofs.lemmas.reassembly_queue.SerialPlaces.{flag_is_on, flag_is_off, flag_of, serial_without, was_behind, was_ahead}

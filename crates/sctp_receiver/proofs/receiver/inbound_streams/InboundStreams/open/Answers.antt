@@ -5,7 +5,7 @@ use Rattle.sctp_receiver.specs.Inbound.{number, numbers_of, new_stream}
 use Rattle.sctp_receiver.specs.Limits.{cost_within}
 use Rattle.sctp_receiver.specs.Visited.{VisitOrder, IsListing, is_visited}
 use Rattle.sctp_receiver.proofs.CostSums.{opened-sum}
-use Rattle.sctp_list_lemmas.proofs.Getting.{length-mapped}
+use Rattle.sctp_util.proofs.Getting.{length-mapped}
 use Rattle.sctp_receiver.proofs.Listing.{one-opened}
 use Rattle.sctp_receiver.proofs.receiver.inbound_streams.InboundStreams.open.Goals as goal
 

@@ -1,6 +1,6 @@
 use Rattle.std.proofs.Common.{rules, ◌<◌, ◌-◌, ◌^◌, ◌∙◌, refl, sym, subst, length, length-set, arith}
 use Rattle.std.proofs.lemmas.Bool.{eq-eqb}
-use Rattle.sctp_list_lemmas.proofs.Cases.{some-same}
+use Rattle.sctp_util.proofs.Cases.{some-same}
 use Rattle.sctp_receiver.specs.Costs.{IsWithinPushOn}
 use Rattle.sctp_stream.specs.Numbers.{IsOnlyPlace}
 use Rattle.sctp_receiver.specs.Inbound.{number, numbers_of}

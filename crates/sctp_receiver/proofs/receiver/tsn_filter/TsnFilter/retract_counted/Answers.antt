@@ -1,6 +1,6 @@
 use Rattle.std.proofs.Common.{◌≡◌, ◌-◌, ◌++◌, length, ap, sym, subst, ◌∙◌, arith, map}
 use Rattle.std.proofs.lemmas.List.{length-append}
-use Rattle.sctp_list_lemmas.specs.Serial.{distance}
+use Rattle.sctp_util.specs.Serial.{distance}
 use Rattle.sctp_outbound.specs.payload_queue.PayloadQueue.{Payload}
 use Rattle.sctp_reassembly.specs.reassembly_queue.Orders.{digits}
 use Rattle.sctp_reassembly.proofs.lemmas.reassembly_queue.Digits.{within_digits}

@@ -1,6 +1,6 @@
 use Rattle.std.proofs.Common.{◌≡◌, ap, sym, ◌∙◌, map, length, true, arith}
-use Rattle.sctp_list_lemmas.specs.Lists.{advance_over, Seen}
-use Rattle.sctp_list_lemmas.specs.Serial.{comes_before}
+use Rattle.sctp_util.specs.Lists.{advance_over, Seen}
+use Rattle.sctp_util.specs.Serial.{comes_before}
 use Rattle.sctp_outbound.specs.payload_queue.PayloadQueue.{Payload, with_chunks}
 use Rattle.sctp_receiver.specs.TsnFilter.{placeholder}
 use Rattle.sctp_receiver.proofs.FilterCalls.{after-skip, skip-placeholders}

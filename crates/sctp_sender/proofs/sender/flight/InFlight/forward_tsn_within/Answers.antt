@@ -1,5 +1,5 @@
 use Rattle.std.proofs.Common.{◌≡◌, ℕ, ◌-◌, ◌/◌, ◌<◌, ◌≤◌, ◌^◌, length, refl, ap, ◌∙◌, arith}
-use Rattle.sctp_list_lemmas.specs.Serial.{distance}
+use Rattle.sctp_util.specs.Serial.{distance}
 use Rattle.sctp_sender.specs.Flight.{Flight}
 use Rattle.sctp_sender.specs.Abandonment.{ahead, advanced_ack_point}
 use Rattle.sctp_sender.proofs.Ends.{all-long, is-end-at, later-long, short-of}

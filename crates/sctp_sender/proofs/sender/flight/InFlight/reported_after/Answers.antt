@@ -2,12 +2,12 @@ use Rattle.std.proofs.Common.{◌≡◌, ◌+◌, ◌*◌, ◌≤◌, true, fals
 use Rattle.std.specs.Prelude.{◌||◌}
 use Rattle.std.specs.List.{count_by}
 use Rattle.std.proofs.lemmas.Bool.{false≢true}
-use Rattle.sctp_list_lemmas.specs.Serial.{distance}
+use Rattle.sctp_util.specs.Serial.{distance}
 use Rattle.sctp_data.specs.SelectiveAck.{sack_of}
 use Rattle.sctp_data.specs.declared.chunk.chunk_payload_data.ChunkPayloadData.{ChunkPayloadData}
 use Rattle.sctp_data.specs.declared.chunk.chunk_selective_ack.GapAckBlock.{GapAckBlock}
 use Rattle.sctp_outbound.specs.payload_queue.Blocks.{is_in_blocks}
-use Rattle.sctp_list_lemmas.proofs.Cases.{or-left, or-right}
+use Rattle.sctp_util.proofs.Cases.{or-left, or-right}
 use Rattle.sctp_sender.specs.Costs.{PicksLeftOut, is_left_out}
 use Rattle.sctp_sender.specs.Flight.{Flight, count_acked, is_outdated, sack_refusal}
 use Rattle.sctp_sender.specs.Keeping.{Cover, returns_at}

@@ -7,7 +7,7 @@ use Rattle.sctp_sender.specs.Keeping.{back_each, answered_back, placed, answered
 use Rattle.sctp_sender.specs.declared.sender.flight.keeping.TakenBack.{TakenBack}
 use Rattle.sctp_sender.proofs.Placed.{back-length, nil-of, placed-answer, put-contiguous, put-restored}
 use Rattle.sctp_sender.proofs.Runs.{any_chunk}
-use Rattle.sctp_list_lemmas.proofs.Cases.{same-is}
+use Rattle.sctp_util.proofs.Cases.{same-is}
 use Rattle.sctp_sender.proofs.TakenBacks.{outstanding}
 use Rattle.sctp_sender.specs.Reporting.{AreKnown, ascends_from}
 use Rattle.sctp_sender.proofs.Known.{none-known}

@@ -4,7 +4,7 @@ use Rattle.std.specs.List.{All, list_any}
 use Rattle.std.proofs.lemmas.Bool.Decides.{nat_tests}
 use Rattle.std.proofs.lemmas.List.{get_or_default, length_push}
 use Rattle.std.proofs.lemmas.Option.{slice_get-get_or}
-use Rattle.sctp_list_lemmas.proofs.Cases.{or-none}
+use Rattle.sctp_util.proofs.Cases.{or-none}
 use Rattle.sctp_data.specs.declared.chunk.chunk_payload_data.ChunkPayloadData.{ChunkPayloadData}
 use Rattle.sctp_serial.specs.DataChunks.{following_tsn}
 use Rattle.sctp_sender.specs.declared.sender.flight.taking_back.PlacedData.{PlacedData}

@@ -1,7 +1,7 @@
 use Rattle.std.proofs.Common.{◌≡◌, ◌<◌, ◌++◌, ◌∷◌, [], List, length, length-append, get_or, ap, sym, ◌∙◌, arith}
 use Rattle.std.proofs.lemmas.List.{get_or_append_left}
-use Rattle.sctp_list_lemmas.specs.Lists.{change_at}
-use Rattle.sctp_list_lemmas.proofs.More.{length-changed}
+use Rattle.sctp_util.specs.Lists.{change_at}
+use Rattle.sctp_util.proofs.More.{length-changed}
 use Rattle.sctp_outbound.specs.Marks.{as_taken_back}
 use Rattle.sctp_outbound.specs.outbound_queue.OutboundQueue.{Outbound, with_inflight}
 use Rattle.sctp_sender.specs.declared.sender.flight.taking_back.PlacedData.{PlacedData}

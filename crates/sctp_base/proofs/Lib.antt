@@ -1,5 +1,0 @@
-pub mod Fields
-pub mod Walks
-pub mod EachAt
-pub mod Bytes
-pub mod ListsFrom

@@ -1,0 +1,10 @@
+pub mod Padding
+pub mod Names
+pub mod Field
+pub mod Outcome
+pub mod Walk
+pub mod Each
+pub mod Sources
+pub mod Kept
+pub mod Lists
+pub mod Serial
