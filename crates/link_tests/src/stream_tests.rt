@@ -141,10 +141,10 @@ fn counters_are_full() -> bool {
         messages_received: most,
         bytes_received: most,
     };
-    stats.count_sent(PayloadProtocolIdentifier::Binary, 2);
-    stats.count_received(PayloadProtocolIdentifier::Binary, 2);
-    stats.count_sent(PayloadProtocolIdentifier::String, 2);
-    stats.count_received(PayloadProtocolIdentifier::String, 2);
+    stats.sent(PayloadProtocolIdentifier::Binary, 2);
+    stats.received(PayloadProtocolIdentifier::Binary, 2);
+    stats.sent(PayloadProtocolIdentifier::String, 2);
+    stats.received(PayloadProtocolIdentifier::String, 2);
     stats.messages_sent == u64::MAX
         && stats.bytes_sent == u64::MAX
         && stats.messages_received == u64::MAX
@@ -154,14 +154,14 @@ fn counters_are_full() -> bool {
 /// Messages that establish a channel and those of no known kind don't count.
 fn others_are_not_counted(stream: &StreamState) -> bool {
     let mut stats = stream.stats();
-    stats.count_sent(PayloadProtocolIdentifier::Dcep, 10);
-    stats.count_received(PayloadProtocolIdentifier::Unknown, 10);
+    stats.sent(PayloadProtocolIdentifier::Dcep, 10);
+    stats.received(PayloadProtocolIdentifier::Unknown, 10);
     stats == stream.stats()
 }
 
 fn empty_text_counts(stream: &mut StreamState) -> bool {
     let mut stats = stream.stats();
-    stats.count_sent(PayloadProtocolIdentifier::StringEmpty, 1);
+    stats.sent(PayloadProtocolIdentifier::StringEmpty, 1);
     stream.set_stats(stats);
     stats.messages_sent == 1 && stats.bytes_sent == 0 && stream.stats().messages_sent == 1
 }
