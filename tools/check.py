@@ -5,8 +5,11 @@
 
 run at the top of the repository. Prints what each check that fails said, and ends with `N passed, M failed`; the status is 1 where one failed.
 """
+import re
 import subprocess
 import sys
+
+from sources import Sources
 
 CHECKS = [
     ("what the crates offer", ["tools/surface.py"]),
@@ -19,6 +22,45 @@ CHECKS = [
     ("what wrong_bodies.py does", ["tools/wrong_bodies_test.py"]),
     ("what wrappers repeat of the header", ["tools/c_bindings.py", "--check"]),
 ]
+
+# the sections whose claims name what carries them: each item of a list, or where there is none each paragraph
+CLAIMS = {
+    "README.md": ["What it guarantees"],
+    "docs/WHY.md": ["The claim", "A message can't be joined wrongly", "None is read twice", "None is lost in silence", "In order"],
+    "docs/CONTRACTS.md": ["Contracts", "Laws of two hosts: `sctp_delivery`"],
+}
+ITEM = re.compile(r"\s*(?:- |\d+\. )")
+BY = re.compile(r"<!-- by (.*?) -->", re.S)
+
+
+def claims_of(page, titles):
+    """Returns the claims of these sections of a page, each as its lines in one."""
+    with open(page, encoding="utf-8") as text:
+        parts = re.split(r"^#+ (.*)\n", text.read(), flags=re.M)
+    found = []
+    for title, body in zip(parts[1::2], parts[2::2]):
+        for block in body.split("\n\n") if title in titles else []:
+            lines = block.split("\n")
+            starts = [at for at, line in enumerate(lines) if ITEM.match(line)]
+            for begin, end in zip(starts or [0], [*starts[1:], len(lines)]):
+                found.append(" ".join(it.strip() for it in lines[begin:end]))
+    return [it for it in found if it]
+
+
+def unproved_claims():
+    """Says which claims name nothing that carries them, and which names are of nothing."""
+    functions = {it.title(): {name for clause in it.clauses for name in re.findall(r"^ensures (\w+)", clause)} for it in Sources().functions}
+    told = []
+    for page, titles in CLAIMS.items():
+        for claim in claims_of(page, titles):
+            named = [it.strip() for by in BY.findall(claim) for it in by.split(",")]
+            if not named:
+                told.append(f"{page}: names no law: {claim[:100]}")
+            for name in named:
+                call, _, clause = name.partition(" ")
+                if call not in functions or clause and clause not in functions[call]:
+                    told.append(f"{page}: {name} is no contract")
+    return "\n".join(told)
 
 
 def page_of_rules():
@@ -38,6 +80,7 @@ def said_by(words):
 def main():
     told = {title: said_by(words) for title, words in CHECKS}
     told["the page of the RFCs' rules"] = page_of_rules()
+    told["claims of pages name what carries them"] = unproved_claims()
     for title, text in told.items():
         if text:
             print(f"FAILED {title}:\n{text}")
