@@ -54,7 +54,7 @@ def unproved_claims():
     for page, titles in CLAIMS.items():
         for claim in claims_of(page, titles):
             named = [it.strip() for by in BY.findall(claim) for it in by.split(",")]
-            if not named:
+            if not named and "<!-- no claim -->" not in claim:
                 told.append(f"{page}: names no law: {claim[:100]}")
             for name in named:
                 call, _, clause = name.partition(" ")
