@@ -1,7 +1,7 @@
 use Rattle.std.proofs.Common.{◌≡◌, ◌≤◌, Bool, true, false, not, if◌then◌else◌, refl, sym, ◌∙◌, arith}
 use Rattle.sctp_serial.proofs.lemmas.ListEdits.{an_element}
 use Rattle.sctp_reassembly.proofs.lemmas.reassembly_queue.UnassembledRuns.{stretch_from, stretch_to, joined}
-use Rattle.sctp_reassembly.proofs.reassembly_queue.outward.run_outward.Goals as goal
+use Rattle.sctp_reassembly.proofs.reassembly_queue.outward.run_around.Goals as goal
 
 is_on : (b : Bool) → not b ≡ false → b ≡ true
 is_on true e = refl

@@ -1,6 +1,6 @@
 use Rattle.std.proofs.Common.{◌≡◌, ◌+◌, ◌-◌, ◌≤◌, false, length}
 use Rattle.sctp_reassembly.specs.reassembly_queue.Outward.{IsFront, IsBack}
-use Rattle.sctp_reassembly.proofs.reassembly_queue.outward.run_outward.Given as goal
+use Rattle.sctp_reassembly.proofs.reassembly_queue.outward.run_around.Given as goal
 
 abbrev pub invariant-loop-front : goal.invariant-loop-front
 invariant-loop-front l = record {
