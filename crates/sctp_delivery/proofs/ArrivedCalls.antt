@@ -11,7 +11,7 @@ use Rattle.sctp_util.proofs.Round.{tsn}
 use Rattle.sctp_data.specs.ForwardTsn.{ForwardTsn}
 use Rattle.sctp_data.specs.PayloadData.{data_of}
 use Rattle.sctp_receiver.specs.declared.receiver.arrival.Arrival.TheVariants.{New, Repeat}
-use Rattle.sctp_receiver.specs.Receiver.{Reception, follow_forward_tsn, is_stale}
+use Rattle.sctp_receiver.specs.Receiver.{Reception, follow_forward_tsn, is_stale, max_sack_entries, sack_entries, sack_of_entries}
 use Rattle.sctp_receiver.specs.Skips.{after_forward_tsn, without_incomplete}
 use Rattle.sctp_serial.specs.DataChunks.{has_tsn}
 use Rattle.sctp_delivery.specs.ReceiverCalls as incoming
@@ -114,6 +114,9 @@ module _ (p n : ℕ) (old new : Session) (few : n < 2 ^ 31) (m : Every (IsMadeGi
         (hears-one c.tsn given (or-left (was_taken c.tsn new) (was_passed c.tsn new) now)))
     hears (incoming.follows g) f = hears-to _ f.step.receiver (follows-arrived g f.handed)
     hears (incoming.reports credit) f = hears-to _ f.step.receiver still
+    hears (incoming.reports_within credit bytes) f = hears-to _ f.step.receiver still
+    hears (incoming.makes_sack credit) f = hears-to _ f.step.receiver still
+    hears incoming.forgets f = hears-to _ f.step.receiver still
     hears (incoming.reads stream) f = hears-to _ f.step.receiver still
 
 -- ## What SACKs say
@@ -126,12 +129,15 @@ tells p n old kn call few grows h t = by call
     rest : Every (IsTruthful p n kn) old.sacks
     rest = every-of (IsTruthful p n (known old)) (IsTruthful p n kn) (λ k x. later-truthful p n n (known old) kn k (omega arith) grows x) old.sacks t
 
+    told : (credit entries : ℕ) → IsTruthful p n kn (sack_of_entries credit entries old.receiving.receiver)
+    told credit entries =
+        later-truthful p n n (known old) kn _ (omega arith) grows (sack-truthful p n (known old) credit entries old.receiving.receiver few h)
+
     by : (c : ReceiverCall) → Every (IsTruthful p n kn) (reports_after c old.receiving.receiver old.sacks)
-    by (incoming.reports credit) = (
-      later-truthful p n n (known old) kn _ (omega arith) grows
-          (sack-truthful p n (known old) credit old.receiving.receiver few h),
-      rest,
-    )
+    by (incoming.reports credit) = (told credit max_sack_entries, rest)
+    by (incoming.reports_within credit bytes) = (told credit (sack_entries bytes), rest)
+    by (incoming.makes_sack credit) = (told credit max_sack_entries, rest)
+    by incoming.forgets = rest
     by (incoming.opens stream) = rest
     by (incoming.takes c arrival) = rest
     by (incoming.follows f) = rest

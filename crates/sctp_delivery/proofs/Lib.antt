@@ -31,9 +31,11 @@ pub mod ReportedTsns
 pub mod ArrivedCalls
 pub mod TakenTsns
 pub mod TakenCalls
+pub mod TakenTogether
 pub mod AnsweredTsns
 pub mod AnsweredCalls
 pub mod ValidMarks
+pub mod SackCalls
 pub mod SackSteps
 pub mod SackMarks
 pub mod SackLaws

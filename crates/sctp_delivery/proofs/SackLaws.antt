@@ -18,7 +18,7 @@ use Rattle.sctp_serial.specs.DataChunks.{following_tsn, has_tsn}
 use Rattle.sctp_sender.specs.Flight.{Flight, after_sack, is_outdated, is_whole, released_by, released_of, reports, reports_anew, sack_refusal, take_sack}
 use Rattle.sctp_delivery.specs.ReceiverCalls as incoming
 use Rattle.sctp_delivery.specs.ReceiverCalls.{ReceiverCall}
-use Rattle.sctp_delivery.specs.Sacks.{AcknowledgedCame, AfterEachSessionOfFewTsns, AllReportedLeaves, LeftCame, NextSackTells, NoneIsRefused, NoneIsTakenTwice}
+use Rattle.sctp_delivery.specs.Sacks.{AcknowledgedCame, AfterEachSessionOfFewTsns, AllReportedLeaves, EachSackTells, LeftCame, NextSackTells, NoneIsRefused, NoneIsTakenTwice}
 use Rattle.sctp_delivery.specs.Sacks.{PassAbandoned, ReleasedCame, ReportWhatCame, is_reported, passes, reports_tsn, tsns_given, was_passed, was_taken}
 use Rattle.sctp_delivery.specs.SenderCalls.{SenderCall}
 use Rattle.sctp_delivery.specs.Session.{Call, ReceiverFollows, RunsTo, SenderFollows, Session, at_start, of_receiver, of_sender}
@@ -33,7 +33,7 @@ use Rattle.sctp_delivery.proofs.SackSteps.{IsMadeGiven, known, made-given, moves
 use Rattle.sctp_delivery.proofs.Sessions.{more-made, or-more}
 use Rattle.sctp_delivery.proofs.ValidMarks.{IsRight, IsValid, came-of, every-mapped, more-taken}
 use Rattle.sctp_delivery.proofs.TakenCalls.{AreTaken, more-come, takes-once}
-use Rattle.sctp_delivery.proofs.AnsweredCalls.{IsInOrder, keeps-order, next-sack-tells}
+use Rattle.sctp_delivery.proofs.AnsweredCalls.{IsInOrder, each-sack-tells, keeps-order, next-sack-tells}
 use Rattle.sctp_delivery.proofs.TsnPlaces.{IsGiven, at-or-before, base, before, first-is, next-place, past-first, same-place}
 
 -- after n TSNs were given out nobody speaks of another
@@ -104,6 +104,9 @@ more-accepted (incoming.takes c Repeat) old new f t e = ap (list_any (has_tsn t)
 more-accepted (incoming.takes c (New answered)) old new f t e = ap (list_any (has_tsn t)) f.step.accepted ∙ or-more (has_tsn t c) (was_taken t old) e
 more-accepted (incoming.follows g) old new f t e = ap (list_any (has_tsn t)) f.step.accepted ∙ e
 more-accepted (incoming.reports credit) old new f t e = ap (list_any (has_tsn t)) f.step.accepted ∙ e
+more-accepted (incoming.reports_within credit bytes) old new f t e = ap (list_any (has_tsn t)) f.step.accepted ∙ e
+more-accepted (incoming.makes_sack credit) old new f t e = ap (list_any (has_tsn t)) f.step.accepted ∙ e
+more-accepted incoming.forgets old new f t e = ap (list_any (has_tsn t)) f.step.accepted ∙ e
 more-accepted (incoming.reads stream) old new f t e = ap (list_any (has_tsn t)) f.step.accepted ∙ e
 
 pub receiver-step : (p n : ℕ) (call : ReceiverCall) (old new : Session) → n < 2 ^ 31 → ReceiverFollows call old new → IsInStep p n old → IsInStep p n new
@@ -319,6 +322,11 @@ pub all-answered : AfterEachSessionOfFewTsns (λ first count s. NextSackTells s)
 all-answered first size max most limits cs s run small few =
     let i = in-step first size max most limits cs s run small few in
     next-sack-tells (base first) (tsns_given (at_start first size max most limits) cs s run) s (known s) few i.arrived i.order i.taken
+
+pub each-tells : AfterEachSessionOfFewTsns (λ first count s. EachSackTells s)
+each-tells first size max most limits cs s run small few =
+    let i = in-step first size max most limits cs s run small few in
+    each-sack-tells (base first) (tsns_given (at_start first size max most limits) cs s run) s (known s) few i.arrived i.order i.taken
 
 -- ## Nothing is left
 

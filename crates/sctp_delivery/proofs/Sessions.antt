@@ -252,6 +252,9 @@ taken-made (incoming.takes c Repeat) old new f h = kept-made (incoming.takes c R
 taken-made (incoming.opens stream) old new f h = kept-made (incoming.opens stream) old new f f.step.accepted h
 taken-made (incoming.follows g) old new f h = kept-made (incoming.follows g) old new f f.step.accepted h
 taken-made (incoming.reports credit) old new f h = kept-made (incoming.reports credit) old new f f.step.accepted h
+taken-made (incoming.reports_within credit bytes) old new f h = kept-made (incoming.reports_within credit bytes) old new f f.step.accepted h
+taken-made (incoming.makes_sack credit) old new f h = kept-made (incoming.makes_sack credit) old new f f.step.accepted h
+taken-made incoming.forgets old new f h = kept-made incoming.forgets old new f f.step.accepted h
 taken-made (incoming.reads stream) old new f h = kept-made (incoming.reads stream) old new f f.step.accepted h
 
 sent-made : (call : SenderCall) (old new : Session) → SenderFollows call old new → IsTakenMade old → IsTakenMade new
