@@ -157,7 +157,8 @@ module _ (p n : ℕ) (s : Session) (kn : ℕ → Bool) (few : n < 2 ^ 31) (h : I
           let all = whole entries (gap_ack_blocks (filter_of r)) free in
           let in' = ap (λ bs. is_in_blocks bs (distance r.cumulative_tsn c.tsn)) all ∙ in-block c.tsn offset x in
           or-left (reports_tsn c.tsn (sack_of_entries credit entries r)) (nat_le (2 ^ 16) (distance r.cumulative_tsn c.tsn))
-          (or-right (at_or_before c.tsn r.cumulative_tsn) (is_in_blocks (sack_of_entries credit entries r).gap_ack_blocks (distance r.cumulative_tsn c.tsn)) in')
+          (or-right (at_or_before c.tsn r.cumulative_tsn)
+          (is_in_blocks (sack_of_entries credit entries r).gap_ack_blocks (distance r.cumulative_tsn c.tsn)) in')
 
       by : (b : Bool) → at_or_before c.tsn s.receiving.receiver.cumulative_tsn ≡ b → (at_or_before c.tsn s.receiving.receiver.cumulative_tsn ≡ true) ⊎
           (list_any (λ u. u == c.tsn) s.receiving.receiver.beyond ≡ true) → IsAnswered (sack_of_entries credit entries s.receiving.receiver) c

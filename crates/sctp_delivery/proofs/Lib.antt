@@ -43,6 +43,9 @@ pub mod StaysAcknowledged
 pub mod SpreadCalls
 pub mod ReadOnce
 pub mod OnceWritten
+pub mod DiscardSteps
+pub mod DiscardRuns
+pub mod DiscardExamples
 pub mod OrderedMessages
 pub mod OrderedLaw
 pub mod OrderedNext

@@ -24,8 +24,8 @@ use Rattle.sctp_delivery.specs.Sacks.{AfterEachSessionOfFewTsns, tsns_given}
 use Rattle.sctp_delivery.specs.SenderCalls.{takes_sack}
 use Rattle.sctp_delivery.specs.Session.{ReceiverFollows, SenderFollows, Session, at_start}
 use Rattle.sctp_delivery.proofs.ReportedTsns.{not-refused, sack-truthful}
-use Rattle.sctp_delivery.proofs.SackLaws.{IsInStep, in-step}
-use Rattle.sctp_delivery.proofs.SackSteps.{known}
+use Rattle.sctp_delivery.proofs.SackLaws.{IsInStep, IsInStepBut, in-step}
+use Rattle.sctp_delivery.proofs.SackSteps.{known_or, none_dropped}
 use Rattle.sctp_delivery.proofs.TsnPlaces.{base}
 
 -- ## The bytes that leave
@@ -61,7 +61,7 @@ no-more k f = by (is_outdated k f)
 
 -- ## The two calls
 
-module _ (p n : ℕ) (s : Session) (few : n < 2 ^ 31) (i : IsInStep p n s) (credit entries : ℕ) (after : Reception) where
+module _ (dropped : ℕ → Bool) (p n : ℕ) (s : Session) (few : n < 2 ^ 31) (i : IsInStepBut dropped p n s) (credit entries : ℕ) (after : Reception) where
   abbrev k : Sack
   k = sack_of_entries credit entries s.receiving.receiver
 
@@ -103,8 +103,8 @@ module _ (p n : ℕ) (s : Session) (few : n < 2 ^ 31) (i : IsInStep p n s) (cred
     };
     exact = refl;
     accepted =
-        not-refused p n (known s) k s.sending.sender.flight few i.numbered
-        (sack-truthful p n (known s) credit entries s.receiving.receiver few i.arrived);
+        not-refused p n (known_or dropped s) k s.sending.sender.flight few i.numbered
+        (sack-truthful p n (known_or dropped s) credit entries s.receiving.receiver few i.arrived);
     after = refl;
   }
 
@@ -125,21 +125,24 @@ module _ (p n : ℕ) (s : Session) (few : n < 2 ^ 31) (i : IsInStep p n s) (cred
     refl,
   )
 
+pub can-but : (dropped : ℕ → Bool) (p n : ℕ) (s : Session) → n < 2 ^ 31 → IsInStepBut dropped p n s → CanBeAnswered s
+can-but dropped p n s few i (incoming.reports credit) e =
+    can-by dropped p n s few i credit max_sack_entries (without_duplicates s.receiving.receiver) (incoming.reports credit) e
+    (record { handed = tt; step = record { receiver = refl; accepted = refl; read = refl }; accepted = tt; after = refl })
+can-but dropped p n s few i (incoming.reports_within credit bytes) e =
+    can-by dropped p n s few i credit (sack_entries bytes) (after_sack_within bytes s.receiving.receiver) (incoming.reports_within credit bytes) e
+    (record { handed = tt; step = record { receiver = refl; accepted = refl; read = refl }; accepted = tt; after = refl })
+can-but dropped p n s few i (incoming.makes_sack credit) e =
+    can-by dropped p n s few i credit max_sack_entries (after_sack_within 0 s.receiving.receiver) (incoming.makes_sack credit) e
+    (record { handed = tt; step = record { receiver = refl; accepted = refl; read = refl }; accepted = tt; after = refl })
+can-but dropped p n s few i incoming.forgets e = absurd (not_both e)
+can-but dropped p n s few i (incoming.opens stream) e = absurd (not_both e)
+can-but dropped p n s few i (incoming.takes c arrival) e = absurd (not_both e)
+can-but dropped p n s few i (incoming.follows g) e = absurd (not_both e)
+can-but dropped p n s few i (incoming.reads stream) e = absurd (not_both e)
+
 pub can : (p n : ℕ) (s : Session) → n < 2 ^ 31 → IsInStep p n s → CanBeAnswered s
-can p n s few i (incoming.reports credit) e =
-    can-by p n s few i credit max_sack_entries (without_duplicates s.receiving.receiver) (incoming.reports credit) e
-    (record { handed = tt; step = record { receiver = refl; accepted = refl; read = refl }; accepted = tt; after = refl })
-can p n s few i (incoming.reports_within credit bytes) e =
-    can-by p n s few i credit (sack_entries bytes) (after_sack_within bytes s.receiving.receiver) (incoming.reports_within credit bytes) e
-    (record { handed = tt; step = record { receiver = refl; accepted = refl; read = refl }; accepted = tt; after = refl })
-can p n s few i (incoming.makes_sack credit) e =
-    can-by p n s few i credit max_sack_entries (after_sack_within 0 s.receiving.receiver) (incoming.makes_sack credit) e
-    (record { handed = tt; step = record { receiver = refl; accepted = refl; read = refl }; accepted = tt; after = refl })
-can p n s few i incoming.forgets e = absurd (not_both e)
-can p n s few i (incoming.opens stream) e = absurd (not_both e)
-can p n s few i (incoming.takes c arrival) e = absurd (not_both e)
-can p n s few i (incoming.follows g) e = absurd (not_both e)
-can p n s few i (incoming.reads stream) e = absurd (not_both e)
+can p n s few i = can-but none_dropped p n s few i
 
 pub all-can : AfterEachSessionOfFewTsns (λ first count s. CanBeAnswered s)
 all-can first size max most limits cs s run small few =

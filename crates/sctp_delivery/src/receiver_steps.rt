@@ -1,6 +1,6 @@
 //! Each call of a receiver makes the step that sessions have of it (RFC 4960 6.2; RFC 3758 3.6): here it is called and nothing else.
 //!
-//! Left out are `close`, `reset`, `discard` and `restore`, which are no calls of a session, and the forms that a replay of a record calls,
+//! Left out are `close`, `reset` and `restore`, which are no calls of a session, and the forms that a replay of a record calls,
 //! which test less: `data_each_with_any_ssn`, `forward_tsn_past_closed` and `forward_tsn_by_names`.
 
 ghost use Rattle.std.specs.Prelude.{◌≡◌, OnOk, IfOk, All, Contains, length, option_map};
@@ -9,6 +9,7 @@ ghost use Rattle.sctp_data.specs.ForwardTsn.{forward_tsn_of};
 ghost use Rattle.sctp_data.specs.SelectiveAck.{sack_of};
 ghost use Rattle.sctp_reassembly.specs.reassembly_queue.ReassemblyQueue.{at_start};
 ghost use Rattle.sctp_receiver.specs.Receiver.{message_on, sack, sack_within, window};
+ghost use Rattle.sctp_delivery.specs.Discards.{ReceiverDiscards};
 ghost use Rattle.sctp_delivery.specs.ReceiverCalls.{ReceiverMakes, ReceiverMakesEach, follows, forgets, makes_sack, opens, reads, reports, reports_within, takes, takes_each};
 ghost use Rattle.sctp_delivery.specs.SenderCalls.{data_chunk};
 ghost use Rattle.sctp_delivery.specs.Session.{GoesOnTo, Session};
@@ -52,6 +53,13 @@ pub fn data_each(
         → GoesOnTo (takes_each chunks.now arrivals.items) s receiver.new) }
 {
     receiver.data_each(chunks)
+}
+
+/// Drops a DATA chunk, and takes its TSN: a step of the sessions of `laws::discards` alone.
+pub fn discard(receiver: &mut Receiver, tsn: u32) -> Result<Arrival, ReceiverRefusal>
+    ensures { OnOk result (ReceiverDiscards tsn receiver.old receiver.new) }
+{
+    receiver.discard(tsn)
 }
 
 /// Takes a FORWARD-TSN.
