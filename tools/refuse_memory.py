@@ -55,14 +55,16 @@ def main():
         lines = outcomes(most)
     # In the last runs the refused one comes before the first event; before them it is the scripts' first, their second, and so on.
     lines = list(itertools.dropwhile(lambda line: line == "same", reversed(lines)))
-    count = next((it for it, line in enumerate(lines) if line == "same"), len(lines))
-    wrong = [(it + 1, line) for it, line in enumerate(lines[:count]) if not REFUSED.match(line)]
-    wrong += [(it + 1, line) for it, line in enumerate(lines[count:], count) if line != "same"]
+    # A refusal that no event answered: the link did without that memory.
+    count = max((it + 1 for it, line in enumerate(lines) if REFUSED.match(line)), default=0)
+    without = lines[:count].count("same")
+    wrong = [(it + 1, line) for it, line in enumerate(lines) if line != "same" and not REFUSED.match(line)]
     events = collections.Counter(REFUSED.match(line)[1] for line in lines[:count] if REFUSED.match(line))
     beside = events.pop(None, 0)
     for event in sorted(events, key=int):
         print(f"line {event}: {events[event]} refused")
     print(f"beside the link: {beside} refused")
+    print(f"done without: {without} refused")
     for number, line in wrong:
         print(f"allocation {number}: {line or 'the run printed nothing'}")
     print(f"{count} allocations, each refused once: {'not ' if wrong else ''}all runs ended the same")
