@@ -44,7 +44,7 @@ use Step::{
 };
 
 // Each case: what it shows, the maximum message size, and its steps.
-static CASES: [(&str, u32, &[Step]); 25] = [
+const CASES: [(&str, u32, &[Step]); 25] = [
     (
         "repeats of an ordered fragment count once",
         100,
@@ -531,9 +531,9 @@ fn all_go(alloc: Global, queue: &mut ReassemblyQueue, steps: &[Step], counted: b
 /// Each case goes by the calls that count their turns as by those that do not.
 #[test]
 fn reassembly_cases(rt: HostRuntime) {
-    for (name, most, steps) in &CASES {
+    for (name, most, steps) in CASES {
         for counted in [false, true] {
-            let mut queue = ReassemblyQueue::new(rt.alloc(), 1, *most);
+            let mut queue = ReassemblyQueue::new(rt.alloc(), 1, most);
             assert!(rt; all_go(rt.alloc(), &mut queue, steps, counted), "{name}");
         }
     }
