@@ -16,7 +16,7 @@ CALLERS = {
     "sctp_sender::InFlight::expire_late": {"sctp_sender/sender/abandonment expire_late"},
     "sctp_sender::Sender::expire_late": {"association/association abandon", "transfer_tests/sending abandon_late", "transfer_tests/hosts abandons",
                                          "sctp_delivery/sender_steps expire_late", "sctp_c/sender/abandoning sctp_sender_expire_late",
-                                         "benchlib/sending abandoned"},
+                                         "bench/sending abandoned"},
     "sctp_outbound::PayloadQueue::pop_up_to": {"queue_tests/payload_queue pop_up_to"},
     "sctp_reassembly::Loose::take_range_counted": {"sctp_reassembly/reassembly_queue/pool/undo put_undoable", "sctp_reassembly/reassembly_queue/unassembled take_range"},
     "sctp_reassembly::ReassemblyQueue::forward_tsn_for_unordered": {"queue_tests/reassembly_queue skip"},
@@ -29,7 +29,7 @@ CALLERS = {
     "sctp_reassembly::ReassemblyQueue::find_complete_unordered_chunk_set": {"queue_tests/reassembly_queue goes"},
     "sctp_receiver::TsnFilter::gap_ack_blocks_within_counted": {"sctp_receiver/receiver/sack_out sack_of_entries",
                                                                 "sctp_receiver/receiver/tsn_filter gap_ack_blocks_within"},
-    "sctp_outbound::PayloadQueue::get_gap_ack_blocks": {"benchlib/payload gap_blocks", "queue_tests/payload_queue has_blocks",
+    "sctp_outbound::PayloadQueue::get_gap_ack_blocks": {"bench/payload gap_blocks", "queue_tests/payload_queue has_blocks",
                                                          "sctp_outbound/payload_queue get_gap_ack_blocks_string",
                                                          "sctp_receiver/receiver/tsn_filter gap_ack_blocks"},
     "sctp_reassembly::Fragments::keep_past": {"sctp_reassembly/reassembly_queue/resets end_use_of"},
@@ -40,7 +40,7 @@ CALLERS = {
     "sctp_receiver::Receiver::held_bytes": {"sctp_receiver/receiver/limits left_of", "transfer_tests/receivers is_seen",
                                               "sctp_c/receiver sctp_receiver_held_bytes", "sctp_delivery/room is_room_left"},
     "sctp_c::sctp_sender_open": {"sctp_c/callers first_chunk"},
-    "crc32c::Crc::update": {"benchlib/packet sum", "crc32c/lib crc32c", "sctp_packets/checksum checksum", "sctp_show/checksum checksum",
+    "crc32c::Crc::update": {"bench/packet sum", "crc32c/lib crc32c", "sctp_packets/checksum checksum", "sctp_show/checksum checksum",
                             "crc32c/tests datagrams", "crc32c/tests pieces"},
 }
 TRAITS = {
