@@ -1,7 +1,7 @@
 //! Runs of a payload queue.
 
 ghost use Rattle.std.specs.Prelude.{◌<◌, ◌≤◌, ◌^◌};
-ghost use Rattle.benchlib.specs.Near.{AreBelow};
+ghost use Rattle.bench.specs.Near.{AreBelow};
 
 use crate::subject::{CALLS, Order, number_at, whole};
 use crate::timing::Measured;

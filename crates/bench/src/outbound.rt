@@ -2,7 +2,7 @@
 
 ghost use Rattle.std.specs.Prelude.{◌≡◌, ◌+◌, ◌<◌, ◌^◌, [], IfOk};
 ghost use Rattle.sctp_outbound.specs.pending_queue.Whole.{IsMessageOrNone};
-ghost use Rattle.benchlib.specs.Near.{AreBelow};
+ghost use Rattle.bench.specs.Near.{AreBelow};
 
 use crate::subject::whole;
 use crate::timing::Measured;

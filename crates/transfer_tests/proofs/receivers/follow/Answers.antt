@@ -3,7 +3,7 @@ use Rattle.sctp_data.specs.ForwardTsn.{ForwardTsn, forward_tsn_of}
 use Rattle.sctp_receiver.specs.Receiver.{Reception}
 use Rattle.sctp_receiver.specs.SkipCosts.{SkipsCostByWhatIsHeld, held_fragments, held_messages, names_walk, skips_walk, unordered_skips_walk}
 use Rattle.sctp_receiver.specs.Visited.{to_visit}
-use Rattle.transfer_tests.proofs.counted_tests.follow.Goals as goal
+use Rattle.transfer_tests.proofs.receivers.follow.Goals as goal
 
 -- the law for one message, one fragment and one stream
 counted : SkipsCostByWhatIsHeld → (f : ForwardTsn) (r : Reception) → held_messages r.streams ≡ 1 → held_fragments r.streams ≡ 1

@@ -1,6 +1,6 @@
 use Rattle.std.proofs.Common.{◌^◌, arith}
-use Rattle.benchlib.proofs.NearChunks.{window-below, below-pushed}
-use Rattle.benchlib.proofs.payload.put.Goals as goal
+use Rattle.bench.proofs.NearChunks.{window-below, below-pushed}
+use Rattle.bench.proofs.payload.put.Goals as goal
 
 pub push-requires-clause-window : goal.push-requires-clause-window
 push-requires-clause-window c =

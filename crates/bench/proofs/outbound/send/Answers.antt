@@ -1,6 +1,6 @@
 use Rattle.std.proofs.Common.{arith}
-use Rattle.benchlib.proofs.NearChunks.{absent-below, below-sent, window-below}
-use Rattle.benchlib.proofs.outbound.send.Goals as goal
+use Rattle.bench.proofs.NearChunks.{absent-below, below-sent, window-below}
+use Rattle.bench.proofs.outbound.send.Goals as goal
 
 pub send_next-requires-clause-fresh : goal.send_next-requires-clause-fresh
 send_next-requires-clause-fresh c = absent-below c.args.tsn c.args.queue.now.inflight.chunks c.requires.in_flight

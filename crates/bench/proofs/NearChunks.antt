@@ -11,7 +11,7 @@ use Rattle.sctp_outbound.specs.payload_queue.PayloadQueue.{Payload, push_chunk, 
 use Rattle.sctp_outbound.specs.pending_queue.PendingQueue as pending
 use Rattle.sctp_serial.specs.Window.{IsWindow, IsWithinHalf, is_held}
 use Rattle.sctp_serial.proofs.lemmas.Serials.{not_found}
-use Rattle.benchlib.specs.Near.{AreBelow}
+use Rattle.bench.specs.Near.{AreBelow}
 
 abbrev pub IsBelow : ℕ → ChunkPayloadData → Type 0
 IsBelow bound c = (0 < c.tsn) × (c.tsn < bound)
