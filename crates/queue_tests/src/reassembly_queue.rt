@@ -440,7 +440,7 @@ fn reads(alloc: Global, queue: &mut ReassemblyQueue, bytes: &[u8], counted: bool
     }
 }
 
-fn loose_are(queue: &ReassemblyQueue, tsns: &[u32]) -> bool {
+fn unassembled_are(queue: &ReassemblyQueue, tsns: &[u32]) -> bool {
     let mut well = queue.unordered_chunks().len() == tsns.len();
     for (fragment, tsn) in queue.unordered_chunks().iter().zip(tsns.iter()) {
         well = well && fragment.chunk().tsn == *tsn;
@@ -477,7 +477,7 @@ fn skip(queue: &mut ReassemblyQueue, step: &Step, counted: bool) {
 // Whether a step that changes nothing answers so.
 fn is_seen(queue: &ReassemblyQueue, step: &Step) -> bool {
     match step {
-        Loose(tsns) => loose_are(queue, tsns),
+        Loose(tsns) => unassembled_are(queue, tsns),
         Sets(ssns) => sets_are(queue, ssns),
         NextSsn(ssn) => queue.next_ssn() == *ssn,
         Bytes(bytes) => queue.get_num_bytes() == *bytes,
@@ -544,7 +544,7 @@ fn copy_stays(alloc: Global, queue: &mut ReassemblyQueue) -> bool {
     match queue.try_clone(alloc) {
         Ok(copy) => {
             all_go(alloc, queue, SKIPPED_HALF, false)
-                && loose_are(&copy, &[2147483654, 4, 5, 6, 2147483653])
+                && unassembled_are(&copy, &[2147483654, 4, 5, 6, 2147483653])
         }
         Err(_) => false,
     }
