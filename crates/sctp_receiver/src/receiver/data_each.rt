@@ -57,7 +57,7 @@ impl Receiver {
         self.take_all(chunks, false, turns)
     }
 
-    /// Takes DATA chunks as `data_each` does, but for `SsnTooFar`: ordered ones of any stream sequence number (`data_with_any_ssn`).
+    /// Takes DATA chunks as `data_each` does, but for `SsnTooFar`: ordered ones of any stream sequence number, as a replay of a record has them.
     pub fn data_each_with_any_ssn(
         &mut self,
         chunks: &[ChunkPayloadData],

@@ -107,7 +107,7 @@ impl Receiver {
         Ok(sack)
     }
 
-    /// The SACK that `make_sack` makes, with another credit.
+    /// The SACK that `sack_with` makes. The receiver stays as it is: whoever sends the SACK calls `sack_sent` then. Refuses only for memory.
     pub fn make_sack_with(&self, credit: u32) -> Result<ChunkSelectiveAck, ReceiverRefusal>
         ensures sack { IfOk result (λ s. sack_of s ≡ sack credit self.now) }
         ensures fits { IfOk result (λ s.
@@ -174,7 +174,7 @@ impl Receiver {
         })
     }
 
-    /// A SACK that `make_sack` or `make_sack_with` made was sent: all duplicates are forgotten, those that came since it was
+    /// A SACK that `make_sack_with` made was sent: all duplicates are forgotten, those that came since it was
     /// made and those that did not fit too. It takes no memory.
     pub fn sack_sent(&mut self)
         ensures { self.new ≡ without_duplicates self.old }
