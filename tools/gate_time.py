@@ -20,6 +20,8 @@ MINUTE = 0.1
 GAIN = {1: 1, 2: 1.45, 3: 1.7, 4: 1.9}
 # how much of the table's time it takes where so many processors are at work: measured for two, guessed for one and three
 SHARE = {1: 0.8, 2: 0.8, 3: 0.9}
+# what rt reckons that a check over such a one takes of its memory
+OVER = 0.7
 ROW = re.compile(r"(\w+) +\d+" + r"(?: +([\d.]+|-))?" * 3 + "$")
 
 
@@ -39,13 +41,21 @@ def tasks_of(rt, crates, times, processors, ended):
             ended[key] = time.monotonic()
 
     for crate in crates:
-        lines, needs = crate.count(rb"\n"), rt.need(crate)
+        lines, needs, edits = crate.count(rb"\n"), rt.need(crate), len(rt.edits_of(crate)[0])
         below = [(it.name, "proof") for it in crate.below()]
+        proof, tests, bodies = times.get(crate.name, [0, 0, 0])
+        parts = [(("proof",), below, lines, needs, proof), (("tests",), below, lines * crate.has_tests(), needs, tests)]
         both = [(crate.name, "proof"), (crate.name, "tests")]
-        parts = [("proof", below, lines), ("tests", below, lines * crate.has_tests()), ("edits", both, lines * bool(rt.edits_of(crate)[0]))]
-        for (part, waits, work), minutes in zip(parts, times.get(crate.name, [0, 0, 0])):
-            key = crate.name, part
-            tasks[key] = waits, work, needs, lambda given, jobs, key=key, minutes=minutes: run(key, minutes, jobs)
+        if edits > 1:
+            # (several edits are tried over a check of the crate that is made for them)
+            seed = crate.name, "seed"
+            parts += [(("seed",), below, 0, needs, min(proof, bodies))]
+            parts += [(("edits", it), [*both, seed], lines, OVER * needs, max(bodies - proof, 0) / edits) for it in range(edits)]
+        elif edits:
+            parts += [(("edits", 0), both, lines, needs, bodies)]
+        for part, waits, work, memory, minutes in parts:
+            key = crate.name, *part
+            tasks[key] = waits, work, memory, lambda given, jobs, key=key, minutes=minutes: run(key, minutes, jobs)
     return tasks
 
 
@@ -63,12 +73,12 @@ def main():
     tasks, begin = tasks_of(rt, crates, times, processors, ended), time.monotonic()
     rt.in_lanes(tasks)
     ended = {it: (at - begin) / MINUTE for it, at in ended.items()}
-    if not any(part != "edits" for _, part in ended):
+    if not any(it[1] in ("proof", "tests") for it in ended):
         sys.exit("gate_time.py: tools/gate_times.txt says of no crate how long its proof takes")
     last = sorted(ended, key=lambda it: -ended[it])
     print(f"{sum(map(sum, times.values())) * SHARE.get(processors, 1):.0f} min of processor time")
-    print(f"all proved after {max(ended[it] for it in last if it[1] != 'edits'):.0f} min, the last task ends after {ended[last[0]]:.0f}")
-    print("last: " + ", ".join(f"{name} {part} {ended[name, part]:.0f}" for name, part in last[:8]))
+    print(f"all proved after {max(ended[it] for it in last if it[1] in ('proof', 'tests')):.0f} min, the last task ends after {ended[last[0]]:.0f}")
+    print("last: " + ", ".join(f"{' '.join(map(str, it))} {ended[it]:.0f}" for it in last[:8]))
     return 0
 
 
