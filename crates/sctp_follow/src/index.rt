@@ -174,10 +174,10 @@ impl Index {
 
     /// The first way that has the ports and addresses of a packet, by their hash, and whose tag is not known.
     pub fn find_open(&self, place: &Place) -> Option<Found> {
-        let low = ends_hash(place, Way::Forth) as u128 * BELOW;
-        match self.open.range(low..=low + (BELOW - 1)).next() {
-            Some((_, found)) => Some(*found),
-            None => None,
+        let hash = ends_hash(place, Way::Forth) as u128;
+        match self.open.range(hash * BELOW..).next() {
+            Some((key, found)) if *key / BELOW == hash => Some(*found),
+            _ => None,
         }
     }
 }

@@ -343,6 +343,14 @@ impl Messages {
         Ok(())
     }
 
+    /// How many SACKs of a way are kept.
+    fn kept(&mut self, at: usize, way: Way) -> usize {
+        match self.pairs.get_mut(at) {
+            Some(pair) => pair.side(way).acknowledged.len(),
+            None => 0,
+        }
+    }
+
     /// The next SACK of a way that is waited for no longer behind so many packets of the association.
     fn due(&mut self, at: usize, way: Way, packets: u64) -> Option<Pending> {
         self.pairs.get_mut(at)?.side(way).due(packets)
@@ -357,7 +365,10 @@ impl Messages {
         way: Way,
         packets: u64,
     ) -> Result<(), AllocError> {
-        while let Some(pending) = self.due(at, way, packets) {
+        for _kept in 0..self.kept(at, way) {
+            let Some(pending) = self.due(at, way, packets) else {
+                return Ok(());
+            };
             self.put_due(alloc, text, at, &pending)?;
         }
         Ok(())

@@ -51,6 +51,11 @@ impl Acknowledged {
         Ok(())
     }
 
+    /// How many are kept.
+    pub fn len(&self) -> usize {
+        self.waiting.len()
+    }
+
     /// The first one that is kept.
     pub fn first(&self) -> Option<Pending> {
         self.waiting.front().copied()

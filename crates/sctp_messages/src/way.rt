@@ -496,9 +496,10 @@ impl WayReader {
     /// The last TSN up to this one that did not come, where one did not.
     fn last_missing(&self, acknowledged: u32) -> u32 {
         let mut tsn = acknowledged;
-        while sna32lt(self.receiver.cumulative_tsn(), tsn)
-            && self.receiver.filter().get(tsn).is_some()
-        {
+        for _come in 0..self.receiver.filter().len() {
+            if self.receiver.filter().get(tsn).is_none() {
+                return tsn;
+            }
             tsn = tsn.wrapping_sub(1);
         }
         tsn
