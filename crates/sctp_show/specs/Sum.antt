@@ -1,5 +1,5 @@
 -- The checksum that datagrams are looked at under.
-use Rattle.std.specs.Prelude.{ℕ, ◌==◌, ◌&&◌, ◌||◌, not, if◌then◌else◌, Bool, false, List, Option, Some, None}
+use Rattle.std.specs.Prelude.{ℕ, ◌==◌, ◌&&◌, ◌||◌, not, ltb, if◌then◌else◌, Bool, false, List, length, Option, Some, None}
 use Rattle.std.specs.List.{list_any}
 use Rattle.sctp_util.specs.Field.{u16_at}
 use Rattle.sctp_dissect.specs.declared.dissection.Header.{Header}
@@ -24,6 +24,10 @@ is_wrong Crc32c accepts_zero None = false
 is_wrong Crc32c accepts_zero (Some h) =
     not (h.checksum == h.computed) && not (accepts_zero && (h.checksum == 0))
 
+-- the type of a parameter (RFC 9260 3.2.1)
+abbrev pub param_type : ParamItem → ℕ
+param_type p = if ltb (length p.bytes) 2 then 0 else u16_at p.bytes 0
+
 -- one of the parameters is Zero Checksum Acceptable (RFC 9653 4)
 abbrev pub has_zero_param : List ParamItem → Bool
-has_zero_param items = list_any (λ p. u16_at p.bytes 0 == 32769) items
+has_zero_param items = list_any (λ p. param_type p == 32769) items

@@ -7,6 +7,7 @@ use crate::checksum::{Sum, is_wrong};
 use crate::chunk_text::{u16_at, u32_at};
 use sctp_dissect::dissection::{Dissection, Header, Item};
 use sctp_dissect::params::{ParamItem, dissect_params};
+use sctp_util::field::read_u16;
 use std::alloc::{AllocError, Global};
 use std::collections::BTreeSet;
 
@@ -26,8 +27,14 @@ pub struct ZeroTags {
 }
 
 /// The type of a parameter.
-fn param_type(item: &ParamItem) -> u16 {
-    u16_at(item.bytes.as_slice(), 0)
+fn param_type(item: &ParamItem) -> u16
+    ensures { result ≡ sums.param_type item.now }
+{
+    let bytes = item.bytes.as_slice();
+    if bytes.len() < 2 {
+        return 0;
+    }
+    read_u16(bytes, 0)
 }
 
 /// Whether one of the parameters says that zero is accepted.
