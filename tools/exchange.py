@@ -2,7 +2,7 @@
 """The worked exchanges of docs/WHY.md as scripts.
 
     python3 tools/exchange.py NAME      the script of an exchange, for `(cd crates/linkrun && rt try)`
-    python3 tools/exchange.py --test    crates/script_tests/src/exchanges.rt, which the gate runs, made anew from the page
+    python3 tools/exchange.py --test    crates/link_tests/src/exchanges.rt, which the gate runs, made anew from the page
 
 run at the top of the repository. An exchange is a block whose lines have an event, and its reply behind column 30; behind two
 spaces more comes a remark.
@@ -11,10 +11,10 @@ import re
 import sys
 
 PAGE = "docs/WHY.md"
-TEST = "crates/script_tests/src/exchanges.rt"
+TEST = "crates/link_tests/src/exchanges.rt"
 BLOCK = re.compile(r"^\*\*`(\w+)`\*\*.*?^```\n(.*?)^```", re.M | re.S)
 COLUMN = 30
-HEAD = "//! The worked exchanges of docs/WHY.md: `tools/exchange.py --test` writes this file.\n\nuse crate::scripts::first_unlike;\n"
+HEAD = "//! The worked exchanges of docs/WHY.md: `tools/exchange.py --test` writes this file.\n\nuse crate::play::run_cases;\n"
 
 
 def exchanges():
@@ -30,16 +30,15 @@ def exchanges():
 
 def case(name, script, replies):
     """Returns a case of the test."""
-    quote = lambda text: '"' + text.replace("\n", "\\n") + '"'
-    return f"    // {name}\n    (\n        {quote(script)},\n        {quote(replies)},\n    ),\n"
+    first, *events = script.splitlines()
+    return "\n".join([f"== {name}", first, *map(": ".join, zip(events, replies.splitlines(), strict=True))])
 
 
 def test():
     """Returns the text of the test."""
-    cases = [case(*one) for one in exchanges()]
-    table = f"const EXCHANGES: [(&str, &str); {len(cases)}] = [\n" + "".join(cases) + "];\n"
-    run = "#[test]\nfn exchanges(rt: HostRuntime) {\n    assert_eq!(rt; first_unlike(rt.alloc(), &EXCHANGES), None);\n}\n"
-    return f"{HEAD}\n{table}\n{run}"
+    cases = "\n\n".join(case(*one) for one in exchanges())
+    run = "#[test]\nfn exchanges(rt: HostRuntime) {\n    run_cases(&rt, rt.alloc(), EXCHANGES);\n}\n"
+    return f'{HEAD}\nconst EXCHANGES: &str = "{cases}";\n\n{run}'
 
 
 def main():

@@ -1,17 +1,18 @@
 #!/usr/bin/env python3
-"""Refuses each allocation of a script of every link event in turn, and tells what came of it.
+"""Refuses each allocation of scripts of every link event in turn, and tells what came of it.
 
     python3 tools/refuse_memory.py
 
 run at the top of the repository. It finds the kit's command `rt` on the PATH, and proves nothing. It builds the program `refusals` once, with the
-same allocation refused in each run: the last of so many. The number that a run reads on standard input says how many allocations come before the
-script begins; so with one number after another each allocation of the script is the refused one once, and with 0 none is. Where one still is,
-the program is built again for twice as many.
+same allocation refused in each run: the last of so many. The number in the first line of standard input says how many allocations come between the
+reading of the scripts and their first event; so with one number after another each allocation of the scripts is the refused one once, and with 0 none
+is. Where one still is, the program is built again for twice as many. The scripts are those of crates/refusals/stdin.
 
-Prints how many allocations of the script there are, in which events the link was refused one, and each run that did not end as without a refusal.
+Prints how many allocations the scripts make, in which of their lines the link was refused one, and each run that did not end as without a refusal.
 The exit status is 0 where there is no such run.
 """
 import collections
+import itertools
 import os
 import re
 import shutil
@@ -19,16 +20,19 @@ import subprocess
 import sys
 import tempfile
 
-FIRST_TRY = 768
-REFUSED = re.compile(r"same, (?:event (\d+) refused|refused beside the link)\Z")
+FIRST_TRY = 1024
+REFUSED = re.compile(r"same, (?:line (\d+) refused|refused beside the link)\Z")
+STDIN = "crates/refusals/stdin"
 
 
 def outcomes(most):
     """Builds the program with allocation `most` refused, and returns the line that it prints for each number below, "" where it prints none."""
+    with open(STDIN, encoding="ascii") as stdin:
+        scripts = stdin.read().split("\n", 1)[1]
     with tempfile.TemporaryDirectory() as folder:
         for number in range(most):
             with open(os.path.join(folder, f"{number:06}"), "w", encoding="ascii") as case:
-                case.write(f"{number}\n")
+                case.write(f"{number}\n{scripts}")
         words = ["rt", "try", "--fail-alloc", str(most), "--cases", folder]
         ran = subprocess.run(words, cwd="crates/refusals", capture_output=True, text=True)
     printed = dict(re.findall(r"^== (\d+)\n(.*)$", ran.stdout, re.M))
@@ -49,16 +53,18 @@ def main():
     while REFUSED.match(lines[0]):
         most *= 2
         lines = outcomes(most)
-    # The refused one is the script's first in the last run, its second in the run before, and so on.
-    lines.reverse()
-    count = next((it for it, line in enumerate(lines) if line == "same"), most)
-    wrong = [(it + 1, line) for it, line in enumerate(lines[:count]) if not REFUSED.match(line)]
-    wrong += [(it + 1, line) for it, line in enumerate(lines[count:], count) if line != "same"]
+    # In the last runs the refused one comes before the first event; before them it is the scripts' first, their second, and so on.
+    lines = list(itertools.dropwhile(lambda line: line == "same", reversed(lines)))
+    # A refusal that no event answered: the link did without that memory.
+    count = max((it + 1 for it, line in enumerate(lines) if REFUSED.match(line)), default=0)
+    without = lines[:count].count("same")
+    wrong = [(it + 1, line) for it, line in enumerate(lines) if line != "same" and not REFUSED.match(line)]
     events = collections.Counter(REFUSED.match(line)[1] for line in lines[:count] if REFUSED.match(line))
     beside = events.pop(None, 0)
     for event in sorted(events, key=int):
-        print(f"event {event}: {events[event]} refused")
+        print(f"line {event}: {events[event]} refused")
     print(f"beside the link: {beside} refused")
+    print(f"done without: {without} refused")
     for number, line in wrong:
         print(f"allocation {number}: {line or 'the run printed nothing'}")
     print(f"{count} allocations, each refused once: {'not ' if wrong else ''}all runs ended the same")

@@ -12,7 +12,7 @@ ENUM = re.compile(r"^(?:pub(?:\([a-z]+\))? )?enum (\w+)")
 VARIANT = re.compile(r"^    (\w+)\((.+?)\),?$")
 STRUCT = re.compile(r"^(?:pub(?:\([a-z]+\))? )?struct (\w+)")
 FIELD = re.compile(r"^\s+(?:pub(?:\([a-z]+\))? )?(\w+): (.+?),?$")
-USE = re.compile(r"^\s*ghost use Rattle\.(sctp_\w+|crc32c|linkscript|benchlib|association)\.specs\.([\w.]+?)(?:\.\{(.*)\}| as (\w+))?;")
+USE = re.compile(r"^\s*ghost use Rattle\.(sctp_\w+|crc32c|linkscript|bench|association)\.specs\.([\w.]+?)(?:\.\{(.*)\}| as (\w+))?;")
 KEEPS = {"as_ref", "as_mut", "as_slice", "as_mut_slice", "iter", "iter_mut", "into_iter", "as_deref", "try_clone", "clone", "copied", "cloned", "to_owned",
          "skip", "take", "rev", "filter", "ok", "unwrap_or", "unwrap_or_default", "by_ref", "ok_or", "map_err"}
 OPENS = {"unwrap", "expect", "unwrap_or_else"}

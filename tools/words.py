@@ -3,7 +3,7 @@
 
     python3 tools/words.py [--all]
 
-run at the top of the repository, by hand: it is no part of the gate. Retired words are those of tools/retired_words.txt: each line
+run at the top of the repository. Retired words are those of tools/retired_words.txt: each line
 has some, and the word in their place. The docs are all pages (*.md); what stands in code fences or between backticks is no prose, and is passed over
 for words. With --all sources (*.rt, *.antt, *.edit, lists of wrong bodies) are looked through too, names in their code included: half_sent, HalfSent.
 The type `Loose`, the kit's module `sound` and its step `heard` are passed over. Paths that begin with a folder of this repository, and links, must

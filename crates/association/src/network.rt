@@ -2,9 +2,9 @@
 
 use crate::fault::Fault;
 use bytes::Bytes;
+use sctp_base::util::Checksum;
 use sctp_chunks::chunk::chunk_kind::ChunkKind;
 use sctp_packets::packet::{CommonHeader, Packet};
-use sctp_util::util::Checksum;
 use std::alloc::Global;
 
 /// A millisecond.

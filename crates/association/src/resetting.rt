@@ -1,11 +1,11 @@
 //! Streams that are reset, one request after another (RFC 6525 5.1, 5.2; RFC 8831 6.7).
 
 use crate::fault::Fault;
+use sctp_base::param::param_kind::ParamKind;
+use sctp_base::param::param_outgoing_reset_request::ParamOutgoingResetRequest;
+use sctp_base::param::param_reconfig_response::{ParamReconfigResponse, ReconfigResult};
 use sctp_chunks::chunk::chunk_kind::ChunkKind;
 use sctp_chunks::chunk::chunk_reconfig::ChunkReconfig;
-use sctp_params::param::param_kind::ParamKind;
-use sctp_params::param::param_outgoing_reset_request::ParamOutgoingResetRequest;
-use sctp_params::param::param_reconfig_response::{ParamReconfigResponse, ReconfigResult};
 use sctp_receiver::receiver::Receiver;
 use sctp_receiver::receiver::refusal::ReceiverRefusal;
 use sctp_sender::sender::Sender;

@@ -7,13 +7,29 @@
 //!     bench growth                   prints how the time of a call grows with what is held
 #![tactic(auto)]
 
+mod against;
+mod ends;
+mod exchange;
 mod growth;
+mod linking;
+mod names;
+mod outbound;
+mod packet;
 mod packets;
+mod payload;
+mod reassembly;
+mod receiving;
 mod runs;
+mod sack;
+mod scenario;
+mod sending;
+mod stream;
+mod subject;
 mod table;
+mod timing;
 
+use crate::against::bad_line;
 use crate::table::Table;
-use benchlib::against::bad_line;
 use std::process::ExitCode;
 use std::{env, fs};
 

@@ -1,10 +1,10 @@
 //! A packet of one DATA chunk with 1,200 bytes, read and written under a checksum that is always 0.
 
-use crate::table::Table;
-use benchlib::packet::{
+use crate::packet::{
     Zero, datagram, is_expected, time_of_dissecting, time_of_reading, time_of_summing,
     time_of_writing,
 };
+use crate::table::Table;
 use bytes::{Bytes, BytesMut};
 use sctp_packets::packet::Packet;
 

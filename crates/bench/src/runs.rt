@@ -1,11 +1,11 @@
 //! Queues, senders, receivers and links.
 
+use crate::names::what_of;
+use crate::receiving::Receiving;
+use crate::scenario::{Scenario, Sum, fastest, is_slow, measure, unit_of};
+use crate::sending::Sending;
+use crate::subject::{Delivery, Order};
 use crate::table::Table;
-use benchlib::names::what_of;
-use benchlib::receiving::Receiving;
-use benchlib::scenario::{Scenario, Sum, fastest, is_slow, measure, unit_of};
-use benchlib::sending::Sending;
-use benchlib::subject::{Delivery, Order};
 
 static SCENARIOS: [Scenario; 38] = [
     Scenario::PushAndPop(1000, Order::InOrder),

@@ -1,6 +1,6 @@
 //! The rows of times.
 
-use benchlib::against::{figure_of, tenths};
+use crate::against::{figure_of, tenths};
 
 /// What is printed of times.
 #[derive(Clone, Copy)]

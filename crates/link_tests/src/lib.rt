@@ -1,13 +1,19 @@
-//! Tests of streams and of the link.
+//! Tests of streams, of the link, of its scripts, and of packets under CRC-32C.
 #![tactic(auto)]
 
 #[cfg(test)]
-mod event_tests;
+mod abandonment;
 #[cfg(test)]
-mod limit_tests;
+mod cases;
 #[cfg(test)]
-mod sack_tests;
+mod exchanges;
 #[cfg(test)]
-mod stream_tests;
+mod large;
 #[cfg(test)]
-mod tests;
+mod lines;
+#[cfg(test)]
+mod packets;
+#[cfg(test)]
+mod play;
+#[cfg(test)]
+mod streams;

@@ -3,4 +3,4 @@
 
 pub mod field;
 pub mod run;
-mod script;
+pub mod script;

@@ -38,19 +38,25 @@ pub fn read_link<C: Checksum + Drop>(alloc: Global, checksum: C, line: &str) -> 
     let first_tsn = take_u32(&mut rest)?;
     let fragment_size = take_u32(&mut rest)?;
     let max_message_size = take_u32(&mut rest)?;
-    let counts = rest.is_some();
-    let limit = if counts { take_u32(&mut rest)? } else { 0 };
+    let limit = match rest {
+        Some(_) => Some(take_u32(&mut rest)?),
+        None => None,
+    };
     if rest.is_some() || fragment_size < 1 || fragment_size > MAX_FRAGMENT_SIZE {
         return None;
     }
-    let link = Link::with_limit(
-        alloc,
-        first_tsn,
-        fragment_size,
-        max_message_size,
-        limit,
-        checksum,
-    );
+    let link = match limit {
+        Some(limit) => Link::with_limit(
+            alloc,
+            first_tsn,
+            fragment_size,
+            max_message_size,
+            limit,
+            checksum,
+        ),
+        None => Link::new(alloc, first_tsn, fragment_size, max_message_size, checksum),
+    };
+    let counts = limit.is_some();
     Some(Play { link, counts })
 }
 

@@ -1,32 +1,54 @@
-use crate::tests::{Answer, ZERO, packet_bytes, read_chunks};
+use crate::kind_tests::is_printed;
+use crate::tests::{Answer, ZERO, is_encoding, packet_bytes, read_chunks};
 use bytes::Bytes;
-use sctp_chunks::chunk::chunk_init::ChunkInit;
-use sctp_chunks::chunk::chunk_kind::ChunkKind;
+use sctp_packets::checksum::Crc32c;
 use sctp_packets::packet::{CommonHeader, Packet, PartialDecode};
-use sctp_params::param::param_kind::ParamKind;
 use sctp_util::error::Error;
-use sctp_util::util::{CT_COOKIE_ACK, CT_COOKIE_ECHO, CT_INIT, CT_INIT_ACK, ChunkType};
+use sctp_util::util::{CT_COOKIE_ACK, CT_COOKIE_ECHO, CT_INIT, CT_INIT_ACK, Checksum, ChunkType};
 use std::alloc::Global;
 
-// Of an INIT: its tag, credit, outbound and inbound streams, first TSN, and how many parameters it has.
-type Fields = (u32, u32, u16, u16, u32, usize);
-
-// Recorded packets: INIT, INIT-ACK, INIT.
-const VECTORS: [(&[u8], ChunkType, Fields); 3] = [
+// Recorded packets: the type of the first chunk, its initiate tag, and how the chunk prints: each field, each parameter.
+const VECTORS: [(&[u8], ChunkType, u32, &str); 3] = [
     (
         b"\x13\x88\x13\x88\0\0\0\0\x81\x46\x9d\xfc\x01\0\0\x56\x55\xb9\x64\xa5\0\x02\0\0\x04\0\x08\0\xe8\x6d\x10\x30\xc0\0\0\x04\x80\x08\0\x09\xc0\x0f\xc1\x80\x82\0\0\0\x80\x02\0\x24\x9f\xeb\xbb\x5c\x50\xc9\xbf\x75\x9c\xb1\x2c\x57\x4f\xa4\x5a\x51\xba\x60\x17\x78\x27\x94\x5c\x31\xe6\x5d\x5b\x09\x47\xe2\x22\x06\x80\x04\0\x06\0\x01\0\0\x80\x03\0\x06\x80\xc1\0\0",
         CT_INIT,
-        (1438213285, 131072, 1024, 2048, 3899461680, 5),
+        1438213285,
+        "INIT is_ack: false
+            initiate_tag: 1438213285
+            advertised_receiver_window_credit: 131072
+            num_outbound_streams: 1024
+            num_inbound_streams: 2048
+            initial_tsn: 3899461680Param 0:
+ Forward TSN supportedParam 1:
+ Supported Extensions FORWARD-TSN Unknown ChunkType: 15 Unknown ChunkType: 193 Unknown ChunkType: 128 RECONFIGParam 2:
+ Random b\"\\x9f\\xeb\\xbb\\\\P\\xc9\\xbfu\\x9c\\xb1,WO\\xa4ZQ\\xba`\\x17x'\\x94\\\\1\\xe6][\\tG\\xe2\\\"\\x06\"Param 3:
+ Requested HMAC Algorithm Parameter HMAC SHA-128Param 4:
+ Chunk List Unknown ChunkType: 128 Unknown ChunkType: 193;",
     ),
     (
         b"\x13\x88\x13\x88\xce\x15\x79\xa2\x96\x19\xe8\xb2\x02\0\0\x1c\xeb\x81\x4e\x01\0\0\0\0\x04\0\x08\0\x50\xdf\x90\xd9\0\x07\0\x08\x94\x06\x2f\x93",
         CT_INIT_ACK,
-        (3951119873, 0, 1024, 2048, 1356828889, 1),
+        3951119873,
+        "INIT-ACK is_ack: true
+            initiate_tag: 3951119873
+            advertised_receiver_window_credit: 0
+            num_outbound_streams: 1024
+            num_inbound_streams: 2048
+            initial_tsn: 1356828889Param 0:
+ State Cookie: b\"\\x94\\x06/\\x93\";",
     ),
     (
         b"\x13\x88\x13\x88\0\0\0\0\x92\x57\x55\xc7\x01\0\0\x20\x12\x34\x56\x78\0\x02\0\0\x04\0\x04\0\0\0\0\x01\x80\x08\0\x08\x82\xc0\x40\xc2\xc0\0\0\x04",
         CT_INIT,
-        (305419896, 131072, 1024, 1024, 1, 2),
+        305419896,
+        "INIT is_ack: false
+            initiate_tag: 305419896
+            advertised_receiver_window_credit: 131072
+            num_outbound_streams: 1024
+            num_inbound_streams: 1024
+            initial_tsn: 1Param 0:
+ Supported Extensions RECONFIG FORWARD-TSN Unknown ChunkType: 64 I-FORWARD-TSNParam 1:
+ Forward TSN supported;",
     ),
 ];
 
@@ -38,58 +60,32 @@ fn field_of(raw: &[u8]) -> Answer {
     }
 }
 
-fn partial(alloc: Global, raw: &[u8]) -> Result<PartialDecode, Error> {
-    PartialDecode::unmarshal(alloc, &Bytes::copy_from_slice(alloc, raw)?, &field_of(raw))
+fn partial<C: Checksum>(alloc: Global, raw: &[u8], checksum: &C) -> Result<PartialDecode, Error> {
+    PartialDecode::unmarshal(alloc, &Bytes::copy_from_slice(alloc, raw)?, checksum)
 }
 
-fn finished(alloc: Global, raw: &[u8]) -> Result<Packet, Error> {
-    partial(alloc, raw)?.finish(alloc)
+fn finished<C: Checksum>(alloc: Global, raw: &[u8], checksum: &C) -> Result<Packet, Error> {
+    partial(alloc, raw, checksum)?.finish(alloc)
 }
 
-fn whole(alloc: Global, raw: &[u8]) -> Result<Packet, Error> {
-    Packet::unmarshal(alloc, &Bytes::copy_from_slice(alloc, raw)?, &field_of(raw))
+fn whole<C: Checksum>(alloc: Global, raw: &[u8], checksum: &C) -> Result<Packet, Error> {
+    Packet::unmarshal(alloc, &Bytes::copy_from_slice(alloc, raw)?, checksum)
 }
 
 // What the first chunk's header tells.
 fn told(alloc: Global, raw: &[u8]) -> Result<(ChunkType, Option<u32>), Error> {
-    let decode = partial(alloc, raw)?;
+    let decode = partial(alloc, raw, &Crc32c)?;
     Ok((decode.first_chunk_type, decode.initiate_tag))
 }
 
-// The packet's chunk, where it is an INIT or INIT-ACK.
-fn only_init(packet: &Packet) -> Option<&ChunkInit> {
-    match packet.chunks.as_slice() {
-        [ChunkKind::Init(c)] => Some(c),
-        _ => None,
-    }
-}
-
-fn fields(c: &ChunkInit) -> Fields {
-    (
-        c.initiate_tag,
-        c.advertised_receiver_window_credit,
-        c.num_outbound_streams,
-        c.num_inbound_streams,
-        c.initial_tsn,
-        c.params.len(),
-    )
-}
-
-// Whether the packet is an allowed one of these fields, and is written as these bytes.
-fn is_recorded(alloc: Global, packet: &Packet, raw: &[u8], expected: Fields) -> bool {
-    match packet.marshal(alloc, &field_of(raw)) {
-        Ok(written) => {
-            written.as_slice() == raw
-                && packet.check_packet().is_ok()
-                && only_init(packet).is_some_and(|c| fields(c) == expected)
-        }
-        Err(_) => false,
-    }
-}
-
-fn is_read(alloc: Global, read: Result<Packet, Error>, raw: &[u8], expected: Fields) -> bool {
+// Whether the packet is an allowed one, prints so, and is written as these bytes.
+fn is_recorded(alloc: Global, read: Result<Packet, Error>, raw: &[u8], printed: &str) -> bool {
     match read {
-        Ok(packet) => is_recorded(alloc, &packet, raw, expected),
+        Ok(packet) => {
+            packet.check_packet().is_ok()
+                && is_printed(alloc, &packet, printed)
+                && is_encoding(packet.marshal(alloc, &Crc32c), raw)
+        }
         Err(_) => false,
     }
 }
@@ -97,42 +93,11 @@ fn is_read(alloc: Global, read: Result<Packet, Error>, raw: &[u8], expected: Fie
 #[test]
 fn vectors(rt: HostRuntime) {
     let alloc = rt.alloc();
-    for (raw, typ, expected) in VECTORS {
-        assert!(rt; told(alloc, raw) == Ok((typ, Some(expected.0))));
-        assert!(rt; is_read(alloc, whole(alloc, raw), raw, expected));
-        assert!(rt; is_read(alloc, finished(alloc, raw), raw, expected));
+    for (raw, typ, tag, printed) in VECTORS {
+        assert!(rt; told(alloc, raw) == Ok((typ, Some(tag))));
+        assert!(rt; is_recorded(alloc, whole(alloc, raw, &Crc32c), raw, printed));
+        assert!(rt; is_recorded(alloc, finished(alloc, raw, &Crc32c), raw, printed));
     }
-}
-
-// Whether these are the parameters of the first recorded packet.
-fn are_recorded(params: &[ParamKind]) -> bool {
-    match params {
-        [
-            ParamKind::ForwardTsnSupported(_),
-            ParamKind::SupportedExtensions(extensions),
-            ParamKind::Random(random),
-            ParamKind::RequestedHmacAlgorithm(hmac),
-            ParamKind::ChunkList(list),
-        ] => {
-            extensions.chunk_types.len() == 5
-                && random.random_data.len() == 32
-                && hmac.available_algorithms.len() == 1
-                && list.chunk_types.len() == 2
-        }
-        _ => false,
-    }
-}
-
-fn has_recorded(read: Result<Packet, Error>) -> bool {
-    match read {
-        Ok(packet) => only_init(&packet).is_some_and(|c| are_recorded(&c.params)),
-        Err(_) => false,
-    }
-}
-
-#[test]
-fn parameters(rt: HostRuntime) {
-    assert!(rt; has_recorded(whole(rt.alloc(), VECTORS[0].0)));
 }
 
 // How a front of a recorded packet is refused: by Packet::unmarshal, and by PartialDecode or its finish.
@@ -155,13 +120,17 @@ fn refusals_of_front(length: usize, cut_padding: bool) -> (Option<Error>, Option
 
 // How these bytes are refused: by Packet::unmarshal, and by PartialDecode or its finish.
 fn refusals_of(alloc: Global, raw: &[u8]) -> (Option<Error>, Option<Error>) {
-    (whole(alloc, raw).err(), finished(alloc, raw).err())
+    let field = field_of(raw);
+    (
+        whole(alloc, raw, &field).err(),
+        finished(alloc, raw, &field).err(),
+    )
 }
 
 #[test]
 fn fronts(rt: HostRuntime) {
     let alloc = rt.alloc();
-    for (raw, _, _) in VECTORS {
+    for (raw, _, _, _) in VECTORS {
         for length in 0..raw.len() {
             // only the first vector ends in padding, of two bytes
             let expected = refusals_of_front(length, length >= 98);
@@ -171,7 +140,9 @@ fn fronts(rt: HostRuntime) {
             );
         }
     }
-    assert!(rt; told(alloc, &VECTORS[0].0[..98]).is_ok_and(|told| told.0 == CT_INIT));
+    let front = &VECTORS[0].0[..98];
+    let decode = partial(alloc, front, &field_of(front));
+    assert!(rt; decode.is_ok_and(|decode| decode.first_chunk_type == CT_INIT));
 }
 
 const TOLD: [(&[u8], ChunkType, Option<u32>, Option<&[u8]>); 4] = [
@@ -213,13 +184,6 @@ fn is_told(alloc: Global, row: (&[u8], ChunkType, Option<u32>, Option<&[u8]>)) -
     }
 }
 
-#[test]
-fn first_chunks(rt: HostRuntime) {
-    for row in TOLD {
-        assert!(rt; is_told(rt.alloc(), row), "at {:?}", row.0);
-    }
-}
-
 const REFUSED: [(&[u8], Error); 5] = [
     (b"", Error::ErrParseSctpChunkNotEnoughData),
     (b"\x02\0\0\x06\0\0\0\0", Error::ErrChunkValueNotLongEnough),
@@ -241,7 +205,10 @@ fn refusal_in_two(alloc: Global, chunks: &[u8]) -> Result<Option<Error>, Error> 
 }
 
 #[test]
-fn first_chunks_refused(rt: HostRuntime) {
+fn first_chunks(rt: HostRuntime) {
+    for row in TOLD {
+        assert!(rt; is_told(rt.alloc(), row), "at {:?}", row.0);
+    }
     for (chunks, expected) in REFUSED {
         let refused = refusal_in_two(rt.alloc(), chunks);
         assert!(rt; refused == Ok(Some(expected)), "no {expected:?}");

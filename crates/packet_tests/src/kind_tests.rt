@@ -1,4 +1,4 @@
-use crate::tests::{is_rewritten, packet_of, read_chunks, refusal, written_behind};
+use crate::tests::{ZERO, data, is_encoding, packet_of, read_chunks, refusal, written_behind};
 use bytes::{Bytes, BytesMut};
 use sctp_chunks::chunk::chunk_abort::ChunkAbort;
 use sctp_chunks::chunk::chunk_forward_tsn::{ChunkForwardTsn, ChunkForwardTsnStream};
@@ -16,7 +16,7 @@ use sctp_params::param::param_forward_tsn_supported::ParamForwardTsnSupported;
 use sctp_params::param::param_heartbeat_info::ParamHeartbeatInfo;
 use sctp_params::param::param_kind::ParamKind;
 use sctp_util::error::Error;
-use sctp_util::util::{CT_ABORT, CT_FORWARD_TSN, CT_I_FORWARD_TSN, CT_SACK};
+use sctp_util::util::{CT_ABORT, CT_FORWARD_TSN, CT_I_FORWARD_TSN, CT_PAYLOAD_DATA, CT_SACK};
 use std::alloc::Global;
 
 // The packet's chunks as they print.
@@ -28,26 +28,52 @@ fn joined(alloc: Global, packet: &Packet) -> Result<String, Error> {
     Ok(text)
 }
 
-fn is_printed(alloc: Global, packet: &Packet, expected: &str) -> bool {
+/// Whether the packet's chunks print so.
+pub fn is_printed(alloc: Global, packet: &Packet, expected: &str) -> bool {
     match joined(alloc, packet) {
         Ok(text) => text.as_str() == expected,
         Err(_) => false,
     }
 }
 
-// Whether a packet of these chunks prints so.
-fn prints_so(alloc: Global, chunks: &[u8], expected: &str) -> bool {
+// Whether the packet's chunks are written so, behind the common header.
+fn is_written_as(alloc: Global, packet: &Packet, want: &[u8]) -> bool {
+    match packet.marshal(alloc, &ZERO) {
+        Ok(written) => written.as_slice().get(12..) == Some(want),
+        Err(_) => false,
+    }
+}
+
+// Whether a packet of these chunks prints so, and is written so.
+fn is_read_so(alloc: Global, chunks: &[u8], printed: &str, written: &[u8]) -> bool {
     match read_chunks(alloc, chunks) {
-        Ok(packet) => is_printed(alloc, &packet, expected),
+        Ok(packet) => {
+            is_printed(alloc, &packet, printed) && is_written_as(alloc, &packet, written)
+        }
         Err(_) => false,
     }
 }
 
 // Each row: chunks, how they print, and how they are written where that differs.
-const ROWS: [(&[u8], &str, Option<&[u8]>); 17] = [
+const ROWS: [(&[u8], &str, Option<&[u8]>); 20] = [
     (
         b"\0\x03\0\x13\0\0\0\x0a\0\x01\0\0\0\0\0\x35abc\0",
         "DATA\n10;",
+        None,
+    ),
+    (
+        b"\0\x02\0\x13\xff\xff\xff\xfe\0\x01\0\0\0\0\0\x35abc\0",
+        "DATA\n4294967294;",
+        None,
+    ),
+    (
+        b"\0\0\0\x13\xff\xff\xff\xfe\0\x01\0\0\0\0\0\x35abc\0",
+        "DATA\n4294967294;",
+        None,
+    ),
+    (
+        b"\0\x01\0\x13\xff\xff\xff\xfe\0\x01\0\0\0\0\0\x35abc\0",
+        "DATA\n4294967294;",
         None,
     ),
     (
@@ -120,64 +146,10 @@ const ROWS: [(&[u8], &str, Option<&[u8]>); 17] = [
     ),
 ];
 
-// The chunks of recorded packets, INIT, INIT-ACK and INIT, and how they print: each field, each parameter.
-const RECORDED: [(&[u8], &str); 3] = [
-    (
-        b"\x01\0\0\x56\x55\xb9\x64\xa5\0\x02\0\0\x04\0\x08\0\xe8\x6d\x10\x30\xc0\0\0\x04\x80\x08\0\x09\xc0\x0f\xc1\x80\x82\0\0\0\x80\x02\0\x24\x9f\xeb\xbb\x5c\x50\xc9\xbf\x75\x9c\xb1\x2c\x57\x4f\xa4\x5a\x51\xba\x60\x17\x78\x27\x94\x5c\x31\xe6\x5d\x5b\x09\x47\xe2\x22\x06\x80\x04\0\x06\0\x01\0\0\x80\x03\0\x06\x80\xc1\0\0",
-        "INIT is_ack: false
-            initiate_tag: 1438213285
-            advertised_receiver_window_credit: 131072
-            num_outbound_streams: 1024
-            num_inbound_streams: 2048
-            initial_tsn: 3899461680Param 0:
- Forward TSN supportedParam 1:
- Supported Extensions FORWARD-TSN Unknown ChunkType: 15 Unknown ChunkType: 193 Unknown ChunkType: 128 RECONFIGParam 2:
- Random b\"\\x9f\\xeb\\xbb\\\\P\\xc9\\xbfu\\x9c\\xb1,WO\\xa4ZQ\\xba`\\x17x'\\x94\\\\1\\xe6][\\tG\\xe2\\\"\\x06\"Param 3:
- Requested HMAC Algorithm Parameter HMAC SHA-128Param 4:
- Chunk List Unknown ChunkType: 128 Unknown ChunkType: 193;",
-    ),
-    (
-        b"\x02\0\0\x1c\xeb\x81\x4e\x01\0\0\0\0\x04\0\x08\0\x50\xdf\x90\xd9\0\x07\0\x08\x94\x06\x2f\x93",
-        "INIT-ACK is_ack: true
-            initiate_tag: 3951119873
-            advertised_receiver_window_credit: 0
-            num_outbound_streams: 1024
-            num_inbound_streams: 2048
-            initial_tsn: 1356828889Param 0:
- State Cookie: b\"\\x94\\x06/\\x93\";",
-    ),
-    (
-        b"\x01\0\0\x20\x12\x34\x56\x78\0\x02\0\0\x04\0\x04\0\0\0\0\x01\x80\x08\0\x08\x82\xc0\x40\xc2\xc0\0\0\x04",
-        "INIT is_ack: false
-            initiate_tag: 305419896
-            advertised_receiver_window_credit: 131072
-            num_outbound_streams: 1024
-            num_inbound_streams: 1024
-            initial_tsn: 1Param 0:
- Supported Extensions RECONFIG FORWARD-TSN Unknown ChunkType: 64 I-FORWARD-TSNParam 1:
- Forward TSN supported;",
-    ),
-];
-
 #[test]
-fn recorded_inits(rt: HostRuntime) {
-    for (chunks, text) in RECORDED {
-        let well = prints_so(rt.alloc(), chunks, text) && is_rewritten(rt.alloc(), chunks, chunks);
-        assert!(rt; well, "at {chunks:?}");
-    }
-}
-
-#[test]
-fn kinds_print(rt: HostRuntime) {
-    for (chunks, text, _) in ROWS {
-        assert!(rt; prints_so(rt.alloc(), chunks, text), "at {chunks:?}");
-    }
-}
-
-#[test]
-fn kinds_are_written(rt: HostRuntime) {
-    for (chunks, _, written) in ROWS {
-        let well = is_rewritten(rt.alloc(), chunks, written.unwrap_or(chunks));
+fn kinds(rt: HostRuntime) {
+    for (chunks, printed, written) in ROWS {
+        let well = is_read_so(rt.alloc(), chunks, printed, written.unwrap_or(chunks));
         assert!(rt; well, "at {chunks:?}");
     }
 }
@@ -333,12 +305,13 @@ fn abort(alloc: Global, length: usize) -> Result<ChunkKind, Error> {
     Ok(ChunkKind::Abort(ChunkAbort { error_causes }))
 }
 
-// A chunk of this type with so many entries, or for ABORT bytes in its cause.
+// A chunk of this type with so many entries, or for ABORT bytes in its cause, or for DATA bytes.
 fn filled(alloc: Global, typ: ChunkType, count: usize) -> Result<ChunkKind, Error> {
     match typ {
         CT_SACK => sack(alloc, count),
         CT_FORWARD_TSN => forward_tsn(alloc, count),
         CT_I_FORWARD_TSN => i_forward_tsn(alloc, count),
+        CT_PAYLOAD_DATA => Ok(ChunkKind::PayloadData(data(alloc, count)?)),
         _ => abort(alloc, count),
     }
 }
@@ -348,7 +321,8 @@ fn is_filled_written(alloc: Global, typ: ChunkType, count: usize) -> Result<Opti
 }
 
 // Each type with the most entries that fit.
-const LONGEST: [(ChunkType, usize); 4] = [
+const LONGEST: [(ChunkType, usize); 5] = [
+    (CT_PAYLOAD_DATA, 65_519),
     (CT_SACK, 16_379),
     (CT_FORWARD_TSN, 16_381),
     (CT_I_FORWARD_TSN, 8_190),
@@ -375,20 +349,6 @@ fn length_of(alloc: Global, length: usize) -> Result<Result<usize, Error>, Error
     Ok(cause(alloc, length)?.marshal(alloc).map(|raw| raw.len()))
 }
 
-#[test]
-fn longest_cause(rt: HostRuntime) {
-    assert!(rt; length_of(rt.alloc(), 65_531) == Ok(Ok(65_535)));
-    assert!(rt; length_of(rt.alloc(), 65_532) == Ok(Err(Error::ErrLengthTooLarge)));
-}
-
-// Whether these bytes are written.
-fn is_encoding(written: Result<Bytes, Error>, want: &[u8]) -> bool {
-    match written {
-        Ok(written) => written.as_slice() == want,
-        Err(_) => false,
-    }
-}
-
 fn is_cause(alloc: Global, raw: &Bytes) -> bool {
     match ErrorCause::unmarshal(raw) {
         Ok(small) => {
@@ -401,13 +361,6 @@ fn is_cause(alloc: Global, raw: &Bytes) -> bool {
     }
 }
 
-#[test]
-fn cause_alone(rt: HostRuntime) {
-    let alloc = rt.alloc();
-    let raw = Bytes::copy_from_slice(alloc, b"\0\x0c\0\x05\x07");
-    assert!(rt; raw.is_ok_and(|raw| is_cause(alloc, &raw)));
-}
-
 fn is_pair(alloc: Global, raw: &Bytes) -> bool {
     match ChunkForwardTsnStream::unmarshal(raw) {
         Ok(pair) => pair.value_length() == 4 && is_encoding(pair.marshal(alloc), b"\0\x01\0\x02"),
@@ -415,22 +368,16 @@ fn is_pair(alloc: Global, raw: &Bytes) -> bool {
     }
 }
 
-// How a pair of these bytes is refused.
-fn refusal_of_pair(alloc: Global, raw: &[u8]) -> Result<Option<Error>, Error> {
-    Ok(ChunkForwardTsnStream::unmarshal(&Bytes::copy_from_slice(alloc, raw)?).err())
-}
-
-#[test]
-fn pairs_alone(rt: HostRuntime) {
-    let alloc = rt.alloc();
-    let raw = Bytes::copy_from_slice(alloc, b"\0\x01\0\x02\x03");
-    assert!(rt; raw.is_ok_and(|raw| is_pair(alloc, &raw)));
-    assert!(rt; refusal_of_pair(alloc, b"\0\x01\0") == Ok(Some(Error::ErrChunkTooShort)));
-}
-
 // A header prints the name of its type, a pair its two numbers, a refusal its name.
 #[test]
-fn parts_print(rt: HostRuntime) {
+fn parts_alone(rt: HostRuntime) {
+    let alloc = rt.alloc();
+    assert!(rt; length_of(alloc, 65_531) == Ok(Ok(65_535)));
+    assert!(rt; length_of(alloc, 65_532) == Ok(Err(Error::ErrLengthTooLarge)));
+    assert!(rt; is_cause(alloc, &Bytes::from_static(b"\0\x0c\0\x05\x07")));
+    assert!(rt; is_pair(alloc, &Bytes::from_static(b"\0\x01\0\x02\x03")));
+    let short = ChunkForwardTsnStream::unmarshal(&Bytes::from_static(b"\0\x01\0"));
+    assert!(rt; short.err() == Some(Error::ErrChunkTooShort));
     let header = ChunkHeader {
         typ: CT_SACK,
         flags: 0,
@@ -440,8 +387,7 @@ fn parts_print(rt: HostRuntime) {
         identifier: 1,
         sequence: 2,
     };
-    let refusal = Error::ErrShortBuffer;
-    let text = format!(in rt.alloc(); "{header}: {pair}: {refusal}");
+    let text = format!(in alloc; "{header}: {pair}: {}", Error::ErrShortBuffer);
     assert!(rt; text.is_ok_and(|text| text.as_str() == "SACK: 1, 2: ErrShortBuffer"));
 }
 
@@ -471,8 +417,15 @@ fn refusal_of_infos(alloc: Global, count: usize, length: usize) -> Result<Option
     heartbeat_ack(alloc, infos(alloc, count, length)?)
 }
 
+// How a HEARTBEAT-ACK of another parameter is refused.
+fn refusal_of_other(alloc: Global) -> Result<Option<Error>, Error> {
+    let mut other = Vec::new(alloc);
+    other.push(ParamKind::ForwardTsnSupported(ParamForwardTsnSupported))?;
+    heartbeat_ack(alloc, other)
+}
+
 #[test]
-fn heartbeat_acks_of_one_info(rt: HostRuntime) {
+fn heartbeat_acks(rt: HostRuntime) {
     let rows = [
         (0, 1, Some(Error::ErrHeartbeatAckParams)),
         (2, 1, Some(Error::ErrHeartbeatAckParams)),
@@ -484,17 +437,6 @@ fn heartbeat_acks_of_one_info(rt: HostRuntime) {
         let refused = refusal_of_infos(rt.alloc(), count, length);
         assert!(rt; refused == Ok(expected), "{count} of {length}");
     }
-}
-
-// How a HEARTBEAT-ACK of another parameter is refused.
-fn refusal_of_other(alloc: Global) -> Result<Option<Error>, Error> {
-    let mut other = Vec::new(alloc);
-    other.push(ParamKind::ForwardTsnSupported(ParamForwardTsnSupported))?;
-    heartbeat_ack(alloc, other)
-}
-
-#[test]
-fn heartbeat_acks_of_no_info(rt: HostRuntime) {
     let refused = refusal_of_other(rt.alloc());
     assert!(rt; refused == Ok(Some(Error::ErrHeartbeatAckNotHeartbeatInfo)));
 }
@@ -542,29 +484,16 @@ const INIT_REFUSED: [Option<Error>; 4] = [
     Some(Error::ErrChunkTypeInitInitiateTagZero),
 ];
 
-fn is_checked(chunk: &mut ChunkInit) -> bool {
-    refusals_of_init(chunk) == INIT_REFUSED
-}
-
 #[test]
 fn inits_checked(rt: HostRuntime) {
     let mut chunk = init(rt.alloc());
-    assert!(rt; has_extensions(rt.alloc(), &mut chunk) && is_checked(&mut chunk));
+    assert!(rt; has_extensions(rt.alloc(), &mut chunk));
+    assert!(rt; refusals_of_init(&mut chunk) == INIT_REFUSED);
 }
 
 // How the chunk is checked, and how it is refused to be written.
 fn refusals_of(alloc: Global, chunk: &ChunkReconfig) -> (Option<Error>, Option<Error>) {
     (chunk.check().err(), chunk.marshal(alloc).err())
-}
-
-#[test]
-fn reconfig_without_first(rt: HostRuntime) {
-    let chunk = ChunkReconfig {
-        param_a: None,
-        param_b: None,
-    };
-    let expected = Some(Error::ErrChunkReconfigInvalidParamA);
-    assert!(rt; refusals_of(rt.alloc(), &chunk) == (expected, expected));
 }
 
 fn of_two_infos(alloc: Global) -> Result<ChunkReconfig, Error> {
@@ -589,7 +518,13 @@ fn is_padded(alloc: Global, chunk: &ChunkReconfig) -> bool {
 }
 
 #[test]
-fn reconfig_with_second(rt: HostRuntime) {
+fn reconfigs(rt: HostRuntime) {
+    let chunk = ChunkReconfig {
+        param_a: None,
+        param_b: None,
+    };
+    let expected = Some(Error::ErrChunkReconfigInvalidParamA);
+    assert!(rt; refusals_of(rt.alloc(), &chunk) == (expected, expected));
     let chunk = of_two_infos(rt.alloc());
     assert!(rt; chunk.is_ok_and(|chunk| is_padded(rt.alloc(), &chunk)));
 }

@@ -1,3 +1,4 @@
+use crate::tests::is_encoding;
 use bytes::{Bytes, BytesMut};
 use sctp_params::param::Param;
 use sctp_params::param::param_chunk_list::ParamChunkList;
@@ -73,8 +74,12 @@ fn repeated<T: Copy>(alloc: Global, item: T, count: usize) -> Result<Vec<T>, Err
     Ok(items)
 }
 
-fn printed<T: Display>(alloc: Global, item: &T) -> Result<String, Error> {
-    Ok(format!(in alloc; "{item}")?)
+// Whether the item prints so.
+fn prints<T: Display>(alloc: Global, item: &T, want: &str) -> bool {
+    match format!(in alloc; "{item}") {
+        Ok(text) => text.as_str() == want,
+        Err(_) => false,
+    }
 }
 
 // These bytes and three more.
@@ -82,14 +87,6 @@ fn longer(alloc: Global, raw: &[u8]) -> Result<Bytes, Error> {
     let mut longer = BytesMut::copy_from_slice(alloc, raw)?;
     longer.extend_from_slice(&[1, 2, 3])?;
     Ok(longer.freeze()?)
-}
-
-// Whether these bytes are written.
-fn is_encoding(written: Result<Bytes, Error>, want: &[u8]) -> bool {
-    match written {
-        Ok(written) => written.as_slice() == want,
-        Err(_) => false,
-    }
 }
 
 // Whether the parameter has a header of its type and length.
@@ -121,14 +118,6 @@ fn is_read<P: Param + PartialEq + Drop>(alloc: Global, longer: &Bytes, raw: &[u8
     }
 }
 
-// Whether a parameter of this kind is read from these bytes, also with bytes behind it, and written the same.
-fn goes_both_ways<P: Param + PartialEq + Drop>(alloc: Global, raw: &[u8]) -> bool {
-    match longer(alloc, raw) {
-        Ok(longer) => is_read::<P>(alloc, &longer, raw),
-        Err(_) => false,
-    }
-}
-
 // Whether these bytes are refused as too short for a parameter of this kind.
 fn is_too_short<P: Param + Drop>(alloc: Global, raw: &[u8]) -> bool {
     match bytes(alloc, raw) {
@@ -146,9 +135,12 @@ fn refuses_fronts<P: Param + Drop>(alloc: Global, raw: &[u8]) -> bool {
     well
 }
 
-// Both.
+// Whether a parameter of this kind is read from these bytes with bytes behind it, written the same, and read from no front of them.
 fn is_kept<P: Param + PartialEq + Drop>(alloc: Global, raw: &[u8]) -> bool {
-    goes_both_ways::<P>(alloc, raw) && refuses_fronts::<P>(alloc, raw)
+    match longer(alloc, raw) {
+        Ok(longer) => is_read::<P>(alloc, &longer, raw) && refuses_fronts::<P>(alloc, raw),
+        Err(_) => false,
+    }
 }
 
 #[test]
@@ -165,6 +157,9 @@ fn each_kind(rt: HostRuntime) {
     assert!(rt; is_kept::<ParamSupportedExtensions>(alloc, EXTENSIONS));
     assert!(rt; is_kept::<ParamForwardTsnSupported>(alloc, FORWARD_TSN));
     assert!(rt; is_kept::<ParamUnknown>(alloc, UNKNOWN));
+    for raw in KINDS {
+        assert!(rt; is_kept::<ParamKind>(alloc, raw), "at {raw:?}");
+    }
 }
 
 const KINDS: [&[u8]; 11] = [
@@ -186,89 +181,129 @@ fn refusal(alloc: Global, raw: &[u8]) -> Result<Option<Error>, Error> {
     Ok(build_param(alloc, &bytes(alloc, raw)?).err())
 }
 
-#[test]
-fn each_type(rt: HostRuntime) {
-    let alloc = rt.alloc();
-    for raw in KINDS {
-        assert!(rt; is_kept::<ParamKind>(alloc, raw), "at {raw:?}");
+// Each row: a parameter, how it prints, its fields, and how it is written where that differs.
+const READ: [(&[u8], &str, &str, Option<&[u8]>); 15] = [
+    (
+        b"\x00\x01\x00\x06ab",
+        "Heartbeat Info b\"ab\"",
+        "HeartbeatInfo(ParamHeartbeatInfo { heartbeat_information: b\"ab\" })",
+        None,
+    ),
+    (
+        b"\x00\x07\x00\x06ab",
+        "State Cookie: b\"ab\"",
+        "StateCookie(ParamStateCookie { cookie: b\"ab\" })",
+        None,
+    ),
+    (
+        b"\x00\x0c\x00\x08\x00\x05\x00\x0a",
+        "Supported IP Types IPv4 IP Unknown ParamType",
+        "SupportedAddressTypes(ParamSupportedAddressTypes { address_types: [Ipv4Addr, Unknown { param_type: 10 }] })",
+        None,
+    ),
+    (
+        RESET_REQUEST,
+        "Outgoing SSN Reset Request Parameter 1 2 3 [4, 5, 6]",
+        "OutgoingResetRequest(ParamOutgoingResetRequest { reconfig_request_sequence_number: 1, reconfig_response_sequence_number: 2, sender_last_tsn: 3, stream_identifiers: [4, 5, 6] })",
+        None,
+    ),
+    (
+        RESPONSE,
+        "Re-configuration Response Parameter 1 1: Success - Performed",
+        "ReconfigResponse(ParamReconfigResponse { reconfig_response_sequence_number: 1, result: SuccessPerformed, next_tsns: Some((7, 8)) })",
+        None,
+    ),
+    // of a response with one of the two TSNs neither is kept
+    (
+        b"\x00\x10\x00\x10\0\0\0\x01\0\0\0\x01\0\0\0\x07",
+        "Re-configuration Response Parameter 1 1: Success - Performed",
+        "ReconfigResponse(ParamReconfigResponse { reconfig_response_sequence_number: 1, result: SuccessPerformed, next_tsns: None })",
+        Some(b"\x00\x10\x00\x0c\0\0\0\x01\0\0\0\x01"),
+    ),
+    (
+        b"\x80\x02\x00\x05a",
+        "Random b\"a\"",
+        "Random(ParamRandom { random_data: b\"a\" })",
+        None,
+    ),
+    (
+        b"\x80\x03\x00\x06\x80\x03",
+        "Chunk List Unknown ChunkType: 128 SACK",
+        "ChunkList(ParamChunkList { chunk_types: [ChunkType(128), ChunkType(3)] })",
+        None,
+    ),
+    (
+        b"\x80\x04\x00\x08\x00\x01\x00\x03",
+        "Requested HMAC Algorithm Parameter HMAC SHA-128 HMAC SHA-256",
+        "RequestedHmacAlgorithm(ParamRequestedHmacAlgorithm { available_algorithms: [HmacSha128, HmacSha256] })",
+        None,
+    ),
+    // a last odd byte is ignored
+    (
+        b"\x80\x04\x00\x07\x00\x03\xff",
+        "Requested HMAC Algorithm Parameter HMAC SHA-256",
+        "RequestedHmacAlgorithm(ParamRequestedHmacAlgorithm { available_algorithms: [HmacSha256] })",
+        Some(b"\x80\x04\x00\x06\x00\x03"),
+    ),
+    (
+        b"\x80\x08\x00\x06\x82\xc0",
+        "Supported Extensions RECONFIG FORWARD-TSN",
+        "SupportedExtensions(ParamSupportedExtensions { chunk_types: [ChunkType(130), ChunkType(192)] })",
+        None,
+    ),
+    (
+        b"\xc0\x00\x00\x04",
+        "Forward TSN supported",
+        "ForwardTsnSupported(ParamForwardTsnSupported)",
+        None,
+    ),
+    // a value is ignored
+    (
+        b"\xc0\x00\x00\x06\x01\x02",
+        "Forward TSN supported",
+        "ForwardTsnSupported(ParamForwardTsnSupported)",
+        Some(b"\xc0\x00\x00\x04"),
+    ),
+    (
+        b"\xc0\x06\x00\x05a",
+        "ParamUnknown( Unknown ParamType b\"a\" )",
+        "Unknown(ParamUnknown { typ: 49158, value: b\"a\" })",
+        None,
+    ),
+    (
+        UNKNOWN,
+        "ParamUnknown( Unknown ParamType b\"\\x01\\x02\\x03\\x04\" )",
+        "Unknown(ParamUnknown { typ: 49158, value: b\"\\x01\\x02\\x03\\x04\" })",
+        None,
+    ),
+];
+
+// Whether the parameter has these fields.
+fn has_fields(alloc: Global, param: &ParamKind, want: &str) -> bool {
+    match format!(in alloc; "{param:?}") {
+        Ok(text) => text.as_str() == want,
+        Err(_) => false,
     }
 }
 
-fn is_request(alloc: Global, raw: &Bytes) -> bool {
-    match ParamOutgoingResetRequest::unmarshal(alloc, raw) {
-        Ok(request) => {
-            request.reconfig_request_sequence_number == 1
-                && request.reconfig_response_sequence_number == 2
-                && request.sender_last_tsn == 3
-                && request.stream_identifiers.as_slice() == [4, 5, 6].as_slice()
+// Whether the parameter that the bytes begin with prints so, has these fields, and is written so.
+fn is_read_so(alloc: Global, raw: &[u8], printed: &str, fields: &str, written: &[u8]) -> bool {
+    match read(alloc, raw) {
+        Ok(param) => {
+            prints(alloc, &param, printed)
+                && has_fields(alloc, &param, fields)
+                && is_encoding(param.marshal(alloc), written)
         }
         Err(_) => false,
     }
 }
 
 #[test]
-fn requests(rt: HostRuntime) {
-    let raw = bytes(rt.alloc(), RESET_REQUEST);
-    assert!(rt; raw.is_ok_and(|raw| is_request(rt.alloc(), &raw)));
-}
-
-fn response(alloc: Global, raw: &[u8]) -> Result<ParamReconfigResponse, Error> {
-    ParamReconfigResponse::unmarshal(alloc, &bytes(alloc, raw)?)
-}
-
-fn is_whole(response: &ParamReconfigResponse) -> bool {
-    response.reconfig_response_sequence_number == 1
-        && response.result == ReconfigResult::SuccessPerformed
-        && response.next_tsns == Some((7, 8))
-}
-
-// Of a response with one of the two TSNs neither is kept.
-fn is_half(alloc: Global, response: &ParamReconfigResponse) -> bool {
-    let expected = b"\x00\x10\x00\x0c\0\0\0\x01\0\0\0\x01".as_slice();
-    response.next_tsns.is_none() && is_encoding(response.marshal(alloc), expected)
-}
-
-#[test]
-fn responses(rt: HostRuntime) {
-    let alloc = rt.alloc();
-    assert!(rt; response(alloc, RESPONSE).is_ok_and(|whole| is_whole(&whole)));
-    let half = response(alloc, b"\x00\x10\x00\x10\0\0\0\x01\0\0\0\x01\0\0\0\x07");
-    assert!(rt; half.is_ok_and(|half| is_half(alloc, &half)));
-}
-
-fn algorithms(alloc: Global, raw: &[u8]) -> Result<Vec<HmacAlgorithm>, Error> {
-    let param = ParamRequestedHmacAlgorithm::unmarshal(alloc, &bytes(alloc, raw)?)?;
-    Ok(param.available_algorithms)
-}
-
-fn address_types(alloc: Global, raw: &[u8]) -> Result<Vec<ParamType>, Error> {
-    Ok(ParamSupportedAddressTypes::unmarshal(alloc, &bytes(alloc, raw)?)?.address_types)
-}
-
-fn odd_algorithms_are_read(alloc: Global) -> bool {
-    match algorithms(alloc, b"\x80\x04\x00\x07\x00\x03\xff") {
-        Ok(algorithms) => algorithms.as_slice() == [HmacAlgorithm::HmacSha256].as_slice(),
-        Err(_) => false,
+fn kinds(rt: HostRuntime) {
+    for (raw, printed, fields, written) in READ {
+        let well = is_read_so(rt.alloc(), raw, printed, fields, written.unwrap_or(raw));
+        assert!(rt; well, "at {raw:?}");
     }
-}
-
-fn address_types_are_read(alloc: Global) -> bool {
-    let expected = [ParamType::Ipv4Addr, ParamType::Unknown { param_type: 10 }];
-    match address_types(alloc, b"\x00\x0c\x00\x08\x00\x05\x00\x0a") {
-        Ok(types) => types.as_slice() == expected.as_slice(),
-        Err(_) => false,
-    }
-}
-
-#[test]
-fn lists(rt: HostRuntime) {
-    assert!(rt; odd_algorithms_are_read(rt.alloc()));
-    assert!(rt; address_types_are_read(rt.alloc()));
-}
-
-// The parameter that the bytes begin with, as it is written.
-fn rewritten(alloc: Global, raw: &[u8]) -> Result<Bytes, Error> {
-    read(alloc, raw)?.marshal(alloc)
 }
 
 fn is_cookie(cookie: Result<ParamStateCookie, Error>, want: &[u8]) -> bool {
@@ -282,12 +317,10 @@ fn cookie(alloc: Global, raw: &[u8]) -> Result<ParamStateCookie, Error> {
     ParamStateCookie::unmarshal(alloc, &bytes(alloc, raw)?)
 }
 
+// A single kind is read under any type number.
 #[test]
-fn other_values(rt: HostRuntime) {
+fn cookies(rt: HostRuntime) {
     let alloc = rt.alloc();
-    let ignored = rewritten(alloc, b"\xc0\x00\x00\x06\x01\x02");
-    assert!(rt; is_encoding(ignored, b"\xc0\x00\x00\x04"));
-    // a single kind is read under any type number
     assert!(rt; is_cookie(cookie(alloc, b"\x00\x01\x00\x06ab"), b"ab"));
     assert!(rt; is_cookie(ParamStateCookie::new(alloc, [9; 32]), &[9; 32]));
 }
@@ -333,19 +366,8 @@ fn refusals(rt: HostRuntime) {
     assert!(rt; list == Ok(Some(Error::ErrParamTypeUnexpected)));
 }
 
+// Types that are read as no kind, and as one that is unknown.
 const NO_KIND: [u16; 15] = [0, 2, 3, 4, 5, 6, 8, 9, 10, 11, 14, 15, 17, 18, 0x7fff];
-
-#[test]
-fn types_of_no_kind(rt: HostRuntime) {
-    let alloc = rt.alloc();
-    for typ in NO_KIND {
-        let [high, low] = u16::to_be_bytes(typ);
-        let expected = Ok(Some(Error::ErrParamTypeUnhandled { typ }));
-        assert!(rt; refusal(alloc, &[high, low, 0, 4]) == expected, "at {typ}");
-        // the type is looked at before the length
-        assert!(rt; refusal(alloc, &[high, low, 0, 3]) == expected, "at {typ}");
-    }
-}
 
 const KEPT: [u16; 10] = [
     0x8000, 32773, 32774, 49153, 49154, 49155, 49156, 49157, 49158, 0xffff,
@@ -357,14 +379,19 @@ fn type_of(alloc: Global, raw: &[u8]) -> Result<ParamType, Error> {
 }
 
 #[test]
-fn types_kept(rt: HostRuntime) {
+fn types(rt: HostRuntime) {
+    let alloc = rt.alloc();
+    for typ in NO_KIND {
+        let [high, low] = u16::to_be_bytes(typ);
+        let expected = Ok(Some(Error::ErrParamTypeUnhandled { typ }));
+        assert!(rt; refusal(alloc, &[high, low, 0, 4]) == expected, "at {typ}");
+        // the type is looked at before the length
+        assert!(rt; refusal(alloc, &[high, low, 0, 3]) == expected, "at {typ}");
+    }
     for typ in KEPT {
         let [high, low] = u16::to_be_bytes(typ);
-        let kept = type_of(rt.alloc(), &[high, low, 0, 5, 9]);
-        assert!(rt;
-            kept == Ok(ParamType::Unknown { param_type: typ }),
-            "at {typ}"
-        );
+        let kept = Ok(ParamType::Unknown { param_type: typ });
+        assert!(rt; type_of(alloc, &[high, low, 0, 5, 9]) == kept, "at {typ}");
     }
 }
 
@@ -457,31 +484,26 @@ fn is_too_long(alloc: Global, param: &ParamKind) -> bool {
     }
 }
 
-fn is_longest(alloc: Global, typ: ParamType, count: usize, length: u16) -> bool {
-    match param_of(alloc, typ, count) {
-        Ok(param) => is_written(alloc, &param, length),
-        Err(_) => false,
+// Whether so many elements are written with this length, or are refused as too many.
+fn is_bounded(alloc: Global, typ: ParamType, count: usize, length: Option<u16>) -> bool {
+    match (param_of(alloc, typ, count), length) {
+        (Ok(param), Some(length)) => is_written(alloc, &param, length),
+        (Ok(param), None) => is_too_long(alloc, &param),
+        _ => false,
     }
 }
 
 #[test]
 fn longest_values(rt: HostRuntime) {
     for (typ, count, length) in LONGEST {
-        assert!(rt; is_longest(rt.alloc(), typ, count, length), "of {count}");
-    }
-}
-
-fn has_too_many(alloc: Global, typ: ParamType, count: usize) -> bool {
-    match param_of(alloc, typ, count) {
-        Ok(param) => is_too_long(alloc, &param),
-        Err(_) => false,
-    }
-}
-
-#[test]
-fn too_long_values(rt: HostRuntime) {
-    for (typ, count, _) in LONGEST {
-        assert!(rt; has_too_many(rt.alloc(), typ, count + 1), "of {count}");
+        assert!(rt;
+            is_bounded(rt.alloc(), typ, count, Some(length)),
+            "of {count}"
+        );
+        assert!(rt;
+            is_bounded(rt.alloc(), typ, count + 1, None),
+            "behind {count}"
+        );
     }
 }
 
@@ -494,10 +516,18 @@ fn header(alloc: Global, raw: &[u8]) -> Result<ParamHeader, Error> {
     ParamHeader::unmarshal(&bytes(alloc, raw)?)
 }
 
-// Whether the item prints so.
-fn prints<T: Display>(alloc: Global, item: &T, want: &str) -> bool {
-    match printed(alloc, item) {
-        Ok(text) => text.as_str() == want,
+// Whether a header stands behind "a", and one that is too long leaves it so.
+fn one_header_fits(alloc: Global) -> bool {
+    let long = ParamHeader {
+        typ: ParamType::Random,
+        value_length: 65_532,
+    };
+    match BytesMut::copy_from_slice(alloc, b"a") {
+        Ok(mut buf) => {
+            ADAPTATION.marshal_to(&mut buf) == Ok(5)
+                && long.marshal_to(&mut buf) == Err(Error::ErrLengthTooLarge)
+                && buf.as_slice() == b"a\xc0\x06\x00\x06".as_slice()
+        }
         Err(_) => false,
     }
 }
@@ -510,28 +540,7 @@ fn headers(rt: HostRuntime) {
     assert!(rt; ParamHeader::of(ParamType::AdaptLayerInd, 2) == Ok(ADAPTATION));
     assert!(rt; is_encoding(ADAPTATION.marshal(alloc), &[0xc0, 6, 0, 6]));
     assert!(rt; prints(alloc, &ADAPTATION, "Adaptation Layer Indication"));
-}
-
-fn one_header_fits(buf: &mut BytesMut) -> bool {
-    let long = ParamHeader {
-        typ: ParamType::Random,
-        value_length: 65_532,
-    };
-    ADAPTATION.marshal_to(buf) == Ok(5)
-        && long.marshal_to(buf) == Err(Error::ErrLengthTooLarge)
-        && buf.as_slice() == b"a\xc0\x06\x00\x06".as_slice()
-}
-
-fn header_behind_a_byte(alloc: Global) -> bool {
-    match BytesMut::copy_from_slice(alloc, b"a") {
-        Ok(mut buf) => one_header_fits(&mut buf),
-        Err(_) => false,
-    }
-}
-
-#[test]
-fn headers_behind_bytes(rt: HostRuntime) {
-    assert!(rt; header_behind_a_byte(rt.alloc()));
+    assert!(rt; one_header_fits(alloc));
 }
 
 #[test]
@@ -547,61 +556,12 @@ fn numbers(rt: HostRuntime) {
         let algorithm = HmacAlgorithm::from(number);
         assert!(rt; u16::from(algorithm) == number.min(4), "at {number}");
     }
-}
-
-const PRINTED: [(&[u8], &str); 11] = [
-    (b"\x00\x01\x00\x06ab", "Heartbeat Info b\"ab\""),
-    (b"\x00\x07\x00\x06ab", "State Cookie: b\"ab\""),
-    (
-        b"\x00\x0c\x00\x08\x00\x05\x00\x0a",
-        "Supported IP Types IPv4 IP Unknown ParamType",
-    ),
-    (
-        RESET_REQUEST,
-        "Outgoing SSN Reset Request Parameter 1 2 3 [4, 5, 6]",
-    ),
-    (
-        RESPONSE,
-        "Re-configuration Response Parameter 1 1: Success - Performed",
-    ),
-    (b"\x80\x02\x00\x05a", "Random b\"a\""),
-    (
-        b"\x80\x03\x00\x06\x80\x03",
-        "Chunk List Unknown ChunkType: 128 SACK",
-    ),
-    (
-        b"\x80\x04\x00\x08\x00\x01\x00\x03",
-        "Requested HMAC Algorithm Parameter HMAC SHA-128 HMAC SHA-256",
-    ),
-    (
-        b"\x80\x08\x00\x06\x82\xc0",
-        "Supported Extensions RECONFIG FORWARD-TSN",
-    ),
-    (b"\xc0\x00\x00\x04", "Forward TSN supported"),
-    (
-        b"\xc0\x06\x00\x05a",
-        "ParamUnknown( Unknown ParamType b\"a\" )",
-    ),
-];
-
-// Whether the parameter that the bytes begin with prints so.
-fn prints_so(alloc: Global, raw: &[u8], expected: &str) -> bool {
-    match read(alloc, raw) {
-        Ok(param) => prints(alloc, &param, expected),
-        Err(_) => false,
-    }
-}
-
-#[test]
-fn kinds_print(rt: HostRuntime) {
-    for (raw, text) in PRINTED {
-        assert!(rt; prints_so(rt.alloc(), raw, text), "at {raw:?}");
-    }
-}
-
-#[test]
-fn numbers_print(rt: HostRuntime) {
-    let alloc = rt.alloc();
-    assert!(rt; prints(alloc, &ReconfigResult::from(9), "Unknown ReconfigResult"));
-    assert!(rt; prints(alloc, &HmacAlgorithm::from(0), "HMAC Reserved (0x00)"));
+    assert!(rt;
+        prints(
+            rt.alloc(),
+            &ReconfigResult::from(9),
+            "Unknown ReconfigResult"
+        )
+    );
+    assert!(rt; prints(rt.alloc(), &HmacAlgorithm::from(0), "HMAC Reserved (0x00)"));
 }

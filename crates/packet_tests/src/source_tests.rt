@@ -1,12 +1,6 @@
 use bytes::Bytes;
-use sctp_util::error::Result;
 use sctp_util::util::bytes_source::{ByteSlice, BytesArray, BytesSource, constant_time_eq};
 use std::alloc::Global;
-use std::test::Fail;
-
-fn bytes(alloc: Global, items: &[u8]) -> Result<Bytes> {
-    Ok(Bytes::copy_from_slice(alloc, items)?)
-}
 
 /// Whether the next piece of at most so many bytes is this one, and uses up so many buffers.
 fn pops<S: BytesSource>(
@@ -22,22 +16,27 @@ fn pops<S: BytesSource>(
     }
 }
 
+// A slice is copied in pieces; byte strings are compared.
 #[test]
-fn a_slice_is_copied_in_pieces(rt: HostRuntime) {
+fn slices(rt: HostRuntime) {
     let mut source = ByteSlice::from_slice(&[1, 2, 3]);
     assert_eq!(rt; source.remaining(), 3);
     assert!(rt; pops(&mut source, rt.alloc(), 2, &[1, 2], 0));
     assert!(rt; source.has_remaining());
     assert!(rt; pops(&mut source, rt.alloc(), 2, &[3], 1));
     assert!(rt; !source.has_remaining());
+    assert!(rt; constant_time_eq(&[1, 2], &[1, 2]));
+    assert!(rt; !constant_time_eq(&[1, 2], &[1, 3]));
+    assert!(rt; !constant_time_eq(&[1, 2], &[1]));
 }
 
+// Buffers leave one by one, and an empty one is used up.
 #[test]
-fn buffers_leave_one_by_one(rt: HostRuntime) -> std::result::Result<(), Fail> {
+fn buffers(rt: HostRuntime) {
     let mut chunks = [
         Bytes::new(),
-        bytes(rt.alloc(), &[1, 2])?,
-        bytes(rt.alloc(), &[3])?,
+        Bytes::from_static(&[1, 2]),
+        Bytes::from_static(&[3]),
     ];
     let mut source = BytesArray::from_chunks(&mut chunks);
     assert_eq!(rt; source.remaining(), 3);
@@ -46,21 +45,8 @@ fn buffers_leave_one_by_one(rt: HostRuntime) -> std::result::Result<(), Fail> {
     assert!(rt; pops(&mut source, rt.alloc(), 5, &[3], 1));
     assert!(rt; pops(&mut source, rt.alloc(), 5, &[], 0));
     assert!(rt; !source.has_remaining());
-    Ok(())
-}
-
-#[test]
-fn an_empty_buffer_is_used_up(rt: HostRuntime) -> std::result::Result<(), Fail> {
-    let mut chunks = [Bytes::new(), bytes(rt.alloc(), &[1])?];
+    let mut chunks = [Bytes::new(), Bytes::from_static(&[1])];
     let mut source = BytesArray::from_chunks(&mut chunks);
     assert!(rt; pops(&mut source, rt.alloc(), 0, &[], 1));
     assert_eq!(rt; source.remaining(), 1);
-    Ok(())
-}
-
-#[test]
-fn byte_strings_are_compared(rt: HostRuntime) {
-    assert!(rt; constant_time_eq(&[1, 2], &[1, 2]));
-    assert!(rt; !constant_time_eq(&[1, 2], &[1, 3]));
-    assert!(rt; !constant_time_eq(&[1, 2], &[1]));
 }

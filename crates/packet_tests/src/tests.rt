@@ -3,7 +3,8 @@ use sctp_chunks::chunk::Chunk;
 use sctp_chunks::chunk::chunk_header::ChunkHeader;
 use sctp_chunks::chunk::chunk_kind::ChunkKind;
 use sctp_chunks::chunk::chunk_payload_data::{ChunkPayloadData, PayloadProtocolIdentifier};
-use sctp_packets::packet::{CommonHeader, Packet};
+use sctp_packets::checksum::Crc32c;
+use sctp_packets::packet::{CommonHeader, Packet, PartialDecode};
 use sctp_util::error::Error;
 use sctp_util::util::{
     CT_PAYLOAD_DATA, Checksum, get_padding_size, sna16eq, sna16gt, sna16lt, sna32eq, sna32gt,
@@ -61,16 +62,9 @@ pub fn refusal(alloc: Global, chunks: &[u8]) -> Result<Option<Error>, Error> {
     Ok(Packet::unmarshal(alloc, &packet_bytes(alloc, chunks)?, &ZERO).err())
 }
 
-/// Reads a packet of these chunks, and gives the chunks as they are written.
-fn rewritten(alloc: Global, chunks: &[u8]) -> Result<Bytes, Error> {
-    let mut written = read_chunks(alloc, chunks)?.marshal(alloc, &ZERO)?;
-    written.advance(HEAD.len().min(written.len()));
-    Ok(written)
-}
-
-/// Whether a packet of these chunks is read, and written with those.
-pub fn is_rewritten(alloc: Global, chunks: &[u8], want: &[u8]) -> bool {
-    match rewritten(alloc, chunks) {
+/// Whether these bytes are written.
+pub fn is_encoding(written: Result<Bytes, Error>, want: &[u8]) -> bool {
+    match written {
         Ok(written) => written.as_slice() == want,
         Err(_) => false,
     }
@@ -86,7 +80,7 @@ pub fn written_behind(
     Ok((answer, buf))
 }
 
-fn data(alloc: Global, length: usize) -> Result<ChunkPayloadData, Error> {
+pub fn data(alloc: Global, length: usize) -> Result<ChunkPayloadData, Error> {
     let mut user_data = BytesMut::new(alloc);
     user_data.resize(length, 7)?;
     Ok(ChunkPayloadData {
@@ -144,36 +138,28 @@ fn serial_numbers(rt: HostRuntime) {
     assert_eq!(rt; get_padding_size(8), 0);
 }
 
-// How these bytes are refused as a packet.
-fn refusal_of(alloc: Global, raw: &[u8], checksum: Answer) -> Result<Option<Error>, Error> {
-    Ok(Packet::unmarshal(alloc, &Bytes::copy_from_slice(alloc, raw)?, &checksum).err())
-}
-
 const BARE: [u8; 12] = [0x13, 0x88, 0x13, 0x88, 0, 0, 0, 0, 0x06, 0xa9, 0, 0xe1];
 
-const BARE_FIELD: Answer = Answer(0xe100a906);
-
-fn bare(alloc: Global) -> Result<Packet, Error> {
-    Packet::unmarshal(alloc, &Bytes::copy_from_slice(alloc, &BARE)?, &BARE_FIELD)
+// How these bytes are refused as a packet under a checksum that is always 0, and as one that is read in two parts under CRC-32C.
+fn refusals(alloc: Global, raw: &[u8]) -> Result<(Option<Error>, Option<Error>), Error> {
+    let raw = Bytes::copy_from_slice(alloc, raw)?;
+    let whole = Packet::unmarshal(alloc, &raw, &ZERO).err();
+    Ok((whole, PartialDecode::unmarshal(alloc, &raw, &Crc32c).err()))
 }
 
-// Whether the packet is the one of `BARE`, and is written so.
-fn is_bare(alloc: Global, packet: &Packet) -> bool {
+// Whether the bytes of `BARE` are read under CRC-32C as this header without chunks, and written so.
+fn is_bare(alloc: Global, raw: &Bytes) -> bool {
     let expected = CommonHeader {
         source_port: 5000,
         destination_port: 5000,
         verification_tag: 0,
     };
-    let read = packet.common_header == expected && packet.chunks.is_empty();
-    match packet.marshal(alloc, &BARE_FIELD) {
-        Ok(written) => read && written.as_slice() == BARE.as_slice(),
-        Err(_) => false,
-    }
-}
-
-fn bare_is_kept(alloc: Global) -> bool {
-    match bare(alloc) {
-        Ok(packet) => is_bare(alloc, &packet),
+    match Packet::unmarshal(alloc, raw, &Crc32c) {
+        Ok(packet) => {
+            packet.common_header == expected
+                && packet.chunks.is_empty()
+                && is_encoding(packet.marshal(alloc, &Crc32c), &BARE)
+        }
         Err(_) => false,
     }
 }
@@ -181,9 +167,15 @@ fn bare_is_kept(alloc: Global) -> bool {
 #[test]
 fn bare_header(rt: HostRuntime) {
     let alloc = rt.alloc();
-    assert!(rt; refusal_of(alloc, b"", ZERO) == Ok(Some(Error::ErrPacketRawTooSmall)));
-    assert!(rt; refusal_of(alloc, &BARE, ZERO) == Ok(Some(Error::ErrChecksumMismatch)));
-    assert!(rt; bare_is_kept(alloc));
+    let small = Some(Error::ErrPacketRawTooSmall);
+    let bare = (
+        Some(Error::ErrChecksumMismatch),
+        Some(Error::ErrParseSctpChunkNotEnoughData),
+    );
+    assert!(rt; refusals(alloc, b"") == Ok((small, small)));
+    assert!(rt; refusals(alloc, &BARE) == Ok(bare));
+    let raw = Bytes::copy_from_slice(alloc, &BARE);
+    assert!(rt; raw.is_ok_and(|raw| is_bare(alloc, &raw)));
 }
 
 // The packet's chunk, where it is one of user data.
@@ -214,12 +206,6 @@ fn whole_is_read(alloc: Global) -> bool {
     }
 }
 
-#[test]
-fn complete_message(rt: HostRuntime) {
-    let alloc = rt.alloc();
-    assert!(rt; whole_is_read(alloc) && is_rewritten(alloc, &WHOLE, &WHOLE));
-}
-
 // A fragment with these flags, and a TSN that is about to wrap.
 fn fragment(flags: u8) -> [u8; 20] {
     let mut chunk = WHOLE;
@@ -235,38 +221,17 @@ fn ends(alloc: Global, chunk: &[u8]) -> Result<Option<(u32, bool, bool)>, Error>
 }
 
 #[test]
-fn fragments(rt: HostRuntime) {
+fn messages_and_fragments(rt: HostRuntime) {
     let alloc = rt.alloc();
+    assert!(rt; whole_is_read(alloc));
     for (flags, first, last) in [(2, true, false), (0, false, false), (1, false, true)] {
         let chunk = fragment(flags);
         assert!(rt; ends(alloc, &chunk) == Ok(Some((4294967294, first, last))));
-        assert!(rt; is_rewritten(alloc, &chunk, &chunk));
     }
 }
 
 fn long(alloc: Global, length: usize) -> Result<Packet, Error> {
     packet_of(alloc, ChunkKind::PayloadData(data(alloc, length)?))
-}
-
-fn too_long_is_refused(alloc: Global, packet: &Packet) -> bool {
-    match written_behind(alloc, packet) {
-        Ok((answer, buf)) => {
-            answer == Err(Error::ErrLengthTooLarge) && buf.as_slice() == b"abc".as_slice()
-        }
-        Err(_) => false,
-    }
-}
-
-fn one_byte_too_long(alloc: Global) -> bool {
-    match long(alloc, 65_520) {
-        Ok(packet) => too_long_is_refused(alloc, &packet),
-        Err(_) => false,
-    }
-}
-
-#[test]
-fn too_long_a_chunk(rt: HostRuntime) {
-    assert!(rt; one_byte_too_long(rt.alloc()));
 }
 
 // The longest chunk behind "abc", and a COOKIE-ACK behind it; nothing where it is not written so.
@@ -344,13 +309,6 @@ const WHOLE_HEADER: ChunkHeader = ChunkHeader {
     value_length: 15,
 };
 
-fn is_written_alone(alloc: Global, chunk: &ChunkPayloadData) -> bool {
-    match chunk.marshal(alloc) {
-        Ok(written) => written.as_slice() == &WHOLE[..19],
-        Err(_) => false,
-    }
-}
-
 fn clone_is_whole(chunk: &ChunkPayloadData) -> bool {
     match chunk.try_clone() {
         Ok(copy) => is_whole(&copy),
@@ -362,7 +320,7 @@ fn is_read_alone(alloc: Global, raw: &Bytes) -> bool {
     match ChunkPayloadData::unmarshal(alloc, raw) {
         Ok(chunk) => {
             chunk.header() == Ok(WHOLE_HEADER)
-                && is_written_alone(alloc, &chunk)
+                && is_encoding(chunk.marshal(alloc), &WHOLE[..19])
                 && clone_is_whole(&chunk)
         }
         Err(_) => false,

@@ -1,10 +1,12 @@
 //! Worked examples of messages: taken whole and in pieces, and their fragments in any order. Where those stand is worked out
 //! from the order of serial numbers by hand.
 
-use crate::part::{FIRST, LAST, MIDDLE, WHOLE, ordered};
-use sctp_chunks::chunk::chunk_payload_data::PayloadProtocolIdentifier;
+use crate::part::{FIRST, LAST, MIDDLE, WHOLE, ordered, unordered};
+use sctp_data::chunk::chunk_payload_data::PayloadProtocolIdentifier;
 use sctp_queues::chunks::{Chunks, Fragments};
 use sctp_queues::fragment::Fragment;
+use sctp_queues::turns::Turns;
+use sctp_queues::unassembled::{Loose, run_around};
 use sctp_util::error::Error;
 use std::alloc::Global;
 
@@ -29,26 +31,17 @@ fn letters(alloc: Global, message: &mut Chunks) -> bool {
         && pushes(alloc, message, 11, (LAST, b"xx", false))
 }
 
+// Read into three bytes and into five.
 fn is_whole(message: &Chunks) -> bool {
-    message.len() == 4 && !message.is_empty() && message.is_complete()
-}
-
-fn is_read_in_part(message: &Chunks) -> bool {
     let mut short = [0; 3];
-    message.read(&mut short) == Err(Error::ErrShortBuffer) && short.as_slice() == b"abc".as_slice()
-}
-
-fn is_read(message: &Chunks) -> bool {
     let mut long = [9; 5];
-    message.read(&mut long) == Ok(4) && long.as_slice() == [97, 98, 99, 100, 9].as_slice()
-}
-
-#[test]
-fn a_message_is_whole_at_its_last_fragment(rt: HostRuntime) {
-    let alloc = rt.alloc();
-    let mut message = Chunks::new(0, PayloadProtocolIdentifier::String, Vec::new(alloc));
-    let well = letters(alloc, &mut message) && is_whole(&message);
-    assert!(rt; well && is_read_in_part(&message) && is_read(&message));
+    message.len() == 4
+        && !message.is_empty()
+        && message.is_complete()
+        && message.read(&mut short) == Err(Error::ErrShortBuffer)
+        && short.as_slice() == b"abc".as_slice()
+        && message.read(&mut long) == Ok(4)
+        && long.as_slice() == [97, 98, 99, 100, 9].as_slice()
 }
 
 // Whether the next piece of so many bytes has these bytes, or there is none.
@@ -76,13 +69,6 @@ fn is_taken(alloc: Global, message: &mut Chunks) -> bool {
         && piece_is(alloc, message, 3, None)
 }
 
-#[test]
-fn a_message_is_taken_in_pieces(rt: HostRuntime) {
-    let alloc = rt.alloc();
-    let mut message = Chunks::new(0, PayloadProtocolIdentifier::String, Vec::new(alloc));
-    assert!(rt; letters(alloc, &mut message) && is_taken(alloc, &mut message));
-}
-
 fn empty_is_a_piece(alloc: Global, message: &mut Chunks) -> bool {
     piece_is(alloc, message, 3, None)
         && pushes(alloc, message, 10, (WHOLE, b"", true))
@@ -92,8 +78,11 @@ fn empty_is_a_piece(alloc: Global, message: &mut Chunks) -> bool {
 }
 
 #[test]
-fn an_empty_fragment_is_one_piece(rt: HostRuntime) {
+fn messages(rt: HostRuntime) {
     let alloc = rt.alloc();
+    let mut message = Chunks::new(0, PayloadProtocolIdentifier::String, Vec::new(alloc));
+    assert!(rt; letters(alloc, &mut message) && is_whole(&message));
+    assert!(rt; is_taken(alloc, &mut message));
     let mut message = Chunks::new(0, PayloadProtocolIdentifier::String, Vec::new(alloc));
     assert!(rt; empty_is_a_piece(alloc, &mut message));
 }
@@ -150,58 +139,71 @@ fn stand(alloc: Global, first: &[u32], tsns: &[u32], want: &[u32]) -> bool {
     puts_all(alloc, &mut set, tsns) && tsns_are(&set, want) && copy_stands_so(alloc, &set, want)
 }
 
+// Each case: fragments that are given at once, those that are put in one after another, and the order in which they stand.
+const CASES: [(&[u32], &[u32], &[u32]); 9] = [
+    // in any order
+    (&[], &[14, 13, 12, 11, 10, 14, 10], &[10, 11, 12, 13, 14]),
+    (&[], &[12, 10, 14, 11, 13, 12, 10], &[10, 11, 12, 13, 14]),
+    (&[], &[10, 11, 12, 13, 14, 12, 13], &[10, 11, 12, 13, 14]),
+    // where numbers wrap
+    (
+        &[],
+        &[1, 4294967294, 0, 4294967295, 2],
+        &[4294967294, 4294967295, 0, 1, 2],
+    ),
+    (
+        &[],
+        &[2, 1, 0, 4294967295, 4294967294],
+        &[4294967294, 4294967295, 0, 1, 2],
+    ),
+    // 2147483658 lies half a circle from 10 and does not come before it; 11 comes before it
+    (
+        &[],
+        &[10, 2147483658, 11, 9, 2147483657, 11],
+        &[9, 10, 11, 2147483657, 2147483658],
+    ),
+    // 0 comes before 10, but not before 2147483650; 2147483649 comes before 4294967290
+    (
+        &[],
+        &[10, 2147483650, 0, 4294967290, 2147483649, 10],
+        &[2147483649, 4294967290, 0, 10, 2147483650],
+    ),
+    // given in any order
+    (&[10, 12, 14], &[13, 12, 9], &[9, 10, 12, 13, 14]),
+    (&[10, 2147483658, 9], &[11, 9], &[10, 11, 2147483658, 9]),
+];
+
 #[test]
-fn fragments_that_come_in_any_order_stand_in_order(rt: HostRuntime) {
-    for tsns in [
-        [14, 13, 12, 11, 10, 14, 10],
-        [12, 10, 14, 11, 13, 12, 10],
-        [10, 11, 12, 13, 14, 12, 13],
-    ] {
-        assert!(rt; stand(rt.alloc(), &[], &tsns, &[10, 11, 12, 13, 14]));
+fn fragments_stand_in_order(rt: HostRuntime) {
+    for (given, tsns, want) in CASES {
+        assert!(rt; stand(rt.alloc(), given, tsns, want), "{want:?}");
+    }
+}
+
+// A fragment that ends a message of which nothing else came.
+fn is_not_begun(alloc: Global, unassembled: &mut Loose) -> bool {
+    let Ok(last) = unordered(alloc, 1, LAST, b"x") else {
+        return false;
+    };
+    unassembled.insert(alloc, 0, last).is_ok()
+        && unassembled.len() == 1
+        && run_around(unassembled, 0, &mut Turns::new()).is_none()
+}
+
+// Whether a complete message of number 3 makes the set whole, or is a repeat.
+fn is_put(alloc: Global, set: &mut Fragments, want: Option<bool>) -> bool {
+    match ordered(alloc, 1, 3, WHOLE, b"x") {
+        Ok(message) => set.put(message) == Ok(want),
+        Err(_) => false,
     }
 }
 
 #[test]
-fn fragments_stand_in_order_where_numbers_wrap(rt: HostRuntime) {
-    for tsns in [
-        [1, 4294967294, 0, 4294967295, 2],
-        [2, 1, 0, 4294967295, 4294967294],
-    ] {
-        assert!(rt; stand(rt.alloc(), &[], &tsns, &[4294967294, 4294967295, 0, 1, 2]));
-    }
-}
-
-// 2147483658 lies half a circle from 10 and does not come before it; 11 comes before it.
-#[test]
-fn a_fragment_half_a_circle_away_goes_behind(rt: HostRuntime) {
-    let tsns = [10, 2147483658, 11, 9, 2147483657, 11];
-    assert!(rt; stand(rt.alloc(), &[], &tsns, &[9, 10, 11, 2147483657, 2147483658]));
-}
-
-// 0 comes before 10, but not before 2147483650; 2147483649 comes before 4294967290.
-#[test]
-fn fragments_may_span_more_than_half_a_circle(rt: HostRuntime) {
-    let tsns = [10, 2147483650, 0, 4294967290, 2147483649, 10];
-    assert!(rt;
-        stand(
-            rt.alloc(),
-            &[],
-            &tsns,
-            &[2147483649, 4294967290, 0, 10, 2147483650]
-        )
-    );
-}
-
-#[test]
-fn fragments_may_be_given_in_any_order(rt: HostRuntime) {
+fn a_run_is_found_round_its_place(rt: HostRuntime) {
     let alloc = rt.alloc();
-    assert!(rt; stand(alloc, &[10, 12, 14], &[13, 12, 9], &[9, 10, 12, 13, 14]));
-    assert!(rt;
-        stand(
-            alloc,
-            &[10, 2147483658, 9],
-            &[11, 9],
-            &[10, 11, 2147483658, 9]
-        )
-    );
+    let mut unassembled = Loose::new(alloc);
+    assert!(rt; is_not_begun(alloc, &mut unassembled));
+    let mut set = Fragments::new(3, PayloadProtocolIdentifier::Binary, Vec::new(alloc));
+    assert!(rt; is_put(alloc, &mut set, Some(true)) && is_put(alloc, &mut set, None));
+    assert_eq!(rt; set.ssn(), 3);
 }

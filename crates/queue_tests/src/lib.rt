@@ -6,8 +6,6 @@ mod chunk;
 #[cfg(test)]
 mod chunks;
 #[cfg(test)]
-mod counted;
-#[cfg(test)]
 mod outbound_queue;
 #[cfg(test)]
 mod part;
@@ -17,5 +15,3 @@ mod payload_queue;
 mod pending_queue;
 #[cfg(test)]
 mod reassembly_queue;
-#[cfg(test)]
-mod unassembled;

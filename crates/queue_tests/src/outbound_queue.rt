@@ -2,12 +2,255 @@
 
 use crate::chunk::chunk;
 use bytes::Bytes;
-use sctp_chunks::chunk::chunk_payload_data::{ChunkPayloadData, ReliabilityType};
+use sctp_data::chunk::chunk_payload_data::{ChunkPayloadData, ReliabilityType};
 use sctp_queues::outbound_queue::{ExpiredRun, OutboundQueue};
 use sctp_util::error::Error;
 use std::alloc::Global;
 
 const MILLISECOND: u64 = 1_000_000;
+
+/// A call, and what it answers.
+enum Step {
+    /// `abcdefg` in three fragments, with a lifetime or none.
+    Letters(bool),
+    /// A message of one byte: stream, the number that its stream gives it, whether it is unordered, whether it has a lifetime.
+    Letter(u16, u16, bool, bool),
+    Send(Option<u32>),
+    Abandon(u32, Option<(u16, usize)>),
+    /// Moment, and the stream, message and bytes whose tail is abandoned then.
+    ExpireTail(u64, Option<(u16, u64, usize)>),
+    /// The TSN that is sent next.
+    NextTsn(u32),
+    CanSend(u32, bool),
+    /// How many chunks are in flight, their bytes, and how many chunks and bytes wait.
+    Sizes(usize, usize, usize, usize),
+    /// An abandoned chunk without bytes that ends a message.
+    Terminal(u32),
+    Outstanding(Option<u32>),
+    Abandoned(u32, bool),
+    Acked(u32),
+    /// At this moment so many TSNs are late, each of them 10.
+    Late(u64, usize),
+    Pop(u32, bool),
+    Start(u64),
+    Expire(u64, Option<(u16, bool, usize)>),
+    /// Moment, stream, whether unordered, and how many messages of one byte expire together.
+    ExpireRun(u64, Option<(u16, bool, u16)>),
+    /// What waits at a place: its message, and the number that its stream gives it.
+    Waits(usize, Option<(u64, u16)>),
+    /// A stream, and whether a chunk of it waits, and is held at all.
+    Streams(u16, bool, bool),
+    Reserve,
+    MarkAll,
+    /// Of TSN 10: how often sent, since when, reported missing how often, to be sent again.
+    Set(u32, Option<u64>, u8, bool),
+    Marked(u32, Option<u64>, u8, bool),
+}
+
+use Step::{
+    Abandon, Abandoned, Acked, CanSend, Expire, ExpireRun, ExpireTail, Late, Letter, Letters,
+    MarkAll, Marked, NextTsn, Outstanding, Pop, Reserve, Send, Set, Sizes, Start, Streams,
+    Terminal, Waits,
+};
+
+// Each case: what it shows, the next TSN, and its steps.
+const CASES: [(&str, u32, &[Step]); 14] = [
+    (
+        "leaves a terminal chunk",
+        10,
+        &[
+            Letters(false),
+            Send(Some(10)),
+            Abandon(10, Some((1, 7))),
+            NextTsn(12),
+            Sizes(2, 0, 0, 0),
+            Terminal(11),
+            Outstanding(None),
+        ],
+    ),
+    (
+        "abandons once",
+        10,
+        &[
+            Letters(false),
+            Send(Some(10)),
+            Abandon(99, None),
+            Abandon(10, Some((1, 7))),
+            Abandon(10, Some((1, 0))),
+            NextTsn(12),
+            Abandoned(10, true),
+            Abandoned(11, true),
+            Abandoned(12, false),
+        ],
+    ),
+    (
+        "lists what is late",
+        10,
+        &[
+            Letters(true),
+            Send(Some(10)),
+            Acked(10),
+            Sizes(1, 0, 2, 4),
+            Late(MILLISECOND - 1, 0),
+            Late(MILLISECOND, 1),
+        ],
+    ),
+    (
+        "abandons a tail",
+        10,
+        &[
+            Letters(true),
+            Send(Some(10)),
+            Acked(10),
+            Pop(11, false),
+            Pop(10, true),
+            ExpireTail(MILLISECOND - 1, None),
+            ExpireTail(MILLISECOND, Some((1, 0, 4))),
+            NextTsn(12),
+            Sizes(1, 0, 0, 0),
+            Abandoned(11, true),
+        ],
+    ),
+    (
+        // Two messages on stream 1, the first with a lifetime, and one with a lifetime on stream 2. The lifetimes begin at 0.
+        "closes up later numbers",
+        10,
+        &[
+            Letter(1, 0, false, true),
+            Letter(1, 1, false, false),
+            Letter(2, 0, false, true),
+            Start(0),
+            Expire(MILLISECOND - 1, None),
+            Expire(MILLISECOND, Some((1, false, 1))),
+            Expire(MILLISECOND, None),
+            Waits(0, Some((1, 0))),
+            Waits(1, Some((2, 0))),
+            Streams(2, true, true),
+            Streams(1, true, true),
+            Streams(3, false, false),
+        ],
+    ),
+    (
+        "starts no lifetime twice",
+        10,
+        &[
+            Letter(1, 0, false, true),
+            Letter(1, 1, false, false),
+            Letter(2, 0, false, true),
+            Start(0),
+            Expire(MILLISECOND, Some((1, false, 1))),
+            Start(7 * MILLISECOND),
+            Send(Some(10)),
+            Expire(MILLISECOND, Some((2, false, 1))),
+            Send(None),
+        ],
+    ),
+    (
+        // What is unordered goes first. The third message of stream 1 is sent as its first one, since nothing of those before was
+        // sent.
+        "messages expire together",
+        10,
+        &[
+            Letter(1, 0, false, true),
+            Letter(1, 1, false, true),
+            Letter(1, 2, false, false),
+            Letter(2, 0, false, true),
+            Letter(1, 3, true, true),
+            Start(0),
+            ExpireRun(MILLISECOND - 1, None),
+            ExpireRun(MILLISECOND, Some((1, true, 1))),
+            ExpireRun(MILLISECOND, Some((1, false, 2))),
+            ExpireRun(MILLISECOND, None),
+            Waits(0, Some((2, 0))),
+            Send(Some(10)),
+            ExpireRun(MILLISECOND, Some((2, false, 1))),
+            Sizes(1, 1, 0, 0),
+        ],
+    ),
+    (
+        // A lifetime that ends with the last moment.
+        "a message expires at the end of time",
+        10,
+        &[
+            Letter(1, 0, false, true),
+            Start(u64::MAX - MILLISECOND),
+            Expire(u64::MAX - 1, None),
+            Expire(u64::MAX, Some((1, false, 1))),
+        ],
+    ),
+    (
+        "a lifetime past the end of time does not end",
+        10,
+        &[
+            Letter(1, 0, false, true),
+            Start(u64::MAX),
+            Expire(u64::MAX - 1, None),
+            Expire(u64::MAX, None),
+        ],
+    ),
+    (
+        "peeks in order",
+        10,
+        &[
+            Letters(false),
+            Send(Some(10)),
+            Reserve,
+            Letter(1, 1, false, false),
+            Letter(2, 0, true, false),
+            Waits(0, Some((0, 0))),
+            Waits(1, Some((0, 0))),
+            Waits(2, Some((2, 0))),
+            Waits(3, Some((1, 1))),
+            Waits(4, None),
+        ],
+    ),
+    (
+        "sends around the end",
+        4294967295,
+        &[
+            Reserve,
+            Letters(false),
+            Send(Some(4294967295)),
+            Send(Some(0)),
+            Send(Some(1)),
+            Send(None),
+            NextTsn(2),
+            Sizes(3, 7, 0, 0),
+        ],
+    ),
+    (
+        "marks what is in flight",
+        10,
+        &[
+            Letters(false),
+            Send(Some(10)),
+            MarkAll,
+            Marked(1, Some(0), 0, true),
+            Set(2, None, 1, false),
+            Marked(2, None, 1, false),
+        ],
+    ),
+    (
+        // 2147483657 lies less than half a circle after 10, and 2147483659 less than half a circle before it.
+        "tells what may be sent",
+        10,
+        &[
+            Letters(false),
+            Send(Some(10)),
+            CanSend(9, true),
+            CanSend(10, false),
+            CanSend(11, true),
+            CanSend(2147483657, true),
+            CanSend(2147483658, false),
+            CanSend(2147483659, true),
+        ],
+    ),
+    (
+        "nothing was sent",
+        10,
+        &[NextTsn(10), Sizes(0, 0, 0, 0), Outstanding(None)],
+    ),
+];
 
 // A fragment on a stream, of a message with a lifetime or none.
 fn fragment(
@@ -104,17 +347,6 @@ fn pushes(queue: &mut OutboundQueue, chunks: Result<Vec<ChunkPayloadData>, Error
     }
 }
 
-// Whether what is sent next is this, or nothing.
-fn sends(queue: &mut OutboundQueue, next_tsn: &mut u32, want: Option<u32>) -> bool {
-    send(queue, next_tsn, 0) == Ok(want)
-}
-
-// `abcdefg`, its first fragment sent under TSN 10.
-fn partially_sent(alloc: Global, queue: &mut OutboundQueue, timed: bool) -> bool {
-    let mut tsn = 10;
-    pushes(queue, letters(alloc, timed)) && sends(queue, &mut tsn, Some(10))
-}
-
 fn is_terminal_chunk(chunk: Option<&ChunkPayloadData>) -> bool {
     match chunk {
         Some(c) => {
@@ -122,56 +354,6 @@ fn is_terminal_chunk(chunk: Option<&ChunkPayloadData>) -> bool {
         }
         None => false,
     }
-}
-
-// How many chunks are in flight, their bytes, and how many chunks wait.
-fn sizes(queue: &OutboundQueue) -> (usize, usize, usize) {
-    (
-        queue.inflight_len(),
-        queue.inflight_bytes(),
-        queue.pending_len(),
-    )
-}
-
-fn terminal_chunk_is_left(queue: &mut OutboundQueue) -> bool {
-    let mut tsn = 11;
-    abandon(queue, 10, &mut tsn) == Ok(Some((1, 7)))
-        && tsn == 12
-        && sizes(queue) == (2, 0, 0)
-        && is_terminal_chunk(queue.get(11))
-        && queue.earliest_outstanding_tsn().is_none()
-}
-
-#[test]
-fn leaves_an_terminal_chunk(rt: HostRuntime) {
-    let mut queue = OutboundQueue::new(rt.alloc());
-    assert!(rt;
-        partially_sent(rt.alloc(), &mut queue, false) && terminal_chunk_is_left(&mut queue)
-    );
-}
-
-fn is_abandoned_once(queue: &mut OutboundQueue) -> bool {
-    let mut tsn = 11;
-    abandon(queue, 99, &mut tsn) == Ok(None)
-        && abandon(queue, 10, &mut tsn) == Ok(Some((1, 7)))
-        && abandon(queue, 10, &mut tsn) == Ok(Some((1, 0)))
-        && tsn == 12
-        && queue.is_abandoned(10)
-        && queue.is_abandoned(11)
-        && !queue.is_abandoned(12)
-}
-
-#[test]
-fn abandons_once(rt: HostRuntime) {
-    let mut queue = OutboundQueue::new(rt.alloc());
-    assert!(rt; partially_sent(rt.alloc(), &mut queue, false) && is_abandoned_once(&mut queue));
-}
-
-// `abcdefg` with a lifetime, its first fragment sent under TSN 10 and acknowledged.
-fn acknowledged_in_part(alloc: Global, queue: &mut OutboundQueue) -> bool {
-    let well = partially_sent(alloc, queue, true);
-    queue.mark_as_acked(10);
-    well
 }
 
 // Whether so many TSNs are late at this moment, each of them 10.
@@ -182,192 +364,30 @@ fn are_late(alloc: Global, queue: &OutboundQueue, now: u64, want: usize) -> bool
     }
 }
 
-fn one_is_late(alloc: Global, queue: &OutboundQueue) -> bool {
-    sizes(queue).0 == 1
-        && sizes(queue).1 == 0
-        && are_late(alloc, queue, MILLISECOND - 1, 0)
-        && are_late(alloc, queue, MILLISECOND, 1)
-}
-
-#[test]
-fn lists_what_is_late(rt: HostRuntime) {
-    let alloc = rt.alloc();
-    let mut queue = OutboundQueue::new(alloc);
-    assert!(rt; acknowledged_in_part(alloc, &mut queue) && one_is_late(alloc, &queue));
-}
-
-fn is_popped(queue: &mut OutboundQueue, tsn: u32) -> bool {
-    queue.pop(tsn).is_some()
-}
-
-fn tail_is_abandoned(queue: &mut OutboundQueue) -> bool {
-    let mut tsn = 11;
-    !is_popped(queue, 11)
-        && is_popped(queue, 10)
-        && expire_tail(queue, MILLISECOND - 1, &mut tsn) == Ok(None)
-        && expire_tail(queue, MILLISECOND, &mut tsn) == Ok(Some((1, 0, 4)))
-        && tsn == 12
-        && queue.pending_bytes() == 0
-        && queue.is_abandoned(11)
-}
-
-#[test]
-fn abandons_a_tail(rt: HostRuntime) {
-    let mut queue = OutboundQueue::new(rt.alloc());
-    assert!(rt; acknowledged_in_part(rt.alloc(), &mut queue) && tail_is_abandoned(&mut queue));
-}
-
-// The number of a message that waits, and the one that its stream gives it.
-fn numbers(chunk: Option<&ChunkPayloadData>) -> Option<(u64, u16)> {
-    let chunk = chunk?;
-    Some((chunk.message_id, chunk.stream_sequence_number))
-}
-
-// Two messages on stream 1, the first with a lifetime, and one with a lifetime on stream 2. The lifetimes begin at 0.
-fn lapsing(alloc: Global, queue: &mut OutboundQueue) -> bool {
-    let well = pushes(queue, letter(alloc, 1, 0, false, true))
-        && pushes(queue, letter(alloc, 1, 1, false, false))
-        && pushes(queue, letter(alloc, 2, 0, false, true));
-    queue.start_timed_messages(0);
-    well
-}
-
-fn numbers_close_up(queue: &mut OutboundQueue) -> bool {
-    queue.expire_pending(MILLISECOND - 1) == None
-        && queue.expire_pending(MILLISECOND) == Some((1, false, 1))
-        && queue.expire_pending(MILLISECOND) == None
-        && numbers(queue.peek_pending()) == Some((1, 0))
-        && numbers(queue.peek_pending_at(1)) == Some((2, 0))
-        && queue.pending_contains_stream(2)
-        && queue.contains_stream(1)
-        && !queue.contains_stream(3)
-}
-
-#[test]
-fn closes_up_later_numbers(rt: HostRuntime) {
-    let mut queue = OutboundQueue::new(rt.alloc());
-    assert!(rt; lapsing(rt.alloc(), &mut queue) && numbers_close_up(&mut queue));
-}
-
-// Two messages on stream 1 with lifetimes and one without, then one with a lifetime on stream 2, and an unordered one on stream 1. The
-// lifetimes begin at 0.
-fn lapsing_together(alloc: Global, queue: &mut OutboundQueue) -> bool {
-    let well = pushes(queue, letter(alloc, 1, 0, false, true))
-        && pushes(queue, letter(alloc, 1, 1, false, true))
-        && pushes(queue, letter(alloc, 1, 2, false, false))
-        && pushes(queue, letter(alloc, 2, 0, false, true))
-        && pushes(queue, letter(alloc, 1, 3, true, true));
-    queue.start_timed_messages(0);
-    well
-}
-
-// Whether so many messages of one byte each expire together on this stream.
-fn expire_together(queue: &mut OutboundQueue, kind: (u16, bool), messages: u16) -> bool {
-    let run = ExpiredRun {
-        stream_identifier: kind.0,
-        unordered: kind.1,
-        messages,
-        bytes: usize::from(messages),
-    };
-    queue.expire_pending_run(MILLISECOND) == Some(run)
-}
-
-// What is unordered goes first. The third message of stream 1 is sent as its first one, since nothing of those before was sent.
-fn runs_expire(queue: &mut OutboundQueue) -> bool {
-    let mut tsn = 10;
-    queue.expire_pending_run(MILLISECOND - 1) == None
-        && expire_together(queue, (1, true), 1)
-        && expire_together(queue, (1, false), 2)
-        && queue.expire_pending_run(MILLISECOND) == None
-        && numbers(queue.peek_pending()) == Some((2, 0))
-        && sends(queue, &mut tsn, Some(10))
-        && expire_together(queue, (2, false), 1)
-        && queue.pending_len() == 0
-}
-
-#[test]
-fn messages_expire_together(rt: HostRuntime) {
-    let mut queue = OutboundQueue::new(rt.alloc());
-    assert!(rt; lapsing_together(rt.alloc(), &mut queue) && runs_expire(&mut queue));
-}
-
-fn no_lifetime_starts_twice(queue: &mut OutboundQueue) -> bool {
-    queue.expire_pending(MILLISECOND);
-    queue.start_timed_messages(7 * MILLISECOND);
-    let mut tsn = 10;
-    sends(queue, &mut tsn, Some(10))
-        && queue.expire_pending(MILLISECOND) == Some((2, false, 1))
-        && sends(queue, &mut tsn, None)
-}
-
-#[test]
-fn starts_no_lifetime_twice(rt: HostRuntime) {
-    let mut queue = OutboundQueue::new(rt.alloc());
-    assert!(rt; lapsing(rt.alloc(), &mut queue) && no_lifetime_starts_twice(&mut queue));
-}
-
-// Whether a message whose lifetime begins at this moment expires so at the end of time, and not before.
-fn ends(queue: &mut OutboundQueue, start: u64, want: Option<(u16, bool, usize)>) -> bool {
-    queue.start_timed_messages(start);
-    queue.expire_pending(u64::MAX - 1) == None && queue.expire_pending(u64::MAX) == want
-}
-
-#[test]
-fn starts_at_the_end_of_time(rt: HostRuntime) {
-    let mut queue = OutboundQueue::new(rt.alloc());
-    let well = pushes(&mut queue, letter(rt.alloc(), 1, 0, false, true));
-    assert!(rt; well && ends(&mut queue, u64::MAX - MILLISECOND, Some((1, false, 1))));
-    let mut queue = OutboundQueue::new(rt.alloc());
-    let well = pushes(&mut queue, letter(rt.alloc(), 1, 0, false, true));
-    assert!(rt; well && ends(&mut queue, u64::MAX, None));
-}
-
-// Whether the message that waits at this place has this number.
-fn waits_at(queue: &OutboundQueue, place: usize, want: u64) -> bool {
-    match queue.peek_pending_at(place) {
-        Some(chunk) => chunk.message_id == want,
-        None => false,
+// Whether a chunk is of this message and has this number, or there is none.
+fn is_numbered(chunk: Option<&ChunkPayloadData>, want: &Option<(u64, u16)>) -> bool {
+    match (chunk, want) {
+        (Some(c), Some(want)) => (c.message_id, c.stream_sequence_number) == *want,
+        (None, None) => true,
+        _ => false,
     }
 }
 
-fn peeks(alloc: Global, queue: &mut OutboundQueue) -> bool {
-    queue.reserve(1, 1).is_ok()
-        && pushes(queue, letter(alloc, 1, 1, false, false))
-        && pushes(queue, letter(alloc, 2, 0, true, false))
-        && waits_at(queue, 0, 0)
-        && waits_at(queue, 1, 0)
-        && waits_at(queue, 2, 2)
-        && waits_at(queue, 3, 1)
-        && queue.peek_pending_at(4).is_none()
+// Whether the messages of one byte that expire together then are these, or there is none.
+fn expires_together(queue: &mut OutboundQueue, now: u64, want: &Option<(u16, bool, u16)>) -> bool {
+    let want = match want {
+        Some((stream_identifier, unordered, messages)) => Some(ExpiredRun {
+            stream_identifier: *stream_identifier,
+            unordered: *unordered,
+            messages: *messages,
+            bytes: usize::from(*messages),
+        }),
+        None => None,
+    };
+    queue.expire_pending_run(now) == want
 }
 
-#[test]
-fn peeks_in_order(rt: HostRuntime) {
-    let alloc = rt.alloc();
-    let mut queue = OutboundQueue::new(alloc);
-    assert!(rt; partially_sent(alloc, &mut queue, false) && peeks(alloc, &mut queue));
-}
-
-fn sent_around_the_end(alloc: Global, queue: &mut OutboundQueue) -> bool {
-    let mut tsn = 4294967295;
-    queue.reserve_inflight(3).is_ok()
-        && pushes(queue, letters(alloc, false))
-        && sends(queue, &mut tsn, Some(4294967295))
-        && sends(queue, &mut tsn, Some(0))
-        && sends(queue, &mut tsn, Some(1))
-        && sends(queue, &mut tsn, None)
-        && tsn == 2
-        && queue.inflight_len() == 3
-        && queue.pending_len() == 0
-}
-
-#[test]
-fn sends_around_the_end(rt: HostRuntime) {
-    let mut queue = OutboundQueue::new(rt.alloc());
-    assert!(rt; sent_around_the_end(rt.alloc(), &mut queue));
-}
-
-// Whether the chunk was sent so often, first at this moment, was reported missing so often, and is to be sent again.
+// Whether a chunk was sent so often, first at this moment, was reported missing so often, and is to be sent again.
 fn is_marked(
     chunk: Option<&ChunkPayloadData>,
     nsent: u32,
@@ -386,30 +406,101 @@ fn is_marked(
     }
 }
 
-fn marks(queue: &mut OutboundQueue) -> bool {
-    queue.mark_all_to_retransmit();
-    is_marked(queue.get(10), 1, Some(0), 0, true)
-        && queue.set_nsent(10, 2)
-        && queue.set_since(10, None)
-        && queue.set_miss_indicator(10, 1)
-        && queue.set_retransmit(10, false)
-        && is_marked(queue.get(10), 2, None, 1, false)
+fn sizes_are(
+    queue: &OutboundQueue,
+    flight: usize,
+    sent: usize,
+    chunks: usize,
+    bytes: usize,
+) -> bool {
+    queue.inflight_len() == flight
+        && queue.inflight_bytes() == sent
+        && queue.pending_len() == chunks
+        && queue.pending_bytes() == bytes
+}
+
+// Whether a step that changes nothing answers so.
+fn is_seen(alloc: Global, queue: &OutboundQueue, step: &Step) -> bool {
+    match step {
+        CanSend(tsn, want) => queue.can_send(*tsn) == *want,
+        Sizes(flight, sent, chunks, bytes) => sizes_are(queue, *flight, *sent, *chunks, *bytes),
+        Terminal(tsn) => is_terminal_chunk(queue.get(*tsn)),
+        Outstanding(want) => queue.earliest_outstanding_tsn() == *want,
+        Abandoned(tsn, want) => queue.is_abandoned(*tsn) == *want,
+        Late(now, want) => are_late(alloc, queue, *now, *want),
+        Waits(0, want) if !is_numbered(queue.peek_pending(), want) => false,
+        Waits(place, want) => is_numbered(queue.peek_pending_at(*place), want),
+        Streams(stream, waits, held) => {
+            queue.pending_contains_stream(*stream) == *waits
+                && queue.contains_stream(*stream) == *held
+        }
+        Marked(nsent, since, missing, again) => {
+            is_marked(queue.get(10), *nsent, *since, *missing, *again)
+        }
+        _ => false,
+    }
+}
+
+// Whether a step that takes or sets something goes so.
+fn is_taken(queue: &mut OutboundQueue, step: &Step) -> bool {
+    match step {
+        Acked(tsn) => queue.mark_as_acked(*tsn) > 0,
+        Pop(tsn, want) => queue.pop(*tsn).is_some() == *want,
+        Expire(now, want) => queue.expire_pending(*now) == *want,
+        ExpireRun(now, want) => expires_together(queue, *now, want),
+        Reserve => queue.reserve(1, 1).is_ok() && queue.reserve_inflight(3).is_ok(),
+        Set(nsent, since, missing, again) => {
+            queue.set_nsent(10, *nsent)
+                && queue.set_since(10, *since)
+                && queue.set_miss_indicator(10, *missing)
+                && queue.set_retransmit(10, *again)
+        }
+        Start(now) => {
+            queue.start_timed_messages(*now);
+            true
+        }
+        MarkAll => {
+            queue.mark_all_to_retransmit();
+            true
+        }
+        _ => false,
+    }
+}
+
+// Whether a step goes so.
+fn goes(alloc: Global, queue: &mut OutboundQueue, next_tsn: &mut u32, step: &Step) -> bool {
+    match step {
+        Letters(timed) => pushes(queue, letters(alloc, *timed)),
+        Letter(stream, number, unordered, timed) => {
+            pushes(queue, letter(alloc, *stream, *number, *unordered, *timed))
+        }
+        Send(want) => send(queue, next_tsn, 0) == Ok(*want),
+        Abandon(tsn, want) => abandon(queue, *tsn, next_tsn) == Ok(*want),
+        ExpireTail(now, want) => expire_tail(queue, *now, next_tsn) == Ok(*want),
+        NextTsn(want) => *next_tsn == *want,
+        _ => is_seen(alloc, queue, step) || is_taken(queue, step),
+    }
+}
+
+fn all_go(alloc: Global, queue: &mut OutboundQueue, first_tsn: u32, steps: &[Step]) -> bool {
+    let mut next_tsn = first_tsn;
+    let mut well = true;
+    for step in steps {
+        well = well && goes(alloc, queue, &mut next_tsn, step);
+    }
+    well
 }
 
 #[test]
-fn marks_what_is_in_flight(rt: HostRuntime) {
-    let mut queue = OutboundQueue::new(rt.alloc());
-    assert!(rt; partially_sent(rt.alloc(), &mut queue, false) && marks(&mut queue));
+fn outbound_cases(rt: HostRuntime) {
+    for (name, first_tsn, steps) in CASES {
+        let mut queue = OutboundQueue::new(rt.alloc());
+        assert!(rt; all_go(rt.alloc(), &mut queue, first_tsn, steps), "{name}");
+    }
 }
 
 fn nothing_is_pushed(queue: &mut OutboundQueue, none: Vec<ChunkPayloadData>) -> bool {
     push(queue, none).is_ok() && queue.next_message_id() == 0 && queue.pending_len() == 0
-}
-
-#[test]
-fn pushes_nothing(rt: HostRuntime) {
-    let mut queue = OutboundQueue::new(rt.alloc());
-    assert!(rt; nothing_is_pushed(&mut queue, Vec::new(rt.alloc())));
 }
 
 // Two ordered fragments with these flags, or an ordered and an unordered one.
@@ -465,29 +556,8 @@ fn takes_one_message(alloc: Global, queue: &OutboundQueue) -> bool {
 }
 
 #[test]
-fn takes_one_message_of_one_kind(rt: HostRuntime) {
-    let queue = OutboundQueue::new(rt.alloc());
-    assert!(rt; takes_one_message(rt.alloc(), &queue));
-}
-
-fn sendable_are_told(queue: &OutboundQueue) -> bool {
-    let mut well = true;
-    for (tsn, want) in [
-        (9, true),
-        (10, false),
-        (11, true),
-        (2147483657, true),
-        (2147483658, false),
-        (2147483659, true),
-    ] {
-        well = well && queue.can_send(tsn) == want;
-    }
-    well
-}
-
-// 2147483657 lies less than half a circle after 10, and 2147483659 less than half a circle before it.
-#[test]
-fn tells_what_may_be_sent(rt: HostRuntime) {
+fn takes_one_message_of_one_kind_or_nothing(rt: HostRuntime) {
     let mut queue = OutboundQueue::new(rt.alloc());
-    assert!(rt; partially_sent(rt.alloc(), &mut queue, false) && sendable_are_told(&queue));
+    assert!(rt; takes_one_message(rt.alloc(), &queue));
+    assert!(rt; nothing_is_pushed(&mut queue, Vec::new(rt.alloc())));
 }

@@ -1,32 +1,27 @@
 //! Fragments by what they carry and where they stand.
 
 use bytes::Bytes;
-use sctp_chunks::chunk::chunk_payload_data::{ChunkPayloadData, PayloadProtocolIdentifier};
+use sctp_data::chunk::chunk_payload_data::{ChunkPayloadData, PayloadProtocolIdentifier};
 use sctp_util::error::Error;
 use std::alloc::Global;
 
-// What a fragment carries, and where it stands in its message.
-#[derive(Drop)]
-pub(crate) struct Part<'a> {
-    pub tsn: u32,
-    pub ssn: u16,
-    pub unordered: bool,
-    pub begins: bool,
-    pub ends: bool,
-    pub bytes: &'a [u8],
-}
-
-pub(crate) fn chunk(alloc: Global, part: &Part) -> Result<ChunkPayloadData, Error> {
+pub(crate) fn ordered(
+    alloc: Global,
+    tsn: u32,
+    ssn: u16,
+    flags: (bool, bool),
+    bytes: &[u8],
+) -> Result<ChunkPayloadData, Error> {
     Ok(ChunkPayloadData {
-        unordered: part.unordered,
-        beginning_fragment: part.begins,
-        ending_fragment: part.ends,
+        unordered: false,
+        beginning_fragment: flags.0,
+        ending_fragment: flags.1,
         immediate_sack: false,
-        tsn: part.tsn,
+        tsn,
         stream_identifier: 1,
-        stream_sequence_number: part.ssn,
+        stream_sequence_number: ssn,
         payload_type: PayloadProtocolIdentifier::Binary,
-        user_data: Bytes::copy_from_slice(alloc, part.bytes)?,
+        user_data: Bytes::copy_from_slice(alloc, bytes)?,
         acked: false,
         miss_indicator: 0,
         message_id: 0,
@@ -39,39 +34,15 @@ pub(crate) fn chunk(alloc: Global, part: &Part) -> Result<ChunkPayloadData, Erro
     })
 }
 
-pub(crate) fn ordered(
-    alloc: Global,
-    tsn: u32,
-    ssn: u16,
-    flags: (bool, bool),
-    bytes: &[u8],
-) -> Result<ChunkPayloadData, Error> {
-    let part = Part {
-        tsn,
-        ssn,
-        unordered: false,
-        begins: flags.0,
-        ends: flags.1,
-        bytes,
-    };
-    chunk(alloc, &part)
-}
-
 pub(crate) fn unordered(
     alloc: Global,
     tsn: u32,
     flags: (bool, bool),
     bytes: &[u8],
 ) -> Result<ChunkPayloadData, Error> {
-    let part = Part {
-        tsn,
-        ssn: 0,
-        unordered: true,
-        begins: flags.0,
-        ends: flags.1,
-        bytes,
-    };
-    chunk(alloc, &part)
+    let mut chunk = ordered(alloc, tsn, 0, flags, bytes)?;
+    chunk.unordered = true;
+    Ok(chunk)
 }
 
 pub(crate) const FIRST: (bool, bool) = (true, false);

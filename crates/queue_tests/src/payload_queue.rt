@@ -1,158 +1,311 @@
 //! Worked examples of a payload queue.
 
 use crate::chunk::chunk;
+use sctp_data::chunk::chunk_selective_ack::GapAckBlock;
 use sctp_queues::payload_queue::PayloadQueue;
 use sctp_queues::turns::Turns;
 use sctp_util::error::Error;
 use std::alloc::Global;
 
-// Whether these are pushed, where that is allowed; what the pushes answer is left out.
-fn fills(queue: &mut PayloadQueue, cumulative_tsn: u32, tsns: &[u32]) -> bool {
+/// A call, and what it answers.
+enum Step {
+    /// A cumulative TSN, and those that are pushed where that is allowed; what the pushes answer is left out.
+    Fill(u32, &'static [u32]),
+    /// After the cumulative TSN 10: whether the TSN is new, and kept.
+    Push(u32, bool),
+    /// Such a push into the room that was reserved.
+    PushNoCheck(u32),
+    Reserve(usize),
+    Duplicates(&'static [u32]),
+    /// They are given away.
+    PopDuplicates(&'static [u32]),
+    /// The gap ack blocks after a cumulative TSN as they print, and as they are.
+    Prints(u32, &'static str),
+    Blocks(u32, &'static [(u16, u16)]),
+    PopUpTo(u32),
+    Pop(u32, bool),
+    Take(u32, bool),
+    /// What is held, in order; each is one byte unless it was acknowledged.
+    Tsns(&'static [u32]),
+    Bytes(usize),
+    /// The TSN that was received last.
+    Last(u32),
+    Acked(u32, usize),
+    MarkAll,
+    Abandon(u64, usize),
+    /// Of a TSN: to be sent again, how often sent, since when, reported missing how often; None where it is not held.
+    Set(u32, bool),
+    Marks(u32, Option<(bool, u32, Option<u64>, u8)>),
+    Stream(u16, bool),
+    /// A cumulative TSN, a TSN, and whether a push is allowed.
+    Fits(u32, u32, bool),
+    /// Whether a TSN may stand beside the others.
+    MayStand(u32, bool),
+}
+
+use Step::{
+    Abandon, Acked, Blocks, Bytes, Duplicates, Fill, Fits, Last, MarkAll, Marks, MayStand, Pop,
+    PopDuplicates, PopUpTo, Prints, Push, PushNoCheck, Reserve, Set, Stream, Take, Tsns,
+};
+
+// Each case: what it shows, and its steps.
+const CASES: [(&str, &[Step]); 19] = [
+    (
+        // RFC 4960 3.3.4
+        "two blocks",
+        &[
+            Fill(10, &[12, 13, 15]),
+            Prints(10, "cumTSN=10,2-3,5-5"),
+            Blocks(10, &[(2, 3), (5, 5)]),
+        ],
+    ),
+    (
+        "a block over the wrap",
+        &[Fill(4294967294, &[0, 1]), Blocks(4294967294, &[(2, 3)])],
+    ),
+    (
+        "no block at the distance 65,536",
+        &[Fill(10, &[65546]), Tsns(&[65546]), Blocks(10, &[])],
+    ),
+    (
+        "blocks in any order of arrivals",
+        &[Fill(10, &[15, 12, 13]), Prints(10, "cumTSN=10,2-3,5-5")],
+    ),
+    (
+        "two blocks over the wrap",
+        &[
+            Fill(4294967294, &[0, 1, 3]),
+            Prints(4294967294, "cumTSN=4294967294,2-3,5-5"),
+        ],
+    ),
+    (
+        "no block past the distance 65,535",
+        &[Fill(10, &[65546, 65547, 65548]), Prints(10, "cumTSN=10")],
+    ),
+    (
+        "a block ends at the distance 65,535",
+        &[
+            Fill(10, &[65544, 65545, 65546]),
+            Prints(10, "cumTSN=10,65534-65535"),
+        ],
+    ),
+    (
+        "a block over the wrap prints",
+        &[
+            Fill(4294967293, &[4294967295, 0, 1]),
+            Prints(4294967293, "cumTSN=4294967293,2-4"),
+        ],
+    ),
+    (
+        "blocks of one",
+        &[Fill(10, &[11, 13, 15]), Prints(10, "cumTSN=10,1-1,3-3,5-5")],
+    ),
+    (
+        "runs from any TSN",
+        &[
+            Fill(
+                10,
+                &[12, 13, 14, 15, 16, 17, 18, 19, 20, 22, 23, 24, 25, 26, 28],
+            ),
+            Prints(10, "cumTSN=10,2-10,12-16,18-18"),
+            Prints(15, "cumTSN=15,1-5,7-11,13-13"),
+            Prints(21, "cumTSN=21,1-5,7-7"),
+            Prints(28, "cumTSN=28"),
+            Prints(4294967290, "cumTSN=4294967290,18-26,28-32,34-34"),
+            Prints(2147483670, "cumTSN=2147483670"),
+            Prints(4294901778, "cumTSN=4294901778,65530-65535"),
+        ],
+    ),
+    (
+        "half a circle stays",
+        &[
+            Fill(10, &[12, 13, 2147483658]),
+            PopUpTo(2147483657),
+            Tsns(&[2147483658]),
+        ],
+    ),
+    (
+        "half a circle behind stays",
+        &[Fill(0, &[1, 2147483648]), PopUpTo(2147483649), Tsns(&[1])],
+    ),
+    (
+        "duplicates are noted",
+        &[
+            Fill(10, &[12, 13]),
+            Push(12, false),
+            Push(10, false),
+            Push(14, true),
+            Duplicates(&[12, 10]),
+            PopDuplicates(&[12, 10]),
+            Duplicates(&[]),
+            Last(14),
+            Bytes(3),
+        ],
+    ),
+    (
+        // 12, 13 and 15 come, then 13 again, and 10, which was acknowledged (RFC 4960 6.2).
+        "what came is kept and reported",
+        &[
+            Push(13, true),
+            Push(15, true),
+            Push(12, true),
+            Push(13, false),
+            Push(10, false),
+            Marks(15, Some((false, 0, None, 0))),
+            Marks(14, None),
+            Duplicates(&[13, 10]),
+            Blocks(10, &[(2, 3), (5, 5)]),
+        ],
+    ),
+    (
+        "a chunk is marked",
+        &[
+            Fill(10, &[11]),
+            Set(11, true),
+            Set(14, false),
+            Marks(11, Some((true, 3, Some(9), 2))),
+            Marks(14, None),
+        ],
+    ),
+    (
+        "a chunk is acknowledged once",
+        &[
+            Fill(10, &[13, 11, 12]),
+            Acked(12, 1),
+            Acked(12, 0),
+            Bytes(2),
+            MarkAll,
+            Marks(13, Some((true, 0, None, 0))),
+            Marks(12, Some((false, 0, None, 0))),
+            Abandon(0, 2),
+            Bytes(0),
+        ],
+    ),
+    (
+        "two chunks have room",
+        &[
+            Reserve(2),
+            PushNoCheck(11),
+            PushNoCheck(12),
+            Tsns(&[11, 12]),
+        ],
+    ),
+    (
+        // 2147483658 lies half a circle after 10. What is held, and what is at or before the cumulative TSN, is noted whatever else
+        // is held.
+        "what fits",
+        &[
+            Fill(10, &[12, 13]),
+            Fits(10, 14, true),
+            Fits(10, 12, true),
+            Fits(10, 2147483658, true),
+            Fits(10, 2147483659, true),
+            Fits(12, 20, false),
+            Fits(12, 13, true),
+            Fits(12, 5, true),
+            Fits(2147483660, 2147483662, false),
+            Fits(2147483661, 2147483662, true),
+        ],
+    ),
+    (
+        // The numbers from 12 on that are less than half a circle away end at 2147483659; those before 13 begin at 2147483662.
+        "what may stand beside the rest",
+        &[
+            Fill(10, &[12, 13]),
+            MayStand(11, true),
+            MayStand(12, false),
+            MayStand(13, false),
+            MayStand(14, true),
+            MayStand(2147483659, true),
+            MayStand(2147483660, false),
+            MayStand(2147483661, false),
+            MayStand(2147483662, true),
+        ],
+    ),
+];
+
+// Pushes where that is allowed, by the call that counts its turns or the one that does not; a TSN at or before the cumulative one is.
+fn push(queue: &mut PayloadQueue, after: u32, tsn: u32, counted: bool) -> Result<bool, Error> {
+    if !queue.fits(after, tsn) || queue.get_num_bytes() >= 1000 {
+        return Ok(false);
+    }
+    if counted {
+        return queue.push_counted(chunk(tsn), after, &mut Turns::new());
+    }
+    queue.push(chunk(tsn), after)
+}
+
+// Whether each is pushed, where that is allowed.
+fn fills(queue: &mut PayloadQueue, after: u32, tsns: &[u32], counted: bool) -> bool {
     let mut well = true;
     for tsn in tsns {
-        if queue.fits(cumulative_tsn, *tsn) && queue.get_num_bytes() < 1000 {
-            well = queue.push(chunk(*tsn), cumulative_tsn).is_ok() && well;
-        }
+        well = push(queue, after, *tsn, counted).is_ok() && well;
     }
     well
 }
 
-// Whether the gap blocks print so.
-fn reports(alloc: Global, queue: &PayloadQueue, cumulative_tsn: u32, want: &str) -> bool {
-    match queue.get_gap_ack_blocks_string(alloc, cumulative_tsn) {
+fn can_push(queue: &PayloadQueue, tsn: u32, counted: bool) -> bool {
+    if counted {
+        return queue.can_push_counted(&chunk(tsn), 10, &mut Turns::new());
+    }
+    queue.can_push(&chunk(tsn), 10)
+}
+
+fn push_no_check(queue: &mut PayloadQueue, tsn: u32) -> bool {
+    if queue.can_push_no_check(tsn) && queue.get_num_bytes() < 1000 {
+        return queue.push_no_check(chunk(tsn)).is_ok();
+    }
+    false
+}
+
+fn prints(alloc: Global, queue: &PayloadQueue, after: u32, want: &str) -> bool {
+    match queue.get_gap_ack_blocks_string(alloc, after) {
         Ok(text) => text.as_str() == want,
         Err(_) => false,
     }
 }
 
-// Whether a queue of these reports so.
-fn filled_reports(alloc: Global, cumulative_tsn: u32, tsns: [u32; 3], want: &str) -> bool {
-    let mut queue = PayloadQueue::new(alloc);
-    fills(&mut queue, cumulative_tsn, &tsns) && reports(alloc, &queue, cumulative_tsn, want)
-}
-
-fn each_reports(alloc: Global) -> bool {
-    let mut well = true;
-    for (cumulative_tsn, tsns, want) in [
-        (10, [12, 13, 15], "cumTSN=10,2-3,5-5"),
-        (10, [15, 12, 13], "cumTSN=10,2-3,5-5"),
-        (4294967294, [0, 1, 3], "cumTSN=4294967294,2-3,5-5"),
-        (10, [65546, 65547, 65548], "cumTSN=10"),
-        (10, [65544, 65545, 65546], "cumTSN=10,65534-65535"),
-        (4294967293, [4294967295, 0, 1], "cumTSN=4294967293,2-4"),
-        (10, [11, 13, 15], "cumTSN=10,1-1,3-3,5-5"),
-    ] {
-        well = well && filled_reports(alloc, cumulative_tsn, tsns, want);
+fn are_blocks(blocks: &[GapAckBlock], want: &[(u16, u16)]) -> bool {
+    let mut well = blocks.len() == want.len();
+    for (block, ends) in blocks.iter().zip(want.iter()) {
+        well = well && (block.start, block.end) == *ends;
     }
     well
 }
 
-fn has_two_blocks(alloc: Global, queue: &PayloadQueue) -> bool {
-    match queue.get_gap_ack_blocks(alloc, 10) {
-        Ok(blocks) => {
-            blocks.len() == 2 && blocks.first().is_some_and(|b| b.start == 2 && b.end == 3)
-        }
+fn has_blocks(
+    alloc: Global,
+    queue: &PayloadQueue,
+    after: u32,
+    want: &[(u16, u16)],
+    counted: bool,
+) -> bool {
+    let blocks = if counted {
+        queue.get_gap_ack_blocks_counted(alloc, after, &mut Turns::new())
+    } else {
+        queue.get_gap_ack_blocks(alloc, after)
+    };
+    match blocks {
+        Ok(blocks) => are_blocks(&blocks, want),
         Err(_) => false,
     }
 }
 
-#[test]
-fn reports_blocks(rt: HostRuntime) {
-    assert!(rt; each_reports(rt.alloc()));
-    let mut queue = PayloadQueue::new(rt.alloc());
-    assert!(rt; fills(&mut queue, 10, &[12, 13, 15]) && has_two_blocks(rt.alloc(), &queue));
-}
-
-fn reports_runs(alloc: Global, queue: &PayloadQueue) -> bool {
-    let mut well = true;
-    for (cumulative_tsn, want) in [
-        (10, "cumTSN=10,2-10,12-16,18-18"),
-        (15, "cumTSN=15,1-5,7-11,13-13"),
-        (21, "cumTSN=21,1-5,7-7"),
-        (28, "cumTSN=28"),
-        (4294967290, "cumTSN=4294967290,18-26,28-32,34-34"),
-        (2147483670, "cumTSN=2147483670"),
-        (4294901778, "cumTSN=4294901778,65530-65535"),
-    ] {
-        well = well && reports(alloc, queue, cumulative_tsn, want);
+fn tsns_are(queue: &PayloadQueue, want: &[u32]) -> bool {
+    let mut well = queue.len() == want.len() && queue.is_empty() == want.is_empty();
+    for (place, tsn) in want.iter().enumerate() {
+        well = well && queue.tsn_at(place) == Some(*tsn);
     }
     well
 }
 
-fn fills_runs(queue: &mut PayloadQueue) -> bool {
-    let tsns = [12, 13, 14, 15, 16, 17, 18, 19, 20, 22, 23, 24, 25, 26, 28];
-    fills(queue, 10, &tsns)
-}
-
-#[test]
-fn reports_runs_from_any_tsn(rt: HostRuntime) {
-    let mut queue = PayloadQueue::new(rt.alloc());
-    assert!(rt; fills_runs(&mut queue) && reports_runs(rt.alloc(), &queue));
-}
-
-// Whether this TSN alone is held.
-fn holds_alone(queue: &PayloadQueue, tsn: u32) -> bool {
-    queue.len() == 1 && queue.tsn_at(0) == Some(tsn)
-}
-
-fn pops_up_to(queue: &mut PayloadQueue) -> bool {
-    let well = fills(queue, 10, &[12, 13, 2147483658]);
-    queue.pop_up_to(2147483657);
-    well && holds_alone(queue, 2147483658)
-}
-
-fn pops_counted(queue: &mut PayloadQueue) -> bool {
-    let well = fills(queue, 0, &[1, 2147483648]);
-    queue.pop_up_to_counted(2147483649, &mut Turns::new());
-    well && holds_alone(queue, 1)
-}
-
-#[test]
-fn pops_half_a_circle(rt: HostRuntime) {
-    let mut queue = PayloadQueue::new(rt.alloc());
-    assert!(rt; pops_up_to(&mut queue));
-    let mut queue = PayloadQueue::new(rt.alloc());
-    assert!(rt; pops_counted(&mut queue));
-}
-
-// Whether this TSN may be pushed, and is, or neither.
-fn is_pushed(queue: &mut PayloadQueue, tsn: u32, want: bool) -> bool {
-    queue.can_push(&chunk(tsn), 10) == want && push_any(queue, tsn) == Ok(want)
-}
-
-fn duplicates_are_given(alloc: Global, queue: &mut PayloadQueue) -> bool {
-    queue.duplicates() == [12, 10].as_slice()
-        && queue.pop_duplicates(alloc).as_slice() == [12, 10].as_slice()
-        && queue.duplicates().len() == 0
-}
-
-fn duplicates_are_noted(alloc: Global, queue: &mut PayloadQueue) -> bool {
-    fills(queue, 10, &[12, 13])
-        && is_pushed(queue, 12, false)
-        && is_pushed(queue, 10, false)
-        && is_pushed(queue, 14, true)
-        && duplicates_are_given(alloc, queue)
-        && queue.get_last_tsn_received() == Some(14)
-        && queue.get_num_bytes() == 3
-}
-
-#[test]
-fn notes_duplicates(rt: HostRuntime) {
-    let mut queue = PayloadQueue::new(rt.alloc());
-    assert!(rt; duplicates_are_noted(rt.alloc(), &mut queue));
-}
-
-// Pushes where that is allowed; a TSN at or before the cumulative one is.
-fn push_any(queue: &mut PayloadQueue, tsn: u32) -> Result<bool, Error> {
-    if queue.fits(10, tsn) && queue.get_num_bytes() < 1000 {
-        return queue.push(chunk(tsn), 10);
-    }
-    Ok(false)
-}
-
-// What the setters set of the chunk with a TSN: to be sent again, how often sent, since when, reported missing how often.
-fn marks(queue: &PayloadQueue, tsn: u32) -> Option<(bool, u32, Option<u64>, u8)> {
-    let chunk = queue.get(tsn)?;
+// What the setters set of the chunk with a TSN.
+fn marks(queue: &PayloadQueue, tsn: u32, counted: bool) -> Option<(bool, u32, Option<u64>, u8)> {
+    let chunk = if counted {
+        queue.get_counted(tsn, &mut Turns::new())?
+    } else {
+        queue.get(tsn)?
+    };
     Some((
         chunk.retransmit,
         chunk.nsent,
@@ -161,142 +314,106 @@ fn marks(queue: &PayloadQueue, tsn: u32) -> Option<(bool, u32, Option<u64>, u8)>
     ))
 }
 
-fn is_marked(queue: &mut PayloadQueue) -> bool {
-    fills(queue, 10, &[11])
-        && queue.set_retransmit(11, true)
-        && queue.set_nsent(11, 3)
-        && queue.set_since(11, Some(9))
-        && queue.set_miss_indicator(11, 2)
-        && !queue.set_retransmit(14, true)
-        && marks(queue, 11) == Some((true, 3, Some(9), 2))
-        && marks(queue, 14).is_none()
+// Whether the chunk is held whose marks are set.
+fn is_set(queue: &mut PayloadQueue, tsn: u32) -> bool {
+    queue.set_retransmit(tsn, true)
+        && queue.set_nsent(tsn, 3)
+        && queue.set_since(tsn, Some(9))
+        && queue.set_miss_indicator(tsn, 2)
 }
 
+fn pop_up_to(queue: &mut PayloadQueue, tsn: u32, counted: bool) {
+    if counted {
+        queue.pop_up_to_counted(tsn, &mut Turns::new());
+    } else {
+        queue.pop_up_to(tsn);
+    }
+}
+
+// Whether a step that changes nothing answers so.
+fn is_seen(alloc: Global, queue: &PayloadQueue, step: &Step, counted: bool) -> bool {
+    match step {
+        Duplicates(tsns) => queue.duplicates() == *tsns,
+        Prints(after, want) => prints(alloc, queue, *after, want),
+        Blocks(after, want) => has_blocks(alloc, queue, *after, want, counted),
+        Tsns(tsns) => tsns_are(queue, tsns),
+        Bytes(bytes) => queue.get_num_bytes() == *bytes,
+        Last(tsn) => queue.get_last_tsn_received() == Some(*tsn),
+        Marks(tsn, want) => marks(queue, *tsn, counted) == *want,
+        Stream(stream, want) => queue.contains_stream(*stream) == *want,
+        Fits(after, tsn, want) => queue.fits(*after, *tsn) == *want,
+        MayStand(tsn, want) => queue.can_push_no_check(*tsn) == *want,
+        _ => false,
+    }
+}
+
+// Whether a step goes so, by the calls that count their turns where there is one, or by those that do not.
+fn goes(alloc: Global, queue: &mut PayloadQueue, step: &Step, counted: bool) -> bool {
+    match step {
+        Fill(after, tsns) => fills(queue, *after, tsns, counted),
+        Push(tsn, want) => {
+            can_push(queue, *tsn, counted) == *want && push(queue, 10, *tsn, counted) == Ok(*want)
+        }
+        PushNoCheck(tsn) => push_no_check(queue, *tsn),
+        Reserve(chunks) => queue.reserve(*chunks).is_ok(),
+        PopDuplicates(tsns) => queue.pop_duplicates(alloc).as_slice() == *tsns,
+        PopUpTo(tsn) => {
+            pop_up_to(queue, *tsn, counted);
+            true
+        }
+        Pop(tsn, want) => queue.pop(*tsn).is_some() == *want,
+        Take(tsn, want) => queue.take(*tsn).is_some() == *want,
+        Acked(tsn, bytes) => queue.mark_as_acked(*tsn) == *bytes,
+        MarkAll => {
+            queue.mark_all_to_retransmit();
+            true
+        }
+        Abandon(message, bytes) => queue.abandon_message(*message) == *bytes,
+        Set(tsn, want) => is_set(queue, *tsn) == *want,
+        _ => is_seen(alloc, queue, step, counted),
+    }
+}
+
+fn all_go(alloc: Global, queue: &mut PayloadQueue, steps: &[Step], counted: bool) -> bool {
+    let mut well = true;
+    for step in steps {
+        well = well && goes(alloc, queue, step, counted);
+    }
+    well
+}
+
+/// Each case goes by the calls that count their turns as by those that do not.
 #[test]
-fn marks_a_chunk(rt: HostRuntime) {
-    let mut queue = PayloadQueue::new(rt.alloc());
-    assert!(rt; is_marked(&mut queue));
+fn payload_cases(rt: HostRuntime) {
+    for (name, steps) in CASES {
+        for counted in [false, true] {
+            let mut queue = PayloadQueue::new(rt.alloc());
+            assert!(rt; all_go(rt.alloc(), &mut queue, steps, counted), "{name}");
+        }
+    }
 }
 
-fn is_acknowledged(queue: &mut PayloadQueue) -> bool {
-    fills(queue, 10, &[13, 11, 12])
-        && queue.mark_as_acked(12) == 1
-        && queue.mark_as_acked(12) == 0
-        && queue.get_num_bytes() == 2
-}
-
-fn others_are_marked(queue: &mut PayloadQueue) -> bool {
-    queue.mark_all_to_retransmit();
-    marks(queue, 13) == Some((true, 0, None, 0))
-        && marks(queue, 12) == Some((false, 0, None, 0))
-        && queue.abandon_message(0) == 2
-        && queue.get_num_bytes() == 0
-}
-
-#[test]
-fn acknowledges_once(rt: HostRuntime) {
-    let mut queue = PayloadQueue::new(rt.alloc());
-    assert!(rt; is_acknowledged(&mut queue) && others_are_marked(&mut queue));
-}
-
-fn takes(queue: &mut PayloadQueue, tsn: u32) -> bool {
-    queue.take(tsn).is_some()
-}
-
-fn pops(queue: &mut PayloadQueue, tsn: u32) -> bool {
-    queue.pop(tsn).is_some()
-}
-
-fn two_are_taken(queue: &mut PayloadQueue) -> bool {
-    takes(queue, 13)
-        && !takes(queue, 13)
-        && !pops(queue, 12)
-        && pops(queue, 11)
-        && queue.contains_stream(1)
-        && !queue.contains_stream(2)
-        && !queue.is_empty()
-        && queue.len() == 1
-}
+const TAKEN: &[Step] = &[
+    Take(13, true),
+    Take(13, false),
+    Pop(12, false),
+    Pop(11, true),
+    Stream(1, true),
+    Stream(2, false),
+    Tsns(&[12]),
+];
 
 fn copy_stays(alloc: Global, queue: &mut PayloadQueue) -> bool {
     match queue.try_clone(alloc) {
-        Ok(copy) => two_are_taken(queue) && copy.len() == 3 && copy.get_num_bytes() == 3,
+        Ok(copy) => {
+            all_go(alloc, queue, TAKEN, false) && copy.len() == 3 && copy.get_num_bytes() == 3
+        }
         Err(_) => false,
     }
 }
 
 #[test]
-fn takes_out(rt: HostRuntime) {
+fn chunks_are_taken_out_and_a_copy_stays(rt: HostRuntime) {
     let mut queue = PayloadQueue::new(rt.alloc());
-    assert!(rt; fills(&mut queue, 10, &[13, 11, 12]) && copy_stays(rt.alloc(), &mut queue));
-}
-
-fn push_no_check(queue: &mut PayloadQueue, tsn: u32) -> bool {
-    if queue.can_push_no_check(tsn) && queue.get_num_bytes() < 1000 {
-        return queue.push_no_check(chunk(tsn)).is_ok();
-    }
-    true
-}
-
-fn two_have_room(queue: &mut PayloadQueue) -> bool {
-    queue.reserve(2).is_ok()
-        && push_no_check(queue, 11)
-        && push_no_check(queue, 12)
-        && queue.len() == 2
-        && queue.tsn_at(1) == Some(12)
-}
-
-#[test]
-fn pushes_within_room(rt: HostRuntime) {
-    let mut queue = PayloadQueue::new(rt.alloc());
-    assert!(rt; two_have_room(&mut queue));
-}
-
-// 2147483658 lies half a circle after 10. What is held, and what is at or before the cumulative TSN, is noted whatever else is held.
-fn fitting_are_told(queue: &PayloadQueue) -> bool {
-    let mut well = true;
-    for (cumulative_tsn, tsn, want) in [
-        (10, 14, true),
-        (10, 12, true),
-        (10, 2147483658, true),
-        (10, 2147483659, true),
-        (12, 20, false),
-        (12, 13, true),
-        (12, 5, true),
-        (2147483660, 2147483662, false),
-        (2147483661, 2147483662, true),
-    ] {
-        well = well && queue.fits(cumulative_tsn, tsn) == want;
-    }
-    well
-}
-
-#[test]
-fn tells_what_fits(rt: HostRuntime) {
-    let mut queue = PayloadQueue::new(rt.alloc());
-    assert!(rt; fills(&mut queue, 10, &[12, 13]) && fitting_are_told(&queue));
-}
-
-// The numbers from 12 on that are less than half a circle away end at 2147483659; those before 13 begin at 2147483662.
-fn standing_are_told(queue: &PayloadQueue) -> bool {
-    let mut well = true;
-    for (tsn, want) in [
-        (11, true),
-        (12, false),
-        (13, false),
-        (14, true),
-        (2147483659, true),
-        (2147483660, false),
-        (2147483661, false),
-        (2147483662, true),
-    ] {
-        well = well && queue.can_push_no_check(tsn) == want;
-    }
-    well
-}
-
-#[test]
-fn tells_what_may_stand_beside_the_rest(rt: HostRuntime) {
-    let mut queue = PayloadQueue::new(rt.alloc());
-    assert!(rt; fills(&mut queue, 10, &[12, 13]) && standing_are_told(&queue));
+    assert!(rt; fills(&mut queue, 10, &[13, 11, 12], false) && copy_stays(rt.alloc(), &mut queue));
 }

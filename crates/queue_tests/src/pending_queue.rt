@@ -3,7 +3,7 @@
 ghost use Rattle.std.specs.Prelude.{◌≡◌, length};
 
 use crate::chunk::chunk;
-use sctp_chunks::chunk::chunk_payload_data::ChunkPayloadData;
+use sctp_data::chunk::chunk_payload_data::ChunkPayloadData;
 use sctp_queues::pending_queue::PendingQueue;
 use sctp_util::error::Error;
 

@@ -1,458 +1,574 @@
 //! Worked examples of a reassembly queue. Where sets stand is worked out from the order of serial numbers by hand.
 
-use crate::part::{FIRST, LAST, MIDDLE, Part, WHOLE, chunk, ordered, unordered};
+use crate::part::{FIRST, LAST, MIDDLE, WHOLE, ordered, unordered};
+use sctp_data::chunk::chunk_payload_data::ChunkPayloadData;
 use sctp_queues::chunks::Chunks;
 use sctp_queues::reassembly_queue::ReassemblyQueue;
+use sctp_queues::turns::Turns;
 use sctp_util::error::Error;
 use std::alloc::Global;
 
-// Whether the message has these bytes.
+/// A call, and what it answers. An arrival is Some(true) where a message is whole with it, and None where it is refused as too long.
+enum Step {
+    /// TSN, stream sequence number, whether it begins and ends its message, bytes.
+    Ordered(u32, u16, (bool, bool), &'static [u8], Option<bool>),
+    Unordered(u32, (bool, bool), &'static [u8], Option<bool>),
+    /// The next message has these bytes.
+    Read(&'static [u8]),
+    Unreadable,
+    Readable,
+    SkipOrdered(u16),
+    SkipUnordered(u32),
+    SkipIncomplete(u32),
+    /// Up to the stream sequence number 1 and this TSN.
+    SkipBounded(u32),
+    /// How far such a skip may go: TSN, the peer's cumulative TSN.
+    Applicable(u32, u32, Option<u16>),
+    Reset(u32),
+    Subtract(usize),
+    /// The TSNs of the unordered fragments that no message has.
+    Loose(&'static [u32]),
+    /// The stream sequence numbers of the ordered messages.
+    Sets(&'static [u16]),
+    NextSsn(u16),
+    Bytes(usize),
+    /// Of stream 1 and this maximum, with so many unordered messages.
+    Is(u32, usize),
+    /// No unordered message is found in the unassembled fragments.
+    NoneFound,
+}
+
+use Step::{
+    Applicable, Bytes, Is, Loose, NextSsn, NoneFound, Ordered, Read, Readable, Reset, Sets,
+    SkipBounded, SkipIncomplete, SkipOrdered, SkipUnordered, Subtract, Unordered, Unreadable,
+};
+
+// Each case: what it shows, the maximum message size, and its steps.
+const CASES: [(&str, u32, &[Step]); 25] = [
+    (
+        "repeats of an ordered fragment count once",
+        100,
+        &[
+            Ordered(10, 0, FIRST, b"aaa", Some(false)),
+            Ordered(10, 0, FIRST, b"aaa", Some(false)),
+            Bytes(3),
+            Subtract(7),
+            Bytes(0),
+        ],
+    ),
+    (
+        "repeats of an unordered fragment are kept",
+        100,
+        &[
+            Unordered(10, FIRST, b"aaa", Some(false)),
+            Unordered(10, FIRST, b"aaa", Some(false)),
+            Bytes(6),
+            Subtract(7),
+            Bytes(0),
+        ],
+    ),
+    (
+        "an ordered message past the maximum is refused",
+        5,
+        &[
+            Ordered(10, 0, FIRST, b"aaa", Some(false)),
+            Ordered(11, 0, MIDDLE, b"bbb", None),
+            Bytes(3),
+            Is(5, 0),
+        ],
+    ),
+    (
+        "an unordered message past the maximum is refused",
+        5,
+        &[
+            Unordered(10, FIRST, b"aaa", Some(false)),
+            Unordered(12, LAST, b"bb", Some(false)),
+            Unordered(11, MIDDLE, b"c", None),
+            Bytes(5),
+        ],
+    ),
+    (
+        "a message half a circle ahead waits",
+        100,
+        &[
+            Ordered(10, 32768, WHOLE, b"a", Some(true)),
+            Unreadable,
+            SkipOrdered(32768),
+            NextSsn(0),
+            SkipOrdered(32767),
+            NextSsn(32768),
+            Readable,
+            Read(b"a"),
+            NextSsn(32769),
+            Bytes(0),
+        ],
+    ),
+    (
+        "a bounded skip may go so far",
+        100,
+        &[
+            Ordered(10, 0, FIRST, b"a", Some(false)),
+            Ordered(12, 1, WHOLE, b"bc", Some(true)),
+            Applicable(11, 12, Some(1)),
+            Applicable(11, 11, Some(0)),
+            Applicable(10, 9, None),
+        ],
+    ),
+    (
+        "a bounded skip before the missing fragment changes nothing",
+        100,
+        &[
+            Ordered(10, 0, FIRST, b"a", Some(false)),
+            Ordered(12, 1, WHOLE, b"bc", Some(true)),
+            SkipBounded(10),
+            Sets(&[0, 1]),
+            NextSsn(0),
+            Bytes(3),
+        ],
+    ),
+    (
+        "a bounded skip stops before a later message",
+        100,
+        &[
+            Ordered(10, 0, FIRST, b"a", Some(false)),
+            Ordered(12, 1, WHOLE, b"bc", Some(true)),
+            SkipBounded(11),
+            Sets(&[1]),
+            NextSsn(1),
+            Bytes(2),
+        ],
+    ),
+    (
+        "a bounded skip keeps a complete message",
+        100,
+        &[
+            Ordered(10, 0, FIRST, b"a", Some(false)),
+            Ordered(12, 1, WHOLE, b"bc", Some(true)),
+            SkipBounded(12),
+            Sets(&[1]),
+            NextSsn(2),
+            Bytes(2),
+            Read(b"bc"),
+        ],
+    ),
+    (
+        "unordered messages are read first",
+        100,
+        &[
+            Ordered(10, 0, WHOLE, b"aaa", Some(true)),
+            Unordered(12, LAST, b"ccc", Some(false)),
+            Unordered(11, FIRST, b"bbb", Some(true)),
+            Is(100, 1),
+            Read(b"bbbccc"),
+            Read(b"aaa"),
+            NoneFound,
+        ],
+    ),
+    (
+        "interleaved messages come whole over the wrap",
+        2,
+        &[
+            Unordered(2, FIRST, b"x", Some(false)),
+            Unordered(4294967294, FIRST, b"x", Some(false)),
+            Unordered(0, FIRST, b"x", Some(false)),
+            Unordered(1, LAST, b"x", Some(true)),
+            Unordered(3, LAST, b"x", Some(true)),
+            Unordered(5, LAST, b"x", Some(false)),
+            Unordered(4294967295, LAST, b"x", Some(true)),
+            Loose(&[5]),
+        ],
+    ),
+    (
+        "repeats stand side by side and order comes back",
+        4,
+        &[
+            Unordered(10, FIRST, b"x", Some(false)),
+            Unordered(10, FIRST, b"x", Some(false)),
+            Unordered(12, MIDDLE, b"x", Some(false)),
+            Unordered(11, LAST, b"x", Some(true)),
+            Loose(&[10, 12]),
+            Unordered(13, LAST, b"x", Some(false)),
+            Unordered(11, MIDDLE, b"x", Some(true)),
+            Loose(&[]),
+        ],
+    ),
+    (
+        "messages that come in reverse are read in order",
+        100,
+        &[
+            Ordered(4, 4, WHOLE, b"x", Some(true)),
+            Ordered(3, 3, WHOLE, b"x", Some(true)),
+            Ordered(2, 2, WHOLE, b"x", Some(true)),
+            Ordered(1, 1, WHOLE, b"x", Some(true)),
+            Ordered(0, 0, WHOLE, b"x", Some(true)),
+            Sets(&[0, 1, 2, 3, 4]),
+            Read(b"x"),
+            Read(b"x"),
+            Read(b"x"),
+            Read(b"x"),
+            Read(b"x"),
+            Unreadable,
+        ],
+    ),
+    (
+        "messages stand in order where numbers wrap",
+        100,
+        &[
+            SkipOrdered(32767),
+            SkipOrdered(65533),
+            Ordered(1, 1, WHOLE, b"x", Some(true)),
+            Ordered(65534, 65534, WHOLE, b"x", Some(true)),
+            Ordered(0, 0, WHOLE, b"x", Some(true)),
+            Ordered(65535, 65535, WHOLE, b"x", Some(true)),
+            Ordered(2, 2, WHOLE, b"x", Some(true)),
+            Sets(&[65534, 65535, 0, 1, 2]),
+        ],
+    ),
+    (
+        "so they do in another order of arrivals",
+        100,
+        &[
+            SkipOrdered(32767),
+            SkipOrdered(65533),
+            Ordered(65535, 65535, WHOLE, b"x", Some(true)),
+            Ordered(2, 2, WHOLE, b"x", Some(true)),
+            Ordered(65534, 65534, WHOLE, b"x", Some(true)),
+            Ordered(1, 1, WHOLE, b"x", Some(true)),
+            Ordered(0, 0, WHOLE, b"x", Some(true)),
+            Sets(&[65534, 65535, 0, 1, 2]),
+        ],
+    ),
+    (
+        // 0 and 32768 lie half a circle apart, so neither comes before the other; 1 comes before 32768.
+        "a message half a circle away goes behind",
+        100,
+        &[
+            Ordered(0, 0, WHOLE, b"x", Some(true)),
+            Ordered(32768, 32768, WHOLE, b"x", Some(true)),
+            Ordered(1, 1, WHOLE, b"x", Some(true)),
+            Ordered(32767, 32767, WHOLE, b"x", Some(true)),
+            Ordered(1, 1, WHOLE, b"x", Some(false)),
+            Sets(&[0, 1, 32767, 32768]),
+        ],
+    ),
+    (
+        "so it does where it is the first",
+        100,
+        &[
+            Ordered(32768, 32768, WHOLE, b"x", Some(true)),
+            Ordered(0, 0, WHOLE, b"x", Some(true)),
+            Ordered(1, 1, WHOLE, b"x", Some(true)),
+            Ordered(32767, 32767, WHOLE, b"x", Some(true)),
+            Ordered(0, 0, WHOLE, b"x", Some(false)),
+            Sets(&[1, 32767, 32768, 0]),
+        ],
+    ),
+    (
+        "a fragment finds its message among many",
+        100,
+        &[
+            Ordered(11, 5, LAST, b"b", Some(false)),
+            Ordered(5, 2, LAST, b"b", Some(false)),
+            Ordered(9, 4, LAST, b"b", Some(false)),
+            Ordered(7, 3, LAST, b"b", Some(false)),
+            Ordered(8, 4, FIRST, b"a", Some(true)),
+            Ordered(4, 2, FIRST, b"a", Some(true)),
+            Ordered(10, 5, FIRST, b"a", Some(true)),
+            Ordered(6, 3, FIRST, b"a", Some(true)),
+            Sets(&[2, 3, 4, 5]),
+        ],
+    ),
+    (
+        // Two complete messages and a begun one of the old use, which ends with TSN 12, and one of the new use.
+        "a reset keeps complete messages before new ones",
+        100,
+        &[
+            Ordered(10, 0, WHOLE, b"a", Some(true)),
+            Ordered(11, 1, WHOLE, b"b", Some(true)),
+            Ordered(12, 2, FIRST, b"x", Some(false)),
+            Reset(12),
+            Ordered(13, 0, WHOLE, b"c", Some(true)),
+            Bytes(3),
+            Read(b"a"),
+            Read(b"b"),
+            Read(b"c"),
+            NextSsn(1),
+        ],
+    ),
+    (
+        // The end of a message comes too late, and the next one is read.
+        "a skip without names blocks nothing",
+        100,
+        &[
+            Ordered(1, 0, FIRST, b"a", Some(false)),
+            SkipIncomplete(2),
+            Ordered(3, 0, LAST, b"c", Some(false)),
+            Ordered(4, 1, WHOLE, b"d", Some(true)),
+            Read(b"d"),
+            Bytes(0),
+        ],
+    ),
+    (
+        "of three fragments one would be too many",
+        5,
+        &[
+            Ordered(10, 0, FIRST, b"abc", Some(false)),
+            Ordered(11, 0, MIDDLE, b"xyz", None),
+            Unreadable,
+            Ordered(11, 0, LAST, b"d", Some(true)),
+            Read(b"abcd"),
+        ],
+    ),
+    (
+        // The second message is read once the first one is skipped (RFC 3758 3.6).
+        "a message is skipped by its number",
+        5,
+        &[
+            Ordered(10, 0, FIRST, b"a", Some(false)),
+            Ordered(12, 1, WHOLE, b"bcde", Some(true)),
+            NextSsn(0),
+            SkipOrdered(0),
+            NextSsn(1),
+            Bytes(4),
+            Read(b"bcde"),
+            NextSsn(2),
+        ],
+    ),
+    (
+        "a message is skipped by its TSN",
+        5,
+        &[
+            Ordered(10, 0, FIRST, b"a", Some(false)),
+            Ordered(12, 1, WHOLE, b"bcde", Some(true)),
+            NextSsn(0),
+            SkipIncomplete(11),
+            NextSsn(1),
+            Bytes(4),
+            Read(b"bcde"),
+            NextSsn(2),
+        ],
+    ),
+    (
+        // Of 10 and 20 the first one lies up to 19 (RFC 3758 3.6).
+        "unordered fragments are skipped",
+        5,
+        &[
+            Unordered(20, FIRST, b"xy", Some(false)),
+            Unordered(10, FIRST, b"xy", Some(false)),
+            SkipUnordered(19),
+            Loose(&[20]),
+            Bytes(2),
+        ],
+    ),
+    ("half a circle away is not before", 100, HALF_CIRCLE),
+];
+
+const HALF_CIRCLE: &[Step] = &[
+    Unordered(5, MIDDLE, b"x", Some(false)),
+    Unordered(2147483653, MIDDLE, b"x", Some(false)),
+    Unordered(6, MIDDLE, b"x", Some(false)),
+    Unordered(4, MIDDLE, b"x", Some(false)),
+    Unordered(2147483654, MIDDLE, b"x", Some(false)),
+    Loose(&[2147483654, 4, 5, 6, 2147483653]),
+];
+
+const SKIPPED_HALF: &[Step] = &[
+    SkipUnordered(6),
+    Bytes(5),
+    Loose(&[2147483654, 4, 5, 6, 2147483653]),
+    SkipUnordered(5),
+    Loose(&[6, 2147483653]),
+    Bytes(2),
+];
+
+// What a push answered, without the error of a message that is too long.
+fn judged(answer: Result<bool, Error>, want: Option<bool>) -> bool {
+    match answer {
+        Ok(whole) => want == Some(whole),
+        Err(e) => want.is_none() && e == Error::ErrInboundPacketTooLarge,
+    }
+}
+
+// Whether a fragment is taken so. The call that counts its turns is asked first whether the message is too long.
+fn comes(
+    queue: &mut ReassemblyQueue,
+    fragment: Result<ChunkPayloadData, Error>,
+    want: Option<bool>,
+    counted: bool,
+) -> bool {
+    let Ok(fragment) = fragment else {
+        return false;
+    };
+    let mut turns = Turns::new();
+    if !counted {
+        return judged(queue.push(fragment), want);
+    }
+    queue.is_too_large_counted(&fragment, &mut turns) == want.is_none()
+        && judged(queue.push_counted(fragment, &mut turns), want)
+}
+
+// Whether the message has these bytes, at most eight.
 fn has_bytes(message: &Chunks, bytes: &[u8]) -> bool {
     let mut buffer = [0; 8];
     message.read(&mut buffer) == Ok(bytes.len()) && buffer.get(..bytes.len()) == Some(bytes)
 }
 
-// Whether the next message has these bytes.
-fn reads(queue: &mut ReassemblyQueue, bytes: &[u8]) -> bool {
-    match queue.read() {
-        Some(message) => has_bytes(&message, bytes),
+// Whether the next piece of at most three bytes is this one, or none is left for none.
+fn piece_is(alloc: Global, message: &mut Chunks, bytes: &[u8]) -> bool {
+    match message.next_counted(alloc, 3, &mut Turns::new()) {
+        Ok(Some(piece)) => piece.bytes.as_slice() == bytes,
+        Ok(None) => bytes.is_empty(),
+        Err(_) => false,
+    }
+}
+
+// Whether the next message has these bytes, at most six, also in pieces.
+fn reads(alloc: Global, queue: &mut ReassemblyQueue, bytes: &[u8], counted: bool) -> bool {
+    let message = if counted {
+        queue.read_counted(&mut Turns::new())
+    } else {
+        queue.read()
+    };
+    let (first, rest) = bytes.split_at(bytes.len().min(3));
+    match message {
+        Some(mut message) => {
+            has_bytes(&message, bytes)
+                && piece_is(alloc, &mut message, first)
+                && piece_is(alloc, &mut message, rest)
+        }
         None => false,
     }
 }
 
-// Whether the unassembled fragments have these TSNs.
 fn unassembled_are(queue: &ReassemblyQueue, tsns: &[u32]) -> bool {
-    let unassembled = queue.unordered_chunks();
-    let mut well = unassembled.len() == tsns.len();
-    for (fragment, tsn) in unassembled.iter().zip(tsns.iter()) {
+    let mut well = queue.unordered_chunks().len() == tsns.len();
+    for (fragment, tsn) in queue.unordered_chunks().iter().zip(tsns.iter()) {
         well = well && fragment.chunk().tsn == *tsn;
     }
     well
 }
 
-// What comes, and whether a message is whole with it.
-type Arrival = (u32, (bool, bool), bool);
-
-// Whether an unordered fragment makes a message whole, or does not.
-fn comes(alloc: Global, queue: &mut ReassemblyQueue, arrival: Arrival) -> bool {
-    let (tsn, flags, whole) = arrival;
-    match unordered(alloc, tsn, flags, b"x") {
-        Ok(fragment) => queue.push(fragment) == Ok(whole),
-        Err(_) => false,
-    }
-}
-
-fn come(alloc: Global, queue: &mut ReassemblyQueue, arrivals: &[Arrival]) -> bool {
-    let mut well = true;
-    for arrival in arrivals {
-        well = well && comes(alloc, queue, *arrival);
+fn sets_are(queue: &ReassemblyQueue, ssns: &[u16]) -> bool {
+    let mut well = queue.ordered().len() == ssns.len();
+    for (set, ssn) in queue.ordered().iter().zip(ssns.iter()) {
+        well = well && set.ssn() == *ssn;
     }
     well
 }
 
-fn five_middles(alloc: Global, queue: &mut ReassemblyQueue) -> bool {
-    let arrivals = [
-        (5, MIDDLE, false),
-        (2147483653, MIDDLE, false),
-        (6, MIDDLE, false),
-        (4, MIDDLE, false),
-        (2147483654, MIDDLE, false),
-    ];
-    come(alloc, queue, &arrivals) && unassembled_are(queue, &[2147483654, 4, 5, 6, 2147483653])
+// Skips, by the call that counts its turns or the one that does not.
+fn skip(queue: &mut ReassemblyQueue, step: &Step, counted: bool) {
+    let mut turns = Turns::new();
+    match step {
+        SkipOrdered(ssn) if counted => queue.forward_tsn_for_ordered_counted(*ssn, &mut turns),
+        SkipOrdered(ssn) => queue.forward_tsn_for_ordered(*ssn),
+        SkipUnordered(tsn) if counted => queue.forward_tsn_for_unordered_counted(*tsn, &mut turns),
+        SkipUnordered(tsn) => queue.forward_tsn_for_unordered(*tsn),
+        SkipIncomplete(tsn) if counted => {
+            queue.forward_tsn_for_incomplete_counted(*tsn, &mut turns)
+        }
+        SkipIncomplete(tsn) => queue.forward_tsn_for_incomplete(*tsn),
+        SkipBounded(tsn) => queue.forward_tsn_for_ordered_bounded(1, *tsn),
+        Subtract(bytes) => queue.subtract_num_bytes(*bytes),
+        _ => (),
+    }
 }
 
-fn skips_by_half_a_circle(queue: &mut ReassemblyQueue) -> bool {
-    queue.forward_tsn_for_unordered(6);
-    let five = queue.get_num_bytes() == 5;
-    queue.forward_tsn_for_unordered(5);
-    five && unassembled_are(queue, &[6, 2147483653]) && queue.get_num_bytes() == 2
+// Whether a step that changes nothing answers so.
+fn is_seen(queue: &ReassemblyQueue, step: &Step) -> bool {
+    match step {
+        Loose(tsns) => unassembled_are(queue, tsns),
+        Sets(ssns) => sets_are(queue, ssns),
+        NextSsn(ssn) => queue.next_ssn() == *ssn,
+        Bytes(bytes) => queue.get_num_bytes() == *bytes,
+        Readable => queue.is_readable(),
+        Applicable(tsn, peer, want) => {
+            queue.applicable_forward_tsn_for_ordered_bounded(1, *tsn, *peer) == *want
+        }
+        Is(most, unordered) => {
+            queue.si() == 1
+                && queue.max_message_size() == *most
+                && queue.unordered().len() == *unordered
+        }
+        _ => false,
+    }
 }
 
+// Whether a step goes so, by the calls that count their turns where there is one, or by those that do not.
+fn goes(alloc: Global, queue: &mut ReassemblyQueue, step: &Step, counted: bool) -> bool {
+    match step {
+        Ordered(tsn, ssn, flags, bytes, want) => {
+            comes(
+                queue,
+                ordered(alloc, *tsn, *ssn, *flags, bytes),
+                *want,
+                counted,
+            )
+        }
+        Unordered(tsn, flags, bytes, want) => {
+            comes(queue, unordered(alloc, *tsn, *flags, bytes), *want, counted)
+        }
+        Read(bytes) => reads(alloc, queue, bytes, counted),
+        Unreadable => !queue.is_readable() && queue.read().is_none(),
+        Reset(tsn) => queue.reset(*tsn).is_ok(),
+        NoneFound => matches!(queue.find_complete_unordered_chunk_set(alloc), Ok(None)),
+        SkipOrdered(_) | SkipUnordered(_) | SkipIncomplete(_) | SkipBounded(_) | Subtract(_) => {
+            skip(queue, step, counted);
+            true
+        }
+        _ => is_seen(queue, step),
+    }
+}
+
+fn all_go(alloc: Global, queue: &mut ReassemblyQueue, steps: &[Step], counted: bool) -> bool {
+    let mut well = true;
+    for step in steps {
+        well = well && goes(alloc, queue, step, counted);
+    }
+    well
+}
+
+/// Each case goes by the calls that count their turns as by those that do not.
+#[test]
+fn reassembly_cases(rt: HostRuntime) {
+    for (name, most, steps) in CASES {
+        for counted in [false, true] {
+            let mut queue = ReassemblyQueue::new(rt.alloc(), 1, most);
+            assert!(rt; all_go(rt.alloc(), &mut queue, steps, counted), "{name}");
+        }
+    }
+}
+
+// Skips change the queue and leave its copy.
 fn copy_stays(alloc: Global, queue: &mut ReassemblyQueue) -> bool {
     match queue.try_clone(alloc) {
         Ok(copy) => {
-            skips_by_half_a_circle(queue)
+            all_go(alloc, queue, SKIPPED_HALF, false)
                 && unassembled_are(&copy, &[2147483654, 4, 5, 6, 2147483653])
         }
         Err(_) => false,
     }
 }
 
-#[test]
-fn half_a_circle_away_is_not_before(rt: HostRuntime) {
-    let alloc = rt.alloc();
-    let mut queue = ReassemblyQueue::new(alloc, 1, 100);
-    assert!(rt; five_middles(alloc, &mut queue) && copy_stays(alloc, &mut queue));
-}
-
-// Whether the part is refused as too long.
-fn is_refused(alloc: Global, queue: &mut ReassemblyQueue, part: &Part) -> Result<bool, Error> {
-    match queue.push(chunk(alloc, part)?) {
-        Ok(_) => Ok(false),
-        Err(Error::ErrInboundPacketTooLarge) => Ok(true),
-        Err(e) => Err(e),
-    }
-}
-
-// Whether one of these parts is refused as too long, or none is.
-fn fills(alloc: Global, queue: &mut ReassemblyQueue, parts: &[Part], want: bool) -> bool {
-    let mut well = true;
-    let mut refused = false;
-    for part in parts {
-        match is_refused(alloc, queue, part) {
-            Ok(more) => refused = refused || more,
-            Err(_) => well = false,
+// A message that comes whole, and the push is undone.
+fn leaves_nothing(alloc: Global, queue: &mut ReassemblyQueue) -> bool {
+    let Ok(fragment) = ordered(alloc, 10, 0, WHOLE, b"abc") else {
+        return false;
+    };
+    match queue.push_undoable_counted(fragment, &mut Turns::new()) {
+        Ok((whole, undo)) => {
+            let was_readable = queue.is_readable();
+            queue.undo_push(undo);
+            whole && was_readable && !queue.is_readable() && queue.get_num_bytes() == 0
         }
-    }
-    well && refused == want
-}
-
-fn fragment(tsn: u32, unordered: bool, flags: (bool, bool), bytes: &[u8]) -> Part {
-    Part {
-        tsn,
-        ssn: 0,
-        unordered,
-        begins: flags.0,
-        ends: flags.1,
-        bytes,
-    }
-}
-
-fn repeats_count(alloc: Global, queue: &mut ReassemblyQueue, unordered: bool, want: usize) -> bool {
-    let parts = [
-        fragment(10, unordered, FIRST, b"aaa"),
-        fragment(10, unordered, FIRST, b"aaa"),
-    ];
-    let well = fills(alloc, queue, &parts, false) && queue.get_num_bytes() == want;
-    queue.subtract_num_bytes(7);
-    well && queue.get_num_bytes() == 0
-}
-
-#[test]
-fn repeats_are_counted_where_they_are_kept(rt: HostRuntime) {
-    let alloc = rt.alloc();
-    let mut queue = ReassemblyQueue::new(alloc, 1, 100);
-    assert!(rt; repeats_count(alloc, &mut queue, false, 3));
-    let mut queue = ReassemblyQueue::new(alloc, 1, 100);
-    assert!(rt; repeats_count(alloc, &mut queue, true, 6));
-}
-
-fn ordered_is_refused(alloc: Global, queue: &mut ReassemblyQueue) -> bool {
-    let parts = [
-        fragment(10, false, FIRST, b"aaa"),
-        fragment(11, false, MIDDLE, b"bbb"),
-    ];
-    fills(alloc, queue, &parts, true) && queue.get_num_bytes() == 3 && queue.max_message_size() == 5
-}
-
-fn unordered_is_refused(alloc: Global, queue: &mut ReassemblyQueue) -> bool {
-    let parts = [
-        fragment(10, true, FIRST, b"aaa"),
-        fragment(12, true, LAST, b"bb"),
-        fragment(11, true, MIDDLE, b"c"),
-    ];
-    fills(alloc, queue, &parts, true) && queue.get_num_bytes() == 5
-}
-
-#[test]
-fn a_message_past_the_maximum_is_refused(rt: HostRuntime) {
-    let alloc = rt.alloc();
-    let mut queue = ReassemblyQueue::new(alloc, 1, 5);
-    assert!(rt; ordered_is_refused(alloc, &mut queue));
-    let mut queue = ReassemblyQueue::new(alloc, 1, 5);
-    assert!(rt; unordered_is_refused(alloc, &mut queue));
-}
-
-// Whether an ordered fragment makes a message whole, or does not.
-fn takes(
-    alloc: Global,
-    queue: &mut ReassemblyQueue,
-    numbers: (u32, u16),
-    arrival: ((bool, bool), &[u8], bool),
-) -> bool {
-    let (flags, bytes, whole) = arrival;
-    match ordered(alloc, numbers.0, numbers.1, flags, bytes) {
-        Ok(fragment) => queue.push(fragment) == Ok(whole),
         Err(_) => false,
     }
 }
 
-fn waits(alloc: Global, queue: &mut ReassemblyQueue) -> bool {
-    takes(alloc, queue, (10, 32768), (WHOLE, b"a", true))
-        && !queue.is_readable()
-        && queue.read().is_none()
-}
-
-// Whether the next number after a skip up to this one is that one.
-fn goes_on_at(queue: &mut ReassemblyQueue, skipped: u16, want: u16) -> bool {
-    queue.forward_tsn_for_ordered(skipped);
-    queue.next_ssn() == want
-}
-
-fn is_skipped_to(queue: &mut ReassemblyQueue) -> bool {
-    goes_on_at(queue, 32768, 0)
-        && goes_on_at(queue, 32767, 32768)
-        && queue.is_readable()
-        && reads(queue, b"a")
-        && queue.next_ssn() == 32769
-        && queue.get_num_bytes() == 0
-}
-
 #[test]
-fn a_set_half_a_circle_ahead_waits(rt: HostRuntime) {
-    let alloc = rt.alloc();
-    let mut queue = ReassemblyQueue::new(alloc, 1, 100);
-    assert!(rt; waits(alloc, &mut queue) && is_skipped_to(&mut queue));
-}
-
-// SSN 0 begun with TSN 10, SSN 1 whole with TSN 12.
-fn gapped(alloc: Global, queue: &mut ReassemblyQueue) -> bool {
-    takes(alloc, queue, (10, 0), (FIRST, b"a", false))
-        && takes(alloc, queue, (12, 1), (WHOLE, b"bc", true))
-}
-
-fn skips_so_far(queue: &ReassemblyQueue) -> bool {
-    let mut well = true;
-    for (tsn, peer, want) in [(11, 12, Some(1)), (11, 11, Some(0)), (10, 9, None)] {
-        well = well && queue.applicable_forward_tsn_for_ordered_bounded(1, tsn, peer) == want;
-    }
-    well
-}
-
-#[test]
-fn a_bounded_skip_may_go_so_far(rt: HostRuntime) {
-    let alloc = rt.alloc();
-    let mut queue = ReassemblyQueue::new(alloc, 1, 100);
-    assert!(rt; gapped(alloc, &mut queue) && skips_so_far(&queue));
-}
-
-// Whether a skip to this TSN leaves so many sets, this next number and so many bytes.
-fn leaves(alloc: Global, queue: &mut ReassemblyQueue, tsn: u32, want: (usize, u16, usize)) -> bool {
-    let well = gapped(alloc, queue);
-    queue.forward_tsn_for_ordered_bounded(1, tsn);
-    well && queue.ordered().len() == want.0
-        && queue.next_ssn() == want.1
-        && queue.get_num_bytes() == want.2
-}
-
-#[test]
-fn a_bounded_skip_stops_before_later_messages(rt: HostRuntime) {
-    let alloc = rt.alloc();
-    let mut queue = ReassemblyQueue::new(alloc, 1, 100);
-    assert!(rt; leaves(alloc, &mut queue, 10, (2, 0, 3)));
-    let mut queue = ReassemblyQueue::new(alloc, 1, 100);
-    assert!(rt; leaves(alloc, &mut queue, 11, (1, 1, 2)));
-    let mut queue = ReassemblyQueue::new(alloc, 1, 100);
-    assert!(rt; leaves(alloc, &mut queue, 12, (1, 2, 2)) && reads(&mut queue, b"bc"));
-}
-
-fn ordered_comes_first(alloc: Global, queue: &mut ReassemblyQueue) -> bool {
-    let parts = [
-        fragment(10, false, WHOLE, b"aaa"),
-        fragment(12, true, LAST, b"ccc"),
-        fragment(11, true, FIRST, b"bbb"),
-    ];
-    fills(alloc, queue, &parts, false) && queue.si() == 1 && queue.unordered().len() == 1
-}
-
-fn has_no_more(alloc: Global, queue: &mut ReassemblyQueue) -> bool {
-    match queue.find_complete_unordered_chunk_set(alloc) {
-        Ok(found) => found.is_none(),
-        Err(_) => false,
-    }
-}
-
-fn unordered_is_first(alloc: Global, queue: &mut ReassemblyQueue) -> bool {
-    reads(queue, b"bbbccc") && reads(queue, b"aaa") && has_no_more(alloc, queue)
-}
-
-#[test]
-fn unordered_messages_are_read_first(rt: HostRuntime) {
-    let alloc = rt.alloc();
-    let mut queue = ReassemblyQueue::new(alloc, 1, 100);
-    assert!(rt; ordered_comes_first(alloc, &mut queue) && unordered_is_first(alloc, &mut queue));
-}
-
-fn interleaved(alloc: Global, queue: &mut ReassemblyQueue) -> bool {
-    let arrivals = [
-        (2, FIRST, false),
-        (4294967294, FIRST, false),
-        (0, FIRST, false),
-        (1, LAST, true),
-        (3, LAST, true),
-        (5, LAST, false),
-        (4294967295, LAST, true),
-    ];
-    come(alloc, queue, &arrivals) && unassembled_are(queue, &[5])
-}
-
-#[test]
-fn interleaved_messages_come_whole_over_the_wrap(rt: HostRuntime) {
-    let mut queue = ReassemblyQueue::new(rt.alloc(), 1, 2);
-    assert!(rt; interleaved(rt.alloc(), &mut queue));
-}
-
-fn repeats_stand(alloc: Global, queue: &mut ReassemblyQueue) -> bool {
-    let arrivals = [
-        (10, FIRST, false),
-        (10, FIRST, false),
-        (12, MIDDLE, false),
-        (11, LAST, true),
-    ];
-    come(alloc, queue, &arrivals) && unassembled_are(queue, &[10, 12])
-}
-
-fn order_comes_back(alloc: Global, queue: &mut ReassemblyQueue) -> bool {
-    comes(alloc, queue, (13, LAST, false))
-        && comes(alloc, queue, (11, MIDDLE, true))
-        && unassembled_are(queue, &[])
-}
-
-#[test]
-fn repeats_stand_side_by_side_and_order_comes_back(rt: HostRuntime) {
-    let alloc = rt.alloc();
-    let mut queue = ReassemblyQueue::new(alloc, 1, 4);
-    assert!(rt; repeats_stand(alloc, &mut queue) && order_comes_back(alloc, &mut queue));
-}
-
-// Whether complete messages of these numbers come.
-fn came(alloc: Global, queue: &mut ReassemblyQueue, ssns: &[u16]) -> bool {
-    let mut well = true;
-    for ssn in ssns {
-        well = well && is_taken(alloc, queue, *ssn);
-    }
-    well
-}
-
-fn is_taken(alloc: Global, queue: &mut ReassemblyQueue, ssn: u16) -> bool {
-    match ordered(alloc, u32::from(ssn), ssn, WHOLE, b"x") {
-        Ok(message) => queue.push(message).is_ok(),
-        Err(_) => false,
-    }
-}
-
-// Whether the sets have these numbers.
-fn ssns_are(queue: &ReassemblyQueue, want: &[u16]) -> bool {
-    let mut well = queue.ordered().len() == want.len();
-    for (set, ssn) in queue.ordered().iter().zip(want.iter()) {
-        well = well && set.ssn() == *ssn;
-    }
-    well
-}
-
-// Whether complete messages of these numbers come and stand in this order.
-fn stand(alloc: Global, queue: &mut ReassemblyQueue, ssns: &[u16], want: &[u16]) -> bool {
-    came(alloc, queue, ssns) && ssns_are(queue, want)
-}
-
-fn five_are_read(queue: &mut ReassemblyQueue) -> bool {
-    let mut well = true;
-    for _ in 0..5 {
-        well = well && reads(queue, b"x");
-    }
-    well && !queue.is_readable()
-}
-
-#[test]
-fn messages_that_come_in_reverse_are_read_in_order(rt: HostRuntime) {
+fn a_push_is_undone_and_a_copy_stays(rt: HostRuntime) {
     let mut queue = ReassemblyQueue::new(rt.alloc(), 1, 100);
-    let well = stand(rt.alloc(), &mut queue, &[4, 3, 2, 1, 0], &[0, 1, 2, 3, 4]);
-    assert!(rt; well && five_are_read(&mut queue));
-}
-
-fn stand_over_the_wrap(alloc: Global, queue: &mut ReassemblyQueue, ssns: &[u16]) -> bool {
-    queue.forward_tsn_for_ordered(32767);
-    queue.forward_tsn_for_ordered(65533);
-    stand(alloc, queue, ssns, &[65534, 65535, 0, 1, 2])
-}
-
-#[test]
-fn messages_stand_in_order_where_numbers_wrap(rt: HostRuntime) {
-    let alloc = rt.alloc();
-    let mut queue = ReassemblyQueue::new(alloc, 1, 100);
-    assert!(rt; stand_over_the_wrap(alloc, &mut queue, &[1, 65534, 0, 65535, 2]));
-    let mut queue = ReassemblyQueue::new(alloc, 1, 100);
-    assert!(rt; stand_over_the_wrap(alloc, &mut queue, &[65535, 2, 65534, 1, 0]));
-}
-
-// 0 and 32768 lie half a circle apart, so neither comes before the other; 1 comes before 32768.
-#[test]
-fn a_message_half_a_circle_away_goes_behind(rt: HostRuntime) {
-    let alloc = rt.alloc();
-    let mut queue = ReassemblyQueue::new(alloc, 1, 100);
-    assert!(rt;
-        stand(
-            alloc,
-            &mut queue,
-            &[0, 32768, 1, 32767, 1],
-            &[0, 1, 32767, 32768]
-        )
-    );
-    let mut queue = ReassemblyQueue::new(alloc, 1, 100);
-    assert!(rt;
-        stand(
-            alloc,
-            &mut queue,
-            &[32768, 0, 1, 32767, 0],
-            &[1, 32767, 32768, 0]
-        )
-    );
-}
-
-fn ends_come(alloc: Global, queue: &mut ReassemblyQueue) -> bool {
-    let mut well = true;
-    for numbers in [(11, 5), (5, 2), (9, 4), (7, 3)] {
-        well = well && takes(alloc, queue, numbers, (LAST, b"b", false));
-    }
-    well
-}
-
-fn beginnings_come(alloc: Global, queue: &mut ReassemblyQueue) -> bool {
-    let mut well = true;
-    for numbers in [(8, 4), (4, 2), (10, 5), (6, 3)] {
-        well = well && takes(alloc, queue, numbers, (FIRST, b"a", true));
-    }
-    well && ssns_are(queue, &[2, 3, 4, 5])
-}
-
-#[test]
-fn a_fragment_finds_its_message_among_many(rt: HostRuntime) {
-    let alloc = rt.alloc();
-    let mut queue = ReassemblyQueue::new(alloc, 1, 100);
-    assert!(rt; ends_come(alloc, &mut queue) && beginnings_come(alloc, &mut queue));
-}
-
-// Two complete messages and a begun one of the old use, which ends with TSN 12, and one of the new use.
-fn is_reset(alloc: Global, queue: &mut ReassemblyQueue) -> bool {
-    takes(alloc, queue, (10, 0), (WHOLE, b"a", true))
-        && takes(alloc, queue, (11, 1), (WHOLE, b"b", true))
-        && takes(alloc, queue, (12, 2), (FIRST, b"x", false))
-        && queue.reset(12) == Ok(())
-        && takes(alloc, queue, (13, 0), (WHOLE, b"c", true))
-        && queue.get_num_bytes() == 3
-}
-
-#[test]
-fn a_reset_keeps_complete_messages_before_new_ones(rt: HostRuntime) {
-    let alloc = rt.alloc();
-    let mut queue = ReassemblyQueue::new(alloc, 1, 100);
-    assert!(rt; is_reset(alloc, &mut queue) && reads(&mut queue, b"a"));
-    assert!(rt; reads(&mut queue, b"b") && reads(&mut queue, b"c") && queue.next_ssn() == 1);
-}
-
-// The end of a message comes too late, and the next one is read.
-fn is_not_waited_for(alloc: Global, queue: &mut ReassemblyQueue) -> bool {
-    takes(alloc, queue, (3, 0), (LAST, b"c", false))
-        && takes(alloc, queue, (4, 1), (WHOLE, b"d", true))
-        && reads(queue, b"d")
-        && queue.get_num_bytes() == 0
-}
-
-#[test]
-fn a_skip_without_names_blocks_nothing(rt: HostRuntime) {
-    let alloc = rt.alloc();
-    let mut queue = ReassemblyQueue::new(alloc, 1, 100);
-    assert!(rt; takes(alloc, &mut queue, (1, 0), (FIRST, b"a", false)));
-    queue.forward_tsn_for_incomplete(2);
-    assert!(rt; is_not_waited_for(alloc, &mut queue));
+    assert!(rt; leaves_nothing(rt.alloc(), &mut queue));
+    assert!(rt; all_go(rt.alloc(), &mut queue, HALF_CIRCLE, false));
+    assert!(rt; copy_stays(rt.alloc(), &mut queue));
 }

@@ -1,93 +1,80 @@
-//! Plays a script of every event to two links in step, and sees that a refusal of memory changes nothing.
+//! Plays scripts to two links in step, and sees that a refusal of memory changes nothing.
 //!
 //! A link that answers OutOfMemory is compared with its twin, to which that event was not given yet, and is given the
-//! event again. Where all is as it ought to be, the one line that is printed begins with `same`, and the status is 0.
+//! event again. Each event must have the reply that stands behind it, and both links must be alike after it. Where all is as it ought
+//! to be, the one line that is printed begins with `same`, and the status is 0.
 //!
-//! The number on standard input says how often memory is taken, and given back, before the script begins. So where
-//! each run has the same allocation refused, this number says which one of the script it is.
+//! The first line on standard input says how often memory is taken, and given back, before the scripts begin. So where
+//! each run has the same allocation refused, this number says which one of the scripts it is. Behind that line stand the
+//! scripts, with an empty line between two, and behind each event its reply: `open 1: opened`.
 #![tactic(auto)]
 
 mod compare;
-mod script;
-mod told;
 mod turn;
 
-use crate::script::{ALL_EVENTS, EVENTS};
-use crate::turn::{Fault, Refused, Zero, play};
-use sctp_link::link::Link;
+use crate::turn::{Fault, Refused, State, Zero, play_line};
+use linkscript::script::read_link;
 use std::alloc::Global;
 use std::io::{self, Read, Write};
 use std::process::ExitCode;
 
-/// Plays the whole script, its second part with links of several chunks a datagram. Tells where memory was refused;
-/// else what differed, and in which event.
-fn play_all(alloc: Global) -> Result<Refused, (usize, Fault)> {
-    let mut refused = Refused::Nowhere;
-    play_single(alloc, &mut refused)?;
-    play_several(alloc, &mut refused)?;
-    Ok(refused)
-}
-
-/// Plays the part with one chunk a datagram.
-fn play_single(alloc: Global, refused: &mut Refused) -> Result<(), (usize, Fault)> {
-    let mut link = Link::new(alloc, 4_294_967_290, 3, 100, Zero);
-    let mut twin = Link::new(alloc, 4_294_967_290, 3, 100, Zero);
-    play_from(alloc, &mut link, &mut twin, 0, EVENTS, refused)
-}
-
-/// Plays the part with several.
-fn play_several(alloc: Global, refused: &mut Refused) -> Result<(), (usize, Fault)> {
-    let mut link = Link::with_limit(alloc, 4_294_967_290, 3, 100, 60, Zero);
-    let mut twin = Link::with_limit(alloc, 4_294_967_290, 3, 100, 60, Zero);
-    play_from(alloc, &mut link, &mut twin, EVENTS, ALL_EVENTS, refused)
-}
-
-/// Plays the events from one on to another, and tells what differed, and in which.
-fn play_from(
-    alloc: Global,
-    link: &mut Link<Zero>,
-    twin: &mut Link<Zero>,
-    first: usize,
-    end: usize,
-    refused: &mut Refused,
-) -> Result<(), (usize, Fault)> {
-    for turn in first..end {
-        if let Err(what) = play(alloc, link, twin, turn, refused) {
-            return Err((turn, what));
-        }
+/// Plays scripts, with an empty line between two.
+fn play_scripts(alloc: Global, scripts: &str, state: &mut State) -> Result<(), Fault> {
+    for script in scripts.split("\n\n") {
+        play_script(alloc, script, state)?;
     }
     Ok(())
 }
 
-/// The number on standard input, 0 where there is none.
-fn read_number<R: Read>(input: &mut R) -> usize {
-    let mut digits = [0u8; 8];
-    let Ok(count) = input.read(&mut digits) else {
-        return 0;
+fn play_script(alloc: Global, script: &str, state: &mut State) -> Result<(), Fault> {
+    state.line = state.line.saturating_add(2);
+    let mut lines = script.split('\n');
+    let first = lines.next().unwrap_or("");
+    let Some(mut play) = read_link(alloc, Zero, first) else {
+        return Err("a first line");
     };
-    match str::from_utf8(&digits[..count.min(8)]) {
-        Ok(text) => text.trim_end().parse::<usize>().unwrap_or(0),
-        Err(_) => 0,
+    let Some(mut twin) = read_link(alloc, Zero, first) else {
+        return Err("a first line");
+    };
+    for line in lines {
+        state.line = state.line.saturating_add(1);
+        play_line(alloc, &mut play, &mut twin.link, line, state)?;
+    }
+    Ok(())
+}
+
+fn print<W: Write>(output: &mut W, outcome: Result<(), Fault>, state: &State) -> io::Result<()> {
+    match (outcome, state.refused) {
+        (Err(what), _) => write!(output, "differs at line {}: {what}\n", state.line),
+        (Ok(()), Refused::Nowhere) => write!(output, "same\n"),
+        (Ok(()), Refused::Line(line)) => write!(output, "same, line {line} refused\n"),
+        (Ok(()), Refused::Beside) => write!(output, "same, refused beside the link\n"),
     }
 }
 
-fn print<W: Write>(output: &mut W, outcome: Result<Refused, (usize, Fault)>) -> io::Result<()> {
-    match outcome {
-        Ok(Refused::Nowhere) => write!(output, "same\n"),
-        Ok(Refused::Event(turn)) => write!(output, "same, event {turn} refused\n"),
-        Ok(Refused::Beside) => write!(output, "same, refused beside the link\n"),
-        Err((turn, what)) => write!(output, "differs at event {turn}: {what}\n"),
+/// Takes memory so often, and gives it back.
+fn take_memory(alloc: Global, number: &str) {
+    for _ in 0..number.parse::<u32>().unwrap_or(0) {
+        let _ = Vec::from_elem(alloc, 0u8, 1);
     }
 }
 
 fn main(rt: HostRuntime) -> ExitCode {
     let alloc = rt.alloc();
-    for _ in 0..read_number(&mut rt.reader()) {
-        let _ = Vec::from_elem(alloc, 0u8, 1);
+    let mut input = Vec::new(alloc);
+    if rt.reader().read_to_end(&mut input).is_err() {
+        return ExitCode::FAILURE;
     }
-    let outcome = play_all(alloc);
-    match (print(&mut io::writer(&rt), outcome), outcome) {
-        (Ok(()), Ok(_)) => ExitCode::SUCCESS,
+    let text = str::from_utf8(&input).unwrap_or("").trim_end();
+    let (number, scripts) = text.split_once("\n\n").unwrap_or((text, ""));
+    take_memory(alloc, number);
+    let mut state = State {
+        line: 1,
+        refused: Refused::Nowhere,
+    };
+    let outcome = play_scripts(alloc, scripts, &mut state);
+    match (print(&mut io::writer(&rt), outcome, &state), outcome) {
+        (Ok(()), Ok(())) => ExitCode::SUCCESS,
         _ => ExitCode::FAILURE,
     }
 }

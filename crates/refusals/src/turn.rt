@@ -1,12 +1,13 @@
-//! One event of the script, given to both links.
+//! One event of a script, given to both links.
 
 use crate::compare::difference;
-use crate::script::event;
-use crate::told::told_by;
+use linkscript::run::RunFault;
+use linkscript::script::{LineFault, Play, print_reply, read_event};
 use sctp_link::event::{Event, LinkRefusal, Reply};
 use sctp_link::link::Link;
 use sctp_util::util::Checksum;
 use std::alloc::Global;
+use std::io::{self, Write};
 
 /// The checksum that is always 0.
 #[derive(Clone, Copy)]
@@ -24,25 +25,41 @@ impl Checksum for Zero {
 #[derive(Clone, Copy)]
 pub enum Refused {
     Nowhere,
-    /// To the first link, in this event.
-    Event(usize),
-    /// To its twin, or where an event was made.
+    /// To the first link, in the event of this line.
+    Line(u64),
+    /// To its twin, or where an event was read or a reply printed.
     Beside,
+}
+
+/// The line that is played, and where memory was refused so far.
+#[derive(Drop)]
+pub struct State {
+    pub line: u64,
+    pub refused: Refused,
 }
 
 /// What was not as it ought to be.
 pub type Fault = &'static str;
 
-/// Makes an event of the script, again where memory was refused.
-fn made(alloc: Global, turn: usize, refused: &mut Refused) -> Result<Event, Fault> {
-    if let Ok(event) = event(alloc, turn) {
-        return Ok(event);
+/// Reads an event, again where memory was refused.
+fn made(alloc: Global, line: &str, state: &mut State) -> Result<Event, Fault> {
+    let mut read = read_event(alloc, line);
+    if matches!(read, Err(LineFault::Memory)) {
+        state.refused = Refused::Beside;
+        read = read_event(alloc, line);
     }
-    *refused = Refused::Beside;
-    match event(alloc, turn) {
+    match read {
         Ok(event) => Ok(event),
-        Err(_) => Err("an event was not made"),
+        Err(_) => Err("an event was not read"),
     }
+}
+
+/// Whether an event may be refused memory.
+fn may_be_refused(line: &str) -> bool {
+    !line.starts_with("mode ")
+        && !line.starts_with("start ")
+        && !line.starts_with("expire ")
+        && !line.starts_with("read ")
 }
 
 /// Gives the first link an event that its twin did not have yet. Where memory is refused, both must be as before, and it
@@ -51,47 +68,113 @@ fn give(
     alloc: Global,
     link: &mut Link<Zero>,
     twin: &Link<Zero>,
-    turn: usize,
-    refused: &mut Refused,
+    line: &str,
+    state: &mut State,
 ) -> Result<Result<Reply, LinkRefusal>, Fault> {
-    let reply = link.step(made(alloc, turn, refused)?);
+    let reply = link.step(made(alloc, line, state)?);
     if !matches!(reply, Err(LinkRefusal::OutOfMemory)) {
         return Ok(reply);
     }
-    *refused = Refused::Event(turn);
+    state.refused = Refused::Line(state.line);
+    if !may_be_refused(line) {
+        return Err("an event that takes no memory was refused");
+    }
     match difference(link, twin) {
         Some(what) => Err(what),
-        None => Ok(link.step(made(alloc, turn, refused)?)),
+        None => Ok(link.step(made(alloc, line, state)?)),
     }
 }
 
-/// Whether both took the event, and tell the same.
-fn is_alike(reply: &Result<Reply, LinkRefusal>, other: &Result<Reply, LinkRefusal>) -> bool {
-    match (reply, other) {
-        (Ok(reply), Ok(other)) => told_by(reply) == told_by(other),
-        _ => false,
-    }
-}
-
-/// Gives an event of the script to the first link and then to its twin. Each must take it in the end; then both links, and
-/// their replies, must be alike.
-pub fn play(
+/// Gives the twin an event, again where memory was refused.
+fn give_twin(
     alloc: Global,
-    link: &mut Link<Zero>,
     twin: &mut Link<Zero>,
-    turn: usize,
-    refused: &mut Refused,
-) -> Result<(), Fault> {
-    let reply = give(alloc, link, twin, turn, refused)?;
-    let mut other = twin.step(made(alloc, turn, refused)?);
-    if matches!(other, Err(LinkRefusal::OutOfMemory)) {
-        *refused = Refused::Beside;
-        other = twin.step(made(alloc, turn, refused)?);
+    line: &str,
+    state: &mut State,
+) -> Result<Result<Reply, LinkRefusal>, Fault> {
+    let reply = twin.step(made(alloc, line, state)?);
+    if !matches!(reply, Err(LinkRefusal::OutOfMemory)) {
+        return Ok(reply);
     }
-    if !is_alike(&reply, &other) {
+    state.refused = Refused::Beside;
+    Ok(twin.step(made(alloc, line, state)?))
+}
+
+/// The text that is to be printed, of which this is left, as far as what was printed is like it.
+#[derive(Drop)]
+struct Sought<'a> {
+    rest: &'a [u8],
+    alike: bool,
+}
+
+impl Write for Sought<'_> {
+    fn write(&mut self, buf: &[u8]) -> io::Result<usize> {
+        match self
+            .rest
+            .strip_prefix(buf.strip_suffix(b"\n").unwrap_or(buf))
+        {
+            Some(rest) => self.rest = rest,
+            None => self.alike = false,
+        }
+        Ok(buf.len())
+    }
+
+    fn flush(&mut self) -> io::Result<()> {
+        Ok(())
+    }
+}
+
+/// Whether a reply is printed like this, None where memory is refused.
+fn is_printed(
+    alloc: Global,
+    reply: &Result<Reply, LinkRefusal>,
+    counts: bool,
+    want: &str,
+) -> Option<bool> {
+    let mut sought = Sought {
+        rest: want.as_bytes(),
+        alike: true,
+    };
+    match print_reply(alloc, &mut sought, reply, counts) {
+        Ok(()) => Some(sought.alike && sought.rest.is_empty()),
+        Err(RunFault::Memory) => None,
+        Err(_) => Some(false),
+    }
+}
+
+/// Whether a reply is printed like this, again where memory was refused.
+fn is_due(
+    alloc: Global,
+    reply: &Result<Reply, LinkRefusal>,
+    counts: bool,
+    want: &str,
+    state: &mut State,
+) -> bool {
+    if let Some(due) = is_printed(alloc, reply, counts, want) {
+        return due;
+    }
+    state.refused = Refused::Beside;
+    is_printed(alloc, reply, counts, want) == Some(true)
+}
+
+/// Gives an event to the first link and then to its twin. Each must answer what stands behind the event, and then both links must
+/// be alike.
+pub fn play_line(
+    alloc: Global,
+    play: &mut Play<Zero>,
+    twin: &mut Link<Zero>,
+    line: &str,
+    state: &mut State,
+) -> Result<(), Fault> {
+    let (event, want) = line.split_once(": ").unwrap_or((line, ""));
+    let reply = give(alloc, &mut play.link, twin, event, state)?;
+    let other = give_twin(alloc, twin, event, state)?;
+    if !is_due(alloc, &reply, play.counts, want, state)
+        || !is_due(alloc, &other, play.counts, want, state)
+    {
         return Err("the reply");
     }
-    match difference(link, twin) {
+    match difference(&play.link, twin) {
         Some(what) => Err(what),
         None => Ok(()),
     }

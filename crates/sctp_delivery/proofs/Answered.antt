@@ -14,7 +14,6 @@ use Rattle.sctp_data.specs.SelectiveAck.{Sack}
 use Rattle.sctp_outbound.specs.Marks.{as_acknowledged}
 use Rattle.sctp_outbound.specs.pending_queue.PendingQueue.{last_of}
 use Rattle.sctp_outbound.specs.pending_queue.Whole.{ends}
-use Rattle.sctp_receiver.specs.Receiver.{sack}
 use Rattle.sctp_serial.specs.DataChunks.{following_tsn}
 use Rattle.sctp_sender.specs.Abandonment.{advanced_ack_point, can_skip_to, last_end}
 use Rattle.sctp_sender.specs.Flight.{Flight, after_sack, is_outdated, reports_anew, take_sack}
@@ -30,8 +29,9 @@ use Rattle.sctp_delivery.proofs.Every.{Every, every-changed, every-of-all, every
 use Rattle.sctp_delivery.proofs.GivenTsns.{IsNumbered, taken-numbered}
 use Rattle.sctp_delivery.proofs.PassedTsns.{lead, lead-within, point-ahead, point-is, rest-run}
 use Rattle.sctp_delivery.proofs.Reached.{IsReached, kept}
+use Rattle.sctp_delivery.proofs.SackCalls.{cumulative-of}
 use Rattle.sctp_delivery.proofs.SackLaws.{IsInStep}
-use Rattle.sctp_delivery.proofs.AnsweredCalls.{next-sack-tells}
+use Rattle.sctp_delivery.proofs.AnsweredCalls.{next-untaken}
 use Rattle.sctp_delivery.proofs.SackSteps.{known}
 use Rattle.sctp_delivery.proofs.TsnPlaces.{at-or-before, base, before, next-place, same-place}
 use Rattle.sctp_delivery.proofs.UnwrappedSessions.{unwrapped}
@@ -109,44 +109,44 @@ module _ (first n : ℕ) (s t : Session) (few : n < 2 ^ 31) (i : IsReached first
 
   -- the SACK tells of it
   abbrev k : Sack
-  k = sack a.credit s.receiving.receiver
+  k = a.sack
 
-  same-sack : a.sack ≡ sack a.credit s.receiving.receiver
-  same-sack = let e : a.sack ∷ s.sacks ≡ sack a.credit s.receiving.receiver ∷ s.sacks = sym a.made ∙ ap (λ (x : Session). x.sacks) a.reporting.after in cc
+  -- it has the cumulative TSN of the receiver
+  cumulative : a.sack.cumulative_tsn_ack ≡ s.receiving.receiver.cumulative_tsn
+  cumulative = cumulative-of a.call s a.reported a.sack a.makes a.reporting a.made
 
-  after : t.sending.sender.flight ≡ after_sack (sack a.credit s.receiving.receiver) s.sending.sender.flight
+  told : a.sack.cumulative_tsn_ack ≡ tsn (base first) q
+  told = cumulative ∙ step.arrived.is
+
+  after : t.sending.sender.flight ≡ after_sack a.sack s.sending.sender.flight
   after =
-      ap (λ (u : Transmission). u.flight) a.taking.exact ∙ ap (λ x. after_sack x a.reported.sending.sender.flight) same-sack
-      ∙ ap (λ (x : Session). after_sack k x.sending.sender.flight) a.reporting.after
+      ap (λ (u : Transmission). u.flight) a.taking.exact ∙ ap (λ (x : Session). after_sack a.sack x.sending.sender.flight) a.reporting.after
 
-  current : is_outdated (sack a.credit s.receiving.receiver) s.sending.sender.flight ≡ false
+  current : is_outdated a.sack s.sending.sender.flight ≡ false
   current =
       let total = step.numbered.total in
-      ap (λ x. comes_before x f.acked_tsn) step.arrived.is ∙ ap (comes_before (tsn (base first) q)) step.numbered.acked_is
+      ap (λ x. comes_before x f.acked_tsn) told ∙ ap (comes_before (tsn (base first) q)) step.numbered.acked_is
       ∙ before (base first) q acked (omega (arith, within, few)) (omega (arith, total, few))
       ∙ (let e : nat_lt q acked ≡ false = grind (arith, nat_tests, up) in e)
 
-  taken-sack : t.sending.sender.flight ≡ take_sack (sack a.credit s.receiving.receiver) s.sending.sender.flight
+  taken-sack : t.sending.sender.flight ≡ take_sack a.sack s.sending.sender.flight
   taken-sack = after ∙ ap (λ b. if b then f else take_sack k f) current
 
-  numbered : IsNumbered (base first) n (take_sack (sack a.credit s.receiving.receiver) s.sending.sender.flight)
+  numbered : IsNumbered (base first) n (take_sack a.sack s.sending.sender.flight)
   numbered =
       subst (λ b. IsNumbered (base first) n (if b then f else take_sack k f)) current
-      (taken-numbered (base first) n q k f few within step.arrived.is step.numbered)
+      (taken-numbered (base first) n q k f few within told step.numbered)
 
   there : numbered.acked ≡ q
   there =
       let total = numbered.total in
-      same-place (base first) numbered.acked q (omega (arith, total, few)) (omega (arith, within, few)) (sym numbered.acked_is ∙ step.arrived.is)
+      same-place (base first) numbered.acked q (omega (arith, total, few)) (omega (arith, within, few)) (sym numbered.acked_is ∙ told)
 
   -- the TSN behind it was not taken
   untaken : was_taken (tsn (base first) (q + 1)) s ≡ false
   untaken =
-      let e = next-sack-tells (base first) n s (known s) few step.arrived step.order step.taken a.credit a.reported a.reporting in
-      let same : e.0 ≡ k =
-      (let l : e.0 ∷ s.sacks ≡ k ∷ s.sacks = sym e.1 ∙ ap (λ (x : Session). x.sacks) a.reporting.after in cc) in
       ap (λ u. was_taken u s) (sym (next-place (base first) q)) ∙ ap (λ u. was_taken (following_tsn u) s) (sym step.arrived.is)
-      ∙ ap (λ (x : Sack). was_taken (following_tsn x.cumulative_tsn_ack) s) (sym same) ∙ e.2.next
+      ∙ next-untaken (base first) n s (known s) few step.arrived step.order step.taken
 
   -- a chunk that is kept was taken
   abbrev WasKept : ChunkPayloadData → Type 0

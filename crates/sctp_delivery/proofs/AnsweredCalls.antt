@@ -15,7 +15,7 @@ use Rattle.sctp_data.specs.PayloadData.{data_of}
 use Rattle.sctp_data.specs.SelectiveAck.{Sack}
 use Rattle.sctp_outbound.specs.payload_queue.Blocks.{is_in_blocks, is_offset}
 use Rattle.sctp_receiver.specs.declared.receiver.arrival.Arrival.TheVariants.{New, Repeat}
-use Rattle.sctp_receiver.specs.Receiver.{Reception, filter_of, follow_forward_tsn, is_stale, max_sack_entries, sack}
+use Rattle.sctp_receiver.specs.Receiver.{Reception, filter_of, follow_forward_tsn, is_stale, max_sack_entries, sack_entries, sack_of_entries}
 use Rattle.sctp_receiver.specs.Skips.{after_forward_tsn, without_incomplete}
 use Rattle.sctp_receiver.specs.TsnFilter.{gap_ack_blocks, has_come, is_opposite, offsets, with_tsn}
 use Rattle.sctp_receiver.proofs.GapCounts.{IsAscending, far_in, next-skipped, next-with}
@@ -23,7 +23,7 @@ use Rattle.sctp_receiver.proofs.TsnLists.{expected-absent, expected-after}
 use Rattle.sctp_serial.specs.DataChunks.{following_tsn, has_tsn}
 use Rattle.sctp_delivery.specs.ReceiverCalls as incoming
 use Rattle.sctp_delivery.specs.ReceiverCalls.{ReceiverCall}
-use Rattle.sctp_delivery.specs.Sacks.{NextSackTells, reports_tsn, was_taken}
+use Rattle.sctp_delivery.specs.Sacks.{EachSackTells, NextSackTells, TellsWhatCame, reports_tsn, was_taken}
 use Rattle.sctp_delivery.specs.SenderCalls.{data_chunk, forward_tsn}
 use Rattle.sctp_delivery.specs.Session.{ReceiverFollows, Session}
 use Rattle.sctp_delivery.proofs.Every.{Every, all-of-every, every-contained, every-of, one-of}
@@ -93,6 +93,9 @@ module _ (p n : ℕ) (kn : ℕ → Bool) (old new : Session) (few : n < 2 ^ 31) 
   keeps-order (incoming.follows g) f = order-to _ f.step.receiver
       (order-past p n old.receiving.receiver kn few h a g (every-contained (IsMadeGiven p n) old.made (forward_tsn g) f.handed m))
   keeps-order (incoming.reports credit) f = order-to _ f.step.receiver (record { small = a.small; rise = a.rise })
+  keeps-order (incoming.reports_within credit bytes) f = order-to _ f.step.receiver (record { small = a.small; rise = a.rise })
+  keeps-order (incoming.makes_sack credit) f = order-to _ f.step.receiver (record { small = a.small; rise = a.rise })
+  keeps-order incoming.forgets f = order-to _ f.step.receiver (record { small = a.small; rise = a.rise })
   keeps-order (incoming.reads stream) f = order-to _ f.step.receiver (record { small = a.small; rise = a.rise })
 
 -- ## The next SACK
@@ -109,7 +112,7 @@ module _ (p n : ℕ) (s : Session) (kn : ℕ → Bool) (few : n < 2 ^ 31) (h : I
         | inr x ↦ not_both (sym (expected-absent r.cumulative_tsn 1 r.beyond a.small (omega arith) a.rise) ∙ x)
       ]
 
-  next-untaken : was_taken (following_tsn s.receiving.receiver.cumulative_tsn) s ≡ false
+  pub next-untaken : was_taken (following_tsn s.receiving.receiver.cumulative_tsn) s ≡ false
   next-untaken = fails (was_taken (following_tsn r.cumulative_tsn) s) (λ e.
       let one = one-of (HasCome p n r) (has_tsn (following_tsn r.cumulative_tsn)) s.receiving.accepted e t.each in
       expected (ap (λ u. come u r.cumulative_tsn r.beyond) (sym (same-is one.0.tsn (following_tsn r.cumulative_tsn) one.1)) ∙ one.2.1))
@@ -124,9 +127,9 @@ module _ (p n : ℕ) (s : Session) (kn : ℕ → Bool) (few : n < 2 ^ 31) (h : I
   abbrev IsAnswered : Sack → ChunkPayloadData → Type 0
   IsAnswered k c = (reports_tsn c.tsn k || nat_le (2 ^ 16) (distance k.cumulative_tsn_ack c.tsn)) ≡ true
 
-  answered : (credit : ℕ) → length (sack credit s.receiving.receiver).gap_ack_blocks < max_sack_entries → (c : ChunkPayloadData)
-      → HasCome p n s.receiving.receiver c → IsAnswered (sack credit s.receiving.receiver) c
-  answered credit free c k = by (at_or_before c.tsn r.cumulative_tsn) refl
+  answered : (credit entries : ℕ) → length (sack_of_entries credit entries s.receiving.receiver).gap_ack_blocks < entries → (c : ChunkPayloadData)
+      → HasCome p n s.receiving.receiver c → IsAnswered (sack_of_entries credit entries s.receiving.receiver) c
+  answered credit entries free c k = by (at_or_before c.tsn r.cumulative_tsn) refl
       (or-split (at_or_before c.tsn r.cumulative_tsn) (list_any (λ u. u == c.tsn) r.beyond) k.1)
     where
       past : at_or_before c.tsn s.receiving.receiver.cumulative_tsn ≡ false → 0 < distance s.receiving.receiver.cumulative_tsn c.tsn
@@ -145,32 +148,45 @@ module _ (p n : ℕ) (s : Session) (kn : ℕ → Bool) (few : n < 2 ^ 31) (h : I
 
       beyond-answered : (b : Bool) → nat_le (2 ^ 16) (distance s.receiving.receiver.cumulative_tsn c.tsn) ≡ b
           → 0 < distance s.receiving.receiver.cumulative_tsn c.tsn
-          → list_any (λ u. u == c.tsn) s.receiving.receiver.beyond ≡ true → IsAnswered (sack credit s.receiving.receiver) c
-      beyond-answered true e pos x = or-right (reports_tsn c.tsn (sack credit r)) (nat_le (2 ^ 16) (distance r.cumulative_tsn c.tsn)) e
+          → list_any (λ u. u == c.tsn) s.receiving.receiver.beyond ≡ true → IsAnswered (sack_of_entries credit entries s.receiving.receiver) c
+      beyond-answered true e pos x = or-right (reports_tsn c.tsn (sack_of_entries credit entries r)) (nat_le (2 ^ 16) (distance r.cumulative_tsn c.tsn)) e
       beyond-answered false e pos x =
           let offset : is_offset (distance r.cumulative_tsn c.tsn) ≡ true =
           and (nat_lt 0 (distance r.cumulative_tsn c.tsn)) (nat_lt (distance r.cumulative_tsn c.tsn) (2 ^ 16)) (grind (arith, nat_tests, pos))
           (grind (arith, nat_tests, e)) in
-          let all = whole max_sack_entries (gap_ack_blocks (filter_of r)) free in
+          let all = whole entries (gap_ack_blocks (filter_of r)) free in
           let in' = ap (λ bs. is_in_blocks bs (distance r.cumulative_tsn c.tsn)) all ∙ in-block c.tsn offset x in
-          or-left (reports_tsn c.tsn (sack credit r)) (nat_le (2 ^ 16) (distance r.cumulative_tsn c.tsn))
-          (or-right (at_or_before c.tsn r.cumulative_tsn) (is_in_blocks (sack credit r).gap_ack_blocks (distance r.cumulative_tsn c.tsn)) in')
+          or-left (reports_tsn c.tsn (sack_of_entries credit entries r)) (nat_le (2 ^ 16) (distance r.cumulative_tsn c.tsn))
+          (or-right (at_or_before c.tsn r.cumulative_tsn)
+          (is_in_blocks (sack_of_entries credit entries r).gap_ack_blocks (distance r.cumulative_tsn c.tsn)) in')
 
       by : (b : Bool) → at_or_before c.tsn s.receiving.receiver.cumulative_tsn ≡ b → (at_or_before c.tsn s.receiving.receiver.cumulative_tsn ≡ true) ⊎
-          (list_any (λ u. u == c.tsn) s.receiving.receiver.beyond ≡ true) → IsAnswered (sack credit s.receiving.receiver) c
+          (list_any (λ u. u == c.tsn) s.receiving.receiver.beyond ≡ true) → IsAnswered (sack_of_entries credit entries s.receiving.receiver) c
       by true e x =
-          or-left (reports_tsn c.tsn (sack credit r)) (nat_le (2 ^ 16) (distance r.cumulative_tsn c.tsn))
-          (or-left (at_or_before c.tsn r.cumulative_tsn) (is_in_blocks (sack credit r).gap_ack_blocks (distance r.cumulative_tsn c.tsn)) e)
+          or-left (reports_tsn c.tsn (sack_of_entries credit entries r)) (nat_le (2 ^ 16) (distance r.cumulative_tsn c.tsn))
+          (or-left (at_or_before c.tsn r.cumulative_tsn) (is_in_blocks (sack_of_entries credit entries r).gap_ack_blocks (distance r.cumulative_tsn c.tsn)) e)
       by false e (inl x) = absurd (not_both (sym e ∙ x))
       by false e (inr x) = beyond-answered (nat_le (2 ^ 16) (distance r.cumulative_tsn c.tsn)) refl (past e) x
 
+  told : (credit entries : ℕ) → TellsWhatCame entries s (sack_of_entries credit entries s.receiving.receiver)
+  told credit entries = record {
+    next = next-untaken;
+    all = λ free. all-of-every (IsAnswered (sack_of_entries credit entries r)) s.receiving.accepted
+        (every-of (HasCome p n r) (IsAnswered (sack_of_entries credit entries r)) (λ c k. answered credit entries free c k) s.receiving.accepted t.each);
+  }
+
   pub next-sack-tells : NextSackTells s
-  next-sack-tells credit new f = (
-    sack credit r,
-    ap (λ (x : Session). x.sacks) f.after,
-    record {
-      next = next-untaken;
-      all = λ free. all-of-every (IsAnswered (sack credit r)) s.receiving.accepted
-          (every-of (HasCome p n r) (IsAnswered (sack credit r)) (λ c k. answered credit free c k) s.receiving.accepted t.each);
-    },
-  )
+  next-sack-tells credit new f = (sack_of_entries credit max_sack_entries r, ap (λ (x : Session). x.sacks) f.after, told credit max_sack_entries)
+
+  pub each-sack-tells : EachSackTells s
+  each-sack-tells (incoming.reports credit) new e f =
+      (sack_of_entries credit max_sack_entries r, ap (λ (x : Session). x.sacks) f.after, told credit max_sack_entries)
+  each-sack-tells (incoming.reports_within credit bytes) new e f =
+      (sack_of_entries credit (sack_entries bytes) r, ap (λ (x : Session). x.sacks) f.after, told credit (sack_entries bytes))
+  each-sack-tells (incoming.makes_sack credit) new e f =
+      (sack_of_entries credit max_sack_entries r, ap (λ (x : Session). x.sacks) f.after, told credit max_sack_entries)
+  each-sack-tells incoming.forgets new e f = absurd (not_both e)
+  each-sack-tells (incoming.opens stream) new e f = absurd (not_both e)
+  each-sack-tells (incoming.takes c arrival) new e f = absurd (not_both e)
+  each-sack-tells (incoming.follows g) new e f = absurd (not_both e)
+  each-sack-tells (incoming.reads stream) new e f = absurd (not_both e)

@@ -6,12 +6,12 @@ use Rattle.std.proofs.lemmas.Bool.Decides.{nat_tests}
 use Rattle.std.proofs.lemmas.List.Folds.{list_any_at}
 use Rattle.sctp_util.specs.Lists.{insert_before}
 use Rattle.sctp_util.specs.Serial.{at_or_before, comes_before}
-use Rattle.sctp_util.proofs.Cases.{or-left, or-right, same-yes}
+use Rattle.sctp_util.proofs.Cases.{or-left, same-yes}
 use Rattle.sctp_util.proofs.Round.{tsn}
 use Rattle.sctp_data.specs.ForwardTsn.{ForwardTsn}
 use Rattle.sctp_data.specs.PayloadData.{data_of}
 use Rattle.sctp_receiver.specs.declared.receiver.arrival.Arrival.TheVariants.{New, Repeat}
-use Rattle.sctp_receiver.specs.Receiver.{Reception, follow_forward_tsn, is_stale}
+use Rattle.sctp_receiver.specs.Receiver.{Reception, follow_forward_tsn, is_stale, max_sack_entries, sack_entries, sack_of_entries}
 use Rattle.sctp_receiver.specs.Skips.{after_forward_tsn, without_incomplete}
 use Rattle.sctp_serial.specs.DataChunks.{has_tsn}
 use Rattle.sctp_delivery.specs.ReceiverCalls as incoming
@@ -22,7 +22,7 @@ use Rattle.sctp_delivery.specs.Session.{ReceiverFollows, Session}
 use Rattle.sctp_delivery.proofs.Every.{Every, every-contained, every-inserted, every-of, every-passing}
 use Rattle.sctp_delivery.proofs.ArrivedTsns.{IsArrived, IsKnown, advanced}
 use Rattle.sctp_delivery.proofs.ReportedTsns.{IsTruthful, later-truthful, sack-truthful}
-use Rattle.sctp_delivery.proofs.SackSteps.{IsMadeGiven, known}
+use Rattle.sctp_delivery.proofs.SackSteps.{IsMadeGiven}
 use Rattle.sctp_delivery.proofs.TsnPlaces.{IsGiven, at-or-before}
 
 -- ## What stays known
@@ -55,33 +55,35 @@ passed-upto p n ms f few g in' k le =
     (omega (arith, within, few)) ∙ (let e : nat_le k g.place ≡ true = grind (arith, nat_tests, le) in e) in
     list_any_at (passes (tsn p k)) ms in'.0 (forward_tsn f) in'.1 (ap (passes (tsn p k)) in'.2 ∙ at)
 
-module _ (p n : ℕ) (old new : Session) (few : n < 2 ^ 31) (m : Every (IsMadeGiven p n) old.made) where
-  -- what arrived at the receiver, known by what was taken and passed after the call
+module _ (p n : ℕ) (kn now : ℕ → Bool) (old new : Session) (few : n < 2 ^ 31) (m : Every (IsMadeGiven p n) old.made) where
+  -- what arrived at the receiver, known by what is known after the call
   abbrev Hears : Reception → Type 0
-  Hears r = IsArrived p n (known new) r.cumulative_tsn r.beyond
+  Hears r = IsArrived p n now r.cumulative_tsn r.beyond
 
-  module _ (made-same : new.made ≡ old.made) (grows : (t : ℕ) → known old t ≡ true → known new t ≡ true)
-      (h : IsArrived p n (known old) old.receiving.receiver.cumulative_tsn old.receiving.receiver.beyond) where
+  -- what is known stays so; and known is what was taken, and what is passed
+  module _ (grows : (t : ℕ) → kn t ≡ true → now t ≡ true) (taken : (t : ℕ) → was_taken t new ≡ true → now t ≡ true)
+      (passed : (t : ℕ) → was_passed t old ≡ true → now t ≡ true)
+      (h : IsArrived p n kn old.receiving.receiver.cumulative_tsn old.receiving.receiver.beyond) where
     still : Hears old.receiving.receiver
-    still = more-arrived p n n (known old) (known new) old.receiving.receiver.cumulative_tsn old.receiving.receiver.beyond (omega arith) grows h
+    still = more-arrived p n n kn now old.receiving.receiver.cumulative_tsn old.receiving.receiver.beyond (omega arith) grows h
 
     hears-to : (r : Reception) → new.receiving.receiver ≡ r → Hears r → Hears new.receiving.receiver
     hears-to r e k = subst Hears (sym e) k
 
     -- with a new TSN
-    hears-one : (t : ℕ) → IsGiven p n t → known new t ≡ true → IsArrived p n (known new) old.receiving.receiver.cumulative_tsn
+    hears-one : (t : ℕ) → IsGiven p n t → now t ≡ true → IsArrived p n now old.receiving.receiver.cumulative_tsn
         (insert_before comes_before t old.receiving.receiver.beyond)
     hears-one t g so = record {
       place = still.place;
       within = still.within;
       is = still.is;
       so_far = still.so_far;
-      each = every-inserted (IsKnown p n (known new)) comes_before t old.receiving.receiver.beyond
+      each = every-inserted (IsKnown p n now) comes_before t old.receiving.receiver.beyond
           (record { place = g.place; some = g.some; within = g.within; is = g.is; so = so }) still.each;
     }
 
     -- with all up to a FORWARD-TSN
-    hears-upto : (f : ForwardTsn) → Contains old.made (forward_tsn f) → IsArrived p n (known new) f.new_cumulative_tsn
+    hears-upto : (f : ForwardTsn) → Contains old.made (forward_tsn f) → IsArrived p n now f.new_cumulative_tsn
         (filter (λ t. not (at_or_before t f.new_cumulative_tsn)) old.receiving.receiver.beyond)
     hears-upto f in' =
         let g : IsGiven p n f.new_cumulative_tsn = every-contained (IsMadeGiven p n) old.made (forward_tsn f) in' m in
@@ -89,8 +91,8 @@ module _ (p n : ℕ) (old new : Session) (few : n < 2 ^ 31) (m : Every (IsMadeGi
           place = g.place;
           within = g.within;
           is = g.is;
-          so_far = λ k pos le. grows (tsn p k) (or-right (was_taken (tsn p k) old) (was_passed (tsn p k) old) (passed-upto p n old.made f few g in' k le));
-          each = every-passing (IsKnown p n (known new)) (λ t. not (at_or_before t f.new_cumulative_tsn)) old.receiving.receiver.beyond still.each;
+          so_far = λ k pos le. passed (tsn p k) (passed-upto p n old.made f few g in' k le);
+          each = every-passing (IsKnown p n now) (λ t. not (at_or_before t f.new_cumulative_tsn)) old.receiving.receiver.beyond still.each;
         }
 
     follows-arrived : (f : ForwardTsn) → Contains old.made (forward_tsn f) → Hears (after_forward_tsn f old.receiving.receiver)
@@ -99,7 +101,7 @@ module _ (p n : ℕ) (old new : Session) (few : n < 2 ^ 31) (m : Every (IsMadeGi
         by : (b : Bool) → Hears (if b then old.receiving.receiver else without_incomplete f.new_cumulative_tsn
             (if b then old.receiving.receiver else follow_forward_tsn f old.receiving.receiver))
         by true = still
-        by false = advanced p n (known new) f.new_cumulative_tsn (filter (λ t. not (at_or_before t f.new_cumulative_tsn)) old.receiving.receiver.beyond) few
+        by false = advanced p n now f.new_cumulative_tsn (filter (λ t. not (at_or_before t f.new_cumulative_tsn)) old.receiving.receiver.beyond) few
             (hears-upto f in')
 
     pub hears : (call : ReceiverCall) → ReceiverFollows call old new → Hears new.receiving.receiver
@@ -107,31 +109,37 @@ module _ (p n : ℕ) (old new : Session) (few : n < 2 ^ 31) (m : Every (IsMadeGi
     hears (incoming.takes c Repeat) f = hears-to _ f.step.receiver still
     hears (incoming.takes c (New answered)) f =
         let given : IsGiven p n c.tsn = every-contained (IsMadeGiven p n) old.made (data_chunk (data_of c)) f.handed m in
-        let now : was_taken c.tsn new ≡ true = ap (list_any (has_tsn c.tsn)) f.step.accepted ∙ or-left (has_tsn c.tsn c)
+        let here : was_taken c.tsn new ≡ true = ap (list_any (has_tsn c.tsn)) f.step.accepted ∙ or-left (has_tsn c.tsn c)
         (list_any (has_tsn c.tsn) old.receiving.accepted) (same-yes c.tsn) in
         hears-to _ f.step.receiver.after
-        (advanced p n (known new) old.receiving.receiver.cumulative_tsn (insert_before comes_before c.tsn old.receiving.receiver.beyond) few
-        (hears-one c.tsn given (or-left (was_taken c.tsn new) (was_passed c.tsn new) now)))
+        (advanced p n now old.receiving.receiver.cumulative_tsn (insert_before comes_before c.tsn old.receiving.receiver.beyond) few
+        (hears-one c.tsn given (taken c.tsn here)))
     hears (incoming.follows g) f = hears-to _ f.step.receiver (follows-arrived g f.handed)
     hears (incoming.reports credit) f = hears-to _ f.step.receiver still
+    hears (incoming.reports_within credit bytes) f = hears-to _ f.step.receiver still
+    hears (incoming.makes_sack credit) f = hears-to _ f.step.receiver still
+    hears incoming.forgets f = hears-to _ f.step.receiver still
     hears (incoming.reads stream) f = hears-to _ f.step.receiver still
 
 -- ## What SACKs say
 
-pub tells : (p n : ℕ) (old : Session) (kn : ℕ → Bool) (call : ReceiverCall) → n < 2 ^ 31 → ((t : ℕ) → known old t ≡ true → kn t ≡ true) → IsArrived p n
-    (known old) old.receiving.receiver.cumulative_tsn old.receiving.receiver.beyond → Every (IsTruthful p n (known old)) old.sacks → Every (IsTruthful p n kn)
-    (reports_after call old.receiving.receiver old.sacks)
-tells p n old kn call few grows h t = by call
+pub tells : (p n : ℕ) (kn now : ℕ → Bool) (old : Session) (call : ReceiverCall) → n < 2 ^ 31 → ((t : ℕ) → kn t ≡ true → now t ≡ true)
+    → IsArrived p n kn old.receiving.receiver.cumulative_tsn old.receiving.receiver.beyond → Every (IsTruthful p n kn) old.sacks
+    → Every (IsTruthful p n now) (reports_after call old.receiving.receiver old.sacks)
+tells p n kn now old call few grows h t = by call
   where
-    rest : Every (IsTruthful p n kn) old.sacks
-    rest = every-of (IsTruthful p n (known old)) (IsTruthful p n kn) (λ k x. later-truthful p n n (known old) kn k (omega arith) grows x) old.sacks t
+    rest : Every (IsTruthful p n now) old.sacks
+    rest = every-of (IsTruthful p n kn) (IsTruthful p n now) (λ k x. later-truthful p n n kn now k (omega arith) grows x) old.sacks t
 
-    by : (c : ReceiverCall) → Every (IsTruthful p n kn) (reports_after c old.receiving.receiver old.sacks)
-    by (incoming.reports credit) = (
-      later-truthful p n n (known old) kn _ (omega arith) grows
-          (sack-truthful p n (known old) credit old.receiving.receiver few h),
-      rest,
-    )
+    told : (credit entries : ℕ) → IsTruthful p n now (sack_of_entries credit entries old.receiving.receiver)
+    told credit entries =
+        later-truthful p n n kn now _ (omega arith) grows (sack-truthful p n kn credit entries old.receiving.receiver few h)
+
+    by : (c : ReceiverCall) → Every (IsTruthful p n now) (reports_after c old.receiving.receiver old.sacks)
+    by (incoming.reports credit) = (told credit max_sack_entries, rest)
+    by (incoming.reports_within credit bytes) = (told credit (sack_entries bytes), rest)
+    by (incoming.makes_sack credit) = (told credit max_sack_entries, rest)
+    by incoming.forgets = rest
     by (incoming.opens stream) = rest
     by (incoming.takes c arrival) = rest
     by (incoming.follows f) = rest

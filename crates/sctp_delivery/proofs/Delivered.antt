@@ -16,7 +16,7 @@ use Rattle.sctp_serial.specs.DataChunks.{is_on}
 use Rattle.sctp_delivery.specs.Messages.{AfterEachFitSession, AreParts, AreSame, AreWrites, IsWrite, WhileTsnsLast}
 use Rattle.sctp_delivery.specs.Sacks.{tsns_given}
 use Rattle.sctp_delivery.specs.SenderCalls.{written_after, Made, SenderCall, Write, data_chunk, forward_tsn}
-use Rattle.sctp_delivery.specs.Session.{Call, ReceiverFollows, RunsTo, SenderFollows, Session, at_start, of_receiver, of_sender}
+use Rattle.sctp_delivery.specs.Session.{AreMade, AreMessages, Call, ReceiverFollows, RunsTo, SenderFollows, Session, at_start, of_receiver, of_sender}
 use Rattle.sctp_delivery.proofs.Begun.{AreOnce}
 use Rattle.sctp_delivery.proofs.Calls.{contains-forgotten, forget, forgotten, forgotten-after, numbered_after, sent_by, stepped}
 use Rattle.sctp_delivery.proofs.OrderedEntries.{AreIndexed, AreRising, begun_on, written_on}
@@ -323,28 +323,31 @@ same tsn size max most limits cs s small some r few d e c k is =
     (found-sent a.more s.made e a.holds.made k) is
 
 -- each message that was read is one of these writes, where they got these entries
+abbrev pub read-from : (tsn : ℕ) (s : Session) → sessions.AreOn s → AreMessages s → AreMade s → (ns : List Numbered) (sent : List Entry) → length sent < 2 ^ 32
+    → Holds tsn s ns sent → IsReadSession s
+read-from tsn s on whole made ns sent few h = record {
+  numbered = ns;
+  sent = sent;
+  writes = h.writes;
+  once = h.held.stands.begun'.once;
+  indexed = h.held.stands.queued.indexed;
+  rising = h.held.stands.queued.ranked.rising;
+  few = λ st. let k = h.held.stands.queued.ranked.few st in omega (arith, k);
+  sent-made = h.made;
+  placed = h.placed;
+  each = λ k m lt.
+      let it = slice_index_or s.receiving.read k m in
+      message-is ns tsn sent few h.held.stands.queued.line it (AllPass-from_list_all (λ x. is_complete x.fragments) s.receiving.read whole.0 k m lt)
+      (AllPass-from_list_all (λ x. is_one_message x.fragments) s.receiving.read whole.1 k m lt)
+      (each-sent sent s.made it.fragments h.made (made k m lt))
+      (AllPass-from_list_all (λ x. list_all (is_on x.stream) x.fragments) s.receiving.read on k m lt);
+}
+
 abbrev pub read-in : (tsn size max most : ℕ) (limits : Option Limits) (cs : List Call) (s : Session) → RunsTo (at_start tsn size max most limits) cs s
     → (ns : List Numbered) (sent : List Entry) → length sent < 2 ^ 32 → Holds tsn s ns sent → IsReadSession s
 read-in tsn size max most limits cs s r ns sent few h =
-    let on = sessions.read-on tsn size max most limits cs s r in
-    let whole = sessions.messages tsn size max most limits cs s r in
-    record {
-      numbered = ns;
-      sent = sent;
-      writes = h.writes;
-      once = h.held.stands.begun'.once;
-      indexed = h.held.stands.queued.indexed;
-      rising = h.held.stands.queued.ranked.rising;
-      few = λ st. let k = h.held.stands.queued.ranked.few st in omega (arith, k);
-      sent-made = h.made;
-      placed = h.placed;
-      each = λ k m lt.
-          let it = slice_index_or s.receiving.read k m in
-          message-is ns tsn sent few h.held.stands.queued.line it (AllPass-from_list_all (λ x. is_complete x.fragments) s.receiving.read whole.0 k m lt)
-          (AllPass-from_list_all (λ x. is_one_message x.fragments) s.receiving.read whole.1 k m lt)
-          (each-sent sent s.made it.fragments h.made (sessions.made tsn size max most limits cs s r k m lt))
-          (AllPass-from_list_all (λ x. list_all (is_on x.stream) x.fragments) s.receiving.read on k m lt);
-    }
+    read-from tsn s (sessions.read-on tsn size max most limits cs s r) (sessions.messages tsn size max most limits cs s r)
+    (sessions.made tsn size max most limits cs s r) ns sent few h
 
 pub read-of : (tsn size max most : ℕ) (limits : Option Limits) (cs : List Call) (s : Session) → tsn < 2 ^ 32 → 0 < size
     → (r : RunsTo (at_start tsn size max most limits) cs s) → tsns_given (at_start tsn size max most limits) cs s r < 2 ^ 32 → IsReadSession s
@@ -353,11 +356,13 @@ read-of tsn size max most limits cs s small some r few =
     let n = a.few in
     read-in tsn size max most limits cs s r a.numbered a.more (omega (arith, n, few)) a.holds
 
-pub law : WhileTsnsLast AreWrites
-law tsn size max most limits cs s small some r few k m lt =
-    let a = read-of tsn size max most limits cs s small some r few in
+pub are-writes : (s : Session) → IsReadSession s → AreWrites s
+are-writes s a k m lt =
     let x = a.each k m lt in
     (forget x.numbered, subst (λ ws. Contains ws (forget x.numbered)) a.writes (contains-forgotten a.numbered x.numbered x.written), x.write)
+
+pub law : WhileTsnsLast AreWrites
+law tsn size max most limits cs s small some r few = are-writes s (read-of tsn size max most limits cs s small some r few)
 
 -- the messages are writes
 abbrev pub AllWrites : List Write → List Message → Type 0

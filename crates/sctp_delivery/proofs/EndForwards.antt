@@ -46,6 +46,7 @@ use Rattle.sctp_delivery.proofs.InTheEnd.{unread-of}
 use Rattle.sctp_delivery.proofs.NamesExist.{named, names}
 use Rattle.sctp_delivery.proofs.PassedTsns.{passable-skip}
 use Rattle.sctp_delivery.proofs.RoundsEnd.{same-next, same-pending}
+use Rattle.sctp_delivery.proofs.SackCalls.{reporting-of}
 use Rattle.sctp_delivery.proofs.SackSteps.{known}
 use Rattle.sctp_delivery.proofs.Taking.{can}
 use Rattle.sctp_delivery.proofs.TsnPlaces.{at-or-before, base, next-place, same-place}
@@ -264,20 +265,21 @@ module _ (b : Setting) where
   pub ends-answered : (n : ℕ) (s : Session) → At b n s → IsCaughtUp s → 0 < length (in_flight s)
       → ((t : Session) → At b n t → Answered s t → Ends b t) → Ends b s
   ends-answered n s i caught some next =
-      let c = can (base b.first) n s i.few (kept-at b n s i).kept.step (window s.receiving.receiver) in
+      let c = can (base b.first) n s i.few (kept-at b n s i).kept.step (reports (window s.receiving.receiver)) refl in
       let t = c.0 in
       let a = c.1 in
       let u = a.reported in
       let sender : u.sending ≡ s.sending = ap (λ (x : Session). x.sending) a.reporting.after in
       let first = ap (λ (l : Ledger). l.sender.flight.next_tsn) sender in
-      let streams = ap (λ (r : Reception). r.streams) a.reporting.step.receiver in
-      let came = a.reporting.step.accepted in
+      let same-there = reporting-of a.call s u a.makes a.reporting in
+      let streams = same-there.streams in
+      let came = same-there.accepted in
       let left = ap (λ (l : Ledger). chunks_left l.sender) sender in
       let held = ap (sum_by cost_of) streams in
       let due-there = ap (λ (l : Ledger). due_by price u.receiving.accepted l.sender.flight.queue.inflight.chunks) sender
       ∙ ap (λ cs. due_by price cs (in_flight s)) came in
       let waiting = ap (λ (l : Ledger). waiting_cost l.sender.flight.queue.pending) sender in
-      let j = at-same b n (of_receiver (reports a.credit)) s u a.reporting refl first (omega (arith, left)) (omega (arith, held, due-there, waiting)) i in
+      let j = at-same b n (of_receiver a.call) s u a.reporting refl first (omega (arith, left)) (omega (arith, held, due-there, waiting)) i in
       let second : next_tsn t ≡ next_tsn u = same-next s t a ∙ sym first in
       let less = (leaves-fewer b.first n s t i.few (reached b n s i) caught a).fewer some in
       let waits = ap (λ p. length p.ordered + length p.unordered) (same-pending s t a) in
@@ -298,7 +300,7 @@ module _ (b : Setting) where
       let none : distance (next_tsn u) (next_tsn t) ≡ 0 = ap (distance (next_tsn u)) second ∙ no-distance b n u j in
       let waited = ap (λ (l : Ledger). chunks_waiting l.sender) sender in
       let made = ap length (ap (λ (x : Session). x.sacks) a.taking.after ∙ a.made) in
-      receiver-before b n (reports a.credit) s u i a.reporting
+      receiver-before b n a.call s u i a.reporting
       (sender-before b (takes_sack a.sack a.gone) u t a.taking refl (omega (arith, none, waits, waited))
       (next t k (record {
         waiting = omega (arith, waits);

@@ -268,6 +268,12 @@ kept-on (incoming.takes c (New answered)) old new st r made apart f k =
 kept-on (incoming.follows g) old new st r made apart f k = absurd (not_both r)
 kept-on (incoming.reports credit) old new st r made apart f k = still st old.receiving new.receiving f.step.accepted f.step.read
     (ap (λ (x : Reception). x.streams) f.step.receiver) k
+kept-on (incoming.reports_within credit bytes) old new st r made apart f k = still st old.receiving new.receiving f.step.accepted f.step.read
+    (ap (λ (x : Reception). x.streams) f.step.receiver) k
+kept-on (incoming.makes_sack credit) old new st r made apart f k = still st old.receiving new.receiving f.step.accepted f.step.read
+    (ap (λ (x : Reception). x.streams) f.step.receiver) k
+kept-on incoming.forgets old new st r made apart f k = still st old.receiving new.receiving f.step.accepted f.step.read
+    (ap (λ (x : Reception). x.streams) f.step.receiver) k
 kept-on (incoming.reads stream) old new st r made apart f k =
     let x = old.receiving.receiver in
     let l = read-less stream st x k.turn in
@@ -294,6 +300,9 @@ apart-then (incoming.takes c (New answered)) old new f a = (both (not (list_any 
     (ap are_apart (sym f.step.accepted) ∙ a)).1
 apart-then (incoming.follows g) old new f a = ap are_apart (sym f.step.accepted) ∙ a
 apart-then (incoming.reports credit) old new f a = ap are_apart (sym f.step.accepted) ∙ a
+apart-then (incoming.reports_within credit bytes) old new f a = ap are_apart (sym f.step.accepted) ∙ a
+apart-then (incoming.makes_sack credit) old new f a = ap are_apart (sym f.step.accepted) ∙ a
+apart-then incoming.forgets old new f a = ap are_apart (sym f.step.accepted) ∙ a
 apart-then (incoming.reads stream) old new f a = ap are_apart (sym f.step.accepted) ∙ a
 
 pub apart-before : (cs : List Call) (old new : Session) → RunsTo old cs new → are_apart new.receiving.accepted ≡ true → are_apart old.receiving.accepted ≡ true

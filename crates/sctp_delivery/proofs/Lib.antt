@@ -31,9 +31,11 @@ pub mod ReportedTsns
 pub mod ArrivedCalls
 pub mod TakenTsns
 pub mod TakenCalls
+pub mod TakenTogether
 pub mod AnsweredTsns
 pub mod AnsweredCalls
 pub mod ValidMarks
+pub mod SackCalls
 pub mod SackSteps
 pub mod SackMarks
 pub mod SackLaws
@@ -41,6 +43,9 @@ pub mod StaysAcknowledged
 pub mod SpreadCalls
 pub mod ReadOnce
 pub mod OnceWritten
+pub mod DiscardSteps
+pub mod DiscardRuns
+pub mod DiscardExamples
 pub mod OrderedMessages
 pub mod OrderedLaw
 pub mod OrderedNext

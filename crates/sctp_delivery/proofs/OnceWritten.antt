@@ -9,11 +9,12 @@ use Rattle.sctp_data.specs.declared.chunk.chunk_payload_data.ChunkPayloadData.{C
 use Rattle.sctp_data.specs.PayloadData.{Data, data_of}
 use Rattle.sctp_receiver.specs.ReceiverRuns.{Message}
 use Rattle.sctp_serial.specs.DataChunks.{has_tsn}
-use Rattle.sctp_delivery.specs.Messages.{AreWritesOfTheirOwn, IsWrite, StandAt, WhileFewTsns, fragments_of_all}
+use Rattle.sctp_delivery.specs.Messages.{AreWritesOfTheirOwn, IsWrite, NoneIsReadTwice, StandAt, WhileFewTsns, fragments_of_all}
 use Rattle.sctp_delivery.specs.Sacks.{are_apart}
+use Rattle.sctp_delivery.specs.Session.{Session}
 use Rattle.sctp_delivery.proofs.Begun.{AreOnce, was_begun}
 use Rattle.sctp_delivery.proofs.Calls.{at-forgotten, forgotten, length-forgotten}
-use Rattle.sctp_delivery.proofs.Delivered.{IsReadOf, read-of}
+use Rattle.sctp_delivery.proofs.Delivered.{IsReadOf, IsReadSession, read-of}
 use Rattle.sctp_delivery.proofs.ReadOnce as read_once
 use Rattle.sctp_delivery.proofs.Sent.{Entry, IsPart, Numbered, fragment, terminal}
 
@@ -121,13 +122,15 @@ module _ (ns : List Numbered) (sent : List Entry) (once : AreOnce sent) where
 
 -- ## The law
 
-pub of-their-own : WhileFewTsns AreWritesOfTheirOwn
-of-their-own tsn size max most limits cs s small some r few =
-    let a = read-of tsn size max most limits cs s small some r (omega (arith, few)) in
-    let apart' = read_once.none-twice tsn size max most limits cs s r small few in
+pub own-so : (s : Session) → IsReadSession s → NoneIsReadTwice s → AreWritesOfTheirOwn s
+own-so s a apart' =
     let e = each-read a.numbered a.sent a.once s.receiving.read a.each in (
       places a.numbered a.sent a.once s.receiving.read e,
       subst (λ ws. StandAt ws s.receiving.read (places a.numbered a.sent a.once s.receiving.read e)) a.writes
           (stand a.numbered a.sent a.once s.receiving.read e),
       apart a.numbered a.sent a.once s.receiving.read e apart',
     )
+
+pub of-their-own : WhileFewTsns AreWritesOfTheirOwn
+of-their-own tsn size max most limits cs s small some r few =
+    own-so s (read-of tsn size max most limits cs s small some r (omega (arith, few))) (read_once.none-twice tsn size max most limits cs s r small few)

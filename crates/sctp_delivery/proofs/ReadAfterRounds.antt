@@ -1,20 +1,22 @@
 -- After rounds of reliable calls each write was read.
-use Rattle.std.proofs.Common.{◌≡◌, ℕ, zero, suc, ◌+◌, ◌^◌, ◌<◌, refl, subst, sym, arith}
+use Rattle.std.proofs.Common.{◌≡◌, ℕ, true, zero, suc, ◌+◌, ◌^◌, ◌<◌, refl, subst, sym, arith}
 use Rattle.sctp_util.proofs.More.{and}
-use Rattle.sctp_delivery.specs.Complete.{is_all_acknowledged, reads_nothing}
+use Rattle.sctp_delivery.specs.Complete.{is_all_acknowledged, is_reliable_at_receiver, reads_nothing}
 use Rattle.sctp_delivery.specs.Rounds.{AfterEachFitReliableSession, AllIsReadAfterRounds, AreReliable, IsAnswered, Rounds, tsns_in_rounds}
 use Rattle.sctp_delivery.specs.Sacks.{tsns_given}
 use Rattle.sctp_delivery.specs.Session.{Session}
 use Rattle.sctp_delivery.proofs.OthersOnce.{all-read}
 use Rattle.sctp_delivery.proofs.Reached.{IsReachedReliably, kept, reliably-on}
 use Rattle.sctp_delivery.proofs.RoundsEnd.{all-end, none-given, run, two}
+use Rattle.sctp_delivery.proofs.SackCalls.{reporting-of}
 use Rattle.sctp_delivery.proofs.TsnPlaces.{base}
 
 answered-reliably : (first n : ℕ) (s t : Session) (a : IsAnswered s t) → n < 2 ^ 31 → IsReachedReliably first n s → IsReachedReliably first n t
 answered-reliably first n s t a few i =
     let none = none-given s t a (base first) n (kept first n s few i.reached).kept.step.numbered in
     subst (λ k. IsReachedReliably first k t) {x = n + tsns_given s (two s t a) t (run s t a)} {y = n} (omega (arith, none))
-    (reliably-on first n (two s t a) s t (run s t a) refl i)
+    (reliably-on first n (two s t a) s t (run s t a)
+    (and (is_reliable_at_receiver a.call) true (reporting-of a.call s a.reported a.makes a.reporting).reliable refl) i)
 
 rounds-reliably : (first n k : ℕ) (s t : Session) (r : Rounds k s t) → AreReliable k s t r → n + tsns_in_rounds k s t r < 2 ^ 31
     → IsReachedReliably first n s → IsReachedReliably first (n + tsns_in_rounds k s t r) t

@@ -1,17 +1,19 @@
 -- No TSN is read twice: the fragments of all messages that were read have TSNs of their own.
-use Rattle.std.proofs.Common.{◌≡◌, ℕ, ◌+◌, ◌≤◌, Bool, true, false, not, List, [], ◌∷◌, ◌++◌, refl, ap, sym, subst, ◌∙◌, arith}
+use Rattle.std.proofs.Common.{◌≡◌, ℕ, ◌+◌, ◌≤◌, Bool, true, false, not, List, [], ◌∷◌, ◌++◌, Option, refl, ap, sym, subst, ◌∙◌, arith}
 use Rattle.std.specs.Prelude.{◌==◌, ◌&&◌, ◌||◌, if◌then◌else◌}
 use Rattle.std.specs.List.{filter, list_all, list_any, sum_by}
 use Rattle.std.proofs.lemmas.List.Sums.{sum_by-cons, sum_by-append}
 use Rattle.sctp_util.proofs.Cases.{negated, or-right, same-is, same-yes}
 use Rattle.sctp_util.proofs.More.{and, both, not_both}
 use Rattle.sctp_data.specs.declared.chunk.chunk_payload_data.ChunkPayloadData.{ChunkPayloadData}
+use Rattle.sctp_receiver.specs.declared.receiver.limits.Limits.{Limits}
+use Rattle.sctp_receiver.specs.ReceiverRuns as receiver_runs
 use Rattle.sctp_receiver.specs.ReceiverRuns.{Message, fragments_read}
 use Rattle.sctp_receiver.proofs.Handed as handed
 use Rattle.sctp_serial.specs.DataChunks.{has_tsn, is_on}
 use Rattle.sctp_delivery.specs.Messages.{NoneIsReadTwice, fragments_of_all}
-use Rattle.sctp_delivery.specs.Sacks.{AfterEachSessionOfFewTsns, are_apart}
-use Rattle.sctp_delivery.specs.Session.{at_start}
+use Rattle.sctp_delivery.specs.Sacks.{AfterEachSessionOfFewTsns, NoneIsTakenTwice, are_apart}
+use Rattle.sctp_delivery.specs.Session.{Session, at_start}
 use Rattle.sctp_delivery.proofs.SackLaws as sacks
 use Rattle.sctp_delivery.proofs.Sessions as sessions
 use Rattle.sctp_delivery.proofs.Sessions.{each-read, none-fails, receiver-runs, receiver_calls}
@@ -163,22 +165,25 @@ count-all t st (m ∷ ms) e f = by (m.stream == st) refl (count-all t st ms a.1 
 
 -- ## The law
 
-pub none-twice : AfterEachSessionOfFewTsns (λ first given s. NoneIsReadTwice s)
-none-twice first size max most limits cs s run small few = apart-where (fragments_of_all s.receiving.read) (λ t. counted t)
+pub none-twice-so : (first most : ℕ) (limits : Option Limits) (calls : List receiver_runs.Call) (s : Session)
+    → receiver_runs.RunsTo (receiver_runs.at_start first most limits) calls s.receiving → NoneIsTakenTwice s → NoneIsReadTwice s
+none-twice-so first most limits calls s run apart = apart-where (fragments_of_all s.receiving.read) (λ t. counted t)
   where
-    apart : are_apart s.receiving.accepted ≡ true
-    apart = sacks.none-twice first size max most limits cs s run small few
-
     counted : (t : ℕ) → count t (fragments_of_all s.receiving.read) ≤ 1
     counted t =
         let st = stream_of t s.receiving.accepted in
-        let weighs = handed.accepted first most limits (receiver_calls cs) s.receiving (receiver-runs cs (at_start first size max most limits) s run) in
+        let weighs = handed.accepted first most limits calls s.receiving run in
         let there = all-there t s.receiving.accepted apart in
         let e = each-read (λ _. is_there t st) s.receiving.read (λ r. let w = weighs r (sessions.fails (is_there t st)) in
         let z = none-fails (is_there t st) (is_on r) s.receiving.accepted there in omega (arith, w, z)) in
-        let f = sessions.read-on first size max most limits cs s run in
+        let f = sessions.read-on-so first most limits calls s run in
         let all = count-all t st s.receiving.read e f in
         let w = weighs st (one t) in
         let n = fewer t (is_on st) s.receiving.accepted in
         let o = once t s.receiving.accepted apart in
         omega (arith, all, w, n, o)
+
+pub none-twice : AfterEachSessionOfFewTsns (λ first given s. NoneIsReadTwice s)
+none-twice first size max most limits cs s run small few =
+    none-twice-so first most limits (receiver_calls cs) s (receiver-runs cs (at_start first size max most limits) s run)
+    (sacks.none-twice first size max most limits cs s run small few)

@@ -13,7 +13,7 @@ use Rattle.sctp_util.proofs.Round.{tsn, distance-tsn, distance-tsn_back}
 use Rattle.sctp_data.specs.declared.chunk.chunk_selective_ack.GapAckBlock.{GapAckBlock}
 use Rattle.sctp_data.specs.SelectiveAck.{Sack}
 use Rattle.sctp_outbound.specs.payload_queue.Blocks.{is_in_block, is_in_blocks, is_offset}
-use Rattle.sctp_receiver.specs.Receiver.{Reception, filter_of, max_sack_entries, sack}
+use Rattle.sctp_receiver.specs.Receiver.{Reception, filter_of, sack_of_entries}
 use Rattle.sctp_receiver.specs.TsnFilter.{block_of, gap_ack_blocks, offsets}
 use Rattle.sctp_sender.specs.declared.sender.refusal.SenderRefusal.TheVariants.{InflightQueueTsnPop, TsnRequestNotExist}
 use Rattle.sctp_sender.specs.Flight.{Flight, count_acked, is_outdated, is_within, sack_refusal}
@@ -48,9 +48,10 @@ any-taken d (suc n) (b ∷ bs) e = elim (or-split (is_in_block d b) (is_in_block
 offset-is : (d : ℕ) → is_offset d ≡ true → (0 < d) × (d < 2 ^ 16)
 offset-is d e = let b = both (nat_lt 0 d) (nat_lt d (2 ^ 16)) e in (grind (arith, nat_tests, b.0), grind (arith, nat_tests, b.1))
 
-pub sack-truthful : (p n : ℕ) (known : ℕ → Bool) (credit : ℕ) (r : Reception) → n < 2 ^ 31 → IsArrived p n known r.cumulative_tsn r.beyond
-    → IsTruthful p n known (sack credit r)
-sack-truthful p n known credit r few h = record {
+-- with so many blocks and duplicates at most
+pub sack-truthful : (p n : ℕ) (known : ℕ → Bool) (credit entries : ℕ) (r : Reception) → n < 2 ^ 31
+    → IsArrived p n known r.cumulative_tsn r.beyond → IsTruthful p n known (sack_of_entries credit entries r)
+sack-truthful p n known credit entries r few h = record {
   place = h.place;
   within = h.within;
   is = h.is;
@@ -59,7 +60,7 @@ sack-truthful p n known credit r few h = record {
       let bs = gap_ack_blocks (filter_of r) in
       let ds = filter is_offset (map (distance (tsn p h.place)) r.beyond) in
       let base : offsets (filter_of r) ≡ ds = ap (λ c. filter is_offset (map (distance c) r.beyond)) h.is in
-      let some = sym (any-run d (runs_of (offsets (filter_of r)))) ∙ any-taken d max_sack_entries bs e in
+      let some = sym (any-run d (runs_of (offsets (filter_of r)))) ∙ any-taken d entries bs e in
       in-runs (IsKnownAfter p n known h.place) ds d (after-cumulative p n known h.place is_offset few h.within offset-is r.beyond h.each)
       (subst (λ os. list_any (in_run d) (runs_of os) ≡ true) base some);
 }

@@ -10,7 +10,6 @@ use Rattle.sctp_data.specs.SelectiveAck.{Sack}
 use Rattle.sctp_outbound.specs.pending_queue.PendingQueue.{chunk_count}
 use Rattle.sctp_sender.specs.Flight.{Flight, after_sack, is_outdated, take_sack}
 use Rattle.sctp_sender.specs.Sender.{Transmission}
-use Rattle.sctp_delivery.specs.ReceiverCalls.{reports}
 use Rattle.sctp_delivery.specs.Rounds.{AfterEachFitSessionOfFewTsns, EachRoundTakesOne, IsAnswered, IsRound, RoundsEnd, chunks_left, flight_of, in_flight}
 use Rattle.sctp_delivery.specs.Sacks.{tsns_given}
 use Rattle.sctp_delivery.specs.SenderCalls.{takes_sack}
@@ -32,7 +31,7 @@ after-sack k f = by (is_outdated k f)
 
 module _ (s t : Session) (a : IsAnswered s t) where
   abbrev pub two : List Call
-  two = of_receiver (reports a.credit) ∷ of_sender (takes_sack a.sack a.gone) ∷ []
+  two = of_receiver a.call ∷ of_sender (takes_sack a.sack a.gone) ∷ []
 
   abbrev pub run : RunsTo s two t
   run = (a.reported, (a.reporting, (t, (a.taking, refl))))

@@ -18,7 +18,8 @@ use Rattle.sctp_serial.specs.DataChunks.{following_tsn, has_tsn}
 use Rattle.sctp_sender.specs.Flight.{Flight, after_sack, is_outdated, is_whole, released_by, released_of, reports, reports_anew, sack_refusal, take_sack}
 use Rattle.sctp_delivery.specs.ReceiverCalls as incoming
 use Rattle.sctp_delivery.specs.ReceiverCalls.{ReceiverCall}
-use Rattle.sctp_delivery.specs.Sacks.{AcknowledgedCame, AfterEachSessionOfFewTsns, AllReportedLeaves, LeftCame, NextSackTells, NoneIsRefused, NoneIsTakenTwice}
+use Rattle.sctp_delivery.specs.Sacks.{AcknowledgedCame, AfterEachSessionOfFewTsns, AllReportedLeaves, EachSackTells, LeftCame, NextSackTells, NoneIsRefused}
+use Rattle.sctp_delivery.specs.Sacks.{NoneIsTakenTwice}
 use Rattle.sctp_delivery.specs.Sacks.{PassAbandoned, ReleasedCame, ReportWhatCame, is_reported, passes, reports_tsn, tsns_given, was_passed, was_taken}
 use Rattle.sctp_delivery.specs.SenderCalls.{SenderCall}
 use Rattle.sctp_delivery.specs.Session.{Call, ReceiverFollows, RunsTo, SenderFollows, Session, at_start, of_receiver, of_sender}
@@ -28,27 +29,32 @@ use Rattle.sctp_delivery.proofs.ArrivedCalls.{hears, more-arrived, tells}
 use Rattle.sctp_delivery.proofs.ArrivedTsns.{IsArrived}
 use Rattle.sctp_delivery.proofs.PassedTsns.{flight-given}
 use Rattle.sctp_delivery.proofs.ReportedTsns.{IsTruthful, later-truthful, not-refused, answered-known}
-use Rattle.sctp_delivery.proofs.SackMarks.{IsValidIn, stays-valid-with}
-use Rattle.sctp_delivery.proofs.SackSteps.{IsMadeGiven, known, made-given, moves}
+use Rattle.sctp_delivery.proofs.SackMarks.{IsValidBut, came_in, stays-valid-with}
+use Rattle.sctp_delivery.proofs.SackSteps.{IsMadeGiven, known, known_or, made-given, moves, none_dropped}
 use Rattle.sctp_delivery.proofs.Sessions.{more-made, or-more}
 use Rattle.sctp_delivery.proofs.ValidMarks.{IsRight, IsValid, came-of, every-mapped, more-taken}
 use Rattle.sctp_delivery.proofs.TakenCalls.{AreTaken, more-come, takes-once}
-use Rattle.sctp_delivery.proofs.AnsweredCalls.{IsInOrder, keeps-order, next-sack-tells}
+use Rattle.sctp_delivery.proofs.AnsweredCalls.{IsInOrder, each-sack-tells, keeps-order, next-sack-tells}
 use Rattle.sctp_delivery.proofs.TsnPlaces.{IsGiven, at-or-before, base, before, first-is, next-place, past-first, same-place}
 
--- after n TSNs were given out nobody speaks of another
-pub record IsInStep (p n : ℕ) (s : Session) : Type 0 where
+-- after n TSNs were given out nobody speaks of another; those that the receiver drops are among these
+pub record IsInStepBut (dropped : ℕ → Bool) (p n : ℕ) (s : Session) : Type 0 where
   pub numbered : IsNumbered p n s.sending.sender.flight
   pub made : Every (IsMadeGiven p n) s.made
-  pub arrived : IsArrived p n (known s) s.receiving.receiver.cumulative_tsn s.receiving.receiver.beyond
-  pub sacks : Every (IsTruthful p n (known s)) s.sacks
-  pub settled : IsArrived p n (known s) s.sending.sender.flight.acked_tsn []
-  pub valid : IsValidIn s
+  pub arrived : IsArrived p n (known_or dropped s) s.receiving.receiver.cumulative_tsn s.receiving.receiver.beyond
+  pub sacks : Every (IsTruthful p n (known_or dropped s)) s.sacks
+  pub settled : IsArrived p n (known_or dropped s) s.sending.sender.flight.acked_tsn []
+  pub valid : IsValidBut dropped s
   pub taken : AreTaken p n s.receiving.receiver s.receiving.accepted
   pub order : IsInOrder s.receiving.receiver
 
-pub begin : (first size max most : ℕ) (limits : Option Limits) → first < 2 ^ 32 → IsInStep (base first) 0 (at_start first size max most limits)
-begin first size max most limits small = record {
+-- it drops none
+abbrev pub IsInStep : ℕ → ℕ → Session → Type 0
+IsInStep p n s = IsInStepBut none_dropped p n s
+
+pub begin-but : (dropped : ℕ → Bool) (first size max most : ℕ) (limits : Option Limits) → first < 2 ^ 32
+    → IsInStepBut dropped (base first) 0 (at_start first size max most limits)
+begin-but dropped first size max most limits small = record {
   numbered = record { acked = 0; acked_is = omega arith; next_is = first-is first small; run = refl; total = refl };
   made = tt;
   arrived = record { place = 0; within = omega arith; is = omega arith; so_far = λ k pos le. absurd (omega (arith, pos, le)); each = tt };
@@ -59,43 +65,91 @@ begin first size max most limits small = record {
   order = record { small = omega arith; rise = refl };
 }
 
-more-known : (call : SenderCall) (old new : Session) → SenderFollows call old new → (t : ℕ) → known old t ≡ true → known new t ≡ true
-more-known call old new f t e =
-    let same : was_taken t old ≡ was_taken t new = sym (ap (was_taken t) f.after) in
-    elim (or-split (was_taken t old) (was_passed t old) e) [
-      | inl a ↦ or-left (was_taken t new) (was_passed t new) (sym same ∙ a)
-      | inr a ↦ or-right (was_taken t new) (was_passed t new) (ap (was_passed t) f.after ∙ more-made (passes t) call old.sending.sender old.made a)
-    ]
+pub begin : (first size max most : ℕ) (limits : Option Limits) → first < 2 ^ 32 → IsInStep (base first) 0 (at_start first size max most limits)
+begin first size max most limits small = begin-but none_dropped first size max most limits small
+
+-- ## A call
+
+module _ (dropped : ℕ → Bool) (p n : ℕ) (old new : Session) where
+  -- what came stays so, where what was taken does
+  more-came : ((t : ℕ) → was_taken t old ≡ true → was_taken t new ≡ true) → (t : ℕ) → came_in dropped old t ≡ true → came_in dropped new t ≡ true
+  more-came taken t e = elim (or-split (dropped t) (was_taken t old) e) [
+    | inl d ↦ or-left (dropped t) (was_taken t new) d
+    | inr w ↦ or-right (dropped t) (was_taken t new) (taken t w)
+  ]
+
+  pub grows-so : ((t : ℕ) → was_taken t old ≡ true → was_taken t new ≡ true) → ((t : ℕ) → was_passed t old ≡ true → was_passed t new ≡ true)
+      → (t : ℕ) → known_or dropped old t ≡ true → known_or dropped new t ≡ true
+  grows-so taken passed t e = elim (or-split (came_in dropped old t) (was_passed t old) e) [
+    | inl a ↦ or-left (came_in dropped new t) (was_passed t new) (more-came taken t a)
+    | inr a ↦ or-right (came_in dropped new t) (was_passed t new) (passed t a)
+  ]
+
+  more-known : (call : SenderCall) → SenderFollows call old new → (t : ℕ) → known_or dropped old t ≡ true → known_or dropped new t ≡ true
+  more-known call f =
+      grows-so (λ t e. ap (was_taken t) f.after ∙ e)
+      (λ t e. ap (was_passed t) f.after ∙ more-made (passes t) call old.sending.sender old.made e)
+
+  pub sender-step-but : (call : SenderCall) → n + distance old.sending.sender.flight.next_tsn new.sending.sender.flight.next_tsn < 2 ^ 31
+      → SenderFollows call old new → IsInStepBut dropped p n old
+      → IsInStepBut dropped p (n + distance old.sending.sender.flight.next_tsn new.sending.sender.flight.next_tsn) new
+  sender-step-but call few f i =
+      let small : n < 2 ^ 31 = omega (arith, few) in
+      let after = n + distance old.sending.sender.flight.next_tsn new.sending.sender.flight.next_tsn in
+      let grows = more-known call f in
+      let move = moves p n (known_or dropped old) old new small i.numbered call i.sacks f in
+      record {
+        numbered = move.numbered few;
+        settled = more-arrived p n after (known_or dropped old) (known_or dropped new) new.sending.sender.flight.acked_tsn [] (omega arith) grows
+            (move.settled i.settled);
+        made = subst (Every (IsMadeGiven p after)) (sym (ap (λ (s : Session). s.made) f.after)) (made-given p n old new small i.numbered call i.made f);
+        arrived =
+            subst (λ (r : Reception). IsArrived p after (known_or dropped new) r.cumulative_tsn r.beyond)
+            (sym (ap (λ (s : Session). s.receiving.receiver) f.after))
+            (more-arrived p n after (known_or dropped old) (known_or dropped new) old.receiving.receiver.cumulative_tsn old.receiving.receiver.beyond
+            (omega arith) grows i.arrived);
+        order = subst (λ (s : Stand). IsInOrder s.receiver) (sym (ap (λ (s : Session). s.receiving) f.after)) i.order;
+        taken =
+            subst (λ (s : Stand). AreTaken p after s.receiver s.accepted) (sym (ap (λ (s : Session). s.receiving) f.after))
+            (more-come p n after old.receiving.receiver old.receiving.accepted (omega arith) i.taken);
+        sacks =
+            subst (Every (IsTruthful p after (known_or dropped new))) (sym (ap (λ (s : Session). s.sacks) f.after))
+            (every-of (IsTruthful p n (known_or dropped old)) (IsTruthful p after (known_or dropped new))
+            (λ k t. later-truthful p n after (known_or dropped old) (known_or dropped new) k (omega arith) grows t) old.sacks i.sacks);
+        valid =
+            more-taken (came_in dropped old) (came_in dropped new) (λ t. list_any (passes t) new.made) new.sending.sender.flight.queue
+            (more-came (λ t e. ap (was_taken t) f.after ∙ e))
+            (subst (λ ms. IsValid (came_in dropped old) (λ t. list_any (passes t) ms) new.sending.sender.flight.queue)
+            (sym (ap (λ (s : Session). s.made) f.after)) (stays-valid-with dropped p n old new small i.numbered i.valid call i.sacks i.made f));
+      }
+
+  -- where the sender stays as it is
+  pub beside : n < 2 ^ 31 → new.made ≡ old.made → new.sending ≡ old.sending → ((t : ℕ) → was_taken t old ≡ true → was_taken t new ≡ true)
+      → IsArrived p n (known_or dropped new) new.receiving.receiver.cumulative_tsn new.receiving.receiver.beyond
+      → Every (IsTruthful p n (known_or dropped new)) new.sacks → AreTaken p n new.receiving.receiver new.receiving.accepted
+      → IsInOrder new.receiving.receiver → IsInStepBut dropped p n old → IsInStepBut dropped p n new
+  beside few made sender taken arrived sacks' taken' order' i =
+      let grows = grows-so taken (λ t e. ap (list_any (passes t)) made ∙ e) in
+      record {
+        numbered = subst (λ l. IsNumbered p n l.sender.flight) (sym sender) i.numbered;
+        settled = subst (λ l. IsArrived p n (known_or dropped new) l.sender.flight.acked_tsn []) (sym sender)
+            (more-arrived p n n (known_or dropped old) (known_or dropped new) old.sending.sender.flight.acked_tsn [] (omega arith) grows i.settled);
+        made = subst (Every (IsMadeGiven p n)) (sym made) i.made;
+        order = order';
+        taken = taken';
+        arrived = arrived;
+        sacks = sacks';
+        valid =
+            subst (λ l. IsValid (came_in dropped new) (λ t. list_any (passes t) new.made) l.sender.flight.queue) (sym sender)
+            (subst (λ ms. IsValid (came_in dropped new) (λ t. list_any (passes t) ms) old.sending.sender.flight.queue) (sym made)
+            (more-taken (came_in dropped old) (came_in dropped new) (λ t. list_any (passes t) old.made) old.sending.sender.flight.queue
+            (more-came taken) i.valid));
+      }
 
 pub sender-step : (p n : ℕ) (call : SenderCall) (old new : Session)
     → n + distance old.sending.sender.flight.next_tsn new.sending.sender.flight.next_tsn < 2 ^ 31 → SenderFollows call old new → IsInStep p n old
     → IsInStep p (n + distance old.sending.sender.flight.next_tsn new.sending.sender.flight.next_tsn) new
-sender-step p n call old new few f i =
-    let small : n < 2 ^ 31 = omega (arith, few) in
-    let after = n + distance old.sending.sender.flight.next_tsn new.sending.sender.flight.next_tsn in
-    let grows = more-known call old new f in
-    let move = moves p n (known old) old new small i.numbered call i.sacks f in
-    record {
-      numbered = move.numbered few;
-      settled = more-arrived p n after (known old) (known new) new.sending.sender.flight.acked_tsn [] (omega arith) grows (move.settled i.settled);
-      made = subst (Every (IsMadeGiven p after)) (sym (ap (λ (s : Session). s.made) f.after)) (made-given p n old new small i.numbered call i.made f);
-      arrived =
-          subst (λ (r : Reception). IsArrived p after (known new) r.cumulative_tsn r.beyond) (sym (ap (λ (s : Session). s.receiving.receiver) f.after))
-          (more-arrived p n after (known old) (known new) old.receiving.receiver.cumulative_tsn old.receiving.receiver.beyond (omega arith) grows i.arrived);
-      order = subst (λ (s : Stand). IsInOrder s.receiver) (sym (ap (λ (s : Session). s.receiving) f.after)) i.order;
-      taken =
-          subst (λ (s : Stand). AreTaken p after s.receiver s.accepted) (sym (ap (λ (s : Session). s.receiving) f.after))
-          (more-come p n after old.receiving.receiver old.receiving.accepted (omega arith) i.taken);
-      sacks =
-          subst (Every (IsTruthful p after (known new))) (sym (ap (λ (s : Session). s.sacks) f.after))
-          (every-of (IsTruthful p n (known old)) (IsTruthful p after (known new))
-          (λ k t. later-truthful p n after (known old) (known new) k (omega arith) grows t) old.sacks i.sacks);
-      valid =
-          more-taken (λ t. was_taken t old) (λ t. was_taken t new) (λ t. list_any (passes t) new.made) new.sending.sender.flight.queue
-          (λ t e. ap (was_taken t) f.after ∙ e)
-          (subst (λ ms. IsValid (λ t. was_taken t old) (λ t. list_any (passes t) ms) new.sending.sender.flight.queue)
-          (sym (ap (λ (s : Session). s.made) f.after)) (stays-valid-with p n old new small i.numbered i.valid call i.sacks i.made f));
-    }
+sender-step p n call old new few f i = sender-step-but none_dropped p n old new call few f i
 
 -- what was taken stays so
 pub more-accepted : (call : ReceiverCall) (old new : Session) → ReceiverFollows call old new → (t : ℕ) → was_taken t old ≡ true → was_taken t new ≡ true
@@ -104,32 +158,28 @@ more-accepted (incoming.takes c Repeat) old new f t e = ap (list_any (has_tsn t)
 more-accepted (incoming.takes c (New answered)) old new f t e = ap (list_any (has_tsn t)) f.step.accepted ∙ or-more (has_tsn t c) (was_taken t old) e
 more-accepted (incoming.follows g) old new f t e = ap (list_any (has_tsn t)) f.step.accepted ∙ e
 more-accepted (incoming.reports credit) old new f t e = ap (list_any (has_tsn t)) f.step.accepted ∙ e
+more-accepted (incoming.reports_within credit bytes) old new f t e = ap (list_any (has_tsn t)) f.step.accepted ∙ e
+more-accepted (incoming.makes_sack credit) old new f t e = ap (list_any (has_tsn t)) f.step.accepted ∙ e
+more-accepted incoming.forgets old new f t e = ap (list_any (has_tsn t)) f.step.accepted ∙ e
 more-accepted (incoming.reads stream) old new f t e = ap (list_any (has_tsn t)) f.step.accepted ∙ e
 
-pub receiver-step : (p n : ℕ) (call : ReceiverCall) (old new : Session) → n < 2 ^ 31 → ReceiverFollows call old new → IsInStep p n old → IsInStep p n new
-receiver-step p n call old new few f i =
+pub receiver-step-but : (dropped : ℕ → Bool) (p n : ℕ) (call : ReceiverCall) (old new : Session) → n < 2 ^ 31 → ReceiverFollows call old new
+    → IsInStepBut dropped p n old → IsInStepBut dropped p n new
+receiver-step-but dropped p n call old new few f i =
     let taken = more-accepted call old new f in
     let made : new.made ≡ old.made = ap (λ (s : Session). s.made) f.after in
-    let sender : new.sending ≡ old.sending = ap (λ (s : Session). s.sending) f.after in
-    let grows : (t : ℕ) → known old t ≡ true → known new t ≡ true = λ t e. elim (or-split (was_taken t old) (was_passed t old) e) [
-      | inl a ↦ or-left (was_taken t new) (was_passed t new) (taken t a)
-      | inr a ↦ or-right (was_taken t new) (was_passed t new) (ap (list_any (passes t)) made ∙ a)
-    ] in
-    record {
-      numbered = subst (λ l. IsNumbered p n l.sender.flight) (sym sender) i.numbered;
-      settled = subst (λ l. IsArrived p n (known new) l.sender.flight.acked_tsn []) (sym sender)
-          (more-arrived p n n (known old) (known new) old.sending.sender.flight.acked_tsn [] (omega arith) grows i.settled);
-      made = subst (Every (IsMadeGiven p n)) (sym made) i.made;
-      order = keeps-order p n (known old) old new few i.made i.arrived i.order call f;
-      taken = takes-once p n (known old) old new few i.made i.arrived i.taken call f;
-      arrived = hears p n old new few i.made made grows i.arrived call f;
-      sacks = subst (Every (IsTruthful p n (known new))) (sym (ap (λ (s : Session). s.sacks) f.after))
-          (tells p n old (known new) call few grows i.arrived i.sacks);
-      valid =
-          subst (λ l. IsValid (λ t. was_taken t new) (λ t. list_any (passes t) new.made) l.sender.flight.queue) (sym sender)
-          (subst (λ ms. IsValid (λ t. was_taken t new) (λ t. list_any (passes t) ms) old.sending.sender.flight.queue) (sym made)
-          (more-taken (λ t. was_taken t old) (λ t. was_taken t new) (λ t. list_any (passes t) old.made) old.sending.sender.flight.queue taken i.valid));
-    }
+    let grows = grows-so dropped p n old new taken (λ t e. ap (list_any (passes t)) made ∙ e) in
+    beside dropped p n old new few made (ap (λ (s : Session). s.sending) f.after) taken
+    (hears p n (known_or dropped old) (known_or dropped new) old new few i.made grows
+    (λ t e. or-left (came_in dropped new t) (was_passed t new) (or-right (dropped t) (was_taken t new) e))
+    (λ t e. or-right (came_in dropped new t) (was_passed t new) (ap (list_any (passes t)) made ∙ e)) i.arrived call f)
+    (subst (Every (IsTruthful p n (known_or dropped new))) (sym (ap (λ (s : Session). s.sacks) f.after))
+    (tells p n (known_or dropped old) (known_or dropped new) old call few grows i.arrived i.sacks))
+    (takes-once p n (known_or dropped old) old new few i.made i.arrived i.taken call f)
+    (keeps-order p n (known_or dropped old) old new few i.made i.arrived i.order call f) i
+
+pub receiver-step : (p n : ℕ) (call : ReceiverCall) (old new : Session) → n < 2 ^ 31 → ReceiverFollows call old new → IsInStep p n old → IsInStep p n new
+receiver-step p n call old new few f i = receiver-step-but none_dropped p n call old new few f i
 
 same-distance : (q k : ℕ) → distance (tsn q k) (tsn q k) ≡ 0
 unfolding distance
@@ -167,36 +217,50 @@ in-step first size max most limits cs s run small few =
     subst (λ k. IsInStep (base first) k s) {x = 0 + n} {y = n} (omega arith)
     (all-steps (base first) 0 cs (at_start first size max most limits) s run (omega (arith, few)) (begin first size max most limits small))
 
-accepts : (p n : ℕ) (s : Session) → n < 2 ^ 31 → IsInStep p n s → NoneIsRefused s
-accepts p n s few i =
+pub accepts : (dropped : ℕ → Bool) (p n : ℕ) (s : Session) → n < 2 ^ 31 → IsInStepBut dropped p n s → NoneIsRefused s
+accepts dropped p n s few i =
     all-of-every (λ k. sack_refusal k s.sending.sender.flight ≡ None) s.sacks
-    (every-of (IsTruthful p n (known s)) (λ k. sack_refusal k s.sending.sender.flight ≡ None)
-    (λ k t. not-refused p n (known s) k s.sending.sender.flight few i.numbered t) s.sacks i.sacks)
+    (every-of (IsTruthful p n (known_or dropped s)) (λ k. sack_refusal k s.sending.sender.flight ≡ None)
+    (λ k t. not-refused p n (known_or dropped s) k s.sending.sender.flight few i.numbered t) s.sacks i.sacks)
 
 pub none-refused : AfterEachSessionOfFewTsns (λ first count s. NoneIsRefused s)
-none-refused first size max most limits cs s run small few = accepts (base first) (tsns_given (at_start first size max most limits) cs s run) s few
+none-refused first size max most limits cs s run small few = accepts none_dropped (base first) (tsns_given (at_start first size max most limits) cs s run) s few
     (in-step first size max most limits cs s run small few)
 
 near-first : (first t : ℕ) → at_or_before first t ≡ true → distance first t < 2 ^ 31
 unfolding at_or_before
 near-first first t e = grind (arith, nat_tests, e)
 
-reports-given : (first n : ℕ) (s : Session) → first < 2 ^ 32 → n < 2 ^ 31 → IsInStep (base first) n s → ReportWhatCame first n s
-reports-given first n s small few i t fits from e =
+-- of the TSNs from the first on, each that a SACK reports is known
+abbrev ReportKnown : (ℕ → Bool) → ℕ → ℕ → Session → Type 0
+ReportKnown dropped first n s =
+    (t : ℕ) → t < 2 ^ 32 → at_or_before first t ≡ true → list_any (reports_tsn t) s.sacks ≡ true
+    → (known_or dropped s t ≡ true) × (distance first t < n)
+
+pub reports-given : (dropped : ℕ → Bool) (first n : ℕ) (s : Session) → first < 2 ^ 32 → n < 2 ^ 31 → IsInStepBut dropped (base first) n s
+    → ReportKnown dropped first n s
+reports-given dropped first n s small few i t fits from e =
     let p = base first in
     let k = distance first t + 1 in
     let near = near-first first t from in
     let at : t ≡ tsn p k = past-first first t small fits in
-    let one = one-of (IsTruthful p n (known s)) (reports_tsn t) s.sacks e i.sacks in
-    let r = answered-known p n (known s) one.0 k few (omega arith) (omega (arith, near)) one.2 (subst (λ u. reports_tsn u one.0 ≡ true) at one.1) in
-    (subst (λ u. known s u ≡ true) (sym at) r.0, omega (arith, r.1))
+    let one = one-of (IsTruthful p n (known_or dropped s)) (reports_tsn t) s.sacks e i.sacks in
+    let r = answered-known p n (known_or dropped s) one.0 k few (omega arith) (omega (arith, near)) one.2 (subst (λ u. reports_tsn u one.0 ≡ true) at one.1) in
+    (subst (λ u. known_or dropped s u ≡ true) (sym at) r.0, omega (arith, r.1))
 
 pub report-given : AfterEachSessionOfFewTsns ReportWhatCame
-report-given first size max most limits cs s run small few = reports-given first (tsns_given (at_start first size max most limits) cs s run) s small few
+report-given first size max most limits cs s run small few =
+    reports-given none_dropped first (tsns_given (at_start first size max most limits) cs s run) s small few
     (in-step first size max most limits cs s run small few)
 
-left-came : (first n : ℕ) (s : Session) → first < 2 ^ 32 → n < 2 ^ 31 → IsInStep (base first) n s → LeftCame first s
-left-came first n s small few i t fits from upto =
+-- of the TSNs from the first on, each up to the acknowledged one is known
+abbrev LeftKnown : (ℕ → Bool) → ℕ → Session → Type 0
+LeftKnown dropped first s =
+    (t : ℕ) → t < 2 ^ 32 → at_or_before first t ≡ true → at_or_before t s.sending.sender.flight.acked_tsn ≡ true → known_or dropped s t ≡ true
+
+pub left-came : (dropped : ℕ → Bool) (first n : ℕ) (s : Session) → first < 2 ^ 32 → n < 2 ^ 31 → IsInStepBut dropped (base first) n s
+    → LeftKnown dropped first s
+left-came dropped first n s small few i t fits from upto =
     let p = base first in
     let k = distance first t + 1 in
     let near = near-first first t from in
@@ -207,56 +271,68 @@ left-came first n s small few i t fits from upto =
     sym (at-or-before p k a.place (omega (arith, near)) (omega (arith, within, few))) ∙ ap (λ u. at_or_before u (tsn p a.place)) (sym at) ∙ ap
     (at_or_before t) (sym a.is) ∙ upto in
     let le : k ≤ a.place = grind (arith, nat_tests, order) in
-    subst (λ u. known s u ≡ true) (sym at) (a.so_far k (omega arith) le)
+    subst (λ u. known_or dropped s u ≡ true) (sym at) (a.so_far k (omega arith) le)
 
 pub all-left-came : AfterEachSessionOfFewTsns (λ first count s. LeftCame first s)
 all-left-came first size max most limits cs s run small few =
-    left-came first (tsns_given (at_start first size max most limits) cs s run) s small few (in-step first size max most limits cs s run small few)
+    left-came none_dropped first (tsns_given (at_start first size max most limits) cs s run) s small few (in-step first size max most limits cs s run small few)
 
 -- ## What is acknowledged
 
 -- a SACK reports a chunk in flight
-answered-of : (p n : ℕ) (s : Session) → n < 2 ^ 31 → (k : Sack) → IsTruthful p n (known s) k → (c : ChunkPayloadData) → IsGiven p n c.tsn → reports k c ≡ true
-    → known s c.tsn ≡ true
-answered-of p n s few k t c g e =
+answered-of : (kn : ℕ → Bool) (p n : ℕ) → n < 2 ^ 31 → (k : Sack) → IsTruthful p n kn k → (c : ChunkPayloadData) → IsGiven p n c.tsn
+    → reports k c ≡ true → kn c.tsn ≡ true
+answered-of kn p n few k t c g e =
     let within = g.within in
-    let r = answered-known p n (known s) k g.place few g.some (omega (arith, within, few)) t (subst (λ u. reports_tsn u k ≡ true) g.is e) in
-    subst (λ u. known s u ≡ true) (sym g.is) r.0
+    let r = answered-known p n kn k g.place few g.some (omega (arith, within, few)) t (subst (λ u. reports_tsn u k ≡ true) g.is e) in
+    subst (λ u. kn u ≡ true) (sym g.is) r.0
 
-pub came : (p n : ℕ) (s : Session) → n < 2 ^ 31 → IsInStep p n s → AcknowledgedCame s
-came p n s few i =
+-- of the chunks in flight each that is acknowledged or reported came, or its message is abandoned
+abbrev AcknowledgedKnown : (ℕ → Bool) → Session → Type 0
+AcknowledgedKnown dropped s =
+    All (λ c. is_reported s c ≡ true → (came_in dropped s c.tsn || c.abandoned) ≡ true) s.sending.sender.flight.queue.inflight.chunks
+
+pub came-so : (dropped : ℕ → Bool) (p n : ℕ) (s : Session) → n < 2 ^ 31 → IsInStepBut dropped p n s → AcknowledgedKnown dropped s
+came-so dropped p n s few i =
     let cs = s.sending.sender.flight.queue.inflight.chunks in
-    all-of-every (λ (c : ChunkPayloadData). is_reported s c ≡ true → (was_taken c.tsn s || c.abandoned) ≡ true) cs
+    all-of-every (λ (c : ChunkPayloadData). is_reported s c ≡ true → (came_in dropped s c.tsn || c.abandoned) ≡ true) cs
     (each cs (flight-given p n s.sending.sender.flight i.numbered) i.valid.inflight)
   where
-    answered : (c : ChunkPayloadData) → IsGiven p n c.tsn → list_any (λ k. reports k c) s.sacks ≡ true → known s c.tsn ≡ true
+    answered : (c : ChunkPayloadData) → IsGiven p n c.tsn → list_any (λ k. reports k c) s.sacks ≡ true → known_or dropped s c.tsn ≡ true
     answered c g e =
-        let one = one-of (IsTruthful p n (known s)) (λ k. reports k c) s.sacks e i.sacks in
-        answered-of p n s few one.0 one.2 c g one.1
+        let one = one-of (IsTruthful p n (known_or dropped s)) (λ k. reports k c) s.sacks e i.sacks in
+        answered-of (known_or dropped s) p n few one.0 one.2 c g one.1
 
     each : (cs : List ChunkPayloadData) → Every (λ (c : ChunkPayloadData). IsGiven p n c.tsn) cs → Every
-        (IsRight (λ t. was_taken t s) (λ t. was_passed t s)) cs → Every
-        (λ (c : ChunkPayloadData). is_reported s c ≡ true → (was_taken c.tsn s || c.abandoned) ≡ true) cs
+        (IsRight (came_in dropped s) (λ t. was_passed t s)) cs → Every
+        (λ (c : ChunkPayloadData). is_reported s c ≡ true → (came_in dropped s c.tsn || c.abandoned) ≡ true) cs
     each [] g r = tt
     each (c ∷ cs) g r = (
       λ e. elim (or-split c.acked (list_any (λ k. reports k c) s.sacks) e) [
         | inl a ↦ r.0.came a
-        | inr a ↦ came-of (λ t. was_taken t s) (λ t. was_passed t s) c r.0 (answered c g.0 a)
+        | inr a ↦ came-of (came_in dropped s) (λ t. was_passed t s) c r.0 (answered c g.0 a)
       ],
       each cs g.1 r.1,
     )
+
+pub came : (p n : ℕ) (s : Session) → n < 2 ^ 31 → IsInStep p n s → AcknowledgedCame s
+came p n s few i = came-so none_dropped p n s few i
 
 pub acknowledged-came : AfterEachSessionOfFewTsns (λ first count s. AcknowledgedCame s)
 acknowledged-came first size max most limits cs s run small few = came (base first) (tsns_given (at_start first size max most limits) cs s run) s few
     (in-step first size max most limits cs s run small few)
 
-pub pass-abandoned : AfterEachSessionOfFewTsns (λ first count s. PassAbandoned s)
-pass-abandoned first size max most limits cs s run small few =
-    let i = in-step first size max most limits cs s run small few in
+pub passed-gone : (dropped : ℕ → Bool) (p n : ℕ) (s : Session) → IsInStepBut dropped p n s → PassAbandoned s
+passed-gone dropped p n s i =
     let chunks = s.sending.sender.flight.queue.inflight.chunks in
     all-of-every (λ (c : ChunkPayloadData). was_passed c.tsn s ≡ true → c.abandoned ≡ true) chunks
-    (every-of (IsRight (λ t. was_taken t s) (λ t. was_passed t s)) (λ (c : ChunkPayloadData). was_passed c.tsn s ≡ true → c.abandoned ≡ true)
+    (every-of (IsRight (came_in dropped s) (λ t. was_passed t s)) (λ (c : ChunkPayloadData). was_passed c.tsn s ≡ true → c.abandoned ≡ true)
     (λ c r. r.gone) chunks i.valid.inflight)
+
+pub pass-abandoned : AfterEachSessionOfFewTsns (λ first count s. PassAbandoned s)
+pass-abandoned first size max most limits cs s run small few =
+    passed-gone none_dropped (base first) (tsns_given (at_start first size max most limits) cs s run) s
+    (in-step first size max most limits cs s run small few)
 
 -- ## What is released
 
@@ -268,44 +344,50 @@ filtered q Q (x ∷ xs) e = by (q x) refl (filtered q Q xs e.1)
     by true h ih = (e.0 h, ih)
     by false h ih = ih
 
--- a chunk with bytes was taken
-abbrev HasCome : Session → ChunkPayloadData → Type 0
-HasCome s c = 0 < length c.user_data → was_taken c.tsn s ≡ true
+-- a chunk with bytes came
+abbrev HasCome : (ℕ → Bool) → Session → ChunkPayloadData → Type 0
+HasCome dropped s c = 0 < length c.user_data → came_in dropped s c.tsn ≡ true
 
-released : (p n : ℕ) (s : Session) → n < 2 ^ 31 → IsInStep p n s → ReleasedCame s
-released p n s few i =
-    all-of-every (λ k. All (λ r. 0 < r.bytes → was_taken r.tsn s ≡ true) (released_by k s.sending.sender.flight)) s.sacks
-    (every-of (IsTruthful p n (known s)) (λ k. All (λ r. 0 < r.bytes → was_taken r.tsn s ≡ true) (released_by k s.sending.sender.flight))
+-- and each that a SACK would release
+abbrev ReleasedKnown : (ℕ → Bool) → Session → Type 0
+ReleasedKnown dropped s = All (λ k. All (λ r. 0 < r.bytes → came_in dropped s r.tsn ≡ true) (released_by k s.sending.sender.flight)) s.sacks
+
+pub released : (dropped : ℕ → Bool) (p n : ℕ) (s : Session) → n < 2 ^ 31 → IsInStepBut dropped p n s → ReleasedKnown dropped s
+released dropped p n s few i =
+    all-of-every (λ k. All (λ r. 0 < r.bytes → came_in dropped s r.tsn ≡ true) (released_by k s.sending.sender.flight)) s.sacks
+    (every-of (IsTruthful p n (known_or dropped s)) (λ k. All (λ r. 0 < r.bytes → came_in dropped s r.tsn ≡ true) (released_by k s.sending.sender.flight))
     (λ k t. of-sack k t) s.sacks i.sacks)
   where
-    one : (k : Sack) → IsTruthful p n (known s) k → (c : ChunkPayloadData) → IsGiven p n c.tsn → IsRight (λ t. was_taken t s) (λ t. was_passed t s) c
-        → reports_anew k c ≡ true → HasCome s c
-    one k t c g r e some = elim (or-split (was_taken c.tsn s) c.abandoned
-        (came-of (λ u. was_taken u s) (λ u. was_passed u s) c r (answered-of p n s few k t c g (both (not c.acked) (reports k c) e).1))) [
+    one : (k : Sack) → IsTruthful p n (known_or dropped s) k → (c : ChunkPayloadData) → IsGiven p n c.tsn → IsRight (came_in dropped s) (λ t. was_passed t s) c
+        → reports_anew k c ≡ true → HasCome dropped s c
+    one k t c g r e some = elim (or-split (came_in dropped s c.tsn) c.abandoned
+        (came-of (came_in dropped s) (λ u. was_passed u s) c r (answered-of (known_or dropped s) p n few k t c g (both (not c.acked) (reports k c) e).1))) [
           | inl a ↦ a
           | inr a ↦ let none = r.bare a in absurd (omega (arith, none, some))
         ]
 
-    each : (k : Sack) → IsTruthful p n (known s) k → (cs : List ChunkPayloadData) → Every (λ (c : ChunkPayloadData). IsGiven p n c.tsn) cs → Every
-        (IsRight (λ t. was_taken t s) (λ t. was_passed t s)) cs → Every (λ (c : ChunkPayloadData). reports_anew k c ≡ true → HasCome s c) cs
+    each : (k : Sack) → IsTruthful p n (known_or dropped s) k → (cs : List ChunkPayloadData) → Every (λ (c : ChunkPayloadData). IsGiven p n c.tsn) cs → Every
+        (IsRight (came_in dropped s) (λ t. was_passed t s)) cs → Every (λ (c : ChunkPayloadData). reports_anew k c ≡ true → HasCome dropped s c) cs
     each k t [] g r = tt
     each k t (c ∷ cs) g r = (λ e. one k t c g.0 r.0 e, each k t cs g.1 r.1)
 
-    of-sack : (k : Sack) → IsTruthful p n (known s) k → All (λ r. 0 < r.bytes → was_taken r.tsn s ≡ true) (released_by k s.sending.sender.flight)
+    of-sack : (k : Sack) → IsTruthful p n (known_or dropped s) k
+        → All (λ r. 0 < r.bytes → came_in dropped s r.tsn ≡ true) (released_by k s.sending.sender.flight)
     of-sack k t = by (is_outdated k s.sending.sender.flight)
       where
-        by : (b : Bool) → All (λ r. 0 < r.bytes → was_taken r.tsn s ≡ true)
+        by : (b : Bool) → All (λ r. 0 < r.bytes → came_in dropped s r.tsn ≡ true)
             (if b then [] else map (released_of (is_whole k s.sending.sender.flight)) (filter (reports_anew k) s.sending.sender.flight.queue.inflight.chunks))
         by true = λ j d lt. absurd (omega (arith, lt))
         by false =
             let cs = s.sending.sender.flight.queue.inflight.chunks in
             let w = is_whole k s.sending.sender.flight in
-            all-of-every (λ r. 0 < r.bytes → was_taken r.tsn s ≡ true) (map (released_of w) (filter (reports_anew k) cs))
-            (every-mapped (HasCome s) (λ r. 0 < r.bytes → was_taken r.tsn s ≡ true) (released_of w) (λ c h. h) (filter (reports_anew k) cs)
-            (filtered (reports_anew k) (HasCome s) cs (each k t cs (flight-given p n s.sending.sender.flight i.numbered) i.valid.inflight)))
+            all-of-every (λ r. 0 < r.bytes → came_in dropped s r.tsn ≡ true) (map (released_of w) (filter (reports_anew k) cs))
+            (every-mapped (HasCome dropped s) (λ r. 0 < r.bytes → came_in dropped s r.tsn ≡ true) (released_of w) (λ c h. h) (filter (reports_anew k) cs)
+            (filtered (reports_anew k) (HasCome dropped s) cs (each k t cs (flight-given p n s.sending.sender.flight i.numbered) i.valid.inflight)))
 
 pub all-released-came : AfterEachSessionOfFewTsns (λ first count s. ReleasedCame s)
-all-released-came first size max most limits cs s run small few = released (base first) (tsns_given (at_start first size max most limits) cs s run) s few
+all-released-came first size max most limits cs s run small few =
+    released none_dropped (base first) (tsns_given (at_start first size max most limits) cs s run) s few
     (in-step first size max most limits cs s run small few)
 
 -- ## What is taken
@@ -319,6 +401,11 @@ pub all-answered : AfterEachSessionOfFewTsns (λ first count s. NextSackTells s)
 all-answered first size max most limits cs s run small few =
     let i = in-step first size max most limits cs s run small few in
     next-sack-tells (base first) (tsns_given (at_start first size max most limits) cs s run) s (known s) few i.arrived i.order i.taken
+
+pub each-tells : AfterEachSessionOfFewTsns (λ first count s. EachSackTells s)
+each-tells first size max most limits cs s run small few =
+    let i = in-step first size max most limits cs s run small few in
+    each-sack-tells (base first) (tsns_given (at_start first size max most limits) cs s run) s (known s) few i.arrived i.order i.taken
 
 -- ## Nothing is left
 
@@ -352,13 +439,15 @@ leaves-none p n kn k f few h t e = by (is_outdated k f) refl (taken-numbered p n
         let one = same-place p g.acked t.place (omega (arith, total, few)) (omega (arith, within, few)) (sym g.acked_is ∙ t.is) in
         none-of (take_sack k f).queue.inflight.chunks (omega (arith, total, one, last))
 
-pub all-reported-leaves : AfterEachSessionOfFewTsns (λ first count s. AllReportedLeaves s)
-all-reported-leaves first size max most limits cs s run small few =
-    let n = tsns_given (at_start first size max most limits) cs s run in
-    let i = in-step first size max most limits cs s run small few in
-    let f = s.sending.sender.flight in
+pub reported-leaves : (dropped : ℕ → Bool) (p n : ℕ) (s : Session) → n < 2 ^ 31 → IsInStepBut dropped p n s → AllReportedLeaves s
+reported-leaves dropped p n s few i =
     all-of-every (λ k. following_tsn k.cumulative_tsn_ack ≡ s.sending.sender.flight.next_tsn →
     (after_sack k s.sending.sender.flight).queue.inflight.chunks ≡ []) s.sacks
-    (every-of (IsTruthful (base first) n (known s)) (λ k. following_tsn k.cumulative_tsn_ack ≡ s.sending.sender.flight.next_tsn →
+    (every-of (IsTruthful p n (known_or dropped s)) (λ k. following_tsn k.cumulative_tsn_ack ≡ s.sending.sender.flight.next_tsn →
     (after_sack k s.sending.sender.flight).queue.inflight.chunks ≡ [])
-    (λ k t e. leaves-none (base first) n (known s) k f few i.numbered t e) s.sacks i.sacks)
+    (λ k t e. leaves-none p n (known_or dropped s) k s.sending.sender.flight few i.numbered t e) s.sacks i.sacks)
+
+pub all-reported-leaves : AfterEachSessionOfFewTsns (λ first count s. AllReportedLeaves s)
+all-reported-leaves first size max most limits cs s run small few =
+    reported-leaves none_dropped (base first) (tsns_given (at_start first size max most limits) cs s run) s few
+    (in-step first size max most limits cs s run small few)

@@ -46,6 +46,13 @@ use Rattle.sctp_delivery.proofs.TsnPlaces.{IsGiven, at-or-before, before, more-g
 abbrev pub known : Session → ℕ → Bool
 known s t = was_taken t s || was_passed t s
 
+-- or dropped: one of these
+abbrev pub known_or : (ℕ → Bool) → Session → ℕ → Bool
+known_or dropped s t = (dropped t || was_taken t s) || was_passed t s
+
+abbrev pub none_dropped : ℕ → Bool
+none_dropped t = false
+
 -- a chunk that was made has a TSN that was given out, or goes to one
 abbrev pub IsMadeGiven : ℕ → ℕ → Made → Type 0
 IsMadeGiven p n (data_chunk d) = IsGiven p n d.tsn

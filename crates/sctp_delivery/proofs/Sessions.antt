@@ -9,6 +9,7 @@ use Rattle.sctp_util.proofs.More.{and, both}
 use Rattle.sctp_data.specs.declared.chunk.chunk_payload_data.ChunkPayloadData.{ChunkPayloadData}
 use Rattle.sctp_data.specs.PayloadData.{Data, data_of}
 use Rattle.sctp_receiver.specs.declared.receiver.arrival.Arrival.TheVariants.{New, Repeat}
+use Rattle.sctp_receiver.specs.declared.receiver.limits.Limits.{Limits}
 use Rattle.sctp_receiver.specs.ReceiverRuns as receiver_runs
 use Rattle.sctp_receiver.specs.ReceiverRuns.{Message, fragments_read}
 use Rattle.sctp_receiver.proofs.Handed as handed
@@ -104,21 +105,24 @@ none-back (reserves more) = refl
 none-back (takes_sack sack gone) = refl
 
 -- what is counted is what was written, and nothing came back
-record IsCounted (s : Session) : Type 0 where
-  written : bytes_written s ≡ s.sending.written
-  back : s.sending.taken_back ≡ 0
+pub record IsCounted (s : Session) : Type 0 where
+  pub written : bytes_written s ≡ s.sending.written
+  pub back : s.sending.taken_back ≡ 0
+
+pub sender-counts : (call : SenderCall) (old new : Session) → SenderFollows call old new → IsCounted old → IsCounted new
+sender-counts call old new f h = record {
+  written =
+      let e = ap bytes_written f.after in
+      let m = written-more call old.written in
+      let n = f.step.written in
+      let o = h.written in
+      omega (arith, e, m, n, o);
+  back = let n = f.step.taken_back in let z = none-back call in let o = h.back in omega (arith, n, z, o);
+}
 
 counted : (cs : List Call) (old new : Session) → RunsTo old cs new → IsCounted old → IsCounted new
 counted [] old new r h = subst IsCounted (sym r) h
-counted (of_sender call ∷ cs) old new r h = counted cs r.0 new r.1.1 (record {
-  written =
-      let e = ap bytes_written r.1.0.after in
-      let m = written-more call old.written in
-      let n = r.1.0.step.written in
-      let o = h.written in
-      omega (arith, e, m, n, o);
-  back = let n = r.1.0.step.taken_back in let z = none-back call in let o = h.back in omega (arith, n, z, o);
-})
+counted (of_sender call ∷ cs) old new r h = counted cs r.0 new r.1.1 (sender-counts call old r.0 r.1.0 h)
 counted (of_receiver call ∷ cs) old new r h = counted cs r.0 new r.1.1 (record {
   written =
       let e = ap bytes_written r.1.0.after in
@@ -237,13 +241,15 @@ more-made p (takes_sack sack gone) t ms e = e
 abbrev pub IsTakenMade : Session → Type 0
 IsTakenMade s = list_all (made_among s.made) s.receiving.accepted ≡ true
 
+pub kept-so : (old new : Session) → new.made ≡ old.made → new.receiving.accepted ≡ old.receiving.accepted → IsTakenMade old → IsTakenMade new
+kept-so old new same e h =
+    ap (λ ms. list_all (made_among ms) new.receiving.accepted) same ∙ (ap (list_all (made_among old.made)) e ∙ h)
+
 kept-made : (call : ReceiverCall) (old new : Session) → ReceiverFollows call old new → new.receiving.accepted ≡ old.receiving.accepted → IsTakenMade old
     → IsTakenMade new
-kept-made call old new f e h =
-    ap (λ ms. list_all (made_among ms) new.receiving.accepted) (ap (λ (s : Session). s.made) f.after)
-    ∙ (ap (list_all (made_among old.made)) e ∙ h)
+kept-made call old new f e h = kept-so old new (ap (λ (s : Session). s.made) f.after) e h
 
-taken-made : (call : ReceiverCall) (old new : Session) → ReceiverFollows call old new → IsTakenMade old → IsTakenMade new
+pub taken-made : (call : ReceiverCall) (old new : Session) → ReceiverFollows call old new → IsTakenMade old → IsTakenMade new
 taken-made (incoming.takes c (New answered)) old new f h =
     ap (λ ms. list_all (made_among ms) new.receiving.accepted) (ap (λ (s : Session). s.made) f.after)
     ∙ (ap (list_all (made_among old.made)) f.step.accepted
@@ -252,9 +258,12 @@ taken-made (incoming.takes c Repeat) old new f h = kept-made (incoming.takes c R
 taken-made (incoming.opens stream) old new f h = kept-made (incoming.opens stream) old new f f.step.accepted h
 taken-made (incoming.follows g) old new f h = kept-made (incoming.follows g) old new f f.step.accepted h
 taken-made (incoming.reports credit) old new f h = kept-made (incoming.reports credit) old new f f.step.accepted h
+taken-made (incoming.reports_within credit bytes) old new f h = kept-made (incoming.reports_within credit bytes) old new f f.step.accepted h
+taken-made (incoming.makes_sack credit) old new f h = kept-made (incoming.makes_sack credit) old new f f.step.accepted h
+taken-made incoming.forgets old new f h = kept-made incoming.forgets old new f f.step.accepted h
 taken-made (incoming.reads stream) old new f h = kept-made (incoming.reads stream) old new f f.step.accepted h
 
-sent-made : (call : SenderCall) (old new : Session) → SenderFollows call old new → IsTakenMade old → IsTakenMade new
+pub sent-made : (call : SenderCall) (old new : Session) → SenderFollows call old new → IsTakenMade old → IsTakenMade new
 sent-made call old new f h =
     ap (λ (s : Session). list_all (made_among s.made) s.receiving.accepted) f.after
     ∙ every (made_among old.made) (made_among (made_after call old.sending.sender old.made))
@@ -281,18 +290,27 @@ all-found ms read e k d l =
     let h = AllPass-from_list_all (λ (x : Message). list_all (made_among ms) x.fragments) read e k d l in
     λ i c n. found-made ms (data_of (slice_index_or m.fragments i c)) (AllPass-from_list_all (made_among ms) m.fragments h i c n)
 
-pub made : AfterEachSession AreMade
-made tsn size max most limits cs s r =
-    let start = at_start tsn size max most limits in
-    let law = handed.accepted tsn most limits (receiver_calls cs) s.receiving (receiver-runs cs start s r) in
-    let taken = all-made cs start s r refl in
+-- of what a run of the receiver alone leads to
+abbrev RunsSo : ℕ → ℕ → Option Limits → List receiver_runs.Call → Session → Type 0
+RunsSo tsn most limits cs s = receiver_runs.RunsTo (receiver_runs.at_start tsn most limits) cs s.receiving
+
+pub made-so : (tsn most : ℕ) (limits : Option Limits) (cs : List receiver_runs.Call) (s : Session) → RunsSo tsn most limits cs s → IsTakenMade s → AreMade s
+made-so tsn most limits cs s r taken =
+    let law = handed.accepted tsn most limits cs s.receiving r in
     all-found s.made s.receiving.read (each-read (λ _. made_among s.made) s.receiving.read (λ st. let l = law st (fails (made_among s.made)) in
     let z = none-fails (made_among s.made) (is_on st) s.receiving.accepted taken in omega (arith, l, z)))
 
+pub made : AfterEachSession AreMade
+made tsn size max most limits cs s r =
+    let start = at_start tsn size max most limits in
+    made-so tsn most limits (receiver_calls cs) s (receiver-runs cs start s r) (all-made cs start s r refl)
+
+pub messages-so : (tsn most : ℕ) (limits : Option Limits) (cs : List receiver_runs.Call) (s : Session) → RunsSo tsn most limits cs s → AreMessages s
+messages-so tsn most limits cs s r = (handed.complete tsn most limits cs s.receiving r, handed.alike tsn most limits cs s.receiving r)
+
 pub messages : AfterEachSession AreMessages
 messages tsn size max most limits cs s r =
-    let run = receiver-runs cs (at_start tsn size max most limits) s r in
-    (handed.complete tsn most limits (receiver_calls cs) s.receiving run, handed.alike tsn most limits (receiver_calls cs) s.receiving run)
+    messages-so tsn most limits (receiver_calls cs) s (receiver-runs cs (at_start tsn size max most limits) s r)
 
 none-off : (st : ℕ) (cs : List ChunkPayloadData) → sum_by (fails (is_on st)) (filter (is_on st) cs) ≡ 0
 none-off st [] = refl
@@ -307,7 +325,13 @@ none-off st (c ∷ cs) = by (is_on st c) refl (none-off st cs)
     by false e ih = ih
 
 -- the fragments of a message are of the stream that it was read on
-pub read-on : AfterEachSession (λ s. list_all (λ m. list_all (is_on m.stream) m.fragments) s.receiving.read ≡ true)
-read-on tsn size max most limits cs s r =
-    let law = handed.accepted tsn most limits (receiver_calls cs) s.receiving (receiver-runs cs (at_start tsn size max most limits) s r) in
+abbrev pub AreOn : Session → Type 0
+AreOn s = list_all (λ m. list_all (is_on m.stream) m.fragments) s.receiving.read ≡ true
+
+pub read-on-so : (tsn most : ℕ) (limits : Option Limits) (cs : List receiver_runs.Call) (s : Session) → RunsSo tsn most limits cs s → AreOn s
+read-on-so tsn most limits cs s r =
+    let law = handed.accepted tsn most limits cs s.receiving r in
     each-read is_on s.receiving.read (λ st. let w = law st (fails (is_on st)) in let z = none-off st s.receiving.accepted in omega (arith, w, z))
+
+pub read-on : AfterEachSession (λ s. AreOn s)
+read-on tsn size max most limits cs s r = read-on-so tsn most limits (receiver_calls cs) s (receiver-runs cs (at_start tsn size max most limits) s r)

@@ -218,7 +218,7 @@ module _ (p n : ℕ) (old new : Session) (few : n < 2 ^ 31) (h : IsNumbered p n 
 
 -- ## The law
 
-kept : (p n : ℕ) (s : Session) → n < 2 ^ 31 → IsNumbered p n s.sending.sender.flight → StaysAcknowledged s
+pub kept : (p n : ℕ) (s : Session) → n < 2 ^ 31 → IsNumbered p n s.sending.sender.flight → StaysAcknowledged s
 kept p n s few h (of_sender call) t f c d i j e a =
     every-contained (StaysSo (flight_of s).queue.inflight.chunks) (flight_of t).queue.inflight.chunks d j (stay p n s t few h call f) c i e a
 kept p n s few h (of_receiver call) t f c d i j e a =

@@ -418,6 +418,15 @@ module _ (st first : ℕ) where
       due-after (incoming.reports credit) f =
           same-streams f.step.read (ap (λ (r : Reception). r.streams) f.step.receiver) (ap (λ (r : Reception). r.cumulative_tsn) f.step.receiver)
           (ap (λ (r : Reception). r.beyond) f.step.receiver)
+      due-after (incoming.reports_within credit bytes) f =
+          same-streams f.step.read (ap (λ (r : Reception). r.streams) f.step.receiver) (ap (λ (r : Reception). r.cumulative_tsn) f.step.receiver)
+          (ap (λ (r : Reception). r.beyond) f.step.receiver)
+      due-after (incoming.makes_sack credit) f =
+          same-streams f.step.read (ap (λ (r : Reception). r.streams) f.step.receiver) (ap (λ (r : Reception). r.cumulative_tsn) f.step.receiver)
+          (ap (λ (r : Reception). r.beyond) f.step.receiver)
+      due-after incoming.forgets f =
+          same-streams f.step.read (ap (λ (r : Reception). r.streams) f.step.receiver) (ap (λ (r : Reception). r.cumulative_tsn) f.step.receiver)
+          (ap (λ (r : Reception). r.beyond) f.step.receiver)
       due-after (incoming.reads stream) f =
           read-on-due (base first) st n (to sent) (at sent)
           (Was sent) few grows acked stream old.receiving new.receiving d (ap (λ (r : Reception). r.streams) f.step.receiver)
@@ -427,6 +436,9 @@ module _ (st first : ℕ) where
   answered-after : (place more : ℕ) (old : Session) (call : ReceiverCall) → old.receiving.receiver.cumulative_tsn ≡ tsn (base first) place → place ≤ more
       → Every (IsUpTo place) old.sacks → Every (IsUpTo more) (reports_after call old.receiving.receiver old.sacks)
   answered-after place more old (incoming.reports credit) is le h = ((place, is, le), upto-more place more old.sacks le h)
+  answered-after place more old (incoming.reports_within credit bytes) is le h = ((place, is, le), upto-more place more old.sacks le h)
+  answered-after place more old (incoming.makes_sack credit) is le h = ((place, is, le), upto-more place more old.sacks le h)
+  answered-after place more old incoming.forgets is le h = upto-more place more old.sacks le h
   answered-after place more old (incoming.opens stream) is le h = upto-more place more old.sacks le h
   answered-after place more old (incoming.takes c arrival) is le h = upto-more place more old.sacks le h
   answered-after place more old (incoming.follows f) is le h = upto-more place more old.sacks le h

@@ -9,3 +9,4 @@ pub mod Abandoned
 pub mod Rounds
 pub mod Refused
 pub mod Ending
+pub mod Discards

@@ -11,7 +11,7 @@ use Rattle.sctp_sender.specs.Abandonment.{advanced_ack_point, skip_end}
 use Rattle.sctp_sender.specs.Flight.{Flight, can_resend}
 use Rattle.sctp_sender.specs.Sender.{Transmission}
 use Rattle.sctp_delivery.specs.Complete.{EachIsReadOnce, is_all_acknowledged, is_reliable, reads_nothing}
-use Rattle.sctp_delivery.specs.ReceiverCalls.{reports}
+use Rattle.sctp_delivery.specs.ReceiverCalls.{ReceiverCall, is_reporting}
 use Rattle.sctp_delivery.specs.Sacks.{tsns_given, was_taken}
 use Rattle.sctp_delivery.specs.SenderCalls.{takes_sack, writes}
 use Rattle.sctp_delivery.specs.Session.{Call, ReceiverFollows, RunsTo, SenderFollows, Session, at_start, of_sender}
@@ -64,19 +64,22 @@ pub record IsCaughtUp (s : Session) : Type 0 where
   pub followed : (tsn : ℕ) → skip_end (advanced_ack_point (flight_of s)) (flight_of s) ≡ Some tsn
       → at_or_before tsn s.receiving.receiver.cumulative_tsn ≡ true
 
--- the receiver makes a SACK, whatever its credit, and the sender takes it
+-- the receiver makes a SACK, by whichever call and with whatever credit, and the sender takes it
 pub record IsAnswered (s t : Session) : Type 0 where
-  pub credit : ℕ
+  pub call : ReceiverCall
+  pub makes : is_reporting call ≡ true
   pub reported : Session
-  pub reporting : ReceiverFollows (reports credit) s reported
+  pub reporting : ReceiverFollows call s reported
   pub sack : Sack
   pub made : reported.sacks ≡ sack ∷ s.sacks
   pub gone : List Released
   pub taking : SenderFollows (takes_sack sack gone) reported t
 
--- it can make one with any credit, and the sender can take it
+-- it can make one by each such call, and the sender can take it
 abbrev pub CanBeAnswered : Session → Type 0
-CanBeAnswered s = (credit : ℕ) → (t : Session) × (a : IsAnswered s t) × (a.credit ≡ credit)
+CanBeAnswered s =
+    (call : ReceiverCall) → is_reporting call ≡ true
+    → (t : Session) × (a : IsAnswered s t) × (a.call ≡ call)
 
 -- fewer chunks are in flight; the first of them is of an abandoned message, if there is one; and none is in flight where no message
 -- was abandoned

@@ -10,6 +10,7 @@ use Rattle.sctp_sender.specs.Flight.{after_sack, released_by, reports, sack_refu
 use Rattle.sctp_receiver.specs.Receiver.{max_sack_entries}
 use Rattle.sctp_serial.specs.DataChunks.{following_tsn, has_tsn}
 use Rattle.sctp_delivery.specs.ReceiverCalls as incoming
+use Rattle.sctp_delivery.specs.ReceiverCalls.{ReceiverCall, entries_of, is_reporting}
 use Rattle.sctp_delivery.specs.SenderCalls.{Made, data_chunk, forward_tsn}
 use Rattle.sctp_delivery.specs.Session.{Call, Follows, ReceiverFollows, RunsTo, Session, at_start}
 
@@ -120,11 +121,11 @@ are_apart (c ∷ cs) = not (list_any (has_tsn c.tsn) cs) && are_apart cs
 abbrev pub NoneIsTakenTwice : Session → Type 0
 NoneIsTakenTwice s = are_apart s.receiving.accepted ≡ true
 
--- the TSN after the cumulative one was not taken; and where its blocks are not as many as a SACK can hold, the SACK reports each TSN
+-- the TSN after the cumulative one was not taken; and where its blocks are not as many as the SACK can hold, the SACK reports each TSN
 -- that was taken, but for those 65,536 or more past the cumulative one
-pub record TellsWhatCame (s : Session) (sack : Sack) : Type 0 where
+pub record TellsWhatCame (entries : ℕ) (s : Session) (sack : Sack) : Type 0 where
   pub next : was_taken (following_tsn sack.cumulative_tsn_ack) s ≡ false
-  pub all : length sack.gap_ack_blocks < max_sack_entries
+  pub all : length sack.gap_ack_blocks < entries
       → All (λ c. (reports_tsn c.tsn sack || nat_le (2 ^ 16)
       (distance sack.cumulative_tsn_ack c.tsn)) ≡ true) s.receiving.accepted
 
@@ -132,4 +133,10 @@ pub record TellsWhatCame (s : Session) (sack : Sack) : Type 0 where
 abbrev pub NextSackTells : Session → Type 0
 NextSackTells s =
     (credit : ℕ) (new : Session) → ReceiverFollows (incoming.reports credit) s new
-    → (sack : Sack) × (new.sacks ≡ sack ∷ s.sacks) × TellsWhatCame s sack
+    → (sack : Sack) × (new.sacks ≡ sack ∷ s.sacks) × TellsWhatCame max_sack_entries s sack
+
+-- it makes one by whichever call, and it does so
+abbrev pub EachSackTells : Session → Type 0
+EachSackTells s =
+    (call : ReceiverCall) (new : Session) → is_reporting call ≡ true → ReceiverFollows call s new
+    → (sack : Sack) × (new.sacks ≡ sack ∷ s.sacks) × TellsWhatCame (entries_of call) s sack

@@ -1,11 +1,18 @@
 //! Each call of a receiver makes the step that sessions have of it (RFC 4960 6.2; RFC 3758 3.6): here it is called and nothing else.
+//!
+//! Left out are `close`, `reset` and `restore`, which are no calls of a session, and the forms that a replay of a record calls,
+//! which test less: `data_each_with_any_ssn`, `forward_tsn_past_closed` and `forward_tsn_by_names`.
 
-ghost use Rattle.std.specs.Prelude.{◌≡◌, OnOk, IfOk, option_map};
+ghost use Rattle.std.specs.Prelude.{◌≡◌, OnOk, IfOk, All, Contains, length, option_map};
+ghost use Rattle.sctp_data.specs.PayloadData.{data_of};
 ghost use Rattle.sctp_data.specs.ForwardTsn.{forward_tsn_of};
 ghost use Rattle.sctp_data.specs.SelectiveAck.{sack_of};
 ghost use Rattle.sctp_reassembly.specs.reassembly_queue.ReassemblyQueue.{at_start};
-ghost use Rattle.sctp_receiver.specs.Receiver.{message_on, sack, window};
-ghost use Rattle.sctp_delivery.specs.ReceiverCalls.{ReceiverMakes, follows, opens, reads, reports, takes};
+ghost use Rattle.sctp_receiver.specs.Receiver.{message_on, sack, sack_within, window};
+ghost use Rattle.sctp_delivery.specs.Discards.{ReceiverDiscards};
+ghost use Rattle.sctp_delivery.specs.ReceiverCalls.{ReceiverMakes, ReceiverMakesEach, follows, forgets, makes_sack, opens, reads, reports, reports_within, takes, takes_each};
+ghost use Rattle.sctp_delivery.specs.SenderCalls.{data_chunk};
+ghost use Rattle.sctp_delivery.specs.Session.{GoesOnTo, Session};
 
 use sctp_data::chunk::chunk_forward_tsn::ChunkForwardTsn;
 use sctp_data::chunk::chunk_payload_data::ChunkPayloadData;
@@ -14,6 +21,7 @@ use sctp_reassembly::chunks::Chunks;
 use sctp_receiver::receiver::Receiver;
 use sctp_receiver::receiver::arrival::{Arrival, Forwarded};
 use sctp_receiver::receiver::refusal::ReceiverRefusal;
+use sctp_serial::turns::Turns;
 
 /// Opens a stream.
 pub fn open(receiver: &mut Receiver, stream: u16) -> Result<(), ReceiverRefusal>
@@ -28,6 +36,30 @@ pub fn data(receiver: &mut Receiver, chunk: &ChunkPayloadData) -> Result<Arrival
         (λ arrival. ReceiverMakes (takes chunk.now arrival) receiver.old receiver.new) }
 {
     receiver.data(chunk)
+}
+
+/// Takes several DATA chunks, or none of them: as `data` takes them, one after another. So a session of the receiver in which the sender
+/// made each of them goes on by these calls.
+pub fn data_each(
+    receiver: &mut Receiver,
+    chunks: &[ChunkPayloadData],
+) -> Result<Vec<Arrival>, ReceiverRefusal>
+    ensures all { IfOk result (λ arrivals. length arrivals.items ≡ length chunks.now) }
+    ensures each { IfOk result (λ arrivals. ReceiverMakesEach
+        (takes_each chunks.now arrivals.items) receiver.old receiver.new) }
+    ensures run { IfOk result (λ arrivals. (s : Session)
+        → s.receiving.receiver ≡ receiver.old
+        → All (λ c. Contains s.made (data_chunk (data_of c))) chunks.now
+        → GoesOnTo (takes_each chunks.now arrivals.items) s receiver.new) }
+{
+    receiver.data_each(chunks)
+}
+
+/// Drops a DATA chunk, and takes its TSN: a step of the sessions of `laws::discards` alone.
+pub fn discard(receiver: &mut Receiver, tsn: u32) -> Result<Arrival, ReceiverRefusal>
+    ensures { OnOk result (ReceiverDiscards tsn receiver.old receiver.new) }
+{
+    receiver.discard(tsn)
 }
 
 /// Takes a FORWARD-TSN.
@@ -61,6 +93,37 @@ pub fn send_sack(receiver: &mut Receiver) -> Result<ChunkSelectiveAck, ReceiverR
     receiver.sack()
 }
 
+/// Makes a SACK in a chunk of at most so many bytes, below 16 as for 16; the duplicates that do not fit are kept for the next one.
+pub fn send_sack_within(
+    receiver: &mut Receiver,
+    bytes: usize,
+) -> Result<ChunkSelectiveAck, ReceiverRefusal>
+    ensures step { OnOk result
+        (ReceiverMakes (reports_within (window receiver.old) bytes) receiver.old receiver.new) }
+    ensures sack { IfOk result
+        (λ s. sack_of s ≡ sack_within (window receiver.old) bytes receiver.old) }
+{
+    receiver.sack_within(bytes)
+}
+
+/// Makes a SACK with a credit, and forgets no duplicate.
+pub fn make_sack_with(
+    receiver: &Receiver,
+    credit: u32,
+) -> Result<ChunkSelectiveAck, ReceiverRefusal>
+    ensures step { OnOk result (ReceiverMakes (makes_sack credit) receiver.now receiver.now) }
+    ensures sack { IfOk result (λ s. sack_of s ≡ sack credit receiver.now) }
+{
+    receiver.make_sack_with(credit)
+}
+
+/// Forgets the duplicates, once a SACK was sent.
+pub fn sack_sent(receiver: &mut Receiver)
+    ensures { ReceiverMakes forgets receiver.old receiver.new }
+{
+    receiver.sack_sent();
+}
+
 /// Reads the next message of a stream.
 pub fn read(receiver: &mut Receiver, stream: u16) -> Result<Option<Chunks>, ReceiverRefusal>
     ensures step { OnOk result (ReceiverMakes (reads stream) receiver.old receiver.new) }
@@ -68,4 +131,86 @@ pub fn read(receiver: &mut Receiver, stream: u16) -> Result<Option<Chunks>, Rece
         ≡ option_map at_start (message_on stream receiver.old)) }
 {
     receiver.read(stream)
+}
+
+// ## The same, with turns that are counted
+
+/// Takes a DATA chunk.
+pub fn data_counted(
+    receiver: &mut Receiver,
+    chunk: &ChunkPayloadData,
+    turns: &mut Turns,
+) -> Result<Arrival, ReceiverRefusal>
+    ensures { IfOk result
+        (λ arrival. ReceiverMakes (takes chunk.now arrival) receiver.old receiver.new) }
+{
+    receiver.data_counted(chunk, turns)
+}
+
+/// Takes several DATA chunks, or none of them.
+pub fn data_each_counted(
+    receiver: &mut Receiver,
+    chunks: &[ChunkPayloadData],
+    turns: &mut Turns,
+) -> Result<Vec<Arrival>, ReceiverRefusal>
+    ensures all { IfOk result (λ arrivals. length arrivals.items ≡ length chunks.now) }
+    ensures each { IfOk result (λ arrivals. ReceiverMakesEach
+        (takes_each chunks.now arrivals.items) receiver.old receiver.new) }
+    ensures run { IfOk result (λ arrivals. (s : Session)
+        → s.receiving.receiver ≡ receiver.old
+        → All (λ c. Contains s.made (data_chunk (data_of c))) chunks.now
+        → GoesOnTo (takes_each chunks.now arrivals.items) s receiver.new) }
+{
+    receiver.data_each_counted(chunks, turns)
+}
+
+/// Takes a FORWARD-TSN.
+pub fn forward_tsn_skips_counted(
+    receiver: &mut Receiver,
+    chunk: &ChunkForwardTsn,
+    turns: &mut Turns,
+    skips: &mut Turns,
+) -> Result<Forwarded, ReceiverRefusal>
+    ensures { OnOk result
+        (ReceiverMakes (follows (forward_tsn_of chunk.now)) receiver.old receiver.new) }
+{
+    receiver.forward_tsn_skips_counted(chunk, turns, skips)
+}
+
+/// Makes a SACK with a credit.
+pub fn send_sack_with_counted(
+    receiver: &mut Receiver,
+    credit: u32,
+    turns: &mut Turns,
+) -> Result<ChunkSelectiveAck, ReceiverRefusal>
+    ensures step { OnOk result (ReceiverMakes (reports credit) receiver.old receiver.new) }
+    ensures sack { IfOk result (λ s. sack_of s ≡ sack credit receiver.old) }
+{
+    receiver.sack_with_counted(credit, turns)
+}
+
+/// Makes a SACK in a chunk of at most so many bytes.
+pub fn send_sack_within_counted(
+    receiver: &mut Receiver,
+    bytes: usize,
+    turns: &mut Turns,
+) -> Result<ChunkSelectiveAck, ReceiverRefusal>
+    ensures step { OnOk result
+        (ReceiverMakes (reports_within (window receiver.old) bytes) receiver.old receiver.new) }
+    ensures sack { IfOk result
+        (λ s. sack_of s ≡ sack_within (window receiver.old) bytes receiver.old) }
+{
+    receiver.sack_within_counted(bytes, turns)
+}
+
+/// Makes a SACK with a credit, and forgets no duplicate.
+pub fn make_sack_with_counted(
+    receiver: &Receiver,
+    credit: u32,
+    turns: &mut Turns,
+) -> Result<ChunkSelectiveAck, ReceiverRefusal>
+    ensures step { OnOk result (ReceiverMakes (makes_sack credit) receiver.now receiver.now) }
+    ensures sack { IfOk result (λ s. sack_of s ≡ sack credit receiver.now) }
+{
+    receiver.make_sack_with_counted(credit, turns)
 }

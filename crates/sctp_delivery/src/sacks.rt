@@ -5,7 +5,7 @@ ghost use Rattle.std.specs.Prelude.{◌≡◌, ◌<◌, true, IfErr, IfOk, OnErr
 ghost use Rattle.sctp_data.specs.SelectiveAck.{sack_of};
 ghost use Rattle.sctp_sender.specs.declared.sender.refusal.SenderRefusal.TheVariants.{OutOfMemory};
 ghost use Rattle.sctp_delivery.specs.SenderCalls.{SenderMakes, takes_sack};
-ghost use Rattle.sctp_delivery.specs.Sacks.{AfterEachSessionOfFewTsns, AcknowledgedCame, AllReportedLeaves, LeftCame, NextSackTells, NoneIsRefused, NoneIsTakenTwice, PassAbandoned, ReleasedCame, ReportWhatCame, StaysAcknowledged, was_taken};
+ghost use Rattle.sctp_delivery.specs.Sacks.{AfterEachSessionOfFewTsns, AcknowledgedCame, AllReportedLeaves, EachSackTells, LeftCame, NextSackTells, NoneIsRefused, NoneIsTakenTwice, PassAbandoned, ReleasedCame, ReportWhatCame, StaysAcknowledged, was_taken};
 
 use sctp_data::chunk::chunk_selective_ack::ChunkSelectiveAck;
 use sctp_sender::sender::Sender;
@@ -24,10 +24,12 @@ pub fn what_a_sack_reports_came()
     ensures { AfterEachSessionOfFewTsns ReportWhatCame }
 {}
 
-/// A SACK that the receiver makes leaves out nothing that it took as new: the TSN after its cumulative one was not taken; and it
-/// reports each that was, but for those 65,536 or more past the cumulative one, and for what a full list of blocks cuts off.
+/// A SACK that the receiver makes, by whichever call (`each`), leaves out nothing that it took as new: the TSN after its cumulative one
+/// was not taken; and it reports each that was, but for those 65,536 or more past the cumulative one, and for what a full list of blocks
+/// cuts off.
 pub fn what_came_is_reported()
-    ensures { AfterEachSessionOfFewTsns (λ first count s. NextSackTells s) }
+    ensures next { AfterEachSessionOfFewTsns (λ first count s. NextSackTells s) }
+    ensures each { AfterEachSessionOfFewTsns (λ first count s. EachSackTells s) }
 {}
 
 /// Of the chunks in flight, one that is acknowledged, or that any SACK of the receiver reports, was taken by the receiver, or its

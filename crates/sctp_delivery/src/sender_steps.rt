@@ -1,10 +1,13 @@
 //! Each call of a sender makes the step that sessions have of it (RFC 4960 6.1, 6.2.1; RFC 3758 3.5): here it is called and nothing else.
+//!
+//! Left out are `close`, `reset`, `keep_reported`, `take_back`, `count_resend` and `expire_run`, which are no calls of a session.
 
-ghost use Rattle.std.specs.Prelude.{◌≡◌, ◌<◌, ◌≤◌, Some, OnOk, IfOk, IfSome, find};
+ghost use Rattle.std.specs.Prelude.{◌≡◌, ◌<◌, ◌≤◌, Some, None, OnOk, IfOk, IfSome, find};
 ghost use Rattle.sctp_data.specs.declared.chunk.chunk_payload_data.ChunkPayloadData.{ChunkPayloadData};
 ghost use Rattle.sctp_data.specs.ForwardTsn.{forward_tsn_of};
 ghost use Rattle.sctp_data.specs.SelectiveAck.{sack_of};
 ghost use Rattle.sctp_sender.specs.Abandonment.{advanced_ack_point};
+ghost use Rattle.sctp_sender.specs.Numbers.{send_refusal};
 ghost use Rattle.sctp_sender.specs.Resending.{count_before};
 ghost use Rattle.sctp_serial.specs.DataChunks.{has_tsn};
 ghost use Rattle.sctp_delivery.specs.SenderCalls.{SenderMakes, abandons, expires, expires_late, expires_rexmit, expires_tail, forwards, forwards_within, marks, misses, next_chunk, opens, resends, reserves, sends, sets_low, sets_mode, sets_size, starts, takes_sack, writes};
@@ -19,6 +22,7 @@ use sctp_sender::sender::flight::Released;
 use sctp_sender::sender::flight::late::AbandonedMessage;
 use sctp_sender::sender::refusal::SenderRefusal;
 use sctp_sender::sender::{ExpiredMessage, Sender};
+use sctp_serial::turns::Turns;
 
 /// Opens a stream.
 pub fn open(sender: &mut Sender, stream: u16) -> Result<(), SenderRefusal>
@@ -73,6 +77,15 @@ pub fn send_next_tsn(sender: &mut Sender, now: u64) -> Result<Option<u32>, Sende
     ensures { OnOk result (SenderMakes (sends now) sender.old sender.new) }
 {
     sender.send_next_tsn(now)
+}
+
+/// Sends the fragment that is next, however far its stream sequence number goes, and answers its TSN, if there is one: where it does not
+/// go too far, which the caller sees to, that is the same.
+pub fn send_next_tsn_unbounded(sender: &mut Sender, now: u64) -> Result<Option<u32>, SenderRefusal>
+    ensures { OnOk result (send_refusal sender.old.flight ≡ None
+        → SenderMakes (sends now) sender.old sender.new) }
+{
+    sender.send_next_tsn_unbounded(now)
 }
 
 /// Sends a chunk again.
@@ -195,4 +208,25 @@ pub fn reserve(sender: &mut Sender, sends: usize) -> Result<(), SenderRefusal>
     ensures { OnOk result (SenderMakes (reserves sends) sender.old sender.new) }
 {
     sender.reserve(sends)
+}
+
+// ## The same, with turns that are counted
+
+/// Takes a SACK.
+pub fn acked_counted(
+    sender: &mut Sender,
+    sack: &ChunkSelectiveAck,
+    turns: &mut Turns,
+) -> Result<Vec<Released>, SenderRefusal>
+    ensures { IfOk result
+        (λ gone. SenderMakes (takes_sack (sack_of sack.now) gone.items) sender.old sender.new) }
+{
+    sender.acked_counted(sack, turns)
+}
+
+/// Counts what is outstanding before a TSN as missing once more.
+pub fn add_miss_indications_counted(sender: &mut Sender, before: u32, turns: &mut Turns) -> usize
+    ensures { SenderMakes (misses (count_before before sender.old.flight)) sender.old sender.new }
+{
+    sender.add_miss_indications_counted(before, turns)
 }

@@ -124,12 +124,13 @@ pub fn records_are_valid()
     ensures skips { OnEveryRun SkipsComeValid }
 {}
 
-/// All laws of this module at once, for every history of a link, every first TSN, fragment size,
-/// greatest message and limit: each Send emits a pending fragment while one exists; reading until
-/// nothing is left gives exactly each complete unordered message once and, per stream in writing order,
-/// the complete ordered messages up to the last named, then the unbroken complete run; only what arrived or
-/// was skipped is acknowledged; written bytes equal pending plus in flight plus released. Beside it:
-/// slots, limits of datagrams, arrivals, lifetimes, counters, reads without loss, and valid records.
+/// The laws above at once, for every history of a link, every first TSN, fragment size, greatest
+/// message and limit; the six laws below are not among them. Each Send emits a pending fragment
+/// while one exists; reading until nothing is left gives exactly each complete unordered message
+/// once and, per stream in writing order, the complete ordered messages up to the last named, then
+/// the unbroken complete run; only what arrived or was skipped is acknowledged; written bytes equal
+/// pending plus in flight plus released. Beside it: slots, limits of datagrams, arrivals, lifetimes,
+/// counters, reads without loss, and valid records.
 pub fn every_history()
     ensures headline { Headline }
     ensures beside { Beside }

@@ -24,6 +24,7 @@ use crate::payload_queue::{PayloadQueue, is_outstanding};
 use crate::pending_queue::PendingQueue;
 use bytes::Bytes;
 use sctp_data::chunk::chunk_payload_data::ChunkPayloadData;
+use sctp_serial::turns::Turns;
 use sctp_util::error::Result;
 use std::alloc::Global;
 use std::marker::Model;
@@ -470,8 +471,9 @@ impl OutboundQueue {
         if now < self.inflight.earliest_deadline() {
             return Ok(tsns);
         }
+        let mut turns = Turns::new();
         for place in 0..self.inflight.len() {
-            let chunk = self.inflight.at(place);
+            let chunk = self.inflight.look(place, &mut turns);
             if !self.is_late(chunk, now) {
                 continue;
             }
@@ -515,7 +517,7 @@ impl OutboundQueue {
         if place >= self.inflight.len() {
             return None;
         }
-        Some(self.inflight.at(place))
+        Some(self.inflight.look(place, &mut Turns::new()))
     }
 
     /// Takes the first chunk in flight, if it has this TSN.
@@ -628,8 +630,9 @@ impl OutboundQueue {
     pub fn earliest_outstanding_tsn(&self) -> Option<u32>
         ensures { result ≡ option_map (λ c. c.tsn) (find is_outstanding self.now.inflight.chunks) }
     {
+        let mut turns = Turns::new();
         for place in 0..self.inflight.len() {
-            let chunk = self.inflight.at(place);
+            let chunk = self.inflight.look(place, &mut turns);
             if is_outstanding(chunk) {
                 return Some(chunk.tsn);
             }

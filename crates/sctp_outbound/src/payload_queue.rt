@@ -22,7 +22,7 @@ mod room;
 mod window;
 
 use self::held::{Held, Mark};
-use self::window::{are_within_half, is_last_up_to, span_one_window};
+use self::window::{are_within_half, is_front_up_to, span_one_window};
 use bytes::Bytes;
 use sctp_data::chunk::chunk_payload_data::ChunkPayloadData;
 use sctp_data::chunk::chunk_selective_ack::GapAckBlock;
@@ -82,9 +82,10 @@ fn search<'a>(
     let mut high = held.len();
     while low < high {
         let middle = low + (high - low) / 2;
-        let here = held.tsn_at(middle, turns);
+        let seen = held.see(middle, turns);
+        let here = seen.tsn();
         if here == tsn {
-            return Ok((middle, held.at(middle)));
+            return Ok((middle, seen.chunk()));
         }
         if sna32lt(here, tsn) {
             low = middle + 1;
@@ -223,7 +224,7 @@ pub(crate) fn is_outstanding(chunk: &ChunkPayloadData) -> bool
 }
 
 impl PayloadQueue {
-    ghost use Rattle.sctp_outbound.specs.payload_queue.PayloadQueue.{FrontGoesFirst, Payload, with_chunks, push_chunk, add_duplicate, front_with, without_front, without, past};
+    ghost use Rattle.sctp_outbound.specs.payload_queue.PayloadQueue.{FirstStays, FrontGoesFirst, Payload, with_chunks, push_chunk, add_duplicate, front_with, without_front, without, past};
     ghost use Rattle.sctp_outbound.specs.Marks.{with_mark, as_acknowledged, as_taken_back, as_abandoned, with_retransmit, with_nsent, with_since, with_miss_indicator, is_of};
 
     /// A queue of nothing. It takes no memory.
@@ -348,18 +349,31 @@ impl PayloadQueue {
         ensures few { FrontGoesFirst cumulative_tsn self.old.chunks
             → turns.new + length self.new.chunks ≤ turns.old + length self.old.chunks + 1 }
     {
-        let mut place = 0;
-        while place < self.held.len() {
-            let tsn = self.held.tsn_at(place, turns);
-            if sna32lte(tsn, cumulative_tsn) {
-                let removed = self.held.remove(place);
-                self.n_bytes -= removed.user_data.len();
-                continue;
-            }
-            if !is_last_up_to(&self.held, cumulative_tsn) {
+        while is_front_up_to(&self.held, cumulative_tsn) {
+            turns.tick();
+            let removed = self.held.remove(0);
+            self.n_bytes -= removed.user_data.len();
+        }
+        self.pop_last_up_to(cumulative_tsn, turns);
+    }
+
+    // The same, where the first stays, so that only the last ones may leave: those that lie more than half a circle past the TSN
+    // behind which the first lies.
+    fn pop_last_up_to(&mut self, cumulative_tsn: u32, turns: &mut Turns)
+        requires { FirstStays cumulative_tsn self.old.chunks }
+        ensures kept { self.new ≡ with_chunks self.old (past cumulative_tsn self.old.chunks) }
+        ensures not_back { turns.old ≤ turns.new }
+        ensures cost { turns.new ≤ turns.old + (length self.old.chunks - 1) }
+        ensures few { turns.new + length self.new.chunks
+            ≤ turns.old + length self.old.chunks + 1 }
+    {
+        while self.held.len() > 1 {
+            let last = self.held.len() - 1;
+            if !sna32lte(self.held.tsn_at(last, turns), cumulative_tsn) {
                 return;
             }
-            place += 1;
+            let removed = self.held.remove(last);
+            self.n_bytes -= removed.user_data.len();
         }
     }
 
@@ -709,14 +723,16 @@ impl PayloadQueue {
     pub(crate) fn settle_deadlines(&mut self)
         ensures { self.new ≡ self.old }
     {
-        self.held.settle_earliest();
+        self.held.settle_earliest(&mut Turns::new());
     }
 
-    // The chunk at a place.
-    pub(crate) fn at(&self, place: usize) -> &ChunkPayloadData
+    /// Looks at the chunk at a place, which is a turn.
+    /// Precondition: the place has one.
+    pub(crate) fn look<'a>(&'a self, place: usize, turns: &mut Turns) -> &'a ChunkPayloadData
         requires { place < length self.now.chunks }
-        ensures { result.now ≡ slice_index_or self.now.chunks place result.now }
+        ensures value { result.now ≡ slice_index_or self.now.chunks place result.now }
+        ensures turn { turns.new ≡ turns.old + 1 }
     {
-        self.held.at(place)
+        self.held.look(place, turns)
     }
 }

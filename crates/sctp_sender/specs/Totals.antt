@@ -1,17 +1,9 @@
--- What left, stream by stream and in all.
-use Rattle.std.specs.Prelude.{◌≡◌, ℕ, ◌==◌, true, if◌then◌else◌, List, [], ◌∷◌, length}
+-- What left in all.
+use Rattle.std.specs.Prelude.{◌≡◌, ℕ, true, List, [], ◌∷◌, length}
 use Rattle.std.specs.List.{sum_by}
 use Rattle.sctp_data.specs.declared.chunk.chunk_payload_data.ChunkPayloadData.{ChunkPayloadData}
 use Rattle.sctp_outbound.specs.outbound_queue.OutboundQueue.{Outbound}
 use Rattle.sctp_sender.specs.declared.sender.flight.Released.{Released}
-
--- the bytes of a chunk, if it is of the stream
-abbrev pub bytes_if_on : ℕ → Released → ℕ
-bytes_if_on s r = if r.stream == s then r.bytes else 0
-
--- the bytes of the stream in all
-abbrev pub bytes_on : ℕ → List Released → ℕ
-bytes_on s rs = sum_by (bytes_if_on s) rs
 
 -- the bytes of all
 abbrev pub bytes_in : List Released → ℕ

@@ -14,7 +14,6 @@ mod outbound_streams;
 pub mod refusal;
 mod resending;
 mod settings;
-pub mod total;
 mod walking;
 
 use self::flight::anew::{keep_anew, make_room};

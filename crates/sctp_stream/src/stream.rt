@@ -42,7 +42,7 @@ pub struct DataChannelStats {
 
 impl DataChannelStats {
     /// Counts a message of `len` bytes that was accepted for sending.
-    pub fn count_sent(&mut self, ppi: PayloadProtocolIdentifier, len: usize)
+    pub fn sent(&mut self, ppi: PayloadProtocolIdentifier, len: usize)
         ensures { self.new ≡ with_sent (counted_as ppi len) self.old }
     {
         if let Some(bytes) = counted_as(ppi, len) {
@@ -52,7 +52,7 @@ impl DataChannelStats {
     }
 
     /// Counts a message of `len` bytes that was read.
-    pub fn count_received(&mut self, ppi: PayloadProtocolIdentifier, len: usize)
+    pub fn received(&mut self, ppi: PayloadProtocolIdentifier, len: usize)
         ensures { self.new ≡ with_received (counted_as ppi len) self.old }
     {
         if let Some(bytes) = counted_as(ppi, len) {

@@ -1,7 +1,7 @@
-//! How far the numbers of ordered messages in flight go.
+//! How far the numbers of ordered messages in flight go, and a sender of several streams.
 
 use bytes::Bytes;
-use sctp_chunks::chunk::chunk_payload_data::PayloadProtocolIdentifier;
+use sctp_chunks::chunk::chunk_payload_data::{PayloadProtocolIdentifier, ReliabilityType};
 use sctp_chunks::chunk::chunk_selective_ack::ChunkSelectiveAck;
 use sctp_sender::sender::Sender;
 use sctp_sender::sender::refusal::SenderRefusal;
@@ -52,4 +52,54 @@ fn bounded(rt: HostRuntime) {
         Err(_) => false,
     };
     assert!(rt; well);
+}
+
+// Whether a sender answers this to a write.
+fn answers(
+    alloc: Global,
+    sender: &mut Sender,
+    stream: u16,
+    due: Result<(Option<u64>, usize), SenderRefusal>,
+) -> bool {
+    match Bytes::copy_from_slice(alloc, b"abcd") {
+        Ok(bytes) => sender.write(stream, PayloadProtocolIdentifier::Binary, &bytes) == due,
+        Err(_) => false,
+    }
+}
+
+fn three_are_written(alloc: Global, sender: &mut Sender) -> bool {
+    let mut well = true;
+    for stream in [1, 2, 3] {
+        well = well && sender.open(stream).is_ok();
+    }
+    well && sender.set_mode(3, true, ReliabilityType::Rexmit, 2).is_ok()
+        && answers(alloc, sender, 1, Ok((Some(0), 2)))
+        && answers(alloc, sender, 2, Ok((Some(1), 2)))
+}
+
+fn is_unordered(sender: &Sender, stream: u16) -> bool {
+    match sender.stream(stream) {
+        Some(state) => state.unordered() && state.reliability_value() == 2,
+        None => false,
+    }
+}
+
+fn the_others_write(alloc: Global, sender: &mut Sender) -> bool {
+    sender.close(2);
+    sender.close(7);
+    answers(alloc, sender, 2, Err(SenderRefusal::StreamUnknown))
+        && is_unordered(sender, 3)
+        && answers(alloc, sender, 3, Ok((Some(2), 2)))
+        && sender.buffered_amount(1) == Some(4)
+        && sender.buffered_amount(3) == Some(4)
+        && sender.outbound().pending_bytes() == 12
+}
+
+/// The one in the middle of three streams is closed, and one that is not open: the others keep what they have.
+#[test]
+fn sender_closes_the_middle(rt: HostRuntime) {
+    let alloc = rt.alloc();
+    let mut sender = Sender::new(alloc, 1, 3, 4);
+    let well = three_are_written(alloc, &mut sender);
+    assert!(rt; well && the_others_write(alloc, &mut sender));
 }

@@ -1,11 +1,9 @@
 //! DATA chunks of stream 1, and what a receiver makes of them.
 
 use bytes::Bytes;
-use sctp_chunks::chunk::chunk_forward_tsn::{ChunkForwardTsn, ChunkForwardTsnStream};
 use sctp_chunks::chunk::chunk_payload_data::{ChunkPayloadData, PayloadProtocolIdentifier};
 use sctp_receiver::receiver::Receiver;
 use sctp_receiver::receiver::arrival::Arrival;
-use sctp_receiver::receiver::refusal::ReceiverRefusal;
 use sctp_util::error::Error;
 use std::alloc::Global;
 
@@ -53,58 +51,11 @@ pub(crate) fn is_new(
     }
 }
 
-/// What a receiver makes of such a chunk that is a message with a stream sequence number.
-pub(crate) fn numbered(
-    alloc: Global,
-    receiver: &mut Receiver,
-    tsn: u32,
-    ssn: u16,
-) -> Result<Arrival, ReceiverRefusal> {
-    match chunk(alloc, tsn, true, true, b"a") {
-        Ok(one) => receiver.data(&ChunkPayloadData {
-            stream_sequence_number: ssn,
-            ..one
-        }),
-        Err(_) => Err(ReceiverRefusal::OutOfMemory),
-    }
-}
-
-/// A FORWARD-TSN up to a TSN that names a stream and a stream sequence number.
-pub(crate) fn named(
-    alloc: Global,
-    tsn: u32,
-    identifier: u16,
-    sequence: u16,
-) -> Result<ChunkForwardTsn, Error> {
-    let mut streams = Vec::new(alloc);
-    streams.push(ChunkForwardTsnStream {
-        identifier,
-        sequence,
-    })?;
-    Ok(ChunkForwardTsn {
-        new_cumulative_tsn: tsn,
-        streams,
-    })
-}
-
 /// Whether a receiver had the TSN of such a chunk.
 pub(crate) fn comes_again(alloc: Global, receiver: &mut Receiver, tsn: u32) -> bool {
     match chunk(alloc, tsn, true, true, b"a") {
         Ok(chunk) => matches!(receiver.data(&chunk), Ok(Arrival::Repeat)),
         Err(_) => false,
-    }
-}
-
-/// Why a receiver does not take such a chunk, if it does not.
-pub(crate) fn refusal(
-    alloc: Global,
-    receiver: &mut Receiver,
-    tsn: u32,
-    bytes: &[u8],
-) -> Option<ReceiverRefusal> {
-    match chunk(alloc, tsn, true, true, bytes) {
-        Ok(chunk) => receiver.data(&chunk).err(),
-        Err(_) => None,
     }
 }
 

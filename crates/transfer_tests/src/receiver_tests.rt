@@ -1,195 +1,501 @@
-//! A receiver, by the examples of RFC 4960 and by what a peer may forge.
+//! A receiver, by the examples of the RFCs and by what a peer may forge.
 
-use crate::part::{chunk, comes_again, is_new, reads, refusal, reports};
-use crate::receiving::take_chunk;
-use sctp_chunks::chunk::chunk_forward_tsn::{ChunkForwardTsn, ChunkForwardTsnStream};
+use crate::receivers::Step::{
+    Close, Cumulative, Data, Discard, Forward, HasStats, Held, IsReadable, NothingBeyond, Open,
+    OpenAgain, Read, ReadOf, Readable, Reset, Sack, SackWithin, Streams, Take, TakeOrDiscard,
+};
+use crate::receivers::Way::{ByNames, Known, PastClosed};
+use crate::receivers::{Step, all_go};
 use sctp_receiver::receiver::Receiver;
-use sctp_receiver::receiver::arrival::Forwarded;
+use sctp_receiver::receiver::arrival::{Arrival, Forwarded};
+use sctp_receiver::receiver::limits::Limits;
 use sctp_receiver::receiver::refusal::ReceiverRefusal;
-use std::alloc::Global;
 
-const WHOLE: (bool, bool) = (true, true);
+type Flags = (bool, bool, bool);
 
-fn six_come(alloc: Global, receiver: &mut Receiver) -> bool {
-    let mut well = receiver.open(1).is_ok();
-    for tsn in [10, 11, 12, 14, 15, 17] {
-        well = well && is_new(alloc, receiver, tsn, (false, false), b"a");
+const FIRST: Flags = (false, true, false);
+
+const MIDDLE: Flags = (false, false, false);
+
+const LAST: Flags = (false, false, true);
+
+const ALONE: Flags = (false, true, true);
+
+type Taken = Result<Arrival, ReceiverRefusal>;
+
+const PART: Taken = Ok(Arrival::New { complete: false });
+
+const WHOLE: Taken = Ok(Arrival::New { complete: true });
+
+const REPEAT: Taken = Ok(Arrival::Repeat);
+
+const FAR: Taken = Err(ReceiverRefusal::SsnTooFar);
+
+const UNKNOWN: Taken = Err(ReceiverRefusal::StreamUnknown);
+
+const OPPOSITE: Taken = Err(ReceiverRefusal::TsnOpposite);
+
+const TOO_FAR: Taken = Err(ReceiverRefusal::TsnTooFar);
+
+const FULL: Taken = Err(ReceiverRefusal::WindowFull);
+
+const TOO_LARGE: Taken = Err(ReceiverRefusal::MessageTooLarge);
+
+type Followed = Result<Forwarded, ReceiverRefusal>;
+
+const SKIPPED: Followed = Ok(Forwarded::Skipped);
+
+const STALE: Followed = Ok(Forwarded::Stale);
+
+const NAMED_FAR: Followed = Err(ReceiverRefusal::NamedSsnTooFar);
+
+const NAMED_UNKNOWN: Followed = Err(ReceiverRefusal::NamedStreamUnknown);
+
+// Two chunks of a byte each fill the window; each counts for 201.
+const TWO: Option<Limits> = Some(Limits {
+    window: 402,
+    reach: 5,
+});
+
+// Each case: what it shows, the first TSN, the maximum message size, the limits, and the steps.
+const CASES: [(&str, u32, u32, Option<Limits>, &[Step]); 22] = [
+    (
+        // The example of RFC 4960 3.3.4: 13 and 16 are missing among 10 to 17.
+        "the SACK of the RFC",
+        10,
+        100,
+        None,
+        &[
+            Open(&[1]),
+            Data(1, 10, 0, MIDDLE, b"a", PART),
+            Data(1, 11, 0, MIDDLE, b"a", PART),
+            Data(1, 12, 0, MIDDLE, b"a", PART),
+            Data(1, 14, 0, MIDDLE, b"a", PART),
+            Data(1, 15, 0, MIDDLE, b"a", PART),
+            Data(1, 17, 0, MIDDLE, b"a", PART),
+            Sack(12, &[(2, 3), (5, 5)], &[]),
+            Data(1, 15, 0, ALONE, b"a", REPEAT),
+            Data(1, 9, 0, ALONE, b"a", REPEAT),
+            Sack(12, &[(2, 3), (5, 5)], &[15, 9]),
+            Sack(12, &[(2, 3), (5, 5)], &[]),
+            Data(1, 13, 0, MIDDLE, b"a", PART),
+            Data(1, 16, 0, MIDDLE, b"a", PART),
+            Sack(17, &[], &[]),
+        ],
+    ),
+    (
+        "a message of three fragments over the wrap of TSNs, the last one first",
+        u32::MAX,
+        100,
+        None,
+        &[
+            Open(&[1]),
+            Data(1, 1, 0, LAST, b"c", PART),
+            Data(1, 0, 0, MIDDLE, b"b", PART),
+            IsReadable(1, false),
+            Sack(u32::MAX - 1, &[(2, 3)], &[]),
+            Data(1, u32::MAX, 0, FIRST, b"a", WHOLE),
+            IsReadable(1, true),
+            Read(b"abc"),
+            IsReadable(1, false),
+            Cumulative(1),
+        ],
+    ),
+    (
+        "what a peer may forge is refused by its name, and nothing changes",
+        1,
+        2,
+        None,
+        &[
+            Data(1, 1, 0, ALONE, b"a", UNKNOWN),
+            Open(&[1]),
+            OpenAgain(1),
+            Data(1, 1, 0, ALONE, b"abc", TOO_LARGE),
+            Data(1, 2, 0, ALONE, b"abc", TOO_LARGE),
+            Data(1, 1 << 31, 0, ALONE, b"a", OPPOSITE),
+            Sack(0, &[], &[]),
+            Data(1, (1 << 31) + 1, 0, ALONE, b"a", REPEAT),
+            Data(1, (1 << 31) - 1, 0, ALONE, b"a", WHOLE),
+            Sack(0, &[], &[(1 << 31) + 1]),
+            Read(b"a"),
+            ReadOf(2, false),
+        ],
+    ),
+    (
+        "a skip goes over what came beyond it, and the message that it names is discarded",
+        1,
+        100,
+        None,
+        &[
+            Open(&[1]),
+            Data(1, 1, 0, FIRST, b"a", PART),
+            Data(1, 4, 0, MIDDLE, b"a", PART),
+            Forward(
+                PastClosed,
+                (1 << 31) + 1,
+                &[(9, 0), (1, 0)],
+                Err(ReceiverRefusal::TsnOpposite),
+            ),
+            Forward(PastClosed, 3, &[(9, 0), (1, 0)], SKIPPED),
+            Cumulative(4),
+            Forward(PastClosed, 3, &[(9, 0), (1, 0)], STALE),
+            Data(1, 2, 0, ALONE, b"a", REPEAT),
+            Streams(&[(1, 0)]),
+        ],
+    ),
+    (
+        "the caller drops a chunk that is refused",
+        1,
+        100,
+        None,
+        &[
+            Open(&[1]),
+            Take(1 << 31, false),
+            Take(1, true),
+            Take(1, false),
+        ],
+    ),
+    (
+        // An ordered message of two fragments on stream 1, an unordered one on stream 2, the last fragments first.
+        "with which chunk a message is complete, and which streams have one",
+        1,
+        100,
+        None,
+        &[
+            Open(&[1, 2, 3]),
+            Data(1, 2, 0, LAST, b"a", PART),
+            Data(2, 4, 0, (true, false, true), b"a", PART),
+            Data(2, 3, 0, (true, true, false), b"a", WHOLE),
+            Readable(&[2]),
+            Data(1, 1, 0, FIRST, b"a", WHOLE),
+            Data(1, 1, 0, FIRST, b"a", REPEAT),
+            Readable(&[1, 2]),
+            Streams(&[(1, 2), (2, 2), (3, 0)]),
+            Read(b"aa"),
+            Readable(&[2]),
+        ],
+    ),
+    (
+        // A chunk of a stream that is not open is dropped, and the cumulative TSN goes on; so is one by its TSN alone.
+        "chunks that are dropped are acknowledged (RFC 4960 6.5)",
+        1,
+        100,
+        None,
+        &[
+            TakeOrDiscard(1, false),
+            Cumulative(1),
+            Data(1, 1, 0, ALONE, b"a", REPEAT),
+            Discard(3, PART),
+            Discard(3, REPEAT),
+            Discard((1 << 31) + 1, OPPOSITE),
+            Open(&[1]),
+            TakeOrDiscard(2, true),
+            Cumulative(3),
+            Read(b"a"),
+            IsReadable(1, false),
+        ],
+    ),
+    (
+        // Blocks come first, and duplicates that do not fit are told next time.
+        "a SACK is no longer than its packet",
+        1,
+        100,
+        None,
+        &[
+            Open(&[1]),
+            Data(1, 2, 0, MIDDLE, b"a", PART),
+            Data(1, 4, 0, MIDDLE, b"a", PART),
+            Data(1, 6, 0, MIDDLE, b"a", PART),
+            Data(1, 2, 0, ALONE, b"a", REPEAT),
+            Data(1, 4, 0, ALONE, b"a", REPEAT),
+            SackWithin(28, 0, 0),
+            SackWithin(36, 2, 0),
+            SackWithin(44, 3, 1),
+            SackWithin(1200, 3, 1),
+            SackWithin(1200, 3, 0),
+        ],
+    ),
+    (
+        // Past the highest TSN nothing is taken and none dropped once the window is full; a gap is filled, and what came is a repeat.
+        "a window of two chunks (RFC 4960 6.2)",
+        1,
+        100,
+        TWO,
+        &[
+            Open(&[1]),
+            Held(0, 402),
+            Data(1, 6, 0, ALONE, b"a", TOO_FAR),
+            Discard(6, TOO_FAR),
+            Data(1, 3, 0, ALONE, b"a", WHOLE),
+            Held(201, 201),
+            Data(1, 5, 0, ALONE, b"a", PART),
+            Held(402, 0),
+            Data(1, 1, 0, ALONE, b"a", PART),
+            Data(1, 6, 0, ALONE, b"a", FULL),
+            Discard(6, FULL),
+            Discard(2, PART),
+            Data(1, 5, 0, ALONE, b"a", REPEAT),
+            Held(603, 0),
+            // what is read, or dropped with its stream, is held no more
+            Close(1),
+            Held(0, 402),
+            Open(&[1]),
+            Data(1, 4, 0, ALONE, b"ab", WHOLE),
+            Held(202, 200),
+            Read(b"ab"),
+            Held(0, 402),
+            Data(1, 6, 1, ALONE, b"a", WHOLE),
+        ],
+    ),
+    (
+        // No message is acknowledged and lost, however far ahead it is (RFC 1982 3.2; RFC 4960 6.5, 6.6).
+        "of 32,770 messages of one fragment the last one comes first",
+        1,
+        100,
+        None,
+        &[
+            Open(&[1]),
+            Data(1, 32_770, 32_769, ALONE, b"a", FAR),
+            Data(1, 32_769, 32_768, ALONE, b"a", FAR),
+            Cumulative(0),
+            NothingBeyond,
+            Data(1, 32_768, 32_767, ALONE, b"a", WHOLE),
+            // once the first two are read it is taken, and what came again is told so, whatever its number is
+            Data(1, 1, 0, ALONE, b"a", WHOLE),
+            Read(b"a"),
+            Data(1, 2, 1, ALONE, b"a", WHOLE),
+            Read(b"a"),
+            Data(1, 32_770, 32_769, ALONE, b"a", WHOLE),
+            Data(1, 1, 0, ALONE, b"a", REPEAT),
+            Data(1, 32_770, 1, ALONE, b"a", REPEAT),
+            Data(1, 9, 0, ALONE, b"a", FAR),
+            // an unordered chunk may carry any number
+            Data(1, 9, 0, (true, true, true), b"u", WHOLE),
+        ],
+    ),
+    (
+        // The complete message 0 waits below the name 9: what is half the circle past it is refused until it is read.
+        "what lies ahead is measured from the message that is read first",
+        1,
+        100,
+        None,
+        &[
+            Open(&[1]),
+            Data(1, 1, 0, ALONE, b"a", WHOLE),
+            Forward(Known, 10, &[(1, 9)], SKIPPED),
+            Data(1, 11, 32_768, ALONE, b"a", FAR),
+            Forward(Known, 11, &[(1, 32_767)], NAMED_FAR),
+            Cumulative(10),
+            Read(b"a"),
+            Data(1, 11, 32_768, ALONE, b"a", WHOLE),
+        ],
+    ),
+    (
+        // RFC 3758 3.6
+        "a FORWARD-TSN whose number may be ahead or behind is refused, and nothing is skipped",
+        1,
+        100,
+        None,
+        &[
+            Open(&[1]),
+            Data(1, 1, 0, ALONE, b"a", WHOLE),
+            Forward(Known, 5, &[(1, 32_767)], NAMED_FAR),
+            Forward(Known, 5, &[(1, 32_768)], NAMED_FAR),
+            Forward(Known, 1, &[(1, 32_768)], STALE),
+            Cumulative(1),
+            Read(b"a"),
+            Forward(Known, 5, &[(1, 32_767)], SKIPPED),
+            Data(1, 6, 32_768, ALONE, b"a", WHOLE),
+            Read(b"a"),
+            // the number 32,769 is next: names of 2^14 numbers before it are old ones
+            Forward(Known, 7, &[(1, 16_384)], NAMED_FAR),
+            Forward(Known, 7, &[(1, 16_385)], SKIPPED),
+            Data(1, 8, 32_769, ALONE, b"a", WHOLE),
+            Read(b"a"),
+        ],
+    ),
+    (
+        // A stream that is opened after message 0 of it was skipped waits for nothing: the FORWARD-TSN comes again.
+        "a FORWARD-TSN that names a stream that is not open",
+        1,
+        100,
+        None,
+        &[
+            Forward(Known, 1, &[(1, 0)], NAMED_UNKNOWN),
+            Cumulative(0),
+            Open(&[1]),
+            Forward(Known, 1, &[(1, 0)], SKIPPED),
+            Data(1, 2, 1, ALONE, b"a", WHOLE),
+            Read(b"a"),
+            // where streams are closed on purpose a name of one is passed over; the others are looked at
+            Forward(PastClosed, 3, &[(9, 0)], SKIPPED),
+            Forward(PastClosed, 4, &[(1, 32_770)], NAMED_FAR),
+            Cumulative(3),
+        ],
+    ),
+    (
+        // The second fragment is skipped; the third one can't be told from one of a later message (RFC 3758 3.6).
+        "a message of which a fragment is skipped does not block its stream, though no name covers it",
+        1,
+        100,
+        None,
+        &[
+            Open(&[1]),
+            Data(1, 1, 0, FIRST, b"b", PART),
+            Forward(Known, 2, &[], SKIPPED),
+            Data(1, 3, 0, ALONE, b"b", FAR),
+            Data(1, 4, 1, ALONE, b"a", WHOLE),
+            Read(b"a"),
+        ],
+    ),
+    (
+        // Both messages have the stream sequence number 0.
+        "what came before a reset is read before what comes after it (RFC 6525 5.2.2)",
+        1,
+        100,
+        None,
+        &[
+            Open(&[1]),
+            Data(1, 1, 0, ALONE, b"a", WHOLE),
+            Reset(9, 1, Err(ReceiverRefusal::StreamUnknown)),
+            Reset(1, 2, Err(ReceiverRefusal::ResetInProgress)),
+            Reset(1, 1, Ok(())),
+            Data(1, 2, 0, ALONE, b"b", WHOLE),
+            Read(b"a"),
+            Read(b"b"),
+        ],
+    ),
+    (
+        // Those up to the cumulative TSN, the one before it, and the farthest before it; the stream 9 is not open.
+        "a FORWARD-TSN that is not past the cumulative TSN changes nothing (RFC 3758 3.6)",
+        1,
+        100,
+        None,
+        &[
+            Open(&[1]),
+            Data(1, 1, 0, FIRST, b"a", PART),
+            Forward(Known, 1, &[(1, 0)], STALE),
+            Forward(Known, 1, &[(9, 0)], STALE),
+            Forward(Known, 0, &[(1, 0)], STALE),
+            Forward(Known, 0, &[(9, 0)], STALE),
+            Forward(Known, (1 << 31) + 2, &[(1, 0)], STALE),
+            Forward(Known, (1 << 31) + 2, &[(9, 0)], STALE),
+            Sack(1, &[], &[]),
+            Data(1, 2, 0, LAST, b"b", WHOLE),
+            Read(b"ab"),
+        ],
+    ),
+    (
+        // Half a message comes on stream 1, and a whole one on each of 2 and 3; TSN 2 is missing.
+        "the one in the middle of three streams is closed",
+        1,
+        100,
+        None,
+        &[
+            Open(&[1, 2, 3]),
+            Data(1, 1, 0, FIRST, b"a", PART),
+            Data(2, 3, 0, ALONE, b"a", WHOLE),
+            Data(3, 4, 0, ALONE, b"a", WHOLE),
+            Close(2),
+            Close(7),
+            // what came on the closed stream stays acknowledged, and what comes on it later is refused
+            ReadOf(2, false),
+            HasStats(2, false),
+            Data(2, 5, 0, ALONE, b"a", UNKNOWN),
+            Sack(1, &[(2, 3)], &[]),
+            Data(1, 2, 0, LAST, b"b", WHOLE),
+            Read(b"ab"),
+            ReadOf(3, true),
+            Cumulative(4),
+            // it is opened again, and waits for its first message
+            Open(&[2]),
+            IsReadable(2, false),
+            Data(2, 5, 0, ALONE, b"a", WHOLE),
+            IsReadable(2, true),
+        ],
+    ),
+    (
+        "a chunk that is new, one that came, and one half a circle ahead",
+        1,
+        100,
+        None,
+        &[
+            Open(&[1]),
+            Data(1, 1, 0, ALONE, b"a", WHOLE),
+            Data(1, 1, 0, ALONE, b"a", REPEAT),
+            Data(1, (1 << 31) + 1, 0, ALONE, b"a", OPPOSITE),
+            Cumulative(1),
+            Read(b"a"),
+        ],
+    ),
+    (
+        "a SACK reports a duplicate once",
+        1,
+        100,
+        None,
+        &[
+            Open(&[1]),
+            Data(1, 1, 0, FIRST, b"a", PART),
+            Data(1, 3, 0, LAST, b"c", PART),
+            Data(1, 1, 0, ALONE, b"a", REPEAT),
+            Sack(1, &[(2, 2)], &[1]),
+            Sack(1, &[(2, 2)], &[]),
+        ],
+    ),
+    (
+        // Of the message with the number 0 one of two fragments came, and it is skipped; the message 1 is read then.
+        "a message is skipped by its name",
+        1,
+        100,
+        None,
+        &[
+            Open(&[1]),
+            Data(1, 1, 0, FIRST, b"b", PART),
+            Forward(Known, 2, &[(9, 0)], NAMED_UNKNOWN),
+            Forward(Known, 2, &[(1, 0)], SKIPPED),
+            Forward(Known, 2, &[(1, 0)], STALE),
+            Cumulative(2),
+            Data(1, 3, 1, ALONE, b"a", WHOLE),
+            Read(b"a"),
+        ],
+    ),
+    (
+        "so it is where names of closed streams are passed over",
+        1,
+        100,
+        None,
+        &[
+            Open(&[1]),
+            Data(1, 1, 0, FIRST, b"b", PART),
+            Forward(PastClosed, 2, &[(1, 0)], SKIPPED),
+            Cumulative(2),
+            Data(1, 3, 1, ALONE, b"a", WHOLE),
+            Read(b"a"),
+        ],
+    ),
+    (
+        "so it is where messages are discarded by names alone",
+        1,
+        100,
+        None,
+        &[
+            Open(&[1]),
+            Data(1, 1, 0, FIRST, b"b", PART),
+            Forward(ByNames, 2, &[(1, 0)], SKIPPED),
+            Cumulative(2),
+            Data(1, 3, 1, ALONE, b"a", WHOLE),
+            Read(b"a"),
+        ],
+    ),
+];
+
+/// Each case goes by the calls that count their turns as by those that do not.
+#[test]
+fn receiver_cases(rt: HostRuntime) {
+    for (name, first_tsn, most, limits, steps) in CASES {
+        for counted in [false, true] {
+            let mut receiver = Receiver::new(rt.alloc(), first_tsn, most, limits);
+            assert!(rt; all_go(rt.alloc(), &mut receiver, steps, counted), "{name}");
+        }
     }
-    well
-}
-
-fn duplicates_are_told_once(alloc: Global, receiver: &mut Receiver) -> bool {
-    reports(receiver, 12, &[(2, 3), (5, 5)], 0)
-        && comes_again(alloc, receiver, 15)
-        && comes_again(alloc, receiver, 9)
-        && reports(receiver, 12, &[(2, 3), (5, 5)], 2)
-        && reports(receiver, 12, &[(2, 3), (5, 5)], 0)
-}
-
-fn gaps_are_filled(alloc: Global, receiver: &mut Receiver) -> bool {
-    is_new(alloc, receiver, 13, (false, false), b"a")
-        && is_new(alloc, receiver, 16, (false, false), b"a")
-        && reports(receiver, 17, &[], 0)
-}
-
-fn is_as_in_the_rfc(alloc: Global, receiver: &mut Receiver) -> bool {
-    six_come(alloc, receiver)
-        && duplicates_are_told_once(alloc, receiver)
-        && gaps_are_filled(alloc, receiver)
-}
-
-/// The example of RFC 4960 3.3.4: 13 and 16 are missing among 10 to 17.
-#[test]
-fn sack_of_the_rfc(rt: HostRuntime) {
-    let alloc = rt.alloc();
-    let mut receiver = Receiver::new(alloc, 10, 100, None);
-    assert!(rt; is_as_in_the_rfc(alloc, &mut receiver));
-}
-
-fn two_wait(alloc: Global, receiver: &mut Receiver) -> bool {
-    receiver.open(1).is_ok()
-        && is_new(alloc, receiver, 1, (false, true), b"c")
-        && is_new(alloc, receiver, 0, (false, false), b"b")
-        && !receiver.is_readable(1)
-        && reports(receiver, u32::MAX - 1, &[(2, 3)], 0)
-}
-
-fn the_first_completes(alloc: Global, receiver: &mut Receiver) -> bool {
-    is_new(alloc, receiver, u32::MAX, (true, false), b"a")
-        && receiver.is_readable(1)
-        && reads(receiver, b"abc")
-        && !receiver.is_readable(1)
-        && receiver.cumulative_tsn() == 1
-}
-
-/// A message of three fragments, over the wrap of TSNs, the last one first.
-#[test]
-fn fragments_come_backwards(rt: HostRuntime) {
-    let alloc = rt.alloc();
-    let mut receiver = Receiver::new(alloc, u32::MAX, 100, None);
-    let well = two_wait(alloc, &mut receiver);
-    assert!(rt; well && the_first_completes(alloc, &mut receiver));
-}
-
-fn is_refused(
-    alloc: Global,
-    receiver: &mut Receiver,
-    tsn: u32,
-    bytes: &[u8],
-    due: ReceiverRefusal,
-) -> bool {
-    refusal(alloc, receiver, tsn, bytes) == Some(due)
-}
-
-fn streams_are_judged(alloc: Global, receiver: &mut Receiver) -> bool {
-    is_refused(alloc, receiver, 1, b"a", ReceiverRefusal::StreamUnknown)
-        && receiver.open(1).is_ok()
-        && receiver.open(1) == Err(ReceiverRefusal::StreamOpen)
-}
-
-fn chunks_are_judged(alloc: Global, receiver: &mut Receiver) -> bool {
-    is_refused(alloc, receiver, 1, b"abc", ReceiverRefusal::MessageTooLarge)
-        && is_refused(alloc, receiver, 2, b"abc", ReceiverRefusal::MessageTooLarge)
-        && is_refused(alloc, receiver, 1 << 31, b"a", ReceiverRefusal::TsnOpposite)
-        && reports(receiver, 0, &[], 0)
-}
-
-fn the_next_are_taken(alloc: Global, receiver: &mut Receiver) -> bool {
-    comes_again(alloc, receiver, (1 << 31) + 1)
-        && is_new(alloc, receiver, (1 << 31) - 1, WHOLE, b"a")
-        && reports(receiver, 0, &[], 1)
-        && reads(receiver, b"a")
-        && receiver.read(2).is_err()
-}
-
-/// What a peer may forge is refused by its name, and nothing changes.
-#[test]
-fn forged_chunks(rt: HostRuntime) {
-    let alloc = rt.alloc();
-    let mut receiver = Receiver::new(alloc, 1, 2, None);
-    let judged = streams_are_judged(alloc, &mut receiver)
-        && chunks_are_judged(alloc, &mut receiver);
-    assert!(rt; judged && the_next_are_taken(alloc, &mut receiver));
-}
-
-/// Whether a name of message 0 of a stream is put into a FORWARD-TSN.
-fn names(skip: &mut ChunkForwardTsn, identifier: u16) -> bool {
-    let stream = ChunkForwardTsnStream {
-        identifier,
-        sequence: 0,
-    };
-    skip.streams.push(stream).is_ok()
-}
-
-/// Whether a receiver that passes over closed streams says this of a FORWARD-TSN up to a TSN, which names the message 0 of stream 1
-/// and one of a stream that is not open.
-fn forwards(
-    alloc: Global,
-    receiver: &mut Receiver,
-    tsn: u32,
-    due: Result<Forwarded, ReceiverRefusal>,
-) -> bool {
-    let mut skip = ChunkForwardTsn {
-        new_cumulative_tsn: tsn,
-        streams: Vec::new(alloc),
-    };
-    names(&mut skip, 9) && names(&mut skip, 1) && receiver.forward_tsn_past_closed(&skip) == due
-}
-
-fn first_and_fourth_come(alloc: Global, receiver: &mut Receiver) -> bool {
-    receiver.open(1).is_ok()
-        && is_new(alloc, receiver, 1, (true, false), b"a")
-        && is_new(alloc, receiver, 4, (false, false), b"a")
-}
-
-fn skips_are_judged(alloc: Global, receiver: &mut Receiver) -> bool {
-    let opposite = Err(ReceiverRefusal::TsnOpposite);
-    forwards(alloc, receiver, (1 << 31) + 1, opposite)
-        && forwards(alloc, receiver, 3, Ok(Forwarded::Skipped))
-        && receiver.cumulative_tsn() == 4
-        && forwards(alloc, receiver, 3, Ok(Forwarded::Stale))
-}
-
-fn nothing_is_held(receiver: &Receiver) -> bool {
-    match receiver.reassembly(1) {
-        Some(queue) => queue.get_num_bytes() == 0,
-        None => false,
-    }
-}
-
-fn the_message_is_discarded(alloc: Global, receiver: &mut Receiver) -> bool {
-    comes_again(alloc, receiver, 2) && nothing_is_held(receiver)
-}
-
-/// A skip goes over what came beyond it; the message that it names is discarded.
-#[test]
-fn skips(rt: HostRuntime) {
-    let alloc = rt.alloc();
-    let mut receiver = Receiver::new(alloc, 1, 100, None);
-    let well = first_and_fourth_come(alloc, &mut receiver)
-        && skips_are_judged(alloc, &mut receiver);
-    assert!(rt; well && the_message_is_discarded(alloc, &mut receiver));
-}
-
-/// Whether the caller answers this to a chunk.
-fn answers(alloc: Global, receiver: &mut Receiver, tsn: u32, due: bool) -> bool {
-    match chunk(alloc, tsn, true, true, b"a") {
-        Ok(chunk) => take_chunk(receiver, &chunk) == Ok(due),
-        Err(_) => false,
-    }
-}
-
-fn three_are_answered(alloc: Global, receiver: &mut Receiver) -> bool {
-    receiver.open(1).is_ok()
-        && answers(alloc, receiver, 1 << 31, false)
-        && answers(alloc, receiver, 1, true)
-        && answers(alloc, receiver, 1, false)
-}
-
-/// The caller that stands in this crate: a chunk that is refused is dropped.
-#[test]
-fn caller(rt: HostRuntime) {
-    let alloc = rt.alloc();
-    let mut receiver = Receiver::new(alloc, 1, 100, None);
-    assert!(rt; three_are_answered(alloc, &mut receiver));
 }

@@ -5,10 +5,10 @@ ghost use Rattle.sctp_model.specs.Amounts.{ledger};
 ghost use Rattle.sctp_model.specs.LinkRecord.{Setup};
 ghost use Rattle.sctp_model.specs.Steps.{History, StandsFor};
 
+use sctp_base::util::Checksum;
 use sctp_link::event::Event;
 use sctp_link::link::Link;
 use sctp_model::laws::bytes_balance;
-use sctp_util::util::Checksum;
 
 /// Gives events to a link, and counts those that it took. Where it stood for a history, it stands for one then:
 /// so each law of `sctp_model` that holds of every history holds of what was read, acknowledged and released.

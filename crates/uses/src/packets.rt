@@ -6,11 +6,11 @@ ghost use Rattle.sctp_chunks.specs.Wire.{sack_chunk};
 ghost use Rattle.sctp_packets.specs.Packet.{Parts, ReadsPacket};
 
 use bytes::Bytes;
+use sctp_base::error::Result;
+use sctp_base::util::Checksum;
 use sctp_chunks::chunk::chunk_kind::ChunkKind;
 use sctp_chunks::chunk::chunk_selective_ack::ChunkSelectiveAck;
 use sctp_packets::packet::{CommonHeader, Packet};
-use sctp_util::error::Result;
-use sctp_util::util::Checksum;
 use std::alloc::Global;
 
 /// How many chunks a datagram has.

@@ -5,8 +5,8 @@ ghost use Rattle.sctp_params.specs.Param.{state_cookie};
 ghost use Rattle.sctp_params.specs.ParamKind.{ReadsParam};
 
 use bytes::Bytes;
-use sctp_params::param::param_kind::{ParamKind, build_param};
-use sctp_util::error::Result;
+use sctp_base::error::Result;
+use sctp_base::param::param_kind::{ParamKind, build_param};
 use std::alloc::Global;
 
 /// The cookie, where the bytes begin with a State Cookie parameter (RFC 4960 3.3.3.1).

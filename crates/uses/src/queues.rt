@@ -6,10 +6,10 @@ ghost use Rattle.sctp_outbound.specs.outbound_queue.OutboundQueue.{with_message}
 ghost use Rattle.sctp_reassembly.specs.reassembly_queue.Fragments.{payload_of};
 ghost use Rattle.sctp_reassembly.specs.reassembly_queue.ReassemblyQueue.{message_read};
 
+use sctp_base::error::Result;
 use sctp_chunks::chunk::chunk_payload_data::ChunkPayloadData;
 use sctp_queues::outbound_queue::OutboundQueue;
 use sctp_queues::reassembly_queue::ReassemblyQueue;
-use sctp_util::error::Result;
 
 /// Puts the fragments of a message behind those that wait. The answer is false, and nothing changes, where
 /// they are not one complete message or one more can't be counted.

@@ -2,6 +2,7 @@
 
 use super::Association;
 use crate::fault::Fault;
+use sctp_base::util::sna32lt;
 use sctp_chunks::chunk::chunk_error::ChunkError;
 use sctp_chunks::chunk::chunk_forward_tsn::ChunkForwardTsn;
 use sctp_chunks::chunk::chunk_kind::ChunkKind;
@@ -11,7 +12,6 @@ use sctp_chunks::chunk::chunk_selective_ack::ChunkSelectiveAck;
 use sctp_receiver::receiver::arrival::Arrival;
 use sctp_receiver::receiver::refusal::ReceiverRefusal;
 use sctp_sender::sender::flight::Released;
-use sctp_util::util::sna32lt;
 
 /// How long a SACK may wait for a second packet, in nanoseconds (RFC 4960 6.2).
 const SACK_DELAY: u64 = 200_000_000;

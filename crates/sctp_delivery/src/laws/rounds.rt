@@ -18,8 +18,8 @@ pub fn what_is_lost_can_be_sent_again()
     ensures { AfterEachSessionOfFewTsns (λ first given s. EachCanGoOn s) }
 {}
 
-/// The receiver can make a SACK at any time, with any credit, and the sender can take it. So it is in sessions that give out fewer than
-/// 2^31 TSNs.
+/// The receiver can make a SACK at any time, by each call that makes one and with any credit, and the sender can take it. So it is in
+/// sessions that give out fewer than 2^31 TSNs.
 pub fn a_sack_can_be_made_and_taken()
     ensures { AfterEachSessionOfFewTsns (λ first given s. CanBeAnswered s) }
 {}

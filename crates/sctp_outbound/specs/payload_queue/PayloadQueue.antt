@@ -1,5 +1,5 @@
 -- A payload queue as callers see it.
-use Rattle.std.specs.Prelude.{◌≡◌, ℕ, ◌-◌, ◌++◌, ◌∷◌, [], List, length, slice_index_or, true, not, Option, Some, None, if◌then◌else◌}
+use Rattle.std.specs.Prelude.{◌≡◌, ℕ, ◌-◌, ◌<◌, ◌++◌, ◌∷◌, [], List, length, slice_index_or, true, false, not, Option, Some, None, if◌then◌else◌}
 use Rattle.std.specs.List.{filter}
 use Rattle.sctp_data.specs.declared.chunk.chunk_payload_data.ChunkPayloadData.{ChunkPayloadData}
 use Rattle.sctp_util.specs.Lists.{insert_before}
@@ -52,3 +52,9 @@ abbrev pub FrontGoesFirst : ℕ → List ChunkPayloadData → Type 0
 FrontGoesFirst tsn chunks =
     (d : ChunkPayloadData) → at_or_before (slice_index_or chunks (length chunks - 1) d).tsn tsn
     ≡ true → at_or_before (slice_index_or chunks 0 d).tsn tsn ≡ true
+
+-- the first chunk, where there is one, is not at or before the TSN
+abbrev pub FirstStays : ℕ → List ChunkPayloadData → Type 0
+FirstStays tsn chunks =
+    0 < length chunks → (d : ChunkPayloadData) → at_or_before (slice_index_or chunks 0 d).tsn tsn
+    ≡ false

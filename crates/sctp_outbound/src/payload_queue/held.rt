@@ -1,5 +1,6 @@
 //! Held chunks: a slab of them, and a deque of their TSNs and keys in order, so that a search reads TSNs alone and an edit moves no chunk.
-//! `look`, `tsn_at`, `tsn_or`, `mark` and `take_back` take a turn; `at`, `front_tsn`, `last_tsn`, `tsns` and the edits take none.
+//! `look`, `see`, `tsn_at`, `tsn_or`, `mark` and `take_back` take a turn each, and `settle_earliest` one for each chunk. `front_tsn` takes
+//! none, nor do `insert` and the removals of what was looked at; `tsns` hands out no TSN but by `tsn_or`.
 
 ghost use Rattle.std.specs.Prelude.{◌≡◌, ◌==◌, ◌+◌, ◌-◌, ◌<◌, ◌≤◌, [], ◌∷◌, false, length, map, max, min, insert, remove, slice_get, slice_index_or, slice_set, OnOk, OnErr, IfSome, IfNone, IsOk, IsOkUnless};
 ghost use Rattle.std.specs.Option.{option_map};
@@ -78,6 +79,45 @@ impl Mark {
 struct Place {
     tsn: u32,
     key: usize,
+}
+
+/// What was looked at at a place: a TSN, and the chunk that has it.
+#[derive(Drop)]
+pub(crate) struct Seen<'a> {
+    tsn: u32,
+    key: usize,
+    slab: &'a Slab<ChunkPayloadData>,
+}
+
+impl<'a> Model for Seen<'a> {
+    ghost use Rattle.std.specs.Prelude.{◌≡◌, Option, Some};
+    ghost use Rattle.std.specs.Option.{option_map};
+    ghost use Rattle.slab.specs.Slab.{get};
+    ghost use Rattle.sctp_data.specs.declared.chunk.chunk_payload_data.ChunkPayloadData.{ChunkPayloadData};
+
+    ghost Value = { Option ChunkPayloadData };
+
+    ghost view = { λ s. get s.slab.now s.key };
+
+    ghost invariant = { λ s. option_map (λ c. c.tsn) (get s.slab.now s.key) ≡ Some s.tsn };
+}
+
+impl<'a> Seen<'a> {
+    /// Its TSN.
+    #[inline]
+    pub(crate) fn tsn(&self) -> u32
+        ensures { option_map (λ c. c.tsn) self.now ≡ Some result }
+    {
+        self.tsn
+    }
+
+    /// The chunk.
+    #[inline]
+    pub(crate) fn chunk(&self) -> &'a ChunkPayloadData
+        ensures { Some result.now ≡ self.now }
+    {
+        &self.slab[self.key]
+    }
 }
 
 /// The TSNs of chunks by place, in the two slices in which a deque holds them, where a look is short.
@@ -187,17 +227,24 @@ impl Held {
         ensures value { result.now ≡ slice_index_or self.now.chunks place result.now }
         ensures turn { turns.new ≡ turns.old + 1 }
     {
-        turns.tick();
-        self.at(place)
+        self.see(place, turns).chunk()
     }
 
-    /// The chunk at a place whose TSN was looked at before.
+    /// The same, where the chunk is read only if it is asked for.
     /// Precondition: the place has one.
-    pub(crate) fn at(&self, place: usize) -> &ChunkPayloadData
+    #[inline]
+    pub(crate) fn see<'a>(&'a self, place: usize, turns: &mut Turns) -> Seen<'a>
         requires { place < length self.now.chunks }
-        ensures { result.now ≡ slice_index_or self.now.chunks place result.now }
+        ensures value { result ≡ slice_get self.now.chunks place }
+        ensures turn { turns.new ≡ turns.old + 1 }
     {
-        &self.slab[self.places[place].key]
+        turns.tick();
+        let here = self.places[place];
+        Seen {
+            tsn: here.tsn,
+            key: here.key,
+            slab: &self.slab,
+        }
     }
 
     /// Looks at the TSN at a place, which is a turn.
@@ -229,17 +276,6 @@ impl Held {
         }
     }
 
-    /// The TSN of the last chunk; None where there are none.
-    pub(crate) fn last_tsn(&self) -> Option<u32>
-        ensures { result
-            ≡ option_map (λ c. c.tsn) (slice_get self.now.chunks (length self.now.chunks - 1)) }
-    {
-        match self.places.back() {
-            Some(place) => Some(place.tsn),
-            None => None,
-        }
-    }
-
     /// A moment in nanoseconds before which no chunk that is not abandoned has a deadline: the earliest deadline of all that came since
     /// `settle_earliest`, and of those that it found.
     pub(crate) fn earliest(&self) -> u64
@@ -248,13 +284,14 @@ impl Held {
         self.earliest
     }
 
-    /// Looks at each chunk, so that `earliest` hangs on those alone that are held and not abandoned.
-    pub(crate) fn settle_earliest(&mut self)
-        ensures { self.new ≡ self.old }
+    /// Looks at each chunk, a turn each, so that `earliest` hangs on those alone that are held and not abandoned.
+    pub(crate) fn settle_earliest(&mut self, turns: &mut Turns)
+        ensures same { self.new ≡ self.old }
+        ensures turn { turns.new ≡ turns.old + length self.old.chunks }
     {
         let mut earliest = u64::MAX;
         for place in 0..self.len() {
-            earliest = earliest.min(deadline_of(self.at(place)));
+            earliest = earliest.min(deadline_of(self.look(place, turns)));
         }
         self.earliest = earliest;
     }

@@ -1,7 +1,8 @@
 //! Which TSNs fit beside those held: tests that look at the first chunk and at the last.
 
-ghost use Rattle.std.specs.Prelude.{◌≡◌, ◌-◌, ◌^◌, ◌<◌, All, length, slice_index_or, true};
+ghost use Rattle.std.specs.Prelude.{◌≡◌, ◌-◌, ◌^◌, ◌<◌, All, length, slice_index_or, true, false};
 ghost use Rattle.sctp_util.specs.Serial.{at_or_before};
+ghost use Rattle.sctp_outbound.specs.payload_queue.PayloadQueue.{FirstStays};
 ghost use Rattle.sctp_serial.specs.Window.{IsSerial, IsWithinHalf, SpansOneWindow, first_among};
 
 use crate::payload_queue::held::Held;
@@ -50,16 +51,16 @@ pub(crate) fn span_one_window(held: &Held, tsn: u32) -> bool
     are_within_half(held, base)
 }
 
-/// Whether the last chunk is at or before the TSN. It takes no turn.
-pub(crate) fn is_last_up_to(held: &Held, cumulative_tsn: u32) -> bool
-    requires { 0 < length held.now.chunks }
-    ensures is { (d : _) → result ≡ at_or_before (slice_index_or held.now.chunks
-        (length held.now.chunks - 1) d).tsn cumulative_tsn }
+/// Whether there is a first chunk, and it is at or before the TSN. It takes no turn.
+pub(crate) fn is_front_up_to(held: &Held, cumulative_tsn: u32) -> bool
+    ensures yes { result ≡ true → (0 < length held.now.chunks)
+        × ((d : _) → at_or_before (slice_index_or held.now.chunks 0 d).tsn cumulative_tsn ≡ true) }
+    ensures no { result ≡ false → FirstStays cumulative_tsn held.now.chunks }
     ensures fits { cumulative_tsn < 2 ^ 32 }
 {
-    match held.last_tsn() {
-        Some(last) => sna32lte(last, cumulative_tsn),
-        None => unreachable!(),
+    match held.front_tsn() {
+        Some(front) => sna32lte(front, cumulative_tsn),
+        None => false,
     }
 }
 

@@ -1,4 +1,4 @@
-//! The run that a new fragment completes, looked for to both sides in turn, so that the shorter side bounds the looks.
+//! The run that holds a fragment, looked for to both sides in turn, so that the shorter side bounds the looks.
 
 ghost use Rattle.std.specs.Prelude.{◌≡◌, ℕ, ◌+◌, ◌-◌, ◌*◌, ◌<◌, ◌≤◌, length, remove, slice_index_or, true, false, IfSome, IfNone};
 ghost use Rattle.sctp_data.specs.declared.chunk.chunk_payload_data.ChunkPayloadData.{ChunkPayloadData};
@@ -18,10 +18,16 @@ pub(crate) struct Side {
 }
 
 // A step back to the fragment before, unless the message begins here; None where no run holds the place: there is no fragment
-// before, its TSN is not the one before, or it ends a message.
-fn step_back(unassembled: &Loose, place: usize, side: Side, turns: &mut Turns) -> Option<Side>
+// before, its TSN is not the one before, or it ends a message, where without the fragment at the place none is complete.
+fn step_back(
+    unassembled: &Loose,
+    place: usize,
+    alone: bool,
+    side: Side,
+    turns: &mut Turns,
+) -> Option<Side>
     requires in_range { place < length unassembled.now.chunks }
-    requires alone { HasNoRun (remove unassembled.now.chunks place) }
+    requires alone { alone ≡ true → HasNoRun (remove unassembled.now.chunks place) }
     requires side { IsFront unassembled.now.chunks place side }
     ensures found { IfSome result (λ s. IsFront unassembled.now.chunks place s) }
     ensures step { IfSome result (λ s. IsStepBack side s turns.old turns.new) }
@@ -37,7 +43,7 @@ fn step_back(unassembled: &Loose, place: usize, side: Side, turns: &mut Turns) -
         return None;
     }
     let before = unassembled.look(side.place - 1, turns);
-    if before.ending_fragment {
+    if alone && before.ending_fragment {
         return None;
     }
     if side.tsn != before.tsn.wrapping_add(1) {
@@ -99,19 +105,16 @@ fn goes_on_beyond(unassembled: &Loose, place: usize, here: &ChunkPayloadData) ->
     false
 }
 
-/// The place and the length of the run that holds the place; None where there is none. Without the fragment at the place there is
-/// no run at all, so that a fragment that ends a message stops the search back, as one that begins stops it on.
+/// The place and the length of the run that holds the place, the one that ends earliest; None where there is
+/// none. A run is a complete message: it begins, no other fragment in it does, TSNs rise by one, and its last ends.
 ///
-/// A run takes as many turns as it has fragments. Where none is found, and no fragment of the stretch up to the place begins, it takes
-/// at most twice as many as there are, and 3; so too where none from the place on ends.
-/// Preconditions: the place has a fragment; without it there is no run.
-pub(crate) fn run_outward(
-    unassembled: &Loose,
-    place: usize,
-    turns: &mut Turns,
-) -> Option<(usize, usize)>
+/// It takes at most one turn more than there are fragments in the stretch of neighbours that holds the place, TSNs up by one, and
+/// a run as many as it has fragments. Where no fragment of the stretch up to the place begins, it takes at most twice as many turns
+/// as there are before the place, and 2; where none from the place on ends, twice as many as there are behind it, and 3. So each
+/// fragment of a message that comes in order or reversed, but the last, takes three at most.
+/// Precondition: the place has a fragment.
+pub fn run_around(unassembled: &Loose, place: usize, turns: &mut Turns) -> Option<(usize, usize)>
     requires in_range { place < length unassembled.now.chunks }
-    requires alone { HasNoRun (remove unassembled.now.chunks place) }
     ensures found { IfSome result
         (λ run. IsEarliestRunAround unassembled.now.chunks place run.0 run.1) }
     ensures none { IfNone result (HasNoRunAround unassembled.now.chunks place) }
@@ -123,7 +126,7 @@ pub(crate) fn run_outward(
     ensures no_beginning { (first last : ℕ) → IsStretch unassembled.now.chunks place first last
         → ((k : ℕ) (d : ChunkPayloadData) → first ≤ k → k ≤ place
         → (slice_index_or unassembled.now.chunks k d).beginning_fragment ≡ false)
-        → turns.new ≤ turns.old + 2 * (place - first) + 3 }
+        → turns.new ≤ turns.old + 2 * (place - first) + 2 }
     ensures no_ending { (first last : ℕ) → IsStretch unassembled.now.chunks place first last
         → ((k : ℕ) (d : ChunkPayloadData) → place ≤ k → k ≤ last
         → (slice_index_or unassembled.now.chunks k d).ending_fragment ≡ false)
@@ -131,6 +134,7 @@ pub(crate) fn run_outward(
 {
     // places fit, and so does the length of a run
     let _len = unassembled.len();
+    let alone = unassembled.is_apart(place);
     let here = unassembled.look(place, turns);
     if goes_on_beyond(unassembled, place, here) {
         return None;
@@ -146,7 +150,7 @@ pub(crate) fn run_outward(
         done: here.ending_fragment,
     };
     while !front.done || !back.done {
-        front = step_back(unassembled, place, front, turns)?;
+        front = step_back(unassembled, place, alone, front, turns)?;
         back = step_on(unassembled, place, back, turns)?;
     }
     Some((front.place, back.place + 1 - front.place))

@@ -12,8 +12,7 @@ ghost use Rattle.sctp_reassembly.specs.reassembly_queue.Loose.{IsRunTaken, IsFla
 pub(crate) mod undo;
 
 use crate::reassembly_queue::fragment::Fragment;
-use crate::reassembly_queue::outward::run_outward;
-use crate::reassembly_queue::unassembled::{Loose, find_run};
+use crate::reassembly_queue::unassembled::{Loose, find_run, run_around};
 use sctp_serial::turns::Turns;
 use sctp_util::error::Error;
 use std::alloc::{AllocError, Global};
@@ -150,7 +149,7 @@ fn search(
     ensures walk { turns.new ≤ turns.old + length unassembled.now.chunks + 1 }
 {
     if searched {
-        run_outward(unassembled, place, turns)
+        run_around(unassembled, place, turns)
     } else {
         find_run(unassembled, turns)
     }

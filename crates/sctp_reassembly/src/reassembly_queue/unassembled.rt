@@ -2,17 +2,17 @@
 
 ghost use Rattle.std.specs.Prelude.{◌≡◌, ℕ, ◌==◌, ◌+◌, ◌-◌, ◌^◌, ◌<◌, ◌≤◌, ◌*◌, ◌&&◌, [], ◌∷◌, length, vec_capacity, min, slice_index_or, insert, remove, take, drop, ◌++◌, OnOk, OnErr, IfOk, IfErr, IfSome, IfNone, Some, None, true, false, IsTrue, not, if◌then◌else◌};
 ghost use Rattle.std.specs.VecDeque.{deque_capacity};
-ghost use Rattle.sctp_serial.specs.Runs.{IsEarliestRunAround, HasNoRunAround, IsStretch, IsEarliestRun, HasNoRun};
+ghost use Rattle.sctp_serial.specs.Runs.{IsEarliestRun, HasNoRun};
 ghost use Rattle.sctp_util.specs.declared.error.Error.TheVariants.{ErrOutOfMemory};
 ghost use Rattle.sctp_data.specs.declared.chunk.chunk_payload_data.ChunkPayloadData.{ChunkPayloadData};
 ghost use Rattle.sctp_util.specs.Serial.{comes_before};
-ghost use Rattle.sctp_reassembly.specs.reassembly_queue.Around.{IsStart, HasNoStart, IsEnd, IsFirstEnding, HasNoEnd};
 ghost use Rattle.sctp_serial.specs.DataChunks.{bytes_of, following_tsn};
 ghost use Rattle.sctp_reassembly.specs.reassembly_queue.Loose.{IsOrderFlag};
 ghost use Rattle.sctp_reassembly.specs.reassembly_queue.PoolUndo.{put_back};
 ghost use Rattle.sctp_serial.specs.Window.{IsSerial};
 
 use crate::reassembly_queue::fragment::Fragment;
+pub use crate::reassembly_queue::outward::run_around;
 use sctp_data::chunk::chunk_payload_data::ChunkPayloadData;
 use sctp_serial::turns::Turns;
 use sctp_util::error::Error;
@@ -31,10 +31,13 @@ pub struct Loose {
     serial: bool,
     // so many at once take no memory
     places: usize,
+    // without the fragment at this place there is no complete message, where that is known
+    apart: Option<usize>,
 }
 
 impl Model for Loose {
-    ghost use Rattle.std.specs.Prelude.{◌≡◌, ◌-◌, ◌^◌, ◌≤◌, min};
+    ghost use Rattle.std.specs.Prelude.{◌≡◌, ◌-◌, ◌^◌, ◌≤◌, min, remove, IfSome};
+    ghost use Rattle.sctp_serial.specs.Runs.{HasNoRun};
     ghost use Rattle.std.specs.VecDeque.{deque_capacity};
     ghost use Rattle.sctp_serial.specs.DataChunks.{bytes_of};
     ghost use Rattle.sctp_reassembly.specs.reassembly_queue.Loose.{IsOrderFlag, Unassembled};
@@ -48,6 +51,7 @@ impl Model for Loose {
           ≡ min (bytes_of l.chunks.items) (2 ^ 64 - 1);
       order : IsOrderFlag l.serial l.chunks.items;
       room : l.places ≤ deque_capacity l.chunks;
+      apart : IfSome l.apart (λ place. HasNoRun (remove l.chunks.items place));
     } };
 }
 
@@ -98,6 +102,7 @@ impl Loose {
             n_bytes: 0,
             serial: true,
             places: 0,
+            apart: None,
         }
     }
 
@@ -144,6 +149,16 @@ impl Loose {
         self.chunks[place].chunk()
     }
 
+    /// Whether it is known, from the last insertion, that without the fragment at the place there is no complete message.
+    pub(crate) fn is_apart(&self, place: usize) -> bool
+        ensures { result ≡ true → HasNoRun (remove self.now.chunks place) }
+    {
+        match self.apart {
+            Some(apart) => apart == place,
+            None => false,
+        }
+    }
+
     /// Puts a fragment at a place, before the one that is there.
     /// Precondition: the place is at most their number.
     /// Refuses only for memory, and nothing changes then.
@@ -157,18 +172,20 @@ impl Loose {
         ensures ok { OnOk result (self.new ≡ with_one place chunk self.old) }
         ensures err { OnErr result (self.new ≡ self.old) }
     {
-        self.insert_counted(alloc, place, chunk, &mut Turns::new())
+        self.insert_counted(alloc, place, chunk, false, &mut Turns::new())
     }
 
-    /// The same, and its looks are added: four at most.
+    /// The same, and its looks are added: four at most. Where nothing was complete before, as `searched` says, `is_apart` tells of the place.
     pub(crate) fn insert_counted(
         &mut self,
         alloc: Global,
         place: usize,
         chunk: ChunkPayloadData,
+        searched: bool,
         turns: &mut Turns,
     ) -> Result<(), AllocError>
-        requires { place ≤ length self.old.chunks }
+        requires place { place ≤ length self.old.chunks }
+        requires searched { searched ≡ true → HasNoRun self.old.chunks }
         ensures ok { OnOk result (self.new ≡ with_one place chunk self.old) }
         ensures err { OnErr result (self.new ≡ self.old) }
         ensures not_back { turns.old ≤ turns.new }
@@ -181,6 +198,7 @@ impl Loose {
         self.n_bytes = self.n_bytes.saturating_add(len);
         self.serial = serial;
         self.places = self.places.max(self.chunks.len());
+        self.apart = apart_at(place, searched);
         Ok(())
     }
 
@@ -232,6 +250,7 @@ impl Loose {
         self.n_bytes = flags.n_bytes;
         self.serial = flags.serial;
         self.places = flags.places;
+        self.apart = None;
     }
 
     /// Takes out `count` neighbours from place `first` on.
@@ -275,6 +294,7 @@ impl Loose {
         take_each(&mut self.chunks, first, count, &mut taken);
         self.n_bytes = bytes_without(self.n_bytes, gone, &self.chunks, turns);
         self.serial = is_still_serial(self.serial, &self.chunks, turns);
+        self.apart = None;
         Ok(taken)
     }
 
@@ -288,6 +308,7 @@ impl Loose {
             n_bytes: self.n_bytes,
             serial: self.serial,
             places: self.places,
+            apart: None,
         })
     }
 
@@ -322,7 +343,18 @@ impl Loose {
         }
         self.n_bytes = bytes_without(self.n_bytes, gone, &self.chunks, turns);
         self.serial = is_still_serial(self.serial, &self.chunks, turns);
+        self.apart = None;
     }
+}
+
+// The place, where it is known that without its fragment there is no complete message.
+fn apart_at(place: usize, searched: bool) -> Option<usize>
+    ensures { IfSome result (λ apart. (apart ≡ place) × (searched ≡ true)) }
+{
+    if searched {
+        return Some(place);
+    }
+    None
 }
 
 // Puts a fragment at a place, before the one that is there; those of a message in order go to the back, reversed to the front.
@@ -549,147 +581,6 @@ fn clone_fragments(
         copies.push_back(chunks[place].try_clone(alloc)?)?;
     }
     Ok(copies)
-}
-
-// Where a run that holds the place begins.
-fn run_start(
-    unassembled: &Loose,
-    place: usize,
-    here: &ChunkPayloadData,
-    turns: &mut Turns,
-) -> Option<usize>
-    requires in_range { place < length unassembled.now.chunks }
-    requires value { here.now ≡ slice_index_or unassembled.now.chunks place here.now }
-    ensures found { IfSome result (IsStart unassembled.now.chunks place) }
-    ensures none { IfNone result (HasNoStart unassembled.now.chunks place) }
-    ensures not_back { turns.old ≤ turns.new }
-    ensures cost { (first last : ℕ)
-        → IsStretch unassembled.now.chunks place first last → turns.new ≤ turns.old + (place - first) + 1 }
-{
-    let mut first = place;
-    let mut next = here;
-    while !next.beginning_fragment {
-        if first == 0 {
-            return None;
-        }
-        let before = unassembled.look(first - 1, turns);
-        if next.tsn != before.tsn.wrapping_add(1) {
-            return None;
-        }
-        first -= 1;
-        next = before;
-    }
-    Some(first)
-}
-
-// Where the shortest run that holds the place ends, if one does.
-fn run_end(
-    unassembled: &Loose,
-    place: usize,
-    here: &ChunkPayloadData,
-    turns: &mut Turns,
-) -> Option<usize>
-    requires in_range { place < length unassembled.now.chunks }
-    requires value { here.now ≡ slice_index_or unassembled.now.chunks place here.now }
-    ensures found { IfSome result (λ last. IsEnd unassembled.now.chunks place last
-        × IsFirstEnding unassembled.now.chunks place last) }
-    ensures fits { IfSome result (λ last. last + 1 < 2 ^ 64) }
-    ensures spent { IfSome result (λ last. turns.new + place ≡ turns.old + last) }
-    ensures none { IfNone result (HasNoEnd unassembled.now.chunks place) }
-    ensures not_back { turns.old ≤ turns.new }
-    ensures cost { (first last : ℕ)
-        → IsStretch unassembled.now.chunks place first last → turns.new ≤ turns.old + (last - place) + 1 }
-{
-    let len = unassembled.len();
-    let mut last = place;
-    let mut previous = here;
-    while !previous.ending_fragment {
-        if last + 1 == len {
-            return None;
-        }
-        let after = unassembled.look(last + 1, turns);
-        if after.beginning_fragment {
-            return None;
-        }
-        if after.tsn != previous.tsn.wrapping_add(1) {
-            return None;
-        }
-        last += 1;
-        previous = after;
-    }
-    Some(last)
-}
-
-// Whether no run that holds the place begins before it, so far as a look at the nearest tells.
-fn is_cut_off(unassembled: &Loose, place: usize, here: &ChunkPayloadData, turns: &mut Turns) -> bool
-    requires in_range { place < length unassembled.now.chunks }
-    requires value { here.now ≡ slice_index_or unassembled.now.chunks place here.now }
-    ensures yes { result ≡ true → HasNoStart unassembled.now.chunks place }
-    ensures no { result ≡ false
-        → here.now.beginning_fragment ≡ false → (0 < place) × ((d : ChunkPayloadData)
-        → here.now.tsn ≡ following_tsn (slice_index_or unassembled.now.chunks (place - 1) d).tsn) }
-    ensures not_back { turns.old ≤ turns.new }
-    ensures cost { turns.new ≤ turns.old + 1 }
-{
-    if here.beginning_fragment {
-        return false;
-    }
-    if place == 0 {
-        return true;
-    }
-    here.tsn != unassembled.look(place - 1, turns).tsn.wrapping_add(1)
-}
-
-// The run that holds the place, the one that ends earliest, by walks: to its end, then to its start.
-fn run_through(
-    unassembled: &Loose,
-    place: usize,
-    here: &ChunkPayloadData,
-    turns: &mut Turns,
-) -> Option<(usize, usize)>
-    requires in_range { place < length unassembled.now.chunks }
-    requires value { here.now ≡ slice_index_or unassembled.now.chunks place here.now }
-    ensures found { IfSome result (λ run. IsEarliestRunAround unassembled.now.chunks place run.0 run.1) }
-    ensures none { IfNone result (HasNoRunAround unassembled.now.chunks place) }
-    ensures not_back { turns.old ≤ turns.new }
-    ensures cost { (first last : ℕ)
-        → IsStretch unassembled.now.chunks place first last → turns.new ≤ turns.old + (last + 1 - first) }
-    ensures at_back { (first : ℕ) → IsStretch unassembled.now.chunks place first place
-        → here.now.ending_fragment ≡ false → turns.new ≤ turns.old + 1 }
-{
-    let last = run_end(unassembled, place, here, turns)?;
-    let first = run_start(unassembled, place, here, turns)?;
-    Some((first, last + 1 - first))
-}
-
-/// The place and the length of the run that holds the place, the one that ends earliest; None where there is
-/// none. A run is a complete message: it begins, no other fragment in it does, TSNs rise by one, and its last ends.
-///
-/// At the front of its stretch what does not begin takes two turns at most, at the back what does
-/// not end three: so does each fragment of a message that comes in order or reversed, but the last.
-/// Precondition: the place has a fragment.
-pub fn run_around(unassembled: &Loose, place: usize, turns: &mut Turns) -> Option<(usize, usize)>
-    requires { place < length unassembled.now.chunks }
-    ensures found { IfSome result (λ run. IsEarliestRunAround unassembled.now.chunks place run.0 run.1) }
-    ensures none { IfNone result (HasNoRunAround unassembled.now.chunks place) }
-    ensures not_back { turns.old ≤ turns.new }
-    ensures cost { (first last : ℕ)
-        → IsStretch unassembled.now.chunks place first last → turns.new ≤ turns.old + (last + 1 - first)
-        + 2 }
-    ensures at_front { (last : ℕ) → IsStretch unassembled.now.chunks place place last
-        → ((d : ChunkPayloadData) → (slice_index_or unassembled.now.chunks place d).beginning_fragment
-        ≡ false)
-        → turns.new ≤ turns.old + 2 }
-    ensures at_back { (first : ℕ) → IsStretch unassembled.now.chunks place first place
-        → ((d : ChunkPayloadData)
-        → (slice_index_or unassembled.now.chunks place d).ending_fragment ≡ false) → turns.new ≤ turns.old
-        + 3 }
-{
-    let here = unassembled.look(place, turns);
-    if is_cut_off(unassembled, place, here, turns) {
-        return None;
-    }
-    run_through(unassembled, place, here, turns)
 }
 
 /// The place and the length of the run that ends earliest, by a scan that looks at each once; None where there is none.

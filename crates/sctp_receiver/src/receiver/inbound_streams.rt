@@ -117,7 +117,7 @@ impl InboundStream {
         ensures rest { self.new ≡ stream_read self.old }
     {
         let chunks = self.queue.read()?;
-        self.stats.count_received(chunks.ppi(), chunks.len());
+        self.stats.received(chunks.ppi(), chunks.len());
         Some(chunks)
     }
 

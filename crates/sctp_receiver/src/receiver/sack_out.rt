@@ -68,7 +68,7 @@ impl Receiver {
     /// The SACK that `sack` makes, in a chunk of at most `bytes` bytes, of which its header takes 16 and each gap ack block and each
     /// duplicate 4: below 16 it has neither. Gap ack blocks come first, then as many duplicates as fit; those are forgotten, and the
     /// others are kept for the next SACK. So a SACK is no longer than the path MTU (RFC 4960 6.2). Refuses only for memory, and the
-    /// receiver is as it was then. Where a duplicate did not fit, it copies the TSNs that are held.
+    /// receiver is as it was then.
     pub fn sack_within(&mut self, bytes: usize) -> Result<ChunkSelectiveAck, ReceiverRefusal>
         ensures sack { IfOk result (λ s. sack_of s
             ≡ sack_within (window self.old) bytes self.old) }

@@ -280,7 +280,7 @@ fn count_write(state: &mut StreamState, ppi: PayloadProtocolIdentifier, len: usi
 {
     state.record_write(ppi, len);
     let mut stats = state.stats();
-    stats.count_sent(ppi, len);
+    stats.sent(ppi, len);
     state.set_stats(stats);
 }
 

@@ -1,21 +1,16 @@
 -- Which chunks a TSN passes.
-use Rattle.std.proofs.Common.{◌≡◌, ◌+◌, ◌-◌, ◌^◌, ◌<◌, ◌≤◌, ℕ, zero, suc, true, false, List, [], ◌∷◌, ◌++◌, length, get_or, take, drop, get_or-drop}
-use Rattle.std.proofs.Common.{length-drop, inl, inr, refl, sym, ap, ◌∙◌, subst, add-one, arith}
+use Rattle.std.proofs.Common.{◌≡◌, ◌+◌, ◌-◌, ◌^◌, ◌<◌, ◌≤◌, ℕ, zero, suc, true, false, not, if◌then◌else◌, List, [], ◌∷◌, length, get_or}
+use Rattle.std.proofs.Common.{inl, inr, refl, ap, subst, arith}
 use Rattle.std.specs.List.{remove}
-use Rattle.std.proofs.lemmas.Bool.{cases_lt, false≢true}
+use Rattle.std.proofs.lemmas.Bool.{cases_lt}
 use Rattle.std.proofs.lemmas.Bool.Decides.{nat_tests}
-use Rattle.std.proofs.lemmas.List.{drop-drop, get_or_default}
 use Rattle.sctp_data.specs.declared.chunk.chunk_payload_data.ChunkPayloadData.{ChunkPayloadData}
 use Rattle.sctp_util.specs.Serial.{distance, at_or_before}
 use Rattle.sctp_util.proofs.Edits.{those-none}
 use Rattle.sctp_util.proofs.Distances.{distance_cases, before_is, distance_by_before}
 use Rattle.sctp_serial.specs.Window.{IsSerial}
 use Rattle.sctp_serial.proofs.lemmas.AscendingEdits.{distance_self}
-use Rattle.sctp_outbound.specs.payload_queue.PayloadQueue.{FrontGoesFirst, past}
-
-within : (a b : ℕ) → at_or_before a b ≡ true → distance a b < 2 ^ 31
-unfolding at_or_before
-within a b h = grind (arith, nat_tests)
+use Rattle.sctp_outbound.specs.payload_queue.PayloadQueue.{FirstStays, past}
 
 not_within : (a b : ℕ) → at_or_before a b ≡ false → 2 ^ 31 ≤ distance a b
 unfolding at_or_before
@@ -25,26 +20,9 @@ out_of_reach : (a b : ℕ) → 2 ^ 31 ≤ distance a b → at_or_before a b ≡ 
 unfolding at_or_before
 out_of_reach a b h = grind (arith, nat_tests)
 
-in_reach : (a b : ℕ) → distance a b < 2 ^ 31 → at_or_before a b ≡ true
-unfolding at_or_before
-in_reach a b h = grind (arith, nat_tests)
-
 -- a number that is no farther than the TSN lies on the way to it
 on_the_way : (x y t : ℕ) → x < 2 ^ 32 → y < 2 ^ 32 → t < 2 ^ 32 → distance x y ≤ distance x t → distance x y + distance y t ≡ distance x t
 on_the_way x y t hx hy ht le = elim (distance_cases x y hx hy) [
-  | inl p ↦ elim (distance_cases x t hx ht) [
-    | inl q ↦ elim (distance_cases y t hy ht) [ inl r ↦ omega arith | inr r ↦ omega arith ]
-    | inr q ↦ elim (distance_cases y t hy ht) [ inl r ↦ omega arith | inr r ↦ omega arith ]
-  ]
-  | inr p ↦ elim (distance_cases x t hx ht) [
-    | inl q ↦ elim (distance_cases y t hy ht) [ inl r ↦ omega arith | inr r ↦ omega arith ]
-    | inr q ↦ elim (distance_cases y t hy ht) [ inl r ↦ omega arith | inr r ↦ omega arith ]
-  ]
-]
-
--- and one that is farther lies behind it
-behind_it : (x y t : ℕ) → x < 2 ^ 32 → y < 2 ^ 32 → t < 2 ^ 32 → distance x t < distance x y → distance y t + distance x y ≡ distance x t + 2 ^ 32
-behind_it x y t hx hy ht lt = elim (distance_cases x y hx hy) [
   | inl p ↦ elim (distance_cases x t hx ht) [
     | inl q ↦ elim (distance_cases y t hy ht) [ inl r ↦ omega arith | inr r ↦ omega arith ]
     | inr q ↦ elim (distance_cases y t hy ht) [ inl r ↦ omega arith | inr r ↦ omega arith ]
@@ -99,63 +77,28 @@ module _ (tsn : ℕ) (xs : List ChunkPayloadData) (fits : tsn < 2 ^ 32) (serial 
       let farther = not_within z tsn last in
       out_of_reach y tsn (omega (arith, zs, ys, order, farther))
 
-  -- where the first and the last are passed, each is
-  pub each_passed : (d : ChunkPayloadData) → at_or_before (get_or xs 0 d).tsn tsn ≡ true → at_or_before (get_or xs (length xs - 1) d).tsn tsn ≡ true
-      → (k : ℕ) → k < length xs → at_or_before (get_or xs k d).tsn tsn ≡ true
-  each_passed d first last k short =
-      let x = (get_or xs 0 d).tsn in
-      let y = (get_or xs k d).tsn in
-      let z = (get_or xs (length xs - 1) d).tsn in
-      let hx = serial.in_range 0 d (omega arith) in
-      let hz = serial.in_range (length xs - 1) d (omega arith) in
-      let near = ahead xs serial d 0 (length xs - 1) (omega arith) (omega arith) in
-      let order = no_farther xs serial d 0 k (length xs - 1) (omega arith) (omega arith) (omega arith) in
-      let reach = within x tsn first in
-      let last_reach = within z tsn last in
-      elim (cases_lt (distance x tsn) (distance x z)) [
-        | inl over ↦ let e = behind_it x z tsn hx hz fits over in absurd (omega (arith, e, near, last_reach))
-        | inr under ↦
-            let ys = on_the_way x y tsn hx (serial.in_range k d short) fits (omega (arith, order)) in
-            in_reach y tsn (omega (arith, ys, reach))
-      ]
+  -- so all stay
+  pub all_stay : 0 < length xs → ((d : ChunkPayloadData) → at_or_before (get_or xs 0 d).tsn tsn ≡ false)
+      → ((d : ChunkPayloadData) → at_or_before (get_or xs (length xs - 1) d).tsn tsn ≡ false) → past tsn xs ≡ xs
+  all_stay some first last = those-none (λ (c : ChunkPayloadData). at_or_before c.tsn tsn) xs
+      (λ k d short. none_passed 0 d some (first d) (last d) k (omega arith) short)
 
-  -- so the rest stays
-  pub rest_stays : (i : ℕ) (x : ChunkPayloadData) → i < length xs → at_or_before (get_or xs i x).tsn tsn ≡ false
-      → at_or_before (get_or xs (length xs - 1) x).tsn tsn ≡ false → past tsn (drop i xs) ≡ drop i xs
-  rest_stays i x lt first last = those-none (λ (c : ChunkPayloadData). at_or_before c.tsn tsn) (drop i xs) (λ k d short.
-      let n = length-drop i xs in
-      let fit : i + k < length xs = omega arith in
-      subst (λ (c : ChunkPayloadData). at_or_before c.tsn tsn ≡ false) (get_or_default xs (i + k) x d fit ∙ sym (get_or-drop i xs k d))
-      (none_passed i x lt first last (i + k) (omega arith) fit))
+-- one that is passed is not among the rest
+pub without_passed : (tsn : ℕ) (xs : List ChunkPayloadData) (i : ℕ) (d : ChunkPayloadData) → i < length xs → at_or_before (get_or xs i d).tsn tsn ≡ true
+    → past tsn (remove xs i) ≡ past tsn xs
+without_passed tsn [] i d lt h = absurd (omega arith)
+without_passed tsn (x ∷ xs) zero d lt h = rw h refl
+without_passed tsn (x ∷ xs) (suc i) d lt h =
+    ap (λ ys. if not (at_or_before x.tsn tsn) then x ∷ ys else ys) (without_passed tsn xs i d (omega arith) h)
 
--- where the last is passed only with the first, it is not while the first of the rest is not
-pub stays_behind : (tsn : ℕ) (xs ys : List ChunkPayloadData) (j : ℕ) (x : ChunkPayloadData) → tsn < 2 ^ 32 → IsSerial ys → xs ≡ drop j ys → 0 < length xs
-    → at_or_before (get_or xs 0 x).tsn tsn ≡ false → at_or_before (get_or xs (length xs - 1) x).tsn tsn ≡ true → FrontGoesFirst tsn ys → ⊥
-stays_behind tsn xs ys j x fits serial e some first last front =
-    let n : length xs ≡ length ys - j = ap length e ∙ length-drop j ys in
-    let end : get_or xs (length xs - 1) x ≡ get_or ys (length ys - 1) x = ap (λ zs. get_or zs (length xs - 1) x) e ∙ get_or-drop j ys (length xs - 1) x
-    ∙ ap (λ k. get_or ys k x) (omega arith) in
-    let here : get_or xs 0 x ≡ get_or ys j x = ap (λ zs. get_or zs 0 x) e ∙ get_or-drop j ys 0 x ∙ ap (λ k. get_or ys k x) (omega arith) in
-    let passed = subst (λ (c : ChunkPayloadData). at_or_before c.tsn tsn ≡ true) end last in
-    let each = each_passed tsn ys fits serial x (front x passed) passed j (omega arith) in
-    false≢true (sym first ∙ ap (λ (c : ChunkPayloadData). at_or_before c.tsn tsn) here ∙ each)
+-- the first stays where a later one goes
+pub same_first : (xs : List ChunkPayloadData) (i : ℕ) (d : ChunkPayloadData) → 0 < i → get_or (remove xs i) 0 d ≡ get_or xs 0 d
+same_first xs zero d lt = absurd (omega arith)
+same_first [] (suc i) d lt = refl
+same_first (x ∷ xs) (suc i) d lt = refl
 
--- the rest without its first
-pub rest_removed : (xs ys : List ChunkPayloadData) (j : ℕ) → xs ≡ drop j ys → 0 < length xs → remove xs 0 ≡ drop (j + 1) ys
-rest_removed xs ys j e some = first xs some ∙ ap (drop 1) e ∙ drop-drop 1 j ys ∙ ap (λ k. drop k ys) (omega arith)
-  where
-    first : (zs : List ChunkPayloadData) → 0 < length zs → remove zs 0 ≡ drop 1 zs
-    first [] lt = absurd (omega arith)
-    first (z ∷ zs) lt = refl
-
-stays_suc : (tsn : ℕ) (xs : List ChunkPayloadData) (i : ℕ) (x : ChunkPayloadData) → i < length xs → x ≡ get_or xs i x → at_or_before x.tsn tsn ≡ false
-    → take (suc i) xs ++ past tsn (drop (suc i) xs) ≡ take i xs ++ past tsn (drop i xs)
-stays_suc tsn [] i x lt e stays = absurd (omega arith)
-stays_suc tsn (y ∷ ys) zero x lt e stays = let here : at_or_before y.tsn tsn ≡ false = ap (λ (c : ChunkPayloadData). at_or_before c.tsn tsn) (sym e) ∙ stays in
-    rw here refl
-stays_suc tsn (y ∷ ys) (suc i) x lt e stays = ap (λ zs. y ∷ zs) (stays_suc tsn ys i x (omega arith) e stays)
-
--- a chunk that stays is one more of those before the place
-pub stays_step : (tsn : ℕ) (xs : List ChunkPayloadData) (i : ℕ) (x : ChunkPayloadData) → i < length xs → x ≡ get_or xs i x → at_or_before x.tsn tsn ≡ false
-    → take (i + 1) xs ++ past tsn (drop (i + 1) xs) ≡ take i xs ++ past tsn (drop i xs)
-stays_step tsn xs i x lt e stays = rw add-one (stays_suc tsn xs i x lt e stays)
+-- where there is no other, all stay
+pub one_stays : (tsn : ℕ) (xs : List ChunkPayloadData) → length xs ≤ 1 → FirstStays tsn xs → past tsn xs ≡ xs
+one_stays tsn [] le h = refl
+one_stays tsn (x ∷ []) le h = rw (h (omega arith) x) refl
+one_stays tsn (x ∷ y ∷ ys) le h = absurd (omega arith)

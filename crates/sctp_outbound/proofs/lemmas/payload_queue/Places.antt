@@ -3,6 +3,7 @@ use Rattle.std.proofs.Common.{◌≡◌, ◌≢◌, ℕ, zero, suc, ◌<◌, ◌
 use Rattle.std.proofs.Common.{Some}
 use Rattle.std.proofs.Common.{refl, sym, ap, ap₂, ◌∙◌, subst, arith}
 use Rattle.std.specs.List.{AllByRecursion, insert, remove}
+use Rattle.std.specs.Option.{option_map}
 use Rattle.std.proofs.lemmas.List.Elements.{All-append, All-cons, All-set, All-take, All-drop}
 use Rattle.std.proofs.lemmas.List.Sums.{sum_by-set}
 use Rattle.slab.specs.Slab.{Slab, ContainsKey, get, slab_len, with_value}
@@ -30,6 +31,11 @@ IsApart key places = AllByRecursion (λ q. q.key ≢ key) places
 
 pub same_chunk : (o : Option ChunkPayloadData) (x y : ChunkPayloadData) → o ≡ Some x → o ≡ Some y → x ≡ y
 same_chunk o x y e f = cc
+
+-- what has a TSN is a chunk
+pub is_read : (o : Option ChunkPayloadData) (tsn : ℕ) → option_map (λ (c : ChunkPayloadData). c.tsn) o ≡ Some tsn → IsSome o
+is_read None tsn e = absurd (cc)
+is_read (Some c) tsn e = refl
 
 none_is_some : (c : ChunkPayloadData) → None ≡ Some c → ⊥
 none_is_some c e = absurd (cc)

@@ -1,12 +1,21 @@
 -- A binary search for a number.
 use Rattle.std.proofs.Common.{◌≡◌, ◌≢◌, ℕ, ◌+◌, ◌-◌, ◌^◌, ◌<◌, ◌≤◌, false, IsTrue, List, length, get_or, ◌∙◌, inl, inr, sym, ap, subst, arith}
-use Rattle.std.specs.List.{All}
+use Rattle.std.specs.Prelude.{Some, unwrap_or}
+use Rattle.std.specs.List.{All, slice_get}
+use Rattle.std.specs.Option.{option_map}
+use Rattle.std.proofs.lemmas.Option.{slice_get-get_or}
 use Rattle.std.proofs.lemmas.Bool.{cases_lt, false≢true}
 use Rattle.sctp_data.specs.declared.chunk.chunk_payload_data.ChunkPayloadData.{ChunkPayloadData}
 use Rattle.sctp_util.specs.Serial.{comes_before}
 use Rattle.sctp_util.proofs.Distances.{before_asym, before_irrefl, before_total, before_trans}
 use Rattle.sctp_outbound.proofs.lemmas.payload_queue.Marked.{any_chunk}
 use Rattle.sctp_serial.specs.Window.{IsSerial, IsPlaceFor, IsWindow, IsWithinHalf}
+
+-- the TSN of a chunk that was seen
+pub seen_tsn : (chunks : List ChunkPayloadData) (place tsn : ℕ) → option_map (λ (c : ChunkPayloadData). c.tsn) (slice_get chunks place) ≡ Some tsn
+    → place < length chunks → (d : ChunkPayloadData) → (get_or chunks place d).tsn ≡ tsn
+seen_tsn chunks place tsn e lt d =
+    ap (λ o. unwrap_or o tsn) (ap (option_map (λ (c : ChunkPayloadData). c.tsn)) (sym (slice_get-get_or chunks place d lt)) ∙ e)
 
 -- what is left of the search
 pub record Narrowed (chunks : List ChunkPayloadData) (tsn low high : ℕ) : Type 0 where

@@ -1,6 +1,7 @@
 -- What joins a fragment that is put in, looked at from there to both sides.
 use Rattle.std.proofs.Common.{◌≡◌, ◌≢◌, ℕ, ◌+◌, ◌-◌, ◌^◌, ◌<◌, ◌≤◌, IsTrue, List, length, length-drop, length-take-le, get_or, take, drop, remove, sym, ap}
-use Rattle.std.proofs.Common.{subst, ◌∙◌, inl, inr, arith}
+use Rattle.std.proofs.Common.{subst, ◌∙◌, inl, inr, arith, Bool, true, Option, None, Some}
+use Rattle.std.specs.Prelude.{IfSome}
 use Rattle.std.specs.List.{insert}
 use Rattle.std.proofs.lemmas.Bool.{cases_eq, false≢true}
 use Rattle.sctp_util.specs.Lists.{insert_before}
@@ -115,6 +116,14 @@ inserted_among xs x place at = inserted-position chunk_before x xs ∙ ap (λ i.
 pub none_without : (xs : List ChunkPayloadData) (x : ChunkPayloadData) (place : ℕ) → place ≤ length xs → HasNoRun xs
     → HasNoRun (remove (insert xs place x) place)
 none_without xs x place le none = subst HasNoRun (sym (remove-insert xs place x le)) none
+
+-- so it is noted of its place, where it is known
+pub apart_after : (apart : Option ℕ) (searched : Bool) (xs ys : List ChunkPayloadData) (x : ChunkPayloadData) (place : ℕ) → place ≤ length xs
+    → ys ≡ insert xs place x → (searched ≡ true → HasNoRun xs) → IfSome apart (λ p. (p ≡ place) × (searched ≡ true))
+    → IfSome apart (λ p. HasNoRun (remove ys p))
+apart_after None searched xs ys x place le e known h = tt
+apart_after (Some p) searched xs ys x place le e known h =
+    subst (λ i. HasNoRun (remove ys i)) (sym h.0) (subst (λ ls. HasNoRun (remove ls place)) (sym e) (none_without xs x place le (known h.1)))
 
 -- the run that it completes lies in its stretch
 pub run_joined : (xs : List ChunkPayloadData) (x : ChunkPayloadData) (place : ℕ) → place ≤ length xs → HasNoRun xs → (s t f n : ℕ)

@@ -126,14 +126,6 @@ module _ (xs : List ChunkPayloadData) (place : ℕ) where
         ];
       }
 
-  -- at the back of its stretch what does not end is in no run
-  pub not_at_back : (x : ChunkPayloadData) → x ≡ get_or xs place x → x.ending_fragment ≡ false → (s : ℕ) → IsStretch xs place s place → (last : ℕ)
-      → IsEnd xs place last → ⊥
-  not_at_back x read open_end s w last e =
-      let le = stretch_to s place w last x e.at_or_after e.in_range e.rising in
-      let same : last ≡ place = omega (arith, e.at_or_after) in
-      false≢true (sym open_end ∙ ap (λ (c : ChunkPayloadData). c.ending_fragment) read ∙ ap (λ i. (get_or xs i x).ending_fragment) (sym same) ∙ e.ends x)
-
 -- a run before the new fragment was there
 same_below : (xs : List ChunkPayloadData) (place : ℕ) (x : ChunkPayloadData) → place ≤ length xs → (f n : ℕ) → IsRun (insert xs place x) f n → f + n ≤ place
     → IsRun xs f n

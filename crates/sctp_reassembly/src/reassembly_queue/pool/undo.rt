@@ -69,7 +69,8 @@ impl Pool {
     {
         let flags = self.unassembled.flags();
         let searched = self.searched;
-        self.unassembled.insert_counted(alloc, place, chunk, turns)?;
+        self.unassembled
+            .insert_counted(alloc, place, chunk, searched, turns)?;
         let serial = self.unassembled.is_serial();
         let Some((first, count)) = search(&self.unassembled, searched, place, turns) else {
             self.searched = true;

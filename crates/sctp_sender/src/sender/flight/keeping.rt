@@ -122,22 +122,8 @@ pub(crate) fn set_left(flight: &mut InFlight, kept: &mut Option<Kept>, left: Opt
     kept.reported = left.reported;
 }
 
-/// What is told of the chunks with which something comes back. Refuses only for memory.
+/// What is told of the chunks with which something comes back, at most a turn for each. Refuses only for memory.
 /// Precondition: each has its place in flight.
-pub fn answered_back(
-    alloc: Global,
-    queue: &OutboundQueue,
-    backs: &[PlacedData],
-) -> Result<Vec<TakenBack>, SenderRefusal>
-    requires { All (λ b. b.place < length queue.now.inflight.chunks) backs.now }
-    ensures ok { (d : ChunkPayloadData) → IfOk result (λ answered. answered.items
-        ≡ map (λ b. answered_of_placed b (slice_index_or queue.now.inflight.chunks b.place d)) backs.now) }
-    ensures memory { IfErr result (λ e. e ≡ OutOfMemory) }
-{
-    answered_back_counted(alloc, queue, backs, &mut Turns::new())
-}
-
-/// The same, at most a turn for each.
 pub fn answered_back_counted(
     alloc: Global,
     queue: &OutboundQueue,

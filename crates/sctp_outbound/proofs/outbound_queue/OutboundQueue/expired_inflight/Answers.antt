@@ -12,17 +12,17 @@ pub loop-place-preserved : goal.loop-place-preserved
 loop-place-preserved c =
     let xs = c.self.inside.inflight.chunks in
     let within : c.loop-place.place < length xs = omega arith in
-    c.in_ok-push.ensures.items ∙ ap (λ ts. ts ++ c.at-chunk.result.now.tsn ∷ []) c.loop-place.invariant
-    ∙ sym (tsns_more (is_late c.args.now c.self.inside.pending) xs c.loop-place.place c.at-chunk.result.now true within c.at-chunk.ensures (subst
-    (λ (o : Outbound). is_late c.args.now o.pending c.at-chunk.result.now ≡ true) (sym c.self.view_is) (sym c.is_late.ensures ∙ c.if-not-is_late.false)))
+    c.in_ok-push.ensures.items ∙ ap (λ ts. ts ++ c.look-chunk.result.now.tsn ∷ []) c.loop-place.invariant
+    ∙ sym (tsns_more (is_late c.args.now c.self.inside.pending) xs c.loop-place.place c.look-chunk.result.now true within c.look-chunk.ensures.value (subst
+    (λ (o : Outbound). is_late c.args.now o.pending c.look-chunk.result.now ≡ true) (sym c.self.view_is) (sym c.is_late.ensures ∙ c.if-not-is_late.false)))
 
 pub loop-place-preserved-then-not-is_late : goal.loop-place-preserved-then-not-is_late
 loop-place-preserved-then-not-is_late c =
     let xs = c.self.inside.inflight.chunks in
     let within : c.loop-place.place < length xs = omega arith in
     c.loop-place.invariant
-    ∙ sym (tsns_more (is_late c.args.now c.self.inside.pending) xs c.loop-place.place c.at-chunk.result.now false within c.at-chunk.ensures (subst
-    (λ (o : Outbound). is_late c.args.now o.pending c.at-chunk.result.now ≡ false) (sym c.self.view_is) (sym c.is_late.ensures ∙ c.if-not-is_late.true))
+    ∙ sym (tsns_more (is_late c.args.now c.self.inside.pending) xs c.loop-place.place c.look-chunk.result.now false within c.look-chunk.ensures.value (subst
+    (λ (o : Outbound). is_late c.args.now o.pending c.look-chunk.result.now ≡ false) (sym c.self.view_is) (sym c.is_late.ensures ∙ c.if-not-is_late.true))
     ∙ append-nil _)
 
 pub returns-in_err-push-clause-idle : goal.returns-in_err-push-clause-idle
@@ -30,15 +30,15 @@ returns-in_err-push-clause-idle c =
     let xs = c.self.inside.inflight.chunks in
     let within : c.loop-place.place < length xs = omega arith in
     rw (← c.self.view_is) (λ none. absurd
-    (none_listed (is_late c.args.now c.self.inside.pending) xs c.loop-place.place c.at-chunk.result.now within c.at-chunk.ensures (subst (λ (o : Outbound).
-    is_late c.args.now o.pending c.at-chunk.result.now ≡ true) (sym c.self.view_is) (sym c.is_late.ensures ∙ c.if-not-is_late.false)) none))
+    (none_listed (is_late c.args.now c.self.inside.pending) xs c.loop-place.place c.look-chunk.result.now within c.look-chunk.ensures.value (subst (λ (o : Outbound).
+    is_late c.args.now o.pending c.look-chunk.result.now ≡ true) (sym c.self.view_is) (sym c.is_late.ensures ∙ c.if-not-is_late.false)) none))
 
 pub is_late-requires : goal.is_late-requires
 is_late-requires c =
     let xs = c.self.inside.inflight.chunks in
-    let x = c.at-chunk.result.now in
+    let x = c.look-chunk.result.now in
     let within : c.loop-place.place < length xs = omega arith in
-    subst (λ (o : Outbound). list_any (is_of x.message_id) o.inflight.chunks ≡ true) c.self.view_is (any-at xs c.loop-place.place x within c.at-chunk.ensures)
+    subst (λ (o : Outbound). list_any (is_of x.message_id) o.inflight.chunks ≡ true) c.self.view_is (any-at xs c.loop-place.place x within c.look-chunk.ensures.value)
 
 pub returns-then-now-earliest_deadline-clause-ok : goal.returns-then-now-earliest_deadline-clause-ok
 returns-then-now-earliest_deadline-clause-ok c =

@@ -21,7 +21,7 @@ returns-then-before-clause-none c f n r =
     let d = an_element xs c.args.place c.requires.in_range in
     let x = get_or xs c.args.side.place d in
     let read = get_or_default xs c.args.side.place d x (omega (arith, s.at_or_before, c.requires.in_range)) in
-    cut_before xs c.args.place c.args.side.place x read (s.begins d ∙ c.if-side.false) s.at_or_before c.requires.in_range s.no_other c.requires.alone
+    cut_before xs c.args.place c.args.side.place x read (s.begins d ∙ c.if-side.false) s.at_or_before c.requires.in_range s.no_other (c.requires.alone c.if-alone.true)
     c.look-before.result.now (omega (arith, c.if-side-eq0.false)) c.look-before.ensures.value c.if-before.true f n r
 
 pub returns-then-side-before-clause-none : goal.returns-then-side-before-clause-none

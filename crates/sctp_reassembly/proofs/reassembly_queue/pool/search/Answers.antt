@@ -8,14 +8,14 @@ use Rattle.sctp_reassembly.proofs.reassembly_queue.pool.search.Goals as goal
 
 pub returns-then-searched-clause-found : goal.returns-then-searched-clause-found
 returns-then-searched-clause-found c = earliest_of_around _ c.args.place (an_element _ _ c.requires.in_range) c.requires.in_range (subst
-    (λ b. IsFlag b (remove c.args.unassembled.now.chunks c.args.place)) c.if-searched.true c.requires.flag) c.run_outward.result c.run_outward.ensures.found
+    (λ b. IsFlag b (remove c.args.unassembled.now.chunks c.args.place)) c.if-searched.true c.requires.flag) c.run_around.result c.run_around.ensures.found
 
 pub returns-then-searched-clause-none : goal.returns-then-searched-clause-none
 returns-then-searched-clause-none c = none_of_around _ c.args.place (an_element _ _ c.requires.in_range) c.requires.in_range (subst
-    (λ b. IsFlag b (remove c.args.unassembled.now.chunks c.args.place)) c.if-searched.true c.requires.flag) c.run_outward.result c.run_outward.ensures.none
+    (λ b. IsFlag b (remove c.args.unassembled.now.chunks c.args.place)) c.if-searched.true c.requires.flag) c.run_around.result c.run_around.ensures.none
 
 pub returns-then-searched-clause-cost : goal.returns-then-searched-clause-cost
-returns-then-searched-clause-cost c s t serial none w = c.run_outward.ensures.cost s t w
+returns-then-searched-clause-cost c s t serial none w = c.run_around.ensures.cost s t w
 
 pub returns-else-searched-clause-cost : goal.returns-else-searched-clause-cost
 returns-else-searched-clause-cost c s t serial none w =
@@ -30,13 +30,13 @@ returns-then-searched-clause-few c x s t serial none w here end =
       | inl (same, open_end) ↦ omega (
         arith,
         same,
-        c.run_outward.ensures.no_ending s t w (λ k d ge le. ap (λ i. (get_or xs i d).ending_fragment) {x = k} {y = c.args.place} (omega arith)
+        c.run_around.ensures.no_ending s t w (λ k d ge le. ap (λ i. (get_or xs i d).ending_fragment) {x = k} {y = c.args.place} (omega arith)
             ∙ ap (λ (y : ChunkPayloadData). y.ending_fragment) (here d) ∙ open_end),
       )
       | inr (same, plain) ↦ omega (
         arith,
         same,
-        c.run_outward.ensures.no_beginning s t w (λ k d ge le. ap (λ i. (get_or xs i d).beginning_fragment) {x = k} {y = c.args.place} (omega arith)
+        c.run_around.ensures.no_beginning s t w (λ k d ge le. ap (λ i. (get_or xs i d).beginning_fragment) {x = k} {y = c.args.place} (omega arith)
             ∙ ap (λ (y : ChunkPayloadData). y.beginning_fragment) (here d) ∙ plain),
       )
     ]

@@ -8,11 +8,15 @@ use Rattle.sctp_outbound.proofs.payload_queue.held.Held.settle_earliest.Goals as
 pub loop-place-preserved : goal.loop-place-preserved
 loop-place-preserved c =
     let xs = c.args.self.now.chunks in
-    let x = c.at.result.now in
+    let x = c.look.result.now in
     let moment = c.min-earliest.result in
-    All-more (IsNotBefore moment) xs c.loop-place.place x (omega (arith, c.loop-place-test.true, c.len-place-end.ensures))
-    (none_sooner c.loop-place.earliest moment (take c.loop-place.place xs) (omega (arith, c.min-earliest.ensures)) c.loop-place.invariant)
-    (subst (IsNotBefore moment) c.at.ensures (not_sooner c.deadline_of.result moment x (omega (arith, c.min-earliest.ensures)) c.deadline_of.ensures))
+    record {
+      deadlines = All-more (IsNotBefore moment) xs c.loop-place.place x (omega (arith, c.loop-place-test.true, c.len-place-end.ensures))
+          (none_sooner c.loop-place.earliest moment (take c.loop-place.place xs) (omega (arith, c.min-earliest.ensures)) c.loop-place.invariant.deadlines)
+          (subst (IsNotBefore moment) c.look.ensures.value (not_sooner c.deadline_of.result moment x (omega (arith, c.min-earliest.ensures))
+          c.deadline_of.ensures));
+      turns = omega (arith, c.look.ensures.turn, c.loop-place.invariant.turns);
+    }
 
 pub invariant_of-self : goal.invariant_of-self
 invariant_of-self c =
@@ -24,5 +28,5 @@ invariant_of-self c =
       slab_fits = inv.slab_fits;
       counted = inv.counted;
       held = inv.held;
-      deadlines = subst (NoneBefore c.loop-place.earliest) (all ∙ ap (λ s. s.chunks) (sym c.self.view_is)) c.loop-place.invariant;
+      deadlines = subst (NoneBefore c.loop-place.earliest) (all ∙ ap (λ s. s.chunks) (sym c.self.view_is)) c.loop-place.invariant.deadlines;
     }

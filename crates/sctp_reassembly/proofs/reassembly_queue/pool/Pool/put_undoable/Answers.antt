@@ -12,7 +12,7 @@ use Rattle.sctp_reassembly.specs.reassembly_queue.Loose.{IsFlag, IsRunTaken, Una
 use Rattle.sctp_serial.proofs.lemmas.ListEdits.{remove-insert, inserted-position}
 use Rattle.sctp_reassembly.proofs.lemmas.reassembly_queue.SerialPlaces.{place_upto, serial_on, serial_without}
 use Rattle.sctp_reassembly.proofs.lemmas.reassembly_queue.Stretches.{none_without, run_joined, none_at_end, bytes_with}
-use Rattle.sctp_reassembly.proofs.lemmas.reassembly_queue.UnassembledRuns.{searched_on}
+use Rattle.sctp_reassembly.proofs.lemmas.reassembly_queue.UnassembledRuns.{no_run_on, searched_on}
 use Rattle.sctp_reassembly.proofs.lemmas.reassembly_queue.TakenRuns.{NoneWhere, flag_after_take}
 use Rattle.sctp_reassembly.specs.declared.reassembly_queue.unassembled.InsertionUndo.{InsertionUndo}
 use Rattle.sctp_reassembly.specs.reassembly_queue.PoolUndo.{CanUndoPut}
@@ -40,8 +40,11 @@ can_undo : {u : InsertionUndo} {ks : List ChunkPayloadData} {old new : Unassembl
     → CanUndoPut (record { put = u; searched = b }) ks new
 can_undo h b flag = record { put = h.can; flag = subst (λ (p : Unassembled). IsFlag b p.chunks) (sym h.done) flag }
 
-pub insert_counted-requires : goal.insert_counted-requires
-insert_counted-requires c = within c.self.view_is c.args.chunk.tsn c.args.place c.requires
+pub insert_counted-requires-clause-searched : goal.insert_counted-requires-clause-searched
+insert_counted-requires-clause-searched c on = no_run_on _ _ on c.self.invariant
+
+pub insert_counted-requires-clause-place : goal.insert_counted-requires-clause-place
+insert_counted-requires-clause-place c = within c.self.view_is c.args.chunk.tsn c.args.place c.requires
 
 pub search-requires-clause-flag : goal.search-requires-clause-flag
 search-requires-clause-flag c =

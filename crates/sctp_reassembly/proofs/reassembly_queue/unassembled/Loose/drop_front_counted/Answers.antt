@@ -24,6 +24,7 @@ invariant_of-self c =
           (c.loop-gone.invariant.counted ∙ omega (arith, c.self.invariant.counted, all, ap bytes_of rest)) c.bytes_from-gone.ensures.value;
       order = c.is_still_serial-self-inside.ensures.flag;
       room = omega (arith, c.self.invariant.room, c.loop-gone.invariant.capacity, c.loop-gone.invariant.places);
+      apart = tt;
     }
 
 pub returns-clause-value : goal.returns-clause-value

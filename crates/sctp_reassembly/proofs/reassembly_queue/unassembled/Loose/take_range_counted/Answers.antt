@@ -22,6 +22,7 @@ invariant_of-self c =
           c.bytes_from-gone.ensures.value;
       order = c.is_still_serial-self-inside.ensures.flag;
       room = omega (arith, c.self.invariant.room, c.take_each.ensures.capacity);
+      apart = tt;
     }
 
 pub returns-clause-few : goal.returns-clause-few

@@ -1,0 +1,6 @@
+use Rattle.std.proofs.Common.{◌^◌}
+use Rattle.bench.specs.Near.{AreBelow}
+use Rattle.bench.proofs.payload.push_all.Given as goal
+
+abbrev pub invariant-loop-place : goal.invariant-loop-place
+invariant-loop-place l = AreBelow (2 ^ 31) l.queue.chunks

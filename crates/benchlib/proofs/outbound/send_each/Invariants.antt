@@ -1,6 +1,0 @@
-use Rattle.std.proofs.Common.{◌+◌}
-use Rattle.benchlib.specs.Near.{AreBelow}
-use Rattle.benchlib.proofs.outbound.send_each.Given as goal
-
-abbrev pub invariant-loop-place : goal.invariant-loop-place
-invariant-loop-place l = AreBelow (l.place + 1) l.queue.inflight.chunks

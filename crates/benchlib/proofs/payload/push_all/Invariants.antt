@@ -1,6 +1,0 @@
-use Rattle.std.proofs.Common.{◌^◌}
-use Rattle.benchlib.specs.Near.{AreBelow}
-use Rattle.benchlib.proofs.payload.push_all.Given as goal
-
-abbrev pub invariant-loop-place : goal.invariant-loop-place
-invariant-loop-place l = AreBelow (2 ^ 31) l.queue.chunks

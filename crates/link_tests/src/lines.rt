@@ -1,0 +1,244 @@
+//! Lines that cannot be read, streams that fail, and the fields of lines.
+
+use linkscript::field::{FieldFault, field_bytes, field_text};
+use linkscript::run::{RunFault, run_under};
+use sctp_packets::checksum::Crc32c;
+use std::alloc::Global;
+use std::io::{self, ErrorKind, Read, Write};
+
+/// Whether a script prints this, and ends so.
+fn prints(alloc: Global, script: &[u8], printed: &str, status: Result<u8, RunFault>) -> bool {
+    let mut input = script;
+    let mut output = Vec::new(alloc);
+    run_under(alloc, Crc32c, &mut input, &mut output) == status
+        && output.as_slice() == printed.as_bytes()
+}
+
+const FIRST_LINES: [&str; 18] = [
+    "",
+    "\n",
+    "open 1\n",
+    "link 10 3\n",
+    "link 10 3 100 \n",
+    "link 10 3 100 0 \n",
+    "link 10 3 100 0 0\n",
+    "link 10 3 100 -\n",
+    "link 10 3 100 4294967296\n",
+    "link 10 0 100 60\n",
+    "link 10 0 100\n",
+    "link 10 65520 100\n",
+    "link 4294967296 3 100\n",
+    "link 10 3 4294967296\n",
+    " link 10 3 100\n",
+    "link 10 3 100\r\n",
+    "\u{feff}link 10 3 100\n",
+    "link\t10 3 100\n",
+];
+
+#[test]
+fn first_lines_that_cannot_be_read(rt: HostRuntime) {
+    let alloc = rt.alloc();
+    for line in FIRST_LINES {
+        assert!(rt;
+            prints(alloc, line.as_bytes(), "bad line 1\n", Ok(2)),
+            "{line}"
+        );
+    }
+}
+
+/// Whether a script whose third line this is ends there.
+fn ends_a_script(alloc: Global, line: &str) -> bool {
+    match format!(in alloc; "link 10 3 100\nopen 1\n{line}\nopen 1\n") {
+        Ok(script) => prints(alloc, script.as_bytes(), "opened\nbad line 3\n", Ok(2)),
+        Err(_) => false,
+    }
+}
+
+const LINES: [&str; 50] = [
+    "",
+    " ",
+    "open",
+    "open ",
+    " open 1",
+    "open  1",
+    "open 1 ",
+    "open 1 1",
+    "open 1\r",
+    "open\t1",
+    "open +5",
+    "open -5",
+    "open 1_0",
+    "open 0x1",
+    "open 65536",
+    "open 99999999999999999999",
+    "open \u{663}",
+    "Open 1",
+    "opened",
+    "write 1 53",
+    "write 1 53 ",
+    "write 1 53 6",
+    "write 1 53 6g",
+    "write 1 53 61 62",
+    "write 1 4294967296 61",
+    "write 65536 53 61",
+    "send",
+    "send 18446744073709551616",
+    "arrive",
+    "arrive 0 0",
+    "read",
+    "mode 1 ordered reliable",
+    "mode 1 ordered reliable 4294967296",
+    "mode 1 ordered always 0",
+    "mode 1 reliable 0",
+    "mode 65536 ordered reliable 0",
+    "start",
+    "resend 4294967296",
+    "ack -",
+    "ack 4294967296",
+    "acked",
+    "expire",
+    "tail -1",
+    "late 18446744073709551616",
+    "abandon 4294967296",
+    "skip 11",
+    "skip - 0",
+    "skip 11 0,",
+    "skip 11 0,-",
+    "skip 11 0 1",
+];
+
+#[test]
+fn lines_that_cannot_be_read(rt: HostRuntime) {
+    let alloc = rt.alloc();
+    for line in LINES {
+        assert!(rt; ends_a_script(alloc, line), "{line}");
+    }
+}
+
+fn is_refused_as_input(alloc: Global, script: &[u8]) -> bool {
+    prints(alloc, script, "", Err(RunFault::Input))
+}
+
+#[test]
+fn input_that_is_not_utf8(rt: HostRuntime) {
+    let alloc = rt.alloc();
+    let in_a_line = is_refused_as_input(alloc, b"link 10 3 100\nopen 1\n\xff\n");
+    assert!(rt; in_a_line && is_refused_as_input(alloc, b"bad\n\x80"));
+}
+
+/// Gives its bytes, and then fails.
+#[derive(Drop)]
+struct Broken<'a> {
+    bytes: &'a [u8],
+}
+
+impl Read for Broken<'_> {
+    fn read(&mut self, buf: &mut [u8]) -> io::Result<usize> {
+        if self.bytes.is_empty() || buf.is_empty() {
+            return Err(io::Error::from(ErrorKind::BrokenPipe));
+        }
+        buf[0] = self.bytes[0];
+        self.bytes = &self.bytes[1..];
+        Ok(1)
+    }
+}
+
+/// Takes so many bytes, and then fails.
+#[derive(Drop)]
+struct Full {
+    room: usize,
+    taken: usize,
+}
+
+impl Write for Full {
+    fn write(&mut self, buf: &[u8]) -> io::Result<usize> {
+        let count = buf.len().min(self.room);
+        if count == 0 {
+            return Err(io::Error::from(ErrorKind::BrokenPipe));
+        }
+        self.room -= count;
+        self.taken = self.taken.wrapping_add(count);
+        Ok(count)
+    }
+
+    fn flush(&mut self) -> io::Result<()> {
+        Ok(())
+    }
+}
+
+/// Whether a script whose input fails behind these bytes ends so; what it prints is put to the output.
+fn input_fails(alloc: Global, bytes: &[u8], output: &mut Vec<u8>) -> bool {
+    let mut input = Broken { bytes };
+    run_under(alloc, Crc32c, &mut input, output) == Err(RunFault::Input)
+}
+
+fn each_input_fails(alloc: Global, script: &[u8]) -> bool {
+    let mut output = Vec::new(alloc);
+    let mut well = true;
+    for taken in 0..script.len() {
+        well = well && input_fails(alloc, &script[..taken], &mut output);
+    }
+    well && output.is_empty()
+}
+
+/// Whether a script ends so where the output has this room, and all of it is filled.
+fn fills(alloc: Global, script: &[u8], room: usize, due: Result<u8, RunFault>) -> bool {
+    let mut input = script;
+    let mut output = Full { room, taken: 0 };
+    run_under(alloc, Crc32c, &mut input, &mut output) == due && output.taken == room
+}
+
+fn each_output_fails(alloc: Global, script: &[u8], whole: usize) -> bool {
+    let mut well = true;
+    for room in 0..whole {
+        well = well && fills(alloc, script, room, Err(RunFault::Output));
+    }
+    well && fills(alloc, script, whole, Ok(2))
+}
+
+#[test]
+fn streams_that_fail(rt: HostRuntime) {
+    let alloc = rt.alloc();
+    let script = b"link 10 3 100\nopen 1\nopen 1\nreed 1\n".as_slice();
+    let whole = "opened\nrefused L2\nbad line 4\n".len();
+    assert!(rt; each_input_fails(alloc, script) && each_output_fails(alloc, script, whole));
+}
+
+fn is_shown(alloc: Global, bytes: &[u8], text: &str) -> bool {
+    match field_text(alloc, bytes) {
+        Ok(shown) => shown.as_str() == text,
+        Err(_) => false,
+    }
+}
+
+fn is_told(alloc: Global, text: &str, bytes: &[u8]) -> bool {
+    match field_bytes(alloc, text) {
+        Ok(told) => told.as_slice() == bytes,
+        Err(_) => false,
+    }
+}
+
+const FIELDS: [(&str, &[u8]); 3] = [("-", b""), ("00ff", b"\x00\xff"), ("616263", b"abc")];
+
+#[test]
+fn fields(rt: HostRuntime) {
+    let alloc = rt.alloc();
+    for (text, bytes) in FIELDS {
+        assert!(rt;
+            is_shown(alloc, bytes, text) && is_told(alloc, text, bytes),
+            "{text}"
+        );
+    }
+    assert!(rt; is_told(alloc, "aFFa", b"\xaf\xfa"));
+}
+
+#[test]
+fn texts_that_are_no_field(rt: HostRuntime) {
+    let alloc = rt.alloc();
+    for text in ["", "--", "6", "6g", "0x61", " 61", "61 "] {
+        assert!(rt;
+            field_bytes(alloc, text).err() == Some(FieldFault::NotHex),
+            "{text}"
+        );
+    }
+}

@@ -1,0 +1,285 @@
+//! Runs cases. A case is a name, the first line of a script, and lines of an event and its reply, or of a question and its answer.
+//!
+//! The link of a case is under a checksum that is always 0. Its events are also run as one script, under CRC-32C, and print the same replies.
+
+use linkscript::run::run_under;
+use linkscript::script::{Play, print_reply, read_event, read_link};
+use sctp_link::link::Link;
+use sctp_packets::checksum::Crc32c;
+use sctp_util::util::Checksum;
+use std::alloc::Global;
+use std::cell::Cell;
+use std::io::Write;
+use std::process::Abort;
+
+/// Always 0, and counts how often it was asked.
+#[derive(Drop)]
+struct Counted<'a> {
+    calls: &'a Cell<u32>,
+}
+
+impl Checksum for Counted<'_> {
+    ghost sum = { λ _ bytes. 0 };
+
+    fn checksum(&self, _head: &[u8], _tail: &[u8]) -> u32 {
+        self.calls.set(self.calls.get().wrapping_add(1));
+        0
+    }
+}
+
+/// A case that is run.
+#[derive(Drop)]
+struct Run<'a> {
+    play: Play<Counted<'a>>,
+    calls: &'a Cell<u32>,
+    /// How often the checksum was asked before the last event.
+    before: u32,
+    /// How many lines the script has so far.
+    lines: u64,
+    script: Vec<u8>,
+    replies: Vec<u8>,
+    status: u8,
+}
+
+/// The header of each datagram, under the checksum that is 0.
+const HEADER: [u8; 12] = [0x13, 0x88, 0x13, 0x88, 0, 0, 0, 1, 0, 0, 0, 0];
+
+/// Runs cases, with an empty line between two.
+pub fn run_cases(rt: &impl Abort, alloc: Global, cases: &str) {
+    for case in cases.split("\n\n") {
+        run_case(rt, alloc, case);
+    }
+}
+
+fn run_case(rt: &impl Abort, alloc: Global, case: &str) {
+    let calls = Cell::new(0);
+    let mut lines = case.split('\n');
+    let name = lines.next().unwrap_or("");
+    let mut run = begin(rt, alloc, &calls, lines.next().unwrap_or(""));
+    for line in lines {
+        let (asked, want) = line.split_once(": ").unwrap_or((line, ""));
+        let mut out = Vec::new(alloc);
+        put_answer(alloc, &mut run, asked, want, &mut out);
+        assert_eq!(rt; str::from_utf8(&out).unwrap_or(""), want, "{name}: {asked}");
+    }
+    assert!(rt; prints_the_same(alloc, &run), "{name}");
+}
+
+/// Makes the link that the first line says.
+fn begin<'a>(rt: &impl Abort, alloc: Global, calls: &'a Cell<u32>, first: &str) -> Run<'a> {
+    let mut script = Vec::new(alloc);
+    let _ = write!(script, "{first}\n");
+    Run {
+        play: read_link(alloc, Counted { calls }, first).expect(rt, "the first line"),
+        calls,
+        before: 0,
+        lines: 1,
+        script,
+        replies: Vec::new(alloc),
+        status: 0,
+    }
+}
+
+/// Whether the events so far, as one script under CRC-32C, print the replies so far.
+fn prints_the_same(alloc: Global, run: &Run) -> bool {
+    let mut input = run.script.as_slice();
+    let mut output = Vec::new(alloc);
+    run_under(alloc, Crc32c, &mut input, &mut output) == Ok(run.status)
+        && output.as_slice() == run.replies.as_slice()
+}
+
+/// Puts the answer to a line.
+fn put_answer(alloc: Global, run: &mut Run, asked: &str, want: &str, out: &mut Vec<u8>) {
+    let (word, field) = asked.split_once(' ').unwrap_or((asked, ""));
+    if word == "each" {
+        put_each(alloc, run, field, want, out);
+    } else if !put_told(run, word, field.parse::<u64>().unwrap_or(0), out) {
+        put_reply(alloc, run, asked, out);
+    }
+}
+
+/// Puts the reply to an event.
+fn put_reply(alloc: Global, run: &mut Run, line: &str, out: &mut Vec<u8>) {
+    run.before = run.calls.get();
+    run.lines = run.lines.saturating_add(1);
+    let _ = write!(run.script, "{line}\n");
+    match read_event(alloc, line) {
+        Ok(event) => {
+            let _ = print_reply(alloc, out, &run.play.link.step(event), run.play.counts);
+        }
+        Err(_) => {
+            run.status = 2;
+            let _ = write!(out, "bad line {}\n", run.lines);
+        }
+    }
+    let _ = run.replies.extend_from_slice(out);
+    out.pop();
+}
+
+/// Gives events, as `1 2 9 arrive #; read 1`, nine times, with 1, 3, .. in the place of `#`. Puts the first reply that does not
+/// begin as is wanted; where each does, what is wanted.
+fn put_each(alloc: Global, run: &mut Run, field: &str, want: &str, out: &mut Vec<u8>) {
+    let mut events = field;
+    let mut k = take_number(&mut events);
+    let step = take_number(&mut events);
+    for _ in 0..take_number(&mut events) {
+        put_turn(alloc, run, k, events, want, out);
+        k = k.wrapping_add(step);
+    }
+    if out.is_empty() {
+        let _ = write!(out, "{want}");
+    }
+}
+
+fn take_number(rest: &mut &str) -> u64 {
+    let (word, others) = rest.split_once(' ').unwrap_or((*rest, ""));
+    *rest = others;
+    word.parse::<u64>().unwrap_or(0)
+}
+
+fn put_turn(alloc: Global, run: &mut Run, k: u64, events: &str, wants: &str, out: &mut Vec<u8>) {
+    for (event, want) in events.split("; ").zip(wants.split("; ")) {
+        let mut reply = Vec::new(alloc);
+        match event.strip_suffix('#') {
+            Some(stem) => put_numbered(alloc, run, stem, k, &mut reply),
+            None => put_reply(alloc, run, event, &mut reply),
+        }
+        if out.is_empty() && !reply.starts_with(want.as_bytes()) {
+            let _ = out.extend_from_slice(&reply);
+        }
+    }
+}
+
+fn put_numbered(alloc: Global, run: &mut Run, stem: &str, k: u64, out: &mut Vec<u8>) {
+    if let Ok(line) = format!(in alloc; "{stem}{k}") {
+        put_reply(alloc, run, line.as_str(), out);
+    }
+}
+
+/// Puts the answer to a question about the link; false where the word asks none.
+fn put_told(run: &Run, word: &str, number: u64, out: &mut Vec<u8>) -> bool {
+    let link = &run.play.link;
+    let stream = u16::try_from(number).unwrap_or(0);
+    match word {
+        // the bytes of a datagram, H for its header; of a sack, those behind byte 16 as words
+        "datagram" => put_datagram(link, number, usize::MAX, out),
+        "sack" => put_datagram(link, number, 16, out),
+        // bytes written, pending, in flight and released
+        "ledger" => put_ledger(link, out),
+        "stats" => put_stats(link, stream, out),
+        "buffered" => put_number(link.buffered_amount(stream), out),
+        // bytes of a stream's reassembly queue
+        "held" => put_number(held(link, stream), out),
+        "filter" => put_number(Some(link.filter().len() as u64), out),
+        "inflight" => put_number(Some(link.outbound().inflight_len() as u64), out),
+        "earliest" => put_number(earliest(link), out),
+        // how often a TSN was sent, and when first
+        "noted" => put_noted(link, u32::try_from(number).unwrap_or(0), out),
+        // whether the last event asked the checksum
+        "asked" => put_word(
+            if run.calls.get() > run.before {
+                "yes"
+            } else {
+                "no"
+            },
+            out,
+        ),
+        _ => return false,
+    }
+    true
+}
+
+fn put_word(word: &str, out: &mut Vec<u8>) {
+    let _ = write!(out, "{word}");
+}
+
+fn put_number(number: Option<u64>, out: &mut Vec<u8>) {
+    match number {
+        Some(number) => {
+            let _ = write!(out, "{number}");
+        }
+        None => put_word("none", out),
+    }
+}
+
+fn held(link: &Link<Counted>, stream: u16) -> Option<u64> {
+    Some(link.reassembly(stream)?.get_num_bytes() as u64)
+}
+
+fn earliest(link: &Link<Counted>) -> Option<u64> {
+    Some(u64::from(link.outbound().earliest_outstanding_tsn()?))
+}
+
+fn put_ledger(link: &Link<Counted>, out: &mut Vec<u8>) {
+    let it = link.ledger();
+    let _ = write!(
+        out,
+        "{} {} {} {}",
+        it.written, it.pending, it.in_flight, it.released
+    );
+}
+
+fn put_stats(link: &Link<Counted>, stream: u16, out: &mut Vec<u8>) {
+    let Some(it) = link.stats(stream) else {
+        return put_word("none", out);
+    };
+    let _ = write!(out, "{} {} ", it.stream_identifier, it.generation);
+    let _ = write!(out, "{} {} ", it.messages_sent, it.bytes_sent);
+    let _ = write!(out, "{} {}", it.messages_received, it.bytes_received);
+}
+
+fn put_noted(link: &Link<Counted>, tsn: u32, out: &mut Vec<u8>) {
+    match link.outbound().get(tsn) {
+        Some(chunk) => {
+            let _ = write!(out, "{} {}", chunk.nsent, chunk.since.unwrap_or(0));
+        }
+        None => put_word("none", out),
+    }
+}
+
+fn put_datagram(link: &Link<Counted>, k: u64, most: usize, out: &mut Vec<u8>) {
+    let Some(bytes) = link.datagram(k) else {
+        return put_word("none", out);
+    };
+    let Some(chunks) = bytes.as_slice().strip_prefix(HEADER.as_slice()) else {
+        return put_word("another header", out);
+    };
+    let (head, tail) = chunks.split_at(most.min(chunks.len()));
+    put_word("H", out);
+    for byte in head {
+        let _ = write!(out, " {byte:02x}");
+    }
+    put_runs(tail, out);
+}
+
+/// Puts words of four bytes, as the first of a run, by how much each of it is more than the one before, and how many there are.
+fn put_runs(tail: &[u8], out: &mut Vec<u8>) {
+    let (mut first, mut last, mut step, mut count) = (0u32, 0u32, 0u32, 0u32);
+    for bytes in tail.chunks(4) {
+        let word = word_of(bytes);
+        let by = word.wrapping_sub(last);
+        if count == 1 {
+            step = by;
+        }
+        if count == 0 || by != step {
+            put_run(first, step, count, out);
+            (first, step, count) = (word, 0, 0);
+        }
+        count = count.wrapping_add(1);
+        last = word;
+    }
+    put_run(first, step, count, out);
+}
+
+fn word_of(bytes: &[u8]) -> u32 {
+    match bytes {
+        [a, b, c, d] => u32::from_be_bytes([*a, *b, *c, *d]),
+        _ => 0,
+    }
+}
+
+fn put_run(first: u32, step: u32, count: u32, out: &mut Vec<u8>) {
+    if count > 0 {
+        let _ = write!(out, " {first:08x} +{step:08x} *{count}");
+    }
+}

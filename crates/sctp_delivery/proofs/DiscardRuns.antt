@@ -1,0 +1,254 @@
+-- Sessions in which the receiver drops chunks too: what stays true of them.
+use Rattle.std.proofs.Common.{◌≡◌, ℕ, ◌+◌, ◌<◌, ◌≤◌, ◌^◌, Bool, true, List, [], ◌∷◌, length, Option, refl, ap, sym, subst, ◌∙◌, arith}
+use Rattle.sctp_util.specs.Serial.{distance}
+use Rattle.sctp_util.proofs.Cases.{or-left, or-right, same-yes}
+use Rattle.sctp_data.specs.declared.chunk.chunk_payload_data.ChunkPayloadData.{ChunkPayloadData}
+use Rattle.sctp_receiver.specs.declared.receiver.limits.Limits.{Limits}
+use Rattle.sctp_receiver.specs.ReceiverRuns as receiver_runs
+use Rattle.sctp_sender.specs.SenderRuns as sender_runs
+use Rattle.sctp_sender.proofs.Accounts as accounts
+use Rattle.sctp_serial.specs.DataChunks.{has_tsn}
+use Rattle.sctp_delivery.specs.Discards.{AfterEachWithDiscards, AfterEachWithDiscardsOfFewTsns, AcknowledgedCameSo, CallOrDiscard, Discards, LeftCameSo}
+use Rattle.sctp_delivery.specs.Discards.{ReleasedCameSo, ReportWhatCameSo, RunsWithDiscards, WhileFewerTsnsWithDiscards, discards, makes, tsns_given_so}
+use Rattle.sctp_delivery.specs.Discards.{was_discarded}
+use Rattle.sctp_delivery.specs.Messages.{AreWrites, AreWritesOfTheirOwn, NoneIsReadTwice}
+use Rattle.sctp_delivery.specs.ReceiverCalls as incoming
+use Rattle.sctp_delivery.specs.ReceiverCalls.{ReceiverCall}
+use Rattle.sctp_delivery.specs.Rounds.{CanBeAnswered}
+use Rattle.sctp_delivery.specs.Sacks.{AllReportedLeaves, EachSackTells, NoneIsRefused, NoneIsTakenTwice, PassAbandoned, StaysAcknowledged}
+use Rattle.sctp_delivery.specs.SenderCalls as outgoing
+use Rattle.sctp_delivery.specs.SenderCalls.{SenderCall}
+use Rattle.sctp_delivery.specs.Session.{AreMade, AreMessages, IsAccounted, ReceiverFollows, SenderFollows, Session, at_start, bytes_written, of_receiver}
+use Rattle.sctp_delivery.specs.Session.{of_sender}
+use Rattle.sctp_delivery.proofs.AnsweredCalls.{each-sack-tells}
+use Rattle.sctp_delivery.proofs.Calls.{numbered_after}
+use Rattle.sctp_delivery.proofs.Delivered as delivered
+use Rattle.sctp_delivery.proofs.Delivered.{Holds, IsReadSession}
+use Rattle.sctp_delivery.proofs.DiscardSteps.{discard-step}
+use Rattle.sctp_delivery.proofs.OnceWritten.{own-so}
+use Rattle.sctp_delivery.proofs.ReadOnce.{none-twice-so}
+use Rattle.sctp_delivery.proofs.SackLaws as sacks
+use Rattle.sctp_delivery.proofs.SackLaws.{IsInStepBut}
+use Rattle.sctp_delivery.proofs.SackSteps.{known_or}
+use Rattle.sctp_delivery.proofs.Sent.{Entry, Numbered}
+use Rattle.sctp_delivery.proofs.Sessions as sessions
+use Rattle.sctp_delivery.proofs.Sessions.{IsCounted, IsTakenMade, kept-so, sender-counts, sent-made, taken-made}
+use Rattle.sctp_delivery.proofs.StaysAcknowledged as stays
+use Rattle.sctp_delivery.proofs.Taking.{can-but}
+use Rattle.sctp_delivery.proofs.TsnPlaces.{base}
+
+-- ## Each host by itself
+
+abbrev sender_calls : List CallOrDiscard → List sender_runs.Call
+sender_calls [] = []
+sender_calls (makes (of_sender call) ∷ cs) = outgoing.as_run call ∷ sender_calls cs
+sender_calls (makes (of_receiver call) ∷ cs) = sender_calls cs
+sender_calls (discards c ∷ cs) = sender_calls cs
+
+abbrev receiver_calls : List CallOrDiscard → List receiver_runs.Call
+receiver_calls [] = []
+receiver_calls (makes (of_sender call) ∷ cs) = receiver_calls cs
+receiver_calls (makes (of_receiver call) ∷ cs) = incoming.as_run call ∷ receiver_calls cs
+receiver_calls (discards c ∷ cs) = receiver_runs.discards c.tsn ∷ receiver_calls cs
+
+sender-runs : (cs : List CallOrDiscard) (old new : Session) → RunsWithDiscards old cs new → sender_runs.RunsTo old.sending (sender_calls cs) new.sending
+sender-runs [] old new r = ap (λ (s : Session). s.sending) r
+sender-runs (makes (of_sender call) ∷ cs) old new r = (r.0.sending, (r.1.0.step, sender-runs cs r.0 new r.1.1))
+sender-runs (makes (of_receiver call) ∷ cs) old new r =
+    subst (λ l. sender_runs.RunsTo l (sender_calls cs) new.sending) (ap (λ (s : Session). s.sending) r.1.0.after) (sender-runs cs r.0 new r.1.1)
+sender-runs (discards c ∷ cs) old new r =
+    subst (λ l. sender_runs.RunsTo l (sender_calls cs) new.sending) (ap (λ (s : Session). s.sending) r.1.0.after) (sender-runs cs r.0 new r.1.1)
+
+receiver-runs : (cs : List CallOrDiscard) (old new : Session) → RunsWithDiscards old cs new
+    → receiver_runs.RunsTo old.receiving (receiver_calls cs) new.receiving
+receiver-runs [] old new r = ap (λ (s : Session). s.receiving) r
+receiver-runs (makes (of_receiver call) ∷ cs) old new r = (r.0.receiving, (r.1.0.step, receiver-runs cs r.0 new r.1.1))
+receiver-runs (makes (of_sender call) ∷ cs) old new r =
+    subst (λ l. receiver_runs.RunsTo l (receiver_calls cs) new.receiving) (ap (λ (s : Session). s.receiving) r.1.0.after) (receiver-runs cs r.0 new r.1.1)
+receiver-runs (discards c ∷ cs) old new r = (r.0.receiving, (r.1.0.step, receiver-runs cs r.0 new r.1.1))
+
+-- ## What each call keeps, all do
+
+module _ (P : Session → Type 0) (sent : (call : SenderCall) (a b : Session) → SenderFollows call a b → P a → P b)
+    (came : (call : ReceiverCall) (a b : Session) → ReceiverFollows call a b → P a → P b)
+    (dropped : (c : ChunkPayloadData) (a b : Session) → Discards c a b → P a → P b) where
+  keeps : (cs : List CallOrDiscard) (old new : Session) → RunsWithDiscards old cs new → P old → P new
+  keeps [] old new r h = subst P (sym r) h
+  keeps (makes (of_sender call) ∷ cs) old new r h = keeps cs r.0 new r.1.1 (sent call old r.0 r.1.0 h)
+  keeps (makes (of_receiver call) ∷ cs) old new r h = keeps cs r.0 new r.1.1 (came call old r.0 r.1.0 h)
+  keeps (discards c ∷ cs) old new r h = keeps cs r.0 new r.1.1 (dropped c old r.0 r.1.0 h)
+
+-- ## Bytes
+
+same-count : (old new : Session) → bytes_written new ≡ bytes_written old → new.sending ≡ old.sending → IsCounted old → IsCounted new
+same-count old new e same h = record {
+  written = let l = ap (λ (k : sender_runs.Ledger). k.written) same in let o = h.written in omega (arith, e, l, o);
+  back = ap (λ (k : sender_runs.Ledger). k.taken_back) same ∙ h.back;
+}
+
+pub accounted : AfterEachWithDiscards IsAccounted
+accounted tsn size max most limits cs s r =
+    let start = at_start tsn size max most limits in
+    let law = accounts.accounted tsn size max (sender_calls cs) s.sending (sender-runs cs start s r) in
+    let c = keeps IsCounted sender-counts
+    (λ call a b f h. same-count a b (ap bytes_written f.after) (ap (λ (x : Session). x.sending) f.after) h)
+    (λ d a b f h. same-count a b (ap bytes_written f.after) (ap (λ (x : Session). x.sending) f.after) h)
+    cs start s r (record { written = refl; back = refl }) in
+    let w = c.written in
+    let b = c.back in
+    omega (arith, law, w, b)
+
+-- ## Messages
+
+taken-all : (tsn size max most : ℕ) (limits : Option Limits) (cs : List CallOrDiscard) (s : Session)
+    → RunsWithDiscards (at_start tsn size max most limits) cs s → IsTakenMade s
+taken-all tsn size max most limits cs s r =
+    keeps IsTakenMade sent-made taken-made
+    (λ c a b f h. kept-so a b (ap (λ (x : Session). x.made) f.after) f.step.accepted h)
+    cs (at_start tsn size max most limits) s r refl
+
+pub made : AfterEachWithDiscards AreMade
+made tsn size max most limits cs s r =
+    sessions.made-so tsn most limits (receiver_calls cs) s (receiver-runs cs (at_start tsn size max most limits) s r)
+    (taken-all tsn size max most limits cs s r)
+
+pub messages : AfterEachWithDiscards AreMessages
+messages tsn size max most limits cs s r =
+    sessions.messages-so tsn most limits (receiver_calls cs) s (receiver-runs cs (at_start tsn size max most limits) s r)
+
+-- the writes and the entries after some calls, these no more than the TSNs that were given out
+record After (first : ℕ) (old : Session) (cs : List CallOrDiscard) (new : Session) (r : RunsWithDiscards old cs new) (sent : List Entry) : Type 0 where
+  numbered : List Numbered
+  more : List Entry
+  holds : Holds first new numbered more
+  few : length more ≤ length sent + tsns_given_so old cs new r
+
+held-after : (first : ℕ) (cs : List CallOrDiscard) (old new : Session) (ns : List Numbered) (sent : List Entry) (r : RunsWithDiscards old cs new)
+    → Holds first old ns sent → After first old cs new r sent
+held-after first [] old new ns sent r h = record { numbered = ns; more = sent; holds = subst (λ s. Holds first s ns sent) (sym r) h; few = omega arith }
+held-after first (makes (of_sender call) ∷ cs) old new ns sent r h =
+    let x = delivered.sender-step first call old r.0 ns sent r.1.0 h in
+    let a = held-after first cs r.0 new (numbered_after call ns) x.more r.1.1 x.holds in
+    let n = x.few in
+    let m = a.few in
+    record { numbered = a.numbered; more = a.more; holds = a.holds; few = omega (arith, n, m) }
+held-after first (makes (of_receiver call) ∷ cs) old new ns sent r h =
+    let a = held-after first cs r.0 new ns sent r.1.1 (delivered.receiver-step first call old r.0 ns sent r.1.0 h) in
+    let m = a.few in
+    record { numbered = a.numbered; more = a.more; holds = a.holds; few = omega (arith, m) }
+held-after first (discards c ∷ cs) old new ns sent r h =
+    let same : Holds first r.0 ns sent =
+    subst (λ s. Holds first s ns sent) (sym r.1.0.after) (record { held = h.held; made = h.made; writes = h.writes; placed = h.placed }) in
+    let a = held-after first cs r.0 new ns sent r.1.1 same in
+    let m = a.few in
+    record { numbered = a.numbered; more = a.more; holds = a.holds; few = omega (arith, m) }
+
+read-of : WhileFewerTsnsWithDiscards (2 ^ 32) IsReadSession
+read-of tsn size max most limits cs s small some r few =
+    let a = held-after tsn cs (at_start tsn size max most limits) s [] [] r (delivered.at-first tsn size max most limits small some) in
+    let n = a.few in
+    delivered.read-from tsn s
+    (sessions.read-on-so tsn most limits (receiver_calls cs) s (receiver-runs cs (at_start tsn size max most limits) s r))
+    (messages tsn size max most limits cs s r) (made tsn size max most limits cs s r) a.numbered a.more (omega (arith, n, few)) a.holds
+
+pub written : WhileFewerTsnsWithDiscards (2 ^ 32) AreWrites
+written tsn size max most limits cs s small some r few = delivered.are-writes s (read-of tsn size max most limits cs s small some r few)
+
+-- ## What SACKs say
+
+all-steps : (dropped : ℕ → Bool) (p n : ℕ) (cs : List CallOrDiscard) (old new : Session) (r : RunsWithDiscards old cs new)
+    → n + tsns_given_so old cs new r < 2 ^ 31 → ((t : ℕ) → was_discarded t cs ≡ true → dropped t ≡ true) → IsInStepBut dropped p n old
+    → IsInStepBut dropped p (n + tsns_given_so old cs new r) new
+all-steps dropped p n [] old new r few all i =
+    subst (λ k. IsInStepBut dropped p k new) {x = n} {y = n + 0} (omega arith) (subst (IsInStepBut dropped p n) (sym r) i)
+all-steps dropped p n (makes (of_sender call) ∷ cs) old new r few all i =
+    let d = distance old.sending.sender.flight.next_tsn r.0.sending.sender.flight.next_tsn in
+    let sum : (n + d) + tsns_given_so r.0 cs new r.1.1 ≡ n + (d + tsns_given_so r.0 cs new r.1.1) = omega arith in
+    subst (λ k. IsInStepBut dropped p k new) sum
+    (all-steps dropped p (n + d) cs r.0 new r.1.1 (omega (arith, few)) all
+    (sacks.sender-step-but dropped p n old r.0 call (omega (arith, few)) r.1.0 i))
+all-steps dropped p n (makes (of_receiver call) ∷ cs) old new r few all i =
+    let d = distance old.sending.sender.flight.next_tsn r.0.sending.sender.flight.next_tsn in
+    let none : d ≡ 0 = sacks.no-move p n old r.0 (ap (λ (s : Session). s.sending) r.1.0.after) i.numbered in
+    let sum : n + tsns_given_so r.0 cs new r.1.1 ≡ n + (d + tsns_given_so r.0 cs new r.1.1) = omega (arith, none) in
+    subst (λ k. IsInStepBut dropped p k new) sum
+    (all-steps dropped p n cs r.0 new r.1.1 (omega (arith, few)) all
+    (sacks.receiver-step-but dropped p n call old r.0 (omega (arith, few)) r.1.0 i))
+all-steps dropped p n (discards c ∷ cs) old new r few all i =
+    let d = distance old.sending.sender.flight.next_tsn r.0.sending.sender.flight.next_tsn in
+    let none : d ≡ 0 = sacks.no-move p n old r.0 (ap (λ (s : Session). s.sending) r.1.0.after) i.numbered in
+    let sum : n + tsns_given_so r.0 cs new r.1.1 ≡ n + (d + tsns_given_so r.0 cs new r.1.1) = omega (arith, none) in
+    let one = all c.tsn (or-left (has_tsn c.tsn c) (was_discarded c.tsn cs) (same-yes c.tsn)) in
+    subst (λ k. IsInStepBut dropped p k new) sum
+    (all-steps dropped p n cs r.0 new r.1.1 (omega (arith, few))
+    (λ t e. all t (or-right (has_tsn t c) (was_discarded t cs) e))
+    (discard-step dropped p n c old r.0 (omega (arith, few)) one r.1.0 i))
+
+-- what was dropped in the calls
+abbrev In : List CallOrDiscard → ℕ → Bool
+In cs t = was_discarded t cs
+
+pub in-step : AfterEachWithDiscardsOfFewTsns (λ first n cs s. IsInStepBut (In cs) (base first) n s)
+in-step first size max most limits cs s r small few =
+    let n = tsns_given_so (at_start first size max most limits) cs s r in
+    subst (λ k. IsInStepBut (In cs) (base first) k s) {x = 0 + n} {y = n} (omega arith)
+    (all-steps (In cs) (base first) 0 cs (at_start first size max most limits) s r (omega (arith, few)) (λ t e. e)
+    (sacks.begin-but (In cs) first size max most limits small))
+
+-- ## The laws
+
+pub none-refused : AfterEachWithDiscardsOfFewTsns (λ first n cs s. NoneIsRefused s)
+none-refused first size max most limits cs s r small few =
+    sacks.accepts (In cs) (base first) (tsns_given_so (at_start first size max most limits) cs s r) s few (in-step first size max most limits cs s r small few)
+
+pub report-came : AfterEachWithDiscardsOfFewTsns ReportWhatCameSo
+report-came first size max most limits cs s r small few =
+    sacks.reports-given (In cs) first (tsns_given_so (at_start first size max most limits) cs s r) s small few
+    (in-step first size max most limits cs s r small few)
+
+pub each-tells : AfterEachWithDiscardsOfFewTsns (λ first n cs s. EachSackTells s)
+each-tells first size max most limits cs s r small few =
+    let i = in-step first size max most limits cs s r small few in
+    each-sack-tells (base first) (tsns_given_so (at_start first size max most limits) cs s r) s (known_or (In cs) s) few i.arrived i.order i.taken
+
+pub acknowledged-came : AfterEachWithDiscardsOfFewTsns (λ first n cs s. AcknowledgedCameSo cs s)
+acknowledged-came first size max most limits cs s r small few =
+    sacks.came-so (In cs) (base first) (tsns_given_so (at_start first size max most limits) cs s r) s few (in-step first size max most limits cs s r small few)
+
+pub released-came : AfterEachWithDiscardsOfFewTsns (λ first n cs s. ReleasedCameSo cs s)
+released-came first size max most limits cs s r small few =
+    sacks.released (In cs) (base first) (tsns_given_so (at_start first size max most limits) cs s r) s few (in-step first size max most limits cs s r small few)
+
+pub left-came : AfterEachWithDiscardsOfFewTsns (λ first n cs s. LeftCameSo first cs s)
+left-came first size max most limits cs s r small few =
+    sacks.left-came (In cs) first (tsns_given_so (at_start first size max most limits) cs s r) s small few
+    (in-step first size max most limits cs s r small few)
+
+pub pass-abandoned : AfterEachWithDiscardsOfFewTsns (λ first n cs s. PassAbandoned s)
+pass-abandoned first size max most limits cs s r small few =
+    sacks.passed-gone (In cs) (base first) (tsns_given_so (at_start first size max most limits) cs s r) s (in-step first size max most limits cs s r small few)
+
+pub stays-acknowledged : AfterEachWithDiscardsOfFewTsns (λ first n cs s. StaysAcknowledged s)
+stays-acknowledged first size max most limits cs s r small few =
+    stays.kept (base first) (tsns_given_so (at_start first size max most limits) cs s r) s few (in-step first size max most limits cs s r small few).numbered
+
+pub all-leaves : AfterEachWithDiscardsOfFewTsns (λ first n cs s. AllReportedLeaves s)
+all-leaves first size max most limits cs s r small few =
+    sacks.reported-leaves (In cs) (base first) (tsns_given_so (at_start first size max most limits) cs s r) s few
+    (in-step first size max most limits cs s r small few)
+
+pub all-can : AfterEachWithDiscardsOfFewTsns (λ first n cs s. CanBeAnswered s)
+all-can first size max most limits cs s r small few =
+    can-but (In cs) (base first) (tsns_given_so (at_start first size max most limits) cs s r) s few (in-step first size max most limits cs s r small few)
+
+pub none-taken-twice : AfterEachWithDiscardsOfFewTsns (λ first n cs s. NoneIsTakenTwice s)
+none-taken-twice first size max most limits cs s r small few = (in-step first size max most limits cs s r small few).taken.apart
+
+pub none-read-twice : AfterEachWithDiscardsOfFewTsns (λ first n cs s. NoneIsReadTwice s)
+none-read-twice first size max most limits cs s r small few =
+    none-twice-so first most limits (receiver_calls cs) s (receiver-runs cs (at_start first size max most limits) s r)
+    (none-taken-twice first size max most limits cs s r small few)
+
+pub of-their-own : WhileFewerTsnsWithDiscards (2 ^ 31) AreWritesOfTheirOwn
+of-their-own tsn size max most limits cs s small some r few =
+    own-so s (read-of tsn size max most limits cs s small some r (omega (arith, few))) (none-read-twice tsn size max most limits cs s r small few)

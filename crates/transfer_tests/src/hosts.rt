@@ -1,0 +1,434 @@
+//! Calls on the sender of one of two hosts, and what they answer.
+
+ghost use Rattle.std.specs.Prelude.{◌≡◌, ◌+◌, ◌≤◌, length};
+ghost use Rattle.std.specs.List.{count_by};
+ghost use Rattle.sctp_data.specs.SelectiveAck.{sack_of};
+ghost use Rattle.sctp_sender.specs.Costs.{is_left_out, to_sort};
+ghost use Rattle.sctp_sender.specs.Sender.{taken_back_by};
+
+use crate::host::{Host, acknowledges, sends, sends_again, skips};
+use crate::part::reads;
+use crate::sending::{highest_acked, send_again};
+use sctp_chunks::chunk::chunk_payload_data::ReliabilityType;
+use sctp_chunks::chunk::chunk_selective_ack::{ChunkSelectiveAck, GapAckBlock};
+use sctp_sender::sender::flight::Released;
+use sctp_sender::sender::flight::keeping::TakenBack;
+use sctp_sender::sender::flight::late::AbandonedMessage;
+use sctp_sender::sender::refusal::SenderRefusal;
+use sctp_sender::sender::{ExpiredMessage, ExpiredMessages, Sender};
+use sctp_serial::turns::Turns;
+use std::alloc::Global;
+
+/// A call on the sender of a host, and what it answers.
+pub(crate) enum Step {
+    /// Stream 1 is opened on both hosts.
+    Open,
+    /// The hosts change places.
+    Swap,
+    Write(&'static [u8], bool),
+    /// The next fragment is sent, and lost or not.
+    Send(bool),
+    /// Nothing is left to send.
+    Idle,
+    /// What is sent next has this stream sequence number, and is lost.
+    SendNumbered(u16),
+    /// The first fragment that is not acknowledged is sent again.
+    SendFirstAgain,
+    /// The peer acknowledges what came.
+    Ack,
+    /// The peer is told what was abandoned, if anything was.
+    Skip(bool),
+    /// The peer reads a message.
+    Read(&'static [u8]),
+    /// Whether the peer has a message to read.
+    Readable(bool),
+    /// The peer's cumulative TSN.
+    PeerAt(u32),
+    /// The TSN up to which all is acknowledged, the chunks in flight and their bytes.
+    Flight(u32, usize, usize),
+    /// Of the chunk at a place: its TSN, how often and when it was sent, and whether it is marked.
+    At(usize, Option<(u32, u32, Option<u64>, bool)>),
+    /// The bytes of a TSN that are not acknowledged.
+    BytesOf(u32, Option<usize>),
+    /// A SACK of a TSN with a block, and what it acknowledges anew.
+    Acked(u32, (u16, u16), Result<&'static [Released], SenderRefusal>),
+    /// Such a SACK to a sender that keeps what was reported: what comes back, and the bytes in flight before it is taken and after.
+    TakeBack(u32, (u16, u16), &'static [TakenBack], usize, usize),
+    /// Whether the sender keeps what is reported.
+    Keep(Result<(), SenderRefusal>),
+    Buffered(Option<usize>),
+    MarkAll,
+    /// The first chunk that is marked.
+    Marked(Option<u32>),
+    /// It is sent again at a moment, as the second time.
+    SendMarked(u64, Option<u32>),
+    Resend(u32, u64, Result<&'static [u8], SenderRefusal>),
+    /// So many chunks are marked as a TSN counts what is missing before it, or the block of one that a SACK reports.
+    Miss(u32, usize),
+    MissBlock(u16, usize),
+    Mode(bool, ReliabilityType, u32),
+    Worn(&'static [AbandonedMessage]),
+    Late(u64, &'static [AbandonedMessage]),
+    Abandon(u32, AbandonedMessage),
+    /// A FORWARD-TSN of at most so many bytes, or up to a TSN: its TSN, and how many streams it names.
+    Within(usize, Option<(u32, usize)>),
+    UpTo(u32, Option<u32>),
+    Start(u64),
+    Expire(u64, Option<ExpiredMessage>),
+    ExpireRun(u64, Option<ExpiredMessages>),
+    Drained(bool),
+    Reset(Result<(), SenderRefusal>),
+    IsOpen(bool),
+    /// The next stream sequence number of stream 1.
+    Sequence(u16),
+    /// Nothing was written to stream 1.
+    Unused,
+    Threshold(u16, usize, Result<(), SenderRefusal>),
+    Fragments(u32),
+    /// The fragment size, the maximum message size, and how many chunks wait.
+    Sizes(u32, u32, usize),
+    Close,
+    /// The peer closes the stream, and opens it again.
+    Reopen,
+    Contains(bool),
+    NextTsn(u32),
+    /// How often a chunk in flight was sent; 0 where none is.
+    Sendings(u32, u32),
+    CountResend(u32),
+    AckPoint(u32),
+}
+
+use Step::{
+    Abandon, Ack, AckPoint, Acked, At, Buffered, BytesOf, Close, Contains, CountResend, Drained,
+    Expire, ExpireRun, Flight, Fragments, Idle, IsOpen, Keep, Late, MarkAll, Marked, Miss,
+    MissBlock, Mode, NextTsn, Open, PeerAt, Read, Readable, Reopen, Resend, Reset, Send,
+    SendFirstAgain, SendMarked, SendNumbered, Sendings, Sequence, Sizes, Skip, Start, Swap,
+    TakeBack, Threshold, Unused, UpTo, Within, Worn, Write,
+};
+
+// The SACK up to a TSN with one block, or with none for that of 0 to 0.
+fn sack(alloc: Global, tsn: u32, block: (u16, u16)) -> Option<ChunkSelectiveAck> {
+    let mut sack = ChunkSelectiveAck {
+        cumulative_tsn_ack: tsn,
+        advertised_receiver_window_credit: 1000,
+        gap_ack_blocks: Vec::new(alloc),
+        duplicate_tsn: Vec::new(alloc),
+    };
+    let (start, end) = block;
+    if block != (0, 0)
+        && sack
+            .gap_ack_blocks
+            .push(GapAckBlock { start, end })
+            .is_err()
+    {
+        return None;
+    }
+    Some(sack)
+}
+
+// Whether the SACK acknowledges these chunks anew, or is refused so.
+fn acknowledges_anew(
+    sender: &mut Sender,
+    sack: &ChunkSelectiveAck,
+    due: &Result<&[Released], SenderRefusal>,
+    counted: bool,
+) -> bool {
+    let answer = if counted {
+        sender.acked_counted(sack, &mut Turns::new())
+    } else {
+        sender.acked(sack)
+    };
+    match (answer, due) {
+        (Ok(released), Ok(due)) => released.as_slice() == *due,
+        (Err(e), Err(due)) => e == *due,
+        _ => false,
+    }
+}
+
+// Takes back what a SACK leaves out. With one block, where it leaves out the one chunk in flight that is acknowledged, it looks 16
+// times at most: seven for the block, two for the chunk, one as it is left out, five as it comes back, and one.
+fn take_back(
+    sender: &mut Sender,
+    sack: &ChunkSelectiveAck,
+    turns: &mut Turns,
+) -> Result<Vec<TakenBack>, SenderRefusal>
+    ensures looks { length sack.now.gap_ack_blocks.items ≡ 1
+        → to_sort sack.now.gap_ack_blocks.items ≡ 0
+        → count_by (λ c. c.acked) sender.old.flight.queue.inflight.chunks ≡ 1
+        → count_by (is_left_out (sack_of sack.now)) sender.old.flight.queue.inflight.chunks ≡ 1
+        → length (taken_back_by (sack_of sack.now) sender.old) ≡ 1
+        → turns.new ≤ turns.old + 16 }
+{
+    sender.take_back_counted(sack, turns)
+}
+
+// Whether the SACK takes back these chunks.
+fn takes_back(
+    sender: &mut Sender,
+    sack: &ChunkSelectiveAck,
+    due: &[TakenBack],
+    counted: bool,
+) -> bool {
+    let answer = if counted {
+        take_back(sender, sack, &mut Turns::new())
+    } else {
+        sender.take_back(sack)
+    };
+    match answer {
+        Ok(back) => back.as_slice() == due,
+        Err(_) => false,
+    }
+}
+
+// Whether so many bytes are in flight and buffered.
+fn has_bytes(sender: &Sender, bytes: usize) -> bool {
+    sender.bytes_in_flight() == bytes && sender.buffered_amount(1) == Some(bytes)
+}
+
+// Whether a SACK that was made goes so.
+fn sack_goes(sender: &mut Sender, sack: &ChunkSelectiveAck, step: &Step, counted: bool) -> bool {
+    match step {
+        Acked(_, _, due) => acknowledges_anew(sender, sack, due, counted),
+        TakeBack(_, _, due, before, after) => {
+            takes_back(sender, sack, due, counted)
+                && has_bytes(sender, *before)
+                && sender.acked(sack).is_ok()
+                && has_bytes(sender, *after)
+        }
+        MissBlock(_, marked) => match highest_acked(sender, sack) {
+            Ok(Some(tsn)) => sender.add_miss_indications(tsn) == *marked,
+            _ => false,
+        },
+        _ => false,
+    }
+}
+
+// Whether the chunk at a place has this TSN, was sent so often and last then, and is marked or not.
+fn is_at(sender: &Sender, place: usize, due: &Option<(u32, u32, Option<u64>, bool)>) -> bool {
+    match (sender.in_flight_at(place), due) {
+        (Some(chunk), Some(due)) => {
+            (chunk.tsn, chunk.nsent, chunk.since, chunk.retransmit) == *due
+        }
+        (None, None) => true,
+        _ => false,
+    }
+}
+
+// Whether the first chunk that is marked is sent again then, and has this TSN.
+fn sends_marked(sender: &mut Sender, now: u64, due: Option<u32>) -> bool {
+    match send_again(sender, now) {
+        Ok(Some(chunk)) => {
+            due == Some(chunk.tsn)
+                && chunk.nsent == 2
+                && chunk.since == Some(now)
+                && !chunk.retransmit
+        }
+        Ok(None) => due.is_none(),
+        Err(_) => false,
+    }
+}
+
+// Whether the chunk with a TSN is sent again with these bytes, or is not.
+fn resends(sender: &mut Sender, tsn: u32, now: u64, due: &Result<&[u8], SenderRefusal>) -> bool {
+    match (sender.resend(tsn, now), due) {
+        (Ok(chunk), Ok(due)) => chunk.tsn == tsn && chunk.user_data.as_slice() == *due,
+        (Err(e), Err(due)) => e == *due,
+        _ => false,
+    }
+}
+
+fn sends_numbered(sender: &mut Sender, ssn: u16) -> bool {
+    match sender.send_next(0) {
+        Ok(Some(chunk)) => chunk.stream_sequence_number == ssn,
+        _ => false,
+    }
+}
+
+// Whether these messages are abandoned, by their lifetimes at a moment or else by how often they were sent.
+fn abandons(sender: &mut Sender, now: Option<u64>, due: &[AbandonedMessage]) -> bool {
+    let answer = match now {
+        Some(now) => sender.expire_late(now),
+        None => sender.expire_rexmit(),
+    };
+    match answer {
+        Ok(abandoned) => abandoned.as_slice() == due,
+        Err(_) => false,
+    }
+}
+
+// Whether the FORWARD-TSN of at most so many bytes goes to a TSN and names so many streams.
+fn skips_within(sender: &Sender, bytes: usize, due: &Option<(u32, usize)>) -> bool {
+    match (sender.forward_tsn_within(bytes), due) {
+        (Ok(Some(skip)), Some(due)) => (skip.new_cumulative_tsn, skip.streams.len()) == *due,
+        (Ok(None), None) => true,
+        _ => false,
+    }
+}
+
+// Whether the FORWARD-TSN up to a TSN goes to this one, if anywhere.
+fn skips_to(sender: &Sender, tsn: u32, due: &Option<u32>) -> bool {
+    match sender.forward_tsn_to(tsn) {
+        Ok(Some(skip)) => *due == Some(skip.new_cumulative_tsn),
+        Ok(None) => due.is_none(),
+        Err(_) => false,
+    }
+}
+
+// Of stream 1 the next stream sequence number, the buffered bytes, and how many messages were sent.
+fn numbers(sender: &Sender) -> Option<(u16, usize, u64)> {
+    let state = sender.stream(1)?;
+    Some((
+        state.sequence_number(),
+        state.buffered_amount(),
+        state.stats().messages_sent,
+    ))
+}
+
+// The TSN of the first chunk that is marked.
+fn marked(sender: &Sender) -> Option<u32> {
+    let chunk = sender.next_to_retransmit()?;
+    Some(chunk.tsn)
+}
+
+// How often a chunk in flight was sent; 0 where none is.
+fn sendings(sender: &Sender, tsn: u32) -> u32 {
+    match sender.outbound().get(tsn) {
+        Some(chunk) => chunk.nsent,
+        None => 0,
+    }
+}
+
+// Whether a threshold is set, and stands then, or is refused so.
+fn sets_low(
+    sender: &mut Sender,
+    stream: u16,
+    bytes: usize,
+    due: &Result<(), SenderRefusal>,
+) -> bool {
+    let well = sender.set_buffered_amount_low_threshold(stream, bytes) == *due;
+    match sender.stream(stream) {
+        Some(state) => well && state.buffered_amount_low_threshold() == bytes,
+        None => well,
+    }
+}
+
+// Whether a step that changes nothing answers so.
+fn is_seen(sender: &Sender, step: &Step) -> bool {
+    match step {
+        Flight(tsn, chunks, bytes) => {
+            sender.acked_tsn() == *tsn
+                && sender.chunks_in_flight() == *chunks
+                && sender.bytes_in_flight() == *bytes
+        }
+        At(place, due) => is_at(sender, *place, due),
+        BytesOf(tsn, bytes) => sender.bytes_of(*tsn) == *bytes,
+        Buffered(due) => sender.buffered_amount(1) == *due,
+        Marked(due) => marked(sender) == *due,
+        Within(bytes, due) => skips_within(sender, *bytes, due),
+        UpTo(tsn, due) => skips_to(sender, *tsn, due),
+        Drained(due) => sender.is_drained(1) == *due,
+        IsOpen(due) => sender.stream(1).is_some() == *due,
+        Sequence(due) => numbers(sender).is_some_and(|it| it.0 == *due),
+        Unused => numbers(sender) == Some((0, 0, 0)),
+        Sizes(fragment, message, waiting) => {
+            sender.fragment_size() == *fragment
+                && sender.max_message_size() == *message
+                && sender.outbound().pending_len() == *waiting
+        }
+        Contains(due) => sender.outbound().contains_stream(1) == *due,
+        NextTsn(tsn) => sender.next_tsn() == *tsn,
+        Sendings(tsn, due) => sendings(sender, *tsn) == *due,
+        AckPoint(tsn) => sender.advanced_ack_point() == *tsn,
+        _ => false,
+    }
+}
+
+// Makes a change that answers nothing; whether the step is one.
+fn is_made(sender: &mut Sender, step: &Step) -> bool {
+    match step {
+        MarkAll => sender.retransmit_all(),
+        Start(now) => sender.start(*now),
+        Fragments(size) if *size > 0 && *size < 65_519 => sender.set_fragment_size(*size),
+        Close => sender.close(1),
+        CountResend(tsn) => sender.count_resend(*tsn),
+        _ => return false,
+    }
+    true
+}
+
+// Whether a step on the sender goes so.
+fn is_done(sender: &mut Sender, step: &Step) -> bool {
+    match step {
+        Idle => matches!(sender.send_next(0), Ok(None)),
+        SendNumbered(ssn) => sends_numbered(sender, *ssn),
+        Keep(due) => sender.keep_reported() == *due,
+        SendMarked(now, due) => sends_marked(sender, *now, *due),
+        Resend(tsn, now, due) => resends(sender, *tsn, *now, due),
+        Miss(tsn, due) => sender.add_miss_indications(*tsn) == *due,
+        Mode(unordered, kind, value) => sender.set_mode(1, *unordered, *kind, *value).is_ok(),
+        Worn(due) => abandons(sender, None, due),
+        Late(now, due) => abandons(sender, Some(*now), due),
+        Abandon(tsn, due) => sender.abandon(*tsn) == Ok(*due),
+        Expire(now, due) => sender.expire(*now) == *due,
+        ExpireRun(now, due) => sender.expire_run(*now) == *due,
+        Reset(due) => sender.reset(1) == *due,
+        Threshold(stream, bytes, due) => sets_low(sender, *stream, *bytes, due),
+        _ => is_made(sender, step) || is_seen(sender, step),
+    }
+}
+
+// Whether a step that the peer takes part in goes so.
+fn goes_between(alloc: Global, a: &mut Host, b: &mut Host, step: &Step) -> bool {
+    match step {
+        Open => a.opens() && b.opens(),
+        Write(text, due) => a.writes(alloc, text) == *due,
+        Send(is_lost) => sends(alloc, a, b, *is_lost),
+        SendFirstAgain => sends_again(alloc, a, b),
+        Ack => acknowledges(alloc, b, a),
+        Skip(due) => skips(alloc, a, b) == *due,
+        Read(text) => reads(&mut b.receiver, text),
+        Readable(due) => b.receiver.is_readable(1) == *due,
+        PeerAt(tsn) => b.receiver.cumulative_tsn() == *tsn,
+        Reopen => {
+            b.receiver.close(1);
+            a.sender.open(1).is_ok() && b.receiver.open(1).is_ok()
+        }
+        _ => is_done(&mut a.sender, step),
+    }
+}
+
+// Whether a step goes so.
+fn goes(alloc: Global, a: &mut Host, b: &mut Host, step: &Step, counted: bool) -> bool {
+    let (tsn, block) = match step {
+        Acked(tsn, block, _) => (*tsn, *block),
+        TakeBack(tsn, block, _, _, _) => (*tsn, *block),
+        MissBlock(far, _) => (a.sender.acked_tsn(), (*far, *far)),
+        _ => return goes_between(alloc, a, b, step),
+    };
+    match sack(alloc, tsn, block) {
+        Some(sack) => sack_goes(&mut a.sender, &sack, step, counted),
+        None => false,
+    }
+}
+
+/// Whether all steps go so, by the calls that count their turns where there is one, or by those that do not.
+pub(crate) fn all_go(
+    alloc: Global,
+    a: &mut Host,
+    b: &mut Host,
+    steps: &[Step],
+    counted: bool,
+) -> bool {
+    let mut swapped = false;
+    let mut well = true;
+    for step in steps {
+        if matches!(step, Swap) {
+            swapped = !swapped;
+        } else if swapped {
+            well = well && goes(alloc, b, a, step, counted);
+        } else {
+            well = well && goes(alloc, a, b, step, counted);
+        }
+    }
+    well
+}

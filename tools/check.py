@@ -1,0 +1,93 @@
+#!/usr/bin/env python3
+"""Runs what reads the repository as text and needs no proof, in seconds: the gate begins with it.
+
+    python3 tools/check.py
+
+run at the top of the repository. Prints what each check that fails said, and ends with `N passed, M failed`; the status is 1 where one failed.
+"""
+import re
+import subprocess
+import sys
+
+from sources import Sources
+
+CHECKS = [
+    ("what the crates offer", ["tools/surface.py"]),
+    ("each text of a wrong body stands once", ["tools/wrong_bodies.py", "--texts"]),
+    ("words and links of the pages", ["tools/words.py", "--all"]),
+    ("code that pages show", ["tools/excerpts.py"]),
+    ("what trace.py finds", ["tools/trace_test.py"]),
+    ("what dead.py finds", ["tools/dead_test.py"]),
+    ("what fold.py does", ["tools/fold_test.py"]),
+    ("what wrong_bodies.py does", ["tools/wrong_bodies_test.py"]),
+    ("what wrappers repeat of the header", ["tools/c_bindings.py", "--check"]),
+]
+
+# the sections whose claims name what carries them: each item of a list, or where there is none each paragraph
+CLAIMS = {
+    "README.md": ["What it guarantees"],
+    "docs/WHY.md": ["The claim", "A message can't be joined wrongly", "None is read twice", "None is lost in silence", "In order"],
+    "docs/CONTRACTS.md": ["Contracts", "Laws of two hosts: `sctp_delivery`"],
+}
+ITEM = re.compile(r"\s*(?:- |\d+\. )")
+BY = re.compile(r"<!-- by (.*?) -->", re.S)
+
+
+def claims_of(page, titles):
+    """Returns the claims of these sections of a page, each as its lines in one."""
+    with open(page, encoding="utf-8") as text:
+        parts = re.split(r"^#+ (.*)\n", text.read(), flags=re.M)
+    found = []
+    for title, body in zip(parts[1::2], parts[2::2]):
+        for block in body.split("\n\n") if title in titles else []:
+            lines = block.split("\n")
+            starts = [at for at, line in enumerate(lines) if ITEM.match(line)]
+            for begin, end in zip(starts or [0], [*starts[1:], len(lines)]):
+                found.append(" ".join(it.strip() for it in lines[begin:end]))
+    return [it for it in found if it]
+
+
+def unproved_claims():
+    """Says which claims name nothing that carries them, and which names are of nothing."""
+    functions = {it.title(): {name for clause in it.clauses for name in re.findall(r"^ensures (\w+)", clause)} for it in Sources().functions}
+    told = []
+    for page, titles in CLAIMS.items():
+        for claim in claims_of(page, titles):
+            named = [it.strip() for by in BY.findall(claim) for it in by.split(",")]
+            if not named and "<!-- no claim -->" not in claim:
+                told.append(f"{page}: names no law: {claim[:100]}")
+            for name in named:
+                call, _, clause = name.partition(" ")
+                if call not in functions or clause and clause not in functions[call]:
+                    told.append(f"{page}: {name} is no contract")
+    return "\n".join(told)
+
+
+def page_of_rules():
+    """Says how docs/RFC.md differs from what tools/rfc.py prints, or nothing."""
+    ran = subprocess.run([sys.executable, "tools/rfc.py", "--page"], capture_output=True, text=True)
+    with open("docs/RFC.md", encoding="utf-8") as page:
+        same = page.read() == ran.stdout
+    return "" if same and not ran.returncode else ran.stderr or "docs/RFC.md is not what `python3 tools/rfc.py --page` prints"
+
+
+def said_by(words):
+    """Returns what a check prints where it fails, or nothing."""
+    ran = subprocess.run([sys.executable, *words], capture_output=True, text=True)
+    return "" if ran.returncode == 0 else (ran.stdout + ran.stderr).strip() or f"status {ran.returncode}"
+
+
+def main():
+    told = {title: said_by(words) for title, words in CHECKS}
+    told["the page of the RFCs' rules"] = page_of_rules()
+    told["claims of pages name what carries them"] = unproved_claims()
+    for title, text in told.items():
+        if text:
+            print(f"FAILED {title}:\n{text}")
+    failed = sum(bool(it) for it in told.values())
+    print(f"{len(told) - failed} passed, {failed} failed")
+    return 1 if failed else 0
+
+
+if __name__ == "__main__":
+    sys.exit(main())
