@@ -6,4 +6,5 @@ use Rattle.sctp_show.proofs.zero.has_zero_param.Goals as goal
 
 pub returns : goal.returns
 returns c =
-    any_from_yields_List (λ item. param_type item == 32769) _ _ _ c.any.ensures.ran (YieldsList-from_slice c.args.items.now cc) (λ x b q k. search (rules, tests))
+    any_from_yields_List (λ item. param_type item == 32769) _ _ _ c.any.ensures.ran (YieldsList-from_slice c.args.items.now cc)
+    (λ x b q k. search (rules, tests))
