@@ -5,8 +5,8 @@
 
 PROGRAM is crates/sctpdump/out/sctpdump unless told otherwise: `rt ci` leaves it there, and `rt run` in crates/sctpdump makes it. The frames hold one
 datagram behind the headers that the RFCs named below give, or none; with --tshark, tshark has to find the datagram in the same ones, between the same
-addresses. The lines of JSON of each capture have to be what docs/sctpdump.schema.json says. The runs are those of tools/dump_runs.txt: a line
-'$ sctpdump ..', run in crates/sctpdump/data and examples, and the lines that it prints.
+addresses. The lines of JSON of each capture have to be what docs/sctpdump.schema.json says. Two large captures have to be shown within bounds. The
+runs are those of tools/dump_runs.txt: a line '$ sctpdump ..', run in crates/sctpdump/data and examples, and the lines that it prints.
 The last line is 'N passed, M failed'; the status is 0 where nothing failed.
 """
 import ipaddress
@@ -261,12 +261,46 @@ def tells_version(program):
     return True
 
 
+def write_datagrams(path, datagrams):
+    """Writes a capture of datagrams, a millisecond after each other."""
+    with open(path, "wb") as out:
+        out.write(struct.pack("<IHHiIII", 0xA1B2C3D4, 2, 4, 0, 0, 262144, RAW))
+        for at, datagram in enumerate(datagrams):
+            frame = ipv4(datagram)
+            out.write(struct.pack("<IIII", at // 1000, at % 1000 * 1000, len(frame), len(frame)) + frame)
+
+
+def bound_tests(program):
+    """Returns how many views of large captures keep their bounds, and how many do not: 300,000 associations take each view four seconds of processor
+    time at most, and a picture of 300 SACKs with 16,000 gap ack blocks each has 5 MB at most."""
+    counts = [0, 0]
+    blocks = b"".join(struct.pack(">HH", 2 + 4 * at, 3 + 4 * at) for at in range(16_000))
+    sack = struct.pack(">BBHIIHH", 3, 0, 16 + len(blocks), 0, 65536, 16_000, 0) + blocks
+    cookie_ack = bytes.fromhex("0b000004")
+    with tempfile.TemporaryDirectory() as room:
+        many, sacks = f"{room}/many.pcap", f"{room}/sacks.pcap"
+        write_datagrams(many, (struct.pack(">HHII", 5000 + at % 7, 5001, at * 14_321 % 2**32, 0) + cookie_ack for at in range(300_000)))
+        write_datagrams(sacks, (struct.pack(">HHII", 5001, 5000, 7, 0) + sack for _ in range(300)))
+        for view in (["--summary"], ["--messages"], ["--color", "always", "-f", "tag=1"]):
+            before = os.times().children_user
+            subprocess.run([program, "--no-checksum", *view, many], stdout=subprocess.DEVNULL, check=True)
+            spent = os.times().children_user - before
+            if spent > 4:
+                print(f"{' '.join(view)}: {spent:.1f} s for 300,000 associations")
+            counts[spent > 4] += 1
+        drawn = len(subprocess.run([program, "--svg", "-", sacks], capture_output=True, check=True).stdout)
+        if drawn > 5_000_000:
+            print(f"--svg: {drawn} bytes")
+        counts[drawn > 5_000_000] += 1
+    return counts
+
+
 def main(words):
     has_tshark = "--tshark" in words
     words = [word for word in words if word != "--tshark"]
     program = os.path.abspath(words[0] if words else f"{ROOT}/crates/sctpdump/out/sctpdump")
     runs = run_tests(program, f"{ROOT}/tools/dump_runs.txt")
-    passed, failed = (sum(counts) for counts in zip(frame_tests(program, has_tshark), runs, json_tests(program)))
+    passed, failed = (sum(counts) for counts in zip(frame_tests(program, has_tshark), runs, json_tests(program), bound_tests(program)))
     if tells_version(program):
         passed += 1
     else:

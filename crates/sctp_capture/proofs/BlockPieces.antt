@@ -44,14 +44,13 @@ less_head o held more h long is = record {
 
 more_gives : (k after : Known) (h : BlockHead) (held more : List ℕ) (r : Option Record) → HoldsBlock h held → Gives k h (take h.length held) r after
     → Gives k h (take h.length (held ++ more)) r after
-more_gives k after h held more r holds is = record {
-  section = is.section;
-  other = is.other;
-  too_long = is.too_long;
-  read = λ read fits.
-      let same : take h.length (held ++ more) ≡ take h.length held = take-append-le h.length held more (holds read fits) in
-      rw same (is.read read fits);
-}
+more_gives k after h held more r holds is =
+    let same : h.length ≤ 262144 → take h.length (held ++ more) ≡ take h.length held = λ fits. take-append-le h.length held more (holds fits) in
+    record {
+      cut_off = λ fits. rw (same fits) (is.cut_off fits);
+      whole = λ fits. rw (same fits) (is.whole fits);
+      long = is.long;
+    }
 
 -- fewer than twelve bytes are left
 pub block_cut : (k : Known) (a b e : Option (List ℕ)) (held : List ℕ) (r : Record) → k.is_lost ≡ false → Keeps a (prepend_known held b)

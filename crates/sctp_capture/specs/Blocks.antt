@@ -139,27 +139,42 @@ with_interface k i =
     if ltb (length k.interfaces) 4096 then
     record { order = k.order; interfaces = k.interfaces ++ i ∷ []; is_lost = k.is_lost } else k
 
--- a block that is read, by what there is of it
+-- a section begins: no interface of it is known
+abbrev pub begun : Known → Order → Known
+begun k order = record { order = order; interfaces = []; is_lost = k.is_lost }
+
+-- the block of an interface or a packet
 pub record GivesRead (k : Known) (h : BlockHead) (block : List ℕ) (r : Option Record)
     (after : Known) : Type 0 where
-  pub cut_off : length block < h.length → IsRefused CutOff r × (after ≡ k)
-  pub interface : h.length ≤ length block → h.typ ≡ 1 → (r ≡ None)
+  pub interface : h.typ ≡ 1 → (r ≡ None)
       × ((i : Interface) × IsInterface h.order block i × (after ≡ with_interface k i))
-  pub packet : h.length ≤ length block → h.typ ≢ 1 → IsSomeAnd r (IsPacket k.interfaces h block)
-      × (after ≡ k)
+  pub packet : h.typ ≢ 1 → IsSomeAnd r (IsPacket k.interfaces h block) × (after ≡ k)
 
--- the record that a block is, if it is one, and what is known behind it
+-- a block that is there to its end
+pub record GivesWhole (k : Known) (h : BlockHead) (block : List ℕ) (r : Option Record)
+    (after : Known) : Type 0 where
+  pub section : h.typ ≡ 168627466 → (r ≡ None) × (after ≡ begun k h.order)
+  pub other : h.typ ≢ 168627466 → (IsRead h.typ → ⊥) → (r ≡ None) × (after ≡ k)
+  pub read : IsRead h.typ → GivesRead k h block r after
+
+-- a block that is longer than is read
+pub record GivesLong (k : Known) (h : BlockHead) (r : Option Record) (after : Known) : Type 0
+  where
+    pub section : h.typ ≡ 168627466 → (r ≡ None) × (after ≡ begun k h.order)
+    pub other : h.typ ≢ 168627466 → (IsRead h.typ → ⊥) → (r ≡ None) × (after ≡ k)
+    pub read : IsRead h.typ → IsRefused TooLong r × (after ≡ k)
+
+-- the record that a block is, if it is one, and what is known behind it, by as much of the block as there is: of any type it is cut off
+-- where the input ends within it, unless it is longer than is read
 pub record Gives (k : Known) (h : BlockHead) (block : List ℕ) (r : Option Record)
     (after : Known) : Type 0 where
-  pub section : h.typ ≡ 168627466 → (r ≡ None)
-      × (after ≡ record { order = h.order; interfaces = []; is_lost = k.is_lost })
-  pub other : h.typ ≢ 168627466 → (IsRead h.typ → ⊥) → (r ≡ None) × (after ≡ k)
-  pub too_long : IsRead h.typ → 262144 < h.length → IsRefused TooLong r × (after ≡ k)
-  pub read : IsRead h.typ → h.length ≤ 262144 → GivesRead k h block r after
+  pub cut_off : h.length ≤ 262144 → length block < h.length → IsRefused CutOff r × (after ≡ k)
+  pub whole : h.length ≤ 262144 → h.length ≤ length block → GivesWhole k h block r after
+  pub long : 262144 < h.length → GivesLong k h r after
 
 -- as much of the block is held as is to be read
 abbrev pub HoldsBlock : BlockHead → List ℕ → Type 0
-HoldsBlock h held = IsRead h.typ → h.length ≤ 262144 → h.length ≤ length held
+HoldsBlock h held = h.length ≤ 262144 → h.length ≤ length held
 
 -- ---- the next block
 

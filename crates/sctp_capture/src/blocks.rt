@@ -4,7 +4,7 @@ ghost use Rattle.std.specs.Prelude.{◌≡◌, ◌≤◌, ◌<◌, ◌+◌, ◌�
 ghost use Rattle.std.specs.Io.KnownBytes.{Keeps, IsAtEnd, prepend_known};
 ghost use Rattle.sctp_capture.specs.Record.{number_at};
 ghost use Rattle.sctp_capture.specs.Blocks as blocks;
-ghost use Rattle.sctp_capture.specs.Blocks.{known_of, IsBegun, IsBlocks, IsBlockHead, IsInterface, IsEnhanced, IsSimple, IsPacket, IsRead, GivesRead, Gives, HoldsBlock};
+ghost use Rattle.sctp_capture.specs.Blocks.{known_of, IsBegun, IsBlocks, IsBlockHead, IsInterface, IsEnhanced, IsSimple, IsPacket, GivesRead, GivesWhole, GivesLong, Gives, HoldsBlock};
 ghost use Rattle.sctp_capture.specs.declared.blocks.BlockHead.{BlockHead};
 ghost use Rattle.sctp_capture.specs.declared.input.Format.TheVariants.{Blocks};
 ghost use Rattle.sctp_capture.specs.Input.{Takes};
@@ -343,8 +343,8 @@ fn keep_interface(section: &mut Section, interface: Interface) -> Result<(), All
     Ok(())
 }
 
-/// What a block that is read whole gives.
-fn read_whole(
+/// What a block of a packet or an interface gives.
+fn read_block(
     alloc: Global,
     section: &mut Section,
     head: BlockHead,
@@ -362,31 +362,47 @@ fn read_whole(
     Ok(None)
 }
 
-/// What a block gives that is read, if it is not too long and all there.
-fn take_read<R: Read + Drop>(
+/// A section begins.
+fn begin_section(section: &mut Section, order: Order)
+    ensures { known_of section.new ≡ blocks.begun (known_of section.old) order }
+{
+    section.order = order;
+    section.interfaces.clear();
+}
+
+/// What a block gives that is held whole.
+fn read_whole(
     alloc: Global,
-    window: &mut Window<R>,
     section: &mut Section,
     head: BlockHead,
-) -> Result<Option<Record>, ReadFault>
-    requires { IsRead head.typ }
-    ensures keeps { OnOk result
-        (Keeps (prepend_known window.old.held.items (R.remaining window.old.reader))
-        (prepend_known window.new.held.items (R.remaining window.new.reader))) }
-    ensures full { OnOk result (HoldsBlock head window.new.held.items
-        ⊎ IsAtEnd (R.remaining window.new.reader)) }
-    ensures gives { IfOk result (λ r. Gives (known_of section.old) head
-        (take head.length window.new.held.items) r (known_of section.new)) }
+    block: &[u8],
+) -> Result<Option<Record>, AllocError>
+    requires { head.length ≤ length block.now }
+    ensures { IfOk result
+        (λ r. GivesWhole (known_of section.old) head block.now r (known_of section.new)) }
 {
-    let length = head.length as usize;
-    if length > MAX_RECORD {
-        return Ok(Some(refused(Fault::TooLong)));
+    match head.typ {
+        INTERFACE | OBSOLETE | SIMPLE | ENHANCED => read_block(alloc, section, head, block),
+        SECTION => {
+            begin_section(section, head.order);
+            Ok(None)
+        }
+        _ => Ok(None),
     }
-    window.fill(length)?;
-    if window.held().len() < length {
-        return Ok(Some(refused(Fault::CutOff)));
+}
+
+/// What a block gives that is longer than is read: a section begins all the same.
+fn pass_long(section: &mut Section, head: BlockHead) -> Option<Record>
+    ensures { GivesLong (known_of section.old) head result (known_of section.new) }
+{
+    match head.typ {
+        INTERFACE | OBSOLETE | SIMPLE | ENHANCED => Some(refused(Fault::TooLong)),
+        SECTION => {
+            begin_section(section, head.order);
+            None
+        }
+        _ => None,
     }
-    Ok(read_whole(alloc, section, head, &window.held()[..length])?)
 }
 
 /// What the block gives whose head stands at the front.
@@ -404,15 +420,15 @@ fn take_block<R: Read + Drop>(
     ensures gives { IfOk result (λ r. Gives (known_of section.old) head
         (take head.length window.new.held.items) r (known_of section.new)) }
 {
-    match head.typ {
-        INTERFACE | OBSOLETE | SIMPLE | ENHANCED => take_read(alloc, window, section, head),
-        SECTION => {
-            section.order = head.order;
-            section.interfaces.clear();
-            Ok(None)
-        }
-        _ => Ok(None),
+    let length = head.length as usize;
+    if length > MAX_RECORD {
+        return Ok(pass_long(section, head));
     }
+    window.fill(length)?;
+    if window.held().len() < length {
+        return Ok(Some(refused(Fault::CutOff)));
+    }
+    Ok(read_whole(alloc, section, head, &window.held()[..length])?)
 }
 
 /// Takes the next block, if one follows.

@@ -15,6 +15,11 @@ pub enum Kind {
     Lz4,
     Zip,
     Xz,
+    Bzip2,
+    Png,
+    Elf,
+    Utf16,
+    ByteOrderMark,
     Snoop,
     Btsnoop,
     NetworkMonitor,
@@ -34,6 +39,11 @@ impl fmt::Display for Kind {
             Kind::Lz4 => f.write_str("LZ4 data, to be unpacked first"),
             Kind::Zip => f.write_str("a zip archive, to be unpacked first"),
             Kind::Xz => f.write_str("xz data, to be unpacked first"),
+            Kind::Bzip2 => f.write_str("bzip2 data, to be unpacked first"),
+            Kind::Png => f.write_str("a PNG picture, and no capture"),
+            Kind::Elf => f.write_str("an ELF program or library, and no capture"),
+            Kind::Utf16 => f.write_str("text in UTF-16, which is not read"),
+            Kind::ByteOrderMark => f.write_str("text with a byte order mark, to be removed first"),
             Kind::Snoop => f.write_str("a snoop capture, which is not read"),
             Kind::Btsnoop => f.write_str("a Bluetooth snoop capture, which is not read"),
             Kind::NetworkMonitor => f.write_str("a Network Monitor capture, which is not read"),
@@ -49,6 +59,20 @@ impl fmt::Display for Kind {
     }
 }
 
+/// Text with a byte order mark, which is U+FEFF: in UTF-16, in either byte order, or in UTF-8 (RFC 3629 6).
+fn kind_of_text(first: u32) -> Option<Kind>
+    ensures { result ≡ kinds.kind_of_text first }
+{
+    let half = first / 65_536;
+    if half == 0xfeff || half == 0xfffe {
+        return Some(Kind::Utf16);
+    }
+    if first / 256 == 0x00ef_bbbf {
+        return Some(Kind::ByteOrderMark);
+    }
+    None
+}
+
 /// The kind of file that begins with these four bytes, as one number.
 fn kind_by(first: u32) -> Option<Kind>
     ensures { result ≡ kinds.kind_by first }
@@ -56,11 +80,17 @@ fn kind_by(first: u32) -> Option<Kind>
     if first / 65_536 == 0x1f8b {
         return Some(Kind::Gzip);
     }
+    if let Some(kind) = kind_of_text(first) {
+        return Some(kind);
+    }
     match first {
         0x28b5_2ffd => Some(Kind::Zstandard),
         0x0422_4d18 => Some(Kind::Lz4),
         0x504b_0304 => Some(Kind::Zip),
         0xfd37_7a58 => Some(Kind::Xz),
+        0x425a_6831..=0x425a_6839 => Some(Kind::Bzip2),
+        0x8950_4e47 => Some(Kind::Png),
+        0x7f45_4c46 => Some(Kind::Elf),
         0x736e_6f6f => Some(Kind::Snoop),
         0x6274_736e => Some(Kind::Btsnoop),
         0x5254_5353 | 0x474d_4255 => Some(Kind::NetworkMonitor),

@@ -1,6 +1,7 @@
 //! The associations of a capture, by the ports and the verification tags of its packets.
 
 use crate::flow::{Flow, counted};
+use crate::index::{Found, Index};
 use crate::packet::Packet;
 use sctp_capture::record::Time;
 use sctp_dissect::dissection::{Header, Item};
@@ -62,6 +63,13 @@ pub struct Association {
     pub back: Flow,
 }
 
+/// The tags of both ways of an association, as far as they are known.
+#[derive(Clone, Copy)]
+struct Tags {
+    forth: Option<u32>,
+    back: Option<u32>,
+}
+
 /// The associations in the order of their first packets.
 #[derive(Drop)]
 pub struct Associations {
@@ -70,6 +78,8 @@ pub struct Associations {
     pub others: u64,
     /// The first time that a record had.
     pub start: Option<Time>,
+    /// Where they are found.
+    index: Index,
 }
 
 /// What says which association a packet is of.
@@ -136,21 +146,6 @@ impl Association {
         }
     }
 
-    /// Whether a packet has the tag of this way, or asks for that of the other one.
-    fn has_tag(&self, way: Way, place: &Place) -> bool {
-        let (own, other) = match way {
-            Way::Forth => (self.forth.tag, self.back.tag),
-            Way::Back => (self.back.tag, self.forth.tag),
-        };
-        if place.is_opening {
-            return place.initiate_tag.is_some() && place.initiate_tag == other;
-        }
-        if place.is_reflected {
-            return other == Some(place.tag);
-        }
-        own == Some(place.tag)
-    }
-
     /// Whether a packet may be of this way, the tag of which is not known.
     fn is_open(&self, way: Way, place: &Place) -> bool {
         let tag = match way {
@@ -160,19 +155,22 @@ impl Association {
         tag.is_none() && !place.is_opening && !place.is_reflected && self.has_ends(way, place)
     }
 
-    /// The way that a packet goes, if it is one of this association: by its tag, or where `is_open` by an unknown one.
-    fn way_of(&self, place: &Place, is_open: bool) -> Option<Way> {
+    /// The way that a packet goes, if it may be one of this association, the tag of which is not known.
+    fn open_way_of(&self, place: &Place) -> Option<Way> {
         for way in [Way::Forth, Way::Back] {
-            let fits = if is_open {
-                self.is_open(way, place)
-            } else {
-                self.has_tag(way, place)
-            };
-            if fits && self.has_ports(way, place) {
+            if self.is_open(way, place) && self.has_ports(way, place) {
                 return Some(way);
             }
         }
         None
+    }
+
+    /// The tags of both ways.
+    fn tags(&self) -> Tags {
+        Tags {
+            forth: self.forth.tag,
+            back: self.back.tag,
+        }
     }
 
     /// Notes the tags that a packet says.
@@ -201,6 +199,7 @@ impl Associations {
             items: Vec::new(alloc),
             others: 0,
             start: None,
+            index: Index::new(alloc),
         }
     }
 
@@ -211,11 +210,11 @@ impl Associations {
         }
     }
 
-    /// The association and the way of a packet, if it is of one: by its tag, or where `is_open` by an unknown one.
-    fn find(&self, place: &Place, is_open: bool) -> Option<(usize, Way)> {
+    /// The association and the way of a packet, where the tag of that is not known: each is looked at.
+    fn find_open_each(&self, place: &Place) -> Option<(usize, Way)> {
         let mut at = 0usize;
         for association in &self.items {
-            if let Some(way) = association.way_of(place, is_open) {
+            if let Some(way) = association.open_way_of(place) {
                 return Some((at, way));
             }
             at = at.saturating_add(1);
@@ -223,19 +222,47 @@ impl Associations {
         None
     }
 
+    /// The same by the index, where all associations have addresses, or none has.
+    fn find_open(&self, place: &Place) -> Option<(usize, Way)> {
+        if place.is_opening || place.is_reflected {
+            return None;
+        }
+        if !self.index.is_even(place, self.items.len()) {
+            return self.find_open_each(place);
+        }
+        let found = self.index.find_open(place)?;
+        match self.items.get(found.at)?.open_way_of(place) {
+            Some(way) => Some((found.at, way)),
+            None => self.find_open_each(place),
+        }
+    }
+
+    /// The association and the way of a packet, if it is of one: by its tag, or else by an unknown one.
+    fn find(&self, place: &Place) -> Option<(usize, Way)> {
+        match self.index.find_tagged(place) {
+            Some(found) => Some((found.at, found.way)),
+            None => self.find_open(place),
+        }
+    }
+
     /// The association and the way of a packet: one that there is, or a new one.
     fn place_for(&mut self, alloc: Global, place: &Place) -> Result<(usize, Way), AllocError> {
-        if let Some(found) = self.find(place, false) {
-            return Ok(found);
-        }
-        if let Some(found) = self.find(place, true) {
+        if let Some(found) = self.find(place) {
             return Ok(found);
         }
         let at = self.items.len();
         if at < MAX_ASSOCIATIONS {
             self.items.push(Association::new(alloc, *place)?)?;
+            self.index.add(at, place)?;
         }
         Ok((at, Way::Forth))
+    }
+
+    /// The association and the way of a packet, if it is of one that there is. Nothing is noted.
+    pub fn find_packet(&self, packet: &Packet<'_>) -> Option<(usize, Way)> {
+        let header = packet.seen.header.as_ref()?;
+        let place = place_of(header, &packet.seen.items, packet.ends);
+        self.find(&place)
     }
 
     /// What went the way of a packet, and what went the other one.
@@ -245,6 +272,21 @@ impl Associations {
             Way::Forth => Some((&association.forth, &association.back)),
             Way::Back => Some((&association.back, &association.forth)),
         }
+    }
+
+    /// Keeps the tags of both ways of an association that begins with this place.
+    fn note_tags(
+        &mut self,
+        at: usize,
+        first: &Place,
+        before: Tags,
+        after: Tags,
+    ) -> Result<(), AllocError> {
+        let (forth, back) = (Way::Forth, Way::Back);
+        self.index
+            .note(first, Found { at, way: forth }, before.forth, after.forth)?;
+        self.index
+            .note(first, Found { at, way: back }, before.back, after.back)
     }
 
     /// Notes a packet, and answers of which association and which way it is, if it is of one. Refuses only for memory.
@@ -261,7 +303,10 @@ impl Associations {
         let (at, way) = self.place_for(alloc, &place)?;
         match self.items.get_mut(at) {
             Some(association) => {
+                let before = association.tags();
                 association.note(way, &place, packet)?;
+                let (after, first) = (association.tags(), association.place);
+                self.note_tags(at, &first, before, after)?;
                 Ok(Some((at, way)))
             }
             None => {

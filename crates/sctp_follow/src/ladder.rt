@@ -243,8 +243,13 @@ impl Take for Ladders {
         Ok(String::new(alloc))
     }
 
+    /// Checksums are not computed.
+    fn tests_checksums(&self) -> bool {
+        false
+    }
+
     /// The ladders, one below the other, and the last line.
-    fn end(&self, alloc: Global, counts: Counts) -> Result<String, AllocError> {
+    fn end(&mut self, alloc: Global, counts: Counts) -> Result<String, AllocError> {
         let mut text = String::new(alloc);
         let mut at = 0usize;
         for association in &self.associations.items {

@@ -3,6 +3,7 @@
 
 pub mod associations;
 pub mod flow;
+pub mod index;
 pub mod ladder;
 pub mod packet;
 pub mod plot;

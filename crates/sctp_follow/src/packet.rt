@@ -17,4 +17,6 @@ pub struct Packet<'a> {
     pub extent: Extent,
     /// How many of its bytes are missing.
     pub missing: usize,
+    /// Whether its checksum was computed, and is wrong.
+    pub is_wrong: bool,
 }

@@ -9,9 +9,10 @@ use sctp_capture::frame::datagram_in;
 use sctp_capture::input::{holds_piece, next_piece, open_input, unread_of};
 use sctp_capture::record::{Record, Time};
 use sctp_capture::window::Window;
-use sctp_show::checksum::Sum;
+use sctp_show::checksum::{Sum, sum_for};
 use sctp_show::run::{Counts, RunFault, send_off, write_text};
 use sctp_show::text::{Options, seen_in};
+use sctp_show::zero::ZeroTags;
 use std::alloc::{AllocError, Global};
 use std::io::{Read, Write};
 
@@ -28,8 +29,11 @@ pub trait Take {
         is_shown: bool,
     ) -> Result<String, AllocError>;
 
+    /// Whether the checksums of packets are to be computed for it.
+    fn tests_checksums(&self) -> bool;
+
     /// What is written at the end of an input of which so much was read. Refuses only for memory.
-    fn end(&self, alloc: Global, counts: Counts) -> Result<String, AllocError>;
+    fn end(&mut self, alloc: Global, counts: Counts) -> Result<String, AllocError>;
 }
 
 /// Takes the packet of a record, if it has one, and writes what is written of it. Answers how many are shown, 0 or 1.
@@ -38,6 +42,7 @@ fn take_record<T: Take, W: Write>(
     options: &Options,
     number: u64,
     record: &Record,
+    zero_tags: &mut ZeroTags,
     taker: &mut T,
     output: &mut W,
 ) -> Result<u64, RunFault>
@@ -50,7 +55,16 @@ fn take_record<T: Take, W: Write>(
     let Ok(datagram) = datagram_in(record.link_type, frame.as_slice(), options.port) else {
         return Ok(0);
     };
-    let seen = seen_in(alloc, Sum::Unchecked, datagram.bytes)?;
+    let sum = if taker.tests_checksums() || options.filter.only_wrong {
+        sum_for(options.sum, datagram.missing)
+    } else {
+        Sum::Unchecked
+    };
+    let seen = seen_in(alloc, sum, datagram.bytes)?;
+    if sum == Sum::Crc32c {
+        zero_tags.note(alloc, &seen)?;
+    }
+    let is_wrong = zero_tags.is_wrong(sum, &seen);
     let extent = Extent {
         length: (datagram.bytes.len() as u64).saturating_add(datagram.missing as u64),
         is_cut: datagram.missing > 0,
@@ -62,8 +76,9 @@ fn take_record<T: Take, W: Write>(
         time: record.time,
         extent,
         missing: datagram.missing,
+        is_wrong,
     };
-    let is_shown = options.filter.passes(&seen);
+    let is_shown = options.filter.passes(&seen, is_wrong);
     let text = taker.take(alloc, &packet, is_shown)?;
     write_text(output, &text)?;
     Ok(if is_shown { 1 } else { 0 })
@@ -73,7 +88,7 @@ fn take_record<T: Take, W: Write>(
 fn finish<T: Take, W: Write>(
     alloc: Global,
     counts: Counts,
-    taker: &T,
+    taker: &mut T,
     output: &mut W,
 ) -> Result<(), RunFault> {
     let text = taker.end(alloc, counts)?;
@@ -95,6 +110,7 @@ pub fn summarize<R: Read + Drop, T: Take, W: Write>(
     let mut window = Window::new(alloc, input)?;
     let format = open_input(&mut window)?;
     let mut section = Section::new(alloc);
+    let mut zero_tags = ZeroTags::new(alloc);
     let (mut records, mut unread, mut shown) = (0u64, 0u64, 0u64);
     'pieces: for turn in 0..u64::MAX {
         let _turn = turn;
@@ -112,7 +128,15 @@ pub fn summarize<R: Read + Drop, T: Take, W: Write>(
             Taken::Record(record) => {
                 records += 1;
                 unread += unread_of(&record);
-                shown += take_record(alloc, options, records, &record, taker, output)?;
+                shown += take_record(
+                    alloc,
+                    options,
+                    records,
+                    &record,
+                    &mut zero_tags,
+                    taker,
+                    output,
+                )?;
             }
             Taken::Nothing => {}
             Taken::End => {

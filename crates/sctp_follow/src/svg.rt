@@ -13,11 +13,15 @@ use sctp_show::page::Form;
 use sctp_show::run::Counts;
 use sctp_show::time::{Elapsed, time_since};
 use std::alloc::{AllocError, Global};
+use std::collections::BTreeSet;
 
 /// How wide and how high a panel is, in tenths of a unit.
 const WIDTH: u32 = 10_500;
 
 const HEIGHT: u32 = 2_600;
+
+/// How wide and how high a cell is, in the same: in it one mark of a kind is drawn.
+const CELL: u64 = 20;
 
 /// How many units a panel takes with what stands around it, and the head of an association.
 const PANEL_STEP: u64 = 340;
@@ -151,23 +155,26 @@ impl Frame {
     }
 }
 
-/// Draws a mark, and nothing where the one before it was drawn at the same place.
+/// The cell of the picture that a corner lies in, two units wide and high: it says where the mark ends too.
+fn cell_of(corner: (u64, u64, u64)) -> u64 {
+    let (x, y, end) = corner;
+    ((x / CELL) % 65_536 * 65_536 + (y / CELL) % 65_536) * 65_536 + (end / CELL) % 65_536
+}
+
+/// Draws a mark.
 fn put_mark(
     text: &mut String,
     sign: Sign,
-    before: Option<(u64, u64, u64)>,
+    is_first: bool,
     corner: (u64, u64, u64),
 ) -> Result<(), AllocError> {
     let (x, y, end) = corner;
-    if before == Some(corner) {
-        return Ok(());
-    }
-    match (sign, before) {
-        (Sign::Data | Sign::Again, _) => write!(text, "M{x} {y}h0"),
-        (Sign::Gap, _) => write!(text, "M{x} {y}V{end}"),
-        (Sign::Skipped, _) => write!(text, "M{x} {y}m0-45v90"),
-        (Sign::Acked, None) => write!(text, "M{x} {y}"),
-        (Sign::Acked, Some(_)) => write!(text, "H{x}V{y}"),
+    match sign {
+        Sign::Data | Sign::Again => write!(text, "M{x} {y}h0"),
+        Sign::Gap => write!(text, "M{x} {y}V{end}"),
+        Sign::Skipped => write!(text, "M{x} {y}m0-45v90"),
+        Sign::Acked if is_first => write!(text, "M{x} {y}"),
+        Sign::Acked => write!(text, "H{x}V{y}"),
     }
 }
 
@@ -182,8 +189,17 @@ fn class_of(sign: Sign) -> &'static str {
     }
 }
 
-/// Draws all marks of a kind, as one path.
+/// Whether a cell is none of these, which it is from now on.
+fn is_new_in(cells: &mut BTreeSet<u64>, cell: u64) -> Result<bool, AllocError> {
+    match cells.insert(cell) {
+        Ok(is_new) => Ok(is_new),
+        Err(_) => Err(AllocError),
+    }
+}
+
+/// Draws all marks of a kind, as one path: of those in one cell of the picture the first, so that its length has a bound.
 fn put_marks(
+    alloc: Global,
     text: &mut String,
     frame: &Frame,
     panel: &Panel,
@@ -191,12 +207,16 @@ fn put_marks(
 ) -> Result<(), AllocError> {
     let class = class_of(sign);
     write!(text, "<path class=\"{class}\" d=\"M0 0")?;
+    let mut drawn: BTreeSet<u64> = BTreeSet::new(alloc);
     let mut before = None;
     for mark in &panel.marks {
         if mark.sign == sign {
             let corner = frame.corner(mark);
-            put_mark(text, sign, before, corner)?;
-            before = Some(corner);
+            let cell = Some(cell_of(corner));
+            if cell != before && is_new_in(&mut drawn, cell_of(corner))? {
+                put_mark(text, sign, before.is_none(), corner)?;
+            }
+            before = cell;
         }
     }
     text.push_str("\"/>\n")
@@ -281,6 +301,7 @@ fn put_places(text: &mut String, frame: &Frame) -> Result<(), AllocError> {
 
 /// Draws a panel, its title above it.
 fn put_panel(
+    alloc: Global,
     text: &mut String,
     frame: &Frame,
     panel: &Panel,
@@ -305,13 +326,14 @@ fn put_panel(
         Sign::Again,
         Sign::Skipped,
     ] {
-        put_marks(text, frame, panel, sign)?;
+        put_marks(alloc, text, frame, panel, sign)?;
     }
     text.push_str("</g></g>\n")
 }
 
 /// Draws an association that has marks, from here down, and answers where the next one begins.
 fn put_plot(
+    alloc: Global,
     text: &mut String,
     number: usize,
     association: &Association,
@@ -339,7 +361,7 @@ fn put_plot(
             heights: heights_of(panel),
             is_timed: plot.is_timed,
         };
-        put_panel(text, &frame, panel, arrow, next)?;
+        put_panel(alloc, text, &frame, panel, arrow, next)?;
         next = next.saturating_add(PANEL_STEP);
     }
     Ok(next)
@@ -415,14 +437,19 @@ impl Take for Pictures {
         Ok(String::new(alloc))
     }
 
+    /// Checksums are not computed.
+    fn tests_checksums(&self) -> bool {
+        false
+    }
+
     /// The picture of each association, one below the other.
-    fn end(&self, alloc: Global, _counts: Counts) -> Result<String, AllocError> {
+    fn end(&mut self, alloc: Global, _counts: Counts) -> Result<String, AllocError> {
         let mut body = String::new(alloc);
         let mut y = 50u64;
         let mut at = 0usize;
         for plot in &self.plots {
             if let Some(association) = self.associations.items.get(at) {
-                y = put_plot(&mut body, at.saturating_add(1), association, plot, y)?;
+                y = put_plot(alloc, &mut body, at.saturating_add(1), association, plot, y)?;
             }
             at = at.saturating_add(1);
         }

@@ -309,8 +309,13 @@ impl Take for Sums {
         Ok(String::new(alloc))
     }
 
+    /// Checksums are not computed.
+    fn tests_checksums(&self) -> bool {
+        false
+    }
+
     /// Each association, and the last line.
-    fn end(&self, alloc: Global, counts: Counts) -> Result<String, AllocError> {
+    fn end(&mut self, alloc: Global, counts: Counts) -> Result<String, AllocError> {
         let start = self.associations.start;
         let style = Style {
             form: self.form,

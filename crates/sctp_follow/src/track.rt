@@ -7,9 +7,18 @@ use crate::associations::Associations;
 use crate::flow::{Extent, Flow};
 use crate::packet::Packet;
 use sctp_dissect::dissection::Dissection;
+use sctp_show::checksum::Sum;
 use sctp_show::follow::{ABSOLUTE, Bases, Follow, Known};
+use sctp_show::zero::ZeroTags;
 use std::alloc::{AllocError, Global};
 use std::net::IpAddr;
+
+/// What is known of a packet of no association that is kept.
+const UNKNOWN: Known = Known {
+    bases: ABSOLUTE,
+    is_repeated: false,
+    accepts_zero: false,
+};
 
 /// Follows the packets of a run by their associations. Its memory grows with the number of TSNs.
 #[derive(Drop)]
@@ -17,6 +26,7 @@ pub struct Tracker {
     associations: Associations,
     /// Whether TSNs are printed relative to those that they are counted from.
     is_relative: bool,
+    zero_tags: ZeroTags,
 }
 
 /// The TSN that those of a way are printed relative to, or 0, where none is known.
@@ -37,6 +47,7 @@ pub fn known_of(own: &Flow, other: &Flow, is_relative: bool) -> Known
         return Known {
             bases: ABSOLUTE,
             is_repeated: own.is_repeating,
+            accepts_zero: false,
         };
     }
     Known {
@@ -45,6 +56,7 @@ pub fn known_of(own: &Flow, other: &Flow, is_relative: bool) -> Known
             other: base_of(other),
         },
         is_repeated: own.is_repeating,
+        accepts_zero: false,
     }
 }
 
@@ -54,7 +66,26 @@ impl Tracker {
         Tracker {
             associations: Associations::new(alloc),
             is_relative,
+            zero_tags: ZeroTags::new(alloc),
         }
+    }
+
+    /// Notes a packet, and says what is known of it. One whose checksum is wrong is not noted (RFC 9260 6.8): it repeats no TSN.
+    fn known(&mut self, alloc: Global, packet: &Packet<'_>) -> Result<Option<Known>, AllocError> {
+        let place = if packet.is_wrong {
+            self.associations.find_packet(packet)
+        } else {
+            self.associations.note_packet(alloc, packet)?
+        };
+        let Some((at, way)) = place else {
+            return Ok(None);
+        };
+        let Some((own, other)) = self.associations.flows_at(at, way) else {
+            return Ok(None);
+        };
+        let mut known = known_of(own, other, self.is_relative);
+        known.is_repeated = known.is_repeated && !packet.is_wrong;
+        Ok(Some(known))
     }
 }
 
@@ -63,8 +94,12 @@ impl Follow for Tracker {
         &mut self,
         alloc: Global,
         seen: &Dissection,
+        sum: Sum,
         ends: Option<(IpAddr, IpAddr)>,
     ) -> Result<Known, AllocError> {
+        if sum == Sum::Crc32c {
+            self.zero_tags.note(alloc, seen)?;
+        }
         let packet = Packet {
             number: 0,
             seen,
@@ -75,18 +110,10 @@ impl Follow for Tracker {
                 is_cut: false,
             },
             missing: 0,
+            is_wrong: self.zero_tags.is_wrong(sum, seen),
         };
-        let place = self.associations.note_packet(alloc, &packet)?;
-        let unknown = Known {
-            bases: ABSOLUTE,
-            is_repeated: false,
-        };
-        let Some((at, way)) = place else {
-            return Ok(unknown);
-        };
-        match self.associations.flows_at(at, way) {
-            Some((own, other)) => Ok(known_of(own, other, self.is_relative)),
-            None => Ok(unknown),
-        }
+        let mut known = self.known(alloc, &packet)?.unwrap_or(UNKNOWN);
+        known.accepts_zero = self.zero_tags.accepts(&seen.header);
+        Ok(known)
     }
 }

@@ -2,6 +2,7 @@
 #![tactic(auto)]
 
 pub mod messages;
+pub mod pending;
 pub mod reading;
 pub mod text;
 pub mod way;

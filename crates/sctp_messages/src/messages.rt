@@ -1,7 +1,10 @@
 //! The messages of an input, as they can be read.
 
-use crate::text::{Moment, Style, put_held, put_missed, put_read, put_unread};
-use crate::way::{Outcome, WayReader};
+use crate::pending::{Acknowledged, Pending};
+use crate::text::{
+    Moment, Style, put_dropped, put_held, put_missed, put_read, put_unread, put_wrong_checksum,
+};
+use crate::way::{Arrived, Outcome, WayReader};
 use sctp_capture::record::Time;
 use sctp_chunks::chunk::chunk_kind::ChunkKind;
 use sctp_dissect::dissection::{Item, Reading};
@@ -20,13 +23,23 @@ const INIT: u8 = 1;
 
 const INIT_ACK: u8 = 2;
 
+/// What is read of one way of an association.
+#[derive(Drop)]
+struct Side {
+    reader: Option<WayReader>,
+    /// The SACKs of the other way that acknowledge what was not captured so far.
+    acknowledged: Acknowledged,
+}
+
 /// What is read of both ways of an association.
 #[derive(Drop)]
 struct Pair {
     /// Whether a line was printed that says which association it is.
     is_named: bool,
-    forth: Option<WayReader>,
-    back: Option<WayReader>,
+    /// How many packets of it came.
+    packets: u64,
+    forth: Side,
+    back: Side,
 }
 
 /// The messages of an input.
@@ -43,6 +56,8 @@ pub struct Messages {
     unread: u64,
     /// How often TSNs were acknowledged and not captured.
     missed: u64,
+    /// How many packets are not read, since their checksum is wrong.
+    wrong: u64,
 }
 
 /// What is read of a way to which chunks come, from its initial TSN on, if it was seen, or else from the first TSN.
@@ -52,59 +67,100 @@ fn reader_for(alloc: Global, flow: &Flow) -> Option<WayReader> {
     Some(WayReader::new(alloc, base, is_whole))
 }
 
-/// Gives a chunk to the reader of a way, or to a fresh one, where it has none.
-fn take_by(
-    alloc: Global,
-    reader: &mut Option<WayReader>,
-    fresh: Option<WayReader>,
-    item: &Item,
-) -> Result<Option<Outcome>, AllocError> {
-    if reader.is_none() {
-        *reader = fresh;
+/// When a message could be read: at this moment, or with its last fragment, where that came later.
+fn read_at(moment: &Moment, arrived: Arrived) -> Moment {
+    if arrived.number <= moment.number {
+        return *moment;
     }
-    match reader {
-        Some(reader) => Ok(Some(reader.take(alloc, item)?)),
-        None => Ok(None),
+    Moment {
+        number: arrived.number,
+        time: arrived.time,
+        ..*moment
     }
 }
 
-/// Tells the reader of a way what the other way acknowledges.
-fn sack_by(
-    alloc: Global,
-    reader: &mut Option<WayReader>,
-    tsn: u32,
-) -> Result<Option<Outcome>, AllocError> {
-    match reader {
-        Some(reader) => Ok(Some(reader.take_sack(alloc, tsn)?)),
-        None => Ok(None),
+impl Side {
+    /// Nothing came yet.
+    fn new(alloc: Global) -> Self {
+        Side {
+            reader: None,
+            acknowledged: Acknowledged::new(alloc),
+        }
+    }
+
+    /// Gives a chunk to the reader, or to a fresh one, where there is none.
+    fn take(
+        &mut self,
+        alloc: Global,
+        fresh: Option<WayReader>,
+        item: &Item,
+        arrived: Arrived,
+        is_new: bool,
+    ) -> Result<Option<Outcome>, AllocError> {
+        if self.reader.is_none() {
+            self.reader = fresh;
+        }
+        match &mut self.reader {
+            Some(reader) => Ok(Some(reader.take(alloc, item, arrived, is_new)?)),
+            None => Ok(None),
+        }
+    }
+
+    /// Keeps a SACK that acknowledges what was not captured so far, if anything is read of the way.
+    fn keep_sack(
+        &mut self,
+        tsn: u32,
+        moment: Moment,
+        is_shown: bool,
+        packets: u64,
+    ) -> Result<(), AllocError> {
+        match &self.reader {
+            Some(reader) if !reader.has_all(tsn) => {
+                self.acknowledged.keep(tsn, moment, is_shown, packets)
+            }
+            _ => Ok(()),
+        }
+    }
+
+    /// The first SACK that is kept, and is due behind so many packets, or whose TSNs all came: then it is forgotten.
+    fn due(&mut self, packets: u64) -> Option<Pending> {
+        let pending = self.acknowledged.first()?;
+        let is_met = match &self.reader {
+            Some(reader) => reader.has_all(pending.tsn),
+            None => true,
+        };
+        if !is_met && !pending.is_due(packets) {
+            return None;
+        }
+        self.acknowledged.forget();
+        Some(pending)
+    }
+
+    /// What a SACK gives that is waited for no longer.
+    fn pass(&mut self, alloc: Global, pending: &Pending) -> Result<Option<Outcome>, AllocError> {
+        match &mut self.reader {
+            Some(reader) => Ok(Some(reader.pass(alloc, pending.tsn)?)),
+            None => Ok(None),
+        }
     }
 }
 
 impl Pair {
-    /// Gives a chunk to the reader of its way, or to a fresh one.
-    fn take(
-        &mut self,
-        alloc: Global,
-        way: Way,
-        fresh: Option<WayReader>,
-        item: &Item,
-    ) -> Result<Option<Outcome>, AllocError> {
-        match way {
-            Way::Forth => take_by(alloc, &mut self.forth, fresh, item),
-            Way::Back => take_by(alloc, &mut self.back, fresh, item),
+    /// Nothing came yet.
+    fn new(alloc: Global) -> Self {
+        Pair {
+            is_named: false,
+            packets: 0,
+            forth: Side::new(alloc),
+            back: Side::new(alloc),
         }
     }
 
-    /// Tells the reader of a way what the other way acknowledges.
-    fn take_sack(
-        &mut self,
-        alloc: Global,
-        way: Way,
-        tsn: u32,
-    ) -> Result<Option<Outcome>, AllocError> {
+    /// What is read of a way.
+    fn side(&mut self, way: Way) -> &mut Side {
         match way {
-            Way::Forth => sack_by(alloc, &mut self.forth, tsn),
-            Way::Back => sack_by(alloc, &mut self.back, tsn),
+            Way::Forth => &mut self.forth,
+            Way::Back => &mut self.back,
         }
     }
 }
@@ -138,17 +194,14 @@ impl Messages {
             bytes: 0,
             unread: 0,
             missed: 0,
+            wrong: 0,
         }
     }
 
     /// Makes room for so many associations.
-    fn grow(&mut self, count: usize) -> Result<(), AllocError> {
+    fn grow(&mut self, alloc: Global, count: usize) -> Result<(), AllocError> {
         for _more in self.pairs.len()..count {
-            self.pairs.push(Pair {
-                is_named: false,
-                forth: None,
-                back: None,
-            })?;
+            self.pairs.push(Pair::new(alloc))?;
         }
         Ok(())
     }
@@ -170,17 +223,21 @@ impl Messages {
         }
     }
 
-    /// Tells the reader of a way what the other way acknowledges, if anything was read.
-    fn take_sack(
+    /// Keeps the SACK of the other way, if it acknowledges what was not captured so far.
+    fn keep_sack(
         &mut self,
-        alloc: Global,
         at: usize,
-        way: Way,
         tsn: u32,
-    ) -> Result<Option<Outcome>, AllocError> {
+        moment: &Moment,
+        is_shown: bool,
+    ) -> Result<(), AllocError> {
         match self.pairs.get_mut(at) {
-            Some(pair) => pair.take_sack(alloc, way, tsn),
-            None => Ok(None),
+            Some(pair) => {
+                let packets = pair.packets;
+                pair.side(moment.way)
+                    .keep_sack(tsn, *moment, is_shown, packets)
+            }
+            None => Ok(()),
         }
     }
 
@@ -191,15 +248,51 @@ impl Messages {
         at: usize,
         way: Way,
         item: &Item,
+        arrived: Arrived,
     ) -> Result<Option<Outcome>, AllocError> {
-        let fresh = match self.associations.flows_at(at, way) {
-            Some((own, _)) => reader_for(alloc, own),
-            None => None,
+        let (fresh, is_new) = match self.associations.flows_at(at, way) {
+            Some((own, _)) => (reader_for(alloc, own), !own.is_repeating),
+            None => (None, false),
         };
         match self.pairs.get_mut(at) {
-            Some(pair) => pair.take(alloc, way, fresh, item),
+            Some(pair) => pair.side(way).take(alloc, fresh, item, arrived, is_new),
             None => Ok(None),
         }
+    }
+
+    /// Appends the messages that were read, and counts them.
+    fn put_messages(
+        &mut self,
+        alloc: Global,
+        text: &mut String,
+        moment: &Moment,
+        outcome: &Outcome,
+    ) -> Result<(), AllocError> {
+        for message in &outcome.messages {
+            let moment = read_at(moment, message.origin.arrived);
+            let bytes = put_read(alloc, text, self.style, &moment, message)?;
+            self.messages = counted(self.messages, 1);
+            self.bytes = counted(self.bytes, bytes as u64);
+        }
+        Ok(())
+    }
+
+    /// Appends what a SACK that was waited for, or a FORWARD-TSN, gave, and counts it: what was not captured, and what is dropped.
+    fn put_passed(
+        &mut self,
+        text: &mut String,
+        moment: &Moment,
+        outcome: &Outcome,
+    ) -> Result<(), AllocError> {
+        if let Some(missed) = outcome.missed {
+            put_missed(text, self.style, moment, missed)?;
+            self.missed = counted(self.missed, 1);
+        }
+        let is_abandoned = outcome.missed.is_none();
+        for dropped in &outcome.dropped {
+            put_dropped(text, self.style, moment, *dropped, is_abandoned)?;
+        }
+        Ok(())
     }
 
     /// Appends what a chunk gave, and counts it.
@@ -211,18 +304,72 @@ impl Messages {
         item: &Item,
         outcome: &Outcome,
     ) -> Result<(), AllocError> {
-        for message in &outcome.messages {
-            let bytes = put_read(alloc, text, self.style, moment, message)?;
-            self.messages = counted(self.messages, 1);
-            self.bytes = counted(self.bytes, bytes as u64);
-        }
-        if let Some(missed) = outcome.missed {
-            put_missed(text, self.style, moment, missed)?;
-            self.missed = counted(self.missed, 1);
-        }
+        self.put_passed(text, moment, outcome)?;
+        self.put_messages(alloc, text, moment, outcome)?;
         if let Some(why) = outcome.unread {
             put_unread(text, self.style, moment, item, why)?;
             self.unread = counted(self.unread, 1);
+        }
+        Ok(())
+    }
+
+    /// Appends what a SACK gives that was waited for, where its packet is shown.
+    fn put_due(
+        &mut self,
+        alloc: Global,
+        text: &mut String,
+        at: usize,
+        pending: &Pending,
+    ) -> Result<(), AllocError> {
+        let outcome = match self.pairs.get_mut(at) {
+            Some(pair) => pair.side(pending.moment.way).pass(alloc, pending)?,
+            None => None,
+        };
+        let Some(outcome) = outcome else {
+            return Ok(());
+        };
+        if outcome.is_empty() {
+            return Ok(());
+        }
+        let mut lines = String::new(alloc);
+        if pending.is_shown {
+            self.put_name_once(&mut lines, at)?;
+        }
+        self.put_passed(&mut lines, &pending.moment, &outcome)?;
+        self.put_messages(alloc, &mut lines, &pending.moment, &outcome)?;
+        if pending.is_shown {
+            text.push_str(&lines)?;
+        }
+        Ok(())
+    }
+
+    /// How many SACKs of a way are kept.
+    fn kept(&mut self, at: usize, way: Way) -> usize {
+        match self.pairs.get_mut(at) {
+            Some(pair) => pair.side(way).acknowledged.len(),
+            None => 0,
+        }
+    }
+
+    /// The next SACK of a way that is waited for no longer behind so many packets of the association.
+    fn due(&mut self, at: usize, way: Way, packets: u64) -> Option<Pending> {
+        self.pairs.get_mut(at)?.side(way).due(packets)
+    }
+
+    /// Appends what the SACKs of a way give that are waited for no longer.
+    fn settle(
+        &mut self,
+        alloc: Global,
+        text: &mut String,
+        at: usize,
+        way: Way,
+        packets: u64,
+    ) -> Result<(), AllocError> {
+        for _kept in 0..self.kept(at, way) {
+            let Some(pending) = self.due(at, way, packets) else {
+                return Ok(());
+            };
+            self.put_due(alloc, text, at, &pending)?;
         }
         Ok(())
     }
@@ -249,24 +396,28 @@ impl Messages {
         way: Way,
         packet: &Packet<'_>,
         item: &Item,
+        is_shown: bool,
     ) -> Result<(), AllocError> {
-        let (way, outcome) = match &item.reading {
-            Reading::Strict(ChunkKind::SelectiveAck(sack)) => {
-                let other = way.other();
-                (
-                    other,
-                    self.take_sack(alloc, at, other, sack.cumulative_tsn_ack)?,
-                )
-            }
-            _ => (way, self.take_item(alloc, at, way, item)?),
+        if let Reading::Strict(ChunkKind::SelectiveAck(sack)) = &item.reading {
+            return match self.moment_of(at, way.other(), packet) {
+                Some(moment) => { self.keep_sack(at, sack.cumulative_tsn_ack, &moment, is_shown) }
+                None => Ok(()),
+            };
+        }
+        let arrived = Arrived {
+            number: packet.number,
+            time: packet.time,
         };
+        let outcome = self.take_item(alloc, at, way, item, arrived)?;
         let (Some(outcome), Some(moment)) = (outcome, self.moment_of(at, way, packet)) else {
             return Ok(());
         };
         if outcome.is_empty() {
             return Ok(());
         }
-        self.put_name_once(text, at)?;
+        if is_shown {
+            self.put_name_once(text, at)?;
+        }
         self.put_outcome(alloc, text, &moment, item, &outcome)
     }
 
@@ -277,11 +428,60 @@ impl Messages {
         at: usize,
         way: Way,
         packet: &Packet<'_>,
+        is_shown: bool,
     ) -> Result<String, AllocError> {
         let mut text = String::new(alloc);
-        self.grow(at.saturating_add(1))?;
         for item in &packet.seen.items {
-            self.take_chunk(alloc, &mut text, at, way, packet, item)?;
+            self.take_chunk(alloc, &mut text, at, way, packet, item, is_shown)?;
+        }
+        if is_shown {
+            return Ok(text);
+        }
+        Ok(String::new(alloc))
+    }
+
+    /// Counts a packet of an association, and answers how many of it there are.
+    fn count_packet(&mut self, alloc: Global, at: usize) -> Result<u64, AllocError> {
+        self.grow(alloc, at.saturating_add(1))?;
+        match self.pairs.get_mut(at) {
+            Some(pair) => {
+                pair.packets = counted(pair.packets, 1);
+                Ok(pair.packets)
+            }
+            None => Ok(0),
+        }
+    }
+
+    /// Takes a packet of an association: first the SACKs are waited for no longer that are due, and then it is read.
+    fn take_packet(
+        &mut self,
+        alloc: Global,
+        at: usize,
+        way: Way,
+        packet: &Packet<'_>,
+        is_shown: bool,
+    ) -> Result<String, AllocError> {
+        let packets = self.count_packet(alloc, at)?;
+        let mut text = String::new(alloc);
+        self.settle(alloc, &mut text, at, Way::Forth, packets)?;
+        self.settle(alloc, &mut text, at, Way::Back, packets)?;
+        let read = self.take_chunks(alloc, at, way, packet, is_shown)?;
+        text.push_str(&read)?;
+        Ok(text)
+    }
+
+    /// What is written of a packet whose checksum is wrong: it is not read (RFC 9260 6.8).
+    fn pass_wrong(
+        &mut self,
+        alloc: Global,
+        packet: &Packet<'_>,
+        is_shown: bool,
+    ) -> Result<String, AllocError> {
+        let mut text = String::new(alloc);
+        self.wrong = counted(self.wrong, 1);
+        if is_shown {
+            let start = self.associations.start;
+            put_wrong_checksum(&mut text, self.style, packet.number, &packet.time, &start)?;
         }
         Ok(text)
     }
@@ -291,26 +491,42 @@ impl Messages {
         let (records, packets) = (counts.records, counts.shown);
         let (kept, others) = (self.associations.items.len(), self.associations.others);
         let (messages, bytes) = (self.messages, self.bytes);
-        let (unread, missed) = (self.unread, self.missed);
+        let (unread, missed, wrong) = (self.unread, self.missed, self.wrong);
         match self.style.form {
             Form::Text => write!(
                 text,
-                "{records} records: {packets} packets of {kept} associations, {others} of none; {messages} messages of {bytes} bytes, {unread} chunks not read, {missed} gaps in the capture\n"
-            ),
+                "{records} records: {packets} packets of {kept} associations, {others} of none; {messages} messages of {bytes} bytes, {unread} chunks not read, {missed} gaps in the capture"
+            )?,
             Form::Json => write!(
                 text,
-                "{{\"records\":{records},\"packets\":{packets},\"associations\":{kept},\"others\":{others},\"messages\":{messages},\"bytes\":{bytes},\"not_read\":{unread},\"gaps\":{missed}}}\n"
-            ),
+                "{{\"records\":{records},\"packets\":{packets},\"associations\":{kept},\"others\":{others},\"messages\":{messages},\"bytes\":{bytes},\"not_read\":{unread},\"gaps\":{missed},\"wrong_checksums\":{wrong}}}"
+            )?,
         }
+        if self.style.form == Form::Text && wrong > 0 {
+            write!(text, ", {wrong} wrong checksums (--no-checksum reads them)")?;
+        }
+        text.push_str("\n")
     }
 
     /// What is held of both ways and was not read.
     fn put_pair(&self, text: &mut String, number: usize, pair: &Pair) -> Result<(), AllocError> {
-        if let Some(reader) = &pair.forth {
+        if let Some(reader) = &pair.forth.reader {
             put_held(text, self.style.form, number, Way::Forth, reader)?;
         }
-        if let Some(reader) = &pair.back {
+        if let Some(reader) = &pair.back.reader {
             put_held(text, self.style.form, number, Way::Back, reader)?;
+        }
+        Ok(())
+    }
+}
+
+impl Messages {
+    /// What is held of each association and was not read.
+    fn put_each(&self, text: &mut String) -> Result<(), AllocError> {
+        let mut number = 1usize;
+        for pair in &self.pairs {
+            self.put_pair(text, number, pair)?;
+            number = number.saturating_add(1);
         }
         Ok(())
     }
@@ -328,24 +544,28 @@ impl Take for Messages {
         packet: &Packet<'_>,
         is_shown: bool,
     ) -> Result<String, AllocError> {
+        if packet.is_wrong {
+            return self.pass_wrong(alloc, packet, is_shown);
+        }
         let Some((at, way)) = self.associations.note_packet(alloc, packet)? else {
             return Ok(String::new(alloc));
         };
-        let text = self.take_chunks(alloc, at, way, packet)?;
-        if is_shown {
-            return Ok(text);
-        }
-        Ok(String::new(alloc))
+        self.take_packet(alloc, at, way, packet, is_shown)
+    }
+
+    /// Whether checksums are tested: packets are read.
+    fn tests_checksums(&self) -> bool {
+        true
     }
 
     /// What was not read, and the last line.
-    fn end(&self, alloc: Global, counts: Counts) -> Result<String, AllocError> {
+    fn end(&mut self, alloc: Global, counts: Counts) -> Result<String, AllocError> {
         let mut text = String::new(alloc);
-        let mut number = 1usize;
-        for pair in &self.pairs {
-            self.put_pair(&mut text, number, pair)?;
-            number = number.saturating_add(1);
+        for at in 0..self.pairs.len() {
+            self.settle(alloc, &mut text, at, Way::Forth, u64::MAX)?;
+            self.settle(alloc, &mut text, at, Way::Back, u64::MAX)?;
         }
+        self.put_each(&mut text)?;
         self.put_counts(&mut text, counts)?;
         Ok(text)
     }

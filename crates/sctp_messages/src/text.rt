@@ -1,7 +1,7 @@
 //! A message as it is printed, as text or as JSON.
 
 use crate::reading::bytes_of;
-use crate::way::{Message, Missed, Unread, WayReader};
+use crate::way::{Dropped, Message, Missed, Unread, WayReader};
 use itoa::Buffer;
 use sctp_capture::record::Time;
 use sctp_dissect::dissection::Item;
@@ -40,8 +40,13 @@ pub struct Moment {
 }
 
 /// When a packet was captured.
-fn put_when(text: &mut String, style: Style, moment: &Moment) -> Result<(), AllocError> {
-    match (style.form, &moment.start, &moment.time) {
+fn put_when(
+    text: &mut String,
+    style: Style,
+    start: &Option<Time>,
+    time: &Option<Time>,
+) -> Result<(), AllocError> {
+    match (style.form, start, time) {
         (Form::Text, _, None) => text.push_str(" -"),
         (Form::Text, Some(start), Some(time)) if !style.is_absolute => {
             let elapsed = time_since(start, time);
@@ -72,7 +77,7 @@ fn put_lead(text: &mut String, style: Style, moment: &Moment) -> Result<(), Allo
         Form::Text => write!(text, "{number}")?,
         Form::Json => write!(text, "{{\"record\":{number}")?,
     }
-    put_when(text, style, moment)?;
+    put_when(text, style, &moment.start, &moment.time)?;
     text.push_str(if style.form == Form::Text { " " } else { "," })?;
     put_way(text, style.form, moment.association, moment.way)
 }
@@ -210,6 +215,8 @@ fn put_why(text: &mut String, why: Unread) -> Result<(), AllocError> {
         Unread::NoBeginning => text.push_str("beginning not captured"),
         Unread::Interleaved => text.push_str("I-DATA"),
         Unread::Malformed => text.push_str("malformed"),
+        Unread::NoUserData => text.push_str("no user data (RFC 9260 6.2)"),
+        Unread::Late => text.push_str("captured after its TSN was passed"),
     }
 }
 
@@ -256,6 +263,51 @@ pub fn put_missed(
         acknowledged,
     )?;
     text.push_str("\n")
+}
+
+/// Appends that so much was dropped of a stream: with a FORWARD-TSN, or because the rest was not captured.
+pub fn put_dropped(
+    text: &mut String,
+    style: Style,
+    moment: &Moment,
+    dropped: Dropped,
+    is_abandoned: bool,
+) -> Result<(), AllocError> {
+    put_lead(text, style, moment)?;
+    let (stream, chunks, bytes) = (dropped.stream, dropped.chunks, dropped.bytes);
+    match (style.form, is_abandoned) {
+        (Form::Text, true) => write!(
+            text,
+            " s{stream} abandoned by FORWARD-TSN: {chunks} chunks, {bytes} bytes\n"
+        ),
+        (Form::Text, false) => write!(
+            text,
+            " s{stream} not complete: {chunks} chunks, {bytes} bytes\n"
+        ),
+        (Form::Json, _) => write!(
+            text,
+            ",\"stream\":{stream},\"abandoned\":{is_abandoned},\"dropped_chunks\":{chunks},\"dropped_bytes\":{bytes}}}\n"
+        ),
+    }
+}
+
+/// Appends that a packet is not read, since its checksum is wrong.
+pub fn put_wrong_checksum(
+    text: &mut String,
+    style: Style,
+    number: u64,
+    time: &Option<Time>,
+    start: &Option<Time>,
+) -> Result<(), AllocError> {
+    match style.form {
+        Form::Text => write!(text, "{number}")?,
+        Form::Json => write!(text, "{{\"record\":{number}")?,
+    }
+    put_when(text, style, start, time)?;
+    match style.form {
+        Form::Text => text.push_str(" not read: wrong checksum\n"),
+        Form::Json => text.push_str(",\"not_read\":\"wrong checksum\"}\n"),
+    }
 }
 
 /// Appends what is held of one way and was not read, stream by stream.

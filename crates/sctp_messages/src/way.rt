@@ -1,6 +1,7 @@
 //! The messages that go one way in an association.
 
 use crate::reading::{read_all, take_chunk};
+use sctp_capture::record::Time;
 use sctp_chunks::chunk::chunk_kind::ChunkKind;
 use sctp_chunks::chunk::chunk_reconfig::ChunkReconfig;
 use sctp_data::chunk::chunk_forward_tsn::{ChunkForwardTsn, ChunkForwardTsnStream};
@@ -15,19 +16,27 @@ use sctp_receiver::receiver::arrival::Arrival;
 use sctp_receiver::receiver::refusal::ReceiverRefusal;
 use sctp_show::filter::is_data;
 use sctp_util::field::{read_u16, read_u32};
-use sctp_util::util::sna32lt;
+use sctp_util::util::{sna16lt, sna16lte, sna32lt, sna32lte};
 use std::alloc::{AllocError, Global};
 use std::collections::BTreeMap;
 
 /// The type of I-DATA (RFC 8260 2.1).
 const I_DATA: u8 = 64;
 
-/// What the first fragment of a message says.
+/// With which record a chunk came, and when.
+#[derive(Clone, Copy)]
+pub struct Arrived {
+    pub number: u64,
+    pub time: Option<Time>,
+}
+
+/// What a fragment of a message says, and with which record it came.
 #[derive(Clone, Copy)]
 pub struct Origin {
     /// The payload protocol identifier, whichever number it is.
     pub identifier: u32,
     pub sequence: u16,
+    pub arrived: Arrived,
 }
 
 /// A message that a receiver read.
@@ -35,6 +44,7 @@ pub struct Origin {
 pub struct Message {
     pub stream: u16,
     pub chunks: Chunks,
+    /// What its first fragment says, and with which record the last one of them came.
     pub origin: Origin,
 }
 
@@ -51,6 +61,18 @@ pub enum Unread {
     Interleaved,
     /// It is refused by the reader of packets.
     Malformed,
+    /// It has no user data, which breaks the protocol (RFC 9260 6.2).
+    NoUserData,
+    /// It was captured behind what passed its TSN: a FORWARD-TSN, or a SACK that acknowledges it.
+    Late,
+}
+
+/// What was held of a stream, and is dropped with a FORWARD-TSN, or where the rest of it was not captured.
+#[derive(Clone, Copy, Debug, PartialEq, Eq)]
+pub struct Dropped {
+    pub stream: u16,
+    pub chunks: usize,
+    pub bytes: usize,
 }
 
 /// What a chunk gave.
@@ -62,6 +84,8 @@ pub struct Outcome {
     pub unread: Option<Unread>,
     /// What a SACK acknowledges that was not captured, if there is any.
     pub missed: Option<Missed>,
+    /// What is dropped that was held, stream by stream.
+    pub dropped: Vec<Dropped>,
 }
 
 /// TSNs that came to the other end, as a SACK says, and were not captured: the first one of them, and the last that the SACK acknowledges.
@@ -81,10 +105,24 @@ pub struct WayReader {
     is_whole: bool,
     /// The number that the messages of each stream are counted from, which the receiver has as 0.
     firsts: BTreeMap<u16, u16>,
-    /// What the first fragments of messages say that are not read yet, by TSN.
+    /// What the fragments of messages say that are not read yet, by TSN.
     origins: BTreeMap<u32, Origin>,
     /// The number of the last request to reset streams that was followed.
     reset: Option<u32>,
+}
+
+/// What the fragments of a message say, one more of which is this: the first one, but with the later record.
+fn joined(origin: Option<Origin>, of: Origin) -> Origin {
+    let Some(first) = origin else {
+        return of;
+    };
+    if of.arrived.number > first.arrived.number {
+        return Origin {
+            arrived: of.arrived,
+            ..first
+        };
+    }
+    first
 }
 
 /// No memory, whatever else a call refuses.
@@ -99,6 +137,7 @@ impl Outcome {
             messages: Vec::new(alloc),
             unread: None,
             missed: None,
+            dropped: Vec::new(alloc),
         }
     }
 
@@ -108,12 +147,16 @@ impl Outcome {
             messages: Vec::new(alloc),
             unread: Some(why),
             missed: None,
+            dropped: Vec::new(alloc),
         }
     }
 
     /// Whether there is nothing to be printed.
     pub fn is_empty(&self) -> bool {
-        self.messages.is_empty() && self.unread.is_none() && self.missed.is_none()
+        self.messages.is_empty()
+            && self.unread.is_none()
+            && self.missed.is_none()
+            && self.dropped.is_empty()
     }
 }
 
@@ -178,27 +221,46 @@ impl WayReader {
         counted_from(chunk, first)
     }
 
-    /// The number that messages of the chunk's stream are counted from, which it may change: where all TSNs before the chunk's have come, and
-    /// nothing of the stream is held, the next message that can be read is this one. It is another than the receiver waits for where
-    /// messages between were not captured.
+    /// The number that messages of the chunk's stream are counted from, which it may change where nothing of the stream is held. Where all
+    /// TSNs before the chunk's have come, the next message that can be read is this one: it is another than the receiver waits for where
+    /// messages between were not captured. Where the chunk is new and its number was passed, this one is next too: some stacks name in a
+    /// FORWARD-TSN the number that an unordered message has, which is that of the next ordered one.
     fn moved(&self, chunk: &ChunkPayloadData, number: u16, first: u16) -> u16 {
-        if chunk.tsn != self.receiver.cumulative_tsn().wrapping_add(1) {
+        let Some(queue) = self.receiver.reassembly(chunk.stream_identifier) else {
+            return first;
+        };
+        if !queue.ordered().is_empty() {
             return first;
         }
-        match self.receiver.reassembly(chunk.stream_identifier) {
-            Some(queue) if queue.ordered().is_empty() => number.wrapping_sub(queue.next_ssn()),
-            _ => first,
+        if chunk.tsn == self.receiver.cumulative_tsn().wrapping_add(1) {
+            return number.wrapping_sub(queue.next_ssn());
         }
+        let received = chunk.stream_sequence_number.wrapping_sub(first);
+        if sna16lt(received, queue.next_ssn()) && !self.has_come(chunk.tsn) {
+            return chunk.stream_sequence_number.wrapping_sub(queue.next_ssn());
+        }
+        first
     }
 
-    /// Keeps what the first fragment of a message says.
-    fn note_origin(&mut self, chunk: &ChunkPayloadData, bytes: &[u8]) -> Result<(), AllocError> {
-        if !chunk.beginning_fragment || bytes.len() < 16 {
+    /// Whether a TSN came, or was passed.
+    fn has_come(&self, tsn: u32) -> bool {
+        sna32lte(tsn, self.receiver.cumulative_tsn()) || self.receiver.filter().get(tsn).is_some()
+    }
+
+    /// Keeps what a fragment of a message says, and with which record it came.
+    fn note_origin(
+        &mut self,
+        chunk: &ChunkPayloadData,
+        bytes: &[u8],
+        arrived: Arrived,
+    ) -> Result<(), AllocError> {
+        if bytes.len() < 16 {
             return Ok(());
         }
         let origin = Origin {
             identifier: read_u32(bytes, 12),
             sequence: read_u16(bytes, 10),
+            arrived,
         };
         match self.origins.insert(chunk.tsn, origin) {
             Ok(_) => Ok(()),
@@ -206,19 +268,29 @@ impl WayReader {
         }
     }
 
-    /// A message that the receiver read, with what its first fragment said.
-    fn message_of(&mut self, stream: u16, chunks: Chunks) -> Message {
-        let tsn = match chunks.fragments().first() {
-            Some(fragment) => fragment.tsn,
-            None => 0,
-        };
-        let unknown = Origin {
+    /// What the first fragment of a message says, and with which record the last one of them came, which is forgotten.
+    fn origin_of(&mut self, chunks: &Chunks) -> Origin {
+        let mut origin = None;
+        for fragment in chunks.fragments() {
+            if let Some(of) = self.origins.remove(&fragment.tsn) {
+                origin = Some(joined(origin, of));
+            }
+        }
+        origin.unwrap_or(Origin {
             identifier: 0,
             sequence: chunks.ssn(),
-        };
+            arrived: Arrived {
+                number: 0,
+                time: None,
+            },
+        })
+    }
+
+    /// A message that the receiver read, with what its fragments said.
+    fn message_of(&mut self, stream: u16, chunks: Chunks) -> Message {
         Message {
             stream,
-            origin: self.origins.remove(&tsn).unwrap_or(unknown),
+            origin: self.origin_of(&chunks),
             chunks,
         }
     }
@@ -267,15 +339,51 @@ impl WayReader {
         Ok(Outcome::unread(alloc, Unread::Refused(refusal)))
     }
 
+    /// Whether a TSN lies before the first one that was seen, where that is not the initial one.
+    fn is_early(&self, tsn: u32) -> bool {
+        !self.is_whole && sna32lt(tsn, self.first_tsn)
+    }
+
+    /// What becomes of DATA or I-DATA that is not read: its TSN came all the same, so that no SACK tells of a gap there.
+    fn pass_unread(&mut self, alloc: Global, tsn: u32, why: Unread) -> Result<Outcome, AllocError> {
+        if self.is_early(tsn) {
+            return Ok(Outcome::unread(alloc, why));
+        }
+        match self.receiver.discard(tsn) {
+            Ok(Arrival::Repeat) => self.receiver.sack_sent(),
+            Ok(Arrival::New { .. }) => {}
+            Err(ReceiverRefusal::OutOfMemory) => return Err(AllocError),
+            Err(_) => {}
+        }
+        Ok(Outcome::unread(alloc, why))
+    }
+
+    /// Takes a chunk that the reader of packets refuses.
+    fn take_raw(&mut self, alloc: Global, bytes: &[u8]) -> Result<Outcome, AllocError> {
+        if !is_data(bytes) {
+            return Ok(Outcome::none(alloc));
+        }
+        let why = match bytes.first() {
+            Some(&I_DATA) => Unread::Interleaved,
+            _ => Unread::Malformed,
+        };
+        self.pass_unread(alloc, read_u32(bytes, 4), why)
+    }
+
     /// Takes a DATA chunk, of which these are the bytes.
     fn take_data(
         &mut self,
         alloc: Global,
         chunk: &ChunkPayloadData,
         bytes: &[u8],
+        arrived: Arrived,
+        is_new: bool,
     ) -> Result<Outcome, AllocError> {
-        if !self.is_whole && sna32lt(chunk.tsn, self.first_tsn) {
+        if self.is_early(chunk.tsn) {
             return Ok(Outcome::unread(alloc, Unread::Early));
+        }
+        if chunk.user_data.is_empty() {
+            return self.pass_unread(alloc, chunk.tsn, Unread::NoUserData);
         }
         let received = self.as_received(chunk)?;
         let mut messages = Vec::new(alloc);
@@ -288,12 +396,45 @@ impl WayReader {
         }
         if taken.arrival == Arrival::Repeat {
             self.receiver.sack_sent();
-        } else {
-            self.note_origin(chunk, bytes)?;
+            return Ok(repeated(alloc, is_new));
         }
+        self.note_origin(chunk, bytes, arrived)?;
         let mut outcome = Outcome::none(alloc);
         self.add_each(&mut outcome, chunk.stream_identifier, messages)?;
         Ok(outcome)
+    }
+
+    /// The last number that a FORWARD-TSN passes on a stream of which it names this one: none of a message that is held with all its TSNs
+    /// behind the new cumulative one, which the sender has not abandoned (RFC 3758 3.5).
+    fn last_passed(&self, stream: u16, named: u16, tsn: u32) -> u16 {
+        match self.receiver.reassembly(stream) {
+            Some(queue) => last_before(queue, named, tsn),
+            None => named,
+        }
+    }
+
+    /// How much is held of each open stream.
+    fn held(&self, alloc: Global) -> Result<Vec<Dropped>, AllocError> {
+        let mut held = Vec::new(alloc);
+        for inbound in self.receiver.open_streams() {
+            held.push(held_of(&inbound.queue))?;
+        }
+        Ok(held)
+    }
+
+    /// Adds how much less is held of each open stream than before.
+    fn add_dropped(&self, outcome: &mut Outcome, before: &[Dropped]) -> Result<(), AllocError> {
+        for (inbound, was) in self.receiver.open_streams().iter().zip(before.iter()) {
+            let is = held_of(&inbound.queue);
+            if is.chunks < was.chunks {
+                outcome.dropped.push(Dropped {
+                    stream: was.stream,
+                    chunks: was.chunks.saturating_sub(is.chunks),
+                    bytes: was.bytes.saturating_sub(is.bytes),
+                })?;
+            }
+        }
+        Ok(())
     }
 
     /// A FORWARD-TSN as the receiver is to have it.
@@ -306,9 +447,10 @@ impl WayReader {
         for name in &chunk.streams {
             self.open(name.identifier)?;
             let first = self.first_of(name.identifier, name.sequence.wrapping_add(1))?;
+            let named = name.sequence.wrapping_sub(first);
             streams.push(ChunkForwardTsnStream {
                 identifier: name.identifier,
-                sequence: name.sequence.wrapping_sub(first),
+                sequence: self.last_passed(name.identifier, named, chunk.new_cumulative_tsn),
             })?;
         }
         Ok(ChunkForwardTsn {
@@ -324,10 +466,12 @@ impl WayReader {
         chunk: &ChunkForwardTsn,
     ) -> Result<Outcome, AllocError> {
         let received = self.forward_received(alloc, chunk)?;
+        let held = self.held(alloc)?;
         if let Err(refusal) = self.receiver.forward_tsn_past_closed(&received) {
             return Ok(Outcome::unread(alloc, Unread::Refused(refusal)));
         }
         let mut outcome = Outcome::none(alloc);
+        self.add_dropped(&mut outcome, &held)?;
         self.add_readable(alloc, &mut outcome)?;
         Ok(outcome)
     }
@@ -349,21 +493,40 @@ impl WayReader {
         })
     }
 
-    /// Takes the cumulative TSN of a SACK. What it acknowledges and was not captured will not come: it is passed, as by a FORWARD-TSN.
-    pub fn take_sack(&mut self, alloc: Global, tsn: u32) -> Result<Outcome, AllocError> {
+    /// The last TSN up to this one that did not come, where one did not.
+    fn last_missing(&self, acknowledged: u32) -> u32 {
+        let mut tsn = acknowledged;
+        for _come in 0..self.receiver.filter().len() {
+            if self.receiver.filter().get(tsn).is_none() {
+                return tsn;
+            }
+            tsn = tsn.wrapping_sub(1);
+        }
+        tsn
+    }
+
+    /// Whether all TSNs up to this one came, or were passed.
+    pub fn has_all(&self, tsn: u32) -> bool {
+        !sna32lt(self.receiver.cumulative_tsn(), tsn)
+    }
+
+    /// Passes what a SACK acknowledges up to this TSN, and was not captured: it will not come, as with a FORWARD-TSN.
+    pub fn pass(&mut self, alloc: Global, acknowledged: u32) -> Result<Outcome, AllocError> {
         let stood = self.receiver.cumulative_tsn();
         let mut outcome = Outcome::none(alloc);
-        if !sna32lt(stood, tsn) {
+        if !sna32lt(stood, acknowledged) {
             return Ok(outcome);
         }
-        let passed = self.passed_by(alloc, tsn)?;
+        let passed = self.passed_by(alloc, self.last_missing(acknowledged))?;
+        let held = self.held(alloc)?;
         if let Err(refusal) = self.receiver.forward_tsn_past_closed(&passed) {
             return Ok(Outcome::unread(alloc, Unread::Refused(refusal)));
         }
         outcome.missed = Some(Missed {
             first: stood.wrapping_add(1),
-            acknowledged: tsn,
+            acknowledged,
         });
+        self.add_dropped(&mut outcome, &held)?;
         self.add_readable(alloc, &mut outcome)?;
         Ok(outcome)
     }
@@ -434,15 +597,24 @@ impl WayReader {
         Ok(outcome)
     }
 
-    /// Takes a chunk of a packet: DATA, FORWARD-TSN, and what resets streams. Of others nothing is read. Refuses only for memory.
-    pub fn take(&mut self, alloc: Global, item: &Item) -> Result<Outcome, AllocError> {
+    /// Takes a chunk of a packet of a record: DATA, FORWARD-TSN, and what resets streams. Of others nothing is read. The packet has a TSN
+    /// that came before, or is new. Refuses only for memory.
+    pub fn take(
+        &mut self,
+        alloc: Global,
+        item: &Item,
+        arrived: Arrived,
+        is_new: bool,
+    ) -> Result<Outcome, AllocError> {
         let bytes = item.bytes.as_slice();
         match &item.reading {
-            Reading::Strict(ChunkKind::PayloadData(chunk)) => self.take_data(alloc, chunk, bytes),
+            Reading::Strict(ChunkKind::PayloadData(chunk)) => {
+                self.take_data(alloc, chunk, bytes, arrived, is_new)
+            }
             Reading::Strict(ChunkKind::ForwardTsn(chunk)) => self.take_forward(alloc, chunk),
             Reading::Strict(ChunkKind::Reconfig(chunk)) => self.take_reconfig(alloc, chunk),
             Reading::Strict(_) => Ok(Outcome::none(alloc)),
-            Reading::Raw(_) => Ok(unread_raw(alloc, bytes)),
+            Reading::Raw(_) => self.take_raw(alloc, bytes),
         }
     }
 }
@@ -461,11 +633,33 @@ fn last_begun(queue: &ReassemblyQueue, tsn: u32) -> Option<u16> {
     number
 }
 
-/// What a chunk gives that the reader of packets refuses.
-fn unread_raw(alloc: Global, bytes: &[u8]) -> Outcome {
-    match bytes.first() {
-        Some(&I_DATA) => Outcome::unread(alloc, Unread::Interleaved),
-        _ if is_data(bytes) => Outcome::unread(alloc, Unread::Malformed),
-        _ => Outcome::none(alloc),
+/// The last number up to a named one that comes before each message that is held with all its TSNs behind this one.
+fn last_before(queue: &ReassemblyQueue, named: u16, tsn: u32) -> u16 {
+    let mut number = named;
+    for set in queue.ordered() {
+        if let Some(first) = set.fragments().first()
+            && sna32lt(tsn, first.tsn)
+            && sna16lte(set.ssn(), number)
+        {
+            number = set.ssn().wrapping_sub(1);
+        }
     }
+    number
+}
+
+/// How much a queue holds.
+fn held_of(queue: &ReassemblyQueue) -> Dropped {
+    Dropped {
+        stream: queue.si(),
+        chunks: queue.chunk_count(),
+        bytes: queue.get_num_bytes(),
+    }
+}
+
+/// What a chunk gives whose TSN came before, or was passed: in a packet that has no TSN which was captured before it was passed.
+fn repeated(alloc: Global, is_new: bool) -> Outcome {
+    if is_new {
+        return Outcome::unread(alloc, Unread::Late);
+    }
+    Outcome::none(alloc)
 }

@@ -4,16 +4,25 @@ use Rattle.sctp_capture.specs.declared.record.Record.{Record}
 use Rattle.sctp_capture.specs.declared.record.Fault.{Fault}
 use Rattle.sctp_show.specs.declared.text.Options.{Options}
 use Rattle.sctp_dissect.specs.declared.dissection.Dissection.{Dissection}
-use Rattle.sctp_show.specs.Sum.{sum_of, sum_for}
+use Rattle.std.specs.Prelude.{Bool}
+use Rattle.sctp_show.specs.Sum.{sum_of, sum_for, is_wrong}
 use Rattle.sctp_show.specs.Filter.{passes}
 use Rattle.sctp_show.specs.Text.{Holds, IsSeen, IsPacketText, IsText, IsFrameText, numbered_text, fault_line}
 
 pub packet_is : {T E : Type 0} (bytes_of : T → List ℕ) (result : Result T E) (o : Options) (number : ℕ) (datagram : List ℕ) (missing : ℕ) (seen : Dissection)
-    → IsSeen (sum_of (sum_for o.sum missing)) datagram seen
-    → IfOk result (λ t. passes o.filter seen ≡ true → (shown : List ℕ) × (bytes_of t ≡ numbered_text o.form number shown))
-    → IfOk result (λ t. passes o.filter seen ≡ false → bytes_of t ≡ []) → IfOk result (λ t. IsPacketText o number datagram missing (bytes_of t))
-packet_is bytes_of (Ok t) o number datagram missing seen is shown hidden = record { seen = seen; is_seen = is; shown = shown; hidden = hidden }
-packet_is bytes_of (Err e) o number datagram missing seen is shown hidden = tt
+    (zero : Bool) → IsSeen (sum_of (sum_for o.sum missing)) datagram seen
+    → IfOk result (λ t. passes o.filter (is_wrong (sum_for o.sum missing) zero seen.header) seen ≡ true
+    → (shown : List ℕ) × (bytes_of t ≡ numbered_text o.form number shown))
+    → IfOk result (λ t. passes o.filter (is_wrong (sum_for o.sum missing) zero seen.header) seen ≡ false → bytes_of t ≡ [])
+    → IfOk result (λ t. IsPacketText o number datagram missing (bytes_of t))
+packet_is bytes_of (Ok t) o number datagram missing seen zero is shown hidden = record {
+  seen = seen;
+  is_seen = is;
+  accepts_zero = zero;
+  shown = shown;
+  hidden = hidden;
+}
+packet_is bytes_of (Err e) o number datagram missing seen zero is shown hidden = tt
 
 pub frame_some : {T E : Type 0} (bytes_of : T → List ℕ) (result : Result T E) (o : Options) (number link_type : ℕ) (frame datagram : List ℕ) (missing : ℕ)
     → Holds link_type o.port frame datagram missing → IfOk result (λ t. IsPacketText o number datagram missing (bytes_of t))

@@ -84,15 +84,17 @@ is_raw (Raw r) = true
 abbrev pub is_refused : Dissection → Bool
 is_refused d = is_some d.fault || list_any (λ item. is_raw item.reading) d.items.items
 
--- A packet passes where its header is asked for, one of its chunks meets all that is asked of a chunk, and it is refused, if only those are asked for.
-abbrev pub passes : Filter → Dissection → Bool
-passes f d =
+-- A packet, whose checksum is wrong or not, passes where its header is asked for, one of its chunks meets all that is asked of a chunk, it is
+-- refused, if only those are asked for, and its checksum is wrong, if only those are.
+abbrev pub passes : Filter → Bool → Dissection → Bool
+passes f is_wrong d =
     has_asked_header f d.header
     && (asks_no_chunk f || list_any (meets f) d.items.items)
     && (not f.only_refused || is_refused d)
+    && (not f.only_wrong || is_wrong)
 
 -- Any packet passes. Only then is a record shown that has no packet.
 abbrev pub asks_nothing : Filter → Bool
 asks_nothing f =
     (length f.ports.items == 0) && (length f.tags.items == 0) && asks_no_chunk f
-    && not f.only_refused
+    && not f.only_refused && not f.only_wrong

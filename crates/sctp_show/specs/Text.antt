@@ -1,5 +1,5 @@
 -- What is written for records.
-use Rattle.std.specs.Prelude.{◌≡◌, ◌≢◌, ℕ, ◌+◌, ◌≤◌, ◌<◌, ◌⊎◌, true, false, if◌then◌else◌, List, [], ◌∷◌, ◌++◌, length, drop, codes, decimal, MatchResult}
+use Rattle.std.specs.Prelude.{◌≡◌, ◌≢◌, ℕ, Bool, ◌+◌, ◌≤◌, ◌<◌, ◌⊎◌, true, false, if◌then◌else◌, List, [], ◌∷◌, ◌++◌, length, drop, codes, decimal, MatchResult}
 use Rattle.std.specs.Prelude.{IsSomeAnd}
 use Rattle.sctp_util.specs.Walk.{Walks}
 use Rattle.sctp_packets.specs.Packet.{after}
@@ -12,7 +12,7 @@ use Rattle.sctp_capture.specs.Exported.{IsHeld}
 use Rattle.sctp_show.specs.declared.page.Form.{Form}
 use Rattle.sctp_show.specs.declared.page.Form.TheVariants.{Text, Json}
 use Rattle.sctp_show.specs.declared.text.Options.{Options}
-use Rattle.sctp_show.specs.Sum.{sum_of, sum_for}
+use Rattle.sctp_show.specs.Sum.{sum_of, sum_for, is_wrong}
 use Rattle.sctp_show.specs.Filter.{passes, asks_nothing}
 
 -- a record's number, and what it shows
@@ -48,14 +48,16 @@ pub record IsSeen (sum : List ℕ → ℕ) (datagram : List ℕ) (d : Dissection
   pub fault : 12 ≤ length datagram → Stops d.fault d.rest
 
 -- A packet that the filter lets pass has its number, and what it shows. Of another one nothing is written.
--- No checksum is computed where bytes are missing.
+-- No checksum is computed where bytes are missing. Whether the receiver accepts a checksum of zero, packets before this one say.
 pub record IsPacketText (o : Options) (number : ℕ) (datagram : List ℕ) (missing : ℕ)
     (text : List ℕ) : Type 0 where
   pub seen : Dissection
   pub is_seen : IsSeen (sum_of (sum_for o.sum missing)) datagram seen
-  pub shown : passes o.filter seen ≡ true
+  pub accepts_zero : Bool
+  pub shown : passes o.filter (is_wrong (sum_for o.sum missing) accepts_zero seen.header) seen ≡ true
       → (shown : List ℕ) × (text ≡ numbered_text o.form number shown)
-  pub hidden : passes o.filter seen ≡ false → text ≡ []
+  pub hidden : passes o.filter (is_wrong (sum_for o.sum missing) accepts_zero seen.header) seen
+      ≡ false → text ≡ []
 
 -- the text of a record with a frame: that of the packet in it, or why there is none
 abbrev pub IsFrameText : Options → ℕ → ℕ → List ℕ → List ℕ → Type 0

@@ -5,6 +5,7 @@ ghost use Rattle.sctp_show.specs.Sum as sums;
 ghost use Rattle.sctp_show.specs.Sum.{sum_of};
 
 use crc32c::Crc;
+use sctp_dissect::dissection::Header;
 use sctp_util::util::Checksum;
 
 /// CRC-32C, the checksum of SCTP packets (RFC 4960 Appendix B), or none: then each sum is 0.
@@ -22,6 +23,19 @@ pub fn sum_for(sum: Sum, missing: usize) -> Sum
         return sum;
     }
     Sum::Unchecked
+}
+
+/// Whether the checksum of a packet was computed, and is another than the one that stands in it, which is no 0 that its receiver accepts
+/// (RFC 9653 5).
+pub fn is_wrong(sum: Sum, accepts_zero: bool, header: &Option<Header>) -> bool
+    ensures { result ≡ sums.is_wrong sum accepts_zero header.now }
+{
+    match (sum, header) {
+        (Sum::Crc32c, Some(header)) => {
+            !header.has_right_checksum() && !(accepts_zero && header.checksum == 0)
+        }
+        _ => false,
+    }
 }
 
 impl Checksum for Sum {

@@ -22,6 +22,11 @@ pub struct Open<'a> {
     pub protocol: &'a [u8],
 }
 
+/// The lengths of a DATA_CHANNEL_ACK: its type alone, or with three bytes behind it, as pion sends it.
+const ACK: usize = 1;
+
+const PADDED_ACK: usize = 4;
+
 /// A message.
 #[derive(Clone, Copy)]
 pub enum Message<'a> {
@@ -30,12 +35,12 @@ pub enum Message<'a> {
     Open(Open<'a>),
 }
 
-/// The message that these bytes are, if they are one: a DATA_CHANNEL_ACK of one byte, or a DATA_CHANNEL_OPEN that ends with its protocol.
+/// The message that these bytes are, if they are one: a DATA_CHANNEL_ACK of one byte or four, or a DATA_CHANNEL_OPEN that ends with its protocol.
 pub fn read_message(bytes: &[u8]) -> Option<Message<'_>>
     ensures some { IfSome result (IsMessage bytes.now) }
     ensures none { IfNone result ((m : Message) → IsMessage bytes.now m → ⊥) }
 {
-    if bytes.len() == 1 && bytes[0] == 2 {
+    if (bytes.len() == ACK || bytes.len() == PADDED_ACK) && bytes[0] == 2 {
         return Some(Message::Ack);
     }
     if bytes.len() < OPEN_HEADER || bytes[0] != 3 {

@@ -35,6 +35,8 @@ pub struct Filter {
     pub payload_types: Vec<u32>,
     /// Whether only packets are asked for that have a refused chunk or bytes left over.
     pub only_refused: bool,
+    /// Whether only packets are asked for whose checksum is wrong.
+    pub only_wrong: bool,
 }
 
 /// Whether the bytes of a chunk are DATA or I-DATA, with all of its fixed part.
@@ -224,11 +226,12 @@ impl Filter {
             tsns: Vec::new(alloc),
             payload_types: Vec::new(alloc),
             only_refused: false,
+            only_wrong: false,
         }
     }
 
-    /// Asks for what a word says: `refused`, or one of `port`, `tag`, `type`, `stream`, `tsn` and `ppid`, `=`, and values with commas between
-    /// them. Answers whether it says that.
+    /// Asks for what a word says: `refused`, `refused=checksum`, or one of `port`, `tag`, `type`, `stream`, `tsn` and `ppid`, `=`, and values
+    /// with commas between them. Answers whether it says that.
     pub fn ask(&mut self, word: &str) -> Result<bool, AllocError> {
         if word == "refused" {
             self.only_refused = true;
@@ -254,8 +257,18 @@ impl Filter {
             "stream" => ask_short(&mut self.streams, value),
             "tsn" => ask_range(&mut self.tsns, value),
             "ppid" => ask_word(&mut self.payload_types, value),
+            "refused" => Ok(self.ask_refused(value)),
             _ => Ok(false),
         }
+    }
+
+    /// Asks for packets that are refused for this: `checksum` is the one that there is.
+    fn ask_refused(&mut self, value: &str) -> bool {
+        if value != "checksum" {
+            return false;
+        }
+        self.only_wrong = true;
+        true
     }
 
     /// Whether a chunk meets all that is asked of chunks.
@@ -299,19 +312,24 @@ impl Filter {
         items.iter().any(|item| self.meets(item))
     }
 
-    /// Whether a packet has what is asked for. It takes no memory.
-    pub fn passes(&self, seen: &Dissection) -> bool
-        ensures { result ≡ filters.passes self.now seen.now }
+    /// Whether a packet, whose checksum is wrong or not, has what is asked for. It takes no memory.
+    pub fn passes(&self, seen: &Dissection, is_wrong: bool) -> bool
+        ensures { result ≡ filters.passes self.now is_wrong seen.now }
     {
         self.has_asked_header(&seen.header)
             && (self.asks_no_chunk() || self.is_met_by(&seen.items))
             && (!self.only_refused || is_refused(seen))
+            && (!self.only_wrong || is_wrong)
     }
 
     /// Whether nothing is asked for.
     pub fn asks_nothing(&self) -> bool
         ensures { result ≡ filters.asks_nothing self.now }
     {
-        self.ports.is_empty() && self.tags.is_empty() && self.asks_no_chunk() && !self.only_refused
+        self.ports.is_empty()
+            && self.tags.is_empty()
+            && self.asks_no_chunk()
+            && !self.only_refused
+            && !self.only_wrong
     }
 }

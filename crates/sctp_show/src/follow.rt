@@ -3,7 +3,9 @@
 ghost use Rattle.std.specs.Prelude.{◌≡◌};
 ghost use Rattle.sctp_show.specs.declared.page.Form.TheVariants.{Text, Json};
 
+use crate::checksum::Sum;
 use crate::page::Form;
+use crate::zero::ZeroTags;
 use sctp_dissect::dissection::Dissection;
 use std::alloc::{AllocError, Global};
 use std::net::IpAddr;
@@ -26,33 +28,52 @@ pub struct Known {
     pub bases: Bases,
     /// Whether a TSN of its DATA or I-DATA came before.
     pub is_repeated: bool,
+    /// Whether its receiver accepts a checksum of zero (RFC 9653).
+    pub accepts_zero: bool,
 }
 
 /// Follows the packets of a run: each one is noted in order, also one that is not shown.
 pub trait Follow {
-    /// Notes a packet, and says what is known of it. Refuses only for memory.
+    /// Notes a packet, whose checksum was computed or not, and says what is known of it. Refuses only for memory.
     fn note(
         &mut self,
         alloc: Global,
         seen: &Dissection,
+        sum: Sum,
         ends: Option<(IpAddr, IpAddr)>,
     ) -> Result<Known, AllocError>;
 }
 
-/// Each packet stands alone: nothing is known of it from others.
+/// Each packet stands alone: nothing is known of it from others, but whether its receiver accepts a checksum of zero.
 #[derive(Drop)]
-pub struct Alone;
+pub struct Alone {
+    zero_tags: ZeroTags,
+}
+
+impl Alone {
+    /// No packet came yet.
+    pub fn new(alloc: Global) -> Self {
+        Alone {
+            zero_tags: ZeroTags::new(alloc),
+        }
+    }
+}
 
 impl Follow for Alone {
     fn note(
         &mut self,
-        _alloc: Global,
-        _seen: &Dissection,
+        alloc: Global,
+        seen: &Dissection,
+        sum: Sum,
         _ends: Option<(IpAddr, IpAddr)>,
     ) -> Result<Known, AllocError> {
+        if sum == Sum::Crc32c {
+            self.zero_tags.note(alloc, seen)?;
+        }
         Ok(Known {
             bases: ABSOLUTE,
             is_repeated: false,
+            accepts_zero: self.zero_tags.accepts(&seen.header),
         })
     }
 }

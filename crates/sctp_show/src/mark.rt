@@ -12,7 +12,7 @@ use std::alloc::AllocError;
 pub enum Mark {
     /// It does not.
     Plain,
-    /// In red: a chunk is refused, or bytes are left over.
+    /// In red: a chunk is refused, bytes are left over, or the checksum is wrong.
     Refused,
     /// In yellow: a TSN came before.
     Repeated,

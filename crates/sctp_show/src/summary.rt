@@ -1,6 +1,5 @@
 //! What a run saw.
 
-use crate::checksum::Sum;
 use crate::chunk_text::type_of;
 use crate::filter::is_refused;
 use crate::names::ChunkName;
@@ -58,7 +57,7 @@ impl Summary {
 
     /// Counts a packet and its chunks. One of which so many bytes are missing, if any, is cut off, and else one with a raw chunk, or bytes
     /// left over, is refused.
-    pub fn count_packet(&mut self, seen: &Dissection, sum: Sum, missing: usize) {
+    pub fn count_packet(&mut self, seen: &Dissection, is_wrong: bool, missing: usize) {
         self.packets = self.packets.saturating_add(1);
         for item in &seen.items {
             if let Some(count) = self.chunks.get_mut(type_of(item) as usize) {
@@ -70,7 +69,7 @@ impl Summary {
         } else if is_refused(seen) {
             self.refused = self.refused.saturating_add(1);
         }
-        if sum == Sum::Crc32c && is_wrong(seen) {
+        if is_wrong {
             self.wrong_checksums = self.wrong_checksums.saturating_add(1);
         }
     }
@@ -162,11 +161,4 @@ impl Summary {
 fn put_count(text: &mut String, before: &str, count: u64, behind: &str) -> Result<(), AllocError> {
     let mut buffer = Buffer::new();
     put_all(text, &[before, buffer.format(count), behind])
-}
-
-fn is_wrong(seen: &Dissection) -> bool {
-    match &seen.header {
-        Some(header) => !header.has_right_checksum(),
-        None => false,
-    }
 }

@@ -3,11 +3,11 @@
 ghost use Rattle.std.specs.Prelude.{◌≡◌, ℕ, List, [], true, false, IfOk};
 ghost use Rattle.std.specs.String.{string_bytes};
 ghost use Rattle.sctp_show.specs.Text.{IsSeen, IsPacketText, IsText, IsFrameText, numbered_text, refused_text, fault_line};
-ghost use Rattle.sctp_show.specs.Sum.{sum_of};
+ghost use Rattle.sctp_show.specs.Sum.{sum_of, sum_for, is_wrong};
 ghost use Rattle.sctp_show.specs.Filter.{passes};
 
 use crate::brief::{put_brief, put_brief_cut};
-use crate::checksum::{Sum, sum_for};
+use crate::checksum::{Sum, is_wrong, sum_for};
 use crate::chunk_text::put_block;
 use crate::filter::{Filter, is_refused};
 use crate::follow::{Bases, Follow, Known, bases_for};
@@ -120,7 +120,12 @@ fn put_header(page: &mut Page, header: &Header) -> Result<(), AllocError> {
 }
 
 /// The line of a packet's checksum as text.
-fn put_sums(text: &mut String, header: &Header, sum: Sum) -> Result<(), AllocError> {
+fn put_sums(
+    text: &mut String,
+    header: &Header,
+    sum: Sum,
+    is_wrong: bool,
+) -> Result<(), AllocError> {
     text.push_str("    Checksum: 0x")?;
     put_hex(text, header.checksum)?;
     if sum == Sum::Unchecked {
@@ -129,22 +134,30 @@ fn put_sums(text: &mut String, header: &Header, sum: Sum) -> Result<(), AllocErr
     if header.has_right_checksum() {
         return text.push_str(", right\n");
     }
+    if !is_wrong {
+        return text.push_str(", zero, as its receiver accepts (RFC 9653)\n");
+    }
     text.push_str(", wrong, should be 0x")?;
     put_hex(text, header.computed)?;
     text.push_str("\n")
 }
 
 /// A packet's checksum, and what it should be, where that was computed.
-fn put_checksum(page: &mut Page, header: &Header, sum: Sum) -> Result<(), AllocError> {
+fn put_checksum(
+    page: &mut Page,
+    header: &Header,
+    sum: Sum,
+    is_wrong: bool,
+) -> Result<(), AllocError> {
     if page.is_text() {
-        return put_sums(&mut page.text, header, sum);
+        return put_sums(&mut page.text, header, sum, is_wrong);
     }
     page.number("Checksum", "checksum", header.checksum)?;
     if sum == Sum::Unchecked {
         return Ok(());
     }
     page.number("Computed", "computed", header.computed)?;
-    page.truth("Right", "right", header.has_right_checksum())
+    page.truth("Right", "right", !is_wrong)
 }
 
 /// The chunks of a packet, a word or a few of each.
@@ -203,6 +216,7 @@ fn put_line(
     bases: Bases,
     seen: &Dissection,
     missing: usize,
+    is_wrong: bool,
 ) -> Result<(), AllocError> {
     if let Some(header) = &seen.header {
         put_header(page, header)?;
@@ -211,7 +225,9 @@ fn put_line(
         return Ok(());
     }
     put_briefs(&mut page.text, bases, &seen.items)?;
-    put_tail(&mut page.text, bases, seen, missing)
+    put_tail(&mut page.text, bases, seen, missing)?;
+    page.text
+        .push_str(if is_wrong { " [wrong checksum]" } else { "" })
 }
 
 /// The blocks below the line of a packet.
@@ -221,9 +237,10 @@ fn put_blocks(
     bases: Bases,
     seen: &Dissection,
     sum: Sum,
+    is_wrong: bool,
 ) -> Result<(), AllocError> {
     if let Some(header) = &seen.header {
-        put_checksum(page, header, sum)?;
+        put_checksum(page, header, sum, is_wrong)?;
     }
     page.in_json(",\"chunks\":[")?;
     let mut is_first = true;
@@ -267,11 +284,13 @@ fn put_below(
     bases: Bases,
     seen: &Dissection,
     missing: usize,
+    is_wrong: bool,
 ) -> Result<(), AllocError> {
     if page.is_text() && !options.is_full {
         return Ok(());
     }
-    put_blocks(alloc, page, bases, seen, sum_for(options.sum, missing))?;
+    let sum = sum_for(options.sum, missing);
+    put_blocks(alloc, page, bases, seen, sum, is_wrong)?;
     put_rest(alloc, page, seen)?;
     put_missing_member(page, missing)?;
     page.in_json("}\n")
@@ -286,19 +305,20 @@ fn seen_text(
     datagram: &Datagram<'_>,
     seen: &Dissection,
     known: Known,
+    is_wrong: bool,
 ) -> Result<String, AllocError> {
     let missing = datagram.missing;
     let bases = bases_for(options.form, known.bases);
     let mut line = Page::new(alloc, options.form);
     put_time(&mut line, options, start, &record.time)?;
     put_ends(&mut line, record.direction, datagram)?;
-    put_line(&mut line, bases, seen, missing)?;
-    let is_refused = missing == 0 && is_refused(seen);
+    put_line(&mut line, bases, seen, missing, is_wrong)?;
+    let is_refused = is_wrong || (missing == 0 && is_refused(seen));
     let mark = mark_of(options.is_colored, is_refused, known.is_repeated);
     let mut page = Page::new(alloc, options.form);
     put_marked(&mut page.text, mark, &line.text)?;
     page.in_text("\n")?;
-    put_below(alloc, &mut page, options, bases, seen, missing)?;
+    put_below(alloc, &mut page, options, bases, seen, missing, is_wrong)?;
     Ok(page.text)
 }
 
@@ -321,18 +341,22 @@ fn passed_text(
     known: Known,
     summary: &mut Summary,
 ) -> Result<String, AllocError>
-    ensures shown { IfOk result (λ text. passes options.now.filter seen.now ≡ true
-        → (shown : List ℕ)
+    ensures shown { IfOk result (λ text. passes options.now.filter
+        (is_wrong (sum_for options.now.sum datagram.now.missing) known.accepts_zero
+        seen.now.header) seen.now ≡ true → (shown : List ℕ)
         × (string_bytes text ≡ numbered_text options.now.form number shown)) }
-    ensures hidden { IfOk result (λ text. passes options.now.filter seen.now ≡ false
-        → string_bytes text ≡ []) }
+    ensures hidden { IfOk result (λ text. passes options.now.filter
+        (is_wrong (sum_for options.now.sum datagram.now.missing) known.accepts_zero
+        seen.now.header) seen.now ≡ false → string_bytes text ≡ []) }
 {
-    if !options.filter.passes(seen) {
+    let missing = datagram.missing;
+    let sum = sum_for(options.sum, missing);
+    let is_wrong = is_wrong(sum, known.accepts_zero, &seen.header);
+    if !options.filter.passes(seen, is_wrong) {
         summary.count_other();
         return Ok(String::new(alloc));
     }
-    let missing = datagram.missing;
-    summary.count_packet(seen, sum_for(options.sum, missing), missing);
+    summary.count_packet(seen, is_wrong, missing);
     let shown = seen_text(
         alloc,
         options,
@@ -341,6 +365,7 @@ fn passed_text(
         datagram,
         seen,
         known,
+        is_wrong,
     )?;
     numbered(alloc, options.form, number, &shown)
 }
@@ -358,12 +383,9 @@ fn packet_text<F: Follow>(
     ensures { IfOk result (λ text. IsPacketText options.now number datagram.now.bytes.now
         datagram.now.missing (string_bytes text)) }
 {
-    let seen = seen_in(
-        alloc,
-        sum_for(options.sum, datagram.missing),
-        datagram.bytes,
-    )?;
-    let known = follower.note(alloc, &seen, datagram.ends)?;
+    let sum = sum_for(options.sum, datagram.missing);
+    let seen = seen_in(alloc, sum, datagram.bytes)?;
+    let known = follower.note(alloc, &seen, sum, datagram.ends)?;
     passed_text(
         alloc, options, number, record, datagram, &seen, known, summary,
     )

@@ -32,7 +32,7 @@ const AT_ONCE: usize = 65_536;
 
 /// What a filter may say.
 const FILTER_WORDS: &str =
-    "a filter is port, tag, type, stream, tsn or ppid, = and values (tsn=5-9 is a range), or refused";
+    "a filter is port, tag, type, stream, tsn or ppid, = and values (tsn=5-9 is a range), refused or refused=checksum";
 
 /// What is printed in place of packets.
 const VIEW_WORDS: &str =
@@ -46,7 +46,7 @@ const NUMBER_WORDS: &str = "the port is a number up to 65535, and the count a nu
 const PICTURE_WORDS: &str = "--svg has one input, and its FILE is - or ends in .svg";
 
 const FILTER_HELP: &str =
-    "Show only packets with one of these: port, tag, type, stream, tsn (also FROM-TO), ppid; or `refused`";
+    "Show only packets with one of these: port, tag, type, stream, tsn (also FROM-TO), ppid; `refused`, `refused=checksum`";
 
 const FULL_HELP: &str = "Print all that each chunk says, as lines";
 
@@ -56,7 +56,7 @@ const RELATIVE_HELP: &str =
     "Print TSNs relative to the initial one of their way, or the first one seen; not in JSON";
 
 const COLOR_HELP: &str =
-    "Color packets that are refused or repeat a TSN: auto (on a terminal), always or never";
+    "Color packets that are refused, have a wrong checksum or repeat a TSN: auto (on a terminal), always or never";
 
 const JSON_HELP: &str = "Print each record as a JSON object on a line, with all that it says";
 
@@ -226,7 +226,7 @@ fn run_records<R: Read + Drop, W: Write>(
         let mut tracker = Tracker::new(alloc, task.is_relative);
         return run(alloc, &task.options, input, &mut tracker, output);
     }
-    run(alloc, &task.options, input, &mut Alone, output)
+    run(alloc, &task.options, input, &mut Alone::new(alloc), output)
 }
 
 /// Writes the picture of an input to a file, once all of it is read.

@@ -1,0 +1,10 @@
+use Rattle.std.proofs.Common.{◌==◌, rules, tests}
+use Rattle.std.proofs.lemmas.Iterator.{YieldsList-from_slice}
+use Rattle.std.proofs.lemmas.Iterator.Search.{any_from_yields_List}
+use Rattle.sctp_show.specs.Sum.{param_type}
+use Rattle.sctp_show.proofs.zero.has_zero_param.Goals as goal
+
+pub returns : goal.returns
+returns c =
+    any_from_yields_List (λ item. param_type item == 32769) _ _ _ c.any.ensures.ran (YieldsList-from_slice c.args.items.now cc)
+    (λ x b q k. search (rules, tests))
