@@ -8,13 +8,10 @@ use crate::outgoing::{Outgoing, data_length, invalid_stream};
 use crate::resetting::{REQUEST_LENGTH, RESPONSE_LENGTH, Resets};
 use crate::timer::Timer;
 use bytes::Bytes;
-use sctp_chunks::chunk::chunk_kind::ChunkKind;
-use sctp_chunks::chunk::chunk_payload_data::PayloadProtocolIdentifier;
-use sctp_reassembly::chunks::Chunks;
-use sctp_receiver::receiver::Receiver;
-use sctp_receiver::receiver::limits::Limits;
-use sctp_sender::sender::Sender;
-use sctp_sender::sender::refusal::SenderRefusal;
+use sctp::{
+    ChunkKind, Chunks, Dropped, Limits, PayloadProtocolIdentifier, Receiver, Sender, SenderRefusal,
+};
+use sctp_sender::replay::{in_flight_at, next_to_retransmit};
 use std::alloc::Global;
 
 /// How many bytes of user data a fragment has: a whole one fills a packet.
@@ -25,6 +22,9 @@ const LIMITS: Limits = Limits {
     window: 100_000,
     reach: 10_000,
 };
+
+// More groups of messages than are dropped at once.
+const MOST_DROPS: u32 = 10_000;
 
 /// How many bytes a message may have.
 const MESSAGE: u32 = 65_536;
@@ -89,19 +89,17 @@ impl Association {
         Ok(())
     }
 
-    /// Writes a message; its lifetime begins. Refused while the stream is to be reset.
+    /// Writes a message; its lifetime begins with the next `transmit`. Refused while the stream is to be reset.
     pub fn write(
         &mut self,
         stream: u16,
         ppi: PayloadProtocolIdentifier,
         bytes: &Bytes,
-        now: u64,
     ) -> Result<(), Fault> {
         if self.resets.is_asked(stream) {
             return Err(Fault::Refused);
         }
         self.sender.write(stream, ppi, bytes)?;
-        self.sender.start(now);
         Ok(())
     }
 
@@ -127,7 +125,7 @@ impl Association {
 
     /// Whether all that was written is acknowledged, or abandoned and passed, and no reset is asked for.
     pub fn is_drained(&self) -> bool {
-        self.sender.chunks_in_flight() == 0
+        self.sender.outbound().inflight_len() == 0
             && self.sender.outbound().pending_len() == 0
             && self.resets.is_idle()
     }
@@ -142,7 +140,7 @@ impl Association {
 
     // The timer runs while a chunk is in flight; an abandoned one is until a SACK passes it (RFC 4960 6.3.2; RFC 3758 3.5).
     fn run_timer(&mut self, now: u64) {
-        if self.sender.chunks_in_flight() == 0 {
+        if self.sender.outbound().inflight_len() == 0 {
             self.timer.stop();
         } else {
             self.timer.start(now);
@@ -152,8 +150,8 @@ impl Association {
     // How many bytes are under way: sent, and neither acknowledged nor abandoned nor taken for lost.
     fn flight(&self) -> usize {
         let mut bytes = 0usize;
-        for place in 0..self.sender.chunks_in_flight() {
-            if let Some(chunk) = self.sender.in_flight_at(place) {
+        for place in 0..self.sender.outbound().inflight_len() {
+            if let Some(chunk) = in_flight_at(&self.sender, place) {
                 if !chunk.retransmit {
                     bytes = bytes.saturating_add(chunk.user_data.len());
                 }
@@ -190,13 +188,11 @@ impl Association {
 
     // Abandons what is past its lifetime (RFC 3758 4.1), and what was sent as often as it may be (RFC 7496 3.1).
     fn abandon(&mut self, now: u64) -> Result<(), Fault> {
-        let tail = self.sender.expire_tail(now)?.is_some();
-        let late = !self.sender.expire_late(now)?.is_empty();
-        let worn = !self.sender.expire_rexmit()?.is_empty();
-        self.is_skip_due = self.is_skip_due || tail || late || worn;
-        for _ in 0..self.sender.outbound().pending_len() {
-            if self.sender.expire(now).is_none() {
-                break;
+        for _ in 0..MOST_DROPS {
+            match self.sender.drop_expired(now)? {
+                Some(Dropped::Abandoned(_)) => self.is_skip_due = true,
+                Some(Dropped::Expired(_)) => {}
+                None => break,
             }
         }
         Ok(())
@@ -206,7 +202,7 @@ impl Association {
     fn put_sack(&mut self, packet: &mut Outgoing, now: u64) -> Result<(), Fault> {
         match self.sack_at {
             Some(at) if at <= now => {
-                let sack = self.receiver.sack_within(packet.room)?;
+                let sack = self.receiver.sack(packet.room)?;
                 let entries = sack
                     .gap_ack_blocks
                     .len()
@@ -225,7 +221,7 @@ impl Association {
         if !self.is_skip_due {
             return Ok(());
         }
-        if let Some(skip) = self.sender.forward_tsn_within(packet.room)? {
+        if let Some(skip) = self.sender.forward_tsn(packet.room)? {
             let length = skip.streams.len().saturating_mul(4).saturating_add(8);
             packet.put(ChunkKind::ForwardTsn(skip), length)?;
         }
@@ -265,16 +261,18 @@ impl Association {
         let mut flight = self.flight();
         let is_fast = self.is_fast;
         for _ in 0..PACKET {
-            let Some(chunk) = self.sender.next_to_retransmit() else {
+            let Some(chunk) = next_to_retransmit(&self.sender) else {
                 self.is_fast = false;
                 break;
             };
-            let (tsn, bytes) = (chunk.tsn, chunk.user_data.len());
+            let bytes = chunk.user_data.len();
             let has_room = is_fast || self.has_room(bytes, flight);
             if !has_room || data_length(bytes) > packet.room {
                 break;
             }
-            let chunk = self.sender.resend(tsn, now)?;
+            let Some(chunk) = self.sender.resend_next(now)? else {
+                break;
+            };
             self.is_fast = false;
             flight = flight.saturating_add(bytes);
             packet.put(ChunkKind::PayloadData(chunk), data_length(bytes))?;
@@ -289,12 +287,12 @@ impl Association {
 
     // Puts what waits, where nothing is left to be sent again and the peer has room (RFC 4960 6.1).
     fn put_new(&mut self, packet: &mut Outgoing, now: u64) -> Result<(), Fault> {
-        if self.sender.next_to_retransmit().is_some() {
+        if next_to_retransmit(&self.sender).is_some() {
             return Ok(());
         }
         let mut flight = self.flight();
         for _ in 0..PACKET {
-            let Some(chunk) = self.sender.peek_pending_at(0) else {
+            let Some(chunk) = self.sender.outbound().peek_pending_at(0) else {
                 break;
             };
             let bytes = chunk.user_data.len();

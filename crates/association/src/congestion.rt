@@ -1,6 +1,6 @@
 //! The congestion window (RFC 4960 7.2).
 
-use sctp_base::util::sna32lt;
+use sctp::sna32lt;
 
 /// The bytes of a packet of the path, without its header: the path MTU less what stands before the chunks.
 pub const PACKET: usize = 1188;

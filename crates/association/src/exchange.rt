@@ -4,8 +4,7 @@ use crate::association::{Association, earlier};
 use crate::fault::Fault;
 use crate::network::{MS, Network};
 use crate::traffic::{CHANNELS, Channel, Inbox, LATER, MESSAGES, text};
-use sctp_chunks::chunk::chunk_kind::ChunkKind;
-use sctp_chunks::chunk::chunk_payload_data::PayloadProtocolIdentifier;
+use sctp::{ChunkKind, PayloadProtocolIdentifier};
 use std::alloc::Global;
 
 // More steps than a run takes.
@@ -55,12 +54,11 @@ impl Host {
         alloc: Global,
         channels: &[Channel],
         number: u16,
-        now: u64,
     ) -> Result<(), Fault> {
         for channel in channels {
             let bytes = text(alloc, channel.stream, number)?;
             let ppi = PayloadProtocolIdentifier::Binary;
-            self.association.write(channel.stream, ppi, &bytes, now)?;
+            self.association.write(channel.stream, ppi, &bytes)?;
         }
         Ok(())
     }
@@ -74,11 +72,11 @@ impl Host {
     }
 
     // Writes a message to a stream that the peer has not opened.
-    fn write_unknown(&mut self, alloc: Global, now: u64) -> Result<(), Fault> {
+    fn write_unknown(&mut self, alloc: Global) -> Result<(), Fault> {
         self.association.sender.open(UNKNOWN)?;
         let bytes = text(alloc, UNKNOWN, 0)?;
         let ppi = PayloadProtocolIdentifier::Binary;
-        self.association.write(UNKNOWN, ppi, &bytes, now)
+        self.association.write(UNKNOWN, ppi, &bytes)
     }
 
     // Gives the network all packets that are due.
@@ -123,12 +121,10 @@ impl Host {
 
     // Whether on each stream came what its mode promises, and nothing is held of what came.
     fn is_served(&self) -> bool {
-        let mut well = self.association.receiver.filter().is_empty();
+        let receiver = &self.association.receiver;
+        let mut well = !receiver.has_gaps() && receiver.held_bytes() == 0;
         for (channel, inbox) in CHANNELS.iter().zip(self.inboxes.iter()) {
             well = well && inbox.is_as(channel);
-        }
-        for stream in self.association.receiver.open_streams() {
-            well = well && stream.queue.get_num_bytes() == 0;
         }
         well
     }
@@ -163,8 +159,8 @@ impl Exchange {
     // Lets both write a message to each of these streams.
     fn write(&mut self, channels: &[Channel], number: u16) -> Result<(), Fault> {
         let (alloc, now) = (self.alloc, self.now);
-        self.first.write(alloc, channels, number, now)?;
-        self.second.write(alloc, channels, number, now)
+        self.first.write(alloc, channels, number)?;
+        self.second.write(alloc, channels, number)
     }
 
     // Lets both reset these streams.
@@ -238,7 +234,7 @@ impl Exchange {
         let came = self.exchange(&CHANNELS, 0, MESSAGES)?;
         self.reset(reliable)?;
         let are_reset = self.drain()?;
-        self.first.write_unknown(self.alloc, self.now)?;
+        self.first.write_unknown(self.alloc)?;
         let more = self.exchange(reliable, MESSAGES, MESSAGES + LATER)?;
         let is_told = loss > 0 || self.first.association.errors() > 0;
         Ok(came && are_reset && more && is_told && self.is_served())

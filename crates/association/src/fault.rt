@@ -1,7 +1,6 @@
 //! Why an association can't go on.
 
-use sctp_receiver::receiver::refusal::ReceiverRefusal;
-use sctp_sender::sender::refusal::SenderRefusal;
+use sctp::{ReceiverRefusal, SenderRefusal};
 use std::alloc::{AllocError, AllocFailed};
 
 /// Why a call of an association failed.

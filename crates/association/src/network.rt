@@ -2,9 +2,7 @@
 
 use crate::fault::Fault;
 use bytes::Bytes;
-use sctp_base::util::Checksum;
-use sctp_chunks::chunk::chunk_kind::ChunkKind;
-use sctp_packets::packet::{CommonHeader, Packet};
+use sctp::{Checksum, ChunkKind, CommonHeader, Packet};
 use std::alloc::Global;
 
 /// A millisecond.

@@ -3,9 +3,8 @@
 use crate::congestion::PACKET;
 use crate::fault::Fault;
 use bytes::Bytes;
-use sctp_chunks::chunk::chunk_error::ChunkError;
-use sctp_chunks::chunk::chunk_kind::ChunkKind;
-use sctp_chunks::chunk::error_cause::{ErrorCause, INVALID_STREAM_IDENTIFIER};
+use sctp::error_cause::INVALID_STREAM_IDENTIFIER;
+use sctp::{ChunkError, ChunkKind, ErrorCause};
 use std::alloc::Global;
 
 /// The bytes of a DATA chunk before its user data.

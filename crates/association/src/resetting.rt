@@ -1,14 +1,7 @@
 //! Streams that are reset, one request after another (RFC 6525 5.1, 5.2; RFC 8831 6.7).
 
 use crate::fault::Fault;
-use sctp_base::param::param_kind::ParamKind;
-use sctp_base::param::param_outgoing_reset_request::ParamOutgoingResetRequest;
-use sctp_base::param::param_reconfig_response::{ParamReconfigResponse, ReconfigResult};
-use sctp_chunks::chunk::chunk_kind::ChunkKind;
-use sctp_chunks::chunk::chunk_reconfig::ChunkReconfig;
-use sctp_receiver::receiver::Receiver;
-use sctp_receiver::receiver::refusal::ReceiverRefusal;
-use sctp_sender::sender::Sender;
+use sctp::{ChunkKind, ChunkReconfig, ParamKind, ParamOutgoingResetRequest, ParamReconfigResponse, Receiver, ReceiverRefusal, ReconfigResult, Sender};
 use std::alloc::Global;
 
 /// How long a request waits for its response before it is sent again, in nanoseconds.

@@ -1,8 +1,7 @@
 //! What is written, and what is read of it.
 
 use bytes::Bytes;
-use sctp_chunks::chunk::chunk_payload_data::ReliabilityType;
-use sctp_reassembly::chunks::Chunks;
+use sctp::{Chunks, ReliabilityType};
 use std::alloc::{AllocError, Global};
 
 /// How many messages are written to each stream.

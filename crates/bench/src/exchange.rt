@@ -66,7 +66,7 @@ fn sends<C: Checksum>(ends: &mut Ends, sum: &C) -> bool {
 
 // What came is acknowledged, and the SACK comes.
 fn acknowledges<C: Checksum>(ends: &mut Ends, sum: &C) -> bool {
-    match ends.receiver.sack() {
+    match ends.receiver.sack(usize::MAX) {
         Ok(sack) => arrives(ends, ChunkKind::SelectiveAck(sack), sum),
         Err(_) => false,
     }

@@ -7,6 +7,7 @@ use bytes::Bytes;
 use sctp_chunks::chunk::chunk_forward_tsn::ChunkForwardTsnStream;
 use sctp_chunks::chunk::chunk_payload_data::ChunkPayloadData;
 use sctp_receiver::receiver::Receiver;
+use sctp_receiver::receiver::arrival::Closed;
 
 /// What is called.
 #[derive(Clone, Copy, PartialEq, Eq)]
@@ -141,7 +142,7 @@ fn take_pairs(receiver: &mut Receiver, first: u32) -> usize {
 fn sack_each(receiver: &mut Receiver) -> usize {
     let mut blocks = 0usize;
     for _ in 0..CALLS {
-        if let Ok(sack) = receiver.sack() {
+        if let Ok(sack) = receiver.sack(usize::MAX) {
             blocks = blocks.wrapping_add(sack.gap_ack_blocks.len());
         }
     }
@@ -170,7 +171,7 @@ pub fn run(ends: &mut Ends, call: Receiving, held: u32) -> usize {
         Receiving::Sack => sack_each(receiver),
         Receiving::Read => read_each(receiver),
         Receiving::Skip | Receiving::SkipNames => usize::from(
-            receiver.forward_tsn(&ends.skip).is_ok(),
+            receiver.forward_tsn(&ends.skip, Closed::Refuse).is_ok(),
         ),
     }
 }

@@ -5,6 +5,7 @@ use crate::sack::{add_blocks, sack_to};
 use crate::subject::{CALLS, STREAM};
 use bytes::Bytes;
 use sctp_chunks::chunk::chunk_payload_data::{PayloadProtocolIdentifier, ReliabilityType};
+use sctp_sender::replay::{expire, expire_late, start};
 use sctp_sender::sender::Sender;
 use std::alloc::Global;
 
@@ -88,7 +89,7 @@ pub fn prepare(ends: &mut Ends, call: Sending, held: u32) -> bool {
         Sending::AckedBlocks => is_open
             && add_blocks(&mut ends.sack, BLOCKS, Some(held.min(65_535) as u16)).is_ok(),
         _ => {
-            ends.sender.start(0);
+            start(&mut ends.sender, 0);
             is_open
         }
     }
@@ -107,13 +108,13 @@ pub fn run(ends: &mut Ends, call: Sending) -> usize {
         },
         Sending::ExpireLate => abandoned(sender, LATE),
         Sending::NoneLate => abandoned(sender, 0).wrapping_add(1),
-        Sending::Expire => usize::from(sender.expire(LATE).is_some()),
+        Sending::Expire => usize::from(expire(sender, LATE).is_some()),
     }
 }
 
 // How many messages are late now.
 fn abandoned(sender: &mut Sender, now: u64) -> usize {
-    match sender.expire_late(now) {
+    match expire_late(sender, now) {
         Ok(messages) => messages.len(),
         Err(_) => 0,
     }

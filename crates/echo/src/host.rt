@@ -2,13 +2,10 @@
 //! verification tags (RFC 4960 5.1).
 
 use bytes::Bytes;
-use sctp_chunks::chunk::chunk_kind::ChunkKind;
-use sctp_chunks::chunk::chunk_payload_data::{ChunkPayloadData, PayloadProtocolIdentifier};
-use sctp_packets::checksum::Crc32c;
-use sctp_packets::packet::{CommonHeader, Packet};
-use sctp_receiver::receiver::Receiver;
-use sctp_receiver::receiver::limits::Limits;
-use sctp_sender::sender::Sender;
+use sctp::{
+    ChunkKind, ChunkPayloadData, CommonHeader, Crc32c, Limits, Packet, PayloadProtocolIdentifier,
+    Receiver, Sender,
+};
 use std::alloc::Global;
 
 /// The one stream.
@@ -16,6 +13,9 @@ const STREAM: u16 = 0;
 
 /// How many bytes of a message a chunk has at most: a path MTU of 1,200, less the headers of packet and chunk.
 const FRAGMENT: u32 = 1172;
+
+/// How many bytes a chunk has at most: the path MTU, less the header of a packet.
+const PACKET: usize = 1188;
 
 /// How many bytes a message has at most.
 const MESSAGE: u32 = 65_536;
@@ -93,7 +93,7 @@ impl Host {
     // Puts the SACK that is owed, if one is.
     fn put_sack(&mut self, chunks: &mut Vec<ChunkKind>) -> Option<()> {
         if self.owes_sack {
-            let sack = self.receiver.sack().ok()?;
+            let sack = self.receiver.sack(PACKET).ok()?;
             chunks.push(ChunkKind::SelectiveAck(sack)).ok()?;
             self.owes_sack = false;
         }
@@ -110,11 +110,8 @@ impl Host {
 
     // What is to be sent again goes first (RFC 4960 6.1 C).
     fn next_data(&mut self, now: u64) -> Option<ChunkPayloadData> {
-        match self.sender.next_to_retransmit() {
-            Some(lost) => {
-                let tsn = lost.tsn;
-                self.sender.resend(tsn, now).ok()
-            }
+        match self.sender.resend_next(now).ok()? {
+            Some(lost) => Some(lost),
             None => self.sender.send_next(now).ok()?,
         }
     }

@@ -1,4 +1,4 @@
-//! Tests of byte sources, parameters, chunks and packets.
+//! Callers of packets and of parameters, and tests of byte sources, parameters, chunks and packets.
 #![tactic(auto)]
 
 #[cfg(test)]
@@ -7,8 +7,10 @@ mod bundle_tests;
 mod capture_tests;
 #[cfg(test)]
 mod kind_tests;
+pub mod packets;
 #[cfg(test)]
 mod param_tests;
+pub mod parameters;
 #[cfg(test)]
 mod source_tests;
 #[cfg(test)]

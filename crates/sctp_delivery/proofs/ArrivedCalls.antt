@@ -117,7 +117,7 @@ module _ (p n : ℕ) (kn now : ℕ → Bool) (old new : Session) (few : n < 2 ^ 
     hears (incoming.follows g) f = hears-to _ f.step.receiver (follows-arrived g f.handed)
     hears (incoming.reports credit) f = hears-to _ f.step.receiver still
     hears (incoming.reports_within credit bytes) f = hears-to _ f.step.receiver still
-    hears (incoming.makes_sack credit) f = hears-to _ f.step.receiver still
+    hears (incoming.makes_sack credit bytes) f = hears-to _ f.step.receiver still
     hears incoming.forgets f = hears-to _ f.step.receiver still
     hears (incoming.reads stream) f = hears-to _ f.step.receiver still
 
@@ -138,7 +138,7 @@ tells p n kn now old call few grows h t = by call
     by : (c : ReceiverCall) → Every (IsTruthful p n now) (reports_after c old.receiving.receiver old.sacks)
     by (incoming.reports credit) = (told credit max_sack_entries, rest)
     by (incoming.reports_within credit bytes) = (told credit (sack_entries bytes), rest)
-    by (incoming.makes_sack credit) = (told credit max_sack_entries, rest)
+    by (incoming.makes_sack credit bytes) = (told credit (sack_entries bytes), rest)
     by incoming.forgets = rest
     by (incoming.opens stream) = rest
     by (incoming.takes c arrival) = rest

@@ -292,7 +292,7 @@ apart-after (incoming.follows g) old new f a =
         ∙ followed-numbers g old.receiving.receiver
 apart-after (incoming.reports credit) old new f a = ap (λ (r : Reception). are_apart (numbers_of r.streams)) f.step.receiver ∙ a
 apart-after (incoming.reports_within credit bytes) old new f a = ap (λ (r : Reception). are_apart (numbers_of r.streams)) f.step.receiver ∙ a
-apart-after (incoming.makes_sack credit) old new f a = ap (λ (r : Reception). are_apart (numbers_of r.streams)) f.step.receiver ∙ a
+apart-after (incoming.makes_sack credit bytes) old new f a = ap (λ (r : Reception). are_apart (numbers_of r.streams)) f.step.receiver ∙ a
 apart-after incoming.forgets old new f a = ap (λ (r : Reception). are_apart (numbers_of r.streams)) f.step.receiver ∙ a
 apart-after (incoming.reads stream) old new f a =
     ap (λ (r : Reception). are_apart (numbers_of r.streams)) f.step.receiver ∙ ap are_apart (read-numbers stream old.receiving.receiver) ∙ a

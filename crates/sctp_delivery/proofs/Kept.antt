@@ -270,7 +270,7 @@ kept-on (incoming.reports credit) old new st r made apart f k = still st old.rec
     (ap (λ (x : Reception). x.streams) f.step.receiver) k
 kept-on (incoming.reports_within credit bytes) old new st r made apart f k = still st old.receiving new.receiving f.step.accepted f.step.read
     (ap (λ (x : Reception). x.streams) f.step.receiver) k
-kept-on (incoming.makes_sack credit) old new st r made apart f k = still st old.receiving new.receiving f.step.accepted f.step.read
+kept-on (incoming.makes_sack credit bytes) old new st r made apart f k = still st old.receiving new.receiving f.step.accepted f.step.read
     (ap (λ (x : Reception). x.streams) f.step.receiver) k
 kept-on incoming.forgets old new st r made apart f k = still st old.receiving new.receiving f.step.accepted f.step.read
     (ap (λ (x : Reception). x.streams) f.step.receiver) k
@@ -301,7 +301,7 @@ apart-then (incoming.takes c (New answered)) old new f a = (both (not (list_any 
 apart-then (incoming.follows g) old new f a = ap are_apart (sym f.step.accepted) ∙ a
 apart-then (incoming.reports credit) old new f a = ap are_apart (sym f.step.accepted) ∙ a
 apart-then (incoming.reports_within credit bytes) old new f a = ap are_apart (sym f.step.accepted) ∙ a
-apart-then (incoming.makes_sack credit) old new f a = ap are_apart (sym f.step.accepted) ∙ a
+apart-then (incoming.makes_sack credit bytes) old new f a = ap are_apart (sym f.step.accepted) ∙ a
 apart-then incoming.forgets old new f a = ap are_apart (sym f.step.accepted) ∙ a
 apart-then (incoming.reads stream) old new f a = ap are_apart (sym f.step.accepted) ∙ a
 

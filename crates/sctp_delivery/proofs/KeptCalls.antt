@@ -524,8 +524,8 @@ module _ (first n : ℕ) (few : n < 2 ^ 31) (old new : Session) (ns : List Numbe
       still (incoming.reports credit) f f.step.accepted f.step.read (ap (λ (x : Reception). x.streams) f.step.receiver) k
   keeps-other (incoming.reports_within credit bytes) o f after k =
       still (incoming.reports_within credit bytes) f f.step.accepted f.step.read (ap (λ (x : Reception). x.streams) f.step.receiver) k
-  keeps-other (incoming.makes_sack credit) o f after k =
-      still (incoming.makes_sack credit) f f.step.accepted f.step.read (ap (λ (x : Reception). x.streams) f.step.receiver) k
+  keeps-other (incoming.makes_sack credit bytes) o f after k =
+      still (incoming.makes_sack credit bytes) f f.step.accepted f.step.read (ap (λ (x : Reception). x.streams) f.step.receiver) k
   keeps-other incoming.forgets o f after k =
       still incoming.forgets f f.step.accepted f.step.read (ap (λ (x : Reception). x.streams) f.step.receiver) k
   keeps-other (incoming.reads stream) o f after k = reads stream f k

@@ -75,7 +75,7 @@ module _ (first size max most : ℕ) (limits : Option Limits) (n : ℕ) (few : n
   kept-on st (incoming.takes c arrival) f' = other st (incoming.takes c arrival) tt f'
   kept-on st (incoming.reports credit) f' = other st (incoming.reports credit) tt f'
   kept-on st (incoming.reports_within credit bytes) f' = other st (incoming.reports_within credit bytes) tt f'
-  kept-on st (incoming.makes_sack credit) f' = other st (incoming.makes_sack credit) tt f'
+  kept-on st (incoming.makes_sack credit bytes) f' = other st (incoming.makes_sack credit bytes) tt f'
   kept-on st incoming.forgets f' = other st incoming.forgets tt f'
   kept-on st (incoming.reads stream) f' = other st (incoming.reads stream) tt f'
 

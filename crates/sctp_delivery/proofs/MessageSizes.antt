@@ -136,7 +136,7 @@ module _ (most : ℕ) where
       }
   sized-after (incoming.reports credit) old new f s = subst (AreSized most) (sym f.step.receiver) (record { own = s.own; each = s.each })
   sized-after (incoming.reports_within credit bytes) old new f s = subst (AreSized most) (sym f.step.receiver) (record { own = s.own; each = s.each })
-  sized-after (incoming.makes_sack credit) old new f s = subst (AreSized most) (sym f.step.receiver) (record { own = s.own; each = s.each })
+  sized-after (incoming.makes_sack credit bytes) old new f s = subst (AreSized most) (sym f.step.receiver) (record { own = s.own; each = s.each })
   sized-after incoming.forgets old new f s = subst (AreSized most) (sym f.step.receiver) (record { own = s.own; each = s.each })
   sized-after (incoming.reads stream) old new f s = subst (AreSized most) (sym f.step.receiver) (record {
     own = s.own;

@@ -165,7 +165,7 @@ receiver-one (incoming.takes c (New complete)) s t u f g =
 receiver-one (incoming.follows c) s t u f g = f.step.receiver ∙ sym g.step.receiver
 receiver-one (incoming.reports credit) s t u f g = f.step.receiver ∙ sym g.step.receiver
 receiver-one (incoming.reports_within credit bytes) s t u f g = f.step.receiver ∙ sym g.step.receiver
-receiver-one (incoming.makes_sack credit) s t u f g = f.step.receiver ∙ sym g.step.receiver
+receiver-one (incoming.makes_sack credit bytes) s t u f g = f.step.receiver ∙ sym g.step.receiver
 receiver-one incoming.forgets s t u f g = f.step.receiver ∙ sym g.step.receiver
 receiver-one (incoming.reads stream) s t u f g = f.step.receiver ∙ sym g.step.receiver
 

@@ -80,7 +80,7 @@ limits-after (incoming.follows g) old new f = ap (λ (r : Reception). r.limits) 
     by false = refl
 limits-after (incoming.reports credit) old new f = ap (λ (r : Reception). r.limits) f.step.receiver
 limits-after (incoming.reports_within credit bytes) old new f = ap (λ (r : Reception). r.limits) f.step.receiver
-limits-after (incoming.makes_sack credit) old new f = ap (λ (r : Reception). r.limits) f.step.receiver
+limits-after (incoming.makes_sack credit bytes) old new f = ap (λ (r : Reception). r.limits) f.step.receiver
 limits-after incoming.forgets old new f = ap (λ (r : Reception). r.limits) f.step.receiver
 limits-after (incoming.reads stream) old new f = ap (λ (r : Reception). r.limits) f.step.receiver
 

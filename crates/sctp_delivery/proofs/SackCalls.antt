@@ -36,9 +36,9 @@ reporting-of (incoming.reports_within credit bytes) s t e f = record {
   accepted = f.step.accepted;
   reliable = refl;
 }
-reporting-of (incoming.makes_sack credit) s t e f = record {
+reporting-of (incoming.makes_sack credit bytes) s t e f = record {
   credit = credit;
-  entries = max_sack_entries;
+  entries = sack_entries bytes;
   made = ap (λ (x : Session). x.sacks) f.after;
   streams = ap (λ (r : Reception). r.streams) f.step.receiver;
   accepted = f.step.accepted;
@@ -60,6 +60,6 @@ cumulative-of call s t k e f made =
     ap (λ (x : Sack). x.cumulative_tsn_ack) one
 
 -- a SACK of no bytes reports no duplicate, and none is forgotten: where one is only made nothing changes
-pub only-made : {V : Type 0} (a : Result V ReceiverRefusal) (credit : ℕ) (r : Reception) → OnOk a (ReceiverMakes (incoming.makes_sack credit) r r)
-only-made (Ok v) credit r = (refl, tt)
-only-made (Err e) credit r = tt
+pub only-made : {V : Type 0} (a : Result V ReceiverRefusal) (credit bytes : ℕ) (r : Reception) → OnOk a (ReceiverMakes (incoming.makes_sack credit bytes) r r)
+only-made (Ok v) credit bytes r = (refl, tt)
+only-made (Err e) credit bytes r = tt

@@ -159,7 +159,7 @@ more-accepted (incoming.takes c (New answered)) old new f t e = ap (list_any (ha
 more-accepted (incoming.follows g) old new f t e = ap (list_any (has_tsn t)) f.step.accepted ∙ e
 more-accepted (incoming.reports credit) old new f t e = ap (list_any (has_tsn t)) f.step.accepted ∙ e
 more-accepted (incoming.reports_within credit bytes) old new f t e = ap (list_any (has_tsn t)) f.step.accepted ∙ e
-more-accepted (incoming.makes_sack credit) old new f t e = ap (list_any (has_tsn t)) f.step.accepted ∙ e
+more-accepted (incoming.makes_sack credit bytes) old new f t e = ap (list_any (has_tsn t)) f.step.accepted ∙ e
 more-accepted incoming.forgets old new f t e = ap (list_any (has_tsn t)) f.step.accepted ∙ e
 more-accepted (incoming.reads stream) old new f t e = ap (list_any (has_tsn t)) f.step.accepted ∙ e
 

@@ -259,7 +259,7 @@ taken-made (incoming.opens stream) old new f h = kept-made (incoming.opens strea
 taken-made (incoming.follows g) old new f h = kept-made (incoming.follows g) old new f f.step.accepted h
 taken-made (incoming.reports credit) old new f h = kept-made (incoming.reports credit) old new f f.step.accepted h
 taken-made (incoming.reports_within credit bytes) old new f h = kept-made (incoming.reports_within credit bytes) old new f f.step.accepted h
-taken-made (incoming.makes_sack credit) old new f h = kept-made (incoming.makes_sack credit) old new f f.step.accepted h
+taken-made (incoming.makes_sack credit bytes) old new f h = kept-made (incoming.makes_sack credit bytes) old new f f.step.accepted h
 taken-made incoming.forgets old new f h = kept-made incoming.forgets old new f f.step.accepted h
 taken-made (incoming.reads stream) old new f h = kept-made (incoming.reads stream) old new f f.step.accepted h
 

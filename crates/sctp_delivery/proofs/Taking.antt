@@ -132,8 +132,8 @@ can-but dropped p n s few i (incoming.reports credit) e =
 can-but dropped p n s few i (incoming.reports_within credit bytes) e =
     can-by dropped p n s few i credit (sack_entries bytes) (after_sack_within bytes s.receiving.receiver) (incoming.reports_within credit bytes) e
     (record { handed = tt; step = record { receiver = refl; accepted = refl; read = refl }; accepted = tt; after = refl })
-can-but dropped p n s few i (incoming.makes_sack credit) e =
-    can-by dropped p n s few i credit max_sack_entries (after_sack_within 0 s.receiving.receiver) (incoming.makes_sack credit) e
+can-but dropped p n s few i (incoming.makes_sack credit bytes) e =
+    can-by dropped p n s few i credit (sack_entries bytes) (after_sack_within 0 s.receiving.receiver) (incoming.makes_sack credit bytes) e
     (record { handed = tt; step = record { receiver = refl; accepted = refl; read = refl }; accepted = tt; after = refl })
 can-but dropped p n s few i incoming.forgets e = absurd (not_both e)
 can-but dropped p n s few i (incoming.opens stream) e = absurd (not_both e)

@@ -421,7 +421,7 @@ module _ (st first : ℕ) where
       due-after (incoming.reports_within credit bytes) f =
           same-streams f.step.read (ap (λ (r : Reception). r.streams) f.step.receiver) (ap (λ (r : Reception). r.cumulative_tsn) f.step.receiver)
           (ap (λ (r : Reception). r.beyond) f.step.receiver)
-      due-after (incoming.makes_sack credit) f =
+      due-after (incoming.makes_sack credit bytes) f =
           same-streams f.step.read (ap (λ (r : Reception). r.streams) f.step.receiver) (ap (λ (r : Reception). r.cumulative_tsn) f.step.receiver)
           (ap (λ (r : Reception). r.beyond) f.step.receiver)
       due-after incoming.forgets f =
@@ -437,7 +437,7 @@ module _ (st first : ℕ) where
       → Every (IsUpTo place) old.sacks → Every (IsUpTo more) (reports_after call old.receiving.receiver old.sacks)
   answered-after place more old (incoming.reports credit) is le h = ((place, is, le), upto-more place more old.sacks le h)
   answered-after place more old (incoming.reports_within credit bytes) is le h = ((place, is, le), upto-more place more old.sacks le h)
-  answered-after place more old (incoming.makes_sack credit) is le h = ((place, is, le), upto-more place more old.sacks le h)
+  answered-after place more old (incoming.makes_sack credit bytes) is le h = ((place, is, le), upto-more place more old.sacks le h)
   answered-after place more old incoming.forgets is le h = upto-more place more old.sacks le h
   answered-after place more old (incoming.opens stream) is le h = upto-more place more old.sacks le h
   answered-after place more old (incoming.takes c arrival) is le h = upto-more place more old.sacks le h

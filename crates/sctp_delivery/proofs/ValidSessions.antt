@@ -71,7 +71,7 @@ keeps-come p n old new few i call f t g h = by call f
         subst (HasTsn t) (sym f.step.receiver) (skip-come p n r (known old) few i.arrived k (placeholder t ∷ []) given one).each.0.1
     by (incoming.reports credit) f = subst (HasTsn t) (sym f.step.receiver) h
     by (incoming.reports_within credit bytes) f = subst (HasTsn t) (sym f.step.receiver) h
-    by (incoming.makes_sack credit) f = subst (HasTsn t) (sym f.step.receiver) h
+    by (incoming.makes_sack credit bytes) f = subst (HasTsn t) (sym f.step.receiver) h
     by incoming.forgets f = subst (HasTsn t) (sym f.step.receiver) h
     by (incoming.reads stream) f = subst (HasTsn t) (sym f.step.receiver) h
 
@@ -124,7 +124,7 @@ module _ (st first n : ℕ) (few : n < 2 ^ 31) (old new : Session) (ns : List Nu
           (ap (λ y. has_end y sent) (sym same) ∙ e.end') keeps (d.due, x)
       by (incoming.reports credit) f keeps = still (ap (stream_of st) f.step.receiver) keeps
       by (incoming.reports_within credit bytes) f keeps = still (ap (stream_of st) f.step.receiver) keeps
-      by (incoming.makes_sack credit) f keeps = still (ap (stream_of st) f.step.receiver) keeps
+      by (incoming.makes_sack credit bytes) f keeps = still (ap (stream_of st) f.step.receiver) keeps
       by incoming.forgets f keeps = still (ap (stream_of st) f.step.receiver) keeps
       by (incoming.reads stream) f keeps =
           read st first n few old new ns sent i d keeps stream (ap (λ (x : Reception). x.streams) f.step.receiver) (d.due, x)

@@ -16,12 +16,12 @@ pub data ReceiverCall : Type 0 where
   takes : ChunkPayloadData → Arrival → ReceiverCall
   -- `forward_tsn`
   follows : ForwardTsn → ReceiverCall
-  -- `sack_with`: its credit, which is the `window` where `sack` is called
+  -- `replay::make_sack` and `sack_sent`: its credit
   reports : ℕ → ReceiverCall
-  -- `sack_within`: its credit, which is the `window`, and its bytes; the duplicates that did not fit are kept
+  -- `sack`: its credit, which is the `window`, and its room in bytes; the duplicates that did not fit are kept
   reports_within : ℕ → ℕ → ReceiverCall
-  -- `make_sack_with`: a SACK with this credit is made, and the receiver stays as it is
-  makes_sack : ℕ → ReceiverCall
+  -- `make_sack`: its credit, which is the `window`, and its room in bytes; the receiver stays as it is
+  makes_sack : ℕ → ℕ → ReceiverCall
   -- `sack_sent`: the duplicates are forgotten
   forgets : ReceiverCall
   reads : ℕ → ReceiverCall
@@ -33,7 +33,7 @@ as_run (takes c arrival) = runs.takes c arrival
 as_run (follows f) = runs.forwards f
 as_run (reports credit) = runs.reports
 as_run (reports_within credit bytes) = runs.reports_within bytes
-as_run (makes_sack credit) = runs.reports_within 0
+as_run (makes_sack credit bytes) = runs.reports_within 0
 as_run forgets = runs.reports
 as_run (reads stream) = runs.reads stream
 
@@ -45,7 +45,7 @@ IsAccepted (takes c arrival) r =
 IsAccepted (follows f) r = skip_refusal f r ≡ None
 IsAccepted (reports credit) r = ⊤
 IsAccepted (reports_within credit bytes) r = ⊤
-IsAccepted (makes_sack credit) r = ⊤
+IsAccepted (makes_sack credit bytes) r = ⊤
 IsAccepted forgets r = ⊤
 IsAccepted (reads stream) r = is_open stream r ≡ true
 
@@ -71,19 +71,20 @@ takes_each (c ∷ cs) (a ∷ arrivals) = takes c a ∷ takes_each cs arrivals
 abbrev pub is_reporting : ReceiverCall → Bool
 is_reporting (reports credit) = true
 is_reporting (reports_within credit bytes) = true
-is_reporting (makes_sack credit) = true
+is_reporting (makes_sack credit bytes) = true
 is_reporting _ = false
 
 -- how many gap ack blocks and duplicates it has at most
 abbrev pub entries_of : ReceiverCall → ℕ
 entries_of (reports_within credit bytes) = sack_entries bytes
+entries_of (makes_sack credit bytes) = sack_entries bytes
 entries_of _ = max_sack_entries
 
 -- the wire fields of the SACKs that were made, the last one first
 abbrev pub reports_after : ReceiverCall → Reception → List Sack → List Sack
 reports_after (reports credit) r sacks = sack credit r ∷ sacks
 reports_after (reports_within credit bytes) r sacks = sack_within credit bytes r ∷ sacks
-reports_after (makes_sack credit) r sacks = sack credit r ∷ sacks
+reports_after (makes_sack credit bytes) r sacks = sack_within credit bytes r ∷ sacks
 reports_after forgets r sacks = sacks
 reports_after (opens stream) r sacks = sacks
 reports_after (takes c arrival) r sacks = sacks

@@ -1,6 +1,6 @@
 -- What a call of a sender makes, and what it sends.
 use Rattle.std.specs.Prelude.{◌≡◌, ⊤, ℕ, ◌<◌, ◌≤◌, Bool, true, false, List, [], ◌∷◌, length, find, option_map, option_to_list, Option, Some, None, is_some}
-use Rattle.std.specs.Prelude.{IfSome}
+use Rattle.std.specs.Prelude.{IfSome, All}
 use Rattle.sctp_data.specs.declared.chunk.chunk_payload_data.ChunkPayloadData.{ChunkPayloadData}
 use Rattle.sctp_data.specs.declared.chunk.chunk_payload_data.PayloadProtocolIdentifier.{PayloadProtocolIdentifier}
 use Rattle.sctp_data.specs.declared.chunk.chunk_payload_data.ReliabilityType.{ReliabilityType}
@@ -165,6 +165,27 @@ MakesExactly (reserves more) old new = ⊤
 abbrev pub SenderMakes : SenderCall → Transmission → Transmission → Type 0
 SenderMakes call old new =
     Makes (as_run call) old new × (MakesExactly call old new × IsAccepted call old)
+
+-- calls one after another
+abbrev pub SenderMakesEach : List SenderCall → Transmission → Transmission → Type 0
+SenderMakesEach [] old new = new ≡ old
+SenderMakesEach (c ∷ cs) old new =
+    (mid : Transmission) × (SenderMakes c old mid × SenderMakesEach cs mid new)
+
+-- a call that gives up what expired, or starts lifetimes
+abbrev pub is_drop : SenderCall → Bool
+is_drop (starts now) = true
+is_drop (expires now m) = true
+is_drop (expires_tail now m) = true
+is_drop (expires_late now gone) = true
+is_drop (expires_rexmit gone) = true
+is_drop _ = false
+
+-- `drop_expired`: some such calls, and no other
+abbrev pub Drops : Transmission → Transmission → Type 0
+Drops old new =
+    (calls : List SenderCall)
+    × (SenderMakesEach calls old new × All (λ c. is_drop c ≡ true) calls)
 
 -- ## What it sends
 

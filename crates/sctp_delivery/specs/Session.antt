@@ -44,7 +44,7 @@ IsSent (follows f) s = Contains s.made (forward_tsn f)
 IsSent (opens stream) s = ⊤
 IsSent (reports credit) s = ⊤
 IsSent (reports_within credit bytes) s = ⊤
-IsSent (makes_sack credit) s = ⊤
+IsSent (makes_sack credit bytes) s = ⊤
 IsSent forgets s = ⊤
 IsSent (reads stream) s = ⊤
 

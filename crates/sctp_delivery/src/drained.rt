@@ -13,5 +13,5 @@ pub fn is_all_released(sender: &Sender) -> bool
         → result ≡ (bytes_written s == s.sending.released)) }
 {
     each_written_byte_waits_or_was_released();
-    sender.outbound().pending_bytes() == 0 && sender.bytes_in_flight() == 0
+    sender.outbound().pending_bytes() == 0 && sender.outbound().inflight_bytes() == 0
 }

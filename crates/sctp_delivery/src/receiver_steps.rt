@@ -1,7 +1,7 @@
 //! Each call of a receiver makes the step that sessions have of it (RFC 4960 6.2; RFC 3758 3.6): here it is called and nothing else.
 //!
-//! Left out are `close`, `reset` and `restore`, which are no calls of a session, and the forms that a replay of a record calls,
-//! which test less: `data_each_with_any_ssn`, `forward_tsn_past_closed` and `forward_tsn_by_names`.
+//! Left out are `close` and `reset`, which are no calls of a session, and the calls that test less: `forward_tsn` where it passes over
+//! names of closed streams, and of `replay` `data_each_with_any_ssn` and `forward_tsn_by_names`.
 
 ghost use Rattle.std.specs.Prelude.{◌≡◌, OnOk, IfOk, All, Contains, length, option_map};
 ghost use Rattle.sctp_data.specs.PayloadData.{data_of};
@@ -19,8 +19,9 @@ use sctp_data::chunk::chunk_payload_data::ChunkPayloadData;
 use sctp_data::chunk::chunk_selective_ack::ChunkSelectiveAck;
 use sctp_reassembly::chunks::Chunks;
 use sctp_receiver::receiver::Receiver;
-use sctp_receiver::receiver::arrival::{Arrival, Forwarded};
+use sctp_receiver::receiver::arrival::{Arrival, Closed, Forwarded};
 use sctp_receiver::receiver::refusal::ReceiverRefusal;
+use sctp_receiver::{costs, replay};
 use sctp_serial::turns::Turns;
 
 /// Opens a stream.
@@ -62,7 +63,7 @@ pub fn discard(receiver: &mut Receiver, tsn: u32) -> Result<Arrival, ReceiverRef
     receiver.discard(tsn)
 }
 
-/// Takes a FORWARD-TSN.
+/// Takes a FORWARD-TSN, which is refused where it names a stream that is not open.
 pub fn forward_tsn(
     receiver: &mut Receiver,
     chunk: &ChunkForwardTsn,
@@ -70,10 +71,23 @@ pub fn forward_tsn(
     ensures { OnOk result
         (ReceiverMakes (follows (forward_tsn_of chunk.now)) receiver.old receiver.new) }
 {
-    receiver.forward_tsn(chunk)
+    receiver.forward_tsn(chunk, Closed::Refuse)
 }
 
-/// Makes a SACK with a credit.
+/// Makes a SACK in a chunk of at most `room` bytes; the duplicates that do not fit are kept for the next one.
+pub fn send_sack(
+    receiver: &mut Receiver,
+    room: usize,
+) -> Result<ChunkSelectiveAck, ReceiverRefusal>
+    ensures step { OnOk result
+        (ReceiverMakes (reports_within (window receiver.old) room) receiver.old receiver.new) }
+    ensures sack { IfOk result
+        (λ s. sack_of s ≡ sack_within (window receiver.old) room receiver.old) }
+{
+    receiver.sack(room)
+}
+
+/// Makes a SACK with a credit, and forgets all duplicates.
 pub fn send_sack_with(
     receiver: &mut Receiver,
     credit: u32,
@@ -81,29 +95,19 @@ pub fn send_sack_with(
     ensures step { OnOk result (ReceiverMakes (reports credit) receiver.old receiver.new) }
     ensures sack { IfOk result (λ s. sack_of s ≡ sack credit receiver.old) }
 {
-    receiver.sack_with(credit)
+    let sack = replay::make_sack(receiver, credit)?;
+    receiver.sack_sent();
+    Ok(sack)
 }
 
-/// Makes a SACK.
-pub fn send_sack(receiver: &mut Receiver) -> Result<ChunkSelectiveAck, ReceiverRefusal>
+/// Makes a SACK in a chunk of at most `room` bytes, and forgets no duplicate.
+pub fn make_sack(receiver: &Receiver, room: usize) -> Result<ChunkSelectiveAck, ReceiverRefusal>
     ensures step { OnOk result
-        (ReceiverMakes (reports (window receiver.old)) receiver.old receiver.new) }
-    ensures sack { IfOk result (λ s. sack_of s ≡ sack (window receiver.old) receiver.old) }
-{
-    receiver.sack()
-}
-
-/// Makes a SACK in a chunk of at most so many bytes, below 16 as for 16; the duplicates that do not fit are kept for the next one.
-pub fn send_sack_within(
-    receiver: &mut Receiver,
-    bytes: usize,
-) -> Result<ChunkSelectiveAck, ReceiverRefusal>
-    ensures step { OnOk result
-        (ReceiverMakes (reports_within (window receiver.old) bytes) receiver.old receiver.new) }
+        (ReceiverMakes (makes_sack (window receiver.now) room) receiver.now receiver.now) }
     ensures sack { IfOk result
-        (λ s. sack_of s ≡ sack_within (window receiver.old) bytes receiver.old) }
+        (λ s. sack_of s ≡ sack_within (window receiver.now) room receiver.now) }
 {
-    receiver.sack_within(bytes)
+    receiver.make_sack(room)
 }
 
 /// Makes a SACK with a credit, and forgets no duplicate.
@@ -111,10 +115,11 @@ pub fn make_sack_with(
     receiver: &Receiver,
     credit: u32,
 ) -> Result<ChunkSelectiveAck, ReceiverRefusal>
-    ensures step { OnOk result (ReceiverMakes (makes_sack credit) receiver.now receiver.now) }
-    ensures sack { IfOk result (λ s. sack_of s ≡ sack credit receiver.now) }
+    ensures step { OnOk result
+        (ReceiverMakes (makes_sack credit 65532) receiver.now receiver.now) }
+    ensures sack { IfOk result (λ s. sack_of s ≡ sack_within credit 65532 receiver.now) }
 {
-    receiver.make_sack_with(credit)
+    replay::make_sack(receiver, credit)
 }
 
 /// Forgets the duplicates, once a SACK was sent.
@@ -144,7 +149,7 @@ pub fn data_counted(
     ensures { IfOk result
         (λ arrival. ReceiverMakes (takes chunk.now arrival) receiver.old receiver.new) }
 {
-    receiver.data_counted(chunk, turns)
+    costs::data(receiver, chunk, turns)
 }
 
 /// Takes several DATA chunks, or none of them.
@@ -161,11 +166,11 @@ pub fn data_each_counted(
         → All (λ c. Contains s.made (data_chunk (data_of c))) chunks.now
         → GoesOnTo (takes_each chunks.now arrivals.items) s receiver.new) }
 {
-    receiver.data_each_counted(chunks, turns)
+    costs::data_each(receiver, chunks, turns)
 }
 
 /// Takes a FORWARD-TSN.
-pub fn forward_tsn_skips_counted(
+pub fn forward_tsn_counted(
     receiver: &mut Receiver,
     chunk: &ChunkForwardTsn,
     turns: &mut Turns,
@@ -174,43 +179,33 @@ pub fn forward_tsn_skips_counted(
     ensures { OnOk result
         (ReceiverMakes (follows (forward_tsn_of chunk.now)) receiver.old receiver.new) }
 {
-    receiver.forward_tsn_skips_counted(chunk, turns, skips)
+    costs::forward_tsn(receiver, chunk, Closed::Refuse, turns, skips)
 }
 
-/// Makes a SACK with a credit.
-pub fn send_sack_with_counted(
+/// Makes a SACK in a chunk of at most `room` bytes.
+pub fn send_sack_counted(
     receiver: &mut Receiver,
-    credit: u32,
-    turns: &mut Turns,
-) -> Result<ChunkSelectiveAck, ReceiverRefusal>
-    ensures step { OnOk result (ReceiverMakes (reports credit) receiver.old receiver.new) }
-    ensures sack { IfOk result (λ s. sack_of s ≡ sack credit receiver.old) }
-{
-    receiver.sack_with_counted(credit, turns)
-}
-
-/// Makes a SACK in a chunk of at most so many bytes.
-pub fn send_sack_within_counted(
-    receiver: &mut Receiver,
-    bytes: usize,
+    room: usize,
     turns: &mut Turns,
 ) -> Result<ChunkSelectiveAck, ReceiverRefusal>
     ensures step { OnOk result
-        (ReceiverMakes (reports_within (window receiver.old) bytes) receiver.old receiver.new) }
+        (ReceiverMakes (reports_within (window receiver.old) room) receiver.old receiver.new) }
     ensures sack { IfOk result
-        (λ s. sack_of s ≡ sack_within (window receiver.old) bytes receiver.old) }
+        (λ s. sack_of s ≡ sack_within (window receiver.old) room receiver.old) }
 {
-    receiver.sack_within_counted(bytes, turns)
+    costs::sack(receiver, room, turns)
 }
 
-/// Makes a SACK with a credit, and forgets no duplicate.
-pub fn make_sack_with_counted(
+/// Makes a SACK in a chunk of at most `room` bytes, and forgets no duplicate.
+pub fn make_sack_counted(
     receiver: &Receiver,
-    credit: u32,
+    room: usize,
     turns: &mut Turns,
 ) -> Result<ChunkSelectiveAck, ReceiverRefusal>
-    ensures step { OnOk result (ReceiverMakes (makes_sack credit) receiver.now receiver.now) }
-    ensures sack { IfOk result (λ s. sack_of s ≡ sack credit receiver.now) }
+    ensures step { OnOk result
+        (ReceiverMakes (makes_sack (window receiver.now) room) receiver.now receiver.now) }
+    ensures sack { IfOk result
+        (λ s. sack_of s ≡ sack_within (window receiver.now) room receiver.now) }
 {
-    receiver.make_sack_with_counted(credit, turns)
+    costs::make_sack(receiver, room, turns)
 }

@@ -11,7 +11,7 @@ use crate::laws::progress::{no_chunk_in_flight_is_refused, no_forward_tsn_is_ref
 use sctp_data::chunk::chunk_forward_tsn::ChunkForwardTsn;
 use sctp_data::chunk::chunk_payload_data::ChunkPayloadData;
 use sctp_receiver::receiver::Receiver;
-use sctp_receiver::receiver::arrival::{Arrival, Forwarded};
+use sctp_receiver::receiver::arrival::{Arrival, Closed, Forwarded};
 use sctp_receiver::receiver::refusal::ReceiverRefusal;
 
 /// Takes a DATA chunk of the other host. In whatever session of fewer than 2^31 TSNs the receiver stands without limits, where it takes
@@ -48,5 +48,5 @@ pub fn follow(
         → MayMake (forward_tsn_of chunk.now) s.sending.sender → IsOk result) }
 {
     no_forward_tsn_is_refused();
-    receiver.forward_tsn(chunk)
+    receiver.forward_tsn(chunk, Closed::Refuse)
 }

@@ -7,6 +7,7 @@ ghost use Rattle.sctp_delivery.specs.Rounds.{chunks_left};
 use crate::laws::rounds::every_session_can_end;
 use sctp_receiver::receiver::Receiver;
 use sctp_receiver::receiver::limits::{CHUNK_COST, Limits};
+use sctp_sender::replay::max_message_size as max_message_size_of;
 use sctp_sender::sender::Sender;
 
 /// How many chunks wait and are in flight together.
@@ -56,5 +57,5 @@ pub fn can_end(
         → s.receiving.receiver ≡ receiver.now → (now : ℕ) → CanEnd now gone s) }
 {
     every_session_can_end();
-    is_room_left(sender, receiver, limits) && sender.max_message_size() <= max_message_size
+    is_room_left(sender, receiver, limits) && max_message_size_of(sender) <= max_message_size
 }

@@ -1,16 +1,15 @@
 //! Each call of a sender makes the step that sessions have of it (RFC 4960 6.1, 6.2.1; RFC 3758 3.5): here it is called and nothing else.
 //!
-//! Left out are `close`, `reset`, `keep_reported`, `take_back`, `count_resend` and `expire_run`, which are no calls of a session.
+//! Left out are `close`, `reset`, `keep_reported`, `take_back` and `replay::count_resend`, which are no calls of a session.
 
 ghost use Rattle.std.specs.Prelude.{◌≡◌, ◌<◌, ◌≤◌, Some, None, OnOk, IfOk, IfSome, find};
 ghost use Rattle.sctp_data.specs.declared.chunk.chunk_payload_data.ChunkPayloadData.{ChunkPayloadData};
 ghost use Rattle.sctp_data.specs.ForwardTsn.{forward_tsn_of};
 ghost use Rattle.sctp_data.specs.SelectiveAck.{sack_of};
-ghost use Rattle.sctp_sender.specs.Abandonment.{advanced_ack_point};
 ghost use Rattle.sctp_sender.specs.Numbers.{send_refusal};
-ghost use Rattle.sctp_sender.specs.Resending.{count_before};
+ghost use Rattle.sctp_sender.specs.Resending.{count_before, is_to_resend};
 ghost use Rattle.sctp_serial.specs.DataChunks.{has_tsn};
-ghost use Rattle.sctp_delivery.specs.SenderCalls.{SenderMakes, abandons, expires, expires_late, expires_rexmit, expires_tail, forwards, forwards_within, marks, misses, next_chunk, opens, resends, reserves, sends, sets_low, sets_mode, sets_size, starts, takes_sack, writes};
+ghost use Rattle.sctp_delivery.specs.SenderCalls.{Drops, SenderMakes, abandons, expires, expires_late, expires_rexmit, expires_tail, forwards, forwards_within, marks, misses, next_chunk, opens, resends, reserves, sends, sets_low, sets_mode, sets_size, starts, takes_sack, writes};
 
 use bytes::Bytes;
 use sctp_data::chunk::chunk_forward_tsn::ChunkForwardTsn;
@@ -21,7 +20,8 @@ use sctp_data::chunk::chunk_selective_ack::ChunkSelectiveAck;
 use sctp_sender::sender::flight::Released;
 use sctp_sender::sender::flight::late::AbandonedMessage;
 use sctp_sender::sender::refusal::SenderRefusal;
-use sctp_sender::sender::{ExpiredMessage, Sender};
+use sctp_sender::sender::{Dropped, ExpiredMessage, Sender};
+use sctp_sender::{costs, replay};
 use sctp_serial::turns::Turns;
 
 /// Opens a stream.
@@ -61,7 +61,7 @@ pub fn write(
 pub fn start(sender: &mut Sender, now: u64)
     ensures { SenderMakes (starts now) sender.old sender.new }
 {
-    sender.start(now);
+    replay::start(sender, now);
 }
 
 /// Sends the fragment that is next, and answers the chunk, if there is one.
@@ -76,7 +76,7 @@ pub fn send_next(sender: &mut Sender, now: u64) -> Result<Option<ChunkPayloadDat
 pub fn send_next_tsn(sender: &mut Sender, now: u64) -> Result<Option<u32>, SenderRefusal>
     ensures { OnOk result (SenderMakes (sends now) sender.old sender.new) }
 {
-    sender.send_next_tsn(now)
+    replay::send_next_tsn(sender, now)
 }
 
 /// Sends the fragment that is next, however far its stream sequence number goes, and answers its TSN, if there is one: where it does not
@@ -85,7 +85,7 @@ pub fn send_next_tsn_unbounded(sender: &mut Sender, now: u64) -> Result<Option<u
     ensures { OnOk result (send_refusal sender.old.flight ≡ None
         → SenderMakes (sends now) sender.old sender.new) }
 {
-    sender.send_next_tsn_unbounded(now)
+    replay::send_next_tsn_unbounded(sender, now)
 }
 
 /// Sends a chunk again.
@@ -95,6 +95,20 @@ pub fn resend(sender: &mut Sender, tsn: u32, now: u64) -> Result<ChunkPayloadDat
         → SenderMakes (resends tsn now c) sender.old sender.new) }
 {
     sender.resend(tsn, now)
+}
+
+/// Sends the first chunk again that is marked for that, if there is one.
+pub fn resend_next(
+    sender: &mut Sender,
+    now: u64,
+) -> Result<Option<ChunkPayloadData>, SenderRefusal>
+    ensures { OnOk result ((c : ChunkPayloadData)
+        → find is_to_resend sender.old.flight.queue.inflight.chunks ≡ Some c
+        → SenderMakes (resends c.tsn now c) sender.old sender.new) }
+    ensures none { OnOk result (find is_to_resend sender.old.flight.queue.inflight.chunks ≡ None
+        → sender.new ≡ sender.old) }
+{
+    sender.resend_next(now)
 }
 
 /// Abandons the message of a chunk.
@@ -108,14 +122,14 @@ pub fn abandon(sender: &mut Sender, tsn: u32) -> Result<AbandonedMessage, Sender
 pub fn expire(sender: &mut Sender, now: u64) -> Option<ExpiredMessage>
     ensures { SenderMakes (expires now result) sender.old sender.new }
 {
-    sender.expire(now)
+    replay::expire(sender, now)
 }
 
 /// Abandons the rest of the message in front, where it is past its deadline and partially sent.
 pub fn expire_tail(sender: &mut Sender, now: u64) -> Result<Option<AbandonedMessage>, SenderRefusal>
     ensures { IfOk result (λ gone. SenderMakes (expires_tail now gone) sender.old sender.new) }
 {
-    sender.expire_tail(now)
+    replay::expire_tail(sender, now)
 }
 
 /// Abandons each late message in flight.
@@ -123,14 +137,22 @@ pub fn expire_late(sender: &mut Sender, now: u64) -> Result<Vec<AbandonedMessage
     ensures { IfOk result
         (λ gone. SenderMakes (expires_late now gone.items) sender.old sender.new) }
 {
-    sender.expire_late(now)
+    replay::expire_late(sender, now)
 }
 
 /// Abandons each message in flight that was sent again as often as it may be.
 pub fn expire_rexmit(sender: &mut Sender) -> Result<Vec<AbandonedMessage>, SenderRefusal>
     ensures { IfOk result (λ gone. SenderMakes (expires_rexmit gone.items) sender.old sender.new) }
 {
-    sender.expire_rexmit()
+    replay::expire_rexmit(sender)
+}
+
+/// Drops the next group of messages that have expired: the calls of a session by which each of them goes, and no other; where none has,
+/// lifetimes start.
+pub fn drop_expired(sender: &mut Sender, now: u64) -> Result<Option<Dropped>, SenderRefusal>
+    ensures step { OnOk result (Drops sender.old sender.new) }
+{
+    sender.drop_expired(now)
 }
 
 /// Makes the FORWARD-TSN up to a TSN.
@@ -138,16 +160,7 @@ pub fn forward_tsn_to(sender: &Sender, tsn: u32) -> Result<Option<ChunkForwardTs
     ensures { IfOk result (λ r. IfSome r
         (λ c. SenderMakes (forwards tsn (forward_tsn_of c)) sender.now sender.now)) }
 {
-    sender.forward_tsn_to(tsn)
-}
-
-/// Makes the FORWARD-TSN that is to be sent.
-pub fn forward_tsn(sender: &Sender) -> Result<Option<ChunkForwardTsn>, SenderRefusal>
-    ensures { IfOk result (λ r. IfSome r
-        (λ c. SenderMakes (forwards (advanced_ack_point sender.now.flight) (forward_tsn_of c))
-        sender.now sender.now)) }
-{
-    sender.forward_tsn()
+    replay::forward_tsn_to(sender, tsn)
 }
 
 /// Takes a SACK.
@@ -158,15 +171,12 @@ pub fn acked(sender: &mut Sender, sack: &ChunkSelectiveAck) -> Result<Vec<Releas
     sender.acked(sack)
 }
 
-/// Makes the FORWARD-TSN that fits so many bytes.
-pub fn forward_tsn_within(
-    sender: &Sender,
-    bytes: usize,
-) -> Result<Option<ChunkForwardTsn>, SenderRefusal>
+/// Makes the FORWARD-TSN that fits `room` bytes.
+pub fn forward_tsn(sender: &Sender, room: usize) -> Result<Option<ChunkForwardTsn>, SenderRefusal>
     ensures { IfOk result (λ r. IfSome r
-        (λ c. SenderMakes (forwards_within bytes (forward_tsn_of c)) sender.now sender.now)) }
+        (λ c. SenderMakes (forwards_within room (forward_tsn_of c)) sender.now sender.now)) }
 {
-    sender.forward_tsn_within(bytes)
+    sender.forward_tsn(room)
 }
 
 /// Marks all that is outstanding for retransmission.
@@ -221,12 +231,12 @@ pub fn acked_counted(
     ensures { IfOk result
         (λ gone. SenderMakes (takes_sack (sack_of sack.now) gone.items) sender.old sender.new) }
 {
-    sender.acked_counted(sack, turns)
+    costs::acked(sender, sack, turns)
 }
 
 /// Counts what is outstanding before a TSN as missing once more.
 pub fn add_miss_indications_counted(sender: &mut Sender, before: u32, turns: &mut Turns) -> usize
     ensures { SenderMakes (misses (count_before before sender.old.flight)) sender.old sender.new }
 {
-    sender.add_miss_indications_counted(before, turns)
+    costs::add_miss_indications(sender, before, turns)
 }

@@ -9,13 +9,14 @@ use crate::laws::complete::{
     each_write_is_read_where_nothing_is_held,
 };
 use sctp_receiver::receiver::Receiver;
+use sctp_receiver::replay::open_streams;
 use sctp_sender::sender::Sender;
 
 /// Whether a receiver holds nothing on any stream.
 pub fn is_nothing_held(receiver: &Receiver) -> bool
     ensures { result ≡ holds_nothing receiver.now }
 {
-    for inbound in receiver.open_streams() {
+    for inbound in open_streams(receiver) {
         if inbound.queue.chunk_count() != 0 {
             return false;
         }
@@ -41,7 +42,7 @@ pub fn is_each_read(sender: &Sender, receiver: &Receiver) -> bool
 pub fn is_nothing_readable(receiver: &Receiver) -> bool
     ensures { result ≡ reads_nothing receiver.now }
 {
-    for inbound in receiver.open_streams() {
+    for inbound in open_streams(receiver) {
         if inbound.queue.is_readable() {
             return false;
         }

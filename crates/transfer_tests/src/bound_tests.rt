@@ -1,8 +1,10 @@
 //! How far the numbers of ordered messages in flight go, and a sender of several streams.
 
+use crate::hosts::buffered;
 use bytes::Bytes;
 use sctp_chunks::chunk::chunk_payload_data::{PayloadProtocolIdentifier, ReliabilityType};
 use sctp_chunks::chunk::chunk_selective_ack::ChunkSelectiveAck;
+use sctp_sender::replay::send_next_tsn;
 use sctp_sender::sender::Sender;
 use sctp_sender::sender::refusal::SenderRefusal;
 use std::alloc::Global;
@@ -12,7 +14,7 @@ fn is_sent(sender: &mut Sender, stream: u16, byte: &Bytes) -> bool {
     sender
         .write(stream, PayloadProtocolIdentifier::Binary, byte)
         .is_ok()
-        && matches!(sender.send_next_tsn(0), Ok(Some(_)))
+        && matches!(send_next_tsn(sender, 0), Ok(Some(_)))
 }
 
 // Whether 2^14 messages are sent, of which the first has the TSN 1, a further one waits, and that of another stream does so behind it.
@@ -23,9 +25,9 @@ fn is_bounded(sender: &mut Sender, byte: &Bytes) -> bool {
     }
     well && !is_sent(sender, 1, byte)
         && !is_sent(sender, 2, byte)
-        && matches!(sender.send_next_tsn(0), Err(SenderRefusal::SsnsUsedUp))
+        && matches!(send_next_tsn(sender, 0), Err(SenderRefusal::SsnsUsedUp))
         && matches!(sender.send_next(0), Err(SenderRefusal::SsnsUsedUp))
-        && sender.chunks_in_flight() == 1 << 14
+        && sender.outbound().inflight_len() == 1 << 14
 }
 
 // Whether both are sent once the first one is acknowledged, and no other first.
@@ -38,8 +40,8 @@ fn goes_on(alloc: Global, sender: &mut Sender) -> bool {
     };
     sender.acked(&sack).is_ok()
         && matches!(sender.send_next(0), Ok(Some(_)))
-        && matches!(sender.send_next_tsn(0), Ok(Some(_)))
-        && matches!(sender.send_next_tsn(0), Ok(None))
+        && matches!(send_next_tsn(sender, 0), Ok(Some(_)))
+        && matches!(send_next_tsn(sender, 0), Ok(None))
 }
 
 /// 2^14 ordered messages of a stream are in flight at most; the next one waits until the first is acknowledged.
@@ -90,8 +92,8 @@ fn the_others_write(alloc: Global, sender: &mut Sender) -> bool {
     answers(alloc, sender, 2, Err(SenderRefusal::StreamUnknown))
         && is_unordered(sender, 3)
         && answers(alloc, sender, 3, Ok((Some(2), 2)))
-        && sender.buffered_amount(1) == Some(4)
-        && sender.buffered_amount(3) == Some(4)
+        && buffered(sender, 1) == Some(4)
+        && buffered(sender, 3) == Some(4)
         && sender.outbound().pending_bytes() == 12
 }
 

@@ -5,6 +5,7 @@ ghost use Rattle.sctp_receiver.specs.Datagrams.{IsWithinDatagram, datagram_looks
 
 use crate::part::{chunk, reads};
 use sctp_chunks::chunk::chunk_payload_data::ChunkPayloadData;
+use sctp_receiver::costs;
 use sctp_receiver::laws::a_datagram_costs_by_its_chunks;
 use sctp_receiver::receiver::Receiver;
 use sctp_receiver::receiver::arrival::Arrival;
@@ -25,7 +26,7 @@ fn take_each(
     ensures by_hand { datagram_looks 2 0 ≡ 24 }
 {
     a_datagram_costs_by_its_chunks();
-    receiver.data_each_counted(chunks, turns)
+    costs::data_each(receiver, chunks, turns)
 }
 
 // A message of two fragments, the last one first.

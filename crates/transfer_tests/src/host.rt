@@ -5,6 +5,7 @@ use sctp_chunks::chunk::chunk_kind::ChunkKind;
 use sctp_chunks::chunk::chunk_payload_data::PayloadProtocolIdentifier;
 use sctp_packets::packet::{CommonHeader, Packet};
 use sctp_receiver::receiver::Receiver;
+use sctp_receiver::receiver::arrival::Closed;
 use sctp_sender::sender::Sender;
 use sctp_util::util::Checksum;
 use std::alloc::Global;
@@ -58,7 +59,7 @@ impl Host {
         match chunk {
             ChunkKind::PayloadData(chunk) => self.receiver.data(chunk).is_ok(),
             ChunkKind::SelectiveAck(chunk) => self.sender.acked(chunk).is_ok(),
-            ChunkKind::ForwardTsn(chunk) => self.receiver.forward_tsn(chunk).is_ok(),
+            ChunkKind::ForwardTsn(chunk) => self.receiver.forward_tsn(chunk, Closed::Refuse).is_ok(),
             _ => false,
         }
     }
@@ -122,7 +123,7 @@ pub(crate) fn sends_again(alloc: Global, from: &mut Host, to: &mut Host) -> bool
 
 /// Acknowledges what came; whether the SACK is taken.
 pub(crate) fn acknowledges(alloc: Global, from: &mut Host, to: &mut Host) -> bool {
-    match from.receiver.sack_with(1000) {
+    match from.receiver.sack(1000) {
         Ok(sack) => arrives(alloc, to, ChunkKind::SelectiveAck(sack)),
         Err(_) => false,
     }
@@ -130,7 +131,7 @@ pub(crate) fn acknowledges(alloc: Global, from: &mut Host, to: &mut Host) -> boo
 
 /// Tells what was abandoned; whether the FORWARD-TSN is taken.
 pub(crate) fn skips(alloc: Global, from: &mut Host, to: &mut Host) -> bool {
-    match from.sender.forward_tsn() {
+    match from.sender.forward_tsn(1000) {
         Ok(Some(chunk)) => arrives(alloc, to, ChunkKind::ForwardTsn(chunk)),
         _ => false,
     }

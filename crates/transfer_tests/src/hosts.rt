@@ -8,14 +8,15 @@ ghost use Rattle.sctp_sender.specs.Sender.{taken_back_by};
 
 use crate::host::{Host, acknowledges, sends, sends_again, skips};
 use crate::part::reads;
-use crate::sending::{highest_acked, send_again};
+use crate::sending::highest_acked;
 use sctp_chunks::chunk::chunk_payload_data::ReliabilityType;
 use sctp_chunks::chunk::chunk_selective_ack::{ChunkSelectiveAck, GapAckBlock};
 use sctp_sender::sender::flight::Released;
 use sctp_sender::sender::flight::keeping::TakenBack;
 use sctp_sender::sender::flight::late::AbandonedMessage;
 use sctp_sender::sender::refusal::SenderRefusal;
-use sctp_sender::sender::{ExpiredMessage, ExpiredMessages, Sender};
+use sctp_sender::sender::{Dropped, ExpiredMessage, ExpiredMessages, Sender};
+use sctp_sender::{costs, replay};
 use sctp_serial::turns::Turns;
 use std::alloc::Global;
 
@@ -75,7 +76,8 @@ pub(crate) enum Step {
     UpTo(u32, Option<u32>),
     Start(u64),
     Expire(u64, Option<ExpiredMessage>),
-    ExpireRun(u64, Option<ExpiredMessages>),
+    /// What `drop_expired` answers at a moment: messages that expired unsent, or those that are abandoned.
+    DropExpired(u64, Option<ExpiredMessages>, &'static [AbandonedMessage]),
     Drained(bool),
     Reset(Result<(), SenderRefusal>),
     IsOpen(bool),
@@ -92,7 +94,12 @@ pub(crate) enum Step {
     Reopen,
     Contains(bool),
     NextTsn(u32),
-    /// How often a chunk in flight was sent; 0 where none is.
+    /// How many bytes the chunk in flight with a TSN has; None where none is.
+fn bytes_of(sender: &Sender, tsn: u32) -> Option<usize> {
+    Some(sender.outbound().get(tsn)?.user_data.len())
+}
+
+// How often a chunk in flight was sent; 0 where none is.
     Sendings(u32, u32),
     CountResend(u32),
     AckPoint(u32),
@@ -100,7 +107,7 @@ pub(crate) enum Step {
 
 use Step::{
     Abandon, Ack, AckPoint, Acked, At, Buffered, BytesOf, Close, Contains, CountResend, Drained,
-    Expire, ExpireRun, Flight, Fragments, Idle, IsOpen, Keep, Late, MarkAll, Marked, Miss,
+    DropExpired, Expire, Flight, Fragments, Idle, IsOpen, Keep, Late, MarkAll, Marked, Miss,
     MissBlock, Mode, NextTsn, Open, PeerAt, Read, Readable, Reopen, Resend, Reset, Send,
     SendFirstAgain, SendMarked, SendNumbered, Sendings, Sequence, Sizes, Skip, Start, Swap,
     TakeBack, Threshold, Unused, UpTo, Within, Worn, Write,
@@ -134,7 +141,7 @@ fn acknowledges_anew(
     counted: bool,
 ) -> bool {
     let answer = if counted {
-        sender.acked_counted(sack, &mut Turns::new())
+        costs::acked(sender, sack, &mut Turns::new())
     } else {
         sender.acked(sack)
     };
@@ -159,7 +166,7 @@ fn take_back(
         → length (taken_back_by (sack_of sack.now) sender.old) ≡ 1
         → turns.new ≤ turns.old + 16 }
 {
-    sender.take_back_counted(sack, turns)
+    costs::take_back(sender, sack, turns)
 }
 
 // Whether the SACK takes back these chunks.
@@ -180,9 +187,14 @@ fn takes_back(
     }
 }
 
+/// How many bytes of a stream are buffered; None where it is not open.
+pub(crate) fn buffered(sender: &Sender, stream: u16) -> Option<usize> {
+    Some(sender.stream(stream)?.buffered_amount())
+}
+
 // Whether so many bytes are in flight and buffered.
 fn has_bytes(sender: &Sender, bytes: usize) -> bool {
-    sender.bytes_in_flight() == bytes && sender.buffered_amount(1) == Some(bytes)
+    sender.outbound().inflight_bytes() == bytes && buffered(sender, 1) == Some(bytes)
 }
 
 // Whether a SACK that was made goes so.
@@ -205,7 +217,7 @@ fn sack_goes(sender: &mut Sender, sack: &ChunkSelectiveAck, step: &Step, counted
 
 // Whether the chunk at a place has this TSN, was sent so often and last then, and is marked or not.
 fn is_at(sender: &Sender, place: usize, due: &Option<(u32, u32, Option<u64>, bool)>) -> bool {
-    match (sender.in_flight_at(place), due) {
+    match (replay::in_flight_at(sender, place), due) {
         (Some(chunk), Some(due)) => {
             (chunk.tsn, chunk.nsent, chunk.since, chunk.retransmit) == *due
         }
@@ -216,7 +228,7 @@ fn is_at(sender: &Sender, place: usize, due: &Option<(u32, u32, Option<u64>, boo
 
 // Whether the first chunk that is marked is sent again then, and has this TSN.
 fn sends_marked(sender: &mut Sender, now: u64, due: Option<u32>) -> bool {
-    match send_again(sender, now) {
+    match sender.resend_next(now) {
         Ok(Some(chunk)) => {
             due == Some(chunk.tsn)
                 && chunk.nsent == 2
@@ -247,8 +259,8 @@ fn sends_numbered(sender: &mut Sender, ssn: u16) -> bool {
 // Whether these messages are abandoned, by their lifetimes at a moment or else by how often they were sent.
 fn abandons(sender: &mut Sender, now: Option<u64>, due: &[AbandonedMessage]) -> bool {
     let answer = match now {
-        Some(now) => sender.expire_late(now),
-        None => sender.expire_rexmit(),
+        Some(now) => replay::expire_late(sender, now),
+        None => replay::expire_rexmit(sender),
     };
     match answer {
         Ok(abandoned) => abandoned.as_slice() == due,
@@ -256,9 +268,24 @@ fn abandons(sender: &mut Sender, now: Option<u64>, due: &[AbandonedMessage]) -> 
     }
 }
 
+// Whether the next group that is dropped is this run of messages, or these that are abandoned, or none.
+fn drops(
+    sender: &mut Sender,
+    now: u64,
+    run: &Option<ExpiredMessages>,
+    due: &[AbandonedMessage],
+) -> bool {
+    match sender.drop_expired(now) {
+        Ok(Some(Dropped::Expired(gone))) => *run == Some(gone),
+        Ok(Some(Dropped::Abandoned(gone))) => run.is_none() && gone.as_slice() == due,
+        Ok(None) => run.is_none() && due.is_empty(),
+        Err(_) => false,
+    }
+}
+
 // Whether the FORWARD-TSN of at most so many bytes goes to a TSN and names so many streams.
 fn skips_within(sender: &Sender, bytes: usize, due: &Option<(u32, usize)>) -> bool {
-    match (sender.forward_tsn_within(bytes), due) {
+    match (sender.forward_tsn(bytes), due) {
         (Ok(Some(skip)), Some(due)) => (skip.new_cumulative_tsn, skip.streams.len()) == *due,
         (Ok(None), None) => true,
         _ => false,
@@ -267,7 +294,7 @@ fn skips_within(sender: &Sender, bytes: usize, due: &Option<(u32, usize)>) -> bo
 
 // Whether the FORWARD-TSN up to a TSN goes to this one, if anywhere.
 fn skips_to(sender: &Sender, tsn: u32, due: &Option<u32>) -> bool {
-    match sender.forward_tsn_to(tsn) {
+    match replay::forward_tsn_to(sender, tsn) {
         Ok(Some(skip)) => *due == Some(skip.new_cumulative_tsn),
         Ok(None) => due.is_none(),
         Err(_) => false,
@@ -286,8 +313,13 @@ fn numbers(sender: &Sender) -> Option<(u16, usize, u64)> {
 
 // The TSN of the first chunk that is marked.
 fn marked(sender: &Sender) -> Option<u32> {
-    let chunk = sender.next_to_retransmit()?;
+    let chunk = replay::next_to_retransmit(sender)?;
     Some(chunk.tsn)
+}
+
+// How many bytes the chunk in flight with a TSN has; None where none is.
+fn bytes_of(sender: &Sender, tsn: u32) -> Option<usize> {
+    Some(sender.outbound().get(tsn)?.user_data.len())
 }
 
 // How often a chunk in flight was sent; 0 where none is.
@@ -317,12 +349,12 @@ fn is_seen(sender: &Sender, step: &Step) -> bool {
     match step {
         Flight(tsn, chunks, bytes) => {
             sender.acked_tsn() == *tsn
-                && sender.chunks_in_flight() == *chunks
-                && sender.bytes_in_flight() == *bytes
+                && sender.outbound().inflight_len() == *chunks
+                && sender.outbound().inflight_bytes() == *bytes
         }
         At(place, due) => is_at(sender, *place, due),
-        BytesOf(tsn, bytes) => sender.bytes_of(*tsn) == *bytes,
-        Buffered(due) => sender.buffered_amount(1) == *due,
+        BytesOf(tsn, bytes) => bytes_of(sender, *tsn) == *bytes,
+        Buffered(due) => buffered(sender, 1) == *due,
         Marked(due) => marked(sender) == *due,
         Within(bytes, due) => skips_within(sender, *bytes, due),
         UpTo(tsn, due) => skips_to(sender, *tsn, due),
@@ -331,14 +363,14 @@ fn is_seen(sender: &Sender, step: &Step) -> bool {
         Sequence(due) => numbers(sender).is_some_and(|it| it.0 == *due),
         Unused => numbers(sender) == Some((0, 0, 0)),
         Sizes(fragment, message, waiting) => {
-            sender.fragment_size() == *fragment
-                && sender.max_message_size() == *message
+            replay::fragment_size(sender) == *fragment
+                && replay::max_message_size(sender) == *message
                 && sender.outbound().pending_len() == *waiting
         }
         Contains(due) => sender.outbound().contains_stream(1) == *due,
         NextTsn(tsn) => sender.next_tsn() == *tsn,
         Sendings(tsn, due) => sendings(sender, *tsn) == *due,
-        AckPoint(tsn) => sender.advanced_ack_point() == *tsn,
+        AckPoint(tsn) => replay::advanced_ack_point(sender) == *tsn,
         _ => false,
     }
 }
@@ -347,10 +379,10 @@ fn is_seen(sender: &Sender, step: &Step) -> bool {
 fn is_made(sender: &mut Sender, step: &Step) -> bool {
     match step {
         MarkAll => sender.retransmit_all(),
-        Start(now) => sender.start(*now),
+        Start(now) => replay::start(sender, *now),
         Fragments(size) if *size > 0 && *size < 65_519 => sender.set_fragment_size(*size),
         Close => sender.close(1),
-        CountResend(tsn) => sender.count_resend(*tsn),
+        CountResend(tsn) => replay::count_resend(sender, *tsn),
         _ => return false,
     }
     true
@@ -369,8 +401,8 @@ fn is_done(sender: &mut Sender, step: &Step) -> bool {
         Worn(due) => abandons(sender, None, due),
         Late(now, due) => abandons(sender, Some(*now), due),
         Abandon(tsn, due) => sender.abandon(*tsn) == Ok(*due),
-        Expire(now, due) => sender.expire(*now) == *due,
-        ExpireRun(now, due) => sender.expire_run(*now) == *due,
+        Expire(now, due) => replay::expire(sender, *now) == *due,
+        DropExpired(now, run, due) => drops(sender, *now, run, due),
         Reset(due) => sender.reset(1) == *due,
         Threshold(stream, bytes, due) => sets_low(sender, *stream, *bytes, due),
         _ => is_made(sender, step) || is_seen(sender, step),

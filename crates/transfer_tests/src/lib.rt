@@ -1,4 +1,4 @@
-//! Callers of the halves of a link, and tests of them.
+//! Callers of the queues and of the halves of a link, and tests of them.
 #![tactic(auto)]
 
 #[cfg(test)]
@@ -11,6 +11,7 @@ mod host;
 mod hosts;
 #[cfg(test)]
 mod part;
+pub mod queues;
 #[cfg(test)]
 mod receiver_tests;
 #[cfg(test)]
@@ -20,8 +21,6 @@ pub mod receiving;
 mod repeat_tests;
 #[cfg(test)]
 mod rules_tests;
-#[cfg(test)]
-mod saving_tests;
 #[cfg(test)]
 mod sender_tests;
 pub mod sending;

@@ -77,14 +77,15 @@ pub(crate) fn reports(
     blocks: &[(u16, u16)],
     duplicates: usize,
 ) -> bool {
-    match receiver.sack_with(4660) {
+    let window = receiver.window();
+    match receiver.sack(usize::MAX) {
         Ok(sack) => {
             let mut same = sack.gap_ack_blocks.len() == blocks.len();
             for (block, ends) in sack.gap_ack_blocks.iter().zip(blocks.iter()) {
                 same = same && block.start == ends.0 && block.end == ends.1;
             }
             same && sack.cumulative_tsn_ack == cumulative_tsn
-                && sack.advertised_receiver_window_credit == 4660
+                && sack.advertised_receiver_window_credit == window
                 && sack.duplicate_tsn.len() == duplicates
         }
         Err(_) => false,

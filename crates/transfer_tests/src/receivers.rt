@@ -9,10 +9,12 @@ use crate::receiving::{acknowledge, take_chunk, take_or_discard};
 use sctp_chunks::chunk::chunk_forward_tsn::{ChunkForwardTsn, ChunkForwardTsnStream};
 use sctp_chunks::chunk::chunk_payload_data::ChunkPayloadData;
 use sctp_chunks::chunk::chunk_selective_ack::{ChunkSelectiveAck, GapAckBlock};
+use sctp_receiver::costs;
 use sctp_receiver::laws::a_skip_costs_by_what_is_held;
 use sctp_receiver::receiver::Receiver;
-use sctp_receiver::receiver::arrival::{Arrival, Forwarded};
+use sctp_receiver::receiver::arrival::{Arrival, Closed, Forwarded};
 use sctp_receiver::receiver::refusal::ReceiverRefusal;
+use sctp_receiver::replay::{forward_tsn_by_names, open_streams};
 use sctp_serial::turns::Turns;
 use sctp_util::error::Error;
 use std::alloc::Global;
@@ -96,11 +98,9 @@ fn follow(
     a_skip_costs_by_what_is_held();
     let mut turns = Turns::new();
     match way {
-        Way::Known => receiver.forward_tsn_skips_counted(skip, &mut turns, skips),
-        Way::PastClosed => {
-            receiver.forward_tsn_past_closed_skips_counted(skip, &mut turns, skips)
-        }
-        Way::ByNames => receiver.forward_tsn_by_names_skips_counted(skip, &mut turns, skips),
+        Way::Known => costs::forward_tsn(receiver, skip, Closed::Refuse, &mut turns, skips),
+        Way::PastClosed => costs::forward_tsn(receiver, skip, Closed::PassOver, &mut turns, skips),
+        Way::ByNames => forward_tsn_by_names(receiver, skip),
     }
 }
 
@@ -114,9 +114,9 @@ fn forward(
         return follow(receiver, skip, way, &mut Turns::new());
     }
     match way {
-        Way::Known => receiver.forward_tsn(skip),
-        Way::PastClosed => receiver.forward_tsn_past_closed(skip),
-        Way::ByNames => receiver.forward_tsn_by_names(skip),
+        Way::Known => receiver.forward_tsn(skip, Closed::Refuse),
+        Way::PastClosed => receiver.forward_tsn(skip, Closed::PassOver),
+        Way::ByNames => forward_tsn_by_names(receiver, skip),
     }
 }
 
@@ -127,7 +127,7 @@ fn take(
     counted: bool,
 ) -> Result<Arrival, ReceiverRefusal> {
     match made {
-        Ok(chunk) if counted => receiver.data_counted(&chunk, &mut Turns::new()),
+        Ok(chunk) if counted => costs::data(receiver, &chunk, &mut Turns::new()),
         Ok(chunk) => receiver.data(&chunk),
         Err(_) => Err(ReceiverRefusal::OutOfMemory),
     }
@@ -175,7 +175,6 @@ fn are_blocks(blocks: &[GapAckBlock], want: &[(u16, u16)]) -> bool {
 
 fn says(sack: &ChunkSelectiveAck, tsn: u32, blocks: &[(u16, u16)], duplicates: &[u32]) -> bool {
     sack.cumulative_tsn_ack == tsn
-        && sack.advertised_receiver_window_credit == 4660
         && are_blocks(&sack.gap_ack_blocks, blocks)
         && sack.duplicate_tsn.as_slice() == duplicates
 }
@@ -188,13 +187,16 @@ fn reports(
     duplicates: &[u32],
     counted: bool,
 ) -> bool {
+    let window = receiver.window();
     let sack = if counted {
-        receiver.sack_with_counted(4660, &mut Turns::new())
+        costs::sack(receiver, usize::MAX, &mut Turns::new())
     } else {
-        receiver.sack_with(4660)
+        receiver.sack(usize::MAX)
     };
     match sack {
-        Ok(sack) => says(&sack, tsn, blocks, duplicates),
+        Ok(sack) => {
+            sack.advertised_receiver_window_credit == window && says(&sack, tsn, blocks, duplicates)
+        }
         Err(_) => false,
     }
 }
@@ -218,8 +220,8 @@ fn are_readable(receiver: &Receiver, due: &[u16]) -> bool {
 }
 
 fn streams_are(receiver: &Receiver, due: &[(u16, usize)]) -> bool {
-    let mut well = receiver.open_streams().len() == due.len();
-    for (stream, want) in receiver.open_streams().iter().zip(due.iter()) {
+    let mut well = open_streams(receiver).len() == due.len();
+    for (stream, want) in open_streams(receiver).iter().zip(due.iter()) {
         well = well && (stream.queue.si(), stream.queue.get_num_bytes()) == *want;
     }
     well
@@ -234,7 +236,7 @@ fn is_seen(receiver: &Receiver, step: &Step) -> bool {
         Held(bytes, window) => receiver.held_bytes() == *bytes && receiver.window() == *window,
         Streams(due) => streams_are(receiver, due),
         HasStats(stream, want) => receiver.stats(*stream).is_some() == *want,
-        NothingBeyond => receiver.filter().is_empty(),
+        NothingBeyond => !receiver.has_gaps(),
         _ => false,
     }
 }

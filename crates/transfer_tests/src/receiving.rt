@@ -69,5 +69,5 @@ pub fn acknowledge(
     ensures err { OnErr result (receiver.new ≡ receiver.old) }
     ensures memory { IfErr result (λ e. e ≡ OutOfMemory) }
 {
-    receiver.sack_within(packet - 12)
+    receiver.sack(packet - 12)
 }

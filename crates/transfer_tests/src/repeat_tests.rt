@@ -5,6 +5,7 @@ use sctp_chunks::chunk::chunk_payload_data::ChunkPayloadData;
 use sctp_receiver::receiver::Receiver;
 use sctp_receiver::receiver::arrival::Arrival;
 use sctp_receiver::receiver::limits::Limits;
+use sctp_receiver::replay::filter;
 use std::alloc::Global;
 
 const LIMITS: Limits = Limits {
@@ -23,7 +24,7 @@ fn comes(receiver: &mut Receiver, chunk: &ChunkPayloadData, times: u32) -> bool 
 
 // Whether so many duplicates are noted.
 fn notes(receiver: &Receiver, count: usize) -> bool {
-    receiver.filter().duplicates().len() == count
+    filter(receiver).duplicates().len() == count
 }
 
 // Whether no more duplicates are noted than one SACK reports, also where the TSN is dropped, and again after the SACK.

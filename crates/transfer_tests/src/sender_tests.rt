@@ -3,7 +3,7 @@
 use crate::host::Host;
 use crate::hosts::Step::{
     Abandon, Ack, AckPoint, Acked, At, Buffered, BytesOf, Close, Contains, CountResend, Drained,
-    Expire, ExpireRun, Flight, Fragments, Idle, IsOpen, Keep, Late, MarkAll, Marked, Miss,
+    DropExpired, Expire, Flight, Fragments, Idle, IsOpen, Keep, Late, MarkAll, Marked, Miss,
     MissBlock, Mode, NextTsn, Open, PeerAt, Read, Readable, Reopen, Resend, Reset, Send,
     SendFirstAgain, SendMarked, SendNumbered, Sendings, Sequence, Sizes, Skip, Start, Swap,
     TakeBack, Threshold, Unused, UpTo, Within, Worn, Write,
@@ -98,7 +98,7 @@ const NOT_SENT: Result<&[Released], SenderRefusal> = Err(SenderRefusal::Inflight
 const NONE: &[Step] = &[];
 
 // Each case: what it shows, the first TSNs of both hosts, and the steps in two parts.
-const CASES: [(&str, u32, u32, &[Step], &[Step]); 24] = [
+const CASES: [(&str, u32, u32, &[Step], &[Step]); 25] = [
     (
         "what is in flight is walked by places",
         u32::MAX,
@@ -189,6 +189,70 @@ const CASES: [(&str, u32, u32, &[Step], &[Step]); 24] = [
             SendMarked(1, None),
             Within(12, Some((0, 1))),
             Within(11, None),
+            // so is the next one, by the call that drops whatever is due
+            Write(b"c", true),
+            Send(true),
+            MarkAll,
+            SendMarked(6, Some(1)),
+            DropExpired(6, None, &[]),
+            MarkAll,
+            DropExpired(
+                6,
+                None,
+                &[AbandonedMessage {
+                    number: 1,
+                    bytes: 1,
+                    ..ABANDONED
+                }],
+            ),
+            DropExpired(6, None, &[]),
+        ],
+    ),
+    (
+        // RFC 3758 3.5, 4.1: the rest of a partially sent message, one that waits, and then one in flight.
+        "what is past its lifetime is dropped group by group, until none is left",
+        0,
+        7,
+        NONE,
+        &[
+            Open,
+            Mode(false, ReliabilityType::Timed, 1),
+            Write(b"abcdefgh", true),
+            Send(true),
+            Write(b"jk", true),
+            Start(0),
+            DropExpired(999_999, None, &[]),
+            DropExpired(
+                1_000_000,
+                None,
+                &[AbandonedMessage {
+                    is_low: false,
+                    ..ABANDONED
+                }],
+            ),
+            DropExpired(
+                1_000_000,
+                Some(ExpiredMessages {
+                    messages: 1,
+                    bytes: 2,
+                    is_low: true,
+                    ..UNSENT_TOGETHER
+                }),
+                &[],
+            ),
+            DropExpired(1_000_000, None, &[]),
+            Write(b"l", true),
+            Send(true),
+            DropExpired(
+                1_000_000,
+                None,
+                &[AbandonedMessage {
+                    number: 2,
+                    bytes: 1,
+                    ..ABANDONED
+                }],
+            ),
+            DropExpired(1_000_000, None, &[]),
         ],
     ),
     (
@@ -309,8 +373,8 @@ const CASES: [(&str, u32, u32, &[Step], &[Step]); 24] = [
             Write(b"l", true),
             Write(b"mno", true),
             Start(0),
-            ExpireRun(1_000_000, Some(UNSENT_TOGETHER)),
-            ExpireRun(1_000_000, None),
+            DropExpired(1_000_000, Some(UNSENT_TOGETHER), &[]),
+            DropExpired(1_000_000, None, &[]),
             Write(b"p", true),
             SendNumbered(2),
         ],

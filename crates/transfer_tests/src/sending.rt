@@ -107,22 +107,3 @@ fn tell_low(released: &[Released], stream: u16) -> bool
         .iter()
         .any(|one| one.stream == stream && one.is_low)
 }
-
-/// Sends the first chunk again that is marked for that, and answers it as it is noted in flight then; None where none is.
-pub fn send_again(sender: &mut Sender, now: u64) -> Result<Option<ChunkPayloadData>, SenderRefusal>
-    ensures idle { find is_to_resend sender.old.flight.queue.inflight.chunks ≡ None
-        → IsOk result }
-    ensures none { IfOk result (λ sent. sent ≡ None → sender.new ≡ sender.old) }
-    ensures sent { (c : ChunkPayloadData)
-        → find is_to_resend sender.old.flight.queue.inflight.chunks ≡ Some c
-        → IfOk result (λ sent. find (has_tsn c.tsn) sender.new.flight.queue.inflight.chunks
-        ≡ sent) }
-    ensures err { OnErr result (sender.new ≡ sender.old) }
-{
-    let Some(chunk) = sender.next_to_retransmit() else {
-        return Ok(None);
-    };
-    let tsn = chunk.tsn;
-    let again = sender.resend(tsn, now)?;
-    Ok(Some(again))
-}

@@ -2,16 +2,10 @@
 
 use super::Association;
 use crate::fault::Fault;
-use sctp_base::util::sna32lt;
-use sctp_chunks::chunk::chunk_error::ChunkError;
-use sctp_chunks::chunk::chunk_forward_tsn::ChunkForwardTsn;
-use sctp_chunks::chunk::chunk_kind::ChunkKind;
-use sctp_chunks::chunk::chunk_payload_data::ChunkPayloadData;
-use sctp_chunks::chunk::chunk_reconfig::ChunkReconfig;
-use sctp_chunks::chunk::chunk_selective_ack::ChunkSelectiveAck;
-use sctp_receiver::receiver::arrival::Arrival;
-use sctp_receiver::receiver::refusal::ReceiverRefusal;
-use sctp_sender::sender::flight::Released;
+use sctp::{
+    Arrival, ChunkError, ChunkForwardTsn, ChunkKind, ChunkPayloadData, ChunkReconfig,
+    ChunkSelectiveAck, Closed, ReceiverRefusal, Released, sna32lt,
+};
 
 /// How long a SACK may wait for a second packet, in nanoseconds (RFC 4960 6.2).
 const SACK_DELAY: u64 = 200_000_000;
@@ -58,10 +52,10 @@ impl Association {
 
     // Takes a DATA chunk. What repeats, fills a gap or leaves one is acknowledged at once (RFC 4960 6.2, 6.7).
     fn take_data(&mut self, chunk: &ChunkPayloadData, now: u64) -> Result<(), Fault> {
-        let had_gap = !self.receiver.filter().is_empty();
+        let had_gap = self.receiver.has_gaps();
         match self.receiver.data(chunk) {
             Ok(Arrival::New { .. }) => {
-                if chunk.immediate_sack || had_gap || !self.receiver.filter().is_empty() {
+                if chunk.immediate_sack || had_gap || self.receiver.has_gaps() {
                     self.sack_at = Some(now);
                 }
                 Ok(())
@@ -108,7 +102,7 @@ impl Association {
     // names of these. One that names too far ahead comes again.
     fn take_skip(&mut self, skip: &ChunkForwardTsn, now: u64) -> Result<(), Fault> {
         self.sack_at = Some(now);
-        match self.receiver.forward_tsn_past_closed(skip) {
+        match self.receiver.forward_tsn(skip, Closed::PassOver) {
             Ok(_) | Err(ReceiverRefusal::TsnOpposite | ReceiverRefusal::NamedSsnTooFar) => Ok(()),
             Err(e) => Err(e.into()),
         }

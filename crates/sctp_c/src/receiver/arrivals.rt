@@ -18,7 +18,7 @@ use crate::in_place::read_data;
 use bytes::Bytes;
 use sctp_chunks::chunk::Chunk;
 use sctp_chunks::chunk::chunk_forward_tsn::ChunkForwardTsn;
-use sctp_receiver::receiver::arrival::{Arrival, Forwarded};
+use sctp_receiver::receiver::arrival::{Arrival, Closed, Forwarded};
 use sctp_util::error::Error;
 use std::alloc::Global;
 
@@ -105,7 +105,7 @@ pub extern "C" fn sctp_receiver_forward_tsn(
         Ok(forward) => forward,
         Err(e) => return of_error(e),
     };
-    match receiver.get_mut().forward_tsn(&forward) {
+    match receiver.get_mut().forward_tsn(&forward, Closed::Refuse) {
         Ok(Forwarded::Skipped) => SCTP_OK,
         Ok(Forwarded::Stale) => SCTP_STALE,
         Err(e) => of_receiver(e),
@@ -131,7 +131,7 @@ pub extern "C" fn sctp_receiver_forward_tsn_past_closed(
         Ok(forward) => forward,
         Err(e) => return of_error(e),
     };
-    match receiver.get_mut().forward_tsn_past_closed(&forward) {
+    match receiver.get_mut().forward_tsn(&forward, Closed::PassOver) {
         Ok(Forwarded::Skipped) => SCTP_OK,
         Ok(Forwarded::Stale) => SCTP_STALE,
         Err(e) => of_receiver(e),

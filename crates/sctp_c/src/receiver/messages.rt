@@ -15,7 +15,7 @@ fn of_none(receiver: &Receiver, stream: u16) -> u32
     ensures nothing { is_open stream receiver.now ≡ true → result ≡ 3 }
     ensures unknown { is_open stream receiver.now ≡ false → result ≡ 23 }
 {
-    if receiver.reassembly(stream).is_some() {
+    if receiver.stats(stream).is_some() {
         SCTP_NOTHING
     } else {
         SCTP_STREAM_UNKNOWN

@@ -41,7 +41,7 @@ pub extern "C" fn sctp_receiver_sack(
     let Ok(mut bytes) = BytesMut::with_capacity(alloc, room) else {
         return SCTP_NO_MEMORY;
     };
-    let Ok(sack) = receiver.get_mut().sack_within(room) else {
+    let Ok(sack) = receiver.get_mut().sack(room) else {
         return SCTP_NO_MEMORY;
     };
     match sack.marshal_to(&mut bytes) {

@@ -14,6 +14,7 @@ ghost use Rattle.sctp_sender.specs.declared.sender.refusal.SenderRefusal.TheVari
 
 use super::SctpSender;
 use crate::code::{SCTP_NOTHING, SCTP_OK, SCTP_SHORT_BUFFER, of_sender};
+use sctp_sender::replay;
 use sctp_sender::sender::flight::late::AbandonedMessage;
 
 /// A message that was abandoned.
@@ -101,7 +102,7 @@ pub extern "C" fn sctp_sender_expire(
     ensures nothing { result ≡ 3 → (expiring now sender.old.value.flight.queue ≡ None)
         × ((sender.new.value ≡ sender.old.value) × (row.new ≡ row.old)) }
 {
-    match sender.get_mut().expire(now) {
+    match replay::expire(sender.get_mut(), now) {
         Some(gone) => {
             *row = SctpExpired {
                 bytes: gone.bytes,
@@ -130,7 +131,7 @@ pub extern "C" fn sctp_sender_expire_tail(
         (if may_send sender.old.value.flight then OutOfMemory else TsnsUsedUp) }
     ensures kept { result ≢ 0 → (sender.new.value ≡ sender.old.value) × (row.new ≡ row.old) }
 {
-    match sender.get_mut().expire_tail(now) {
+    match replay::expire_tail(sender.get_mut(), now) {
         Ok(Some(gone)) => {
             *row = abandoned_row(&gone);
             SCTP_OK
@@ -162,12 +163,12 @@ pub extern "C" fn sctp_sender_expire_late(
     ensures kept { 16 ≤ result → result ≢ 17 → count.new ≡ count.old }
 {
     let own = sender.get_mut();
-    let in_flight = own.chunks_in_flight();
+    let in_flight = own.outbound().inflight_len();
     if rows.len() <= in_flight {
         *count = in_flight;
         return SCTP_SHORT_BUFFER;
     }
-    match own.expire_late(now) {
+    match replay::expire_late(own, now) {
         Ok(gone) => {
             fill_abandoned(rows, &gone);
             *count = gone.len();
@@ -197,12 +198,12 @@ pub extern "C" fn sctp_sender_expire_rexmit(
     ensures kept { 16 ≤ result → result ≢ 17 → count.new ≡ count.old }
 {
     let own = sender.get_mut();
-    let in_flight = own.chunks_in_flight();
+    let in_flight = own.outbound().inflight_len();
     if rows.len() <= in_flight {
         *count = in_flight;
         return SCTP_SHORT_BUFFER;
     }
-    match own.expire_rexmit() {
+    match replay::expire_rexmit(own) {
         Ok(gone) => {
             fill_abandoned(rows, &gone);
             *count = gone.len();

@@ -176,7 +176,7 @@ pub extern "C" fn sctp_sender_acked(
     ensures kept { 16 ≤ result → result ≢ 17 → count.new ≡ count.old }
 {
     let own = sender.get_mut();
-    let most = own.chunks_in_flight();
+    let most = own.outbound().inflight_len();
     if rows.len() < most {
         *count = most;
         return SCTP_SHORT_BUFFER;
@@ -210,7 +210,7 @@ pub extern "C" fn sctp_sender_acked_up_to(
     ensures kept { 16 ≤ result → result ≢ 17 → count.new ≡ count.old }
 {
     let own = sender.get_mut();
-    let most = own.chunks_in_flight();
+    let most = own.outbound().inflight_len();
     if rows.len() < most {
         *count = most;
         return SCTP_SHORT_BUFFER;
@@ -263,7 +263,7 @@ pub extern "C" fn sctp_sender_take_back(
     ensures kept { 16 ≤ result → result ≢ 17 → count.new ≡ count.old }
 {
     let own = sender.get_mut();
-    let most = own.chunks_in_flight();
+    let most = own.outbound().inflight_len();
     if rows.len() < most {
         *count = most;
         return SCTP_SHORT_BUFFER;

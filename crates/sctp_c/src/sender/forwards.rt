@@ -9,6 +9,7 @@ use crate::bytes_out::put_padded;
 use crate::code::{SCTP_NOTHING, SCTP_OK, SCTP_SHORT_BUFFER, of_error, of_sender};
 use crate::fills::put_bytes;
 use sctp_chunks::chunk::Chunk;
+use sctp_sender::replay;
 use sctp_sender::sender::Sender;
 use std::alloc::Global;
 
@@ -25,7 +26,7 @@ fn want_forward_tsn(own: &Sender, written: &mut usize) -> u32
     ensures short { result ≡ 17 → IsWanted written.new own.now.flight }
     ensures kept { result ≢ 17 → written.new ≡ written.old }
 {
-    match own.forward_tsn() {
+    match replay::forward_tsn_to(own, replay::advanced_ack_point(own)) {
         Ok(Some(whole)) => {
             let names = whole.streams.len().min(MAX_NAMES);
             *written = 8 + 4 * names;
@@ -61,7 +62,7 @@ pub extern "C" fn sctp_sender_forward_tsn(
 {
     let own = sender.get_mut();
     let room = out.len().min(MAX_FORWARD_TSN_SIZE);
-    let chunk = match own.forward_tsn_within(room) {
+    let chunk = match own.forward_tsn(room) {
         Ok(Some(chunk)) => chunk,
         Ok(None) => return want_forward_tsn(own, written),
         Err(e) => return of_sender(e),
@@ -99,7 +100,7 @@ pub extern "C" fn sctp_sender_forward_tsn_to(
     ensures kept { result ≢ 0 → out.new ≡ out.old }
     ensures unanswered { result ≢ 0 → result ≢ 17 → written.new ≡ written.old }
 {
-    let chunk = match sender.get_mut().forward_tsn_to(tsn) {
+    let chunk = match replay::forward_tsn_to(sender.get_mut(), tsn) {
         Ok(Some(chunk)) => chunk,
         Ok(None) => return SCTP_NOTHING,
         Err(e) => return of_sender(e),

@@ -14,6 +14,7 @@ ghost use Rattle.sctp_serial.specs.DataChunks.{bytes_of, has_tsn};
 use super::SctpSender;
 use crate::code::{SCTP_NOT_IN_FLIGHT, SCTP_NOTHING, SCTP_OK, SCTP_STREAM_UNKNOWN};
 use sctp_data::chunk::chunk_payload_data::ChunkPayloadData;
+use sctp_sender::replay;
 
 /// A chunk in flight.
 #[repr(C)]
@@ -113,7 +114,7 @@ pub extern "C" fn sctp_sender_in_flight_at(
         × (slice_get sender.old.value.flight.queue.inflight.chunks place ≡ None) }
     ensures same { sender.new.value ≡ sender.old.value }
 {
-    match sender.get_mut().in_flight_at(place) {
+    match replay::in_flight_at(sender.get_mut(), place) {
         Some(chunk) => {
             *row = row_of(chunk);
             SCTP_OK
@@ -136,7 +137,7 @@ pub extern "C" fn sctp_sender_next_to_retransmit(
         × (find is_to_resend sender.old.value.flight.queue.inflight.chunks ≡ None) }
     ensures same { sender.new.value ≡ sender.old.value }
 {
-    match sender.get_mut().next_to_retransmit() {
+    match replay::next_to_retransmit(sender.get_mut()) {
         Some(chunk) => {
             *row = row_of(chunk);
             SCTP_OK
@@ -160,9 +161,9 @@ pub extern "C" fn sctp_sender_buffered_amount(
         × (stream_of stream sender.old.value ≡ None) }
     ensures same { sender.new.value ≡ sender.old.value }
 {
-    match sender.get_mut().buffered_amount(stream) {
-        Some(bytes) => {
-            *amount = bytes;
+    match sender.get_mut().stream(stream) {
+        Some(state) => {
+            *amount = state.buffered_amount();
             SCTP_OK
         }
         None => SCTP_STREAM_UNKNOWN,
@@ -202,7 +203,7 @@ pub extern "C" fn sctp_sender_advanced_ack_point(sender: &mut SctpSender) -> u32
     ensures value { result ≡ advanced_ack_point sender.old.value.flight }
     ensures same { sender.new.value ≡ sender.old.value }
 {
-    sender.get_mut().advanced_ack_point()
+    replay::advanced_ack_point(sender.get_mut())
 }
 
 /// How many bytes of user data are in flight (RFC 4960 7.2): what is acknowledged or abandoned counts no more.
@@ -211,7 +212,7 @@ pub extern "C" fn sctp_sender_bytes_in_flight(sender: &mut SctpSender) -> usize
     ensures value { result ≡ bytes_of sender.old.value.flight.queue.inflight.chunks }
     ensures same { sender.new.value ≡ sender.old.value }
 {
-    sender.get_mut().bytes_in_flight()
+    sender.get_mut().outbound().inflight_bytes()
 }
 
 /// How many chunks are in flight: each TSN past `sctp_sender_acked_tsn` and before `sctp_sender_next_tsn` has one.
@@ -220,7 +221,7 @@ pub extern "C" fn sctp_sender_chunks_in_flight(sender: &mut SctpSender) -> usize
     ensures value { result ≡ length sender.old.value.flight.queue.inflight.chunks }
     ensures same { sender.new.value ≡ sender.old.value }
 {
-    sender.get_mut().chunks_in_flight()
+    sender.get_mut().outbound().inflight_len()
 }
 
 /// The first TSN in flight that is neither acknowledged nor abandoned (RFC 4960 6.3.3): `tsn` becomes that. `SCTP_NOTHING`: there is

@@ -20,6 +20,7 @@ use crate::code::{
 };
 use crate::data_out::{data_size, put_data};
 use sctp_data::chunk::chunk_payload_data::ChunkPayloadData;
+use sctp_sender::replay;
 use sctp_sender::sender::Sender;
 use sctp_util::error::{Error, Result};
 
@@ -29,7 +30,7 @@ pub extern "C" fn sctp_sender_start(sender: &mut SctpSender, now: u64)
     ensures { sender.new.value ≡ with_flight (with_queue sender.old.value.flight
         (all_started now sender.old.value.flight.queue)) sender.old.value }
 {
-    sender.get_mut().start(now);
+    replay::start(sender.get_mut(), now);
 }
 
 /// Marks each chunk in flight that is neither acknowledged nor abandoned for retransmission, as where the timer T3-rtx runs out (RFC
@@ -100,7 +101,7 @@ pub extern "C" fn sctp_sender_send_next(
     let chunk = match next_chunk(own) {
         Ok(Some(chunk)) => chunk,
         Ok(None) => {
-            let _ = own.send_next_tsn(now);
+            let _ = replay::send_next_tsn(own, now);
             return SCTP_NOTHING;
         }
         Err(e) => return of_error(e),
@@ -112,7 +113,7 @@ pub extern "C" fn sctp_sender_send_next(
         *written = size;
         return SCTP_SHORT_BUFFER;
     }
-    match own.send_next_tsn(now) {
+    match replay::send_next_tsn(own, now) {
         Ok(Some(sent)) => {
             *tsn = sent;
             *written = size;

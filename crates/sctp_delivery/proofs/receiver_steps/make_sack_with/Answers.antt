@@ -2,4 +2,4 @@ use Rattle.sctp_delivery.proofs.SackCalls.{only-made}
 use Rattle.sctp_delivery.proofs.receiver_steps.make_sack_with.Goals as goal
 
 pub returns-clause-step : goal.returns-clause-step
-returns-clause-step c = only-made c.make_sack_with.result c.args.credit c.args.receiver.now
+returns-clause-step c = only-made c.make_sack.result c.args.credit 65532 c.args.receiver.now

@@ -2,7 +2,7 @@
 
 ghost use Rattle.std.specs.Prelude.{◌≡◌, length};
 
-use crate::chunk::chunk;
+use crate::queues::chunk::chunk;
 use sctp_data::chunk::chunk_payload_data::ChunkPayloadData;
 use sctp_queues::pending_queue::PendingQueue;
 use sctp_util::error::Error;

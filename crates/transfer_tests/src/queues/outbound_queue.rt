@@ -1,6 +1,6 @@
 //! Worked examples of an outbound queue. Moments are nanoseconds; the lifetimes here are one millisecond.
 
-use crate::chunk::chunk;
+use crate::queues::chunk::chunk;
 use bytes::Bytes;
 use sctp_data::chunk::chunk_payload_data::{ChunkPayloadData, ReliabilityType};
 use sctp_queues::outbound_queue::{ExpiredRun, OutboundQueue};

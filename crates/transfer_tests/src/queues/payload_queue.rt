@@ -1,6 +1,6 @@
 //! Worked examples of a payload queue.
 
-use crate::chunk::chunk;
+use crate::queues::chunk::chunk;
 use sctp_data::chunk::chunk_selective_ack::GapAckBlock;
 use sctp_queues::payload_queue::PayloadQueue;
 use sctp_queues::turns::Turns;

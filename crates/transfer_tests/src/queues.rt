@@ -1,6 +1,6 @@
-//! Worked examples of the queues, over their public calls.
-#![tactic(auto)]
+//! Callers of the queues, and worked examples over their public calls.
 
+pub mod calls;
 #[cfg(test)]
 mod chunk;
 #[cfg(test)]
@@ -15,3 +15,4 @@ mod payload_queue;
 mod pending_queue;
 #[cfg(test)]
 mod reassembly_queue;
+pub mod receive;

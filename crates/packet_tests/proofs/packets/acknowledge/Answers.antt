@@ -1,7 +1,7 @@
 use Rattle.std.proofs.Common.{rules, ◌+◌, ◌<◌, ◌^◌, [], length, arith}
 use Rattle.sctp_data.specs.SelectiveAck.{Sack, sack_value}
 use Rattle.sctp_chunks.proofs.Lengths.{length_sack_value}
-use Rattle.uses.proofs.packets.acknowledge.Goals as goal
+use Rattle.packet_tests.proofs.packets.acknowledge.Goals as goal
 
 pub returns-clause-memory : goal.returns-clause-memory
 returns-clause-memory g c =

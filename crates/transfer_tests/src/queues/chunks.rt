@@ -1,7 +1,7 @@
 //! Worked examples of messages: taken whole and in pieces, and their fragments in any order. Where those stand is worked out
 //! from the order of serial numbers by hand.
 
-use crate::part::{FIRST, LAST, MIDDLE, WHOLE, ordered, unordered};
+use crate::queues::part::{FIRST, LAST, MIDDLE, WHOLE, ordered, unordered};
 use sctp_data::chunk::chunk_payload_data::PayloadProtocolIdentifier;
 use sctp_queues::chunks::{Chunks, Fragments};
 use sctp_queues::fragment::Fragment;

@@ -1,6 +1,6 @@
 //! Worked examples of a reassembly queue. Where sets stand is worked out from the order of serial numbers by hand.
 
-use crate::part::{FIRST, LAST, MIDDLE, WHOLE, ordered, unordered};
+use crate::queues::part::{FIRST, LAST, MIDDLE, WHOLE, ordered, unordered};
 use sctp_data::chunk::chunk_payload_data::ChunkPayloadData;
 use sctp_queues::chunks::Chunks;
 use sctp_queues::reassembly_queue::ReassemblyQueue;

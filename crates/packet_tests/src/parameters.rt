@@ -1,4 +1,4 @@
-//! A caller of `sctp_util`.
+//! A caller of `sctp_base`.
 
 ghost use Rattle.std.specs.Prelude.{IfOk, IfSome};
 ghost use Rattle.sctp_params.specs.Param.{state_cookie};

@@ -1,0 +1,203 @@
+-- What `drop_expired` gives up, as calls of a session.
+use Rattle.std.proofs.Common.{◌≡◌, ◌≢◌, ℕ, zero, suc, ◌+◌, ◌-◌, ◌*◌, ◌%◌, ◌^◌, ◌<◌, ◌≤◌, Bool, true, false, List, [], ◌∷◌, ◌++◌, Option, Some, None, refl, ap, ap₂, sym, subst, ◌∙◌, not, is_some, arith}
+use Rattle.std.specs.Prelude.{IfSome, All, if◌then◌else◌, ◌==◌}
+use Rattle.sctp_data.specs.declared.chunk.chunk_payload_data.ChunkPayloadData.{ChunkPayloadData}
+use Rattle.sctp_outbound.specs.outbound_queue.OutboundQueue.{AreExpiredOf, Outbound, expired_of, expired_times, expiring, expiring_tail, stream_and_kind, total_bytes}
+use Rattle.sctp_sender.specs.declared.sender.ExpiredMessage.{ExpiredMessage}
+use Rattle.sctp_sender.specs.declared.sender.flight.late.AbandonedMessage.{AbandonedMessage}
+use Rattle.sctp_sender.specs.Drops.{TailGoes}
+use Rattle.sctp_sender.specs.Flight.{with_queue}
+use Rattle.sctp_sender.specs.Outgoing.{after_expiries, has_number, less_by}
+use Rattle.sctp_sender.specs.Sender.{Transmission, after_abandon, after_expire, after_expire_run}
+use Rattle.sctp_sender.specs.SenderRuns.{bytes_of_all, held_by_sender}
+use Rattle.sctp_stream.specs.declared.stream.StreamState.{StreamState}
+use Rattle.sctp_util.specs.Lists.{change_where}
+use Rattle.sctp_delivery.specs.SenderCalls.{Drops, SenderCall, SenderMakes, SenderMakesEach, expires, expires_late, expires_rexmit, expires_tail, is_drop, starts}
+
+-- ## Calls one after another
+
+one : (call : SenderCall) (old new : Transmission) → is_drop call ≡ true → SenderMakes call old new → Drops old new
+one call old new e m = (call ∷ [], ((new, (m, refl)), (e, tt)))
+
+each-then : (cs ds : List SenderCall) (a b c : Transmission) → SenderMakesEach cs a b → SenderMakesEach ds b c → SenderMakesEach (cs ++ ds) a c
+each-then [] ds a b c h k = subst (λ t. SenderMakesEach ds t c) h k
+each-then (x ∷ cs) ds a b c h k = (h.0, (h.1.0, each-then cs ds h.0 b c h.1.1 k))
+
+drops-both : (cs ds : List SenderCall) → All (λ c. is_drop c ≡ true) cs → All (λ c. is_drop c ≡ true) ds → All (λ c. is_drop c ≡ true) (cs ++ ds)
+drops-both [] ds h k = k
+drops-both (c ∷ cs) ds h k = (h.0, drops-both cs ds h.1 k)
+
+then : (a b c : Transmission) → Drops a b → Drops b c → Drops a c
+then a b c h k = (h.0 ++ k.0, (each-then h.0 k.0 a b c h.1.0 k.1.0, drops-both h.0 k.0 h.1.1 k.1.1))
+
+-- ## Messages in front
+
+-- so many messages and then one more
+states-then : (u : Bool) (n a b : ℕ) (l : StreamState) → n + 1 < 2 ^ 16 → after_expiries u 1 b (after_expiries u n a l) ≡ after_expiries u (n + 1) (a + b) l
+states-then true n a b l few = ap (λ k. record l { buffered_amount = k }) (omega arith)
+states-then false n a b l few =
+    let left : (l.buffered_amount - a) - b ≡ l.buffered_amount - (a + b) = omega arith in
+    let number : ((l.sequence_number + (2 ^ 16 - n)) % 2 ^ 16 + (2 ^ 16 - 1)) % 2 ^ 16 ≡ (l.sequence_number + (2 ^ 16 - (n + 1))) % 2 ^ 16 = omega arith in
+    ap (λ k. record l { buffered_amount = k; sequence_number = ((l.sequence_number + (2 ^ 16 - n)) % 2 ^ 16 + (2 ^ 16 - 1)) % 2 ^ 16 }) left
+    ∙ ap (λ k. record l { buffered_amount = l.buffered_amount - (a + b); sequence_number = k }) number
+
+streams-then : (s : ℕ) (u : Bool) (n a b : ℕ) → n + 1 < 2 ^ 16 → (ls : List StreamState)
+    → change_where (has_number s) (after_expiries u 1 b) (change_where (has_number s) (after_expiries u n a) ls)
+    ≡ change_where (has_number s) (after_expiries u (n + 1) (a + b)) ls
+streams-then s u n a b few [] = refl
+streams-then s u n a b few (l ∷ ls) = ap₂ (λ (k : StreamState) ks. k ∷ ks) (heads u (l.stream_identifier == s) refl) (streams-then s u n a b few ls)
+  where
+    twice : Bool → Bool → StreamState
+    twice v k =
+        let x : StreamState = if k then after_expiries v n a l else l in
+        if has_number s x then after_expiries v 1 b x else x
+
+    once : Bool → Bool → StreamState
+    once v k = if k then after_expiries v (n + 1) (a + b) l else l
+
+    chosen : Bool → Bool → StreamState
+    chosen v k = if k then after_expiries v 1 b (after_expiries v n a l) else after_expiries v n a l
+
+    kept : Bool → StreamState
+    kept k = if k then after_expiries u 1 b l else l
+
+    heads : (v k : Bool) → l.stream_identifier == s ≡ k → twice v (l.stream_identifier == s) ≡ once v (l.stream_identifier == s)
+    heads true true e = ap (twice true) e ∙ ap (chosen true) e ∙ states-then true n a b l few ∙ sym (ap (once true) e)
+    heads false true e = ap (twice false) e ∙ ap (chosen false) e ∙ states-then false n a b l few ∙ sym (ap (once false) e)
+    heads true false e = ap (twice true) e ∙ ap (λ (k : Bool). if k then after_expiries true 1 b l else l) e ∙ sym (ap (once true) e)
+    heads false false e = ap (twice false) e ∙ ap (λ (k : Bool). if k then after_expiries false 1 b l else l) e ∙ sym (ap (once false) e)
+
+-- a message that leaves takes its bytes with it
+leaves-le : (o : Option ChunkPayloadData) (q : Outbound) → total_bytes (expired_of o q) ≤ total_bytes q
+leaves-le None q = omega arith
+leaves-le (Some c) q = by c.unordered
+  where
+    left : Pending
+    left = without c.message_id q.pending
+
+    fewer : (cs : List ChunkPayloadData) → bytes_of (without_message c.message_id cs) ≤ bytes_of cs
+    fewer cs = removed_le (λ (x : ChunkPayloadData). not (is_of c.message_id x)) cs
+
+    lower : bytes_of (change_where (is_on c.stream_identifier) one_lower left.ordered) ≡ bytes_of left.ordered
+    lower = bytes_of-change_where (is_on c.stream_identifier) one_lower (λ x. refl) left.ordered
+
+    by : (b : Bool) → total_bytes (record q { pending = if b then left else closed_up c.stream_identifier left }) ≤ total_bytes q
+    by true = omega (arith, fewer q.pending.ordered, fewer q.pending.unordered)
+    by false = omega (arith, fewer q.pending.ordered, fewer q.pending.unordered, lower)
+
+module _ (now s : ℕ) (u : Bool) (t : Transmission) where
+  -- what waits once so many expired, and their bytes
+  left : ℕ → Outbound
+  left n = expired_times now n t.flight.queue
+
+  gone : ℕ → ℕ
+  gone n = total_bytes t.flight.queue - total_bytes (left n)
+
+  after : ℕ → Transmission
+  after n = after_expire_run s u n (gone n) now t
+
+  least : (n : ℕ) → total_bytes (left n) ≤ total_bytes t.flight.queue
+  least zero = omega arith
+  least (suc n) = let rest = leaves-le (expiring now (left n)) (left n) in let all = least n in omega (arith, rest, all)
+
+  -- one message, where it is of the stream
+  steps : (old new : Transmission) (bytes : ℕ) (o : Option ChunkPayloadData) → expiring now old.flight.queue ≡ o → stream_and_kind o ≡ Some (s, u)
+      → new ≡ record old {
+        streams = change_where (has_number s) (after_expiries u 1 bytes) old.streams;
+        flight = with_queue old.flight (expired_of o old.flight.queue);
+      } → held_by_sender new + bytes ≡ held_by_sender old → Drops old new
+  steps old new bytes None is of made held = absurd (none-some (s, u) of)
+  steps old new bytes (Some c) is of made held =
+      let m : ExpiredMessage = record { stream = s; bytes = bytes; is_low = false } in
+      let stream : c.stream_identifier ≡ s = ap (λ p. p.0) (some-inj of) in
+      let kind : c.unordered ≡ u = ap (λ p. p.1) (some-inj of) in
+      let as : record old {
+        streams = change_where (has_number s) (after_expiries u 1 bytes) old.streams;
+        flight = with_queue old.flight (expired_of (Some c) old.flight.queue);
+      } ≡ after_expire c bytes now old = cc in
+      let goes = subst (λ q. IfSome q (λ d. new ≡ after_expire d bytes now old)) (sym is) (made ∙ as) in
+      one (expires now (Some m)) old new refl (held, (((ap is_some (sym is)), (goes, λ n. absurd (none-some m (sym n)))), tt))
+
+  -- so many, one after another
+  run-drops : (n : ℕ) → AreExpiredOf s u now (suc n) t.flight.queue → suc n < 2 ^ 16 → Drops t (after (suc n))
+  run-drops zero are few =
+      let le = least 1 in
+      steps t (after 1) (gone 1) (expiring now t.flight.queue) refl are.1 refl (omega (arith, le))
+  run-drops (suc n) are few =
+      let q : Outbound = left (suc n) in
+      let more = leaves-le (expiring now q) q in
+      let le = least (suc n) in
+      let b : ℕ = total_bytes q - total_bytes (left (suc (suc n))) in
+      let sum : gone (suc n) + b ≡ gone (suc (suc n)) = omega (arith, more, le) in
+      let up : suc n + 1 ≡ suc (suc n) = omega arith in
+      let streams = streams-then s u (suc n) (gone (suc n)) b (omega (arith, few)) t.streams
+          ∙ ap₂ (λ k a. change_where (has_number s) (after_expiries u k a) t.streams) up sum in
+      then t (after (suc n)) (after (suc (suc n))) (run-drops n are.0 (omega (arith, few)))
+      (steps (after (suc n)) (after (suc (suc n))) b (expiring now q) refl are.1
+      (ap (λ ls. record (after (suc (suc n))) { streams = ls }) (sym streams)) (omega (arith, more)))
+
+  run-dropped : (n bytes : ℕ) (new : Transmission) → AreExpiredOf s u now n t.flight.queue → 0 < n → n < 2 ^ 16
+      → new ≡ after_expire_run s u n bytes now t → held_by_sender new + bytes ≡ held_by_sender t → Drops t new
+  run-dropped zero bytes new are some few made held = absurd (omega (arith, some))
+  run-dropped (suc n) bytes new are some few made held =
+      let same : held_by_sender new ≡ total_bytes (left (suc n)) = ap held_by_sender made in
+      let b : bytes ≡ gone (suc n) = omega (arith, held, same) in
+      subst (λ v. Drops t v) (sym (made ∙ ap (λ k. after_expire_run s u (suc n) k now t) b)) (run-drops n are few)
+
+-- ## The rest of a message
+
+tail-dropped : (now : ℕ) (old new : Transmission) (gone : List AbandonedMessage) (c : ChunkPayloadData) → expiring_tail now old.flight.queue ≡ Some c
+    → TailGoes c old new gone → held_by_sender new + bytes_of_all gone ≡ held_by_sender old → Drops old new
+tail-dropped now old new [] c is goes held = absurd goes
+tail-dropped now old new (a ∷ b ∷ rest) c is goes held = absurd goes
+tail-dropped now old new (a ∷ []) c is goes held =
+    let made = subst (λ o. new ≡ after_abandon (message_of o) a.stream a.bytes old) (sym is) goes.1.1 in
+    one (expires_tail now (Some a)) old new refl (held, ((made, λ n. absurd (none-some a (sym n))), tt))
+
+-- ## An answer
+
+module _ (now : ℕ) (old new : Transmission) where
+  abbrev Runs : Option Dropped → Type 0
+  Runs r = IfSome (run_in r) (λ g. new ≡ after_expire_run g.stream g.unordered g.messages g.bytes now old)
+
+  abbrev OfOne : Option Dropped → Type 0
+  OfOne r = IfSome (run_in r) (λ g. AreExpiredOf g.stream g.unordered now g.messages old.flight.queue)
+
+  abbrev Any : Option Dropped → Type 0
+  Any r = IfSome (run_in r) (λ g. 0 < g.messages)
+
+  abbrev Few : Option Dropped → Type 0
+  Few r = IfSome (run_in r) (λ g. g.messages < 2 ^ 16)
+
+  abbrev Tail : Option Dropped → Type 0
+  Tail r = IfSome (list_in r) (λ gone. IfSome (expiring_tail now old.flight.queue) (λ c. TailGoes c old new gone))
+
+  abbrev Late : Option Dropped → Type 0
+  Late r =
+      IfSome (list_in r) (λ gone. expiring_tail now old.flight.queue ≡ None → late_tsns now old.flight.queue ≢ []
+      → (new ≡ after_late now old) × (gone ≡ with_message_lows (leaving_each (late_order now old.flight) old.flight) old.streams))
+
+  abbrev Worn : Option Dropped → Type 0
+  Worn r =
+      IfSome (list_in r) (λ gone. expiring_tail now old.flight.queue ≡ None → late_tsns now old.flight.queue ≡ []
+      → (new ≡ after_worn old) × (gone ≡ with_message_lows (leaving_each (worn_order old.flight) old.flight) old.streams))
+
+  dropped : (r : Option Dropped) → Runs r → OfOne r → Any r → Few r → Tail r → Late r → Worn r
+      → held_by_sender new + bytes_dropped r ≡ held_by_sender old → (r ≡ None → new ≡ with_lifetimes now old) → Drops old new
+  dropped None run of any few tail late worn held none = one (starts now) old new refl (none refl, (tt, tt))
+  dropped (Some (Expired g)) run of any few tail late worn held none =
+      run-dropped now g.stream g.unordered old g.messages g.bytes new of any few run held
+  dropped (Some (Abandoned gone)) run of any few tail late worn held none =
+      by (expiring_tail now old.flight.queue) refl (late_tsns now old.flight.queue) refl
+    where
+      by : (o : Option ChunkPayloadData) → expiring_tail now old.flight.queue ≡ o → (ts : List ℕ) → late_tsns now old.flight.queue ≡ ts → Drops old new
+      by (Some c) is ts due =
+          tail-dropped now old new gone.items c is (subst (λ o. IfSome o (λ d. TailGoes d old new gone.items)) is tail) held
+      by None is [] due = one (expires_rexmit gone.items) old new refl (held, ((worn is due).0, tt))
+      by None is (x ∷ ts) due = one (expires_late now gone.items) old new refl (held, ((late is (λ e. absurd (nil-cons (sym e ∙ due)))).0, tt))
+
+  pub answered : (a : Result (Option Dropped) SenderRefusal) → IfOk a Runs → IfOk a OfOne → IfOk a Any → IfOk a Few → IfOk a Tail → IfOk a Late → IfOk a Worn
+      → IfOk a (λ r. held_by_sender new + bytes_dropped r ≡ held_by_sender old) → IfOk a (λ r. r ≡ None → new ≡ with_lifetimes now old)
+      → OnOk a (Drops old new)
+  answered (Ok r) run of any few tail late worn held none = dropped r run of any few tail late worn held none
+  answered (Err e) run of any few tail late worn held none = tt

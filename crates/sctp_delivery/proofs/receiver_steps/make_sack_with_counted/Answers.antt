@@ -1,5 +1,0 @@
-use Rattle.sctp_delivery.proofs.SackCalls.{only-made}
-use Rattle.sctp_delivery.proofs.receiver_steps.make_sack_with_counted.Goals as goal
-
-pub returns-clause-step : goal.returns-clause-step
-returns-clause-step c = only-made c.make_sack_with_counted.result c.args.credit c.args.receiver.now
