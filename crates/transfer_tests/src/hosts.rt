@@ -94,12 +94,7 @@ pub(crate) enum Step {
     Reopen,
     Contains(bool),
     NextTsn(u32),
-    /// How many bytes the chunk in flight with a TSN has; None where none is.
-fn bytes_of(sender: &Sender, tsn: u32) -> Option<usize> {
-    Some(sender.outbound().get(tsn)?.user_data.len())
-}
-
-// How often a chunk in flight was sent; 0 where none is.
+    /// How often a chunk in flight was sent; 0 where none is.
     Sendings(u32, u32),
     CountResend(u32),
     AckPoint(u32),

@@ -17,6 +17,7 @@ ghost use Rattle.sctp_serial.specs.DataChunks.{has_tsn};
 use sctp_chunks::chunk::chunk_forward_tsn::ChunkForwardTsn;
 use sctp_chunks::chunk::chunk_payload_data::ChunkPayloadData;
 use sctp_chunks::chunk::chunk_selective_ack::ChunkSelectiveAck;
+use sctp_sender::replay;
 use sctp_sender::sender::Sender;
 use sctp_sender::sender::flight::Released;
 use sctp_sender::sender::flight::keeping::TakenBack;
@@ -55,14 +56,15 @@ pub fn take_back_and_acknowledge(
     Ok(back)
 }
 
-/// Abandons what is late, and answers the FORWARD-TSN that the peer is to be sent then, if there is one.
+/// Abandons what is late, and answers the FORWARD-TSN that the peer is to be sent then, if there is one, whatever its length is.
 pub fn abandon_late(sender: &mut Sender, now: u64) -> Result<Option<ChunkForwardTsn>, SenderRefusal>
     ensures late { OnOk result (sender.new ≡ after_late now sender.old) }
     ensures tsn { IfOk result (λ r. option_map (λ c. c.new_cumulative_tsn) r
         ≡ skip_end (advanced_ack_point sender.new.flight) sender.new.flight) }
 {
-    sender.expire_late(now)?;
-    sender.forward_tsn()
+    replay::expire_late(sender, now)?;
+    let furthest = replay::advanced_ack_point(sender);
+    replay::forward_tsn_to(sender, furthest)
 }
 
 /// Gives a SACK to a sender, and answers the highest TSN that it acknowledges anew: before it `add_miss_indications` counts what
