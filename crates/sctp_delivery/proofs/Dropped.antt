@@ -111,11 +111,11 @@ module _ (now s : ℕ) (u : Bool) (t : Transmission) where
       let m : ExpiredMessage = record { stream = s; bytes = bytes; is_low = false } in
       let stream : c.stream_identifier ≡ s = ap (λ p. p.0) (some-inj of) in
       let kind : c.unordered ≡ u = ap (λ p. p.1) (some-inj of) in
-      let as : record old {
+      let shape : record old {
         streams = change_where (has_number s) (after_expiries u 1 bytes) old.streams;
         flight = with_queue old.flight (expired_of (Some c) old.flight.queue);
       } ≡ after_expire c bytes now old = cc in
-      let goes = subst (λ q. IfSome q (λ d. new ≡ after_expire d bytes now old)) (sym is) (made ∙ as) in
+      let goes = subst (λ q. IfSome q (λ d. new ≡ after_expire d bytes now old)) (sym is) (made ∙ shape) in
       one (expires now (Some m)) old new refl (held, (((ap is_some (sym is)), (goes, λ n. absurd (none-some m (sym n)))), tt))
 
   -- so many, one after another

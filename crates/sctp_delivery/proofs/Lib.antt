@@ -44,6 +44,7 @@ pub mod SpreadCalls
 pub mod ReadOnce
 pub mod OnceWritten
 pub mod DiscardSteps
+pub mod Dropped
 pub mod DiscardRuns
 pub mod DiscardExamples
 pub mod OrderedMessages

@@ -9,10 +9,11 @@ ghost use Rattle.sctp_delivery.specs.SenderCalls.{SenderMakes, forwards};
 
 use crate::laws::rounds::what_is_abandoned_can_be_passed;
 use sctp_data::chunk::chunk_forward_tsn::ChunkForwardTsn;
+use sctp_sender::replay;
 use sctp_sender::sender::Sender;
 use sctp_sender::sender::refusal::SenderRefusal;
 
-/// Makes the FORWARD-TSN that is to be sent. In whatever session of fewer than 2^31 TSNs the sender stands: where the message of the
+/// Makes the FORWARD-TSN that is to be sent, whatever its length is. In whatever session of fewer than 2^31 TSNs the sender stands: where the message of the
 /// first chunk in flight is abandoned, there is one, and it goes to the Advanced.Peer.Ack.Point.
 pub fn forward(sender: &Sender) -> Result<Option<ChunkForwardTsn>, SenderRefusal>
     ensures step { IfOk result (λ r. IfSome r
@@ -24,5 +25,6 @@ pub fn forward(sender: &Sender) -> Result<Option<ChunkForwardTsn>, SenderRefusal
         ≡ Some (advanced_ack_point sender.now.flight))) }
 {
     what_is_abandoned_can_be_passed();
-    sender.forward_tsn()
+    let furthest = replay::advanced_ack_point(sender);
+    replay::forward_tsn_to(sender, furthest)
 }

@@ -102,7 +102,7 @@ pub fn resend_next(
     sender: &mut Sender,
     now: u64,
 ) -> Result<Option<ChunkPayloadData>, SenderRefusal>
-    ensures { OnOk result ((c : ChunkPayloadData)
+    ensures step { OnOk result ((c : ChunkPayloadData)
         → find is_to_resend sender.old.flight.queue.inflight.chunks ≡ Some c
         → SenderMakes (resends c.tsn now c) sender.old sender.new) }
     ensures none { OnOk result (find is_to_resend sender.old.flight.queue.inflight.chunks ≡ None

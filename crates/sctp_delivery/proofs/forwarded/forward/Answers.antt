@@ -1,4 +1,4 @@
-use Rattle.std.proofs.Common.{◌≡◌, true, Option, Some, subst, ◌∙◌, Result, Ok, Err}
+use Rattle.std.proofs.Common.{◌≡◌, ℕ, true, Option, Some, subst, ◌∙◌, Result, Ok, Err}
 use Rattle.std.specs.Prelude.{IfOk, option_map}
 use Rattle.sctp_data.specs.declared.chunk.chunk_forward_tsn.ChunkForwardTsn.{ChunkForwardTsn}
 use Rattle.sctp_sender.specs.Abandonment.{advanced_ack_point, skip_end}
@@ -19,4 +19,8 @@ goes-there t (Ok o) answered = λ first size max most limits cs s small some run
     (all-skip first size max most limits cs s small some run few gone)
 
 pub returns-clause-made : goal.returns-clause-made
-returns-clause-made c = goes-there c.args.sender.now c.forward_tsn.result c.forward_tsn.ensures.tsn
+returns-clause-made c =
+    let t = c.args.sender.now in
+    goes-there t c.forward_tsn_to.result
+    (subst (λ (p : ℕ). IfOk c.forward_tsn_to.result (λ o. option_map (λ x. x.new_cumulative_tsn) o ≡ skip_end p t.flight)) c.advanced_ack_point.ensures
+    c.forward_tsn_to.ensures.tsn)
