@@ -20,8 +20,8 @@ use Rattle.sctp_reassembly.proofs.lemmas.reassembly_queue.ByteCounts.{incomplete
 use Rattle.sctp_serial.proofs.lemmas.ListEdits.{neither}
 use Rattle.sctp_serial.specs.DataChunks.{bytes_of}
 use Rattle.sctp_receiver.specs.declared.receiver.inbound_streams.InboundStream.{InboundStream}
-use Rattle.sctp_receiver.specs.declared.receiver.visiting.Skip.{Skip}
-use Rattle.sctp_receiver.specs.declared.receiver.visiting.Skip.TheVariants.{Unassembled, Incomplete}
+use Rattle.sctp_receiver.specs.declared.receiver.visit.Skip.{Skip}
+use Rattle.sctp_receiver.specs.declared.receiver.visit.Skip.TheVariants.{Unassembled, Incomplete}
 use Rattle.sctp_receiver.specs.Inbound.{with_queue, has_number, stream_read, ssn_forwarded, named_forwarded, unassembled_forwarded}
 use Rattle.sctp_receiver.specs.Receiver.{Reception, after_forward, follow_forward_tsn, is_stale}
 use Rattle.sctp_receiver.specs.Visited.{skip_forwarded, holds_any, holds_incomplete, to_visit}

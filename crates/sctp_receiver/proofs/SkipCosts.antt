@@ -17,8 +17,8 @@ use Rattle.sctp_reassembly.specs.reassembly_queue.Counts.{set_chunks}
 use Rattle.sctp_reassembly.specs.reassembly_queue.ReassemblyQueue.{is_passed}
 use Rattle.sctp_reassembly.specs.reassembly_queue.Skips.{cannot_complete}
 use Rattle.sctp_receiver.specs.declared.receiver.inbound_streams.InboundStream.{InboundStream}
-use Rattle.sctp_receiver.specs.declared.receiver.visiting.Skip.{Skip}
-use Rattle.sctp_receiver.specs.declared.receiver.visiting.Skip.TheVariants.{Unassembled, Incomplete}
+use Rattle.sctp_receiver.specs.declared.receiver.visit.Skip.{Skip}
+use Rattle.sctp_receiver.specs.declared.receiver.visit.Skip.TheVariants.{Unassembled, Incomplete}
 use Rattle.sctp_receiver.specs.Inbound.{ssn_forwarded, named_forwarded, unassembled_forwarded}
 use Rattle.sctp_receiver.specs.Receiver.{Reception, after_forward, follow_forward_tsn, is_stale}
 use Rattle.sctp_receiver.specs.SkipCosts.{settle_walk, unordered_skips_walk, incomplete_skips_walk}

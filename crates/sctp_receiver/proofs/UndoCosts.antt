@@ -7,7 +7,7 @@ use Rattle.sctp_data.specs.declared.chunk.chunk_payload_data.ChunkPayloadData.{C
 use Rattle.sctp_reassembly.specs.reassembly_queue.Orders.{digits}
 use Rattle.sctp_reassembly.proofs.lemmas.reassembly_queue.Digits.{within_digits}
 use Rattle.sctp_receiver.specs.declared.receiver.refusal.ReceiverRefusal.{ReceiverRefusal}
-use Rattle.sctp_receiver.specs.declared.receiver.taking.ChunkUndo.{ChunkUndo}
+use Rattle.sctp_receiver.specs.declared.receiver.intake.ChunkUndo.{ChunkUndo}
 use Rattle.sctp_receiver.specs.Costs.{IsWithinData, IsWithinNext, IsWithinRefusedBy, IsWithinUndone, TakesWithin, TakesEachWithin, Counts, counts_of, counts_in}
 use Rattle.sctp_receiver.specs.Costs.{undo_looks, undo_each_looks}
 use Rattle.sctp_receiver.specs.Receiver.{Reception}

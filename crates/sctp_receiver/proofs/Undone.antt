@@ -11,7 +11,7 @@ use Rattle.sctp_stream.proofs.StreamPlaces.{inside, found, changed, numbers-stay
 use Rattle.sctp_receiver.specs.declared.receiver.inbound_streams.InboundStream.{InboundStream}
 use Rattle.sctp_receiver.specs.declared.receiver.refusal.ReceiverRefusal.{ReceiverRefusal}
 use Rattle.sctp_receiver.specs.Inbound.{number, numbers_of}
-use Rattle.sctp_receiver.specs.declared.receiver.taking.ChunkUndo.{ChunkUndo}
+use Rattle.sctp_receiver.specs.declared.receiver.intake.ChunkUndo.{ChunkUndo}
 use Rattle.sctp_receiver.specs.Undo.{stream_undone, undone_on, CanUndoOn, Parts, chunk_undone, chunks_undone, CanUndoChunk, CanUndoChunks}
 
 -- ## A fragment

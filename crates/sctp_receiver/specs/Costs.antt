@@ -12,7 +12,7 @@ use Rattle.sctp_reassembly.specs.reassembly_queue.ReassemblyQueue.{ReassemblySta
 use Rattle.sctp_receiver.specs.declared.receiver.inbound_streams.InboundStream.{InboundStream}
 use Rattle.sctp_receiver.specs.declared.receiver.arrival.Arrival.{Arrival}
 use Rattle.sctp_receiver.specs.declared.receiver.refusal.ReceiverRefusal.{ReceiverRefusal}
-use Rattle.sctp_receiver.specs.declared.receiver.taking.ChunkUndo.{ChunkUndo}
+use Rattle.sctp_receiver.specs.declared.receiver.intake.ChunkUndo.{ChunkUndo}
 use Rattle.sctp_receiver.specs.Receiver.{Reception, stream_of, arrival_refusal, TakesFirstBy}
 use Rattle.sctp_receiver.specs.Undo.{Parts, chunks_undone}
 use Rattle.sctp_receiver.specs.Visited.{to_visit}

@@ -7,8 +7,8 @@ use Rattle.sctp_reassembly.specs.reassembly_queue.Costs.{ordered_skip_walk, inco
 use Rattle.sctp_reassembly.specs.reassembly_queue.Counts.{set_chunks}
 use Rattle.sctp_reassembly.specs.reassembly_queue.ReassemblyQueue.{Reassembly}
 use Rattle.sctp_receiver.specs.declared.receiver.inbound_streams.InboundStream.{InboundStream}
-use Rattle.sctp_receiver.specs.declared.receiver.visiting.Skip.{Skip}
-use Rattle.sctp_receiver.specs.declared.receiver.visiting.Skip.TheVariants.{Unassembled, Incomplete}
+use Rattle.sctp_receiver.specs.declared.receiver.visit.Skip.{Skip}
+use Rattle.sctp_receiver.specs.declared.receiver.visit.Skip.TheVariants.{Unassembled, Incomplete}
 use Rattle.sctp_receiver.specs.Noted.{is_named}
 use Rattle.sctp_receiver.specs.Receiver.{Reception}
 use Rattle.sctp_receiver.specs.Visited.{to_visit}

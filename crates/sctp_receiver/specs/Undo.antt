@@ -8,9 +8,9 @@ use Rattle.sctp_serial.specs.DataChunks.{following_tsn}
 use Rattle.sctp_receiver.specs.declared.receiver.tsn_filter.undo.FilterUndo.{FilterUndo}
 use Rattle.sctp_receiver.specs.declared.receiver.tsn_filter.undo.FilterUndo.TheVariants.{Beyond, Next}
 use Rattle.sctp_receiver.specs.declared.receiver.inbound_streams.InboundStream.{InboundStream}
-use Rattle.sctp_receiver.specs.declared.receiver.taking.ChunkUndo.{ChunkUndo}
-use Rattle.sctp_receiver.specs.declared.receiver.taking.ChunkUndo.TheVariants.{Repeat, New}
-use Rattle.sctp_receiver.specs.declared.receiver.taking.Rules.{Rules}
+use Rattle.sctp_receiver.specs.declared.receiver.intake.ChunkUndo.{ChunkUndo}
+use Rattle.sctp_receiver.specs.declared.receiver.intake.ChunkUndo.TheVariants.{Repeat, New}
+use Rattle.sctp_receiver.specs.declared.receiver.intake.Rules.{Rules}
 use Rattle.sctp_receiver.specs.Inbound.{numbers_of, has_number, with_queue}
 use Rattle.sctp_receiver.specs.Receiver.{Reception}
 use Rattle.sctp_receiver.specs.TsnFilter.{Filter, rise_beyond}

@@ -5,8 +5,8 @@ use Rattle.sctp_reassembly.specs.reassembly_queue.Fragments.{is_complete}
 use Rattle.sctp_reassembly.specs.reassembly_queue.ReassemblyQueue.{Reassembly, ReassemblyState, after_unordered_skip}
 use Rattle.sctp_reassembly.specs.reassembly_queue.Skips.{after_incomplete_skip}
 use Rattle.sctp_receiver.specs.declared.receiver.inbound_streams.InboundStream.{InboundStream}
-use Rattle.sctp_receiver.specs.declared.receiver.visiting.Skip.{Skip}
-use Rattle.sctp_receiver.specs.declared.receiver.visiting.Skip.TheVariants.{Unassembled, Incomplete}
+use Rattle.sctp_receiver.specs.declared.receiver.visit.Skip.{Skip}
+use Rattle.sctp_receiver.specs.declared.receiver.visit.Skip.TheVariants.{Unassembled, Incomplete}
 use Rattle.sctp_receiver.specs.Inbound.{with_queue}
 
 -- ## What is discarded of a stream without a name

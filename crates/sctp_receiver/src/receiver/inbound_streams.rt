@@ -18,9 +18,9 @@ ghost use Rattle.sctp_receiver.specs.Undo.{stream_undone, undone_on, CanUndoOn};
 ghost use Rattle.sctp_receiver.specs.Visited.{skip_forwarded, to_visit};
 
 use crate::receiver::limits::cost_of;
-use crate::receiver::naming::{make_each, make_room, note_each};
+use crate::receiver::names::{make_each, make_room, note_each};
 use crate::receiver::refusal::ReceiverRefusal;
-use crate::receiver::visiting::{Skip, forward_each, renew, settle, visit_all};
+use crate::receiver::visit::{Skip, forward_each, renew, settle, visit_all};
 use crate::receiver::visits::Visits;
 use sctp_data::chunk::chunk_forward_tsn::ChunkForwardTsnStream;
 use sctp_data::chunk::chunk_payload_data::ChunkPayloadData;

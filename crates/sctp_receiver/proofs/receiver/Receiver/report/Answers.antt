@@ -11,7 +11,8 @@ returns-clause-rest c =
     let q = c.self.inside in
     let now = c.args.self.now in
     let k = duplicates_answered (sack_entries c.args.room) now in
-    let count : c.len.result ≡ length (take k now.duplicates) = omega (arith, c.len.ensures, ap (λ (s : Sack). length s.duplicate_tsn) c.in_ok-sack.ensures.sack) in
+    let noted = ap (λ (s : Sack). length s.duplicate_tsn) c.in_ok-sack.ensures.sack in
+    let count : c.len.result ≡ length (take k now.duplicates) = omega (arith, c.len.ensures, noted) in
     let same : q.filter.duplicates ≡ now.duplicates = ap (λ (r : Reception). r.duplicates) c.self.view_is in
     let left : drop c.len.result q.filter.duplicates ≡ drop k now.duplicates = ap (λ n. drop n q.filter.duplicates) (count ∙ length-take k now.duplicates)
     ∙ ap (drop _) same ∙ drop_min k now.duplicates in

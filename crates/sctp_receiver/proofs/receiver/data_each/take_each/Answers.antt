@@ -4,7 +4,7 @@ use Rattle.std.proofs.lemmas.List.{take_more, length-append}
 use Rattle.std.proofs.lemmas.Option.{slice_get_read}
 use Rattle.sctp_data.specs.declared.chunk.chunk_payload_data.ChunkPayloadData.{ChunkPayloadData}
 use Rattle.sctp_receiver.specs.declared.receiver.arrival.Arrival.{Arrival}
-use Rattle.sctp_receiver.specs.declared.receiver.taking.ChunkUndo.{ChunkUndo}
+use Rattle.sctp_receiver.specs.declared.receiver.intake.ChunkUndo.{ChunkUndo}
 use Rattle.sctp_receiver.specs.Costs.{IsWithinData, IsWithinUndone, TakesEachWithin, counts_in, undo_looks, undo_each_looks}
 use Rattle.sctp_receiver.specs.Receiver.{Reception, TakesEachBy, TakesFirstBy, refusal_for}
 use Rattle.sctp_receiver.specs.Undo.{Parts, parts, reception_of, chunks_undone, CanUndoChunks}

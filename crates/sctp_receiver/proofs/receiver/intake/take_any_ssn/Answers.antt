@@ -1,0 +1,94 @@
+use Rattle.std.proofs.Common.{◌≡◌, ◌-◌, length, sym, ◌∙◌, inr, None, arith}
+use Rattle.sctp_reassembly.proofs.lemmas.reassembly_queue.Digits.{within_digits}
+use Rattle.sctp_receiver.proofs.PushCosts.{data-none}
+use Rattle.sctp_receiver.specs.Receiver.{new_refusal}
+use Rattle.sctp_receiver.specs.Undo.{parts, reception_of}
+use Rattle.sctp_receiver.proofs.Receptions.{closed, unknown, any-room}
+use Rattle.sctp_receiver.proofs.receiver.intake.take_any_ssn.Goals as goal
+
+pub returns-in_default-place_of-clause-refused : goal.returns-in_default-place_of-clause-refused
+returns-in_default-place_of-clause-refused c =
+    let near = sym c.is_opposite.ensures.value ∙ c.if-is_opposite.false in
+    let fresh = sym c.has_come_counted.ensures.answer ∙ c.if-has_come_counted.false in
+    let r = reception_of c.args.rules (parts c.args.streams.now c.args.filter.now) in
+    let within : new_refusal c.args.chunk.now.tsn r ≡ None = any-room c.args.rules.limits c.args.chunk.now.tsn c.args.filter.now c.args.streams.now
+    ∙ sym c.in_default.ensures in
+    inr (unknown c.args.chunk.now r fresh near within (closed r c.args.chunk.now.stream_identifier c.in_default-place_of.ensures))
+
+pub returns-in_err-noted-clause-cost : goal.returns-in_err-noted-clause-cost
+returns-in_err-noted-clause-cost c =
+    let n = length c.args.filter.now.beyond in
+    let looked = within_digits n (c.has_come_counted.new.turns - c.args.turns.now) c.has_come_counted.ensures.cost in
+    data-none _ _ _ _ (omega (arith, looked, c.note_repeat.ensures.cost))
+
+pub returns-then-has_come_counted-clause-cost : goal.returns-then-has_come_counted-clause-cost
+returns-then-has_come_counted-clause-cost c =
+    let n = length c.args.filter.now.beyond in
+    let looked = within_digits n (c.has_come_counted.new.turns - c.args.turns.now) c.has_come_counted.ensures.cost in
+    data-none _ _ _ _ (omega (arith, looked, c.note_repeat.ensures.cost))
+
+pub returns-then-is_opposite-clause-cost : goal.returns-then-is_opposite-clause-cost
+returns-then-is_opposite-clause-cost c =
+    let n = length c.args.filter.now.beyond in
+    let looked = within_digits n (c.has_come_counted.new.turns - c.args.turns.now) c.has_come_counted.ensures.cost in
+    data-none _ _ _ _ (omega (arith, looked))
+
+pub returns-in-Some-clause-cost : goal.returns-in-Some-clause-cost
+returns-in-Some-clause-cost c =
+    let n = length c.args.filter.now.beyond in
+    let looked = within_digits n (c.has_come_counted.new.turns - c.args.turns.now) c.has_come_counted.ensures.cost in
+    data-none _ _ _ _ (omega (arith, looked, c.tick.ensures))
+
+pub returns-in_default-place_of-clause-cost : goal.returns-in_default-place_of-clause-cost
+returns-in_default-place_of-clause-cost c =
+    let n = length c.args.filter.now.beyond in
+    let looked = within_digits n (c.has_come_counted.new.turns - c.args.turns.now) c.has_come_counted.ensures.cost in
+    data-none _ _ _ _ (omega (arith, looked, c.tick.ensures, c.tick-2.ensures))
+
+pub returns-in_err-complete-clause-cost : goal.returns-in_err-complete-clause-cost
+returns-in_err-complete-clause-cost c =
+    let n = length c.args.filter.now.beyond in
+    let looked = within_digits n (c.has_come_counted.new.turns - c.args.turns.now) c.has_come_counted.ensures.cost in
+    record {
+      pushing = c.push_undoable_at_counted.new.turns - c.tick-2.new.self;
+      others = omega (arith, looked, c.has_come_counted.ensures.not_back, c.tick.ensures, c.tick-2.ensures, c.push_undoable_at_counted.ensures.not_back);
+      pushes = c.push_undoable_at_counted.ensures.cost;
+    }
+
+pub returns-in_default-accept_undoable_counted-clause-cost : goal.returns-in_default-accept_undoable_counted-clause-cost
+returns-in_default-accept_undoable_counted-clause-cost c =
+    let n = length c.args.filter.now.beyond in
+    let looked = within_digits n (c.has_come_counted.new.turns - c.args.turns.now) c.has_come_counted.ensures.cost in
+    record {
+      pushing = c.push_undoable_at_counted.new.turns - c.tick-2.new.self;
+      others = omega (
+        arith,
+        looked,
+        c.has_come_counted.ensures.not_back,
+        c.tick.ensures,
+        c.tick-2.ensures,
+        c.push_undoable_at_counted.ensures.not_back,
+        c.accept_undoable_counted.ensures.cost,
+        c.accept_undoable_counted.ensures.not_back,
+      );
+      pushes = c.push_undoable_at_counted.ensures.cost;
+    }
+
+pub returns-clause-cost : goal.returns-clause-cost
+returns-clause-cost c =
+    let n = length c.args.filter.now.beyond in
+    let looked = within_digits n (c.has_come_counted.new.turns - c.args.turns.now) c.has_come_counted.ensures.cost in
+    record {
+      pushing = c.push_undoable_at_counted.new.turns - c.tick-2.new.self;
+      others = omega (
+        arith,
+        looked,
+        c.has_come_counted.ensures.not_back,
+        c.tick.ensures,
+        c.tick-2.ensures,
+        c.push_undoable_at_counted.ensures.not_back,
+        c.accept_undoable_counted.ensures.cost,
+        c.accept_undoable_counted.ensures.not_back,
+      );
+      pushes = c.push_undoable_at_counted.ensures.cost;
+    }

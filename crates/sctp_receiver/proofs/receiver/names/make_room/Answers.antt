@@ -1,0 +1,19 @@
+use Rattle.std.proofs.Common.{◌≡◌, List, [], ◌∷◌, ◌++◌, length, Option, None, Some, ap, sym, subst, ◌∙◌}
+use Rattle.std.specs.Prelude.{slice_get}
+use Rattle.sctp_util.proofs.Cases.{by_same, some-same}
+use Rattle.sctp_reassembly.specs.declared.reassembly_queue.ordered_skips.OrderedSkips.{OrderedSkips}
+use Rattle.sctp_receiver.specs.Noted.{AreNone}
+use Rattle.sctp_receiver.proofs.VisitOrders.{end-here, end-there}
+use Rattle.sctp_receiver.proofs.receiver.names.make_room.Goals as goal
+
+-- one more of which nothing is noted
+one-more : (ns : List (Option OrderedSkips)) → AreNone ns → AreNone (ns ++ None ∷ [])
+one-more ns none = λ p s e. by_same p (length ns)
+    (λ z. not-some (some-same (sym (ap (slice_get (ns ++ None ∷ [])) z ∙ end-here ns None) ∙ e)))
+    (λ ne t. none p s (sym (end-there ns None p ne) ∙ e))
+  where
+    not-some : {s : OrderedSkips} → None ≡ Some s → ⊥
+    not-some e = absurd (cc)
+
+pub returns-in_ok-push-clause-none : goal.returns-in_ok-push-clause-none
+returns-in_ok-push-clause-none c = subst AreNone (sym c.in_ok-push.ensures.items) (one-more c.args.noted.now.items c.requires.none)
