@@ -1,9 +1,10 @@
 #!/usr/bin/env python3
 """Runs what reads the repository as text and needs no proof, in seconds: the gate begins with it.
 
-    python3 tools/check.py
+    python3 tools/check.py [WORD..]
 
-run at the top of the repository. Prints what each check that fails said, and ends with `N passed, M failed`; the status is 1 where one failed.
+run at the top of the repository; with words only the checks whose titles have one. Prints what each check that fails said, and ends with
+`N passed, M failed`; the status is 1 where one failed.
 """
 import re
 import subprocess
@@ -14,12 +15,11 @@ from sources import Sources
 CHECKS = [
     ("what the crates offer", ["tools/surface.py"]),
     ("each text of a wrong body stands once", ["tools/wrong_bodies.py", "--texts"]),
-    ("words and links of the pages", ["tools/words.py", "--all"]),
-    ("code that pages show", ["tools/excerpts.py"]),
-    ("what trace.py finds", ["tools/trace_test.py"]),
-    ("what dead.py finds", ["tools/dead_test.py"]),
-    ("what fold.py does", ["tools/fold_test.py"]),
-    ("what wrong_bodies.py does", ["tools/wrong_bodies_test.py"]),
+    ("words, links and code of the pages", ["tools/pages.py", "--all"]),
+    ("what trace.py finds", ["tools/tests/trace_test.py"]),
+    ("what dead.py finds", ["tools/tests/dead_test.py"]),
+    ("what fold.py does", ["tools/tests/fold_test.py"]),
+    ("what wrong_bodies.py does", ["tools/tests/wrong_bodies_test.py"]),
     ("what wrappers repeat of the header", ["tools/c_bindings.py", "--check"]),
 ]
 
@@ -78,9 +78,11 @@ def said_by(words):
 
 
 def main():
-    told = {title: said_by(words) for title, words in CHECKS}
-    told["the page of the RFCs' rules"] = page_of_rules()
-    told["claims of pages name what carries them"] = unproved_claims()
+    checks = {title: lambda words=words: said_by(words) for title, words in CHECKS}
+    checks["the page of the RFCs' rules"] = page_of_rules
+    checks["claims of pages name what carries them"] = unproved_claims
+    words = sys.argv[1:]
+    told = {title: run() for title, run in checks.items() if not words or any(word in title for word in words)}
     for title, text in told.items():
         if text:
             print(f"FAILED {title}:\n{text}")

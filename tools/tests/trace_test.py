@@ -2,13 +2,15 @@
 """Asks trace.py's reading for what was found by hand: callers of twenty-one calls, contracts of traits, definitions, what these use, names that
 several functions have, and comments.
 
-    python3 tools/trace_test.py
+    python3 tools/tests/trace_test.py
 
 run at the top of the repository. Each caller stands as the file below crates/ without its src/, and its name. Whoever moves one of these calls
 looks by hand again. Prints what differs; the exit status is 0 where nothing does.
 """
+import os
 import sys
 
+sys.path.insert(0, os.path.dirname(os.path.dirname(os.path.abspath(__file__))))
 from sources import Sources
 from trace import Callers, Definitions, candidates, comment_of, definitions_of, with_traits
 

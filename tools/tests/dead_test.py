@@ -1,11 +1,13 @@
 #!/usr/bin/env python3
 """Tries tools/dead.py on a small repository, of which it is known what nothing cites.
 
-    python3 tools/dead_test.py
+    python3 tools/tests/dead_test.py
 """
 import os
+import sys
 import tempfile
 
+sys.path.insert(0, os.path.dirname(os.path.dirname(os.path.abspath(__file__))))
 from dead import dead
 
 FILES = {
