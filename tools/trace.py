@@ -184,6 +184,11 @@ class Callers:
                 (sure if verdict else perhaps)[(caller.path, caller.line)] = caller
         return rows_of(sure.values()), rows_of(it for key, it in perhaps.items() if key not in sure)
 
+    def has_code(self, call):
+        """Whether a function that is no test calls it, or perhaps does."""
+        return any(it is not call and not it.is_test and not it.crate.endswith("_tests") and call.crate in self.sources.uses.get(it.crate, ())
+                   and self.is_of(call, it, at, how) is not False for it, at, how in self.by_name.get(call.name, []))
+
     def body_of(self, call):
         """Returns the calls that this one leads to, the last of which does the work: while a body does nothing beside one call of another
         function of the repository, that one follows."""
@@ -219,7 +224,9 @@ class Callers:
         if how == "::":
             room = re.search(r"(\w+)$", text[:at])[1]
             room = caller.owner if room == "Self" else room
-            return room == call.owner if call.owner else room == os.path.basename(call.path)[:-3]
+            if call.owner or room not in ("crate", "self", "super", call.crate):
+                return room == (call.owner or os.path.basename(call.path)[:-3])
+            return call.path.endswith(("/lib.rt", "/main.rt")) if room == call.crate else caller.crate == call.crate
         if not call.owner:
             return False
         kind = self.sources.type_at(caller, text, at)
