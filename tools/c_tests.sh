@@ -3,7 +3,7 @@
 #   - the tests in C, with sanitizers and an allocator that refuses, and eight million calls in any order
 #   - the endpoints of examples/c: with one another, and with usrsctp
 #   - the wrappers for C++, Rust and Go: their tests, and the echo, which prints the same in each
-# and on the program sctpdump, where rt ci or rt run has built it, what tools/dump_tests.py tests.
+# and on the program sctpdump, where rt ci or rt run has built it, what dump_tests/dump_tests.py tests.
 # The last line is 'N passed, M failed'; the status is 0 where nothing failed. It needs the kit's command rt, gcc and g++, or the CC and CXX
 # given. What else it asks for are Debian's packages libusrsctp-dev, valgrind, golang-go, make and pkgconf: as root it installs those that
 # are missing, unless C_TESTS_INSTALL=no. Where one can't be had, and where there is no cargo, a line that begins with 'left out:' says
@@ -70,18 +70,18 @@ has pkgconf command -v pkg-config && pkg_config=yes || pkg_config=no
 # ---- The library -------------------------------------------------------------------------------------------------------------
 
 # Of what rt ci has just proved here nothing is proved again.
-if command -v python3 >/dev/null; then python3 tools/built_libraries.py; fi
+if command -v python3 >/dev/null; then python3 c_tests/built_libraries.py; fi
 (cd crates/sctp_c && rt lib) >"$BUILD/lib.log" 2>&1 || { tail -20 "$BUILD/lib.log"; echo "0 passed, 1 failed"; exit 1; }
 ARCHIVE=crates/sctp_c/out/libsctp_c.a
 sed -n '/^typedef uint32_t sctp_code;/,/^};/s/^    \(SCTP_[A-Z0-9_]*\) = [0-9]*,*$/ROW(\1)/p' include/sctp.h >"$BUILD/codes.inc"
 
 # What takes a minute or two goes on beside the rest, and is counted at the end.
 if [ "$usrsctp" = yes ]; then
-    tools/interop.sh 5 14000 1 >"$BUILD/interop.log" 2>&1 &
+    c_tests/interop/interop.sh 5 14000 1 >"$BUILD/interop.log" 2>&1 &
     interop=$!
 fi
 if [ -x crates/sctpdump/out/sctpdump ]; then
-    python3 tools/dump_tests.py >"$BUILD/dump_tests.log" 2>&1 &
+    python3 dump_tests/dump_tests.py >"$BUILD/dump_tests.log" 2>&1 &
     dump_tests=$!
 fi
 

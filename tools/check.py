@@ -1,25 +1,34 @@
 #!/usr/bin/env python3
 """Runs what reads the repository as text and needs no proof, in seconds: the gate begins with it.
 
-    python3 tools/check.py
+    python3 tools/check.py [WORD..]
 
-run at the top of the repository. Prints what each check that fails said, and ends with `N passed, M failed`; the status is 1 where one failed.
+run at the top of the repository; with words only the checks whose titles have one. Prints what each check that fails said, and ends with
+`N passed, M failed`; the status is 1 where one failed.
 """
+import os
 import re
 import subprocess
 import sys
 
 from sources import Sources
 
+# how many there may be at most: public calls of a type's own, in all files of its crate; folders of crates/ with a src; files, not folders, of tools/
+MOST = {
+    "public calls of Receiver": (20, lambda: public_calls("sctp_receiver", "Receiver")),
+    "public calls of Sender": (25, lambda: public_calls("sctp_sender", "Sender")),
+    "crates": (32, lambda: sum(os.path.isdir(f"crates/{it}/src") for it in os.listdir("crates"))),
+    "files in tools/": (12, lambda: sum(it.is_file() for it in os.scandir("tools"))),
+}
+
 CHECKS = [
     ("what the crates offer", ["tools/surface.py"]),
     ("each text of a wrong body stands once", ["tools/wrong_bodies.py", "--texts"]),
-    ("words and links of the pages", ["tools/words.py", "--all"]),
-    ("code that pages show", ["tools/excerpts.py"]),
-    ("what trace.py finds", ["tools/trace_test.py"]),
-    ("what dead.py finds", ["tools/dead_test.py"]),
-    ("what fold.py does", ["tools/fold_test.py"]),
-    ("what wrong_bodies.py does", ["tools/wrong_bodies_test.py"]),
+    ("words, links and code of the pages", ["tools/pages.py", "--all"]),
+    ("what trace.py finds", ["tools/tests/trace_test.py"]),
+    ("what dead.py finds", ["tools/tests/dead_test.py"]),
+    ("what fold.py does", ["tools/tests/fold_test.py"]),
+    ("what wrong_bodies.py does", ["tools/tests/wrong_bodies_test.py"]),
     ("what wrappers repeat of the header", ["tools/c_bindings.py", "--check"]),
 ]
 
@@ -63,6 +72,17 @@ def unproved_claims():
     return "\n".join(told)
 
 
+def public_calls(crate, owner):
+    """Returns how many functions marked `pub` the blocks `impl OWNER` of a crate have; those of a trait are none of its own."""
+    return sum(it.is_public and not it.trait for it in Sources().functions if (it.crate, it.owner) == (crate, owner))
+
+
+def too_many():
+    """Says of what there is more than MOST allows, or none, as where a name of the table is of nothing."""
+    counted = [(name, most, count()) for name, (most, count) in MOST.items()]
+    return "\n".join(f"{name}: {count}, at most {most}" for name, most, count in counted if not 0 < count <= most)
+
+
 def page_of_rules():
     """Says how docs/RFC.md differs from what tools/rfc.py prints, or nothing."""
     ran = subprocess.run([sys.executable, "tools/rfc.py", "--page"], capture_output=True, text=True)
@@ -78,9 +98,12 @@ def said_by(words):
 
 
 def main():
-    told = {title: said_by(words) for title, words in CHECKS}
-    told["the page of the RFCs' rules"] = page_of_rules()
-    told["claims of pages name what carries them"] = unproved_claims()
+    checks = {title: lambda words=words: said_by(words) for title, words in CHECKS}
+    checks["the page of the RFCs' rules"] = page_of_rules
+    checks["claims of pages name what carries them"] = unproved_claims
+    checks["counts within their limits"] = too_many
+    words = sys.argv[1:]
+    told = {title: run() for title, run in checks.items() if not words or any(word in title for word in words)}
     for title, text in told.items():
         if text:
             print(f"FAILED {title}:\n{text}")

@@ -1,7 +1,9 @@
 #!/usr/bin/env python3
-"""Lists the definitions and lemmas of specs/ and proofs/ that nothing cites: no contract, no answer, no other one that is cited.
+"""Lists the definitions and lemmas of specs/ and proofs/ that nothing cites: no contract, no answer, no other one that is cited. With --calls it lists
+the public calls that no code calls but tests.
 
     python3 tools/dead.py [CRATE..]
+    python3 tools/dead.py --calls
 
 run at the top of the repository; every crate where none is named. It prints the place, the lines and the name of each, then a sum for each
 crate; the exit status is 1 where there is one. It reads texts alone: `rt check` decides whether a crate goes without them.
@@ -10,12 +12,30 @@ Names are whole ones, and read as antt reads them: those of a file, those that i
 module, cited as `Module.name`), of a section its own first. So a line `use` cites nothing by itself. What only a dead one cites is dead too,
 and of a dead one its own helpers (`where`) are not listed. What needs no citing: answers (of type `goal.name`), all of Invariants.antt and
 Proof.antt, and worked examples: files named .. Examples, or in a folder scripts/. A name that a variable shares counts as cited.
+
+A call is called where trace.py finds it called, or perhaps called, in a crate whose name does not end in _tests, by a function that is no test, or
+where its path stands there as a value. What a trait has, and an `impl` of it, is left out. EXEMPT says which others need no caller, and why.
 """
 import os
 import re
 import sys
 from dataclasses import dataclass, field
 
+from sources import Sources as Code, lines_of
+from trace import Callers
+
+# what a user asks before a call with a precondition
+ASKED_BEFORE = {"sctp_outbound::PayloadQueue::fits"}
+# why a public call needs no caller in the code: each reason with what tells whether it is the call's
+EXEMPT = {
+    "the specification fixes its name (docs/surface.txt)": lambda call, fixed: (call.owner, call.name) in fixed,
+    "tells whether the precondition of a call holds (CALLING of sctp_queues)": lambda call, _: call.title() in ASKED_BEFORE,
+    "a law: its contract is what it is for": lambda call, _: call.path.endswith("/laws.rt") or "/laws/" in call.path,
+    "a step of two hosts, or a law applied to hosts at hand (sctp_delivery)": lambda call, _: call.crate == "sctp_delivery",
+    "called from C (sctp_c)": lambda call, _: call.crate == "sctp_c" and 'extern "C"' in call.body.split("\n")[0],
+    "shows that a caller of the library for C can be proved": lambda call, _: call.path == "crates/sctp_c/src/callers.rt",
+    "shows how a user calls the crates (uses)": lambda call, _: call.crate == "uses",
+}
 MARKS = r"(?:(?:pub|abbrev|unfoldable|opaque) )*"
 HEAD = re.compile(rf"{MARKS}(record |data )?(\S+)")
 USE = re.compile(r"^\s*(?:pub |ghost )*use ([^;]*?);?$")
@@ -197,7 +217,50 @@ def dead(top="."):
     return [it for it in sources.found if id(it) not in live and not (it.outer.name and id(it.outer) not in live)]
 
 
+def fixed_names(path="docs/surface.txt"):
+    """Returns the functions that the list of names has, each with its type, or "" where it has none."""
+    owner, found = "", set()
+    for line in lines_of(path) if os.path.exists(path) else []:
+        if line[:1] not in ("", " ", "#"):
+            owner = line.split("::")[-1]
+        elif named := re.match(r" +(\w+)\(", line):
+            found.add((owner if owner[:1].isupper() else "", named[1]))
+    return found
+
+
+def uncalled():
+    """Returns the public calls that no code calls but tests, and of each reason of EXEMPT how many of these have it, which are not returned."""
+    code, fixed = Code(), fixed_names()
+    callers, found, exempt = Callers(code), [], dict.fromkeys(EXEMPT, 0)
+    texts = [re.sub(r'"[^"]*"', '""', line).split("//")[0] for path, lines in code.files.items() if "_tests/" not in path for line in lines if " use " not in f" {line}"]
+    paths = set(re.findall(r"\b(\w+::\w+)\b(?![\w:(<])", "\n".join(texts)))
+    for call in code.functions:
+        if not call.is_public or call.is_test or call.trait or call.crate.endswith("_tests"):
+            continue
+        room = call.owner or os.path.basename(call.path)[:-3]
+        if f"{room}::{call.name}" in paths or callers.has_code(call):
+            continue
+        why = next((reason for reason, is_its in EXEMPT.items() if is_its(call, fixed)), None)
+        if why:
+            exempt[why] += 1
+        else:
+            found.append(call)
+    return found, exempt
+
+
+def list_uncalled():
+    found, exempt = uncalled()
+    for it in found:
+        print(f"{it.path}:{it.line} {it.title()}")
+    for why, count in exempt.items():
+        print(f"{count} without a caller: {why}")
+    print(f"{len(found)} public calls that no code calls but tests")
+    return 1 if found else 0
+
+
 def main():
+    if sys.argv[1:] == ["--calls"]:
+        return list_uncalled()
     found, sums = dead(), {}
     for it in found:
         crate = it.path.split("/")[2]

@@ -11,6 +11,8 @@ BLOCK = re.compile(r"^(?:impl|pub trait|trait)\b(.*)")
 ENUM = re.compile(r"^(?:pub(?:\([a-z]+\))? )?enum (\w+)")
 VARIANT = re.compile(r"^    (\w+)\((.+?)\),?$")
 STRUCT = re.compile(r"^(?:pub(?:\([a-z]+\))? )?struct (\w+)")
+TYPE = re.compile(r"^(pub(?:\([a-z]+\))? )?(enum|struct|trait|type) (\w+)")
+MEMBER = re.compile(r"^    (?:pub(?:\([a-z]+\))? )?(\w+)(?=[:,({ ]|$)(.*?)[,{]?$")
 FIELD = re.compile(r"^\s+(?:pub(?:\([a-z]+\))? )?(\w+): (.+?),?$")
 USE = re.compile(r"^\s*ghost use Rattle\.(sctp_\w+|crc32c|linkscript|bench|association)\.specs\.([\w.]+?)(?:\.\{(.*)\}| as (\w+))?;")
 KEEPS = {"as_ref", "as_mut", "as_slice", "as_mut_slice", "iter", "iter_mut", "into_iter", "as_deref", "try_clone", "clone", "copied", "cloned", "to_owned",
@@ -40,6 +42,21 @@ class Function:
     def title(self):
         owner = f"{self.owner}::" if self.owner else ""
         return f"{self.crate}::{owner}{self.name}"
+
+
+@dataclass
+class Type:
+    """A type with its variants or fields: each a name, what follows it, and its line."""
+    crate: str
+    path: str
+    line: int
+    kind: str
+    name: str
+    is_public: bool
+    members: list
+
+    def title(self):
+        return f"{self.crate}::{self.name}"
 
 
 def lines_of(path):
@@ -146,6 +163,20 @@ def functions_of(crate, path):
     return found
 
 
+def types_of(crate, path):
+    """Returns the types that a source file declares."""
+    found, lines = [], lines_of(path)
+    for at, line in enumerate(lines):
+        named = TYPE.match(line)
+        if not named:
+            continue
+        end = next((it for it in range(at, len(lines)) if lines[it].startswith("}")), at) if line.endswith("{") else at
+        rows = [(it, MEMBER.match(lines[it])) for it in range(at + 1, end)] if named[2] in ("enum", "struct") else []
+        members = [(it[1], it[2].rstrip(), number + 1) for number, it in rows if it]
+        found.append(Type(crate, path, at + 1, named[2], named[3], (named[1] or "").strip() == "pub", members))
+    return found
+
+
 def bare(kind):
     """Returns a type without what only lends it: `&'a mut [T]` is `[T]`."""
     kind = kind.strip()
@@ -186,11 +217,12 @@ class Sources:
     """All functions of all crates, and the types that their texts tell."""
 
     def __init__(self):
-        self.functions, self.fields, self.files, self.variants = [], {}, {}, {}
+        self.functions, self.types, self.fields, self.files, self.variants = [], [], {}, {}, {}
         for crate in crates():
             for path in files_below(f"crates/{crate}/src", ".rt"):
                 self.files[path] = lines_of(path)
                 self.functions += functions_of(crate, path)
+                self.types += types_of(crate, path)
                 self.note_fields(self.files[path])
         self.returns, self.uses = {}, uses_of()
         for it in self.functions:

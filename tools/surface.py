@@ -1,5 +1,5 @@
 #!/usr/bin/env python3
-"""Compares what the crates offer with tools/surface.txt, which lists the names of the Rust crate sctp-proto that users look for.
+"""Compares what the crates offer with docs/surface.txt, which lists the names of the Rust crate sctp-proto that users look for.
 
     python3 tools/surface.py
 
@@ -13,7 +13,7 @@ import sys
 
 from sources import files_below, functions_of, lines_of, uses_of
 
-LIST = "tools/surface.txt"
+LIST = "docs/surface.txt"
 
 
 def signature(head):

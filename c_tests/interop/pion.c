@@ -4,7 +4,7 @@
  *
  *     pion TO FROM [seed] [seconds] [lost repeated late damaged, each of 10,000 datagrams]
  *
- * TO and FROM name the pipes; tools/pion.sh starts both programs. It writes for so many seconds, then waits until all came back, and shuts
+ * TO and FROM name the pipes; evidence/pion.sh starts both programs. It writes for so many seconds, then waits until all came back, and shuts
  * down. Each message that is read is compared with what was written; of the reliable streams each has to come. The last line says how many
  * messages came and how many faults there were; the status is 0 where there was none. */
 #define _POSIX_C_SOURCE 200809L

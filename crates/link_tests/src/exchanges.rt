@@ -1,4 +1,4 @@
-//! The worked exchanges of docs/WHY.md: `tools/exchange.py --test` writes this file.
+//! The worked exchanges of docs/WHY.md: `evidence/exchange.py --test` writes this file.
 
 use crate::play::run_cases;
 

@@ -1,8 +1,8 @@
 #!/usr/bin/env python3
 """The worked exchanges of docs/WHY.md as scripts.
 
-    python3 tools/exchange.py NAME      the script of an exchange, for `(cd crates/linkrun && rt try)`
-    python3 tools/exchange.py --test    crates/link_tests/src/exchanges.rt, which the gate runs, made anew from the page
+    python3 evidence/exchange.py NAME      the script of an exchange, for `(cd crates/linkrun && rt try)`
+    python3 evidence/exchange.py --test    crates/link_tests/src/exchanges.rt, which the gate runs, made anew from the page
 
 run at the top of the repository. An exchange is a block whose lines have an event, and its reply behind column 30; behind two
 spaces more comes a remark.
@@ -14,7 +14,7 @@ PAGE = "docs/WHY.md"
 TEST = "crates/link_tests/src/exchanges.rt"
 BLOCK = re.compile(r"^\*\*`(\w+)`\*\*.*?^```\n(.*?)^```", re.M | re.S)
 COLUMN = 30
-HEAD = "//! The worked exchanges of docs/WHY.md: `tools/exchange.py --test` writes this file.\n\nuse crate::play::run_cases;\n"
+HEAD = "//! The worked exchanges of docs/WHY.md: `evidence/exchange.py --test` writes this file.\n\nuse crate::play::run_cases;\n"
 
 
 def exchanges():
@@ -43,7 +43,7 @@ def test():
 
 def main():
     """Prints a script, or writes the test."""
-    if len(sys.argv) != 2:
+    if len(sys.argv) != 2 or sys.argv[1] == "--help":
         sys.exit(__doc__)
     if sys.argv[1] == "--test":
         with open(TEST, "w", encoding="utf-8") as out:

@@ -1,7 +1,7 @@
 #!/usr/bin/env python3
 """Reads what `sctpdump --json` prints with a reader of JSON that is not ours, and reckons it again.
 
-    python3 tools/check_dump.py [--program PROGRAM] CAPTURE..
+    python3 dump_tests/check_dump.py [--program PROGRAM] CAPTURE..
 
 PROGRAM is crates/sctpdump/out/sctpdump unless told otherwise (`rt run` in crates/sctpdump makes it). Each line has to be JSON, as docs/sctpdump.schema.json has it. Where the capture is
 lines of hex text, each datagram is put together again from its members, and has to be the one of the capture. What `--summary` says of packets,
@@ -202,7 +202,7 @@ def main(words):
     program = "crates/sctpdump/out/sctpdump"
     if words[:1] == ["--program"]:
         program, words = words[1], words[2:]
-    if not words:
+    if not words or words == ["--help"]:
         sys.exit(__doc__)
     faults = []
     for capture in words:

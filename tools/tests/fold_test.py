@@ -1,7 +1,7 @@
 #!/usr/bin/env python3
 """Tries tools/fold.py on a small crate, of which it is known how it folds, and what cannot be folded.
 
-    python3 tools/fold_test.py
+    python3 tools/tests/fold_test.py
 """
 import os
 import subprocess
@@ -84,7 +84,7 @@ def folded(top, text):
         os.makedirs(os.path.dirname(f"{top}/{name}") or top, exist_ok=True)
         with open(f"{top}/{name}", "w", encoding="utf-8") as it:
             it.write(content)
-    tool = os.path.join(os.path.dirname(os.path.abspath(__file__)), "fold.py")
+    tool = os.path.join(os.path.dirname(os.path.dirname(os.path.abspath(__file__))), "fold.py")
     run = subprocess.run([sys.executable, tool, "low"], cwd=top, capture_output=True, text=True, check=False)
     with open(f"{top}/{NAME}", encoding="utf-8") as it:
         return it.read(), run.stdout.strip(), run.returncode

@@ -1,7 +1,7 @@
 #!/usr/bin/env python3
 """Spoils an input, for `rt try --cases`: writes it with each byte cut off, and with each bit of its first 64 bytes flipped.
 
-    python3 tools/spoil.py INPUT FOLDER [STEP]
+    python3 evidence/spoil.py INPUT FOLDER [STEP]
 
 FOLDER is made, and gets a file for each case. With STEP only each STEP-th length is written.
 """
@@ -24,4 +24,6 @@ def main(path, folder, step="1"):
     print(len(cases), "cases")
 
 
+if len(sys.argv) not in (3, 4):
+    sys.exit(__doc__)
 main(*sys.argv[1:])

@@ -3,7 +3,7 @@
 # usrsctp with itself, in turn, ROUNDS times; of each the fastest. Then the instructions of a message more, from two runs under valgrind,
 # and the functions in which most of them are, in the longer run.
 #
-#     tools/c_figures.sh [ROUNDS]
+#     evidence/c_figures.sh [ROUNDS]
 #
 # It is run by hand, and needs Debian's packages libusrsctp-dev and valgrind, gcc or the CC given, and the archive
 # crates/sctp_c/out/libsctp_c.a, which 'rt lib' writes.

@@ -1,12 +1,12 @@
 #!/usr/bin/env python3
 """Tests the program sctpdump: frames made by hand, and runs with what they must print.
 
-    python3 tools/dump_tests.py [--tshark] [PROGRAM]
+    python3 dump_tests/dump_tests.py [--tshark] [PROGRAM]
 
 PROGRAM is crates/sctpdump/out/sctpdump unless told otherwise: `rt ci` leaves it there, and `rt run` in crates/sctpdump makes it. The frames hold one
 datagram behind the headers that the RFCs named below give, or none; with --tshark, tshark has to find the datagram in the same ones, between the same
 addresses. The lines of JSON of each capture have to be what docs/sctpdump.schema.json says. Two large captures have to be shown within bounds. The
-runs are those of tools/dump_runs.txt: a line '$ sctpdump ..', run in crates/sctpdump/data and examples, and the lines that it prints.
+runs are those of dump_tests/runs.txt: a line '$ sctpdump ..', run in crates/sctpdump/data and examples, and the lines that it prints.
 The last line is 'N passed, M failed'; the status is 0 where nothing failed.
 """
 import ipaddress
@@ -296,10 +296,12 @@ def bound_tests(program):
 
 
 def main(words):
+    if words == ["--help"]:
+        sys.exit(__doc__)
     has_tshark = "--tshark" in words
     words = [word for word in words if word != "--tshark"]
     program = os.path.abspath(words[0] if words else f"{ROOT}/crates/sctpdump/out/sctpdump")
-    runs = run_tests(program, f"{ROOT}/tools/dump_runs.txt")
+    runs = run_tests(program, f"{ROOT}/dump_tests/runs.txt")
     passed, failed = (sum(counts) for counts in zip(frame_tests(program, has_tshark), runs, json_tests(program), bound_tests(program)))
     if tells_version(program):
         passed += 1

@@ -1,6 +1,6 @@
 """Lets `rt lib` take the libraries that `rt ci` proved and built in this checkout, so that it proves none of them a second time:
 
-    python3 tools/built_libraries.py
+    python3 c_tests/built_libraries.py
 
 rt ci leaves each library under crates/NAME/out/rlib, but not the stamp by which rt lib knows of which files it was made. This writes the
 stamps, in a checkout in which no library has one, so that all are of one run. A library gets one only where it was built after each file

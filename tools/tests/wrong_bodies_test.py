@@ -1,10 +1,13 @@
 #!/usr/bin/env python3
 """Tries on lines of checks what tools/wrong_bodies.py takes for no verdict, and which functions it takes for refused.
 
-    python3 tools/wrong_bodies_test.py
+    python3 tools/tests/wrong_bodies_test.py
 """
+import os
 import signal
+import sys
 
+sys.path.insert(0, os.path.dirname(os.path.dirname(os.path.abspath(__file__))))
 from wrong_bodies import is_refused, refused_in, why_not_judged
 
 REFUSED = """fn low::Queue::push: not proved: returns

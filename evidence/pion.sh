@@ -2,7 +2,7 @@
 # Lets the endpoint of examples/c and pion/sctp exchange messages, RUNS runs that write for SECONDS each, in real time, at a loss of LOST of
 # 10,000 datagrams, with seeds from SEED on.
 #
-#     tools/pion.sh [RUNS] [SECONDS] [SEED] [LOST]
+#     evidence/pion.sh [RUNS] [SECONDS] [SEED] [LOST]
 #
 # It is run by hand. It needs Debian's packages golang-go and golang-github-pion-sctp-dev, gcc or the CC given, and the archive
 # crates/sctp_c/out/libsctp_c.a, which 'rt lib' writes. The status is 0 where no fault was found.

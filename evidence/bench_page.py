@@ -1,9 +1,9 @@
 #!/usr/bin/env python3
 """What bench prints, as docs/BENCHMARKS.md shows it.
 
-    python3 tools/bench_page.py --growth < GROWTH > docs/growth.svg      the picture: time of a call over what is held, both in powers of ten
-    python3 tools/bench_page.py --growth-table < GROWTH                  the same as a table
-    python3 tools/bench_page.py --times < TIMES                          the rows of times as a table
+    python3 evidence/bench_page.py --growth < GROWTH > docs/growth.svg      the picture: time of a call over what is held, both in powers of ten
+    python3 evidence/bench_page.py --growth-table < GROWTH                  the same as a table
+    python3 evidence/bench_page.py --times < TIMES                          the rows of times as a table
 
 GROWTH is what `bench growth` prints, TIMES what `bench times` or `bench times --against FILE` does. A line of GROWTH has a call, its
 nanoseconds at each size and the exponent, with tabs between them; the first line names the sizes.

@@ -1,7 +1,7 @@
 #!/usr/bin/env python3
 """Compares what sctpdump says of captures with what tshark says, field by field.
 
-    python3 tools/compare_with_tshark.py [--program PROGRAM] CAPTURE..
+    python3 evidence/compare_with_tshark.py [--program PROGRAM] CAPTURE..
 
 A CAPTURE is a file that both read, or, where its name ends in .hex, lines of hex text, which are wrapped into a capture of link type 248 first.
 PROGRAM is crates/sctpdump/out/sctpdump unless told otherwise (`rt run` in crates/sctpdump makes it). tshark is found on the PATH. Prints a line for
@@ -153,7 +153,7 @@ def main(words):
     program = "crates/sctpdump/out/sctpdump"
     if words[:1] == ["--program"]:
         program, words = words[1], words[2:]
-    if not words:
+    if not words or words == ["--help"]:
         sys.exit(__doc__)
     found = [compare(program, path) for path in words]
     print(f"all: {sum(f[0] for f in found)} the same, {sum(f[1] for f in found)} differ")

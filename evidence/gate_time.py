@@ -1,7 +1,7 @@
 #!/usr/bin/env python3
-"""Reckons how long `rt ci` takes, from the processor times in tools/gate_times.txt and from the order in which rt takes the crates.
+"""Reckons how long `rt ci` takes, from the processor times in evidence/gate_times.txt and from the order in which rt takes the crates.
 
-    python3 tools/gate_time.py [PROCESSORS [MEMORY]]
+    python3 evidence/gate_time.py [PROCESSORS [MEMORY]]
 
 run at the top of the repository; four processors and 24 GB where nothing is said. It proves nothing: rt's own `in_lanes` is called, and each task
 sleeps for as long as the table says, a minute in a tenth of a second. A crate that stands in crates.txt and has no row is named, and counts as
@@ -13,6 +13,7 @@ import re
 import sys
 import time
 
+sys.path.insert(0, os.path.join(os.path.dirname(os.path.dirname(os.path.abspath(__file__))), "tools"))
 from wrong_bodies import kit
 
 MINUTE = 0.1
@@ -60,6 +61,8 @@ def tasks_of(rt, crates, times, processors, ended):
 
 
 def main():
+    if sys.argv[1:] == ["--help"]:
+        sys.exit(__doc__)
     processors = int(sys.argv[1]) if len(sys.argv) > 1 else 4
     memory = float(sys.argv[2]) if len(sys.argv) > 2 else 24
     sys.argv = ["rt"]
@@ -67,14 +70,14 @@ def main():
     rt.processors, rt.free = lambda: processors, lambda: memory * 1e9
     os.environ.pop("RT_JOBS", None)
     crates = sorted(rt.rtlib.crates_below(os.getcwd()), key=lambda it: len(it.below()))
-    times, ended = times_of("tools/gate_times.txt"), {}
+    times, ended = times_of("evidence/gate_times.txt"), {}
     for name in sorted({it.name for it in crates} - {*times}):
-        print(f"{name}: no row in tools/gate_times.txt")
+        print(f"{name}: no row in evidence/gate_times.txt")
     tasks, begin = tasks_of(rt, crates, times, processors, ended), time.monotonic()
     rt.in_lanes(tasks)
     ended = {it: (at - begin) / MINUTE for it, at in ended.items()}
     if not any(it[1] in ("proof", "tests") for it in ended):
-        sys.exit("gate_time.py: tools/gate_times.txt says of no crate how long its proof takes")
+        sys.exit("gate_time.py: evidence/gate_times.txt says of no crate how long its proof takes")
     last = sorted(ended, key=lambda it: -ended[it])
     print(f"{sum(map(sum, times.values())) * SHARE.get(processors, 1):.0f} min of processor time")
     print(f"all proved after {max(ended[it] for it in last if it[1] in ('proof', 'tests')):.0f} min, the last task ends after {ended[last[0]]:.0f}")

@@ -2,13 +2,13 @@
 # Builds c_tests/interop on the static library, and lets the endpoint of examples/c and usrsctp exchange messages: RUNS runs that write for
 # TICKS ticks of 10 ms each, in no real time, with seeds from SEED on.
 #
-#     tools/interop.sh [RUNS] [TICKS] [SEED]
+#     c_tests/interop/interop.sh [RUNS] [TICKS] [SEED]
 #
 # It needs Debian's package libusrsctp-dev, gcc or the CC given, and the archive crates/sctp_c/out/libsctp_c.a, which 'rt lib' writes.
 # tools/c_tests.sh runs it, five short runs; longer ones are run by hand. A seed's run is the same each time. The last line sums the runs
 # up; the status is 0 where no fault was found.
 set -eu
-cd "$(dirname "$0")/.."
+cd "$(dirname "$0")/../.."
 CC=${CC:-gcc}
 RUNS=${1:-5}
 TICKS=${2:-10000}

@@ -1,7 +1,7 @@
 #!/usr/bin/env python3
 """Refuses each allocation of scripts of every link event in turn, and tells what came of it.
 
-    python3 tools/refuse_memory.py
+    python3 evidence/refuse_memory.py
 
 run at the top of the repository. It finds the kit's command `rt` on the PATH, and proves nothing. It builds the program `refusals` once, with the
 same allocation refused in each run: the last of so many. The number in the first line of standard input says how many allocations come between the
@@ -44,6 +44,8 @@ def outcomes(most):
 
 
 def main():
+    if sys.argv[1:]:
+        sys.exit(__doc__)
     if not shutil.which("rt"):
         sys.exit("refuse_memory.py: the kit's command rt is not on the PATH")
     if not os.path.isdir("crates/refusals"):

@@ -1,26 +1,46 @@
 #!/usr/bin/env python3
-"""Finds retired words, and names of files that do not exist, in the docs.
+"""Finds in the pages retired words, names of files that do not exist, and code that stands in no source.
 
-    python3 tools/words.py [--all]
+    python3 tools/pages.py [--all]
 
-run at the top of the repository. Retired words are those of tools/retired_words.txt: each line
-has some, and the word in their place. The docs are all pages (*.md); what stands in code fences or between backticks is no prose, and is passed over
-for words. With --all sources (*.rt, *.antt, *.edit, lists of wrong bodies) are looked through too, names in their code included: half_sent, HalfSent.
-The type `Loose`, the kit's module `sound` and its step `heard` are passed over. Paths that begin with a folder of this repository, and links, must
-name a file or a folder, from the top or beside the page. The exit status is 1 where a retired word or a name of nothing is found.
+run at the top of the repository. The pages are all *.md; what stands in code fences or between backticks is no prose, and is passed over for
+the words of RETIRED. With --all sources (*.rt, *.antt, *.edit, lists of wrong bodies) are looked through too, names in their code included:
+half_sent, HalfSent. The type `Loose`, the kit's module `sound` and its step `heard` are passed over. Paths that begin with a folder of this
+repository, and links, must name a file or a folder, from the top or beside the page. Each block marked `rust` has to stand, line by line, in a
+source file of the repository; the `ghost use` and `use` lines that it begins with have to stand in the same file, where their items may be among
+more. The exit status is 1 where one of these is found.
 """
 
+import glob
 import re
 import subprocess
 import sys
 from pathlib import Path
 
-RETIRED = "tools/retired_words.txt"
+# words that the pages no longer have, and what stands in their place
+RETIRED = {
+    "half sent, half-sent": "partially sent",
+    "end mark, end marks": "terminal chunk",
+    "loose": "unassembled",
+    "lapsed": "past its deadline",
+    "given up, giving up": "abandoned, or discarded at the receiver",
+    "whole message, whole messages": "complete message",
+    "has a text, no text, the one text": "encoding",
+    "sound": "valid",
+    "ties, tied": "refines",
+    "world": "record",
+    "sane": "consistent",
+    "heard, unheard": "arrived",
+}
 FENCE = re.compile(r"^```.*?^```", re.M | re.S)
 SPAN = re.compile(r"`[^`\n]*`")
 FIXED = re.compile(r"\bLoose\b|^use sound\.|^use denote\.Steps\..*|\bheard !", re.M)
 LINK = re.compile(r"\]\(([^)#\s]+)(#[^)\s]*)?\)")
-PATH = re.compile(r"(?<![\w/.])(?:crates|docs|tools|examples)/[\w./-]*\w")
+FOLDERS = "crates|docs|tools|evidence|examples|c_tests|dump_tests|packaging|wrappers"
+PATH = re.compile(rf"(?<![\w/.-])(?:{FOLDERS})/[\w./-]*\w")
+BLOCK = re.compile(r"^```rust\n(.*?)^```", re.M | re.S)
+USE = re.compile(r"(?:ghost )?use [^;]*;\n")
+LISTED = re.compile(r"((?:ghost )?use .*?)\{(.*)\};$")
 
 
 def files(*patterns):
@@ -36,8 +56,7 @@ def pages():
 
 def retired():
     """Retired words, and the word used in the place of each."""
-    rows = [line.split(": ") for line in Path(RETIRED).read_text().splitlines()]
-    return [(word, other) for words, other in rows for word in words.split(", ")]
+    return [(word, other) for words, other in RETIRED.items() for word in words.split(", ")]
 
 
 def pattern(word):
@@ -112,11 +131,46 @@ def names_of_nothing():
     return found
 
 
+def items_of(line):
+    """Returns what a `use` line names: each with its path."""
+    listed = LISTED.match(line)
+    return {listed[1] + it.strip() for it in listed[2].split(",")} if listed else {line}
+
+
+def head_and_rest(block):
+    """Returns the `use` lines that a block begins with, and what stands behind them."""
+    head = []
+    while found := USE.match(block):
+        head.append(found.group().strip())
+        block = block[found.end():].lstrip("\n")
+    return head, block
+
+
+def stands_in(head, rest, text):
+    """Tells whether a source has the code, and names what the `use` lines name."""
+    if rest not in text:
+        return False
+    named = {it for line in USE.findall(text) for it in items_of(line.strip())}
+    return all(items_of(line) <= named for line in head)
+
+
+def code_of_no_source():
+    """Prints each block of a page that stands in no source, and answers how many there are."""
+    texts = [Path(name).read_text() for name in glob.glob("crates/*/src/**/*.rt", recursive=True)]
+    found = 0
+    for page in pages():
+        for block in BLOCK.findall(Path(page).read_text()):
+            if not any(stands_in(*head_and_rest(block), text) for text in texts):
+                print(f"{page}: stands in no source:\n{block}")
+                found += 1
+    return found
+
+
 def main():
     if sys.argv[1:] not in ([], ["--all"]):
         sys.exit(__doc__)
     words = retired()
-    found = words_in_docs(words) + names_of_nothing()
+    found = words_in_docs(words) + names_of_nothing() + code_of_no_source()
     if sys.argv[1:]:
         found += words_in_sources(words)
     print(f"{len(pages())} pages, {len(words)} retired words, {found} faults")
