@@ -1,5 +1,5 @@
 #!/usr/bin/env python3
-"""Finds retired words, and names of files that do not exist, in the docs.
+"""Finds retired words, sentences that are too long, and names of files that do not exist, in the docs.
 
     python3 tools/words.py [--all]
 
@@ -7,7 +7,8 @@ run at the top of the repository. Retired words are those of tools/retired_words
 has some, and the word in their place. The docs are all pages (*.md); what stands in code fences or between backticks is no prose, and is passed over
 for words. With --all sources (*.rt, *.antt, *.edit, lists of wrong bodies) are looked through too, names in their code included: half_sent, HalfSent.
 The type `Loose`, the kit's module `sound` and its step `heard` are passed over. Paths that begin with a folder of this repository, and links, must
-name a file or a folder, from the top or beside the page. The exit status is 1 where a retired word or a name of nothing is found.
+name a file or a folder, from the top or beside the page. A sentence has at most 30 words, on each page but those of LONG; tables, headings, code
+and comments don't count, and what stands between backticks is one word. The exit status is 1 where anything is found.
 """
 
 import re
@@ -21,6 +22,15 @@ SPAN = re.compile(r"`[^`\n]*`")
 FIXED = re.compile(r"\bLoose\b|^use sound\.|^use denote\.Steps\..*|\bheard !", re.M)
 LINK = re.compile(r"\]\(([^)#\s]+)(#[^)\s]*)?\)")
 PATH = re.compile(r"(?<![\w/.])(?:crates|docs|tools|examples)/[\w./-]*\w")
+# a sentence: its words, and the pages that are not held to them: tables of what was measured, and pages that wait to be rewritten
+MOST_WORDS = 30
+LONG = ["CHANGELOG.md", "crates/sctp_receiver/CALLING.md", "crates/sctp_sender/CALLING.md", "docs/BENCHMARKS.md", "docs/EVIDENCE.md", "docs/GATE.md",
+        "docs/SCRIPTS.md", "docs/SCTPDUMP.md"]
+COMMENT = re.compile(r"<!--.*?-->", re.S)
+NO_PROSE = re.compile(r"^(?: {4,}(?![-*\d] ).*|#.*|\|.*|.* \| .*|.*\|$|---.*)$", re.M)
+BLOCK_ENDS = re.compile(r"\n\s*\n|\n(?=\s*(?:[-*] |\d+\. ))")
+SENTENCE_ENDS = re.compile(r"(?<=[.?!])(?<!\.\.)(?<!e\.g\.)(?<!i\.e\.)[)\"*]*\s+(?=[A-Z`\[*\"(\d])")
+WORD = re.compile(r"[^\W_]")
 
 
 def files(*patterns):
@@ -112,11 +122,35 @@ def names_of_nothing():
     return found
 
 
+def sentences_of(text):
+    """Returns the sentences of a page, each with its place."""
+    text = SPAN.sub(lambda it: "x" * len(it.group()), NO_PROSE.sub(blank, COMMENT.sub(blank, FENCE.sub(blank, text))))
+    found, begin = [], 0
+    for end in [it.end() for it in re.finditer(f"{BLOCK_ENDS.pattern}|{SENTENCE_ENDS.pattern}", text)] + [len(text)]:
+        found.append((begin, text[begin:end]))
+        begin = end
+    return found
+
+
+def long_sentences():
+    """Prints each sentence of too many words, and answers how many there are."""
+    found = 0
+    for page in pages():
+        text = Path(page).read_text()
+        for place, sentence in sentences_of(text) if page not in LONG else []:
+            count = sum(bool(WORD.search(word)) for word in sentence.split())
+            if count > MOST_WORDS:
+                began = place + len(sentence) - len(sentence.lstrip())
+                print(f"{page}:{line_of(text, began)}: {count} words in a sentence: {' '.join(text[began:].split()[:8])} ..")
+                found += 1
+    return found
+
+
 def main():
     if sys.argv[1:] not in ([], ["--all"]):
         sys.exit(__doc__)
     words = retired()
-    found = words_in_docs(words) + names_of_nothing()
+    found = words_in_docs(words) + names_of_nothing() + long_sentences()
     if sys.argv[1:]:
         found += words_in_sources(words)
     print(f"{len(pages())} pages, {len(words)} retired words, {found} faults")
