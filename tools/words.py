@@ -124,7 +124,7 @@ def names_of_nothing():
 
 def sentences_of(text):
     """Returns the sentences of a page, each with its place."""
-    text = SPAN.sub(lambda it: "x" * len(it.group()), NO_PROSE.sub(blank, COMMENT.sub(blank, FENCE.sub(blank, text))))
+    text = SPAN.sub(lambda it: "X" * len(it.group()), NO_PROSE.sub(blank, COMMENT.sub(blank, FENCE.sub(blank, text))))
     found, begin = [], 0
     for end in [it.end() for it in re.finditer(f"{BLOCK_ENDS.pattern}|{SENTENCE_ENDS.pattern}", text)] + [len(text)]:
         found.append((begin, text[begin:end]))
