@@ -111,7 +111,7 @@ RULES = [
         ("a DATA chunk with a new TSN is accepted, and its message may become complete", "6.2, 6.9", ["sctp_receiver::Receiver::data answer ok"],
          ["sctp_receiver Receiver.Takes"],
          ["transfer_tests::receiver_cases with which chunk a message is complete, and which streams have one"]),
-        ("a duplicate TSN changes nothing but the list of duplicates, which the next SACK reports", "6.2, 3.3.4",
+        ("a duplicate TSN is only added to the list of duplicates, which the next SACK reports", "6.2, 3.3.4",
          ["sctp_receiver::Receiver::data answer ok", "sctp_delivery::no_tsn_is_taken_twice"], ["sctp_receiver Receiver.repeat_tsn"],
          ["transfer_tests::receiver_cases a SACK reports a duplicate once"]),
         ("TSNs are compared modulo 2^32", "1.6; 1982 3.2", ["sctp_util::sna32lt"], ["sctp_util Serial.comes_before"],
@@ -339,7 +339,7 @@ def row_of(rule, functions):
     code = ", ".join(f"[`{it.title().partition('::')[2]}`](../{it.path})" for it, _ in linked)
     clauses = [f"`{' '.join(names)}`" for _, names in linked if names]
     defined = [f"`{it.split()[0]}::{it.rpartition('.')[2]}`" for it in words]
-    tested = ["`{}`{}".format(name, f": {title}" if title else "") for name, _, title in (it.partition(" ") for it in tests)]
+    tested = ["`{}`{}".format(name, f": `{title}`" if title else "") for name, _, title in (it.partition(" ") for it in tests)]
     cells = [rule[0], rule[1], code, "; ".join([*clauses, *defined]), ", ".join(tested)]
     if isinstance(rule[2], str):
         cells[2] = "; ".join(it for it in (f"*not ours*: {rule[2]}", code) if it)

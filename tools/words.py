@@ -8,7 +8,7 @@ has some, and the word in their place. The docs are all pages (*.md); what stand
 for words. With --all sources (*.rt, *.antt, *.edit, lists of wrong bodies) are looked through too, names in their code included: half_sent, HalfSent.
 The type `Loose`, the kit's module `sound` and its step `heard` are passed over. Paths that begin with a folder of this repository, and links, must
 name a file or a folder, from the top or beside the page. A sentence has at most 30 words, on each page but those of LONG; tables, headings, code
-and comments don't count, and what stands between backticks is one word. The exit status is 1 where anything is found.
+and comments don't count, and what stands between backticks is one word. Nor has such a page a word of UNPLAIN. The exit status is 1 where anything is found.
 """
 
 import re
@@ -22,7 +22,9 @@ SPAN = re.compile(r"`[^`\n]*`")
 FIXED = re.compile(r"\bLoose\b|^use sound\.|^use denote\.Steps\..*|\bheard !", re.M)
 LINK = re.compile(r"\]\(([^)#\s]+)(#[^)\s]*)?\)")
 PATH = re.compile(r"(?<![\w/.])(?:crates|docs|tools|examples)/[\w./-]*\w")
-# a sentence: its words, and the pages that are not held to them: tables of what was measured, and pages that wait to be rewritten
+# words of no field, and the words in their place
+UNPLAIN = [("anew", "again, newly"), ("beyond", "past"), ("looks", "reads"), ("turns", "work"), ("but for", "except"), ("nothing but", "only")]
+# a sentence: its words, and the pages that are held neither to them nor to UNPLAIN: pages of what was measured, and those that wait to be rewritten
 MOST_WORDS = 30
 LONG = ["CHANGELOG.md", "crates/sctp_receiver/CALLING.md", "crates/sctp_sender/CALLING.md", "docs/BENCHMARKS.md", "docs/EVIDENCE.md", "docs/GATE.md",
         "docs/SCRIPTS.md", "docs/SCTPDUMP.md"]
@@ -132,6 +134,18 @@ def sentences_of(text):
     return found
 
 
+def unplain_words():
+    """Prints each word of UNPLAIN in a page, and answers how many there are."""
+    found = 0
+    for page in pages():
+        text = COMMENT.sub(blank, prose(page)) if page not in LONG else ""
+        for word, other in UNPLAIN:
+            for match in pattern(word).finditer(text):
+                print(f"{page}:{line_of(text, match.start())}: {word} (plain: {other})")
+                found += 1
+    return found
+
+
 def long_sentences():
     """Prints each sentence of too many words, and answers how many there are."""
     found = 0
@@ -150,7 +164,7 @@ def main():
     if sys.argv[1:] not in ([], ["--all"]):
         sys.exit(__doc__)
     words = retired()
-    found = words_in_docs(words) + names_of_nothing() + long_sentences()
+    found = words_in_docs(words) + names_of_nothing() + unplain_words() + long_sentences()
     if sys.argv[1:]:
         found += words_in_sources(words)
     print(f"{len(pages())} pages, {len(words)} retired words, {found} faults")
