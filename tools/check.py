@@ -35,7 +35,7 @@ CHECKS = [
 # the sections whose claims name what carries them: each item of a list, or where there is none each paragraph
 CLAIMS = {
     "README.md": ["What it guarantees"],
-    "docs/WHY.md": ["The claim", "A message can't be joined wrongly", "None is read twice", "None is lost in silence", "In order"],
+    "docs/WHY.md": ["The claim", "A message can't be joined wrongly", "None is read twice", "None is lost in silence", "In order", "Two hosts"],
     "docs/CONTRACTS.md": ["Contracts", "Laws of two hosts: `sctp_delivery`"],
 }
 ITEM = re.compile(r"\s*(?:- |\d+\. )")

@@ -1,5 +1,5 @@
 #!/usr/bin/env python3
-"""Finds in the pages retired words, names of files that do not exist, and code that stands in no source.
+"""Finds in the pages retired words, sentences that are too long, names of files that do not exist, and code that stands in no source.
 
     python3 tools/pages.py [--all]
 
@@ -8,7 +8,8 @@ the words of RETIRED. With --all sources (*.rt, *.antt, *.edit, lists of wrong b
 half_sent, HalfSent. The type `Loose`, the kit's module `sound` and its step `heard` are passed over. Paths that begin with a folder of this
 repository, and links, must name a file or a folder, from the top or beside the page. Each block marked `rust` has to stand, line by line, in a
 source file of the repository; the `ghost use` and `use` lines that it begins with have to stand in the same file, where their items may be among
-more. The exit status is 1 where one of these is found.
+more. A sentence has at most 30 words, on each page but those of LONG; tables, headings, code and comments don't count, and what stands between
+backticks is one word. Nor has such a page a word of UNPLAIN. The exit status is 1 where one of these is found.
 """
 
 import glob
@@ -41,6 +42,17 @@ PATH = re.compile(rf"(?<![\w/.-])(?:{FOLDERS})/[\w./-]*\w")
 BLOCK = re.compile(r"^```rust\n(.*?)^```", re.M | re.S)
 USE = re.compile(r"(?:ghost )?use [^;]*;\n")
 LISTED = re.compile(r"((?:ghost )?use .*?)\{(.*)\};$")
+# words of no field, and the words in their place
+UNPLAIN = [("anew", "again, newly"), ("beyond", "past"), ("looks", "reads"), ("turns", "work"), ("but for", "except"), ("nothing but", "only")]
+# a sentence: its words, and the pages that are held neither to them nor to UNPLAIN: pages of what was measured, and those that wait to be rewritten
+MOST_WORDS = 30
+LONG = ["CHANGELOG.md", "crates/sctp_receiver/CALLING.md", "crates/sctp_sender/CALLING.md", "docs/BENCHMARKS.md", "docs/EVIDENCE.md", "docs/GATE.md",
+        "docs/SCRIPTS.md", "docs/SCTPDUMP.md"]
+COMMENT = re.compile(r"<!--.*?-->", re.S)
+NO_PROSE = re.compile(r"^(?: {4,}(?![-*\d] ).*|#.*|\|.*|.* \| .*|.*\|$|---.*)$", re.M)
+BLOCK_ENDS = re.compile(r"\n\s*\n|\n(?=\s*(?:[-*] |\d+\. ))")
+SENTENCE_ENDS = re.compile(r"(?<=[.?!])(?<!\.\.)(?<!e\.g\.)(?<!i\.e\.)[)\"*]*\s+(?=[A-Z`\[*\"(\d])")
+WORD = re.compile(r"[^\W_]")
 
 
 def files(*patterns):
@@ -166,11 +178,47 @@ def code_of_no_source():
     return found
 
 
+def sentences_of(text):
+    """Returns the sentences of a page, each with its place."""
+    text = SPAN.sub(lambda it: "X" * len(it.group()), NO_PROSE.sub(blank, COMMENT.sub(blank, FENCE.sub(blank, text))))
+    found, begin = [], 0
+    for end in [it.end() for it in re.finditer(f"{BLOCK_ENDS.pattern}|{SENTENCE_ENDS.pattern}", text)] + [len(text)]:
+        found.append((begin, text[begin:end]))
+        begin = end
+    return found
+
+
+def unplain_words():
+    """Prints each word of UNPLAIN in a page, and answers how many there are."""
+    found = 0
+    for page in pages():
+        text = COMMENT.sub(blank, prose(page)) if page not in LONG else ""
+        for word, other in UNPLAIN:
+            for match in pattern(word).finditer(text):
+                print(f"{page}:{line_of(text, match.start())}: {word} (plain: {other})")
+                found += 1
+    return found
+
+
+def long_sentences():
+    """Prints each sentence of too many words, and answers how many there are."""
+    found = 0
+    for page in pages():
+        text = Path(page).read_text()
+        for place, sentence in sentences_of(text) if page not in LONG else []:
+            count = sum(bool(WORD.search(word)) for word in sentence.split())
+            if count > MOST_WORDS:
+                began = place + len(sentence) - len(sentence.lstrip())
+                print(f"{page}:{line_of(text, began)}: {count} words in a sentence: {' '.join(text[began:].split()[:8])} ..")
+                found += 1
+    return found
+
+
 def main():
     if sys.argv[1:] not in ([], ["--all"]):
         sys.exit(__doc__)
     words = retired()
-    found = words_in_docs(words) + names_of_nothing() + code_of_no_source()
+    found = words_in_docs(words) + names_of_nothing() + code_of_no_source() + unplain_words() + long_sentences()
     if sys.argv[1:]:
         found += words_in_sources(words)
     print(f"{len(pages())} pages, {len(words)} retired words, {found} faults")

@@ -9,6 +9,7 @@ run at the top of the repository. With nothing it lists the sections and how oft
 With --page it prints docs/RFC.md, the rules by their words, and ends with status 1 where one of those names what isn't there. A
 citation is `RFC 4960 6.5, 6.6` in a comment; it counts for what the comment stands before, or for its file.
 """
+import os
 import re
 import sys
 
@@ -74,35 +75,167 @@ REASONS = {
     ("8260", "2.2"): "chunks alone: messages aren't interleaved",
     ("8260", "2.3"): "chunks alone: messages aren't interleaved",
 }
-# rules that are asked for by their words: section, definition with its place, calls, tests
+# rules that are asked for by their words: the rule, its sections, what carries it, the definitions that its clauses rest on, and its tests. What carries
+# it: a call with the names of the clauses that say so, or a call alone, of one clause or of an example. A test stands with the title of its case, where
+# it has several. A rule that is the caller's says what the caller does, and names the calls of an example that do it
 RULES = [
-    ("a DATA chunk without user data is taken as one of no bytes; an ABORT with cause 9 is the association's", "4960 6.2, 3.3.10.9",
-     [("sctp_data", "PayloadData", "ReadsData")], ["sctp_chunks::ChunkPayloadData::unmarshal", "sctp_receiver::Receiver::data"],
-     ["transfer_tests::no_user_data"]),
-    ("the checksum is taken with 0 in its field", "4960 6.8",
-     [("sctp_packets", "Packet", "checksum_input")], ["sctp_packets::Packet::unmarshal", "sctp_packets::Packet::marshal"],
-     ["packet_tests::recorded_datagrams_are_written_back"]),
-    ("padding is not counted in a chunk's length", "4960 3.2",
-     [("sctp_util", "Padding", "padded_length"), ("sctp_packets", "Packet", "after")],
-     ["sctp_util::get_padding_size", "sctp_packets::Packet::unmarshal"], ["packet_tests::fronts"]),
-    ("a chunk whose length is under 4 is refused", "4960 3.2",
-     [("sctp_chunks", "Fault", "HeaderFault")], ["sctp_chunks::ChunkHeader::unmarshal", "sctp_dissect::dissect"], ["packet_tests::first_chunks"]),
-    ("an INIT stands alone, under tag 0", "4960 6.10, 8.5.1",
-     [("sctp_packets", "Valid", "IsValid")], ["sctp_packets::Packet::check_packet"], ["packet_tests::rules_for_all_packets"]),
-    ("a SACK that a later one overtook changes nothing", "4960 6.2.1 D i",
-     [("sctp_sender", "Flight", "is_outdated")], ["sctp_sender::Sender::acked"], ["transfer_tests::sender_cases"]),
-    ("what gap ack blocks reported, and a later SACK does not, is sent again", "4960 6.2.1 D iv",
-     [("sctp_sender", "Sender", "taken_back_by")], ["sctp_sender::Sender::keep_reported", "sctp_sender::Sender::take_back"],
-     ["transfer_tests::sender_cases"]),
-    ("the Advanced.Peer.Ack.Point", "3758 3.5 C1, C2",
-     [("sctp_sender", "Abandonment", "advanced_ack_point")], ["sctp_sender::Sender::advanced_ack_point", "sctp_sender::Sender::forward_tsn"],
-     ["transfer_tests::sender_cases"]),
-    ("of a message that is abandoned when partially sent the rest takes one TSN, which is never sent", "3758 3.5",
-     [("sctp_outbound", "outbound_queue.OutboundQueue", "terminal_chunk"), ("sctp_model", "Laws", "NoTerminalChunkIsSent")],
-     ["sctp_sender::Sender::abandon", "sctp_sender::Sender::expire_tail", "sctp_model::slots_are_valid"],
-     ["transfer_tests::sender_cases"]),
-    ("a FORWARD-TSN that is not past the cumulative TSN changes nothing", "3758 3.6",
-     [("sctp_receiver", "Receiver", "is_stale")], ["sctp_receiver::Receiver::forward_tsn"], ["transfer_tests::receiver_cases"]),
+    ("Packets and chunks", [
+        ("the checksum is computed with 0 in its field", "6.8", ["sctp_packets::Packet::unmarshal found", "sctp_packets::Packet::marshal"],
+         ["sctp_packets Packet.checksum_input"], ["packet_tests::recorded_datagrams_are_written_back"]),
+        ("the checksum is CRC-32C", "6.8, B", ["crc32c::Crc::update"], ["crc32c Castagnoli.crc32c_of"], ["packet_tests::vectors"]),
+        ("padding is not counted in a chunk's length", "3.2", ["sctp_util::get_padding_size", "sctp_packets::Packet::unmarshal found"],
+         ["sctp_util Padding.padded_length", "sctp_packets Packet.after"], ["packet_tests::fronts"]),
+        ("a chunk with a length under 4 is refused", "3.2", ["sctp_chunks::ChunkHeader::unmarshal", "sctp_dissect::dissect items"],
+         ["sctp_chunks Fault.HeaderFault"], ["packet_tests::first_chunks"]),
+        ("an INIT is alone in its packet, and its packet has tag 0", "6.10, 8.5.1", ["sctp_packets::Packet::check_packet ok fault"],
+         ["sctp_packets Valid.IsValid"], ["packet_tests::rules_for_all_packets"]),
+        ("the two high bits of an unknown chunk type: skip the chunk or the rest, report it or not", "3.2",
+         ["sctp_c::sctp_read_any_packet read only"], ["sctp_c AnyChunks.is_stopping", "sctp_c AnyChunks.is_reported"],
+         ["c_tests/unknown_chunks.c"]),
+        ("the same: a Rust caller's `Packet::unmarshal` refuses the whole packet (a departure)", "3.2", ["sctp_packets::Packet::unmarshal fault"],
+         ["sctp_packets Fault.PacketFault"], ["packet_tests::first_chunks", "packet_tests::numbers_of_kinds"]),
+        ("the two high bits of an unknown parameter type: the high one is followed, a type without it refuses the packet (a departure)", "3.2.1",
+         ["sctp_params::build_param only fault"], ["sctp_params ParamKind.IsSkippedType", "sctp_params ParamKind.IsUnhandledType"],
+         ["packet_tests::types"]),
+        ("an ERROR, or a parameter of an INIT ACK, reports unknown chunks and parameters", "3.2.1, 3.2.2", "the caller writes it", [], [], []),
+        ("a packet with another verification tag is discarded", "8.5", "the caller compares `common_header.verification_tag`", [], [], []),
+        ("an ABORT and a SHUTDOWN COMPLETE have the T bit", "8.5.1, 3.3.7, 3.3.13", "the caller reads and writes it; `sctp_write_chunk_with_flags` in C",
+         [], [], []),
+        ("an ABORT answers a packet of no association", "8.4", "the caller keeps the associations", [], [], []),
+        ("a packet with a checksum of 0 is accepted where that was negotiated", "9653 5", "the caller hands in a `Checksum`; `sctpdump` follows what "
+         "both ends announced", ["sctp_show::is_wrong"], ["sctp_show Sum.is_wrong", "sctp_show Sum.has_zero_param"], []),
+        ("I-DATA chunks", "8260 2.1", "a packet with one is refused; `sctp_read_any_packet` in C skips it", ["sctp_packets::Packet::unmarshal fault"],
+         [], []),
+    ]),
+    ("Receiver: DATA", [
+        ("a DATA chunk with a new TSN is accepted, and its message may become complete", "6.2, 6.9", ["sctp_receiver::Receiver::data answer ok"],
+         ["sctp_receiver Receiver.Takes"],
+         ["transfer_tests::receiver_cases with which chunk a message is complete, and which streams have one"]),
+        ("a duplicate TSN is only added to the list of duplicates, which the next SACK reports", "6.2, 3.3.4",
+         ["sctp_receiver::Receiver::data answer ok", "sctp_delivery::no_tsn_is_taken_twice"], ["sctp_receiver Receiver.repeat_tsn"],
+         ["transfer_tests::receiver_cases a SACK reports a duplicate once"]),
+        ("TSNs are compared modulo 2^32", "1.6; 1982 3.2", ["sctp_util::sna32lt"], ["sctp_util Serial.comes_before"],
+         ["packet_tests::serial_numbers"]),
+        ("DATA past the window is dropped; DATA that fills a gap is accepted", "6.2", ["sctp_receiver::Receiver::data refused"],
+         ["sctp_receiver Limits.refusal_within"], ["transfer_tests::receiver_cases a window of two chunks (RFC 4960 6.2)"]),
+        ("a_rwnd is the window less what is held; each held chunk counts 200 bytes more than its user data", "3.3.4, 6.2",
+         ["sctp_receiver::Receiver::window", "sctp_receiver::Receiver::sack sack"], ["sctp_receiver Limits.window_left"],
+         ["transfer_tests::receiver_cases a window of two chunks (RFC 4960 6.2)"]),
+        ("DATA without user data is accepted as a message of no bytes", "6.2, 3.3.10.9",
+         ["sctp_chunks::ChunkPayloadData::unmarshal", "sctp_receiver::Receiver::data ok"], ["sctp_data PayloadData.ReadsData"],
+         ["transfer_tests::no_user_data"]),
+        ("an ABORT with cause 9 answers DATA without user data", "6.2, 3.3.10.9", "the caller tests `chunk.user_data.is_empty()`", [], [], []),
+        ("DATA of an unknown stream is acknowledged and dropped", "6.5", ["sctp_receiver::Receiver::data refused", "sctp_receiver::Receiver::discard ok"],
+         ["sctp_receiver Receiver.after_discard"], ["transfer_tests::receiver_cases chunks that are dropped are acknowledged (RFC 4960 6.5)"]),
+        ("an ERROR with cause 1 answers DATA of an unknown stream", "6.5, 3.3.10.1", "the caller writes it", ["association::invalid_stream"], [], []),
+        ("SSNs wrap: an ordered chunk is refused where `(ssn - lowest) mod 2^16 >= 2^15`", "6.5, 6.6; 1982 3.2",
+         ["sctp_receiver::Receiver::data refused kept"], ["sctp_receiver Ssns.is_too_far_on"],
+         ["transfer_tests::receiver_cases of 32,770 messages of one fragment the last one comes first"]),
+        ("ordered messages are delivered in the order of their SSNs", "6.6",
+         ["sctp_receiver::Receiver::read message", "sctp_delivery::messages_are_read_in_order"], ["sctp_receiver Receiver.message_on"],
+         ["transfer_tests::sender_cases both hosts write, and send in turn; of each message the second fragment is lost, then sent again"]),
+        ("unordered messages are delivered as soon as they are complete", "6.6", ["sctp_receiver::Receiver::read message"],
+         ["sctp_reassembly reassembly_queue.ReassemblyQueue.message_read"], ["queue_tests::reassembly_cases unordered messages are read first"]),
+        ("fragments of unordered messages interleave with fragments of ordered ones; no message mixes both", "6.6, 6.9",
+         ["sctp_reassembly::ReassemblyQueue::push ordered unordered", "sctp_receiver::messages_are_of_accepted_chunks alike"],
+         ["sctp_receiver ReceiverRuns.AreOfOneMessage"], ["queue_tests::reassembly_cases interleaved messages come whole over the wrap"]),
+        ("fragments with consecutive TSNs, from B to E, make a message", "6.9, 3.3.1", ["sctp_receiver::messages_are_of_accepted_chunks complete"],
+         ["sctp_receiver ReceiverRuns.AreComplete"],
+         ["transfer_tests::receiver_cases a message of three fragments over the wrap of TSNs, the last one first"]),
+        ("the I bit of DATA asks for a SACK at once", "7053 3; 9260 3.3.1", "the caller reads `chunk.immediate_sack`",
+         ["association::Association::take_data"], [], []),
+    ]),
+    ("Receiver: SACK", [
+        ("gap ack blocks report what came past the cumulative TSN", "3.3.4, 6.2",
+         ["sctp_receiver::Receiver::sack sack fits", "sctp_delivery::what_came_is_reported next each"], ["sctp_receiver TsnFilter.gap_ack_blocks"],
+         ["transfer_tests::receiver_cases the SACK of the RFC"]),
+        ("a SACK is no longer than its packet: gap ack blocks first, then duplicates", "6.2, 3.3.4", ["sctp_receiver::Receiver::sack_within sack fits rest"],
+         ["sctp_receiver Receiver.sack_within"], ["transfer_tests::receiver_cases a SACK is no longer than its packet"]),
+        ("delayed SACK: one for every second packet, within 200 ms", "6.2", "the caller, who has the timer", ["association::Association::owe_sack"],
+         [], []),
+        ("a SACK at once where a TSN is missing, or comes again", "6.2, 6.7", "the caller sends it", ["association::Association::take_data"], [], []),
+    ]),
+    ("Sender: DATA", [
+        ("a message longer than a fragment is cut, B on the first fragment, E on the last, consecutive TSNs", "6.9, 3.3.1",
+         ["sctp_sender::Sender::write ok count", "sctp_model::chunks_say_their_message ends says joins"],
+         ["sctp_sender Outgoing.fragments_with_mode", "sctp_model Messages.fragments_of"], ["link_tests::a_write_becomes_fragments"]),
+        ("the path MTU bounds fragments", "6.9, 7.3", "the caller tells it", ["sctp_sender::Sender::set_fragment_size"], [],
+         ["transfer_tests::sender_cases the fragment size of later writes and a low threshold are set"]),
+        ("bundling: control chunks precede DATA; a packet fits the path MTU", "6.10", "the caller fills packets; `Link` fills them up to a limit",
+         ["association::Association::transmit", "sctp_model::datagrams_keep_the_limit within filled"], [], []),
+        ("fewer than 2^31 TSNs are in flight; an ordered message is begun where `(ssn - first) mod 2^16 < 2^14`", "6.5, 6.6; 1982 3.2",
+         ["sctp_sender::Sender::send_next refused"], ["sctp_sender Numbers.send_refusal"], ["transfer_tests::bounded"]),
+        ("flow control: bytes in flight stay below the peer's a_rwnd and the congestion window", "6.1 A, B; 7.2", "the caller compares",
+         ["association::Association::put_new", "association::Association::has_room"], [], []),
+        ("zero window probe: one DATA chunk while the peer's a_rwnd is 0", "6.1 A", "the caller sends where nothing is in flight",
+         ["association::Association::put_new"], [], []),
+        ("a DCEP message is ordered and reliable in any mode", "8832 6", ["sctp_stream::StreamState::is_ordered", "sctp_sender::Sender::expire_rexmit ok"],
+         ["sctp_data PayloadTypes.is_ordered", "sctp_sender Resending.is_worn"], ["link_tests::channel_messages_are_ordered_always"]),
+        ("DATA_CHANNEL_OPEN and DATA_CHANNEL_ACK", "8832 5, 6", "the caller writes them with payload type 50", [], [], []),
+    ]),
+    ("Sender: SACK and retransmission", [
+        ("a SACK acknowledges what it reports and is in flight", "6.2.1", ["sctp_sender::Sender::acked answer ok"], ["sctp_sender Flight.after_sack"],
+         ["transfer_tests::sender_cases a SACK's answer says of each chunk that it reports anew what an association asks"]),
+        ("a SACK of a TSN that was not sent is refused", "6.2.1", ["sctp_sender::Sender::acked refused"], ["sctp_sender Flight.sack_refusal"],
+         ["transfer_tests::sender_cases what a peer may claim beside what is in flight is refused by its name, and nothing changes"]),
+        ("a SACK whose cumulative TSN is older changes nothing", "6.2.1 D i", ["sctp_sender::Sender::acked outdated ok"],
+         ["sctp_sender Flight.is_outdated"], ["transfer_tests::sender_cases what a peer may claim beside what is in flight is refused by its name, and nothing changes"]),
+        ("a chunk that gap ack blocks reported, and a later SACK does not, is sent again", "6.2.1 D iv",
+         ["sctp_sender::Sender::keep_reported ok", "sctp_sender::Sender::take_back answer ok"], ["sctp_sender Sender.taken_back_by"],
+         ["transfer_tests::sender_cases what a SACK no longer reports is outstanding again with its bytes, and can be sent again"]),
+        ("T3-rtx expires: each outstanding chunk is marked for retransmission", "6.3.3 E3", ["sctp_sender::Sender::retransmit_all",
+         "sctp_sender::Sender::resend answer ok"], ["sctp_sender Resending.all_marked", "sctp_sender Resending.is_to_resend"],
+         ["transfer_tests::sender_cases the timer runs out: what is outstanding is marked, lent one after another, and sent again"]),
+        ("T3-rtx and RTO", "6.3.1, 6.3.2, 6.3.3 E1, E2", "the caller runs it; `acked` answers `nsent` and `since` of each chunk",
+         ["association::Timer::start", "association::Timer::measure", "association::Association::measure"], [], []),
+        ("fast retransmit: the third miss indication marks a chunk, once", "7.2.4", ["sctp_sender::Sender::add_miss_indications missed thirds"],
+         ["sctp_sender Resending.after_misses", "sctp_sender Resending.thirds"],
+         ["transfer_tests::sender_cases three SACKs report later chunks: the first is sent again at once, and once only"]),
+        ("slow start, congestion avoidance, fast recovery", "7.2.1 to 7.2.4", "the caller keeps the window", ["association::Congestion::advanced",
+         "association::Congestion::lost", "association::Congestion::timed_out"], [], []),
+    ]),
+    ("Partial reliability", [
+        ("FORWARD-TSN of a sender: it ends a message, and names the last abandoned SSN of each stream", "3758 3.5 C3, C4",
+         ["sctp_sender::Sender::forward_tsn tsn names"], ["sctp_sender Abandonment.skip_end", "sctp_sender Abandonment.Name"],
+         ["transfer_tests::sender_cases a FORWARD-TSN goes to the end of a message, never inside one (RFC 3758 3.5)"]),
+        ("the Advanced.Peer.Ack.Point", "3758 3.5 C1, C2", ["sctp_sender::Sender::forward_tsn tsn"], ["sctp_sender Abandonment.advanced_ack_point"],
+         ["transfer_tests::sender_cases a FORWARD-TSN goes to the end of a message, never inside one (RFC 3758 3.5)"]),
+        ("a partially sent message that is abandoned takes one more TSN, which is never sent", "3758 3.5",
+         ["sctp_sender::Sender::abandon ok", "sctp_model::slots_are_valid no_terminal_chunk"],
+         ["sctp_outbound outbound_queue.OutboundQueue.terminal_chunk", "sctp_model Laws.NoTerminalChunkIsSent"],
+         ["transfer_tests::sender_cases of a message that is abandoned when partially sent the rest takes one TSN, which is never sent"]),
+        ("FORWARD-TSN of a receiver: it drops incomplete ordered messages that it names or cuts, and unordered fragments up to its TSN", "3758 3.6",
+         ["sctp_receiver::Receiver::forward_tsn answer ok"], ["sctp_receiver Skips.after_forward_tsn"],
+         ["transfer_tests::receiver_cases a message of which a fragment is skipped does not block its stream, though no name covers it"]),
+        ("a FORWARD-TSN up to the cumulative TSN changes nothing", "3758 3.6", ["sctp_receiver::Receiver::forward_tsn ok"],
+         ["sctp_receiver Receiver.is_stale"],
+         ["transfer_tests::receiver_cases a FORWARD-TSN that is not past the cumulative TSN changes nothing (RFC 3758 3.6)"]),
+        ("a FORWARD-TSN whose SSN may be ahead or behind is refused", "3758 3.6; 1982 3.2", ["sctp_receiver::Receiver::forward_tsn refused"],
+         ["sctp_receiver Ssns.is_name_too_far"],
+         ["transfer_tests::receiver_cases a FORWARD-TSN whose number may be ahead or behind is refused, and nothing is skipped"]),
+        ("limited retransmissions: a chunk that was sent `limit + 1` times and is marked again abandons its message", "7496 3.1",
+         ["sctp_sender::Sender::expire_rexmit ok none_left"], ["sctp_sender Late.after_worn", "sctp_sender Resending.worn_tsns"],
+         ["transfer_tests::sender_cases a message that may be sent again once is abandoned where it is marked a second time"]),
+        ("timed reliability: a message past its lifetime is abandoned, or removed where it is unsent", "3758 4.1",
+         ["sctp_sender::Sender::expire_late ok", "sctp_sender::Sender::expire some none"],
+         ["sctp_sender Late.after_late", "sctp_data Reliability.deadline_at"],
+         ["transfer_tests::sender_cases the lifetime of a partially sent message ends"]),
+        ("priorities", "7496 3.2", "no mode for them", [], [], []),
+        ("Forward-TSN-Supported is negotiated", "3758 3.1, 3.3", "the caller, in the handshake", [], [], []),
+    ]),
+    ("Stream reset and the rest", [
+        ("an outgoing stream is reset once nothing of it waits or is in flight; its SSNs start at 0", "6525 5.1.2",
+         ["sctp_sender::Sender::is_drained", "sctp_sender::Sender::reset ok accepted"], ["sctp_sender Settings.reset_on"],
+         ["transfer_tests::sender_cases an outgoing stream is reset once nothing of it is left (RFC 6525 5.1.2)"]),
+        ("an incoming stream is reset once all up to the Sender's Last Assigned TSN came; SSN 0 is expected next", "6525 5.2.2",
+         ["sctp_receiver::Receiver::reset ok refused"], ["sctp_receiver Resets.reset_stream"],
+         ["transfer_tests::receiver_cases what came before a reset is read before what comes after it (RFC 6525 5.2.2)"]),
+        ("RE-CONFIG chunks, their sequence numbers and answers", "6525 5.1.1, 5.2.1, 5.2.7", "the caller keeps them", ["association::Resets::begin",
+         "association::Resets::take_request", "association::Resets::take_response"], [], []),
+        ("handshake, cookie, restart", "5.1, 5.2", "the caller makes it", [], [], []),
+        ("several addresses, HEARTBEAT", "6.4, 8.2, 8.3", "this layer knows no addresses", [], [], []),
+        ("SHUTDOWN", "9.2", "the caller sends it; its TSN is `Receiver::cumulative_tsn`", ["sctp_receiver::Receiver::cumulative_tsn"], [], []),
+    ]),
 ]
 
 
@@ -182,19 +315,47 @@ def within(section, own):
     return not section or own == section or own.startswith(section + ".")
 
 
+def faults_of(rule, functions):
+    """Returns what one of RULES names that isn't there: calls, clauses of these, definitions, tests and titles of their cases."""
+    calls, words, tests = rule[-3:]
+    told = []
+    for call, *clauses in map(str.split, calls):
+        named = set(re.findall(r"(?:ensures|requires) (\w+) \{", " ".join(functions[call].clauses))) if call in functions else set()
+        told += [call] if call not in functions else [f"{call} {it}" for it in clauses if it not in named]
+    for crate, path in map(str.split, words):
+        module, _, word = path.rpartition(".")
+        told += [] if definition_at(crate, module, word) else [f"{crate} {path}"]
+    for test in tests:
+        name, _, title = test.partition(" ")
+        path = functions[name].path if name in functions else name
+        told += [] if os.path.exists(path) and title in "\n".join(lines_of(path)) else [test]
+    return told
+
+
+def row_of(rule, functions):
+    """Returns a row of the page: the rule, its sections, code, contract, test."""
+    calls, words, tests = rule[-3:]
+    linked = [(functions[call], clauses) for call, *clauses in map(str.split, calls)]
+    code = ", ".join(f"[`{it.title().partition('::')[2]}`](../{it.path})" for it, _ in linked)
+    clauses = [f"`{' '.join(names)}`" for _, names in linked if names]
+    defined = [f"`{it.split()[0]}::{it.rpartition('.')[2]}`" for it in words]
+    tested = ["`{}`{}".format(name, f": `{title}`" if title else "") for name, _, title in (it.partition(" ") for it in tests)]
+    cells = [rule[0], rule[1], code, "; ".join([*clauses, *defined]), ", ".join(tested)]
+    if isinstance(rule[2], str):
+        cells[2] = "; ".join(it for it in (f"*not ours*: {rule[2]}", code) if it)
+    return "| " + " | ".join(cells) + " |"
+
+
 def rules():
-    """Prints RULES, each with its sections, definitions, calls and tests; ends with status 1 where one of them names what isn't there."""
-    functions = {it.title() for it in Sources().functions}
-    missing = [f"{crate} {word}" for rule in RULES for crate, module, word in rule[2] if not definition_at(crate, module, word)]
-    missing += [title for rule in RULES for title in rule[3] + rule[4] if title not in functions]
+    """Prints RULES; ends with status 1 where one of them names what isn't there."""
+    functions = {it.title(): it for it in Sources().functions}
+    missing = [fault for _, part in RULES for rule in part for fault in faults_of(rule, functions)]
     if missing:
         sys.exit("rfc.py: RULES names what is not there: " + ", ".join(missing))
-    for rule, section, definitions, calls, tests in RULES:
-        words = ", ".join(f"`{crate}::{word}`" for crate, _, word in definitions)
-        named = ", ".join(f"`{it.partition('::')[2]}`" for it in calls)
-        tested = ", ".join(f"`{it}`" for it in tests)
-        place = section[5:] if section.startswith("4960 ") else f"RFC {section}"
-        print(f"- {rule} ({place}): {words}; {named}; {tested}")
+    for title, part in RULES:
+        print(f"\n## {title}\n\n| rule | section | code | contract | test |\n|---|---|---|---|---|")
+        for rule in part:
+            print(row_of(rule, functions))
 
 
 def not_cited(citations):
@@ -210,9 +371,10 @@ def not_cited(citations):
 
 def page():
     print("# Which rule of an RFC stands where\n")
-    print("Made by `python3 tools/rfc.py --page`; without `--page` it lists the sections that comments cite, and those that none cites; with")
-    print("`RFC SECTION` what cites one. Sections are of RFC 4960, which RFC 9260 replaced, or of the one named. Behind each rule: definitions;")
-    print("calls; tests.\n")
+    print("Sections are of RFC 4960, whose numbers RFC 9260 keeps, or of the RFC named before them. *not ours*: the caller does it; the code named there is")
+    print("an example or what the caller calls. Contract: names of clauses of these calls, then definitions. `python3 tools/trace.py NAME` prints any name.\n")
+    print("`python3 tools/rfc.py --page` makes this page from a list in which each name must exist. Without `--page` the script prints how often the sources")
+    print("cite each section; with `RFC SECTION` it prints what cites it.")
     rules()
 
 
