@@ -96,7 +96,7 @@ pub fn send_sack_with(
     ensures sack { IfOk result (λ s. sack_of s ≡ sack credit receiver.old) }
 {
     let sack = replay::make_sack(receiver, credit)?;
-    receiver.sack_sent();
+    Receiver::sack_sent(receiver);
     Ok(sack)
 }
 
