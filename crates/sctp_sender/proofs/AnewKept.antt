@@ -13,9 +13,9 @@ use Rattle.sctp_data.specs.declared.chunk.chunk_payload_data.ChunkPayloadData.{C
 use Rattle.sctp_data.specs.declared.chunk.chunk_selective_ack.GapAckBlock.{GapAckBlock}
 use Rattle.sctp_data.specs.SelectiveAck.{Sack}
 use Rattle.sctp_outbound.specs.pending_queue.PendingQueue.{Pending}
-use Rattle.sctp_sender.specs.declared.sender.flight.keeping.Kept.{Kept}
+use Rattle.sctp_sender.specs.declared.sender.flight.kept.Kept.{Kept}
 use Rattle.sctp_sender.specs.declared.sender.flight.anew.Anew.{Anew}
-use Rattle.sctp_sender.specs.declared.sender.flight.taking_back.PlacedData.{PlacedData}
+use Rattle.sctp_sender.specs.declared.sender.flight.returns.PlacedData.{PlacedData}
 use Rattle.sctp_sender.specs.Flight.{Flight, after_sack, count_acked, is_outdated, reports_anew, take_sack}
 use Rattle.sctp_sender.specs.Keeping.{AreAnew, Cover, IsCovered, IsOwn, blocks_after, data_after, filled, is_at, keep, keep_each, kept_after, kept_from}
 use Rattle.sctp_sender.specs.Keeping.{kept_with, put_all, trimmed}

@@ -26,7 +26,7 @@ use Rattle.sctp_outbound.specs.pending_queue.PendingQueue.{next_pending, next_pe
 use Rattle.sctp_serial.specs.DataChunks.{chunk_before, has_tsn, is_on}
 use Rattle.sctp_stream.specs.declared.stream.StreamState.{StreamState}
 use Rattle.sctp_stream.specs.Stream.{fragment_at, fragments_of, pieces_of}
-use Rattle.sctp_sender.specs.declared.sender.flight.keeping.Kept.{Kept}
+use Rattle.sctp_sender.specs.declared.sender.flight.kept.Kept.{Kept}
 use Rattle.sctp_sender.specs.declared.sender.refusal.SenderRefusal.{SenderRefusal}
 use Rattle.sctp_sender.specs.Flight.{Flight, after_abandonment, can_resend, is_outstanding_in, message_to_abandon, resent, with_queue}
 use Rattle.sctp_sender.specs.Keeping.{Cover, IsCovered, is_uncovered, restored, with_restored}

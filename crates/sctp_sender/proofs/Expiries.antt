@@ -5,7 +5,7 @@ use Rattle.sctp_data.specs.declared.chunk.chunk_selective_ack.GapAckBlock.{GapAc
 use Rattle.sctp_data.specs.declared.chunk.chunk_payload_data.ChunkPayloadData.{ChunkPayloadData}
 use Rattle.sctp_outbound.specs.declared.outbound_queue.expiry.ExpiredRun.{ExpiredRun}
 use Rattle.sctp_outbound.specs.outbound_queue.OutboundQueue.{Outbound, expired_of, expired_times, expiring}
-use Rattle.sctp_sender.specs.declared.sender.flight.keeping.Kept.{Kept}
+use Rattle.sctp_sender.specs.declared.sender.flight.kept.Kept.{Kept}
 use Rattle.sctp_sender.specs.Flight.{Flight, with_queue}
 use Rattle.sctp_sender.specs.Keeping.{AreReported, IsCovered}
 use Rattle.sctp_sender.specs.Reporting.{AreKnown}

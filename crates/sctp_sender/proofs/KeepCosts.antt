@@ -9,7 +9,7 @@ use Rattle.sctp_util.proofs.Cases.{some-same}
 use Rattle.sctp_data.specs.declared.chunk.chunk_payload_data.ChunkPayloadData.{ChunkPayloadData}
 use Rattle.sctp_data.specs.SelectiveAck.{Sack}
 use Rattle.sctp_sender.specs.declared.sender.flight.anew.Anew.{Anew}
-use Rattle.sctp_sender.specs.declared.sender.flight.keeping.Kept.{Kept}
+use Rattle.sctp_sender.specs.declared.sender.flight.kept.Kept.{Kept}
 use Rattle.sctp_sender.specs.Costs.{anew_turns, keeping_turns, sack_turns}
 use Rattle.sctp_sender.specs.Flight.{Flight, count_acked, is_outdated, reports, reports_anew, sack_refusal}
 use Rattle.sctp_sender.specs.Keeping.{data_after, kept_after, places_kept, put_all}

@@ -12,7 +12,7 @@ use Rattle.sctp_data.specs.SelectiveAck.{Sack}
 use Rattle.sctp_outbound.specs.Marks.{as_taken_back}
 use Rattle.sctp_outbound.specs.pending_queue.Whole.{partially_sent}
 use Rattle.sctp_serial.specs.DataChunks.{bytes_of, following_tsn}
-use Rattle.sctp_sender.specs.declared.sender.flight.keeping.TakenBack.{TakenBack}
+use Rattle.sctp_sender.specs.declared.sender.flight.kept.TakenBack.{TakenBack}
 use Rattle.sctp_sender.specs.declared.sender.refusal.SenderRefusal.{SenderRefusal}
 use Rattle.sctp_sender.specs.declared.sender.refusal.SenderRefusal.TheVariants.{InflightQueueTsnPop, TsnRequestNotExist}
 use Rattle.sctp_sender.specs.Flight.{Flight, IsContiguous, count_acked, is_outdated, is_within, reports, sack_refusal, tsns_from}

@@ -10,8 +10,8 @@ use Rattle.sctp_util.proofs.Cases.{and-true}
 use Rattle.sctp_data.specs.declared.chunk.chunk_payload_data.ChunkPayloadData.{ChunkPayloadData}
 use Rattle.sctp_data.specs.declared.chunk.chunk_selective_ack.GapAckBlock.{GapAckBlock}
 use Rattle.sctp_outbound.specs.payload_queue.Blocks.{is_in_blocks}
-use Rattle.sctp_sender.specs.declared.sender.flight.listing.Left.{Left}
-use Rattle.sctp_sender.specs.declared.sender.flight.taking_back.PlacedData.{PlacedData}
+use Rattle.sctp_sender.specs.declared.sender.flight.runs.Left.{Left}
+use Rattle.sctp_sender.specs.declared.sender.flight.returns.PlacedData.{PlacedData}
 use Rattle.sctp_sender.specs.Flight.{Flight, IsContiguous}
 use Rattle.sctp_sender.specs.Keeping.{Cover, blocks_left, can_come_back, is_at, is_uncovered, placed, restored, with_restored}
 use Rattle.sctp_sender.specs.Reporting.{AreKnown, ascends_from}

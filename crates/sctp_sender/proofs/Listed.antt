@@ -12,7 +12,7 @@ use Rattle.sctp_outbound.specs.Marks.{is_outstanding, with_retransmit}
 use Rattle.sctp_outbound.specs.outbound_queue.OutboundQueue.{all_started, expired_of, with_message}
 use Rattle.sctp_serial.specs.DataChunks.{has_tsn}
 use Rattle.sctp_sender.specs.declared.sender.flight.anew.Anew.{Anew}
-use Rattle.sctp_sender.specs.declared.sender.flight.keeping.Kept.{Kept}
+use Rattle.sctp_sender.specs.declared.sender.flight.kept.Kept.{Kept}
 use Rattle.sctp_sender.specs.declared.sender.refusal.SenderRefusal.{SenderRefusal}
 use Rattle.sctp_sender.specs.Flight.{Flight, after_sack, can_resend, is_outdated, is_outstanding_in, resent, take_sack, with_queue}
 use Rattle.sctp_sender.specs.Keeping.{AreReported, Cover, blocks_after}

@@ -10,7 +10,7 @@ use Rattle.sctp_util.proofs.Cases.{and-none, and-true, or-left, or-none, or-righ
 use Rattle.sctp_util.proofs.Edits.{list_any-append}
 use Rattle.sctp_data.specs.declared.chunk.chunk_selective_ack.GapAckBlock.{GapAckBlock}
 use Rattle.sctp_outbound.specs.payload_queue.Blocks.{is_in_block, is_in_blocks}
-use Rattle.sctp_sender.specs.declared.sender.flight.taking_back.PlacedData.{PlacedData}
+use Rattle.sctp_sender.specs.declared.sender.flight.returns.PlacedData.{PlacedData}
 use Rattle.sctp_sender.specs.Keeping.{is_at, rises_from}
 use Rattle.sctp_sender.specs.Reporting.{ascends_from}
 use Rattle.sctp_sender.proofs.Anew.{any-at, both, in-block}

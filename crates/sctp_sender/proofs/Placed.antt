@@ -13,8 +13,8 @@ use Rattle.sctp_util.proofs.More.{length-changed}
 use Rattle.sctp_data.specs.declared.chunk.chunk_payload_data.ChunkPayloadData.{ChunkPayloadData}
 use Rattle.sctp_data.specs.SelectiveAck.{Sack}
 use Rattle.sctp_outbound.specs.Marks.{as_taken_back}
-use Rattle.sctp_sender.specs.declared.sender.flight.keeping.TakenBack.{TakenBack}
-use Rattle.sctp_sender.specs.declared.sender.flight.taking_back.PlacedData.{PlacedData}
+use Rattle.sctp_sender.specs.declared.sender.flight.kept.TakenBack.{TakenBack}
+use Rattle.sctp_sender.specs.declared.sender.flight.returns.PlacedData.{PlacedData}
 use Rattle.sctp_sender.specs.Keeping.{answered_back, back_each, bytes_back, bytes_coming, placed, put_back, restored, answered_of_placed}
 use Rattle.sctp_sender.specs.Keeping.{is_at, rises_from, with_restored}
 use Rattle.sctp_outbound.specs.outbound_queue.OutboundQueue.{with_inflight}

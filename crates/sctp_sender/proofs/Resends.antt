@@ -1,6 +1,6 @@
 -- The first chunk in flight that is marked for retransmission, and what leaves with messages that are abandoned.
-use Rattle.std.proofs.Common.{◌≡◌, ℕ, ◌<◌, Bool, true, false, List, [], ◌∷◌, ◌++◌, map, Option, Some, None, Result, Ok, Err, Vec, Global, refl, ap, sym, subst, ◌∙◌, arith}
-use Rattle.std.specs.Prelude.{◌&&◌, IfOk, not, find, if◌then◌else◌, option_map, option_to_list}
+use Rattle.std.proofs.Common.{◌≡◌, ℕ, Bool, true, false, List, [], ◌∷◌, ◌++◌, map, Option, Some, None, Result, Ok, Err, Vec, Global, refl, ap, sym, subst, ◌∙◌, arith}
+use Rattle.std.specs.Prelude.{IfOk, not, find, if◌then◌else◌, option_map, option_to_list}
 use Rattle.std.specs.List.{filter}
 use Rattle.std.proofs.lemmas.Option.{none-some}
 use Rattle.sctp_util.proofs.Cases.{negated}
@@ -12,7 +12,7 @@ use Rattle.sctp_outbound.specs.pending_queue.PendingQueue.{Pending}
 use Rattle.sctp_serial.specs.DataChunks.{following_tsn, has_tsn}
 use Rattle.sctp_sender.specs.declared.sender.flight.late.AbandonedMessage.{AbandonedMessage}
 use Rattle.sctp_sender.specs.Flight.{Flight, IsContiguous, can_resend, has_tail_at, is_outstanding_in}
-use Rattle.sctp_sender.specs.Late.{abandoned_at, abandoned_with, leaving_at, leaving_each, tail_first, with_tail}
+use Rattle.sctp_sender.specs.Late.{abandoned_with, leaving_each, tail_first, with_tail}
 use Rattle.sctp_sender.specs.Resending.{count_again, is_to_resend, is_worn, sent_again}
 use Rattle.sctp_sender.specs.Thresholds.{with_message_lows}
 use Rattle.sctp_stream.specs.declared.stream.StreamState.{StreamState}
@@ -134,6 +134,3 @@ module _ (cs : List ChunkPayloadData) (tsn now : ℕ) (is : Some tsn ≡ option_
 
   pub any-marked : find is_to_resend cs ≡ None → ⊥
   any-marked e = none-some marked.0 (sym e ∙ marked.1)
-
-  pub can : (f : Flight) → ((c : ChunkPayloadData) → find is_to_resend cs ≡ Some c → can_resend c.tsn f ≡ true) → can_resend tsn f ≡ true
-  can f again = ap (λ t. can_resend t f) marked.2 ∙ again marked.0 marked.1

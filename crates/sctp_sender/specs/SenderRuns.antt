@@ -6,7 +6,7 @@ use Rattle.sctp_data.specs.declared.chunk.chunk_payload_data.ReliabilityType.{Re
 use Rattle.sctp_outbound.specs.outbound_queue.OutboundQueue.{all_started, total_bytes}
 use Rattle.sctp_sender.specs.declared.sender.flight.late.AbandonedMessage.{AbandonedMessage}
 use Rattle.sctp_sender.specs.declared.sender.flight.Released.{Released}
-use Rattle.sctp_sender.specs.declared.sender.flight.keeping.TakenBack.{TakenBack}
+use Rattle.sctp_sender.specs.declared.sender.flight.kept.TakenBack.{TakenBack}
 use Rattle.sctp_sender.specs.Flight.{resent, with_queue, with_room}
 use Rattle.sctp_sender.specs.Sender.{Transmission, open_stream, close_stream, keeping, with_flight, with_mode_on, with_nothing}
 use Rattle.sctp_sender.specs.Resending.{after_misses, all_marked, resent_at}

@@ -16,7 +16,7 @@ ghost use Rattle.sctp_sender.specs.Totals.{bytes_in};
 
 use crate::sender::Sender;
 use crate::sender::flight::Released;
-use crate::sender::flight::keeping::TakenBack;
+use crate::sender::flight::kept::TakenBack;
 use crate::sender::refusal::SenderRefusal;
 use sctp_data::chunk::chunk_selective_ack::ChunkSelectiveAck;
 use sctp_serial::turns::Turns;

@@ -1,6 +1,6 @@
 //! The sending half of a link (RFC 4960 6.1, 6.2.1, 6.9).
 
-ghost use Rattle.std.specs.Prelude.{◌≡◌, ◌≢◌, ◌==◌, ◌<◌, ◌≤◌, ◌^◌, ◌⊎◌, ℕ, Bool, true, false, not, None, Some, OnOk, OnErr, IfOk, IfErr, IfNone, IfSome, IsOk, IsOkUnless, ◌+◌, option_map, option_copied, option_to_list, is_some, map, find, length, if◌then◌else◌};
+ghost use Rattle.std.specs.Prelude.{◌≡◌, ◌≢◌, ◌==◌, ◌<◌, ◌≤◌, ◌^◌, ◌⊎◌, ℕ, Bool, true, false, not, None, Some, OnOk, OnErr, IfOk, IfErr, IfNone, IfSome, IsOk, IsOkUnless, ◌+◌, option_map, option_copied, option_to_list, slice_get, is_some, map, find, length, if◌then◌else◌};
 ghost use Rattle.std.specs.List.{count_by, list_any, sum_by};
 ghost use Rattle.sctp_sender.specs.Outgoing.{after_releases};
 ghost use Rattle.sctp_sender.specs.Thresholds.{with_lows};
@@ -10,15 +10,14 @@ ghost use Rattle.sctp_sender.specs.declared.sender.refusal.SenderRefusal.TheVari
 mod abandonment;
 mod drops;
 pub mod flight;
-mod keeping;
+mod kept;
 mod outbound_streams;
 pub mod refusal;
-mod resending;
+mod retransmission;
 mod settings;
-mod walking;
 
 use self::flight::anew::{keep_anew, make_room};
-use self::flight::keeping::Kept;
+use self::flight::kept::Kept;
 use self::flight::late::AbandonedMessage;
 use self::flight::{InFlight, Released};
 use self::outbound_streams::OutboundStreams;
@@ -688,6 +687,20 @@ impl Sender {
         ensures { result ≡ self.now.max_message_size }
     {
         self.max_message_size
+    }
+
+    /// The TSN up to which all was acknowledged (RFC 4960 6.2.1).
+    pub fn acked_tsn(&self) -> u32
+        ensures { result ≡ self.now.flight.acked_tsn }
+    {
+        self.flight.acked_tsn()
+    }
+
+    /// The chunk in flight at a place, lent: the first has the place 0, and the TSN past `acked_tsn`. None where there are no more.
+    pub(crate) fn in_flight_at(&self, place: usize) -> Option<&ChunkPayloadData>
+        ensures { option_copied result ≡ slice_get self.now.flight.queue.inflight.chunks place }
+    {
+        self.flight.at(place)
     }
 
     /// What waits and what is in flight.

@@ -1,6 +1,6 @@
 //! What a sender drops once it has expired (RFC 3758 3.5, 4.1; RFC 7496 3.1).
 
-ghost use Rattle.std.specs.Prelude.{◌≡◌, ◌≢◌, ◌+◌, ◌^◌, ◌<◌, ◌≤◌, ◌⊎◌, ℕ, [], true, false, None, Some, OnOk, OnErr, IfOk, IfErr, IfSome, IsOk, is_some};
+ghost use Rattle.std.specs.Prelude.{◌≡◌, ◌≢◌, ◌+◌, ◌^◌, ◌<◌, ◌≤◌, ◌⊎◌, ℕ, [], true, false, None, Some, OnErr, IfOk, IfErr, IfSome, IsOk, is_some};
 ghost use Rattle.std.specs.List.{count_by, list_any, sum_by};
 ghost use Rattle.sctp_sender.specs.declared.sender.refusal.SenderRefusal.TheVariants.{OutOfMemory, TsnsUsedUp};
 ghost use Rattle.sctp_sender.specs.Drops.{TailGoes, bytes_dropped, is_begun_due, is_due, list_in, needs_tsn, run_in, with_lifetimes};
@@ -14,7 +14,6 @@ impl Sender {
     ghost use Rattle.sctp_outbound.specs.outbound_queue.OutboundQueue.{AreExpiredOf, expiring, expiring_tail, late_tsns, stream_and_kind, total_bytes};
     ghost use Rattle.sctp_sender.specs.Flight.{may_send};
     ghost use Rattle.sctp_sender.specs.Late.{after_late, after_worn, late_order, leaving_each, worn_order};
-    ghost use Rattle.sctp_sender.specs.Resending.{worn_tsns};
     ghost use Rattle.sctp_sender.specs.Sender.{after_expire_run};
     ghost use Rattle.sctp_sender.specs.Thresholds.{fell, tells_message_low, with_message_lows};
 

@@ -1,6 +1,6 @@
 //! What is in flight: each TSN from the one behind the acknowledged ones to the one before the next.
 
-ghost use Rattle.std.specs.Prelude.{◌≡◌, ◌≢◌, not, ◌+◌, ◌-◌, ◌<◌, ◌≤◌, ◌^◌, ℕ, true, false, is_some, Some, None, OnOk, OnErr, IfOk, IfErr, IfNone, IfSome, IsOk, option_map, find, Bool, List};
+ghost use Rattle.std.specs.Prelude.{◌≡◌, ◌≢◌, not, ◌+◌, ◌-◌, ◌<◌, ◌≤◌, ◌^◌, ℕ, true, false, is_some, Some, None, OnOk, OnErr, IfOk, IfErr, IfNone, IfSome, IsOk, option_copied, option_map, slice_get, find, Bool, List};
 ghost use Rattle.sctp_data.specs.declared.chunk.chunk_payload_data.ChunkPayloadData.{ChunkPayloadData};
 ghost use Rattle.sctp_data.specs.declared.chunk.chunk_selective_ack.GapAckBlock.{GapAckBlock};
 ghost use Rattle.sctp_sender.specs.Reporting.{AreKnown};
@@ -8,19 +8,18 @@ ghost use Rattle.sctp_sender.specs.declared.sender.refusal.SenderRefusal.TheVari
 ghost use Rattle.sctp_serial.specs.DataChunks.{bytes_of, has_tsn};
 
 pub mod anew;
-pub mod keeping;
+mod answers;
+pub mod kept;
 pub mod late;
-pub(crate) mod listing;
 mod numbers;
+mod order;
 mod pairs;
 mod places;
-mod reporting;
-mod resending;
-mod skipping;
-mod sorting;
-pub mod taking_back;
-mod telling;
-mod walking;
+mod reports;
+mod retransmission;
+pub mod returns;
+pub(crate) mod runs;
+mod skips;
 
 use crate::sender::refusal::SenderRefusal;
 use sctp_data::chunk::chunk_payload_data::ChunkPayloadData;
@@ -112,6 +111,13 @@ impl InFlight {
         ensures { result.now ≡ self.now.queue }
     {
         &self.queue
+    }
+
+    /// The chunk in flight at a place; the first has the place 0. None where there are no more.
+    pub(crate) fn at(&self, place: usize) -> Option<&ChunkPayloadData>
+        ensures { option_copied result ≡ slice_get self.now.queue.inflight.chunks place }
+    {
+        self.queue.inflight_at(place)
     }
 
     /// The TSN that is given out next.

@@ -13,10 +13,10 @@ ghost use Rattle.sctp_sender.specs.Costs.{anew_turns};
 ghost use Rattle.sctp_sender.specs.Reporting.{AreKnown, AreSorted};
 ghost use Rattle.sctp_sender.specs.Telling.{AreInFlight, is_answered};
 
-use super::keeping::{Kept, share};
-use super::sorting::sorted_blocks;
-use super::taking_back::PlacedData;
-use super::telling::tell_anew;
+use super::answers::tell_anew;
+use super::kept::{Kept, share};
+use super::order::sorted_blocks;
+use super::returns::PlacedData;
 use super::{InFlight, Released};
 use crate::sender::refusal::SenderRefusal;
 use bytes::Bytes;

@@ -7,7 +7,7 @@ ghost use Rattle.sctp_serial.specs.DataChunks.{has_tsn};
 ghost use Rattle.sctp_sender.specs.SideBySide.{IsApartAt, StandSideBySide, messages_of};
 
 use super::InFlight;
-use super::reporting::{begins_another, message_end};
+use super::reports::{begins_another, message_end};
 use sctp_outbound::outbound_queue::OutboundQueue;
 use sctp_serial::serial::distance;
 

@@ -1,11 +1,11 @@
-use Rattle.std.proofs.Common.{◌≡◌, ℕ, List, Option, Some, true, subst, sym, ap, ◌∙◌}
+use Rattle.std.proofs.Common.{◌≡◌, ℕ, Some, true, subst, sym, ap, ◌∙◌}
 use Rattle.std.specs.Prelude.{find, option_map}
 use Rattle.sctp_data.specs.declared.chunk.chunk_payload_data.ChunkPayloadData.{ChunkPayloadData}
 use Rattle.sctp_serial.specs.DataChunks.{has_tsn}
 use Rattle.sctp_sender.specs.Flight.{can_resend}
 use Rattle.sctp_sender.specs.Resending.{is_to_resend}
 use Rattle.sctp_sender.specs.Sender.{Transmission}
-use Rattle.sctp_sender.proofs.Resends.{any-marked, can, next-answer, next-tsn, same-tsn}
+use Rattle.sctp_sender.proofs.Resends.{any-marked, next-answer, next-tsn, same-tsn}
 use Rattle.sctp_sender.proofs.sender.Sender.resend_next.Goals.{In-Some}
 use Rattle.sctp_sender.proofs.sender.Sender.resend_next.Goals as goal
 

@@ -15,9 +15,9 @@ use Rattle.sctp_serial.specs.DataChunks.{bytes_of}
 use Rattle.sctp_stream.specs.declared.stream.StreamState.{StreamState}
 use Rattle.sctp_sender.specs.Costs.{is_left_out, to_sort}
 use Rattle.sctp_sender.specs.Flight.{Flight, can_resend, is_outdated, sack_refusal}
-use Rattle.sctp_sender.specs.declared.sender.flight.keeping.Kept.{Kept}
-use Rattle.sctp_sender.specs.declared.sender.flight.keeping.TakenBack.{TakenBack}
-use Rattle.sctp_sender.specs.declared.sender.flight.taking_back.PlacedData.{PlacedData}
+use Rattle.sctp_sender.specs.declared.sender.flight.kept.Kept.{Kept}
+use Rattle.sctp_sender.specs.declared.sender.flight.kept.TakenBack.{TakenBack}
+use Rattle.sctp_sender.specs.declared.sender.flight.returns.PlacedData.{PlacedData}
 use Rattle.sctp_sender.specs.Reporting.{AreKnown, ascends_from}
 use Rattle.sctp_sender.specs.Keeping.{AreReported, Cover, IsCovered, blocks_left, rises_from, after_returns, back_each, bytes_back, bytes_coming, placed}
 use Rattle.sctp_sender.specs.Keeping.{answered_back, answered_of_placed, restored, with_restored}

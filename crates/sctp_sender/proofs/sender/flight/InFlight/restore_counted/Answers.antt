@@ -4,7 +4,7 @@ use Rattle.sctp_data.specs.declared.chunk.chunk_selective_ack.GapAckBlock.{GapAc
 use Rattle.sctp_outbound.specs.outbound_queue.OutboundQueue.{Outbound}
 use Rattle.sctp_sender.specs.Flight.{Flight, IsContiguous, can_resend}
 use Rattle.sctp_sender.specs.Keeping.{back_each, answered_back, placed, answered_of_placed, with_restored}
-use Rattle.sctp_sender.specs.declared.sender.flight.keeping.TakenBack.{TakenBack}
+use Rattle.sctp_sender.specs.declared.sender.flight.kept.TakenBack.{TakenBack}
 use Rattle.sctp_sender.proofs.Placed.{back-length, nil-of, placed-answer, put-contiguous, put-restored}
 use Rattle.sctp_sender.proofs.Runs.{any_chunk}
 use Rattle.sctp_util.proofs.Cases.{same-is}

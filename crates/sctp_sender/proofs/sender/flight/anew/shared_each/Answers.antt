@@ -7,7 +7,7 @@ use Rattle.std.proofs.lemmas.Option.{slice_get-get_or}
 use Rattle.sctp_util.proofs.Cases.{or-none}
 use Rattle.sctp_data.specs.declared.chunk.chunk_payload_data.ChunkPayloadData.{ChunkPayloadData}
 use Rattle.sctp_serial.specs.DataChunks.{following_tsn}
-use Rattle.sctp_sender.specs.declared.sender.flight.taking_back.PlacedData.{PlacedData}
+use Rattle.sctp_sender.specs.declared.sender.flight.returns.PlacedData.{PlacedData}
 use Rattle.sctp_sender.specs.Keeping.{IsOwn, is_at}
 use Rattle.sctp_sender.specs.Telling.{is_answered, is_of_chunk}
 use Rattle.sctp_sender.proofs.Anew.{all-at}

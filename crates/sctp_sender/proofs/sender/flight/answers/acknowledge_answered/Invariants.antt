@@ -1,0 +1,13 @@
+use Rattle.std.proofs.Common.{◌≡◌, ◌+◌, take}
+use Rattle.sctp_util.specs.Lists.{change_where}
+use Rattle.sctp_outbound.specs.Marks.{as_acknowledged}
+use Rattle.sctp_outbound.specs.outbound_queue.OutboundQueue.{with_inflight}
+use Rattle.sctp_sender.specs.Telling.{is_answered}
+use Rattle.sctp_sender.proofs.sender.flight.answers.acknowledge_answered.Given as goal
+
+abbrev pub invariant-loop-one : goal.invariant-loop-one
+invariant-loop-one l = record {
+  queue : l.queue
+      ≡ with_inflight l.initial.queue (change_where (is_answered (take l.one-index l.released)) as_acknowledged l.initial.queue.inflight.chunks);
+  turns : l.turns ≡ l.initial.turns + l.one-index;
+}

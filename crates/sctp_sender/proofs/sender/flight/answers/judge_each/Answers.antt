@@ -1,0 +1,74 @@
+use Rattle.std.proofs.Common.{rules, ◌≡◌, ℕ, ◌+◌, ◌-◌, ◌<◌, List, length, get_or, ap, sym, ◌∙◌, arith}
+use Rattle.std.proofs.lemmas.Grind.{common_steps}
+use Rattle.std.proofs.lemmas.List.{get_or-map, length-map}
+use Rattle.std.proofs.lemmas.Option.{none-some}
+use Rattle.sctp_sender.specs.declared.sender.flight.Released.{Released}
+use Rattle.sctp_sender.specs.SideBySide.{messages_of}
+use Rattle.sctp_sender.proofs.Counts.{numbers-stay, numbers_of, one-judged}
+use Rattle.sctp_sender.proofs.Runs.{any_chunk}
+use Rattle.sctp_sender.proofs.Answered.{any_answered, next-in-flight, stands-at}
+use Rattle.sctp_sender.proofs.sender.flight.answers.judge_each.Goals as goal
+
+pub overflow_sub-place : goal.overflow_sub-place
+overflow_sub-place c =
+    let cs = c.args.queue.now.inflight.chunks in
+    let rs = c.loop-one.one-items in
+    let i = c.loop-one.one-index in
+    let lt : i < length rs = omega arith in
+    let r = get_or rs i any_answered in
+    let at = stands-at c.args.acked_tsn cs c.ranges.acked_tsn.fits c.requires.run c.requires.few r
+    (next-in-flight cs rs i any_answered lt c.loop-one.invariant.there) any_chunk in
+    let far = c.distance.ensures.value ∙ at.far in
+    omega (arith, far)
+
+pub whole_or_last-whole-requires-clause-place : goal.whole_or_last-whole-requires-clause-place
+whole_or_last-whole-requires-clause-place c =
+    let cs = c.args.queue.now.inflight.chunks in
+    let rs = c.loop-one.one-items in
+    let i = c.loop-one.one-index in
+    let lt : i < length rs = omega arith in
+    let r = get_or rs i any_answered in
+    let at = stands-at c.args.acked_tsn cs c.ranges.acked_tsn.fits c.requires.run c.requires.few r
+    (next-in-flight cs rs i any_answered lt c.loop-one.invariant.there) any_chunk in
+    let far = c.distance.ensures.value ∙ at.far in
+    let here = at.lt in
+    omega (arith, far, here)
+
+pub whole_or_last-whole-requires-clause-own : goal.whole_or_last-whole-requires-clause-own
+whole_or_last-whole-requires-clause-own c =
+    let cs = c.args.queue.now.inflight.chunks in
+    let rs = c.loop-one.one-items in
+    let i = c.loop-one.one-index in
+    let lt : i < length rs = omega arith in
+    let r = get_or rs i any_answered in
+    let at = stands-at c.args.acked_tsn cs c.ranges.acked_tsn.fits c.requires.run c.requires.few r
+    (next-in-flight cs rs i any_answered lt c.loop-one.invariant.there) any_chunk in
+    let far = c.distance.ensures.value ∙ at.far in
+    let place : c.distance.result - 1 ≡ at.k = omega (arith, far) in
+    λ d. ap (λ k. (get_or cs k d).message_id) place ∙ at.own d
+
+pub loop-one-preserved : goal.loop-one-preserved
+loop-one-preserved c =
+    let cs = c.args.queue.now.inflight.chunks in
+    let old = c.args.released.now.items in
+    let ms = numbers_of old in
+    let rs = c.loop-one.one-items in
+    let i = c.loop-one.one-index in
+    let inv = c.loop-one.invariant in
+    let answer = c.whole_or_last-whole.ensures in
+    let lt : i < length rs = omega arith in
+    let m : ℕ = (get_or rs i any_answered).message in
+    let stay : numbers_of rs ≡ ms = numbers-stay c.args.partial cs old rs i inv.noted in
+    let is : m ≡ get_or ms i 0 = sym (get_or-map (λ (r : Released). r.message) rs i any_answered 0 lt) ∙ ap (λ (ns : List ℕ). get_or ns i 0) stay in
+    let n = sym (ap (λ (ns : List ℕ). length ns) stay) ∙ length-map rs (λ (r : Released). r.message) in
+    let back : i + 1 - 1 ≡ i = omega arith in
+    record {
+      noted = grind (arith, common_steps);
+      there = grind (arith, common_steps);
+      last = search rules;
+      own = (omega arith, is ∙ ap (λ k. get_or ms k 0) (sym back));
+      first = λ e. absurd (none-some _ (sym e));
+      not_back = omega (arith, answer.not_back, inv.not_back);
+      cost = one-judged ms (messages_of cs) i m c.args.turns.now c.loop-one.turns c.whole_or_last-whole.new.turns c.loop-one.last c.requires.in_turn
+          (omega (arith, n, lt)) is inv.own inv.first inv.cost answer.same answer.cost;
+    }

@@ -1,0 +1,10 @@
+use Rattle.std.proofs.Common.{◌≡◌, ◌+◌, ◌≤◌, length, take}
+use Rattle.std.specs.Prelude.{vec_capacity}
+use Rattle.sctp_sender.proofs.sender.flight.order.copied.Given as goal
+
+abbrev pub invariant-loop-block : goal.invariant-loop-block
+invariant-loop-block l = record {
+  copied : l.copy.items ≡ take l.block-index l.blocks;
+  room : length l.blocks ≤ vec_capacity l.copy;
+  turns : l.turns ≡ l.initial.turns + l.block-index;
+}

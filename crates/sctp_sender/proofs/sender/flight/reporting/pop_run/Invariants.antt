@@ -1,9 +1,0 @@
-use Rattle.std.proofs.Common.{◌≡◌, ◌+◌, drop}
-use Rattle.sctp_outbound.specs.outbound_queue.OutboundQueue.{with_inflight}
-use Rattle.sctp_sender.proofs.sender.flight.reporting.pop_run.Given as goal
-
-abbrev pub invariant-loop-place : goal.invariant-loop-place
-invariant-loop-place l = record {
-  left : l.queue ≡ with_inflight l.initial.queue (drop l.place l.initial.queue.inflight.chunks);
-  turns : l.turns ≡ l.initial.turns + l.place;
-}

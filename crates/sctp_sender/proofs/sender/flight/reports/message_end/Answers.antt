@@ -1,0 +1,13 @@
+use Rattle.std.proofs.Common.{◌≡◌, ◌≢◌, ◌-◌, suc, get_or, sym, subst, arith}
+use Rattle.sctp_sender.specs.SideBySide.{IsApartAt}
+use Rattle.sctp_sender.proofs.CompleteMessages.{cut-at}
+use Rattle.sctp_sender.proofs.sender.flight.reports.message_end.Goals as goal
+
+pub returns-then-begins_another-clause-apart : goal.returns-then-begins_another-clause-apart
+returns-then-begins_another-clause-apart c = λ s.
+    let cs = c.args.queue.now.inflight.chunks in
+    let at = c.loop-place.place - 1 in
+    let next : suc at ≡ c.loop-place.place = omega (arith, c.loop-place.auto.place, c.if-reach-eq0.false) in
+    let differ = c.begins_another.ensures c.if-begins_another.true in
+    subst (λ k. IsApartAt k cs) next (cut-at cs at s (λ d. subst (λ k. (get_or cs at d).message_id ≢ (get_or cs k d).message_id) (sym next) (differ d))
+    (omega (arith, next, c.loop-place-test.true, c.inflight_len-place-end.ensures)))

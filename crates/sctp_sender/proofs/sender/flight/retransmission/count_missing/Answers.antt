@@ -1,0 +1,132 @@
+use Rattle.std.proofs.Common.{◌≡◌, ℕ, suc, ◌+◌, ◌<◌, ◌≤◌, ◌%◌, ◌^◌, Bool, true, false, ◌++◌, length, take, drop, get_or, Some, refl, ap, sym, ◌∙◌, arith}
+use Rattle.std.specs.Prelude.{if◌then◌else◌, ◌&&◌, ◌==◌, not, nat_lt, find}
+use Rattle.sctp_data.specs.declared.chunk.chunk_payload_data.ChunkPayloadData.{ChunkPayloadData}
+use Rattle.sctp_data.specs.declared.chunk.chunk_selective_ack.GapAckBlock.{GapAckBlock}
+use Rattle.sctp_outbound.specs.payload_queue.Blocks.{is_in_block}
+use Rattle.sctp_sender.proofs.Anew.{any-at, in-block, known-acked, none-between}
+use Rattle.sctp_util.specs.Lists.{change_where}
+use Rattle.sctp_serial.specs.DataChunks.{has_tsn}
+use Rattle.sctp_outbound.specs.outbound_queue.OutboundQueue.{Outbound, with_inflight}
+use Rattle.sctp_sender.specs.Resending.{can_miss, is_third, missed, missed_after}
+use Rattle.sctp_sender.proofs.Runs.{any_chunk}
+use Rattle.sctp_sender.proofs.KnownPlaces.{end-past}
+use Rattle.sctp_sender.proofs.MarkedRuns.{found-there, there, unmarked, marked-as, counted-of, part-same}
+use Rattle.sctp_sender.proofs.sender.flight.retransmission.count_missing.Goals as goal
+
+at-most-one : (b : Bool) → (if b then 1 else 0) ≤ 1
+at-most-one true = omega arith
+at-most-one false = omega arith
+
+pub unreachable-requires : goal.unreachable-requires
+unreachable-requires c =
+    let q = c.args.queue.now in
+    let i = c.loop-place.place in
+    let ys = c.loop-place.queue.inflight.chunks in
+    let lt : i < length q.inflight.chunks = omega (arith, c.loop-place-test.true, c.requires.within) in
+    let e = there can_miss missed (λ x. refl) q.inflight.chunks ys c.args.first i c.ranges.first.fits c.requires.run c.requires.few lt
+    (ap (λ (o : Outbound). o.inflight.chunks) c.loop-place.invariant.missed) any_chunk in
+    let none = c.in_default.ensures in
+    cc
+
+pub loop-place-preserved-then-block-place : goal.loop-place-preserved-then-block-place
+loop-place-preserved-then-block-place c =
+    let bs = c.args.known.now in
+    let none : GapAckBlock = record { start = 0; end = 0 } in
+    let inv = c.loop-place.invariant in
+    let past = end-past bs 0 c.loop-place.next none c.requires.known_ascend c.if-next-known.true in
+    record {
+      missed = inv.missed;
+      thirds = inv.thirds;
+      few = inv.few;
+      passed = omega (arith, past, c.if-block-place.true);
+      not_back = omega (arith, c.tick.ensures, inv.not_back);
+      turns = omega (arith, c.tick.ensures, inv.turns);
+      within = inv.within;
+    }
+
+pub loop-place-preserved-then-block-place-2 : goal.loop-place-preserved-then-block-place-2
+loop-place-preserved-then-block-place-2 c =
+    let q = c.args.queue.now in
+    let cs = q.inflight.chunks in
+    let bs = c.args.known.now in
+    let i = c.loop-place.next in
+    let none : GapAckBlock = record { start = 0; end = 0 } in
+    let b = get_or bs i none in
+    let inv = c.loop-place.invariant in
+    let lt : i < length bs = c.if-next-known.true in
+    let end : c.min-place.result ≤ b.end = omega (arith, c.min-place.ensures) in
+    let start : b.start ≤ c.loop-place.place + 1 = omega (arith, c.if-block-place-2.true) in
+    let more : c.loop-place.place < c.min-place.result = omega (arith, c.min-place.ensures, c.if-block-place.false, c.loop-place-test.true) in
+    let le : c.loop-place.place ≤ c.min-place.result = omega (arith, more) in
+    let acked : (k : ℕ) (d : ChunkPayloadData) → c.loop-place.place ≤ k → k < c.min-place.result → k < length cs → (get_or cs k d).acked ≡ true =
+    λ k d low high in'. known-acked bs cs c.requires.known k d (any-at (is_in_block (suc k)) bs i none lt
+    (in-block (suc k) b (omega (arith, start, low)) (omega (arith, high, end)))) in' in
+    let stays : (k : ℕ) (d : ChunkPayloadData) → c.loop-place.place ≤ k → k < c.min-place.result → k < length cs → can_miss (get_or cs k d) ≡ false =
+    λ k d low high in'. ap (λ a. (not a && not (get_or cs k d).abandoned) && nat_lt (get_or cs k d).miss_indicator 3) (acked k d low high in') in
+    record {
+      missed = inv.missed ∙ ap (with_inflight q) (sym (part-same can_miss missed cs c.loop-place.place c.min-place.result le stays));
+      thirds = inv.thirds ∙ ap length (sym (none-between is_third cs c.loop-place.place c.min-place.result le
+          (λ k d low high in'. ap (λ a. a && (get_or cs k d).miss_indicator == 2) (stays k d low high in'))));
+      few = omega (arith, inv.few, le);
+      passed = omega (arith, inv.passed, le);
+      not_back = omega (arith, c.tick.ensures, inv.not_back);
+      turns = omega (arith, c.tick.ensures, inv.turns, more);
+      within = omega (arith, c.min-place.ensures);
+    }
+
+pub loop-place-preserved-then-not-can_miss : goal.loop-place-preserved-then-not-can_miss
+loop-place-preserved-then-not-can_miss c =
+    let q = c.args.queue.now in
+    let cs = q.inflight.chunks in
+    let i = c.loop-place.place in
+    let ys = c.loop-place.queue.inflight.chunks in
+    let x = c.in-Some.chunk.now in
+    let inv = c.loop-place.invariant in
+    let lt : i < length cs = omega (arith, c.loop-place-test.true, c.requires.within) in
+    let so_far : ys ≡ change_where can_miss missed (take i cs) ++ drop i cs = ap (λ (o : Outbound). o.inflight.chunks) inv.missed in
+    let is : find (has_tsn ((c.args.first + i) % 2 ^ 32)) ys ≡ Some x =
+    found-there can_miss missed (λ y. refl) cs ys c.args.first i c.ranges.first.fits c.requires.run c.requires.few lt so_far x (sym c.in-Some.ensures) in
+    let nay : can_miss x ≡ false = sym c.can_miss.ensures ∙ c.if-not-can_miss.true in
+    let third : is_third x ≡ false = ap (λ b. b && x.miss_indicator == 2) nay in
+    let n = counted-of can_miss missed (λ y. refl) cs ys c.args.first i c.ranges.first.fits c.requires.run c.requires.few lt so_far x is is_third false third in
+    record {
+      missed = inv.missed ∙ ap (with_inflight q)
+          (sym so_far ∙ unmarked can_miss missed (λ y. refl) cs ys c.args.first i c.ranges.first.fits c.requires.run c.requires.few lt so_far x is nay);
+      thirds = omega (arith, n, inv.thirds);
+      few = omega (arith, inv.few);
+      passed = omega (arith, inv.passed);
+      not_back = omega (arith, c.tick.ensures, inv.not_back);
+      turns = omega (arith, c.tick.ensures, inv.turns);
+      within = omega (arith, c.loop-place-test.true);
+    }
+
+pub loop-place-preserved : goal.loop-place-preserved
+loop-place-preserved c =
+    let q = c.args.queue.now in
+    let cs = q.inflight.chunks in
+    let i = c.loop-place.place in
+    let ys = c.loop-place.queue.inflight.chunks in
+    let x = c.in-Some.chunk.now in
+    let inv = c.loop-place.invariant in
+    let lt : i < length cs = omega (arith, c.loop-place-test.true, c.requires.within) in
+    let so_far : ys ≡ change_where can_miss missed (take i cs) ++ drop i cs = ap (λ (o : Outbound). o.inflight.chunks) inv.missed in
+    let is : find (has_tsn ((c.args.first + i) % 2 ^ 32)) ys ≡ Some x =
+    found-there can_miss missed (λ y. refl) cs ys c.args.first i c.ranges.first.fits c.requires.run c.requires.few lt so_far x (sym c.in-Some.ensures) in
+    let yea : can_miss x ≡ true = sym c.can_miss.ensures ∙ c.if-not-can_miss.false in
+    let third : is_third x ≡ (x.miss_indicator == 2) = ap (λ b. b && x.miss_indicator == 2) yea in
+    let n = counted-of can_miss missed (λ y. refl) cs ys c.args.first i c.ranges.first.fits c.requires.run c.requires.few lt so_far x is is_third
+    (x.miss_indicator == 2) third in
+    record {
+      missed =
+          c.note_missing-third.ensures.noted ∙ ap (λ (o : Outbound).
+          with_inflight o (change_where (has_tsn ((c.args.first + i) % 2 ^ 32)) (missed_after x.miss_indicator) o.inflight.chunks)) inv.missed
+          ∙ ap (λ zs. with_inflight q (change_where (has_tsn ((c.args.first + i) % 2 ^ 32)) (missed_after x.miss_indicator) zs)) (sym so_far)
+          ∙ ap (with_inflight q) (marked-as can_miss missed
+          (λ y. refl) cs ys c.args.first i c.ranges.first.fits c.requires.run c.requires.few lt so_far x is (missed_after x.miss_indicator) refl yea);
+      thirds = omega (arith, n, inv.thirds, c.note_missing-third.ensures.third);
+      few = omega (arith, inv.few, c.note_missing-third.ensures.third, at-most-one (x.miss_indicator == 2));
+      passed = omega (arith, inv.passed);
+      not_back = omega (arith, c.tick.ensures, inv.not_back);
+      turns = omega (arith, c.tick.ensures, inv.turns);
+      within = omega (arith, c.loop-place-test.true);
+    }

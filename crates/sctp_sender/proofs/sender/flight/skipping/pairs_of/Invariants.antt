@@ -1,7 +1,0 @@
-use Rattle.std.proofs.Common.{take}
-use Rattle.std.specs.List.{filter}
-use Rattle.sctp_sender.specs.Abandonment.{Name, is_named}
-use Rattle.sctp_sender.proofs.sender.flight.skipping.pairs_of.Given as goal
-
-abbrev pub invariant-loop-place : goal.invariant-loop-place
-invariant-loop-place l = Name l.pairs (filter is_named (take l.place l.queue.inflight.chunks))

@@ -1,0 +1,16 @@
+use Rattle.std.proofs.Common.{◌≡◌, ℕ, ◌-◌, ◌<◌, ◌≤◌, true, get_or, take}
+use Rattle.std.specs.List.{filter}
+use Rattle.sctp_data.specs.declared.chunk.chunk_payload_data.ChunkPayloadData.{ChunkPayloadData}
+use Rattle.sctp_outbound.specs.pending_queue.Whole.{ends}
+use Rattle.sctp_sender.specs.Abandonment.{IsMore, is_named}
+use Rattle.sctp_sender.proofs.sender.flight.skips.pairs_to_end.Given as goal
+
+abbrev pub invariant-loop-count : goal.invariant-loop-count
+invariant-loop-count l = record {
+  within : l.left ≤ l.most;
+  beyond : (k : ℕ) (d : ChunkPayloadData) → l.left < k → k ≤ l.most → ends (get_or l.queue.inflight.chunks (k - 1) d) ≡ true
+      → IsMore l.room (filter is_named (take k l.queue.inflight.chunks));
+}
+
+abbrev pub decreases-loop-count : goal.decreases-loop-count
+decreases-loop-count l = l.left

@@ -1,0 +1,10 @@
+use Rattle.std.proofs.Common.{◌≤◌, length, take}
+use Rattle.std.specs.List.{filter}
+use Rattle.sctp_sender.specs.Abandonment.{Name, is_named}
+use Rattle.sctp_sender.proofs.sender.flight.skips.pairs_within.Given as goal
+
+abbrev pub invariant-loop-place : goal.invariant-loop-place
+invariant-loop-place l = record {
+  names : Name l.pairs (filter is_named (take l.place l.queue.inflight.chunks));
+  fits : length l.pairs ≤ l.room;
+}
