@@ -3,7 +3,7 @@ use Rattle.std.specs.Prelude.{length, is_some}
 use Rattle.sctp_data.specs.declared.chunk.chunk_payload_data.ChunkPayloadData.{ChunkPayloadData}
 use Rattle.sctp_data.specs.PayloadData.{payload_type_number}
 use Rattle.sctp_sender.specs.declared.sender.flight.Released.{Released}
-use Rattle.sctp_sender.specs.declared.sender.flight.keeping.TakenBack.{TakenBack}
+use Rattle.sctp_sender.specs.declared.sender.flight.kept.TakenBack.{TakenBack}
 use Rattle.sctp_sender.specs.declared.sender.flight.late.AbandonedMessage.{AbandonedMessage}
 use Rattle.sctp_c.specs.declared.sender.abandoning.SctpAbandoned.{SctpAbandoned}
 use Rattle.sctp_c.specs.declared.sender.acks.SctpAcked.{SctpAcked}

@@ -12,7 +12,7 @@ use crate::sending::highest_acked;
 use sctp_chunks::chunk::chunk_payload_data::ReliabilityType;
 use sctp_chunks::chunk::chunk_selective_ack::{ChunkSelectiveAck, GapAckBlock};
 use sctp_sender::sender::flight::Released;
-use sctp_sender::sender::flight::keeping::TakenBack;
+use sctp_sender::sender::flight::kept::TakenBack;
 use sctp_sender::sender::flight::late::AbandonedMessage;
 use sctp_sender::sender::refusal::SenderRefusal;
 use sctp_sender::sender::{Dropped, ExpiredMessage, ExpiredMessages, Sender};

@@ -11,7 +11,7 @@ use crate::hosts::Step::{
 use crate::hosts::{Step, all_go};
 use sctp_chunks::chunk::chunk_payload_data::ReliabilityType;
 use sctp_sender::sender::flight::Released;
-use sctp_sender::sender::flight::keeping::TakenBack;
+use sctp_sender::sender::flight::kept::TakenBack;
 use sctp_sender::sender::flight::late::AbandonedMessage;
 use sctp_sender::sender::refusal::SenderRefusal;
 use sctp_sender::sender::{ExpiredMessage, ExpiredMessages};

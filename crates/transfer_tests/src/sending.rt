@@ -20,7 +20,7 @@ use sctp_chunks::chunk::chunk_selective_ack::ChunkSelectiveAck;
 use sctp_sender::replay;
 use sctp_sender::sender::Sender;
 use sctp_sender::sender::flight::Released;
-use sctp_sender::sender::flight::keeping::TakenBack;
+use sctp_sender::sender::flight::kept::TakenBack;
 use sctp_sender::sender::refusal::SenderRefusal;
 
 /// Gives a SACK to a sender. One that claims what can't be is dropped, and nothing changes. Fails only where memory ran out.

@@ -20,7 +20,7 @@ use crate::in_place::read_sack;
 use sctp_chunks::chunk::chunk_selective_ack::ChunkSelectiveAck;
 use sctp_sender::sender::Sender;
 use sctp_sender::sender::flight::Released;
-use sctp_sender::sender::flight::keeping::TakenBack;
+use sctp_sender::sender::flight::kept::TakenBack;
 use sctp_util::util::sna32lt;
 use std::alloc::Global;
 

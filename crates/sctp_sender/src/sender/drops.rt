@@ -27,6 +27,7 @@ impl Sender {
         ensures run_of_one { IfOk result (λ r. IfSome (run_in r) (λ g.
             AreExpiredOf g.stream g.unordered now g.messages self.old.flight.queue)) }
         ensures run_any { IfOk result (λ r. IfSome (run_in r) (λ g. 0 < g.messages)) }
+        ensures run_few { IfOk result (λ r. IfSome (run_in r) (λ g. g.messages < 2 ^ 16)) }
         ensures run_all { IfOk result (λ r. IfSome (run_in r) (λ g. g.messages + 1 < 2 ^ 16
             → stream_and_kind (expiring now self.new.flight.queue)
             ≢ Some (g.stream, g.unordered))) }

@@ -48,6 +48,10 @@ impl Sender {
             → self.new ≡ with_flight (resent_at c.tsn now c self.old.flight) self.old) }
         ensures none { find is_to_resend self.old.flight.queue.inflight.chunks ≡ None
             → self.new ≡ self.old }
+        ensures marked { (c : ChunkPayloadData)
+            → find is_to_resend self.old.flight.queue.inflight.chunks ≡ Some c
+            → (find (has_tsn c.tsn) self.old.flight.queue.inflight.chunks ≡ Some c)
+            × (can_resend c.tsn self.old.flight ≡ true) }
         ensures idle { find is_to_resend self.old.flight.queue.inflight.chunks ≡ None
             → IsOk result }
         ensures refused { IfErr result (λ e. e ≡ OutOfMemory) }
