@@ -80,6 +80,15 @@ REASONS = {
 # it has several. A rule that is the caller's says what the caller does, and names the calls of an example that do it
 RULES = [
     ("Packets and chunks", [
+        ("formats of the common header and of each chunk", "3.1, 3.2, 3.3.1 to 3.3.13; 3758 3.2; 6525 3.1; 8260 2.3.1",
+         ["sctp_packets::Packet::unmarshal found only"], ["sctp_packets Packet.ReadsPacket", "sctp_chunks Wire.ReadsChunk"],
+         ["packet_tests::reconfigs", "packet_tests::recorded_datagrams_are_written_back"]),
+        ("formats of parameters", "3.2.1, 3.3.2.1, 3.3.3.1; 3758 3.1; 4895 3; 5061 4.2.7; 6525 4", ["sctp_params::build_param found only"],
+         ["sctp_params ParamKind.ReadsParam"], ["packet_tests::each_kind"]),
+        ("formats of error causes", "3.3.10", ["sctp_chunks::ErrorCause::unmarshal found only", "sctp_dissect::dissect_causes items"],
+         ["sctp_chunks ErrorCause.ReadsCauses"], []),
+        ("packets in captured frames: Ethernet, PPPoE, MPLS, GRE, IP, UDP", "2516 4; 3032 2.1; 2784 2; 2890 2; 8200 4; 6951",
+         ["sctp_capture::datagram_in alone carried refused"], [], []),
         ("the checksum is computed with 0 in its field", "6.8", ["sctp_packets::Packet::unmarshal found", "sctp_packets::Packet::marshal"],
          ["sctp_packets Packet.checksum_input"], ["packet_tests::recorded_datagrams_are_written_back"]),
         ("the checksum is CRC-32C", "6.8, B", ["crc32c::Crc::update"], ["crc32c Castagnoli.crc32c_of"], ["packet_tests::vectors"]),
@@ -179,7 +188,8 @@ RULES = [
         ("a SACK of a TSN that was not sent is refused", "6.2.1", ["sctp_sender::Sender::acked refused"], ["sctp_sender Flight.sack_refusal"],
          ["transfer_tests::sender_cases what a peer may claim beside what is in flight is refused by its name, and nothing changes"]),
         ("a SACK whose cumulative TSN is older changes nothing", "6.2.1 D i", ["sctp_sender::Sender::acked outdated ok"],
-         ["sctp_sender Flight.is_outdated"], ["transfer_tests::sender_cases what a peer may claim beside what is in flight is refused by its name, and nothing changes"]),
+         ["sctp_sender Flight.is_outdated"],
+         ["transfer_tests::sender_cases what a peer may claim beside what is in flight is refused by its name, and nothing changes"]),
         ("a chunk that gap ack blocks reported, and a later SACK does not, is sent again", "6.2.1 D iv",
          ["sctp_sender::Sender::keep_reported ok", "sctp_sender::Sender::take_back answer ok"], ["sctp_sender Sender.taken_back_by"],
          ["transfer_tests::sender_cases what a SACK no longer reports is outstanding again with its bytes, and can be sent again"]),
