@@ -28,6 +28,7 @@ pub mod PassedMessages
 pub mod SpreadFlight
 pub mod ArrivedTsns
 pub mod ReportedTsns
+pub mod Resent
 pub mod ArrivedCalls
 pub mod TakenTsns
 pub mod TakenCalls
