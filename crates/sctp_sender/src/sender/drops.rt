@@ -60,6 +60,7 @@ impl Sender {
         ensures refused { IfErr result (λ e. (e ≡ OutOfMemory)
             ⊎ ((e ≡ TsnsUsedUp) × (may_send self.old.flight ≡ false)
             × (needs_tsn now self.old.flight ≡ true))) }
+        ensures unsent { is_some (expiring now self.old.flight.queue) ≡ true → IsOk result }
         ensures idle { is_begun_due now self.old.flight ≡ false → IsOk result }
         ensures err { OnErr result (self.new ≡ self.old) }
     {
