@@ -6,3 +6,5 @@ pub mod receiver
 pub mod acknowledging
 pub mod skipping
 pub mod upkeep
+pub mod standings
+pub mod refinement

@@ -11,3 +11,6 @@ pub mod Receiving
 pub mod Skips
 pub mod Acking
 pub mod Sends
+pub mod Progress
+pub mod Rooms
+pub mod refinement

@@ -32,8 +32,8 @@ impl<C: Checksum + Drop> Link<C> {
     ghost use Rattle.sctp_model.specs.Receiver.{cumulative};
     ghost use Rattle.sctp_model.specs.Contents.{cumulative_tsn};
     ghost use Rattle.sctp_model.specs.Queues.{pending_of, in_flight_of, filter_of};
-    ghost use Rattle.sctp_refinement.specs.Holds.{reassembly_of};
-    ghost use Rattle.sctp_refinement.specs.Refines.{shown, in_flight_shown, filter_held, sending_of, sendings_of};
+    ghost use Rattle.sctp_link.specs.refinement.Holds.{reassembly_of};
+    ghost use Rattle.sctp_link.specs.refinement.Refines.{shown, in_flight_shown, filter_held, sending_of, sendings_of};
     ghost use Rattle.sctp_link.specs.Linked.{stats_of, ledger_of};
 
     /// There is a history that the link stands for, of a setup that a link may have: so each law of `sctp_model`

@@ -28,7 +28,7 @@ impl<C: Checksum + Drop> Link<C> {
     ghost use Rattle.sctp_model.specs.Steps.{IsRight, refusal_of, is_for_receiver, arrival_fits};
     ghost use Rattle.sctp_model.specs.declared.event.Event.TheVariants as E;
     ghost use Rattle.sctp_link.specs.Replies.{reply_of};
-    ghost use Rattle.sctp_refinement.specs.Arriving.{LiesSomewhere, slot_fits};
+    ghost use Rattle.sctp_link.specs.refinement.Arriving.{LiesSomewhere, slot_fits};
 
     /// Why datagram k is not taken by the receiver, if it is not.
     pub(super) fn refusal_arrive(&self, k: u64) -> Option<LinkRefusal>

@@ -21,7 +21,7 @@ impl<C: Checksum + Drop> Link<C> {
     ghost use Rattle.sctp_model.specs.Changes.{skip_counts, receive_skip};
     ghost use Rattle.sctp_model.specs.Steps.{IsRight, refusal_of, arrival_fits};
     ghost use Rattle.sctp_model.specs.declared.event.Event.TheVariants as E;
-    ghost use Rattle.sctp_refinement.specs.Naming.{names_fit, complete_first, min_with};
+    ghost use Rattle.sctp_link.specs.refinement.Naming.{names_fit, complete_first, min_with};
     ghost use Rattle.sctp_link.specs.Replies.{reply_of};
     ghost use Rattle.sctp_link.specs.declared.skipped.Named.{Named};
     ghost use Rattle.sctp_link.specs.Skips.{named_in, wire_skip};

@@ -2,10 +2,10 @@ use Rattle.sctp_link.proofs.Names.{◌≡◌, ◌<◌, ap, sym, ◌∙◌, subst
 use Rattle.sctp_link.proofs.Names.{next_pending, expired_of, change_where, with_expiry, IsLinked, Sides, IsAligned, sides, expired_unsent, Message, state_from}
 use Rattle.sctp_link.proofs.Names.{record_from, sides_in, message_record, progress_of}
 use Rattle.sctp_outbound.specs.outbound_queue.OutboundQueue.{expiring}
-use Rattle.sctp_progress.specs.Progress.{has_number}
+use Rattle.sctp_link.specs.Progress.{has_number}
 use Rattle.sctp_link.proofs.sides.Changes.{some-of, expired-aligned, expired-sides}
 use Rattle.sctp_link.proofs.abandonment.Expiring.{linked-expired, moves-expired}
-use Rattle.sctp_refinement.proofs.abandonment.QueueExpires.{idle-right, none-waits, none-past_deadline, shown-past_deadline, expires, Expires}
+use Rattle.sctp_link.proofs.refinement.abandonment.QueueExpires.{idle-right, none-waits, none-past_deadline, shown-past_deadline, expires, Expires}
 use Rattle.sctp_link.proofs.link.Link.expire.Given.{Over}
 use Rattle.sctp_link.proofs.link.Link.expire.Goals.{After-record_expiry}
 use Rattle.sctp_link.proofs.link.Link.expire.Goals as goal
