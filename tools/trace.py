@@ -25,7 +25,7 @@ from sources import Sources, crates, files_below, imports, lines_of
 from wrong_bodies import bodies_of, function_of
 
 # crates that only call others
-PROGRAMS = ("uses", "bench", "linkrun", "sctpdump", "refusals", "association", "sctp_delivery")
+PROGRAMS = ("uses", "bench", "linkrun", "sctpdump", "association", "sctp_delivery")
 DEFINED = re.compile(r"(?:(?:abbrev|opaque|unfoldable|pub|record|data) )+([^\s:(]+)")
 DEFINES = r"^\s*(?:(?:abbrev|opaque|unfoldable) )?(?:pub )?(?:abbrev |record |data |let )?"
 

@@ -7,19 +7,17 @@
 //! The first line on standard input says how often memory is taken, and given back, before the scripts begin. So where
 //! each run has the same allocation refused, this number says which one of the scripts it is. Behind that line stand the
 //! scripts, with an empty line between two, and behind each event its reply: `open 1: opened`.
-#![tactic(auto)]
 
 mod compare;
-mod turn;
+pub(crate) mod turn;
 
-use crate::turn::{Fault, Refused, State, Zero, play_line};
+use self::turn::{Fault, Refused, State, Zero, play_line};
 use linkscript::script::read_link;
 use std::alloc::Global;
-use std::io::{self, Read, Write};
-use std::process::ExitCode;
+use std::io::{self, Write};
 
 /// Plays scripts, with an empty line between two.
-fn play_scripts(alloc: Global, scripts: &str, state: &mut State) -> Result<(), Fault> {
+pub(crate) fn play_scripts(alloc: Global, scripts: &str, state: &mut State) -> Result<(), Fault> {
     for script in scripts.split("\n\n") {
         play_script(alloc, script, state)?;
     }
@@ -43,7 +41,11 @@ fn play_script(alloc: Global, script: &str, state: &mut State) -> Result<(), Fau
     Ok(())
 }
 
-fn print<W: Write>(output: &mut W, outcome: Result<(), Fault>, state: &State) -> io::Result<()> {
+pub(crate) fn print<W: Write>(
+    output: &mut W,
+    outcome: Result<(), Fault>,
+    state: &State,
+) -> io::Result<()> {
     match (outcome, state.refused) {
         (Err(what), _) => write!(output, "differs at line {}: {what}\n", state.line),
         (Ok(()), Refused::Nowhere) => write!(output, "same\n"),
@@ -53,28 +55,8 @@ fn print<W: Write>(output: &mut W, outcome: Result<(), Fault>, state: &State) ->
 }
 
 /// Takes memory so often, and gives it back.
-fn take_memory(alloc: Global, number: &str) {
+pub(crate) fn take_memory(alloc: Global, number: &str) {
     for _ in 0..number.parse::<u32>().unwrap_or(0) {
         let _ = Vec::from_elem(alloc, 0u8, 1);
-    }
-}
-
-fn main(rt: HostRuntime) -> ExitCode {
-    let alloc = rt.alloc();
-    let mut input = Vec::new(alloc);
-    if rt.reader().read_to_end(&mut input).is_err() {
-        return ExitCode::FAILURE;
-    }
-    let text = str::from_utf8(&input).unwrap_or("").trim_end();
-    let (number, scripts) = text.split_once("\n\n").unwrap_or((text, ""));
-    take_memory(alloc, number);
-    let mut state = State {
-        line: 1,
-        refused: Refused::Nowhere,
-    };
-    let outcome = play_scripts(alloc, scripts, &mut state);
-    match (print(&mut io::writer(&rt), outcome, &state), outcome) {
-        (Ok(()), Ok(())) => ExitCode::SUCCESS,
-        _ => ExitCode::FAILURE,
     }
 }

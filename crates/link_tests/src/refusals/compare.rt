@@ -1,6 +1,6 @@
 //! Whether two links are alike: their amounts, their datagrams and the queues that they lend.
 
-use crate::turn::Zero;
+use super::turn::Zero;
 use sctp_link::link::Link;
 use sctp_queues::outbound_queue::OutboundQueue;
 use sctp_queues::reassembly_queue::ReassemblyQueue;

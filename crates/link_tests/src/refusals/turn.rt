@@ -1,6 +1,6 @@
 //! One event of a script, given to both links.
 
-use crate::compare::difference;
+use super::compare::difference;
 use linkscript::run::RunFault;
 use linkscript::script::{LineFault, Play, print_reply, read_event};
 use sctp_link::event::{Event, LinkRefusal, Reply};
