@@ -1,5 +1,5 @@
 -- The sum of what the streams of a receiver hold, each up to the greatest usize.
-use Rattle.std.proofs.Common.{◌≡◌, ℕ, zero, suc, ◌+◌, ◌*◌, ◌-◌, ◌<◌, ◌≤◌, ◌^◌, List, [], ◌∷◌, ◌++◌, length, take, refl, ap, sym, ◌∙◌, arith, length-set}
+use Rattle.std.proofs.Common.{◌≡◌, ℕ, ◌+◌, ◌-◌, ◌<◌, ◌≤◌, ◌^◌, List, [], ◌∷◌, ◌++◌, length, refl, ap, sym, ◌∙◌, arith, length-set}
 use Rattle.std.specs.Prelude.{min, slice_index_or, slice_set, All}
 use Rattle.std.specs.List.{sum_by, remove}
 use Rattle.std.proofs.lemmas.List.Sums.{sum_by-cons, sum_by-append, sum_by-le, sum_by-set, sum_by-remove, get_or-le-sum_by}
@@ -17,15 +17,6 @@ held-is (l ∷ ls) =
     ap (λ n. min n (2 ^ 64 - 1)) (sum_by-cons cost_of l ls)
     ∙ capped (2 ^ 64 - 1) (cost_of l) (sum_by cost_of ls) (sum_by cost_within ls) (held-is ls)
     ∙ ap (λ n. min n (2 ^ 64 - 1)) (sym (sum_by-cons cost_within l ls))
-
--- so many of them count for no more than so many times the greatest usize
-taken-bound : (i : ℕ) (ls : List InboundStream) → sum_by cost_within (take i ls) ≤ i * (2 ^ 64 - 1)
-taken-bound zero ls = omega arith
-taken-bound (suc i) [] = omega arith
-taken-bound (suc i) (l ∷ ls) = let a = sum_by-cons cost_within l (take i ls) in let ih = taken-bound i ls in omega (arith, a, ih)
-
-pub next-fits : (ls : List InboundStream) (i n total : ℕ) → i < 2 ^ 64 → n < 2 ^ 64 → total ≡ sum_by cost_within (take i ls) → total + n < 2 ^ 128
-next-fits ls i n total small fits is = let h = taken-bound i ls in omega (arith, h, small, fits, is)
 
 each-within : (ls : List InboundStream) → All (λ l. cost_within l ≤ 2 ^ 64 - 1) ls
 each-within ls = λ k d lt. omega arith

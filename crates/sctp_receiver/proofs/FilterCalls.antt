@@ -32,11 +32,7 @@ pub blocks-of : (bs : List GapAckBlock) → map block_of (map ends_of bs) ≡ bs
 blocks-of [] = refl
 blocks-of (b ∷ bs) = ap (λ rest. b ∷ rest) (blocks-of bs)
 
-pub blocks-are : (c : ℕ) (cs : List ChunkPayloadData) (bs : List GapAckBlock) → map ends_of bs ≡ runs_of (gap_offsets c cs)
-    → bs ≡ map block_of (runs_of (filter is_offset (map (distance c) (tsns cs))))
-blocks-are c cs bs e = sym (blocks-of bs) ∙ ap (map block_of) (e ∙ ap (λ ds. runs_of (filter is_offset ds)) (sym (distances c cs)))
-
--- and the first of them
+-- the first of them
 pub blocks-within : (c most : ℕ) (cs : List ChunkPayloadData) (bs : List GapAckBlock) → map ends_of bs ≡ take most (runs_of (gap_offsets c cs))
     → bs ≡ take most (map block_of (runs_of (filter is_offset (map (distance c) (tsns cs)))))
 blocks-within c most cs bs e =

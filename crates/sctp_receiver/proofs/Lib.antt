@@ -25,6 +25,7 @@ pub mod Settled
 pub mod Listing
 pub mod GapCounts
 pub mod StreamCosts
+pub mod Sacks
 pub mod SkipCosts
 pub mod NotedNames
 pub mod HeldSkips

@@ -1,5 +1,5 @@
 -- The receiving half of a link as callers see it (RFC 4960 6; RFC 3758 3.6).
-use Rattle.std.specs.Prelude.{◌≡◌, ◌⊎◌, ℕ, Bool, true, false, not, ◌&&◌, ◌==◌, nat_le, if◌then◌else◌, ◌-◌, ◌/◌, min, List, [], ◌∷◌, ◌++◌, length, map, take}
+use Rattle.std.specs.Prelude.{◌≡◌, ◌⊎◌, ℕ, Bool, true, false, not, ◌&&◌, ◌==◌, nat_le, if◌then◌else◌, ◌+◌, ◌-◌, ◌/◌, min, List, [], ◌∷◌, ◌++◌, length, map, take}
 use Rattle.std.specs.Prelude.{drop, slice_get, Option, Some, None, is_some}
 use Rattle.std.specs.List.{find, filter}
 use Rattle.std.specs.Option.{option_or}
@@ -240,6 +240,10 @@ sack credit r = sack_of_entries credit max_sack_entries r
 
 abbrev pub without_duplicates : Reception → Reception
 without_duplicates r = record r { duplicates = [] }
+
+-- how many blocks and duplicates there are to report
+abbrev pub entries_wanted : Reception → ℕ
+entries_wanted r = length (gap_ack_blocks (filter_of r)) + length r.duplicates
 
 -- how many blocks and duplicates a SACK chunk of so many bytes has at most: it has 16 without them, and each has 4
 abbrev pub sack_entries : ℕ → ℕ

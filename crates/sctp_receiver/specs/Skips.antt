@@ -4,6 +4,8 @@ use Rattle.std.specs.List.{list_any}
 use Rattle.sctp_util.specs.Serial.{comes_before}
 use Rattle.sctp_data.specs.ForwardTsn.{ForwardTsn}
 use Rattle.sctp_reassembly.specs.reassembly_queue.Skips.{cannot_complete, after_incomplete_skip}
+use Rattle.sctp_receiver.specs.declared.receiver.arrival.Closed.{Closed}
+use Rattle.sctp_receiver.specs.declared.receiver.arrival.Closed.TheVariants.{Refuse, PassOver}
 use Rattle.sctp_receiver.specs.declared.receiver.inbound_streams.InboundStream.{InboundStream}
 use Rattle.sctp_receiver.specs.declared.receiver.refusal.ReceiverRefusal.{ReceiverRefusal}
 use Rattle.sctp_receiver.specs.declared.receiver.refusal.ReceiverRefusal.TheVariants.{NamedStreamUnknown, NamedSsnTooFar}
@@ -48,3 +50,8 @@ past_closed_refusal f r = if names_too_far f r then Some NamedSsnTooFar else for
 -- and where they are not
 abbrev pub skip_refusal : ForwardTsn → Reception → Option ReceiverRefusal
 skip_refusal f r = if names_closed f r then Some NamedStreamUnknown else past_closed_refusal f r
+
+-- and by what becomes of names of streams that are not open
+abbrev pub refusal_to_skip : Closed → ForwardTsn → Reception → Option ReceiverRefusal
+refusal_to_skip Refuse = skip_refusal
+refusal_to_skip PassOver = past_closed_refusal

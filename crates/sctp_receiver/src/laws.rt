@@ -8,8 +8,7 @@ ghost use Rattle.sctp_receiver.specs.SkipCosts.{SkipsCostByWhatIsHeld};
 /// fragments have consecutive TSNs, the first begins and the last ends. They are alike: all unordered, or all ordered with one stream
 /// sequence number; inside an unordered message none begins and none ends. They are chunks of its stream that the receiver took as
 /// new, and none of those serves in two messages, or twice in one. Inside an ordered message a fragment may begin or end, where a
-/// peer sends such flags. The runs have no `restore`: by that a receiver stands as it stood when it was saved, and hands out again
-/// what was read since.
+/// peer sends such flags.
 pub fn messages_are_of_accepted_chunks()
     ensures complete { AfterEachRun AreComplete }
     ensures alike { AfterEachRun AreOfOneMessage }
@@ -27,14 +26,14 @@ pub fn what_is_held_is_bounded()
     ensures duplicates { AfterEachRunWithin NotesFewDuplicates }
 {}
 
-/// What a FORWARD-TSN looks at within streams, by the bound of `Receiver::forward_tsn_skips_counted` (`skips_walk`): each ordered message
+/// What a FORWARD-TSN looks at within streams, by the bound of `costs::forward_tsn` (`skips_walk`): each ordered message
 /// that was not read at most 14 times, each of their fragments and each unassembled one six times, each name twice, and once each of the
 /// streams that have any of these. So it costs what is held, once, however often it names a stream.
 pub fn a_skip_costs_by_what_is_held()
     ensures { SkipsCostByWhatIsHeld }
 {}
 
-/// What the DATA chunks of one datagram look at together, by the bound of `Receiver::data_each_counted` where none is refused
+/// What the DATA chunks of one datagram look at together, by the bound of `costs::data_each` where none is refused
 /// (`IsWithinEach`): beside the pushes in their streams, for each chunk three times the binary digits of the number of TSNs beyond the
 /// cumulative one and of chunks together, and six more; and for each TSN that was beyond one, not one for each chunk.
 pub fn a_datagram_costs_by_its_chunks()

@@ -1,38 +1,35 @@
 //! The receiving half of a link (RFC 4960 6.2; RFC 3758 3.6).
 
-ghost use Rattle.std.specs.Prelude.{◌≡◌, ◌⊎◌, true, false, not, None, Some, OnOk, OnErr, IfOk, IfErr, IsOk, option_map, option_copied, is_some, find, map, min, length, ◌<◌, ◌≤◌, ◌+◌, ◌-◌, ◌^◌, if◌then◌else◌};
+ghost use Rattle.std.specs.Prelude.{◌≡◌, true, false, not, None, Some, OnOk, OnErr, IfOk, IfErr, IsOk, option_map, option_copied, is_some, find, map, min, length, ◌==◌, ◌<◌, ◌≤◌, ◌-◌, ◌^◌, if◌then◌else◌};
 ghost use Rattle.sctp_receiver.specs.declared.receiver.refusal.ReceiverRefusal.TheVariants.{StreamOpen, StreamUnknown, OutOfMemory};
 
 pub mod arrival;
-pub mod data_each;
+mod data_each;
 pub mod inbound_streams;
 pub mod limits;
 mod naming;
 pub mod refusal;
-pub mod resetting;
-pub mod sack_out;
-pub mod saved;
-pub mod skipping;
+mod resetting;
+pub(crate) mod sack_out;
+mod skipping;
 mod ssns;
 pub(crate) mod taking;
 pub mod tsn_filter;
 mod visiting;
 mod visits;
 
-use self::arrival::{Arrival, Forwarded};
+use self::arrival::Arrival;
 use self::inbound_streams::{InboundStream, InboundStreams};
 use self::limits::Limits;
 use self::refusal::ReceiverRefusal;
 use self::taking::{Rules, note_repeat, take};
 use self::tsn_filter::TsnFilter;
-use sctp_data::chunk::chunk_forward_tsn::ChunkForwardTsn;
 use sctp_data::chunk::chunk_payload_data::{ChunkPayloadData, PayloadProtocolIdentifier};
 use sctp_outbound::payload_queue::PayloadQueue;
 use sctp_reassembly::chunks::Chunks;
 use sctp_reassembly::reassembly_queue::ReassemblyQueue;
 use sctp_serial::turns::Turns;
 use sctp_stream::stream::DataChannelStats;
-use sctp_util::util::sna32lte;
 use std::alloc::Global;
 use std::marker::Model;
 
@@ -67,18 +64,15 @@ impl Model for Receiver {
 }
 
 impl Receiver {
-    ghost use Rattle.sctp_data.specs.ForwardTsn.{forward_tsn_of};
     ghost use Rattle.sctp_reassembly.specs.reassembly_queue.ReassemblyQueue.{at_start};
-    ghost use Rattle.sctp_receiver.specs.Costs.{names_turns, IsWithinData};
-    ghost use Rattle.sctp_receiver.specs.SkipCosts.{names_walk, unordered_skips_walk};
+    ghost use Rattle.sctp_receiver.specs.Costs.{IsWithinData};
     ghost use Rattle.sctp_receiver.specs.Ssns.{is_kept_on};
     ghost use Rattle.sctp_receiver.specs.TsnFilter.{has_come, placeholder};
     ghost use Rattle.sctp_serial.specs.DataChunks.{bytes_of};
-    ghost use Rattle.sctp_receiver.specs.Receiver.{at_first, filter_of, stream_of, is_open, open_stream, close_stream, data_refusal, arrival_refusal, refusal_for, IsRefusedFor, takes_memory, arrival_of, is_answered_complete, Takes, discard_refusal, after_discard, discard_takes_memory, message_on, readable_streams, after_read, forward_refusal, forwarded_of, after_forward};
+    ghost use Rattle.sctp_receiver.specs.Receiver.{at_first, filter_of, stream_of, is_open, open_stream, close_stream, arrival_refusal, refusal_for, IsRefusedFor, takes_memory, arrival_of, is_answered_complete, Takes, discard_refusal, after_discard, discard_takes_memory, message_on, readable_streams, after_read};
 
-    /// A receiver with no stream, to which nothing came. The first TSN is expected next, and a message may have
-    /// `max_message_size` bytes. The limits stay as they are handed in; where there are none, nothing is refused for them, and each TSN
-    /// that comes again is noted. It takes no memory.
+    /// A receiver with no stream, to which nothing came. It expects `first_tsn` next, and a message may have `max_message_size` bytes.
+    /// Without limits it refuses nothing for them, and notes each TSN that comes again. It takes no memory.
     pub fn new(alloc: Global, first_tsn: u32, max_message_size: u32, limits: Option<Limits>) -> Self
         ensures { result ≡ at_first first_tsn max_message_size limits }
     {
@@ -91,7 +85,7 @@ impl Receiver {
         }
     }
 
-    /// Opens a stream. Refuses with `StreamOpen`, where it is open, and else only for memory. The receiver is as it was then.
+    /// Opens a stream. Refuses with `StreamOpen`, where it is open, else only for memory, and changes nothing then.
     pub fn open(&mut self, stream: u16) -> Result<(), ReceiverRefusal>
         ensures ok { OnOk result (self.new ≡ open_stream stream self.old) }
         ensures accepted { IsOk result → is_open stream self.old ≡ false }
@@ -105,33 +99,17 @@ impl Receiver {
         self.streams.open(self.alloc, stream, self.max_message_size)
     }
 
-    /// Closes a stream, where it is open: what came on it and was not read is dropped, and its counters go. A chunk of it with a new
-    /// TSN is refused then, until it is opened again; the TSNs stay as they are. Where it is not open nothing changes. It takes no
-    /// memory.
+    /// Closes a stream, where it is open: it drops what came on it and was not read, and its counters. The TSNs stay as they are. It takes
+    /// no memory.
     pub fn close(&mut self, stream: u16)
         ensures { self.new ≡ close_stream stream self.old }
     {
         self.streams.close(stream);
     }
 
-    /// Takes a DATA chunk (RFC 4960 6.2): `New`, where its TSN is new, with whether a message of its stream became complete with it;
-    /// and `Repeat`, where it came before or a FORWARD-TSN skipped it: then it is noted, and the next SACK reports it as a duplicate;
-    /// with limits no more are noted than one SACK can report, so that a peer that repeats a chunk fills no memory. The refusals, in
-    /// the order in which they are looked for, of a TSN that did not come:
-    ///
-    /// - `SsnTooFar`, where it is ordered, its stream is open, and its stream sequence number lies 2^15 or more, modulo 2^16, past the
-    ///   lowest one that is still to be read (RFC 1982 3.2; RFC 4960 6.5, 6.6). That is the number expected next, or the first one of
-    ///   the complete messages before it that were not read, which a FORWARD-TSN went past;
-    /// - `TsnOpposite`, where the TSN is neither before nor after the cumulative one;
-    /// - `TsnTooFar`, where it lies more than the `reach` of the limits past the cumulative one;
-    /// - `WindowFull`, where it is past the highest TSN that came, and `held_bytes` is no less than the `window` of the limits: a chunk
-    ///   that fills a gap is never refused so;
-    /// - `StreamUnknown`, where its stream is not open;
-    /// - `MessageTooLarge`, where its message would be longer with it than a message may be;
-    /// - `OutOfMemory`, where memory ran out: never in the place of another one.
-    ///
-    /// The receiver is as it was then. So no message is lost in silence: an ordered chunk that is taken as new is kept, unless a
-    /// FORWARD-TSN went past its message (`kept`). The chunk that is expected next passes no filter.
+    /// Takes a DATA chunk (RFC 4960 6.2): `New`, where its TSN is new, or `Repeat`; the next SACK reports a repeat as a duplicate. It
+    /// refuses, by the first that holds, with `SsnTooFar`, `TsnOpposite`, `TsnTooFar`, `WindowFull`, `StreamUnknown`, `MessageTooLarge` or
+    /// `OutOfMemory`, and changes nothing then. A chunk that it takes as new stays (`kept`), unless a FORWARD-TSN passed its message.
     pub fn data(&mut self, chunk: &ChunkPayloadData) -> Result<Arrival, ReceiverRefusal>
         ensures answer { IfOk result (λ arrival. arrival
             ≡ arrival_of chunk.now.tsn (is_answered_complete arrival) self.old) }
@@ -145,37 +123,12 @@ impl Receiver {
             → takes_memory chunk.now self.old ≡ true) }
         ensures err { OnErr result (self.new ≡ self.old) }
     {
-        self.data_counted(chunk, &mut Turns::new())
-    }
-
-    /// The same, and its turns are added: three times at most as many as the number of TSNs beyond has binary digits, one for each of
-    /// these that leaves, five more, and those of the push in the queue of its stream (`IsWithinData`). A chunk that is refused, or a
-    /// repeat, takes no more. What takes a fragment back where memory runs out for its TSN takes no turn.
-    pub fn data_counted(
-        &mut self,
-        chunk: &ChunkPayloadData,
-        turns: &mut Turns,
-    ) -> Result<Arrival, ReceiverRefusal>
-        ensures answer { IfOk result (λ arrival. arrival
-            ≡ arrival_of chunk.now.tsn (is_answered_complete arrival) self.old) }
-        ensures ok { IfOk result (λ arrival. Takes chunk.now arrival self.old self.new) }
-        ensures accepted { IsOk result → arrival_refusal chunk.now self.old ≡ None }
-        ensures kept { IsOk result → has_come chunk.now.tsn (filter_of self.old) ≡ false
-            → is_kept_on chunk.now (stream_of chunk.now.stream_identifier self.old) ≡ true }
-        ensures refused { IfErr result
-            (λ e. IsRefusedFor (arrival_refusal chunk.now self.old) e) }
-        ensures wants { IfErr result (λ e. e ≡ OutOfMemory
-            → takes_memory chunk.now self.old ≡ true) }
-        ensures err { OnErr result (self.new ≡ self.old) }
-        ensures not_back { turns.old ≤ turns.new }
-        ensures cost { IsWithinData chunk.now self.old self.new (turns.new - turns.old) }
-    {
-        self.take(chunk, false, turns)
+        self.take(chunk, false, &mut Turns::new())
     }
 
     // Takes a DATA chunk, an ordered one of any stream sequence number or not, and how it could be taken back is dropped. Its turns
     // are added.
-    fn take(
+    pub(crate) fn take(
         &mut self,
         chunk: &ChunkPayloadData,
         any_ssn: bool,
@@ -217,9 +170,8 @@ impl Receiver {
     }
 
     /// Takes the TSN of a DATA chunk that is dropped, as one of a stream that is not open, or of a message that is too long (RFC 4960
-    /// 6.5): it counts as come, and is acknowledged. `New`, with no message complete, where it is new, and `Repeat`, where it
-    /// came before: then it is noted as `data` notes it. The refusals are those of `data`, but of the stream: `TsnOpposite`,
-    /// `TsnTooFar`, `WindowFull`, and `OutOfMemory` in the place of none. The receiver is as it was then.
+    /// 6.5): it counts as come, and is acknowledged. It answers as `data` does, with no message complete. It refuses, by the first that
+    /// holds, with `TsnOpposite`, `TsnTooFar`, `WindowFull` or `OutOfMemory`, and changes nothing then.
     pub fn discard(&mut self, tsn: u32) -> Result<Arrival, ReceiverRefusal>
         ensures answer { IfOk result (λ arrival. arrival ≡ arrival_of tsn false self.old) }
         ensures ok { OnOk result (self.new ≡ after_discard tsn self.old) }
@@ -261,8 +213,8 @@ impl Receiver {
         Ok(self.streams.read_at(place, stream))
     }
 
-    /// The open streams, in the order in which they were opened: what came on each and was not read, and its counters.
-    pub fn open_streams(&self) -> &[InboundStream]
+    // The open streams, in the order in which they were opened.
+    pub(crate) fn open_streams(&self) -> &[InboundStream]
         ensures { result.now ≡ self.now.streams }
     {
         self.streams.as_slice()
@@ -281,7 +233,7 @@ impl Receiver {
     }
 
     /// The numbers of the streams with a message to read, in the order in which they were opened. It looks at each open stream once;
-    /// after one chunk the answer of `data` tells it at no cost. Refuses only for memory.
+    /// of one chunk `data` answers it at no cost. Refuses only for memory.
     pub fn readable_streams(&self) -> Result<Vec<u16>, ReceiverRefusal>
         ensures ok { IfOk result
             (λ numbers. numbers.items ≡ readable_streams self.now.streams) }
@@ -300,65 +252,6 @@ impl Receiver {
         }
     }
 
-    /// Takes a FORWARD-TSN by what it names alone, as a replay of a record may want it: `Skipped`, where its TSN comes after the
-    /// cumulative one, and `Stale`, where it does not; then nothing changes. No name is tested, and what it names on a stream that is not
-    /// open is passed over. An incomplete ordered message that no name covers stays, and those behind it wait, though none of its chunks
-    /// may come any more: `forward_tsn` discards it too. Refuses with `TsnOpposite`, where its TSN is neither before nor after the cumulative one. It takes no memory.
-    pub fn forward_tsn_by_names(
-        &mut self,
-        chunk: &ChunkForwardTsn,
-    ) -> Result<Forwarded, ReceiverRefusal>
-        ensures answer { IfOk result (λ forwarded. forwarded
-            ≡ forwarded_of (forward_tsn_of chunk.now) self.old) }
-        ensures ok { OnOk result (self.new ≡ after_forward (forward_tsn_of chunk.now) self.old) }
-        ensures accepted { IsOk result
-            → forward_refusal (forward_tsn_of chunk.now) self.old ≡ None }
-        ensures refused { IfErr result (λ e. forward_refusal (forward_tsn_of chunk.now) self.old
-            ≡ Some e) }
-        ensures err { OnErr result (self.new ≡ self.old) }
-    {
-        self.forward_tsn_by_names_skips_counted(chunk, &mut Turns::new(), &mut Turns::new())
-    }
-
-    /// The same, and what it looks at within streams is added to `skips`: one turn for each name; for each stream that is named, however
-    /// often, five for each ordered message that it held before the chunk, and two for each of their fragments, at most; and in all
-    /// streams six for each unassembled fragment, and one more for each stream that has these or ordered messages.
-    pub fn forward_tsn_by_names_skips_counted(
-        &mut self,
-        chunk: &ChunkForwardTsn,
-        turns: &mut Turns,
-        skips: &mut Turns,
-    ) -> Result<Forwarded, ReceiverRefusal>
-        ensures answer { IfOk result (λ forwarded. forwarded
-            ≡ forwarded_of (forward_tsn_of chunk.now) self.old) }
-        ensures ok { OnOk result (self.new ≡ after_forward (forward_tsn_of chunk.now) self.old) }
-        ensures accepted { IsOk result
-            → forward_refusal (forward_tsn_of chunk.now) self.old ≡ None }
-        ensures refused { IfErr result (λ e. forward_refusal (forward_tsn_of chunk.now) self.old
-            ≡ Some e) }
-        ensures err { OnErr result (self.new ≡ self.old) }
-        ensures not_back { turns.old ≤ turns.new }
-        ensures cost { turns.new
-            ≤ turns.old + names_turns (forward_tsn_of chunk.now) self.old self.new }
-        ensures skips_not_back { skips.old ≤ skips.new }
-        ensures walk { skips.new ≤ skips.old + names_walk (forward_tsn_of chunk.now) self.old
-            + unordered_skips_walk self.old.streams }
-    {
-        let tsn = chunk.new_cumulative_tsn;
-        if self.filter.is_opposite(tsn) {
-            return Err(ReceiverRefusal::TsnOpposite);
-        }
-        if sna32lte(tsn, self.filter.cumulative_tsn()) {
-            return Ok(Forwarded::Stale);
-        }
-        self.streams
-            .forward_named_counted(&chunk.streams, turns, skips);
-        self.streams
-            .forward_unordered_skips_counted(tsn, turns, skips);
-        self.filter.skip_to_counted(tsn, turns);
-        Ok(Forwarded::Skipped)
-    }
-
     /// The TSN up to which all came, or was skipped.
     pub fn cumulative_tsn(&self) -> u32
         ensures { result ≡ self.now.cumulative_tsn }
@@ -366,17 +259,23 @@ impl Receiver {
         self.filter.cumulative_tsn()
     }
 
-    /// The TSNs that came beyond the cumulative one, each as a chunk that says nothing else, and those that came again since
-    /// the last SACK.
-    pub fn filter(&self) -> &PayloadQueue
+    /// Whether a TSN came beyond the cumulative one, so that one is missing before it.
+    pub fn has_gaps(&self) -> bool
+        ensures { result ≡ not (length self.now.beyond == 0) }
+    {
+        !self.filter.queue().is_empty()
+    }
+
+    // The TSNs that came beyond the cumulative one, each as a chunk that says nothing else, and those that came again since the last SACK.
+    pub(crate) fn filter(&self) -> &PayloadQueue
         ensures beyond { result.now.chunks ≡ map placeholder self.now.beyond }
         ensures duplicates { result.now.duplicates ≡ self.now.duplicates }
     {
         self.filter.queue()
     }
 
-    /// What came on a stream and was not read; None where it is not open.
-    pub fn reassembly(&self, stream: u16) -> Option<&ReassemblyQueue>
+    // What came on a stream and was not read; None where it is not open.
+    pub(crate) fn reassembly(&self, stream: u16) -> Option<&ReassemblyQueue>
         ensures { option_copied result ≡ option_map (λ l. l.queue) (stream_of stream self.now) }
     {
         match self.streams.find(stream) {

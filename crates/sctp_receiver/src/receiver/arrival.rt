@@ -1,4 +1,4 @@
-//! What a receiver answers.
+//! What a receiver answers, and how it takes a FORWARD-TSN.
 
 /// Whether the TSN of a DATA chunk is new.
 #[derive(Clone, Copy, Debug, PartialEq, Eq)]
@@ -19,4 +19,14 @@ pub enum Forwarded {
     Skipped,
     /// It was not past what had come, and changed nothing.
     Stale,
+}
+
+/// What a FORWARD-TSN that names a stream that is not open comes to (RFC 3758 3.6).
+#[derive(Clone, Copy, Debug, PartialEq, Eq)]
+pub enum Closed {
+    /// The name is of an invalid stream: the chunk is refused with `NamedStreamUnknown`. A stream that is opened later would wait for
+    /// what was skipped.
+    Refuse,
+    /// The name is passed over: right for a stream that was closed on purpose.
+    PassOver,
 }

@@ -3,8 +3,8 @@
 ghost use Rattle.std.specs.Prelude.{◌≡◌, ◌⊎◌, ◌≤◌, ◌-◌, [], OnOk, OnErr, IfOk, IfErr};
 ghost use Rattle.std.specs.Vec.{vec_capacity};
 ghost use Rattle.sctp_receiver.specs.declared.receiver.refusal.ReceiverRefusal.TheVariants.{OutOfMemory};
-ghost use Rattle.sctp_receiver.specs.Costs.{IsWithinEach, IsWithinEachBy, IsWithinRefused, IsWithinRefusedBy};
-ghost use Rattle.sctp_receiver.specs.Receiver.{TakesEach, TakesEachBy, StopsAt, StopsAtBy, data_refusal, refusal_for};
+ghost use Rattle.sctp_receiver.specs.Costs.{IsWithinEachBy, IsWithinRefusedBy};
+ghost use Rattle.sctp_receiver.specs.Receiver.{TakesEach, TakesEachBy, StopsAt, StopsAtBy, refusal_for};
 ghost use Rattle.sctp_receiver.specs.Undo.{parts, reception_of};
 
 use crate::receiver::Receiver;
@@ -19,9 +19,9 @@ use sctp_stream::stream_numbers::put;
 use std::alloc::Global;
 
 impl Receiver {
-    /// Takes DATA chunks one after another, each as `data` takes it, and answers what each was. The first one that is refused refuses
-    /// them all, with its refusal; `OutOfMemory` may come in the place of any other, since room for the answers is taken before. The
-    /// receiver is as it was before the first chunk: those before the refused one are taken back, the last one first.
+    /// Takes the DATA chunks of a datagram one after another, each as `data` does, and answers what each was. It takes all or none: the
+    /// first one that is refused refuses them all, with its refusal, and the receiver is as it was before the first chunk.
+    /// `OutOfMemory` may come in the place of any other, since room for the answers is taken before.
     pub fn data_each(
         &mut self,
         chunks: &[ChunkPayloadData],
@@ -31,48 +31,11 @@ impl Receiver {
         ensures refused { IfErr result (λ e. (e ≡ OutOfMemory) ⊎ StopsAt chunks.now self.old e) }
         ensures err { OnErr result (self.new ≡ self.old) }
     {
-        self.data_each_counted(chunks, &mut Turns::new())
-    }
-
-    /// The same, and its turns are added: for each chunk those of `data_counted`, as the receiver is when its turn comes
-    /// (`IsWithinEach`). Where one is refused, none is looked at behind it, and each before it takes as many more as `undo_looks` says, two
-    /// and: to find its TSN as many as the number of TSNs beyond the cumulative one has binary digits; for each TSN that is beyond again
-    /// one more than the number of those has; and one for each other fragment of an unordered message that it completed
-    /// (`IsWithinRefused`).
-    pub fn data_each_counted(
-        &mut self,
-        chunks: &[ChunkPayloadData],
-        turns: &mut Turns,
-    ) -> Result<Vec<Arrival>, ReceiverRefusal>
-        ensures ok { IfOk result (λ arrivals.
-            TakesEach chunks.now arrivals.items self.old self.new) }
-        ensures refused { IfErr result (λ e. (e ≡ OutOfMemory) ⊎ StopsAt chunks.now self.old e) }
-        ensures err { OnErr result (self.new ≡ self.old) }
-        ensures not_back { turns.old ≤ turns.new }
-        ensures cost { OnOk result
-            (IsWithinEach chunks.now self.old self.new (turns.new - turns.old)) }
-        ensures cost_refused { OnErr result
-            (IsWithinRefused chunks.now self.old (turns.new - turns.old)) }
-    {
-        self.take_all(chunks, false, turns)
-    }
-
-    /// Takes DATA chunks as `data_each` does, but for `SsnTooFar`: ordered ones of any stream sequence number, as a replay of a record has them.
-    pub fn data_each_with_any_ssn(
-        &mut self,
-        chunks: &[ChunkPayloadData],
-    ) -> Result<Vec<Arrival>, ReceiverRefusal>
-        ensures ok { IfOk result (λ arrivals.
-            TakesEachBy data_refusal chunks.now arrivals.items self.old self.new) }
-        ensures refused { IfErr result (λ e. (e ≡ OutOfMemory)
-            ⊎ StopsAtBy data_refusal chunks.now self.old e) }
-        ensures err { OnErr result (self.new ≡ self.old) }
-    {
-        self.take_all(chunks, true, &mut Turns::new())
+        self.take_all(chunks, false, &mut Turns::new())
     }
 
     // Takes them all, or none. Its turns are added.
-    fn take_all(
+    pub(crate) fn take_all(
         &mut self,
         chunks: &[ChunkPayloadData],
         any_ssn: bool,

@@ -17,7 +17,7 @@ ghost use Rattle.sctp_receiver.specs.Skips.{incomplete_forwarded};
 ghost use Rattle.sctp_receiver.specs.Undo.{stream_undone, undone_on, CanUndoOn};
 ghost use Rattle.sctp_receiver.specs.Visited.{skip_forwarded, to_visit};
 
-use crate::receiver::limits::{cost_of, cost_of_each};
+use crate::receiver::limits::cost_of;
 use crate::receiver::naming::{make_each, make_room, note_each};
 use crate::receiver::refusal::ReceiverRefusal;
 use crate::receiver::visiting::{Skip, forward_each, renew, settle, visit_all};
@@ -62,17 +62,6 @@ impl InboundStream {
                 bytes_received: 0,
             },
         }
-    }
-
-    /// An equal stream, which shares its bytes. Refuses only for memory.
-    pub(crate) fn try_clone(&self, alloc: Global) -> Result<Self, ReceiverRefusal>
-        ensures ok { IfOk result (λ stream. stream ≡ self.now) }
-        ensures memory { IfErr result (λ e. e ≡ OutOfMemory) }
-    {
-        Ok(InboundStream {
-            queue: self.queue.try_clone(alloc)?,
-            stats: self.stats,
-        })
     }
 
     /// The same, and its turns are added: those of a push in its queue.
@@ -368,25 +357,6 @@ impl InboundStreams {
         answer
     }
 
-    /// An equal copy of each stream, in their order. Refuses only for memory.
-    pub(crate) fn save(&self, alloc: Global) -> Result<Vec<InboundStream>, ReceiverRefusal>
-        ensures ok { IfOk result (λ saved. saved.items ≡ self.now) }
-        ensures memory { IfErr result (λ e. e ≡ OutOfMemory) }
-    {
-        clone_each(alloc, &self.items)
-    }
-
-    /// Puts streams in the place of those that are there. It takes no memory.
-    /// Precondition: they have the same numbers, in the same order.
-    pub(crate) fn put_back(&mut self, saved: Vec<InboundStream>)
-        requires { numbers_of saved.items ≡ numbers_of self.old }
-        ensures { self.new ≡ saved.items }
-    {
-        self.cost = cost_of_each(&saved);
-        visit_all(&mut self.visits, &saved);
-        self.items = saved;
-    }
-
     /// Discards what a FORWARD-TSN names, one name after another (RFC 3758 3.6); what it names on a stream that is not open is passed over.
     /// A turn is taken for each name. What it looks at within streams is added to `skips`: one turn for each name, and for each stream
     /// that is named, however often, five for each ordered message and two for each of their fragments, at most. It takes no memory.
@@ -481,24 +451,6 @@ pub(crate) fn moved(total: u128, before: usize, after: usize) -> u128
     ensures { result ≡ total - before + after }
 {
     total - before as u128 + after as u128
-}
-
-// An equal copy of each stream.
-fn clone_each(
-    alloc: Global,
-    streams: &[InboundStream],
-) -> Result<Vec<InboundStream>, ReceiverRefusal>
-    ensures ok { IfOk result (λ saved. saved.items ≡ streams.now) }
-    ensures memory { IfErr result (λ e. e ≡ OutOfMemory) }
-{
-    let mut saved = Vec::new(alloc);
-    for stream in streams {
-        let copy = stream.try_clone(alloc)?;
-        if saved.push(copy).is_err() {
-            return Err(ReceiverRefusal::OutOfMemory);
-        }
-    }
-    Ok(saved)
 }
 
 // The numbers of those with a message to read.

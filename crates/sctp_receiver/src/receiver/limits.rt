@@ -1,12 +1,11 @@
 //! What a receiver holds at most (RFC 4960 6.2, 3.3.4).
 
 ghost use Rattle.std.specs.Prelude.{◌≡◌, ◌+◌, ◌*◌, ◌-◌, ◌^◌, min};
-ghost use Rattle.std.specs.List.{sum_by};
 ghost use Rattle.sctp_reassembly.specs.reassembly_queue.ReassemblyQueue.{held_chunks};
-ghost use Rattle.sctp_receiver.specs.Limits.{cost_within, held_cost, refusal_by, refusal_within};
+ghost use Rattle.sctp_receiver.specs.Limits.{held_cost, refusal_by, refusal_within};
 
 use crate::receiver::Receiver;
-use crate::receiver::inbound_streams::{InboundStream, InboundStreams};
+use crate::receiver::inbound_streams::InboundStreams;
 use crate::receiver::refusal::ReceiverRefusal;
 use crate::receiver::tsn_filter::TsnFilter;
 use sctp_reassembly::reassembly_queue::ReassemblyQueue;
@@ -96,17 +95,6 @@ fn refusal_within(
         return Some(ReceiverRefusal::WindowFull);
     }
     None
-}
-
-// What streams hold counts for, each up to the greatest usize.
-pub(crate) fn cost_of_each(streams: &[InboundStream]) -> u128
-    ensures { result ≡ sum_by cost_within streams.now }
-{
-    let mut total = 0u128;
-    for stream in streams {
-        total += cost_of(&stream.queue) as u128;
-    }
-    total
 }
 
 // What a queue holds counts for, up to the greatest usize.

@@ -11,17 +11,9 @@ impl Receiver {
     ghost use Rattle.sctp_receiver.specs.Receiver.{IsRefusedFor};
     ghost use Rattle.sctp_receiver.specs.Resets.{reset_stream, reset_refusal, reset_takes_memory};
 
-    /// The peer resets a stream that it sends on: `last_tsn` is the Sender's Last Assigned TSN of its Outgoing SSN Reset Request (RFC 6525
-    /// 4.1, 5.2.2). The stream sequence number 0 is expected next. Complete messages up to `last_tsn` that were not read are read
-    /// before those after it; of other ordered messages what lies up to `last_tsn` is dropped. The counters stay, and all TSNs. The
-    /// refusals, in the order in which they are looked for:
-    ///
-    /// - `StreamUnknown`, where the stream is not open;
-    /// - `ResetInProgress`, where the cumulative TSN is before `last_tsn`: chunks that were sent before may still come;
-    /// - `OutOfMemory`, where memory ran out: never in the place of another one, and only where a complete ordered message is to be
-    ///   kept.
-    ///
-    /// The receiver is as it was then.
+    /// Resets a stream that the peer sends on; `last_tsn` is the Sender's Last Assigned TSN of its request (RFC 6525 4.1, 5.2.2). The stream
+    /// sequence number 0 is expected next. Complete ordered messages up to `last_tsn` stay to be read, and incomplete ones lose what lies
+    /// up to it. It refuses with `StreamUnknown`, else `ResetInProgress`, else `OutOfMemory`, and changes nothing then.
     pub fn reset(&mut self, stream: u16, last_tsn: u32) -> Result<(), ReceiverRefusal>
         ensures ok { OnOk result (self.new ≡ reset_stream stream last_tsn self.old) }
         ensures accepted { IsOk result → reset_refusal stream last_tsn self.old ≡ None }

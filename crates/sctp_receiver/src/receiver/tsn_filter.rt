@@ -73,18 +73,6 @@ impl TsnFilter {
         }
     }
 
-    /// An equal filter; its room is as great. Refuses only for memory.
-    pub(crate) fn try_clone(&self, alloc: Global) -> Result<TsnFilter>
-        ensures ok { IfOk result (λ filter. filter ≡ self.now) }
-        ensures memory { IsOkUnless result ErrOutOfMemory }
-    {
-        let queue = self.queue.try_clone(alloc)?;
-        Ok(TsnFilter {
-            queue,
-            cumulative_tsn: self.cumulative_tsn,
-        })
-    }
-
     /// The TSN up to which all came.
     pub(crate) fn cumulative_tsn(&self) -> u32
         ensures { result ≡ self.now.cumulative_tsn }

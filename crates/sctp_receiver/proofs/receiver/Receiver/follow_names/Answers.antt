@@ -5,7 +5,7 @@ use Rattle.sctp_receiver.proofs.Receptions.{after}
 use Rattle.sctp_receiver.proofs.Settled.{fewer-named}
 use Rattle.sctp_receiver.specs.SkipCosts.{named_walk, unordered_skips_walk}
 use Rattle.sctp_receiver.proofs.SkipCosts.{unordered-after-names}
-use Rattle.sctp_receiver.proofs.receiver.Receiver.forward_tsn_by_names_skips_counted.Goals as goal
+use Rattle.sctp_receiver.proofs.receiver.Receiver.follow_names.Goals as goal
 
 pub skip_to_counted-requires : goal.skip_to_counted-requires
 skip_to_counted-requires c =

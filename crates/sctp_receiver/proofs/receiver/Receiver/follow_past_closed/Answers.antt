@@ -8,7 +8,7 @@ use Rattle.sctp_receiver.proofs.Settled.{fewer-after}
 use Rattle.sctp_receiver.proofs.Resetting.{none-incomplete}
 use Rattle.sctp_receiver.specs.SkipCosts.{incomplete_skips_walk}
 use Rattle.sctp_receiver.proofs.SkipCosts.{incomplete-after}
-use Rattle.sctp_receiver.proofs.receiver.Receiver.forward_tsn_past_closed_skips_counted.Goals as goal
+use Rattle.sctp_receiver.proofs.receiver.Receiver.follow_past_closed.Goals as goal
 
 pub returns-in-Skipped-clause-agrees : goal.returns-in-Skipped-clause-agrees
 returns-in-Skipped-clause-agrees c = λ none.

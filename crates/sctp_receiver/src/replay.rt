@@ -1,0 +1,89 @@
+//! What a replay of a record does with a receiver beside its own calls: it tests nothing that the record does not answer for, and looks
+//! at what the receiver holds.
+
+ghost use Rattle.std.specs.Prelude.{◌≡◌, ◌⊎◌, ◌+◌, ◌≤◌, None, Some, OnOk, OnErr, IfOk, IfErr, IsOk, length, map, option_copied, option_map};
+ghost use Rattle.sctp_data.specs.ForwardTsn.{forward_tsn_of};
+ghost use Rattle.sctp_data.specs.SelectiveAck.{sack_of};
+ghost use Rattle.sctp_receiver.specs.Receiver.{TakesEachBy, StopsAtBy, data_refusal, stream_of, sack, forward_refusal, forwarded_of, after_forward};
+ghost use Rattle.sctp_receiver.specs.TsnFilter.{placeholder};
+ghost use Rattle.sctp_receiver.specs.declared.receiver.refusal.ReceiverRefusal.TheVariants.{OutOfMemory};
+
+use crate::receiver::Receiver;
+use crate::receiver::arrival::{Arrival, Forwarded};
+use crate::receiver::inbound_streams::InboundStream;
+use crate::receiver::refusal::ReceiverRefusal;
+use crate::receiver::sack_out::MAX_SACK_ENTRIES;
+use sctp_data::chunk::chunk_forward_tsn::ChunkForwardTsn;
+use sctp_data::chunk::chunk_payload_data::ChunkPayloadData;
+use sctp_data::chunk::chunk_selective_ack::ChunkSelectiveAck;
+use sctp_outbound::payload_queue::PayloadQueue;
+use sctp_reassembly::reassembly_queue::ReassemblyQueue;
+use sctp_serial::turns::Turns;
+
+/// Takes DATA chunks as `Receiver::data_each` does, but for `SsnTooFar`: ordered ones of any stream sequence number, as a record has them.
+pub fn data_each_with_any_ssn(
+    receiver: &mut Receiver,
+    chunks: &[ChunkPayloadData],
+) -> Result<Vec<Arrival>, ReceiverRefusal>
+    ensures ok { IfOk result (λ arrivals.
+        TakesEachBy data_refusal chunks.now arrivals.items receiver.old receiver.new) }
+    ensures refused { IfErr result (λ e. (e ≡ OutOfMemory)
+        ⊎ StopsAtBy data_refusal chunks.now receiver.old e) }
+    ensures err { OnErr result (receiver.new ≡ receiver.old) }
+{
+    receiver.take_all(chunks, true, &mut Turns::new())
+}
+
+/// Takes a FORWARD-TSN by what it names alone: it tests no name, and passes over names of streams that are not open. An incomplete
+/// ordered message that no name covers stays, and those behind it wait; `Receiver::forward_tsn` discards it too. Refuses with
+/// `TsnOpposite`, and changes nothing then. It takes no memory.
+pub fn forward_tsn_by_names(
+    receiver: &mut Receiver,
+    chunk: &ChunkForwardTsn,
+) -> Result<Forwarded, ReceiverRefusal>
+    ensures answer { IfOk result (λ forwarded. forwarded
+        ≡ forwarded_of (forward_tsn_of chunk.now) receiver.old) }
+    ensures ok { OnOk result
+        (receiver.new ≡ after_forward (forward_tsn_of chunk.now) receiver.old) }
+    ensures accepted { IsOk result
+        → forward_refusal (forward_tsn_of chunk.now) receiver.old ≡ None }
+    ensures refused { IfErr result
+        (λ e. forward_refusal (forward_tsn_of chunk.now) receiver.old ≡ Some e) }
+    ensures err { OnErr result (receiver.new ≡ receiver.old) }
+{
+    receiver.follow_names(chunk, &mut Turns::new(), &mut Turns::new())
+}
+
+/// The SACK that `Receiver::make_sack` makes, in the longest chunk, with another credit: how many bytes of user data there is room for.
+/// The receiver stays as it is. Refuses only for memory.
+pub fn make_sack(receiver: &Receiver, credit: u32) -> Result<ChunkSelectiveAck, ReceiverRefusal>
+    ensures sack { IfOk result (λ s. sack_of s ≡ sack credit receiver.now) }
+    ensures fits { IfOk result (λ s.
+        length s.gap_ack_blocks.items + length s.duplicate_tsn.items ≤ 16379) }
+    ensures memory { IfErr result (λ e. e ≡ OutOfMemory) }
+{
+    receiver.sack_of_entries(credit, MAX_SACK_ENTRIES, &mut Turns::new())
+}
+
+/// The TSNs that came beyond the cumulative one, each as a chunk that says nothing else, and those that came again since the last SACK.
+pub fn filter(receiver: &Receiver) -> &PayloadQueue
+    ensures beyond { result.now.chunks ≡ map placeholder receiver.now.beyond }
+    ensures duplicates { result.now.duplicates ≡ receiver.now.duplicates }
+{
+    receiver.filter()
+}
+
+/// What came on a stream and was not read; None where it is not open.
+pub fn reassembly(receiver: &Receiver, stream: u16) -> Option<&ReassemblyQueue>
+    ensures { option_copied result
+        ≡ option_map (λ l. l.queue) (stream_of stream receiver.now) }
+{
+    receiver.reassembly(stream)
+}
+
+/// The open streams, in the order in which they were opened: what came on each and was not read, and its counters.
+pub fn open_streams(receiver: &Receiver) -> &[InboundStream]
+    ensures { result.now ≡ receiver.now.streams }
+{
+    receiver.open_streams()
+}
