@@ -13,11 +13,12 @@ use Rattle.sctp_outbound.specs.pending_queue.PendingQueue.{last_of}
 use Rattle.sctp_outbound.specs.pending_queue.Whole.{ends}
 use Rattle.sctp_serial.specs.DataChunks.{following_tsn, has_tsn}
 use Rattle.sctp_sender.specs.Flight.{Flight, IsContiguous}
-use Rattle.sctp_sender.specs.Abandonment.{IsFirstPair, IsLastEnd, IsMore, IsNoPair, IsTooLong, Name, advanced_ack_point, ahead, can_skip_to, ends_in, is_end}
+use Rattle.sctp_sender.specs.Abandonment.{Fit, IsFirstPair, IsLastEnd, IsMore, IsNoPair, IsTooLong, Name, advanced_ack_point, ahead, can_skip_to, ends_in, is_end}
 use Rattle.sctp_sender.specs.Abandonment.{is_named, is_pair_of, last_end, pair_of, skip_end}
 use Rattle.sctp_sender.proofs.Names.{added, last-push, renamed}
 use Rattle.sctp_sender.proofs.Places.{place-is}
-use Rattle.sctp_sender.proofs.Runs.{found-at, tsn-at}
+use Rattle.sctp_sender.proofs.Runs.{any_chunk, found-at, tsn-at}
+use Rattle.sctp_sender.proofs.Skips.{can-go}
 
 -- ## The last that ends a message
 
@@ -182,3 +183,54 @@ module _ (f : Flight) (inv : IsContiguous f) where
       let same : (f.acked_tsn + count) % 2 ^ 32 ≡ (following_tsn f.acked_tsn + (count - 1)) % 2 ^ 32 = omega (arith, some) in
       let there = ap (λ t. ends_in (find (has_tsn t) cs)) same ∙ ap ends_in at ∙ e in
       ap (λ b. b && ends_in (find (has_tsn ((f.acked_tsn + count) % 2 ^ 32)) cs)) can ∙ there
+
+-- ## All names up to the advanced point
+
+-- where it is looked no farther than to the last end
+module _ (f : Flight) (inv : IsContiguous f) (far most : ℕ) (far-is : far ≡ ahead f (advanced_ack_point f)) (near : far ≤ length f.queue.inflight.chunks)
+    (last : IsLastEnd most far f.queue.inflight.chunks) where
+  there : IsLastEnd most (ahead f (advanced_ack_point f)) f.queue.inflight.chunks
+  there = subst (λ n. IsLastEnd most n f.queue.inflight.chunks) far-is last
+
+  pub nowhere : most ≡ 0 → None ≡ skip_end (advanced_ack_point f) f
+  nowhere none = by (can_skip_to (advanced_ack_point f) f) refl
+    where
+      by : (b : Bool) → can_skip_to (advanced_ack_point f) f ≡ b → None ≡ skip_end (advanced_ack_point f) f
+      by true can = none-ends f inv (advanced_ack_point f) can (omega (arith, near, far-is)) any_chunk
+          (subst (λ n. IsLastEnd n (ahead f (advanced_ack_point f)) f.queue.inflight.chunks) none there)
+      by false can = sym (ap (λ b. if b then option_map (λ c. c.tsn) (last_end (advanced_ack_point f) f) else None) can)
+
+  pub somewhere : 0 < most → Some ((f.acked_tsn + most) % 2 ^ 32) ≡ skip_end (advanced_ack_point f) f
+  somewhere some =
+      let can = can-go f (advanced_ack_point f) (omega (arith, some, last.within, far-is)) (omega arith) in
+      ends-at f inv (advanced_ack_point f) can (omega (arith, near, far-is)) any_chunk most there some
+
+  module _ (bytes room count : ℕ) (long : 8 ≤ bytes) (room-is : room ≡ (bytes - 8) / 4)
+      (furthest : (k : ℕ) (d : ChunkPayloadData) → count < k → k ≤ most → ends (get_or f.queue.inflight.chunks (k - 1) d) ≡ true
+      → IsMore room (filter is_named (take k f.queue.inflight.chunks))) where
+    pub farther : (k : ℕ) (d : ChunkPayloadData) → count < k → k ≤ far → ends (get_or f.queue.inflight.chunks (k - 1) d) ≡ true
+        → IsMore room (filter is_named (take k f.queue.inflight.chunks))
+    farther k d lt le e = elim (cases_lt most k) [
+      | inl beyond ↦ absurd (false≢true (sym (last.last k d beyond le) ∙ e))
+      | inr here ↦ furthest k d lt here e
+    ]
+
+    -- it goes there, where there is room for all names
+    pub all-there : Fit bytes (advanced_ack_point f) f → count ≤ most → count ≡ most
+    all-there fit within = elim (cases_lt count most) [
+      | inl lt ↦
+          (let some : 0 < most = omega (arith, lt) in
+          let m = furthest most any_chunk lt (omega arith) (last.ended some any_chunk) in
+          let up = is-more f.queue.inflight.chunks room most far last.within near any_chunk m in
+          let n = fit up.0 (subst (λ k. Name up.0 (filter is_named (take k f.queue.inflight.chunks))) far-is up.1) in
+          absurd (omega (arith, n, up.2, room-is, long)))
+      | inr le ↦ omega (arith, le, within)
+    ]
+
+-- one of under 8 bytes has no room for none
+pub none-fit : (f : Flight) (far bytes : ℕ) → far ≡ ahead f (advanced_ack_point f) → far ≤ length f.queue.inflight.chunks → bytes < 8
+    → Fit bytes (advanced_ack_point f) f → ⊥
+none-fit f far bytes far-is near short fit =
+    let m = some-pairs f.queue.inflight.chunks far near any_chunk in
+    let n = fit m.0 (subst (λ k. Name m.0 (filter is_named (take k f.queue.inflight.chunks))) far-is m.1) in
+    omega (arith, n, short)

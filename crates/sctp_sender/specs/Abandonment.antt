@@ -101,6 +101,12 @@ IsTooLong bytes tsn f =
     (pairs : List ChunkForwardTsnStream) × (Name pairs (named_up_to tsn f))
     × (bytes < 8 + 4 * length pairs)
 
+-- a chunk to the TSN is at most so many bytes long
+abbrev pub Fit : ℕ → ℕ → Flight → Type 0
+Fit bytes tsn f =
+    (pairs : List ChunkForwardTsnStream) → Name pairs (named_up_to tsn f)
+    → 8 + 4 * length pairs ≤ bytes
+
 -- none of the first so many pairs is of the stream
 abbrev pub IsNoPair : ℕ → List ChunkForwardTsnStream → ℕ → Type 0
 IsNoPair s pairs count =

@@ -29,7 +29,7 @@ use sctp_data::chunk::chunk_payload_data::{
 use sctp_data::chunk::chunk_selective_ack::ChunkSelectiveAck;
 use sctp_outbound::outbound_queue::OutboundQueue;
 use sctp_serial::turns::Turns;
-use sctp_stream::stream::{DataChannelStats, StreamState};
+use sctp_stream::stream::StreamState;
 use std::alloc::Global;
 use std::marker::Model;
 
@@ -96,7 +96,7 @@ impl Model for Sender {
 
 impl Sender {
     ghost use Rattle.sctp_data.specs.SelectiveAck.{sack_of};
-    ghost use Rattle.sctp_outbound.specs.outbound_queue.OutboundQueue.{all_started, as_sent, sent_next, AreExpiredOf, expiring, expiring_tail, stream_and_kind, message_of, total_bytes, after_sends};
+    ghost use Rattle.sctp_outbound.specs.outbound_queue.OutboundQueue.{all_started, as_sent, sent_next, AreExpiredOf, expiring, expiring_tail, stream_and_kind, message_of, total_bytes};
     ghost use Rattle.sctp_stream.specs.declared.stream.StreamState.{StreamState};
     ghost use Rattle.sctp_outbound.specs.pending_queue.PendingQueue.{next_pending};
     ghost use Rattle.sctp_serial.specs.DataChunks.{has_tsn};
@@ -183,7 +183,7 @@ impl Sender {
     }
 
     /// Starts the lifetimes of the messages written since the last time; `now` is in nanoseconds. It takes no memory.
-    pub fn start(&mut self, now: u64)
+    pub(crate) fn start(&mut self, now: u64)
         ensures { self.new ≡ with_flight
             (with_queue self.old.flight (all_started now self.old.flight.queue)) self.old }
     {
@@ -364,7 +364,7 @@ impl Sender {
 
     /// As `send_next`, but answers the TSN alone: `outbound().get` lends the chunk. So within the room of `reserve` it takes
     /// no memory; `send_next` takes what a copy of the chunk wants.
-    pub fn send_next_tsn(&mut self, now: u64) -> Result<Option<u32>, SenderRefusal>
+    pub(crate) fn send_next_tsn(&mut self, now: u64) -> Result<Option<u32>, SenderRefusal>
         ensures answer { IfOk result (λ sent. sent
             ≡ option_map (λ _. self.old.flight.next_tsn)
             (next_pending self.old.flight.queue.pending)) }
@@ -396,7 +396,7 @@ impl Sender {
     /// As `send_next_tsn`, however far the numbers of ordered messages go: for a caller that sees to it that its receiver can still tell
     /// them apart. Refuses, only where something waits, with `TsnsUsedUp`, where 2^31 - 1 chunks are in flight, and for memory, but not
     /// within the room of `reserve`. The sender is as it was then.
-    pub fn send_next_tsn_unbounded(&mut self, now: u64) -> Result<Option<u32>, SenderRefusal>
+    pub(crate) fn send_next_tsn_unbounded(&mut self, now: u64) -> Result<Option<u32>, SenderRefusal>
         ensures answer { IfOk result (λ sent. sent
             ≡ option_map (λ _. self.old.flight.next_tsn)
             (next_pending self.old.flight.queue.pending)) }
@@ -431,15 +431,6 @@ impl Sender {
         }
         let sent = self.flight.send_next(now)?;
         Ok(sent)
-    }
-
-    /// The fragment that is next after so many sends, as the queue's `peek_pending_at` lends it: a datagram of several chunks
-    /// is filled by what these are long.
-    pub fn peek_pending_at(&self, sends: usize) -> Option<&ChunkPayloadData>
-        ensures { option_copied result
-            ≡ next_pending (after_sends sends self.now.flight.queue.pending) }
-    {
-        self.flight.queue().peek_pending_at(sends)
     }
 
     /// Abandons the message of a chunk in flight (RFC 3758 3.5), and answers it with the bytes that left: none where it was
@@ -489,7 +480,7 @@ impl Sender {
 
     /// Removes the message in front, where it is past its deadline and wholly unsent, and answers it (RFC 3758 4.1). `now` is in
     /// nanoseconds. It takes no memory.
-    pub fn expire(&mut self, now: u64) -> Option<ExpiredMessage>
+    pub(crate) fn expire(&mut self, now: u64) -> Option<ExpiredMessage>
         ensures some { IfSome result (λ r. IfSome (expiring now self.old.flight.queue)
             (λ c. (r.stream ≡ c.stream_identifier)
             × (self.new ≡ after_expire c r.bytes now self.old))) }
@@ -511,7 +502,7 @@ impl Sender {
     /// As `expire` so often as it removes messages of one stream, all ordered or all unordered, but at most 65,535 times, and answers
     /// them together (RFC 3758 4.1). It looks at these messages, and where they are ordered once at all that waits in order. `now` is
     /// in nanoseconds. It takes no memory.
-    pub fn expire_run(&mut self, now: u64) -> Option<ExpiredMessages>
+    pub(crate) fn expire_run(&mut self, now: u64) -> Option<ExpiredMessages>
         ensures some { IfSome result (λ r. self.new
             ≡ after_expire_run r.stream r.unordered r.messages r.bytes now self.old) }
         ensures of_one { IfSome result (λ r.
@@ -545,7 +536,7 @@ impl Sender {
     /// Abandons the rest of the partially sent message in front, where it is past its deadline, and answers the message with the
     /// bytes that left. `now` is in nanoseconds. Refuses, only where there is such a message, with `TsnsUsedUp`, where 2^31 - 1
     /// chunks are in flight, and for memory, though not within the room of `reserve`. The sender is as it was then.
-    pub fn expire_tail(&mut self, now: u64) -> Result<Option<AbandonedMessage>, SenderRefusal>
+    pub(crate) fn expire_tail(&mut self, now: u64) -> Result<Option<AbandonedMessage>, SenderRefusal>
         ensures some { IfOk result (λ r. IfSome r (λ a. self.new ≡ after_abandon
             (message_of (expiring_tail now self.old.flight.queue)) a.stream a.bytes self.old)) }
         ensures answer { IfOk result (λ r. option_map {U = ℕ × ℕ} (λ a. (a.stream, a.number)) r
@@ -582,7 +573,7 @@ impl Sender {
 
     /// Counts one more sending of the chunk in flight with a TSN, up to the greatest u32; none is counted where the TSN is not in
     /// flight. It takes no memory.
-    pub fn count_resend(&mut self, tsn: u32)
+    pub(crate) fn count_resend(&mut self, tsn: u32)
         ensures counted { (c : ChunkPayloadData)
             → find (has_tsn tsn) self.old.flight.queue.inflight.chunks ≡ Some c
             → self.new ≡ with_flight (resent tsn c self.old.flight) self.old }
@@ -618,7 +609,7 @@ impl Sender {
     /// The same, and its turns are added: where the sender does not keep what is reported, at most `sack_turns`, as
     /// `InFlight::acked_counted` says, and where it does, at most `keeping_turns` more; none where the SACK is out of date, and at most
     /// one for each block where it is refused for what it claims. The amounts of the streams take none.
-    pub fn acked_counted(
+    pub(crate) fn acked_counted(
         &mut self,
         sack: &ChunkSelectiveAck,
         turns: &mut Turns,
@@ -670,7 +661,7 @@ impl Sender {
     }
 
     /// How many bytes a fragment has at most: 1 to 65,519.
-    pub fn fragment_size(&self) -> u32
+    pub(crate) fn fragment_size(&self) -> u32
         ensures value { result ≡ self.now.fragment_size }
         ensures some { 0 < result }
         ensures short { result ≤ 65519 }
@@ -679,7 +670,7 @@ impl Sender {
     }
 
     /// How many bytes a message has at most.
-    pub fn max_message_size(&self) -> u32
+    pub(crate) fn max_message_size(&self) -> u32
         ensures { result ≡ self.now.max_message_size }
     {
         self.max_message_size
@@ -698,26 +689,6 @@ impl Sender {
         ensures { option_copied result ≡ stream_of stream self.now }
     {
         self.streams.find(stream)
-    }
-
-    /// How many bytes of a stream wait or are in flight; None where it is not open.
-    pub fn buffered_amount(&self, stream: u16) -> Option<usize>
-        ensures { result ≡ option_map (λ l. l.buffered_amount) (stream_of stream self.now) }
-    {
-        match self.streams.find(stream) {
-            Some(state) => Some(state.buffered_amount()),
-            None => None,
-        }
-    }
-
-    /// The counters of what was written to a stream; None where it is not open.
-    pub fn stats(&self, stream: u16) -> Option<DataChannelStats>
-        ensures { result ≡ option_map (λ l. l.stats) (stream_of stream self.now) }
-    {
-        match self.streams.find(stream) {
-            Some(state) => Some(state.stats()),
-            None => None,
-        }
     }
 }
 

@@ -27,7 +27,7 @@ impl Sender {
     /// first late chunk of each, but for the message of which some waits, which comes first. Refuses, only where there is such a
     /// one, with `TsnsUsedUp`, where 2^31 - 1 chunks are in flight; and for memory, but not where no message is late. The sender
     /// is as it was then.
-    pub fn expire_late(&mut self, now: u64) -> Result<Vec<AbandonedMessage>, SenderRefusal>
+    pub(crate) fn expire_late(&mut self, now: u64) -> Result<Vec<AbandonedMessage>, SenderRefusal>
         ensures ok { OnOk result (self.new ≡ after_late now self.old) }
         ensures answer { IfOk result (λ abandoned. abandoned.items
             ≡ with_message_lows (leaving_each (late_order now self.old.flight) self.old.flight)
@@ -56,7 +56,7 @@ impl Sender {
     /// reliability `Rexmit`, marked for retransmission, and was sent more often than its limit, without the first time; never a
     /// DCEP message (RFC 8832 6). Call it once chunks are marked: `next_to_retransmit` lends no such chunk then. The answer and the
     /// refusals are those of `expire_late`. The sender is as it was then.
-    pub fn expire_rexmit(&mut self) -> Result<Vec<AbandonedMessage>, SenderRefusal>
+    pub(crate) fn expire_rexmit(&mut self) -> Result<Vec<AbandonedMessage>, SenderRefusal>
         ensures ok { OnOk result (self.new ≡ after_worn self.old) }
         ensures none_left { OnOk result (worn_tsns self.new.flight ≡ []) }
         ensures answer { IfOk result (λ abandoned. abandoned.items
@@ -87,33 +87,19 @@ impl Sender {
     /// stops at a chunk that a gap ack block reported and whose message is not abandoned: the peer may take back such a report
     /// (RFC 4960 6.2.1), and at a skip drops the fragments up to there of an unordered message whose other ones are still
     /// missing (RFC 3758 3.6).
-    pub fn advanced_ack_point(&self) -> u32
+    pub(crate) fn advanced_ack_point(&self) -> u32
         ensures { result ≡ advanced_ack_point self.now.flight }
     {
         self.flight.advanced_ack_point()
-    }
-
-    /// The FORWARD-TSN that is to be sent (RFC 3758 3.5 C3, C4), as `forward_tsn_to` the `advanced_ack_point`; None where no message
-    /// ends past what is acknowledged and up to there. Refuses only for memory, and takes none where it answers None.
-    pub fn forward_tsn(&self) -> Result<Option<ChunkForwardTsn>, SenderRefusal>
-        ensures tsn { IfOk result (λ r. option_map (λ c. c.new_cumulative_tsn) r
-            ≡ skip_end (advanced_ack_point self.now.flight) self.now.flight) }
-        ensures names { IfOk result (λ r. IfSome r
-            (λ c. Name c.streams.items (named_up_to c.new_cumulative_tsn self.now.flight))) }
-        ensures idle { skip_end (advanced_ack_point self.now.flight) self.now.flight ≡ None
-            → IsOk result }
-        ensures memory { IfErr result (λ e. e ≡ OutOfMemory) }
-    {
-        self.forward_tsn_to(self.advanced_ack_point())
     }
 
     /// The FORWARD-TSN up to a TSN (RFC 3758 3.5 C4), or to the last TSN before it at which a message ends: were a message cut, the peer
     /// could be sent the rest of it, and take that for what it still misses. Of each stream that has an ordered chunk up to there which
     /// is abandoned it names the stream sequence number of the last one, once; unordered messages have no number, and are not named, as
     /// they are by the Rust crate. None where no message ends up to there, and where the TSN is not past what is acknowledged, or lies
-    /// beyond `advanced_ack_point`. A chunk has room for 16,381 names, a packet for fewer: `forward_tsn_within` goes as far as they fit.
+    /// beyond `advanced_ack_point`. A chunk has room for 16,381 names, a packet for fewer: `forward_tsn` goes as far as they fit.
     /// Refuses only for memory, and takes none where it answers None.
-    pub fn forward_tsn_to(&self, tsn: u32) -> Result<Option<ChunkForwardTsn>, SenderRefusal>
+    pub(crate) fn forward_tsn_to(&self, tsn: u32) -> Result<Option<ChunkForwardTsn>, SenderRefusal>
         ensures tsn { IfOk result (λ r. option_map (λ c. c.new_cumulative_tsn) r
             ≡ skip_end tsn self.now.flight) }
         ensures names { IfOk result (λ r. IfSome r
@@ -126,12 +112,12 @@ impl Sender {
 }
 
 impl Sender {
-    ghost use Rattle.sctp_sender.specs.Abandonment.{IsTooLong, Name, advanced_ack_point, ahead, can_skip_to, is_end, named_up_to};
+    ghost use Rattle.sctp_sender.specs.Abandonment.{Fit, IsTooLong, Name, advanced_ack_point, ahead, can_skip_to, is_end, named_up_to, skip_end};
 
-    /// As `forward_tsn`, as far as the names fit into a chunk of so many bytes, as of what is left of a packet (RFC 4960 6.10): 8 for
-    /// its header and its TSN, and 4 a name. It goes to a TSN at which a message ends, and a chunk to each later such TSN would be
-    /// longer. None where there is no such TSN. Refuses only for memory, and takes none where there is nothing to tell.
-    pub fn forward_tsn_within(&self, bytes: usize) -> Result<Option<ChunkForwardTsn>, SenderRefusal>
+    /// The FORWARD-TSN that is to be sent (RFC 3758 3.5 C3, C4), of at most `room` bytes, as are left of a packet: 8, and 4 a name. It
+    /// goes to the last TSN up to the Advanced.Peer.Ack.Point at which a message ends and up to which the names fit. Unordered messages
+    /// are not named. Refuses only for memory, and takes none where no message ends up to there.
+    pub fn forward_tsn(&self, room: usize) -> Result<Option<ChunkForwardTsn>, SenderRefusal>
         ensures past { IfOk result (λ r. IfSome r
             (λ c. can_skip_to c.new_cumulative_tsn self.now.flight ≡ true)) }
         ensures ended { IfOk result (λ r. IfSome r
@@ -139,18 +125,25 @@ impl Sender {
         ensures names { IfOk result (λ r. IfSome r
             (λ c. Name c.streams.items (named_up_to c.new_cumulative_tsn self.now.flight))) }
         ensures fits { IfOk result (λ r. IfSome r
-            (λ c. 8 + 4 * length c.streams.items ≤ bytes)) }
+            (λ c. 8 + 4 * length c.streams.items ≤ room)) }
         ensures furthest { IfOk result (λ r. IfSome r
             (λ c. (t : ℕ) → is_end t self.now.flight ≡ true
             → (ahead self.now.flight t ≤ ahead self.now.flight c.new_cumulative_tsn)
-            ⊎ IsTooLong bytes t self.now.flight)) }
+            ⊎ IsTooLong room t self.now.flight)) }
         ensures none { IfOk result (λ r. r ≡ None
-            → (t : ℕ) → is_end t self.now.flight ≡ true → IsTooLong bytes t self.now.flight) }
+            → (t : ℕ) → is_end t self.now.flight ≡ true → IsTooLong room t self.now.flight) }
+        // where there is room for all names up to the advanced point, it goes to the last end
+        ensures whole { IfOk result (λ r.
+            Fit room (advanced_ack_point self.now.flight) self.now.flight
+            → option_map (λ c. c.new_cumulative_tsn) r
+            ≡ skip_end (advanced_ack_point self.now.flight) self.now.flight) }
         ensures idle { ahead self.now.flight (advanced_ack_point self.now.flight) ≡ 0
+            → IsOk result }
+        ensures no_end { skip_end (advanced_ack_point self.now.flight) self.now.flight ≡ None
             → IsOk result }
         ensures memory { IfErr result (λ e. e ≡ OutOfMemory) }
     {
-        self.flight.forward_tsn_within(self.alloc, bytes)
+        self.flight.forward_tsn_within(self.alloc, room)
     }
 }
 

@@ -96,7 +96,7 @@ impl InFlight {
     ghost use Rattle.sctp_sender.specs.Flight.{with_queue, with_room, at_first, may_send, next_after_send, resent, message_to_abandon, has_tail_at, after_abandonment};
 
     /// Nothing waits, and the first TSN is the next. It takes no memory.
-    pub fn new(alloc: Global, first_tsn: u32) -> Self
+    pub(crate) fn new(alloc: Global, first_tsn: u32) -> Self
         ensures { result ≡ at_first first_tsn }
     {
         InFlight {
@@ -115,14 +115,14 @@ impl InFlight {
     }
 
     /// The TSN that is given out next.
-    pub fn next_tsn(&self) -> u32
+    pub(crate) fn next_tsn(&self) -> u32
         ensures { result ≡ self.now.next_tsn }
     {
         self.next_tsn
     }
 
     /// The TSN up to which all was acknowledged.
-    pub fn acked_tsn(&self) -> u32
+    pub(crate) fn acked_tsn(&self) -> u32
         ensures { result ≡ self.now.acked_tsn }
     {
         self.acked_tsn
@@ -138,7 +138,7 @@ impl InFlight {
     /// Puts the fragments of a message behind those that wait, as the queue's `push` does.
     /// Precondition: as there; the queue's `can_push` tells.
     /// Refuses only for memory, and never within the room of `reserve`. All is as it was then.
-    pub fn push(&mut self, chunks: Vec<ChunkPayloadData>) -> Result<(), SenderRefusal>
+    pub(crate) fn push(&mut self, chunks: Vec<ChunkPayloadData>) -> Result<(), SenderRefusal>
         requires message { IsMessageOrNone chunks.items }
         requires number { self.old.queue.next_message_id + 1 < 2 ^ 64 }
         requires bytes { total_bytes self.old.queue + bytes_of chunks.items < 2 ^ 64 }

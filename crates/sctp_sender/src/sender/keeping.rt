@@ -34,7 +34,7 @@ impl Sender {
             × (0 < length self.old.flight.queue.inflight.chunks)) }
         ensures err { OnErr result (self.new ≡ self.old) }
     {
-        if self.chunks_in_flight() > 0 {
+        if self.flight.queue().inflight_len() > 0 {
             return Err(SenderRefusal::ChunksInFlight);
         }
         self.kept = Some(Kept {
@@ -44,13 +44,10 @@ impl Sender {
         Ok(())
     }
 
-    /// Takes back what a SACK no longer reports (RFC 4960 6.2.1 D iv): each chunk in flight that is acknowledged and kept, is of no
-    /// abandoned message, and is not reported by it, is outstanding again with its bytes. Answers these chunks in order of TSNs; the
-    /// amount of each stream rises by their bytes. Call it before `acked` with the same SACK. Where the sender does not keep what is
-    /// reported, or the SACK is out of date, nothing comes back, and it takes no memory. The refusals, in the order in which they are
-    /// looked for: those of `acked`; `OutOfMemory`; `QueueFull`, where the bytes that wait, are in flight and come back would be
-    /// more than the greatest usize. The sender is as it was then.
-    /// What it looks at `take_back_counted` says.
+    /// Takes back what a SACK no longer reports (RFC 4960 6.2.1 D iv): each chunk in flight that is acknowledged and kept, of no
+    /// abandoned message, is outstanding again with its bytes, by which its stream has more. Answers them in order of TSNs. Call it
+    /// before `acked` with the same SACK. Refuses, in this order, as `acked`, for memory, with `QueueFull`, where all bytes exceed the
+    /// greatest usize.
     pub fn take_back(&mut self, sack: &ChunkSelectiveAck) -> Result<Vec<TakenBack>, SenderRefusal>
         ensures answer { IfOk result (λ r. r.items ≡ taken_back_by (sack_of sack.now) self.old) }
         ensures ok { OnOk result (self.new ≡ after_take_back (sack_of sack.now) self.old) }
@@ -73,7 +70,7 @@ impl Sender {
     /// distance up to the greatest that they report; two for each chunk in flight that is acknowledged, and one for each such that the
     /// SACK does not report; five for each that comes back; and one. What else is in flight costs nothing, however much it is. None
     /// where nothing is kept or the SACK is out of date, and at most one for each block where it is refused for what it claims.
-    pub fn take_back_counted(
+    pub(crate) fn take_back_counted(
         &mut self,
         sack: &ChunkSelectiveAck,
         turns: &mut Turns,

@@ -44,7 +44,7 @@ impl Sender {
     }
 
     /// The first chunk in flight that is marked for retransmission and outstanding; `resend` sends it again, and takes the mark.
-    pub fn next_to_retransmit(&self) -> Option<&ChunkPayloadData>
+    pub(crate) fn next_to_retransmit(&self) -> Option<&ChunkPayloadData>
         ensures { option_copied result ≡ find is_to_resend self.now.flight.queue.inflight.chunks }
     {
         self.flight.next_to_retransmit()
@@ -66,7 +66,7 @@ impl Sender {
 
     /// The same, and its turns are added: at most two for each chunk in flight whose TSN is before this one. The look-up by which a chunk
     /// is counted takes none.
-    pub fn add_miss_indications_counted(&mut self, before: u32, turns: &mut Turns) -> usize
+    pub(crate) fn add_miss_indications_counted(&mut self, before: u32, turns: &mut Turns) -> usize
         ensures missed { self.new ≡ with_flight
             (after_misses (count_before before self.old.flight) self.old.flight) self.old }
         ensures thirds { result

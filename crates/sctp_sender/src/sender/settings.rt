@@ -69,7 +69,7 @@ impl Sender {
     }
 
     /// The open streams, in the order in which they were opened.
-    pub fn open_streams(&self) -> &[StreamState]
+    pub(crate) fn open_streams(&self) -> &[StreamState]
         ensures { result.now ≡ self.now.streams }
     {
         self.streams.all()

@@ -124,7 +124,7 @@ pub(crate) fn set_left(flight: &mut InFlight, kept: &mut Option<Kept>, left: Opt
 
 /// What is told of the chunks with which something comes back, at most a turn for each. Refuses only for memory.
 /// Precondition: each has its place in flight.
-pub fn answered_back_counted(
+pub(crate) fn answered_back_counted(
     alloc: Global,
     queue: &OutboundQueue,
     backs: &[PlacedData],

@@ -64,11 +64,11 @@ impl InFlight {
 }
 
 impl InFlight {
-    ghost use Rattle.sctp_sender.specs.Abandonment.{IsTooLong, advanced_ack_point, ahead, can_skip_to, is_end, named_up_to};
+    ghost use Rattle.sctp_sender.specs.Abandonment.{Fit, IsTooLong, advanced_ack_point, ahead, can_skip_to, is_end, named_up_to, skip_end};
 
     /// As `forward_tsn_to` the `advanced_ack_point`, as far as the names fit into a chunk of so many bytes: 8 for its header and its TSN,
     /// and 4 a name. It goes to a TSN at which a message ends, and a chunk to each later one would be longer. None where there is no
-    /// such TSN. Refuses only for memory, and not where there is nothing to tell.
+    /// such TSN. Refuses only for memory, and not where no message ends up to there.
     pub(crate) fn forward_tsn_within(
         &self,
         alloc: Global,
@@ -87,15 +87,20 @@ impl InFlight {
             ⊎ IsTooLong bytes t self.now)) }
         ensures none { IfOk result (λ r. r ≡ None → (t : ℕ) → is_end t self.now ≡ true
             → IsTooLong bytes t self.now) }
+        ensures whole { IfOk result (λ r. Fit bytes (advanced_ack_point self.now) self.now
+            → option_map (λ c. c.new_cumulative_tsn) r
+            ≡ skip_end (advanced_ack_point self.now) self.now) }
         ensures idle { ahead self.now (advanced_ack_point self.now) ≡ 0 → IsOk result }
+        ensures no_end { skip_end (advanced_ack_point self.now) self.now ≡ None → IsOk result }
         ensures memory { IfErr result (λ e. e ≡ OutOfMemory) }
     {
-        let most = distance(self.acked_tsn, self.advanced_ack_point());
+        let far = distance(self.acked_tsn, self.advanced_ack_point());
         if bytes < 8 {
             return Ok(None);
         }
         let room = (bytes - 8) / 4;
-        let (count, streams) = pairs_to_end(alloc, &self.queue, most as usize, room)?;
+        let most = up_to_end(&self.queue, far as usize);
+        let (count, streams) = pairs_to_end(alloc, &self.queue, most, room)?;
         if count == 0 {
             return Ok(None);
         }
