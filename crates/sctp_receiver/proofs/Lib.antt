@@ -25,7 +25,6 @@ pub mod Settled
 pub mod Listing
 pub mod GapCounts
 pub mod StreamCosts
-pub mod Sacks
 pub mod SkipCosts
 pub mod NotedNames
 pub mod HeldSkips

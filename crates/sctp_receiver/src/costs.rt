@@ -126,6 +126,9 @@ pub fn sack(
     ensures cost_of_blocks { IsWithinBlocks
         (length (sack_within (window receiver.old) room receiver.old).gap_ack_blocks)
         (length receiver.old.beyond) (turns.new - turns.old) }
+    ensures cost_of_all { 65532 ≤ room
+        → IsWithinBlocks (length (sack (window receiver.old) receiver.old).gap_ack_blocks)
+        (length receiver.old.beyond) (turns.new - turns.old) }
 {
     receiver.report(room, turns)
 }
@@ -150,6 +153,9 @@ pub fn make_sack(
         (length receiver.now.beyond) (turns.new - turns.old)) }
     ensures cost_of_blocks { IsWithinBlocks
         (length (sack_within (window receiver.now) room receiver.now).gap_ack_blocks)
+        (length receiver.now.beyond) (turns.new - turns.old) }
+    ensures cost_of_all { 65532 ≤ room
+        → IsWithinBlocks (length (sack (window receiver.now) receiver.now).gap_ack_blocks)
         (length receiver.now.beyond) (turns.new - turns.old) }
 {
     receiver.sack_within(room, turns)

@@ -62,6 +62,9 @@ impl Receiver {
         ensures cost_of_blocks { IsWithinBlocks
             (length (sack_within (window self.old) room self.old).gap_ack_blocks)
             (length self.old.beyond) (turns.new - turns.old) }
+        ensures cost_of_all { 65532 ≤ room
+            → IsWithinBlocks (length (sack (window self.old) self.old).gap_ack_blocks)
+            (length self.old.beyond) (turns.new - turns.old) }
     {
         let sack = self.sack_within(room, turns)?;
         self.filter.forget_duplicates(sack.duplicate_tsn.len());
@@ -103,6 +106,9 @@ impl Receiver {
             (length self.now.beyond) (turns.new - turns.old)) }
         ensures cost_of_blocks { IsWithinBlocks
             (length (sack_within (window self.now) room self.now).gap_ack_blocks)
+            (length self.now.beyond) (turns.new - turns.old) }
+        ensures cost_of_all { 65532 ≤ room
+            → IsWithinBlocks (length (sack (window self.now) self.now).gap_ack_blocks)
             (length self.now.beyond) (turns.new - turns.old) }
     {
         let entries = (room.saturating_sub(16) / 4).min(MAX_SACK_ENTRIES);
