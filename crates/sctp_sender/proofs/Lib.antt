@@ -25,6 +25,7 @@ pub mod Opened
 pub mod Known
 pub mod Ends
 pub mod Worn
+pub mod Resends
 pub mod Settled
 pub mod Accounts
 pub mod FarNumbers
@@ -45,4 +46,5 @@ pub mod LeftReported
 pub mod Expiries
 pub mod KeepCosts
 pub mod Lows
+pub mod Drops
 mod Examples

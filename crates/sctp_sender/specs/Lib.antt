@@ -14,3 +14,4 @@ pub mod Settings
 pub mod Totals
 pub mod SenderRuns
 pub mod Thresholds
+pub mod Drops

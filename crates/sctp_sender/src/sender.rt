@@ -8,6 +8,7 @@ ghost use Rattle.sctp_sender.specs.Sender.{is_full_of};
 ghost use Rattle.sctp_sender.specs.declared.sender.refusal.SenderRefusal.TheVariants.{StreamOpen, StreamUnknown, TsnsUsedUp, NotInFlight, OutOfMemory};
 
 mod abandonment;
+mod drops;
 pub mod flight;
 mod keeping;
 mod outbound_streams;
@@ -57,6 +58,15 @@ pub struct ExpiredMessages {
     pub bytes: usize,
     /// Whether with them the buffered amount of their stream fell from above the low threshold to at most it.
     pub is_low: bool,
+}
+
+/// Messages that were dropped.
+#[derive(Drop)]
+pub enum Dropped {
+    /// They were unsent, and nothing of them is told to the peer (RFC 3758 4.1).
+    Expired(ExpiredMessages),
+    /// Some of each was sent: `Sender::forward_tsn` gives what the peer is to be sent (RFC 3758 3.5).
+    Abandoned(Vec<AbandonedMessage>),
 }
 
 /// The sending half of a link: what was written and is not yet acknowledged. It takes every SACK that a peer may send.
@@ -109,7 +119,7 @@ impl Sender {
     ghost use Rattle.sctp_sender.specs.Outgoing.{fragments_with_mode};
     ghost use Rattle.sctp_sender.specs.Totals.{bytes_in};
     ghost use Rattle.sctp_sender.specs.Sender.{with_nothing, stream_of, is_open, open_stream, close_stream, with_mode_on, with_flight, write_refusal, written_to, after_acked, after_abandon, after_expire, after_expire_run};
-    ghost use Rattle.sctp_sender.specs.Thresholds.{fell, tells_low};
+    ghost use Rattle.sctp_sender.specs.Thresholds.{falls_on, fell, tells_low};
 
     /// A sender with no stream, whose first chunk gets the first TSN. It takes no memory.
     /// Precondition: `fragment_size` is 1 to 65,519.
@@ -242,10 +252,9 @@ impl Sender {
     }
 
     /// Sends the fragment that is next: gives it the next TSN, puts it in flight, and answers the DATA chunk as it is noted there,
-    /// sent once at `now`; None where nothing waits. Lifetimes start; `now` is in nanoseconds. The refusals, in the order in which they
-    /// are looked for, and only where something waits: `TsnsUsedUp`, where 2^31 - 1 chunks are in flight; `SsnsUsedUp`, where it begins
-    /// an ordered message whose number is 2^14 or more past that of the first ordered chunk of its stream in flight (RFC 4960 6.5, 6.6;
-    /// RFC 1982): it goes on waiting, and all ordered ones behind it; and memory. The sender is as it was then, and no lifetime starts.
+    /// sent once at `now`, in nanoseconds; None where nothing waits. Lifetimes start. Refuses, only where something waits, in this
+    /// order: with `TsnsUsedUp`; with `SsnsUsedUp`: it waits on, and all ordered ones behind it; for memory. The sender is as it was
+    /// then, no lifetime starts.
     pub fn send_next(&mut self, now: u64) -> Result<Option<ChunkPayloadData>, SenderRefusal>
         ensures answer { IfOk result (λ sent. sent
             ≡ option_map (as_sent self.old.flight.next_tsn now)
@@ -349,8 +358,9 @@ impl Sender {
         Ok(Some(waiting.try_clone()?))
     }
 
-    /// From here on so many calls of `send_next_tsn`, and terminal chunks of `abandon` and `expire_tail`, together take no memory;
-    /// `expire_late` takes some for what it answers. Refuses only for memory, and the sender is as it was then.
+    /// From here on so many sends and terminal chunks together take no memory in flight: `replay::send_next_tsn` and `abandon` take
+    /// none then, `send_next` what a copy of the chunk wants, `drop_expired` what its answer wants. Refuses only for memory, and the
+    /// sender is as it was then.
     pub fn reserve(&mut self, sends: usize) -> Result<(), SenderRefusal>
         ensures ok { OnOk result (self.new
             ≡ with_flight (with_queue self.old.flight
@@ -433,10 +443,9 @@ impl Sender {
         Ok(sent)
     }
 
-    /// Abandons the message of a chunk in flight (RFC 3758 3.5), and answers it with the bytes that left: none where it was
-    /// abandoned before. Refuses with `NotInFlight`, where the TSN is not in flight; and, only where some of the message still
-    /// waits, so that a terminal chunk has to go in flight, with `TsnsUsedUp`, where 2^31 - 1 chunks are in flight, and for memory,
-    /// though not within the room of `reserve`. The sender is as it was then.
+    /// Abandons the message of a chunk in flight (RFC 3758 3.5), and answers it with the bytes that left: none where it was abandoned
+    /// before. Refuses with `NotInFlight`; and, only where some of the message waits, so that a terminal chunk goes in flight, with
+    /// `TsnsUsedUp`, and for memory, though not within the room of `reserve`. The sender is as it was then.
     pub fn abandon(&mut self, tsn: u32) -> Result<AbandonedMessage, SenderRefusal>
         ensures ok { IfOk result (λ r. self.new
             ≡ after_abandon (message_to_abandon tsn self.old.flight) r.stream r.bytes
@@ -536,7 +545,10 @@ impl Sender {
     /// Abandons the rest of the partially sent message in front, where it is past its deadline, and answers the message with the
     /// bytes that left. `now` is in nanoseconds. Refuses, only where there is such a message, with `TsnsUsedUp`, where 2^31 - 1
     /// chunks are in flight, and for memory, though not within the room of `reserve`. The sender is as it was then.
-    pub(crate) fn expire_tail(&mut self, now: u64) -> Result<Option<AbandonedMessage>, SenderRefusal>
+    pub(crate) fn expire_tail(
+        &mut self,
+        now: u64,
+    ) -> Result<Option<AbandonedMessage>, SenderRefusal>
         ensures some { IfOk result (λ r. IfSome r (λ a. self.new ≡ after_abandon
             (message_of (expiring_tail now self.old.flight.queue)) a.stream a.bytes self.old)) }
         ensures answer { IfOk result (λ r. option_map {U = ℕ × ℕ} (λ a. (a.stream, a.number)) r
@@ -545,6 +557,8 @@ impl Sender {
         ensures none { IfOk result (λ r. r ≡ None → self.new ≡ self.old) }
         ensures released { IfOk result (λ r. total_bytes self.new.flight.queue
             + sum_by (λ g. g.bytes) (option_to_list r) ≡ total_bytes self.old.flight.queue) }
+        ensures falls { IfOk result (λ r. IfSome r
+            (λ a. a.is_low ≡ falls_on a.stream a.bytes self.old.streams)) }
         ensures low { IfOk result (λ r. IfSome r
             (λ a. a.is_low ≡ fell a.stream self.old self.new)) }
         ensures accepted { IsOk result → (expiring_tail now self.old.flight.queue ≡ None)
@@ -583,10 +597,10 @@ impl Sender {
         self.flight.count_resend(tsn);
     }
 
-    /// Takes a SACK, whatever a peer claims (RFC 4960 6.2.1): what is acknowledged is what it reports and is in flight.
-    /// Answers the chunks that it reports anew, each with its stream and its bytes, which are all that leave; each stream has so
-    /// much less, and of each whose amount so fell to its low threshold one chunk says that. One whose cumulative TSN is before the
-    /// last one is out of date, and changes nothing. The refusals are those of `InFlight::acked`.
+    /// Takes a SACK, whatever a peer claims (RFC 4960 6.2.1). Answers the chunks that it reports anew, each with its stream and its
+    /// bytes, which are all that leave; each stream has so much less, and where its amount so fell to its low threshold one chunk
+    /// says that. One whose cumulative TSN is before the last one changes nothing. Refuses with `InflightQueueTsnPop` or
+    /// `TsnRequestNotExist`, or for memory.
     pub fn acked(&mut self, sack: &ChunkSelectiveAck) -> Result<Vec<Released>, SenderRefusal>
         ensures answer { IfOk result (λ r. r.items
             ≡ with_lows (released_by (sack_of sack.now) self.old.flight) self.old.streams) }

@@ -44,6 +44,8 @@ impl Sender {
         ensures refused { IfErr result (λ e. (e ≡ OutOfMemory)
             ⊎ ((e ≡ TsnsUsedUp) × (may_send self.old.flight ≡ false)
             × (is_some (with_tail (late_tsns now self.old.flight.queue) self.old.flight) ≡ true))) }
+        ensures none { IfOk result (λ abandoned. abandoned.items ≡ []
+            → late_tsns now self.old.flight.queue ≡ []) }
         ensures idle { late_tsns now self.old.flight.queue ≡ [] → IsOk result }
         ensures err { OnErr result (self.new ≡ self.old) }
     {
@@ -74,6 +76,8 @@ impl Sender {
         ensures refused { IfErr result (λ e. (e ≡ OutOfMemory)
             ⊎ ((e ≡ TsnsUsedUp) × (may_send self.old.flight ≡ false)
             × (is_some (with_tail (worn_tsns self.old.flight) self.old.flight) ≡ true))) }
+        ensures none { IfOk result (λ abandoned. abandoned.items ≡ []
+            → worn_tsns self.old.flight ≡ []) }
         ensures idle { worn_tsns self.old.flight ≡ [] → IsOk result }
         ensures err { OnErr result (self.new ≡ self.old) }
     {

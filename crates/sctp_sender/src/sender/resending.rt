@@ -1,6 +1,6 @@
 //! What a sender sends again, and when (RFC 4960 6.3.3, 7.2.4).
 
-ghost use Rattle.std.specs.Prelude.{◌≡◌, ◌+◌, ◌*◌, ◌-◌, ◌^◌, ◌≤◌, true, None, Some, OnOk, OnErr, IfOk, IfErr, IsOk, find, length, option_copied, if◌then◌else◌};
+ghost use Rattle.std.specs.Prelude.{◌≡◌, ◌+◌, ◌*◌, ◌-◌, ◌^◌, ◌≤◌, true, None, Some, OnOk, OnErr, IfOk, IfErr, IfSome, IsOk, find, length, option_copied, option_map, if◌then◌else◌};
 ghost use Rattle.sctp_data.specs.declared.chunk.chunk_payload_data.ChunkPayloadData.{ChunkPayloadData};
 ghost use Rattle.sctp_sender.specs.declared.sender.refusal.SenderRefusal.TheVariants.{NotInFlight, OutOfMemory};
 ghost use Rattle.sctp_serial.specs.DataChunks.{has_tsn};
@@ -35,6 +35,31 @@ impl Sender {
         self.flight.resend(tsn, now)
     }
 
+    /// Sends again the first chunk in flight that is marked for retransmission and outstanding, as `resend` does; None where none is,
+    /// and nothing changes then. Refuses only for memory, and the sender is as it was then.
+    pub fn resend_next(&mut self, now: u64) -> Result<Option<ChunkPayloadData>, SenderRefusal>
+        ensures answer { IfOk result (λ again. again
+            ≡ option_map (λ c. sent_again (count_again c) now c)
+            (find is_to_resend self.old.flight.queue.inflight.chunks)) }
+        ensures noted { IfOk result (λ again. IfSome again
+            (λ c. find (has_tsn c.tsn) self.new.flight.queue.inflight.chunks ≡ Some c)) }
+        ensures ok { OnOk result ((c : ChunkPayloadData)
+            → find is_to_resend self.old.flight.queue.inflight.chunks ≡ Some c
+            → self.new ≡ with_flight (resent_at c.tsn now c self.old.flight) self.old) }
+        ensures none { find is_to_resend self.old.flight.queue.inflight.chunks ≡ None
+            → self.new ≡ self.old }
+        ensures idle { find is_to_resend self.old.flight.queue.inflight.chunks ≡ None
+            → IsOk result }
+        ensures refused { IfErr result (λ e. e ≡ OutOfMemory) }
+        ensures err { OnErr result (self.new ≡ self.old) }
+    {
+        let Some(tsn) = self.flight.tsn_to_resend() else {
+            return Ok(None);
+        };
+        let again = self.resend(tsn, now)?;
+        Ok(Some(again))
+    }
+
     /// Marks each outstanding chunk in flight for retransmission, as where the timer T3-rtx runs out (RFC 4960 6.3.3 E3). It takes no
     /// memory.
     pub fn retransmit_all(&mut self)
@@ -50,11 +75,10 @@ impl Sender {
         self.flight.next_to_retransmit()
     }
 
-    /// Counts each outstanding chunk in flight whose TSN is before this one as missing once more, and marks for retransmission
-    /// what is missing for the third time (RFC 4960 7.2.4). A chunk is counted up to 3, and so is marked by this once only.
-    /// Answers how many are marked now: more than none begins fast recovery. For a SACK whose gap ack blocks report chunks anew
-    /// hand in the highest TSN that it reports anew, in fast recovery the highest that it reports. Nothing changes where that is
-    /// not past what is acknowledged. It takes no memory, and looks only at what is in flight before the TSN.
+    /// Counts each outstanding chunk in flight whose TSN is before this one as missing once more, up to 3, and marks for
+    /// retransmission what is missing for the third time (RFC 4960 7.2.4). Answers how many are marked now: more than none begins
+    /// fast recovery. Hand in the highest TSN that the SACK reports anew, in fast recovery the highest that it reports. It takes no
+    /// memory.
     pub fn add_miss_indications(&mut self, before: u32) -> usize
         ensures missed { self.new ≡ with_flight
             (after_misses (count_before before self.old.flight) self.old.flight) self.old }

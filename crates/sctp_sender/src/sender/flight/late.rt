@@ -53,6 +53,8 @@ impl InFlight {
         ensures refused { IfErr result (λ e. (e ≡ OutOfMemory)
             ⊎ ((e ≡ TsnsUsedUp) × (may_send self.old ≡ false)
             × (is_some (with_tail (late_tsns now self.old.queue) self.old) ≡ true))) }
+        ensures none { IfOk result (λ abandoned. abandoned.items ≡ []
+            → late_tsns now self.old.queue ≡ []) }
         ensures idle { late_tsns now self.old.queue ≡ [] → IsOk result }
         ensures err { OnErr result (self.new ≡ self.old) }
         ensures known { (bs : List GapAckBlock) → AreKnown bs self.old.queue.inflight.chunks
@@ -82,11 +84,14 @@ impl InFlight {
         ensures refused { IfErr result (λ e. (e ≡ OutOfMemory)
             ⊎ ((e ≡ TsnsUsedUp) × (may_send self.old ≡ false)
             × (is_some (with_tail (worn_tsns self.old) self.old) ≡ true))) }
+        ensures none { IfOk result (λ abandoned. abandoned.items ≡ []
+            → worn_tsns self.old ≡ []) }
         ensures idle { worn_tsns self.old ≡ [] → IsOk result }
         ensures err { OnErr result (self.new ≡ self.old) }
         ensures known { (bs : List GapAckBlock) → AreKnown bs self.old.queue.inflight.chunks
             → AreKnown bs self.new.queue.inflight.chunks }
     {
+        let _ = &self.queue;
         let tsns = self.worn_tsns(alloc)?;
         self.abandon_all(alloc, &tsns)
     }

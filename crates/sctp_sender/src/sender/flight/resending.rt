@@ -75,6 +75,24 @@ impl InFlight {
         }
     }
 
+    /// The TSN of that chunk, which is the one in flight with this TSN, and can be sent again.
+    pub(crate) fn tsn_to_resend(&self) -> Option<u32>
+        ensures tsn { result ≡ option_map (λ c. c.tsn)
+            (find is_to_resend self.now.queue.inflight.chunks) }
+        ensures own { (c : ChunkPayloadData)
+            → find is_to_resend self.now.queue.inflight.chunks ≡ Some c
+            → find (has_tsn c.tsn) self.now.queue.inflight.chunks ≡ Some c }
+        ensures again { (c : ChunkPayloadData)
+            → find is_to_resend self.now.queue.inflight.chunks ≡ Some c
+            → can_resend c.tsn self.now ≡ true }
+    {
+        let _ = &self.queue;
+        match self.next_to_retransmit() {
+            Some(chunk) => Some(chunk.tsn),
+            None => None,
+        }
+    }
+
     // The place of that chunk.
     fn first_to_resend(&self) -> Option<usize>
         ensures some { IfSome result (λ k. slice_get self.now.queue.inflight.chunks k

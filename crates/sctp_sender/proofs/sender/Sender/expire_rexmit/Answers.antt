@@ -1,4 +1,4 @@
-use Rattle.std.proofs.Common.{sym, subst}
+use Rattle.std.proofs.Common.{sym, subst, ◌∙◌}
 use Rattle.sctp_sender.specs.Flight.{Flight}
 use Rattle.sctp_sender.specs.Late.{worn_order}
 use Rattle.sctp_sender.specs.Totals.{IsAllSettled}
@@ -7,6 +7,7 @@ use Rattle.sctp_sender.proofs.Lows.{messages-released-same, messages-tell, one-m
 use Rattle.sctp_sender.specs.Keeping.{IsCovered}
 use Rattle.sctp_sender.proofs.Covers.{each-covered}
 use Rattle.sctp_sender.proofs.Listed.{reported-on}
+use Rattle.sctp_sender.proofs.Resends.{lows-none}
 use Rattle.sctp_sender.proofs.sender.Sender.expire_rexmit.Goals as goal
 
 pub invariant_of-self-2 : goal.invariant_of-self-2
@@ -27,3 +28,6 @@ returns-clause-once c = λ s. one-message-tells s _ _ _ _ c.release_abandoned.en
 
 pub returns-clause-released : goal.returns-clause-released
 returns-clause-released c = rw (← c.self.view_is) (messages-released-same _ _ _ _ _ c.release_abandoned.ensures.lows c.in_ok-worn.ensures.released)
+
+pub returns-clause-none : goal.returns-clause-none
+returns-clause-none c = rw (← c.self.view_is) (λ e. c.in_ok-worn.ensures.none (lows-none _ _ (sym c.release_abandoned.ensures.lows ∙ e)))
