@@ -11,6 +11,7 @@ use sctp_data::chunk::chunk_payload_data::ChunkPayloadData;
 use sctp_receiver::receiver::Receiver;
 use sctp_receiver::receiver::arrival::Arrival;
 use sctp_receiver::receiver::refusal::ReceiverRefusal;
+use sctp_receiver::replay;
 use sctp_stream::stream_numbers::{StreamNumbers, put};
 use sctp_util::error::Error;
 use std::alloc::Global;
@@ -219,7 +220,7 @@ impl Progress {
         if make_room(&mut self.streams, &self.numbers, chunks).is_err() {
             return Err(ReceiverRefusal::OutOfMemory);
         }
-        let arrivals = receiver.data_each_with_any_ssn(chunks)?;
+        let arrivals = replay::data_each_with_any_ssn(receiver, chunks)?;
         record_complete(&mut self.streams, &self.numbers, chunks, numbers, &arrivals);
         Ok(arrivals)
     }

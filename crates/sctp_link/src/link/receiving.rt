@@ -17,6 +17,7 @@ use crate::event::{LinkRefusal, Reply};
 use crate::record::Kind;
 use sctp_queues::chunks::{Chunks, Fragments};
 use sctp_receiver::receiver::refusal::ReceiverRefusal;
+use sctp_receiver::replay;
 use sctp_util::error::{Error, Result};
 use sctp_util::util::Checksum;
 
@@ -86,7 +87,7 @@ impl<C: Checksum + Drop> Link<C> {
         let Some(next) = self.progress.next_index(stream) else {
             unreachable!()
         };
-        let Some(queue) = self.receiver.reassembly(stream) else {
+        let Some(queue) = replay::reassembly(&self.receiver, stream) else {
             unreachable!()
         };
         let held = queue.ordered();
