@@ -3,10 +3,10 @@
 
     python3 evidence/refuse_memory.py
 
-run at the top of the repository. It finds the kit's command `rt` on the PATH, and proves nothing. It builds the program `refusals` once, with the
+run at the top of the repository. It finds the kit's command `rt` on the PATH, and proves nothing. It builds the program `link_tests` once, with the
 same allocation refused in each run: the last of so many. The number in the first line of standard input says how many allocations come between the
 reading of the scripts and their first event; so with one number after another each allocation of the scripts is the refused one once, and with 0 none
-is. Where one still is, the program is built again for twice as many. The scripts are those of crates/refusals/stdin.
+is. Where one still is, the program is built again for twice as many. The scripts are those of crates/link_tests/stdin.
 
 Prints how many allocations the scripts make, in which of their lines the link was refused one, and each run that did not end as without a refusal.
 The exit status is 0 where there is no such run.
@@ -22,7 +22,7 @@ import tempfile
 
 FIRST_TRY = 1024
 REFUSED = re.compile(r"same, (?:line (\d+) refused|refused beside the link)\Z")
-STDIN = "crates/refusals/stdin"
+STDIN = "crates/link_tests/stdin"
 
 
 def outcomes(most):
@@ -34,7 +34,7 @@ def outcomes(most):
             with open(os.path.join(folder, f"{number:06}"), "w", encoding="ascii") as case:
                 case.write(f"{number}\n{scripts}")
         words = ["rt", "try", "--fail-alloc", str(most), "--cases", folder]
-        ran = subprocess.run(words, cwd="crates/refusals", capture_output=True, text=True)
+        ran = subprocess.run(words, cwd="crates/link_tests", capture_output=True, text=True)
     printed = dict(re.findall(r"^== (\d+)\n(.*)$", ran.stdout, re.M))
     ended = set(re.findall(r"^case=(\d+) run=ended status=0 ", ran.stderr, re.M))
     if not printed:
@@ -48,7 +48,7 @@ def main():
         sys.exit(__doc__)
     if not shutil.which("rt"):
         sys.exit("refuse_memory.py: the kit's command rt is not on the PATH")
-    if not os.path.isdir("crates/refusals"):
+    if not os.path.isdir("crates/link_tests"):
         sys.exit("refuse_memory.py: run it at the top of the repository")
     most = FIRST_TRY
     lines = outcomes(most)

@@ -28,7 +28,7 @@ from sources import Sources, crates, files_below, imports, lines_of
 from wrong_bodies import bodies_of, function_of
 
 # crates that only call others
-PROGRAMS = ("uses", "bench", "linkrun", "sctpdump", "refusals", "association", "sctp_delivery")
+PROGRAMS = ("uses", "bench", "linkrun", "sctpdump", "association", "sctp_delivery")
 DEFINED = re.compile(r"(?:(?:abbrev|opaque|unfoldable|pub|record|data) )+([^\s:(]+)")
 # a call; where a body begins behind its clauses; a body that is one call; and what a body does that only calls another does not do
 CALL = re.compile(r"(\.|::)?\b(\w+)(?:::<[^>()]*>)?\(")

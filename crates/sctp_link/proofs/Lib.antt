@@ -6,3 +6,4 @@ pub mod receiver
 pub mod acknowledging
 pub mod skipping
 pub mod upkeep
+pub mod standings

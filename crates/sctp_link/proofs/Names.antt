@@ -77,7 +77,7 @@ pub use Rattle.sctp_receiver.specs.declared.receiver.arrival.Arrival.{Arrival}
 pub use Rattle.sctp_receiver.specs.declared.receiver.arrival.Arrival.TheVariants.{New, Repeat}
 pub use Rattle.sctp_receiver.specs.Inbound.{count_read, stream_read, Pushes, PushesAs, ssns_of, skipped_each}
 pub use Rattle.sctp_receiver.specs.declared.receiver.refusal.ReceiverRefusal.TheVariants.{TsnOpposite, MessageTooLarge}
-pub use Rattle.sctp_progress.specs.Progress.{Standing, with_expiry, with_read, after_one, after_each, with_named}
+pub use Rattle.sctp_link.specs.Progress.{Standing, with_expiry, with_read, after_one, after_each, with_named}
 pub use Rattle.sctp_model.specs.declared.event.Event.{Event}
 pub use Rattle.sctp_model.specs.LinkRecord.{LinkRecord, Report, Setup, Forward, Data, StreamRecord}
 pub use Rattle.sctp_model.specs.Messages.{message_at, ordered_before, sent_of, is_partially_sent, tsn_of, front, is_in_flight, place_of, message_of}
@@ -110,43 +110,45 @@ pub use Rattle.sctp_model.proofs.sender.Sender.{Sender, sent-slotted}
 pub use Rattle.sctp_model.specs.Valid.{Valid, IsSpan, ComesValid, AllFragments}
 pub use Rattle.sctp_model.specs.declared.event.LinkRefusal.{LinkRefusal}
 pub use Rattle.sctp_model.proofs.sender.Network.{IsNamable, NamesFit, fit-at, names-fit, Same}
-pub use Rattle.sctp_refinement.specs.Amount.{amount, held_bytes, bytes_but_for, unacked_on, bytes_at, acknowledged_at, acknowledged_then, stream_of_slot}
-pub use Rattle.sctp_refinement.specs.Amount.{keeps_amounts}
-pub use Rattle.sctp_refinement.specs.Holds.{reassembly_of, seen_of, ordered_sets}
-pub use Rattle.sctp_refinement.specs.Counts.{counters_on, is_write, is_read, received_more, sent_more}
-pub use Rattle.sctp_refinement.specs.Indexes.{begun_on, is_begun_on}
-pub use Rattle.sctp_refinement.proofs.sending.Begun.{Indexed, indexed-taken}
-pub use Rattle.sctp_refinement.proofs.sending.BegunRun.{SendsNone, begun-closed, none-after, counted-after}
-pub use Rattle.sctp_refinement.proofs.abandonment.AbandonedLink.{terminal_of, abandoned-is, count-then, before-then}
-pub use Rattle.sctp_refinement.proofs.reading.ReadOne.{KeepsNext, ReadsComplete, ReadsOrdered, next-arrive, next-same}
-pub use Rattle.sctp_refinement.proofs.amounts.StreamCounters.{counters-same, counters-read, counters-nothing, counters-none, written-wrote, counters-wrote}
-pub use Rattle.sctp_refinement.proofs.amounts.StreamCounters.{written-same}
-pub use Rattle.sctp_refinement.specs.Refines.{RefinesOutbound, Sending, sending_of, sending_by, IsInFlight, waiting_at, waiting_of}
-pub use Rattle.sctp_refinement.specs.InTurn.{message_of_tsn, abandoned_tsn}
-pub use Rattle.sctp_refinement.proofs.abandonment.AbandonedInTurn.{IsTurn, GivesInTurn, turn-written, late-fly, late-takes, late-done, find-among, each-of}
-pub use Rattle.sctp_refinement.proofs.abandonment.AbandonedInTurn.{accepted-now, takes-none, goes-on}
-pub use Rattle.sctp_refinement.proofs.sending.InFlight.{Found, found-in, head_of, tail_of, says-same, refines-marked, nsent-quiet}
-pub use Rattle.sctp_refinement.proofs.amounts.StreamAmounts.{same-turned, amount-none, amount-wrote, write-open, amount-same}
-pub use Rattle.sctp_refinement.specs.Naming.{min_with, names_fit, lowest_held, highest_held, complete_first, end_named, low_named}
-pub use Rattle.sctp_refinement.specs.Filling.{chunks_taken, further}
-pub use Rattle.sctp_refinement.proofs.arriving.SpanEnds.{Begins, set-begins, complete-begins, set-at, sets-held, ends-none, lowest-front, highest-back}
-pub use Rattle.sctp_refinement.proofs.arriving.SpanEnds.{fits-span}
-pub use Rattle.sctp_refinement.proofs.arriving.Carried.{Carried, carried, enters}
-pub use Rattle.sctp_refinement.proofs.arriving.Arrival.{with_arrived}
-pub use Rattle.sctp_refinement.proofs.acknowledging.QuietSender.{SameToSender, same-then, outbound-same, same-self}
-pub use Rattle.sctp_refinement.proofs.arriving.Stays.{by_place, map-all}
-pub use Rattle.sctp_refinement.proofs.sending.FilledDatagrams.{after_fragments, after-next, next-tsn, Fills, fill-sent, fill-started, sent-started, only-slots}
-pub use Rattle.sctp_refinement.proofs.sending.FilledDatagrams.{shown-after}
-pub use Rattle.sctp_refinement.proofs.sending.Fragments.{shown, all-begun, refines-fragment, going-started, idle}
-pub use Rattle.sctp_refinement.proofs.sending.LifetimesStart.{refines-started}
-pub use Rattle.sctp_refinement.proofs.sending.InLine.{before-started}
-pub use Rattle.sctp_refinement.proofs.skipping.SkipStep.{with_skip, skip-step}
-pub use Rattle.sctp_refinement.proofs.Histories.{stands-then, says-still, Facts, Stands, Sends}
-pub use Rattle.sctp_refinement.proofs.amounts.Bounds.{written-few, messages-few}
-pub use Rattle.sctp_refinement.proofs.acknowledging.Reported.{count-made, sack-there, Reported, reported-run}
-pub use Rattle.sctp_refinement.proofs.Lists.{map-set, piece-short, progress-more, filter-inserted, length-inserted, twice, unchanged, none-changed, same-at}
-pub use Rattle.sctp_refinement.proofs.Lists.{front_all, all_last, all-more, all-no, found-step, found-none, set-changed, any-same, all-from, take-min}
-pub use Rattle.sctp_refinement.proofs.Lists.{each-put}
+pub use Rattle.sctp_model.specs.refinement.Amount.{amount, held_bytes, bytes_but_for, unacked_on, bytes_at, acknowledged_at, acknowledged_then, stream_of_slot}
+pub use Rattle.sctp_model.specs.refinement.Amount.{keeps_amounts}
+pub use Rattle.sctp_model.specs.refinement.Holds.{reassembly_of, seen_of, ordered_sets}
+pub use Rattle.sctp_model.specs.refinement.Counts.{counters_on, is_write, is_read, received_more, sent_more}
+pub use Rattle.sctp_model.specs.refinement.Indexes.{begun_on, is_begun_on}
+pub use Rattle.sctp_model.proofs.refinement.sending.Begun.{Indexed, indexed-taken}
+pub use Rattle.sctp_model.proofs.refinement.sending.BegunRun.{SendsNone, begun-closed, none-after, counted-after}
+pub use Rattle.sctp_model.proofs.refinement.abandonment.AbandonedLink.{terminal_of, abandoned-is, count-then, before-then}
+pub use Rattle.sctp_model.proofs.refinement.reading.ReadOne.{KeepsNext, ReadsComplete, ReadsOrdered, next-arrive, next-same}
+pub use Rattle.sctp_model.proofs.refinement.amounts.StreamCounters.{counters-same, counters-read, counters-nothing, counters-none, written-wrote, counters-wrote}
+pub use Rattle.sctp_model.proofs.refinement.amounts.StreamCounters.{written-same}
+pub use Rattle.sctp_model.specs.refinement.Refines.{RefinesOutbound, Sending, sending_of, sending_by, IsInFlight, waiting_at, waiting_of}
+pub use Rattle.sctp_model.specs.refinement.InTurn.{message_of_tsn, abandoned_tsn}
+pub use Rattle.sctp_model.proofs.refinement.abandonment.AbandonedInTurn.{IsTurn, GivesInTurn, turn-written, late-fly, late-takes, late-done, find-among, each-of}
+pub use Rattle.sctp_model.proofs.refinement.abandonment.AbandonedInTurn.{accepted-now, takes-none, goes-on}
+pub use Rattle.sctp_model.proofs.refinement.sending.InFlight.{Found, found-in, head_of, tail_of, says-same, refines-marked, nsent-quiet}
+pub use Rattle.sctp_model.proofs.refinement.amounts.StreamAmounts.{same-turned, amount-none, amount-wrote, write-open, amount-same}
+pub use Rattle.sctp_model.specs.refinement.Naming.{min_with, names_fit, lowest_held, highest_held, complete_first, end_named, low_named}
+pub use Rattle.sctp_model.specs.refinement.Filling.{chunks_taken, further}
+pub use Rattle.sctp_model.proofs.refinement.arriving.SpanEnds.{Begins, set-begins, complete-begins, set-at, sets-held, ends-none, lowest-front, highest-back}
+pub use Rattle.sctp_model.proofs.refinement.arriving.SpanEnds.{fits-span}
+pub use Rattle.sctp_model.proofs.refinement.arriving.Carried.{Carried, carried, enters}
+pub use Rattle.sctp_model.proofs.refinement.arriving.Arrival.{with_arrived}
+pub use Rattle.sctp_model.proofs.refinement.acknowledging.QuietSender.{SameToSender, same-then, outbound-same, same-self}
+pub use Rattle.sctp_model.proofs.refinement.arriving.Stays.{by_place, map-all}
+pub use Rattle.sctp_model.proofs.refinement.sending.FilledDatagrams.{after_fragments, after-next, next-tsn, Fills, fill-sent, fill-started, sent-started}
+pub use Rattle.sctp_model.proofs.refinement.sending.FilledDatagrams.{only-slots}
+pub use Rattle.sctp_model.proofs.refinement.sending.FilledDatagrams.{shown-after}
+pub use Rattle.sctp_model.proofs.refinement.sending.Fragments.{shown, all-begun, refines-fragment, going-started, idle}
+pub use Rattle.sctp_model.proofs.refinement.sending.LifetimesStart.{refines-started}
+pub use Rattle.sctp_model.proofs.refinement.sending.InLine.{before-started}
+pub use Rattle.sctp_model.proofs.refinement.skipping.SkipStep.{with_skip, skip-step}
+pub use Rattle.sctp_model.proofs.refinement.Histories.{stands-then, says-still, Facts, Stands, Sends}
+pub use Rattle.sctp_model.proofs.refinement.amounts.Bounds.{written-few, messages-few}
+pub use Rattle.sctp_model.proofs.refinement.acknowledging.Reported.{count-made, sack-there, Reported, reported-run}
+pub use Rattle.sctp_model.proofs.refinement.Lists.{map-set, piece-short, progress-more, filter-inserted, length-inserted, twice, unchanged, none-changed}
+pub use Rattle.sctp_model.proofs.refinement.Lists.{same-at}
+pub use Rattle.sctp_model.proofs.refinement.Lists.{front_all, all_last, all-more, all-no, found-step, found-none, set-changed, any-same, all-from, take-min}
+pub use Rattle.sctp_model.proofs.refinement.Lists.{each-put}
 pub use Rattle.sctp_link.specs.Streams.{OpenStream, has_number, less_by, expired_on, stats_in, stream_numbers, after_releases, read_recorded, new_open_stream}
 pub use Rattle.sctp_link.specs.Streams.{written_of, both_ways, on_inbound, Keeps, join_each, on_state, wrote_to, number, join, forwarded_on}
 pub use Rattle.sctp_link.specs.declared.record.Message.{Message}
@@ -164,38 +166,39 @@ pub use Rattle.sctp_link.specs.Fields.{state_in, record_in, state_from, record_f
 pub use Rattle.sctp_link.specs.declared.record.Kind.{Kind}
 pub use Rattle.sctp_link.specs.declared.link.Link.TheInside.{Inside}
 pub use Rattle.sctp_link.specs.Receiving.{number_at, arrived_in, repeated_of, is_first, with_arrival, IsReceiver, HoldsQueue}
-pub use Rattle.sctp_refinement.specs.Arriving.{slot_fits, Comes, AllCome, LiesSomewhere}
+pub use Rattle.sctp_model.specs.refinement.Arriving.{slot_fits, Comes, AllCome, LiesSomewhere}
 pub use Rattle.sctp_link.specs.Skips.{wire_skip, with_names, standing_named, pair_in, named_from, none_named, index_in, message_in, is_on, named_in, HasNames}
 pub use Rattle.sctp_link.specs.Skips.{IsFullOrEmpty, with_name}
 pub use Rattle.sctp_link.specs.declared.skipped.Named.{Named}
 pub use Rattle.sctp_link.specs.declared.record.Written.{Written}
 pub use Rattle.sctp_link.specs.Sends.{AreNoted, outgoing_of, Leave, SendsOnly, Outgoing, CanSend, Leaves, started_from, is_sent_at}
-pub use Rattle.sctp_refinement.proofs.sending.Rooms.{none-start, next-unstarted, refines-room}
-pub use Rattle.sctp_refinement.proofs.sending.Flying.{one-more-fits, flying}
+pub use Rattle.sctp_model.proofs.refinement.sending.Rooms.{none-start, next-unstarted, refines-room}
+pub use Rattle.sctp_model.proofs.refinement.sending.Flying.{one-more-fits, flying}
 pub use Rattle.sctp_stream.specs.Stats.{with_sent, with_received}
-pub use Rattle.sctp_refinement.proofs.Kept.{begun-kept, held-quiet, next-kept, stream-quiet, fragments-same, written-kept, SameStream, filter-kept}
+pub use Rattle.sctp_model.proofs.refinement.Kept.{begun-kept, held-quiet, next-kept, stream-quiet, fragments-same, written-kept, SameStream, filter-kept}
 pub use Rattle.sctp_stream.specs.Stream.{pieces_of, new_stream}
-pub use Rattle.sctp_refinement.proofs.sending.NextFragment.{Next, next-is, idle-right, looks-short}
+pub use Rattle.sctp_model.proofs.refinement.sending.NextFragment.{Next, next-is, idle-right, looks-short}
 pub use Rattle.sctp_chunks.proofs.Lengths.{length_data_value, length_sack_value, length_forward_tsn_value}
 pub use Rattle.sctp_receiver.proofs.Forwarded.{followed-mapped, after-numbers, after-size, skipped-number, skipped-size}
-pub use Rattle.sctp_refinement.proofs.skipping.SkipFits.{Judged, judged, lowest-short, skips-in, same-names, complete-set, first-at, past-none, past-some}
-pub use Rattle.sctp_refinement.proofs.skipping.SkipFits.{all-fit, named-on, Skips, accepted}
-pub use Rattle.sctp_refinement.proofs.arriving.SlotsCome.{all-inside, all-carried, rest-all, quiet-slots}
-pub use Rattle.sctp_refinement.proofs.reading.HandsOut.{ppi-handed, filter-read, joined-length, HandsOut, hands-out, none-mapped, some-mapped}
-pub use Rattle.sctp_refinement.proofs.skipping.SkipSpans.{stale-fits, gone_forward, queue-skip, next-skip, named-from}
-pub use Rattle.sctp_refinement.proofs.abandonment.QueueAnswers.{none-tails, partial-front, complete-idle, early-idle, tails, idle-tail, tail-right}
-pub use Rattle.sctp_refinement.proofs.abandonment.QueueAnswers.{past_deadline, number-is, rest-fits, gives-tail, Gives, gives, stream-is, high, held}
-pub use Rattle.sctp_refinement.proofs.abandonment.QueueAnswers.{partial-tail, tail-fits}
-pub use Rattle.sctp_refinement.proofs.arriving.SlotSpans.{fits-new, added_on, added-any, any-carried, all-each, each-all, AddsAt, added-from, fits-each}
-pub use Rattle.sctp_refinement.proofs.arriving.SlotSpans.{only-one, own-stream, fits-all, new-among}
-pub use Rattle.sctp_refinement.proofs.sending.Ahead.{room-less}
-pub use Rattle.sctp_refinement.proofs.Walks.{changed_to, changed_none, changed_more, changed_all}
+pub use Rattle.sctp_model.proofs.refinement.skipping.SkipFits.{Judged, judged, lowest-short, skips-in, same-names, complete-set, first-at, past-none, past-some}
+pub use Rattle.sctp_model.proofs.refinement.skipping.SkipFits.{all-fit, named-on, Skips, accepted}
+pub use Rattle.sctp_model.proofs.refinement.arriving.SlotsCome.{all-inside, all-carried, rest-all, quiet-slots}
+pub use Rattle.sctp_model.proofs.refinement.reading.HandsOut.{ppi-handed, filter-read, joined-length, HandsOut, hands-out, none-mapped, some-mapped}
+pub use Rattle.sctp_model.proofs.refinement.skipping.SkipSpans.{stale-fits, gone_forward, queue-skip, next-skip, named-from}
+pub use Rattle.sctp_model.proofs.refinement.abandonment.QueueAnswers.{none-tails, partial-front, complete-idle, early-idle, tails, idle-tail, tail-right}
+pub use Rattle.sctp_model.proofs.refinement.abandonment.QueueAnswers.{past_deadline, number-is, rest-fits, gives-tail, Gives, gives, stream-is, high, held}
+pub use Rattle.sctp_model.proofs.refinement.abandonment.QueueAnswers.{partial-tail, tail-fits}
+pub use Rattle.sctp_model.proofs.refinement.arriving.SlotSpans.{fits-new, added_on, added-any, any-carried, all-each, each-all, AddsAt, added-from, fits-each}
+pub use Rattle.sctp_model.proofs.refinement.arriving.SlotSpans.{only-one, own-stream, fits-all, new-among}
+pub use Rattle.sctp_model.proofs.refinement.sending.Ahead.{room-less}
+pub use Rattle.sctp_model.proofs.refinement.Walks.{changed_to, changed_none, changed_more, changed_all}
 pub use Rattle.sctp_model.proofs.receiver.ValidRun.{span-open, slots_come_valid, skips_come_valid}
-pub use Rattle.sctp_refinement.proofs.arriving.Filter.{tsn_before, filter-skipped}
-pub use Rattle.sctp_refinement.proofs.acknowledging.SackDistances.{between, up-to-date, far, at-top}
-pub use Rattle.sctp_refinement.proofs.amounts.InFlightBytes.{chunk-on, bytes-unacked, taken-acknowledged, then-below, ledger-is, ledger_by, in-flight-bytes}
+pub use Rattle.sctp_model.proofs.refinement.arriving.Filter.{tsn_before, filter-skipped}
+pub use Rattle.sctp_model.proofs.refinement.acknowledging.SackDistances.{between, up-to-date, far, at-top}
+pub use Rattle.sctp_model.proofs.refinement.amounts.InFlightBytes.{chunk-on, bytes-unacked, taken-acknowledged, then-below, ledger-is, ledger_by}
+pub use Rattle.sctp_model.proofs.refinement.amounts.InFlightBytes.{in-flight-bytes}
 pub use Rattle.sctp_util.proofs.Totals.{total-none, total-append, total-where, total-kept_same, numbers-append, total-wider}
 pub use Rattle.sctp_stream.specs.Numbers.{IsAbsent, IsOnlyPlace}
-pub use Rattle.sctp_refinement.proofs.Results.{on-err, on-error, on-ok, not-err, unless-refused}
-pub use Rattle.sctp_refinement.proofs.arriving.SlotFits.{data-fits, lying}
-pub use Rattle.sctp_refinement.proofs.abandonment.QueueExpires.{quiet, outbound-expired, unstarted-expired}
+pub use Rattle.sctp_model.proofs.refinement.Results.{on-err, on-error, on-ok, not-err, unless-refused}
+pub use Rattle.sctp_model.proofs.refinement.arriving.SlotFits.{data-fits, lying}
+pub use Rattle.sctp_model.proofs.refinement.abandonment.QueueExpires.{quiet, outbound-expired, unstarted-expired}

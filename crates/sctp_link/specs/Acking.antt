@@ -7,8 +7,8 @@ use Rattle.sctp_outbound.specs.payload_queue.Blocks.{is_in_block}
 use Rattle.sctp_model.specs.LinkRecord.{LinkRecord}
 use Rattle.sctp_model.specs.Messages.{slot_at}
 use Rattle.sctp_model.specs.Amounts.{on_stream, pending_bytes}
-use Rattle.sctp_refinement.specs.Amount.{unacked_on, stream_of_slot, bytes_at}
-use Rattle.sctp_refinement.specs.Refines.{sending_of, sending_by}
+use Rattle.sctp_model.specs.refinement.Amount.{unacked_on, stream_of_slot, bytes_at}
+use Rattle.sctp_model.specs.refinement.Refines.{sending_of, sending_by}
 use Rattle.sctp_link.specs.declared.record.Slot.{Slot}
 use Rattle.sctp_link.specs.Records.{slot_record}
 

@@ -11,3 +11,5 @@ pub mod Receiving
 pub mod Skips
 pub mod Acking
 pub mod Sends
+pub mod Progress
+pub mod Rooms

@@ -9,11 +9,11 @@ use Rattle.sctp_model.specs.Contents.{contents_of, cumulative_tsn}
 use Rattle.sctp_model.specs.Queues.{FilterRecord, filter_of}
 use Rattle.sctp_model.specs.Steps.{History, StandsFor, fragments_accepted}
 use Rattle.sctp_model.specs.Laws.{IsSetup}
-use Rattle.sctp_refinement.specs.Holds.{reassembly_of}
-use Rattle.sctp_refinement.specs.Refines.{RefinesOutbound}
-use Rattle.sctp_refinement.specs.Amount.{amount}
-use Rattle.sctp_refinement.specs.Counts.{counters_on}
-use Rattle.sctp_refinement.specs.Indexes.{begun_on}
+use Rattle.sctp_model.specs.refinement.Holds.{reassembly_of}
+use Rattle.sctp_model.specs.refinement.Refines.{RefinesOutbound}
+use Rattle.sctp_model.specs.refinement.Amount.{amount}
+use Rattle.sctp_model.specs.refinement.Counts.{counters_on}
+use Rattle.sctp_model.specs.refinement.Indexes.{begun_on}
 use Rattle.sctp_model.specs.Amounts.{Counters, in_all, written_bytes}
 use Rattle.sctp_model.specs.Amounts as M
 use Rattle.sctp_link.specs.declared.link.accessors.Ledger.{Ledger}

@@ -3,7 +3,7 @@ use Rattle.std.specs.Prelude.{ℕ, ◌+◌, Bool, true, false, ◌&&◌, if◌th
 use Rattle.std.specs.List.{find}
 use Rattle.sctp_data.specs.declared.chunk.chunk_payload_data.PayloadProtocolIdentifier.{PayloadProtocolIdentifier}
 use Rattle.sctp_util.specs.Lists.{change_where}
-use Rattle.sctp_progress.specs.Progress.{Standing, begun_in, has_number, with_begun}
+use Rattle.sctp_link.specs.Progress.{Standing, begun_in, has_number, with_begun}
 use Rattle.sctp_link.specs.declared.record.Written.{Written}
 use Rattle.sctp_link.specs.declared.record.Message.{Message}
 use Rattle.sctp_link.specs.declared.record.Slot.{Slot}

@@ -7,7 +7,7 @@ use Rattle.sctp_outbound.specs.pending_queue.PendingQueue.{next_pending}
 use Rattle.sctp_outbound.specs.outbound_queue.OutboundQueue.{Outbound, all_started, sent_next}
 use Rattle.sctp_outbound.specs.Marks.{with_nsent}
 use Rattle.sctp_sender.specs.Sender.{Transmission}
-use Rattle.sctp_progress.specs.Progress.{Standing}
+use Rattle.sctp_link.specs.Progress.{Standing}
 use Rattle.sctp_link.specs.declared.record.Message.{Message}
 use Rattle.sctp_link.specs.declared.record.Slot.{Slot}
 use Rattle.sctp_link.specs.OpenStreams.{begun_of, fragment_slot, with_fragment, begun_by, start_from}

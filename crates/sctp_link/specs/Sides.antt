@@ -17,8 +17,8 @@ use Rattle.sctp_sender.specs.Outgoing.{fragments_with_mode}
 use Rattle.sctp_receiver.specs.Receiver.{Reception, filter_of, is_stale, arrival_of, is_answered_complete, data_refusal}
 use Rattle.sctp_sender.specs.Sender.{Transmission}
 use Rattle.sctp_receiver.specs.TsnFilter.{Filter, with_tsn, with_duplicate, skipped_to}
-use Rattle.sctp_progress.specs.Progress as Progress
-use Rattle.sctp_progress.specs.Progress.{Standing}
+use Rattle.sctp_link.specs.Progress as Progress
+use Rattle.sctp_link.specs.Progress.{Standing}
 use Rattle.sctp_link.specs.Streams.{OpenStream, Keeps, join_each, has_number, new_open_stream, on_inbound, wrote_to, after_releases, expired_on}
 use Rattle.sctp_link.specs.Streams.{forwarded_on}
 use Rattle.sctp_serial.specs.DataChunks.{preceding_tsn}

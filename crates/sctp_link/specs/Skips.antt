@@ -8,9 +8,9 @@ use Rattle.sctp_model.specs.LinkRecord.{LinkRecord}
 use Rattle.sctp_model.specs.Contents.{name_of}
 use Rattle.sctp_model.specs.Messages.{no_message, tsn_of}
 use Rattle.sctp_model.specs.Receiver.{least, greatest}
-use Rattle.sctp_refinement.specs.Naming.{low_named, end_named}
-use Rattle.sctp_progress.specs.Progress.{Standing}
-use Rattle.sctp_progress.specs.Progress as Progress
+use Rattle.sctp_model.specs.refinement.Naming.{low_named, end_named}
+use Rattle.sctp_link.specs.Progress.{Standing}
+use Rattle.sctp_link.specs.Progress as Progress
 use Rattle.sctp_link.specs.Streams.{OpenStream, with_named}
 use Rattle.sctp_link.specs.declared.skipped.Named.{Named}
 use Rattle.sctp_link.specs.declared.record.Message.{Message}

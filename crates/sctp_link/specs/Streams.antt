@@ -15,7 +15,7 @@ use Rattle.sctp_sender.specs.declared.sender.flight.Released.{Released}
 use Rattle.sctp_receiver.specs.Inbound as Inbound
 use Rattle.sctp_receiver.specs.Inbound.{ssns_of, skipped_each}
 use Rattle.sctp_sender.specs.Outgoing as Outgoing
-use Rattle.sctp_progress.specs.Progress.{Standing}
+use Rattle.sctp_link.specs.Progress.{Standing}
 use Rattle.sctp_link.specs.declared.record.Written.{Written}
 
 pub record OpenStream : Type 0 where

@@ -4,6 +4,7 @@
 mod datagram;
 pub mod event;
 pub mod link;
+mod progress;
 mod record;
 mod skipped;
 

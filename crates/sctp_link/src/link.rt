@@ -19,9 +19,9 @@ mod skipping;
 mod streams;
 
 use crate::event::{Event, LinkRefusal, Reply};
+use crate::progress::Progress;
 use crate::record::{Datagram, Kind, Message, Slot};
 use bytes::Bytes;
-use sctp_progress::Progress;
 use sctp_receiver::receiver::Receiver;
 use sctp_sender::sender::Sender;
 use sctp_sender::sender::refusal::SenderRefusal;

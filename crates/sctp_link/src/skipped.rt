@@ -5,9 +5,9 @@ ghost use Rattle.sctp_util.specs.declared.error.Error.TheVariants.{ErrOutOfMemor
 ghost use Rattle.sctp_link.specs.declared.skipped.Named.{Named};
 ghost use Rattle.sctp_link.specs.Skips.{index_in, named_from, none_named, with_name, pair_in, standing_named, HasNames, IsFullOrEmpty};
 
+use crate::progress::Progress;
 use crate::record::Message;
 use sctp_chunks::chunk::chunk_forward_tsn::ChunkForwardTsnStream;
-use sctp_progress::Progress;
 use sctp_util::error::Result;
 use std::alloc::Global;
 
@@ -54,7 +54,7 @@ fn with_name(messages: &[Message], stream: u16, number: u64, named: Named) -> Na
 /// What a skip that names these messages names on each open stream, in the order in which they were opened: in a time that grows with
 /// the names and the streams, and not with their product. Where memory is refused it has no places.
 /// Precondition: the index of each message is below the greatest u64.
-pub fn named_on_each(
+pub(crate) fn named_on_each(
     alloc: Global,
     progress: &Progress,
     messages: &[Message],
@@ -132,7 +132,7 @@ pub fn pairs_of(
 /// Records, on each open stream, how far its ordered messages were named by a skip that names these: in a time that grows with the names
 /// alone. It takes no memory.
 /// Precondition: the index of each message is below the greatest u64.
-pub fn record_names(progress: &mut Progress, messages: &[Message], names: &[u64])
+pub(crate) fn record_names(progress: &mut Progress, messages: &[Message], names: &[u64])
     requires { (n : ℕ) → index_in messages.now n + 1 < 2 ^ 64 }
     ensures { progress.new ≡ map (standing_named messages.now names.now) progress.old }
 {

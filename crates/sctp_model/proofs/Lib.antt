@@ -6,3 +6,4 @@ pub mod Lossless
 pub mod Composed
 pub mod EveryHistory
 pub mod Exchanges
+pub mod refinement

@@ -12,3 +12,4 @@ pub mod Log
 pub mod Laws
 pub mod Exchanges
 pub mod Valid
+pub mod refinement

@@ -13,8 +13,8 @@ use Rattle.sctp_link.proofs.sides.Changes.{on-aligned, on-sides}
 use Rattle.sctp_sender.specs.Outgoing as Outgoing
 use Rattle.sctp_model.specs.LinkRecord as W
 use Rattle.sctp_model.proofs.sender.Moves
-use Rattle.sctp_refinement.proofs.abandonment.AbandonedLate.{sent-then}
-use Rattle.sctp_refinement.proofs.abandonment.NothingHeld.{amount-abandoned}
+use Rattle.sctp_model.proofs.refinement.abandonment.AbandonedLate.{sent-then}
+use Rattle.sctp_model.proofs.refinement.abandonment.NothingHeld.{amount-abandoned}
 use Rattle.sctp_link.proofs.upkeep.StreamPlaces.{apart-changed}
 use Rattle.sctp_link.proofs.sender.Beginning.{index_kept}
 use Rattle.sctp_link.proofs.upkeep.ChangedStreams.{fields-same, changed-at}

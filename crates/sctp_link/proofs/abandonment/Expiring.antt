@@ -7,10 +7,10 @@ use Rattle.sctp_link.proofs.Names.{reassembly_of, counters_on, begun_on, counter
 use Rattle.sctp_link.proofs.Names.{IsApart, State, IsOpenStream, IsLinked, stats_of, message_record, progress_of, stream_record, map-set_same, stands-then}
 use Rattle.sctp_link.proofs.Names.{map-set, next-kept, filter-kept, begun-kept, fragments-same, written-kept, quiet, outbound-expired, unstarted-expired}
 use Rattle.sctp_link.proofs.Names.{held-quiet}
-use Rattle.sctp_refinement.proofs.abandonment.Released.{amount-expire}
+use Rattle.sctp_model.proofs.refinement.abandonment.Released.{amount-expire}
 use Rattle.sctp_outbound.specs.outbound_queue.OutboundQueue as outbound
 use Rattle.sctp_model.specs.declared.event.Event.TheVariants as E
-use Rattle.sctp_refinement.proofs.abandonment.ExpiredReply.{count-expire, number-lower}
+use Rattle.sctp_model.proofs.refinement.abandonment.ExpiredReply.{count-expire, number-lower}
 use Rattle.sctp_link.proofs.upkeep.ChangedStreams.{fields-same, changed-at}
 use Rattle.sctp_link.proofs.upkeep.StreamPlaces.{apart-changed}
 use Rattle.sctp_link.proofs.upkeep.Facts.{facts, told, sends}

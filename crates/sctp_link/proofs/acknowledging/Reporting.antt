@@ -7,7 +7,7 @@ use Rattle.sctp_link.proofs.Names.{length_sack_value}
 use Rattle.sctp_model.specs.Reports.{report_of, gap_blocks}
 use Rattle.sctp_model.specs.declared.event.Event.TheVariants as E
 use Rattle.sctp_model.specs.LinkRecord as W
-use Rattle.sctp_refinement.proofs.acknowledging.SackMade.{blocks-are}
+use Rattle.sctp_model.proofs.refinement.acknowledging.SackMade.{blocks-are}
 use Rattle.sctp_receiver.specs.Receiver.{filter_of}
 use Rattle.sctp_link.proofs.receiver.Came.{blocks-ends, tsns-beyond}
 use Rattle.sctp_link.proofs.upkeep.Facts.{facts}

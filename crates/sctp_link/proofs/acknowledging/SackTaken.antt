@@ -17,15 +17,15 @@ use Rattle.sctp_model.specs.declared.event.Event.TheVariants as E
 use Rattle.sctp_model.specs.LinkRecord.{Sack}
 use Rattle.sctp_model.specs.Amounts.{on_stream}
 use Rattle.sctp_model.proofs.sender.Shapes
-use Rattle.sctp_refinement.proofs.acknowledging.Acked.{in-flight-first, in-flight-same, refines-taken}
-use Rattle.sctp_refinement.proofs.acknowledging.Unacked.{amount-is, amount-acked, growth-acked}
-use Rattle.sctp_refinement.proofs.sending.Begun
+use Rattle.sctp_model.proofs.refinement.acknowledging.Acked.{in-flight-first, in-flight-same, refines-taken}
+use Rattle.sctp_model.proofs.refinement.acknowledging.Unacked.{amount-is, amount-acked, growth-acked}
+use Rattle.sctp_model.proofs.refinement.sending.Begun
 use Rattle.sctp_link.proofs.upkeep.Facts.{facts, over}
 use Rattle.sctp_link.proofs.acknowledging.AckLoops.{marking-same}
 use Rattle.sctp_link.proofs.acknowledging.FlightAcked.{answered, covered-at, marked-all, front-leaves}
 use Rattle.sctp_link.proofs.acknowledging.StreamsLess.{with_amount, released_on, chunks_on, length-released, released-at, answered-on, on-unacked}
 use Rattle.sctp_link.proofs.sender.Beginning.{index_kept, indexed-of}
-use Rattle.sctp_refinement.proofs.acknowledging.SackFrames.{reassembly-taken, filter-taken}
+use Rattle.sctp_model.proofs.refinement.acknowledging.SackFrames.{reassembly-taken, filter-taken}
 use Rattle.sctp_link.proofs.upkeep.Observed.{encoded}
 
 -- ## The SACK that is there

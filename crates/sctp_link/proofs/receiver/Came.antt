@@ -4,10 +4,10 @@ use Rattle.sctp_link.proofs.Names.{◌⊎◌, ◌==◌, ◌||◌, not, nat_le, n
 use Rattle.sctp_link.proofs.Names.{comes_before, fails, gap_offsets, is_offset, ends_of, LinkRecord, tsn_of, cumulative, is_new, receive_slot, FilterRecord}
 use Rattle.sctp_link.proofs.Names.{filter_of, Valid, seen_of, Filter, has_come, is_opposite, with_tsn, with_duplicate, skipped_to, offsets, gap_ack_blocks}
 use Rattle.sctp_link.proofs.Names.{placeholder, tsns-placeholder, filter_shown, cumulative-le, tsns, tsn_before, distance}
-use Rattle.sctp_refinement.proofs.arriving.SlotDistances.{ahead, behind, back-before, back-past, past-front}
+use Rattle.sctp_model.proofs.refinement.arriving.SlotDistances.{ahead, behind, back-before, back-past, past-front}
 use Rattle.sctp_serial.specs.Window
-use Rattle.sctp_refinement.proofs.arriving.FilterQueue.{new-is}
-use Rattle.sctp_refinement.proofs.arriving.SlotArrives
+use Rattle.sctp_model.proofs.refinement.arriving.FilterQueue.{new-is}
+use Rattle.sctp_model.proofs.refinement.arriving.SlotArrives
 use Rattle.sctp_receiver.specs.TsnFilter.{block_of}
 use Rattle.sctp_receiver.proofs.Placeholders as Placeholders
 use Rattle.sctp_util.specs.Serial.{at_or_before}

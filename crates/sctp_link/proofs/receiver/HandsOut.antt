@@ -17,9 +17,9 @@ use Rattle.sctp_model.specs.LinkRecord as W
 use Rattle.sctp_model.specs.Reply as R
 use Rattle.sctp_model.proofs.sender.Network
 use Rattle.sctp_model.proofs.receiver.Shown.{read-joined}
-use Rattle.sctp_refinement.proofs.reading.NextRead
-use Rattle.sctp_refinement.proofs.acknowledging.QuietSender
-use Rattle.sctp_refinement.proofs.reading.ReadOne
+use Rattle.sctp_model.proofs.refinement.reading.NextRead
+use Rattle.sctp_model.proofs.refinement.acknowledging.QuietSender
+use Rattle.sctp_model.proofs.refinement.reading.ReadOne
 use Rattle.sctp_link.proofs.sender.Beginning.{index_kept}
 use Rattle.sctp_link.proofs.upkeep.Apart.{differ, each-set, number-found, streams-set}
 use Rattle.sctp_link.proofs.upkeep.StreamPlaces.{apart-set, changed-found, placed}

@@ -5,9 +5,9 @@ use Rattle.sctp_link.proofs.Names.{slot_at, message_of, index_of, sent_of, tsn_o
 use Rattle.sctp_link.proofs.Names.{set_of, shape, slot-sent, ordered_sets, Carried, Begins, set-begins, set-at, sets-held, ends-none, lowest-front}
 use Rattle.sctp_link.proofs.Names.{highest-back, OpenStream, has_number, Message, Slot, State, IsLinked, message_record, slot_record, progress_of}
 use Rattle.sctp_link.proofs.Names.{length-mapped, get_or-map, nil_from_length}
-use Rattle.sctp_refinement.proofs.arriving.Arrival
-use Rattle.sctp_refinement.proofs.reading.Line
-use Rattle.sctp_refinement.proofs.reading.Taken
+use Rattle.sctp_model.proofs.refinement.arriving.Arrival
+use Rattle.sctp_model.proofs.refinement.reading.Line
+use Rattle.sctp_model.proofs.refinement.reading.Taken
 use Rattle.sctp_link.proofs.sender.Beginning.{index_kept}
 use Rattle.sctp_link.proofs.upkeep.Facts.{facts}
 use Rattle.sctp_link.proofs.upkeep.Apart.{number-found}

@@ -4,7 +4,7 @@ use Rattle.sctp_link.proofs.Names.{fold, slice_index_or, list_any, subst, change
 use Rattle.sctp_link.proofs.Names.{mark_arrived, Arrival, New, Repeat, arrival_of, is_answered_complete, Sides, reception_of, CanTake, TakesEach, Slot}
 use Rattle.sctp_link.proofs.Names.{slot_record, IsReceiver, AllCome, number_at, with_arrival, arrived_in, repeated_of, is_first, append_assoc}
 use Rattle.sctp_model.proofs.sender.Network
-use Rattle.sctp_refinement.proofs.arriving.SlotArrives
+use Rattle.sctp_model.proofs.refinement.arriving.SlotArrives
 use Rattle.sctp_link.proofs.receiver.Slots.{One, core, accepted, opened, one}
 
 -- the numbers of the messages of slots, as a link keeps them

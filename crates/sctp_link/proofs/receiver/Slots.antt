@@ -8,11 +8,11 @@ use Rattle.sctp_link.proofs.Names.{mark_arrived, chunk_at, IsSpan, reassembly_of
 use Rattle.sctp_link.proofs.Names.{TsnOpposite, MessageTooLarge, stream_refusal, data_refusal, arrival_of, Filter, has_come, is_opposite, with_tsn}
 use Rattle.sctp_link.proofs.Names.{with_duplicate, Keeps, OpenStream, has_number, stream_numbers, Sides, reception_of, with_filter_of, on_stream, Accepts}
 use Rattle.sctp_link.proofs.Names.{Takes, repeat_tsn, stream_record, HoldsQueue, IsReceiver, Comes, is_first, IsApart, map-set_same}
-use Rattle.sctp_refinement.proofs.arriving.SlotArrives.{Enters, ordered-slot, unordered-slot}
+use Rattle.sctp_model.proofs.refinement.arriving.SlotArrives.{Enters, ordered-slot, unordered-slot}
 use Rattle.sctp_model.proofs.sender.Network
-use Rattle.sctp_refinement.proofs.arriving.RunsOnce.{becomes-same}
-use Rattle.sctp_refinement.proofs.arriving.SlotArrives
-use Rattle.sctp_refinement.proofs.reading.Keeps
+use Rattle.sctp_model.proofs.refinement.arriving.RunsOnce.{becomes-same}
+use Rattle.sctp_model.proofs.refinement.arriving.SlotArrives
+use Rattle.sctp_model.proofs.refinement.reading.Keeps
 use Rattle.sctp_receiver.specs.Inbound as Inbound
 use Rattle.sctp_receiver.specs.Receiver.{filter_of as held_filter, stream_of as inbound_of}
 use Rattle.sctp_link.specs.Sides.{is_open}

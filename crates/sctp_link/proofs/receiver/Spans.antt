@@ -2,7 +2,7 @@
 use Rattle.sctp_link.proofs.Names.{◌≡◌, ℕ, ◌<◌, ◌≤◌, true, List, length, refl, ap, sym, ◌∙◌, arith, slice_index_or, message_at, message_of, index_of, is_new}
 use Rattle.sctp_link.proofs.Names.{next_of, Carried, IsLinked, LiesSomewhere, Inside, Message, Slot, record_in, state_in, message_record, own-stream, lying}
 use Rattle.sctp_link.proofs.upkeep.Facts.{facts}
-use Rattle.sctp_refinement.proofs.arriving.NewSlots.{new-past}
+use Rattle.sctp_model.proofs.refinement.arriving.NewSlots.{new-past}
 use Rattle.sctp_link.proofs.sender.Beginning.{index_kept}
 use Rattle.sctp_link.proofs.receiver.Hears.{come-message, slots-made, messages-made, slot-raw, message-raw, kept-raw}
 

@@ -3,7 +3,7 @@ use Rattle.sctp_link.proofs.Names.{◌≡◌, ℕ, zero, suc, ◌+◌, ◌<◌, 
 use Rattle.sctp_link.proofs.Names.{if◌then◌else◌, ◌==◌, ◌&&◌, find, option_map, slice_index_or, subst, change_where, some-same, shape, Indexed, same-turned}
 use Rattle.sctp_link.proofs.Names.{StreamState, InboundStream, Standing, Message, begins, begun_of, begun_by, OpenStream, join_each, has_number}
 use Rattle.sctp_link.proofs.Names.{stream_numbers, State, IsLinked, stream_record}
-use Rattle.sctp_progress.specs.Progress as Progress
+use Rattle.sctp_link.specs.Progress as Progress
 use Rattle.sctp_link.proofs.sides.Joined.{Alike, found-progress, progress-changed}
 use Rattle.sctp_link.proofs.sides.Aligned.{standing-changed}
 

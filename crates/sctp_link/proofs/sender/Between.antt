@@ -9,14 +9,14 @@ use Rattle.sctp_link.proofs.Names.{all-begun, refines-fragment, going-started, r
 use Rattle.sctp_link.proofs.Names.{stream_numbers, Message, State, IsLinked, start_from, fragment_slot, begins, begun_of, with_fragment, message_record}
 use Rattle.sctp_link.proofs.Names.{progress_of, slot_record, stream_record, Outgoing, CanSend, Leaves, Leave, map-set_same, following_tsn, get_or-map}
 use Rattle.sctp_link.proofs.Names.{messages-few, map-set, none-start, next-unstarted, one-more-fits}
-use Rattle.sctp_refinement.proofs.sending.KindsRun.{Going, going-takes}
+use Rattle.sctp_model.proofs.refinement.sending.KindsRun.{Going, going-takes}
 use Rattle.sctp_model.specs.LinkRecord as W
 use Rattle.sctp_model.specs.Messages as M
 use Rattle.sctp_model.proofs.sender.Shape.{sent as sent_by}
 use Rattle.sctp_model.proofs.sender.Shapes
 use Rattle.sctp_model.proofs.sender.Few
 use Rattle.sctp_model.proofs.sender.SenderSteps.{Takes}
-use Rattle.sctp_refinement.proofs.sending.Begun
+use Rattle.sctp_model.proofs.refinement.sending.Begun
 use Rattle.sctp_link.proofs.upkeep.Apart.{number-found}
 use Rattle.sctp_link.proofs.upkeep.Facts.{facts}
 use Rattle.sctp_link.proofs.upkeep.Lookups.{none-open}

@@ -3,8 +3,8 @@ use Rattle.sctp_link.proofs.Names.{◌≡◌, ℕ, ◌+◌, ◌-◌, ◌<◌, �
 use Rattle.sctp_link.proofs.Names.{slice_index_or, fresh, is_ordered, numbers_from, pieces, ChunkPayloadData, PayloadProtocolIdentifier, with_message_id}
 use Rattle.sctp_link.proofs.Names.{fragments_with_mode, LinkRecord, StreamRecord, message_of, fragment_count, ordered_before, message_on, waiting_at}
 use Rattle.sctp_link.proofs.Names.{waiting_of, StreamState, map-twice, pieces_of, map-all}
-use Rattle.sctp_refinement.proofs.sending.Waiting
-use Rattle.sctp_refinement.proofs.sending.Written
+use Rattle.sctp_model.proofs.refinement.sending.Waiting
+use Rattle.sctp_model.proofs.refinement.sending.Written
 use Rattle.sctp_sender.proofs.SenderStreams.{made, fragments-made}
 
 abbrev built : LinkRecord → StreamRecord → PayloadProtocolIdentifier → List ℕ → ℕ → Bool → ℕ → ℕ → ChunkPayloadData

@@ -4,7 +4,7 @@ use Rattle.sctp_link.proofs.Names.{after_mode, refusal_of, change_where, OpenStr
 use Rattle.sctp_link.proofs.Names.{next-kept}
 use Rattle.sctp_model.specs.declared.event.Event.TheVariants as E
 use Rattle.sctp_model.specs.Changes.{with_mode}
-use Rattle.sctp_refinement.proofs.arriving.Opened
+use Rattle.sctp_model.proofs.refinement.arriving.Opened
 use Rattle.sctp_sender.specs.Outgoing as Outgoing
 use Rattle.sctp_link.proofs.upkeep.Frames.{stream-same, encodings-same, linked-beside}
 use Rattle.sctp_link.proofs.upkeep.ChangedStreams.{records-changed, each-changed}

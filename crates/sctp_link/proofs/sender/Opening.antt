@@ -5,7 +5,7 @@ use Rattle.sctp_link.proofs.Names.{StreamOpen, LinkRecord, is_open, no_stream, n
 use Rattle.sctp_link.proofs.Names.{amount-none, counters-none, reassembly_of, OpenStream, has_number, new_open_stream, stream_record, State, IsOpenStream}
 use Rattle.sctp_link.proofs.Names.{IsLinked, stats_of, none-of, Facts}
 use Rattle.sctp_model.specs.declared.event.Event.TheVariants as E
-use Rattle.sctp_refinement.proofs.arriving.Opened
+use Rattle.sctp_model.proofs.refinement.arriving.Opened
 use Rattle.sctp_link.proofs.upkeep.Facts.{facts}
 use Rattle.sctp_link.proofs.upkeep.Frames.{stream-same, encodings-same, linked-beside}
 use Rattle.sctp_link.proofs.upkeep.StreamPlaces.{apart-more}

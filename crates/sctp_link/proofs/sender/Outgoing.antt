@@ -8,7 +8,7 @@ use Rattle.sctp_link.proofs.Names.{IsDatagram, packet_with, State, IsLinked, som
 use Rattle.sctp_data.specs.PayloadData.{Data}
 use Rattle.sctp_model.specs.declared.event.Event.TheVariants as E
 use Rattle.sctp_model.specs.LinkRecord as W
-use Rattle.sctp_refinement.proofs.sending.FlyingTsn
+use Rattle.sctp_model.proofs.refinement.sending.FlyingTsn
 use Rattle.sctp_link.proofs.upkeep.Facts.{sends}
 use Rattle.sctp_link.proofs.upkeep.Frames.{linked-more}
 

@@ -15,7 +15,7 @@ use Rattle.sctp_model.specs.LinkRecord as W
 use Rattle.sctp_model.specs.Messages as M
 use Rattle.sctp_model.specs.Reply as R
 use Rattle.sctp_model.proofs.sender.Moves
-use Rattle.sctp_refinement.proofs.sending.Begun
+use Rattle.sctp_model.proofs.refinement.sending.Begun
 use Rattle.sctp_link.proofs.upkeep.Facts.{facts, told}
 use Rattle.sctp_link.proofs.upkeep.Frames.{stream-with, encodings-more}
 use Rattle.sctp_link.proofs.sender.Beginning.{index_kept}

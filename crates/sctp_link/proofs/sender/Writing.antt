@@ -9,13 +9,13 @@ use Rattle.sctp_link.proofs.Names.{amount, counters_on, sent_more, amount-wrote,
 use Rattle.sctp_link.proofs.Names.{with_reliability, OpenStream, both_ways, has_number, written_of, wrote_to, Message, stream_record, message_record}
 use Rattle.sctp_link.proofs.Names.{message_written, State, IsOpenStream, IsLinked, stats_of, DataChannelStats, stands-then, Facts, written-few, progress-more}
 use Rattle.sctp_link.proofs.Names.{with_sent, begun-kept, held-quiet, next-kept}
-use Rattle.sctp_refinement.proofs.amounts.MessageSums.{sum-written}
+use Rattle.sctp_model.proofs.refinement.amounts.MessageSums.{sum-written}
 use Rattle.std.specs.Option.{option_map}
 use Rattle.sctp_model.specs.declared.event.Event.TheVariants as E
 use Rattle.sctp_model.specs.LinkRecord as W
 use Rattle.sctp_model.proofs.sender.Moves
-use Rattle.sctp_refinement.proofs.sending.Written
-use Rattle.sctp_refinement.proofs.sending.InLine
+use Rattle.sctp_model.proofs.refinement.sending.Written
+use Rattle.sctp_model.proofs.refinement.sending.InLine
 use Rattle.sctp_stream.specs.Stream as stream
 use Rattle.sctp_link.proofs.upkeep.Facts.{facts, told}
 use Rattle.sctp_link.proofs.upkeep.Frames.{stream-same, indexed-kept, encodings-same}

@@ -8,7 +8,7 @@ use Rattle.sctp_receiver.specs.Receiver as R
 use Rattle.sctp_receiver.proofs.Inbounds.{stays-changed}
 use Rattle.sctp_sender.specs.Outgoing as Outgoing
 use Rattle.sctp_sender.specs.Sender as S
-use Rattle.sctp_progress.specs.Progress as Progress
+use Rattle.sctp_link.specs.Progress as Progress
 use Rattle.sctp_link.specs.Sides.{is_open}
 use Rattle.sctp_link.proofs.sides.Joined.{Alike, inbounds-joined, length-joined, numbers-joined, found-state, found-inbound, inbound-changed, inbound-mapped}
 

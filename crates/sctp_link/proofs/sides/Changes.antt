@@ -12,7 +12,7 @@ use Rattle.sctp_sender.specs.declared.sender.refusal.SenderRefusal.TheVariants.{
 use Rattle.sctp_sender.specs.Keeping.{kept_after}
 use Rattle.sctp_sender.specs.Outgoing as Outgoing
 use Rattle.sctp_sender.specs.Sender as S
-use Rattle.sctp_progress.specs.Progress as Progress
+use Rattle.sctp_link.specs.Progress as Progress
 use Rattle.sctp_link.specs.Sides.{with_flight}
 use Rattle.sctp_link.proofs.sides.Joined.{found-progress, state-changed, progress-changed}
 use Rattle.sctp_link.proofs.sides.Aligned.{alike, numbers-are, state-in, inbound-in, with-sender, with-progress, standing-changed}

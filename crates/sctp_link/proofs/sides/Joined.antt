@@ -5,7 +5,7 @@ use Rattle.sctp_link.proofs.Names.{on_inbound}
 use Rattle.std.specs.List.{find}
 use Rattle.sctp_receiver.specs.Inbound as Inbound
 use Rattle.sctp_sender.specs.Outgoing as Outgoing
-use Rattle.sctp_progress.specs.Progress as Progress
+use Rattle.sctp_link.specs.Progress as Progress
 
 -- one list for each part, with the same streams in the same order
 pub record Alike (ss : List StreamState) (is : List InboundStream) (ps : List Standing) : Type 0 where

@@ -6,7 +6,7 @@ use Rattle.sctp_receiver.specs.Inbound as Inbound
 use Rattle.sctp_receiver.specs.Receiver as R
 use Rattle.sctp_sender.specs.Outgoing as Outgoing
 use Rattle.sctp_sender.specs.Sender as S
-use Rattle.sctp_progress.specs.Progress as Progress
+use Rattle.sctp_link.specs.Progress as Progress
 use Rattle.sctp_link.proofs.sides.Joined.{joined-more}
 use Rattle.sctp_link.proofs.sides.Aligned.{alike, state-in, inbound-in}
 use Rattle.sctp_link.proofs.sides.Changes.{open-answered}

@@ -9,8 +9,8 @@ use Rattle.sctp_receiver.specs.Inbound.{with_queue}
 use Rattle.sctp_receiver.specs.Receiver as R
 use Rattle.sctp_receiver.proofs.DataEach.{takes-keeps}
 use Rattle.sctp_sender.specs.Outgoing as Outgoing
-use Rattle.sctp_progress.specs.Progress as Progress
-use Rattle.sctp_progress.proofs.Completing.{one-numbers, each-numbers}
+use Rattle.sctp_link.specs.Progress as Progress
+use Rattle.sctp_link.proofs.standings.Completions.{one-numbers, each-numbers}
 use Rattle.sctp_link.proofs.sides.Joined.{progress-changed}
 use Rattle.sctp_link.proofs.sides.Aligned.{numbers-are, reception-is, inbound-in, inbound-on, with-receiver, with-progress}
 use Rattle.sctp_link.proofs.sides.Changes.{same-found}

@@ -2,7 +2,7 @@
 use Rattle.sctp_link.proofs.Names.{◌≡◌, ℕ, ◌<◌, List, [], length, Some, refl, ap, sym, ◌∙◌, slice_get, slice_index_or, get_or_default, Forward, StreamRecord}
 use Rattle.sctp_link.proofs.Names.{Inside, Named, record_in, state_in, sides_in, IsLinked, IsAligned, named_from, none_named, new_open_stream, named_in}
 use Rattle.sctp_link.proofs.Names.{HasNames, skips-in}
-use Rattle.sctp_progress.specs.Progress.{fresh}
+use Rattle.sctp_link.specs.Progress.{fresh}
 use Rattle.sctp_link.proofs.sides.Changes.{number-answered}
 use Rattle.sctp_link.proofs.skipping.SkipComes.{record-at, names-are}
 use Rattle.sctp_link.proofs.upkeep.Facts.{facts}

@@ -3,7 +3,7 @@ use Rattle.sctp_link.proofs.Names.{◌≡◌, ℕ, zero, suc, ◌+◌, ◌<◌, 
 use Rattle.sctp_link.proofs.Names.{◌&&◌, not, if◌then◌else◌, min, max, slice_get, slice_index_or, slice_set, filter, ne_eqb, some-same, length-mapped}
 use Rattle.sctp_link.proofs.Names.{no_message, get_or-map, least, greatest, Standing, Named, Message, message_record, index_in, message_in, is_on, named_from}
 use Rattle.sctp_link.proofs.Names.{none_named, get-beyond, IsAbsent, IsOnlyPlace, with_name, HasNames, each-put}
-use Rattle.sctp_progress.specs.Progress.{numbers_of}
+use Rattle.sctp_link.specs.Progress.{numbers_of}
 
 number-of : (ps : List Standing) (k : ℕ) (p : Standing) → k < length ps → p ≡ slice_index_or ps k p → slice_get (numbers_of ps) k ≡ Some p.number
 number-of [] k p lt e = absurd (omega (arith, lt))

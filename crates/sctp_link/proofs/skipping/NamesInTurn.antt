@@ -6,8 +6,8 @@ use Rattle.sctp_link.proofs.Names.{reassembly_of, end_named, ssns_of, skipped_ea
 use Rattle.sctp_link.proofs.Names.{message_in, pair_in, named_stream, gone_forward, skips-in, named-on}
 use Rattle.sctp_data.specs.declared.chunk.chunk_forward_tsn.ChunkForwardTsnStream.{ChunkForwardTsnStream}
 use Rattle.sctp_model.specs.declared.event.Event.TheVariants as E
-use Rattle.sctp_refinement.specs.Naming.{on_stream}
-use Rattle.sctp_refinement.proofs.skipping.SkipsInTurn.{skips-in-turn}
+use Rattle.sctp_model.specs.refinement.Naming.{on_stream}
+use Rattle.sctp_model.proofs.refinement.skipping.SkipsInTurn.{skips-in-turn}
 use Rattle.sctp_link.proofs.upkeep.Facts.{facts}
 use Rattle.sctp_link.proofs.skipping.SkipComes.{index-is, spans}
 

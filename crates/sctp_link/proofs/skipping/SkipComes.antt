@@ -6,9 +6,9 @@ use Rattle.sctp_link.proofs.Names.{refusal_of, IsSpan, shape, IsNamable, NamesFi
 use Rattle.sctp_link.proofs.Names.{sets-held, OpenStream, has_number, Named, Message, Datagram, State, IsLinked, message_record, progress_of, stream_record}
 use Rattle.sctp_link.proofs.Names.{datagram_record, kind_record, index_in, is_on, named_from, none_named, wire_skip, packet_with, length-mapped, get_or-map}
 use Rattle.sctp_link.proofs.Names.{skips_come_valid}
-use Rattle.sctp_refinement.proofs.skipping.StreamsAt.{found-at}
+use Rattle.sctp_model.proofs.refinement.skipping.StreamsAt.{found-at}
 use Rattle.sctp_model.specs.declared.event.Event.TheVariants as E
-use Rattle.sctp_refinement.specs.Naming.{on_stream}
+use Rattle.sctp_model.specs.refinement.Naming.{on_stream}
 use Rattle.sctp_link.proofs.upkeep.Facts.{over}
 use Rattle.sctp_link.proofs.receiver.Hears.{stream-ordered}
 use Rattle.sctp_link.proofs.upkeep.Observed.{encoded, kind-there}

@@ -11,8 +11,8 @@ use Rattle.sctp_link.proofs.Names.{with_names, standing_named, wire_skip, length
 use Rattle.sctp_link.proofs.Names.{named-from, skipped-number, skipped-size, at_or_before, Skips, skips-in, unless-refused}
 use Rattle.sctp_model.specs.declared.event.Event.TheVariants as E
 use Rattle.sctp_model.proofs.sender.Network
-use Rattle.sctp_refinement.specs.Naming.{on_stream}
-use Rattle.sctp_refinement.proofs.acknowledging.QuietSender
+use Rattle.sctp_model.specs.refinement.Naming.{on_stream}
+use Rattle.sctp_model.proofs.refinement.acknowledging.QuietSender
 use Rattle.sctp_receiver.specs.Receiver as R
 use Rattle.sctp_link.proofs.sides.Aligned.{reception-is, forward-aligned, forward-sides, standing-mapped, with-progress}
 use Rattle.sctp_link.proofs.sides.Joined.{progress-mapped}

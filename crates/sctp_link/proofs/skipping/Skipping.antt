@@ -4,7 +4,7 @@ use Rattle.sctp_link.proofs.Names.{named_from, none_named, standing_named, get_o
 use Rattle.sctp_link.proofs.Names.{◌∙◌, arith, filter, change_where, not_both, same-is, same-yes, greatest, Named, is_on, message_in, get_or_default}
 use Rattle.sctp_link.proofs.Names.{with_name, IsAbsent, IsOnlyPlace, set-changed}
 use Rattle.sctp_stream.proofs.StreamPlaces as Places
-use Rattle.sctp_progress.specs.Progress as Progress
+use Rattle.sctp_link.specs.Progress as Progress
 use Rattle.sctp_link.proofs.skipping.NamedTables.{name-next, name-other, on-other, on-none, stream-is}
 
 -- the index that is kept, where there is such a message

@@ -3,7 +3,7 @@ use Rattle.sctp_link.proofs.Names.{◌≡◌, ℕ, ◌+◌, ◌≤◌, List, len
 use Rattle.sctp_link.proofs.Names.{pending_bytes, in_flight_bytes, released_bytes, balances, amount, RefinesOutbound, Outbound, State, IsLinked}
 use Rattle.sctp_link.proofs.Names.{in-flight-bytes, total-wider}
 use Rattle.sctp_model.specs.Amounts.{on_stream}
-use Rattle.sctp_refinement.proofs.amounts.PendingBytes.{pending-bytes}
+use Rattle.sctp_model.proofs.refinement.amounts.PendingBytes.{pending-bytes}
 use Rattle.sctp_link.proofs.upkeep.Facts.{over}
 
 -- ## What is pending and in flight

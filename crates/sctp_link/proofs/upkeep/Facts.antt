@@ -1,6 +1,6 @@
 -- What the history that a link stands for tells of its record.
 use Rattle.sctp_link.proofs.Names.{ℕ, List, State, IsLinked, LinkRecord, record_of, Facts, Stands, Sends}
-use Rattle.sctp_refinement.proofs.Histories as Histories
+use Rattle.sctp_model.proofs.refinement.Histories as Histories
 
 abbrev pub told : {sum : List ℕ → ℕ} {x : State} → IsLinked sum x → Stands x.recorded
 told l = record { setup = l.setup; history = l.history; stands = l.stands }

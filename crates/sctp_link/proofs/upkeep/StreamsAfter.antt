@@ -4,7 +4,7 @@ use Rattle.sctp_link.proofs.Names.{numbers_from, total_over, Event, Setup, LinkR
 use Rattle.sctp_link.proofs.Names.{reply_to, after, IsSetup, Shape, shape, sent, parts, on, Same, reassembly_of, Filter, amount, keeps_amounts, counters_on}
 use Rattle.sctp_link.proofs.Names.{begun_on, Indexed, SameToSender, outbound-same, amount-same, OpenStream, stats_in, stream_numbers, State, IsLinked}
 use Rattle.sctp_link.proofs.Names.{IsOpenStream, stats_of, filter_shown, IsApart, stands-then}
-use Rattle.sctp_refinement.proofs.sending.Begun
+use Rattle.sctp_model.proofs.refinement.sending.Begun
 use Rattle.sctp_link.proofs.upkeep.Facts.{facts}
 use Rattle.sctp_link.proofs.sender.Beginning.{index_kept, indexed-of}
 use Rattle.sctp_link.proofs.upkeep.Frames.{encodings-same}

@@ -9,6 +9,7 @@ use super::streams::fragments_in;
 use super::{Link, memory};
 use crate::event::{LinkRefusal, Reply};
 use crate::record::{Message, Slot};
+use sctp_sender::replay;
 use sctp_util::error::Result;
 use sctp_util::util::Checksum;
 
@@ -36,7 +37,10 @@ impl<C: Checksum + Drop> Link<C> {
         ensures { result ≡ is_partially_sent self.now.recorded number }
     {
         let message = &self.messages[number];
-        let count = fragments_in(message.bytes.len(), self.sender.fragment_size() as usize);
+        let count = fragments_in(
+            message.bytes.len(),
+            replay::fragment_size(&self.sender) as usize,
+        );
         0 < message.sent && message.sent < count as u64 && !message.abandoned
     }
 
@@ -101,7 +105,7 @@ impl<C: Checksum + Drop> Link<C> {
             return Ok(Reply::Idle);
         }
         make_room(&mut self.slots, true)?;
-        let gone = match self.sender.expire_tail(now) {
+        let gone = match replay::expire_tail(&mut self.sender, now) {
             Ok(gone) => gone,
             Err(refusal) => return Err(memory(refusal)),
         };

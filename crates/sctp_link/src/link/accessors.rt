@@ -7,6 +7,7 @@ use super::Link;
 use sctp_queues::outbound_queue::OutboundQueue;
 use sctp_queues::payload_queue::PayloadQueue;
 use sctp_queues::reassembly_queue::ReassemblyQueue;
+use sctp_receiver::replay;
 use sctp_stream::stream::DataChannelStats;
 use sctp_util::util::Checksum;
 
@@ -32,8 +33,8 @@ impl<C: Checksum + Drop> Link<C> {
     ghost use Rattle.sctp_model.specs.Receiver.{cumulative};
     ghost use Rattle.sctp_model.specs.Contents.{cumulative_tsn};
     ghost use Rattle.sctp_model.specs.Queues.{pending_of, in_flight_of, filter_of};
-    ghost use Rattle.sctp_refinement.specs.Holds.{reassembly_of};
-    ghost use Rattle.sctp_refinement.specs.Refines.{shown, in_flight_shown, filter_held, sending_of, sendings_of};
+    ghost use Rattle.sctp_model.specs.refinement.Holds.{reassembly_of};
+    ghost use Rattle.sctp_model.specs.refinement.Refines.{shown, in_flight_shown, filter_held, sending_of, sendings_of};
     ghost use Rattle.sctp_link.specs.Linked.{stats_of, ledger_of};
 
     /// There is a history that the link stands for, of a setup that a link may have: so each law of `sctp_model`
@@ -67,15 +68,16 @@ impl<C: Checksum + Drop> Link<C> {
     pub fn buffered_amount(&self, stream: u16) -> Option<u64>
         ensures { result ≡ buffered_amount self.now.recorded stream }
     {
-        let amount = self.sender.buffered_amount(stream)?;
-        Some(amount as u64)
+        let state = self.sender.stream(stream)?;
+        Some(state.buffered_amount() as u64)
     }
 
     /// The counters of an open stream; None where it is not open.
     pub fn stats(&self, stream: u16) -> Option<DataChannelStats>
         ensures { result ≡ option_map stats_of (counters_of self.now.recorded stream) }
     {
-        let sent = self.sender.stats(stream)?;
+        let state = self.sender.stream(stream)?;
+        let sent = state.stats();
         let read = self.receiver.stats(stream)?;
         Some(DataChannelStats {
             stream_identifier: sent.stream_identifier,
@@ -105,7 +107,7 @@ impl<C: Checksum + Drop> Link<C> {
             (cumulative_tsn self.now.recorded (cumulative self.now.recorded)) result.now
             ≡ filter_of self.now.recorded }
     {
-        self.receiver.filter()
+        replay::filter(&self.receiver)
     }
 
     /// What came on an open stream and was not read; None where it is not open.
@@ -114,6 +116,6 @@ impl<C: Checksum + Drop> Link<C> {
             ≡ false) (λ q. (q.now.held ≡ reassembly_of self.now.recorded stream)
             × (q.now.si ≡ stream) × (q.now.max_message_size ≡ self.now.recorded.setup.largest)) }
     {
-        self.receiver.reassembly(stream)
+        replay::reassembly(&self.receiver, stream)
     }
 }

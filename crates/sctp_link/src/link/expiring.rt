@@ -4,6 +4,7 @@ ghost use Rattle.std.specs.Prelude.{◌≡◌};
 
 use super::Link;
 use crate::event::Reply;
+use sctp_sender::replay;
 use sctp_util::util::Checksum;
 
 impl<C: Checksum + Drop> Link<C> {
@@ -23,7 +24,7 @@ impl<C: Checksum + Drop> Link<C> {
         };
         let number = chunk.message_id as usize;
         let unordered = chunk.unordered;
-        let Some(gone) = self.sender.expire(now) else {
+        let Some(gone) = replay::expire(&mut self.sender, now) else {
             return Reply::Idle;
         };
         self.progress.record_expiry(gone.stream, unordered);

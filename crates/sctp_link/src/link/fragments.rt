@@ -7,19 +7,20 @@ ghost use Rattle.sctp_chunks.specs.declared.chunk.chunk_kind.ChunkKind.TheVarian
 ghost use Rattle.sctp_outbound.specs.pending_queue.PendingQueue.{next_pending};
 ghost use Rattle.sctp_outbound.specs.outbound_queue.OutboundQueue.{after_sends};
 ghost use Rattle.sctp_model.specs.Changes.{chunk_length};
-ghost use Rattle.sctp_refinement.specs.Filling.{chunks_taken};
+ghost use Rattle.sctp_model.specs.refinement.Filling.{chunks_taken};
 ghost use Rattle.sctp_link.specs.OpenStreams.{begun_of, fragment_slot, with_fragment, begun_by};
 ghost use Rattle.sctp_link.specs.Sends.{AreNoted, Outgoing, outgoing_of, started_from, CanSend, Leaves, Leave, SendsOnly};
 ghost use Rattle.sctp_serial.specs.DataChunks.{under_tsn};
 
 use super::streams::start_from;
+use crate::progress::Progress;
 use crate::record::{Message, Slot};
 use sctp_chunks::chunk::chunk_header::CHUNK_HEADER_SIZE;
 use sctp_chunks::chunk::chunk_kind::ChunkKind;
 use sctp_chunks::chunk::chunk_payload_data::{ChunkPayloadData, PAYLOAD_DATA_HEADER_SIZE};
 use sctp_packets::packet::PACKET_HEADER_SIZE;
-use sctp_progress::Progress;
 use sctp_queues::outbound_queue::OutboundQueue;
+use sctp_sender::replay;
 use sctp_sender::sender::Sender;
 use sctp_util::error::Result;
 use std::alloc::Global;
@@ -122,7 +123,7 @@ pub(super) fn send_fragments(
         sender.old.flight.queue.inflight.chunks sender.new.flight.queue.inflight.chunks }
     ensures rest { SendsOnly sender.old sender.new }
 {
-    sender.start(now);
+    replay::start(sender, now);
     start_from(messages, unstarted, now);
     take_fragments(sender, progress, messages, slots, now, count);
 }
@@ -179,7 +180,7 @@ fn take_next(
         unreachable!()
     };
     let number = chunk.message_id;
-    if sender.send_next_tsn_unbounded(now).is_err() {
+    if replay::send_next_tsn_unbounded(sender, now).is_err() {
         unreachable!()
     }
     let slot = take_fragment(&mut messages[number as usize], progress, number);

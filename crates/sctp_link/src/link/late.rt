@@ -3,7 +3,7 @@
 ghost use Rattle.std.specs.Prelude.{◌≡◌, ◌<◌, true, false, None, OnOk, OnErr, IfOk, IsOkUnless, find, length};
 ghost use Rattle.std.specs.List.{list_all};
 ghost use Rattle.sctp_util.specs.declared.error.Error.TheVariants.{ErrOutOfMemory};
-ghost use Rattle.sctp_refinement.specs.InTurn.{message_of_tsn, abandoned_tsn};
+ghost use Rattle.sctp_model.specs.refinement.InTurn.{message_of_tsn, abandoned_tsn};
 
 use super::Link;
 use crate::event::Reply;

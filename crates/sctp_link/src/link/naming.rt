@@ -12,6 +12,7 @@ use crate::record::{Datagram, Kind};
 use crate::skipped::pairs_of;
 use sctp_chunks::chunk::chunk_forward_tsn::ChunkForwardTsn;
 use sctp_chunks::chunk::chunk_kind::ChunkKind;
+use sctp_sender::replay;
 use sctp_util::error::Result;
 use sctp_util::util::Checksum;
 
@@ -82,7 +83,10 @@ impl<C: Checksum + Drop> Link<C> {
         ensures { result ≡ is_ended self.now.recorded number }
     {
         let message = &self.messages[number as usize];
-        let count = fragments_in(message.bytes.len(), self.sender.fragment_size() as usize);
+        let count = fragments_in(
+            message.bytes.len(),
+            replay::fragment_size(&self.sender) as usize,
+        );
         message.abandoned || message.sent == count as u64
     }
 

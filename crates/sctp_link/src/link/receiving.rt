@@ -17,6 +17,7 @@ use crate::event::{LinkRefusal, Reply};
 use crate::record::Kind;
 use sctp_queues::chunks::{Chunks, Fragments};
 use sctp_receiver::receiver::refusal::ReceiverRefusal;
+use sctp_receiver::replay;
 use sctp_util::error::{Error, Result};
 use sctp_util::util::Checksum;
 
@@ -28,7 +29,7 @@ impl<C: Checksum + Drop> Link<C> {
     ghost use Rattle.sctp_model.specs.Steps.{IsRight, refusal_of, is_for_receiver, arrival_fits};
     ghost use Rattle.sctp_model.specs.declared.event.Event.TheVariants as E;
     ghost use Rattle.sctp_link.specs.Replies.{reply_of};
-    ghost use Rattle.sctp_refinement.specs.Arriving.{LiesSomewhere, slot_fits};
+    ghost use Rattle.sctp_model.specs.refinement.Arriving.{LiesSomewhere, slot_fits};
 
     /// Why datagram k is not taken by the receiver, if it is not.
     pub(super) fn refusal_arrive(&self, k: u64) -> Option<LinkRefusal>
@@ -86,7 +87,7 @@ impl<C: Checksum + Drop> Link<C> {
         let Some(next) = self.progress.next_index(stream) else {
             unreachable!()
         };
-        let Some(queue) = self.receiver.reassembly(stream) else {
+        let Some(queue) = replay::reassembly(&self.receiver, stream) else {
             unreachable!()
         };
         let held = queue.ordered();

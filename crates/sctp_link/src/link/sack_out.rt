@@ -8,6 +8,7 @@ use crate::datagram::write_datagram;
 use crate::event::{LinkRefusal, Reply};
 use crate::record::{Datagram, Kind};
 use sctp_chunks::chunk::chunk_kind::ChunkKind;
+use sctp_receiver::replay;
 use sctp_util::error::{Error, Result};
 use sctp_util::util::Checksum;
 
@@ -24,7 +25,7 @@ impl<C: Checksum + Drop> Link<C> {
         ensures err { OnErr result (self.new.recorded ≡ self.old.recorded) }
         ensures memory { IsOkUnless result ErrOutOfMemory }
     {
-        let Ok(sack) = self.receiver.make_sack_with(credit) else {
+        let Ok(sack) = replay::make_sack(&self.receiver, credit) else {
             return Err(Error::ErrOutOfMemory);
         };
         let blocks = Vec::from_slice(self.alloc, &sack.gap_ack_blocks)?;

@@ -21,6 +21,7 @@ use crate::event::{LinkRefusal, Reply};
 use crate::record::{Datagram, Kind};
 use bytes::Bytes;
 use sctp_chunks::chunk::chunk_kind::ChunkKind;
+use sctp_sender::replay;
 use sctp_sender::sender::Sender;
 use sctp_util::error::Result;
 use sctp_util::util::Checksum;
@@ -155,6 +156,6 @@ fn write_again<C: Checksum>(
     };
     let chunk = chunk.try_clone()?;
     let bytes = write_datagram(alloc, ChunkKind::PayloadData(chunk), checksum)?;
-    sender.count_resend(tsn);
+    replay::count_resend(sender, tsn);
     Ok(bytes)
 }

@@ -10,6 +10,7 @@ use crate::event::Reply;
 use crate::record::Kind;
 use crate::skipped::{Named, named_on, named_on_each, record_names};
 use sctp_chunks::chunk::chunk_forward_tsn::ChunkForwardTsn;
+use sctp_receiver::replay;
 use sctp_util::error::Result;
 use sctp_util::util::Checksum;
 
@@ -21,7 +22,7 @@ impl<C: Checksum + Drop> Link<C> {
     ghost use Rattle.sctp_model.specs.Changes.{skip_counts, receive_skip};
     ghost use Rattle.sctp_model.specs.Steps.{IsRight, refusal_of, arrival_fits};
     ghost use Rattle.sctp_model.specs.declared.event.Event.TheVariants as E;
-    ghost use Rattle.sctp_refinement.specs.Naming.{names_fit, complete_first, min_with};
+    ghost use Rattle.sctp_model.specs.refinement.Naming.{names_fit, complete_first, min_with};
     ghost use Rattle.sctp_link.specs.Replies.{reply_of};
     ghost use Rattle.sctp_link.specs.declared.skipped.Named.{Named};
     ghost use Rattle.sctp_link.specs.Skips.{named_in, wire_skip};
@@ -102,7 +103,7 @@ impl<C: Checksum + Drop> Link<C> {
         ensures { result
             ≡ min_with (complete_first self.now.recorded (held_on self.now.recorded stream)) low }
     {
-        let Some(queue) = self.receiver.reassembly(stream) else {
+        let Some(queue) = replay::reassembly(&self.receiver, stream) else {
             unreachable!()
         };
         let held = queue.ordered();
@@ -152,7 +153,7 @@ impl<C: Checksum + Drop> Link<C> {
         let Kind::Forward { messages, .. } = &self.network[k as usize].kind else {
             unreachable!()
         };
-        let _ = self.receiver.forward_tsn_by_names(chunk);
+        let _ = replay::forward_tsn_by_names(&mut self.receiver, chunk);
         record_names(&mut self.progress, &self.messages, messages);
         self.skipped = upto as usize + 1;
     }

@@ -12,6 +12,7 @@ use crate::event::{LinkRefusal, Reply};
 use crate::record::{Message, Written};
 use bytes::Bytes;
 use sctp_chunks::chunk::chunk_payload_data::{PayloadProtocolIdentifier, ReliabilityType};
+use sctp_sender::replay;
 use sctp_stream::stream::StreamState;
 use sctp_util::error::{Error, Result};
 use sctp_util::util::Checksum;
@@ -74,10 +75,10 @@ impl<C: Checksum + Drop> Link<C> {
         if !self.is_open(stream) {
             return Some(LinkRefusal::StreamUnknown);
         }
-        if len > self.sender.max_message_size() as usize {
+        if len > replay::max_message_size(&self.sender) as usize {
             return Some(LinkRefusal::MessageTooLarge);
         }
-        let fragments = fragments_in(len, self.sender.fragment_size() as usize);
+        let fragments = fragments_in(len, replay::fragment_size(&self.sender) as usize);
         if self.fragments + fragments >= 0x8000_0000 {
             return Some(LinkRefusal::TsnsUsedUp);
         }
@@ -109,7 +110,7 @@ impl<C: Checksum + Drop> Link<C> {
             });
         }
         let len = bytes.len();
-        let count = fragments_in(len, self.sender.fragment_size() as usize);
+        let count = fragments_in(len, replay::fragment_size(&self.sender) as usize);
         self.messages.reserve(1)?;
         let Some(state) = self.sender.stream(stream) else {
             unreachable!()
@@ -137,7 +138,7 @@ impl<C: Checksum + Drop> Link<C> {
             (reply_of result) self.new.recorded }
         ensures checksum { self.new.checksum ≡ self.old.checksum }
     {
-        self.sender.start(now);
+        replay::start(&mut self.sender, now);
         start_from(&mut self.messages, self.unstarted, now);
         self.unstarted = self.messages.len();
         Reply::Started

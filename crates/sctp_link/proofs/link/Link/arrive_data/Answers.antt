@@ -11,7 +11,7 @@ use Rattle.sctp_link.specs.Replies.{reply_of}
 use Rattle.sctp_link.proofs.receiver.Comes.{said, said-fresh, says-data, places-kept, never-other, there-is}
 use Rattle.sctp_link.proofs.receiver.SlotLists.{Came, numbers-are, can, came}
 use Rattle.sctp_link.proofs.receiver.Received.{receiver-of, linked-received, right-received}
-use Rattle.sctp_refinement.proofs.arriving.AllCome.{all-come}
+use Rattle.sctp_model.proofs.refinement.arriving.AllCome.{all-come}
 use Rattle.sctp_link.proofs.link.Link.arrive_data.Given.{Over}
 use Rattle.sctp_link.proofs.link.Link.arrive_data.Goals.{After-index, In-Data, After-deref-4, In-Ok, After-record_arrivals-new}
 use Rattle.sctp_link.proofs.link.Link.arrive_data.Goals as goal

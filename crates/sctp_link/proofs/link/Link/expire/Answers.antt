@@ -2,10 +2,10 @@ use Rattle.sctp_link.proofs.Names.{◌≡◌, ◌<◌, ap, sym, ◌∙◌, subst
 use Rattle.sctp_link.proofs.Names.{next_pending, expired_of, change_where, with_expiry, IsLinked, Sides, IsAligned, sides, expired_unsent, Message, state_from}
 use Rattle.sctp_link.proofs.Names.{record_from, sides_in, message_record, progress_of}
 use Rattle.sctp_outbound.specs.outbound_queue.OutboundQueue.{expiring}
-use Rattle.sctp_progress.specs.Progress.{has_number}
+use Rattle.sctp_link.specs.Progress.{has_number}
 use Rattle.sctp_link.proofs.sides.Changes.{some-of, expired-aligned, expired-sides}
 use Rattle.sctp_link.proofs.abandonment.Expiring.{linked-expired, moves-expired}
-use Rattle.sctp_refinement.proofs.abandonment.QueueExpires.{idle-right, none-waits, none-past_deadline, shown-past_deadline, expires, Expires}
+use Rattle.sctp_model.proofs.refinement.abandonment.QueueExpires.{idle-right, none-waits, none-past_deadline, shown-past_deadline, expires, Expires}
 use Rattle.sctp_link.proofs.link.Link.expire.Given.{Over}
 use Rattle.sctp_link.proofs.link.Link.expire.Goals.{After-record_expiry}
 use Rattle.sctp_link.proofs.link.Link.expire.Goals as goal
@@ -29,8 +29,8 @@ record Gone (g : Over) (c : After-record_expiry g) : Type 0 where
   is : expiring c.args.now c.self.inside.sender.flight.queue ≡ Some c.in-Some.chunk.now
   told : Expires (sends c.self.invariant.1) c.args.now c.in-Some.chunk.now c.in-Some-expire.gone.bytes
   stream : c.in-Some-expire.gone.stream ≡ c.in-Some.chunk.now.stream_identifier
-  aligned : IsAligned c.expire.new.self c.self.inside.receiver c.record_expiry.new.self
-  both : sides c.expire.new.self c.self.inside.receiver c.record_expiry.new.self
+  aligned : IsAligned c.expire.new.sender c.self.inside.receiver c.record_expiry.new.self
+  both : sides c.expire.new.sender c.self.inside.receiver c.record_expiry.new.self
       ≡ expired_unsent c.in-Some.chunk.now c.in-Some-expire.gone.bytes (sides_in c.self.inside)
   lt : c.in-Some.chunk.now.message_id < length c.self.inside.messages.items
 
@@ -52,10 +52,10 @@ gone g c =
       is = is;
       told = told;
       stream = answered.0;
-      aligned = subst (λ ps. IsAligned c.expire.new.self c.self.inside.receiver ps) (sym progress)
-          (expired-aligned c.self.invariant.0 d bytes now c.expire.new.self answered.1);
-      both = ap (λ k. sides c.expire.new.self c.self.inside.receiver k) progress
-          ∙ expired-sides c.self.invariant.0 d bytes now c.expire.new.self answered.1;
+      aligned = subst (λ ps. IsAligned c.expire.new.sender c.self.inside.receiver ps) (sym progress)
+          (expired-aligned c.self.invariant.0 d bytes now c.expire.new.sender answered.1);
+      both = ap (λ k. sides c.expire.new.sender c.self.inside.receiver k) progress
+          ∙ expired-sides c.self.invariant.0 d bytes now c.expire.new.sender answered.1;
       lt = omega (arith, told.made, length-mapped message_record c.self.inside.messages.items);
     }
 

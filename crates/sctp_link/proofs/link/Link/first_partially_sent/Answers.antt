@@ -1,6 +1,6 @@
 use Rattle.sctp_link.proofs.Names.{◌≡◌, true, false, refl, ap, sym, ◌∙◌, arith, drop, find, slice_index_or, list_all, place_of, is_in_flight}
 use Rattle.sctp_link.proofs.Names.{is_partially_sent, message_of_tsn, each-of, record_in, found-step, found-none, ◌<◌, Bool, length, slot_at, slot_record}
-use Rattle.sctp_refinement.proofs.sending.FlyingTsn.{place-made}
+use Rattle.sctp_model.proofs.refinement.sending.FlyingTsn.{place-made}
 use Rattle.sctp_link.proofs.upkeep.Observed.{slot-message}
 use Rattle.sctp_link.proofs.link.Link.first_partially_sent.Given.{Over}
 use Rattle.sctp_link.proofs.link.Link.first_partially_sent.Goals.{After-index, After-is_partially_sent}

@@ -1,6 +1,6 @@
 use Rattle.sctp_link.proofs.Names.{◌≡◌, ◌<◌, ◌+◌, true, refl, ap, sym, ◌∙◌, arith, length, subst, find, list_all, late_tsns, place_of, is_in_flight}
 use Rattle.sctp_link.proofs.Names.{is_partially_sent, growth, message_of_tsn, abandoned_tsn, GivesInTurn, accepted-now, takes-none, goes-on, record_in, on-err}
-use Rattle.sctp_refinement.proofs.abandonment.LateTsns.{fly, takes, takes-unless, begun, done, turn-few}
+use Rattle.sctp_model.proofs.refinement.abandonment.LateTsns.{fly, takes, takes-unless, begun, done, turn-few}
 use Rattle.sctp_link.proofs.link.Link.late.Given.{Over}
 use Rattle.sctp_link.proofs.link.Link.late.Goals.{After-index, After-abandon_fully_sent-bytes}
 use Rattle.sctp_link.proofs.link.Link.late.Goals as goal

@@ -1,6 +1,6 @@
 use Rattle.sctp_link.proofs.Names.{◌≡◌, ℕ, ◌<◌, length, Some, ap, arith, ◌∙◌, slice_get, slice_index_or, get_or_default, Forward, Named, record_in, sides_in}
 use Rattle.sctp_link.proofs.Names.{stream_record, named_from, none_named, length-mapped}
-use Rattle.sctp_progress.specs.Progress.{fresh}
+use Rattle.sctp_link.specs.Progress.{fresh}
 use Rattle.sctp_link.proofs.sides.Aligned.{count-is}
 use Rattle.sctp_link.proofs.skipping.NamedOnEach.{named-there}
 use Rattle.sctp_link.proofs.link.Link.named_at.Goals as goal

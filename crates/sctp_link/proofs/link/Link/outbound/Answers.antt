@@ -1,4 +1,4 @@
-use Rattle.sctp_refinement.proofs.sending.Lent.{pending-shown, in-flight-shown}
+use Rattle.sctp_model.proofs.refinement.sending.Lent.{pending-shown, in-flight-shown}
 use Rattle.sctp_link.proofs.Names.{record_in}
 use Rattle.sctp_link.proofs.link.Link.outbound.Goals as goal
 

@@ -2,7 +2,7 @@ use Rattle.sctp_link.proofs.Names.{◌≡◌, ap, sym, ◌∙◌, true, false, r
 use Rattle.sctp_link.proofs.Names.{chunk_at, at_start, with_read, IsLinked, Sides, IsAligned, sides, on_stream, read_recorded, record_in, record_from}
 use Rattle.sctp_link.proofs.Names.{state_from, sides_in, message_record, progress_of, on_inbound, Some, stream_read, message_read, ppi-handed}
 use Rattle.sctp_model.specs.Reply as R
-use Rattle.sctp_progress.specs.Progress.{has_number}
+use Rattle.sctp_link.specs.Progress.{has_number}
 use Rattle.sctp_link.proofs.sides.Aligned.{open-is, read-message, read-aligned, read-sides, with-progress, standing-changed}
 use Rattle.sctp_link.proofs.sides.Changes.{read-recorded}
 use Rattle.sctp_link.proofs.receiver.Hears.{messages-made}

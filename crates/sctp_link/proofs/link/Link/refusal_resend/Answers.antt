@@ -1,6 +1,6 @@
 use Rattle.sctp_link.proofs.Names.{ap, sym, ◌∙◌, ◌≡◌, ◌%◌, ◌+◌, ◌-◌, ◌<◌, ◌^◌, not, length, None, arith, length-mapped, is_cleared, unless, NotInFlight}
 use Rattle.sctp_link.proofs.Names.{record_in, slot_record}
-use Rattle.sctp_refinement.proofs.sending.Resending.{can-resend}
+use Rattle.sctp_model.proofs.refinement.sending.Resending.{can-resend}
 use Rattle.sctp_link.proofs.link.Link.refusal_resend.Goals as goal
 
 pub is_cleared-requires : goal.is_cleared-requires

@@ -9,7 +9,7 @@ invariant_of-self g c =
     let same : length c.start_from.new.messages ≡ vec_len ms = search rules in
     let is : (with_items ms c.start_from.new.messages).items ≡ start_from c.self.inside.unstarted c.args.now ms.items =
     with_items_is ms c.start_from.new.messages same ∙ c.start_from.ensures ∙ ap (start_from c.self.inside.unstarted c.args.now) c.deref_mut.ensures.value in (
-      flight-aligned c.self.invariant.0 c.start.new.self
+      flight-aligned c.self.invariant.0 c.start.new.sender
           (with_queue c.self.inside.sender.flight (all_started c.args.now c.self.inside.sender.flight.queue)) c.start.ensures,
       rw c.start.ensures (linked-starts c.args.now ms.items (with_items ms c.start_from.new.messages).items c.len-self-inside.result
           (all_started c.args.now c.self.inside.sender.flight.queue) c.self.invariant.1 refl refl is (search rules) refl),

@@ -1,5 +1,5 @@
 use Rattle.sctp_link.proofs.Names.{◌≡◌, rules, None, refusal_of}
-use Rattle.sctp_refinement.proofs.Wants.{may-want}
+use Rattle.sctp_model.proofs.refinement.Wants.{may-want}
 use Rattle.sctp_link.proofs.link.Link.step.Goals as goal
 
 pub returns-in-Err-clause-answers : goal.returns-in-Err-clause-answers

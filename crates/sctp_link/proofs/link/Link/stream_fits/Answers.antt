@@ -2,7 +2,7 @@ use Rattle.sctp_link.proofs.Names.{length-mapped, ◌≡◌, ℕ, ◌+◌, ◌<�
 use Rattle.sctp_link.proofs.Names.{nat_lt, StreamRecord, is_open, index_of, held_on, next_of, least, greatest, names_fit, complete_first, IsAligned}
 use Rattle.sctp_link.proofs.Names.{OpenStream, new_open_stream, min_with, Inside, Named, record_in, state_in, sides_in, stream_record, named_in, Judged}
 use Rattle.sctp_link.proofs.Names.{judged, lowest-short}
-use Rattle.sctp_progress.specs.Progress.{fresh}
+use Rattle.sctp_link.specs.Progress.{fresh}
 use Rattle.sctp_link.proofs.sides.Aligned.{count-is}
 use Rattle.sctp_link.proofs.sides.Changes.{number-answered}
 use Rattle.sctp_link.proofs.skipping.SkipComes.{open-at, record-at}

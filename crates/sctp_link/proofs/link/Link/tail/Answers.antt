@@ -95,7 +95,7 @@ index_mut-message-requires g c =
 
 -- What becomes of its message.
 gone : (g : Over) (c : After-settle g) → Settled (g.C.Checksum.sum c.self.inside.checksum) c.self.inside (E.Tail c.args.now) c.in-Some-gone.gone.bytes
-    c.expire_tail.new.self (slice_set c.self.inside.messages.items c.in-Some-gone.gone.number c.settle.new.message) c.settle.new.slots.items
+    c.expire_tail.new.sender (slice_set c.self.inside.messages.items c.in-Some-gone.gone.number c.settle.new.message) c.settle.new.slots.items
     × (tailing (record_in c.self.inside) c.args.now ≡ Some c.in-Some-gone.gone.number)
     × (c.in-Some-gone.gone.stream ≡ (message_at (record_in c.self.inside) c.in-Some-gone.gone.number).stream)
 gone g c =
@@ -110,13 +110,13 @@ gone g c =
     let made : n < length (record_in c.self.inside).messages = let m = (next-is (sends l) c.in-Some.chunk.now shown).made in omega (arith, m, number) in
     let due : tailing (record_in c.self.inside) now ≡ Some n = late ∙ ap Some (sym number) in
     let sent = some-of _ c.in-Ok.gone c.in-Some-gone.gone c.in-Some-gone.is c.in-Ok.ensures.some in
-    let left = left-of c.expire_tail.new.self c.self.inside.sender c.in-Ok.gone c.in-Some-gone.gone c.in-Some-gone.is c.in-Ok.ensures.released _ sent in
+    let left = left-of c.expire_tail.new.sender c.self.inside.sender c.in-Ok.gone c.in-Some-gone.gone c.in-Some-gone.is c.in-Ok.ensures.released _ sent in
     let r = gives-tail (sends l) now n due c.in-Some-gone.gone.stream c.in-Some-gone.gone.bytes
     (after_abandonment (message_of o) c.self.inside.sender.flight).queue (after_abandonment (message_of o) c.self.inside.sender.flight).next_tsn
     made answered.stream refl refl left in
     let partial : true ≡ is_partially_sent (record_in c.self.inside) n = partial-front (sends l) now c.in-Some.chunk.now shown c.if-chunk.false
     ∙ ap (is_partially_sent (record_in c.self.inside)) (sym number) in (
-      settled c.self.inside c.self.invariant.0 l (E.Tail now) refl (message_of o) r tt tt refl refl c.expire_tail.new.self sent
+      settled c.self.inside c.self.invariant.0 l (E.Tail now) refl (message_of o) r tt tt refl refl c.expire_tail.new.sender sent
           c.index_mut-message.result.now c.settle.new.message c.settle.new.slots.items true c.index_mut-message.ensures.value c.settle.ensures.message partial
           (c.settle.ensures.slots ∙ ap (λ a. a ++ terminals true n c.index_mut-message.result.now.sent) c.make_room.ensures.items),
       due,

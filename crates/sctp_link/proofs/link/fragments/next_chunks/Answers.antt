@@ -1,7 +1,7 @@
 use Rattle.sctp_link.proofs.Names.{◌≡◌, ◌≤◌, ◌+◌, ◌-◌, ◌/◌, map, ◌∷◌, ◌++◌, [], Some, None, length, rules, sym, arith, IfSome, subst, ChunkPayloadData}
 use Rattle.sctp_link.proofs.Names.{next_pending, after_sends, chunk_length, further, chunks_taken, following_tsn, under_tsn}
 use Rattle.sctp_chunks.specs.declared.chunk.chunk_kind.ChunkKind.TheVariants as C
-use Rattle.sctp_refinement.proofs.sending.Ahead.{begins, goes-on, stops-none, stops-full}
+use Rattle.sctp_model.proofs.refinement.sending.Ahead.{begins, goes-on, stops-none, stops-full}
 use Rattle.sctp_link.proofs.link.fragments.next_chunks.Goals as goal
 
 pub chunk_length-used-requires : goal.chunk_length-used-requires

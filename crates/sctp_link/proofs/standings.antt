@@ -1,0 +1,3 @@
+pub mod Kept
+pub mod Rooms
+pub mod Completions

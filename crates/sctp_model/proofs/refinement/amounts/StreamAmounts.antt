@@ -1,0 +1,220 @@
+-- What a stream still has to send or to see acknowledged, after each event.
+use Rattle.std.proofs.Common.{◌≡◌, ℕ, ◌+◌, ◌-◌, ◌<◌, ◌^◌, Bool, true, false, List, [], ◌∷◌, length, get_or, Option, Some, None, refl, ap, sym, ◌∙◌, arith}
+use Rattle.std.proofs.Math.Path.{fun_ext}
+use Rattle.std.specs.Prelude.{if◌then◌else◌, ◌==◌, ◌&&◌, ◌||◌, not, nat_le, nat_lt, find, is_some, unwrap_or, slice_get, slice_index_or}
+use Rattle.sctp_util.specs.Kept.{numbers_where, total_over}
+use Rattle.sctp_util.specs.Lists.{pieces}
+use Rattle.sctp_util.proofs.Cases.{by_same, same-yes, same-is}
+use Rattle.sctp_util.proofs.Getting.{length-mapped}
+use Rattle.sctp_util.proofs.Passing.{kept-same, kept-none}
+use Rattle.sctp_util.proofs.More.{fails, not_both, kept-short}
+use Rattle.sctp_util.proofs.Totals.{total-plus, total-kept_same}
+use Rattle.sctp_data.specs.declared.chunk.chunk_payload_data.PayloadProtocolIdentifier.{PayloadProtocolIdentifier}
+use Rattle.sctp_model.specs.declared.event.Event.{Event}
+use Rattle.sctp_model.specs.declared.event.Event.TheVariants as E
+use Rattle.sctp_model.specs.declared.event.LinkRefusal.TheVariants.{StreamUnknown, MessageTooLarge, TsnsUsedUp}
+use Rattle.sctp_model.specs.LinkRecord.{Setup, StreamRecord, Message, LinkRecord}
+use Rattle.sctp_model.specs.Messages.{message_at, slot_at, message_of, messages_where, slots_where, is_open, stream_of, no_stream, no_message, front}
+use Rattle.sctp_model.specs.Receiver.{next_read}
+use Rattle.sctp_model.specs.Amounts.{is_expired_or_abandoned, written_bytes, unsent_bytes, unacknowledged_bytes, acknowledged_bytes, pending_bytes}
+use Rattle.sctp_model.specs.Amounts.{in_flight_bytes}
+use Rattle.sctp_model.specs.Changes
+use Rattle.sctp_model.specs.Changes.{message_on, after_write}
+use Rattle.sctp_model.specs.Steps.{refusal_of, after, unless, fragments_accepted, fragments_in}
+use Rattle.sctp_model.specs.Laws.{IsSetup}
+use Rattle.sctp_model.proofs.sender.Shape.{Shape, shape, has}
+use Rattle.sctp_model.proofs.sender.Sender.{Sender}
+use Rattle.sctp_model.proofs.sender.SenderRun.{Consistent, consistent-after, unless-holds, found}
+use Rattle.sctp_model.proofs.sender.Shapes
+use Rattle.sctp_model.proofs.sender.Moves
+use Rattle.sctp_model.proofs.sender.Moves.{Quiet}
+use Rattle.sctp_model.proofs.sender.Network
+use Rattle.sctp_model.proofs.acknowledgement.Acknowledged.{as-datagram, as-read}
+use Rattle.sctp_model.proofs.acknowledgement.Bytes.{balance, size-some}
+use Rattle.sctp_model.proofs.acknowledgement.BytesAnswered.{messages-sent}
+use Rattle.sctp_model.specs.refinement.Amount.{amount, keeps_amounts, stream_of_slot, bytes_at, acknowledged_at}
+use Rattle.sctp_model.proofs.refinement.amounts.MessageSums.{is_on, sum_where, sum-written, sum-same}
+use Rattle.sctp_model.proofs.refinement.acknowledging.Unacked.{bytes_where, bytes-by_slot, pending_on_by}
+use Rattle.sctp_model.proofs.refinement.sending.InLine.{message-before}
+
+-- ## What neither expired nor was abandoned is still to be sent, or acknowledged
+
+-- the bytes of a message that neither expired nor was abandoned
+abbrev alive_bytes : Message → ℕ
+alive_bytes m = if m.expired || m.abandoned then 0 else length m.bytes
+
+abbrev acked_on : LinkRecord → ℕ → ℕ
+acked_on w t = total_over (bytes_at w) (slots_where w (λ p. acknowledged_at w p && (stream_of_slot w p == t)))
+
+amount-rest : (w : LinkRecord) (t : ℕ) → Sender (shape w) → 0 < w.setup.size → amount w t + acked_on w t ≡ sum_where w (is_on t) alive_bytes
+amount-rest w t s pos =
+    let q : ℕ → Bool = λ n. (message_at w n).stream == t in
+    let two : ℕ → ℕ = λ n. pending_bytes w n + in_flight_bytes w n in
+    let a = total-plus (pending_bytes w) (in_flight_bytes w) two q 0 (length w.messages) (λ n i j. refl) in
+    let b = total-plus two (bytes_where w (acknowledged_at w)) (λ n. alive_bytes (message_at w n)) q 0 (length w.messages)
+    (λ n i j. each n (is_expired_or_abandoned w n) (balance w n s pos (omega arith))) in
+    let c = bytes-by_slot w q (acknowledged_at w) s in
+    omega (arith, a, b, c)
+  where
+    each : (n : ℕ) (g : Bool)
+        → (if g then 0 else unsent_bytes w n) + (if g then 0 else unacknowledged_bytes w n) + (if g then written_bytes w n else acknowledged_bytes w n)
+        ≡ written_bytes w n → (if g then 0 else unsent_bytes w n) + (if g then 0 else unacknowledged_bytes w n) + (if g then 0 else acknowledged_bytes w n)
+        ≡ (if g then 0 else written_bytes w n)
+    each n true e = refl
+    each n false e = e
+
+-- ## The sender's events
+
+-- what a slot holds, by its parts
+abbrev held_by : ℕ → Bool → Bool → List ℕ → ℕ → ℕ
+held_by size terminal gone bytes fragment = if terminal || gone then 0 else length (get_or (pieces (length bytes) size bytes) fragment [])
+
+abbrev SameGone : LinkRecord → LinkRecord → Type 0
+SameGone w v = (n : ℕ) → n < length w.messages → is_expired_or_abandoned v n ≡ is_expired_or_abandoned w n
+
+module _ (w v : LinkRecord) (s : Sender (shape w)) (q : Quiet w v) (gone : SameGone w v) where
+  bytes_at-quiet : (p : ℕ) → p < length w.slots → bytes_at v p ≡ bytes_at w p
+  bytes_at-quiet p lt =
+      let n = message_of w p in
+      let made = s.made p lt in
+      let bytes : (message_at v n).bytes ≡ (message_at w n).bytes = ap (λ m. m.bytes) (q.grows.message n made) in
+      ap (λ y. held_by v.setup.size y.is_terminal_chunk (is_expired_or_abandoned v y.message) (message_at v y.message).bytes y.fragment) (q.grows.slot p lt)
+      ∙ ap (λ b. held_by v.setup.size (slot_at w p).is_terminal_chunk b (message_at v n).bytes (slot_at w p).fragment) (gone n made)
+      ∙ ap (λ l. held_by v.setup.size (slot_at w p).is_terminal_chunk (is_expired_or_abandoned w n) l (slot_at w p).fragment) bytes
+      ∙ ap (λ k. held_by k (slot_at w p).is_terminal_chunk (is_expired_or_abandoned w n) (message_at w n).bytes (slot_at w p).fragment) q.grows.size
+
+  stream-quiet : (p : ℕ) → p < length w.slots → stream_of_slot v p ≡ stream_of_slot w p
+  stream-quiet p lt = ap (λ y. (message_at v y.message).stream) (q.grows.slot p lt) ∙ ap (λ m. m.stream) (q.grows.message (message_of w p) (s.made p lt))
+
+  acked-quiet : (t : ℕ) → acked_on v t ≡ acked_on w t
+  acked-quiet t =
+      let c : ℕ → Bool = λ p. acknowledged_at v p && (stream_of_slot v p == t) in
+      let more : length v.slots ≡ length w.slots + (length v.slots - length w.slots) = omega (arith, q.grows.slots) in
+      ap (total_over (bytes_at v)) (kept-short c 0 (length w.slots) (length v.slots - length w.slots) (length v.slots) more
+      (λ k a b. ap (λ d. d && (stream_of_slot v k == t)) (q.fresh k (omega arith) (omega arith))))
+      ∙ total-kept_same (bytes_at v) (bytes_at w) c 0 (length w.slots) (λ k a b. bytes_at-quiet k (omega arith))
+      ∙ ap (total_over (bytes_at w)) (kept-same c (λ p. acknowledged_at w p && (stream_of_slot w p == t)) 0 (length w.slots) (λ k a b.
+      ap (λ d. d && (stream_of_slot v k == t)) (q.acknowledged k (omega arith)) ∙ ap (λ r. acknowledged_at w k && (r == t)) (stream-quiet k (omega arith))))
+
+  alive-quiet : (t : ℕ) → length v.messages ≡ length w.messages → sum_where v (is_on t) alive_bytes ≡ sum_where w (is_on t) alive_bytes
+  alive-quiet t count =
+      sum-same w v (is_on t) alive_bytes count
+      (λ n lt. ap (λ m. m.stream == t) (q.grows.message n lt))
+      (λ n lt. ap (λ b. if b then 0 else length (message_at v n).bytes) (gone n lt)
+      ∙ ap (λ m. if is_expired_or_abandoned w n then 0 else length m.bytes) (q.grows.message n lt))
+
+-- where the sender gives nothing up and writes nothing, each stream has as much to send or to see acknowledged as before
+pub amount-quiet : (setup : Setup) (w v : LinkRecord) (t : ℕ) → IsSetup setup → Consistent setup w → Consistent setup v → Quiet w v → SameGone w v
+    → length v.messages ≡ length w.messages → amount v t ≡ amount w t
+amount-quiet setup w v t is g h q gone count =
+    let a = amount-rest w t g.sender (size-some setup w is g) in
+    let b = amount-rest v t h.sender (size-some setup v is h) in
+    let c = acked-quiet w v g.sender q gone t in
+    let d = alive-quiet w v g.sender q gone t count in
+    omega (arith, a, b, c, d)
+
+-- ## Writes
+
+gone-wrote : (w : LinkRecord) (s : ℕ) (ppi : PayloadProtocolIdentifier) (bytes : List ℕ) → SameGone w (after_write w s ppi bytes)
+gone-wrote w s ppi [] n lt = refl
+gone-wrote w s ppi (b ∷ bs) n lt = ap (λ m. m.expired || m.abandoned) (message-before w (message_on w (stream_of w s) ppi (b ∷ bs)) n lt)
+
+-- an open stream's record has its number
+pub stream-open : (w : LinkRecord) (s : ℕ) → is_open w s ≡ true → (stream_of w s).stream ≡ s
+stream-open w s e = by (find (λ r. r.stream == s) w.streams) refl e
+  where
+    by : (o : Option StreamRecord) → find (λ r. r.stream == s) w.streams ≡ o → is_some o ≡ true → (unwrap_or o (no_stream s)).stream ≡ s
+    by None f h = cc
+    by (Some r) f h = found s w.streams r f
+
+-- the stream of an accepted write is open
+pub write-open : (w : LinkRecord) (s : ℕ) (ppi : PayloadProtocolIdentifier) (bytes : List ℕ) → refusal_of w (E.Write s ppi bytes) ≡ None → is_open w s ≡ true
+write-open w s ppi bytes ok = (unless-holds (is_open w s) StreamUnknown (unless (nat_le (length bytes) w.setup.largest) MessageTooLarge
+    (unless (nat_lt (fragments_accepted w + fragments_in w bytes) (2 ^ 31)) TsnsUsedUp None)) ok).0
+
+pub same-turned : (s t : ℕ) → (s == t) ≡ (t == s)
+same-turned s t = by_same s t (λ e. ap (λ k. k == t) e ∙ same-yes t ∙ sym (ap (λ k. t == k) e ∙ same-yes t))
+    (λ ne f. f ∙ sym (fails (t == s) (λ e. ne (sym (same-is t s e)))))
+
+alive-wrote : (w : LinkRecord) (s t : ℕ) (ppi : PayloadProtocolIdentifier) (bytes : List ℕ) → (stream_of w s).stream ≡ s
+    → sum_where (after_write w s ppi bytes) (is_on t) alive_bytes ≡ sum_where w (is_on t) alive_bytes + (if t == s then length bytes else 0)
+alive-wrote w s t ppi [] e = none (t == s) (sum_where w (is_on t) alive_bytes)
+  where
+    none : (b : Bool) (k : ℕ) → k ≡ k + (if b then 0 else 0)
+    none true k = omega arith
+    none false k = omega arith
+alive-wrote w s t ppi (b ∷ bs) e =
+    sum-written w (message_on w (stream_of w s) ppi (b ∷ bs)) (is_on t) alive_bytes
+    ∙ ap (λ k. sum_where w (is_on t) alive_bytes + (if k == t then length (b ∷ bs) else 0)) e
+    ∙ ap (λ c. sum_where w (is_on t) alive_bytes + (if c then length (b ∷ bs) else 0)) (same-turned s t)
+
+-- a write adds its bytes to its stream
+pub amount-wrote : (setup : Setup) (w : LinkRecord) (s t : ℕ) (ppi : PayloadProtocolIdentifier) (bytes : List ℕ) → IsSetup setup → Consistent setup w
+    → refusal_of w (E.Write s ppi bytes) ≡ None → amount (after_write w s ppi bytes) t ≡ amount w t + (if t == s then length bytes else 0)
+amount-wrote setup w s t ppi bytes is g ok =
+    let v = after_write w s ppi bytes in
+    let h = consistent-after setup w (E.Write s ppi bytes) ok g in
+    let a = amount-rest w t g.sender (size-some setup w is g) in
+    let b = amount-rest v t h.sender (size-some setup v is h) in
+    let c = acked-quiet w v g.sender (Moves.quiet-written setup w s ppi bytes g) (gone-wrote w s ppi bytes) t in
+    let d = alive-wrote w s t ppi bytes (stream-open w s (write-open w s ppi bytes ok)) in
+    omega (arith, a, b, c, d)
+
+-- ## The other events
+
+gone-sent : (w : LinkRecord) (now : ℕ) (o : Option ℕ) → SameGone w (Changes.send_from (Changes.after_start w now) o)
+gone-sent w now None n lt = ap (λ x. (x.message n).expired || (x.message n).abandoned) (Shapes.shape-started w now)
+gone-sent w now (Some k) n lt =
+    ap (λ ms. (slice_index_or ms n no_message).expired || (slice_index_or ms n no_message).abandoned) (messages-sent (Changes.after_start w now))
+    ∙ ap (λ x. (x.message n).expired || (x.message n).abandoned) (Shapes.shape-started w now)
+
+pub count-sent : (w : LinkRecord) (now : ℕ) (o : Option ℕ) → length (Changes.send_from (Changes.after_start w now) o).messages ≡ length w.messages
+count-sent w now None = length-mapped (Changes.start_lifetime now) w.messages
+count-sent w now (Some k) = ap length (messages-sent (Changes.after_start w now)) ∙ length-mapped (Changes.start_lifetime now) w.messages
+
+pub amount-sent : (setup : Setup) (w : LinkRecord) (now t : ℕ) → IsSetup setup → Consistent setup w → amount (Changes.after_send w now) t ≡ amount w t
+amount-sent setup w now t is g = amount-quiet setup w (Changes.after_send w now) t is g (consistent-after setup w (E.Send now) refl g)
+    (Moves.quiet-sent setup w now (front w) g) (gone-sent w now (front w)) (count-sent w now (front w))
+
+-- the amount, over the shape of the record and what is acknowledged
+abbrev in_flight_by : Shape → (ℕ → Bool) → ℕ → ℕ
+in_flight_by x a n = if (x.message n).expired || (x.message n).abandoned then 0
+    else total_over (λ p. length (get_or (pieces (length (x.message n).bytes) x.size (x.message n).bytes) (x.slot p).fragment []))
+    (numbers_where (λ p. has x n p && not (a p)) 0 x.slots)
+
+abbrev amount_by : Shape → (ℕ → Bool) → ℕ → ℕ
+amount_by x a t = pending_on_by x t + total_over (in_flight_by x a) (numbers_where (λ n. (x.message n).stream == t) 0 x.count)
+
+pub amount-shape : (w v : LinkRecord) (t : ℕ) → shape v ≡ shape w → ((p : ℕ) → acknowledged_at v p ≡ acknowledged_at w p) → amount v t ≡ amount w t
+amount-shape w v t e a = ap (λ x. amount_by x (acknowledged_at v) t) e ∙ ap (λ f. amount_by (shape w) f t) (fun_ext a)
+
+-- what is no write, gives nothing up and acknowledges nothing leaves each stream as it was
+pub amount-same : (setup : Setup) (w : LinkRecord) (e : Event) (t : ℕ) → IsSetup setup → Consistent setup w → keeps_amounts e ≡ true
+    → amount (after w e) t ≡ amount w t
+amount-same setup w (E.Open s) t is g k = refl
+amount-same setup w (E.Mode s a b c) t is g k = refl
+amount-same setup w (E.Write s a b) t is g k = cc
+amount-same setup w (E.Start now) t is g k = amount-shape w (Changes.after_start w now) t (Shapes.shape-started w now) (λ p. refl)
+amount-same setup w (E.Send now) t is g k = amount-sent setup w now t is g
+amount-same setup w (E.Resend a) t is g k = refl
+amount-same setup w (E.Expire a) t is g k = cc
+amount-same setup w (E.Tail a) t is g k = cc
+amount-same setup w (E.Late a) t is g k = cc
+amount-same setup w (E.Abandon a) t is g k = cc
+amount-same setup w (E.Skip a b) t is g k = refl
+amount-same setup w (E.Ack a) t is g k = refl
+amount-same setup w (E.Arrive a) t is g k =
+    amount-shape w (after w (E.Arrive a)) t (Network.same-received w (slice_get w.network a)).shape_is (as-datagram w (slice_get w.network a)).slots
+amount-same setup w (E.Acked a) t is g k = cc
+amount-same setup w (E.Read s) t is g k =
+    amount-shape w (after w (E.Read s)) t (Network.same-read w s (next_read w s)).shape_is (as-read w s (next_read w s)).slots
+
+-- ## A stream that is not open
+
+pub none-written : (setup : Setup) (w : LinkRecord) (t : ℕ) → Consistent setup w → is_open w t ≡ false
+    → messages_where w (λ n. (message_at w n).stream == t) ≡ []
+none-written setup w t g e = kept-none (λ n. (message_at w n).stream == t) 0 (length w.messages) (λ n a b.
+    fails ((message_at w n).stream == t) (λ h. not_both (sym e ∙ ap (is_open w) (sym (same-is (message_at w n).stream t h)) ∙ g.known n (omega arith))))
+
+pub amount-none : (setup : Setup) (w : LinkRecord) (t : ℕ) → Consistent setup w → is_open w t ≡ false → amount w t ≡ 0
+amount-none setup w t g e = ap (λ l. total_over (pending_bytes w) l + total_over (in_flight_bytes w) l) (none-written setup w t g e)

@@ -1,0 +1,102 @@
+-- An arrival leaves the parts of a reassembly queue that it does not concern.
+use Rattle.std.proofs.Common.{◌≡◌, ℕ, ◌<◌, ◌≤◌, Bool, true, false, List, [], ◌∷◌, length, map, refl, ap, sym, ◌∙◌, inl, inr, arith}
+use Rattle.std.specs.Prelude.{◌⊎◌, ◌==◌, ◌&&◌, ◌||◌, not, nat_lt, nat_le}
+use Rattle.std.proofs.lemmas.Bool.{cases_lt}
+use Rattle.sctp_util.specs.Kept.{numbers_where}
+use Rattle.sctp_util.proofs.Passing.{kept-same, map-kept-same}
+use Rattle.sctp_model.specs.LinkRecord.{LinkRecord}
+use Rattle.sctp_model.specs.Messages.{message_at, message_of, stream_of, is_ordered_on, index_of, has_fragment, slots_of, is_unordered_on}
+use Rattle.sctp_model.specs.Receiver.{arrived_at, arrived_of, is_complete_message, is_unread, is_held}
+use Rattle.sctp_data.specs.ChunkSet.{ChunkSet}
+use Rattle.sctp_model.specs.Contents.{chunk_at}
+use Rattle.sctp_model.specs.Queues.{set_of, complete_set_of, is_unassembled}
+use Rattle.sctp_model.specs.refinement.Holds.{ordered_sets, complete_sets, unassembled_chunks}
+use Rattle.sctp_util.proofs.More.{fails, not_both, both}
+use Rattle.sctp_model.proofs.refinement.arriving.Arrival
+use Rattle.sctp_model.proofs.refinement.arriving.Arrival.{with_arrived}
+
+pub map-all : {A B : Type 0} (f g : A → B) (xs : List A) → ((x : A) → f x ≡ g x) → map f xs ≡ map g xs
+map-all f g [] same = refl
+map-all f g (x ∷ xs) same = rw (same x, map-all f g xs same) refl
+
+-- one of two places
+pub by_place : {C : Type 0} (k p : ℕ) → ((k ≡ p → ⊥) → C) → (k ≡ p → C) → C
+by_place {C} k p other same = step (cases_lt k p) (cases_lt p k)
+  where
+    step : (k < p) ⊎ (p ≤ k) → (p < k) ⊎ (k ≤ p) → C
+    step (inl l) t = other (λ e. omega arith)
+    step (inr g) (inl l) = other (λ e. omega arith)
+    step (inr g) (inr l) = same (omega arith)
+
+pub slots_of-arrived : (w : LinkRecord) (p n : ℕ) → slots_of (with_arrived w p) n ≡ slots_of w n
+slots_of-arrived w p n =
+    ap (numbers_where (has_fragment (with_arrived w p) n) 0) (Arrival.count-arrived w p)
+    ∙ kept-same (has_fragment (with_arrived w p) n) (has_fragment w n) 0 (length w.slots) (λ k a b. Arrival.has_fragment-arrived w p n k)
+
+pub complete_set_of-arrived : (w : LinkRecord) (p n : ℕ) → complete_set_of (with_arrived w p) n ≡ complete_set_of w n
+complete_set_of-arrived w p n =
+    let chunks : map (chunk_at (with_arrived w p)) (slots_of (with_arrived w p) n) ≡ map (chunk_at w) (slots_of w n) =
+    map-all (chunk_at (with_arrived w p)) (chunk_at w) (slots_of (with_arrived w p) n) (λ k. Arrival.chunk_at-arrived w p k)
+    ∙ ap (map (chunk_at w)) (slots_of-arrived w p n) in
+    ap (λ c. let x : ChunkSet = record { ssn = 0; ppi = (message_at w n).ppi; chunks = c } in x) chunks
+
+pub complete_sets-arrived : (w : LinkRecord) (p s : ℕ) → complete_sets (with_arrived w p) s ≡ complete_sets w s
+complete_sets-arrived w p s = map-all (complete_set_of (with_arrived w p)) (complete_set_of w) (stream_of w s).complete (λ n. complete_set_of-arrived w p n)
+
+-- the ordered sets, where the slot is of no ordered message of the stream
+pub ordered_sets-elsewhere : (w : LinkRecord) (p s : ℕ) → is_ordered_on w s (message_of w p) ≡ false → ordered_sets (with_arrived w p) s ≡ ordered_sets w s
+ordered_sets-elsewhere w p s off =
+    map-kept-same (set_of (with_arrived w p)) (set_of w) (is_held (with_arrived w p) s) (is_held w s) 0 (length w.messages)
+    (λ k a b. by_place {C = is_held (with_arrived w p) s k ≡ is_held w s k} k (message_of w p)
+    (λ ne. Arrival.is_held-elsewhere w p s k (λ e. ne (sym e)))
+    (λ e. let no : is_ordered_on w s k ≡ false = rw e off in rw no refl))
+    (λ k a b held. Arrival.set_of-elsewhere w p k (λ e. not_both (sym off ∙ rw e (on k held))))
+  where
+    on : (k : ℕ) → is_held (with_arrived w p) s k ≡ true → is_ordered_on w s k ≡ true
+    on k e = (both (is_ordered_on w s k) (is_unread w k
+        && (nat_lt 0 (arrived_of (with_arrived w p) k) && (is_complete_message (with_arrived w p) k || nat_le (stream_of w s).named (index_of w k)))) e).0
+
+-- whether an unordered message is complete is told by its stream and by whether it was read
+pub complete-unordered : (w : LinkRecord) (p n : ℕ) → (message_at w n).ordered ≡ false → is_complete_message (with_arrived w p) n ≡ is_complete_message w n
+complete-unordered w p n e = rw e refl
+
+-- whether a place is unassembled, by the message there and whether it arrived
+abbrev pub unassembled_as : LinkRecord → ℕ → ℕ → ℕ → Bool → Bool
+unassembled_as v s k n arrived = arrived && (nat_le v.skipped k && (is_unordered_on v s n && not (is_complete_message v n)))
+
+-- other places are unassembled as they were
+pub unassembled-other : (w : LinkRecord) (p s k : ℕ) → (k ≡ p → ⊥) → is_unassembled (with_arrived w p) s k ≡ is_unassembled w s k
+unassembled-other w p s k ne =
+    ap (λ m. unassembled_as (with_arrived w p) s k m (arrived_at (with_arrived w p) k)) (Arrival.message_of-arrived w p k)
+    ∙ ap (unassembled_as (with_arrived w p) s k (message_of w k)) (Arrival.arrived-other w p k ne)
+    ∙ ap (λ b. arrived_at w k && (nat_le w.skipped k && b)) (by_kind (message_of w k) (is_unordered_on w s (message_of w k)) refl)
+  where
+    unordered : (k : ℕ) → is_unordered_on w s k ≡ true → (message_at w k).ordered ≡ false
+    unordered k e = fails (message_at w k).ordered (λ h. not_both (sym (ap not h) ∙ (both ((message_at w k).stream == s) (not (message_at w k).ordered) e).1))
+
+    by_kind : (k : ℕ) → (b : Bool) → is_unordered_on w s k ≡ b → (b && not (is_complete_message (with_arrived w p) k)) ≡ (b && not (is_complete_message w k))
+    by_kind k true e = ap not (complete-unordered w p k (unordered k e))
+    by_kind k false e = refl
+
+-- the unassembled chunks, where the slot is of no unordered message of the stream
+pub unassembled-elsewhere : (w : LinkRecord) (p s : ℕ) → is_unordered_on w s (message_of w p) ≡ false
+    → unassembled_chunks (with_arrived w p) s ≡ unassembled_chunks w s
+unassembled-elsewhere w p s off =
+    ap (λ c. map (chunk_at (with_arrived w p)) (numbers_where (is_unassembled (with_arrived w p) s) 0 c)) (Arrival.count-arrived w p)
+    ∙ map-kept-same (chunk_at (with_arrived w p)) (chunk_at w) (is_unassembled (with_arrived w p) s) (is_unassembled w s) 0 (length w.slots)
+    (λ k a b. by_place {C = is_unassembled (with_arrived w p) s k ≡ is_unassembled w s k} k p (λ ne. unassembled-other w p s k ne) (λ e. same k e))
+    (λ k a b e. Arrival.chunk_at-arrived w p k)
+  where
+    none : (v : LinkRecord) (k : ℕ) (a : Bool) → is_unordered_on v s (message_of w p) ≡ false → unassembled_as v s k (message_of w p) a ≡ false
+    none v k true e = rw e (ands (nat_le v.skipped k))
+      where
+        ands : (b : Bool) → (b && false) ≡ false
+        ands true = refl
+        ands false = refl
+    none v k false e = refl
+
+    same : (k : ℕ) → k ≡ p → is_unassembled (with_arrived w p) s k ≡ is_unassembled w s k
+    same k e =
+        ap (λ m. unassembled_as (with_arrived w p) s k m (arrived_at (with_arrived w p) k)) (Arrival.message_of-arrived w p k ∙ ap (message_of w) e)
+        ∙ none (with_arrived w p) k (arrived_at (with_arrived w p) k) off
+        ∙ sym (ap (λ m. unassembled_as w s k m (arrived_at w k)) (ap (message_of w) e) ∙ none w k (arrived_at w k) off)

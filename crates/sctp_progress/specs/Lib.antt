@@ -1,2 +1,0 @@
-pub mod Progress
-pub mod Rooms
