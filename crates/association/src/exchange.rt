@@ -49,12 +49,7 @@ impl Host {
     }
 
     // Writes a message to each of these streams.
-    fn write(
-        &mut self,
-        alloc: Global,
-        channels: &[Channel],
-        number: u16,
-    ) -> Result<(), Fault> {
+    fn write(&mut self, alloc: Global, channels: &[Channel], number: u16) -> Result<(), Fault> {
         for channel in channels {
             let bytes = text(alloc, channel.stream, number)?;
             let ppi = PayloadProtocolIdentifier::Binary;

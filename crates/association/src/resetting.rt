@@ -1,7 +1,10 @@
 //! Streams that are reset, one request after another (RFC 6525 5.1, 5.2; RFC 8831 6.7).
 
 use crate::fault::Fault;
-use sctp::{ChunkKind, ChunkReconfig, ParamKind, ParamOutgoingResetRequest, ParamReconfigResponse, Receiver, ReceiverRefusal, ReconfigResult, Sender};
+use sctp::{
+    ChunkKind, ChunkReconfig, ParamKind, ParamOutgoingResetRequest, ParamReconfigResponse,
+    Receiver, ReceiverRefusal, ReconfigResult, Sender,
+};
 use std::alloc::Global;
 
 /// How long a request waits for its response before it is sent again, in nanoseconds.

@@ -4,6 +4,7 @@
 #![tactic(auto)]
 
 // packets and their chunks (RFC 9260 3)
+pub use sctp_chunks::chunk::error_cause;
 pub use sctp_chunks::{
     ChunkAbort, ChunkCookieAck, ChunkCookieEcho, ChunkError, ChunkForwardTsn,
     ChunkForwardTsnStream, ChunkHeartbeat, ChunkHeartbeatAck, ChunkIForwardTsn,
@@ -11,7 +12,6 @@ pub use sctp_chunks::{
     ChunkSelectiveAck, ChunkShutdown, ChunkShutdownAck, ChunkShutdownComplete, ErrorCause,
     ErrorCauseCode, GapAckBlock, PayloadProtocolIdentifier, ReliabilityType,
 };
-pub use sctp_chunks::chunk::error_cause;
 pub use sctp_packets::{CommonHeader, Crc32c, Packet, PartialDecode};
 pub use sctp_params::{
     HmacAlgorithm, ParamChunkList, ParamForwardTsnSupported, ParamHeartbeatInfo, ParamKind,

@@ -1,15 +1,27 @@
 -- What `drop_expired` gives up, as calls of a session.
-use Rattle.std.proofs.Common.{◌≡◌, ◌≢◌, ℕ, zero, suc, ◌+◌, ◌-◌, ◌*◌, ◌%◌, ◌^◌, ◌<◌, ◌≤◌, Bool, true, false, List, [], ◌∷◌, ◌++◌, Option, Some, None, refl, ap, ap₂, sym, subst, ◌∙◌, not, is_some, arith}
-use Rattle.std.specs.Prelude.{IfSome, All, if◌then◌else◌, ◌==◌}
+use Rattle.std.proofs.Common.{◌≡◌, ℕ, zero, suc, ◌+◌, ◌-◌, ◌%◌, ◌^◌, ◌<◌, ◌≤◌, Bool, true, false, List, [], ◌∷◌, ◌++◌, Option, Some, None, Result, Ok, Err}
+use Rattle.std.proofs.Common.{refl, ap, ap₂, sym, subst, ◌∙◌, not, arith}
+use Rattle.std.specs.Prelude.{◌≢◌, ◌&&◌, IfOk, IfSome, OnOk, is_some, if◌then◌else◌}
+use Rattle.std.proofs.lemmas.List.Folds.{list_all-append}
+use Rattle.std.proofs.lemmas.Option.{none-some}
 use Rattle.sctp_data.specs.declared.chunk.chunk_payload_data.ChunkPayloadData.{ChunkPayloadData}
-use Rattle.sctp_outbound.specs.outbound_queue.OutboundQueue.{AreExpiredOf, Outbound, expired_of, expired_times, expiring, expiring_tail, stream_and_kind, total_bytes}
+use Rattle.sctp_outbound.proofs.lemmas.pending_queue.Waiting.{bytes_of-change_where, removed_le}
+use Rattle.sctp_outbound.specs.outbound_queue.OutboundQueue.{AreExpiredOf, Outbound, expired_of, expired_times, expiring, expiring_tail, late_tsns, message_of, stream_and_kind, total_bytes}
+use Rattle.sctp_outbound.specs.Marks.{is_of}
+use Rattle.sctp_outbound.specs.pending_queue.PendingQueue.{Pending, closed_up, one_lower, without, without_message}
+use Rattle.sctp_sender.specs.declared.sender.Dropped.{Dropped}
+use Rattle.sctp_sender.specs.declared.sender.Dropped.TheVariants.{Expired, Abandoned}
 use Rattle.sctp_sender.specs.declared.sender.ExpiredMessage.{ExpiredMessage}
 use Rattle.sctp_sender.specs.declared.sender.flight.late.AbandonedMessage.{AbandonedMessage}
-use Rattle.sctp_sender.specs.Drops.{TailGoes}
+use Rattle.sctp_sender.specs.declared.sender.refusal.SenderRefusal.{SenderRefusal}
+use Rattle.sctp_sender.specs.Drops.{TailGoes, bytes_dropped, list_in, run_in, with_lifetimes}
 use Rattle.sctp_sender.specs.Flight.{with_queue}
-use Rattle.sctp_sender.specs.Outgoing.{after_expiries, has_number, less_by}
+use Rattle.sctp_sender.specs.Late.{after_late, after_worn, late_order, leaving_each, worn_order}
+use Rattle.sctp_sender.specs.Outgoing.{after_expiries, has_number}
 use Rattle.sctp_sender.specs.Sender.{Transmission, after_abandon, after_expire, after_expire_run}
 use Rattle.sctp_sender.specs.SenderRuns.{bytes_of_all, held_by_sender}
+use Rattle.sctp_sender.specs.Thresholds.{with_message_lows}
+use Rattle.sctp_serial.specs.DataChunks.{bytes_of, is_on}
 use Rattle.sctp_stream.specs.declared.stream.StreamState.{StreamState}
 use Rattle.sctp_util.specs.Lists.{change_where}
 use Rattle.sctp_delivery.specs.SenderCalls.{Drops, SenderCall, SenderMakes, SenderMakesEach, expires, expires_late, expires_rexmit, expires_tail, is_drop, starts}
@@ -17,20 +29,25 @@ use Rattle.sctp_delivery.specs.SenderCalls.{Drops, SenderCall, SenderMakes, Send
 -- ## Calls one after another
 
 one : (call : SenderCall) (old new : Transmission) → is_drop call ≡ true → SenderMakes call old new → Drops old new
-one call old new e m = (call ∷ [], ((new, (m, refl)), (e, tt)))
+one call old new e m = (call ∷ [], ((new, (m, refl)), ap (λ b. b && true) e))
 
 each-then : (cs ds : List SenderCall) (a b c : Transmission) → SenderMakesEach cs a b → SenderMakesEach ds b c → SenderMakesEach (cs ++ ds) a c
 each-then [] ds a b c h k = subst (λ t. SenderMakesEach ds t c) h k
 each-then (x ∷ cs) ds a b c h k = (h.0, (h.1.0, each-then cs ds h.0 b c h.1.1 k))
 
-drops-both : (cs ds : List SenderCall) → All (λ c. is_drop c ≡ true) cs → All (λ c. is_drop c ≡ true) ds → All (λ c. is_drop c ≡ true) (cs ++ ds)
-drops-both [] ds h k = k
-drops-both (c ∷ cs) ds h k = (h.0, drops-both cs ds h.1 k)
-
-then : (a b c : Transmission) → Drops a b → Drops b c → Drops a c
-then a b c h k = (h.0 ++ k.0, (each-then h.0 k.0 a b c h.1.0 k.1.0, drops-both h.0 k.0 h.1.1 k.1.1))
+both-drop : (a b c : Transmission) → Drops a b → Drops b c → Drops a c
+both-drop a b c h k =
+    (h.0 ++ k.0, (each-then h.0 k.0 a b c h.1.0 k.1.0, list_all-append is_drop h.0 k.0 ∙ ap₂ (λ x y. x && y) h.1.1 k.1.1))
 
 -- ## Messages in front
+
+abbrev stream_in : Option (ℕ × Bool) → ℕ
+stream_in None = 0
+stream_in (Some p) = p.0
+
+abbrev kind_in : Option (ℕ × Bool) → Bool
+kind_in None = false
+kind_in (Some p) = p.1
 
 -- so many messages and then one more
 states-then : (u : Bool) (n a b : ℕ) (l : StreamState) → n + 1 < 2 ^ 16 → after_expiries u 1 b (after_expiries u n a l) ≡ after_expiries u (n + 1) (a + b) l
@@ -41,31 +58,29 @@ states-then false n a b l few =
     ap (λ k. record l { buffered_amount = k; sequence_number = ((l.sequence_number + (2 ^ 16 - n)) % 2 ^ 16 + (2 ^ 16 - 1)) % 2 ^ 16 }) left
     ∙ ap (λ k. record l { buffered_amount = l.buffered_amount - (a + b); sequence_number = k }) number
 
+abbrev after_first : Bool → ℕ → ℕ → StreamState → Bool → StreamState
+after_first u n a l k = if k then after_expiries u n a l else l
+
+abbrev after_both : ℕ → Bool → ℕ → ℕ → ℕ → StreamState → Bool → StreamState
+after_both s u n a b l k = if has_number s (after_first u n a l k) then after_expiries u 1 b (after_first u n a l k) else after_first u n a l k
+
+heads : (s : ℕ) (u : Bool) (n a b : ℕ) (l : StreamState) → n + 1 < 2 ^ 16 → (k : Bool) → has_number s l ≡ k
+    → after_both s u n a b l (has_number s l) ≡ after_first u (n + 1) (a + b) l (has_number s l)
+heads s true n a b l few true e =
+    ap (after_both s true n a b l) e ∙ ap (λ (k : Bool). if k then after_expiries true 1 b (after_expiries true n a l) else after_expiries true n a l) e
+    ∙ states-then true n a b l few ∙ sym (ap (after_first true (n + 1) (a + b) l) e)
+heads s false n a b l few true e =
+    ap (after_both s false n a b l) e ∙ ap (λ (k : Bool). if k then after_expiries false 1 b (after_expiries false n a l) else after_expiries false n a l) e
+    ∙ states-then false n a b l few ∙ sym (ap (after_first false (n + 1) (a + b) l) e)
+heads s u n a b l few false e =
+    ap (after_both s u n a b l) e ∙ ap (λ (k : Bool). if k then after_expiries u 1 b l else l) e ∙ sym (ap (after_first u (n + 1) (a + b) l) e)
+
 streams-then : (s : ℕ) (u : Bool) (n a b : ℕ) → n + 1 < 2 ^ 16 → (ls : List StreamState)
     → change_where (has_number s) (after_expiries u 1 b) (change_where (has_number s) (after_expiries u n a) ls)
     ≡ change_where (has_number s) (after_expiries u (n + 1) (a + b)) ls
 streams-then s u n a b few [] = refl
-streams-then s u n a b few (l ∷ ls) = ap₂ (λ (k : StreamState) ks. k ∷ ks) (heads u (l.stream_identifier == s) refl) (streams-then s u n a b few ls)
-  where
-    twice : Bool → Bool → StreamState
-    twice v k =
-        let x : StreamState = if k then after_expiries v n a l else l in
-        if has_number s x then after_expiries v 1 b x else x
-
-    once : Bool → Bool → StreamState
-    once v k = if k then after_expiries v (n + 1) (a + b) l else l
-
-    chosen : Bool → Bool → StreamState
-    chosen v k = if k then after_expiries v 1 b (after_expiries v n a l) else after_expiries v n a l
-
-    kept : Bool → StreamState
-    kept k = if k then after_expiries u 1 b l else l
-
-    heads : (v k : Bool) → l.stream_identifier == s ≡ k → twice v (l.stream_identifier == s) ≡ once v (l.stream_identifier == s)
-    heads true true e = ap (twice true) e ∙ ap (chosen true) e ∙ states-then true n a b l few ∙ sym (ap (once true) e)
-    heads false true e = ap (twice false) e ∙ ap (chosen false) e ∙ states-then false n a b l few ∙ sym (ap (once false) e)
-    heads true false e = ap (twice true) e ∙ ap (λ (k : Bool). if k then after_expiries true 1 b l else l) e ∙ sym (ap (once true) e)
-    heads false false e = ap (twice false) e ∙ ap (λ (k : Bool). if k then after_expiries false 1 b l else l) e ∙ sym (ap (once false) e)
+streams-then s u n a b few (l ∷ ls) =
+    ap₂ (λ (x : StreamState) (xs : List StreamState). x ∷ xs) (heads s u n a b l few (has_number s l) refl) (streams-then s u n a b few ls)
 
 -- a message that leaves takes its bytes with it
 leaves-le : (o : Option ChunkPayloadData) (q : Outbound) → total_bytes (expired_of o q) ≤ total_bytes q
@@ -87,13 +102,13 @@ leaves-le (Some c) q = by c.unordered
 
 module _ (now s : ℕ) (u : Bool) (t : Transmission) where
   -- what waits once so many expired, and their bytes
-  left : ℕ → Outbound
+  abbrev left : ℕ → Outbound
   left n = expired_times now n t.flight.queue
 
-  gone : ℕ → ℕ
+  abbrev gone : ℕ → ℕ
   gone n = total_bytes t.flight.queue - total_bytes (left n)
 
-  after : ℕ → Transmission
+  abbrev after : ℕ → Transmission
   after n = after_expire_run s u n (gone n) now t
 
   least : (n : ℕ) → total_bytes (left n) ≤ total_bytes t.flight.queue
@@ -109,8 +124,8 @@ module _ (now s : ℕ) (u : Bool) (t : Transmission) where
   steps old new bytes None is of made held = absurd (none-some (s, u) of)
   steps old new bytes (Some c) is of made held =
       let m : ExpiredMessage = record { stream = s; bytes = bytes; is_low = false } in
-      let stream : c.stream_identifier ≡ s = ap (λ p. p.0) (some-inj of) in
-      let kind : c.unordered ≡ u = ap (λ p. p.1) (some-inj of) in
+      let stream : c.stream_identifier ≡ s = ap stream_in of in
+      let kind : c.unordered ≡ u = ap kind_in of in
       let shape : record old {
         streams = change_where (has_number s) (after_expiries u 1 bytes) old.streams;
         flight = with_queue old.flight (expired_of (Some c) old.flight.queue);
@@ -131,8 +146,8 @@ module _ (now s : ℕ) (u : Bool) (t : Transmission) where
       let sum : gone (suc n) + b ≡ gone (suc (suc n)) = omega (arith, more, le) in
       let up : suc n + 1 ≡ suc (suc n) = omega arith in
       let streams = streams-then s u (suc n) (gone (suc n)) b (omega (arith, few)) t.streams
-          ∙ ap₂ (λ k a. change_where (has_number s) (after_expiries u k a) t.streams) up sum in
-      then t (after (suc n)) (after (suc (suc n))) (run-drops n are.0 (omega (arith, few)))
+      ∙ ap₂ (λ k a. change_where (has_number s) (after_expiries u k a) t.streams) up sum in
+      both-drop t (after (suc n)) (after (suc (suc n))) (run-drops n are.0 (omega (arith, few)))
       (steps (after (suc n)) (after (suc (suc n))) b (expiring now q) refl are.1
       (ap (λ ls. record (after (suc (suc n))) { streams = ls }) (sym streams)) (omega (arith, more)))
 
@@ -151,7 +166,7 @@ tail-dropped : (now : ℕ) (old new : Transmission) (gone : List AbandonedMessag
 tail-dropped now old new [] c is goes held = absurd goes
 tail-dropped now old new (a ∷ b ∷ rest) c is goes held = absurd goes
 tail-dropped now old new (a ∷ []) c is goes held =
-    let made = subst (λ o. new ≡ after_abandon (message_of o) a.stream a.bytes old) (sym is) goes.1.1 in
+    let made = subst (λ o. new ≡ after_abandon (message_of o) a.stream a.bytes old) (sym is) goes.2 in
     one (expires_tail now (Some a)) old new refl (held, ((made, λ n. absurd (none-some a (sym n))), tt))
 
 -- ## An answer
@@ -194,7 +209,9 @@ module _ (now : ℕ) (old new : Transmission) where
       by (Some c) is ts due =
           tail-dropped now old new gone.items c is (subst (λ o. IfSome o (λ d. TailGoes d old new gone.items)) is tail) held
       by None is [] due = one (expires_rexmit gone.items) old new refl (held, ((worn is due).0, tt))
-      by None is (x ∷ ts) due = one (expires_late now gone.items) old new refl (held, ((late is (λ e. absurd (nil-cons (sym e ∙ due)))).0, tt))
+      by None is (x ∷ ts) due =
+          let some : late_tsns now old.flight.queue ≢ [] = λ e. cc in
+          one (expires_late now gone.items) old new refl (held, ((late is some).0, tt))
 
   pub answered : (a : Result (Option Dropped) SenderRefusal) → IfOk a Runs → IfOk a OfOne → IfOk a Any → IfOk a Few → IfOk a Tail → IfOk a Late → IfOk a Worn
       → IfOk a (λ r. held_by_sender new + bytes_dropped r ≡ held_by_sender old) → IfOk a (λ r. r ≡ None → new ≡ with_lifetimes now old)

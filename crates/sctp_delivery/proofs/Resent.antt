@@ -1,5 +1,5 @@
 -- What `resend_next` sends, as the call of a session that sends a chunk again.
-use Rattle.std.proofs.Common.{◌≡◌, true, Option, Some, Result, Ok, Err}
+use Rattle.std.proofs.Common.{◌≡◌, ℕ, true, Some, Result, Ok, Err}
 use Rattle.std.specs.Prelude.{OnOk, find}
 use Rattle.sctp_data.specs.declared.chunk.chunk_payload_data.ChunkPayloadData.{ChunkPayloadData}
 use Rattle.sctp_serial.specs.DataChunks.{has_tsn}

@@ -1,6 +1,7 @@
 -- What a call of a sender makes, and what it sends.
 use Rattle.std.specs.Prelude.{◌≡◌, ⊤, ℕ, ◌<◌, ◌≤◌, Bool, true, false, List, [], ◌∷◌, length, find, option_map, option_to_list, Option, Some, None, is_some}
-use Rattle.std.specs.Prelude.{IfSome, All}
+use Rattle.std.specs.Prelude.{IfSome}
+use Rattle.std.specs.List.{list_all}
 use Rattle.sctp_data.specs.declared.chunk.chunk_payload_data.ChunkPayloadData.{ChunkPayloadData}
 use Rattle.sctp_data.specs.declared.chunk.chunk_payload_data.PayloadProtocolIdentifier.{PayloadProtocolIdentifier}
 use Rattle.sctp_data.specs.declared.chunk.chunk_payload_data.ReliabilityType.{ReliabilityType}
@@ -185,7 +186,7 @@ is_drop _ = false
 abbrev pub Drops : Transmission → Transmission → Type 0
 Drops old new =
     (calls : List SenderCall)
-    × (SenderMakesEach calls old new × All (λ c. is_drop c ≡ true) calls)
+    × (SenderMakesEach calls old new × (list_all is_drop calls ≡ true))
 
 -- ## What it sends
 

@@ -75,10 +75,7 @@ pub fn forward_tsn(
 }
 
 /// Makes a SACK in a chunk of at most `room` bytes; the duplicates that do not fit are kept for the next one.
-pub fn send_sack(
-    receiver: &mut Receiver,
-    room: usize,
-) -> Result<ChunkSelectiveAck, ReceiverRefusal>
+pub fn send_sack(receiver: &mut Receiver, room: usize) -> Result<ChunkSelectiveAck, ReceiverRefusal>
     ensures step { OnOk result
         (ReceiverMakes (reports_within (window receiver.old) room) receiver.old receiver.new) }
     ensures sack { IfOk result

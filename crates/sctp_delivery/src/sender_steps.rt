@@ -98,10 +98,7 @@ pub fn resend(sender: &mut Sender, tsn: u32, now: u64) -> Result<ChunkPayloadDat
 }
 
 /// Sends the first chunk again that is marked for that, if there is one.
-pub fn resend_next(
-    sender: &mut Sender,
-    now: u64,
-) -> Result<Option<ChunkPayloadData>, SenderRefusal>
+pub fn resend_next(sender: &mut Sender, now: u64) -> Result<Option<ChunkPayloadData>, SenderRefusal>
     ensures step { OnOk result ((c : ChunkPayloadData)
         → find is_to_resend sender.old.flight.queue.inflight.chunks ≡ Some c
         → SenderMakes (resends c.tsn now c) sender.old sender.new) }
@@ -150,7 +147,7 @@ pub fn expire_rexmit(sender: &mut Sender) -> Result<Vec<AbandonedMessage>, Sende
 /// Drops the next group of messages that have expired: the calls of a session by which each of them goes, and no other; where none has,
 /// lifetimes start.
 pub fn drop_expired(sender: &mut Sender, now: u64) -> Result<Option<Dropped>, SenderRefusal>
-    ensures step { OnOk result (Drops sender.old sender.new) }
+    ensures { OnOk result (Drops sender.old sender.new) }
 {
     sender.drop_expired(now)
 }

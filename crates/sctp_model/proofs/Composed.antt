@@ -16,8 +16,6 @@ use Rattle.sctp_model.specs.Log
 use Rattle.sctp_model.specs.Log.{LogEntry, SlotReceived, SkipReceived, SackMade, arrived_new, is_skipped, were_complete, is_complete_by, run_by, complete_by}
 use Rattle.sctp_model.specs.Log.{named_by, log_of, Shown, Mode, written_on, writes_on, writes_in, modes_in}
 use Rattle.sctp_model.specs.Steps.{History, record_of, IsRun}
-use Rattle.sctp_model.specs.declared.event.Event.TheVariants as E
-use Rattle.sctp_model.specs.Reply as R
 use Rattle.sctp_model.specs.Laws.{OnEveryRun, IsSetup, IsReadWholly, ReadsAreSettled, ReadsByArrivals, NoneIsLost, messages_on, fragment_arrived}
 use Rattle.sctp_model.specs.Laws.{arrived_wholly, arrivals_on, is_passed_over, was_lost, has_loss_on, has_expired, loses_nothing, ordered_run}
 use Rattle.sctp_model.specs.Laws.{complete_unordered, ordered_shown, unordered_shown, ordered_reads, unordered_reads, is_ordered, mode_of, shown_of}

@@ -22,5 +22,5 @@ pub returns-clause-made : goal.returns-clause-made
 returns-clause-made c =
     let t = c.args.sender.now in
     goes-there t c.forward_tsn_to.result
-    (subst (λ (p : ℕ). IfOk c.forward_tsn_to.result (λ o. option_map (λ x. x.new_cumulative_tsn) o ≡ skip_end p t.flight)) c.advanced_ack_point.ensures
+    (subst (λ (p : ℕ). IfOk c.forward_tsn_to.result (λ o. option_map (λ x. x.new_cumulative_tsn) o ≡ skip_end p t.flight)) c.advanced_ack_point-furthest.ensures
     c.forward_tsn_to.ensures.tsn)

@@ -18,7 +18,6 @@ use Rattle.sctp_model.proofs.refinement.arriving.SlotSpans.{added_on, added-any,
 use Rattle.sctp_model.proofs.refinement.arriving.SlotSpans.{own-stream, fits-all, new-among}
 use Rattle.sctp_model.proofs.refinement.arriving.SlotsCome.{all-carried}
 use Rattle.sctp_model.proofs.refinement.reading.Line
-use Rattle.sctp_model.proofs.refinement.reading.Taken.{held}
 use Rattle.sctp_model.proofs.refinement.arriving.NewSlots.{new-past}
 use Rattle.sctp_model.proofs.refinement.Histories.{Facts}
 

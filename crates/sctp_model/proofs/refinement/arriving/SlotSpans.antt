@@ -20,7 +20,6 @@ use Rattle.sctp_model.proofs.refinement.arriving.Carried.{Carried, noted, by_ste
 use Rattle.sctp_model.proofs.refinement.arriving.SlotArrives.{repeated}
 use Rattle.sctp_model.proofs.refinement.arriving.SpanEnds.{only-slot, all-streams, fits-span}
 use Rattle.sctp_model.proofs.refinement.arriving.Stays.{by_place}
-use Rattle.sctp_model.proofs.refinement.reading.Line
 use Rattle.sctp_model.proofs.refinement.reading.Taken.{held}
 use Rattle.sctp_model.proofs.receiver.Spans.{greatest-append, least-append}
 use Rattle.sctp_model.specs.refinement.Naming.{lowest_held, highest_held}

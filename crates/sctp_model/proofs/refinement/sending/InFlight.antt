@@ -5,7 +5,6 @@ use Rattle.std.proofs.lemmas.Bool.Decides.{nat_tests}
 use Rattle.sctp_util.specs.Kept.{numbers_where, always}
 use Rattle.sctp_util.specs.Lists.{change_where}
 use Rattle.sctp_util.proofs.More.{not_both, same_test}
-use Rattle.sctp_util.proofs.Round.{tsn}
 use Rattle.sctp_data.specs.declared.chunk.chunk_payload_data.ChunkPayloadData.{ChunkPayloadData}
 use Rattle.sctp_data.specs.PayloadData.{data_of}
 use Rattle.sctp_outbound.specs.Marks.{with_nsent}
