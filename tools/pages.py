@@ -41,7 +41,7 @@ FOLDERS = "crates|docs|tools|evidence|examples|c_tests|dump_tests|packaging|wrap
 PATH = re.compile(rf"(?<![\w/.-])(?:{FOLDERS})/[\w./-]*\w")
 BLOCK = re.compile(r"^```rust\n(.*?)^```", re.M | re.S)
 USE = re.compile(r"(?:ghost )?use [^;]*;\n")
-LISTED = re.compile(r"((?:ghost )?use .*?)\{(.*)\};$")
+LISTED = re.compile(r"((?:ghost )?use .*?)\{(.*)\};$", re.S)
 # words of no field, and the words in their place
 UNPLAIN = [("anew", "again, newly"), ("beyond", "past"), ("looks", "reads"), ("turns", "work"), ("but for", "except"), ("nothing but", "only")]
 # a sentence: its words, and the pages that are held neither to them nor to UNPLAIN: pages of what was measured, and those that wait to be rewritten
