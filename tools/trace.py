@@ -24,11 +24,11 @@ import re
 import signal
 import sys
 
-from sources import Sources, crates, files_below, imports, lines_of
+from sources import SHOWN, Sources, crates, files_below, imports, lines_of
 from wrong_bodies import bodies_of, function_of
 
 # crates that only call others
-PROGRAMS = ("uses", "bench", "linkrun", "sctpdump", "association", "sctp_delivery")
+PROGRAMS = ("bench", "linkrun", "sctpdump", "association", "sctp_delivery")
 DEFINED = re.compile(r"(?:(?:abbrev|opaque|unfoldable|pub|record|data) )+([^\s:(]+)")
 # a call; where a body begins behind its clauses; a body that is one call; and what a body does that only calls another does not do
 CALL = re.compile(r"(\.|::)?\b(\w+)(?:::<[^>()]*>)?\(")
@@ -186,8 +186,9 @@ class Callers:
 
     def has_code(self, call):
         """Whether a function that is no test calls it, or perhaps does."""
-        return any(it is not call and not it.is_test and not it.crate.endswith("_tests") and call.crate in self.sources.uses.get(it.crate, ())
-                   and self.is_of(call, it, at, how) is not False for it, at, how in self.by_name.get(call.name, []))
+        return any(it is not call and not it.is_test and (it.path in SHOWN or not it.crate.endswith("_tests"))
+                   and call.crate in self.sources.uses.get(it.crate, ()) and self.is_of(call, it, at, how) is not False
+                   for it, at, how in self.by_name.get(call.name, []))
 
     def body_of(self, call):
         """Returns the calls that this one leads to, the last of which does the work: while a body does nothing beside one call of another

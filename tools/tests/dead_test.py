@@ -92,7 +92,7 @@ pub fn f() -> u8
 }
 # a small repository with calls, of which each that no code calls is named so
 CALLS = {
-    "crates.txt": "low:\nuses: low\nlow_tests: low\nsctp_delivery: low\n",
+    "crates.txt": "low:\nlink_tests: low\nlow_tests: low\nsctp_delivery: low\n",
     "docs/surface.txt": "# names\nlow\n    fixed(u8) -> u8\nlow::Host\n    listed(&self) -> u8\n",
     "crates/low/src/lib.rt": """
 pub struct Host {
@@ -153,7 +153,7 @@ fn tests() {
 }
 """,
     "crates/low/src/laws.rt": "pub fn holds(at: u8)\n    ensures { true }\n{\n}\n",
-    "crates/uses/src/lib.rt": """
+    "crates/link_tests/src/callers.rt": """
 use low::Host;
 
 pub fn example(host: &Host) -> u8 {
@@ -191,7 +191,7 @@ def main():
         found = {it.name: it.end - it.begin for it in dead(top)}
     assert found == {"thrice": 2, "imported": 2, "dead_lemma": 2, "spare": 2, "not_of_section": 2}, found
     found = calls()
-    assert found == ({"low::Host::uncalled_method", "low::uncalled_function"}, [1, 1, 1, 2]), found
+    assert found == ({"low::Host::uncalled_method", "low::uncalled_function"}, [1, 1, 2]), found
     print("dead_test.py: as known")
 
 
