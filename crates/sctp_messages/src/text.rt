@@ -6,6 +6,7 @@ use itoa::Buffer;
 use sctp_capture::record::Time;
 use sctp_dissect::dissection::Item;
 use sctp_follow::associations::Way;
+use sctp_receiver::replay::open_streams;
 use sctp_show::brief::{DCEP, put_brief, put_payload_type, put_tsn};
 use sctp_show::dcep::{put_brief_message, put_message};
 use sctp_show::follow::Bases;
@@ -318,7 +319,7 @@ pub fn put_held(
     way: Way,
     reader: &WayReader,
 ) -> Result<(), AllocError> {
-    for inbound in reader.receiver.open_streams() {
+    for inbound in open_streams(&reader.receiver) {
         let (chunks, bytes) = (inbound.queue.chunk_count(), inbound.queue.get_num_bytes());
         if chunks == 0 {
             continue;

@@ -12,8 +12,9 @@ use sctp_params::param::param_outgoing_reset_request::ParamOutgoingResetRequest;
 use sctp_reassembly::chunks::Chunks;
 use sctp_reassembly::reassembly_queue::ReassemblyQueue;
 use sctp_receiver::receiver::Receiver;
-use sctp_receiver::receiver::arrival::Arrival;
+use sctp_receiver::receiver::arrival::{Arrival, Closed};
 use sctp_receiver::receiver::refusal::ReceiverRefusal;
+use sctp_receiver::replay::{filter, open_streams, reassembly};
 use sctp_show::filter::is_data;
 use sctp_util::field::{read_u16, read_u32};
 use sctp_util::util::{sna16lt, sna16lte, sna32lt, sna32lte};
@@ -226,7 +227,7 @@ impl WayReader {
     /// messages between were not captured. Where the chunk is new and its number was passed, this one is next too: some stacks name in a
     /// FORWARD-TSN the number that an unordered message has, which is that of the next ordered one.
     fn moved(&self, chunk: &ChunkPayloadData, number: u16, first: u16) -> u16 {
-        let Some(queue) = self.receiver.reassembly(chunk.stream_identifier) else {
+        let Some(queue) = reassembly(&self.receiver, chunk.stream_identifier) else {
             return first;
         };
         if !queue.ordered().is_empty() {
@@ -244,7 +245,7 @@ impl WayReader {
 
     /// Whether a TSN came, or was passed.
     fn has_come(&self, tsn: u32) -> bool {
-        sna32lte(tsn, self.receiver.cumulative_tsn()) || self.receiver.filter().get(tsn).is_some()
+        sna32lte(tsn, self.receiver.cumulative_tsn()) || filter(&self.receiver).get(tsn).is_some()
     }
 
     /// Keeps what a fragment of a message says, and with which record it came.
@@ -407,7 +408,7 @@ impl WayReader {
     /// The last number that a FORWARD-TSN passes on a stream of which it names this one: none of a message that is held with all its TSNs
     /// behind the new cumulative one, which the sender has not abandoned (RFC 3758 3.5).
     fn last_passed(&self, stream: u16, named: u16, tsn: u32) -> u16 {
-        match self.receiver.reassembly(stream) {
+        match reassembly(&self.receiver, stream) {
             Some(queue) => last_before(queue, named, tsn),
             None => named,
         }
@@ -416,7 +417,7 @@ impl WayReader {
     /// How much is held of each open stream.
     fn held(&self, alloc: Global) -> Result<Vec<Dropped>, AllocError> {
         let mut held = Vec::new(alloc);
-        for inbound in self.receiver.open_streams() {
+        for inbound in open_streams(&self.receiver) {
             held.push(held_of(&inbound.queue))?;
         }
         Ok(held)
@@ -424,7 +425,7 @@ impl WayReader {
 
     /// Adds how much less is held of each open stream than before.
     fn add_dropped(&self, outcome: &mut Outcome, before: &[Dropped]) -> Result<(), AllocError> {
-        for (inbound, was) in self.receiver.open_streams().iter().zip(before.iter()) {
+        for (inbound, was) in open_streams(&self.receiver).iter().zip(before.iter()) {
             let is = held_of(&inbound.queue);
             if is.chunks < was.chunks {
                 outcome.dropped.push(Dropped {
@@ -467,7 +468,7 @@ impl WayReader {
     ) -> Result<Outcome, AllocError> {
         let received = self.forward_received(alloc, chunk)?;
         let held = self.held(alloc)?;
-        if let Err(refusal) = self.receiver.forward_tsn_past_closed(&received) {
+        if let Err(refusal) = self.receiver.forward_tsn(&received, Closed::PassOver) {
             return Ok(Outcome::unread(alloc, Unread::Refused(refusal)));
         }
         let mut outcome = Outcome::none(alloc);
@@ -479,7 +480,7 @@ impl WayReader {
     /// What is passed where all up to a TSN came to the other end: on each stream what is before the last message that is held up to there.
     fn passed_by(&self, alloc: Global, tsn: u32) -> Result<ChunkForwardTsn, AllocError> {
         let mut streams = Vec::new(alloc);
-        for inbound in self.receiver.open_streams() {
+        for inbound in open_streams(&self.receiver) {
             if let Some(number) = last_begun(&inbound.queue, tsn) {
                 streams.push(ChunkForwardTsnStream {
                     identifier: inbound.queue.si(),
@@ -496,8 +497,8 @@ impl WayReader {
     /// The last TSN up to this one that did not come, where one did not.
     fn last_missing(&self, acknowledged: u32) -> u32 {
         let mut tsn = acknowledged;
-        for _come in 0..self.receiver.filter().len() {
-            if self.receiver.filter().get(tsn).is_none() {
+        for _come in 0..filter(&self.receiver).len() {
+            if filter(&self.receiver).get(tsn).is_none() {
                 return tsn;
             }
             tsn = tsn.wrapping_sub(1);
@@ -519,7 +520,7 @@ impl WayReader {
         }
         let passed = self.passed_by(alloc, self.last_missing(acknowledged))?;
         let held = self.held(alloc)?;
-        if let Err(refusal) = self.receiver.forward_tsn_past_closed(&passed) {
+        if let Err(refusal) = self.receiver.forward_tsn(&passed, Closed::PassOver) {
             return Ok(Outcome::unread(alloc, Unread::Refused(refusal)));
         }
         outcome.missed = Some(Missed {
@@ -553,7 +554,7 @@ impl WayReader {
         let mut streams = Vec::new(alloc);
         streams.extend_from_slice(request.stream_identifiers.as_slice())?;
         if streams.is_empty() {
-            for stream in self.receiver.open_streams() {
+            for stream in open_streams(&self.receiver) {
                 streams.push(stream.queue.si())?;
             }
         }
