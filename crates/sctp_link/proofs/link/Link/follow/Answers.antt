@@ -49,16 +49,16 @@ followed g c =
     (says lies.0 lies.1) refl in
     let calls = c.forward_tsn_by_names in
     let aligned =
-    followed-aligned calls.new.self c.self.invariant.0 (forward_tsn_of c.args.chunk.now) never calls.result calls.ensures.ok calls.ensures.refused in
+    followed-aligned calls.new.receiver c.self.invariant.0 (forward_tsn_of c.args.chunk.now) never calls.result calls.ensures.ok calls.ensures.refused in
     let followed =
-    followed-sides calls.new.self c.self.invariant.0 (forward_tsn_of c.args.chunk.now) never calls.result calls.ensures.ok calls.ensures.refused in
+    followed-sides calls.new.receiver c.self.invariant.0 (forward_tsn_of c.args.chunk.now) never calls.result calls.ensures.ok calls.ensures.refused in
     let names = names-kept c.self.inside.network.items k c.index.result.now c.in-Forward.upto upto c.in-Forward.messages.items lies.0 lies.1 c.index.ensures
     (ap kind_record c.in-Forward.is) in
     let standing : c.record_names.new.progress ≡ map (standing_named ms lies.0) c.self.inside.progress = c.record_names.ensures
     ∙ ap (λ qs. map (standing_named qs c.deref-2.result.now) c.self.inside.progress) c.deref.ensures.value
     ∙ ap (λ ns. map (standing_named ms ns) c.self.inside.progress) (c.deref-2.ensures.value ∙ names) in
-    let last = sides c.self.inside.sender calls.new.self c.record_names.new.progress in
-    let answered : last ≡ record mid { streams = map (with_names ms lies.0) mid.streams } = ap (sides c.self.inside.sender calls.new.self) standing
+    let last = sides c.self.inside.sender calls.new.receiver c.record_names.new.progress in
+    let answered : last ≡ record mid { streams = map (with_names ms lies.0) mid.streams } = ap (sides c.self.inside.sender calls.new.receiver) standing
     ∙ named-sides aligned ms lies.0 in
     let both = sides-then c.self.invariant.1 k upto lies.0 none lies.1 counts (forward_tsn_of c.args.chunk.now) (sides_in c.self.inside)
     (says lies.0 lies.1) refl ms mid last followed answered in
