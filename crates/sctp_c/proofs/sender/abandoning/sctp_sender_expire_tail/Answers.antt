@@ -6,6 +6,6 @@ use Rattle.sctp_c.proofs.sender.abandoning.sctp_sender_expire_tail.Goals as goal
 pub returns-in-Ok-Some-clause-ok : goal.returns-in-Ok-Some-clause-ok
 returns-in-Ok-Some-clause-ok c _ =
     let e = c.in-Ok-Some.ensures in
-    subst (λ t. ExpiresTail c.args.now c.abandoned_row.result t c.expire_tail.new.self) c.get_mut.ensures.value
-    (tail-answered c.args.now c.in-Ok-Some.gone c.in-Ok-Some.field-0 c.abandoned_row.result c.get_mut.result.now c.expire_tail.new.self
+    subst (λ t. ExpiresTail c.args.now c.abandoned_row.result t c.expire_tail.new.sender) c.get_mut.ensures.value
+    (tail-answered c.args.now c.in-Ok-Some.gone c.in-Ok-Some.field-0 c.abandoned_row.result c.get_mut.result.now c.expire_tail.new.sender
     c.in-Ok-Some.field-0-is c.abandoned_row.ensures e.some e.answer e.released e.low)
