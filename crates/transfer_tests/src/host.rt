@@ -59,7 +59,10 @@ impl Host {
         match chunk {
             ChunkKind::PayloadData(chunk) => self.receiver.data(chunk).is_ok(),
             ChunkKind::SelectiveAck(chunk) => self.sender.acked(chunk).is_ok(),
-            ChunkKind::ForwardTsn(chunk) => self.receiver.forward_tsn(chunk, Closed::Refuse).is_ok(),
+            ChunkKind::ForwardTsn(chunk) => self
+                .receiver
+                .forward_tsn(chunk, Closed::Refuse)
+                .is_ok(),
             _ => false,
         }
     }
