@@ -1,7 +1,7 @@
 use Rattle.std.proofs.Common.{◌≡◌, ◌+◌, ◌*◌, ◌≤◌, length, arith}
 use Rattle.sctp_data.specs.ForwardTsn.{ForwardTsn, forward_tsn_of}
 use Rattle.sctp_receiver.specs.Receiver.{Reception}
-use Rattle.sctp_receiver.specs.SkipCosts.{SkipsCostByWhatIsHeld, held_fragments, held_messages, names_walk, skips_walk, unordered_skips_walk}
+use Rattle.sctp_receiver.specs.SkipCosts.{SkipsCostByWhatIsHeld, held_fragments, held_messages, skips_walk}
 use Rattle.sctp_receiver.specs.Visited.{to_visit}
 use Rattle.transfer_tests.proofs.receivers.follow.Goals as goal
 
@@ -10,14 +10,10 @@ counted : SkipsCostByWhatIsHeld → (f : ForwardTsn) (r : Reception) → held_me
     → length (to_visit r.streams) ≡ 1 → skips_walk f r ≤ 2 * length f.streams + 21
 counted law f r messages fragments visited = omega (arith, law f r, messages, fragments, visited)
 
--- without what no name covers it is no more
-by-names : (f : ForwardTsn) (r : Reception) → names_walk f r + unordered_skips_walk r.streams ≤ skips_walk f r
-by-names f r = omega arith
-
 pub returns-in-Known : goal.returns-in-Known
 returns-in-Known c = record {
   looks = λ m g v.
-      let walk = c.forward_tsn_skips_counted.ensures.walk in
+      let walk = c.forward_tsn.ensures.walk in
       let few = counted c.a_skip_costs_by_what_is_held.ensures (forward_tsn_of c.args.skip.now) c.args.receiver.now m g v in
       omega (arith, walk, few);
 }
@@ -25,16 +21,10 @@ returns-in-Known c = record {
 pub returns-in-PastClosed : goal.returns-in-PastClosed
 returns-in-PastClosed c = record {
   looks = λ m g v.
-      let walk = c.forward_tsn_past_closed_skips_counted.ensures.walk in
+      let walk = c.forward_tsn-in-PastClosed.ensures.walk in
       let few = counted c.a_skip_costs_by_what_is_held.ensures (forward_tsn_of c.args.skip.now) c.args.receiver.now m g v in
       omega (arith, walk, few);
 }
 
 pub returns : goal.returns
-returns c = record {
-  looks = λ m g v.
-      let walk = c.forward_tsn_by_names_skips_counted.ensures.walk in
-      let fewer = by-names (forward_tsn_of c.args.skip.now) c.args.receiver.now in
-      let few = counted c.a_skip_costs_by_what_is_held.ensures (forward_tsn_of c.args.skip.now) c.args.receiver.now m g v in
-      omega (arith, walk, fewer, few);
-}
+returns c = record { looks = λ m g v. omega arith }
