@@ -1,8 +1,9 @@
 //! A receiver, by the examples of the RFCs and by what a peer may forge.
 
 use crate::receivers::Step::{
-    Close, Cumulative, Data, Discard, Forward, HasStats, Held, IsReadable, NothingBeyond, Open,
-    OpenAgain, Read, ReadOf, Readable, Reset, Sack, SackWithin, Streams, Take, TakeOrDiscard,
+    Close, Cumulative, Data, Discard, Forward, HasStats, Held, IsReadable, MakeSack, NothingBeyond,
+    Open, OpenAgain, Read, ReadOf, Readable, Reset, Sack, SackSent, SackWithin, Streams, Take,
+    TakeOrDiscard,
 };
 use crate::receivers::Way::{ByNames, Known, PastClosed};
 use crate::receivers::{Step, all_go};
@@ -58,7 +59,7 @@ const TWO: Option<Limits> = Some(Limits {
 });
 
 // Each case: what it shows, the first TSN, the maximum message size, the limits, and the steps.
-const CASES: [(&str, u32, u32, Option<Limits>, &[Step]); 22] = [
+const CASES: [(&str, u32, u32, Option<Limits>, &[Step]); 23] = [
     (
         // The example of RFC 4960 3.3.4: 13 and 16 are missing among 10 to 17.
         "the SACK of the RFC",
@@ -213,6 +214,26 @@ const CASES: [(&str, u32, u32, Option<Limits>, &[Step]); 22] = [
             SackWithin(44, 3, 1),
             SackWithin(1200, 3, 1),
             SackWithin(1200, 3, 0),
+        ],
+    ),
+    (
+        // What is made and not sent is made again; what was sent forgets the duplicates, also those that did not fit.
+        "a SACK is made, and then it is sent or not",
+        1,
+        100,
+        None,
+        &[
+            Open(&[1]),
+            Data(1, 2, 0, MIDDLE, b"a", PART),
+            Data(1, 2, 0, ALONE, b"a", REPEAT),
+            Data(1, 2, 0, ALONE, b"a", REPEAT),
+            MakeSack(15, 0, 0),
+            MakeSack(23, 1, 0),
+            MakeSack(24, 1, 1),
+            MakeSack(28, 1, 2),
+            MakeSack(24, 1, 1),
+            SackSent,
+            MakeSack(usize::MAX, 1, 0),
         ],
     ),
     (

@@ -45,6 +45,10 @@ pub(crate) enum Step {
     Sack(u32, &'static [(u16, u16)], &'static [u32]),
     /// The SACK for a packet of so many bytes has so many blocks and duplicates.
     SackWithin(usize, usize, usize),
+    /// The SACK of at most so many bytes, which is made and not sent, has so many blocks and duplicates.
+    MakeSack(usize, usize, usize),
+    /// The SACK that was made was sent.
+    SackSent,
     Cumulative(u32),
     /// The bytes that are held, and the window that is told.
     Held(usize, u32),
@@ -56,8 +60,9 @@ pub(crate) enum Step {
 }
 
 use Step::{
-    Close, Cumulative, Data, Discard, Forward, HasStats, Held, IsReadable, NothingBeyond, Open,
-    OpenAgain, Read, ReadOf, Readable, Reset, Sack, SackWithin, Streams, Take, TakeOrDiscard,
+    Close, Cumulative, Data, Discard, Forward, HasStats, Held, IsReadable, MakeSack, NothingBeyond,
+    Open, OpenAgain, Read, ReadOf, Readable, Reset, Sack, SackSent, SackWithin, Streams, Take,
+    TakeOrDiscard,
 };
 
 /// How a FORWARD-TSN is followed: it may name open streams only, or closed ones too, or it discards by names alone.
@@ -212,6 +217,14 @@ fn fits(receiver: &mut Receiver, packet: usize, blocks: usize, duplicates: usize
     }
 }
 
+// Whether the SACK of at most so many bytes that is made has so many blocks and duplicates.
+fn makes(receiver: &Receiver, room: usize, blocks: usize, duplicates: usize) -> bool {
+    match receiver.make_sack(room) {
+        Ok(sack) => sack.gap_ack_blocks.len() == blocks && sack.duplicate_tsn.len() == duplicates,
+        Err(_) => false,
+    }
+}
+
 fn are_readable(receiver: &Receiver, due: &[u16]) -> bool {
     match receiver.readable_streams() {
         Ok(streams) => streams.as_slice() == due,
@@ -237,6 +250,7 @@ fn is_seen(receiver: &Receiver, step: &Step) -> bool {
         Streams(due) => streams_are(receiver, due),
         HasStats(stream, want) => receiver.stats(*stream).is_some() == *want,
         NothingBeyond => !receiver.has_gaps(),
+        MakeSack(room, blocks, duplicates) => makes(receiver, *room, *blocks, *duplicates),
         _ => false,
     }
 }
@@ -251,6 +265,10 @@ fn is_done(receiver: &mut Receiver, step: &Step) -> bool {
             true
         }
         Reset(stream, tsn, want) => receiver.reset(*stream, *tsn) == *want,
+        SackSent => {
+            receiver.sack_sent();
+            true
+        }
         Read(bytes) => reads(receiver, bytes),
         ReadOf(stream, true) => matches!(receiver.read(*stream), Ok(Some(_))),
         ReadOf(stream, false) => receiver.read(*stream).is_err(),
