@@ -47,21 +47,51 @@ fn reconfig(param: ParamKind) -> ChunkKind {
     })
 }
 
-// Resets what a request names: each stream, or the listed ones. Where one is not open, or chunks of it may still come, so it says.
+// Resets a stream: where it is not open, or chunks of it may still come, the result says so.
+fn reset_one(receiver: &mut Receiver, stream: u16, last_tsn: u32) -> Result<ReconfigResult, Fault> {
+    match receiver.reset(stream, last_tsn) {
+        Ok(()) => Ok(ReconfigResult::SuccessPerformed),
+        Err(ReceiverRefusal::ResetInProgress) => Ok(ReconfigResult::InProgress),
+        Err(ReceiverRefusal::StreamUnknown) => Ok(ReconfigResult::ErrorWrongSsn),
+        Err(e) => Err(e.into()),
+    }
+}
+
+// Resets the streams that a request lists.
 fn reset_each(
     receiver: &mut Receiver,
     request: &ParamOutgoingResetRequest,
 ) -> Result<ReconfigResult, Fault> {
     let mut result = ReconfigResult::SuccessPerformed;
     for stream in &request.stream_identifiers {
-        match receiver.reset(*stream, request.sender_last_tsn) {
-            Ok(()) => {}
-            Err(ReceiverRefusal::ResetInProgress) => return Ok(ReconfigResult::InProgress),
-            Err(ReceiverRefusal::StreamUnknown) => result = ReconfigResult::ErrorWrongSsn,
-            Err(e) => return Err(e.into()),
+        match reset_one(receiver, *stream, request.sender_last_tsn)? {
+            ReconfigResult::SuccessPerformed => {}
+            ReconfigResult::InProgress => return Ok(ReconfigResult::InProgress),
+            wrong => result = wrong,
         }
     }
     Ok(result)
+}
+
+// Resets all open streams.
+fn reset_all(receiver: &mut Receiver, last_tsn: u32) -> Result<ReconfigResult, Fault> {
+    for stream in 0..=u16::MAX {
+        if reset_one(receiver, stream, last_tsn)? == ReconfigResult::InProgress {
+            return Ok(ReconfigResult::InProgress);
+        }
+    }
+    Ok(ReconfigResult::SuccessPerformed)
+}
+
+// Resets what a request names: the listed streams, or all where it lists none (RFC 6525 4.1).
+fn reset_named(
+    receiver: &mut Receiver,
+    request: &ParamOutgoingResetRequest,
+) -> Result<ReconfigResult, Fault> {
+    if request.stream_identifiers.is_empty() {
+        return reset_all(receiver, request.sender_last_tsn);
+    }
+    reset_each(receiver, request)
 }
 
 impl Resets {
@@ -128,7 +158,7 @@ impl Resets {
         let number = request.reconfig_request_sequence_number;
         let mut result = ReconfigResult::ErrorBadSequenceNumber;
         if number == self.peer_number {
-            result = reset_each(receiver, request)?;
+            result = reset_named(receiver, request)?;
             if result != ReconfigResult::InProgress {
                 self.peer_number = number.wrapping_add(1);
                 self.result = result;
