@@ -334,9 +334,13 @@ def order(section):
 
 def show(rfc, section, citations, sources, callers):
     by_place = {(it.path, it.line): it for it in sources.functions}
-    for (_, own), places in sorted(((key, it) for key, it in citations.items() if key[0] == rfc and within(section, key[1])),
-                                   key=lambda it: order(it[0][1])):
-        print(f"RFC {rfc} {own}  {TITLES.get(rfc, {}).get(own, '')}")
+    # (RFC 9260 keeps the sections of RFC 4960, which most sources cite)
+    rfcs = ["4960", "9260"] if rfc in ("4960", "9260") else [rfc]
+    found = [(key, it) for key, it in citations.items() if key[0] in rfcs and within(section, key[1])]
+    if not found:
+        print(f"nothing cites RFC {rfc} {section}".rstrip())
+    for (named, own), places in sorted(found, key=lambda it: (order(it[0][1]), it[0][0])):
+        print(f"RFC {named} {own}  {TITLES.get(named, {}).get(own, '')}")
         for path, line, name in sorted(places):
             call = by_place.get((path, line))
             print(f"  {call.title() if call else name or 'the file'}  {path}:{line}")

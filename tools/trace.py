@@ -11,7 +11,7 @@ name (`sctp_outbound::PayloadQueue::push`), public or not; or a type (`ChunkKind
 it prints the variants or fields, the definitions that name it and its public calls; or a word of the clauses (`after_sack`, `sctp_receiver::is_stale`),
 of which it prints the definition, the calls whose clauses name it, and those whose clauses name a definition that uses it. Where a NAME is of several
 functions or types, or of words of several crates, it lists them, each with its crate. Of a CRATE it lists the public calls, each with its signature, the
-first sentence of its comment and the names of its clauses. With --all it prints each public call of a library that misses something: a clause or a test that reaches it, and a wrong body or a
+first sentence of its comment and the names of its clauses, and the names of other crates that it offers. With --all it prints each public call of a library that misses something: a clause or a test that reaches it, and a wrong body or a
 caller, or, of a law, its proof; then a count, and the exit status is 0 where nothing is missing. It reads texts alone, and proves nothing.
 
 Where a body only calls another function, whose turns may be counted, proof and wrong bodies are those of the one that does the work too.
@@ -345,13 +345,17 @@ def text_at(place):
 
 
 def list_calls(crate, sources):
-    """Prints the public calls of a crate, but for those that a trait has."""
-    for it in sources.functions:
-        if it.crate == crate and it.is_public and not it.is_test and not it.trait:
-            clauses = re.findall(r"\bensures (\w+) \{", " ".join(it.clauses))
-            print(f"{it.title()}  {it.path}:{it.line}")
-            print(f"    {it.head}")
-            print(f"    {first_sentence(comment_of(it)) or 'no comment'}" + (f" ({', '.join(clauses)})" if clauses else ""))
+    """Prints the public calls of a crate, but for those that a trait has: those of types first. Then the names of other crates that it offers."""
+    listed = [it for it in sources.functions if it.crate == crate and it.is_public and not it.is_test and not it.trait]
+    for it in sorted(listed, key=lambda it: not it.owner):
+        clauses = re.findall(r"\bensures (\w+) \{", " ".join(it.clauses))
+        print(f"{it.title()}  {it.path}:{it.line}")
+        print(f"    {it.head}")
+        print(f"    {first_sentence(comment_of(it)) or 'no comment'}" + (f" ({', '.join(clauses)})" if clauses else ""))
+    text = "\n".join(lines_of(f"crates/{crate}/src/lib.rt"))
+    for other, names in re.findall(r"^pub use (\w+)::((?:\w+::)*(?:\{[^}]*\}|\w+));", text, re.M):
+        if other in crates():
+            print(f"of {other}: {' '.join(names.replace('{', ' ').replace('}', ' ').split())}".rstrip(","))
 
 
 def trace_type(kind, sources, definitions):

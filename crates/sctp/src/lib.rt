@@ -1,6 +1,6 @@
 //! SCTP for WebRTC data channels, below the association: the packets, a sender and a receiver of user data (RFC 9260, RFC 3758).
 //!
-//! A program that uses SCTP imports this crate alone. What each name promises stands at the name.
+//! A program that uses SCTP imports this crate, and `bytes` for user data. What each name promises stands at the name.
 #![tactic(auto)]
 
 // packets and their chunks (RFC 9260 3)
@@ -31,6 +31,7 @@ pub use sctp_receiver::receiver::arrival::{Arrival, Closed, Forwarded};
 pub use sctp_receiver::receiver::limits::Limits;
 pub use sctp_receiver::receiver::refusal::ReceiverRefusal;
 pub use sctp_sender::sender::flight::Released;
+pub use sctp_sender::sender::flight::kept::TakenBack;
 pub use sctp_sender::sender::flight::late::AbandonedMessage;
 pub use sctp_sender::sender::refusal::SenderRefusal;
 pub use sctp_sender::sender::{Dropped, ExpiredMessages, Sender};
