@@ -46,7 +46,7 @@ LISTED = re.compile(r"((?:ghost )?use .*?)\{(.*)\};$", re.S)
 UNPLAIN = [("anew", "again, newly"), ("beyond", "past"), ("looks", "reads"), ("turns", "work"), ("but for", "except"), ("nothing but", "only")]
 # a sentence: its words, and the pages that are held neither to them nor to UNPLAIN: pages of what was measured, and those that wait to be rewritten
 MOST_WORDS = 30
-LONG = ["CHANGELOG.md", "docs/GATE.md", "docs/SCTPDUMP.md"]
+LONG = ["CHANGELOG.md", "docs/SCTPDUMP.md"]
 COMMENT = re.compile(r"<!--.*?-->", re.S)
 NO_PROSE = re.compile(r"^(?: {4,}(?![-*\d] ).*|#.*|\|.*|.* \| .*|.*\|$|---.*)$", re.M)
 BLOCK_ENDS = re.compile(r"\n\s*\n|\n(?=\s*(?:[-*] |\d+\. ))")
