@@ -432,7 +432,7 @@ typedef struct sctp_receiver {
 } sctp_receiver;
 
 /* Makes a receiver with no stream, to which nothing came: `first_tsn`, the peer's initial TSN, is expected next, and a message may have
- * `max_message_size` bytes. It holds about `window` bytes at most, each chunk counted as 200 more than its user data, and no TSN farther
+ * `max_message_size` bytes. It holds about `window` bytes at most, each chunk counted as 400 more than its user data, and no TSN farther
  * than `reach` past the cumulative one (RFC 4960 6.2). `out` becomes its handle. SCTP_NO_MEMORY; `out` stays then. */
 sctp_code sctp_receiver_new(uint32_t first_tsn, uint32_t max_message_size, size_t window, uint32_t reach, sctp_receiver *out);
 
@@ -496,7 +496,7 @@ sctp_code sctp_receiver_sack(sctp_receiver *receiver, uint8_t *out, size_t room,
 uint32_t sctp_receiver_cumulative_tsn(sctp_receiver *receiver);
 /* The window to advertise, in bytes (RFC 4960 3.3.4), which a SACK has as its credit; 2^32 - 1 without limits. */
 uint32_t sctp_receiver_window(sctp_receiver *receiver);
-/* What is held and was not read: its bytes, and 200 for each chunk; the greatest size_t where it is more. */
+/* What is held and was not read: its bytes, and 400 for each chunk; the greatest size_t where it is more. */
 size_t sctp_receiver_held_bytes(sctp_receiver *receiver);
 
 /* ---- Sender ---------------------------------------------------------------------------------------------------------------- */

@@ -132,7 +132,7 @@ RULES = [
          ["packet_tests::serial_numbers"]),
         ("DATA past the window is dropped; DATA that fills a gap is accepted", "6.2", ["sctp_receiver::Receiver::data refused"],
          ["sctp_receiver Limits.refusal_within"], ["transfer_tests::receiver_cases a window of two chunks (RFC 4960 6.2)"]),
-        ("a_rwnd is the window less what is held; each held chunk counts 200 bytes more than its user data", "3.3.4, 6.2",
+        ("a_rwnd is the window less what is held; each held chunk counts 400 bytes more than its user data", "3.3.4, 6.2",
          ["sctp_receiver::Receiver::window", "sctp_receiver::Receiver::sack sack"], ["sctp_receiver Limits.window_left"],
          ["transfer_tests::receiver_cases a window of two chunks (RFC 4960 6.2)"]),
         ("DATA without user data is accepted as a message of no bytes", "6.2, 3.3.10.9",

@@ -221,7 +221,7 @@ func (r *Receiver) Window() uint32 {
 	return uint32(C.sctp_receiver_window(&r.handle))
 }
 
-// HeldBytes is what is held and was not read: its bytes, and 200 for each chunk.
+// HeldBytes is what is held and was not read: its bytes, and 400 for each chunk.
 func (r *Receiver) HeldBytes() uint64 {
 	if !r.isOpen() {
 		return 0

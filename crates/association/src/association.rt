@@ -17,17 +17,25 @@ use std::alloc::Global;
 /// How many bytes of user data a fragment has: a whole one fills a packet.
 const FRAGMENT: u32 = 1172;
 
-/// What may be held and not read, and how far past the cumulative TSN a TSN may lie.
-const LIMITS: Limits = Limits {
-    window: 100_000,
-    reach: 10_000,
-};
+/// How many bytes of user data a fragment of the peer has at least, but the last of a message.
+const LEAST_FRAGMENT: u32 = 300;
+
+/// How far past the cumulative TSN a TSN may lie.
+const REACH: u32 = 10_000;
 
 // More groups of messages than are dropped at once.
 const MOST_DROPS: u32 = 10_000;
 
 /// How many bytes a message may have.
 const MESSAGE: u32 = 65_536;
+
+// What may be held and not read: a message of the greatest length fits.
+fn limits() -> Limits {
+    Limits {
+        window: Limits::least_window(MESSAGE, LEAST_FRAGMENT),
+        reach: REACH,
+    }
+}
 
 /// Two halves, and what tells when they send. Times are in nanoseconds.
 #[derive(Drop)]
@@ -68,7 +76,7 @@ impl Association {
     pub fn new(alloc: Global, first_tsn: u32, peer_tsn: u32, peer_window: u32) -> Association {
         Association {
             sender: Sender::new(alloc, first_tsn, FRAGMENT, MESSAGE),
-            receiver: Receiver::new(alloc, peer_tsn, MESSAGE, Some(LIMITS)),
+            receiver: Receiver::new(alloc, peer_tsn, MESSAGE, Some(limits())),
             alloc,
             congestion: Congestion::new(peer_window as usize),
             timer: Timer::new(),

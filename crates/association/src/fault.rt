@@ -1,6 +1,6 @@
 //! Why an association can't go on.
 
-use sctp::{ReceiverRefusal, SenderRefusal};
+use sctp::{AbortCause, ReceiverRefusal, SenderRefusal};
 use std::alloc::{AllocError, AllocFailed};
 
 /// Why a call of an association failed.
@@ -10,6 +10,8 @@ pub enum Fault {
     OutOfMemory,
     /// The peer claims what can't be: an ABORT is due (RFC 4960 3.3.10.13).
     Violation,
+    /// What the peer sent can never be taken: an ABORT with this cause is due (RFC 9260 3.3.10).
+    Abort(AbortCause),
     /// The call is not for this stream, or this message.
     Refused,
 }
@@ -42,7 +44,6 @@ impl From<ReceiverRefusal> for Fault {
     fn from(e: ReceiverRefusal) -> Fault {
         match e {
             ReceiverRefusal::OutOfMemory => Fault::OutOfMemory,
-            ReceiverRefusal::MessageTooLarge => Fault::Violation,
             _ => Fault::Refused,
         }
     }

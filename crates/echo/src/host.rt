@@ -3,8 +3,8 @@
 
 use bytes::Bytes;
 use sctp::{
-    ChunkKind, ChunkPayloadData, CommonHeader, Crc32c, Limits, Packet, PayloadProtocolIdentifier,
-    Receiver, Sender,
+    Advice, ChunkKind, ChunkPayloadData, CommonHeader, Crc32c, Limits, Packet,
+    PayloadProtocolIdentifier, Receiver, ReceiverRefusal, Sender, advise,
 };
 use std::alloc::Global;
 
@@ -20,11 +20,19 @@ const PACKET: usize = 1188;
 /// How many bytes a message has at most.
 const MESSAGE: u32 = 65_536;
 
-/// How many bytes may be held unread, and how far past the cumulative TSN a TSN may lie.
-const LIMITS: Limits = Limits {
-    window: 100_000,
-    reach: 1000,
-};
+/// How many bytes a chunk of the peer has at least, but the last of a message.
+const LEAST_FRAGMENT: u32 = 300;
+
+/// How far past the cumulative TSN a TSN may lie.
+const REACH: u32 = 1000;
+
+// A window in which a message of the greatest length fits.
+fn limits() -> Limits {
+    Limits {
+        window: Limits::least_window(MESSAGE, LEAST_FRAGMENT),
+        reach: REACH,
+    }
+}
 
 /// One of two hosts.
 #[derive(Drop)]
@@ -43,7 +51,7 @@ impl Host {
         Host {
             alloc,
             sender: Sender::new(alloc, first_tsn, FRAGMENT, MESSAGE),
-            receiver: Receiver::new(alloc, peer_tsn, MESSAGE, Some(LIMITS)),
+            receiver: Receiver::new(alloc, peer_tsn, MESSAGE, Some(limits())),
             header: CommonHeader {
                 source_port: 5000,
                 destination_port: 5000,
@@ -135,12 +143,30 @@ impl Host {
         match chunk {
             ChunkKind::PayloadData(data) => {
                 self.owes_sack = true;
-                self.receiver.data(data).ok()?;
+                if let Err(refusal) = self.receiver.data(data) {
+                    self.follow(refusal, data)?;
+                }
             }
             ChunkKind::SelectiveAck(sack) => {
                 self.sender.acked(sack).ok()?;
             }
             _ => {}
+        }
+        Some(())
+    }
+
+    // Does what is advised at a refusal; an ABORT ends this host.
+    fn follow(&mut self, refusal: ReceiverRefusal, data: &ChunkPayloadData) -> Option<()> {
+        match advise(refusal, data, &self.receiver) {
+            Advice::Drop => {}
+            Advice::OpenOrDiscard => {
+                self.receiver.discard(data.tsn).ok()?;
+            }
+            Advice::CloseAndDiscard => {
+                self.receiver.close(data.stream_identifier);
+                self.receiver.discard(data.tsn).ok()?;
+            }
+            Advice::Abort(_) => return None,
         }
         Some(())
     }

@@ -114,7 +114,7 @@ fn hand_out(alloc: Global, receiver: Receiver, out: &mut SctpNewReceiver) -> u32
 }
 
 /// Makes a receiver with no stream, to which nothing came: `first_tsn`, the peer's initial TSN, is expected next, and a message may have
-/// `max_message_size` bytes. It holds about `window` bytes at most, each chunk counted as 200 more than its user data, and no TSN farther
+/// `max_message_size` bytes. It holds about `window` bytes at most, each chunk counted as 400 more than its user data, and no TSN farther
 /// than `reach` past the cumulative one (RFC 4960 6.2). `out` becomes its handle. Refuses with `SCTP_NO_MEMORY`; `out` stays then.
 #[unsafe(no_mangle)]
 pub extern "C" fn sctp_receiver_new(
@@ -220,7 +220,7 @@ pub extern "C" fn sctp_receiver_window(receiver: &mut SctpReceiver) -> u32
     receiver.get_mut().window()
 }
 
-/// What is held and was not read: its bytes, and 200 for each chunk; the greatest `size_t` where it is more.
+/// What is held and was not read: its bytes, and 400 for each chunk; the greatest `size_t` where it is more.
 #[unsafe(no_mangle)]
 pub extern "C" fn sctp_receiver_held_bytes(receiver: &mut SctpReceiver) -> usize
     ensures value { result ≡ held_cost receiver.old.value.streams }

@@ -23,7 +23,7 @@ use Rattle.sctp_receiver.proofs.Inbounds.{stays-mapped}
 use Rattle.sctp_receiver.proofs.Receptions.{read-numbers}
 use Rattle.sctp_receiver.proofs.StreamCosts.{all-cost, are_apart, changed-cost, mapped-cost, more-apart, named-cost, one-changed, opened-cost}
 use Rattle.sctp_receiver.specs.Inbound.{Pushes, has_number, named_forwarded, new_stream, number, numbers_of, stream_read, unassembled_forwarded, with_queue}
-use Rattle.sctp_receiver.specs.Limits.{cost_of, held_cost, refusal_by}
+use Rattle.sctp_receiver.specs.Limits.{chunk_cost, cost_of, held_cost, refusal_by}
 use Rattle.sctp_receiver.specs.Receiver.{Reception, filter_of, follow_forward_tsn, is_stale, new_refusal}
 use Rattle.sctp_receiver.specs.Skips.{after_forward_tsn, incomplete_forwarded, without_incomplete}
 use Rattle.sctp_receiver.specs.TsnFilter.{highest_tsn}
@@ -184,13 +184,13 @@ module _ (w : ChunkPayloadData → ℕ) where
 
 -- ## What it costs
 
--- a chunk counts for its bytes, and for 200
+-- a chunk counts for its bytes, and for its cost
 abbrev pub price : ChunkPayloadData → ℕ
-price c = length c.user_data + 200
+price c = length c.user_data + chunk_cost
 
 -- what waits
 abbrev pub waiting_cost : Pending → ℕ
-waiting_cost q = pending.total_bytes q + 200 * chunk_count q
+waiting_cost q = pending.total_bytes q + chunk_cost * chunk_count q
 
 -- what the receiver holds, what is due in flight, and what waits
 abbrev pub cost : Session → ℕ
@@ -207,7 +207,7 @@ pub room-still : (o : Option Limits) (s t : Session) → chunks_left t.sending.s
 room-still None s t left less r = tt
 room-still (Some l) s t left less r = let a = r.0 in let b = r.1 in (omega (arith, left, a), omega (arith, less, b))
 
-all-price : (cs : List ChunkPayloadData) → sum_by price cs ≡ bytes_of cs + 200 * length cs
+all-price : (cs : List ChunkPayloadData) → sum_by price cs ≡ bytes_of cs + chunk_cost * length cs
 all-price [] = omega arith
 all-price (c ∷ cs) =
     let n = sum_by-cons price c cs in
@@ -309,7 +309,7 @@ pub taken-cost : (c : ChunkPayloadData) (complete : Bool) (l : InboundStream) (q
     → are_apart (numbers_of ls) ≡ true → find (has_number c.stream_identifier) ls ≡ Some l → Pushes c complete l.queue q
     → sum_by cost_of (change_where (has_number c.stream_identifier) (with_queue q) ls) ≤ sum_by cost_of ls + price c
 taken-cost c complete l q ls apart found pushed =
-    one-changed cost_of c.stream_identifier (length c.user_data + 200) (with_queue q) l ls apart found
+    one-changed cost_of c.stream_identifier (length c.user_data + chunk_cost) (with_queue q) l ls apart found
     ((all-cost (length c.user_data)).pushed c complete l q (omega arith) pushed)
 
 -- ## How many are due

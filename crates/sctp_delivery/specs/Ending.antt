@@ -6,7 +6,7 @@ use Rattle.sctp_data.specs.declared.chunk.chunk_payload_data.ChunkPayloadData.{C
 use Rattle.sctp_data.specs.SelectiveAck.{Sack}
 use Rattle.sctp_receiver.specs.declared.receiver.arrival.Arrival.{Arrival}
 use Rattle.sctp_receiver.specs.declared.receiver.limits.Limits.{Limits}
-use Rattle.sctp_receiver.specs.Limits.{cost_of}
+use Rattle.sctp_receiver.specs.Limits.{chunk_cost, cost_of}
 use Rattle.sctp_receiver.specs.Receiver.{Reception}
 use Rattle.sctp_sender.specs.declared.sender.flight.Released.{Released}
 use Rattle.sctp_sender.specs.Sender.{Transmission}
@@ -35,9 +35,9 @@ AfterEachSessionWithTsnsLeft P =
     + chunks_waiting s.sending.sender < 2 ^ 31
     → P (abandoned_in (at_start tsn size max most limits) calls s run) s
 
--- what waits and what is in flight counts for: its bytes, and 200 for each chunk, as a receiver counts what it holds
+-- what waits and what is in flight counts for: its bytes, and the cost of each chunk, as a receiver counts what it holds
 abbrev pub cost_left : Transmission → ℕ
-cost_left t = held_by_sender t + 200 * chunks_left t
+cost_left t = held_by_sender t + chunk_cost * chunks_left t
 
 -- there are no limits; or the reach is no less than the chunks that are left, and the window is more than what they and all that is held
 -- count for together

@@ -159,9 +159,9 @@ seven_twice = refl
 
 -- ## Limits
 
--- a window of one chunk of a byte, which counts for 201
+-- a window of one chunk of a byte, which counts for 401
 abbrev narrow : Limits
-narrow = record { window = 201; reach = 3 }
+narrow = record { window = 401; reach = 3 }
 
 abbrev narrow_open : Reception
 narrow_open = open_stream 1 (at_first 7 100 (Some narrow))
@@ -208,7 +208,7 @@ nothing_left : window full ≡ 0
 unfolding distance at_or_before comes_before at_or_before16 comes_before16 distance16
 nothing_left = refl
 
-all_left : window narrow_open ≡ 201
+all_left : window narrow_open ≡ 401
 all_left = refl
 
 no_limits : window (at_first 7 2 None) ≡ 4294967295

@@ -20,7 +20,7 @@ use Rattle.sctp_receiver.specs.declared.receiver.limits.Limits.{Limits}
 use Rattle.sctp_receiver.specs.declared.receiver.refusal.ReceiverRefusal.{ReceiverRefusal}
 use Rattle.sctp_receiver.specs.declared.receiver.refusal.ReceiverRefusal.TheVariants.{TsnOpposite, TsnTooFar, WindowFull}
 use Rattle.sctp_receiver.specs.Inbound.{number, numbers_of, has_number, new_stream, with_queue, stream_read, named_forwarded, unassembled_forwarded}
-use Rattle.sctp_receiver.specs.Limits.{cost_of, held_cost, refusal_within, refusal_by}
+use Rattle.sctp_receiver.specs.Limits.{chunk_cost, cost_of, held_cost, refusal_within, refusal_by}
 use Rattle.sctp_receiver.specs.Receiver.{Reception, filter_of, with_filter, Accepts, noted_by, repeat_tsn, new_refusal, stream_of, stream_refusal, data_refusal}
 use Rattle.sctp_receiver.specs.Receiver.{discard_refusal, forward_refusal, arrival_of, after_discard, max_sack_entries, duplicates_answered, sack_entries}
 use Rattle.sctp_receiver.specs.Receiver.{after_sack_within, is_stale, follow_forward_tsn, after_forward}
@@ -35,7 +35,7 @@ use Rattle.sctp_receiver.proofs.DataEach.{takes-keeps}
 use Rattle.sctp_receiver.proofs.Forwarded.{followed-numbers}
 use Rattle.sctp_receiver.proofs.GapCounts.{IsAscending, far_in, few-beyond, past-highest, lies-beyond, next-with, next-skipped, reached-with, reached-skipped}
 use Rattle.sctp_receiver.proofs.Receptions.{after, read-numbers}
-use Rattle.sctp_receiver.proofs.StreamCosts.{IsCost, chunk_cost, chunks-cost, all-cost, are_apart, changed-cost, mapped-cost, named-cost, kept-cost}
+use Rattle.sctp_receiver.proofs.StreamCosts.{IsCost, chunks_cost, chunks-cost, all-cost, are_apart, changed-cost, mapped-cost, named-cost, kept-cost}
 use Rattle.sctp_receiver.proofs.StreamCosts.{opened-cost, one-changed, kept-apart, more-apart}
 
 -- ## Numbers
@@ -370,21 +370,21 @@ module _ (m : InboundStream → ℕ) (fits : ChunkPayloadData → Type 0) (most 
 
 -- ## The law
 
-times-200 : (f : InboundStream → ℕ) (ls : List InboundStream) → sum_by (λ x. 200 * f x) ls ≡ 200 * sum_by f ls
-times-200 f [] = refl
-times-200 f (x ∷ ls) = let a = sum_by-cons (λ y. 200 * f y) x ls in let b = sum_by-cons f x ls in let ih = times-200 f ls in omega (arith, a, b, ih)
+times-cost : (f : InboundStream → ℕ) (ls : List InboundStream) → sum_by (λ x. chunk_cost * f x) ls ≡ chunk_cost * sum_by f ls
+times-cost f [] = refl
+times-cost f (x ∷ ls) = let a = sum_by-cons (λ y. chunk_cost * f y) x ls in let b = sum_by-cons f x ls in let ih = times-cost f ls in omega (arith, a, b, ih)
 
 pub few-chunks : AfterEachRunWithin HoldsFewChunks
 few-chunks tsn max l calls s usize r =
-    let h = held chunk_cost (λ c. ⊤) 200 chunks-cost l usize tsn max calls s r (λ k d lt. tt) in
-    let e = times-200 (λ x. held_chunks x.queue.held) s.receiver.streams in
+    let h = held chunks_cost (λ c. ⊤) chunk_cost chunks-cost l usize tsn max calls s r (λ k d lt. tt) in
+    let e = times-cost (λ x. held_chunks x.queue.held) s.receiver.streams in
     omega (arith, h, e)
 
 pub little : AfterEachRunWithin CostsLittle
-little tsn max l calls s usize r = λ most fit. held cost_of (λ c. length c.user_data ≤ most) (most + 200) (all-cost most) l usize tsn max calls s r fit
+little tsn max l calls s usize r = λ most fit. held cost_of (λ c. length c.user_data ≤ most) (most + chunk_cost) (all-cost most) l usize tsn max calls s r fit
 
 pub few-tsns : AfterEachRunWithin KeepsFewTsns
-few-tsns tsn max l calls s usize r = beyond chunk_cost (λ c. ⊤) 200 chunks-cost l usize tsn max calls s r
+few-tsns tsn max l calls s usize r = beyond chunks_cost (λ c. ⊤) chunk_cost chunks-cost l usize tsn max calls s r
 
 pub few-duplicates : AfterEachRunWithin NotesFewDuplicates
-few-duplicates tsn max l calls s usize r = duplicates chunk_cost (λ c. ⊤) 200 chunks-cost l usize tsn max calls s r
+few-duplicates tsn max l calls s usize r = duplicates chunks_cost (λ c. ⊤) chunk_cost chunks-cost l usize tsn max calls s r

@@ -29,4 +29,6 @@ pub mod SkipCosts
 pub mod NotedNames
 pub mod HeldSkips
 pub mod HeldBound
+pub mod Came
+pub mod Settling
 mod Examples

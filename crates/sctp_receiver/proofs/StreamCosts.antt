@@ -16,7 +16,7 @@ use Rattle.sctp_serial.proofs.lemmas.ListEdits.{neither}
 use Rattle.sctp_receiver.specs.declared.receiver.inbound_streams.InboundStream.{InboundStream}
 use Rattle.sctp_receiver.specs.Inbound.{number, numbers_of, has_number, new_stream, with_queue, Pushes, PushesAs, stream_read, ssn_forwarded, named_forwarded}
 use Rattle.sctp_receiver.specs.Inbound.{unassembled_forwarded}
-use Rattle.sctp_receiver.specs.Limits.{cost_of}
+use Rattle.sctp_receiver.specs.Limits.{chunk_cost, cost_of}
 use Rattle.sctp_receiver.specs.Resets.{stream_reset}
 use Rattle.sctp_receiver.specs.Skips.{incomplete_forwarded}
 use Rattle.sctp_receiver.proofs.Weights as weights
@@ -95,10 +95,10 @@ incomplete-chunks tsn l = let h = weights.incomplete (λ x. 1) tsn l.queue in le
     let b = chunks-weigh (incomplete_forwarded tsn l).queue.held in omega arith
 
 -- for its chunks alone
-abbrev pub chunk_cost : InboundStream → ℕ
-chunk_cost l = 200 * held_chunks l.queue.held
+abbrev pub chunks_cost : InboundStream → ℕ
+chunks_cost l = chunk_cost * held_chunks l.queue.held
 
-pub chunks-cost : IsCost chunk_cost (λ c. ⊤) 200
+pub chunks-cost : IsCost chunks_cost (λ c. ⊤) chunk_cost
 chunks-cost = record {
   fresh = λ s max. refl;
   pushed = λ c complete l q fits p. let h = pushed-chunks c complete l.queue q p in omega arith;
@@ -110,7 +110,7 @@ chunks-cost = record {
   within = λ l. omega arith;
 }
 
-pub all-cost : (most : ℕ) → IsCost cost_of (λ c. length c.user_data ≤ most) (most + 200)
+pub all-cost : (most : ℕ) → IsCost cost_of (λ c. length c.user_data ≤ most) (most + chunk_cost)
 all-cost most = record {
   fresh = λ s max. refl;
   pushed = λ c complete l q fits p. let h = pushed-chunks c complete l.queue q p in let b = pushed-bytes c complete l.queue q p in omega arith;

@@ -13,3 +13,4 @@ pub mod Visited
 pub mod Costs
 pub mod SkipCosts
 pub mod Datagrams
+pub mod Advice

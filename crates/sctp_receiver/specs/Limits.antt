@@ -1,5 +1,5 @@
 -- What the limits of a receiver refuse, and what they leave of its window (RFC 4960 6.2, 3.3.4).
-use Rattle.std.specs.Prelude.{ℕ, ◌+◌, ◌*◌, ◌-◌, ◌^◌, ◌&&◌, Bool, nat_lt, nat_le, min, if◌then◌else◌, List, Option, Some, None}
+use Rattle.std.specs.Prelude.{ℕ, ◌+◌, ◌*◌, ◌-◌, ◌/◌, ◌^◌, ◌&&◌, Bool, nat_lt, nat_le, min, max, if◌then◌else◌, List, Option, Some, None}
 use Rattle.std.specs.List.{sum_by}
 use Rattle.sctp_util.specs.Serial.{distance, comes_before}
 use Rattle.sctp_reassembly.specs.reassembly_queue.ReassemblyQueue.{held_chunks}
@@ -9,9 +9,13 @@ use Rattle.sctp_receiver.specs.declared.receiver.refusal.ReceiverRefusal.{Receiv
 use Rattle.sctp_receiver.specs.declared.receiver.refusal.ReceiverRefusal.TheVariants.{TsnTooFar, WindowFull}
 use Rattle.sctp_receiver.specs.TsnFilter.{Filter, highest_tsn}
 
--- what a stream holds counts for: its bytes, and 200 for each chunk
+-- what a chunk that is held counts for, beside its bytes: no less than it takes on the heap
+abbrev pub chunk_cost : ℕ
+chunk_cost = 400
+
+-- what a stream holds counts for: its bytes, and the cost of each chunk
 abbrev pub cost_of : InboundStream → ℕ
-cost_of l = l.queue.bytes + 200 * held_chunks l.queue.held
+cost_of l = l.queue.bytes + chunk_cost * held_chunks l.queue.held
 
 -- up to the greatest usize
 abbrev pub cost_within : InboundStream → ℕ
@@ -41,3 +45,11 @@ refusal_by (Some l) tsn f ls = refusal_within l tsn f ls
 abbrev pub window_left : Option Limits → List InboundStream → ℕ
 window_left None ls = 2 ^ 32 - 1
 window_left (Some l) ls = min (l.window - held_cost ls) (2 ^ 32 - 1)
+
+-- how many fragments of so many bytes each, but the last, a message has; a fragment has some bytes
+abbrev pub fragments_of : ℕ → ℕ → ℕ
+fragments_of bytes fragment = (bytes + (max 1 fragment - 1)) / max 1 fragment
+
+-- what a message of so many bytes counts for, in such fragments
+abbrev pub least_window : ℕ → ℕ → ℕ
+least_window bytes fragment = bytes + chunk_cost * fragments_of bytes fragment

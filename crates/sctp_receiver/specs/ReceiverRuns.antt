@@ -10,7 +10,7 @@ use Rattle.sctp_reassembly.specs.reassembly_queue.ReassemblyQueue.{held_chunks}
 use Rattle.sctp_receiver.specs.declared.receiver.arrival.Arrival.{Arrival}
 use Rattle.sctp_receiver.specs.declared.receiver.arrival.Arrival.TheVariants.{New, Repeat}
 use Rattle.sctp_receiver.specs.declared.receiver.limits.Limits.{Limits}
-use Rattle.sctp_receiver.specs.Limits.{cost_of}
+use Rattle.sctp_receiver.specs.Limits.{chunk_cost, cost_of}
 use Rattle.sctp_receiver.specs.Receiver.{Reception, at_first, is_open, open_stream, close_stream, data_refusal, arrival_of, is_answered_complete, Takes}
 use Rattle.sctp_receiver.specs.Receiver.{discard_refusal, after_discard, forward_refusal, without_duplicates, max_sack_entries, after_sack_within, message_on}
 use Rattle.sctp_receiver.specs.Receiver.{after_read, after_forward}
@@ -191,16 +191,16 @@ AfterEachRunWithin P =
 abbrev pub chunks_held : Reception → ℕ
 chunks_held r = sum_by (λ l. held_chunks l.queue.held) r.streams
 
--- at 200 a chunk, they cost no more than the window and one chunk for each TSN within reach
+-- by the cost of a chunk, they cost no more than the window and one chunk for each TSN within reach
 abbrev pub HoldsFewChunks : Limits → Stand → Type 0
-HoldsFewChunks l s = 200 * chunks_held s.receiver ≤ l.window + l.reach * 200
+HoldsFewChunks l s = chunk_cost * chunks_held s.receiver ≤ l.window + l.reach * chunk_cost
 
 -- where no chunk that was taken has more bytes than this, all that is held costs no more than the window and one such chunk
 -- for each TSN within reach
 abbrev pub CostsLittle : Limits → Stand → Type 0
 CostsLittle l s =
     (most : ℕ) → All (λ c. length c.user_data ≤ most) s.accepted
-    → sum_by cost_of s.receiver.streams ≤ l.window + l.reach * (most + 200)
+    → sum_by cost_of s.receiver.streams ≤ l.window + l.reach * (most + chunk_cost)
 
 -- no more duplicates are noted than one SACK can report
 abbrev pub NotesFewDuplicates : Limits → Stand → Type 0

@@ -1,6 +1,7 @@
 //! What holds of every receiver, or after every run of its calls: a law, the contract of a function that does nothing.
 
 ghost use Rattle.sctp_receiver.specs.ReceiverRuns.{AfterEachRun, AfterEachRunWithin, AreComplete, AreOfOneMessage, CostsLittle, HoldsFewChunks, KeepsFewTsns, NotesFewDuplicates, WereAccepted};
+ghost use Rattle.sctp_receiver.specs.Advice.{AdviceSettles, SkipAdviceSettles};
 ghost use Rattle.sctp_receiver.specs.Datagrams.{DatagramsCostLittle};
 ghost use Rattle.sctp_receiver.specs.SkipCosts.{SkipsCostByWhatIsHeld};
 
@@ -16,7 +17,7 @@ pub fn messages_are_of_accepted_chunks()
 {}
 
 /// Whatever chunks come to a receiver with limits, and whichever streams are opened, closed and read, what it holds stays within them:
-/// at 200 bytes a chunk, the chunks that are held count for no more than the window and one chunk for each TSN within reach; and with
+/// by `CHUNK_COST`, the chunks that are held count for no more than the window and one chunk for each TSN within reach; and with
 /// their bytes too, where each chunk that was taken has at most so many. No more TSNs stand beyond the cumulative one than within reach,
 /// and no more duplicates are noted than one SACK can report.
 pub fn what_is_held_is_bounded()
@@ -38,4 +39,12 @@ pub fn a_skip_costs_by_what_is_held()
 /// cumulative one and of chunks together, and six more; and for each TSN that was beyond one, not one for each chunk.
 pub fn a_datagram_costs_by_its_chunks()
     ensures { DatagramsCostLittle }
+{}
+
+/// No chunk waits for ever. A chunk of the lowest missing TSN, where no stream has a message to read, is taken by `data`, or the advice at its
+/// refusal (`advice::advise`) settles it: following that, `discard` takes its TSN without memory, or `data` takes it on the stream that
+/// was opened for it, or the association ends. So of a FORWARD-TSN (`advice::advise_skip`), but one half the circle away.
+pub fn no_chunk_waits_for_ever()
+    ensures chunks { AdviceSettles }
+    ensures skips { SkipAdviceSettles }
 {}

@@ -1,6 +1,7 @@
 //! The receiving half of user data transfer (RFC 4960 6).
 #![tactic(auto)]
 
+pub mod advice;
 pub mod costs;
 pub mod laws;
 pub mod receiver;

@@ -72,7 +72,8 @@ impl Receiver {
     ghost use Rattle.sctp_receiver.specs.Receiver.{at_first, filter_of, stream_of, is_open, open_stream, close_stream, arrival_refusal, refusal_for, IsRefusedFor, takes_memory, arrival_of, is_answered_complete, Takes, discard_refusal, after_discard, discard_takes_memory, message_on, readable_streams, after_read};
 
     /// A receiver with no stream, to which nothing came. It expects `first_tsn` next, and a message may have `max_message_size` bytes.
-    /// Without limits it refuses nothing for them, and notes each TSN that comes again. It takes no memory.
+    /// With limits it copies the user data that it keeps. Without them it shares that, refuses nothing for them, and notes each TSN that
+    /// comes again. It takes no memory.
     pub fn new(alloc: Global, first_tsn: u32, max_message_size: u32, limits: Option<Limits>) -> Self
         ensures { result ≡ at_first first_tsn max_message_size limits }
     {
@@ -80,7 +81,7 @@ impl Receiver {
             alloc,
             max_message_size,
             limits,
-            streams: InboundStreams::new(alloc),
+            streams: InboundStreams::new(alloc, copies_by(alloc, limits)),
             filter: TsnFilter::new(alloc, first_tsn),
         }
     }
@@ -117,6 +118,7 @@ impl Receiver {
         ensures accepted { IsOk result → arrival_refusal chunk.now self.old ≡ None }
         ensures kept { IsOk result → has_come chunk.now.tsn (filter_of self.old) ≡ false
             → is_kept_on chunk.now (stream_of chunk.now.stream_identifier self.old) ≡ true }
+        ensures came { IsOk result → has_come chunk.now.tsn (filter_of self.new) ≡ true }
         ensures refused { IfErr result
             (λ e. IsRefusedFor (arrival_refusal chunk.now self.old) e) }
         ensures wants { IfErr result (λ e. e ≡ OutOfMemory
@@ -141,6 +143,7 @@ impl Receiver {
         ensures kept { IsOk result → any_ssn ≡ false
             → has_come chunk.now.tsn (filter_of self.old) ≡ false
             → is_kept_on chunk.now (stream_of chunk.now.stream_identifier self.old) ≡ true }
+        ensures came { IsOk result → has_come chunk.now.tsn (filter_of self.new) ≡ true }
         ensures refused { IfErr result
             (λ e. IsRefusedFor (refusal_for any_ssn chunk.now self.old) e) }
         ensures wants { IfErr result (λ e. e ≡ OutOfMemory
@@ -176,6 +179,7 @@ impl Receiver {
         ensures answer { IfOk result (λ arrival. arrival ≡ arrival_of tsn false self.old) }
         ensures ok { OnOk result (self.new ≡ after_discard tsn self.old) }
         ensures accepted { IsOk result → discard_refusal tsn self.old ≡ None }
+        ensures came { IsOk result → has_come tsn (filter_of self.new) ≡ true }
         ensures refused { IfErr result (λ e. IsRefusedFor (discard_refusal tsn self.old) e) }
         ensures wants { IfErr result (λ e. e ≡ OutOfMemory
             → discard_takes_memory tsn self.old ≡ true) }
@@ -292,5 +296,13 @@ impl Receiver {
             Some(inbound) => Some(inbound.stats),
             None => None,
         }
+    }
+}
+
+// With limits, what is held is copied; without them it shares the bytes of its datagram.
+fn copies_by(alloc: Global, limits: Option<Limits>) -> Option<Global> {
+    match limits {
+        Some(_) => Some(alloc),
+        None => None,
     }
 }

@@ -1,12 +1,13 @@
 //! A receiver, by the examples of the RFCs and by what a peer may forge.
 
 use crate::receivers::Step::{
-    Close, Cumulative, Data, Discard, Forward, HasStats, Held, IsReadable, MakeSack, NothingBeyond,
-    Open, OpenAgain, Read, ReadOf, Readable, Reset, Sack, SackSent, SackWithin, Streams, Take,
-    TakeOrDiscard,
+    Advised, Close, Cumulative, Data, Discard, Forward, HasStats, Held, IsReadable, MakeSack,
+    NothingBeyond, Open, OpenAgain, Read, ReadOf, Readable, Reset, Sack, SackSent, SackWithin,
+    Streams, Take, TakeOrDiscard,
 };
 use crate::receivers::Way::{ByNames, Known, PastClosed};
 use crate::receivers::{Step, all_go};
+use sctp_receiver::advice::AbortCause;
 use sctp_receiver::receiver::Receiver;
 use sctp_receiver::receiver::arrival::{Arrival, Forwarded};
 use sctp_receiver::receiver::limits::Limits;
@@ -52,14 +53,14 @@ const NAMED_FAR: Followed = Err(ReceiverRefusal::NamedSsnTooFar);
 
 const NAMED_UNKNOWN: Followed = Err(ReceiverRefusal::NamedStreamUnknown);
 
-// Two chunks of a byte each fill the window; each counts for 201.
+// Two chunks of a byte each fill the window; each counts for 401.
 const TWO: Option<Limits> = Some(Limits {
-    window: 402,
+    window: 802,
     reach: 5,
 });
 
 // Each case: what it shows, the first TSN, the maximum message size, the limits, and the steps.
-const CASES: [(&str, u32, u32, Option<Limits>, &[Step]); 23] = [
+const CASES: [(&str, u32, u32, Option<Limits>, &[Step]); 26] = [
     (
         // The example of RFC 4960 3.3.4: 13 and 16 are missing among 10 to 17.
         "the SACK of the RFC",
@@ -244,28 +245,81 @@ const CASES: [(&str, u32, u32, Option<Limits>, &[Step]); 23] = [
         TWO,
         &[
             Open(&[1]),
-            Held(0, 402),
+            Held(0, 802),
             Data(1, 6, 0, ALONE, b"a", TOO_FAR),
             Discard(6, TOO_FAR),
             Data(1, 3, 0, ALONE, b"a", WHOLE),
-            Held(201, 201),
+            Held(401, 401),
             Data(1, 5, 0, ALONE, b"a", PART),
-            Held(402, 0),
+            Held(802, 0),
             Data(1, 1, 0, ALONE, b"a", PART),
             Data(1, 6, 0, ALONE, b"a", FULL),
             Discard(6, FULL),
             Discard(2, PART),
             Data(1, 5, 0, ALONE, b"a", REPEAT),
-            Held(603, 0),
+            Held(1203, 0),
             // what is read, or dropped with its stream, is held no more
             Close(1),
-            Held(0, 402),
+            Held(0, 802),
             Open(&[1]),
             Data(1, 4, 0, ALONE, b"ab", WHOLE),
-            Held(202, 200),
+            Held(402, 400),
             Read(b"ab"),
-            Held(0, 402),
+            Held(0, 802),
             Data(1, 6, 1, ALONE, b"a", WHOLE),
+        ],
+    ),
+    (
+        // The stream of a message that is too long is closed, and holds nothing; its later chunks are dropped, and others are taken.
+        "a message that is too long leaves (RFC 9260 6.5)",
+        1,
+        3,
+        TWO,
+        &[
+            Open(&[1, 2]),
+            Advised(1, 1, 0, FIRST, b"ab", None),
+            Held(402, 400),
+            Advised(1, 2, 0, LAST, b"ab", None),
+            Held(0, 802),
+            Advised(1, 3, 1, ALONE, b"a", None),
+            Cumulative(3),
+            Advised(2, 4, 0, ALONE, b"a", None),
+            Held(401, 401),
+        ],
+    ),
+    (
+        // Fragments fill the window, and their message can't become complete: the next chunk ends the association, one past it does not.
+        "a window that can't open (RFC 9260 3.3.10.4)",
+        1,
+        100,
+        TWO,
+        &[
+            Open(&[1]),
+            Advised(1, 1, 0, FIRST, b"a", None),
+            Advised(1, 2, 0, MIDDLE, b"a", None),
+            Held(802, 0),
+            Advised(1, 4, 0, LAST, b"a", None),
+            Cumulative(2),
+            Advised(1, 3, 0, MIDDLE, b"a", Some(AbortCause::OutOfResource)),
+        ],
+    ),
+    (
+        // The window is full, but something can be read: the chunk is dropped, and taken once it was.
+        "a window that opens by reading (RFC 9260 6.2)",
+        1,
+        100,
+        TWO,
+        &[
+            Open(&[1, 2]),
+            Advised(2, 1, 0, ALONE, b"a", None),
+            Advised(1, 2, 0, FIRST, b"a", None),
+            Held(802, 0),
+            Advised(1, 3, 0, LAST, b"a", None),
+            Cumulative(2),
+            ReadOf(2, true),
+            Advised(1, 3, 0, LAST, b"a", None),
+            Cumulative(3),
+            Read(b"aa"),
         ],
     ),
     (

@@ -5,10 +5,11 @@ ghost use Rattle.sctp_receiver.specs.SkipCosts.{held_fragments, held_messages};
 ghost use Rattle.sctp_receiver.specs.Visited.{to_visit};
 
 use crate::part::{chunk, reads};
-use crate::receiving::{acknowledge, take_chunk, take_or_discard};
+use crate::receiving::{acknowledge, take_chunk, take_or_discard, take_or_follow};
 use sctp_chunks::chunk::chunk_forward_tsn::{ChunkForwardTsn, ChunkForwardTsnStream};
 use sctp_chunks::chunk::chunk_payload_data::ChunkPayloadData;
 use sctp_chunks::chunk::chunk_selective_ack::{ChunkSelectiveAck, GapAckBlock};
+use sctp_receiver::advice::AbortCause;
 use sctp_receiver::costs;
 use sctp_receiver::laws::a_skip_costs_by_what_is_held;
 use sctp_receiver::receiver::Receiver;
@@ -32,6 +33,8 @@ pub(crate) enum Step {
     /// A chunk of stream 1 by the caller that drops what is refused, and by the one that drops what is of no open stream.
     Take(u32, bool),
     TakeOrDiscard(u32, bool),
+    /// A chunk as `Data` by the caller that follows the advice at a refusal, and the cause of the ABORT that is due.
+    Advised(u16, u32, u16, (bool, bool, bool), &'static [u8], Option<AbortCause>),
     /// A FORWARD-TSN: how names of closed streams are taken, its TSN, its streams and their numbers.
     Forward(Way, u32, &'static [(u16, u16)], Result<Forwarded, ReceiverRefusal>),
     Reset(u16, u32, Result<(), ReceiverRefusal>),
@@ -60,9 +63,9 @@ pub(crate) enum Step {
 }
 
 use Step::{
-    Close, Cumulative, Data, Discard, Forward, HasStats, Held, IsReadable, MakeSack, NothingBeyond,
-    Open, OpenAgain, Read, ReadOf, Readable, Reset, Sack, SackSent, SackWithin, Streams, Take,
-    TakeOrDiscard,
+    Advised, Close, Cumulative, Data, Discard, Forward, HasStats, Held, IsReadable, MakeSack,
+    NothingBeyond, Open, OpenAgain, Read, ReadOf, Readable, Reset, Sack, SackSent, SackWithin,
+    Streams, Take, TakeOrDiscard,
 };
 
 /// How a FORWARD-TSN is followed: it may name open streams only, or closed ones too, or it discards by names alone.
@@ -135,6 +138,18 @@ fn take(
         Ok(chunk) if counted => costs::data(receiver, &chunk, &mut Turns::new()),
         Ok(chunk) => receiver.data(&chunk),
         Err(_) => Err(ReceiverRefusal::OutOfMemory),
+    }
+}
+
+// Whether the caller that follows the advice at a refusal answers so to a chunk that was made.
+fn is_advised(
+    receiver: &mut Receiver,
+    made: Result<ChunkPayloadData, Error>,
+    want: Option<AbortCause>,
+) -> bool {
+    match made {
+        Ok(chunk) => take_or_follow(receiver, &chunk) == Ok(want),
+        Err(_) => false,
     }
 }
 
@@ -282,6 +297,10 @@ fn goes(alloc: Global, receiver: &mut Receiver, step: &Step, counted: bool) -> b
         Data(stream, tsn, ssn, flags, bytes, want) => {
             let made = part(alloc, *stream, (*tsn, *ssn), *flags, bytes);
             take(receiver, made, counted) == *want
+        }
+        Advised(stream, tsn, ssn, flags, bytes, want) => {
+            let made = part(alloc, *stream, (*tsn, *ssn), *flags, bytes);
+            is_advised(receiver, made, *want)
         }
         Discard(tsn, want) => receiver.discard(*tsn) == *want,
         Take(tsn, want) => is_called(alloc, receiver, *tsn, false, *want),

@@ -3,10 +3,14 @@
 ghost use Rattle.std.specs.Prelude.{◌≡◌, ◌+◌, ◌-◌, ◌*◌, ◌≤◌, true, Some, None, OnOk, OnErr, IfOk, IfErr, length};
 ghost use Rattle.sctp_data.specs.SelectiveAck.{sack_of};
 ghost use Rattle.sctp_receiver.specs.declared.receiver.refusal.ReceiverRefusal.TheVariants.{OutOfMemory, StreamUnknown};
-ghost use Rattle.sctp_receiver.specs.Receiver.{Takes, after_discard, after_sack_within, arrival_of, arrival_refusal, sack_within, window};
+ghost use Rattle.sctp_receiver.specs.Advice.{is_next_to_come};
+ghost use Rattle.sctp_receiver.specs.Receiver.{Takes, after_discard, after_sack_within, arrival_of, arrival_refusal, filter_of, sack_within, window};
+ghost use Rattle.sctp_receiver.specs.TsnFilter.{has_come};
 
 use sctp_chunks::chunk::chunk_payload_data::ChunkPayloadData;
 use sctp_chunks::chunk::chunk_selective_ack::ChunkSelectiveAck;
+use sctp_receiver::advice::{AbortCause, Advice, advise};
+use sctp_receiver::laws::no_chunk_waits_for_ever;
 use sctp_receiver::receiver::Receiver;
 use sctp_receiver::receiver::arrival::Arrival;
 use sctp_receiver::receiver::refusal::ReceiverRefusal;
@@ -50,6 +54,41 @@ pub fn take_or_discard(
             Ok(false)
         }
         Err(refusal) => Err(refusal),
+    }
+}
+
+/// Gives a DATA chunk to a receiver and follows the advice at a refusal, where the application takes no stream that it did not open. It
+/// answers the cause of the ABORT that is due, if one is. Where none is and the chunk is the next to come, its TSN has come (RFC 9260
+/// 6.2, 6.5).
+pub fn take_or_follow(
+    receiver: &mut Receiver,
+    chunk: &ChunkPayloadData,
+) -> Result<Option<AbortCause>, ReceiverRefusal>
+    ensures settled { is_next_to_come chunk.now receiver.old ≡ true → IfOk result (λ end.
+        end ≡ None → has_come chunk.now.tsn (filter_of receiver.new) ≡ true) }
+    ensures memory { is_next_to_come chunk.now receiver.old ≡ true
+        → IfErr result (λ e. e ≡ OutOfMemory) }
+{
+    let Err(refusal) = receiver.data(chunk) else {
+        return Ok(None);
+    };
+    let _ = receiver.cumulative_tsn();
+    no_chunk_waits_for_ever();
+    match advise(refusal, chunk, receiver) {
+        Advice::Drop => match refusal {
+            ReceiverRefusal::OutOfMemory => Err(refusal),
+            _ => Ok(None),
+        },
+        Advice::OpenOrDiscard => {
+            receiver.discard(chunk.tsn)?;
+            Ok(None)
+        }
+        Advice::CloseAndDiscard => {
+            receiver.close(chunk.stream_identifier);
+            receiver.discard(chunk.tsn)?;
+            Ok(None)
+        }
+        Advice::Abort(cause) => Ok(Some(cause)),
     }
 }
 

@@ -3,8 +3,8 @@
 use super::Association;
 use crate::fault::Fault;
 use sctp::{
-    Arrival, ChunkError, ChunkForwardTsn, ChunkKind, ChunkPayloadData, ChunkReconfig,
-    ChunkSelectiveAck, Closed, ReceiverRefusal, Released, sna32lt,
+    Advice, Arrival, ChunkError, ChunkForwardTsn, ChunkKind, ChunkPayloadData, ChunkReconfig,
+    ChunkSelectiveAck, Closed, ReceiverRefusal, Released, SkipAdvice, advise, advise_skip, sna32lt,
 };
 
 /// How long a SACK may wait for a second packet, in nanoseconds (RFC 4960 6.2).
@@ -60,18 +60,32 @@ impl Association {
                 }
                 Ok(())
             }
-            // Dropped, where there is no room for it, or too much before it is still to be read: the SACK says so (RFC 4960 6.2).
-            Ok(Arrival::Repeat)
-            | Err(ReceiverRefusal::WindowFull)
-            | Err(ReceiverRefusal::TsnTooFar)
-            | Err(ReceiverRefusal::SsnTooFar) => {
+            Ok(Arrival::Repeat) => {
                 self.sack_at = Some(now);
                 Ok(())
             }
-            Err(ReceiverRefusal::StreamUnknown) => self.drop_unknown(chunk),
-            // Of no window that this association had.
-            Err(ReceiverRefusal::TsnOpposite) => Ok(()),
-            Err(e) => Err(e.into()),
+            Err(ReceiverRefusal::OutOfMemory) => Err(Fault::OutOfMemory),
+            Err(refusal) => self.follow(refusal, chunk, now),
+        }
+    }
+
+    // Does what is advised at a refusal. The SACK of what is dropped says that there is no room for it (RFC 4960 6.2).
+    fn follow(
+        &mut self,
+        refusal: ReceiverRefusal,
+        chunk: &ChunkPayloadData,
+        now: u64,
+    ) -> Result<(), Fault> {
+        self.sack_at = Some(now);
+        match advise(refusal, chunk, &self.receiver) {
+            Advice::Drop => Ok(()),
+            Advice::OpenOrDiscard => self.drop_unknown(chunk),
+            Advice::CloseAndDiscard => {
+                self.receiver.close(chunk.stream_identifier);
+                self.receiver.discard(chunk.tsn)?;
+                Ok(())
+            }
+            Advice::Abort(cause) => Err(Fault::Abort(cause)),
         }
     }
 
@@ -99,12 +113,15 @@ impl Association {
     }
 
     // Takes a FORWARD-TSN, which is acknowledged at once (RFC 3758 3.6). As chunks of streams that are not open are dropped, so are
-    // names of these. One that names too far ahead comes again.
+    // names of these. One that names too far ahead comes again, while something can be read.
     fn take_skip(&mut self, skip: &ChunkForwardTsn, now: u64) -> Result<(), Fault> {
         self.sack_at = Some(now);
         match self.receiver.forward_tsn(skip, Closed::PassOver) {
-            Ok(_) | Err(ReceiverRefusal::TsnOpposite | ReceiverRefusal::NamedSsnTooFar) => Ok(()),
-            Err(e) => Err(e.into()),
+            Ok(_) => Ok(()),
+            Err(refusal) => match advise_skip(refusal, &self.receiver) {
+                SkipAdvice::Abort(cause) => Err(Fault::Abort(cause)),
+                SkipAdvice::Drop | SkipAdvice::PassOver => Ok(()),
+            },
         }
     }
 

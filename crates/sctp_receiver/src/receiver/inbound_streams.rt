@@ -22,6 +22,7 @@ use crate::receiver::names::{make_each, make_room, note_each};
 use crate::receiver::refusal::ReceiverRefusal;
 use crate::receiver::visit::{Skip, forward_each, renew, settle, visit_all};
 use crate::receiver::visits::Visits;
+use bytes::Bytes;
 use sctp_data::chunk::chunk_forward_tsn::ChunkForwardTsnStream;
 use sctp_data::chunk::chunk_payload_data::ChunkPayloadData;
 use sctp_reassembly::chunks::Chunks;
@@ -31,6 +32,7 @@ use sctp_reassembly::reassembly_queue::undo::PushUndo;
 use sctp_serial::turns::Turns;
 use sctp_stream::stream::DataChannelStats;
 use sctp_stream::stream_numbers::{StreamNumbers, put};
+use sctp_util::error::Error;
 use std::alloc::Global;
 use std::marker::Model;
 
@@ -64,10 +66,11 @@ impl InboundStream {
         }
     }
 
-    /// The same, and its turns are added: those of a push in its queue.
+    /// The same, and its turns are added: those of a push in its queue. With an allocator the user data is copied (`to_keep`).
     pub(crate) fn push_undoable_counted(
         &mut self,
         chunk: &ChunkPayloadData,
+        copies: Option<Global>,
         turns: &mut Turns,
     ) -> Result<(bool, PushUndo), ReceiverRefusal>
         requires { (chunk.now.stream_identifier == self.old.queue.si) ≡ true }
@@ -83,7 +86,7 @@ impl InboundStream {
         ensures not_back { turns.old ≤ turns.new }
         ensures cost { IsWithinPush chunk.now self.old.queue (turns.new - turns.old) }
     {
-        let Ok(fragment) = chunk.try_clone() else {
+        let Ok(fragment) = to_keep(chunk, copies) else {
             return Err(refusal_without_memory(&self.queue, chunk, turns));
         };
         Ok(self.queue.push_undoable_counted(fragment, turns)?)
@@ -125,7 +128,7 @@ impl InboundStream {
 /// The streams of a receiver, in the order in which they were opened. Each is found at once by its number, and the sum of what they
 /// hold is kept: of each stream up to the greatest usize, so that it can be lowered again. So are the places of the streams that a
 /// FORWARD-TSN visits: of each that holds something incomplete, and of none that holds neither ordered messages nor unassembled
-/// fragments. There is room to note what a FORWARD-TSN names on each stream.
+/// fragments. There is room to note what a FORWARD-TSN names on each stream. What is held is copied, where there is an allocator for that.
 #[derive(Drop)]
 pub struct InboundStreams {
     numbers: StreamNumbers,
@@ -134,6 +137,7 @@ pub struct InboundStreams {
     visits: Visits,
     // by place, nothing but while the names of a FORWARD-TSN are followed
     noted: Vec<Option<OrderedSkips>>,
+    copies: Option<Global>,
 }
 
 impl Model for InboundStreams {
@@ -163,8 +167,8 @@ impl InboundStreams {
     ghost use Rattle.sctp_receiver.specs.Inbound.{has_number, numbers_of, new_stream, PushesOn, stream_read, named_forwarded};
     ghost use Rattle.sctp_receiver.specs.Receiver.{message_of, stream_refusal, IsRefusedFor};
 
-    /// No streams. It takes no memory.
-    pub(crate) fn new(alloc: Global) -> Self
+    /// No streams. Chunks are copied with the second allocator, if there is one, else they share their user data. It takes no memory.
+    pub(crate) fn new(alloc: Global, copies: Option<Global>) -> Self
         ensures { result ≡ [] }
     {
         InboundStreams {
@@ -173,6 +177,7 @@ impl InboundStreams {
             cost: 0,
             visits: Visits::new(alloc),
             noted: Vec::new(alloc),
+            copies,
         }
     }
 
@@ -277,7 +282,7 @@ impl InboundStreams {
     {
         let stream = &mut self.items[place];
         let before = cost_of(&stream.queue);
-        let pushed = stream.push_undoable_counted(chunk, turns);
+        let pushed = stream.push_undoable_counted(chunk, self.copies, turns);
         self.cost = moved(self.cost, before, cost_of(&stream.queue));
         renew(&mut self.visits, place, &stream.queue, true);
         pushed
@@ -488,4 +493,40 @@ fn refusal_without_memory(
     } else {
         ReceiverRefusal::OutOfMemory
     }
+}
+
+// An equal chunk, to be kept. With an allocator its user data is copied, and keeps no other byte of its datagram; else it is shared.
+fn to_keep(chunk: &ChunkPayloadData, copies: Option<Global>) -> Result<ChunkPayloadData, Error>
+    ensures ok { IfOk result (λ kept. kept ≡ chunk.now) }
+{
+    match copies {
+        Some(alloc) => copied(alloc, chunk),
+        None => chunk.try_clone(),
+    }
+}
+
+// An equal chunk with user data of its own.
+fn copied(alloc: Global, chunk: &ChunkPayloadData) -> Result<ChunkPayloadData, Error>
+    ensures ok { IfOk result (λ kept. kept ≡ chunk.now) }
+{
+    Ok(ChunkPayloadData {
+        unordered: chunk.unordered,
+        beginning_fragment: chunk.beginning_fragment,
+        ending_fragment: chunk.ending_fragment,
+        immediate_sack: chunk.immediate_sack,
+        tsn: chunk.tsn,
+        stream_identifier: chunk.stream_identifier,
+        stream_sequence_number: chunk.stream_sequence_number,
+        payload_type: chunk.payload_type,
+        user_data: Bytes::copy_from_slice(alloc, &chunk.user_data)?,
+        acked: chunk.acked,
+        miss_indicator: chunk.miss_indicator,
+        message_id: chunk.message_id,
+        abandoned: chunk.abandoned,
+        since: chunk.since,
+        reliability: chunk.reliability,
+        deadline: chunk.deadline,
+        nsent: chunk.nsent,
+        retransmit: chunk.retransmit,
+    })
 }

@@ -69,6 +69,7 @@ pub(crate) fn take(
         → has_come chunk.now.tsn filter.old ≡ false
         → is_kept_on chunk.now (stream_of chunk.now.stream_identifier
         (reception_of rules (parts streams.old filter.old))) ≡ true }
+    ensures came { IsOk result → has_come chunk.now.tsn filter.new ≡ true }
     ensures undo { IfOk result (λ taken. chunk_undone taken.1
         (parts streams.new filter.new) ≡ parts streams.old filter.old) }
     ensures can { IfOk result (λ taken. CanUndoChunk taken.1 (parts streams.new filter.new)) }
@@ -106,6 +107,7 @@ fn take_any_ssn(
         (reception_of rules (parts streams.new filter.new))) }
     ensures accepted { IsOk result
         → data_refusal chunk.now (reception_of rules (parts streams.old filter.old)) ≡ None }
+    ensures came { IsOk result → has_come chunk.now.tsn filter.new ≡ true }
     ensures undo { IfOk result (λ taken. chunk_undone taken.1
         (parts streams.new filter.new) ≡ parts streams.old filter.old) }
     ensures can { IfOk result (λ taken. CanUndoChunk taken.1 (parts streams.new filter.new)) }

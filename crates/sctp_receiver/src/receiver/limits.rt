@@ -2,7 +2,7 @@
 
 ghost use Rattle.std.specs.Prelude.{◌≡◌, ◌+◌, ◌*◌, ◌-◌, ◌^◌, min};
 ghost use Rattle.sctp_reassembly.specs.reassembly_queue.ReassemblyQueue.{held_chunks};
-ghost use Rattle.sctp_receiver.specs.Limits.{held_cost, refusal_by, refusal_within};
+ghost use Rattle.sctp_receiver.specs.Limits.{chunk_cost, held_cost, least_window, refusal_by, refusal_within};
 
 use crate::receiver::Receiver;
 use crate::receiver::inbound_streams::InboundStreams;
@@ -12,8 +12,8 @@ use sctp_reassembly::reassembly_queue::ReassemblyQueue;
 use sctp_serial::serial::distance;
 use sctp_util::util::sna32lt;
 
-/// What a chunk that is held counts for, beside its bytes: no less than it takes on the heap.
-pub const CHUNK_COST: usize = 200;
+/// What a chunk that is held counts for, beside its bytes: no less than it takes on the heap, as measured (SECURITY.md).
+pub const CHUNK_COST: usize = 400;
 
 /// What a receiver takes at most.
 #[derive(Clone, Copy, Debug, PartialEq, Eq)]
@@ -22,6 +22,18 @@ pub struct Limits {
     pub window: usize,
     /// How far past the cumulative TSN a TSN may lie.
     pub reach: u32,
+}
+
+impl Limits {
+    /// The least window in which one message of the greatest length fits, in fragments of at least `fragment` bytes each but the last. In
+    /// a lesser one its peer may send fragments that fill it, and that never become a message: then `advise` says to end.
+    pub fn least_window(max_message_size: u32, fragment: u32) -> usize
+        ensures { result ≡ least_window max_message_size fragment }
+    {
+        let fragment = fragment.max(1) as usize;
+        let fragments = (max_message_size as usize + (fragment - 1)) / fragment;
+        max_message_size as usize + CHUNK_COST * fragments
+    }
 }
 
 impl Receiver {
@@ -99,7 +111,8 @@ fn refusal_within(
 
 // What a queue holds counts for, up to the greatest usize.
 pub(crate) fn cost_of(queue: &ReassemblyQueue) -> usize
-    ensures { result ≡ min (queue.now.bytes + 200 * held_chunks queue.now.held) (2 ^ 64 - 1) }
+    ensures { result
+        ≡ min (queue.now.bytes + chunk_cost * held_chunks queue.now.held) (2 ^ 64 - 1) }
 {
     queue
         .get_num_bytes()

@@ -6,7 +6,7 @@ ghost use Rattle.sctp_util.specs.Lists.{advance_over};
 ghost use Rattle.sctp_util.specs.Serial.{comes_before};
 ghost use Rattle.sctp_reassembly.specs.reassembly_queue.Orders.{digits};
 ghost use Rattle.sctp_receiver.specs.Costs.{IsWithinBlocks};
-ghost use Rattle.sctp_receiver.specs.TsnFilter.{placeholder};
+ghost use Rattle.sctp_receiver.specs.TsnFilter.{placeholder, rise_beyond};
 ghost use Rattle.sctp_serial.specs.DataChunks.{following_tsn, preceding_tsn, tsns};
 ghost use Rattle.sctp_serial.specs.Turns.{IsWithinDigits};
 
@@ -112,6 +112,7 @@ impl TsnFilter {
         ensures value { result ≡ is_opposite tsn self.now }
         ensures tsn_fits { tsn < 2 ^ 32 }
         ensures cumulative_fits { self.now.cumulative_tsn < 2 ^ 32 }
+        ensures rise { rise_beyond self.now.cumulative_tsn 1 self.now.beyond ≡ true }
     {
         distance(self.cumulative_tsn, tsn) == 1 << 31
     }

@@ -468,7 +468,7 @@ extern "C" {
     pub fn sctp_store_sum(sum: u32, packet: *mut u8, length: usize) -> sctp_code;
 
     /// Makes a receiver with no stream, to which nothing came: `first_tsn`, the peer's initial TSN, is expected next, and a message may have
-    /// `max_message_size` bytes. It holds about `window` bytes at most, each chunk counted as 200 more than its user data, and no TSN farther
+    /// `max_message_size` bytes. It holds about `window` bytes at most, each chunk counted as 400 more than its user data, and no TSN farther
     /// than `reach` past the cumulative one (RFC 4960 6.2). `out` becomes its handle. SCTP_NO_MEMORY; `out` stays then.
     pub fn sctp_receiver_new(first_tsn: u32, max_message_size: u32, window: usize, reach: u32, out: *mut sctp_receiver) -> sctp_code;
 
@@ -534,7 +534,7 @@ extern "C" {
     /// The window to advertise, in bytes (RFC 4960 3.3.4), which a SACK has as its credit; 2^32 - 1 without limits.
     pub fn sctp_receiver_window(receiver: *mut sctp_receiver) -> u32;
 
-    /// What is held and was not read: its bytes, and 200 for each chunk; the greatest size_t where it is more.
+    /// What is held and was not read: its bytes, and 400 for each chunk; the greatest size_t where it is more.
     pub fn sctp_receiver_held_bytes(receiver: *mut sctp_receiver) -> usize;
 
     /// Makes a sender with no stream, whose first chunk gets `first_tsn`. A chunk has `fragment_size` bytes of user data at most, 1 to 65,519,

@@ -182,7 +182,7 @@ impl Receiver {
         unsafe { sys::sctp_receiver_window(self.handle.get()) }
     }
 
-    /// What is held and was not read: its bytes, and 200 for each chunk.
+    /// What is held and was not read: its bytes, and 400 for each chunk.
     pub fn held_bytes(&self) -> usize {
         // SAFETY: as in `cumulative_tsn`.
         unsafe { sys::sctp_receiver_held_bytes(self.handle.get()) }

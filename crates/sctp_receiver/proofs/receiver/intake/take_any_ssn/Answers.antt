@@ -1,9 +1,11 @@
-use Rattle.std.proofs.Common.{◌≡◌, ◌-◌, length, sym, ◌∙◌, inr, None, arith}
+use Rattle.std.proofs.Common.{◌≡◌, ◌-◌, length, sym, ◌∙◌, subst, inr, None, true, arith}
 use Rattle.sctp_reassembly.proofs.lemmas.reassembly_queue.Digits.{within_digits}
 use Rattle.sctp_receiver.proofs.PushCosts.{data-none}
 use Rattle.sctp_receiver.specs.Receiver.{new_refusal}
 use Rattle.sctp_receiver.specs.Undo.{parts, reception_of}
 use Rattle.sctp_receiver.proofs.Receptions.{closed, unknown, any-room}
+use Rattle.sctp_receiver.specs.TsnFilter.{Filter, has_come}
+use Rattle.sctp_receiver.proofs.Came.{taken-came}
 use Rattle.sctp_receiver.proofs.receiver.intake.take_any_ssn.Goals as goal
 
 pub returns-in_default-place_of-clause-refused : goal.returns-in_default-place_of-clause-refused
@@ -92,3 +94,12 @@ returns-clause-cost c =
       );
       pushes = c.push_undoable_at_counted.ensures.cost;
     }
+
+pub returns-clause-came : goal.returns-clause-came
+returns-clause-came c = λ _.
+    let t = c.args.chunk.now.tsn in
+    let o = c.is_opposite.ensures in
+    let fresh = sym c.has_come_counted.ensures.answer ∙ c.if-has_come_counted.false in
+    let near = sym o.value ∙ c.if-is_opposite.false in
+    subst (λ (f : Filter). has_come t f ≡ true) (sym c.in-Ok.ensures.ok)
+    (taken-came t c.args.filter.now o.cumulative_fits o.tsn_fits o.rise fresh near)
