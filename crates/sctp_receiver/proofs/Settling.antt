@@ -1,7 +1,7 @@
 -- Following the advice at a refusal settles the next chunk to come.
 use Rattle.std.proofs.Common.{◌≡◌, ℕ, ◌<◌, ◌≤◌, ◌^◌, Bool, true, false, List, [], ◌∷◌, ◌++◌, Option, Some, None, refl, ap, sym, ◌∙◌, subst, arith}
 use Rattle.std.specs.Prelude.{⊤, if◌then◌else◌, ◌==◌, ◌&&◌, ◌||◌, not, nat_lt, nat_le, find, is_some}
-use Rattle.std.specs.List.{list_any}
+use Rattle.std.specs.List.{list_any, filter}
 use Rattle.std.specs.Option.{option_or}
 use Rattle.std.proofs.lemmas.Bool.Decides.{nat_tests}
 use Rattle.sctp_util.specs.Serial.{distance, comes_before}
@@ -22,7 +22,7 @@ use Rattle.sctp_receiver.specs.declared.receiver.refusal.ReceiverRefusal.{Receiv
 use Rattle.sctp_receiver.specs.declared.receiver.refusal.ReceiverRefusal.TheVariants.{StreamOpen, StreamUnknown, TsnOpposite, MessageTooLarge, TsnTooFar}
 use Rattle.sctp_receiver.specs.declared.receiver.refusal.ReceiverRefusal.TheVariants.{WindowFull, SsnTooFar, NamedStreamUnknown, NamedSsnTooFar}
 use Rattle.sctp_receiver.specs.declared.receiver.refusal.ReceiverRefusal.TheVariants.{ResetInProgress, OutOfMemory}
-use Rattle.sctp_receiver.specs.Advice.{is_any_readable, is_next_to_come, drop_or_abort, advice_for, skip_advice_for, IsDiscarded, SettlesAtOnce, IsSettledBy}
+use Rattle.sctp_receiver.specs.Advice.{is_any_readable, is_next_to_come, drop_or_abort, advice_for, skip_advice_for, IsDiscarded, IsGivenUp, SettlesAtOnce, IsSettledBy}
 use Rattle.sctp_receiver.specs.Advice.{IsSettled, Settles, AdviceSettles, SettlesSkip, SkipAdviceSettles}
 use Rattle.sctp_receiver.specs.Inbound.{has_number, new_stream}
 use Rattle.sctp_receiver.specs.Limits.{cost_of, held_cost, is_beyond_window, refusal_by}
@@ -69,6 +69,16 @@ less-refused (Some l) t f ls ls' less h = far (nat_lt l.reach (distance f.cumula
     far true h = cc
     far false h = full (comes_before (highest_tsn f) t) (nat_le l.window (held_cost ls)) (nat_le l.window (held_cost ls')) refl refl h
 
+-- a stream that is closed is not open
+not-open : (s : ℕ) (ls : List InboundStream) → is_some (find (has_number s) (filter (λ l. not (has_number s l)) ls)) ≡ false
+not-open s [] = refl
+not-open s (l ∷ ls) = by (has_number s l) refl (not-open s ls)
+  where
+    by : (b : Bool) → has_number s l ≡ b → is_some (find (has_number s) (filter (λ l. not (has_number s l)) ls)) ≡ false
+        → is_some (find (has_number s) (if not b then l ∷ filter (λ l. not (has_number s l)) ls else filter (λ l. not (has_number s l)) ls)) ≡ false
+    by true e ih = ih
+    by false e ih = ap (λ b. is_some (if b then Some l else find (has_number s) (filter (λ l. not (has_number s l)) ls))) e ∙ ih
+
 closed-less : (s : ℕ) (r : Reception) → held_cost (close_stream s r).streams ≤ held_cost r.streams
 closed-less s r = let h = kept-cost cost_of (λ l. not (has_number s l)) r.streams in omega (arith, h)
 
@@ -95,7 +105,7 @@ module _ (c : ChunkPayloadData) (r : Reception) (small : r.cumulative_tsn < 2 ^ 
   abbrev Reasons : Option ReceiverRefusal → Type 0
   Reasons None = ⊤
   Reasons (Some StreamUnknown) = IsDiscarded c.tsn r × (stream_of c.stream_identifier r ≡ None)
-  Reasons (Some MessageTooLarge) = IsDiscarded c.tsn (close_stream c.stream_identifier r)
+  Reasons (Some MessageTooLarge) = IsGivenUp c (close_stream c.stream_identifier r)
   Reasons (Some WindowFull) = ⊤
   Reasons (Some TsnTooFar) = ⊤
   Reasons (Some SsnTooFar) = ⊤
@@ -127,8 +137,12 @@ module _ (c : ChunkPayloadData) (r : Reception) (small : r.cumulative_tsn < 2 ^ 
   stream-reasons (Some l) found fresh within = by (is_too_large c l.queue)
     where
       by : (b : Bool) → Reasons (if b then Some MessageTooLarge else None)
-      by true = discarded (close_stream c.stream_identifier r) fresh near
-          (less-refused r.limits c.tsn (filter_of r) r.streams (close_stream c.stream_identifier r).streams (closed-less c.stream_identifier r) within) is-next
+      by true = record {
+        closed = not-open c.stream_identifier r.streams;
+        discarded = discarded (close_stream c.stream_identifier r) fresh near
+            (less-refused r.limits c.tsn (filter_of r) r.streams (close_stream c.stream_identifier r).streams (closed-less c.stream_identifier r) within)
+            is-next;
+      }
       by false = tt
 
   data-reasons : Reasons (data_refusal c r)

@@ -13,7 +13,7 @@ use Rattle.sctp_receiver.specs.declared.advice.SkipAdvice.TheVariants as skip
 use Rattle.sctp_receiver.specs.declared.receiver.refusal.ReceiverRefusal.{ReceiverRefusal}
 use Rattle.sctp_receiver.specs.declared.receiver.refusal.ReceiverRefusal.TheVariants.{StreamUnknown, MessageTooLarge, TsnTooFar, WindowFull, SsnTooFar}
 use Rattle.sctp_receiver.specs.declared.receiver.refusal.ReceiverRefusal.TheVariants.{NamedStreamUnknown, NamedSsnTooFar}
-use Rattle.sctp_receiver.specs.Receiver.{Reception, filter_of, open_stream, close_stream, arrival_refusal, discard_refusal, discard_takes_memory}
+use Rattle.sctp_receiver.specs.Receiver.{Reception, filter_of, is_open, open_stream, close_stream, arrival_refusal, discard_refusal, discard_takes_memory}
 use Rattle.sctp_receiver.specs.Skips.{past_closed_refusal, skip_refusal}
 use Rattle.sctp_receiver.specs.TsnFilter.{is_opposite}
 use Rattle.sctp_serial.specs.DataChunks.{following_tsn}
@@ -51,9 +51,14 @@ pub record IsDiscarded (tsn : ℕ) (r : Reception) : Type 0 where
   pub accepted : discard_refusal tsn r ≡ None
   pub free : discard_takes_memory tsn r ≡ false
 
+-- nothing stays of its message, since its stream is closed, and its TSN is discarded
+pub record IsGivenUp (c : ChunkPayloadData) (r : Reception) : Type 0 where
+  pub closed : is_open c.stream_identifier r ≡ false
+  pub discarded : IsDiscarded c.tsn r
+
 -- following this advice, the TSN of the chunk comes, or the association ends; no stream is opened for it
 abbrev pub SettlesAtOnce : Advice → ChunkPayloadData → Reception → Type 0
-SettlesAtOnce advice.CloseAndDiscard c r = IsDiscarded c.tsn (close_stream c.stream_identifier r)
+SettlesAtOnce advice.CloseAndDiscard c r = IsGivenUp c (close_stream c.stream_identifier r)
 SettlesAtOnce (advice.Abort cause) c r = ⊤
 SettlesAtOnce advice.Drop c r = ⊥
 SettlesAtOnce advice.OpenOrDiscard c r = ⊥

@@ -42,8 +42,8 @@ pub fn a_datagram_costs_by_its_chunks()
 {}
 
 /// No chunk waits for ever. A chunk of the lowest missing TSN, where no stream has a message to read, is taken by `data`, or the advice at its
-/// refusal (`advice::advise`) settles it: following that, `discard` takes its TSN without memory, or `data` takes it on the stream that
-/// was opened for it, or the association ends. So of a FORWARD-TSN (`advice::advise_skip`), but one half the circle away.
+/// refusal (`advice::advise`) settles it: following that, `discard` takes its TSN without memory, once its stream is closed where its message
+/// is too long; or `data` takes it on the stream that was opened for it; or the association ends. So of a FORWARD-TSN (`advice::advise_skip`), but one half the circle away.
 pub fn no_chunk_waits_for_ever()
     ensures chunks { AdviceSettles }
     ensures skips { SkipAdviceSettles }
