@@ -31,4 +31,9 @@ pub mod HeldSkips
 pub mod HeldBound
 pub mod Came
 pub mod Settling
+pub mod BesideRuns
+pub mod CreditTold
+pub mod RepeatsTold
+pub mod SackTold
+pub mod ReadsCounted
 mod Examples

@@ -14,3 +14,7 @@ pub mod Costs
 pub mod SkipCosts
 pub mod Datagrams
 pub mod Advice
+pub mod Beside
+pub mod Credit
+pub mod Duplicates
+pub mod Counters

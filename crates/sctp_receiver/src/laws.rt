@@ -1,5 +1,9 @@
 //! What holds of every receiver, or after every run of its calls: a law, the contract of a function that does nothing.
 
+pub mod counters;
+pub mod credit;
+pub mod duplicates;
+
 ghost use Rattle.sctp_receiver.specs.ReceiverRuns.{AfterEachRun, AfterEachRunWithin, AreComplete, AreOfOneMessage, CostsLittle, HoldsFewChunks, KeepsFewTsns, NotesFewDuplicates, WereAccepted};
 ghost use Rattle.sctp_receiver.specs.Advice.{AdviceSettles, SkipAdviceSettles};
 ghost use Rattle.sctp_receiver.specs.Datagrams.{DatagramsCostLittle};

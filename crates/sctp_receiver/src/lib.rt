@@ -6,3 +6,4 @@ pub mod costs;
 pub mod laws;
 pub mod receiver;
 pub mod replay;
+pub mod told;
