@@ -36,4 +36,5 @@ pub mod CreditTold
 pub mod RepeatsTold
 pub mod SackTold
 pub mod ReadsCounted
+pub mod Drained
 mod Examples

@@ -82,7 +82,7 @@ counts-read (Some set) ms stats k = counts-one set ms stats k
 
 -- ## A stream by its number
 
-found-number : (s : ℕ) (ls : List InboundStream) (x : InboundStream) → find (has_number s) ls ≡ Some x → number x ≡ s
+pub found-number : (s : ℕ) (ls : List InboundStream) (x : InboundStream) → find (has_number s) ls ≡ Some x → number x ≡ s
 found-number s [] x e = cc
 found-number s (l ∷ ls) x e = by (number l == s) refl e (found-number s ls x)
   where

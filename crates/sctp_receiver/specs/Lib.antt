@@ -18,3 +18,4 @@ pub mod Beside
 pub mod Credit
 pub mod Duplicates
 pub mod Counters
+pub mod Drains

@@ -2,6 +2,7 @@
 
 pub mod counters;
 pub mod credit;
+pub mod drains;
 pub mod duplicates;
 
 ghost use Rattle.sctp_receiver.specs.ReceiverRuns.{AfterEachRun, AfterEachRunWithin, AreComplete, AreOfOneMessage, CostsLittle, HoldsFewChunks, KeepsFewTsns, NotesFewDuplicates, WereAccepted};

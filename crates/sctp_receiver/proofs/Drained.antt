@@ -1,0 +1,81 @@
+-- What reading a stream until no message is left gives.
+use Rattle.std.proofs.Common.{◌≡◌, ℕ, ◌+◌, ◌%◌, ◌^◌, Bool, true, false, List, [], ◌∷◌, ◌++◌, Option, Some, None, refl, ap, sym, ◌∙◌}
+use Rattle.std.specs.Prelude.{if◌then◌else◌, ◌==◌, option_map}
+use Rattle.std.proofs.lemmas.Bool.{eq-eqb}
+use Rattle.sctp_data.specs.declared.chunk.chunk_payload_data.ChunkPayloadData.{ChunkPayloadData}
+use Rattle.sctp_data.specs.ChunkSet.{ChunkSet}
+use Rattle.sctp_reassembly.specs.reassembly_queue.ReassemblyQueue.{Reassembly, after_read, is_readable, message_among, rest_among}
+use Rattle.sctp_receiver.specs.declared.receiver.inbound_streams.InboundStream.{InboundStream}
+use Rattle.sctp_receiver.specs.Inbound.{has_number, number, stream_read}
+use Rattle.sctp_receiver.specs.Receiver.{Reception, after_read as read_on, message_of, message_on, stream_of}
+use Rattle.sctp_receiver.specs.Drains.{Drains, DrainsGiveWhatIsDue, WhatIsDueDrains, due_from, due_on}
+use Rattle.sctp_receiver.proofs.Handed.{found-changed}
+use Rattle.sctp_receiver.proofs.ReadsCounted.{found-number}
+
+-- ## One message
+
+abbrev with_next : Option ChunkSet → List ChunkSet → List ChunkSet
+with_next None ms = []
+with_next (Some m) ms = m ∷ ms
+
+abbrev due_in : Reassembly → List ChunkSet
+due_in q = q.unordered ++ due_from q.next_ssn q.ordered
+
+abbrev held : ℕ → List ChunkSet → List ChunkSet → List ChunkPayloadData → Reassembly
+held next os us un = record { next_ssn = next; ordered = os; unordered = us; unassembled = un }
+
+first-due : (next : ℕ) (os us : List ChunkSet) (un : List ChunkPayloadData)
+    → us ++ due_from next os ≡ with_next (message_among us (held next os us un)) (due_in (rest_among us (held next os us un)))
+first-due next os (u ∷ us) un = refl
+first-due next [] [] un = refl
+first-due next (s ∷ ss) [] un = by (is_readable next s)
+  where
+    by : (b : Bool) → (if b then s ∷ due_from (if s.ssn == next then (next + 1) % 2 ^ 16 else next) ss else [])
+        ≡ with_next (if b then Some s else None) (due_in (after_read (if b then Some s else None) (held next (s ∷ ss) [] un)))
+    by true = refl
+    by false = refl
+
+next-due : (o : Option InboundStream) → due_on o ≡ with_next (message_of o) (due_on (option_map stream_read o))
+next-due None = refl
+next-due (Some l) = first-due l.queue.held.next_ssn l.queue.held.ordered l.queue.held.unordered l.queue.held.unassembled
+
+-- the stream is read
+read-here : (st : ℕ) (r : Reception) → stream_of st (read_on st r) ≡ option_map stream_read (stream_of st r)
+read-here st r = found-changed st st stream_read (λ l e. refl) r.streams ∙ by (stream_of st r) refl
+  where
+    by : (o : Option InboundStream) → stream_of st r ≡ o
+        → option_map (λ l. if has_number st l then stream_read l else l) o ≡ option_map stream_read o
+    by None e = refl
+    by (Some l) e =
+        let on : has_number st l ≡ true = eq-eqb (number l) st (found-number st r.streams l e) in
+        ap (λ b. Some (if b then stream_read l else l)) on
+
+due-now : (st : ℕ) (r : Reception) → due_on (stream_of st r) ≡ with_next (message_on st r) (due_on (stream_of st (read_on st r)))
+due-now st r = next-due (stream_of st r) ∙ ap (λ o. with_next (message_on st r) (due_on o)) (sym (read-here st r))
+
+-- ## The law
+
+pub only : DrainsGiveWhatIsDue
+only st [] old new d = sym (due-now st old ∙ ap (λ m. with_next m (due_on (stream_of st (read_on st old)))) d.0)
+only st (m ∷ ms) old new d =
+    ap (λ xs. m ∷ xs) (only st ms (read_on st old) new d.1)
+    ∙ sym (due-now st old ∙ ap (λ x. with_next x (due_on (stream_of st (read_on st old)))) d.0)
+
+reads-all : (st : ℕ) (ms : List ChunkSet) (old : Reception) → due_on (stream_of st old) ≡ ms → (new : Reception) × Drains st ms old new
+reads-all st [] old e = (old, (by (message_on st old) (sym (due-now st old) ∙ e), refl))
+  where
+    by : (o : Option ChunkSet) → with_next o (due_on (stream_of st (read_on st old))) ≡ [] → o ≡ None
+    by None h = refl
+    by (Some x) h = cc
+reads-all st (m ∷ ms) old e =
+    let h = by (message_on st old) (sym (due-now st old) ∙ e) in
+    let rest = reads-all st ms (read_on st old) h.1 in
+    (rest.0, (h.0, rest.1))
+  where
+    by : (o : Option ChunkSet) → with_next o (due_on (stream_of st (read_on st old))) ≡ m ∷ ms
+        → (o ≡ Some m) × (due_on (stream_of st (read_on st old)) ≡ ms)
+    by None h = cc
+    by (Some x) h = let same : x ≡ m = cc in let rest : due_on (stream_of st (read_on st old)) ≡ ms = cc in (ap Some same, rest)
+
+pub all : WhatIsDueDrains
+all st old = reads-all st (due_on (stream_of st old)) old refl
