@@ -121,4 +121,8 @@ pub mod EndDelivers
 pub mod EndForwards
 pub mod EndSessions
 pub mod OneStep
+pub mod NotedChunks
+pub mod NotedCalls
+pub mod NotedSessions
+pub mod ResentCounts
 mod EndExamples

@@ -10,3 +10,4 @@ pub mod Rounds
 pub mod Refused
 pub mod Ending
 pub mod Discards
+pub mod Retransmission

@@ -4,6 +4,7 @@ pub mod complete;
 pub mod discards;
 pub mod messages;
 pub mod progress;
+pub mod retransmission;
 pub mod rounds;
 
 ghost use Rattle.sctp_delivery.specs.Session.{AfterEachSession, AreMade, AreMessages, AreRuns, IsAccounted};

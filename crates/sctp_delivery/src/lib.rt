@@ -10,6 +10,7 @@ pub mod in_order;
 pub mod laws;
 pub mod receiver_steps;
 pub mod refusals;
+pub mod resending;
 pub mod room;
 pub mod sacks;
 pub mod sender_steps;
