@@ -22,7 +22,7 @@ use Rattle.sctp_receiver.specs.declared.receiver.refusal.ReceiverRefusal.{Receiv
 use Rattle.sctp_receiver.specs.declared.receiver.refusal.ReceiverRefusal.TheVariants.{StreamOpen, StreamUnknown, TsnOpposite, MessageTooLarge, TsnTooFar}
 use Rattle.sctp_receiver.specs.declared.receiver.refusal.ReceiverRefusal.TheVariants.{WindowFull, SsnTooFar, NamedStreamUnknown, NamedSsnTooFar}
 use Rattle.sctp_receiver.specs.declared.receiver.refusal.ReceiverRefusal.TheVariants.{ResetInProgress, OutOfMemory}
-use Rattle.sctp_receiver.specs.Advice.{is_any_readable, is_next_to_come, drop_or_abort, advice_for, skip_advice_for, IsDiscarded, IsGivenUp, SettlesAtOnce, IsSettledBy}
+use Rattle.sctp_receiver.specs.Advice.{is_any_readable, is_next_to_come, drop_or_abort, advice_for, skip_advice_for, IsDiscarded, IsDropped, SettlesAtOnce, IsSettledBy}
 use Rattle.sctp_receiver.specs.Advice.{IsSettled, Settles, AdviceSettles, SettlesSkip, SkipAdviceSettles}
 use Rattle.sctp_receiver.specs.Inbound.{has_number, new_stream}
 use Rattle.sctp_receiver.specs.Limits.{cost_of, held_cost, is_beyond_window, refusal_by}
@@ -105,7 +105,7 @@ module _ (c : ChunkPayloadData) (r : Reception) (small : r.cumulative_tsn < 2 ^ 
   abbrev Reasons : Option ReceiverRefusal → Type 0
   Reasons None = ⊤
   Reasons (Some StreamUnknown) = IsDiscarded c.tsn r × (stream_of c.stream_identifier r ≡ None)
-  Reasons (Some MessageTooLarge) = IsGivenUp c (close_stream c.stream_identifier r)
+  Reasons (Some MessageTooLarge) = IsDropped c (close_stream c.stream_identifier r)
   Reasons (Some WindowFull) = ⊤
   Reasons (Some TsnTooFar) = ⊤
   Reasons (Some SsnTooFar) = ⊤

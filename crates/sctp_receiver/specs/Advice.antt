@@ -52,13 +52,13 @@ pub record IsDiscarded (tsn : ℕ) (r : Reception) : Type 0 where
   pub free : discard_takes_memory tsn r ≡ false
 
 -- nothing stays of its message, since its stream is closed, and its TSN is discarded
-pub record IsGivenUp (c : ChunkPayloadData) (r : Reception) : Type 0 where
+pub record IsDropped (c : ChunkPayloadData) (r : Reception) : Type 0 where
   pub closed : is_open c.stream_identifier r ≡ false
   pub discarded : IsDiscarded c.tsn r
 
 -- following this advice, the TSN of the chunk comes, or the association ends; no stream is opened for it
 abbrev pub SettlesAtOnce : Advice → ChunkPayloadData → Reception → Type 0
-SettlesAtOnce advice.CloseAndDiscard c r = IsGivenUp c (close_stream c.stream_identifier r)
+SettlesAtOnce advice.CloseAndDiscard c r = IsDropped c (close_stream c.stream_identifier r)
 SettlesAtOnce (advice.Abort cause) c r = ⊤
 SettlesAtOnce advice.Drop c r = ⊥
 SettlesAtOnce advice.OpenOrDiscard c r = ⊥
