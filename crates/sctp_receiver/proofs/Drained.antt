@@ -1,11 +1,14 @@
 -- What reading a stream until no message is left gives.
-use Rattle.std.proofs.Common.{◌≡◌, ℕ, ◌+◌, ◌%◌, ◌^◌, Bool, true, false, List, [], ◌∷◌, ◌++◌, Option, Some, None, refl, ap, sym, ◌∙◌}
-use Rattle.std.specs.Prelude.{if◌then◌else◌, ◌==◌, option_map}
+use Rattle.std.proofs.Common.{◌≡◌, ℕ, ◌+◌, ◌%◌, ◌^◌, Bool, true, false, List, [], ◌∷◌, ◌++◌, drop, Option, Some, None, Result, Ok, Err, refl, ap, sym, ◌∙◌}
+use Rattle.std.specs.Prelude.{if◌then◌else◌, ◌==◌, IfOk, OnOk, option_map, slice_get}
 use Rattle.std.proofs.lemmas.Bool.{eq-eqb}
 use Rattle.sctp_data.specs.declared.chunk.chunk_payload_data.ChunkPayloadData.{ChunkPayloadData}
 use Rattle.sctp_data.specs.ChunkSet.{ChunkSet}
 use Rattle.sctp_reassembly.specs.reassembly_queue.ReassemblyQueue.{Reassembly, after_read, is_readable, message_among, rest_among}
+use Rattle.sctp_reassembly.specs.declared.reassembly_queue.chunks.Chunks.{Chunks}
+use Rattle.sctp_reassembly.specs.reassembly_queue.ReassemblyQueue.{at_start as start_of}
 use Rattle.sctp_receiver.specs.declared.receiver.inbound_streams.InboundStream.{InboundStream}
+use Rattle.sctp_receiver.specs.declared.receiver.refusal.ReceiverRefusal.{ReceiverRefusal}
 use Rattle.sctp_receiver.specs.Inbound.{has_number, number, stream_read}
 use Rattle.sctp_receiver.specs.Receiver.{Reception, after_read as read_on, message_of, message_on, stream_of}
 use Rattle.sctp_receiver.specs.Drains.{Drains, DrainsGiveWhatIsDue, WhatIsDueDrains, due_from, due_on}
@@ -79,3 +82,36 @@ reads-all st (m ∷ ms) old e =
 
 pub all : WhatIsDueDrains
 all st old = reads-all st (due_on (stream_of st old)) old refl
+
+-- ## One read
+
+rest-due : (next : ℕ) (os us : List ChunkSet) (un : List ChunkPayloadData)
+    → due_in (rest_among us (held next os us un)) ≡ drop 1 (us ++ due_from next os)
+rest-due next os (u ∷ us) un = refl
+rest-due next [] [] un = refl
+rest-due next (s ∷ ss) [] un = by (is_readable next s) refl
+  where
+    by : (b : Bool) → is_readable next s ≡ b → due_in (after_read (if b then Some s else None) (held next (s ∷ ss) [] un))
+        ≡ drop 1 (if b then s ∷ due_from (if s.ssn == next then (next + 1) % 2 ^ 16 else next) ss else [])
+    by true e = refl
+    by false e = ap (λ b. if b then s ∷ due_from (if s.ssn == next then (next + 1) % 2 ^ 16 else next) ss else []) e
+
+rest-on : (o : Option InboundStream) → due_on (option_map stream_read o) ≡ drop 1 (due_on o)
+rest-on None = refl
+rest-on (Some l) = rest-due l.queue.held.next_ssn l.queue.held.ordered l.queue.held.unordered l.queue.held.unassembled
+
+first-on : (m : Option ChunkSet) (ms : List ChunkSet) → m ≡ slice_get (with_next m ms) 0
+first-on None ms = refl
+first-on (Some x) ms = refl
+
+pub first : (st : ℕ) (r : Reception) (o : Result (Option Chunks) ReceiverRefusal) → IfOk o (λ message. message ≡ option_map start_of (message_on st r))
+    → IfOk o (λ message. message ≡ option_map start_of (slice_get (due_on (stream_of st r)) 0))
+first st r (Err e) h = h
+first st r (Ok m) h =
+    h ∙ ap (option_map start_of) (first-on (message_on st r) (due_on (stream_of st (read_on st r)))
+    ∙ ap (λ ms. slice_get ms 0) (sym (due-now st r)))
+
+pub rest : (st : ℕ) (r new : Reception) (o : Result (Option Chunks) ReceiverRefusal) → OnOk o (new ≡ read_on st r)
+    → OnOk o (due_on (stream_of st new) ≡ drop 1 (due_on (stream_of st r)))
+rest st r new (Err e) h = h
+rest st r new (Ok m) h = ap (λ x. due_on (stream_of st x)) h ∙ ap due_on (read-here st r) ∙ rest-on (stream_of st r)
