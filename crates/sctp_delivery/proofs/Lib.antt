@@ -125,4 +125,9 @@ pub mod NotedChunks
 pub mod NotedCalls
 pub mod NotedSessions
 pub mod ResentCounts
+pub mod ModeQueues
+pub mod FilledQueues
+pub mod ModeCalls
+pub mod ModeSessions
+pub mod ModeOrder
 mod EndExamples

@@ -7,7 +7,7 @@ use Rattle.sctp_data.specs.declared.chunk.chunk_payload_data.ChunkPayloadData.{C
 use Rattle.sctp_data.specs.PayloadData.{Data, data_of}
 use Rattle.sctp_receiver.specs.ReceiverRuns.{Message}
 use Rattle.sctp_delivery.specs.Messages.{StandAt, WhileFewTsns}
-use Rattle.sctp_delivery.specs.Order.{AreReadInOrder, is_ordered_on, ordered_places}
+use Rattle.sctp_delivery.specs.Order.{AreReadInOrder, is_ordered_on, places_where}
 use Rattle.sctp_delivery.proofs.Begun.{AreOnce}
 use Rattle.sctp_delivery.proofs.Delivered.{IsReadOf, read-in}
 use Rattle.sctp_delivery.proofs.OnceWritten.{EachRead, apart, each-read, places, stand}
@@ -23,7 +23,8 @@ use Rattle.sctp_delivery.proofs.UnwrappedSessions.{unwrapped}
 use Rattle.sctp_delivery.proofs.OrderedMessages.{is_in_order}
 
 module _ (st first n : ℕ) (ns : List Numbered) (sent : List Entry) (few : n < 2 ^ 31) (long : length sent ≡ n) (line : IsLine ns first sent)
-    (once : AreOnce sent) (rising : AreRising sent) (numbered : AreNumbered ns) where
+    (once : AreOnce sent) (rising : AreRising sent) (numbered : AreNumbered ns) (T : Message → ℕ → Bool)
+    (starts' : (m : Message) (x : IsReadOf ns sent m) → T m x.written.0 ≡ true → (x.chunk.unordered ≡ false) × (is_in_order st m ≡ true)) where
   abbrev Piece : ℕ → List ChunkPayloadData → Type 0
   Piece = Fits (base first) st n (λ k. begun_to st k sent) (λ k. is_at st k sent) (λ c. WasSent sent (data_of c))
 
@@ -64,40 +65,40 @@ module _ (st first n : ℕ) (ns : List Numbered) (sent : List Entry) (few : n < 
   -- an ordered message, and those that were read before it
   module _ (m : Message) (x : IsReadOf ns sent m) (i : ℕ) (h : Piece i m.fragments) (kx : x.chunk.unordered ≡ false) where
     away : (k : ℕ) (ms : List Message) (e : EachRead ns sent once ms) → k ≤ i → InTurn k ms
-        → All (λ q. x.written.0 < q) (ordered_places st ms (places ns sent once ms e))
+        → All (λ q. x.written.0 < q) (places_where T ms (places ns sent once ms e))
     away k [] e le t = λ j d lt. absurd (omega (arith, lt))
-    away k (o ∷ os) e le t = by (is_ordered_on st o) refl (is_in_order st o) refl t (λ j l u. away j os e.1 l u)
+    away k (o ∷ os) e le t = by (T o e.0.written.0) refl (is_in_order st o) refl t (λ j l u. away j os e.1 l u)
       where
-        by : (b : Bool) → is_ordered_on st o ≡ b → (c : Bool) → is_in_order st o ≡ c
+        by : (b : Bool) → T o e.0.written.0 ≡ b → (c : Bool) → is_in_order st o ≡ c
             → Where (base first) st n (λ k. begun_to st k sent) (λ k. is_at st k sent)
             (λ c. WasSent sent (data_of c)) c ((j : ℕ) × (j < k) × Piece j o.fragments × InTurn j os) (InTurn k os)
-            → ((j : ℕ) → j ≤ i → InTurn j os → All (λ q. x.written.0 < q) (ordered_places st os (places ns sent once os e.1)))
-            → All (λ q. x.written.0 < q) (if b then e.0.written.0 ∷ ordered_places st os (places ns sent once os e.1) else ordered_places st os
+            → ((j : ℕ) → j ≤ i → InTurn j os → All (λ q. x.written.0 < q) (places_where T os (places ns sent once os e.1)))
+            → All (λ q. x.written.0 < q) (if b then e.0.written.0 ∷ places_where T os (places ns sent once os e.1) else places_where T os
             (places ns sent once os e.1))
-        by true f false g u ih = absurd (not_both (sym g ∙ (starts st o e.0.chunk e.0.others e.0.fragments f).2))
+        by true f false g u ih = absurd (not_both (sym g ∙ (starts' o e.0 f).1))
         by true f true g u ih =
-            let s = starts st o e.0.chunk e.0.others e.0.fragments f in
+            let s = starts' o e.0 f in
             let l = u.1 in
-            all-cons (λ q. x.written.0 < q) e.0.written.0 (ordered_places st os (places ns sent once os e.1))
-            (by-index m o x e.0 i u.0 h u.2 (omega (arith, l, le)) kx s.1) (ih u.0 (omega (arith, l, le)) u.3)
+            all-cons (λ q. x.written.0 < q) e.0.written.0 (places_where T os (places ns sent once os e.1))
+            (by-index m o x e.0 i u.0 h u.2 (omega (arith, l, le)) kx s.0) (ih u.0 (omega (arith, l, le)) u.3)
         by false f true g u ih = let l = u.1 in ih u.0 (omega (arith, l, le)) u.3
         by false f false g u ih = ih k le u
 
-  in-order-of : (k : ℕ) (ms : List Message) (e : EachRead ns sent once ms) → InTurn k ms
-      → AllPairs (λ p q. p < q) (ordered_places st ms (places ns sent once ms e))
+  pub in-order-of : (k : ℕ) (ms : List Message) (e : EachRead ns sent once ms) → InTurn k ms
+      → AllPairs (λ p q. p < q) (places_where T ms (places ns sent once ms e))
   in-order-of k [] e t = λ i j d lt short. absurd (omega (arith, short))
-  in-order-of k (m ∷ ms) e t = by (is_ordered_on st m) refl (is_in_order st m) refl t (λ j u. in-order-of j ms e.1 u)
+  in-order-of k (m ∷ ms) e t = by (T m e.0.written.0) refl (is_in_order st m) refl t (λ j u. in-order-of j ms e.1 u)
     where
-      by : (b : Bool) → is_ordered_on st m ≡ b → (c : Bool) → is_in_order st m ≡ c
+      by : (b : Bool) → T m e.0.written.0 ≡ b → (c : Bool) → is_in_order st m ≡ c
           → Where (base first) st n (λ k. begun_to st k sent) (λ k. is_at st k sent) (λ c. WasSent sent (data_of c)) c ((j : ℕ) × (j < k) × Piece j m.fragments
-          × InTurn j ms) (InTurn k ms) → ((j : ℕ) → InTurn j ms → AllPairs (λ p q. p < q) (ordered_places st ms (places ns sent once ms e.1)))
-          → AllPairs (λ p q. p < q) (if b then e.0.written.0 ∷ ordered_places st ms (places ns sent once ms e.1) else ordered_places st ms
+          × InTurn j ms) (InTurn k ms) → ((j : ℕ) → InTurn j ms → AllPairs (λ p q. p < q) (places_where T ms (places ns sent once ms e.1)))
+          → AllPairs (λ p q. p < q) (if b then e.0.written.0 ∷ places_where T ms (places ns sent once ms e.1) else places_where T ms
           (places ns sent once ms e.1))
-      by true f false g u ih = absurd (not_both (sym g ∙ (starts st m e.0.chunk e.0.others e.0.fragments f).2))
+      by true f false g u ih = absurd (not_both (sym g ∙ (starts' m e.0 f).1))
       by true f true g u ih =
-          let s = starts st m e.0.chunk e.0.others e.0.fragments f in
-          pairs_cons (λ p q. p < q) e.0.written.0 (ordered_places st ms (places ns sent once ms e.1))
-          (away m e.0 u.0 u.2 s.1 u.0 ms e.1 (omega arith) u.3) (ih u.0 u.3)
+          let s = starts' m e.0 f in
+          pairs_cons (λ p q. p < q) e.0.written.0 (places_where T ms (places ns sent once ms e.1))
+          (away m e.0 u.0 u.2 s.0 u.0 ms e.1 (omega arith) u.3) (ih u.0 u.3)
       by false f true g u ih = ih u.0 u.3
       by false f false g u ih = ih k u
 
@@ -116,5 +117,6 @@ in-order tsn size max most limits cs s small some r few =
       apart a.numbered a.sent a.once s.receiving.read e (read_once.none-twice tsn size max most limits cs s r small few),
       λ st.
           let t = (u.unwrapped.answered st).0 in
-          in-order-of st tsn _ u.numbered u.sent few long h.held.stands.queued.line a.once a.rising a.placed t.k s.receiving.read e t.turns,
+          in-order-of st tsn _ u.numbered u.sent few long h.held.stands.queued.line a.once a.rising a.placed
+          (λ m p. is_ordered_on st m) (λ m x f. let b = starts st m x.chunk x.others x.fragments f in (b.1, b.2)) t.k s.receiving.read e t.turns,
     )

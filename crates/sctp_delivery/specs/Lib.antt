@@ -11,3 +11,4 @@ pub mod Refused
 pub mod Ending
 pub mod Discards
 pub mod Retransmission
+pub mod Modes

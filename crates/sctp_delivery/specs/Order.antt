@@ -13,12 +13,15 @@ use Rattle.sctp_delivery.specs.Session.{Session}
 abbrev pub is_ordered_on : ℕ → Message → Bool
 is_ordered_on stream m = (m.stream == stream) && list_all (λ c. not c.unordered) m.fragments
 
--- the places of those of the messages that are so
+-- the places of those of the messages, each at its place, that pass
+abbrev pub places_where : (Message → ℕ → Bool) → List Message → List ℕ → List ℕ
+places_where passes [] ps = []
+places_where passes (m ∷ ms) [] = []
+places_where passes (m ∷ ms) (p ∷ ps) =
+    if passes m p then p ∷ places_where passes ms ps else places_where passes ms ps
+
 abbrev pub ordered_places : ℕ → List Message → List ℕ → List ℕ
-ordered_places stream [] ps = []
-ordered_places stream (m ∷ ms) [] = []
-ordered_places stream (m ∷ ms) (p ∷ ps) =
-    if is_ordered_on stream m then p ∷ ordered_places stream ms ps else ordered_places stream ms ps
+ordered_places stream ms ps = places_where (λ m p. is_ordered_on stream m) ms ps
 
 -- each message that was read is a write at a place of its own. On each stream, of two ordered messages the one that was read later was
 -- written later: its place is the lower one, since writes and messages have the last one first

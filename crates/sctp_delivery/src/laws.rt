@@ -3,6 +3,7 @@
 pub mod complete;
 pub mod discards;
 pub mod messages;
+pub mod modes;
 pub mod progress;
 pub mod retransmission;
 pub mod rounds;

@@ -1,0 +1,153 @@
+-- Each chunk that waits has some bytes, whatever a sender does.
+use Rattle.std.proofs.Common.{◌≡◌, ℕ, zero, suc, ◌+◌, ◌<◌, ◌≤◌, Bool, true, false, List, [], ◌∷◌, length, map, drop, Option, Some, None, is_some, refl}
+use Rattle.std.proofs.Common.{sym, subst, arith}
+use Rattle.std.specs.Prelude.{IfSome, if◌then◌else◌, ◌==◌}
+use Rattle.sctp_util.specs.Kept.{always, numbers_where}
+use Rattle.sctp_util.specs.Lists.{pieces}
+use Rattle.sctp_util.proofs.More.{not_both}
+use Rattle.sctp_data.specs.declared.chunk.chunk_payload_data.ChunkPayloadData.{ChunkPayloadData}
+use Rattle.sctp_data.specs.declared.chunk.chunk_payload_data.PayloadProtocolIdentifier.{PayloadProtocolIdentifier}
+use Rattle.sctp_outbound.specs.outbound_queue.OutboundQueue.{Outbound, abandoned_of, all_started, append_chunks, expired_of, expiring, expiring_tail}
+use Rattle.sctp_outbound.specs.outbound_queue.OutboundQueue.{message_of, sent_of, with_message, with_message_id}
+use Rattle.sctp_outbound.specs.pending_queue.PendingQueue.{closed_up, is_to_start, list_to_pop, next_pending, one_lower, start_pending, with_deadline, without}
+use Rattle.sctp_serial.specs.DataChunks.{is_on}
+use Rattle.sctp_stream.specs.declared.stream.StreamState.{StreamState}
+use Rattle.sctp_stream.specs.Stream.{fragment_at, fragments_of, pieces_of}
+use Rattle.sctp_sender.specs.Flight.{Flight, is_outdated, message_to_abandon, take_sack}
+use Rattle.sctp_sender.specs.Late.{abandoned_at, abandoned_each, late_order, worn_order}
+use Rattle.sctp_sender.specs.Outgoing.{fragments_with_mode, with_reliability}
+use Rattle.sctp_sender.specs.Sender.{Transmission, after_expire}
+use Rattle.sctp_sender.specs.SenderRuns.{Makes}
+use Rattle.sctp_delivery.specs.SenderCalls.{IsAccepted, MakesExactly, SenderCall, abandons, as_run, expires, expires_late, expires_rexmit}
+use Rattle.sctp_delivery.specs.SenderCalls.{expires_tail, forwards, forwards_within, marks, misses, opens, resends, reserves, sends, sets_low}
+use Rattle.sctp_delivery.specs.SenderCalls.{sets_mode, sets_size, starts, takes_sack, writes}
+use Rattle.sctp_delivery.proofs.Every.{Every, every-at, every-changed, every-joined}
+use Rattle.sctp_delivery.proofs.ModeQueues.{AllWait, fewer, rest}
+use Rattle.sctp_delivery.proofs.Numbers.{AreSized, size-found}
+use Rattle.sctp_delivery.proofs.ValidMarks.{every-mapped}
+use Rattle.sctp_delivery.proofs.Writing.{accepted-stream}
+
+abbrev pub IsFilled : ChunkPayloadData → Type 0
+IsFilled c = 0 < length c.user_data
+
+abbrev pub AreFilled : Outbound → Type 0
+AreFilled q = AllWait IsFilled q.pending
+
+-- ## Fragments
+
+pieces-filled : (most size : ℕ) (bytes : List ℕ) → 0 < size → Every (λ (p : List ℕ). 0 < length p) (pieces most size bytes)
+pieces-filled zero size bytes some = tt
+pieces-filled (suc most) size [] some = tt
+pieces-filled (suc most) zero (x ∷ xs) some = absurd (omega (arith, some))
+pieces-filled (suc most) (suc size) (x ∷ xs) some = (omega arith, pieces-filled most (suc size) (drop (suc size) (x ∷ xs)) some)
+
+module _ (l : StreamState) (ppi : PayloadProtocolIdentifier) (bytes : List ℕ) (some : 0 < l.max_payload_size) where
+  all-pieces : Every (λ (p : List ℕ). 0 < length p) (pieces_of l bytes)
+  all-pieces = pieces-filled (length bytes) l.max_payload_size bytes some
+
+  fragments-from : (i k : ℕ) → i + k ≤ length (pieces_of l bytes) → Every IsFilled (map (fragment_at l ppi bytes) (numbers_where always i k))
+  fragments-from i zero le = tt
+  fragments-from i (suc k) le = (
+    every-at (λ (p : List ℕ). 0 < length p) (pieces_of l bytes) i [] (omega (arith, le)) all-pieces,
+    fragments-from (i + 1) k (omega (arith, le)),
+  )
+
+  pub fragments-filled : Every IsFilled (fragments_with_mode l ppi bytes)
+  fragments-filled =
+      every-mapped IsFilled IsFilled (with_reliability l.reliability_type l.reliability_value) (λ c h. h) (fragments_of l ppi bytes)
+      (fragments-from 0 (length (pieces_of l bytes)) (omega arith))
+
+-- ## The calls
+
+message-filled : (cs : List ChunkPayloadData) (q : Outbound) → Every IsFilled cs → AreFilled q → AreFilled (with_message cs q)
+message-filled [] q h s = s
+message-filled (c ∷ cs) q h s = by c.unordered
+  where
+    new : Every IsFilled (map (with_message_id q.next_message_id) (c ∷ cs))
+    new = every-mapped IsFilled IsFilled (with_message_id q.next_message_id) (λ d e. e) (c ∷ cs) h
+
+    by : (b : Bool) → AllWait IsFilled (append_chunks b (map (with_message_id q.next_message_id) (c ∷ cs)) q.pending)
+    by true = (s.0, every-joined IsFilled q.pending.unordered (map (with_message_id q.next_message_id) (c ∷ cs)) s.1 new)
+    by false = (every-joined IsFilled q.pending.ordered (map (with_message_id q.next_message_id) (c ∷ cs)) s.0 new, s.1)
+
+started-filled : (now : ℕ) (q : Outbound) → AreFilled q → AreFilled (all_started now q)
+started-filled now q s = by (q.next_unstarted == q.next_message_id)
+  where
+    by : (b : Bool) → AreFilled (if b then q else record q { pending = start_pending q.next_unstarted now q.pending; next_unstarted = q.next_message_id })
+    by true = s
+    by false = (
+      every-changed IsFilled (is_to_start q.next_unstarted) (with_deadline now) (λ c h e. e) q.pending.ordered s.0,
+      every-changed IsFilled (is_to_start q.next_unstarted) (with_deadline now) (λ c h e. e) q.pending.unordered s.1,
+    )
+
+sent-filled : (o : Option ChunkPayloadData) (q : Outbound) (tsn now : ℕ) → AreFilled q → AreFilled (sent_of o q tsn now)
+sent-filled None q tsn now s = s
+sent-filled (Some c) q tsn now s = rest IsFilled (list_to_pop q.pending.selected c.beginning_fragment c.unordered) q.pending s
+
+abandoned-filled : (o : Option ℕ) (tsn : ℕ) (q : Outbound) → AreFilled q → AreFilled (abandoned_of o tsn q)
+abandoned-filled None tsn q s = s
+abandoned-filled (Some m) tsn q s = fewer IsFilled m q.pending s
+
+each-filled : (ts : List ℕ) (f : Flight) → AreFilled f.queue → AreFilled (abandoned_each ts f).queue
+each-filled [] f s = s
+each-filled (t ∷ ts) f s = each-filled ts (abandoned_at t f) (abandoned-filled (message_to_abandon t f) f.next_tsn f.queue s)
+
+expired-filled : (c : ChunkPayloadData) (q : Outbound) → AreFilled q → AreFilled (expired_of (Some c) q)
+expired-filled c q s = by c.unordered
+  where
+    left : AllWait IsFilled (without c.message_id q.pending)
+    left = fewer IsFilled c.message_id q.pending s
+
+    by : (b : Bool) → AllWait IsFilled (if b then without c.message_id q.pending else closed_up c.stream_identifier (without c.message_id q.pending))
+    by true = left
+    by false = (
+      every-changed IsFilled (is_on c.stream_identifier) one_lower (λ d h e. e) (without c.message_id q.pending).ordered left.0,
+      left.1,
+    )
+
+module _ (t : Transmission) (sized : AreSized t.streams) (h : AreFilled t.flight.queue) where
+  to : (u v : Transmission) → u ≡ v → AreFilled v.flight.queue → AreFilled u.flight.queue
+  to u v e i = subst (λ (x : Transmission). AreFilled x.flight.queue) (sym e) i
+
+  filled-call : (call : SenderCall) (u : Transmission) → Makes (as_run call) t u → MakesExactly call t u → IsAccepted call t → AreFilled u.flight.queue
+  filled-call (opens stream) u e x a = to u _ e h
+  filled-call (sets_mode stream unordered reliability value) u e x a = to u _ e h
+  filled-call (writes stream ppi []) u e x a = to u _ (x.0 refl) h
+  filled-call (writes stream ppi (b ∷ bs)) u e x a =
+      let l = accepted-stream stream (length (b ∷ bs)) t a in
+      to u _ (x.1 (omega arith) l.0 l.1)
+      (message-filled (fragments_with_mode l.0 ppi (b ∷ bs)) t.flight.queue
+      (fragments-filled l.0 ppi (b ∷ bs) (size-found stream t.streams l.0 l.1 sized)) h)
+  filled-call (starts now) u e x a = to u _ e (started-filled now t.flight.queue h)
+  filled-call (sends now) u e x a =
+      let q = all_started now t.flight.queue in
+      to u _ x (sent-filled (next_pending q.pending) q t.flight.next_tsn now (started-filled now t.flight.queue h))
+  filled-call (resends tsn now c) u e x a = to u _ e h
+  filled-call (abandons tsn y) u e x a = to u _ x (abandoned-filled (message_to_abandon tsn t.flight) t.flight.next_tsn t.flight.queue h)
+  filled-call (expires now None) u e x a = to u _ (x.1.1 refl) h
+  filled-call (expires now (Some y)) u e x a = by (expiring now t.flight.queue) x.0 x.1.0
+    where
+      by : (o : Option ChunkPayloadData) → true ≡ is_some o → IfSome o (λ c. u ≡ after_expire c y.bytes now t) → AreFilled u.flight.queue
+      by None f g = absurd (not_both (sym f))
+      by (Some c) f g = to u _ g (expired-filled c t.flight.queue h)
+  filled-call (expires_tail now None) u e x a = to u _ (x.1 refl) h
+  filled-call (expires_tail now (Some y)) u e x a =
+      to u _ x.0 (abandoned-filled (message_of (expiring_tail now t.flight.queue)) t.flight.next_tsn t.flight.queue h)
+  filled-call (expires_late now gone) u e x a = to u _ x (each-filled (late_order now t.flight) t.flight h)
+  filled-call (expires_rexmit gone) u e x a = to u _ x (each-filled (worn_order t.flight) t.flight h)
+  filled-call (forwards tsn f) u e x a = to u _ x h
+  filled-call (forwards_within bytes f) u e x a = to u _ x h
+  filled-call marks u e x a = to u _ e h
+  filled-call (misses count) u e x a = to u _ e h
+  filled-call (sets_size size) u e x a = to u _ e h
+  filled-call (sets_low stream bytes) u e x a = to u _ e h
+  filled-call (reserves count) u e x a = to u _ e h
+  filled-call (takes_sack sack gone) u e x a = to u _ x (by (is_outdated sack t.flight))
+    where
+      by : (b : Bool) → AreFilled (if b then t.flight else take_sack sack t.flight).queue
+      by true = h
+      by false = h
+
+pub filled-step : (call : SenderCall) (t u : Transmission) → Makes (as_run call) t u → MakesExactly call t u → IsAccepted call t → AreSized t.streams
+    → AllWait IsFilled t.flight.queue.pending → AllWait IsFilled u.flight.queue.pending
+filled-step call t u e x a sized h = filled-call t sized h call u e x a

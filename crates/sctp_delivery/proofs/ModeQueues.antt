@@ -1,0 +1,649 @@
+-- How each chunk that waits or is in flight is sent: as its write is, whatever a sender does.
+use Rattle.std.proofs.Common.{◌≡◌, ℕ, zero, suc, ◌+◌, ◌<◌, ◌≤◌, Bool, true, false, List, [], ◌∷◌, length, map, take, drop, Option, Some, None, is_some}
+use Rattle.std.proofs.Common.{refl, ap, sym, subst, ◌∙◌, inl, inr, arith}
+use Rattle.std.specs.Prelude.{if◌then◌else◌, ◌==◌, ◌&&◌, ◌||◌, not, is_none, nat_le, slice_get, slice_index_or}
+use Rattle.std.proofs.lemmas.Bool.{cases_lt}
+use Rattle.std.proofs.lemmas.Bool.Decides.{nat_tests}
+use Rattle.std.proofs.lemmas.List.{length-map}
+use Rattle.std.proofs.lemmas.Option.{none-some}
+use Rattle.sctp_util.specs.Lists.{change_where}
+use Rattle.sctp_util.specs.Serial.{at_or_before}
+use Rattle.sctp_util.proofs.Cases.{same-is, same-yes}
+use Rattle.sctp_util.proofs.More.{both, fails, not_both}
+use Rattle.sctp_data.specs.PayloadTypes.{is_dcep, is_ordered}
+use Rattle.sctp_data.specs.Reliability.{deadline_at, is_timed}
+use Rattle.sctp_data.specs.declared.chunk.chunk_payload_data.ChunkPayloadData.{ChunkPayloadData}
+use Rattle.sctp_data.specs.declared.chunk.chunk_payload_data.PayloadProtocolIdentifier.{PayloadProtocolIdentifier}
+use Rattle.sctp_data.specs.SelectiveAck.{Sack}
+use Rattle.sctp_outbound.specs.declared.pending_queue.Selected.{Selected}
+use Rattle.sctp_outbound.specs.Marks.{as_abandoned, as_acknowledged, is_of, is_outstanding, with_retransmit}
+use Rattle.sctp_outbound.specs.outbound_queue.OutboundQueue.{Outbound, abandoned_of, all_started, append_chunks, as_sent, expired_of, sent_next, sent_of}
+use Rattle.sctp_outbound.specs.outbound_queue.OutboundQueue.{terminal_chunk, with_message, with_message_id, with_terminal_chunk}
+use Rattle.sctp_outbound.specs.payload_queue.PayloadQueue as payload
+use Rattle.sctp_outbound.specs.pending_queue.PendingQueue.{Pending, closed_up, front_of, has_lifetime, is_to_start, last_removed, lifetime_of, list_of}
+use Rattle.sctp_outbound.specs.pending_queue.PendingQueue.{list_to_pop, next_pending, next_pending_of, one_lower, rest_from, rest_of, start_pending}
+use Rattle.sctp_outbound.specs.pending_queue.PendingQueue.{last_of, with_deadline, without}
+use Rattle.sctp_serial.specs.DataChunks.{chunk_before, has_tsn, is_on}
+use Rattle.sctp_stream.specs.declared.stream.StreamState.{StreamState}
+use Rattle.sctp_sender.specs.Flight.{Flight, after_sack, is_outdated, message_to_abandon, reports_anew, take_sack}
+use Rattle.sctp_sender.specs.Late.{abandoned_at, abandoned_each}
+use Rattle.sctp_sender.specs.Outgoing.{fragments_with_mode, with_reliability}
+use Rattle.sctp_sender.specs.Resending.{after_misses, all_marked, can_miss, count_again, missed, resent_at, sent_again}
+use Rattle.sctp_stream.specs.Stream.{fragment_at, fragments_of}
+use Rattle.sctp_delivery.specs.Modes.{Mode, Sending, deadline_of, mode_of_write, moment, numbered_in, reliable_mode, starting}
+use Rattle.sctp_delivery.proofs.Every.{Every, every-changed, every-inserted, every-joined, every-left, every-of, every-passing, every-taken}
+use Rattle.sctp_delivery.proofs.ValidMarks.{every-mapped}
+
+-- ## Writes by their numbers
+
+pub numbered-more : (w : Sending) (ws : List Sending) (n : ℕ) → n < length ws → numbered_in n (w ∷ ws) ≡ numbered_in n ws
+numbered-more w ws n lt =
+    let e : (length ws == n) ≡ false = grind (arith, nat_tests, lt) in
+    ap (λ b. if b then w else numbered_in n ws) e
+
+pub numbered-last : (w : Sending) (ws : List Sending) → numbered_in (length ws) (w ∷ ws) ≡ w
+numbered-last w ws = ap (λ b. if b then w else numbered_in (length ws) ws) (same-yes (length ws))
+
+pub numbered-started : (now : ℕ) (ws : List Sending) (n : ℕ) → n < length ws → numbered_in n (map (starting now) ws) ≡ starting now (numbered_in n ws)
+numbered-started now [] n lt = absurd (omega (arith, lt))
+numbered-started now (w ∷ ws) n lt =
+    ap (λ k. if k == n then starting now w else numbered_in n (map (starting now) ws)) (length-map ws (starting now)) ∙ by (length ws == n) refl
+    (λ less. numbered-started now ws n less)
+  where
+    by : (b : Bool) → (length ws == n) ≡ b → (n < length ws → numbered_in n (map (starting now) ws) ≡ starting now (numbered_in n ws))
+        → (if b then starting now w else numbered_in n (map (starting now) ws))
+        ≡ starting now (if b then w else numbered_in n ws)
+    by true e ih = refl
+    by false e ih = ih (let z : n < suc (length ws) = lt in grind (arith, nat_tests, z, e))
+
+-- the write at the place, counted from the last one
+pub numbered-at : (ws : List Sending) (k n : ℕ) (d : Sending) → k + n + 1 ≡ length ws → slice_index_or ws k d ≡ numbered_in n ws
+numbered-at [] k n d e = absurd (omega (arith, e))
+numbered-at (w ∷ ws) zero n d e =
+    let same : length ws ≡ n = omega (arith, e) in
+    sym (ap (λ j. if length ws == j then w else numbered_in j ws) (sym same) ∙ numbered-last w ws)
+numbered-at (w ∷ ws) (suc k) n d e =
+    numbered-at ws k n d (omega (arith, e)) ∙ sym (numbered-more w ws n (omega (arith, e)))
+
+-- one that was started stays as it is
+pub starting-same : (now : ℕ) (w : Sending) → is_some w.started ≡ true → starting now w ≡ w
+starting-same now w h = by w.started refl h
+  where
+    by : (o : Option ℕ) → w.started ≡ o → is_some o ≡ true → starting now w ≡ w
+    by None e s = absurd (not_both s)
+    by (Some t) e s =
+        ap (λ o. let v : Sending = record { mode = w.mode; started = moment now o } in v) e
+        ∙ ap (λ o. let v : Sending = record { mode = w.mode; started = o } in v) (sym e)
+
+-- ## Chunks
+
+-- the chunk is to be sent in this mode
+pub record IsInMode (m : Mode) (c : ChunkPayloadData) : Type 0 where
+  pub kind : c.unordered ≡ m.unordered
+  pub dcep : is_dcep c.payload_type ≡ true → m ≡ reliable_mode
+  pub other : is_dcep c.payload_type ≡ false → c.reliability ≡ Some (m.reliability, m.value)
+
+-- as its write is
+abbrev pub HasMode : List Sending → ChunkPayloadData → Type 0
+HasMode ws c = (c.message_id < length ws) × IsInMode (numbered_in c.message_id ws).mode c
+
+abbrev pub HasDeadline : List Sending → ChunkPayloadData → Type 0
+HasDeadline ws c = c.deadline ≡ deadline_of (numbered_in c.message_id ws)
+
+abbrev pub IsWaiting : List Sending → ChunkPayloadData → Type 0
+IsWaiting ws c = HasMode ws c × HasDeadline ws c
+
+-- in flight, where messages with numbers below this one are started
+abbrev pub IsFlying : List Sending → ℕ → ChunkPayloadData → Type 0
+IsFlying ws n c = HasMode ws c × (c.abandoned ≡ false → (c.message_id < n) × HasDeadline ws c)
+
+-- a change of a chunk by which it is sent as before
+pub record KeepsSending (f : ChunkPayloadData → ChunkPayloadData) : Type 0 where
+  pub message : (c : ChunkPayloadData) → (f c).message_id ≡ c.message_id
+  pub kind : (c : ChunkPayloadData) → (f c).unordered ≡ c.unordered
+  pub of_type : (c : ChunkPayloadData) → (f c).payload_type ≡ c.payload_type
+  pub reliability : (c : ChunkPayloadData) → (f c).reliability ≡ c.reliability
+  pub deadline : (c : ChunkPayloadData) → (f c).deadline ≡ c.deadline
+  pub open' : (c : ChunkPayloadData) → (f c).abandoned ≡ false → c.abandoned ≡ false
+
+pub in-mode-kept : (m : Mode) (c d : ChunkPayloadData) → d.unordered ≡ c.unordered → d.payload_type ≡ c.payload_type → d.reliability ≡ c.reliability
+    → IsInMode m c → IsInMode m d
+in-mode-kept m c d k p r i = record {
+  kind = k ∙ i.kind;
+  dcep = λ e. i.dcep (ap is_dcep (sym p) ∙ e);
+  other = λ e. r ∙ i.other (ap is_dcep (sym p) ∙ e);
+}
+
+pub has-mode-kept : (ws : List Sending) (c d : ChunkPayloadData) → d.message_id ≡ c.message_id → d.unordered ≡ c.unordered → d.payload_type ≡ c.payload_type
+    → d.reliability ≡ c.reliability → HasMode ws c → HasMode ws d
+has-mode-kept ws c d n k p r h = (
+  subst (λ i. i < length ws) (sym n) h.0,
+  subst (λ i. IsInMode (numbered_in i ws).mode d) (sym n) (in-mode-kept (numbered_in c.message_id ws).mode c d k p r h.1),
+)
+
+module _ (f : ChunkPayloadData → ChunkPayloadData) (k : KeepsSending f) (ws : List Sending) where
+  abbrev mode-then : (c : ChunkPayloadData) → HasMode ws c → HasMode ws (f c)
+  mode-then c h = has-mode-kept ws c (f c) (k.message c) (k.kind c) (k.of_type c) (k.reliability c) h
+
+  abbrev deadline-then : (c : ChunkPayloadData) → HasDeadline ws c → HasDeadline ws (f c)
+  deadline-then c h = k.deadline c ∙ h ∙ ap (λ n. deadline_of (numbered_in n ws)) (sym (k.message c))
+
+  pub waiting-kept : (c : ChunkPayloadData) → IsWaiting ws c → IsWaiting ws (f c)
+  waiting-kept c h = (mode-then c h.0, deadline-then c h.1)
+
+  pub flying-kept : (n : ℕ) (c : ChunkPayloadData) → IsFlying ws n c → IsFlying ws n (f c)
+  flying-kept n c h = (
+    mode-then c h.0,
+    λ e. let o = h.1 (k.open' c e) in (subst (λ i. i < n) (sym (k.message c)) o.0, deadline-then c o.1),
+  )
+
+-- one write more
+pub mode-more : (w : Sending) (ws : List Sending) (c : ChunkPayloadData) → HasMode ws c → HasMode (w ∷ ws) c
+mode-more w ws c h =
+    (omega (arith, h.0), subst (λ (v : Sending). IsInMode v.mode c) (sym (numbered-more w ws c.message_id h.0)) h.1)
+
+pub deadline-more : (w : Sending) (ws : List Sending) (c : ChunkPayloadData) → c.message_id < length ws → HasDeadline ws c → HasDeadline (w ∷ ws) c
+deadline-more w ws c lt h = h ∙ ap deadline_of (sym (numbered-more w ws c.message_id lt))
+
+pub waiting-more : (w : Sending) (ws : List Sending) (c : ChunkPayloadData) → IsWaiting ws c → IsWaiting (w ∷ ws) c
+waiting-more w ws c h = (mode-more w ws c h.0, deadline-more w ws c h.0.0 h.1)
+
+pub flying-more : (w : Sending) (ws : List Sending) (n : ℕ) (c : ChunkPayloadData) → IsFlying ws n c → IsFlying (w ∷ ws) n c
+flying-more w ws n c h = (mode-more w ws c h.0, λ e. let o = h.1 e in (o.0, deadline-more w ws c h.0.0 o.1))
+
+-- ## What waits
+
+module _ (P : ChunkPayloadData → Type 0) where
+  abbrev pub AllWait : Pending → Type 0
+  AllWait q = Every P q.ordered × Every P q.unordered
+
+  front : (xs : List ChunkPayloadData) (c : ChunkPayloadData) → slice_get xs 0 ≡ Some c → Every P xs → P c
+  front [] c e h = absurd (none-some c e)
+  front (x ∷ xs) c e h = let same : x ≡ c = cc in subst P same h.0
+
+  pub peeked : (sel : Option Selected) (q : Pending) (c : ChunkPayloadData) → next_pending_of sel q ≡ Some c → AllWait q → P c
+  peeked (Some s) q c e w = by s.unordered e
+    where
+      by : (b : Bool) → slice_get (list_of b q) 0 ≡ Some c → P c
+      by true h = front q.unordered c h w.1
+      by false h = front q.ordered c h w.0
+  peeked None q c e w = by q.unordered e w.1
+    where
+      by : (us : List ChunkPayloadData) → front_of us q.ordered ≡ Some c → Every P us → P c
+      by [] h s = front q.ordered c h w.0
+      by (u ∷ us) h s = let same : u ≡ c = cc in subst P same s.0
+
+  rest-of : (b : Bool) (q : Pending) (cs : List ChunkPayloadData) → Every P cs → AllWait q → AllWait (rest_of b q cs)
+  rest-of true q [] s w = w
+  rest-of false q [] s w = w
+  rest-of true q (c ∷ cs) s w = (w.0, s.1)
+  rest-of false q (c ∷ cs) s w = (s.1, w.1)
+
+  pub rest : (k : Option Bool) (q : Pending) → AllWait q → AllWait (rest_from k q)
+  rest None q w = w
+  rest (Some true) q w = rest-of true q q.unordered w.1 w
+  rest (Some false) q w = rest-of false q q.ordered w.0 w
+
+  pub fewer : (m : ℕ) (q : Pending) → AllWait q → AllWait (without m q)
+  fewer m q w = (every-passing P (λ c. not (is_of m c)) q.ordered w.0, every-passing P (λ c. not (is_of m c)) q.unordered w.1)
+
+  last : (xs : List ChunkPayloadData) (c : ChunkPayloadData) → last_of xs ≡ Some c → Every P xs → P c
+  last [] c e h = absurd (none-some c e)
+  last (x ∷ []) c e h = let same : x ≡ c = cc in subst P same h.0
+  last (x ∷ y ∷ ys) c e h = last (y ∷ ys) c e h.1
+
+  -- the last one that is removed
+  pub removed : (m : ℕ) (q : Pending) (c : ChunkPayloadData) → last_removed m q ≡ Some c → AllWait q → P c
+  removed m q c e w =
+      last _ c e (every-joined P _ _ (every-passing P (is_of m) q.ordered w.0) (every-passing P (is_of m) q.unordered w.1))
+
+-- ## The queues
+
+-- each chunk is sent as its write is; each write below the number from which on lifetimes are to start is started, and no other
+pub record AreModed (ws : List Sending) (q : Outbound) : Type 0 where
+  pub ordered : Every (IsWaiting ws) q.pending.ordered
+  pub unordered : Every (IsWaiting ws) q.pending.unordered
+  pub inflight : Every (IsFlying ws q.next_unstarted) q.inflight.chunks
+  pub count : q.next_message_id ≡ length ws
+  pub upto : q.next_unstarted ≤ length ws
+  pub begun : (n : ℕ) → n < q.next_unstarted → is_some (numbered_in n ws).started ≡ true
+  pub unbegun : (n : ℕ) → q.next_unstarted ≤ n → n < length ws → (numbered_in n ws).started ≡ None
+
+module _ (ws : List Sending) where
+  pub moded-changed : (q r : Outbound) (p : ChunkPayloadData → Bool) (f : ChunkPayloadData → ChunkPayloadData) → KeepsSending f → r.pending ≡ q.pending
+      → r.next_message_id ≡ q.next_message_id → r.next_unstarted ≡ q.next_unstarted
+      → r.inflight.chunks ≡ change_where p f q.inflight.chunks → AreModed ws q → AreModed ws r
+  moded-changed q r p f k waits ids n is s = record {
+    ordered = subst (λ (w : Pending). Every (IsWaiting ws) w.ordered) (sym waits) s.ordered;
+    unordered = subst (λ (w : Pending). Every (IsWaiting ws) w.unordered) (sym waits) s.unordered;
+    inflight = subst (λ i. Every (IsFlying ws i) r.inflight.chunks) (sym n)
+        (subst (Every (IsFlying ws q.next_unstarted)) (sym is)
+        (every-changed (IsFlying ws q.next_unstarted) p f (λ c _ h. flying-kept f k ws q.next_unstarted c h) q.inflight.chunks s.inflight));
+    count = ids ∙ s.count;
+    upto = subst (λ i. i ≤ length ws) (sym n) s.upto;
+    begun = λ i lt. s.begun i (subst (λ j. i < j) n lt);
+    unbegun = λ i le lt. s.unbegun i (subst (λ j. j ≤ i) n le) lt;
+  }
+
+  -- ## Abandonment
+
+  pub abandoned-moded : (o : Option ℕ) (tsn : ℕ) (q : Outbound) → AreModed ws q → AreModed ws (abandoned_of o tsn q)
+  abandoned-moded None tsn q s = s
+  abandoned-moded (Some m) tsn q s =
+      let w = fewer (IsWaiting ws) m q.pending (s.ordered, s.unordered) in
+      record {
+        ordered = w.0;
+        unordered = w.1;
+        inflight = by (last_removed m q.pending) refl;
+        count = s.count;
+        upto = s.upto;
+        begun = s.begun;
+        unbegun = s.unbegun;
+      }
+    where
+      marks : KeepsSending as_abandoned
+      marks = record {
+        message = λ c. refl;
+        kind = λ c. refl;
+        of_type = λ c. refl;
+        reliability = λ c. refl;
+        deadline = λ c. refl;
+        open' = λ c e. absurd (not_both (sym e));
+      }
+
+      left : Every (IsFlying ws q.next_unstarted) (change_where (is_of m) as_abandoned q.inflight.chunks)
+      left =
+          every-changed (IsFlying ws q.next_unstarted) (is_of m) as_abandoned (λ c _ h. flying-kept as_abandoned marks ws q.next_unstarted c h)
+          q.inflight.chunks s.inflight
+
+      by : (o : Option ChunkPayloadData) → last_removed m q.pending ≡ o
+          → Every (IsFlying ws q.next_unstarted) (with_terminal_chunk o tsn
+          (payload.with_chunks q.inflight (change_where (is_of m) as_abandoned q.inflight.chunks))).chunks
+      by None e = left
+      by (Some c) e =
+          let h = removed (IsWaiting ws) m q.pending c e (s.ordered, s.unordered) in
+          every-inserted (IsFlying ws q.next_unstarted) chunk_before (terminal_chunk tsn c) (change_where (is_of m) as_abandoned q.inflight.chunks)
+          (has-mode-kept ws c (terminal_chunk tsn c) refl refl refl refl h.0, λ a. absurd (not_both (sym a))) left
+
+  pub each-moded : (ts : List ℕ) (f : Flight) → AreModed ws f.queue → AreModed ws (abandoned_each ts f).queue
+  each-moded [] f s = s
+  each-moded (t ∷ ts) f s = each-moded ts (abandoned_at t f) (abandoned-moded (message_to_abandon t f) f.next_tsn f.queue s)
+
+  lowers : KeepsSending one_lower
+  lowers = record { message = λ c. refl; kind = λ c. refl; of_type = λ c. refl; reliability = λ c. refl; deadline = λ c. refl; open' = λ c e. e }
+
+  pub expired-moded : (o : Option ChunkPayloadData) (q : Outbound) → AreModed ws q → AreModed ws (expired_of o q)
+  expired-moded None q s = s
+  expired-moded (Some c) q s = by c.unordered
+    where
+      left : AllWait (IsWaiting ws) (without c.message_id q.pending)
+      left = fewer (IsWaiting ws) c.message_id q.pending (s.ordered, s.unordered)
+
+      by : (b : Bool) → AreModed ws (record q {
+        pending = if b then without c.message_id q.pending else closed_up c.stream_identifier
+            (without c.message_id q.pending);
+      })
+      by true = record {
+        ordered = left.0;
+        unordered = left.1;
+        inflight = s.inflight;
+        count = s.count;
+        upto = s.upto;
+        begun = s.begun;
+        unbegun = s.unbegun;
+      }
+      by false = record {
+        ordered = every-changed (IsWaiting ws) (is_on c.stream_identifier) one_lower (λ d _ h. waiting-kept one_lower lowers ws d h)
+            (without c.message_id q.pending).ordered left.0;
+        unordered = left.1;
+        inflight = s.inflight;
+        count = s.count;
+        upto = s.upto;
+        begun = s.begun;
+        unbegun = s.unbegun;
+      }
+
+  -- ## Marks
+
+  pub resent-moded : (tsn now : ℕ) (c : ChunkPayloadData) (f : Flight) → AreModed ws f.queue → AreModed ws (resent_at tsn now c f).queue
+  resent-moded tsn now c f s = moded-changed f.queue (resent_at tsn now c f).queue (has_tsn tsn) (sent_again (count_again c) now)
+      (record { message = λ d. refl; kind = λ d. refl; of_type = λ d. refl; reliability = λ d. refl; deadline = λ d. refl; open' = λ d e. e })
+      refl refl refl refl s
+
+  pub marked-moded : (f : Flight) → AreModed ws f.queue → AreModed ws (all_marked f).queue
+  marked-moded f s = moded-changed f.queue (all_marked f).queue is_outstanding (with_retransmit true)
+      (record { message = λ d. refl; kind = λ d. refl; of_type = λ d. refl; reliability = λ d. refl; deadline = λ d. refl; open' = λ d e. e })
+      refl refl refl refl s
+
+  misses-keep : KeepsSending missed
+  misses-keep = record { message = λ c. refl; kind = λ c. refl; of_type = λ c. refl; reliability = λ c. refl; deadline = λ c. refl; open' = λ c e. e }
+
+  pub missed-moded : (count : ℕ) (f : Flight) → AreModed ws f.queue → AreModed ws (after_misses count f).queue
+  missed-moded count f s =
+      let cs = f.queue.inflight.chunks in
+      let P = IsFlying ws f.queue.next_unstarted in
+      record {
+        ordered = s.ordered;
+        unordered = s.unordered;
+        inflight =
+            every-joined P (change_where can_miss missed (take count cs)) (drop count cs)
+            (every-changed P can_miss missed (λ d _ h. flying-kept missed misses-keep ws f.queue.next_unstarted d h) (take count cs)
+            (every-taken P count cs s.inflight)) (every-left P count cs s.inflight);
+        count = s.count;
+        upto = s.upto;
+        begun = s.begun;
+        unbegun = s.unbegun;
+      }
+
+  acks : KeepsSending as_acknowledged
+  acks = record { message = λ c. refl; kind = λ c. refl; of_type = λ c. refl; reliability = λ c. refl; deadline = λ c. refl; open' = λ c e. e }
+
+  pub sack-moded : (k : Sack) (f : Flight) → AreModed ws f.queue → AreModed ws (after_sack k f).queue
+  sack-moded k f s = by (is_outdated k f)
+    where
+      P : ChunkPayloadData → Type 0
+      P = IsFlying ws f.queue.next_unstarted
+
+      by : (b : Bool) → AreModed ws (if b then f else take_sack k f).queue
+      by true = s
+      by false = record {
+        ordered = s.ordered;
+        unordered = s.unordered;
+        inflight = every-passing P (λ c. not (at_or_before c.tsn k.cumulative_tsn_ack))
+            (change_where (reports_anew k) as_acknowledged f.queue.inflight.chunks)
+            (every-changed P (reports_anew k) as_acknowledged (λ c _ h. flying-kept as_acknowledged acks ws f.queue.next_unstarted c h)
+            f.queue.inflight.chunks s.inflight);
+        count = s.count;
+        upto = s.upto;
+        begun = s.begun;
+        unbegun = s.unbegun;
+      }
+
+  -- ## Sending
+
+  pub sent-of-moded : (o : Option ChunkPayloadData) (q : Outbound) (tsn now : ℕ) → next_pending q.pending ≡ o → q.next_unstarted ≡ length ws → AreModed ws q
+      → AreModed ws (sent_of o q tsn now)
+  sent-of-moded None q tsn now e all s = s
+  sent-of-moded (Some c) q tsn now e all s =
+      let P = IsWaiting ws in
+      let left = rest P (list_to_pop q.pending.selected c.beginning_fragment c.unordered) q.pending (s.ordered, s.unordered) in
+      let h = peeked P q.pending.selected q.pending c e (s.ordered, s.unordered) in
+      record {
+        ordered = left.0;
+        unordered = left.1;
+        inflight = every-inserted (IsFlying ws q.next_unstarted) chunk_before (as_sent tsn now c) q.inflight.chunks
+            (has-mode-kept ws c (as_sent tsn now c) refl refl refl refl h.0, λ _. (subst (λ n. c.message_id < n) (sym all) h.0.0, h.1)) s.inflight;
+        count = s.count;
+        upto = s.upto;
+        begun = s.begun;
+        unbegun = s.unbegun;
+      }
+
+-- ## Lifetimes
+
+-- a chunk in flight, where later messages are started
+pub flying-started : (now n : ℕ) (ws : List Sending) (c : ChunkPayloadData) → ((i : ℕ) → i < n → is_some (numbered_in i ws).started ≡ true)
+    → IsFlying ws n c → IsFlying (map (starting now) ws) (length ws) c
+flying-started now n ws c begun h = (
+  (let l = length-map ws (starting now) in omega (arith, l, h.0.0), subst (λ (v : Sending). IsInMode v.mode c) (sym is) h.0.1),
+  λ e.
+      let o = h.1 e in
+      (h.0.0, o.1 ∙ ap deadline_of (sym (is ∙ starting-same now (numbered_in c.message_id ws) (begun c.message_id o.0)))),
+)
+  where
+    is : numbered_in c.message_id (map (starting now) ws) ≡ starting now (numbered_in c.message_id ws)
+    is = numbered-started now ws c.message_id h.0.0
+
+-- a chunk that waits, before and after lifetimes start
+module _ (now first : ℕ) (ws : List Sending) (c : ChunkPayloadData) (h : IsWaiting ws c)
+    (begun : first ≤ c.message_id → (numbered_in c.message_id ws).started ≡ None)
+    (other : c.message_id < first → is_some (numbered_in c.message_id ws).started ≡ true) where
+  abbrev w : Sending
+  w = numbered_in c.message_id ws
+
+  abbrev v : Sending
+  v = numbered_in c.message_id (map (starting now) ws)
+
+  started-is : v ≡ starting now w
+  started-is = numbered-started now ws c.message_id h.0.0
+
+  in-mode : IsInMode v.mode c
+  in-mode = subst (λ (x : Sending). IsInMode x.mode c) (sym started-is) h.0.1
+
+  below : (d : ChunkPayloadData) → d.message_id ≡ c.message_id → d.message_id < length (map (starting now) ws)
+  below d e = let l = length-map ws (starting now) in let lt = h.0.0 in omega (arith, l, lt, e)
+
+  -- the deadline of one that starts now
+  pub new-deadline : (w.started ≡ None) → deadline_of v ≡ (if is_timed w.mode.reliability then deadline_at now w.mode.value else None)
+  new-deadline none = ap deadline_of started-is ∙ ap (λ o. deadline_of (record { mode = w.mode; started = moment now o })) none
+
+  -- it is changed where it is to start
+  starts : is_to_start first c ≡ true → IsWaiting (map (starting now) ws) (with_deadline now c)
+  starts e =
+      let a = both (nat_le first c.message_id) _ e in
+      let b = both (is_none c.deadline) _ a.1 in
+      let d = both (not (is_dcep c.payload_type)) (has_lifetime c.reliability) b.1 in
+      let plain : is_dcep c.payload_type ≡ false = fails (is_dcep c.payload_type) (λ y. not_both (sym (ap not y) ∙ d.0)) in
+      let rel = h.0.1.other plain in
+      let timed : is_timed w.mode.reliability ≡ true = ap has_lifetime (sym rel) ∙ d.1 in
+      let le : first ≤ c.message_id = (let z = a.0 in grind (arith, nat_tests, z)) in (
+        (below (with_deadline now c) refl, in-mode-kept v.mode c (with_deadline now c) refl refl refl in-mode),
+        ap (λ r. deadline_at now (lifetime_of r)) rel
+            ∙ sym (new-deadline (begun le) ∙ ap (λ b. if b then deadline_at now w.mode.value else None) timed),
+      )
+
+  -- and stays where it is not
+  stays : is_to_start first c ≡ false → IsWaiting (map (starting now) ws) c
+  stays e = ((below c refl, in-mode), elim (cases_lt c.message_id first) [ inl lt ↦ early lt | inr le ↦ late le (is_dcep c.payload_type) refl ])
+    where
+      early : c.message_id < first → c.deadline ≡ deadline_of v
+      early lt = h.1 ∙ ap deadline_of (sym (started-is ∙ starting-same now w (other lt)))
+
+      untimed : is_timed w.mode.reliability ≡ false → (w.started ≡ None) → c.deadline ≡ deadline_of v
+      untimed u none =
+          h.1 ∙ ap (λ o. deadline_of (record { mode = w.mode; started = o })) none
+          ∙ sym (new-deadline none ∙ ap (λ b. if b then deadline_at now w.mode.value else None) u)
+
+      late : first ≤ c.message_id → (b : Bool) → is_dcep c.payload_type ≡ b → c.deadline ≡ deadline_of v
+      late le true y = untimed (ap (λ (m : Mode). is_timed m.reliability) (h.0.1.dcep y)) (begun le)
+      late le false y =
+          let none : w.started ≡ None = begun le in
+          let bare : c.deadline ≡ None = h.1 ∙ ap (λ o. deadline_of (record { mode = w.mode; started = o })) none in
+          let rel = h.0.1.other y in
+          let at : nat_le first c.message_id ≡ true = grind (arith, nat_tests, le) in
+          untimed (fails (is_timed w.mode.reliability) (λ t.
+          not_both (sym e ∙ ap (λ b. b && (is_none c.deadline && (not (is_dcep c.payload_type) && has_lifetime c.reliability))) at
+          ∙ ap (λ o. is_none o && (not (is_dcep c.payload_type) && has_lifetime c.reliability)) bare
+          ∙ ap (λ b. not b && has_lifetime c.reliability) y ∙ ap has_lifetime rel ∙ t))) none
+
+pub started-moded : (now : ℕ) (ws : List Sending) (q : Outbound) → AreModed ws q
+    → AreModed (map (starting now) ws) (all_started now q) × ((all_started now q).next_unstarted ≡ length (map (starting now) ws))
+started-moded now ws q s = by (q.next_unstarted == q.next_message_id) refl
+  where
+    long : length (map (starting now) ws) ≡ length ws
+    long = length-map ws (starting now)
+
+    first : ℕ
+    first = q.next_unstarted
+
+    each : (u : ℕ) → u ≡ length ws → (n : ℕ) → n < u → is_some (numbered_in n (map (starting now) ws)).started ≡ true
+    each u e n lt =
+        ap (λ (v : Sending). is_some v.started) (numbered-started now ws n (omega (arith, e, lt))) ∙ any (numbered_in n ws).started
+      where
+        any : (o : Option ℕ) → is_some (moment now o) ≡ true
+        any None = refl
+        any (Some t) = refl
+
+    waiting : (cs : List ChunkPayloadData) → Every (IsWaiting ws) cs
+        → Every (IsWaiting (map (starting now) ws)) (change_where (is_to_start first) (with_deadline now) cs)
+    waiting [] h = tt
+    waiting (c ∷ cs) h = (one (is_to_start first c) refl, waiting cs h.1)
+      where
+        one : (b : Bool) → is_to_start first c ≡ b → IsWaiting (map (starting now) ws) (if b then with_deadline now c else c)
+        one true e = starts now first ws c h.0 (λ le. s.unbegun c.message_id le h.0.0.0) (λ lt. s.begun c.message_id lt) e
+        one false e = stays now first ws c h.0 (λ le. s.unbegun c.message_id le h.0.0.0) (λ lt. s.begun c.message_id lt) e
+
+    -- where all are started
+    same : q.next_unstarted ≡ length ws → (c : ChunkPayloadData) → IsWaiting ws c → IsWaiting (map (starting now) ws) c
+    same e c h =
+        let is = numbered-started now ws c.message_id h.0.0 in
+        let lt = h.0.0 in
+        let stay = starting-same now (numbered_in c.message_id ws) (s.begun c.message_id (omega (arith, e, lt))) in (
+          (omega (arith, long, lt), subst (λ (v : Sending). IsInMode v.mode c) (sym is) h.0.1),
+          h.1 ∙ ap deadline_of (sym (is ∙ stay)),
+        )
+
+    flying : (u : ℕ) → u ≡ length ws → Every (IsFlying (map (starting now) ws) u) q.inflight.chunks
+    flying u e =
+        subst (λ i. Every (IsFlying (map (starting now) ws) i) q.inflight.chunks) (sym e)
+        (every-of (IsFlying ws first) (IsFlying (map (starting now) ws) (length ws)) (λ c h. flying-started now first ws c s.begun h) q.inflight.chunks
+        s.inflight)
+
+    by : (b : Bool) → (q.next_unstarted == q.next_message_id) ≡ b
+        → AreModed (map (starting now) ws) (if b then q
+        else record q { pending = start_pending q.next_unstarted now q.pending; next_unstarted = q.next_message_id })
+        × ((if b then q else record q { pending = start_pending q.next_unstarted now q.pending; next_unstarted = q.next_message_id }).next_unstarted
+        ≡ length (map (starting now) ws))
+    by true e =
+        let all : q.next_unstarted ≡ length ws = same-is q.next_unstarted q.next_message_id e ∙ s.count in (
+          record {
+            ordered = every-of (IsWaiting ws) (IsWaiting (map (starting now) ws)) (same all) q.pending.ordered s.ordered;
+            unordered = every-of (IsWaiting ws) (IsWaiting (map (starting now) ws)) (same all) q.pending.unordered s.unordered;
+            inflight = flying q.next_unstarted all;
+            count = s.count ∙ sym long;
+            upto = omega (arith, all, long);
+            begun = each q.next_unstarted all;
+            unbegun = λ n le lt. absurd (omega (arith, le, lt, all, long));
+          },
+          all ∙ sym long,
+        )
+    by false e = (
+      record {
+        ordered = waiting q.pending.ordered s.ordered;
+        unordered = waiting q.pending.unordered s.unordered;
+        inflight = flying q.next_message_id s.count;
+        count = s.count ∙ sym long;
+        upto = (let n = s.count in omega (arith, n, long));
+        begun = each q.next_message_id s.count;
+        unbegun = λ n le lt. (let m = s.count in absurd (omega (arith, le, lt, m, long)));
+      },
+      s.count ∙ sym long,
+    )
+
+-- lifetimes start, and the chunk in front is sent
+pub sent-moded : (now tsn : ℕ) (ws : List Sending) (q : Outbound) → AreModed ws q → AreModed (map (starting now) ws) (sent_next q tsn now)
+sent-moded now tsn ws q s =
+    let a = started-moded now ws q s in
+    sent-of-moded (map (starting now) ws) (next_pending (all_started now q).pending) (all_started now q) tsn now refl a.1 a.0
+
+-- ## A write
+
+-- a fragment of a write that is sent so, without its number
+pub record IsNew (w : Sending) (c : ChunkPayloadData) : Type 0 where
+  pub mode : IsInMode w.mode c
+  pub bare : c.deadline ≡ None
+
+pub message-moded : (w : Sending) (ws : List Sending) (c : ChunkPayloadData) (cs : List ChunkPayloadData) (q : Outbound) → w.started ≡ None
+    → Every (IsNew w) (c ∷ cs) → AreModed ws q → AreModed (w ∷ ws) (with_message (c ∷ cs) q)
+message-moded w ws c cs q none new s = by c.unordered
+  where
+    named : (d : ChunkPayloadData) → IsNew w d → IsWaiting (w ∷ ws) (with_message_id q.next_message_id d)
+    named d h =
+        let is : numbered_in q.next_message_id (w ∷ ws) ≡ w = ap (λ n. numbered_in n (w ∷ ws)) s.count ∙ numbered-last w ws in
+        let n = s.count in (
+          (
+            omega (arith, n),
+            subst (λ (v : Sending). IsInMode v.mode (with_message_id q.next_message_id d)) (sym is)
+                (in-mode-kept w.mode d (with_message_id q.next_message_id d) refl refl refl h.mode),
+          ),
+          h.bare ∙ sym (ap deadline_of is ∙ ap (λ o. deadline_of (record { mode = w.mode; started = o })) none),
+        )
+
+    news : Every (IsWaiting (w ∷ ws)) (map (with_message_id q.next_message_id) (c ∷ cs))
+    news = every-mapped (IsNew w) (IsWaiting (w ∷ ws)) (with_message_id q.next_message_id) named (c ∷ cs) new
+
+    more : (ds : List ChunkPayloadData) → Every (IsWaiting ws) ds → Every (IsWaiting (w ∷ ws)) ds
+    more ds h = every-of (IsWaiting ws) (IsWaiting (w ∷ ws)) (waiting-more w ws) ds h
+
+    -- the last write has the number of those before it
+    last-is : (n : ℕ) → n < length (w ∷ ws) → (length ws ≤ n) → numbered_in n (w ∷ ws) ≡ w
+    last-is n lt le = let e : n ≡ length ws = omega (arith, lt, le) in ap (λ k. numbered_in k (w ∷ ws)) e ∙ numbered-last w ws
+
+    unstarted : (n : ℕ) → q.next_unstarted ≤ n → n < length (w ∷ ws) → (numbered_in n (w ∷ ws)).started ≡ None
+    unstarted n le lt = elim (cases_lt n (length ws)) [
+      | inl less ↦ ap (λ (v : Sending). v.started) (numbered-more w ws n less) ∙ s.unbegun n le less
+      | inr last ↦ ap (λ (v : Sending). v.started) (last-is n lt last) ∙ none
+    ]
+
+    by : (b : Bool) → AreModed (w ∷ ws) (record q {
+      pending = append_chunks b
+          (map (with_message_id q.next_message_id) (c ∷ cs)) q.pending;
+      next_message_id = q.next_message_id + 1;
+    })
+    by true = record {
+      ordered = more q.pending.ordered s.ordered;
+      unordered = every-joined (IsWaiting (w ∷ ws)) q.pending.unordered (map (with_message_id q.next_message_id) (c ∷ cs))
+          (more q.pending.unordered s.unordered) news;
+      inflight = every-of (IsFlying ws q.next_unstarted) (IsFlying (w ∷ ws) q.next_unstarted) (flying-more w ws q.next_unstarted) q.inflight.chunks s.inflight;
+      count = (let n = s.count in omega (arith, n));
+      upto = (let n = s.upto in omega (arith, n));
+      begun = λ n lt. let le = s.upto in
+          ap (λ (v : Sending). is_some v.started) (numbered-more w ws n (omega (arith, lt, le))) ∙ s.begun n lt;
+      unbegun = unstarted;
+    }
+    by false = record {
+      ordered = every-joined (IsWaiting (w ∷ ws)) q.pending.ordered (map (with_message_id q.next_message_id) (c ∷ cs))
+          (more q.pending.ordered s.ordered) news;
+      unordered = more q.pending.unordered s.unordered;
+      inflight = every-of (IsFlying ws q.next_unstarted) (IsFlying (w ∷ ws) q.next_unstarted) (flying-more w ws q.next_unstarted) q.inflight.chunks s.inflight;
+      count = (let n = s.count in omega (arith, n));
+      upto = (let n = s.upto in omega (arith, n));
+      begun = λ n lt. let le = s.upto in
+          ap (λ (v : Sending). is_some v.started) (numbered-more w ws n (omega (arith, lt, le))) ∙ s.begun n lt;
+      unbegun = unstarted;
+    }
+
+-- the stream has this mode
+pub record HasModeOf (m : Mode) (l : StreamState) : Type 0 where
+  pub unordered : l.unordered ≡ m.unordered
+  pub reliability : l.reliability_type ≡ m.reliability
+  pub value : l.reliability_value ≡ m.value
+
+-- a fragment of a write on it, but for its mode
+record IsBareOf (l : StreamState) (ppi : PayloadProtocolIdentifier) (c : ChunkPayloadData) : Type 0 where
+  kind : c.unordered ≡ not (is_ordered l.unordered ppi)
+  of_type : c.payload_type ≡ ppi
+  bare : c.deadline ≡ None
+
+-- so have the fragments of a write on it
+pub fragments-new : (m : Mode) (l : StreamState) (ppi : PayloadProtocolIdentifier) (bytes : List ℕ) → HasModeOf m l
+    → Every (IsNew (record { mode = mode_of_write ppi m; started = None })) (fragments_with_mode l ppi bytes)
+fragments-new m l ppi bytes has =
+    every-moded (fragments_of l ppi bytes) (every-made (IsBareOf l ppi) (fragment_at l ppi bytes) (λ i. record { kind = refl; of_type = refl; bare = refl }) _)
+  where
+    every-made : {A : Type 0} (Q : ChunkPayloadData → Type 0) (f : A → ChunkPayloadData) → ((x : A) → Q (f x)) → (xs : List A) → Every Q (map f xs)
+    every-made Q f h [] = tt
+    every-made Q f h (x ∷ xs) = (h x, every-made Q f h xs)
+
+    kinds : (u b : Bool) → is_dcep ppi ≡ b → not (is_ordered u ppi) ≡ (if b then reliable_mode else record m { unordered = u }).unordered
+    kinds u true e = ap (λ d. not (d || not u)) e
+    kinds true false e = ap (λ d. not (d || false)) e
+    kinds false false e = ap (λ d. not (d || true)) e
+
+    one : (c : ChunkPayloadData) → IsBareOf l ppi c → (b : Bool) → is_dcep ppi ≡ b
+        → IsInMode (if b then reliable_mode else m) (with_reliability l.reliability_type l.reliability_value c)
+    one c h true e = record {
+      kind = h.kind ∙ kinds l.unordered true e;
+      dcep = λ _. refl;
+      other = λ f. absurd (not_both (sym (sym (ap is_dcep h.of_type ∙ e) ∙ f)));
+    }
+    one c h false e = record {
+      kind = h.kind ∙ kinds l.unordered false e ∙ has.unordered;
+      dcep = λ f. absurd (not_both (sym (ap is_dcep h.of_type ∙ e) ∙ f));
+      other = λ _. ap (λ r. Some (r, l.reliability_value)) has.reliability ∙ ap (λ v. Some (m.reliability, v)) has.value;
+    }
+
+    every-moded : (cs : List ChunkPayloadData) → Every (IsBareOf l ppi) cs
+        → Every (IsNew (record { mode = mode_of_write ppi m; started = None })) (map (with_reliability l.reliability_type l.reliability_value) cs)
+    every-moded [] h = tt
+    every-moded (c ∷ cs) h = (record { mode = one c h.0 (is_dcep ppi) refl; bare = h.0.bare }, every-moded cs h.1)

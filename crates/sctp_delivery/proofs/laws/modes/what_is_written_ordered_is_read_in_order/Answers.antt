@@ -1,0 +1,5 @@
+use Rattle.sctp_delivery.proofs.ModeOrder as mode_order
+use Rattle.sctp_delivery.proofs.laws.modes.what_is_written_ordered_is_read_in_order.Goals as goal
+
+pub returns : goal.returns
+returns c = mode_order.read-as-written
