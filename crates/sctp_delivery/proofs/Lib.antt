@@ -130,4 +130,7 @@ pub mod FilledQueues
 pub mod ModeCalls
 pub mod ModeSessions
 pub mod ModeOrder
+pub mod ListedTsns
+pub mod ExpiryLaws
+pub mod ReliableWrites
 mod EndExamples

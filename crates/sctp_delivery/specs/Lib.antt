@@ -12,3 +12,4 @@ pub mod Ending
 pub mod Discards
 pub mod Retransmission
 pub mod Modes
+pub mod Expiries

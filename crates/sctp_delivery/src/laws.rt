@@ -2,6 +2,7 @@
 
 pub mod complete;
 pub mod discards;
+pub mod expiry;
 pub mod messages;
 pub mod modes;
 pub mod progress;

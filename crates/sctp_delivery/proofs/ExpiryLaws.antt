@@ -1,0 +1,296 @@
+-- Only what may expire expires, and each that is due.
+use Rattle.std.proofs.Common.{◌≡◌, ℕ, ◌-◌, ◌<◌, ◌^◌, Bool, true, false, not, List, [], ◌∷◌, length, map, Option, Some, None, is_some, refl, ap, sym}
+use Rattle.std.proofs.Common.{subst, ◌∙◌, arith}
+use Rattle.std.specs.Prelude.{⊤, ◌==◌, ◌&&◌, ◌||◌, if◌then◌else◌, find, option_to_list}
+use Rattle.std.specs.List.{filter}
+use Rattle.std.proofs.lemmas.Bool.Decides.{nat_tests}
+use Rattle.sctp_util.specs.Lists.{change_where}
+use Rattle.sctp_util.proofs.Cases.{same-is, same-yes}
+use Rattle.sctp_util.proofs.More.{and, both, not_both}
+use Rattle.sctp_data.specs.PayloadTypes.{is_dcep}
+use Rattle.sctp_data.specs.Reliability.{is_past}
+use Rattle.sctp_data.specs.declared.chunk.chunk_payload_data.ChunkPayloadData.{ChunkPayloadData}
+use Rattle.sctp_outbound.specs.Marks.{as_abandoned, is_of}
+use Rattle.sctp_outbound.specs.outbound_queue.OutboundQueue.{abandoned_of, expiring_tail, is_expired, is_expired_tail, is_late, late_tsns}
+use Rattle.sctp_outbound.specs.outbound_queue.OutboundQueue.{message_of, passing, terminal_chunk, total_bytes, with_terminal_chunk}
+use Rattle.sctp_outbound.specs.payload_queue.PayloadQueue as payload
+use Rattle.sctp_outbound.specs.pending_queue.PendingQueue.{Pending, last_removed, next_pending}
+use Rattle.sctp_outbound.specs.pending_queue.Whole.{waits}
+use Rattle.sctp_serial.specs.DataChunks.{chunk_before, has_tsn}
+use Rattle.sctp_sender.specs.Flight.{Flight, has_tail_at, message_to_abandon}
+use Rattle.sctp_sender.specs.Late.{abandoned_at, abandoned_with, late_order, leaving_at, leaving_each, tail_first, with_tail, worn_order}
+use Rattle.sctp_sender.specs.Resending.{is_over, is_to_resend, is_worn, limit_of, rexmit_limit, worn_tsns}
+use Rattle.sctp_sender.specs.Sender.{Transmission}
+use Rattle.sctp_sender.proofs.Lates.{found-passes}
+use Rattle.sctp_delivery.specs.Abandoned.{abandoned_by}
+use Rattle.sctp_delivery.specs.Expiries.{EachDueExpires, IsReason, OnlyTheDueExpire, is_due_in_front, is_late_as_written}
+use Rattle.sctp_delivery.specs.Expiries.{is_lifetime_over, is_limit_passed, is_sent_too_often, is_worn_as_written}
+use Rattle.sctp_delivery.specs.Modes.{AfterEachFitRun, AfterEachRunOfFewTsns, Mode, Sending, at_first, deadline_from, deadline_of, modes_from, numbered_in}
+use Rattle.sctp_delivery.specs.Modes.{reliable_mode}
+use Rattle.sctp_delivery.specs.SenderCalls as outgoing
+use Rattle.sctp_delivery.specs.SenderCalls.{SenderCall}
+use Rattle.sctp_delivery.proofs.AbandonedMessages.{numbers, numbers-append}
+use Rattle.sctp_delivery.proofs.Every.{Every, all-of-every, every-changed, every-found, every-inserted, every-joined, every-of}
+use Rattle.sctp_delivery.proofs.FilledQueues.{IsFilled}
+use Rattle.sctp_delivery.proofs.GivenTsns.{IsNumbered}
+use Rattle.sctp_delivery.proofs.ListedTsns.{each-any, each-one, is_one, own-listed, same-left}
+use Rattle.sctp_delivery.proofs.ModeOrder.{said-of-few}
+use Rattle.sctp_delivery.proofs.ModeQueues.{AllWait, AreModed, IsFlying, IsInMode, IsWaiting, peeked}
+use Rattle.sctp_delivery.proofs.ModeSessions.{said-in}
+use Rattle.sctp_delivery.proofs.TsnPlaces.{base}
+
+-- ## One chunk
+
+-- a write in the reliable mode has no lifetime
+never : (now : ℕ) (o : Option ℕ) → is_past now (deadline_from reliable_mode o) ≡ false
+never now None = refl
+never now (Some t) = refl
+
+-- the mode says what the chunk says
+module _ (now : ℕ) (w : Sending) (c : ChunkPayloadData) (m : IsInMode w.mode c) where
+  pub past-is : c.deadline ≡ deadline_of w → (not (is_dcep c.payload_type) && is_past now c.deadline) ≡ is_lifetime_over now w
+  past-is d = by (is_dcep c.payload_type) refl
+    where
+      by : (b : Bool) → is_dcep c.payload_type ≡ b → (not b && is_past now c.deadline) ≡ is_lifetime_over now w
+      by true e = sym (ap (λ (k : Mode). is_past now (deadline_from k w.started)) (m.dcep e) ∙ never now w.started)
+      by false e = ap (is_past now) d
+
+  pub worn-is : (count : ℕ) → (not (is_dcep c.payload_type) && is_over count (rexmit_limit c.reliability)) ≡ is_limit_passed count w
+  worn-is count = by (is_dcep c.payload_type) refl
+    where
+      by : (b : Bool) → is_dcep c.payload_type ≡ b → (not b && is_over count (rexmit_limit c.reliability)) ≡ is_limit_passed count w
+      by true e = sym (ap (λ (k : Mode). is_over count (limit_of k.reliability k.value)) (m.dcep e))
+      by false e = ap (λ r. is_over count (rexmit_limit r)) (m.other e)
+
+-- ## In front
+
+module _ (now : ℕ) (ws : List Sending) (q : Pending) (moded : AllWait (IsWaiting ws) q) (filled : AllWait IsFilled q) where
+  abbrev over : ChunkPayloadData → Bool
+  over c = is_lifetime_over now (numbered_in c.message_id ws)
+
+  first-is : (c : ChunkPayloadData) → next_pending q ≡ Some c → is_expired now c ≡ (c.beginning_fragment && over c)
+  first-is c e =
+      let h = peeked (IsWaiting ws) q.selected q c e moded in
+      let some = peeked IsFilled q.selected q c e filled in
+      let full : (length c.user_data == 0) ≡ false = grind (arith, nat_tests, some) in
+      ap (λ b. c.beginning_fragment && (not b && (not (is_dcep c.payload_type) && is_past now c.deadline))) full
+      ∙ ap (λ b. c.beginning_fragment && b) (past-is now (numbered_in c.message_id ws) c h.0.1 h.1)
+
+  tail-is : (c : ChunkPayloadData) → next_pending q ≡ Some c → is_expired_tail now c ≡ (not c.beginning_fragment && over c)
+  tail-is c e =
+      let h = peeked (IsWaiting ws) q.selected q c e moded in
+      ap (λ b. not c.beginning_fragment && b) (past-is now (numbered_in c.message_id ws) c h.0.1 h.1)
+
+  some-passing : (p : ChunkPayloadData → Bool) (c : ChunkPayloadData) → is_some (if p c then Some c else None) ≡ p c
+  some-passing p c = by (p c)
+    where
+      by : (b : Bool) → is_some (if b then Some c else None) ≡ b
+      by true = refl
+      by false = refl
+
+  pub front-goes : (o : Option ChunkPayloadData) → next_pending q ≡ o → is_some (passing (is_expired now) o) ≡ is_due_in_front true now ws o
+  front-goes None e = refl
+  front-goes (Some c) e = some-passing (is_expired now) c ∙ first-is c e
+
+  pub tail-goes : (o : Option ChunkPayloadData) → next_pending q ≡ o → is_some (passing (is_expired_tail now) o) ≡ is_due_in_front false now ws o
+  tail-goes None e = refl
+  tail-goes (Some c) e = some-passing (is_expired_tail now) c ∙ tail-is c e
+
+  abbrev Over : ℕ → Type 0
+  Over n = is_lifetime_over now (numbered_in n ws) ≡ true
+
+  -- what goes is over
+  of-passing : (p : ChunkPayloadData → Bool) (o : Option ChunkPayloadData) → ((c : ChunkPayloadData) → o ≡ Some c → p c ≡ true → over c ≡ true)
+      → Every Over (option_to_list (message_of (passing p o)))
+  of-passing p None h = tt
+  of-passing p (Some c) h = by (p c) refl
+    where
+      by : (b : Bool) → p c ≡ b → Every Over (option_to_list (message_of (if b then Some c else None)))
+      by true e = (h c refl e, tt)
+      by false e = tt
+
+  pub front-over : Every Over (option_to_list (message_of (passing (is_expired now) (next_pending q))))
+  front-over = of-passing (is_expired now) (next_pending q) (λ c e x. (both c.beginning_fragment (over c) (sym (first-is c e) ∙ x)).1)
+
+  pub tail-over : Every Over (option_to_list (message_of (passing (is_expired_tail now) (next_pending q))))
+  tail-over = of-passing (is_expired_tail now) (next_pending q) (λ c e x. (both (not c.beginning_fragment) (over c) (sym (tail-is c e) ∙ x)).1)
+
+-- ## In flight
+
+module _ (ws : List Sending) (n : ℕ) where
+  -- a chunk that is not abandoned
+  late-same : (now : ℕ) (q : Pending) (c : ChunkPayloadData) → IsFlying ws n c → is_late now q c ≡ is_late_as_written now ws q c
+  late-same now q c h = by c.abandoned refl
+    where
+      by : (b : Bool) → c.abandoned ≡ b → (not b && (is_past now c.deadline && (not c.acked || waits c.message_id q)))
+          ≡ (not b && (is_lifetime_over now (numbered_in c.message_id ws) && (not c.acked || waits c.message_id q)))
+      by true e = refl
+      by false e = ap (λ d. is_past now d && (not c.acked || waits c.message_id q)) (h.1 e).1
+
+  worn-same : (c : ChunkPayloadData) → IsFlying ws n c → is_worn c ≡ is_worn_as_written ws c
+  worn-same c h = ap (λ b. is_to_resend c && b) (worn-is 0 (numbered_in c.message_id ws) c h.0.1 c.nsent)
+
+  pub late-are : (now : ℕ) (q : Pending) (cs : List ChunkPayloadData) → Every (IsFlying ws n) cs
+      → map (λ (c : ChunkPayloadData). c.tsn) (filter (is_late now q) cs) ≡ map (λ (c : ChunkPayloadData). c.tsn) (filter (is_late_as_written now ws q) cs)
+  late-are now q cs h =
+      ap (map (λ (c : ChunkPayloadData). c.tsn)) (same-left (is_late now q) (is_late_as_written now ws q) cs
+      (every-of (IsFlying ws n) (λ c. is_late now q c ≡ is_late_as_written now ws q c) (late-same now q) cs h))
+
+  pub worn-are : (cs : List ChunkPayloadData) → Every (IsFlying ws n) cs
+      → map (λ (c : ChunkPayloadData). c.tsn) (filter is_worn cs) ≡ map (λ (c : ChunkPayloadData). c.tsn) (filter (is_worn_as_written ws) cs)
+  worn-are cs h =
+      ap (map (λ (c : ChunkPayloadData). c.tsn)) (same-left is_worn (is_worn_as_written ws) cs
+      (every-of (IsFlying ws n) (λ c. is_worn c ≡ is_worn_as_written ws c) worn-same cs h))
+
+-- ## Messages that are abandoned by TSNs
+
+-- R is so of the message of each chunk that has one of these TSNs and is not abandoned
+module _ (R : ℕ → Type 0) (L : List ℕ) where
+  abbrev pub IsReady : ChunkPayloadData → Type 0
+  IsReady c = c.abandoned ≡ false → is_one L c.tsn ≡ true → R c.message_id
+
+  ready-at : (o : Option ℕ) (tsn : ℕ) (f : Flight) → Every IsReady f.queue.inflight.chunks → Every IsReady (abandoned_of o tsn f.queue).inflight.chunks
+  ready-at None tsn f h = h
+  ready-at (Some m) tsn f h = by (last_removed m f.queue.pending)
+    where
+      cs : List ChunkPayloadData
+      cs = change_where (is_of m) as_abandoned f.queue.inflight.chunks
+
+      left : Every IsReady cs
+      left = every-changed IsReady (is_of m) as_abandoned (λ c _ _ e. absurd (not_both (sym e))) f.queue.inflight.chunks h
+
+      by : (o : Option ChunkPayloadData) → Every IsReady (with_terminal_chunk o tsn (payload.with_chunks f.queue.inflight cs)).chunks
+      by None = left
+      by (Some c) = every-inserted IsReady chunk_before (terminal_chunk tsn c) cs (λ e. absurd (not_both (sym e))) left
+
+  one-answered : (tsn bytes : ℕ) (o : Option ChunkPayloadData) → is_one L tsn ≡ true
+      → ((c : ChunkPayloadData) → o ≡ Some c → (c.tsn ≡ tsn) × IsReady c) → Every R (numbers (abandoned_with o bytes))
+  one-answered tsn bytes None l h = tt
+  one-answered tsn bytes (Some c) l h = by c.abandoned refl
+    where
+      by : (b : Bool) → c.abandoned ≡ b → Every R (numbers (if b then [] else record {
+        stream = c.stream_identifier;
+        number = c.message_id;
+        bytes = bytes;
+        is_low = false;
+      } ∷ []))
+      by true e = tt
+      by false e = let x = h c refl in (x.1 e (subst (λ t. is_one L t ≡ true) (sym x.0) l), tt)
+
+  pub each-answered : (ts : List ℕ) (f : Flight) → Every (λ t. is_one L t ≡ true) ts → Every IsReady f.queue.inflight.chunks
+      → Every R (numbers (leaving_each ts f))
+  each-answered [] f l h = tt
+  each-answered (t ∷ ts) f l h =
+      subst (Every R) (sym (numbers-append (leaving_at t f) (leaving_each ts (abandoned_at t f))))
+      (every-joined R (numbers (leaving_at t f)) (numbers (leaving_each ts (abandoned_at t f)))
+      (one-answered t (total_bytes f.queue - total_bytes (abandoned_at t f).queue) (find (has_tsn t) f.queue.inflight.chunks) l.0
+      (λ c e. (
+        same-is c.tsn t (found-passes (has_tsn t) f.queue.inflight.chunks c e),
+        every-found IsReady (has_tsn t) f.queue.inflight.chunks c e h,
+      )))
+      (each-answered ts (abandoned_at t f) l.1 (ready-at (message_to_abandon t f) f.next_tsn f h)))
+
+  -- with the TSN of the message with a tail in front
+  pub order-listed : (f : Flight) → Every (λ t. is_one L t ≡ true) (tail_first L f)
+  order-listed f =
+      every-joined (λ t. is_one L t ≡ true) (option_to_list (with_tail L f)) L (by (with_tail L f) refl) (each-one L)
+    where
+      by : (o : Option ℕ) → find (has_tail_at f) L ≡ o → Every (λ t. is_one L t ≡ true) (option_to_list o)
+      by None e = tt
+      by (Some t) e = (every-found (λ u. is_one L u ≡ true) (has_tail_at f) L t e (each-one L), tt)
+
+-- what is so of each chunk that passes is so of each that is listed
+ready : (R : ℕ → Type 0) (p : ChunkPayloadData → Bool) (L : List ℕ) (cs : List ChunkPayloadData)
+    → Every (λ (c : ChunkPayloadData). is_one L c.tsn ≡ true → p c ≡ true) cs → Every (λ (c : ChunkPayloadData). p c ≡ true → R c.message_id) cs
+    → Every (IsReady R L) cs
+ready R p L [] own so = tt
+ready R p L (c ∷ cs) own so = (λ e l. so.0 (own.0 l), ready R p L cs own.1 so.1)
+
+module _ (b most : ℕ) (few : most < 2 ^ 31) (ws : List Sending) (t : Transmission) (h : AreModed ws t.flight.queue)
+    (filled : AllWait IsFilled t.flight.queue.pending) (given : IsNumbered b most t.flight) where
+  abbrev cs : List ChunkPayloadData
+  cs = t.flight.queue.inflight.chunks
+
+  waiting : AllWait (IsWaiting ws) t.flight.queue.pending
+  waiting = (h.ordered, h.unordered)
+
+  own : (p : ChunkPayloadData → Bool)
+      → Every (λ (c : ChunkPayloadData). is_one (map (λ (x : ChunkPayloadData). x.tsn) (filter p cs)) c.tsn ≡ true → p c ≡ true) cs
+  own p = let total = given.total in own-listed p b most few given.acked cs given.run (omega (arith, total))
+
+  late-over : (now : ℕ) → Every (λ (c : ChunkPayloadData). is_late now t.flight.queue.pending c ≡ true
+      → is_lifetime_over now (numbered_in c.message_id ws) ≡ true) cs
+  late-over now = every-of (IsFlying ws t.flight.queue.next_unstarted) (λ c. is_late now t.flight.queue.pending c ≡ true
+      → is_lifetime_over now (numbered_in c.message_id ws) ≡ true) one cs h.inflight
+    where
+      one : (c : ChunkPayloadData) → IsFlying ws t.flight.queue.next_unstarted c → is_late now t.flight.queue.pending c ≡ true
+          → is_lifetime_over now (numbered_in c.message_id ws) ≡ true
+      one c i e =
+          let same = sym (late-same ws t.flight.queue.next_unstarted now t.flight.queue.pending c i) ∙ e in
+          let x = both (not c.abandoned)
+          (is_lifetime_over now (numbered_in c.message_id ws) && (not c.acked || waits c.message_id t.flight.queue.pending)) same in
+          (both (is_lifetime_over now (numbered_in c.message_id ws)) (not c.acked || waits c.message_id t.flight.queue.pending) x.1).0
+
+  abbrev Often : ℕ → Type 0
+  Often k = is_sent_too_often k (numbered_in k ws) t ≡ true
+
+  worn-often : Every (λ (c : ChunkPayloadData). is_worn c ≡ true → Often c.message_id) cs
+  worn-often = by cs h.inflight (each-any (λ c d. (d.message_id == c.message_id) && is_limit_passed d.nsent (numbered_in c.message_id ws)) cs)
+    where
+      one : (c : ChunkPayloadData) → IsFlying ws t.flight.queue.next_unstarted c → is_worn c ≡ true
+          → ((c.message_id == c.message_id) && is_limit_passed c.nsent (numbered_in c.message_id ws)) ≡ true
+      one c i e =
+          let same = sym (worn-same ws t.flight.queue.next_unstarted c i) ∙ e in
+          and (c.message_id == c.message_id) (is_limit_passed c.nsent (numbered_in c.message_id ws)) (same-yes c.message_id)
+          (both (is_to_resend c) (is_limit_passed c.nsent (numbered_in c.message_id ws)) same).1
+
+      by : (ds : List ChunkPayloadData) → Every (IsFlying ws t.flight.queue.next_unstarted) ds
+          → Every (λ (c : ChunkPayloadData). ((c.message_id == c.message_id) && is_limit_passed c.nsent (numbered_in c.message_id ws)) ≡ true
+          → Often c.message_id) ds → Every (λ (c : ChunkPayloadData). is_worn c ≡ true → Often c.message_id) ds
+      by [] f a = tt
+      by (d ∷ ds) f a = (λ e. a.0 (one d f.0 e), by ds f.1 a.1)
+
+  pub each-reason : (call : SenderCall) → Every (λ k. IsReason call t k (numbered_in k ws)) (abandoned_by call t)
+  each-reason (outgoing.expires now m) = front-over now ws t.flight.queue.pending waiting filled
+  each-reason (outgoing.expires_tail now m) = by (is_some m)
+    where
+      by : (b : Bool) → Every (λ k. is_lifetime_over now (numbered_in k ws) ≡ true)
+          (option_to_list (if b then message_of (expiring_tail now t.flight.queue) else None))
+      by true = tail-over now ws t.flight.queue.pending waiting filled
+      by false = tt
+  each-reason (outgoing.expires_late now gone) =
+      each-answered (λ k. is_lifetime_over now (numbered_in k ws) ≡ true) (late_tsns now t.flight.queue) (late_order now t.flight) t.flight
+      (order-listed (λ k. is_lifetime_over now (numbered_in k ws) ≡ true) (late_tsns now t.flight.queue) t.flight)
+      (ready (λ k. is_lifetime_over now (numbered_in k ws) ≡ true) (is_late now t.flight.queue.pending) (late_tsns now t.flight.queue) cs
+      (own (is_late now t.flight.queue.pending)) (late-over now))
+  each-reason (outgoing.expires_rexmit gone) =
+      each-answered Often (worn_tsns t.flight) (worn_order t.flight) t.flight (order-listed Often (worn_tsns t.flight) t.flight)
+      (ready Often is_worn (worn_tsns t.flight) cs (own is_worn) worn-often)
+  each-reason (outgoing.abandons tsn a) = unasked (abandoned_by (outgoing.abandons tsn a) t)
+    where
+      unasked : (ns : List ℕ) → Every (λ (k : ℕ). ⊤) ns
+      unasked [] = tt
+      unasked (k ∷ ks) = (tt, unasked ks)
+  each-reason call = tt
+
+-- ## The laws
+
+pub only-due : AfterEachRunOfFewTsns OnlyTheDueExpire
+only-due tsn size max most limits cs s small some r few call =
+    let u = said-of-few tsn size max most limits cs s small some r few in
+    let ws = (modes_from at_first cs).of_writes in
+    all-of-every (λ n. IsReason call s.sending.sender n (numbered_in n ws)) (abandoned_by call s.sending.sender)
+    (each-reason (base tsn) _ few ws s.sending.sender u.said.sender.queue u.said.filled u.unwrapped.spread.step.numbered call)
+
+pub each-due-expires : AfterEachFitRun EachDueExpires
+each-due-expires tsn size max most limits cs s small some r now =
+    let a = said-in tsn size max most limits cs s small some r in
+    let q = s.sending.sender.flight.queue in
+    let ws = (modes_from at_first cs).of_writes in
+    let m = a.said.sender.queue in (
+      (
+        front-goes now ws q.pending (m.ordered, m.unordered) a.said.filled (next_pending q.pending) refl,
+        tail-goes now ws q.pending (m.ordered, m.unordered) a.said.filled (next_pending q.pending) refl,
+      ),
+      (late-are ws q.next_unstarted now q.pending q.inflight.chunks m.inflight, worn-are ws q.next_unstarted q.inflight.chunks m.inflight),
+    )

@@ -1,0 +1,25 @@
+//! Only what may expire expires, and at its moment: by how each message was written, as the calls of a session say it (RFC 3758 3.5, 4.1;
+//! RFC 7496 3.1).
+
+ghost use Rattle.sctp_delivery.specs.Expiries.{EachDueExpires, EachReliableIsReadInTheEnd, OnlyTheDueExpire};
+ghost use Rattle.sctp_delivery.specs.Modes.{AfterEachFitRun, AfterEachRunOfFewTsns};
+
+/// A message that an expiry gives up is none of DCEP, and was written on a stream in a timed mode, where its lifetime, from the first start
+/// or send behind the write, is over; or in a mode of limited retransmissions, where a chunk of it was sent more often. A reliable one is
+/// given up by `abandon` alone. So it is in sessions that give out fewer than 2^31 TSNs.
+pub fn only_what_may_expire_expires()
+    ensures { AfterEachRunOfFewTsns OnlyTheDueExpire }
+{}
+
+/// And at that moment it is given up: what an expiry finds to be so in front and in flight are the messages of which that is true by the
+/// mode and the lifetime with which they were written.
+pub fn what_is_due_expires()
+    ensures { AfterEachFitRun EachDueExpires }
+{}
+
+/// Where nothing waits to be sent, nothing is in flight, and on no stream is a message to read: each write in the reliable mode, and each of
+/// DCEP, was read exactly once, unless a call of `abandon` named its message. So it is in sessions that give out fewer than 2^31 TSNs,
+/// whichever others expire.
+pub fn each_reliable_write_is_read_in_the_end()
+    ensures { EachReliableIsReadInTheEnd }
+{}
