@@ -11,7 +11,7 @@ use bytes::Bytes;
 use sctp::{
     ChunkKind, Chunks, Dropped, Limits, PayloadProtocolIdentifier, Receiver, Sender, SenderRefusal,
 };
-use sctp_sender::replay::{in_flight_at, next_to_retransmit};
+use sctp_sender::replay::in_flight_at;
 use std::alloc::Global;
 
 /// How many bytes of user data a fragment has: a whole one fills a packet.
@@ -60,6 +60,8 @@ pub struct Association {
     is_skip_due: bool,
     // Whether chunks were just reported missing three times: one packet of them ignores the window.
     is_fast: bool,
+    // Whether some chunk may be marked to be sent again: then nothing new is sent (RFC 9260 6.1 C).
+    has_lost: bool,
 }
 
 /// The earlier of two moments, if there is one.
@@ -87,6 +89,7 @@ impl Association {
             sack_at: None,
             is_skip_due: false,
             is_fast: false,
+            has_lost: false,
         }
     }
 
@@ -181,6 +184,7 @@ impl Association {
         if self.timer.runs_out(now) {
             self.congestion.timed_out();
             self.sender.retransmit_all();
+            self.has_lost = true;
             self.is_skip_due = true;
         }
         self.abandon(now)?;
@@ -269,19 +273,20 @@ impl Association {
         let mut flight = self.flight();
         let is_fast = self.is_fast;
         for _ in 0..PACKET {
-            let Some(chunk) = next_to_retransmit(&self.sender) else {
-                self.is_fast = false;
-                break;
-            };
-            let bytes = chunk.user_data.len();
-            let has_room = is_fast || self.has_room(bytes, flight);
-            if !has_room || data_length(bytes) > packet.room {
-                break;
+            let mut room = packet.room;
+            if !is_fast && flight > 0 {
+                room = room.min(data_length(self.congestion.window().saturating_sub(flight)));
             }
-            let Some(chunk) = self.sender.resend_next(now)? else {
+            let Some(chunk) = self.sender.resend_next(now, room)? else {
+                // Where a whole fragment has room, no chunk is marked.
+                if room >= data_length(FRAGMENT as usize) {
+                    self.is_fast = false;
+                    self.has_lost = false;
+                }
                 break;
             };
             self.is_fast = false;
+            let bytes = chunk.user_data.len();
             flight = flight.saturating_add(bytes);
             packet.put(ChunkKind::PayloadData(chunk), data_length(bytes))?;
         }
@@ -295,7 +300,7 @@ impl Association {
 
     // Puts what waits, where nothing is left to be sent again and the peer has room (RFC 4960 6.1).
     fn put_new(&mut self, packet: &mut Outgoing, now: u64) -> Result<(), Fault> {
-        if next_to_retransmit(&self.sender).is_some() {
+        if self.has_lost {
             return Ok(());
         }
         let mut flight = self.flight();

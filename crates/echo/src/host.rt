@@ -118,7 +118,7 @@ impl Host {
 
     // What is to be sent again goes first (RFC 4960 6.1 C).
     fn next_data(&mut self, now: u64) -> Option<ChunkPayloadData> {
-        match self.sender.resend_next(now).ok()? {
+        match self.sender.resend_next(now, PACKET).ok()? {
             Some(lost) => Some(lost),
             None => self.sender.send_next(now).ok()?,
         }

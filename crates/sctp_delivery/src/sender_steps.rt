@@ -7,7 +7,7 @@ ghost use Rattle.sctp_data.specs.declared.chunk.chunk_payload_data.ChunkPayloadD
 ghost use Rattle.sctp_data.specs.ForwardTsn.{forward_tsn_of};
 ghost use Rattle.sctp_data.specs.SelectiveAck.{sack_of};
 ghost use Rattle.sctp_sender.specs.Numbers.{send_refusal};
-ghost use Rattle.sctp_sender.specs.Resending.{count_before, is_to_resend};
+ghost use Rattle.sctp_sender.specs.Resending.{count_before, next_within};
 ghost use Rattle.sctp_serial.specs.DataChunks.{has_tsn};
 ghost use Rattle.sctp_delivery.specs.SenderCalls.{Drops, SenderMakes, abandons, expires, expires_late, expires_rexmit, expires_tail, forwards, forwards_within, marks, misses, next_chunk, opens, resends, reserves, sends, sets_low, sets_mode, sets_size, starts, takes_sack, writes};
 
@@ -97,15 +97,19 @@ pub fn resend(sender: &mut Sender, tsn: u32, now: u64) -> Result<ChunkPayloadDat
     sender.resend(tsn, now)
 }
 
-/// Sends the first chunk again that is marked for that, if there is one.
-pub fn resend_next(sender: &mut Sender, now: u64) -> Result<Option<ChunkPayloadData>, SenderRefusal>
+/// Sends the first chunk again that is marked for that, if there is one and it takes at most `room` bytes of a packet.
+pub fn resend_next(
+    sender: &mut Sender,
+    now: u64,
+    room: usize,
+) -> Result<Option<ChunkPayloadData>, SenderRefusal>
     ensures step { OnOk result ((c : ChunkPayloadData)
-        → find is_to_resend sender.old.flight.queue.inflight.chunks ≡ Some c
+        → next_within room sender.old.flight ≡ Some c
         → SenderMakes (resends c.tsn now c) sender.old sender.new) }
-    ensures none { OnOk result (find is_to_resend sender.old.flight.queue.inflight.chunks ≡ None
+    ensures none { OnOk result (next_within room sender.old.flight ≡ None
         → sender.new ≡ sender.old) }
 {
-    sender.resend_next(now)
+    sender.resend_next(now, room)
 }
 
 /// Abandons the message of a chunk.

@@ -8,6 +8,7 @@ pub mod CompleteMessages
 pub mod Anew
 pub mod Counts
 pub mod KnownPlaces
+pub mod Unmarked
 pub mod Walks
 pub mod Sent
 pub mod Sacks

@@ -65,7 +65,7 @@ module _ (p : ChunkPayloadData → Bool) (f : ChunkPayloadData → ChunkPayloadD
         ∙ ap (λ c. set ys i (g c)) (sym read) ∙ ap (set ys i) e ∙ changed_step p f cs ys i x lt so_far read h
 
     -- the walk has not come to it
-    old : x ≡ get_or cs i x
+    pub old : x ≡ get_or cs i x
     old =
         let short : length (change_where p f (take i cs)) ≡ i = length-change_where p f (take i cs) ∙ length-take-le i cs (omega (arith, lt)) in
         let none : i + (i - i) ≡ i = omega arith in

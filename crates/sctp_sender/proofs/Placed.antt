@@ -175,11 +175,11 @@ placed-put bs cs d le = placed-put-from 0 bs cs d (omega (arith, le))
 
 -- ## In flight
 
-put-length : (bs : List PlacedData) (cs : List ChunkPayloadData) → length (put_back bs cs) ≡ length cs
+pub put-length : (bs : List PlacedData) (cs : List ChunkPayloadData) → length (put_back bs cs) ≡ length cs
 put-length [] cs = refl
 put-length (b ∷ bs) cs = length-changed (as_taken_back b.user_data) b.place (put_back bs cs) ∙ put-length bs cs
 
-put-map : {B : Type 0} (f : ChunkPayloadData → B) → ((bytes : List ℕ) (c : ChunkPayloadData) → f (as_taken_back bytes c) ≡ f c)
+pub put-map : {B : Type 0} (f : ChunkPayloadData → B) → ((bytes : List ℕ) (c : ChunkPayloadData) → f (as_taken_back bytes c) ≡ f c)
     → (bs : List PlacedData) (cs : List ChunkPayloadData) → map f (put_back bs cs) ≡ map f cs
 put-map f same [] cs = refl
 put-map {B} f same (b ∷ bs) cs = one b.place (put_back bs cs) ∙ put-map f same bs cs

@@ -1,5 +1,6 @@
 -- The first chunk in flight that is marked for retransmission, and what leaves with messages that are abandoned.
-use Rattle.std.proofs.Common.{◌≡◌, ℕ, Bool, true, false, List, [], ◌∷◌, ◌++◌, map, Option, Some, None, Result, Ok, Err, Vec, Global, refl, ap, sym, subst, ◌∙◌, arith}
+use Rattle.std.proofs.Common.{◌≡◌, ℕ, Bool, true, false, List, [], ◌∷◌, ◌++◌, map, Option, Some, None, Result, Ok, Err, Vec, Global, refl, ap, sym, subst, ◌∙◌}
+use Rattle.std.proofs.Common.{arith}
 use Rattle.std.specs.Prelude.{IfOk, not, find, if◌then◌else◌, option_map, option_to_list}
 use Rattle.std.specs.List.{filter}
 use Rattle.std.proofs.lemmas.Option.{none-some}
@@ -13,7 +14,7 @@ use Rattle.sctp_serial.specs.DataChunks.{following_tsn, has_tsn}
 use Rattle.sctp_sender.specs.declared.sender.flight.late.AbandonedMessage.{AbandonedMessage}
 use Rattle.sctp_sender.specs.Flight.{Flight, IsContiguous, can_resend, has_tail_at, is_outstanding_in}
 use Rattle.sctp_sender.specs.Late.{abandoned_with, leaving_each, tail_first, with_tail}
-use Rattle.sctp_sender.specs.Resending.{count_again, is_to_resend, is_worn, sent_again}
+use Rattle.sctp_sender.specs.Resending.{count_again, fits, if_it_fits, is_to_resend, is_worn, sent_again}
 use Rattle.sctp_sender.specs.Thresholds.{with_message_lows}
 use Rattle.sctp_stream.specs.declared.stream.StreamState.{StreamState}
 use Rattle.sctp_sender.proofs.Lates.{found-passes}
@@ -42,8 +43,8 @@ module _ (f : Flight) (inv : IsContiguous f) where
   left None c n e stays gs none = absurd (none-some c e)
   left (Some d) c n e stays gs none = let same : d ≡ c = cc in by d.abandoned (ap (λ (x : ChunkPayloadData). x.abandoned) same ∙ stays) none
     where
-      by : (b : Bool) → b ≡ false → (if b then [] else record { stream = d.stream_identifier; number = d.message_id; bytes = n; is_low = false } ∷ []) ++ gs ≡ []
-          → ⊥
+      by : (b : Bool) → b ≡ false
+          → (if b then [] else record { stream = d.stream_identifier; number = d.message_id; bytes = n; is_low = false } ∷ []) ++ gs ≡ [] → ⊥
       by true h z = not_both (sym h)
       by false h z = cc
 
@@ -114,23 +115,38 @@ named None tsn e = absurd (none-some tsn (sym e))
 named (Some c) tsn e = (c, refl, cc)
 
 -- what it answers, by what `resend` says of its TSN
-module _ (cs : List ChunkPayloadData) (tsn now : ℕ) (is : Some tsn ≡ option_map (λ c. c.tsn) (find is_to_resend cs))
-    (own : (c : ChunkPayloadData) → find is_to_resend cs ≡ Some c → find (has_tsn c.tsn) cs ≡ Some c) where
-  marked : (c : ChunkPayloadData) × (find is_to_resend cs ≡ Some c) × (tsn ≡ c.tsn)
-  marked = named (find is_to_resend cs) tsn is
+module _ (cs : List ChunkPayloadData) (o : Option ChunkPayloadData) (tsn now : ℕ) (is : Some tsn ≡ option_map (λ c. c.tsn) o)
+    (own : (c : ChunkPayloadData) → o ≡ Some c → find (has_tsn c.tsn) cs ≡ Some c) where
+  marked : (c : ChunkPayloadData) × (o ≡ Some c) × (tsn ≡ c.tsn)
+  marked = named o tsn is
 
   found : find (has_tsn tsn) cs ≡ Some marked.0
   found = ap (λ t. find (has_tsn t) cs) marked.2 ∙ own marked.0 marked.1
 
   module _ (again : ChunkPayloadData) (answer : (c : ChunkPayloadData) → find (has_tsn tsn) cs ≡ Some c → again ≡ sent_again (count_again c) now c) where
-    pub next-answer : Some again ≡ option_map (λ c. sent_again (count_again c) now c) (find is_to_resend cs)
+    pub next-answer : Some again ≡ option_map (λ c. sent_again (count_again c) now c) o
     next-answer = ap Some (answer marked.0 found) ∙ sym (ap (option_map (λ c. sent_again (count_again c) now c)) marked.1)
 
     pub next-tsn : again.tsn ≡ tsn
     next-tsn = ap (λ (c : ChunkPayloadData). c.tsn) (answer marked.0 found) ∙ sym marked.2
 
-  pub same-tsn : (c : ChunkPayloadData) → find is_to_resend cs ≡ Some c → c.tsn ≡ tsn
+  pub same-tsn : (c : ChunkPayloadData) → o ≡ Some c → c.tsn ≡ tsn
   same-tsn c e = let both : Some tsn ≡ Some c.tsn = is ∙ ap (option_map (λ (d : ChunkPayloadData). d.tsn)) e in let h : tsn ≡ c.tsn = cc in sym h
 
-  pub any-marked : find is_to_resend cs ≡ None → ⊥
+  pub any-marked : o ≡ None → ⊥
   any-marked e = none-some marked.0 (sym e ∙ marked.1)
+
+-- ## It fits
+
+pub fits-is : (room : ℕ) (o : Option ChunkPayloadData) (c : ChunkPayloadData) (b : Bool) → o ≡ Some c → fits room c ≡ b
+    → if_it_fits room o ≡ (if b then Some c else None)
+fits-is room o c b is e = ap (if_it_fits room) is ∙ ap (λ k. if k then Some c else None) e
+
+-- what fits is what was found
+pub within-is : (room : ℕ) (o : Option ChunkPayloadData) (c : ChunkPayloadData) → if_it_fits room o ≡ Some c → o ≡ Some c
+within-is room None c e = e
+within-is room (Some d) c e = by (fits room d) e
+  where
+    by : (b : Bool) → (if b then Some d else None) ≡ Some c → Some d ≡ Some c
+    by true h = h
+    by false h = absurd (none-some c h)

@@ -1,8 +1,10 @@
 -- Which chunks in flight are sent again (RFC 4960 6.3.3, 7.2.4; RFC 7496 3.1).
-use Rattle.std.specs.Prelude.{ℕ, ◌+◌, ◌-◌, ◌^◌, ◌==◌, Bool, true, false, not, ◌&&◌, ◌||◌, nat_lt, if◌then◌else◌, List, ◌++◌, length, map, min, take, drop}
+use Rattle.std.specs.Prelude.{◌≡◌, ℕ, ◌+◌, ◌-◌, ◌^◌, ◌≤◌, ◌==◌, Bool, true, false, not, ◌&&◌, ◌||◌, nat_le, nat_lt, if◌then◌else◌, List, ◌++◌, length, map, min}
+use Rattle.std.specs.Prelude.{take, drop}
 use Rattle.std.specs.Prelude.{Option, Some, None}
-use Rattle.std.specs.List.{filter, list_all, list_any}
+use Rattle.std.specs.List.{filter, find, list_all, list_any}
 use Rattle.sctp_util.specs.Lists.{change_where}
+use Rattle.sctp_util.specs.Padding.{padded_length}
 use Rattle.sctp_util.specs.Serial.{distance, comes_before}
 use Rattle.sctp_data.specs.PayloadTypes.{is_dcep}
 use Rattle.sctp_data.specs.declared.chunk.chunk_payload_data.ChunkPayloadData.{ChunkPayloadData}
@@ -44,6 +46,23 @@ all_marked f =
 abbrev pub is_to_resend : ChunkPayloadData → Bool
 is_to_resend c = c.retransmit && is_outstanding c
 
+-- of the chunks in flight so many are not marked, from the first one on
+pub record AreUnmarked (count : ℕ) (chunks : List ChunkPayloadData) : Type 0 where
+  pub within : count ≤ length chunks
+  pub each : list_any (λ c. c.retransmit) (take count chunks) ≡ false
+
+-- as a DATA chunk of a packet it takes at most so many bytes: 16, and its user data with padding (RFC 9260 3.3.1)
+abbrev pub fits : ℕ → ChunkPayloadData → Bool
+fits room c = nat_le (16 + padded_length (length c.user_data)) room
+
+abbrev pub if_it_fits : ℕ → Option ChunkPayloadData → Option ChunkPayloadData
+if_it_fits room None = None
+if_it_fits room (Some c) = if fits room c then Some c else None
+
+-- the first chunk in flight that is marked and outstanding, if it takes at most so many bytes of a packet
+abbrev pub next_within : ℕ → Flight → Option ChunkPayloadData
+next_within room f = if_it_fits room (find is_to_resend f.queue.inflight.chunks)
+
 -- ## Missing
 
 -- how many chunks in flight have TSNs before this one: none where it is not past the acknowledged one
@@ -70,11 +89,11 @@ after_misses count f =
     with_chunks (change_where can_miss missed (take count f.queue.inflight.chunks)
     ++ drop count f.queue.inflight.chunks) f
 
--- the next time is the third
+-- not marked, and the next time is the third
 abbrev pub is_third : ChunkPayloadData → Bool
-is_third c = can_miss c && c.miss_indicator == 2
+is_third c = can_miss c && (c.miss_indicator == 2 && not c.retransmit)
 
--- those of the first so many that are missing for the third time
+-- those of the first so many that are missing for the third time, and marked by that
 abbrev pub thirds : ℕ → Flight → List ChunkPayloadData
 thirds count f = filter is_third (take count f.queue.inflight.chunks)
 

@@ -63,6 +63,8 @@ pub(crate) enum Step {
     Marked(Option<u32>),
     /// It is sent again at a moment, as the second time.
     SendMarked(u64, Option<u32>),
+    /// It is sent again if it takes at most so many bytes of a packet.
+    SendWithin(usize, Option<u32>),
     Resend(u32, u64, Result<&'static [u8], SenderRefusal>),
     /// So many chunks are marked as a TSN counts what is missing before it, or the block of one that a SACK reports.
     Miss(u32, usize),
@@ -104,8 +106,8 @@ use Step::{
     Abandon, Ack, AckPoint, Acked, At, Buffered, BytesOf, Close, Contains, CountResend, Drained,
     DropExpired, Expire, Flight, Fragments, Idle, IsOpen, Keep, Late, MarkAll, Marked, Miss,
     MissBlock, Mode, NextTsn, Open, PeerAt, Read, Readable, Reopen, Resend, Reset, Send,
-    SendFirstAgain, SendMarked, SendNumbered, Sendings, Sequence, Sizes, Skip, Start, Swap,
-    TakeBack, Threshold, Unused, UpTo, Within, Worn, Write,
+    SendFirstAgain, SendMarked, SendNumbered, SendWithin, Sendings, Sequence, Sizes, Skip, Start,
+    Swap, TakeBack, Threshold, Unused, UpTo, Within, Worn, Write,
 };
 
 // The SACK up to a TSN with one block, or with none for that of 0 to 0.
@@ -223,13 +225,22 @@ fn is_at(sender: &Sender, place: usize, due: &Option<(u32, u32, Option<u64>, boo
 
 // Whether the first chunk that is marked is sent again then, and has this TSN.
 fn sends_marked(sender: &mut Sender, now: u64, due: Option<u32>) -> bool {
-    match sender.resend_next(now) {
+    match sender.resend_next(now, usize::MAX) {
         Ok(Some(chunk)) => {
             due == Some(chunk.tsn)
                 && chunk.nsent == 2
                 && chunk.since == Some(now)
                 && !chunk.retransmit
         }
+        Ok(None) => due.is_none(),
+        Err(_) => false,
+    }
+}
+
+// Whether the first chunk that is marked is sent again within so many bytes, and has this TSN.
+fn sends_within(sender: &mut Sender, room: usize, due: Option<u32>) -> bool {
+    match sender.resend_next(1, room) {
+        Ok(Some(chunk)) => due == Some(chunk.tsn),
         Ok(None) => due.is_none(),
         Err(_) => false,
     }
@@ -390,6 +401,7 @@ fn is_done(sender: &mut Sender, step: &Step) -> bool {
         SendNumbered(ssn) => sends_numbered(sender, *ssn),
         Keep(due) => sender.keep_reported() == *due,
         SendMarked(now, due) => sends_marked(sender, *now, *due),
+        SendWithin(room, due) => sends_within(sender, *room, *due),
         Resend(tsn, now, due) => resends(sender, *tsn, *now, due),
         Miss(tsn, due) => sender.add_miss_indications(*tsn) == *due,
         Mode(unordered, kind, value) => sender.set_mode(1, *unordered, *kind, *value).is_ok(),

@@ -5,8 +5,8 @@ use crate::hosts::Step::{
     Abandon, Ack, AckPoint, Acked, At, Buffered, BytesOf, Close, Contains, CountResend, Drained,
     DropExpired, Expire, Flight, Fragments, Idle, IsOpen, Keep, Late, MarkAll, Marked, Miss,
     MissBlock, Mode, NextTsn, Open, PeerAt, Read, Readable, Reopen, Resend, Reset, Send,
-    SendFirstAgain, SendMarked, SendNumbered, Sendings, Sequence, Sizes, Skip, Start, Swap,
-    TakeBack, Threshold, Unused, UpTo, Within, Worn, Write,
+    SendFirstAgain, SendMarked, SendNumbered, SendWithin, Sendings, Sequence, Sizes, Skip, Start,
+    Swap, TakeBack, Threshold, Unused, UpTo, Within, Worn, Write,
 };
 use crate::hosts::{Step, all_go};
 use sctp_chunks::chunk::chunk_payload_data::ReliabilityType;
@@ -98,7 +98,7 @@ const NOT_SENT: Result<&[Released], SenderRefusal> = Err(SenderRefusal::Inflight
 const NONE: &[Step] = &[];
 
 // Each case: what it shows, the first TSNs of both hosts, and the steps in two parts.
-const CASES: [(&str, u32, u32, &[Step], &[Step]); 25] = [
+const CASES: [(&str, u32, u32, &[Step], &[Step]); 27] = [
     (
         "what is in flight is walked by places",
         u32::MAX,
@@ -162,6 +162,40 @@ const CASES: [(&str, u32, u32, &[Step], &[Step]); 25] = [
             Miss(u32::MAX - 5, 0),
             Marked(None),
             SendMarked(1, None),
+        ],
+    ),
+    (
+        // RFC 9260 7.2.4: fast recovery begins where the third miss indication marks a chunk
+        "a chunk that the timer marked is not marked by its third miss",
+        u32::MAX,
+        7,
+        FOUR,
+        &[
+            MissBlock(2, 0),
+            MissBlock(3, 0),
+            MarkAll,
+            MissBlock(4, 0),
+            Marked(Some(u32::MAX)),
+            SendMarked(9, Some(u32::MAX)),
+            Marked(None),
+        ],
+    ),
+    (
+        // RFC 9260 3.3.1: three bytes of user data take a DATA chunk of 20 with padding
+        "a marked chunk is sent again where it fits",
+        u32::MAX,
+        7,
+        FOUR,
+        &[
+            MarkAll,
+            SendWithin(0, None),
+            SendWithin(19, None),
+            SendWithin(20, Some(u32::MAX)),
+            SendWithin(19, None),
+            SendWithin(usize::MAX, Some(0)),
+            SendWithin(usize::MAX, Some(1)),
+            SendWithin(usize::MAX, Some(2)),
+            SendWithin(usize::MAX, None),
         ],
     ),
     (

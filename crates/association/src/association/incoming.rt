@@ -179,6 +179,7 @@ impl Association {
         if self.sender.add_miss_indications(before) > 0 {
             self.congestion.lost(self.sender.next_tsn().wrapping_sub(1));
             self.is_fast = true;
+            self.has_lost = true;
         }
     }
 }

@@ -61,12 +61,16 @@ pub struct InFlight {
     // those that it kept, where a report was taken back since; none behind a lone `restore`. What they report is acknowledged, and the
     // next SACK does not look at it.
     known: Vec<GapAckBlock>,
+    // How many of the chunks in flight, from the first on, are known not to be marked for retransmission: a walk that looks for one that is
+    // begins behind them.
+    unmarked: usize,
 }
 
 impl Model for InFlight {
     ghost use Rattle.sctp_sender.specs.Flight.{Flight, IsContiguous};
     ghost use Rattle.std.specs.Prelude.{◌≡◌, true};
     ghost use Rattle.sctp_sender.specs.Reporting.{AreKnown, ascends_from};
+    ghost use Rattle.sctp_sender.specs.Resending.{AreUnmarked};
 
     ghost Value = { Flight };
 
@@ -85,6 +89,7 @@ impl Model for InFlight {
           });
           ascend : ascends_from 0 f.known.items ≡ true;
           known : AreKnown f.known.items f.queue.inflight.chunks;
+          unmarked : AreUnmarked f.unmarked f.queue.inflight.chunks;
         } };
 }
 
@@ -103,6 +108,7 @@ impl InFlight {
             next_tsn: first_tsn,
             acked_tsn: first_tsn.wrapping_sub(1),
             known: Vec::new(alloc),
+            unmarked: 0,
         }
     }
 

@@ -13,7 +13,7 @@ use sctp_serial::turns::Turns;
 impl Sender {
     ghost use Rattle.sctp_sender.specs.Flight.{can_resend};
     ghost use Rattle.sctp_sender.specs.Sender.{with_flight};
-    ghost use Rattle.sctp_sender.specs.Resending.{after_misses, all_marked, count_again, count_before, is_to_resend, resent_at, sent_again, thirds};
+    ghost use Rattle.sctp_sender.specs.Resending.{after_misses, all_marked, count_again, count_before, is_to_resend, next_within, resent_at, sent_again, thirds};
 
     /// Sends the chunk in flight with a TSN again: it is counted, `now` is noted, in nanoseconds, and it is no longer marked for
     /// retransmission. Answers it as it is noted then. Refuses with `NotInFlight`, where none is, or it is acknowledged or
@@ -35,33 +35,47 @@ impl Sender {
         self.flight.resend(tsn, now)
     }
 
-    /// Sends again the first chunk in flight that is marked for retransmission and outstanding, as `resend` does; None where none is,
-    /// and nothing changes then. Refuses only for memory, and the sender is as it was then.
-    pub fn resend_next(&mut self, now: u64) -> Result<Option<ChunkPayloadData>, SenderRefusal>
+    /// Sends again the first chunk in flight that is marked for retransmission and outstanding, as `resend` does. None where none is,
+    /// or where that chunk, 16 bytes and its padded user data, takes more than `room` bytes of a packet; nothing changes then. Refuses
+    /// only for memory, and the sender is as it was then.
+    pub fn resend_next(
+        &mut self,
+        now: u64,
+        room: usize,
+    ) -> Result<Option<ChunkPayloadData>, SenderRefusal>
         ensures answer { IfOk result (λ again. again
             ≡ option_map (λ c. sent_again (count_again c) now c)
-            (find is_to_resend self.old.flight.queue.inflight.chunks)) }
+            (next_within room self.old.flight)) }
         ensures noted { IfOk result (λ again. IfSome again
             (λ c. find (has_tsn c.tsn) self.new.flight.queue.inflight.chunks ≡ Some c)) }
         ensures ok { OnOk result ((c : ChunkPayloadData)
-            → find is_to_resend self.old.flight.queue.inflight.chunks ≡ Some c
+            → next_within room self.old.flight ≡ Some c
             → self.new ≡ with_flight (resent_at c.tsn now c self.old.flight) self.old) }
-        ensures none { find is_to_resend self.old.flight.queue.inflight.chunks ≡ None
-            → self.new ≡ self.old }
-        ensures marked { (c : ChunkPayloadData)
-            → find is_to_resend self.old.flight.queue.inflight.chunks ≡ Some c
+        ensures none { next_within room self.old.flight ≡ None → self.new ≡ self.old }
+        ensures marked { (c : ChunkPayloadData) → next_within room self.old.flight ≡ Some c
             → (find (has_tsn c.tsn) self.old.flight.queue.inflight.chunks ≡ Some c)
             × (can_resend c.tsn self.old.flight ≡ true) }
-        ensures idle { find is_to_resend self.old.flight.queue.inflight.chunks ≡ None
-            → IsOk result }
+        ensures idle { next_within room self.old.flight ≡ None → IsOk result }
         ensures refused { IfErr result (λ e. e ≡ OutOfMemory) }
         ensures err { OnErr result (self.new ≡ self.old) }
     {
-        let Some(tsn) = self.flight.tsn_to_resend() else {
+        let Some(tsn) = self.tsn_to_resend(room) else {
             return Ok(None);
         };
         let again = self.resend(tsn, now)?;
         Ok(Some(again))
+    }
+
+    // The TSN of the chunk that is sent again next within so many bytes: the one in flight with this TSN, and it can be sent again.
+    fn tsn_to_resend(&mut self, room: usize) -> Option<u32>
+        ensures same { self.new ≡ self.old }
+        ensures tsn { result ≡ option_map (λ c. c.tsn) (next_within room self.old.flight) }
+        ensures own { (c : ChunkPayloadData) → next_within room self.old.flight ≡ Some c
+            → find (has_tsn c.tsn) self.old.flight.queue.inflight.chunks ≡ Some c }
+        ensures again { (c : ChunkPayloadData) → next_within room self.old.flight ≡ Some c
+            → can_resend c.tsn self.old.flight ≡ true }
+    {
+        self.flight.tsn_to_resend(room)
     }
 
     /// Marks each outstanding chunk in flight for retransmission, as where the timer T3-rtx runs out (RFC 4960 6.3.3 E3). It takes no
@@ -80,7 +94,7 @@ impl Sender {
     }
 
     /// Counts each outstanding chunk in flight whose TSN is before this one as missing once more, up to 3, and marks for
-    /// retransmission what is missing for the third time (RFC 4960 7.2.4). Answers how many are marked now: more than none begins
+    /// retransmission what is missing for the third time (RFC 4960 7.2.4). Answers how many are newly marked: more than none begins
     /// fast recovery. Hand in the highest TSN that the SACK reports anew, in fast recovery the highest that it reports. It takes no
     /// memory.
     pub fn add_miss_indications(&mut self, before: u32) -> usize

@@ -92,6 +92,7 @@ impl InFlight {
             → AreKnown bs self.new.queue.inflight.chunks }
     {
         let _ = &self.queue;
+        self.pass_unmarked();
         let tsns = self.worn_tsns(alloc)?;
         self.abandon_all(alloc, &tsns)
     }

@@ -120,6 +120,7 @@ impl InFlight {
         );
         self.acked_tsn = sack.cumulative_tsn_ack;
         self.known = sorted;
+        self.unmarked = self.unmarked.saturating_sub(count);
         Ok(released)
     }
 

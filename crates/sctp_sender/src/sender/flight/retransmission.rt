@@ -1,14 +1,14 @@
 //! Which chunks in flight are sent again (RFC 4960 6.3.3, 7.2.4; RFC 7496 3.1).
 
-ghost use Rattle.std.specs.Prelude.{◌≡◌, ◌==◌, ◌+◌, ◌*◌, ◌-◌, ◌^◌, ◌<◌, ◌≤◌, ◌++◌, [], min, true, None, Some, OnOk, OnErr, IfOk, IfErr, IfSome, IsOk, drop, find, length, option_copied, option_map, slice_get, take, if◌then◌else◌};
-ghost use Rattle.std.specs.List.{filter};
+ghost use Rattle.std.specs.Prelude.{◌≡◌, ◌==◌, ◌+◌, ◌*◌, ◌-◌, ◌^◌, ◌<◌, ◌≤◌, ◌++◌, ◌&&◌, [], min, true, false, not, None, Some, OnOk, OnErr, IfOk, IfErr, IfSome, IsOk, drop, find, length, option_copied, option_map, slice_get, take, if◌then◌else◌};
+ghost use Rattle.std.specs.List.{filter, list_any};
 ghost use Rattle.sctp_util.specs.Lists.{change_where};
 ghost use Rattle.sctp_data.specs.declared.chunk.chunk_payload_data.ChunkPayloadData.{ChunkPayloadData};
 ghost use Rattle.sctp_outbound.specs.outbound_queue.OutboundQueue.{with_inflight};
 ghost use Rattle.sctp_sender.specs.declared.sender.refusal.SenderRefusal.TheVariants.{NotInFlight, OutOfMemory};
 ghost use Rattle.sctp_sender.specs.Flight.{tsns_from};
 ghost use Rattle.sctp_sender.specs.Reporting.{AreKnown, ascends_from};
-ghost use Rattle.sctp_sender.specs.Resending.{can_miss, is_over, is_third, is_to_resend, is_worn, limit_of, missed, missed_after, rexmit_limit, sent_again};
+ghost use Rattle.sctp_sender.specs.Resending.{AreUnmarked, can_miss, fits, is_over, is_third, is_to_resend, is_worn, limit_of, missed, missed_after, rexmit_limit, sent_again};
 ghost use Rattle.sctp_serial.specs.DataChunks.{has_tsn, tsns};
 
 use super::InFlight;
@@ -24,7 +24,7 @@ use std::alloc::Global;
 
 impl InFlight {
     ghost use Rattle.sctp_sender.specs.Flight.{can_resend};
-    ghost use Rattle.sctp_sender.specs.Resending.{after_misses, all_marked, count_before, resent_at, thirds, worn_tsns};
+    ghost use Rattle.sctp_sender.specs.Resending.{after_misses, all_marked, count_before, next_within, resent_at, thirds, worn_tsns};
 
     /// Sends the chunk in flight with a TSN again: it is counted, `now` is noted, in nanoseconds, and it is no longer marked for
     /// retransmission. Answers it as it is noted then. Refuses with `NotInFlight`, where none is, or it is acknowledged or
@@ -55,6 +55,7 @@ impl InFlight {
         again.since = Some(now);
         again.retransmit = false;
         note_sent_again(&mut self.queue, tsn, count, now);
+        self.unmarked = first_marked(&self.queue, self.unmarked, &mut Turns::new());
         Ok(again)
     }
 
@@ -63,6 +64,15 @@ impl InFlight {
         ensures { self.new ≡ all_marked self.old }
     {
         self.queue.mark_all_to_retransmit();
+        self.unmarked = 0;
+    }
+
+    /// Goes on to the first chunk that is marked, where the next look begins: each chunk in flight is passed once after it was sent, and
+    /// once after each time that one before it was marked.
+    pub(crate) fn pass_unmarked(&mut self)
+        ensures { self.new ≡ self.old }
+    {
+        self.unmarked = first_marked(&self.queue, self.unmarked, &mut Turns::new());
     }
 
     /// The first chunk in flight that is marked for retransmission and outstanding.
@@ -75,22 +85,25 @@ impl InFlight {
         }
     }
 
-    /// The TSN of that chunk, which is the one in flight with this TSN, and can be sent again.
-    pub(crate) fn tsn_to_resend(&self) -> Option<u32>
-        ensures tsn { result ≡ option_map (λ c. c.tsn)
-            (find is_to_resend self.now.queue.inflight.chunks) }
-        ensures own { (c : ChunkPayloadData)
-            → find is_to_resend self.now.queue.inflight.chunks ≡ Some c
-            → find (has_tsn c.tsn) self.now.queue.inflight.chunks ≡ Some c }
-        ensures again { (c : ChunkPayloadData)
-            → find is_to_resend self.now.queue.inflight.chunks ≡ Some c
-            → can_resend c.tsn self.now ≡ true }
+    /// The TSN of that chunk, where the chunk takes at most so many bytes of a packet. It is the one in flight with this TSN, and can be
+    /// sent again.
+    pub(crate) fn tsn_to_resend(&mut self, room: usize) -> Option<u32>
+        ensures same { self.new ≡ self.old }
+        ensures tsn { result ≡ option_map (λ c. c.tsn) (next_within room self.old) }
+        ensures own { (c : ChunkPayloadData) → next_within room self.old ≡ Some c
+            → find (has_tsn c.tsn) self.old.queue.inflight.chunks ≡ Some c }
+        ensures again { (c : ChunkPayloadData) → next_within room self.old ≡ Some c
+            → can_resend c.tsn self.old ≡ true }
     {
         let _ = &self.queue;
-        match self.next_to_retransmit() {
-            Some(chunk) => Some(chunk.tsn),
-            None => None,
+        self.pass_unmarked();
+        let Some(chunk) = self.next_to_retransmit() else {
+            return None;
+        };
+        if !fits(room, chunk) {
+            return None;
         }
+        Some(chunk.tsn)
     }
 
     // The place of that chunk.
@@ -99,7 +112,7 @@ impl InFlight {
             ≡ find is_to_resend self.now.queue.inflight.chunks) }
         ensures none { result ≡ None → find is_to_resend self.now.queue.inflight.chunks ≡ None }
     {
-        for place in 0..self.queue.inflight_len() {
+        for place in self.unmarked..self.queue.inflight_len() {
             let Some(chunk) = self.at(place) else {
                 unreachable!()
             };
@@ -120,7 +133,9 @@ impl InFlight {
     {
         let count = self.count_before(before);
         let first = self.acked_tsn.wrapping_add(1);
-        count_missing(&mut self.queue, &self.known, first, count, turns)
+        let (thirds, place) = count_missing(&mut self.queue, &self.known, first, count, turns);
+        self.unmarked = earlier(self.unmarked, place, thirds);
+        thirds
     }
 
     // How many chunks in flight have TSNs before this one.
@@ -143,7 +158,7 @@ impl InFlight {
         ensures idle { worn_tsns self.now ≡ [] → IsOk result }
     {
         let mut tsns = Vec::new(alloc);
-        for place in 0..self.queue.inflight_len() {
+        for place in self.unmarked..self.queue.inflight_len() {
             let Some(chunk) = self.at(place) else {
                 unreachable!()
             };
@@ -174,6 +189,34 @@ fn is_to_resend(chunk: &ChunkPayloadData) -> bool
     ensures { result ≡ is_to_resend chunk.now }
 {
     chunk.retransmit && !chunk.acked && !chunk.abandoned
+}
+
+// Whether the chunk takes at most so many bytes of a packet.
+fn fits(room: usize, chunk: &ChunkPayloadData) -> bool
+    ensures { result ≡ fits room chunk.now }
+{
+    room >= 16 && chunk.user_data.len() <= (room - 16) / 4 * 4
+}
+
+// The first place from this one on at which a chunk in flight is marked, or how many chunks there are, if that is more. Turns: one for
+// each chunk that is passed.
+fn first_marked(queue: &OutboundQueue, from: usize, turns: &mut Turns) -> usize
+    ensures unmarked { AreUnmarked from queue.now.inflight.chunks
+        → AreUnmarked result queue.now.inflight.chunks }
+    ensures cost { turns.new + from ≡ turns.old + result }
+{
+    let mut place = from;
+    while place < queue.inflight_len() {
+        let Some(chunk) = queue.inflight_at(place) else {
+            unreachable!()
+        };
+        if chunk.retransmit {
+            return place;
+        }
+        turns.tick();
+        place += 1;
+    }
+    place
 }
 
 // Whether the chunk is outstanding, and not counted as missing three times.
@@ -213,7 +256,7 @@ fn is_over(count: u32, limit: Option<u32>) -> bool
 }
 
 // Counts each of the first so many chunks in flight that can miss as missing once more. What the known blocks report is acknowledged,
-// and not looked at. Answers how many are for the third time.
+// and not looked at. Answers how many are marked by that, and a place such that no chunk before it is.
 // Turns: one for each chunk and each known block that is looked at, at most two for each of these places.
 fn count_missing(
     queue: &mut OutboundQueue,
@@ -221,7 +264,7 @@ fn count_missing(
     first: u32,
     count: usize,
     turns: &mut Turns,
-) -> usize
+) -> (usize, usize)
     requires known_ascend { ascends_from 0 known.now ≡ true }
     requires known { AreKnown known.now queue.old.inflight.chunks }
     requires run { tsns queue.old.inflight.chunks
@@ -231,12 +274,14 @@ fn count_missing(
     ensures missed { queue.new ≡ with_inflight queue.old
         (change_where can_miss missed (take count queue.old.inflight.chunks)
         ++ drop count queue.old.inflight.chunks) }
-    ensures thirds { result
+    ensures thirds { result.0
         ≡ length (filter is_third (take count queue.old.inflight.chunks)) }
+    ensures before { list_any is_third (take result.1 queue.old.inflight.chunks) ≡ false }
     ensures not_back { turns.old ≤ turns.new }
     ensures cost { turns.new ≤ turns.old + 2 * count }
 {
     let mut thirds = 0;
+    let mut first_third = count;
     let mut place = 0;
     let mut next = 0;
     while place < count {
@@ -260,25 +305,42 @@ fn count_missing(
             continue;
         }
         let misses = chunk.miss_indicator;
+        let is_marked = chunk.retransmit;
         let tsn = first.wrapping_add(place as u32);
-        let third = note_missing(queue, tsn, misses);
+        let third = note_missing(queue, tsn, misses, is_marked);
         thirds += third;
+        first_third = earlier(first_third, place, third);
         place += 1;
     }
-    thirds
+    (thirds, first_third)
 }
 
-// Notes that a chunk in flight, missing so often before, is missing once more. Answers 1 where that is the third time, else 0.
-fn note_missing(queue: &mut OutboundQueue, tsn: u32, misses: u8) -> usize
+// The earlier of two places, where the second counts.
+fn earlier(first: usize, place: usize, counts: usize) -> usize
+    ensures none { counts ≡ 0 → result ≡ first }
+    ensures some { 0 < counts → result ≡ min first place }
+{
+    if counts == 0 {
+        return first;
+    }
+    first.min(place)
+}
+
+// Notes that a chunk in flight, missing so often before, is missing once more. Answers 1 where that is the third time and it was not
+// marked, else 0.
+fn note_missing(queue: &mut OutboundQueue, tsn: u32, misses: u8, is_marked: bool) -> usize
     requires { misses < 3 }
     ensures noted { queue.new ≡ with_inflight queue.old
         (change_where (has_tsn tsn) (missed_after misses) queue.old.inflight.chunks) }
-    ensures third { result ≡ (if misses == 2 then 1 else 0) }
+    ensures third { result ≡ (if misses == 2 && not is_marked then 1 else 0) }
 {
     queue.set_miss_indicator(tsn, misses + 1);
     if misses != 2 {
         return 0;
     }
     queue.set_retransmit(tsn, true);
+    if is_marked {
+        return 0;
+    }
     1
 }

@@ -9,6 +9,7 @@ use Rattle.sctp_sender.proofs.InLine.{abandoned-in-line, found-partial}
 use Rattle.sctp_sender.proofs.Flights.{fresh, window, after-abandoning}
 use Rattle.sctp_sender.proofs.Known.{abandoned-known}
 use Rattle.sctp_sender.proofs.Seen.{flight_in}
+use Rattle.sctp_sender.proofs.Unmarked.{abandoned-unmarked}
 use Rattle.sctp_sender.proofs.sender.flight.InFlight.abandon.Goals as goal
 
 pub abandon_between-requires-clause-fresh : goal.abandon_between-requires-clause-fresh
@@ -37,6 +38,8 @@ invariant_of-self-2 c =
           c.abandon_between.new.self c.in_ok-abandoned.ensures.ok));
       ascend = c.self.invariant.ascend;
       known = abandoned-known c.self.inside.known.items f c.self.invariant.contiguous c.self.invariant.known
+          (to_abandon (find (has_tsn c.args.tsn) f.queue.inflight.chunks)) c.abandon_between.new.self c.in_ok-abandoned.ensures.ok;
+      unmarked = abandoned-unmarked c.self.inside.unmarked f c.self.invariant.contiguous c.self.invariant.unmarked
           (to_abandon (find (has_tsn c.args.tsn) f.queue.inflight.chunks)) c.abandon_between.new.self c.in_ok-abandoned.ensures.ok;
     }
 

@@ -29,6 +29,8 @@ use Rattle.sctp_sender.proofs.Sacks.{contiguous, count, run, taken-is}
 use Rattle.sctp_sender.proofs.Seen.{flight_in}
 use Rattle.sctp_sender.proofs.Settled.{after-bytes}
 use Rattle.sctp_sender.proofs.Answered.{of-changed, answered-are, answered-in-flight}
+use Rattle.sctp_sender.specs.Resending.{AreUnmarked}
+use Rattle.sctp_sender.proofs.Unmarked.{changed-on, left-over}
 use Rattle.sctp_sender.proofs.sender.flight.InFlight.acked_counted.Goals.{After-acknowledge_answered, After-deref-3, After-judge_each, After-pop_run}
 use Rattle.sctp_sender.proofs.sender.flight.InFlight.acked_counted.Goals.{After-tell_anew, In_ok-tell_anew}
 use Rattle.sctp_sender.proofs.sender.flight.InFlight.acked_counted.Goals as goal
@@ -210,6 +212,14 @@ invariant_of-self c =
       ascend = own.are.ascend;
       known = subst (λ (o : Outbound). AreKnown c.in_ok-sorted.sorted.items o.inflight.chunks)
           (sym (left ∙ ap (λ (o : Outbound). with_inflight o (drop (distance f.acked_tsn s.cumulative_tsn_ack) o.inflight.chunks)) m)) (known-then own);
+      unmarked =
+          let now : AreUnmarked c.self.inside.unmarked c.acknowledge_answered.new.queue.inflight.chunks =
+          changed-on c.self.inside.unmarked f.queue c.acknowledge_answered.new.queue (reports_anew s) as_acknowledged
+          (λ d e. refl) m c.self.invariant.unmarked in
+          let gone : c.pop_run.new.queue.inflight.chunks ≡ drop c.distance-count.result c.acknowledge_answered.new.queue.inflight.chunks =
+          ap (λ (o : Outbound). o.inflight.chunks) c.pop_run.ensures.value in
+          subst (AreUnmarked c.saturating_sub-self-inside.result) (sym gone) (left-over c.self.inside.unmarked c.distance-count.result c.saturating_sub-self-inside.result
+          c.acknowledge_answered.new.queue.inflight.chunks c.saturating_sub-self-inside.ensures now);
     }
 
 pub returns-clause-ok : goal.returns-clause-ok

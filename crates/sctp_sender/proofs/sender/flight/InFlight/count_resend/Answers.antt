@@ -9,6 +9,7 @@ use Rattle.sctp_sender.proofs.Flights.{kept}
 use Rattle.sctp_sender.specs.Reporting.{AreKnown}
 use Rattle.sctp_sender.proofs.Known.{changed-known}
 use Rattle.sctp_sender.proofs.Seen.{flight_in}
+use Rattle.sctp_sender.proofs.Unmarked.{changed-on}
 use Rattle.sctp_sender.proofs.sender.flight.InFlight.count_resend.Goals as goal
 
 pub invariant_of-self : goal.invariant_of-self
@@ -22,4 +23,6 @@ invariant_of-self c =
       ascend = c.self.invariant.ascend;
       known = subst (λ (o : Outbound). AreKnown c.self.inside.known.items o.inflight.chunks) (sym c.set_nsent.ensures.changed) (changed-known
           c.self.inside.known.items f.queue.inflight.chunks c.self.invariant.known (has_tsn c.args.tsn) (with_nsent c.saturating_add-nsent.result) (λ d. refl));
+      unmarked = changed-on c.self.inside.unmarked f.queue c.set_nsent.new.self (has_tsn c.args.tsn) (with_nsent c.saturating_add-nsent.result) (λ d e. e)
+          c.set_nsent.ensures.changed c.self.invariant.unmarked;
     }

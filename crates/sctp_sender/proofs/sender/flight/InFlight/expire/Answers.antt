@@ -5,6 +5,7 @@ use Rattle.sctp_sender.proofs.Flights.{kept}
 use Rattle.sctp_sender.proofs.InLine.{expired-chunks, expired-in-line}
 use Rattle.sctp_sender.proofs.Known.{expired-known}
 use Rattle.sctp_sender.proofs.Seen.{flight_in}
+use Rattle.sctp_sender.proofs.Unmarked.{expired-unmarked}
 use Rattle.sctp_sender.proofs.sender.flight.InFlight.expire.Goals as goal
 
 pub invariant_of-self : goal.invariant_of-self
@@ -18,4 +19,5 @@ invariant_of-self c =
           c.self.invariant.contiguous);
       ascend = c.self.invariant.ascend;
       known = expired-known c.self.inside.known.items f.queue c.expire_pending.new.self o c.expire_pending.ensures.expired c.self.invariant.known;
+      unmarked = expired-unmarked c.self.inside.unmarked f.queue c.expire_pending.new.self o c.expire_pending.ensures.expired c.self.invariant.unmarked;
     }

@@ -7,6 +7,7 @@ use Rattle.sctp_sender.proofs.Expiries.{so-many, times-chunks, times-in-line, ti
 use Rattle.sctp_sender.proofs.Flights.{kept}
 use Rattle.sctp_sender.proofs.InLine.{IsInLine}
 use Rattle.sctp_sender.proofs.Seen.{flight_in}
+use Rattle.sctp_sender.specs.Resending.{AreUnmarked}
 use Rattle.sctp_sender.proofs.sender.flight.InFlight.expire_run.Goals as goal
 
 pub invariant_of-self : goal.invariant_of-self
@@ -21,4 +22,6 @@ invariant_of-self c =
       ascend = c.self.invariant.ascend;
       known = subst (λ (o : Outbound). AreKnown c.self.inside.known.items o.inflight.chunks) (sym n.1)
           (times-known c.args.now f.queue n.0 c.self.inside.known.items c.self.invariant.known);
+      unmarked = subst (AreUnmarked c.self.inside.unmarked) (sym (ap (λ (o : Outbound). o.inflight.chunks) n.1 ∙ times-chunks c.args.now f.queue n.0))
+          c.self.invariant.unmarked;
     }

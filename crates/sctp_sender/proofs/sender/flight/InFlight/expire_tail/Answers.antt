@@ -8,6 +8,7 @@ use Rattle.sctp_sender.proofs.InLine.{abandoned-in-line, tail-partial}
 use Rattle.sctp_sender.proofs.Flights.{fresh, window, after-abandoning, tail-there}
 use Rattle.sctp_sender.proofs.Known.{abandoned-known}
 use Rattle.sctp_sender.proofs.Seen.{flight_in}
+use Rattle.sctp_sender.proofs.Unmarked.{abandoned-unmarked}
 use Rattle.sctp_sender.proofs.sender.flight.InFlight.expire_tail.Goals as goal
 
 pub expire_pending_tail-requires-clause-fresh : goal.expire_pending_tail-requires-clause-fresh
@@ -34,6 +35,8 @@ invariant_of-self-2 c =
           c.in_ok-abandoned.ensures.ok));
       ascend = c.self.invariant.ascend;
       known = abandoned-known c.self.inside.known.items f c.self.invariant.contiguous c.self.invariant.known
+          (message_of (expiring_tail c.args.now f.queue)) c.expire_pending_tail.new.self c.in_ok-abandoned.ensures.ok;
+      unmarked = abandoned-unmarked c.self.inside.unmarked f c.self.invariant.contiguous c.self.invariant.unmarked
           (message_of (expiring_tail c.args.now f.queue)) c.expire_pending_tail.new.self c.in_ok-abandoned.ensures.ok;
     }
 

@@ -1,5 +1,6 @@
 use Rattle.std.proofs.Common.{true, false, sym, ◌∙◌}
 use Rattle.sctp_sender.specs.Resending.{is_to_resend}
+use Rattle.sctp_sender.proofs.Unmarked.{find-behind}
 use Rattle.sctp_sender.proofs.Walks.{find-step}
 use Rattle.sctp_sender.proofs.sender.flight.InFlight.first_to_resend.Goals as goal
 
@@ -15,3 +16,6 @@ loop-place-preserved c =
     let cs = c.args.self.now.queue.inflight.chunks in
     let x = c.in-Some.chunk.now in
     c.loop-place.invariant ∙ find-step is_to_resend cs c.loop-place.place x false (sym c.in-Some.ensures) (sym c.is_to_resend.ensures ∙ c.if-is_to_resend.false)
+
+pub loop-place-init : goal.loop-place-init
+loop-place-init c = rw (← c.self.view_is) (find-behind c.self.inside.unmarked c.self.inside.queue.inflight.chunks c.self.invariant.unmarked.each)

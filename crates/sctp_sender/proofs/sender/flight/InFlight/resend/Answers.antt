@@ -12,6 +12,7 @@ use Rattle.sctp_sender.proofs.Flights.{kept}
 use Rattle.sctp_sender.specs.Reporting.{AreKnown}
 use Rattle.sctp_sender.proofs.Known.{changed-known}
 use Rattle.sctp_sender.proofs.Seen.{flight_in}
+use Rattle.sctp_sender.proofs.Unmarked.{changed-on}
 use Rattle.sctp_sender.proofs.sender.flight.InFlight.resend.Goals as goal
 
 pub invariant_of-self : goal.invariant_of-self
@@ -26,6 +27,8 @@ invariant_of-self c =
       known = subst (λ (o : Outbound). AreKnown c.self.inside.known.items o.inflight.chunks) (sym c.note_sent_again.ensures)
           (changed-known c.self.inside.known.items f.queue.inflight.chunks c.self.invariant.known (has_tsn c.args.tsn)
           (sent_again c.saturating_add-count.result c.args.now) (λ d. refl));
+      unmarked = c.first_marked-self-inside.ensures.unmarked (changed-on c.self.inside.unmarked f.queue c.note_sent_again.new.queue (has_tsn c.args.tsn)
+          (sent_again c.saturating_add-count.result c.args.now) (λ d e. refl) c.note_sent_again.ensures c.self.invariant.unmarked);
     }
 
 pub returns-clause-noted : goal.returns-clause-noted

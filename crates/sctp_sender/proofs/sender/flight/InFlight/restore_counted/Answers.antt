@@ -12,6 +12,8 @@ use Rattle.sctp_sender.proofs.TakenBacks.{outstanding}
 use Rattle.sctp_sender.specs.Reporting.{AreKnown, ascends_from}
 use Rattle.sctp_sender.proofs.Known.{none-known}
 use Rattle.sctp_sender.proofs.Seen.{flight_in}
+use Rattle.sctp_sender.specs.Resending.{AreUnmarked}
+use Rattle.sctp_sender.proofs.Unmarked.{put-unmarked}
 use Rattle.sctp_sender.proofs.sender.flight.InFlight.restore_counted.Goals as goal
 
 pub invariant_of-self : goal.invariant_of-self
@@ -23,6 +25,8 @@ invariant_of-self c =
       ascend = ap (ascends_from 0) c.clear.ensures.items;
       known = subst (λ (bs : List GapAckBlock). AreKnown bs c.restore_each.new.queue.inflight.chunks) (sym c.clear.ensures.items)
           (none-known c.restore_each.new.queue.inflight.chunks);
+      unmarked = subst (λ (o : Outbound). AreUnmarked c.self.inside.unmarked o.inflight.chunks) (sym c.restore_each.ensures.value)
+          (put-unmarked c.self.inside.unmarked c.args.backs.items f.queue.inflight.chunks c.self.invariant.unmarked);
     }
 
 pub returns-then-is_empty-clause-restored : goal.returns-then-is_empty-clause-restored

@@ -9,6 +9,7 @@ use Rattle.sctp_sender.proofs.Flights.{kept}
 use Rattle.sctp_sender.specs.Reporting.{AreKnown}
 use Rattle.sctp_sender.proofs.Known.{changed-known}
 use Rattle.sctp_sender.proofs.Seen.{flight_in}
+use Rattle.sctp_sender.proofs.Unmarked.{none-passed}
 use Rattle.sctp_sender.proofs.sender.flight.InFlight.retransmit_all.Goals as goal
 
 pub invariant_of-self : goal.invariant_of-self
@@ -23,4 +24,5 @@ invariant_of-self c =
       ascend = c.self.invariant.ascend;
       known = subst (λ (o : Outbound). AreKnown c.self.inside.known.items o.inflight.chunks) (sym c.mark_all_to_retransmit.ensures)
           (changed-known c.self.inside.known.items f.queue.inflight.chunks c.self.invariant.known is_outstanding (with_retransmit true) (λ d. refl));
+      unmarked = none-passed c.mark_all_to_retransmit.new.self.inflight.chunks;
     }

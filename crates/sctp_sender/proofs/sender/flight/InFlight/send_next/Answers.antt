@@ -8,6 +8,7 @@ use Rattle.sctp_sender.proofs.Flights.{fresh, window, sent}
 use Rattle.sctp_sender.proofs.Sent.{noted-next}
 use Rattle.sctp_sender.proofs.Known.{sent-known}
 use Rattle.sctp_sender.proofs.Seen.{flight_in}
+use Rattle.sctp_sender.proofs.Unmarked.{sent-unmarked}
 use Rattle.sctp_sender.proofs.sender.flight.InFlight.send_next.Goals as goal
 
 pub send_next-requires-clause-fresh : goal.send_next-requires-clause-fresh
@@ -32,6 +33,8 @@ invariant_of-self-2 c =
           c.args.now f.next_tsn (let next = c.self.invariant.contiguous.next in omega (arith, next)) c.send_next.new.self c.in_ok-sent.ensures.ok));
       ascend = c.self.invariant.ascend;
       known = sent-known c.self.inside.known.items f c.self.invariant.contiguous c.self.invariant.known c.args.now c.send_next.new.self c.in_ok-sent.ensures.ok;
+      unmarked = sent-unmarked c.self.inside.unmarked f c.self.invariant.contiguous c.self.invariant.unmarked c.args.now c.send_next.new.self
+          c.in_ok-sent.ensures.ok;
     }
 
 pub returns-clause-noted : goal.returns-clause-noted

@@ -4,6 +4,7 @@ use Rattle.sctp_sender.proofs.Flights.{kept}
 use Rattle.sctp_sender.proofs.InLine.{started-chunks, started-in-line}
 use Rattle.sctp_sender.proofs.Known.{started-known}
 use Rattle.sctp_sender.proofs.Seen.{flight_in}
+use Rattle.sctp_sender.proofs.Unmarked.{started-unmarked}
 use Rattle.sctp_sender.proofs.sender.flight.InFlight.start.Goals as goal
 
 pub invariant_of-self : goal.invariant_of-self
@@ -16,4 +17,6 @@ invariant_of-self c =
           c.self.invariant.contiguous);
       ascend = c.self.invariant.ascend;
       known = started-known c.self.inside.known.items f.queue c.start_timed_messages.new.self c.args.now c.start_timed_messages.ensures c.self.invariant.known;
+      unmarked = started-unmarked c.self.inside.unmarked f.queue c.start_timed_messages.new.self c.args.now c.start_timed_messages.ensures
+          c.self.invariant.unmarked;
     }

@@ -1,6 +1,8 @@
-use Rattle.std.proofs.Common.{ℕ, List, ◌++◌, ◌∷◌, [], true, false, append-nil, sym, ap, ◌∙◌}
+use Rattle.std.proofs.Common.{ℕ, List, ◌++◌, ◌∷◌, [], true, false, map, append-nil, sym, ap, ◌∙◌}
 use Rattle.sctp_outbound.proofs.lemmas.outbound_queue.Outbounds.{tsns_more, none_listed}
 use Rattle.sctp_sender.specs.Resending.{is_worn}
+use Rattle.sctp_data.specs.declared.chunk.chunk_payload_data.ChunkPayloadData.{ChunkPayloadData}
+use Rattle.sctp_sender.proofs.Unmarked.{none-worn}
 use Rattle.sctp_sender.proofs.Walks.{read-of}
 use Rattle.sctp_sender.proofs.sender.flight.InFlight.worn_tsns.Goals as goal
 
@@ -25,3 +27,8 @@ returns-then-is_err-clause-idle c = λ none.
     let x = c.in-Some.chunk.now in
     let r = read-of xs c.loop-place.place x (sym c.in-Some.ensures) in
     absurd (none_listed is_worn xs c.loop-place.place x r.0 r.1 (sym c.is_worn.ensures ∙ c.if-not-is_worn.false) none)
+
+pub loop-place-init : goal.loop-place-init
+loop-place-init c =
+    rw (← c.self.view_is) (c.new-tsns.ensures.items ∙ ap (map (λ (d : ChunkPayloadData). d.tsn)) (sym
+    (none-worn c.self.inside.unmarked c.self.inside.queue.inflight.chunks c.self.invariant.unmarked.each)))

@@ -1,5 +1,10 @@
-use Rattle.std.proofs.Common.{◌≡◌, ℕ, suc, ◌+◌, ◌<◌, ◌≤◌, ◌%◌, ◌^◌, Bool, true, false, ◌++◌, length, take, drop, get_or, Some, refl, ap, sym, ◌∙◌, arith}
-use Rattle.std.specs.Prelude.{if◌then◌else◌, ◌&&◌, ◌==◌, not, nat_lt, find}
+use Rattle.std.proofs.Common.{◌≡◌, ℕ, suc, ◌+◌, ◌<◌, ◌≤◌, ◌%◌, ◌^◌, Bool, true, false, List, ◌++◌, length, take, drop, get_or, Some, inl, inr, refl, ap, sym}
+use Rattle.std.proofs.Common.{◌∙◌}
+use Rattle.std.proofs.Common.{arith}
+use Rattle.std.specs.Prelude.{if◌then◌else◌, ◌&&◌, ◌==◌, min, not, nat_lt, find}
+use Rattle.std.proofs.lemmas.Bool.{cases_lt}
+use Rattle.std.proofs.lemmas.List.{get_or_default}
+use Rattle.sctp_util.proofs.Cases.{by_last}
 use Rattle.sctp_data.specs.declared.chunk.chunk_payload_data.ChunkPayloadData.{ChunkPayloadData}
 use Rattle.sctp_data.specs.declared.chunk.chunk_selective_ack.GapAckBlock.{GapAckBlock}
 use Rattle.sctp_outbound.specs.payload_queue.Blocks.{is_in_block}
@@ -10,8 +15,36 @@ use Rattle.sctp_outbound.specs.outbound_queue.OutboundQueue.{Outbound, with_infl
 use Rattle.sctp_sender.specs.Resending.{can_miss, is_third, missed, missed_after}
 use Rattle.sctp_sender.proofs.Runs.{any_chunk}
 use Rattle.sctp_sender.proofs.KnownPlaces.{end-past}
-use Rattle.sctp_sender.proofs.MarkedRuns.{found-there, there, unmarked, marked-as, counted-of, part-same}
+use Rattle.sctp_sender.proofs.Unmarked.{none-in-front}
+use Rattle.sctp_sender.proofs.MarkedRuns.{found-there, old, there, unmarked, marked-as, counted-of, part-same}
 use Rattle.sctp_sender.proofs.sender.flight.retransmission.count_missing.Goals as goal
+
+-- what holds of the chunk at a place
+at-place : (p : ChunkPayloadData → Bool) (cs : List ChunkPayloadData) (k i : ℕ) (d x : ChunkPayloadData) → k ≡ i → i < length cs → x ≡ get_or cs i x
+    → p x ≡ false → p (get_or cs k d) ≡ false
+at-place p cs k i d x here lt own fails = ap (λ j. p (get_or cs j d)) here ∙ ap p (get_or_default cs i d x lt ∙ sym own) ∙ fails
+
+-- the first place that counts, after one more
+record IsFirst (counts : Bool) (old i new : ℕ) : Type 0 where
+  least : (k : ℕ) → k < new → k < old
+  none : (k : ℕ) → k < new → k ≡ i → counts ≡ false
+  under : new ≤ old
+
+first-is : (counts : Bool) (n old i new : ℕ) → n ≡ (if counts then 1 else 0) → (n ≡ 0 → new ≡ old) → (0 < n → new ≡ min old i) → IsFirst counts old i new
+first-is true n old i new is same less =
+    let e = less (omega (arith, is)) in
+    record {
+      least = λ k lt. omega (arith, e, lt);
+      none = λ k lt here. absurd (omega (arith, e, lt, here));
+      under = omega (arith, e);
+    }
+first-is false n old i new is same less =
+    let e = same is in
+    record {
+      least = λ k lt. omega (arith, e, lt);
+      none = λ k lt here. refl;
+      under = omega (arith, e);
+    }
 
 at-most-one : (b : Bool) → (if b then 1 else 0) ≤ 1
 at-most-one true = omega arith
@@ -42,6 +75,8 @@ loop-place-preserved-then-block-place c =
       not_back = omega (arith, c.tick.ensures, inv.not_back);
       turns = omega (arith, c.tick.ensures, inv.turns);
       within = inv.within;
+      before = inv.before;
+      least = inv.least;
     }
 
 pub loop-place-preserved-then-block-place-2 : goal.loop-place-preserved-then-block-place-2
@@ -63,15 +98,22 @@ loop-place-preserved-then-block-place-2 c =
     (in-block (suc k) b (omega (arith, start, low)) (omega (arith, high, end)))) in' in
     let stays : (k : ℕ) (d : ChunkPayloadData) → c.loop-place.place ≤ k → k < c.min-place.result → k < length cs → can_miss (get_or cs k d) ≡ false =
     λ k d low high in'. ap (λ a. (not a && not (get_or cs k d).abandoned) && nat_lt (get_or cs k d).miss_indicator 3) (acked k d low high in') in
+    let not-third : (k : ℕ) (d : ChunkPayloadData) → c.loop-place.place ≤ k → k < c.min-place.result → k < length cs → is_third (get_or cs k d) ≡ false =
+    λ k d low high in'. ap (λ a. a && ((get_or cs k d).miss_indicator == 2 && not (get_or cs k d).retransmit)) (stays k d low high in') in
     record {
       missed = inv.missed ∙ ap (with_inflight q) (sym (part-same can_miss missed cs c.loop-place.place c.min-place.result le stays));
       thirds = inv.thirds ∙ ap length (sym (none-between is_third cs c.loop-place.place c.min-place.result le
-          (λ k d low high in'. ap (λ a. a && (get_or cs k d).miss_indicator == 2) (stays k d low high in'))));
+          not-third));
       few = omega (arith, inv.few, le);
       passed = omega (arith, inv.passed, le);
       not_back = omega (arith, c.tick.ensures, inv.not_back);
       turns = omega (arith, c.tick.ensures, inv.turns, more);
       within = omega (arith, c.min-place.ensures);
+      before = λ k d high front in'. elim (cases_lt k c.loop-place.place) [
+        | inl lt ↦ inv.before k d lt front in'
+        | inr ge ↦ not-third k d ge high in'
+      ];
+      least = inv.least;
     }
 
 pub loop-place-preserved-then-not-can_miss : goal.loop-place-preserved-then-not-can_miss
@@ -87,7 +129,8 @@ loop-place-preserved-then-not-can_miss c =
     let is : find (has_tsn ((c.args.first + i) % 2 ^ 32)) ys ≡ Some x =
     found-there can_miss missed (λ y. refl) cs ys c.args.first i c.ranges.first.fits c.requires.run c.requires.few lt so_far x (sym c.in-Some.ensures) in
     let nay : can_miss x ≡ false = sym c.can_miss.ensures ∙ c.if-not-can_miss.true in
-    let third : is_third x ≡ false = ap (λ b. b && x.miss_indicator == 2) nay in
+    let third : is_third x ≡ false = ap (λ b. b && (x.miss_indicator == 2 && not x.retransmit)) nay in
+    let own = old can_miss missed (λ y. refl) cs ys c.args.first i c.ranges.first.fits c.requires.run c.requires.few lt so_far x is in
     let n = counted-of can_miss missed (λ y. refl) cs ys c.args.first i c.ranges.first.fits c.requires.run c.requires.few lt so_far x is is_third false third in
     record {
       missed = inv.missed ∙ ap (with_inflight q)
@@ -98,6 +141,9 @@ loop-place-preserved-then-not-can_miss c =
       not_back = omega (arith, c.tick.ensures, inv.not_back);
       turns = omega (arith, c.tick.ensures, inv.turns);
       within = omega (arith, c.loop-place-test.true);
+      before = λ k d high front in'. by_last k i high (λ less. inv.before k d less front in')
+          (λ here. at-place is_third cs k i d x here lt own third);
+      least = inv.least;
     }
 
 pub loop-place-preserved : goal.loop-place-preserved
@@ -113,9 +159,13 @@ loop-place-preserved c =
     let is : find (has_tsn ((c.args.first + i) % 2 ^ 32)) ys ≡ Some x =
     found-there can_miss missed (λ y. refl) cs ys c.args.first i c.ranges.first.fits c.requires.run c.requires.few lt so_far x (sym c.in-Some.ensures) in
     let yea : can_miss x ≡ true = sym c.can_miss.ensures ∙ c.if-not-can_miss.false in
-    let third : is_third x ≡ (x.miss_indicator == 2) = ap (λ b. b && x.miss_indicator == 2) yea in
+    let counts : Bool = x.miss_indicator == 2 && not x.retransmit in
+    let third : is_third x ≡ counts = ap (λ b. b && (x.miss_indicator == 2 && not x.retransmit)) yea in
+    let own = old can_miss missed (λ y. refl) cs ys c.args.first i c.ranges.first.fits c.requires.run c.requires.few lt so_far x is in
+    let first = first-is counts c.note_missing-third.result c.loop-place.first_third i c.earlier-first_third.result c.note_missing-third.ensures.third
+    c.earlier-first_third.ensures.none c.earlier-first_third.ensures.some in
     let n = counted-of can_miss missed (λ y. refl) cs ys c.args.first i c.ranges.first.fits c.requires.run c.requires.few lt so_far x is is_third
-    (x.miss_indicator == 2) third in
+    counts third in
     record {
       missed =
           c.note_missing-third.ensures.noted ∙ ap (λ (o : Outbound).
@@ -124,9 +174,18 @@ loop-place-preserved c =
           ∙ ap (with_inflight q) (marked-as can_miss missed
           (λ y. refl) cs ys c.args.first i c.ranges.first.fits c.requires.run c.requires.few lt so_far x is (missed_after x.miss_indicator) refl yea);
       thirds = omega (arith, n, inv.thirds, c.note_missing-third.ensures.third);
-      few = omega (arith, inv.few, c.note_missing-third.ensures.third, at-most-one (x.miss_indicator == 2));
+      few = omega (arith, inv.few, c.note_missing-third.ensures.third, at-most-one counts);
       passed = omega (arith, inv.passed);
       not_back = omega (arith, c.tick.ensures, inv.not_back);
       turns = omega (arith, c.tick.ensures, inv.turns);
       within = omega (arith, c.loop-place-test.true);
+      before = λ k d high front in'. by_last k i high (λ less. inv.before k d less (first.least k front) in')
+          (λ here. at-place is_third cs k i d x here lt own (third ∙ first.none k front here));
+      least = (let h = first.under in omega (arith, h, inv.least));
     }
+
+pub returns-clause-before : goal.returns-clause-before
+returns-clause-before c =
+    let inv = c.loop-place.invariant in
+    none-in-front is_third c.loop-place.first_third c.args.queue.now.inflight.chunks
+    (λ k d front in'. inv.before k d (omega (arith, front, inv.least, c.loop-place-test.false)) front in')

@@ -1,6 +1,8 @@
-use Rattle.std.proofs.Common.{◌≡◌, ◌+◌, ◌-◌, ◌≤◌, ◌++◌, length, take, drop}
+use Rattle.std.proofs.Common.{◌≡◌, ℕ, ◌+◌, ◌-◌, ◌<◌, ◌≤◌, ◌++◌, false, length, take, drop}
+use Rattle.std.specs.Prelude.{slice_index_or}
 use Rattle.std.specs.List.{filter}
 use Rattle.sctp_util.specs.Lists.{change_where}
+use Rattle.sctp_data.specs.declared.chunk.chunk_payload_data.ChunkPayloadData.{ChunkPayloadData}
 use Rattle.sctp_outbound.specs.outbound_queue.OutboundQueue.{with_inflight}
 use Rattle.sctp_sender.specs.Resending.{can_miss, is_third, missed}
 use Rattle.sctp_sender.proofs.sender.flight.retransmission.count_missing.Given as goal
@@ -15,6 +17,9 @@ invariant-loop-place l = record {
   not_back : l.initial.turns ≤ l.turns;
   turns : l.turns ≤ l.initial.turns + l.place + l.next;
   within : l.place ≤ l.count;
+  before : (k : ℕ) (d : ChunkPayloadData) → k < l.place → k < l.first_third → k < length l.initial.queue.inflight.chunks
+      → is_third (slice_index_or l.initial.queue.inflight.chunks k d) ≡ false;
+  least : l.first_third ≤ l.count;
 }
 
 abbrev pub decreases-loop-place : goal.decreases-loop-place
