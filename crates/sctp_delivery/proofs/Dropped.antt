@@ -6,7 +6,8 @@ use Rattle.std.proofs.lemmas.List.Folds.{list_all-append}
 use Rattle.std.proofs.lemmas.Option.{none-some}
 use Rattle.sctp_data.specs.declared.chunk.chunk_payload_data.ChunkPayloadData.{ChunkPayloadData}
 use Rattle.sctp_outbound.proofs.lemmas.pending_queue.Waiting.{bytes_of-change_where, removed_le}
-use Rattle.sctp_outbound.specs.outbound_queue.OutboundQueue.{AreExpiredOf, Outbound, expired_of, expired_times, expiring, expiring_tail, late_tsns, message_of, stream_and_kind, total_bytes}
+use Rattle.sctp_outbound.specs.outbound_queue.OutboundQueue.{AreExpiredOf, Outbound, expired_of, expired_times, expiring, expiring_tail, late_tsns, message_of}
+use Rattle.sctp_outbound.specs.outbound_queue.OutboundQueue.{stream_and_kind, total_bytes}
 use Rattle.sctp_outbound.specs.Marks.{is_of}
 use Rattle.sctp_outbound.specs.pending_queue.PendingQueue.{Pending, closed_up, one_lower, without, without_message}
 use Rattle.sctp_sender.specs.declared.sender.Dropped.{Dropped}
@@ -24,20 +25,22 @@ use Rattle.sctp_sender.specs.Thresholds.{with_message_lows}
 use Rattle.sctp_serial.specs.DataChunks.{bytes_of, is_on}
 use Rattle.sctp_stream.specs.declared.stream.StreamState.{StreamState}
 use Rattle.sctp_util.specs.Lists.{change_where}
-use Rattle.sctp_delivery.specs.SenderCalls.{Drops, SenderCall, SenderMakes, SenderMakesEach, expires, expires_late, expires_rexmit, expires_tail, is_drop, starts}
+use Rattle.sctp_util.proofs.Cases.{same-yes}
+use Rattle.sctp_delivery.specs.SenderCalls.{Drops, SenderCall, SenderMakes, SenderMakesEach, expires, expires_late, expires_rexmit, expires_tail, is_drop}
+use Rattle.sctp_delivery.specs.SenderCalls.{starts}
 
 -- ## Calls one after another
 
-one : (call : SenderCall) (old new : Transmission) → is_drop call ≡ true → SenderMakes call old new → Drops old new
-one call old new e m = (call ∷ [], ((new, (m, refl)), ap (λ b. b && true) e))
+one : (now : ℕ) (call : SenderCall) (old new : Transmission) → is_drop now call ≡ true → SenderMakes call old new → Drops now old new
+one now call old new e m = (call ∷ [], ((new, (m, refl)), ap (λ b. b && true) e))
 
 each-then : (cs ds : List SenderCall) (a b c : Transmission) → SenderMakesEach cs a b → SenderMakesEach ds b c → SenderMakesEach (cs ++ ds) a c
 each-then [] ds a b c h k = subst (λ t. SenderMakesEach ds t c) h k
 each-then (x ∷ cs) ds a b c h k = (h.0, (h.1.0, each-then cs ds h.0 b c h.1.1 k))
 
-both-drop : (a b c : Transmission) → Drops a b → Drops b c → Drops a c
-both-drop a b c h k =
-    (h.0 ++ k.0, (each-then h.0 k.0 a b c h.1.0 k.1.0, list_all-append is_drop h.0 k.0 ∙ ap₂ (λ x y. x && y) h.1.1 k.1.1))
+both-drop : (now : ℕ) (a b c : Transmission) → Drops now a b → Drops now b c → Drops now a c
+both-drop now a b c h k =
+    (h.0 ++ k.0, (each-then h.0 k.0 a b c h.1.0 k.1.0, list_all-append (is_drop now) h.0 k.0 ∙ ap₂ (λ x y. x && y) h.1.1 k.1.1))
 
 -- ## Messages in front
 
@@ -120,7 +123,7 @@ module _ (now s : ℕ) (u : Bool) (t : Transmission) where
       → new ≡ record old {
         streams = change_where (has_number s) (after_expiries u 1 bytes) old.streams;
         flight = with_queue old.flight (expired_of o old.flight.queue);
-      } → held_by_sender new + bytes ≡ held_by_sender old → Drops old new
+      } → held_by_sender new + bytes ≡ held_by_sender old → Drops now old new
   steps old new bytes None is of made held = absurd (none-some (s, u) of)
   steps old new bytes (Some c) is of made held =
       let m : ExpiredMessage = record { stream = s; bytes = bytes; is_low = false } in
@@ -131,10 +134,10 @@ module _ (now s : ℕ) (u : Bool) (t : Transmission) where
         flight = with_queue old.flight (expired_of (Some c) old.flight.queue);
       } ≡ after_expire c bytes now old = cc in
       let goes = subst (λ q. IfSome q (λ d. new ≡ after_expire d bytes now old)) (sym is) (made ∙ shape) in
-      one (expires now (Some m)) old new refl (held, (((ap is_some (sym is)), (goes, λ n. absurd (none-some m (sym n)))), tt))
+      one now (expires now (Some m)) old new (same-yes now) (held, (((ap is_some (sym is)), (goes, λ n. absurd (none-some m (sym n)))), tt))
 
   -- so many, one after another
-  run-drops : (n : ℕ) → AreExpiredOf s u now (suc n) t.flight.queue → suc n < 2 ^ 16 → Drops t (after (suc n))
+  run-drops : (n : ℕ) → AreExpiredOf s u now (suc n) t.flight.queue → suc n < 2 ^ 16 → Drops now t (after (suc n))
   run-drops zero are few =
       let le = least 1 in
       steps t (after 1) (gone 1) (expiring now t.flight.queue) refl are.1 refl (omega (arith, le))
@@ -147,27 +150,27 @@ module _ (now s : ℕ) (u : Bool) (t : Transmission) where
       let up : suc n + 1 ≡ suc (suc n) = omega arith in
       let streams = streams-then s u (suc n) (gone (suc n)) b (omega (arith, few)) t.streams
       ∙ ap₂ (λ k a. change_where (has_number s) (after_expiries u k a) t.streams) up sum in
-      both-drop t (after (suc n)) (after (suc (suc n))) (run-drops n are.0 (omega (arith, few)))
+      both-drop now t (after (suc n)) (after (suc (suc n))) (run-drops n are.0 (omega (arith, few)))
       (steps (after (suc n)) (after (suc (suc n))) b (expiring now q) refl are.1
       (ap (λ ls. record (after (suc (suc n))) { streams = ls }) (sym streams)) (omega (arith, more)))
 
   run-dropped : (n bytes : ℕ) (new : Transmission) → AreExpiredOf s u now n t.flight.queue → 0 < n → n < 2 ^ 16
-      → new ≡ after_expire_run s u n bytes now t → held_by_sender new + bytes ≡ held_by_sender t → Drops t new
+      → new ≡ after_expire_run s u n bytes now t → held_by_sender new + bytes ≡ held_by_sender t → Drops now t new
   run-dropped zero bytes new are some few made held = absurd (omega (arith, some))
   run-dropped (suc n) bytes new are some few made held =
       let same : held_by_sender new ≡ total_bytes (left (suc n)) = ap held_by_sender made in
       let b : bytes ≡ gone (suc n) = omega (arith, held, same) in
-      subst (λ v. Drops t v) (sym (made ∙ ap (λ k. after_expire_run s u (suc n) k now t) b)) (run-drops n are few)
+      subst (λ v. Drops now t v) (sym (made ∙ ap (λ k. after_expire_run s u (suc n) k now t) b)) (run-drops n are few)
 
 -- ## The rest of a message
 
 tail-dropped : (now : ℕ) (old new : Transmission) (gone : List AbandonedMessage) (c : ChunkPayloadData) → expiring_tail now old.flight.queue ≡ Some c
-    → TailGoes c old new gone → held_by_sender new + bytes_of_all gone ≡ held_by_sender old → Drops old new
+    → TailGoes c old new gone → held_by_sender new + bytes_of_all gone ≡ held_by_sender old → Drops now old new
 tail-dropped now old new [] c is goes held = absurd goes
 tail-dropped now old new (a ∷ b ∷ rest) c is goes held = absurd goes
 tail-dropped now old new (a ∷ []) c is goes held =
     let made = subst (λ o. new ≡ after_abandon (message_of o) a.stream a.bytes old) (sym is) goes.2 in
-    one (expires_tail now (Some a)) old new refl (held, ((made, λ n. absurd (none-some a (sym n))), tt))
+    one now (expires_tail now (Some a)) old new (same-yes now) (held, ((made, λ n. absurd (none-some a (sym n))), tt))
 
 -- ## An answer
 
@@ -198,23 +201,23 @@ module _ (now : ℕ) (old new : Transmission) where
       → (new ≡ after_worn old) × (gone ≡ with_message_lows (leaving_each (worn_order old.flight) old.flight) old.streams))
 
   dropped : (r : Option Dropped) → Runs r → OfOne r → Any r → Few r → Tail r → Late r → Worn r
-      → held_by_sender new + bytes_dropped r ≡ held_by_sender old → (r ≡ None → new ≡ with_lifetimes now old) → Drops old new
-  dropped None run of any few tail late worn held none = one (starts now) old new refl (none refl, (tt, tt))
+      → held_by_sender new + bytes_dropped r ≡ held_by_sender old → (r ≡ None → new ≡ with_lifetimes now old) → Drops now old new
+  dropped None run of any few tail late worn held none = one now (starts now) old new (same-yes now) (none refl, (tt, tt))
   dropped (Some (Expired g)) run of any few tail late worn held none =
       run-dropped now g.stream g.unordered old g.messages g.bytes new of any few run held
   dropped (Some (Abandoned gone)) run of any few tail late worn held none =
       by (expiring_tail now old.flight.queue) refl (late_tsns now old.flight.queue) refl
     where
-      by : (o : Option ChunkPayloadData) → expiring_tail now old.flight.queue ≡ o → (ts : List ℕ) → late_tsns now old.flight.queue ≡ ts → Drops old new
+      by : (o : Option ChunkPayloadData) → expiring_tail now old.flight.queue ≡ o → (ts : List ℕ) → late_tsns now old.flight.queue ≡ ts → Drops now old new
       by (Some c) is ts due =
           tail-dropped now old new gone.items c is (subst (λ o. IfSome o (λ d. TailGoes d old new gone.items)) is tail) held
-      by None is [] due = one (expires_rexmit gone.items) old new refl (held, ((worn is due).0, tt))
+      by None is [] due = one now (expires_rexmit gone.items) old new refl (held, ((worn is due).0, tt))
       by None is (x ∷ ts) due =
           let some : late_tsns now old.flight.queue ≢ [] = λ e. cc in
-          one (expires_late now gone.items) old new refl (held, ((late is some).0, tt))
+          one now (expires_late now gone.items) old new (same-yes now) (held, ((late is some).0, tt))
 
   pub answered : (a : Result (Option Dropped) SenderRefusal) → IfOk a Runs → IfOk a OfOne → IfOk a Any → IfOk a Few → IfOk a Tail → IfOk a Late → IfOk a Worn
       → IfOk a (λ r. held_by_sender new + bytes_dropped r ≡ held_by_sender old) → IfOk a (λ r. r ≡ None → new ≡ with_lifetimes now old)
-      → OnOk a (Drops old new)
+      → OnOk a (Drops now old new)
   answered (Ok r) run of any few tail late worn held none = dropped r run of any few tail late worn held none
   answered (Err e) run of any few tail late worn held none = tt

@@ -1,5 +1,6 @@
 -- What a call of a sender makes, and what it sends.
-use Rattle.std.specs.Prelude.{◌≡◌, ⊤, ℕ, ◌<◌, ◌≤◌, Bool, true, false, List, [], ◌∷◌, length, find, option_map, option_to_list, Option, Some, None, is_some}
+use Rattle.std.specs.Prelude.{◌≡◌, ⊤, ℕ, ◌<◌, ◌≤◌, ◌==◌, Bool, true, false, List, [], ◌∷◌, length, find, option_map, option_to_list, Option, Some, None}
+use Rattle.std.specs.Prelude.{is_some}
 use Rattle.std.specs.Prelude.{IfSome}
 use Rattle.std.specs.List.{list_all}
 use Rattle.sctp_data.specs.declared.chunk.chunk_payload_data.ChunkPayloadData.{ChunkPayloadData}
@@ -173,20 +174,20 @@ SenderMakesEach [] old new = new ≡ old
 SenderMakesEach (c ∷ cs) old new =
     (mid : Transmission) × (SenderMakes c old mid × SenderMakesEach cs mid new)
 
--- a call that gives up what expired, or starts lifetimes
-abbrev pub is_drop : SenderCall → Bool
-is_drop (starts now) = true
-is_drop (expires now m) = true
-is_drop (expires_tail now m) = true
-is_drop (expires_late now gone) = true
-is_drop (expires_rexmit gone) = true
-is_drop _ = false
+-- a call that gives up what has expired at a moment, or starts lifetimes then
+abbrev pub is_drop : ℕ → SenderCall → Bool
+is_drop now (starts at) = at == now
+is_drop now (expires at m) = at == now
+is_drop now (expires_tail at m) = at == now
+is_drop now (expires_late at gone) = at == now
+is_drop now (expires_rexmit gone) = true
+is_drop now _ = false
 
 -- `drop_expired`: some such calls, and no other
-abbrev pub Drops : Transmission → Transmission → Type 0
-Drops old new =
+abbrev pub Drops : ℕ → Transmission → Transmission → Type 0
+Drops now old new =
     (calls : List SenderCall)
-    × (SenderMakesEach calls old new × (list_all is_drop calls ≡ true))
+    × (SenderMakesEach calls old new × (list_all (is_drop now) calls ≡ true))
 
 -- ## What it sends
 

@@ -148,10 +148,10 @@ pub fn expire_rexmit(sender: &mut Sender) -> Result<Vec<AbandonedMessage>, Sende
     replay::expire_rexmit(sender)
 }
 
-/// Drops the next group of messages that have expired: the calls of a session by which each of them goes, and no other; where none has,
-/// lifetimes start.
+/// Drops the next group of messages that have expired: the calls of a session by which each of them goes at this moment, and no other;
+/// where none has, lifetimes start.
 pub fn drop_expired(sender: &mut Sender, now: u64) -> Result<Option<Dropped>, SenderRefusal>
-    ensures { OnOk result (Drops sender.old sender.new) }
+    ensures { OnOk result (Drops now sender.old sender.new) }
 {
     sender.drop_expired(now)
 }
