@@ -58,7 +58,7 @@ never-often n w (c ∷ cs) e =
     by true ih = ih
     by false ih = ih
 
--- the message was asked to be abandoned, or its write is not reliable
+-- a call of `abandon` named the message, or its write is not reliable
 abbrev pub IsAskedOrNot : List Sending → List ℕ → ℕ → Type 0
 IsAskedOrNot ws asked n = (is_gone asked n ≡ true) ⊎ ((n < length ws) × (((numbered_in n ws).mode.reliability ≡ Reliable) → ⊥))
 
@@ -104,9 +104,9 @@ askable ws vs xs ys keep more n (inr e) =
 
 module _ (first : ℕ) where
   -- what a call gives up
-  by-one : (n : ℕ) (call : SenderCall) (old : Session) (m : Modes) → n < 2 ^ 31 → HasSaidOfFew first n m old
+  left-by : (n : ℕ) (call : SenderCall) (old : Session) (m : Modes) → n < 2 ^ 31 → HasSaidOfFew first n m old
       → Every (IsAskedOrNot m.of_writes (asked_by call old.sending.sender)) (abandoned_by call old.sending.sender)
-  by-one n call old m few h =
+  left-by n call old m few h =
       let t = old.sending.sender in
       let p = h.unwrapped.spread in
       of-reasons call t m.of_writes (each-reason (base first) n few m.of_writes t h.said.sender.queue h.said.filled p.step.numbered call)
@@ -131,7 +131,7 @@ module _ (first : ℕ) where
       (askable m.of_writes k.of_writes asked xs keep (gone-left asked (asked_by call t))) gone e)
       (every-of (IsAskedOrNot m.of_writes (asked_by call t)) (IsAskedOrNot k.of_writes xs)
       (askable m.of_writes k.of_writes (asked_by call t) xs keep (gone-right asked (asked_by call t))) (abandoned_by call t)
-      (by-one n call old m (omega (arith, few)) h)) in
+      (left-by n call old m (omega (arith, few)) h)) in
       subst (λ ys. Every (IsAskedOrNot (modes_from k cs).of_writes ys) (gone ++ (abandoned_by call t ++ abandoned_in r.0 cs new r.1.1)))
       (append_assoc asked (asked_by call t) (asked_in r.0 cs new r.1.1))
       (subst (λ ys. Every (IsAskedOrNot (modes_from k cs).of_writes (xs ++ asked_in r.0 cs new r.1.1)) ys)

@@ -37,7 +37,7 @@ is_sent_too_often n w t =
 
 -- ## Only what is due expires
 
--- why a call gives a message up: by an expiry, its lifetime is over, or it was sent again too often; else that it was asked to
+-- why a call abandons a message: by an expiry, its lifetime is over, or it was sent again too often; else that it was asked to
 abbrev pub IsReason : SenderCall → Transmission → ℕ → Sending → Type 0
 IsReason (expires now m) t n w = is_lifetime_over now w ≡ true
 IsReason (expires_tail now m) t n w = is_lifetime_over now w ≡ true
@@ -45,7 +45,7 @@ IsReason (expires_late now gone) t n w = is_lifetime_over now w ≡ true
 IsReason (expires_rexmit gone) t n w = is_sent_too_often n w t ≡ true
 IsReason _ t n w = ⊤
 
--- whatever call comes next, each message that it gives up has its reason: so a reliable one, and one of DCEP, none but `abandon`
+-- whatever call comes next, each message that it abandons has its reason: none but `abandon` abandons a reliable one, or one of DCEP
 abbrev pub OnlyTheDueExpire : List Call → Session → Type 0
 OnlyTheDueExpire calls s =
     (call : SenderCall)

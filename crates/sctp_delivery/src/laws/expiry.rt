@@ -4,15 +4,15 @@
 ghost use Rattle.sctp_delivery.specs.Expiries.{EachDueExpires, EachReliableIsReadInTheEnd, OnlyTheDueExpire};
 ghost use Rattle.sctp_delivery.specs.Modes.{AfterEachFitRun, AfterEachRunOfFewTsns};
 
-/// A message that an expiry gives up is none of DCEP, and was written on a stream in a timed mode, where its lifetime, from the first start
-/// or send behind the write, is over; or in a mode of limited retransmissions, where a chunk of it was sent more often. A reliable one is
-/// abandoned by a call of `abandon` alone. So it is in sessions that give out fewer than 2^31 TSNs.
+/// A message that an expiry abandons is none of DCEP. It was written on a stream in a timed mode, and its lifetime, from the first start or
+/// send behind the write, is over; or its retransmissions are limited, and a chunk of it was sent more often. A reliable one is left to
+/// `abandon` alone. So it is in sessions that give out fewer than 2^31 TSNs.
 pub fn only_what_may_expire_expires()
     ensures { AfterEachRunOfFewTsns OnlyTheDueExpire }
 {}
 
-/// And at that moment it goes: what an expiry finds to be so in front and in flight are the messages of which that is true by the
-/// mode and the lifetime with which they were written.
+/// And at that moment it does. What an expiry finds to be so, in front and in flight, are the messages of which that is true by the mode
+/// and the lifetime of their writes.
 pub fn what_is_due_expires()
     ensures { AfterEachFitRun EachDueExpires }
 {}

@@ -2,14 +2,14 @@
 
 ghost use Rattle.sctp_delivery.specs.Modes.{AfterEachFitRun, AfterEachRunOfFewTsns, AreReadAsWritten, AreSentAsWritten};
 
-/// Each DATA chunk that a sender makes, for the first time or again, is a part of a write, and says that it is unordered exactly where its
-/// stream was set to be unordered before the write and the message is none of DCEP (RFC 8832 6).
+/// Each DATA chunk that a sender makes, for the first time or again, is a part of a write. It says that it is unordered exactly where its
+/// stream was set to be unordered before the write, and the message is none of DCEP (RFC 8832 6).
 pub fn each_chunk_is_sent_as_it_was_written()
     ensures { AfterEachFitRun AreSentAsWritten }
 {}
 
-/// What was written on a stream while it was ordered, and each DCEP message, is read in the order of the writes, each a write at a place of
-/// its own, whatever is skipped. So it is in sessions that give out fewer than 2^31 TSNs.
+/// What was written on a stream while it was ordered, and each DCEP message, is read in the order of the writes. Each is a write at a place
+/// of its own, whatever is skipped. So it is in sessions that give out fewer than 2^31 TSNs.
 pub fn what_is_written_ordered_is_read_in_order()
     ensures { AfterEachRunOfFewTsns AreReadAsWritten }
 {}
