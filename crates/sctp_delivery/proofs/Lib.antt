@@ -133,4 +133,5 @@ pub mod ModeOrder
 pub mod ListedTsns
 pub mod ExpiryLaws
 pub mod ReliableWrites
+pub mod CounterLaws
 mod EndExamples

@@ -13,3 +13,4 @@ pub mod Discards
 pub mod Retransmission
 pub mod Modes
 pub mod Expiries
+pub mod Counters

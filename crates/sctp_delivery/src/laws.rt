@@ -1,6 +1,7 @@
 //! What holds of every session of two hosts: laws, each the contract of a function that does nothing.
 
 pub mod complete;
+pub mod counters;
 pub mod discards;
 pub mod expiry;
 pub mod messages;
