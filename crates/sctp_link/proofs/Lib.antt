@@ -3,7 +3,7 @@ pub mod sides
 pub mod sender
 pub mod abandonment
 pub mod receiver
-pub mod acknowledging
-pub mod skipping
+pub mod acknowledgement
+pub mod skips
 pub mod upkeep
 pub mod standings

@@ -4,18 +4,18 @@ ghost use Rattle.std.specs.Prelude.{◌≡◌, ◌==◌, ◌<◌, ◌≤◌, ◌
 ghost use Rattle.sctp_util.specs.declared.error.Error.TheVariants.{ErrOutOfMemory};
 ghost use Rattle.sctp_sender.specs.declared.sender.refusal.SenderRefusal.TheVariants.{OutOfMemory};
 
-mod abandoning;
+mod abandonment;
 pub mod accessors;
-mod arriving;
-mod expiring;
+mod arrivals;
+mod expiry;
 mod fragments;
 mod late;
-mod naming;
-mod receiving;
+mod names;
+mod receipt;
 mod sack_in;
 mod sack_out;
-mod sending;
-mod skipping;
+mod sends;
+mod skips;
 mod streams;
 
 use crate::event::{Event, LinkRefusal, Reply};

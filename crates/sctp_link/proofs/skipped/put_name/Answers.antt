@@ -1,5 +1,5 @@
 use Rattle.sctp_link.proofs.Names.{◌<◌, ◌≤◌, length, sym, arith, slice_set, nat_tests, subst, HasNames}
-use Rattle.sctp_link.proofs.skipping.NamedTables.{named-none, named-absent, named-past, named-put}
+use Rattle.sctp_link.proofs.skips.NamedTables.{named-none, named-absent, named-past, named-put}
 use Rattle.sctp_link.proofs.skipped.put_name.Goals as goal
 
 pub returns-in_default-clause-names : goal.returns-in_default-clause-names

@@ -1,5 +1,5 @@
 use Rattle.sctp_link.proofs.Names.{◌<◌, ◌≤◌, ◌∙◌, ap, length, arith, nat_tests, Named}
-use Rattle.sctp_link.proofs.skipping.Skipping.{nowhere-named, absent-named, place-named}
+use Rattle.sctp_link.proofs.skips.Skipping.{nowhere-named, absent-named, place-named}
 use Rattle.sctp_link.proofs.skipped.record_name.Goals as goal
 
 pub returns-in_default : goal.returns-in_default

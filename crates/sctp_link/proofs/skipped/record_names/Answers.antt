@@ -1,5 +1,5 @@
 use Rattle.sctp_link.proofs.Names.{◌+◌, map, drop, ap, sym, ◌∙◌, drop_all, drop_more, slice_index_or, standing_named}
-use Rattle.sctp_link.proofs.skipping.Skipping.{named-rest, none-named}
+use Rattle.sctp_link.proofs.skips.Skipping.{named-rest, none-named}
 use Rattle.sctp_link.proofs.skipped.record_names.Goals as goal
 
 pub loop-number-preserved : goal.loop-number-preserved

@@ -1,5 +1,5 @@
 use Rattle.sctp_link.proofs.Names.{◌<◌, length, ap, ◌∙◌, sym, arith, nat_tests}
-use Rattle.sctp_link.proofs.skipping.Skipping.{index-raw}
+use Rattle.sctp_link.proofs.skips.Skipping.{index-raw}
 use Rattle.sctp_link.proofs.skipped.with_name.Goals as goal
 
 pub overflow_add-message : goal.overflow_add-message

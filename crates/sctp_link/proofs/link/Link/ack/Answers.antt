@@ -8,8 +8,8 @@ use Rattle.sctp_link.proofs.sides.Aligned.{with-receiver}
 use Rattle.sctp_link.specs.declared.record.Kind.TheVariants as K
 use Rattle.sctp_link.proofs.upkeep.Frames.{moved}
 use Rattle.sctp_link.proofs.sender.Outgoing.{network-more, bytes-more}
-use Rattle.sctp_link.proofs.acknowledging.Reporting.{cut-is, answered-count, answered-is, fits-encoding, cumulative-place, report-is, linked-ack}
-use Rattle.sctp_link.proofs.acknowledging.Reporting.{recorded-acked}
+use Rattle.sctp_link.proofs.acknowledgement.Reporting.{cut-is, answered-count, answered-is, fits-encoding, cumulative-place, report-is, linked-ack}
+use Rattle.sctp_link.proofs.acknowledgement.Reporting.{recorded-acked}
 use Rattle.sctp_link.proofs.link.Link.ack.Given.{Over}
 use Rattle.sctp_link.proofs.link.Link.ack.Goals.{After-push_reserved}
 use Rattle.sctp_link.proofs.link.Link.ack.Goals as goal

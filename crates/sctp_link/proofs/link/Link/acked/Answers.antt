@@ -8,8 +8,8 @@ use Rattle.sctp_model.specs.LinkRecord.{Sack}
 use Rattle.sctp_model.specs.Reply as R
 use Rattle.sctp_link.proofs.sides.Changes.{only-memory, acked-aligned, acked-sides}
 use Rattle.sctp_link.proofs.upkeep.Facts.{facts}
-use Rattle.sctp_link.proofs.acknowledging.SackTaken.{Taken, wire_sack, reads-sack, count-is, reported, marking-first, not-refused, within-run, within-blocks}
-use Rattle.sctp_link.proofs.acknowledging.SackTaken.{taken-all}
+use Rattle.sctp_link.proofs.acknowledgement.SackTaken.{Taken, wire_sack, reads-sack, count-is, reported, marking-first, not-refused, within-run, within-blocks}
+use Rattle.sctp_link.proofs.acknowledgement.SackTaken.{taken-all}
 use Rattle.sctp_link.proofs.link.Link.acked.Given.{Over}
 use Rattle.sctp_link.proofs.link.Link.acked.Goals.{After-max-taken, After-rebase, After-acknowledge_blocks}
 use Rattle.sctp_link.proofs.link.Link.acked.Goals as goal

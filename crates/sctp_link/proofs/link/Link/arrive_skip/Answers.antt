@@ -1,8 +1,8 @@
 use Rattle.sctp_link.proofs.Names.{◌≡◌, ℕ, ◌≤◌, true, List, Some, refl, ap, sym, ◌∙◌, arith, slice_get, if◌then◌else◌, nat_tests, Forward, cumulative}
 use Rattle.sctp_link.proofs.Names.{skip_counts, after_arrive, arrive_reply, record_in, wire_skip}
 use Rattle.sctp_model.specs.Reply as R
-use Rattle.sctp_link.proofs.acknowledging.Reporting.{cumulative-place}
-use Rattle.sctp_link.proofs.skipping.SkipComes.{reads-skip}
+use Rattle.sctp_link.proofs.acknowledgement.Reporting.{cumulative-place}
+use Rattle.sctp_link.proofs.skips.SkipComes.{reads-skip}
 use Rattle.sctp_link.proofs.link.Link.arrive_skip.Goals as goal
 
 pub read_forward_tsn-requires : goal.read_forward_tsn-requires

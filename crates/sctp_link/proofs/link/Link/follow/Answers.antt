@@ -4,9 +4,9 @@ use Rattle.sctp_link.proofs.Names.{record_from, sides_in, kind_record, with_name
 use Rattle.sctp_link.proofs.Names.{reception_of, tsn_of, skipped_to}
 use Rattle.sctp_model.specs.declared.event.Event.TheVariants as E
 use Rattle.sctp_link.proofs.upkeep.Facts.{facts}
-use Rattle.sctp_link.proofs.skipping.SkipComes.{names-kept}
-use Rattle.sctp_link.proofs.skipping.SkipFollowed.{never-refused, followed-aligned, followed-sides, named-aligned, named-sides, sides-then, linked-follow}
-use Rattle.sctp_link.proofs.skipping.SkipFollowed.{received-follow, skipped_stream}
+use Rattle.sctp_link.proofs.skips.SkipComes.{names-kept}
+use Rattle.sctp_link.proofs.skips.SkipFollowed.{never-refused, followed-aligned, followed-sides, named-aligned, named-sides, sides-then, linked-follow}
+use Rattle.sctp_link.proofs.skips.SkipFollowed.{received-follow, skipped_stream}
 use Rattle.sctp_link.proofs.link.Link.follow.Given.{Over}
 use Rattle.sctp_link.proofs.link.Link.follow.Goals.{After-record_names}
 use Rattle.sctp_link.proofs.link.Link.follow.Goals as goal

@@ -2,7 +2,7 @@ use Rattle.sctp_link.proofs.Names.{◌≡◌, ℕ, ◌<◌, true, false, refl, a
 use Rattle.sctp_link.proofs.Names.{record_in, past-none, past-some}
 use Rattle.sctp_link.proofs.upkeep.Facts.{facts}
 use Rattle.sctp_link.proofs.receiver.Hears.{slots-made}
-use Rattle.sctp_link.proofs.skipping.SkipMade.{slot-of}
+use Rattle.sctp_link.proofs.skips.SkipMade.{slot-of}
 use Rattle.sctp_link.proofs.link.Link.goes_past.Goals as goal
 
 pub overflow_step-later : goal.overflow_step-later

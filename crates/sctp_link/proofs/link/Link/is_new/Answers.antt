@@ -1,6 +1,6 @@
 use Rattle.sctp_link.proofs.Names.{◌≡◌, ◌<◌, ◌≤◌, true, length, not, refl, ap, sym, ◌∙◌, arith, ◌&&◌, nat_le, nat_tests, cumulative, arrived_at, Slot}
 use Rattle.sctp_link.proofs.Names.{record_in}
-use Rattle.sctp_link.proofs.acknowledging.Reporting.{cumulative-place}
+use Rattle.sctp_link.proofs.acknowledgement.Reporting.{cumulative-place}
 use Rattle.sctp_link.proofs.receiver.Hears.{slot-raw, slots-made}
 use Rattle.sctp_link.proofs.link.Link.is_new.Goals as goal
 

@@ -4,7 +4,7 @@ use Rattle.sctp_link.proofs.Names.{sides_in, InboundStream, complete-set, first-
 use Rattle.sctp_link.proofs.sides.Changes.{inbound-answered}
 use Rattle.sctp_link.proofs.upkeep.Lookups.{none-open, queue-none, queue-at, QueueAt}
 use Rattle.sctp_link.proofs.receiver.Hears.{set-held, none-there}
-use Rattle.sctp_link.proofs.skipping.SkipComes.{first-none, stream-some}
+use Rattle.sctp_link.proofs.skips.SkipComes.{first-none, stream-some}
 use Rattle.sctp_link.proofs.link.Link.least_left.Given.{Over}
 use Rattle.sctp_link.proofs.link.Link.least_left.Goals.{After-ordered-held, In-Some-front}
 use Rattle.sctp_link.proofs.link.Link.least_left.Goals as goal

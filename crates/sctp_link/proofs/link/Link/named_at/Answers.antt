@@ -2,7 +2,7 @@ use Rattle.sctp_link.proofs.Names.{◌≡◌, ℕ, ◌<◌, length, Some, ap, ar
 use Rattle.sctp_link.proofs.Names.{stream_record, named_from, none_named, length-mapped}
 use Rattle.sctp_link.specs.Progress.{fresh}
 use Rattle.sctp_link.proofs.sides.Aligned.{count-is}
-use Rattle.sctp_link.proofs.skipping.NamedOnEach.{named-there}
+use Rattle.sctp_link.proofs.skips.NamedOnEach.{named-there}
 use Rattle.sctp_link.proofs.link.Link.named_at.Goals as goal
 
 pub number_at-requires : goal.number_at-requires

@@ -1,7 +1,7 @@
 use Rattle.sctp_link.proofs.Names.{length-mapped, record_in, sides_in, ◌≡◌, ℕ, ◌<◌, ◌≤◌, ◌+◌, [], Some, refl, ap, sym, ◌∙◌, arith, length, slice_get, Forward}
 use Rattle.sctp_link.proofs.Names.{list_all, take_all, names_fit, stream_record, subst, HasNames, all-more, all-no}
 use Rattle.sctp_link.proofs.sides.Aligned.{count-is}
-use Rattle.sctp_link.proofs.skipping.NamedOnEach.{table-there}
+use Rattle.sctp_link.proofs.skips.NamedOnEach.{table-there}
 use Rattle.sctp_link.proofs.link.Link.names_fit.Given.{Over}
 use Rattle.sctp_link.proofs.link.Link.names_fit.Goals.{After-len-at-end}
 use Rattle.sctp_link.proofs.link.Link.names_fit.Goals as goal

@@ -4,7 +4,7 @@ use Rattle.sctp_model.specs.declared.event.Event.TheVariants as E
 use Rattle.sctp_link.specs.declared.record.Kind.TheVariants as K
 use Rattle.sctp_link.proofs.upkeep.Frames.{moved}
 use Rattle.sctp_link.proofs.sender.Outgoing.{network-more, bytes-more}
-use Rattle.sctp_link.proofs.skipping.SkipMade.{pairs-short, skip-says, linked-made}
+use Rattle.sctp_link.proofs.skips.SkipMade.{pairs-short, skip-says, linked-made}
 use Rattle.sctp_link.proofs.link.Link.skip.Goals as goal
 
 pub write_datagram-requires-clause-encoding : goal.write_datagram-requires-clause-encoding

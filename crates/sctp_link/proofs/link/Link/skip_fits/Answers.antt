@@ -1,7 +1,7 @@
 use Rattle.sctp_link.proofs.Names.{◌≡◌, ◌<◌, ◌≤◌, false, sym, ◌∙◌, arith, list_all, nat_tests, skip_counts, cumulative, names_fit, record_in, stale-fits}
 use Rattle.sctp_link.proofs.Names.{all-fit}
 use Rattle.sctp_link.proofs.upkeep.Facts.{facts}
-use Rattle.sctp_link.proofs.acknowledging.Reporting.{cumulative-place}
+use Rattle.sctp_link.proofs.acknowledgement.Reporting.{cumulative-place}
 use Rattle.sctp_link.proofs.link.Link.skip_fits.Goals as goal
 
 pub returns-then-cumulative-upto : goal.returns-then-cumulative-upto

@@ -5,7 +5,7 @@ use Rattle.sctp_link.proofs.Names.{judged, lowest-short}
 use Rattle.sctp_link.specs.Progress.{fresh}
 use Rattle.sctp_link.proofs.sides.Aligned.{count-is}
 use Rattle.sctp_link.proofs.sides.Changes.{number-answered}
-use Rattle.sctp_link.proofs.skipping.SkipComes.{open-at, record-at}
+use Rattle.sctp_link.proofs.skips.SkipComes.{open-at, record-at}
 use Rattle.sctp_link.proofs.link.Link.stream_fits.Given.{Over}
 use Rattle.sctp_link.proofs.link.Link.stream_fits.Goals.{After-number_at-stream, After-index_range-low}
 use Rattle.sctp_link.proofs.link.Link.stream_fits.Goals as goal

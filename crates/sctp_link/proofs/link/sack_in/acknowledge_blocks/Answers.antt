@@ -1,5 +1,5 @@
 use Rattle.sctp_link.proofs.Names.{◌+◌, ◌-◌, ◌∙◌, ap, arith, take, slice_index_or, take_all, and_run, and_blocks, in_block, list_any_at}
-use Rattle.sctp_link.proofs.acknowledging.AckLoops.{marking-same, block-last, block-more}
+use Rattle.sctp_link.proofs.acknowledgement.AckLoops.{marking-same, block-last, block-more}
 use Rattle.sctp_link.proofs.link.sack_in.acknowledge_blocks.Goals as goal
 
 pub acknowledge_run-requires : goal.acknowledge_run-requires

@@ -1,5 +1,5 @@
 use Rattle.sctp_link.proofs.Names.{◌+◌, ◌<◌, ◌∙◌, arith, length, length-set, and_run, fragment_slot}
-use Rattle.sctp_link.proofs.acknowledging.AckLoops.{marking-same, marking-one, run-more, run-all}
+use Rattle.sctp_link.proofs.acknowledgement.AckLoops.{marking-same, marking-one, run-more, run-all}
 use Rattle.sctp_link.proofs.link.sack_in.acknowledge_run.Goals as goal
 
 pub loop-place-preserved : goal.loop-place-preserved

@@ -1,5 +1,5 @@
 use Rattle.sctp_link.proofs.Names.{◌∙◌, ap, max}
-use Rattle.sctp_link.proofs.acknowledging.Rebased.{nearer-is}
+use Rattle.sctp_link.proofs.acknowledgement.Rebased.{nearer-is}
 use Rattle.sctp_link.proofs.link.sack_in.nearer.Goals as goal
 
 pub returns : goal.returns

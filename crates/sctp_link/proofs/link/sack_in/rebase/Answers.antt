@@ -1,5 +1,5 @@
 use Rattle.sctp_link.proofs.Names.{◌≤◌, ◌<◌, length, refl, rules}
-use Rattle.sctp_link.proofs.acknowledging.Rebased.{none-nearer, one-nearer, all-begin, all-covers}
+use Rattle.sctp_link.proofs.acknowledgement.Rebased.{none-nearer, one-nearer, all-begin, all-covers}
 use Rattle.sctp_link.proofs.link.sack_in.rebase.Goals as goal
 
 pub loop-place-init : goal.loop-place-init

@@ -1,5 +1,5 @@
 use Rattle.sctp_link.proofs.Names.{◌≡◌}
-use Rattle.sctp_link.proofs.acknowledging.Rebased.{Nearer}
+use Rattle.sctp_link.proofs.acknowledgement.Rebased.{Nearer}
 use Rattle.sctp_link.proofs.link.sack_in.rebase.Given as goal
 
 abbrev pub invariant-loop-place : goal.invariant-loop-place

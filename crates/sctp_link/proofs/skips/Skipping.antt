@@ -5,7 +5,7 @@ use Rattle.sctp_link.proofs.Names.{◌∙◌, arith, filter, change_where, not_b
 use Rattle.sctp_link.proofs.Names.{with_name, IsAbsent, IsOnlyPlace, set-changed}
 use Rattle.sctp_stream.proofs.StreamPlaces as Places
 use Rattle.sctp_link.specs.Progress as Progress
-use Rattle.sctp_link.proofs.skipping.NamedTables.{name-next, name-other, on-other, on-none, stream-is}
+use Rattle.sctp_link.proofs.skips.NamedTables.{name-next, name-other, on-other, on-none, stream-is}
 
 -- the index that is kept, where there is such a message
 pub index-raw : (ms : List Message) (n : ℕ) (d : Message) → n < length ms → index_in ms n ≡ (slice_index_or ms n d).index

@@ -2,8 +2,8 @@ use Rattle.sctp_link.proofs.Names.{Vec, Global, ℕ, ◌+◌, ◌++◌, ◌<◌,
 use Rattle.sctp_link.proofs.Names.{with_arrival, arrived_in, repeated_of, is_first, or-true, set-changed}
 use Rattle.std.specs.Prelude.{vec_len}
 use Rattle.sctp_link.proofs.receiver.Arrivals.{slots-first, repeated-first, any-first, slots-again, repeated-again, any-again}
-use Rattle.sctp_link.proofs.link.arriving.record_arrivals.Goals as goal
-use Rattle.sctp_link.proofs.link.arriving.record_arrivals.Goals.{in-New, in-Repeat}
+use Rattle.sctp_link.proofs.link.arrivals.record_arrivals.Goals as goal
+use Rattle.sctp_link.proofs.link.arrivals.record_arrivals.Goals.{in-New, in-Repeat}
 
 pub loop-at-preserved : goal.loop-at-preserved
 loop-at-preserved c =

@@ -9,7 +9,7 @@ use Rattle.sctp_model.specs.declared.event.Event.TheVariants as E
 use Rattle.sctp_model.specs.refinement.Naming.{on_stream}
 use Rattle.sctp_model.proofs.refinement.skipping.SkipsInTurn.{skips-in-turn}
 use Rattle.sctp_link.proofs.upkeep.Facts.{facts}
-use Rattle.sctp_link.proofs.skipping.SkipComes.{index-is, spans}
+use Rattle.sctp_link.proofs.skips.SkipComes.{index-is, spans}
 
 -- ## What they have for a stream
 

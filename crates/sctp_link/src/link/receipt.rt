@@ -10,8 +10,8 @@ ghost use Rattle.sctp_model.specs.declared.event.LinkRefusal.TheVariants.{SpanTo
 ghost use Rattle.sctp_receiver.specs.declared.receiver.refusal.ReceiverRefusal.TheVariants.{OutOfMemory};
 
 use super::Link;
-use super::arriving::{message_numbers, record_arrivals};
-use super::skipping::count_of;
+use super::arrivals::{message_numbers, record_arrivals};
+use super::skips::count_of;
 use crate::datagram::read_data;
 use crate::event::{LinkRefusal, Reply};
 use crate::record::Kind;

@@ -1,6 +1,6 @@
 use Rattle.sctp_link.proofs.Names.{◌≡◌, ◌≤◌, ◌+◌, ◌++◌, length, drop, ◌||◌, vec_capacity, list_any, arrived_in, repeated_of, is_first}
 use Rattle.std.specs.Prelude.{vec_len}
-use Rattle.sctp_link.proofs.link.arriving.record_arrivals.Given as goal
+use Rattle.sctp_link.proofs.link.arrivals.record_arrivals.Given as goal
 
 abbrev pub invariant-loop-at : goal.invariant-loop-at
 invariant-loop-at l = record {

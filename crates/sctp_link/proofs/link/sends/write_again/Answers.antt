@@ -1,5 +1,5 @@
 use Rattle.sctp_link.proofs.Names.{◌+◌, ◌-◌, ◌^◌, refl, ap, ◌∙◌, find, min, with_nsent, has_tsn, Transmission, found-changed}
-use Rattle.sctp_link.proofs.link.sending.write_again.Goals as goal
+use Rattle.sctp_link.proofs.link.sends.write_again.Goals as goal
 
 pub returns-clause-noted : goal.returns-clause-noted
 returns-clause-noted g c d e =

@@ -19,8 +19,8 @@ use Rattle.sctp_link.proofs.sides.Joined.{progress-mapped}
 use Rattle.sctp_link.proofs.receiver.Came.{filter-gone, never-opposite, passed-is}
 use Rattle.sctp_link.proofs.upkeep.Facts.{facts}
 use Rattle.sctp_link.proofs.upkeep.StreamsAfter.{stream-then, linked-then}
-use Rattle.sctp_link.proofs.skipping.SkipComes.{names-are, open-at, spans}
-use Rattle.sctp_link.proofs.skipping.NamesInTurn.{pairs_of, queue-in-turn}
+use Rattle.sctp_link.proofs.skips.SkipComes.{names-are, open-at, spans}
+use Rattle.sctp_link.proofs.skips.NamesInTurn.{pairs_of, queue-in-turn}
 
 -- a stream after it
 abbrev pub skipped_stream : LinkRecord → ℕ → List ℕ → List Message → OpenStream → OpenStream

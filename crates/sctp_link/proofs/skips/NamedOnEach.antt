@@ -4,7 +4,7 @@ use Rattle.sctp_link.proofs.Names.{Inside, Named, record_in, state_in, sides_in,
 use Rattle.sctp_link.proofs.Names.{HasNames, skips-in}
 use Rattle.sctp_link.specs.Progress.{fresh}
 use Rattle.sctp_link.proofs.sides.Changes.{number-answered}
-use Rattle.sctp_link.proofs.skipping.SkipComes.{record-at, names-are}
+use Rattle.sctp_link.proofs.skips.SkipComes.{record-at, names-are}
 use Rattle.sctp_link.proofs.upkeep.Facts.{facts}
 
 module _ {C : Type 0} (sum : List ℕ → ℕ) (a : Inside C) (al : IsAligned a.sender a.receiver a.progress) (l : IsLinked sum (state_in a)) (k upto : ℕ)

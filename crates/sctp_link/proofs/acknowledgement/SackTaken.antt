@@ -21,9 +21,9 @@ use Rattle.sctp_model.proofs.refinement.acknowledging.Acked.{in-flight-first, in
 use Rattle.sctp_model.proofs.refinement.acknowledging.Unacked.{amount-is, amount-acked, growth-acked}
 use Rattle.sctp_model.proofs.refinement.sending.Begun
 use Rattle.sctp_link.proofs.upkeep.Facts.{facts, over}
-use Rattle.sctp_link.proofs.acknowledging.AckLoops.{marking-same}
-use Rattle.sctp_link.proofs.acknowledging.FlightAcked.{answered, covered-at, marked-all, front-leaves}
-use Rattle.sctp_link.proofs.acknowledging.StreamsLess.{with_amount, released_on, chunks_on, length-released, released-at, answered-on, on-unacked}
+use Rattle.sctp_link.proofs.acknowledgement.AckLoops.{marking-same}
+use Rattle.sctp_link.proofs.acknowledgement.FlightAcked.{answered, covered-at, marked-all, front-leaves}
+use Rattle.sctp_link.proofs.acknowledgement.StreamsLess.{with_amount, released_on, chunks_on, length-released, released-at, answered-on, on-unacked}
 use Rattle.sctp_link.proofs.sender.Beginning.{index_kept, indexed-of}
 use Rattle.sctp_model.proofs.refinement.acknowledging.SackFrames.{reassembly-taken, filter-taken}
 use Rattle.sctp_link.proofs.upkeep.Observed.{encoded}

@@ -5,7 +5,7 @@ use Rattle.sctp_link.proofs.Names.{with_datagram, refusal_of, after, skip_refusa
 use Rattle.sctp_link.proofs.Names.{progress_of, pair_in, wire_skip, packet_with, State, IsLinked, length-mapped, length_forward_tsn_value, accepted}
 use Rattle.sctp_link.proofs.upkeep.Facts.{facts}
 use Rattle.sctp_link.proofs.receiver.Hears.{slot-raw}
-use Rattle.sctp_link.proofs.skipping.NamesInTurn.{pairs-are}
+use Rattle.sctp_link.proofs.skips.NamesInTurn.{pairs-are}
 use Rattle.sctp_link.proofs.upkeep.Frames.{linked-more}
 
 -- the message of a slot, as a link keeps it
