@@ -14,7 +14,8 @@ use Rattle.sctp_data.specs.declared.chunk.chunk_payload_data.ReliabilityType.The
 use Rattle.sctp_sender.specs.Resending.{is_over, limit_of}
 use Rattle.sctp_sender.specs.Sender.{Transmission}
 use Rattle.sctp_delivery.specs.Abandoned.{abandoned_by, abandoned_in}
-use Rattle.sctp_delivery.specs.Expiries.{EachReliableIsReadInTheEnd, IsReason, asked_by, asked_in, is_lifetime_over, is_limit_passed, is_sent_too_often}
+use Rattle.sctp_delivery.specs.Expiries.{AfterEachRunOfAsked, IsEachReliableReadInTheEnd, IsReason, asked_by, asked_in, is_lifetime_over, is_limit_passed}
+use Rattle.sctp_delivery.specs.Expiries.{is_sent_too_often}
 use Rattle.sctp_delivery.specs.Modes.{Mode, Modes, Sending, at_first, deadline_from, modes_after, modes_from, numbered_in, unknown}
 use Rattle.sctp_delivery.specs.Sacks.{tsns_given}
 use Rattle.sctp_delivery.specs.SenderCalls as outgoing
@@ -153,7 +154,7 @@ at-gone P n (k ∷ ks) e h = by (nat_eq n k) refl e (λ f. at-gone P n ks f h.1)
     by true i f ih = subst P (sym (same-is n k i)) h.0
     by false i f ih = ih f
 
-pub reliable-read : EachReliableIsReadInTheEnd
+pub reliable-read : AfterEachRunOfAsked IsEachReliableReadInTheEnd
 reliable-read tsn size max most limits cs s run small some few exhausted =
     let start = at_start tsn size max most limits in
     let u = said-of-few tsn size max most limits cs s small some run few in

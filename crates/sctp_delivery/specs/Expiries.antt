@@ -122,13 +122,18 @@ EachReliableIsReadOnce ws asked s =
     × ((k : ℕ) → k < length s.written → (slice_index_or ws k unknown).mode.reliability ≡ Reliable
     → list_any (nat_eq (length s.written - (k + 1))) asked ≡ false → Contains places k)
 
--- after each session that gives out fewer than 2^31 TSNs: where nothing waits to be sent, nothing is in flight, and nothing is to be
--- read, each such write that no call of `abandon` gave up was read exactly once
-abbrev pub EachReliableIsReadInTheEnd : Type 0
-EachReliableIsReadInTheEnd =
+-- P of how the writes are sent, of the messages that `abandon` gave up and of the session, after each session that gives out fewer
+-- than 2^31 TSNs; the first one is a number of 32 bits, and fragments have some bytes
+abbrev pub AfterEachRunOfAsked : (List Sending → List ℕ → Session → Type 0) → Type 0
+AfterEachRunOfAsked P =
     (tsn size max most : ℕ) (limits : Option Limits) (calls : List Call) (s : Session)
     (run : RunsTo (at_start tsn size max most limits) calls s) → tsn < 2 ^ 32 → 0 < size
     → tsns_given (at_start tsn size max most limits) calls s run < 2 ^ 31
-    → is_exhausted s.sending.sender s.receiving.receiver ≡ true
-    → EachReliableIsReadOnce (sendings calls)
-    (asked_in (at_start tsn size max most limits) calls s run) s
+    → P (sendings calls) (asked_in (at_start tsn size max most limits) calls s run) s
+
+-- where nothing waits to be sent, nothing is in flight, and nothing is to be read, each such write that no call of `abandon` gave up
+-- was read exactly once
+abbrev pub IsEachReliableReadInTheEnd : List Sending → List ℕ → Session → Type 0
+IsEachReliableReadInTheEnd ws asked s =
+    is_exhausted s.sending.sender s.receiving.receiver ≡ true
+    → EachReliableIsReadOnce ws asked s

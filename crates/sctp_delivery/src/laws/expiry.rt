@@ -1,7 +1,7 @@
 //! Only what may expire expires, and at its moment: by how each message was written, as the calls of a session say it (RFC 3758 3.5, 4.1;
 //! RFC 7496 3.1).
 
-ghost use Rattle.sctp_delivery.specs.Expiries.{EachDueExpires, EachReliableIsReadInTheEnd, OnlyTheDueExpire};
+ghost use Rattle.sctp_delivery.specs.Expiries.{AfterEachRunOfAsked, EachDueExpires, IsEachReliableReadInTheEnd, OnlyTheDueExpire};
 ghost use Rattle.sctp_delivery.specs.Modes.{AfterEachFitRun, AfterEachRunOfFewTsns};
 
 /// A message that an expiry abandons is none of DCEP. It was written on a stream in a timed mode, and its lifetime, from the first start or
@@ -21,5 +21,5 @@ pub fn what_is_due_expires()
 /// DCEP, was read exactly once, unless a call of `abandon` named its message. So it is in sessions that give out fewer than 2^31 TSNs,
 /// whichever others expire.
 pub fn each_reliable_write_is_read_in_the_end()
-    ensures { EachReliableIsReadInTheEnd }
+    ensures { AfterEachRunOfAsked IsEachReliableReadInTheEnd }
 {}
