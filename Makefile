@@ -13,7 +13,7 @@ CFLAGS = -O2
 ARCHIVE = crates/sctp_c/out/libsctp_c.a
 OUT = out
 
-VERSION := $(shell sed -n 's/^.define SCTP_VERSION_[A-Z]* \([0-9]*\)$$/\1/p' include/sctp.h | paste -sd .)
+VERSION := $(shell sed -n 's/^.define SCTPR_VERSION_[A-Z]* \([0-9]*\)$$/\1/p' include/sctpr.h | paste -sd .)
 ROOT = $(DESTDIR)$(PREFIX)
 SOURCES := $(shell find crates -name '*.rt' -path '*/src/*')
 
@@ -36,7 +36,7 @@ $(OUT)/sctp-rattle.pc: FORCE
 
 install: all
 	install -d $(ROOT)/include/sctp-rattle $(ROOT)/lib/pkgconfig $(ROOT)/share/doc/sctp-rattle
-	install -m 644 include/sctp.h include/sctp.hpp $(ROOT)/include/sctp-rattle
+	install -m 644 include/sctpr.h include/sctpr.hpp $(ROOT)/include/sctp-rattle
 	install -m 644 $(OUT)/libsctp-rattle.a $(ROOT)/lib
 	install -m 644 $(OUT)/sctp-rattle.pc $(ROOT)/lib/pkgconfig
 	install -m 644 docs/C.md LICENSE-MIT LICENSE-APACHE $(ROOT)/share/doc/sctp-rattle

@@ -24,43 +24,43 @@ static void fill(uint8_t *bytes, size_t length) {
 }
 
 static void read_any(const uint8_t *bytes, size_t length) {
-    struct sctp_data data;
-    struct sctp_sack sack;
-    struct sctp_gap gaps[4];
-    struct sctp_skip skips[4];
-    struct sctp_init init;
-    struct sctp_param param;
+    struct sctpr_data data;
+    struct sctpr_sack sack;
+    struct sctpr_gap gaps[4];
+    struct sctpr_skip skips[4];
+    struct sctpr_init init;
+    struct sctpr_param param;
     uint32_t numbers[4], tsn;
     size_t count;
-    if (sctp_read_data(bytes, length, &data) == SCTP_OK) CHECK(data.length + 16 <= length && data.begins <= 1 && data.ends <= 1);
-    if (sctp_read_sack(bytes, length, &sack, gaps, any(5), numbers, any(5)) == SCTP_OK)
+    if (sctpr_read_data(bytes, length, &data) == SCTPR_OK) CHECK(data.length + 16 <= length && data.begins <= 1 && data.ends <= 1);
+    if (sctpr_read_sack(bytes, length, &sack, gaps, any(5), numbers, any(5)) == SCTPR_OK)
         CHECK(16 + 4 * sack.blocks + 4 * sack.duplicates <= length);
-    if (sctp_read_forward_tsn(bytes, length, &tsn, skips, any(5), &count) == SCTP_OK) CHECK(8 + 4 * count <= length);
-    if (sctp_read_init(bytes, length, &init) == SCTP_OK) CHECK(20 <= length && init.is_ack <= 1);
-    if (sctp_read_param(bytes, length, &param) == SCTP_OK) CHECK(4 + param.length <= length && 4 <= param.next && param.next <= length);
+    if (sctpr_read_forward_tsn(bytes, length, &tsn, skips, any(5), &count) == SCTPR_OK) CHECK(8 + 4 * count <= length);
+    if (sctpr_read_init(bytes, length, &init) == SCTPR_OK) CHECK(20 <= length && init.is_ack <= 1);
+    if (sctpr_read_param(bytes, length, &param) == SCTPR_OK) CHECK(4 + param.length <= length && 4 <= param.next && param.next <= length);
 }
 
 static void write_any(const uint8_t *bytes, size_t length) {
     static uint8_t packet[256];
-    struct sctp_head head = { any(1000), (uint16_t)any(65536), (uint16_t)any(65536) }, got;
-    struct sctp_chunk rows[2];
+    struct sctpr_head head = { any(1000), (uint16_t)any(65536), (uint16_t)any(65536) }, got;
+    struct sctpr_chunk rows[2];
     size_t written = 0, count = 0, room = any(129);
-    sctp_code code = sctp_write_chunk(length ? bytes[0] : 0, bytes, length, packet + 12, room, &written);
-    if (code == SCTP_SHORT_BUFFER) CHECK(written > room);
-    if (code != SCTP_OK) return;
+    sctpr_code code = sctpr_write_chunk(length ? bytes[0] : 0, bytes, length, packet + 12, room, &written);
+    if (code == SCTPR_SHORT_BUFFER) CHECK(written > room);
+    if (code != SCTPR_OK) return;
     CHECK(written % 4 == 0 && written <= room);
-    CHECK(sctp_seal_packet(&head, packet, 12 + written) == SCTP_OK);
-    code = sctp_read_packet(packet, 12 + written, &got, rows, 2, &count);
-    CHECK(code == SCTP_OK || code == SCTP_NO_MEMORY);
-    if (code == SCTP_OK) CHECK(count == 1 && rows[0].at == 12 && rows[0].length <= written && got.source_port == head.source_port);
+    CHECK(sctpr_seal_packet(&head, packet, 12 + written) == SCTPR_OK);
+    code = sctpr_read_packet(packet, 12 + written, &got, rows, 2, &count);
+    CHECK(code == SCTPR_OK || code == SCTPR_NO_MEMORY);
+    if (code == SCTPR_OK) CHECK(count == 1 && rows[0].at == 12 && rows[0].length <= written && got.source_port == head.source_port);
 }
 
 static void seal_any(uint8_t *bytes, size_t length) {
-    struct sctp_head head = { 0, 1, 2 }, got;
-    struct sctp_chunk rows[4];
+    struct sctpr_head head = { 0, 1, 2 }, got;
+    struct sctpr_chunk rows[4];
     size_t count = 0;
-    if (sctp_seal_packet(&head, bytes, length) != SCTP_OK) return;
-    if (sctp_read_packet(bytes, length, &got, rows, 4, &count) != SCTP_OK) return;
+    if (sctpr_seal_packet(&head, bytes, length) != SCTPR_OK) return;
+    if (sctpr_read_packet(bytes, length, &got, rows, 4, &count) != SCTPR_OK) return;
     CHECK(got.destination_port == 2);
     for (size_t i = 0; i < count && i < 4; i++) CHECK(rows[i].at + rows[i].length <= length && 4 <= rows[i].length);
 }

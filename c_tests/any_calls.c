@@ -55,14 +55,14 @@ static void take_back(void *lent, size_t from, size_t length) {
 }
 
 /* The codes that a call may answer with; `bytes`: also each error of bytes. */
-static int is_one_of(sctp_code code, int bytes, const sctp_code *codes, size_t count) {
-    if (bytes && ((SCTP_ERR_PACKET_RAW_TOO_SMALL <= code && code <= SCTP_ERR_SHORT_BUFFER) || code == SCTP_NO_MEMORY)) return 1;
+static int is_one_of(sctpr_code code, int bytes, const sctpr_code *codes, size_t count) {
+    if (bytes && ((SCTPR_ERR_PACKET_RAW_TOO_SMALL <= code && code <= SCTPR_ERR_SHORT_BUFFER) || code == SCTPR_NO_MEMORY)) return 1;
     for (size_t i = 0; i < count; i++)
         if (code == codes[i]) return 1;
     return 0;
 }
 #define ONE_OF(code, bytes, ...) \
-    HOLDS(is_one_of(code, bytes, (const sctp_code[]){ __VA_ARGS__ }, sizeof((sctp_code[]){ __VA_ARGS__ }) / sizeof(sctp_code)))
+    HOLDS(is_one_of(code, bytes, (const sctpr_code[]){ __VA_ARGS__ }, sizeof((sctpr_code[]){ __VA_ARGS__ }) / sizeof(sctpr_code)))
 
 /* ---- Hosts ----------------------------------------------------------------------------------------------------------------- */
 
@@ -73,8 +73,8 @@ struct kept {
 };
 
 struct host {
-    sctp_sender sender;
-    sctp_receiver receiver;
+    sctpr_sender sender;
+    sctpr_receiver receiver;
     struct kept kept[KEPT];
 };
 static struct host hosts[HOSTS];
@@ -88,29 +88,29 @@ struct told {
 static struct told tell(struct host *h) {
     struct told t;
     memset(&t, 0, sizeof t);
-    t.next_tsn = sctp_sender_next_tsn(&h->sender);
-    t.acked_tsn = sctp_sender_acked_tsn(&h->sender);
-    t.point = sctp_sender_advanced_ack_point(&h->sender);
-    t.cumulative = sctp_receiver_cumulative_tsn(&h->receiver);
-    t.window = sctp_receiver_window(&h->receiver);
-    t.bytes = sctp_sender_bytes_in_flight(&h->sender);
-    t.chunks = sctp_sender_chunks_in_flight(&h->sender);
-    t.pending = sctp_sender_pending(&h->sender);
-    t.held = sctp_receiver_held_bytes(&h->receiver);
+    t.next_tsn = sctpr_sender_next_tsn(&h->sender);
+    t.acked_tsn = sctpr_sender_acked_tsn(&h->sender);
+    t.point = sctpr_sender_advanced_ack_point(&h->sender);
+    t.cumulative = sctpr_receiver_cumulative_tsn(&h->receiver);
+    t.window = sctpr_receiver_window(&h->receiver);
+    t.bytes = sctpr_sender_bytes_in_flight(&h->sender);
+    t.chunks = sctpr_sender_chunks_in_flight(&h->sender);
+    t.pending = sctpr_sender_pending(&h->sender);
+    t.held = sctpr_receiver_held_bytes(&h->receiver);
     return t;
 }
 
 static void make_host(struct host *h) {
     uint32_t tsn = any(2) ? 0u - any(40) : any(1000) * 4294967u, most = any(4) ? 5000 : any(3) * 100;
     memset(h, 0, sizeof *h);
-    while (sctp_sender_new(tsn, any(8) ? 1 + any(1200) : 1 + any(65519), most, &h->sender) != SCTP_OK) granted = -1;
-    if (any(8)) while (sctp_receiver_new(tsn, most, any(20000), any(70000), &h->receiver) != SCTP_OK) granted = -1;
-    else while (sctp_receiver_new_unlimited(tsn, most, &h->receiver) != SCTP_OK) granted = -1;
+    while (sctpr_sender_new(tsn, any(8) ? 1 + any(1200) : 1 + any(65519), most, &h->sender) != SCTPR_OK) granted = -1;
+    if (any(8)) while (sctpr_receiver_new(tsn, most, any(20000), any(70000), &h->receiver) != SCTPR_OK) granted = -1;
+    else while (sctpr_receiver_new_unlimited(tsn, most, &h->receiver) != SCTPR_OK) granted = -1;
 }
 
 static void free_host(struct host *h) {
-    sctp_sender_free(h->sender);
-    sctp_receiver_free(h->receiver);
+    sctpr_sender_free(h->sender);
+    sctpr_receiver_free(h->receiver);
 }
 
 static void keep(struct host *h, const uint8_t *bytes, size_t length) {
@@ -149,77 +149,77 @@ static uint16_t a_stream(void) { return (uint16_t)(any(8) ? any(4) : any(65536))
 
 /* A TSN at or near one that the host knows. */
 static uint32_t a_tsn(struct host *h) {
-    uint32_t near = any(2) ? sctp_sender_acked_tsn(&h->sender) : sctp_receiver_cumulative_tsn(&h->receiver);
+    uint32_t near = any(2) ? sctpr_sender_acked_tsn(&h->sender) : sctpr_receiver_cumulative_tsn(&h->receiver);
     return any(16) ? near + any(20) - 4 : near + any(2) * 0x80000000u + any(70000);
 }
 
 static size_t a_room(void) { return any(4) ? LONGEST : any(65); }
 
-/* What a call that writes a chunk left: with SCTP_OK the bytes before `written` alone, and else none; `written` stays, but with the codes
+/* What a call that writes a chunk left: with SCTPR_OK the bytes before `written` alone, and else none; `written` stays, but with the codes
  * that tell what is wanted. Each that was written is kept. */
-static void take_back_written(struct host *h, sctp_code code, uint8_t *out, size_t room, size_t written) {
-    if (code == SCTP_OK) {
+static void take_back_written(struct host *h, sctpr_code code, uint8_t *out, size_t room, size_t written) {
+    if (code == SCTPR_OK) {
         HOLDS(written % 4 == 0 && written <= room);
         keep(h, out, written);
     }
-    HOLDS(code == SCTP_OK || code == SCTP_SHORT_BUFFER || written == 7);
-    take_back(out, code == SCTP_OK ? written : 0, room);
+    HOLDS(code == SCTPR_OK || code == SCTPR_SHORT_BUFFER || written == 7);
+    take_back(out, code == SCTPR_OK ? written : 0, room);
 }
 
 /* ---- Packets --------------------------------------------------------------------------------------------------------------- */
 
-static sctp_code read_chunks(struct host *h) {
+static sctpr_code read_chunks(struct host *h) {
     size_t length, count = 7, room = any(5);
     uint8_t *bytes = lend_chunk(h, &length);
-    struct sctp_data data;
-    struct sctp_sack sack;
-    struct sctp_init init;
-    struct sctp_param param;
-    struct sctp_cause cause;
+    struct sctpr_data data;
+    struct sctpr_sack sack;
+    struct sctpr_init init;
+    struct sctpr_param param;
+    struct sctpr_cause cause;
     uint32_t tsn = 7;
-    struct sctp_gap *gaps = lend(room * sizeof *gaps);
+    struct sctpr_gap *gaps = lend(room * sizeof *gaps);
     uint32_t *repeats = lend(room * sizeof *repeats);
-    struct sctp_skip *skips = lend(room * sizeof *skips);
+    struct sctpr_skip *skips = lend(room * sizeof *skips);
     size_t gaps_written = 0, repeats_written = 0, skips_written = 0;
-    if (sctp_read_data(bytes, length, &data) == SCTP_OK) HOLDS(data.length + 16 <= length && data.begins <= 1 && data.ends <= 1);
-    if (sctp_read_sack(bytes, length, &sack, gaps, room, repeats, room) == SCTP_OK) {
+    if (sctpr_read_data(bytes, length, &data) == SCTPR_OK) HOLDS(data.length + 16 <= length && data.begins <= 1 && data.ends <= 1);
+    if (sctpr_read_sack(bytes, length, &sack, gaps, room, repeats, room) == SCTPR_OK) {
         HOLDS(16 + 4 * sack.blocks + 4 * sack.duplicates <= length);
         gaps_written = sack.blocks < room ? sack.blocks : room;
         repeats_written = sack.duplicates < room ? sack.duplicates : room;
     }
-    if (sctp_read_forward_tsn(bytes, length, &tsn, skips, room, &count) == SCTP_OK) {
+    if (sctpr_read_forward_tsn(bytes, length, &tsn, skips, room, &count) == SCTPR_OK) {
         HOLDS(8 + 4 * count <= length);
         skips_written = count < room ? count : room;
     } else HOLDS(tsn == 7 && count == 7);
-    if (sctp_read_shutdown(bytes, length, &tsn) == SCTP_OK) HOLDS(length >= 8);
-    if (sctp_read_cause(bytes, length, &cause) == SCTP_OK) HOLDS(4 + cause.length <= length && 4 <= cause.next && cause.next <= length);
-    if (sctp_read_init(bytes, length, &init) == SCTP_OK) HOLDS(20 <= length && init.is_ack <= 1);
-    if (sctp_read_param(bytes, length, &param) == SCTP_OK) HOLDS(4 + param.length <= length && 4 <= param.next && param.next <= length);
+    if (sctpr_read_shutdown(bytes, length, &tsn) == SCTPR_OK) HOLDS(length >= 8);
+    if (sctpr_read_cause(bytes, length, &cause) == SCTPR_OK) HOLDS(4 + cause.length <= length && 4 <= cause.next && cause.next <= length);
+    if (sctpr_read_init(bytes, length, &init) == SCTPR_OK) HOLDS(20 <= length && init.is_ack <= 1);
+    if (sctpr_read_param(bytes, length, &param) == SCTPR_OK) HOLDS(4 + param.length <= length && 4 <= param.next && param.next <= length);
     take_back(gaps, gaps_written * sizeof *gaps, room * sizeof *gaps);
     take_back(repeats, repeats_written * sizeof *repeats, room * sizeof *repeats);
     take_back(skips, skips_written * sizeof *skips, room * sizeof *skips);
     take_back_chunk(bytes, length);
-    return SCTP_OK;
+    return SCTPR_OK;
 }
 
-static sctp_code write_chunk(struct host *h) {
+static sctpr_code write_chunk(struct host *h) {
     size_t length, room = a_room(), written = 7;
     uint8_t *value = lend_chunk(h, &length), *out = lend(room);
-    sctp_code code;
+    sctpr_code code;
     uint8_t type = (uint8_t)(any(4) ? any(16) : any(256));
-    if (any(2)) code = sctp_write_chunk(type, value, length, out, room, &written);
-    else if (any(2)) code = sctp_write_chunk_with_flags(type, (uint8_t)any(16), value, length, out, room, &written);
-    else if (any(2)) code = sctp_write_cause((uint16_t)any(16), value, length, out, room, &written);
-    else code = sctp_write_param((uint16_t)(any(2) ? any(16) : any(65536)), value, length, out, room, &written);
-    ONE_OF(code, 1, SCTP_OK, SCTP_SHORT_BUFFER, SCTP_UNKNOWN_CHUNK, SCTP_LENGTH_TOO_LARGE);
-    if (code == SCTP_SHORT_BUFFER) HOLDS(written > room);
+    if (any(2)) code = sctpr_write_chunk(type, value, length, out, room, &written);
+    else if (any(2)) code = sctpr_write_chunk_with_flags(type, (uint8_t)any(16), value, length, out, room, &written);
+    else if (any(2)) code = sctpr_write_cause((uint16_t)any(16), value, length, out, room, &written);
+    else code = sctpr_write_param((uint16_t)(any(2) ? any(16) : any(65536)), value, length, out, room, &written);
+    ONE_OF(code, 1, SCTPR_OK, SCTPR_SHORT_BUFFER, SCTPR_UNKNOWN_CHUNK, SCTPR_LENGTH_TOO_LARGE);
+    if (code == SCTPR_SHORT_BUFFER) HOLDS(written > room);
     take_back_written(h, code, out, room, written);
     take_back_chunk(value, length);
     return code;
 }
 
-static sctp_code write_init(struct host *h) {
-    struct sctp_init init = { any(1000), any(100000), a_tsn(h), (uint16_t)any(9), (uint16_t)any(9), (uint8_t)any(3) };
+static sctpr_code write_init(struct host *h) {
+    struct sctpr_init init = { any(1000), any(100000), a_tsn(h), (uint16_t)any(9), (uint16_t)any(9), (uint8_t)any(3) };
     size_t length, room = a_room(), written = 7;
     uint8_t *params = lend_chunk(h, &length), *out = lend(room);
     if (any(2)) {
@@ -227,42 +227,42 @@ static sctp_code write_init(struct host *h) {
         params = NULL;
         length = 0;
     }
-    sctp_code code = sctp_write_init(&init, params, length, out, room, &written);
-    ONE_OF(code, 1, SCTP_OK, SCTP_SHORT_BUFFER, SCTP_LENGTH_TOO_LARGE);
+    sctpr_code code = sctpr_write_init(&init, params, length, out, room, &written);
+    ONE_OF(code, 1, SCTPR_OK, SCTPR_SHORT_BUFFER, SCTPR_LENGTH_TOO_LARGE);
     take_back_written(h, code, out, room, written);
     take_back_chunk(params, length);
     return code;
 }
 
 /* A packet of a chunk, whole or not, sealed here or under a sum. */
-static sctp_code seal_and_read(struct host *h) {
-    struct sctp_head head = { any(1000), (uint16_t)any(65536), (uint16_t)any(65536) }, got = { 7, 7, 7 };
+static sctpr_code seal_and_read(struct host *h) {
+    struct sctpr_head head = { any(1000), (uint16_t)any(65536), (uint16_t)any(65536) }, got = { 7, 7, 7 };
     size_t length, room = any(4), count = 7;
     uint8_t *chunk = lend_chunk(h, &length), *packet = lend(12 + length);
-    struct sctp_chunk *rows = lend(room * sizeof *rows);
+    struct sctpr_chunk *rows = lend(room * sizeof *rows);
     if (length > 0) memcpy(packet + 12, chunk, length);
     size_t sealed = any(8) ? 12 + length : any(13);
-    sctp_code code = any(2) ? sctp_seal_packet(&head, packet, sealed) : sctp_write_head(&head, packet, sealed);
-    HOLDS(code == (sealed < 12 ? SCTP_SHORT_BUFFER : SCTP_OK));
-    if (any(4) == 0) HOLDS(sctp_store_sum(any(1000), packet, sealed) == code);
-    if (any(2)) code = sctp_read_packet(packet, sealed, &got, rows, room, &count);
-    else code = sctp_read_packet_with_sum(packet, sealed, any(1000), &got, rows, room, &count);
-    ONE_OF(code, 1, SCTP_OK, SCTP_BAD_CHECKSUM, SCTP_UNKNOWN_CHUNK);
-    if (code == SCTP_OK) HOLDS(got.source_port == head.source_port && got.verification_tag == head.verification_tag);
+    sctpr_code code = any(2) ? sctpr_seal_packet(&head, packet, sealed) : sctpr_write_head(&head, packet, sealed);
+    HOLDS(code == (sealed < 12 ? SCTPR_SHORT_BUFFER : SCTPR_OK));
+    if (any(4) == 0) HOLDS(sctpr_store_sum(any(1000), packet, sealed) == code);
+    if (any(2)) code = sctpr_read_packet(packet, sealed, &got, rows, room, &count);
+    else code = sctpr_read_packet_with_sum(packet, sealed, any(1000), &got, rows, room, &count);
+    ONE_OF(code, 1, SCTPR_OK, SCTPR_BAD_CHECKSUM, SCTPR_UNKNOWN_CHUNK);
+    if (code == SCTPR_OK) HOLDS(got.source_port == head.source_port && got.verification_tag == head.verification_tag);
     else HOLDS(got.verification_tag == 7 && count == 7);
-    for (size_t i = 0; code == SCTP_OK && i < count && i < room; i++) HOLDS(rows[i].at + rows[i].length <= sealed && 4 <= rows[i].length);
-    take_back(rows, (code != SCTP_OK ? 0 : count < room ? count : room) * sizeof *rows, room * sizeof *rows);
+    for (size_t i = 0; code == SCTPR_OK && i < count && i < room; i++) HOLDS(rows[i].at + rows[i].length <= sealed && 4 <= rows[i].length);
+    take_back(rows, (code != SCTPR_OK ? 0 : count < room ? count : room) * sizeof *rows, room * sizeof *rows);
     take_back(packet, 12 + length, 12 + length);
     take_back_chunk(chunk, length);
     return code;
 }
 
 /* A packet of several chunks, of known and unknown types; each row that is told lies in it. */
-static sctp_code read_any(struct host *h) {
-    struct sctp_head head = { any(1000), (uint16_t)any(65536), (uint16_t)any(65536) }, got = { 7, 7, 7 };
+static sctpr_code read_any(struct host *h) {
+    struct sctpr_head head = { any(1000), (uint16_t)any(65536), (uint16_t)any(65536) }, got = { 7, 7, 7 };
     size_t length, room = any(4), count = 7, at = 12;
     uint8_t *packet = lend(12 + 3 * 160);
-    struct sctp_any_chunk *rows = lend(room * sizeof *rows);
+    struct sctpr_any_chunk *rows = lend(room * sizeof *rows);
     for (int i = 0; i < 3; i++) {
         uint8_t *chunk = lend_chunk(h, &length);
         if (length > 0 && length <= 160) memcpy(packet + at, chunk, length);
@@ -270,13 +270,13 @@ static sctp_code read_any(struct host *h) {
         at += length <= 160 ? length : 0;
         take_back_chunk(chunk, length);
     }
-    HOLDS(sctp_seal_packet(&head, packet, at) == SCTP_OK);
-    sctp_code code;
-    if (any(4)) code = sctp_read_any_packet(packet, at, &got, rows, room, &count);
-    else code = sctp_read_any_packet_with_sum(packet, at, any(1000), &got, rows, room, &count);
-    ONE_OF(code, 1, SCTP_OK, SCTP_BAD_CHECKSUM);
-    HOLDS(code == SCTP_OK ? got.source_port == head.source_port : got.verification_tag == 7 && count == 7);
-    size_t told = code != SCTP_OK ? 0 : count < room ? count : room;
+    HOLDS(sctpr_seal_packet(&head, packet, at) == SCTPR_OK);
+    sctpr_code code;
+    if (any(4)) code = sctpr_read_any_packet(packet, at, &got, rows, room, &count);
+    else code = sctpr_read_any_packet_with_sum(packet, at, any(1000), &got, rows, room, &count);
+    ONE_OF(code, 1, SCTPR_OK, SCTPR_BAD_CHECKSUM);
+    HOLDS(code == SCTPR_OK ? got.source_port == head.source_port : got.verification_tag == 7 && count == 7);
+    size_t told = code != SCTPR_OK ? 0 : count < room ? count : room;
     for (size_t i = 0; i < told; i++)
         HOLDS(rows[i].at + rows[i].length <= at && 4 <= rows[i].length && rows[i].is_known + rows[i].is_reported <= 1);
     take_back(rows, told * sizeof *rows, room * sizeof *rows);
@@ -284,265 +284,265 @@ static sctp_code read_any(struct host *h) {
     return code;
 }
 
-static sctp_code code_name(struct host *h) {
-    size_t room = any(SCTP_NAME_ROOM + 1), written = 7;
+static sctpr_code code_name(struct host *h) {
+    size_t room = any(SCTPR_NAME_ROOM + 1), written = 7;
     uint8_t *out = lend(room);
-    sctp_code code = sctp_code_name(any(4) ? any(100) : any(UINT32_MAX), out, room, &written);
+    sctpr_code code = sctpr_code_name(any(4) ? any(100) : any(UINT32_MAX), out, room, &written);
     (void)h;
-    ONE_OF(code, 0, SCTP_OK, SCTP_SHORT_BUFFER);
-    HOLDS(written <= SCTP_NAME_ROOM && (code == SCTP_OK) == (written <= room));
-    take_back(out, code == SCTP_OK ? written : 0, room);
+    ONE_OF(code, 0, SCTPR_OK, SCTPR_SHORT_BUFFER);
+    HOLDS(written <= SCTPR_NAME_ROOM && (code == SCTPR_OK) == (written <= room));
+    take_back(out, code == SCTPR_OK ? written : 0, room);
     return code;
 }
 
 /* ---- Receiver -------------------------------------------------------------------------------------------------------------- */
 
-static sctp_code receiver_open(struct host *h) {
-    sctp_code code = sctp_receiver_open(&h->receiver, a_stream());
-    ONE_OF(code, 0, SCTP_OK, SCTP_STREAM_OPEN, SCTP_NO_MEMORY);
+static sctpr_code receiver_open(struct host *h) {
+    sctpr_code code = sctpr_receiver_open(&h->receiver, a_stream());
+    ONE_OF(code, 0, SCTPR_OK, SCTPR_STREAM_OPEN, SCTPR_NO_MEMORY);
     return code;
 }
 
-static sctp_code receiver_close(struct host *h) {
-    if (any(8) == 0) sctp_receiver_close(&h->receiver, a_stream());
-    return SCTP_OK;
+static sctpr_code receiver_close(struct host *h) {
+    if (any(8) == 0) sctpr_receiver_close(&h->receiver, a_stream());
+    return SCTPR_OK;
 }
 
-static sctp_code receiver_reset(struct host *h) {
-    sctp_code code = sctp_receiver_reset(&h->receiver, a_stream(), a_tsn(h));
-    ONE_OF(code, 0, SCTP_OK, SCTP_STREAM_UNKNOWN, SCTP_RESET_IN_PROGRESS, SCTP_NO_MEMORY);
+static sctpr_code receiver_reset(struct host *h) {
+    sctpr_code code = sctpr_receiver_reset(&h->receiver, a_stream(), a_tsn(h));
+    ONE_OF(code, 0, SCTPR_OK, SCTPR_STREAM_UNKNOWN, SCTPR_RESET_IN_PROGRESS, SCTPR_NO_MEMORY);
     return code;
 }
 
-static sctp_code receiver_data(struct host *h) {
+static sctpr_code receiver_data(struct host *h) {
     size_t length;
     uint8_t *chunk = lend_chunk(h, &length), complete = 7;
-    sctp_code code = sctp_receiver_data(&h->receiver, chunk, length, &complete);
-    ONE_OF(code, 1, SCTP_OK, SCTP_REPEAT, SCTP_SSN_TOO_FAR, SCTP_TSN_OPPOSITE, SCTP_TSN_TOO_FAR, SCTP_WINDOW_FULL, SCTP_STREAM_UNKNOWN,
-           SCTP_MESSAGE_TOO_LARGE);
-    HOLDS(code == SCTP_OK ? complete <= 1 : complete == 7);
+    sctpr_code code = sctpr_receiver_data(&h->receiver, chunk, length, &complete);
+    ONE_OF(code, 1, SCTPR_OK, SCTPR_REPEAT, SCTPR_SSN_TOO_FAR, SCTPR_TSN_OPPOSITE, SCTPR_TSN_TOO_FAR, SCTPR_WINDOW_FULL, SCTPR_STREAM_UNKNOWN,
+           SCTPR_MESSAGE_TOO_LARGE);
+    HOLDS(code == SCTPR_OK ? complete <= 1 : complete == 7);
     take_back_chunk(chunk, length);
     return code;
 }
 
-static sctp_code receiver_discard(struct host *h) {
-    sctp_code code = sctp_receiver_discard(&h->receiver, a_tsn(h));
-    ONE_OF(code, 0, SCTP_OK, SCTP_REPEAT, SCTP_TSN_OPPOSITE, SCTP_TSN_TOO_FAR, SCTP_WINDOW_FULL, SCTP_NO_MEMORY);
+static sctpr_code receiver_discard(struct host *h) {
+    sctpr_code code = sctpr_receiver_discard(&h->receiver, a_tsn(h));
+    ONE_OF(code, 0, SCTPR_OK, SCTPR_REPEAT, SCTPR_TSN_OPPOSITE, SCTPR_TSN_TOO_FAR, SCTPR_WINDOW_FULL, SCTPR_NO_MEMORY);
     return code;
 }
 
-static sctp_code receiver_forward_tsn(struct host *h) {
+static sctpr_code receiver_forward_tsn(struct host *h) {
     size_t length;
     uint8_t *chunk = lend_chunk(h, &length);
-    sctp_code code;
-    if (any(2)) code = sctp_receiver_forward_tsn(&h->receiver, chunk, length);
-    else code = sctp_receiver_forward_tsn_past_closed(&h->receiver, chunk, length);
-    ONE_OF(code, 1, SCTP_OK, SCTP_STALE, SCTP_NAMED_STREAM_UNKNOWN, SCTP_NAMED_SSN_TOO_FAR, SCTP_TSN_OPPOSITE);
+    sctpr_code code;
+    if (any(2)) code = sctpr_receiver_forward_tsn(&h->receiver, chunk, length);
+    else code = sctpr_receiver_forward_tsn_past_closed(&h->receiver, chunk, length);
+    ONE_OF(code, 1, SCTPR_OK, SCTPR_STALE, SCTPR_NAMED_STREAM_UNKNOWN, SCTPR_NAMED_SSN_TOO_FAR, SCTPR_TSN_OPPOSITE);
     take_back_chunk(chunk, length);
     return code;
 }
 
-static sctp_code receiver_read(struct host *h) {
+static sctpr_code receiver_read(struct host *h) {
     uint16_t stream = a_stream();
     size_t next = 7, size = 7, room = any(4) ? 6000 : any(65);
     uint32_t next_type = 7, type = 7;
     uint8_t *out = lend(room);
-    sctp_code told = sctp_receiver_next_length(&h->receiver, stream, &next, &next_type);
-    sctp_code code = sctp_receiver_read(&h->receiver, stream, out, room, &size, &type);
-    ONE_OF(told, 0, SCTP_OK, SCTP_NOTHING, SCTP_STREAM_UNKNOWN);
-    HOLDS(code == (told == SCTP_OK && next > room ? SCTP_SHORT_BUFFER : told) && size == next && type == next_type);
-    HOLDS(told == SCTP_OK || next == 7);
-    take_back(out, code == SCTP_OK ? size : 0, room);
-    return code == SCTP_OK || code == SCTP_NOTHING ? SCTP_OK : code;
+    sctpr_code told = sctpr_receiver_next_length(&h->receiver, stream, &next, &next_type);
+    sctpr_code code = sctpr_receiver_read(&h->receiver, stream, out, room, &size, &type);
+    ONE_OF(told, 0, SCTPR_OK, SCTPR_NOTHING, SCTPR_STREAM_UNKNOWN);
+    HOLDS(code == (told == SCTPR_OK && next > room ? SCTPR_SHORT_BUFFER : told) && size == next && type == next_type);
+    HOLDS(told == SCTPR_OK || next == 7);
+    take_back(out, code == SCTPR_OK ? size : 0, room);
+    return code == SCTPR_OK || code == SCTPR_NOTHING ? SCTPR_OK : code;
 }
 
-static sctp_code receiver_readable(struct host *h) {
+static sctpr_code receiver_readable(struct host *h) {
     size_t room = any(5), count = 7;
     uint16_t *streams = lend(room * sizeof *streams);
-    sctp_code code = sctp_receiver_readable_streams(&h->receiver, streams, room, &count);
-    ONE_OF(code, 0, SCTP_OK, SCTP_SHORT_BUFFER, SCTP_NO_MEMORY);
-    HOLDS(code == SCTP_OK ? count <= room : code == SCTP_SHORT_BUFFER ? count > room : count == 7);
-    take_back(streams, code == SCTP_OK ? count * sizeof *streams : 0, room * sizeof *streams);
+    sctpr_code code = sctpr_receiver_readable_streams(&h->receiver, streams, room, &count);
+    ONE_OF(code, 0, SCTPR_OK, SCTPR_SHORT_BUFFER, SCTPR_NO_MEMORY);
+    HOLDS(code == SCTPR_OK ? count <= room : code == SCTPR_SHORT_BUFFER ? count > room : count == 7);
+    take_back(streams, code == SCTPR_OK ? count * sizeof *streams : 0, room * sizeof *streams);
     return code;
 }
 
-static sctp_code receiver_sack(struct host *h) {
+static sctpr_code receiver_sack(struct host *h) {
     size_t room = a_room(), written = 7;
     uint8_t *out = lend(room);
-    sctp_code code = sctp_receiver_sack(&h->receiver, out, room, &written);
-    ONE_OF(code, 0, SCTP_OK, SCTP_SHORT_BUFFER, SCTP_NO_MEMORY);
-    HOLDS(code == SCTP_OK ? written >= 16 : written == 7);
+    sctpr_code code = sctpr_receiver_sack(&h->receiver, out, room, &written);
+    ONE_OF(code, 0, SCTPR_OK, SCTPR_SHORT_BUFFER, SCTPR_NO_MEMORY);
+    HOLDS(code == SCTPR_OK ? written >= 16 : written == 7);
     take_back_written(h, code, out, room, written);
     return code;
 }
 
 /* ---- Sender ---------------------------------------------------------------------------------------------------------------- */
 
-static sctp_code sender_open(struct host *h) {
-    sctp_code code = sctp_sender_open(&h->sender, a_stream());
-    ONE_OF(code, 0, SCTP_OK, SCTP_STREAM_OPEN, SCTP_NO_MEMORY);
+static sctpr_code sender_open(struct host *h) {
+    sctpr_code code = sctpr_sender_open(&h->sender, a_stream());
+    ONE_OF(code, 0, SCTPR_OK, SCTPR_STREAM_OPEN, SCTPR_NO_MEMORY);
     return code;
 }
 
-static sctp_code sender_close(struct host *h) {
+static sctpr_code sender_close(struct host *h) {
     uint16_t stream = a_stream();
-    if (any(8) == 0 && sctp_sender_is_drained(&h->sender, stream)) sctp_sender_close(&h->sender, stream);
-    return SCTP_OK;
+    if (any(8) == 0 && sctpr_sender_is_drained(&h->sender, stream)) sctpr_sender_close(&h->sender, stream);
+    return SCTPR_OK;
 }
 
-static sctp_code sender_set(struct host *h) {
-    sctp_code code;
+static sctpr_code sender_set(struct host *h) {
+    sctpr_code code;
     switch (any(5)) {
-    case 0: code = sctp_sender_set_fragment_size(&h->sender, any(8) ? any(1200) : any(70000)); break;
-    case 1: code = sctp_sender_set_low_threshold(&h->sender, a_stream(), any(2000)); break;
-    case 2: code = sctp_sender_reset(&h->sender, a_stream()); break;
-    default: code = sctp_sender_set_mode(&h->sender, a_stream(), (uint8_t)any(3), any(4), any(40)); break;
+    case 0: code = sctpr_sender_set_fragment_size(&h->sender, any(8) ? any(1200) : any(70000)); break;
+    case 1: code = sctpr_sender_set_low_threshold(&h->sender, a_stream(), any(2000)); break;
+    case 2: code = sctpr_sender_reset(&h->sender, a_stream()); break;
+    default: code = sctpr_sender_set_mode(&h->sender, a_stream(), (uint8_t)any(3), any(4), any(40)); break;
     }
-    ONE_OF(code, 0, SCTP_OK, SCTP_INVALID, SCTP_STREAM_UNKNOWN, SCTP_STREAM_BUSY);
+    ONE_OF(code, 0, SCTPR_OK, SCTPR_INVALID, SCTPR_STREAM_UNKNOWN, SCTPR_STREAM_BUSY);
     return code;
 }
 
-static sctp_code sender_write(struct host *h) {
+static sctpr_code sender_write(struct host *h) {
     size_t length = any(4) ? any(300) : any(6000), fragments = 7;
     uint64_t number = 7;
-    if (sctp_sender_pending(&h->sender) > 4000) return SCTP_OK;
+    if (sctpr_sender_pending(&h->sender) > 4000) return SCTPR_OK;
     uint8_t *message = lend(length);
-    sctp_code code = sctp_sender_write(&h->sender, a_stream(), any(2) ? 50 + any(9) : any(1000), message, length, &number, &fragments);
-    ONE_OF(code, 0, SCTP_OK, SCTP_NOTHING, SCTP_STREAM_UNKNOWN, SCTP_MESSAGE_TOO_LARGE, SCTP_QUEUE_FULL, SCTP_NO_MEMORY);
-    HOLDS(code == SCTP_OK ? fragments >= 1 : number == 7 && fragments == 7);
+    sctpr_code code = sctpr_sender_write(&h->sender, a_stream(), any(2) ? 50 + any(9) : any(1000), message, length, &number, &fragments);
+    ONE_OF(code, 0, SCTPR_OK, SCTPR_NOTHING, SCTPR_STREAM_UNKNOWN, SCTPR_MESSAGE_TOO_LARGE, SCTPR_QUEUE_FULL, SCTPR_NO_MEMORY);
+    HOLDS(code == SCTPR_OK ? fragments >= 1 : number == 7 && fragments == 7);
     take_back(message, 0, length);
     return code;
 }
 
-static sctp_code sender_send(struct host *h) {
+static sctpr_code sender_send(struct host *h) {
     size_t room = a_room(), written = 7;
-    uint32_t tsn = 7, next = sctp_sender_next_tsn(&h->sender);
+    uint32_t tsn = 7, next = sctpr_sender_next_tsn(&h->sender);
     uint8_t *out = lend(room);
-    sctp_code code = sctp_sender_send_next(&h->sender, now, out, room, &written, &tsn);
-    ONE_OF(code, 0, SCTP_OK, SCTP_NOTHING, SCTP_SHORT_BUFFER, SCTP_TSNS_USED_UP, SCTP_SSNS_USED_UP, SCTP_NO_MEMORY);
-    HOLDS(code == SCTP_OK ? tsn == next : tsn == 7);
+    sctpr_code code = sctpr_sender_send_next(&h->sender, now, out, room, &written, &tsn);
+    ONE_OF(code, 0, SCTPR_OK, SCTPR_NOTHING, SCTPR_SHORT_BUFFER, SCTPR_TSNS_USED_UP, SCTPR_SSNS_USED_UP, SCTPR_NO_MEMORY);
+    HOLDS(code == SCTPR_OK ? tsn == next : tsn == 7);
     take_back_written(h, code, out, room, written);
     return code;
 }
 
-static sctp_code sender_resend(struct host *h) {
+static sctpr_code sender_resend(struct host *h) {
     size_t room = a_room(), written = 7;
-    struct sctp_in_flight row;
+    struct sctpr_in_flight row;
     uint32_t tsn = a_tsn(h);
-    if (any(2) && sctp_sender_next_to_retransmit(&h->sender, &row) == SCTP_OK) tsn = row.tsn;
+    if (any(2) && sctpr_sender_next_to_retransmit(&h->sender, &row) == SCTPR_OK) tsn = row.tsn;
     uint8_t *out = lend(room);
-    sctp_code code = sctp_sender_resend(&h->sender, tsn, now, out, room, &written);
-    ONE_OF(code, 0, SCTP_OK, SCTP_SHORT_BUFFER, SCTP_NOT_IN_FLIGHT, SCTP_NO_MEMORY);
+    sctpr_code code = sctpr_sender_resend(&h->sender, tsn, now, out, room, &written);
+    ONE_OF(code, 0, SCTPR_OK, SCTPR_SHORT_BUFFER, SCTPR_NOT_IN_FLIGHT, SCTPR_NO_MEMORY);
     take_back_written(h, code, out, room, written);
     return code;
 }
 
-static sctp_code sender_mark(struct host *h) {
-    size_t chunks = sctp_sender_chunks_in_flight(&h->sender);
-    if (any(4) == 0) sctp_sender_retransmit_all(&h->sender);
-    else HOLDS(sctp_sender_add_miss_indications(&h->sender, a_tsn(h)) <= chunks);
-    sctp_sender_start(&h->sender, now);
-    return SCTP_OK;
+static sctpr_code sender_mark(struct host *h) {
+    size_t chunks = sctpr_sender_chunks_in_flight(&h->sender);
+    if (any(4) == 0) sctpr_sender_retransmit_all(&h->sender);
+    else HOLDS(sctpr_sender_add_miss_indications(&h->sender, a_tsn(h)) <= chunks);
+    sctpr_sender_start(&h->sender, now);
+    return SCTPR_OK;
 }
 
-static sctp_code sender_in_flight(struct host *h) {
-    struct sctp_in_flight row;
+static sctpr_code sender_in_flight(struct host *h) {
+    struct sctpr_in_flight row;
     uint32_t tsn = a_tsn(h), earliest = 7;
     size_t place = any(40), amount;
-    sctp_code code = sctp_sender_in_flight(&h->sender, tsn, &row);
-    ONE_OF(code, 0, SCTP_OK, SCTP_NOT_IN_FLIGHT);
-    if (code == SCTP_OK) HOLDS(row.tsn == tsn);
-    code = sctp_sender_in_flight_at(&h->sender, place, &row);
-    HOLDS(code == (place < sctp_sender_chunks_in_flight(&h->sender) ? SCTP_OK : SCTP_NOTHING));
-    if (code == SCTP_OK) HOLDS(row.tsn == sctp_sender_acked_tsn(&h->sender) + 1 + (uint32_t)place);
-    code = sctp_sender_earliest_outstanding(&h->sender, &earliest);
-    ONE_OF(code, 0, SCTP_OK, SCTP_NOTHING);
-    if (code == SCTP_OK) HOLDS(sctp_sender_in_flight(&h->sender, earliest, &row) == SCTP_OK && !row.is_acked && !row.is_abandoned);
-    ONE_OF(sctp_sender_buffered_amount(&h->sender, a_stream(), &amount), 0, SCTP_OK, SCTP_STREAM_UNKNOWN);
-    return SCTP_OK;
+    sctpr_code code = sctpr_sender_in_flight(&h->sender, tsn, &row);
+    ONE_OF(code, 0, SCTPR_OK, SCTPR_NOT_IN_FLIGHT);
+    if (code == SCTPR_OK) HOLDS(row.tsn == tsn);
+    code = sctpr_sender_in_flight_at(&h->sender, place, &row);
+    HOLDS(code == (place < sctpr_sender_chunks_in_flight(&h->sender) ? SCTPR_OK : SCTPR_NOTHING));
+    if (code == SCTPR_OK) HOLDS(row.tsn == sctpr_sender_acked_tsn(&h->sender) + 1 + (uint32_t)place);
+    code = sctpr_sender_earliest_outstanding(&h->sender, &earliest);
+    ONE_OF(code, 0, SCTPR_OK, SCTPR_NOTHING);
+    if (code == SCTPR_OK) HOLDS(sctpr_sender_in_flight(&h->sender, earliest, &row) == SCTPR_OK && !row.is_acked && !row.is_abandoned);
+    ONE_OF(sctpr_sender_buffered_amount(&h->sender, a_stream(), &amount), 0, SCTPR_OK, SCTPR_STREAM_UNKNOWN);
+    return SCTPR_OK;
 }
 
 /* Rows for what is in flight, one fewer, or one more. */
 static size_t row_room(struct host *h) {
-    size_t room = sctp_sender_chunks_in_flight(&h->sender) + any(3);
+    size_t room = sctpr_sender_chunks_in_flight(&h->sender) + any(3);
     return room == 0 ? 0 : room - 1;
 }
 
-static sctp_code sender_acked(struct host *h) {
-    size_t length, room = row_room(h), count = 7, chunks = sctp_sender_chunks_in_flight(&h->sender);
+static sctpr_code sender_acked(struct host *h) {
+    size_t length, room = row_room(h), count = 7, chunks = sctpr_sender_chunks_in_flight(&h->sender);
     uint8_t *chunk = lend_chunk(h, &length);
-    struct sctp_acked *rows = lend(room * sizeof *rows);
-    sctp_code code;
-    if (any(8)) code = sctp_sender_acked(&h->sender, chunk, length, rows, room, &count);
-    else code = sctp_sender_acked_up_to(&h->sender, a_tsn(h), rows, room, &count);
-    ONE_OF(code, 1, SCTP_OK, SCTP_STALE, SCTP_SHORT_BUFFER, SCTP_SACK_BEYOND_SENT, SCTP_SACK_BAD_GAP);
-    HOLDS(count == (code == SCTP_STALE ? 0 : code == SCTP_SHORT_BUFFER ? chunks : code == SCTP_OK && count <= chunks ? count : 7));
-    take_back(rows, code == SCTP_OK ? count * sizeof *rows : 0, room * sizeof *rows);
+    struct sctpr_acked *rows = lend(room * sizeof *rows);
+    sctpr_code code;
+    if (any(8)) code = sctpr_sender_acked(&h->sender, chunk, length, rows, room, &count);
+    else code = sctpr_sender_acked_up_to(&h->sender, a_tsn(h), rows, room, &count);
+    ONE_OF(code, 1, SCTPR_OK, SCTPR_STALE, SCTPR_SHORT_BUFFER, SCTPR_SACK_BEYOND_SENT, SCTPR_SACK_BAD_GAP);
+    HOLDS(count == (code == SCTPR_STALE ? 0 : code == SCTPR_SHORT_BUFFER ? chunks : code == SCTPR_OK && count <= chunks ? count : 7));
+    take_back(rows, code == SCTPR_OK ? count * sizeof *rows : 0, room * sizeof *rows);
     take_back_chunk(chunk, length);
     return code;
 }
 
-static sctp_code sender_take_back(struct host *h) {
-    size_t length, room = row_room(h), count = 7, chunks = sctp_sender_chunks_in_flight(&h->sender);
+static sctpr_code sender_take_back(struct host *h) {
+    size_t length, room = row_room(h), count = 7, chunks = sctpr_sender_chunks_in_flight(&h->sender);
     uint8_t *chunk = lend_chunk(h, &length);
-    struct sctp_taken_back *rows = lend(room * sizeof *rows);
-    sctp_code code = sctp_sender_take_back(&h->sender, chunk, length, rows, room, &count);
-    ONE_OF(code, 1, SCTP_OK, SCTP_STALE, SCTP_SHORT_BUFFER, SCTP_SACK_BEYOND_SENT, SCTP_SACK_BAD_GAP, SCTP_QUEUE_FULL);
-    HOLDS(count == (code == SCTP_STALE ? 0 : code == SCTP_SHORT_BUFFER ? chunks : code == SCTP_OK && count <= chunks ? count : 7));
-    take_back(rows, code == SCTP_OK ? count * sizeof *rows : 0, room * sizeof *rows);
+    struct sctpr_taken_back *rows = lend(room * sizeof *rows);
+    sctpr_code code = sctpr_sender_take_back(&h->sender, chunk, length, rows, room, &count);
+    ONE_OF(code, 1, SCTPR_OK, SCTPR_STALE, SCTPR_SHORT_BUFFER, SCTPR_SACK_BEYOND_SENT, SCTPR_SACK_BAD_GAP, SCTPR_QUEUE_FULL);
+    HOLDS(count == (code == SCTPR_STALE ? 0 : code == SCTPR_SHORT_BUFFER ? chunks : code == SCTPR_OK && count <= chunks ? count : 7));
+    take_back(rows, code == SCTPR_OK ? count * sizeof *rows : 0, room * sizeof *rows);
     take_back_chunk(chunk, length);
     return code;
 }
 
-static sctp_code sender_keep_reported(struct host *h) {
-    sctp_code code = sctp_sender_keep_reported(&h->sender);
-    HOLDS(code == (sctp_sender_chunks_in_flight(&h->sender) ? SCTP_CHUNKS_IN_FLIGHT : SCTP_OK));
+static sctpr_code sender_keep_reported(struct host *h) {
+    sctpr_code code = sctpr_sender_keep_reported(&h->sender);
+    HOLDS(code == (sctpr_sender_chunks_in_flight(&h->sender) ? SCTPR_CHUNKS_IN_FLIGHT : SCTPR_OK));
     return code;
 }
 
-static sctp_code sender_abandon(struct host *h) {
-    struct sctp_abandoned *row = lend(sizeof *row);
-    struct sctp_expired *gone = lend(sizeof *gone);
-    sctp_code first = sctp_sender_expire(&h->sender, now, gone), code;
-    ONE_OF(first, 0, SCTP_OK, SCTP_NOTHING);
+static sctpr_code sender_abandon(struct host *h) {
+    struct sctpr_abandoned *row = lend(sizeof *row);
+    struct sctpr_expired *gone = lend(sizeof *gone);
+    sctpr_code first = sctpr_sender_expire(&h->sender, now, gone), code;
+    ONE_OF(first, 0, SCTPR_OK, SCTPR_NOTHING);
     if (any(2)) {
-        code = sctp_sender_expire_tail(&h->sender, now, row);
-        ONE_OF(code, 0, SCTP_OK, SCTP_NOTHING, SCTP_TSNS_USED_UP, SCTP_NO_MEMORY);
+        code = sctpr_sender_expire_tail(&h->sender, now, row);
+        ONE_OF(code, 0, SCTPR_OK, SCTPR_NOTHING, SCTPR_TSNS_USED_UP, SCTPR_NO_MEMORY);
     } else {
-        code = sctp_sender_abandon(&h->sender, a_tsn(h), row);
-        ONE_OF(code, 0, SCTP_OK, SCTP_NOT_IN_FLIGHT, SCTP_TSNS_USED_UP, SCTP_NO_MEMORY);
+        code = sctpr_sender_abandon(&h->sender, a_tsn(h), row);
+        ONE_OF(code, 0, SCTPR_OK, SCTPR_NOT_IN_FLIGHT, SCTPR_TSNS_USED_UP, SCTPR_NO_MEMORY);
     }
-    take_back(row, code == SCTP_OK ? sizeof *row : 0, sizeof *row);
-    take_back(gone, first == SCTP_OK ? sizeof *gone : 0, sizeof *gone);
-    return first == SCTP_OK ? SCTP_OK : code;
+    take_back(row, code == SCTPR_OK ? sizeof *row : 0, sizeof *row);
+    take_back(gone, first == SCTPR_OK ? sizeof *gone : 0, sizeof *gone);
+    return first == SCTPR_OK ? SCTPR_OK : code;
 }
 
-static sctp_code sender_expire(struct host *h) {
-    size_t chunks = sctp_sender_chunks_in_flight(&h->sender), room = chunks + any(3), count = 7;
-    struct sctp_abandoned *rows = lend(room * sizeof *rows);
-    sctp_code code;
-    if (any(2)) code = sctp_sender_expire_late(&h->sender, now, rows, room, &count);
-    else code = sctp_sender_expire_rexmit(&h->sender, rows, room, &count);
-    ONE_OF(code, 0, SCTP_OK, SCTP_SHORT_BUFFER, SCTP_TSNS_USED_UP, SCTP_NO_MEMORY);
-    HOLDS(code == SCTP_OK ? count <= chunks : code == SCTP_SHORT_BUFFER ? count == chunks : count == 7);
-    take_back(rows, code == SCTP_OK ? count * sizeof *rows : 0, room * sizeof *rows);
+static sctpr_code sender_expire(struct host *h) {
+    size_t chunks = sctpr_sender_chunks_in_flight(&h->sender), room = chunks + any(3), count = 7;
+    struct sctpr_abandoned *rows = lend(room * sizeof *rows);
+    sctpr_code code;
+    if (any(2)) code = sctpr_sender_expire_late(&h->sender, now, rows, room, &count);
+    else code = sctpr_sender_expire_rexmit(&h->sender, rows, room, &count);
+    ONE_OF(code, 0, SCTPR_OK, SCTPR_SHORT_BUFFER, SCTPR_TSNS_USED_UP, SCTPR_NO_MEMORY);
+    HOLDS(code == SCTPR_OK ? count <= chunks : code == SCTPR_SHORT_BUFFER ? count == chunks : count == 7);
+    take_back(rows, code == SCTPR_OK ? count * sizeof *rows : 0, room * sizeof *rows);
     return code;
 }
 
-static sctp_code sender_forward_tsn(struct host *h) {
+static sctpr_code sender_forward_tsn(struct host *h) {
     size_t room = a_room(), written = 7;
     uint8_t *out = lend(room);
-    sctp_code code;
-    if (any(2)) code = sctp_sender_forward_tsn(&h->sender, out, room, &written);
-    else code = sctp_sender_forward_tsn_to(&h->sender, a_tsn(h), out, room, &written);
-    ONE_OF(code, 0, SCTP_OK, SCTP_NOTHING, SCTP_SHORT_BUFFER, SCTP_LENGTH_TOO_LARGE, SCTP_NO_MEMORY);
+    sctpr_code code;
+    if (any(2)) code = sctpr_sender_forward_tsn(&h->sender, out, room, &written);
+    else code = sctpr_sender_forward_tsn_to(&h->sender, a_tsn(h), out, room, &written);
+    ONE_OF(code, 0, SCTPR_OK, SCTPR_NOTHING, SCTPR_SHORT_BUFFER, SCTPR_LENGTH_TOO_LARGE, SCTPR_NO_MEMORY);
     take_back_written(h, code, out, room, written);
     return code;
 }
 
 /* ---- The run --------------------------------------------------------------------------------------------------------------- */
 
-static sctp_code (*const calls[])(struct host *) = {
+static sctpr_code (*const calls[])(struct host *) = {
     read_chunks, write_chunk, write_init, seal_and_read, read_any, code_name, receiver_open, receiver_close, receiver_reset, receiver_data,
     receiver_data, receiver_data, receiver_discard, receiver_forward_tsn, receiver_read, receiver_readable, receiver_sack, receiver_sack,
     sender_open, sender_close, sender_set, sender_write, sender_write, sender_send, sender_send, sender_send, sender_resend, sender_mark,
@@ -556,13 +556,13 @@ static void one_call(struct host *h) {
     uint32_t which = any(CALLS);
     struct told before = tell(h);
     granted = any(8) ? -1 : (long)any(6);
-    sctp_code code = calls[which](h);
+    sctpr_code code = calls[which](h);
     granted = -1;
     now += any(20000000);
-    HOLDS(code <= SCTP_NOTHING || SCTP_NO_MEMORY <= code);
-    done[which] += code == SCTP_OK;
+    HOLDS(code <= SCTPR_NOTHING || SCTPR_NO_MEMORY <= code);
+    done[which] += code == SCTPR_OK;
     struct told after = tell(h);
-    if (code >= SCTP_NO_MEMORY || code == SCTP_NOTHING || code == SCTP_STALE) HOLDS(memcmp(&before, &after, sizeof before) == 0);
+    if (code >= SCTPR_NO_MEMORY || code == SCTPR_NOTHING || code == SCTPR_STALE) HOLDS(memcmp(&before, &after, sizeof before) == 0);
 }
 
 int main(int argc, char **argv) {

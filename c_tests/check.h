@@ -2,7 +2,7 @@
 #ifndef CHECK_H
 #define CHECK_H
 
-#include "sctp.h"
+#include "sctpr.h"
 #include <stdio.h>
 #include <string.h>
 
@@ -27,13 +27,13 @@ static unsigned passed, failed;
  * `unchanged` has to hold. No block is held after it. */
 #define REFUSE_EACH(call, wanted, unchanged) \
     do { \
-        sctp_code code; \
+        sctpr_code code; \
         long times = 0; \
         for (;; times++) { \
             granted = times; \
             code = (call); \
             granted = -1; \
-            if (code != SCTP_NO_MEMORY) break; \
+            if (code != SCTPR_NO_MEMORY) break; \
             CHECK(unchanged); \
             CHECK(held == 0); \
         } \
@@ -46,13 +46,13 @@ static unsigned passed, failed;
  * hold whenever it is. Blocks may be held. */
 #define TRY(call, wanted, unchanged) \
     do { \
-        sctp_code code; \
+        sctpr_code code; \
         long times = 0; \
         for (;; times++) { \
             granted = times; \
             code = (call); \
             granted = -1; \
-            if (code != SCTP_NO_MEMORY) break; \
+            if (code != SCTPR_NO_MEMORY) break; \
             CHECK(unchanged); \
         } \
         CHECK(code == (wanted)); \

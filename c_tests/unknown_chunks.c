@@ -2,14 +2,14 @@
 #include "check.h"
 
 static uint8_t packet[128];
-static const struct sctp_head head = { 1, 5000, 5001 };
-static struct sctp_head got;
-static struct sctp_any_chunk rows[8];
+static const struct sctpr_head head = { 1, 5000, 5001 };
+static struct sctpr_head got;
+static struct sctpr_any_chunk rows[8];
 
 /* Seals a packet of these chunks, and answers its length. */
 static size_t seal(const char *chunks, size_t length) {
     memcpy(packet + 12, chunks, length);
-    CHECK(sctp_seal_packet(&head, packet, 12 + length) == SCTP_OK);
+    CHECK(sctpr_seal_packet(&head, packet, 12 + length) == SCTPR_OK);
     memset(rows, 7, sizeof rows);
     return 12 + length;
 }
@@ -20,13 +20,13 @@ static size_t seal(const char *chunks, size_t length) {
 static void one(uint8_t type, size_t wanted, uint8_t is_reported) {
     size_t count = 9, length = SEAL("\x0b\0\0\4" "?\5\0\x07" "abc\0" "\x0b\0\0\4");
     packet[16] = type;
-    CHECK(sctp_seal_packet(&head, packet, length) == SCTP_OK);
-    CHECK(sctp_read_any_packet(packet, length, &got, rows, 8, &count) == SCTP_OK && count == wanted);
+    CHECK(sctpr_seal_packet(&head, packet, length) == SCTPR_OK);
+    CHECK(sctpr_read_any_packet(packet, length, &got, rows, 8, &count) == SCTPR_OK && count == wanted);
     CHECK(got.source_port == 5000 && got.destination_port == 5001 && got.verification_tag == 1);
-    CHECK(rows[0].at == 12 && rows[0].type == SCTP_COOKIE_ACK && rows[0].is_known == 1 && rows[0].is_reported == 0);
+    CHECK(rows[0].at == 12 && rows[0].type == SCTPR_COOKIE_ACK && rows[0].is_known == 1 && rows[0].is_reported == 0);
     CHECK(rows[1].at == 16 && rows[1].length == 7 && rows[1].type == type && rows[1].flags == 5);
     CHECK(rows[1].is_known == 0 && rows[1].is_reported == is_reported);
-    if (wanted == 3) CHECK(rows[2].at == 24 && rows[2].type == SCTP_COOKIE_ACK && rows[2].is_known == 1);
+    if (wanted == 3) CHECK(rows[2].at == 24 && rows[2].type == SCTPR_COOKIE_ACK && rows[2].is_known == 1);
     CHECK(rows[wanted].type == 7);
 }
 
@@ -49,43 +49,43 @@ static void in_the_field(void) {
 /* What follows a chunk that stops the reading is not looked at, and so refuses nothing; a chunk before it does. */
 static void stopped(void) {
     size_t count = 9, length = SEAL("\x40\0\0\4" "\x0b\0\0\2" "!");
-    CHECK(sctp_read_any_packet(packet, length, &got, rows, 8, &count) == SCTP_OK && count == 1 && rows[0].type == 64);
+    CHECK(sctpr_read_any_packet(packet, length, &got, rows, 8, &count) == SCTPR_OK && count == 1 && rows[0].type == 64);
     length = SEAL("\x0b\0\0\2" "\x40\0\0\4");
     count = 9;
-    CHECK(sctp_read_any_packet(packet, length, &got, rows, 8, &count) == SCTP_ERR_CHUNK_HEADER_INVALID_LENGTH && count == 9);
+    CHECK(sctpr_read_any_packet(packet, length, &got, rows, 8, &count) == SCTPR_ERR_CHUNK_HEADER_INVALID_LENGTH && count == 9);
     CHECK(rows[0].type == 7);
 }
 
 static void refused(void) {
     size_t count = 9, length = SEAL("\x84\0\0\x08" "abcd" "\x07\0\0\5" "a\0\0\0");
     got.source_port = 9;
-    CHECK(sctp_read_any_packet(packet, length, &got, rows, 8, &count) == SCTP_ERR_INVALID_CHUNK_SIZE);
+    CHECK(sctpr_read_any_packet(packet, length, &got, rows, 8, &count) == SCTPR_ERR_INVALID_CHUNK_SIZE);
     length = SEAL("\x84\0\0\3");
-    CHECK(sctp_read_any_packet(packet, length, &got, rows, 8, &count) == SCTP_ERR_CHUNK_HEADER_INVALID_LENGTH);
+    CHECK(sctpr_read_any_packet(packet, length, &got, rows, 8, &count) == SCTPR_ERR_CHUNK_HEADER_INVALID_LENGTH);
     length = SEAL("\x84\0\0\x09" "abcd");
-    CHECK(sctp_read_any_packet(packet, length, &got, rows, 8, &count) == SCTP_ERR_CHUNK_HEADER_NOT_ENOUGH_SPACE);
+    CHECK(sctpr_read_any_packet(packet, length, &got, rows, 8, &count) == SCTPR_ERR_CHUNK_HEADER_NOT_ENOUGH_SPACE);
     length = SEAL("\x84\0\0\5" "a\0\0");
-    CHECK(sctp_read_any_packet(packet, length, &got, rows, 8, &count) == SCTP_ERR_PARSE_SCTP_CHUNK_NOT_ENOUGH_DATA);
+    CHECK(sctpr_read_any_packet(packet, length, &got, rows, 8, &count) == SCTPR_ERR_PARSE_SCTP_CHUNK_NOT_ENOUGH_DATA);
     length = SEAL("\x84\0\0\4" "abc");
-    CHECK(sctp_read_any_packet(packet, length, &got, rows, 8, &count) == SCTP_ERR_CHUNK_HEADER_PADDING_NON_ZERO);
+    CHECK(sctpr_read_any_packet(packet, length, &got, rows, 8, &count) == SCTPR_ERR_CHUNK_HEADER_PADDING_NON_ZERO);
     packet[15] ^= 1;
-    CHECK(sctp_read_any_packet(packet, length, &got, rows, 8, &count) == SCTP_BAD_CHECKSUM);
-    CHECK(sctp_read_any_packet(NULL, 0, &got, rows, 8, &count) == SCTP_ERR_PACKET_RAW_TOO_SMALL);
+    CHECK(sctpr_read_any_packet(packet, length, &got, rows, 8, &count) == SCTPR_BAD_CHECKSUM);
+    CHECK(sctpr_read_any_packet(NULL, 0, &got, rows, 8, &count) == SCTPR_ERR_PACKET_RAW_TOO_SMALL);
     CHECK(got.source_port == 9 && count == 9 && rows[0].type == 7);
 }
 
 static void memory_and_room(void) {
     size_t count = 9, length = SEAL("\x84\0\0\x08" "abcd" "\xc5\0\0\4" "\x0b\0\0\4");
     got.source_port = 9;
-    REFUSE_EACH(sctp_read_any_packet(packet, length, &got, rows, 2, &count), SCTP_OK, got.source_port == 9 && count == 9 && rows[0].type == 7);
+    REFUSE_EACH(sctpr_read_any_packet(packet, length, &got, rows, 2, &count), SCTPR_OK, got.source_port == 9 && count == 9 && rows[0].type == 7);
     CHECK(count == 3 && rows[0].type == 0x84 && rows[1].type == 0xc5 && rows[1].is_reported == 1 && rows[2].type == 7);
     count = 9;
-    CHECK(sctp_read_any_packet(packet, length, &got, NULL, 0, &count) == SCTP_OK && count == 3);
-    CHECK(sctp_read_any_packet_with_sum(packet, length, 5, &got, rows, 8, &count) == SCTP_BAD_CHECKSUM);
-    CHECK(sctp_store_sum(5, packet, length) == SCTP_OK);
-    CHECK(sctp_read_any_packet_with_sum(packet, length, 5, &got, rows, 8, &count) == SCTP_OK && count == 3 && rows[2].at == 24);
+    CHECK(sctpr_read_any_packet(packet, length, &got, NULL, 0, &count) == SCTPR_OK && count == 3);
+    CHECK(sctpr_read_any_packet_with_sum(packet, length, 5, &got, rows, 8, &count) == SCTPR_BAD_CHECKSUM);
+    CHECK(sctpr_store_sum(5, packet, length) == SCTPR_OK);
+    CHECK(sctpr_read_any_packet_with_sum(packet, length, 5, &got, rows, 8, &count) == SCTPR_OK && count == 3 && rows[2].at == 24);
     length = SEAL("");
-    CHECK(sctp_read_any_packet(packet, length, &got, rows, 8, &count) == SCTP_OK && count == 0);
+    CHECK(sctpr_read_any_packet(packet, length, &got, rows, 8, &count) == SCTPR_OK && count == 0);
 }
 
 int main(void) {

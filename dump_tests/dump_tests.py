@@ -251,12 +251,12 @@ def json_tests(program):
 
 
 def tells_version(program):
-    """Whether `--version` says the version of include/sctp.h."""
-    with open(f"{ROOT}/include/sctp.h", encoding="utf-8") as header:
-        numbers = re.findall(r"^#define SCTP_VERSION_[A-Z]* ([0-9]+)$", header.read(), re.M)
+    """Whether `--version` says the version of include/sctpr.h."""
+    with open(f"{ROOT}/include/sctpr.h", encoding="utf-8") as header:
+        numbers = re.findall(r"^#define SCTPR_VERSION_[A-Z]* ([0-9]+)$", header.read(), re.M)
     told = subprocess.run([program, "--version"], capture_output=True, text=True).stdout
     if told != f"sctpdump {'.'.join(numbers)}\n":
-        print(f"--version says {told!r}, and include/sctp.h {numbers}")
+        print(f"--version says {told!r}, and include/sctpr.h {numbers}")
         return False
     return True
 

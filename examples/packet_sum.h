@@ -1,4 +1,4 @@
-/* The CRC-32C of a packet by the instruction of x86-64, for sctp_read_packet_with_sum and sctp_store_sum of sctp.h (docs/C.md): over the
+/* The CRC-32C of a packet by the instruction of x86-64, for sctpr_read_packet_with_sum and sctpr_store_sum of sctpr.h (docs/C.md): over the
  * packet's first eight bytes, four zeros, and its bytes from the twelfth on (RFC 4960 6.8, Appendix B). It takes a packet of at least
  * twelve bytes, and a processor of which __builtin_cpu_supports("sse4.2") says so. */
 #ifndef PACKET_SUM_H

@@ -1,5 +1,5 @@
 #!/usr/bin/env python3
-"""Writes what the wrappers repeat of include/sctp.h: declarations and codes for Rust, codes for C++ and Go, and the version, which sctpdump says too.
+"""Writes what the wrappers repeat of include/sctpr.h: declarations and codes for Rust, codes for C++ and Go, and the version, which sctpdump says too.
 
     python3 tools/c_bindings.py            writes
     python3 tools/c_bindings.py --check    says what is out of date; the status is 1 where anything is
@@ -9,12 +9,12 @@ import re
 import sys
 
 TOP = pathlib.Path(__file__).resolve().parent.parent
-HEADER = (TOP / 'include/sctp.h').read_text()
-NOTE = 'Written by tools/c_bindings.py from include/sctp.h.'
+HEADER = (TOP / 'include/sctpr.h').read_text()
+NOTE = 'Written by tools/c_bindings.py from include/sctpr.h.'
 RUST_TYPES = {'uint8_t': 'u8', 'uint16_t': 'u16', 'uint32_t': 'u32', 'uint64_t': 'u64', 'size_t': 'usize', 'void': 'c_void'}
-ITEM = re.compile(r'(?:/\*(?P<doc>(?:(?!\*/).)*)\*/\s*)?(?P<name>SCTP_\w+)\s*=\s*(?P<value>\d+)', re.S)
+ITEM = re.compile(r'(?:/\*(?P<doc>(?:(?!\*/).)*)\*/\s*)?(?P<name>SCTPR_\w+)\s*=\s*(?P<value>\d+)', re.S)
 STRUCT = re.compile(r'(?:/\*(?P<doc>(?:(?!\*/).)*)\*/\s*)?(?:typedef )?struct (?P<name>\w+) \{\n(?P<fields>[^}]*)\}', re.S)
-CALL = re.compile(r'^(?P<result>sctp_code|uint8_t|uint32_t|size_t|void) (?P<name>sctp_\w+)\((?P<params>[^)]*)\);', re.M)
+CALL = re.compile(r'^(?P<result>sctpr_code|uint8_t|uint32_t|size_t|void) (?P<name>sctpr_\w+)\((?P<params>[^)]*)\);', re.M)
 
 
 def text_of(doc):
@@ -23,12 +23,12 @@ def text_of(doc):
 
 
 def version():
-    return '.'.join(re.findall(r'^#define SCTP_VERSION_(?:MAJOR|MINOR|PATCH) (\d+)$', HEADER, re.M))
+    return '.'.join(re.findall(r'^#define SCTPR_VERSION_(?:MAJOR|MINOR|PATCH) (\d+)$', HEADER, re.M))
 
 
 def enum_blocks():
     """Of each enum whether it is that of the codes, and its items: name, value, text."""
-    for match in re.finditer(r'(typedef uint32_t sctp_code;\n)?enum \{(.*?)\};', HEADER, re.S):
+    for match in re.finditer(r'(typedef uint32_t sctpr_code;\n)?enum \{(.*?)\};', HEADER, re.S):
         yield bool(match[1]), [(i['name'], int(i['value']), ' '.join(text_of(i['doc']))) for i in ITEM.finditer(match[2])]
 
 
@@ -38,7 +38,7 @@ def codes():
 
 def shorts():
     """The codes with the names that wrappers give them."""
-    return [(name.removeprefix('SCTP_'), value, text) for name, value, text in codes()]
+    return [(name.removeprefix('SCTPR_'), value, text) for name, value, text in codes()]
 
 
 def camel(name):
@@ -70,7 +70,7 @@ def doc_before(at):
 
 def rust_struct(match):
     fields = [field.strip() for field in match['fields'].split(';') if field.strip()]
-    derive = '#[derive(Debug)]' if match['name'] in ('sctp_sender', 'sctp_receiver') else \
+    derive = '#[derive(Debug)]' if match['name'] in ('sctpr_sender', 'sctpr_receiver') else \
         '#[derive(Clone, Copy, Debug, Default, PartialEq, Eq)]'
     lines = [f'{derive}\n#[repr(C)]\npub struct {match["name"]} {{']
     lines += [f'    pub {rust_param(field)},' for field in fields]
@@ -86,12 +86,12 @@ def rust_call(match):
 def rust_sys():
     numbers = []
     for is_codes, items in enum_blocks():
-        kind = 'sctp_code' if is_codes else 'u32'
+        kind = 'sctpr_code' if is_codes else 'u32'
         numbers += [(f'/// {text}\n' if text else '') + f'pub const {name}: {kind} = {value};\n' for name, value, text in items]
-    numbers += [f'pub const {name}: usize = {value};\n' for name, value in re.findall(r'^#define (SCTP_NAME_ROOM) (\d+)$', HEADER, re.M)]
+    numbers += [f'pub const {name}: usize = {value};\n' for name, value in re.findall(r'^#define (SCTPR_NAME_ROOM) (\d+)$', HEADER, re.M)]
     structs = [rust_struct(match) for match in STRUCT.finditer(HEADER)]
     calls = [rust_call(match) for match in CALL.finditer(HEADER)]
-    return f'''//! The calls of `sctp.h` as they are: SCTP's lower layer for WebRTC data channels. The crate `sctp-rattle` wraps them.
+    return f'''//! The calls of `sctpr.h` as they are: SCTP's lower layer for WebRTC data channels. The crate `sctp-rattle` wraps them.
 //!
 //! {NOTE}
 #![no_std]
@@ -99,7 +99,7 @@ def rust_sys():
 
 use core::ffi::c_void;
 
-pub type sctp_code = u32;
+pub type sctpr_code = u32;
 
 {''.join(numbers)}
 {chr(10).join(structs)}
@@ -133,16 +133,16 @@ pub enum Error {{
 
 impl Error {{
     /// The error of a code of the library, `wanted` bytes or rows being what a buffer that was too short should have had.
-    pub(crate) fn of_code(code: sys::sctp_code, wanted: usize) -> Error {{
+    pub(crate) fn of_code(code: sys::sctpr_code, wanted: usize) -> Error {{
         match code {{
-{''.join(f'            sys::SCTP_{name} => Error::{fields(variant, " wanted ")},{chr(10)}' for name, variant, _ in rows)}            other => Error::Unknown(other),
+{''.join(f'            sys::SCTPR_{name} => Error::{fields(variant, " wanted ")},{chr(10)}' for name, variant, _ in rows)}            other => Error::Unknown(other),
         }}
     }}
 
     /// The number of the error, the one that the C header gives it. Numbers never change.
     pub fn code(&self) -> u32 {{
         match *self {{
-{''.join(f'            Error::{fields(variant, " .. ")} => sys::SCTP_{name},{chr(10)}' for name, variant, _ in rows)}            Error::Unknown(code) => code,
+{''.join(f'            Error::{fields(variant, " .. ")} => sys::SCTPR_{name},{chr(10)}' for name, variant, _ in rows)}            Error::Unknown(code) => code,
         }}
     }}
 
@@ -191,7 +191,7 @@ func (c Code) text() string {{
 
 
 def cpp_codes():
-    return ''.join(f'    /** {text} */\n    {name.lower()} = SCTP_{name},\n' for name, _, text in shorts())
+    return ''.join(f'    /** {text} */\n    {name.lower()} = SCTPR_{name},\n' for name, _, text in shorts())
 
 
 def between(text, first, last, new):
@@ -204,8 +204,8 @@ def files():
     yield 'wrappers/rust/sctp-rattle-sys/src/lib.rs', rust_sys()
     yield 'wrappers/rust/sctp-rattle/src/error.rs', rust_errors()
     yield 'wrappers/go/codes.go', go_codes()
-    cpp = (TOP / 'include/sctp.hpp').read_text()
-    yield 'include/sctp.hpp', between(cpp, 'enum class code : sctp_code {\n', '};\n', cpp_codes())
+    cpp = (TOP / 'include/sctpr.hpp').read_text()
+    yield 'include/sctpr.hpp', between(cpp, 'enum class code : sctpr_code {\n', '};\n', cpp_codes())
     for name in ('sctp-rattle-sys', 'sctp-rattle'):
         path = f'wrappers/rust/{name}/Cargo.toml'
         old = (TOP / path).read_text()

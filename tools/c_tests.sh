@@ -5,9 +5,9 @@
 #   - the wrappers for C++, Rust and Go: their tests, and the echo, which prints the same in each
 # and on the program sctpdump, where rt ci or rt run has built it, what dump_tests/dump_tests.py tests.
 # The last line is 'N passed, M failed'; the status is 0 where nothing failed. It needs the kit's command rt, gcc and g++, or the CC and CXX
-# given. What else it asks for are Debian's packages libusrsctp-dev, valgrind, golang-go, make and pkgconf: as root it installs those that
-# are missing, unless C_TESTS_INSTALL=no. Where one can't be had, and where there is no cargo, a line that begins with 'left out:' says
-# what is not run; that is no failure.
+# given. What else it asks for are Debian's packages libusrsctp-dev, libsctp-dev, valgrind, golang-go, make and pkgconf: as root it installs
+# those that are missing, unless C_TESTS_INSTALL=no. Where one can't be had, and where there is no cargo, a line that begins with
+# 'left out:' says what is not run; that is no failure.
 set -eu
 cd "$(dirname "$0")/.."
 CC=${CC:-gcc}
@@ -66,6 +66,7 @@ has valgrind command -v valgrind && valgrind=yes || valgrind=no
 has golang-go command -v go && go=yes || go=no
 has make command -v make && make=yes || make=no
 has pkgconf command -v pkg-config && pkg_config=yes || pkg_config=no
+has libsctp-dev test -e /usr/include/netinet/sctp.h || leave_out "netinet/sctp.h beside the header" "there is no libsctp-dev"
 
 # ---- The library -------------------------------------------------------------------------------------------------------------
 
@@ -73,7 +74,7 @@ has pkgconf command -v pkg-config && pkg_config=yes || pkg_config=no
 if command -v python3 >/dev/null; then python3 c_tests/built_libraries.py; fi
 (cd crates/sctp_c && rt lib) >"$BUILD/lib.log" 2>&1 || { tail -20 "$BUILD/lib.log"; echo "0 passed, 1 failed"; exit 1; }
 ARCHIVE=crates/sctp_c/out/libsctp_c.a
-sed -n '/^typedef uint32_t sctp_code;/,/^};/s/^    \(SCTP_[A-Z0-9_]*\) = [0-9]*,*$/ROW(\1)/p' include/sctp.h >"$BUILD/codes.inc"
+sed -n '/^typedef uint32_t sctpr_code;/,/^};/s/^    \(SCTPR_[A-Z0-9_]*\) = [0-9]*,*$/ROW(\1)/p' include/sctpr.h >"$BUILD/codes.inc"
 
 # What takes a minute or two goes on beside the rest, and is counted at the end.
 if [ "$usrsctp" = yes ]; then
@@ -86,8 +87,8 @@ if [ -x crates/sctpdump/out/sctpdump ]; then
 fi
 
 # The header is C++ too, and the kit's memory calls serve.
-try "$CXX" -std=c++11 -Wall -Wextra -Werror -pedantic -fsyntax-only -x c++ include/sctp.h
-printf '#include "sctp.h"\nint main(void) { size_t n; uint8_t out[4]; return (int)sctp_write_chunk(SCTP_COOKIE_ACK, NULL, 0, out, 4, &n); }\n' >"$BUILD/one.c"
+try "$CXX" -std=c++11 -Wall -Wextra -Werror -pedantic -fsyntax-only -x c++ include/sctpr.h
+printf '#include "sctpr.h"\nint main(void) { size_t n; uint8_t out[4]; return (int)sctpr_write_chunk(SCTPR_COOKIE_ACK, NULL, 0, out, 4, &n); }\n' >"$BUILD/one.c"
 try $CC -std=c99 -Iinclude "$BUILD/one.c" "$ARCHIVE" "$KIT/c/liblibc_c.a" -o "$BUILD/one"
 try "$BUILD/one"
 
@@ -102,6 +103,10 @@ count() {
     passed=$((passed + ${counts% *}))
     failed=$((failed + ${counts#* }))
 }
+
+# The library's names are its own.
+CC="$CC" CXX="$CXX" c_tests/headers.sh "$ARCHIVE" >"$BUILD/headers.log" 2>&1 || true
+count headers
 
 for test in c_tests/*.c; do
     name=$(basename "$test" .c)
@@ -153,7 +158,7 @@ prints_echo() {
 # Whether pkg-config tells the header's version.
 tells_version() {
     told=$(pkg-config --modversion sctp-rattle)
-    [ "$told" = "$(sed -n 's/^.define SCTP_VERSION_[A-Z]* \([0-9]*\)$/\1/p' include/sctp.h | paste -sd .)" ]
+    [ "$told" = "$(sed -n 's/^.define SCTPR_VERSION_[A-Z]* \([0-9]*\)$/\1/p' include/sctpr.h | paste -sd .)" ]
 }
 
 # Whether nothing is left of the install.

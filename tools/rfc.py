@@ -104,7 +104,7 @@ RULES = [
         ("an INIT is alone in its packet, and its packet has tag 0", "6.10, 8.5.1", ["sctp_packets::Packet::check_packet ok fault"],
          ["sctp_packets Valid.IsValid"], ["packet_tests::rules_for_all_packets"]),
         ("the two high bits of an unknown chunk type: skip the chunk or the rest, report it or not", "3.2",
-         ["sctp_c::sctp_read_any_packet read only"], ["sctp_c AnyChunks.is_stopping", "sctp_c AnyChunks.is_reported"],
+         ["sctp_c::sctpr_read_any_packet read only"], ["sctp_c AnyChunks.is_stopping", "sctp_c AnyChunks.is_reported"],
          ["c_tests/unknown_chunks.c"]),
         ("the same: a Rust caller's `Packet::unmarshal` refuses the whole packet (a departure)", "3.2", ["sctp_packets::Packet::unmarshal fault"],
          ["sctp_packets Fault.PacketFault"], ["packet_tests::first_chunks", "packet_tests::numbers_of_kinds"]),
@@ -113,12 +113,12 @@ RULES = [
          ["packet_tests::types"]),
         ("an ERROR, or a parameter of an INIT ACK, reports unknown chunks and parameters", "3.2.1, 3.2.2", "the caller writes it", [], [], []),
         ("a packet with another verification tag is discarded", "8.5", "the caller compares `common_header.verification_tag`", [], [], []),
-        ("an ABORT and a SHUTDOWN COMPLETE have the T bit", "8.5.1, 3.3.7, 3.3.13", "the caller reads and writes it; `sctp_write_chunk_with_flags` in C",
+        ("an ABORT and a SHUTDOWN COMPLETE have the T bit", "8.5.1, 3.3.7, 3.3.13", "the caller reads and writes it; `sctpr_write_chunk_with_flags` in C",
          [], [], []),
         ("an ABORT answers a packet of no association", "8.4", "the caller keeps the associations", [], [], []),
         ("a packet with a checksum of 0 is accepted where that was negotiated", "9653 5", "the caller hands in a `Checksum`; `sctpdump` follows what "
          "both ends announced", ["sctp_show::is_wrong"], ["sctp_show Sum.is_wrong", "sctp_show Sum.has_zero_param"], []),
-        ("I-DATA chunks", "8260 2.1", "a packet with one is refused; `sctp_read_any_packet` in C skips it", ["sctp_packets::Packet::unmarshal fault"],
+        ("I-DATA chunks", "8260 2.1", "a packet with one is refused; `sctpr_read_any_packet` in C skips it", ["sctp_packets::Packet::unmarshal fault"],
          [], []),
     ]),
     ("Receiver: DATA", [

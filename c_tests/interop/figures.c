@@ -1,4 +1,4 @@
-/* What an exchange costs: two endpoints of examples/c over sctp.h, one of them and usrsctp, or usrsctp with itself, in one process over
+/* What an exchange costs: two endpoints of examples/c over sctpr.h, one of them and usrsctp, or usrsctp with itself, in one process over
  * the same network in memory, which loses so many of 10,000 datagrams, of usrsctp's and ours alike.
  *
  *     figures PAIR LENGTH MESSAGES LOST      PAIR is ours, mixed or usrsctp
@@ -19,7 +19,7 @@
 /* What waits and is in flight of a side, and what the other one holds, in bytes at most. */
 enum { TICK_MS = 10, BUFFER = 256 * 1024, WINDOW = 1024 * 1024, MTU = 1200, LONGEST = 256 * 1024 };
 
-/* A side: an endpoint over sctp.h, or a socket of usrsctp, whose address is the side's. Both write and read messages that begin with their
+/* A side: an endpoint over sctpr.h, or a socket of usrsctp, whose address is the side's. Both write and read messages that begin with their
  * number. */
 struct side {
     int index, is_ours;
@@ -81,14 +81,14 @@ static void set_up_ours(struct side *s) {
 
 static int our_write(struct side *s) {
     size_t amount = 0;
-    if (sctp_sender_buffered_amount(&s->endpoint.sender, 0, &amount) != SCTP_OK || amount + length > BUFFER) return 0;
-    return endpoint_write(&s->endpoint, 0, SCTP_PPID_BINARY, s->message, length) == SCTP_OK;
+    if (sctpr_sender_buffered_amount(&s->endpoint.sender, 0, &amount) != SCTPR_OK || amount + length > BUFFER) return 0;
+    return endpoint_write(&s->endpoint, 0, SCTPR_PPID_BINARY, s->message, length) == SCTPR_OK;
 }
 
 static void our_reads(struct side *s) {
     size_t n;
     uint32_t type;
-    while (sctp_receiver_read(&s->endpoint.receiver, 0, s->got, sizeof s->got, &n, &type) == SCTP_OK) take(s, s->got, n);
+    while (sctpr_receiver_read(&s->endpoint.receiver, 0, s->got, sizeof s->got, &n, &type) == SCTPR_OK) take(s, s->got, n);
 }
 
 /* ---- usrsctp --------------------------------------------------------------------------------------------------------------- */
@@ -152,7 +152,7 @@ static int their_write(struct side *s) {
     struct sctp_sndinfo info;
     memset(&info, 0, sizeof info);
     info.snd_flags = SCTP_EOR;
-    info.snd_ppid = htonl(SCTP_PPID_BINARY);
+    info.snd_ppid = htonl(SCTPR_PPID_BINARY);
     return usrsctp_sendv(s->socket, s->message, length, NULL, 0, &info, sizeof info, SCTP_SENDV_SNDINFO, 0) == (ssize_t)length;
 }
 

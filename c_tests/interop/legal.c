@@ -1,12 +1,12 @@
 #include "legal.h"
 #include "messages.h"
-#include "sctp.h"
+#include "sctpr.h"
 #include <string.h>
 
 /* TSNs are counted from the first one on, as `place`. Those of the last KEPT ones are known. */
 enum { KEPT = 1 << 16, CHUNKS = 400, GAPS = 400, NAMES = 400 };
 struct sent {
-    struct sctp_data data;
+    struct sctpr_data data;
     uint64_t hash;
     uint8_t was_sent, is_reported;
 };
@@ -24,13 +24,13 @@ static uint64_t hash_of(const uint8_t *bytes, size_t length) {
     return hash;
 }
 
-static int is_same_message(const struct sctp_data *a, const struct sctp_data *b) {
+static int is_same_message(const struct sctpr_data *a, const struct sctpr_data *b) {
     return a->stream == b->stream && a->sequence == b->sequence && a->is_unordered == b->is_unordered && a->payload_type == b->payload_type;
 }
 
 /* A new TSN: fragments of a message have TSNs one after the other (RFC 4960 6.9), and ordered messages numbers one after the other
  * (6.5). TSNs in between belong to messages that were abandoned, and are never sent (RFC 3758 3.5). */
-static void note_new(uint32_t place, const struct sctp_data *data, uint64_t hash) {
+static void note_new(uint32_t place, const struct sctpr_data *data, uint64_t hash) {
     const struct sent *last = row_of(place - 1);
     uint8_t goes_on = place > 0 && place == given_out && last->was_sent && !last->data.ends;
     if (place - given_out > 16) fault("legal: %u TSNs are left out", (unsigned)(place - given_out));
@@ -51,8 +51,8 @@ static void note_new(uint32_t place, const struct sctp_data *data, uint64_t hash
 }
 
 static void on_data(const uint8_t *chunk, size_t length) {
-    struct sctp_data data;
-    if (sctp_read_data(chunk, length, &data) != SCTP_OK) {
+    struct sctpr_data data;
+    if (sctpr_read_data(chunk, length, &data) != SCTPR_OK) {
         fault("legal: no DATA chunk");
         return;
     }
@@ -67,10 +67,10 @@ static void on_data(const uint8_t *chunk, size_t length) {
 
 /* What is skipped was reported, or is of a message that may be abandoned; the last one ends a message, or was never sent (RFC 3758 3.5). */
 static void on_forward_tsn(const uint8_t *chunk, size_t length) {
-    struct sctp_skip names[NAMES];
+    struct sctpr_skip names[NAMES];
     uint32_t tsn;
     size_t count;
-    if (sctp_read_forward_tsn(chunk, length, &tsn, names, NAMES, &count) != SCTP_OK) {
+    if (sctpr_read_forward_tsn(chunk, length, &tsn, names, NAMES, &count) != SCTPR_OK) {
         fault("legal: no FORWARD-TSN");
         return;
     }
@@ -81,7 +81,7 @@ static void on_forward_tsn(const uint8_t *chunk, size_t length) {
     }
     if (end > given_out) fault("legal: FORWARD-TSN %u is past all", (unsigned)tsn);
     for (uint32_t i = skipped; i < end && end <= given_out; i++)
-        if (row_of(i)->was_sent && !row_of(i)->is_reported && modes[row_of(i)->data.stream].reliability == SCTP_RELIABLE)
+        if (row_of(i)->was_sent && !row_of(i)->is_reported && modes[row_of(i)->data.stream].reliability == SCTPR_RELIABLE)
             fault("legal: FORWARD-TSN %u skips TSN %u of a reliable message", (unsigned)tsn, (unsigned)(first + i));
     if (end <= given_out && row_of(end - 1)->was_sent && !row_of(end - 1)->data.ends)
         fault("legal: FORWARD-TSN %u ends within a message", (unsigned)tsn);
@@ -90,18 +90,18 @@ static void on_forward_tsn(const uint8_t *chunk, size_t length) {
 
 /* Control chunks stand before DATA (RFC 4960 6.10), and no padding is looked at: reading has done so. */
 void legal_sent(uint32_t first_tsn, const uint8_t *packet, size_t length) {
-    struct sctp_head head;
-    struct sctp_chunk chunks[CHUNKS];
+    struct sctpr_head head;
+    struct sctpr_chunk chunks[CHUNKS];
     size_t count = 0;
     uint8_t has_data = 0;
     first = first_tsn;
-    if (sctp_read_packet(packet, length, &head, chunks, CHUNKS, &count) != SCTP_OK) fault("legal: no packet");
+    if (sctpr_read_packet(packet, length, &head, chunks, CHUNKS, &count) != SCTPR_OK) fault("legal: no packet");
     for (size_t i = 0; i < count && i < CHUNKS; i++) {
         const uint8_t *chunk = packet + chunks[i].at;
-        if (has_data && chunks[i].type != SCTP_DATA) fault("legal: a chunk of type %u behind DATA", chunks[i].type);
-        has_data |= chunks[i].type == SCTP_DATA;
-        if (chunks[i].type == SCTP_DATA) on_data(chunk, chunks[i].length);
-        if (chunks[i].type == SCTP_FORWARD_TSN) on_forward_tsn(chunk, chunks[i].length);
+        if (has_data && chunks[i].type != SCTPR_DATA) fault("legal: a chunk of type %u behind DATA", chunks[i].type);
+        has_data |= chunks[i].type == SCTPR_DATA;
+        if (chunks[i].type == SCTPR_DATA) on_data(chunk, chunks[i].length);
+        if (chunks[i].type == SCTPR_FORWARD_TSN) on_forward_tsn(chunk, chunks[i].length);
     }
 }
 
@@ -111,9 +111,9 @@ static void report(uint32_t place) {
 
 static void on_sack(const uint8_t *chunk, size_t length) {
     static uint32_t cumulative;
-    struct sctp_sack sack;
-    struct sctp_gap gaps[GAPS];
-    if (sctp_read_sack(chunk, length, &sack, gaps, GAPS, NULL, 0) != SCTP_OK) return;
+    struct sctpr_sack sack;
+    struct sctpr_gap gaps[GAPS];
+    if (sctpr_read_sack(chunk, length, &sack, gaps, GAPS, NULL, 0) != SCTPR_OK) return;
     uint32_t end = sack.cumulative_tsn + 1 - first;
     for (; cumulative < end && end <= given_out; cumulative++) report(cumulative);
     for (size_t i = 0; i < sack.blocks && i < GAPS; i++)
@@ -121,10 +121,10 @@ static void on_sack(const uint8_t *chunk, size_t length) {
 }
 
 void legal_came(const uint8_t *packet, size_t length) {
-    struct sctp_head head;
-    struct sctp_chunk chunks[CHUNKS];
+    struct sctpr_head head;
+    struct sctpr_chunk chunks[CHUNKS];
     size_t count = 0;
-    if (sctp_read_packet(packet, length, &head, chunks, CHUNKS, &count) != SCTP_OK) return;
+    if (sctpr_read_packet(packet, length, &head, chunks, CHUNKS, &count) != SCTPR_OK) return;
     for (size_t i = 0; i < count && i < CHUNKS; i++)
-        if (chunks[i].type == SCTP_SACK) on_sack(packet + chunks[i].at, chunks[i].length);
+        if (chunks[i].type == SCTPR_SACK) on_sack(packet + chunks[i].at, chunks[i].length);
 }

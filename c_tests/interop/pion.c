@@ -1,4 +1,4 @@
-/* An endpoint over sctp.h and pion/sctp, an SCTP stack in Go, exchange messages: pion sends each back on its stream. Datagrams go through
+/* An endpoint over sctpr.h and pion/sctp, an SCTP stack in Go, exchange messages: pion sends each back on its stream. Datagrams go through
  * two pipes, each behind its length (four bytes, the lowest first), and on our side of them through the network in memory that loses,
  * repeats, delays and damages them, in real time.
  *
@@ -86,7 +86,7 @@ static void we_read(void) {
     size_t length;
     uint32_t type;
     for (uint16_t i = 0; endpoint.has_halves && i < STREAMS; i++)
-        while (sctp_receiver_read(&endpoint.receiver, i, message, sizeof message, &length, &type) == SCTP_OK)
+        while (sctpr_receiver_read(&endpoint.receiver, i, message, sizeof message, &length, &type) == SCTPR_OK)
             message_read(OURS, i, type, message, length);
 }
 
@@ -115,8 +115,8 @@ static void we_write(void) {
         int stream = (int)(random_next(&message_random) % STREAMS);
         uint32_t length = message_length(stream, 0);
         message_fill(message, length, OURS, stream, channels[OURS][stream].written);
-        sctp_code code = endpoint_write(&endpoint, (uint16_t)stream, SCTP_PPID_BINARY, message, length);
-        if (code != SCTP_OK) fault("a write is refused with %u", (unsigned)code);
+        sctpr_code code = endpoint_write(&endpoint, (uint16_t)stream, SCTPR_PPID_BINARY, message, length);
+        if (code != SCTPR_OK) fault("a write is refused with %u", (unsigned)code);
         else message_written(OURS, stream, length);
     }
 }
@@ -147,13 +147,13 @@ static void pass(uint64_t milliseconds, int (*is_done)(void)) {
 static int is_up(void) { return endpoint.state == ENDPOINT_ESTABLISHED; }
 static int is_over(void) { return endpoint_is_over(&endpoint); }
 static int is_drained(void) {
-    return is_over() || (messages_arrived() && sctp_sender_pending(&endpoint.sender) == 0 && sctp_sender_chunks_in_flight(&endpoint.sender) == 0);
+    return is_over() || (messages_arrived() && sctpr_sender_pending(&endpoint.sender) == 0 && sctpr_sender_chunks_in_flight(&endpoint.sender) == 0);
 }
 
 static void set_modes(void) {
     for (uint16_t i = 0; i < STREAMS; i++) {
         const struct mode *m = &modes[i];
-        if (sctp_sender_set_mode(&endpoint.sender, i, m->unordered, m->reliability, m->value) != SCTP_OK) fault("mode %u", i);
+        if (sctpr_sender_set_mode(&endpoint.sender, i, m->unordered, m->reliability, m->value) != SCTPR_OK) fault("mode %u", i);
     }
 }
 
@@ -193,7 +193,7 @@ static void print_all(void) {
            (unsigned long)c->fast_retransmissions);
     printf("messages abandoned %lu, expired %lu, FORWARD-TSN %lu\n", (unsigned long)c->abandoned, (unsigned long)c->expired,
            (unsigned long)c->forward_tsns_sent);
-    for (unsigned i = 0; i <= SCTP_ERR_SHORT_BUFFER; i++)
+    for (unsigned i = 0; i <= SCTPR_ERR_SHORT_BUFFER; i++)
         if (c->packets[i] || c->chunks[i])
             printf("  came with code %u: packets %lu, chunks %lu\n", i, (unsigned long)c->packets[i], (unsigned long)c->chunks[i]);
     if (endpoint.abort_length > 8) printf("ABORT: %.*s\n", (int)(endpoint.abort_length - 8), (const char *)endpoint.abort_chunk + 8);

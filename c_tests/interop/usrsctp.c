@@ -1,4 +1,4 @@
-/* usrsctp and an endpoint over sctp.h exchange messages in one process, over AF_CONN and a network in memory that loses, repeats, delays
+/* usrsctp and an endpoint over sctpr.h exchange messages in one process, over AF_CONN and a network in memory that loses, repeats, delays
  * and damages datagrams. Each message that is read is compared, byte for byte, with what was written; of the reliable streams each has to
  * come.
  *
@@ -66,15 +66,15 @@ static void our_output(void *context, const uint8_t *packet, size_t length) {
 
 static void we_write(void) {
     static uint8_t message[MAX_MESSAGE];
-    for (int i = 0; i < writes_a_tick() && sctp_sender_pending(&endpoint.sender) < 2000; i++) {
+    for (int i = 0; i < writes_a_tick() && sctpr_sender_pending(&endpoint.sender) < 2000; i++) {
         int stream = (int)(random_next(&message_random) % STREAMS);
         size_t amount = 0;
-        sctp_sender_buffered_amount(&endpoint.sender, (uint16_t)stream, &amount);
+        sctpr_sender_buffered_amount(&endpoint.sender, (uint16_t)stream, &amount);
         if (amount > 1 << 20) continue;
         uint32_t length = a_length(stream, !is_mixed);
         message_fill(message, length, OURS, stream, channels[OURS][stream].written);
-        sctp_code code = endpoint_write(&endpoint, (uint16_t)stream, SCTP_PPID_BINARY, message, length);
-        if (code != SCTP_OK) fault("a write is refused with %u", (unsigned)code);
+        sctpr_code code = endpoint_write(&endpoint, (uint16_t)stream, SCTPR_PPID_BINARY, message, length);
+        if (code != SCTPR_OK) fault("a write is refused with %u", (unsigned)code);
         else message_written(OURS, stream, length);
     }
 }
@@ -84,7 +84,7 @@ static int we_read_one(uint16_t stream) {
     static uint8_t message[MAX_MESSAGE];
     size_t length;
     uint32_t type;
-    if (sctp_receiver_read(&endpoint.receiver, stream, message, sizeof message, &length, &type) != SCTP_OK) return 0;
+    if (sctpr_receiver_read(&endpoint.receiver, stream, message, sizeof message, &length, &type) != SCTPR_OK) return 0;
     message_read(THEIRS, stream, type, message, length);
     return 1;
 }
@@ -92,7 +92,7 @@ static int we_read_one(uint16_t stream) {
 static void we_read(void) {
     uint16_t streams[STREAMS];
     size_t count = 0;
-    if (!endpoint.has_halves || sctp_receiver_readable_streams(&endpoint.receiver, streams, STREAMS, &count) != SCTP_OK) return;
+    if (!endpoint.has_halves || sctpr_receiver_readable_streams(&endpoint.receiver, streams, STREAMS, &count) != SCTPR_OK) return;
     for (size_t i = 0; i < count; i += !we_read_one(streams[i])) {}
 }
 
@@ -143,10 +143,10 @@ static struct sctp_sendv_spa send_info(int stream) {
     info.sendv_flags = SCTP_SEND_SNDINFO_VALID;
     info.sendv_sndinfo.snd_sid = (uint16_t)stream;
     info.sendv_sndinfo.snd_flags = (uint16_t)(SCTP_EOR | (mode->unordered ? SCTP_UNORDERED : 0));
-    info.sendv_sndinfo.snd_ppid = htonl(SCTP_PPID_BINARY);
-    if (mode->reliability == SCTP_RELIABLE) return info;
+    info.sendv_sndinfo.snd_ppid = htonl(SCTPR_PPID_BINARY);
+    if (mode->reliability == SCTPR_RELIABLE) return info;
     info.sendv_flags |= SCTP_SEND_PRINFO_VALID;
-    info.sendv_prinfo.pr_policy = mode->reliability == SCTP_REXMIT ? SCTP_PR_SCTP_RTX : SCTP_PR_SCTP_TTL;
+    info.sendv_prinfo.pr_policy = mode->reliability == SCTPR_REXMIT ? SCTP_PR_SCTP_RTX : SCTP_PR_SCTP_TTL;
     info.sendv_prinfo.pr_value = mode->value;
     return info;
 }
@@ -282,7 +282,7 @@ static void connect_sides(uint64_t seed) {
 }
 
 static int is_done(void) {
-    return messages_arrived() && sctp_sender_pending(&endpoint.sender) == 0 && sctp_sender_chunks_in_flight(&endpoint.sender) == 0;
+    return messages_arrived() && sctpr_sender_pending(&endpoint.sender) == 0 && sctpr_sender_chunks_in_flight(&endpoint.sender) == 0;
 }
 
 /* Whether usrsctp has nothing that waits or is in flight. */
@@ -297,7 +297,7 @@ static int they_are_done(void) {
 static void exchange(long ticks) {
     for (uint16_t i = 0; i < STREAMS; i++) {
         const struct mode *m = &modes[i];
-        if (sctp_sender_set_mode(&endpoint.sender, i, m->unordered, m->reliability, m->value) != SCTP_OK) fault("mode %u", i);
+        if (sctpr_sender_set_mode(&endpoint.sender, i, m->unordered, m->reliability, m->value) != SCTPR_OK) fault("mode %u", i);
     }
     for (long i = 0; i < ticks && endpoint.state == ENDPOINT_ESTABLISHED && faults == 0; i++) {
         we_write();
@@ -345,7 +345,7 @@ static void print_all(void) {
     printf("messages abandoned %lu, expired %lu, FORWARD-TSN %lu, heartbeats answered %lu of %lu, other tags %lu\n",
            (unsigned long)c->abandoned, (unsigned long)c->expired, (unsigned long)c->forward_tsns_sent,
            (unsigned long)c->heartbeats_answered, (unsigned long)c->heartbeats_sent, (unsigned long)c->wrong_tag);
-    for (unsigned i = 0; i <= SCTP_ERR_SHORT_BUFFER; i++)
+    for (unsigned i = 0; i <= SCTPR_ERR_SHORT_BUFFER; i++)
         if (c->packets[i] || c->chunks[i])
             printf("  came with code %u: packets %lu, chunks %lu\n", i, (unsigned long)c->packets[i], (unsigned long)c->chunks[i]);
 }

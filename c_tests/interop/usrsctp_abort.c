@@ -44,17 +44,17 @@ static void pass_ticks(int count) {
 
 /* Sends a packet of one chunk, past the endpoint, and lets time pass. */
 static void send_chunk(uint32_t tsn, const uint8_t *chunk, size_t length) {
-    struct sctp_head head = { endpoint.peer.tag, 5001, 5000 };
+    struct sctpr_head head = { endpoint.peer.tag, 5001, 5000 };
     uint8_t packet[64];
     memcpy(packet + 12, chunk, length);
     for (int i = 0; i < 4; i++) packet[16 + i] = (uint8_t)(tsn >> (24 - 8 * i));
-    if (sctp_seal_packet(&head, packet, 12 + length) != SCTP_OK) exit(2);
+    if (sctpr_seal_packet(&head, packet, 12 + length) != SCTPR_OK) exit(2);
     network_send(&network, OURS, packet, 12 + length);
     pass_ticks(30);
 }
 
 static void send_data(uint32_t tsn, uint8_t flags) {
-    const uint8_t chunk[20] = { SCTP_DATA, flags, 0, 20, 0, 0, 0, 0, 0, 1, 0, 0, 0, 0, 0, SCTP_PPID_BINARY, 1, 2, 3, 4 };
+    const uint8_t chunk[20] = { SCTPR_DATA, flags, 0, 20, 0, 0, 0, 0, 0, 1, 0, 0, 0, 0, 0, SCTPR_PPID_BINARY, 1, 2, 3, 4 };
     send_chunk(tsn, chunk, sizeof chunk);
 }
 
@@ -80,7 +80,7 @@ static void connect_sides(void) {
 }
 
 int main(void) {
-    static const uint8_t forward_tsn[8] = { SCTP_FORWARD_TSN, 0, 0, 8 };
+    static const uint8_t forward_tsn[8] = { SCTPR_FORWARD_TSN, 0, 0, 8 };
     struct sockaddr_conn address = { .sconn_family = AF_CONN, .sconn_port = htons(5000), .sconn_addr = &network };
     usrsctp_init_nothreads(0, their_output, NULL);
     usrsctp_register_address(&network);

@@ -16,8 +16,8 @@ static size_t room_of(const struct endpoint *e) { return e->config.mtu - e->leng
 
 /* Sends the packet, if it has a chunk, and begins the next one. */
 static void flush_with_tag(struct endpoint *e, uint32_t tag) {
-    struct sctp_head head = { tag, e->config.port, e->config.peer_port };
-    if (e->length > PACKET_HEADER && sctp_seal_packet(&head, e->packet, e->length) == SCTP_OK) {
+    struct sctpr_head head = { tag, e->config.port, e->config.peer_port };
+    if (e->length > PACKET_HEADER && sctpr_seal_packet(&head, e->packet, e->length) == SCTPR_OK) {
         e->counts.packets_sent++;
         e->config.output(e->config.context, e->packet, e->length);
     }
@@ -38,14 +38,14 @@ static void make_place(struct endpoint *e, size_t length) {
 static void put_chunk(struct endpoint *e, uint8_t type, const uint8_t *value, size_t length) {
     size_t written = 0;
     make_place(e, 4 + length + 3);
-    if (sctp_write_chunk(type, value, length, end_of(e), room_of(e), &written) == SCTP_OK) e->length += written;
+    if (sctpr_write_chunk(type, value, length, end_of(e), room_of(e), &written) == SCTPR_OK) e->length += written;
 }
 
 /* Puts an ERROR or an ABORT of one cause into the packet (RFC 4960 3.3.10). */
 static void put_cause(struct endpoint *e, uint8_t type, uint16_t code, const uint8_t *value, size_t length) {
     uint8_t cause[1500];
     size_t written = 0;
-    if (sctp_write_cause(code, value, length, cause, sizeof cause, &written) == SCTP_OK) put_chunk(e, type, cause, written);
+    if (sctpr_write_cause(code, value, length, cause, sizeof cause, &written) == SCTPR_OK) put_chunk(e, type, cause, written);
 }
 
 void endpoint_init(struct endpoint *e, const struct endpoint_config *config) {
@@ -57,15 +57,15 @@ void endpoint_init(struct endpoint *e, const struct endpoint_config *config) {
 
 void endpoint_free(struct endpoint *e) {
     if (!e->has_halves) return;
-    sctp_sender_free(e->sender);
-    sctp_receiver_free(e->receiver);
+    sctpr_sender_free(e->sender);
+    sctpr_receiver_free(e->receiver);
     e->has_halves = 0;
 }
 
 static int open_streams(struct endpoint *e) {
     for (uint16_t i = 0; i < e->config.streams; i++) {
-        if (sctp_receiver_open(&e->receiver, i) != SCTP_OK) return 0;
-        if (i < e->peer.streams && sctp_sender_open(&e->sender, i) != SCTP_OK) return 0;
+        if (sctpr_receiver_open(&e->receiver, i) != SCTPR_OK) return 0;
+        if (i < e->peer.streams && sctpr_sender_open(&e->sender, i) != SCTPR_OK) return 0;
     }
     return 1;
 }
@@ -75,32 +75,32 @@ static int open_streams(struct endpoint *e) {
 static int make_halves(struct endpoint *e) {
     const struct endpoint_config *c = &e->config;
     if (e->has_halves) return 1;
-    if (sctp_sender_new(c->first_tsn, c->mtu - HEADERS, c->max_message_size, &e->sender) != SCTP_OK) return 0;
-    if (sctp_receiver_new(e->peer.first_tsn, c->max_message_size, c->window, 65535, &e->receiver) != SCTP_OK) {
-        sctp_sender_free(e->sender);
+    if (sctpr_sender_new(c->first_tsn, c->mtu - HEADERS, c->max_message_size, &e->sender) != SCTPR_OK) return 0;
+    if (sctpr_receiver_new(e->peer.first_tsn, c->max_message_size, c->window, 65535, &e->receiver) != SCTPR_OK) {
+        sctpr_sender_free(e->sender);
         return 0;
     }
     e->has_halves = 1;
     e->credit = e->peer.credit;
     e->advertised = c->window;
-    if (open_streams(e) && sctp_sender_keep_reported(&e->sender) == SCTP_OK) return 1;
+    if (open_streams(e) && sctpr_sender_keep_reported(&e->sender) == SCTPR_OK) return 1;
     endpoint_free(e);
     return 0;
 }
 
 /* Sends an INIT, or to the peer of a tag an INIT-ACK with a cookie. */
 static void send_init(struct endpoint *e, uint8_t is_ack, uint32_t tag, const uint8_t *cookie, size_t cookie_length) {
-    static const uint8_t extensions[] = { SCTP_FORWARD_TSN };
+    static const uint8_t extensions[] = { SCTPR_FORWARD_TSN };
     const struct endpoint_config *c = &e->config;
-    struct sctp_init init = { c->tag, c->window, c->first_tsn, c->streams, c->streams, is_ack };
+    struct sctpr_init init = { c->tag, c->window, c->first_tsn, c->streams, c->streams, is_ack };
     uint8_t params[64];
     size_t first = 0, second = 0, third = 0, written = 0;
     flush(e);
-    if (sctp_write_param(SCTP_PARAM_FORWARD_TSN_SUPPORTED, NULL, 0, params, sizeof params, &first) != SCTP_OK) return;
-    if (sctp_write_param(SCTP_PARAM_SUPPORTED_EXTENSIONS, extensions, 1, params + first, 8, &second) != SCTP_OK) return;
+    if (sctpr_write_param(SCTPR_PARAM_FORWARD_TSN_SUPPORTED, NULL, 0, params, sizeof params, &first) != SCTPR_OK) return;
+    if (sctpr_write_param(SCTPR_PARAM_SUPPORTED_EXTENSIONS, extensions, 1, params + first, 8, &second) != SCTPR_OK) return;
     first += second;
-    if (is_ack && sctp_write_param(SCTP_PARAM_STATE_COOKIE, cookie, cookie_length, params + first, 32, &third) != SCTP_OK) return;
-    if (sctp_write_init(&init, params, first + third, end_of(e), room_of(e), &written) == SCTP_OK) e->length += written;
+    if (is_ack && sctpr_write_param(SCTPR_PARAM_STATE_COOKIE, cookie, cookie_length, params + first, 32, &third) != SCTPR_OK) return;
+    if (sctpr_write_init(&init, params, first + third, end_of(e), room_of(e), &written) == SCTPR_OK) e->length += written;
     flush_with_tag(e, tag);
 }
 
@@ -115,16 +115,16 @@ void endpoint_connect(struct endpoint *e, uint64_t now) {
 /* Reads what the peer says of itself, and where its cookie lies, if there is one, in an INIT or INIT-ACK (RFC 4960 3.3.2, 3.3.3). That it
  * follows a FORWARD-TSN stands in a parameter of its own or among its extensions (RFC 3758 3.1, RFC 5061 4.2.7). */
 static int read_peer(const uint8_t *chunk, size_t length, struct endpoint_peer *peer, const uint8_t **cookie, size_t *cookie_length) {
-    struct sctp_init init;
-    struct sctp_param param;
-    if (sctp_read_init(chunk, length, &init) != SCTP_OK) return 0;
+    struct sctpr_init init;
+    struct sctpr_param param;
+    if (sctpr_read_init(chunk, length, &init) != SCTPR_OK) return 0;
     if (init.initiate_tag == 0 || init.inbound_streams == 0 || init.outbound_streams == 0) return 0;
     *peer = (struct endpoint_peer){ init.initiate_tag, init.initial_tsn, init.credit, init.inbound_streams, 0, 0 };
-    for (size_t at = 20; at < length && sctp_read_param(chunk + at, length - at, &param) == SCTP_OK; at += param.next) {
+    for (size_t at = 20; at < length && sctpr_read_param(chunk + at, length - at, &param) == SCTPR_OK; at += param.next) {
         const uint8_t *value = chunk + at + 4;
-        if (param.type == SCTP_PARAM_FORWARD_TSN_SUPPORTED) peer->has_forward_tsn = 1;
-        if (param.type == SCTP_PARAM_SUPPORTED_EXTENSIONS && memchr(value, SCTP_FORWARD_TSN, param.length)) peer->has_forward_tsn = 1;
-        if (param.type == SCTP_PARAM_STATE_COOKIE) {
+        if (param.type == SCTPR_PARAM_FORWARD_TSN_SUPPORTED) peer->has_forward_tsn = 1;
+        if (param.type == SCTPR_PARAM_SUPPORTED_EXTENSIONS && memchr(value, SCTPR_FORWARD_TSN, param.length)) peer->has_forward_tsn = 1;
+        if (param.type == SCTPR_PARAM_STATE_COOKIE) {
             *cookie = value;
             *cookie_length = param.length;
         }
@@ -153,7 +153,7 @@ static void on_init_ack(struct endpoint *e, const uint8_t *chunk, size_t length)
     memcpy(e->cookie, cookie, cookie_length);
     e->cookie_length = cookie_length;
     e->state = ENDPOINT_COOKIE_ECHOED;
-    put_chunk(e, SCTP_COOKIE_ECHO, e->cookie, e->cookie_length);
+    put_chunk(e, SCTPR_COOKIE_ECHO, e->cookie, e->cookie_length);
     start_timer(e);
 }
 
@@ -174,7 +174,7 @@ static void on_cookie_echo(struct endpoint *e, const uint8_t *chunk, size_t leng
     e->peer = peer;
     if (!make_halves(e)) return;
     establish(e, ENDPOINT_CLOSED);
-    put_chunk(e, SCTP_COOKIE_ACK, NULL, 0);
+    put_chunk(e, SCTPR_COOKIE_ACK, NULL, 0);
 }
 
 /* The round trip time, and the time after which T3-rtx runs out (RFC 4960 6.3.1 C2, C3, C6, C7). */
@@ -191,16 +191,16 @@ static void measure(struct endpoint *e, uint64_t rtt) {
 /* Takes a SACK (RFC 4960 6.2.1): what it takes back, then what it reports anew. T3-rtx stops where all is acknowledged, and starts anew
  * where the cumulative TSN rose (6.3.2). What three SACKs miss is marked (7.2.4); one without gap ack blocks misses nothing. */
 static void on_sack(struct endpoint *e, const uint8_t *chunk, size_t length) {
-    struct sctp_taken_back back[ROWS];
-    struct sctp_acked rows[ROWS];
-    struct sctp_sack sack;
-    uint32_t acked = sctp_sender_acked_tsn(&e->sender);
+    struct sctpr_taken_back back[ROWS];
+    struct sctpr_acked rows[ROWS];
+    struct sctpr_sack sack;
+    uint32_t acked = sctpr_sender_acked_tsn(&e->sender);
     size_t taken_back = 0, count = 0;
-    sctp_code code = sctp_read_sack(chunk, length, &sack, NULL, 0, NULL, 0);
-    if (code == SCTP_OK) code = sctp_sender_take_back(&e->sender, chunk, length, back, ROWS, &taken_back);
-    if (code == SCTP_OK) code = sctp_sender_acked(&e->sender, chunk, length, rows, ROWS, &count);
+    sctpr_code code = sctpr_read_sack(chunk, length, &sack, NULL, 0, NULL, 0);
+    if (code == SCTPR_OK) code = sctpr_sender_take_back(&e->sender, chunk, length, back, ROWS, &taken_back);
+    if (code == SCTPR_OK) code = sctpr_sender_acked(&e->sender, chunk, length, rows, ROWS, &count);
     e->counts.chunks[code]++;
-    if (code != SCTP_OK) return;
+    if (code != SCTPR_OK) return;
     e->counts.taken_back += taken_back;
     e->credit = sack.credit;
     e->errors = 0;
@@ -208,47 +208,45 @@ static void on_sack(struct endpoint *e, const uint8_t *chunk, size_t length) {
         e->wants_forward_tsn = 1;
         start_timer(e);
     }
-    if (sctp_sender_chunks_in_flight(&e->sender) == 0) e->timer = 0;
+    if (sctpr_sender_chunks_in_flight(&e->sender) == 0) e->timer = 0;
     if (taken_back > 0) e->has_marked = 1;
     if (count == 0) return;
-    const struct sctp_acked *last = &rows[count - 1];
+    const struct sctpr_acked *last = &rows[count - 1];
     if (last->has_sent_at && last->sent == 1) measure(e, e->now - last->sent_at);
-    if (sack.blocks > 0 && sctp_sender_add_miss_indications(&e->sender, last->tsn) > 0) {
+    if (sack.blocks > 0 && sctpr_sender_add_miss_indications(&e->sender, last->tsn) > 0) {
         e->has_marked = 1;
         e->counts.fast_retransmissions++;
     }
 }
 
-/* Takes a DATA chunk (RFC 4960 6.2). One of a stream that is not open is reported, and counts as come (6.5). One of a message that is too
- * long closes its stream, so that nothing of the message stays, and counts as come. A SACK goes at once where the chunk came before, asks
- * for it (RFC 7053), or leaves a gap. */
+/* Takes a DATA chunk (RFC 4960 6.2). One of a stream that is not open is reported, and counts as come (6.5); so does one of a message that
+ * is too long. A SACK goes at once where the chunk came before, asks for it (RFC 7053), or leaves a gap. */
 static void on_data(struct endpoint *e, const uint8_t *chunk, size_t length) {
-    struct sctp_data data;
+    struct sctpr_data data;
     uint8_t complete = 0;
-    if (sctp_read_data(chunk, length, &data) != SCTP_OK) return;
-    sctp_code code = sctp_receiver_data(&e->receiver, chunk, length, &complete);
+    if (sctpr_read_data(chunk, length, &data) != SCTPR_OK) return;
+    sctpr_code code = sctpr_receiver_data(&e->receiver, chunk, length, &complete);
     e->counts.chunks[code]++;
-    if (code == SCTP_STREAM_UNKNOWN) {
+    if (code == SCTPR_STREAM_UNKNOWN) {
         const uint8_t stream[4] = { chunk[8], chunk[9], 0, 0 };
-        put_cause(e, SCTP_ERROR, SCTP_CAUSE_INVALID_STREAM_IDENTIFIER, stream, sizeof stream);
+        put_cause(e, SCTPR_ERROR, SCTPR_CAUSE_INVALID_STREAM_IDENTIFIER, stream, sizeof stream);
     }
-    if (code == SCTP_MESSAGE_TOO_LARGE) sctp_receiver_close(&e->receiver, data.stream);
-    if (code == SCTP_STREAM_UNKNOWN || code == SCTP_MESSAGE_TOO_LARGE) sctp_receiver_discard(&e->receiver, data.tsn);
-    if (code == SCTP_REPEAT || data.wants_sack || is_after(data.tsn, sctp_receiver_cumulative_tsn(&e->receiver))) e->sack_due = e->now;
+    if (code == SCTPR_STREAM_UNKNOWN || code == SCTPR_MESSAGE_TOO_LARGE) sctpr_receiver_discard(&e->receiver, data.tsn);
+    if (code == SCTPR_REPEAT || data.wants_sack || is_after(data.tsn, sctpr_receiver_cumulative_tsn(&e->receiver))) e->sack_due = e->now;
 }
 
 /* A FORWARD-TSN is answered by a SACK (RFC 3758 3.6). What it names on a stream that is not open is passed over. */
 static void on_forward_tsn(struct endpoint *e, const uint8_t *chunk, size_t length) {
-    e->counts.chunks[sctp_receiver_forward_tsn_past_closed(&e->receiver, chunk, length)]++;
+    e->counts.chunks[sctpr_receiver_forward_tsn_past_closed(&e->receiver, chunk, length)]++;
     e->unacknowledged++;
     e->sack_due = e->now;
 }
 
 /* The answer to a heartbeat has the time at which it was sent (RFC 4960 8.3). */
 static void on_heartbeat_ack(struct endpoint *e, const uint8_t *chunk, size_t length) {
-    struct sctp_param param;
+    struct sctpr_param param;
     uint64_t sent_at;
-    if (!e->awaits_heartbeat_ack || sctp_read_param(chunk + 4, length - 4, &param) != SCTP_OK || param.length != sizeof sent_at) return;
+    if (!e->awaits_heartbeat_ack || sctpr_read_param(chunk + 4, length - 4, &param) != SCTPR_OK || param.length != sizeof sent_at) return;
     memcpy(&sent_at, chunk + 8, sizeof sent_at);
     if (sent_at != e->heartbeat_sent_at) return;
     e->errors = e->awaits_heartbeat_ack = 0;
@@ -258,17 +256,17 @@ static void on_heartbeat_ack(struct endpoint *e, const uint8_t *chunk, size_t le
 
 static void send_shutdown_ack(struct endpoint *e) {
     e->state = ENDPOINT_SHUTDOWN_ACK_SENT;
-    put_chunk(e, SCTP_SHUTDOWN_ACK, NULL, 0);
+    put_chunk(e, SCTPR_SHUTDOWN_ACK, NULL, 0);
     start_timer(e);
 }
 
 /* A SHUTDOWN acknowledges as a SACK does (RFC 4960 9.2). */
 static void on_shutdown(struct endpoint *e, const uint8_t *chunk, size_t length) {
-    struct sctp_acked rows[ROWS];
+    struct sctpr_acked rows[ROWS];
     uint32_t tsn;
     size_t count = 0;
-    if (sctp_read_shutdown(chunk, length, &tsn) != SCTP_OK) return;
-    e->counts.chunks[sctp_sender_acked_up_to(&e->sender, tsn, rows, ROWS, &count)]++;
+    if (sctpr_read_shutdown(chunk, length, &tsn) != SCTPR_OK) return;
+    e->counts.chunks[sctpr_sender_acked_up_to(&e->sender, tsn, rows, ROWS, &count)]++;
     if (e->state >= ENDPOINT_SHUTDOWN_SENT) send_shutdown_ack(e);
     else e->state = ENDPOINT_SHUTDOWN_RECEIVED;
 }
@@ -277,7 +275,7 @@ static void on_shutdown(struct endpoint *e, const uint8_t *chunk, size_t length)
 static void on_shutdown_ack(struct endpoint *e) {
     if (e->state < ENDPOINT_SHUTDOWN_SENT || e->state == ENDPOINT_ABORTED) return;
     e->state = ENDPOINT_SHUT_DOWN;
-    put_chunk(e, SCTP_SHUTDOWN_COMPLETE, NULL, 0);
+    put_chunk(e, SCTPR_SHUTDOWN_COMPLETE, NULL, 0);
 }
 
 static void on_abort(struct endpoint *e, const uint8_t *chunk, size_t length) {
@@ -291,24 +289,24 @@ static void on_abort(struct endpoint *e, const uint8_t *chunk, size_t length) {
 static void on_transfer(struct endpoint *e, const uint8_t *chunk, size_t length) {
     if (e->state < ENDPOINT_ESTABLISHED || endpoint_is_over(e)) return;
     switch (chunk[0]) {
-    case SCTP_DATA: on_data(e, chunk, length); break;
-    case SCTP_SACK: on_sack(e, chunk, length); break;
-    case SCTP_FORWARD_TSN: on_forward_tsn(e, chunk, length); break;
-    case SCTP_HEARTBEAT: put_chunk(e, SCTP_HEARTBEAT_ACK, chunk + 4, length - 4); break;
-    case SCTP_HEARTBEAT_ACK: on_heartbeat_ack(e, chunk, length); break;
-    case SCTP_SHUTDOWN: on_shutdown(e, chunk, length); break;
+    case SCTPR_DATA: on_data(e, chunk, length); break;
+    case SCTPR_SACK: on_sack(e, chunk, length); break;
+    case SCTPR_FORWARD_TSN: on_forward_tsn(e, chunk, length); break;
+    case SCTPR_HEARTBEAT: put_chunk(e, SCTPR_HEARTBEAT_ACK, chunk + 4, length - 4); break;
+    case SCTPR_HEARTBEAT_ACK: on_heartbeat_ack(e, chunk, length); break;
+    case SCTPR_SHUTDOWN: on_shutdown(e, chunk, length); break;
     }
 }
 
 static void on_chunk(struct endpoint *e, const uint8_t *chunk, size_t length) {
     switch (chunk[0]) {
-    case SCTP_INIT: on_init(e, chunk, length); break;
-    case SCTP_INIT_ACK: on_init_ack(e, chunk, length); break;
-    case SCTP_COOKIE_ECHO: on_cookie_echo(e, chunk, length); break;
-    case SCTP_COOKIE_ACK: establish(e, ENDPOINT_COOKIE_ECHOED); break;
-    case SCTP_ABORT: on_abort(e, chunk, length); break;
-    case SCTP_SHUTDOWN_ACK: on_shutdown_ack(e); break;
-    case SCTP_SHUTDOWN_COMPLETE:
+    case SCTPR_INIT: on_init(e, chunk, length); break;
+    case SCTPR_INIT_ACK: on_init_ack(e, chunk, length); break;
+    case SCTPR_COOKIE_ECHO: on_cookie_echo(e, chunk, length); break;
+    case SCTPR_COOKIE_ACK: establish(e, ENDPOINT_COOKIE_ECHOED); break;
+    case SCTPR_ABORT: on_abort(e, chunk, length); break;
+    case SCTPR_SHUTDOWN_ACK: on_shutdown_ack(e); break;
+    case SCTPR_SHUTDOWN_COMPLETE:
         if (e->state == ENDPOINT_SHUTDOWN_ACK_SENT) e->state = ENDPOINT_SHUT_DOWN;
         break;
     default: on_transfer(e, chunk, length); break;
@@ -317,33 +315,33 @@ static void on_chunk(struct endpoint *e, const uint8_t *chunk, size_t length) {
 
 /* Whether a packet is one of this association (RFC 4960 8.5): an INIT stands alone under the tag 0, and an ABORT or SHUTDOWN-COMPLETE with
  * the T bit is under the tag of the side that it comes from. */
-static int is_ours(const struct endpoint *e, const struct sctp_head *head, const struct sctp_any_chunk *first, size_t count) {
+static int is_ours(const struct endpoint *e, const struct sctpr_head *head, const struct sctpr_any_chunk *first, size_t count) {
     if (head->destination_port != e->config.port || head->source_port != e->config.peer_port || count == 0) return 0;
-    if (first->type == SCTP_INIT) return count == 1 && head->verification_tag == 0;
-    if ((first->type == SCTP_ABORT || first->type == SCTP_SHUTDOWN_COMPLETE) && first->flags & SCTP_FLAG_T)
+    if (first->type == SCTPR_INIT) return count == 1 && head->verification_tag == 0;
+    if ((first->type == SCTPR_ABORT || first->type == SCTPR_SHUTDOWN_COMPLETE) && first->flags & SCTPR_FLAG_T)
         return e->peer.tag != 0 && head->verification_tag == e->peer.tag;
     return head->verification_tag == e->config.tag;
 }
 
 static void send_shutdown(struct endpoint *e) {
-    uint32_t tsn = sctp_receiver_cumulative_tsn(&e->receiver);
+    uint32_t tsn = sctpr_receiver_cumulative_tsn(&e->receiver);
     uint8_t value[4] = { (uint8_t)(tsn >> 24), (uint8_t)(tsn >> 16), (uint8_t)(tsn >> 8), (uint8_t)tsn };
     e->state = ENDPOINT_SHUTDOWN_SENT;
-    put_chunk(e, SCTP_SHUTDOWN, value, sizeof value);
+    put_chunk(e, SCTPR_SHUTDOWN, value, sizeof value);
     start_timer(e);
 }
 
 /* A SACK, as much of it as there is room for, goes for every second packet with DATA, where it is due, and where much more room is left
  * than the last one told. After our SHUTDOWN one goes for each packet with DATA, with another SHUTDOWN (RFC 4960 6.2, 9.2). */
 static void send_sack_if_due(struct endpoint *e) {
-    uint32_t window = sctp_receiver_window(&e->receiver);
+    uint32_t window = sctpr_receiver_window(&e->receiver);
     size_t written = 0;
     int has_room = window > e->advertised && window - e->advertised >= e->config.window / 4;
     int is_answer = e->unacknowledged > 0 && e->state == ENDPOINT_SHUTDOWN_SENT;
     int is_due = e->unacknowledged > 1 || (e->unacknowledged == 1 && e->sack_due <= e->now);
     if (!is_due && !has_room && !is_answer) return;
     make_place(e, 64);
-    if (sctp_receiver_sack(&e->receiver, end_of(e), room_of(e), &written) != SCTP_OK) return;
+    if (sctpr_receiver_sack(&e->receiver, end_of(e), room_of(e), &written) != SCTPR_OK) return;
     e->length += written;
     e->advertised = window;
     e->unacknowledged = 0;
@@ -351,14 +349,14 @@ static void send_sack_if_due(struct endpoint *e) {
 }
 
 void endpoint_receive(struct endpoint *e, const uint8_t *packet, size_t length, uint64_t now) {
-    struct sctp_head head;
-    struct sctp_any_chunk rows[CHUNK_ROWS];
+    struct sctpr_head head;
+    struct sctpr_any_chunk rows[CHUNK_ROWS];
     size_t count = 0;
     uint8_t has_data = 0;
     e->now = now;
-    sctp_code code = sctp_read_any_packet(packet, length, &head, rows, CHUNK_ROWS, &count);
+    sctpr_code code = sctpr_read_any_packet(packet, length, &head, rows, CHUNK_ROWS, &count);
     e->counts.packets[code]++;
-    if (code != SCTP_OK) return;
+    if (code != SCTPR_OK) return;
     if (!is_ours(e, &head, rows, count)) {
         e->counts.wrong_tag++;
         return;
@@ -367,35 +365,35 @@ void endpoint_receive(struct endpoint *e, const uint8_t *packet, size_t length, 
     for (size_t i = 0; i < count && i < CHUNK_ROWS; i++) {
         const uint8_t *chunk = packet + rows[i].at;
         if (rows[i].is_known) on_chunk(e, chunk, rows[i].length);
-        if (rows[i].is_reported) put_cause(e, SCTP_ERROR, SCTP_CAUSE_UNRECOGNIZED_CHUNK_TYPE, chunk, rows[i].length);
-        has_data |= rows[i].type == SCTP_DATA;
+        if (rows[i].is_reported) put_cause(e, SCTPR_ERROR, SCTPR_CAUSE_UNRECOGNIZED_CHUNK_TYPE, chunk, rows[i].length);
+        has_data |= rows[i].type == SCTPR_DATA;
     }
     e->unacknowledged += has_data;
     flush(e);
     endpoint_poll(e, now);
 }
 
-sctp_code endpoint_write(struct endpoint *e, uint16_t stream, uint32_t payload_type, const uint8_t *message, size_t length) {
+sctpr_code endpoint_write(struct endpoint *e, uint16_t stream, uint32_t payload_type, const uint8_t *message, size_t length) {
     uint64_t number;
     size_t fragments;
-    if (e->state != ENDPOINT_ESTABLISHED) return SCTP_INVALID;
-    return sctp_sender_write(&e->sender, stream, payload_type, message, length, &number, &fragments);
+    if (e->state != ENDPOINT_ESTABLISHED) return SCTPR_INVALID;
+    return sctpr_sender_write(&e->sender, stream, payload_type, message, length, &number, &fragments);
 }
 
 /* Abandons what is past its lifetime, once for each time that is handed in, and what is marked and was sent as often as it may be (RFC 3758
  * 3.5, RFC 7496 3.1), where the peer follows a FORWARD-TSN. */
 static void abandon(struct endpoint *e) {
-    struct sctp_abandoned rows[ROWS];
-    struct sctp_expired row;
+    struct sctpr_abandoned rows[ROWS];
+    struct sctpr_expired row;
     size_t tails = 0, late = 0, often = 0;
     if (!e->peer.has_forward_tsn) return;
-    sctp_sender_start(&e->sender, e->now);
+    sctpr_sender_start(&e->sender, e->now);
     if (e->abandoned_at != e->now) {
-        tails = sctp_sender_expire_tail(&e->sender, e->now, rows) == SCTP_OK;
-        if (sctp_sender_expire_late(&e->sender, e->now, rows, ROWS, &late) != SCTP_OK) late = 0;
-        while (sctp_sender_expire(&e->sender, e->now, &row) == SCTP_OK) e->counts.expired++;
+        tails = sctpr_sender_expire_tail(&e->sender, e->now, rows) == SCTPR_OK;
+        if (sctpr_sender_expire_late(&e->sender, e->now, rows, ROWS, &late) != SCTPR_OK) late = 0;
+        while (sctpr_sender_expire(&e->sender, e->now, &row) == SCTPR_OK) e->counts.expired++;
     }
-    if (e->has_marked && sctp_sender_expire_rexmit(&e->sender, rows, ROWS, &often) != SCTP_OK) often = 0;
+    if (e->has_marked && sctpr_sender_expire_rexmit(&e->sender, rows, ROWS, &often) != SCTPR_OK) often = 0;
     e->abandoned_at = e->now;
     e->counts.abandoned += tails + late + often;
     if (tails + late + often > 0) e->wants_forward_tsn = 1;
@@ -406,7 +404,7 @@ static void abandon(struct endpoint *e) {
 static void send_forward_tsn(struct endpoint *e) {
     size_t written = 0;
     make_place(e, 64);
-    if (sctp_sender_forward_tsn(&e->sender, end_of(e), room_of(e), &written) == SCTP_OK) {
+    if (sctpr_sender_forward_tsn(&e->sender, end_of(e), room_of(e), &written) == SCTPR_OK) {
         e->length += written;
         e->counts.forward_tsns_sent++;
         if (e->timer == 0) start_timer(e);
@@ -415,12 +413,12 @@ static void send_forward_tsn(struct endpoint *e) {
 }
 
 /* Counts a DATA chunk that was put into the packet, or sends the packet where it has no room for it. Whether to go on. */
-static int note_data(struct endpoint *e, sctp_code code, size_t written) {
-    if (code == SCTP_SHORT_BUFFER && e->length > PACKET_HEADER) {
+static int note_data(struct endpoint *e, sctpr_code code, size_t written) {
+    if (code == SCTPR_SHORT_BUFFER && e->length > PACKET_HEADER) {
         flush(e);
         return 1;
     }
-    if (code != SCTP_OK) return 0;
+    if (code != SCTPR_OK) return 0;
     e->length += written;
     e->has_data = 1;
     if (e->timer == 0) start_timer(e);
@@ -429,21 +427,21 @@ static int note_data(struct endpoint *e, sctp_code code, size_t written) {
 
 /* Sends all that is marked. There is no congestion control that would spread it. */
 static void send_marked(struct endpoint *e) {
-    struct sctp_in_flight row;
+    struct sctpr_in_flight row;
     size_t written = 0;
-    while (e->has_marked && sctp_sender_next_to_retransmit(&e->sender, &row) == SCTP_OK) {
-        sctp_code code = sctp_sender_resend(&e->sender, row.tsn, e->now, end_of(e), room_of(e), &written);
+    while (e->has_marked && sctpr_sender_next_to_retransmit(&e->sender, &row) == SCTPR_OK) {
+        sctpr_code code = sctpr_sender_resend(&e->sender, row.tsn, e->now, end_of(e), room_of(e), &written);
         if (!note_data(e, code, written)) return;
-        e->counts.data_sent_again += code == SCTP_OK;
+        e->counts.data_sent_again += code == SCTPR_OK;
     }
     e->has_marked = 0;
 }
 
 /* Whether a new chunk may go: within what the peer has room for and what may be in flight; one always may (RFC 4960 6.1 A, B). */
 static int may_send(struct endpoint *e) {
-    size_t in_flight = sctp_sender_bytes_in_flight(&e->sender);
+    size_t in_flight = sctpr_sender_bytes_in_flight(&e->sender);
     size_t most = e->credit < e->config.max_in_flight ? e->credit : e->config.max_in_flight;
-    if (sctp_sender_chunks_in_flight(&e->sender) >= MAX_CHUNKS_IN_FLIGHT) return 0;
+    if (sctpr_sender_chunks_in_flight(&e->sender) >= MAX_CHUNKS_IN_FLIGHT) return 0;
     return in_flight == 0 || in_flight + e->config.mtu <= most;
 }
 
@@ -451,9 +449,9 @@ static void send_new(struct endpoint *e) {
     size_t written = 0;
     uint32_t tsn;
     while (may_send(e)) {
-        sctp_code code = sctp_sender_send_next(&e->sender, e->now, end_of(e), room_of(e), &written, &tsn);
+        sctpr_code code = sctpr_sender_send_next(&e->sender, e->now, end_of(e), room_of(e), &written, &tsn);
         if (!note_data(e, code, written)) return;
-        e->counts.data_sent += code == SCTP_OK;
+        e->counts.data_sent += code == SCTPR_OK;
     }
 }
 
@@ -464,8 +462,8 @@ static void send_heartbeat(struct endpoint *e) {
     size_t written = 0;
     e->errors += e->awaits_heartbeat_ack;
     e->heartbeat_due = e->now + e->config.heartbeat_interval;
-    if (sctp_write_param(SCTP_PARAM_HEARTBEAT_INFO, info, sizeof e->now, param, sizeof param, &written) != SCTP_OK) return;
-    put_chunk(e, SCTP_HEARTBEAT, param, written);
+    if (sctpr_write_param(SCTPR_PARAM_HEARTBEAT_INFO, info, sizeof e->now, param, sizeof param, &written) != SCTPR_OK) return;
+    put_chunk(e, SCTPR_HEARTBEAT, param, written);
     e->heartbeat_sent_at = e->now;
     e->awaits_heartbeat_ack = 1;
     e->counts.heartbeats_sent++;
@@ -479,18 +477,18 @@ static void on_timeout(struct endpoint *e) {
     start_timer(e);
     switch (e->state) {
     case ENDPOINT_COOKIE_WAIT: send_init(e, 0, 0, NULL, 0); break;
-    case ENDPOINT_COOKIE_ECHOED: put_chunk(e, SCTP_COOKIE_ECHO, e->cookie, e->cookie_length); break;
+    case ENDPOINT_COOKIE_ECHOED: put_chunk(e, SCTPR_COOKIE_ECHO, e->cookie, e->cookie_length); break;
     case ENDPOINT_SHUTDOWN_SENT: send_shutdown(e); break;
     case ENDPOINT_SHUTDOWN_ACK_SENT: send_shutdown_ack(e); break;
     default:
-        sctp_sender_retransmit_all(&e->sender);
+        sctpr_sender_retransmit_all(&e->sender);
         e->has_marked = e->wants_forward_tsn = 1;
     }
 }
 
 /* Goes on with a shutdown, once nothing waits or is in flight (RFC 4960 9.2). */
 static void shut_down_if_drained(struct endpoint *e) {
-    if (sctp_sender_pending(&e->sender) > 0 || sctp_sender_chunks_in_flight(&e->sender) > 0) return;
+    if (sctpr_sender_pending(&e->sender) > 0 || sctpr_sender_chunks_in_flight(&e->sender) > 0) return;
     if (e->state == ENDPOINT_SHUTDOWN_PENDING) send_shutdown(e);
     if (e->state == ENDPOINT_SHUTDOWN_RECEIVED) send_shutdown_ack(e);
 }
@@ -521,7 +519,7 @@ void endpoint_shutdown(struct endpoint *e, uint64_t now) {
 
 void endpoint_abort(struct endpoint *e) {
     if (endpoint_is_over(e)) return;
-    if (e->peer.tag != 0) put_cause(e, SCTP_ABORT, SCTP_CAUSE_USER_INITIATED_ABORT, NULL, 0);
+    if (e->peer.tag != 0) put_cause(e, SCTPR_ABORT, SCTPR_CAUSE_USER_INITIATED_ABORT, NULL, 0);
     flush(e);
     e->state = ENDPOINT_ABORTED;
 }

@@ -1,10 +1,10 @@
-/* A small SCTP endpoint over sctp.h: an example, not a stack; README.md says what it lacks. It has one association over one path. It has
+/* A small SCTP endpoint over sctpr.h: an example, not a stack; README.md says what it lacks. It has one association over one path. It has
  * no clock and no socket: its user hands in the datagrams that came and the time, in nanoseconds from any one moment after 0, and sends
  * what `output` is handed. */
 #ifndef ENDPOINT_H
 #define ENDPOINT_H
 
-#include "sctp.h"
+#include "sctpr.h"
 
 /* The states of an association (RFC 4960 4), and the two in which it is over: shut down by both sides, or aborted by either, also where
  * the peer answers no more. */
@@ -45,7 +45,7 @@ struct endpoint_peer {
 /* How often what happened. `packets` counts packets that came, `chunks` the DATA, SACK and FORWARD-TSN chunks, by the code with which they
  * were taken or refused. */
 struct endpoint_counts {
-    uint64_t packets[SCTP_ERR_SHORT_BUFFER + 1], chunks[SCTP_ERR_SHORT_BUFFER + 1], wrong_tag;
+    uint64_t packets[SCTPR_ERR_SHORT_BUFFER + 1], chunks[SCTPR_ERR_SHORT_BUFFER + 1], wrong_tag;
     uint64_t packets_sent, data_sent, data_sent_again, timeouts, fast_retransmissions;
     uint64_t abandoned, expired, taken_back, forward_tsns_sent, heartbeats_sent, heartbeats_answered;
 };
@@ -56,8 +56,8 @@ struct endpoint {
     enum endpoint_state state;
     struct endpoint_peer peer;
     /* The two halves, where has_halves is 1: from ENDPOINT_ESTABLISHED on, also when the association is over. */
-    sctp_sender sender;
-    sctp_receiver receiver;
+    sctpr_sender sender;
+    sctpr_receiver receiver;
     uint8_t has_halves;
     /* `timer` is when T1-init, T1-cookie, T2-shutdown or T3-rtx runs out, of which one runs at a time; 0: none does. */
     uint64_t now, timer, rto, smoothed_rtt, rtt_variation, heartbeat_due, heartbeat_sent_at;
@@ -87,8 +87,8 @@ void endpoint_free(struct endpoint *e);
 void endpoint_connect(struct endpoint *e, uint64_t now);
 /* Takes a datagram that came, whatever it is, and does what endpoint_poll does. Messages are then read from `receiver`. */
 void endpoint_receive(struct endpoint *e, const uint8_t *packet, size_t length, uint64_t now);
-/* Takes a message to be sent, as sctp_sender_write does, in the mode that was set on `sender`. SCTP_INVALID: not established. */
-sctp_code endpoint_write(struct endpoint *e, uint16_t stream, uint32_t payload_type, const uint8_t *message, size_t length);
+/* Takes a message to be sent, as sctpr_sender_write does, in the mode that was set on `sender`. SCTPR_INVALID: not established. */
+sctpr_code endpoint_write(struct endpoint *e, uint16_t stream, uint32_t payload_type, const uint8_t *message, size_t length);
 /* Looks at the timers, and sends what may be sent. To be called after writes, after reads, and every few milliseconds. */
 void endpoint_poll(struct endpoint *e, uint64_t now);
 /* Sends what was written, and then shuts the association down (RFC 4960 9.2). */

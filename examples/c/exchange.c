@@ -52,12 +52,12 @@ static void write_some(int side) {
     for (int i = 0; i < (is_short ? SHORT_WRITES : WRITES); i++) {
         int stream = (int)(random_next(&message_random) % STREAMS);
         size_t amount = 0;
-        sctp_sender_buffered_amount(&sides[side].sender, (uint16_t)stream, &amount);
+        sctpr_sender_buffered_amount(&sides[side].sender, (uint16_t)stream, &amount);
         if (amount > MAX_MESSAGE) continue;
         uint32_t length = is_short ? 8 + (uint32_t)(random_next(&message_random) % 56) : message_length(stream, 0);
         message_fill(message, length, side, stream, channels[side][stream].written);
-        sctp_code code = endpoint_write(&sides[side], (uint16_t)stream, SCTP_PPID_BINARY, message, length);
-        if (code != SCTP_OK) fault("side %d: a write is refused with %u", side, (unsigned)code);
+        sctpr_code code = endpoint_write(&sides[side], (uint16_t)stream, SCTPR_PPID_BINARY, message, length);
+        if (code != SCTPR_OK) fault("side %d: a write is refused with %u", side, (unsigned)code);
         else message_written(side, stream, length);
     }
 }
@@ -70,8 +70,8 @@ static void read_all(int side) {
     uint32_t type;
     if (!sides[side].has_halves) return;
     while (stream < STREAMS) {
-        sctp_code code = sctp_receiver_read(&sides[side].receiver, stream, message, sizeof message, &length, &type);
-        if (code == SCTP_OK) message_read(1 - side, stream, type, message, length);
+        sctpr_code code = sctpr_receiver_read(&sides[side].receiver, stream, message, sizeof message, &length, &type);
+        if (code == SCTPR_OK) message_read(1 - side, stream, type, message, length);
         else stream++;
     }
 }
@@ -89,8 +89,8 @@ static void one_tick(void) {
 static int both_are(enum endpoint_state state) { return sides[0].state == state && sides[1].state == state; }
 
 static int is_drained(const struct endpoint *e) {
-    sctp_sender sender = e->sender;
-    return sctp_sender_pending(&sender) == 0 && sctp_sender_chunks_in_flight(&sender) == 0;
+    sctpr_sender sender = e->sender;
+    return sctpr_sender_pending(&sender) == 0 && sctpr_sender_chunks_in_flight(&sender) == 0;
 }
 
 /* The first side connects, or the second one, or both do. */
@@ -104,7 +104,7 @@ static void connect_sides(uint64_t seed) {
 static void set_modes(int side) {
     for (uint16_t i = 0; i < STREAMS; i++) {
         const struct mode *m = &modes[i];
-        if (sctp_sender_set_mode(&sides[side].sender, i, m->unordered, m->reliability, m->value) != SCTP_OK) fault("mode %u", i);
+        if (sctpr_sender_set_mode(&sides[side].sender, i, m->unordered, m->reliability, m->value) != SCTPR_OK) fault("mode %u", i);
     }
 }
 
@@ -143,7 +143,7 @@ static void print_side(int side) {
     printf("  messages abandoned %lu, expired %lu, FORWARD-TSN %lu, heartbeats answered %lu of %lu\n", (unsigned long)c->abandoned,
            (unsigned long)c->expired, (unsigned long)c->forward_tsns_sent, (unsigned long)c->heartbeats_answered,
            (unsigned long)c->heartbeats_sent);
-    for (unsigned i = 16; i <= SCTP_ERR_SHORT_BUFFER; i++)
+    for (unsigned i = 16; i <= SCTPR_ERR_SHORT_BUFFER; i++)
         if (c->chunks[i]) printf("  chunks refused with %u: %lu\n", i, (unsigned long)c->chunks[i]);
 }
 

@@ -1,16 +1,16 @@
 #include "messages.h"
 #include "network.h"
-#include "sctp.h"
+#include "sctpr.h"
 #include <stdarg.h>
 #include <stdio.h>
 #include <stdlib.h>
 #include <string.h>
 
 const struct mode modes[STREAMS] = {
-    { "ordered", 0, SCTP_RELIABLE, 0 },           { "unordered", 1, SCTP_RELIABLE, 0 },
-    { "ordered, sent once", 0, SCTP_REXMIT, 0 },  { "unordered, sent once", 1, SCTP_REXMIT, 0 },
-    { "ordered, 3 times", 0, SCTP_REXMIT, 2 },    { "unordered, 3 times", 1, SCTP_REXMIT, 2 },
-    { "ordered, 300 ms", 0, SCTP_TIMED, 300 },    { "unordered, 300 ms", 1, SCTP_TIMED, 300 },
+    { "ordered", 0, SCTPR_RELIABLE, 0 },           { "unordered", 1, SCTPR_RELIABLE, 0 },
+    { "ordered, sent once", 0, SCTPR_REXMIT, 0 },  { "unordered, sent once", 1, SCTPR_REXMIT, 0 },
+    { "ordered, 3 times", 0, SCTPR_REXMIT, 2 },    { "unordered, 3 times", 1, SCTPR_REXMIT, 2 },
+    { "ordered, 300 ms", 0, SCTPR_TIMED, 300 },    { "unordered, 300 ms", 1, SCTPR_TIMED, 300 },
 };
 struct channel channels[2][STREAMS];
 unsigned long faults;
@@ -26,7 +26,7 @@ void fault(const char *format, ...) {
     va_end(list);
 }
 
-static int may_be_lost(int stream) { return modes[stream].reliability != SCTP_RELIABLE; }
+static int may_be_lost(int stream) { return modes[stream].reliability != SCTPR_RELIABLE; }
 
 uint32_t message_length(int stream, int separate) {
     enum { ONE_CHUNK = 1172 };
@@ -93,7 +93,7 @@ static void drop(struct channel *c, size_t lost) {
 void message_read(int direction, int stream, uint32_t payload_type, const uint8_t *bytes, size_t length) {
     struct channel *c = &channels[direction][stream];
     size_t place = length <= MAX_MESSAGE ? place_of(c, direction, stream, bytes, length) : c->count;
-    if (payload_type != SCTP_PPID_BINARY) fault("direction %d, stream %d: payload type %u", direction, stream, (unsigned)payload_type);
+    if (payload_type != SCTPR_PPID_BINARY) fault("direction %d, stream %d: payload type %u", direction, stream, (unsigned)payload_type);
     if (place == c->count) {
         const struct expected none = { 0, 0, 0 }, *next = c->count > 0 ? &c->rows[c->first] : &none;
         uint32_t number = 0;

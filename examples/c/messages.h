@@ -7,7 +7,7 @@
 
 enum { STREAMS = 8, MAX_MESSAGE = 256 * 1024 };
 
-/* As sctp_sender_set_mode has them. */
+/* As sctpr_sender_set_mode has them. */
 struct mode {
     const char *name;
     uint8_t unordered;

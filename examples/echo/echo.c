@@ -1,7 +1,7 @@
 /* A host sends messages, another one sends each back; every fifth datagram between them is lost. The same program in C++ is echo.cpp,
  * in Rust wrappers/rust/sctp-rattle/examples/echo.rs, in Go wrappers/go/echo/main.go; each prints the same line. There is no handshake:
  * both know tags and first TSNs. */
-#include "sctp.h"
+#include "sctpr.h"
 #include <stdio.h>
 #include <stdlib.h>
 #include <string.h>
@@ -9,29 +9,29 @@
 enum { MESSAGES = 100, LONGEST = 3000, STREAM = 1, PACKET = 1200, HEADER = 12, IN_FLIGHT = 32 };
 
 struct host {
-    sctp_sender sender;
-    sctp_receiver receiver;
-    struct sctp_head head;
+    sctpr_sender sender;
+    sctpr_receiver receiver;
+    struct sctpr_head head;
     int has_news;
 };
 
 static uint32_t state = 1;
 static unsigned datagrams, lost;
 
-static void must(sctp_code code) {
-    char name[SCTP_NAME_ROOM];
+static void must(sctpr_code code) {
+    char name[SCTPR_NAME_ROOM];
     size_t written;
-    if (code < SCTP_NO_MEMORY) return;
-    if (sctp_code_name(code, (uint8_t *)name, sizeof name, &written) == SCTP_OK) fprintf(stderr, "echo: %s\n", name);
+    if (code < SCTPR_NO_MEMORY) return;
+    if (sctpr_code_name(code, (uint8_t *)name, sizeof name, &written) == SCTPR_OK) fprintf(stderr, "echo: %s\n", name);
     exit(1);
 }
 
 static struct host new_host(uint32_t tag, uint16_t port, uint16_t peer_port) {
     struct host h = { .head = { tag, port, peer_port } };
-    must(sctp_sender_new(1000, PACKET - 28, LONGEST, &h.sender));
-    must(sctp_receiver_new(1000, LONGEST, 1 << 16, 1000, &h.receiver));
-    must(sctp_sender_open(&h.sender, STREAM));
-    must(sctp_receiver_open(&h.receiver, STREAM));
+    must(sctpr_sender_new(1000, PACKET - 28, LONGEST, &h.sender));
+    must(sctpr_receiver_new(1000, LONGEST, 1 << 16, 1000, &h.receiver));
+    must(sctpr_sender_open(&h.sender, STREAM));
+    must(sctpr_receiver_open(&h.receiver, STREAM));
     return h;
 }
 
@@ -46,44 +46,44 @@ static int is_lost(void) {
 static size_t write_packet(struct host *h, uint64_t now, uint8_t *packet) {
     size_t length = HEADER, n = 0;
     uint32_t tsn;
-    struct sctp_in_flight marked;
+    struct sctpr_in_flight marked;
     if (h->has_news) {
-        must(sctp_receiver_sack(&h->receiver, packet + length, PACKET - length, &n));
+        must(sctpr_receiver_sack(&h->receiver, packet + length, PACKET - length, &n));
         length += n;
         h->has_news = 0;
     }
-    while (sctp_sender_next_to_retransmit(&h->sender, &marked) == SCTP_OK) {
-        sctp_code code = sctp_sender_resend(&h->sender, marked.tsn, now, packet + length, PACKET - length, &n);
-        if (code == SCTP_SHORT_BUFFER) break;
+    while (sctpr_sender_next_to_retransmit(&h->sender, &marked) == SCTPR_OK) {
+        sctpr_code code = sctpr_sender_resend(&h->sender, marked.tsn, now, packet + length, PACKET - length, &n);
+        if (code == SCTPR_SHORT_BUFFER) break;
         must(code);
         length += n;
     }
-    while (sctp_sender_chunks_in_flight(&h->sender) < IN_FLIGHT) {
-        sctp_code code = sctp_sender_send_next(&h->sender, now, packet + length, PACKET - length, &n, &tsn);
-        if (code == SCTP_SHORT_BUFFER || code == SCTP_NOTHING) break;
+    while (sctpr_sender_chunks_in_flight(&h->sender) < IN_FLIGHT) {
+        sctpr_code code = sctpr_sender_send_next(&h->sender, now, packet + length, PACKET - length, &n, &tsn);
+        if (code == SCTPR_SHORT_BUFFER || code == SCTPR_NOTHING) break;
         must(code);
         length += n;
     }
-    if (length > HEADER) must(sctp_seal_packet(&h->head, packet, length));
+    if (length > HEADER) must(sctpr_seal_packet(&h->head, packet, length));
     return length;
 }
 
 static void take_packet(struct host *h, const uint8_t *packet, size_t length) {
-    struct sctp_head head;
-    struct sctp_chunk chunks[64];
-    struct sctp_acked acked[IN_FLIGHT];
+    struct sctpr_head head;
+    struct sctpr_chunk chunks[64];
+    struct sctpr_acked acked[IN_FLIGHT];
     size_t count = 0, n = 0;
     uint8_t complete;
-    must(sctp_read_packet(packet, length, &head, chunks, 64, &count));
+    must(sctpr_read_packet(packet, length, &head, chunks, 64, &count));
     for (size_t i = 0; i < count && i < 64; i++) {
         const uint8_t *chunk = packet + chunks[i].at;
-        if (chunks[i].type == SCTP_DATA) {
-            must(sctp_receiver_data(&h->receiver, chunk, chunks[i].length, &complete));
+        if (chunks[i].type == SCTPR_DATA) {
+            must(sctpr_receiver_data(&h->receiver, chunk, chunks[i].length, &complete));
             h->has_news = 1;
         }
-        if (chunks[i].type == SCTP_SACK) {
-            must(sctp_sender_acked(&h->sender, chunk, chunks[i].length, acked, IN_FLIGHT, &n));
-            if (n > 0) sctp_sender_add_miss_indications(&h->sender, acked[n - 1].tsn);
+        if (chunks[i].type == SCTPR_SACK) {
+            must(sctpr_sender_acked(&h->sender, chunk, chunks[i].length, acked, IN_FLIGHT, &n));
+            if (n > 0) sctpr_sender_add_miss_indications(&h->sender, acked[n - 1].tsn);
             n = 0;
         }
     }
@@ -108,14 +108,14 @@ static size_t message(uint32_t number, uint8_t *out) {
 static void write_message(struct host *h, const uint8_t *bytes, size_t length) {
     uint64_t number;
     size_t fragments;
-    must(sctp_sender_write(&h->sender, STREAM, SCTP_PPID_BINARY, bytes, length, &number, &fragments));
+    must(sctpr_sender_write(&h->sender, STREAM, SCTPR_PPID_BINARY, bytes, length, &number, &fragments));
 }
 
 /* Reads the next message; 0 where there is none. */
 static size_t read_message(struct host *h, uint8_t *out) {
     size_t length = 0;
     uint32_t type;
-    must(sctp_receiver_read(&h->receiver, STREAM, out, LONGEST, &length, &type));
+    must(sctpr_receiver_read(&h->receiver, STREAM, out, LONGEST, &length, &type));
     return length;
 }
 
@@ -128,8 +128,8 @@ int main(void) {
         uint64_t now = rounds * UINT64_C(100000000);
         if (written < MESSAGES) write_message(&a, bytes, message(written++, bytes));
         if (rounds % 4 == 3) {
-            sctp_sender_retransmit_all(&a.sender);
-            sctp_sender_retransmit_all(&b.sender);
+            sctpr_sender_retransmit_all(&a.sender);
+            sctpr_sender_retransmit_all(&b.sender);
         }
         send_all(&a, &b, now);
         while ((length = read_message(&b, bytes)) > 0) write_message(&b, bytes, length);
@@ -139,10 +139,10 @@ int main(void) {
             all += length;
         }
     }
-    sctp_sender_free(a.sender);
-    sctp_receiver_free(a.receiver);
-    sctp_sender_free(b.sender);
-    sctp_receiver_free(b.receiver);
+    sctpr_sender_free(a.sender);
+    sctpr_receiver_free(a.receiver);
+    sctpr_sender_free(b.sender);
+    sctpr_receiver_free(b.receiver);
     printf("echo: %u messages with %zu bytes came back, %u datagrams, %u lost, %u rounds\n", (unsigned)echoed, all, datagrams, lost,
            (unsigned)rounds);
     return echoed != MESSAGES;

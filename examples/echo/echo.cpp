@@ -1,5 +1,5 @@
 /* The program of echo.c in C++20. */
-#include "sctp.hpp"
+#include "sctpr.hpp"
 #include <algorithm>
 #include <array>
 #include <cstdio>
@@ -12,21 +12,21 @@ constexpr std::uint16_t stream = 1;
 constexpr std::size_t in_flight = 32;
 
 /** The value of a call that has to be done. */
-template <class T> T must(sctp::result<T> r) {
+template <class T> T must(sctpr::result<T> r) {
     if (!r) {
-        std::fprintf(stderr, "echo: %s\n", sctp::name(r.error()).c_str());
+        std::fprintf(stderr, "echo: %s\n", sctpr::name(r.error()).c_str());
         std::exit(1);
     }
     if constexpr (!std::is_void_v<T>) return *std::move(r);
 }
 
 struct host {
-    sctp::sender sender = must(sctp::sender::make(1000, packet_size - 28, longest));
-    sctp::receiver receiver = must(sctp::receiver::make(1000, longest, 1 << 16, 1000));
-    sctp::head head;
+    sctpr::sender sender = must(sctpr::sender::make(1000, packet_size - 28, longest));
+    sctpr::receiver receiver = must(sctpr::receiver::make(1000, longest, 1 << 16, 1000));
+    sctpr::head head;
     bool has_news = false;
 
-    explicit host(sctp::head h) : head(h) {
+    explicit host(sctpr::head h) : head(h) {
         must(sender.open(stream));
         must(receiver.open(stream));
     }
@@ -48,7 +48,7 @@ struct network {
 };
 
 /** Writes a packet: a SACK, where anything came, what is to be sent again, and what waits. Its length, `header` where there is nothing. */
-std::size_t write_packet(host &h, std::uint64_t now, sctp::buffer packet) {
+std::size_t write_packet(host &h, std::uint64_t now, sctpr::buffer packet) {
     std::size_t length = header;
     if (h.has_news) {
         length += must(h.receiver.write_sack(packet.subspan(length)));
@@ -56,29 +56,29 @@ std::size_t write_packet(host &h, std::uint64_t now, sctp::buffer packet) {
     }
     while (auto marked = h.sender.next_to_retransmit()) {
         auto again = h.sender.resend(marked->tsn, now, packet.subspan(length));
-        if (!again && again.error().code == sctp::code::short_buffer) break;
+        if (!again && again.error().code == sctpr::code::short_buffer) break;
         length += must(again);
     }
     while (h.sender.chunks_in_flight() < in_flight) {
         auto sent = h.sender.send_next(now, packet.subspan(length));
-        if (!sent && sent.error().code == sctp::code::short_buffer) break;
+        if (!sent && sent.error().code == sctpr::code::short_buffer) break;
         if (!must(sent)) break;
         length += (*sent)->size;
     }
-    if (length > header) must(sctp::seal_packet(h.head, packet.first(length)));
+    if (length > header) must(sctpr::seal_packet(h.head, packet.first(length)));
     return length;
 }
 
-void take_packet(host &h, sctp::bytes datagram) {
-    std::array<sctp::chunk, 64> rows;
-    std::array<sctp::acked, in_flight> acked_rows;
-    for (const sctp::chunk &row : must(sctp::read_packet(datagram, rows)).chunks) {
-        sctp::bytes chunk = sctp::chunk_bytes(datagram, row);
-        if (row.type == SCTP_DATA) {
+void take_packet(host &h, sctpr::bytes datagram) {
+    std::array<sctpr::chunk, 64> rows;
+    std::array<sctpr::acked, in_flight> acked_rows;
+    for (const sctpr::chunk &row : must(sctpr::read_packet(datagram, rows)).chunks) {
+        sctpr::bytes chunk = sctpr::chunk_bytes(datagram, row);
+        if (row.type == SCTPR_DATA) {
             must(h.receiver.take_data(chunk));
             h.has_news = true;
         }
-        if (row.type == SCTP_SACK) {
+        if (row.type == SCTPR_SACK) {
             auto acked = must(h.sender.take_sack(chunk, acked_rows));
             if (acked && !acked->empty()) h.sender.add_miss_indications(acked->back().tsn);
         }
@@ -89,7 +89,7 @@ void send_all(network &net, host &from, host &to, std::uint64_t now) {
     std::array<std::uint8_t, packet_size> packet;
     while (std::size_t length = write_packet(from, now, packet)) {
         if (length == header) return;
-        if (!net.loses()) take_packet(to, sctp::bytes(packet).first(length));
+        if (!net.loses()) take_packet(to, sctpr::bytes(packet).first(length));
     }
 }
 
@@ -108,7 +108,7 @@ int main() {
     std::size_t all = 0;
     for (; echoed < messages && rounds < 10000; rounds++) {
         std::uint64_t now = rounds * std::uint64_t(100000000);
-        if (written < messages) must(a.sender.write(stream, SCTP_PPID_BINARY, message(written++)));
+        if (written < messages) must(a.sender.write(stream, SCTPR_PPID_BINARY, message(written++)));
         if (rounds % 4 == 3) {
             a.sender.retransmit_all();
             b.sender.retransmit_all();

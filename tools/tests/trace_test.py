@@ -17,7 +17,7 @@ from trace import Callers, Definitions, candidates, comment_of, definitions_of, 
 
 CALLERS = {
     "sctp_sender::InFlight::expire_late": {"sctp_sender/sender/abandonment expire_late"},
-    "sctp_sender::Sender::keep_reported": {"transfer_tests/hosts is_done", "sctp_c/sender/acks sctp_sender_keep_reported"},
+    "sctp_sender::Sender::keep_reported": {"transfer_tests/hosts is_done", "sctp_c/sender/acks sctpr_sender_keep_reported"},
     "sctp_outbound::PayloadQueue::pop_up_to": {"transfer_tests/queues/payload_queue pop_up_to"},
     "sctp_reassembly::Loose::take_range_counted": {"sctp_reassembly/reassembly_queue/pool/undo put_undoable", "sctp_reassembly/reassembly_queue/unassembled take_range"},
     "sctp_reassembly::ReassemblyQueue::forward_tsn_for_unordered": {"transfer_tests/queues/reassembly_queue skip"},
@@ -37,8 +37,8 @@ CALLERS = {
     "sctp_receiver::InboundStreams::held_bytes": {"sctp_receiver/receiver/limits held_bytes", "sctp_receiver/receiver/limits refusal_within"},
     "sctp_reassembly::ReassemblyQueue::next_len": {"sctp_receiver/receiver next_len"},
     "sctp_receiver::Receiver::held_bytes": {"sctp_receiver/receiver/limits left_of", "transfer_tests/receivers is_seen", "association/exchange is_served",
-                                              "sctp_c/receiver sctp_receiver_held_bytes", "sctp_delivery/room is_room_left"},
-    "sctp_c::sctp_sender_open": {"sctp_c/callers first_chunk"},
+                                              "sctp_c/receiver sctpr_receiver_held_bytes", "sctp_delivery/room is_room_left"},
+    "sctp_c::sctpr_sender_open": {"sctp_c/callers first_chunk"},
     "crc32c::Crc::update": {"bench/packet sum", "crc32c/lib crc32c", "sctp_packets/checksum checksum", "sctp_show/checksum checksum",
                             "crc32c/tests datagrams", "crc32c/tests pieces"},
 }

@@ -1,4 +1,4 @@
-// Written by tools/c_bindings.py from include/sctp.h.
+// Written by tools/c_bindings.py from include/sctpr.h.
 
 package sctprattle
 

@@ -1,7 +1,7 @@
 package sctprattle
 
 /*
-#include <sctp.h>
+#include <sctpr.h>
 */
 import "C"
 
@@ -31,22 +31,22 @@ func (c Chunk) Value() []byte { return c.Bytes[4:] }
 
 // ReadPacket reads a packet under CRC-32C: header, checksum, and each of its chunks whole.
 func ReadPacket(packet []byte) (Head, []Chunk, error) {
-	return readPacket(packet, func(head *C.struct_sctp_head, rows *C.struct_sctp_chunk, room C.size_t, count *C.size_t) C.sctp_code {
+	return readPacket(packet, func(head *C.struct_sctp_head, rows *C.struct_sctp_chunk, room C.size_t, count *C.size_t) C.sctpr_code {
 		at, length := bytesOf(packet)
-		return C.sctp_read_packet(at, length, head, rows, room, count)
+		return C.sctpr_read_packet(at, length, head, rows, room, count)
 	})
 }
 
 // ReadPacketWithSum does the same under a sum that the caller took: of the first eight bytes, four zeros, and the bytes from the twelfth
 // on.
 func ReadPacketWithSum(packet []byte, sum uint32) (Head, []Chunk, error) {
-	return readPacket(packet, func(head *C.struct_sctp_head, rows *C.struct_sctp_chunk, room C.size_t, count *C.size_t) C.sctp_code {
+	return readPacket(packet, func(head *C.struct_sctp_head, rows *C.struct_sctp_chunk, room C.size_t, count *C.size_t) C.sctpr_code {
 		at, length := bytesOf(packet)
-		return C.sctp_read_packet_with_sum(at, length, C.uint32_t(sum), head, rows, room, count)
+		return C.sctpr_read_packet_with_sum(at, length, C.uint32_t(sum), head, rows, room, count)
 	})
 }
 
-func readPacket(packet []byte, read func(*C.struct_sctp_head, *C.struct_sctp_chunk, C.size_t, *C.size_t) C.sctp_code) (Head, []Chunk, error) {
+func readPacket(packet []byte, read func(*C.struct_sctp_head, *C.struct_sctp_chunk, C.size_t, *C.size_t) C.sctpr_code) (Head, []Chunk, error) {
 	// a chunk has four bytes or more, so that there is a row for each
 	rows := make([]C.struct_sctp_chunk, len(packet)/4+1)
 	var head C.struct_sctp_head
@@ -71,21 +71,21 @@ type AnyChunk struct {
 
 // ReadAnyPacket reads a packet under CRC-32C that may have chunks of unknown types.
 func ReadAnyPacket(packet []byte) (Head, []AnyChunk, error) {
-	return readAnyPacket(packet, func(head *C.struct_sctp_head, rows *C.struct_sctp_any_chunk, room C.size_t, count *C.size_t) C.sctp_code {
+	return readAnyPacket(packet, func(head *C.struct_sctp_head, rows *C.struct_sctp_any_chunk, room C.size_t, count *C.size_t) C.sctpr_code {
 		at, length := bytesOf(packet)
-		return C.sctp_read_any_packet(at, length, head, rows, room, count)
+		return C.sctpr_read_any_packet(at, length, head, rows, room, count)
 	})
 }
 
 // ReadAnyPacketWithSum does the same under a sum that the caller took, as ReadPacketWithSum.
 func ReadAnyPacketWithSum(packet []byte, sum uint32) (Head, []AnyChunk, error) {
-	return readAnyPacket(packet, func(head *C.struct_sctp_head, rows *C.struct_sctp_any_chunk, room C.size_t, count *C.size_t) C.sctp_code {
+	return readAnyPacket(packet, func(head *C.struct_sctp_head, rows *C.struct_sctp_any_chunk, room C.size_t, count *C.size_t) C.sctpr_code {
 		at, length := bytesOf(packet)
-		return C.sctp_read_any_packet_with_sum(at, length, C.uint32_t(sum), head, rows, room, count)
+		return C.sctpr_read_any_packet_with_sum(at, length, C.uint32_t(sum), head, rows, room, count)
 	})
 }
 
-func readAnyPacket(packet []byte, read func(*C.struct_sctp_head, *C.struct_sctp_any_chunk, C.size_t, *C.size_t) C.sctp_code) (Head, []AnyChunk, error) {
+func readAnyPacket(packet []byte, read func(*C.struct_sctp_head, *C.struct_sctp_any_chunk, C.size_t, *C.size_t) C.sctpr_code) (Head, []AnyChunk, error) {
 	rows := make([]C.struct_sctp_any_chunk, len(packet)/4+1)
 	var head C.struct_sctp_head
 	var count C.size_t
@@ -112,7 +112,7 @@ type Data struct {
 func ReadData(chunk []byte) (Data, error) {
 	at, length := bytesOf(chunk)
 	var d C.struct_sctp_data
-	if err := errorOf(C.sctp_read_data(at, length, &d), 0); err != nil {
+	if err := errorOf(C.sctpr_read_data(at, length, &d), 0); err != nil {
 		return Data{}, err
 	}
 	return Data{
@@ -137,7 +137,7 @@ func ReadSack(chunk []byte) (Sack, error) {
 	var s C.struct_sctp_sack
 	// as many rows as its bytes can be
 	gaps, repeats := make([]C.struct_sctp_gap, len(chunk)/4+1), make([]C.uint32_t, len(chunk)/4+1)
-	if err := errorOf(C.sctp_read_sack(at, length, &s, &gaps[0], C.size_t(len(gaps)), &repeats[0], C.size_t(len(repeats))), 0); err != nil {
+	if err := errorOf(C.sctpr_read_sack(at, length, &s, &gaps[0], C.size_t(len(gaps)), &repeats[0], C.size_t(len(repeats))), 0); err != nil {
 		return Sack{}, err
 	}
 	sack := Sack{uint32(s.cumulative_tsn), uint32(s.credit), make([]Gap, least(s.blocks, len(gaps))), make([]uint32, least(s.duplicates, len(repeats)))}
@@ -159,7 +159,7 @@ func ReadForwardTSN(chunk []byte) (newCumulativeTSN uint32, streams []Skip, err 
 	rows := make([]C.struct_sctp_skip, len(chunk)/4+1)
 	var tsn C.uint32_t
 	var count C.size_t
-	if err := errorOf(C.sctp_read_forward_tsn(at, length, &tsn, &rows[0], C.size_t(len(rows)), &count), 0); err != nil {
+	if err := errorOf(C.sctpr_read_forward_tsn(at, length, &tsn, &rows[0], C.size_t(len(rows)), &count), 0); err != nil {
 		return 0, nil, err
 	}
 	streams = make([]Skip, least(count, len(rows)))
@@ -180,7 +180,7 @@ type Init struct {
 func ReadInit(chunk []byte) (init Init, params []byte, err error) {
 	at, length := bytesOf(chunk)
 	var i C.struct_sctp_init
-	if err := errorOf(C.sctp_read_init(at, length, &i), 0); err != nil {
+	if err := errorOf(C.sctpr_read_init(at, length, &i), 0); err != nil {
 		return Init{}, nil, err
 	}
 	init = Init{
@@ -193,7 +193,7 @@ func ReadInit(chunk []byte) (init Init, params []byte, err error) {
 func ReadShutdown(chunk []byte) (cumulativeTSN uint32, err error) {
 	at, length := bytesOf(chunk)
 	var tsn C.uint32_t
-	err = errorOf(C.sctp_read_shutdown(at, length, &tsn), 0)
+	err = errorOf(C.sctpr_read_shutdown(at, length, &tsn), 0)
 	return uint32(tsn), err
 }
 
@@ -208,7 +208,7 @@ type Cause struct {
 func ReadCause(bytes []byte) (cause Cause, rest []byte, err error) {
 	at, length := bytesOf(bytes)
 	var c C.struct_sctp_cause
-	if err := errorOf(C.sctp_read_cause(at, length, &c), 0); err != nil {
+	if err := errorOf(C.sctpr_read_cause(at, length, &c), 0); err != nil {
 		return Cause{}, nil, err
 	}
 	return Cause{uint16(c.code), bytes[4 : 4+c.length]}, bytes[c.next:], nil
@@ -224,7 +224,7 @@ type Param struct {
 func ReadParam(bytes []byte) (param Param, rest []byte, err error) {
 	at, length := bytesOf(bytes)
 	var p C.struct_sctp_param
-	if err := errorOf(C.sctp_read_param(at, length, &p), 0); err != nil {
+	if err := errorOf(C.sctpr_read_param(at, length, &p), 0); err != nil {
 		return Param{}, nil, err
 	}
 	return Param{uint16(p._type), bytes[4 : 4+p.length]}, bytes[p.next:], nil
@@ -236,7 +236,7 @@ func WriteChunk(chunkType uint8, value, out []byte) (int, error) {
 	from, length := bytesOf(value)
 	to, room := bytesOf(out)
 	var n C.size_t
-	err := errorOf(C.sctp_write_chunk(C.uint8_t(chunkType), from, length, to, room, &n), n)
+	err := errorOf(C.sctpr_write_chunk(C.uint8_t(chunkType), from, length, to, room, &n), n)
 	return written(n, err)
 }
 
@@ -245,7 +245,7 @@ func WriteChunkWithFlags(chunkType, flags uint8, value, out []byte) (int, error)
 	from, length := bytesOf(value)
 	to, room := bytesOf(out)
 	var n C.size_t
-	err := errorOf(C.sctp_write_chunk_with_flags(C.uint8_t(chunkType), C.uint8_t(flags), from, length, to, room, &n), n)
+	err := errorOf(C.sctpr_write_chunk_with_flags(C.uint8_t(chunkType), C.uint8_t(flags), from, length, to, room, &n), n)
 	return written(n, err)
 }
 
@@ -254,7 +254,7 @@ func WriteCause(code uint16, value, out []byte) (int, error) {
 	from, length := bytesOf(value)
 	to, room := bytesOf(out)
 	var n C.size_t
-	err := errorOf(C.sctp_write_cause(C.uint16_t(code), from, length, to, room, &n), n)
+	err := errorOf(C.sctpr_write_cause(C.uint16_t(code), from, length, to, room, &n), n)
 	return written(n, err)
 }
 
@@ -271,7 +271,7 @@ func WriteInit(init Init, params, out []byte) (int, error) {
 	from, length := bytesOf(params)
 	to, room := bytesOf(out)
 	var n C.size_t
-	err := errorOf(C.sctp_write_init(&i, from, length, to, room, &n), n)
+	err := errorOf(C.sctpr_write_init(&i, from, length, to, room, &n), n)
 	return written(n, err)
 }
 
@@ -280,7 +280,7 @@ func WriteParam(paramType uint16, value, out []byte) (int, error) {
 	from, length := bytesOf(value)
 	to, room := bytesOf(out)
 	var n C.size_t
-	err := errorOf(C.sctp_write_param(C.uint16_t(paramType), from, length, to, room, &n), n)
+	err := errorOf(C.sctpr_write_param(C.uint16_t(paramType), from, length, to, room, &n), n)
 	return written(n, err)
 }
 
@@ -288,7 +288,7 @@ func WriteParam(paramType uint16, value, out []byte) (int, error) {
 func SealPacket(head Head, packet []byte) error {
 	h := head.inC()
 	at, length := bytesOf(packet)
-	return errorOf(C.sctp_seal_packet(&h, at, length), 12)
+	return errorOf(C.sctpr_seal_packet(&h, at, length), 12)
 }
 
 // WriteHead writes the header, with zeros in the checksum's place: the first step of sealing under a sum that the caller takes, of all of
@@ -296,13 +296,13 @@ func SealPacket(head Head, packet []byte) error {
 func WriteHead(head Head, packet []byte) error {
 	h := head.inC()
 	at, length := bytesOf(packet)
-	return errorOf(C.sctp_write_head(&h, at, length), 12)
+	return errorOf(C.sctpr_write_head(&h, at, length), 12)
 }
 
 // StoreSum puts the sum of a packet there.
 func StoreSum(sum uint32, packet []byte) error {
 	at, length := bytesOf(packet)
-	return errorOf(C.sctp_store_sum(C.uint32_t(sum), at, length), 12)
+	return errorOf(C.sctpr_store_sum(C.uint32_t(sum), at, length), 12)
 }
 
 func written(n C.size_t, err error) (int, error) {

@@ -1,13 +1,13 @@
 package sctprattle
 
 /*
-#include <sctp.h>
+#include <sctpr.h>
 */
 import "C"
 
 // A Receiver is the receiving half of an association: what came and was not read (RFC 4960 6.2, 6.5, 6.6, 6.9).
 type Receiver struct {
-	handle C.sctp_receiver
+	handle C.sctpr_receiver
 }
 
 // An Arrival is what became of a DATA chunk that was taken.
@@ -35,7 +35,7 @@ func NewReceiver(firstTSN, maxMessageSize uint32, window int, reach uint32) (*Re
 		return nil, CodeInvalid
 	}
 	r := new(Receiver)
-	code := C.sctp_receiver_new(C.uint32_t(firstTSN), C.uint32_t(maxMessageSize), C.size_t(window), C.uint32_t(reach), &r.handle)
+	code := C.sctpr_receiver_new(C.uint32_t(firstTSN), C.uint32_t(maxMessageSize), C.size_t(window), C.uint32_t(reach), &r.handle)
 	if err := errorOf(code, 0); err != nil {
 		return nil, err
 	}
@@ -45,7 +45,7 @@ func NewReceiver(firstTSN, maxMessageSize uint32, window int, reach uint32) (*Re
 // NewUnlimitedReceiver makes one with no limits: for a peer that is trusted, or a replay.
 func NewUnlimitedReceiver(firstTSN, maxMessageSize uint32) (*Receiver, error) {
 	r := new(Receiver)
-	if err := errorOf(C.sctp_receiver_new_unlimited(C.uint32_t(firstTSN), C.uint32_t(maxMessageSize), &r.handle), 0); err != nil {
+	if err := errorOf(C.sctpr_receiver_new_unlimited(C.uint32_t(firstTSN), C.uint32_t(maxMessageSize), &r.handle), 0); err != nil {
 		return nil, err
 	}
 	return r, nil
@@ -54,7 +54,7 @@ func NewUnlimitedReceiver(firstTSN, maxMessageSize uint32) (*Receiver, error) {
 // Close frees the receiver and all that it holds. A second Close does nothing.
 func (r *Receiver) Close() error {
 	if r.isOpen() {
-		C.sctp_receiver_free(r.handle)
+		C.sctpr_receiver_free(r.handle)
 		r.handle.at = nil
 	}
 	return nil
@@ -67,7 +67,7 @@ func (r *Receiver) Open(stream uint16) error {
 	if !r.isOpen() {
 		return ErrClosed
 	}
-	return errorOf(C.sctp_receiver_open(&r.handle, C.uint16_t(stream)), 0)
+	return errorOf(C.sctpr_receiver_open(&r.handle, C.uint16_t(stream)), 0)
 }
 
 // CloseStream closes a stream, where it is open: what came on it and was not read is dropped.
@@ -75,7 +75,7 @@ func (r *Receiver) CloseStream(stream uint16) error {
 	if !r.isOpen() {
 		return ErrClosed
 	}
-	C.sctp_receiver_close(&r.handle, C.uint16_t(stream))
+	C.sctpr_receiver_close(&r.handle, C.uint16_t(stream))
 	return nil
 }
 
@@ -84,7 +84,7 @@ func (r *Receiver) Reset(stream uint16, lastTSN uint32) error {
 	if !r.isOpen() {
 		return ErrClosed
 	}
-	return errorOf(C.sctp_receiver_reset(&r.handle, C.uint16_t(stream), C.uint32_t(lastTSN)), 0)
+	return errorOf(C.sctpr_receiver_reset(&r.handle, C.uint16_t(stream), C.uint32_t(lastTSN)), 0)
 }
 
 // Data takes a DATA chunk.
@@ -94,11 +94,11 @@ func (r *Receiver) Data(chunk []byte) (Arrival, error) {
 	}
 	at, length := bytesOf(chunk)
 	var complete C.uint8_t
-	code := C.sctp_receiver_data(&r.handle, at, length, &complete)
+	code := C.sctpr_receiver_data(&r.handle, at, length, &complete)
 	switch {
-	case code == C.SCTP_OK && complete != 0:
+	case code == C.SCTPR_OK && complete != 0:
 		return Completed, nil
-	case code == C.SCTP_OK:
+	case code == C.SCTPR_OK:
 		return Added, nil
 	}
 	return Repeat, errorOf(code, 0)
@@ -109,8 +109,8 @@ func (r *Receiver) Discard(tsn uint32) (Arrival, error) {
 	if !r.isOpen() {
 		return Repeat, ErrClosed
 	}
-	code := C.sctp_receiver_discard(&r.handle, C.uint32_t(tsn))
-	if code == C.SCTP_OK {
+	code := C.sctpr_receiver_discard(&r.handle, C.uint32_t(tsn))
+	if code == C.SCTPR_OK {
 		return Added, nil
 	}
 	return Repeat, errorOf(code, 0)
@@ -122,8 +122,8 @@ func (r *Receiver) ForwardTSN(chunk []byte) (bool, error) {
 		return false, ErrClosed
 	}
 	at, length := bytesOf(chunk)
-	code := C.sctp_receiver_forward_tsn(&r.handle, at, length)
-	return code == C.SCTP_OK, errorOf(code, 0)
+	code := C.sctpr_receiver_forward_tsn(&r.handle, at, length)
+	return code == C.SCTPR_OK, errorOf(code, 0)
 }
 
 // ForwardTSNPastClosed does the same, but what it names on a stream that is not open is passed over.
@@ -132,8 +132,8 @@ func (r *Receiver) ForwardTSNPastClosed(chunk []byte) (bool, error) {
 		return false, ErrClosed
 	}
 	at, length := bytesOf(chunk)
-	code := C.sctp_receiver_forward_tsn_past_closed(&r.handle, at, length)
-	return code == C.SCTP_OK, errorOf(code, 0)
+	code := C.sctpr_receiver_forward_tsn_past_closed(&r.handle, at, length)
+	return code == C.SCTPR_OK, errorOf(code, 0)
 }
 
 // Next tells the length and the payload type of the next message of a stream; ok is false where there is none.
@@ -143,8 +143,8 @@ func (r *Receiver) Next(stream uint16) (size int, payloadType uint32, ok bool, e
 	}
 	var n C.size_t
 	var t C.uint32_t
-	code := C.sctp_receiver_next_length(&r.handle, C.uint16_t(stream), &n, &t)
-	return int(n), uint32(t), code == C.SCTP_OK, errorOf(code, 0)
+	code := C.sctpr_receiver_next_length(&r.handle, C.uint16_t(stream), &n, &t)
+	return int(n), uint32(t), code == C.SCTPR_OK, errorOf(code, 0)
 }
 
 // ReadInto takes the next message of a stream out, to the front of a buffer; ok is false where there is none.
@@ -155,8 +155,8 @@ func (r *Receiver) ReadInto(stream uint16, out []byte) (size int, payloadType ui
 	to, room := bytesOf(out)
 	var n C.size_t
 	var t C.uint32_t
-	code := C.sctp_receiver_read(&r.handle, C.uint16_t(stream), to, room, &n, &t)
-	return int(n), uint32(t), code == C.SCTP_OK, errorOf(code, n)
+	code := C.sctpr_receiver_read(&r.handle, C.uint16_t(stream), to, room, &n, &t)
+	return int(n), uint32(t), code == C.SCTPR_OK, errorOf(code, n)
 }
 
 // Read takes the next message of a stream out; nil where there is none.
@@ -179,12 +179,12 @@ func (r *Receiver) ReadableStreams() ([]uint16, error) {
 		return nil, ErrClosed
 	}
 	var count C.size_t
-	code := C.sctp_receiver_readable_streams(&r.handle, nil, 0, &count)
-	if code != C.SCTP_SHORT_BUFFER {
+	code := C.sctpr_receiver_readable_streams(&r.handle, nil, 0, &count)
+	if code != C.SCTPR_SHORT_BUFFER {
 		return nil, errorOf(code, 0)
 	}
 	rows := make([]C.uint16_t, count)
-	if err := errorOf(C.sctp_receiver_readable_streams(&r.handle, &rows[0], count, &count), count); err != nil {
+	if err := errorOf(C.sctpr_receiver_readable_streams(&r.handle, &rows[0], count, &count), count); err != nil {
 		return nil, err
 	}
 	streams := make([]uint16, least(count, len(rows)))
@@ -201,7 +201,7 @@ func (r *Receiver) WriteSack(out []byte) (int, error) {
 	}
 	to, room := bytesOf(out)
 	var n C.size_t
-	err := errorOf(C.sctp_receiver_sack(&r.handle, to, room, &n), 16)
+	err := errorOf(C.sctpr_receiver_sack(&r.handle, to, room, &n), 16)
 	return written(n, err)
 }
 
@@ -210,7 +210,7 @@ func (r *Receiver) CumulativeTSN() uint32 {
 	if !r.isOpen() {
 		return 0
 	}
-	return uint32(C.sctp_receiver_cumulative_tsn(&r.handle))
+	return uint32(C.sctpr_receiver_cumulative_tsn(&r.handle))
 }
 
 // Window is the window to advertise, in bytes.
@@ -218,7 +218,7 @@ func (r *Receiver) Window() uint32 {
 	if !r.isOpen() {
 		return 0
 	}
-	return uint32(C.sctp_receiver_window(&r.handle))
+	return uint32(C.sctpr_receiver_window(&r.handle))
 }
 
 // HeldBytes is what is held and was not read: its bytes, and 400 for each chunk.
@@ -226,5 +226,5 @@ func (r *Receiver) HeldBytes() uint64 {
 	if !r.isOpen() {
 		return 0
 	}
-	return uint64(C.sctp_receiver_held_bytes(&r.handle))
+	return uint64(C.sctpr_receiver_held_bytes(&r.handle))
 }

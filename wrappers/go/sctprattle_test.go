@@ -41,8 +41,8 @@ func wants(t *testing.T, err error, wanted int) {
 }
 
 func TestCodes(t *testing.T) {
-	check(t, "names", CodeNoMemory.Name() == "SCTP_NO_MEMORY" && Code(1000).Name() == "SCTP_UNKNOWN")
-	check(t, "texts", CodeNoMemory.Error() == "sctprattle: Memory ran out. (SCTP_NO_MEMORY)")
+	check(t, "names", CodeNoMemory.Name() == "SCTPR_NO_MEMORY" && Code(1000).Name() == "SCTPR_UNKNOWN")
+	check(t, "texts", CodeNoMemory.Error() == "sctprattle: Memory ran out. (SCTPR_NO_MEMORY)")
 	check(t, "wanted", strings.HasSuffix((&ShortBufferError{7}).Error(), "7 are wanted"))
 	major, minor, _ := Version()
 	check(t, "version", major == 0 && minor >= 1)

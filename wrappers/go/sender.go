@@ -1,14 +1,14 @@
 package sctprattle
 
 /*
-#include <sctp.h>
+#include <sctpr.h>
 */
 import "C"
 
 // A Sender is the sending half of an association: what was written and is not yet acknowledged (RFC 4960 6.1, 6.2.1, 6.9; RFC 3758). Times
 // are in nanoseconds from any one moment.
 type Sender struct {
-	handle C.sctp_sender
+	handle C.sctpr_sender
 }
 
 // A Reliability is how long a message is sent for.
@@ -16,11 +16,11 @@ type Reliability uint32
 
 const (
 	// Reliable: until it is acknowledged.
-	Reliable = Reliability(C.SCTP_RELIABLE)
+	Reliable = Reliability(C.SCTPR_RELIABLE)
 	// Rexmit: so often after the first sending (RFC 7496 3.1).
-	Rexmit = Reliability(C.SCTP_REXMIT)
+	Rexmit = Reliability(C.SCTPR_REXMIT)
 	// Timed: so many milliseconds (RFC 3758 4.1).
-	Timed = Reliability(C.SCTP_TIMED)
+	Timed = Reliability(C.SCTPR_TIMED)
 )
 
 // An InFlight is a chunk in flight. Size is 0 where it is acknowledged or abandoned; SentAt is when it was sent last, 0 of a chunk that
@@ -71,7 +71,7 @@ type Expired struct {
 // maxMessageSize.
 func NewSender(firstTSN, fragmentSize, maxMessageSize uint32) (*Sender, error) {
 	s := new(Sender)
-	code := C.sctp_sender_new(C.uint32_t(firstTSN), C.uint32_t(fragmentSize), C.uint32_t(maxMessageSize), &s.handle)
+	code := C.sctpr_sender_new(C.uint32_t(firstTSN), C.uint32_t(fragmentSize), C.uint32_t(maxMessageSize), &s.handle)
 	if err := errorOf(code, 0); err != nil {
 		return nil, err
 	}
@@ -81,7 +81,7 @@ func NewSender(firstTSN, fragmentSize, maxMessageSize uint32) (*Sender, error) {
 // Close frees the sender and all that it holds. A second Close does nothing.
 func (s *Sender) Close() error {
 	if s.isOpen() {
-		C.sctp_sender_free(s.handle)
+		C.sctpr_sender_free(s.handle)
 		s.handle.at = nil
 	}
 	return nil
@@ -94,7 +94,7 @@ func (s *Sender) Open(stream uint16) error {
 	if !s.isOpen() {
 		return ErrClosed
 	}
-	return errorOf(C.sctp_sender_open(&s.handle, C.uint16_t(stream)), 0)
+	return errorOf(C.sctpr_sender_open(&s.handle, C.uint16_t(stream)), 0)
 }
 
 // CloseStream closes a stream, where it is open. What waits and is in flight of it goes on.
@@ -102,7 +102,7 @@ func (s *Sender) CloseStream(stream uint16) error {
 	if !s.isOpen() {
 		return ErrClosed
 	}
-	C.sctp_sender_close(&s.handle, C.uint16_t(stream))
+	C.sctpr_sender_close(&s.handle, C.uint16_t(stream))
 	return nil
 }
 
@@ -111,7 +111,7 @@ func (s *Sender) SetMode(stream uint16, unordered bool, reliability Reliability,
 	if !s.isOpen() {
 		return ErrClosed
 	}
-	return errorOf(C.sctp_sender_set_mode(&s.handle, C.uint16_t(stream), flag(unordered), C.uint32_t(reliability), C.uint32_t(value)), 0)
+	return errorOf(C.sctpr_sender_set_mode(&s.handle, C.uint16_t(stream), flag(unordered), C.uint32_t(reliability), C.uint32_t(value)), 0)
 }
 
 // SetFragmentSize sets how many bytes of user data a chunk of a later write has at most.
@@ -119,7 +119,7 @@ func (s *Sender) SetFragmentSize(size uint32) error {
 	if !s.isOpen() {
 		return ErrClosed
 	}
-	return errorOf(C.sctp_sender_set_fragment_size(&s.handle, C.uint32_t(size)), 0)
+	return errorOf(C.sctpr_sender_set_fragment_size(&s.handle, C.uint32_t(size)), 0)
 }
 
 // SetLowThreshold sets the buffered amount of a stream, in bytes, down to which a fall is told.
@@ -130,7 +130,7 @@ func (s *Sender) SetLowThreshold(stream uint16, bytes int) error {
 	if bytes < 0 {
 		return CodeInvalid
 	}
-	return errorOf(C.sctp_sender_set_low_threshold(&s.handle, C.uint16_t(stream), C.size_t(bytes)), 0)
+	return errorOf(C.sctpr_sender_set_low_threshold(&s.handle, C.uint16_t(stream), C.size_t(bytes)), 0)
 }
 
 // Reset resets a stream (RFC 6525 5.1.2).
@@ -138,7 +138,7 @@ func (s *Sender) Reset(stream uint16) error {
 	if !s.isOpen() {
 		return ErrClosed
 	}
-	return errorOf(C.sctp_sender_reset(&s.handle, C.uint16_t(stream)), 0)
+	return errorOf(C.sctpr_sender_reset(&s.handle, C.uint16_t(stream)), 0)
 }
 
 // Write takes a copy of a message, and answers its number and how many chunks it has: none where it has no bytes, and nothing changed.
@@ -149,7 +149,7 @@ func (s *Sender) Write(stream uint16, payloadType uint32, message []byte) (numbe
 	at, length := bytesOf(message)
 	var id C.uint64_t
 	var n C.size_t
-	code := C.sctp_sender_write(&s.handle, C.uint16_t(stream), C.uint32_t(payloadType), at, length, &id, &n)
+	code := C.sctpr_sender_write(&s.handle, C.uint16_t(stream), C.uint32_t(payloadType), at, length, &id, &n)
 	return uint64(id), int(n), errorOf(code, 0)
 }
 
@@ -158,7 +158,7 @@ func (s *Sender) Start(now uint64) error {
 	if !s.isOpen() {
 		return ErrClosed
 	}
-	C.sctp_sender_start(&s.handle, C.uint64_t(now))
+	C.sctpr_sender_start(&s.handle, C.uint64_t(now))
 	return nil
 }
 
@@ -170,8 +170,8 @@ func (s *Sender) SendNext(now uint64, out []byte) (size int, tsn uint32, err err
 	to, room := bytesOf(out)
 	var n C.size_t
 	var t C.uint32_t
-	code := C.sctp_sender_send_next(&s.handle, C.uint64_t(now), to, room, &n, &t)
-	if code != C.SCTP_OK {
+	code := C.sctpr_sender_send_next(&s.handle, C.uint64_t(now), to, room, &n, &t)
+	if code != C.SCTPR_OK {
 		return 0, 0, errorOf(code, n)
 	}
 	return int(n), uint32(t), nil
@@ -184,7 +184,7 @@ func (s *Sender) Resend(tsn uint32, now uint64, out []byte) (int, error) {
 	}
 	to, room := bytesOf(out)
 	var n C.size_t
-	err := errorOf(C.sctp_sender_resend(&s.handle, C.uint32_t(tsn), C.uint64_t(now), to, room, &n), n)
+	err := errorOf(C.sctpr_sender_resend(&s.handle, C.uint32_t(tsn), C.uint64_t(now), to, room, &n), n)
 	return written(n, err)
 }
 
@@ -193,7 +193,7 @@ func (s *Sender) RetransmitAll() error {
 	if !s.isOpen() {
 		return ErrClosed
 	}
-	C.sctp_sender_retransmit_all(&s.handle)
+	C.sctpr_sender_retransmit_all(&s.handle)
 	return nil
 }
 
@@ -203,7 +203,7 @@ func (s *Sender) AddMissIndications(before uint32) int {
 	if !s.isOpen() {
 		return 0
 	}
-	return int(C.sctp_sender_add_miss_indications(&s.handle, C.uint32_t(before)))
+	return int(C.sctpr_sender_add_miss_indications(&s.handle, C.uint32_t(before)))
 }
 
 func inFlightOf(r C.struct_sctp_in_flight) InFlight {
@@ -216,7 +216,7 @@ func inFlightOf(r C.struct_sctp_in_flight) InFlight {
 // InFlight is the chunk in flight with a TSN; ok is false where there is none.
 func (s *Sender) InFlight(tsn uint32) (chunk InFlight, ok bool) {
 	var row C.struct_sctp_in_flight
-	if !s.isOpen() || C.sctp_sender_in_flight(&s.handle, C.uint32_t(tsn), &row) != C.SCTP_OK {
+	if !s.isOpen() || C.sctpr_sender_in_flight(&s.handle, C.uint32_t(tsn), &row) != C.SCTPR_OK {
 		return InFlight{}, false
 	}
 	return inFlightOf(row), true
@@ -225,7 +225,7 @@ func (s *Sender) InFlight(tsn uint32) (chunk InFlight, ok bool) {
 // InFlightAt is the chunk in flight at a place, from 0 on; ok is false where there is none.
 func (s *Sender) InFlightAt(place int) (chunk InFlight, ok bool) {
 	var row C.struct_sctp_in_flight
-	if !s.isOpen() || place < 0 || C.sctp_sender_in_flight_at(&s.handle, C.size_t(place), &row) != C.SCTP_OK {
+	if !s.isOpen() || place < 0 || C.sctpr_sender_in_flight_at(&s.handle, C.size_t(place), &row) != C.SCTPR_OK {
 		return InFlight{}, false
 	}
 	return inFlightOf(row), true
@@ -234,7 +234,7 @@ func (s *Sender) InFlightAt(place int) (chunk InFlight, ok bool) {
 // NextToRetransmit is the first chunk that is marked for retransmission; ok is false where there is none.
 func (s *Sender) NextToRetransmit() (chunk InFlight, ok bool) {
 	var row C.struct_sctp_in_flight
-	if !s.isOpen() || C.sctp_sender_next_to_retransmit(&s.handle, &row) != C.SCTP_OK {
+	if !s.isOpen() || C.sctpr_sender_next_to_retransmit(&s.handle, &row) != C.SCTPR_OK {
 		return InFlight{}, false
 	}
 	return inFlightOf(row), true
@@ -242,24 +242,24 @@ func (s *Sender) NextToRetransmit() (chunk InFlight, ok bool) {
 
 // Acked takes a SACK, and answers the chunks that it reports anew; isNew is false where it is out of date.
 func (s *Sender) Acked(chunk []byte) (acked []Acked, isNew bool, err error) {
-	return s.acked(func(rows *C.struct_sctp_acked, room C.size_t, count *C.size_t) C.sctp_code {
+	return s.acked(func(rows *C.struct_sctp_acked, room C.size_t, count *C.size_t) C.sctpr_code {
 		at, length := bytesOf(chunk)
-		return C.sctp_sender_acked(&s.handle, at, length, rows, room, count)
+		return C.sctpr_sender_acked(&s.handle, at, length, rows, room, count)
 	})
 }
 
 // AckedUpTo takes the TSN of a SHUTDOWN, as a SACK (RFC 4960 9.2).
 func (s *Sender) AckedUpTo(tsn uint32) (acked []Acked, isNew bool, err error) {
-	return s.acked(func(rows *C.struct_sctp_acked, room C.size_t, count *C.size_t) C.sctp_code {
-		return C.sctp_sender_acked_up_to(&s.handle, C.uint32_t(tsn), rows, room, count)
+	return s.acked(func(rows *C.struct_sctp_acked, room C.size_t, count *C.size_t) C.sctpr_code {
+		return C.sctpr_sender_acked_up_to(&s.handle, C.uint32_t(tsn), rows, room, count)
 	})
 }
 
-func (s *Sender) acked(take func(*C.struct_sctp_acked, C.size_t, *C.size_t) C.sctp_code) ([]Acked, bool, error) {
+func (s *Sender) acked(take func(*C.struct_sctp_acked, C.size_t, *C.size_t) C.sctpr_code) ([]Acked, bool, error) {
 	if !s.isOpen() {
 		return nil, false, ErrClosed
 	}
-	rows := make([]C.struct_sctp_acked, C.sctp_sender_chunks_in_flight(&s.handle)+1)
+	rows := make([]C.struct_sctp_acked, C.sctpr_sender_chunks_in_flight(&s.handle)+1)
 	var count C.size_t
 	code := take(&rows[0], C.size_t(len(rows)), &count)
 	if err := errorOf(code, count); err != nil {
@@ -273,7 +273,7 @@ func (s *Sender) acked(take func(*C.struct_sctp_acked, C.size_t, *C.size_t) C.sc
 			r.has_sent_at != 0, r.is_message_acked != 0, r.is_low != 0,
 		}
 	}
-	return acked, code == C.SCTP_OK, nil
+	return acked, code == C.SCTPR_OK, nil
 }
 
 // KeepReported keeps from here on what gap ack blocks report until the cumulative TSN passes it, so that it can be taken back.
@@ -281,7 +281,7 @@ func (s *Sender) KeepReported() error {
 	if !s.isOpen() {
 		return ErrClosed
 	}
-	return errorOf(C.sctp_sender_keep_reported(&s.handle), 0)
+	return errorOf(C.sctpr_sender_keep_reported(&s.handle), 0)
 }
 
 // TakeBack takes back what a SACK no longer reports, before Acked with the same SACK; isNew is false where it is out of date.
@@ -290,9 +290,9 @@ func (s *Sender) TakeBack(chunk []byte) (chunks []TakenBack, isNew bool, err err
 		return nil, false, ErrClosed
 	}
 	at, length := bytesOf(chunk)
-	rows := make([]C.struct_sctp_taken_back, C.sctp_sender_chunks_in_flight(&s.handle)+1)
+	rows := make([]C.struct_sctp_taken_back, C.sctpr_sender_chunks_in_flight(&s.handle)+1)
 	var count C.size_t
-	code := C.sctp_sender_take_back(&s.handle, at, length, &rows[0], C.size_t(len(rows)), &count)
+	code := C.sctpr_sender_take_back(&s.handle, at, length, &rows[0], C.size_t(len(rows)), &count)
 	if err := errorOf(code, count); err != nil {
 		return nil, false, err
 	}
@@ -300,7 +300,7 @@ func (s *Sender) TakeBack(chunk []byte) (chunks []TakenBack, isNew bool, err err
 	for i := range chunks {
 		chunks[i] = TakenBack{int(rows[i].bytes), uint64(rows[i].message), uint32(rows[i].tsn), uint16(rows[i].stream)}
 	}
-	return chunks, code == C.SCTP_OK, nil
+	return chunks, code == C.SCTPR_OK, nil
 }
 
 func abandonedOf(r C.struct_sctp_abandoned) Abandoned {
@@ -313,14 +313,14 @@ func (s *Sender) Abandon(tsn uint32) (Abandoned, error) {
 		return Abandoned{}, ErrClosed
 	}
 	var row C.struct_sctp_abandoned
-	err := errorOf(C.sctp_sender_abandon(&s.handle, C.uint32_t(tsn), &row), 0)
+	err := errorOf(C.sctpr_sender_abandon(&s.handle, C.uint32_t(tsn), &row), 0)
 	return abandonedOf(row), err
 }
 
 // Expire removes the message in front, where it is past its deadline and wholly unsent; ok is false where there is none.
 func (s *Sender) Expire(now uint64) (message Expired, ok bool) {
 	var r C.struct_sctp_expired
-	if !s.isOpen() || C.sctp_sender_expire(&s.handle, C.uint64_t(now), &r) != C.SCTP_OK {
+	if !s.isOpen() || C.sctpr_sender_expire(&s.handle, C.uint64_t(now), &r) != C.SCTPR_OK {
 		return Expired{}, false
 	}
 	return Expired{int(r.bytes), uint16(r.stream), r.is_low != 0}, true
@@ -332,29 +332,29 @@ func (s *Sender) ExpireTail(now uint64) (message Abandoned, ok bool, err error) 
 		return Abandoned{}, false, ErrClosed
 	}
 	var row C.struct_sctp_abandoned
-	code := C.sctp_sender_expire_tail(&s.handle, C.uint64_t(now), &row)
-	return abandonedOf(row), code == C.SCTP_OK, errorOf(code, 0)
+	code := C.sctpr_sender_expire_tail(&s.handle, C.uint64_t(now), &row)
+	return abandonedOf(row), code == C.SCTPR_OK, errorOf(code, 0)
 }
 
 // ExpireLate abandons each message in flight that is past its deadline.
 func (s *Sender) ExpireLate(now uint64) ([]Abandoned, error) {
-	return s.abandonAll(func(rows *C.struct_sctp_abandoned, room C.size_t, count *C.size_t) C.sctp_code {
-		return C.sctp_sender_expire_late(&s.handle, C.uint64_t(now), rows, room, count)
+	return s.abandonAll(func(rows *C.struct_sctp_abandoned, room C.size_t, count *C.size_t) C.sctpr_code {
+		return C.sctpr_sender_expire_late(&s.handle, C.uint64_t(now), rows, room, count)
 	})
 }
 
 // ExpireRexmit abandons each message in flight that was sent again as often as it may be.
 func (s *Sender) ExpireRexmit() ([]Abandoned, error) {
-	return s.abandonAll(func(rows *C.struct_sctp_abandoned, room C.size_t, count *C.size_t) C.sctp_code {
-		return C.sctp_sender_expire_rexmit(&s.handle, rows, room, count)
+	return s.abandonAll(func(rows *C.struct_sctp_abandoned, room C.size_t, count *C.size_t) C.sctpr_code {
+		return C.sctpr_sender_expire_rexmit(&s.handle, rows, room, count)
 	})
 }
 
-func (s *Sender) abandonAll(expire func(*C.struct_sctp_abandoned, C.size_t, *C.size_t) C.sctp_code) ([]Abandoned, error) {
+func (s *Sender) abandonAll(expire func(*C.struct_sctp_abandoned, C.size_t, *C.size_t) C.sctpr_code) ([]Abandoned, error) {
 	if !s.isOpen() {
 		return nil, ErrClosed
 	}
-	rows := make([]C.struct_sctp_abandoned, C.sctp_sender_chunks_in_flight(&s.handle)+1)
+	rows := make([]C.struct_sctp_abandoned, C.sctpr_sender_chunks_in_flight(&s.handle)+1)
 	var count C.size_t
 	if err := errorOf(expire(&rows[0], C.size_t(len(rows)), &count), count+1); err != nil {
 		return nil, err
@@ -373,7 +373,7 @@ func (s *Sender) WriteForwardTSN(out []byte) (int, error) {
 	}
 	to, room := bytesOf(out)
 	var n C.size_t
-	err := errorOf(C.sctp_sender_forward_tsn(&s.handle, to, room, &n), n)
+	err := errorOf(C.sctpr_sender_forward_tsn(&s.handle, to, room, &n), n)
 	return written(n, err)
 }
 
@@ -384,7 +384,7 @@ func (s *Sender) WriteForwardTSNTo(tsn uint32, out []byte) (int, error) {
 	}
 	to, room := bytesOf(out)
 	var n C.size_t
-	err := errorOf(C.sctp_sender_forward_tsn_to(&s.handle, C.uint32_t(tsn), to, room, &n), n)
+	err := errorOf(C.sctpr_sender_forward_tsn_to(&s.handle, C.uint32_t(tsn), to, room, &n), n)
 	return written(n, err)
 }
 
@@ -393,7 +393,7 @@ func (s *Sender) NextTSN() uint32 {
 	if !s.isOpen() {
 		return 0
 	}
-	return uint32(C.sctp_sender_next_tsn(&s.handle))
+	return uint32(C.sctpr_sender_next_tsn(&s.handle))
 }
 
 // AckedTSN is the TSN up to which all was acknowledged.
@@ -401,7 +401,7 @@ func (s *Sender) AckedTSN() uint32 {
 	if !s.isOpen() {
 		return 0
 	}
-	return uint32(C.sctp_sender_acked_tsn(&s.handle))
+	return uint32(C.sctpr_sender_acked_tsn(&s.handle))
 }
 
 // AdvancedAckPoint is the Advanced.Peer.Ack.Point (RFC 3758 3.5 C2).
@@ -409,7 +409,7 @@ func (s *Sender) AdvancedAckPoint() uint32 {
 	if !s.isOpen() {
 		return 0
 	}
-	return uint32(C.sctp_sender_advanced_ack_point(&s.handle))
+	return uint32(C.sctpr_sender_advanced_ack_point(&s.handle))
 }
 
 // BytesInFlight is how many bytes of user data are in flight.
@@ -417,7 +417,7 @@ func (s *Sender) BytesInFlight() int {
 	if !s.isOpen() {
 		return 0
 	}
-	return int(C.sctp_sender_bytes_in_flight(&s.handle))
+	return int(C.sctpr_sender_bytes_in_flight(&s.handle))
 }
 
 // ChunksInFlight is how many chunks are in flight.
@@ -425,13 +425,13 @@ func (s *Sender) ChunksInFlight() int {
 	if !s.isOpen() {
 		return 0
 	}
-	return int(C.sctp_sender_chunks_in_flight(&s.handle))
+	return int(C.sctpr_sender_chunks_in_flight(&s.handle))
 }
 
 // EarliestOutstanding is the first TSN in flight that is neither acknowledged nor abandoned; ok is false where there is none.
 func (s *Sender) EarliestOutstanding() (tsn uint32, ok bool) {
 	var t C.uint32_t
-	if !s.isOpen() || C.sctp_sender_earliest_outstanding(&s.handle, &t) != C.SCTP_OK {
+	if !s.isOpen() || C.sctpr_sender_earliest_outstanding(&s.handle, &t) != C.SCTPR_OK {
 		return 0, false
 	}
 	return uint32(t), true
@@ -442,7 +442,7 @@ func (s *Sender) Pending() int {
 	if !s.isOpen() {
 		return 0
 	}
-	return int(C.sctp_sender_pending(&s.handle))
+	return int(C.sctpr_sender_pending(&s.handle))
 }
 
 // BufferedAmount is how many bytes of user data of a stream wait or are in flight.
@@ -451,11 +451,11 @@ func (s *Sender) BufferedAmount(stream uint16) (int, error) {
 		return 0, ErrClosed
 	}
 	var amount C.size_t
-	err := errorOf(C.sctp_sender_buffered_amount(&s.handle, C.uint16_t(stream), &amount), 0)
+	err := errorOf(C.sctpr_sender_buffered_amount(&s.handle, C.uint16_t(stream), &amount), 0)
 	return int(amount), err
 }
 
 // Drained says whether nothing of a stream waits or is in flight.
 func (s *Sender) Drained(stream uint16) bool {
-	return s.isOpen() && C.sctp_sender_is_drained(&s.handle, C.uint16_t(stream)) != 0
+	return s.isOpen() && C.sctpr_sender_is_drained(&s.handle, C.uint16_t(stream)) != 0
 }

@@ -3,11 +3,11 @@
 ghost use Rattle.std.specs.Prelude.{◌≡◌, ◌≢◌, ◌<◌, length};
 ghost use Rattle.sctp_c.specs.Out.{padded, at_front};
 
-use crate::code::{SCTP_OK, SCTP_SHORT_BUFFER};
+use crate::code::{SCTPR_OK, SCTPR_SHORT_BUFFER};
 use sctp_util::util::get_padding_size;
 
 /// Writes bytes at the front of the buffer, and zeros behind them up to a multiple of four. `written` becomes how many that is. Refuses
-/// with `SCTP_SHORT_BUFFER` where the buffer is shorter, and writes nothing into it.
+/// with `SCTPR_SHORT_BUFFER` where the buffer is shorter, and writes nothing into it.
 #[tactic(auto, unfolding(crate::specs::Out::padded))]
 pub fn put_padded(out: &mut [u8], written: &mut usize, bytes: &[u8]) -> u32
     ensures written { written.new ≡ length (padded bytes.now) }
@@ -19,9 +19,9 @@ pub fn put_padded(out: &mut [u8], written: &mut usize, bytes: &[u8]) -> u32
     let length = bytes.len() + padding;
     *written = length;
     if out.len() < length {
-        return SCTP_SHORT_BUFFER;
+        return SCTPR_SHORT_BUFFER;
     }
     out[..bytes.len()].copy_from_slice(bytes);
     out[bytes.len()..length].fill(0);
-    SCTP_OK
+    SCTPR_OK
 }

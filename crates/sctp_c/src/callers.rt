@@ -5,15 +5,15 @@ ghost use Rattle.std.specs.Prelude.{◌≡◌, IfSome};
 ghost use Rattle.sctp_receiver.specs.Limits.{held_cost};
 ghost use Rattle.sctp_serial.specs.DataChunks.{preceding_tsn};
 
-use crate::code::SCTP_OK;
+use crate::code::SCTPR_OK;
 use crate::receiver::{
-    SctpNewReceiver, SctpReceiver, sctp_receiver_cumulative_tsn, sctp_receiver_free,
-    sctp_receiver_held_bytes, sctp_receiver_new_unlimited,
+    SctpNewReceiver, SctpReceiver, sctpr_receiver_cumulative_tsn, sctpr_receiver_free,
+    sctpr_receiver_held_bytes, sctpr_receiver_new_unlimited,
 };
-use crate::sender::sending::sctp_sender_send_next;
+use crate::sender::sending::sctpr_sender_send_next;
 use crate::sender::{
-    SctpNewSender, SctpSender, sctp_sender_free, sctp_sender_new, sctp_sender_open,
-    sctp_sender_write,
+    SctpNewSender, SctpSender, sctpr_sender_free, sctpr_sender_new, sctpr_sender_open,
+    sctpr_sender_write,
 };
 use std::alloc::Global;
 
@@ -28,13 +28,13 @@ fn send_first(
         × (r.1 ≡ sender.old.value.flight.next_tsn)) }
 {
     let (mut number, mut fragments) = (0, 0);
-    let code = sctp_sender_write(alloc, sender, 1, 53, message, &mut number, &mut fragments);
-    if code != SCTP_OK {
+    let code = sctpr_sender_write(alloc, sender, 1, 53, message, &mut number, &mut fragments);
+    if code != SCTPR_OK {
         return None;
     }
     let (mut written, mut tsn) = (0, 0);
-    let code = sctp_sender_send_next(sender, 0, packet, &mut written, &mut tsn);
-    if code != SCTP_OK {
+    let code = sctpr_sender_send_next(sender, 0, packet, &mut written, &mut tsn);
+    if code != SCTPR_OK {
         return None;
     }
     Some((number, tsn))
@@ -51,17 +51,17 @@ pub fn first_chunk(
 ) -> Option<(u64, u32)>
     ensures { IfSome result (λ r. (r.0 ≡ 0) × (r.1 ≡ first_tsn)) }
 {
-    if sctp_sender_new(alloc, first_tsn, 1200, 65_536, &mut out) != SCTP_OK {
+    if sctpr_sender_new(alloc, first_tsn, 1200, 65_536, &mut out) != SCTPR_OK {
         return None;
     }
     let mut sender = out.into_handle();
-    let code = sctp_sender_open(&mut sender, 1);
-    let sent = if code == SCTP_OK {
+    let code = sctpr_sender_open(&mut sender, 1);
+    let sent = if code == SCTPR_OK {
         send_first(alloc, &mut sender, message, packet)
     } else {
         None
     };
-    sctp_sender_free(sender);
+    sctpr_sender_free(sender);
     sent
 }
 
@@ -70,8 +70,8 @@ fn standing(receiver: &mut SctpReceiver) -> (u32, usize)
     ensures tsn { result.0 ≡ receiver.old.value.cumulative_tsn }
     ensures held { result.1 ≡ held_cost receiver.old.value.streams }
 {
-    let tsn = sctp_receiver_cumulative_tsn(receiver);
-    (tsn, sctp_receiver_held_bytes(receiver))
+    let tsn = sctpr_receiver_cumulative_tsn(receiver);
+    (tsn, sctpr_receiver_held_bytes(receiver))
 }
 
 /// A receiver is made, tells up to which TSN all came, and how many bytes it holds, and is freed: the TSN before the first one, and none.
@@ -83,11 +83,11 @@ pub fn before_first_chunk(
 ) -> Option<(u32, usize)>
     ensures { IfSome result (λ r. (r.0 ≡ preceding_tsn first_tsn) × (r.1 ≡ 0)) }
 {
-    if sctp_receiver_new_unlimited(alloc, first_tsn, 65_536, &mut out) != SCTP_OK {
+    if sctpr_receiver_new_unlimited(alloc, first_tsn, 65_536, &mut out) != SCTPR_OK {
         return None;
     }
     let mut receiver = out.into_handle();
     let answered = standing(&mut receiver);
-    sctp_receiver_free(receiver);
+    sctpr_receiver_free(receiver);
     Some(answered)
 }

@@ -8,7 +8,7 @@ ghost use Rattle.sctp_c.specs.Causes.{IsPaddedCause, TellsCause};
 ghost use Rattle.sctp_c.specs.Out.{padded, IsWritten, IsTooShort};
 
 use crate::bytes_out::put_padded;
-use crate::code::{SCTP_OK, of_error};
+use crate::code::{SCTPR_OK, of_error};
 use bytes::Bytes;
 use sctp_chunks::chunk::error_cause::{ErrorCause, ErrorCauseCode};
 use sctp_util::error::Result;
@@ -36,9 +36,9 @@ fn cause_in(alloc: Global, raw: &[u8]) -> Result<ErrorCause>
 }
 
 /// Reads the error cause that the bytes begin with, as the value of an ABORT or ERROR does. Refuses with the code of
-/// `ErrErrorCauseTooSmall`, exactly where they begin with none, and with `SCTP_NO_MEMORY`; `cause` stays then.
+/// `ErrErrorCauseTooSmall`, exactly where they begin with none, and with `SCTPR_NO_MEMORY`; `cause` stays then.
 #[unsafe(no_mangle)]
-pub extern "C" fn sctp_read_cause(alloc: Global, raw: &[u8], cause: &mut SctpCause) -> u32
+pub extern "C" fn sctpr_read_cause(alloc: Global, raw: &[u8], cause: &mut SctpCause) -> u32
     ensures codes { (result ≡ 0) ⊎ ((result ≡ 16) ⊎ (result ≡ 80)) }
     ensures read { result ≡ 0 → TellsCause raw.now cause.new }
     ensures fault { result ≡ 80 → IsCause raw.now → ⊥ }
@@ -53,7 +53,7 @@ pub extern "C" fn sctp_read_cause(alloc: Global, raw: &[u8], cause: &mut SctpCau
                 next: next.min(raw.len()),
                 code: read_u16(raw, 0),
             };
-            SCTP_OK
+            SCTPR_OK
         }
         Err(e) => of_error(e),
     }
@@ -72,11 +72,11 @@ fn cause_of(alloc: Global, code: u16, value: &[u8]) -> Result<Bytes>
     cause.marshal(alloc)
 }
 
-/// Writes an error cause with its padding. `written` becomes how many bytes that is, also where it refuses with `SCTP_SHORT_BUFFER`.
-/// Refuses with `SCTP_LENGTH_TOO_LARGE`, exactly where the value has more than 65,531 bytes, and with `SCTP_NO_MEMORY`; then it changes
+/// Writes an error cause with its padding. `written` becomes how many bytes that is, also where it refuses with `SCTPR_SHORT_BUFFER`.
+/// Refuses with `SCTPR_LENGTH_TOO_LARGE`, exactly where the value has more than 65,531 bytes, and with `SCTPR_NO_MEMORY`; then it changes
 /// nothing. The readers of ABORT and ERROR look for no padding between causes: so all but the last are to be multiples of four long.
 #[unsafe(no_mangle)]
-pub extern "C" fn sctp_write_cause(
+pub extern "C" fn sctpr_write_cause(
     alloc: Global,
     code: u16,
     value: &[u8],

@@ -10,61 +10,61 @@ use sctp_sender::sender::refusal::SenderRefusal;
 use sctp_util::error::Error;
 
 /// Done.
-pub const SCTP_OK: u32 = 0;
+pub const SCTPR_OK: u32 = 0;
 /// Done: a DATA chunk's TSN came before.
-pub const SCTP_REPEAT: u32 = 1;
+pub const SCTPR_REPEAT: u32 = 1;
 /// Done: a FORWARD-TSN is not past what came.
-pub const SCTP_STALE: u32 = 2;
+pub const SCTPR_STALE: u32 = 2;
 /// Done: there is nothing to send, to read or to tell.
-pub const SCTP_NOTHING: u32 = 3;
+pub const SCTPR_NOTHING: u32 = 3;
 /// Memory ran out.
-pub const SCTP_NO_MEMORY: u32 = 16;
+pub const SCTPR_NO_MEMORY: u32 = 16;
 /// The buffer is too short: the length that is wanted was told.
-pub const SCTP_SHORT_BUFFER: u32 = 17;
+pub const SCTPR_SHORT_BUFFER: u32 = 17;
 /// An argument is out of its range.
-pub const SCTP_INVALID: u32 = 18;
+pub const SCTPR_INVALID: u32 = 18;
 /// A chunk or a parameter would be longer than 65,535 bytes with its header (RFC 4960 3.2, 3.2.1).
-pub const SCTP_LENGTH_TOO_LARGE: u32 = 19;
+pub const SCTPR_LENGTH_TOO_LARGE: u32 = 19;
 /// The checksum of the packet is another one (RFC 4960 6.8).
-pub const SCTP_BAD_CHECKSUM: u32 = 20;
+pub const SCTPR_BAD_CHECKSUM: u32 = 20;
 /// A chunk is of a type that is not read.
-pub const SCTP_UNKNOWN_CHUNK: u32 = 21;
+pub const SCTPR_UNKNOWN_CHUNK: u32 = 21;
 /// The stream is open.
-pub const SCTP_STREAM_OPEN: u32 = 22;
+pub const SCTPR_STREAM_OPEN: u32 = 22;
 /// The stream is not open.
-pub const SCTP_STREAM_UNKNOWN: u32 = 23;
+pub const SCTPR_STREAM_UNKNOWN: u32 = 23;
 /// The message is, or would be, longer than a message may be.
-pub const SCTP_MESSAGE_TOO_LARGE: u32 = 24;
+pub const SCTPR_MESSAGE_TOO_LARGE: u32 = 24;
 /// No further message can wait.
-pub const SCTP_QUEUE_FULL: u32 = 25;
+pub const SCTPR_QUEUE_FULL: u32 = 25;
 /// No further TSN can be given out before some are acknowledged.
-pub const SCTP_TSNS_USED_UP: u32 = 26;
+pub const SCTPR_TSNS_USED_UP: u32 = 26;
 /// The TSN is not in flight, or its chunk is acknowledged or abandoned.
-pub const SCTP_NOT_IN_FLIGHT: u32 = 27;
+pub const SCTPR_NOT_IN_FLIGHT: u32 = 27;
 /// A SACK reports a TSN that was not given out.
-pub const SCTP_SACK_BEYOND_SENT: u32 = 28;
+pub const SCTPR_SACK_BEYOND_SENT: u32 = 28;
 /// A gap ack block of a SACK reports a TSN that is not in flight.
-pub const SCTP_SACK_BAD_GAP: u32 = 29;
+pub const SCTPR_SACK_BAD_GAP: u32 = 29;
 /// The TSN lies half the circle from the cumulative one (RFC 1982 3.2).
-pub const SCTP_TSN_OPPOSITE: u32 = 30;
+pub const SCTPR_TSN_OPPOSITE: u32 = 30;
 /// Something of the stream waits or is in flight.
-pub const SCTP_STREAM_BUSY: u32 = 31;
+pub const SCTPR_STREAM_BUSY: u32 = 31;
 /// The next ordered message of the stream can't be begun before chunks of it are acknowledged.
-pub const SCTP_SSNS_USED_UP: u32 = 32;
+pub const SCTPR_SSNS_USED_UP: u32 = 32;
 /// Chunks are in flight.
-pub const SCTP_CHUNKS_IN_FLIGHT: u32 = 33;
+pub const SCTPR_CHUNKS_IN_FLIGHT: u32 = 33;
 /// The TSN lies farther past the cumulative one than the limits allow.
-pub const SCTP_TSN_TOO_FAR: u32 = 34;
+pub const SCTPR_TSN_TOO_FAR: u32 = 34;
 /// Nothing is left of the window (RFC 4960 6.2).
-pub const SCTP_WINDOW_FULL: u32 = 35;
+pub const SCTPR_WINDOW_FULL: u32 = 35;
 /// The stream sequence number can't be told from one that was read (RFC 1982 3.2).
-pub const SCTP_SSN_TOO_FAR: u32 = 36;
+pub const SCTPR_SSN_TOO_FAR: u32 = 36;
 /// A FORWARD-TSN names a stream that is not open (RFC 3758 3.6).
-pub const SCTP_NAMED_STREAM_UNKNOWN: u32 = 37;
+pub const SCTPR_NAMED_STREAM_UNKNOWN: u32 = 37;
 /// A FORWARD-TSN names a stream sequence number that can't be told from one that was read.
-pub const SCTP_NAMED_SSN_TOO_FAR: u32 = 38;
+pub const SCTPR_NAMED_SSN_TOO_FAR: u32 = 38;
 /// The stream can't be reset yet (RFC 6525 4.4).
-pub const SCTP_RESET_IN_PROGRESS: u32 = 39;
+pub const SCTPR_RESET_IN_PROGRESS: u32 = 39;
 
 /// The number of an error of what stands below the two halves; from 40 on they follow the order of `Error`. None is that of a buffer
 /// that is too short, or of an argument out of its range.
@@ -76,9 +76,9 @@ pub fn of_error(e: Error) -> u32
 {
     match e {
         Error::ErrPacketRawTooSmall => 40,
-        Error::ErrChecksumMismatch => SCTP_BAD_CHECKSUM,
+        Error::ErrChecksumMismatch => SCTPR_BAD_CHECKSUM,
         Error::ErrParseSctpChunkNotEnoughData => 41,
-        Error::ErrUnmarshalUnknownChunkType => SCTP_UNKNOWN_CHUNK,
+        Error::ErrUnmarshalUnknownChunkType => SCTPR_UNKNOWN_CHUNK,
         Error::ErrSctpPacketSourcePortZero => 42,
         Error::ErrSctpPacketDestinationPortZero => 43,
         Error::ErrInitChunkBundled => 44,
@@ -126,10 +126,10 @@ pub fn of_error(e: Error) -> u32
         Error::ErrReconfigRespParamTooShort => 86,
         Error::ErrInvalidAlgorithmType => 87,
         Error::ErrSupportedAddressTypesParamInvalidLength => 88,
-        Error::ErrInboundPacketTooLarge => SCTP_MESSAGE_TOO_LARGE,
+        Error::ErrInboundPacketTooLarge => SCTPR_MESSAGE_TOO_LARGE,
         Error::ErrShortBuffer => 89,
-        Error::ErrLengthTooLarge => SCTP_LENGTH_TOO_LARGE,
-        Error::ErrOutOfMemory => SCTP_NO_MEMORY,
+        Error::ErrLengthTooLarge => SCTPR_LENGTH_TOO_LARGE,
+        Error::ErrOutOfMemory => SCTPR_NO_MEMORY,
     }
 }
 
@@ -139,18 +139,18 @@ pub fn of_sender(e: SenderRefusal) -> u32
     ensures refused { 16 ≤ result }
 {
     match e {
-        SenderRefusal::StreamOpen => SCTP_STREAM_OPEN,
-        SenderRefusal::StreamUnknown => SCTP_STREAM_UNKNOWN,
-        SenderRefusal::StreamBusy => SCTP_STREAM_BUSY,
-        SenderRefusal::MessageTooLarge => SCTP_MESSAGE_TOO_LARGE,
-        SenderRefusal::QueueFull => SCTP_QUEUE_FULL,
-        SenderRefusal::TsnsUsedUp => SCTP_TSNS_USED_UP,
-        SenderRefusal::SsnsUsedUp => SCTP_SSNS_USED_UP,
-        SenderRefusal::ChunksInFlight => SCTP_CHUNKS_IN_FLIGHT,
-        SenderRefusal::NotInFlight => SCTP_NOT_IN_FLIGHT,
-        SenderRefusal::InflightQueueTsnPop => SCTP_SACK_BEYOND_SENT,
-        SenderRefusal::TsnRequestNotExist => SCTP_SACK_BAD_GAP,
-        SenderRefusal::OutOfMemory => SCTP_NO_MEMORY,
+        SenderRefusal::StreamOpen => SCTPR_STREAM_OPEN,
+        SenderRefusal::StreamUnknown => SCTPR_STREAM_UNKNOWN,
+        SenderRefusal::StreamBusy => SCTPR_STREAM_BUSY,
+        SenderRefusal::MessageTooLarge => SCTPR_MESSAGE_TOO_LARGE,
+        SenderRefusal::QueueFull => SCTPR_QUEUE_FULL,
+        SenderRefusal::TsnsUsedUp => SCTPR_TSNS_USED_UP,
+        SenderRefusal::SsnsUsedUp => SCTPR_SSNS_USED_UP,
+        SenderRefusal::ChunksInFlight => SCTPR_CHUNKS_IN_FLIGHT,
+        SenderRefusal::NotInFlight => SCTPR_NOT_IN_FLIGHT,
+        SenderRefusal::InflightQueueTsnPop => SCTPR_SACK_BEYOND_SENT,
+        SenderRefusal::TsnRequestNotExist => SCTPR_SACK_BAD_GAP,
+        SenderRefusal::OutOfMemory => SCTPR_NO_MEMORY,
     }
 }
 
@@ -160,16 +160,16 @@ pub fn of_receiver(e: ReceiverRefusal) -> u32
     ensures refused { 16 ≤ result }
 {
     match e {
-        ReceiverRefusal::StreamOpen => SCTP_STREAM_OPEN,
-        ReceiverRefusal::StreamUnknown => SCTP_STREAM_UNKNOWN,
-        ReceiverRefusal::TsnOpposite => SCTP_TSN_OPPOSITE,
-        ReceiverRefusal::MessageTooLarge => SCTP_MESSAGE_TOO_LARGE,
-        ReceiverRefusal::TsnTooFar => SCTP_TSN_TOO_FAR,
-        ReceiverRefusal::WindowFull => SCTP_WINDOW_FULL,
-        ReceiverRefusal::SsnTooFar => SCTP_SSN_TOO_FAR,
-        ReceiverRefusal::NamedStreamUnknown => SCTP_NAMED_STREAM_UNKNOWN,
-        ReceiverRefusal::NamedSsnTooFar => SCTP_NAMED_SSN_TOO_FAR,
-        ReceiverRefusal::ResetInProgress => SCTP_RESET_IN_PROGRESS,
-        ReceiverRefusal::OutOfMemory => SCTP_NO_MEMORY,
+        ReceiverRefusal::StreamOpen => SCTPR_STREAM_OPEN,
+        ReceiverRefusal::StreamUnknown => SCTPR_STREAM_UNKNOWN,
+        ReceiverRefusal::TsnOpposite => SCTPR_TSN_OPPOSITE,
+        ReceiverRefusal::MessageTooLarge => SCTPR_MESSAGE_TOO_LARGE,
+        ReceiverRefusal::TsnTooFar => SCTPR_TSN_TOO_FAR,
+        ReceiverRefusal::WindowFull => SCTPR_WINDOW_FULL,
+        ReceiverRefusal::SsnTooFar => SCTPR_SSN_TOO_FAR,
+        ReceiverRefusal::NamedStreamUnknown => SCTPR_NAMED_STREAM_UNKNOWN,
+        ReceiverRefusal::NamedSsnTooFar => SCTPR_NAMED_SSN_TOO_FAR,
+        ReceiverRefusal::ResetInProgress => SCTPR_RESET_IN_PROGRESS,
+        ReceiverRefusal::OutOfMemory => SCTPR_NO_MEMORY,
     }
 }

@@ -1,4 +1,4 @@
-//! SCTP's lower layer for callers in C: packets, and the two halves of an association behind handles. The header is `include/sctp.h`.
+//! SCTP's lower layer for callers in C: packets, and the two halves of an association behind handles. The header is `include/sctpr.h`.
 #![tactic(auto)]
 
 ghost use Rattle.std.specs.Prelude.{◌≡◌};
@@ -20,7 +20,7 @@ pub mod writing;
 
 /// The version of the surface for C: major << 16 | minor << 8 | patch, here 0.1.0.
 #[unsafe(no_mangle)]
-pub extern "C" fn sctp_version() -> u32
+pub extern "C" fn sctpr_version() -> u32
     ensures { result ≡ 256 }
 {
     0x0000_0100

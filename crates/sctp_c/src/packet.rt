@@ -19,7 +19,7 @@ ghost use Rattle.sctp_c.specs.Refusal.{IsRefusal};
 
 pub mod any;
 
-use crate::code::{SCTP_OK, SCTP_SHORT_BUFFER, of_error};
+use crate::code::{SCTPR_OK, SCTPR_SHORT_BUFFER, of_error};
 use crate::in_place::{padded_span, read_length};
 use sctp_chunks::chunk::chunk_header::CHUNK_HEADER_SIZE;
 use sctp_packets::checksum::Crc32c;
@@ -179,7 +179,7 @@ fn tell<C: Checksum>(
             *head = head_at(raw);
             *count = chunks;
             fill(rows, raw, chunks);
-            SCTP_OK
+            SCTPR_OK
         }
         Err(e) => of_error(e),
     }
@@ -189,7 +189,7 @@ fn tell<C: Checksum>(
 /// places of as many as there is room for. It is read where it lies: chunks but for DATA and SACKs are copied one by one, and freed. Refuses
 /// as `Packet::unmarshal` does, and then changes nothing.
 #[unsafe(no_mangle)]
-pub extern "C" fn sctp_read_packet(
+pub extern "C" fn sctpr_read_packet(
     alloc: Global,
     raw: &[u8],
     head: &mut SctpHead,
@@ -223,10 +223,10 @@ impl Checksum for Given {
     }
 }
 
-/// Reads a packet as `sctp_read_packet` does, under a sum that the caller took: of its first eight bytes, four zeros, and its bytes from
+/// Reads a packet as `sctpr_read_packet` does, under a sum that the caller took: of its first eight bytes, four zeros, and its bytes from
 /// the twelfth on.
 #[unsafe(no_mangle)]
-pub extern "C" fn sctp_read_packet_with_sum(
+pub extern "C" fn sctpr_read_packet_with_sum(
     alloc: Global,
     raw: &[u8],
     sum: u32,
@@ -261,9 +261,9 @@ fn put_head(place: &mut [u8], head: &SctpHead)
 }
 
 /// Writes the header and the CRC-32C of a packet into its first twelve bytes. The chunks stand behind them, each with its padding, and
-/// stay as they are. Refuses with `SCTP_SHORT_BUFFER` under twelve bytes, and then changes nothing.
+/// stay as they are. Refuses with `SCTPR_SHORT_BUFFER` under twelve bytes, and then changes nothing.
 #[unsafe(no_mangle)]
-pub extern "C" fn sctp_seal_packet(head: &SctpHead, packet: &mut [u8]) -> u32
+pub extern "C" fn sctpr_seal_packet(head: &SctpHead, packet: &mut [u8]) -> u32
     ensures sealed { result ≡ 0 → packet.new ≡ sealed head.now (drop 12 packet.old) }
     // With chunks behind the header it is the encoding of a packet.
     ensures packet { (chunks : List Wire) → drop 12 packet.old ≡ body_of chunks → result ≡ 0
@@ -272,47 +272,47 @@ pub extern "C" fn sctp_seal_packet(head: &SctpHead, packet: &mut [u8]) -> u32
         → (result ≡ 17) × (length packet.old < 12) × (packet.new ≡ packet.old) }
 {
     if packet.len() < PACKET_HEADER_SIZE {
-        return SCTP_SHORT_BUFFER;
+        return SCTPR_SHORT_BUFFER;
     }
     let (first, chunks) = packet.split_at_mut(PACKET_HEADER_SIZE);
     let (front, sum) = first.split_at_mut(8);
     put_head(front, head);
     sum.copy_from_slice(&u32_le_bytes(Crc32c.checksum(front, chunks)));
-    SCTP_OK
+    SCTPR_OK
 }
 
 /// Writes the header of a packet into its first twelve bytes, with zeros where the checksum is to stand. So the caller can take a sum of
-/// the packet, and store it by `sctp_store_sum`. Refuses with `SCTP_SHORT_BUFFER` under twelve bytes, and then changes nothing.
+/// the packet, and store it by `sctpr_store_sum`. Refuses with `SCTPR_SHORT_BUFFER` under twelve bytes, and then changes nothing.
 #[unsafe(no_mangle)]
-pub extern "C" fn sctp_write_head(head: &SctpHead, packet: &mut [u8]) -> u32
+pub extern "C" fn sctpr_write_head(head: &SctpHead, packet: &mut [u8]) -> u32
     ensures head { result ≡ 0
         → packet.new ≡ head_bytes head.now ++ four_zeroes ++ drop 12 packet.old }
     ensures short { result ≢ 0
         → (result ≡ 17) × (length packet.old < 12) × (packet.new ≡ packet.old) }
 {
     if packet.len() < PACKET_HEADER_SIZE {
-        return SCTP_SHORT_BUFFER;
+        return SCTPR_SHORT_BUFFER;
     }
     let (first, _) = packet.split_at_mut(PACKET_HEADER_SIZE);
     let (front, sum) = first.split_at_mut(8);
     put_head(front, head);
     sum.copy_from_slice(&[0; 4]);
-    SCTP_OK
+    SCTPR_OK
 }
 
-/// Stores the checksum of a packet, the lowest byte first (RFC 4960 Appendix B). Refuses with `SCTP_SHORT_BUFFER` under twelve bytes, and
+/// Stores the checksum of a packet, the lowest byte first (RFC 4960 Appendix B). Refuses with `SCTPR_SHORT_BUFFER` under twelve bytes, and
 /// then changes nothing.
 #[unsafe(no_mangle)]
-pub extern "C" fn sctp_store_sum(sum: u32, packet: &mut [u8]) -> u32
+pub extern "C" fn sctpr_store_sum(sum: u32, packet: &mut [u8]) -> u32
     ensures stored { result ≡ 0 → packet.new ≡ take 8 packet.old ++ le32 sum ++ drop 12 packet.old }
     ensures short { result ≢ 0
         → (result ≡ 17) × (length packet.old < 12) × (packet.new ≡ packet.old) }
 {
     if packet.len() < PACKET_HEADER_SIZE {
-        return SCTP_SHORT_BUFFER;
+        return SCTPR_SHORT_BUFFER;
     }
     let (first, _) = packet.split_at_mut(PACKET_HEADER_SIZE);
     let (_, place) = first.split_at_mut(8);
     place.copy_from_slice(&u32_le_bytes(sum));
-    SCTP_OK
+    SCTPR_OK
 }

@@ -16,7 +16,7 @@ ghost use Rattle.sctp_c.specs.Out.{filled};
 ghost use Rattle.sctp_c.specs.Refusal.{IsRefusal};
 ghost use Rattle.sctp_c.specs.Answered.{IsData, IsSack, IsForwardTsn, IsInit, IsParameter, data_answered, gap_answered, skip_answered};
 
-use crate::code::{SCTP_OK, of_error};
+use crate::code::{SCTPR_OK, of_error};
 use crate::in_place::{data_value, sack_value};
 use bytes::Bytes;
 use sctp_chunks::chunk::Chunk;
@@ -136,7 +136,7 @@ fn answered(flags: u8, value: &[u8]) -> SctpData
 
 /// Reads a DATA chunk. Refuses as `ChunkPayloadData::unmarshal` does, and then changes nothing.
 #[unsafe(no_mangle)]
-pub extern "C" fn sctp_read_data(_alloc: Global, chunk: &[u8], fields: &mut SctpData) -> u32
+pub extern "C" fn sctpr_read_data(_alloc: Global, chunk: &[u8], fields: &mut SctpData) -> u32
     ensures read { result ≡ 0 → IsData chunk.now fields.new }
     ensures only { (d : Data) → ReadsChunk chunk.now (data_chunk d) → result ≢ 0 → result ≡ 16 }
     ensures refused { result ≢ 0 → IsRefusal (λ e. DataFault e chunk.now) result }
@@ -147,7 +147,7 @@ pub extern "C" fn sctp_read_data(_alloc: Global, chunk: &[u8], fields: &mut Sctp
     match data_value(chunk) {
         Ok(value) => {
             *fields = answered(chunk[1], value);
-            SCTP_OK
+            SCTPR_OK
         }
         Err(e) => of_error(e),
     }
@@ -195,7 +195,7 @@ fn fill_skips(rows: &mut [SctpSkip], streams: &[ChunkForwardTsnStream])
 /// Reads a SACK. As many blocks and duplicates as there is room for stand in `blocks` and `duplicates`; `sack` says how many there are.
 /// Refuses as `ChunkSelectiveAck::unmarshal` does, and then changes nothing.
 #[unsafe(no_mangle)]
-pub extern "C" fn sctp_read_sack(
+pub extern "C" fn sctpr_read_sack(
     _alloc: Global,
     chunk: &[u8],
     sack: &mut SctpSack,
@@ -224,7 +224,7 @@ pub extern "C" fn sctp_read_sack(
             fill_gaps(blocks, value, gaps);
             let behind = SELECTIVE_ACK_HEADER_SIZE + 4 * gaps;
             fill_numbers(duplicates, value, behind, repeats);
-            SCTP_OK
+            SCTPR_OK
         }
         Err(e) => of_error(e),
     }
@@ -233,7 +233,7 @@ pub extern "C" fn sctp_read_sack(
 /// Reads a FORWARD-TSN. `count` becomes how many streams it names, and as many as there is room for stand in `streams`. Refuses as
 /// `ChunkForwardTsn::unmarshal` does, and then changes nothing.
 #[unsafe(no_mangle)]
-pub extern "C" fn sctp_read_forward_tsn(
+pub extern "C" fn sctpr_read_forward_tsn(
     alloc: Global,
     chunk: &[u8],
     new_cumulative_tsn: &mut u32,
@@ -253,7 +253,7 @@ pub extern "C" fn sctp_read_forward_tsn(
             *new_cumulative_tsn = read.new_cumulative_tsn;
             *count = read.streams.len();
             fill_skips(streams, &read.streams);
-            SCTP_OK
+            SCTPR_OK
         }
         Err(e) => of_error(e),
     }
@@ -261,7 +261,7 @@ pub extern "C" fn sctp_read_forward_tsn(
 
 /// Reads an INIT or INIT-ACK. Refuses as `ChunkInit::unmarshal` does, and then changes nothing.
 #[unsafe(no_mangle)]
-pub extern "C" fn sctp_read_init(alloc: Global, chunk: &[u8], init: &mut SctpInit) -> u32
+pub extern "C" fn sctpr_read_init(alloc: Global, chunk: &[u8], init: &mut SctpInit) -> u32
     ensures read { result ≡ 0 → IsInit chunk.now init.new }
     ensures only { (i : Init) → ReadsChunk chunk.now (init_chunk i) → result ≢ 0 → result ≡ 16 }
     ensures refused { result ≢ 0 → IsRefusal (λ e. InitFault e chunk.now) result }
@@ -277,7 +277,7 @@ pub extern "C" fn sctp_read_init(alloc: Global, chunk: &[u8], init: &mut SctpIni
                 inbound_streams: read.num_inbound_streams,
                 is_ack: flag(read.is_ack),
             };
-            SCTP_OK
+            SCTPR_OK
         }
         Err(e) => of_error(e),
     }
@@ -286,7 +286,7 @@ pub extern "C" fn sctp_read_init(alloc: Global, chunk: &[u8], init: &mut SctpIni
 /// Reads a SHUTDOWN: `cumulative_tsn` becomes the TSN up to which its sender received all (RFC 4960 3.3.8). Refuses as
 /// `ChunkShutdown::unmarshal` does, and then changes nothing.
 #[unsafe(no_mangle)]
-pub extern "C" fn sctp_read_shutdown(alloc: Global, chunk: &[u8], cumulative_tsn: &mut u32) -> u32
+pub extern "C" fn sctpr_read_shutdown(alloc: Global, chunk: &[u8], cumulative_tsn: &mut u32) -> u32
     ensures read { result ≡ 0 → ReadsChunk chunk.now (shutdown_chunk cumulative_tsn.new) }
     ensures only { (n : ℕ) → ReadsChunk chunk.now (shutdown_chunk n) → result ≢ 0 → result ≡ 16 }
     ensures refused { result ≢ 0 → IsRefusal (λ e. ShutdownFault e chunk.now) result }
@@ -295,7 +295,7 @@ pub extern "C" fn sctp_read_shutdown(alloc: Global, chunk: &[u8], cumulative_tsn
     match read::<ChunkShutdown>(alloc, chunk) {
         Ok(read) => {
             *cumulative_tsn = read.cumulative_tsn_ack;
-            SCTP_OK
+            SCTPR_OK
         }
         Err(e) => of_error(e),
     }
@@ -313,7 +313,7 @@ fn read_param(alloc: Global, raw: &[u8]) -> Result<ParamKind>
 
 /// Reads the parameter that the bytes begin with. Refuses as `build_param` does, and then changes nothing.
 #[unsafe(no_mangle)]
-pub extern "C" fn sctp_read_param(alloc: Global, raw: &[u8], param: &mut SctpParam) -> u32
+pub extern "C" fn sctpr_read_param(alloc: Global, raw: &[u8], param: &mut SctpParam) -> u32
     ensures read { result ≡ 0 → IsParameter raw.now param.new }
     ensures only { (p : Parameter) → ReadsParam raw.now p → result ≢ 0 → result ≡ 16 }
     ensures refused { result ≢ 0 → IsRefusal (λ e. ParamFault e raw.now) result }
@@ -328,7 +328,7 @@ pub extern "C" fn sctp_read_param(alloc: Global, raw: &[u8], param: &mut SctpPar
                 next: next.min(raw.len()),
                 typ: read_u16(raw, 0),
             };
-            SCTP_OK
+            SCTPR_OK
         }
         Err(e) => of_error(e),
     }

@@ -17,7 +17,7 @@ pub mod arrivals;
 pub mod messages;
 pub mod sacks;
 
-use crate::code::{SCTP_NO_MEMORY, SCTP_OK, of_receiver};
+use crate::code::{SCTPR_NO_MEMORY, SCTPR_OK, of_receiver};
 use crate::parts::Parts;
 use sctp_receiver::receiver::Receiver;
 use sctp_receiver::receiver::limits::Limits;
@@ -107,17 +107,17 @@ fn hand_out(alloc: Global, receiver: Receiver, out: &mut SctpNewReceiver) -> u32
     match Box::new(alloc, receiver) {
         Ok(held) => {
             out.hold(Parts::of(held));
-            SCTP_OK
+            SCTPR_OK
         }
-        Err(_) => SCTP_NO_MEMORY,
+        Err(_) => SCTPR_NO_MEMORY,
     }
 }
 
 /// Makes a receiver with no stream, to which nothing came: `first_tsn`, the peer's initial TSN, is expected next, and a message may have
-/// `max_message_size` bytes. It holds about `window` bytes at most, each chunk counted as 400 more than its user data, and no TSN farther
-/// than `reach` past the cumulative one (RFC 4960 6.2). `out` becomes its handle. Refuses with `SCTP_NO_MEMORY`; `out` stays then.
+/// `max_message_size` bytes. It holds about `window` bytes at most, each chunk counted as 200 more than its user data, and no TSN farther
+/// than `reach` past the cumulative one (RFC 4960 6.2). `out` becomes its handle. Refuses with `SCTPR_NO_MEMORY`; `out` stays then.
 #[unsafe(no_mangle)]
-pub extern "C" fn sctp_receiver_new(
+pub extern "C" fn sctpr_receiver_new(
     alloc: Global,
     first_tsn: u32,
     max_message_size: u32,
@@ -135,9 +135,9 @@ pub extern "C" fn sctp_receiver_new(
     hand_out(alloc, receiver, out)
 }
 
-/// As `sctp_receiver_new`, with no limit to what is held: for a peer that is trusted, or a replay.
+/// As `sctpr_receiver_new`, with no limit to what is held: for a peer that is trusted, or a replay.
 #[unsafe(no_mangle)]
-pub extern "C" fn sctp_receiver_new_unlimited(
+pub extern "C" fn sctpr_receiver_new_unlimited(
     alloc: Global,
     first_tsn: u32,
     max_message_size: u32,
@@ -152,15 +152,15 @@ pub extern "C" fn sctp_receiver_new_unlimited(
 }
 
 /// Frees a receiver and all that it holds. The handle is not used again. It takes no memory.
-// No clause can say more, as at `sctp_sender_free`.
+// No clause can say more, as at `sctpr_sender_free`.
 #[unsafe(no_mangle)]
-pub extern "C" fn sctp_receiver_free(receiver: SctpReceiver) {
+pub extern "C" fn sctpr_receiver_free(receiver: SctpReceiver) {
     drop(receiver.into_parts().into_box());
 }
 
-/// Opens a stream. Refuses with `SCTP_STREAM_OPEN` and `SCTP_NO_MEMORY`.
+/// Opens a stream. Refuses with `SCTPR_STREAM_OPEN` and `SCTPR_NO_MEMORY`.
 #[unsafe(no_mangle)]
-pub extern "C" fn sctp_receiver_open(receiver: &mut SctpReceiver, stream: u16) -> u32
+pub extern "C" fn sctpr_receiver_open(receiver: &mut SctpReceiver, stream: u16) -> u32
     ensures ok { result ≡ 0 → (is_open stream receiver.old.value ≡ false)
         × (receiver.new.value ≡ open_stream stream receiver.old.value) }
     ensures refused { result ≢ 0 → (result ≡ receiver_code
@@ -168,24 +168,24 @@ pub extern "C" fn sctp_receiver_open(receiver: &mut SctpReceiver, stream: u16) -
         × (receiver.new.value ≡ receiver.old.value) }
 {
     match receiver.get_mut().open(stream) {
-        Ok(()) => SCTP_OK,
+        Ok(()) => SCTPR_OK,
         Err(e) => of_receiver(e),
     }
 }
 
 /// Closes a stream, where it is open: what came on it and was not read is dropped; the TSNs stay. It takes no memory.
 #[unsafe(no_mangle)]
-pub extern "C" fn sctp_receiver_close(receiver: &mut SctpReceiver, stream: u16)
+pub extern "C" fn sctpr_receiver_close(receiver: &mut SctpReceiver, stream: u16)
     ensures { receiver.new.value ≡ close_stream stream receiver.old.value }
 {
     receiver.get_mut().close(stream);
 }
 
 /// The peer resets a stream that it sends on: `last_tsn` is the Sender's Last Assigned TSN of its Outgoing SSN Reset Request (RFC 6525
-/// 4.1, 5.2.2). The stream sequence number 0 is expected next. Refuses with `SCTP_STREAM_UNKNOWN`, with `SCTP_RESET_IN_PROGRESS`, where
-/// the cumulative TSN is before `last_tsn`, and with `SCTP_NO_MEMORY`.
+/// 4.1, 5.2.2). The stream sequence number 0 is expected next. Refuses with `SCTPR_STREAM_UNKNOWN`, with `SCTPR_RESET_IN_PROGRESS`, where
+/// the cumulative TSN is before `last_tsn`, and with `SCTPR_NO_MEMORY`.
 #[unsafe(no_mangle)]
-pub extern "C" fn sctp_receiver_reset(
+pub extern "C" fn sctpr_receiver_reset(
     receiver: &mut SctpReceiver,
     stream: u16,
     last_tsn: u32,
@@ -197,14 +197,14 @@ pub extern "C" fn sctp_receiver_reset(
         × (receiver.new.value ≡ receiver.old.value) }
 {
     match receiver.get_mut().reset(stream, last_tsn) {
-        Ok(()) => SCTP_OK,
+        Ok(()) => SCTPR_OK,
         Err(e) => of_receiver(e),
     }
 }
 
 /// The TSN up to which all came, or was skipped.
 #[unsafe(no_mangle)]
-pub extern "C" fn sctp_receiver_cumulative_tsn(receiver: &mut SctpReceiver) -> u32
+pub extern "C" fn sctpr_receiver_cumulative_tsn(receiver: &mut SctpReceiver) -> u32
     ensures value { result ≡ receiver.old.value.cumulative_tsn }
     ensures kept { receiver.new.value ≡ receiver.old.value }
 {
@@ -213,16 +213,16 @@ pub extern "C" fn sctp_receiver_cumulative_tsn(receiver: &mut SctpReceiver) -> u
 
 /// The window to advertise, in bytes (RFC 4960 3.3.4), which a SACK has as its credit; 2^32 - 1 without limits.
 #[unsafe(no_mangle)]
-pub extern "C" fn sctp_receiver_window(receiver: &mut SctpReceiver) -> u32
+pub extern "C" fn sctpr_receiver_window(receiver: &mut SctpReceiver) -> u32
     ensures value { result ≡ window receiver.old.value }
     ensures kept { receiver.new.value ≡ receiver.old.value }
 {
     receiver.get_mut().window()
 }
 
-/// What is held and was not read: its bytes, and 400 for each chunk; the greatest `size_t` where it is more.
+/// What is held and was not read: its bytes, and 200 for each chunk; the greatest `size_t` where it is more.
 #[unsafe(no_mangle)]
-pub extern "C" fn sctp_receiver_held_bytes(receiver: &mut SctpReceiver) -> usize
+pub extern "C" fn sctpr_receiver_held_bytes(receiver: &mut SctpReceiver) -> usize
     ensures value { result ≡ held_cost receiver.old.value.streams }
     ensures kept { receiver.new.value ≡ receiver.old.value }
 {

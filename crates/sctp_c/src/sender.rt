@@ -19,7 +19,7 @@ pub mod queries;
 pub mod sending;
 
 use crate::code::{
-    SCTP_INVALID, SCTP_NO_MEMORY, SCTP_NOTHING, SCTP_OK, SCTP_STREAM_UNKNOWN, of_sender,
+    SCTPR_INVALID, SCTPR_NO_MEMORY, SCTPR_NOTHING, SCTPR_OK, SCTPR_STREAM_UNKNOWN, of_sender,
 };
 use crate::parts::Parts;
 use bytes::Bytes;
@@ -103,10 +103,10 @@ impl SctpNewSender {
 }
 
 /// Makes a sender with no stream, whose first chunk gets `first_tsn`. A chunk has `fragment_size` bytes of user data at most, 1 to
-/// 65,519, a message `max_message_size`. `out` becomes its handle. Refuses with `SCTP_INVALID`, where the fragment size is not in that
-/// range, and with `SCTP_NO_MEMORY`; `out` stays then.
+/// 65,519, a message `max_message_size`. `out` becomes its handle. Refuses with `SCTPR_INVALID`, where the fragment size is not in that
+/// range, and with `SCTPR_NO_MEMORY`; `out` stays then.
 #[unsafe(no_mangle)]
-pub extern "C" fn sctp_sender_new(
+pub extern "C" fn sctpr_sender_new(
     alloc: Global,
     first_tsn: u32,
     fragment_size: u32,
@@ -121,15 +121,15 @@ pub extern "C" fn sctp_sender_new(
     ensures refused { result ≢ 0 → out.new ≡ out.old }
 {
     if fragment_size == 0 || fragment_size > 65_519 {
-        return SCTP_INVALID;
+        return SCTPR_INVALID;
     }
     let sender = Sender::new(alloc, first_tsn, fragment_size, max_message_size);
     match Box::new(alloc, sender) {
         Ok(held) => {
             out.hold(Parts::of(held));
-            SCTP_OK
+            SCTPR_OK
         }
-        Err(_) => SCTP_NO_MEMORY,
+        Err(_) => SCTPR_NO_MEMORY,
     }
 }
 
@@ -137,13 +137,13 @@ pub extern "C" fn sctp_sender_new(
 // It takes the handle, which nothing has then any more: no clause could speak of it. Nor can one say that each block is given back: the
 // kit's `deallocate` ensures nothing, and a body that lets the handle go, and frees nothing, is proved too. The tests in C count blocks.
 #[unsafe(no_mangle)]
-pub extern "C" fn sctp_sender_free(sender: SctpSender) {
+pub extern "C" fn sctpr_sender_free(sender: SctpSender) {
     drop(sender.into_parts().into_box());
 }
 
-/// Opens a stream, ordered and reliable. Refuses with `SCTP_STREAM_OPEN` and `SCTP_NO_MEMORY`.
+/// Opens a stream, ordered and reliable. Refuses with `SCTPR_STREAM_OPEN` and `SCTPR_NO_MEMORY`.
 #[unsafe(no_mangle)]
-pub extern "C" fn sctp_sender_open(sender: &mut SctpSender, stream: u16) -> u32
+pub extern "C" fn sctpr_sender_open(sender: &mut SctpSender, stream: u16) -> u32
     ensures ok { result ≡ 0 → (is_open stream sender.old.value ≡ false)
         × (sender.new.value ≡ open_stream stream sender.old.value) }
     ensures refused { result ≢ 0 → (result ≡ sender_code
@@ -151,14 +151,14 @@ pub extern "C" fn sctp_sender_open(sender: &mut SctpSender, stream: u16) -> u32
         × (sender.new.value ≡ sender.old.value) }
 {
     match sender.get_mut().open(stream) {
-        Ok(()) => SCTP_OK,
+        Ok(()) => SCTPR_OK,
         Err(e) => of_sender(e),
     }
 }
 
 /// Closes a stream, where it is open. What waits and is in flight of it goes on. It takes no memory.
 #[unsafe(no_mangle)]
-pub extern "C" fn sctp_sender_close(sender: &mut SctpSender, stream: u16)
+pub extern "C" fn sctpr_sender_close(sender: &mut SctpSender, stream: u16)
     ensures { sender.new.value ≡ close_stream stream sender.old.value }
 {
     sender.get_mut().close(stream);
@@ -178,9 +178,9 @@ fn reliability_from(number: u32) -> Option<ReliabilityType>
 
 /// Sets the mode of later writes to a stream; a DCEP message is ordered and reliable in any mode (RFC 8832 6). `unordered` is 0 for ordered. `reliability` is 0:
 /// reliable, and `value` means nothing; 1: `value` counts the sendings of a chunk after the first; 2: `value` is a lifetime in
-/// milliseconds (RFC 3758 4.1, RFC 7496 3.1). Refuses with `SCTP_INVALID`, where it is another number, and with `SCTP_STREAM_UNKNOWN`.
+/// milliseconds (RFC 3758 4.1, RFC 7496 3.1). Refuses with `SCTPR_INVALID`, where it is another number, and with `SCTPR_STREAM_UNKNOWN`.
 #[unsafe(no_mangle)]
-pub extern "C" fn sctp_sender_set_mode(
+pub extern "C" fn sctpr_sender_set_mode(
     sender: &mut SctpSender,
     stream: u16,
     unordered: u8,
@@ -196,36 +196,36 @@ pub extern "C" fn sctp_sender_set_mode(
     ensures refused { result ≢ 0 → sender.new.value ≡ sender.old.value }
 {
     let Some(reliability) = reliability_from(reliability) else {
-        return SCTP_INVALID;
+        return SCTPR_INVALID;
     };
     match sender
         .get_mut()
         .set_mode(stream, unordered != 0, reliability, value)
     {
-        Ok(()) => SCTP_OK,
-        Err(_) => SCTP_STREAM_UNKNOWN,
+        Ok(()) => SCTPR_OK,
+        Err(_) => SCTPR_STREAM_UNKNOWN,
     }
 }
 
 /// Sets how many bytes of user data a chunk of a later write has at most, on each stream, 1 to 65,519, as where the path MTU changes
-/// (RFC 4821). Refuses with `SCTP_INVALID`. It takes no memory.
+/// (RFC 4821). Refuses with `SCTPR_INVALID`. It takes no memory.
 #[unsafe(no_mangle)]
-pub extern "C" fn sctp_sender_set_fragment_size(sender: &mut SctpSender, size: u32) -> u32
+pub extern "C" fn sctpr_sender_set_fragment_size(sender: &mut SctpSender, size: u32) -> u32
     ensures codes { (result ≡ 0) ⊎ (result ≡ 18) }
     ensures ok { result ≡ 0 → sender.new.value ≡ with_fragment_size size sender.old.value }
     ensures invalid { result ≡ 18 → ((size ≡ 0) ⊎ (65519 < size))
         × (sender.new.value ≡ sender.old.value) }
 {
     if size == 0 || size > 65_519 {
-        return SCTP_INVALID;
+        return SCTPR_INVALID;
     }
     sender.get_mut().set_fragment_size(size);
-    SCTP_OK
+    SCTPR_OK
 }
 
-/// Sets the buffered amount of a stream, in bytes, down to which a fall is told (`is_low`). Refuses with `SCTP_STREAM_UNKNOWN`.
+/// Sets the buffered amount of a stream, in bytes, down to which a fall is told (`is_low`). Refuses with `SCTPR_STREAM_UNKNOWN`.
 #[unsafe(no_mangle)]
-pub extern "C" fn sctp_sender_set_low_threshold(
+pub extern "C" fn sctpr_sender_set_low_threshold(
     sender: &mut SctpSender,
     stream: u16,
     bytes: usize,
@@ -239,15 +239,15 @@ pub extern "C" fn sctp_sender_set_low_threshold(
         .get_mut()
         .set_buffered_amount_low_threshold(stream, bytes)
     {
-        Ok(()) => SCTP_OK,
-        Err(_) => SCTP_STREAM_UNKNOWN,
+        Ok(()) => SCTPR_OK,
+        Err(_) => SCTPR_STREAM_UNKNOWN,
     }
 }
 
-/// Resets a stream (RFC 6525 5.1.2): its next ordered message has the number 0. Refuses with `SCTP_STREAM_UNKNOWN`, and with
-/// `SCTP_STREAM_BUSY`, where something of it waits or is in flight. It takes no memory.
+/// Resets a stream (RFC 6525 5.1.2): its next ordered message has the number 0. Refuses with `SCTPR_STREAM_UNKNOWN`, and with
+/// `SCTPR_STREAM_BUSY`, where something of it waits or is in flight. It takes no memory.
 #[unsafe(no_mangle)]
-pub extern "C" fn sctp_sender_reset(sender: &mut SctpSender, stream: u16) -> u32
+pub extern "C" fn sctpr_sender_reset(sender: &mut SctpSender, stream: u16) -> u32
     ensures ok { result ≡ 0 → (reset_refusal stream sender.old.value ≡ None)
         × (sender.new.value ≡ reset_on stream sender.old.value) }
     ensures refused { result ≢ 0
@@ -255,16 +255,16 @@ pub extern "C" fn sctp_sender_reset(sender: &mut SctpSender, stream: u16) -> u32
         × (sender.new.value ≡ sender.old.value) }
 {
     match sender.get_mut().reset(stream) {
-        Ok(()) => SCTP_OK,
+        Ok(()) => SCTPR_OK,
         Err(e) => of_sender(e),
     }
 }
 
 /// Takes a copy of a message of one byte or more: its fragments wait. `number` becomes its number, `fragments` how many chunks it has.
-/// `SCTP_NOTHING`: the message has no bytes, and nothing changed (RFC 8831 6.6 sends one byte in their place). Refuses with
-/// `SCTP_STREAM_UNKNOWN`, `SCTP_MESSAGE_TOO_LARGE`, `SCTP_QUEUE_FULL` and `SCTP_NO_MEMORY`. Both stay, but with `SCTP_OK`.
+/// `SCTPR_NOTHING`: the message has no bytes, and nothing changed (RFC 8831 6.6 sends one byte in their place). Refuses with
+/// `SCTPR_STREAM_UNKNOWN`, `SCTPR_MESSAGE_TOO_LARGE`, `SCTPR_QUEUE_FULL` and `SCTPR_NO_MEMORY`. Both stay, but with `SCTPR_OK`.
 #[unsafe(no_mangle)]
-pub extern "C" fn sctp_sender_write(
+pub extern "C" fn sctpr_sender_write(
     alloc: Global,
     sender: &mut SctpSender,
     stream: u16,
@@ -284,16 +284,16 @@ pub extern "C" fn sctp_sender_write(
         × ((number.new ≡ number.old) × (fragments.new ≡ fragments.old)) }
 {
     let Ok(bytes) = Bytes::copy_from_slice(alloc, message) else {
-        return SCTP_NO_MEMORY;
+        return SCTPR_NO_MEMORY;
     };
     let ppi = PayloadProtocolIdentifier::from(payload_type);
     match sender.get_mut().write(stream, ppi, &bytes) {
         Ok((Some(n), count)) => {
             *number = n;
             *fragments = count;
-            SCTP_OK
+            SCTPR_OK
         }
-        Ok((None, _)) => SCTP_NOTHING,
+        Ok((None, _)) => SCTPR_NOTHING,
         Err(e) => of_sender(e),
     }
 }

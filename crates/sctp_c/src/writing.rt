@@ -59,10 +59,10 @@ fn chunk_of(alloc: Global, typ: u8, value: &[u8]) -> Result<Bytes>
 }
 
 /// Writes a chunk of a type and a value with its padding, its flags 0: of any type that is read (RFC 4960 3.2, 3.3). `written` becomes how
-/// many bytes that is, also where it refuses with `SCTP_SHORT_BUFFER`. Refuses with `SCTP_LENGTH_TOO_LARGE` a value of more than 65,531
+/// many bytes that is, also where it refuses with `SCTPR_SHORT_BUFFER`. Refuses with `SCTPR_LENGTH_TOO_LARGE` a value of more than 65,531
 /// bytes, and with the reader's error where no reader takes that value for that type; then it changes nothing.
 #[unsafe(no_mangle)]
-pub extern "C" fn sctp_write_chunk(
+pub extern "C" fn sctpr_write_chunk(
     alloc: Global,
     typ: u8,
     value: &[u8],
@@ -109,11 +109,11 @@ fn flagged_chunk_of(alloc: Global, typ: u8, flags: u8, value: &[u8]) -> Result<B
     encoded_under(alloc, flags, &read)
 }
 
-/// As `sctp_write_chunk`, with flags, as they are given. So the T bit of an ABORT or a SHUTDOWN-COMPLETE is set, which is 1 (RFC 4960
+/// As `sctpr_write_chunk`, with flags, as they are given. So the T bit of an ABORT or a SHUTDOWN-COMPLETE is set, which is 1 (RFC 4960
 /// 3.3.7, 3.3.13): its packet has the verification tag of the packet that it answers (8.4, 8.5.1). An INIT or INIT-ACK is refused with
 /// flags other than 0.
 #[unsafe(no_mangle)]
-pub extern "C" fn sctp_write_chunk_with_flags(
+pub extern "C" fn sctpr_write_chunk_with_flags(
     alloc: Global,
     typ: u8,
     flags: u8,
@@ -169,9 +169,9 @@ fn init_of(alloc: Global, init: &SctpInit, params: &[u8]) -> Result<Bytes>
 }
 
 /// Writes an INIT, or where `is_ack` is not 0 an INIT-ACK, with its padding (RFC 4960 3.3.2, 3.3.3). `params` are its parameters, each with
-/// its padding, as `sctp_write_param` writes them. Otherwise as `sctp_write_chunk`.
+/// its padding, as `sctpr_write_param` writes them. Otherwise as `sctpr_write_chunk`.
 #[unsafe(no_mangle)]
-pub extern "C" fn sctp_write_init(
+pub extern "C" fn sctpr_write_init(
     alloc: Global,
     init: &SctpInit,
     params: &[u8],
@@ -231,10 +231,10 @@ fn param_of(alloc: Global, typ: u16, value: &[u8]) -> Result<Bytes>
 }
 
 /// Writes a parameter with its padding (RFC 4960 3.2.1). `written` becomes how many bytes that is, also where it refuses with
-/// `SCTP_SHORT_BUFFER`. Refuses with `SCTP_LENGTH_TOO_LARGE` a value of more than 65,531 bytes, and with the reader's error where no reader
+/// `SCTPR_SHORT_BUFFER`. Refuses with `SCTPR_LENGTH_TOO_LARGE` a value of more than 65,531 bytes, and with the reader's error where no reader
 /// takes that value for that type; then it changes nothing.
 #[unsafe(no_mangle)]
-pub extern "C" fn sctp_write_param(
+pub extern "C" fn sctpr_write_param(
     alloc: Global,
     typ: u16,
     value: &[u8],

@@ -19,7 +19,7 @@ ghost use Rattle.sctp_chunks.specs.Wire.{Wire, ReadsChunk};
 ghost use Rattle.sctp_packets.specs.Packet.{IsHeaded, Parts, ReadsPacket, Steps, after};
 
 use super::{Given, SctpHead, check_head, head_at};
-use crate::code::{SCTP_OK, of_error};
+use crate::code::{SCTPR_OK, of_error};
 use crate::in_place::{chunk_length, is_read_type, padded_span, read_length};
 use sctp_chunks::chunk::chunk_header::CHUNK_HEADER_SIZE;
 use sctp_packets::checksum::Crc32c;
@@ -179,7 +179,7 @@ fn tell_any<C: Checksum>(
             *head = head_at(raw);
             *count = chunks;
             fill(rows, raw, chunks);
-            SCTP_OK
+            SCTPR_OK
         }
         Err(e) => of_error(e),
     }
@@ -188,9 +188,9 @@ fn tell_any<C: Checksum>(
 /// Reads a packet under CRC-32C that may have chunks of types that are not read (RFC 4960 3.2). Where it is one, `head` becomes its header,
 /// `count` how many chunks it has, and `rows` begin with the places of as many as there is room for. A chunk of a type that is not read is
 /// skipped where the highest bit of its type is set; else it is the last one that is looked at. Refuses as `Packet::unmarshal` does, but
-/// for unknown types, and then changes nothing. It copies what `sctp_read_packet` does.
+/// for unknown types, and then changes nothing. It copies what `sctpr_read_packet` does.
 #[unsafe(no_mangle)]
-pub extern "C" fn sctp_read_any_packet(
+pub extern "C" fn sctpr_read_any_packet(
     alloc: Global,
     raw: &[u8],
     head: &mut SctpHead,
@@ -201,7 +201,7 @@ pub extern "C" fn sctp_read_any_packet(
         → IsAnyPacket crc32c_of raw.now head.new count.new rows.old rows.new }
     ensures only { (all : List SctpAnyChunk) → IsHeaded crc32c_of raw.now
         → TellsAll raw.now all → result ≢ 0 → result ≡ 16 }
-    // What `sctp_read_packet` reads is read here too.
+    // What `sctpr_read_packet` reads is read here too.
     ensures strict { (p : Parts) → ReadsPacket crc32c_of raw.now p → result ≢ 0 → result ≡ 16 }
     // Of DATA and SACKs alone it is read with no memory.
     ensures in_place { (p : Parts) → AllByRecursion IsInPlace p.chunks
@@ -213,10 +213,10 @@ pub extern "C" fn sctp_read_any_packet(
     tell_any(alloc, raw, &Crc32c, head, rows, count)
 }
 
-/// Reads a packet as `sctp_read_any_packet` does, under a sum that the caller took: of its first eight bytes, four zeros, and its bytes
+/// Reads a packet as `sctpr_read_any_packet` does, under a sum that the caller took: of its first eight bytes, four zeros, and its bytes
 /// from the twelfth on.
 #[unsafe(no_mangle)]
-pub extern "C" fn sctp_read_any_packet_with_sum(
+pub extern "C" fn sctpr_read_any_packet_with_sum(
     alloc: Global,
     raw: &[u8],
     sum: u32,
@@ -228,7 +228,7 @@ pub extern "C" fn sctp_read_any_packet_with_sum(
         → IsAnyPacket (λ _. sum) raw.now head.new count.new rows.old rows.new }
     ensures only { (all : List SctpAnyChunk) → IsHeaded (λ _. sum) raw.now
         → TellsAll raw.now all → result ≢ 0 → result ≡ 16 }
-    // What `sctp_read_packet_with_sum` reads is read here too.
+    // What `sctpr_read_packet_with_sum` reads is read here too.
     ensures strict { (p : Parts) → ReadsPacket (λ _. sum) raw.now p → result ≢ 0 → result ≡ 16 }
     // Of DATA and SACKs alone it is read with no memory.
     ensures in_place { (p : Parts) → AllByRecursion IsInPlace p.chunks

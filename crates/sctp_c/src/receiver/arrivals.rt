@@ -13,7 +13,7 @@ ghost use Rattle.sctp_receiver.specs.TsnFilter.{has_come};
 ghost use Rattle.sctp_receiver.specs.declared.receiver.arrival.Arrival.TheVariants.{Repeat};
 
 use super::SctpReceiver;
-use crate::code::{SCTP_OK, SCTP_REPEAT, SCTP_STALE, of_error, of_receiver};
+use crate::code::{SCTPR_OK, SCTPR_REPEAT, SCTPR_STALE, of_error, of_receiver};
 use crate::in_place::read_data;
 use bytes::Bytes;
 use sctp_chunks::chunk::Chunk;
@@ -32,12 +32,12 @@ fn forward_tsn_in(alloc: Global, chunk: &[u8]) -> Result<ChunkForwardTsn, Error>
     ChunkForwardTsn::unmarshal(alloc, &bytes)
 }
 
-/// Takes the bytes of a DATA chunk (RFC 4960 6.2). `SCTP_OK`: its TSN is new, and `complete` becomes 1 where a message of its stream
-/// became complete with it, else 0. `SCTP_REPEAT`: its TSN came before; the next SACK reports it as a duplicate. Refuses with the codes of bytes
-/// that are no DATA chunk, and with `SCTP_SSN_TOO_FAR`, `SCTP_TSN_OPPOSITE`, `SCTP_TSN_TOO_FAR`, `SCTP_WINDOW_FULL`,
-/// `SCTP_STREAM_UNKNOWN`, `SCTP_MESSAGE_TOO_LARGE` and `SCTP_NO_MEMORY`. `complete` stays, but with `SCTP_OK`.
+/// Takes the bytes of a DATA chunk (RFC 4960 6.2). `SCTPR_OK`: its TSN is new, and `complete` becomes 1 where a message of its stream
+/// became complete with it, else 0. `SCTPR_REPEAT`: its TSN came before; the next SACK reports it as a duplicate. Refuses with the codes of bytes
+/// that are no DATA chunk, and with `SCTPR_SSN_TOO_FAR`, `SCTPR_TSN_OPPOSITE`, `SCTPR_TSN_TOO_FAR`, `SCTPR_WINDOW_FULL`,
+/// `SCTPR_STREAM_UNKNOWN`, `SCTPR_MESSAGE_TOO_LARGE` and `SCTPR_NO_MEMORY`. `complete` stays, but with `SCTPR_OK`.
 #[unsafe(no_mangle)]
-pub extern "C" fn sctp_receiver_data(
+pub extern "C" fn sctpr_receiver_data(
     alloc: Global,
     receiver: &mut SctpReceiver,
     chunk: &[u8],
@@ -60,17 +60,17 @@ pub extern "C" fn sctp_receiver_data(
     match receiver.get_mut().data(&data) {
         Ok(Arrival::New { complete: now }) => {
             *complete = now as u8;
-            SCTP_OK
+            SCTPR_OK
         }
-        Ok(Arrival::Repeat) => SCTP_REPEAT,
+        Ok(Arrival::Repeat) => SCTPR_REPEAT,
         Err(e) => of_receiver(e),
     }
 }
 
-/// Takes the TSN of a DATA chunk that is dropped, as one of a stream that is not open (RFC 4960 6.5): it counts as come. `SCTP_OK` and
-/// `SCTP_REPEAT` as `sctp_receiver_data`. Refuses with `SCTP_TSN_OPPOSITE`, `SCTP_TSN_TOO_FAR`, `SCTP_WINDOW_FULL` and `SCTP_NO_MEMORY`.
+/// Takes the TSN of a DATA chunk that is dropped, as one of a stream that is not open (RFC 4960 6.5): it counts as come. `SCTPR_OK` and
+/// `SCTPR_REPEAT` as `sctpr_receiver_data`. Refuses with `SCTPR_TSN_OPPOSITE`, `SCTPR_TSN_TOO_FAR`, `SCTPR_WINDOW_FULL` and `SCTPR_NO_MEMORY`.
 #[unsafe(no_mangle)]
-pub extern "C" fn sctp_receiver_discard(receiver: &mut SctpReceiver, tsn: u32) -> u32
+pub extern "C" fn sctpr_receiver_discard(receiver: &mut SctpReceiver, tsn: u32) -> u32
     ensures codes { (result ≤ 1) ⊎ (16 ≤ result) }
     ensures fresh { result ≡ 0 → has_come tsn (filter_of receiver.old.value) ≡ false }
     ensures repeat { result ≡ 1 → has_come tsn (filter_of receiver.old.value) ≡ true }
@@ -79,17 +79,17 @@ pub extern "C" fn sctp_receiver_discard(receiver: &mut SctpReceiver, tsn: u32) -
         × (result ≡ receiver_code_for (discard_refusal tsn receiver.old.value)) }
 {
     match receiver.get_mut().discard(tsn) {
-        Ok(Arrival::New { .. }) => SCTP_OK,
-        Ok(Arrival::Repeat) => SCTP_REPEAT,
+        Ok(Arrival::New { .. }) => SCTPR_OK,
+        Ok(Arrival::Repeat) => SCTPR_REPEAT,
         Err(e) => of_receiver(e),
     }
 }
 
-/// Takes the bytes of a FORWARD-TSN chunk (RFC 3758 3.6). `SCTP_OK`: it was past the cumulative TSN, and was followed. `SCTP_STALE`: it
-/// was not, and changed nothing. Refuses with the codes of bytes that are no FORWARD-TSN, and with `SCTP_NAMED_STREAM_UNKNOWN`,
-/// `SCTP_NAMED_SSN_TOO_FAR` and `SCTP_TSN_OPPOSITE`.
+/// Takes the bytes of a FORWARD-TSN chunk (RFC 3758 3.6). `SCTPR_OK`: it was past the cumulative TSN, and was followed. `SCTPR_STALE`: it
+/// was not, and changed nothing. Refuses with the codes of bytes that are no FORWARD-TSN, and with `SCTPR_NAMED_STREAM_UNKNOWN`,
+/// `SCTPR_NAMED_SSN_TOO_FAR` and `SCTPR_TSN_OPPOSITE`.
 #[unsafe(no_mangle)]
-pub extern "C" fn sctp_receiver_forward_tsn(
+pub extern "C" fn sctpr_receiver_forward_tsn(
     alloc: Global,
     receiver: &mut SctpReceiver,
     chunk: &[u8],
@@ -106,16 +106,16 @@ pub extern "C" fn sctp_receiver_forward_tsn(
         Err(e) => return of_error(e),
     };
     match receiver.get_mut().forward_tsn(&forward, Closed::Refuse) {
-        Ok(Forwarded::Skipped) => SCTP_OK,
-        Ok(Forwarded::Stale) => SCTP_STALE,
+        Ok(Forwarded::Skipped) => SCTPR_OK,
+        Ok(Forwarded::Stale) => SCTPR_STALE,
         Err(e) => of_receiver(e),
     }
 }
 
-/// As `sctp_receiver_forward_tsn`, but what it names on a stream that is not open is passed over, as is right of a stream that was
-/// closed on purpose: `SCTP_NAMED_STREAM_UNKNOWN` is no refusal of it.
+/// As `sctpr_receiver_forward_tsn`, but what it names on a stream that is not open is passed over, as is right of a stream that was
+/// closed on purpose: `SCTPR_NAMED_STREAM_UNKNOWN` is no refusal of it.
 #[unsafe(no_mangle)]
-pub extern "C" fn sctp_receiver_forward_tsn_past_closed(
+pub extern "C" fn sctpr_receiver_forward_tsn_past_closed(
     alloc: Global,
     receiver: &mut SctpReceiver,
     chunk: &[u8],
@@ -132,8 +132,8 @@ pub extern "C" fn sctp_receiver_forward_tsn_past_closed(
         Err(e) => return of_error(e),
     };
     match receiver.get_mut().forward_tsn(&forward, Closed::PassOver) {
-        Ok(Forwarded::Skipped) => SCTP_OK,
-        Ok(Forwarded::Stale) => SCTP_STALE,
+        Ok(Forwarded::Skipped) => SCTPR_OK,
+        Ok(Forwarded::Stale) => SCTPR_STALE,
         Err(e) => of_receiver(e),
     }
 }

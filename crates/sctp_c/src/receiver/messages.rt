@@ -6,7 +6,9 @@ ghost use Rattle.sctp_c.specs.Receiving.{TellsNext, ReadsNext};
 ghost use Rattle.sctp_receiver.specs.Receiver.{is_open, message_on, after_read, readable_streams};
 
 use super::SctpReceiver;
-use crate::code::{SCTP_NO_MEMORY, SCTP_NOTHING, SCTP_OK, SCTP_SHORT_BUFFER, SCTP_STREAM_UNKNOWN};
+use crate::code::{
+    SCTPR_NO_MEMORY, SCTPR_NOTHING, SCTPR_OK, SCTPR_SHORT_BUFFER, SCTPR_STREAM_UNKNOWN,
+};
 use crate::fills::put_numbers;
 use sctp_receiver::receiver::Receiver;
 
@@ -16,16 +18,16 @@ fn of_none(receiver: &Receiver, stream: u16) -> u32
     ensures unknown { is_open stream receiver.now ≡ false → result ≡ 23 }
 {
     if receiver.stats(stream).is_some() {
-        SCTP_NOTHING
+        SCTPR_NOTHING
     } else {
-        SCTP_STREAM_UNKNOWN
+        SCTPR_STREAM_UNKNOWN
     }
 }
 
 /// Tells the next message of a stream, and takes nothing out: `size` becomes its length in bytes, `payload_type` its payload type.
-/// `SCTP_NOTHING`: there is none. Refuses with `SCTP_STREAM_UNKNOWN`. Both stay, but with `SCTP_OK`.
+/// `SCTPR_NOTHING`: there is none. Refuses with `SCTPR_STREAM_UNKNOWN`. Both stay, but with `SCTPR_OK`.
 #[unsafe(no_mangle)]
-pub extern "C" fn sctp_receiver_next_length(
+pub extern "C" fn sctpr_receiver_next_length(
     receiver: &mut SctpReceiver,
     stream: u16,
     size: &mut usize,
@@ -44,18 +46,18 @@ pub extern "C" fn sctp_receiver_next_length(
         Some((len, ppi)) => {
             *size = len;
             *payload_type = ppi.number();
-            SCTP_OK
+            SCTPR_OK
         }
         None => of_none(held, stream),
     }
 }
 
 /// Takes the next message of a stream out and copies it to the front of the buffer: `size` becomes its length, `payload_type` its
-/// payload type. `SCTP_NOTHING`: there is none, and both stay. Refuses with `SCTP_STREAM_UNKNOWN`, and both stay; and with
-/// `SCTP_SHORT_BUFFER`, where the buffer is shorter than the message: both are told then, nothing is copied, and the message can still
+/// payload type. `SCTPR_NOTHING`: there is none, and both stay. Refuses with `SCTPR_STREAM_UNKNOWN`, and both stay; and with
+/// `SCTPR_SHORT_BUFFER`, where the buffer is shorter than the message: both are told then, nothing is copied, and the message can still
 /// be read.
 #[unsafe(no_mangle)]
-pub extern "C" fn sctp_receiver_read(
+pub extern "C" fn sctpr_receiver_read(
     receiver: &mut SctpReceiver,
     stream: u16,
     out: &mut [u8],
@@ -81,7 +83,7 @@ pub extern "C" fn sctp_receiver_read(
     *size = len;
     *payload_type = ppi.number();
     if out.len() < len {
-        return SCTP_SHORT_BUFFER;
+        return SCTPR_SHORT_BUFFER;
     }
     let Ok(Some(message)) = held.read(stream) else {
         unreachable!()
@@ -89,17 +91,17 @@ pub extern "C" fn sctp_receiver_read(
     match message.read(out) {
         Ok(copied) => {
             *size = copied;
-            SCTP_OK
+            SCTPR_OK
         }
         Err(_) => unreachable!(),
     }
 }
 
 /// Writes the numbers of the streams with a message to read to the front of `streams`, in the order in which they were opened; `count`
-/// becomes how many there are. Refuses with `SCTP_SHORT_BUFFER`, where there is room for fewer: `count` is told then, and nothing is
-/// written; and with `SCTP_NO_MEMORY`, and both stay.
+/// becomes how many there are. Refuses with `SCTPR_SHORT_BUFFER`, where there is room for fewer: `count` is told then, and nothing is
+/// written; and with `SCTPR_NO_MEMORY`, and both stay.
 #[unsafe(no_mangle)]
-pub extern "C" fn sctp_receiver_readable_streams(
+pub extern "C" fn sctpr_receiver_readable_streams(
     receiver: &mut SctpReceiver,
     streams: &mut [u16],
     count: &mut usize,
@@ -114,12 +116,12 @@ pub extern "C" fn sctp_receiver_readable_streams(
     ensures same { receiver.new.value ≡ receiver.old.value }
 {
     let Ok(numbers) = receiver.get_mut().readable_streams() else {
-        return SCTP_NO_MEMORY;
+        return SCTPR_NO_MEMORY;
     };
     *count = numbers.len();
     if streams.len() < numbers.len() {
-        return SCTP_SHORT_BUFFER;
+        return SCTPR_SHORT_BUFFER;
     }
     put_numbers(streams, &numbers);
-    SCTP_OK
+    SCTPR_OK
 }

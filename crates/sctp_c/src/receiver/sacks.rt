@@ -4,7 +4,7 @@ ghost use Rattle.std.specs.Prelude.{◌≡◌, ◌≢◌, ◌<◌, ◌⊎◌, le
 ghost use Rattle.sctp_c.specs.Receiving.{WritesSack};
 
 use super::SctpReceiver;
-use crate::code::{SCTP_NO_MEMORY, SCTP_OK, SCTP_SHORT_BUFFER};
+use crate::code::{SCTPR_NO_MEMORY, SCTPR_OK, SCTPR_SHORT_BUFFER};
 use crate::fills::put_bytes;
 use bytes::BytesMut;
 use sctp_chunks::chunk::Chunk;
@@ -18,10 +18,10 @@ pub const MAX_SACK_SIZE: usize = 65_532;
 
 /// Writes the SACK of what came to the front of the buffer, with the window as its credit: first as many gap ack blocks as there is room
 /// for, then as many duplicates, which are forgotten; the other duplicates are kept for the next SACK. `written` becomes its length, a
-/// multiple of four, 16 to 65,532. Refuses with `SCTP_SHORT_BUFFER` under 16 bytes, and with `SCTP_NO_MEMORY`; `out` and `written`
+/// multiple of four, 16 to 65,532. Refuses with `SCTPR_SHORT_BUFFER` under 16 bytes, and with `SCTPR_NO_MEMORY`; `out` and `written`
 /// stay then.
 #[unsafe(no_mangle)]
-pub extern "C" fn sctp_receiver_sack(
+pub extern "C" fn sctpr_receiver_sack(
     alloc: Global,
     receiver: &mut SctpReceiver,
     out: &mut [u8],
@@ -36,19 +36,19 @@ pub extern "C" fn sctp_receiver_sack(
 {
     let room = out.len().min(MAX_SACK_SIZE);
     if room < MIN_SACK_SIZE {
-        return SCTP_SHORT_BUFFER;
+        return SCTPR_SHORT_BUFFER;
     }
     let Ok(mut bytes) = BytesMut::with_capacity(alloc, room) else {
-        return SCTP_NO_MEMORY;
+        return SCTPR_NO_MEMORY;
     };
     let Ok(sack) = receiver.get_mut().sack(room) else {
-        return SCTP_NO_MEMORY;
+        return SCTPR_NO_MEMORY;
     };
     match sack.marshal_to(&mut bytes) {
         Ok(length) => {
             put_bytes(out, &bytes);
             *written = length;
-            SCTP_OK
+            SCTPR_OK
         }
         Err(_) => unreachable!(),
     }

@@ -13,7 +13,7 @@ ghost use Rattle.sctp_sender.specs.Late.{after_late, after_worn, late_order, wor
 ghost use Rattle.sctp_sender.specs.declared.sender.refusal.SenderRefusal.TheVariants.{OutOfMemory, TsnsUsedUp};
 
 use super::SctpSender;
-use crate::code::{SCTP_NOTHING, SCTP_OK, SCTP_SHORT_BUFFER, of_sender};
+use crate::code::{SCTPR_NOTHING, SCTPR_OK, SCTPR_SHORT_BUFFER, of_sender};
 use sctp_sender::replay;
 use sctp_sender::sender::flight::late::AbandonedMessage;
 
@@ -66,10 +66,10 @@ fn fill_abandoned(rows: &mut [SctpAbandoned], answered: &[AbandonedMessage])
 }
 
 /// Abandons the message of a chunk in flight (RFC 3758 3.5): `row` tells of it, with no bytes where it was abandoned before. Refuses with
-/// `SCTP_NOT_IN_FLIGHT`; and, only where some of the message still waits, with `SCTP_TSNS_USED_UP` and `SCTP_NO_MEMORY`. `row` stays
+/// `SCTPR_NOT_IN_FLIGHT`; and, only where some of the message still waits, with `SCTPR_TSNS_USED_UP` and `SCTPR_NO_MEMORY`. `row` stays
 /// then.
 #[unsafe(no_mangle)]
-pub extern "C" fn sctp_sender_abandon(
+pub extern "C" fn sctpr_sender_abandon(
     sender: &mut SctpSender,
     tsn: u32,
     row: &mut SctpAbandoned,
@@ -83,16 +83,16 @@ pub extern "C" fn sctp_sender_abandon(
     match sender.get_mut().abandon(tsn) {
         Ok(gone) => {
             *row = abandoned_row(&gone);
-            SCTP_OK
+            SCTPR_OK
         }
         Err(e) => of_sender(e),
     }
 }
 
-/// Removes the message in front, where it is past its deadline and wholly unsent: `row` tells of it. `SCTP_NOTHING`: there is no such
+/// Removes the message in front, where it is past its deadline and wholly unsent: `row` tells of it. `SCTPR_NOTHING`: there is no such
 /// message, and nothing changed. It takes no memory. Call it until it says so.
 #[unsafe(no_mangle)]
-pub extern "C" fn sctp_sender_expire(
+pub extern "C" fn sctpr_sender_expire(
     sender: &mut SctpSender,
     now: u64,
     row: &mut SctpExpired,
@@ -109,17 +109,17 @@ pub extern "C" fn sctp_sender_expire(
                 stream: gone.stream,
                 is_low: gone.is_low as u8,
             };
-            SCTP_OK
+            SCTPR_OK
         }
-        None => SCTP_NOTHING,
+        None => SCTPR_NOTHING,
     }
 }
 
-/// Abandons the rest of the partially sent message in front, where it is past its deadline: `row` tells of it. `SCTP_NOTHING`: there is
-/// no such message, and nothing changed. Refuses, only where there is one, with `SCTP_TSNS_USED_UP` and `SCTP_NO_MEMORY`. `row` stays,
-/// but with `SCTP_OK`.
+/// Abandons the rest of the partially sent message in front, where it is past its deadline: `row` tells of it. `SCTPR_NOTHING`: there is
+/// no such message, and nothing changed. Refuses, only where there is one, with `SCTPR_TSNS_USED_UP` and `SCTPR_NO_MEMORY`. `row` stays,
+/// but with `SCTPR_OK`.
 #[unsafe(no_mangle)]
-pub extern "C" fn sctp_sender_expire_tail(
+pub extern "C" fn sctpr_sender_expire_tail(
     sender: &mut SctpSender,
     now: u64,
     row: &mut SctpAbandoned,
@@ -134,19 +134,19 @@ pub extern "C" fn sctp_sender_expire_tail(
     match replay::expire_tail(sender.get_mut(), now) {
         Ok(Some(gone)) => {
             *row = abandoned_row(&gone);
-            SCTP_OK
+            SCTPR_OK
         }
-        Ok(None) => SCTP_NOTHING,
+        Ok(None) => SCTPR_NOTHING,
         Err(e) => of_sender(e),
     }
 }
 
 /// Abandons each message in flight that is past its deadline (RFC 3758 3.5, 4.1): `count` becomes how many, and the first so many `rows`
-/// tell of them. Refuses with `SCTP_SHORT_BUFFER`, where there are not more rows than chunks in flight, so that no row is ever lost:
-/// `count` becomes how many are in flight; and, only where some of such a message still waits, with `SCTP_TSNS_USED_UP`; and with
-/// `SCTP_NO_MEMORY`. `rows` stay then, and `count` too but for the first.
+/// tell of them. Refuses with `SCTPR_SHORT_BUFFER`, where there are not more rows than chunks in flight, so that no row is ever lost:
+/// `count` becomes how many are in flight; and, only where some of such a message still waits, with `SCTPR_TSNS_USED_UP`; and with
+/// `SCTPR_NO_MEMORY`. `rows` stay then, and `count` too but for the first.
 #[unsafe(no_mangle)]
-pub extern "C" fn sctp_sender_expire_late(
+pub extern "C" fn sctpr_sender_expire_late(
     sender: &mut SctpSender,
     now: u64,
     rows: &mut [SctpAbandoned],
@@ -166,13 +166,13 @@ pub extern "C" fn sctp_sender_expire_late(
     let in_flight = own.outbound().inflight_len();
     if rows.len() <= in_flight {
         *count = in_flight;
-        return SCTP_SHORT_BUFFER;
+        return SCTPR_SHORT_BUFFER;
     }
     match replay::expire_late(own, now) {
         Ok(gone) => {
             fill_abandoned(rows, &gone);
             *count = gone.len();
-            SCTP_OK
+            SCTPR_OK
         }
         Err(e) => of_sender(e),
     }
@@ -180,9 +180,9 @@ pub extern "C" fn sctp_sender_expire_late(
 
 /// Abandons each message in flight that was sent again as often as it may be (RFC 7496 3.1): a chunk of it is marked for retransmission,
 /// and was sent more often than its limit, without the first time; never a DCEP message. Call it once chunks are marked. Rows, count and
-/// refusals are those of `sctp_sender_expire_late`.
+/// refusals are those of `sctpr_sender_expire_late`.
 #[unsafe(no_mangle)]
-pub extern "C" fn sctp_sender_expire_rexmit(
+pub extern "C" fn sctpr_sender_expire_rexmit(
     sender: &mut SctpSender,
     rows: &mut [SctpAbandoned],
     count: &mut usize,
@@ -201,13 +201,13 @@ pub extern "C" fn sctp_sender_expire_rexmit(
     let in_flight = own.outbound().inflight_len();
     if rows.len() <= in_flight {
         *count = in_flight;
-        return SCTP_SHORT_BUFFER;
+        return SCTPR_SHORT_BUFFER;
     }
     match replay::expire_rexmit(own) {
         Ok(gone) => {
             fill_abandoned(rows, &gone);
             *count = gone.len();
-            SCTP_OK
+            SCTPR_OK
         }
         Err(e) => of_sender(e),
     }

@@ -14,7 +14,7 @@ ghost use Rattle.sctp_c.specs.Sending.{sender_code_for};
 use super::SctpSender;
 use super::queries::moment_of;
 use crate::code::{
-    SCTP_CHUNKS_IN_FLIGHT, SCTP_OK, SCTP_SHORT_BUFFER, SCTP_STALE, of_error, of_sender,
+    SCTPR_CHUNKS_IN_FLIGHT, SCTPR_OK, SCTPR_SHORT_BUFFER, SCTPR_STALE, of_error, of_sender,
 };
 use crate::in_place::read_sack;
 use sctp_chunks::chunk::chunk_selective_ack::ChunkSelectiveAck;
@@ -138,26 +138,26 @@ fn take_sack(
 {
     if is_stale(own, sack) {
         *count = 0;
-        return SCTP_STALE;
+        return SCTPR_STALE;
     }
     match own.acked(sack) {
         Ok(released) => {
             fill_acked(rows, &released);
             *count = released.len();
-            SCTP_OK
+            SCTPR_OK
         }
         Err(e) => of_sender(e),
     }
 }
 
-/// Takes the bytes of a SACK chunk (RFC 4960 6.2.1). `SCTP_OK`: `count` becomes how many chunks it reports anew, and the first so many
-/// `rows` tell of them, in the order of their TSNs. `SCTP_STALE`: its cumulative TSN is before the last one that was acknowledged;
-/// `count` becomes 0, and nothing else changed. Refuses with `SCTP_SHORT_BUFFER`, where there are fewer rows than chunks in flight, so
-/// that no row is ever lost: `count` becomes how many are wanted; with the codes of bytes that are no SACK; with `SCTP_SACK_BEYOND_SENT`
-/// and `SCTP_SACK_BAD_GAP`, where it reports what is not in flight; and with `SCTP_NO_MEMORY`. `rows` stay then, and `count` too but for
+/// Takes the bytes of a SACK chunk (RFC 4960 6.2.1). `SCTPR_OK`: `count` becomes how many chunks it reports anew, and the first so many
+/// `rows` tell of them, in the order of their TSNs. `SCTPR_STALE`: its cumulative TSN is before the last one that was acknowledged;
+/// `count` becomes 0, and nothing else changed. Refuses with `SCTPR_SHORT_BUFFER`, where there are fewer rows than chunks in flight, so
+/// that no row is ever lost: `count` becomes how many are wanted; with the codes of bytes that are no SACK; with `SCTPR_SACK_BEYOND_SENT`
+/// and `SCTPR_SACK_BAD_GAP`, where it reports what is not in flight; and with `SCTPR_NO_MEMORY`. `rows` stay then, and `count` too but for
 /// the first.
 #[unsafe(no_mangle)]
-pub extern "C" fn sctp_sender_acked(
+pub extern "C" fn sctpr_sender_acked(
     alloc: Global,
     sender: &mut SctpSender,
     chunk: &[u8],
@@ -179,7 +179,7 @@ pub extern "C" fn sctp_sender_acked(
     let most = own.outbound().inflight_len();
     if rows.len() < most {
         *count = most;
-        return SCTP_SHORT_BUFFER;
+        return SCTPR_SHORT_BUFFER;
     }
     match read_sack(alloc, chunk) {
         Ok(sack) => take_sack(own, &sack, rows, count),
@@ -187,10 +187,10 @@ pub extern "C" fn sctp_sender_acked(
     }
 }
 
-/// Takes the Cumulative TSN Ack of a SHUTDOWN (RFC 4960 3.3.8, 9.2), as `sctp_sender_acked` takes a SACK with this TSN and no gap ack
+/// Takes the Cumulative TSN Ack of a SHUTDOWN (RFC 4960 3.3.8, 9.2), as `sctpr_sender_acked` takes a SACK with this TSN and no gap ack
 /// blocks: rows, `count` and refusals are as there. Nothing is taken back by it, as a SHUTDOWN can't tell of gaps (3.3.8).
 #[unsafe(no_mangle)]
-pub extern "C" fn sctp_sender_acked_up_to(
+pub extern "C" fn sctpr_sender_acked_up_to(
     alloc: Global,
     sender: &mut SctpSender,
     tsn: u32,
@@ -213,7 +213,7 @@ pub extern "C" fn sctp_sender_acked_up_to(
     let most = own.outbound().inflight_len();
     if rows.len() < most {
         *count = most;
-        return SCTP_SHORT_BUFFER;
+        return SCTPR_SHORT_BUFFER;
     }
     let sack = ChunkSelectiveAck {
         cumulative_tsn_ack: tsn,
@@ -225,26 +225,26 @@ pub extern "C" fn sctp_sender_acked_up_to(
 }
 
 /// From here on the user data of each chunk that a gap ack block reports is kept until the cumulative TSN passes it, so that
-/// `sctp_sender_take_back` can give it back. Refuses with `SCTP_CHUNKS_IN_FLIGHT`, where any chunk is in flight. It takes no memory.
+/// `sctpr_sender_take_back` can give it back. Refuses with `SCTPR_CHUNKS_IN_FLIGHT`, where any chunk is in flight. It takes no memory.
 #[unsafe(no_mangle)]
-pub extern "C" fn sctp_sender_keep_reported(sender: &mut SctpSender) -> u32
+pub extern "C" fn sctpr_sender_keep_reported(sender: &mut SctpSender) -> u32
     ensures codes { (result ≡ 0) ⊎ (result ≡ 33) }
     ensures ok { result ≡ 0 → sender.new.value ≡ keeping sender.old.value }
     ensures refused { result ≡ 33 → (sender.new.value ≡ sender.old.value)
         × (0 < length sender.old.value.flight.queue.inflight.chunks) }
 {
     match sender.get_mut().keep_reported() {
-        Ok(()) => SCTP_OK,
-        Err(_) => SCTP_CHUNKS_IN_FLIGHT,
+        Ok(()) => SCTPR_OK,
+        Err(_) => SCTPR_CHUNKS_IN_FLIGHT,
     }
 }
 
 /// Takes back what a SACK, of which these are the bytes, no longer reports (RFC 4960 6.2.1 D iv): such a chunk is outstanding again, with
-/// its bytes. Call it before `sctp_sender_acked` with the same SACK. `SCTP_OK`: `count` becomes how many chunks come back, and the first so
-/// many `rows` tell of them, in the order of their TSNs; none, where the sender does not keep what is reported. `SCTP_STALE` and the
-/// refusals are those of `sctp_sender_acked`; and `SCTP_QUEUE_FULL`, where all bytes would be more than the greatest `size_t`.
+/// its bytes. Call it before `sctpr_sender_acked` with the same SACK. `SCTPR_OK`: `count` becomes how many chunks come back, and the first so
+/// many `rows` tell of them, in the order of their TSNs; none, where the sender does not keep what is reported. `SCTPR_STALE` and the
+/// refusals are those of `sctpr_sender_acked`; and `SCTPR_QUEUE_FULL`, where all bytes would be more than the greatest `size_t`.
 #[unsafe(no_mangle)]
-pub extern "C" fn sctp_sender_take_back(
+pub extern "C" fn sctpr_sender_take_back(
     alloc: Global,
     sender: &mut SctpSender,
     chunk: &[u8],
@@ -266,7 +266,7 @@ pub extern "C" fn sctp_sender_take_back(
     let most = own.outbound().inflight_len();
     if rows.len() < most {
         *count = most;
-        return SCTP_SHORT_BUFFER;
+        return SCTPR_SHORT_BUFFER;
     }
     let sack = match read_sack(alloc, chunk) {
         Ok(sack) => sack,
@@ -274,13 +274,13 @@ pub extern "C" fn sctp_sender_take_back(
     };
     if is_stale(own, &sack) {
         *count = 0;
-        return SCTP_STALE;
+        return SCTPR_STALE;
     }
     match own.take_back(&sack) {
         Ok(answered) => {
             fill_taken_back(rows, &answered);
             *count = answered.len();
-            SCTP_OK
+            SCTPR_OK
         }
         Err(e) => of_sender(e),
     }

@@ -6,7 +6,7 @@ ghost use Rattle.sctp_sender.specs.Abandonment.{advanced_ack_point, skip_end};
 
 use super::SctpSender;
 use crate::bytes_out::put_padded;
-use crate::code::{SCTP_NOTHING, SCTP_OK, SCTP_SHORT_BUFFER, of_error, of_sender};
+use crate::code::{SCTPR_NOTHING, SCTPR_OK, SCTPR_SHORT_BUFFER, of_error, of_sender};
 use crate::fills::put_bytes;
 use sctp_chunks::chunk::Chunk;
 use sctp_sender::replay;
@@ -30,19 +30,19 @@ fn want_forward_tsn(own: &Sender, written: &mut usize) -> u32
         Ok(Some(whole)) => {
             let names = whole.streams.len().min(MAX_NAMES);
             *written = 8 + 4 * names;
-            SCTP_SHORT_BUFFER
+            SCTPR_SHORT_BUFFER
         }
-        Ok(None) => SCTP_NOTHING,
+        Ok(None) => SCTPR_NOTHING,
         Err(e) => of_sender(e),
     }
 }
 
 /// Writes the FORWARD-TSN that is to be sent to the front of the buffer (RFC 3758 3.5 C3, C4): up to the advanced ack point, or as far as
-/// its names fit the buffer. `written` becomes its length, a multiple of four. `SCTP_NOTHING`: there is nothing to tell. Refuses with
-/// `SCTP_SHORT_BUFFER`, where nothing of it fits: `written` becomes the length of all of it then, or the greatest one that a chunk may
-/// have; and with `SCTP_NO_MEMORY`. `out` stays, but with `SCTP_OK`.
+/// its names fit the buffer. `written` becomes its length, a multiple of four. `SCTPR_NOTHING`: there is nothing to tell. Refuses with
+/// `SCTPR_SHORT_BUFFER`, where nothing of it fits: `written` becomes the length of all of it then, or the greatest one that a chunk may
+/// have; and with `SCTPR_NO_MEMORY`. `out` stays, but with `SCTPR_OK`.
 #[unsafe(no_mangle)]
-pub extern "C" fn sctp_sender_forward_tsn(
+pub extern "C" fn sctpr_sender_forward_tsn(
     alloc: Global,
     sender: &mut SctpSender,
     out: &mut [u8],
@@ -71,18 +71,18 @@ pub extern "C" fn sctp_sender_forward_tsn(
         Ok(bytes) => {
             put_bytes(out, &bytes);
             *written = bytes.len();
-            SCTP_OK
+            SCTPR_OK
         }
         Err(e) => of_error(e),
     }
 }
 
 /// Writes the FORWARD-TSN up to a TSN, or to the last TSN before it at which a message ends, to the front of the buffer (RFC 3758 3.5
-/// C4). `SCTP_NOTHING`: no message ends up to there, or the TSN is not past what is acknowledged, or is beyond the advanced ack point.
-/// Refuses with `SCTP_SHORT_BUFFER`, where the buffer is shorter: `written` is what is wanted then; with `SCTP_LENGTH_TOO_LARGE`, where
-/// it names more than 16,381 streams, and with `SCTP_NO_MEMORY`. `out` stays, but with `SCTP_OK`.
+/// C4). `SCTPR_NOTHING`: no message ends up to there, or the TSN is not past what is acknowledged, or is beyond the advanced ack point.
+/// Refuses with `SCTPR_SHORT_BUFFER`, where the buffer is shorter: `written` is what is wanted then; with `SCTPR_LENGTH_TOO_LARGE`, where
+/// it names more than 16,381 streams, and with `SCTPR_NO_MEMORY`. `out` stays, but with `SCTPR_OK`.
 #[unsafe(no_mangle)]
-pub extern "C" fn sctp_sender_forward_tsn_to(
+pub extern "C" fn sctpr_sender_forward_tsn_to(
     alloc: Global,
     sender: &mut SctpSender,
     tsn: u32,
@@ -102,7 +102,7 @@ pub extern "C" fn sctp_sender_forward_tsn_to(
 {
     let chunk = match replay::forward_tsn_to(sender.get_mut(), tsn) {
         Ok(Some(chunk)) => chunk,
-        Ok(None) => return SCTP_NOTHING,
+        Ok(None) => return SCTPR_NOTHING,
         Err(e) => return of_sender(e),
     };
     match chunk.marshal(alloc) {

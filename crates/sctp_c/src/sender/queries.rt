@@ -12,7 +12,7 @@ ghost use Rattle.sctp_sender.specs.Settings.{is_drained};
 ghost use Rattle.sctp_serial.specs.DataChunks.{bytes_of, has_tsn};
 
 use super::SctpSender;
-use crate::code::{SCTP_NOT_IN_FLIGHT, SCTP_NOTHING, SCTP_OK, SCTP_STREAM_UNKNOWN};
+use crate::code::{SCTPR_NOT_IN_FLIGHT, SCTPR_NOTHING, SCTPR_OK, SCTPR_STREAM_UNKNOWN};
 use sctp_data::chunk::chunk_payload_data::ChunkPayloadData;
 use sctp_sender::replay;
 
@@ -76,9 +76,9 @@ fn row_of(chunk: &ChunkPayloadData) -> SctpInFlight
     }
 }
 
-/// The chunk in flight with a TSN: `row` tells of it. Refuses with `SCTP_NOT_IN_FLIGHT`, where none is, and `row` stays.
+/// The chunk in flight with a TSN: `row` tells of it. Refuses with `SCTPR_NOT_IN_FLIGHT`, where none is, and `row` stays.
 #[unsafe(no_mangle)]
-pub extern "C" fn sctp_sender_in_flight(
+pub extern "C" fn sctpr_sender_in_flight(
     sender: &mut SctpSender,
     tsn: u32,
     row: &mut SctpInFlight,
@@ -93,16 +93,16 @@ pub extern "C" fn sctp_sender_in_flight(
     match sender.get_mut().outbound().get(tsn) {
         Some(chunk) => {
             *row = row_of(chunk);
-            SCTP_OK
+            SCTPR_OK
         }
-        None => SCTP_NOT_IN_FLIGHT,
+        None => SCTPR_NOT_IN_FLIGHT,
     }
 }
 
-/// The chunk in flight at a place: the first has the place 0, and the TSN past `sctp_sender_acked_tsn`. `row` tells of it.
-/// `SCTP_NOTHING`: there are no more, and `row` stays.
+/// The chunk in flight at a place: the first has the place 0, and the TSN past `sctpr_sender_acked_tsn`. `row` tells of it.
+/// `SCTPR_NOTHING`: there are no more, and `row` stays.
 #[unsafe(no_mangle)]
-pub extern "C" fn sctp_sender_in_flight_at(
+pub extern "C" fn sctpr_sender_in_flight_at(
     sender: &mut SctpSender,
     place: usize,
     row: &mut SctpInFlight,
@@ -117,16 +117,16 @@ pub extern "C" fn sctp_sender_in_flight_at(
     match replay::in_flight_at(sender.get_mut(), place) {
         Some(chunk) => {
             *row = row_of(chunk);
-            SCTP_OK
+            SCTPR_OK
         }
-        None => SCTP_NOTHING,
+        None => SCTPR_NOTHING,
     }
 }
 
 /// The first chunk in flight that is marked for retransmission, and neither acknowledged nor abandoned: `row` tells of it;
-/// `sctp_sender_resend` sends it again, and takes the mark. `SCTP_NOTHING`: there is none, and `row` stays.
+/// `sctpr_sender_resend` sends it again, and takes the mark. `SCTPR_NOTHING`: there is none, and `row` stays.
 #[unsafe(no_mangle)]
-pub extern "C" fn sctp_sender_next_to_retransmit(
+pub extern "C" fn sctpr_sender_next_to_retransmit(
     sender: &mut SctpSender,
     row: &mut SctpInFlight,
 ) -> u32
@@ -140,16 +140,16 @@ pub extern "C" fn sctp_sender_next_to_retransmit(
     match replay::next_to_retransmit(sender.get_mut()) {
         Some(chunk) => {
             *row = row_of(chunk);
-            SCTP_OK
+            SCTPR_OK
         }
-        None => SCTP_NOTHING,
+        None => SCTPR_NOTHING,
     }
 }
 
-/// How many bytes of user data of a stream wait or are in flight: `amount` becomes that. Refuses with `SCTP_STREAM_UNKNOWN`, and `amount`
+/// How many bytes of user data of a stream wait or are in flight: `amount` becomes that. Refuses with `SCTPR_STREAM_UNKNOWN`, and `amount`
 /// stays.
 #[unsafe(no_mangle)]
-pub extern "C" fn sctp_sender_buffered_amount(
+pub extern "C" fn sctpr_sender_buffered_amount(
     sender: &mut SctpSender,
     stream: u16,
     amount: &mut usize,
@@ -164,15 +164,15 @@ pub extern "C" fn sctp_sender_buffered_amount(
     match sender.get_mut().stream(stream) {
         Some(state) => {
             *amount = state.buffered_amount();
-            SCTP_OK
+            SCTPR_OK
         }
-        None => SCTP_STREAM_UNKNOWN,
+        None => SCTPR_STREAM_UNKNOWN,
     }
 }
 
 /// 1 where nothing of a stream waits or is in flight, so that it can be reset (RFC 6525 5.1.2), else 0.
 #[unsafe(no_mangle)]
-pub extern "C" fn sctp_sender_is_drained(sender: &mut SctpSender, stream: u16) -> u8
+pub extern "C" fn sctpr_sender_is_drained(sender: &mut SctpSender, stream: u16) -> u8
     ensures value { result ≡ flag (is_drained stream sender.old.value) }
     ensures same { sender.new.value ≡ sender.old.value }
 {
@@ -181,7 +181,7 @@ pub extern "C" fn sctp_sender_is_drained(sender: &mut SctpSender, stream: u16) -
 
 /// The TSN that the next chunk gets (RFC 4960 6.1).
 #[unsafe(no_mangle)]
-pub extern "C" fn sctp_sender_next_tsn(sender: &mut SctpSender) -> u32
+pub extern "C" fn sctpr_sender_next_tsn(sender: &mut SctpSender) -> u32
     ensures value { result ≡ sender.old.value.flight.next_tsn }
     ensures same { sender.new.value ≡ sender.old.value }
 {
@@ -190,7 +190,7 @@ pub extern "C" fn sctp_sender_next_tsn(sender: &mut SctpSender) -> u32
 
 /// The TSN up to which all was acknowledged (RFC 4960 6.2.1).
 #[unsafe(no_mangle)]
-pub extern "C" fn sctp_sender_acked_tsn(sender: &mut SctpSender) -> u32
+pub extern "C" fn sctpr_sender_acked_tsn(sender: &mut SctpSender) -> u32
     ensures value { result ≡ sender.old.value.flight.acked_tsn }
     ensures same { sender.new.value ≡ sender.old.value }
 {
@@ -199,7 +199,7 @@ pub extern "C" fn sctp_sender_acked_tsn(sender: &mut SctpSender) -> u32
 
 /// The Advanced.Peer.Ack.Point (RFC 3758 3.5 C2).
 #[unsafe(no_mangle)]
-pub extern "C" fn sctp_sender_advanced_ack_point(sender: &mut SctpSender) -> u32
+pub extern "C" fn sctpr_sender_advanced_ack_point(sender: &mut SctpSender) -> u32
     ensures value { result ≡ advanced_ack_point sender.old.value.flight }
     ensures same { sender.new.value ≡ sender.old.value }
 {
@@ -208,26 +208,26 @@ pub extern "C" fn sctp_sender_advanced_ack_point(sender: &mut SctpSender) -> u32
 
 /// How many bytes of user data are in flight (RFC 4960 7.2): what is acknowledged or abandoned counts no more.
 #[unsafe(no_mangle)]
-pub extern "C" fn sctp_sender_bytes_in_flight(sender: &mut SctpSender) -> usize
+pub extern "C" fn sctpr_sender_bytes_in_flight(sender: &mut SctpSender) -> usize
     ensures value { result ≡ bytes_of sender.old.value.flight.queue.inflight.chunks }
     ensures same { sender.new.value ≡ sender.old.value }
 {
     sender.get_mut().outbound().inflight_bytes()
 }
 
-/// How many chunks are in flight: each TSN past `sctp_sender_acked_tsn` and before `sctp_sender_next_tsn` has one.
+/// How many chunks are in flight: each TSN past `sctpr_sender_acked_tsn` and before `sctpr_sender_next_tsn` has one.
 #[unsafe(no_mangle)]
-pub extern "C" fn sctp_sender_chunks_in_flight(sender: &mut SctpSender) -> usize
+pub extern "C" fn sctpr_sender_chunks_in_flight(sender: &mut SctpSender) -> usize
     ensures value { result ≡ length sender.old.value.flight.queue.inflight.chunks }
     ensures same { sender.new.value ≡ sender.old.value }
 {
     sender.get_mut().outbound().inflight_len()
 }
 
-/// The first TSN in flight that is neither acknowledged nor abandoned (RFC 4960 6.3.3): `tsn` becomes that. `SCTP_NOTHING`: there is
+/// The first TSN in flight that is neither acknowledged nor abandoned (RFC 4960 6.3.3): `tsn` becomes that. `SCTPR_NOTHING`: there is
 /// none, and `tsn` stays.
 #[unsafe(no_mangle)]
-pub extern "C" fn sctp_sender_earliest_outstanding(sender: &mut SctpSender, tsn: &mut u32) -> u32
+pub extern "C" fn sctpr_sender_earliest_outstanding(sender: &mut SctpSender, tsn: &mut u32) -> u32
     ensures codes { (result ≡ 0) ⊎ (result ≡ 3) }
     ensures ok { result ≡ 0 → Some tsn.new ≡ option_map (λ c. c.tsn)
         (find is_outstanding sender.old.value.flight.queue.inflight.chunks) }
@@ -238,15 +238,15 @@ pub extern "C" fn sctp_sender_earliest_outstanding(sender: &mut SctpSender, tsn:
     match sender.get_mut().outbound().earliest_outstanding_tsn() {
         Some(first) => {
             *tsn = first;
-            SCTP_OK
+            SCTPR_OK
         }
-        None => SCTP_NOTHING,
+        None => SCTPR_NOTHING,
     }
 }
 
 /// How many fragments wait.
 #[unsafe(no_mangle)]
-pub extern "C" fn sctp_sender_pending(sender: &mut SctpSender) -> usize
+pub extern "C" fn sctpr_sender_pending(sender: &mut SctpSender) -> usize
     ensures value { result ≡ chunk_count sender.old.value.flight.queue.pending }
     ensures same { sender.new.value ≡ sender.old.value }
 {

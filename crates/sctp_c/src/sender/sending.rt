@@ -16,7 +16,7 @@ ghost use Rattle.sctp_serial.specs.DataChunks.{has_tsn};
 
 use super::SctpSender;
 use crate::code::{
-    SCTP_NOT_IN_FLIGHT, SCTP_NOTHING, SCTP_OK, SCTP_SHORT_BUFFER, of_error, of_sender,
+    SCTPR_NOT_IN_FLIGHT, SCTPR_NOTHING, SCTPR_OK, SCTPR_SHORT_BUFFER, of_error, of_sender,
 };
 use crate::data_out::{data_size, put_data};
 use sctp_data::chunk::chunk_payload_data::ChunkPayloadData;
@@ -24,9 +24,9 @@ use sctp_sender::replay;
 use sctp_sender::sender::Sender;
 use sctp_util::error::{Error, Result};
 
-/// Starts the lifetimes of the messages written since the last time. `sctp_sender_send_next` does so too. It takes no memory.
+/// Starts the lifetimes of the messages written since the last time. `sctpr_sender_send_next` does so too. It takes no memory.
 #[unsafe(no_mangle)]
-pub extern "C" fn sctp_sender_start(sender: &mut SctpSender, now: u64)
+pub extern "C" fn sctpr_sender_start(sender: &mut SctpSender, now: u64)
     ensures { sender.new.value ≡ with_flight (with_queue sender.old.value.flight
         (all_started now sender.old.value.flight.queue)) sender.old.value }
 {
@@ -36,7 +36,7 @@ pub extern "C" fn sctp_sender_start(sender: &mut SctpSender, now: u64)
 /// Marks each chunk in flight that is neither acknowledged nor abandoned for retransmission, as where the timer T3-rtx runs out (RFC
 /// 4960 6.3.3 E3). It takes no memory.
 #[unsafe(no_mangle)]
-pub extern "C" fn sctp_sender_retransmit_all(sender: &mut SctpSender)
+pub extern "C" fn sctpr_sender_retransmit_all(sender: &mut SctpSender)
     ensures { sender.new.value
         ≡ with_flight (all_marked sender.old.value.flight) sender.old.value }
 {
@@ -46,7 +46,7 @@ pub extern "C" fn sctp_sender_retransmit_all(sender: &mut SctpSender)
 /// Counts each chunk in flight whose TSN is before this one, and that is neither acknowledged nor abandoned, as missing once more, and
 /// marks for retransmission what is missing for the third time (RFC 4960 7.2.4). Answers how many are marked now. It takes no memory.
 #[unsafe(no_mangle)]
-pub extern "C" fn sctp_sender_add_miss_indications(sender: &mut SctpSender, before: u32) -> usize
+pub extern "C" fn sctpr_sender_add_miss_indications(sender: &mut SctpSender, before: u32) -> usize
     ensures missed { sender.new.value ≡ with_flight (after_misses
         (count_before before sender.old.value.flight) sender.old.value.flight) sender.old.value }
     ensures thirds { result ≡ length (thirds
@@ -71,13 +71,13 @@ fn next_chunk(sender: &Sender) -> Result<Option<ChunkPayloadData>>
 }
 
 /// Puts the fragment that is next in flight under the next TSN, which `tsn` becomes, and writes its DATA chunk with its padding to the
-/// front of the buffer; lifetimes start. `written` becomes how many bytes that are. `SCTP_NOTHING`: nothing waits. Refuses with
-/// `SCTP_SHORT_BUFFER`, where the buffer is shorter: `written` is what is wanted then; with `SCTP_TSNS_USED_UP`, where 2^31 - 1 chunks
-/// are in flight, with `SCTP_SSNS_USED_UP`, where the number of the ordered message is 2^14 past that of the first one of its stream in
-/// flight, and with `SCTP_NO_MEMORY`. `out` and `tsn` stay, but with `SCTP_OK`.
+/// front of the buffer; lifetimes start. `written` becomes how many bytes that are. `SCTPR_NOTHING`: nothing waits. Refuses with
+/// `SCTPR_SHORT_BUFFER`, where the buffer is shorter: `written` is what is wanted then; with `SCTPR_TSNS_USED_UP`, where 2^31 - 1 chunks
+/// are in flight, with `SCTPR_SSNS_USED_UP`, where the number of the ordered message is 2^14 past that of the first one of its stream in
+/// flight, and with `SCTPR_NO_MEMORY`. `out` and `tsn` stay, but with `SCTPR_OK`.
 #[unsafe(no_mangle)]
 #[tactic(auto, using(crate::proofs::DataSent::sends))]
-pub extern "C" fn sctp_sender_send_next(
+pub extern "C" fn sctpr_sender_send_next(
     sender: &mut SctpSender,
     now: u64,
     out: &mut [u8],
@@ -102,7 +102,7 @@ pub extern "C" fn sctp_sender_send_next(
         Ok(Some(chunk)) => chunk,
         Ok(None) => {
             let _ = replay::send_next_tsn(own, now);
-            return SCTP_NOTHING;
+            return SCTPR_NOTHING;
         }
         Err(e) => return of_error(e),
     };
@@ -111,26 +111,26 @@ pub extern "C" fn sctp_sender_send_next(
     };
     if out.len() < size {
         *written = size;
-        return SCTP_SHORT_BUFFER;
+        return SCTPR_SHORT_BUFFER;
     }
     match replay::send_next_tsn(own, now) {
         Ok(Some(sent)) => {
             *tsn = sent;
             *written = size;
             put_data(out, &chunk);
-            SCTP_OK
+            SCTPR_OK
         }
-        Ok(None) => SCTP_NOTHING,
+        Ok(None) => SCTPR_NOTHING,
         Err(e) => of_sender(e),
     }
 }
 
 /// Sends the chunk in flight with a TSN again: writes it with its padding to the front of the buffer, counts that, notes `now`, and takes
-/// its mark. `written` becomes how many bytes that are. Refuses with `SCTP_SHORT_BUFFER`, where the buffer is shorter: `written` is what
-/// is wanted then; with `SCTP_NOT_IN_FLIGHT`, where none is, or it is acknowledged or abandoned; and with `SCTP_NO_MEMORY`. `out` stays,
-/// but with `SCTP_OK`.
+/// its mark. `written` becomes how many bytes that are. Refuses with `SCTPR_SHORT_BUFFER`, where the buffer is shorter: `written` is what
+/// is wanted then; with `SCTPR_NOT_IN_FLIGHT`, where none is, or it is acknowledged or abandoned; and with `SCTPR_NO_MEMORY`. `out` stays,
+/// but with `SCTPR_OK`.
 #[unsafe(no_mangle)]
-pub extern "C" fn sctp_sender_resend(
+pub extern "C" fn sctpr_sender_resend(
     sender: &mut SctpSender,
     tsn: u32,
     now: u64,
@@ -150,7 +150,7 @@ pub extern "C" fn sctp_sender_resend(
 {
     let own = sender.get_mut();
     let Some(held) = own.outbound().get(tsn) else {
-        return SCTP_NOT_IN_FLIGHT;
+        return SCTPR_NOT_IN_FLIGHT;
     };
     let chunk = match held.try_clone() {
         Ok(chunk) => chunk,
@@ -161,13 +161,13 @@ pub extern "C" fn sctp_sender_resend(
     };
     if out.len() < size {
         *written = size;
-        return SCTP_SHORT_BUFFER;
+        return SCTPR_SHORT_BUFFER;
     }
     match own.resend(tsn, now) {
         Ok(_) => {
             *written = size;
             put_data(out, &chunk);
-            SCTP_OK
+            SCTPR_OK
         }
         Err(e) => of_sender(e),
     }

@@ -1,217 +1,217 @@
-//! The calls of `sctp.h` as they are: SCTP's lower layer for WebRTC data channels. The crate `sctp-rattle` wraps them.
+//! The calls of `sctpr.h` as they are: SCTP's lower layer for WebRTC data channels. The crate `sctp-rattle` wraps them.
 //!
-//! Written by tools/c_bindings.py from include/sctp.h.
+//! Written by tools/c_bindings.py from include/sctpr.h.
 #![no_std]
 #![allow(non_camel_case_types)]
 
 use core::ffi::c_void;
 
-pub type sctp_code = u32;
+pub type sctpr_code = u32;
 
 /// Done.
-pub const SCTP_OK: sctp_code = 0;
+pub const SCTPR_OK: sctpr_code = 0;
 /// Done: a DATA chunk's TSN came before.
-pub const SCTP_REPEAT: sctp_code = 1;
+pub const SCTPR_REPEAT: sctpr_code = 1;
 /// Done, and nothing changed: a FORWARD-TSN is not past what came, or a SACK is before what was acknowledged.
-pub const SCTP_STALE: sctp_code = 2;
+pub const SCTPR_STALE: sctpr_code = 2;
 /// Done: there is nothing to send, to read or to tell.
-pub const SCTP_NOTHING: sctp_code = 3;
+pub const SCTPR_NOTHING: sctpr_code = 3;
 /// Memory ran out.
-pub const SCTP_NO_MEMORY: sctp_code = 16;
+pub const SCTPR_NO_MEMORY: sctpr_code = 16;
 /// The buffer is too short: the length that is wanted was told.
-pub const SCTP_SHORT_BUFFER: sctp_code = 17;
+pub const SCTPR_SHORT_BUFFER: sctpr_code = 17;
 /// An argument is out of its range.
-pub const SCTP_INVALID: sctp_code = 18;
+pub const SCTPR_INVALID: sctpr_code = 18;
 /// A chunk or a parameter would be longer than 65,535 bytes with its header (RFC 4960 3.2, 3.2.1).
-pub const SCTP_LENGTH_TOO_LARGE: sctp_code = 19;
+pub const SCTPR_LENGTH_TOO_LARGE: sctpr_code = 19;
 /// The checksum of the packet is another one (RFC 4960 6.8).
-pub const SCTP_BAD_CHECKSUM: sctp_code = 20;
+pub const SCTPR_BAD_CHECKSUM: sctpr_code = 20;
 /// A chunk is of a type that is not read.
-pub const SCTP_UNKNOWN_CHUNK: sctp_code = 21;
+pub const SCTPR_UNKNOWN_CHUNK: sctpr_code = 21;
 /// The stream is open.
-pub const SCTP_STREAM_OPEN: sctp_code = 22;
+pub const SCTPR_STREAM_OPEN: sctpr_code = 22;
 /// The stream is not open.
-pub const SCTP_STREAM_UNKNOWN: sctp_code = 23;
+pub const SCTPR_STREAM_UNKNOWN: sctpr_code = 23;
 /// The message is, or would be, longer than a message may be.
-pub const SCTP_MESSAGE_TOO_LARGE: sctp_code = 24;
+pub const SCTPR_MESSAGE_TOO_LARGE: sctpr_code = 24;
 /// No further message can wait.
-pub const SCTP_QUEUE_FULL: sctp_code = 25;
+pub const SCTPR_QUEUE_FULL: sctpr_code = 25;
 /// No further TSN can be given out before some are acknowledged.
-pub const SCTP_TSNS_USED_UP: sctp_code = 26;
+pub const SCTPR_TSNS_USED_UP: sctpr_code = 26;
 /// The TSN is not in flight, or its chunk is acknowledged or abandoned.
-pub const SCTP_NOT_IN_FLIGHT: sctp_code = 27;
+pub const SCTPR_NOT_IN_FLIGHT: sctpr_code = 27;
 /// A SACK reports a TSN that was not given out.
-pub const SCTP_SACK_BEYOND_SENT: sctp_code = 28;
+pub const SCTPR_SACK_BEYOND_SENT: sctpr_code = 28;
 /// A gap ack block of a SACK reports a TSN that is not in flight.
-pub const SCTP_SACK_BAD_GAP: sctp_code = 29;
+pub const SCTPR_SACK_BAD_GAP: sctpr_code = 29;
 /// The TSN lies half the circle from the cumulative one (RFC 1982 3.2).
-pub const SCTP_TSN_OPPOSITE: sctp_code = 30;
+pub const SCTPR_TSN_OPPOSITE: sctpr_code = 30;
 /// Something of the stream waits or is in flight.
-pub const SCTP_STREAM_BUSY: sctp_code = 31;
+pub const SCTPR_STREAM_BUSY: sctpr_code = 31;
 /// The next ordered message of the stream can't be begun before chunks of it are acknowledged.
-pub const SCTP_SSNS_USED_UP: sctp_code = 32;
+pub const SCTPR_SSNS_USED_UP: sctpr_code = 32;
 /// Chunks are in flight.
-pub const SCTP_CHUNKS_IN_FLIGHT: sctp_code = 33;
+pub const SCTPR_CHUNKS_IN_FLIGHT: sctpr_code = 33;
 /// The TSN lies farther past the cumulative one than the limits allow.
-pub const SCTP_TSN_TOO_FAR: sctp_code = 34;
+pub const SCTPR_TSN_TOO_FAR: sctpr_code = 34;
 /// Nothing is left of the window (RFC 4960 6.2).
-pub const SCTP_WINDOW_FULL: sctp_code = 35;
+pub const SCTPR_WINDOW_FULL: sctpr_code = 35;
 /// The stream sequence number can't be told from one that was read (RFC 1982 3.2).
-pub const SCTP_SSN_TOO_FAR: sctp_code = 36;
+pub const SCTPR_SSN_TOO_FAR: sctpr_code = 36;
 /// A FORWARD-TSN names a stream that is not open (RFC 3758 3.6).
-pub const SCTP_NAMED_STREAM_UNKNOWN: sctp_code = 37;
+pub const SCTPR_NAMED_STREAM_UNKNOWN: sctpr_code = 37;
 /// A FORWARD-TSN names a stream sequence number that can't be told from one that was read.
-pub const SCTP_NAMED_SSN_TOO_FAR: sctp_code = 38;
+pub const SCTPR_NAMED_SSN_TOO_FAR: sctpr_code = 38;
 /// The stream can't be reset yet (RFC 6525 4.4).
-pub const SCTP_RESET_IN_PROGRESS: sctp_code = 39;
+pub const SCTPR_RESET_IN_PROGRESS: sctpr_code = 39;
 /// A packet has under 12 bytes, which its header takes (RFC 4960 3.1).
-pub const SCTP_ERR_PACKET_RAW_TOO_SMALL: sctp_code = 40;
+pub const SCTPR_ERR_PACKET_RAW_TOO_SMALL: sctpr_code = 40;
 /// In the walk over a packet's chunks one to three bytes are left, or fewer than a chunk takes with its padding (RFC 4960 3.2).
-pub const SCTP_ERR_PARSE_SCTP_CHUNK_NOT_ENOUGH_DATA: sctp_code = 41;
+pub const SCTPR_ERR_PARSE_SCTP_CHUNK_NOT_ENOUGH_DATA: sctpr_code = 41;
 /// Not answered by a call of this library: the source port is 0 (RFC 4960 3.1).
-pub const SCTP_ERR_SCTP_PACKET_SOURCE_PORT_ZERO: sctp_code = 42;
+pub const SCTPR_ERR_SCTP_PACKET_SOURCE_PORT_ZERO: sctpr_code = 42;
 /// Not answered by a call of this library: the destination port is 0 (RFC 4960 3.1).
-pub const SCTP_ERR_SCTP_PACKET_DESTINATION_PORT_ZERO: sctp_code = 43;
+pub const SCTPR_ERR_SCTP_PACKET_DESTINATION_PORT_ZERO: sctpr_code = 43;
 /// Not answered by a call of this library: an INIT shares its packet with other chunks (RFC 4960 6.10). An INIT-ACK or a SHUTDOWN-COMPLETE that does passes, though RFC 4960 6.10 forbids it too.
-pub const SCTP_ERR_INIT_CHUNK_BUNDLED: sctp_code = 44;
+pub const SCTPR_ERR_INIT_CHUNK_BUNDLED: sctpr_code = 44;
 /// Not answered by a call of this library: a packet with an INIT has a verification tag other than 0 (RFC 4960 8.5.1).
-pub const SCTP_ERR_INIT_CHUNK_VERIFY_TAG_NOT_ZERO: sctp_code = 45;
+pub const SCTPR_ERR_INIT_CHUNK_VERIFY_TAG_NOT_ZERO: sctpr_code = 45;
 /// From the chunk on there are under four bytes, which its header takes (RFC 4960 3.2).
-pub const SCTP_ERR_CHUNK_HEADER_TOO_SMALL: sctp_code = 46;
+pub const SCTPR_ERR_CHUNK_HEADER_TOO_SMALL: sctpr_code = 46;
 /// A chunk's length is under four: it counts the header (RFC 4960 3.2).
-pub const SCTP_ERR_CHUNK_HEADER_INVALID_LENGTH: sctp_code = 47;
+pub const SCTPR_ERR_CHUNK_HEADER_INVALID_LENGTH: sctpr_code = 47;
 /// A chunk's length passes the bytes that are there (RFC 4960 3.2).
-pub const SCTP_ERR_CHUNK_HEADER_NOT_ENOUGH_SPACE: sctp_code = 48;
+pub const SCTPR_ERR_CHUNK_HEADER_NOT_ENOUGH_SPACE: sctpr_code = 48;
 /// After a chunk's length come one to three bytes, and one of them is not zero (RFC 4960 3.2). Where four or more follow, padding is not looked at.
-pub const SCTP_ERR_CHUNK_HEADER_PADDING_NON_ZERO: sctp_code = 49;
+pub const SCTPR_ERR_CHUNK_HEADER_PADDING_NON_ZERO: sctpr_code = 49;
 /// Read as an ABORT: the type is not 6 (RFC 4960 3.3.7).
-pub const SCTP_ERR_CHUNK_TYPE_NOT_ABORT: sctp_code = 50;
+pub const SCTPR_ERR_CHUNK_TYPE_NOT_ABORT: sctpr_code = 50;
 /// Read as a COOKIE-ACK: the type is not 11 (RFC 4960 3.3.12).
-pub const SCTP_ERR_CHUNK_TYPE_NOT_COOKIE_ACK: sctp_code = 51;
+pub const SCTPR_ERR_CHUNK_TYPE_NOT_COOKIE_ACK: sctpr_code = 51;
 /// Read as a COOKIE-ECHO: the type is not 10 (RFC 4960 3.3.11).
-pub const SCTP_ERR_CHUNK_TYPE_NOT_COOKIE_ECHO: sctp_code = 52;
+pub const SCTPR_ERR_CHUNK_TYPE_NOT_COOKIE_ECHO: sctpr_code = 52;
 /// Read as an ERROR: the type is not 9 (RFC 4960 3.3.10).
-pub const SCTP_ERR_CHUNK_TYPE_NOT_CT: sctp_code = 53;
+pub const SCTPR_ERR_CHUNK_TYPE_NOT_CT: sctpr_code = 53;
 /// Read as a FORWARD-TSN: the type is not 192 (RFC 3758 3.2).
-pub const SCTP_ERR_CHUNK_TYPE_NOT_FORWARD_TSN: sctp_code = 54;
+pub const SCTPR_ERR_CHUNK_TYPE_NOT_FORWARD_TSN: sctpr_code = 54;
 /// Read as a HEARTBEAT: the type is not 4 (RFC 4960 3.3.5).
-pub const SCTP_ERR_CHUNK_TYPE_NOT_HEARTBEAT: sctp_code = 55;
+pub const SCTPR_ERR_CHUNK_TYPE_NOT_HEARTBEAT: sctpr_code = 55;
 /// Read as a HEARTBEAT-ACK: the type is not 5 (RFC 4960 3.3.6).
-pub const SCTP_ERR_CHUNK_TYPE_NOT_HEARTBEAT_ACK: sctp_code = 56;
+pub const SCTPR_ERR_CHUNK_TYPE_NOT_HEARTBEAT_ACK: sctpr_code = 56;
 /// Read as an INIT or INIT-ACK: the type is neither 1 nor 2 (RFC 4960 3.3.2, 3.3.3).
-pub const SCTP_ERR_CHUNK_TYPE_NOT_TYPE_INIT: sctp_code = 57;
+pub const SCTPR_ERR_CHUNK_TYPE_NOT_TYPE_INIT: sctpr_code = 57;
 /// Read as DATA: the type is not 0 (RFC 4960 3.3.1).
-pub const SCTP_ERR_CHUNK_TYPE_NOT_PAYLOAD_DATA: sctp_code = 58;
+pub const SCTPR_ERR_CHUNK_TYPE_NOT_PAYLOAD_DATA: sctpr_code = 58;
 /// Read as a RECONFIG: the type is not 130 (RFC 6525 3.1).
-pub const SCTP_ERR_CHUNK_TYPE_NOT_RECONFIG: sctp_code = 59;
+pub const SCTPR_ERR_CHUNK_TYPE_NOT_RECONFIG: sctpr_code = 59;
 /// Read as a SACK: the type is not 3 (RFC 4960 3.3.4).
-pub const SCTP_ERR_CHUNK_TYPE_NOT_SACK: sctp_code = 60;
+pub const SCTPR_ERR_CHUNK_TYPE_NOT_SACK: sctpr_code = 60;
 /// Read as a SHUTDOWN: the type is not 7 (RFC 4960 3.3.8).
-pub const SCTP_ERR_CHUNK_TYPE_NOT_SHUTDOWN: sctp_code = 61;
+pub const SCTPR_ERR_CHUNK_TYPE_NOT_SHUTDOWN: sctpr_code = 61;
 /// Read as a SHUTDOWN-ACK: the type is not 8 (RFC 4960 3.3.9).
-pub const SCTP_ERR_CHUNK_TYPE_NOT_SHUTDOWN_ACK: sctp_code = 62;
+pub const SCTPR_ERR_CHUNK_TYPE_NOT_SHUTDOWN_ACK: sctpr_code = 62;
 /// Read as a SHUTDOWN-COMPLETE: the type is not 14 (RFC 4960 3.3.13).
-pub const SCTP_ERR_CHUNK_TYPE_NOT_SHUTDOWN_COMPLETE: sctp_code = 63;
+pub const SCTPR_ERR_CHUNK_TYPE_NOT_SHUTDOWN_COMPLETE: sctpr_code = 63;
 /// The value of a FORWARD-TSN (RFC 3758 3.2), I-FORWARD-TSN (RFC 8260 2.3.1) or RECONFIG (RFC 6525 3.1) has under four bytes, or the pairs of a FORWARD-TSN are followed by one to three.
-pub const SCTP_ERR_CHUNK_TOO_SHORT: sctp_code = 64;
+pub const SCTPR_ERR_CHUNK_TOO_SHORT: sctpr_code = 64;
 /// A DATA chunk's value has under 12 bytes, which stand before the user data (RFC 4960 3.3.1).
-pub const SCTP_ERR_CHUNK_PAYLOAD_SMALL: sctp_code = 65;
+pub const SCTPR_ERR_CHUNK_PAYLOAD_SMALL: sctpr_code = 65;
 /// The value of an INIT or INIT-ACK has under 16 bytes (RFC 4960 3.3.2).
-pub const SCTP_ERR_CHUNK_VALUE_NOT_LONG_ENOUGH: sctp_code = 66;
+pub const SCTPR_ERR_CHUNK_VALUE_NOT_LONG_ENOUGH: sctpr_code = 66;
 /// An INIT or INIT-ACK has flags other than 0. RFC 4960 3.3.2 has a receiver ignore them; here the chunk is refused.
-pub const SCTP_ERR_CHUNK_TYPE_INIT_FLAG_ZERO: sctp_code = 67;
+pub const SCTPR_ERR_CHUNK_TYPE_INIT_FLAG_ZERO: sctpr_code = 67;
 /// Not answered by a call of this library: the initiate tag is 0 (RFC 4960 3.3.2).
-pub const SCTP_ERR_CHUNK_TYPE_INIT_INITIATE_TAG_ZERO: sctp_code = 68;
+pub const SCTPR_ERR_CHUNK_TYPE_INIT_INITIATE_TAG_ZERO: sctpr_code = 68;
 /// Not answered by a call of this library: the number of inbound streams is 0 (RFC 4960 3.3.2).
-pub const SCTP_ERR_INIT_INBOUND_STREAM_REQUEST_ZERO: sctp_code = 69;
+pub const SCTPR_ERR_INIT_INBOUND_STREAM_REQUEST_ZERO: sctpr_code = 69;
 /// Not answered by a call of this library: the number of outbound streams is 0 (RFC 4960 3.3.2).
-pub const SCTP_ERR_INIT_OUTBOUND_STREAM_REQUEST_ZERO: sctp_code = 70;
+pub const SCTPR_ERR_INIT_OUTBOUND_STREAM_REQUEST_ZERO: sctpr_code = 70;
 /// Not answered by a call of this library: the credit is under 1,500 bytes (RFC 4960 6).
-pub const SCTP_ERR_INIT_ADVERTISED_RECEIVER_1500: sctp_code = 71;
+pub const SCTPR_ERR_INIT_ADVERTISED_RECEIVER_1500: sctpr_code = 71;
 /// The value of a HEARTBEAT or HEARTBEAT-ACK has under four bytes, which the header of its parameter takes (RFC 4960 3.3.5, 3.3.6).
-pub const SCTP_ERR_HEARTBEAT_NOT_LONG_ENOUGH_INFO: sctp_code = 72;
+pub const SCTPR_ERR_HEARTBEAT_NOT_LONG_ENOUGH_INFO: sctpr_code = 72;
 /// The parameter of a HEARTBEAT or HEARTBEAT-ACK can be read, and its type is not 1 (RFC 4960 3.3.5).
-pub const SCTP_ERR_HEARTBEAT_PARAM: sctp_code = 73;
+pub const SCTPR_ERR_HEARTBEAT_PARAM: sctpr_code = 73;
 /// A HEARTBEAT-ACK that is to be written has no parameter, or more than one (RFC 4960 3.3.6).
-pub const SCTP_ERR_HEARTBEAT_ACK_PARAMS: sctp_code = 74;
+pub const SCTPR_ERR_HEARTBEAT_ACK_PARAMS: sctpr_code = 74;
 /// The one parameter of a HEARTBEAT-ACK that is to be written is no Heartbeat Info (RFC 4960 3.3.6).
-pub const SCTP_ERR_HEARTBEAT_ACK_NOT_HEARTBEAT_INFO: sctp_code = 75;
+pub const SCTPR_ERR_HEARTBEAT_ACK_NOT_HEARTBEAT_INFO: sctpr_code = 75;
 /// A RECONFIG that is to be written or is checked has no first parameter (RFC 6525 3.1).
-pub const SCTP_ERR_CHUNK_RECONFIG_INVALID_PARAM_A: sctp_code = 76;
+pub const SCTPR_ERR_CHUNK_RECONFIG_INVALID_PARAM_A: sctpr_code = 76;
 /// Not answered by a call of this library: its two parameters' types may not stand together (RFC 6525 3.1).
-pub const SCTP_ERR_CHUNK_RECONFIG_INVALID_PARAM_COMBINATION: sctp_code = 77;
+pub const SCTPR_ERR_CHUNK_RECONFIG_INVALID_PARAM_COMBINATION: sctpr_code = 77;
 /// The value of a SACK has under 12 bytes, or fewer than 12 and four for each of the blocks and duplicates that it counts (RFC 4960 3.3.4).
-pub const SCTP_ERR_SACK_SIZE_NOT_LARGE_ENOUGH_INFO: sctp_code = 78;
+pub const SCTPR_ERR_SACK_SIZE_NOT_LARGE_ENOUGH_INFO: sctpr_code = 78;
 /// The value of a SHUTDOWN has not exactly four bytes (RFC 4960 3.3.8).
-pub const SCTP_ERR_INVALID_CHUNK_SIZE: sctp_code = 79;
+pub const SCTPR_ERR_INVALID_CHUNK_SIZE: sctpr_code = 79;
 /// An error cause has under four bytes, a length under four, or a length past the bytes that are there (RFC 4960 3.3.10).
-pub const SCTP_ERR_ERROR_CAUSE_TOO_SMALL: sctp_code = 80;
+pub const SCTPR_ERR_ERROR_CAUSE_TOO_SMALL: sctpr_code = 80;
 /// A parameter has under four bytes, a length under four, or a length past the bytes that are there (RFC 4960 3.2.1).
-pub const SCTP_ERR_PARAM_HEADER_TOO_SHORT: sctp_code = 81;
+pub const SCTPR_ERR_PARAM_HEADER_TOO_SHORT: sctpr_code = 81;
 /// A parameter of type typ is of no kind, and the type's highest bit is not set: reading is to stop (RFC 4960 3.2.1).
-pub const SCTP_ERR_PARAM_TYPE_UNHANDLED: sctp_code = 82;
+pub const SCTPR_ERR_PARAM_TYPE_UNHANDLED: sctpr_code = 82;
 /// Not answered by a call of this library. Read as a Chunk List: the type is not 32771 (RFC 4895 3.2).
-pub const SCTP_ERR_PARAM_TYPE_UNEXPECTED: sctp_code = 83;
+pub const SCTPR_ERR_PARAM_TYPE_UNEXPECTED: sctpr_code = 83;
 /// The value of an Outgoing SSN Reset Request has under 12 bytes (RFC 6525 4.1).
-pub const SCTP_ERR_SSN_RESET_REQUEST_PARAM_TOO_SHORT: sctp_code = 84;
+pub const SCTPR_ERR_SSN_RESET_REQUEST_PARAM_TOO_SHORT: sctpr_code = 84;
 /// The value of an Outgoing SSN Reset Request has 12 bytes or more, an odd number of them (RFC 6525 4.1).
-pub const SCTP_ERR_SSN_RESET_REQUEST_PARAM_INVALID_LENGTH: sctp_code = 85;
+pub const SCTPR_ERR_SSN_RESET_REQUEST_PARAM_INVALID_LENGTH: sctpr_code = 85;
 /// The value of a Re-configuration Response has under eight bytes (RFC 6525 4.4).
-pub const SCTP_ERR_RECONFIG_RESP_PARAM_TOO_SHORT: sctp_code = 86;
+pub const SCTPR_ERR_RECONFIG_RESP_PARAM_TOO_SHORT: sctpr_code = 86;
 /// A Requested HMAC Algorithm names another number than 1 or 3 (RFC 4895 3.3).
-pub const SCTP_ERR_INVALID_ALGORITHM_TYPE: sctp_code = 87;
+pub const SCTPR_ERR_INVALID_ALGORITHM_TYPE: sctpr_code = 87;
 /// The value of a Supported Address Types has an odd number of bytes (RFC 4960 3.3.2.1).
-pub const SCTP_ERR_SUPPORTED_ADDRESS_TYPES_PARAM_INVALID_LENGTH: sctp_code = 88;
+pub const SCTPR_ERR_SUPPORTED_ADDRESS_TYPES_PARAM_INVALID_LENGTH: sctpr_code = 88;
 /// Not answered by a call of this library: the message is longer than the buffer, which is filled with the message's beginning.
-pub const SCTP_ERR_SHORT_BUFFER: sctp_code = 89;
-pub const SCTP_DATA: u32 = 0;
-pub const SCTP_INIT: u32 = 1;
-pub const SCTP_INIT_ACK: u32 = 2;
-pub const SCTP_SACK: u32 = 3;
-pub const SCTP_HEARTBEAT: u32 = 4;
-pub const SCTP_HEARTBEAT_ACK: u32 = 5;
-pub const SCTP_ABORT: u32 = 6;
-pub const SCTP_SHUTDOWN: u32 = 7;
-pub const SCTP_SHUTDOWN_ACK: u32 = 8;
-pub const SCTP_ERROR: u32 = 9;
-pub const SCTP_COOKIE_ECHO: u32 = 10;
-pub const SCTP_COOKIE_ACK: u32 = 11;
-pub const SCTP_SHUTDOWN_COMPLETE: u32 = 14;
-pub const SCTP_RECONFIG: u32 = 130;
-pub const SCTP_FORWARD_TSN: u32 = 192;
-pub const SCTP_PARAM_HEARTBEAT_INFO: u32 = 1;
-pub const SCTP_PARAM_STATE_COOKIE: u32 = 7;
-pub const SCTP_PARAM_SUPPORTED_EXTENSIONS: u32 = 32776;
-pub const SCTP_PARAM_FORWARD_TSN_SUPPORTED: u32 = 49152;
-pub const SCTP_CAUSE_INVALID_STREAM_IDENTIFIER: u32 = 1;
-pub const SCTP_CAUSE_MISSING_MANDATORY_PARAMETER: u32 = 2;
-pub const SCTP_CAUSE_STALE_COOKIE: u32 = 3;
-pub const SCTP_CAUSE_OUT_OF_RESOURCE: u32 = 4;
-pub const SCTP_CAUSE_UNRESOLVABLE_ADDRESS: u32 = 5;
-pub const SCTP_CAUSE_UNRECOGNIZED_CHUNK_TYPE: u32 = 6;
-pub const SCTP_CAUSE_INVALID_MANDATORY_PARAMETER: u32 = 7;
-pub const SCTP_CAUSE_UNRECOGNIZED_PARAMETERS: u32 = 8;
-pub const SCTP_CAUSE_NO_USER_DATA: u32 = 9;
-pub const SCTP_CAUSE_COOKIE_RECEIVED_WHILE_SHUTTING_DOWN: u32 = 10;
-pub const SCTP_CAUSE_RESTART_WITH_NEW_ADDRESSES: u32 = 11;
-pub const SCTP_CAUSE_USER_INITIATED_ABORT: u32 = 12;
-pub const SCTP_CAUSE_PROTOCOL_VIOLATION: u32 = 13;
-pub const SCTP_FLAG_T: u32 = 1;
-pub const SCTP_PPID_DCEP: u32 = 50;
-pub const SCTP_PPID_STRING: u32 = 51;
-pub const SCTP_PPID_BINARY: u32 = 53;
-pub const SCTP_PPID_STRING_EMPTY: u32 = 56;
-pub const SCTP_PPID_BINARY_EMPTY: u32 = 57;
-pub const SCTP_PPID_OTHER: u32 = 58;
-pub const SCTP_RELIABLE: u32 = 0;
-pub const SCTP_REXMIT: u32 = 1;
-pub const SCTP_TIMED: u32 = 2;
-pub const SCTP_NAME_ROOM: usize = 64;
+pub const SCTPR_ERR_SHORT_BUFFER: sctpr_code = 89;
+pub const SCTPR_DATA: u32 = 0;
+pub const SCTPR_INIT: u32 = 1;
+pub const SCTPR_INIT_ACK: u32 = 2;
+pub const SCTPR_SACK: u32 = 3;
+pub const SCTPR_HEARTBEAT: u32 = 4;
+pub const SCTPR_HEARTBEAT_ACK: u32 = 5;
+pub const SCTPR_ABORT: u32 = 6;
+pub const SCTPR_SHUTDOWN: u32 = 7;
+pub const SCTPR_SHUTDOWN_ACK: u32 = 8;
+pub const SCTPR_ERROR: u32 = 9;
+pub const SCTPR_COOKIE_ECHO: u32 = 10;
+pub const SCTPR_COOKIE_ACK: u32 = 11;
+pub const SCTPR_SHUTDOWN_COMPLETE: u32 = 14;
+pub const SCTPR_RECONFIG: u32 = 130;
+pub const SCTPR_FORWARD_TSN: u32 = 192;
+pub const SCTPR_PARAM_HEARTBEAT_INFO: u32 = 1;
+pub const SCTPR_PARAM_STATE_COOKIE: u32 = 7;
+pub const SCTPR_PARAM_SUPPORTED_EXTENSIONS: u32 = 32776;
+pub const SCTPR_PARAM_FORWARD_TSN_SUPPORTED: u32 = 49152;
+pub const SCTPR_CAUSE_INVALID_STREAM_IDENTIFIER: u32 = 1;
+pub const SCTPR_CAUSE_MISSING_MANDATORY_PARAMETER: u32 = 2;
+pub const SCTPR_CAUSE_STALE_COOKIE: u32 = 3;
+pub const SCTPR_CAUSE_OUT_OF_RESOURCE: u32 = 4;
+pub const SCTPR_CAUSE_UNRESOLVABLE_ADDRESS: u32 = 5;
+pub const SCTPR_CAUSE_UNRECOGNIZED_CHUNK_TYPE: u32 = 6;
+pub const SCTPR_CAUSE_INVALID_MANDATORY_PARAMETER: u32 = 7;
+pub const SCTPR_CAUSE_UNRECOGNIZED_PARAMETERS: u32 = 8;
+pub const SCTPR_CAUSE_NO_USER_DATA: u32 = 9;
+pub const SCTPR_CAUSE_COOKIE_RECEIVED_WHILE_SHUTTING_DOWN: u32 = 10;
+pub const SCTPR_CAUSE_RESTART_WITH_NEW_ADDRESSES: u32 = 11;
+pub const SCTPR_CAUSE_USER_INITIATED_ABORT: u32 = 12;
+pub const SCTPR_CAUSE_PROTOCOL_VIOLATION: u32 = 13;
+pub const SCTPR_FLAG_T: u32 = 1;
+pub const SCTPR_PPID_DCEP: u32 = 50;
+pub const SCTPR_PPID_STRING: u32 = 51;
+pub const SCTPR_PPID_BINARY: u32 = 53;
+pub const SCTPR_PPID_STRING_EMPTY: u32 = 56;
+pub const SCTPR_PPID_BINARY_EMPTY: u32 = 57;
+pub const SCTPR_PPID_OTHER: u32 = 58;
+pub const SCTPR_RELIABLE: u32 = 0;
+pub const SCTPR_REXMIT: u32 = 1;
+pub const SCTPR_TIMED: u32 = 2;
+pub const SCTPR_NAME_ROOM: usize = 64;
 
 /// A packet's header but for the checksum (RFC 4960 3.1). The tag is 0 with an INIT (8.5).
 #[derive(Clone, Copy, Debug, Default, PartialEq, Eq)]
 #[repr(C)]
-pub struct sctp_head {
+pub struct sctpr_head {
     pub verification_tag: u32,
     pub source_port: u16,
     pub destination_port: u16,
@@ -220,19 +220,19 @@ pub struct sctp_head {
 /// Where a chunk lies in its packet: `length` bytes from `at` on, its header of four bytes with them and its padding not (3.2).
 #[derive(Clone, Copy, Debug, Default, PartialEq, Eq)]
 #[repr(C)]
-pub struct sctp_chunk {
+pub struct sctpr_chunk {
     pub at: usize,
     pub length: usize,
     pub type_: u8,
     pub flags: u8,
 }
 
-/// A chunk of a packet that may have chunks of unknown types. `is_known` is 1 where its type is one that sctp_read_packet reads; else it is
-/// 0, and `is_reported` is 1 where its sender is to be told of it: in an ERROR, by the cause SCTP_CAUSE_UNRECOGNIZED_CHUNK_TYPE with the
+/// A chunk of a packet that may have chunks of unknown types. `is_known` is 1 where its type is one that sctpr_read_packet reads; else it is
+/// 0, and `is_reported` is 1 where its sender is to be told of it: in an ERROR, by the cause SCTPR_CAUSE_UNRECOGNIZED_CHUNK_TYPE with the
 /// chunk as its value (RFC 4960 3.2, 3.3.10.6).
 #[derive(Clone, Copy, Debug, Default, PartialEq, Eq)]
 #[repr(C)]
-pub struct sctp_any_chunk {
+pub struct sctpr_any_chunk {
     pub at: usize,
     pub length: usize,
     pub type_: u8,
@@ -244,7 +244,7 @@ pub struct sctp_any_chunk {
 /// A DATA chunk (RFC 4960 3.3.1); its user data are `length` bytes from byte 16 of the chunk on. Flags are 0 or 1.
 #[derive(Clone, Copy, Debug, Default, PartialEq, Eq)]
 #[repr(C)]
-pub struct sctp_data {
+pub struct sctpr_data {
     pub length: usize,
     pub tsn: u32,
     pub payload_type: u32,
@@ -259,7 +259,7 @@ pub struct sctp_data {
 /// A SACK (RFC 4960 3.3.4), and how many gap ack blocks and duplicates it has. As many of them as there is room for are written.
 #[derive(Clone, Copy, Debug, Default, PartialEq, Eq)]
 #[repr(C)]
-pub struct sctp_sack {
+pub struct sctpr_sack {
     pub blocks: usize,
     pub duplicates: usize,
     pub cumulative_tsn: u32,
@@ -269,7 +269,7 @@ pub struct sctp_sack {
 /// A run of TSNs that came: the distances of its first and its last from the cumulative one.
 #[derive(Clone, Copy, Debug, Default, PartialEq, Eq)]
 #[repr(C)]
-pub struct sctp_gap {
+pub struct sctpr_gap {
     pub start: u16,
     pub end: u16,
 }
@@ -277,7 +277,7 @@ pub struct sctp_gap {
 /// A FORWARD-TSN (RFC 3758 3.2). `count` becomes how many streams it names, and as many as there is room for are written.
 #[derive(Clone, Copy, Debug, Default, PartialEq, Eq)]
 #[repr(C)]
-pub struct sctp_skip {
+pub struct sctpr_skip {
     pub stream: u16,
     pub sequence: u16,
 }
@@ -285,7 +285,7 @@ pub struct sctp_skip {
 /// An INIT, or where `is_ack` is not 0 an INIT-ACK (RFC 4960 3.3.2, 3.3.3); its parameters begin at byte 20 of the chunk.
 #[derive(Clone, Copy, Debug, Default, PartialEq, Eq)]
 #[repr(C)]
-pub struct sctp_init {
+pub struct sctpr_init {
     pub initiate_tag: u32,
     pub credit: u32,
     pub initial_tsn: u32,
@@ -295,10 +295,10 @@ pub struct sctp_init {
 }
 
 /// The parameter that the bytes begin with (RFC 4960 3.2.1): its value is `length` bytes from byte 4 on, and the next one begins at byte
-/// `next`, or there is none where that is all of the bytes. SCTP_ERR_PARAM_TYPE_UNHANDLED of a type that is not read and stops reading.
+/// `next`, or there is none where that is all of the bytes. SCTPR_ERR_PARAM_TYPE_UNHANDLED of a type that is not read and stops reading.
 #[derive(Clone, Copy, Debug, Default, PartialEq, Eq)]
 #[repr(C)]
-pub struct sctp_param {
+pub struct sctpr_param {
     pub length: usize,
     pub next: usize,
     pub type_: u16,
@@ -306,29 +306,29 @@ pub struct sctp_param {
 
 /// The error cause that the bytes begin with, as those from byte 4 of an ABORT or ERROR on do (RFC 4960 3.3.10): its value is `length` bytes
 /// from byte 4 on, and the next one begins at byte `next`, or there is none where that is all of the bytes.
-/// SCTP_ERR_ERROR_CAUSE_TOO_SMALL, where they begin with none; SCTP_NO_MEMORY.
+/// SCTPR_ERR_ERROR_CAUSE_TOO_SMALL, where they begin with none; SCTPR_NO_MEMORY.
 #[derive(Clone, Copy, Debug, Default, PartialEq, Eq)]
 #[repr(C)]
-pub struct sctp_cause {
+pub struct sctpr_cause {
     pub length: usize,
     pub next: usize,
     pub code: u16,
 }
 
 /// The receiving half of an association: what came and was not read (RFC 4960 6.2, 6.5, 6.6, 6.9). A handle is made by one of the two
-/// sctp_receiver_new.. calls, goes to the other calls by its address, and is given back by sctp_receiver_free. Nothing else writes it.
+/// sctpr_receiver_new.. calls, goes to the other calls by its address, and is given back by sctpr_receiver_free. Nothing else writes it.
 #[derive(Debug)]
 #[repr(C)]
-pub struct sctp_receiver {
+pub struct sctpr_receiver {
     pub at: *mut c_void,
 }
 
 /// The sending half of an association: what was written and is not yet acknowledged (RFC 4960 6.1, 6.2.1, 6.9; RFC 3758). `now` is in
-/// nanoseconds from any one moment. A handle is made by sctp_sender_new, goes to the other calls by its address, and is given back by
-/// sctp_sender_free. Nothing else writes it.
+/// nanoseconds from any one moment. A handle is made by sctpr_sender_new, goes to the other calls by its address, and is given back by
+/// sctpr_sender_free. Nothing else writes it.
 #[derive(Debug)]
 #[repr(C)]
-pub struct sctp_sender {
+pub struct sctpr_sender {
     pub at: *mut c_void,
 }
 
@@ -336,7 +336,7 @@ pub struct sctp_sender {
 /// what was never sent; the flags are 0 or 1.
 #[derive(Clone, Copy, Debug, Default, PartialEq, Eq)]
 #[repr(C)]
-pub struct sctp_in_flight {
+pub struct sctpr_in_flight {
     pub size: usize,
     pub message: u64,
     pub sent_at: u64,
@@ -356,7 +356,7 @@ pub struct sctp_in_flight {
 /// `is_low`: with it, after the rows before it, the buffered amount of its stream fell from above the low threshold to at most it.
 #[derive(Clone, Copy, Debug, Default, PartialEq, Eq)]
 #[repr(C)]
-pub struct sctp_acked {
+pub struct sctpr_acked {
     pub bytes: usize,
     pub message: u64,
     pub sent_at: u64,
@@ -371,7 +371,7 @@ pub struct sctp_acked {
 /// A chunk whose acknowledgement a SACK took back: it is outstanding again.
 #[derive(Clone, Copy, Debug, Default, PartialEq, Eq)]
 #[repr(C)]
-pub struct sctp_taken_back {
+pub struct sctpr_taken_back {
     pub bytes: usize,
     pub message: u64,
     pub tsn: u32,
@@ -381,7 +381,7 @@ pub struct sctp_taken_back {
 /// A message that was abandoned: how many of its bytes left. `is_low` as above.
 #[derive(Clone, Copy, Debug, Default, PartialEq, Eq)]
 #[repr(C)]
-pub struct sctp_abandoned {
+pub struct sctpr_abandoned {
     pub bytes: usize,
     pub number: u64,
     pub stream: u16,
@@ -391,7 +391,7 @@ pub struct sctp_abandoned {
 /// A message that expired before any of it was sent.
 #[derive(Clone, Copy, Debug, Default, PartialEq, Eq)]
 #[repr(C)]
-pub struct sctp_expired {
+pub struct sctpr_expired {
     pub bytes: usize,
     pub stream: u16,
     pub is_low: u8,
@@ -400,282 +400,282 @@ pub struct sctp_expired {
 #[rustfmt::skip]
 extern "C" {
     /// The version of the library that was linked: major << 16 | minor << 8 | patch.
-    pub fn sctp_version() -> u32;
+    pub fn sctpr_version() -> u32;
 
-    /// Writes the name of a code and a zero byte behind it at the front of a buffer: "SCTP_NO_MEMORY"; "SCTP_UNKNOWN" of a number that is
-    /// none. `written` becomes how many bytes that is, SCTP_NAME_ROOM at most. SCTP_SHORT_BUFFER where the buffer is shorter.
-    pub fn sctp_code_name(code: sctp_code, out: *mut u8, room: usize, written: *mut usize) -> sctp_code;
+    /// Writes the name of a code and a zero byte behind it at the front of a buffer: "SCTPR_NO_MEMORY"; "SCTPR_UNKNOWN" of a number that is
+    /// none. `written` becomes how many bytes that is, SCTPR_NAME_ROOM at most. SCTPR_SHORT_BUFFER where the buffer is shorter.
+    pub fn sctpr_code_name(code: sctpr_code, out: *mut u8, room: usize, written: *mut usize) -> sctpr_code;
 
     /// Reads a packet under CRC-32C (RFC 4960 3, 6.8): header, checksum, and each of its chunks whole. `head` becomes its header, `count` how
     /// many chunks it has, and the first `room` of them stand in `rows`; the rows behind them stay. Each chunk can then be read by the calls
     /// below as `packet + row.at, row.length`. It is read where it lies: only of chunks that are neither DATA nor SACKs a copy is made, one at a
-    /// time, and given back. Refuses with SCTP_ERR_PACKET_RAW_TOO_SMALL, SCTP_BAD_CHECKSUM, SCTP_UNKNOWN_CHUNK, another error of a chunk, or,
-    /// but for a packet of DATA and SACKs alone, SCTP_NO_MEMORY; then nothing was written.
-    pub fn sctp_read_packet(packet: *const u8, length: usize, head: *mut sctp_head, rows: *mut sctp_chunk, room: usize, count: *mut usize) -> sctp_code;
+    /// time, and given back. Refuses with SCTPR_ERR_PACKET_RAW_TOO_SMALL, SCTPR_BAD_CHECKSUM, SCTPR_UNKNOWN_CHUNK, another error of a chunk, or,
+    /// but for a packet of DATA and SACKs alone, SCTPR_NO_MEMORY; then nothing was written.
+    pub fn sctpr_read_packet(packet: *const u8, length: usize, head: *mut sctpr_head, rows: *mut sctpr_chunk, room: usize, count: *mut usize) -> sctpr_code;
 
     /// The same under a sum that the caller took: of the first eight bytes, four zeros, and the bytes from the twelfth on.
-    pub fn sctp_read_packet_with_sum(packet: *const u8, length: usize, sum: u32, head: *mut sctp_head, rows: *mut sctp_chunk, room: usize, count: *mut usize) -> sctp_code;
+    pub fn sctpr_read_packet_with_sum(packet: *const u8, length: usize, sum: u32, head: *mut sctpr_head, rows: *mut sctpr_chunk, room: usize, count: *mut usize) -> sctpr_code;
 
     /// The same for a packet with chunks of unknown types, as I-DATA, AUTH and PAD are here (RFC 4960 3.2): one whose type has the highest bit
     /// set is skipped; any other is the last one that is looked at, and the last row. `count` becomes how many chunks there are so far, and the
     /// first `room` of them stand in `rows`. Chunks of known types are read whole, as above, and one that is refused refuses the packet; of the
-    /// others the header is read. SCTP_UNKNOWN_CHUNK is no refusal of it; the other ones are those of sctp_read_packet.
-    pub fn sctp_read_any_packet(packet: *const u8, length: usize, head: *mut sctp_head, rows: *mut sctp_any_chunk, room: usize, count: *mut usize) -> sctp_code;
+    /// others the header is read. SCTPR_UNKNOWN_CHUNK is no refusal of it; the other ones are those of sctpr_read_packet.
+    pub fn sctpr_read_any_packet(packet: *const u8, length: usize, head: *mut sctpr_head, rows: *mut sctpr_any_chunk, room: usize, count: *mut usize) -> sctpr_code;
 
-    pub fn sctp_read_any_packet_with_sum(packet: *const u8, length: usize, sum: u32, head: *mut sctp_head, rows: *mut sctp_any_chunk, room: usize, count: *mut usize) -> sctp_code;
+    pub fn sctpr_read_any_packet_with_sum(packet: *const u8, length: usize, sum: u32, head: *mut sctpr_head, rows: *mut sctpr_any_chunk, room: usize, count: *mut usize) -> sctpr_code;
 
-    pub fn sctp_read_data(chunk: *const u8, length: usize, data: *mut sctp_data) -> sctp_code;
+    pub fn sctpr_read_data(chunk: *const u8, length: usize, data: *mut sctpr_data) -> sctpr_code;
 
-    pub fn sctp_read_sack(chunk: *const u8, length: usize, sack: *mut sctp_sack, blocks: *mut sctp_gap, blocks_room: usize, duplicates: *mut u32, duplicates_room: usize) -> sctp_code;
+    pub fn sctpr_read_sack(chunk: *const u8, length: usize, sack: *mut sctpr_sack, blocks: *mut sctpr_gap, blocks_room: usize, duplicates: *mut u32, duplicates_room: usize) -> sctpr_code;
 
-    pub fn sctp_read_forward_tsn(chunk: *const u8, length: usize, new_cumulative_tsn: *mut u32, streams: *mut sctp_skip, room: usize, count: *mut usize) -> sctp_code;
+    pub fn sctpr_read_forward_tsn(chunk: *const u8, length: usize, new_cumulative_tsn: *mut u32, streams: *mut sctpr_skip, room: usize, count: *mut usize) -> sctpr_code;
 
-    pub fn sctp_read_init(chunk: *const u8, length: usize, init: *mut sctp_init) -> sctp_code;
+    pub fn sctpr_read_init(chunk: *const u8, length: usize, init: *mut sctpr_init) -> sctpr_code;
 
     /// A SHUTDOWN (RFC 4960 3.3.8): `cumulative_tsn` becomes the TSN up to which its sender received all.
-    pub fn sctp_read_shutdown(chunk: *const u8, length: usize, cumulative_tsn: *mut u32) -> sctp_code;
+    pub fn sctpr_read_shutdown(chunk: *const u8, length: usize, cumulative_tsn: *mut u32) -> sctpr_code;
 
-    pub fn sctp_read_param(bytes: *const u8, length: usize, param: *mut sctp_param) -> sctp_code;
+    pub fn sctpr_read_param(bytes: *const u8, length: usize, param: *mut sctpr_param) -> sctpr_code;
 
-    pub fn sctp_read_cause(bytes: *const u8, length: usize, cause: *mut sctp_cause) -> sctp_code;
+    pub fn sctpr_read_cause(bytes: *const u8, length: usize, cause: *mut sctpr_cause) -> sctpr_code;
 
     /// A chunk of a type and a value, its flags 0, of any type that is read (RFC 4960 3.2, 3.3). It is read before it is written, so that no
-    /// chunk comes out that a reader refuses: else the reader's error. SCTP_LENGTH_TOO_LARGE of more than 65,531 bytes. SCTP_NO_MEMORY.
-    pub fn sctp_write_chunk(type_: u8, value: *const u8, length: usize, out: *mut u8, room: usize, written: *mut usize) -> sctp_code;
+    /// chunk comes out that a reader refuses: else the reader's error. SCTPR_LENGTH_TOO_LARGE of more than 65,531 bytes. SCTPR_NO_MEMORY.
+    pub fn sctpr_write_chunk(type_: u8, value: *const u8, length: usize, out: *mut u8, room: usize, written: *mut usize) -> sctpr_code;
 
-    /// The same with flags, as they are given: SCTP_FLAG_T, and those of DATA (3.3.1).
-    pub fn sctp_write_chunk_with_flags(type_: u8, flags: u8, value: *const u8, length: usize, out: *mut u8, room: usize, written: *mut usize) -> sctp_code;
+    /// The same with flags, as they are given: SCTPR_FLAG_T, and those of DATA (3.3.1).
+    pub fn sctpr_write_chunk_with_flags(type_: u8, flags: u8, value: *const u8, length: usize, out: *mut u8, room: usize, written: *mut usize) -> sctpr_code;
 
-    /// An INIT or INIT-ACK. `params` are its parameters, as sctp_write_param writes them one behind the other. Refuses as sctp_write_chunk.
-    pub fn sctp_write_init(init: *const sctp_init, params: *const u8, length: usize, out: *mut u8, room: usize, written: *mut usize) -> sctp_code;
+    /// An INIT or INIT-ACK. `params` are its parameters, as sctpr_write_param writes them one behind the other. Refuses as sctpr_write_chunk.
+    pub fn sctpr_write_init(init: *const sctpr_init, params: *const u8, length: usize, out: *mut u8, room: usize, written: *mut usize) -> sctpr_code;
 
-    /// A parameter (RFC 4960 3.2.1). Refuses as sctp_write_chunk.
-    pub fn sctp_write_param(type_: u16, value: *const u8, length: usize, out: *mut u8, room: usize, written: *mut usize) -> sctp_code;
+    /// A parameter (RFC 4960 3.2.1). Refuses as sctpr_write_chunk.
+    pub fn sctpr_write_param(type_: u16, value: *const u8, length: usize, out: *mut u8, room: usize, written: *mut usize) -> sctpr_code;
 
-    /// An error cause (RFC 4960 3.3.10): what an ABORT or ERROR has as its value. SCTP_LENGTH_TOO_LARGE of more than 65,531 bytes,
-    /// SCTP_NO_MEMORY. Of several causes in one chunk all but the last have to be multiples of four long without padding: sctp_read_packet and
-    /// sctp_write_chunk look for none between them.
-    pub fn sctp_write_cause(code: u16, value: *const u8, length: usize, out: *mut u8, room: usize, written: *mut usize) -> sctp_code;
+    /// An error cause (RFC 4960 3.3.10): what an ABORT or ERROR has as its value. SCTPR_LENGTH_TOO_LARGE of more than 65,531 bytes,
+    /// SCTPR_NO_MEMORY. Of several causes in one chunk all but the last have to be multiples of four long without padding: sctpr_read_packet and
+    /// sctpr_write_chunk look for none between them.
+    pub fn sctpr_write_cause(code: u16, value: *const u8, length: usize, out: *mut u8, room: usize, written: *mut usize) -> sctpr_code;
 
-    /// Writes header and CRC-32C into the first twelve bytes of a packet (RFC 4960 3.1, 6.8). SCTP_SHORT_BUFFER under twelve bytes. It takes no
+    /// Writes header and CRC-32C into the first twelve bytes of a packet (RFC 4960 3.1, 6.8). SCTPR_SHORT_BUFFER under twelve bytes. It takes no
     /// memory.
-    pub fn sctp_seal_packet(head: *const sctp_head, packet: *mut u8, length: usize) -> sctp_code;
+    pub fn sctpr_seal_packet(head: *const sctpr_head, packet: *mut u8, length: usize) -> sctpr_code;
 
     /// The same in two steps, for a caller that takes the sum itself: the first writes the header with zeros in the checksum's place, and the
-    /// second puts the sum of the whole packet there, its lowest byte first (RFC 4960 Appendix B). SCTP_SHORT_BUFFER under twelve bytes.
-    pub fn sctp_write_head(head: *const sctp_head, packet: *mut u8, length: usize) -> sctp_code;
+    /// second puts the sum of the whole packet there, its lowest byte first (RFC 4960 Appendix B). SCTPR_SHORT_BUFFER under twelve bytes.
+    pub fn sctpr_write_head(head: *const sctpr_head, packet: *mut u8, length: usize) -> sctpr_code;
 
-    pub fn sctp_store_sum(sum: u32, packet: *mut u8, length: usize) -> sctp_code;
+    pub fn sctpr_store_sum(sum: u32, packet: *mut u8, length: usize) -> sctpr_code;
 
     /// Makes a receiver with no stream, to which nothing came: `first_tsn`, the peer's initial TSN, is expected next, and a message may have
-    /// `max_message_size` bytes. It holds about `window` bytes at most, each chunk counted as 400 more than its user data, and no TSN farther
-    /// than `reach` past the cumulative one (RFC 4960 6.2). `out` becomes its handle. SCTP_NO_MEMORY; `out` stays then.
-    pub fn sctp_receiver_new(first_tsn: u32, max_message_size: u32, window: usize, reach: u32, out: *mut sctp_receiver) -> sctp_code;
+    /// `max_message_size` bytes. It holds about `window` bytes at most, each chunk counted as 200 more than its user data, and no TSN farther
+    /// than `reach` past the cumulative one (RFC 4960 6.2). `out` becomes its handle. SCTPR_NO_MEMORY; `out` stays then.
+    pub fn sctpr_receiver_new(first_tsn: u32, max_message_size: u32, window: usize, reach: u32, out: *mut sctpr_receiver) -> sctpr_code;
 
     /// The same, with no limit to what is held: for a peer that is trusted, or a replay.
-    pub fn sctp_receiver_new_unlimited(first_tsn: u32, max_message_size: u32, out: *mut sctp_receiver) -> sctp_code;
+    pub fn sctpr_receiver_new_unlimited(first_tsn: u32, max_message_size: u32, out: *mut sctpr_receiver) -> sctpr_code;
 
     /// Frees a receiver and all that it holds. The handle is not used again.
-    pub fn sctp_receiver_free(receiver: sctp_receiver);
+    pub fn sctpr_receiver_free(receiver: sctpr_receiver);
 
-    /// Opens a stream. SCTP_STREAM_OPEN, SCTP_NO_MEMORY.
-    pub fn sctp_receiver_open(receiver: *mut sctp_receiver, stream: u16) -> sctp_code;
+    /// Opens a stream. SCTPR_STREAM_OPEN, SCTPR_NO_MEMORY.
+    pub fn sctpr_receiver_open(receiver: *mut sctpr_receiver, stream: u16) -> sctpr_code;
 
     /// Closes a stream, where it is open: what came on it and was not read is dropped; the TSNs stay. It takes no memory.
-    pub fn sctp_receiver_close(receiver: *mut sctp_receiver, stream: u16);
+    pub fn sctpr_receiver_close(receiver: *mut sctpr_receiver, stream: u16);
 
     /// The peer resets a stream that it sends on: `last_tsn` is the Sender's Last Assigned TSN of its Outgoing SSN Reset Request (RFC 6525
-    /// 4.1, 5.2.2). The stream sequence number 0 is expected next. SCTP_STREAM_UNKNOWN; SCTP_RESET_IN_PROGRESS, where the cumulative TSN is
-    /// before `last_tsn`; SCTP_NO_MEMORY.
-    pub fn sctp_receiver_reset(receiver: *mut sctp_receiver, stream: u16, last_tsn: u32) -> sctp_code;
+    /// 4.1, 5.2.2). The stream sequence number 0 is expected next. SCTPR_STREAM_UNKNOWN; SCTPR_RESET_IN_PROGRESS, where the cumulative TSN is
+    /// before `last_tsn`; SCTPR_NO_MEMORY.
+    pub fn sctpr_receiver_reset(receiver: *mut sctpr_receiver, stream: u16, last_tsn: u32) -> sctpr_code;
 
-    /// Takes the bytes of a DATA chunk, without its padding or with it (RFC 4960 6.2). SCTP_OK: its TSN is new, and `complete` becomes 1 where
-    /// a message of its stream became complete with it, else 0; of the chunk its user data alone are copied. SCTP_REPEAT: its TSN came before;
+    /// Takes the bytes of a DATA chunk, without its padding or with it (RFC 4960 6.2). SCTPR_OK: its TSN is new, and `complete` becomes 1 where
+    /// a message of its stream became complete with it, else 0; of the chunk its user data alone are copied. SCTPR_REPEAT: its TSN came before;
     /// the next SACK reports it as a duplicate, but a receiver with limits notes no more of them than one SACK can report, 16,379.
-    /// Refuses with an error of bytes that are no DATA chunk, and, of a new TSN, in this order, with SCTP_SSN_TOO_FAR, SCTP_TSN_OPPOSITE,
-    /// SCTP_TSN_TOO_FAR, SCTP_WINDOW_FULL, SCTP_STREAM_UNKNOWN, SCTP_MESSAGE_TOO_LARGE, SCTP_NO_MEMORY: nothing is acknowledged then, and
-    /// the chunk may come again. `complete` stays, but with SCTP_OK.
-    pub fn sctp_receiver_data(receiver: *mut sctp_receiver, chunk: *const u8, length: usize, complete: *mut u8) -> sctp_code;
+    /// Refuses with an error of bytes that are no DATA chunk, and, of a new TSN, in this order, with SCTPR_SSN_TOO_FAR, SCTPR_TSN_OPPOSITE,
+    /// SCTPR_TSN_TOO_FAR, SCTPR_WINDOW_FULL, SCTPR_STREAM_UNKNOWN, SCTPR_MESSAGE_TOO_LARGE, SCTPR_NO_MEMORY: nothing is acknowledged then, and
+    /// the chunk may come again. `complete` stays, but with SCTPR_OK.
+    pub fn sctpr_receiver_data(receiver: *mut sctpr_receiver, chunk: *const u8, length: usize, complete: *mut u8) -> sctpr_code;
 
-    /// Takes the TSN of a DATA chunk that is dropped, as one of a stream that is not open (RFC 4960 6.5): it counts as come. SCTP_OK and
-    /// SCTP_REPEAT as above. SCTP_TSN_OPPOSITE, SCTP_TSN_TOO_FAR, SCTP_WINDOW_FULL, SCTP_NO_MEMORY.
-    pub fn sctp_receiver_discard(receiver: *mut sctp_receiver, tsn: u32) -> sctp_code;
+    /// Takes the TSN of a DATA chunk that is dropped, as one of a stream that is not open (RFC 4960 6.5): it counts as come. SCTPR_OK and
+    /// SCTPR_REPEAT as above. SCTPR_TSN_OPPOSITE, SCTPR_TSN_TOO_FAR, SCTPR_WINDOW_FULL, SCTPR_NO_MEMORY.
+    pub fn sctpr_receiver_discard(receiver: *mut sctpr_receiver, tsn: u32) -> sctpr_code;
 
-    /// Takes the bytes of a FORWARD-TSN (RFC 3758 3.6). SCTP_OK: it was past the cumulative TSN, and was followed. SCTP_STALE: it was not, and
-    /// changed nothing. Refuses with an error of bytes that are no FORWARD-TSN, and with SCTP_NAMED_STREAM_UNKNOWN, SCTP_NAMED_SSN_TOO_FAR,
-    /// SCTP_TSN_OPPOSITE, SCTP_NO_MEMORY.
-    pub fn sctp_receiver_forward_tsn(receiver: *mut sctp_receiver, chunk: *const u8, length: usize) -> sctp_code;
+    /// Takes the bytes of a FORWARD-TSN (RFC 3758 3.6). SCTPR_OK: it was past the cumulative TSN, and was followed. SCTPR_STALE: it was not, and
+    /// changed nothing. Refuses with an error of bytes that are no FORWARD-TSN, and with SCTPR_NAMED_STREAM_UNKNOWN, SCTPR_NAMED_SSN_TOO_FAR,
+    /// SCTPR_TSN_OPPOSITE, SCTPR_NO_MEMORY.
+    pub fn sctpr_receiver_forward_tsn(receiver: *mut sctpr_receiver, chunk: *const u8, length: usize) -> sctpr_code;
 
     /// The same, but what it names on a stream that is not open is passed over, as is right of one that was closed on purpose.
-    pub fn sctp_receiver_forward_tsn_past_closed(receiver: *mut sctp_receiver, chunk: *const u8, length: usize) -> sctp_code;
+    pub fn sctpr_receiver_forward_tsn_past_closed(receiver: *mut sctpr_receiver, chunk: *const u8, length: usize) -> sctpr_code;
 
     /// Tells the next message of a stream, and takes nothing out: `size` becomes its length in bytes, `payload_type` its payload type.
-    /// SCTP_NOTHING: there is none. SCTP_STREAM_UNKNOWN. Both stay, but with SCTP_OK.
-    pub fn sctp_receiver_next_length(receiver: *mut sctp_receiver, stream: u16, size: *mut usize, payload_type: *mut u32) -> sctp_code;
+    /// SCTPR_NOTHING: there is none. SCTPR_STREAM_UNKNOWN. Both stay, but with SCTPR_OK.
+    pub fn sctpr_receiver_next_length(receiver: *mut sctpr_receiver, stream: u16, size: *mut usize, payload_type: *mut u32) -> sctpr_code;
 
     /// Takes the next message of a stream out and copies it to the front of the buffer: an unordered one, else the ordered one that is due.
-    /// `size` becomes its length, `payload_type` its payload type. SCTP_NOTHING: there is none, and both stay. SCTP_STREAM_UNKNOWN, and both
-    /// stay; SCTP_SHORT_BUFFER, where the buffer is shorter: both are told, nothing is copied, and the message can still be read. It takes no
+    /// `size` becomes its length, `payload_type` its payload type. SCTPR_NOTHING: there is none, and both stay. SCTPR_STREAM_UNKNOWN, and both
+    /// stay; SCTPR_SHORT_BUFFER, where the buffer is shorter: both are told, nothing is copied, and the message can still be read. It takes no
     /// memory.
-    pub fn sctp_receiver_read(receiver: *mut sctp_receiver, stream: u16, out: *mut u8, room: usize, size: *mut usize, payload_type: *mut u32) -> sctp_code;
+    pub fn sctpr_receiver_read(receiver: *mut sctpr_receiver, stream: u16, out: *mut u8, room: usize, size: *mut usize, payload_type: *mut u32) -> sctpr_code;
 
     /// Writes the numbers of the streams with a message to read, in the order in which they were opened; `count` becomes how many there are.
-    /// SCTP_SHORT_BUFFER, where there is room for fewer: `count` is told, and nothing is written. SCTP_NO_MEMORY, and both stay.
-    pub fn sctp_receiver_readable_streams(receiver: *mut sctp_receiver, streams: *mut u16, room: usize, count: *mut usize) -> sctp_code;
+    /// SCTPR_SHORT_BUFFER, where there is room for fewer: `count` is told, and nothing is written. SCTPR_NO_MEMORY, and both stay.
+    pub fn sctpr_receiver_readable_streams(receiver: *mut sctpr_receiver, streams: *mut u16, room: usize, count: *mut usize) -> sctpr_code;
 
     /// Writes the SACK of what came (RFC 4960 3.3.4), with the window as its credit: first as many gap ack blocks as there is room for, then
     /// as many duplicates, which are forgotten; the other duplicates are kept for the next SACK. `written` becomes its length, a multiple of
-    /// four, 16 to 65,532. SCTP_SHORT_BUFFER under 16 bytes, SCTP_NO_MEMORY; `out` and `written` stay then.
-    pub fn sctp_receiver_sack(receiver: *mut sctp_receiver, out: *mut u8, room: usize, written: *mut usize) -> sctp_code;
+    /// four, 16 to 65,532. SCTPR_SHORT_BUFFER under 16 bytes, SCTPR_NO_MEMORY; `out` and `written` stay then.
+    pub fn sctpr_receiver_sack(receiver: *mut sctpr_receiver, out: *mut u8, room: usize, written: *mut usize) -> sctpr_code;
 
     /// The TSN up to which all came, or was skipped.
-    pub fn sctp_receiver_cumulative_tsn(receiver: *mut sctp_receiver) -> u32;
+    pub fn sctpr_receiver_cumulative_tsn(receiver: *mut sctpr_receiver) -> u32;
 
     /// The window to advertise, in bytes (RFC 4960 3.3.4), which a SACK has as its credit; 2^32 - 1 without limits.
-    pub fn sctp_receiver_window(receiver: *mut sctp_receiver) -> u32;
+    pub fn sctpr_receiver_window(receiver: *mut sctpr_receiver) -> u32;
 
-    /// What is held and was not read: its bytes, and 400 for each chunk; the greatest size_t where it is more.
-    pub fn sctp_receiver_held_bytes(receiver: *mut sctp_receiver) -> usize;
+    /// What is held and was not read: its bytes, and 200 for each chunk; the greatest size_t where it is more.
+    pub fn sctpr_receiver_held_bytes(receiver: *mut sctpr_receiver) -> usize;
 
     /// Makes a sender with no stream, whose first chunk gets `first_tsn`. A chunk has `fragment_size` bytes of user data at most, 1 to 65,519,
-    /// a message `max_message_size`. `out` becomes its handle. SCTP_INVALID, SCTP_NO_MEMORY; `out` stays then.
-    pub fn sctp_sender_new(first_tsn: u32, fragment_size: u32, max_message_size: u32, out: *mut sctp_sender) -> sctp_code;
+    /// a message `max_message_size`. `out` becomes its handle. SCTPR_INVALID, SCTPR_NO_MEMORY; `out` stays then.
+    pub fn sctpr_sender_new(first_tsn: u32, fragment_size: u32, max_message_size: u32, out: *mut sctpr_sender) -> sctpr_code;
 
     /// Frees a sender and all that it holds. The handle is not used again.
-    pub fn sctp_sender_free(sender: sctp_sender);
+    pub fn sctpr_sender_free(sender: sctpr_sender);
 
-    /// Opens a stream, ordered and reliable. SCTP_STREAM_OPEN, SCTP_NO_MEMORY.
-    pub fn sctp_sender_open(sender: *mut sctp_sender, stream: u16) -> sctp_code;
+    /// Opens a stream, ordered and reliable. SCTPR_STREAM_OPEN, SCTPR_NO_MEMORY.
+    pub fn sctpr_sender_open(sender: *mut sctpr_sender, stream: u16) -> sctpr_code;
 
     /// Closes a stream, where it is open. What waits and is in flight of it goes on. It takes no memory. Open it again only once
-    /// sctp_sender_is_drained says 1: what then leaves would else lower the new amount.
-    pub fn sctp_sender_close(sender: *mut sctp_sender, stream: u16);
+    /// sctpr_sender_is_drained says 1: what then leaves would else lower the new amount.
+    pub fn sctpr_sender_close(sender: *mut sctpr_sender, stream: u16);
 
-    pub fn sctp_sender_set_mode(sender: *mut sctp_sender, stream: u16, unordered: u8, reliability: u32, value: u32) -> sctp_code;
+    pub fn sctpr_sender_set_mode(sender: *mut sctpr_sender, stream: u16, unordered: u8, reliability: u32, value: u32) -> sctpr_code;
 
     /// Sets how many bytes of user data a chunk of a later write has at most, on each stream, 1 to 65,519, as where the path MTU changes
-    /// (RFC 4821). SCTP_INVALID.
-    pub fn sctp_sender_set_fragment_size(sender: *mut sctp_sender, size: u32) -> sctp_code;
+    /// (RFC 4821). SCTPR_INVALID.
+    pub fn sctpr_sender_set_fragment_size(sender: *mut sctpr_sender, size: u32) -> sctpr_code;
 
-    /// Sets the buffered amount of a stream, in bytes, down to which a fall is told by `is_low` of the rows below. SCTP_STREAM_UNKNOWN.
-    pub fn sctp_sender_set_low_threshold(sender: *mut sctp_sender, stream: u16, bytes: usize) -> sctp_code;
+    /// Sets the buffered amount of a stream, in bytes, down to which a fall is told by `is_low` of the rows below. SCTPR_STREAM_UNKNOWN.
+    pub fn sctpr_sender_set_low_threshold(sender: *mut sctpr_sender, stream: u16, bytes: usize) -> sctpr_code;
 
-    /// Resets a stream (RFC 6525 5.1.2): its next ordered message has the number 0. SCTP_STREAM_UNKNOWN; SCTP_STREAM_BUSY, where something of
+    /// Resets a stream (RFC 6525 5.1.2): its next ordered message has the number 0. SCTPR_STREAM_UNKNOWN; SCTPR_STREAM_BUSY, where something of
     /// it waits or is in flight.
-    pub fn sctp_sender_reset(sender: *mut sctp_sender, stream: u16) -> sctp_code;
+    pub fn sctpr_sender_reset(sender: *mut sctpr_sender, stream: u16) -> sctpr_code;
 
     /// Takes a copy of a message of one byte or more: its fragments wait. `number` becomes its number, `fragments` how many chunks it has.
-    /// SCTP_NOTHING: the message has no bytes, and nothing changed (RFC 8831 6.6 sends one byte in their place). SCTP_STREAM_UNKNOWN,
-    /// SCTP_MESSAGE_TOO_LARGE, SCTP_QUEUE_FULL, SCTP_NO_MEMORY. Both stay, but with SCTP_OK.
-    pub fn sctp_sender_write(sender: *mut sctp_sender, stream: u16, payload_type: u32, message: *const u8, length: usize, number: *mut u64, fragments: *mut usize) -> sctp_code;
+    /// SCTPR_NOTHING: the message has no bytes, and nothing changed (RFC 8831 6.6 sends one byte in their place). SCTPR_STREAM_UNKNOWN,
+    /// SCTPR_MESSAGE_TOO_LARGE, SCTPR_QUEUE_FULL, SCTPR_NO_MEMORY. Both stay, but with SCTPR_OK.
+    pub fn sctpr_sender_write(sender: *mut sctpr_sender, stream: u16, payload_type: u32, message: *const u8, length: usize, number: *mut u64, fragments: *mut usize) -> sctpr_code;
 
-    /// Starts the lifetimes of the messages written since the last time. sctp_sender_send_next does so too.
-    pub fn sctp_sender_start(sender: *mut sctp_sender, now: u64);
+    /// Starts the lifetimes of the messages written since the last time. sctpr_sender_send_next does so too.
+    pub fn sctpr_sender_start(sender: *mut sctpr_sender, now: u64);
 
     /// Puts the fragment that is next in flight under the next TSN, which `tsn` becomes, and writes its DATA chunk with its padding. `written`
-    /// becomes how many bytes that are. SCTP_NOTHING: nothing waits. SCTP_SHORT_BUFFER, where the buffer is shorter: it goes on waiting, and
-    /// `written` is what is wanted; SCTP_TSNS_USED_UP, where 2^31 - 1 chunks are in flight; SCTP_SSNS_USED_UP, where it begins an ordered
-    /// message 2^14 or more past the first one of its stream in flight; SCTP_NO_MEMORY. `out` and `tsn` stay, but with SCTP_OK.
-    pub fn sctp_sender_send_next(sender: *mut sctp_sender, now: u64, out: *mut u8, room: usize, written: *mut usize, tsn: *mut u32) -> sctp_code;
+    /// becomes how many bytes that are. SCTPR_NOTHING: nothing waits. SCTPR_SHORT_BUFFER, where the buffer is shorter: it goes on waiting, and
+    /// `written` is what is wanted; SCTPR_TSNS_USED_UP, where 2^31 - 1 chunks are in flight; SCTPR_SSNS_USED_UP, where it begins an ordered
+    /// message 2^14 or more past the first one of its stream in flight; SCTPR_NO_MEMORY. `out` and `tsn` stay, but with SCTPR_OK.
+    pub fn sctpr_sender_send_next(sender: *mut sctpr_sender, now: u64, out: *mut u8, room: usize, written: *mut usize, tsn: *mut u32) -> sctpr_code;
 
     /// Sends a chunk in flight again: writes it with its padding, counts that, notes `now`, and takes its mark. `written` becomes how many
-    /// bytes that are. SCTP_SHORT_BUFFER, where the buffer is shorter: `written` is what is wanted; SCTP_NOT_IN_FLIGHT, where none is, or it
-    /// is acknowledged or abandoned; SCTP_NO_MEMORY. `out` stays, but with SCTP_OK.
-    pub fn sctp_sender_resend(sender: *mut sctp_sender, tsn: u32, now: u64, out: *mut u8, room: usize, written: *mut usize) -> sctp_code;
+    /// bytes that are. SCTPR_SHORT_BUFFER, where the buffer is shorter: `written` is what is wanted; SCTPR_NOT_IN_FLIGHT, where none is, or it
+    /// is acknowledged or abandoned; SCTPR_NO_MEMORY. `out` stays, but with SCTPR_OK.
+    pub fn sctpr_sender_resend(sender: *mut sctpr_sender, tsn: u32, now: u64, out: *mut u8, room: usize, written: *mut usize) -> sctpr_code;
 
     /// Marks each chunk in flight that is neither acknowledged nor abandoned for retransmission, as where the timer T3-rtx runs out (RFC 4960
     /// 6.3.3 E3).
-    pub fn sctp_sender_retransmit_all(sender: *mut sctp_sender);
+    pub fn sctpr_sender_retransmit_all(sender: *mut sctpr_sender);
 
     /// Counts each chunk in flight whose TSN is before this one, and that is neither acknowledged nor abandoned, as missing once more, and
     /// marks for retransmission what is missing for the third time (RFC 4960 7.2.4). Answers how many are marked now.
-    pub fn sctp_sender_add_miss_indications(sender: *mut sctp_sender, before: u32) -> usize;
+    pub fn sctpr_sender_add_miss_indications(sender: *mut sctpr_sender, before: u32) -> usize;
 
-    /// The chunk in flight with a TSN. SCTP_NOT_IN_FLIGHT, and `row` stays.
-    pub fn sctp_sender_in_flight(sender: *mut sctp_sender, tsn: u32, row: *mut sctp_in_flight) -> sctp_code;
+    /// The chunk in flight with a TSN. SCTPR_NOT_IN_FLIGHT, and `row` stays.
+    pub fn sctpr_sender_in_flight(sender: *mut sctpr_sender, tsn: u32, row: *mut sctpr_in_flight) -> sctpr_code;
 
-    /// The chunk in flight at a place: the first has the place 0, and the TSN past sctp_sender_acked_tsn. SCTP_NOTHING: there are no more.
-    pub fn sctp_sender_in_flight_at(sender: *mut sctp_sender, place: usize, row: *mut sctp_in_flight) -> sctp_code;
+    /// The chunk in flight at a place: the first has the place 0, and the TSN past sctpr_sender_acked_tsn. SCTPR_NOTHING: there are no more.
+    pub fn sctpr_sender_in_flight_at(sender: *mut sctpr_sender, place: usize, row: *mut sctpr_in_flight) -> sctpr_code;
 
-    /// The first chunk in flight that is marked for retransmission; sctp_sender_resend takes the mark. SCTP_NOTHING: there is none.
-    pub fn sctp_sender_next_to_retransmit(sender: *mut sctp_sender, row: *mut sctp_in_flight) -> sctp_code;
+    /// The first chunk in flight that is marked for retransmission; sctpr_sender_resend takes the mark. SCTPR_NOTHING: there is none.
+    pub fn sctpr_sender_next_to_retransmit(sender: *mut sctpr_sender, row: *mut sctpr_in_flight) -> sctpr_code;
 
-    /// Takes the bytes of a SACK (RFC 4960 6.2.1). SCTP_OK: `count` becomes how many chunks it reports anew, and the first so many `rows` tell
-    /// of them, in the order of their TSNs. SCTP_STALE: its cumulative TSN is before sctp_sender_acked_tsn; `count` becomes 0, and nothing else
-    /// changed. SCTP_SHORT_BUFFER, where there are fewer rows than sctp_sender_chunks_in_flight, so that no row is ever lost: `count` becomes
-    /// how many are wanted. Refuses with an error of bytes that are no SACK, with SCTP_SACK_BEYOND_SENT and SCTP_SACK_BAD_GAP, where it reports
-    /// what is not in flight, and with SCTP_NO_MEMORY. `rows` stay then, and `count` too but for the first.
-    pub fn sctp_sender_acked(sender: *mut sctp_sender, chunk: *const u8, length: usize, rows: *mut sctp_acked, room: usize, count: *mut usize) -> sctp_code;
+    /// Takes the bytes of a SACK (RFC 4960 6.2.1). SCTPR_OK: `count` becomes how many chunks it reports anew, and the first so many `rows` tell
+    /// of them, in the order of their TSNs. SCTPR_STALE: its cumulative TSN is before sctpr_sender_acked_tsn; `count` becomes 0, and nothing else
+    /// changed. SCTPR_SHORT_BUFFER, where there are fewer rows than sctpr_sender_chunks_in_flight, so that no row is ever lost: `count` becomes
+    /// how many are wanted. Refuses with an error of bytes that are no SACK, with SCTPR_SACK_BEYOND_SENT and SCTPR_SACK_BAD_GAP, where it reports
+    /// what is not in flight, and with SCTPR_NO_MEMORY. `rows` stay then, and `count` too but for the first.
+    pub fn sctpr_sender_acked(sender: *mut sctpr_sender, chunk: *const u8, length: usize, rows: *mut sctpr_acked, room: usize, count: *mut usize) -> sctpr_code;
 
-    /// Takes the TSN of a SHUTDOWN, as sctp_read_shutdown tells it (RFC 4960 3.3.8, 9.2): as a SACK with this cumulative TSN and no gap ack
-    /// block, with rows, count and codes as above. It is not handed to sctp_sender_take_back: a SHUTDOWN can't tell of gaps (3.3.8).
-    pub fn sctp_sender_acked_up_to(sender: *mut sctp_sender, tsn: u32, rows: *mut sctp_acked, room: usize, count: *mut usize) -> sctp_code;
+    /// Takes the TSN of a SHUTDOWN, as sctpr_read_shutdown tells it (RFC 4960 3.3.8, 9.2): as a SACK with this cumulative TSN and no gap ack
+    /// block, with rows, count and codes as above. It is not handed to sctpr_sender_take_back: a SHUTDOWN can't tell of gaps (3.3.8).
+    pub fn sctpr_sender_acked_up_to(sender: *mut sctpr_sender, tsn: u32, rows: *mut sctpr_acked, room: usize, count: *mut usize) -> sctpr_code;
 
     /// From here on what gap ack blocks report is kept until the cumulative TSN passes it, so that it can be taken back.
-    /// SCTP_CHUNKS_IN_FLIGHT, where any chunk is in flight.
-    pub fn sctp_sender_keep_reported(sender: *mut sctp_sender) -> sctp_code;
+    /// SCTPR_CHUNKS_IN_FLIGHT, where any chunk is in flight.
+    pub fn sctpr_sender_keep_reported(sender: *mut sctpr_sender) -> sctpr_code;
 
     /// Takes back what a SACK no longer reports (RFC 4960 6.2.1 D iv). A SACK that comes late, with the same cumulative TSN, takes back what
-    /// a later one reported, and the next one reports it anew. Call it before sctp_sender_acked with the same SACK. Rows, count and codes are
-    /// as there, with a row for each chunk that comes back, and none without sctp_sender_keep_reported; and SCTP_QUEUE_FULL, where all bytes
+    /// a later one reported, and the next one reports it anew. Call it before sctpr_sender_acked with the same SACK. Rows, count and codes are
+    /// as there, with a row for each chunk that comes back, and none without sctpr_sender_keep_reported; and SCTPR_QUEUE_FULL, where all bytes
     /// would be more than the greatest size_t.
-    pub fn sctp_sender_take_back(sender: *mut sctp_sender, chunk: *const u8, length: usize, rows: *mut sctp_taken_back, room: usize, count: *mut usize) -> sctp_code;
+    pub fn sctpr_sender_take_back(sender: *mut sctpr_sender, chunk: *const u8, length: usize, rows: *mut sctpr_taken_back, room: usize, count: *mut usize) -> sctpr_code;
 
     /// Abandons the message of a chunk in flight (RFC 3758 3.5): `row` tells of it, with no bytes where it was abandoned before.
-    /// SCTP_NOT_IN_FLIGHT; and, only where some of the message still waits, SCTP_TSNS_USED_UP and SCTP_NO_MEMORY. `row` stays then.
-    pub fn sctp_sender_abandon(sender: *mut sctp_sender, tsn: u32, row: *mut sctp_abandoned) -> sctp_code;
+    /// SCTPR_NOT_IN_FLIGHT; and, only where some of the message still waits, SCTPR_TSNS_USED_UP and SCTPR_NO_MEMORY. `row` stays then.
+    pub fn sctpr_sender_abandon(sender: *mut sctpr_sender, tsn: u32, row: *mut sctpr_abandoned) -> sctpr_code;
 
-    /// Removes the message in front, where it is past its deadline and wholly unsent. SCTP_NOTHING: there is no such message. Call it until it
+    /// Removes the message in front, where it is past its deadline and wholly unsent. SCTPR_NOTHING: there is no such message. Call it until it
     /// says so.
-    pub fn sctp_sender_expire(sender: *mut sctp_sender, now: u64, row: *mut sctp_expired) -> sctp_code;
+    pub fn sctpr_sender_expire(sender: *mut sctpr_sender, now: u64, row: *mut sctpr_expired) -> sctpr_code;
 
-    /// Abandons the rest of the partially sent message in front, where it is past its deadline. SCTP_NOTHING: there is no such message.
-    /// SCTP_TSNS_USED_UP, SCTP_NO_MEMORY. `row` stays, but with SCTP_OK.
-    pub fn sctp_sender_expire_tail(sender: *mut sctp_sender, now: u64, row: *mut sctp_abandoned) -> sctp_code;
+    /// Abandons the rest of the partially sent message in front, where it is past its deadline. SCTPR_NOTHING: there is no such message.
+    /// SCTPR_TSNS_USED_UP, SCTPR_NO_MEMORY. `row` stays, but with SCTPR_OK.
+    pub fn sctpr_sender_expire_tail(sender: *mut sctpr_sender, now: u64, row: *mut sctpr_abandoned) -> sctpr_code;
 
     /// Abandons each message in flight that is past its deadline (RFC 3758 3.5, 4.1): `count` becomes how many, and the first so many `rows`
-    /// tell of them. SCTP_SHORT_BUFFER, where there are not more rows than sctp_sender_chunks_in_flight, so that no row is ever lost: `count`
-    /// becomes how many are in flight. SCTP_TSNS_USED_UP, SCTP_NO_MEMORY. `rows` stay then, and `count` too but for the first.
-    pub fn sctp_sender_expire_late(sender: *mut sctp_sender, now: u64, rows: *mut sctp_abandoned, room: usize, count: *mut usize) -> sctp_code;
+    /// tell of them. SCTPR_SHORT_BUFFER, where there are not more rows than sctpr_sender_chunks_in_flight, so that no row is ever lost: `count`
+    /// becomes how many are in flight. SCTPR_TSNS_USED_UP, SCTPR_NO_MEMORY. `rows` stay then, and `count` too but for the first.
+    pub fn sctpr_sender_expire_late(sender: *mut sctpr_sender, now: u64, rows: *mut sctpr_abandoned, room: usize, count: *mut usize) -> sctpr_code;
 
     /// Abandons each message in flight that was sent again as often as it may be (RFC 7496 3.1); never a DCEP message. Call it once chunks are
-    /// marked. Rows, count and refusals are those of sctp_sender_expire_late.
-    pub fn sctp_sender_expire_rexmit(sender: *mut sctp_sender, rows: *mut sctp_abandoned, room: usize, count: *mut usize) -> sctp_code;
+    /// marked. Rows, count and refusals are those of sctpr_sender_expire_late.
+    pub fn sctpr_sender_expire_rexmit(sender: *mut sctpr_sender, rows: *mut sctpr_abandoned, room: usize, count: *mut usize) -> sctpr_code;
 
     /// Writes the FORWARD-TSN that is to be sent (RFC 3758 3.5 C3, C4): up to the advanced ack point, or as far as its names fit the buffer.
-    /// `written` becomes its length, a multiple of four. SCTP_NOTHING: there is nothing to tell. SCTP_SHORT_BUFFER: nothing of it fits;
-    /// `written` becomes the length of all of it, 65,532 at most. SCTP_NO_MEMORY. `out` stays, but with SCTP_OK.
-    pub fn sctp_sender_forward_tsn(sender: *mut sctp_sender, out: *mut u8, room: usize, written: *mut usize) -> sctp_code;
+    /// `written` becomes its length, a multiple of four. SCTPR_NOTHING: there is nothing to tell. SCTPR_SHORT_BUFFER: nothing of it fits;
+    /// `written` becomes the length of all of it, 65,532 at most. SCTPR_NO_MEMORY. `out` stays, but with SCTPR_OK.
+    pub fn sctpr_sender_forward_tsn(sender: *mut sctpr_sender, out: *mut u8, room: usize, written: *mut usize) -> sctpr_code;
 
-    /// Writes the FORWARD-TSN up to a TSN, or to the last TSN before it at which a message ends. SCTP_NOTHING: no message ends up to there, or
-    /// the TSN is not past what is acknowledged, or is beyond the advanced ack point. SCTP_SHORT_BUFFER: `written` is what is wanted;
-    /// SCTP_LENGTH_TOO_LARGE, where it would name more than 16,381 streams; SCTP_NO_MEMORY. `out` stays, but with SCTP_OK.
-    pub fn sctp_sender_forward_tsn_to(sender: *mut sctp_sender, tsn: u32, out: *mut u8, room: usize, written: *mut usize) -> sctp_code;
+    /// Writes the FORWARD-TSN up to a TSN, or to the last TSN before it at which a message ends. SCTPR_NOTHING: no message ends up to there, or
+    /// the TSN is not past what is acknowledged, or is beyond the advanced ack point. SCTPR_SHORT_BUFFER: `written` is what is wanted;
+    /// SCTPR_LENGTH_TOO_LARGE, where it would name more than 16,381 streams; SCTPR_NO_MEMORY. `out` stays, but with SCTPR_OK.
+    pub fn sctpr_sender_forward_tsn_to(sender: *mut sctpr_sender, tsn: u32, out: *mut u8, room: usize, written: *mut usize) -> sctpr_code;
 
     /// The TSN that the next chunk gets (RFC 4960 6.1).
-    pub fn sctp_sender_next_tsn(sender: *mut sctp_sender) -> u32;
+    pub fn sctpr_sender_next_tsn(sender: *mut sctpr_sender) -> u32;
 
     /// The TSN up to which all was acknowledged (RFC 4960 6.2.1).
-    pub fn sctp_sender_acked_tsn(sender: *mut sctp_sender) -> u32;
+    pub fn sctpr_sender_acked_tsn(sender: *mut sctpr_sender) -> u32;
 
     /// The Advanced.Peer.Ack.Point (RFC 3758 3.5 C2).
-    pub fn sctp_sender_advanced_ack_point(sender: *mut sctp_sender) -> u32;
+    pub fn sctpr_sender_advanced_ack_point(sender: *mut sctpr_sender) -> u32;
 
     /// How many bytes of user data are in flight (RFC 4960 7.2): what is acknowledged or abandoned counts no more.
-    pub fn sctp_sender_bytes_in_flight(sender: *mut sctp_sender) -> usize;
+    pub fn sctpr_sender_bytes_in_flight(sender: *mut sctpr_sender) -> usize;
 
-    /// How many chunks are in flight: each TSN past sctp_sender_acked_tsn and before sctp_sender_next_tsn has one.
-    pub fn sctp_sender_chunks_in_flight(sender: *mut sctp_sender) -> usize;
+    /// How many chunks are in flight: each TSN past sctpr_sender_acked_tsn and before sctpr_sender_next_tsn has one.
+    pub fn sctpr_sender_chunks_in_flight(sender: *mut sctpr_sender) -> usize;
 
-    /// The first TSN in flight that is neither acknowledged nor abandoned (RFC 4960 6.3.3). SCTP_NOTHING: there is none, and `tsn` stays.
-    pub fn sctp_sender_earliest_outstanding(sender: *mut sctp_sender, tsn: *mut u32) -> sctp_code;
+    /// The first TSN in flight that is neither acknowledged nor abandoned (RFC 4960 6.3.3). SCTPR_NOTHING: there is none, and `tsn` stays.
+    pub fn sctpr_sender_earliest_outstanding(sender: *mut sctpr_sender, tsn: *mut u32) -> sctpr_code;
 
     /// How many fragments wait.
-    pub fn sctp_sender_pending(sender: *mut sctp_sender) -> usize;
+    pub fn sctpr_sender_pending(sender: *mut sctpr_sender) -> usize;
 
-    /// How many bytes of user data of a stream wait or are in flight. SCTP_STREAM_UNKNOWN, and `amount` stays.
-    pub fn sctp_sender_buffered_amount(sender: *mut sctp_sender, stream: u16, amount: *mut usize) -> sctp_code;
+    /// How many bytes of user data of a stream wait or are in flight. SCTPR_STREAM_UNKNOWN, and `amount` stays.
+    pub fn sctpr_sender_buffered_amount(sender: *mut sctpr_sender, stream: u16, amount: *mut usize) -> sctpr_code;
 
     /// 1 where nothing of a stream waits or is in flight, so that it can be reset (RFC 6525 5.1.2), else 0.
-    pub fn sctp_sender_is_drained(sender: *mut sctp_sender, stream: u16) -> u8;
+    pub fn sctpr_sender_is_drained(sender: *mut sctpr_sender, stream: u16) -> u8;
 }

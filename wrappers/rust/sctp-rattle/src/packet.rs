@@ -2,11 +2,11 @@
 
 use crate::{done, sys, Error, Result};
 
-pub use sys::sctp_any_chunk as AnyChunkRow;
-pub use sys::sctp_chunk as ChunkRow;
-pub use sys::sctp_gap as Gap;
-pub use sys::sctp_head as Head;
-pub use sys::sctp_skip as Skip;
+pub use sys::sctpr_any_chunk as AnyChunkRow;
+pub use sys::sctpr_chunk as ChunkRow;
+pub use sys::sctpr_gap as Gap;
+pub use sys::sctpr_head as Head;
+pub use sys::sctpr_skip as Skip;
 
 /// A packet that was read: its header, and where its chunks lie.
 #[derive(Clone, Copy, Debug)]
@@ -64,7 +64,7 @@ impl<'a, 'r> Packet<'a, 'r> {
         let (mut head, mut count) = (Head::default(), 0);
         // SAFETY: pointers and lengths are those of slices, rows are borrowed exclusively, and head and count are values of this function.
         let code =
-            unsafe { sys::sctp_read_packet(datagram.as_ptr(), datagram.len(), &mut head, rows.as_mut_ptr(), rows.len(), &mut count) };
+            unsafe { sys::sctpr_read_packet(datagram.as_ptr(), datagram.len(), &mut head, rows.as_mut_ptr(), rows.len(), &mut count) };
         Packet::of(code, datagram, rows, head, count)
     }
 
@@ -73,12 +73,12 @@ impl<'a, 'r> Packet<'a, 'r> {
         let (mut head, mut count) = (Head::default(), 0);
         // SAFETY: as in `read`.
         let code = unsafe {
-            sys::sctp_read_packet_with_sum(datagram.as_ptr(), datagram.len(), sum, &mut head, rows.as_mut_ptr(), rows.len(), &mut count)
+            sys::sctpr_read_packet_with_sum(datagram.as_ptr(), datagram.len(), sum, &mut head, rows.as_mut_ptr(), rows.len(), &mut count)
         };
         Packet::of(code, datagram, rows, head, count)
     }
 
-    fn of(code: sys::sctp_code, bytes: &'a [u8], rows: &'r [ChunkRow], head: Head, count: usize) -> Result<Packet<'a, 'r>> {
+    fn of(code: sys::sctpr_code, bytes: &'a [u8], rows: &'r [ChunkRow], head: Head, count: usize) -> Result<Packet<'a, 'r>> {
         let rows = &rows[..rows.len().min(count)];
         done(code, Packet { bytes, rows, head, count }, 0)
     }
@@ -117,7 +117,7 @@ impl<'a, 'r> AnyPacket<'a, 'r> {
         let (mut head, mut count) = (Head::default(), 0);
         // SAFETY: as in `Packet::read`.
         let code =
-            unsafe { sys::sctp_read_any_packet(datagram.as_ptr(), datagram.len(), &mut head, rows.as_mut_ptr(), rows.len(), &mut count) };
+            unsafe { sys::sctpr_read_any_packet(datagram.as_ptr(), datagram.len(), &mut head, rows.as_mut_ptr(), rows.len(), &mut count) };
         AnyPacket::of(code, datagram, rows, head, count)
     }
 
@@ -127,12 +127,12 @@ impl<'a, 'r> AnyPacket<'a, 'r> {
         // SAFETY: as in `Packet::read`.
         let code = unsafe {
             let room = rows.len();
-            sys::sctp_read_any_packet_with_sum(datagram.as_ptr(), datagram.len(), sum, &mut head, rows.as_mut_ptr(), room, &mut count)
+            sys::sctpr_read_any_packet_with_sum(datagram.as_ptr(), datagram.len(), sum, &mut head, rows.as_mut_ptr(), room, &mut count)
         };
         AnyPacket::of(code, datagram, rows, head, count)
     }
 
-    fn of(code: sys::sctp_code, bytes: &'a [u8], rows: &'r [AnyChunkRow], head: Head, count: usize) -> Result<AnyPacket<'a, 'r>> {
+    fn of(code: sys::sctpr_code, bytes: &'a [u8], rows: &'r [AnyChunkRow], head: Head, count: usize) -> Result<AnyPacket<'a, 'r>> {
         let rows = &rows[..rows.len().min(count)];
         done(code, AnyPacket { bytes, rows, head, count }, 0)
     }
@@ -175,9 +175,9 @@ pub struct Data<'a> {
 
 /// Reads a DATA chunk.
 pub fn read_data(chunk: &[u8]) -> Result<Data<'_>> {
-    let mut d = sys::sctp_data::default();
+    let mut d = sys::sctpr_data::default();
     // SAFETY: pointer and length are those of a slice, and d is a value of this function.
-    done(unsafe { sys::sctp_read_data(chunk.as_ptr(), chunk.len(), &mut d) }, (), 0)?;
+    done(unsafe { sys::sctpr_read_data(chunk.as_ptr(), chunk.len(), &mut d) }, (), 0)?;
     Ok(Data {
         tsn: d.tsn,
         stream: d.stream,
@@ -210,11 +210,11 @@ pub struct Sack<'r> {
 
 /// Reads a SACK.
 pub fn read_sack<'r>(chunk: &[u8], blocks: &'r mut [Gap], duplicates: &'r mut [u32]) -> Result<Sack<'r>> {
-    let mut s = sys::sctp_sack::default();
+    let mut s = sys::sctpr_sack::default();
     // SAFETY: pointers and lengths are those of slices, what is written is borrowed exclusively, and s is a value of this function.
     let code = unsafe {
         let (b, d) = (blocks.as_mut_ptr(), duplicates.as_mut_ptr());
-        sys::sctp_read_sack(chunk.as_ptr(), chunk.len(), &mut s, b, blocks.len(), d, duplicates.len())
+        sys::sctpr_read_sack(chunk.as_ptr(), chunk.len(), &mut s, b, blocks.len(), d, duplicates.len())
     };
     done(code, (), 0)?;
     Ok(Sack {
@@ -242,7 +242,7 @@ pub struct ForwardTsn<'r> {
 pub fn read_forward_tsn<'r>(chunk: &[u8], rows: &'r mut [Skip]) -> Result<ForwardTsn<'r>> {
     let (mut tsn, mut count) = (0, 0);
     // SAFETY: pointers and lengths are those of slices, rows are borrowed exclusively, and tsn and count are values of this function.
-    let code = unsafe { sys::sctp_read_forward_tsn(chunk.as_ptr(), chunk.len(), &mut tsn, rows.as_mut_ptr(), rows.len(), &mut count) };
+    let code = unsafe { sys::sctpr_read_forward_tsn(chunk.as_ptr(), chunk.len(), &mut tsn, rows.as_mut_ptr(), rows.len(), &mut count) };
     done(code, (), 0)?;
     Ok(ForwardTsn { new_cumulative_tsn: tsn, streams: &rows[..rows.len().min(count)], count })
 }
@@ -266,9 +266,9 @@ pub struct Init {
 
 /// Reads an INIT or INIT-ACK, and its parameters.
 pub fn read_init(chunk: &[u8]) -> Result<(Init, Params<'_>)> {
-    let mut i = sys::sctp_init::default();
+    let mut i = sys::sctpr_init::default();
     // SAFETY: pointer and length are those of a slice, and i is a value of this function.
-    done(unsafe { sys::sctp_read_init(chunk.as_ptr(), chunk.len(), &mut i) }, (), 0)?;
+    done(unsafe { sys::sctpr_read_init(chunk.as_ptr(), chunk.len(), &mut i) }, (), 0)?;
     let init = Init {
         initiate_tag: i.initiate_tag,
         credit: i.credit,
@@ -284,7 +284,7 @@ pub fn read_init(chunk: &[u8]) -> Result<(Init, Params<'_>)> {
 pub fn read_shutdown(chunk: &[u8]) -> Result<u32> {
     let mut tsn = 0;
     // SAFETY: pointer and length are those of a slice, and tsn is a value of this function.
-    done(unsafe { sys::sctp_read_shutdown(chunk.as_ptr(), chunk.len(), &mut tsn) }, (), 0)?;
+    done(unsafe { sys::sctpr_read_shutdown(chunk.as_ptr(), chunk.len(), &mut tsn) }, (), 0)?;
     Ok(tsn)
 }
 
@@ -319,10 +319,10 @@ impl<'a> Iterator for Causes<'a> {
         if bytes.is_empty() {
             return None;
         }
-        let mut c = sys::sctp_cause::default();
+        let mut c = sys::sctpr_cause::default();
         // SAFETY: pointer and length are those of a slice, and c is a value of this function.
-        let code = unsafe { sys::sctp_read_cause(bytes.as_ptr(), bytes.len(), &mut c) };
-        if code != sys::SCTP_OK {
+        let code = unsafe { sys::sctpr_read_cause(bytes.as_ptr(), bytes.len(), &mut c) };
+        if code != sys::SCTPR_OK {
             return Some(Err(Error::of_code(code, 0)));
         }
         self.rest = bytes.get(c.next..).unwrap_or_default();
@@ -360,10 +360,10 @@ impl<'a> Iterator for Params<'a> {
         if bytes.is_empty() {
             return None;
         }
-        let mut p = sys::sctp_param::default();
+        let mut p = sys::sctpr_param::default();
         // SAFETY: pointer and length are those of a slice, and p is a value of this function.
-        let code = unsafe { sys::sctp_read_param(bytes.as_ptr(), bytes.len(), &mut p) };
-        if code != sys::SCTP_OK {
+        let code = unsafe { sys::sctpr_read_param(bytes.as_ptr(), bytes.len(), &mut p) };
+        if code != sys::SCTPR_OK {
             return Some(Err(Error::of_code(code, 0)));
         }
         self.rest = bytes.get(p.next..).unwrap_or_default();
@@ -375,7 +375,7 @@ impl<'a> Iterator for Params<'a> {
 pub fn write_chunk(kind: u8, value: &[u8], out: &mut [u8]) -> Result<usize> {
     let mut n = 0;
     // SAFETY: pointers and lengths are those of slices, out is borrowed exclusively, and n is a value of this function.
-    let code = unsafe { sys::sctp_write_chunk(kind, value.as_ptr(), value.len(), out.as_mut_ptr(), out.len(), &mut n) };
+    let code = unsafe { sys::sctpr_write_chunk(kind, value.as_ptr(), value.len(), out.as_mut_ptr(), out.len(), &mut n) };
     done(code, n, n)
 }
 
@@ -383,7 +383,7 @@ pub fn write_chunk(kind: u8, value: &[u8], out: &mut [u8]) -> Result<usize> {
 pub fn write_chunk_with_flags(kind: u8, flags: u8, value: &[u8], out: &mut [u8]) -> Result<usize> {
     let mut n = 0;
     // SAFETY: as in `write_chunk`.
-    let code = unsafe { sys::sctp_write_chunk_with_flags(kind, flags, value.as_ptr(), value.len(), out.as_mut_ptr(), out.len(), &mut n) };
+    let code = unsafe { sys::sctpr_write_chunk_with_flags(kind, flags, value.as_ptr(), value.len(), out.as_mut_ptr(), out.len(), &mut n) };
     done(code, n, n)
 }
 
@@ -391,14 +391,14 @@ pub fn write_chunk_with_flags(kind: u8, flags: u8, value: &[u8], out: &mut [u8])
 pub fn write_cause(cause: u16, value: &[u8], out: &mut [u8]) -> Result<usize> {
     let mut n = 0;
     // SAFETY: as in `write_chunk`.
-    let code = unsafe { sys::sctp_write_cause(cause, value.as_ptr(), value.len(), out.as_mut_ptr(), out.len(), &mut n) };
+    let code = unsafe { sys::sctpr_write_cause(cause, value.as_ptr(), value.len(), out.as_mut_ptr(), out.len(), &mut n) };
     done(code, n, n)
 }
 
 /// Writes an INIT or INIT-ACK. The parameters are as [`write_param`] writes them, one behind the other.
 pub fn write_init(init: &Init, params: &[u8], out: &mut [u8]) -> Result<usize> {
     let mut n = 0;
-    let init = sys::sctp_init {
+    let init = sys::sctpr_init {
         initiate_tag: init.initiate_tag,
         credit: init.credit,
         initial_tsn: init.initial_tsn,
@@ -407,7 +407,7 @@ pub fn write_init(init: &Init, params: &[u8], out: &mut [u8]) -> Result<usize> {
         is_ack: init.is_ack as u8,
     };
     // SAFETY: as in `write_chunk`, and init is a value of this function.
-    let code = unsafe { sys::sctp_write_init(&init, params.as_ptr(), params.len(), out.as_mut_ptr(), out.len(), &mut n) };
+    let code = unsafe { sys::sctpr_write_init(&init, params.as_ptr(), params.len(), out.as_mut_ptr(), out.len(), &mut n) };
     done(code, n, n)
 }
 
@@ -415,24 +415,24 @@ pub fn write_init(init: &Init, params: &[u8], out: &mut [u8]) -> Result<usize> {
 pub fn write_param(kind: u16, value: &[u8], out: &mut [u8]) -> Result<usize> {
     let mut n = 0;
     // SAFETY: as in `write_chunk`.
-    let code = unsafe { sys::sctp_write_param(kind, value.as_ptr(), value.len(), out.as_mut_ptr(), out.len(), &mut n) };
+    let code = unsafe { sys::sctpr_write_param(kind, value.as_ptr(), value.len(), out.as_mut_ptr(), out.len(), &mut n) };
     done(code, n, n)
 }
 
 /// Writes header and CRC-32C into the first twelve bytes of a packet.
 pub fn seal_packet(head: &Head, packet: &mut [u8]) -> Result<()> {
     // SAFETY: pointer and length are those of a slice that is borrowed exclusively, and head is a reference.
-    done(unsafe { sys::sctp_seal_packet(head, packet.as_mut_ptr(), packet.len()) }, (), 12)
+    done(unsafe { sys::sctpr_seal_packet(head, packet.as_mut_ptr(), packet.len()) }, (), 12)
 }
 
 /// The header, with zeros in the checksum's place: the first step of sealing under a sum that the caller takes, of all of the packet.
 pub fn write_head(head: &Head, packet: &mut [u8]) -> Result<()> {
     // SAFETY: as in `seal_packet`.
-    done(unsafe { sys::sctp_write_head(head, packet.as_mut_ptr(), packet.len()) }, (), 12)
+    done(unsafe { sys::sctpr_write_head(head, packet.as_mut_ptr(), packet.len()) }, (), 12)
 }
 
 /// Puts the sum of a packet there.
 pub fn store_sum(sum: u32, packet: &mut [u8]) -> Result<()> {
     // SAFETY: pointer and length are those of a slice that is borrowed exclusively.
-    done(unsafe { sys::sctp_store_sum(sum, packet.as_mut_ptr(), packet.len()) }, (), 12)
+    done(unsafe { sys::sctpr_store_sum(sum, packet.as_mut_ptr(), packet.len()) }, (), 12)
 }

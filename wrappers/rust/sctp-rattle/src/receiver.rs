@@ -6,7 +6,7 @@ use core::fmt;
 
 /// The receiving half of an association: what came and was not read (RFC 4960 6.2, 6.5, 6.6, 6.9).
 pub struct Receiver {
-    handle: UnsafeCell<sys::sctp_receiver>,
+    handle: UnsafeCell<sys::sctpr_receiver>,
 }
 
 // SAFETY: the library has no global state, so that a receiver may go to another thread; the cell keeps it from being shared between two.
@@ -46,18 +46,18 @@ impl Receiver {
     /// A receiver with no stream, to which nothing came: `first_tsn` is expected next, a message may have `max_message_size` bytes. About
     /// `window` bytes are held at most, and no TSN farther than `reach` past the cumulative one.
     pub fn new(first_tsn: u32, max_message_size: u32, window: usize, reach: u32) -> Result<Receiver> {
-        let mut handle = sys::sctp_receiver { at: core::ptr::null_mut() };
+        let mut handle = sys::sctpr_receiver { at: core::ptr::null_mut() };
         // SAFETY: handle is a value of this function.
-        let code = unsafe { sys::sctp_receiver_new(first_tsn, max_message_size, window, reach, &mut handle) };
+        let code = unsafe { sys::sctpr_receiver_new(first_tsn, max_message_size, window, reach, &mut handle) };
         done(code, (), 0)?;
         Ok(Receiver { handle: UnsafeCell::new(handle) })
     }
 
     /// The same with no limits: for a peer that is trusted, or a replay.
     pub fn new_unlimited(first_tsn: u32, max_message_size: u32) -> Result<Receiver> {
-        let mut handle = sys::sctp_receiver { at: core::ptr::null_mut() };
+        let mut handle = sys::sctpr_receiver { at: core::ptr::null_mut() };
         // SAFETY: handle is a value of this function.
-        let code = unsafe { sys::sctp_receiver_new_unlimited(first_tsn, max_message_size, &mut handle) };
+        let code = unsafe { sys::sctpr_receiver_new_unlimited(first_tsn, max_message_size, &mut handle) };
         done(code, (), 0)?;
         Ok(Receiver { handle: UnsafeCell::new(handle) })
     }
@@ -65,28 +65,28 @@ impl Receiver {
     /// Opens a stream.
     pub fn open(&mut self, stream: u16) -> Result<()> {
         // SAFETY: the handle was made by `new`, and is used by this call alone.
-        done(unsafe { sys::sctp_receiver_open(self.handle.get_mut(), stream) }, (), 0)
+        done(unsafe { sys::sctpr_receiver_open(self.handle.get_mut(), stream) }, (), 0)
     }
 
     /// Closes a stream, where it is open: what came on it and was not read is dropped.
     pub fn close(&mut self, stream: u16) {
         // SAFETY: as in `open`.
-        unsafe { sys::sctp_receiver_close(self.handle.get_mut(), stream) }
+        unsafe { sys::sctpr_receiver_close(self.handle.get_mut(), stream) }
     }
 
     /// The peer resets a stream (RFC 6525 5.2.2).
     pub fn reset(&mut self, stream: u16, last_tsn: u32) -> Result<()> {
         // SAFETY: as in `open`.
-        done(unsafe { sys::sctp_receiver_reset(self.handle.get_mut(), stream, last_tsn) }, (), 0)
+        done(unsafe { sys::sctpr_receiver_reset(self.handle.get_mut(), stream, last_tsn) }, (), 0)
     }
 
     /// Takes a DATA chunk.
     pub fn data(&mut self, chunk: &[u8]) -> Result<Arrival> {
         let mut complete = 0;
         // SAFETY: as in `open`; pointer and length are those of a slice, and complete is a value of this function.
-        let code = unsafe { sys::sctp_receiver_data(self.handle.get_mut(), chunk.as_ptr(), chunk.len(), &mut complete) };
+        let code = unsafe { sys::sctpr_receiver_data(self.handle.get_mut(), chunk.as_ptr(), chunk.len(), &mut complete) };
         let arrival = match (code, complete) {
-            (sys::SCTP_REPEAT, _) => Arrival::Repeat,
+            (sys::SCTPR_REPEAT, _) => Arrival::Repeat,
             (_, 0) => Arrival::Added,
             _ => Arrival::Completed,
         };
@@ -96,29 +96,29 @@ impl Receiver {
     /// Takes the TSN of a DATA chunk that is dropped: it counts as come (RFC 4960 6.5).
     pub fn discard(&mut self, tsn: u32) -> Result<Arrival> {
         // SAFETY: as in `open`.
-        let code = unsafe { sys::sctp_receiver_discard(self.handle.get_mut(), tsn) };
-        done(code, if code == sys::SCTP_REPEAT { Arrival::Repeat } else { Arrival::Added }, 0)
+        let code = unsafe { sys::sctpr_receiver_discard(self.handle.get_mut(), tsn) };
+        done(code, if code == sys::SCTPR_REPEAT { Arrival::Repeat } else { Arrival::Added }, 0)
     }
 
     /// Takes a FORWARD-TSN, and answers whether it was past the cumulative TSN, and was followed.
     pub fn forward_tsn(&mut self, chunk: &[u8]) -> Result<bool> {
         // SAFETY: as in `open`; pointer and length are those of a slice.
-        let code = unsafe { sys::sctp_receiver_forward_tsn(self.handle.get_mut(), chunk.as_ptr(), chunk.len()) };
-        done(code, code == sys::SCTP_OK, 0)
+        let code = unsafe { sys::sctpr_receiver_forward_tsn(self.handle.get_mut(), chunk.as_ptr(), chunk.len()) };
+        done(code, code == sys::SCTPR_OK, 0)
     }
 
     /// The same, but what it names on a stream that is not open is passed over.
     pub fn forward_tsn_past_closed(&mut self, chunk: &[u8]) -> Result<bool> {
         // SAFETY: as in `forward_tsn`.
-        let code = unsafe { sys::sctp_receiver_forward_tsn_past_closed(self.handle.get_mut(), chunk.as_ptr(), chunk.len()) };
-        done(code, code == sys::SCTP_OK, 0)
+        let code = unsafe { sys::sctpr_receiver_forward_tsn_past_closed(self.handle.get_mut(), chunk.as_ptr(), chunk.len()) };
+        done(code, code == sys::SCTPR_OK, 0)
     }
 
     /// The next message of a stream, if there is one; nothing is taken out.
     pub fn next(&self, stream: u16) -> Result<Option<MessageInfo>> {
         let mut m = MessageInfo::default();
         // SAFETY: as in `open`; m is a value of this function.
-        let code = unsafe { sys::sctp_receiver_next_length(self.handle.get(), stream, &mut m.size, &mut m.payload_type) };
+        let code = unsafe { sys::sctpr_receiver_next_length(self.handle.get(), stream, &mut m.size, &mut m.payload_type) };
         option(code, m, 0)
     }
 
@@ -128,7 +128,7 @@ impl Receiver {
         // SAFETY: as in `open`; pointer and length are those of a slice that is borrowed exclusively, and m is a value of this function.
         let code = unsafe {
             let handle = self.handle.get_mut();
-            sys::sctp_receiver_read(handle, stream, out.as_mut_ptr(), out.len(), &mut m.size, &mut m.payload_type)
+            sys::sctpr_receiver_read(handle, stream, out.as_mut_ptr(), out.len(), &mut m.size, &mut m.payload_type)
         };
         option(code, m, m.size)
     }
@@ -157,7 +157,7 @@ impl Receiver {
     pub fn readable_streams<'r>(&self, rows: &'r mut [u16]) -> Result<&'r [u16]> {
         let mut n = 0;
         // SAFETY: as in `open`; pointer and length are those of a slice that is borrowed exclusively, and n is a value of this function.
-        let code = unsafe { sys::sctp_receiver_readable_streams(self.handle.get(), rows.as_mut_ptr(), rows.len(), &mut n) };
+        let code = unsafe { sys::sctpr_receiver_readable_streams(self.handle.get(), rows.as_mut_ptr(), rows.len(), &mut n) };
         done(code, (), n)?;
         Ok(&rows[..rows.len().min(n)])
     }
@@ -166,34 +166,34 @@ impl Receiver {
     pub fn write_sack(&mut self, out: &mut [u8]) -> Result<usize> {
         let mut n = 0;
         // SAFETY: as in `readable_streams`.
-        let code = unsafe { sys::sctp_receiver_sack(self.handle.get_mut(), out.as_mut_ptr(), out.len(), &mut n) };
+        let code = unsafe { sys::sctpr_receiver_sack(self.handle.get_mut(), out.as_mut_ptr(), out.len(), &mut n) };
         done(code, n, 16)
     }
 
     /// The TSN up to which all came, or was skipped.
     pub fn cumulative_tsn(&self) -> u32 {
         // SAFETY: the handle was made by `new`; the receiver is not shared between threads, so it is used by this call alone.
-        unsafe { sys::sctp_receiver_cumulative_tsn(self.handle.get()) }
+        unsafe { sys::sctpr_receiver_cumulative_tsn(self.handle.get()) }
     }
 
     /// The window to advertise, in bytes.
     pub fn window(&self) -> u32 {
         // SAFETY: as in `cumulative_tsn`.
-        unsafe { sys::sctp_receiver_window(self.handle.get()) }
+        unsafe { sys::sctpr_receiver_window(self.handle.get()) }
     }
 
     /// What is held and was not read: its bytes, and 400 for each chunk.
     pub fn held_bytes(&self) -> usize {
         // SAFETY: as in `cumulative_tsn`.
-        unsafe { sys::sctp_receiver_held_bytes(self.handle.get()) }
+        unsafe { sys::sctpr_receiver_held_bytes(self.handle.get()) }
     }
 }
 
 impl Drop for Receiver {
     fn drop(&mut self) {
-        let sys::sctp_receiver { at } = *self.handle.get_mut();
+        let sys::sctpr_receiver { at } = *self.handle.get_mut();
         // SAFETY: the handle was made by `new`, and is not used again.
-        unsafe { sys::sctp_receiver_free(sys::sctp_receiver { at }) }
+        unsafe { sys::sctpr_receiver_free(sys::sctpr_receiver { at }) }
     }
 }
 

@@ -7,7 +7,7 @@ use core::fmt;
 /// The sending half of an association: what was written and is not yet acknowledged (RFC 4960 6.1, 6.2.1, 6.9; RFC 3758). `now` is in
 /// nanoseconds from any one moment.
 pub struct Sender {
-    handle: UnsafeCell<sys::sctp_sender>,
+    handle: UnsafeCell<sys::sctpr_sender>,
 }
 
 // SAFETY: the library has no global state, so that a sender may go to another thread; the cell keeps it from being shared between two.
@@ -130,14 +130,14 @@ pub struct Expired {
 }
 
 /// Room for an [`Acked`].
-pub type AckedRow = sys::sctp_acked;
+pub type AckedRow = sys::sctpr_acked;
 /// Room for a [`TakenBack`].
-pub type TakenBackRow = sys::sctp_taken_back;
+pub type TakenBackRow = sys::sctpr_taken_back;
 /// Room for an [`Abandoned`].
-pub type AbandonedRow = sys::sctp_abandoned;
+pub type AbandonedRow = sys::sctpr_abandoned;
 
-impl From<&sys::sctp_in_flight> for InFlight {
-    fn from(r: &sys::sctp_in_flight) -> InFlight {
+impl From<&sys::sctpr_in_flight> for InFlight {
+    fn from(r: &sys::sctpr_in_flight) -> InFlight {
         InFlight {
             tsn: r.tsn,
             size: r.size,
@@ -183,7 +183,7 @@ impl From<&AbandonedRow> for Abandoned {
 }
 
 /// The first so many rows, each as its type.
-fn rows<'r, R, T: From<&'r R>>(code: sys::sctp_code, rows: &'r [R], count: usize, wanted: usize) -> Result<impl Iterator<Item = T> + 'r>
+fn rows<'r, R, T: From<&'r R>>(code: sys::sctpr_code, rows: &'r [R], count: usize, wanted: usize) -> Result<impl Iterator<Item = T> + 'r>
 where
     T: 'r,
 {
@@ -191,22 +191,22 @@ where
     Ok(rows[..rows.len().min(count)].iter().map(T::from))
 }
 
-/// The same with SCTP_OK, none where the call was done and changed nothing.
-fn new_rows<'r, R, T>(code: sys::sctp_code, room: &'r [R], count: usize) -> Result<Option<impl Iterator<Item = T> + 'r>>
+/// The same with SCTPR_OK, none where the call was done and changed nothing.
+fn new_rows<'r, R, T>(code: sys::sctpr_code, room: &'r [R], count: usize) -> Result<Option<impl Iterator<Item = T> + 'r>>
 where
     T: From<&'r R> + 'r,
 {
     let told = rows(code, room, count, count)?;
-    Ok(if code == sys::SCTP_OK { Some(told) } else { None })
+    Ok(if code == sys::SCTPR_OK { Some(told) } else { None })
 }
 
 impl Sender {
     /// A sender with no stream, whose first chunk gets `first_tsn`. A chunk has `fragment_size` bytes of user data at most, a message
     /// `max_message_size`.
     pub fn new(first_tsn: u32, fragment_size: u32, max_message_size: u32) -> Result<Sender> {
-        let mut handle = sys::sctp_sender { at: core::ptr::null_mut() };
+        let mut handle = sys::sctpr_sender { at: core::ptr::null_mut() };
         // SAFETY: handle is a value of this function.
-        let code = unsafe { sys::sctp_sender_new(first_tsn, fragment_size, max_message_size, &mut handle) };
+        let code = unsafe { sys::sctpr_sender_new(first_tsn, fragment_size, max_message_size, &mut handle) };
         done(code, (), 0)?;
         Ok(Sender { handle: UnsafeCell::new(handle) })
     }
@@ -214,42 +214,42 @@ impl Sender {
     /// Opens a stream, ordered and reliable.
     pub fn open(&mut self, stream: u16) -> Result<()> {
         // SAFETY: the handle was made by `new`, and is used by this call alone.
-        done(unsafe { sys::sctp_sender_open(self.handle.get_mut(), stream) }, (), 0)
+        done(unsafe { sys::sctpr_sender_open(self.handle.get_mut(), stream) }, (), 0)
     }
 
     /// Closes a stream, where it is open. What waits and is in flight of it goes on.
     pub fn close(&mut self, stream: u16) {
         // SAFETY: as in `open`.
-        unsafe { sys::sctp_sender_close(self.handle.get_mut(), stream) }
+        unsafe { sys::sctpr_sender_close(self.handle.get_mut(), stream) }
     }
 
     /// Sets the mode of later writes to a stream.
     pub fn set_mode(&mut self, stream: u16, is_unordered: bool, mode: Mode) -> Result<()> {
         let (kind, value) = match mode {
-            Mode::Reliable => (sys::SCTP_RELIABLE, 0),
-            Mode::Rexmit(times) => (sys::SCTP_REXMIT, times),
-            Mode::Timed(milliseconds) => (sys::SCTP_TIMED, milliseconds),
+            Mode::Reliable => (sys::SCTPR_RELIABLE, 0),
+            Mode::Rexmit(times) => (sys::SCTPR_REXMIT, times),
+            Mode::Timed(milliseconds) => (sys::SCTPR_TIMED, milliseconds),
         };
         // SAFETY: as in `open`.
-        done(unsafe { sys::sctp_sender_set_mode(self.handle.get_mut(), stream, is_unordered as u8, kind, value) }, (), 0)
+        done(unsafe { sys::sctpr_sender_set_mode(self.handle.get_mut(), stream, is_unordered as u8, kind, value) }, (), 0)
     }
 
     /// Sets how many bytes of user data a chunk of a later write has at most.
     pub fn set_fragment_size(&mut self, size: u32) -> Result<()> {
         // SAFETY: as in `open`.
-        done(unsafe { sys::sctp_sender_set_fragment_size(self.handle.get_mut(), size) }, (), 0)
+        done(unsafe { sys::sctpr_sender_set_fragment_size(self.handle.get_mut(), size) }, (), 0)
     }
 
     /// Sets the buffered amount of a stream, in bytes, down to which a fall is told.
     pub fn set_low_threshold(&mut self, stream: u16, bytes: usize) -> Result<()> {
         // SAFETY: as in `open`.
-        done(unsafe { sys::sctp_sender_set_low_threshold(self.handle.get_mut(), stream, bytes) }, (), 0)
+        done(unsafe { sys::sctpr_sender_set_low_threshold(self.handle.get_mut(), stream, bytes) }, (), 0)
     }
 
     /// Resets a stream (RFC 6525 5.1.2).
     pub fn reset(&mut self, stream: u16) -> Result<()> {
         // SAFETY: as in `open`.
-        done(unsafe { sys::sctp_sender_reset(self.handle.get_mut(), stream) }, (), 0)
+        done(unsafe { sys::sctpr_sender_reset(self.handle.get_mut(), stream) }, (), 0)
     }
 
     /// Takes a copy of a message. None where it has no bytes, and nothing changed.
@@ -258,7 +258,7 @@ impl Sender {
         // SAFETY: as in `open`; pointer and length are those of a slice, and w is a value of this function.
         let code = unsafe {
             let handle = self.handle.get_mut();
-            sys::sctp_sender_write(handle, stream, payload_type, message.as_ptr(), message.len(), &mut w.number, &mut w.fragments)
+            sys::sctpr_sender_write(handle, stream, payload_type, message.as_ptr(), message.len(), &mut w.number, &mut w.fragments)
         };
         option(code, w, 0)
     }
@@ -266,7 +266,7 @@ impl Sender {
     /// Starts the lifetimes of the messages written since the last time.
     pub fn start(&mut self, now: u64) {
         // SAFETY: as in `open`.
-        unsafe { sys::sctp_sender_start(self.handle.get_mut(), now) }
+        unsafe { sys::sctpr_sender_start(self.handle.get_mut(), now) }
     }
 
     /// Puts the fragment that is next in flight, and writes its DATA chunk. None where nothing waits.
@@ -275,7 +275,7 @@ impl Sender {
         // SAFETY: as in `open`; pointer and length are those of a slice that is borrowed exclusively, and s is a value of this function.
         let code = unsafe {
             let handle = self.handle.get_mut();
-            sys::sctp_sender_send_next(handle, now, out.as_mut_ptr(), out.len(), &mut s.size, &mut s.tsn)
+            sys::sctpr_sender_send_next(handle, now, out.as_mut_ptr(), out.len(), &mut s.size, &mut s.tsn)
         };
         option(code, s, s.size)
     }
@@ -284,37 +284,37 @@ impl Sender {
     pub fn resend(&mut self, tsn: u32, now: u64, out: &mut [u8]) -> Result<usize> {
         let mut n = 0;
         // SAFETY: as in `send_next`.
-        let code = unsafe { sys::sctp_sender_resend(self.handle.get_mut(), tsn, now, out.as_mut_ptr(), out.len(), &mut n) };
+        let code = unsafe { sys::sctpr_sender_resend(self.handle.get_mut(), tsn, now, out.as_mut_ptr(), out.len(), &mut n) };
         done(code, n, n)
     }
 
     /// Marks each outstanding chunk for retransmission.
     pub fn retransmit_all(&mut self) {
         // SAFETY: as in `open`.
-        unsafe { sys::sctp_sender_retransmit_all(self.handle.get_mut()) }
+        unsafe { sys::sctpr_sender_retransmit_all(self.handle.get_mut()) }
     }
 
     /// Counts each outstanding chunk before a TSN as missing once more, marks what is missing for the third time, and answers how many are
     /// marked now.
     pub fn add_miss_indications(&mut self, before: u32) -> usize {
         // SAFETY: as in `open`.
-        unsafe { sys::sctp_sender_add_miss_indications(self.handle.get_mut(), before) }
+        unsafe { sys::sctpr_sender_add_miss_indications(self.handle.get_mut(), before) }
     }
 
     /// The chunk in flight with a TSN.
     pub fn in_flight(&self, tsn: u32) -> Option<InFlight> {
-        let mut row = sys::sctp_in_flight::default();
+        let mut row = sys::sctpr_in_flight::default();
         // SAFETY: the sender is not shared between threads, so its handle is used by this call alone; row is a value of this function.
-        let code = unsafe { sys::sctp_sender_in_flight(self.handle.get(), tsn, &mut row) };
-        (code == sys::SCTP_OK).then(|| InFlight::from(&row))
+        let code = unsafe { sys::sctpr_sender_in_flight(self.handle.get(), tsn, &mut row) };
+        (code == sys::SCTPR_OK).then(|| InFlight::from(&row))
     }
 
     /// The chunk in flight at a place, from 0 on.
     pub fn in_flight_at(&self, place: usize) -> Option<InFlight> {
-        let mut row = sys::sctp_in_flight::default();
+        let mut row = sys::sctpr_in_flight::default();
         // SAFETY: as in `in_flight`.
-        let code = unsafe { sys::sctp_sender_in_flight_at(self.handle.get(), place, &mut row) };
-        (code == sys::SCTP_OK).then(|| InFlight::from(&row))
+        let code = unsafe { sys::sctpr_sender_in_flight_at(self.handle.get(), place, &mut row) };
+        (code == sys::SCTPR_OK).then(|| InFlight::from(&row))
     }
 
     /// The chunks in flight, in the order of their TSNs.
@@ -324,10 +324,10 @@ impl Sender {
 
     /// The first chunk that is marked for retransmission.
     pub fn next_to_retransmit(&self) -> Option<InFlight> {
-        let mut row = sys::sctp_in_flight::default();
+        let mut row = sys::sctpr_in_flight::default();
         // SAFETY: as in `in_flight`.
-        let code = unsafe { sys::sctp_sender_next_to_retransmit(self.handle.get(), &mut row) };
-        (code == sys::SCTP_OK).then(|| InFlight::from(&row))
+        let code = unsafe { sys::sctpr_sender_next_to_retransmit(self.handle.get(), &mut row) };
+        (code == sys::SCTPR_OK).then(|| InFlight::from(&row))
     }
 
     /// Takes a SACK, and iterates over the chunks that it reports anew; none where it is out of date. There are to be as many rows as chunks
@@ -337,7 +337,7 @@ impl Sender {
         // SAFETY: as in `open`; pointers and lengths are those of slices, rows are borrowed exclusively, and n is a value of this function.
         let code = unsafe {
             let handle = self.handle.get_mut();
-            sys::sctp_sender_acked(handle, chunk.as_ptr(), chunk.len(), room.as_mut_ptr(), room.len(), &mut n)
+            sys::sctpr_sender_acked(handle, chunk.as_ptr(), chunk.len(), room.as_mut_ptr(), room.len(), &mut n)
         };
         new_rows(code, room, n)
     }
@@ -346,14 +346,14 @@ impl Sender {
     pub fn acked_up_to<'r>(&mut self, tsn: u32, room: &'r mut [AckedRow]) -> Result<Option<impl Iterator<Item = Acked> + 'r>> {
         let mut n = 0;
         // SAFETY: as in `acked`.
-        let code = unsafe { sys::sctp_sender_acked_up_to(self.handle.get_mut(), tsn, room.as_mut_ptr(), room.len(), &mut n) };
+        let code = unsafe { sys::sctpr_sender_acked_up_to(self.handle.get_mut(), tsn, room.as_mut_ptr(), room.len(), &mut n) };
         new_rows(code, room, n)
     }
 
     /// From here on what gap ack blocks report is kept until the cumulative TSN passes it, so that it can be taken back.
     pub fn keep_reported(&mut self) -> Result<()> {
         // SAFETY: as in `open`.
-        done(unsafe { sys::sctp_sender_keep_reported(self.handle.get_mut()) }, (), 0)
+        done(unsafe { sys::sctpr_sender_keep_reported(self.handle.get_mut()) }, (), 0)
     }
 
     /// Takes back what a SACK no longer reports, before `acked` with the same SACK; none where it is out of date. There are to be as many
@@ -363,7 +363,7 @@ impl Sender {
         // SAFETY: as in `acked`.
         let code = unsafe {
             let handle = self.handle.get_mut();
-            sys::sctp_sender_take_back(handle, chunk.as_ptr(), chunk.len(), room.as_mut_ptr(), room.len(), &mut n)
+            sys::sctpr_sender_take_back(handle, chunk.as_ptr(), chunk.len(), room.as_mut_ptr(), room.len(), &mut n)
         };
         new_rows(code, room, n)
     }
@@ -372,23 +372,23 @@ impl Sender {
     pub fn abandon(&mut self, tsn: u32) -> Result<Abandoned> {
         let mut row = AbandonedRow::default();
         // SAFETY: as in `open`; row is a value of this function.
-        let code = unsafe { sys::sctp_sender_abandon(self.handle.get_mut(), tsn, &mut row) };
+        let code = unsafe { sys::sctpr_sender_abandon(self.handle.get_mut(), tsn, &mut row) };
         done(code, Abandoned::from(&row), 0)
     }
 
     /// Removes the message in front, where it is past its deadline and wholly unsent.
     pub fn expire(&mut self, now: u64) -> Option<Expired> {
-        let mut r = sys::sctp_expired::default();
+        let mut r = sys::sctpr_expired::default();
         // SAFETY: as in `abandon`.
-        let code = unsafe { sys::sctp_sender_expire(self.handle.get_mut(), now, &mut r) };
-        (code == sys::SCTP_OK).then(|| Expired { bytes: r.bytes, stream: r.stream, is_low: r.is_low != 0 })
+        let code = unsafe { sys::sctpr_sender_expire(self.handle.get_mut(), now, &mut r) };
+        (code == sys::SCTPR_OK).then(|| Expired { bytes: r.bytes, stream: r.stream, is_low: r.is_low != 0 })
     }
 
     /// Abandons the rest of the partially sent message in front, where it is past its deadline.
     pub fn expire_tail(&mut self, now: u64) -> Result<Option<Abandoned>> {
         let mut row = AbandonedRow::default();
         // SAFETY: as in `abandon`.
-        let code = unsafe { sys::sctp_sender_expire_tail(self.handle.get_mut(), now, &mut row) };
+        let code = unsafe { sys::sctpr_sender_expire_tail(self.handle.get_mut(), now, &mut row) };
         option(code, Abandoned::from(&row), 0)
     }
 
@@ -396,7 +396,7 @@ impl Sender {
     pub fn expire_late<'r>(&mut self, now: u64, room: &'r mut [AbandonedRow]) -> Result<impl Iterator<Item = Abandoned> + 'r> {
         let mut n = 0;
         // SAFETY: as in `acked`.
-        let code = unsafe { sys::sctp_sender_expire_late(self.handle.get_mut(), now, room.as_mut_ptr(), room.len(), &mut n) };
+        let code = unsafe { sys::sctpr_sender_expire_late(self.handle.get_mut(), now, room.as_mut_ptr(), room.len(), &mut n) };
         rows(code, room, n, n.saturating_add(1))
     }
 
@@ -404,7 +404,7 @@ impl Sender {
     pub fn expire_rexmit<'r>(&mut self, room: &'r mut [AbandonedRow]) -> Result<impl Iterator<Item = Abandoned> + 'r> {
         let mut n = 0;
         // SAFETY: as in `acked`.
-        let code = unsafe { sys::sctp_sender_expire_rexmit(self.handle.get_mut(), room.as_mut_ptr(), room.len(), &mut n) };
+        let code = unsafe { sys::sctpr_sender_expire_rexmit(self.handle.get_mut(), room.as_mut_ptr(), room.len(), &mut n) };
         rows(code, room, n, n.saturating_add(1))
     }
 
@@ -412,7 +412,7 @@ impl Sender {
     pub fn write_forward_tsn(&mut self, out: &mut [u8]) -> Result<Option<usize>> {
         let mut n = 0;
         // SAFETY: as in `send_next`.
-        let code = unsafe { sys::sctp_sender_forward_tsn(self.handle.get_mut(), out.as_mut_ptr(), out.len(), &mut n) };
+        let code = unsafe { sys::sctpr_sender_forward_tsn(self.handle.get_mut(), out.as_mut_ptr(), out.len(), &mut n) };
         option(code, n, n)
     }
 
@@ -420,74 +420,74 @@ impl Sender {
     pub fn write_forward_tsn_to(&mut self, tsn: u32, out: &mut [u8]) -> Result<Option<usize>> {
         let mut n = 0;
         // SAFETY: as in `send_next`.
-        let code = unsafe { sys::sctp_sender_forward_tsn_to(self.handle.get_mut(), tsn, out.as_mut_ptr(), out.len(), &mut n) };
+        let code = unsafe { sys::sctpr_sender_forward_tsn_to(self.handle.get_mut(), tsn, out.as_mut_ptr(), out.len(), &mut n) };
         option(code, n, n)
     }
 
     /// The TSN that the next chunk gets.
     pub fn next_tsn(&self) -> u32 {
         // SAFETY: the handle was made by `new`; the sender is not shared between threads, so it is used by this call alone.
-        unsafe { sys::sctp_sender_next_tsn(self.handle.get()) }
+        unsafe { sys::sctpr_sender_next_tsn(self.handle.get()) }
     }
 
     /// The TSN up to which all was acknowledged.
     pub fn acked_tsn(&self) -> u32 {
         // SAFETY: as in `next_tsn`.
-        unsafe { sys::sctp_sender_acked_tsn(self.handle.get()) }
+        unsafe { sys::sctpr_sender_acked_tsn(self.handle.get()) }
     }
 
     /// The Advanced.Peer.Ack.Point (RFC 3758 3.5 C2).
     pub fn advanced_ack_point(&self) -> u32 {
         // SAFETY: as in `next_tsn`.
-        unsafe { sys::sctp_sender_advanced_ack_point(self.handle.get()) }
+        unsafe { sys::sctpr_sender_advanced_ack_point(self.handle.get()) }
     }
 
     /// How many bytes of user data are in flight.
     pub fn bytes_in_flight(&self) -> usize {
         // SAFETY: as in `next_tsn`.
-        unsafe { sys::sctp_sender_bytes_in_flight(self.handle.get()) }
+        unsafe { sys::sctpr_sender_bytes_in_flight(self.handle.get()) }
     }
 
     /// How many chunks are in flight.
     pub fn chunks_in_flight(&self) -> usize {
         // SAFETY: as in `next_tsn`.
-        unsafe { sys::sctp_sender_chunks_in_flight(self.handle.get()) }
+        unsafe { sys::sctpr_sender_chunks_in_flight(self.handle.get()) }
     }
 
     /// The first TSN in flight that is neither acknowledged nor abandoned.
     pub fn earliest_outstanding(&self) -> Option<u32> {
         let mut tsn = 0;
         // SAFETY: as in `next_tsn`; tsn is a value of this function.
-        let code = unsafe { sys::sctp_sender_earliest_outstanding(self.handle.get(), &mut tsn) };
-        (code == sys::SCTP_OK).then_some(tsn)
+        let code = unsafe { sys::sctpr_sender_earliest_outstanding(self.handle.get(), &mut tsn) };
+        (code == sys::SCTPR_OK).then_some(tsn)
     }
 
     /// How many fragments wait.
     pub fn pending(&self) -> usize {
         // SAFETY: as in `next_tsn`.
-        unsafe { sys::sctp_sender_pending(self.handle.get()) }
+        unsafe { sys::sctpr_sender_pending(self.handle.get()) }
     }
 
     /// How many bytes of user data of a stream wait or are in flight.
     pub fn buffered_amount(&self, stream: u16) -> Result<usize> {
         let mut amount = 0;
         // SAFETY: as in `next_tsn`; amount is a value of this function.
-        let code = unsafe { sys::sctp_sender_buffered_amount(self.handle.get(), stream, &mut amount) };
+        let code = unsafe { sys::sctpr_sender_buffered_amount(self.handle.get(), stream, &mut amount) };
         done(code, amount, 0)
     }
 
     /// Whether nothing of a stream waits or is in flight.
     pub fn is_drained(&self, stream: u16) -> bool {
         // SAFETY: as in `next_tsn`.
-        unsafe { sys::sctp_sender_is_drained(self.handle.get(), stream) != 0 }
+        unsafe { sys::sctpr_sender_is_drained(self.handle.get(), stream) != 0 }
     }
 }
 
 impl Drop for Sender {
     fn drop(&mut self) {
-        let sys::sctp_sender { at } = *self.handle.get_mut();
+        let sys::sctpr_sender { at } = *self.handle.get_mut();
         // SAFETY: the handle was made by `new`, and is not used again.
-        unsafe { sys::sctp_sender_free(sys::sctp_sender { at }) }
+        unsafe { sys::sctpr_sender_free(sys::sctpr_sender { at }) }
     }
 }
 

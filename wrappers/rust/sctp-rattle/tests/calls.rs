@@ -5,18 +5,18 @@ const TEXT: &[u8] = b"three fragments of a message";
 
 #[test]
 fn errors_have_numbers_and_texts() {
-    assert_eq!(Error::NoMemory.code(), sys::SCTP_NO_MEMORY);
+    assert_eq!(Error::NoMemory.code(), sys::SCTPR_NO_MEMORY);
     assert_eq!(Error::ShortBuffer { wanted: 4 }.code(), 17);
     assert_eq!(Error::ErrPacketRawTooSmall.code(), 40);
     assert_eq!(Error::NoMemory.to_string(), "Memory ran out.");
     assert!(Error::ShortBuffer { wanted: 4 }.to_string().ends_with("Wanted: 4"));
     assert!(Error::Unknown(1000).to_string().contains("1000"));
     let _: &dyn std::error::Error = &Error::Invalid;
-    let mut name = [0; sys::SCTP_NAME_ROOM];
+    let mut name = [0; sys::SCTPR_NAME_ROOM];
     let mut n = 0;
     // SAFETY: pointer and length are those of an array, and n is a value of this function.
-    assert_eq!(unsafe { sys::sctp_code_name(17, name.as_mut_ptr(), name.len(), &mut n) }, sys::SCTP_OK);
-    assert_eq!(&name[..n], b"SCTP_SHORT_BUFFER\0");
+    assert_eq!(unsafe { sys::sctpr_code_name(17, name.as_mut_ptr(), name.len(), &mut n) }, sys::SCTPR_OK);
+    assert_eq!(&name[..n], b"SCTPR_SHORT_BUFFER\0");
     assert_eq!(env!("CARGO_PKG_VERSION"), format!("{}.{}.{}", version().0, version().1, version().2));
 }
 

@@ -1,8 +1,0 @@
-use Rattle.sctp_c.proofs.InPlace.{is_sack}
-use Rattle.sctp_c.proofs.reading.sctp_read_sack.Goals as goal
-
-pub returns-in-Ok-clause-read : goal.returns-in-Ok-clause-read
-returns-in-Ok-clause-read c _ =
-    let e = c.in-Ok.ensures in
-    is_sack c.args.chunk.now c.in-Ok.value.now _ c.args.blocks.now _ c.args.duplicates.now _ e.chunk e.value e.headed e.long c.read_u16-gaps.ensures
-    c.read_u16-repeats.ensures c.read_u32.ensures c.read_u32-in-Ok.ensures c.fill_gaps.ensures c.fill_numbers.ensures

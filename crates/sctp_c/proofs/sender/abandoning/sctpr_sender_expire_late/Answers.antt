@@ -1,0 +1,14 @@
+use Rattle.std.proofs.Common.{rules, ◌+◌, length}
+use Rattle.sctp_sender.specs.Late.{late_order}
+use Rattle.sctp_sender.specs.Sender.{Transmission}
+use Rattle.sctp_c.specs.Abandoning.{leaving_to}
+use Rattle.sctp_c.proofs.Filling.{rows-fit}
+use Rattle.sctp_c.proofs.Leaving.{late-few}
+use Rattle.sctp_c.proofs.sender.abandoning.sctpr_sender_expire_late.Goals as goal
+
+pub fill_abandoned-requires : goal.fill_abandoned-requires
+fill_abandoned-requires c =
+    let t : Transmission = c.get_mut-own.result.now in
+    rows-fit c.in-Ok.gone.items (leaving_to (late_order c.args.now t.flight) t) c.deref.result.now (length t.flight.queue.inflight.chunks + 1)
+    (length c.args.rows.now)
+    c.in-Ok.ensures.answer (late-few c.args.now t) c.deref.ensures.value (search rules)
