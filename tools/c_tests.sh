@@ -198,6 +198,22 @@ try_go() {
     try prints_echo "$BUILD/echo_go"
 }
 
+# The shared library, in a folder of another name: the echo on it, and its names.
+try_shared() {
+    shared=$PREFIX/shared
+    try quietly make install PREFIX="$shared" LIBDIR="$shared/lib64" SHARED=yes OUT="$BUILD/shared_out" CC="$CC"
+    try $CC -std=c99 -O2 -I"$shared/include/sctp-rattle" examples/echo/echo.c -L"$shared/lib64" -lsctp-rattle -o "$BUILD/echo_shared"
+    try prints_echo env LD_LIBRARY_PATH="$shared/lib64" "$BUILD/echo_shared"
+    try exports_its_own "$shared/lib64/libsctp-rattle.so"
+    try quietly make uninstall PREFIX="$shared" LIBDIR="$shared/lib64" OUT="$BUILD/shared_out"
+}
+
+# Whether a shared library exports the calls of the header, and no other name.
+exports_its_own() {
+    nm -D --defined-only "$1" | sed -n 's/.* T \([a-z0-9_]*\)@.*/\1/p' | sort >"$BUILD/exported"
+    sed -n 's/^\(sctpr_code\|uint8_t\|uint32_t\|size_t\|void\) \(sctpr_[a-z0-9_]*\)(.*/\2/p' include/sctpr.h | sort | cmp - "$BUILD/exported"
+}
+
 try_installed() {
     flags=$(pkg-config --cflags --libs sctp-rattle)
     try tells_version
@@ -209,6 +225,7 @@ try_installed() {
     # shellcheck disable=SC2086
     try $CC -std=c99 c_tests/halves.c c_tests/memory.c $flags -o "$BUILD/own_memory"
     try quietly "$BUILD/own_memory"
+    try_shared
     try_cpp
     if command -v cargo >/dev/null; then try_rust; else leave_out "the wrapper for Rust" "there is no cargo"; fi
     if [ "$go" = yes ]; then try_go; else leave_out "the wrapper for Go" "there is no go"; fi
