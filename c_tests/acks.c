@@ -43,7 +43,7 @@ static void stale(void) {
     CHECK(sctpr_sender_acked(&sender, sack_up_to(0xffffffff), 16, rows, 0, &count) == SCTPR_SHORT_BUFFER && count == 1);
     CHECK(sctpr_sender_acked(&sender, sack_up_to(2), 16, rows, 4, &count) == SCTPR_SACK_BEYOND_SENT && count == 1);
     CHECK(sctpr_sender_acked_tsn(&sender) == 0 && sctpr_sender_bytes_in_flight(&sender) == 1);
-    sctpr_sender_free(sender);
+    sctpr_sender_free(&sender);
     CHECK(held == 0);
 }
 
@@ -58,7 +58,7 @@ static void up_to(void) {
     CHECK(sctpr_sender_acked_tsn(&sender) == 0 && sctpr_sender_chunks_in_flight(&sender) == 1);
     CHECK(sctpr_sender_acked_up_to(&sender, 0xffffffff, rows, 4, &count) == SCTPR_STALE && count == 0 && rows[0].tsn == 0xffffffff);
     CHECK(sctpr_sender_acked_up_to(&sender, 1, rows, 4, &count) == SCTPR_OK && count == 1 && sctpr_sender_is_drained(&sender, 3) == 1);
-    sctpr_sender_free(sender);
+    sctpr_sender_free(&sender);
     CHECK(held == 0);
 }
 
@@ -86,7 +86,7 @@ static void forward_tsn(void) {
     n = 9;
     TRY(sctpr_sender_forward_tsn(&sender, out, 8, &n), SCTPR_SHORT_BUFFER, n == 9);
     CHECK(n == 16);
-    sctpr_sender_free(sender);
+    sctpr_sender_free(&sender);
     CHECK(held == 0);
 }
 

@@ -104,13 +104,16 @@ static void make_host(struct host *h) {
     uint32_t tsn = any(2) ? 0u - any(40) : any(1000) * 4294967u, most = any(4) ? 5000 : any(3) * 100;
     memset(h, 0, sizeof *h);
     while (sctpr_sender_new(tsn, any(8) ? 1 + any(1200) : 1 + any(65519), most, &h->sender) != SCTPR_OK) granted = -1;
-    if (any(8)) while (sctpr_receiver_new(tsn, most, any(20000), any(70000), &h->receiver) != SCTPR_OK) granted = -1;
+    if (any(8)) while (sctpr_receiver_new(tsn, most, SCTPR_LEAST_WINDOW(most, 65519) + any(20000), any(70000), &h->receiver) != SCTPR_OK) granted = -1;
     else while (sctpr_receiver_new_unlimited(tsn, most, &h->receiver) != SCTPR_OK) granted = -1;
 }
 
+/* Twice: the second time does nothing. */
 static void free_host(struct host *h) {
-    sctpr_sender_free(h->sender);
-    sctpr_receiver_free(h->receiver);
+    for (int i = 0; i < 2; i++) {
+        sctpr_sender_free(&h->sender);
+        sctpr_receiver_free(&h->receiver);
+    }
 }
 
 static void keep(struct host *h, const uint8_t *bytes, size_t length) {
@@ -168,6 +171,21 @@ static void take_back_written(struct host *h, sctpr_code code, uint8_t *out, siz
 
 /* ---- Packets --------------------------------------------------------------------------------------------------------------- */
 
+/* The readers of parameters of a RE-CONFIG, of which one at most takes them as what they are, but for a reset, which is a request too. */
+static void read_reconfig(const uint8_t *bytes, size_t length) {
+    size_t count = 7, room = any(5);
+    struct sctpr_reset reset;
+    struct sctpr_response response;
+    uint32_t number = 7;
+    uint16_t *streams = lend(room * sizeof *streams);
+    int is_request = sctpr_read_request(bytes, length, &number) == SCTPR_OK;
+    int is_reset = sctpr_read_reset(bytes, length, &reset, streams, room, &count) == SCTPR_OK;
+    int is_response = sctpr_read_response(bytes, length, &response) == SCTPR_OK;
+    HOLDS(is_request ? length >= 8 && !is_response : number == 7);
+    HOLDS(is_reset ? is_request && reset.request == number && 16 + 2 * count <= length : count == 7);
+    take_back(streams, (!is_reset ? 0 : count < room ? count : room) * sizeof *streams, room * sizeof *streams);
+}
+
 static sctpr_code read_chunks(struct host *h) {
     size_t length, count = 7, room = any(5);
     uint8_t *bytes = lend_chunk(h, &length);
@@ -195,6 +213,8 @@ static sctpr_code read_chunks(struct host *h) {
     if (sctpr_read_cause(bytes, length, &cause) == SCTPR_OK) HOLDS(4 + cause.length <= length && 4 <= cause.next && cause.next <= length);
     if (sctpr_read_init(bytes, length, &init) == SCTPR_OK) HOLDS(20 <= length && init.is_ack <= 1);
     if (sctpr_read_param(bytes, length, &param) == SCTPR_OK) HOLDS(4 + param.length <= length && 4 <= param.next && param.next <= length);
+    if (sctpr_read_any_param(bytes, length, &param) == SCTPR_OK) HOLDS(4 + param.length <= length && 4 <= param.next && param.next <= length);
+    read_reconfig(bytes, length);
     take_back(gaps, gaps_written * sizeof *gaps, room * sizeof *gaps);
     take_back(repeats, repeats_written * sizeof *repeats, room * sizeof *repeats);
     take_back(skips, skips_written * sizeof *skips, room * sizeof *skips);
@@ -211,7 +231,7 @@ static sctpr_code write_chunk(struct host *h) {
     else if (any(2)) code = sctpr_write_chunk_with_flags(type, (uint8_t)any(16), value, length, out, room, &written);
     else if (any(2)) code = sctpr_write_cause((uint16_t)any(16), value, length, out, room, &written);
     else code = sctpr_write_param((uint16_t)(any(2) ? any(16) : any(65536)), value, length, out, room, &written);
-    ONE_OF(code, 1, SCTPR_OK, SCTPR_SHORT_BUFFER, SCTPR_UNKNOWN_CHUNK, SCTPR_LENGTH_TOO_LARGE);
+    ONE_OF(code, 1, SCTPR_OK, SCTPR_SHORT_BUFFER, SCTPR_UNKNOWN_CHUNK, SCTPR_LENGTH_TOO_LARGE, SCTPR_NOT_AS_GIVEN);
     if (code == SCTPR_SHORT_BUFFER) HOLDS(written > room);
     take_back_written(h, code, out, room, written);
     take_back_chunk(value, length);
@@ -228,7 +248,7 @@ static sctpr_code write_init(struct host *h) {
         length = 0;
     }
     sctpr_code code = sctpr_write_init(&init, params, length, out, room, &written);
-    ONE_OF(code, 1, SCTPR_OK, SCTPR_SHORT_BUFFER, SCTPR_LENGTH_TOO_LARGE);
+    ONE_OF(code, 1, SCTPR_OK, SCTPR_SHORT_BUFFER, SCTPR_LENGTH_TOO_LARGE, SCTPR_NOT_AS_GIVEN);
     take_back_written(h, code, out, room, written);
     take_back_chunk(params, length);
     return code;
@@ -405,10 +425,15 @@ static sctpr_code sender_set(struct host *h) {
 static sctpr_code sender_write(struct host *h) {
     size_t length = any(4) ? any(300) : any(6000), fragments = 7;
     uint64_t number = 7;
+    static const uint32_t types[] = { SCTPR_PPID_DCEP, SCTPR_PPID_STRING, SCTPR_PPID_BINARY, SCTPR_PPID_STRING_EMPTY, SCTPR_PPID_BINARY_EMPTY,
+                                      SCTPR_PPID_OTHER };
+    uint32_t type = any(8) ? types[any(6)] : 59 + any(1000);
     if (sctpr_sender_pending(&h->sender) > 4000) return SCTPR_OK;
     uint8_t *message = lend(length);
-    sctpr_code code = sctpr_sender_write(&h->sender, a_stream(), any(2) ? 50 + any(9) : any(1000), message, length, &number, &fragments);
-    ONE_OF(code, 0, SCTPR_OK, SCTPR_NOTHING, SCTPR_STREAM_UNKNOWN, SCTPR_MESSAGE_TOO_LARGE, SCTPR_QUEUE_FULL, SCTPR_NO_MEMORY);
+    sctpr_code code = sctpr_sender_write(&h->sender, a_stream(), type, message, length, &number, &fragments);
+    ONE_OF(code, 0, SCTPR_OK, SCTPR_NOTHING, SCTPR_STREAM_UNKNOWN, SCTPR_NOT_AS_GIVEN, SCTPR_MESSAGE_TOO_LARGE, SCTPR_QUEUE_FULL,
+           SCTPR_NO_MEMORY);
+    HOLDS(code != SCTPR_NOT_AS_GIVEN || type > SCTPR_PPID_OTHER);
     HOLDS(code == SCTPR_OK ? fragments >= 1 : number == 7 && fragments == 7);
     take_back(message, 0, length);
     return code;

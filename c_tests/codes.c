@@ -24,7 +24,7 @@ static void names(void) {
 }
 
 static void unknown(void) {
-    static const sctpr_code others[] = { 4, 15, 90, 100, 0x10000, UINT32_MAX };
+    static const sctpr_code others[] = { 4, 15, 91, 100, 0x10000, UINT32_MAX };
     char name[SCTPR_NAME_ROOM];
     for (size_t i = 0; i < sizeof others / sizeof *others; i++) {
         size_t written = 0;
@@ -34,12 +34,12 @@ static void unknown(void) {
 }
 
 static void short_buffer(void) {
-    uint8_t name[8] = "abcdefg";
+    uint8_t name[9] = "abcdefgh";
     size_t written = 0;
-    CHECK(sctpr_code_name(SCTPR_OK, name, 7, &written) == SCTPR_SHORT_BUFFER && written == 8);
-    CHECK(memcmp(name, "abcdefg", 8) == 0);
-    CHECK(sctpr_code_name(SCTPR_OK, NULL, 0, &written) == SCTPR_SHORT_BUFFER && written == 8);
-    CHECK(sctpr_code_name(SCTPR_OK, name, 8, &written) == SCTPR_OK && memcmp(name, "SCTPR_OK", 8) == 0);
+    CHECK(sctpr_code_name(SCTPR_OK, name, 8, &written) == SCTPR_SHORT_BUFFER && written == 9);
+    CHECK(memcmp(name, "abcdefgh", 9) == 0);
+    CHECK(sctpr_code_name(SCTPR_OK, NULL, 0, &written) == SCTPR_SHORT_BUFFER && written == 9);
+    CHECK(sctpr_code_name(SCTPR_OK, name, 9, &written) == SCTPR_OK && memcmp(name, "SCTPR_OK", 9) == 0);
 }
 
 int main(void) {
@@ -48,6 +48,6 @@ int main(void) {
     names();
     unknown();
     short_buffer();
-    CHECK(sizeof rows / sizeof *rows == 78);
+    CHECK(sizeof rows / sizeof *rows == 79);
     return report("codes");
 }

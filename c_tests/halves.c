@@ -20,9 +20,40 @@ static void open_both(uint32_t tsn, uint32_t fragment_size) {
 }
 
 static void free_both(void) {
-    sctpr_sender_free(sender);
-    sctpr_receiver_free(receiver);
+    sctpr_sender_free(&sender);
+    sctpr_receiver_free(&receiver);
     CHECK(held == 0);
+}
+
+/* Of a handle that is empty, or of none, nothing is freed; after the first call a handle is empty. */
+static void freed(void) {
+    sctpr_sender none = { NULL };
+    sctpr_receiver no = { NULL };
+    sctpr_sender_free(NULL);
+    sctpr_receiver_free(NULL);
+    sctpr_sender_free(&none);
+    sctpr_receiver_free(&no);
+    open_both(1000, 1000);
+    free_both();
+    free_both();
+    CHECK(sender.at == NULL && receiver.at == NULL);
+}
+
+/* What would be a trap is refused: a window in which a message of 65,536 bytes, two chunks, never fits; a payload type that no message can
+ * carry; and a write to a stream that is not open, before memory is asked for. */
+static void traps(void) {
+    size_t fragments = 5;
+    uint64_t number = 5;
+    CHECK(SCTPR_LEAST_WINDOW(65536, 65519) == 65936 && SCTPR_LEAST_WINDOW(1200, 1200) == 1400 && SCTPR_LEAST_WINDOW(1201, 1200) == 1601);
+    WITHOUT_MEMORY(sctpr_receiver_new(1, 65536, 65935, 9, &receiver), SCTPR_INVALID);
+    TRY(sctpr_receiver_new(1, 65536, 65936, 9, &receiver), SCTPR_OK, held == 0);
+    sctpr_receiver_free(&receiver);
+    open_both(1000, 1000);
+    WITHOUT_MEMORY(sctpr_sender_write(&sender, 4, SCTPR_PPID_BINARY, (const uint8_t *)"a", 1, &number, &fragments), SCTPR_STREAM_UNKNOWN);
+    WITHOUT_MEMORY(sctpr_sender_write(&sender, 3, 99, (const uint8_t *)"a", 1, &number, &fragments), SCTPR_NOT_AS_GIVEN);
+    CHECK(number == 5 && fragments == 5 && sctpr_sender_pending(&sender) == 0);
+    TRY(sctpr_sender_write(&sender, 3, SCTPR_PPID_OTHER, (const uint8_t *)"a", 1, &number, &fragments), SCTPR_OK, number == 5);
+    free_both();
 }
 
 static void refused(void) {
@@ -154,6 +185,8 @@ static void expired(void) {
 }
 
 int main(void) {
+    freed();
+    traps();
     refused();
     goes_over();
     abandoned();

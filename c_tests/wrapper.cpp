@@ -101,6 +101,27 @@ void chunks() {
     CHECK(sctpr::param_value(sctpr::init_params(whole), *param).size() == 3);
 }
 
+/** The words of a RE-CONFIG, a parameter of an address, and what can't be written or made as it was given. */
+void reconfig() {
+    std::array<std::uint8_t, 16> out{};
+    auto n = sctpr::write_response({ 9, SCTPR_RESULT_DENIED }, out);
+    auto r = sctpr::read_response(sctpr::bytes(out).first(12));
+    CHECK(n && *n == 12 && r && r->response == 9 && r->result == 2);
+    CHECK(is_refused(sctpr::read_request(sctpr::bytes(out).first(12)), sctpr::code::err_param_type_unexpected));
+    std::array<std::uint16_t, 2> streams{};
+    std::size_t count = 0;
+    auto reset = sctpr::read_reset(bytes_of("\0\x0d\0\x12\0\0\0\1\0\0\0\2\0\0\0\3\0\4", 18), streams, count);
+    CHECK(reset && reset->request == 1 && reset->response == 2 && reset->last_tsn == 3 && count == 1 && streams[0] == 4);
+    auto number = sctpr::read_request(bytes_of("\0\x11\0\x0c\0\0\0\7\0\1\0\0", 12));
+    CHECK(number && *number == 7);
+    auto param = sctpr::read_any_param(bytes_of("\0\5\0\x08\xc0\0\2\1", 8));
+    CHECK(param && param->type == 5 && param->length == 4 && param->next == 8);
+    CHECK(is_refused(sctpr::write_chunk(SCTPR_COOKIE_ACK, bytes_of("a", 1), out), sctpr::code::not_as_given));
+    CHECK(is_refused(sctpr::receiver::make(1, 65536, 65935, 9), sctpr::code::invalid));
+    auto s = *sctpr::sender::make(1, 10, 100);
+    CHECK(s.open(3) && is_refused(s.write(3, 99, bytes_of("a", 1)), sctpr::code::not_as_given));
+}
+
 /** A message of three chunks goes over, its middle one late. */
 void goes_over() {
     auto s = *sctpr::sender::make(1000, 10, 100);
@@ -209,6 +230,7 @@ int main() {
     codes();
     packets();
     chunks();
+    reconfig();
     goes_over();
     abandoned();
     moved();

@@ -186,9 +186,9 @@ enum {
     SCTPR_ERR_PARAM_HEADER_TOO_SHORT = 81,
     /* A parameter of type typ is of no kind, and the type's highest bit is not set: reading is to stop (RFC 4960 3.2.1). */
     SCTPR_ERR_PARAM_TYPE_UNHANDLED = 82,
-    /* Not answered by a call of this library. Read as a Chunk List: the type is not 32771 (RFC 4895 3.2). */
+    /* A parameter is of another type than the call reads (RFC 6525 4). */
     SCTPR_ERR_PARAM_TYPE_UNEXPECTED = 83,
-    /* The value of an Outgoing SSN Reset Request has under 12 bytes (RFC 6525 4.1). */
+    /* The value of an Outgoing SSN Reset Request has under 12 bytes (RFC 6525 4.1), or that of a request has no number. */
     SCTPR_ERR_SSN_RESET_REQUEST_PARAM_TOO_SHORT = 84,
     /* The value of an Outgoing SSN Reset Request has 12 bytes or more, an odd number of them (RFC 6525 4.1). */
     SCTPR_ERR_SSN_RESET_REQUEST_PARAM_INVALID_LENGTH = 85,
@@ -199,7 +199,9 @@ enum {
     /* The value of a Supported Address Types has an odd number of bytes (RFC 4960 3.3.2.1). */
     SCTPR_ERR_SUPPORTED_ADDRESS_TYPES_PARAM_INVALID_LENGTH = 88,
     /* Not answered by a call of this library: the message is longer than the buffer, which is filled with the message's beginning. */
-    SCTPR_ERR_SHORT_BUFFER = 89
+    SCTPR_ERR_SHORT_BUFFER = 89,
+    /* It can't be written as it was given: a chunk whose value is read as another one, or a payload type that has no name here. */
+    SCTPR_NOT_AS_GIVEN = 90
 };
 
 /* Writes the name of a code and a zero byte behind it at the front of a buffer: "SCTPR_NO_MEMORY"; "SCTPR_UNKNOWN" of a number that is
@@ -226,10 +228,16 @@ enum {
     SCTPR_FORWARD_TSN = 192
 };
 
-/* Parameter types (RFC 4960 3.3.2, 3.3.3, 3.3.5, RFC 5061 4.2.7, RFC 3758 3.1). */
+/* Parameter types (RFC 4960 3.3.2, 3.3.3, 3.3.5, RFC 5061 4.2.7, RFC 3758 3.1; of a RE-CONFIG, RFC 6525 4.1 to 4.6). */
 enum {
     SCTPR_PARAM_HEARTBEAT_INFO = 1,
     SCTPR_PARAM_STATE_COOKIE = 7,
+    SCTPR_PARAM_OUTGOING_RESET = 13,
+    SCTPR_PARAM_INCOMING_RESET = 14,
+    SCTPR_PARAM_SSN_TSN_RESET = 15,
+    SCTPR_PARAM_RECONFIG_RESPONSE = 16,
+    SCTPR_PARAM_ADD_OUTGOING_STREAMS = 17,
+    SCTPR_PARAM_ADD_INCOMING_STREAMS = 18,
     SCTPR_PARAM_SUPPORTED_EXTENSIONS = 32776,
     SCTPR_PARAM_FORWARD_TSN_SUPPORTED = 49152
 };
@@ -255,7 +263,8 @@ enum {
  * peer gave (RFC 4960 3.3.7, 3.3.13, 8.5.1). */
 enum { SCTPR_FLAG_T = 1 };
 
-/* What the user data are (RFC 8831 8). Any other number is sent and read as SCTPR_PPID_OTHER. */
+/* What the user data are (RFC 8831 8). Any other number that comes is read as SCTPR_PPID_OTHER; to be sent it is refused with
+ * SCTPR_NOT_AS_GIVEN, since a message can't carry it yet. */
 enum {
     SCTPR_PPID_DCEP = 50,
     SCTPR_PPID_STRING = 51,
@@ -288,15 +297,15 @@ struct sctpr_chunk {
  * time, and given back. Refuses with SCTPR_ERR_PACKET_RAW_TOO_SMALL, SCTPR_BAD_CHECKSUM, SCTPR_UNKNOWN_CHUNK, another error of a chunk, or,
  * but for a packet of DATA and SACKs alone, SCTPR_NO_MEMORY; then nothing was written. */
 sctpr_code sctpr_read_packet(const uint8_t *packet, size_t length, struct sctpr_head *head, struct sctpr_chunk *rows, size_t room,
-                           size_t *count);
+                             size_t *count);
 
 /* The same under a sum that the caller took: of the first eight bytes, four zeros, and the bytes from the twelfth on. */
 sctpr_code sctpr_read_packet_with_sum(const uint8_t *packet, size_t length, uint32_t sum, struct sctpr_head *head, struct sctpr_chunk *rows,
-                                    size_t room, size_t *count);
+                                      size_t room, size_t *count);
 
-/* A chunk of a packet that may have chunks of unknown types. `is_known` is 1 where its type is one that sctpr_read_packet reads; else it is
- * 0, and `is_reported` is 1 where its sender is to be told of it: in an ERROR, by the cause SCTPR_CAUSE_UNRECOGNIZED_CHUNK_TYPE with the
- * chunk as its value (RFC 4960 3.2, 3.3.10.6). */
+/* A chunk of a packet with all that RFC 9260 allows. `is_known` is 1 where its type is one that sctpr_read_packet reads; else it is 0, and
+ * `is_reported` is 1 where its sender is to be told of it: in an ERROR, by the cause SCTPR_CAUSE_UNRECOGNIZED_CHUNK_TYPE with the chunk as
+ * its value (RFC 4960 3.2, 3.3.10.6). */
 struct sctpr_any_chunk {
     size_t at;
     size_t length;
@@ -306,14 +315,19 @@ struct sctpr_any_chunk {
     uint8_t is_reported;
 };
 
-/* The same for a packet with chunks of unknown types, as I-DATA, AUTH and PAD are here (RFC 4960 3.2): one whose type has the highest bit
- * set is skipped; any other is the last one that is looked at, and the last row. `count` becomes how many chunks there are so far, and the
- * first `room` of them stand in `rows`. Chunks of known types are read whole, as above, and one that is refused refuses the packet; of the
- * others the header is read. SCTPR_UNKNOWN_CHUNK is no refusal of it; the other ones are those of sctpr_read_packet. */
+/* The same for a packet with all that RFC 9260 allows, which sctpr_read_packet refuses:
+ * - chunks of unknown types, as I-DATA, AUTH and PAD are here (3.2): one whose type has the highest bit set is skipped; any other is the
+ *   last one that is looked at, and the last row
+ * - parameters and error causes of any type, length and padding. Of an INIT, INIT-ACK, ABORT, ERROR and RE-CONFIG the header is read here.
+ *   Walk the parameters of the first two, from byte 20 on, and of a RE-CONFIG, from byte 4 on, by sctpr_read_any_param, and the causes by
+ *   sctpr_read_cause: each tells type and place, of what the caller passes over too
+ * `count` becomes how many chunks there are so far, and the first `room` of them stand in `rows`. A chunk of another known type is read
+ * whole, and refuses the packet where it is refused. SCTPR_UNKNOWN_CHUNK is no refusal of it; the other ones are those of
+ * sctpr_read_packet. What sctpr_read_packet reads, this reads too. */
 sctpr_code sctpr_read_any_packet(const uint8_t *packet, size_t length, struct sctpr_head *head, struct sctpr_any_chunk *rows, size_t room,
-                               size_t *count);
+                                 size_t *count);
 sctpr_code sctpr_read_any_packet_with_sum(const uint8_t *packet, size_t length, uint32_t sum, struct sctpr_head *head,
-                                        struct sctpr_any_chunk *rows, size_t room, size_t *count);
+                                          struct sctpr_any_chunk *rows, size_t room, size_t *count);
 
 /* The readers below take the bytes of a chunk. They refuse with an error of the header or of that kind, or with SCTPR_NO_MEMORY, and have
  * written nothing then. Those of DATA and of a SACK take no memory. */
@@ -345,17 +359,18 @@ struct sctpr_gap {
     uint16_t end;
 };
 sctpr_code sctpr_read_sack(const uint8_t *chunk, size_t length, struct sctpr_sack *sack, struct sctpr_gap *blocks, size_t blocks_room,
-                         uint32_t *duplicates, size_t duplicates_room);
+                           uint32_t *duplicates, size_t duplicates_room);
 
 /* A FORWARD-TSN (RFC 3758 3.2). `count` becomes how many streams it names, and as many as there is room for are written. */
 struct sctpr_skip {
     uint16_t stream;
     uint16_t sequence;
 };
-sctpr_code sctpr_read_forward_tsn(const uint8_t *chunk, size_t length, uint32_t *new_cumulative_tsn, struct sctpr_skip *streams, size_t room,
-                                size_t *count);
+sctpr_code sctpr_read_forward_tsn(const uint8_t *chunk, size_t length, uint32_t *new_cumulative_tsn, struct sctpr_skip *streams,
+                                  size_t room, size_t *count);
 
-/* An INIT, or where `is_ack` is not 0 an INIT-ACK (RFC 4960 3.3.2, 3.3.3); its parameters begin at byte 20 of the chunk. */
+/* The numbers of an INIT, or where `is_ack` is not 0 of an INIT-ACK (RFC 9260 3.3.2, 3.3.3). Its flags are ignored. Its parameters begin at
+ * byte 20 of the chunk, and are walked by sctpr_read_any_param. It takes no memory. */
 struct sctpr_init {
     uint32_t initiate_tag;
     uint32_t credit;
@@ -378,6 +393,43 @@ struct sctpr_param {
 };
 sctpr_code sctpr_read_param(const uint8_t *bytes, size_t length, struct sctpr_param *param);
 
+/* The same of any type and any value: its header alone is read (RFC 9260 3.2.1). Where the caller does not know a type, the walk ends
+ * there if its bit 0x8000 is not set, and the sender of the parameter is told of it if its bit 0x4000 is set.
+ * SCTPR_ERR_PARAM_HEADER_TOO_SHORT, where the bytes begin with no parameter. It takes no memory. */
+sctpr_code sctpr_read_any_param(const uint8_t *bytes, size_t length, struct sctpr_param *param);
+
+/* The readers below take the bytes of a parameter of a RE-CONFIG (RFC 6525 4), and no memory. SCTPR_ERR_PARAM_TYPE_UNEXPECTED of another
+ * type. */
+
+/* The number of any request, which are the types 13, 14, 15, 17 and 18. Each is answered by a response with this number:
+ * SCTPR_RESULT_DENIED, where the caller does not follow it. */
+sctpr_code sctpr_read_request(const uint8_t *bytes, size_t length, uint32_t *number);
+
+/* An Outgoing SSN Reset Request: its number, the number of the request that it answers, and the last TSN that its sender gave out (4.1).
+ * `count` becomes how many streams it names, 0 where it means all, and as many as there is room for are written. */
+struct sctpr_reset {
+    uint32_t request;
+    uint32_t response;
+    uint32_t last_tsn;
+};
+sctpr_code sctpr_read_reset(const uint8_t *bytes, size_t length, struct sctpr_reset *reset, uint16_t *streams, size_t room, size_t *count);
+
+/* A Re-configuration Response: the number of the request that it answers, and the result (4.4). */
+enum {
+    SCTPR_RESULT_NOTHING_TO_DO = 0,
+    SCTPR_RESULT_PERFORMED = 1,
+    SCTPR_RESULT_DENIED = 2,
+    SCTPR_RESULT_WRONG_SSN = 3,
+    SCTPR_RESULT_REQUEST_IN_PROGRESS = 4,
+    SCTPR_RESULT_BAD_SEQUENCE_NUMBER = 5,
+    SCTPR_RESULT_IN_PROGRESS = 6
+};
+struct sctpr_response {
+    uint32_t response;
+    uint32_t result;
+};
+sctpr_code sctpr_read_response(const uint8_t *bytes, size_t length, struct sctpr_response *response);
+
 /* The error cause that the bytes begin with, as those from byte 4 of an ABORT or ERROR on do (RFC 4960 3.3.10): its value is `length` bytes
  * from byte 4 on, and the next one begins at byte `next`, or there is none where that is all of the bytes.
  * SCTPR_ERR_ERROR_CAUSE_TOO_SMALL, where they begin with none; SCTPR_NO_MEMORY. */
@@ -395,19 +447,24 @@ sctpr_code sctpr_read_cause(const uint8_t *bytes, size_t length, struct sctpr_ca
  * SCTPR_SHORT_BUFFER to those that it wants, and has then written none. What stands in the buffer behind them stays. */
 
 /* A chunk of a type and a value, its flags 0, of any type that is read (RFC 4960 3.2, 3.3). It is read before it is written, so that no
- * chunk comes out that a reader refuses: else the reader's error. SCTPR_LENGTH_TOO_LARGE of more than 65,531 bytes. SCTPR_NO_MEMORY. */
+ * chunk comes out that a reader refuses: else the reader's error. SCTPR_NOT_AS_GIVEN, where what is read has another value: bytes behind
+ * its end, a payload type or a result of a RE-CONFIG that has no name here. The padding of the last item may stand in the value; the
+ * chunk's length does not count it. SCTPR_LENGTH_TOO_LARGE of more than 65,531 bytes. SCTPR_NO_MEMORY. */
 sctpr_code sctpr_write_chunk(uint8_t type, const uint8_t *value, size_t length, uint8_t *out, size_t room, size_t *written);
 
 /* The same with flags, as they are given: SCTPR_FLAG_T, and those of DATA (3.3.1). */
 sctpr_code sctpr_write_chunk_with_flags(uint8_t type, uint8_t flags, const uint8_t *value, size_t length, uint8_t *out, size_t room,
-                                      size_t *written);
+                                        size_t *written);
 
 /* An INIT or INIT-ACK. `params` are its parameters, as sctpr_write_param writes them one behind the other. Refuses as sctpr_write_chunk. */
 sctpr_code sctpr_write_init(const struct sctpr_init *init, const uint8_t *params, size_t length, uint8_t *out, size_t room,
-                          size_t *written);
+                            size_t *written);
 
 /* A parameter (RFC 4960 3.2.1). Refuses as sctpr_write_chunk. */
 sctpr_code sctpr_write_param(uint16_t type, const uint8_t *value, size_t length, uint8_t *out, size_t room, size_t *written);
+
+/* A Re-configuration Response with no TSNs (RFC 6525 4.4): 12 bytes, a parameter of a RE-CONFIG. It takes no memory. */
+sctpr_code sctpr_write_response(const struct sctpr_response *response, uint8_t *out, size_t room, size_t *written);
 
 /* An error cause (RFC 4960 3.3.10): what an ABORT or ERROR has as its value. SCTPR_LENGTH_TOO_LARGE of more than 65,531 bytes,
  * SCTPR_NO_MEMORY. Of several causes in one chunk all but the last have to be multiples of four long without padding: sctpr_read_packet and
@@ -433,14 +490,23 @@ typedef struct sctpr_receiver {
 
 /* Makes a receiver with no stream, to which nothing came: `first_tsn`, the peer's initial TSN, is expected next, and a message may have
  * `max_message_size` bytes. It holds about `window` bytes at most, each chunk counted as 200 more than its user data, and no TSN farther
- * than `reach` past the cumulative one (RFC 4960 6.2). `out` becomes its handle. SCTPR_NO_MEMORY; `out` stays then. */
+ * than `reach` past the cumulative one (RFC 4960 6.2). `out` becomes its handle. SCTPR_INVALID, where `window` is under
+ * SCTPR_LEAST_WINDOW(max_message_size, 65519), so that a message would never fit; SCTPR_NO_MEMORY; `out` stays then. A peer whose chunks
+ * have fewer bytes of user data each needs a window of SCTPR_LEAST_WINDOW(max_message_size, bytes). */
+#define SCTPR_LEAST_WINDOW(size, fragment) ((size_t)(size) + 200 * (((size_t)(size) + (size_t)(fragment) - 1) / (size_t)(fragment)))
 sctpr_code sctpr_receiver_new(uint32_t first_tsn, uint32_t max_message_size, size_t window, uint32_t reach, sctpr_receiver *out);
 
 /* The same, with no limit to what is held: for a peer that is trusted, or a replay. */
 sctpr_code sctpr_receiver_new_unlimited(uint32_t first_tsn, uint32_t max_message_size, sctpr_receiver *out);
 
-/* Frees a receiver and all that it holds. The handle is not used again. */
-void sctpr_receiver_free(sctpr_receiver receiver);
+/* Frees a receiver and all that it holds, and empties its handle. It does nothing where the handle is empty, as after this call or with
+ * `sctpr_receiver handle = { NULL }`, and where there is no handle. */
+void sctpr_receiver_free_handle(sctpr_receiver receiver);
+static inline void sctpr_receiver_free(sctpr_receiver *receiver) {
+    if (receiver == NULL || receiver->at == NULL) return;
+    sctpr_receiver_free_handle(*receiver);
+    receiver->at = NULL;
+}
 
 /* Opens a stream. SCTPR_STREAM_OPEN, SCTPR_NO_MEMORY. */
 sctpr_code sctpr_receiver_open(sctpr_receiver *receiver, uint16_t stream);
@@ -475,7 +541,7 @@ sctpr_code sctpr_receiver_forward_tsn_past_closed(sctpr_receiver *receiver, cons
 
 /* Tells the next message of a stream, and takes nothing out: `size` becomes its length in bytes, `payload_type` its payload type.
  * SCTPR_NOTHING: there is none. SCTPR_STREAM_UNKNOWN. Both stay, but with SCTPR_OK. */
-sctpr_code sctpr_receiver_next_length(sctpr_receiver *receiver, uint16_t stream, size_t *size, uint32_t *payload_type);
+sctpr_code sctpr_receiver_next_length(const sctpr_receiver *receiver, uint16_t stream, size_t *size, uint32_t *payload_type);
 
 /* Takes the next message of a stream out and copies it to the front of the buffer: an unordered one, else the ordered one that is due.
  * `size` becomes its length, `payload_type` its payload type. SCTPR_NOTHING: there is none, and both stay. SCTPR_STREAM_UNKNOWN, and both
@@ -485,7 +551,7 @@ sctpr_code sctpr_receiver_read(sctpr_receiver *receiver, uint16_t stream, uint8_
 
 /* Writes the numbers of the streams with a message to read, in the order in which they were opened; `count` becomes how many there are.
  * SCTPR_SHORT_BUFFER, where there is room for fewer: `count` is told, and nothing is written. SCTPR_NO_MEMORY, and both stay. */
-sctpr_code sctpr_receiver_readable_streams(sctpr_receiver *receiver, uint16_t *streams, size_t room, size_t *count);
+sctpr_code sctpr_receiver_readable_streams(const sctpr_receiver *receiver, uint16_t *streams, size_t room, size_t *count);
 
 /* Writes the SACK of what came (RFC 4960 3.3.4), with the window as its credit: first as many gap ack blocks as there is room for, then
  * as many duplicates, which are forgotten; the other duplicates are kept for the next SACK. `written` becomes its length, a multiple of
@@ -493,11 +559,11 @@ sctpr_code sctpr_receiver_readable_streams(sctpr_receiver *receiver, uint16_t *s
 sctpr_code sctpr_receiver_sack(sctpr_receiver *receiver, uint8_t *out, size_t room, size_t *written);
 
 /* The TSN up to which all came, or was skipped. */
-uint32_t sctpr_receiver_cumulative_tsn(sctpr_receiver *receiver);
+uint32_t sctpr_receiver_cumulative_tsn(const sctpr_receiver *receiver);
 /* The window to advertise, in bytes (RFC 4960 3.3.4), which a SACK has as its credit; 2^32 - 1 without limits. */
-uint32_t sctpr_receiver_window(sctpr_receiver *receiver);
+uint32_t sctpr_receiver_window(const sctpr_receiver *receiver);
 /* What is held and was not read: its bytes, and 200 for each chunk; the greatest size_t where it is more. */
-size_t sctpr_receiver_held_bytes(sctpr_receiver *receiver);
+size_t sctpr_receiver_held_bytes(const sctpr_receiver *receiver);
 
 /* ---- Sender ---------------------------------------------------------------------------------------------------------------- */
 
@@ -512,8 +578,14 @@ typedef struct sctpr_sender {
  * a message `max_message_size`. `out` becomes its handle. SCTPR_INVALID, SCTPR_NO_MEMORY; `out` stays then. */
 sctpr_code sctpr_sender_new(uint32_t first_tsn, uint32_t fragment_size, uint32_t max_message_size, sctpr_sender *out);
 
-/* Frees a sender and all that it holds. The handle is not used again. */
-void sctpr_sender_free(sctpr_sender sender);
+/* Frees a sender and all that it holds, and empties its handle. It does nothing where the handle is empty, as after this call or with
+ * `sctpr_sender handle = { NULL }`, and where there is no handle. */
+void sctpr_sender_free_handle(sctpr_sender sender);
+static inline void sctpr_sender_free(sctpr_sender *sender) {
+    if (sender == NULL || sender->at == NULL) return;
+    sctpr_sender_free_handle(*sender);
+    sender->at = NULL;
+}
 
 /* Opens a stream, ordered and reliable. SCTPR_STREAM_OPEN, SCTPR_NO_MEMORY. */
 sctpr_code sctpr_sender_open(sctpr_sender *sender, uint16_t stream);
@@ -540,10 +612,11 @@ sctpr_code sctpr_sender_set_low_threshold(sctpr_sender *sender, uint16_t stream,
 sctpr_code sctpr_sender_reset(sctpr_sender *sender, uint16_t stream);
 
 /* Takes a copy of a message of one byte or more: its fragments wait. `number` becomes its number, `fragments` how many chunks it has.
- * SCTPR_NOTHING: the message has no bytes, and nothing changed (RFC 8831 6.6 sends one byte in their place). SCTPR_STREAM_UNKNOWN,
- * SCTPR_MESSAGE_TOO_LARGE, SCTPR_QUEUE_FULL, SCTPR_NO_MEMORY. Both stay, but with SCTPR_OK. */
+ * SCTPR_NOTHING: the message has no bytes, and nothing changed (RFC 8831 6.6 sends one byte in their place). SCTPR_STREAM_UNKNOWN, before
+ * it takes memory; SCTPR_NOT_AS_GIVEN of a payload type that is none of SCTPR_PPID_..; SCTPR_MESSAGE_TOO_LARGE, SCTPR_QUEUE_FULL,
+ * SCTPR_NO_MEMORY. Both stay, but with SCTPR_OK. */
 sctpr_code sctpr_sender_write(sctpr_sender *sender, uint16_t stream, uint32_t payload_type, const uint8_t *message, size_t length,
-                            uint64_t *number, size_t *fragments);
+                              uint64_t *number, size_t *fragments);
 
 /* Starts the lifetimes of the messages written since the last time. sctpr_sender_send_next does so too. */
 void sctpr_sender_start(sctpr_sender *sender, uint64_t now);
@@ -585,11 +658,11 @@ struct sctpr_in_flight {
 };
 
 /* The chunk in flight with a TSN. SCTPR_NOT_IN_FLIGHT, and `row` stays. */
-sctpr_code sctpr_sender_in_flight(sctpr_sender *sender, uint32_t tsn, struct sctpr_in_flight *row);
+sctpr_code sctpr_sender_in_flight(const sctpr_sender *sender, uint32_t tsn, struct sctpr_in_flight *row);
 /* The chunk in flight at a place: the first has the place 0, and the TSN past sctpr_sender_acked_tsn. SCTPR_NOTHING: there are no more. */
-sctpr_code sctpr_sender_in_flight_at(sctpr_sender *sender, size_t place, struct sctpr_in_flight *row);
+sctpr_code sctpr_sender_in_flight_at(const sctpr_sender *sender, size_t place, struct sctpr_in_flight *row);
 /* The first chunk in flight that is marked for retransmission; sctpr_sender_resend takes the mark. SCTPR_NOTHING: there is none. */
-sctpr_code sctpr_sender_next_to_retransmit(sctpr_sender *sender, struct sctpr_in_flight *row);
+sctpr_code sctpr_sender_next_to_retransmit(const sctpr_sender *sender, struct sctpr_in_flight *row);
 
 /* A chunk that a SACK acknowledged. `sent` is how often it was sent: one that was sent once alone tells the round trip time (RFC 4960
  * 6.3.1 C5). `has_sent_at` is 0 of a chunk that stood for what was never sent. `is_message_acked`: its message is acknowledged whole now.
@@ -607,11 +680,12 @@ struct sctpr_acked {
 };
 
 /* Takes the bytes of a SACK (RFC 4960 6.2.1). SCTPR_OK: `count` becomes how many chunks it reports anew, and the first so many `rows` tell
- * of them, in the order of their TSNs. SCTPR_STALE: its cumulative TSN is before sctpr_sender_acked_tsn; `count` becomes 0, and nothing else
- * changed. SCTPR_SHORT_BUFFER, where there are fewer rows than sctpr_sender_chunks_in_flight, so that no row is ever lost: `count` becomes
- * how many are wanted. Refuses with an error of bytes that are no SACK, with SCTPR_SACK_BEYOND_SENT and SCTPR_SACK_BAD_GAP, where it reports
- * what is not in flight, and with SCTPR_NO_MEMORY. `rows` stay then, and `count` too but for the first. */
-sctpr_code sctpr_sender_acked(sctpr_sender *sender, const uint8_t *chunk, size_t length, struct sctpr_acked *rows, size_t room, size_t *count);
+ * of them, in the order of their TSNs. SCTPR_STALE: its cumulative TSN is before sctpr_sender_acked_tsn; `count` becomes 0, and nothing
+ * else changed. SCTPR_SHORT_BUFFER, where there are fewer rows than sctpr_sender_chunks_in_flight, so that no row is ever lost: `count`
+ * becomes how many are wanted. Refuses with an error of bytes that are no SACK, with SCTPR_SACK_BEYOND_SENT and SCTPR_SACK_BAD_GAP, where
+ * it reports what is not in flight, and with SCTPR_NO_MEMORY. `rows` stay then, and `count` too but for the first. */
+sctpr_code sctpr_sender_acked(sctpr_sender *sender, const uint8_t *chunk, size_t length, struct sctpr_acked *rows, size_t room,
+                              size_t *count);
 
 /* Takes the TSN of a SHUTDOWN, as sctpr_read_shutdown tells it (RFC 4960 3.3.8, 9.2): as a SACK with this cumulative TSN and no gap ack
  * block, with rows, count and codes as above. It is not handed to sctpr_sender_take_back: a SHUTDOWN can't tell of gaps (3.3.8). */
@@ -634,7 +708,7 @@ struct sctpr_taken_back {
  * as there, with a row for each chunk that comes back, and none without sctpr_sender_keep_reported; and SCTPR_QUEUE_FULL, where all bytes
  * would be more than the greatest size_t. */
 sctpr_code sctpr_sender_take_back(sctpr_sender *sender, const uint8_t *chunk, size_t length, struct sctpr_taken_back *rows, size_t room,
-                                size_t *count);
+                                  size_t *count);
 
 /* A message that was abandoned: how many of its bytes left. `is_low` as above. */
 struct sctpr_abandoned {
@@ -683,23 +757,23 @@ sctpr_code sctpr_sender_forward_tsn(sctpr_sender *sender, uint8_t *out, size_t r
 sctpr_code sctpr_sender_forward_tsn_to(sctpr_sender *sender, uint32_t tsn, uint8_t *out, size_t room, size_t *written);
 
 /* The TSN that the next chunk gets (RFC 4960 6.1). */
-uint32_t sctpr_sender_next_tsn(sctpr_sender *sender);
+uint32_t sctpr_sender_next_tsn(const sctpr_sender *sender);
 /* The TSN up to which all was acknowledged (RFC 4960 6.2.1). */
-uint32_t sctpr_sender_acked_tsn(sctpr_sender *sender);
+uint32_t sctpr_sender_acked_tsn(const sctpr_sender *sender);
 /* The Advanced.Peer.Ack.Point (RFC 3758 3.5 C2). */
-uint32_t sctpr_sender_advanced_ack_point(sctpr_sender *sender);
+uint32_t sctpr_sender_advanced_ack_point(const sctpr_sender *sender);
 /* How many bytes of user data are in flight (RFC 4960 7.2): what is acknowledged or abandoned counts no more. */
-size_t sctpr_sender_bytes_in_flight(sctpr_sender *sender);
+size_t sctpr_sender_bytes_in_flight(const sctpr_sender *sender);
 /* How many chunks are in flight: each TSN past sctpr_sender_acked_tsn and before sctpr_sender_next_tsn has one. */
-size_t sctpr_sender_chunks_in_flight(sctpr_sender *sender);
+size_t sctpr_sender_chunks_in_flight(const sctpr_sender *sender);
 /* The first TSN in flight that is neither acknowledged nor abandoned (RFC 4960 6.3.3). SCTPR_NOTHING: there is none, and `tsn` stays. */
-sctpr_code sctpr_sender_earliest_outstanding(sctpr_sender *sender, uint32_t *tsn);
+sctpr_code sctpr_sender_earliest_outstanding(const sctpr_sender *sender, uint32_t *tsn);
 /* How many fragments wait. */
-size_t sctpr_sender_pending(sctpr_sender *sender);
+size_t sctpr_sender_pending(const sctpr_sender *sender);
 /* How many bytes of user data of a stream wait or are in flight. SCTPR_STREAM_UNKNOWN, and `amount` stays. */
-sctpr_code sctpr_sender_buffered_amount(sctpr_sender *sender, uint16_t stream, size_t *amount);
+sctpr_code sctpr_sender_buffered_amount(const sctpr_sender *sender, uint16_t stream, size_t *amount);
 /* 1 where nothing of a stream waits or is in flight, so that it can be reset (RFC 6525 5.1.2), else 0. */
-uint8_t sctpr_sender_is_drained(sctpr_sender *sender, uint16_t stream);
+uint8_t sctpr_sender_is_drained(const sctpr_sender *sender, uint16_t stream);
 
 #ifdef __cplusplus
 }

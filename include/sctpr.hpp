@@ -165,9 +165,9 @@ enum class code : sctpr_code {
     err_param_header_too_short = SCTPR_ERR_PARAM_HEADER_TOO_SHORT,
     /** A parameter of type typ is of no kind, and the type's highest bit is not set: reading is to stop (RFC 4960 3.2.1). */
     err_param_type_unhandled = SCTPR_ERR_PARAM_TYPE_UNHANDLED,
-    /** Not answered by a call of this library. Read as a Chunk List: the type is not 32771 (RFC 4895 3.2). */
+    /** A parameter is of another type than the call reads (RFC 6525 4). */
     err_param_type_unexpected = SCTPR_ERR_PARAM_TYPE_UNEXPECTED,
-    /** The value of an Outgoing SSN Reset Request has under 12 bytes (RFC 6525 4.1). */
+    /** The value of an Outgoing SSN Reset Request has under 12 bytes (RFC 6525 4.1), or that of a request has no number. */
     err_ssn_reset_request_param_too_short = SCTPR_ERR_SSN_RESET_REQUEST_PARAM_TOO_SHORT,
     /** The value of an Outgoing SSN Reset Request has 12 bytes or more, an odd number of them (RFC 6525 4.1). */
     err_ssn_reset_request_param_invalid_length = SCTPR_ERR_SSN_RESET_REQUEST_PARAM_INVALID_LENGTH,
@@ -179,6 +179,8 @@ enum class code : sctpr_code {
     err_supported_address_types_param_invalid_length = SCTPR_ERR_SUPPORTED_ADDRESS_TYPES_PARAM_INVALID_LENGTH,
     /** Not answered by a call of this library: the message is longer than the buffer, which is filled with the message's beginning. */
     err_short_buffer = SCTPR_ERR_SHORT_BUFFER,
+    /** It can't be written as it was given: a chunk whose value is read as another one, or a payload type that has no name here. */
+    not_as_given = SCTPR_NOT_AS_GIVEN,
 };
 
 /** The name that sctpr.h has for a code, "SCTPR_NO_MEMORY"; "SCTPR_UNKNOWN" of a number that is none. */
@@ -246,6 +248,8 @@ using skip = sctpr_skip;
 using init = sctpr_init;
 using param = sctpr_param;
 using cause = sctpr_cause;
+using reset = sctpr_reset;
+using response = sctpr_response;
 using in_flight = sctpr_in_flight;
 using acked = sctpr_acked;
 using taken_back = sctpr_taken_back;
@@ -392,6 +396,30 @@ inline result<param> read_param(bytes all) {
 }
 inline bytes param_value(bytes all, const param &p) { return all.subspan(4, p.length); }
 
+/** The same of any type and any value: its header alone is read. */
+inline result<param> read_any_param(bytes all) {
+    param p{};
+    return detail::value_of(sctpr_read_any_param(all.data(), all.size(), &p), p);
+}
+
+/** The number of any request of a RE-CONFIG that the bytes begin with. */
+inline result<std::uint32_t> read_request(bytes all) {
+    std::uint32_t number = 0;
+    return detail::value_of(sctpr_read_request(all.data(), all.size(), &number), number);
+}
+
+/** An Outgoing SSN Reset Request; as many streams as there is room for stand in `streams`, and `count` is how many it names. */
+inline result<reset> read_reset(bytes all, std::span<std::uint16_t> streams, std::size_t &count) {
+    reset r{};
+    return detail::value_of(sctpr_read_reset(all.data(), all.size(), &r, streams.data(), streams.size(), &count), r);
+}
+
+/** A Re-configuration Response. */
+inline result<response> read_response(bytes all) {
+    response r{};
+    return detail::value_of(sctpr_read_response(all.data(), all.size(), &r), r);
+}
+
 /* ---- Writing --------------------------------------------------------------------------------------------------------------- */
 
 /** sctpr_write_chunk. Each of these answers how many bytes were written, padding included. */
@@ -416,6 +444,11 @@ inline result<std::size_t> write_param(std::uint16_t type, bytes value, buffer o
     return detail::value_of(c, n, n);
 }
 
+inline result<std::size_t> write_response(const response &r, buffer out) {
+    std::size_t n = 0;
+    sctpr_code c = sctpr_write_response(&r, out.data(), out.size(), &n);
+    return detail::value_of(c, n, n);
+}
 inline result<std::size_t> write_cause(std::uint16_t code, bytes value, buffer out) {
     std::size_t n = 0;
     sctpr_code c = sctpr_write_cause(code, value.data(), value.size(), out.data(), out.size(), &n);
@@ -486,7 +519,7 @@ public:
         return *this;
     }
     ~receiver() {
-        if (handle_.at) sctpr_receiver_free(handle_);
+        sctpr_receiver_free(&handle_);
     }
 
     result<void> open(std::uint16_t stream) { return detail::done(sctpr_receiver_open(&handle_, stream)); }
@@ -591,7 +624,7 @@ public:
         return *this;
     }
     ~sender() {
-        if (handle_.at) sctpr_sender_free(handle_);
+        sctpr_sender_free(&handle_);
     }
 
     result<void> open(std::uint16_t stream) { return detail::done(sctpr_sender_open(&handle_, stream)); }

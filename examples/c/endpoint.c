@@ -5,6 +5,8 @@
 enum { PACKET_HEADER = 12, HEADERS = 28, CHUNK_ROWS = 400 };
 /* Chunks in flight at most, and rows that are enough for them: abandoning a message that was sent in part gives out one TSN more. */
 enum { MAX_CHUNKS_IN_FLIGHT = 512, ROWS = MAX_CHUNKS_IN_FLIGHT + 8 };
+/* Streams that a request to reset them may name. */
+enum { STREAMS_A_REQUEST = 64 };
 /* The longest time before a SACK is sent, in nanoseconds (RFC 4960 6.2). */
 enum { SACK_DELAY = 200000000 };
 
@@ -57,8 +59,8 @@ void endpoint_init(struct endpoint *e, const struct endpoint_config *config) {
 
 void endpoint_free(struct endpoint *e) {
     if (!e->has_halves) return;
-    sctpr_sender_free(e->sender);
-    sctpr_receiver_free(e->receiver);
+    sctpr_sender_free(&e->sender);
+    sctpr_receiver_free(&e->receiver);
     e->has_halves = 0;
 }
 
@@ -77,7 +79,7 @@ static int make_halves(struct endpoint *e) {
     if (e->has_halves) return 1;
     if (sctpr_sender_new(c->first_tsn, c->mtu - HEADERS, c->max_message_size, &e->sender) != SCTPR_OK) return 0;
     if (sctpr_receiver_new(e->peer.first_tsn, c->max_message_size, c->window, 65535, &e->receiver) != SCTPR_OK) {
-        sctpr_sender_free(e->sender);
+        sctpr_sender_free(&e->sender);
         return 0;
     }
     e->has_halves = 1;
@@ -119,9 +121,12 @@ static int read_peer(const uint8_t *chunk, size_t length, struct endpoint_peer *
     struct sctpr_param param;
     if (sctpr_read_init(chunk, length, &init) != SCTPR_OK) return 0;
     if (init.initiate_tag == 0 || init.inbound_streams == 0 || init.outbound_streams == 0) return 0;
-    *peer = (struct endpoint_peer){ init.initiate_tag, init.initial_tsn, init.credit, init.inbound_streams, 0, 0 };
-    for (size_t at = 20; at < length && sctpr_read_param(chunk + at, length - at, &param) == SCTPR_OK; at += param.next) {
+    *peer = (struct endpoint_peer){ .tag = init.initiate_tag, .first_tsn = init.initial_tsn, .credit = init.credit,
+                                    .next_request = init.initial_tsn, .streams = init.inbound_streams };
+    for (size_t at = 20; at < length && sctpr_read_any_param(chunk + at, length - at, &param) == SCTPR_OK; at += param.next) {
         const uint8_t *value = chunk + at + 4;
+        /* an unknown type without the highest bit ends the walk (RFC 9260 3.2.1); addresses and their like are known up to 12 */
+        if (!(param.type & 0x8000) && param.type > 12) break;
         if (param.type == SCTPR_PARAM_FORWARD_TSN_SUPPORTED) peer->has_forward_tsn = 1;
         if (param.type == SCTPR_PARAM_SUPPORTED_EXTENSIONS && memchr(value, SCTPR_FORWARD_TSN, param.length)) peer->has_forward_tsn = 1;
         if (param.type == SCTPR_PARAM_STATE_COOKIE) {
@@ -285,6 +290,43 @@ static void on_abort(struct endpoint *e, const uint8_t *chunk, size_t length) {
     memcpy(e->abort_chunk, chunk, e->abort_length);
 }
 
+/* Resets the streams of a request, or says that they are none, or that DATA from before it is still to come (RFC 6525 5.2.2). */
+static uint32_t reset_streams(struct endpoint *e, const uint8_t *request, size_t length) {
+    struct sctpr_reset reset;
+    uint16_t streams[STREAMS_A_REQUEST];
+    size_t count;
+    if (sctpr_read_reset(request, length, &reset, streams, STREAMS_A_REQUEST, &count) != SCTPR_OK) return SCTPR_RESULT_DENIED;
+    if (count > STREAMS_A_REQUEST) return SCTPR_RESULT_DENIED;
+    for (size_t i = 0; i < (count > 0 ? count : e->config.streams); i++) {
+        sctpr_code code = sctpr_receiver_reset(&e->receiver, count > 0 ? streams[i] : (uint16_t)i, reset.last_tsn);
+        if (code == SCTPR_RESET_IN_PROGRESS) return SCTPR_RESULT_IN_PROGRESS;
+        if (code == SCTPR_STREAM_UNKNOWN) return SCTPR_RESULT_WRONG_SSN;
+        if (code != SCTPR_OK) return SCTPR_RESULT_DENIED;
+    }
+    return SCTPR_RESULT_PERFORMED;
+}
+
+/* Answers each request of a RE-CONFIG, one that comes again as before (RFC 6525 5.2.1): streams are reset, and the rest is denied. Without an
+ * answer it would be repeated for ever. */
+static void on_reconfig(struct endpoint *e, const uint8_t *chunk, size_t length) {
+    struct sctpr_param param;
+    uint8_t answer[12];
+    size_t written;
+    for (size_t at = 4; at < length && sctpr_read_any_param(chunk + at, length - at, &param) == SCTPR_OK; at += param.next) {
+        uint32_t number;
+        if (sctpr_read_request(chunk + at, length - at, &number) != SCTPR_OK) continue;
+        int is_again = number == e->peer.next_request - 1 && e->peer.last_result != SCTPR_RESULT_IN_PROGRESS;
+        struct sctpr_response response = { number, is_again ? e->peer.last_result : SCTPR_RESULT_BAD_SEQUENCE_NUMBER };
+        if (number == e->peer.next_request || (number == e->peer.next_request - 1 && !is_again)) {
+            response.result = param.type == SCTPR_PARAM_OUTGOING_RESET ? reset_streams(e, chunk + at, length - at) : SCTPR_RESULT_DENIED;
+            e->peer.next_request = number + 1;
+            e->peer.last_result = response.result;
+        }
+        if (sctpr_write_response(&response, answer, sizeof answer, &written) == SCTPR_OK) put_chunk(e, SCTPR_RECONFIG, answer, written);
+        e->counts.requests_answered++;
+    }
+}
+
 /* A chunk that is looked at while the association is established or being shut down. */
 static void on_transfer(struct endpoint *e, const uint8_t *chunk, size_t length) {
     if (e->state < ENDPOINT_ESTABLISHED || endpoint_is_over(e)) return;
@@ -295,6 +337,7 @@ static void on_transfer(struct endpoint *e, const uint8_t *chunk, size_t length)
     case SCTPR_HEARTBEAT: put_chunk(e, SCTPR_HEARTBEAT_ACK, chunk + 4, length - 4); break;
     case SCTPR_HEARTBEAT_ACK: on_heartbeat_ack(e, chunk, length); break;
     case SCTPR_SHUTDOWN: on_shutdown(e, chunk, length); break;
+    case SCTPR_RECONFIG: on_reconfig(e, chunk, length); break;
     }
 }
 

@@ -35,9 +35,9 @@ struct endpoint_config {
     void *context;
 };
 
-/* What the peer said of itself in its INIT or INIT-ACK. */
+/* What the peer said of itself in its INIT or INIT-ACK; the number of its next request of a RE-CONFIG, and the answer to the last one. */
 struct endpoint_peer {
-    uint32_t tag, first_tsn, credit;
+    uint32_t tag, first_tsn, credit, next_request, last_result;
     uint16_t streams;
     uint8_t has_forward_tsn, unused;
 };
@@ -45,9 +45,9 @@ struct endpoint_peer {
 /* How often what happened. `packets` counts packets that came, `chunks` the DATA, SACK and FORWARD-TSN chunks, by the code with which they
  * were taken or refused. */
 struct endpoint_counts {
-    uint64_t packets[SCTPR_ERR_SHORT_BUFFER + 1], chunks[SCTPR_ERR_SHORT_BUFFER + 1], wrong_tag;
+    uint64_t packets[SCTPR_NOT_AS_GIVEN + 1], chunks[SCTPR_NOT_AS_GIVEN + 1], wrong_tag;
     uint64_t packets_sent, data_sent, data_sent_again, timeouts, fast_retransmissions;
-    uint64_t abandoned, expired, taken_back, forward_tsns_sent, heartbeats_sent, heartbeats_answered;
+    uint64_t abandoned, expired, taken_back, forward_tsns_sent, heartbeats_sent, heartbeats_answered, requests_answered;
 };
 
 struct endpoint {

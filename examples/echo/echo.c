@@ -139,10 +139,10 @@ int main(void) {
             all += length;
         }
     }
-    sctpr_sender_free(a.sender);
-    sctpr_receiver_free(a.receiver);
-    sctpr_sender_free(b.sender);
-    sctpr_receiver_free(b.receiver);
+    sctpr_sender_free(&a.sender);
+    sctpr_receiver_free(&a.receiver);
+    sctpr_sender_free(&b.sender);
+    sctpr_receiver_free(&b.receiver);
     printf("echo: %u messages with %zu bytes came back, %u datagrams, %u lost, %u rounds\n", (unsigned)echoed, all, datagrams, lost,
            (unsigned)rounds);
     return echoed != MESSAGES;

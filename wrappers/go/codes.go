@@ -149,9 +149,9 @@ const (
 	CodeErrParamHeaderTooShort Code = 81
 	// A parameter of type typ is of no kind, and the type's highest bit is not set: reading is to stop (RFC 4960 3.2.1).
 	CodeErrParamTypeUnhandled Code = 82
-	// Not answered by a call of this library. Read as a Chunk List: the type is not 32771 (RFC 4895 3.2).
+	// A parameter is of another type than the call reads (RFC 6525 4).
 	CodeErrParamTypeUnexpected Code = 83
-	// The value of an Outgoing SSN Reset Request has under 12 bytes (RFC 6525 4.1).
+	// The value of an Outgoing SSN Reset Request has under 12 bytes (RFC 6525 4.1), or that of a request has no number.
 	CodeErrSsnResetRequestParamTooShort Code = 84
 	// The value of an Outgoing SSN Reset Request has 12 bytes or more, an odd number of them (RFC 6525 4.1).
 	CodeErrSsnResetRequestParamInvalidLength Code = 85
@@ -163,6 +163,8 @@ const (
 	CodeErrSupportedAddressTypesParamInvalidLength Code = 88
 	// Not answered by a call of this library: the message is longer than the buffer, which is filled with the message's beginning.
 	CodeErrShortBuffer Code = 89
+	// It can't be written as it was given: a chunk whose value is read as another one, or a payload type that has no name here.
+	CodeNotAsGiven Code = 90
 )
 
 func (c Code) text() string {
@@ -310,9 +312,9 @@ func (c Code) text() string {
 	case CodeErrParamTypeUnhandled:
 		return "A parameter of type typ is of no kind, and the type's highest bit is not set: reading is to stop (RFC 4960 3.2.1)."
 	case CodeErrParamTypeUnexpected:
-		return "Not answered by a call of this library. Read as a Chunk List: the type is not 32771 (RFC 4895 3.2)."
+		return "A parameter is of another type than the call reads (RFC 6525 4)."
 	case CodeErrSsnResetRequestParamTooShort:
-		return "The value of an Outgoing SSN Reset Request has under 12 bytes (RFC 6525 4.1)."
+		return "The value of an Outgoing SSN Reset Request has under 12 bytes (RFC 6525 4.1), or that of a request has no number."
 	case CodeErrSsnResetRequestParamInvalidLength:
 		return "The value of an Outgoing SSN Reset Request has 12 bytes or more, an odd number of them (RFC 6525 4.1)."
 	case CodeErrReconfigRespParamTooShort:
@@ -323,6 +325,8 @@ func (c Code) text() string {
 		return "The value of a Supported Address Types has an odd number of bytes (RFC 4960 3.3.2.1)."
 	case CodeErrShortBuffer:
 		return "Not answered by a call of this library: the message is longer than the buffer, which is filled with the message's beginning."
+	case CodeNotAsGiven:
+		return "It can't be written as it was given: a chunk whose value is read as another one, or a payload type that has no name here."
 	}
 	return "A code that this version doesn't know."
 }

@@ -5,14 +5,16 @@ package sctprattle
 */
 import "C"
 
+import "unsafe"
+
 // A Head is a packet's header but for the checksum (RFC 4960 3.1).
 type Head struct {
 	VerificationTag             uint32
 	SourcePort, DestinationPort uint16
 }
 
-func (h Head) inC() C.struct_sctp_head {
-	return C.struct_sctp_head{
+func (h Head) inC() C.struct_sctpr_head {
+	return C.struct_sctpr_head{
 		verification_tag: C.uint32_t(h.VerificationTag),
 		source_port:      C.uint16_t(h.SourcePort),
 		destination_port: C.uint16_t(h.DestinationPort),
@@ -31,7 +33,7 @@ func (c Chunk) Value() []byte { return c.Bytes[4:] }
 
 // ReadPacket reads a packet under CRC-32C: header, checksum, and each of its chunks whole.
 func ReadPacket(packet []byte) (Head, []Chunk, error) {
-	return readPacket(packet, func(head *C.struct_sctp_head, rows *C.struct_sctp_chunk, room C.size_t, count *C.size_t) C.sctpr_code {
+	return readPacket(packet, func(head *C.struct_sctpr_head, rows *C.struct_sctpr_chunk, room C.size_t, count *C.size_t) C.sctpr_code {
 		at, length := bytesOf(packet)
 		return C.sctpr_read_packet(at, length, head, rows, room, count)
 	})
@@ -40,16 +42,16 @@ func ReadPacket(packet []byte) (Head, []Chunk, error) {
 // ReadPacketWithSum does the same under a sum that the caller took: of the first eight bytes, four zeros, and the bytes from the twelfth
 // on.
 func ReadPacketWithSum(packet []byte, sum uint32) (Head, []Chunk, error) {
-	return readPacket(packet, func(head *C.struct_sctp_head, rows *C.struct_sctp_chunk, room C.size_t, count *C.size_t) C.sctpr_code {
+	return readPacket(packet, func(head *C.struct_sctpr_head, rows *C.struct_sctpr_chunk, room C.size_t, count *C.size_t) C.sctpr_code {
 		at, length := bytesOf(packet)
 		return C.sctpr_read_packet_with_sum(at, length, C.uint32_t(sum), head, rows, room, count)
 	})
 }
 
-func readPacket(packet []byte, read func(*C.struct_sctp_head, *C.struct_sctp_chunk, C.size_t, *C.size_t) C.sctpr_code) (Head, []Chunk, error) {
+func readPacket(packet []byte, read func(*C.struct_sctpr_head, *C.struct_sctpr_chunk, C.size_t, *C.size_t) C.sctpr_code) (Head, []Chunk, error) {
 	// a chunk has four bytes or more, so that there is a row for each
-	rows := make([]C.struct_sctp_chunk, len(packet)/4+1)
-	var head C.struct_sctp_head
+	rows := make([]C.struct_sctpr_chunk, len(packet)/4+1)
+	var head C.struct_sctpr_head
 	var count C.size_t
 	if err := errorOf(read(&head, &rows[0], C.size_t(len(rows)), &count), 0); err != nil {
 		return Head{}, nil, err
@@ -71,7 +73,7 @@ type AnyChunk struct {
 
 // ReadAnyPacket reads a packet under CRC-32C that may have chunks of unknown types.
 func ReadAnyPacket(packet []byte) (Head, []AnyChunk, error) {
-	return readAnyPacket(packet, func(head *C.struct_sctp_head, rows *C.struct_sctp_any_chunk, room C.size_t, count *C.size_t) C.sctpr_code {
+	return readAnyPacket(packet, func(head *C.struct_sctpr_head, rows *C.struct_sctpr_any_chunk, room C.size_t, count *C.size_t) C.sctpr_code {
 		at, length := bytesOf(packet)
 		return C.sctpr_read_any_packet(at, length, head, rows, room, count)
 	})
@@ -79,15 +81,15 @@ func ReadAnyPacket(packet []byte) (Head, []AnyChunk, error) {
 
 // ReadAnyPacketWithSum does the same under a sum that the caller took, as ReadPacketWithSum.
 func ReadAnyPacketWithSum(packet []byte, sum uint32) (Head, []AnyChunk, error) {
-	return readAnyPacket(packet, func(head *C.struct_sctp_head, rows *C.struct_sctp_any_chunk, room C.size_t, count *C.size_t) C.sctpr_code {
+	return readAnyPacket(packet, func(head *C.struct_sctpr_head, rows *C.struct_sctpr_any_chunk, room C.size_t, count *C.size_t) C.sctpr_code {
 		at, length := bytesOf(packet)
 		return C.sctpr_read_any_packet_with_sum(at, length, C.uint32_t(sum), head, rows, room, count)
 	})
 }
 
-func readAnyPacket(packet []byte, read func(*C.struct_sctp_head, *C.struct_sctp_any_chunk, C.size_t, *C.size_t) C.sctpr_code) (Head, []AnyChunk, error) {
-	rows := make([]C.struct_sctp_any_chunk, len(packet)/4+1)
-	var head C.struct_sctp_head
+func readAnyPacket(packet []byte, read func(*C.struct_sctpr_head, *C.struct_sctpr_any_chunk, C.size_t, *C.size_t) C.sctpr_code) (Head, []AnyChunk, error) {
+	rows := make([]C.struct_sctpr_any_chunk, len(packet)/4+1)
+	var head C.struct_sctpr_head
 	var count C.size_t
 	if err := errorOf(read(&head, &rows[0], C.size_t(len(rows)), &count), 0); err != nil {
 		return Head{}, nil, err
@@ -111,7 +113,7 @@ type Data struct {
 // ReadData reads a DATA chunk.
 func ReadData(chunk []byte) (Data, error) {
 	at, length := bytesOf(chunk)
-	var d C.struct_sctp_data
+	var d C.struct_sctpr_data
 	if err := errorOf(C.sctpr_read_data(at, length, &d), 0); err != nil {
 		return Data{}, err
 	}
@@ -134,9 +136,9 @@ type Sack struct {
 // ReadSack reads a SACK.
 func ReadSack(chunk []byte) (Sack, error) {
 	at, length := bytesOf(chunk)
-	var s C.struct_sctp_sack
+	var s C.struct_sctpr_sack
 	// as many rows as its bytes can be
-	gaps, repeats := make([]C.struct_sctp_gap, len(chunk)/4+1), make([]C.uint32_t, len(chunk)/4+1)
+	gaps, repeats := make([]C.struct_sctpr_gap, len(chunk)/4+1), make([]C.uint32_t, len(chunk)/4+1)
 	if err := errorOf(C.sctpr_read_sack(at, length, &s, &gaps[0], C.size_t(len(gaps)), &repeats[0], C.size_t(len(repeats))), 0); err != nil {
 		return Sack{}, err
 	}
@@ -156,7 +158,7 @@ type Skip struct{ Stream, Sequence uint16 }
 // ReadForwardTSN reads a FORWARD-TSN (RFC 3758 3.2): up to where it skips, and the streams that it names.
 func ReadForwardTSN(chunk []byte) (newCumulativeTSN uint32, streams []Skip, err error) {
 	at, length := bytesOf(chunk)
-	rows := make([]C.struct_sctp_skip, len(chunk)/4+1)
+	rows := make([]C.struct_sctpr_skip, len(chunk)/4+1)
 	var tsn C.uint32_t
 	var count C.size_t
 	if err := errorOf(C.sctpr_read_forward_tsn(at, length, &tsn, &rows[0], C.size_t(len(rows)), &count), 0); err != nil {
@@ -179,7 +181,7 @@ type Init struct {
 // ReadInit reads an INIT or INIT-ACK. Params are its parameters, as ReadParam takes them.
 func ReadInit(chunk []byte) (init Init, params []byte, err error) {
 	at, length := bytesOf(chunk)
-	var i C.struct_sctp_init
+	var i C.struct_sctpr_init
 	if err := errorOf(C.sctpr_read_init(at, length, &i), 0); err != nil {
 		return Init{}, nil, err
 	}
@@ -207,7 +209,7 @@ type Cause struct {
 // where it has no bytes.
 func ReadCause(bytes []byte) (cause Cause, rest []byte, err error) {
 	at, length := bytesOf(bytes)
-	var c C.struct_sctp_cause
+	var c C.struct_sctpr_cause
 	if err := errorOf(C.sctpr_read_cause(at, length, &c), 0); err != nil {
 		return Cause{}, nil, err
 	}
@@ -223,11 +225,73 @@ type Param struct {
 // ReadParam reads the parameter that the bytes begin with. Rest is what follows it; there is none where it has no bytes.
 func ReadParam(bytes []byte) (param Param, rest []byte, err error) {
 	at, length := bytesOf(bytes)
-	var p C.struct_sctp_param
+	var p C.struct_sctpr_param
 	if err := errorOf(C.sctpr_read_param(at, length, &p), 0); err != nil {
 		return Param{}, nil, err
 	}
 	return Param{uint16(p._type), bytes[4 : 4+p.length]}, bytes[p.next:], nil
+}
+
+// ReadAnyParam reads the header of the parameter that the bytes begin with, of any type and any value.
+func ReadAnyParam(bytes []byte) (param Param, rest []byte, err error) {
+	at, length := bytesOf(bytes)
+	var p C.struct_sctpr_param
+	if err := errorOf(C.sctpr_read_any_param(at, length, &p), 0); err != nil {
+		return Param{}, nil, err
+	}
+	return Param{uint16(p._type), bytes[4 : 4+p.length]}, bytes[p.next:], nil
+}
+
+// ReadRequest reads the number of any request of a RE-CONFIG that the bytes begin with.
+func ReadRequest(bytes []byte) (number uint32, err error) {
+	at, length := bytesOf(bytes)
+	var n C.uint32_t
+	err = errorOf(C.sctpr_read_request(at, length, &n), 0)
+	return uint32(n), err
+}
+
+// A Reset is an Outgoing SSN Reset Request (RFC 6525 4.1). No stream means all.
+type Reset struct {
+	Request, Response, LastTSN uint32
+	Streams                    []uint16
+}
+
+// ReadReset reads the Outgoing SSN Reset Request that the bytes begin with.
+func ReadReset(bytes []byte) (reset Reset, err error) {
+	at, length := bytesOf(bytes)
+	var r C.struct_sctpr_reset
+	var count C.size_t
+	streams := make([]uint16, len(bytes)/2)
+	var to *C.uint16_t
+	if len(streams) > 0 {
+		to = (*C.uint16_t)(unsafe.Pointer(&streams[0]))
+	}
+	if err := errorOf(C.sctpr_read_reset(at, length, &r, to, C.size_t(len(streams)), &count), 0); err != nil {
+		return Reset{}, err
+	}
+	return Reset{uint32(r.request), uint32(r.response), uint32(r.last_tsn), streams[:count]}, nil
+}
+
+// A Response is a Re-configuration Response (RFC 6525 4.4).
+type Response struct {
+	Response, Result uint32
+}
+
+// ReadResponse reads the Re-configuration Response that the bytes begin with.
+func ReadResponse(bytes []byte) (response Response, err error) {
+	at, length := bytesOf(bytes)
+	var r C.struct_sctpr_response
+	err = errorOf(C.sctpr_read_response(at, length, &r), 0)
+	return Response{uint32(r.response), uint32(r.result)}, err
+}
+
+// WriteResponse writes a Re-configuration Response.
+func WriteResponse(response Response, out []byte) (int, error) {
+	to, room := bytesOf(out)
+	r := C.struct_sctpr_response{response: C.uint32_t(response.Response), result: C.uint32_t(response.Result)}
+	var n C.size_t
+	err := errorOf(C.sctpr_write_response(&r, to, room, &n), n)
+	return written(n, err)
 }
 
 // WriteChunk writes a chunk of a type and a value to the front of a buffer, its flags 0. This and the functions below answer how many
@@ -260,7 +324,7 @@ func WriteCause(code uint16, value, out []byte) (int, error) {
 
 // WriteInit writes an INIT or INIT-ACK. Params are as WriteParam writes them, one behind the other.
 func WriteInit(init Init, params, out []byte) (int, error) {
-	i := C.struct_sctp_init{
+	i := C.struct_sctpr_init{
 		initiate_tag:     C.uint32_t(init.InitiateTag),
 		credit:           C.uint32_t(init.Credit),
 		initial_tsn:      C.uint32_t(init.InitialTSN),

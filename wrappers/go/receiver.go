@@ -54,7 +54,7 @@ func NewUnlimitedReceiver(firstTSN, maxMessageSize uint32) (*Receiver, error) {
 // Close frees the receiver and all that it holds. A second Close does nothing.
 func (r *Receiver) Close() error {
 	if r.isOpen() {
-		C.sctpr_receiver_free(r.handle)
+		C.sctpr_receiver_free(&r.handle)
 		r.handle.at = nil
 	}
 	return nil

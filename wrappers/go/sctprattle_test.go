@@ -118,6 +118,33 @@ func TestChunks(t *testing.T) {
 	is(t, err, CodeErrParamHeaderTooShort)
 }
 
+// The words of a RE-CONFIG, a parameter of an address, and what can't be written or made as it was given.
+func TestReconfig(t *testing.T) {
+	out := make([]byte, 16)
+	n, err := WriteResponse(Response{9, 2}, out)
+	check(t, "response", n == 12 && err == nil)
+	response, err := ReadResponse(out[:12])
+	check(t, "response", response == Response{9, 2} && err == nil)
+	_, err = ReadRequest(out[:12])
+	is(t, err, CodeErrParamTypeUnexpected)
+	reset, err := ReadReset([]byte("\x00\x0d\x00\x12\x00\x00\x00\x01\x00\x00\x00\x02\x00\x00\x00\x03\x00\x04"))
+	check(t, "reset", reflect.DeepEqual(reset, Reset{1, 2, 3, []uint16{4}}) && err == nil)
+	number, err := ReadRequest([]byte("\x00\x11\x00\x0c\x00\x00\x00\x07\x00\x01\x00\x00"))
+	check(t, "request", number == 7 && err == nil)
+	param, rest, err := ReadAnyParam([]byte("\x00\x05\x00\x08\xc0\x00\x02\x01"))
+	check(t, "address", param.Type == 5 && len(param.Value) == 4 && len(rest) == 0 && err == nil)
+	_, err = WriteChunk(ChunkCookieAck, []byte("a"), out)
+	is(t, err, CodeNotAsGiven)
+	_, err = NewReceiver(1, 65536, 65935, 9)
+	is(t, err, CodeInvalid)
+	s, err := NewSender(1, 10, 100)
+	must(t, err)
+	defer s.Close()
+	must(t, s.Open(3))
+	_, _, err = s.Write(3, 99, []byte("a"))
+	is(t, err, CodeNotAsGiven)
+}
+
 func halves(t *testing.T) (*Sender, *Receiver) {
 	s, err := NewSender(1000, 10, 100)
 	must(t, err)

@@ -81,7 +81,7 @@ func NewSender(firstTSN, fragmentSize, maxMessageSize uint32) (*Sender, error) {
 // Close frees the sender and all that it holds. A second Close does nothing.
 func (s *Sender) Close() error {
 	if s.isOpen() {
-		C.sctpr_sender_free(s.handle)
+		C.sctpr_sender_free(&s.handle)
 		s.handle.at = nil
 	}
 	return nil
@@ -206,7 +206,7 @@ func (s *Sender) AddMissIndications(before uint32) int {
 	return int(C.sctpr_sender_add_miss_indications(&s.handle, C.uint32_t(before)))
 }
 
-func inFlightOf(r C.struct_sctp_in_flight) InFlight {
+func inFlightOf(r C.struct_sctpr_in_flight) InFlight {
 	return InFlight{
 		int(r.size), uint64(r.message), uint64(r.sent_at), uint32(r.tsn), uint32(r.sent), uint32(r.payload_type), uint16(r.stream),
 		uint16(r.sequence), r.is_unordered != 0, r.is_acked != 0, r.is_abandoned != 0, r.is_marked != 0,
@@ -215,7 +215,7 @@ func inFlightOf(r C.struct_sctp_in_flight) InFlight {
 
 // InFlight is the chunk in flight with a TSN; ok is false where there is none.
 func (s *Sender) InFlight(tsn uint32) (chunk InFlight, ok bool) {
-	var row C.struct_sctp_in_flight
+	var row C.struct_sctpr_in_flight
 	if !s.isOpen() || C.sctpr_sender_in_flight(&s.handle, C.uint32_t(tsn), &row) != C.SCTPR_OK {
 		return InFlight{}, false
 	}
@@ -224,7 +224,7 @@ func (s *Sender) InFlight(tsn uint32) (chunk InFlight, ok bool) {
 
 // InFlightAt is the chunk in flight at a place, from 0 on; ok is false where there is none.
 func (s *Sender) InFlightAt(place int) (chunk InFlight, ok bool) {
-	var row C.struct_sctp_in_flight
+	var row C.struct_sctpr_in_flight
 	if !s.isOpen() || place < 0 || C.sctpr_sender_in_flight_at(&s.handle, C.size_t(place), &row) != C.SCTPR_OK {
 		return InFlight{}, false
 	}
@@ -233,7 +233,7 @@ func (s *Sender) InFlightAt(place int) (chunk InFlight, ok bool) {
 
 // NextToRetransmit is the first chunk that is marked for retransmission; ok is false where there is none.
 func (s *Sender) NextToRetransmit() (chunk InFlight, ok bool) {
-	var row C.struct_sctp_in_flight
+	var row C.struct_sctpr_in_flight
 	if !s.isOpen() || C.sctpr_sender_next_to_retransmit(&s.handle, &row) != C.SCTPR_OK {
 		return InFlight{}, false
 	}
@@ -242,7 +242,7 @@ func (s *Sender) NextToRetransmit() (chunk InFlight, ok bool) {
 
 // Acked takes a SACK, and answers the chunks that it reports anew; isNew is false where it is out of date.
 func (s *Sender) Acked(chunk []byte) (acked []Acked, isNew bool, err error) {
-	return s.acked(func(rows *C.struct_sctp_acked, room C.size_t, count *C.size_t) C.sctpr_code {
+	return s.acked(func(rows *C.struct_sctpr_acked, room C.size_t, count *C.size_t) C.sctpr_code {
 		at, length := bytesOf(chunk)
 		return C.sctpr_sender_acked(&s.handle, at, length, rows, room, count)
 	})
@@ -250,16 +250,16 @@ func (s *Sender) Acked(chunk []byte) (acked []Acked, isNew bool, err error) {
 
 // AckedUpTo takes the TSN of a SHUTDOWN, as a SACK (RFC 4960 9.2).
 func (s *Sender) AckedUpTo(tsn uint32) (acked []Acked, isNew bool, err error) {
-	return s.acked(func(rows *C.struct_sctp_acked, room C.size_t, count *C.size_t) C.sctpr_code {
+	return s.acked(func(rows *C.struct_sctpr_acked, room C.size_t, count *C.size_t) C.sctpr_code {
 		return C.sctpr_sender_acked_up_to(&s.handle, C.uint32_t(tsn), rows, room, count)
 	})
 }
 
-func (s *Sender) acked(take func(*C.struct_sctp_acked, C.size_t, *C.size_t) C.sctpr_code) ([]Acked, bool, error) {
+func (s *Sender) acked(take func(*C.struct_sctpr_acked, C.size_t, *C.size_t) C.sctpr_code) ([]Acked, bool, error) {
 	if !s.isOpen() {
 		return nil, false, ErrClosed
 	}
-	rows := make([]C.struct_sctp_acked, C.sctpr_sender_chunks_in_flight(&s.handle)+1)
+	rows := make([]C.struct_sctpr_acked, C.sctpr_sender_chunks_in_flight(&s.handle)+1)
 	var count C.size_t
 	code := take(&rows[0], C.size_t(len(rows)), &count)
 	if err := errorOf(code, count); err != nil {
@@ -290,7 +290,7 @@ func (s *Sender) TakeBack(chunk []byte) (chunks []TakenBack, isNew bool, err err
 		return nil, false, ErrClosed
 	}
 	at, length := bytesOf(chunk)
-	rows := make([]C.struct_sctp_taken_back, C.sctpr_sender_chunks_in_flight(&s.handle)+1)
+	rows := make([]C.struct_sctpr_taken_back, C.sctpr_sender_chunks_in_flight(&s.handle)+1)
 	var count C.size_t
 	code := C.sctpr_sender_take_back(&s.handle, at, length, &rows[0], C.size_t(len(rows)), &count)
 	if err := errorOf(code, count); err != nil {
@@ -303,7 +303,7 @@ func (s *Sender) TakeBack(chunk []byte) (chunks []TakenBack, isNew bool, err err
 	return chunks, code == C.SCTPR_OK, nil
 }
 
-func abandonedOf(r C.struct_sctp_abandoned) Abandoned {
+func abandonedOf(r C.struct_sctpr_abandoned) Abandoned {
 	return Abandoned{int(r.bytes), uint64(r.number), uint16(r.stream), r.is_low != 0}
 }
 
@@ -312,14 +312,14 @@ func (s *Sender) Abandon(tsn uint32) (Abandoned, error) {
 	if !s.isOpen() {
 		return Abandoned{}, ErrClosed
 	}
-	var row C.struct_sctp_abandoned
+	var row C.struct_sctpr_abandoned
 	err := errorOf(C.sctpr_sender_abandon(&s.handle, C.uint32_t(tsn), &row), 0)
 	return abandonedOf(row), err
 }
 
 // Expire removes the message in front, where it is past its deadline and wholly unsent; ok is false where there is none.
 func (s *Sender) Expire(now uint64) (message Expired, ok bool) {
-	var r C.struct_sctp_expired
+	var r C.struct_sctpr_expired
 	if !s.isOpen() || C.sctpr_sender_expire(&s.handle, C.uint64_t(now), &r) != C.SCTPR_OK {
 		return Expired{}, false
 	}
@@ -331,30 +331,30 @@ func (s *Sender) ExpireTail(now uint64) (message Abandoned, ok bool, err error) 
 	if !s.isOpen() {
 		return Abandoned{}, false, ErrClosed
 	}
-	var row C.struct_sctp_abandoned
+	var row C.struct_sctpr_abandoned
 	code := C.sctpr_sender_expire_tail(&s.handle, C.uint64_t(now), &row)
 	return abandonedOf(row), code == C.SCTPR_OK, errorOf(code, 0)
 }
 
 // ExpireLate abandons each message in flight that is past its deadline.
 func (s *Sender) ExpireLate(now uint64) ([]Abandoned, error) {
-	return s.abandonAll(func(rows *C.struct_sctp_abandoned, room C.size_t, count *C.size_t) C.sctpr_code {
+	return s.abandonAll(func(rows *C.struct_sctpr_abandoned, room C.size_t, count *C.size_t) C.sctpr_code {
 		return C.sctpr_sender_expire_late(&s.handle, C.uint64_t(now), rows, room, count)
 	})
 }
 
 // ExpireRexmit abandons each message in flight that was sent again as often as it may be.
 func (s *Sender) ExpireRexmit() ([]Abandoned, error) {
-	return s.abandonAll(func(rows *C.struct_sctp_abandoned, room C.size_t, count *C.size_t) C.sctpr_code {
+	return s.abandonAll(func(rows *C.struct_sctpr_abandoned, room C.size_t, count *C.size_t) C.sctpr_code {
 		return C.sctpr_sender_expire_rexmit(&s.handle, rows, room, count)
 	})
 }
 
-func (s *Sender) abandonAll(expire func(*C.struct_sctp_abandoned, C.size_t, *C.size_t) C.sctpr_code) ([]Abandoned, error) {
+func (s *Sender) abandonAll(expire func(*C.struct_sctpr_abandoned, C.size_t, *C.size_t) C.sctpr_code) ([]Abandoned, error) {
 	if !s.isOpen() {
 		return nil, ErrClosed
 	}
-	rows := make([]C.struct_sctp_abandoned, C.sctpr_sender_chunks_in_flight(&s.handle)+1)
+	rows := make([]C.struct_sctpr_abandoned, C.sctpr_sender_chunks_in_flight(&s.handle)+1)
 	var count C.size_t
 	if err := errorOf(expire(&rows[0], C.size_t(len(rows)), &count), count+1); err != nil {
 		return nil, err

@@ -1,11 +1,15 @@
 -- What a caller in C is told of chunks and parameters: their fields as plain numbers, and lists by their lengths.
-use Rattle.std.specs.Prelude.{◌≡◌, ℕ, ◌-◌, min, List, length, map}
+use Rattle.std.specs.Prelude.{◌≡◌, ◌≢◌, ◌⊎◌, ℕ, ◌-◌, ◌<◌, ◌≤◌, ◌==◌, min, List, [], length, map}
+use Rattle.sctp_util.specs.declared.error.Error.{Error}
+use Rattle.sctp_util.specs.declared.error.Error.TheVariants.{ErrChunkTypeNotTypeInit, ErrChunkValueNotLongEnough}
 use Rattle.sctp_util.specs.Padding.{padded_length}
 use Rattle.sctp_params.specs.Param.{Parameter, param_number_of}
-use Rattle.sctp_params.specs.ParamFraming.{param_declared_length}
+use Rattle.sctp_params.specs.ParamFraming.{IsParam, param_declared_length, param_type_at}
 use Rattle.sctp_params.specs.ParamKind.{ReadsParam}
-use Rattle.sctp_chunks.specs.Init.{Init}
-use Rattle.sctp_chunks.specs.Wire.{ReadsChunk, data_chunk, sack_chunk, init_chunk, forward_tsn_chunk}
+use Rattle.sctp_chunks.specs.Fault.{HeaderFault, IsInitChunk}
+use Rattle.sctp_chunks.specs.Framing.{type_at, value_at}
+use Rattle.sctp_chunks.specs.Init.{Init, init_in}
+use Rattle.sctp_chunks.specs.Wire.{ReadsChunk, data_chunk, sack_chunk, forward_tsn_chunk}
 use Rattle.sctp_data.specs.PayloadData.{Data, payload_type_number, weight}
 use Rattle.sctp_data.specs.SelectiveAck.{Sack}
 use Rattle.sctp_data.specs.ForwardTsn.{ForwardTsn}
@@ -79,11 +83,29 @@ pub record IsForwardTsn (bytes : List ℕ) (tsn count : ℕ) (old rows : List Sc
   pub streams : count ≡ length forward.streams
   pub skips : rows ≡ filled (map skip_answered forward.streams) old
 
--- the bytes begin with an INIT or INIT-ACK of these fields
+-- the bytes begin with an INIT or INIT-ACK that has its numbers. Its flags and its parameters may be any (RFC 9260 3.3.2, 3.3.3)
+pub record HasInit (bytes : List ℕ) : Type 0 where
+  pub is_init : IsInitChunk bytes
+  pub long : 16 ≤ length (value_at bytes)
+
+-- the numbers are these
 pub record IsInit (bytes : List ℕ) (t : SctpInit) : Type 0 where
-  pub init : Init
-  pub reads : ReadsChunk bytes (init_chunk init)
-  pub answered : t ≡ init_answered init
+  pub has : HasInit bytes
+  pub answered : t ≡ init_answered (init_in (type_at bytes == 2) (value_at bytes) [])
+
+-- why bytes have none
+abbrev pub NoInitFault : Error → List ℕ → Type 0
+NoInitFault e bytes =
+    HeaderFault e bytes
+    ⊎ ((e ≡ ErrChunkTypeNotTypeInit) × (4 ≤ length bytes) × (type_at bytes ≢ 1) × (type_at bytes ≢ 2))
+    ⊎ ((e ≡ ErrChunkValueNotLongEnough) × IsInitChunk bytes × (length (value_at bytes) < 16))
+
+-- the bytes begin with a parameter of any type, of this type and length; the next one begins behind its padding, or at the end of the bytes
+pub record IsAnyParameter (bytes : List ℕ) (t : SctpParam) : Type 0 where
+  pub is_param : IsParam bytes
+  pub typ : t.typ ≡ param_type_at bytes
+  pub value : t.length ≡ param_declared_length bytes - 4
+  pub later : t.next ≡ min (padded_length (param_declared_length bytes)) (length bytes)
 
 -- the bytes begin with a parameter of this type and length; the next one begins behind its padding, or at the end of the bytes
 pub record IsParameter (bytes : List ℕ) (t : SctpParam) : Type 0 where

@@ -21,6 +21,15 @@ use Rattle.sctp_c.specs.declared.packet.any.SctpAnyChunk.{SctpAnyChunk}
 abbrev pub is_read_type : ℕ → Bool
 is_read_type t = nat_le t 11 || (t == 14 || (t == 130 || (t == 192 || t == 194)))
 
+-- those whose value is a list of parameters or of error causes. The list is read item by item, so that an item of any type or length can stand
+-- in it (RFC 9260 3.3.2, 3.3.3, 3.3.7, 3.3.10; RFC 6525 3.1)
+abbrev pub is_list_type : ℕ → Bool
+is_list_type t = t == 1 || (t == 2 || (t == 6 || (t == 9 || t == 130)))
+
+-- those of the chunks that are read whole with their packet
+abbrev pub is_whole_type : ℕ → Bool
+is_whole_type t = is_read_type t && not (is_list_type t)
+
 -- by the highest bit of any other one: where it is 0, what follows the chunk is not looked at
 abbrev pub is_stopping : ℕ → Bool
 is_stopping t = not (is_read_type t) && nat_lt t 128
@@ -31,11 +40,11 @@ is_reported t = not (is_read_type t) && nat_le 64 (t % 128)
 
 -- ## Chunks
 
--- the bytes begin with a chunk and all of its padding; one of a type that is read is read
+-- the bytes begin with a chunk and all of its padding; one of a type that is read whole is read
 pub record IsThere (bytes : List ℕ) : Type 0 where
   pub is_framed : IsFramed bytes
   pub whole : padded_length (declared_length bytes) ≤ length bytes
-  pub reads : is_read_type (type_at bytes) ≡ true → (w : Wire) × ReadsChunk bytes w
+  pub reads : is_whole_type (type_at bytes) ≡ true → (w : Wire) × ReadsChunk bytes w
 
 -- the row of the chunk that the bytes begin with, where they begin at a place
 abbrev pub any_row : List ℕ → ℕ → SctpAnyChunk
@@ -93,11 +102,11 @@ pub record IsAnyPacket (sum : List ℕ → ℕ) (bytes : List ℕ) (h : SctpHead
 
 -- ## Refusals
 
--- of the chunk that the bytes begin with: by its reader, or by its header alone where its type is not read
+-- of the chunk that the bytes begin with: by its reader, or by its header alone where its type is not read whole
 abbrev pub NextFault : Error → List ℕ → Type 0
 NextFault e bytes =
-    ((is_read_type (type_at bytes) ≡ true) × KindFault e bytes)
-    ⊎ ((is_read_type (type_at bytes) ≡ false) × HeaderFault e bytes)
+    ((is_whole_type (type_at bytes) ≡ true) × KindFault e bytes)
+    ⊎ ((is_whole_type (type_at bytes) ≡ false) × HeaderFault e bytes)
 
 -- the same, or for want of bytes
 abbrev pub AnyPlaceFault : Error → List ℕ → Type 0

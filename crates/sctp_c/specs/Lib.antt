@@ -13,6 +13,7 @@ pub mod Out
 pub mod OwnedReceiver
 pub mod OwnedSender
 pub mod Receiving
+pub mod Reconfig
 pub mod Refusal
 pub mod Rows
 pub mod Sending

@@ -92,6 +92,7 @@ value_error_names =
     ∷ (87, codes "SCTPR_ERR_INVALID_ALGORITHM_TYPE")
     ∷ (88, codes "SCTPR_ERR_SUPPORTED_ADDRESS_TYPES_PARAM_INVALID_LENGTH")
     ∷ (89, codes "SCTPR_ERR_SHORT_BUFFER")
+    ∷ (90, codes "SCTPR_NOT_AS_GIVEN")
     ∷ []
 
 -- the name of a number among these, or that of no code

@@ -1,5 +1,5 @@
 -- What the calls of a receiver answer a caller in C.
-use Rattle.std.specs.Prelude.{◌≡◌, ℕ, Bool, ◌^◌, ◌-◌, List, length, min, Option, Some, None}
+use Rattle.std.specs.Prelude.{◌≡◌, ℕ, Bool, ◌^◌, ◌+◌, ◌-◌, ◌*◌, ◌/◌, List, length, min, Option, Some, None}
 use Rattle.sctp_chunks.specs.Wire.{ReadsChunk, encoding_of, data_chunk, forward_tsn_chunk, sack_chunk}
 use Rattle.sctp_data.specs.ChunkSet.{ChunkSet, fresh}
 use Rattle.sctp_data.specs.ForwardTsn.{ForwardTsn}
@@ -96,3 +96,7 @@ pub record ReadsNext (stream : ℕ) (out_old out_new : List ℕ) (answered_size 
   pub bytes : out_new ≡ at_front (payload_of message.chunks) out_old
   pub size : answered_size ≡ length (payload_of message.chunks)
   pub typ : payload_type ≡ payload_type_number message.ppi
+
+-- what a message of this size costs where its chunks have 65,519 bytes each, the most that one can have, and its last has the rest
+abbrev pub least_window : ℕ → ℕ
+least_window size = size + 200 * ((size + 65518) / 65519)

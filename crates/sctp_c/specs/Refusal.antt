@@ -9,3 +9,9 @@ pub record IsRefusal (Fault : Error → Type 0) (code : ℕ) : Type 0 where
   pub error : Error
   pub number : code ≡ error_code error
   pub fault : OrMemory error (Fault error)
+
+-- the same, where no memory is taken
+pub record IsFaultCode (Fault : Error → Type 0) (code : ℕ) : Type 0 where
+  pub error : Error
+  pub number : code ≡ error_code error
+  pub fault : Fault error

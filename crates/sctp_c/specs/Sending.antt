@@ -5,7 +5,7 @@ use Rattle.sctp_chunks.specs.Wire.{encoding_of, data_chunk}
 use Rattle.sctp_data.specs.declared.chunk.chunk_payload_data.ChunkPayloadData.{ChunkPayloadData}
 use Rattle.sctp_data.specs.declared.chunk.chunk_payload_data.ReliabilityType.{ReliabilityType}
 use Rattle.sctp_data.specs.declared.chunk.chunk_payload_data.ReliabilityType.TheVariants.{Reliable, Rexmit, Timed}
-use Rattle.sctp_data.specs.PayloadData.{Data, data_of, payload_type_from}
+use Rattle.sctp_data.specs.PayloadData.{Data, data_of, payload_type_from, payload_type_number}
 use Rattle.sctp_outbound.specs.outbound_queue.OutboundQueue.{sent_next}
 use Rattle.sctp_outbound.specs.pending_queue.PendingQueue.{next_pending}
 use Rattle.sctp_sender.specs.declared.sender.refusal.SenderRefusal.{SenderRefusal}
@@ -35,6 +35,10 @@ reliability_named n =
     else (if n == 1 then Some Rexmit else (if n == 2 then Some Timed else None))
 
 -- ## Writing
+
+-- the payload type that a message has, of which this number was given
+abbrev pub carries : ℕ → ℕ
+carries n = payload_type_number (payload_type_from n)
 
 -- the fragments of the message wait; its number, and how many they are, are told
 pub record Writes (stream payload_type : ℕ) (bytes : List ℕ) (number fragments : ℕ)

@@ -1,28 +1,48 @@
 -- What is written for a caller in C, and why it is not.
-use Rattle.std.specs.Prelude.{◌≡◌, ℕ, ◌<◌, ◌⊎◌, ◌==◌, if◌then◌else◌, List, ◌++◌, length}
+use Rattle.std.specs.Prelude.{◌≡◌, ℕ, ◌<◌, ◌⊎◌, ◌==◌, if◌then◌else◌, List, ◌++◌, length, take, drop, All}
 use Rattle.sctp_util.specs.declared.error.Error.{Error}
 use Rattle.sctp_util.specs.declared.error.Error.TheVariants.{ErrLengthTooLarge}
 use Rattle.sctp_util.specs.Field.{be16, be32}
+use Rattle.sctp_util.specs.Padding.{padded_length}
 use Rattle.sctp_params.specs.Param.{Parameter}
 use Rattle.sctp_params.specs.ParamFraming.{param_framed}
 use Rattle.sctp_params.specs.ParamKind.{ReadsParam, ParamFault}
 use Rattle.sctp_chunks.specs.Framing.{chunk_encoding}
 use Rattle.sctp_chunks.specs.Kind.{KindFault}
-use Rattle.sctp_chunks.specs.Wire.{Wire, ReadsChunk, encoding_of, type_of, value_of}
+use Rattle.sctp_chunks.specs.Wire.{Wire, ReadsChunk, type_of, value_of}
 use Rattle.sctp_c.specs.Out.{padded}
 use Rattle.sctp_c.specs.declared.reading.SctpInit.{SctpInit}
 
--- the encoding of the chunk that a type, flags 0 and a value are read as, and its padding
-pub record IsChunk (typ : ℕ) (value bytes : List ℕ) : Type 0 where
-  pub chunk : Wire
-  pub reads : ReadsChunk (chunk_encoding typ 0 value) chunk
-  pub encoding : bytes ≡ padded (encoding_of chunk)
+-- a value was read as what was given: as its bytes, or as those before the padding of the last item, which a chunk's length does not count
+-- (RFC 9260 3.2)
+abbrev pub IsAsGiven : List ℕ → List ℕ → Type 0
+IsAsGiven given read =
+    (given ≡ read)
+    ⊎ ((take (length read) given ≡ read) × All (λ x. x ≡ 0) (drop (length read) given)
+    × (length given ≡ padded_length (length read)))
 
--- the same with flags: the type and the value of the chunk that is read, under these flags
+-- the encoding under these flags of the chunk that a type, flags and a value are read as
+pub record IsEncoded (typ flags : ℕ) (value bytes : List ℕ) : Type 0 where
+  pub chunk : Wire
+  pub reads : ReadsChunk (chunk_encoding typ flags value) chunk
+  pub encoding : bytes ≡ chunk_encoding (type_of chunk) flags (value_of chunk)
+
+-- that encoding and its padding, where the value is as it was given
 pub record IsFlaggedChunk (typ flags : ℕ) (value bytes : List ℕ) : Type 0 where
   pub chunk : Wire
   pub reads : ReadsChunk (chunk_encoding typ flags value) chunk
   pub encoding : bytes ≡ padded (chunk_encoding (type_of chunk) flags (value_of chunk))
+  pub as_given : IsAsGiven value (value_of chunk)
+
+-- with flags 0
+abbrev pub IsChunk : ℕ → List ℕ → List ℕ → Type 0
+IsChunk typ value bytes = IsFlaggedChunk typ 0 value bytes
+
+-- a type, flags and a value are read as a chunk with another value, so that other bytes than the given ones would be written
+pub record IsChanged (typ flags : ℕ) (value : List ℕ) : Type 0 where
+  pub chunk : Wire
+  pub reads : ReadsChunk (chunk_encoding typ flags value) chunk
+  pub other : IsAsGiven value (value_of chunk) → ⊥
 
 -- a parameter of a type and a value that a reader takes, and its padding
 pub record IsParam (typ : ℕ) (value bytes : List ℕ) : Type 0 where

@@ -7,12 +7,12 @@ ghost use Rattle.sctp_serial.specs.DataChunks.{preceding_tsn};
 
 use crate::code::SCTPR_OK;
 use crate::receiver::{
-    SctpNewReceiver, SctpReceiver, sctpr_receiver_cumulative_tsn, sctpr_receiver_free,
+    SctpNewReceiver, SctpReceiver, sctpr_receiver_cumulative_tsn, sctpr_receiver_free_handle,
     sctpr_receiver_held_bytes, sctpr_receiver_new_unlimited,
 };
 use crate::sender::sending::sctpr_sender_send_next;
 use crate::sender::{
-    SctpNewSender, SctpSender, sctpr_sender_free, sctpr_sender_new, sctpr_sender_open,
+    SctpNewSender, SctpSender, sctpr_sender_free_handle, sctpr_sender_new, sctpr_sender_open,
     sctpr_sender_write,
 };
 use std::alloc::Global;
@@ -61,7 +61,7 @@ pub fn first_chunk(
     } else {
         None
     };
-    sctpr_sender_free(sender);
+    sctpr_sender_free_handle(sender);
     sent
 }
 
@@ -88,6 +88,6 @@ pub fn before_first_chunk(
     }
     let mut receiver = out.into_handle();
     let answered = standing(&mut receiver);
-    sctpr_receiver_free(receiver);
+    sctpr_receiver_free_handle(receiver);
     Some(answered)
 }

@@ -66,13 +66,16 @@ pub const SCTPR_NAMED_SSN_TOO_FAR: u32 = 38;
 /// The stream can't be reset yet (RFC 6525 4.4).
 pub const SCTPR_RESET_IN_PROGRESS: u32 = 39;
 
+/// A chunk or a payload type can't be written as it was given.
+pub const SCTPR_NOT_AS_GIVEN: u32 = 90;
+
 /// The number of an error of what stands below the two halves; from 40 on they follow the order of `Error`. None is that of a buffer
-/// that is too short, or of an argument out of its range.
+/// that is too short, of an argument out of its range, or of what can't be written as it was given.
 pub fn of_error(e: Error) -> u32
     ensures number { result ≡ error_code e }
     ensures refused { 16 ≤ result }
     ensures memory { e ≡ ErrOutOfMemory → result ≡ 16 }
-    ensures apart { (result ≢ 17) × (result ≢ 18) }
+    ensures apart { (result ≢ 17) × (result ≢ 18) × (result ≢ 90) }
 {
     match e {
         Error::ErrPacketRawTooSmall => 40,

@@ -6,12 +6,13 @@ ghost use Rattle.sctp_util.specs.Field.{u32_at};
 ghost use Rattle.sctp_util.specs.Outcome.{OrMemory};
 ghost use Rattle.sctp_util.specs.Padding.{padded_length};
 ghost use Rattle.sctp_util.specs.declared.error.Error.TheVariants.{ErrOutOfMemory, ErrParseSctpChunkNotEnoughData};
-ghost use Rattle.sctp_chunks.specs.Fault.{DataFault, HeaderFault, IsChunk, OpenFault, SackFault};
+ghost use Rattle.sctp_chunks.specs.Fault.{DataFault, HeaderFault, IsChunk, IsInitChunk, OpenFault, SackFault};
 ghost use Rattle.sctp_chunks.specs.Framing.{IsFramed, declared_length, value_at};
 ghost use Rattle.sctp_chunks.specs.Kind.{KindFault};
 ghost use Rattle.sctp_chunks.specs.Wire.{Wire, ReadsChunk, data_chunk, sack_chunk};
 ghost use Rattle.sctp_data.specs.ChunkSet.{IsFreshData};
 ghost use Rattle.sctp_data.specs.PayloadData.{data_of};
+ghost use Rattle.sctp_c.specs.Answered.{NoInitFault};
 ghost use Rattle.sctp_c.specs.AnyChunks as any;
 ghost use Rattle.sctp_c.specs.Head.{IsInPlace};
 ghost use Rattle.sctp_data.specs.SelectiveAck.{block_at, blocks_in, duplicates_in, sack_of};
@@ -37,6 +38,13 @@ pub fn is_read_type(typ: u8) -> bool
     ensures { result ≡ any.is_read_type typ }
 {
     typ <= 11 || typ == 14 || typ == 130 || typ == 192 || typ == 194
+}
+
+/// Whether a chunk of a type is read whole with its packet: all that are read, but for those whose value is a list of parameters or causes.
+pub fn is_whole_type(typ: u8) -> bool
+    ensures { result ≡ any.is_whole_type typ }
+{
+    is_read_type(typ) && !(typ == 1 || typ == 2 || typ == 6 || typ == 9 || typ == 130)
 }
 
 /// The length that the chunk declares that the bytes begin with, its header with it. They are all that follow from the chunk on, as with
@@ -114,6 +122,25 @@ pub fn sack_value(bytes: &[u8]) -> Result<&[u8]>
         return Err(Error::ErrSackSizeNotLargeEnoughInfo);
     }
     Ok(value)
+}
+
+/// The value of the INIT or INIT-ACK that the bytes begin with: sixteen bytes of numbers, and its parameters (RFC 9260 3.3.2, 3.3.3). Flags and
+/// parameters are not looked at. It takes no memory.
+#[tactic(auto, unfolding(sctp_chunks::specs::Framing::value_at))]
+pub fn init_value(bytes: &[u8]) -> Result<&[u8]>
+    ensures init { OnOk result (IsInitChunk bytes.now) }
+    ensures value { IfOk result (λ v. v.now ≡ value_at bytes.now) }
+    ensures long { IfOk result (λ v. 16 ≤ length v.now) }
+    ensures fault { IfErr result (λ e. NoInitFault e bytes.now) }
+{
+    let length = chunk_length(bytes)?;
+    if bytes[0] != 1 && bytes[0] != 2 {
+        return Err(Error::ErrChunkTypeNotTypeInit);
+    }
+    if length < CHUNK_HEADER_SIZE + 16 {
+        return Err(Error::ErrChunkValueNotLongEnough);
+    }
+    Ok(&bytes[CHUNK_HEADER_SIZE..length])
 }
 
 /// Reads a DATA chunk: its user data alone are copied. Refuses as `ChunkPayloadData::unmarshal` does, or for memory.

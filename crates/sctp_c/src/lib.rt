@@ -15,6 +15,7 @@ pub mod packet;
 mod parts;
 pub mod reading;
 pub mod receiver;
+pub mod reconfig;
 pub mod sender;
 pub mod writing;
 

@@ -139,6 +139,7 @@ fn value_error_name(code: u32) -> &'static str
         87 => "SCTPR_ERR_INVALID_ALGORITHM_TYPE",
         88 => "SCTPR_ERR_SUPPORTED_ADDRESS_TYPES_PARAM_INVALID_LENGTH",
         89 => "SCTPR_ERR_SHORT_BUFFER",
+        90 => "SCTPR_NOT_AS_GIVEN",
         _ => "SCTPR_UNKNOWN",
     }
 }

@@ -1,27 +1,28 @@
 //! Chunks and parameters that came, as numbers.
 
-ghost use Rattle.std.specs.Prelude.{◌≡◌, ◌≢◌, ◌+◌, ◌*◌, ◌≤◌, ℕ, length, map, IfOk, IfErr};
+ghost use Rattle.std.specs.Prelude.{◌≡◌, ◌≢◌, ◌⊎◌, ◌+◌, ◌*◌, ◌≤◌, ℕ, length, map, IfOk, IfErr};
 ghost use Rattle.sctp_util.specs.Each.{each};
 ghost use Rattle.sctp_util.specs.Field.{u32_at};
 ghost use Rattle.sctp_util.specs.Outcome.{OrMemory, GivesUnlessMemory};
 ghost use Rattle.sctp_params.specs.Param.{Parameter};
+ghost use Rattle.sctp_params.specs.ParamFraming.{IsParam};
 ghost use Rattle.sctp_params.specs.ParamKind.{ReadsParam, ParamFault, parameter_of};
-ghost use Rattle.sctp_chunks.specs.Fault.{DataFault, SackFault, ForwardTsnFault, InitFault, ShutdownFault};
+ghost use Rattle.sctp_chunks.specs.Fault.{DataFault, SackFault, ForwardTsnFault, ShutdownFault};
 ghost use Rattle.sctp_chunks.specs.Init.{Init};
 ghost use Rattle.sctp_chunks.specs.Wire.{Wire, ReadsChunk, data_chunk, sack_chunk, forward_tsn_chunk, init_chunk, shutdown_chunk};
 ghost use Rattle.sctp_data.specs.PayloadData.{Data, data_in, weight};
 ghost use Rattle.sctp_data.specs.SelectiveAck.{Sack, block_at};
 ghost use Rattle.sctp_data.specs.ForwardTsn.{ForwardTsn};
 ghost use Rattle.sctp_c.specs.Out.{filled};
-ghost use Rattle.sctp_c.specs.Refusal.{IsRefusal};
-ghost use Rattle.sctp_c.specs.Answered.{IsData, IsSack, IsForwardTsn, IsInit, IsParameter, data_answered, gap_answered, skip_answered};
+ghost use Rattle.sctp_c.specs.Refusal.{IsFaultCode, IsRefusal};
+ghost use Rattle.sctp_c.specs.Answered.{HasInit, IsAnyParameter, IsData, IsSack, IsForwardTsn, IsInit, IsParameter, NoInitFault};
+ghost use Rattle.sctp_c.specs.Answered.{data_answered, gap_answered, init_answered, skip_answered};
 
 use crate::code::{SCTPR_OK, of_error};
-use crate::in_place::{data_value, sack_value};
+use crate::in_place::{data_value, init_value, sack_value};
 use bytes::Bytes;
 use sctp_chunks::chunk::Chunk;
 use sctp_chunks::chunk::chunk_forward_tsn::{ChunkForwardTsn, ChunkForwardTsnStream};
-use sctp_chunks::chunk::chunk_init::ChunkInit;
 use sctp_chunks::chunk::chunk_payload_data::{
     PAYLOAD_DATA_BEGINING_FRAGMENT_BITMASK, PAYLOAD_DATA_ENDING_FRAGMENT_BITMASK,
     PAYLOAD_DATA_HEADER_SIZE, PAYLOAD_DATA_IMMEDIATE_SACK, PAYLOAD_DATA_UNORDERED_BITMASK,
@@ -30,7 +31,7 @@ use sctp_chunks::chunk::chunk_payload_data::{
 use sctp_chunks::chunk::chunk_selective_ack::SELECTIVE_ACK_HEADER_SIZE;
 use sctp_chunks::chunk::chunk_shutdown::ChunkShutdown;
 use sctp_params::param::param_kind::{ParamKind, build_param};
-use sctp_util::error::Result;
+use sctp_util::error::{Error, Result};
 use sctp_util::field::{read_u16, read_u32};
 use sctp_util::util::get_padding_size;
 use std::alloc::Global;
@@ -259,23 +260,27 @@ pub extern "C" fn sctpr_read_forward_tsn(
     }
 }
 
-/// Reads an INIT or INIT-ACK. Refuses as `ChunkInit::unmarshal` does, and then changes nothing.
+/// Reads the numbers of an INIT or INIT-ACK. Flags are ignored (RFC 9260 3.3.2), and its parameters, from byte 20 on, are walked by
+/// `sctpr_read_any_param`. It takes no memory.
 #[unsafe(no_mangle)]
-pub extern "C" fn sctpr_read_init(alloc: Global, chunk: &[u8], init: &mut SctpInit) -> u32
+pub extern "C" fn sctpr_read_init(chunk: &[u8], init: &mut SctpInit) -> u32
     ensures read { result ≡ 0 → IsInit chunk.now init.new }
-    ensures only { (i : Init) → ReadsChunk chunk.now (init_chunk i) → result ≢ 0 → result ≡ 16 }
-    ensures refused { result ≢ 0 → IsRefusal (λ e. InitFault e chunk.now) result }
+    ensures only { HasInit chunk.now → result ≡ 0 }
+    // What the reader of whole packets takes is read, with the same numbers.
+    ensures strict { (i : Init) → ReadsChunk chunk.now (init_chunk i)
+        → (result ≡ 0) × (init.new ≡ init_answered i) }
+    ensures refused { result ≢ 0 → IsFaultCode (λ e. NoInitFault e chunk.now) result }
     ensures kept { result ≢ 0 → init.new ≡ init.old }
 {
-    match read::<ChunkInit>(alloc, chunk) {
-        Ok(read) => {
+    match init_value(chunk) {
+        Ok(value) => {
             *init = SctpInit {
-                initiate_tag: read.initiate_tag,
-                credit: read.advertised_receiver_window_credit,
-                initial_tsn: read.initial_tsn,
-                outbound_streams: read.num_outbound_streams,
-                inbound_streams: read.num_inbound_streams,
-                is_ack: flag(read.is_ack),
+                initiate_tag: read_u32(value, 0),
+                credit: read_u32(value, 4),
+                initial_tsn: read_u32(value, 12),
+                outbound_streams: read_u16(value, 8),
+                inbound_streams: read_u16(value, 10),
+                is_ack: flag(chunk[0] == 2),
             };
             SCTPR_OK
         }
@@ -332,4 +337,30 @@ pub extern "C" fn sctpr_read_param(alloc: Global, raw: &[u8], param: &mut SctpPa
         }
         Err(e) => of_error(e),
     }
+}
+
+/// Reads the header of the parameter that the bytes begin with, of any type and with any value (RFC 9260 3.2.1). Refuses with the code of
+/// `ErrParamHeaderTooShort`, exactly where they begin with none, and then changes nothing. It takes no memory.
+#[unsafe(no_mangle)]
+pub extern "C" fn sctpr_read_any_param(raw: &[u8], param: &mut SctpParam) -> u32
+    ensures codes { (result ≡ 0) ⊎ (result ≡ 81) }
+    ensures read { result ≡ 0 → IsAnyParameter raw.now param.new }
+    ensures fault { result ≡ 81 → IsParam raw.now → ⊥ }
+    ensures kept { result ≢ 0 → param.new ≡ param.old }
+{
+    let length = if raw.len() < 4 {
+        0
+    } else {
+        read_u16(raw, 2) as usize
+    };
+    if length < 4 || raw.len() < length {
+        return of_error(Error::ErrParamHeaderTooShort);
+    }
+    let next = length + get_padding_size(length);
+    *param = SctpParam {
+        length: length - 4,
+        next: next.min(raw.len()),
+        typ: read_u16(raw, 0),
+    };
+    SCTPR_OK
 }

@@ -3,11 +3,11 @@
 //! A handle is one pointer. Each call says what it makes of the value behind it, which is a `Receiver`, in that type's own words. A code
 //! of 16 or more is a refusal: the receiver is as it was then.
 
-ghost use Rattle.std.specs.Prelude.{◌≡◌, ◌≢◌, ◌⊎◌, false, Option, None, Some, if◌then◌else◌};
+ghost use Rattle.std.specs.Prelude.{◌≡◌, ◌≢◌, ◌<◌, ◌≤◌, ◌⊎◌, false, Option, None, Some, if◌then◌else◌};
 ghost use Rattle.std.specs.Borrow.{sem};
 ghost use Rattle.sctp_c.specs.OwnedReceiver.{receiver_owns, receiver_coded, new_receiver_owns, new_receiver_coded};
 ghost use Rattle.sctp_c.specs.Codes.{receiver_code};
-ghost use Rattle.sctp_c.specs.Receiving.{receiver_code_for};
+ghost use Rattle.sctp_c.specs.Receiving.{least_window, receiver_code_for};
 ghost use Rattle.sctp_receiver.specs.Limits.{held_cost};
 ghost use Rattle.sctp_receiver.specs.Receiver.{Reception, at_first, is_open, open_stream, close_stream, window};
 ghost use Rattle.sctp_receiver.specs.Resets.{reset_stream, reset_refusal};
@@ -17,7 +17,7 @@ pub mod arrivals;
 pub mod messages;
 pub mod sacks;
 
-use crate::code::{SCTPR_NO_MEMORY, SCTPR_OK, of_receiver};
+use crate::code::{SCTPR_INVALID, SCTPR_NO_MEMORY, SCTPR_OK, of_receiver};
 use crate::parts::Parts;
 use sctp_receiver::receiver::Receiver;
 use sctp_receiver::receiver::limits::Limits;
@@ -115,7 +115,8 @@ fn hand_out(alloc: Global, receiver: Receiver, out: &mut SctpNewReceiver) -> u32
 
 /// Makes a receiver with no stream, to which nothing came: `first_tsn`, the peer's initial TSN, is expected next, and a message may have
 /// `max_message_size` bytes. It holds about `window` bytes at most, each chunk counted as 200 more than its user data, and no TSN farther
-/// than `reach` past the cumulative one (RFC 4960 6.2). `out` becomes its handle. Refuses with `SCTPR_NO_MEMORY`; `out` stays then.
+/// than `reach` past the cumulative one (RFC 4960 6.2). `out` becomes its handle. Refuses with `SCTPR_INVALID`, where the window can't hold a
+/// message in the largest chunks, and with `SCTPR_NO_MEMORY`; `out` stays then.
 #[unsafe(no_mangle)]
 pub extern "C" fn sctpr_receiver_new(
     alloc: Global,
@@ -125,11 +126,17 @@ pub extern "C" fn sctpr_receiver_new(
     reach: u32,
     out: &mut SctpNewReceiver,
 ) -> u32
-    ensures codes { (result ≡ 0) ⊎ (result ≡ 16) }
+    ensures codes { (result ≡ 0) ⊎ ((result ≡ 16) ⊎ (result ≡ 18)) }
     ensures ok { result ≡ 0 → out.new.value ≡ Some (at_first first_tsn max_message_size
         (Some (record { window = window; reach = reach }))) }
+    ensures holds { result ≢ 18 → least_window max_message_size ≤ window }
+    ensures invalid { result ≡ 18 → window < least_window max_message_size }
     ensures refused { result ≢ 0 → out.new ≡ out.old }
 {
+    let chunks = (max_message_size as usize + 65_518) / 65_519;
+    if window < max_message_size as usize + 200 * chunks {
+        return SCTPR_INVALID;
+    }
     let limits = Some(Limits { window, reach });
     let receiver = Receiver::new(alloc, first_tsn, max_message_size, limits);
     hand_out(alloc, receiver, out)
@@ -152,9 +159,9 @@ pub extern "C" fn sctpr_receiver_new_unlimited(
 }
 
 /// Frees a receiver and all that it holds. The handle is not used again. It takes no memory.
-// No clause can say more, as at `sctpr_sender_free`.
+// No clause can say more, as at `sctpr_sender_free_handle`.
 #[unsafe(no_mangle)]
-pub extern "C" fn sctpr_receiver_free(receiver: SctpReceiver) {
+pub extern "C" fn sctpr_receiver_free_handle(receiver: SctpReceiver) {
     drop(receiver.into_parts().into_box());
 }
 

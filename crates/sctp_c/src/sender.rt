@@ -7,7 +7,7 @@ ghost use Rattle.std.specs.Prelude.{◌≡◌, ◌≢◌, ◌<◌, ◌≤◌, �
 ghost use Rattle.std.specs.Borrow.{sem};
 ghost use Rattle.sctp_c.specs.OwnedSender.{sender_owns, sender_coded, new_sender_owns, new_sender_coded};
 ghost use Rattle.sctp_c.specs.Codes.{sender_code};
-ghost use Rattle.sctp_c.specs.Sending.{IsSenderCode, Writes, reliability_named};
+ghost use Rattle.sctp_c.specs.Sending.{IsSenderCode, Writes, carries, reliability_named};
 ghost use Rattle.sctp_sender.specs.Sender.{Transmission, with_nothing, is_open, open_stream, close_stream, with_mode_on, write_refusal};
 ghost use Rattle.sctp_sender.specs.Settings.{reset_on, reset_refusal, with_fragment_size, with_low_on};
 ghost use Rattle.sctp_sender.specs.declared.sender.refusal.SenderRefusal.TheVariants.{StreamOpen, OutOfMemory};
@@ -19,7 +19,8 @@ pub mod queries;
 pub mod sending;
 
 use crate::code::{
-    SCTPR_INVALID, SCTPR_NO_MEMORY, SCTPR_NOTHING, SCTPR_OK, SCTPR_STREAM_UNKNOWN, of_sender,
+    SCTPR_INVALID, SCTPR_NO_MEMORY, SCTPR_NOT_AS_GIVEN, SCTPR_NOTHING, SCTPR_OK,
+    SCTPR_STREAM_UNKNOWN, of_sender,
 };
 use crate::parts::Parts;
 use bytes::Bytes;
@@ -137,7 +138,7 @@ pub extern "C" fn sctpr_sender_new(
 // It takes the handle, which nothing has then any more: no clause could speak of it. Nor can one say that each block is given back: the
 // kit's `deallocate` ensures nothing, and a body that lets the handle go, and frees nothing, is proved too. The tests in C count blocks.
 #[unsafe(no_mangle)]
-pub extern "C" fn sctpr_sender_free(sender: SctpSender) {
+pub extern "C" fn sctpr_sender_free_handle(sender: SctpSender) {
     drop(sender.into_parts().into_box());
 }
 
@@ -262,7 +263,7 @@ pub extern "C" fn sctpr_sender_reset(sender: &mut SctpSender, stream: u16) -> u3
 
 /// Takes a copy of a message of one byte or more: its fragments wait. `number` becomes its number, `fragments` how many chunks it has.
 /// `SCTPR_NOTHING`: the message has no bytes, and nothing changed (RFC 8831 6.6 sends one byte in their place). Refuses with
-/// `SCTPR_STREAM_UNKNOWN`, `SCTPR_MESSAGE_TOO_LARGE`, `SCTPR_QUEUE_FULL` and `SCTPR_NO_MEMORY`. Both stay, but with `SCTPR_OK`.
+/// `SCTPR_STREAM_UNKNOWN`, before it takes memory, `SCTPR_NOT_AS_GIVEN`, `SCTPR_MESSAGE_TOO_LARGE`, `SCTPR_QUEUE_FULL` and `SCTPR_NO_MEMORY`.
 #[unsafe(no_mangle)]
 pub extern "C" fn sctpr_sender_write(
     alloc: Global,
@@ -278,15 +279,25 @@ pub extern "C" fn sctpr_sender_write(
         sender.old.value sender.new.value }
     ensures nothing { result ≡ 3 → length message.now ≡ 0 }
     ensures codes { (result ≡ 0) ⊎ ((result ≡ 3) ⊎ (16 ≤ result)) }
-    ensures refused { 16 ≤ result → IsSenderCode
+    // It takes no memory then.
+    ensures unknown { is_open stream sender.old.value ≡ false → result ≡ 23 }
+    ensures carried { result ≡ 0 → carries payload_type ≡ payload_type }
+    ensures changed { result ≡ 90 → carries payload_type ≢ payload_type }
+    ensures refused { 16 ≤ result → result ≢ 90 → IsSenderCode
         (write_refusal stream (length message.now) sender.old.value) result }
     ensures kept { result ≢ 0 → (sender.new.value ≡ sender.old.value)
         × ((number.new ≡ number.old) × (fragments.new ≡ fragments.old)) }
 {
+    if sender.get_mut().stream(stream).is_none() {
+        return SCTPR_STREAM_UNKNOWN;
+    }
+    let ppi = PayloadProtocolIdentifier::from(payload_type);
+    if ppi.number() != payload_type {
+        return SCTPR_NOT_AS_GIVEN;
+    }
     let Ok(bytes) = Bytes::copy_from_slice(alloc, message) else {
         return SCTPR_NO_MEMORY;
     };
-    let ppi = PayloadProtocolIdentifier::from(payload_type);
     match sender.get_mut().write(stream, ppi, &bytes) {
         Ok((Some(n), count)) => {
             *number = n;

@@ -1,28 +1,30 @@
 //! Chunks and parameters that go out, into a caller's buffer.
 
-ghost use Rattle.std.specs.Prelude.{◌≡◌, ◌≢◌, ◌+◌, ◌^◌, ◌<◌, length, IfOk, IfErr, IsOkUnless};
+ghost use Rattle.std.specs.Prelude.{◌≡◌, ◌≢◌, ◌+◌, ◌^◌, ◌<◌, true, false, length, All, IfOk, IfErr, IsOkUnless};
 ghost use Rattle.sctp_util.specs.declared.error.Error.TheVariants.{ErrLengthTooLarge, ErrOutOfMemory};
-ghost use Rattle.sctp_util.specs.Outcome.{OrMemory};
+ghost use Rattle.sctp_util.specs.Outcome.{GivesUnlessMemory, OrMemory};
 ghost use Rattle.sctp_params.specs.Param.{Parameter};
 ghost use Rattle.sctp_params.specs.ParamFraming.{param_framed};
 ghost use Rattle.sctp_params.specs.ParamKind.{ReadsParam};
 ghost use Rattle.sctp_chunks.specs.Framing.{chunk_encoding};
 ghost use Rattle.sctp_chunks.specs.Kind.{wire_of};
-ghost use Rattle.sctp_chunks.specs.Wire.{Wire, ReadsChunk, HasEncoding, encoding_of, type_of, value_of};
+ghost use Rattle.sctp_chunks.specs.Wire.{Wire, ReadsChunk, HasEncoding, type_of, value_of};
 ghost use Rattle.sctp_c.specs.Out.{padded, IsWritten, IsTooShort};
 ghost use Rattle.sctp_c.specs.Refusal.{IsRefusal};
-ghost use Rattle.sctp_c.specs.Written.{IsChunk, IsFlaggedChunk, IsParam, ChunkFault, FlaggedChunkFault, ParameterFault, init_type, init_bytes};
+ghost use Rattle.sctp_c.specs.Written.{IsAsGiven, IsChanged, IsChunk, IsEncoded, IsFlaggedChunk, IsParam};
+ghost use Rattle.sctp_c.specs.Written.{ChunkFault, FlaggedChunkFault, ParameterFault, init_type, init_bytes};
 
 use crate::bytes_out::put_padded;
-use crate::code::of_error;
+use crate::code::{SCTPR_NOT_AS_GIVEN, of_error};
 use crate::reading::SctpInit;
 use bytes::{Bytes, BytesMut};
-use sctp_chunks::chunk::chunk_header::put_header;
+use sctp_chunks::chunk::chunk_header::{CHUNK_HEADER_SIZE, put_header};
 use sctp_chunks::chunk::chunk_kind::ChunkKind;
 use sctp_chunks::chunk::{Chunk, ChunkType};
 use sctp_params::param::param_kind::build_param;
 use sctp_util::error::{Error, Result};
 use sctp_util::field::{put_u16, put_u32};
+use sctp_util::util::get_padding_size;
 use std::alloc::Global;
 
 // A header, and the value behind it.
@@ -36,52 +38,6 @@ fn framed(alloc: Global, typ: u8, flags: u8, value: &[u8]) -> Result<Bytes>
     put_header(&mut raw, ChunkType(typ), flags, value.len())?;
     raw.extend_reserved(value);
     Ok(raw.freeze()?)
-}
-
-fn encoded(alloc: Global, chunk: &ChunkKind) -> Result<Bytes>
-    requires { HasEncoding (wire_of chunk.now) }
-    ensures ok { IfOk result (λ b. b ≡ encoding_of (wire_of chunk.now)) }
-    ensures memory { IsOkUnless result ErrOutOfMemory }
-{
-    chunk.marshal(alloc)
-}
-
-// The chunk of a type and a value, read as a chunk of its kind and written as that kind is.
-fn chunk_of(alloc: Global, typ: u8, value: &[u8]) -> Result<Bytes>
-    ensures found { IfOk result (λ b. IsChunk typ value.now (padded b)) }
-    ensures only { (w : Wire) → ReadsChunk (chunk_encoding typ 0 value.now) w
-        → 4 + length value.now < 2 ^ 16 → IsOkUnless result ErrOutOfMemory }
-    ensures fault { IfErr result (λ e. OrMemory e (ChunkFault typ value.now e)) }
-{
-    let raw = framed(alloc, typ, 0, value)?;
-    let chunk = ChunkKind::unmarshal(alloc, &raw)?;
-    encoded(alloc, &chunk)
-}
-
-/// Writes a chunk of a type and a value with its padding, its flags 0: of any type that is read (RFC 4960 3.2, 3.3). `written` becomes how
-/// many bytes that is, also where it refuses with `SCTPR_SHORT_BUFFER`. Refuses with `SCTPR_LENGTH_TOO_LARGE` a value of more than 65,531
-/// bytes, and with the reader's error where no reader takes that value for that type; then it changes nothing.
-#[unsafe(no_mangle)]
-pub extern "C" fn sctpr_write_chunk(
-    alloc: Global,
-    typ: u8,
-    value: &[u8],
-    out: &mut [u8],
-    written: &mut usize,
-) -> u32
-    ensures done { result ≡ 0 → IsWritten (IsChunk typ value.now) out.old out.new written.new }
-    ensures short { result ≡ 17
-        → IsTooShort (IsChunk typ value.now) out.old out.new written.new }
-    ensures only { (w : Wire) → ReadsChunk (chunk_encoding typ 0 value.now) w
-        → 4 + length value.now < 2 ^ 16 → result ≢ 0 → result ≢ 17 → result ≡ 16 }
-    ensures refused { result ≢ 0 → result ≢ 17 → IsRefusal (ChunkFault typ value.now) result }
-    ensures kept { result ≢ 0 → result ≢ 17
-        → (out.new ≡ out.old) × (written.new ≡ written.old) }
-{
-    match chunk_of(alloc, typ, value) {
-        Ok(bytes) => put_padded(out, written, &bytes),
-        Err(e) => of_error(e),
-    }
 }
 
 // A chunk under these flags, whatever flags its kind is written with.
@@ -98,15 +54,105 @@ fn encoded_under(alloc: Global, flags: u8, chunk: &ChunkKind) -> Result<Bytes>
 }
 
 // The chunk of a type, flags and a value, read as a chunk of its kind and written as that kind is, under the flags.
-fn flagged_chunk_of(alloc: Global, typ: u8, flags: u8, value: &[u8]) -> Result<Bytes>
-    ensures found { IfOk result (λ b. IsFlaggedChunk typ flags value.now (padded b)) }
+fn chunk_of(alloc: Global, typ: u8, flags: u8, value: &[u8]) -> Result<Bytes>
+    ensures found { IfOk result (λ b. IsEncoded typ flags value.now b) }
     ensures only { (w : Wire) → ReadsChunk (chunk_encoding typ flags value.now) w
-        → 4 + length value.now < 2 ^ 16 → IsOkUnless result ErrOutOfMemory }
+        → 4 + length value.now < 2 ^ 16
+        → GivesUnlessMemory result (λ b. b ≡ chunk_encoding (type_of w) flags (value_of w)) }
     ensures fault { IfErr result (λ e. OrMemory e (FlaggedChunkFault typ flags value.now e)) }
 {
     let raw = framed(alloc, typ, flags, value)?;
     let read = ChunkKind::unmarshal(alloc, &raw)?;
     encoded_under(alloc, flags, &read)
+}
+
+fn is_same(a: &[u8], b: &[u8]) -> bool
+    ensures yes { result ≡ true → a.now ≡ b.now }
+    ensures no { result ≡ false → a.now ≡ b.now → ⊥ }
+{
+    a == b
+}
+
+fn is_zeros(bytes: &[u8]) -> bool
+    ensures yes { result ≡ true → All (λ x. x ≡ 0) bytes.now }
+    ensures no { result ≡ false → All (λ x. x ≡ 0) bytes.now → ⊥ }
+{
+    bytes.iter().all(|b| *b == 0)
+}
+
+// Whether a value was read as what was given.
+fn is_as_given(given: &[u8], read: &[u8]) -> bool
+    ensures yes { result ≡ true → IsAsGiven given.now read.now }
+    ensures no { result ≡ false → IsAsGiven given.now read.now → ⊥ }
+{
+    if is_same(given, read) {
+        return true;
+    }
+    let length = read.len();
+    if given.len() != length + get_padding_size(length) {
+        return false;
+    }
+    let (front, rest) = given.split_at(length);
+    is_same(front, read) && is_zeros(rest)
+}
+
+// Writes the chunk of a type, flags and a value with its padding.
+fn write_under(
+    alloc: Global,
+    typ: u8,
+    flags: u8,
+    value: &[u8],
+    out: &mut [u8],
+    written: &mut usize,
+) -> u32
+    ensures done { result ≡ 0
+        → IsWritten (IsFlaggedChunk typ flags value.now) out.old out.new written.new }
+    ensures short { result ≡ 17
+        → IsTooShort (IsFlaggedChunk typ flags value.now) out.old out.new written.new }
+    ensures changed { result ≡ 90 → IsChanged typ flags value.now }
+    ensures only { (w : Wire) → ReadsChunk (chunk_encoding typ flags value.now) w
+        → IsAsGiven value.now (value_of w) → 4 + length value.now < 2 ^ 16
+        → result ≢ 0 → result ≢ 17 → result ≡ 16 }
+    ensures refused { result ≢ 0 → result ≢ 17 → result ≢ 90
+        → IsRefusal (FlaggedChunkFault typ flags value.now) result }
+    ensures kept { result ≢ 0 → result ≢ 17
+        → (out.new ≡ out.old) × (written.new ≡ written.old) }
+{
+    let bytes = match chunk_of(alloc, typ, flags, value) {
+        Ok(bytes) => bytes,
+        Err(e) => return of_error(e),
+    };
+    if !is_as_given(value, &bytes[CHUNK_HEADER_SIZE..]) {
+        return SCTPR_NOT_AS_GIVEN;
+    }
+    put_padded(out, written, &bytes)
+}
+
+/// Writes a chunk of a type and a value with its padding, its flags 0: of any type that is read (RFC 4960 3.2, 3.3). `written` becomes how
+/// many bytes that is, also where it refuses with `SCTPR_SHORT_BUFFER`. Refuses with `SCTPR_NOT_AS_GIVEN`, where other bytes would be
+/// written, and with `SCTPR_LENGTH_TOO_LARGE` a value of more than 65,531 bytes.
+#[unsafe(no_mangle)]
+pub extern "C" fn sctpr_write_chunk(
+    alloc: Global,
+    typ: u8,
+    value: &[u8],
+    out: &mut [u8],
+    written: &mut usize,
+) -> u32
+    ensures done { result ≡ 0
+        → IsWritten (IsChunk typ value.now) out.old out.new written.new }
+    ensures short { result ≡ 17
+        → IsTooShort (IsChunk typ value.now) out.old out.new written.new }
+    ensures changed { result ≡ 90 → IsChanged typ 0 value.now }
+    ensures only { (w : Wire) → ReadsChunk (chunk_encoding typ 0 value.now) w
+        → IsAsGiven value.now (value_of w) → 4 + length value.now < 2 ^ 16
+        → result ≢ 0 → result ≢ 17 → result ≡ 16 }
+    ensures refused { result ≢ 0 → result ≢ 17 → result ≢ 90
+        → IsRefusal (ChunkFault typ value.now) result }
+    ensures kept { result ≢ 0 → result ≢ 17
+        → (out.new ≡ out.old) × (written.new ≡ written.old) }
+{
+    write_under(alloc, typ, 0, value, out, written)
 }
 
 /// As `sctpr_write_chunk`, with flags, as they are given. So the T bit of an ABORT or a SHUTDOWN-COMPLETE is set, which is 1 (RFC 4960
@@ -125,17 +171,16 @@ pub extern "C" fn sctpr_write_chunk_with_flags(
         → IsWritten (IsFlaggedChunk typ flags value.now) out.old out.new written.new }
     ensures short { result ≡ 17
         → IsTooShort (IsFlaggedChunk typ flags value.now) out.old out.new written.new }
+    ensures changed { result ≡ 90 → IsChanged typ flags value.now }
     ensures only { (w : Wire) → ReadsChunk (chunk_encoding typ flags value.now) w
-        → 4 + length value.now < 2 ^ 16 → result ≢ 0 → result ≢ 17 → result ≡ 16 }
-    ensures refused { result ≢ 0 → result ≢ 17
+        → IsAsGiven value.now (value_of w) → 4 + length value.now < 2 ^ 16
+        → result ≢ 0 → result ≢ 17 → result ≡ 16 }
+    ensures refused { result ≢ 0 → result ≢ 17 → result ≢ 90
         → IsRefusal (FlaggedChunkFault typ flags value.now) result }
     ensures kept { result ≢ 0 → result ≢ 17
         → (out.new ≡ out.old) × (written.new ≡ written.old) }
 {
-    match flagged_chunk_of(alloc, typ, flags, value) {
-        Ok(bytes) => put_padded(out, written, &bytes),
-        Err(e) => of_error(e),
-    }
+    write_under(alloc, typ, flags, value, out, written)
 }
 
 #[tactic(auto, unfolding(crate::specs::Written::init_bytes))]
@@ -154,20 +199,6 @@ fn init_value(alloc: Global, init: &SctpInit, params: &[u8]) -> Result<BytesMut>
     Ok(value)
 }
 
-fn init_of(alloc: Global, init: &SctpInit, params: &[u8]) -> Result<Bytes>
-    ensures found { IfOk result
-        (λ b. IsChunk (init_type init.now) (init_bytes init.now params.now) (padded b)) }
-    ensures only { (w : Wire)
-        → ReadsChunk (chunk_encoding (init_type init.now) 0 (init_bytes init.now params.now)) w
-        → 4 + length (init_bytes init.now params.now) < 2 ^ 16 → IsOkUnless result ErrOutOfMemory }
-    ensures fault { IfErr result (λ e. OrMemory e
-        (ChunkFault (init_type init.now) (init_bytes init.now params.now) e)) }
-{
-    let value = init_value(alloc, init, params)?;
-    let typ = if init.is_ack == 0 { 1 } else { 2 };
-    chunk_of(alloc, typ, value.as_slice())
-}
-
 /// Writes an INIT, or where `is_ack` is not 0 an INIT-ACK, with its padding (RFC 4960 3.3.2, 3.3.3). `params` are its parameters, each with
 /// its padding, as `sctpr_write_param` writes them. Otherwise as `sctpr_write_chunk`.
 #[unsafe(no_mangle)]
@@ -184,17 +215,21 @@ pub extern "C" fn sctpr_write_init(
     ensures short { result ≡ 17
         → IsTooShort (IsChunk (init_type init.now) (init_bytes init.now params.now))
         out.old out.new written.new }
+    ensures changed { result ≡ 90
+        → IsChanged (init_type init.now) 0 (init_bytes init.now params.now) }
     ensures only { (w : Wire)
         → ReadsChunk (chunk_encoding (init_type init.now) 0 (init_bytes init.now params.now)) w
+        → IsAsGiven (init_bytes init.now params.now) (value_of w)
         → 4 + length (init_bytes init.now params.now) < 2 ^ 16
         → result ≢ 0 → result ≢ 17 → result ≡ 16 }
-    ensures refused { result ≢ 0 → result ≢ 17
+    ensures refused { result ≢ 0 → result ≢ 17 → result ≢ 90
         → IsRefusal (ChunkFault (init_type init.now) (init_bytes init.now params.now)) result }
     ensures kept { result ≢ 0 → result ≢ 17
         → (out.new ≡ out.old) × (written.new ≡ written.old) }
 {
-    match init_of(alloc, init, params) {
-        Ok(bytes) => put_padded(out, written, &bytes),
+    let typ = if init.is_ack == 0 { 1 } else { 2 };
+    match init_value(alloc, init, params) {
+        Ok(value) => write_under(alloc, typ, 0, value.as_slice(), out, written),
         Err(e) => of_error(e),
     }
 }

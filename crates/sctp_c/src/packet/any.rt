@@ -20,7 +20,7 @@ ghost use Rattle.sctp_packets.specs.Packet.{IsHeaded, Parts, ReadsPacket, Steps,
 
 use super::{Given, SctpHead, check_head, head_at};
 use crate::code::{SCTPR_OK, of_error};
-use crate::in_place::{chunk_length, is_read_type, padded_span, read_length};
+use crate::in_place::{chunk_length, is_read_type, is_whole_type, padded_span, read_length};
 use sctp_chunks::chunk::chunk_header::CHUNK_HEADER_SIZE;
 use sctp_packets::checksum::Crc32c;
 use sctp_packets::packet::PACKET_HEADER_SIZE;
@@ -37,7 +37,7 @@ pub struct SctpAnyChunk {
     pub length: usize,
     pub typ: u8,
     pub flags: u8,
-    /// 1 where its type is one that is read, and it was read whole; else 0.
+    /// 1 where its type is one that is read; else 0.
     pub is_known: u8,
     /// 1 where it is not known, and its sender is to be told of it in an ERROR (RFC 4960 3.2, 3.3.10.6); else 0.
     pub is_reported: u8,
@@ -50,18 +50,18 @@ fn is_stopping(typ: u8) -> bool
     !is_read_type(typ) && typ < 128
 }
 
-// The declared length of the chunk that the bytes begin with. It is read whole, where its type is one that is read; else its header is.
+// The declared length of the chunk that the bytes begin with. It is read whole, where its type is one of those; else its header is.
 fn length_next(alloc: Global, rest: &[u8]) -> Result<usize>
     requires { 4 ≤ length rest.now }
     ensures framed { OnOk result (IsFramed rest.now) }
     ensures length { IfOk result (λ n. n ≡ declared_length rest.now) }
-    ensures reads { OnOk result (any.is_read_type (type_at rest.now) ≡ true
+    ensures reads { OnOk result (any.is_whole_type (type_at rest.now) ≡ true
         → (w : Wire) × ReadsChunk rest.now w) }
     ensures only { IsThere rest.now → IsOkUnless result ErrOutOfMemory }
     ensures in_place { (w : Wire) → IsInPlace w → ReadsChunk rest.now w → IsOk result }
     ensures fault { IfErr result (λ e. OrMemory e (NextFault e rest.now)) }
 {
-    if is_read_type(rest[0]) {
+    if is_whole_type(rest[0]) {
         read_length(alloc, rest)
     } else {
         chunk_length(rest)
@@ -185,10 +185,9 @@ fn tell_any<C: Checksum>(
     }
 }
 
-/// Reads a packet under CRC-32C that may have chunks of types that are not read (RFC 4960 3.2). Where it is one, `head` becomes its header,
-/// `count` how many chunks it has, and `rows` begin with the places of as many as there is room for. A chunk of a type that is not read is
-/// skipped where the highest bit of its type is set; else it is the last one that is looked at. Refuses as `Packet::unmarshal` does, but
-/// for unknown types, and then changes nothing. It copies what `sctpr_read_packet` does.
+/// Reads a packet under CRC-32C with all that RFC 9260 3.2 allows. Where it is one, `head` becomes its header, `count` how many chunks it has,
+/// and `rows` begin with the places of as many as there is room for. Of an unknown chunk, an INIT, an INIT-ACK, an ABORT, an ERROR and a
+/// RE-CONFIG the header is read, of others the whole chunk. An unknown type below 128 ends the reading.
 #[unsafe(no_mangle)]
 pub extern "C" fn sctpr_read_any_packet(
     alloc: Global,

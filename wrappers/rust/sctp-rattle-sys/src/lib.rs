@@ -150,9 +150,9 @@ pub const SCTPR_ERR_ERROR_CAUSE_TOO_SMALL: sctpr_code = 80;
 pub const SCTPR_ERR_PARAM_HEADER_TOO_SHORT: sctpr_code = 81;
 /// A parameter of type typ is of no kind, and the type's highest bit is not set: reading is to stop (RFC 4960 3.2.1).
 pub const SCTPR_ERR_PARAM_TYPE_UNHANDLED: sctpr_code = 82;
-/// Not answered by a call of this library. Read as a Chunk List: the type is not 32771 (RFC 4895 3.2).
+/// A parameter is of another type than the call reads (RFC 6525 4).
 pub const SCTPR_ERR_PARAM_TYPE_UNEXPECTED: sctpr_code = 83;
-/// The value of an Outgoing SSN Reset Request has under 12 bytes (RFC 6525 4.1).
+/// The value of an Outgoing SSN Reset Request has under 12 bytes (RFC 6525 4.1), or that of a request has no number.
 pub const SCTPR_ERR_SSN_RESET_REQUEST_PARAM_TOO_SHORT: sctpr_code = 84;
 /// The value of an Outgoing SSN Reset Request has 12 bytes or more, an odd number of them (RFC 6525 4.1).
 pub const SCTPR_ERR_SSN_RESET_REQUEST_PARAM_INVALID_LENGTH: sctpr_code = 85;
@@ -164,6 +164,8 @@ pub const SCTPR_ERR_INVALID_ALGORITHM_TYPE: sctpr_code = 87;
 pub const SCTPR_ERR_SUPPORTED_ADDRESS_TYPES_PARAM_INVALID_LENGTH: sctpr_code = 88;
 /// Not answered by a call of this library: the message is longer than the buffer, which is filled with the message's beginning.
 pub const SCTPR_ERR_SHORT_BUFFER: sctpr_code = 89;
+/// It can't be written as it was given: a chunk whose value is read as another one, or a payload type that has no name here.
+pub const SCTPR_NOT_AS_GIVEN: sctpr_code = 90;
 pub const SCTPR_DATA: u32 = 0;
 pub const SCTPR_INIT: u32 = 1;
 pub const SCTPR_INIT_ACK: u32 = 2;
@@ -181,6 +183,12 @@ pub const SCTPR_RECONFIG: u32 = 130;
 pub const SCTPR_FORWARD_TSN: u32 = 192;
 pub const SCTPR_PARAM_HEARTBEAT_INFO: u32 = 1;
 pub const SCTPR_PARAM_STATE_COOKIE: u32 = 7;
+pub const SCTPR_PARAM_OUTGOING_RESET: u32 = 13;
+pub const SCTPR_PARAM_INCOMING_RESET: u32 = 14;
+pub const SCTPR_PARAM_SSN_TSN_RESET: u32 = 15;
+pub const SCTPR_PARAM_RECONFIG_RESPONSE: u32 = 16;
+pub const SCTPR_PARAM_ADD_OUTGOING_STREAMS: u32 = 17;
+pub const SCTPR_PARAM_ADD_INCOMING_STREAMS: u32 = 18;
 pub const SCTPR_PARAM_SUPPORTED_EXTENSIONS: u32 = 32776;
 pub const SCTPR_PARAM_FORWARD_TSN_SUPPORTED: u32 = 49152;
 pub const SCTPR_CAUSE_INVALID_STREAM_IDENTIFIER: u32 = 1;
@@ -203,6 +211,13 @@ pub const SCTPR_PPID_BINARY: u32 = 53;
 pub const SCTPR_PPID_STRING_EMPTY: u32 = 56;
 pub const SCTPR_PPID_BINARY_EMPTY: u32 = 57;
 pub const SCTPR_PPID_OTHER: u32 = 58;
+pub const SCTPR_RESULT_NOTHING_TO_DO: u32 = 0;
+pub const SCTPR_RESULT_PERFORMED: u32 = 1;
+pub const SCTPR_RESULT_DENIED: u32 = 2;
+pub const SCTPR_RESULT_WRONG_SSN: u32 = 3;
+pub const SCTPR_RESULT_REQUEST_IN_PROGRESS: u32 = 4;
+pub const SCTPR_RESULT_BAD_SEQUENCE_NUMBER: u32 = 5;
+pub const SCTPR_RESULT_IN_PROGRESS: u32 = 6;
 pub const SCTPR_RELIABLE: u32 = 0;
 pub const SCTPR_REXMIT: u32 = 1;
 pub const SCTPR_TIMED: u32 = 2;
@@ -227,9 +242,9 @@ pub struct sctpr_chunk {
     pub flags: u8,
 }
 
-/// A chunk of a packet that may have chunks of unknown types. `is_known` is 1 where its type is one that sctpr_read_packet reads; else it is
-/// 0, and `is_reported` is 1 where its sender is to be told of it: in an ERROR, by the cause SCTPR_CAUSE_UNRECOGNIZED_CHUNK_TYPE with the
-/// chunk as its value (RFC 4960 3.2, 3.3.10.6).
+/// A chunk of a packet with all that RFC 9260 allows. `is_known` is 1 where its type is one that sctpr_read_packet reads; else it is 0, and
+/// `is_reported` is 1 where its sender is to be told of it: in an ERROR, by the cause SCTPR_CAUSE_UNRECOGNIZED_CHUNK_TYPE with the chunk as
+/// its value (RFC 4960 3.2, 3.3.10.6).
 #[derive(Clone, Copy, Debug, Default, PartialEq, Eq)]
 #[repr(C)]
 pub struct sctpr_any_chunk {
@@ -282,7 +297,8 @@ pub struct sctpr_skip {
     pub sequence: u16,
 }
 
-/// An INIT, or where `is_ack` is not 0 an INIT-ACK (RFC 4960 3.3.2, 3.3.3); its parameters begin at byte 20 of the chunk.
+/// The numbers of an INIT, or where `is_ack` is not 0 of an INIT-ACK (RFC 9260 3.3.2, 3.3.3). Its flags are ignored. Its parameters begin at
+/// byte 20 of the chunk, and are walked by sctpr_read_any_param. It takes no memory.
 #[derive(Clone, Copy, Debug, Default, PartialEq, Eq)]
 #[repr(C)]
 pub struct sctpr_init {
@@ -302,6 +318,23 @@ pub struct sctpr_param {
     pub length: usize,
     pub next: usize,
     pub type_: u16,
+}
+
+/// An Outgoing SSN Reset Request: its number, the number of the request that it answers, and the last TSN that its sender gave out (4.1).
+/// `count` becomes how many streams it names, 0 where it means all, and as many as there is room for are written.
+#[derive(Clone, Copy, Debug, Default, PartialEq, Eq)]
+#[repr(C)]
+pub struct sctpr_reset {
+    pub request: u32,
+    pub response: u32,
+    pub last_tsn: u32,
+}
+
+#[derive(Clone, Copy, Debug, Default, PartialEq, Eq)]
+#[repr(C)]
+pub struct sctpr_response {
+    pub response: u32,
+    pub result: u32,
 }
 
 /// The error cause that the bytes begin with, as those from byte 4 of an ABORT or ERROR on do (RFC 4960 3.3.10): its value is `length` bytes
@@ -416,10 +449,15 @@ extern "C" {
     /// The same under a sum that the caller took: of the first eight bytes, four zeros, and the bytes from the twelfth on.
     pub fn sctpr_read_packet_with_sum(packet: *const u8, length: usize, sum: u32, head: *mut sctpr_head, rows: *mut sctpr_chunk, room: usize, count: *mut usize) -> sctpr_code;
 
-    /// The same for a packet with chunks of unknown types, as I-DATA, AUTH and PAD are here (RFC 4960 3.2): one whose type has the highest bit
-    /// set is skipped; any other is the last one that is looked at, and the last row. `count` becomes how many chunks there are so far, and the
-    /// first `room` of them stand in `rows`. Chunks of known types are read whole, as above, and one that is refused refuses the packet; of the
-    /// others the header is read. SCTPR_UNKNOWN_CHUNK is no refusal of it; the other ones are those of sctpr_read_packet.
+    /// The same for a packet with all that RFC 9260 allows, which sctpr_read_packet refuses:
+    /// - chunks of unknown types, as I-DATA, AUTH and PAD are here (3.2): one whose type has the highest bit set is skipped; any other is the
+    /// last one that is looked at, and the last row
+    /// - parameters and error causes of any type, length and padding. Of an INIT, INIT-ACK, ABORT, ERROR and RE-CONFIG the header is read here.
+    /// Walk the parameters of the first two, from byte 20 on, and of a RE-CONFIG, from byte 4 on, by sctpr_read_any_param, and the causes by
+    /// sctpr_read_cause: each tells type and place, of what the caller passes over too
+    /// `count` becomes how many chunks there are so far, and the first `room` of them stand in `rows`. A chunk of another known type is read
+    /// whole, and refuses the packet where it is refused. SCTPR_UNKNOWN_CHUNK is no refusal of it; the other ones are those of
+    /// sctpr_read_packet. What sctpr_read_packet reads, this reads too.
     pub fn sctpr_read_any_packet(packet: *const u8, length: usize, head: *mut sctpr_head, rows: *mut sctpr_any_chunk, room: usize, count: *mut usize) -> sctpr_code;
 
     pub fn sctpr_read_any_packet_with_sum(packet: *const u8, length: usize, sum: u32, head: *mut sctpr_head, rows: *mut sctpr_any_chunk, room: usize, count: *mut usize) -> sctpr_code;
@@ -437,10 +475,25 @@ extern "C" {
 
     pub fn sctpr_read_param(bytes: *const u8, length: usize, param: *mut sctpr_param) -> sctpr_code;
 
+    /// The same of any type and any value: its header alone is read (RFC 9260 3.2.1). Where the caller does not know a type, the walk ends
+    /// there if its bit 0x8000 is not set, and the sender of the parameter is told of it if its bit 0x4000 is set.
+    /// SCTPR_ERR_PARAM_HEADER_TOO_SHORT, where the bytes begin with no parameter. It takes no memory.
+    pub fn sctpr_read_any_param(bytes: *const u8, length: usize, param: *mut sctpr_param) -> sctpr_code;
+
+    /// The number of any request, which are the types 13, 14, 15, 17 and 18. Each is answered by a response with this number:
+    /// SCTPR_RESULT_DENIED, where the caller does not follow it.
+    pub fn sctpr_read_request(bytes: *const u8, length: usize, number: *mut u32) -> sctpr_code;
+
+    pub fn sctpr_read_reset(bytes: *const u8, length: usize, reset: *mut sctpr_reset, streams: *mut u16, room: usize, count: *mut usize) -> sctpr_code;
+
+    pub fn sctpr_read_response(bytes: *const u8, length: usize, response: *mut sctpr_response) -> sctpr_code;
+
     pub fn sctpr_read_cause(bytes: *const u8, length: usize, cause: *mut sctpr_cause) -> sctpr_code;
 
     /// A chunk of a type and a value, its flags 0, of any type that is read (RFC 4960 3.2, 3.3). It is read before it is written, so that no
-    /// chunk comes out that a reader refuses: else the reader's error. SCTPR_LENGTH_TOO_LARGE of more than 65,531 bytes. SCTPR_NO_MEMORY.
+    /// chunk comes out that a reader refuses: else the reader's error. SCTPR_NOT_AS_GIVEN, where what is read has another value: bytes behind
+    /// its end, a payload type or a result of a RE-CONFIG that has no name here. The padding of the last item may stand in the value; the
+    /// chunk's length does not count it. SCTPR_LENGTH_TOO_LARGE of more than 65,531 bytes. SCTPR_NO_MEMORY.
     pub fn sctpr_write_chunk(type_: u8, value: *const u8, length: usize, out: *mut u8, room: usize, written: *mut usize) -> sctpr_code;
 
     /// The same with flags, as they are given: SCTPR_FLAG_T, and those of DATA (3.3.1).
@@ -451,6 +504,9 @@ extern "C" {
 
     /// A parameter (RFC 4960 3.2.1). Refuses as sctpr_write_chunk.
     pub fn sctpr_write_param(type_: u16, value: *const u8, length: usize, out: *mut u8, room: usize, written: *mut usize) -> sctpr_code;
+
+    /// A Re-configuration Response with no TSNs (RFC 6525 4.4): 12 bytes, a parameter of a RE-CONFIG. It takes no memory.
+    pub fn sctpr_write_response(response: *const sctpr_response, out: *mut u8, room: usize, written: *mut usize) -> sctpr_code;
 
     /// An error cause (RFC 4960 3.3.10): what an ABORT or ERROR has as its value. SCTPR_LENGTH_TOO_LARGE of more than 65,531 bytes,
     /// SCTPR_NO_MEMORY. Of several causes in one chunk all but the last have to be multiples of four long without padding: sctpr_read_packet and
@@ -469,14 +525,17 @@ extern "C" {
 
     /// Makes a receiver with no stream, to which nothing came: `first_tsn`, the peer's initial TSN, is expected next, and a message may have
     /// `max_message_size` bytes. It holds about `window` bytes at most, each chunk counted as 200 more than its user data, and no TSN farther
-    /// than `reach` past the cumulative one (RFC 4960 6.2). `out` becomes its handle. SCTPR_NO_MEMORY; `out` stays then.
+    /// than `reach` past the cumulative one (RFC 4960 6.2). `out` becomes its handle. SCTPR_INVALID, where `window` is under
+    /// SCTPR_LEAST_WINDOW(max_message_size, 65519), so that a message would never fit; SCTPR_NO_MEMORY; `out` stays then. A peer whose chunks
+    /// have fewer bytes of user data each needs a window of SCTPR_LEAST_WINDOW(max_message_size, bytes).
     pub fn sctpr_receiver_new(first_tsn: u32, max_message_size: u32, window: usize, reach: u32, out: *mut sctpr_receiver) -> sctpr_code;
 
     /// The same, with no limit to what is held: for a peer that is trusted, or a replay.
     pub fn sctpr_receiver_new_unlimited(first_tsn: u32, max_message_size: u32, out: *mut sctpr_receiver) -> sctpr_code;
 
-    /// Frees a receiver and all that it holds. The handle is not used again.
-    pub fn sctpr_receiver_free(receiver: sctpr_receiver);
+    /// Frees a receiver and all that it holds, and empties its handle. It does nothing where the handle is empty, as after this call or with
+    /// `sctpr_receiver handle = { NULL }`, and where there is no handle.
+    pub fn sctpr_receiver_free_handle(receiver: sctpr_receiver);
 
     /// Opens a stream. SCTPR_STREAM_OPEN, SCTPR_NO_MEMORY.
     pub fn sctpr_receiver_open(receiver: *mut sctpr_receiver, stream: u16) -> sctpr_code;
@@ -511,7 +570,7 @@ extern "C" {
 
     /// Tells the next message of a stream, and takes nothing out: `size` becomes its length in bytes, `payload_type` its payload type.
     /// SCTPR_NOTHING: there is none. SCTPR_STREAM_UNKNOWN. Both stay, but with SCTPR_OK.
-    pub fn sctpr_receiver_next_length(receiver: *mut sctpr_receiver, stream: u16, size: *mut usize, payload_type: *mut u32) -> sctpr_code;
+    pub fn sctpr_receiver_next_length(receiver: *const sctpr_receiver, stream: u16, size: *mut usize, payload_type: *mut u32) -> sctpr_code;
 
     /// Takes the next message of a stream out and copies it to the front of the buffer: an unordered one, else the ordered one that is due.
     /// `size` becomes its length, `payload_type` its payload type. SCTPR_NOTHING: there is none, and both stay. SCTPR_STREAM_UNKNOWN, and both
@@ -521,7 +580,7 @@ extern "C" {
 
     /// Writes the numbers of the streams with a message to read, in the order in which they were opened; `count` becomes how many there are.
     /// SCTPR_SHORT_BUFFER, where there is room for fewer: `count` is told, and nothing is written. SCTPR_NO_MEMORY, and both stay.
-    pub fn sctpr_receiver_readable_streams(receiver: *mut sctpr_receiver, streams: *mut u16, room: usize, count: *mut usize) -> sctpr_code;
+    pub fn sctpr_receiver_readable_streams(receiver: *const sctpr_receiver, streams: *mut u16, room: usize, count: *mut usize) -> sctpr_code;
 
     /// Writes the SACK of what came (RFC 4960 3.3.4), with the window as its credit: first as many gap ack blocks as there is room for, then
     /// as many duplicates, which are forgotten; the other duplicates are kept for the next SACK. `written` becomes its length, a multiple of
@@ -529,20 +588,21 @@ extern "C" {
     pub fn sctpr_receiver_sack(receiver: *mut sctpr_receiver, out: *mut u8, room: usize, written: *mut usize) -> sctpr_code;
 
     /// The TSN up to which all came, or was skipped.
-    pub fn sctpr_receiver_cumulative_tsn(receiver: *mut sctpr_receiver) -> u32;
+    pub fn sctpr_receiver_cumulative_tsn(receiver: *const sctpr_receiver) -> u32;
 
     /// The window to advertise, in bytes (RFC 4960 3.3.4), which a SACK has as its credit; 2^32 - 1 without limits.
-    pub fn sctpr_receiver_window(receiver: *mut sctpr_receiver) -> u32;
+    pub fn sctpr_receiver_window(receiver: *const sctpr_receiver) -> u32;
 
     /// What is held and was not read: its bytes, and 200 for each chunk; the greatest size_t where it is more.
-    pub fn sctpr_receiver_held_bytes(receiver: *mut sctpr_receiver) -> usize;
+    pub fn sctpr_receiver_held_bytes(receiver: *const sctpr_receiver) -> usize;
 
     /// Makes a sender with no stream, whose first chunk gets `first_tsn`. A chunk has `fragment_size` bytes of user data at most, 1 to 65,519,
     /// a message `max_message_size`. `out` becomes its handle. SCTPR_INVALID, SCTPR_NO_MEMORY; `out` stays then.
     pub fn sctpr_sender_new(first_tsn: u32, fragment_size: u32, max_message_size: u32, out: *mut sctpr_sender) -> sctpr_code;
 
-    /// Frees a sender and all that it holds. The handle is not used again.
-    pub fn sctpr_sender_free(sender: sctpr_sender);
+    /// Frees a sender and all that it holds, and empties its handle. It does nothing where the handle is empty, as after this call or with
+    /// `sctpr_sender handle = { NULL }`, and where there is no handle.
+    pub fn sctpr_sender_free_handle(sender: sctpr_sender);
 
     /// Opens a stream, ordered and reliable. SCTPR_STREAM_OPEN, SCTPR_NO_MEMORY.
     pub fn sctpr_sender_open(sender: *mut sctpr_sender, stream: u16) -> sctpr_code;
@@ -565,8 +625,9 @@ extern "C" {
     pub fn sctpr_sender_reset(sender: *mut sctpr_sender, stream: u16) -> sctpr_code;
 
     /// Takes a copy of a message of one byte or more: its fragments wait. `number` becomes its number, `fragments` how many chunks it has.
-    /// SCTPR_NOTHING: the message has no bytes, and nothing changed (RFC 8831 6.6 sends one byte in their place). SCTPR_STREAM_UNKNOWN,
-    /// SCTPR_MESSAGE_TOO_LARGE, SCTPR_QUEUE_FULL, SCTPR_NO_MEMORY. Both stay, but with SCTPR_OK.
+    /// SCTPR_NOTHING: the message has no bytes, and nothing changed (RFC 8831 6.6 sends one byte in their place). SCTPR_STREAM_UNKNOWN, before
+    /// it takes memory; SCTPR_NOT_AS_GIVEN of a payload type that is none of SCTPR_PPID_..; SCTPR_MESSAGE_TOO_LARGE, SCTPR_QUEUE_FULL,
+    /// SCTPR_NO_MEMORY. Both stay, but with SCTPR_OK.
     pub fn sctpr_sender_write(sender: *mut sctpr_sender, stream: u16, payload_type: u32, message: *const u8, length: usize, number: *mut u64, fragments: *mut usize) -> sctpr_code;
 
     /// Starts the lifetimes of the messages written since the last time. sctpr_sender_send_next does so too.
@@ -592,19 +653,19 @@ extern "C" {
     pub fn sctpr_sender_add_miss_indications(sender: *mut sctpr_sender, before: u32) -> usize;
 
     /// The chunk in flight with a TSN. SCTPR_NOT_IN_FLIGHT, and `row` stays.
-    pub fn sctpr_sender_in_flight(sender: *mut sctpr_sender, tsn: u32, row: *mut sctpr_in_flight) -> sctpr_code;
+    pub fn sctpr_sender_in_flight(sender: *const sctpr_sender, tsn: u32, row: *mut sctpr_in_flight) -> sctpr_code;
 
     /// The chunk in flight at a place: the first has the place 0, and the TSN past sctpr_sender_acked_tsn. SCTPR_NOTHING: there are no more.
-    pub fn sctpr_sender_in_flight_at(sender: *mut sctpr_sender, place: usize, row: *mut sctpr_in_flight) -> sctpr_code;
+    pub fn sctpr_sender_in_flight_at(sender: *const sctpr_sender, place: usize, row: *mut sctpr_in_flight) -> sctpr_code;
 
     /// The first chunk in flight that is marked for retransmission; sctpr_sender_resend takes the mark. SCTPR_NOTHING: there is none.
-    pub fn sctpr_sender_next_to_retransmit(sender: *mut sctpr_sender, row: *mut sctpr_in_flight) -> sctpr_code;
+    pub fn sctpr_sender_next_to_retransmit(sender: *const sctpr_sender, row: *mut sctpr_in_flight) -> sctpr_code;
 
     /// Takes the bytes of a SACK (RFC 4960 6.2.1). SCTPR_OK: `count` becomes how many chunks it reports anew, and the first so many `rows` tell
-    /// of them, in the order of their TSNs. SCTPR_STALE: its cumulative TSN is before sctpr_sender_acked_tsn; `count` becomes 0, and nothing else
-    /// changed. SCTPR_SHORT_BUFFER, where there are fewer rows than sctpr_sender_chunks_in_flight, so that no row is ever lost: `count` becomes
-    /// how many are wanted. Refuses with an error of bytes that are no SACK, with SCTPR_SACK_BEYOND_SENT and SCTPR_SACK_BAD_GAP, where it reports
-    /// what is not in flight, and with SCTPR_NO_MEMORY. `rows` stay then, and `count` too but for the first.
+    /// of them, in the order of their TSNs. SCTPR_STALE: its cumulative TSN is before sctpr_sender_acked_tsn; `count` becomes 0, and nothing
+    /// else changed. SCTPR_SHORT_BUFFER, where there are fewer rows than sctpr_sender_chunks_in_flight, so that no row is ever lost: `count`
+    /// becomes how many are wanted. Refuses with an error of bytes that are no SACK, with SCTPR_SACK_BEYOND_SENT and SCTPR_SACK_BAD_GAP, where
+    /// it reports what is not in flight, and with SCTPR_NO_MEMORY. `rows` stay then, and `count` too but for the first.
     pub fn sctpr_sender_acked(sender: *mut sctpr_sender, chunk: *const u8, length: usize, rows: *mut sctpr_acked, room: usize, count: *mut usize) -> sctpr_code;
 
     /// Takes the TSN of a SHUTDOWN, as sctpr_read_shutdown tells it (RFC 4960 3.3.8, 9.2): as a SACK with this cumulative TSN and no gap ack
@@ -653,29 +714,29 @@ extern "C" {
     pub fn sctpr_sender_forward_tsn_to(sender: *mut sctpr_sender, tsn: u32, out: *mut u8, room: usize, written: *mut usize) -> sctpr_code;
 
     /// The TSN that the next chunk gets (RFC 4960 6.1).
-    pub fn sctpr_sender_next_tsn(sender: *mut sctpr_sender) -> u32;
+    pub fn sctpr_sender_next_tsn(sender: *const sctpr_sender) -> u32;
 
     /// The TSN up to which all was acknowledged (RFC 4960 6.2.1).
-    pub fn sctpr_sender_acked_tsn(sender: *mut sctpr_sender) -> u32;
+    pub fn sctpr_sender_acked_tsn(sender: *const sctpr_sender) -> u32;
 
     /// The Advanced.Peer.Ack.Point (RFC 3758 3.5 C2).
-    pub fn sctpr_sender_advanced_ack_point(sender: *mut sctpr_sender) -> u32;
+    pub fn sctpr_sender_advanced_ack_point(sender: *const sctpr_sender) -> u32;
 
     /// How many bytes of user data are in flight (RFC 4960 7.2): what is acknowledged or abandoned counts no more.
-    pub fn sctpr_sender_bytes_in_flight(sender: *mut sctpr_sender) -> usize;
+    pub fn sctpr_sender_bytes_in_flight(sender: *const sctpr_sender) -> usize;
 
     /// How many chunks are in flight: each TSN past sctpr_sender_acked_tsn and before sctpr_sender_next_tsn has one.
-    pub fn sctpr_sender_chunks_in_flight(sender: *mut sctpr_sender) -> usize;
+    pub fn sctpr_sender_chunks_in_flight(sender: *const sctpr_sender) -> usize;
 
     /// The first TSN in flight that is neither acknowledged nor abandoned (RFC 4960 6.3.3). SCTPR_NOTHING: there is none, and `tsn` stays.
-    pub fn sctpr_sender_earliest_outstanding(sender: *mut sctpr_sender, tsn: *mut u32) -> sctpr_code;
+    pub fn sctpr_sender_earliest_outstanding(sender: *const sctpr_sender, tsn: *mut u32) -> sctpr_code;
 
     /// How many fragments wait.
-    pub fn sctpr_sender_pending(sender: *mut sctpr_sender) -> usize;
+    pub fn sctpr_sender_pending(sender: *const sctpr_sender) -> usize;
 
     /// How many bytes of user data of a stream wait or are in flight. SCTPR_STREAM_UNKNOWN, and `amount` stays.
-    pub fn sctpr_sender_buffered_amount(sender: *mut sctpr_sender, stream: u16, amount: *mut usize) -> sctpr_code;
+    pub fn sctpr_sender_buffered_amount(sender: *const sctpr_sender, stream: u16, amount: *mut usize) -> sctpr_code;
 
     /// 1 where nothing of a stream waits or is in flight, so that it can be reset (RFC 6525 5.1.2), else 0.
-    pub fn sctpr_sender_is_drained(sender: *mut sctpr_sender, stream: u16) -> u8;
+    pub fn sctpr_sender_is_drained(sender: *const sctpr_sender, stream: u16) -> u8;
 }

@@ -143,9 +143,9 @@ pub enum Error {
     ErrParamHeaderTooShort,
     /// A parameter of type typ is of no kind, and the type's highest bit is not set: reading is to stop (RFC 4960 3.2.1).
     ErrParamTypeUnhandled,
-    /// Not answered by a call of this library. Read as a Chunk List: the type is not 32771 (RFC 4895 3.2).
+    /// A parameter is of another type than the call reads (RFC 6525 4).
     ErrParamTypeUnexpected,
-    /// The value of an Outgoing SSN Reset Request has under 12 bytes (RFC 6525 4.1).
+    /// The value of an Outgoing SSN Reset Request has under 12 bytes (RFC 6525 4.1), or that of a request has no number.
     ErrSsnResetRequestParamTooShort,
     /// The value of an Outgoing SSN Reset Request has 12 bytes or more, an odd number of them (RFC 6525 4.1).
     ErrSsnResetRequestParamInvalidLength,
@@ -157,6 +157,8 @@ pub enum Error {
     ErrSupportedAddressTypesParamInvalidLength,
     /// Not answered by a call of this library: the message is longer than the buffer, which is filled with the message's beginning.
     ErrShortBuffer,
+    /// It can't be written as it was given: a chunk whose value is read as another one, or a payload type that has no name here.
+    NotAsGiven,
     /// A code that this version doesn't know.
     Unknown(u32),
 }
@@ -239,6 +241,7 @@ impl Error {
             sys::SCTPR_ERR_INVALID_ALGORITHM_TYPE => Error::ErrInvalidAlgorithmType,
             sys::SCTPR_ERR_SUPPORTED_ADDRESS_TYPES_PARAM_INVALID_LENGTH => Error::ErrSupportedAddressTypesParamInvalidLength,
             sys::SCTPR_ERR_SHORT_BUFFER => Error::ErrShortBuffer,
+            sys::SCTPR_NOT_AS_GIVEN => Error::NotAsGiven,
             other => Error::Unknown(other),
         }
     }
@@ -320,6 +323,7 @@ impl Error {
             Error::ErrInvalidAlgorithmType => sys::SCTPR_ERR_INVALID_ALGORITHM_TYPE,
             Error::ErrSupportedAddressTypesParamInvalidLength => sys::SCTPR_ERR_SUPPORTED_ADDRESS_TYPES_PARAM_INVALID_LENGTH,
             Error::ErrShortBuffer => sys::SCTPR_ERR_SHORT_BUFFER,
+            Error::NotAsGiven => sys::SCTPR_NOT_AS_GIVEN,
             Error::Unknown(code) => code,
         }
     }
@@ -393,13 +397,14 @@ impl Error {
             Error::ErrErrorCauseTooSmall => "An error cause has under four bytes, a length under four, or a length past the bytes that are there (RFC 4960 3.3.10).",
             Error::ErrParamHeaderTooShort => "A parameter has under four bytes, a length under four, or a length past the bytes that are there (RFC 4960 3.2.1).",
             Error::ErrParamTypeUnhandled => "A parameter of type typ is of no kind, and the type's highest bit is not set: reading is to stop (RFC 4960 3.2.1).",
-            Error::ErrParamTypeUnexpected => "Not answered by a call of this library. Read as a Chunk List: the type is not 32771 (RFC 4895 3.2).",
-            Error::ErrSsnResetRequestParamTooShort => "The value of an Outgoing SSN Reset Request has under 12 bytes (RFC 6525 4.1).",
+            Error::ErrParamTypeUnexpected => "A parameter is of another type than the call reads (RFC 6525 4).",
+            Error::ErrSsnResetRequestParamTooShort => "The value of an Outgoing SSN Reset Request has under 12 bytes (RFC 6525 4.1), or that of a request has no number.",
             Error::ErrSsnResetRequestParamInvalidLength => "The value of an Outgoing SSN Reset Request has 12 bytes or more, an odd number of them (RFC 6525 4.1).",
             Error::ErrReconfigRespParamTooShort => "The value of a Re-configuration Response has under eight bytes (RFC 6525 4.4).",
             Error::ErrInvalidAlgorithmType => "A Requested HMAC Algorithm names another number than 1 or 3 (RFC 4895 3.3).",
             Error::ErrSupportedAddressTypesParamInvalidLength => "The value of a Supported Address Types has an odd number of bytes (RFC 4960 3.3.2.1).",
             Error::ErrShortBuffer => "Not answered by a call of this library: the message is longer than the buffer, which is filled with the message's beginning.",
+            Error::NotAsGiven => "It can't be written as it was given: a chunk whose value is read as another one, or a payload type that has no name here.",
             Error::Unknown(_) => "A code that this version doesn't know.",
         }
     }

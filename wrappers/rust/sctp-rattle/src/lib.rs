@@ -22,9 +22,10 @@ mod sender;
 
 pub use error::Error;
 pub use packet::{
-    read_data, read_forward_tsn, read_init, read_sack, read_shutdown, seal_packet, store_sum, write_cause, write_chunk,
-    write_chunk_with_flags, write_head, write_init, write_param, AnyChunk, AnyChunkRow, AnyPacket, Cause, Causes, Chunk, ChunkRow, Chunks,
-    Data, ForwardTsn, Gap, Head, Init, Packet, Param, Params, Sack, Skip,
+    read_data, read_forward_tsn, read_init, read_request, read_reset, read_response, read_sack, read_shutdown, seal_packet, store_sum,
+    write_cause, write_chunk, write_chunk_with_flags, write_head, write_init, write_param, write_response, AnyChunk, AnyChunkRow,
+    AnyPacket, Cause, Causes, Chunk, ChunkRow, Chunks, Data, ForwardTsn, Gap, Head, Init, Packet, Param, Params, Reset, Response, Sack,
+    Skip,
 };
 pub use receiver::{Arrival, MessageInfo, Receiver};
 #[cfg(feature = "alloc")]

@@ -277,7 +277,7 @@ pub fn read_init(chunk: &[u8]) -> Result<(Init, Params<'_>)> {
         inbound_streams: i.inbound_streams,
         is_ack: i.is_ack != 0,
     };
-    Ok((init, Params::new(chunk.get(20..).unwrap_or_default())))
+    Ok((init, Params::any(chunk.get(20..).unwrap_or_default())))
 }
 
 /// Reads a SHUTDOWN (RFC 4960 3.3.8): the TSN up to which its sender received all.
@@ -343,12 +343,18 @@ pub struct Param<'a> {
 #[derive(Clone, Debug)]
 pub struct Params<'a> {
     rest: &'a [u8],
+    any: bool,
 }
 
 impl<'a> Params<'a> {
     /// The parameters of bytes.
     pub fn new(bytes: &'a [u8]) -> Params<'a> {
-        Params { rest: bytes }
+        Params { rest: bytes, any: false }
+    }
+
+    /// The same of any type and any value: their headers alone are read.
+    pub fn any(bytes: &'a [u8]) -> Params<'a> {
+        Params { rest: bytes, any: true }
     }
 }
 
@@ -362,13 +368,75 @@ impl<'a> Iterator for Params<'a> {
         }
         let mut p = sys::sctpr_param::default();
         // SAFETY: pointer and length are those of a slice, and p is a value of this function.
-        let code = unsafe { sys::sctpr_read_param(bytes.as_ptr(), bytes.len(), &mut p) };
+        let code = unsafe {
+            match self.any {
+                false => sys::sctpr_read_param(bytes.as_ptr(), bytes.len(), &mut p),
+                true => sys::sctpr_read_any_param(bytes.as_ptr(), bytes.len(), &mut p),
+            }
+        };
         if code != sys::SCTPR_OK {
             return Some(Err(Error::of_code(code, 0)));
         }
         self.rest = bytes.get(p.next..).unwrap_or_default();
         Some(Ok(Param { kind: p.type_, value: bytes.get(4..4 + p.length).unwrap_or_default() }))
     }
+}
+
+/// The number of any request of a RE-CONFIG that the bytes begin with.
+pub fn read_request(bytes: &[u8]) -> Result<u32> {
+    let mut n = 0;
+    // SAFETY: pointer and length are those of a slice, and n is a value of this function.
+    done(unsafe { sys::sctpr_read_request(bytes.as_ptr(), bytes.len(), &mut n) }, (), 0)?;
+    Ok(n)
+}
+
+/// An Outgoing SSN Reset Request but for its streams (RFC 6525 4.1).
+#[derive(Clone, Copy, Debug, PartialEq, Eq)]
+pub struct Reset {
+    /// Its number.
+    pub request: u32,
+    /// The number of the request that it answers.
+    pub response: u32,
+    /// The last TSN that its sender gave out.
+    pub last_tsn: u32,
+    /// How many streams it names; none means all.
+    pub count: usize,
+}
+
+/// Reads the Outgoing SSN Reset Request that the bytes begin with: as many streams as there is room for stand in `streams`.
+pub fn read_reset(bytes: &[u8], streams: &mut [u16]) -> Result<Reset> {
+    let mut r = sys::sctpr_reset::default();
+    let mut n = 0;
+    // SAFETY: pointers and lengths are those of slices, streams is borrowed exclusively, and r and n are values of this function.
+    let code = unsafe { sys::sctpr_read_reset(bytes.as_ptr(), bytes.len(), &mut r, streams.as_mut_ptr(), streams.len(), &mut n) };
+    done(code, (), 0)?;
+    Ok(Reset { request: r.request, response: r.response, last_tsn: r.last_tsn, count: n })
+}
+
+/// A Re-configuration Response (RFC 6525 4.4).
+#[derive(Clone, Copy, Debug, PartialEq, Eq)]
+pub struct Response {
+    /// The number of the request that it answers.
+    pub response: u32,
+    /// 0 to 6.
+    pub result: u32,
+}
+
+/// Reads the Re-configuration Response that the bytes begin with.
+pub fn read_response(bytes: &[u8]) -> Result<Response> {
+    let mut r = sys::sctpr_response::default();
+    // SAFETY: pointer and length are those of a slice, and r is a value of this function.
+    done(unsafe { sys::sctpr_read_response(bytes.as_ptr(), bytes.len(), &mut r) }, (), 0)?;
+    Ok(Response { response: r.response, result: r.result })
+}
+
+/// Writes a Re-configuration Response with no TSNs.
+pub fn write_response(response: &Response, out: &mut [u8]) -> Result<usize> {
+    let mut n = 0;
+    let r = sys::sctpr_response { response: response.response, result: response.result };
+    // SAFETY: as in `write_chunk`.
+    let code = unsafe { sys::sctpr_write_response(&r, out.as_mut_ptr(), out.len(), &mut n) };
+    done(code, n, n)
 }
 
 /// Writes a chunk of a type and a value, its flags 0. This and the functions below answer how many bytes they wrote, padding included.

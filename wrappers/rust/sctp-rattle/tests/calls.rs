@@ -84,6 +84,27 @@ fn chunks_are_read() {
     assert_eq!((cut.next(), cut.next()), (Some(Err(Error::ErrParamHeaderTooShort)), None));
 }
 
+/// The words of a RE-CONFIG, a parameter of an address, and what can't be written or made as it was given.
+#[test]
+fn words_of_a_reconfig() {
+    let mut out = [0; 16];
+    assert_eq!(write_response(&Response { response: 9, result: 2 }, &mut out), Ok(12));
+    assert_eq!(read_response(&out[..12]), Ok(Response { response: 9, result: 2 }));
+    assert_eq!(read_request(&out[..12]), Err(Error::ErrParamTypeUnexpected));
+    let mut streams = [0; 2];
+    let reset = read_reset(b"\0\x0d\0\x12\0\0\0\x01\0\0\0\x02\0\0\0\x03\0\x04", &mut streams);
+    assert_eq!((reset, streams[0]), (Ok(Reset { request: 1, response: 2, last_tsn: 3, count: 1 }), 4));
+    assert_eq!(read_request(b"\0\x11\0\x0c\0\0\0\x07\0\x01\0\0"), Ok(7));
+    let address = b"\0\x05\0\x08\xc0\0\x02\x01";
+    assert_eq!(Params::any(address).next(), Some(Ok(Param { kind: 5, value: &address[4..] })));
+    assert_eq!(Params::new(address).next(), Some(Err(Error::ErrParamTypeUnhandled)));
+    assert_eq!(write_chunk(chunk_type::COOKIE_ACK, b"a", &mut out), Err(Error::NotAsGiven));
+    assert_eq!(Receiver::new(1, 65536, 65935, 9).err(), Some(Error::Invalid));
+    let mut s = Sender::new(1, 10, 100).unwrap();
+    s.open(3).unwrap();
+    assert_eq!(s.write(3, 99, b"a"), Err(Error::NotAsGiven));
+}
+
 /// A message of three chunks goes over, its middle one late.
 #[test]
 fn a_message_goes_over() {
@@ -195,7 +216,7 @@ fn halves_go_to_other_threads() {
         s
     });
     assert_eq!(format!("{:?}", s.join().unwrap()), "Sender { next_tsn: 7, acked_tsn: 6, bytes_in_flight: 0, pending: 1 }");
-    let r = Receiver::new(7, 10, 100, 5).unwrap();
+    let r = Receiver::new(7, 10, 300, 5).unwrap();
     assert_eq!(format!("{r:?}"), "Receiver { cumulative_tsn: 6, window: 100, held_bytes: 0 }");
     assert_eq!(Sender::new(7, 0, 100).err(), Some(Error::Invalid));
 }
