@@ -44,9 +44,9 @@ static void freed(void) {
 static void traps(void) {
     size_t fragments = 5;
     uint64_t number = 5;
-    CHECK(SCTPR_LEAST_WINDOW(65536, 65519) == 65936 && SCTPR_LEAST_WINDOW(1200, 1200) == 1400 && SCTPR_LEAST_WINDOW(1201, 1200) == 1601);
-    WITHOUT_MEMORY(sctpr_receiver_new(1, 65536, 65935, 9, &receiver), SCTPR_INVALID);
-    TRY(sctpr_receiver_new(1, 65536, 65936, 9, &receiver), SCTPR_OK, held == 0);
+    CHECK(SCTPR_LEAST_WINDOW(65536, 65519) == 66336 && SCTPR_LEAST_WINDOW(1200, 1200) == 1600 && SCTPR_LEAST_WINDOW(1201, 1200) == 2001);
+    WITHOUT_MEMORY(sctpr_receiver_new(1, 65536, 66335, 9, &receiver), SCTPR_INVALID);
+    TRY(sctpr_receiver_new(1, 65536, 66336, 9, &receiver), SCTPR_OK, held == 0);
     sctpr_receiver_free(&receiver);
     open_both(1000, 1000);
     WITHOUT_MEMORY(sctpr_sender_write(&sender, 4, SCTPR_PPID_BINARY, (const uint8_t *)"a", 1, &number, &fragments), SCTPR_STREAM_UNKNOWN);
@@ -102,7 +102,7 @@ static void goes_over(void) {
     }
     CHECK(sctpr_sender_bytes_in_flight(&sender) == 28 && sctpr_sender_chunks_in_flight(&sender) == 3);
     for (i = 0; i < 3; i += 2) {
-        TRY(sctpr_receiver_data(&receiver, chunks[i], n[i], &complete), SCTPR_OK, sctpr_receiver_held_bytes(&receiver) == (i ? 210 : 0));
+        TRY(sctpr_receiver_data(&receiver, chunks[i], n[i], &complete), SCTPR_OK, sctpr_receiver_held_bytes(&receiver) == (i ? 410 : 0));
         CHECK(complete == 0);
     }
     CHECK(sctpr_receiver_data(&receiver, chunks[0], n[0], &complete) == SCTPR_REPEAT);

@@ -117,7 +117,7 @@ void reconfig() {
     auto param = sctpr::read_any_param(bytes_of("\0\5\0\x08\xc0\0\2\1", 8));
     CHECK(param && param->type == 5 && param->length == 4 && param->next == 8);
     CHECK(is_refused(sctpr::write_chunk(SCTPR_COOKIE_ACK, bytes_of("a", 1), out), sctpr::code::not_as_given));
-    CHECK(is_refused(sctpr::receiver::make(1, 65536, 65935, 9), sctpr::code::invalid));
+    CHECK(is_refused(sctpr::receiver::make(1, 65536, 66335, 9), sctpr::code::invalid));
     auto s = *sctpr::sender::make(1, 10, 100);
     CHECK(s.open(3) && is_refused(s.write(3, 99, bytes_of("a", 1)), sctpr::code::not_as_given));
 }
@@ -149,7 +149,7 @@ void goes_over() {
     CHECK(s.chunks_in_flight() == 3 && s.bytes_in_flight() == 28 && s.next_tsn() == 1003 && s.acked_tsn() == 999 && s.advanced_ack_point() == 999);
     auto bytes = [&](std::size_t i) { return sctpr::bytes(out[i]).first(size[i]); };
     CHECK(*r.take_data(bytes(0)) == sctpr::arrival::added && *r.take_data(bytes(0)) == sctpr::arrival::repeat);
-    CHECK(*r.take_data(bytes(2)) == sctpr::arrival::added && r.held_bytes() == 418 && r.window() == 65536 - 418);
+    CHECK(*r.take_data(bytes(2)) == sctpr::arrival::added && r.held_bytes() == 818 && r.window() == 65536 - 818);
     CHECK(is_refused(r.take_data({}), sctpr::code::err_chunk_header_too_small));
     CHECK(is_refused(r.write_sack(sctpr::buffer(sack).first(15)), sctpr::code::short_buffer, 16));
     auto n = r.write_sack(sack);

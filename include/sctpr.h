@@ -489,11 +489,11 @@ typedef struct sctpr_receiver {
 } sctpr_receiver;
 
 /* Makes a receiver with no stream, to which nothing came: `first_tsn`, the peer's initial TSN, is expected next, and a message may have
- * `max_message_size` bytes. It holds about `window` bytes at most, each chunk counted as 200 more than its user data, and no TSN farther
+ * `max_message_size` bytes. It holds about `window` bytes at most, each chunk counted as 400 more than its user data, and no TSN farther
  * than `reach` past the cumulative one (RFC 4960 6.2). `out` becomes its handle. SCTPR_INVALID, where `window` is under
  * SCTPR_LEAST_WINDOW(max_message_size, 65519), so that a message would never fit; SCTPR_NO_MEMORY; `out` stays then. A peer whose chunks
  * have fewer bytes of user data each needs a window of SCTPR_LEAST_WINDOW(max_message_size, bytes). */
-#define SCTPR_LEAST_WINDOW(size, fragment) ((size_t)(size) + 200 * (((size_t)(size) + (size_t)(fragment) - 1) / (size_t)(fragment)))
+#define SCTPR_LEAST_WINDOW(size, fragment) ((size_t)(size) + 400 * (((size_t)(size) + (size_t)(fragment) - 1) / (size_t)(fragment)))
 sctpr_code sctpr_receiver_new(uint32_t first_tsn, uint32_t max_message_size, size_t window, uint32_t reach, sctpr_receiver *out);
 
 /* The same, with no limit to what is held: for a peer that is trusted, or a replay. */
@@ -562,7 +562,7 @@ sctpr_code sctpr_receiver_sack(sctpr_receiver *receiver, uint8_t *out, size_t ro
 uint32_t sctpr_receiver_cumulative_tsn(const sctpr_receiver *receiver);
 /* The window to advertise, in bytes (RFC 4960 3.3.4), which a SACK has as its credit; 2^32 - 1 without limits. */
 uint32_t sctpr_receiver_window(const sctpr_receiver *receiver);
-/* What is held and was not read: its bytes, and 200 for each chunk; the greatest size_t where it is more. */
+/* What is held and was not read: its bytes, and 400 for each chunk; the greatest size_t where it is more. */
 size_t sctpr_receiver_held_bytes(const sctpr_receiver *receiver);
 
 /* ---- Sender ---------------------------------------------------------------------------------------------------------------- */

@@ -66,7 +66,8 @@ static void connect_sides(void) {
     config.streams = 8;
     config.tag = 7;
     config.first_tsn = FIRST_TSN;
-    config.max_message_size = config.window = 1 << 20;
+    config.max_message_size = 1 << 20;
+    config.window = 2 << 20;
     config.max_in_flight = 1 << 16;
     config.mtu = 1200;
     config.rto_initial = config.rto_min = config.rto_max = 1000000000;

@@ -224,8 +224,9 @@ static void on_sack(struct endpoint *e, const uint8_t *chunk, size_t length) {
     }
 }
 
-/* Takes a DATA chunk (RFC 4960 6.2). One of a stream that is not open is reported, and counts as come (6.5); so does one of a message that
- * is too long. A SACK goes at once where the chunk came before, asks for it (RFC 7053), or leaves a gap. */
+/* Takes a DATA chunk (RFC 4960 6.2). One of a stream that is not open is reported, and counts as come (6.5). One of a message that is too
+ * long closes its stream, so that nothing of the message stays, and counts as come. A SACK goes at once where the chunk came before, asks
+ * for it (RFC 7053), or leaves a gap. */
 static void on_data(struct endpoint *e, const uint8_t *chunk, size_t length) {
     struct sctpr_data data;
     uint8_t complete = 0;
@@ -236,6 +237,7 @@ static void on_data(struct endpoint *e, const uint8_t *chunk, size_t length) {
         const uint8_t stream[4] = { chunk[8], chunk[9], 0, 0 };
         put_cause(e, SCTPR_ERROR, SCTPR_CAUSE_INVALID_STREAM_IDENTIFIER, stream, sizeof stream);
     }
+    if (code == SCTPR_MESSAGE_TOO_LARGE) sctpr_receiver_close(&e->receiver, data.stream);
     if (code == SCTPR_STREAM_UNKNOWN || code == SCTPR_MESSAGE_TOO_LARGE) sctpr_receiver_discard(&e->receiver, data.tsn);
     if (code == SCTPR_REPEAT || data.wants_sack || is_after(data.tsn, sctpr_receiver_cumulative_tsn(&e->receiver))) e->sack_due = e->now;
 }

@@ -96,7 +96,3 @@ pub record ReadsNext (stream : ℕ) (out_old out_new : List ℕ) (answered_size 
   pub bytes : out_new ≡ at_front (payload_of message.chunks) out_old
   pub size : answered_size ≡ length (payload_of message.chunks)
   pub typ : payload_type ≡ payload_type_number message.ppi
-
--- what a message of this size costs where its chunks have 65,519 bytes each, the most that one can have, and its last has the rest
-abbrev pub least_window : ℕ → ℕ
-least_window size = size + 200 * ((size + 65518) / 65519)

@@ -7,8 +7,8 @@ ghost use Rattle.std.specs.Prelude.{◌≡◌, ◌≢◌, ◌<◌, ◌≤◌, �
 ghost use Rattle.std.specs.Borrow.{sem};
 ghost use Rattle.sctp_c.specs.OwnedReceiver.{receiver_owns, receiver_coded, new_receiver_owns, new_receiver_coded};
 ghost use Rattle.sctp_c.specs.Codes.{receiver_code};
-ghost use Rattle.sctp_c.specs.Receiving.{least_window, receiver_code_for};
-ghost use Rattle.sctp_receiver.specs.Limits.{held_cost};
+ghost use Rattle.sctp_c.specs.Receiving.{receiver_code_for};
+ghost use Rattle.sctp_receiver.specs.Limits.{held_cost, least_window};
 ghost use Rattle.sctp_receiver.specs.Receiver.{Reception, at_first, is_open, open_stream, close_stream, window};
 ghost use Rattle.sctp_receiver.specs.Resets.{reset_stream, reset_refusal};
 ghost use Rattle.sctp_receiver.specs.declared.receiver.refusal.ReceiverRefusal.TheVariants.{StreamOpen, OutOfMemory};
@@ -114,7 +114,7 @@ fn hand_out(alloc: Global, receiver: Receiver, out: &mut SctpNewReceiver) -> u32
 }
 
 /// Makes a receiver with no stream, to which nothing came: `first_tsn`, the peer's initial TSN, is expected next, and a message may have
-/// `max_message_size` bytes. It holds about `window` bytes at most, each chunk counted as 200 more than its user data, and no TSN farther
+/// `max_message_size` bytes. It holds about `window` bytes at most, each chunk counted as 400 more than its user data, and no TSN farther
 /// than `reach` past the cumulative one (RFC 4960 6.2). `out` becomes its handle. Refuses with `SCTPR_INVALID`, where the window can't hold a
 /// message in the largest chunks, and with `SCTPR_NO_MEMORY`; `out` stays then.
 #[unsafe(no_mangle)]
@@ -129,12 +129,11 @@ pub extern "C" fn sctpr_receiver_new(
     ensures codes { (result ≡ 0) ⊎ ((result ≡ 16) ⊎ (result ≡ 18)) }
     ensures ok { result ≡ 0 → out.new.value ≡ Some (at_first first_tsn max_message_size
         (Some (record { window = window; reach = reach }))) }
-    ensures holds { result ≢ 18 → least_window max_message_size ≤ window }
-    ensures invalid { result ≡ 18 → window < least_window max_message_size }
+    ensures holds { result ≢ 18 → least_window max_message_size 65519 ≤ window }
+    ensures invalid { result ≡ 18 → window < least_window max_message_size 65519 }
     ensures refused { result ≢ 0 → out.new ≡ out.old }
 {
-    let chunks = (max_message_size as usize + 65_518) / 65_519;
-    if window < max_message_size as usize + 200 * chunks {
+    if window < Limits::least_window(max_message_size, 65_519) {
         return SCTPR_INVALID;
     }
     let limits = Some(Limits { window, reach });
@@ -227,7 +226,7 @@ pub extern "C" fn sctpr_receiver_window(receiver: &mut SctpReceiver) -> u32
     receiver.get_mut().window()
 }
 
-/// What is held and was not read: its bytes, and 200 for each chunk; the greatest `size_t` where it is more.
+/// What is held and was not read: its bytes, and 400 for each chunk; the greatest `size_t` where it is more.
 #[unsafe(no_mangle)]
 pub extern "C" fn sctpr_receiver_held_bytes(receiver: &mut SctpReceiver) -> usize
     ensures value { result ≡ held_cost receiver.old.value.streams }

@@ -524,7 +524,7 @@ extern "C" {
     pub fn sctpr_store_sum(sum: u32, packet: *mut u8, length: usize) -> sctpr_code;
 
     /// Makes a receiver with no stream, to which nothing came: `first_tsn`, the peer's initial TSN, is expected next, and a message may have
-    /// `max_message_size` bytes. It holds about `window` bytes at most, each chunk counted as 200 more than its user data, and no TSN farther
+    /// `max_message_size` bytes. It holds about `window` bytes at most, each chunk counted as 400 more than its user data, and no TSN farther
     /// than `reach` past the cumulative one (RFC 4960 6.2). `out` becomes its handle. SCTPR_INVALID, where `window` is under
     /// SCTPR_LEAST_WINDOW(max_message_size, 65519), so that a message would never fit; SCTPR_NO_MEMORY; `out` stays then. A peer whose chunks
     /// have fewer bytes of user data each needs a window of SCTPR_LEAST_WINDOW(max_message_size, bytes).
@@ -593,7 +593,7 @@ extern "C" {
     /// The window to advertise, in bytes (RFC 4960 3.3.4), which a SACK has as its credit; 2^32 - 1 without limits.
     pub fn sctpr_receiver_window(receiver: *const sctpr_receiver) -> u32;
 
-    /// What is held and was not read: its bytes, and 200 for each chunk; the greatest size_t where it is more.
+    /// What is held and was not read: its bytes, and 400 for each chunk; the greatest size_t where it is more.
     pub fn sctpr_receiver_held_bytes(receiver: *const sctpr_receiver) -> usize;
 
     /// Makes a sender with no stream, whose first chunk gets `first_tsn`. A chunk has `fragment_size` bytes of user data at most, 1 to 65,519,

@@ -99,7 +99,7 @@ fn words_of_a_reconfig() {
     assert_eq!(Params::any(address).next(), Some(Ok(Param { kind: 5, value: &address[4..] })));
     assert_eq!(Params::new(address).next(), Some(Err(Error::ErrParamTypeUnhandled)));
     assert_eq!(write_chunk(chunk_type::COOKIE_ACK, b"a", &mut out), Err(Error::NotAsGiven));
-    assert_eq!(Receiver::new(1, 65536, 65935, 9).err(), Some(Error::Invalid));
+    assert_eq!(Receiver::new(1, 65536, 66335, 9).err(), Some(Error::Invalid));
     let mut s = Sender::new(1, 10, 100).unwrap();
     s.open(3).unwrap();
     assert_eq!(s.write(3, 99, b"a"), Err(Error::NotAsGiven));
@@ -133,7 +133,7 @@ fn a_message_goes_over() {
     assert_eq!((s.chunks_in_flight(), s.bytes_in_flight(), s.next_tsn()), (3, 28, 1003));
     assert_eq!((s.acked_tsn(), s.advanced_ack_point()), (999, 999));
     assert_eq!((r.data(&chunks[0]), r.data(&chunks[0]), r.data(&chunks[2])), (Ok(Arrival::Added), Ok(Arrival::Repeat), Ok(Arrival::Added)));
-    assert_eq!((r.held_bytes(), r.window(), r.cumulative_tsn()), (418, 65536 - 418, 1000));
+    assert_eq!((r.held_bytes(), r.window(), r.cumulative_tsn()), (818, 65536 - 818, 1000));
     assert_eq!(r.data(b""), Err(Error::ErrChunkHeaderTooSmall));
     assert_eq!(r.write_sack(&mut sack[..15]), Err(Error::ShortBuffer { wanted: 16 }));
     let n = r.write_sack(&mut sack).unwrap();
@@ -216,7 +216,7 @@ fn halves_go_to_other_threads() {
         s
     });
     assert_eq!(format!("{:?}", s.join().unwrap()), "Sender { next_tsn: 7, acked_tsn: 6, bytes_in_flight: 0, pending: 1 }");
-    let r = Receiver::new(7, 10, 300, 5).unwrap();
-    assert_eq!(format!("{r:?}"), "Receiver { cumulative_tsn: 6, window: 100, held_bytes: 0 }");
+    let r = Receiver::new(7, 10, 500, 5).unwrap();
+    assert_eq!(format!("{r:?}"), "Receiver { cumulative_tsn: 6, window: 500, held_bytes: 0 }");
     assert_eq!(Sender::new(7, 0, 100).err(), Some(Error::Invalid));
 }
