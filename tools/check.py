@@ -17,7 +17,7 @@ from sources import Sources
 MOST = {
     "public calls of Receiver": (20, lambda: public_calls("sctp_receiver", "Receiver")),
     "public calls of Sender": (25, lambda: public_calls("sctp_sender", "Sender")),
-    "crates": (33, lambda: sum(os.path.isdir(f"crates/{it}/src") for it in os.listdir("crates"))),
+    "crates": (32, lambda: sum(os.path.isdir(f"crates/{it}/src") for it in os.listdir("crates"))),
     "files in tools/": (12, lambda: sum(it.is_file() for it in os.scandir("tools"))),
 }
 

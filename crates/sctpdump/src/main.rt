@@ -1,14 +1,19 @@
 //! Prints the SCTP packets of a capture, or of lines of hex text.
 #![tactic(auto)]
 
+mod messages;
+mod pending;
+mod reading;
+mod text;
+mod way;
+
+use crate::messages::Messages;
 use clap::{Arg, ArgAction, ArgMatches, Command};
 use sctp_follow::ladder::{Ladders, Style};
 use sctp_follow::summarize::summarize;
 use sctp_follow::svg::Pictures;
 use sctp_follow::text::Sums;
 use sctp_follow::track::Tracker;
-use sctp_messages::messages::Messages;
-use sctp_messages::text;
 use sctp_show::checksum::Sum;
 use sctp_show::filter::Filter;
 use sctp_show::follow::Alone;

@@ -5,7 +5,7 @@ use Rattle.std.proofs.lemmas.List.{append-nil, append_assoc}
 use Rattle.sctp_reassembly.specs.declared.reassembly_queue.chunks.Chunks.{Chunks}
 use Rattle.sctp_reassembly.specs.reassembly_queue.ReassemblyQueue.{at_start}
 use Rattle.sctp_receiver.specs.Receiver.{Reception, message_on, after_read}
-use Rattle.sctp_messages.specs.Messages.{Reads, ReadsOnto}
+use Rattle.sctpdump.specs.Messages.{Reads, ReadsOnto}
 
 -- one more is read
 pub reads_more : (s : ℕ) (ms : List Chunks) (m : Chunks) (old mid : Reception)

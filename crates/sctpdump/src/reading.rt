@@ -4,7 +4,7 @@ ghost use Rattle.std.specs.Prelude.{◌≡◌, ◌≤◌, ◌↔◌, None, true,
 ghost use Rattle.sctp_reassembly.specs.reassembly_queue.Fragments.{payload_of};
 ghost use Rattle.sctp_receiver.specs.declared.receiver.refusal.ReceiverRefusal.TheVariants.{OutOfMemory};
 ghost use Rattle.sctp_receiver.specs.Receiver.{IsRefusedFor, arrival_refusal, takes_memory, message_on};
-ghost use Rattle.sctp_messages.specs.Messages.{ReadsOnto, TakesChunk};
+ghost use Rattle.sctpdump.specs.Messages.{ReadsOnto, TakesChunk};
 
 use sctp_data::chunk::chunk_payload_data::ChunkPayloadData;
 use sctp_reassembly::chunks::Chunks;

@@ -1,6 +1,6 @@
 use Rattle.std.proofs.Common.{◌≤◌, vec_len}
-use Rattle.sctp_messages.specs.Messages.{ReadsOnto}
-use Rattle.sctp_messages.proofs.reading.read_all.Given as goal
+use Rattle.sctpdump.specs.Messages.{ReadsOnto}
+use Rattle.sctpdump.proofs.reading.read_all.Given as goal
 
 abbrev pub invariant-reading : goal.invariant-reading
 invariant-reading l = record {

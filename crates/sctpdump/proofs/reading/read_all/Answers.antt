@@ -1,6 +1,6 @@
 use Rattle.std.proofs.Common.{sym, ◌∙◌, arith}
-use Rattle.sctp_messages.proofs.Appending.{reads_onto_none, reads_onto_more}
-use Rattle.sctp_messages.proofs.reading.read_all.Goals as goal
+use Rattle.sctpdump.proofs.Appending.{reads_onto_none, reads_onto_more}
+use Rattle.sctpdump.proofs.reading.read_all.Goals as goal
 
 pub reading-init : goal.reading-init
 reading-init c = record {
