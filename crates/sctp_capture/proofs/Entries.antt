@@ -46,6 +46,8 @@ more_entry h held more r is holds =
     let span = span_more h held more long in
     let first = number_more h.order held more 0 (omega (arith, long)) in
     let second = number_more h.order held more 4 (omega (arith, long)) in
+    let third = number_more h.order held more 8 (omega (arith, long)) in
+    let fourth = number_more h.order held more 12 (omega (arith, long)) in
     record {
       link_type = is.link_type;
       direction = is.direction;
@@ -54,6 +56,7 @@ more_entry h held more r is holds =
       too_long = λ _. rw span (is.too_long long);
       cut_off = λ _. rw span (λ fits cut. absurd (omega (arith, holds.1 fits, cut, longer)));
       whole = rw span (λ fits _. rw (slice_more held more 16 (entry_span h held) (omega arith) (holds.1 fits)) (is.whole fits (holds.1 fits)));
+      lost = rw span (λ fits _. rw (third, fourth) (is.lost fits (holds.1 fits)));
     }
 
 -- what is wanted of an entry is enough

@@ -19,20 +19,20 @@ only_udp port protocol payload cut bytes missing e (inl it) = absurd (omega (ari
 only_udp port protocol payload cut bytes missing e (inr it) = it.1
 
 -- the version of a packet leaves one form
-pub only_ipv4 : (packet : List ℕ) (protocol : ℕ) (payload : List ℕ) (cut : ℕ) → slice_index packet 0 / 16 ≡ 4 → IsIpPayload packet protocol payload cut
-    → IsIpv4Payload packet protocol payload cut
-only_ipv4 packet protocol payload cut e (inl it) = it.1
-only_ipv4 packet protocol payload cut e (inr it) = absurd (omega (arith, e, it.0))
+pub only_ipv4 : (packet : List ℕ) (lost protocol : ℕ) (payload : List ℕ) (cut : ℕ) → slice_index packet 0 / 16 ≡ 4
+    → IsIpPayload packet lost protocol payload cut → IsIpv4Payload packet lost protocol payload cut
+only_ipv4 packet lost protocol payload cut e (inl it) = it.1
+only_ipv4 packet lost protocol payload cut e (inr it) = absurd (omega (arith, e, it.0))
 
-pub only_ipv6 : (packet : List ℕ) (protocol : ℕ) (payload : List ℕ) (cut : ℕ) → slice_index packet 0 / 16 ≡ 6 → IsIpPayload packet protocol payload cut
-    → IsIpv6Payload packet protocol payload cut
-only_ipv6 packet protocol payload cut e (inl it) = absurd (omega (arith, e, it.0))
-only_ipv6 packet protocol payload cut e (inr it) = it.1
+pub only_ipv6 : (packet : List ℕ) (lost protocol : ℕ) (payload : List ℕ) (cut : ℕ) → slice_index packet 0 / 16 ≡ 6
+    → IsIpPayload packet lost protocol payload cut → IsIpv6Payload packet protocol payload cut
+only_ipv6 packet lost protocol payload cut e (inl it) = absurd (omega (arith, e, it.0))
+only_ipv6 packet lost protocol payload cut e (inr it) = it.1
 
 -- no packet is shorter than the header of IPv4
-pub has_header : (packet : List ℕ) (protocol : ℕ) (payload : List ℕ) (cut : ℕ) → IsIpPayload packet protocol payload cut → 20 ≤ length packet
-has_header packet protocol payload cut (inl it) = it.1.long
-has_header packet protocol payload cut (inr it) = omega (arith, it.1.long)
+pub has_header : (packet : List ℕ) (lost protocol : ℕ) (payload : List ℕ) (cut : ℕ) → IsIpPayload packet lost protocol payload cut → 20 ≤ length packet
+has_header packet lost protocol payload cut (inl it) = it.1.long
+has_header packet lost protocol payload cut (inr it) = omega (arith, it.1.long)
 
 -- the place of Ethernet is the only one for its link type
 pub only_ethernet : (link_type : ℕ) (frame : List ℕ) (at : ℕ) → link_type ≡ 1 → IsPlace link_type frame at → IsEthernetPlace frame at
@@ -130,13 +130,13 @@ not_placed link_type frame at is (inr (inr (inr (inl it)))) = let e = it.0 in om
 not_placed link_type frame at is (inr (inr (inr (inr it)))) = let e = it.0 in omega (arith, is, e)
 
 -- a frame of link type 252 holds what is exported
-pub held_exported : (link_type port : ℕ) (frame bytes : List ℕ) (missing : ℕ) → link_type ≡ 252 → ((b : List ℕ) → IsExported frame b → ⊥)
-    → IsHeld link_type port frame bytes missing → ⊥
-held_exported link_type port frame bytes missing is none (inl it) = not_placed link_type frame it.at is it.place
-held_exported link_type port frame bytes missing is none (inr it) = none bytes it.1
+pub held_exported : (link_type port : ℕ) (frame : List ℕ) (lost : ℕ) (bytes : List ℕ) (missing : ℕ) → link_type ≡ 252
+    → ((b : List ℕ) → IsExported frame b → ⊥) → IsHeld link_type port frame lost bytes missing → ⊥
+held_exported link_type port frame lost bytes missing is none (inl it) = not_placed link_type frame it.at is it.place
+held_exported link_type port frame lost bytes missing is none (inr it) = none bytes it.1
 
 -- one of another holds what an IP packet carries
-pub held_framed : (link_type port : ℕ) (frame bytes : List ℕ) (missing : ℕ) → link_type ≢ 252 → ((b : List ℕ) (m : ℕ) → InFrame link_type port frame b m → ⊥)
-    → IsHeld link_type port frame bytes missing → ⊥
-held_framed link_type port frame bytes missing other none (inl it) = none bytes missing it
-held_framed link_type port frame bytes missing other none (inr it) = other it.0
+pub held_framed : (link_type port : ℕ) (frame : List ℕ) (lost : ℕ) (bytes : List ℕ) (missing : ℕ) → link_type ≢ 252
+    → ((b : List ℕ) (m : ℕ) → InFrame link_type port frame lost b m → ⊥) → IsHeld link_type port frame lost bytes missing → ⊥
+held_framed link_type port frame lost bytes missing other none (inl it) = none bytes missing it
+held_framed link_type port frame lost bytes missing other none (inr it) = other it.0

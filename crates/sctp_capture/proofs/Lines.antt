@@ -60,13 +60,14 @@ blank_front bytes digits n is says none =
 
 -- a line with digits is the record that they and its lead say
 pub line_is : (bytes digits : List ℕ) (n : ℕ) (r : Record) → n ≡ length (line_in bytes) → n ≤ 524288 → digits ≡ digits_in (said_in (take n bytes))
-    → 0 < length digits → r.link_type ≡ 248 → r.time ≡ (lead_of (take n bytes)).time → r.direction ≡ (lead_of (take n bytes)).direction
+    → 0 < length digits → r.link_type ≡ 248 → r.lost ≡ 0 → r.time ≡ (lead_of (take n bytes)).time → r.direction ≡ (lead_of (take n bytes)).direction
     → MatchResult (decode_of digits) (λ frame. r.frame ≡ Ok frame) (λ _. r.frame ≡ Err NotHex) → IsLine bytes r
-line_is bytes digits n r is short says some link_type time direction text =
+line_is bytes digits n r is short says some link_type lost time direction text =
     let front : line_in bytes ≡ take n bytes = (line_front bytes).1 ∙ ap (λ k. take k bytes) (sym is) in
     let same : digits ≡ digits_in (said_in (line_in bytes)) = says ∙ ap (λ l. digits_in (said_in l)) (sym front) in
     record {
       link_type = link_type;
+      lost = lost;
       too_long = λ long. absurd (omega (arith, long, short, is));
       time = λ _. rw front time;
       direction = λ _. rw front direction;
@@ -106,6 +107,7 @@ cut_is_line held more r is lt =
     let same = (line_cut held more lt).0 in
     record {
       link_type = is.link_type;
+      lost = is.lost;
       too_long = rw same is.too_long;
       time = rw same is.time;
       direction = rw same is.direction;
@@ -123,6 +125,7 @@ more_line held more r is (inr long) = elim (cases_lt (length (line_in held)) (le
       let far : 524288 < length (line_in (held ++ more)) = rw (same, length-append) (omega (arith, long)) in
       record {
         link_type = is.link_type;
+        lost = is.lost;
         too_long = λ _. is.too_long (omega (arith, long, le));
         time = λ short. absurd (omega (arith, far, short));
         direction = λ short. absurd (omega (arith, far, short));

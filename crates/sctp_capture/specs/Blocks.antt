@@ -1,5 +1,6 @@
 -- The blocks of a capture in the newer format (pcapng), by its bytes.
-use Rattle.std.specs.Prelude.{◌≡◌, ◌≢◌, ℕ, ◌+◌, ◌*◌, ◌/◌, ◌%◌, ◌<◌, ◌≤◌, ◌⊎◌, Bool, true, false, ◌==◌, ltb, leb, not, min, if◌then◌else◌, List, [], ◌∷◌, ◌++◌}
+use Rattle.std.specs.Prelude.{◌≡◌, ◌≢◌, ℕ, ◌+◌, ◌-◌, ◌*◌, ◌/◌, ◌%◌, ◌<◌, ◌≤◌, ◌⊎◌, Bool, true, false, ◌==◌, ltb, leb, not, min, if◌then◌else◌, List, [], ◌∷◌}
+use Rattle.std.specs.Prelude.{◌++◌}
 use Rattle.std.specs.Prelude.{length, drop, take, slice_get, slice_range, Option, Some, None, Ok, Err, IsSomeAnd}
 use Rattle.sctp_util.specs.Field.{u32_at, u32_le_at}
 use Rattle.sctp_capture.specs.declared.record.Order.{Order}
@@ -87,7 +88,7 @@ interface_number h block =
 abbrev pub ticks_at : Order → List ℕ → ℕ
 ticks_at order block = number_at order block 12 * 4294967296 + number_at order block 16
 
--- a packet with an interface, a time and a length of its own
+-- a packet with an interface, a time, and lengths of its own: the captured one, and the one that it had
 pub record IsEnhanced (interfaces : List Interface) (h : BlockHead) (block : List ℕ)
     (r : Record) : Type 0 where
   pub direction : r.direction ≡ None
@@ -100,6 +101,7 @@ pub record IsEnhanced (interfaces : List Interface) (h : BlockHead) (block : Lis
       → number_at h.order block 20 + 32 ≤ length block
       → (r.time ≡ time_of i.units (ticks_at h.order block)) × (r.link_type ≡ i.link_type)
       × (r.frame ≡ Ok (slice_range block 28 (28 + number_at h.order block 20)))
+      × (r.lost ≡ number_at h.order block 24 - number_at h.order block 20)
 
 -- how many bytes there are of the frame in a block that says only how long it was
 abbrev pub simple_length : Order → Interface → List ℕ → ℕ → ℕ
@@ -117,6 +119,7 @@ pub record IsSimple (interfaces : List Interface) (order : Order) (block : List 
       ≡ length block
       → (r.link_type ≡ i.link_type) × (r.frame
       ≡ Ok (slice_range block 12 (12 + simple_length order i block room)))
+      × (r.lost ≡ number_at order block 8 - simple_length order i block room)
 
 -- the record that the block of a packet is
 pub record IsPacket (interfaces : List Interface) (h : BlockHead) (block : List ℕ)

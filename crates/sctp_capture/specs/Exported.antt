@@ -68,13 +68,13 @@ AreExportedEnds frame ends =
 
 -- ---- of any link type but 248
 
--- a datagram that a frame holds, so many bytes of which are missing: in an IP packet, or exported
-abbrev pub IsHeld : ℕ → ℕ → List ℕ → List ℕ → ℕ → Type 0
-IsHeld link_type port frame bytes missing =
-    InFrame link_type port frame bytes missing
-    ⊎ ((link_type ≡ 252) × IsExported frame bytes × (missing ≡ 0))
+-- a datagram that a frame holds whose capture lost so many bytes at its end, so many bytes of which are missing: in an IP packet, or exported
+abbrev pub IsHeld : ℕ → ℕ → List ℕ → ℕ → List ℕ → ℕ → Type 0
+IsHeld link_type port frame lost bytes missing =
+    InFrame link_type port frame lost bytes missing
+    ⊎ ((link_type ≡ 252) × IsExported frame bytes × (missing ≡ lost))
 
 -- the addresses between which it went
-abbrev pub AreHeldEnds : ℕ → List ℕ → Option (IpAddr × IpAddr) → Type 0
-AreHeldEnds link_type frame ends =
-    HasEnds link_type frame ends ⊎ ((link_type ≡ 252) × AreExportedEnds frame ends)
+abbrev pub AreHeldEnds : ℕ → List ℕ → ℕ → Option (IpAddr × IpAddr) → Type 0
+AreHeldEnds link_type frame lost ends =
+    HasEnds link_type frame lost ends ⊎ ((link_type ≡ 252) × AreExportedEnds frame ends)

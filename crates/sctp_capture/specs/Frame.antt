@@ -39,20 +39,20 @@ IsCarried port protocol payload cut bytes missing =
 abbrev pub ipv4_header : List ℕ → ℕ
 ipv4_header packet = (slice_index packet 0 % 16) * 4
 
--- where an IPv4 packet ends, by its total length
-abbrev pub ipv4_end : List ℕ → ℕ
-ipv4_end packet = end_of packet 2 (length packet)
+-- where an IPv4 packet ends, by its total length. So many bytes are lost behind those that are there
+abbrev pub ipv4_end : List ℕ → ℕ → ℕ
+ipv4_end packet lost = end_of packet 2 (length packet + lost)
 
 -- what an IPv4 packet that is no fragment carries, and how many bytes of it are cut off: behind its header, to its total length
-pub record IsIpv4Payload (packet : List ℕ) (protocol : ℕ) (payload : List ℕ) (cut : ℕ) : Type 0 where
+pub record IsIpv4Payload (packet : List ℕ) (lost protocol : ℕ) (payload : List ℕ) (cut : ℕ) : Type 0 where
   pub long : 20 ≤ length packet
   pub is_no_fragment : u16_at packet 6 % 16384 ≡ 0
   pub has_header : 20 ≤ ipv4_header packet
   pub is_held : ipv4_header packet ≤ length packet
-  pub has_length : ipv4_header packet ≤ ipv4_end packet
+  pub has_length : ipv4_header packet ≤ ipv4_end packet lost
   pub is_protocol : protocol ≡ slice_index packet 9
-  pub is : payload ≡ slice_range packet (ipv4_header packet) (held_to (ipv4_end packet) packet)
-  pub is_cut : cut ≡ cut_to (ipv4_end packet) packet
+  pub is : payload ≡ slice_range packet (ipv4_header packet) (held_to (ipv4_end packet lost) packet)
+  pub is_cut : cut ≡ cut_to (ipv4_end packet lost) packet
 
 -- a fragment header of a packet that is whole: no offset, and no more fragments (RFC 6946)
 abbrev pub IsAtomic : List ℕ → Type 0
@@ -88,10 +88,10 @@ pub record IsIpv6Payload (packet : List ℕ) (protocol : ℕ) (payload : List �
       (slice_range packet 40 (held_to (ipv6_end packet) packet)) protocol payload
   pub is_cut : cut ≡ cut_to (ipv6_end packet) packet
 
--- what an IP packet carries, by its version
-abbrev pub IsIpPayload : List ℕ → ℕ → List ℕ → ℕ → Type 0
-IsIpPayload packet protocol payload cut =
-    ((slice_index packet 0 / 16 ≡ 4) × IsIpv4Payload packet protocol payload cut)
+-- what an IP packet carries, by its version. So many bytes are lost behind those that are there
+abbrev pub IsIpPayload : List ℕ → ℕ → ℕ → List ℕ → ℕ → Type 0
+IsIpPayload packet lost protocol payload cut =
+    ((slice_index packet 0 / 16 ≡ 4) × IsIpv4Payload packet lost protocol payload cut)
     ⊎ ((slice_index packet 0 / 16 ≡ 6) × IsIpv6Payload packet protocol payload cut)
 
 -- the address that stands in a packet from a place on
@@ -109,12 +109,12 @@ AreEnds packet ends =
     ((slice_index packet 0 / 16 ≡ 4) × IsIpv4At packet 12 ends.0 × IsIpv4At packet 16 ends.1)
     ⊎ ((slice_index packet 0 / 16 ≡ 6) × IsIpv6At packet 8 ends.0 × IsIpv6At packet 24 ends.1)
 
--- in an IP packet
-pub record InIp (port : ℕ) (packet bytes : List ℕ) (missing : ℕ) : Type 0 where
+-- in an IP packet, behind which so many bytes are lost
+pub record InIp (port : ℕ) (packet : List ℕ) (lost : ℕ) (bytes : List ℕ) (missing : ℕ) : Type 0 where
   pub protocol : ℕ
   pub payload : List ℕ
   pub cut : ℕ
-  pub is : IsIpPayload packet protocol payload cut
+  pub is : IsIpPayload packet lost protocol payload cut
   pub carried : IsCarried port protocol payload cut bytes missing
 
 -- the protocol number of a VLAN tag: of the inner or the outer one (IEEE 802.1Q), or of an outer one by its older number
@@ -183,19 +183,20 @@ pub record IsGre (gre packet : List ℕ) : Type 0 where
   pub room : at + 20 ≤ length (gre_rest gre)
   pub is : packet ≡ slice_range (gre_rest gre) at (length (gre_rest gre))
 
--- the IP packet that an IP packet carries in GRE
-pub record IsTunnelled (packet inner : List ℕ) : Type 0 where
+-- the IP packet that an IP packet carries in GRE, and how many bytes of it are cut off
+pub record IsTunnelled (packet : List ℕ) (lost : ℕ) (inner : List ℕ) (cut : ℕ) : Type 0 where
   pub gre : List ℕ
-  pub cut : ℕ
-  pub is : IsIpPayload packet 47 gre cut
+  pub is : IsIpPayload packet lost 47 gre cut
   pub inside : IsGre gre inner
 
--- the IP packet behind so many tunnels, one in the other, or fewer where there are no more
-unfoldable pub IsInner : ℕ → List ℕ → List ℕ → Type 0
-IsInner zero packet inner = inner ≡ packet
-IsInner (suc count) packet inner =
-    ((next : List ℕ) × IsTunnelled packet next × IsInner count next inner)
-    ⊎ (((next : List ℕ) → IsTunnelled packet next → ⊥) × (inner ≡ packet))
+-- the IP packet behind so many tunnels, one in the other, or fewer where there are no more, and how many bytes of it are cut off
+unfoldable pub IsInner : ℕ → List ℕ → ℕ → List ℕ → ℕ → Type 0
+IsInner zero packet lost inner cut = (inner ≡ packet) × (cut ≡ lost)
+IsInner (suc count) packet lost inner cut =
+    ((next : List ℕ) × (less : ℕ) × IsTunnelled packet lost next less
+    × IsInner count next less inner cut)
+    ⊎ (((next : List ℕ) → (less : ℕ) → IsTunnelled packet lost next less → ⊥)
+    × (inner ≡ packet) × (cut ≡ lost))
 
 -- link types of a raw IP packet
 abbrev pub IsRawIp : ℕ → Type 0
@@ -210,18 +211,23 @@ IsPlace link_type frame at =
     ⊎ ((IsRawIp link_type × (at ≡ 0))
     ⊎ (((link_type ≡ 113) × (at ≡ 16)) ⊎ ((link_type ≡ 276) × (at ≡ 20)))))
 
--- in a frame that holds an IP packet, alone or in up to four tunnels, or as much of one as its capture kept: so many bytes of the datagram are missing
-pub record InFrame (link_type port : ℕ) (frame bytes : List ℕ) (missing : ℕ) : Type 0 where
+-- in a frame that holds an IP packet, alone or in up to four tunnels, or as much of one as its capture kept, which lost so many bytes: so many of
+-- the datagram are missing
+pub record InFrame (link_type port : ℕ) (frame : List ℕ) (lost : ℕ) (bytes : List ℕ)
+    (missing : ℕ) : Type 0 where
   pub at : ℕ
   pub place : IsPlace link_type frame at
   pub packet : List ℕ
-  pub inner : IsInner 4 (slice_range frame at (length frame)) packet
-  pub inside : InIp port packet bytes missing
+  pub cut : ℕ
+  pub inner : IsInner 4 (slice_range frame at (length frame)) lost packet cut
+  pub inside : InIp port packet cut bytes missing
 
 -- in a frame that holds an IP packet: the addresses of the innermost one
-pub record HasEnds (link_type : ℕ) (frame : List ℕ) (ends : Option (IpAddr × IpAddr)) : Type 0 where
+pub record HasEnds (link_type : ℕ) (frame : List ℕ) (lost : ℕ) (ends : Option (IpAddr × IpAddr))
+    : Type 0 where
   pub at : ℕ
   pub place : IsPlace link_type frame at
   pub packet : List ℕ
-  pub inner : IsInner 4 (slice_range frame at (length frame)) packet
+  pub cut : ℕ
+  pub inner : IsInner 4 (slice_range frame at (length frame)) lost packet cut
   pub are : IsSomeAnd ends (AreEnds packet)

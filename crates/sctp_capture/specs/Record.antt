@@ -1,5 +1,6 @@
 -- The records that an input holds, by its bytes.
-use Rattle.std.specs.Prelude.{◌≡◌, ℕ, ◌+◌, ◌%◌, ◌<◌, ◌≤◌, ◌⊎◌, Bool, true, false, ◌==◌, ◌||◌, if◌then◌else◌, List, [], ◌∷◌, length, drop, slice_range, Option}
+use Rattle.std.specs.Prelude.{◌≡◌, ℕ, ◌+◌, ◌-◌, ◌%◌, ◌<◌, ◌≤◌, ◌⊎◌, Bool, true, false, ◌==◌, ◌||◌, if◌then◌else◌, List, [], ◌∷◌, length, drop, slice_range}
+use Rattle.std.specs.Prelude.{Option}
 use Rattle.std.specs.Prelude.{Some, None, Ok, Err, MatchResult}
 use Rattle.std.specs.Io.KnownBytes.{Keeps}
 use Rattle.std.specs.Io.BufRead.{drop_through}
@@ -43,7 +44,8 @@ time_at h bytes =
       nanoseconds = h.nanoseconds;
     }
 
--- the entry that the bytes begin with: its frame is refused where it is cut off, or longer than 256 KiB
+-- the entry that the bytes begin with: its frame is refused where it is cut off, or longer than 256 KiB. It lost what the length that it had is more
+-- than the length that was captured
 pub record IsEntry (h : Head) (bytes : List ℕ) (r : Record) : Type 0 where
   pub link_type : r.link_type ≡ h.link_type
   pub direction : r.direction ≡ None
@@ -54,6 +56,8 @@ pub record IsEntry (h : Head) (bytes : List ℕ) (r : Record) : Type 0 where
       < entry_span h bytes → r.frame ≡ Err CutOff
   pub whole : entry_span h bytes ≤ 16 + 262144 → entry_span h bytes ≤ length bytes → r.frame
       ≡ Ok (slice_range bytes 16 (entry_span h bytes))
+  pub lost : entry_span h bytes ≤ 16 + 262144 → entry_span h bytes ≤ length bytes → r.lost
+      ≡ number_at h.order bytes 12 - number_at h.order bytes 8
 
 -- what follows an entry; nothing where it is cut off
 abbrev pub after_entry : Head → List ℕ → List ℕ
@@ -86,6 +90,7 @@ digits_in (x ∷ xs) =
 -- the line that the bytes begin with: its frame is what its hex text says, or refused; when and whither it went is what its lead says
 pub record IsLine (bytes : List ℕ) (r : Record) : Type 0 where
   pub link_type : r.link_type ≡ 248
+  pub lost : r.lost ≡ 0
   pub too_long : 524288 < length (line_in bytes)
       → (r.time ≡ None) × (r.direction ≡ None) × (r.frame ≡ Err TooLong)
   pub time : length (line_in bytes) ≤ 524288 → r.time ≡ (lead_of (line_in bytes)).time

@@ -38,6 +38,7 @@ are_right (suc n) text =
 -- the record of a dump that says these bytes, by whether its offsets are right, with what stands before it
 pub record IsDumpRecord (lead : Lead) (said : List ℕ) (is_right : Bool) (r : Record) : Type 0 where
   pub link_type : r.link_type ≡ 248
+  pub lost : r.lost ≡ 0
   pub time : r.time ≡ lead.time
   pub direction : r.direction ≡ lead.direction
   pub too_long : 262144 < length said → r.frame ≡ Err TooLong

@@ -1,6 +1,6 @@
 //! The blocks of a capture in the newer format (pcapng).
 
-ghost use Rattle.std.specs.Prelude.{◌≡◌, ◌≤◌, ◌<◌, ◌+◌, ◌⊎◌, Option, Some, None, true, false, length, take, IfOk, OnOk, IfSome, IfNone};
+ghost use Rattle.std.specs.Prelude.{◌≡◌, ◌≤◌, ◌<◌, ◌+◌, ◌-◌, ◌⊎◌, Option, Some, None, true, false, length, take, IfOk, OnOk, IfSome, IfNone};
 ghost use Rattle.std.specs.Io.KnownBytes.{Keeps, IsAtEnd, prepend_known};
 ghost use Rattle.sctp_capture.specs.Record.{number_at};
 ghost use Rattle.sctp_capture.specs.Blocks as blocks;
@@ -99,6 +99,7 @@ fn refused(fault: Fault) -> Record
         time: None,
         direction: None,
         link_type: 0,
+        lost: 0,
         frame: Err(fault),
     }
 }
@@ -285,8 +286,16 @@ fn read_enhanced(
         time: time_of(interface.units, high * 4_294_967_296 + low),
         direction: None,
         link_type: interface.link_type,
+        lost: read_number(order, block, 24).saturating_sub(read_number(order, block, 20)),
         frame: Ok(Bytes::copy_from_slice(alloc, &block[28..28 + length])?),
     })
+}
+
+/// How many bytes of a frame were not captured, by how many it had, and how many are there.
+fn lost_of(whole: u32, held: usize) -> u32
+    ensures { result ≡ whole - held }
+{
+    (whole as usize).saturating_sub(held) as u32
 }
 
 /// A packet of the first interface, with no time.
@@ -304,7 +313,8 @@ fn read_simple(
     let Some(interface) = interfaces.first() else {
         return Ok(refused(Fault::NoInterface));
     };
-    let mut length = (read_number(order, block, 8) as usize).min(block.len() - 16);
+    let whole = read_number(order, block, 8);
+    let mut length = (whole as usize).min(block.len() - 16);
     if interface.limit > 0 {
         length = length.min(interface.limit as usize);
     }
@@ -312,6 +322,7 @@ fn read_simple(
         time: None,
         direction: None,
         link_type: interface.link_type,
+        lost: lost_of(whole, length),
         frame: Ok(Bytes::copy_from_slice(alloc, &block[12..12 + length])?),
     })
 }

@@ -1,6 +1,6 @@
 //! The SCTP datagram inside a frame.
 
-ghost use Rattle.std.specs.Prelude.{◌≡◌, ◌≢◌, ◌↔◌, ◌+◌, ◌≤◌, ◌<◌, ◌^◌, ℕ, List, length, IsTrue, IfOk, IfErr, IfSome, IfNone, IsOkAnd, IsSomeAnd, None};
+ghost use Rattle.std.specs.Prelude.{◌≡◌, ◌≢◌, ◌↔◌, ◌+◌, ◌≤◌, ◌<◌, ◌^◌, ◌⊎◌, ℕ, List, length, IsTrue, IfOk, IfErr, IfSome, IfNone, IsOkAnd, IsSomeAnd, None};
 ghost use Rattle.sctp_capture.specs.Frame.{InUdp, IsCarried, end_of, held_to, cut_to, IsIpv4Payload, IsAtomic, IsPassed, passed_bytes, IsUpper, IsIpv6Payload, IsIpPayload, InIp, IsTag, IsTypePlace, IsPppoePlace, IsMplsPlace, IsNetworkPlace, IsEthernetPlace, IsVersion0, gre_header, IsGrePlace, IsGre, IsTunnelled, IsInner, IsPlace, InFrame, IsIpv4At, IsIpv6At, AreEnds, HasEnds};
 ghost use Rattle.sctp_capture.specs.Exported.{IsExported, AreExportedEnds, IsHeld, AreHeldEnds};
 ghost use Rattle.sctp_util.specs.Field;
@@ -56,7 +56,7 @@ struct Upper<'a> {
 fn end_of(bytes: &[u8], at: usize, whole: usize) -> usize
     requires { at + 2 ≤ length bytes.now }
     ensures is { result ≡ end_of bytes.now at whole }
-    ensures few { result < 65536 + whole }
+    ensures few { (result < 65536) ⊎ (result ≡ whole) }
 {
     let length = read_u16(bytes, at) as usize;
     if length == 0 {
@@ -81,7 +81,7 @@ fn cut_to(end: usize, bytes: &[u8]) -> usize
 
 /// The SCTP datagram in UDP to or from the port (RFC 6951), and how many of its bytes are missing. So many are cut off behind the payload.
 fn inside_udp(payload: &[u8], cut: usize, port: u16) -> Result<(&[u8], usize), Fault>
-    requires { cut < 2 ^ 17 }
+    requires { cut < 2 ^ 32 }
     ensures found { IfOk result (λ x. InUdp port payload.now cut x.0.now x.1) }
     ensures refused { IfErr result
         (λ _. (bytes : List ℕ) → (missing : ℕ) → InUdp port payload.now cut bytes missing → ⊥) }
@@ -108,7 +108,7 @@ fn inside_transport(
     cut: usize,
     port: u16,
 ) -> Result<(&[u8], usize), Fault>
-    requires { cut < 2 ^ 17 }
+    requires { cut < 2 ^ 32 }
     ensures found { IfOk result (λ x. IsCarried port protocol payload.now cut x.0.now x.1) }
     ensures refused { IfErr result
         (λ _. (bytes : List ℕ) → (missing : ℕ)
@@ -133,14 +133,16 @@ pub fn ipv4_at(packet: &[u8], at: usize) -> IpAddr
     IpAddr::from(octets)
 }
 
-/// What an IPv4 packet carries, if it is no fragment.
-fn ipv4_payload(packet: &[u8]) -> Result<Upper<'_>, Fault>
-    ensures found { IfOk result (λ u. IsIpv4Payload packet.now u.protocol u.bytes.now u.cut) }
+/// What an IPv4 packet carries, if it is no fragment. So many bytes are lost behind it.
+fn ipv4_payload(packet: &[u8], lost: usize) -> Result<Upper<'_>, Fault>
+    requires { lost < 2 ^ 32 }
+    ensures found { IfOk result
+        (λ u. IsIpv4Payload packet.now lost u.protocol u.bytes.now u.cut) }
     ensures refused { IfErr result (λ _. (protocol : ℕ) → (payload : List ℕ) → (cut : ℕ)
-        → IsIpv4Payload packet.now protocol payload cut → ⊥) }
+        → IsIpv4Payload packet.now lost protocol payload cut → ⊥) }
     ensures ends { IfOk result
         (λ u. IsIpv4At packet.now 12 u.ends.0 × IsIpv4At packet.now 16 u.ends.1) }
-    ensures few { IfOk result (λ u. u.cut < 2 ^ 17) }
+    ensures few { IfOk result (λ u. u.cut < 2 ^ 32) }
 {
     if packet.len() < IP_HEADER {
         return Err(Fault::Short);
@@ -149,7 +151,7 @@ fn ipv4_payload(packet: &[u8]) -> Result<Upper<'_>, Fault>
         return Err(Fault::Fragment);
     }
     let header = ((packet[0] % 16) as usize) * 4;
-    let end = end_of(packet, 2, packet.len());
+    let end = end_of(packet, 2, packet.len() + lost);
     let held = held_to(end, packet);
     if header < IP_HEADER || held < header {
         return Err(Fault::Short);
@@ -239,7 +241,7 @@ fn ipv6_payload(packet: &[u8]) -> Result<Upper<'_>, Fault>
         → IsIpv6Payload packet.now protocol payload cut → ⊥) }
     ensures ends { IfOk result
         (λ u. IsIpv6At packet.now 8 u.ends.0 × IsIpv6At packet.now 24 u.ends.1) }
-    ensures few { IfOk result (λ u. u.cut < 2 ^ 17) }
+    ensures few { IfOk result (λ u. u.cut < 2 ^ 32) }
 {
     if packet.len() < 40 {
         return Err(Fault::Short);
@@ -255,32 +257,35 @@ fn ipv6_payload(packet: &[u8]) -> Result<Upper<'_>, Fault>
     })
 }
 
-/// What an IP packet carries, by its version.
-fn ip_payload(packet: &[u8]) -> Result<Upper<'_>, Fault>
-    ensures found { IfOk result (λ u. IsIpPayload packet.now u.protocol u.bytes.now u.cut) }
+/// What an IP packet carries, by its version. So many bytes are lost behind it.
+fn ip_payload(packet: &[u8], lost: usize) -> Result<Upper<'_>, Fault>
+    requires { lost < 2 ^ 32 }
+    ensures found { IfOk result
+        (λ u. IsIpPayload packet.now lost u.protocol u.bytes.now u.cut) }
     ensures refused { IfErr result (λ _. (protocol : ℕ) → (payload : List ℕ) → (cut : ℕ)
-        → IsIpPayload packet.now protocol payload cut → ⊥) }
+        → IsIpPayload packet.now lost protocol payload cut → ⊥) }
     ensures ends { IfOk result (λ u. AreEnds packet.now u.ends) }
-    ensures few { IfOk result (λ u. u.cut < 2 ^ 17) }
+    ensures few { IfOk result (λ u. u.cut < 2 ^ 32) }
 {
     if packet.is_empty() {
         return Err(Fault::Short);
     }
     match packet[0] / 16 {
-        4 => ipv4_payload(packet),
+        4 => ipv4_payload(packet, lost),
         6 => ipv6_payload(packet),
         _ => Err(Fault::OtherProtocol),
     }
 }
 
-/// The datagram of an IP packet.
-fn inside_ip(packet: &[u8], port: u16) -> Result<Datagram<'_>, Fault>
-    ensures found { IfOk result (λ d. InIp port packet.now d.bytes.now d.missing) }
+/// The datagram of an IP packet. So many bytes are lost behind it.
+fn inside_ip(packet: &[u8], lost: usize, port: u16) -> Result<Datagram<'_>, Fault>
+    requires { lost < 2 ^ 32 }
+    ensures found { IfOk result (λ d. InIp port packet.now lost d.bytes.now d.missing) }
     ensures refused { IfErr result (λ _. (bytes : List ℕ) → (missing : ℕ)
-        → InIp port packet.now bytes missing → ⊥) }
+        → InIp port packet.now lost bytes missing → ⊥) }
     ensures ends { IfOk result (λ d. IsSomeAnd d.ends (AreEnds packet.now)) }
 {
-    let upper = ip_payload(packet)?;
+    let upper = ip_payload(packet, lost)?;
     let (bytes, missing) = inside_transport(upper.protocol, upper.bytes, upper.cut, port)?;
     Ok(Datagram {
         ends: Some(upper.ends),
@@ -435,33 +440,47 @@ fn inside_gre(gre: &[u8]) -> Option<&[u8]>
     Some(&rest[at..])
 }
 
-/// The IP packet that an IP packet carries in GRE, if there is one.
-fn tunnelled(packet: &[u8]) -> Option<&[u8]>
-    ensures some { IfSome result (λ inner. IsTunnelled packet.now inner.now) }
-    ensures none { IfNone result ((inner : List ℕ) → IsTunnelled packet.now inner → ⊥) }
+/// The IP packet that an IP packet carries in GRE, if there is one, and how many bytes of it are cut off. So many are lost behind the outer
+/// one.
+fn tunnelled(packet: &[u8], lost: usize) -> Option<(&[u8], usize)>
+    requires { lost < 2 ^ 32 }
+    ensures some { IfSome result (λ x. IsTunnelled packet.now lost x.0.now x.1) }
+    ensures none { IfNone result ((inner : List ℕ) → (cut : ℕ)
+        → IsTunnelled packet.now lost inner cut → ⊥) }
+    ensures few { IfSome result (λ x. x.1 < 2 ^ 32) }
 {
-    let upper = match ip_payload(packet) {
+    let upper = match ip_payload(packet, lost) {
         Ok(upper) => upper,
         Err(_) => return None,
     };
     if upper.protocol != GRE {
         return None;
     }
-    inside_gre(upper.bytes)
+    match inside_gre(upper.bytes) {
+        Some(inner) => Some((inner, upper.cut)),
+        None => None,
+    }
 }
 
-/// The IP packet behind up to four tunnels, one in the other.
-fn innermost(packet: &[u8]) -> &[u8]
-    ensures { IsInner 4 packet.now result.now }
+/// The IP packet behind up to four tunnels, one in the other, and how many bytes of it are cut off. So many are lost behind the outermost
+/// one.
+fn innermost(packet: &[u8], lost: usize) -> (&[u8], usize)
+    requires { lost < 2 ^ 32 }
+    ensures is { IsInner 4 packet.now lost result.0.now result.1 }
+    ensures few { result.1 < 2 ^ 32 }
 {
     let mut inner = packet;
+    let mut cut = lost;
     for _passed in 0..MAX_TUNNELS {
-        match tunnelled(inner) {
-            Some(next) => inner = next,
-            None => return inner,
+        match tunnelled(inner, cut) {
+            Some((next, less)) => {
+                inner = next;
+                cut = less;
+            }
+            None => return (inner, cut),
         }
     }
-    inner
+    (inner, cut)
 }
 
 /// Where the IP packet of a frame of this link type begins: loopback, Ethernet, raw IP, or Linux
@@ -481,24 +500,26 @@ fn place_in(link_type: u32, frame: &[u8]) -> Result<usize, Fault>
     }
 }
 
-/// The datagram of a frame that holds an IP packet.
-fn inside_frame(link_type: u32, frame: &[u8], port: u16) -> Result<Datagram<'_>, Fault>
-    ensures carried { IfOk result (λ d. InFrame link_type port frame.now d.bytes.now d.missing) }
+/// The datagram of a frame that holds an IP packet. So many bytes are lost behind it.
+fn inside_frame(link_type: u32, frame: &[u8], lost: u32, port: u16) -> Result<Datagram<'_>, Fault>
+    ensures carried { IfOk result
+        (λ d. InFrame link_type port frame.now lost d.bytes.now d.missing) }
     ensures refused { IfErr result
         (λ _. (bytes : List ℕ) → (missing : ℕ)
-        → InFrame link_type port frame.now bytes missing → ⊥) }
-    ensures ends { IfOk result (λ d. HasEnds link_type frame.now d.ends) }
+        → InFrame link_type port frame.now lost bytes missing → ⊥) }
+    ensures ends { IfOk result (λ d. HasEnds link_type frame.now lost d.ends) }
 {
     let at = place_in(link_type, frame)?;
     if frame.len() <= at {
         return Err(Fault::Short);
     }
-    inside_ip(innermost(&frame[at..]), port)
+    let (packet, cut) = innermost(&frame[at..], lost as usize);
+    inside_ip(packet, cut, port)
 }
 
-/// The datagram of a PDU that Wireshark exported.
-fn inside_exported(frame: &[u8]) -> Result<Datagram<'_>, Fault>
-    ensures found { IfOk result (λ d. IsExported frame.now d.bytes.now × (d.missing ≡ 0)) }
+/// The datagram of a PDU that Wireshark exported. So many bytes are lost behind it.
+fn inside_exported(frame: &[u8], lost: u32) -> Result<Datagram<'_>, Fault>
+    ensures found { IfOk result (λ d. IsExported frame.now d.bytes.now × (d.missing ≡ lost)) }
     ensures refused { IfErr result (λ _. (bytes : List ℕ) → IsExported frame.now bytes → ⊥) }
     ensures ends { IfOk result (λ d. AreExportedEnds frame.now d.ends) }
 {
@@ -506,33 +527,38 @@ fn inside_exported(frame: &[u8]) -> Result<Datagram<'_>, Fault>
     Ok(Datagram {
         ends: exported_ends(frame),
         bytes,
-        missing: 0,
+        missing: lost as usize,
     })
 }
 
 /// The datagram of a frame of this link type: what an IP packet carries, alone or in UDP to or from `port` (RFC 6951), also where that packet
 /// stands in up to four tunnels of GRE, and its ends are then its own; what Wireshark exported for its dissector of SCTP (252), with the
-/// ends that it says; or the frame as it is, where the link type is 248 (SCTP). Of one that the frame does not hold to its end it has what
-/// is there, and how many bytes are missing. Refuses with `OtherLink`, `Short`, `Fragment` or `OtherProtocol`, and only where the frame
+/// ends that it says; or the frame as it is, where the link type is 248 (SCTP). The capture lost the last `lost` bytes of the frame. Of a
+/// datagram that the frame does not hold to its end it has what is there, and how many bytes are missing. Refuses with `OtherLink`, `Short`, `Fragment` or `OtherProtocol`, and only where the frame
 /// holds none. It takes no memory.
-pub fn datagram_in(link_type: u32, frame: &[u8], port: u16) -> Result<Datagram<'_>, Fault>
-    ensures alone { link_type ≡ 248
-        → IsOkAnd result (λ d. (d.ends ≡ None) × (d.bytes.now ≡ frame.now) × (d.missing ≡ 0)) }
+pub fn datagram_in(
+    link_type: u32,
+    frame: &[u8],
+    lost: u32,
+    port: u16,
+) -> Result<Datagram<'_>, Fault>
+    ensures alone { link_type ≡ 248 → IsOkAnd result
+        (λ d. (d.ends ≡ None) × (d.bytes.now ≡ frame.now) × (d.missing ≡ lost)) }
     ensures carried { link_type ≢ 248
-        → IfOk result (λ d. IsHeld link_type port frame.now d.bytes.now d.missing) }
+        → IfOk result (λ d. IsHeld link_type port frame.now lost d.bytes.now d.missing) }
     ensures refused { IfErr result
         (λ _. (bytes : List ℕ) → (missing : ℕ)
-        → IsHeld link_type port frame.now bytes missing → ⊥) }
+        → IsHeld link_type port frame.now lost bytes missing → ⊥) }
     ensures ends { link_type ≢ 248
-        → IfOk result (λ d. AreHeldEnds link_type frame.now d.ends) }
+        → IfOk result (λ d. AreHeldEnds link_type frame.now lost d.ends) }
 {
     match link_type {
         248 => Ok(Datagram {
             ends: None,
             bytes: frame,
-            missing: 0,
+            missing: lost as usize,
         }),
-        252 => inside_exported(frame),
-        _ => inside_frame(link_type, frame, port),
+        252 => inside_exported(frame, lost),
+        _ => inside_frame(link_type, frame, lost, port),
     }
 }

@@ -131,6 +131,8 @@ pub struct Record {
     /// As a log says it.
     pub direction: Option<Direction>,
     pub link_type: u32,
+    /// How many bytes the frame had behind those that were captured.
+    pub lost: u32,
     pub frame: Result<Bytes, Fault>,
 }
 
@@ -205,6 +207,7 @@ fn read_entry(alloc: Global, head: &Head, held: &[u8]) -> Result<Record, AllocEr
             time: None,
             direction: None,
             link_type: head.link_type,
+            lost: 0,
             frame: Err(Fault::CutOff),
         });
     }
@@ -219,6 +222,7 @@ fn read_entry(alloc: Global, head: &Head, held: &[u8]) -> Result<Record, AllocEr
             time,
             direction: None,
             link_type: head.link_type,
+            lost: 0,
             frame: Err(Fault::TooLong),
         });
     }
@@ -227,6 +231,7 @@ fn read_entry(alloc: Global, head: &Head, held: &[u8]) -> Result<Record, AllocEr
             time,
             direction: None,
             link_type: head.link_type,
+            lost: 0,
             frame: Err(Fault::CutOff),
         });
     }
@@ -235,6 +240,7 @@ fn read_entry(alloc: Global, head: &Head, held: &[u8]) -> Result<Record, AllocEr
         time,
         direction: None,
         link_type: head.link_type,
+        lost: read_number(head.order, held, 12).saturating_sub(read_number(head.order, held, 8)),
         frame: Ok(frame),
     })
 }
@@ -323,6 +329,7 @@ pub fn line_record(
     frame: Result<Bytes, Fault>,
 ) -> Record
     ensures link_type { result.link_type ≡ 248 }
+    ensures lost { result.lost ≡ 0 }
     ensures time { result.time ≡ time }
     ensures direction { result.direction ≡ direction }
     ensures frame { result.frame ≡ frame }
@@ -331,6 +338,7 @@ pub fn line_record(
         time,
         direction,
         link_type: LINE_LINK,
+        lost: 0,
         frame,
     }
 }

@@ -149,11 +149,11 @@ fn words_of(alloc: Global, packet: &Packet<'_>, known: Known) -> Result<Vec<Stri
     let mut words = Vec::new(alloc);
     for item in &packet.seen.items {
         let mut text = String::new(alloc);
-        put_brief(&mut text, known.bases, item)?;
+        put_brief(&mut text, known.bases, packet.missing, item)?;
         words.push(text)?;
     }
     let mut tail = String::new(alloc);
-    put_tail(&mut tail, known.bases, packet.seen, packet.missing)?;
+    put_tail(&mut tail, packet.seen, packet.missing)?;
     if !tail.is_empty() || words.is_empty() {
         words.push(tail)?;
     }
@@ -170,7 +170,7 @@ fn put_packet(
     start: &Option<Time>,
     packet: &Packet<'_>,
 ) -> Result<(), AllocError> {
-    let is_refused = packet.missing == 0 && is_refused(packet.seen);
+    let is_refused = is_refused(packet.missing, packet.seen);
     let mark = mark_of(style.is_colored, is_refused, known.is_repeated);
     put_when(alloc, text, style.is_absolute, start, &packet.time)?;
     let mut rung = rung_of(way);

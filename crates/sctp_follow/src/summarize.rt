@@ -11,7 +11,7 @@ use sctp_capture::record::{Record, Time};
 use sctp_capture::window::Window;
 use sctp_show::checksum::{Sum, sum_for};
 use sctp_show::run::{Counts, RunFault, send_off, write_text};
-use sctp_show::text::{Options, seen_in};
+use sctp_show::text::{Options, shown_in};
 use sctp_show::zero::ZeroTags;
 use std::alloc::{AllocError, Global};
 use std::io::{Read, Write};
@@ -52,7 +52,12 @@ fn take_record<T: Take, W: Write>(
     let Ok(frame) = &record.frame else {
         return Ok(0);
     };
-    let Ok(datagram) = datagram_in(record.link_type, frame.as_slice(), options.port) else {
+    let Ok(datagram) = datagram_in(
+        record.link_type,
+        frame.as_slice(),
+        record.lost,
+        options.port,
+    ) else {
         return Ok(0);
     };
     let sum = if taker.tests_checksums() || options.filter.only_wrong {
@@ -60,7 +65,7 @@ fn take_record<T: Take, W: Write>(
     } else {
         Sum::Unchecked
     };
-    let seen = seen_in(alloc, sum, datagram.bytes)?;
+    let seen = shown_in(alloc, sum, datagram.bytes, datagram.missing)?;
     if sum == Sum::Crc32c {
         zero_tags.note(alloc, &seen)?;
     }
@@ -78,7 +83,7 @@ fn take_record<T: Take, W: Write>(
         missing: datagram.missing,
         is_wrong,
     };
-    let is_shown = options.filter.passes(&seen, is_wrong);
+    let is_shown = options.filter.passes(&seen, datagram.missing, is_wrong);
     let text = taker.take(alloc, &packet, is_shown)?;
     write_text(output, &text)?;
     Ok(if is_shown { 1 } else { 0 })

@@ -1,8 +1,9 @@
 -- What is printed of a chunk.
-use Rattle.std.specs.Prelude.{ℕ, List, [], ◌++◌, length, drop, codes, decimal, Bool, true, false, ◌==◌, if◌then◌else◌}
+use Rattle.std.specs.Prelude.{◌≡◌, ℕ, List, [], ◌++◌, length, drop, codes, decimal, Bool, true, false, ◌==◌, if◌then◌else◌}
 use Rattle.sctp_util.specs.Serial.{distance}
 use Rattle.sctp_util.specs.Field.{u16_at, u32_at}
 use Rattle.sctp_data.specs.declared.chunk.chunk_payload_data.ChunkPayloadData.{ChunkPayloadData}
+use Rattle.sctp_dissect.specs.declared.dissection.RawChunk.{RawChunk}
 use Rattle.sctp_show.specs.declared.chunk_text.Head.{Head}
 use Rattle.sctp_show.specs.declared.page.Form.{Form}
 use Rattle.sctp_show.specs.declared.page.Form.TheVariants.{Text, Json}
@@ -29,6 +30,13 @@ data_text form old base c ppid =
     ++ truth_text form (codes "Last fragment") (codes "last") c.ending_fragment
     ++ truth_text form (codes "Immediate SACK") (codes "immediate") c.immediate_sack
     ++ bytes_text form (codes "User data") (codes "data") c.user_data
+
+-- DATA of which all of the fixed part is there (RFC 9260 3.3.1), and as much of the user data as is
+pub record IsCutData (raw : RawChunk) (c : ChunkPayloadData) : Type 0 where
+  pub tsn : c.tsn ≡ u32_at raw.value 0
+  pub stream : c.stream_identifier ≡ u16_at raw.value 4
+  pub number : c.stream_sequence_number ≡ u16_at raw.value 6
+  pub user_data : c.user_data ≡ drop 12 raw.value
 
 -- behind the old text, of the fixed part of an INIT or INIT-ACK (RFC 4960 3.3.2), its TSN relative to a base
 abbrev pub init_text : Form → List ℕ → ℕ → List ℕ → List ℕ

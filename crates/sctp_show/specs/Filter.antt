@@ -1,5 +1,5 @@
 -- Which packets are shown.
-use Rattle.std.specs.Prelude.{ℕ, ◌/◌, ◌%◌, Bool, true, false, ◌==◌, ◌&&◌, ◌||◌, not, leb, if◌then◌else◌, is_some, List, length, Option, Some, None}
+use Rattle.std.specs.Prelude.{ℕ, ◌/◌, ◌%◌, Bool, true, false, ◌==◌, ◌&&◌, ◌||◌, not, leb, if◌then◌else◌, List, length, Option, Some, None}
 use Rattle.std.specs.List.{list_any}
 use Rattle.sctp_util.specs.Serial.{distance}
 use Rattle.sctp_util.specs.Field.{u16_at, u32_at}
@@ -9,6 +9,10 @@ use Rattle.sctp_dissect.specs.declared.dissection.Reading.{Reading}
 use Rattle.sctp_dissect.specs.declared.dissection.Reading.TheVariants.{Strict, Raw}
 use Rattle.sctp_dissect.specs.declared.dissection.Item.{Item}
 use Rattle.sctp_dissect.specs.declared.dissection.Dissection.{Dissection}
+use Rattle.sctp_dissect.specs.declared.dissection.Fault.{Fault}
+use Rattle.sctp_dissect.specs.declared.dissection.Fault.TheVariants.{ShortPacket, ShortHeader, LengthTooSmall, LengthPastEnd}
+use Rattle.sctp_show.specs.Cut.{missing_of}
+use Rattle.sctp_show.specs.Rules.{breaks_rule}
 use Rattle.sctp_show.specs.declared.filter.TsnRange.{TsnRange}
 use Rattle.sctp_show.specs.declared.filter.Filter.{Filter}
 
@@ -76,21 +80,36 @@ has_asked_header f (Some h) =
     (is_asked f.ports.items h.fields.source_port || is_asked f.ports.items h.fields.destination_port)
     && is_asked f.tags.items h.fields.verification_tag
 
-abbrev pub is_raw : Reading → Bool
-is_raw (Strict k) = false
-is_raw (Raw r) = true
+-- the reader of packets does not read the chunk, and it breaks a rule
+abbrev pub breaks : Reading → Bool
+breaks (Strict k) = false
+breaks (Raw r) = breaks_rule r
 
--- a chunk is refused, or bytes are left over
-abbrev pub is_refused : Dissection → Bool
-is_refused d = is_some d.fault || list_any (λ item. is_raw item.reading) d.items.items
+-- such a chunk is refused that is there to its end, or where no bytes are missing
+abbrev pub is_bad : ℕ → Item → Bool
+is_bad missing item =
+    breaks item.reading && (missing == 0 || missing_of item.bytes == 0)
 
--- A packet, whose checksum is wrong or not, passes where its header is asked for, one of its chunks meets all that is asked of a chunk, it is
+-- Bytes are left over that begin no chunk. Where bytes are missing, fewer than a header takes are a header that is cut off.
+abbrev pub is_left_over : ℕ → Option Fault → Bool
+is_left_over missing None = false
+is_left_over missing (Some ShortPacket) = missing == 0
+is_left_over missing (Some ShortHeader) = missing == 0
+is_left_over missing (Some LengthTooSmall) = true
+is_left_over missing (Some LengthPastEnd) = true
+
+-- a chunk is refused, or bytes are left over, of a packet of which so many bytes are missing
+abbrev pub is_refused : ℕ → Dissection → Bool
+is_refused missing d = is_left_over missing d.fault || list_any (is_bad missing) d.items.items
+
+-- A packet, of which so many bytes are missing, and whose checksum is wrong or not, passes where its header is asked for, one of its chunks meets all that is
+-- asked of a chunk, it is
 -- refused, if only those are asked for, and its checksum is wrong, if only those are.
-abbrev pub passes : Filter → Bool → Dissection → Bool
-passes f is_wrong d =
+abbrev pub passes : Filter → ℕ → Bool → Dissection → Bool
+passes f missing is_wrong d =
     has_asked_header f d.header
     && (asks_no_chunk f || list_any (meets f) d.items.items)
-    && (not f.only_refused || is_refused d)
+    && (not f.only_refused || is_refused missing d)
     && (not f.only_wrong || is_wrong)
 
 -- Any packet passes. Only then is a record shown that has no packet.

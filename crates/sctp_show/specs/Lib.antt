@@ -3,6 +3,8 @@ pub mod Names
 pub mod Dcep
 pub mod ChunkText
 pub mod Sum
+pub mod Cut
+pub mod Rules
 pub mod Filter
 pub mod Time
 pub mod Text

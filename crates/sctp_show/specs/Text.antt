@@ -13,6 +13,7 @@ use Rattle.sctp_show.specs.declared.page.Form.{Form}
 use Rattle.sctp_show.specs.declared.page.Form.TheVariants.{Text, Json}
 use Rattle.sctp_show.specs.declared.text.Options.{Options}
 use Rattle.sctp_show.specs.Sum.{sum_of, sum_for, is_wrong}
+use Rattle.sctp_show.specs.Cut.{WithCut}
 use Rattle.sctp_show.specs.Filter.{passes, asks_nothing}
 
 -- a record's number, and what it shows
@@ -35,10 +36,11 @@ fault_line o number fault =
 
 -- ---- a record that has a frame
 
--- the datagram in a frame: all of it, or what an IP packet carries, of which so many bytes are missing
-pub record Holds (link_type port : ℕ) (frame datagram : List ℕ) (missing : ℕ) : Type 0 where
-  pub alone : link_type ≡ 248 → (datagram ≡ frame) × (missing ≡ 0)
-  pub carried : link_type ≢ 248 → IsHeld link_type port frame datagram missing
+-- the datagram in a frame whose capture lost so many bytes: all of it, or what an IP packet carries, of which so many bytes are missing
+pub record Holds (link_type port : ℕ) (frame : List ℕ) (lost : ℕ) (datagram : List ℕ)
+    (missing : ℕ) : Type 0 where
+  pub alone : link_type ≡ 248 → (datagram ≡ frame) × (missing ≡ lost)
+  pub carried : link_type ≢ 248 → IsHeld link_type port frame lost datagram missing
 
 -- what a datagram shows
 pub record IsSeen (sum : List ℕ → ℕ) (datagram : List ℕ) (d : Dissection) : Type 0 where
@@ -47,25 +49,32 @@ pub record IsSeen (sum : List ℕ → ℕ) (datagram : List ℕ) (d : Dissection
   pub items : 12 ≤ length datagram → Walks Shows after (drop 12 datagram) d.items.items d.rest
   pub fault : 12 ≤ length datagram → Stops d.fault d.rest
 
+-- what a datagram shows of which so many bytes are missing, with the chunk that ends among them
+pub record IsShown (sum : List ℕ → ℕ) (datagram : List ℕ) (missing : ℕ) (d : Dissection) : Type 0
+  where
+    pub walked : Dissection
+    pub is_seen : IsSeen sum datagram walked
+    pub cut : WithCut missing walked d
+
 -- A packet that the filter lets pass has its number, and what it shows. Of another one nothing is written.
 -- No checksum is computed where bytes are missing. Whether the receiver accepts a checksum of zero, packets before this one say.
 pub record IsPacketText (o : Options) (number : ℕ) (datagram : List ℕ) (missing : ℕ)
     (text : List ℕ) : Type 0 where
   pub seen : Dissection
-  pub is_seen : IsSeen (sum_of (sum_for o.sum missing)) datagram seen
+  pub is_shown : IsShown (sum_of (sum_for o.sum missing)) datagram missing seen
   pub accepts_zero : Bool
-  pub shown : passes o.filter (is_wrong (sum_for o.sum missing) accepts_zero seen.header) seen ≡ true
-      → (shown : List ℕ) × (text ≡ numbered_text o.form number shown)
-  pub hidden : passes o.filter (is_wrong (sum_for o.sum missing) accepts_zero seen.header) seen
-      ≡ false → text ≡ []
+  pub shown : passes o.filter missing (is_wrong (sum_for o.sum missing) accepts_zero seen.header)
+      seen ≡ true → (shown : List ℕ) × (text ≡ numbered_text o.form number shown)
+  pub hidden : passes o.filter missing (is_wrong (sum_for o.sum missing) accepts_zero seen.header)
+      seen ≡ false → text ≡ []
 
 -- the text of a record with a frame: that of the packet in it, or why there is none
-abbrev pub IsFrameText : Options → ℕ → ℕ → List ℕ → List ℕ → Type 0
-IsFrameText o number link_type frame text =
-    ((datagram : List ℕ) × (missing : ℕ) × Holds link_type o.port frame datagram missing
+abbrev pub IsFrameText : Options → ℕ → ℕ → List ℕ → ℕ → List ℕ → Type 0
+IsFrameText o number link_type frame lost text =
+    ((datagram : List ℕ) × (missing : ℕ) × Holds link_type o.port frame lost datagram missing
     × IsPacketText o number datagram missing text)
     ⊎ (((datagram : List ℕ) → (missing : ℕ)
-    → Holds link_type o.port frame datagram missing → ⊥)
+    → Holds link_type o.port frame lost datagram missing → ⊥)
     × ((fault : Fault) × (text ≡ fault_line o number fault)))
 
 -- ---- records
@@ -73,7 +82,7 @@ IsFrameText o number link_type frame text =
 -- the text of a record
 abbrev pub IsText : Options → ℕ → Record → List ℕ → Type 0
 IsText o number r text =
-    MatchResult r.frame (λ frame. IsFrameText o number r.link_type frame text)
+    MatchResult r.frame (λ frame. IsFrameText o number r.link_type frame r.lost text)
     (λ fault. text ≡ fault_line o number fault)
 
 -- the texts of the records, in order, whose first has this number

@@ -6,10 +6,11 @@ ghost use Rattle.sctp_util.specs.Serial.{distance};
 
 use crate::chunk_text::{type_of, u16_at, u32_at};
 use crate::dcep::put_brief_message;
-use crate::filter::{is_data, payload_type_of};
+use crate::filter::{is_bad, is_data, payload_type_of};
 use crate::follow::Bases;
 use crate::names::{ChunkName, parameter_name, payload_name};
-use crate::page::put_all;
+use crate::page::{put_all, put_quoted};
+use crate::rules::rule_of;
 use itoa::Buffer;
 use sctp_chunks::chunk::chunk_kind::ChunkKind;
 use sctp_chunks::chunk::chunk_selective_ack::ChunkSelectiveAck;
@@ -17,6 +18,7 @@ use sctp_chunks::chunk::error_cause::ErrorCause;
 use sctp_dissect::dissection::{Item, Reading};
 use sctp_serial::serial::distance;
 use std::alloc::AllocError;
+use std::str;
 
 /// The payload protocol identifier of DCEP (RFC 8832 8.1).
 pub const DCEP: u32 = 50;
@@ -135,10 +137,25 @@ fn put_brief_sack(text: &mut String, base: u32, c: &ChunkSelectiveAck) -> Result
     Ok(())
 }
 
-/// The names of causes.
+/// Whether a cause says words that can be read: User-Initiated Abort, and Protocol Violation (RFC 9260 3.3.10.12, 3.3.10.13).
+pub fn has_text(cause: &ErrorCause) -> bool {
+    if cause.code.0 != 12 && cause.code.0 != 13 {
+        return false;
+    }
+    match str::from_utf8(cause.raw.as_slice()) {
+        Ok(words) => !words.is_empty() && words.chars().all(|c| !c.is_control()),
+        Err(_) => false,
+    }
+}
+
+/// The names of causes, and their texts.
 fn put_brief_causes(text: &mut String, causes: &[ErrorCause]) -> Result<(), AllocError> {
     for cause in causes {
         write!(text, " {}", cause.code)?;
+        if has_text(cause) {
+            text.push_str(" ")?;
+            put_quoted(text, cause.raw.as_slice())?;
+        }
     }
     Ok(())
 }
@@ -186,7 +203,7 @@ fn put_brief_strict(
 }
 
 /// The name of a chunk, and what the fixed part of DATA, I-DATA, INIT or INIT-ACK says, if all of it is there, its TSN relative to a base.
-pub fn put_brief_cut(text: &mut String, base: u32, bytes: &[u8]) -> Result<(), AllocError> {
+fn put_brief_cut(text: &mut String, base: u32, bytes: &[u8]) -> Result<(), AllocError> {
     let (typ, _) = first_two(bytes);
     ChunkName(typ).put(text)?;
     if is_data(bytes) {
@@ -198,8 +215,13 @@ pub fn put_brief_cut(text: &mut String, base: u32, bytes: &[u8]) -> Result<(), A
     Ok(())
 }
 
-/// What the line of a packet says of a chunk, its name first, and TSNs relative to these bases.
-pub fn put_brief(text: &mut String, bases: Bases, item: &Item) -> Result<(), AllocError> {
+/// What the line of a packet, of which so many bytes are missing, says of a chunk, its name first, and TSNs relative to these bases.
+pub fn put_brief(
+    text: &mut String,
+    bases: Bases,
+    missing: usize,
+    item: &Item,
+) -> Result<(), AllocError> {
     let bytes = item.bytes.as_slice();
     put_brief_cut(text, bases.own, bytes)?;
     if type_of(item) == 130 {
@@ -207,6 +229,9 @@ pub fn put_brief(text: &mut String, bases: Bases, item: &Item) -> Result<(), All
     }
     match &item.reading {
         Reading::Strict(chunk) => put_brief_strict(text, bases, chunk, bytes),
-        Reading::Raw(raw) => write!(text, " [{}]", raw.refusal),
+        Reading::Raw(raw) if is_bad(missing, item) => {
+            put_all(text, &[" [", rule_of(raw.typ.0, raw.refusal), "]"])
+        }
+        Reading::Raw(_) => Ok(()),
     }
 }

@@ -1,27 +1,30 @@
 //! A chunk as it is printed.
 
-ghost use Rattle.std.specs.Prelude.{◌≡◌, ◌≤◌, ◌+◌, ◌++◌, length, slice_index, OnOk};
+ghost use Rattle.std.specs.Prelude.{◌≡◌, ◌≤◌, ◌+◌, ◌++◌, length, slice_index, OnOk, IfOk};
 ghost use Rattle.std.specs.String.{string_bytes};
 ghost use Rattle.sctp_util.specs.Field;
-ghost use Rattle.sctp_show.specs.ChunkText.{data_text, init_text, i_data_text, payload_text, block_lines, block_object, block_text};
+ghost use Rattle.sctp_show.specs.ChunkText.{IsCutData, data_text, init_text, i_data_text, payload_text, block_lines, block_object, block_text};
 
-use crate::brief::DCEP;
+use crate::brief::{DCEP, has_text};
+use crate::cut::missing_of;
 use crate::dcep::put_message;
+use crate::fields::{has_kind, param_rule_of, put_chunk_fields, put_param_fields};
+use crate::filter::is_bad;
 use crate::follow::Bases;
 use crate::names::{ChunkName, parameter_name, payload_name};
-use crate::page::{Form, Page};
+use crate::page::{Form, Page, put_quoted};
+use crate::rules::rule_of;
 use bytes::Bytes;
 use sctp_chunks::chunk::chunk_forward_tsn::ChunkForwardTsn;
 use sctp_chunks::chunk::chunk_i_forward_tsn::ChunkIForwardTsn;
 use sctp_chunks::chunk::chunk_kind::ChunkKind;
-use sctp_chunks::chunk::chunk_payload_data::ChunkPayloadData;
+use sctp_chunks::chunk::chunk_payload_data::{ChunkPayloadData, PayloadProtocolIdentifier};
 use sctp_chunks::chunk::chunk_selective_ack::{ChunkSelectiveAck, GapAckBlock};
 use sctp_chunks::chunk::error_cause::{ErrorCause, ErrorCauseCode};
 use sctp_dissect::causes::{CauseItem, dissect_causes};
 use sctp_dissect::dissection::{Item, RawChunk, Reading};
 use sctp_dissect::params::{ParamItem, ParamReading, dissect_params};
 use sctp_serial::serial::distance;
-use sctp_util::error::Error;
 use sctp_util::field::{read_u16, read_u32};
 use std::alloc::{AllocError, Global};
 
@@ -177,17 +180,23 @@ fn put_sack(page: &mut Page, base: u32, c: &ChunkSelectiveAck) -> Result<(), All
     page.in_json("]")
 }
 
-/// What a parameter is read as, or why it is refused.
-fn put_reading(alloc: Global, page: &mut Page, reading: &ParamReading) -> Result<(), AllocError> {
+/// What a parameter of a kind that is known is read as, or the rule that another one breaks, if it does.
+fn put_reading(
+    alloc: Global,
+    page: &mut Page,
+    typ: u16,
+    reading: &ParamReading,
+) -> Result<(), AllocError> {
     match reading {
-        ParamReading::Strict(param) => {
+        ParamReading::Strict(param) if has_kind(typ) => {
             let words = param.to_string(alloc)?;
             page.words("Parameter", "is", &words)
         }
-        ParamReading::Raw(param) => {
-            let words = param.refusal.to_string(alloc)?;
-            page.words("Parameter refused", "refused", &words)
-        }
+        ParamReading::Strict(_) => Ok(()),
+        ParamReading::Raw(param) => match param_rule_of(param.refusal) {
+            Some(rule) => page.words("Parameter refused", "refused", rule),
+            None => Ok(()),
+        },
     }
 }
 
@@ -230,10 +239,11 @@ fn put_param(
     let typ = u16_at(item.bytes.as_slice(), 0);
     page.row(is_first, "Parameter type", "type", typ as u32)?;
     put_parameter_name(page, typ)?;
-    put_reading(alloc, page, &item.reading)?;
+    put_reading(alloc, page, typ, &item.reading)?;
     let length = u16_at(item.bytes.as_slice(), 2) as usize;
     let value = item.bytes.as_slice().get(4..length).unwrap_or(b"");
     page.bytes(alloc, "Parameter value", "value", value)?;
+    put_param_fields(alloc, page, typ, value)?;
     put_chunk_types(alloc, page, typ, value)?;
     page.in_json("}")
 }
@@ -282,7 +292,18 @@ fn put_cause_chunk(alloc: Global, page: &mut Page, cause: &ErrorCause) -> Result
     }
 }
 
-/// A cause: its code, its name and its value, and the type of the chunk in it.
+/// The text of a cause, where it has one.
+fn put_cause_text(page: &mut Page, cause: &ErrorCause) -> Result<(), AllocError> {
+    if !has_text(cause) {
+        return Ok(());
+    }
+    page.in_text("        Cause text: ")?;
+    page.in_json(",\"text\":")?;
+    put_quoted(&mut page.text, cause.raw.as_slice())?;
+    page.in_text("\n")
+}
+
+/// A cause: its code, its name, its value and its text, and the type of the chunk in it.
 fn put_cause(
     alloc: Global,
     page: &mut Page,
@@ -292,6 +313,7 @@ fn put_cause(
     page.row(is_first, "Cause code", "code", cause.code.0 as u32)?;
     put_name(alloc, page, &cause.code)?;
     page.bytes(alloc, "Cause value", "value", cause.raw.as_slice())?;
+    put_cause_text(page, cause)?;
     put_cause_chunk(alloc, page, cause)?;
     page.in_json("}")
 }
@@ -438,10 +460,32 @@ fn put_strict(
     }
 }
 
-/// Why a chunk is refused.
-fn put_refusal(alloc: Global, page: &mut Page, refusal: &Error) -> Result<(), AllocError> {
-    let words = refusal.to_string(alloc)?;
-    page.words("Refused", "refused", &words)
+/// The rule that a chunk breaks, if it does, and why the reader of packets does not read it.
+fn put_refusal(
+    alloc: Global,
+    page: &mut Page,
+    raw: &RawChunk,
+    is_bad: bool,
+) -> Result<(), AllocError> {
+    if is_bad {
+        page.words("Refused", "refused", rule_of(raw.typ.0, raw.refusal))?;
+    }
+    let words = raw.refusal.to_string(alloc)?;
+    page.words("Not read by the codec", "codec", &words)
+}
+
+/// The fields of a chunk that the reader of packets has no chunk for, and what stands behind them.
+fn put_fields(alloc: Global, page: &mut Page, raw: &RawChunk) -> Result<(), AllocError> {
+    let typ = raw.typ.0;
+    let at = put_chunk_fields(page, typ, raw.value.as_slice())?;
+    if (typ == 128 || typ == 193) && at <= raw.value.len() {
+        return put_params(alloc, page, raw.value.slice(at..raw.value.len())?);
+    }
+    let value = raw.value.as_slice().get(at..).unwrap_or(b"");
+    if value.is_empty() {
+        return Ok(());
+    }
+    page.bytes(alloc, "Value", "value", value)
 }
 
 /// I-DATA, the name of its payload type, and the message of DCEP that it holds, if it holds all of one.
@@ -467,12 +511,73 @@ fn put_whole_i_data(
     Ok(())
 }
 
-/// What a chunk shows that is refused.
-fn put_raw(alloc: Global, page: &mut Page, base: u32, raw: &RawChunk) -> Result<(), AllocError> {
-    put_refusal(alloc, page, &raw.refusal)?;
+/// DATA of which all of the fixed part is there, and as much of the user data as is.
+fn cut_data(raw: &RawChunk) -> Result<ChunkPayloadData, AllocError>
+    requires { 12 ≤ length raw.now.value }
+    ensures { IfOk result (IsCutData raw.now) }
+{
+    let value = raw.value.as_slice();
+    Ok(ChunkPayloadData {
+        unordered: raw.flags / 4 % 2 == 1,
+        beginning_fragment: raw.flags / 2 % 2 == 1,
+        ending_fragment: raw.flags % 2 == 1,
+        immediate_sack: raw.flags / 8 % 2 == 1,
+        tsn: read_u32(value, 0),
+        stream_identifier: read_u16(value, 4),
+        stream_sequence_number: read_u16(value, 6),
+        payload_type: PayloadProtocolIdentifier::Unknown,
+        user_data: raw.value.slice(12..value.len())?,
+        acked: false,
+        miss_indicator: 0,
+        abandoned: false,
+        retransmit: false,
+        nsent: 0,
+        message_id: 0,
+        since: None,
+        deadline: None,
+        reliability: None,
+    })
+}
+
+/// What is there of a chunk that is cut off, but for how many bytes are missing.
+fn put_cut(alloc: Global, page: &mut Page, base: u32, raw: &RawChunk) -> Result<(), AllocError> {
+    let value = raw.value.as_slice();
+    match raw.typ.0 {
+        0 if value.len() >= 12 => {
+            let data = cut_data(raw)?;
+            put_data(alloc, page, base, &data, read_u32(value, 8))
+        }
+        64 if value.len() >= 16 => put_i_data(alloc, page, base, value),
+        1 | 2 => put_whole_init(alloc, page, base, raw.value.clone()?),
+        4 | 5 | 130 => put_params(alloc, page, raw.value.clone()?),
+        6 | 9 => put_raw_causes(alloc, page, raw.value.clone()?),
+        _ => page.bytes(alloc, "Value", "value", value),
+    }
+}
+
+/// What a chunk shows that is not read, of a packet of which so many bytes are missing.
+fn put_raw(
+    alloc: Global,
+    page: &mut Page,
+    base: u32,
+    missing: usize,
+    item: &Item,
+    raw: &RawChunk,
+) -> Result<(), AllocError> {
+    let is_bad = is_bad(missing, item);
+    if !is_bad && missing > 0 && missing_of(item) > 0 {
+        page.number(
+            "Missing bytes",
+            "missing",
+            u32::try_from(missing_of(item)).unwrap_or(u32::MAX),
+        )?;
+        return put_cut(alloc, page, base, raw);
+    }
+    put_refusal(alloc, page, raw, is_bad)?;
     let value = raw.value.as_slice();
     match raw.typ.0 {
         I_DATA => put_whole_i_data(alloc, page, base, raw),
+        12 | 13 | 15 | 128 | 193 => put_fields(alloc, page, raw),
         1 | 2 => put_whole_init(alloc, page, base, raw.value.clone()?),
         4 | 5 | 130 => put_params(alloc, page, raw.value.clone()?),
         6 | 9 => put_raw_causes(alloc, page, raw.value.clone()?),
@@ -481,14 +586,20 @@ fn put_raw(alloc: Global, page: &mut Page, base: u32, raw: &RawChunk) -> Result<
 }
 
 /// What a chunk says, or shows.
-fn body_of(alloc: Global, form: Form, bases: Bases, item: &Item) -> Result<Page, AllocError> {
+fn body_of(
+    alloc: Global,
+    form: Form,
+    bases: Bases,
+    missing: usize,
+    item: &Item,
+) -> Result<Page, AllocError> {
     let mut body = Page::new(alloc, form);
     if form == Form::Json {
         body.bytes(alloc, "Bytes", "bytes", item.bytes.as_slice())?;
     }
     match &item.reading {
         Reading::Strict(chunk) => put_strict(alloc, &mut body, bases, chunk, item)?,
-        Reading::Raw(raw) => put_raw(alloc, &mut body, bases.own, raw)?,
+        Reading::Raw(raw) => put_raw(alloc, &mut body, bases.own, missing, item, raw)?,
     }
     Ok(body)
 }
@@ -556,11 +667,12 @@ fn put_framed(
     }
 }
 
-/// The block of a chunk, its TSNs relative to these bases.
+/// The block of a chunk of a packet of which so many bytes are missing, its TSNs relative to these bases.
 pub fn put_block(
     alloc: Global,
     page: &mut Page,
     bases: Bases,
+    missing: usize,
     item: &Item,
     is_first: bool,
 ) -> Result<(), AllocError> {
@@ -572,6 +684,6 @@ pub fn put_block(
         length: u16_at(item.bytes.as_slice(), 2),
     };
     let digits = hex::encode(alloc, [head.flags].as_slice())?;
-    let body = body_of(alloc, page.form, bases, item)?;
+    let body = body_of(alloc, page.form, bases, missing, item)?;
     put_framed(page, is_first, &name, &digits, head, &body.text)
 }

@@ -5,8 +5,10 @@ ghost use Rattle.std.specs.List.{list_any};
 ghost use Rattle.sctp_show.specs.Filter as filters;
 
 use crate::chunk_text::type_of;
+use crate::cut::missing_of;
 use crate::names::ChunkName;
-use sctp_dissect::dissection::{Dissection, Header, Item, Reading};
+use crate::rules::breaks_rule;
+use sctp_dissect::dissection::{Dissection, Fault, Header, Item, Reading};
 use sctp_serial::serial::distance;
 use sctp_util::field::{read_u16, read_u32};
 use std::alloc::{AllocError, Global};
@@ -189,28 +191,46 @@ fn is_tsn_asked(ranges: &[TsnRange], tsn: Option<u32>) -> bool
     }
 }
 
-/// Whether an item is a chunk that is refused.
-pub fn is_raw(item: &Item) -> bool
-    ensures { result ≡ filters.is_raw item.now.reading }
+/// Whether an item is a chunk that the reader of packets does not read, and that breaks a rule.
+fn breaks(item: &Item) -> bool
+    ensures { result ≡ filters.breaks item.now.reading }
 {
     match &item.reading {
-        Reading::Raw(_) => true,
+        Reading::Raw(raw) => breaks_rule(raw),
         Reading::Strict(_) => false,
     }
 }
 
-/// Whether one of the items is a chunk that is refused.
-fn has_raw(items: &[Item]) -> bool
-    ensures { result ≡ list_any (λ item. filters.is_raw item.reading) items.now }
+/// Whether an item is such a chunk, and there to its end, or of a packet of which no bytes are missing: then it is refused.
+pub fn is_bad(missing: usize, item: &Item) -> bool
+    ensures { result ≡ filters.is_bad missing item.now }
 {
-    items.iter().any(|item| is_raw(item))
+    breaks(item) && (missing == 0 || missing_of(item) == 0)
 }
 
-/// Whether a chunk is refused, or bytes are left over.
-pub fn is_refused(seen: &Dissection) -> bool
-    ensures { result ≡ filters.is_refused seen.now }
+/// Whether one of the items is such a chunk.
+fn has_bad(missing: usize, items: &[Item]) -> bool
+    ensures { result ≡ list_any (filters.is_bad missing) items.now }
 {
-    seen.fault.is_some() || has_raw(&seen.items)
+    items.iter().any(|item| is_bad(missing, item))
+}
+
+/// Whether bytes are left over that begin no chunk, and no header that is cut off.
+pub fn is_left_over(missing: usize, fault: Option<Fault>) -> bool
+    ensures { result ≡ filters.is_left_over missing fault }
+{
+    match fault {
+        None => false,
+        Some(Fault::ShortPacket) | Some(Fault::ShortHeader) => missing == 0,
+        Some(Fault::LengthTooSmall) | Some(Fault::LengthPastEnd) => true,
+    }
+}
+
+/// Whether a chunk is refused, or bytes are left over, of a packet of which so many bytes are missing.
+pub fn is_refused(missing: usize, seen: &Dissection) -> bool
+    ensures { result ≡ filters.is_refused missing seen.now }
+{
+    is_left_over(missing, seen.fault) || has_bad(missing, &seen.items)
 }
 
 impl Filter {
@@ -312,13 +332,13 @@ impl Filter {
         items.iter().any(|item| self.meets(item))
     }
 
-    /// Whether a packet, whose checksum is wrong or not, has what is asked for. It takes no memory.
-    pub fn passes(&self, seen: &Dissection, is_wrong: bool) -> bool
-        ensures { result ≡ filters.passes self.now is_wrong seen.now }
+    /// Whether a packet, of which so many bytes are missing, and whose checksum is wrong or not, has what is asked for. It takes no memory.
+    pub fn passes(&self, seen: &Dissection, missing: usize, is_wrong: bool) -> bool
+        ensures { result ≡ filters.passes self.now missing is_wrong seen.now }
     {
         self.has_asked_header(&seen.header)
             && (self.asks_no_chunk() || self.is_met_by(&seen.items))
-            && (!self.only_refused || is_refused(seen))
+            && (!self.only_refused || is_refused(missing, seen))
             && (!self.only_wrong || is_wrong)
     }
 

@@ -4,12 +4,15 @@
 pub mod brief;
 pub mod checksum;
 pub mod chunk_text;
+pub mod cut;
 pub mod dcep;
+pub mod fields;
 pub mod filter;
 pub mod follow;
 pub mod mark;
 pub mod names;
 pub mod page;
+pub mod rules;
 pub mod run;
 pub mod summary;
 pub mod text;

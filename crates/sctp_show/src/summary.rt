@@ -55,8 +55,8 @@ impl Summary {
         }
     }
 
-    /// Counts a packet and its chunks. One of which so many bytes are missing, if any, is cut off, and else one with a raw chunk, or bytes
-    /// left over, is refused.
+    /// Counts a packet and its chunks. One of which so many bytes are missing, if any, is cut off. One with a refused chunk, or bytes left
+    /// over, is refused.
     pub fn count_packet(&mut self, seen: &Dissection, is_wrong: bool, missing: usize) {
         self.packets = self.packets.saturating_add(1);
         for item in &seen.items {
@@ -66,7 +66,8 @@ impl Summary {
         }
         if missing > 0 {
             self.cut = self.cut.saturating_add(1);
-        } else if is_refused(seen) {
+        }
+        if is_refused(missing, seen) {
             self.refused = self.refused.saturating_add(1);
         }
         if is_wrong {

@@ -2,17 +2,19 @@
 
 ghost use Rattle.std.specs.Prelude.{◌≡◌, ℕ, List, [], true, false, IfOk};
 ghost use Rattle.std.specs.String.{string_bytes};
-ghost use Rattle.sctp_show.specs.Text.{IsSeen, IsPacketText, IsText, IsFrameText, numbered_text, refused_text, fault_line};
+ghost use Rattle.sctp_show.specs.Text.{IsSeen, IsShown, IsPacketText, IsText, IsFrameText, numbered_text, refused_text, fault_line};
 ghost use Rattle.sctp_show.specs.Sum.{sum_of, sum_for, is_wrong};
 ghost use Rattle.sctp_show.specs.Filter.{passes};
 
-use crate::brief::{put_brief, put_brief_cut};
+use crate::brief::put_brief;
 use crate::checksum::{Sum, is_wrong, sum_for};
 use crate::chunk_text::put_block;
-use crate::filter::{Filter, is_refused};
+use crate::cut::with_cut;
+use crate::filter::{Filter, is_left_over, is_refused};
 use crate::follow::{Bases, Follow, Known, bases_for};
 use crate::mark::{mark_of, put_marked};
 use crate::page::{Form, Page, put_all, put_quoted};
+use crate::rules::rule_of_rest;
 use crate::summary::Summary;
 use crate::time::time_since;
 use bytes::Bytes;
@@ -161,11 +163,16 @@ fn put_checksum(
 }
 
 /// The chunks of a packet, a word or a few of each.
-fn put_briefs(text: &mut String, bases: Bases, items: &[Item]) -> Result<(), AllocError> {
+fn put_briefs(
+    text: &mut String,
+    bases: Bases,
+    missing: usize,
+    items: &[Item],
+) -> Result<(), AllocError> {
     let mut lead = " ";
     for item in items {
         text.push_str(lead)?;
-        put_brief(text, bases, item)?;
+        put_brief(text, bases, missing, item)?;
         lead = ", ";
     }
     Ok(())
@@ -174,40 +181,23 @@ fn put_briefs(text: &mut String, bases: Bases, items: &[Item]) -> Result<(), All
 /// Why bytes are left over, if any are.
 fn put_stop(text: &mut String, fault: Option<WalkFault>) -> Result<(), AllocError> {
     match fault {
-        Some(fault) => write!(text, " [{fault:?}]"),
+        Some(fault) => put_all(text, &[" [", rule_of_rest(fault), "]"]),
         None => Ok(()),
     }
 }
 
-/// What is there of a chunk that is cut off, and how many bytes are missing.
-fn put_missing(
-    text: &mut String,
-    base: u32,
-    seen: &Dissection,
-    missing: usize,
-) -> Result<(), AllocError> {
-    if seen.fault == Some(WalkFault::LengthPastEnd) {
-        text.push_str(if seen.items.is_empty() { " " } else { ", " })?;
-        put_brief_cut(text, base, seen.rest.as_slice())?;
+/// What the line of a packet says behind its chunks: why bytes are left over, and how many bytes are missing.
+pub fn put_tail(text: &mut String, seen: &Dissection, missing: usize) -> Result<(), AllocError> {
+    if is_left_over(missing, seen.fault) {
+        put_stop(text, seen.fault)?;
+    }
+    if missing == 0 {
+        return Ok(());
     }
     put_all(
         text,
         &[" [", Buffer::new().format(missing), " bytes missing]"],
     )
-}
-
-/// What the line of a packet says behind its chunks: why bytes are left over, or what is there of a chunk that is cut off, and how many
-/// bytes are missing.
-pub fn put_tail(
-    text: &mut String,
-    bases: Bases,
-    seen: &Dissection,
-    missing: usize,
-) -> Result<(), AllocError> {
-    if missing > 0 {
-        return put_missing(text, bases.own, seen, missing);
-    }
-    put_stop(text, seen.fault)
 }
 
 /// The line of a packet behind its addresses.
@@ -224,8 +214,8 @@ fn put_line(
     if !page.is_text() {
         return Ok(());
     }
-    put_briefs(&mut page.text, bases, &seen.items)?;
-    put_tail(&mut page.text, bases, seen, missing)?;
+    put_briefs(&mut page.text, bases, missing, &seen.items)?;
+    put_tail(&mut page.text, seen, missing)?;
     page.text
         .push_str(if is_wrong { " [wrong checksum]" } else { "" })
 }
@@ -237,6 +227,7 @@ fn put_blocks(
     bases: Bases,
     seen: &Dissection,
     sum: Sum,
+    missing: usize,
     is_wrong: bool,
 ) -> Result<(), AllocError> {
     if let Some(header) = &seen.header {
@@ -245,7 +236,7 @@ fn put_blocks(
     page.in_json(",\"chunks\":[")?;
     let mut is_first = true;
     for item in &seen.items {
-        put_block(alloc, page, bases, item, is_first)?;
+        put_block(alloc, page, bases, missing, item, is_first)?;
         is_first = false;
     }
     page.in_json("]")
@@ -253,17 +244,29 @@ fn put_blocks(
 
 /// Why bytes are left over.
 fn put_fault(alloc: Global, page: &mut Page, fault: WalkFault) -> Result<(), AllocError> {
+    if page.is_text() {
+        return page.words("Fault", "fault", rule_of_rest(fault));
+    }
     let words = format!(in alloc; "{fault:?}")?;
     page.words("Fault", "fault", &words)
 }
 
-/// The bytes behind the last chunk, and why they are left over.
-fn put_rest(alloc: Global, page: &mut Page, seen: &Dissection) -> Result<(), AllocError> {
+/// The bytes behind the last chunk, and why they are left over, unless they begin a header that is cut off.
+fn put_rest(
+    alloc: Global,
+    page: &mut Page,
+    seen: &Dissection,
+    missing: usize,
+) -> Result<(), AllocError> {
     let Some(fault) = seen.fault else {
         return Ok(());
     };
-    page.in_text("    Left over\n")?;
-    put_fault(alloc, page, fault)?;
+    if is_left_over(missing, seen.fault) {
+        page.in_text("    Left over\n")?;
+        put_fault(alloc, page, fault)?;
+    } else {
+        page.in_text("    Header cut off\n")?;
+    }
     page.bytes(alloc, "Bytes", "rest", seen.rest.as_slice())
 }
 
@@ -290,8 +293,8 @@ fn put_below(
         return Ok(());
     }
     let sum = sum_for(options.sum, missing);
-    put_blocks(alloc, page, bases, seen, sum, is_wrong)?;
-    put_rest(alloc, page, seen)?;
+    put_blocks(alloc, page, bases, seen, sum, missing, is_wrong)?;
+    put_rest(alloc, page, seen, missing)?;
     put_missing_member(page, missing)?;
     page.in_json("}\n")
 }
@@ -313,7 +316,7 @@ fn seen_text(
     put_time(&mut line, options, start, &record.time)?;
     put_ends(&mut line, record.direction, datagram)?;
     put_line(&mut line, bases, seen, missing, is_wrong)?;
-    let is_refused = is_wrong || (missing == 0 && is_refused(seen));
+    let is_refused = is_wrong || is_refused(missing, seen);
     let mark = mark_of(options.is_colored, is_refused, known.is_repeated);
     let mut page = Page::new(alloc, options.form);
     put_marked(&mut page.text, mark, &line.text)?;
@@ -330,6 +333,22 @@ pub fn seen_in(alloc: Global, sum: Sum, datagram: &[u8]) -> Result<Dissection, A
     dissect(alloc, &bytes, &sum)
 }
 
+/// What a datagram shows of which so many bytes are missing: also what is there of the chunk that ends among them.
+pub fn shown_in(
+    alloc: Global,
+    sum: Sum,
+    datagram: &[u8],
+    missing: usize,
+) -> Result<Dissection, AllocError>
+    ensures { IfOk result (IsShown (sum_of sum) datagram.now missing) }
+{
+    let seen = seen_in(alloc, sum, datagram)?;
+    if datagram.len() < 12 {
+        return Ok(seen);
+    }
+    with_cut(seen, missing)
+}
+
 /// The text of a packet. There is none where it does not have what is asked for.
 fn passed_text(
     alloc: Global,
@@ -342,17 +361,17 @@ fn passed_text(
     summary: &mut Summary,
 ) -> Result<String, AllocError>
     ensures shown { IfOk result (λ text. passes options.now.filter
-        (is_wrong (sum_for options.now.sum datagram.now.missing) known.accepts_zero
-        seen.now.header) seen.now ≡ true → (shown : List ℕ)
+        datagram.now.missing (is_wrong (sum_for options.now.sum datagram.now.missing)
+        known.accepts_zero seen.now.header) seen.now ≡ true → (shown : List ℕ)
         × (string_bytes text ≡ numbered_text options.now.form number shown)) }
     ensures hidden { IfOk result (λ text. passes options.now.filter
-        (is_wrong (sum_for options.now.sum datagram.now.missing) known.accepts_zero
-        seen.now.header) seen.now ≡ false → string_bytes text ≡ []) }
+        datagram.now.missing (is_wrong (sum_for options.now.sum datagram.now.missing)
+        known.accepts_zero seen.now.header) seen.now ≡ false → string_bytes text ≡ []) }
 {
     let missing = datagram.missing;
     let sum = sum_for(options.sum, missing);
     let is_wrong = is_wrong(sum, known.accepts_zero, &seen.header);
-    if !options.filter.passes(seen, is_wrong) {
+    if !options.filter.passes(seen, missing, is_wrong) {
         summary.count_other();
         return Ok(String::new(alloc));
     }
@@ -384,7 +403,7 @@ fn packet_text<F: Follow>(
         datagram.now.missing (string_bytes text)) }
 {
     let sum = sum_for(options.sum, datagram.missing);
-    let seen = seen_in(alloc, sum, datagram.bytes)?;
+    let seen = shown_in(alloc, sum, datagram.bytes, datagram.missing)?;
     let known = follower.note(alloc, &seen, sum, datagram.ends)?;
     passed_text(
         alloc, options, number, record, datagram, &seen, known, summary,
@@ -440,9 +459,14 @@ fn frame_text<F: Follow>(
     summary: &mut Summary,
 ) -> Result<String, AllocError>
     ensures { IfOk result (λ text. IsFrameText options.now number «record».now.link_type frame.now
-        (string_bytes text)) }
+        «record».now.lost (string_bytes text)) }
 {
-    match datagram_in(record.link_type, frame.as_slice(), options.port) {
+    match datagram_in(
+        record.link_type,
+        frame.as_slice(),
+        record.lost,
+        options.port,
+    ) {
         Ok(datagram) => packet_text(alloc, options, number, record, &datagram, follower, summary),
         Err(fault) => fault_line(alloc, options, number, fault, summary),
     }

@@ -384,6 +384,7 @@ impl Messages {
             association: at.saturating_add(1),
             way,
             bases: known_of(own, other, self.style.is_relative).bases,
+            missing: packet.missing,
         })
     }
 

@@ -38,6 +38,8 @@ pub struct Moment {
     pub association: usize,
     pub way: Way,
     pub bases: Bases,
+    /// How many bytes of the packet are missing.
+    pub missing: usize,
 }
 
 /// When a packet was captured.
@@ -216,6 +218,7 @@ fn put_why(text: &mut String, why: Unread) -> Result<(), AllocError> {
         Unread::NoBeginning => text.push_str("beginning not captured"),
         Unread::Interleaved => text.push_str("I-DATA"),
         Unread::Malformed => text.push_str("malformed"),
+        Unread::CutOff => text.push_str("cut off in the capture"),
         Unread::NoUserData => text.push_str("no user data (RFC 9260 6.2)"),
         Unread::Late => text.push_str("captured after its TSN was passed"),
     }
@@ -235,7 +238,7 @@ pub fn put_unread(
         Form::Json => (",\"chunk\":\"", "\",\"not_read\":\"", "\"}\n"),
     };
     text.push_str(before)?;
-    put_brief(text, moment.bases, item)?;
+    put_brief(text, moment.bases, moment.missing, item)?;
     text.push_str(between)?;
     put_why(text, why)?;
     text.push_str(after)

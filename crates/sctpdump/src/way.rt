@@ -16,6 +16,7 @@ use sctp_receiver::receiver::arrival::{Arrival, Closed};
 use sctp_receiver::receiver::refusal::ReceiverRefusal;
 use sctp_receiver::replay::{filter, open_streams, reassembly};
 use sctp_show::filter::is_data;
+use sctp_util::error::Error;
 use sctp_util::field::{read_u16, read_u32};
 use sctp_util::util::{sna16lt, sna16lte, sna32lt, sna32lte};
 use std::alloc::{AllocError, Global};
@@ -62,6 +63,8 @@ pub enum Unread {
     Interleaved,
     /// It is refused by the reader of packets.
     Malformed,
+    /// Its end was not captured.
+    CutOff,
     /// It has no user data, which breaks the protocol (RFC 9260 6.2).
     NoUserData,
     /// It was captured behind what passed its TSN: a FORWARD-TSN, or a SACK that acknowledges it.
@@ -360,12 +363,18 @@ impl WayReader {
     }
 
     /// Takes a chunk that the reader of packets refuses.
-    fn take_raw(&mut self, alloc: Global, bytes: &[u8]) -> Result<Outcome, AllocError> {
+    fn take_raw(
+        &mut self,
+        alloc: Global,
+        bytes: &[u8],
+        refusal: Error,
+    ) -> Result<Outcome, AllocError> {
         if !is_data(bytes) {
             return Ok(Outcome::none(alloc));
         }
-        let why = match bytes.first() {
-            Some(&I_DATA) => Unread::Interleaved,
+        let why = match (bytes.first(), refusal) {
+            (_, Error::ErrChunkHeaderNotEnoughSpace) => Unread::CutOff,
+            (Some(&I_DATA), _) => Unread::Interleaved,
             _ => Unread::Malformed,
         };
         self.pass_unread(alloc, read_u32(bytes, 4), why)
@@ -615,7 +624,7 @@ impl WayReader {
             Reading::Strict(ChunkKind::ForwardTsn(chunk)) => self.take_forward(alloc, chunk),
             Reading::Strict(ChunkKind::Reconfig(chunk)) => self.take_reconfig(alloc, chunk),
             Reading::Strict(_) => Ok(Outcome::none(alloc)),
-            Reading::Raw(_) => self.take_raw(alloc, bytes),
+            Reading::Raw(raw) => self.take_raw(alloc, bytes, raw.refusal),
         }
     }
 }

@@ -8,10 +8,12 @@ pub returns-in-252-clause-refused : goal.returns-in-252-clause-refused
 returns-in-252-clause-refused c =
     let is : c.args.link_type ≡ 252 = grind (arith, common_steps) in
     IfErr-weaker c.inside_exported.result _ _
-    (λ e none bytes missing it. held_exported c.args.link_type c.args.port c.args.frame.now bytes missing is none it) c.inside_exported.ensures.refused
+    (λ e none bytes missing it.
+    held_exported c.args.link_type c.args.port c.args.frame.now c.args.lost bytes missing is none it) c.inside_exported.ensures.refused
 
 pub returns-in_default-clause-refused : goal.returns-in_default-clause-refused
 returns-in_default-clause-refused c =
     let other : c.args.link_type ≢ 252 = grind (arith, common_steps) in
     IfErr-weaker c.inside_frame.result _ _
-    (λ e none bytes missing it. held_framed c.args.link_type c.args.port c.args.frame.now bytes missing other none it) c.inside_frame.ensures.refused
+    (λ e none bytes missing it.
+    held_framed c.args.link_type c.args.port c.args.frame.now c.args.lost bytes missing other none it) c.inside_frame.ensures.refused

@@ -8,5 +8,5 @@ returns-in_err-upper-clause-refused c = of_err c.from_residual.result _ (λ e by
 
 pub returns-in_err-bytes-clause-refused : goal.returns-in_err-bytes-clause-refused
 returns-in_err-bytes-clause-refused c = of_err c.from_residual-in_err-bytes.result _ (λ e bytes missing it.
-    let same = only_payload c.args.packet.now it.protocol it.payload it.cut _ _ _ it.is c.in_ok-upper.ensures.found in
+    let same = only_payload c.args.packet.now c.args.lost it.protocol it.payload it.cut _ _ _ it.is c.in_ok-upper.ensures.found in
     c.in_err-bytes.ensures.refused bytes missing (rw (← same.0, ← same.1, ← same.2) it.carried))

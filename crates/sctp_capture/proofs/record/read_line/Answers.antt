@@ -19,7 +19,7 @@ returns c =
     let same : c.deref.result.now ≡ c.in_ok-digits.digits.items = grind (arith, common_steps) in
     line_is c.args.held.now c.in_ok-digits.digits.items c.line_length-length.result c.line_record-2.result c.line_length-length.ensures
     (omega (arith, c.if-length-gt-MAX_LINE.false))
-    c.in_ok-digits.ensures some c.line_record-2.ensures.link_type
+    c.in_ok-digits.ensures some c.line_record-2.ensures.link_type c.line_record-2.ensures.lost
     (c.line_record-2.ensures.time ∙ ap (λ l. l.time) c.lead_of-lead.ensures.is)
     (c.line_record-2.ensures.direction ∙ ap (λ l. l.direction) c.lead_of-lead.ensures.is)
     (rw c.line_record-2.ensures.frame (rw same at c.in_ok-frame.ensures))
