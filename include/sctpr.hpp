@@ -265,13 +265,13 @@ inline result<void> done(sctpr_code c) {
     if (is_refused(c)) return refusal(c);
     return {};
 }
-/** A value where the call was done. */
-template <class T> result<T> value_of(sctpr_code c, T value, std::size_t wanted = 0) {
+/** A value where the call was done: by reference, since the call may be evaluated behind the other arguments. */
+template <class T> result<T> value_of(sctpr_code c, const T &value, std::size_t wanted = 0) {
     if (is_refused(c)) return refusal(c, wanted);
     return value;
 }
 /** A value with SCTPR_OK, none where the call was done and there is nothing. */
-template <class T> result<std::optional<T>> option_of(sctpr_code c, T value, std::size_t wanted = 0) {
+template <class T> result<std::optional<T>> option_of(sctpr_code c, const T &value, std::size_t wanted = 0) {
     if (is_refused(c)) return refusal(c, wanted);
     return c == SCTPR_OK ? std::optional<T>(value) : std::nullopt;
 }
