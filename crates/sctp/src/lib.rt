@@ -12,7 +12,7 @@ pub use sctp_chunks::{
     ChunkSelectiveAck, ChunkShutdown, ChunkShutdownAck, ChunkShutdownComplete, ErrorCause,
     ErrorCauseCode, GapAckBlock, PayloadProtocolIdentifier, ReliabilityType,
 };
-pub use sctp_packets::{CommonHeader, Crc32c, Packet, PartialDecode};
+pub use sctp_packets::{CommonHeader, Crc32c, Packet, PacketReader, PacketWriter, PartialDecode};
 pub use sctp_params::{
     HmacAlgorithm, ParamChunkList, ParamForwardTsnSupported, ParamHeartbeatInfo, ParamKind,
     ParamOutgoingResetRequest, ParamRandom, ParamReconfigResponse, ParamRequestedHmacAlgorithm,

@@ -96,14 +96,13 @@ no_packet_encoding e [] fault = absurd fault
 no_packet_encoding e (w ∷ ws) (inl fault) = let n = no_encoding e w fault in (n.0, λ all. n.1 all.0)
 no_packet_encoding e (w ∷ ws) (inr more) = let n = no_packet_encoding e ws more.1 in (n.0, λ all. n.1 all.1)
 
--- a total up to the greatest number, and one chunk more
-pub summed_up : (top before value len sum total after : ℕ) → len ≡ min (min value top + 4) top → sum ≡ min (len + padding_of len) top
-    → total ≡ min (min (12 + before) top + sum) top → after ≡ before + (4 + value + padding_of (4 + value)) → total ≡ min (12 + after) top
-summed_up top before value len sum total after is-len is-sum is-total is-after =
+-- a length with its padding, up to the greatest number
+pub padded_up : (top value len sum : ℕ) → len ≡ min (min value top + 4) top → sum ≡ min (len + padding_of len) top
+    → sum ≡ min (4 + value + padding_of (4 + value)) top
+padded_up top value len sum is-len is-sum =
     elim (cases_lt top (4 + value)) [
       | inr fits ↦
           let exact : len ≡ 4 + value = omega (arith, is-len, fits) in
-          let added = rw exact at is-sum in
-          omega (arith, added, is-total, is-after)
-      | inl over ↦ omega (arith, is-len, is-sum, is-total, is-after, over)
+          rw exact at is-sum
+      | inl over ↦ omega (arith, is-len, is-sum, over)
     ]

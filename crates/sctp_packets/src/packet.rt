@@ -20,6 +20,8 @@ ghost use Rattle.sctp_packets.specs.Valid.{is_init, has_init, IsValid, InitFault
 ghost use Rattle.sctp_packets.specs.Fault.{HeadFault, PacketFault, PlaceFault, WalkFault, FirstEncodingFault, PacketEncodingFault, LacksRoom};
 
 pub mod partial_decode;
+pub mod reader;
+pub mod writer;
 
 use bytes::{BufMut, Bytes, BytesMut};
 pub use partial_decode::PartialDecode;
@@ -80,16 +82,19 @@ impl fmt::Display for Packet {
     }
 }
 
-/// Reads the chunk at the front to the end of the list, and gives how many bytes it takes with its padding, which has
-/// to be there. Refuses with `ErrParseSctpChunkNotEnoughData`, or as `ChunkKind::unmarshal` does; the list is as it was then.
-/// Precondition: there are bytes, and the list has room.
-fn read_step(alloc: Global, rest: &Bytes, chunks: &mut Vec<ChunkKind>) -> Result<usize>
-    requires bytes { 0 < length rest.now }
-    requires room { vec_len chunks.old < vec_capacity chunks.old }
-    ensures found { OnOk result (TakesChunk rest.now chunks.old.items chunks.new.items) }
-    ensures length { IfOk result (λ n. n ≡ padded_length (declared_length rest.now)) }
-    ensures only { (w : Wire) → Steps rest.now w → IsOkUnless result ErrOutOfMemory }
-    ensures err { OnErr result (chunks.new.items ≡ chunks.old.items) }
+/// Reads the chunk that the bytes begin with, and gives how many bytes it takes with its padding, which has to be there.
+/// Refuses with `ErrParseSctpChunkNotEnoughData`, or as `ChunkKind::unmarshal` does.
+/// Precondition: there are bytes.
+#[inline]
+fn read_front(alloc: Global, rest: &Bytes) -> Result<(ChunkKind, usize)>
+    requires { 0 < length rest.now }
+    ensures found { IfOk result (λ r. Steps rest.now (wire_of r.0)) }
+    ensures rewritable { IfOk result (λ r. HasEncoding (wire_of r.0)) }
+    ensures canonical { IfOk result (λ r. Canonical (wire_of r.0)) }
+    ensures fresh { IfOk result (λ r. IsFreshKind r.0) }
+    ensures length { IfOk result (λ r. r.1 ≡ padded_length (declared_length rest.now)) }
+    ensures only { (w : Wire) → Steps rest.now w
+        → GivesUnlessMemory result (λ r. wire_of r.0 ≡ w) }
     ensures fault { IfErr result (λ e. OrMemory e (PlaceFault e rest.now)) }
 {
     if rest.len() < CHUNK_HEADER_SIZE {
@@ -101,6 +106,22 @@ fn read_step(alloc: Global, rest: &Bytes, chunks: &mut Vec<ChunkKind>) -> Result
     if rest.len() < length {
         return Err(Error::ErrParseSctpChunkNotEnoughData);
     }
+    Ok((chunk, length))
+}
+
+/// Reads the chunk at the front to the end of the list, and gives how many bytes it takes with its padding. Refuses as `read_front`
+/// does; the list is as it was then.
+/// Precondition: there are bytes, and the list has room.
+fn read_step(alloc: Global, rest: &Bytes, chunks: &mut Vec<ChunkKind>) -> Result<usize>
+    requires bytes { 0 < length rest.now }
+    requires room { vec_len chunks.old < vec_capacity chunks.old }
+    ensures found { OnOk result (TakesChunk rest.now chunks.old.items chunks.new.items) }
+    ensures length { IfOk result (λ n. n ≡ padded_length (declared_length rest.now)) }
+    ensures only { (w : Wire) → Steps rest.now w → IsOkUnless result ErrOutOfMemory }
+    ensures err { OnErr result (chunks.new.items ≡ chunks.old.items) }
+    ensures fault { IfErr result (λ e. OrMemory e (PlaceFault e rest.now)) }
+{
+    let (chunk, length) = read_front(alloc, rest)?;
     chunks.push_reserved(chunk);
     Ok(length)
 }
@@ -156,16 +177,16 @@ fn open_packet<C: Checksum>(raw: &Bytes, checksum: &C) -> Result<(CommonHeader, 
 }
 
 /// Appends a chunk and its padding. Refuses as `Chunk::marshal_to` does, and the bytes are as they were then.
-fn put_chunk(buf: &mut BytesMut, chunk: &ChunkKind) -> Result<()>
-    ensures ok { OnOk result (HasEncoding (wire_of chunk.now)
-        × (buf.new.items ≡ buf.old.items ++ padded_encoding (wire_of chunk.now))) }
+fn put_chunk<K: Chunk>(buf: &mut BytesMut, chunk: &K) -> Result<()>
+    ensures ok { OnOk result (HasEncoding (K.wire chunk.now)
+        × (buf.new.items ≡ buf.old.items ++ padded_encoding (K.wire chunk.now))) }
     ensures spare { OnOk result
-        (buf.old.spare ≤ buf.new.spare + length (padded_encoding (wire_of chunk.now))) }
-    ensures fits { OnOk result (Fits (wire_of chunk.now)) }
+        (buf.old.spare ≤ buf.new.spare + length (padded_encoding (K.wire chunk.now))) }
+    ensures fits { OnOk result (Fits (K.wire chunk.now)) }
     ensures err { OnErr result (buf.new.items ≡ buf.old.items) }
-    ensures refused { IfErr result (λ e. EncodingFault e (wire_of chunk.now)
-        ⊎ ((e ≡ ErrOutOfMemory) × HasEncoding (wire_of chunk.now)
-        × (buf.old.spare < length (padded_encoding (wire_of chunk.now))))) }
+    ensures refused { IfErr result (λ e. EncodingFault e (K.wire chunk.now)
+        ⊎ ((e ≡ ErrOutOfMemory) × HasEncoding (K.wire chunk.now)
+        × (buf.old.spare < length (padded_encoding (K.wire chunk.now))))) }
 {
     let start = buf.len();
     let end = chunk.marshal_to(buf)?;
@@ -179,14 +200,21 @@ fn put_chunk(buf: &mut BytesMut, chunk: &ChunkKind) -> Result<()>
     }
 }
 
+/// How many bytes a chunk takes with its padding, up to the greatest `usize`.
+fn padded_length_of<K: Chunk>(chunk: &K) -> usize
+    ensures { result ≡ min (length (padded_encoding (K.wire chunk.now))) (2 ^ 64 - 1) }
+{
+    let length = chunk.value_length().saturating_add(CHUNK_HEADER_SIZE);
+    length.saturating_add(get_padding_size(length))
+}
+
 /// How many bytes a packet of these chunks has, up to the greatest `usize`.
 fn length_with(chunks: &[ChunkKind]) -> usize
     ensures { result ≡ min (12 + length (body_of (map wire_of chunks.now))) (2 ^ 64 - 1) }
 {
     let mut total = PACKET_HEADER_SIZE;
     for chunk in chunks {
-        let length = chunk.value_length().saturating_add(CHUNK_HEADER_SIZE);
-        total = total.saturating_add(length.saturating_add(get_padding_size(length)));
+        total = total.saturating_add(padded_length_of(chunk));
     }
     total
 }
