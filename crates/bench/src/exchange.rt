@@ -5,10 +5,22 @@ use crate::reassembly::length_of;
 use crate::stream::text;
 use crate::subject::{FRAGMENTS, STREAM};
 use bytes::Bytes;
+use sctp_chunks::chunk::Chunk;
 use sctp_chunks::chunk::chunk_kind::ChunkKind;
 use sctp_chunks::chunk::chunk_payload_data::PayloadProtocolIdentifier;
-use sctp_packets::packet::{CommonHeader, Packet};
+use sctp_packets::packet::CommonHeader;
+use sctp_packets::{PacketReader, PacketWriter};
 use sctp_util::util::Checksum;
+
+// The header of each packet.
+const HEADER: CommonHeader = CommonHeader {
+    source_port: 5000,
+    destination_port: 5001,
+    verification_tag: 1,
+};
+
+// How many bytes a packet has at most.
+const LIMIT: usize = 1_400;
 
 // A chunk comes to the half that it is for; whether it is taken.
 fn takes(ends: &mut Ends, chunk: &ChunkKind) -> bool {
@@ -19,55 +31,47 @@ fn takes(ends: &mut Ends, chunk: &ChunkKind) -> bool {
     }
 }
 
-// The same of the last chunk of a packet.
-fn takes_last(ends: &mut Ends, packet: &Packet) -> bool {
-    match packet.chunks.last() {
-        Some(chunk) => takes(ends, chunk),
-        None => false,
-    }
-}
-
-// The same of a packet's bytes.
-fn is_read<C: Checksum>(ends: &mut Ends, raw: &Bytes, sum: &C) -> bool {
-    match Packet::unmarshal(ends.alloc, raw, sum) {
-        Ok(packet) => takes_last(ends, &packet),
-        Err(_) => false,
-    }
-}
-
-// A packet comes as its bytes.
-fn comes<C: Checksum>(ends: &mut Ends, packet: &Packet, sum: &C) -> bool {
-    match packet.marshal(ends.alloc, sum) {
-        Ok(raw) => is_read(ends, &raw, sum),
-        Err(_) => false,
+// A packet of one chunk comes as its bytes; whether the chunk is taken.
+fn comes<C: Checksum>(ends: &mut Ends, raw: &Bytes, sum: &C) -> bool {
+    let Ok((_, mut chunks)) = PacketReader::open(raw, sum) else {
+        return false;
+    };
+    match chunks.next(ends.alloc) {
+        Ok(Some(chunk)) => takes(ends, &chunk),
+        _ => false,
     }
 }
 
 // A chunk comes in a packet of its own.
-fn arrives<C: Checksum>(ends: &mut Ends, chunk: ChunkKind, sum: &C) -> bool {
-    let mut packet = Packet {
-        common_header: CommonHeader {
-            source_port: 5000,
-            destination_port: 5001,
-            verification_tag: 1,
-        },
-        chunks: Vec::new(ends.alloc),
-    };
-    packet.chunks.push(chunk).is_ok() && comes(ends, &packet, sum)
+fn arrives<K: Chunk, C: Checksum>(
+    ends: &mut Ends,
+    writer: &mut PacketWriter,
+    chunk: &K,
+    sum: &C,
+) -> bool {
+    writer.begin(HEADER);
+    if writer.put(chunk) != Ok(true) {
+        return false;
+    }
+    writer.seal(sum);
+    match Bytes::copy_from_slice(ends.alloc, writer.bytes()) {
+        Ok(raw) => comes(ends, &raw, sum),
+        Err(_) => false,
+    }
 }
 
 // The next fragment is sent, and comes.
-fn sends<C: Checksum>(ends: &mut Ends, sum: &C) -> bool {
+fn sends<C: Checksum>(ends: &mut Ends, writer: &mut PacketWriter, sum: &C) -> bool {
     match ends.sender.send_next(0) {
-        Ok(Some(chunk)) => arrives(ends, ChunkKind::PayloadData(chunk), sum),
+        Ok(Some(chunk)) => arrives(ends, writer, &chunk, sum),
         _ => false,
     }
 }
 
 // What came is acknowledged, and the SACK comes.
-fn acknowledges<C: Checksum>(ends: &mut Ends, sum: &C) -> bool {
-    match ends.receiver.sack(usize::MAX) {
-        Ok(sack) => arrives(ends, ChunkKind::SelectiveAck(sack), sum),
+fn acknowledges<C: Checksum>(ends: &mut Ends, writer: &mut PacketWriter, sum: &C) -> bool {
+    match ends.receiver.sack(LIMIT) {
+        Ok(sack) => arrives(ends, writer, &sack, sum),
         Err(_) => false,
     }
 }
@@ -80,8 +84,13 @@ pub fn exchange<C: Checksum>(ends: &mut Ends, sum: &C) -> usize {
     if written.is_err() {
         return 0;
     }
+    let Ok(mut writer) = PacketWriter::new(ends.alloc, LIMIT) else {
+        return 0;
+    };
     for place in 0..FRAGMENTS {
-        if !sends(ends, sum) || place % 2 == 0 && !acknowledges(ends, sum) {
+        if !sends(ends, &mut writer, sum)
+            || place % 2 == 0 && !acknowledges(ends, &mut writer, sum)
+        {
             return 0;
         }
     }

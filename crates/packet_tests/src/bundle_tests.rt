@@ -3,6 +3,7 @@ use crate::tests::{Answer, ZERO, is_encoding, packet_bytes, read_chunks};
 use bytes::Bytes;
 use sctp_packets::checksum::Crc32c;
 use sctp_packets::packet::{CommonHeader, Packet, PartialDecode};
+use sctp_packets::{PacketReader, PacketWriter};
 use sctp_util::error::Error;
 use sctp_util::util::{CT_COOKIE_ACK, CT_COOKIE_ECHO, CT_INIT, CT_INIT_ACK, Checksum, ChunkType};
 use std::alloc::Global;
@@ -90,6 +91,24 @@ fn is_recorded(alloc: Global, read: Result<Packet, Error>, raw: &[u8], printed: 
     }
 }
 
+// The packet, read chunk by chunk and written so, as long as it fits.
+fn rewritten(alloc: Global, raw: &[u8], limit: usize) -> Result<PacketWriter, Error> {
+    let (header, mut chunks) = PacketReader::open(&Bytes::copy_from_slice(alloc, raw)?, &Crc32c)?;
+    let mut writer = PacketWriter::new(alloc, limit)?;
+    writer.begin(header);
+    while let Some(chunk) = chunks.next(alloc)? {
+        writer.put(&chunk)?;
+    }
+    writer.seal(&Crc32c);
+    Ok(writer)
+}
+
+// How many bytes it then has; whether they are the recorded ones.
+fn rewriting(alloc: Global, raw: &[u8], limit: usize) -> Result<(usize, bool), Error> {
+    let writer = rewritten(alloc, raw, limit)?;
+    Ok((writer.bytes().len(), writer.bytes() == raw))
+}
+
 #[test]
 fn vectors(rt: HostRuntime) {
     let alloc = rt.alloc();
@@ -97,6 +116,8 @@ fn vectors(rt: HostRuntime) {
         assert!(rt; told(alloc, raw) == Ok((typ, Some(tag))));
         assert!(rt; is_recorded(alloc, whole(alloc, raw, &Crc32c), raw, printed));
         assert!(rt; is_recorded(alloc, finished(alloc, raw, &Crc32c), raw, printed));
+        assert!(rt; rewriting(alloc, raw, raw.len()) == Ok((raw.len(), true)));
+        assert!(rt; rewriting(alloc, raw, raw.len() - 1) == Ok((12, false)));
     }
 }
 

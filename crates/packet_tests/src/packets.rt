@@ -1,8 +1,10 @@
-//! Callers of `sctp_packets`: one reads a datagram, one writes the answer to it.
+//! Callers of `sctp_packets`: one reads a datagram, two write one.
 
-ghost use Rattle.std.specs.Prelude.{◌≡◌, ◌∷◌, [], length, IfOk, IsOkUnless};
+ghost use Rattle.std.specs.Prelude.{◌≡◌, ◌∷◌, [], true, length, IfOk, IsOkUnless};
+ghost use Rattle.sctp_data.specs.SelectiveAck.{sack_of};
 ghost use Rattle.sctp_util.specs.declared.error.Error.TheVariants.{ErrOutOfMemory};
 ghost use Rattle.sctp_chunks.specs.Wire.{sack_chunk};
+ghost use Rattle.sctp_packets.specs.Draft.{headed, with_chunk};
 ghost use Rattle.sctp_packets.specs.Packet.{Parts, ReadsPacket};
 
 use bytes::Bytes;
@@ -11,6 +13,7 @@ use sctp_base::util::Checksum;
 use sctp_chunks::chunk::chunk_kind::ChunkKind;
 use sctp_chunks::chunk::chunk_selective_ack::ChunkSelectiveAck;
 use sctp_packets::packet::{CommonHeader, Packet};
+use sctp_packets::PacketWriter;
 use std::alloc::Global;
 
 /// How many chunks a datagram has.
@@ -20,6 +23,25 @@ pub fn count_chunks<C: Checksum>(alloc: Global, raw: &Bytes, checksum: &C) -> Re
 {
     let packet = Packet::unmarshal(alloc, raw, checksum)?;
     Ok(packet.chunks.len())
+}
+
+/// Writes the datagram of a SACK into a writer, and answers whether it fits. Whoever reads it reads that SACK.
+pub fn write_sack<C: Checksum>(
+    writer: &mut PacketWriter,
+    header: CommonHeader,
+    sack: &ChunkSelectiveAck,
+    checksum: &C,
+) -> Result<bool>
+    ensures reads { IfOk result (λ put. put ≡ true
+        → ReadsPacket (C.sum checksum.now) writer.new.bytes
+        (with_chunk (sack_chunk (sack_of sack.now)) (headed header))) }
+{
+    writer.begin(header);
+    if !writer.put(sack)? {
+        return Ok(false);
+    }
+    writer.seal(checksum);
+    Ok(true)
 }
 
 /// The datagram of a SACK of everything up to a TSN, to where a header came from. Whoever reads it

@@ -1,6 +1,6 @@
 //! The chunks of a packet, read one after another, without a list.
 
-ghost use Rattle.std.specs.Prelude.{◌≡◌, [], None, Some, IfOk, IfErr, IfSome, IfNone, IsOkUnless, OnErr, drop, option_map};
+ghost use Rattle.std.specs.Prelude.{◌≡◌, [], None, Some, IfOk, IfErr, IfSome, IfNone, IsOkUnless, OnErr, drop, length, option_map, ◌<◌};
 ghost use Rattle.sctp_util.specs.Field.{u16_at, u32_at};
 ghost use Rattle.sctp_util.specs.Outcome.{OrMemory, GivesUnlessMemory};
 ghost use Rattle.sctp_util.specs.declared.error.Error.TheVariants.{ErrOutOfMemory};
@@ -53,6 +53,7 @@ impl PacketReader {
     pub fn next(&mut self, alloc: Global) -> Result<Option<ChunkKind>>
         ensures chunk { IfOk result (λ r. IfSome r (λ c. Steps self.old (wire_of c)
             × (self.new ≡ after self.old))) }
+        ensures shorter { IfOk result (λ r. IfSome r (λ _. length self.new < length self.old)) }
         ensures end { IfOk result (λ r. IfNone r ((self.old ≡ []) × (self.new ≡ []))) }
         ensures ended { self.old ≡ [] → IfOk result (λ r. option_map wire_of r ≡ None) }
         ensures only { (w : Wire) → Steps self.old w
