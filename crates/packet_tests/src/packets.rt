@@ -12,8 +12,8 @@ use sctp_base::error::Result;
 use sctp_base::util::Checksum;
 use sctp_chunks::chunk::chunk_kind::ChunkKind;
 use sctp_chunks::chunk::chunk_selective_ack::ChunkSelectiveAck;
-use sctp_packets::packet::{CommonHeader, Packet};
 use sctp_packets::PacketWriter;
+use sctp_packets::packet::{CommonHeader, Packet};
 use std::alloc::Global;
 
 /// How many chunks a datagram has.
