@@ -21,7 +21,7 @@ CALLERS = {
     "sctp_outbound::PayloadQueue::pop_up_to": {"transfer_tests/queues/payload_queue pop_up_to"},
     "sctp_reassembly::Loose::take_range_counted": {"sctp_reassembly/reassembly_queue/pool/undo put_undoable", "sctp_reassembly/reassembly_queue/unassembled take_range"},
     "sctp_reassembly::ReassemblyQueue::forward_tsn_for_unordered": {"transfer_tests/queues/reassembly_queue skip"},
-    "sctp_receiver::TsnFilter::record_duplicate_counted": {"sctp_receiver/receiver/intake note_repeat"},
+    "sctp_receiver::TsnFilter::record_duplicate": {"sctp_receiver/receiver/intake note_repeat"},
     "sctp_reassembly::place_for": {"sctp_reassembly/reassembly_queue place_of"},
     "sctp_outbound::PayloadQueue::mark_as_acked_at": {"sctp_outbound/outbound_queue mark_as_acked_at"},
     "sctp_outbound::OutboundQueue::mark_as_acked_at": {"sctp_sender/sender/flight/answers acknowledge_answered"},

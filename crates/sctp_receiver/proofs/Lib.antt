@@ -1,7 +1,9 @@
 pub mod TsnLists
+pub mod TsnRuns
+pub mod RunBlocks
+pub mod RunMoves
 pub mod Placeholders
 pub mod FilterCalls
-pub mod FilterCosts
 pub mod PushCosts
 pub mod Retracts
 pub mod Inbounds

@@ -1,28 +1,26 @@
 -- A TSN that came is taken back.
-use Rattle.std.proofs.Common.{◌≡◌, ℕ, zero, suc, ◌+◌, ◌-◌, ◌<◌, ◌≤◌, ◌%◌, ◌^◌, Bool, true, false, List, [], ◌∷◌, ◌++◌, length, map, refl, ap, sym, subst, ◌∙◌}
+use Rattle.std.proofs.Common.{◌≡◌, ℕ, zero, suc, ◌+◌, ◌-◌, ◌<◌, ◌≤◌, ◌%◌, ◌^◌, Bool, true, false, List, [], ◌∷◌, ◌++◌, length, take, drop, Some, refl, ap, sym, subst, ◌∙◌}
 use Rattle.std.proofs.Common.{arith}
-use Rattle.std.specs.Prelude.{if◌then◌else◌, ◌==◌, ◌||◌, not, min}
+use Rattle.std.specs.Prelude.{if◌then◌else◌, ◌==◌, ◌||◌, not, slice_get, unwrap_or}
 use Rattle.std.specs.List.{list_any, filter}
-use Rattle.std.proofs.lemmas.List.{length-map, length-append, append_assoc}
+use Rattle.std.proofs.lemmas.List.{length-append, append_assoc, append-nil, drop_all}
 use Rattle.sctp_util.specs.Lists.{insert_before, advance_over, Seen}
 use Rattle.sctp_util.specs.Serial.{distance, comes_before, at_or_before}
 use Rattle.sctp_util.proofs.Cases.{same-yes, same-is}
 use Rattle.sctp_util.proofs.More.{fails}
-use Rattle.sctp_data.specs.declared.chunk.chunk_payload_data.ChunkPayloadData.{ChunkPayloadData}
-use Rattle.sctp_serial.specs.DataChunks.{chunk_before, following_tsn, tsns}
-use Rattle.sctp_serial.specs.Window
-use Rattle.sctp_serial.specs.Window.{IsWindow}
-use Rattle.sctp_serial.proofs.lemmas.AscendingEdits.{before_farther}
+use Rattle.sctp_serial.specs.DataChunks.{following_tsn}
+use Rattle.sctp_serial.proofs.lemmas.AscendingEdits.{distance_rest, distance_sum}
 use Rattle.sctp_serial.proofs.lemmas.ListEdits.{neither}
 use Rattle.sctp_reassembly.proofs.lemmas.reassembly_queue.SerialPlaces.{after_one}
-use Rattle.sctp_outbound.specs.payload_queue.PayloadQueue.{Payload, push_chunk, with_chunks, without}
 use Rattle.sctp_receiver.specs.declared.receiver.tsn_filter.undo.FilterUndo.{FilterUndo}
 use Rattle.sctp_receiver.specs.declared.receiver.tsn_filter.undo.FilterUndo.TheVariants.{Beyond, Next}
-use Rattle.sctp_receiver.specs.TsnFilter.{Filter, placeholder, rise_beyond, has_come, is_opposite, with_tsn}
-use Rattle.sctp_receiver.specs.Undo.{tsns_from, passed, undo_of, retracted, CanRetract}
-use Rattle.sctp_receiver.proofs.Placeholders.{tsns-placeholder, as-placeholders, placeholders-inserted, new-is, window}
-use Rattle.sctp_receiver.proofs.FilterCalls.{filter_in}
-use Rattle.sctp_receiver.proofs.TsnLists.{IsStep, step-of, beyond, moves, stays, rise-inserted, nearer, behind-it}
+use Rattle.sctp_receiver.specs.TsnFilter.{Filter, rise_beyond, has_come, is_opposite, with_tsn}
+use Rattle.sctp_receiver.specs.declared.receiver.tsn_filter.runs.Run.{Run}
+use Rattle.sctp_receiver.specs.TsnRuns.{tsns_from, tsns_of, AreRuns, count_of_runs}
+use Rattle.sctp_receiver.specs.Undo.{passed, undo_of, retracted, CanRetract}
+use Rattle.sctp_receiver.proofs.RunBlocks.{run-count}
+use Rattle.sctp_receiver.proofs.TsnRuns.{next-far, span, split-at, got-within, runs-split, runs-nearer, tsns-append}
+use Rattle.sctp_receiver.proofs.TsnLists.{IsStep, step-of, beyond, moves, stays, rise-inserted}
 
 -- ## Room
 
@@ -35,24 +33,6 @@ advance-short c (t ∷ ts) = by (t == following_tsn c) (advance-short t ts)
     by true h = omega (arith, h)
     by false h = omega arith
 
--- after a move the room is what it was
-pub room-kept : (r n room : ℕ) (mid adv last : Payload) → room ≡ mid.room → advance_over n (tsns mid.chunks) ≡
-    record { cum = r; held = tsns adv.chunks } → adv ≡ record mid { chunks = adv.chunks; room = adv.room }
-    → length adv.chunks + adv.room ≡ length mid.chunks + mid.room → last ≡ record adv { room = min room adv.room }
-    → (last.chunks ≡ adv.chunks) × (last ≡ with_chunks mid last.chunks)
-room-kept r n room mid adv last was moved rest places limited =
-    let chunks : last.chunks ≡ adv.chunks = ap (λ (p : Payload). p.chunks) limited in
-    let few : length (tsns adv.chunks) ≤ length (tsns mid.chunks) = subst (λ (s : Seen). length s.held ≤ length (tsns mid.chunks)) moved
-    (advance-short n (tsns mid.chunks)) in
-    let a = length-map adv.chunks (λ (c : ChunkPayloadData). c.tsn) in
-    let m = length-map mid.chunks (λ (c : ChunkPayloadData). c.tsn) in
-    let low : min room adv.room ≡ mid.room = omega (arith, few, a, m, places, was) in (
-      chunks,
-      limited ∙ ap (λ (p : Payload). let q : Payload = record p { room = min room adv.room } in q) rest
-          ∙ ap (λ (k : ℕ). let q : Payload = record mid { chunks = adv.chunks; room = k } in q) low
-          ∙ ap (with_chunks mid) (sym chunks),
-    )
-
 pub length-put : {A : Type 0} (before : A → A → Bool) (x : A) (xs : List A) → length (insert_before before x xs) ≡ length xs + 1
 length-put before x [] = omega arith
 length-put before x (e ∷ es) = by (before x e) (length-put before x es)
@@ -61,24 +41,6 @@ length-put before x (e ∷ es) = by (before x e) (length-put before x es)
         (e ∷ es) + 1
     by true ih = omega arith
     by false ih = omega (arith, ih)
-
--- a mark takes one place of the room
-pub put-places : (q now : Payload) (x : ChunkPayloadData) → 0 < q.room → now ≡ push_chunk q x → length now.chunks + now.room ≡ length q.chunks + q.room
-put-places q now x pos is =
-    let a = ap (λ (p : Payload). length p.chunks) is in
-    let b = ap (λ (p : Payload). p.room) is in
-    let n = length-put chunk_before x q.chunks in
-    omega (arith, a, b, n, pos)
-
--- as callers see it
-pub places-are : (c : ℕ) (q now : Payload) (v : Filter) → filter_in c q ≡ v → length now.chunks + now.room ≡ length q.chunks + q.room
-    → now.room + length (tsns now.chunks) ≡ v.room + length v.beyond
-places-are c q now v view places =
-    let a = ap (λ (f : Filter). f.room) view in
-    let b = ap (λ (f : Filter). length f.beyond) view in
-    let m = length-map q.chunks (λ (x : ChunkPayloadData). x.tsn) in
-    let n = length-map now.chunks (λ (x : ChunkPayloadData). x.tsn) in
-    omega (arith, a, b, m, n, places)
 
 -- ## What the cumulative TSN moved over
 
@@ -181,197 +143,142 @@ module _ (t : ℕ) (f : Filter) (lt : f.cumulative_tsn < 2 ^ 32) (small : t < 2 
           } in g) (stays f.cumulative_tsn (insert_before comes_before t f.beyond) lt more)
           ∙ ap (λ ts. let g : Filter = record f { beyond = ts } in g) (taken-out t f.beyond apart.1)
 
--- the same, where room was made first
-pub taken-through : (t : ℕ) (f mid new : Filter) → mid ≡ record f { room = mid.room } → new ≡ record (with_tsn t mid) { room = new.room }
-    → new ≡ record (with_tsn t f) { room = new.room }
-taken-through t f mid new made taken = taken ∙ ap (λ (m : Filter). let g : Filter = record (with_tsn t m) { room = new.room } in g) made
-
 pub can-retract : (u : FilterUndo) (new old : Filter) → retracted u new ≡ old → old.cumulative_tsn < 2 ^ 32
-    → rise_beyond old.cumulative_tsn 1 old.beyond ≡ true → old.room + length old.beyond ≤ new.room + length new.beyond → CanRetract u new
-can-retract u new old back lt rise places = record {
+    → rise_beyond old.cumulative_tsn 1 old.beyond ≡ true → count_of_runs old.cumulative_tsn old.beyond ≤ old.room → old.room ≤ new.room → CanRetract u new
+can-retract u new old back lt rise places room = record {
   in_range = subst (λ (f : Filter). f.cumulative_tsn < 2 ^ 32) (sym back) lt;
   rise = subst (λ (f : Filter). rise_beyond f.cumulative_tsn 1 f.beyond ≡ true) (sym back) rise;
-  places = subst (λ (f : Filter). f.room + length f.beyond ≤ new.room + length new.beyond) (sym back) places;
+  places = subst (λ (f : Filter). count_of_runs f.cumulative_tsn f.beyond ≤ f.room) (sym back) places;
+  room = subst (λ (f : Filter). f.room ≤ new.room) (sym back) room;
 }
 
--- ## Marks leave, and come again
-
-pub tsns-without : (t : ℕ) (cs : List ChunkPayloadData) → tsns (without t cs) ≡ filter (λ u. not (u == t)) (tsns cs)
-tsns-without t [] = refl
-tsns-without t (c ∷ cs) = by (not (c.tsn == t)) (tsns-without t cs)
-  where
-    by : (b : Bool) → tsns (without t cs) ≡ filter (λ u. not (u == t)) (tsns cs)
-        → tsns (if b then c ∷ without t cs else without t cs) ≡ (if b then c.tsn ∷ filter (λ u. not (u == t)) (tsns cs) else filter
-        (λ u. not (u == t)) (tsns cs))
-    by true ih = ap (λ us. c.tsn ∷ us) ih
-    by false ih = ih
-
-pub placeholders-without : (t : ℕ) (ts : List ℕ) → without t (map placeholder ts) ≡ map placeholder (filter (λ u. not (u == t)) ts)
-placeholders-without t [] = refl
-placeholders-without t (u ∷ us) = by (not (u == t)) (placeholders-without t us)
-  where
-    by : (b : Bool) → without t (map placeholder us) ≡ map placeholder (filter (λ v. not (v == t)) us)
-        → (if b then placeholder u ∷ without t (map placeholder us) else without t (map placeholder us)) ≡ map placeholder
-        (if b then u ∷ filter (λ v. not (v == t)) us else filter (λ v. not (v == t)) us)
-    by true ih = ap (λ cs. placeholder u ∷ cs) ih
-    by false ih = ih
+-- ## The TSNs that it moved over are beyond again
 
 -- the last one of a run by itself
-pub run-end : (t n : ℕ) → t < 2 ^ 32 → tsns_from t (suc n) ≡ tsns_from t n ++ (t + n) % 2 ^ 32 ∷ []
+run-end : (t n : ℕ) → t < 2 ^ 32 → tsns_from t (suc n) ≡ tsns_from t n ++ (t + n) % 2 ^ 32 ∷ []
 run-end t zero lt = let e : t ≡ (t + 0) % 2 ^ 32 = omega arith in ap (λ u. u ∷ []) e
 run-end t (suc n) lt =
     let e : (following_tsn t + n) % 2 ^ 32 ≡ (t + suc n) % 2 ^ 32 = omega arith in
     ap (λ us. t ∷ us) (run-end (following_tsn t) n (omega arith) ∙ ap (λ u. tsns_from (following_tsn t) n ++ u ∷ []) e)
 
--- what stands behind others rises too
-pub rise-behind : (c far : ℕ) (us : List ℕ) (t : ℕ) (ts : List ℕ) → rise_beyond c far (us ++ t ∷ ts) ≡ true
-    → IsStep c far t × (rise_beyond c (distance c t) ts ≡ true)
-rise-behind c far [] t ts h = step-of c far t ts h
-rise-behind c far (u ∷ us) t ts h =
-    let s = step-of c far u (us ++ t ∷ ts) h in
-    let r = rise-behind c (distance c u) us t ts s.1 in
-    (record { small = r.0.small; farther = omega (arith, s.0.farther, r.0.farther); near = r.0.near }, r.1)
-
-absent-nearer : (c far t : ℕ) (ts : List ℕ) → distance c t ≤ far → rise_beyond c far ts ≡ true → list_any (λ u. u == t) ts ≡ false
-absent-nearer c far t [] le h = refl
-absent-nearer c far t (u ∷ us) le h =
-    let s = step-of c far u us h in
-    let nay : (u == t) ≡ false = fails (u == t) (λ e. omega (arith, le, s.0.farther, ap (distance c) (same-is u t e))) in
-    ap (λ b. b || list_any (λ v. v == t) us) nay ∙ absent-nearer c (distance c u) t us (omega (arith, le, s.0.farther)) s.1
-
-pub in-front : (c t : ℕ) (ts : List ℕ) → c < 2 ^ 32 → t < 2 ^ 32 → rise_beyond c (distance c t) ts ≡ true → insert_before comes_before t ts ≡ t ∷ ts
-in-front c t [] hc ht h = refl
-in-front c t (u ∷ us) hc ht h =
-    let s = step-of c (distance c t) u us h in
-    ap (λ b. if b then t ∷ u ∷ us else u ∷ insert_before comes_before t us) (before_farther c t u hc ht s.0.small s.0.farther s.0.near)
-
-self-distance : (c : ℕ) → c < 2 ^ 32 → distance c c ≡ 0
+end-is : (a b : ℕ) → a < 2 ^ 32 → b < 2 ^ 32 → (a + distance a b) % 2 ^ 32 ≡ b
 unfolding distance
-self-distance c lt = omega arith
+end-is a b ha hb = omega arith
 
-pub length-run : (t n : ℕ) → length (tsns_from t n) ≡ n
-length-run t zero = refl
-length-run t (suc n) = let h = length-run (following_tsn t) n in omega (arith, h)
+-- the last of the last run is the last of all
+at-end : (us : List ℕ) (x : ℕ) → slice_get (us ++ x ∷ []) (length us) ≡ Some x
+at-end [] x = refl
+at-end (u ∷ us) x = at-end us x
 
--- the mark that is put back next: so many TSNs past the one that the cumulative TSN goes back to
-module _ (c left : ℕ) (q : Payload) (lt : c < 2 ^ 32) (more : 1 < left) (placeholders : q.chunks ≡ map placeholder (tsns q.chunks))
-    (rise : rise_beyond c 1 (tsns_from (following_tsn (following_tsn c)) (left - 1) ++ tsns q.chunks) ≡ true) where
-  pub run-split : tsns_from (following_tsn (following_tsn c)) (left - 1) ++ tsns q.chunks ≡ tsns_from (following_tsn (following_tsn c)) (left - 1 - 1)
-      ++ (c + left) % 2 ^ 32 ∷ tsns q.chunks
-  run-split =
-      let first = following_tsn (following_tsn c) in
-      let n : left - 1 ≡ suc (left - 1 - 1) = omega (arith, more) in
-      let e : (first + (left - 1 - 1)) % 2 ^ 32 ≡ (c + left) % 2 ^ 32 = omega (arith, more) in
-      ap (λ k. tsns_from first k ++ tsns q.chunks) n
-      ∙ ap (λ us. us ++ tsns q.chunks) (run-end first (left - 1 - 1) (omega arith) ∙ ap (λ u. tsns_from first (left - 1 - 1) ++ u ∷ []) e)
-      ∙ append_assoc (tsns_from first (left - 1 - 1)) ((c + left) % 2 ^ 32 ∷ []) (tsns q.chunks)
+pub highest-is : (c far : ℕ) (rs : List Run) (r : Run) → c < 2 ^ 32 → AreRuns c far rs → slice_get rs (length rs - 1) ≡ Some r
+    → unwrap_or (slice_get (tsns_of rs) (length (tsns_of rs) - 1)) c ≡ r.last
+highest-is c far rs r hc are e =
+    let k = length rs - 1 in
+    let inside = got-within rs k r e in
+    let none : drop (suc k) rs ≡ [] = drop_all (suc k) rs (omega arith) in
+    let whole : rs ≡ take k rs ++ r ∷ [] = split-at rs k r e ∙ ap (λ us. take k rs ++ r ∷ us) none in
+    let both = runs-split c far (take k rs) (r ∷ []) (subst (AreRuns c far) whole are) in
+    let us = tsns_of (take k rs) ++ tsns_from r.first (distance r.first r.last) in
+    let all : tsns_of rs ≡ us ++ r.last ∷ [] =
+    ap tsns_of whole ∙ tsns-append (take k rs) (r ∷ [])
+    ∙ ap (λ ws. tsns_of (take k rs) ++ ws) (append-nil (tsns_from r.first (suc (distance r.first r.last)))
+    ∙ run-end r.first (distance r.first r.last) both.1.0.first_fits
+    ∙ ap (λ u. tsns_from r.first (distance r.first r.last) ++ u ∷ []) (end-is r.first r.last both.1.0.first_fits both.1.0.last_fits))
+    ∙ sym (append_assoc (tsns_of (take k rs)) (tsns_from r.first (distance r.first r.last)) (r.last ∷ [])) in
+    let long = length-append us (r.last ∷ []) in
+    let place : length (us ++ r.last ∷ []) - 1 ≡ length us = omega (arith, long) in
+    ap (λ ts. unwrap_or (slice_get ts (length ts - 1)) c) all
+    ∙ ap (λ n. unwrap_or (slice_get (us ++ r.last ∷ []) n) c) place
+    ∙ ap (λ o. unwrap_or o c) (at-end us r.last)
 
-  stands : IsStep c 1 ((c + left) % 2 ^ 32) × (rise_beyond c (distance c ((c + left) % 2 ^ 32)) (tsns q.chunks) ≡ true)
-  stands = rise-behind c 1 (tsns_from (following_tsn (following_tsn c)) (left - 1 - 1)) ((c + left) % 2 ^ 32) (tsns q.chunks)
-      (ap (rise_beyond c 1) (sym run-split) ∙ rise)
+run-fits : (base far t n : ℕ) (ts : List ℕ) → base < 2 ^ 32 → rise_beyond base far (tsns_from t (suc n) ++ ts) ≡ true
+    → (distance base t + n < 2 ^ 31) × (rise_beyond base (distance base t + n) ts ≡ true)
+run-fits base far t zero ts hb h =
+    let s = step-of base far t ts h in
+    let same : distance base t ≡ distance base t + 0 = omega arith in
+    (let near = s.0.near in omega (arith, near), subst (λ k. rise_beyond base k ts ≡ true) same s.1)
+run-fits base far t (suc n) ts hb h =
+    let s = step-of base far t (tsns_from (following_tsn t) (suc n) ++ ts) h in
+    let near = s.0.near in
+    let one = next-far base t hb s.0.small (omega (arith, near)) in
+    let r = run-fits base (distance base t) (following_tsn t) n ts hb s.1 in
+    let same : distance base (following_tsn t) + n ≡ distance base t + suc n = omega (arith, one) in
+    (let first = r.0 in omega (arith, first, same), subst (λ k. rise_beyond base k ts ≡ true) same r.1)
 
-  pub back-window : IsWindow c q.chunks ((c + left) % 2 ^ 32)
-  back-window = window c ((c + left) % 2 ^ 32) q.chunks lt stands.0 (nearer c (distance c ((c + left) % 2 ^ 32)) 1 (tsns q.chunks)
-      (omega (arith, stands.0.farther)) stands.1)
+-- runs seen from an earlier base
+to-base : (base c far low : ℕ) (rs : List Run) → base < 2 ^ 32 → c < 2 ^ 32 → distance base c < 2 ^ 31 → AreRuns c far rs
+    → rise_beyond base low (tsns_of rs) ≡ true → AreRuns base (distance base c + far) rs
+to-base base c far low [] hb hc near are h = tt
+to-base base c far low (r ∷ rs) hb hc near are h =
+    let apart = are.0.apart in
+    let order = are.0.order in
+    let end = are.0.near in
+    let f = run-fits base low r.first (distance r.first r.last) (tsns_of rs) hb h in
+    let close = f.0 in
+    let sum = span c far r hc are.0 in
+    let first = distance_sum base c r.first hb hc are.0.first_fits (omega (arith, near, order, end)) in
+    let last = distance_sum base c r.last hb hc are.0.last_fits (omega (arith, near, end)) in (
+      record {
+        first_fits = are.0.first_fits;
+        last_fits = are.0.last_fits;
+        apart = omega (arith, apart, first);
+        order = omega (arith, order, first, last);
+        near = omega (arith, sum, first, last, close);
+      },
+      subst (λ k. AreRuns base k rs) last (to-base base c (distance c r.last) (distance base r.first + distance r.first r.last) rs hb hc near are.1 f.1),
+    )
 
-  pub back-new : Window.is_new q.chunks ((c + left) % 2 ^ 32) c ≡ true
-  back-new =
-      let t = (c + left) % 2 ^ 32 in
-      let after : at_or_before t c ≡ false = behind-it c c t lt lt stands.0.small stands.0.near (omega (arith, self-distance c lt, stands.0.farther)) in
-      let gone : list_any (λ u. u == t) (tsns q.chunks) ≡ false = absent-nearer c (distance c t) t (tsns q.chunks) (omega arith) stands.1 in
-      new-is q.chunks t c ∙ ap (λ b. not (b || list_any (λ u. u == t) (tsns q.chunks))) after ∙ ap not gone
+two-on : (c : ℕ) → c < 2 ^ 32 → distance c (following_tsn (following_tsn c)) ≡ 2
+unfolding distance
+two-on c lt = omega arith
 
-  module _ (now : Payload) (is : now ≡ push_chunk q (placeholder ((c + left) % 2 ^ 32))) where
-    put-chunks : now.chunks ≡ map placeholder ((c + left) % 2 ^ 32 ∷ tsns q.chunks)
-    put-chunks =
-        let t = (c + left) % 2 ^ 32 in
-        ap (λ (p : Payload). p.chunks) is
-        ∙ ap (insert_before chunk_before (placeholder t)) placeholders
-        ∙ placeholders-inserted t (tsns q.chunks)
-        ∙ ap (map placeholder) (in-front c t (tsns q.chunks) lt stands.0.small stands.1)
+far-next : (c : ℕ) → c < 2 ^ 32 → following_tsn (following_tsn c) ≡ (c + 2) % 2 ^ 32
+far-next c lt = omega arith
 
-    pub back-placeholders : now.chunks ≡ map placeholder (tsns now.chunks)
-    back-placeholders = as-placeholders now.chunks ((c + left) % 2 ^ 32 ∷ tsns q.chunks) put-chunks
+module _ (c last : ℕ) (rs : List Run) (hc : c < 2 ^ 32) (hl : last < 2 ^ 32) (are : AreRuns last 0 rs)
+    (rise : rise_beyond c 1 (passed c last ++ tsns_of rs) ≡ true) where
+  -- none was moved over
+  pub none-back : distance c last ≤ 1 → AreRuns c 0 rs
+  none-back le =
+      let none : distance c last - 1 ≡ 0 = omega (arith, le) in
+      let h : rise_beyond c 1 (tsns_of rs) ≡ true = ap (λ n. rise_beyond c 1 (tsns_from (following_tsn (following_tsn c)) n ++ tsns_of rs)) (sym none) ∙ rise in
+      runs-nearer c (distance c last + 0) 0 rs (omega arith) (to-base c last 0 1 rs hc hl (omega (arith, le)) are h)
 
-    pub back-same : tsns_from (following_tsn (following_tsn c)) (left - 1 - 1) ++ tsns now.chunks ≡ tsns_from (following_tsn (following_tsn c))
-        (left - 1) ++ tsns q.chunks
-    back-same = ap (λ us. tsns_from (following_tsn (following_tsn c)) (left - 1 - 1) ++ us)
-        (ap tsns put-chunks ∙ tsns-placeholder ((c + left) % 2 ^ 32 ∷ tsns q.chunks)) ∙ sym run-split
+  -- they are a run
+  module _ (more : 1 < distance c last) where
+    abbrev run : Run
+    run = record { first = (c + 2) % 2 ^ 32; last = last }
 
--- ## The filter as it was
+    first-far : distance c run.first ≡ 2
+    first-far = ap (distance c) (sym (far-next c hc)) ∙ two-on c hc
 
-module _ (c : ℕ) (q : Payload) (v : Filter) (view : filter_in c q ≡ v) (placeholders : q.chunks ≡ map placeholder (tsns q.chunks)) where
-  low-room : (room : ℕ) (mid last : Payload) → room ≤ mid.room → last ≡ record mid { room = min room mid.room } → last ≡ record mid { room = room }
-  low-room room mid last le limited = let e : min room mid.room ≡ room = omega (arith, le) in limited
-      ∙ ap (λ (n : ℕ). let p : Payload = record mid { room = n } in p) e
+    sum : distance c run.first + distance run.first last ≡ distance c last
+    sum = distance_rest c run.first last hc (omega arith) hl (omega (arith, first-far, more))
 
-  -- one beyond goes
-  module _ (t room : ℕ) (mid last : Payload) (is : mid ≡ record q { chunks = without t q.chunks; room = mid.room })
-      (places : length mid.chunks + mid.room ≡ length q.chunks + q.room) (limited : last ≡ record mid { room = min room mid.room })
-      (can : CanRetract (Beyond t room) v) where
-    out : tsns mid.chunks ≡ filter (λ u. not (u == t)) (tsns q.chunks)
-    out = ap (λ (p : Payload). tsns p.chunks) is ∙ tsns-without t q.chunks
+    pub back-tsns : tsns_of (run ∷ rs) ≡ passed c last ++ tsns_of rs
+    back-tsns =
+        let count : suc (distance run.first last) ≡ distance c last - 1 = omega (arith, sum, first-far, more) in
+        ap (λ n. tsns_from run.first n ++ tsns_of rs) count
+        ∙ ap (λ u. tsns_from u (distance c last - 1) ++ tsns_of rs) (sym (far-next c hc))
 
-    enough : room ≤ mid.room
-    enough =
-        let fits : room + length (filter (λ u. not (u == t)) (tsns q.chunks)) ≤ q.room + length (tsns q.chunks) = subst
-        (λ (f : Filter). room + length (filter (λ u. not (u == t)) f.beyond) ≤ f.room + length f.beyond) (sym view) can.places in
-        let a = length-map mid.chunks (λ (x : ChunkPayloadData). x.tsn) in
-        let b = length-map q.chunks (λ (x : ChunkPayloadData). x.tsn) in
-        let n = ap (λ (us : List ℕ). length us) out in
-        omega (arith, fits, a, b, n, places)
+    pub back-runs : AreRuns c 0 (run ∷ rs)
+    back-runs =
+        let f = run-fits c 1 run.first (distance run.first last) (tsns_of rs) hc (ap (rise_beyond c 1) back-tsns ∙ rise) in
+        let close = f.0 in
+        let end : distance c last < 2 ^ 31 = omega (arith, close, sum) in
+        let same : distance c last + 0 ≡ distance c last = omega arith in (
+          record {
+            first_fits = omega arith;
+            last_fits = hl;
+            apart = omega (arith, first-far);
+            order = omega (arith, first-far, more);
+            near = end;
+          },
+          subst (λ k. AreRuns c k rs) same (to-base c last 0 (distance c run.first + distance run.first last) rs hc hl end are f.1),
+        )
 
-    pub gone-is : filter_in c last ≡ retracted (Beyond t room) v
-    gone-is =
-        ap (filter_in c) (low-room room mid last enough limited)
-        ∙ ap (λ (d : List ℕ). let f : Filter = record { cumulative_tsn = c; beyond = tsns mid.chunks; duplicates = d; room = room } in f)
-        (ap (λ (p : Payload). p.duplicates) is)
-        ∙ ap (λ (us : List ℕ). let f : Filter = record { cumulative_tsn = c; beyond = us; duplicates = q.duplicates; room = room } in f) out
-        ∙ ap (retracted (Beyond t room)) view
-
-    pub gone-placeholders : last.chunks ≡ map placeholder (tsns last.chunks)
-    gone-placeholders = as-placeholders last.chunks (filter (λ u. not (u == t)) (tsns q.chunks))
-        (ap (λ (p : Payload). p.chunks) limited ∙ ap (λ (p : Payload). p.chunks) is ∙ ap (without t) placeholders ∙ placeholders-without t (tsns q.chunks))
-
-    pub gone-rise : rise_beyond c 1 (tsns last.chunks) ≡ true
-    gone-rise = ap (λ (f : Filter). rise_beyond f.cumulative_tsn 1 f.beyond) gone-is ∙ can.rise
-
-  -- the cumulative TSN goes back
-  module _ (n room : ℕ) (can : CanRetract (Next n room) v) where
-    pub back-rise : rise_beyond n 1 (passed n c ++ tsns q.chunks) ≡ true
-    back-rise = subst (λ (f : Filter). rise_beyond n 1 (passed n f.cumulative_tsn ++ f.beyond) ≡ true) (sym view) can.rise
-
-    fits : room + (distance n c - 1) ≤ q.room
-    fits =
-        let p : room + length (passed n c ++ tsns q.chunks) ≤ q.room + length (tsns q.chunks) = subst
-        (λ (f : Filter). room + length (passed n f.cumulative_tsn ++ f.beyond) ≤ f.room + length f.beyond) (sym view) can.places in
-        let a = length-append (passed n c) (tsns q.chunks) in
-        let b = length-run (following_tsn (following_tsn n)) (distance n c - 1) in
-        omega (arith, p, a, b)
-
-    pub back-room : distance n c - 1 ≤ q.room
-    back-room = omega (arith, fits)
-
-    module _ (mid last : Payload) (back : mid.chunks ≡ map placeholder (passed n c ++ tsns q.chunks))
-        (rest : mid ≡ record q { chunks = mid.chunks; room = q.room - (distance n c - 1) }) (limited : last ≡ record mid { room = min room mid.room })
-      where
-        enough-left : room ≤ mid.room
-        enough-left = let e = ap (λ (p : Payload). p.room) rest in omega (arith, fits, e)
-
-        last-chunks : last.chunks ≡ map placeholder (passed n c ++ tsns q.chunks)
-        last-chunks = ap (λ (p : Payload). p.chunks) limited ∙ back
-
-        pub next-is-back : filter_in n last ≡ retracted (Next n room) v
-        next-is-back =
-            ap (filter_in n) (low-room room mid last enough-left limited)
-            ∙ ap (λ (d : List ℕ). let f : Filter = record { cumulative_tsn = n; beyond = tsns mid.chunks; duplicates = d; room = room } in f)
-            (ap (λ (p : Payload). p.duplicates) rest)
-            ∙ ap (λ (us : List ℕ). let f : Filter = record { cumulative_tsn = n; beyond = us; duplicates = q.duplicates; room = room } in f)
-            (ap tsns back ∙ tsns-placeholder (passed n c ++ tsns q.chunks))
-            ∙ ap (retracted (Next n room)) view
-
-        pub next-placeholders : last.chunks ≡ map placeholder (tsns last.chunks)
-        next-placeholders = as-placeholders last.chunks (passed n c ++ tsns q.chunks) last-chunks
-
-        pub next-rise : rise_beyond n 1 (tsns last.chunks) ≡ true
-        next-rise = ap (rise_beyond n 1) (ap tsns last-chunks ∙ tsns-placeholder (passed n c ++ tsns q.chunks)) ∙ back-rise
+    pub back-room : (room : ℕ) → count_of_runs c (passed c last ++ tsns_of rs) ≤ room → length rs < room
+    back-room room le =
+        let a = ap (count_of_runs c) back-tsns in
+        let b = run-count c (run ∷ rs) hc back-runs in
+        omega (arith, a, b, le)

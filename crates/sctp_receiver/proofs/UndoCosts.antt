@@ -2,7 +2,6 @@
 use Rattle.std.proofs.Common.{◌≡◌, ℕ, suc, ◌+◌, ◌-◌, ◌*◌, ◌^◌, ◌≤◌, List, [], ◌∷◌, ◌++◌, take, Option, Some, None, refl, ap, sym, ◌∙◌, subst, arith}
 use Rattle.std.proofs.Common.{Result, Ok, Err}
 use Rattle.std.specs.Prelude.{slice_get, OnErr}
-use Rattle.std.proofs.Math.Nat.{suc-mul}
 use Rattle.sctp_data.specs.declared.chunk.chunk_payload_data.ChunkPayloadData.{ChunkPayloadData}
 use Rattle.sctp_reassembly.specs.reassembly_queue.Orders.{digits}
 use Rattle.sctp_reassembly.proofs.lemmas.reassembly_queue.Digits.{within_digits}
@@ -20,19 +19,6 @@ use Rattle.sctp_receiver.proofs.Undone.{undone-last}
 -- a look-up among so many takes no more than one among more
 pub few-digits : (m n s : ℕ) → m ≤ n → 2 ^ s ≤ 2 * m + 1 → s ≤ digits n
 few-digits m n s le h = within_digits n s (omega (arith, h, le))
-
--- one more, which costs k
-pub one-more : (a b k first before after : ℕ) → b ≡ suc a → before ≤ first + a * k → after ≤ before + k → after ≤ first + b * k
-one-more a b k first before after e le more =
-    let m : b * k ≡ a * k + k = ap (λ n. n * k) e ∙ suc-mul a k in
-    omega (arith, m, le, more)
-
--- so many are put back in front of others
-pub put-back-cost : (now was back held before after : ℕ) → now ≡ back + held → was ≡ held → after ≤ before + back * (digits (back + held) + 1)
-    → after ≤ before + (now - was) * (digits now + 1)
-put-back-cost now was back held before after e f h =
-    let d : back + held - was ≡ back = omega (arith, f) in
-    subst (λ n. after ≤ before + (n - was) * (digits n + 1)) (sym e) (subst (λ k. after ≤ before + k * (digits (back + held) + 1)) (sym d) h)
 
 -- ## Several chunks
 

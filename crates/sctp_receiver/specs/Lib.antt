@@ -1,4 +1,5 @@
 pub mod TsnFilter
+pub mod TsnRuns
 pub mod Inbound
 pub mod Noted
 pub mod Receiver

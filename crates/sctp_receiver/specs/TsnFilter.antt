@@ -12,7 +12,7 @@ use Rattle.sctp_outbound.specs.payload_queue.Blocks.{is_offset}
 use Rattle.sctp_serial.specs.DataChunks.{following_tsn}
 
 -- all came up to the cumulative TSN; these came beyond it, in serial order; these came again since the last SACK;
--- and so many more beyond take no memory
+-- and so many runs of those beyond take no memory
 pub record Filter : Type 0 where
   pub cumulative_tsn : ℕ
   pub beyond : List ℕ
@@ -50,10 +50,6 @@ with_duplicate tsn f = record f { duplicates = f.duplicates ++ tsn ∷ [] }
 -- all up to a later TSN counts as come
 abbrev pub skipped_to : ℕ → Filter → Filter
 skipped_to tsn f = with_seen (advance_over tsn (filter (λ t. not (at_or_before t tsn)) f.beyond)) f
-
--- whether a new TSN takes no memory
-abbrev pub has_room : ℕ → Filter → Bool
-has_room tsn f = (tsn == following_tsn f.cumulative_tsn) || nat_lt 0 f.room
 
 -- ## What a SACK says of it
 

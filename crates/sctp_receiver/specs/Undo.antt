@@ -14,16 +14,12 @@ use Rattle.sctp_receiver.specs.declared.receiver.intake.Rules.{Rules}
 use Rattle.sctp_receiver.specs.Inbound.{numbers_of, has_number, with_queue}
 use Rattle.sctp_receiver.specs.Receiver.{Reception}
 use Rattle.sctp_receiver.specs.TsnFilter.{Filter, rise_beyond}
+use Rattle.sctp_receiver.specs.TsnRuns.{count_of_runs, tsns_from}
 use Rattle.sctp_reassembly.specs.declared.reassembly_queue.undo.PushUndo.{PushUndo}
 use Rattle.sctp_reassembly.specs.reassembly_queue.Undo.{undone, CanUndo}
 use Rattle.sctp_stream.specs.Numbers.{IsOnlyPlace}
 
 -- ## TSNs
-
--- so many TSNs, one after another, from this one on
-abbrev pub tsns_from : ℕ → ℕ → List ℕ
-tsns_from tsn zero = []
-tsns_from tsn (suc n) = tsn ∷ tsns_from (following_tsn tsn) n
 
 -- from the second one after a TSN on, up to a later one: the cumulative TSN moved over them when the first one came
 abbrev pub passed : ℕ → ℕ → List ℕ
@@ -49,7 +45,9 @@ retracted (Next cumulative room) f =
 pub record CanRetract (u : FilterUndo) (f : Filter) : Type 0 where
   pub in_range : (retracted u f).cumulative_tsn < 2 ^ 32
   pub rise : rise_beyond (retracted u f).cumulative_tsn 1 (retracted u f).beyond ≡ true
-  pub places : (retracted u f).room + length (retracted u f).beyond ≤ f.room + length f.beyond
+  pub places : count_of_runs (retracted u f).cumulative_tsn (retracted u f).beyond
+      ≤ (retracted u f).room
+  pub room : (retracted u f).room ≤ f.room
 
 -- ## Streams
 

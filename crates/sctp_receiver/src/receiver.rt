@@ -25,7 +25,6 @@ use self::limits::Limits;
 use self::refusal::ReceiverRefusal;
 use self::tsn_filter::TsnFilter;
 use sctp_data::chunk::chunk_payload_data::{ChunkPayloadData, PayloadProtocolIdentifier};
-use sctp_outbound::payload_queue::PayloadQueue;
 use sctp_reassembly::chunks::Chunks;
 use sctp_reassembly::reassembly_queue::ReassemblyQueue;
 use sctp_serial::turns::Turns;
@@ -67,7 +66,7 @@ impl Receiver {
     ghost use Rattle.sctp_reassembly.specs.reassembly_queue.ReassemblyQueue.{at_start};
     ghost use Rattle.sctp_receiver.specs.Costs.{IsWithinData};
     ghost use Rattle.sctp_receiver.specs.Ssns.{is_kept_on};
-    ghost use Rattle.sctp_receiver.specs.TsnFilter.{has_come, placeholder};
+    ghost use Rattle.sctp_receiver.specs.TsnFilter.{has_come};
     ghost use Rattle.sctp_serial.specs.DataChunks.{bytes_of};
     ghost use Rattle.sctp_receiver.specs.Receiver.{at_first, filter_of, stream_of, is_open, open_stream, close_stream, arrival_refusal, refusal_for, IsRefusedFor, takes_memory, arrival_of, is_answered_complete, Takes, discard_refusal, after_discard, discard_takes_memory, message_on, readable_streams, after_read};
 
@@ -186,7 +185,7 @@ impl Receiver {
         ensures err { OnErr result (self.new ≡ self.old) }
     {
         if self.filter.has_come(tsn) {
-            note_repeat(&mut self.filter, self.limits, tsn, &mut Turns::new())?;
+            note_repeat(&mut self.filter, self.limits, tsn)?;
             return Ok(Arrival::Repeat);
         }
         if self.filter.is_opposite(tsn) {
@@ -195,8 +194,7 @@ impl Receiver {
         if let Some(refusal) = self.new_refusal(tsn) {
             return Err(refusal);
         }
-        self.filter.reserve_for(tsn)?;
-        self.filter.accept(tsn);
+        self.filter.accept(tsn, &mut Turns::new())?;
         Ok(Arrival::New { complete: false })
     }
 
@@ -267,15 +265,7 @@ impl Receiver {
     pub fn has_gaps(&self) -> bool
         ensures { result ≡ not (length self.now.beyond == 0) }
     {
-        !self.filter.queue().is_empty()
-    }
-
-    // The TSNs that came beyond the cumulative one, each as a chunk that says nothing else, and those that came again since the last SACK.
-    pub(crate) fn filter(&self) -> &PayloadQueue
-        ensures beyond { result.now.chunks ≡ map placeholder self.now.beyond }
-        ensures duplicates { result.now.duplicates ≡ self.now.duplicates }
-    {
-        self.filter.queue()
+        self.filter.has_gaps()
     }
 
     // What came on a stream and was not read; None where it is not open.

@@ -1,11 +1,10 @@
 //! What a replay of a record does with a receiver beside its own calls: it tests nothing that the record does not answer for, and looks
 //! at what the receiver holds.
 
-ghost use Rattle.std.specs.Prelude.{◌≡◌, ◌⊎◌, ◌+◌, ◌≤◌, None, Some, OnOk, OnErr, IfOk, IfErr, IsOk, length, map, option_copied, option_map};
+ghost use Rattle.std.specs.Prelude.{◌≡◌, ◌⊎◌, ◌+◌, ◌≤◌, None, Some, OnOk, OnErr, IfOk, IfErr, IsOk, length, option_copied, option_map};
 ghost use Rattle.sctp_data.specs.ForwardTsn.{forward_tsn_of};
 ghost use Rattle.sctp_data.specs.SelectiveAck.{sack_of};
 ghost use Rattle.sctp_receiver.specs.Receiver.{TakesEachBy, StopsAtBy, data_refusal, stream_of, sack, forward_refusal, forwarded_of, after_forward};
-ghost use Rattle.sctp_receiver.specs.TsnFilter.{placeholder};
 ghost use Rattle.sctp_receiver.specs.declared.receiver.refusal.ReceiverRefusal.TheVariants.{OutOfMemory};
 
 use crate::receiver::Receiver;
@@ -16,7 +15,6 @@ use crate::receiver::sack_out::MAX_SACK_ENTRIES;
 use sctp_data::chunk::chunk_forward_tsn::ChunkForwardTsn;
 use sctp_data::chunk::chunk_payload_data::ChunkPayloadData;
 use sctp_data::chunk::chunk_selective_ack::ChunkSelectiveAck;
-use sctp_outbound::payload_queue::PayloadQueue;
 use sctp_reassembly::reassembly_queue::ReassemblyQueue;
 use sctp_serial::turns::Turns;
 
@@ -63,14 +61,6 @@ pub fn make_sack(receiver: &Receiver, credit: u32) -> Result<ChunkSelectiveAck, 
     ensures memory { IfErr result (λ e. e ≡ OutOfMemory) }
 {
     receiver.sack_of_entries(credit, MAX_SACK_ENTRIES, &mut Turns::new())
-}
-
-/// The TSNs that came beyond the cumulative one, each as a chunk that says nothing else, and those that came again since the last SACK.
-pub fn filter(receiver: &Receiver) -> &PayloadQueue
-    ensures beyond { result.now.chunks ≡ map placeholder receiver.now.beyond }
-    ensures duplicates { result.now.duplicates ≡ receiver.now.duplicates }
-{
-    receiver.filter()
 }
 
 /// What came on a stream and was not read; None where it is not open.

@@ -122,7 +122,7 @@ fn take_any_ssn(
         (turns.new - turns.old + digits (length filter.old.beyond) + 2) }
 {
     if filter.has_come_counted(chunk.tsn, turns) {
-        let noted = note_repeat(filter, rules.limits, chunk.tsn, turns)?;
+        let noted = note_repeat(filter, rules.limits, chunk.tsn)?;
         return Ok((Arrival::Repeat, ChunkUndo::Repeat { noted }));
     }
     if filter.is_opposite(chunk.tsn) {
@@ -155,14 +155,11 @@ fn take_any_ssn(
 
 // A TSN comes again: it is noted, unless the limits are there and as many duplicates are noted as a SACK can report. Answers whether it
 // was noted. Where it is not it takes no memory.
-// Precondition: it came.
 pub(crate) fn note_repeat(
     filter: &mut TsnFilter,
     limits: Option<Limits>,
     tsn: u32,
-    turns: &mut Turns,
 ) -> Result<bool, ReceiverRefusal>
-    requires { has_come tsn filter.old ≡ true }
     ensures ok { OnOk result (filter.new ≡ record filter.old {
       duplicates = noted_by limits tsn filter.old.duplicates;
     }) }
@@ -170,13 +167,11 @@ pub(crate) fn note_repeat(
     ensures refused { IfErr result (λ e. (e ≡ OutOfMemory)
         × (is_full_by limits filter.old.duplicates ≡ false)) }
     ensures err { OnErr result (filter.new ≡ filter.old) }
-    ensures not_back { turns.old ≤ turns.new }
-    ensures cost { turns.new ≤ turns.old + digits (length filter.old.beyond) + 1 }
 {
     if is_full_by(limits, filter) {
         return Ok(false);
     }
-    filter.record_duplicate_counted(tsn, turns)?;
+    filter.record_duplicate(tsn)?;
     Ok(true)
 }
 
@@ -185,7 +180,7 @@ fn is_full_by(limits: Option<Limits>, filter: &TsnFilter) -> bool
     ensures { result ≡ is_full_by limits filter.now.duplicates }
 {
     match limits {
-        Some(_) => filter.queue().duplicates().len() >= MAX_SACK_ENTRIES,
+        Some(_) => filter.duplicates().len() >= MAX_SACK_ENTRIES,
         None => false,
     }
 }

@@ -136,7 +136,7 @@ impl Receiver {
         let gap_ack_blocks = self
             .filter
             .gap_ack_blocks_within_counted(self.alloc, entries, turns)?;
-        let duplicates = self.filter.queue().duplicates();
+        let duplicates = self.filter.duplicates();
         let count = duplicates.len().min(entries - gap_ack_blocks.len());
         let mut duplicate_tsn = Vec::new(self.alloc);
         if duplicate_tsn

@@ -1,62 +1,63 @@
 //! The TSNs that came (RFC 4960 6.2).
 
-ghost use Rattle.std.specs.Prelude.{◌≡◌, ◌==◌, ◌<◌, ◌≤◌, ◌+◌, ◌-◌, ◌^◌, ◌∷◌, ◌++◌, [], ℕ, true, false, OnOk, OnErr, IfOk, IsOkUnless, length, map, drop, take, slice_get, min, IsTrue};
+ghost use Rattle.std.specs.Prelude.{◌≡◌, ◌==◌, ◌<◌, ◌≤◌, ◌+◌, ◌-◌, ◌^◌, ◌∷◌, ◌++◌, [], ℕ, true, false, not, OnOk, OnErr, IfOk, IsOkUnless, length, map, drop, take, slice_get, min, IsTrue};
 ghost use Rattle.sctp_util.specs.declared.error.Error.TheVariants.{ErrOutOfMemory};
-ghost use Rattle.sctp_util.specs.Lists.{advance_over};
 ghost use Rattle.sctp_util.specs.Serial.{comes_before};
-ghost use Rattle.sctp_reassembly.specs.reassembly_queue.Orders.{digits};
 ghost use Rattle.sctp_receiver.specs.Costs.{IsWithinBlocks};
-ghost use Rattle.sctp_receiver.specs.TsnFilter.{placeholder, rise_beyond};
-ghost use Rattle.sctp_serial.specs.DataChunks.{following_tsn, preceding_tsn, tsns};
+ghost use Rattle.sctp_receiver.specs.TsnFilter.{rise_beyond};
+ghost use Rattle.sctp_serial.specs.DataChunks.{preceding_tsn};
 ghost use Rattle.sctp_serial.specs.Turns.{IsWithinDigits};
 
+mod runs;
 pub mod undo;
 
-use bytes::Bytes;
-use sctp_data::chunk::chunk_payload_data::{ChunkPayloadData, PayloadProtocolIdentifier};
+use self::runs::{Run, contains, gap_ack_blocks, pass};
 use sctp_data::chunk::chunk_selective_ack::GapAckBlock;
-use sctp_outbound::payload_queue::PayloadQueue;
 use sctp_serial::serial::distance;
 use sctp_serial::turns::Turns;
 use sctp_util::error::Result;
 use sctp_util::util::sna32lte;
 use std::alloc::Global;
+use std::collections::VecDeque;
 use std::marker::Model;
+use std::mem;
 
-/// Which TSNs came: all up to the cumulative one, and those that the queue holds beyond it (RFC 4960 6.2); and which
-/// of them came again since the last SACK. It keeps of a chunk its TSN alone, and of those that the cumulative TSN
-/// passed nothing.
+/// Which TSNs came: all up to the cumulative one, and those beyond it, as runs of 8 bytes (RFC 4960 6.2); and which of them came again
+/// since the last SACK. Of those that the cumulative TSN passed it keeps nothing.
 #[derive(Drop)]
 pub struct TsnFilter {
-    queue: PayloadQueue,
+    runs: VecDeque<Run>,
+    // for how many runs there is memory, at least
+    room: usize,
+    duplicates: Vec<u32>,
     cumulative_tsn: u32,
 }
 
 impl Model for TsnFilter {
-    ghost use Rattle.std.specs.Prelude.{◌≡◌, ◌<◌, ◌^◌, true, map};
-    ghost use Rattle.sctp_serial.specs.DataChunks.{tsns};
-    ghost use Rattle.sctp_receiver.specs.TsnFilter.{Filter, placeholder, rise_beyond};
+    ghost use Rattle.std.specs.Prelude.{◌<◌, ◌≤◌, ◌^◌, length};
+    ghost use Rattle.std.specs.VecDeque.{deque_capacity};
+    ghost use Rattle.sctp_receiver.specs.TsnFilter.{Filter};
+    ghost use Rattle.sctp_receiver.specs.TsnRuns.{AreRuns, tsns_of};
 
     ghost Value = { Filter };
 
     ghost view = { λ f. record {
       cumulative_tsn = f.cumulative_tsn;
-      beyond = tsns f.queue.chunks;
-      duplicates = f.queue.duplicates;
-      room = f.queue.room;
+      beyond = tsns_of f.runs.items;
+      duplicates = f.duplicates.items;
+      room = f.room;
     } };
 
     ghost invariant = { λ f. record {
       in_range : f.cumulative_tsn < 2 ^ 32;
-      placeholders : f.queue.chunks
-          ≡ map placeholder (tsns f.queue.chunks);
-      rise : rise_beyond f.cumulative_tsn 1
-          (tsns f.queue.chunks) ≡ true;
+      runs : AreRuns f.cumulative_tsn 0 f.runs.items;
+      places : length f.runs.items ≤ f.room;
+      capacity : f.room ≤ deque_capacity f.runs;
     } };
 }
 
 impl TsnFilter {
-    ghost use Rattle.sctp_receiver.specs.TsnFilter.{has_come, is_opposite, highest_tsn, with_tsn, with_duplicate, skipped_to, has_room, gap_ack_blocks};
+    ghost use Rattle.sctp_receiver.specs.TsnFilter.{has_come, is_opposite, highest_tsn, with_duplicate, skipped_to, gap_ack_blocks};
 
     /// Nothing came: the first TSN is expected next. It takes no memory.
     pub(crate) fn new(alloc: Global, first_tsn: u32) -> Self
@@ -68,7 +69,9 @@ impl TsnFilter {
         } }
     {
         TsnFilter {
-            queue: PayloadQueue::new(alloc),
+            runs: VecDeque::new(alloc),
+            room: 0,
+            duplicates: Vec::new(alloc),
             cumulative_tsn: first_tsn.wrapping_sub(1),
         }
     }
@@ -80,12 +83,18 @@ impl TsnFilter {
         self.cumulative_tsn
     }
 
-    /// The TSNs beyond, each as a chunk that says nothing else, and those that came again.
-    pub(crate) fn queue(&self) -> &PayloadQueue
-        ensures beyond { result.now.chunks ≡ map placeholder self.now.beyond }
-        ensures duplicates { result.now.duplicates ≡ self.now.duplicates }
+    /// Whether a TSN came beyond the cumulative one.
+    pub(crate) fn has_gaps(&self) -> bool
+        ensures { result ≡ not (length self.now.beyond == 0) }
     {
-        &self.queue
+        !self.runs.is_empty()
+    }
+
+    /// The TSNs that came again, oldest first.
+    pub(crate) fn duplicates(&self) -> &[u32]
+        ensures { result.now ≡ self.now.duplicates }
+    {
+        &self.duplicates
     }
 
     /// Whether a TSN came. For the one that is expected next nothing is looked up.
@@ -104,7 +113,7 @@ impl TsnFilter {
         if tsn == self.cumulative_tsn.wrapping_add(1) {
             return false;
         }
-        sna32lte(tsn, self.cumulative_tsn) || self.queue.get_counted(tsn, turns).is_some()
+        sna32lte(tsn, self.cumulative_tsn) || contains(&self.runs, self.cumulative_tsn, tsn, turns)
     }
 
     /// Whether a TSN is neither before nor after the cumulative one.
@@ -121,78 +130,23 @@ impl TsnFilter {
     pub(crate) fn highest_tsn(&self) -> u32
         ensures { result ≡ highest_tsn self.now }
     {
-        match self.queue.get_last_tsn_received() {
-            Some(tsn) => tsn,
+        match self.runs.back() {
+            Some(run) => run.last,
             None => self.cumulative_tsn,
         }
     }
 
-    /// Makes room for a new TSN: the one that is expected next needs none. Refuses only for memory.
-    pub(crate) fn reserve_for(&mut self, tsn: u32) -> Result<()>
-        ensures room { OnOk result (has_room tsn self.new ≡ true) }
-        ensures rest { self.new ≡ record self.old { room = self.new.room } }
-        ensures more { self.old.room ≤ self.new.room }
-        ensures err { OnErr result (self.new ≡ self.old) }
-        ensures wants { OnErr result
-            ((tsn == following_tsn self.old.cumulative_tsn) ≡ false) }
-        ensures memory { IsOkUnless result ErrOutOfMemory }
-    {
-        if tsn == self.cumulative_tsn.wrapping_add(1) {
-            return Ok(());
-        }
-        self.queue.reserve(1)
-    }
-
-    /// A new TSN comes. The one that is expected next is put nowhere: the cumulative TSN moves over it, and over
-    /// all that stand next to it, whose places are room then. It takes no memory.
-    /// Precondition: it did not come (`has_come`), is not opposite to the cumulative one (`is_opposite`), and there is
-    /// room for it (`reserve_for`).
-    pub(crate) fn accept(&mut self, tsn: u32)
-        requires new { has_come tsn self.old ≡ false }
-        requires near { is_opposite tsn self.old ≡ false }
-        requires room { has_room tsn self.old ≡ true }
-        ensures value { self.new ≡ record (with_tsn tsn self.old) { room = self.new.room } }
-        ensures places { self.new.room + length self.new.beyond
-            ≡ self.old.room + length self.old.beyond }
-    {
-        self.accept_counted(tsn, &mut Turns::new());
-    }
-
-    /// The same, and its turns are added: as many as TSNs beyond leave, and else at most one more than their number has binary digits.
-    pub(crate) fn accept_counted(&mut self, tsn: u32, turns: &mut Turns)
-        requires new { has_come tsn self.old ≡ false }
-        requires near { is_opposite tsn self.old ≡ false }
-        requires room { has_room tsn self.old ≡ true }
-        ensures value { self.new ≡ record (with_tsn tsn self.old) { room = self.new.room } }
-        ensures places { self.new.room + length self.new.beyond
-            ≡ self.old.room + length self.old.beyond }
-        ensures not_back { turns.old ≤ turns.new }
-        ensures cost { turns.new ≤ turns.old + digits (length self.old.beyond)
-            + (length self.old.beyond - length self.new.beyond) + 1 }
-    {
-        if tsn == self.cumulative_tsn.wrapping_add(1) {
-            self.cumulative_tsn = advance(&mut self.queue, tsn, turns);
-            return;
-        }
-        let from = self.cumulative_tsn;
-        let _ = self.queue.push_counted(placeholder(tsn), from, turns);
-    }
-
-    /// The same, and its turns are added: at most one more than the number of TSNs beyond has binary digits.
-    pub(crate) fn record_duplicate_counted(&mut self, tsn: u32, turns: &mut Turns) -> Result<()>
-        requires { has_come tsn self.old ≡ true }
+    /// Notes a TSN that came again.
+    pub(crate) fn record_duplicate(&mut self, tsn: u32) -> Result<()>
         ensures ok { OnOk result (self.new ≡ with_duplicate tsn self.old) }
         ensures err { OnErr result (self.new ≡ self.old) }
         ensures memory { IsOkUnless result ErrOutOfMemory }
-        ensures not_back { turns.old ≤ turns.new }
-        ensures cost { turns.new ≤ turns.old + digits (length self.old.beyond) + 1 }
     {
-        let from = self.cumulative_tsn;
-        self.queue.push_counted(placeholder(tsn), from, turns)?;
+        self.duplicates.push(tsn)?;
         Ok(())
     }
 
-    /// The same, and its turns are added: at most one more than TSNs beyond leave.
+    /// All up to a later TSN counts as come. Its turns are added: at most one more than TSNs beyond leave.
     pub(crate) fn skip_to_counted(&mut self, tsn: u32, turns: &mut Turns)
         requires { comes_before self.old.cumulative_tsn tsn ≡ true }
         ensures value { self.new ≡ skipped_to tsn self.old }
@@ -200,14 +154,12 @@ impl TsnFilter {
         ensures cost { turns.new + length self.new.beyond
             ≤ turns.old + length self.old.beyond + 1 }
     {
-        let room = self.queue.room();
-        self.queue.pop_up_to_counted(tsn, turns);
-        self.cumulative_tsn = advance(&mut self.queue, tsn, turns);
-        self.queue.limit_room(room);
+        let from = self.cumulative_tsn;
+        self.cumulative_tsn = pass(&mut self.runs, from, tsn, turns);
     }
 
-    /// The same, and its turns are added: at most 34 for each block, one more, and as many as the number of TSNs beyond has binary
-    /// digits; where memory runs out, for each block that there would be else.
+    /// The first gap ack blocks, so many at most. Its turns are added: at most 34 for each block, one more, and as many as the number of
+    /// TSNs beyond has binary digits; where memory runs out, for each block that there would be else.
     pub(crate) fn gap_ack_blocks_within_counted(
         &self,
         alloc: Global,
@@ -223,18 +175,15 @@ impl TsnFilter {
         ensures cost_of_blocks { IsWithinBlocks (min most (length (gap_ack_blocks self.now)))
             (length self.now.beyond) (turns.new - turns.old) }
     {
-        let from = self.cumulative_tsn;
-        let blocks = self
-            .queue
-            .get_gap_ack_blocks_within(alloc, from, most, turns)?;
-        Ok(blocks)
+        gap_ack_blocks(alloc, &self.runs, self.cumulative_tsn, most, turns)
     }
 
     /// So many of the TSNs that came again are forgotten, those that came first. It takes no memory.
     pub(crate) fn forget_duplicates(&mut self, count: usize)
         ensures { self.new ≡ record self.old { duplicates = drop count self.old.duplicates } }
     {
-        self.queue.forget_duplicates(count);
+        let end = count.min(self.duplicates.len());
+        self.duplicates.drain(..end);
     }
 
     /// The TSNs that came again, which are forgotten. It takes no memory.
@@ -242,54 +191,6 @@ impl TsnFilter {
         ensures taken { result.items ≡ self.old.duplicates }
         ensures rest { self.new ≡ record self.old { duplicates = [] } }
     {
-        self.queue.pop_duplicates(alloc)
+        mem::replace(&mut self.duplicates, Vec::new(alloc))
     }
-}
-
-// A chunk that says its TSN and nothing else.
-fn placeholder(tsn: u32) -> ChunkPayloadData
-    ensures { result ≡ placeholder tsn }
-{
-    ChunkPayloadData {
-        unordered: false,
-        beginning_fragment: false,
-        ending_fragment: false,
-        immediate_sack: false,
-        tsn,
-        stream_identifier: 0,
-        stream_sequence_number: 0,
-        payload_type: PayloadProtocolIdentifier::Unknown,
-        user_data: Bytes::new(),
-        acked: false,
-        miss_indicator: 0,
-        message_id: 0,
-        abandoned: false,
-        since: None,
-        reliability: None,
-        deadline: None,
-        nsent: 0,
-        retransmit: false,
-    }
-}
-
-// Moves the cumulative TSN over the chunks that stand next to it, which leave the queue (RFC 4960 6.2): their places are room then. A
-// turn is taken for each that leaves.
-fn advance(queue: &mut PayloadQueue, cumulative_tsn: u32, turns: &mut Turns) -> u32
-    ensures moved { advance_over cumulative_tsn (tsns queue.old.chunks)
-        ≡ record { cum = result; held = tsns queue.new.chunks } }
-    ensures placeholders { queue.old.chunks ≡ map placeholder (tsns queue.old.chunks)
-        → queue.new.chunks ≡ map placeholder (tsns queue.new.chunks) }
-    ensures rest { queue.new
-        ≡ record queue.old { chunks = queue.new.chunks; room = queue.new.room } }
-    ensures places { length queue.new.chunks + queue.new.room
-        ≡ length queue.old.chunks + queue.old.room }
-    ensures cost { turns.new + length queue.new.chunks ≡ turns.old + length queue.old.chunks }
-    ensures not_back { turns.old ≤ turns.new }
-{
-    let mut cumulative_tsn = cumulative_tsn;
-    while let Some(_) = queue.pop_leaving_room(cumulative_tsn.wrapping_add(1)) {
-        turns.tick();
-        cumulative_tsn = cumulative_tsn.wrapping_add(1);
-    }
-    cumulative_tsn
 }

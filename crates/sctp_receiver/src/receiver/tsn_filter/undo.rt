@@ -1,24 +1,27 @@
 //! A TSN that came is taken back.
 
-ghost use Rattle.std.specs.Prelude.{◌≡◌, ◌<◌, ◌≤◌, ◌+◌, ◌-◌, ◌*◌, ◌^◌, ◌++◌, true, false, OnOk, OnErr, IfOk, IsOkUnless, length, map, take};
+ghost use Rattle.std.specs.Prelude.{◌≡◌, ◌==◌, ◌<◌, ◌≤◌, ◌+◌, ◌-◌, ◌*◌, ◌^◌, ◌++◌, true, false, OnOk, OnErr, IfOk, IsOkUnless, length, take};
+ghost use Rattle.std.specs.VecDeque.{deque_capacity};
 ghost use Rattle.sctp_util.specs.declared.error.Error.TheVariants.{ErrOutOfMemory};
 ghost use Rattle.sctp_reassembly.specs.reassembly_queue.Orders.{digits};
-ghost use Rattle.sctp_receiver.specs.TsnFilter.{placeholder, rise_beyond};
-ghost use Rattle.sctp_receiver.specs.Undo.{tsns_from, undo_of};
-ghost use Rattle.sctp_serial.specs.DataChunks.{following_tsn, tsns};
+ghost use Rattle.sctp_receiver.specs.TsnFilter.{rise_beyond};
+ghost use Rattle.sctp_receiver.specs.TsnRuns.{AreRuns, count_of_runs, tsns_of};
+ghost use Rattle.sctp_receiver.specs.Undo.{passed, undo_of};
+ghost use Rattle.sctp_serial.specs.DataChunks.{following_tsn};
 
-use super::{TsnFilter, placeholder};
-use sctp_outbound::payload_queue::PayloadQueue;
+use super::TsnFilter;
+use super::runs::{Run, pass, put, reserve, take_tsn};
 use sctp_serial::serial::distance;
 use sctp_serial::turns::Turns;
 use sctp_util::error::Result;
+use std::collections::VecDeque;
 
 /// What `accept_undoable` did, so that `retract` can take it back.
 #[derive(Clone, Copy)]
 pub enum FilterUndo {
-    /// A TSN stands beyond the cumulative one; and what the room was.
+    /// A TSN stands beyond the cumulative one; and for how many runs there was memory.
     Beyond { tsn: u32, room: usize },
-    /// The TSN that was expected next came; what the cumulative one was, and the room.
+    /// The TSN that was expected next came; what the cumulative one was, and for how many runs there was memory.
     Next { cumulative_tsn: u32, room: usize },
 }
 
@@ -26,7 +29,10 @@ impl TsnFilter {
     ghost use Rattle.sctp_receiver.specs.TsnFilter.{has_come, is_opposite, with_tsn};
     ghost use Rattle.sctp_receiver.specs.Undo.{retracted, CanRetract};
 
-    /// The same, and its turns are added as `accept_counted` adds them.
+    /// A new TSN comes. The one that is expected next is put nowhere: the cumulative TSN moves over it, and over the run that stands next
+    /// to it, and no memory is taken. Answers how it is taken back. Refuses only for memory. Its turns are added: as many as TSNs beyond
+    /// leave, and else at most one more than their number has binary digits.
+    /// Precondition: it did not come (`has_come`), and is not opposite to the cumulative one (`is_opposite`).
     pub(crate) fn accept_undoable_counted(
         &mut self,
         tsn: u32,
@@ -45,9 +51,34 @@ impl TsnFilter {
             + (length self.old.beyond - length self.new.beyond) + 1 }
     {
         let undo = self.undo_of(tsn);
-        self.reserve_for(tsn)?;
-        self.accept_counted(tsn, turns);
+        self.accept(tsn, turns)?;
         Ok(undo)
+    }
+
+    // The same, and how it is taken back is not told.
+    pub(crate) fn accept(&mut self, tsn: u32, turns: &mut Turns) -> Result<()>
+        requires new { has_come tsn self.old ≡ false }
+        requires near { is_opposite tsn self.old ≡ false }
+        ensures ok { OnOk result
+            (self.new ≡ record (with_tsn tsn self.old) { room = self.new.room }) }
+        ensures room { self.old.room ≤ self.new.room }
+        ensures runs { count_of_runs self.old.cumulative_tsn self.old.beyond ≤ self.old.room }
+        ensures err { OnErr result (self.new ≡ self.old) }
+        ensures wants { OnErr result
+            ((tsn == following_tsn self.old.cumulative_tsn) ≡ false) }
+        ensures memory { IsOkUnless result ErrOutOfMemory }
+        ensures not_back { turns.old ≤ turns.new }
+        ensures cost { turns.new ≤ turns.old + digits (length self.old.beyond)
+            + (length self.old.beyond - length self.new.beyond) + 1 }
+    {
+        let from = self.cumulative_tsn;
+        if tsn == from.wrapping_add(1) {
+            self.cumulative_tsn = pass(&mut self.runs, from, tsn, turns);
+            return Ok(());
+        }
+        self.room = reserve(&mut self.runs, self.room)?;
+        put(&mut self.runs, from, tsn, turns);
+        Ok(())
     }
 
     // How a new TSN is taken back.
@@ -58,7 +89,7 @@ impl TsnFilter {
         ensures rise { rise_beyond self.now.cumulative_tsn 1 self.now.beyond ≡ true }
     {
         let cumulative_tsn = self.cumulative_tsn;
-        let room = self.queue.room();
+        let room = self.room;
         if tsn == cumulative_tsn.wrapping_add(1) {
             FilterUndo::Next {
                 cumulative_tsn,
@@ -69,8 +100,8 @@ impl TsnFilter {
         }
     }
 
-    /// The same, and its turns are added: to find its TSN at most as many as the number of those beyond has binary digits; and for each that
-    /// is beyond again at most one more than the number of these has.
+    /// What `accept_undoable_counted` did is taken back. It takes no memory. Its turns are added: to find its TSN at most as many as the
+    /// number of those beyond has binary digits; and for each that is beyond again at most one more than the number of these has.
     pub(crate) fn retract_counted(&mut self, undo: FilterUndo, turns: &mut Turns)
         requires { CanRetract undo self.old }
         ensures value { self.new ≡ retracted undo self.old }
@@ -81,17 +112,16 @@ impl TsnFilter {
     {
         match undo {
             FilterUndo::Beyond { tsn, room } => {
-                let _ = self.queue.take_leaving_room_counted(tsn, turns);
-                self.queue.limit_room(room);
+                take_tsn(&mut self.runs, self.cumulative_tsn, tsn, turns);
+                self.room = room;
             }
             FilterUndo::Next {
                 cumulative_tsn,
                 room,
             } => {
-                let passed = distance(cumulative_tsn, self.cumulative_tsn);
-                put_back(&mut self.queue, cumulative_tsn, passed, turns);
+                put_back(&mut self.runs, cumulative_tsn, self.cumulative_tsn);
                 self.cumulative_tsn = cumulative_tsn;
-                self.queue.limit_room(room);
+                self.room = room;
             }
         }
     }
@@ -102,35 +132,27 @@ impl TsnFilter {
           duplicates = take (length self.old.duplicates - 1) self.old.duplicates;
         } }
     {
-        self.queue.forget_last_duplicate();
+        let _ = self.duplicates.pop();
     }
 }
 
-// Marks TSNs that the cumulative one moved over, from so many past it down to the second one past it.
-// Its turns are added.
+// Puts in the TSNs that the cumulative one moved over: from the second one past it up to the last.
 // Precondition: those that are held lie farther, and there is room.
-fn put_back(queue: &mut PayloadQueue, cumulative_tsn: u32, count: u32, turns: &mut Turns)
-    requires placeholders { queue.old.chunks ≡ map placeholder (tsns queue.old.chunks) }
+fn put_back(runs: &mut VecDeque<Run>, cumulative_tsn: u32, last: u32)
+    requires runs { AreRuns last 0 runs.old.items }
     requires rise { rise_beyond cumulative_tsn 1
-        (tsns_from (following_tsn (following_tsn cumulative_tsn)) (count - 1)
-        ++ tsns queue.old.chunks) ≡ true }
-    requires room { count - 1 ≤ queue.old.room }
-    ensures placeholders { queue.new.chunks ≡ map placeholder
-        (tsns_from (following_tsn (following_tsn cumulative_tsn)) (count - 1)
-        ++ tsns queue.old.chunks) }
-    ensures rest { queue.new
-        ≡ record queue.old { chunks = queue.new.chunks; room = queue.old.room - (count - 1) } }
-    ensures not_back { turns.old ≤ turns.new }
-    ensures cost { turns.new ≤ turns.old
-        + (count - 1) * (digits (count - 1 + length queue.old.chunks) + 1) }
+        (passed cumulative_tsn last ++ tsns_of runs.old.items) ≡ true }
+    requires room { count_of_runs cumulative_tsn
+        (passed cumulative_tsn last ++ tsns_of runs.old.items) ≤ deque_capacity runs.old }
+    ensures tsns { tsns_of runs.new.items
+        ≡ passed cumulative_tsn last ++ tsns_of runs.old.items }
+    ensures runs { AreRuns cumulative_tsn 0 runs.new.items }
+    ensures capacity { deque_capacity runs.new ≡ deque_capacity runs.old }
 {
-    let mut left = count;
-    while left > 1 {
-        let _ = queue.push_counted(
-            placeholder(cumulative_tsn.wrapping_add(left)),
-            cumulative_tsn,
-            turns,
-        );
-        left -= 1;
+    if distance(cumulative_tsn, last) > 1 {
+        runs.push_front_reserved(Run {
+            first: cumulative_tsn.wrapping_add(2),
+            last,
+        });
     }
 }

@@ -1,5 +1,5 @@
 use Rattle.std.proofs.Common.{◌≡◌, true, sym, ◌∙◌, subst}
-use Rattle.sctp_receiver.specs.TsnFilter.{Filter, has_come, with_tsn}
+use Rattle.sctp_receiver.specs.TsnFilter.{Filter, has_come}
 use Rattle.sctp_receiver.proofs.Came.{taken-came}
 use Rattle.sctp_receiver.proofs.receiver.Receiver.discard.Goals as goal
 
@@ -9,6 +9,5 @@ returns-clause-came c = λ _.
     let o = c.is_opposite.ensures in
     let fresh = sym c.has_come.ensures ∙ c.if-has_come.false in
     let near = sym o.value ∙ c.if-is_opposite.false in
-    subst (λ (f : Filter). has_come t f ≡ true) (sym c.accept.ensures.value)
-    (subst (λ (f : Filter). has_come t (with_tsn t f) ≡ true) (sym c.reserve_for.ensures.rest)
-    (taken-came t c.self.inside.filter o.cumulative_fits o.tsn_fits o.rise fresh near))
+    subst (λ (f : Filter). has_come t f ≡ true) (sym c.in_ok-accept.ensures.ok)
+    (taken-came t c.self.inside.filter o.cumulative_fits o.tsn_fits o.rise fresh near)

@@ -21,13 +21,13 @@ pub returns-in_err-noted-clause-cost : goal.returns-in_err-noted-clause-cost
 returns-in_err-noted-clause-cost c =
     let n = length c.args.filter.now.beyond in
     let looked = within_digits n (c.has_come_counted.new.turns - c.args.turns.now) c.has_come_counted.ensures.cost in
-    data-none _ _ _ _ (omega (arith, looked, c.note_repeat.ensures.cost))
+    data-none _ _ _ _ (omega (arith, looked))
 
 pub returns-then-has_come_counted-clause-cost : goal.returns-then-has_come_counted-clause-cost
 returns-then-has_come_counted-clause-cost c =
     let n = length c.args.filter.now.beyond in
     let looked = within_digits n (c.has_come_counted.new.turns - c.args.turns.now) c.has_come_counted.ensures.cost in
-    data-none _ _ _ _ (omega (arith, looked, c.note_repeat.ensures.cost))
+    data-none _ _ _ _ (omega (arith, looked))
 
 pub returns-then-is_opposite-clause-cost : goal.returns-then-is_opposite-clause-cost
 returns-then-is_opposite-clause-cost c =

@@ -1,0 +1,76 @@
+use Rattle.std.proofs.Common.{◌+◌, ◌-◌, ◌≤◌, length, ap, ◌∙◌, arith}
+use Rattle.sctp_util.specs.Lists.{insert_before}
+use Rattle.sctp_util.specs.Serial.{comes_before}
+use Rattle.sctp_util.proofs.Distances.{comes_before_from}
+use Rattle.sctp_serial.specs.DataChunks.{following_tsn}
+use Rattle.sctp_reassembly.proofs.lemmas.reassembly_queue.SerialPlaces.{after_one}
+use Rattle.sctp_receiver.specs.TsnRuns.{tsns_of}
+use Rattle.sctp_receiver.proofs.FilterCalls.{lies-beyond, next-is, put-beyond}
+use Rattle.sctp_receiver.proofs.RunBlocks.{run-count}
+use Rattle.sctp_receiver.proofs.TsnRuns.{fewer-runs, runs-rise}
+use Rattle.sctp_receiver.proofs.UndoCosts.{few-digits}
+use Rattle.sctp_receiver.proofs.receiver.tsn_filter.TsnFilter.accept.Goals as goal
+
+pub pass-self-inside-requires-clause-after : goal.pass-self-inside-requires-clause-after
+pass-self-inside-requires-clause-after c =
+    let one = after_one c.self.inside.cumulative_tsn c.self.invariant.in_range in
+    rw (c.if-tsn-from.true) (comes_before_from c.self.inside.cumulative_tsn (following_tsn c.self.inside.cumulative_tsn) (omega (arith, one)) (omega (arith, one)))
+
+pub returns-then-tsn-from-clause-ok : goal.returns-then-tsn-from-clause-ok
+returns-then-tsn-from-clause-ok c =
+    let f = c.self.inside in
+    let i = c.self.invariant in
+    let p = c.pass-self-inside in
+    rw (← c.self.view_is) (next-is f.cumulative_tsn c.args.tsn p.result f.room f.room (tsns_of f.runs.items) (tsns_of p.new.runs.items) f.duplicates.items
+    i.in_range c.if-tsn-from.true (runs-rise f.cumulative_tsn 0 f.runs.items i.in_range i.runs) p.ensures.moved)
+
+pub returns-then-tsn-from-clause-runs : goal.returns-then-tsn-from-clause-runs
+returns-then-tsn-from-clause-runs c =
+    let f = c.self.inside in
+    let i = c.self.invariant in
+    let n = run-count f.cumulative_tsn f.runs.items i.in_range i.runs in
+    rw (← c.self.view_is) (omega (arith, n, i.places))
+
+pub returns-in_err-self-inside-clause-runs : goal.returns-in_err-self-inside-clause-runs
+returns-in_err-self-inside-clause-runs c =
+    let f = c.self.inside in
+    let i = c.self.invariant in
+    let n = run-count f.cumulative_tsn f.runs.items i.in_range i.runs in
+    rw (← c.self.view_is) (omega (arith, n, i.places))
+
+pub put-requires-clause-far : goal.put-requires-clause-far
+put-requires-clause-far c =
+    let f = c.self.inside in
+    (lies-beyond f.cumulative_tsn c.args.tsn f.room (tsns_of f.runs.items) f.duplicates.items c.args.self.now c.self.view_is c.self.invariant.in_range
+    c.ranges.tsn.fits c.requires.new c.requires.near c.if-tsn-from.false).farther
+
+pub put-requires-clause-near : goal.put-requires-clause-near
+put-requires-clause-near c =
+    let f = c.self.inside in
+    (lies-beyond f.cumulative_tsn c.args.tsn f.room (tsns_of f.runs.items) f.duplicates.items c.args.self.now c.self.view_is c.self.invariant.in_range
+    c.ranges.tsn.fits c.requires.new c.requires.near c.if-tsn-from.false).near
+
+pub returns-clause-ok : goal.returns-clause-ok
+returns-clause-ok c =
+    let f = c.self.inside in
+    let i = c.self.invariant in
+    let p = c.put in
+    rw (← c.self.view_is) (put-beyond f.cumulative_tsn c.args.tsn f.room c.in_ok-self-inside.field-0 (tsns_of f.runs.items) (tsns_of p.new.runs.items)
+    f.duplicates.items i.in_range (runs-rise f.cumulative_tsn 0 p.new.runs.items i.in_range p.ensures.runs)
+    (p.ensures.tsns ∙ ap (λ us. insert_before comes_before c.args.tsn (tsns_of us)) c.reserve.ensures.items))
+
+pub returns-clause-runs : goal.returns-clause-runs
+returns-clause-runs c =
+    let f = c.self.inside in
+    let i = c.self.invariant in
+    let n = run-count f.cumulative_tsn f.runs.items i.in_range i.runs in
+    rw (← c.self.view_is) (omega (arith, n, i.places))
+
+pub returns-clause-cost : goal.returns-clause-cost
+returns-clause-cost c =
+    let f = c.self.inside in
+    let few = fewer-runs f.runs.items in
+    let same = ap length c.reserve.ensures.items in
+    let looked = few-digits (length c.reserve.new.runs.items) (length (tsns_of f.runs.items)) (c.put.new.turns - c.args.turns.now - 1)
+    (omega (arith, few, same)) c.put.ensures.cost in
+    rw (← c.self.view_is) (omega (arith, looked, c.put.ensures.not_back))

@@ -1,0 +1,76 @@
+use Rattle.std.proofs.Common.{◌≡◌, ◌+◌, ◌<◌, ◌≤◌, ◌^◌, [], true, Some, length, drop, refl, ap, sym, subst, ◌∙◌, arith, rules}
+use Rattle.std.specs.Prelude.{slice_get}
+use Rattle.sctp_util.specs.Lists.{Seen}
+use Rattle.sctp_util.specs.Serial.{distance}
+use Rattle.sctp_util.proofs.Distances.{before_is}
+use Rattle.sctp_receiver.specs.TsnRuns.{AreRuns, tsns_of, later}
+use Rattle.sctp_receiver.proofs.RunMoves.{IsLater, later-is, over-first, rest-runs, left-runs, fewer-tsns, stands-off, seen-from, no-move, moved_to}
+use Rattle.sctp_receiver.proofs.TsnRuns.{read-run}
+use Rattle.sctp_receiver.proofs.receiver.tsn_filter.runs.pass.Goals as goal
+
+pub loop-runs-init : goal.loop-runs-init
+loop-runs-init c =
+    let far = before_is c.args.base c.args.tsn c.requires.after in
+    record {
+      moved = refl;
+      runs = c.requires.runs;
+      fits = c.ranges.tsn.fits;
+      near = far.1;
+      len = omega arith;
+      capacity = refl;
+      not_back = omega arith;
+      cost = omega arith;
+    }
+
+off : (c : goal.Then-distance) → AreRuns c.args.base (distance c.args.base c.loop-runs.cumulative_tsn) c.loop-runs.runs.items
+off c =
+    let i = c.loop-runs.invariant in
+    let rs = c.loop-runs.runs.items in
+    let inside : 0 < length rs = search rules in
+    let far = c.if-distance.true in
+    stands-off c.args.base c.loop-runs.cumulative_tsn rs c.index-run.result.now c.ranges.base.fits i.fits i.near i.runs
+    (read-run rs 0 c.index-run.result.now inside c.index-run.ensures)
+    (omega (arith, far, c.distance.ensures.value, c.distance-in-loop-runs.ensures.value))
+
+pub returns-then-distance-clause-moved : goal.returns-then-distance-clause-moved
+returns-then-distance-clause-moved c =
+    let i = c.loop-runs.invariant in
+    i.moved ∙ no-move c.args.base c.loop-runs.cumulative_tsn c.loop-runs.runs.items c.ranges.base.fits i.fits (off c)
+
+pub returns-then-distance-clause-runs : goal.returns-then-distance-clause-runs
+returns-then-distance-clause-runs c =
+    let i = c.loop-runs.invariant in
+    seen-from c.args.base c.loop-runs.cumulative_tsn c.loop-runs.runs.items c.ranges.base.fits i.fits (off c)
+
+pub loop-runs-preserved : goal.loop-runs-preserved
+loop-runs-preserved c =
+    let i = c.loop-runs.invariant in
+    let rs = c.loop-runs.runs.items in
+    let base = c.args.base in
+    let cum = c.loop-runs.cumulative_tsn in
+    let r = c.index-run.result.now in
+    let inside : 0 < length rs = search rules in
+    let at : slice_get rs 0 ≡ Some r = read-run rs 0 r inside c.index-run.ensures in
+    let hb = c.ranges.base.fits in
+    let parts = rest-runs base cum rs r hb i.fits i.near i.runs at in
+    let next : later base cum r.last ≡ c.later-cumulative_tsn.result = sym c.later-cumulative_tsn.ensures in
+    let is : IsLater base cum r.last c.later-cumulative_tsn.result = subst (IsLater base cum r.last) next
+    (later-is base cum r.last i.fits parts.0.last_fits i.near parts.0.near) in
+    let low = c.if-distance.false in
+    let first : distance base r.first ≤ distance base cum + 1 =
+    omega (arith, low, c.distance.ensures.value, c.distance-in-loop-runs.ensures.value) in
+    let items : c.take_out.new.runs.items ≡ drop 1 rs = c.take_out.ensures.items in
+    let few = fewer-tsns base cum rs r hb i.fits i.near i.runs at in
+    let count = ap (λ us. length (tsns_of us)) items in
+    let short = ap length items in
+    record {
+      moved = i.moved ∙ over-first base cum rs r hb i.fits i.near i.runs at first
+          ∙ ap (λ u. moved_to u (tsns_of (drop 1 rs))) next ∙ ap (λ us. moved_to c.later-cumulative_tsn.result (tsns_of us)) (sym items);
+      runs = subst (AreRuns base 0) (sym items) (left-runs base cum rs r hb i.fits i.near i.runs at);
+      fits = is.fits;
+      near = is.near;
+      len = search rules;
+      capacity = c.take_out.ensures.capacity ∙ i.capacity;
+      not_back = omega (arith, i.not_back, c.tick.ensures);
+      cost = omega (arith, i.cost, few, count, c.tick.ensures);
+    }

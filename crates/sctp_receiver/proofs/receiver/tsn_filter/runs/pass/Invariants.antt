@@ -1,0 +1,21 @@
+use Rattle.std.proofs.Common.{◌≡◌, ◌+◌, ◌<◌, ◌≤◌, ◌^◌, length}
+use Rattle.std.specs.VecDeque.{deque_capacity}
+use Rattle.sctp_util.specs.Serial.{distance}
+use Rattle.sctp_receiver.specs.TsnRuns.{AreRuns, tsns_of}
+use Rattle.sctp_receiver.proofs.RunMoves.{moved_to}
+use Rattle.sctp_receiver.proofs.receiver.tsn_filter.runs.pass.Given as goal
+
+abbrev pub invariant-loop-runs : goal.invariant-loop-runs
+invariant-loop-runs l = record {
+  moved : moved_to l.tsn (tsns_of l.initial.runs.items) ≡ moved_to l.cumulative_tsn (tsns_of l.runs.items);
+  runs : AreRuns l.base 0 l.runs.items;
+  fits : l.cumulative_tsn < 2 ^ 32;
+  near : distance l.base l.cumulative_tsn < 2 ^ 31;
+  len : length l.runs.items ≤ length l.initial.runs.items;
+  capacity : deque_capacity l.runs ≡ deque_capacity l.initial.runs;
+  not_back : l.initial.turns ≤ l.turns;
+  cost : l.turns + length (tsns_of l.runs.items) ≤ l.initial.turns + length (tsns_of l.initial.runs.items);
+}
+
+abbrev pub decreases-loop-runs : goal.decreases-loop-runs
+decreases-loop-runs l = length l.runs.items
