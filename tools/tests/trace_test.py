@@ -70,7 +70,7 @@ COMMENTS = {
 }
 # whether the calls that a body leads to are there, and what they have beside those of the call
 BODIES = {
-    "sctp_receiver::Receiver::data": {"calls", "proof", "wrong bodies"},
+    "sctp_receiver::Receiver::data": {"calls", "wrong bodies"},
     "sctp_receiver::Receiver::forward_tsn": {"calls", "wrong bodies"},
     "sctp_receiver::Receiver::read": set(),
     "sctp_sender::Sender::acked": {"calls", "proof", "wrong bodies"},

@@ -1,13 +1,12 @@
 -- A TSN that came is taken back.
 use Rattle.std.proofs.Common.{◌≡◌, ℕ, zero, suc, ◌+◌, ◌-◌, ◌<◌, ◌≤◌, ◌%◌, ◌^◌, Bool, true, false, List, [], ◌∷◌, ◌++◌, length, take, drop, Some, refl, ap, sym, subst, ◌∙◌}
 use Rattle.std.proofs.Common.{arith}
-use Rattle.std.specs.Prelude.{if◌then◌else◌, ◌==◌, ◌||◌, not, slice_get, unwrap_or}
+use Rattle.std.specs.Prelude.{if◌then◌else◌, ◌==◌, not, slice_get, unwrap_or}
 use Rattle.std.specs.List.{list_any, filter}
 use Rattle.std.proofs.lemmas.List.{length-append, append_assoc, append-nil, drop_all}
 use Rattle.sctp_util.specs.Lists.{insert_before, advance_over, Seen}
 use Rattle.sctp_util.specs.Serial.{distance, comes_before, at_or_before}
 use Rattle.sctp_util.proofs.Cases.{same-yes, same-is}
-use Rattle.sctp_util.proofs.More.{fails}
 use Rattle.sctp_serial.specs.DataChunks.{following_tsn}
 use Rattle.sctp_serial.proofs.lemmas.AscendingEdits.{distance_rest, distance_sum}
 use Rattle.sctp_serial.proofs.lemmas.ListEdits.{neither}

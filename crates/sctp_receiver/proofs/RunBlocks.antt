@@ -14,8 +14,8 @@ use Rattle.sctp_outbound.specs.payload_queue.Blocks.{is_offset}
 use Rattle.sctp_serial.specs.DataChunks.{following_tsn}
 use Rattle.sctp_receiver.specs.declared.receiver.tsn_filter.runs.Run.{Run}
 use Rattle.sctp_receiver.specs.TsnFilter.{rise_beyond, block_of}
-use Rattle.sctp_receiver.specs.TsnRuns.{tsns_from, tsns_of, IsRun, AreRuns, count_of_runs}
-use Rattle.sctp_receiver.proofs.TsnLists.{IsStep, step-of, nearer}
+use Rattle.sctp_receiver.specs.TsnRuns.{tsns_from, tsns_of, AreRuns, count_of_runs}
+use Rattle.sctp_receiver.proofs.TsnLists.{step-of, nearer}
 use Rattle.sctp_receiver.proofs.TsnRuns.{next-far, run-rises, span, runs-rise, drop-from}
 
 -- a run that begins farther than a number stands apart
@@ -170,28 +170,7 @@ run-count base rs hb are =
     ∙ ap length (spans-are (2 ^ 31) base hb 0 rs are)
     ∙ all-spans base 0 rs hb are
 
--- ## One block more
-
-block-next : (base k : ℕ) (rs : List Run) (r : Run) → slice_get rs k ≡ Some r → distance base r.first ≤ 65535
-    → map block_of (spans 65536 base (drop k rs))
-    ≡ (let b : GapAckBlock = record { start = distance base r.first; end = min (distance base r.last) 65535 } in b)
-    ∷ map block_of (spans 65536 base (drop (k + 1) rs))
-block-next base k rs r e le =
-    let is-near : nat_lt (distance base r.first) 65536 ≡ true = grind (arith, nat_tests, le) in
-    let n : suc k ≡ k + 1 = omega arith in
-    ap (λ us. map block_of (spans 65536 base us)) (drop-from rs k r e)
-    ∙ ap (λ b. map block_of (if b then (distance base r.first, min (distance base r.last) 65535) ∷ spans 65536 base (drop (suc k) rs) else [])) is-near
-    ∙ ap (λ j. (let b : GapAckBlock = record { start = distance base r.first; end = min (distance base r.last) 65535 } in b)
-    ∷ map block_of (spans 65536 base (drop j rs))) n
-
-pub block-more : (base k : ℕ) (rs : List Run) (r : Run) (bs all : List GapAckBlock) → slice_get rs k ≡ Some r → distance base r.first ≤ 65535
-    → bs ++ map block_of (spans 65536 base (drop k rs)) ≡ all
-    → (bs ++ (let b : GapAckBlock = record { start = distance base r.first; end = min (distance base r.last) 65535 } in b) ∷ [])
-    ++ map block_of (spans 65536 base (drop (k + 1) rs)) ≡ all
-block-more base k rs r bs all e le h =
-    append_assoc bs ((let b : GapAckBlock = record { start = distance base r.first; end = min (distance base r.last) 65535 } in b) ∷ [])
-    (map block_of (spans 65536 base (drop (k + 1) rs)))
-    ∙ ap (λ cs. bs ++ cs) (sym (block-next base k rs r e le)) ∙ h
+-- ## Blocks one after another
 
 no-block : (base k : ℕ) (rs : List Run) (r : Run) → slice_get rs k ≡ Some r → 65535 < distance base r.first → map block_of (spans 65536 base (drop k rs)) ≡ []
 no-block base k rs r e lt =

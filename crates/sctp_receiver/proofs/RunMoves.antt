@@ -1,5 +1,5 @@
 -- The cumulative TSN moves over runs.
-use Rattle.std.proofs.Common.{◌≡◌, ℕ, zero, suc, ◌+◌, ◌-◌, ◌<◌, ◌≤◌, ◌^◌, Bool, true, false, List, [], ◌∷◌, ◌++◌, length, take, drop, Some, refl, ap, sym, subst, ◌∙◌, inl, inr, arith}
+use Rattle.std.proofs.Common.{◌≡◌, ℕ, zero, suc, ◌+◌, ◌-◌, ◌<◌, ◌≤◌, ◌^◌, true, false, List, [], ◌∷◌, ◌++◌, length, drop, Some, refl, ap, sym, subst, ◌∙◌, inl, inr, arith}
 use Rattle.std.specs.Prelude.{if◌then◌else◌, ◌==◌, not, nat_lt, slice_get}
 use Rattle.std.specs.List.{filter}
 use Rattle.std.proofs.lemmas.Bool.{cases_lt}
@@ -13,7 +13,7 @@ use Rattle.sctp_serial.specs.DataChunks.{following_tsn}
 use Rattle.sctp_receiver.specs.declared.receiver.tsn_filter.runs.Run.{Run}
 use Rattle.sctp_receiver.specs.TsnFilter.{rise_beyond}
 use Rattle.sctp_receiver.specs.TsnRuns.{tsns_from, tsns_of, IsRun, AreRuns, later}
-use Rattle.sctp_receiver.proofs.TsnLists.{IsStep, step-of, nearer, before-it, behind-it, stays}
+use Rattle.sctp_receiver.proofs.TsnLists.{step-of, nearer, before-it, behind-it, stays}
 use Rattle.sctp_receiver.proofs.TsnRuns.{next-far, run-rises, runs-rise, runs-nearer, span, split-at}
 
 -- those that are not at or before a TSN

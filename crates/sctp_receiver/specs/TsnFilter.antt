@@ -9,7 +9,6 @@ use Rattle.sctp_data.specs.declared.chunk.chunk_payload_data.PayloadProtocolIden
 use Rattle.sctp_data.specs.declared.chunk.chunk_payload_data.ChunkPayloadData.{ChunkPayloadData}
 use Rattle.sctp_data.specs.declared.chunk.chunk_selective_ack.GapAckBlock.{GapAckBlock}
 use Rattle.sctp_outbound.specs.payload_queue.Blocks.{is_offset}
-use Rattle.sctp_serial.specs.DataChunks.{following_tsn}
 
 -- all came up to the cumulative TSN; these came beyond it, in serial order; these came again since the last SACK;
 -- and so many runs of those beyond take no memory

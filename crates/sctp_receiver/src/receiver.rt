@@ -153,6 +153,7 @@ impl Receiver {
     {
         let rules = self.rules(any_ssn);
         let (arrival, _) = take(&mut self.streams, &mut self.filter, rules, chunk, turns)?;
+        self.filter.settle();
         Ok(arrival)
     }
 
@@ -195,6 +196,7 @@ impl Receiver {
             return Err(refusal);
         }
         self.filter.accept(tsn, &mut Turns::new())?;
+        self.filter.settle();
         Ok(Arrival::New { complete: false })
     }
 
@@ -266,6 +268,13 @@ impl Receiver {
         ensures { result ≡ not (length self.now.beyond == 0) }
     {
         self.filter.has_gaps()
+    }
+
+    // Whether a TSN came.
+    pub(crate) fn has_come(&self, tsn: u32) -> bool
+        ensures { result ≡ has_come tsn (filter_of self.now) }
+    {
+        self.filter.has_come(tsn)
     }
 
     // What came on a stream and was not read; None where it is not open.

@@ -4,7 +4,8 @@
 ghost use Rattle.std.specs.Prelude.{◌≡◌, ◌⊎◌, ◌+◌, ◌≤◌, None, Some, OnOk, OnErr, IfOk, IfErr, IsOk, length, option_copied, option_map};
 ghost use Rattle.sctp_data.specs.ForwardTsn.{forward_tsn_of};
 ghost use Rattle.sctp_data.specs.SelectiveAck.{sack_of};
-ghost use Rattle.sctp_receiver.specs.Receiver.{TakesEachBy, StopsAtBy, data_refusal, stream_of, sack, forward_refusal, forwarded_of, after_forward};
+ghost use Rattle.sctp_receiver.specs.Receiver.{TakesEachBy, StopsAtBy, data_refusal, filter_of, stream_of, sack, forward_refusal, forwarded_of, after_forward};
+ghost use Rattle.sctp_receiver.specs.TsnFilter.{has_come};
 ghost use Rattle.sctp_receiver.specs.declared.receiver.refusal.ReceiverRefusal.TheVariants.{OutOfMemory};
 
 use crate::receiver::Receiver;
@@ -61,6 +62,13 @@ pub fn make_sack(receiver: &Receiver, credit: u32) -> Result<ChunkSelectiveAck, 
     ensures memory { IfErr result (λ e. e ≡ OutOfMemory) }
 {
     receiver.sack_of_entries(credit, MAX_SACK_ENTRIES, &mut Turns::new())
+}
+
+/// Whether a TSN came: it is at or before the cumulative one, or came beyond it.
+pub fn has_come(receiver: &Receiver, tsn: u32) -> bool
+    ensures { result ≡ has_come tsn (filter_of receiver.now) }
+{
+    receiver.has_come(tsn)
 }
 
 /// What came on a stream and was not read; None where it is not open.

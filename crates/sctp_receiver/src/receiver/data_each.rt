@@ -53,14 +53,16 @@ impl Receiver {
             (IsWithinRefusedBy (refusal_for any_ssn) chunks.now self.old (turns.new - turns.old)) }
     {
         let rules = self.rules(any_ssn);
-        take_each(
+        let arrivals = take_each(
             self.alloc,
             &mut self.streams,
             &mut self.filter,
             rules,
             chunks,
             turns,
-        )
+        )?;
+        self.filter.settle();
+        Ok(arrivals)
     }
 }
 

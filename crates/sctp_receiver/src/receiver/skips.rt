@@ -152,6 +152,7 @@ impl Receiver {
         self.streams
             .forward_unordered_skips_counted(tsn, turns, skips);
         self.filter.skip_to_counted(tsn, turns);
+        self.filter.settle();
         Ok(Forwarded::Skipped)
     }
 }

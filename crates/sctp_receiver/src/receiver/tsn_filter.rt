@@ -22,6 +22,9 @@ use std::collections::VecDeque;
 use std::marker::Model;
 use std::mem;
 
+// For how many runs the memory is kept where there are none: 512 bytes.
+const KEPT_RUNS: usize = 64;
+
 /// Which TSNs came: all up to the cumulative one, and those beyond it, as runs of 8 bytes (RFC 4960 6.2); and which of them came again
 /// since the last SACK. Of those that the cumulative TSN passed it keeps nothing.
 #[derive(Drop)]
@@ -156,6 +159,16 @@ impl TsnFilter {
     {
         let from = self.cumulative_tsn;
         self.cumulative_tsn = pass(&mut self.runs, from, tsn, turns);
+    }
+
+    /// Frees the memory of runs where none is left, but for few of them. It takes no memory.
+    pub(crate) fn settle(&mut self)
+        ensures { self.new ≡ record self.old { room = self.new.room } }
+    {
+        if self.runs.is_empty() && self.runs.capacity() > KEPT_RUNS {
+            self.runs.shrink_to_fit();
+            self.room = 0;
+        }
     }
 
     /// The first gap ack blocks, so many at most. Its turns are added: at most 34 for each block, one more, and as many as the number of

@@ -9,5 +9,5 @@ returns-clause-came c = λ _.
     let o = c.is_opposite.ensures in
     let fresh = sym c.has_come.ensures ∙ c.if-has_come.false in
     let near = sym o.value ∙ c.if-is_opposite.false in
-    subst (λ (f : Filter). has_come t f ≡ true) (sym c.in_ok-accept.ensures.ok)
-    (taken-came t c.self.inside.filter o.cumulative_fits o.tsn_fits o.rise fresh near)
+    subst (λ (f : Filter). has_come t f ≡ true) (sym c.settle.ensures) (subst (λ (f : Filter). has_come t f ≡ true) (sym c.in_ok-accept.ensures.ok)
+    (taken-came t c.self.inside.filter o.cumulative_fits o.tsn_fits o.rise fresh near))

@@ -1,5 +1,6 @@
 use Rattle.std.proofs.Common.{◌≡◌, ap, sym, ◌∙◌, false, length, arith}
 use Rattle.sctp_util.specs.Serial.{at_or_before}
+use Rattle.sctp_receiver.specs.TsnFilter.{Filter}
 use Rattle.sctp_receiver.specs.Visited.{to_visit}
 use Rattle.sctp_receiver.proofs.Receptions.{after}
 use Rattle.sctp_receiver.proofs.Settled.{fewer-named}
@@ -20,8 +21,17 @@ returns-clause-cost c =
     let few = fewer-named c.deref.result.now c.self.inside.streams in
     let names = ap length c.deref.ensures.value in
     let named = ap (λ ls. length (to_visit ls)) c.forward_named_counted.ensures.value in
-    rw (← c.self.view_is)
-    (omega (arith, c.forward_named_counted.ensures.cost, c.forward_unordered_skips_counted.ensures.cost, c.skip_to_counted.ensures.cost, few, named, names))
+    let beyond = ap (λ (f : Filter). length f.beyond) c.settle.ensures in
+    rw (← c.self.view_is) (omega (
+      arith,
+      c.forward_named_counted.ensures.cost,
+      c.forward_unordered_skips_counted.ensures.cost,
+      c.skip_to_counted.ensures.cost,
+      few,
+      named,
+      names,
+      beyond,
+    ))
 
 pub returns-clause-walk : goal.returns-clause-walk
 returns-clause-walk c =

@@ -1,4 +1,4 @@
-use Rattle.std.proofs.Common.{◌+◌, ◌-◌, ◌≤◌, length, ap, ◌∙◌, arith}
+use Rattle.std.proofs.Common.{◌-◌, length, ap, ◌∙◌, arith}
 use Rattle.sctp_util.specs.Lists.{insert_before}
 use Rattle.sctp_util.specs.Serial.{comes_before}
 use Rattle.sctp_util.proofs.Distances.{comes_before_from}

@@ -1,4 +1,4 @@
-use Rattle.std.proofs.Common.{◌≡◌, length, ap, sym, ◌∙◌, arith}
+use Rattle.std.proofs.Common.{length, ap, sym, arith}
 use Rattle.sctp_receiver.specs.TsnFilter.{Filter}
 use Rattle.sctp_receiver.proofs.FilterCalls.{come-expected}
 use Rattle.sctp_receiver.proofs.TsnRuns.{fewer-runs}

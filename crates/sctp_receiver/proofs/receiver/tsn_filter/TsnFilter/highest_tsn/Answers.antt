@@ -1,4 +1,4 @@
-use Rattle.std.proofs.Common.{◌≡◌, ◌<◌, ◌-◌, length, sym, ap, ◌∙◌, subst, get_or, arith, rules}
+use Rattle.std.proofs.Common.{◌≡◌, ◌<◌, ◌-◌, length, sym, ap, ◌∙◌, get_or, arith, rules}
 use Rattle.std.specs.VecDeque.{deque_len}
 use Rattle.sctp_receiver.proofs.Retracts.{highest-is}
 use Rattle.sctp_receiver.proofs.TsnRuns.{read-run}

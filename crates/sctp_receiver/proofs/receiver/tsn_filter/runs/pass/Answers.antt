@@ -1,6 +1,5 @@
-use Rattle.std.proofs.Common.{◌≡◌, ◌+◌, ◌<◌, ◌≤◌, ◌^◌, [], true, Some, length, drop, refl, ap, sym, subst, ◌∙◌, arith, rules}
+use Rattle.std.proofs.Common.{◌≡◌, ◌+◌, ◌<◌, ◌≤◌, Some, length, drop, refl, ap, sym, subst, ◌∙◌, arith, rules}
 use Rattle.std.specs.Prelude.{slice_get}
-use Rattle.sctp_util.specs.Lists.{Seen}
 use Rattle.sctp_util.specs.Serial.{distance}
 use Rattle.sctp_util.proofs.Distances.{before_is}
 use Rattle.sctp_receiver.specs.TsnRuns.{AreRuns, tsns_of, later}

@@ -1,4 +1,4 @@
-use Rattle.std.proofs.Common.{◌+◌, ◌-◌, ◌/◌, ◌<◌, sym, ap, ◌∙◌, refl, length, arith, rules}
+use Rattle.std.proofs.Common.{◌+◌, ◌-◌, ◌/◌, ◌<◌, sym, length, arith, rules}
 use Rattle.sctp_serial.proofs.lemmas.Halves.{halved, digits_left, one_more}
 use Rattle.sctp_receiver.proofs.TsnRuns.{read-run, read-before}
 use Rattle.sctp_receiver.proofs.receiver.tsn_filter.runs.spot_of.Goals as goal
