@@ -7,3 +7,4 @@ pub mod acknowledgement
 pub mod skips
 pub mod upkeep
 pub mod standings
+pub mod tsns

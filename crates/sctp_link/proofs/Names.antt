@@ -69,9 +69,10 @@ pub use Rattle.sctp_sender.proofs.Flights.{started-inflight}
 pub use Rattle.sctp_sender.proofs.Walks.{none-of, found-changed}
 pub use Rattle.sctp_receiver.specs.Receiver.{Reception, sack, StopsAtBy, data_refusal, at_first, arrival_of, is_answered_complete, stream_refusal}
 pub use Rattle.sctp_receiver.specs.Receiver.{forward_refusal}
-pub use Rattle.sctp_receiver.specs.TsnFilter.{Filter, gap_ack_blocks, placeholder, has_come, is_opposite, with_tsn, with_duplicate, skipped_to, offsets}
+pub use Rattle.sctp_receiver.specs.TsnFilter.{Filter, gap_ack_blocks, has_come, is_opposite, with_tsn, with_duplicate, skipped_to, offsets}
 pub use Rattle.sctp_receiver.specs.declared.receiver.refusal.ReceiverRefusal.{ReceiverRefusal}
-pub use Rattle.sctp_receiver.proofs.Placeholders.{tsns-placeholder}
+pub use Rattle.sctp_link.specs.Tsns.{placeholder}
+pub use Rattle.sctp_link.proofs.tsns.Placeholders.{tsns-placeholder}
 pub use Rattle.sctp_receiver.specs.declared.receiver.inbound_streams.InboundStream.{InboundStream}
 pub use Rattle.sctp_receiver.specs.declared.receiver.arrival.Arrival.{Arrival}
 pub use Rattle.sctp_receiver.specs.declared.receiver.arrival.Arrival.TheVariants.{New, Repeat}
@@ -119,11 +120,13 @@ pub use Rattle.sctp_model.proofs.refinement.sending.Begun.{Indexed, indexed-take
 pub use Rattle.sctp_model.proofs.refinement.sending.BegunRun.{SendsNone, begun-closed, none-after, counted-after}
 pub use Rattle.sctp_model.proofs.refinement.abandonment.AbandonedLink.{terminal_of, abandoned-is, count-then, before-then}
 pub use Rattle.sctp_model.proofs.refinement.reading.ReadOne.{KeepsNext, ReadsComplete, ReadsOrdered, next-arrive, next-same}
-pub use Rattle.sctp_model.proofs.refinement.amounts.StreamCounters.{counters-same, counters-read, counters-nothing, counters-none, written-wrote, counters-wrote}
+pub use Rattle.sctp_model.proofs.refinement.amounts.StreamCounters.{counters-same, counters-read, counters-nothing, counters-none, written-wrote}
+pub use Rattle.sctp_model.proofs.refinement.amounts.StreamCounters.{counters-wrote}
 pub use Rattle.sctp_model.proofs.refinement.amounts.StreamCounters.{written-same}
 pub use Rattle.sctp_model.specs.refinement.Refines.{RefinesOutbound, Sending, sending_of, sending_by, IsInFlight, waiting_at, waiting_of}
 pub use Rattle.sctp_model.specs.refinement.InTurn.{message_of_tsn, abandoned_tsn}
-pub use Rattle.sctp_model.proofs.refinement.abandonment.AbandonedInTurn.{IsTurn, GivesInTurn, turn-written, late-fly, late-takes, late-done, find-among, each-of}
+pub use Rattle.sctp_model.proofs.refinement.abandonment.AbandonedInTurn.{IsTurn, GivesInTurn, turn-written, late-fly, late-takes, late-done, find-among}
+pub use Rattle.sctp_model.proofs.refinement.abandonment.AbandonedInTurn.{each-of}
 pub use Rattle.sctp_model.proofs.refinement.abandonment.AbandonedInTurn.{accepted-now, takes-none, goes-on}
 pub use Rattle.sctp_model.proofs.refinement.sending.InFlight.{Found, found-in, head_of, tail_of, says-same, refines-marked, nsent-quiet}
 pub use Rattle.sctp_model.proofs.refinement.amounts.StreamAmounts.{same-turned, amount-none, amount-wrote, write-open, amount-same}

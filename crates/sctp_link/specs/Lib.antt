@@ -13,3 +13,4 @@ pub mod Acking
 pub mod Sends
 pub mod Progress
 pub mod Rooms
+pub mod Tsns

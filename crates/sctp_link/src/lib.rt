@@ -4,6 +4,7 @@
 mod datagram;
 pub mod event;
 pub mod link;
+mod link_receiver;
 mod progress;
 mod record;
 mod skipped;

@@ -19,10 +19,10 @@ mod skips;
 mod streams;
 
 use crate::event::{Event, LinkRefusal, Reply};
+use crate::link_receiver::LinkReceiver;
 use crate::progress::Progress;
 use crate::record::{Datagram, Kind, Message, Slot};
 use bytes::Bytes;
-use sctp_receiver::receiver::Receiver;
 use sctp_sender::sender::Sender;
 use sctp_sender::sender::refusal::SenderRefusal;
 use sctp_util::error::Error;
@@ -40,7 +40,7 @@ pub struct Link<C: Checksum + Drop> {
     limit: u32,
     // the three have the same streams, in the same order
     sender: Sender,
-    receiver: Receiver,
+    receiver: LinkReceiver,
     progress: Progress,
     messages: Vec<Message>,
     // the number of the first message whose lifetime has not started
@@ -137,7 +137,7 @@ impl<C: Checksum + Drop> Link<C> {
             first_tsn,
             limit,
             sender: Sender::new(alloc, first_tsn, fragment_size, max_message_size),
-            receiver: Receiver::new(alloc, first_tsn, max_message_size, None),
+            receiver: LinkReceiver::new(alloc, first_tsn, max_message_size),
             progress: Progress::new(alloc),
             messages: Vec::new(alloc),
             unstarted: 0,

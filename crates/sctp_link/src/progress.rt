@@ -7,11 +7,10 @@ ghost use Rattle.sctp_link.specs.Progress.{Standing, standing_of, fresh};
 mod completions;
 
 use self::completions::{make_room, record_complete};
+use crate::link_receiver::LinkReceiver;
 use sctp_data::chunk::chunk_payload_data::ChunkPayloadData;
-use sctp_receiver::receiver::Receiver;
 use sctp_receiver::receiver::arrival::Arrival;
 use sctp_receiver::receiver::refusal::ReceiverRefusal;
-use sctp_receiver::replay;
 use sctp_stream::stream_numbers::{StreamNumbers, put};
 use sctp_util::error::Error;
 use std::alloc::Global;
@@ -203,7 +202,7 @@ impl Progress {
     /// Precondition: each chunk has a number.
     pub(crate) fn data_each(
         &mut self,
-        receiver: &mut Receiver,
+        receiver: &mut LinkReceiver,
         chunks: &[ChunkPayloadData],
         numbers: &[u64],
     ) -> Result<Vec<Arrival>, ReceiverRefusal>
@@ -220,7 +219,7 @@ impl Progress {
         if make_room(&mut self.streams, &self.numbers, chunks).is_err() {
             return Err(ReceiverRefusal::OutOfMemory);
         }
-        let arrivals = replay::data_each_with_any_ssn(receiver, chunks)?;
+        let arrivals = receiver.data_each(chunks)?;
         record_complete(&mut self.streams, &self.numbers, chunks, numbers, &arrivals);
         Ok(arrivals)
     }

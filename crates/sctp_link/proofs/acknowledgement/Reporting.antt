@@ -11,7 +11,7 @@ use Rattle.sctp_model.proofs.refinement.acknowledging.SackMade.{blocks-are}
 use Rattle.sctp_receiver.specs.Receiver.{filter_of}
 use Rattle.sctp_link.proofs.receiver.Came.{blocks-ends, tsns-beyond}
 use Rattle.sctp_link.proofs.upkeep.Facts.{facts}
-use Rattle.sctp_receiver.proofs.FilterCalls.{blocks-of}
+use Rattle.sctp_link.proofs.receiver.Came.{blocks-of}
 use Rattle.sctp_link.proofs.upkeep.Frames.{linked-more}
 
 -- so many entries fit

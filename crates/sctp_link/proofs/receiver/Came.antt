@@ -9,8 +9,9 @@ use Rattle.sctp_serial.specs.Window
 use Rattle.sctp_model.proofs.refinement.arriving.FilterQueue.{new-is}
 use Rattle.sctp_model.proofs.refinement.arriving.SlotArrives
 use Rattle.sctp_receiver.specs.TsnFilter.{block_of}
-use Rattle.sctp_receiver.proofs.Placeholders as Placeholders
+use Rattle.sctp_link.proofs.tsns.Placeholders as Placeholders
 use Rattle.sctp_util.specs.Serial.{at_or_before}
+use Rattle.sctp_data.specs.declared.chunk.chunk_selective_ack.GapAckBlock.{GapAckBlock}
 
 -- ## Which slots came
 
@@ -127,6 +128,10 @@ distances-placeholders c (t ∷ ts) = ap (λ ds. distance c t ∷ ds) (distances
 ends-of-blocks : (rs : List (ℕ × ℕ)) → map ends_of (map block_of rs) ≡ rs
 ends-of-blocks [] = refl
 ends-of-blocks (r ∷ rs) = ap (λ l. r ∷ l) (ends-of-blocks rs)
+
+pub blocks-of : (bs : List GapAckBlock) → map block_of (map ends_of bs) ≡ bs
+blocks-of [] = refl
+blocks-of (b ∷ bs) = ap (λ rest. b ∷ rest) (blocks-of bs)
 
 -- its blocks are those of the queue of placeholders
 pub blocks-ends : (f : Filter) → map ends_of (gap_ack_blocks f) ≡ runs_of (gap_offsets f.cumulative_tsn (map placeholder f.beyond))

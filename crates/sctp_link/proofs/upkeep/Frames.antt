@@ -1,7 +1,7 @@
 -- What an event leaves of a link's streams, bytes and datagrams.
 use Rattle.sctp_link.proofs.Names.{◌≡◌, ℕ, List, [], ◌∷◌, ◌++◌, length, Some, None, refl, ap, sym, ◌∙◌, arith, length-append, slice_get, slice_index_or, subst}
 use Rattle.sctp_link.proofs.Names.{slice_get_within, get-snoc_old, get-snoc_new, get-last, slice-front, by_last, Event, LinkRecord, contents_of, refusal_of}
-use Rattle.sctp_link.proofs.Names.{after, shape, amount, begun_on, Indexed, SendsNone, counted-after, OpenStream, IsDatagram, State, IsOpenStream, IsLinked}
+use Rattle.sctp_link.proofs.Names.{after, shape, begun_on, Indexed, SendsNone, counted-after, OpenStream, IsDatagram, State, IsOpenStream, IsLinked}
 use Rattle.sctp_link.proofs.Names.{stats_of, some-same, says-still, StreamRecord, Outbound, Filter, RefinesOutbound, filter_shown, filter_of, IsApart}
 use Rattle.sctp_link.proofs.Names.{stream_numbers, reply_to, StandsFor, stands-then, outbound-same, same-self, SameStream, ◌<◌}
 use Rattle.sctp_model.specs.LinkRecord as W

@@ -78,7 +78,7 @@ impl<C: Checksum + Drop> Link<C> {
     {
         let state = self.sender.stream(stream)?;
         let sent = state.stats();
-        let read = self.receiver.stats(stream)?;
+        let read = self.receiver.receiver().stats(stream)?;
         Some(DataChannelStats {
             stream_identifier: sent.stream_identifier,
             generation: sent.generation,
@@ -107,7 +107,7 @@ impl<C: Checksum + Drop> Link<C> {
             (cumulative_tsn self.now.recorded (cumulative self.now.recorded)) result.now
             ≡ filter_of self.now.recorded }
     {
-        replay::filter(&self.receiver)
+        self.receiver.filter()
     }
 
     /// What came on an open stream and was not read; None where it is not open.
@@ -116,6 +116,6 @@ impl<C: Checksum + Drop> Link<C> {
             ≡ false) (λ q. (q.now.held ≡ reassembly_of self.now.recorded stream)
             × (q.now.si ≡ stream) × (q.now.max_message_size ≡ self.now.recorded.setup.largest)) }
     {
-        replay::reassembly(&self.receiver, stream)
+        replay::reassembly(self.receiver.receiver(), stream)
     }
 }

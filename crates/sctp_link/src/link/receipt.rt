@@ -87,7 +87,7 @@ impl<C: Checksum + Drop> Link<C> {
         let Some(next) = self.progress.next_index(stream) else {
             unreachable!()
         };
-        let Some(queue) = replay::reassembly(&self.receiver, stream) else {
+        let Some(queue) = replay::reassembly(self.receiver.receiver(), stream) else {
             unreachable!()
         };
         let held = queue.ordered();
@@ -118,7 +118,7 @@ impl<C: Checksum + Drop> Link<C> {
         requires { place < length self.now.recorded.slots }
         ensures { result ≡ is_new self.now.recorded place }
     {
-        let cumulative = count_of(self.receiver.cumulative_tsn(), self.first_tsn);
+        let cumulative = count_of(self.receiver.receiver().cumulative_tsn(), self.first_tsn);
         cumulative <= place as u64 && !self.slots[place].arrived
     }
 

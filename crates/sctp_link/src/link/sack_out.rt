@@ -25,7 +25,7 @@ impl<C: Checksum + Drop> Link<C> {
         ensures err { OnErr result (self.new.recorded ≡ self.old.recorded) }
         ensures memory { IsOkUnless result ErrOutOfMemory }
     {
-        let Ok(sack) = replay::make_sack(&self.receiver, credit) else {
+        let Ok(sack) = replay::make_sack(self.receiver.receiver(), credit) else {
             return Err(Error::ErrOutOfMemory);
         };
         let blocks = Vec::from_slice(self.alloc, &sack.gap_ack_blocks)?;

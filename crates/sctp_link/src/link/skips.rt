@@ -33,7 +33,7 @@ impl<C: Checksum + Drop> Link<C> {
             ≡ Some (Forward upto names.now)) }
         ensures { result ≡ arrival_fits self.now.recorded (Some (Forward upto names.now)) }
     {
-        let cumulative = count_of(self.receiver.cumulative_tsn(), self.first_tsn);
+        let cumulative = count_of(self.receiver.receiver().cumulative_tsn(), self.first_tsn);
         if cumulative > upto {
             return true;
         }
@@ -103,7 +103,7 @@ impl<C: Checksum + Drop> Link<C> {
         ensures { result
             ≡ min_with (complete_first self.now.recorded (held_on self.now.recorded stream)) low }
     {
-        let Some(queue) = replay::reassembly(&self.receiver, stream) else {
+        let Some(queue) = replay::reassembly(self.receiver.receiver(), stream) else {
             unreachable!()
         };
         let held = queue.ordered();
@@ -128,7 +128,7 @@ impl<C: Checksum + Drop> Link<C> {
         ensures memory { IsOkUnless result ErrOutOfMemory }
     {
         let chunk = read_forward_tsn(self.alloc, &self.network[k as usize].bytes, &self.checksum)?;
-        let cumulative = count_of(self.receiver.cumulative_tsn(), self.first_tsn);
+        let cumulative = count_of(self.receiver.receiver().cumulative_tsn(), self.first_tsn);
         if cumulative > upto {
             return Ok(Reply::Stale);
         }
@@ -153,7 +153,7 @@ impl<C: Checksum + Drop> Link<C> {
         let Kind::Forward { messages, .. } = &self.network[k as usize].kind else {
             unreachable!()
         };
-        let _ = replay::forward_tsn_by_names(&mut self.receiver, chunk);
+        let _ = self.receiver.forward_tsn_by_names(chunk);
         record_names(&mut self.progress, &self.messages, messages);
         self.skipped = upto as usize + 1;
     }

@@ -2,7 +2,7 @@ use Rattle.sctp_link.proofs.Names.{◌≡◌, ◌+◌, ◌-◌, ◌%◌, ◌^◌
 use Rattle.sctp_link.proofs.Names.{after_ack, Reception, IsRight, Kind, Datagram, datagram_record, state_in, record_in, IsLinked, map}
 use Rattle.sctp_model.specs.Reply as R
 use Rattle.sctp_receiver.specs.Inbound.{numbers_of}
-use Rattle.sctp_receiver.specs.Receiver.{filter_of}
+use Rattle.sctp_receiver.specs.Receiver.{filter_of, sack}
 use Rattle.sctp_model.specs.declared.event.Event.TheVariants as E
 use Rattle.sctp_link.proofs.sides.Aligned.{with-receiver}
 use Rattle.sctp_link.specs.declared.record.Kind.TheVariants as K
@@ -17,7 +17,8 @@ use Rattle.sctp_link.proofs.link.Link.ack.Goals as goal
 pub write_datagram-requires-clause-encoding : goal.write_datagram-requires-clause-encoding
 write_datagram-requires-clause-encoding g c = (
   tt,
-  fits-encoding c.self.invariant.1 c.args.credit c.self.inside.receiver refl (sack_of c.in-Ok.sack) c.in-Ok.ensures.sack,
+  fits-encoding c.self.invariant.1 c.args.credit c.self.inside.receiver refl (sack_of c.in-Ok.sack)
+      (c.in-Ok.ensures.sack ∙ ap (sack c.args.credit) c.receiver.ensures),
 )
 
 -- The record has the datagram that says what came.
@@ -26,7 +27,7 @@ acked : (g : Over) (c : After-push_reserved g) → record (record_in c.self.insi
 acked g c =
     let r = c.self.inside.receiver in
     let s = sack_of c.in-Ok.sack in
-    let is = c.in-Ok.ensures.sack in
+    let is = (c.in-Ok.ensures.sack ∙ ap (sack c.args.credit) c.receiver.ensures) in
     let cut = cut-is c.self.invariant.1 c.args.credit r refl s is in
     let counted = answered-count c.self.invariant.1 c.args.credit r refl s is in
     let kept : c.in_ok-blocks.blocks.items ≡ s.gap_ack_blocks = search rules in
@@ -48,7 +49,7 @@ invariant_of-self-2 g c =
     let sum = g.C.Checksum.sum c.self.inside.checksum in
     let r = c.self.inside.receiver in
     let s = sack_of c.in-Ok.sack in
-    let is = c.in-Ok.ensures.sack in
+    let is = (c.in-Ok.ensures.sack ∙ ap (sack c.args.credit) c.receiver.ensures) in
     let cut = cut-is c.self.invariant.1 c.args.credit r refl s is in
     let counted = answered-count c.self.invariant.1 c.args.credit r refl s is in
     let kind : Kind = K.Sack c.from.result c.args.credit c.in_ok-blocks.blocks c.in_ok-duplicates.duplicates in

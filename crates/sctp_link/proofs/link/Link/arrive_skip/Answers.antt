@@ -1,5 +1,5 @@
 use Rattle.sctp_link.proofs.Names.{◌≡◌, ℕ, ◌≤◌, true, List, Some, refl, ap, sym, ◌∙◌, arith, slice_get, if◌then◌else◌, nat_tests, Forward, cumulative}
-use Rattle.sctp_link.proofs.Names.{skip_counts, after_arrive, arrive_reply, record_in, wire_skip}
+use Rattle.sctp_link.proofs.Names.{skip_counts, after_arrive, arrive_reply, record_in, wire_skip, Reception}
 use Rattle.sctp_model.specs.Reply as R
 use Rattle.sctp_link.proofs.acknowledgement.Reporting.{cumulative-place}
 use Rattle.sctp_link.proofs.skips.SkipComes.{reads-skip}
@@ -23,7 +23,14 @@ pub follow-requires-clause-counts : goal.follow-requires-clause-counts
 follow-requires-clause-counts g c =
     let w = record_in c.self.inside in
     let past : cumulative w ≤ c.args.upto =
-    omega (arith, c.if-cumulative-upto.false, c.count_of-cumulative.ensures, c.cumulative_tsn.ensures, cumulative-place c.self.invariant.1 0) in
+    omega (
+      arith,
+      c.if-cumulative-upto.false,
+      c.count_of-cumulative.ensures,
+      c.cumulative_tsn.ensures,
+      ap (λ (r : Reception). r.cumulative_tsn) c.receiver.ensures,
+      cumulative-place c.self.invariant.1 0,
+    ) in
     let counted : skip_counts w c.args.upto ≡ true = grind (arith, nat_tests) in
     rw (← c.self.view_is) counted
 
@@ -31,7 +38,14 @@ pub returns-clause-ok : goal.returns-clause-ok
 returns-clause-ok g c =
     let w = record_in c.self.inside in
     let past : cumulative w ≤ c.args.upto =
-    omega (arith, c.if-cumulative-upto.false, c.count_of-cumulative.ensures, c.cumulative_tsn.ensures, cumulative-place c.self.invariant.1 0) in
+    omega (
+      arith,
+      c.if-cumulative-upto.false,
+      c.count_of-cumulative.ensures,
+      c.cumulative_tsn.ensures,
+      ap (λ (r : Reception). r.cumulative_tsn) c.receiver.ensures,
+      cumulative-place c.self.invariant.1 0,
+    ) in
     let counted : skip_counts w c.args.upto ≡ true = grind (arith, nat_tests) in
     let v = c.args.self.now.recorded in
     let counts : skip_counts v c.args.upto ≡ true = rw (← c.self.view_is) counted in

@@ -1,6 +1,7 @@
 use Rattle.sctp_link.proofs.Names.{◌≡◌, ℕ, ap, sym, ◌∙◌, ◌<◌, ◌-◌, true, List, Some, None, refl, arith, length, find, min, max, option_map, slice_index_or}
 use Rattle.sctp_link.proofs.Names.{deque_len, not_both, ChunkSet, ReassemblyState, is_open, index_of, held_on, is_held, set_of, OpenStream, has_number}
-use Rattle.sctp_link.proofs.Names.{record_in, state_in, sides_in, State, IsLinked, InboundStream, some-same}
+use Rattle.sctp_link.proofs.Names.{record_in, state_in, sides_in, State, IsLinked, InboundStream, Reception, some-same}
+use Rattle.sctp_receiver.specs.Receiver.{stream_of}
 use Rattle.sctp_link.proofs.sides.Changes.{inbound-answered, next-answered}
 use Rattle.sctp_link.proofs.upkeep.Lookups.{none-open, queue-none, queue-at}
 use Rattle.sctp_link.proofs.receiver.Hears.{none-answered, ends-empty, set-held, low-front, high-back, none-there}
@@ -18,7 +19,8 @@ pub unreachable-requires-in_default-reassembly : goal.unreachable-requires-in_de
 unreachable-requires-in_default-reassembly g c =
     let o : is_open (record_in c.self.inside) c.args.stream ≡ true = rw (← c.self.view_is) at c.requires in
     let none = queue-none c.args.stream (sides_in c.self.inside).streams
-    (inbound-answered c.self.invariant.0 (λ (l : InboundStream). l.queue) c.args.stream None c.in_default-reassembly.ensures) in
+    (inbound-answered c.self.invariant.0 (λ (l : InboundStream). l.queue) c.args.stream None (c.in_default-reassembly.ensures
+    ∙ ap (λ (r : Reception). option_map (λ (l : InboundStream). l.queue) (stream_of c.args.stream r)) c.receiver.ensures)) in
     not_both (sym (none-open (record_in c.self.inside) c.args.stream (sides_in c.self.inside).streams refl none) ∙ o)
 
 -- What a link tells of a stream: where it stands, which index is expected next, and the ordered sets that are held.
@@ -33,7 +35,8 @@ record IsAnswered (x : State) (s next : ℕ) (sets : List ChunkSet) : Type 0 whe
 at : (g : Over) (c : After-ordered-held g) → IsAnswered (state_in c.self.inside) c.args.stream c.in-Some.next c.ordered-held.result.now.items
 at g c =
     let p = queue-at c.args.stream (sides_in c.self.inside).streams c.in-Some-reassembly.queue.now (inbound-answered c.self.invariant.0
-    (λ (l : InboundStream). l.queue) c.args.stream (Some c.in-Some-reassembly.queue.now) c.in-Some-reassembly.ensures) in
+    (λ (l : InboundStream). l.queue) c.args.stream (Some c.in-Some-reassembly.queue.now) (c.in-Some-reassembly.ensures
+    ∙ ap (λ (r : Reception). option_map (λ (l : InboundStream). l.queue) (stream_of c.args.stream r)) c.receiver.ensures)) in
     record {
       at = p.at;
       d = p.stream;

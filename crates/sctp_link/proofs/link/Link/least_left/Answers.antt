@@ -1,6 +1,7 @@
 use Rattle.sctp_link.proofs.Names.{◌≡◌, ℕ, ap, sym, ◌∙◌, ◌<◌, true, false, Some, None, refl, arith, length, min, option_copied, slice_index_or, if◌then◌else◌}
 use Rattle.sctp_link.proofs.Names.{deque_len, not_both, is_complete, ReassemblyState, is_open, index_of, held_on, is_held, set_of, min_with, record_in}
-use Rattle.sctp_link.proofs.Names.{sides_in, InboundStream, complete-set, first-at, LinkRecord, ChunkSet, Facts, Bool, complete_first}
+use Rattle.sctp_link.proofs.Names.{sides_in, InboundStream, Reception, option_map, complete-set, first-at, LinkRecord, ChunkSet, Facts, Bool, complete_first}
+use Rattle.sctp_receiver.specs.Receiver.{stream_of}
 use Rattle.sctp_link.proofs.sides.Changes.{inbound-answered}
 use Rattle.sctp_link.proofs.upkeep.Lookups.{none-open, queue-none, queue-at, QueueAt}
 use Rattle.sctp_link.proofs.receiver.Hears.{set-held, none-there}
@@ -16,13 +17,15 @@ unreachable-requires g c =
     let s = c.args.stream in
     let o : is_open w s ≡ true = rw (← c.self.view_is) at c.requires in
     let none = queue-none s (sides_in c.self.inside).streams (ap option_copied (sym c.in_default.is)
-    ∙ inbound-answered c.self.invariant.0 (λ (l : InboundStream). l.queue) s (option_copied c.reassembly.result) c.reassembly.ensures) in
+    ∙ inbound-answered c.self.invariant.0 (λ (l : InboundStream). l.queue) s (option_copied c.reassembly.result) (c.reassembly.ensures
+    ∙ ap (λ (r : Reception). option_map (λ (l : InboundStream). l.queue) (stream_of c.args.stream r)) c.receiver.ensures)) in
     not_both (sym (none-open w s (sides_in c.self.inside).streams refl none) ∙ o)
 
 -- The queue of the stream, and the ordered sets that it holds.
 queue : (g : Over) (c : After-ordered-held g) → QueueAt c.args.stream (sides_in c.self.inside).streams c.in-Some.queue.now
 queue g c = queue-at c.args.stream (sides_in c.self.inside).streams c.in-Some.queue.now (ap option_copied (sym c.in-Some.is)
-    ∙ inbound-answered c.self.invariant.0 (λ (l : InboundStream). l.queue) c.args.stream (option_copied c.reassembly.result) c.reassembly.ensures)
+    ∙ inbound-answered c.self.invariant.0 (λ (l : InboundStream). l.queue) c.args.stream (option_copied c.reassembly.result) (c.reassembly.ensures
+    ∙ ap (λ (r : Reception). option_map (λ (l : InboundStream). l.queue) (stream_of c.args.stream r)) c.receiver.ensures))
 
 pub returns-in_default-front : goal.returns-in_default-front
 returns-in_default-front g c =

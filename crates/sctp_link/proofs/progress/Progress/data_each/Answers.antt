@@ -17,7 +17,7 @@ record_complete-requires-clause-numbers c = c.self.invariant
 pub record_complete-requires-clause-arrivals : goal.record_complete-requires-clause-arrivals
 record_complete-requires-clause-arrivals c =
     ap length c.deref.ensures.value
-    ∙ answered c.args.chunks.now c.in_ok-arrivals.arrivals.items c.args.receiver.now c.data_each_with_any_ssn.new.receiver c.in_ok-arrivals.ensures.ok
+    ∙ answered c.args.chunks.now c.in_ok-arrivals.arrivals.items c.args.receiver.now c.data_each.new.self c.in_ok-arrivals.ensures.ok
 
 pub invariant_of-self-2 : goal.invariant_of-self-2
 invariant_of-self-2 c =

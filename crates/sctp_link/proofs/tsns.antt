@@ -1,0 +1,5 @@
+pub mod TsnLists
+pub mod Placeholders
+pub mod QueueCalls
+pub mod TakenBack
+pub mod ReceiverTsns
