@@ -703,10 +703,11 @@ struct sctpr_taken_back {
     uint16_t stream;
 };
 
-/* Takes back what a SACK no longer reports (RFC 4960 6.2.1 D iv). A SACK that comes late, with the same cumulative TSN, takes back what
- * a later one reported, and the next one reports it anew. Call it before sctpr_sender_acked with the same SACK. Rows, count and codes are
- * as there, with a row for each chunk that comes back, and none without sctpr_sender_keep_reported; and SCTPR_QUEUE_FULL, where all bytes
- * would be more than the greatest size_t. */
+/* Takes back what a SACK no longer reports (RFC 4960 6.2.1 D iv). Past its last gap ack block it takes back nothing, as a SACK may be cut to
+ * the path MTU (6.7); one that reports nothing in blocks takes back all. A SACK that comes late, with the same cumulative TSN, takes back
+ * what a later one reported, and the next one reports it anew. Call it before sctpr_sender_acked with the same SACK. Rows, count and codes
+ * are as there, with a row for each chunk that comes back, and none without sctpr_sender_keep_reported; and SCTPR_QUEUE_FULL, where all
+ * bytes would be more than the greatest size_t. */
 sctpr_code sctpr_sender_take_back(sctpr_sender *sender, const uint8_t *chunk, size_t length, struct sctpr_taken_back *rows, size_t room,
                                   size_t *count);
 

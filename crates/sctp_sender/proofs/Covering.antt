@@ -18,13 +18,14 @@ use Rattle.sctp_outbound.specs.Marks.{as_acknowledged}
 use Rattle.sctp_outbound.specs.payload_queue.Blocks.{is_in_blocks}
 use Rattle.sctp_serial.specs.DataChunks.{following_tsn}
 use Rattle.sctp_sender.specs.Flight.{Flight, IsContiguous, after_sack, reports, reports_anew, take_sack}
-use Rattle.sctp_sender.specs.Keeping.{Cover, back_each, back_of, can_at, can_come_back, is_uncovered, keep_each, kept_after, return_at, returns_at, trimmed}
-use Rattle.sctp_sender.specs.Keeping.{kept_from}
+use Rattle.sctp_sender.specs.Keeping.{Cover, back_each, back_of, can_at, can_come_back, is_uncovered, keep_each, kept_after, return_at, returns_at, takes_back}
+use Rattle.sctp_sender.specs.Keeping.{kept_from, tells_of, trimmed}
 use Rattle.sctp_sender.specs.Reporting.{AreKnown, ascends_from}
 use Rattle.sctp_sender.specs.Telling.{is_reached}
 use Rattle.sctp_sender.proofs.Covers.{neither}
 use Rattle.sctp_sender.proofs.Keepings.{length-keep_each, taken-within}
 use Rattle.sctp_sender.proofs.Known.{known-at}
+use Rattle.sctp_sender.proofs.Tells.{told-same}
 use Rattle.sctp_sender.proofs.Reported.{IsTaken, changed-at, ends, reached}
 use Rattle.sctp_sender.proofs.Runs.{any_chunk, past-is, tsn-at}
 use Rattle.sctp_sender.proofs.Sacks.{apart, count as marked-count, cum-is, run as marked-run}
@@ -84,18 +85,48 @@ module _ {s : Sack} {f : Flight} {sorted : List GapAckBlock} (taken : IsTaken s 
   reports-here : (k : ℕ) (d : ChunkPayloadData) → k < length now → reports s (get_or now k d) ≡ is_reached count sorted k
   reports-here k d lt = reached taken k d lt
 
+  now-far : (k : ℕ) (d : ChunkPayloadData) → count + k < length now → distance s.cumulative_tsn_ack (get_or now (count + k) d).tsn ≡ suc k
+  now-far k d lt =
+      let tsn = tsn-at now (following_tsn f.acked_tsn) (count + k) d (omega arith) taken.whole.run lt in
+      let cum = cum-is f.acked_tsn s.cumulative_tsn_ack taken.whole.in_range taken.fits in
+      let few = taken.whole.few in
+      apart (get_or now (count + k) d).tsn s.cumulative_tsn_ack k taken.fits (omega (arith, few, lt)) (omega (arith, tsn, cum)) ∙ omega arith
+
+  -- the chunk at the place comes back
+  taken-at : (k : ℕ) → k < length now
+      → (returns_at count sorted now k && tells_of sorted (suc k - count)) ≡ takes_back s (get_or now k any_chunk)
+  taken-at k lt = elim (cases_lt k count) [
+    | inl low ↦
+        let front : nat_lt k count ≡ true = grind (arith, nat_tests, low) in
+        let out : returns_at count sorted now k ≡ false = ap (λ b. can_at now k && not (b || is_in_blocks sorted (suc k - count))) front
+        ∙ and-none (can_at now k) in
+        ap (λ b. b && tells_of sorted (suc k - count)) out
+        ∙ sym (ap (λ b. b && tells_of s.gap_ack_blocks (distance s.cumulative_tsn_ack c.tsn)) (sym here ∙ out))
+    | inr ge ↦
+        let whole : count + (k - count) ≡ k = omega (arith, ge) in
+        let far : distance s.cumulative_tsn_ack c.tsn ≡ suc k - count = ap (λ i. distance s.cumulative_tsn_ack (get_or now i any_chunk).tsn) (sym whole)
+        ∙ now-far (k - count) any_chunk (omega (arith, lt, ge)) ∙ omega (arith, ge) in
+        ap (λ b. b && tells_of sorted (suc k - count)) here
+        ∙ ap (λ b. (can_come_back c && not (reports s c)) && b) (told-same sorted s.gap_ack_blocks (suc k - count) taken.are
+        ∙ ap (tells_of s.gap_ack_blocks) (sym far))
+  ]
+    where
+      c : ChunkPayloadData
+      c = get_or now k any_chunk
+
+      here : returns_at count sorted now k ≡ (can_come_back c && not (reports s c))
+      here = ap (λ b. b && not (is_reached count sorted k)) (can-here now k any_chunk lt)
+          ∙ ap (λ b. can_come_back c && not b) (sym (reports-here k any_chunk lt))
+
   -- what comes back, place by place
   pub back-is : (ks : List (Option (List ℕ))) (k : ℕ) → get_or (back_each s now ks) k None ≡ return_at count sorted now ks k
   back-is ks k = elim (cases_lt k (length now)) [
     | inl lt ↦
-        let c : ChunkPayloadData = get_or now k any_chunk in
-        let returns : returns_at count sorted now k ≡ (can_come_back c && not (reports s c)) =
-        ap (λ b. b && not (is_reached count sorted k)) (can-here now k any_chunk lt)
-        ∙ ap (λ b. can_come_back c && not b) (sym (reports-here k any_chunk lt)) in
-        one now ks k any_chunk lt ∙ ap (λ b. if b then get_or ks k None else None) (sym returns)
+        one now ks k any_chunk lt ∙ ap (λ b. if b then get_or ks k None else None) (sym (taken-at k lt))
     | inr ge ↦
         let none : can_at now k ≡ false = get_or_past (map can_come_back now) k false (let n = length-map now can_come_back in omega (arith, n, ge)) in
-        past now ks k ge ∙ sym (ap (λ b. if b && not (is_reached count sorted k) then get_or ks k None else None) none)
+        past now ks k ge
+        ∙ sym (ap (λ b. if (b && not (is_reached count sorted k)) && tells_of sorted (suc k - count) then get_or ks k None else None) none)
   ]
     where
       nil : (k : ℕ) → get_or {A = Option (List ℕ)} [] k None ≡ None
@@ -103,7 +134,7 @@ module _ {s : Sack} {f : Flight} {sorted : List GapAckBlock} (taken : IsTaken s 
 
       one : (xs : List ChunkPayloadData) (ks : List (Option (List ℕ))) (k : ℕ) (d : ChunkPayloadData) → k < length xs
           → get_or (back_each s xs ks) k None ≡ back_of s (get_or xs k d) (get_or ks k None)
-      one xs [] k d lt = nil k ∙ sym (ap (λ x. back_of s (get_or xs k d) x) (nil k) ∙ same (can_come_back (get_or xs k d) && not (reports s (get_or xs k d))))
+      one xs [] k d lt = nil k ∙ sym (ap (λ x. back_of s (get_or xs k d) x) (nil k) ∙ same (takes_back s (get_or xs k d)))
         where
           same : (b : Bool) → (let x : Option (List ℕ) = None in if b then x else None) ≡ None
           same true = refl
@@ -136,13 +167,6 @@ module _ {s : Sack} {f : Flight} {sorted : List GapAckBlock} (taken : IsTaken s 
       → get_or (drop count marked) k d
       ≡ (if reports_anew s (get_or now (count + k) d) then as_acknowledged (get_or now (count + k) d) else get_or now (count + k) d)
   now-at k d lt = get_or-drop count marked k d ∙ changed-at (reports_anew s) as_acknowledged now (count + k) d lt
-
-  now-far : (k : ℕ) (d : ChunkPayloadData) → count + k < length now → distance s.cumulative_tsn_ack (get_or now (count + k) d).tsn ≡ suc k
-  now-far k d lt =
-      let tsn = tsn-at now (following_tsn f.acked_tsn) (count + k) d (omega arith) taken.whole.run lt in
-      let cum = cum-is f.acked_tsn s.cumulative_tsn_ack taken.whole.in_range taken.fits in
-      let few = taken.whole.few in
-      apart (get_or now (count + k) d).tsn s.cumulative_tsn_ack k taken.fits (omega (arith, few, lt)) (omega (arith, tsn, cum)) ∙ omega arith
 
   kept-length : (ks : List (Option (List ℕ))) → length (kept_after s f ks) ≤ length (drop count marked)
   kept-length ks =

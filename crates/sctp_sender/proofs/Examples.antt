@@ -1,5 +1,5 @@
 -- Worked examples, by computation.
-use Rattle.std.proofs.Common.{◌≡◌, ℕ, Bool, true, false, List, [], ◌∷◌, map, option_map, find, Option, Some, None, refl, ap, sym}
+use Rattle.std.proofs.Common.{◌≡◌, ℕ, zero, suc, ◌+◌, Bool, true, false, List, [], ◌∷◌, map, option_map, find, Option, Some, None, refl, ap, sym}
 use Rattle.sctp_util.specs.Serial.{at_or_before, comes_before, distance}
 use Rattle.sctp_data.specs.ChunkSet.{fresh}
 use Rattle.sctp_data.specs.declared.chunk.chunk_payload_data.PayloadProtocolIdentifier.TheVariants as identifiers
@@ -21,6 +21,7 @@ use Rattle.sctp_sender.specs.Keeping.{coming_back, kept_after, answered_back, wi
 use Rattle.sctp_sender.specs.Late.{late_order, leaving_each}
 use Rattle.sctp_sender.specs.Resending.{after_misses, is_to_resend, thirds, worn_tsns}
 use Rattle.sctp_sender.specs.declared.sender.flight.Released.{Released}
+use Rattle.sctp_sender.specs.declared.sender.flight.kept.TakenBack.{TakenBack}
 use Rattle.sctp_sender.specs.Thresholds.{with_lows}
 use Rattle.sctp_stream.specs.declared.stream.StreamState.{StreamState}
 use Rattle.sctp_stream.specs.Stream.{new_stream}
@@ -154,6 +155,11 @@ up_to tsn reported = record { cumulative_tsn_ack = tsn; advertised_receiver_wind
 abbrev four : Flight
 four = in_flight (fragment 103 true true (3 ∷ []) ∷ fragment 104 true true (4 ∷ []) ∷ fragment 105 true true (5 ∷ []) ∷ fragment 106 true true (6 ∷ []) ∷ [])
 
+-- so many from a TSN on
+abbrev chunks : ℕ → ℕ → List ChunkPayloadData
+chunks tsn zero = []
+chunks tsn (suc many) = fragment tsn true true (tsn ∷ []) ∷ chunks (tsn + 1) many
+
 -- 104 and 105 are reported, and kept
 abbrev reported_two : Flight
 reported_two = flight.after_sack (up_to 102 (block 2 3 ∷ [])) four
@@ -172,6 +178,43 @@ back = None ∷ Some (4 ∷ []) ∷ None ∷ []
 comes : coming_back (up_to 102 (block 3 3 ∷ [])) reported_two kept_two ≡ back
 unfolding distance comes_before at_or_before
 comes = refl
+
+-- with no block nothing is reported any more, and all that is kept comes back
+all_comes : coming_back (up_to 102 []) reported_two kept_two ≡ kept_two
+unfolding distance comes_before at_or_before
+all_comes = refl
+
+-- 2 to 10 past 102 are reported, and kept; then 2 to 3 alone, as where a SACK is cut to the length of a packet: of 112 it tells nothing
+abbrev ten : Flight
+ten = record (in_flight (chunks 103 10)) { next_tsn = 113 }
+
+abbrev reported_nine : Flight
+reported_nine = flight.after_sack (up_to 102 (block 2 10 ∷ [])) ten
+
+abbrev kept_nine : List (Option (List ℕ))
+kept_nine = kept_after (up_to 102 (block 2 10 ∷ [])) ten []
+
+abbrev back_by : List GapAckBlock → List ℕ
+back_by reported = map (λ (r : TakenBack). r.tsn)
+    (answered_back (coming_back (up_to 102 reported) reported_nine kept_nine) reported_nine.queue.inflight.chunks)
+
+cut : back_by (block 2 3 ∷ []) ≡ []
+unfolding distance comes_before at_or_before
+cut = refl
+
+-- what lies before its last block, and it does not report, comes back
+between : back_by (block 2 3 ∷ block 6 8 ∷ []) ≡ 106 ∷ 107 ∷ []
+unfolding distance comes_before at_or_before
+between = refl
+
+-- and likewise where its blocks do not ascend, or report nothing
+unsorted : back_by (block 6 8 ∷ block 2 3 ∷ block 9 4 ∷ []) ≡ 106 ∷ 107 ∷ []
+unfolding distance comes_before at_or_before
+unsorted = refl
+
+no_block : back_by [] ≡ 104 ∷ 105 ∷ 106 ∷ 107 ∷ 108 ∷ 109 ∷ 110 ∷ 111 ∷ 112 ∷ []
+unfolding distance comes_before at_or_before
+no_block = refl
 
 answered : answered_back back reported_two.queue.inflight.chunks ≡ record { tsn = 104; stream = 1; bytes = 1; message = 0 } ∷ []
 unfolding distance comes_before at_or_before

@@ -8,6 +8,7 @@ use Rattle.std.proofs.lemmas.Bool.Decides.{nat_tests}
 use Rattle.std.proofs.lemmas.List.Sums.{sum_by-cons}
 use Rattle.std.proofs.lemmas.Option.{none-some}
 use Rattle.sctp_data.specs.declared.chunk.chunk_payload_data.ChunkPayloadData.{ChunkPayloadData}
+use Rattle.sctp_util.specs.Serial.{distance}
 use Rattle.sctp_data.specs.SelectiveAck.{Sack}
 use Rattle.sctp_outbound.specs.Marks.{as_taken_back}
 use Rattle.sctp_outbound.specs.pending_queue.Whole.{partially_sent}
@@ -18,7 +19,7 @@ use Rattle.sctp_sender.specs.declared.sender.refusal.SenderRefusal.TheVariants.{
 use Rattle.sctp_sender.specs.Flight.{Flight, IsContiguous, count_acked, is_outdated, is_within, reports, sack_refusal, tsns_from}
 use Rattle.sctp_sender.specs.Keeping.{back_each, bytes_back, keep, keep_each, kept_from, restored, restored_with, answered_back}
 use Rattle.sctp_sender.specs.Keeping.{answered_of}
-use Rattle.sctp_sender.specs.Keeping.{trimmed, with_restored}
+use Rattle.sctp_sender.specs.Keeping.{tells_of, trimmed, with_restored}
 use Rattle.sctp_sender.specs.SideBySide.{StandSideBySide, number_of_half}
 use Rattle.sctp_sender.specs.Totals.{AreSettled, IsAllSettled}
 
@@ -126,7 +127,8 @@ module _ (s : Sack) where
       → bytes_of (restored (back_each s cs ks) cs) ≡ bytes_of cs + weight (back_each s cs ks)
   back-bytes cs [] a = omega arith
   back-bytes [] (k ∷ ks) a = refl
-  back-bytes (c ∷ cs) (k ∷ ks) a = by c.acked c.abandoned (reports s c) k a.0 (back-bytes cs ks a.1)
+  back-bytes (c ∷ cs) (k ∷ ks) a = by c.acked c.abandoned (reports s c)
+      (tells_of s.gap_ack_blocks (distance s.cumulative_tsn_ack c.tsn)) k a.0 (back-bytes cs ks a.1)
     where
       more : List (Option (List ℕ))
       more = back_each s cs ks
@@ -146,14 +148,15 @@ module _ (s : Sack) where
           let w = sum_by-cons size (Some bytes) more in
           omega (arith, a, b, w, z, h)
 
-      by : (acked abandoned reported : Bool) (k : Option (List ℕ)) → (acked ≡ true → length c.user_data ≡ 0)
-          → bytes_of (restored more cs) ≡ bytes_of cs + weight more → (let b : Option (List ℕ) = if (acked && not abandoned) && not reported then k else None in
+      by : (acked abandoned reported told : Bool) (k : Option (List ℕ)) → (acked ≡ true → length c.user_data ≡ 0)
+          → bytes_of (restored more cs) ≡ bytes_of cs + weight more → (let b : Option (List ℕ) = if ((acked && not abandoned) && not reported) && told then k else None in
           bytes_of (restored_with b c ∷ restored more cs) ≡ bytes_of (c ∷ cs) + weight (b ∷ more))
-      by false abandoned reported k z h = none h
-      by true true reported k z h = none h
-      by true false true k z h = none h
-      by true false false None z h = none h
-      by true false false (Some bytes) z h = some bytes (z refl) h
+      by false abandoned reported told k z h = none h
+      by true true reported told k z h = none h
+      by true false true told k z h = none h
+      by true false false false k z h = none h
+      by true false false true None z h = none h
+      by true false false true (Some bytes) z h = some bytes (z refl) h
 
 pub restored-all-settled : (bs : List (Option (List ℕ))) (f : Flight) → IsAllSettled f.queue → IsAllSettled (with_restored bs f).queue
 restored-all-settled bs f a = record { ordered = a.ordered; unordered = a.unordered; inflight = restored-settled bs f.queue.inflight.chunks a.inflight }

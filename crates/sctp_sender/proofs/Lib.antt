@@ -41,6 +41,7 @@ pub mod WalkCosts
 pub mod Covers
 pub mod Listed
 pub mod Placed
+pub mod Tells
 pub mod Covering
 pub mod AnewKept
 pub mod LeftReported

@@ -13,7 +13,7 @@ use Rattle.sctp_util.proofs.More.{fails}
 use Rattle.sctp_data.specs.declared.chunk.chunk_payload_data.ChunkPayloadData.{ChunkPayloadData}
 use Rattle.sctp_data.specs.declared.chunk.chunk_selective_ack.GapAckBlock.{GapAckBlock}
 use Rattle.sctp_outbound.specs.payload_queue.Blocks.{is_in_block, is_in_blocks}
-use Rattle.sctp_sender.specs.Keeping.{ArePassed, can_at, return_at, returns_at}
+use Rattle.sctp_sender.specs.Keeping.{ArePassed, can_at, return_at, returns_at, tells_of}
 use Rattle.sctp_sender.specs.Reporting.{ascends_from}
 use Rattle.sctp_sender.specs.Telling.{is_reached}
 use Rattle.sctp_sender.proofs.Anew.{any-at, both, in-block, none-up-to}
@@ -194,10 +194,15 @@ can-none (d ∷ cs) (suc k) e = can-none cs k e
 
 module _ (count : ℕ) (blocks : List GapAckBlock) (cs : List ChunkPayloadData) (ks : List (Option (List ℕ))) (k : ℕ) where
   pub none-at : returns_at count blocks cs k ≡ false → return_at count blocks cs ks k ≡ None
-  none-at e = ap (λ b. if b then get_or ks k None else None) e
+  none-at e = ap (λ b. if b && tells_of blocks (suc k - count) then get_or ks k None else None) e
 
-  pub some-at : returns_at count blocks cs k ≡ true → return_at count blocks cs ks k ≡ get_or ks k None
-  some-at e = ap (λ b. if b then get_or ks k None else None) e
+  pub some-at : returns_at count blocks cs k ≡ true → tells_of blocks (suc k - count) ≡ true → return_at count blocks cs ks k ≡ get_or ks k None
+  some-at e told = ap (λ b. if b && tells_of blocks (suc k - count) then get_or ks k None else None) e
+      ∙ ap (λ b. if b then get_or ks k None else None) told
+
+  pub untold-at : tells_of blocks (suc k - count) ≡ false → return_at count blocks cs ks k ≡ None
+  untold-at e = ap (λ b. if b then get_or ks k None else None)
+      (ap (λ b. returns_at count blocks cs k && b) e ∙ and-none (returns_at count blocks cs k))
 
   pub none-below : k < count → return_at count blocks cs ks k ≡ None
   none-below lt =

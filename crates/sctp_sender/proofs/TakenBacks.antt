@@ -8,11 +8,12 @@ use Rattle.std.proofs.lemmas.List.{length-map}
 use Rattle.std.proofs.lemmas.Option.{none-some}
 use Rattle.sctp_data.specs.declared.chunk.chunk_payload_data.ChunkPayloadData.{ChunkPayloadData}
 use Rattle.sctp_data.specs.SelectiveAck.{Sack}
+use Rattle.sctp_util.specs.Serial.{distance}
 use Rattle.sctp_outbound.specs.Marks.{as_taken_back}
 use Rattle.sctp_serial.specs.DataChunks.{following_tsn, has_tsn}
 use Rattle.sctp_sender.specs.declared.sender.flight.kept.TakenBack.{TakenBack}
 use Rattle.sctp_sender.specs.Flight.{Flight, IsContiguous, can_resend, is_outdated, is_outstanding_in, reports, sack_refusal}
-use Rattle.sctp_sender.specs.Keeping.{back_each, bytes_back, placed, restored, restored_with, takes_back, answered_of_placed, answered_back, with_restored}
+use Rattle.sctp_sender.specs.Keeping.{back_each, bytes_back, placed, restored, restored_with, takes_back, tells_of, answered_of_placed, answered_back, with_restored}
 use Rattle.sctp_outbound.specs.outbound_queue.OutboundQueue.{total_bytes}
 use Rattle.sctp_sender.specs.declared.sender.flight.returns.PlacedData.{PlacedData}
 use Rattle.sctp_sender.specs.declared.sender.refusal.SenderRefusal.{SenderRefusal}
@@ -61,10 +62,10 @@ module _ (s : Sack) where
   back-at (c ∷ cs) (k ∷ ks) zero d bytes e = passes (takes_back s c) k bytes e
   back-at (c ∷ cs) (k ∷ ks) (suc i) d bytes e = back-at cs ks i d bytes e
 
-  open' : (acked abandoned reported : Bool) → ((acked && not abandoned) && not reported) ≡ true → not abandoned ≡ true
-  open' true true reported e = absurd (false≢true e)
-  open' true false reported e = refl
-  open' false abandoned reported e = absurd (false≢true e)
+  open' : (acked abandoned reported told : Bool) → (((acked && not abandoned) && not reported) && told) ≡ true → not abandoned ≡ true
+  open' true true reported told e = absurd (false≢true e)
+  open' true false reported told e = refl
+  open' false abandoned reported told e = absurd (false≢true e)
 
   pub outstanding : (f : Flight) → IsContiguous f → (ks bs : List (Option (List ℕ))) → bs ≡ back_each s f.queue.inflight.chunks ks
       → All (λ r. can_resend r.tsn (with_restored bs f) ≡ true) (answered_back bs f.queue.inflight.chunks)
@@ -83,7 +84,8 @@ module _ (s : Sack) where
           let back = back-at cs ks i d bytes (ap (λ xs. get_or xs i None) (sym is) ∙ e) in
           ap (λ t. is_outstanding_in (find (has_tsn t) (restored bs cs))) tsn
           ∙ ap is_outstanding_in (found ∙ ap Some (restored-at bs cs i d bytes lt e))
-          ∙ open' (get_or cs i d).acked (get_or cs i d).abandoned (reports s (get_or cs i d)) back
+          ∙ open' (get_or cs i d).acked (get_or cs i d).abandoned (reports s (get_or cs i d))
+          (tells_of s.gap_ack_blocks (distance s.cumulative_tsn_ack (get_or cs i d).tsn)) back
 
 -- ## By a sender that keeps what was reported
 

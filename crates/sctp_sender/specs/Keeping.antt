@@ -1,5 +1,5 @@
 -- What a sender keeps of the chunks that gap ack blocks reported, and what a SACK takes back of that (RFC 4960 6.2.1 D iv).
-use Rattle.std.specs.Prelude.{◌≡◌, ◌==◌, ◌^◌, ℕ, zero, suc, ◌+◌, ◌-◌, ◌<◌, ◌≤◌, nat_le, Bool, false, true, not, ◌&&◌, if◌then◌else◌, List, [], ◌∷◌, ◌++◌}
+use Rattle.std.specs.Prelude.{◌≡◌, ◌==◌, ◌^◌, ℕ, zero, suc, ◌+◌, ◌-◌, ◌<◌, ◌≤◌, nat_le, Bool, false, true, not, ◌&&◌, ◌||◌, nat_lt, if◌then◌else◌, List, [], ◌∷◌, ◌++◌}
 use Rattle.std.specs.Prelude.{length, map, take}
 use Rattle.std.specs.Prelude.{drop, slice_index_or}
 use Rattle.std.specs.Prelude.{Option, Some, None, IfSome}
@@ -21,7 +21,7 @@ use Rattle.sctp_sender.specs.declared.sender.flight.runs.Left.{Left}
 use Rattle.sctp_sender.specs.declared.sender.flight.returns.PlacedData.{PlacedData}
 use Rattle.sctp_sender.specs.Flight.{Flight, count_acked, is_outdated, reports, reports_anew, with_queue}
 use Rattle.sctp_sender.specs.Outgoing.{has_number}
-use Rattle.sctp_sender.specs.Reporting.{AreKnown, ascends_from}
+use Rattle.sctp_sender.specs.Reporting.{AreKnown, after_blocks, ascends_from}
 use Rattle.sctp_sender.specs.Telling.{is_reached}
 
 -- ## What is kept, place by place in flight: the user data of a chunk, or nothing; and nothing behind the list
@@ -59,9 +59,19 @@ places_kept s f ks = length (kept_after s f ks) - length (drop (count_acked s f)
 
 -- ## What comes back
 
--- an earlier SACK reported the chunk, its message is not abandoned, and this one does not report it
+-- the greatest distance that the blocks report, 0 where they report none
+abbrev pub greatest_distance : List GapAckBlock → ℕ
+greatest_distance blocks = after_blocks blocks - 1
+
+-- whether they tell of a distance: a SACK that is cut to the path MTU leaves out the highest TSNs (RFC 4960 6.7)
+abbrev pub tells_of : List GapAckBlock → ℕ → Bool
+tells_of blocks n = (greatest_distance blocks == 0) || nat_lt n (greatest_distance blocks)
+
+-- an earlier SACK reported the chunk, its message is not abandoned, and this one tells of it, and does not report it
 abbrev pub takes_back : Sack → ChunkPayloadData → Bool
-takes_back s c = (c.acked && not c.abandoned) && not (reports s c)
+takes_back s c =
+    ((c.acked && not c.abandoned) && not (reports s c))
+    && tells_of s.gap_ack_blocks (distance s.cumulative_tsn_ack c.tsn)
 
 -- what is kept of it comes back, if it is so
 abbrev pub back_of : Sack → ChunkPayloadData → Option (List ℕ) → Option (List ℕ)
@@ -165,11 +175,12 @@ abbrev pub ArePassed : ℕ → ℕ → List GapAckBlock → ℕ → Type 0
 ArePassed count i blocks place =
     (n : ℕ) → place < count + n → is_in_blocks (take i blocks) n ≡ false
 
--- what is kept, where the chunk at the place comes back
+-- what is kept, where the chunk at the place comes back, as the blocks tell of it
 abbrev pub return_at : ℕ → List GapAckBlock → List ChunkPayloadData → List (Option (List ℕ)) → ℕ
     → Option (List ℕ)
 return_at count blocks chunks ks k =
-    if returns_at count blocks chunks k then slice_index_or ks k None else None
+    if returns_at count blocks chunks k && tells_of blocks (suc k - count)
+    then slice_index_or ks k None else None
 
 -- ## What comes back, with its place
 

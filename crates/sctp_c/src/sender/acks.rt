@@ -239,10 +239,11 @@ pub extern "C" fn sctpr_sender_keep_reported(sender: &mut SctpSender) -> u32
     }
 }
 
-/// Takes back what a SACK, of which these are the bytes, no longer reports (RFC 4960 6.2.1 D iv): such a chunk is outstanding again, with
-/// its bytes. Call it before `sctpr_sender_acked` with the same SACK. `SCTPR_OK`: `count` becomes how many chunks come back, and the first so
-/// many `rows` tell of them, in the order of their TSNs; none, where the sender does not keep what is reported. `SCTPR_STALE` and the
-/// refusals are those of `sctpr_sender_acked`; and `SCTPR_QUEUE_FULL`, where all bytes would be more than the greatest `size_t`.
+/// Takes back what a SACK, of which these are the bytes, no longer reports (RFC 4960 6.2.1 D iv), and nothing past its last gap ack
+/// block (6.7): such a chunk is outstanding again, with its bytes. Call it before `sctpr_sender_acked` with the same SACK. `SCTPR_OK`:
+/// `count` becomes how many chunks come back, and the first so many `rows` tell of them, in the order of their TSNs; none, where the
+/// sender does not keep what is reported. `SCTPR_STALE` and the refusals are those of `sctpr_sender_acked`; and `SCTPR_QUEUE_FULL`,
+/// where all bytes would be more than the greatest `size_t`.
 #[unsafe(no_mangle)]
 pub extern "C" fn sctpr_sender_take_back(
     alloc: Global,

@@ -44,10 +44,10 @@ impl Sender {
         Ok(())
     }
 
-    /// Takes back what a SACK no longer reports (RFC 4960 6.2.1 D iv): each chunk in flight that is acknowledged and kept, of no
-    /// abandoned message, is outstanding again with its bytes, by which its stream has more. Answers them in order of TSNs. Call it
-    /// before `acked` with the same SACK. Refuses, in this order, as `acked`, for memory, with `QueueFull`, where all bytes exceed the
-    /// greatest usize.
+    /// Takes back what a SACK no longer reports (RFC 4960 6.2.1 D iv): each kept chunk of no abandoned message is outstanding again,
+    /// with its bytes, and its stream has more; past the last block, if any, none: a SACK may be cut (6.7). Answers them in order of
+    /// TSNs. Call it before `acked` with the same SACK. Refuses, in this order, as `acked`, for memory, with `QueueFull`, where all
+    /// bytes exceed the greatest usize.
     pub fn take_back(&mut self, sack: &ChunkSelectiveAck) -> Result<Vec<TakenBack>, SenderRefusal>
         ensures answer { IfOk result (λ r. r.items ≡ taken_back_by (sack_of sack.now) self.old) }
         ensures ok { OnOk result (self.new ≡ after_take_back (sack_of sack.now) self.old) }

@@ -676,10 +676,11 @@ extern "C" {
     /// SCTPR_CHUNKS_IN_FLIGHT, where any chunk is in flight.
     pub fn sctpr_sender_keep_reported(sender: *mut sctpr_sender) -> sctpr_code;
 
-    /// Takes back what a SACK no longer reports (RFC 4960 6.2.1 D iv). A SACK that comes late, with the same cumulative TSN, takes back what
-    /// a later one reported, and the next one reports it anew. Call it before sctpr_sender_acked with the same SACK. Rows, count and codes are
-    /// as there, with a row for each chunk that comes back, and none without sctpr_sender_keep_reported; and SCTPR_QUEUE_FULL, where all bytes
-    /// would be more than the greatest size_t.
+    /// Takes back what a SACK no longer reports (RFC 4960 6.2.1 D iv). Past its last gap ack block it takes back nothing, as a SACK may be cut to
+    /// the path MTU (6.7); one that reports nothing in blocks takes back all. A SACK that comes late, with the same cumulative TSN, takes back
+    /// what a later one reported, and the next one reports it anew. Call it before sctpr_sender_acked with the same SACK. Rows, count and codes
+    /// are as there, with a row for each chunk that comes back, and none without sctpr_sender_keep_reported; and SCTPR_QUEUE_FULL, where all
+    /// bytes would be more than the greatest size_t.
     pub fn sctpr_sender_take_back(sender: *mut sctpr_sender, chunk: *const u8, length: usize, rows: *mut sctpr_taken_back, room: usize, count: *mut usize) -> sctpr_code;
 
     /// Abandons the message of a chunk in flight (RFC 3758 3.5): `row` tells of it, with no bytes where it was abandoned before.

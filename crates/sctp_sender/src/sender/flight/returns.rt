@@ -1,13 +1,13 @@
 //! Which chunks in flight a SACK takes back, found by blocks (RFC 4960 6.2.1 D iv).
 
-ghost use Rattle.std.specs.Prelude.{◌≡◌, ℕ, Bool, List, Option, [], suc, ◌+◌, ◌*◌, ◌<◌, ◌≤◌, ◌^◌, None, true, false, IfOk, IfErr, IsOk, length, take, slice_index_or};
+ghost use Rattle.std.specs.Prelude.{◌≡◌, ℕ, Bool, List, Option, [], suc, ◌+◌, ◌-◌, ◌*◌, ◌<◌, ◌≤◌, ◌^◌, None, true, false, IfOk, IfErr, IsOk, length, take, slice_index_or};
 ghost use Rattle.std.specs.List.{count_by};
 ghost use Rattle.sctp_data.specs.SelectiveAck.{sack_of};
 ghost use Rattle.sctp_data.specs.declared.chunk.chunk_payload_data.ChunkPayloadData.{ChunkPayloadData};
 ghost use Rattle.sctp_outbound.specs.payload_queue.Blocks.{is_in_blocks};
 ghost use Rattle.sctp_sender.specs.declared.sender.refusal.SenderRefusal.TheVariants.{OutOfMemory};
 ghost use Rattle.sctp_sender.specs.Costs.{PicksLeftOut, is_left_out, to_sort};
-ghost use Rattle.sctp_sender.specs.Keeping.{ArePassed, Cover, back_each, can_at, kept_after, placed, return_at, returns_at};
+ghost use Rattle.sctp_sender.specs.Keeping.{ArePassed, Cover, back_each, can_at, kept_after, placed, return_at, returns_at, tells_of};
 ghost use Rattle.sctp_sender.specs.Reporting.{AreKnown, AreSorted, ascends_from};
 
 use super::InFlight;
@@ -111,7 +111,7 @@ impl InFlight {
     }
 }
 
-// What comes back, of the places from `count` on that the blocks do not report. Turns: at most one for each listed block, two for each
+// What comes back, of the places from `count` on of which the blocks tell, and which they do not report. Turns: at most one for each listed block, two for each
 // other, one for each place that is listed and that the blocks do not report, and one more.
 fn returning(
     alloc: Global,
@@ -147,6 +147,9 @@ fn returning(
     };
     while next_return(queue, &kept.reported, count, blocks, &mut at, turns) {
         let place = at.place;
+        if !tell_of(blocks, count, place) {
+            return Ok(backs);
+        }
         at.place += 1;
         let Some(bytes) = kept_at(&kept.user_data, place) else {
             continue;
@@ -158,6 +161,20 @@ fn returning(
         put(&mut backs, PlacedData { place, user_data });
     }
     Ok(backs)
+}
+
+// Whether the blocks tell of the chunk at a place: there are none, or the last one ends behind it.
+fn tell_of(blocks: &[GapAckBlock], count: usize, place: usize) -> bool
+    requires sorted { ascends_from 0 blocks.now ≡ true }
+    requires few { count < 2 ^ 31 }
+    requires least { count ≤ place }
+    requires small { place < 2 ^ 16 }
+    ensures { result ≡ tells_of blocks.now (suc place - count) }
+{
+    match blocks.last() {
+        Some(last) => place + 1 < count + last.end as usize,
+        None => true,
+    }
 }
 
 /// How far what is in flight was looked through.

@@ -1,4 +1,4 @@
-use Rattle.std.proofs.Common.{length, ◌≡◌, ℕ, ◌+◌, ◌*◌, ◌≤◌, ◌++◌, Bool, List, [], Option, take, get_or, Some, None, inl, inr, refl, ap, sym, subst, ◌∙◌, arith}
+use Rattle.std.proofs.Common.{length, ◌≡◌, ℕ, suc, ◌+◌, ◌-◌, ◌*◌, ◌≤◌, ◌++◌, Bool, List, [], Option, take, get_or, Some, None, inl, inr, refl, ap, sym, subst, ◌∙◌, arith}
 use Rattle.std.specs.Prelude.{false}
 use Rattle.std.specs.List.{count_by}
 use Rattle.std.proofs.lemmas.Bool.{cases_lt}
@@ -10,7 +10,8 @@ use Rattle.sctp_sender.specs.Costs.{PicksLeftOut}
 use Rattle.sctp_sender.specs.Keeping.{placed, return_at}
 use Rattle.sctp_sender.proofs.Counts.{count-in}
 use Rattle.sctp_sender.proofs.Placed.{one, placed-end, placed-more, placed-same, placed-some}
-use Rattle.sctp_sender.proofs.Returns.{none-at, none-below, some-at}
+use Rattle.sctp_sender.proofs.Tells.{untold-on}
+use Rattle.sctp_sender.proofs.Returns.{none-at, none-below, some-at, untold-at}
 use Rattle.sctp_sender.proofs.sender.flight.returns.returning.Goals.{After-next_return, In-Some}
 use Rattle.sctp_sender.proofs.sender.flight.returns.returning.Goals as goal
 
@@ -47,7 +48,7 @@ loop-at-preserved-in_default c =
                 let same : k ≡ p = omega (arith, ge, high) in
                 ap (return_at c.args.count c.args.blocks.now c.args.queue.now.inflight.chunks c.args.kept.now.user_data.items) same
                 ∙ some-at c.args.count c.args.blocks.now c.args.queue.now.inflight.chunks c.args.kept.now.user_data.items p (e.found c.loop-at-test.true)
-                ∙ empty
+                (sym c.tell_of.ensures ∙ c.if-not-tell_of.false) ∙ empty
           ]));
       inside = (let n = ap length c.deref.ensures.value in let h = inv.inside in let g = e.inside (omega (arith, n, h)) in omega (arith, n, g));
       within = e.within inv.within;
@@ -79,7 +80,7 @@ loop-at-preserved c =
           ∙ sym (placed-same 0 c.loop-at.at.place p bs (omega (arith, on)) (λ k low high. is k
           ∙ none-at c.args.count c.args.blocks.now c.args.queue.now.inflight.chunks c.args.kept.now.user_data.items k (e.before k low high))))
           ∙ sym (placed-more 0 p p bs bytes (is p ∙ some-at c.args.count c.args.blocks.now c.args.queue.now.inflight.chunks c.args.kept.now.user_data.items
-          p (e.found c.loop-at-test.true) ∙ full) (omega arith));
+          p (e.found c.loop-at-test.true) (sym c.tell_of.ensures ∙ c.if-not-tell_of.false) ∙ full) (omega arith));
       inside = (let n = ap length c.deref.ensures.value in let h = inv.inside in let g = e.inside (omega (arith, n, h)) in omega (arith, n, g));
       within = e.within inv.within;
       not_back = (let h = inv.not_back in omega (arith, h, e.not_back));
@@ -98,13 +99,25 @@ returns-clause-ok c = λ bs is.
     ∙ sym (placed-end 0 c.loop-at.at.place bs (λ k low. is k ∙ none-at c.args.count c.args.blocks.now c.args.queue.now.inflight.chunks
     c.args.kept.now.user_data.items k (c.next_return.ensures.none c.loop-at-test.false k low)))
 
+-- Of what lies farther the blocks tell nothing either.
+pub returns-then-not-tell_of-clause-ok : goal.returns-then-not-tell_of-clause-ok
+returns-then-not-tell_of-clause-ok c = λ bs is.
+    let p = c.next_return.new.at.place in
+    c.loop-at.invariant.backs bs is
+    ∙ sym (placed-end 0 c.loop-at.at.place bs (λ k low. is k ∙ elim (cases_lt k p) [
+      | inl lt ↦ none-at c.args.count c.args.blocks.now c.args.queue.now.inflight.chunks c.args.kept.now.user_data.items k
+          (c.next_return.ensures.before k low lt)
+      | inr ge ↦ untold-at c.args.count c.args.blocks.now c.args.queue.now.inflight.chunks c.args.kept.now.user_data.items k
+          (untold-on c.args.blocks.now (suc p - c.args.count) (suc k - c.args.count) (omega (arith, ge)) (sym c.tell_of.ensures ∙ c.if-not-tell_of.true))
+    ]))
+
 -- Memory is taken only where something comes back.
 comes : (c : In-Some) {A : Type 0} (bs : List (Option (List ℕ))) → ((k : ℕ) → get_or bs k None
     ≡ return_at c.args.count c.args.blocks.now c.args.queue.now.inflight.chunks c.args.kept.now.user_data.items k) → placed 0 bs ≡ [] → A
 comes c bs is none =
     let p = c.next_return.new.at.place in
     let full = is p ∙ some-at c.args.count c.args.blocks.now c.args.queue.now.inflight.chunks c.args.kept.now.user_data.items p
-    (c.next_return.ensures.found c.loop-at-test.true) ∙ sym c.in-Some.ensures in
+    (c.next_return.ensures.found c.loop-at-test.true) (sym c.tell_of.ensures ∙ c.if-not-tell_of.false) ∙ sym c.in-Some.ensures in
     let some = placed-some 0 p bs c.in-Some.bytes.now full in
     let n = ap length none in
     absurd (omega (arith, some, n))
@@ -134,6 +147,9 @@ returns-in_err-user_data-clause-cost c = walked (goal.at.returns-in_err-user_dat
 pub returns-then-is_err-clause-cost : goal.returns-then-is_err-clause-cost
 returns-then-is_err-clause-cost c = walked (goal.at.returns-then-is_err-clause-cost c).After-next_return
 
+pub returns-then-not-tell_of-clause-cost : goal.returns-then-not-tell_of-clause-cost
+returns-then-not-tell_of-clause-cost c = walked (goal.at.returns-then-not-tell_of-clause-cost c).After-next_return
+
 pub returns-clause-cost : goal.returns-clause-cost
 returns-clause-cost c = walked (goal.at.returns-clause-cost c).After-next_return
 
@@ -142,6 +158,9 @@ returns-in_err-user_data-clause-not_back c = let h = c.loop-at.invariant.not_bac
 
 pub returns-then-is_err-clause-not_back : goal.returns-then-is_err-clause-not_back
 returns-then-is_err-clause-not_back c = let h = c.loop-at.invariant.not_back in omega (arith, h, c.next_return.ensures.not_back)
+
+pub returns-then-not-tell_of-clause-not_back : goal.returns-then-not-tell_of-clause-not_back
+returns-then-not-tell_of-clause-not_back c = let h = c.loop-at.invariant.not_back in omega (arith, h, c.next_return.ensures.not_back)
 
 pub returns-clause-not_back : goal.returns-clause-not_back
 returns-clause-not_back c = let h = c.loop-at.invariant.not_back in omega (arith, h, c.next_return.ensures.not_back)
