@@ -6,6 +6,8 @@ mod bound_tests;
 #[cfg(test)]
 mod counted_tests;
 #[cfg(test)]
+mod cut_sack_tests;
+#[cfg(test)]
 mod host;
 #[cfg(test)]
 mod hosts;

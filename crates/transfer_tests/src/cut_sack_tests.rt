@@ -1,0 +1,123 @@
+//! SACKs whose blocks report some of what is in flight, to a sender that keeps what was reported (RFC 4960 6.2.1 D iv).
+
+use bytes::Bytes;
+use sctp_chunks::chunk::chunk_payload_data::PayloadProtocolIdentifier;
+use sctp_chunks::chunk::chunk_selective_ack::{ChunkSelectiveAck, GapAckBlock};
+use sctp_sender::sender::Sender;
+use sctp_sender::sender::flight::kept::TakenBack;
+use std::alloc::Global;
+
+// A SACK, and the TSNs that it takes back.
+type Sack = (u32, &'static [(u16, u16)], &'static [u32]);
+
+// The TSNs 1 to 10 are in flight; SACKs follow, one after another.
+const CASES: &[(&str, &[Sack])] = &[
+    (
+        "a SACK that was cut tells nothing past its last block: a later one without blocks takes back the rest",
+        &[
+            (0, &[(2, 10)], &[]),
+            (0, &[(2, 3)], &[]),
+            (3, &[], &[4, 5, 6, 7, 8, 9, 10]),
+        ],
+    ),
+    (
+        "what lies before the last block, and is not reported, comes back",
+        &[(0, &[(2, 10)], &[]), (0, &[(2, 3), (6, 8)], &[4, 5])],
+    ),
+    (
+        "the last block is the one that ends farthest, in whatever order they come",
+        &[(0, &[(2, 10)], &[]), (0, &[(6, 8), (2, 3)], &[4, 5])],
+    ),
+    (
+        "without a block nothing is reported any more",
+        &[
+            (0, &[(2, 10)], &[]),
+            (0, &[], &[2, 3, 4, 5, 6, 7, 8, 9, 10]),
+        ],
+    ),
+    (
+        "and likewise where a block reports nothing",
+        &[(0, &[(2, 3)], &[]), (0, &[(9, 8)], &[2, 3])],
+    ),
+];
+
+fn sack(alloc: Global, tsn: u32, blocks: &[(u16, u16)]) -> Option<ChunkSelectiveAck> {
+    let mut sack = ChunkSelectiveAck {
+        cumulative_tsn_ack: tsn,
+        advertised_receiver_window_credit: 1000,
+        gap_ack_blocks: Vec::new(alloc),
+        duplicate_tsn: Vec::new(alloc),
+    };
+    for (start, end) in blocks {
+        let block = GapAckBlock {
+            start: *start,
+            end: *end,
+        };
+        if sack.gap_ack_blocks.push(block).is_err() {
+            return None;
+        }
+    }
+    Some(sack)
+}
+
+fn tells_of(answered: &[TakenBack], tsn: u32) -> bool {
+    for one in answered {
+        if one.tsn == tsn {
+            return true;
+        }
+    }
+    false
+}
+
+// Whether these TSNs come back, and no other.
+fn are_taken_back(answered: &[TakenBack], due: &[u32]) -> bool {
+    let mut well = answered.len() == due.len();
+    for tsn in due {
+        well = well && tells_of(answered, *tsn);
+    }
+    well
+}
+
+// Whether a SACK takes back these TSNs, and is taken then.
+fn goes(alloc: Global, sender: &mut Sender, tsn: u32, blocks: &[(u16, u16)], due: &[u32]) -> bool {
+    let Some(sack) = sack(alloc, tsn, blocks) else {
+        return false;
+    };
+    let well = match sender.take_back(&sack) {
+        Ok(answered) => are_taken_back(&answered, due),
+        Err(_) => false,
+    };
+    well && sender.acked(&sack).is_ok()
+}
+
+fn ten_are_sent(sender: &mut Sender, byte: &Bytes) -> bool {
+    let mut well = sender.keep_reported().is_ok() && sender.open(1).is_ok();
+    for _ in 0..10 {
+        well = well
+            && sender
+                .write(1, PayloadProtocolIdentifier::Binary, byte)
+                .is_ok()
+            && matches!(sender.send_next(0), Ok(Some(_)));
+    }
+    well
+}
+
+fn all_go(alloc: Global, sacks: &[Sack]) -> bool {
+    let mut sender = Sender::new(alloc, 1, 3, 100);
+    let mut well = match Bytes::copy_from_slice(alloc, b"a") {
+        Ok(byte) => ten_are_sent(&mut sender, &byte),
+        Err(_) => false,
+    };
+    for (tsn, blocks, due) in sacks {
+        well = well && goes(alloc, &mut sender, *tsn, blocks, due);
+    }
+    well
+}
+
+/// What a SACK takes back, by its blocks.
+#[test]
+fn cut_sacks(rt: HostRuntime) {
+    for (name, sacks) in CASES {
+        assert!(rt; all_go(rt.alloc(), sacks), "{name}");
+    }
+}
