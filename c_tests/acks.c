@@ -18,8 +18,7 @@ static void begin(int messages) {
     size_t n, fragments;
     uint64_t number;
     uint32_t tsn;
-    CHECK(sctpr_sender_new(0xffffffff, 100, 1000, &sender) == SCTPR_OK && sctpr_sender_open(&sender, 3) == SCTPR_OK);
-    CHECK(sctpr_sender_keep_reported(&sender) == SCTPR_OK);
+    CHECK(sctpr_sender_new(0xffffffff, 100, 1000, 1, &sender) == SCTPR_OK && sctpr_sender_open(&sender, 3) == SCTPR_OK);
     for (int i = 0; i < messages; i++) {
         CHECK(sctpr_sender_write(&sender, 3, SCTPR_PPID_BINARY, (const uint8_t *)"!", 1, &number, &fragments) == SCTPR_OK);
         CHECK(sctpr_sender_send_next(&sender, 1, out, sizeof out, &n, &tsn) == SCTPR_OK);

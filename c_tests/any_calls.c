@@ -103,7 +103,7 @@ static struct told tell(struct host *h) {
 static void make_host(struct host *h) {
     uint32_t tsn = any(2) ? 0u - any(40) : any(1000) * 4294967u, most = any(4) ? 5000 : any(3) * 100;
     memset(h, 0, sizeof *h);
-    while (sctpr_sender_new(tsn, any(8) ? 1 + any(1200) : 1 + any(65519), most, &h->sender) != SCTPR_OK) granted = -1;
+    while (sctpr_sender_new(tsn, any(8) ? 1 + any(1200) : 1 + any(65519), most, any(3), &h->sender) != SCTPR_OK) granted = -1;
     if (any(8)) while (sctpr_receiver_new(tsn, most, SCTPR_LEAST_WINDOW(most, 65519) + any(20000), any(70000), &h->receiver) != SCTPR_OK) granted = -1;
     else while (sctpr_receiver_new_unlimited(tsn, most, &h->receiver) != SCTPR_OK) granted = -1;
 }
@@ -519,12 +519,6 @@ static sctpr_code sender_take_back(struct host *h) {
     return code;
 }
 
-static sctpr_code sender_keep_reported(struct host *h) {
-    sctpr_code code = sctpr_sender_keep_reported(&h->sender);
-    HOLDS(code == (sctpr_sender_chunks_in_flight(&h->sender) ? SCTPR_CHUNKS_IN_FLIGHT : SCTPR_OK));
-    return code;
-}
-
 static sctpr_code sender_abandon(struct host *h) {
     struct sctpr_abandoned *row = lend(sizeof *row);
     struct sctpr_expired *gone = lend(sizeof *gone);
@@ -571,8 +565,7 @@ static sctpr_code (*const calls[])(struct host *) = {
     read_chunks, write_chunk, write_init, seal_and_read, read_any, code_name, receiver_open, receiver_close, receiver_reset, receiver_data,
     receiver_data, receiver_data, receiver_discard, receiver_forward_tsn, receiver_read, receiver_readable, receiver_sack, receiver_sack,
     sender_open, sender_close, sender_set, sender_write, sender_write, sender_send, sender_send, sender_send, sender_resend, sender_mark,
-    sender_in_flight, sender_acked, sender_acked, sender_take_back, sender_keep_reported, sender_abandon, sender_expire,
-    sender_forward_tsn
+    sender_in_flight, sender_acked, sender_acked, sender_take_back, sender_abandon, sender_expire, sender_forward_tsn
 };
 enum { CALLS = sizeof calls / sizeof *calls };
 static unsigned long done[CALLS];

@@ -12,7 +12,7 @@ static int is_closed(void) {
 }
 
 static void open_both(uint32_t tsn, uint32_t fragment_size) {
-    TRY(sctpr_sender_new(tsn, fragment_size, 1 << 16, &sender), SCTPR_OK, held == 0);
+    TRY(sctpr_sender_new(tsn, fragment_size, 1 << 16, 0, &sender), SCTPR_OK, held == 0);
     TRY(sctpr_receiver_new(tsn, 1 << 16, 1 << 20, 4096, &receiver), SCTPR_OK, 1);
     TRY(sctpr_sender_open(&sender, 3), SCTPR_OK, sctpr_sender_set_mode(&sender, 3, 0, SCTPR_RELIABLE, 0) == SCTPR_STREAM_UNKNOWN);
     TRY(sctpr_receiver_open(&receiver, 3), SCTPR_OK, is_closed());
@@ -61,7 +61,7 @@ static void refused(void) {
     uint32_t tsn = 5;
     uint8_t out[64], complete = 7;
     sctpr_sender none;
-    CHECK(sctpr_sender_new(0, 0, 9, &none) == SCTPR_INVALID && sctpr_sender_new(0, 65520, 9, &none) == SCTPR_INVALID);
+    CHECK(sctpr_sender_new(0, 0, 9, 0, &none) == SCTPR_INVALID && sctpr_sender_new(0, 65520, 9, 0, &none) == SCTPR_INVALID);
     open_both(1000, 1000);
     CHECK(sctpr_sender_set_mode(&sender, 3, 0, 3, 0) == SCTPR_INVALID && sctpr_sender_set_mode(&sender, 4, 0, 1, 0) == SCTPR_STREAM_UNKNOWN);
     CHECK(sctpr_sender_set_fragment_size(&sender, 0) == SCTPR_INVALID && sctpr_sender_set_low_threshold(&sender, 4, 9) == SCTPR_STREAM_UNKNOWN);

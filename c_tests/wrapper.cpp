@@ -181,15 +181,14 @@ void goes_over() {
 
 /** Messages run out of sendings or of time; a FORWARD-TSN takes the receiver past them. */
 void abandoned() {
-    auto s = *sctpr::sender::make(1000, 10, 100);
+    auto s = *sctpr::sender::make(1000, 10, 100, true);
     auto r = *sctpr::receiver::make_unlimited(1000, 100);
     std::array<std::uint8_t, 64> out{}, skip{};
     std::array<sctpr::abandoned, 4> rows{};
     std::array<sctpr::taken_back, 4> back{};
-    CHECK(s.keep_reported() && s.open(3) && r.open(3) && s.set_mode(3, true, sctpr::reliability::rexmit, 0));
+    CHECK(s.open(3) && r.open(3) && s.set_mode(3, true, sctpr::reliability::rexmit, 0));
     CHECK(is_refused(s.set_mode(4, true), sctpr::code::stream_unknown));
     CHECK(s.write(3, SCTPR_PPID_BINARY, bytes_of("gone", 4)) && s.send_next(1, out));
-    CHECK(is_refused(s.keep_reported(), sctpr::code::chunks_in_flight));
     CHECK(is_refused(s.expire_rexmit(std::span(rows).first(1)), sctpr::code::short_buffer, 2));
     CHECK(is_refused(s.expire_late(1, std::span(rows).first(1)), sctpr::code::short_buffer, 2) && s.expire_late(1, rows)->empty());
     s.retransmit_all();

@@ -78,8 +78,6 @@ enum {
     SCTPR_STREAM_BUSY = 31,
     /* The next ordered message of the stream can't be begun before chunks of it are acknowledged. */
     SCTPR_SSNS_USED_UP = 32,
-    /* Chunks are in flight. */
-    SCTPR_CHUNKS_IN_FLIGHT = 33,
     /* The TSN lies farther past the cumulative one than the limits allow. */
     SCTPR_TSN_TOO_FAR = 34,
     /* Nothing is left of the window (RFC 4960 6.2). */
@@ -575,8 +573,11 @@ typedef struct sctpr_sender {
 } sctpr_sender;
 
 /* Makes a sender with no stream, whose first chunk gets `first_tsn`. A chunk has `fragment_size` bytes of user data at most, 1 to 65,519,
- * a message `max_message_size`. `out` becomes its handle. SCTPR_INVALID, SCTPR_NO_MEMORY; `out` stays then. */
-sctpr_code sctpr_sender_new(uint32_t first_tsn, uint32_t fragment_size, uint32_t max_message_size, sctpr_sender *out);
+ * a message `max_message_size`. If `keeps_reported` is not 0, it keeps the user data of what gap ack blocks report until the cumulative TSN
+ * passes it, for sctpr_sender_take_back (RFC 4960 6.2.1 D iv); else that goes. `out` becomes its handle. SCTPR_INVALID, SCTPR_NO_MEMORY;
+ * `out` stays then. */
+sctpr_code sctpr_sender_new(uint32_t first_tsn, uint32_t fragment_size, uint32_t max_message_size, uint8_t keeps_reported,
+                            sctpr_sender *out);
 
 /* Frees a sender and all that it holds, and empties its handle. It does nothing where the handle is empty, as after this call or with
  * `sctpr_sender handle = { NULL }`, and where there is no handle. */
@@ -691,10 +692,6 @@ sctpr_code sctpr_sender_acked(sctpr_sender *sender, const uint8_t *chunk, size_t
  * block, with rows, count and codes as above. It is not handed to sctpr_sender_take_back: a SHUTDOWN can't tell of gaps (3.3.8). */
 sctpr_code sctpr_sender_acked_up_to(sctpr_sender *sender, uint32_t tsn, struct sctpr_acked *rows, size_t room, size_t *count);
 
-/* From here on what gap ack blocks report is kept until the cumulative TSN passes it, so that it can be taken back.
- * SCTPR_CHUNKS_IN_FLIGHT, where any chunk is in flight. */
-sctpr_code sctpr_sender_keep_reported(sctpr_sender *sender);
-
 /* A chunk whose acknowledgement a SACK took back: it is outstanding again. */
 struct sctpr_taken_back {
     size_t bytes;
@@ -706,7 +703,7 @@ struct sctpr_taken_back {
 /* Takes back what a SACK no longer reports (RFC 4960 6.2.1 D iv). Past its last gap ack block it takes back nothing, as a SACK may be cut to
  * the path MTU (6.7); one that reports nothing in blocks takes back all. A SACK that comes late, with the same cumulative TSN, takes back
  * what a later one reported, and the next one reports it anew. Call it before sctpr_sender_acked with the same SACK. Rows, count and codes
- * are as there, with a row for each chunk that comes back, and none without sctpr_sender_keep_reported; and SCTPR_QUEUE_FULL, where all
+ * are as there, with a row for each chunk that comes back, and none where the sender keeps nothing; and SCTPR_QUEUE_FULL, where all
  * bytes would be more than the greatest size_t. */
 sctpr_code sctpr_sender_take_back(sctpr_sender *sender, const uint8_t *chunk, size_t length, struct sctpr_taken_back *rows, size_t room,
                                   size_t *count);

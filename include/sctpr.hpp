@@ -65,8 +65,6 @@ enum class code : sctpr_code {
     stream_busy = SCTPR_STREAM_BUSY,
     /** The next ordered message of the stream can't be begun before chunks of it are acknowledged. */
     ssns_used_up = SCTPR_SSNS_USED_UP,
-    /** Chunks are in flight. */
-    chunks_in_flight = SCTPR_CHUNKS_IN_FLIGHT,
     /** The TSN lies farther past the cumulative one than the limits allow. */
     tsn_too_far = SCTPR_TSN_TOO_FAR,
     /** Nothing is left of the window (RFC 4960 6.2). */
@@ -612,9 +610,10 @@ struct sent {
 class sender {
 public:
     /** sctpr_sender_new. */
-    static result<sender> make(std::uint32_t first_tsn, std::uint32_t fragment_size, std::uint32_t max_message_size) {
+    static result<sender> make(std::uint32_t first_tsn, std::uint32_t fragment_size, std::uint32_t max_message_size,
+                               bool keeps_reported = false) {
         sctpr_sender s{};
-        sctpr_code c = sctpr_sender_new(first_tsn, fragment_size, max_message_size, &s);
+        sctpr_code c = sctpr_sender_new(first_tsn, fragment_size, max_message_size, keeps_reported, &s);
         if (detail::is_refused(c)) return detail::refusal(c);
         return sender(s);
     }
@@ -685,7 +684,6 @@ public:
         sctpr_code c = sctpr_sender_acked_up_to(&handle_, tsn, rows.data(), rows.size(), &n);
         return detail::rows_if_new(c, rows, n);
     }
-    result<void> keep_reported() { return detail::done(sctpr_sender_keep_reported(&handle_)); }
     /** Takes back what a SACK no longer reports, before take_sack with the same SACK; no span where it is out of date. */
     result<std::optional<std::span<taken_back>>> take_back(bytes chunk, std::span<taken_back> rows) {
         std::size_t n = 0;

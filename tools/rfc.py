@@ -209,7 +209,7 @@ RULES = [
          ["sctp_sender Flight.is_outdated"],
          ["transfer_tests::sender_cases what a peer may claim beside what is in flight is refused by its name, and nothing changes"]),
         ("a chunk that gap ack blocks reported, and a later SACK does not, is sent again", "6.2.1 D iv",
-         ["sctp_sender::Sender::keep_reported ok", "sctp_sender::Sender::take_back answer ok"], ["sctp_sender Sender.taken_back_by"],
+         ["sctp_sender::Sender::new", "sctp_sender::Sender::take_back answer ok"], ["sctp_sender Sender.taken_back_by"],
          ["transfer_tests::sender_cases what a SACK no longer reports is outstanding again with its bytes, and can be sent again"]),
         ("a SACK that is cut to the path MTU leaves out the highest TSNs: of chunks past its last block it tells nothing", "6.7",
          ["sctp_sender::Sender::take_back answer ok"], ["sctp_sender Keeping.takes_back", "sctp_sender Keeping.tells_of"],

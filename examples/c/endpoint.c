@@ -77,7 +77,7 @@ static int open_streams(struct endpoint *e) {
 static int make_halves(struct endpoint *e) {
     const struct endpoint_config *c = &e->config;
     if (e->has_halves) return 1;
-    if (sctpr_sender_new(c->first_tsn, c->mtu - HEADERS, c->max_message_size, &e->sender) != SCTPR_OK) return 0;
+    if (sctpr_sender_new(c->first_tsn, c->mtu - HEADERS, c->max_message_size, 1, &e->sender) != SCTPR_OK) return 0;
     if (sctpr_receiver_new(e->peer.first_tsn, c->max_message_size, c->window, 65535, &e->receiver) != SCTPR_OK) {
         sctpr_sender_free(&e->sender);
         return 0;
@@ -85,7 +85,7 @@ static int make_halves(struct endpoint *e) {
     e->has_halves = 1;
     e->credit = e->peer.credit;
     e->advertised = c->window;
-    if (open_streams(e) && sctpr_sender_keep_reported(&e->sender) == SCTPR_OK) return 1;
+    if (open_streams(e)) return 1;
     endpoint_free(e);
     return 0;
 }

@@ -28,7 +28,7 @@ static void must(sctpr_code code) {
 
 static struct host new_host(uint32_t tag, uint16_t port, uint16_t peer_port) {
     struct host h = { .head = { tag, port, peer_port } };
-    must(sctpr_sender_new(1000, PACKET - 28, LONGEST, &h.sender));
+    must(sctpr_sender_new(1000, PACKET - 28, LONGEST, 0, &h.sender));
     must(sctpr_receiver_new(1000, LONGEST, 1 << 16, 1000, &h.receiver));
     must(sctpr_sender_open(&h.sender, STREAM));
     must(sctpr_receiver_open(&h.receiver, STREAM));

@@ -17,8 +17,8 @@ from trace import Callers, Definitions, candidates, comment_of, definitions_of, 
 
 CALLERS = {
     "sctp_sender::InFlight::expire_late": {"sctp_sender/sender/abandonment expire_late"},
-    "sctp_sender::Sender::keep_reported": {"transfer_tests/hosts is_done", "transfer_tests/cut_sack_tests ten_are_sent",
-                                            "sctp_c/sender/acks sctpr_sender_keep_reported"},
+    "sctp_sender::Sender::take_back": {"transfer_tests/sending take_back_and_acknowledge", "transfer_tests/hosts takes_back",
+                                        "transfer_tests/cut_sack_tests goes", "sctp_c/sender/acks sctpr_sender_take_back"},
     "sctp_outbound::PayloadQueue::pop_up_to": {"transfer_tests/queues/payload_queue pop_up_to", "sctp_link/link_receiver/tsn_queue skip_to"},
     "sctp_reassembly::Loose::take_range_counted": {"sctp_reassembly/reassembly_queue/pool/undo put_undoable", "sctp_reassembly/reassembly_queue/unassembled take_range"},
     "sctp_reassembly::ReassemblyQueue::forward_tsn_for_unordered": {"transfer_tests/queues/reassembly_queue skip"},

@@ -49,8 +49,6 @@ const (
 	CodeStreamBusy Code = 31
 	// The next ordered message of the stream can't be begun before chunks of it are acknowledged.
 	CodeSsnsUsedUp Code = 32
-	// Chunks are in flight.
-	CodeChunksInFlight Code = 33
 	// The TSN lies farther past the cumulative one than the limits allow.
 	CodeTsnTooFar Code = 34
 	// Nothing is left of the window (RFC 4960 6.2).
@@ -211,8 +209,6 @@ func (c Code) text() string {
 		return "Something of the stream waits or is in flight."
 	case CodeSsnsUsedUp:
 		return "The next ordered message of the stream can't be begun before chunks of it are acknowledged."
-	case CodeChunksInFlight:
-		return "Chunks are in flight."
 	case CodeTsnTooFar:
 		return "The TSN lies farther past the cumulative one than the limits allow."
 	case CodeWindowFull:

@@ -68,10 +68,14 @@ type Expired struct {
 }
 
 // NewSender makes a sender with no stream, whose first chunk gets firstTSN. A chunk has fragmentSize bytes of user data at most, a message
-// maxMessageSize.
-func NewSender(firstTSN, fragmentSize, maxMessageSize uint32) (*Sender, error) {
+// maxMessageSize. With keepsReported what gap ack blocks report is kept until the cumulative TSN passes it, so that it can be taken back.
+func NewSender(firstTSN, fragmentSize, maxMessageSize uint32, keepsReported bool) (*Sender, error) {
 	s := new(Sender)
-	code := C.sctpr_sender_new(C.uint32_t(firstTSN), C.uint32_t(fragmentSize), C.uint32_t(maxMessageSize), &s.handle)
+	keeps := C.uint8_t(0)
+	if keepsReported {
+		keeps = 1
+	}
+	code := C.sctpr_sender_new(C.uint32_t(firstTSN), C.uint32_t(fragmentSize), C.uint32_t(maxMessageSize), keeps, &s.handle)
 	if err := errorOf(code, 0); err != nil {
 		return nil, err
 	}
@@ -274,14 +278,6 @@ func (s *Sender) acked(take func(*C.struct_sctpr_acked, C.size_t, *C.size_t) C.s
 		}
 	}
 	return acked, code == C.SCTPR_OK, nil
-}
-
-// KeepReported keeps from here on what gap ack blocks report until the cumulative TSN passes it, so that it can be taken back.
-func (s *Sender) KeepReported() error {
-	if !s.isOpen() {
-		return ErrClosed
-	}
-	return errorOf(C.sctpr_sender_keep_reported(&s.handle), 0)
 }
 
 // TakeBack takes back what a SACK no longer reports, before Acked with the same SACK; isNew is false where it is out of date.

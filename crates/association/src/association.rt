@@ -9,7 +9,8 @@ use crate::resetting::{REQUEST_LENGTH, RESPONSE_LENGTH, Resets};
 use crate::timer::Timer;
 use bytes::Bytes;
 use sctp::{
-    ChunkKind, Chunks, Dropped, Limits, PayloadProtocolIdentifier, Receiver, Sender, SenderRefusal,
+    ChunkKind, Chunks, Dropped, Limits, PayloadProtocolIdentifier, Receiver, Reported, Sender,
+    SenderRefusal,
 };
 use sctp_sender::replay::in_flight_at;
 use std::alloc::Global;
@@ -77,7 +78,7 @@ impl Association {
     /// An association after its handshake: the first TSNs of both sides, and the window that the peer told.
     pub fn new(alloc: Global, first_tsn: u32, peer_tsn: u32, peer_window: u32) -> Association {
         Association {
-            sender: Sender::new(alloc, first_tsn, FRAGMENT, MESSAGE),
+            sender: Sender::new(alloc, first_tsn, FRAGMENT, MESSAGE, Reported::Drop),
             receiver: Receiver::new(alloc, peer_tsn, MESSAGE, Some(limits())),
             alloc,
             congestion: Congestion::new(peer_window as usize),

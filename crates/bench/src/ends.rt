@@ -5,7 +5,7 @@ use crate::subject::{FRAGMENT, MESSAGE, STREAM};
 use sctp_chunks::chunk::chunk_forward_tsn::ChunkForwardTsn;
 use sctp_chunks::chunk::chunk_selective_ack::ChunkSelectiveAck;
 use sctp_receiver::receiver::Receiver;
-use sctp_sender::sender::Sender;
+use sctp_sender::sender::{Reported, Sender};
 use std::alloc::Global;
 
 /// The two halves of a link, whose first TSN is 1, and a SACK and a FORWARD-TSN for them.
@@ -23,7 +23,7 @@ impl Ends {
     pub fn new(alloc: Global) -> Ends {
         Ends {
             alloc,
-            sender: Sender::new(alloc, 1, FRAGMENT, MESSAGE),
+            sender: Sender::new(alloc, 1, FRAGMENT, MESSAGE, Reported::Drop),
             receiver: Receiver::new(alloc, 1, MESSAGE, None),
             sack: sack_to(alloc, 0),
             skip: ChunkForwardTsn {

@@ -4,7 +4,7 @@
 use bytes::Bytes;
 use sctp::{
     Advice, ChunkKind, ChunkPayloadData, CommonHeader, Crc32c, Limits, Packet,
-    PayloadProtocolIdentifier, Receiver, ReceiverRefusal, Sender, advise,
+    PayloadProtocolIdentifier, Receiver, ReceiverRefusal, Reported, Sender, advise,
 };
 use std::alloc::Global;
 
@@ -50,7 +50,7 @@ impl Host {
     pub fn new(alloc: Global, first_tsn: u32, peer_tsn: u32, peer_tag: u32) -> Host {
         Host {
             alloc,
-            sender: Sender::new(alloc, first_tsn, FRAGMENT, MESSAGE),
+            sender: Sender::new(alloc, first_tsn, FRAGMENT, MESSAGE, Reported::Drop),
             receiver: Receiver::new(alloc, peer_tsn, MESSAGE, Some(limits())),
             header: CommonHeader {
                 source_port: 5000,

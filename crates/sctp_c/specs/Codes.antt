@@ -90,7 +90,6 @@ sender_code sender.MessageTooLarge = 24
 sender_code sender.QueueFull = 25
 sender_code sender.TsnsUsedUp = 26
 sender_code sender.SsnsUsedUp = 32
-sender_code sender.ChunksInFlight = 33
 sender_code sender.NotInFlight = 27
 sender_code sender.InflightQueueTsnPop = 28
 sender_code sender.TsnRequestNotExist = 29

@@ -25,7 +25,6 @@ call_names =
     ∷ (30, codes "SCTPR_TSN_OPPOSITE")
     ∷ (31, codes "SCTPR_STREAM_BUSY")
     ∷ (32, codes "SCTPR_SSNS_USED_UP")
-    ∷ (33, codes "SCTPR_CHUNKS_IN_FLIGHT")
     ∷ (34, codes "SCTPR_TSN_TOO_FAR")
     ∷ (35, codes "SCTPR_WINDOW_FULL")
     ∷ (36, codes "SCTPR_SSN_TOO_FAR")

@@ -51,7 +51,7 @@ pub fn first_chunk(
 ) -> Option<(u64, u32)>
     ensures { IfSome result (λ r. (r.0 ≡ 0) × (r.1 ≡ first_tsn)) }
 {
-    if sctpr_sender_new(alloc, first_tsn, 1200, 65_536, &mut out) != SCTPR_OK {
+    if sctpr_sender_new(alloc, first_tsn, 1200, 65_536, 0, &mut out) != SCTPR_OK {
         return None;
     }
     let mut sender = out.into_handle();

@@ -51,8 +51,6 @@ pub const SCTPR_TSN_OPPOSITE: u32 = 30;
 pub const SCTPR_STREAM_BUSY: u32 = 31;
 /// The next ordered message of the stream can't be begun before chunks of it are acknowledged.
 pub const SCTPR_SSNS_USED_UP: u32 = 32;
-/// Chunks are in flight.
-pub const SCTPR_CHUNKS_IN_FLIGHT: u32 = 33;
 /// The TSN lies farther past the cumulative one than the limits allow.
 pub const SCTPR_TSN_TOO_FAR: u32 = 34;
 /// Nothing is left of the window (RFC 4960 6.2).
@@ -149,7 +147,6 @@ pub fn of_sender(e: SenderRefusal) -> u32
         SenderRefusal::QueueFull => SCTPR_QUEUE_FULL,
         SenderRefusal::TsnsUsedUp => SCTPR_TSNS_USED_UP,
         SenderRefusal::SsnsUsedUp => SCTPR_SSNS_USED_UP,
-        SenderRefusal::ChunksInFlight => SCTPR_CHUNKS_IN_FLIGHT,
         SenderRefusal::NotInFlight => SCTPR_NOT_IN_FLIGHT,
         SenderRefusal::InflightQueueTsnPop => SCTPR_SACK_BEYOND_SENT,
         SenderRefusal::TsnRequestNotExist => SCTPR_SACK_BAD_GAP,

@@ -66,7 +66,6 @@ fn call_name(code: u32) -> &'static str
         30 => "SCTPR_TSN_OPPOSITE",
         31 => "SCTPR_STREAM_BUSY",
         32 => "SCTPR_SSNS_USED_UP",
-        33 => "SCTPR_CHUNKS_IN_FLIGHT",
         34 => "SCTPR_TSN_TOO_FAR",
         35 => "SCTPR_WINDOW_FULL",
         36 => "SCTPR_SSN_TOO_FAR",

@@ -8,8 +8,9 @@ ghost use Rattle.std.specs.Borrow.{sem};
 ghost use Rattle.sctp_c.specs.OwnedSender.{sender_owns, sender_coded, new_sender_owns, new_sender_coded};
 ghost use Rattle.sctp_c.specs.Codes.{sender_code};
 ghost use Rattle.sctp_c.specs.Sending.{IsSenderCode, Writes, carries, reliability_named};
-ghost use Rattle.sctp_sender.specs.Sender.{Transmission, with_nothing, is_open, open_stream, close_stream, with_mode_on, write_refusal};
+ghost use Rattle.sctp_sender.specs.Sender.{Transmission, with_nothing, with_reported, is_open, open_stream, close_stream, with_mode_on, write_refusal};
 ghost use Rattle.sctp_sender.specs.Settings.{reset_on, reset_refusal, with_fragment_size, with_low_on};
+ghost use Rattle.sctp_sender.specs.declared.sender.Reported.TheVariants.{Drop, Keep};
 ghost use Rattle.sctp_sender.specs.declared.sender.refusal.SenderRefusal.TheVariants.{StreamOpen, OutOfMemory};
 
 pub mod abandoning;
@@ -25,7 +26,7 @@ use crate::code::{
 use crate::parts::Parts;
 use bytes::Bytes;
 use sctp_data::chunk::chunk_payload_data::{PayloadProtocolIdentifier, ReliabilityType};
-use sctp_sender::sender::Sender;
+use sctp_sender::sender::{Reported, Sender};
 use std::alloc::Global;
 use std::marker::Model;
 
@@ -104,19 +105,22 @@ impl SctpNewSender {
 }
 
 /// Makes a sender with no stream, whose first chunk gets `first_tsn`. A chunk has `fragment_size` bytes of user data at most, 1 to
-/// 65,519, a message `max_message_size`. `out` becomes its handle. Refuses with `SCTPR_INVALID`, where the fragment size is not in that
-/// range, and with `SCTPR_NO_MEMORY`; `out` stays then.
+/// 65,519, a message `max_message_size`. If `keeps_reported` is not 0, it keeps what gap ack blocks report, for `sctpr_sender_take_back`
+/// (RFC 4960 6.2.1 D iv). `out` becomes its handle. Refuses with `SCTPR_INVALID`, where the fragment size is not in that range, and with
+/// `SCTPR_NO_MEMORY`; `out` stays then.
 #[unsafe(no_mangle)]
 pub extern "C" fn sctpr_sender_new(
     alloc: Global,
     first_tsn: u32,
     fragment_size: u32,
     max_message_size: u32,
+    keeps_reported: u8,
     out: &mut SctpNewSender,
 ) -> u32
     ensures codes { (result ≡ 0) ⊎ ((result ≡ 16) ⊎ (result ≡ 18)) }
     ensures ok { result ≡ 0
-        → out.new.value ≡ Some (with_nothing first_tsn fragment_size max_message_size) }
+        → out.new.value ≡ Some (with_reported (if keeps_reported == 0 then Drop else Keep)
+        (with_nothing first_tsn fragment_size max_message_size)) }
     ensures valid { result ≢ 18 → (0 < fragment_size) × (fragment_size ≤ 65519) }
     ensures invalid { result ≡ 18 → (fragment_size ≡ 0) ⊎ (65519 < fragment_size) }
     ensures refused { result ≢ 0 → out.new ≡ out.old }
@@ -124,7 +128,12 @@ pub extern "C" fn sctpr_sender_new(
     if fragment_size == 0 || fragment_size > 65_519 {
         return SCTPR_INVALID;
     }
-    let sender = Sender::new(alloc, first_tsn, fragment_size, max_message_size);
+    let reported = if keeps_reported == 0 {
+        Reported::Drop
+    } else {
+        Reported::Keep
+    };
+    let sender = Sender::new(alloc, first_tsn, fragment_size, max_message_size, reported);
     match Box::new(alloc, sender) {
         Ok(held) => {
             out.hold(Parts::of(held));

@@ -8,11 +8,13 @@ use Rattle.sctp_data.specs.declared.chunk.chunk_payload_data.ChunkPayloadData.{C
 use Rattle.sctp_outbound.specs.Marks.{is_outstanding, with_nsent, with_retransmit}
 use Rattle.sctp_outbound.proofs.lemmas.pending_queue.Waiting.{bytes_of-change_where}
 use Rattle.sctp_serial.specs.DataChunks.{bytes_of, has_tsn}
+use Rattle.sctp_sender.specs.declared.sender.Reported.{Reported}
+use Rattle.sctp_sender.specs.declared.sender.Reported.TheVariants.{Drop, Keep}
 use Rattle.sctp_sender.specs.Resending.{can_miss, missed, sent_again}
-use Rattle.sctp_sender.specs.Sender.{Transmission}
-use Rattle.sctp_sender.specs.SenderRuns.{AfterEachRun, Call, Follows, IsAccounted, Ledger, Makes, RunsTo, at_start, held_by_sender, abandons, abandons_late}
-use Rattle.sctp_sender.specs.SenderRuns.{closes, keeps_reported, marks, misses, opens, released_by, resends, resends_at, reserves, resets, sends, sets_low}
-use Rattle.sctp_sender.specs.SenderRuns.{sets_mode, sets_size, starts, taken_back_by, takes_back, takes_sack, writes, written_by}
+use Rattle.sctp_sender.specs.Sender.{Transmission, with_nothing, with_reported}
+use Rattle.sctp_sender.specs.SenderRuns.{AfterEachRun, Call, Follows, IsAccounted, Ledger, Makes, RunsTo, held_by_sender, abandons, abandons_late}
+use Rattle.sctp_sender.specs.SenderRuns.{closes, marks, misses, opens, released_by, resends, resends_at, reserves, resets, sends, sets_low}
+use Rattle.sctp_sender.specs.SenderRuns.{sets_mode, sets_size, starts, taken_back_by, takes_back, takes_sack, with_no_bytes, writes, written_by}
 use Rattle.sctp_sender.proofs.Amounts.{started-bytes}
 
 -- what a call makes of the bytes that wait and are in flight
@@ -50,7 +52,6 @@ moves sends old new m = omega (arith, m)
 moves (abandons bytes) old new m = omega (arith, m)
 moves (abandons_late gone) old new m = omega (arith, m)
 moves (takes_sack gone) old new m = omega (arith, m)
-moves keeps_reported old new m = let e = ap held_by_sender m in omega (arith, e)
 moves (takes_back back) old new m = omega (arith, m)
 
 next : (c : Call) (old new : Ledger) → Follows c old new → IsAccounted old → IsAccounted new
@@ -61,4 +62,11 @@ run [] old new r a = subst IsAccounted (sym r) a
 run (c ∷ cs) old new r a = run cs r.0 new r.1.1 (next c old r.0 r.1.0 a)
 
 pub accounted : AfterEachRun IsAccounted
-accounted tsn size max calls l r = run calls (at_start tsn size max) l r refl
+accounted tsn size max reported calls l r = run calls (with_no_bytes (with_reported reported t)) l r (start reported)
+  where
+    t : Transmission
+    t = with_nothing tsn size max
+
+    start : (reported : Reported) → IsAccounted (with_no_bytes (with_reported reported t))
+    start Drop = refl
+    start Keep = refl

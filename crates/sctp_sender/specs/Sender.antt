@@ -10,6 +10,8 @@ use Rattle.sctp_data.specs.declared.chunk.chunk_payload_data.ReliabilityType.{Re
 use Rattle.sctp_data.specs.SelectiveAck.{Sack}
 use Rattle.sctp_outbound.specs.outbound_queue.OutboundQueue.{Outbound, with_message, total_bytes, expired_of, expired_times}
 use Rattle.sctp_stream.specs.declared.stream.StreamState.{StreamState}
+use Rattle.sctp_sender.specs.declared.sender.Reported.{Reported}
+use Rattle.sctp_sender.specs.declared.sender.Reported.TheVariants.{Drop, Keep}
 use Rattle.sctp_sender.specs.declared.sender.flight.kept.TakenBack.{TakenBack}
 use Rattle.sctp_sender.specs.declared.sender.refusal.SenderRefusal.{SenderRefusal}
 use Rattle.sctp_sender.specs.declared.sender.refusal.SenderRefusal.TheVariants.{StreamUnknown, MessageTooLarge, QueueFull}
@@ -36,6 +38,11 @@ with_nothing tsn size max =
       max_message_size = max;
       kept = None;
     }
+
+-- the user data of chunks that gap ack blocks report is kept, or not
+abbrev pub with_reported : Reported → Transmission → Transmission
+with_reported Drop t = t
+with_reported Keep t = record t { kept = Some [] }
 
 abbrev pub stream_of : ℕ → Transmission → Option StreamState
 stream_of s t = find (has_number s) t.streams
@@ -98,10 +105,6 @@ after_acked s t =
     }
 
 -- ## Taking back (RFC 4960 6.2.1 D iv)
-
--- from here on the user data of chunks that gap ack blocks report is kept
-abbrev pub keeping : Transmission → Transmission
-keeping t = record t { kept = Some [] }
 
 -- what comes back, where something is kept
 abbrev pub back_by : Sack → Flight → Option (List (Option (List ℕ))) → List (Option (List ℕ))

@@ -4,11 +4,12 @@ use Rattle.std.specs.List.{sum_by}
 use Rattle.sctp_data.specs.declared.chunk.chunk_payload_data.ChunkPayloadData.{ChunkPayloadData}
 use Rattle.sctp_data.specs.declared.chunk.chunk_payload_data.ReliabilityType.{ReliabilityType}
 use Rattle.sctp_outbound.specs.outbound_queue.OutboundQueue.{all_started, total_bytes}
+use Rattle.sctp_sender.specs.declared.sender.Reported.{Reported}
 use Rattle.sctp_sender.specs.declared.sender.flight.late.AbandonedMessage.{AbandonedMessage}
 use Rattle.sctp_sender.specs.declared.sender.flight.Released.{Released}
 use Rattle.sctp_sender.specs.declared.sender.flight.kept.TakenBack.{TakenBack}
 use Rattle.sctp_sender.specs.Flight.{resent, with_queue, with_room}
-use Rattle.sctp_sender.specs.Sender.{Transmission, open_stream, close_stream, keeping, with_flight, with_mode_on, with_nothing}
+use Rattle.sctp_sender.specs.Sender.{Transmission, open_stream, close_stream, with_flight, with_mode_on, with_nothing, with_reported}
 use Rattle.sctp_sender.specs.Resending.{after_misses, all_marked, resent_at}
 use Rattle.sctp_sender.specs.Settings.{reset_on, with_fragment_size, with_low_on}
 use Rattle.sctp_sender.specs.Keeping.{bytes_back}
@@ -44,8 +45,6 @@ pub data Call : Type 0 where
   abandons_late : List AbandonedMessage → Call
   -- `acked`
   takes_sack : List Released → Call
-  -- `keep_reported`
-  keeps_reported : Call
   -- `take_back`
   takes_back : List TakenBack → Call
 
@@ -77,7 +76,6 @@ Makes sends old new = held_by_sender new ≡ held_by_sender old
 Makes (abandons bytes) old new = held_by_sender new + bytes ≡ held_by_sender old
 Makes (abandons_late gone) old new = held_by_sender new + bytes_of_all gone ≡ held_by_sender old
 Makes (takes_sack gone) old new = held_by_sender new + bytes_in gone ≡ held_by_sender old
-Makes keeps_reported old new = new ≡ keeping old
 Makes (takes_back back) old new = held_by_sender new ≡ held_by_sender old + bytes_back back
 
 abbrev pub written_by : Call → ℕ
@@ -114,15 +112,17 @@ abbrev pub RunsTo : Ledger → List Call → Ledger → Type 0
 RunsTo old [] new = new ≡ old
 RunsTo old (c ∷ cs) new = (mid : Ledger) × (Follows c old mid × RunsTo mid cs new)
 
+abbrev pub with_no_bytes : Transmission → Ledger
+with_no_bytes t = record { sender = t; written = 0; released = 0; taken_back = 0 }
+
 abbrev pub at_start : ℕ → ℕ → ℕ → Ledger
-at_start tsn size max =
-    record { sender = with_nothing tsn size max; written = 0; released = 0; taken_back = 0 }
+at_start tsn size max = with_no_bytes (with_nothing tsn size max)
 
 -- P after each run of calls on a new sender
 abbrev pub AfterEachRun : (Ledger → Type 0) → Type 0
 AfterEachRun P =
-    (tsn size max : ℕ) (calls : List Call) (l : Ledger) → RunsTo (at_start tsn size max) calls l
-    → P l
+    (tsn size max : ℕ) (reported : Reported) (calls : List Call) (l : Ledger)
+    → RunsTo (with_no_bytes (with_reported reported (with_nothing tsn size max))) calls l → P l
 
 -- ## The law
 

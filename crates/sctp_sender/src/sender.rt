@@ -31,6 +31,7 @@ use sctp_outbound::outbound_queue::OutboundQueue;
 use sctp_serial::turns::Turns;
 use sctp_stream::stream::StreamState;
 use std::alloc::Global;
+use std::collections::VecDeque;
 use std::marker::Model;
 
 /// A message that expired.
@@ -66,6 +67,15 @@ pub enum Dropped {
     Expired(ExpiredMessages),
     /// Some of each was sent: `Sender::forward_tsn` gives what the peer is to be sent (RFC 3758 3.5).
     Abandoned(Vec<AbandonedMessage>),
+}
+
+/// What becomes of the user data of a chunk that a gap ack block reports (RFC 4960 6.2.1 D iv).
+#[derive(Clone, Copy, Debug, PartialEq, Eq)]
+pub enum Reported {
+    /// It goes with the report: the chunk can't be sent again.
+    Drop,
+    /// It is kept, shared, until the cumulative TSN passes the chunk, so that `Sender::take_back` can give it back.
+    Keep,
 }
 
 /// The sending half of a link: what was written and is not yet acknowledged. It takes every SACK that a peer may send.
@@ -117,23 +127,37 @@ impl Sender {
     ghost use Rattle.sctp_sender.specs.Numbers.{send_refusal};
     ghost use Rattle.sctp_sender.specs.Outgoing.{fragments_with_mode};
     ghost use Rattle.sctp_sender.specs.Totals.{bytes_in};
-    ghost use Rattle.sctp_sender.specs.Sender.{with_nothing, stream_of, is_open, open_stream, close_stream, with_mode_on, with_flight, write_refusal, written_to, after_acked, after_abandon, after_expire, after_expire_run};
+    ghost use Rattle.sctp_sender.specs.Sender.{with_nothing, with_reported, stream_of, is_open, open_stream, close_stream, with_mode_on, with_flight, write_refusal, written_to, after_acked, after_abandon, after_expire, after_expire_run};
     ghost use Rattle.sctp_sender.specs.Thresholds.{falls_on, fell, tells_low};
 
     /// A sender with no stream, whose first chunk gets the first TSN. It takes no memory.
     /// Precondition: `fragment_size` is 1 to 65,519.
-    pub fn new(alloc: Global, first_tsn: u32, fragment_size: u32, max_message_size: u32) -> Self
+    pub fn new(
+        alloc: Global,
+        first_tsn: u32,
+        fragment_size: u32,
+        max_message_size: u32,
+        reported: Reported,
+    ) -> Self
         requires some { 0 < fragment_size }
         requires short { fragment_size ≤ 65519 }
-        ensures { result ≡ with_nothing first_tsn fragment_size max_message_size }
+        ensures { result ≡ with_reported reported
+            (with_nothing first_tsn fragment_size max_message_size) }
     {
+        let kept = match reported {
+            Reported::Drop => None,
+            Reported::Keep => Some(Kept {
+                user_data: VecDeque::new(alloc),
+                reported: Vec::new(alloc),
+            }),
+        };
         Sender {
             alloc,
             fragment_size,
             max_message_size,
             streams: OutboundStreams::new(alloc),
             flight: InFlight::new(alloc, first_tsn),
-            kept: None,
+            kept,
         }
     }
 

@@ -5,8 +5,8 @@ use bytes::Bytes;
 use sctp_chunks::chunk::chunk_payload_data::{PayloadProtocolIdentifier, ReliabilityType};
 use sctp_chunks::chunk::chunk_selective_ack::ChunkSelectiveAck;
 use sctp_sender::replay::send_next_tsn;
-use sctp_sender::sender::Sender;
 use sctp_sender::sender::refusal::SenderRefusal;
+use sctp_sender::sender::{Reported, Sender};
 use std::alloc::Global;
 
 // Whether a message of one byte is taken, and sent.
@@ -48,7 +48,7 @@ fn goes_on(alloc: Global, sender: &mut Sender) -> bool {
 #[test]
 fn bounded(rt: HostRuntime) {
     let alloc = rt.alloc();
-    let mut sender = Sender::new(alloc, 1, 3, 100);
+    let mut sender = Sender::new(alloc, 1, 3, 100, Reported::Drop);
     let well = match Bytes::copy_from_slice(alloc, b"a") {
         Ok(byte) => is_bounded(&mut sender, &byte) && goes_on(alloc, &mut sender),
         Err(_) => false,
@@ -101,7 +101,7 @@ fn the_others_write(alloc: Global, sender: &mut Sender) -> bool {
 #[test]
 fn sender_closes_the_middle(rt: HostRuntime) {
     let alloc = rt.alloc();
-    let mut sender = Sender::new(alloc, 1, 3, 4);
+    let mut sender = Sender::new(alloc, 1, 3, 4, Reported::Drop);
     let well = three_are_written(alloc, &mut sender);
     assert!(rt; well && the_others_write(alloc, &mut sender));
 }

@@ -3,8 +3,8 @@
 use bytes::Bytes;
 use sctp_chunks::chunk::chunk_payload_data::PayloadProtocolIdentifier;
 use sctp_chunks::chunk::chunk_selective_ack::{ChunkSelectiveAck, GapAckBlock};
-use sctp_sender::sender::Sender;
 use sctp_sender::sender::flight::kept::TakenBack;
+use sctp_sender::sender::{Reported, Sender};
 use std::alloc::Global;
 
 // A SACK, and the TSNs that it takes back.
@@ -91,7 +91,7 @@ fn goes(alloc: Global, sender: &mut Sender, tsn: u32, blocks: &[(u16, u16)], due
 }
 
 fn ten_are_sent(sender: &mut Sender, byte: &Bytes) -> bool {
-    let mut well = sender.keep_reported().is_ok() && sender.open(1).is_ok();
+    let mut well = sender.open(1).is_ok();
     for _ in 0..10 {
         well = well
             && sender
@@ -103,7 +103,7 @@ fn ten_are_sent(sender: &mut Sender, byte: &Bytes) -> bool {
 }
 
 fn all_go(alloc: Global, sacks: &[Sack]) -> bool {
-    let mut sender = Sender::new(alloc, 1, 3, 100);
+    let mut sender = Sender::new(alloc, 1, 3, 100, Reported::Keep);
     let mut well = match Bytes::copy_from_slice(alloc, b"a") {
         Ok(byte) => ten_are_sent(&mut sender, &byte),
         Err(_) => false,

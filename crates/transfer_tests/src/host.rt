@@ -6,7 +6,7 @@ use sctp_chunks::chunk::chunk_payload_data::PayloadProtocolIdentifier;
 use sctp_packets::packet::{CommonHeader, Packet};
 use sctp_receiver::receiver::Receiver;
 use sctp_receiver::receiver::arrival::Closed;
-use sctp_sender::sender::Sender;
+use sctp_sender::sender::{Reported, Sender};
 use sctp_util::util::Checksum;
 use std::alloc::Global;
 
@@ -33,7 +33,7 @@ impl Host {
     /// A host that cuts messages into fragments of three bytes.
     pub fn new(alloc: Global, first_tsn: u32, peer_tsn: u32) -> Host {
         Host {
-            sender: Sender::new(alloc, first_tsn, 3, 100),
+            sender: Sender::new(alloc, first_tsn, 3, 100, Reported::Drop),
             receiver: Receiver::new(alloc, peer_tsn, 100, None),
         }
     }

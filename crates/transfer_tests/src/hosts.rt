@@ -15,7 +15,7 @@ use sctp_sender::sender::flight::Released;
 use sctp_sender::sender::flight::kept::TakenBack;
 use sctp_sender::sender::flight::late::AbandonedMessage;
 use sctp_sender::sender::refusal::SenderRefusal;
-use sctp_sender::sender::{Dropped, ExpiredMessage, ExpiredMessages, Sender};
+use sctp_sender::sender::{Dropped, ExpiredMessage, ExpiredMessages, Reported, Sender};
 use sctp_sender::{costs, replay};
 use sctp_serial::turns::Turns;
 use std::alloc::Global;
@@ -56,7 +56,8 @@ pub(crate) enum Step {
     /// Such a SACK to a sender that keeps what was reported: what comes back, and the bytes in flight before it is taken and after.
     TakeBack(u32, (u16, u16), &'static [TakenBack], usize, usize),
     /// Whether the sender keeps what is reported.
-    Keep(Result<(), SenderRefusal>),
+    /// A sender that keeps what is reported, with this first TSN.
+    Keep(u32),
     Buffered(Option<usize>),
     MarkAll,
     /// The first chunk that is marked.
@@ -399,7 +400,6 @@ fn is_done(sender: &mut Sender, step: &Step) -> bool {
     match step {
         Idle => matches!(sender.send_next(0), Ok(None)),
         SendNumbered(ssn) => sends_numbered(sender, *ssn),
-        Keep(due) => sender.keep_reported() == *due,
         SendMarked(now, due) => sends_marked(sender, *now, *due),
         SendWithin(room, due) => sends_within(sender, *room, *due),
         Resend(tsn, now, due) => resends(sender, *tsn, *now, due),
@@ -419,6 +419,10 @@ fn is_done(sender: &mut Sender, step: &Step) -> bool {
 // Whether a step that the peer takes part in goes so.
 fn goes_between(alloc: Global, a: &mut Host, b: &mut Host, step: &Step) -> bool {
     match step {
+        Keep(first_tsn) => {
+            a.sender = Sender::new(alloc, *first_tsn, 3, 100, Reported::Keep);
+            true
+        }
         Open => a.opens() && b.opens(),
         Write(text, due) => a.writes(alloc, text) == *due,
         Send(is_lost) => sends(alloc, a, b, *is_lost),

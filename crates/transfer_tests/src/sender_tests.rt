@@ -30,7 +30,7 @@ const FOUR: &[Step] = &[
 
 // The same, of a sender that keeps what is reported.
 const KEPT: &[Step] = &[
-    Keep(Ok(())),
+    Keep(u32::MAX),
     Open,
     Write(b"abcdefgh", true),
     Write(b"i", true),
@@ -518,17 +518,15 @@ const CASES: [(&str, u32, u32, &[Step], &[Step]); 27] = [
                 1,
             ),
             TakeBack(2, (1, 0), &[], 1, 0),
-            Keep(Ok(())),
         ],
     ),
     (
         // What was reported can't be sent again.
-        "a sender keeps nothing unless it is told to before it sends",
+        "a sender keeps nothing unless it is made so",
         u32::MAX,
         7,
         FOUR,
         &[
-            Keep(Err(SenderRefusal::ChunksInFlight)),
             TakeBack(u32::MAX - 1, (2, 3), &[], 9, 4),
             TakeBack(u32::MAX - 1, (4, 4), &[], 4, 3),
             Resend(0, 5, NOT_IN_FLIGHT),

@@ -35,7 +35,7 @@ type host struct {
 }
 
 func newHost(head sctprattle.Head) *host {
-	sender, err := sctprattle.NewSender(1000, packetSize-28, longest)
+	sender, err := sctprattle.NewSender(1000, packetSize-28, longest, false)
 	must(err)
 	receiver, err := sctprattle.NewReceiver(1000, longest, 1<<16, 1000)
 	must(err)

@@ -8,14 +8,11 @@ ghost use Rattle.sctp_c.specs.Rows.{acked_row, taken_back_row};
 ghost use Rattle.sctp_chunks.specs.Fault.{SackFault};
 ghost use Rattle.sctp_data.specs.SelectiveAck.{sack_of};
 ghost use Rattle.sctp_sender.specs.Flight.{is_outdated, sack_refusal};
-ghost use Rattle.sctp_sender.specs.Sender.{keeping};
 ghost use Rattle.sctp_c.specs.Sending.{sender_code_for};
 
 use super::SctpSender;
 use super::queries::moment_of;
-use crate::code::{
-    SCTPR_CHUNKS_IN_FLIGHT, SCTPR_OK, SCTPR_SHORT_BUFFER, SCTPR_STALE, of_error, of_sender,
-};
+use crate::code::{SCTPR_OK, SCTPR_SHORT_BUFFER, SCTPR_STALE, of_error, of_sender};
 use crate::in_place::read_sack;
 use sctp_chunks::chunk::chunk_selective_ack::ChunkSelectiveAck;
 use sctp_sender::sender::Sender;
@@ -222,21 +219,6 @@ pub extern "C" fn sctpr_sender_acked_up_to(
         duplicate_tsn: Vec::new(alloc),
     };
     take_sack(own, &sack, rows, count)
-}
-
-/// From here on the user data of each chunk that a gap ack block reports is kept until the cumulative TSN passes it, so that
-/// `sctpr_sender_take_back` can give it back. Refuses with `SCTPR_CHUNKS_IN_FLIGHT`, where any chunk is in flight. It takes no memory.
-#[unsafe(no_mangle)]
-pub extern "C" fn sctpr_sender_keep_reported(sender: &mut SctpSender) -> u32
-    ensures codes { (result ≡ 0) ⊎ (result ≡ 33) }
-    ensures ok { result ≡ 0 → sender.new.value ≡ keeping sender.old.value }
-    ensures refused { result ≡ 33 → (sender.new.value ≡ sender.old.value)
-        × (0 < length sender.old.value.flight.queue.inflight.chunks) }
-{
-    match sender.get_mut().keep_reported() {
-        Ok(()) => SCTPR_OK,
-        Err(_) => SCTPR_CHUNKS_IN_FLIGHT,
-    }
 }
 
 /// Takes back what a SACK, of which these are the bytes, no longer reports (RFC 4960 6.2.1 D iv), and nothing past its last gap ack

@@ -1,48 +1,27 @@
 //! A sender that keeps what gap ack blocks reported, and what a SACK takes back of that (RFC 4960 6.2.1 D iv).
 
-ghost use Rattle.std.specs.Prelude.{◌≡◌, ◌+◌, ◌^◌, ◌<◌, ◌≤◌, ◌⊎◌, is_some, ◌==◌, [], true, false, nat_lt, None, Some, OnOk, OnErr, IfOk, IfErr, IfSome, IsOk, length, option_map, if◌then◌else◌};
+ghost use Rattle.std.specs.Prelude.{◌≡◌, ◌+◌, ◌^◌, ◌<◌, ◌≤◌, ◌⊎◌, is_some, ◌==◌, true, false, nat_lt, None, Some, OnOk, OnErr, IfOk, IfErr, IfSome, IsOk, length, option_map, if◌then◌else◌};
 ghost use Rattle.std.specs.List.{All, count_by};
 ghost use Rattle.sctp_outbound.specs.outbound_queue.OutboundQueue.{total_bytes};
 ghost use Rattle.sctp_sender.specs.Costs.{anew_turns, take_back_turns};
 ghost use Rattle.sctp_sender.specs.Reporting.{AreKnown};
 ghost use Rattle.sctp_sender.specs.Keeping.{AreAnew, Cover, after_returns, bytes_back, kept_after};
-ghost use Rattle.sctp_sender.specs.declared.sender.refusal.SenderRefusal.TheVariants.{ChunksInFlight, OutOfMemory};
+ghost use Rattle.sctp_sender.specs.declared.sender.refusal.SenderRefusal.TheVariants.{OutOfMemory};
 
 use super::Sender;
 use super::flight::anew::Anew;
-use super::flight::kept::{Kept, TakenBack, answered_back_counted, set_left};
+use super::flight::kept::{TakenBack, answered_back_counted, set_left};
 use super::outbound_streams::OutboundStreams;
 use crate::sender::refusal::SenderRefusal;
 use sctp_data::chunk::chunk_selective_ack::ChunkSelectiveAck;
 use sctp_outbound::outbound_queue::OutboundQueue;
 use sctp_serial::turns::Turns;
 use std::alloc::Global;
-use std::collections::VecDeque;
 
 impl Sender {
     ghost use Rattle.sctp_data.specs.SelectiveAck.{sack_of};
     ghost use Rattle.sctp_sender.specs.Flight.{after_sack, can_resend, count_acked, is_outdated, reports, reports_anew, sack_refusal};
-    ghost use Rattle.sctp_sender.specs.Sender.{after_take_back, keeping, take_back_refusal, taken_back_by};
-
-    /// From here on the user data of each chunk that a gap ack block reports is kept until the cumulative TSN passes it (RFC 4960
-    /// 6.2.1 D iv), shared, so that `take_back` can give it back. Without this call it goes with the report. Refuses with
-    /// `ChunksInFlight`, where any chunk is in flight, and the sender is as it was then. It takes no memory.
-    pub fn keep_reported(&mut self) -> Result<(), SenderRefusal>
-        ensures ok { OnOk result (self.new ≡ keeping self.old) }
-        ensures accepted { IsOk result → length self.old.flight.queue.inflight.chunks ≡ 0 }
-        ensures refused { IfErr result (λ e. (e ≡ ChunksInFlight)
-            × (0 < length self.old.flight.queue.inflight.chunks)) }
-        ensures err { OnErr result (self.new ≡ self.old) }
-    {
-        if self.flight.queue().inflight_len() > 0 {
-            return Err(SenderRefusal::ChunksInFlight);
-        }
-        self.kept = Some(Kept {
-            user_data: VecDeque::new(self.alloc),
-            reported: Vec::new(self.alloc),
-        });
-        Ok(())
-    }
+    ghost use Rattle.sctp_sender.specs.Sender.{after_take_back, take_back_refusal, taken_back_by};
 
     /// Takes back what a SACK no longer reports (RFC 4960 6.2.1 D iv): each kept chunk of no abandoned message is outstanding again,
     /// with its bytes, and its stream has more; past the last block, if any, none: a SACK may be cut (6.7). Answers them in order of

@@ -20,8 +20,6 @@ pub enum SenderRefusal {
     /// The ordered message that is next can't be begun before chunks of its stream are acknowledged cumulatively: its stream sequence
     /// number is 2^14 or more past that of the first ordered chunk of its stream in flight.
     SsnsUsedUp,
-    /// Chunks are in flight.
-    ChunksInFlight,
     /// The TSN is not in flight; or, where it is to be sent again, its chunk is acknowledged or abandoned.
     NotInFlight,
     /// A SACK reports a cumulative TSN that was not given out: `ErrInflightQueueTsnPop` of the Rust crate's association.

@@ -50,8 +50,6 @@ pub const SCTPR_TSN_OPPOSITE: sctpr_code = 30;
 pub const SCTPR_STREAM_BUSY: sctpr_code = 31;
 /// The next ordered message of the stream can't be begun before chunks of it are acknowledged.
 pub const SCTPR_SSNS_USED_UP: sctpr_code = 32;
-/// Chunks are in flight.
-pub const SCTPR_CHUNKS_IN_FLIGHT: sctpr_code = 33;
 /// The TSN lies farther past the cumulative one than the limits allow.
 pub const SCTPR_TSN_TOO_FAR: sctpr_code = 34;
 /// Nothing is left of the window (RFC 4960 6.2).
@@ -597,8 +595,10 @@ extern "C" {
     pub fn sctpr_receiver_held_bytes(receiver: *const sctpr_receiver) -> usize;
 
     /// Makes a sender with no stream, whose first chunk gets `first_tsn`. A chunk has `fragment_size` bytes of user data at most, 1 to 65,519,
-    /// a message `max_message_size`. `out` becomes its handle. SCTPR_INVALID, SCTPR_NO_MEMORY; `out` stays then.
-    pub fn sctpr_sender_new(first_tsn: u32, fragment_size: u32, max_message_size: u32, out: *mut sctpr_sender) -> sctpr_code;
+    /// a message `max_message_size`. If `keeps_reported` is not 0, it keeps the user data of what gap ack blocks report until the cumulative TSN
+    /// passes it, for sctpr_sender_take_back (RFC 4960 6.2.1 D iv); else that goes. `out` becomes its handle. SCTPR_INVALID, SCTPR_NO_MEMORY;
+    /// `out` stays then.
+    pub fn sctpr_sender_new(first_tsn: u32, fragment_size: u32, max_message_size: u32, keeps_reported: u8, out: *mut sctpr_sender) -> sctpr_code;
 
     /// Frees a sender and all that it holds, and empties its handle. It does nothing where the handle is empty, as after this call or with
     /// `sctpr_sender handle = { NULL }`, and where there is no handle.
@@ -672,14 +672,10 @@ extern "C" {
     /// block, with rows, count and codes as above. It is not handed to sctpr_sender_take_back: a SHUTDOWN can't tell of gaps (3.3.8).
     pub fn sctpr_sender_acked_up_to(sender: *mut sctpr_sender, tsn: u32, rows: *mut sctpr_acked, room: usize, count: *mut usize) -> sctpr_code;
 
-    /// From here on what gap ack blocks report is kept until the cumulative TSN passes it, so that it can be taken back.
-    /// SCTPR_CHUNKS_IN_FLIGHT, where any chunk is in flight.
-    pub fn sctpr_sender_keep_reported(sender: *mut sctpr_sender) -> sctpr_code;
-
     /// Takes back what a SACK no longer reports (RFC 4960 6.2.1 D iv). Past its last gap ack block it takes back nothing, as a SACK may be cut to
     /// the path MTU (6.7); one that reports nothing in blocks takes back all. A SACK that comes late, with the same cumulative TSN, takes back
     /// what a later one reported, and the next one reports it anew. Call it before sctpr_sender_acked with the same SACK. Rows, count and codes
-    /// are as there, with a row for each chunk that comes back, and none without sctpr_sender_keep_reported; and SCTPR_QUEUE_FULL, where all
+    /// are as there, with a row for each chunk that comes back, and none where the sender keeps nothing; and SCTPR_QUEUE_FULL, where all
     /// bytes would be more than the greatest size_t.
     pub fn sctpr_sender_take_back(sender: *mut sctpr_sender, chunk: *const u8, length: usize, rows: *mut sctpr_taken_back, room: usize, count: *mut usize) -> sctpr_code;
 

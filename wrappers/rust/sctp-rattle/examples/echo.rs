@@ -17,7 +17,7 @@ struct Host {
 
 impl Host {
     fn new(verification_tag: u32, source_port: u16, destination_port: u16) -> Result<Host> {
-        let mut sender = Sender::new(1000, PACKET as u32 - 28, LONGEST)?;
+        let mut sender = Sender::new(1000, PACKET as u32 - 28, LONGEST, false)?;
         let mut receiver = Receiver::new(1000, LONGEST, 1 << 16, 1000)?;
         sender.open(STREAM)?;
         receiver.open(STREAM)?;

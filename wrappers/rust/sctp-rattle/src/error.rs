@@ -43,8 +43,6 @@ pub enum Error {
     StreamBusy,
     /// The next ordered message of the stream can't be begun before chunks of it are acknowledged.
     SsnsUsedUp,
-    /// Chunks are in flight.
-    ChunksInFlight,
     /// The TSN lies farther past the cumulative one than the limits allow.
     TsnTooFar,
     /// Nothing is left of the window (RFC 4960 6.2).
@@ -184,7 +182,6 @@ impl Error {
             sys::SCTPR_TSN_OPPOSITE => Error::TsnOpposite,
             sys::SCTPR_STREAM_BUSY => Error::StreamBusy,
             sys::SCTPR_SSNS_USED_UP => Error::SsnsUsedUp,
-            sys::SCTPR_CHUNKS_IN_FLIGHT => Error::ChunksInFlight,
             sys::SCTPR_TSN_TOO_FAR => Error::TsnTooFar,
             sys::SCTPR_WINDOW_FULL => Error::WindowFull,
             sys::SCTPR_SSN_TOO_FAR => Error::SsnTooFar,
@@ -266,7 +263,6 @@ impl Error {
             Error::TsnOpposite => sys::SCTPR_TSN_OPPOSITE,
             Error::StreamBusy => sys::SCTPR_STREAM_BUSY,
             Error::SsnsUsedUp => sys::SCTPR_SSNS_USED_UP,
-            Error::ChunksInFlight => sys::SCTPR_CHUNKS_IN_FLIGHT,
             Error::TsnTooFar => sys::SCTPR_TSN_TOO_FAR,
             Error::WindowFull => sys::SCTPR_WINDOW_FULL,
             Error::SsnTooFar => sys::SCTPR_SSN_TOO_FAR,
@@ -347,7 +343,6 @@ impl Error {
             Error::TsnOpposite => "The TSN lies half the circle from the cumulative one (RFC 1982 3.2).",
             Error::StreamBusy => "Something of the stream waits or is in flight.",
             Error::SsnsUsedUp => "The next ordered message of the stream can't be begun before chunks of it are acknowledged.",
-            Error::ChunksInFlight => "Chunks are in flight.",
             Error::TsnTooFar => "The TSN lies farther past the cumulative one than the limits allow.",
             Error::WindowFull => "Nothing is left of the window (RFC 4960 6.2).",
             Error::SsnTooFar => "The stream sequence number can't be told from one that was read (RFC 1982 3.2).",

@@ -202,11 +202,12 @@ where
 
 impl Sender {
     /// A sender with no stream, whose first chunk gets `first_tsn`. A chunk has `fragment_size` bytes of user data at most, a message
-    /// `max_message_size`.
-    pub fn new(first_tsn: u32, fragment_size: u32, max_message_size: u32) -> Result<Sender> {
+    /// `max_message_size`. With `keeps_reported` what gap ack blocks report is kept until the cumulative TSN passes it, so that it can be
+    /// taken back.
+    pub fn new(first_tsn: u32, fragment_size: u32, max_message_size: u32, keeps_reported: bool) -> Result<Sender> {
         let mut handle = sys::sctpr_sender { at: core::ptr::null_mut() };
         // SAFETY: handle is a value of this function.
-        let code = unsafe { sys::sctpr_sender_new(first_tsn, fragment_size, max_message_size, &mut handle) };
+        let code = unsafe { sys::sctpr_sender_new(first_tsn, fragment_size, max_message_size, keeps_reported.into(), &mut handle) };
         done(code, (), 0)?;
         Ok(Sender { handle: UnsafeCell::new(handle) })
     }
@@ -348,12 +349,6 @@ impl Sender {
         // SAFETY: as in `acked`.
         let code = unsafe { sys::sctpr_sender_acked_up_to(self.handle.get_mut(), tsn, room.as_mut_ptr(), room.len(), &mut n) };
         new_rows(code, room, n)
-    }
-
-    /// From here on what gap ack blocks report is kept until the cumulative TSN passes it, so that it can be taken back.
-    pub fn keep_reported(&mut self) -> Result<()> {
-        // SAFETY: as in `open`.
-        done(unsafe { sys::sctpr_sender_keep_reported(self.handle.get_mut()) }, (), 0)
     }
 
     /// Takes back what a SACK no longer reports, before `acked` with the same SACK; none where it is out of date. There are to be as many

@@ -100,7 +100,7 @@ fn words_of_a_reconfig() {
     assert_eq!(Params::new(address).next(), Some(Err(Error::ErrParamTypeUnhandled)));
     assert_eq!(write_chunk(chunk_type::COOKIE_ACK, b"a", &mut out), Err(Error::NotAsGiven));
     assert_eq!(Receiver::new(1, 65536, 66335, 9).err(), Some(Error::Invalid));
-    let mut s = Sender::new(1, 10, 100).unwrap();
+    let mut s = Sender::new(1, 10, 100, false).unwrap();
     s.open(3).unwrap();
     assert_eq!(s.write(3, 99, b"a"), Err(Error::NotAsGiven));
 }
@@ -108,7 +108,7 @@ fn words_of_a_reconfig() {
 /// A message of three chunks goes over, its middle one late.
 #[test]
 fn a_message_goes_over() {
-    let (mut s, mut r) = (Sender::new(1000, 10, 100).unwrap(), Receiver::new(1000, 100, 1 << 16, 100).unwrap());
+    let (mut s, mut r) = (Sender::new(1000, 10, 100, false).unwrap(), Receiver::new(1000, 100, 1 << 16, 100).unwrap());
     let (mut sack, mut rows) = ([0; 64], [AckedRow::default(); 4]);
     assert_eq!(s.write(3, ppid::STRING, TEXT), Err(Error::StreamUnknown));
     s.open(3).unwrap();
@@ -174,16 +174,14 @@ fn a_message_goes_over() {
 /// Messages run out of sendings or of time; a FORWARD-TSN takes the receiver past them.
 #[test]
 fn messages_are_abandoned() {
-    let (mut s, mut r) = (Sender::new(1000, 10, 100).unwrap(), Receiver::new_unlimited(1000, 100).unwrap());
+    let (mut s, mut r) = (Sender::new(1000, 10, 100, true).unwrap(), Receiver::new_unlimited(1000, 100).unwrap());
     let (mut out, mut rows, mut back) = ([0; 64], [AbandonedRow::default(); 4], [TakenBackRow::default(); 4]);
-    s.keep_reported().unwrap();
     s.open(3).unwrap();
     r.open(3).unwrap();
     s.set_mode(3, true, Mode::Rexmit(0)).unwrap();
     assert_eq!(s.set_mode(4, false, Mode::Reliable), Err(Error::StreamUnknown));
     s.write(3, ppid::BINARY, b"gone").unwrap();
     s.send_next(1, &mut out).unwrap();
-    assert_eq!(s.keep_reported(), Err(Error::ChunksInFlight));
     assert_eq!(s.expire_rexmit(&mut rows[..1]).err(), Some(Error::ShortBuffer { wanted: 2 }));
     assert_eq!(s.expire_late(1, &mut rows).unwrap().count(), 0);
     s.retransmit_all();
@@ -209,7 +207,7 @@ fn messages_are_abandoned() {
 
 #[test]
 fn halves_go_to_other_threads() {
-    let mut s = Sender::new(7, 10, 100).unwrap();
+    let mut s = Sender::new(7, 10, 100, false).unwrap();
     s.open(1).unwrap();
     let s = std::thread::spawn(move || {
         s.write(1, ppid::BINARY, b"a").unwrap();
@@ -218,5 +216,5 @@ fn halves_go_to_other_threads() {
     assert_eq!(format!("{:?}", s.join().unwrap()), "Sender { next_tsn: 7, acked_tsn: 6, bytes_in_flight: 0, pending: 1 }");
     let r = Receiver::new(7, 10, 500, 5).unwrap();
     assert_eq!(format!("{r:?}"), "Receiver { cumulative_tsn: 6, window: 500, held_bytes: 0 }");
-    assert_eq!(Sender::new(7, 0, 100).err(), Some(Error::Invalid));
+    assert_eq!(Sender::new(7, 0, 100, false).err(), Some(Error::Invalid));
 }
