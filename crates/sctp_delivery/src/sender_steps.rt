@@ -1,6 +1,6 @@
 //! Each call of a sender makes the step that sessions have of it (RFC 4960 6.1, 6.2.1; RFC 3758 3.5): here it is called and nothing else.
 //!
-//! Left out are `close`, `reset`, `keep_reported`, `take_back` and `replay::count_resend`, which are no calls of a session.
+//! Left out are `close`, `reset`, `take_back` and `replay::count_resend`, which are no calls of a session.
 
 ghost use Rattle.std.specs.Prelude.{◌≡◌, ◌<◌, ◌≤◌, Some, None, OnOk, IfOk, IfSome, find};
 ghost use Rattle.sctp_data.specs.declared.chunk.chunk_payload_data.ChunkPayloadData.{ChunkPayloadData};

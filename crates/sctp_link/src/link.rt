@@ -23,8 +23,8 @@ use crate::link_receiver::LinkReceiver;
 use crate::progress::Progress;
 use crate::record::{Datagram, Kind, Message, Slot};
 use bytes::Bytes;
-use sctp_sender::sender::Sender;
 use sctp_sender::sender::refusal::SenderRefusal;
+use sctp_sender::sender::{Reported, Sender};
 use sctp_util::error::Error;
 use sctp_util::util::Checksum;
 use std::alloc::Global;
@@ -136,7 +136,13 @@ impl<C: Checksum + Drop> Link<C> {
             checksum,
             first_tsn,
             limit,
-            sender: Sender::new(alloc, first_tsn, fragment_size, max_message_size),
+            sender: Sender::new(
+                alloc,
+                first_tsn,
+                fragment_size,
+                max_message_size,
+                Reported::Drop,
+            ),
             receiver: LinkReceiver::new(alloc, first_tsn, max_message_size),
             progress: Progress::new(alloc),
             messages: Vec::new(alloc),
