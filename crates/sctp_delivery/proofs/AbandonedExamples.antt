@@ -56,6 +56,7 @@ writes-second = record {
   step = record { sender = refl; written = refl; released = refl; taken_back = refl };
   exact = ((λ e. cc), λ p l e. ap (λ x. written_to x 1 Binary (8 ∷ []) skipped.sending.sender) (some-same e));
   accepted = refl;
+  answered = tt;
   after = refl;
 }
 
@@ -76,6 +77,7 @@ sends-second = record {
   step = record { sender = refl; written = refl; released = refl; taken_back = refl };
   exact = refl;
   accepted = refl;
+  answered = tt;
   after = refl;
 }
 
@@ -161,6 +163,7 @@ takes-second-sack = record {
   step = record { sender = refl; written = refl; released = refl; taken_back = refl };
   exact = refl;
   accepted = refl;
+  answered = refl;
   after = refl;
 }
 

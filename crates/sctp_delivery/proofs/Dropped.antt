@@ -1,7 +1,7 @@
 -- What `drop_expired` gives up, as calls of a session.
 use Rattle.std.proofs.Common.{◌≡◌, ℕ, zero, suc, ◌+◌, ◌-◌, ◌%◌, ◌^◌, ◌<◌, ◌≤◌, Bool, true, false, List, [], ◌∷◌, ◌++◌, Option, Some, None, Result, Ok, Err}
 use Rattle.std.proofs.Common.{refl, ap, ap₂, sym, subst, ◌∙◌, not, arith}
-use Rattle.std.specs.Prelude.{◌≢◌, ◌&&◌, IfOk, IfSome, OnOk, is_some, if◌then◌else◌}
+use Rattle.std.specs.Prelude.{◌≢◌, ◌&&◌, IfOk, IfSome, OnOk, is_some, if◌then◌else◌, option_map}
 use Rattle.std.proofs.lemmas.List.Folds.{list_all-append}
 use Rattle.std.proofs.lemmas.Option.{none-some}
 use Rattle.sctp_data.specs.declared.chunk.chunk_payload_data.ChunkPayloadData.{ChunkPayloadData}
@@ -26,8 +26,8 @@ use Rattle.sctp_serial.specs.DataChunks.{bytes_of, is_on}
 use Rattle.sctp_stream.specs.declared.stream.StreamState.{StreamState}
 use Rattle.sctp_util.specs.Lists.{change_where}
 use Rattle.sctp_util.proofs.Cases.{same-yes}
-use Rattle.sctp_delivery.specs.SenderCalls.{Drops, SenderCall, SenderMakes, SenderMakesEach, expires, expires_late, expires_rexmit, expires_tail, is_drop}
-use Rattle.sctp_delivery.specs.SenderCalls.{starts}
+use Rattle.sctp_delivery.specs.SenderCalls.{Drops, SenderCall, SenderMakes, SenderMakesEach, Tells, expires, expires_late, expires_rexmit, expires_tail}
+use Rattle.sctp_delivery.specs.SenderCalls.{is_drop, starts}
 
 -- ## Calls one after another
 
@@ -134,7 +134,9 @@ module _ (now s : ℕ) (u : Bool) (t : Transmission) where
         flight = with_queue old.flight (expired_of (Some c) old.flight.queue);
       } ≡ after_expire c bytes now old = cc in
       let goes = subst (λ q. IfSome q (λ d. new ≡ after_expire d bytes now old)) (sym is) (made ∙ shape) in
-      one now (expires now (Some m)) old new (same-yes now) (held, (((ap is_some (sym is)), (goes, λ n. absurd (none-some m (sym n)))), tt))
+      let told : Some s ≡ option_map (λ (d : ChunkPayloadData). d.stream_identifier) (expiring now old.flight.queue) =
+      sym (ap (option_map (λ (d : ChunkPayloadData). d.stream_identifier)) is ∙ ap Some stream) in
+      one now (expires now (Some m)) old new (same-yes now) (held, ((ap is_some (sym is), (goes, λ n. absurd (none-some m (sym n)))), (tt, told)))
 
   -- so many, one after another
   run-drops : (n : ℕ) → AreExpiredOf s u now (suc n) t.flight.queue → suc n < 2 ^ 16 → Drops now t (after (suc n))
@@ -170,7 +172,8 @@ tail-dropped now old new [] c is goes held = absurd goes
 tail-dropped now old new (a ∷ b ∷ rest) c is goes held = absurd goes
 tail-dropped now old new (a ∷ []) c is goes held =
     let made = subst (λ o. new ≡ after_abandon (message_of o) a.stream a.bytes old) (sym is) goes.2 in
-    one now (expires_tail now (Some a)) old new (same-yes now) (held, ((made, λ n. absurd (none-some a (sym n))), tt))
+    let told = subst (Tells (Some a)) (sym is) (ap Some goes.0, ap Some goes.1) in
+    one now (expires_tail now (Some a)) old new (same-yes now) (held, ((made, λ n. absurd (none-some a (sym n))), (tt, told)))
 
 -- ## An answer
 
@@ -202,7 +205,7 @@ module _ (now : ℕ) (old new : Transmission) where
 
   dropped : (r : Option Dropped) → Runs r → OfOne r → Any r → Few r → Tail r → Late r → Worn r
       → held_by_sender new + bytes_dropped r ≡ held_by_sender old → (r ≡ None → new ≡ with_lifetimes now old) → Drops now old new
-  dropped None run of any few tail late worn held none = one now (starts now) old new (same-yes now) (none refl, (tt, tt))
+  dropped None run of any few tail late worn held none = one now (starts now) old new (same-yes now) (none refl, (tt, (tt, tt)))
   dropped (Some (Expired g)) run of any few tail late worn held none =
       run-dropped now g.stream g.unordered old g.messages g.bytes new of any few run held
   dropped (Some (Abandoned gone)) run of any few tail late worn held none =
@@ -211,10 +214,10 @@ module _ (now : ℕ) (old new : Transmission) where
       by : (o : Option ChunkPayloadData) → expiring_tail now old.flight.queue ≡ o → (ts : List ℕ) → late_tsns now old.flight.queue ≡ ts → Drops now old new
       by (Some c) is ts due =
           tail-dropped now old new gone.items c is (subst (λ o. IfSome o (λ d. TailGoes d old new gone.items)) is tail) held
-      by None is [] due = one now (expires_rexmit gone.items) old new refl (held, ((worn is due).0, tt))
+      by None is [] due = one now (expires_rexmit gone.items) old new refl (held, ((worn is due).0, (tt, (worn is due).1)))
       by None is (x ∷ ts) due =
           let some : late_tsns now old.flight.queue ≢ [] = λ e. cc in
-          one now (expires_late now gone.items) old new (same-yes now) (held, ((late is some).0, tt))
+          one now (expires_late now gone.items) old new (same-yes now) (held, ((late is some).0, (tt, (late is some).1)))
 
   pub answered : (a : Result (Option Dropped) SenderRefusal) → IfOk a Runs → IfOk a OfOne → IfOk a Any → IfOk a Few → IfOk a Tail → IfOk a Late → IfOk a Worn
       → IfOk a (λ r. held_by_sender new + bytes_dropped r ≡ held_by_sender old) → IfOk a (λ r. r ≡ None → new ≡ with_lifetimes now old)

@@ -133,6 +133,7 @@ resends-one now c s can found = record {
   step = record { sender = refl; written = omega arith; released = omega arith; taken_back = omega arith };
   exact = tt;
   accepted = (can, found);
+  answered = tt;
   after = refl;
 }
 

@@ -137,6 +137,7 @@ module _ (b : Setting) (n : ℕ) (s : Session) (i : At b n s) (p : ℕ)
     step = record { sender = omega arith; written = omega arith; released = omega arith; taken_back = omega arith };
     exact = refl;
     accepted = (sym skip, named (named_up_to p (flight_of s)));
+    answered = tt;
     after = refl;
   }
 

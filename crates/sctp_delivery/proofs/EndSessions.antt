@@ -213,6 +213,7 @@ module _ (b : Setting) (n : ℕ) (s : Session) (i : At b n s) (none : length (in
     step = record { sender = sent-bytes next b.now q sendable; written = omega arith; released = omega arith; taken_back = omega arith };
     exact = refl;
     accepted = unrefused (flight_of s) none;
+    answered = tt;
     after = refl;
   }
 

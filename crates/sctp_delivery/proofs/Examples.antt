@@ -91,7 +91,7 @@ abbrev pub opened : Session
 opened = sending (open_stream 1 start.sending.sender) start
 
 pub opens : SenderFollows (outgoing.opens 1) start opened
-opens = record { handed = tt; step = record { sender = refl; written = refl; released = refl; taken_back = refl }; exact = tt; accepted = refl; after = refl }
+opens = record { handed = tt; step = record { sender = refl; written = refl; released = refl; taken_back = refl }; exact = tt; accepted = refl; answered = tt; after = refl }
 
 abbrev pub one_write : Write
 one_write = record { stream = 1; payload_type = Binary; bytes = 7 ∷ [] }
@@ -105,6 +105,7 @@ writes-one = record {
   step = record { sender = refl; written = refl; released = refl; taken_back = refl };
   exact = ((λ e. cc), λ p l e. ap (λ x. written_to x 1 Binary (7 ∷ []) opened.sending.sender) (some-same e));
   accepted = refl;
+  answered = tt;
   after = refl;
 }
 
@@ -114,7 +115,7 @@ in_flight = record (sending (with_flight (record waiting.flight { queue = sent_n
 
 pub sends-one : SenderFollows (sends 5) written in_flight
 sends-one =
-    record { handed = tt; step = record { sender = refl; written = refl; released = refl; taken_back = refl }; exact = refl; accepted = refl; after = refl }
+    record { handed = tt; step = record { sender = refl; written = refl; released = refl; taken_back = refl }; exact = refl; accepted = refl; answered = tt; after = refl }
 
 -- the receiver opens the stream too
 abbrev both_open : Session
@@ -188,6 +189,7 @@ takes-sack = record {
   step = record { sender = refl; written = refl; released = refl; taken_back = refl };
   exact = refl;
   accepted = refl;
+  answered = refl;
   after = refl;
 }
 
@@ -294,7 +296,7 @@ abandoned_one = record in_flight {
 
 pub abandons-one : SenderFollows (abandons 10 lost) in_flight abandoned_one
 abandons-one =
-    record { handed = tt; step = record { sender = refl; written = refl; released = refl; taken_back = refl }; exact = refl; accepted = refl; after = refl }
+    record { handed = tt; step = record { sender = refl; written = refl; released = refl; taken_back = refl }; exact = refl; accepted = refl; answered = (refl, refl); after = refl }
 
 abbrev pub skip : ForwardTsn
 skip = record { new_cumulative_tsn = 10; streams = record { identifier = 1; sequence = 0 } ∷ [] }
@@ -318,6 +320,7 @@ makes-skip = record {
   step = record { sender = refl; written = refl; released = refl; taken_back = refl };
   exact = refl;
   accepted = (refl, names);
+  answered = tt;
   after = refl;
 }
 

@@ -19,13 +19,13 @@ use Rattle.sctp_receiver.specs.TsnFilter.{has_come, with_tsn}
 use Rattle.sctp_serial.specs.DataChunks.{chunk_before}
 use Rattle.sctp_serial.specs.Runs.{IsEarliestRun, IsRun}
 use Rattle.sctp_sender.specs.Sender.{after_expire, stream_of}
-use Rattle.sctp_sender.specs.SenderRuns.{Ledger, held_by_sender}
+use Rattle.sctp_sender.specs.SenderRuns.{Ledger}
 use Rattle.sctp_stream.specs.declared.stream.StreamState.{StreamState}
 use Rattle.sctp_delivery.specs.Ending.{ArrivalsAreDetermined, EachMakesOneStep, ReleasesAreDetermined}
 use Rattle.sctp_delivery.specs.ReceiverCalls as incoming
 use Rattle.sctp_delivery.specs.ReceiverCalls.{ReceiverCall}
 use Rattle.sctp_delivery.specs.SenderCalls as outgoing
-use Rattle.sctp_delivery.specs.SenderCalls.{Made, SenderCall, Write}
+use Rattle.sctp_delivery.specs.SenderCalls.{Made, SenderCall, Write, takes_sack}
 use Rattle.sctp_delivery.specs.Session.{ReceiverFollows, SenderFollows, Session, of_receiver, of_sender}
 use Rattle.sctp_delivery.proofs.SackSteps.{written-open}
 
@@ -90,14 +90,8 @@ sending-one call s t u f g =
 
 pub releases-one : ReleasesAreDetermined
 releases-one sack gone other s t u f g =
-    let same : t.sending.sender ≡ u.sending.sender = f.exact ∙ sym g.exact in
-    let held = ap held_by_sender same in
-    let a = f.step.sender in
-    let b = g.step.sender in
-    let x = f.step.released in
-    let y = g.step.released in
-    sent-one s t u s.made s.written f.after g.after
-    (ledger-same t.sending u.sending same (f.step.written ∙ sym g.step.written) (omega (arith, held, a, b, x, y)) (f.step.taken_back ∙ sym g.step.taken_back))
+    let told = f.answered ∙ sym g.answered in
+    (told, sending-one (takes_sack sack gone) s t u f (subst (λ rs. SenderFollows (takes_sack sack rs) s u) (sym told) g))
 
 -- ## A chunk that comes
 

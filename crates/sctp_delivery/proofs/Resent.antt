@@ -13,5 +13,5 @@ pub resent : {V E : Type 0} (now room : ℕ) (old new : Transmission) (a : Resul
     → ((c : ChunkPayloadData) → next_within room old.flight ≡ Some c
     → (find (has_tsn c.tsn) old.flight.queue.inflight.chunks ≡ Some c) × (can_resend c.tsn old.flight ≡ true))
     → OnOk a ((c : ChunkPayloadData) → next_within room old.flight ≡ Some c → SenderMakes (resends c.tsn now c) old new)
-resent now room old new (Ok v) made marked = λ c e. let m = marked c e in (made c e, (tt, (m.1, m.0)))
+resent now room old new (Ok v) made marked = λ c e. let m = marked c e in (made c e, (tt, ((m.1, m.0), tt)))
 resent now room old new (Err x) made marked = tt

@@ -59,6 +59,7 @@ writes-second = record {
   step = record { sender = refl; written = refl; released = refl; taken_back = refl };
   exact = ((λ e. cc), λ p l e. ap (λ x. written_to x 1 Binary (8 ∷ []) in_flight.sending.sender) (some-same e));
   accepted = refl;
+  answered = tt;
   after = refl;
 }
 
@@ -77,6 +78,7 @@ abandons-first = record {
   step = record { sender = refl; written = refl; released = refl; taken_back = refl };
   exact = refl;
   accepted = refl;
+  answered = (refl, refl);
   after = refl;
 }
 
@@ -98,6 +100,7 @@ makes-first-skip = record {
   step = record { sender = refl; written = refl; released = refl; taken_back = refl };
   exact = refl;
   accepted = (refl, names-first);
+  answered = tt;
   after = refl;
 }
 
@@ -152,6 +155,7 @@ takes-first = record {
   step = record { sender = refl; written = refl; released = refl; taken_back = refl };
   exact = refl;
   accepted = refl;
+  answered = refl;
   after = refl;
 }
 
@@ -200,6 +204,7 @@ sends-second = record {
   step = record { sender = refl; written = refl; released = refl; taken_back = refl };
   exact = refl;
   accepted = refl;
+  answered = tt;
   after = refl;
 }
 
@@ -274,6 +279,7 @@ takes-both = record {
   step = record { sender = refl; written = refl; released = refl; taken_back = refl };
   exact = refl;
   accepted = refl;
+  answered = refl;
   after = refl;
 }
 

@@ -34,7 +34,7 @@ use Rattle.sctp_delivery.proofs.TsnPlaces.{IsGiven}
 abbrev pub came_in : (ℕ → Bool) → Session → ℕ → Bool
 came_in dropped s t = dropped t || was_taken t s
 
-abbrev passed_in : List Made → ℕ → Bool
+abbrev pub passed_in : List Made → ℕ → Bool
 passed_in ms t = list_any (passes t) ms
 
 -- what is acknowledged came, and what was passed is abandoned

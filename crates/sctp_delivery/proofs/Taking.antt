@@ -1,63 +1,35 @@
 -- A SACK can be made and taken.
-use Rattle.std.proofs.Common.{◌≡◌, ℕ, ◌+◌, ◌-◌, ◌^◌, ◌<◌, ◌≤◌, Bool, true, false, List, [], ◌∷◌, length, None, refl, arith}
-use Rattle.std.specs.Prelude.{if◌then◌else◌, not}
-use Rattle.std.proofs.lemmas.List.Sums.{sum_by-cons}
-use Rattle.sctp_util.specs.Lists.{change_where}
-use Rattle.sctp_util.specs.Serial.{at_or_before}
+use Rattle.std.proofs.Common.{◌≡◌, ℕ, ◌+◌, ◌^◌, ◌<◌, Bool, true, List, [], ◌∷◌, refl, arith}
 use Rattle.sctp_util.proofs.More.{not_both}
 use Rattle.sctp_data.specs.declared.chunk.chunk_payload_data.ChunkPayloadData.{ChunkPayloadData}
 use Rattle.sctp_data.specs.SelectiveAck.{Sack}
-use Rattle.sctp_outbound.specs.Marks.{as_acknowledged}
 use Rattle.sctp_outbound.specs.outbound_queue.OutboundQueue.{total_bytes}
-use Rattle.sctp_outbound.specs.payload_queue.PayloadQueue.{past}
 use Rattle.sctp_receiver.specs.Receiver.{Reception, after_sack_within, max_sack_entries, sack_entries, sack_of_entries, without_duplicates}
-use Rattle.sctp_serial.specs.DataChunks.{bytes_of}
 use Rattle.sctp_sender.specs.declared.sender.flight.Released.{Released}
-use Rattle.sctp_sender.specs.Flight.{Flight, after_sack, is_outdated, reports_anew, take_sack}
+use Rattle.sctp_sender.specs.Flight.{after_sack, released_by}
 use Rattle.sctp_sender.specs.Sender.{after_acked}
-use Rattle.sctp_sender.specs.SenderRuns.{held_by_sender}
-use Rattle.sctp_sender.specs.Totals.{bytes_in}
+use Rattle.sctp_sender.specs.Thresholds.{with_lows}
+use Rattle.sctp_sender.specs.Totals.{AreSettled, bytes_in}
+use Rattle.sctp_sender.proofs.Lows.{released-same}
+use Rattle.sctp_sender.proofs.Settled.{sack-bytes}
 use Rattle.sctp_delivery.specs.ReceiverCalls as incoming
 use Rattle.sctp_delivery.specs.ReceiverCalls.{ReceiverCall, is_reporting}
 use Rattle.sctp_delivery.specs.Rounds.{CanBeAnswered, IsAnswered}
 use Rattle.sctp_delivery.specs.Sacks.{AfterEachSessionOfFewTsns, tsns_given}
 use Rattle.sctp_delivery.specs.SenderCalls.{takes_sack}
 use Rattle.sctp_delivery.specs.Session.{ReceiverFollows, SenderFollows, Session, at_start}
+use Rattle.sctp_delivery.proofs.Every.{Every}
 use Rattle.sctp_delivery.proofs.ReportedTsns.{not-refused, sack-truthful}
 use Rattle.sctp_delivery.proofs.SackLaws.{IsInStep, IsInStepBut, in-step}
+use Rattle.sctp_delivery.proofs.SackMarks.{came_in, passed_in}
 use Rattle.sctp_delivery.proofs.SackSteps.{known_or, none_dropped}
 use Rattle.sctp_delivery.proofs.TsnPlaces.{base}
+use Rattle.sctp_delivery.proofs.ValidMarks.{IsRight}
 
--- ## The bytes that leave
-
-abbrev size : ChunkPayloadData → ℕ
-size c = length c.user_data
-
--- no more bytes are left
-few-left : (tsn : ℕ) (p : ChunkPayloadData → Bool) (cs : List ChunkPayloadData)
-    → bytes_of (past tsn (change_where p as_acknowledged cs)) ≤ bytes_of cs
-few-left tsn p [] = omega arith
-few-left tsn p (c ∷ cs) = by (p c) (few-left tsn p cs)
-  where
-    rest : List ChunkPayloadData
-    rest = past tsn (change_where p as_acknowledged cs)
-
-    one : (x : ChunkPayloadData) → size x ≤ size c → (b : Bool) → bytes_of (past tsn (change_where p as_acknowledged cs)) ≤ bytes_of cs
-        → bytes_of (if not b then x ∷ past tsn (change_where p as_acknowledged cs) else past tsn (change_where p as_acknowledged cs)) ≤ bytes_of (c ∷ cs)
-    one x le true ih = let n = sum_by-cons size c cs in omega (arith, n, ih)
-    one x le false ih = let n = sum_by-cons size c cs in let m = sum_by-cons size x rest in omega (arith, n, m, ih, le)
-
-    by : (b : Bool) → bytes_of (past tsn (change_where p as_acknowledged cs)) ≤ bytes_of cs
-        → bytes_of (past tsn ((if b then as_acknowledged c else c) ∷ change_where p as_acknowledged cs)) ≤ bytes_of (c ∷ cs)
-    by true ih = one (as_acknowledged c) (omega arith) (at_or_before c.tsn tsn) ih
-    by false ih = one c (omega arith) (at_or_before c.tsn tsn) ih
-
-no-more : (k : Sack) (f : Flight) → total_bytes (after_sack k f).queue ≤ total_bytes f.queue
-no-more k f = by (is_outdated k f)
-  where
-    by : (b : Bool) → total_bytes (if b then f else take_sack k f).queue ≤ total_bytes f.queue
-    by true = omega arith
-    by false = let n = few-left k.cumulative_tsn_ack (reports_anew k) f.queue.inflight.chunks in omega (arith, n)
+-- what is acknowledged has no bytes
+settled : (taken passed : ℕ → Bool) (cs : List ChunkPayloadData) → Every (IsRight taken passed) cs → AreSettled cs
+settled taken passed [] e = tt
+settled taken passed (c ∷ cs) e = (e.0.settled, settled taken passed cs e.1)
 
 -- ## The two calls
 
@@ -71,32 +43,25 @@ module _ (dropped : ℕ → Bool) (p n : ℕ) (s : Session) (few : n < 2 ^ 31) (
     sacks = sack_of_entries credit entries s.receiving.receiver ∷ s.sacks;
   }
 
-  -- the bytes that leave, answered as those of one chunk
-  abbrev gone : Released
-  gone = record {
-    tsn = 0;
-    stream = 0;
-    bytes = held_by_sender s.sending.sender - held_by_sender (after_acked (sack_of_entries credit entries s.receiving.receiver) s.sending.sender);
-    nsent = 0;
-    since = None;
-    message = 0;
-    is_message_acked = false;
-    is_low = false;
-  }
+  abbrev gone : List Released
+  gone = with_lows (released_by (sack_of_entries credit entries s.receiving.receiver) s.sending.sender.flight) s.sending.sender.streams
 
   abbrev taken : Session
   taken = record reported {
     sending = record s.sending {
       sender = after_acked (sack_of_entries credit entries s.receiving.receiver) s.sending.sender;
-      released = s.sending.released + bytes_in (gone ∷ []);
+      released = s.sending.released + bytes_in gone;
     };
   }
 
-  taking : SenderFollows (takes_sack (sack_of_entries credit entries s.receiving.receiver) (gone ∷ [])) reported taken
+  taking : SenderFollows (takes_sack (sack_of_entries credit entries s.receiving.receiver) gone) reported taken
   taking = record {
     handed = (0, omega arith, refl);
     step = record {
-      sender = let n = no-more k s.sending.sender.flight in omega (arith, n);
+      sender =
+          let f = s.sending.sender.flight in
+          released-same (total_bytes f.queue) (total_bytes (after_sack k f).queue) s.sending.sender.streams (released_by k f) gone refl
+          (sack-bytes k f (settled (came_in dropped s) (passed_in s.made) f.queue.inflight.chunks i.valid.inflight));
       written = omega arith;
       released = refl;
       taken_back = omega arith;
@@ -105,6 +70,7 @@ module _ (dropped : ℕ → Bool) (p n : ℕ) (s : Session) (few : n < 2 ^ 31) (
     accepted =
         not-refused p n (known_or dropped s) k s.sending.sender.flight few i.numbered
         (sack-truthful p n (known_or dropped s) credit entries s.receiving.receiver few i.arrived);
+    answered = refl;
     after = refl;
   }
 
@@ -119,7 +85,7 @@ module _ (dropped : ℕ → Bool) (p n : ℕ) (s : Session) (few : n < 2 ^ 31) (
       reporting = f;
       sack = k;
       made = refl;
-      gone = gone ∷ [];
+      gone = gone;
       taking = taking;
     },
     refl,

@@ -43,11 +43,12 @@ every-made Q f h (x ∷ xs) = (h x, every-made Q f h xs)
 abbrev pub IsUnmarked : ChunkPayloadData → Type 0
 IsUnmarked c = (c.acked ≡ false) × (c.abandoned ≡ false)
 
--- of a chunk in flight: acknowledged, it was taken or abandoned; passed, it was abandoned; and abandoned, it has no bytes
+-- of a chunk in flight: acknowledged, it was taken or abandoned; passed, it was abandoned; and acknowledged or abandoned, it has no bytes
 pub record IsRight (taken passed : ℕ → Bool) (c : ChunkPayloadData) : Type 0 where
   pub came : c.acked ≡ true → (taken c.tsn || c.abandoned) ≡ true
   pub gone : passed c.tsn ≡ true → c.abandoned ≡ true
   pub bare : c.abandoned ≡ true → length c.user_data ≡ 0
+  pub settled : c.acked ≡ true → length c.user_data ≡ 0
 
 pub record IsValid (taken passed : ℕ → Bool) (q : Outbound) : Type 0 where
   pub ordered : Every IsUnmarked q.pending.ordered
@@ -109,6 +110,7 @@ module _ (taken passed : ℕ → Bool) where
     came = λ e. ap (λ u. taken u || d.abandoned) t ∙ ap (λ u. taken c.tsn || u) b ∙ r.came (sym a ∙ e);
     gone = λ e. b ∙ r.gone (ap passed (sym t) ∙ e);
     bare = λ e. ap length u ∙ r.bare (sym b ∙ e);
+    settled = λ e. ap length u ∙ r.settled (sym a ∙ e);
   }
 
   pub valid-changed : (q r : Outbound) (p : ChunkPayloadData → Bool) (f : ChunkPayloadData → ChunkPayloadData) → r.pending ≡ q.pending
@@ -167,8 +169,8 @@ module _ (taken passed : ℕ → Bool) where
             (record {
               came = λ a. absurd (not_both (sym unmarked.0 ∙ a));
               gone = λ a. absurd (not_both (sym new ∙ a));
-              bare = λ a. absurd
-                  (not_both (sym unmarked.1 ∙ a));
+              bare = λ a. absurd (not_both (sym unmarked.1 ∙ a));
+              settled = λ a. absurd (not_both (sym unmarked.0 ∙ a));
             }) s.inflight;
       }
 
@@ -176,7 +178,7 @@ module _ (taken passed : ℕ → Bool) where
   sent-valid q tsn now new s = sent-of (next_pending (all_started now q).pending) (all_started now q) tsn now new refl (started-valid now q s)
 
   abandoned-right : (c : ChunkPayloadData) → Right (as_abandoned c)
-  abandoned-right c = record { came = λ e. or-right (taken c.tsn) true refl; gone = λ e. refl; bare = λ e. refl }
+  abandoned-right c = record { came = λ e. or-right (taken c.tsn) true refl; gone = λ e. refl; bare = λ e. refl; settled = λ e. refl }
 
   pub abandoned-valid : (o : Option ℕ) (tsn : ℕ) (q : Outbound) → Valid q → Valid (abandoned_of o tsn q)
   abandoned-valid None tsn q s = s
@@ -191,7 +193,7 @@ module _ (taken passed : ℕ → Bool) where
           (payload.with_chunks q.inflight (change_where (is_of m) as_abandoned q.inflight.chunks))).chunks
       by None = left
       by (Some c) = every-inserted Right chunk_before (terminal_chunk tsn c) (change_where (is_of m) as_abandoned q.inflight.chunks)
-          (record { came = λ e. or-right (taken tsn) true refl; gone = λ e. refl; bare = λ e. refl }) left
+          (record { came = λ e. or-right (taken tsn) true refl; gone = λ e. refl; bare = λ e. refl; settled = λ e. refl }) left
 
   pub each-valid : (ts : List ℕ) (f : Flight) → Valid f.queue → Valid (abandoned_each ts f).queue
   each-valid [] f s = s
@@ -254,7 +256,7 @@ module _ (taken passed : ℕ → Bool) where
     where
       both-right : (c : ChunkPayloadData) → reports_anew k c ≡ true → Right c × IsAnswered k c → Right (as_acknowledged c) × IsAnswered k (as_acknowledged c)
       both-right c e h = (
-        record { came = λ a. came-of c h.0 (h.1 (both (not c.acked) (reports k c) e).1); gone = h.0.gone; bare = λ a. refl },
+        record { came = λ a. came-of c h.0 (h.1 (both (not c.acked) (reports k c) e).1); gone = h.0.gone; bare = λ a. refl; settled = λ a. refl },
         h.1,
       )
 
@@ -282,7 +284,7 @@ more-taken taken taken' passed q more s = record {
   ordered = s.ordered;
   unordered = s.unordered;
   inflight = every-of (IsRight taken passed) (IsRight taken' passed)
-      (λ c r. record { came = λ e. wider c (r.came e); gone = r.gone; bare = r.bare }) q.inflight.chunks s.inflight;
+      (λ c r. record { came = λ e. wider c (r.came e); gone = r.gone; bare = r.bare; settled = r.settled }) q.inflight.chunks s.inflight;
 }
   where
     wider : (c : ChunkPayloadData) → (taken c.tsn || c.abandoned) ≡ true → (taken' c.tsn || c.abandoned) ≡ true
@@ -307,4 +309,5 @@ more-passed taken passed passed' q more s = record {
       came = h.0.came;
       gone = λ e. elim (or-split (passed c.tsn) c.abandoned (h.1 e)) [ inl a ↦ h.0.gone a | inr a ↦ a ];
       bare = h.0.bare;
+      settled = h.0.settled;
     }

@@ -101,9 +101,9 @@ ArrivalsAreDetermined =
     (c : ChunkPayloadData) (a b : Arrival) (s t u : Session) → Follows (of_receiver (takes c a)) s t
     → Follows (of_receiver (takes c b)) s u → a ≡ b
 
--- and what a SACK makes is the same, whatever is answered of the chunks that it releases
+-- and what a SACK makes, with the answer of the chunks that it releases, is settled by the sender
 abbrev pub ReleasesAreDetermined : Type 0
 ReleasesAreDetermined =
     (sack : Sack) (gone other : List Released) (s t u : Session)
     → Follows (of_sender (takes_sack sack gone)) s t
-    → Follows (of_sender (takes_sack sack other)) s u → t ≡ u
+    → Follows (of_sender (takes_sack sack other)) s u → (gone ≡ other) × (t ≡ u)

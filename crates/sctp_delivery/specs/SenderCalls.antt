@@ -17,11 +17,12 @@ use Rattle.sctp_sender.specs.declared.sender.ExpiredMessage.{ExpiredMessage}
 use Rattle.sctp_sender.specs.declared.sender.flight.late.AbandonedMessage.{AbandonedMessage}
 use Rattle.sctp_sender.specs.declared.sender.flight.Released.{Released}
 use Rattle.sctp_sender.specs.Abandonment.{Name, abandon_refusal, can_skip_to, is_end, named_up_to, skip_end}
-use Rattle.sctp_sender.specs.Flight.{can_resend, message_to_abandon, next_after_send, sack_refusal}
-use Rattle.sctp_sender.specs.Late.{after_late, after_worn}
+use Rattle.sctp_sender.specs.Flight.{can_resend, message_to_abandon, next_after_send, released_by, sack_refusal}
+use Rattle.sctp_sender.specs.Late.{after_late, after_worn, late_order, leaving_each, worn_order}
 use Rattle.sctp_sender.specs.Numbers.{send_refusal}
 use Rattle.sctp_sender.specs.Resending.{count_again, sent_again}
 use Rattle.sctp_sender.specs.Sender.{Transmission, after_abandon, after_acked, after_expire, is_open, stream_of, with_flight, write_refusal, written_to}
+use Rattle.sctp_sender.specs.Thresholds.{with_lows, with_message_lows}
 use Rattle.sctp_sender.specs.SenderRuns as runs
 use Rattle.sctp_sender.specs.SenderRuns.{Makes}
 
@@ -163,10 +164,33 @@ MakesExactly (sets_size size) old new = ⊤
 MakesExactly (sets_low stream bytes) old new = ⊤
 MakesExactly (reserves more) old new = ⊤
 
+-- ## What is answered
+
+-- a message is told with the stream and the number of the chunk, and none where there is no chunk
+abbrev pub Tells : Option AbandonedMessage → Option ChunkPayloadData → Type 0
+Tells m c =
+    (option_map (λ a. a.stream) m ≡ option_map (λ d. d.stream_identifier) c)
+    × (option_map (λ a. a.number) m ≡ option_map (λ d. d.message_id) c)
+
+-- what the call answers of what leaves: of which message or chunk, and for the bytes of several each its own
+abbrev pub Answers : SenderCall → Transmission → Type 0
+Answers (abandons tsn a) t = Tells (Some a) (find (has_tsn tsn) t.flight.queue.inflight.chunks)
+Answers (expires now m) t =
+    option_map (λ e. e.stream) m
+    ≡ option_map (λ c. c.stream_identifier) (expiring now t.flight.queue)
+Answers (expires_tail now m) t = Tells m (expiring_tail now t.flight.queue)
+Answers (expires_late now gone) t =
+    gone ≡ with_message_lows (leaving_each (late_order now t.flight) t.flight) t.streams
+Answers (expires_rexmit gone) t =
+    gone ≡ with_message_lows (leaving_each (worn_order t.flight) t.flight) t.streams
+Answers (takes_sack sack gone) t = gone ≡ with_lows (released_by sack t.flight) t.streams
+Answers _ t = ⊤
+
 -- one call
 abbrev pub SenderMakes : SenderCall → Transmission → Transmission → Type 0
 SenderMakes call old new =
-    Makes (as_run call) old new × (MakesExactly call old new × IsAccepted call old)
+    Makes (as_run call) old new
+    × (MakesExactly call old new × (IsAccepted call old × Answers call old))
 
 -- calls one after another
 abbrev pub SenderMakesEach : List SenderCall → Transmission → Transmission → Type 0

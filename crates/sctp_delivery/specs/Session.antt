@@ -54,6 +54,7 @@ pub record SenderFollows (call : SenderCall) (old new : Session) : Type 0 where
   pub step : sender_runs.Follows (outgoing.as_run call) old.sending new.sending
   pub exact : MakesExactly call old.sending.sender new.sending.sender
   pub accepted : outgoing.IsAccepted call old.sending.sender
+  pub answered : outgoing.Answers call old.sending.sender
   pub after : new ≡ record {
     sending = new.sending;
     receiving = old.receiving;

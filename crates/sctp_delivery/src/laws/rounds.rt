@@ -56,8 +56,8 @@ pub fn every_session_can_end()
 {}
 
 /// Each call, with its arguments and its answer, leads from a session to one other alone; whether a message becomes complete by a chunk is
-/// settled by the receiver, and what a SACK makes of a session is the same, whatever is answered of the chunks that it releases. So the
-/// hosts themselves, where memory suffices, go from session to session as calls say that are known to exist.
+/// settled by the receiver, and what is answered of the chunks that a SACK releases by the sender. So the hosts themselves, where memory
+/// suffices, go from session to session as calls say that are known to exist.
 pub fn each_call_makes_one_step()
     ensures step { EachMakesOneStep }
     ensures arrival { ArrivalsAreDetermined }
