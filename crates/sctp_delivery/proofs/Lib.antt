@@ -134,4 +134,9 @@ pub mod ListedTsns
 pub mod ExpiryLaws
 pub mod ReliableWrites
 pub mod CounterLaws
+pub mod StreamBytes
+pub mod AmountChunks
+pub mod AmountCalls
+pub mod AmountLaws
+pub mod ToldChunks
 mod EndExamples

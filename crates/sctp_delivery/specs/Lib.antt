@@ -14,3 +14,4 @@ pub mod Retransmission
 pub mod Modes
 pub mod Expiries
 pub mod Counters
+pub mod Amounts

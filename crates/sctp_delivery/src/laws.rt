@@ -1,5 +1,6 @@
 //! What holds of every session of two hosts: laws, each the contract of a function that does nothing.
 
+pub mod amounts;
 pub mod complete;
 pub mod counters;
 pub mod discards;

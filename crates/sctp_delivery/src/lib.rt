@@ -1,6 +1,7 @@
 //! Two hosts: a sender, a receiver, and a network between them that loses, delays, repeats and reorders.
 #![tactic(auto)]
 
+pub mod amounts;
 pub mod arrived;
 pub mod drained;
 pub mod emptied;
