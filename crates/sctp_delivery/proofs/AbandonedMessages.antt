@@ -45,9 +45,10 @@ use Rattle.sctp_delivery.proofs.SackSteps.{message-inflight, written-open}
 use Rattle.sctp_delivery.proofs.Senders.{IsMoreBy}
 use Rattle.sctp_delivery.proofs.Sending.{Queued}
 use Rattle.sctp_delivery.proofs.Sent.{Entry, Numbered, fragment, terminal}
-use Rattle.sctp_delivery.proofs.ValidMarks.{IsValid, peeked, started-valid}
+use Rattle.sctp_delivery.proofs.ValidMarks.{IsUnmarked, IsValid, started-valid}
 use Rattle.sctp_delivery.proofs.Waiting.{Waits, between, inside, place_of}
 use Rattle.sctp_delivery.proofs.Writing.{accepted-stream}
+use Rattle.sctp_delivery.proofs.QueueChunks.{peeked}
 
 -- ## Numbers
 
@@ -198,7 +199,7 @@ module _ (gone : List ℕ) (old new : Session) (taken passed : ℕ → Bool) (va
       let v = started-valid taken passed now (flight_of old).queue valid in
       marked-to _ f.exact
       (sent-marked gone (next_pending q.pending) q (flight_of old).next_tsn now
-      (λ c e. (peeked q.pending.selected q.pending c e (v.ordered, v.unordered)).1)
+      (λ c e. (peeked IsUnmarked q.pending.selected q.pending c e (v.ordered, v.unordered)).1)
       (subst (λ (i : payload.Payload). AreMarkedGone gone i.chunks) (sym (started-inflight now (flight_of old).queue)) h))
   stays-marked (outgoing.resends u now c) a f =
       marked-to _ f.step.sender

@@ -44,9 +44,9 @@ use Rattle.sctp_delivery.proofs.StreamBytes.{IsBare, IsOff, abandoned, amount, a
 use Rattle.sctp_delivery.proofs.StreamBytes.{amount-less, amount-mapped, amount-opened, amount-released, changed, expired, first-changed, held, lows-told, message-lows-told}
 use Rattle.sctp_delivery.proofs.StreamBytes.{only, others, pushed, sacked, sent, split-all, started, zero-if}
 use Rattle.sctp_delivery.proofs.Every.{Every, every-found, every-of}
-use Rattle.sctp_delivery.proofs.ModeQueues.{peeked}
 use Rattle.sctp_delivery.proofs.Numbers.{number-is}
 use Rattle.sctp_delivery.proofs.Writing.{accepted-stream}
+use Rattle.sctp_delivery.proofs.QueueChunks.{peeked}
 
 -- ## Which stream the bytes leave
 

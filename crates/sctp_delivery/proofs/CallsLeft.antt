@@ -44,8 +44,9 @@ use Rattle.sctp_delivery.proofs.Senders.{IsHeld}
 use Rattle.sctp_delivery.proofs.Numbers.{number_of}
 use Rattle.sctp_delivery.proofs.Sent.{Entry, Numbered}
 use Rattle.sctp_delivery.proofs.TsnPlaces.{before, tsn-small}
-use Rattle.sctp_delivery.proofs.ValidMarks.{peeked, started-valid}
+use Rattle.sctp_delivery.proofs.ValidMarks.{IsUnmarked, started-valid}
 use Rattle.sctp_delivery.proofs.Writing.{in-front}
+use Rattle.sctp_delivery.proofs.QueueChunks.{peeked}
 
 -- ## A SACK
 
@@ -144,7 +145,7 @@ module _ (p n : ℕ) (old new : Session) (few : n < 2 ^ 31) (h : IsNumbered p n 
       let w = started-valid _ _ now queue v in
       goes-then queue q (sent_next queue next now) (started-goes now queue)
       (sent-goes q next now s.sendable (subst (λ (i : payload.Payload). CanPut i.chunks next) (sym (started-inflight now queue)) place)
-      (next_pending q.pending) refl (λ c e. peeked q.pending.selected q.pending c e (w.ordered, w.unordered)))
+      (next_pending q.pending) refl (λ c e. peeked IsUnmarked q.pending.selected q.pending c e (w.ordered, w.unordered)))
 
   pub calls-go : (call : SenderCall) → Every (IsTruthful p n (known old)) old.sacks → SenderFollows call old new → GoesOn (is_exchange (of_sender call))
   calls-go (outgoing.opens stream) t f = stays _ f.step.sender refl

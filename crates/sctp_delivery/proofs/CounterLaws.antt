@@ -31,10 +31,9 @@ use Rattle.sctp_delivery.specs.SenderCalls.{sets_mode, sets_size, starts, takes_
 use Rattle.sctp_delivery.specs.Session.{Call, RunsTo, Session, at_start, of_receiver, of_sender}
 use Rattle.sctp_delivery.proofs.Calls.{forgotten, numbered_after}
 use Rattle.sctp_delivery.proofs.Delivered.{Holds, at-first, receiver-step, sender-step}
-use Rattle.sctp_delivery.proofs.Every.{Every, all-of-every, every-changed, every-joined}
+use Rattle.sctp_delivery.proofs.Every.{Every, all-of-every, every-changed, every-joined, every-mapped}
 use Rattle.sctp_delivery.proofs.Numbers.{AreOpen, found-there, is_there}
 use Rattle.sctp_delivery.proofs.Sent.{Entry, Numbered}
-use Rattle.sctp_delivery.proofs.ValidMarks.{every-mapped}
 use Rattle.sctp_delivery.proofs.Writing.{accepted-stream}
 
 -- ## One stream

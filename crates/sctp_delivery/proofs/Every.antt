@@ -1,5 +1,5 @@
 -- What is so of each element of a list, whatever edits it.
-use Rattle.std.proofs.Common.{◌≡◌, ℕ, zero, suc, ◌<◌, Bool, true, false, List, [], ◌∷◌, ◌++◌, length, take, drop, get_or, Some, refl, subst, arith}
+use Rattle.std.proofs.Common.{◌≡◌, ℕ, zero, suc, ◌<◌, Bool, true, false, List, [], ◌∷◌, ◌++◌, length, map, take, drop, get_or, Some, refl, subst, arith}
 use Rattle.std.specs.Prelude.{if◌then◌else◌, ◌||◌, Contains, All}
 use Rattle.std.specs.List.{filter, find, list_any}
 use Rattle.sctp_util.specs.Lists.{change_where, insert_before}
@@ -12,6 +12,18 @@ Every P (x ∷ xs) = P x × Every P xs
 pub every-of : {A : Type 0} (P Q : A → Type 0) → ((x : A) → P x → Q x) → (xs : List A) → Every P xs → Every Q xs
 every-of P Q h [] e = tt
 every-of P Q h (x ∷ xs) e = (h x e.0, every-of P Q h xs e.1)
+
+pub every-mapped : {A B : Type 0} (P : A → Type 0) (Q : B → Type 0) (f : A → B) → ((x : A) → P x → Q (f x)) → (xs : List A) → Every P xs → Every Q (map f xs)
+every-mapped P Q f h [] e = tt
+every-mapped P Q f h (x ∷ xs) e = (h x e.0, every-mapped P Q f h xs e.1)
+
+pub every-made : {A B : Type 0} (Q : B → Type 0) (f : A → B) → ((x : A) → Q (f x)) → (xs : List A) → Every Q (map f xs)
+every-made Q f h [] = tt
+every-made Q f h (x ∷ xs) = (h x, every-made Q f h xs)
+
+pub every-pair : {A : Type 0} (P Q : A → Type 0) (xs : List A) → Every P xs → Every Q xs → Every (λ x. P x × Q x) xs
+every-pair P Q [] e f = tt
+every-pair P Q (x ∷ xs) e f = ((e.0, f.0), every-pair P Q xs e.1 f.1)
 
 module _ {A : Type 0} (P : A → Type 0) where
   pub every-inserted : (before : A → A → Bool) (x : A) (xs : List A) → P x → Every P xs → Every P (insert_before before x xs)

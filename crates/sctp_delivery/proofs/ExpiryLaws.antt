@@ -35,9 +35,10 @@ use Rattle.sctp_delivery.proofs.FilledQueues.{IsFilled}
 use Rattle.sctp_delivery.proofs.GivenTsns.{IsNumbered}
 use Rattle.sctp_delivery.proofs.ListedTsns.{each-any, each-one, is_one, own-listed, same-left}
 use Rattle.sctp_delivery.proofs.ModeOrder.{said-of-few}
-use Rattle.sctp_delivery.proofs.ModeQueues.{AllWait, AreModed, IsFlying, IsInMode, IsWaiting, peeked}
+use Rattle.sctp_delivery.proofs.ModeQueues.{AreModed, IsFlying, IsInMode, IsWaiting}
 use Rattle.sctp_delivery.proofs.ModeSessions.{said-in}
 use Rattle.sctp_delivery.proofs.TsnPlaces.{base}
+use Rattle.sctp_delivery.proofs.QueueChunks.{AllWait, peeked}
 
 -- ## One chunk
 

@@ -21,11 +21,10 @@ use Rattle.sctp_sender.specs.SenderRuns.{Makes}
 use Rattle.sctp_delivery.specs.SenderCalls.{IsAccepted, MakesExactly, SenderCall, abandons, as_run, expires, expires_late, expires_rexmit}
 use Rattle.sctp_delivery.specs.SenderCalls.{expires_tail, forwards, forwards_within, marks, misses, opens, resends, reserves, sends, sets_low}
 use Rattle.sctp_delivery.specs.SenderCalls.{sets_mode, sets_size, starts, takes_sack, writes}
-use Rattle.sctp_delivery.proofs.Every.{Every, every-at, every-changed, every-joined}
-use Rattle.sctp_delivery.proofs.ModeQueues.{AllWait, fewer, rest}
+use Rattle.sctp_delivery.proofs.Every.{Every, every-at, every-changed, every-joined, every-mapped}
 use Rattle.sctp_delivery.proofs.Numbers.{AreSized, size-found}
-use Rattle.sctp_delivery.proofs.ValidMarks.{every-mapped}
 use Rattle.sctp_delivery.proofs.Writing.{accepted-stream}
+use Rattle.sctp_delivery.proofs.QueueChunks.{AllWait, fewer, rest}
 
 abbrev pub IsFilled : ChunkPayloadData → Type 0
 IsFilled c = 0 < length c.user_data

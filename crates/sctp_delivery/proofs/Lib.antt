@@ -35,6 +35,7 @@ pub mod TakenCalls
 pub mod TakenTogether
 pub mod AnsweredTsns
 pub mod AnsweredCalls
+pub mod QueueChunks
 pub mod ValidMarks
 pub mod SackCalls
 pub mod SackSteps

@@ -25,11 +25,10 @@ use Rattle.sctp_delivery.specs.Modes.{Mode, Modes, Sending, all_starting, at_fir
 use Rattle.sctp_delivery.specs.SenderCalls.{Expires, ExpiresTail, IsAccepted, MakesExactly, SenderCall, abandons, as_run, expires, expires_late}
 use Rattle.sctp_delivery.specs.SenderCalls.{expires_rexmit, expires_tail, forwards, forwards_within, marks, misses, opens}
 use Rattle.sctp_delivery.specs.SenderCalls.{resends, reserves, sends, sets_low, sets_mode, sets_size, starts, takes_sack, writes}
-use Rattle.sctp_delivery.proofs.Every.{Every, every-changed, every-found, every-joined}
+use Rattle.sctp_delivery.proofs.Every.{Every, every-changed, every-found, every-joined, every-mapped}
 use Rattle.sctp_delivery.proofs.ModeQueues.{AreModed, HasModeOf, abandoned-moded, each-moded, expired-moded, fragments-new, marked-moded, message-moded}
 use Rattle.sctp_delivery.proofs.ModeQueues.{missed-moded, resent-moded, sack-moded, sent-moded, started-moded}
 use Rattle.sctp_delivery.proofs.Numbers.{number-is}
-use Rattle.sctp_delivery.proofs.ValidMarks.{every-mapped}
 use Rattle.sctp_delivery.proofs.Writing.{accepted-stream}
 
 -- ## Streams

@@ -1,11 +1,10 @@
 -- How each chunk that waits or is in flight is sent: as its write is, whatever a sender does.
 use Rattle.std.proofs.Common.{◌≡◌, ℕ, zero, suc, ◌+◌, ◌<◌, ◌≤◌, Bool, true, false, List, [], ◌∷◌, length, map, take, drop, Option, Some, None, is_some}
 use Rattle.std.proofs.Common.{refl, ap, sym, subst, ◌∙◌, inl, inr, arith}
-use Rattle.std.specs.Prelude.{if◌then◌else◌, ◌==◌, ◌&&◌, ◌||◌, not, is_none, nat_le, slice_get, slice_index_or}
+use Rattle.std.specs.Prelude.{if◌then◌else◌, ◌==◌, ◌&&◌, ◌||◌, not, is_none, nat_le, slice_index_or}
 use Rattle.std.proofs.lemmas.Bool.{cases_lt}
 use Rattle.std.proofs.lemmas.Bool.Decides.{nat_tests}
 use Rattle.std.proofs.lemmas.List.{length-map}
-use Rattle.std.proofs.lemmas.Option.{none-some}
 use Rattle.sctp_util.specs.Lists.{change_where}
 use Rattle.sctp_util.specs.Serial.{at_or_before}
 use Rattle.sctp_util.proofs.Cases.{same-is, same-yes}
@@ -15,14 +14,13 @@ use Rattle.sctp_data.specs.Reliability.{deadline_at, is_timed}
 use Rattle.sctp_data.specs.declared.chunk.chunk_payload_data.ChunkPayloadData.{ChunkPayloadData}
 use Rattle.sctp_data.specs.declared.chunk.chunk_payload_data.PayloadProtocolIdentifier.{PayloadProtocolIdentifier}
 use Rattle.sctp_data.specs.SelectiveAck.{Sack}
-use Rattle.sctp_outbound.specs.declared.pending_queue.Selected.{Selected}
 use Rattle.sctp_outbound.specs.Marks.{as_abandoned, as_acknowledged, is_of, is_outstanding, with_retransmit}
 use Rattle.sctp_outbound.specs.outbound_queue.OutboundQueue.{Outbound, abandoned_of, all_started, append_chunks, as_sent, expired_of, sent_next, sent_of}
 use Rattle.sctp_outbound.specs.outbound_queue.OutboundQueue.{terminal_chunk, with_message, with_message_id, with_terminal_chunk}
 use Rattle.sctp_outbound.specs.payload_queue.PayloadQueue as payload
-use Rattle.sctp_outbound.specs.pending_queue.PendingQueue.{Pending, closed_up, front_of, has_lifetime, is_to_start, last_removed, lifetime_of, list_of}
-use Rattle.sctp_outbound.specs.pending_queue.PendingQueue.{list_to_pop, next_pending, next_pending_of, one_lower, rest_from, rest_of, start_pending}
-use Rattle.sctp_outbound.specs.pending_queue.PendingQueue.{last_of, with_deadline, without}
+use Rattle.sctp_outbound.specs.pending_queue.PendingQueue.{Pending, closed_up, has_lifetime, is_to_start, last_removed, lifetime_of}
+use Rattle.sctp_outbound.specs.pending_queue.PendingQueue.{list_to_pop, next_pending, one_lower, start_pending}
+use Rattle.sctp_outbound.specs.pending_queue.PendingQueue.{with_deadline, without}
 use Rattle.sctp_serial.specs.DataChunks.{chunk_before, has_tsn, is_on}
 use Rattle.sctp_stream.specs.declared.stream.StreamState.{StreamState}
 use Rattle.sctp_sender.specs.Flight.{Flight, after_sack, is_outdated, message_to_abandon, reports_anew, take_sack}
@@ -31,8 +29,8 @@ use Rattle.sctp_sender.specs.Outgoing.{fragments_with_mode, with_reliability}
 use Rattle.sctp_sender.specs.Resending.{after_misses, all_marked, can_miss, count_again, missed, resent_at, sent_again}
 use Rattle.sctp_stream.specs.Stream.{fragment_at, fragments_of}
 use Rattle.sctp_delivery.specs.Modes.{Mode, Sending, deadline_of, mode_of_write, moment, numbered_in, reliable_mode, starting}
-use Rattle.sctp_delivery.proofs.Every.{Every, every-changed, every-inserted, every-joined, every-left, every-of, every-passing, every-taken}
-use Rattle.sctp_delivery.proofs.ValidMarks.{every-mapped}
+use Rattle.sctp_delivery.proofs.Every.{Every, every-changed, every-inserted, every-joined, every-left, every-mapped, every-of, every-passing, every-taken}
+use Rattle.sctp_delivery.proofs.QueueChunks.{AllWait, fewer, peeked, removed, rest}
 
 -- ## Writes by their numbers
 
@@ -150,52 +148,6 @@ waiting-more w ws c h = (mode-more w ws c h.0, deadline-more w ws c h.0.0 h.1)
 
 pub flying-more : (w : Sending) (ws : List Sending) (n : ℕ) (c : ChunkPayloadData) → IsFlying ws n c → IsFlying (w ∷ ws) n c
 flying-more w ws n c h = (mode-more w ws c h.0, λ e. let o = h.1 e in (o.0, deadline-more w ws c h.0.0 o.1))
-
--- ## What waits
-
-module _ (P : ChunkPayloadData → Type 0) where
-  abbrev pub AllWait : Pending → Type 0
-  AllWait q = Every P q.ordered × Every P q.unordered
-
-  front : (xs : List ChunkPayloadData) (c : ChunkPayloadData) → slice_get xs 0 ≡ Some c → Every P xs → P c
-  front [] c e h = absurd (none-some c e)
-  front (x ∷ xs) c e h = let same : x ≡ c = cc in subst P same h.0
-
-  pub peeked : (sel : Option Selected) (q : Pending) (c : ChunkPayloadData) → next_pending_of sel q ≡ Some c → AllWait q → P c
-  peeked (Some s) q c e w = by s.unordered e
-    where
-      by : (b : Bool) → slice_get (list_of b q) 0 ≡ Some c → P c
-      by true h = front q.unordered c h w.1
-      by false h = front q.ordered c h w.0
-  peeked None q c e w = by q.unordered e w.1
-    where
-      by : (us : List ChunkPayloadData) → front_of us q.ordered ≡ Some c → Every P us → P c
-      by [] h s = front q.ordered c h w.0
-      by (u ∷ us) h s = let same : u ≡ c = cc in subst P same s.0
-
-  rest-of : (b : Bool) (q : Pending) (cs : List ChunkPayloadData) → Every P cs → AllWait q → AllWait (rest_of b q cs)
-  rest-of true q [] s w = w
-  rest-of false q [] s w = w
-  rest-of true q (c ∷ cs) s w = (w.0, s.1)
-  rest-of false q (c ∷ cs) s w = (s.1, w.1)
-
-  pub rest : (k : Option Bool) (q : Pending) → AllWait q → AllWait (rest_from k q)
-  rest None q w = w
-  rest (Some true) q w = rest-of true q q.unordered w.1 w
-  rest (Some false) q w = rest-of false q q.ordered w.0 w
-
-  pub fewer : (m : ℕ) (q : Pending) → AllWait q → AllWait (without m q)
-  fewer m q w = (every-passing P (λ c. not (is_of m c)) q.ordered w.0, every-passing P (λ c. not (is_of m c)) q.unordered w.1)
-
-  last : (xs : List ChunkPayloadData) (c : ChunkPayloadData) → last_of xs ≡ Some c → Every P xs → P c
-  last [] c e h = absurd (none-some c e)
-  last (x ∷ []) c e h = let same : x ≡ c = cc in subst P same h.0
-  last (x ∷ y ∷ ys) c e h = last (y ∷ ys) c e h.1
-
-  -- the last one that is removed
-  pub removed : (m : ℕ) (q : Pending) (c : ChunkPayloadData) → last_removed m q ≡ Some c → AllWait q → P c
-  removed m q c e w =
-      last _ c e (every-joined P _ _ (every-passing P (is_of m) q.ordered w.0) (every-passing P (is_of m) q.unordered w.1))
 
 -- ## The queues
 

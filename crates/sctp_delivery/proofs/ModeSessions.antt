@@ -21,11 +21,12 @@ use Rattle.sctp_delivery.proofs.Calls.{at-forgotten, forget, length-forgotten, n
 use Rattle.sctp_delivery.proofs.Delivered.{Holds, at-first, found-sent, receiver-step, sender-step}
 use Rattle.sctp_delivery.proofs.FilledQueues.{IsFilled, filled-step}
 use Rattle.sctp_delivery.proofs.ModeCalls.{IsModed, moded-first, moded-step}
-use Rattle.sctp_delivery.proofs.ModeQueues.{AllWait, AreModed, IsWaiting, numbered-at, numbered-more, numbered-started, peeked, started-moded}
+use Rattle.sctp_delivery.proofs.ModeQueues.{AreModed, IsWaiting, numbered-at, numbered-more, numbered-started, started-moded}
 use Rattle.sctp_delivery.proofs.Numbers.{AreSized}
 use Rattle.sctp_delivery.proofs.OrderedPlaces.{AreNumbered, place-at}
 use Rattle.sctp_delivery.proofs.Senders.{IsMoreBy}
 use Rattle.sctp_delivery.proofs.Sent.{Entry, IsPart, Numbered, fragment, part-line, terminal}
+use Rattle.sctp_delivery.proofs.QueueChunks.{AllWait, peeked}
 
 -- ## Entries
 

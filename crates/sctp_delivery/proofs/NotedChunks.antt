@@ -37,10 +37,6 @@ module _ {A : Type 0} (P Q : A → Type 0) where
       by true h = change x h e.0
       by false h = stay x h e.0
 
-  pub every-pair : (xs : List A) → Every P xs → Every Q xs → Every (λ x. P x × Q x) xs
-  every-pair [] e f = tt
-  every-pair (x ∷ xs) e f = ((e.0, f.0), every-pair xs e.1 f.1)
-
 -- ## A TSN is sent for the first time
 
 module _ (es : List Event) (t now : ℕ) where

@@ -23,7 +23,7 @@ use Rattle.sctp_delivery.specs.Sacks.{NoneIsTakenTwice}
 use Rattle.sctp_delivery.specs.Sacks.{PassAbandoned, ReleasedCame, ReportWhatCame, is_reported, passes, reports_tsn, tsns_given, was_passed, was_taken}
 use Rattle.sctp_delivery.specs.SenderCalls.{SenderCall}
 use Rattle.sctp_delivery.specs.Session.{Call, ReceiverFollows, RunsTo, SenderFollows, Session, at_start, of_receiver, of_sender}
-use Rattle.sctp_delivery.proofs.Every.{Every, all-of-every, every-of, one-of}
+use Rattle.sctp_delivery.proofs.Every.{Every, all-of-every, every-mapped, every-of, one-of}
 use Rattle.sctp_delivery.proofs.GivenTsns.{IsNumbered, taken-numbered}
 use Rattle.sctp_delivery.proofs.ArrivedCalls.{hears, more-arrived, tells}
 use Rattle.sctp_delivery.proofs.ArrivedTsns.{IsArrived}
@@ -32,7 +32,7 @@ use Rattle.sctp_delivery.proofs.ReportedTsns.{IsTruthful, later-truthful, not-re
 use Rattle.sctp_delivery.proofs.SackMarks.{IsValidBut, came_in, stays-valid-with}
 use Rattle.sctp_delivery.proofs.SackSteps.{IsMadeGiven, known, known_or, made-given, moves, none_dropped}
 use Rattle.sctp_delivery.proofs.Sessions.{more-made, or-more}
-use Rattle.sctp_delivery.proofs.ValidMarks.{IsRight, IsValid, came-of, every-mapped, more-taken}
+use Rattle.sctp_delivery.proofs.ValidMarks.{IsRight, IsValid, came-of, more-taken}
 use Rattle.sctp_delivery.proofs.TakenCalls.{AreTaken, more-come, takes-once}
 use Rattle.sctp_delivery.proofs.AnsweredCalls.{IsInOrder, each-sack-tells, keeps-order, next-sack-tells}
 use Rattle.sctp_delivery.proofs.TsnPlaces.{IsGiven, at-or-before, base, before, first-is, next-place, past-first, same-place}

@@ -27,8 +27,8 @@ use Rattle.sctp_delivery.specs.Complete.{is_reliable_at_sender}
 use Rattle.sctp_delivery.specs.SenderCalls as outgoing
 use Rattle.sctp_delivery.specs.SenderCalls.{IsAccepted, Made, MakesExactly, SenderCall, as_run, data_chunk, forward_tsn, made_after, with_chunk}
 use Rattle.sctp_delivery.proofs.Every.{Every, every-changed, every-found, every-inserted, every-joined, every-left, every-passing, every-taken}
-use Rattle.sctp_delivery.proofs.ValidMarks.{every-mapped}
 use Rattle.sctp_delivery.proofs.Writing.{accepted-stream}
+use Rattle.sctp_delivery.proofs.Every.{every-mapped}
 
 -- the number is one of 16 bits
 abbrev pub IsShort : ChunkPayloadData → Type 0

@@ -5,7 +5,7 @@ use Rattle.std.specs.Prelude.{⊤, All, Contains, if◌then◌else◌, ◌==◌,
 use Rattle.std.specs.List.{filter, list_any}
 use Rattle.sctp_util.specs.Lists.{change_where}
 use Rattle.sctp_util.specs.Serial.{at_or_before, distance}
-use Rattle.sctp_util.proofs.Cases.{or-left, or-right, or-true, same-is, same-yes}
+use Rattle.sctp_util.proofs.Cases.{and-none, and-true, or-left, or-right, or-true, same-is, same-yes}
 use Rattle.sctp_util.proofs.More.{not_both, same_test}
 use Rattle.sctp_data.specs.declared.chunk.chunk_payload_data.ChunkPayloadData.{ChunkPayloadData}
 use Rattle.sctp_data.specs.PayloadData.{Data, data_of}
@@ -127,40 +127,15 @@ same-number : (m n : ℕ) → nat_eq m n ≡ (n == m)
 same-number m n = same_test (nat_eq m n) (n == m)
     (λ e. subst (λ k. (k == m) ≡ true) (same-is m n e) (same-yes m)) (λ e. subst (λ k. nat_eq k n ≡ true) (same-is n m e) (same-yes n))
 
--- with abandoned, acknowledged, reported cumulatively, reported in a block, and of the message
-open-is : (a k c b m : Bool) → ((a || not (k || (c || b))) && m) ≡ ((m && a) || (not (not k && (c || b)) && (not c && (m && not k))))
-open-is true true true true true = refl
-open-is true true true false true = refl
-open-is true true false true true = refl
-open-is true true false false true = refl
-open-is true false true true true = refl
-open-is true false true false true = refl
-open-is true false false true true = refl
+-- of the message, abandoned, acknowledged, reported cumulatively, and reported in a block
+open-is : (m a k c b : Bool) → (m && (a || not (k || (c || b)))) ≡ ((m && a) || (m && (not (not k && (c || b)) && (not c && not k))))
+open-is false a k c b = refl
+open-is true true k c b = refl
+open-is true false true true b = refl
+open-is true false true false b = refl
+open-is true false false true b = refl
 open-is true false false false true = refl
-open-is false true true true true = refl
-open-is false true true false true = refl
-open-is false true false true true = refl
-open-is false true false false true = refl
-open-is false false true true true = refl
-open-is false false true false true = refl
-open-is false false false true true = refl
-open-is false false false false true = refl
-open-is true true true true false = refl
-open-is true true true false false = refl
-open-is true true false true false = refl
-open-is true true false false false = refl
-open-is true false true true false = refl
-open-is true false true false false = refl
-open-is true false false true false = refl
 open-is true false false false false = refl
-open-is false true true true false = refl
-open-is false true true false false = refl
-open-is false true false true false = refl
-open-is false true false false false = refl
-open-is false false true true false = refl
-open-is false false true false false = refl
-open-is false false false true false = refl
-open-is false false false false false = refl
 
 apart : (p q x y : Bool) → ((p || q) || (x || y)) ≡ ((p || x) || (q || y))
 apart true q x y = refl
@@ -180,29 +155,27 @@ module _ (k : Sack) (m : ℕ) where
 
   open-head : (o : Bool) (c : ChunkPayloadData) (ds : List ChunkPayloadData)
       → list_any (nat_eq m) (map (λ (x : ChunkPayloadData). x.message_id) (if o then c ∷ ds else ds))
-      ≡ ((o && nat_eq m c.message_id) || list_any (nat_eq m) (map (λ (x : ChunkPayloadData). x.message_id) ds))
-  open-head true c ds = refl
-  open-head false c ds = refl
+      ≡ ((nat_eq m c.message_id && o) || list_any (nat_eq m) (map (λ (x : ChunkPayloadData). x.message_id) ds))
+  open-head true c ds = ap (λ x. x || list_any (nat_eq m) (map (λ (d : ChunkPayloadData). d.message_id) ds)) (sym (and-true (nat_eq m c.message_id)))
+  open-head false c ds = ap (λ x. x || list_any (nat_eq m) (map (λ (d : ChunkPayloadData). d.message_id) ds)) (sym (and-none (nat_eq m c.message_id)))
 
   left-head : (r : Bool) (c : ChunkPayloadData) (ds : List ChunkPayloadData)
       → list_any Unacked (past k.cumulative_tsn_ack ((if r then as_acknowledged c else c) ∷ ds))
-      ≡ ((not r && (not (at_or_before c.tsn k.cumulative_tsn_ack) && Unacked c)) || list_any Unacked (past k.cumulative_tsn_ack ds))
-  left-head true c ds = by (at_or_before c.tsn k.cumulative_tsn_ack)
+      ≡ ((is_of m c && (not r && (not (at_or_before c.tsn k.cumulative_tsn_ack) && not c.acked))) || list_any Unacked (past k.cumulative_tsn_ack ds))
+  left-head r c ds = by r (at_or_before c.tsn k.cumulative_tsn_ack) refl
     where
-      none : (i : Bool) → ((i && false) || list_any Unacked (past k.cumulative_tsn_ack ds)) ≡ list_any Unacked (past k.cumulative_tsn_ack ds)
-      none true = refl
-      none false = refl
+      others : List ChunkPayloadData
+      others = past k.cumulative_tsn_ack ds
 
-      by : (b : Bool) → list_any Unacked (if not b then as_acknowledged c ∷ past k.cumulative_tsn_ack ds else past k.cumulative_tsn_ack ds)
-          ≡ list_any Unacked (past k.cumulative_tsn_ack ds)
-      by true = refl
-      by false = none (is_of m c)
-  left-head false c ds = by (at_or_before c.tsn k.cumulative_tsn_ack)
-    where
-      by : (b : Bool) → list_any Unacked (if not b then c ∷ past k.cumulative_tsn_ack ds else past k.cumulative_tsn_ack ds)
-          ≡ ((not b && Unacked c) || list_any Unacked (past k.cumulative_tsn_ack ds))
-      by true = refl
-      by false = refl
+      none : list_any Unacked others ≡ ((is_of m c && false) || list_any Unacked others)
+      none = ap (λ x. x || list_any Unacked others) (sym (and-none (is_of m c)))
+
+      by : (r b : Bool) → at_or_before c.tsn k.cumulative_tsn_ack ≡ b → list_any Unacked (past k.cumulative_tsn_ack ((if r then as_acknowledged c else c) ∷ ds))
+          ≡ ((is_of m c && (not r && (not b && not c.acked))) || list_any Unacked others)
+      by true true e = ap (λ x. list_any Unacked (if not x then as_acknowledged c ∷ others else others)) e ∙ none
+      by true false e = ap (λ x. list_any Unacked (if not x then as_acknowledged c ∷ others else others)) e
+      by false true e = ap (λ x. list_any Unacked (if not x then c ∷ others else others)) e ∙ none
+      by false false e = ap (λ x. list_any Unacked (if not x then c ∷ others else others)) e
 
   -- a chunk is left open where one was abandoned, or one is not acknowledged after the SACK
   open-are : (cs : List ChunkPayloadData) → list_any (nat_eq m) (open_messages k cs) ≡ (list_any Gone cs || list_any Unacked (after cs))
@@ -212,9 +185,9 @@ module _ (k : Sack) (m : ℕ) where
       let cum = at_or_before c.tsn k.cumulative_tsn_ack in
       let block = is_in_blocks k.gap_ack_blocks (distance k.cumulative_tsn_ack c.tsn) in
       open-head (leaves_open k c) c rest
-      ∙ ap₂ (λ x y. (leaves_open k c && x) || y) (same-number m c.message_id) (open-are cs)
-      ∙ ap (λ x. x || (list_any Gone cs || list_any Unacked (after cs))) (open-is c.abandoned c.acked cum block (is_of m c))
-      ∙ apart (Gone c) (not (reports_anew k c) && (not cum && Unacked c)) (list_any Gone cs) (list_any Unacked (after cs))
+      ∙ ap₂ (λ x y. (x && leaves_open k c) || y) (same-number m c.message_id) (open-are cs)
+      ∙ ap (λ x. x || (list_any Gone cs || list_any Unacked (after cs))) (open-is (is_of m c) c.abandoned c.acked cum block)
+      ∙ apart (Gone c) (is_of m c && (not (reports_anew k c) && (not cum && not c.acked))) (list_any Gone cs) (list_any Unacked (after cs))
       ∙ ap (λ x. (Gone c || list_any Gone cs) || x) (sym (left-head (reports_anew k c) c (change_where (reports_anew k) as_acknowledged cs)))
 
 -- of a message of which a chunk is in flight some waits exactly where it is partially sent
