@@ -1,12 +1,11 @@
 -- How each chunk that waits or is in flight is sent: as its write is, whatever a sender does.
-use Rattle.std.proofs.Common.{◌≡◌, ℕ, zero, suc, ◌+◌, ◌<◌, ◌≤◌, Bool, true, false, List, [], ◌∷◌, length, map, take, drop, Option, Some, None, is_some}
+use Rattle.std.proofs.Common.{◌≡◌, ℕ, zero, suc, ◌+◌, ◌<◌, ◌≤◌, Bool, true, false, List, [], ◌∷◌, length, map, Option, Some, None, is_some}
 use Rattle.std.proofs.Common.{refl, ap, sym, subst, ◌∙◌, inl, inr, arith}
 use Rattle.std.specs.Prelude.{if◌then◌else◌, ◌==◌, ◌&&◌, ◌||◌, not, is_none, nat_le, slice_index_or}
 use Rattle.std.proofs.lemmas.Bool.{cases_lt}
 use Rattle.std.proofs.lemmas.Bool.Decides.{nat_tests}
 use Rattle.std.proofs.lemmas.List.{length-map}
 use Rattle.sctp_util.specs.Lists.{change_where}
-use Rattle.sctp_util.specs.Serial.{at_or_before}
 use Rattle.sctp_util.proofs.Cases.{same-is, same-yes}
 use Rattle.sctp_util.proofs.More.{both, fails, not_both}
 use Rattle.sctp_data.specs.PayloadTypes.{is_dcep, is_ordered}
@@ -14,23 +13,22 @@ use Rattle.sctp_data.specs.Reliability.{deadline_at, is_timed}
 use Rattle.sctp_data.specs.declared.chunk.chunk_payload_data.ChunkPayloadData.{ChunkPayloadData}
 use Rattle.sctp_data.specs.declared.chunk.chunk_payload_data.PayloadProtocolIdentifier.{PayloadProtocolIdentifier}
 use Rattle.sctp_data.specs.SelectiveAck.{Sack}
-use Rattle.sctp_outbound.specs.Marks.{as_abandoned, as_acknowledged, is_of, is_outstanding, with_retransmit}
+use Rattle.sctp_outbound.specs.Marks.{as_abandoned, as_acknowledged, is_outstanding, with_retransmit}
 use Rattle.sctp_outbound.specs.outbound_queue.OutboundQueue.{Outbound, abandoned_of, all_started, append_chunks, as_sent, expired_of, sent_next, sent_of}
-use Rattle.sctp_outbound.specs.outbound_queue.OutboundQueue.{terminal_chunk, with_message, with_message_id, with_terminal_chunk}
-use Rattle.sctp_outbound.specs.payload_queue.PayloadQueue as payload
-use Rattle.sctp_outbound.specs.pending_queue.PendingQueue.{Pending, closed_up, has_lifetime, is_to_start, last_removed, lifetime_of}
-use Rattle.sctp_outbound.specs.pending_queue.PendingQueue.{list_to_pop, next_pending, one_lower, start_pending}
-use Rattle.sctp_outbound.specs.pending_queue.PendingQueue.{with_deadline, without}
-use Rattle.sctp_serial.specs.DataChunks.{chunk_before, has_tsn, is_on}
+use Rattle.sctp_outbound.specs.outbound_queue.OutboundQueue.{terminal_chunk, with_inflight, with_message, with_message_id}
+use Rattle.sctp_outbound.specs.pending_queue.PendingQueue.{has_lifetime, is_to_start, lifetime_of}
+use Rattle.sctp_outbound.specs.pending_queue.PendingQueue.{next_pending, one_lower, start_pending}
+use Rattle.sctp_outbound.specs.pending_queue.PendingQueue.{with_deadline}
+use Rattle.sctp_serial.specs.DataChunks.{has_tsn}
 use Rattle.sctp_stream.specs.declared.stream.StreamState.{StreamState}
-use Rattle.sctp_sender.specs.Flight.{Flight, after_sack, is_outdated, message_to_abandon, reports_anew, take_sack}
+use Rattle.sctp_sender.specs.Flight.{Flight, after_sack, is_outdated, message_to_abandon, take_sack}
 use Rattle.sctp_sender.specs.Late.{abandoned_at, abandoned_each}
 use Rattle.sctp_sender.specs.Outgoing.{fragments_with_mode, with_reliability}
-use Rattle.sctp_sender.specs.Resending.{after_misses, all_marked, can_miss, count_again, missed, resent_at, sent_again}
+use Rattle.sctp_sender.specs.Resending.{after_misses, all_marked, count_again, missed, resent_at, sent_again}
 use Rattle.sctp_stream.specs.Stream.{fragment_at, fragments_of}
 use Rattle.sctp_delivery.specs.Modes.{Mode, Sending, deadline_of, mode_of_write, moment, numbered_in, reliable_mode, starting}
-use Rattle.sctp_delivery.proofs.Every.{Every, every-changed, every-inserted, every-joined, every-left, every-mapped, every-of, every-passing, every-taken}
-use Rattle.sctp_delivery.proofs.QueueChunks.{AllWait, fewer, peeked, removed, rest}
+use Rattle.sctp_delivery.proofs.Every.{Every, every-joined, every-mapped, every-of}
+use Rattle.sctp_delivery.proofs.QueueChunks.{EachIs, abandoned, expired, marked, missed-some, sacked, sent}
 
 -- ## Writes by their numbers
 
@@ -162,15 +160,16 @@ pub record AreModed (ws : List Sending) (q : Outbound) : Type 0 where
   pub unbegun : (n : ℕ) → q.next_unstarted ≤ n → n < length ws → (numbered_in n ws).started ≡ None
 
 module _ (ws : List Sending) where
-  pub moded-changed : (q r : Outbound) (p : ChunkPayloadData → Bool) (f : ChunkPayloadData → ChunkPayloadData) → KeepsSending f → r.pending ≡ q.pending
-      → r.next_message_id ≡ q.next_message_id → r.next_unstarted ≡ q.next_unstarted
-      → r.inflight.chunks ≡ change_where p f q.inflight.chunks → AreModed ws q → AreModed ws r
-  moded-changed q r p f k waits ids n is s = record {
-    ordered = subst (λ (w : Pending). Every (IsWaiting ws) w.ordered) (sym waits) s.ordered;
-    unordered = subst (λ (w : Pending). Every (IsWaiting ws) w.unordered) (sym waits) s.unordered;
-    inflight = subst (λ i. Every (IsFlying ws i) r.inflight.chunks) (sym n)
-        (subst (Every (IsFlying ws q.next_unstarted)) (sym is)
-        (every-changed (IsFlying ws q.next_unstarted) p f (λ c _ h. flying-kept f k ws q.next_unstarted c h) q.inflight.chunks s.inflight));
+  each-of : (q : Outbound) → AreModed ws q → EachIs (IsWaiting ws) (IsFlying ws q.next_unstarted) q
+  each-of q s = record { ordered = s.ordered; unordered = s.unordered; inflight = s.inflight }
+
+  -- the same numbers, and each chunk so
+  with-each : (q r : Outbound) → r.next_message_id ≡ q.next_message_id → r.next_unstarted ≡ q.next_unstarted
+      → EachIs (IsWaiting ws) (IsFlying ws q.next_unstarted) r → AreModed ws q → AreModed ws r
+  with-each q r ids n h s = record {
+    ordered = h.ordered;
+    unordered = h.unordered;
+    inflight = subst (λ i. Every (IsFlying ws i) r.inflight.chunks) (sym n) h.inflight;
     count = ids ∙ s.count;
     upto = subst (λ i. i ≤ length ws) (sym n) s.upto;
     begun = λ i lt. s.begun i (subst (λ j. i < j) n lt);
@@ -179,43 +178,23 @@ module _ (ws : List Sending) where
 
   -- ## Abandonment
 
+  marks : KeepsSending as_abandoned
+  marks = record {
+    message = λ c. refl;
+    kind = λ c. refl;
+    of_type = λ c. refl;
+    reliability = λ c. refl;
+    deadline = λ c. refl;
+    open' = λ c e. absurd (not_both (sym e));
+  }
+
   pub abandoned-moded : (o : Option ℕ) (tsn : ℕ) (q : Outbound) → AreModed ws q → AreModed ws (abandoned_of o tsn q)
   abandoned-moded None tsn q s = s
   abandoned-moded (Some m) tsn q s =
-      let w = fewer (IsWaiting ws) m q.pending (s.ordered, s.unordered) in
-      record {
-        ordered = w.0;
-        unordered = w.1;
-        inflight = by (last_removed m q.pending) refl;
-        count = s.count;
-        upto = s.upto;
-        begun = s.begun;
-        unbegun = s.unbegun;
-      }
-    where
-      marks : KeepsSending as_abandoned
-      marks = record {
-        message = λ c. refl;
-        kind = λ c. refl;
-        of_type = λ c. refl;
-        reliability = λ c. refl;
-        deadline = λ c. refl;
-        open' = λ c e. absurd (not_both (sym e));
-      }
-
-      left : Every (IsFlying ws q.next_unstarted) (change_where (is_of m) as_abandoned q.inflight.chunks)
-      left =
-          every-changed (IsFlying ws q.next_unstarted) (is_of m) as_abandoned (λ c _ h. flying-kept as_abandoned marks ws q.next_unstarted c h)
-          q.inflight.chunks s.inflight
-
-      by : (o : Option ChunkPayloadData) → last_removed m q.pending ≡ o
-          → Every (IsFlying ws q.next_unstarted) (with_terminal_chunk o tsn
-          (payload.with_chunks q.inflight (change_where (is_of m) as_abandoned q.inflight.chunks))).chunks
-      by None e = left
-      by (Some c) e =
-          let h = removed (IsWaiting ws) m q.pending c e (s.ordered, s.unordered) in
-          every-inserted (IsFlying ws q.next_unstarted) chunk_before (terminal_chunk tsn c) (change_where (is_of m) as_abandoned q.inflight.chunks)
-          (has-mode-kept ws c (terminal_chunk tsn c) refl refl refl refl h.0, λ a. absurd (not_both (sym a))) left
+      let n = q.next_unstarted in
+      with-each q (abandoned_of (Some m) tsn q) refl refl
+      (abandoned (IsWaiting ws) (IsFlying ws n) (flying-kept as_abandoned marks ws n)
+      (λ t c h. (has-mode-kept ws c (terminal_chunk t c) refl refl refl refl h.0, λ a. absurd (not_both (sym a)))) (Some m) tsn q (each-of q s)) s
 
   pub each-moded : (ts : List ℕ) (f : Flight) → AreModed ws f.queue → AreModed ws (abandoned_each ts f).queue
   each-moded [] f s = s
@@ -226,90 +205,52 @@ module _ (ws : List Sending) where
 
   pub expired-moded : (o : Option ChunkPayloadData) (q : Outbound) → AreModed ws q → AreModed ws (expired_of o q)
   expired-moded None q s = s
-  expired-moded (Some c) q s = by c.unordered
-    where
-      left : AllWait (IsWaiting ws) (without c.message_id q.pending)
-      left = fewer (IsWaiting ws) c.message_id q.pending (s.ordered, s.unordered)
-
-      by : (b : Bool) → AreModed ws (record q {
-        pending = if b then without c.message_id q.pending else closed_up c.stream_identifier
-            (without c.message_id q.pending);
-      })
-      by true = record {
-        ordered = left.0;
-        unordered = left.1;
-        inflight = s.inflight;
-        count = s.count;
-        upto = s.upto;
-        begun = s.begun;
-        unbegun = s.unbegun;
-      }
-      by false = record {
-        ordered = every-changed (IsWaiting ws) (is_on c.stream_identifier) one_lower (λ d _ h. waiting-kept one_lower lowers ws d h)
-            (without c.message_id q.pending).ordered left.0;
-        unordered = left.1;
-        inflight = s.inflight;
-        count = s.count;
-        upto = s.upto;
-        begun = s.begun;
-        unbegun = s.unbegun;
-      }
+  expired-moded (Some c) q s =
+      with-each q (expired_of (Some c) q) refl refl
+      (expired (IsWaiting ws) (IsFlying ws q.next_unstarted) (waiting-kept one_lower lowers ws) (Some c) q (each-of q s)) s
 
   -- ## Marks
 
+  marked-so : (f : Flight) (p : ChunkPayloadData → Bool) (g : ChunkPayloadData → ChunkPayloadData) → KeepsSending g → AreModed ws f.queue
+      → AreModed ws (with_inflight f.queue (change_where p g f.queue.inflight.chunks))
+  marked-so f p g k s =
+      let q = f.queue in
+      with-each q (with_inflight q (change_where p g q.inflight.chunks)) refl refl
+      (marked (IsWaiting ws) (IsFlying ws q.next_unstarted) p g (flying-kept g k ws q.next_unstarted) q (each-of q s)) s
+
   pub resent-moded : (tsn now : ℕ) (c : ChunkPayloadData) (f : Flight) → AreModed ws f.queue → AreModed ws (resent_at tsn now c f).queue
-  resent-moded tsn now c f s = moded-changed f.queue (resent_at tsn now c f).queue (has_tsn tsn) (sent_again (count_again c) now)
-      (record { message = λ d. refl; kind = λ d. refl; of_type = λ d. refl; reliability = λ d. refl; deadline = λ d. refl; open' = λ d e. e })
-      refl refl refl refl s
+  resent-moded tsn now c f s = marked-so f (has_tsn tsn) (sent_again (count_again c) now)
+      (record { message = λ d. refl; kind = λ d. refl; of_type = λ d. refl; reliability = λ d. refl; deadline = λ d. refl; open' = λ d e. e }) s
 
   pub marked-moded : (f : Flight) → AreModed ws f.queue → AreModed ws (all_marked f).queue
-  marked-moded f s = moded-changed f.queue (all_marked f).queue is_outstanding (with_retransmit true)
-      (record { message = λ d. refl; kind = λ d. refl; of_type = λ d. refl; reliability = λ d. refl; deadline = λ d. refl; open' = λ d e. e })
-      refl refl refl refl s
+  marked-moded f s = marked-so f is_outstanding (with_retransmit true)
+      (record { message = λ d. refl; kind = λ d. refl; of_type = λ d. refl; reliability = λ d. refl; deadline = λ d. refl; open' = λ d e. e }) s
 
   misses-keep : KeepsSending missed
   misses-keep = record { message = λ c. refl; kind = λ c. refl; of_type = λ c. refl; reliability = λ c. refl; deadline = λ c. refl; open' = λ c e. e }
 
   pub missed-moded : (count : ℕ) (f : Flight) → AreModed ws f.queue → AreModed ws (after_misses count f).queue
   missed-moded count f s =
-      let cs = f.queue.inflight.chunks in
-      let P = IsFlying ws f.queue.next_unstarted in
-      record {
-        ordered = s.ordered;
-        unordered = s.unordered;
-        inflight =
-            every-joined P (change_where can_miss missed (take count cs)) (drop count cs)
-            (every-changed P can_miss missed (λ d _ h. flying-kept missed misses-keep ws f.queue.next_unstarted d h) (take count cs)
-            (every-taken P count cs s.inflight)) (every-left P count cs s.inflight);
-        count = s.count;
-        upto = s.upto;
-        begun = s.begun;
-        unbegun = s.unbegun;
-      }
+      let n = f.queue.next_unstarted in
+      with-each f.queue (after_misses count f).queue refl refl
+      (missed-some (IsWaiting ws) (IsFlying ws n) (flying-kept missed misses-keep ws n) count f (each-of f.queue s)) s
 
   acks : KeepsSending as_acknowledged
   acks = record { message = λ c. refl; kind = λ c. refl; of_type = λ c. refl; reliability = λ c. refl; deadline = λ c. refl; open' = λ c e. e }
 
   pub sack-moded : (k : Sack) (f : Flight) → AreModed ws f.queue → AreModed ws (after_sack k f).queue
-  sack-moded k f s = by (is_outdated k f)
+  sack-moded k f s =
+      let n = f.queue.next_unstarted in
+      with-each f.queue (after_sack k f).queue (ids (is_outdated k f)) (first (is_outdated k f))
+      (sacked (IsWaiting ws) (IsFlying ws n) k (λ c _ h. flying-kept as_acknowledged acks ws n c h) f (each-of f.queue s)) s
     where
-      P : ChunkPayloadData → Type 0
-      P = IsFlying ws f.queue.next_unstarted
+      ids : (b : Bool) → (if b then f else take_sack k f).queue.next_message_id ≡ f.queue.next_message_id
+      ids true = refl
+      ids false = refl
 
-      by : (b : Bool) → AreModed ws (if b then f else take_sack k f).queue
-      by true = s
-      by false = record {
-        ordered = s.ordered;
-        unordered = s.unordered;
-        inflight = every-passing P (λ c. not (at_or_before c.tsn k.cumulative_tsn_ack))
-            (change_where (reports_anew k) as_acknowledged f.queue.inflight.chunks)
-            (every-changed P (reports_anew k) as_acknowledged (λ c _ h. flying-kept as_acknowledged acks ws f.queue.next_unstarted c h)
-            f.queue.inflight.chunks s.inflight);
-        count = s.count;
-        upto = s.upto;
-        begun = s.begun;
-        unbegun = s.unbegun;
-      }
+      first : (b : Bool) → (if b then f else take_sack k f).queue.next_unstarted ≡ f.queue.next_unstarted
+      first true = refl
+      first false = refl
 
   -- ## Sending
 
@@ -317,19 +258,10 @@ module _ (ws : List Sending) where
       → AreModed ws (sent_of o q tsn now)
   sent-of-moded None q tsn now e all s = s
   sent-of-moded (Some c) q tsn now e all s =
-      let P = IsWaiting ws in
-      let left = rest P (list_to_pop q.pending.selected c.beginning_fragment c.unordered) q.pending (s.ordered, s.unordered) in
-      let h = peeked P q.pending.selected q.pending c e (s.ordered, s.unordered) in
-      record {
-        ordered = left.0;
-        unordered = left.1;
-        inflight = every-inserted (IsFlying ws q.next_unstarted) chunk_before (as_sent tsn now c) q.inflight.chunks
-            (has-mode-kept ws c (as_sent tsn now c) refl refl refl refl h.0, λ _. (subst (λ n. c.message_id < n) (sym all) h.0.0, h.1)) s.inflight;
-        count = s.count;
-        upto = s.upto;
-        begun = s.begun;
-        unbegun = s.unbegun;
-      }
+      with-each q (sent_of (Some c) q tsn now) refl refl
+      (sent (IsWaiting ws) (IsFlying ws q.next_unstarted) tsn now
+      (λ d h. (has-mode-kept ws d (as_sent tsn now d) refl refl refl refl h.0, λ _. (subst (λ n. d.message_id < n) (sym all) h.0.0, h.1)))
+      (Some c) q e (each-of q s)) s
 
 -- ## Lifetimes
 
