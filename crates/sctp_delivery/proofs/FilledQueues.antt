@@ -1,30 +1,29 @@
 -- Each chunk that waits has some bytes, whatever a sender does.
 use Rattle.std.proofs.Common.{◌≡◌, ℕ, zero, suc, ◌+◌, ◌<◌, ◌≤◌, Bool, true, false, List, [], ◌∷◌, length, map, drop, Option, Some, None, is_some, refl}
 use Rattle.std.proofs.Common.{sym, subst, arith}
-use Rattle.std.specs.Prelude.{IfSome, if◌then◌else◌, ◌==◌}
+use Rattle.std.specs.Prelude.{IfSome, if◌then◌else◌}
 use Rattle.sctp_util.specs.Kept.{always, numbers_where}
 use Rattle.sctp_util.specs.Lists.{pieces}
 use Rattle.sctp_util.proofs.More.{not_both}
 use Rattle.sctp_data.specs.declared.chunk.chunk_payload_data.ChunkPayloadData.{ChunkPayloadData}
 use Rattle.sctp_data.specs.declared.chunk.chunk_payload_data.PayloadProtocolIdentifier.{PayloadProtocolIdentifier}
-use Rattle.sctp_outbound.specs.outbound_queue.OutboundQueue.{Outbound, abandoned_of, all_started, append_chunks, expired_of, expiring, expiring_tail}
-use Rattle.sctp_outbound.specs.outbound_queue.OutboundQueue.{message_of, sent_of, with_message, with_message_id}
-use Rattle.sctp_outbound.specs.pending_queue.PendingQueue.{closed_up, is_to_start, list_to_pop, next_pending, one_lower, start_pending, with_deadline, without}
-use Rattle.sctp_serial.specs.DataChunks.{is_on}
+use Rattle.sctp_outbound.specs.outbound_queue.OutboundQueue.{Outbound, abandoned_of, all_started, expired_of, expiring, expiring_tail}
+use Rattle.sctp_outbound.specs.outbound_queue.OutboundQueue.{message_of, sent_of, with_message}
+use Rattle.sctp_outbound.specs.pending_queue.PendingQueue.{next_pending}
 use Rattle.sctp_stream.specs.declared.stream.StreamState.{StreamState}
 use Rattle.sctp_stream.specs.Stream.{fragment_at, fragments_of, pieces_of}
 use Rattle.sctp_sender.specs.Flight.{Flight, is_outdated, message_to_abandon, take_sack}
-use Rattle.sctp_sender.specs.Late.{abandoned_at, abandoned_each, late_order, worn_order}
+use Rattle.sctp_sender.specs.Late.{abandoned_each, late_order, worn_order}
 use Rattle.sctp_sender.specs.Outgoing.{fragments_with_mode, with_reliability}
 use Rattle.sctp_sender.specs.Sender.{Transmission, after_expire}
 use Rattle.sctp_sender.specs.SenderRuns.{Makes}
 use Rattle.sctp_delivery.specs.SenderCalls.{IsAccepted, MakesExactly, SenderCall, abandons, as_run, expires, expires_late, expires_rexmit}
 use Rattle.sctp_delivery.specs.SenderCalls.{expires_tail, forwards, forwards_within, marks, misses, opens, resends, reserves, sends, sets_low}
 use Rattle.sctp_delivery.specs.SenderCalls.{sets_mode, sets_size, starts, takes_sack, writes}
-use Rattle.sctp_delivery.proofs.Every.{Every, every-at, every-changed, every-joined, every-mapped}
+use Rattle.sctp_delivery.proofs.Every.{Every, every-at, every-mapped}
 use Rattle.sctp_delivery.proofs.Numbers.{AreSized, size-found}
 use Rattle.sctp_delivery.proofs.Writing.{accepted-stream}
-use Rattle.sctp_delivery.proofs.QueueChunks.{AllWait, fewer, rest}
+use Rattle.sctp_delivery.proofs.QueueChunks.{AllWait, EachIs, abandoned, each-abandoned, expired, pushed, sent, started}
 
 abbrev pub IsFilled : ChunkPayloadData → Type 0
 IsFilled c = 0 < length c.user_data
@@ -58,51 +57,37 @@ module _ (l : StreamState) (ppi : PayloadProtocolIdentifier) (bytes : List ℕ) 
 
 -- ## The calls
 
-message-filled : (cs : List ChunkPayloadData) (q : Outbound) → Every IsFilled cs → AreFilled q → AreFilled (with_message cs q)
-message-filled [] q h s = s
-message-filled (c ∷ cs) q h s = by c.unordered
-  where
-    new : Every IsFilled (map (with_message_id q.next_message_id) (c ∷ cs))
-    new = every-mapped IsFilled IsFilled (with_message_id q.next_message_id) (λ d e. e) (c ∷ cs) h
+abbrev Any : ChunkPayloadData → Type 0
+Any c = Unit {0}
 
-    by : (b : Bool) → AllWait IsFilled (append_chunks b (map (with_message_id q.next_message_id) (c ∷ cs)) q.pending)
-    by true = (s.0, every-joined IsFilled q.pending.unordered (map (with_message_id q.next_message_id) (c ∷ cs)) s.1 new)
-    by false = (every-joined IsFilled q.pending.ordered (map (with_message_id q.next_message_id) (c ∷ cs)) s.0 new, s.1)
+-- of what is in flight nothing is said
+each-of : (q : Outbound) → AreFilled q → EachIs IsFilled Any q
+each-of q s = record { ordered = s.0; unordered = s.1; inflight = any q.inflight.chunks }
+  where
+    any : (xs : List ChunkPayloadData) → Every Any xs
+    any [] = tt
+    any (x ∷ xs) = (tt, any xs)
+
+waits-of : (q : Outbound) → EachIs IsFilled Any q → AreFilled q
+waits-of q h = (h.ordered, h.unordered)
+
+message-filled : (cs : List ChunkPayloadData) (q : Outbound) → Every IsFilled cs → AreFilled q → AreFilled (with_message cs q)
+message-filled cs q h s = waits-of (with_message cs q) (pushed IsFilled Any IsFilled Any (λ c i. i) (λ c i. i) cs q h (each-of q s))
 
 started-filled : (now : ℕ) (q : Outbound) → AreFilled q → AreFilled (all_started now q)
-started-filled now q s = by (q.next_unstarted == q.next_message_id)
-  where
-    by : (b : Bool) → AreFilled (if b then q else record q { pending = start_pending q.next_unstarted now q.pending; next_unstarted = q.next_message_id })
-    by true = s
-    by false = (
-      every-changed IsFilled (is_to_start q.next_unstarted) (with_deadline now) (λ c h e. e) q.pending.ordered s.0,
-      every-changed IsFilled (is_to_start q.next_unstarted) (with_deadline now) (λ c h e. e) q.pending.unordered s.1,
-    )
+started-filled now q s = waits-of (all_started now q) (started IsFilled Any now (λ c i. i) q (each-of q s))
 
-sent-filled : (o : Option ChunkPayloadData) (q : Outbound) (tsn now : ℕ) → AreFilled q → AreFilled (sent_of o q tsn now)
-sent-filled None q tsn now s = s
-sent-filled (Some c) q tsn now s = rest IsFilled (list_to_pop q.pending.selected c.beginning_fragment c.unordered) q.pending s
+sent-filled : (o : Option ChunkPayloadData) (q : Outbound) (tsn now : ℕ) → next_pending q.pending ≡ o → AreFilled q → AreFilled (sent_of o q tsn now)
+sent-filled o q tsn now e s = waits-of (sent_of o q tsn now) (sent IsFilled Any tsn now (λ c i. tt) o q e (each-of q s))
 
 abandoned-filled : (o : Option ℕ) (tsn : ℕ) (q : Outbound) → AreFilled q → AreFilled (abandoned_of o tsn q)
-abandoned-filled None tsn q s = s
-abandoned-filled (Some m) tsn q s = fewer IsFilled m q.pending s
+abandoned-filled o tsn q s = waits-of (abandoned_of o tsn q) (abandoned IsFilled Any (λ c i. tt) (λ t c i. tt) o tsn q (each-of q s))
 
 each-filled : (ts : List ℕ) (f : Flight) → AreFilled f.queue → AreFilled (abandoned_each ts f).queue
-each-filled [] f s = s
-each-filled (t ∷ ts) f s = each-filled ts (abandoned_at t f) (abandoned-filled (message_to_abandon t f) f.next_tsn f.queue s)
+each-filled ts f s = waits-of (abandoned_each ts f).queue (each-abandoned IsFilled Any (λ c i. tt) (λ t c i. tt) ts f (each-of f.queue s))
 
 expired-filled : (c : ChunkPayloadData) (q : Outbound) → AreFilled q → AreFilled (expired_of (Some c) q)
-expired-filled c q s = by c.unordered
-  where
-    left : AllWait IsFilled (without c.message_id q.pending)
-    left = fewer IsFilled c.message_id q.pending s
-
-    by : (b : Bool) → AllWait IsFilled (if b then without c.message_id q.pending else closed_up c.stream_identifier (without c.message_id q.pending))
-    by true = left
-    by false = (
-      every-changed IsFilled (is_on c.stream_identifier) one_lower (λ d h e. e) (without c.message_id q.pending).ordered left.0,
-      left.1,
-    )
+expired-filled c q s = waits-of (expired_of (Some c) q) (expired IsFilled Any (λ d i. i) (Some c) q (each-of q s))
 
 module _ (t : Transmission) (sized : AreSized t.streams) (h : AreFilled t.flight.queue) where
   to : (u v : Transmission) → u ≡ v → AreFilled v.flight.queue → AreFilled u.flight.queue
@@ -120,7 +105,7 @@ module _ (t : Transmission) (sized : AreSized t.streams) (h : AreFilled t.flight
   filled-call (starts now) u e x a = to u _ e (started-filled now t.flight.queue h)
   filled-call (sends now) u e x a =
       let q = all_started now t.flight.queue in
-      to u _ x (sent-filled (next_pending q.pending) q t.flight.next_tsn now (started-filled now t.flight.queue h))
+      to u _ x (sent-filled (next_pending q.pending) q t.flight.next_tsn now refl (started-filled now t.flight.queue h))
   filled-call (resends tsn now c) u e x a = to u _ e h
   filled-call (abandons tsn y) u e x a = to u _ x (abandoned-filled (message_to_abandon tsn t.flight) t.flight.next_tsn t.flight.queue h)
   filled-call (expires now None) u e x a = to u _ (x.1.1 refl) h
