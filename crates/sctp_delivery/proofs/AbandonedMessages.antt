@@ -176,11 +176,6 @@ module _ (gone : List ℕ) (old new : Session) (taken passed : ℕ → Bool) (va
 
   pub stays-marked : (call : SenderCall) → AreAmong (abandoned_by call old.sending.sender) gone → SenderFollows call old new
       → AreMarkedGone gone (flight_of new).queue.inflight.chunks
-  stays-marked (outgoing.opens stream) a f = marked-to _ f.step.sender h
-  stays-marked (outgoing.sets_mode stream unordered reliability value) a f = marked-to _ f.step.sender h
-  stays-marked (outgoing.sets_size size) a f = marked-to _ f.step.sender h
-  stays-marked (outgoing.sets_low stream bytes) a f = marked-to _ f.step.sender h
-  stays-marked (outgoing.reserves count) a f = marked-to _ f.step.sender h
   stays-marked (outgoing.forwards u c) a f = marked-to _ f.exact h
   stays-marked (outgoing.forwards_within bytes c) a f = marked-to _ f.exact h
   stays-marked (outgoing.writes stream ppi []) a f = marked-to _ (f.exact.0 refl) h
@@ -230,6 +225,7 @@ module _ (gone : List ℕ) (old new : Session) (taken passed : ℕ → Bool) (va
   stays-marked (outgoing.expires_late now answered) a f = marked-to _ f.exact (each-marked gone (late_order now (flight_of old)) (flight_of old) a h)
   stays-marked (outgoing.expires_rexmit answered) a f = marked-to _ f.exact (each-marked gone (worn_order (flight_of old)) (flight_of old) a h)
   stays-marked (outgoing.takes_sack k answered) a f = marked-to _ f.exact (acked-marked gone k (flight_of old) h)
+  stays-marked call a f = marked-to _ f.step.sender h
 
 -- ## Terminal chunks
 
@@ -354,15 +350,6 @@ module _ (gone : List ℕ) (first : ℕ) (old new : Session) (ns : List Numbered
           cuts g (inl (ap (λ (u : Transmission). u.flight.next_tsn) f.exact
           ∙ ap (λ b. if b then following_tsn (flight_of old).next_tsn else (flight_of old).next_tsn) none))
       by (Some c) e g = subst (AreCutGone gone) (sym g.2) h
-  stays-cut (outgoing.opens stream) a f g = cuts g (same-to _ f.step.sender refl)
-  stays-cut (outgoing.sets_mode stream unordered reliability value) a f g = cuts g (same-to _ f.step.sender refl)
-  stays-cut (outgoing.sets_size size) a f g = cuts g (same-to _ f.step.sender refl)
-  stays-cut (outgoing.sets_low stream bytes) a f g = cuts g (same-to _ f.step.sender refl)
-  stays-cut (outgoing.reserves count) a f g = cuts g (same-to _ f.step.sender refl)
-  stays-cut (outgoing.starts now) a f g = cuts g (same-to _ f.step.sender refl)
-  stays-cut (outgoing.resends u now c) a f g = cuts g (same-to _ f.step.sender refl)
-  stays-cut outgoing.marks a f g = cuts g (same-to _ f.step.sender refl)
-  stays-cut (outgoing.misses count) a f g = cuts g (same-to _ f.step.sender refl)
   stays-cut (outgoing.forwards u c) a f g = cuts g (same-to _ f.exact refl)
   stays-cut (outgoing.forwards_within bytes c) a f g = cuts g (same-to _ f.exact refl)
   stays-cut (outgoing.writes stream ppi []) a f g = cuts g (same-to _ (f.exact.0 refl) refl)
@@ -400,3 +387,4 @@ module _ (gone : List ℕ) (first : ℕ) (old new : Session) (ns : List Numbered
       by : (b : Bool) → (if b then flight_of old else take_sack k (flight_of old)).next_tsn ≡ (flight_of old).next_tsn
       by true = refl
       by false = refl
+  stays-cut call a f g = cuts g (same-to _ f.step.sender refl)

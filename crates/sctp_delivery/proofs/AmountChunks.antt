@@ -19,8 +19,8 @@ use Rattle.sctp_sender.specs.Resending.{count_again, missed, sent_again}
 use Rattle.sctp_sender.specs.Sender.{Transmission, after_expire}
 use Rattle.sctp_sender.specs.SenderRuns.{Makes}
 use Rattle.sctp_delivery.specs.SenderCalls.{IsAccepted, MakesExactly, SenderCall, Write, abandons, as_run, expires, expires_late, expires_rexmit}
-use Rattle.sctp_delivery.specs.SenderCalls.{expires_tail, forwards, forwards_within, marks, misses, opens, resends, reserves, sends, sets_low}
-use Rattle.sctp_delivery.specs.SenderCalls.{sets_mode, sets_size, starts, takes_sack, writes, written_after}
+use Rattle.sctp_delivery.specs.SenderCalls.{expires_tail, forwards, forwards_within, marks, misses, resends, reserves, sends}
+use Rattle.sctp_delivery.specs.SenderCalls.{starts, takes_sack, writes, written_after}
 use Rattle.sctp_delivery.proofs.Every.{Every, every-of}
 use Rattle.sctp_delivery.proofs.Numbers.{number-is}
 use Rattle.sctp_delivery.proofs.QueueChunks.{EachIs, abandoned, each-abandoned, each-fragment, expired, marked, missed-some, pushed, sacked, sent, started}
@@ -107,8 +107,6 @@ module _ (ws : List Write) (t : Transmission) (ids : t.flight.queue.next_message
 
   pub all-call : (call : SenderCall) (u : Transmission) → Makes (as_run call) t u → MakesExactly call t u → IsAccepted call t
       → AllOf (written_after call ws) u.flight.queue
-  all-call (opens stream) u e x a = to ws u _ e h
-  all-call (sets_mode stream unordered reliability value) u e x a = to ws u _ e h
   all-call (writes stream ppi []) u e x a = to ws u _ (x.0 refl) h
   all-call (writes stream ppi (b ∷ bs)) u e x a =
       let l = accepted-stream stream (length (b ∷ bs)) t a in
@@ -141,8 +139,7 @@ module _ (ws : List Write) (t : Transmission) (ids : t.flight.queue.next_message
   all-call marks u e x a =
       to ws u _ e (marked P P is_outstanding (with_retransmit true) (λ d i. of-alike ws d (with_retransmit true d) refl refl i.bare i) t.flight.queue h)
   all-call (misses count) u e x a = to ws u _ e (missed-some P P (λ d i. of-alike ws d (missed d) refl refl i.bare i) count t.flight h)
-  all-call (sets_size size) u e x a = to ws u _ e h
-  all-call (sets_low stream bytes) u e x a = to ws u _ e h
   all-call (reserves count) u e x a = to ws u _ e (record { ordered = h.ordered; unordered = h.unordered; inflight = h.inflight })
   all-call (takes_sack sack gone) u e x a =
       to ws u _ x (sacked P P sack (λ c _ i. of-alike ws c (as_acknowledged c) refl refl (λ _. refl) i) t.flight h)
+  all-call call u e x a = to ws u _ e h

@@ -169,14 +169,6 @@ module _ (gone : List ℕ) (first : ℕ) (old new : Session) (ns : List Numbered
 
   pub stays-begun-or-gone : (call : SenderCall) → AreAmong (abandoned_by call old.sending.sender) gone → SenderFollows call old new
       → IsMoreBy (sent_by call old.sending.sender) sent more → Begins call
-  stays-begun-or-gone (outgoing.opens stream) a f g = same-to _ f.step.sender refl
-  stays-begun-or-gone (outgoing.sets_mode stream unordered reliability value) a f g = same-to _ f.step.sender refl
-  stays-begun-or-gone (outgoing.sets_size size) a f g = same-to _ f.step.sender refl
-  stays-begun-or-gone (outgoing.sets_low stream bytes) a f g = same-to _ f.step.sender refl
-  stays-begun-or-gone (outgoing.reserves count) a f g = same-to _ f.step.sender refl
-  stays-begun-or-gone (outgoing.resends u now c) a f g = same-to _ f.step.sender refl
-  stays-begun-or-gone outgoing.marks a f g = same-to _ f.step.sender refl
-  stays-begun-or-gone (outgoing.misses count) a f g = same-to _ f.step.sender refl
   stays-begun-or-gone (outgoing.forwards u c) a f g = same-to _ f.exact refl
   stays-begun-or-gone (outgoing.forwards_within bytes c) a f g = same-to _ f.exact refl
   stays-begun-or-gone (outgoing.starts now) a f g = keeps-to _ f.step.sender (λ m _ b. starts-keep now (flight_of old).queue m b)
@@ -228,3 +220,4 @@ module _ (gone : List ℕ) (first : ℕ) (old new : Session) (ns : List Numbered
       by : (b : Bool) → (if b then flight_of old else take_sack k (flight_of old)).queue.pending ≡ (flight_of old).queue.pending
       by true = refl
       by false = refl
+  stays-begun-or-gone call a f g = same-to _ f.step.sender refl

@@ -191,24 +191,7 @@ forgotten (n ∷ ns) = forget n ∷ forgotten ns
 pub forgotten-after : (call : SenderCall) (ns : List Numbered) → forgotten (numbered_after call ns) ≡ written_after call (forgotten ns)
 forgotten-after (writes stream ppi []) ns = refl
 forgotten-after (writes stream ppi (b ∷ bs)) ns = refl
-forgotten-after (opens stream) ns = refl
-forgotten-after (sets_mode stream unordered reliability value) ns = refl
-forgotten-after (starts now) ns = refl
-forgotten-after (sends now) ns = refl
-forgotten-after (resends tsn now c) ns = refl
-forgotten-after (abandons tsn a) ns = refl
-forgotten-after (expires now m) ns = refl
-forgotten-after (expires_tail now m) ns = refl
-forgotten-after (expires_late now gone) ns = refl
-forgotten-after (expires_rexmit gone) ns = refl
-forgotten-after (forwards tsn f) ns = refl
-forgotten-after (forwards_within bytes f) ns = refl
-forgotten-after marks ns = refl
-forgotten-after (misses count) ns = refl
-forgotten-after (sets_size size) ns = refl
-forgotten-after (sets_low stream bytes) ns = refl
-forgotten-after (reserves more) ns = refl
-forgotten-after (takes_sack sack gone) ns = refl
+forgotten-after call ns = refl
 
 pub length-forgotten : (ns : List Numbered) → length (forgotten ns) ≡ length ns
 length-forgotten [] = refl

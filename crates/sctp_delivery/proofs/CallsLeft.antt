@@ -148,10 +148,6 @@ module _ (p n : ℕ) (old new : Session) (few : n < 2 ^ 31) (h : IsNumbered p n 
       (next_pending q.pending) refl (λ c e. peeked IsUnmarked q.pending.selected q.pending c e (w.ordered, w.unordered)))
 
   pub calls-go : (call : SenderCall) → Every (IsTruthful p n (known old)) old.sacks → SenderFollows call old new → GoesOn (is_exchange (of_sender call))
-  calls-go (outgoing.opens stream) t f = stays _ f.step.sender refl
-  calls-go (outgoing.sets_mode stream unordered reliability value) t f = stays _ f.step.sender refl
-  calls-go (outgoing.sets_size size) t f = stays _ f.step.sender refl
-  calls-go (outgoing.sets_low stream bytes) t f = stays _ f.step.sender refl
   calls-go (outgoing.forwards u c) t f = stays _ f.exact refl
   calls-go (outgoing.forwards_within bytes c) t f = stays _ f.exact refl
   calls-go (outgoing.writes stream ppi []) t f = goes-to false _ (f.exact.0 refl) (goes-none false queue)
@@ -198,3 +194,4 @@ module _ (p n : ℕ) (old new : Session) (few : n < 2 ^ 31) (h : IsNumbered p n 
       (gone-each ws first (λ s. number_of s old.sending.sender.streams) (worn_order (flight_of old)) (flight_of old) sent held.stands (inr place))
   calls-go (outgoing.takes_sack k gone) t f =
       goes-to true _ f.exact (sack-goes p n (known old) k (flight_of old) few h (every-contained (IsTruthful p n (known old)) old.sacks k f.handed t))
+  calls-go call t f = stays _ f.step.sender refl

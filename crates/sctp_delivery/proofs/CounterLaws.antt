@@ -26,8 +26,8 @@ use Rattle.sctp_stream.specs.Stream.{new_stream}
 use Rattle.sctp_delivery.specs.Counters.{AreSums, bytes_on, messages_on}
 use Rattle.sctp_delivery.specs.Messages.{AfterEachFitSession}
 use Rattle.sctp_delivery.specs.SenderCalls.{Expires, IsAccepted, MakesExactly, SenderCall, Write, abandons, as_run, expires, expires_late, expires_rexmit}
-use Rattle.sctp_delivery.specs.SenderCalls.{expires_tail, forwards, forwards_within, marks, misses, opens, resends, reserves, sends, sets_low}
-use Rattle.sctp_delivery.specs.SenderCalls.{sets_mode, sets_size, starts, takes_sack, writes, written_after}
+use Rattle.sctp_delivery.specs.SenderCalls.{expires_tail, forwards, forwards_within, opens, sends, sets_low}
+use Rattle.sctp_delivery.specs.SenderCalls.{sets_mode, sets_size, takes_sack, writes, written_after}
 use Rattle.sctp_delivery.specs.Session.{Call, RunsTo, Session, at_start, of_receiver, of_sender}
 use Rattle.sctp_delivery.proofs.Calls.{forgotten, numbered_after}
 use Rattle.sctp_delivery.proofs.Delivered.{Holds, at-first, receiver-step, sender-step}
@@ -196,9 +196,7 @@ module _ (t : Transmission) (ns : List Numbered) (o : AreOpen t.streams ns) (h :
       let l = accepted-stream stream (length (b ∷ bs)) t a in
       to (written_after (writes stream ppi (b ∷ bs)) (forgotten ns)) u _ (x.1 (omega arith) l.0 l.1)
       (written-counts stream ppi (b ∷ bs) (forgotten ns) t.streams h)
-  counts-call (starts now) u e x a = to (forgotten ns) u _ e h
   counts-call (sends now) u e x a = to (forgotten ns) u _ x h
-  counts-call (resends tsn now c) u e x a = to (forgotten ns) u _ e h
   counts-call (abandons tsn y) u e x a = to (forgotten ns) u _ x (less-call y.stream y.bytes)
   counts-call (expires now y) u e x a = expires-call now y u x
   counts-call (expires_tail now None) u e x a = to (forgotten ns) u _ (x.1 refl) h
@@ -209,17 +207,15 @@ module _ (t : Transmission) (ns : List Numbered) (o : AreOpen t.streams ns) (h :
       to (forgotten ns) u _ x (left-counts (forgotten ns) (leaving_each (worn_order t.flight) t.flight) t.streams h)
   counts-call (forwards tsn f) u e x a = to (forgotten ns) u _ x h
   counts-call (forwards_within bytes f) u e x a = to (forgotten ns) u _ x h
-  counts-call marks u e x a = to (forgotten ns) u _ e h
-  counts-call (misses count) u e x a = to (forgotten ns) u _ e h
   counts-call (sets_size size) u e x a = to (forgotten ns) u _ e
       (every-mapped (Counts (forgotten ns)) (Counts (forgotten ns)) (with_size size)
       (λ l i. counts-kept (forgotten ns) (with_size size) (record { number = λ k. refl; stats = λ k. refl }) l i) t.streams h)
   counts-call (sets_low stream bytes) u e x a =
       to (forgotten ns) u _ e
       (changed-counts (forgotten ns) (has_number stream) (with_low bytes) (record { number = λ l. refl; stats = λ l. refl }) t.streams h)
-  counts-call (reserves count) u e x a = to (forgotten ns) u _ e h
   counts-call (takes_sack sack gone) u e x a =
       to (forgotten ns) u _ x (released-counts (forgotten ns) (flight.released_by sack t.flight) t.streams h)
+  counts-call call u e x a = to (forgotten ns) u _ e h
 
 -- ## Every session
 

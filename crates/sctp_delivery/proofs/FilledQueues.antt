@@ -18,8 +18,8 @@ use Rattle.sctp_sender.specs.Outgoing.{fragments_with_mode, with_reliability}
 use Rattle.sctp_sender.specs.Sender.{Transmission, after_expire}
 use Rattle.sctp_sender.specs.SenderRuns.{Makes}
 use Rattle.sctp_delivery.specs.SenderCalls.{IsAccepted, MakesExactly, SenderCall, abandons, as_run, expires, expires_late, expires_rexmit}
-use Rattle.sctp_delivery.specs.SenderCalls.{expires_tail, forwards, forwards_within, marks, misses, opens, resends, reserves, sends, sets_low}
-use Rattle.sctp_delivery.specs.SenderCalls.{sets_mode, sets_size, starts, takes_sack, writes}
+use Rattle.sctp_delivery.specs.SenderCalls.{expires_tail, forwards, forwards_within, sends}
+use Rattle.sctp_delivery.specs.SenderCalls.{starts, takes_sack, writes}
 use Rattle.sctp_delivery.proofs.Every.{Every, every-at, every-mapped}
 use Rattle.sctp_delivery.proofs.Numbers.{AreSized, size-found}
 use Rattle.sctp_delivery.proofs.Writing.{accepted-stream}
@@ -94,8 +94,6 @@ module _ (t : Transmission) (sized : AreSized t.streams) (h : AreFilled t.flight
   to u v e i = subst (λ (x : Transmission). AreFilled x.flight.queue) (sym e) i
 
   filled-call : (call : SenderCall) (u : Transmission) → Makes (as_run call) t u → MakesExactly call t u → IsAccepted call t → AreFilled u.flight.queue
-  filled-call (opens stream) u e x a = to u _ e h
-  filled-call (sets_mode stream unordered reliability value) u e x a = to u _ e h
   filled-call (writes stream ppi []) u e x a = to u _ (x.0 refl) h
   filled-call (writes stream ppi (b ∷ bs)) u e x a =
       let l = accepted-stream stream (length (b ∷ bs)) t a in
@@ -106,7 +104,6 @@ module _ (t : Transmission) (sized : AreSized t.streams) (h : AreFilled t.flight
   filled-call (sends now) u e x a =
       let q = all_started now t.flight.queue in
       to u _ x (sent-filled (next_pending q.pending) q t.flight.next_tsn now refl (started-filled now t.flight.queue h))
-  filled-call (resends tsn now c) u e x a = to u _ e h
   filled-call (abandons tsn y) u e x a = to u _ x (abandoned-filled (message_to_abandon tsn t.flight) t.flight.next_tsn t.flight.queue h)
   filled-call (expires now None) u e x a = to u _ (x.1.1 refl) h
   filled-call (expires now (Some y)) u e x a = by (expiring now t.flight.queue) x.0 x.1.0
@@ -121,16 +118,12 @@ module _ (t : Transmission) (sized : AreSized t.streams) (h : AreFilled t.flight
   filled-call (expires_rexmit gone) u e x a = to u _ x (each-filled (worn_order t.flight) t.flight h)
   filled-call (forwards tsn f) u e x a = to u _ x h
   filled-call (forwards_within bytes f) u e x a = to u _ x h
-  filled-call marks u e x a = to u _ e h
-  filled-call (misses count) u e x a = to u _ e h
-  filled-call (sets_size size) u e x a = to u _ e h
-  filled-call (sets_low stream bytes) u e x a = to u _ e h
-  filled-call (reserves count) u e x a = to u _ e h
   filled-call (takes_sack sack gone) u e x a = to u _ x (by (is_outdated sack t.flight))
     where
       by : (b : Bool) → AreFilled (if b then t.flight else take_sack sack t.flight).queue
       by true = h
       by false = h
+  filled-call call u e x a = to u _ e h
 
 pub filled-step : (call : SenderCall) (t u : Transmission) → Makes (as_run call) t u → MakesExactly call t u → IsAccepted call t → AreSized t.streams
     → AllWait IsFilled t.flight.queue.pending → AllWait IsFilled u.flight.queue.pending

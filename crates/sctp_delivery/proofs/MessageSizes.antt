@@ -31,15 +31,7 @@ abbrev MaxSame : Session → Session → Type 0
 MaxSame old new = new.sending.sender.max_message_size ≡ old.sending.sender.max_message_size
 
 max-after : (call : SenderCall) (old new : Session) → SenderFollows call old new → MaxSame old new
-max-after (outgoing.opens stream) old new f = ap (λ (u : Transmission). u.max_message_size) f.step.sender
-max-after (outgoing.sets_mode stream unordered reliability value) old new f = ap (λ (u : Transmission). u.max_message_size) f.step.sender
-max-after (outgoing.sets_size size) old new f = ap (λ (u : Transmission). u.max_message_size) f.step.sender
-max-after (outgoing.sets_low stream bytes) old new f = ap (λ (u : Transmission). u.max_message_size) f.step.sender
-max-after (outgoing.starts now) old new f = ap (λ (u : Transmission). u.max_message_size) f.step.sender
-max-after (outgoing.reserves more) old new f = ap (λ (u : Transmission). u.max_message_size) f.step.sender
 max-after (outgoing.resends u now c) old new f = ap (λ (u : Transmission). u.max_message_size) f.step.sender
-max-after outgoing.marks old new f = ap (λ (u : Transmission). u.max_message_size) f.step.sender
-max-after (outgoing.misses count) old new f = ap (λ (u : Transmission). u.max_message_size) f.step.sender
 max-after (outgoing.sends now) old new f = ap (λ (u : Transmission). u.max_message_size) f.exact
 max-after (outgoing.forwards u c) old new f = ap (λ (u : Transmission). u.max_message_size) f.exact
 max-after (outgoing.forwards_within bytes c) old new f = ap (λ (u : Transmission). u.max_message_size) f.exact
@@ -61,6 +53,7 @@ max-after (outgoing.expires_tail now (Some a)) old new f = ap (λ (u : Transmiss
 max-after (outgoing.expires_late now gone) old new f = ap (λ (u : Transmission). u.max_message_size) f.exact
 max-after (outgoing.expires_rexmit gone) old new f = ap (λ (u : Transmission). u.max_message_size) f.exact
 max-after (outgoing.takes_sack k gone) old new f = ap (λ (u : Transmission). u.max_message_size) f.exact
+max-after call old new f = ap (λ (u : Transmission). u.max_message_size) f.step.sender
 
 -- no write is longer
 abbrev pub AreWithin : ℕ → List Write → Type 0

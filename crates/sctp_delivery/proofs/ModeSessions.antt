@@ -73,50 +73,20 @@ keeps-started now ws n lt = (
 )
 
 pub keeps-after : (call : SenderCall) (m : Modes) → KeepsModes m.of_writes (modes_after call m).of_writes
-keeps-after (outgoing.opens stream) m = keeps-same m.of_writes
-keeps-after (outgoing.sets_mode stream unordered reliability value) m = keeps-same m.of_writes
 keeps-after (outgoing.writes stream ppi []) m = keeps-same m.of_writes
 keeps-after (outgoing.writes stream ppi (b ∷ bs)) m = keeps-more _ m.of_writes
 keeps-after (outgoing.starts now) m = keeps-started now m.of_writes
 keeps-after (outgoing.sends now) m = keeps-started now m.of_writes
-keeps-after (outgoing.resends tsn now c) m = keeps-same m.of_writes
-keeps-after (outgoing.abandons tsn a) m = keeps-same m.of_writes
-keeps-after (outgoing.expires now x) m = keeps-same m.of_writes
-keeps-after (outgoing.expires_tail now x) m = keeps-same m.of_writes
-keeps-after (outgoing.expires_late now gone) m = keeps-same m.of_writes
-keeps-after (outgoing.expires_rexmit gone) m = keeps-same m.of_writes
-keeps-after (outgoing.forwards tsn f) m = keeps-same m.of_writes
-keeps-after (outgoing.forwards_within bytes f) m = keeps-same m.of_writes
-keeps-after outgoing.marks m = keeps-same m.of_writes
-keeps-after (outgoing.misses count) m = keeps-same m.of_writes
-keeps-after (outgoing.sets_size size) m = keeps-same m.of_writes
-keeps-after (outgoing.sets_low stream bytes) m = keeps-same m.of_writes
-keeps-after (outgoing.reserves more) m = keeps-same m.of_writes
-keeps-after (outgoing.takes_sack sack gone) m = keeps-same m.of_writes
+keeps-after call m = keeps-same m.of_writes
 
 -- as many writes as the session has
 pub counts-after : (call : SenderCall) (m : Modes) (ns : List Numbered) → length m.of_writes ≡ length ns
     → length (modes_after call m).of_writes ≡ length (numbered_after call ns)
-counts-after (outgoing.opens stream) m ns e = e
-counts-after (outgoing.sets_mode stream unordered reliability value) m ns e = e
 counts-after (outgoing.writes stream ppi []) m ns e = e
 counts-after (outgoing.writes stream ppi (b ∷ bs)) m ns e = ap suc e
 counts-after (outgoing.starts now) m ns e = length-map m.of_writes (starting now) ∙ e
 counts-after (outgoing.sends now) m ns e = length-map m.of_writes (starting now) ∙ e
-counts-after (outgoing.resends tsn now c) m ns e = e
-counts-after (outgoing.abandons tsn a) m ns e = e
-counts-after (outgoing.expires now x) m ns e = e
-counts-after (outgoing.expires_tail now x) m ns e = e
-counts-after (outgoing.expires_late now gone) m ns e = e
-counts-after (outgoing.expires_rexmit gone) m ns e = e
-counts-after (outgoing.forwards tsn f) m ns e = e
-counts-after (outgoing.forwards_within bytes f) m ns e = e
-counts-after outgoing.marks m ns e = e
-counts-after (outgoing.misses count) m ns e = e
-counts-after (outgoing.sets_size size) m ns e = e
-counts-after (outgoing.sets_low stream bytes) m ns e = e
-counts-after (outgoing.reserves more) m ns e = e
-counts-after (outgoing.takes_sack sack gone) m ns e = e
+counts-after call m ns e = e
 
 -- ## One call
 

@@ -52,10 +52,6 @@ module _ (p n : ℕ) (es : List Event) (old new : Session) (few : n < 2 ^ 31) (h
   to fs t e a = subst (λ (u : Transmission). AreSo fs u.flight.queue) (sym e) a
 
   step : (call : SenderCall) → SenderFollows call old new → AreSo (events_after (of_sender call) old es) (flight_of new).queue
-  step (outgoing.opens stream) f = to es _ f.step.sender s
-  step (outgoing.sets_mode stream unordered reliability value) f = to es _ f.step.sender s
-  step (outgoing.sets_size size) f = to es _ f.step.sender s
-  step (outgoing.sets_low stream bytes) f = to es _ f.step.sender s
   step (outgoing.forwards u c) f = to es _ f.exact s
   step (outgoing.forwards_within bytes c) f = to es _ f.exact s
   step (outgoing.writes stream ppi []) f = to es _ (f.exact.0 refl) s
@@ -94,6 +90,7 @@ module _ (p n : ℕ) (es : List Event) (old new : Session) (few : n < 2 ^ 31) (h
   step (outgoing.expires_late now gone) f = to es _ f.exact (each-so es (late_order now (flight_of old)) (flight_of old) s)
   step (outgoing.expires_rexmit gone) f = to es _ f.exact (each-so es (worn_order (flight_of old)) (flight_of old) s)
   step (outgoing.takes_sack k gone) f = to es _ f.exact (sack-so es k (flight_of old) s)
+  step call f = to es _ f.step.sender s
 
 -- ## Every session
 

@@ -50,15 +50,6 @@ abbrev SameSender : Session → Session → Type 0
 SameSender t u = t.sending.sender ≡ u.sending.sender
 
 sender-one : (call : SenderCall) (s t u : Session) → SenderFollows call s t → SenderFollows call s u → SameSender t u
-sender-one (outgoing.opens stream) s t u f g = f.step.sender ∙ sym g.step.sender
-sender-one (outgoing.sets_mode stream unordered reliability value) s t u f g = f.step.sender ∙ sym g.step.sender
-sender-one (outgoing.starts now) s t u f g = f.step.sender ∙ sym g.step.sender
-sender-one (outgoing.resends tsn now c) s t u f g = f.step.sender ∙ sym g.step.sender
-sender-one outgoing.marks s t u f g = f.step.sender ∙ sym g.step.sender
-sender-one (outgoing.misses count) s t u f g = f.step.sender ∙ sym g.step.sender
-sender-one (outgoing.sets_size size) s t u f g = f.step.sender ∙ sym g.step.sender
-sender-one (outgoing.sets_low stream bytes) s t u f g = f.step.sender ∙ sym g.step.sender
-sender-one (outgoing.reserves more) s t u f g = f.step.sender ∙ sym g.step.sender
 sender-one (outgoing.sends now) s t u f g = f.exact ∙ sym g.exact
 sender-one (outgoing.abandons tsn a) s t u f g = f.exact ∙ sym g.exact
 sender-one (outgoing.expires_late now gone) s t u f g = f.exact ∙ sym g.exact
@@ -81,6 +72,7 @@ sender-one (outgoing.expires now (Some e)) s t u f g = by (expiring now s.sendin
     by (Some c) h i j = i ∙ sym j
 sender-one (outgoing.expires_tail now None) s t u f g = f.exact.1 refl ∙ sym (g.exact.1 refl)
 sender-one (outgoing.expires_tail now (Some a)) s t u f g = f.exact.0 ∙ sym g.exact.0
+sender-one call s t u f g = f.step.sender ∙ sym g.step.sender
 
 sending-one : (call : SenderCall) (s t u : Session) → SenderFollows call s t → SenderFollows call s u → t ≡ u
 sending-one call s t u f g =

@@ -1,8 +1,8 @@
 -- The place of a write among the writes, from where it stands in their list.
 use Rattle.std.proofs.Common.{◌≡◌, ℕ, zero, suc, ◌+◌, ◌<◌, List, [], ◌∷◌, length, refl, ap, arith}
 use Rattle.std.specs.Prelude.{⊤, slice_index_or}
-use Rattle.sctp_delivery.specs.SenderCalls.{SenderCall, abandons, expires, expires_late, expires_rexmit, expires_tail, forwards, forwards_within, marks, misses}
-use Rattle.sctp_delivery.specs.SenderCalls.{opens, resends, reserves, sends, sets_low, sets_mode, sets_size, starts, takes_sack, writes}
+use Rattle.sctp_delivery.specs.SenderCalls.{SenderCall}
+use Rattle.sctp_delivery.specs.SenderCalls.{writes}
 use Rattle.sctp_delivery.proofs.Calls.{numbered_after}
 use Rattle.sctp_delivery.proofs.Sent.{Numbered}
 
@@ -14,24 +14,7 @@ AreNumbered (w ∷ ws) = (w.place ≡ length ws) × AreNumbered ws
 pub numbered-after : (call : SenderCall) (ns : List Numbered) → AreNumbered ns → AreNumbered (numbered_after call ns)
 numbered-after (writes stream ppi []) ns h = h
 numbered-after (writes stream ppi (b ∷ bs)) ns h = (refl, h)
-numbered-after (opens stream) ns h = h
-numbered-after (sets_mode stream unordered reliability value) ns h = h
-numbered-after (starts now) ns h = h
-numbered-after (sends now) ns h = h
-numbered-after (resends tsn now c) ns h = h
-numbered-after (abandons tsn a) ns h = h
-numbered-after (expires now m) ns h = h
-numbered-after (expires_tail now m) ns h = h
-numbered-after (expires_late now gone) ns h = h
-numbered-after (expires_rexmit gone) ns h = h
-numbered-after (forwards tsn f) ns h = h
-numbered-after (forwards_within bytes f) ns h = h
-numbered-after marks ns h = h
-numbered-after (misses count) ns h = h
-numbered-after (sets_size size) ns h = h
-numbered-after (sets_low stream bytes) ns h = h
-numbered-after (reserves more) ns h = h
-numbered-after (takes_sack sack gone) ns h = h
+numbered-after call ns h = h
 
 pub place-at : (ns : List Numbered) (k : ℕ) (n : Numbered) → AreNumbered ns → k < length ns → slice_index_or ns k n ≡ n → n.place + k + 1 ≡ length ns
 place-at [] k n h lt e = absurd (omega (arith, lt))

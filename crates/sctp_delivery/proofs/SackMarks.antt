@@ -69,10 +69,6 @@ module _ (dropped : ℕ → Bool) (p n : ℕ) (old new : Session) (few : n < 2 ^
 
   stays-valid : (call : SenderCall) → Every (IsTruthful p n (known_or dropped old)) old.sacks → Every (IsMadeGiven p n) old.made
       → SenderFollows call old new → StillValid
-  stays-valid (outgoing.opens stream) t m f = valid-to _ f.step.sender s
-  stays-valid (outgoing.sets_mode stream unordered reliability value) t m f = valid-to _ f.step.sender s
-  stays-valid (outgoing.sets_size size) t m f = valid-to _ f.step.sender s
-  stays-valid (outgoing.sets_low stream bytes) t m f = valid-to _ f.step.sender s
   stays-valid (outgoing.forwards u c) t m f = valid-to _ f.exact s
   stays-valid (outgoing.forwards_within bytes c) t m f = valid-to _ f.exact s
   stays-valid (outgoing.writes stream ppi []) t m f = valid-to _ (f.exact.0 refl) s
@@ -117,6 +113,7 @@ module _ (dropped : ℕ → Bool) (p n : ℕ) (old new : Session) (few : n < 2 ^
       (each-valid (came_in dropped old) (passed_in old.made) (worn_order old.sending.sender.flight) old.sending.sender.flight s)
   stays-valid (outgoing.takes_sack k gone) t m f = valid-to _ f.exact
       (sack-valid (came_in dropped old) (passed_in old.made) k old.sending.sender.flight (answered t k f.handed) s)
+  stays-valid call t m f = valid-to _ f.step.sender s
 
   -- and with what it passes itself
   abbrev IsValidWith : List Made → Type 0

@@ -198,10 +198,6 @@ module _ (p n : ℕ) (kn : ℕ → Bool) (old new : Session) (few : n < 2 ^ 31) 
       (each-moved p n kn (flight_of old) ts few short h)
 
   pub moves : (call : SenderCall) → Every (IsTruthful p n kn) old.sacks → SenderFollows call old new → Moves
-  moves (outgoing.opens stream) t f = stays (ap (λ (u : Transmission). u.flight) f.step.sender)
-  moves (outgoing.sets_mode stream unordered reliability value) t f = stays (ap (λ (u : Transmission). u.flight) f.step.sender)
-  moves (outgoing.sets_size size) t f = stays (ap (λ (u : Transmission). u.flight) f.step.sender)
-  moves (outgoing.sets_low stream bytes) t f = stays (ap (λ (u : Transmission). u.flight) f.step.sender)
   moves (outgoing.forwards u c) t f = stays (ap (λ (u : Transmission). u.flight) f.exact)
   moves (outgoing.forwards_within bytes c) t f = stays (ap (λ (u : Transmission). u.flight) f.exact)
   moves (outgoing.writes stream ppi []) t f = stays (ap (λ (u : Transmission). u.flight) (f.exact.0 refl))
@@ -252,6 +248,7 @@ module _ (p n : ℕ) (kn : ℕ → Bool) (old new : Session) (few : n < 2 ^ 31) 
       (moved-none p n kn (flight_of old) g (sack-next k (flight_of old)) (sack-settled p n kn k (flight_of old) truth)
       (sack-rises p n kn k (flight_of old) few truth) h
       (taken-numbered p n truth.place k (flight_of old) few truth.within truth.is h))
+  moves call t f = stays (ap (λ (u : Transmission). u.flight) f.step.sender)
 
 -- ## What they make
 
@@ -302,17 +299,4 @@ module _ (p n : ℕ) (old new : Session) (few : n < 2 ^ 31) (h : IsNumbered p n 
     kept-given old.made m,
   )
   made-given outgoing.marks m f = kept-given old.made m
-  made-given (outgoing.misses count) m f = kept-given old.made m
-  made-given (outgoing.sets_size size) m f = kept-given old.made m
-  made-given (outgoing.sets_low stream bytes) m f = kept-given old.made m
-  made-given (outgoing.reserves more) m f = kept-given old.made m
-  made-given (outgoing.opens stream) m f = kept-given old.made m
-  made-given (outgoing.sets_mode stream unordered reliability value) m f = kept-given old.made m
-  made-given (outgoing.writes stream ppi bytes) m f = kept-given old.made m
-  made-given (outgoing.starts now) m f = kept-given old.made m
-  made-given (outgoing.abandons u a) m f = kept-given old.made m
-  made-given (outgoing.expires now e) m f = kept-given old.made m
-  made-given (outgoing.expires_tail now a) m f = kept-given old.made m
-  made-given (outgoing.expires_late now gone) m f = kept-given old.made m
-  made-given (outgoing.expires_rexmit gone) m f = kept-given old.made m
-  made-given (outgoing.takes_sack k gone) m f = kept-given old.made m
+  made-given call m f = kept-given old.made m

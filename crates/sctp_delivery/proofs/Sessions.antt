@@ -64,45 +64,11 @@ written-more : (call : SenderCall) (ws : List Write)
 written-more (writes stream ppi []) ws = omega arith
 written-more (writes stream ppi (b ∷ bs)) ws =
     let e = sum_by-cons (λ (w : Write). length w.bytes) (record { stream = stream; payload_type = ppi; bytes = b ∷ bs }) ws in omega (arith, e)
-written-more (opens stream) ws = omega arith
-written-more (sets_mode stream unordered reliability value) ws = omega arith
-written-more (starts now) ws = omega arith
-written-more (sends now) ws = omega arith
-written-more (resends tsn now c) ws = omega arith
-written-more (abandons tsn a) ws = omega arith
-written-more (expires now m) ws = omega arith
-written-more (expires_tail now m) ws = omega arith
-written-more (expires_late now gone) ws = omega arith
-written-more (expires_rexmit gone) ws = omega arith
-written-more (forwards tsn f) ws = omega arith
-written-more (forwards_within bytes f) ws = omega arith
-written-more marks ws = omega arith
-written-more (misses count) ws = omega arith
-written-more (sets_size size) ws = omega arith
-written-more (sets_low stream bytes) ws = omega arith
-written-more (reserves more) ws = omega arith
-written-more (takes_sack sack gone) ws = omega arith
+written-more call ws = omega arith
 
 none-back : (call : SenderCall) → taken_back_by (outgoing.as_run call) ≡ 0
 none-back (writes stream ppi bytes) = refl
-none-back (opens stream) = refl
-none-back (sets_mode stream unordered reliability value) = refl
-none-back (starts now) = refl
-none-back (sends now) = refl
-none-back (resends tsn now c) = refl
-none-back (abandons tsn a) = refl
-none-back (expires now m) = refl
-none-back (expires_tail now m) = refl
-none-back (expires_late now gone) = refl
-none-back (expires_rexmit gone) = refl
-none-back (forwards tsn f) = refl
-none-back (forwards_within bytes f) = refl
-none-back marks = refl
-none-back (misses count) = refl
-none-back (sets_size size) = refl
-none-back (sets_low stream bytes) = refl
-none-back (reserves more) = refl
-none-back (takes_sack sack gone) = refl
+none-back call = refl
 
 -- what is counted is what was written, and nothing came back
 pub record IsCounted (s : Session) : Type 0 where

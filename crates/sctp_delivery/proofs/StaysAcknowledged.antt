@@ -163,10 +163,6 @@ module _ (p n : ℕ) (old new : Session) (few : n < 2 ^ 31) (h : IsNumbered p n 
       abandoned-each (flight_of old).queue.inflight.chunks p n given ts (flight_of old) (n + 1) (omega arith) (omega (arith, few, short, total)) h.next_is first
 
   stay : (call : SenderCall) → SenderFollows call old new → Stay
-  stay (outgoing.opens stream) f = stay-to _ f.step.sender first
-  stay (outgoing.sets_mode stream unordered reliability value) f = stay-to _ f.step.sender first
-  stay (outgoing.sets_size size) f = stay-to _ f.step.sender first
-  stay (outgoing.sets_low stream bytes) f = stay-to _ f.step.sender first
   stay (outgoing.forwards u c) f = stay-to _ f.exact first
   stay (outgoing.forwards_within bytes c) f = stay-to _ f.exact first
   stay (outgoing.writes stream ppi []) f = stay-to _ (f.exact.0 refl) first
@@ -181,7 +177,6 @@ module _ (p n : ℕ) (old new : Session) (few : n < 2 ^ 31) (h : IsNumbered p n 
   stay (outgoing.starts now) f =
       stay-to _ f.step.sender
       (subst (λ (w : payload.Payload). Every (StaysSo (flight_of old).queue.inflight.chunks) w.chunks) (sym (started-inflight now (flight_of old).queue)) first)
-  stay (outgoing.reserves more) f = stay-to _ f.step.sender first
   stay (outgoing.sends now) f =
       stay-to _ f.exact (sent (flight_of old).queue.inflight.chunks (flight_of old).queue (flight_of old).next_tsn now next first)
   stay (outgoing.resends u now c) f =
@@ -215,6 +210,7 @@ module _ (p n : ℕ) (old new : Session) (few : n < 2 ^ 31) (h : IsNumbered p n 
       stay-to _ f.exact
       (each (worn_order (flight_of old)) (order-short is_worn (flight_of old) (with_tail (worn_tsns (flight_of old)) (flight_of old))))
   stay (outgoing.takes_sack k gone) f = stay-to _ f.exact (acknowledged (flight_of old).queue.inflight.chunks k (flight_of old) first)
+  stay call f = stay-to _ f.step.sender first
 
 -- ## The law
 

@@ -24,9 +24,9 @@ use Rattle.sctp_sender.specs.Thresholds.{with_lows}
 use Rattle.sctp_stream.specs.declared.stream.StreamState.{StreamState}
 use Rattle.sctp_delivery.specs.Amounts.{EachIsTold, IsToldOf, is_abandoned}
 use Rattle.sctp_delivery.specs.Messages.{AfterEachFitSession}
-use Rattle.sctp_delivery.specs.SenderCalls.{Made, SenderCall, abandons, data_chunk, expires, expires_late, expires_rexmit, expires_tail, forwards}
-use Rattle.sctp_delivery.specs.SenderCalls.{forwards_within, made_after, marks, misses, next_chunk, opens, resends, reserves, sends, sets_low, sets_mode}
-use Rattle.sctp_delivery.specs.SenderCalls.{sets_size, starts, takes_sack, with_chunk, writes}
+use Rattle.sctp_delivery.specs.SenderCalls.{Made, SenderCall, data_chunk, forwards}
+use Rattle.sctp_delivery.specs.SenderCalls.{forwards_within, made_after, next_chunk, resends, sends}
+use Rattle.sctp_delivery.specs.SenderCalls.{takes_sack, with_chunk}
 use Rattle.sctp_delivery.specs.Session.{Call, RunsTo, SenderFollows, Session, at_start, of_receiver, of_sender}
 use Rattle.sctp_delivery.proofs.AmountChunks.{IsOf}
 use Rattle.sctp_delivery.proofs.AmountLaws.{AreCounted, counted-in}
@@ -72,21 +72,7 @@ module _ (t : Transmission) (sent more : List Entry) (ms : List Made) (a : AllMa
   all-made (resends tsn now c) g = ended-made sent more _ g (more-made _ sent ms a)
   all-made (forwards tsn f) g = ended-made sent more _ g (more-made _ sent ms a)
   all-made (forwards_within bytes f) g = ended-made sent more _ g (more-made _ sent ms a)
-  all-made marks g = ended-made sent more ms g a
-  all-made (misses count) g = ended-made sent more ms g a
-  all-made (sets_size size) g = ended-made sent more ms g a
-  all-made (sets_low stream bytes) g = ended-made sent more ms g a
-  all-made (reserves count) g = ended-made sent more ms g a
-  all-made (opens stream) g = ended-made sent more ms g a
-  all-made (sets_mode stream unordered reliability value) g = ended-made sent more ms g a
-  all-made (writes stream ppi bytes) g = ended-made sent more ms g a
-  all-made (starts now) g = ended-made sent more ms g a
-  all-made (abandons tsn y) g = ended-made sent more ms g a
-  all-made (expires now m) g = ended-made sent more ms g a
-  all-made (expires_tail now m) g = ended-made sent more ms g a
-  all-made (expires_late now gone) g = ended-made sent more ms g a
-  all-made (expires_rexmit gone) g = ended-made sent more ms g a
-  all-made (takes_sack sack gone) g = ended-made sent more ms g a
+  all-made call g = ended-made sent more ms g a
 
 -- the writes and entries of a session, each of which was made
 pub record HasMade (first : ℕ) (s : Session) : Type 0 where

@@ -189,15 +189,7 @@ IsAckedBy old new =
     ⊎ ((s : Sack) × Contains old.sacks s × ((flight_of new).acked_tsn ≡ s.cumulative_tsn_ack))
 
 acked-by : (call : SenderCall) (old new : Session) → SenderFollows call old new → IsAckedBy old new
-acked-by (outgoing.opens stream) old new f = inl (ap (λ (u : Transmission). u.flight.acked_tsn) f.step.sender)
-acked-by (outgoing.sets_mode stream unordered reliability value) old new f = inl (ap (λ (u : Transmission). u.flight.acked_tsn) f.step.sender)
-acked-by (outgoing.sets_size size) old new f = inl (ap (λ (u : Transmission). u.flight.acked_tsn) f.step.sender)
-acked-by (outgoing.sets_low stream bytes) old new f = inl (ap (λ (u : Transmission). u.flight.acked_tsn) f.step.sender)
-acked-by (outgoing.starts now) old new f = inl (ap (λ (u : Transmission). u.flight.acked_tsn) f.step.sender)
-acked-by (outgoing.reserves more) old new f = inl (ap (λ (u : Transmission). u.flight.acked_tsn) f.step.sender)
 acked-by (outgoing.resends u now c) old new f = inl (ap (λ (u : Transmission). u.flight.acked_tsn) f.step.sender)
-acked-by outgoing.marks old new f = inl (ap (λ (u : Transmission). u.flight.acked_tsn) f.step.sender)
-acked-by (outgoing.misses count) old new f = inl (ap (λ (u : Transmission). u.flight.acked_tsn) f.step.sender)
 acked-by (outgoing.sends now) old new f = inl (ap (λ (u : Transmission). u.flight.acked_tsn) f.exact)
 acked-by (outgoing.forwards u c) old new f = inl (ap (λ (u : Transmission). u.flight.acked_tsn) f.exact)
 acked-by (outgoing.forwards_within bytes c) old new f = inl (ap (λ (u : Transmission). u.flight.acked_tsn) f.exact)
@@ -233,6 +225,7 @@ acked-by (outgoing.takes_sack k gone) old new f = by (is_outdated k (flight_of o
     by : (b : Bool) → is_outdated k (flight_of old) ≡ b → IsAckedBy old new
     by true e = inl (now ∙ ap (λ b. (if b then flight_of old else take_sack k (flight_of old)).acked_tsn) e)
     by false e = inr (k, f.handed, now ∙ ap (λ b. (if b then flight_of old else take_sack k (flight_of old)).acked_tsn) e)
+acked-by call old new f = inl (ap (λ (u : Transmission). u.flight.acked_tsn) f.step.sender)
 
 -- ## A session
 
