@@ -92,11 +92,7 @@ module _ (p n : ℕ) (kn : ℕ → Bool) (old new : Session) (few : n < 2 ^ 31) 
       order-to _ f.step.receiver.after (record { small = k.small; rise = k.rise })
   keeps-order (incoming.follows g) f = order-to _ f.step.receiver
       (order-past p n old.receiving.receiver kn few h a g (every-contained (IsMadeGiven p n) old.made (forward_tsn g) f.handed m))
-  keeps-order (incoming.reports credit) f = order-to _ f.step.receiver (record { small = a.small; rise = a.rise })
-  keeps-order (incoming.reports_within credit bytes) f = order-to _ f.step.receiver (record { small = a.small; rise = a.rise })
-  keeps-order (incoming.makes_sack credit bytes) f = order-to _ f.step.receiver (record { small = a.small; rise = a.rise })
-  keeps-order incoming.forgets f = order-to _ f.step.receiver (record { small = a.small; rise = a.rise })
-  keeps-order (incoming.reads stream) f = order-to _ f.step.receiver (record { small = a.small; rise = a.rise })
+  keeps-order call f = order-to _ f.step.receiver (record { small = a.small; rise = a.rise })
 
 -- ## The next SACK
 
@@ -185,8 +181,4 @@ module _ (p n : ℕ) (s : Session) (kn : ℕ → Bool) (few : n < 2 ^ 31) (h : I
       (sack_of_entries credit (sack_entries bytes) r, ap (λ (x : Session). x.sacks) f.after, told credit (sack_entries bytes))
   each-sack-tells (incoming.makes_sack credit bytes) new e f =
       (sack_of_entries credit (sack_entries bytes) r, ap (λ (x : Session). x.sacks) f.after, told credit (sack_entries bytes))
-  each-sack-tells incoming.forgets new e f = absurd (not_both e)
-  each-sack-tells (incoming.opens stream) new e f = absurd (not_both e)
-  each-sack-tells (incoming.takes c arrival) new e f = absurd (not_both e)
-  each-sack-tells (incoming.follows g) new e f = absurd (not_both e)
-  each-sack-tells (incoming.reads stream) new e f = absurd (not_both e)
+  each-sack-tells call new e f = absurd (not_both e)

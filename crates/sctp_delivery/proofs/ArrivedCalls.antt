@@ -115,11 +115,7 @@ module _ (p n : ℕ) (kn now : ℕ → Bool) (old new : Session) (few : n < 2 ^ 
         (advanced p n now old.receiving.receiver.cumulative_tsn (insert_before comes_before c.tsn old.receiving.receiver.beyond) few
         (hears-one c.tsn given (taken c.tsn here)))
     hears (incoming.follows g) f = hears-to _ f.step.receiver (follows-arrived g f.handed)
-    hears (incoming.reports credit) f = hears-to _ f.step.receiver still
-    hears (incoming.reports_within credit bytes) f = hears-to _ f.step.receiver still
-    hears (incoming.makes_sack credit bytes) f = hears-to _ f.step.receiver still
-    hears incoming.forgets f = hears-to _ f.step.receiver still
-    hears (incoming.reads stream) f = hears-to _ f.step.receiver still
+    hears call f = hears-to _ f.step.receiver still
 
 -- ## What SACKs say
 
@@ -139,8 +135,4 @@ tells p n kn now old call few grows h t = by call
     by (incoming.reports credit) = (told credit max_sack_entries, rest)
     by (incoming.reports_within credit bytes) = (told credit (sack_entries bytes), rest)
     by (incoming.makes_sack credit bytes) = (told credit (sack_entries bytes), rest)
-    by incoming.forgets = rest
-    by (incoming.opens stream) = rest
-    by (incoming.takes c arrival) = rest
-    by (incoming.follows f) = rest
-    by (incoming.reads stream) = rest
+    by call = rest

@@ -290,12 +290,9 @@ apart-after (incoming.follows g) old new f a =
     by false =
         stays-mapped number (incomplete_forwarded g.new_cumulative_tsn) (λ l. refl) (follow_forward_tsn g old.receiving.receiver).streams
         ∙ followed-numbers g old.receiving.receiver
-apart-after (incoming.reports credit) old new f a = ap (λ (r : Reception). are_apart (numbers_of r.streams)) f.step.receiver ∙ a
-apart-after (incoming.reports_within credit bytes) old new f a = ap (λ (r : Reception). are_apart (numbers_of r.streams)) f.step.receiver ∙ a
-apart-after (incoming.makes_sack credit bytes) old new f a = ap (λ (r : Reception). are_apart (numbers_of r.streams)) f.step.receiver ∙ a
-apart-after incoming.forgets old new f a = ap (λ (r : Reception). are_apart (numbers_of r.streams)) f.step.receiver ∙ a
 apart-after (incoming.reads stream) old new f a =
     ap (λ (r : Reception). are_apart (numbers_of r.streams)) f.step.receiver ∙ ap are_apart (read-numbers stream old.receiving.receiver) ∙ a
+apart-after call old new f a = ap (λ (r : Reception). are_apart (numbers_of r.streams)) f.step.receiver ∙ a
 
 pub apart-in : (cs : List Call) (old new : Session) → RunsTo old cs new → are_apart (numbers_of old.receiving.receiver.streams) ≡ true
     → are_apart (numbers_of new.receiving.receiver.streams) ≡ true

@@ -294,16 +294,10 @@ kept-on (incoming.reads stream) old new st r made apart f k =
 -- what was taken before has TSNs of its own too
 apart-then : (call : ReceiverCall) (old new : Session) → ReceiverFollows call old new → are_apart new.receiving.accepted ≡ true
     → are_apart old.receiving.accepted ≡ true
-apart-then (incoming.opens stream) old new f a = ap are_apart (sym f.step.accepted) ∙ a
 apart-then (incoming.takes c Repeat) old new f a = ap are_apart (sym f.step.accepted) ∙ a
 apart-then (incoming.takes c (New answered)) old new f a = (both (not (list_any (has_tsn c.tsn) old.receiving.accepted)) (are_apart old.receiving.accepted)
     (ap are_apart (sym f.step.accepted) ∙ a)).1
-apart-then (incoming.follows g) old new f a = ap are_apart (sym f.step.accepted) ∙ a
-apart-then (incoming.reports credit) old new f a = ap are_apart (sym f.step.accepted) ∙ a
-apart-then (incoming.reports_within credit bytes) old new f a = ap are_apart (sym f.step.accepted) ∙ a
-apart-then (incoming.makes_sack credit bytes) old new f a = ap are_apart (sym f.step.accepted) ∙ a
-apart-then incoming.forgets old new f a = ap are_apart (sym f.step.accepted) ∙ a
-apart-then (incoming.reads stream) old new f a = ap are_apart (sym f.step.accepted) ∙ a
+apart-then call old new f a = ap are_apart (sym f.step.accepted) ∙ a
 
 pub apart-before : (cs : List Call) (old new : Session) → RunsTo old cs new → are_apart new.receiving.accepted ≡ true → are_apart old.receiving.accepted ≡ true
 apart-before [] old new r a = ap (λ (s : Session). are_apart s.receiving.accepted) (sym r) ∙ a

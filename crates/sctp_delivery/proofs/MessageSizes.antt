@@ -127,14 +127,11 @@ module _ (most : ℕ) where
             (every-mapped P (λ l. unassembled_forwarded g.new_cumulative_tsn (stream_forwarded g.streams l))
             (λ l p. skipped-size (ssns_of l.queue.si g.streams) l.queue ∙ p) old.receiving.receiver.streams s.each));
       }
-  sized-after (incoming.reports credit) old new f s = subst (AreSized most) (sym f.step.receiver) (record { own = s.own; each = s.each })
-  sized-after (incoming.reports_within credit bytes) old new f s = subst (AreSized most) (sym f.step.receiver) (record { own = s.own; each = s.each })
-  sized-after (incoming.makes_sack credit bytes) old new f s = subst (AreSized most) (sym f.step.receiver) (record { own = s.own; each = s.each })
-  sized-after incoming.forgets old new f s = subst (AreSized most) (sym f.step.receiver) (record { own = s.own; each = s.each })
   sized-after (incoming.reads stream) old new f s = subst (AreSized most) (sym f.step.receiver) (record {
     own = s.own;
     each = every-changed P (has_number stream) stream_read (λ l h p. p) old.receiving.receiver.streams s.each;
   })
+  sized-after call old new f s = subst (AreSized most) (sym f.step.receiver) (record { own = s.own; each = s.each })
 
 -- ## Every session
 

@@ -148,12 +148,7 @@ receiver-one (incoming.opens stream) s t u f g = f.step.receiver.1 ∙ sym g.ste
 receiver-one (incoming.takes c Repeat) s t u f g = f.step.receiver ∙ sym g.step.receiver
 receiver-one (incoming.takes c (New complete)) s t u f g =
     (accepts-one c complete complete s.receiving.receiver t.receiving.receiver u.receiving.receiver f.step.receiver g.step.receiver).0
-receiver-one (incoming.follows c) s t u f g = f.step.receiver ∙ sym g.step.receiver
-receiver-one (incoming.reports credit) s t u f g = f.step.receiver ∙ sym g.step.receiver
-receiver-one (incoming.reports_within credit bytes) s t u f g = f.step.receiver ∙ sym g.step.receiver
-receiver-one (incoming.makes_sack credit bytes) s t u f g = f.step.receiver ∙ sym g.step.receiver
-receiver-one incoming.forgets s t u f g = f.step.receiver ∙ sym g.step.receiver
-receiver-one (incoming.reads stream) s t u f g = f.step.receiver ∙ sym g.step.receiver
+receiver-one call s t u f g = f.step.receiver ∙ sym g.step.receiver
 
 stand-same : (x y : Stand) → x.receiver ≡ y.receiver → x.accepted ≡ y.accepted → x.read ≡ y.read → x ≡ y
 stand-same x y a b c =

@@ -78,11 +78,7 @@ limits-after (incoming.follows g) old new f = ap (λ (r : Reception). r.limits) 
         (if b then old.receiving.receiver else follow_forward_tsn g old.receiving.receiver)).limits ≡ old.receiving.receiver.limits
     by true = refl
     by false = refl
-limits-after (incoming.reports credit) old new f = ap (λ (r : Reception). r.limits) f.step.receiver
-limits-after (incoming.reports_within credit bytes) old new f = ap (λ (r : Reception). r.limits) f.step.receiver
-limits-after (incoming.makes_sack credit bytes) old new f = ap (λ (r : Reception). r.limits) f.step.receiver
-limits-after incoming.forgets old new f = ap (λ (r : Reception). r.limits) f.step.receiver
-limits-after (incoming.reads stream) old new f = ap (λ (r : Reception). r.limits) f.step.receiver
+limits-after call old new f = ap (λ (r : Reception). r.limits) f.step.receiver
 
 pub limits-same : (cs : List Call) (old new : Session) → RunsTo old cs new → new.receiving.receiver.limits ≡ old.receiving.receiver.limits
 limits-same [] old new r = ap (λ (s : Session). s.receiving.receiver.limits) r

@@ -44,11 +44,7 @@ reporting-of (incoming.makes_sack credit bytes) s t e f = record {
   accepted = f.step.accepted;
   reliable = refl;
 }
-reporting-of incoming.forgets s t e f = absurd (not_both e)
-reporting-of (incoming.opens stream) s t e f = absurd (not_both e)
-reporting-of (incoming.takes c arrival) s t e f = absurd (not_both e)
-reporting-of (incoming.follows g) s t e f = absurd (not_both e)
-reporting-of (incoming.reads stream) s t e f = absurd (not_both e)
+reporting-of call s t e f = absurd (not_both e)
 
 -- the SACK has the cumulative TSN of the receiver
 pub cumulative-of : (call : ReceiverCall) (s t : Session) (k : Sack) → is_reporting call ≡ true → ReceiverFollows call s t → t.sacks ≡ k ∷ s.sacks

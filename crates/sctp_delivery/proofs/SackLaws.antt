@@ -153,15 +153,9 @@ sender-step p n call old new few f i = sender-step-but none_dropped p n old new 
 
 -- what was taken stays so
 pub more-accepted : (call : ReceiverCall) (old new : Session) → ReceiverFollows call old new → (t : ℕ) → was_taken t old ≡ true → was_taken t new ≡ true
-more-accepted (incoming.opens stream) old new f t e = ap (list_any (has_tsn t)) f.step.accepted ∙ e
 more-accepted (incoming.takes c Repeat) old new f t e = ap (list_any (has_tsn t)) f.step.accepted ∙ e
 more-accepted (incoming.takes c (New answered)) old new f t e = ap (list_any (has_tsn t)) f.step.accepted ∙ or-more (has_tsn t c) (was_taken t old) e
-more-accepted (incoming.follows g) old new f t e = ap (list_any (has_tsn t)) f.step.accepted ∙ e
-more-accepted (incoming.reports credit) old new f t e = ap (list_any (has_tsn t)) f.step.accepted ∙ e
-more-accepted (incoming.reports_within credit bytes) old new f t e = ap (list_any (has_tsn t)) f.step.accepted ∙ e
-more-accepted (incoming.makes_sack credit bytes) old new f t e = ap (list_any (has_tsn t)) f.step.accepted ∙ e
-more-accepted incoming.forgets old new f t e = ap (list_any (has_tsn t)) f.step.accepted ∙ e
-more-accepted (incoming.reads stream) old new f t e = ap (list_any (has_tsn t)) f.step.accepted ∙ e
+more-accepted call old new f t e = ap (list_any (has_tsn t)) f.step.accepted ∙ e
 
 pub receiver-step-but : (dropped : ℕ → Bool) (p n : ℕ) (call : ReceiverCall) (old new : Session) → n < 2 ^ 31 → ReceiverFollows call old new
     → IsInStepBut dropped p n old → IsInStepBut dropped p n new

@@ -187,21 +187,7 @@ more-made p (sends now) t ms e = by (next_chunk now t)
 more-made p (resends tsn now c) t ms e = or-more _ _ e
 more-made p (forwards tsn f) t ms e = or-more (p (forward_tsn f)) (list_any p ms) e
 more-made p (forwards_within bytes f) t ms e = or-more (p (forward_tsn f)) (list_any p ms) e
-more-made p marks t ms e = e
-more-made p (misses count) t ms e = e
-more-made p (sets_size size) t ms e = e
-more-made p (sets_low stream bytes) t ms e = e
-more-made p (reserves more) t ms e = e
-more-made p (opens stream) t ms e = e
-more-made p (sets_mode stream unordered reliability value) t ms e = e
-more-made p (writes stream ppi bytes) t ms e = e
-more-made p (starts now) t ms e = e
-more-made p (abandons tsn a) t ms e = e
-more-made p (expires now m) t ms e = e
-more-made p (expires_tail now m) t ms e = e
-more-made p (expires_late now gone) t ms e = e
-more-made p (expires_rexmit gone) t ms e = e
-more-made p (takes_sack sack gone) t ms e = e
+more-made p call t ms e = e
 
 -- each chunk that was taken was made
 abbrev pub IsTakenMade : Session → Type 0

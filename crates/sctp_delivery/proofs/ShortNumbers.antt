@@ -122,13 +122,7 @@ module _ (t u : Transmission) (s : AreShort t) where
     streams = releases-short (released_by k t.flight) t.streams s.streams;
     queue = sacked IsShort IsShort k (λ c _ i. i) t.flight s.queue;
   })
-  stays-short (outgoing.abandons tsn a') r m x a = absurd (not_both r)
-  stays-short (outgoing.expires now m') r m x a = absurd (not_both r)
-  stays-short (outgoing.expires_tail now m') r m x a = absurd (not_both r)
-  stays-short (outgoing.expires_late now gone) r m x a = absurd (not_both r)
-  stays-short (outgoing.expires_rexmit gone) r m x a = absurd (not_both r)
-  stays-short (outgoing.forwards tsn f) r m x a = absurd (not_both r)
-  stays-short (outgoing.forwards_within bytes f) r m x a = absurd (not_both r)
+  stays-short call r m x a = absurd (not_both r)
 
 pub made-short : (call : SenderCall) (t : Transmission) (ms : List Made) → is_reliable_at_sender call ≡ true → IsAccepted call t → AreShort t
     → Every IsShortMade ms → Every IsShortMade (made_after call t ms)

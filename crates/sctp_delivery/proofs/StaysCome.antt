@@ -63,8 +63,4 @@ module _ (p n : ℕ) (kn : ℕ → Bool) (old new : Session) (few : n < 2 ^ 31) 
       (insert-keeps comes_before c.tsn r.cumulative_tsn r.beyond t e))
   stays-come (incoming.follows g) f =
       subst Knows (sym f.step.receiver) (skipped g (every-contained (IsMadeGiven p n) old.made (forward_tsn g) f.handed made))
-  stays-come (incoming.reports credit) f = subst Knows (sym f.step.receiver) e
-  stays-come (incoming.reports_within credit bytes) f = subst Knows (sym f.step.receiver) e
-  stays-come (incoming.makes_sack credit bytes) f = subst Knows (sym f.step.receiver) e
-  stays-come incoming.forgets f = subst Knows (sym f.step.receiver) e
-  stays-come (incoming.reads stream) f = subst Knows (sym f.step.receiver) e
+  stays-come call f = subst Knows (sym f.step.receiver) e

@@ -151,8 +151,4 @@ module _ (p n : ℕ) (kn : ℕ → Bool) (old new : Session) (few : n < 2 ^ 31) 
   takes-once (incoming.follows g) f =
       taken-to _ old.receiving.accepted f.step.receiver f.step.accepted
       (skip-come p n old.receiving.receiver kn few h g old.receiving.accepted (every-contained (IsMadeGiven p n) old.made (forward_tsn g) f.handed m) t)
-  takes-once (incoming.reports credit) f = kept _ f.step.receiver refl refl f.step.accepted
-  takes-once (incoming.reports_within credit bytes) f = kept _ f.step.receiver refl refl f.step.accepted
-  takes-once (incoming.makes_sack credit bytes) f = kept _ f.step.receiver refl refl f.step.accepted
-  takes-once incoming.forgets f = kept _ f.step.receiver refl refl f.step.accepted
-  takes-once (incoming.reads stream) f = kept _ f.step.receiver refl refl f.step.accepted
+  takes-once call f = kept _ f.step.receiver refl refl f.step.accepted

@@ -101,11 +101,7 @@ can-but dropped p n s few i (incoming.reports_within credit bytes) e =
 can-but dropped p n s few i (incoming.makes_sack credit bytes) e =
     can-by dropped p n s few i credit (sack_entries bytes) (after_sack_within 0 s.receiving.receiver) (incoming.makes_sack credit bytes) e
     (record { handed = tt; step = record { receiver = refl; accepted = refl; read = refl }; accepted = tt; after = refl })
-can-but dropped p n s few i incoming.forgets e = absurd (not_both e)
-can-but dropped p n s few i (incoming.opens stream) e = absurd (not_both e)
-can-but dropped p n s few i (incoming.takes c arrival) e = absurd (not_both e)
-can-but dropped p n s few i (incoming.follows g) e = absurd (not_both e)
-can-but dropped p n s few i (incoming.reads stream) e = absurd (not_both e)
+can-but dropped p n s few i call e = absurd (not_both e)
 
 pub can : (p n : ℕ) (s : Session) → n < 2 ^ 31 → IsInStep p n s → CanBeAnswered s
 can p n s few i = can-but none_dropped p n s few i

@@ -431,11 +431,7 @@ module _ (st first : ℕ) where
   answered-after place more old (incoming.reports credit) is le h = ((place, is, le), upto-more place more old.sacks le h)
   answered-after place more old (incoming.reports_within credit bytes) is le h = ((place, is, le), upto-more place more old.sacks le h)
   answered-after place more old (incoming.makes_sack credit bytes) is le h = ((place, is, le), upto-more place more old.sacks le h)
-  answered-after place more old incoming.forgets is le h = upto-more place more old.sacks le h
-  answered-after place more old (incoming.opens stream) is le h = upto-more place more old.sacks le h
-  answered-after place more old (incoming.takes c arrival) is le h = upto-more place more old.sacks le h
-  answered-after place more old (incoming.follows f) is le h = upto-more place more old.sacks le h
-  answered-after place more old (incoming.reads stream) is le h = upto-more place more old.sacks le h
+  answered-after place more old call is le h = upto-more place more old.sacks le h
 
   pub receiver-answered : (n : ℕ) (call : ReceiverCall) (old new : Session) (ns : List Numbered) (sent : List Entry) (i : IsSpread first n old ns sent)
       → (few : n < 2 ^ 31) → (f : ReceiverFollows call old new) → (spread : IsSpread first n new ns sent)

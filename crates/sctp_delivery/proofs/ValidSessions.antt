@@ -69,11 +69,7 @@ keeps-come p n old new few i call f t g h = by call f
     by (incoming.follows k) f =
         let given = every-contained (IsMadeGiven p n) old.made (forward_tsn k) f.handed i.made in
         subst (HasTsn t) (sym f.step.receiver) (skip-come p n r (known old) few i.arrived k (placeholder t ∷ []) given one).each.0.1
-    by (incoming.reports credit) f = subst (HasTsn t) (sym f.step.receiver) h
-    by (incoming.reports_within credit bytes) f = subst (HasTsn t) (sym f.step.receiver) h
-    by (incoming.makes_sack credit bytes) f = subst (HasTsn t) (sym f.step.receiver) h
-    by incoming.forgets f = subst (HasTsn t) (sym f.step.receiver) h
-    by (incoming.reads stream) f = subst (HasTsn t) (sym f.step.receiver) h
+    by call f = subst (HasTsn t) (sym f.step.receiver) h
 
 module _ (st first n : ℕ) (few : n < 2 ^ 31) (old new : Session) (ns : List Numbered) (sent : List Entry) (i : IsSpread first n old ns sent)
     (ends : Every (IsMadeEnd (base first) sent) old.made)
