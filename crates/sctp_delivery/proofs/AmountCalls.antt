@@ -41,7 +41,8 @@ use Rattle.sctp_delivery.specs.SenderCalls.{sets_mode, sets_size, starts, takes_
 use Rattle.sctp_delivery.specs.Session.{of_sender}
 use Rattle.sctp_delivery.proofs.AmountChunks.{AllOf, IsFresh, IsOf, all-at, fragments-fresh, stream_in}
 use Rattle.sctp_delivery.proofs.StreamBytes.{IsBare, IsOff, abandoned, amount, amount-at, amount-elsewhere, amount-found, amount-kept, amount-left}
-use Rattle.sctp_delivery.proofs.StreamBytes.{amount-less, amount-mapped, amount-opened, amount-released, changed, expired, first-changed, held, lows-told, message-lows-told}
+use Rattle.sctp_delivery.proofs.StreamBytes.{amount-less, amount-mapped, amount-opened, amount-released, changed, expired, first-changed, held, lows-told}
+use Rattle.sctp_delivery.proofs.StreamBytes.{message-lows-told}
 use Rattle.sctp_delivery.proofs.StreamBytes.{only, others, pushed, sacked, sent, split-all, started, zero-if}
 use Rattle.sctp_delivery.proofs.Every.{Every, every-found, every-of}
 use Rattle.sctp_delivery.proofs.Numbers.{number-is}
@@ -73,7 +74,8 @@ passed p (Some x) c e = by (p x) e
 
 module _ (ws : List Write) where
   is-off : (on : ℕ → Bool) (m : ℕ) (q : Outbound) → on (stream_in m ws) ≡ false → AllOf ws q → IsOff on m q
-  is-off on m q off h = record { ordered = each q.pending.ordered h.ordered; unordered = each q.pending.unordered h.unordered; inflight = each q.inflight.chunks h.inflight }
+  is-off on m q off h =
+      record { ordered = each q.pending.ordered h.ordered; unordered = each q.pending.unordered h.unordered; inflight = each q.inflight.chunks h.inflight }
     where
       each : (xs : List ChunkPayloadData) → Every (IsOf ws) xs → Every (λ (c : ChunkPayloadData). is_of m c ≡ true → on c.stream_identifier ≡ false) xs
       each xs e = every-of (IsOf ws) (λ (c : ChunkPayloadData). is_of m c ≡ true → on c.stream_identifier ≡ false)
@@ -150,7 +152,8 @@ module _ (ws : List Write) (s : ℕ) where
           i = every-found (IsOf ws) (has_tsn t) f.queue.inflight.chunks c e h.inflight
 
           shared : held (only s) (abandoned_of (Some c.message_id) f.next_tsn f.queue)
-              + bytes_for s c.stream_identifier (total_bytes f.queue - total_bytes (abandoned_of (Some c.message_id) f.next_tsn f.queue)) ≡ held (only s) f.queue
+              + bytes_for s c.stream_identifier (total_bytes f.queue - total_bytes (abandoned_of (Some c.message_id) f.next_tsn f.queue))
+              ≡ held (only s) f.queue
           shared =
               let le = abandoned-le (Some c.message_id) f.next_tsn f.queue in
               shares f.queue (abandoned_of (Some c.message_id) f.next_tsn f.queue) c.stream_identifier
@@ -237,8 +240,8 @@ module _ (ws : List Write) (t : Transmission) (all : AllOf ws t.flight.queue)
 
   -- the chunks in flight are marked
   marked : (u : Transmission) (p : ChunkPayloadData → Bool) (f : ChunkPayloadData → ChunkPayloadData)
-      → ((c : ChunkPayloadData) → (if only s (f c).stream_identifier then length (f c).user_data else 0) ≡ (if only s c.stream_identifier then length c.user_data else 0))
-      → u ≡ record t {
+      → ((c : ChunkPayloadData) → (if only s (f c).stream_identifier then length (f c).user_data else 0)
+      ≡ (if only s c.stream_identifier then length c.user_data else 0)) → u ≡ record t {
         flight = record t.flight {
           queue = record t.flight.queue {
             inflight = payload.with_chunks t.flight.queue.inflight (change_where p f t.flight.queue.inflight.chunks);

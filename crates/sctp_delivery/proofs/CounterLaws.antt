@@ -81,9 +81,6 @@ expiry-keeps false bytes = record { number = λ l. refl; stats = λ l. refl }
 
 -- ## A write
 
-capped : (a b m : ℕ) → min (min a m + b) m ≡ min (b + a) m
-capped a b m = omega arith
-
 -- of one payload type: what is counted is what the write is
 counted : (stats : DataChannelStats) (a c len : ℕ) (ppi : PayloadProtocolIdentifier) → stats.messages_sent ≡ min a (2 ^ 64 - 1)
     → stats.bytes_sent ≡ min c (2 ^ 64 - 1)

@@ -91,7 +91,14 @@ abbrev pub opened : Session
 opened = sending (open_stream 1 start.sending.sender) start
 
 pub opens : SenderFollows (outgoing.opens 1) start opened
-opens = record { handed = tt; step = record { sender = refl; written = refl; released = refl; taken_back = refl }; exact = tt; accepted = refl; answered = tt; after = refl }
+opens = record {
+  handed = tt;
+  step = record { sender = refl; written = refl; released = refl; taken_back = refl };
+  exact = tt;
+  accepted = refl;
+  answered = tt;
+  after = refl;
+}
 
 abbrev pub one_write : Write
 one_write = record { stream = 1; payload_type = Binary; bytes = 7 ∷ [] }
@@ -115,7 +122,14 @@ in_flight = record (sending (with_flight (record waiting.flight { queue = sent_n
 
 pub sends-one : SenderFollows (sends 5) written in_flight
 sends-one =
-    record { handed = tt; step = record { sender = refl; written = refl; released = refl; taken_back = refl }; exact = refl; accepted = refl; answered = tt; after = refl }
+    record {
+      handed = tt;
+      step = record { sender = refl; written = refl; released = refl; taken_back = refl };
+      exact = refl;
+      accepted = refl;
+      answered = tt;
+      after = refl;
+    }
 
 -- the receiver opens the stream too
 abbrev both_open : Session
@@ -296,7 +310,14 @@ abandoned_one = record in_flight {
 
 pub abandons-one : SenderFollows (abandons 10 lost) in_flight abandoned_one
 abandons-one =
-    record { handed = tt; step = record { sender = refl; written = refl; released = refl; taken_back = refl }; exact = refl; accepted = refl; answered = (refl, refl); after = refl }
+    record {
+      handed = tt;
+      step = record { sender = refl; written = refl; released = refl; taken_back = refl };
+      exact = refl;
+      accepted = refl;
+      answered = (refl, refl);
+      after = refl;
+    }
 
 abbrev pub skip : ForwardTsn
 skip = record { new_cumulative_tsn = 10; streams = record { identifier = 1; sequence = 0 } ∷ [] }

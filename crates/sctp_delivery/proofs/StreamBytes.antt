@@ -156,9 +156,6 @@ module _ (on : ℕ → Bool) where
       let c = by (last_removed m q.pending) in
       omega (arith, a, b, c)
     where
-      marked : List ChunkPayloadData
-      marked = change_where (is_of m) as_abandoned q.inflight.chunks
-
       by : (l : Option ChunkPayloadData) → weigh on (with_terminal_chunk l tsn (payload.with_chunks q.inflight
           (change_where (is_of m) as_abandoned q.inflight.chunks))).chunks ≡ weigh on q.inflight.chunks
       by None = marked-of m q.inflight.chunks o.inflight
@@ -289,9 +286,6 @@ module _ (on : ℕ → Bool) where
   pushed [] q e = refl
   pushed (c ∷ cs) q e = by c.unordered
     where
-      new : List ChunkPayloadData
-      new = map (with_message_id q.next_message_id) (c ∷ cs)
-
       none : weigh on (map (with_message_id q.next_message_id) (c ∷ cs)) ≡ 0
       none = none-weighs (c ∷ cs) q.next_message_id e
 
