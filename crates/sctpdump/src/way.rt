@@ -14,11 +14,11 @@ use sctp_reassembly::reassembly_queue::ReassemblyQueue;
 use sctp_receiver::receiver::Receiver;
 use sctp_receiver::receiver::arrival::{Arrival, Closed};
 use sctp_receiver::receiver::refusal::ReceiverRefusal;
-use sctp_receiver::replay::{filter, open_streams, reassembly};
+use sctp_receiver::replay::{has_come, open_streams, reassembly};
 use sctp_show::filter::is_data;
 use sctp_util::error::Error;
 use sctp_util::field::{read_u16, read_u32};
-use sctp_util::util::{sna16lt, sna16lte, sna32lt, sna32lte};
+use sctp_util::util::{sna16lt, sna16lte, sna32lt};
 use std::alloc::{AllocError, Global};
 use std::collections::BTreeMap;
 
@@ -248,7 +248,7 @@ impl WayReader {
 
     /// Whether a TSN came, or was passed.
     fn has_come(&self, tsn: u32) -> bool {
-        sna32lte(tsn, self.receiver.cumulative_tsn()) || filter(&self.receiver).get(tsn).is_some()
+        has_come(&self.receiver, tsn)
     }
 
     /// Keeps what a fragment of a message says, and with which record it came.
@@ -506,8 +506,8 @@ impl WayReader {
     /// The last TSN up to this one that did not come, where one did not.
     fn last_missing(&self, acknowledged: u32) -> u32 {
         let mut tsn = acknowledged;
-        for _come in 0..filter(&self.receiver).len() {
-            if filter(&self.receiver).get(tsn).is_none() {
+        for _come in 0..acknowledged.wrapping_sub(self.receiver.cumulative_tsn()) {
+            if !has_come(&self.receiver, tsn) {
                 return tsn;
             }
             tsn = tsn.wrapping_sub(1);
