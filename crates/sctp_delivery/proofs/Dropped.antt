@@ -1,8 +1,10 @@
 -- What `drop_expired` gives up, as calls of a session.
 use Rattle.std.proofs.Common.{◌≡◌, ℕ, zero, suc, ◌+◌, ◌-◌, ◌%◌, ◌^◌, ◌<◌, ◌≤◌, Bool, true, false, List, [], ◌∷◌, ◌++◌, Option, Some, None, Result, Ok, Err}
 use Rattle.std.proofs.Common.{refl, ap, ap₂, sym, subst, ◌∙◌, not, arith}
-use Rattle.std.specs.Prelude.{◌≢◌, ◌&&◌, IfOk, IfSome, OnOk, is_some, if◌then◌else◌, option_map}
+use Rattle.std.specs.Prelude.{◌≢◌, ◌==◌, ◌&&◌, IfOk, IfSome, is_some, if◌then◌else◌, option_map}
+use Rattle.std.specs.List.{list_all}
 use Rattle.std.proofs.lemmas.List.Folds.{list_all-append}
+use Rattle.std.proofs.lemmas.List.Sums.{sum_by-append}
 use Rattle.std.proofs.lemmas.Option.{none-some}
 use Rattle.sctp_data.specs.declared.chunk.chunk_payload_data.ChunkPayloadData.{ChunkPayloadData}
 use Rattle.sctp_outbound.proofs.lemmas.pending_queue.Waiting.{bytes_of-change_where, removed_le}
@@ -26,21 +28,43 @@ use Rattle.sctp_serial.specs.DataChunks.{bytes_of, is_on}
 use Rattle.sctp_stream.specs.declared.stream.StreamState.{StreamState}
 use Rattle.sctp_util.specs.Lists.{change_where}
 use Rattle.sctp_util.proofs.Cases.{same-yes}
-use Rattle.sctp_delivery.specs.SenderCalls.{Drops, SenderCall, SenderMakes, SenderMakesEach, Tells, expires, expires_late, expires_rexmit, expires_tail}
+use Rattle.sctp_delivery.specs.Amounts.{Drops, bytes_for, bytes_of_messages, told_each, told_of}
+use Rattle.sctp_delivery.specs.SenderCalls.{SenderCall, SenderMakes, SenderMakesEach, Tells, expires, expires_late, expires_rexmit, expires_tail}
 use Rattle.sctp_delivery.specs.SenderCalls.{is_drop, starts}
 
 -- ## Calls one after another
 
-one : (now : ℕ) (call : SenderCall) (old new : Transmission) → is_drop now call ≡ true → SenderMakes call old new → Drops now old new
-one now call old new e m = (call ∷ [], ((new, (m, refl)), ap (λ b. b && true) e))
+-- such calls, whose answers tell so many bytes on each stream
+abbrev Gives : (ℕ → ℕ) → ℕ → Transmission → Transmission → Type 0
+Gives b now old new =
+    (calls : List SenderCall)
+    × (SenderMakesEach calls old new × ((list_all (is_drop now) calls ≡ true) × ((s : ℕ) → told_each s calls ≡ b s)))
+
+gives-as : (b c : ℕ → ℕ) → ((s : ℕ) → b s ≡ c s) → (now : ℕ) (old new : Transmission) → Gives b now old new → Gives c now old new
+gives-as b c same now old new h = (h.0, (h.1.0, (h.1.1.0, λ s. h.1.1.1 s ∙ same s)))
+
+one : (now : ℕ) (call : SenderCall) (old new : Transmission) → is_drop now call ≡ true → SenderMakes call old new → Gives (λ s. told_of s call) now old new
+one now call old new e m = (call ∷ [], ((new, (m, refl)), (ap (λ b. b && true) e, λ s. omega arith)))
 
 each-then : (cs ds : List SenderCall) (a b c : Transmission) → SenderMakesEach cs a b → SenderMakesEach ds b c → SenderMakesEach (cs ++ ds) a c
 each-then [] ds a b c h k = subst (λ t. SenderMakesEach ds t c) h k
 each-then (x ∷ cs) ds a b c h k = (h.0, (h.1.0, each-then cs ds h.0 b c h.1.1 k))
 
-both-drop : (now : ℕ) (a b c : Transmission) → Drops now a b → Drops now b c → Drops now a c
-both-drop now a b c h k =
-    (h.0 ++ k.0, (each-then h.0 k.0 a b c h.1.0 k.1.0, list_all-append (is_drop now) h.0 k.0 ∙ ap₂ (λ x y. x && y) h.1.1 k.1.1))
+both-drop : (b d : ℕ → ℕ) (now : ℕ) (x y z : Transmission) → Gives b now x y → Gives d now y z → Gives (λ s. b s + d s) now x z
+both-drop b d now x y z h k = (
+  h.0 ++ k.0,
+  (
+    each-then h.0 k.0 x y z h.1.0 k.1.0,
+    (
+      list_all-append (is_drop now) h.0 k.0 ∙ ap₂ (λ x y. x && y) h.1.1.0 k.1.1.0,
+      λ s.
+          let n = sum_by-append (told_of s) h.0 k.0 in
+          let a = h.1.1.1 s in
+          let c = k.1.1.1 s in
+          omega (arith, n, a, c),
+    ),
+  ),
+)
 
 -- ## Messages in front
 
@@ -123,7 +147,7 @@ module _ (now s : ℕ) (u : Bool) (t : Transmission) where
       → new ≡ record old {
         streams = change_where (has_number s) (after_expiries u 1 bytes) old.streams;
         flight = with_queue old.flight (expired_of o old.flight.queue);
-      } → held_by_sender new + bytes ≡ held_by_sender old → Drops now old new
+      } → held_by_sender new + bytes ≡ held_by_sender old → Gives (λ x. bytes_for x s bytes) now old new
   steps old new bytes None is of made held = absurd (none-some (s, u) of)
   steps old new bytes (Some c) is of made held =
       let m : ExpiredMessage = record { stream = s; bytes = bytes; is_low = false } in
@@ -139,7 +163,7 @@ module _ (now s : ℕ) (u : Bool) (t : Transmission) where
       one now (expires now (Some m)) old new (same-yes now) (held, ((ap is_some (sym is), (goes, λ n. absurd (none-some m (sym n)))), (tt, told)))
 
   -- so many, one after another
-  run-drops : (n : ℕ) → AreExpiredOf s u now (suc n) t.flight.queue → suc n < 2 ^ 16 → Drops now t (after (suc n))
+  run-drops : (n : ℕ) → AreExpiredOf s u now (suc n) t.flight.queue → suc n < 2 ^ 16 → Gives (λ x. bytes_for x s (gone (suc n))) now t (after (suc n))
   run-drops zero are few =
       let le = least 1 in
       steps t (after 1) (gone 1) (expiring now t.flight.queue) refl are.1 refl (omega (arith, le))
@@ -152,22 +176,32 @@ module _ (now s : ℕ) (u : Bool) (t : Transmission) where
       let up : suc n + 1 ≡ suc (suc n) = omega arith in
       let streams = streams-then s u (suc n) (gone (suc n)) b (omega (arith, few)) t.streams
       ∙ ap₂ (λ k a. change_where (has_number s) (after_expiries u k a) t.streams) up sum in
-      both-drop now t (after (suc n)) (after (suc (suc n))) (run-drops n are.0 (omega (arith, few)))
+      gives-as (λ x. bytes_for x s (gone (suc n)) + bytes_for x s b) (λ x. bytes_for x s (gone (suc (suc n))))
+      (λ x. joined (s == x) (gone (suc n)) b (gone (suc (suc n))) sum) now t (after (suc (suc n)))
+      (both-drop (λ x. bytes_for x s (gone (suc n))) (λ x. bytes_for x s b) now t (after (suc n)) (after (suc (suc n)))
+      (run-drops n are.0 (omega (arith, few)))
       (steps (after (suc n)) (after (suc (suc n))) b (expiring now q) refl are.1
-      (ap (λ ls. record (after (suc (suc n))) { streams = ls }) (sym streams)) (omega (arith, more)))
+      (ap (λ ls. record (after (suc (suc n))) { streams = ls }) (sym streams)) (omega (arith, more))))
+    where
+      joined : (k : Bool) (a b c : ℕ) → a + b ≡ c → (if k then a else 0) + (if k then b else 0) ≡ (if k then c else 0)
+      joined true a b c e = e
+      joined false a b c e = refl
 
   run-dropped : (n bytes : ℕ) (new : Transmission) → AreExpiredOf s u now n t.flight.queue → 0 < n → n < 2 ^ 16
-      → new ≡ after_expire_run s u n bytes now t → held_by_sender new + bytes ≡ held_by_sender t → Drops now t new
+      → new ≡ after_expire_run s u n bytes now t → held_by_sender new + bytes ≡ held_by_sender t
+      → Gives (λ x. bytes_for x s bytes) now t new
   run-dropped zero bytes new are some few made held = absurd (omega (arith, some))
   run-dropped (suc n) bytes new are some few made held =
       let same : held_by_sender new ≡ total_bytes (left (suc n)) = ap held_by_sender made in
       let b : bytes ≡ gone (suc n) = omega (arith, held, same) in
-      subst (λ v. Drops now t v) (sym (made ∙ ap (λ k. after_expire_run s u (suc n) k now t) b)) (run-drops n are few)
+      gives-as (λ x. bytes_for x s (gone (suc n))) (λ x. bytes_for x s bytes) (λ x. ap (bytes_for x s) (sym b)) now t new
+      (subst (λ v. Gives (λ x. bytes_for x s (gone (suc n))) now t v) (sym (made ∙ ap (λ k. after_expire_run s u (suc n) k now t) b)) (run-drops n are few))
 
 -- ## The rest of a message
 
 tail-dropped : (now : ℕ) (old new : Transmission) (gone : List AbandonedMessage) (c : ChunkPayloadData) → expiring_tail now old.flight.queue ≡ Some c
-    → TailGoes c old new gone → held_by_sender new + bytes_of_all gone ≡ held_by_sender old → Drops now old new
+    → TailGoes c old new gone → held_by_sender new + bytes_of_all gone ≡ held_by_sender old
+    → Gives (λ x. bytes_of_messages x gone) now old new
 tail-dropped now old new [] c is goes held = absurd goes
 tail-dropped now old new (a ∷ b ∷ rest) c is goes held = absurd goes
 tail-dropped now old new (a ∷ []) c is goes held =
@@ -204,14 +238,14 @@ module _ (now : ℕ) (old new : Transmission) where
       → (new ≡ after_worn old) × (gone ≡ with_message_lows (leaving_each (worn_order old.flight) old.flight) old.streams))
 
   dropped : (r : Option Dropped) → Runs r → OfOne r → Any r → Few r → Tail r → Late r → Worn r
-      → held_by_sender new + bytes_dropped r ≡ held_by_sender old → (r ≡ None → new ≡ with_lifetimes now old) → Drops now old new
+      → held_by_sender new + bytes_dropped r ≡ held_by_sender old → (r ≡ None → new ≡ with_lifetimes now old) → Drops r now old new
   dropped None run of any few tail late worn held none = one now (starts now) old new (same-yes now) (none refl, (tt, (tt, tt)))
   dropped (Some (Expired g)) run of any few tail late worn held none =
       run-dropped now g.stream g.unordered old g.messages g.bytes new of any few run held
   dropped (Some (Abandoned gone)) run of any few tail late worn held none =
       by (expiring_tail now old.flight.queue) refl (late_tsns now old.flight.queue) refl
     where
-      by : (o : Option ChunkPayloadData) → expiring_tail now old.flight.queue ≡ o → (ts : List ℕ) → late_tsns now old.flight.queue ≡ ts → Drops now old new
+      by : (o : Option ChunkPayloadData) → expiring_tail now old.flight.queue ≡ o → (ts : List ℕ) → late_tsns now old.flight.queue ≡ ts → Gives (λ x. bytes_of_messages x gone.items) now old new
       by (Some c) is ts due =
           tail-dropped now old new gone.items c is (subst (λ o. IfSome o (λ d. TailGoes d old new gone.items)) is tail) held
       by None is [] due = one now (expires_rexmit gone.items) old new refl (held, ((worn is due).0, (tt, (worn is due).1)))
@@ -221,6 +255,6 @@ module _ (now : ℕ) (old new : Transmission) where
 
   pub answered : (a : Result (Option Dropped) SenderRefusal) → IfOk a Runs → IfOk a OfOne → IfOk a Any → IfOk a Few → IfOk a Tail → IfOk a Late → IfOk a Worn
       → IfOk a (λ r. held_by_sender new + bytes_dropped r ≡ held_by_sender old) → IfOk a (λ r. r ≡ None → new ≡ with_lifetimes now old)
-      → OnOk a (Drops now old new)
+      → IfOk a (λ r. Drops r now old new)
   answered (Ok r) run of any few tail late worn held none = dropped r run of any few tail late worn held none
   answered (Err e) run of any few tail late worn held none = tt

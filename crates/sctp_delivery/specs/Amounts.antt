@@ -2,17 +2,20 @@
 -- answers alone (RFC 9260 6.2.1; RFC 3758 3.5).
 use Rattle.std.specs.Prelude.{◌≡◌, ℕ, ◌+◌, ◌<◌, Bool, true, not, ◌&&◌, ◌||◌, ◌==◌, if◌then◌else◌, All, Contains, List, length, Option, Some, None}
 use Rattle.std.specs.Prelude.{IfSome, option_to_list}
-use Rattle.std.specs.List.{list_any, sum_by}
+use Rattle.std.specs.List.{list_all, list_any, sum_by}
 use Rattle.sctp_data.specs.PayloadData.{Data}
 use Rattle.sctp_data.specs.SelectiveAck.{Sack}
 use Rattle.sctp_outbound.specs.Marks.{is_of, is_outstanding}
 use Rattle.sctp_outbound.specs.pending_queue.Whole.{waits}
 use Rattle.sctp_serial.specs.DataChunks.{is_on}
+use Rattle.sctp_sender.specs.declared.sender.Dropped.{Dropped}
+use Rattle.sctp_sender.specs.declared.sender.Dropped.TheVariants.{Abandoned, Expired}
 use Rattle.sctp_sender.specs.declared.sender.ExpiredMessage.{ExpiredMessage}
 use Rattle.sctp_sender.specs.declared.sender.flight.Released.{Released}
 use Rattle.sctp_sender.specs.declared.sender.flight.late.AbandonedMessage.{AbandonedMessage}
 use Rattle.sctp_sender.specs.Sender.{Transmission, stream_of}
-use Rattle.sctp_delivery.specs.SenderCalls.{abandons, data_chunk, expires, expires_late, expires_rexmit, expires_tail, takes_sack, writes}
+use Rattle.sctp_delivery.specs.SenderCalls.{SenderCall, SenderMakesEach, abandons, data_chunk, expires, expires_late, expires_rexmit}
+use Rattle.sctp_delivery.specs.SenderCalls.{expires_tail, is_drop, takes_sack, writes}
 use Rattle.sctp_delivery.specs.Session.{Call, Follows, Session, of_sender}
 
 -- ## What was written and told
@@ -37,14 +40,18 @@ abbrev pub bytes_of_unsent : ℕ → Option ExpiredMessage → ℕ
 bytes_of_unsent s None = 0
 bytes_of_unsent s (Some e) = bytes_for s e.stream e.bytes
 
--- the bytes that the answer of a call tells on a stream
+-- the bytes that the answer of a call of the sender tells on a stream
+abbrev pub told_of : ℕ → SenderCall → ℕ
+told_of s (takes_sack sack gone) = bytes_of_chunks s gone
+told_of s (abandons tsn a) = bytes_for s a.stream a.bytes
+told_of s (expires now m) = bytes_of_unsent s m
+told_of s (expires_tail now m) = bytes_of_messages s (option_to_list m)
+told_of s (expires_late now gone) = bytes_of_messages s gone
+told_of s (expires_rexmit gone) = bytes_of_messages s gone
+told_of s _ = 0
+
 abbrev pub told_by : ℕ → Call → ℕ
-told_by s (of_sender (takes_sack sack gone)) = bytes_of_chunks s gone
-told_by s (of_sender (abandons tsn a)) = bytes_for s a.stream a.bytes
-told_by s (of_sender (expires now m)) = bytes_of_unsent s m
-told_by s (of_sender (expires_tail now m)) = bytes_of_messages s (option_to_list m)
-told_by s (of_sender (expires_late now gone)) = bytes_of_messages s gone
-told_by s (of_sender (expires_rexmit gone)) = bytes_of_messages s gone
+told_by s (of_sender call) = told_of s call
 told_by s _ = 0
 
 -- by all calls
@@ -53,6 +60,26 @@ written_on s calls = sum_by (written_by s) calls
 
 abbrev pub told_on : ℕ → List Call → ℕ
 told_on s calls = sum_by (told_by s) calls
+
+-- ## What `drop_expired` tells
+
+-- the bytes that its answer tells on a stream
+abbrev pub bytes_of_drop : ℕ → Option Dropped → ℕ
+bytes_of_drop s None = 0
+bytes_of_drop s (Some (Expired run)) = bytes_for s run.stream run.bytes
+bytes_of_drop s (Some (Abandoned gone)) = bytes_of_messages s gone.items
+
+-- those that the answers of some calls tell
+abbrev pub told_each : ℕ → List SenderCall → ℕ
+told_each s calls = sum_by (told_of s) calls
+
+-- some calls that give up what has expired at a moment, or start lifetimes then, and no other; their answers tell what its answer tells
+abbrev pub Drops : Option Dropped → ℕ → Transmission → Transmission → Type 0
+Drops answer now old new =
+    (calls : List SenderCall)
+    × (SenderMakesEach calls old new
+    × ((list_all (is_drop now) calls ≡ true)
+    × ((stream : ℕ) → told_each stream calls ≡ bytes_of_drop stream answer)))
 
 -- ## The amounts
 

@@ -2,7 +2,6 @@
 use Rattle.std.specs.Prelude.{◌≡◌, ⊤, ℕ, ◌<◌, ◌≤◌, ◌==◌, Bool, true, false, List, [], ◌∷◌, length, find, option_map, option_to_list, Option, Some, None}
 use Rattle.std.specs.Prelude.{is_some}
 use Rattle.std.specs.Prelude.{IfSome}
-use Rattle.std.specs.List.{list_all}
 use Rattle.sctp_data.specs.declared.chunk.chunk_payload_data.ChunkPayloadData.{ChunkPayloadData}
 use Rattle.sctp_data.specs.declared.chunk.chunk_payload_data.PayloadProtocolIdentifier.{PayloadProtocolIdentifier}
 use Rattle.sctp_data.specs.declared.chunk.chunk_payload_data.ReliabilityType.{ReliabilityType}
@@ -206,12 +205,6 @@ is_drop now (expires_tail at m) = at == now
 is_drop now (expires_late at gone) = at == now
 is_drop now (expires_rexmit gone) = true
 is_drop now _ = false
-
--- `drop_expired`: some such calls, and no other
-abbrev pub Drops : ℕ → Transmission → Transmission → Type 0
-Drops now old new =
-    (calls : List SenderCall)
-    × (SenderMakesEach calls old new × (list_all (is_drop now) calls ≡ true))
 
 -- ## What it sends
 

@@ -9,7 +9,8 @@ ghost use Rattle.sctp_data.specs.SelectiveAck.{sack_of};
 ghost use Rattle.sctp_sender.specs.Numbers.{send_refusal};
 ghost use Rattle.sctp_sender.specs.Resending.{count_before, next_within};
 ghost use Rattle.sctp_serial.specs.DataChunks.{has_tsn};
-ghost use Rattle.sctp_delivery.specs.SenderCalls.{Drops, SenderMakes, abandons, expires, expires_late, expires_rexmit, expires_tail, forwards, forwards_within, marks, misses, next_chunk, opens, resends, reserves, sends, sets_low, sets_mode, sets_size, starts, takes_sack, writes};
+ghost use Rattle.sctp_delivery.specs.Amounts.{Drops};
+ghost use Rattle.sctp_delivery.specs.SenderCalls.{SenderMakes, abandons, expires, expires_late, expires_rexmit, expires_tail, forwards, forwards_within, marks, misses, next_chunk, opens, resends, reserves, sends, sets_low, sets_mode, sets_size, starts, takes_sack, writes};
 
 use bytes::Bytes;
 use sctp_data::chunk::chunk_forward_tsn::ChunkForwardTsn;
@@ -149,9 +150,9 @@ pub fn expire_rexmit(sender: &mut Sender) -> Result<Vec<AbandonedMessage>, Sende
 }
 
 /// Drops the next group of messages that have expired: the calls of a session by which each of them goes at this moment, and no other;
-/// where none has, lifetimes start.
+/// where none has, lifetimes start. Their answers tell the bytes of each stream that its answer tells.
 pub fn drop_expired(sender: &mut Sender, now: u64) -> Result<Option<Dropped>, SenderRefusal>
-    ensures { OnOk result (Drops now sender.old sender.new) }
+    ensures { IfOk result (λ dropped. Drops dropped now sender.old sender.new) }
 {
     sender.drop_expired(now)
 }
