@@ -5,7 +5,7 @@ use sctp_chunks::chunk::chunk_payload_data::ChunkPayloadData;
 use sctp_receiver::receiver::Receiver;
 use sctp_receiver::receiver::arrival::Arrival;
 use sctp_receiver::receiver::limits::Limits;
-use sctp_receiver::replay::filter;
+use sctp_receiver::replay::make_sack;
 use std::alloc::Global;
 
 const LIMITS: Limits = Limits {
@@ -22,9 +22,12 @@ fn comes(receiver: &mut Receiver, chunk: &ChunkPayloadData, times: u32) -> bool 
     well
 }
 
-// Whether so many duplicates are noted.
+// Whether so many duplicates are noted, of which one SACK reports 16,379 at most.
 fn notes(receiver: &Receiver, count: usize) -> bool {
-    filter(receiver).duplicates().len() == count
+    match make_sack(receiver, 0) {
+        Ok(sack) => sack.duplicate_tsn.len() == count,
+        Err(_) => false,
+    }
 }
 
 // Whether no more duplicates are noted than one SACK reports, also where the TSN is dropped, and again after the SACK.
@@ -50,7 +53,8 @@ fn both(alloc: Global, bounded: &mut Receiver, unbounded: &mut Receiver) -> bool
             ready
                 && is_bounded(bounded, &chunk)
                 && comes(unbounded, &chunk, 16_380)
-                && notes(unbounded, 16_380)
+                && reports(unbounded, 1, &[], 16_379)
+                && reports(unbounded, 1, &[], 1)
         }
         Err(_) => false,
     }
