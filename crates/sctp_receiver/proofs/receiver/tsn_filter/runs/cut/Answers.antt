@@ -1,5 +1,4 @@
-use Rattle.std.proofs.Common.{◌≡◌, ◌+◌, ◌∷◌, ◌++◌, suc, take, drop, ap, sym, ◌∙◌, arith}
-use Rattle.std.specs.Prelude.{slice_set}
+use Rattle.std.proofs.Common.{◌≡◌, ◌+◌, ◌++◌, suc, take, drop, ap, sym, ◌∙◌, arith}
 use Rattle.sctp_serial.specs.DataChunks.{following_tsn}
 use Rattle.sctp_receiver.specs.declared.receiver.tsn_filter.runs.Run.{Run}
 use Rattle.sctp_receiver.proofs.TsnRuns.{set-here, no-piece, one-piece}

@@ -1,5 +1,5 @@
-use Rattle.std.proofs.Common.{◌≡◌, ◌<◌, ◌≤◌, map, length, ap, sym, ◌∙◌, Some, arith, rules, drop}
-use Rattle.std.specs.Prelude.{slice_get, take}
+use Rattle.std.proofs.Common.{◌≡◌, ◌≤◌, map, length, ap, ◌∙◌, arith, rules, drop}
+use Rattle.std.specs.Prelude.{take}
 use Rattle.sctp_receiver.specs.TsnFilter.{block_of}
 use Rattle.sctp_receiver.proofs.RunBlocks.{spans, first-blocks, blocks-end, blocks-all, blocks-are}
 use Rattle.sctp_receiver.proofs.TsnRuns.{read-run}

@@ -1,6 +1,5 @@
-use Rattle.std.proofs.Common.{◌≡◌, ◌<◌, ◌≤◌, length, sym, subst, ap, ◌∙◌, arith, rules}
+use Rattle.std.proofs.Common.{◌≡◌, length, sym, subst, ap, ◌∙◌, arith, rules}
 use Rattle.std.specs.VecDeque.{deque_capacity, deque_len}
-use Rattle.sctp_util.specs.Serial.{distance}
 use Rattle.sctp_receiver.specs.TsnRuns.{AreRuns, tsns_of}
 use Rattle.sctp_receiver.proofs.Retracts.{none-back, back-tsns, back-runs, back-room}
 use Rattle.sctp_receiver.proofs.receiver.tsn_filter.undo.put_back.Goals as goal
