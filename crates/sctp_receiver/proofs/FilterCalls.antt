@@ -1,5 +1,5 @@
 -- The calls of a filter of TSNs.
-use Rattle.std.proofs.Common.{◌≡◌, ℕ, suc, ◌<◌, ◌^◌, true, false, List, [], ◌∷◌, ◌++◌, length, map, refl, ap, sym, ◌∙◌, arith}
+use Rattle.std.proofs.Common.{◌≡◌, ℕ, suc, ◌<◌, ◌^◌, true, false, List, [], ◌∷◌, ◌++◌, length, refl, ap, sym, ◌∙◌, arith}
 use Rattle.std.specs.Prelude.{◌==◌, ◌||◌}
 use Rattle.std.specs.List.{list_any}
 use Rattle.std.proofs.lemmas.Bool.Decides.{nat_tests}
@@ -8,20 +8,14 @@ use Rattle.sctp_util.proofs.More.{fails}
 use Rattle.sctp_serial.proofs.lemmas.ListEdits.{neither}
 use Rattle.sctp_util.specs.Lists.{insert_before, advance_over, Seen}
 use Rattle.sctp_util.specs.Serial.{distance, comes_before, at_or_before}
-use Rattle.sctp_data.specs.declared.chunk.chunk_selective_ack.GapAckBlock.{GapAckBlock}
-use Rattle.sctp_outbound.specs.payload_queue.Blocks.{ends_of}
 use Rattle.sctp_serial.specs.DataChunks.{following_tsn}
 use Rattle.sctp_reassembly.proofs.lemmas.reassembly_queue.SerialPlaces.{after_one}
 use Rattle.sctp_receiver.specs.declared.receiver.tsn_filter.runs.Run.{Run}
-use Rattle.sctp_receiver.specs.TsnFilter.{Filter, rise_beyond, has_come, is_opposite, with_tsn, block_of}
+use Rattle.sctp_receiver.specs.TsnFilter.{Filter, rise_beyond, has_come, is_opposite, with_tsn}
 use Rattle.sctp_receiver.specs.TsnRuns.{AreRuns, tsns_from, tsns_of}
 use Rattle.sctp_receiver.proofs.RunMoves.{past, all-past}
 use Rattle.sctp_receiver.proofs.TsnLists.{IsStep, beyond, expected-absent, expected-after, stays, moves}
 use Rattle.sctp_receiver.proofs.TsnRuns.{runs-rise}
-
-pub blocks-of : (bs : List GapAckBlock) → map block_of (map ends_of bs) ≡ bs
-blocks-of [] = refl
-blocks-of (b ∷ bs) = ap (λ rest. b ∷ rest) (blocks-of bs)
 
 -- a filter of these parts
 abbrev pub filter_in : ℕ → List ℕ → List ℕ → ℕ → Filter

@@ -2,7 +2,6 @@ pub mod TsnLists
 pub mod TsnRuns
 pub mod RunBlocks
 pub mod RunMoves
-pub mod Placeholders
 pub mod FilterCalls
 pub mod PushCosts
 pub mod Retracts
