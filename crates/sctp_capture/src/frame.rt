@@ -531,11 +531,9 @@ fn inside_exported(frame: &[u8], lost: u32) -> Result<Datagram<'_>, Fault>
     })
 }
 
-/// The datagram of a frame of this link type: what an IP packet carries, alone or in UDP to or from `port` (RFC 6951), also where that packet
-/// stands in up to four tunnels of GRE, and its ends are then its own; what Wireshark exported for its dissector of SCTP (252), with the
-/// ends that it says; or the frame as it is, where the link type is 248 (SCTP). The capture lost the last `lost` bytes of the frame. Of a
-/// datagram that the frame does not hold to its end it has what is there, and how many bytes are missing. Refuses with `OtherLink`, `Short`, `Fragment` or `OtherProtocol`, and only where the frame
-/// holds none. It takes no memory.
+/// The datagram of a frame of this link type, and its ends: what IP carries, alone or in UDP to or from `port` (RFC 6951), in up to four
+/// tunnels of GRE; an exported PDU (252); or the frame itself (248). The capture lost the last `lost` bytes. Of a datagram that is cut off
+/// it has what is there. Refuses with `OtherLink`, `Short`, `Fragment` or `OtherProtocol`. It takes no memory.
 pub fn datagram_in(
     link_type: u32,
     frame: &[u8],
