@@ -60,7 +60,7 @@ fn take_record<T: Take, W: Write>(
     ) else {
         return Ok(0);
     };
-    let sum = if taker.tests_checksums() || options.filter.only_wrong {
+    let sum = if taker.tests_checksums() || options.filter.needs_checksum() {
         sum_for(options.sum, datagram.missing)
     } else {
         Sum::Unchecked

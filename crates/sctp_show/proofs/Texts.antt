@@ -8,7 +8,7 @@ use Rattle.std.specs.Prelude.{Bool}
 use Rattle.sctp_show.specs.Sum.{sum_of, sum_for, is_wrong}
 use Rattle.sctp_dissect.specs.declared.dissection.Fault.TheVariants.{ShortPacket}
 use Rattle.sctp_show.specs.Cut.{WithCut}
-use Rattle.sctp_show.specs.Filter.{passes}
+use Rattle.sctp_show.specs.Choice.{passes}
 use Rattle.sctp_show.specs.Text.{Holds, IsShown, IsPacketText, IsText, IsFrameText, numbered_text, fault_line}
 
 -- nothing is cut off where there is no header

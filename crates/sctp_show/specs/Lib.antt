@@ -6,6 +6,7 @@ pub mod Sum
 pub mod Cut
 pub mod Rules
 pub mod Filter
+pub mod Choice
 pub mod Time
 pub mod Text
 pub mod Run

@@ -14,7 +14,7 @@ use Rattle.sctp_show.specs.declared.page.Form.TheVariants.{Text, Json}
 use Rattle.sctp_show.specs.declared.text.Options.{Options}
 use Rattle.sctp_show.specs.Sum.{sum_of, sum_for, is_wrong}
 use Rattle.sctp_show.specs.Cut.{WithCut}
-use Rattle.sctp_show.specs.Filter.{passes, asks_nothing}
+use Rattle.sctp_show.specs.Choice.{passes, asks_nothing}
 
 -- a record's number, and what it shows
 abbrev pub numbered_text : Form → ℕ → List ℕ → List ℕ

@@ -61,7 +61,7 @@ pub fn read_message(bytes: &[u8]) -> Option<Message<'_>>
 }
 
 /// The name of a channel type (RFC 8832 8.2.2).
-fn channel_name(channel_type: u8) -> &'static str {
+pub fn channel_name(channel_type: u8) -> &'static str {
     match channel_type {
         0x00 => "RELIABLE",
         0x80 => "RELIABLE_UNORDERED",

@@ -3,6 +3,7 @@
 
 pub mod brief;
 pub mod checksum;
+pub mod choice;
 pub mod chunk_text;
 pub mod cut;
 pub mod dcep;

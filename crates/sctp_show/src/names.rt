@@ -11,6 +11,17 @@ use std::alloc::AllocError;
 #[derive(Clone, Copy)]
 pub struct ChunkName(pub u8);
 
+/// Whether a name is written as another one: in capitals or not, with hyphens or underscores.
+fn is_same_name(known: &str, name: &str) -> bool {
+    known.len() == name.len()
+        && known.bytes().zip(name.bytes()).all(|(own, byte)| own
+            == if byte == b'_' {
+                b'-'
+            } else {
+                byte.to_ascii_uppercase()
+            })
+}
+
 impl ChunkName {
     /// The name, where the type has one.
     pub fn known(self) -> Option<&'static str> {
@@ -53,11 +64,11 @@ impl ChunkName {
         }
     }
 
-    /// The type with this name, in capitals or not.
+    /// The type with this name, in capitals or not, with hyphens or, as tshark has them, with underscores.
     pub fn of(name: &str) -> Option<u8> {
         for typ in 0..=255u8 {
             if let Some(known) = ChunkName(typ).known()
-                && known.eq_ignore_ascii_case(name)
+                && is_same_name(known, name)
             {
                 return Some(typ);
             }

@@ -57,13 +57,29 @@ pub fn put_all(text: &mut String, parts: &[&str]) -> Result<(), AllocError>
     Ok(())
 }
 
+/// Whether a character shows nothing, or changes the order in which others are shown: those of Unicode's categories Cf, Zl and Zp that
+/// change how a line is read.
+fn is_hidden(c: char) -> bool {
+    matches!(
+        c,
+        '\u{ad}'
+            | '\u{61c}'
+            | '\u{180e}'
+            | '\u{200b}'..='\u{200f}'
+            | '\u{2028}'..='\u{202e}'
+            | '\u{2060}'..='\u{206f}'
+            | '\u{feff}'
+            | '\u{fff9}'..='\u{fffb}'
+    )
+}
+
 /// Appends a character as it may stand between quotes, on a terminal and in JSON.
 fn put_char(text: &mut String, c: char) -> Result<(), AllocError> {
     if c == '"' || c == '\\' {
         text.push('\\')?;
         return text.push(c);
     }
-    if c.is_control() {
+    if c.is_control() || is_hidden(c) {
         return write!(text, "\\u{:04x}", c as u32);
     }
     text.push(c)

@@ -4,13 +4,14 @@ ghost use Rattle.std.specs.Prelude.{◌≡◌, ℕ, List, [], true, false, IfOk}
 ghost use Rattle.std.specs.String.{string_bytes};
 ghost use Rattle.sctp_show.specs.Text.{IsSeen, IsShown, IsPacketText, IsText, IsFrameText, numbered_text, refused_text, fault_line};
 ghost use Rattle.sctp_show.specs.Sum.{sum_of, sum_for, is_wrong};
-ghost use Rattle.sctp_show.specs.Filter.{passes};
+ghost use Rattle.sctp_show.specs.Choice.{passes};
 
 use crate::brief::put_brief;
 use crate::checksum::{Sum, is_wrong, sum_for};
+use crate::choice::Choice;
 use crate::chunk_text::put_block;
 use crate::cut::with_cut;
-use crate::filter::{Filter, is_left_over, is_refused};
+use crate::filter::{is_left_over, is_refused};
 use crate::follow::{Bases, Follow, Known, bases_for};
 use crate::mark::{mark_of, put_marked};
 use crate::page::{Form, Page, put_all, put_quoted};
@@ -38,7 +39,7 @@ pub struct Options {
     /// Whether lines of packets that are refused, or repeat a TSN, are colored, where records are printed as text.
     pub is_colored: bool,
     /// Which packets are shown.
-    pub filter: Filter,
+    pub filter: Choice,
     /// How many records are shown at most.
     pub limit: u64,
 }

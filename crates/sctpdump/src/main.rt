@@ -15,7 +15,7 @@ use sctp_follow::svg::Pictures;
 use sctp_follow::text::Sums;
 use sctp_follow::track::Tracker;
 use sctp_show::checksum::Sum;
-use sctp_show::filter::Filter;
+use sctp_show::choice::Choice;
 use sctp_show::follow::Alone;
 use sctp_show::page::Form;
 use sctp_show::run::{Counts, RunFault, run};
@@ -425,10 +425,10 @@ fn command<'a>(alloc: Global) -> Result<Command<'a>, AllocError> {
 fn filter_in<'a>(
     alloc: Global,
     matches: &ArgMatches<'a>,
-) -> Result<Result<Filter, &'a str>, AllocError> {
-    let mut filter = Filter::new(alloc);
+) -> Result<Result<Choice, &'a str>, AllocError> {
+    let mut filter = Choice::new(alloc);
     for word in matches.get_strs("filter").unwrap_or(&[]) {
-        if !filter.ask(word)? {
+        if !filter.ask(alloc, word)? {
             return Ok(Err(word));
         }
     }
@@ -476,7 +476,7 @@ fn is_picture(picture: Option<&str>, inputs: usize) -> bool {
 }
 
 /// How records are to be looked at, if the port and the count are numbers that can be.
-fn options_in(matches: &ArgMatches<'_>, filter: Filter, is_colored: bool) -> Option<Options> {
+fn options_in(matches: &ArgMatches<'_>, filter: Choice, is_colored: bool) -> Option<Options> {
     let port = port_of(matches.get_str("port"))?;
     let limit = count_of(matches.get_str("count"))?;
     let sum = if matches.get_flag("no-checksum") {
