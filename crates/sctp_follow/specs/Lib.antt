@@ -1,3 +1,5 @@
 pub mod Flow
+pub mod Outstanding
 pub mod Ladder
 pub mod Plot
+pub mod Stall

@@ -36,6 +36,22 @@ impl Way {
             Way::Back => Way::Forth,
         }
     }
+
+    /// Its word in JSON.
+    pub fn word(self) -> &'static str {
+        match self {
+            Way::Forth => "forth",
+            Way::Back => "back",
+        }
+    }
+
+    /// Its arrow in text.
+    pub fn arrow(self) -> &'static str {
+        match self {
+            Way::Forth => ">",
+            Way::Back => "<",
+        }
+    }
 }
 
 /// What says which association a packet is of.

@@ -75,7 +75,7 @@ pub fn counted(count: u64, more: u64) -> u64
 
 /// How many bytes of a message DATA or I-DATA carries, by its length.
 /// Precondition: it is one of them.
-fn payload_length(bytes: &[u8]) -> u64
+pub fn payload_length(bytes: &[u8]) -> u64
     requires { filters.is_data bytes.now ≡ true }
     ensures { result ≡ flows.payload_length bytes.now }
 {

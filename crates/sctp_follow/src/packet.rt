@@ -5,6 +5,13 @@ use sctp_capture::record::Time;
 use sctp_dissect::dissection::Dissection;
 use std::net::IpAddr;
 
+/// With which record a chunk came, and when.
+#[derive(Clone, Copy)]
+pub struct Arrived {
+    pub number: u64,
+    pub time: Option<Time>,
+}
+
 /// A packet of a record.
 #[derive(Drop)]
 pub struct Packet<'a> {

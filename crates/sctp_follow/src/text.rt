@@ -2,22 +2,21 @@
 
 use crate::associations::{Association, Associations};
 use crate::flow::Flow;
-use crate::packet::Packet;
-use crate::summarize::Take;
+use crate::trips::Spread;
 use itoa::Buffer;
 use sctp_capture::record::Time;
 use sctp_show::names::ChunkName;
 use sctp_show::page::Form;
 use sctp_show::run::Counts;
 use sctp_show::time::time_since;
-use std::alloc::{AllocError, Global};
+use std::alloc::AllocError;
 
 /// How a summary is printed.
 #[derive(Clone, Copy)]
-struct Style {
-    form: Form,
+pub struct Style {
+    pub form: Form,
     /// The time since which times are printed, if they are not printed as they were captured.
-    start: Option<Time>,
+    pub start: Option<Time>,
 }
 
 /// Appends a fact: its label and value, or its key and value.
@@ -171,8 +170,31 @@ fn put_cut(text: &mut String, form: Form, cut: u64) -> Result<(), AllocError> {
     put_count(text, form, "Cut off", "cut_off", cut)
 }
 
+/// The least, the median and the most of the round trips, if there are any.
+fn put_spread(text: &mut String, form: Form, spread: Option<Spread>) -> Result<(), AllocError> {
+    let Some(spread) = spread else {
+        return Ok(());
+    };
+    let (least, median, most) = (spread.least, spread.median, spread.most);
+    match form {
+        Form::Text => write!(
+            text,
+            "        Round trip: least {least}, median {median}, most {most}\n"
+        ),
+        Form::Json => write!(
+            text,
+            ",\"round_trip\":{{\"least\":\"{least}\",\"median\":\"{median}\",\"most\":\"{most}\"}}"
+        ),
+    }
+}
+
 /// What went one way.
-fn put_flow(text: &mut String, style: &Style, flow: &Flow) -> Result<(), AllocError> {
+fn put_flow(
+    text: &mut String,
+    style: &Style,
+    flow: &Flow,
+    spread: Option<Spread>,
+) -> Result<(), AllocError> {
     let form = style.form;
     put_count(text, form, "Packets", "packets", flow.packets)?;
     put_count(text, form, "Bytes", "bytes", flow.bytes)?;
@@ -181,6 +203,7 @@ fn put_flow(text: &mut String, style: &Style, flow: &Flow) -> Result<(), AllocEr
     put_time(text, style, "Last", "last", &flow.end)?;
     put_kinds(text, form, flow)?;
     put_data(text, form, flow)?;
+    put_spread(text, form, spread)?;
     put_reports(text, form, flow)
 }
 
@@ -191,17 +214,18 @@ fn put_way(
     name: &str,
     key: &str,
     flow: &Flow,
+    spread: Option<Spread>,
 ) -> Result<(), AllocError> {
     let tag = flow.tag.unwrap_or(0);
     match style.form {
         Form::Text if flow.packets == 0 => Ok(()),
         Form::Text => {
             write!(text, "    {name} tag 0x{tag:08x}\n")?;
-            put_flow(text, style, flow)
+            put_flow(text, style, flow, spread)
         }
         Form::Json => {
             write!(text, ",\"{key}\":{{\"tag\":{tag}")?;
-            put_flow(text, style, flow)?;
+            put_flow(text, style, flow, spread)?;
             text.push_str("}")
         }
     }
@@ -231,20 +255,22 @@ pub fn put_ends(
     }
 }
 
-/// An association.
-fn put_association(
+/// An association, and the round trips of its ways.
+pub fn put_association(
     text: &mut String,
     style: &Style,
     number: u64,
     association: &Association,
+    forth: Option<Spread>,
+    back: Option<Spread>,
 ) -> Result<(), AllocError> {
     match style.form {
         Form::Text => write!(text, "Association {number}:")?,
         Form::Json => write!(text, "{{\"association\":{number}")?,
     }
     put_ends(text, style.form, association)?;
-    put_way(text, style, ">", "forth", &association.forth)?;
-    put_way(text, style, "<", "back", &association.back)?;
+    put_way(text, style, ">", "forth", &association.forth, forth)?;
+    put_way(text, style, "<", "back", &association.back, back)?;
     match style.form {
         Form::Text => Ok(()),
         Form::Json => text.push_str("}\n"),
@@ -269,65 +295,5 @@ pub fn put_end(
             text,
             "{{\"records\":{records},\"packets\":{packets},\"associations\":{kept},\"others\":{others}}}\n"
         ),
-    }
-}
-
-/// What the packets of an input are summed up to.
-#[derive(Drop)]
-pub struct Sums {
-    associations: Associations,
-    form: Form,
-    /// Whether times are as they were captured, and not since the first record.
-    is_absolute: bool,
-}
-
-impl Sums {
-    /// Nothing is summed up yet.
-    pub fn new(alloc: Global, form: Form, is_absolute: bool) -> Self {
-        Sums {
-            associations: Associations::new(alloc),
-            form,
-            is_absolute,
-        }
-    }
-}
-
-impl Take for Sums {
-    fn see_time(&mut self, time: &Option<Time>) {
-        self.associations.note_time(time);
-    }
-
-    fn take(
-        &mut self,
-        alloc: Global,
-        packet: &Packet<'_>,
-        is_shown: bool,
-    ) -> Result<String, AllocError> {
-        if is_shown {
-            let _place = self.associations.note_packet(alloc, packet)?;
-        }
-        Ok(String::new(alloc))
-    }
-
-    /// Checksums are not computed.
-    fn tests_checksums(&self) -> bool {
-        false
-    }
-
-    /// Each association, and the last line.
-    fn end(&mut self, alloc: Global, counts: Counts) -> Result<String, AllocError> {
-        let start = self.associations.start;
-        let style = Style {
-            form: self.form,
-            start: if self.is_absolute { None } else { start },
-        };
-        let mut text = String::new(alloc);
-        let mut number = 1u64;
-        for association in &self.associations.items {
-            put_association(&mut text, &style, number, association)?;
-            number = number.saturating_add(1);
-        }
-        put_end(&mut text, style.form, counts, &self.associations)?;
-        Ok(text)
     }
 }

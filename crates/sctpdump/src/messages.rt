@@ -2,17 +2,17 @@
 
 use crate::pending::{Acknowledged, Pending};
 use crate::text::{
-    Moment, Style, put_dropped, put_held, put_missed, put_read, put_unread, put_wrong_checksum,
+    Moment, Style, put_dropped, put_held, put_missed, put_name, put_read, put_unread,
+    put_wrong_checksum,
 };
-use crate::way::{Arrived, Outcome, WayReader};
+use crate::way::{Outcome, WayReader};
 use sctp_capture::record::Time;
 use sctp_chunks::chunk::chunk_kind::ChunkKind;
 use sctp_dissect::dissection::{Item, Reading};
-use sctp_follow::associations::{Association, Associations, Way};
+use sctp_follow::associations::{Associations, Way};
 use sctp_follow::flow::{Flow, counted};
-use sctp_follow::packet::Packet;
+use sctp_follow::packet::{Arrived, Packet};
 use sctp_follow::summarize::Take;
-use sctp_follow::text::put_ends;
 use sctp_follow::track::known_of;
 use sctp_show::page::Form;
 use sctp_show::run::Counts;
@@ -162,24 +162,6 @@ impl Pair {
             Way::Forth => &mut self.forth,
             Way::Back => &mut self.back,
         }
-    }
-}
-
-/// The line that says which association it is.
-fn put_name(
-    text: &mut String,
-    form: Form,
-    number: usize,
-    association: &Association,
-) -> Result<(), AllocError> {
-    match form {
-        Form::Text => write!(text, "Association {number}:")?,
-        Form::Json => write!(text, "{{\"association\":{number}")?,
-    }
-    put_ends(text, form, association)?;
-    match form {
-        Form::Text => Ok(()),
-        Form::Json => text.push_str("}\n"),
     }
 }
 

@@ -5,7 +5,8 @@ use crate::way::{Dropped, Message, Missed, Unread, WayReader};
 use itoa::Buffer;
 use sctp_capture::record::Time;
 use sctp_dissect::dissection::Item;
-use sctp_follow::associations::Way;
+use sctp_follow::associations::{Association, Way};
+use sctp_follow::text::put_ends;
 use sctp_receiver::replay::open_streams;
 use sctp_show::brief::{DCEP, put_brief, put_payload_type, put_tsn};
 use sctp_show::dcep::{put_brief_message, put_message};
@@ -42,6 +43,24 @@ pub struct Moment {
     pub missing: usize,
 }
 
+/// The line that says which association it is.
+pub fn put_name(
+    text: &mut String,
+    form: Form,
+    number: usize,
+    association: &Association,
+) -> Result<(), AllocError> {
+    match form {
+        Form::Text => write!(text, "Association {number}:")?,
+        Form::Json => write!(text, "{{\"association\":{number}")?,
+    }
+    put_ends(text, form, association)?;
+    match form {
+        Form::Text => Ok(()),
+        Form::Json => text.push_str("}\n"),
+    }
+}
+
 /// When a packet was captured.
 fn put_when(
     text: &mut String,
@@ -62,11 +81,13 @@ fn put_when(
 }
 
 /// The association and the way.
-fn put_way(text: &mut String, form: Form, association: usize, way: Way) -> Result<(), AllocError> {
-    let (arrow, word) = match way {
-        Way::Forth => (">", "forth"),
-        Way::Back => ("<", "back"),
-    };
+pub fn put_way(
+    text: &mut String,
+    form: Form,
+    association: usize,
+    way: Way,
+) -> Result<(), AllocError> {
+    let (arrow, word) = (way.arrow(), way.word());
     match form {
         Form::Text => write!(text, "{association} {arrow}"),
         Form::Json => write!(text, "\"association\":{association},\"way\":\"{word}\""),
@@ -74,7 +95,7 @@ fn put_way(text: &mut String, form: Form, association: usize, way: Way) -> Resul
 }
 
 /// What stands before a message.
-fn put_lead(text: &mut String, style: Style, moment: &Moment) -> Result<(), AllocError> {
+pub fn put_lead(text: &mut String, style: Style, moment: &Moment) -> Result<(), AllocError> {
     let number = moment.number;
     match style.form {
         Form::Text => write!(text, "{number}")?,

@@ -1,12 +1,12 @@
 //! The messages that go one way in an association.
 
 use crate::reading::{read_all, take_chunk};
-use sctp_capture::record::Time;
 use sctp_chunks::chunk::chunk_kind::ChunkKind;
 use sctp_chunks::chunk::chunk_reconfig::ChunkReconfig;
 use sctp_data::chunk::chunk_forward_tsn::{ChunkForwardTsn, ChunkForwardTsnStream};
 use sctp_data::chunk::chunk_payload_data::ChunkPayloadData;
 use sctp_dissect::dissection::{Item, Reading};
+use sctp_follow::packet::Arrived;
 use sctp_params::param::param_kind::ParamKind;
 use sctp_params::param::param_outgoing_reset_request::ParamOutgoingResetRequest;
 use sctp_reassembly::chunks::Chunks;
@@ -24,13 +24,6 @@ use std::collections::BTreeMap;
 
 /// The type of I-DATA (RFC 8260 2.1).
 const I_DATA: u8 = 64;
-
-/// With which record a chunk came, and when.
-#[derive(Clone, Copy)]
-pub struct Arrived {
-    pub number: u64,
-    pub time: Option<Time>,
-}
 
 /// What a fragment of a message says, and with which record it came.
 #[derive(Clone, Copy)]
