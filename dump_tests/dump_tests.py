@@ -243,7 +243,7 @@ def json_tests(program):
     counts, whole = [0, 0], check_dump.schema()
     for folder in ("crates/sctpdump/data", "examples"):
         for path in (f"{ROOT}/{folder}/{name}" for name in sorted(os.listdir(f"{ROOT}/{folder}")) if name.endswith((".hex", ".pcap", ".log", ".txt"))):
-            lines = [line for view in ([], ["--summary"], ["--messages"]) for line in check_dump.said(program, [*view, path], path)]
+            lines = [line for view in ([], ["--summary"], ["--messages"], ["--acks"], ["--channels"]) for line in check_dump.said(program, [*view, path], path)]
             faults = list(filter(None, (check_dump.unfit(line, whole, whole) for line in lines)))
             print("".join(f"{path}: {fault}\n" for fault in faults), end="")
             counts[bool(faults)] += 1
@@ -281,7 +281,7 @@ def bound_tests(program):
         many, sacks = f"{room}/many.pcap", f"{room}/sacks.pcap"
         write_datagrams(many, (struct.pack(">HHII", 5000 + at % 7, 5001, at * 14_321 % 2**32, 0) + cookie_ack for at in range(300_000)))
         write_datagrams(sacks, (struct.pack(">HHII", 5001, 5000, 7, 0) + sack for _ in range(300)))
-        for view in (["--summary"], ["--messages"], ["--color", "always", "-f", "tag=1"]):
+        for view in (["--summary"], ["--messages"], ["--acks"], ["--channels"], ["--color", "always", "-f", "tag=1"]):
             before = os.times().children_user
             subprocess.run([program, "--no-checksum", *view, many], stdout=subprocess.DEVNULL, check=True)
             spent = os.times().children_user - before

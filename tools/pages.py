@@ -44,9 +44,9 @@ USE = re.compile(r"(?:ghost )?use [^;]*;\n")
 LISTED = re.compile(r"((?:ghost )?use .*?)\{(.*)\};$", re.S)
 # words of no field, and the words in their place
 UNPLAIN = [("anew", "again, newly"), ("beyond", "past"), ("looks", "reads"), ("turns", "work"), ("but for", "except"), ("nothing but", "only")]
-# a sentence: its words, and the pages that are held neither to them nor to UNPLAIN: pages of what was measured, and those that wait to be rewritten
+# a sentence: its words, and the pages that are held neither to them nor to UNPLAIN: pages of what was measured
 MOST_WORDS = 30
-LONG = ["CHANGELOG.md", "docs/SCTPDUMP.md"]
+LONG = ["CHANGELOG.md"]
 COMMENT = re.compile(r"<!--.*?-->", re.S)
 NO_PROSE = re.compile(r"^(?: {4,}(?![-*\d] ).*|#.*|\|.*|.* \| .*|.*\|$|---.*)$", re.M)
 BLOCK_ENDS = re.compile(r"\n\s*\n|\n(?=\s*(?:[-*] |\d+\. ))")

@@ -1,12 +1,18 @@
 //! Prints the SCTP packets of a capture, or of lines of hex text.
 #![tactic(auto)]
 
+mod ack_text;
+mod acks;
+mod channel_text;
+mod channels;
 mod messages;
 mod pending;
 mod reading;
 mod text;
 mod way;
 
+use crate::acks::Acks;
+use crate::channels::Channels;
 use crate::messages::Messages;
 use clap::{Arg, ArgAction, ArgMatches, Command};
 use sctp_follow::ladder::{Ladders, Style};
@@ -37,11 +43,11 @@ const AT_ONCE: usize = 65_536;
 
 /// What a filter may say.
 const FILTER_WORDS: &str =
-    "a filter is port, tag, type, stream, tsn or ppid, = and values (tsn=5-9 is a range), refused or refused=checksum";
+    "a filter is port, tag, type, stream, tsn or ppid, = and values (tsn=5-9 is a range), refused or refused=checksum; or several with and, or, not";
 
 /// What is printed in place of packets.
 const VIEW_WORDS: &str =
-    "--summary, --flow, --messages and --svg do not go together, nor --flow or --svg with --json or -V, nor --messages with -V";
+    "--summary, --flow, --messages, --acks, --channels and --svg do not go together, nor --flow or --svg with --json or -V, nor --messages, --acks or --channels with -V";
 
 /// What the color, the numbers and the picture may be.
 const COLOR_WORDS: &str = "--color is auto, always or never";
@@ -51,7 +57,7 @@ const NUMBER_WORDS: &str = "the port is a number up to 65535, and the count a nu
 const PICTURE_WORDS: &str = "--svg has one input, and its FILE is - or ends in .svg";
 
 const FILTER_HELP: &str =
-    "Show only packets with one of these: port, tag, type, stream, tsn (also FROM-TO), ppid; `refused`, `refused=checksum`";
+    "Show only packets with one of these: port, tag, type, stream, tsn (also FROM-TO), ppid; `refused`, `refused=checksum`; with ` or `, ` and ` between them, or `not ` before one";
 
 const FULL_HELP: &str = "Print all that each chunk says, as lines";
 
@@ -72,6 +78,12 @@ const FLOW_HELP: &str = "Print the packets of each association as arrows between
 
 const MESSAGES_HELP: &str =
     "Print the messages of each association, each whole, as a receiver reads them";
+
+const ACKS_HELP: &str =
+    "Print for each DATA chunk which record acknowledged it, the round trip, and why it was sent again";
+
+const CHANNELS_HELP: &str =
+    "Print the data channels of each association: label, reliability, who opened and closed it, what it carried";
 
 const SVG_HELP: &str =
     "Draw the TSNs of each association over time into FILE, whose name ends in .svg; - for standard output";
@@ -175,13 +187,30 @@ fn run_messages<R: Read + Drop, W: Write>(
     input: R,
     output: &mut W,
 ) -> Result<Counts, RunFault> {
-    let style = text::Style {
-        form: task.options.form,
-        is_absolute: task.options.is_absolute,
-        is_relative: task.is_relative,
-    };
-    let mut messages = Messages::new(alloc, style);
+    let mut messages = Messages::new(alloc, task.style());
     summarize(alloc, &task.options, input, &mut messages, output)
+}
+
+/// Prints what acknowledged the chunks of an input.
+fn run_acks<R: Read + Drop, W: Write>(
+    alloc: Global,
+    task: &Task<'_>,
+    input: R,
+    output: &mut W,
+) -> Result<Counts, RunFault> {
+    let mut acks = Acks::new(alloc, task.style());
+    summarize(alloc, &task.options, input, &mut acks, output)
+}
+
+/// Prints the data channels of an input.
+fn run_channels<R: Read + Drop, W: Write>(
+    alloc: Global,
+    task: &Task<'_>,
+    input: R,
+    output: &mut W,
+) -> Result<Counts, RunFault> {
+    let mut channels = Channels::new(alloc, task.style());
+    summarize(alloc, &task.options, input, &mut channels, output)
 }
 
 /// Draws the associations of an input.
@@ -205,6 +234,10 @@ enum View {
     Ladders,
     /// What receivers read of them.
     Messages,
+    /// What acknowledged their chunks.
+    Acks,
+    /// Their data channels.
+    Channels,
     /// Their TSNs over time.
     Pictures,
 }
@@ -218,6 +251,17 @@ struct Task<'a> {
     is_relative: bool,
     /// The file that pictures are written to.
     picture: Option<&'a str>,
+}
+
+impl<'a> Task<'a> {
+    /// How messages and acknowledgements are printed.
+    fn style(&self) -> text::Style {
+        text::Style {
+            form: self.options.form,
+            is_absolute: self.options.is_absolute,
+            is_relative: self.is_relative,
+        }
+    }
 }
 
 /// Prints the records of an input. The packets before one are kept in mind only where its line depends on them.
@@ -271,6 +315,8 @@ fn run_on<R: Read + Drop>(
         View::Summary => run_summary(rt.alloc(), &task.options, input, &mut output),
         View::Ladders => run_ladders(rt.alloc(), task, input, &mut output),
         View::Messages => run_messages(rt.alloc(), task, input, &mut output),
+        View::Acks => run_acks(rt.alloc(), task, input, &mut output),
+        View::Channels => run_channels(rt.alloc(), task, input, &mut output),
         View::Pictures => run_pictures(rt.alloc(), &task.options, input, &mut output),
     };
     match (result, output.flush()) {
@@ -389,6 +435,8 @@ fn with_forms<'a>(alloc: Global, command: Command<'a>) -> Result<Command<'a>, Al
         .arg(flag(alloc, "summary", SUMMARY_HELP))?
         .arg(flag(alloc, "flow", FLOW_HELP))?
         .arg(flag(alloc, "messages", MESSAGES_HELP))?
+        .arg(flag(alloc, "acks", ACKS_HELP))?
+        .arg(flag(alloc, "channels", CHANNELS_HELP))?
         .arg(valued(alloc, "svg", "FILE", SVG_HELP))
 }
 
@@ -455,14 +503,18 @@ fn view_in(matches: &ArgMatches<'_>) -> Option<View> {
         matches.get_flag("summary"),
         matches.get_flag("flow"),
         matches.get_flag("messages"),
+        matches.get_flag("acks"),
+        matches.get_flag("channels"),
         matches.get_str("svg").is_some(),
     );
     match flags {
-        (false, false, false, false) => Some(View::Records),
-        (true, false, false, false) => Some(View::Summary),
-        (false, true, false, false) if !is_json && !is_full => Some(View::Ladders),
-        (false, false, true, false) if !is_full => Some(View::Messages),
-        (false, false, false, true) if !is_json && !is_full => Some(View::Pictures),
+        (false, false, false, false, false, false) => Some(View::Records),
+        (true, false, false, false, false, false) => Some(View::Summary),
+        (false, true, false, false, false, false) if !is_json && !is_full => Some(View::Ladders),
+        (false, false, true, false, false, false) if !is_full => Some(View::Messages),
+        (false, false, false, true, false, false) if !is_full => Some(View::Acks),
+        (false, false, false, false, true, false) if !is_full => Some(View::Channels),
+        (false, false, false, false, false, true) if !is_json && !is_full => Some(View::Pictures),
         _ => None,
     }
 }
