@@ -18,7 +18,7 @@ use std::alloc::{AllocError, Global};
 use std::collections::BTreeMap;
 
 /// How many chunks of a way are kept: of more, those with the lowest numbers are let go.
-const MAX_OUTSTANDING: usize = 65_536;
+const MAX_OUTSTANDING: usize = 4_096;
 
 /// The types of chunks that abandon others.
 const FORWARD_TSN: u8 = 192;
