@@ -7,6 +7,7 @@ use Rattle.sctp_receiver.specs.declared.receiver.limits.Limits.{Limits}
 use Rattle.sctp_receiver.specs.ReceiverRuns as receiver_runs
 use Rattle.sctp_sender.specs.SenderRuns as sender_runs
 use Rattle.sctp_sender.proofs.Accounts as accounts
+use Rattle.sctp_sender.specs.declared.sender.Reported.TheVariants.{Drop}
 use Rattle.sctp_serial.specs.DataChunks.{has_tsn}
 use Rattle.sctp_delivery.specs.Discards.{AfterEachWithDiscards, AfterEachWithDiscardsOfFewTsns, AcknowledgedCameSo, CallOrDiscard, Discards, LeftCameSo}
 use Rattle.sctp_delivery.specs.Discards.{ReleasedCameSo, ReportWhatCameSo, RunsWithDiscards, WhileFewerTsnsWithDiscards, discards, makes, tsns_given_so}
@@ -89,7 +90,7 @@ same-count old new e same h = record {
 pub accounted : AfterEachWithDiscards IsAccounted
 accounted tsn size max most limits cs s r =
     let start = at_start tsn size max most limits in
-    let law = accounts.accounted tsn size max (sender_calls cs) s.sending (sender-runs cs start s r) in
+    let law = accounts.accounted tsn size max Drop (sender_calls cs) s.sending (sender-runs cs start s r) in
     let c = keeps IsCounted sender-counts
     (λ call a b f h. same-count a b (ap bytes_written f.after) (ap (λ (x : Session). x.sending) f.after) h)
     (λ d a b f h. same-count a b (ap bytes_written f.after) (ap (λ (x : Session). x.sending) f.after) h)

@@ -17,6 +17,7 @@ use Rattle.sctp_sender.specs.Sender.{Transmission}
 use Rattle.sctp_sender.specs.SenderRuns as sender_runs
 use Rattle.sctp_sender.specs.SenderRuns.{taken_back_by, written_by}
 use Rattle.sctp_sender.proofs.Accounts as accounts
+use Rattle.sctp_sender.specs.declared.sender.Reported.TheVariants.{Drop}
 use Rattle.sctp_serial.specs.DataChunks.{is_on}
 use Rattle.sctp_delivery.proofs.SameData.{is_same, same-data, same-itself}
 use Rattle.sctp_delivery.specs.ReceiverCalls as incoming
@@ -101,7 +102,7 @@ counted (of_receiver call ∷ cs) old new r h = counted cs r.0 new r.1.1 (record
 pub accounted : AfterEachSession IsAccounted
 accounted tsn size max most limits cs s r =
     let start = at_start tsn size max most limits in
-    let law = accounts.accounted tsn size max (sender_calls cs) s.sending (sender-runs cs start s r) in
+    let law = accounts.accounted tsn size max Drop (sender_calls cs) s.sending (sender-runs cs start s r) in
     let c = counted cs start s r (record { written = refl; back = refl }) in
     let w = c.written in
     let b = c.back in
