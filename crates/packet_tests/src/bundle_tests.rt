@@ -96,7 +96,10 @@ fn rewritten(alloc: Global, raw: &[u8], limit: usize) -> Result<PacketWriter, Er
     let (header, mut chunks) = PacketReader::open(&Bytes::copy_from_slice(alloc, raw)?, &Crc32c)?;
     let mut writer = PacketWriter::new(alloc, limit)?;
     writer.begin(header);
-    while let Some(chunk) = chunks.next(alloc)? {
+    for _ in 0..raw.len() {
+        let Some(chunk) = chunks.next(alloc)? else {
+            break;
+        };
         writer.put(&chunk)?;
     }
     writer.seal(&Crc32c);
@@ -117,7 +120,7 @@ fn vectors(rt: HostRuntime) {
         assert!(rt; is_recorded(alloc, whole(alloc, raw, &Crc32c), raw, printed));
         assert!(rt; is_recorded(alloc, finished(alloc, raw, &Crc32c), raw, printed));
         assert!(rt; rewriting(alloc, raw, raw.len()) == Ok((raw.len(), true)));
-        assert!(rt; rewriting(alloc, raw, raw.len() - 1) == Ok((12, false)));
+        assert!(rt; rewriting(alloc, raw, raw.len().saturating_sub(1)) == Ok((12, false)));
     }
 }
 
