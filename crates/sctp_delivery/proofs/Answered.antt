@@ -27,6 +27,7 @@ use Rattle.sctp_delivery.specs.Session.{Session}
 use Rattle.sctp_delivery.proofs.Continued.{lead-ends}
 use Rattle.sctp_delivery.proofs.Every.{Every, every-changed, every-of-all, every-passing}
 use Rattle.sctp_delivery.proofs.GivenTsns.{IsNumbered, taken-numbered}
+use Rattle.sctp_delivery.proofs.KeptSessions.{kept-in}
 use Rattle.sctp_delivery.proofs.PassedTsns.{lead, lead-within, point-ahead, point-is, rest-run}
 use Rattle.sctp_delivery.proofs.Reached.{IsReached, kept}
 use Rattle.sctp_delivery.proofs.SackCalls.{cumulative-of}
@@ -34,7 +35,6 @@ use Rattle.sctp_delivery.proofs.SackLaws.{IsInStep}
 use Rattle.sctp_delivery.proofs.AnsweredCalls.{next-untaken}
 use Rattle.sctp_delivery.proofs.SackSteps.{known}
 use Rattle.sctp_delivery.proofs.TsnPlaces.{at-or-before, base, before, next-place, same-place}
-use Rattle.sctp_delivery.proofs.UnwrappedSessions.{unwrapped}
 
 -- ## What a FORWARD-TSN passes
 
@@ -75,9 +75,9 @@ pub ahead-of-sacks : (first n : ℕ) (s : Session) → n < 2 ^ 31 → IsReached 
 ahead-of-sacks first n s few i h =
     let p = base first in
     let given = i.given in
-    let u = unwrapped first i.size i.max i.most i.limits i.calls s i.small i.some i.run (omega (arith, few, given)) in
-    let g = u.unwrapped.spread.step.numbered in
-    let d = (u.unwrapped.answered 0).0.arrived in
+    let u = (kept-in first i.size i.max i.most i.limits i.calls s i.small i.some i.run (omega (arith, few, given))).kept.unwrapped in
+    let g = u.spread.step.numbered in
+    let d = (u.answered 0).0.arrived in
     let total = h.numbered.total in
     let most = g.total in
     let within = h.arrived.within in

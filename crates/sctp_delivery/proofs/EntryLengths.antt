@@ -14,16 +14,52 @@ use Rattle.sctp_data.specs.declared.chunk.chunk_payload_data.ChunkPayloadData.{C
 use Rattle.sctp_data.specs.PayloadData.{Data, data_of}
 use Rattle.sctp_serial.specs.DataChunks.{bytes_of, following_tsn, has_tsn, preceding_tsn}
 use Rattle.sctp_reassembly.specs.reassembly_queue.Sizes.{back_from, bytes_down, bytes_up, on_from, size_after, size_before}
-use Rattle.sctp_delivery.proofs.EndedEntries.{entry-here, entry-more, entry-within, has_fragment, is_fragment_on}
 use Rattle.sctp_delivery.proofs.Every.{Every, every-joined}
 use Rattle.sctp_delivery.proofs.OrderedEntries.{AreJoined, Joins, begins_on, begun_on, one}
 use Rattle.sctp_delivery.proofs.Sent.{Entry, GoesOn, IsLine, IsPart, Numbered, WasSent, fragment, part-length, part-line, stands-behind, terminal}
 use Rattle.sctp_delivery.proofs.SpreadEntries.{begun_to, is_at, joined-rest, part-joined, to-all, to-more, to-most}
 use Rattle.sctp_delivery.proofs.TsnPlaces.{base}
 use Rattle.sctp_delivery.proofs.UnwrappedHolds.{IsOf, Rises}
-use Rattle.sctp_delivery.proofs.ValidStreams.{sent-at}
 
 -- ## Entries
+
+-- the entry at the place passes the test
+abbrev pub entry_at : (Entry → Bool) → ℕ → List Entry → Bool
+entry_at q k [] = false
+entry_at q k (x ∷ xs) = if length (x ∷ xs) == k then q x else entry_at q k xs
+
+-- an ordered fragment of the stream
+abbrev pub is_fragment_on : ℕ → Entry → Bool
+is_fragment_on st terminal = false
+is_fragment_on st (fragment d w after) = (d.stream_identifier == st) && not d.unordered
+
+abbrev pub has_fragment : ℕ → ℕ → List Entry → Bool
+has_fragment st k sent = entry_at (is_fragment_on st) k sent
+
+pub entry-more : (q : Entry → Bool) (k : ℕ) (x : Entry) (xs : List Entry) → k ≤ length xs → entry_at q k (x ∷ xs) ≡ entry_at q k xs
+entry-more q k x xs le =
+    let e : (length (x ∷ xs) == k) ≡ false = fails (length (x ∷ xs) == k) (λ h. let same = same-is (length (x ∷ xs)) k h in omega (arith, same, le)) in
+    ap (λ b. if b then q x else entry_at q k xs) e
+
+pub entry-here : (q : Entry → Bool) (x : Entry) (xs : List Entry) (k : ℕ) → k ≡ length (x ∷ xs) → entry_at q k (x ∷ xs) ≡ q x
+entry-here q x xs k e =
+    ap (λ m. if length (x ∷ xs) == m then q x else entry_at q k xs) e ∙ ap (λ b. if b then q x else entry_at q k xs) (same-yes (length (x ∷ xs)))
+
+pub entry-part : (q : Entry → Bool) (sent : List Entry) (y : Entry) (ys : List Entry) → IsPart (y ∷ ys) sent → entry_at q (length (y ∷ ys)) sent ≡ q y
+entry-part q [] y ys p = cc
+entry-part q (x ∷ xs) y ys (inl e) =
+    let head : y ≡ x = cc in
+    entry-here q x xs (length (y ∷ ys)) (ap length e) ∙ ap q (sym head)
+entry-part q (x ∷ xs) y ys (inr p) = entry-more q (length (y ∷ ys)) x xs (part-length xs (y ∷ ys) p) ∙ entry-part q xs y ys p
+
+pub entry-within : (q : Entry → Bool) (k : ℕ) (sent : List Entry) → entry_at q k sent ≡ true → (0 < k) × (k ≤ length sent)
+entry-within q k [] e = absurd (not_both e)
+entry-within q k (x ∷ xs) e = by (length (x ∷ xs) == k) refl e (entry-within q k xs)
+  where
+    by : (b : Bool) → (length (x ∷ xs) == k) ≡ b → (if b then q x else entry_at q k xs) ≡ true
+        → (entry_at q k xs ≡ true → (0 < k) × (k ≤ length xs)) → (0 < k) × (k ≤ length (x ∷ xs))
+    by true h f ih = let same = same-is (length (x ∷ xs)) k h in (omega (arith, same), omega (arith, same))
+    by false h f ih = let le = (ih f).1 in ((ih f).0, omega (arith, le))
 
 -- how many bytes a fragment has, and how many of its write are left behind it
 abbrev pub size_of : Entry → ℕ
@@ -154,13 +190,13 @@ module _ (st first n : ℕ) (few : n < 2 ^ 31) (ns : List Numbered) (sent : List
   abbrev Rising : ℕ → ℕ → List ChunkPayloadData → Type 0
   Rising = Rises (base first) st n (λ k. begun_to st k sent) (λ k. is_at st k sent) (λ c. WasSent sent (data_of c))
 
-  -- the bytes of a chunk and those left behind it, by its place
+  -- by its place, the bytes of a chunk, those left behind it, and that it is an ordered fragment of the stream
   at-place : (i : ℕ) (c : ChunkPayloadData) (o : Of i c) → (number_at size_of (o.before + 1) sent ≡ length c.user_data)
-      × (number_at left_of (o.before + 1) sent ≡ length o.made.1)
+      × (number_at left_of (o.before + 1) sent ≡ length o.made.1) × (has_fragment st (o.before + 1) sent ≡ true)
   at-place i c o = by o.made
     where
       by : (was : WasSent sent (data_of c)) → (number_at size_of (o.before + 1) sent ≡ length c.user_data)
-          × (number_at left_of (o.before + 1) sent ≡ length was.1)
+          × (number_at left_of (o.before + 1) sent ≡ length was.1) × (has_fragment st (o.before + 1) sent ≡ true)
       by (w, after, xs, part) =
           let most = part-length sent (fragment (data_of c) w after ∷ xs) part in
           let number = (part-line ns first sent (fragment (data_of c) w after ∷ xs) part line).0.number in
@@ -169,10 +205,8 @@ module _ (st first n : ℕ) (few : n < 2 ^ 31) (ns : List Numbered) (sent : List
           let next : length (fragment (data_of c) w after ∷ xs) ≡ o.before + 1 = omega (arith, most, number, is, within, long, few) in (
             ap (λ k. number_at size_of k sent) (sym next) ∙ number-part size_of sent (fragment (data_of c) w after) xs part,
             ap (λ k. number_at left_of k sent) (sym next) ∙ number-part left_of sent (fragment (data_of c) w after) xs part,
+            ap (λ k. has_fragment st k sent) (sym next) ∙ entry-part (is_fragment_on st) sent (fragment (data_of c) w after) xs part ∙ o.on,
           )
-
-  fragment-of : (i : ℕ) (c : ChunkPayloadData) (o : Of i c) → has_fragment st (o.before + 1) sent ≡ true
-  fragment-of i c o = (sent-at st first n few ns sent long line joined c o.before o.made o.within o.is).1 ∙ o.on
 
   -- the chunks behind one of the message are of what is left behind it
   behind-fits : (i : ℕ) (c : ChunkPayloadData) (cs : List ChunkPayloadData) (o : Of i c) → Rising i (o.before + 1) cs
@@ -187,7 +221,7 @@ module _ (st first n : ℕ) (few : n < 2 ^ 31) (ns : List Numbered) (sent : List
       let p = o.begun in
       let q = r.0.begun in
       let less = later-left ns first st (o.before + 1) (r.0.before + 1) sent joined line (omega (arith, low))
-      (fragment-of i c o) (fragment-of i d r.0) (p ∙ sym q) in
+      (at-place i c o).2 a.2 (p ∙ sym q) in
       omega (arith, ih, sum, size, less)
 
   -- so together they are no longer than the write of the first one

@@ -24,16 +24,17 @@ use Rattle.sctp_receiver.specs.Skips.{is_ahead, names_too_far, skip_refusal}
 use Rattle.sctp_receiver.specs.Ssns.{is_lowest_complete, is_name_too_far, is_named_too_far, lowest_ssn}
 use Rattle.sctp_sender.specs.Abandonment.{Name, ahead, is_named, is_pair_of, named_up_to, pairs_of}
 use Rattle.sctp_sender.specs.Flight.{Flight}
+use Rattle.sctp_delivery.specs.Abandoned.{abandoned_in}
 use Rattle.sctp_delivery.specs.Messages.{WhileFewTsns}
 use Rattle.sctp_delivery.specs.Refused.{MayMake, NoneMadeIsRefused, is_due_named, reads_nothing_on}
 use Rattle.sctp_delivery.specs.Sacks.{tsns_given}
 use Rattle.sctp_delivery.specs.Session.{Session, at_start}
+use Rattle.sctp_delivery.proofs.KeptOrGone.{HeldWell, IsLate}
+use Rattle.sctp_delivery.proofs.KeptSessions.{HasKept, kept-in}
 use Rattle.sctp_delivery.proofs.NotRefused.{begun-low}
 use Rattle.sctp_delivery.proofs.PassedTsns.{IsPassable, passable-end, passable-skip}
 use Rattle.sctp_delivery.proofs.SackSteps.{known}
 use Rattle.sctp_delivery.proofs.Sent.{Entry, WasSent}
-use Rattle.sctp_delivery.proofs.ValidSessions.{HasValid, valid-session}
-use Rattle.sctp_delivery.proofs.ValidStreams.{ValidIn, index_in}
 use Rattle.sctp_delivery.proofs.SpreadCalls.{IsSpread}
 use Rattle.sctp_delivery.proofs.SpreadEntries.{begun_to, is_at, to-all}
 use Rattle.sctp_delivery.proofs.SpreadFlight.{AreOn, AreSteps, IsNaming, are-on, are-steps, named}
@@ -109,8 +110,8 @@ not-far k (inr ge) c =
 
 -- ## A FORWARD-TSN that may be made
 
-module _ (first n : ℕ) (few : n < 2 ^ 31) (s : Session) (h : HasValid first n s) (f : ForwardTsn) (may : MayMake f s.sending.sender)
-    (due : is_due_named f s.receiving.receiver ≡ true) where
+module _ (first n : ℕ) (few : n < 2 ^ 31) (gone : List ℕ) (s : Session) (h : HasKept first n gone s) (f : ForwardTsn)
+    (may : MayMake f s.sending.sender) (due : is_due_named f s.receiving.receiver ≡ true) where
   abbrev p : ℕ
   p = base first
 
@@ -127,7 +128,7 @@ module _ (first n : ℕ) (few : n < 2 ^ 31) (s : Session) (h : HasValid first n 
   flight = s.sending.sender.flight
 
   abbrev spread : IsSpread first n s h.numbered h.sent
-  spread = h.valid.unwrapped.spread
+  spread = h.kept.unwrapped.spread
 
   abbrev a : ℕ
   a = spread.step.numbered.acked
@@ -175,13 +176,16 @@ module _ (first n : ℕ) (few : n < 2 ^ 31) (s : Session) (h : HasValid first n 
     M c = WasSent sent (data_of c)
 
     abbrev d : AreDue p st n B E M a s.receiving
-    d = (h.valid.unwrapped.answered st).0
+    d = (h.kept.unwrapped.answered st).0
 
     abbrev Prior : ℕ → Type 0
     Prior = Came p st n B E M r.cumulative_tsn r.beyond
 
+    abbrev Late : ℕ → Type 0
+    Late = IsLate first sent st r.cumulative_tsn r.beyond
+
     abbrev Both : Option InboundStream → Type 0
-    Both o = (e : DueOn p st n B E M Prior d.k d.reach o) × ValidIn st first n sent r (index_in p st n B E M Prior d.k d.reach o e) o
+    Both o = DueOn p st n B E M Prior d.k d.reach o × HeldWell first sent st n a Late o
 
     own : In x (filter (is_pair_of st) f.streams)
     own = in-those (is_pair_of st) x f.streams (same-yes st) in'
@@ -218,10 +222,10 @@ module _ (first n : ℕ) (few : n < 2 ^ 31) (s : Session) (h : HasValid first n 
 
     near-name : (l : InboundStream) → stream_of st r ≡ Some l → message_read l.queue.held ≡ None → is_name_too_far x.sequence l.queue.held ≡ false
     near-name l there none =
-        let b : Both (Some l) = subst Both there (d.due, h.valid.valid st) in
+        let b : Both (Some l) = subst Both there (d.due, (h.kept.kept st).holds) in
         let e = b.0 in
         let up = sessions.grows st first n s h.numbered sent spread few in
-        let low = begun-low st first n few s h.numbered sent spread d l.queue.held e b.1 none in
+        let low = begun-low st first n few s h.numbered sent spread d l.queue.held e Late b.1.current none in
         let near = sessions.near st first n s h.numbered sent spread few in
         let least = up a d.arrived.place d.arrived.least_is in
         let v = passable.given.within in
@@ -229,7 +233,7 @@ module _ (first n : ℕ) (few : n < 2 ^ 31) (s : Session) (h : HasValid first n 
         let k = number-is.1 in
         let z = fragment-there in
         let zm = z.4 in
-        let tight = h.valid.tight st z.0 z.1 z.3 in
+        let tight = h.kept.tight st z.0 z.1 z.3 in
         let long = spread.long in
         let all = to-all st n sent (omega (arith, long)) in
         let from = e.from in
@@ -278,4 +282,5 @@ module _ (first n : ℕ) (few : n < 2 ^ 31) (s : Session) (h : HasValid first n 
 
 pub none-made : WhileFewTsns NoneMadeIsRefused
 none-made tsn size max most limits cs s small some run few f may due =
-    made-taken tsn (tsns_given (at_start tsn size max most limits) cs s run) few s (valid-session tsn size max most limits cs s small some run few) f may due
+    made-taken tsn (tsns_given (at_start tsn size max most limits) cs s run) few (abandoned_in (at_start tsn size max most limits) cs s run) s
+    (kept-in tsn size max most limits cs s small some run few) f may due

@@ -244,8 +244,6 @@ kept-on (incoming.opens stream) old new st r made apart f k =
     quiet st old.receiving new.receiving f.step.accepted f.step.read
     (subst (λ (x : Reception). IsMore (λ w. 0) (stream_of st old.receiving.receiver) (stream_of st x)) (sym f.step.receiver.1)
     (opened st stream old.receiving.receiver.max_message_size old.receiving.receiver.streams k.turn)) k
-kept-on (incoming.takes c Repeat) old new st r made apart f k = still st old.receiving new.receiving f.step.accepted f.step.read
-    (ap (λ (x : Reception). x.streams) f.step.receiver) k
 kept-on (incoming.takes c (New answered)) old new st r made apart f k =
     let x = old.receiving.receiver in
     let short : IsShort c = every-contained IsShortMade old.made (data_chunk (data_of c)) f.handed made in
@@ -266,14 +264,6 @@ kept-on (incoming.takes c (New answered)) old new st r made apart f k =
       turn = m.turn;
     }
 kept-on (incoming.follows g) old new st r made apart f k = absurd (not_both r)
-kept-on (incoming.reports credit) old new st r made apart f k = still st old.receiving new.receiving f.step.accepted f.step.read
-    (ap (λ (x : Reception). x.streams) f.step.receiver) k
-kept-on (incoming.reports_within credit bytes) old new st r made apart f k = still st old.receiving new.receiving f.step.accepted f.step.read
-    (ap (λ (x : Reception). x.streams) f.step.receiver) k
-kept-on (incoming.makes_sack credit bytes) old new st r made apart f k = still st old.receiving new.receiving f.step.accepted f.step.read
-    (ap (λ (x : Reception). x.streams) f.step.receiver) k
-kept-on incoming.forgets old new st r made apart f k = still st old.receiving new.receiving f.step.accepted f.step.read
-    (ap (λ (x : Reception). x.streams) f.step.receiver) k
 kept-on (incoming.reads stream) old new st r made apart f k =
     let x = old.receiving.receiver in
     let l = read-less stream st x k.turn in
@@ -288,6 +278,8 @@ kept-on (incoming.reads stream) old new st r made apart f k =
           omega (arith, h, n, now, m, e, a);
       turn = subst (λ (y : Reception). InTurn (stream_of st y)) (sym f.step.receiver) l.turn;
     }
+kept-on call old new st r made apart f k = still st old.receiving new.receiving f.step.accepted f.step.read
+    (ap (λ (x : Reception). x.streams) f.step.receiver) k
 
 -- ## Every session
 

@@ -17,7 +17,7 @@ use Rattle.sctp_data.specs.declared.chunk.chunk_payload_data.ChunkPayloadData.{C
 use Rattle.sctp_data.specs.ChunkSet.{ChunkSet}
 use Rattle.sctp_data.specs.PayloadData.{data_of}
 use Rattle.sctp_reassembly.specs.reassembly_queue.ReassemblyQueue.{ReassemblyState}
-use Rattle.sctp_receiver.specs.declared.receiver.arrival.Arrival.TheVariants.{New, Repeat}
+use Rattle.sctp_receiver.specs.declared.receiver.arrival.Arrival.TheVariants.{New}
 use Rattle.sctp_receiver.specs.declared.receiver.inbound_streams.InboundStream.{InboundStream}
 use Rattle.sctp_receiver.specs.Inbound.{has_number, new_stream, number, stream_read, with_queue}
 use Rattle.sctp_receiver.specs.Receiver.{Accepts, Reception, after_read, message_of, message_on, stream_of}
@@ -263,7 +263,7 @@ module _ (first n : ℕ) (few : n < 2 ^ 31) (old new : Session) (ns : List Numbe
 
   -- ## What is held came
 
-  held-came : (t : ℕ) → Keeps old.receiving → 0 < held_weight (one t) (stream_of st r) → come t r.cumulative_tsn r.beyond ≡ true
+  pub held-came : (t : ℕ) → Keeps old.receiving → 0 < held_weight (one t) (stream_of st r) → come t r.cumulative_tsn r.beyond ≡ true
   held-came t k lt = by (list_any (has_tsn t) old.receiving.accepted) refl
     where
       by : (b : Bool) → list_any (has_tsn t) old.receiving.accepted ≡ b → come t r.cumulative_tsn r.beyond ≡ true
@@ -516,16 +516,7 @@ module _ (first n : ℕ) (few : n < 2 ^ 31) (old new : Session) (ns : List Numbe
 
   pub keeps-other : (call : ReceiverCall) → IsOther call → ReceiverFollows call old new → Answered new → Keeps old.receiving → Keeps new.receiving
   keeps-other (incoming.opens stream) o f after k = opened stream f k
-  keeps-other (incoming.takes c Repeat) o f after k =
-      still (incoming.takes c Repeat) f f.step.accepted f.step.read (ap (λ (x : Reception). x.streams) f.step.receiver) k
   keeps-other (incoming.takes c (New said)) o f after k = taken c said f k after
   keeps-other (incoming.follows g) o f after k = absurd o
-  keeps-other (incoming.reports credit) o f after k =
-      still (incoming.reports credit) f f.step.accepted f.step.read (ap (λ (x : Reception). x.streams) f.step.receiver) k
-  keeps-other (incoming.reports_within credit bytes) o f after k =
-      still (incoming.reports_within credit bytes) f f.step.accepted f.step.read (ap (λ (x : Reception). x.streams) f.step.receiver) k
-  keeps-other (incoming.makes_sack credit bytes) o f after k =
-      still (incoming.makes_sack credit bytes) f f.step.accepted f.step.read (ap (λ (x : Reception). x.streams) f.step.receiver) k
-  keeps-other incoming.forgets o f after k =
-      still incoming.forgets f f.step.accepted f.step.read (ap (λ (x : Reception). x.streams) f.step.receiver) k
   keeps-other (incoming.reads stream) o f after k = reads stream f k
+  keeps-other call o f after k = still call f f.step.accepted f.step.read (ap (λ (x : Reception). x.streams) f.step.receiver) k

@@ -2,6 +2,7 @@
 use Rattle.std.proofs.Common.{◌≡◌, ℕ, ◌+◌, ◌^◌, ◌<◌, List, [], ◌∷◌, ◌++◌, Option, refl, ap, sym, subst, ◌∙◌, append_assoc, arith}
 use Rattle.std.proofs.lemmas.List.{append-nil}
 use Rattle.sctp_util.specs.Serial.{distance}
+use Rattle.sctp_util.proofs.More.{not_both}
 use Rattle.sctp_receiver.specs.declared.receiver.limits.Limits.{Limits}
 use Rattle.sctp_delivery.specs.Abandoned.{abandoned_by, abandoned_in}
 use Rattle.sctp_delivery.specs.ReceiverCalls as incoming
@@ -26,6 +27,8 @@ use Rattle.sctp_delivery.proofs.SpreadEntries.{begun_to, is_at}
 use Rattle.sctp_data.specs.PayloadData.{data_of}
 use Rattle.sctp_delivery.proofs.Sessions as made_in
 use Rattle.sctp_delivery.proofs.SpreadCalls.{sender-spreads}
+use Rattle.sctp_delivery.proofs.SpreadFlight.{are-on, are-steps}
+use Rattle.sctp_delivery.proofs.TightFlight.{IsTight, tight-after, tight-later}
 use Rattle.sctp_delivery.proofs.TsnPlaces.{base, same-place}
 use Rattle.sctp_delivery.proofs.UnwrappedHolds as holds
 use Rattle.sctp_delivery.proofs.UnwrappedSessions as sessions
@@ -37,11 +40,13 @@ pub runs-on : (cs : List Call) (old mid new : Session) (call : Call) → RunsTo 
 runs-on [] old mid new call r f = (new, (subst (λ s. Follows call s new) r f, refl))
 runs-on (c ∷ cs) old mid new call r f = (r.0, (r.1.0, runs-on cs r.0 mid new call r.1.1 f))
 
--- what is so of a session in which the messages with these numbers were abandoned
+-- what is so of a session in which the messages with these numbers were abandoned. Of each stream few messages are begun past one that has an
+-- ordered chunk in flight
 pub record IsKeptIn (first n : ℕ) (gone : List ℕ) (s : Session) (ns : List Numbered) (sent : List Entry) : Type 0 where
   pub unwrapped : IsUnwrapped first n s ns sent
   pub passed : IsPassed first gone s ns sent
   pub kept : (st : ℕ) → IsKeptBut first sent st n unwrapped.spread.step.numbered.acked gone s.made s.receiving
+  pub tight : (st : ℕ) → IsTight st unwrapped.spread.step.numbered.acked sent
 
 module _ (first size max most : ℕ) (limits : Option Limits) (n : ℕ) (few : n < 2 ^ 31) (gone : List ℕ) (cs : List Call) (call : ReceiverCall)
     (old new : Session) (run : RunsTo (at_start first size max most limits) cs old) (f : ReceiverFollows call old new) (ns : List Numbered)
@@ -71,13 +76,7 @@ module _ (first size max most : ℕ) (limits : Option Limits) (n : ℕ) (few : n
       keeps-followed first n few old new ns sent k.unwrapped gone k.passed.cut (made_in.all-made cs (at_start first size max most limits) old run refl)
       (complete-messages first size max most limits cs old run sent k.unwrapped.spread.holds.made) g f'
       (every-contained (IsMadePassing (base first) gone old sent) old.made (forward_tsn g) f'.handed k.passed.passing) st (k.kept st)
-  kept-on st (incoming.opens stream) f' = other st (incoming.opens stream) tt f'
-  kept-on st (incoming.takes c arrival) f' = other st (incoming.takes c arrival) tt f'
-  kept-on st (incoming.reports credit) f' = other st (incoming.reports credit) tt f'
-  kept-on st (incoming.reports_within credit bytes) f' = other st (incoming.reports_within credit bytes) tt f'
-  kept-on st (incoming.makes_sack credit bytes) f' = other st (incoming.makes_sack credit bytes) tt f'
-  kept-on st incoming.forgets f' = other st incoming.forgets tt f'
-  kept-on st (incoming.reads stream) f' = other st (incoming.reads stream) tt f'
+  kept-on st c f' = other st c tt f'
 
   pub receiver-kept : IsKeptIn first n gone new ns sent
   receiver-kept = record {
@@ -86,6 +85,7 @@ module _ (first size max most : ℕ) (limits : Option Limits) (n : ℕ) (few : n
     kept = λ st.
         subst (λ ms. IsKeptBut first sent st n j.spread.step.numbered.acked gone ms new.receiving) (sym (ap (λ (s : Session). s.made) f.after))
         (subst (λ a. IsKeptBut first sent st n a gone old.made new.receiving) same (kept-on st call f));
+    tight = λ st. subst (λ a. IsTight st a sent) same (k.tight st);
   }
 
 sender-kept : (first n : ℕ) (gone : List ℕ) (call : SenderCall) (old new : Session) (ns : List Numbered) (sent : List Entry)
@@ -97,7 +97,10 @@ sender-kept first n gone call old new ns sent few f k =
     let small : n < 2 ^ 31 = omega (arith, few) in
     let m = n + distance (next_tsn old) (next_tsn new) in
     let x = sender-spreads first n call old new ns sent i.spread few f in
-    let answered = λ (st : ℕ). sender-answered st first n call old new ns sent i.spread few f x (i.answered st) in (
+    let answered = λ (st : ℕ). sender-answered st first n call old new ns sent i.spread few f x (i.answered st) in
+    let h = i.spread.step.numbered in
+    let known = i.spread.holds.held.stands.known in
+    let cs = old.sending.sender.flight.queue.inflight.chunks in (
       x.more,
       record {
         unwrapped = record { spread = x.spread; answered = answered };
@@ -118,6 +121,10 @@ sender-kept first n gone call old new ns sent few f k =
             (calls.unarrived first n small old old ns sent i gone st) gone (gone ++ abandoned_by call old.sending.sender) old.made
             (made_after call old.sending.sender old.made) (gone-left gone (abandoned_by call old.sending.sender))
             (λ t. made_in.more-made (passes t) call old.sending.sender old.made) (sessions.near st first n old ns sent i.spread small) (k.kept st));
+        tight = λ st. tight-later st h.acked x.spread.step.numbered.acked x.more x.rises
+            (tight-after st h.acked n sent x.more old.sending.sender call x.grown f.accepted x.spread.holds.held.stands.queued.indexed i.spread.long h.total
+            (are-steps first n sent i.spread.long small st h.acked cs h.total h.run known)
+            (are-on first n sent i.spread.long small st h.acked cs h.total h.run known) (k.tight st));
       },
     )
 
@@ -165,4 +172,5 @@ module _ (first size max most : ℕ) (limits : Option Limits) where
         unwrapped = start;
         passed = passed-first first size max most limits;
         kept = λ st. record { lost = []; of-gone = tt; weighs = λ w. refl; holds = tt };
+        tight = λ st z lt at. absurd (not_both at);
       }))

@@ -99,13 +99,7 @@ pub mod Reached
 pub mod Answered
 pub mod RoundsEnd
 pub mod SentAgain
-pub mod EndedEntries
-pub mod PassedEnds
-pub mod ValidStreams
-pub mod ValidCalls
-pub mod ValidSkips
 pub mod TightFlight
-pub mod ValidSessions
 pub mod NotRefused
 pub mod EntryLengths
 pub mod MessageSizes

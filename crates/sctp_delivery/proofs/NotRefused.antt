@@ -1,16 +1,16 @@
 -- A chunk in flight is not refused where nothing is to be read on its stream.
 use Rattle.std.proofs.Common.{◌≡◌, ℕ, ◌+◌, ◌%◌, ◌^◌, ◌<◌, ◌≤◌, Bool, true, false, not, List, [], ◌∷◌, length, Some, None, inl, inr, refl, ap, sym, subst, ◌∙◌}
 use Rattle.std.proofs.Common.{arith}
-use Rattle.std.specs.Prelude.{◌⊎◌, ◌==◌, ◌&&◌, ◌||◌, if◌then◌else◌, nat_le, nat_lt}
+use Rattle.std.specs.Prelude.{◌⊎◌, ◌==◌, ◌&&◌, ◌||◌, if◌then◌else◌, nat_le}
 use Rattle.std.specs.List.{list_any}
 use Rattle.std.proofs.lemmas.Bool.{cases_lt}
 use Rattle.std.proofs.lemmas.Bool.Decides.{nat_tests}
 use Rattle.std.proofs.lemmas.Option.{none-some}
-use Rattle.sctp_util.specs.Serial.{at_or_before, at_or_before16, comes_before16, distance16}
+use Rattle.sctp_util.specs.Serial.{at_or_before, at_or_before16, distance16}
 use Rattle.sctp_util.proofs.Cases.{or-left, or-split}
 use Rattle.sctp_util.proofs.More.{and, both, not_both}
 use Rattle.sctp_util.proofs.Round.{tsn}
-use Rattle.sctp_util.proofs.Wraps.{at_or_before16-index, comes_before16-index}
+use Rattle.sctp_util.proofs.Wraps.{at_or_before16-index}
 use Rattle.sctp_data.specs.declared.chunk.chunk_payload_data.ChunkPayloadData.{ChunkPayloadData}
 use Rattle.sctp_data.specs.ChunkSet.{ChunkSet}
 use Rattle.sctp_data.specs.PayloadData.{data_of}
@@ -21,10 +21,11 @@ use Rattle.sctp_reassembly.specs.reassembly_queue.Skips.{misses, misses_behind}
 use Rattle.sctp_receiver.specs.Receiver.{Reception}
 use Rattle.sctp_receiver.specs.Ssns.{lowest_among}
 use Rattle.sctp_delivery.specs.Session.{Session}
+use Rattle.sctp_delivery.proofs.CurrentSets.{IsCurrent, IsSome, IsWholeAt, due-index, whole-below}
 use Rattle.sctp_delivery.proofs.Every.{Every}
+use Rattle.sctp_delivery.proofs.KeptOrGone as kept
 use Rattle.sctp_delivery.proofs.OrderedEntries.{begins_on, begun_on, one}
 use Rattle.sctp_delivery.proofs.Sent.{Entry, Numbered, WasSent, fragment, terminal}
-use Rattle.sctp_delivery.proofs.ValidStreams.{IsValidHeld, IsValidSet}
 use Rattle.sctp_delivery.proofs.SpreadCalls.{IsSpread}
 use Rattle.sctp_delivery.proofs.SpreadEntries.{at-here, at-more, begun_to, is_at, to-all, to-more}
 use Rattle.sctp_delivery.proofs.TakenTsns.{come}
@@ -168,13 +169,25 @@ module _ (st first n : ℕ) (few : n < 2 ^ 31) (s : Session) (ns : List Numbered
     abbrev Prior : ℕ → Type 0
     Prior = Came p st n B E M r.cumulative_tsn r.beyond
 
-    module _ (held : Reassembly) (due : IsDue p n B (Fits p st n B E M) Prior d.k d.reach held) (valid : IsValidHeld st first n sent r due.index held)
-        (none : message_read held ≡ None) where
+    module _ (held : Reassembly) (due : IsDue p n B (Fits p st n B E M) Prior d.k d.reach held) (L : ℕ → Type 0)
+        (c : IsCurrent p n B (B i.step.numbered.acked) (B n) L held) (none : message_read held ≡ None) where
       abbrev Sets : ℕ → List ChunkSet → Type 0
       Sets low ss = AreSets p n B (Fits p st n B E M) Prior low d.reach ss
 
       abbrev has : ℕ → ChunkSet → Bool
       has z x = has_place p n B (Fits p st n B E M) Prior z x
+
+      place-in : (j : ℕ) (cs : List ChunkPayloadData) → Fits p st n B E M j cs → 0 < length cs
+          → (y : ℕ) × (y ≤ n) × (list_any (has_tsn (tsn p y)) cs ≡ true)
+      place-in = kept.place-in ns first sent i.holds.held.stands.queued.line i.holds.held.stands.queued.joined n i.long few st
+
+      pub same-index : c.index ≡ due.index
+      same-index =
+          let near = sessions.near st first n s ns sent i few in
+          let covered = d.arrived.covered in
+          let least = up i.step.numbered.acked d.arrived.place d.arrived.least_is in
+          due-index p n B (Fits p st n B E M) Prior (at-in p st n B E M few up) place-in (B i.step.numbered.acked) (B n) L held c d.k d.reach due near
+          (omega (arith, covered, least)) d.most
 
       pub front-none : front_readable held.next_ssn held.ordered ≡ None
       front-none = by held.unordered none
@@ -219,11 +232,8 @@ module _ (st first n : ℕ) (few : n < 2 ^ 31) (s : Session) (ns : List Numbered
                   let same : a.0 ≡ due.low = omega (arith, number, from, top, far) in
                   elim (cases_lt due.low due.index) [
                     | inl lt ↦
-                        let order : comes_before16 x.ssn held.next_ssn ≡ nat_lt a.0 due.index = ap (λ k. comes_before16 k held.next_ssn) a.1.0.2
-                        ∙ ap (comes_before16 (a.0 % 2 ^ 16)) due.next ∙ comes_before16-index a.0 due.index (omega (arith, same, lt))
-                        (omega (arith, same, near')) in
-                        let before : nat_lt a.0 due.index ≡ true = grind (arith, nat_tests, same, lt) in
-                        let whole = (subst (Every (IsValidSet p n r held.next_ssn)) is valid.sets).0.whole (order ∙ before) in
+                        let whole = whole-below p n B (Fits p st n B E M) Prior (at-in p st n B E M few up) place-in c.index a.0 x a.1.1
+                        (subst (Every IsSome) is c.some).0 (subst (Every (IsWholeAt p n B c.index)) is c.whole).0 (omega (arith, same, lt, same-index)) in
                         absurd (not-readable x xs is whole f)
                     | inr ge ↦ let le = due.from in omega (arith, ge, le)
                   ]

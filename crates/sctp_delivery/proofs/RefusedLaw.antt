@@ -9,7 +9,7 @@ use Rattle.std.proofs.lemmas.Bool.Decides.{nat_tests}
 use Rattle.std.proofs.lemmas.Option.{none-some}
 use Rattle.sctp_util.specs.Serial.{distance16}
 use Rattle.sctp_util.proofs.Cases.{or-left, or-split, same-is, same-yes, and-none, or-right, some-same}
-use Rattle.sctp_util.proofs.More.{and, not_both, both, fails}
+use Rattle.sctp_util.proofs.More.{and, not_both, both}
 use Rattle.sctp_util.proofs.Round.{tsn}
 use Rattle.sctp_data.specs.declared.chunk.chunk_payload_data.ChunkPayloadData.{ChunkPayloadData}
 use Rattle.sctp_data.specs.ChunkSet.{ChunkSet}
@@ -28,30 +28,39 @@ use Rattle.sctp_receiver.specs.Ssns.{is_ssn_too_far, is_too_far_on, lowest_ssn}
 use Rattle.sctp_receiver.specs.TsnFilter.{has_come, is_opposite}
 use Rattle.sctp_sender.specs.Flight.{reports}
 use Rattle.sctp_sender.specs.Numbers.{is_ordered_on}
+use Rattle.sctp_receiver.proofs.Handed.{held_weight}
+use Rattle.sctp_delivery.specs.Abandoned.{abandoned_in}
 use Rattle.sctp_delivery.specs.ReceiverCalls as incoming
 use Rattle.sctp_delivery.specs.ReceiverCalls.{ReceiverCall}
 use Rattle.sctp_delivery.specs.Refused.{AfterEachUnlimitedSession, IsInFlight, NoneInFlightIsRefused, is_due_on, is_takable, IsCopy, NoneIsRefusedWhereRead}
 use Rattle.sctp_delivery.specs.Sacks.{is_reported, tsns_given, was_taken}
 use Rattle.sctp_delivery.specs.Session.{Call, ReceiverFollows, RunsTo, Session, at_start, of_receiver, of_sender}
 use Rattle.sctp_delivery.proofs.Delivered.{found-sent}
-use Rattle.sctp_delivery.proofs.EndedEntries.{has_fragment}
 use Rattle.sctp_delivery.proofs.EntryLengths.{unassembled-fits, set-fits, part-fits}
 use Rattle.sctp_delivery.proofs.Every.{Every, every-contained, every-of-all, one-of, every-found}
+use Rattle.sctp_delivery.proofs.CurrentSets.{IsCurrent}
+use Rattle.sctp_delivery.proofs.EachRead.{complete-messages}
 use Rattle.sctp_delivery.proofs.InFlight.{AreKnown, IsKnown}
+use Rattle.sctp_delivery.proofs.Kept.{sets-fresh}
+use Rattle.sctp_delivery.proofs.KeptCalls as calls
+use Rattle.sctp_delivery.proofs.KeptOrGone.{HeldWell, IsLate}
+use Rattle.sctp_delivery.proofs.KeptSessions.{HasKept, kept-in}
+use Rattle.sctp_delivery.proofs.MessageSets.{entry-at}
 use Rattle.sctp_delivery.proofs.MessageSizes.{fit-session, AreWithin}
-use Rattle.sctp_delivery.proofs.NotRefused.{begun-low, near-distance}
+use Rattle.sctp_delivery.proofs.NotRefused.{begun-low, near-distance, same-index}
 use Rattle.sctp_delivery.proofs.PassedTsns.{flight-given}
+use Rattle.sctp_delivery.proofs.ReadOnce.{one}
 use Rattle.sctp_delivery.proofs.SackLaws as sacks
 use Rattle.sctp_delivery.proofs.SackSteps.{known}
 use Rattle.sctp_delivery.proofs.Sent.{Entry, WasSent, fragment, part-line}
-use Rattle.sctp_delivery.proofs.ValidSessions.{HasValid, valid-session}
-use Rattle.sctp_delivery.proofs.ValidStreams.{IsValidHeld, ValidIn, all-came, index_in, sent-at, IsValidSet}
+use Rattle.sctp_delivery.proofs.Sessions as made_in
 use Rattle.sctp_delivery.proofs.SpreadCalls.{IsSpread}
 use Rattle.sctp_delivery.proofs.SpreadEntries.{begun_to, is_at, made-entry}
 use Rattle.sctp_delivery.proofs.TakenCalls.{HasCome}
 use Rattle.sctp_delivery.proofs.TakenTsns.{come}
 use Rattle.sctp_delivery.proofs.AnsweredCalls as answered
 use Rattle.sctp_delivery.proofs.TsnPlaces.{IsGiven, base}
+use Rattle.sctp_delivery.proofs.UnassembledGone.{was-unassembled}
 use Rattle.sctp_delivery.proofs.UnwrappedHolds.{AreDue, Came, DueOn, IsOf, rises-put, Fits}
 use Rattle.sctp_delivery.proofs.UnwrappedSessions as sessions
 use Rattle.sctp_util.proofs.Edits.{sum_by-inserted}
@@ -92,7 +101,9 @@ known-each : (first : ℕ) (sent : List Entry) (cs : List ChunkPayloadData) → 
 known-each first sent [] k = tt
 known-each first sent (c ∷ cs) k = (k.0, known-each first sent cs k.1)
 
-module _ (first n : ℕ) (few : n < 2 ^ 31) (s : Session) (h : HasValid first n s)
+module _ (first n : ℕ) (few : n < 2 ^ 31) (gone : List ℕ) (s : Session) (h : HasKept first n gone s)
+    (was-open : (st : ℕ) (l : InboundStream) → stream_of st s.receiving.receiver ≡ Some l
+    → Every (λ c. WasSent h.sent (data_of c)) l.queue.held.unassembled)
     (within : AreWithin s.sending.sender.max_message_size s.written)
     (sized : Every (λ (l : InboundStream). l.queue.max_message_size ≡ s.receiving.receiver.max_message_size) s.receiving.receiver.streams)
     (enough : s.sending.sender.max_message_size ≤ s.receiving.receiver.max_message_size) where
@@ -106,7 +117,7 @@ module _ (first n : ℕ) (few : n < 2 ^ 31) (s : Session) (h : HasValid first n 
   sent = h.sent
 
   abbrev spread : IsSpread first n s h.numbered h.sent
-  spread = h.valid.unwrapped.spread
+  spread = h.kept.unwrapped.spread
 
   abbrev chunks : List ChunkPayloadData
   chunks = s.sending.sender.flight.queue.inflight.chunks
@@ -159,16 +170,30 @@ module _ (first n : ℕ) (few : n < 2 ^ 31) (s : Session) (h : HasValid first n 
     M c = WasSent sent (data_of c)
 
     abbrev d : AreDue p st n B E M spread.step.numbered.acked s.receiving
-    d = (h.valid.unwrapped.answered st).0
+    d = (h.kept.unwrapped.answered st).0
 
     abbrev Prior : ℕ → Type 0
     Prior = Came p st n B E M r.cumulative_tsn r.beyond
 
+    abbrev a : ℕ
+    a = spread.step.numbered.acked
+
+    abbrev Late : ℕ → Type 0
+    Late = IsLate first sent st r.cumulative_tsn r.beyond
+
     abbrev Both : Option InboundStream → Type 0
-    Both o = (due : DueOn p st n B E M Prior d.k d.reach o) × ValidIn st first n sent r (index_in p st n B E M Prior d.k d.reach o due) o
+    Both o = DueOn p st n B E M Prior d.k d.reach o × HeldWell first sent st n a Late o
+
+    -- no set of the stream has it
+    absent : (l : InboundStream) → stream_of st r ≡ Some l → Every (λ (y : ChunkSet). list_any (has_tsn x.tsn) y.chunks ≡ false) l.queue.held.ordered
+    absent l there = sets-fresh x.tsn l.queue.held.ordered (elim (cases_lt 0 (held_weight (one x.tsn) (stream_of st r))) [
+      | inl lt ↦ absurd (not_both (sym fresh ∙ calls.held-came first n few s s h.numbered sent h.kept.unwrapped gone st x.tsn (h.kept.kept st) lt))
+      | inr ge ↦ let is = ap (held_weight (one x.tsn)) there in omega (arith, ge, is)
+    ])
 
     module _ (ordered : x.unordered ≡ false) (held : Reassembly) (due : IsDue p n B (Fits p st n B E M) Prior d.k d.reach held)
-        (valid : IsValidHeld st first n sent r due.index held) (none : message_read held ≡ None) where
+        (c : IsCurrent p n B (B a) (B n) Late held) (free : Every (λ (y : ChunkSet). list_any (has_tsn x.tsn) y.chunks ≡ false) held.ordered)
+        (none : message_read held ≡ None) where
       -- the index of its message, from the lowest one on
       record IsWindowed : Type 0 where
         index : ℕ
@@ -177,13 +202,6 @@ module _ (first n : ℕ) (few : n < 2 ^ 31) (s : Session) (h : HasValid first n 
         from : due.low ≤ index
         upto : index < due.low + 2 ^ 15
 
-      late : (y : ℕ) → has_fragment st y sent ≡ true → x.tsn ≡ tsn p y → due.index < B y
-      late y at is = elim (cases_lt due.index (B y)) [
-        | inl lt ↦ lt
-        | inr ge ↦ absurd (not_both (sym fresh ∙ ap (λ t. come t r.cumulative_tsn r.beyond) is
-            ∙ all-came st first n sent r due.index held spread.holds.held.stands.queued.joined valid y at ge))
-      ]
-
       windowed : IsWindowed
       windowed =
           let queued = spread.holds.held.stands.queued in
@@ -191,11 +209,13 @@ module _ (first n : ℕ) (few : n < 2 ^ 31) (s : Session) (h : HasValid first n 
           let entry = made-entry h.numbered first sent queued.line queued.indexed queued.joined st x was in
           let long = spread.long in
           let within = entry.within in
-          let at = sent-at st first n few h.numbered sent spread.long queued.line queued.joined x entry.before was (omega (arith, within, long)) entry.is in
+          let at = entry-at h.numbered first sent queued.line queued.joined n long few x was (entry.before + 1) (omega (arith, within, long)) entry.is in
           let number = entry.step.number on in
           let index = number.1 in
-          let past = late (entry.before + 1) (at.1 ∙ on) entry.is in
-          let low = begun-low st first n few s h.numbered sent spread d held due valid none in
+          let past = c.late (entry.before + 1) (omega (arith, within, long))
+          (inl (data_of x, at.0, at.1, on), ap (λ t. come t r.cumulative_tsn r.beyond) (sym entry.is) ∙ fresh) in
+          let same = same-index st first n few s h.numbered sent spread d held due Late c none in
+          let low = begun-low st first n few s h.numbered sent spread d held due Late c none in
           let near = sessions.near st first n s h.numbered sent spread few in
           let least = sessions.grows st first n s h.numbered sent spread few spread.step.numbered.acked d.arrived.place d.arrived.least_is in
           let top = sessions.grows st first n s h.numbered sent spread few (entry.before + 1) n (omega (arith, within, long)) in
@@ -212,7 +232,7 @@ module _ (first n : ℕ) (few : n < 2 ^ 31) (s : Session) (h : HasValid first n 
               inner = λ e. sym (entry.inner e) ∙ sym index;
             };
             number = number.2;
-            from = omega (arith, past, index, from);
+            from = omega (arith, past, index, from, same);
             upto = omega (arith, index, top, near, least, low);
           }
 
@@ -228,13 +248,9 @@ module _ (first n : ℕ) (few : n < 2 ^ 31) (s : Session) (h : HasValid first n 
           close k lt = grind (arith, nat_tests, lt)
 
       -- with it its set is no longer than the write
-      absent : (y : ChunkSet) → IsValidSet p n r held.next_ssn y → list_any (has_tsn x.tsn) y.chunks ≡ false
-      absent y v = fails (list_any (has_tsn x.tsn) y.chunks) (λ e.
-          let one = one-of (HasCome p n r) (has_tsn x.tsn) y.chunks e v.came in
-          not_both (sym fresh ∙ ap (λ u. come u r.cumulative_tsn r.beyond) (sym (same-is one.0.tsn x.tsn one.1)) ∙ one.2.1))
-
       set-with : (low : ℕ) (ss : List ChunkSet) → due.low ≤ low → AreSets p n B (Fits p st n B E M) Prior low d.reach ss
-          → Every (IsValidSet p n r held.next_ssn) ss → bytes_of (chunks_of_ssn x.stream_sequence_number ss) + length x.user_data ≤ max
+          → Every (λ (y : ChunkSet). list_any (has_tsn x.tsn) y.chunks ≡ false) ss
+          → bytes_of (chunks_of_ssn x.stream_sequence_number ss) + length x.user_data ≤ max
       set-with low [] le a v =
           let own = part-fits h.numbered first sent spread.holds.held.stands.queued.line x was in
           let most = bound x was in
@@ -258,21 +274,22 @@ module _ (first n : ℕ) (few : n < 2 ^ 31) (s : Session) (h : HasValid first n 
               let fits = subst (λ k. Fits p st n B E M k y.chunks) same a.1.1 in
               let queued = spread.holds.held.stands.queued in
               let put = rises-put p st n B E M few (sessions.grows st first n s h.numbered sent spread few) w.index 0 x y.chunks w.of (omega arith)
-              (absent y v.0) fits in
+              v.0 fits in
               let all = set-fits st first n few h.numbered sent spread.long queued.line queued.joined max bound w.index (insert_before chunk_before x y.chunks)
               put in
               let sum = sum_by-inserted (λ (c : ChunkPayloadData). length c.user_data) chunk_before x y.chunks in
               omega (arith, all, sum)
 
       ordered-fits : bytes_of (chunks_of_ssn x.stream_sequence_number held.ordered) + length x.user_data ≤ max
-      ordered-fits = set-with due.low held.ordered (omega arith) due.sets valid.sets
+      ordered-fits = set-with due.low held.ordered (omega arith) due.sets free
 
   -- ## Its stream
 
   module _ (x : ChunkPayloadData) (g : IsGiven p n x.tsn) (fresh : has_come x.tsn (filter_of r) ≡ false) (was : WasSent sent (data_of x))
       (l : InboundStream) (there : stream_of x.stream_identifier r ≡ Some l) (unread : x.unordered ≡ false → message_read l.queue.held ≡ None) where
     both-of : Both x g fresh was (Some l)
-    both-of = subst (Both x g fresh was) there ((h.valid.unwrapped.answered x.stream_identifier).0.due, h.valid.valid x.stream_identifier)
+    both-of =
+        subst (Both x g fresh was) there ((h.kept.unwrapped.answered x.stream_identifier).0.due, (h.kept.kept x.stream_identifier).holds)
 
     near-enough : (not x.unordered && is_ssn_too_far x.stream_sequence_number l.queue.held) ≡ false
     near-enough = by x.unordered refl
@@ -280,7 +297,7 @@ module _ (first n : ℕ) (few : n < 2 ^ 31) (s : Session) (h : HasValid first n 
         by : (b : Bool) → x.unordered ≡ b → (not x.unordered && is_ssn_too_far x.stream_sequence_number l.queue.held) ≡ false
         by true e = ap (λ b. not b && is_ssn_too_far x.stream_sequence_number l.queue.held) e
         by false e = ap (λ b. not b && is_ssn_too_far x.stream_sequence_number l.queue.held) e
-            ∙ not-far x g fresh was e l.queue.held both-of.0 both-of.1 (unread e)
+            ∙ not-far x g fresh was e l.queue.held both-of.0 both-of.1.current (absent x g fresh was l there) (unread e)
 
     projected : projected_size x l.queue.held.ordered l.queue.held.unassembled ≤ max
     projected = by x.unordered refl
@@ -292,10 +309,10 @@ module _ (first n : ℕ) (few : n < 2 ^ 31) (s : Session) (h : HasValid first n 
             let long = spread.long in
             let queued = spread.holds.held.stands.queued in
             let all = unassembled-fits first h.numbered sent (omega (arith, long, few)) queued.line queued.joined l.queue.held.unassembled
-            both-of.1.unassembled x was in
+            (was-open x.stream_identifier l there) x was in
             let most = bound x was in
             omega (arith, all, most)
-        by false e = ordered-fits x g fresh was e l.queue.held both-of.0 both-of.1 (unread e)
+        by false e = ordered-fits x g fresh was e l.queue.held both-of.0 both-of.1.current (absent x g fresh was l there) (unread e)
 
     -- the stream takes it
     takes : stream_refusal x (Some l) ≡ None
@@ -367,7 +384,15 @@ none-with-room : (tsn size max most : ℕ) (limits : Option Limits) (cs : List C
     → is_takable x s.receiving.receiver ≡ true → new_refusal x.tsn s.receiving.receiver ≡ None → arrival_refusal x s.receiving.receiver ≡ None
 none-with-room tsn size max most limits cs s small some run few enough x f t room =
     let fit = fit-session tsn size max most limits cs s run in
-    not-refused tsn (tsns_given (at_start tsn size max most limits) cs s run) few s (valid-session tsn size max most limits cs s small some run few)
+    let h = kept-in tsn size max most limits cs s small some run few in
+    let k = h.kept in
+    let spread = k.unwrapped.spread in
+    let queued = spread.holds.held.stands.queued in
+    not-refused tsn (tsns_given (at_start tsn size max most limits) cs s run) few (abandoned_in (at_start tsn size max most limits) cs s run) s h
+    (λ st. was-unassembled h.numbered tsn h.sent queued.line queued.joined (tsns_given (at_start tsn size max most limits) cs s run) spread.long few
+    (abandoned_in (at_start tsn size max most limits) cs s run) k.passed.cut s spread.holds.made
+    (made_in.all-made cs (at_start tsn size max most limits) s run refl) spread.step.taken.apart
+    (complete-messages tsn size max most limits cs s run h.sent spread.holds.made) st spread.step.numbered.acked (k.kept st))
     (subst (λ k. AreWithin k s.written) (sym fit.sender) fit.writes)
     (subst (λ k. Every (λ (l : InboundStream). l.queue.max_message_size ≡ k) s.receiving.receiver.streams) (sym fit.streams.own) fit.streams.each)
     enough f.chunk x f.sent f.kept f.same t room

@@ -10,6 +10,7 @@ use Rattle.sctp_delivery.specs.Messages.{StandAt, WhileFewTsns}
 use Rattle.sctp_delivery.specs.Order.{AreReadInOrder, is_ordered_on, places_where}
 use Rattle.sctp_delivery.proofs.Begun.{AreOnce}
 use Rattle.sctp_delivery.proofs.Delivered.{IsReadOf, read-in}
+use Rattle.sctp_delivery.proofs.KeptSessions.{kept-in}
 use Rattle.sctp_delivery.proofs.OnceWritten.{EachRead, apart, each-read, places, stand}
 use Rattle.sctp_delivery.proofs.OrderedEntries.{AreRising, begun_on}
 use Rattle.sctp_delivery.proofs.OrderedLaw.{all-cons, before, starts, up_to}
@@ -19,7 +20,6 @@ use Rattle.sctp_delivery.proofs.Sent.{Entry, IsLine, Numbered, WasSent, part-len
 use Rattle.sctp_delivery.proofs.SpreadEntries.{begun_to, is_at, to-part}
 use Rattle.sctp_delivery.proofs.TsnPlaces.{base}
 use Rattle.sctp_delivery.proofs.UnwrappedHolds.{AreInTurn, Fits, Where}
-use Rattle.sctp_delivery.proofs.UnwrappedSessions.{unwrapped}
 use Rattle.sctp_delivery.proofs.OrderedMessages.{is_in_order}
 
 module _ (st first n : ℕ) (ns : List Numbered) (sent : List Entry) (few : n < 2 ^ 31) (long : length sent ≡ n) (line : IsLine ns first sent)
@@ -106,9 +106,9 @@ module _ (st first n : ℕ) (ns : List Numbered) (sent : List Entry) (few : n < 
 
 pub in-order : WhileFewTsns AreReadInOrder
 in-order tsn size max most limits cs s small some r few =
-    let u = unwrapped tsn size max most limits cs s small some r few in
-    let h = u.unwrapped.spread.holds in
-    let long = u.unwrapped.spread.long in
+    let u = kept-in tsn size max most limits cs s small some r few in
+    let h = u.kept.unwrapped.spread.holds in
+    let long = u.kept.unwrapped.spread.long in
     let a = read-in tsn size max most limits cs s r u.numbered u.sent (omega (arith, long, few)) h in
     let e = each-read a.numbered a.sent a.once s.receiving.read a.each in (
       places a.numbered a.sent a.once s.receiving.read e,
@@ -116,7 +116,7 @@ in-order tsn size max most limits cs s small some r few =
           (stand a.numbered a.sent a.once s.receiving.read e),
       apart a.numbered a.sent a.once s.receiving.read e (read_once.none-twice tsn size max most limits cs s r small few),
       λ st.
-          let t = (u.unwrapped.answered st).0 in
+          let t = (u.kept.unwrapped.answered st).0 in
           in-order-of st tsn _ u.numbered u.sent few long h.held.stands.queued.line a.once a.rising a.placed
           (λ m p. is_ordered_on st m) (λ m x f. let b = starts st m x.chunk x.others x.fragments f in (b.1, b.2)) t.k s.receiving.read e t.turns,
     )

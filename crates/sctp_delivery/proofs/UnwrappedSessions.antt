@@ -13,7 +13,7 @@ use Rattle.sctp_data.specs.PayloadData.{data_of}
 use Rattle.sctp_data.specs.SelectiveAck.{Sack}
 use Rattle.sctp_outbound.specs.outbound_queue.OutboundQueue.{expiring, expiring_tail, message_of}
 use Rattle.sctp_reassembly.specs.reassembly_queue.ReassemblyQueue.{Reassembly}
-use Rattle.sctp_receiver.specs.declared.receiver.arrival.Arrival.TheVariants.{New, Repeat}
+use Rattle.sctp_receiver.specs.declared.receiver.arrival.Arrival.TheVariants.{New}
 use Rattle.sctp_receiver.specs.declared.receiver.inbound_streams.InboundStream.{InboundStream}
 use Rattle.sctp_receiver.specs.declared.receiver.limits.Limits.{Limits}
 use Rattle.sctp_receiver.specs.declared.receiver.refusal.ReceiverRefusal.TheVariants.{NamedSsnTooFar, NamedStreamUnknown}
@@ -27,11 +27,9 @@ use Rattle.sctp_sender.specs.Sender.{Transmission, after_expire, stream_of as se
 use Rattle.sctp_stream.specs.declared.stream.StreamState.{StreamState}
 use Rattle.sctp_delivery.specs.ReceiverCalls as incoming
 use Rattle.sctp_delivery.specs.ReceiverCalls.{ReceiverCall, reports_after}
-use Rattle.sctp_delivery.specs.Sacks.{tsns_given}
 use Rattle.sctp_delivery.specs.SenderCalls as outgoing
 use Rattle.sctp_delivery.specs.SenderCalls.{SenderCall, data_chunk, forward_tsn}
-use Rattle.sctp_delivery.specs.Session.{Call, ReceiverFollows, RunsTo, SenderFollows, Session, at_start, of_receiver, of_sender}
-use Rattle.sctp_delivery.proofs.Calls.{numbered_after}
+use Rattle.sctp_delivery.specs.Session.{ReceiverFollows, SenderFollows, Session, at_start}
 use Rattle.sctp_delivery.proofs.Delivered.{found-sent, next_tsn}
 use Rattle.sctp_delivery.proofs.UnwrappedArrived.{IsPiece, Rising, missing, missing-of}
 use Rattle.sctp_reassembly.specs.reassembly_queue.Skips.{misses}
@@ -45,7 +43,7 @@ use Rattle.sctp_delivery.proofs.Queues.{IsOnceMore}
 use Rattle.sctp_delivery.proofs.SackLaws as sacks
 use Rattle.sctp_delivery.proofs.SackSteps.{flight_of, written-open}
 use Rattle.sctp_delivery.proofs.Sent.{Entry, Numbered, WasSent, sent-more}
-use Rattle.sctp_delivery.proofs.SpreadCalls.{IsSpread, Spreads, receiver-spreads, sender-spreads, spread-first}
+use Rattle.sctp_delivery.proofs.SpreadCalls.{IsSpread, Spreads, receiver-spreads, spread-first}
 use Rattle.sctp_delivery.proofs.SpreadEntries.{IsEntry, at-more, begun_to, is_at, made-entry, to-all, to-more, to-up}
 use Rattle.sctp_delivery.proofs.SpreadFlight.{IsMadeNaming}
 use Rattle.sctp_delivery.proofs.TakenCalls.{fresh-new}
@@ -391,9 +389,6 @@ module _ (st first : ℕ) where
           (opened-due (base first) st n (to sent) (at sent) (Was sent) few grows Old d.k d.reach stream old.receiving.receiver.max_message_size
           old.receiving.receiver.streams d.due))
           (ap (λ (r : Reception). r.cumulative_tsn) f.step.receiver.1) (ap (λ (r : Reception). r.beyond) f.step.receiver.1)
-      due-after (incoming.takes c Repeat) f =
-          same-streams f.step.read (ap (λ (r : Reception). r.streams) f.step.receiver) (ap (λ (r : Reception). r.cumulative_tsn) f.step.receiver)
-          (ap (λ (r : Reception). r.beyond) f.step.receiver)
       due-after (incoming.takes c (New answered)) f =
           let fresh = fresh-new c.tsn answered old.receiving.receiver f.accepted.1 in
           taken-due (base first) st n (to sent) (at sent)
@@ -408,22 +403,13 @@ module _ (st first : ℕ) where
           (Was sent) few grows acked near g x.place old.receiving new.receiving d (omega (arith, w, long)) x.is f.step.receiver
           f.step.read x.tells r.0 r.1
           (λ j cs fits e. missed x.place j cs (omega (arith, w, long)) fits e)
-      due-after (incoming.reports credit) f =
-          same-streams f.step.read (ap (λ (r : Reception). r.streams) f.step.receiver) (ap (λ (r : Reception). r.cumulative_tsn) f.step.receiver)
-          (ap (λ (r : Reception). r.beyond) f.step.receiver)
-      due-after (incoming.reports_within credit bytes) f =
-          same-streams f.step.read (ap (λ (r : Reception). r.streams) f.step.receiver) (ap (λ (r : Reception). r.cumulative_tsn) f.step.receiver)
-          (ap (λ (r : Reception). r.beyond) f.step.receiver)
-      due-after (incoming.makes_sack credit bytes) f =
-          same-streams f.step.read (ap (λ (r : Reception). r.streams) f.step.receiver) (ap (λ (r : Reception). r.cumulative_tsn) f.step.receiver)
-          (ap (λ (r : Reception). r.beyond) f.step.receiver)
-      due-after incoming.forgets f =
-          same-streams f.step.read (ap (λ (r : Reception). r.streams) f.step.receiver) (ap (λ (r : Reception). r.cumulative_tsn) f.step.receiver)
-          (ap (λ (r : Reception). r.beyond) f.step.receiver)
       due-after (incoming.reads stream) f =
           read-on-due (base first) st n (to sent) (at sent)
           (Was sent) few grows acked stream old.receiving new.receiving d (ap (λ (r : Reception). r.streams) f.step.receiver)
           (ap (λ (r : Reception). r.cumulative_tsn) f.step.receiver) (ap (λ (r : Reception). r.beyond) f.step.receiver) f.step.read
+      due-after call f =
+          same-streams f.step.read (ap (λ (r : Reception). r.streams) f.step.receiver) (ap (λ (r : Reception). r.cumulative_tsn) f.step.receiver)
+          (ap (λ (r : Reception). r.beyond) f.step.receiver)
 
   -- the SACKs that were made
   answered-after : (place more : ℕ) (old : Session) (call : ReceiverCall) → old.receiving.receiver.cumulative_tsn ≡ tsn (base first) place → place ≤ more
@@ -461,24 +447,6 @@ pub record IsUnwrapped (first n : ℕ) (s : Session) (ns : List Numbered) (sent 
   pub spread : IsSpread first n s ns sent
   pub answered : (st : ℕ) → IsAnswered st first n sent spread.step.numbered.acked s
 
--- the writes and entries of a session
-pub record HasUnwrapped (first n : ℕ) (s : Session) : Type 0 where
-  pub numbered : List Numbered
-  pub sent : List Entry
-  pub unwrapped : IsUnwrapped first n s numbered sent
-
-pub sender-unwrapped : (first n : ℕ) (call : SenderCall) (old new : Session) (ns : List Numbered) (sent : List Entry) → IsUnwrapped first n old ns sent
-    → n + distance (next_tsn old) (next_tsn new) < 2 ^ 31 → SenderFollows call old new
-    → (more : List Entry) × IsUnwrapped first (n + distance (next_tsn old) (next_tsn new)) new (numbered_after call ns) more
-sender-unwrapped first n call old new ns sent i few f =
-    let x = sender-spreads first n call old new ns sent i.spread few f in (
-      x.more,
-      record {
-        spread = x.spread;
-        answered = λ st. sender-answered st first n call old new ns sent i.spread few f x (i.answered st);
-      },
-    )
-
 pub receiver-unwrapped : (first n : ℕ) (call : ReceiverCall) (old new : Session) (ns : List Numbered) (sent : List Entry) → n < 2 ^ 31
     → ReceiverFollows call old new → IsUnwrapped first n old ns sent → IsUnwrapped first n new ns sent
 receiver-unwrapped first n call old new ns sent few f i =
@@ -487,24 +455,6 @@ receiver-unwrapped first n call old new ns sent few f i =
       spread = spread;
       answered = λ st. receiver-answered st first n call old new ns sent i.spread few f spread (i.answered st);
     }
-
-unwrapped-after : (first n : ℕ) (cs : List Call) (old new : Session) (ns : List Numbered) (sent : List Entry) (r : RunsTo old cs new)
-    → n + tsns_given old cs new r < 2 ^ 31 → IsUnwrapped first n old ns sent → HasUnwrapped first (n + tsns_given old cs new r) new
-unwrapped-after first n [] old new ns sent r few i =
-    subst (λ k. HasUnwrapped first k new) {x = n} {y = n + 0} (omega arith)
-    (subst (HasUnwrapped first n) (sym r) (record { numbered = ns; sent = sent; unwrapped = i }))
-unwrapped-after first n (of_sender call ∷ cs) old new ns sent r few i =
-    let d = distance (next_tsn old) (next_tsn r.0) in
-    let x = sender-unwrapped first n call old r.0 ns sent i (omega (arith, few)) r.1.0 in
-    let sum : (n + d) + tsns_given r.0 cs new r.1.1 ≡ n + (d + tsns_given r.0 cs new r.1.1) = omega arith in
-    subst (λ k. HasUnwrapped first k new) sum
-    (unwrapped-after first (n + d) cs r.0 new (numbered_after call ns) x.0 r.1.1 (omega (arith, few)) x.1)
-unwrapped-after first n (of_receiver call ∷ cs) old new ns sent r few i =
-    let d = distance (next_tsn old) (next_tsn r.0) in
-    let none : d ≡ 0 = sacks.no-move (base first) n old r.0 (ap (λ (s : Session). s.sending) r.1.0.after) i.spread.step.numbered in
-    let sum : n + tsns_given r.0 cs new r.1.1 ≡ n + (d + tsns_given r.0 cs new r.1.1) = omega (arith, none) in
-    subst (λ k. HasUnwrapped first k new) sum
-    (unwrapped-after first n cs r.0 new ns sent r.1.1 (omega (arith, few)) (receiver-unwrapped first n call old r.0 ns sent (omega (arith, few)) r.1.0 i))
 
 pub unwrapped-first : (first size max most : ℕ) (limits : Option Limits) → first < 2 ^ 32 → 0 < size
     → IsUnwrapped first 0 (at_start first size max most limits) [] []
@@ -525,11 +475,3 @@ unwrapped-first first size max most limits small some =
         tt,
       );
     }
-
-pub unwrapped : (tsn size max most : ℕ) (limits : Option Limits) (cs : List Call) (s : Session) → tsn < 2 ^ 32 → 0 < size
-    → (r : RunsTo (at_start tsn size max most limits) cs s) → tsns_given (at_start tsn size max most limits) cs s r < 2 ^ 31
-    → HasUnwrapped tsn (tsns_given (at_start tsn size max most limits) cs s r) s
-unwrapped first size max most limits cs s small some r few =
-    let n = tsns_given (at_start first size max most limits) cs s r in
-    subst (λ k. HasUnwrapped first k s) {x = 0 + n} {y = n} (omega arith)
-    (unwrapped-after first 0 cs (at_start first size max most limits) s [] [] r (omega (arith, few)) (unwrapped-first first size max most limits small some))
