@@ -50,6 +50,7 @@ use Rattle.sctp_delivery.proofs.FollowedSets.{skipped-tidy}
 use Rattle.sctp_delivery.proofs.GoneMessages.{IsGone, resolved}
 use Rattle.sctp_delivery.proofs.ArrivedTsns.{IsKnown}
 use Rattle.sctp_delivery.proofs.KeptCalls as calls
+use Rattle.sctp_delivery.proofs.KeptSets.{sets-those}
 use Rattle.sctp_delivery.proofs.KeptOrGone.{HeldWell, IsHeldWell, IsKeptBut, IsLate, IsPassedBy, at-in, place-in}
 use Rattle.sctp_delivery.proofs.MessagePlaces.{EndsAt, IsWanted, wanted-after, within}
 use Rattle.sctp_delivery.proofs.MessageSets.{fragment-upto, misses-one}
@@ -66,7 +67,6 @@ use Rattle.sctp_delivery.proofs.TsnPlaces.{IsGiven, at-or-before, base, before, 
 use Rattle.sctp_delivery.proofs.UnassembledGone.{gone-unassembled, was-unassembled}
 use Rattle.sctp_delivery.proofs.UnwrappedCalls.{IsNamingTo, gone-begun, gone-held, own-names}
 use Rattle.sctp_delivery.proofs.UnwrappedHolds as holds
-use Rattle.sctp_delivery.proofs.UnwrappedReads as reads
 use Rattle.sctp_delivery.proofs.UnwrappedReads.{IsDue}
 use Rattle.sctp_delivery.proofs.UnwrappedSessions as sessions
 use Rattle.sctp_delivery.proofs.UnwrappedSessions.{IsUnwrapped}
@@ -378,8 +378,7 @@ module _ (first n : ℕ) (few : n < 2 ^ 31) (old new : Session) (ns : List Numbe
               };
               uncut =
                   let q = held_after_ordered_skip (j % 2 ^ 16) l.queue.held in
-                  let sets = reads.sets-those p n (λ k. begun_to st k sent) Fits Came (at-in ns first sent line joined n i.spread.long few st)
-                  (λ s. not (is_passed (j % 2 ^ 16) s)) d.low answered.reach l.queue.held.ordered d.sets in
+                  let sets = sets-those Fits (λ s. not (is_passed (j % 2 ^ 16) s)) d.low answered.reach l.queue.held.ordered d.sets in
                   current.none-cut p n (λ k. begun_to st k sent) Fits Came (at-in ns first sent line joined n i.spread.long few st)
                   (place-in ns first sent line joined n i.spread.long few st) t x.0.index d.low answered.reach q.ordered sets
                   (gone-begun p st n (λ k. begun_to st k sent) (λ k. is_at st k sent) (λ c. WasSent sent (data_of c)) few up a near g m old.receiving

@@ -1,12 +1,13 @@
 -- The sets of ordered messages, where no FORWARD-TSN comes: none stands before the next number, so that no fragment is dropped.
-use Rattle.std.proofs.Common.{◌≡◌, ℕ, ◌+◌, ◌%◌, ◌^◌, ◌<◌, ◌≤◌, Bool, true, false, List, [], ◌∷◌, Some, None, refl, ap, sym, subst, ◌∙◌, arith}
+use Rattle.std.proofs.Common.{◌≡◌, ℕ, ◌+◌, ◌%◌, ◌^◌, ◌<◌, ◌≤◌, Bool, true, false, List, [], ◌∷◌, Some, None, inl, inr, refl, ap, sym, subst, ◌∙◌, arith}
 use Rattle.std.specs.Prelude.{⊤, ◌==◌, ◌||◌, if◌then◌else◌, nat_lt, nat_le}
-use Rattle.std.specs.List.{list_any, sum_by}
+use Rattle.std.specs.List.{filter, list_any, sum_by}
+use Rattle.std.proofs.lemmas.Bool.{cases_lt}
 use Rattle.std.proofs.lemmas.Bool.Decides.{nat_tests}
 use Rattle.std.proofs.lemmas.List.Sums.{sum_by-cons}
 use Rattle.sctp_util.specs.Lists.{change_first, insert_before}
 use Rattle.sctp_util.specs.Serial.{at_or_before16, comes_before16, distance16}
-use Rattle.sctp_util.proofs.Cases.{same-yes}
+use Rattle.sctp_util.proofs.Cases.{same-is, same-yes}
 use Rattle.sctp_util.proofs.Edits.{sum_by-inserted}
 use Rattle.sctp_util.proofs.More.{both, not_both}
 use Rattle.sctp_util.proofs.Wraps.{at_or_before16-index, comes_before16-index, next16}
@@ -26,20 +27,123 @@ use Rattle.sctp_delivery.proofs.Every.{Every}
 abbrev pub IsAt : ℕ → ℕ → ℕ → ChunkSet → Type 0
 IsAt low top k s = (low ≤ k) × (k < top) × (s.ssn ≡ k % 2 ^ 16)
 
--- from set to set the index rises
+none-after : (b c : Bool) → (b || c) ≡ false → c ≡ false
+none-after true c e = absurd (not_both (sym e))
+none-after false c e = e
+
+pub strictly : (j k : ℕ) → j ≤ k → (k ≡ j → ⊥) → j < k
+strictly j k le differ = elim (cases_lt j k) [ inl lt ↦ lt | inr ge ↦ absurd (differ (omega (arith, le, ge))) ]
+
+module _ (Fits : ℕ → List ChunkPayloadData → Type 0) where
+  -- from set to set the index rises, and the chunks of each are of its message
+  abbrev pub AreSets : ℕ → ℕ → List ChunkSet → Type 0
+  AreSets low top [] = ⊤
+  AreSets low top (s ∷ ss) = (k : ℕ) × (IsAt low top k s × Fits k s.chunks) × AreSets (k + 1) top ss
+
+  sets-from : (a b top : ℕ) (ss : List ChunkSet) → b ≤ a → AreSets a top ss → AreSets b top ss
+  sets-from a b top [] le r = tt
+  sets-from a b top (s ∷ ss) le r = let x = r.1.0.0 in (r.0, ((omega (arith, x, le), r.1.0.1, r.1.0.2), r.1.1), r.2)
+
+  pub sets-to : (low a b : ℕ) (ss : List ChunkSet) → a ≤ b → AreSets low a ss → AreSets low b ss
+  sets-to low a b [] le r = tt
+  sets-to low a b (s ∷ ss) le r = let x = r.1.0.1 in (r.0, ((r.1.0.0, omega (arith, x, le), r.1.0.2), r.1.1), sets-to (r.0 + 1) a b ss le r.2)
+
+  pub sets-those : (p : ChunkSet → Bool) (low top : ℕ) (ss : List ChunkSet) → AreSets low top ss → AreSets low top (filter p ss)
+  sets-those p low top [] r = tt
+  sets-those p low top (s ∷ ss) r = by (p s) (sets-those p (r.0 + 1) top ss r.2)
+    where
+      by : (b : Bool) → AreSets (r.0 + 1) top (filter p ss) → AreSets low top (if b then s ∷ filter p ss else filter p ss)
+      by true ih = (r.0, r.1, ih)
+      by false ih = sets-from (r.0 + 1) low top (filter p ss) (let x = r.1.0.0 in omega (arith, x)) ih
+
+  module _ (x : ChunkPayloadData) (i : ℕ) (single : Fits i (x ∷ []))
+      (put : (cs : List ChunkPayloadData) → list_any (has_tsn x.tsn) cs ≡ false → Fits i cs → Fits i (insert_before chunk_before x cs))
+      (is : x.stream_sequence_number ≡ i % 2 ^ 16) where
+    with-of : (s : ChunkSet) → Fits i s.chunks → Fits i (with_chunk x s).chunks
+    with-of s h = by (list_any (has_tsn x.tsn) s.chunks) refl
+      where
+        by : (b : Bool) → list_any (has_tsn x.tsn) s.chunks ≡ b → Fits i (if b then s.chunks else insert_before chunk_before x s.chunks)
+        by true e = h
+        by false e = put s.chunks e h
+
+    sets-changed : (base low top : ℕ) (ss : List ChunkSet) → base ≤ low → base ≤ i → i < top → top ≤ base + 2 ^ 15 → AreSets low top ss
+        → AreSets low top (change_first (has_ssn x.stream_sequence_number) (with_chunk x) ss)
+    sets-changed base low top [] at le lt far r = tt
+    sets-changed base low top (s ∷ ss) at le lt far r = by (s.ssn == x.stream_sequence_number) refl
+        (sets-changed base (r.0 + 1) top ss (let a = r.1.0.0 in omega (arith, a, at)) le lt far r.2)
+      where
+        by : (b : Bool) → (s.ssn == x.stream_sequence_number) ≡ b
+            → AreSets (r.0 + 1) top (change_first (has_ssn x.stream_sequence_number) (with_chunk x) ss)
+            → AreSets low top (if b then with_chunk x s ∷ ss else s ∷ change_first (has_ssn x.stream_sequence_number) (with_chunk x) ss)
+        by true e ih =
+            let n : r.0 % 2 ^ 16 ≡ i % 2 ^ 16 = sym r.1.0.2 ∙ same-is s.ssn x.stream_sequence_number e ∙ is in
+            let a = r.1.0.0 in
+            let b = r.1.0.1 in
+            let same : r.0 ≡ i = omega (arith, n, a, b, at, le, lt, far) in (
+              r.0,
+              (
+                (r.1.0.0, r.1.0.1, r.1.0.2),
+                subst (λ k. Fits k (with_chunk x s).chunks) (sym same)
+                    (with-of s (subst (λ k. Fits k s.chunks) same r.1.1)),
+              ),
+              r.2,
+            )
+        by false e ih = (r.0, r.1, ih)
+
+    sets-inserted : (low top : ℕ) (ss : List ChunkSet) → top ≤ low + 2 ^ 15 → low ≤ i → i < top
+        → list_any (has_ssn x.stream_sequence_number) ss ≡ false → AreSets low top ss → AreSets low top (insert_before set_before (new_set x) ss)
+    sets-inserted low top [] near le lt none r = (i, ((le, lt, is), single), tt)
+    sets-inserted low top (s ∷ ss) near le lt none r = by (set_before (new_set x) s) refl
+        (λ n a. sets-inserted (r.0 + 1) top ss n a lt
+        (none-after (s.ssn == x.stream_sequence_number) (list_any (has_ssn x.stream_sequence_number) ss) none) r.2)
+      where
+        j : ℕ
+        j = r.0
+
+        order : set_before (new_set x) s ≡ nat_lt i j
+        order =
+            let c = r.1.0.0 in
+            let d = r.1.0.1 in
+            ap (λ n. comes_before16 n s.ssn) is ∙ ap (comes_before16 (i % 2 ^ 16)) r.1.0.2
+            ∙ comes_before16-index i j (omega (arith, le, lt, c, d, near)) (omega (arith, le, lt, c, d, near))
+
+        other : i ≡ j → ⊥
+        other e =
+            let same : s.ssn ≡ x.stream_sequence_number = r.1.0.2 ∙ ap (λ n. n % 2 ^ 16) (sym e) ∙ sym is in
+            not_both (sym none ∙ ap (λ b. b || list_any (has_ssn x.stream_sequence_number) ss)
+            (ap (λ n. n == x.stream_sequence_number) same ∙ same-yes x.stream_sequence_number))
+
+        by : (b : Bool) → set_before (new_set x) s ≡ b
+            → (top ≤ r.0 + 1 + 2 ^ 15 → r.0 + 1 ≤ i → AreSets (r.0 + 1) top (insert_before set_before (new_set x) ss))
+            → AreSets low top (if b then new_set x ∷ s ∷ ss else s ∷ insert_before set_before (new_set x) ss)
+        by true e ih =
+            let t : nat_lt i j ≡ true = sym order ∙ e in
+            let less : i < j = grind (arith, nat_tests, t) in
+            (i, ((le, lt, is), single), (j, ((omega (arith, less), r.1.0.1, r.1.0.2), r.1.1), r.2))
+        by false e ih =
+            let t : nat_lt i j ≡ false = sym order ∙ e in
+            let ge : j ≤ i = grind (arith, nat_tests, t) in
+            let up = strictly j i ge other in
+            let c = r.1.0.0 in
+            (j, r.1, ih (omega (arith, near, c)) (omega (arith, up)))
+
+    pub put-sets : (low top : ℕ) (ss : List ChunkSet) → low ≤ i → i < top → top ≤ low + 2 ^ 15 → AreSets low top ss → AreSets low top (sets_with x ss)
+    put-sets low top ss le lt far r = by (list_any (has_ssn x.stream_sequence_number) ss) refl
+      where
+        by : (b : Bool) → list_any (has_ssn x.stream_sequence_number) ss ≡ b
+            → AreSets low top (if b then change_first (has_ssn x.stream_sequence_number) (with_chunk x) ss else insert_before set_before (new_set x) ss)
+        by true e = sets-changed low low top ss (omega arith) le lt far r
+        by false e = sets-inserted low top ss far le lt e r
+
+-- where nothing is said of the chunks
 abbrev pub Rise : ℕ → ℕ → List ChunkSet → Type 0
-Rise low top [] = ⊤
-Rise low top (s ∷ ss) = (k : ℕ) × IsAt low top k s × Rise (k + 1) top ss
+Rise = AreSets (λ i cs. ⊤)
 
 -- so many messages were read, and each set is of one that is still to be read, less than half the circle on
 pub record IsInTurn (q : Reassembly) : Type 0 where
   pub index : ℕ
   pub next : q.next_ssn ≡ index % 2 ^ 16
   pub rise : Rise index (index + 2 ^ 15) q.ordered
-
-pub rise-wider : (low top more : ℕ) (ss : List ChunkSet) → top ≤ more → Rise low top ss → Rise low more ss
-rise-wider low top more [] le r = tt
-rise-wider low top more (s ∷ ss) le r = let b = r.1.1 in (r.0, (r.1.0, omega (arith, b, le), r.1.2), rise-wider (r.0 + 1) top more ss le r.2)
 
 -- ## A fragment comes
 
@@ -60,13 +164,13 @@ lowest-is i (s ∷ ss) r = by (at_or_before16 s.ssn (i % 2 ^ 16)) refl
     by : (b : Bool) → at_or_before16 s.ssn (i % 2 ^ 16) ≡ b → (if b then s.ssn else i % 2 ^ 16) ≡ i % 2 ^ 16
     by false e = refl
     by true e =
-        let low = r.1.0 in
-        let top = r.1.1 in
+        let low = r.1.0.0 in
+        let top = r.1.0.1 in
         let order : nat_le k i ≡ true = sym (at_or_before16-index k i (omega (arith, top)) (omega (arith, low)))
-        ∙ ap (λ n. at_or_before16 n (i % 2 ^ 16)) (sym r.1.2) ∙ e in
+        ∙ ap (λ n. at_or_before16 n (i % 2 ^ 16)) (sym r.1.0.2) ∙ e in
         let le : k ≤ i = grind (arith, nat_tests, order) in
         let same : k ≡ i = omega (arith, le, low) in
-        r.1.2 ∙ ap (λ n. n % 2 ^ 16) same
+        r.1.0.2 ∙ ap (λ n. n % 2 ^ 16) same
 
 index-of : (i ssn : ℕ) → ssn < 2 ^ 16 → distance16 (i % 2 ^ 16) ssn < 2 ^ 15 → IsNear i ssn
 unfolding distance16
@@ -88,71 +192,6 @@ not-before i ssn next e n =
     ap (λ k. comes_before16 k next) n.is ∙ ap (comes_before16 (n.place % 2 ^ 16)) e
     ∙ comes_before16-index n.place i (omega (arith, top)) (omega (arith, low)) ∙ past
 
-rise-changed : (low top : ℕ) (p : ChunkSet → Bool) (x : ChunkPayloadData) (ss : List ChunkSet) → Rise low top ss
-    → Rise low top (change_first p (with_chunk x) ss)
-rise-changed low top p x [] r = tt
-rise-changed low top p x (s ∷ ss) r = by (p s) (rise-changed (r.0 + 1) top p x ss r.2)
-  where
-    by : (b : Bool) → Rise (r.0 + 1) top (change_first p (with_chunk x) ss)
-        → Rise low top (if b then with_chunk x s ∷ ss else s ∷ change_first p (with_chunk x) ss)
-    by true ih = (r.0, (r.1.0, r.1.1, r.1.2), r.2)
-    by false ih = (r.0, (r.1.0, r.1.1, r.1.2), ih)
-
-none-after : (b c : Bool) → (b || c) ≡ false → c ≡ false
-none-after true c e = absurd (not_both (sym e))
-none-after false c e = e
-
-rise-inserted : (low top k : ℕ) (x : ChunkSet) (ss : List ChunkSet) → top ≤ low + 2 ^ 15 → IsAt low top k x → list_any (has_ssn x.ssn) ss ≡ false
-    → Rise low top ss → Rise low top (insert_before set_before x ss)
-rise-inserted low top k x [] near at none r = (k, at, tt)
-rise-inserted low top k x (s ∷ ss) near at none r = by (set_before x s) refl
-    (λ n a. rise-inserted (r.0 + 1) top k x ss n a (none-after (s.ssn == x.ssn) (list_any (has_ssn x.ssn) ss) none) r.2)
-  where
-    j : ℕ
-    j = r.0
-
-    order : set_before x s ≡ nat_lt k j
-    order =
-        let a = at.0 in
-        let b = at.1 in
-        let c = r.1.0 in
-        let d = r.1.1 in
-        ap (λ n. comes_before16 n s.ssn) at.2 ∙ ap (comes_before16 (k % 2 ^ 16)) r.1.2
-        ∙ comes_before16-index k j (omega (arith, a, b, c, d, near)) (omega (arith, a, b, c, d, near))
-
-    other : s.ssn ≡ x.ssn → ⊥
-    other e = not_both (sym none ∙ ap (λ b. b || list_any (has_ssn x.ssn) ss) (ap (λ n. n == x.ssn) e ∙ same-yes x.ssn))
-
-    by : (b : Bool) → set_before x s ≡ b → (top ≤ r.0 + 1 + 2 ^ 15 → IsAt (r.0 + 1) top k x → Rise (r.0 + 1) top (insert_before set_before x ss))
-        → Rise low top (if b then x ∷ s ∷ ss else s ∷ insert_before set_before x ss)
-    by true e ih =
-        let lt : nat_lt k j ≡ true = sym order ∙ e in
-        let less : k < j = grind (arith, nat_tests, lt) in
-        (k, at, (j, (omega (arith, less), r.1.1, r.1.2), r.2))
-    by false e ih =
-        let ge : nat_lt k j ≡ false = sym order ∙ e in
-        let le : j ≤ k = grind (arith, nat_tests, ge) in
-        let differ : k ≡ j → ⊥ = λ same. other (r.1.2 ∙ ap (λ n. n % 2 ^ 16) (sym same) ∙ sym at.2) in
-        let lt : j < k = strictly le differ in
-        let c = r.1.0 in
-        (j, r.1, ih (omega (arith, near, c)) (omega (arith, lt), at.1, at.2))
-      where
-        strictly : j ≤ k → (k ≡ j → ⊥) → j < k
-        strictly le differ = by-order (nat_lt j k) refl
-          where
-            by-order : (b : Bool) → nat_lt j k ≡ b → j < k
-            by-order true f = grind (arith, nat_tests, f)
-            by-order false f = let ge : k ≤ j = grind (arith, nat_tests, f) in absurd (differ (omega (arith, le, ge)))
-
-rise-with : (low top k : ℕ) (x : ChunkPayloadData) (ss : List ChunkSet) → top ≤ low + 2 ^ 15 → IsAt low top k (new_set x) → Rise low top ss
-    → Rise low top (sets_with x ss)
-rise-with low top k x ss near at r = by (list_any (has_ssn x.stream_sequence_number) ss) refl
-  where
-    by : (b : Bool) → list_any (has_ssn x.stream_sequence_number) ss ≡ b
-        → Rise low top (if b then change_first (has_ssn x.stream_sequence_number) (with_chunk x) ss else insert_before set_before (new_set x) ss)
-    by true e = rise-changed low top (has_ssn x.stream_sequence_number) x ss r
-    by false e = rise-inserted low top k (new_set x) ss near at e r
-
 -- it is put in
 pub put-in : (x : ChunkPayloadData) (q : Reassembly) (t : IsInTurn q) → IsNear t.index x.stream_sequence_number
     → held_after_ordered_push x q ≡ record q { ordered = sets_with x q.ordered }
@@ -163,7 +202,7 @@ put-in-turn x q t n =
     subst IsInTurn (sym (put-in x q t n)) (record {
       index = t.index;
       next = t.next;
-      rise = rise-with t.index (t.index + 2 ^ 15) n.place x q.ordered (omega arith) (n.low, n.top, n.is) t.rise;
+      rise = put-sets (λ i cs. ⊤) x n.place tt (λ cs e h. tt) n.is t.index (t.index + 2 ^ 15) q.ordered n.low n.top (omega arith) t.rise;
     })
 
 -- ## What it weighs
@@ -213,17 +252,17 @@ module _ (w : ChunkPayloadData → ℕ) (x : ChunkPayloadData) where
 front-place : (q : Reassembly) (i : ℕ) → q.next_ssn ≡ i % 2 ^ 16 → (s : ChunkSet) (ss : List ChunkSet) (r : Rise i (i + 2 ^ 15) (s ∷ ss))
     → is_readable q.next_ssn s ≡ true → r.0 ≡ i
 front-place q i next s ss r f =
-    let low = r.1.0 in
-    let top = r.1.1 in
+    let low = r.1.0.0 in
+    let top = r.1.0.1 in
     let due : at_or_before16 (r.0 % 2 ^ 16) (i % 2 ^ 16) ≡ true = ap (at_or_before16 (r.0 % 2 ^ 16)) (sym next)
-    ∙ ap (λ n. at_or_before16 n q.next_ssn) (sym r.1.2) ∙ (both (is_complete s.chunks) (at_or_before16 s.ssn q.next_ssn) f).1 in
+    ∙ ap (λ n. at_or_before16 n q.next_ssn) (sym r.1.0.2) ∙ (both (is_complete s.chunks) (at_or_before16 s.ssn q.next_ssn) f).1 in
     let order : nat_le r.0 i ≡ true = sym (at_or_before16-index r.0 i (omega (arith, top)) (omega (arith, low))) ∙ due in
     let le : r.0 ≤ i = grind (arith, nat_tests, order) in
     omega (arith, le, low)
 
 pub front-number : (q : Reassembly) (i : ℕ) → q.next_ssn ≡ i % 2 ^ 16 → (s : ChunkSet) (ss : List ChunkSet) → Rise i (i + 2 ^ 15) (s ∷ ss)
     → is_readable q.next_ssn s ≡ true → s.ssn ≡ q.next_ssn
-front-number q i next s ss r f = r.1.2 ∙ ap (λ n. n % 2 ^ 16) (front-place q i next s ss r f) ∙ sym next
+front-number q i next s ss r f = r.1.0.2 ∙ ap (λ n. n % 2 ^ 16) (front-place q i next s ss r f) ∙ sym next
 
 front-turn : (q : Reassembly) (i : ℕ) → q.next_ssn ≡ i % 2 ^ 16 → (ss : List ChunkSet) → q.ordered ≡ ss → Rise i (i + 2 ^ 15) ss
     → IsInTurn (after_read (front_readable q.next_ssn ss) q)
@@ -242,7 +281,7 @@ front-turn q i next (s ∷ ss) e r = by (is_readable q.next_ssn s) refl
           index = i + 1;
           next = more;
           rise = subst (λ o. Rise (i + 1) (i + 1 + 2 ^ 15) (without_first o)) (sym e)
-              (rise-wider (i + 1) (i + 2 ^ 15) (i + 1 + 2 ^ 15) ss (omega arith) (subst (λ n. Rise (n + 1) (i + 2 ^ 15) ss) same r.2));
+              (sets-to (λ i cs. ⊤) (i + 1) (i + 2 ^ 15) (i + 1 + 2 ^ 15) ss (omega arith) (subst (λ n. Rise (n + 1) (i + 2 ^ 15) ss) same r.2));
         }
 
 pub read-in-turn : (q : Reassembly) → IsInTurn q → IsInTurn (rest_read q)

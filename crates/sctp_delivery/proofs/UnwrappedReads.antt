@@ -24,7 +24,8 @@ use Rattle.sctp_reassembly.specs.reassembly_queue.Skips.{cannot_complete, held_a
 use Rattle.sctp_receiver.specs.Inbound.{Pushes, PushesAs}
 use Rattle.sctp_receiver.specs.Ssns.{is_name_too_far, is_ssn_too_far, lowest_among, lowest_ssn}
 use Rattle.sctp_delivery.proofs.Every.{Every, every-inserted, every-joined, every-left, every-taken}
-use Rattle.sctp_delivery.proofs.KeptSets.{IsAt}
+use Rattle.sctp_delivery.proofs.KeptSets as sets
+use Rattle.sctp_delivery.proofs.KeptSets.{put-sets, sets-those, sets-to, strictly}
 use Rattle.sctp_delivery.proofs.TakenTsns.{any-inserted}
 use Rattle.sctp_delivery.proofs.OrderedMessages.{IsUnorderedSet, starts_ordered}
 
@@ -46,8 +47,7 @@ module _ (p n : ℕ) (B : ℕ → ℕ) (Fits : ℕ → List ChunkPayloadData →
 
   -- from set to set the index rises, and the chunks of each are of its message
   abbrev pub AreSets : ℕ → ℕ → List ChunkSet → Type 0
-  AreSets low top [] = ⊤
-  AreSets low top (s ∷ ss) = (k : ℕ) × (IsAt low top k s × Fits k s.chunks) × AreSets (k + 1) top ss
+  AreSets = sets.AreSets Fits
 
   -- a chunk of the sets has the place
   abbrev pub has_place : ℕ → ChunkSet → Bool
@@ -99,14 +99,6 @@ module _ (p n : ℕ) (B : ℕ → ℕ) (Fits : ℕ → List ChunkPayloadData →
   Gone q bound low top (s ∷ ss) r = (q s ≡ false → r.0 < bound) × Gone q bound (r.0 + 1) top ss r.2
 
   module _ (at-in : (i y : ℕ) (cs : List ChunkPayloadData) → y ≤ n → Fits i cs → list_any (has_tsn (tsn p y)) cs ≡ true → B y ≡ i + 1) where
-    sets-from : (a b top : ℕ) (ss : List ChunkSet) → b ≤ a → AreSets a top ss → AreSets b top ss
-    sets-from a b top [] le r = tt
-    sets-from a b top (s ∷ ss) le r = let x = r.1.0.0 in (r.0, ((omega (arith, x, le), r.1.0.1, r.1.0.2), r.1.1), r.2)
-
-    sets-to : (low a b : ℕ) (ss : List ChunkSet) → a ≤ b → AreSets low a ss → AreSets low b ss
-    sets-to low a b [] le r = tt
-    sets-to low a b (s ∷ ss) le r = let x = r.1.0.1 in (r.0, ((r.1.0.0, omega (arith, x, le), r.1.0.2), r.1.1), sets-to (r.0 + 1) a b ss le r.2)
-
     -- what is so of a window makes the lowest index its bottom
     settled : (k low index reach : ℕ) (q : Reassembly) → q.next_ssn ≡ index % 2 ^ 16 → k ≤ low → low ≤ index → index < low + 2 ^ 15 → index ≤ reach
         → reach ≤ low + 2 ^ 15 → AreSets low reach q.ordered → IsKept index q.ordered → Every IsUnorderedSet q.unordered
@@ -158,101 +150,7 @@ module _ (p n : ℕ) (B : ℕ → ℕ) (Fits : ℕ → List ChunkPayloadData →
                 build index (ap (lowest_among q.next_ssn) e ∙ ap (λ b. if b then s.ssn else q.next_ssn) f ∙ next) from (omega arith)
                 (subst (AreSets index reach) (sym e) (i, ((omega (arith, lt), a.1.0.1, a.1.0.2), a.1.1), a.2))
 
-    pub sets-those : (p : ChunkSet → Bool) (low top : ℕ) (ss : List ChunkSet) → AreSets low top ss → AreSets low top (filter p ss)
-    sets-those p low top [] r = tt
-    sets-those p low top (s ∷ ss) r = by (p s) (sets-those p (r.0 + 1) top ss r.2)
-      where
-        by : (b : Bool) → AreSets (r.0 + 1) top (filter p ss) → AreSets low top (if b then s ∷ filter p ss else filter p ss)
-        by true ih = (r.0, r.1, ih)
-        by false ih = sets-from (r.0 + 1) low top (filter p ss) (let x = r.1.0.0 in omega (arith, x)) ih
-
     -- ## A fragment comes
-
-    none-after : (b c : Bool) → (b || c) ≡ false → c ≡ false
-    none-after true c e = absurd (not_both (sym e))
-    none-after false c e = e
-
-    strictly : (j k : ℕ) → j ≤ k → (k ≡ j → ⊥) → j < k
-    strictly j k le differ = elim (cases_lt j k) [ inl lt ↦ lt | inr ge ↦ absurd (differ (omega (arith, le, ge))) ]
-
-    module _ (x : ChunkPayloadData) (i : ℕ) (single : Fits i (x ∷ []))
-        (put : (cs : List ChunkPayloadData) → list_any (has_tsn x.tsn) cs ≡ false → Fits i cs → Fits i (insert_before chunk_before x cs))
-        (is : x.stream_sequence_number ≡ i % 2 ^ 16) where
-      with-of : (s : ChunkSet) → Fits i s.chunks → Fits i (with_chunk x s).chunks
-      with-of s h = by (list_any (has_tsn x.tsn) s.chunks) refl
-        where
-          by : (b : Bool) → list_any (has_tsn x.tsn) s.chunks ≡ b → Fits i (if b then s.chunks else insert_before chunk_before x s.chunks)
-          by true e = h
-          by false e = put s.chunks e h
-
-      sets-changed : (base low top : ℕ) (ss : List ChunkSet) → base ≤ low → base ≤ i → i < top → top ≤ base + 2 ^ 15 → AreSets low top ss
-          → AreSets low top (change_first (has_ssn x.stream_sequence_number) (with_chunk x) ss)
-      sets-changed base low top [] at le lt far r = tt
-      sets-changed base low top (s ∷ ss) at le lt far r = by (s.ssn == x.stream_sequence_number) refl
-          (sets-changed base (r.0 + 1) top ss (let a = r.1.0.0 in omega (arith, a, at)) le lt far r.2)
-        where
-          by : (b : Bool) → (s.ssn == x.stream_sequence_number) ≡ b
-              → AreSets (r.0 + 1) top (change_first (has_ssn x.stream_sequence_number) (with_chunk x) ss)
-              → AreSets low top (if b then with_chunk x s ∷ ss else s ∷ change_first (has_ssn x.stream_sequence_number) (with_chunk x) ss)
-          by true e ih =
-              let n : r.0 % 2 ^ 16 ≡ i % 2 ^ 16 = sym r.1.0.2 ∙ same-is s.ssn x.stream_sequence_number e ∙ is in
-              let a = r.1.0.0 in
-              let b = r.1.0.1 in
-              let same : r.0 ≡ i = omega (arith, n, a, b, at, le, lt, far) in (
-                r.0,
-                (
-                  (r.1.0.0, r.1.0.1, r.1.0.2),
-                  subst (λ k. Fits k (with_chunk x s).chunks) (sym same)
-                      (with-of s (subst (λ k. Fits k s.chunks) same r.1.1)),
-                ),
-                r.2,
-              )
-          by false e ih = (r.0, r.1, ih)
-
-      sets-inserted : (low top : ℕ) (ss : List ChunkSet) → top ≤ low + 2 ^ 15 → low ≤ i → i < top
-          → list_any (has_ssn x.stream_sequence_number) ss ≡ false → AreSets low top ss → AreSets low top (insert_before set_before (new_set x) ss)
-      sets-inserted low top [] near le lt none r = (i, ((le, lt, is), single), tt)
-      sets-inserted low top (s ∷ ss) near le lt none r = by (set_before (new_set x) s) refl
-          (λ n a. sets-inserted (r.0 + 1) top ss n a lt
-          (none-after (s.ssn == x.stream_sequence_number) (list_any (has_ssn x.stream_sequence_number) ss) none) r.2)
-        where
-          j : ℕ
-          j = r.0
-
-          order : set_before (new_set x) s ≡ nat_lt i j
-          order =
-              let c = r.1.0.0 in
-              let d = r.1.0.1 in
-              ap (λ n. comes_before16 n s.ssn) is ∙ ap (comes_before16 (i % 2 ^ 16)) r.1.0.2
-              ∙ comes_before16-index i j (omega (arith, le, lt, c, d, near)) (omega (arith, le, lt, c, d, near))
-
-          other : i ≡ j → ⊥
-          other e =
-              let same : s.ssn ≡ x.stream_sequence_number = r.1.0.2 ∙ ap (λ n. n % 2 ^ 16) (sym e) ∙ sym is in
-              not_both (sym none ∙ ap (λ b. b || list_any (has_ssn x.stream_sequence_number) ss)
-              (ap (λ n. n == x.stream_sequence_number) same ∙ same-yes x.stream_sequence_number))
-
-          by : (b : Bool) → set_before (new_set x) s ≡ b
-              → (top ≤ r.0 + 1 + 2 ^ 15 → r.0 + 1 ≤ i → AreSets (r.0 + 1) top (insert_before set_before (new_set x) ss))
-              → AreSets low top (if b then new_set x ∷ s ∷ ss else s ∷ insert_before set_before (new_set x) ss)
-          by true e ih =
-              let t : nat_lt i j ≡ true = sym order ∙ e in
-              let less : i < j = grind (arith, nat_tests, t) in
-              (i, ((le, lt, is), single), (j, ((omega (arith, less), r.1.0.1, r.1.0.2), r.1.1), r.2))
-          by false e ih =
-              let t : nat_lt i j ≡ false = sym order ∙ e in
-              let ge : j ≤ i = grind (arith, nat_tests, t) in
-              let up = strictly j i ge other in
-              let c = r.1.0.0 in
-              (j, r.1, ih (omega (arith, near, c)) (omega (arith, up)))
-
-      put-sets : (low top : ℕ) (ss : List ChunkSet) → low ≤ i → i < top → top ≤ low + 2 ^ 15 → AreSets low top ss → AreSets low top (sets_with x ss)
-      put-sets low top ss le lt far r = by (list_any (has_ssn x.stream_sequence_number) ss) refl
-        where
-          by : (b : Bool) → list_any (has_ssn x.stream_sequence_number) ss ≡ b
-              → AreSets low top (if b then change_first (has_ssn x.stream_sequence_number) (with_chunk x) ss else insert_before set_before (new_set x) ss)
-          by true e = sets-changed low low top ss (omega arith) le lt far r
-          by false e = sets-inserted low top ss far le lt e r
 
     -- not too far past the lowest number, and near the reach, it is less than half the circle past the lowest index
     pub in-window : (k reach i ssn : ℕ) (q : Reassembly) (d : IsDue k reach q) → ssn ≡ i % 2 ^ 16 → reach ≤ i + 1 + 2 ^ 14 → i + 1 ≤ reach + 2 ^ 14
@@ -323,7 +221,7 @@ module _ (p n : ℕ) (B : ℕ → ℕ) (Fits : ℕ → List ChunkPayloadData →
       near = d.near;
       within = let h = d.within in omega (arith, h, le);
       far = far;
-      sets = sets-to d.low reach more q.ordered le d.sets;
+      sets = sets-to Fits d.low reach more q.ordered le d.sets;
       kept = d.kept;
       unordered = d.unordered;
       unassembled = d.unassembled;
@@ -411,7 +309,7 @@ module _ (p n : ℕ) (B : ℕ → ℕ) (Fits : ℕ → List ChunkPayloadData →
               | inr g ↦ inr (put-place c z old.held.ordered (inr g))
             ] in
             let s = settled k d.low d.index more (record old.held { ordered = sets_with c old.held.ordered }) d.next d.due d.from d.near e.within far
-            (put-sets c i single put is d.low more old.held.ordered low top' far e.sets) kept d.unordered d.unassembled in
+            (put-sets Fits c i single put is d.low more old.held.ordered low top' far e.sets) kept d.unordered d.unassembled in
             (s.0, inr (put-place c y old.held.ordered (inl at)))
 
     -- ## A message is read
@@ -549,7 +447,7 @@ module _ (p n : ℕ) (B : ℕ → ℕ) (Fits : ℕ → List ChunkPayloadData →
         → low ≤ j → j < low + 2 ^ 15 → front_readable next ss ≡ None → AreSets low top ss → AreSets (low + 1) top (filter (λ set. not (is_passed last set)) ss)
     without-lowest low top j index next last [] e f a b c g none r = tt
     without-lowest low top j index next last (s ∷ ss) e f a b c g none r = elim (cases_lt low r.0) [
-      | inl lt ↦ sets-those (λ set. not (is_passed last set)) (low + 1) top (s ∷ ss) (r.0, ((omega (arith, lt), r.1.0.1, r.1.0.2), r.1.1), r.2)
+      | inl lt ↦ sets-those Fits (λ set. not (is_passed last set)) (low + 1) top (s ∷ ss) (r.0, ((omega (arith, lt), r.1.0.1, r.1.0.2), r.1.1), r.2)
       | inr ge ↦ here (let x = r.1.0.0 in omega (arith, ge, x)) (is_complete s.chunks) refl
     ]
       where
@@ -567,7 +465,7 @@ module _ (p n : ℕ) (B : ℕ → ℕ) (Fits : ℕ → List ChunkPayloadData →
             let is : is_passed last s ≡ true = ap (λ b. b && not (is_complete s.chunks)) at ∙ ap not h in
             subst (λ b. AreSets (low + 1) top (if not b then s ∷ filter (λ set. not (is_passed last set)) ss else filter (λ set. not (is_passed last set)) ss))
             (sym is) (subst (λ n. AreSets (n + 1) top (filter (λ set. not (is_passed last set)) ss)) same
-            (sets-those (λ set. not (is_passed last set)) (r.0 + 1) top ss r.2))
+            (sets-those Fits (λ set. not (is_passed last set)) (r.0 + 1) top ss r.2))
 
     pub neither : (a b : Bool) → (a || b) ≡ false → (a ≡ false) × (b ≡ false)
     neither true b e = absurd (not_both (sym e))
@@ -660,7 +558,7 @@ module _ (p n : ℕ) (B : ℕ → ℕ) (Fits : ℕ → List ChunkPayloadData →
           let w = d.within in
           skips (omega (arith, x)) d.low reach (omega (arith, w, back)) (omega (arith, x, f)) d.due (inl f) d.near (λ y. absurd (omega (arith, x, f, y)))
           (omega arith)
-          (omega (arith, x, f, w)) le d.far (sets-those (λ set. not (is_passed last set)) d.low reach q.ordered d.sets)
+          (omega (arith, x, f, w)) le d.far (sets-those Fits (λ set. not (is_passed last set)) d.low reach q.ordered d.sets)
 
       -- or lies in the window
       new-name : d.low ≤ j → j < d.low + 2 ^ 15 → (j + 1 ≡ d.low + 2 ^ 15 → front_readable q.next_ssn q.ordered ≡ None) → (more : ℕ) → reach ≤ more
@@ -669,10 +567,10 @@ module _ (p n : ℕ) (B : ℕ → ℕ) (Fits : ℕ → List ChunkPayloadData →
           let f = d.from in
           let n = d.near in
           let u = d.due in
-          let sets = sets-to d.low reach more q.ordered up d.sets in
+          let sets = sets-to Fits d.low reach more q.ordered up d.sets in
           elim (cases_lt (j + 1) (d.low + 2 ^ 15)) [
             | inl lt ↦ skips y d.low more (omega (arith, x, n)) (omega (arith, y, f)) d.due (inl f) d.near (λ z. lt) up upto within far
-                (sets-those (λ set. not (is_passed last set)) d.low more q.ordered sets)
+                (sets-those Fits (λ set. not (is_passed last set)) d.low more q.ordered sets)
             | inr ge ↦
                 let top : j + 1 ≡ d.low + 2 ^ 15 = omega (arith, ge, y) in
                 skips y (d.low + 1) more (omega (arith, x, n)) (omega (arith, y, f)) (omega (arith, u)) (inr (omega (arith, top, n), omega (arith, x)))
@@ -771,7 +669,7 @@ module _ (p n : ℕ) (B : ℕ → ℕ) (Fits : ℕ → List ChunkPayloadData →
         ] in
         (settled k d.low d.index reach (held_after_incomplete_skip t q)
         (past-sets d.low d.low reach t d.index q.next_ssn q.ordered d.sets d.next d.near (omega arith) h ∙ d.next) d.due d.from d.near d.within d.far
-        (sets-those (λ set. not (cannot_complete t set)) d.low reach q.ordered d.sets) kept d.unordered d.unassembled).0
+        (sets-those Fits (λ set. not (cannot_complete t set)) d.low reach q.ordered d.sets) kept d.unordered d.unassembled).0
 
 -- other places came, each of which is held or lies before the next index
 abbrev pub recame : (p n : ℕ) (B : ℕ → ℕ) (Fits : ℕ → List ChunkPayloadData → Type 0) (Came More : ℕ → Type 0) (k reach : ℕ) (q : Reassembly)
