@@ -2,14 +2,14 @@
 -- and passed; and each set of such a message is complete. So no fragment that comes for the first time lies before the next index.
 use Rattle.std.proofs.Common.{◌≡◌, ℕ, ◌+◌, ◌%◌, ◌^◌, ◌<◌, ◌≤◌, Bool, true, false, not, List, [], ◌∷◌, length, Some, None, inl, inr, refl, ap, sym, subst, ◌∙◌}
 use Rattle.std.proofs.Common.{arith}
-use Rattle.std.specs.Prelude.{◌⊎◌, ◌==◌, ◌&&◌, ◌||◌, if◌then◌else◌, nat_le, nat_lt}
+use Rattle.std.specs.Prelude.{◌⊎◌, ◌==◌, ◌&&◌, if◌then◌else◌, nat_le, nat_lt}
 use Rattle.std.specs.List.{filter, list_any}
 use Rattle.std.proofs.lemmas.Bool.{cases_lt, eq-eqb}
 use Rattle.std.proofs.lemmas.Bool.Decides.{nat_tests}
 use Rattle.sctp_util.specs.Lists.{change_first, insert_before}
-use Rattle.sctp_util.specs.Serial.{at_or_before16, comes_before16, distance16}
+use Rattle.sctp_util.specs.Serial.{at_or_before16, comes_before16}
 use Rattle.sctp_util.proofs.Cases.{or-left, or-split, same-is}
-use Rattle.sctp_util.proofs.More.{and, both, fails, not_both}
+use Rattle.sctp_util.proofs.More.{both, fails, not_both}
 use Rattle.sctp_util.proofs.Round.{tsn}
 use Rattle.sctp_util.proofs.Wraps.{at_or_before16-index, comes_before16-index, next16}
 use Rattle.sctp_data.specs.declared.chunk.chunk_payload_data.ChunkPayloadData.{ChunkPayloadData}
@@ -18,17 +18,13 @@ use Rattle.sctp_reassembly.specs.reassembly_queue.Fragments.{has_ssn, is_complet
 use Rattle.sctp_reassembly.specs.reassembly_queue.ReassemblyQueue.{Reassembly, after_read, front_readable, held_after_ordered_push, held_after_ordered_skip}
 use Rattle.sctp_reassembly.specs.reassembly_queue.ReassemblyQueue.{is_passed, is_readable, without_first}
 use Rattle.sctp_reassembly.specs.reassembly_queue.Skips.{cannot_complete, held_after_incomplete_skip, ssn_past_sets}
-use Rattle.sctp_receiver.specs.Ssns.{is_name_too_far, lowest_ssn}
+use Rattle.sctp_receiver.specs.Ssns.{is_name_too_far}
 use Rattle.sctp_serial.specs.DataChunks.{chunk_before, has_tsn}
 use Rattle.sctp_delivery.proofs.Every.{Every, every-inserted, every-passing}
 use Rattle.sctp_delivery.proofs.TakenTsns.{any-inserted}
 use Rattle.sctp_delivery.proofs.Tidy.{every-first}
 use Rattle.sctp_delivery.proofs.UnwrappedReads as reads
-use Rattle.sctp_delivery.proofs.UnwrappedReads.{IsDue, sides}
-
-unnot : (b : Bool) → not b ≡ false → b ≡ true
-unnot true e = refl
-unnot false e = absurd (not_both (sym e))
+use Rattle.sctp_delivery.proofs.UnwrappedReads.{IsDue, unnot}
 
 abbrev pub IsSome : ChunkSet → Type 0
 IsSome s = 0 < length s.chunks
@@ -86,7 +82,7 @@ module _ (p n : ℕ) (B : ℕ → ℕ) (Fits : ℕ → List ChunkPayloadData →
       w y.0 y.1 y.2 (omega (arith, b, lt))
 
   -- with fewer to come
-  pub current-less : (low top : ℕ) (L M : ℕ → Type 0) (q : Reassembly) → ((y : ℕ) → y ≤ n + 1 → M y → L y) → IsNow low top L q → IsNow low top M q
+  abbrev pub current-less : (low top : ℕ) (L M : ℕ → Type 0) (q : Reassembly) → ((y : ℕ) → y ≤ n + 1 → M y → L y) → IsNow low top L q → IsNow low top M q
   current-less low top L M q less c = record {
     index = c.index;
     next = c.next;
@@ -311,40 +307,11 @@ module _ (p n : ℕ) (B : ℕ → ℕ) (Fits : ℕ → List ChunkPayloadData →
 
   module _ (k reach j last : ℕ) (q : Reassembly) (d : IsDue p n B Fits Came k reach q) (is : last ≡ j % 2 ^ 16) (back : reach ≤ j + 1 + 2 ^ 14)
       (ahead : j + 1 ≤ reach + 2 ^ 14) (answered : is_name_too_far last q ≡ false) where
-    -- the name is less than half the circle past the lowest index
-    pub name-near : j < d.low + 2 ^ 15
-    name-near = by (sides d.low j (let a = d.from in let b = d.within in omega (arith, a, b, back)) (let c = d.far in omega (arith, c, ahead)))
-      where
-        away : ℕ
-        away = distance16 (d.low % 2 ^ 16) (j % 2 ^ 16)
-
-        same : distance16 (lowest_ssn q) last ≡ away
-        same = ap (λ m. distance16 m last) d.lowest ∙ ap (distance16 (d.low % 2 ^ 16)) is
-
-        first-test : (a b : Bool) → (a || b) ≡ false → a ≡ false
-        first-test true b e = absurd (not_both (sym e))
-        first-test false b e = refl
-
-        close : (a : ℕ) → (nat_le (2 ^ 15) a && nat_lt a (2 ^ 15 + 2 ^ 14)) ≡ false → a < 2 ^ 15 + 2 ^ 14 → a < 2 ^ 15
-        close a f g = elim (cases_lt a (2 ^ 15)) [
-          | inl lt ↦ lt
-          | inr ge ↦
-              let s : nat_le (2 ^ 15) a ≡ true = grind (arith, nat_tests, ge) in
-              let t : nat_lt a (2 ^ 15 + 2 ^ 14) ≡ true = grind (arith, nat_tests, g) in
-              absurd (not_both (sym f ∙ and (nat_le (2 ^ 15) a) (nat_lt a (2 ^ 15 + 2 ^ 14)) s t))
-        ]
-
-        by : ((d.low ≤ j) × (d.low + away ≡ j)) ⊎ ((j < d.low) × (d.low + away ≡ j + 2 ^ 16)) → j < d.low + 2 ^ 15
-        by (inr x) = let lt = x.0 in omega (arith, lt)
-        by (inl x) =
-            let at = x.1 in
-            let c = d.far in
-            let near = close (distance16 (lowest_ssn q) last) (first-test _ _ answered) (omega (arith, same, at, c, ahead)) in
-            omega (arith, same, at, near)
+    near : j < d.low + 2 ^ 15
+    near = reads.name-near p n B Fits Came at-in k reach j last q d is back ahead answered
 
     order-at : (i : ℕ) (s : ChunkSet) → s.ssn ≡ i % 2 ^ 16 → d.low ≤ i → i < reach → at_or_before16 s.ssn last ≡ nat_le i j
     order-at i s e lo hi =
-        let near = name-near in
         ap (λ m. at_or_before16 m last) e ∙ ap (at_or_before16 (i % 2 ^ 16)) is
         ∙ at_or_before16-index i j (omega (arith, hi, back)) (omega (arith, near, lo))
 
@@ -377,7 +344,6 @@ module _ (p n : ℕ) (B : ℕ → ℕ) (Fits : ℕ → List ChunkPayloadData →
         order =
             let a = d.within in
             let b = d.from in
-            let near = name-near in
             ap (λ m. at_or_before16 m last) d.next ∙ ap (at_or_before16 (d.index % 2 ^ 16)) is
             ∙ at_or_before16-index d.index j (omega (arith, a, back)) (omega (arith, near, b))
 
@@ -424,13 +390,6 @@ module _ (p n : ℕ) (B : ℕ → ℕ) (Fits : ℕ → List ChunkPayloadData →
       abbrev pub MayGo : ℕ → Type 0
       MayGo z = (i : ℕ) (cs : List ChunkPayloadData) → Fits i cs → B z ≡ i + 1 → Every P cs
 
-      later-none : (low top z : ℕ) (ss : List ChunkSet) → AreSets low top ss → z ≤ n → B z ≤ low → list_any (has_place z) ss ≡ true → ⊥
-      later-none low top z [] r most lo h = not_both h
-      later-none low top z (s ∷ ss) r most lo h = elim (or-split (has_place z s) (list_any (has_place z) ss) h) [
-        | inl g ↦ let b = at-in r.0 z s.chunks most r.1.1 g in let x = r.1.0.0 in absurd (omega (arith, b, x, lo))
-        | inr g ↦ let x = r.1.0.0 in later-none (r.0 + 1) top z ss r.2 most (omega (arith, lo, x)) g
-      ]
-
       gone-passed : (index low : ℕ) (ss : List ChunkSet) → d.low ≤ low → AreSets low reach ss → Every (IsWhole index) ss → Every IsSome ss
           → ((z : ℕ) → z ≤ m → E z ≡ true → low + 1 ≤ B z → index + 1 ≤ B z → (list_any (has_place z) ss ≡ true) ⊎ MayGo z)
           → Every (λ s. is_passed last s ≡ true → Every P s.chunks) ss
@@ -466,7 +425,8 @@ module _ (p n : ℕ) (B : ℕ → ℕ) (Fits : ℕ → List ChunkPayloadData →
                 | inr g ↦ g r.0 s.chunks r.1.1 z.3
                 | inl h ↦ elim (or-split (has_place z.0 s) (list_any (has_place z.0) ss) h) [
                   | inl g ↦ absurd (not_both (sym z.4 ∙ g))
-                  | inr g ↦ let most = z.1 in absurd (later-none (r.0 + 1) reach z.0 ss r.2 (omega (arith, most, within)) (omega (arith, count)) g)
+                  | inr g ↦ let most = z.1 in absurd (reads.later-none p n B Fits Came at-in (r.0 + 1) reach z.0 ss r.2
+                      (omega (arith, most, within)) (omega (arith, count)) g)
                 ]
               ]
 

@@ -7,7 +7,6 @@ use Rattle.std.specs.List.{list_any}
 use Rattle.std.proofs.lemmas.Bool.{cases_lt}
 use Rattle.std.proofs.lemmas.List.{reverse-append}
 use Rattle.std.proofs.lemmas.List.Sums.{sum_by-cons}
-use Rattle.sctp_util.specs.Lists.{after_leading}
 use Rattle.sctp_util.proofs.Cases.{same-is, same-yes}
 use Rattle.sctp_util.proofs.More.{fails, not_both}
 use Rattle.sctp_data.specs.declared.chunk.chunk_payload_data.ChunkPayloadData.{ChunkPayloadData}
@@ -20,6 +19,7 @@ use Rattle.sctp_delivery.proofs.Sent.{Entry, GoesOn, IsLine, IsPart, Numbered, W
 use Rattle.sctp_delivery.proofs.SpreadEntries.{begun_to, is_at, joined-rest, part-joined, to-all, to-more, to-most}
 use Rattle.sctp_delivery.proofs.TsnPlaces.{base}
 use Rattle.sctp_delivery.proofs.UnwrappedHolds.{IsOf, Rises}
+use Rattle.sctp_delivery.proofs.UnwrappedReads.{leading-each}
 
 -- ## Entries
 
@@ -247,14 +247,6 @@ every-reversed P [] h = tt
 every-reversed P (x ∷ xs) h =
     subst (Every P) (sym (reverse-append (x ∷ []) xs)) (every-joined P (reverse xs) (x ∷ []) (every-reversed P xs h.1) (h.0, tt))
 
-pub every-behind : (P : ChunkPayloadData → Type 0) (p : ChunkPayloadData → Bool) (xs : List ChunkPayloadData) → Every P xs → Every P (after_leading p xs)
-every-behind P p [] h = tt
-every-behind P p (x ∷ xs) h = by (p x) (every-behind P p xs h.1)
-  where
-    by : (b : Bool) → Every P (after_leading p xs) → Every P (if b then after_leading p xs else x ∷ xs)
-    by true ih = ih
-    by false ih = h
-
 every-on : (P : ChunkPayloadData → Type 0) (t : ℕ) (xs : List ChunkPayloadData) → Every P xs → Every P (on_from t xs)
 every-on P t [] h = tt
 every-on P t (x ∷ xs) h = by (list_any (has_tsn t) xs) (has_tsn t x) (every-on P t xs h.1)
@@ -341,7 +333,7 @@ module _ (first : ℕ) (ns : List Numbered) (sent : List Entry) (few : length se
           → (if b then 0 else bytes_down c.tsn (back_from (preceding_tsn c.tsn) xs)) + (length c.user_data + length was.1) ≤ length was.0.bytes
       before true e = omega (arith, alone)
       before false e = down-fits (back_from (preceding_tsn c.tsn) xs)
-          (every-behind (λ y. WasSent sent (data_of y)) (λ y. not (has_tsn (preceding_tsn c.tsn) y)) (reverse xs)
+          (leading-each (λ y. WasSent sent (data_of y)) (λ y. not (has_tsn (preceding_tsn c.tsn) y)) (reverse xs)
           (every-reversed (λ y. WasSent sent (data_of y)) xs h)) c was e
 
       after : (b : Bool) → c.ending_fragment ≡ b → (if b then 0 else bytes_up c.tsn (on_from (following_tsn c.tsn) xs)) ≤ length was.1

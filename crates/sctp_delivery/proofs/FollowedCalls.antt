@@ -1,16 +1,15 @@
 -- A FORWARD-TSN comes: what the receiver drops of a stream is of messages that are gone.
 use Rattle.std.proofs.Common.{◌≡◌, ℕ, ◌+◌, ◌%◌, ◌^◌, ◌<◌, ◌≤◌, Bool, true, false, not, List, [], ◌∷◌, ◌++◌, length, map, Option, Some, None, inl, inr, refl, ap}
 use Rattle.std.proofs.Common.{sym, subst, ◌∙◌, arith}
-use Rattle.std.specs.Prelude.{All, ◌⊎◌, ◌==◌, ◌&&◌, ◌||◌, if◌then◌else◌, nat_le, nat_lt, option_map, slice_index_or}
+use Rattle.std.specs.Prelude.{All, ◌⊎◌, ◌==◌, ◌&&◌, nat_le, option_map, slice_index_or}
 use Rattle.std.specs.List.{filter, list_all, list_any, sum_by}
 use Rattle.std.proofs.lemmas.Bool.{cases_lt}
 use Rattle.std.proofs.lemmas.Bool.Decides.{nat_tests}
 use Rattle.std.proofs.lemmas.List.Folds.{list_any_at}
 use Rattle.std.proofs.lemmas.List.Sums.{sum_by-append}
-use Rattle.sctp_util.specs.Serial.{at_or_before, comes_before}
+use Rattle.sctp_util.specs.Serial.{at_or_before}
 use Rattle.sctp_util.proofs.Cases.{or-left, same-is, same-yes}
-use Rattle.sctp_util.proofs.Edits.{list_any-those}
-use Rattle.sctp_util.proofs.More.{fails, not_both}
+use Rattle.sctp_util.proofs.More.{not_both}
 use Rattle.sctp_util.proofs.Round.{tsn}
 use Rattle.sctp_data.specs.declared.chunk.chunk_payload_data.ChunkPayloadData.{ChunkPayloadData}
 use Rattle.sctp_data.specs.declared.chunk.chunk_forward_tsn.ChunkForwardTsnStream.{ChunkForwardTsnStream}
@@ -20,19 +19,17 @@ use Rattle.sctp_data.specs.PayloadData.{data_of}
 use Rattle.sctp_reassembly.specs.reassembly_queue.Fragments.{is_complete}
 use Rattle.sctp_reassembly.specs.reassembly_queue.ReassemblyQueue.{Reassembly, ReassemblyState, after_ordered_skip, after_unordered_skip}
 use Rattle.sctp_reassembly.specs.reassembly_queue.ReassemblyQueue.{held_after_ordered_skip, held_after_unordered_skip, is_passed}
-use Rattle.sctp_reassembly.specs.reassembly_queue.Skips.{after_incomplete_skip, cannot_complete, misses}
+use Rattle.sctp_reassembly.specs.reassembly_queue.Skips.{after_incomplete_skip, cannot_complete}
 use Rattle.sctp_receiver.specs.declared.receiver.inbound_streams.InboundStream.{InboundStream}
-use Rattle.sctp_receiver.specs.Inbound.{has_number, number, skipped_each, ssns_of, stream_forwarded, unassembled_forwarded}
+use Rattle.sctp_receiver.specs.Inbound.{skipped_each, ssns_of}
 use Rattle.sctp_receiver.specs.Receiver.{Reception, follow_forward_tsn, is_stale, stream_of}
 use Rattle.sctp_receiver.specs.ReceiverRuns.{fragments_read, is_one_message}
-use Rattle.sctp_receiver.specs.Skips.{incomplete_forwarded, is_ahead, names_closed, names_too_far, without_incomplete}
-use Rattle.sctp_receiver.specs.Ssns.{is_name_too_far, is_named_too_far}
-use Rattle.sctp_receiver.proofs.Forwarded.{found-followed, found-mapped}
+use Rattle.sctp_receiver.specs.Skips.{names_closed, names_too_far, without_incomplete}
+use Rattle.sctp_receiver.specs.Ssns.{is_name_too_far}
 use Rattle.sctp_receiver.proofs.Handed.{held_weight}
 use Rattle.sctp_receiver.proofs.CompleteMessages.{all_complete}
 use Rattle.sctp_receiver.proofs.OneMessage.{is_unmixed}
 use Rattle.sctp_receiver.proofs.Weights.{weight}
-use Rattle.sctp_sender.proofs.Lates.{found-passes}
 use Rattle.sctp_sender.specs.Abandonment.{is_pair_of}
 use Rattle.sctp_serial.specs.DataChunks.{has_tsn, is_on}
 use Rattle.sctp_delivery.specs.Complete.{fragments_of_sets}
@@ -44,11 +41,10 @@ use Rattle.sctp_delivery.proofs.InTheEnd.{some-of}
 use Rattle.sctp_delivery.proofs.CurrentSets as current
 use Rattle.sctp_delivery.proofs.CurrentSets.{IsCurrent}
 use Rattle.sctp_delivery.proofs.Delivered.{EachSent}
-use Rattle.sctp_delivery.proofs.Every.{Every, every-contained, every-joined, every-of, every-at, every-of-all, every-passing, one-of}
+use Rattle.sctp_delivery.proofs.Every.{Every, every-contained, every-joined, every-at, every-of-all, every-passing, one-of}
 use Rattle.sctp_delivery.proofs.FollowedSets.{each-dropped, each-leading, filter-split, leading, leading-split, left-orderly, left-tidy, skipped-orderly}
 use Rattle.sctp_delivery.proofs.FollowedSets.{skipped-tidy}
 use Rattle.sctp_delivery.proofs.GoneMessages.{IsGone, resolved}
-use Rattle.sctp_delivery.proofs.ArrivedTsns.{IsKnown}
 use Rattle.sctp_delivery.proofs.KeptCalls as calls
 use Rattle.sctp_delivery.proofs.KeptSets.{sets-those}
 use Rattle.sctp_delivery.proofs.KeptOrGone.{HeldWell, IsHeldWell, IsKeptBut, IsLate, IsPassedBy, at-in, place-in}
@@ -56,16 +52,18 @@ use Rattle.sctp_delivery.proofs.MessagePlaces.{EndsAt, IsWanted, wanted-after, w
 use Rattle.sctp_delivery.proofs.MessageSets.{fragment-upto, misses-one}
 use Rattle.sctp_delivery.proofs.OrderedEntries.{AreJoined}
 use Rattle.sctp_delivery.proofs.PassedMessages.{AreCutGone, IsPassing}
+use Rattle.sctp_delivery.proofs.SackSteps.{known}
 use Rattle.sctp_delivery.proofs.Sent.{Entry, IsLine, Numbered, WasSent, part-length}
 use Rattle.sctp_delivery.proofs.Sessions as made_in
 use Rattle.sctp_delivery.proofs.SpreadEntries.{begun_to, is_at, to-up}
 use Rattle.sctp_delivery.proofs.SpreadFlight.{IsMadeNaming}
-use Rattle.sctp_delivery.proofs.TakenCalls.{HasCome}
+use Rattle.sctp_delivery.proofs.TakenCalls.{HasCome, beyond-given}
 use Rattle.sctp_delivery.proofs.TakenTsns.{advance-keeps, come}
 use Rattle.sctp_delivery.proofs.Tidy.{IsTidy, IsUnordered}
 use Rattle.sctp_delivery.proofs.TsnPlaces.{IsGiven, at-or-before, base, before, same-place}
 use Rattle.sctp_delivery.proofs.UnassembledGone.{gone-unassembled, was-unassembled}
-use Rattle.sctp_delivery.proofs.UnwrappedCalls.{IsNamingTo, gone-begun, gone-held, own-names}
+use Rattle.sctp_delivery.proofs.UnwrappedCalls.{IsNamingTo, Misses, ahead-is, changed, clear-came, close, found-after, gone-begun, gone-held, name-within}
+use Rattle.sctp_delivery.proofs.UnwrappedCalls.{named-by, now-is, stale-same}
 use Rattle.sctp_delivery.proofs.UnwrappedHolds as holds
 use Rattle.sctp_delivery.proofs.UnwrappedReads.{IsDue}
 use Rattle.sctp_delivery.proofs.UnwrappedSessions as sessions
@@ -88,13 +86,22 @@ module _ (first n : ℕ) (few : n < 2 ^ 31) (old new : Session) (ns : List Numbe
   abbrev m : ℕ
   m = length pass.passed
 
+  abbrev B : ℕ → ℕ
+  B k = begun_to st k sent
+
+  abbrev E : ℕ → Bool
+  E k = is_at st k sent
+
+  abbrev M : ChunkPayloadData → Type 0
+  M c = WasSent sent (data_of c)
+
   line : IsLine ns first sent
   line = i.spread.holds.held.stands.queued.line
 
   joined : AreJoined sent
   joined = i.spread.holds.held.stands.queued.joined
 
-  up : (j k : ℕ) → j ≤ k → begun_to st j sent ≤ begun_to st k sent
+  up : (j k : ℕ) → j ≤ k → B j ≤ B k
   up j k le = to-up st j k sent le
 
   least : m ≤ n
@@ -120,18 +127,18 @@ module _ (first n : ℕ) (few : n < 2 ^ 31) (old new : Session) (ns : List Numbe
   passes-it c e = list_any_at (passes c.tsn) old.made f.handed.0 (forward_tsn g) f.handed.1 (ap (passes c.tsn) f.handed.2 ∙ e)
 
   abbrev Came : ℕ → Type 0
-  Came = holds.Came p st n (λ k. begun_to st k sent) (λ k. is_at st k sent) (λ c. WasSent sent (data_of c)) r.cumulative_tsn r.beyond
+  Came = holds.Came p st n B E M r.cumulative_tsn r.beyond
 
   abbrev Rises : ℕ → ℕ → List ChunkPayloadData → Type 0
-  Rises = holds.Rises p st n (λ k. begun_to st k sent) (λ k. is_at st k sent) (λ c. WasSent sent (data_of c))
+  Rises = holds.Rises p st n B E M
 
   abbrev Fits : ℕ → List ChunkPayloadData → Type 0
-  Fits = holds.Fits p st n (λ k. begun_to st k sent) (λ k. is_at st k sent) (λ c. WasSent sent (data_of c))
+  Fits = holds.Fits p st n B E M
 
-  abbrev answered : holds.AreDue p st n (λ k. begun_to st k sent) (λ k. is_at st k sent) (λ c. WasSent sent (data_of c)) a old.receiving
+  abbrev answered : holds.AreDue p st n B E M a old.receiving
   answered = calls.answered first n few old new ns sent i gone st
 
-  near : begun_to st n sent ≤ begun_to st a sent + 2 ^ 14
+  near : B n ≤ B a + 2 ^ 14
   near = calls.near first n few old new ns sent i gone st
 
   less : (y : ℕ) → y ≤ n + 1 → New y → Old y
@@ -144,17 +151,25 @@ module _ (first n : ℕ) (few : n < 2 ^ 31) (old new : Session) (ns : List Numbe
   t = g.new_cumulative_tsn
 
   -- what it names of the stream
-  naming : IsNamingTo p st n (λ k. begun_to st k sent) (λ k. is_at st k sent) (λ c. WasSent sent (data_of c)) a m g.streams
+  naming : IsNamingTo p st n B E M a m g.streams
   naming =
       let x = every-contained (IsMadeNaming st p a sent) old.made (forward_tsn g) f.handed (i.spread.names st) in
       let w = x.within in
       let long = i.spread.long in
       let same : x.place ≡ m = same-place p x.place m (omega (arith, w, long, few)) (omega (arith, least, few)) (sym x.is ∙ pass.is) in
-      subst (λ j. IsNamingTo p st n (λ k. begun_to st k sent) (λ k. is_at st k sent) (λ c. WasSent sent (data_of c)) a j g.streams) same x.tells
+      subst (λ j. IsNamingTo p st n B E M a j g.streams) same x.tells
 
-  missing : (j : ℕ) (cs : List ChunkPayloadData) → Fits j cs → misses (tsn p m) cs ≡ true
-      → (z : ℕ) × (z ≤ m) × (is_at st z sent ≡ true) × (begun_to st z sent ≡ j + 1) × (list_any (has_tsn (tsn p z)) cs ≡ false)
+  missing : Misses p st n B E M few up m
   missing j cs fits e = sessions.missed st first n old ns sent i.spread few m j cs least fits e
+
+  at : (j y : ℕ) (cs : List ChunkPayloadData) → y ≤ n → Fits j cs → list_any (has_tsn (tsn p y)) cs ≡ true → B y ≡ j + 1
+  at = at-in ns first sent line joined n i.spread.long few st
+
+  place : (j : ℕ) (cs : List ChunkPayloadData) → Fits j cs → 0 < length cs → (y : ℕ) × (y ≤ n) × (list_any (has_tsn (tsn p y)) cs ≡ true)
+  place = place-in ns first sent line joined n i.spread.long few st
+
+  abbrev Now : Reassembly → Type 0
+  Now = IsCurrent p n B (B a) (B n) New
 
   -- what was taken came
   taken-came : (z : ℕ) → was_taken (tsn p z) old ≡ true → come (tsn p z) r.cumulative_tsn r.beyond ≡ true
@@ -172,44 +187,25 @@ module _ (first n : ℕ) (few : n < 2 ^ 31) (old new : Session) (ns : List Numbe
     same-unassembled : after.held.unassembled ≡ q.held.unassembled
 
   module _ (fresh : is_stale g r ≡ false) where
-    now-is : new.receiving.receiver ≡ without_incomplete t (follow_forward_tsn g r)
-    now-is = f.step.receiver ∙ ap (λ b. if b then r else without_incomplete t (if b then r else follow_forward_tsn g r)) fresh
+    now-is' : new.receiving.receiver ≡ without_incomplete t (follow_forward_tsn g r)
+    now-is' = now-is p st n B E M few up g old.receiving new.receiving f.step.receiver fresh
 
-    ahead-is' : answered.arrived.place < m
-    ahead-is' =
-        let v = answered.arrived.within in
-        let b : nat_le m answered.arrived.place ≡ false =
-        sym (at-or-before p m answered.arrived.place (omega (arith, least, few)) (omega (arith, v, few)))
-        ∙ ap (λ u. at_or_before u (tsn p answered.arrived.place)) (sym pass.is)
-        ∙ ap (at_or_before t) (sym answered.arrived.is) ∙ fresh in
-        grind (arith, nat_tests, b)
-
-    is-ahead' : is_ahead g r ≡ true
-    is-ahead' =
-        let v = answered.arrived.within in
-        let lt = ahead-is' in
-        let b : nat_lt answered.arrived.place m ≡ true = grind (arith, nat_tests, lt) in
-        ap (λ u. comes_before u t) answered.arrived.is ∙ ap (comes_before (tsn p answered.arrived.place)) pass.is
-        ∙ before p answered.arrived.place m (omega (arith, v, few)) (omega (arith, least, few)) ∙ b
+    lt : answered.arrived.place < m
+    lt = ahead-is p st n B E M few up a g m old.receiving answered least pass.is fresh
 
     -- all up to the place has come then
     upto-come : (y : ℕ) → 0 < y → y ≤ m → come (tsn p y) new.receiving.receiver.cumulative_tsn new.receiving.receiver.beyond ≡ true
     upto-come y some le =
         let given : IsGiven p n (tsn p y) = record { place = y; some = some; within = omega (arith, le, least); is = refl } in
         let b : nat_le y m ≡ true = grind (arith, nat_tests, le) in
-        subst (λ (q : Reception). come (tsn p y) q.cumulative_tsn q.beyond ≡ true) (sym now-is)
+        subst (λ (q : Reception). come (tsn p y) q.cumulative_tsn q.beyond ≡ true) (sym now-is')
         (advance-keeps p n t m (filter (λ u. not (at_or_before u t)) r.beyond) few least pass.is
-        (every-passing (IsGiven p n) (λ u. not (at_or_before u t)) r.beyond beyond-given) (tsn p y) given
+        (every-passing (IsGiven p n) (λ u. not (at_or_before u t)) r.beyond (beyond-given p n r (known old) few i.spread.step.arrived)) (tsn p y) given
         (or-left (at_or_before (tsn p y) t) (list_any (λ u. u == tsn p y) (filter (λ u. not (at_or_before u t)) r.beyond))
         (ap (at_or_before (tsn p y)) pass.is ∙ at-or-before p y m (omega (arith, le, least, few)) (omega (arith, least, few)) ∙ b)))
-      where
-        beyond-given : Every (IsGiven p n) r.beyond
-        beyond-given =
-            every-of (IsKnown p n _) (IsGiven p n) (λ u x. record { place = x.place; some = x.some; within = x.within; is = x.is }) r.beyond
-            i.spread.step.arrived.each
 
     -- what is still to come is of later messages
-    past-new : (y : ℕ) → y ≤ n + 1 → New y → begun_to st m sent < begun_to st y sent
+    past-new : (y : ℕ) → y ≤ n + 1 → New y → B m < B y
     past-new y le l = elim (cases_lt m y) [
       | inl lt ↦ wanted-after ns first sent line joined st m ends y l.0 lt
       | inr ge ↦ absurd (not_both (sym l.1 ∙ upto-come y (some l.0) ge))
@@ -220,120 +216,64 @@ module _ (first n : ℕ) (few : n < 2 ^ 31) (old new : Session) (ns : List Numbe
         some (inr h) = let e = h.1 in omega (arith, e)
 
     module _ (l : InboundStream) (e : stream_of st r ≡ Some l) (h : IsHeldWell first sent st n a Old l.queue) where
-      d : IsDue p n (λ k. begun_to st k sent) Fits Came answered.k answered.reach l.queue.held
+      d : IsDue p n B Fits Came answered.k answered.reach l.queue.held
       d = calls.due-on first n few old new ns sent i gone st l e
 
       same-index : h.current.index ≡ d.index
       same-index = calls.index-due first n few old new ns sent i gone st Old l e h d
 
-      later : IsCurrent p n (λ k. begun_to st k sent) (begun_to st a sent) (begun_to st n sent) New l.queue.held
-      later =
-          current.current-less p n (λ k. begun_to st k sent) Fits Came (at-in ns first sent line joined n i.spread.long few st)
-          (place-in ns first sent line joined n i.spread.long few st) (begun_to st a sent) (begun_to st n sent) Old New l.queue.held less h.current
+      abbrev later : Now l.queue.held
+      later = current.current-less p n B Fits Came at place (B a) (B n) Old New l.queue.held less h.current
 
       names : ssns_of l.queue.si g.streams ≡ map (λ x. x.sequence) (filter (is_pair_of st) g.streams)
-      names =
-          ap (λ s. ssns_of s g.streams) (same-is (number l) st (found-passes (has_number st) r.streams l e))
-          ∙ own-names p st n (λ k. begun_to st k sent) (λ k. is_at st k sent) (λ c. WasSent sent (data_of c)) few up g.streams
+      names = named-by p st n B E M few up a g m old.receiving answered least pass.is l e
 
       -- it has no name of the stream
-      unnamed : filter (is_pair_of st) g.streams ≡ [] → ((j : ℕ) → a < j → j ≤ m → is_at st j sent ≡ false) → IsSkipped l.queue l.queue
+      unnamed : filter (is_pair_of st) g.streams ≡ [] → ((j : ℕ) → a < j → j ≤ m → E j ≡ false) → IsSkipped l.queue l.queue
       unnamed none clear = record {
         lost = [];
         of-gone = tt;
         weighs = λ w. omega arith;
         well = record { current = later; tidy = h.tidy; orderly = h.orderly };
         uncut =
-            current.none-cut p n (λ k. begun_to st k sent) Fits Came (at-in ns first sent line joined n i.spread.long few st)
-            (place-in ns first sent line joined n i.spread.long few st) t h.current.index d.low answered.reach l.queue.held.ordered d.sets
-            (gone-held p st n (λ k. begun_to st k sent) (λ k. is_at st k sent) (λ c. WasSent sent (data_of c)) few up a near g m old.receiving
-            new.receiving answered least pass.is f.step.receiver f.step.read naming accepted.0 accepted.1 missing h.current.index d.low answered.reach
-            l.queue.held.ordered d.sets held)
+            current.none-cut p n B Fits Came at place t h.current.index d.low answered.reach l.queue.held.ordered d.sets
+            (gone-held p st n B E M few up t m least pass.is Came missing h.current.index d.low answered.reach l.queue.held.ordered d.sets held)
             h.current.whole h.current.some;
         same-unassembled = refl;
       }
         where
-          came : (z : ℕ) → z ≤ m → is_at st z sent ≡ true → Came z
-          came z upto on = elim (cases_lt a z) [
-            | inl lt ↦ absurd (not_both (sym (clear z lt upto) ∙ on))
-            | inr ge ↦
-                let v = answered.arrived.within in
-                let x = answered.arrived.least_is in
-                let b : nat_le z answered.arrived.place ≡ true =
-                (let le : z ≤ answered.arrived.place = omega (arith, ge, x) in grind (arith, nat_tests, le)) in (
-                  on,
-                  or-left (at_or_before (tsn p z) r.cumulative_tsn) (list_any (λ u. u == tsn p z) r.beyond)
-                      (ap (at_or_before (tsn p z)) answered.arrived.is
-                      ∙ at-or-before p z answered.arrived.place (omega (arith, upto, least, few)) (omega (arith, v, few)) ∙ b),
-                )
-          ]
-
-          held : (z : ℕ) → z ≤ m → is_at st z sent ≡ true → d.low + 1 ≤ begun_to st z sent → h.current.index + 1 ≤ begun_to st z sent
+          held : (z : ℕ) → z ≤ m → E z ≡ true → d.low + 1 ≤ B z → h.current.index + 1 ≤ B z
               → list_any (λ (s : ChunkSet). list_any (has_tsn (tsn p z)) s.chunks) l.queue.held.ordered ≡ true
-          held z upto on lo from = elim (d.kept z (omega (arith, upto, least)) (came z upto on)) [
-            | inl x ↦ let s = same-index in absurd (omega (arith, x, from, s))
-            | inr x ↦ x
-          ]
+          held z upto on lo from = elim (d.kept z (omega (arith, upto, least))
+              (clear-came p st n B E M few up a g m old.receiving answered least pass.is clear z upto on)) [
+                | inl x ↦ let s = same-index in absurd (omega (arith, x, from, s))
+                | inr x ↦ x
+              ]
 
       -- it names the last message of the stream that was begun up to the place
-      module _ (j : ℕ) (last : j + 1 ≡ begun_to st m sent)
+      module _ (j : ℕ) (last : j + 1 ≡ B m)
           (only : filter (is_pair_of st) g.streams ≡ record { identifier = st; sequence = j % 2 ^ 16 } ∷ []) where
-        close : is_name_too_far (j % 2 ^ 16) l.queue.held ≡ false
-        close =
-            let q : ChunkForwardTsnStream → Bool = λ x. is_named_too_far x (stream_of x.identifier r) in
-            let any : list_any q g.streams ≡ false = ap (λ b. b && list_any q g.streams) (sym is-ahead') ∙ accepted.0 in
-            let those : list_any q (filter (is_pair_of st) g.streams) ≡ false = fails (list_any q (filter (is_pair_of st) g.streams))
-            (λ x. not_both (sym any ∙ list_any-those q (is_pair_of st) g.streams x)) in
-            ap (is_named_too_far (record { identifier = st; sequence = j % 2 ^ 16 })) (sym e)
-            ∙ first-off (q (record { identifier = st; sequence = j % 2 ^ 16 })) false (ap (list_any q) (sym only) ∙ those)
-          where
-            first-off : (x y : Bool) → (x || y) ≡ false → x ≡ false
-            first-off true y z = absurd (not_both (sym z))
-            first-off false y z = refl
+        close' : is_name_too_far (j % 2 ^ 16) l.queue.held ≡ false
+        close' = close p st n B E M few up a g m old.receiving answered least pass.is accepted.0 lt l e (j % 2 ^ 16) only
 
-        back : answered.reach ≤ j + 1 + 2 ^ 14
-        back =
-            let lt = ahead-is' in
-            let x = up answered.arrived.place m (omega (arith, lt)) in
-            let y = up a answered.arrived.place answered.arrived.least_is in
-            let w = answered.most in
-            let v = near in
-            omega (arith, w, v, y, x, last)
+        near' : (answered.reach ≤ j + 1 + 2 ^ 14) × (j + 1 ≤ answered.reach + 2 ^ 14)
+        near' = name-within p st n B E M few up a g m old.receiving answered least pass.is near lt j last
 
-        ahead' : j + 1 ≤ answered.reach + 2 ^ 14
-        ahead' =
-            let y = up a answered.arrived.place answered.arrived.least_is in
-            let z = answered.arrived.covered in
-            let top = up m n least in
-            let v = near in
-            omega (arith, top, v, y, z, last)
-
-        skip : (x : IsCurrent p n (λ k. begun_to st k sent) (begun_to st a sent) (begun_to st n sent) New (held_after_ordered_skip (j % 2 ^ 16) l.queue.held))
-            × (j + 1 ≤ x.index)
+        skip : (x : Now (held_after_ordered_skip (j % 2 ^ 16) l.queue.held)) × (j + 1 ≤ x.index)
         skip =
-            let lt = ahead-is' in
             let x = up a m (let y = answered.arrived.least_is in omega (arith, y, lt)) in
             let top = up m n least in
-            current.skip-current p n (λ k. begun_to st k sent) Fits Came (at-in ns first sent line joined n i.spread.long few st)
-            (place-in ns first sent line joined n i.spread.long few st) answered.k answered.reach j (j % 2 ^ 16) l.queue.held d refl back ahead' close
-            (begun_to st a sent) (begun_to st n sent) New later (same-of later) (omega (arith, top, last)) (omega (arith, x, last))
+            current.skip-current p n B Fits Came at place answered.k answered.reach j (j % 2 ^ 16) l.queue.held d refl near'.0 near'.1 close'
+            (B a) (B n) New later same-index (omega (arith, top, last)) (omega (arith, x, last))
             (λ y le l'. let z = past-new y le l' in omega (arith, z, last))
-          where
-            same-of : (x : IsCurrent p n (λ k. begun_to st k sent) (begun_to st a sent) (begun_to st n sent) New l.queue.held) → x.index ≡ d.index
-            same-of x =
-                let c = answered.arrived.covered in
-                let u = up a answered.arrived.place answered.arrived.least_is in
-                current.due-index p n (λ k. begun_to st k sent) Fits Came (at-in ns first sent line joined n i.spread.long few st)
-                (place-in ns first sent line joined n i.spread.long few st) (begun_to st a sent) (begun_to st n sent) New l.queue.held x answered.k
-                answered.reach d near (omega (arith, c, u)) answered.most
 
         misses-held : (x : ℕ) (cs : List ChunkPayloadData) → Fits x cs → 0 < length cs → is_complete cs ≡ false → x ≤ j
-            → (z : ℕ) × (z ≤ m) × (is_at st z sent ≡ true) × (begun_to st z sent ≡ x + 1) × (list_any (has_tsn (tsn p z)) cs ≡ false)
+            → (z : ℕ) × (z ≤ m) × (E z ≡ true) × (B z ≡ x + 1) × (list_any (has_tsn (tsn p z)) cs ≡ false)
         misses-held x cs fits some open' le =
             missing x cs fits (misses-one ns first sent line joined n i.spread.long few st x m least ends (omega (arith, le, last)) cs fits some open')
 
         -- the fragments of a message up to the place are passed
-        pass-all : (z : ℕ) → z ≤ m → (y low : ℕ) (cs : List ChunkPayloadData) → Rises y low cs → begun_to st z sent ≡ y + 1 → Every (IsGone gone sent) cs
+        pass-all : (z : ℕ) → z ≤ m → (y low : ℕ) (cs : List ChunkPayloadData) → Rises y low cs → B z ≡ y + 1 → Every (IsGone gone sent) cs
             → Every Goes cs
         pass-all z upto y low [] r count e = tt
         pass-all z upto y low (c ∷ cs) r count e =
@@ -347,13 +287,12 @@ module _ (first n : ℕ) (few : n < 2 ^ 31) (old new : Session) (ns : List Numbe
 
         passed-gone : Every (λ s. is_passed (j % 2 ^ 16) s ≡ true → Every Goes s.chunks) l.queue.held.ordered
         passed-gone =
-            current.all-passed p n (λ k. begun_to st k sent) Fits Came (at-in ns first sent line joined n i.spread.long few st)
-            (place-in ns first sent line joined n i.spread.long few st) answered.k answered.reach j (j % 2 ^ 16) l.queue.held d refl back ahead' close
-            Goes m least (λ k. is_at st k sent) misses-held (begun_to st a sent) (begun_to st n sent) Old h.current hold
+            current.all-passed p n B Fits Came at place answered.k answered.reach j (j % 2 ^ 16) l.queue.held d refl near'.0 near'.1 close'
+            Goes m least E misses-held (B a) (B n) Old h.current hold
           where
-            hold : (z : ℕ) → z ≤ m → is_at st z sent ≡ true → h.current.index + 1 ≤ begun_to st z sent
+            hold : (z : ℕ) → z ≤ m → E z ≡ true → h.current.index + 1 ≤ B z
                 → (list_any (λ (s : ChunkSet). list_any (has_tsn (tsn p z)) s.chunks) l.queue.held.ordered ≡ true)
-                ⊎ ((x : ℕ) (cs : List ChunkPayloadData) → Fits x cs → begun_to st z sent ≡ x + 1 → Every Goes cs)
+                ⊎ ((x : ℕ) (cs : List ChunkPayloadData) → Fits x cs → B z ≡ x + 1 → Every Goes cs)
             hold z upto on from =
                 elim (resolved ns first sent line joined n i.spread.long few gone cut old pass.passed pass.part pass.came st z on upto) [
                   | inr x ↦ inr (λ y cs fits count. pass-all z upto y 0 cs fits count (x y cs fits count))
@@ -379,12 +318,10 @@ module _ (first n : ℕ) (few : n < 2 ^ 31) (old new : Session) (ns : List Numbe
               uncut =
                   let q = held_after_ordered_skip (j % 2 ^ 16) l.queue.held in
                   let sets = sets-those Fits (λ s. not (is_passed (j % 2 ^ 16) s)) d.low answered.reach l.queue.held.ordered d.sets in
-                  current.none-cut p n (λ k. begun_to st k sent) Fits Came (at-in ns first sent line joined n i.spread.long few st)
-                  (place-in ns first sent line joined n i.spread.long few st) t x.0.index d.low answered.reach q.ordered sets
-                  (gone-begun p st n (λ k. begun_to st k sent) (λ k. is_at st k sent) (λ c. WasSent sent (data_of c)) few up a near g m old.receiving
-                  new.receiving answered least pass.is f.step.receiver f.step.read naming accepted.0 accepted.1
-                  missing x.0.index d.low answered.reach q.ordered sets
-                  (omega (arith, past, last))) x.0.whole x.0.some;
+                  current.none-cut p n B Fits Came at place t x.0.index d.low answered.reach q.ordered sets
+                  (gone-begun p st n B E M few up t m least pass.is Came missing x.0.index d.low answered.reach q.ordered sets
+                  (omega (arith, past, last)))
+                  x.0.whole x.0.some;
               same-unassembled = refl;
             }
 
@@ -420,16 +357,12 @@ module _ (first n : ℕ) (few : n < 2 ^ 31) (old new : Session) (ns : List Numbe
       after-all = after_incomplete_skip t (after_unordered_skip t after-names)
 
       uncut-same : after-all.held ≡ held_after_unordered_skip t after-names.held
-      uncut-same =
-          current.same-uncut p n (λ k. begun_to st k sent) Fits Came (at-in ns first sent line joined n i.spread.long few st)
-          (place-in ns first sent line joined n i.spread.long few st) t (held_after_unordered_skip t after-names.held) skipped.uncut
+      uncut-same = current.same-uncut p n B Fits Came at place t (held_after_unordered_skip t after-names.held) skipped.uncut
 
       well-after : IsHeldWell first sent st n a New after-all
       well-after = record {
         current =
-            subst (λ q. IsCurrent p n (λ k. begun_to st k sent) (begun_to st a sent) (begun_to st n sent) New q) (sym uncut-same)
-            (current.current-same p n (λ k. begun_to st k sent) Fits Came (at-in ns first sent line joined n i.spread.long few st)
-            (place-in ns first sent line joined n i.spread.long few st) (begun_to st a sent) (begun_to st n sent) New after-names.held
+            subst Now (sym uncut-same) (current.current-same p n B Fits Came at place (B a) (B n) New after-names.held
             (held_after_unordered_skip t after-names.held) refl refl skipped.well.current);
         tidy = subst (IsTidy p n) (sym uncut-same) (left-tidy p n few t after-names.held skipped.well.tidy);
         orderly =
@@ -445,19 +378,8 @@ module _ (first n : ℕ) (few : n < 2 ^ 31) (old new : Session) (ns : List Numbe
           let z = ap (λ xs. sum_by w (leading (λ x. at_or_before x.tsn t) xs)) skipped.same-unassembled in
           omega (arith, s, u, v, z)
 
-    found-after : stream_of st new.receiving.receiver
-        ≡ option_map (λ l. incomplete_forwarded t (unassembled_forwarded t (stream_forwarded g.streams l))) (stream_of st r)
-    found-after =
-        ap (stream_of st) now-is ∙ found-mapped st (incomplete_forwarded t) (λ l. refl) (follow_forward_tsn g r).streams
-        ∙ ap (option_map (incomplete_forwarded t)) (found-followed st g r) ∙ twice (stream_of st r)
-      where
-        twice : (o : Option InboundStream) → option_map (incomplete_forwarded t) (option_map (λ l. unassembled_forwarded t (stream_forwarded g.streams l)) o)
-            ≡ option_map (λ l. incomplete_forwarded t (unassembled_forwarded t (stream_forwarded g.streams l))) o
-        twice None = refl
-        twice (Some l) = refl
-
     followed : Keeps
-    followed = by (stream_of st r) refl found-after k.holds
+    followed = by (stream_of st r) refl (found-after p st n B E M few up g old.receiving new.receiving f.step.receiver fresh) k.holds
       where
         weigh : (o : Option InboundStream) → (w : ChunkPayloadData → ℕ) → stream_of st r ≡ o
             → sum_by w (filter (is_on st) new.receiving.accepted) ≡ sum_by w (fragments_read st new.receiving.read) + held_weight w o + sum_by w k.lost
@@ -470,7 +392,7 @@ module _ (first n : ℕ) (few : n < 2 ^ 31) (old new : Session) (ns : List Numbe
 
         by : (o : Option InboundStream) → stream_of st r ≡ o
             → stream_of st new.receiving.receiver
-            ≡ option_map (λ l. incomplete_forwarded t (unassembled_forwarded t (stream_forwarded g.streams l))) o
+            ≡ option_map (changed p st n B E M few up g old.receiving new.receiving f.step.receiver) o
             → HeldWell first sent st n a Old o → Keeps
         by None e is h = record {
           lost = k.lost;
@@ -502,6 +424,5 @@ module _ (first n : ℕ) (few : n < 2 ^ 31) (old new : Session) (ns : List Numbe
       by : (b : Bool) → is_stale g r ≡ b → Keeps
       by false e = followed e
       by true e =
-          let same : new.receiving.receiver ≡ r =
-          f.step.receiver ∙ ap (λ b. if b then r else without_incomplete t (if b then r else follow_forward_tsn g r)) e in
+          let same = stale-same p st n B E M few up g old.receiving new.receiving f.step.receiver e in
           calls.still first n few old new ns sent i gone st (incoming.follows g) f f.step.accepted f.step.read (ap (λ (q : Reception). q.streams) same) k

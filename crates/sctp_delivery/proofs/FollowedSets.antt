@@ -20,6 +20,7 @@ use Rattle.sctp_delivery.specs.Complete.{fragments_of_sets}
 use Rattle.sctp_delivery.proofs.Every.{Every, every-joined, every-passing}
 use Rattle.sctp_delivery.proofs.Rising.{Ascend, ascend-from}
 use Rattle.sctp_delivery.proofs.Tidy.{IsTidy, IsTidySet, IsUnordered}
+use Rattle.sctp_delivery.proofs.UnwrappedReads.{leading-each}
 
 -- ## Sets
 
@@ -79,14 +80,6 @@ each-leading P r (x ∷ xs) e = by (r x) refl (each-leading P r xs e.1)
     by true h ih = (e.0 h, ih)
     by false h ih = tt
 
-left-each : (P : ChunkPayloadData → Type 0) (r : ChunkPayloadData → Bool) (xs : List ChunkPayloadData) → Every P xs → Every P (after_leading r xs)
-left-each P r [] e = tt
-left-each P r (x ∷ xs) e = by (r x) (left-each P r xs e.1)
-  where
-    by : (b : Bool) → Every P (after_leading r xs) → Every P (if b then after_leading r xs else x ∷ xs)
-    by true ih = ih
-    by false ih = e
-
 left-none : (r : ChunkPayloadData → Bool) (xs : List ChunkPayloadData) → HasNoRun xs → HasNoRun (after_leading r xs)
 left-none r [] h = h
 left-none r (x ∷ xs) h = by (r x) (left-none r xs (none_after_drop (x ∷ xs) 1 (omega arith) h))
@@ -119,7 +112,7 @@ module _ (p n : ℕ) (few : n < 2 ^ 31) where
     sets = t.sets;
     whole = t.whole;
     unassembled = left-ascend 0 (λ x. at_or_before x.tsn tsn) q.unassembled t.unassembled;
-    kinds = left-each IsUnordered (λ x. at_or_before x.tsn tsn) q.unassembled t.kinds;
+    kinds = leading-each IsUnordered (λ x. at_or_before x.tsn tsn) q.unassembled t.kinds;
     none = left-none (λ x. at_or_before x.tsn tsn) q.unassembled t.none;
   }
 

@@ -28,6 +28,7 @@ use Rattle.sctp_data.specs.PayloadData.{data_of}
 use Rattle.sctp_delivery.proofs.Sessions as made_in
 use Rattle.sctp_delivery.proofs.SpreadCalls.{sender-spreads}
 use Rattle.sctp_delivery.proofs.SpreadFlight.{are-on, are-steps}
+use Rattle.sctp_delivery.proofs.StreamCalls.{IsOther}
 use Rattle.sctp_delivery.proofs.TightFlight.{IsTight, tight-after, tight-later}
 use Rattle.sctp_delivery.proofs.TsnPlaces.{base, same-place}
 use Rattle.sctp_delivery.proofs.UnwrappedHolds as holds
@@ -66,7 +67,7 @@ module _ (first size max most : ℕ) (limits : Option Limits) (n : ℕ) (few : n
   after st = subst (λ a. holds.AreDue (base first) st n (λ m. begun_to st m sent) (λ m. is_at st m sent) (λ c. WasSent sent (data_of c)) a new.receiving)
       (sym same) (j.answered st).0
 
-  other : (st : ℕ) (c : ReceiverCall) → calls.IsOther first n few old new ns sent k.unwrapped gone st c → ReceiverFollows c old new
+  other : (st : ℕ) (c : ReceiverCall) → IsOther c → ReceiverFollows c old new
       → IsKeptBut first sent st n k.unwrapped.spread.step.numbered.acked gone old.made new.receiving
   other st c o f' = calls.keeps-other first n few old new ns sent k.unwrapped gone st c o f' (after st) (k.kept st)
 

@@ -54,6 +54,7 @@ pub mod OrderedLaw
 pub mod OrderedNext
 pub mod ShortNumbers
 pub mod KeptSets
+pub mod StreamCalls
 pub mod Kept
 pub mod FragmentPlaces
 pub mod Rising

@@ -114,66 +114,73 @@ module _ (ws : List Numbered) (first : ℕ) (sent : List Entry) (line : IsLine w
 
     -- ## An incomplete one
 
-    module _ (k m : ℕ) (within : m ≤ n) (ends : EndsAt sent m) (past : k + 1 ≤ to m) where
-      -- each fragment lies up to the place
-      pub fragment-upto : (c : ChunkPayloadData) (o : IsOf k c) → o.before + 1 ≤ m
-      fragment-upto c o = elim (cases_lt m (o.before + 1)) [
-        | inr ge ↦ ge
-        | inl lt ↦
-            let i = of-entry k c o in
-            let more = here-after ws first sent line joined st m ends (o.before + 1) (data_of c) i.0 i.1 o.on lt in
-            let begun = o.begun in
-            absurd (omega (arith, more, begun, past))
-      ]
+    module _ (k m : ℕ) (within : m ≤ n) where
+      -- where each fragment lies up to the place, and before it where the message goes on
+      module _ (upto : (c : ChunkPayloadData) (o : IsOf k c) → o.before + 1 ≤ m)
+          (open' : (c : ChunkPayloadData) (o : IsOf k c) → c.ending_fragment ≡ false → o.before + 1 < m) where
+        follows-upto : (c : ChunkPayloadData) (o : IsOf k c) → o.before + 1 < m → at_or_before (following_tsn c.tsn) (tsn p m) ≡ true
+        follows-upto c o lt =
+            let t : nat_le (o.before + 1 + 1) m ≡ true = grind (arith, nat_tests, lt) in
+            ap (λ u. at_or_before u (tsn p m)) (ap following_tsn o.is ∙ next-place p (o.before + 1))
+            ∙ at-or-before p (o.before + 1 + 1) m (omega (arith, lt, within, few)) (omega (arith, within, few)) ∙ t
 
-      open-before : (c : ChunkPayloadData) (o : IsOf k c) → c.ending_fragment ≡ false → o.before + 1 < m
-      open-before c o e = elim (cases_lt (o.before + 1) m) [
-        | inl lt ↦ lt
-        | inr ge ↦
-            let i = of-entry k c o in
-            let le = fragment-upto c o in
-            let it : m ≡ o.before + 1 = omega (arith, le, ge) in
-            absurd (not_both (sym e ∙ ends-own ws first sent line joined (o.before + 1) (data_of c) i.0 i.1 (subst (EndsAt sent) it ends)))
-      ]
+        misses-after : (c : ChunkPayloadData) (cs : List ChunkPayloadData) (o : IsOf k c) → Rises k (o.before + 1) cs → completes c cs ≡ false
+            → misses_behind (tsn p m) c cs ≡ true
+        misses-after c [] o r e = and (not c.ending_fragment) (at_or_before (following_tsn c.tsn) (tsn p m)) (ap not e)
+            (follows-upto c o (open' c o e))
+        misses-after c (x ∷ xs) o r e = by (x.tsn == following_tsn c.tsn) refl (λ g. misses-after x xs r.0 r.2 g)
+          where
+            by : (b : Bool) → (x.tsn == following_tsn c.tsn) ≡ b → (completes x xs ≡ false → misses_behind (tsn p m) x xs ≡ true)
+                → misses_behind (tsn p m) c (x ∷ xs) ≡ true
+            by true f ih =
+                or-right (not (x.tsn == following_tsn c.tsn) && at_or_before (following_tsn c.tsn) (tsn p m)) (misses_behind (tsn p m) x xs)
+                (ih (ap (λ b. b && completes x xs) (sym f) ∙ e))
+            by false f ih =
+                let le = r.1 in
+                let most = upto x r.0 in
+                or-left (not (x.tsn == following_tsn c.tsn) && at_or_before (following_tsn c.tsn) (tsn p m)) (misses_behind (tsn p m) x xs)
+                (and (not (x.tsn == following_tsn c.tsn)) (at_or_before (following_tsn c.tsn) (tsn p m)) (ap not f)
+                (follows-upto c o (omega (arith, le, most))))
 
-      follows-upto : (c : ChunkPayloadData) (o : IsOf k c) → o.before + 1 < m → at_or_before (following_tsn c.tsn) (tsn p m) ≡ true
-      follows-upto c o lt =
-          let t : nat_le (o.before + 1 + 1) m ≡ true = grind (arith, nat_tests, lt) in
-          ap (λ u. at_or_before u (tsn p m)) (ap following_tsn o.is ∙ next-place p (o.before + 1))
-          ∙ at-or-before p (o.before + 1 + 1) m (omega (arith, lt, within, few)) (omega (arith, within, few)) ∙ t
+        pub misses-in : (cs : List ChunkPayloadData) → Rises k 0 cs → 0 < length cs → is_complete cs ≡ false → misses (tsn p m) cs ≡ true
+        misses-in [] r some e = absurd (omega (arith, some))
+        misses-in (c ∷ cs) r some e = by c.beginning_fragment refl
+          where
+            by : (b : Bool) → c.beginning_fragment ≡ b → misses (tsn p m) (c ∷ cs) ≡ true
+            by true f =
+                or-right (not c.beginning_fragment && at_or_before (preceding_tsn c.tsn) (tsn p m)) (misses_behind (tsn p m) c cs)
+                (misses-after c cs r.0 r.2 (ap (λ b. b && completes c cs) (sym f) ∙ e))
+            by false f =
+                let o = r.0 in
+                let le = upto c o in
+                let prior : preceding_tsn (tsn p (o.before + 1)) ≡ tsn p o.before = omega arith in
+                let t : nat_le o.before m ≡ true = grind (arith, nat_tests, le) in
+                or-left (not c.beginning_fragment && at_or_before (preceding_tsn c.tsn) (tsn p m)) (misses_behind (tsn p m) c cs)
+                (and (not c.beginning_fragment) (at_or_before (preceding_tsn c.tsn) (tsn p m)) (ap not f)
+                (ap (λ u. at_or_before u (tsn p m)) (ap preceding_tsn o.is ∙ prior)
+                ∙ at-or-before p o.before m (omega (arith, le, within, few)) (omega (arith, within, few)) ∙ t))
 
-      misses-after : (c : ChunkPayloadData) (cs : List ChunkPayloadData) (o : IsOf k c) → Rises k (o.before + 1) cs → completes c cs ≡ false
-          → misses_behind (tsn p m) c cs ≡ true
-      misses-after c [] o r e = and (not c.ending_fragment) (at_or_before (following_tsn c.tsn) (tsn p m)) (ap not e)
-          (follows-upto c o (open-before c o e))
-      misses-after c (x ∷ xs) o r e = by (x.tsn == following_tsn c.tsn) refl (λ g. misses-after x xs r.0 r.2 g)
-        where
-          by : (b : Bool) → (x.tsn == following_tsn c.tsn) ≡ b → (completes x xs ≡ false → misses_behind (tsn p m) x xs ≡ true)
-              → misses_behind (tsn p m) c (x ∷ xs) ≡ true
-          by true f ih =
-              or-right (not (x.tsn == following_tsn c.tsn) && at_or_before (following_tsn c.tsn) (tsn p m)) (misses_behind (tsn p m) x xs)
-              (ih (ap (λ b. b && completes x xs) (sym f) ∙ e))
-          by false f ih =
-              let le = r.1 in
-              let most = fragment-upto x r.0 in
-              or-left (not (x.tsn == following_tsn c.tsn) && at_or_before (following_tsn c.tsn) (tsn p m)) (misses_behind (tsn p m) x xs)
-              (and (not (x.tsn == following_tsn c.tsn)) (at_or_before (following_tsn c.tsn) (tsn p m)) (ap not f)
-              (follows-upto c o (omega (arith, le, most))))
+      module _ (ends : EndsAt sent m) (past : k + 1 ≤ to m) where
+        -- each fragment lies up to the place
+        pub fragment-upto : (c : ChunkPayloadData) (o : IsOf k c) → o.before + 1 ≤ m
+        fragment-upto c o = elim (cases_lt m (o.before + 1)) [
+          | inr ge ↦ ge
+          | inl lt ↦
+              let i = of-entry k c o in
+              let more = here-after ws first sent line joined st m ends (o.before + 1) (data_of c) i.0 i.1 o.on lt in
+              let begun = o.begun in
+              absurd (omega (arith, more, begun, past))
+        ]
 
-      pub misses-one : (cs : List ChunkPayloadData) → Rises k 0 cs → 0 < length cs → is_complete cs ≡ false → misses (tsn p m) cs ≡ true
-      misses-one [] r some e = absurd (omega (arith, some))
-      misses-one (c ∷ cs) r some e = by c.beginning_fragment refl
-        where
-          by : (b : Bool) → c.beginning_fragment ≡ b → misses (tsn p m) (c ∷ cs) ≡ true
-          by true f =
-              or-right (not c.beginning_fragment && at_or_before (preceding_tsn c.tsn) (tsn p m)) (misses_behind (tsn p m) c cs)
-              (misses-after c cs r.0 r.2 (ap (λ b. b && completes c cs) (sym f) ∙ e))
-          by false f =
-              let o = r.0 in
+        open-before : (c : ChunkPayloadData) (o : IsOf k c) → c.ending_fragment ≡ false → o.before + 1 < m
+        open-before c o e = elim (cases_lt (o.before + 1) m) [
+          | inl lt ↦ lt
+          | inr ge ↦
+              let i = of-entry k c o in
               let le = fragment-upto c o in
-              let prior : preceding_tsn (tsn p (o.before + 1)) ≡ tsn p o.before = omega arith in
-              let t : nat_le o.before m ≡ true = grind (arith, nat_tests, le) in
-              or-left (not c.beginning_fragment && at_or_before (preceding_tsn c.tsn) (tsn p m)) (misses_behind (tsn p m) c cs)
-              (and (not c.beginning_fragment) (at_or_before (preceding_tsn c.tsn) (tsn p m)) (ap not f)
-              (ap (λ u. at_or_before u (tsn p m)) (ap preceding_tsn o.is ∙ prior)
-              ∙ at-or-before p o.before m (omega (arith, le, within, few)) (omega (arith, within, few)) ∙ t))
+              let it : m ≡ o.before + 1 = omega (arith, le, ge) in
+              absurd (not_both (sym e ∙ ends-own ws first sent line joined (o.before + 1) (data_of c) i.0 i.1 (subst (EndsAt sent) it ends)))
+        ]
+
+        pub misses-one : (cs : List ChunkPayloadData) → Rises k 0 cs → 0 < length cs → is_complete cs ≡ false → misses (tsn p m) cs ≡ true
+        misses-one = misses-in fragment-upto open-before

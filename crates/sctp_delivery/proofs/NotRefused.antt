@@ -1,7 +1,7 @@
 -- A chunk in flight is not refused where nothing is to be read on its stream.
 use Rattle.std.proofs.Common.{◌≡◌, ℕ, ◌+◌, ◌%◌, ◌^◌, ◌<◌, ◌≤◌, Bool, true, false, not, List, [], ◌∷◌, length, Some, None, inl, inr, refl, ap, sym, subst, ◌∙◌}
 use Rattle.std.proofs.Common.{arith}
-use Rattle.std.specs.Prelude.{◌⊎◌, ◌==◌, ◌&&◌, ◌||◌, if◌then◌else◌, nat_le}
+use Rattle.std.specs.Prelude.{◌⊎◌, ◌==◌, ◌&&◌, if◌then◌else◌, nat_le}
 use Rattle.std.specs.List.{list_any}
 use Rattle.std.proofs.lemmas.Bool.{cases_lt}
 use Rattle.std.proofs.lemmas.Bool.Decides.{nat_tests}
@@ -14,24 +14,24 @@ use Rattle.sctp_util.proofs.Wraps.{at_or_before16-index}
 use Rattle.sctp_data.specs.declared.chunk.chunk_payload_data.ChunkPayloadData.{ChunkPayloadData}
 use Rattle.sctp_data.specs.ChunkSet.{ChunkSet}
 use Rattle.sctp_data.specs.PayloadData.{data_of}
-use Rattle.sctp_serial.specs.DataChunks.{following_tsn, has_tsn, preceding_tsn}
-use Rattle.sctp_reassembly.specs.reassembly_queue.Fragments.{completes, is_complete}
+use Rattle.sctp_serial.specs.DataChunks.{has_tsn}
+use Rattle.sctp_reassembly.specs.reassembly_queue.Fragments.{is_complete}
 use Rattle.sctp_reassembly.specs.reassembly_queue.ReassemblyQueue.{Reassembly, front_readable, is_readable, message_among, message_read}
-use Rattle.sctp_reassembly.specs.reassembly_queue.Skips.{misses, misses_behind}
 use Rattle.sctp_receiver.specs.Receiver.{Reception}
 use Rattle.sctp_receiver.specs.Ssns.{lowest_among}
 use Rattle.sctp_delivery.specs.Session.{Session}
 use Rattle.sctp_delivery.proofs.CurrentSets.{IsCurrent, IsSome, IsWholeAt, due-index, whole-below}
 use Rattle.sctp_delivery.proofs.Every.{Every}
 use Rattle.sctp_delivery.proofs.KeptOrGone as kept
+use Rattle.sctp_delivery.proofs.MessageSets.{misses-in}
 use Rattle.sctp_delivery.proofs.OrderedEntries.{begins_on, begun_on, one}
 use Rattle.sctp_delivery.proofs.Sent.{Entry, Numbered, WasSent, fragment, terminal}
 use Rattle.sctp_delivery.proofs.SpreadCalls.{IsSpread}
 use Rattle.sctp_delivery.proofs.SpreadEntries.{at-here, at-more, begun_to, is_at, to-all, to-more}
 use Rattle.sctp_delivery.proofs.TakenTsns.{come}
-use Rattle.sctp_delivery.proofs.TsnPlaces.{at-or-before, base, next-place}
-use Rattle.sctp_delivery.proofs.UnwrappedHolds.{AreDue, Came, Fits, IsOf, Rises, at-in}
-use Rattle.sctp_delivery.proofs.UnwrappedReads.{AreSets, IsDue, has_place}
+use Rattle.sctp_delivery.proofs.TsnPlaces.{at-or-before, base}
+use Rattle.sctp_delivery.proofs.UnwrappedHolds.{AreDue, Came, Fits, IsOf, at-in}
+use Rattle.sctp_delivery.proofs.UnwrappedReads.{AreSets, IsDue, has_place, later-none}
 use Rattle.sctp_delivery.proofs.UnwrappedSessions as sessions
 
 -- ## Entries
@@ -107,58 +107,20 @@ module _ (st first n : ℕ) (few : n < 2 ^ 31) (s : Session) (ns : List Numbered
   abbrev Of : ℕ → ChunkPayloadData → Type 0
   Of = IsOf p st n B E M
 
-  abbrev Rising : ℕ → ℕ → List ChunkPayloadData → Type 0
-  Rising = Rises p st n B E M
-
   up : (j k : ℕ) → j ≤ k → B j ≤ B k
   up = sessions.grows st first n s ns sent i few
 
-  -- an incomplete set misses a TSN of its message, where all its chunks stand before the place
   upto : (j m : ℕ) → j ≤ m → m ≤ n → at_or_before (tsn p j) (tsn p m) ≡ true
   upto j m le most =
       let t : nat_le j m ≡ true = grind (arith, nat_tests, le) in
       at-or-before p j m (omega (arith, le, most, few)) (omega (arith, most, few)) ∙ t
 
-  following : (m j : ℕ) (x : ChunkPayloadData) (o : Of j x) → o.before + 2 ≤ m → m ≤ n → at_or_before (following_tsn x.tsn) (tsn p m) ≡ true
-  following m j x o lt most =
-      let is : following_tsn x.tsn ≡ tsn p (o.before + 1 + 1) = ap following_tsn o.is ∙ next-place p (o.before + 1) in
-      ap (λ t. at_or_before t (tsn p m)) is ∙ upto (o.before + 1 + 1) m (omega (arith, lt)) most
-
+  -- a chunk of an earlier message stands before the place, and not last
   inside : (m j : ℕ) (x : ChunkPayloadData) (o : Of j x) → j + 2 ≤ B m → o.before + 2 ≤ m
   inside m j x o past = elim (cases_lt (o.before + 1) m) [
     | inl lt ↦ omega (arith, lt)
     | inr ge ↦ let le = up m (o.before + 1) ge in let b = o.begun in absurd (omega (arith, le, b, past))
   ]
-
-  behind-misses : (m j : ℕ) (x : ChunkPayloadData) (xs : List ChunkPayloadData) (o : Of j x) → j + 2 ≤ B m → m ≤ n → Rising j (o.before + 1) xs
-      → completes x xs ≡ false → misses_behind (tsn p m) x xs ≡ true
-  behind-misses m j x [] o past most r e = and (not x.ending_fragment) (at_or_before (following_tsn x.tsn) (tsn p m)) (ap not e)
-      (following m j x o (inside m j x o past) most)
-  behind-misses m j x (y ∷ ys) o past most r e = by (y.tsn == following_tsn x.tsn) e (λ h. behind-misses m j y ys r.0 past most r.2 h)
-    where
-      by : (b : Bool) → (b && completes y ys) ≡ false → (completes y ys ≡ false → misses_behind (tsn p m) y ys ≡ true)
-          → ((not b && at_or_before (following_tsn x.tsn) (tsn p m)) || misses_behind (tsn p m) y ys) ≡ true
-      by true h ih = ih h
-      by false h ih = or-left (at_or_before (following_tsn x.tsn) (tsn p m)) (misses_behind (tsn p m) y ys) (following m j x o (inside m j x o past) most)
-
-  incomplete-misses : (m j : ℕ) (cs : List ChunkPayloadData) → j + 2 ≤ B m → m ≤ n → Rising j 0 cs → is_complete cs ≡ false → list_any (λ c. true) cs ≡ true
-      → misses (tsn p m) cs ≡ true
-  incomplete-misses m j [] past most r e some = absurd (not_both some)
-  incomplete-misses m j (x ∷ xs) past most r e some = by x.beginning_fragment e (λ h. behind-misses m j x xs r.0 past most r.2 h)
-    where
-      o : Of j x
-      o = r.0
-
-      prior : at_or_before (preceding_tsn x.tsn) (tsn p m) ≡ true
-      prior =
-          let lt = inside m j x o past in
-          let is : preceding_tsn (tsn p (o.before + 1)) ≡ tsn p o.before = omega arith in
-          ap (λ t. at_or_before t (tsn p m)) (ap preceding_tsn o.is ∙ is) ∙ upto o.before m (omega (arith, lt)) most
-
-      by : (b : Bool) → (b && completes x xs) ≡ false → (completes x xs ≡ false → misses_behind (tsn p m) x xs ≡ true)
-          → ((not b && at_or_before (preceding_tsn x.tsn) (tsn p m)) || misses_behind (tsn p m) x xs) ≡ true
-      by true h ih = ih h
-      by false h ih = or-left (at_or_before (preceding_tsn x.tsn) (tsn p m)) (misses_behind (tsn p m) x xs) prior
 
   -- ## A stream on which nothing is to be read
 
@@ -202,7 +164,7 @@ module _ (st first n : ℕ) (few : n < 2 ^ 31) (s : Session) (ns : List Numbered
           none-some x (sym (sym (ap (front_readable held.next_ssn) is ∙ ap (λ b. if b then Some x else None) e) ∙ front-none))
 
       -- the lowest message is the next one
-      lowest-next : due.low ≡ due.index
+      pub lowest-next : due.low ≡ due.index
       lowest-next = by held.ordered refl
         where
           near' : due.index < due.low + 2 ^ 15
@@ -238,13 +200,6 @@ module _ (st first n : ℕ) (few : n < 2 ^ 31) (s : Session) (ns : List Numbered
                     | inr ge ↦ let le = due.from in omega (arith, ge, le)
                   ]
 
-      later-none : (low z : ℕ) (ss : List ChunkSet) → Sets low ss → z ≤ n → B z ≤ low → list_any (has z) ss ≡ true → ⊥
-      later-none low z [] a most lo h = not_both h
-      later-none low z (x ∷ xs) a most lo h = elim (or-split (has z x) (list_any (has z) xs) h) [
-        | inl g ↦ let b = at-in p st n B E M few up a.0 z x.chunks most a.1.1 g in let from = a.1.0.0 in absurd (omega (arith, b, from, lo))
-        | inr g ↦ let from = a.1.0.0 in later-none (a.0 + 1) z xs a.2 most (omega (arith, lo, from)) g
-      ]
-
       -- a place of the lowest message, up to the cumulative TSN, is of the front set
       in-front : (z : ℕ) → z ≤ d.arrived.place → E z ≡ true → B z ≡ due.low + 1
           → (x : ChunkSet) × (xs : List ChunkSet) × (held.ordered ≡ x ∷ xs) × (has z x ≡ true)
@@ -269,12 +224,9 @@ module _ (st first n : ℕ) (few : n < 2 ^ 31) (s : Session) (ns : List Numbered
               let from = a.1.0.0 in
               elim (or-split (has z x) (list_any (has z) xs) (sym (ap (list_any (has z)) is) ∙ h)) [
                 | inl g ↦ (x, xs, is, g)
-                | inr g ↦ absurd (later-none (a.0 + 1) z xs a.2 (omega (arith, le, w)) (omega (arith, begun, from)) g)
+                | inr g ↦ absurd (later-none p n B (Fits p st n B E M) Prior (at-in p st n B E M few up) (a.0 + 1) d.reach z xs a.2 (omega (arith, le, w))
+                    (omega (arith, begun, from)) g)
               ]
-
-      some-there : (z : ℕ) (cs : List ChunkPayloadData) → list_any (has_tsn (tsn p z)) cs ≡ true → list_any (λ c. true) cs ≡ true
-      some-there z [] h = h
-      some-there z (c ∷ cs) h = refl
 
       -- so no message but it was begun up to the cumulative TSN, from it on
       pub begun-low : B d.arrived.place ≤ due.low + 1
@@ -299,14 +251,18 @@ module _ (st first n : ℕ) (few : n < 2 ^ 31) (s : Session) (ns : List Numbered
               let at : at_or_before16 f.0.ssn held.next_ssn ≡ true = ap (λ k. at_or_before16 k held.next_ssn) a.1.0.2
               ∙ ap (at_or_before16 (a.0 % 2 ^ 16)) due.next
               ∙ at_or_before16-index a.0 due.index (omega (arith, same, le)) (omega (arith, same, close)) ∙ order in
-              by f.0 f.1 f.2 a same at (is_complete f.0.chunks) refl (some-there z.0 f.0.chunks f.3)
+              by f.0 f.1 f.2 a same at (is_complete f.0.chunks) refl
             where
               by : (x : ChunkSet) (xs : List ChunkSet) → held.ordered ≡ x ∷ xs → (a : Sets due.low (x ∷ xs)) → a.0 ≡ due.low
-                  → at_or_before16 x.ssn held.next_ssn ≡ true → (b : Bool) → is_complete x.chunks ≡ b → list_any (λ c. true) x.chunks ≡ true → ⊥
-              by x xs is a same at true whole some = not-readable x xs is whole at
-              by x xs is a same at false open' some =
+                  → at_or_before16 x.ssn held.next_ssn ≡ true → (b : Bool) → is_complete x.chunks ≡ b → ⊥
+              by x xs is a same at true whole = not-readable x xs is whole at
+              by x xs is a same at false open' =
                   let w = d.arrived.within in
-                  let e = incomplete-misses d.arrived.place a.0 x.chunks (omega (arith, same, lt)) w a.1.1 open' some in
+                  let before' : (c : ChunkPayloadData) (o : Of a.0 c) → o.before + 2 ≤ d.arrived.place =
+                  λ c o. inside d.arrived.place a.0 c o (omega (arith, same, lt)) in
+                  let e = misses-in ns first sent i.holds.held.stands.queued.line i.holds.held.stands.queued.joined n i.long few st a.0 d.arrived.place w
+                  (λ c o. let b = before' c o in omega (arith, b)) (λ c o e. let b = before' c o in omega (arith, b)) x.chunks a.1.1
+                  (subst (Every IsSome) is c.some).0 open' in
                   let z = sessions.missed st first n s ns sent i few d.arrived.place a.0 x.chunks w a.1.1 e in
                   let begun = z.3 in
                   let f = in-front z.0 z.1 z.2 (omega (arith, begun, same)) in

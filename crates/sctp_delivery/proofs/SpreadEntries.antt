@@ -34,11 +34,6 @@ abbrev pub ends_message : Entry → Bool
 ends_message terminal = true
 ends_message (fragment d w after) = d.ending_fragment
 
--- so where the chunk ends its message
-pub ends-for : (c : ChunkPayloadData) (e : Entry) → IsFor c e → c.ending_fragment ≡ true → ends_message e ≡ true
-ends-for c terminal for ends = refl
-ends-for c (fragment d w after) for ends = for.1 ∙ ends
-
 -- the chunk stands for the entry with its TSN
 pub record IsPlaced (first : ℕ) (sent : List Entry) (c : ChunkPayloadData) : Type 0 where
   pub entry : Entry

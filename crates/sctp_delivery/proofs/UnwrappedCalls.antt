@@ -19,7 +19,7 @@ use Rattle.sctp_data.specs.ChunkSet.{ChunkSet}
 use Rattle.sctp_data.specs.ForwardTsn.{ForwardTsn}
 use Rattle.sctp_serial.specs.DataChunks.{has_tsn, is_on}
 use Rattle.sctp_reassembly.specs.reassembly_queue.Fragments.{is_complete}
-use Rattle.sctp_reassembly.specs.reassembly_queue.ReassemblyQueue.{held_after_ordered_skip, held_after_unordered_skip, message_read}
+use Rattle.sctp_reassembly.specs.reassembly_queue.ReassemblyQueue.{Reassembly, held_after_ordered_skip, held_after_unordered_skip, message_read}
 use Rattle.sctp_reassembly.specs.reassembly_queue.Skips.{cannot_complete, misses}
 use Rattle.sctp_receiver.specs.declared.receiver.inbound_streams.InboundStream.{InboundStream}
 use Rattle.sctp_receiver.specs.Inbound.{has_number, new_stream, number, skipped_each, ssns_of, stream_forwarded, stream_read, unassembled_forwarded, with_queue}
@@ -29,41 +29,18 @@ use Rattle.sctp_receiver.specs.Skips.{after_forward_tsn, incomplete_forwarded, i
 use Rattle.sctp_receiver.specs.Ssns.{is_name_too_far, is_named_too_far, is_ssn_too_far, is_too_far_on}
 use Rattle.sctp_receiver.specs.TsnFilter.{has_come}
 use Rattle.sctp_receiver.proofs.Forwarded.{found-followed, found-mapped}
-use Rattle.sctp_receiver.proofs.Handed.{found-changed}
-use Rattle.sctp_receiver.proofs.Inbounds.{pushed-number}
 use Rattle.sctp_sender.specs.Abandonment.{is_pair_of}
 use Rattle.sctp_sender.specs.Numbers.{is_ordered_on}
 use Rattle.sctp_sender.proofs.Lates.{found-passes}
 use Rattle.sctp_delivery.proofs.Every.{Every, every-inserted, every-of, every-passing}
+use Rattle.sctp_delivery.proofs.StreamCalls.{accepted-on, changed-elsewhere, changed-here}
 use Rattle.sctp_delivery.proofs.TakenTsns.{come}
 use Rattle.sctp_delivery.proofs.TsnPlaces.{at-or-before, before, same-place}
 use Rattle.sctp_delivery.proofs.UnwrappedReads.{AreSets, Gone, IsDue, IsKeptAt, has_place, in-window, incomplete-due, name-due, push-ordered, push-unordered}
-use Rattle.sctp_delivery.proofs.UnwrappedReads.{read-due, recame, unassembled-due}
+use Rattle.sctp_delivery.proofs.UnwrappedReads.{later-none, neither, read-due, recame, unassembled-due, unnot}
 use Rattle.sctp_delivery.proofs.UnwrappedHolds as holds
-use Rattle.sctp_delivery.proofs.UnwrappedHolds.{advance-back, advanced, at-in, beyond-more, misses-upto, neither, on-of, rises-put, turn-more}
+use Rattle.sctp_delivery.proofs.UnwrappedHolds.{advance-back, advanced, at-in, beyond-more, on-of, rises-put, turn-more}
 use Rattle.sctp_delivery.proofs.OrderedMessages.{starts_ordered}
-
--- ## Streams by their numbers
-
-module _ (s : ℕ) (f : InboundStream → InboundStream) (keeps : (l : InboundStream) → has_number s l ≡ true → number (f l) ≡ number l)
-    (ls : List InboundStream) where
-  pub changed-here : (x : InboundStream) → find (has_number s) ls ≡ Some x → find (has_number s) (change_where (has_number s) f ls) ≡ Some (f x)
-  changed-here x e =
-      found-changed s s f keeps ls ∙ ap (option_map (λ l. if has_number s l then f l else l)) e
-      ∙ ap (λ b. Some (if b then f x else x)) (found-passes (has_number s) ls x e)
-
-  pub changed-none : find (has_number s) ls ≡ None → find (has_number s) (change_where (has_number s) f ls) ≡ None
-  changed-none e = found-changed s s f keeps ls ∙ ap (option_map (λ l. if has_number s l then f l else l)) e
-
-  pub changed-elsewhere : (st : ℕ) → (s == st) ≡ false → find (has_number st) (change_where (has_number s) f ls) ≡ find (has_number st) ls
-  changed-elsewhere st differ = found-changed s st f keeps ls ∙ by (find (has_number st) ls) refl
-    where
-      by : (o : Option InboundStream) → find (has_number st) ls ≡ o → option_map (λ l. if has_number s l then f l else l) o ≡ o
-      by None e = refl
-      by (Some l) e =
-          let off : has_number s l ≡ false = fails (has_number s l) (λ k. not_both
-          (sym differ ∙ eq-eqb s st (sym (same-is (number l) s k) ∙ same-is (number l) st (found-passes (has_number st) ls l e)))) in
-          ap (λ b. Some (if b then f l else l)) off
 
 -- st: a stream. Of n TSNs from the base p on, B k says how many ordered messages of the stream the first k begin
 -- E k: the chunk at place k is an ordered one of the stream; M c: the chunk was made
@@ -137,18 +114,18 @@ module _ (p st n : ℕ) (B : ℕ → ℕ) (E : ℕ → Bool) (M : ChunkPayloadDa
         by None false d = d
         by (Some l) b d = d
 
-    -- nothing is read, and no TSN comes
-    pub quiet : (a : ℕ) (old new : Stand) (d : AreDue a old) → new.read ≡ old.read
-        → DueOn (Came old.receiver.cumulative_tsn old.receiver.beyond) d.k d.reach (stream_of st new.receiver)
+    -- no TSN comes
+    moved : (a : ℕ) (old new : Stand) (d : AreDue a old) (k : ℕ)
+        → DueOn (Came old.receiver.cumulative_tsn old.receiver.beyond) k d.reach (stream_of st new.receiver) → AreInTurn k new.read
         → new.receiver.cumulative_tsn ≡ old.receiver.cumulative_tsn → new.receiver.beyond ≡ old.receiver.beyond → AreDue d.arrived.place new
-    quiet a old new d e due c b =
+    moved a old new d k due turns c b =
         let h = d.arrived in
         record {
-          k = d.k;
+          k = k;
           reach = d.reach;
-          due = subst (λ t. DueOn (Came t new.receiver.beyond) d.k d.reach (stream_of st new.receiver)) (sym c)
-              (subst (λ ts. DueOn (Came old.receiver.cumulative_tsn ts) d.k d.reach (stream_of st new.receiver)) (sym b) due);
-          turns = subst (AreInTurn d.k) (sym e) d.turns;
+          due = subst (λ t. DueOn (Came t new.receiver.beyond) k d.reach (stream_of st new.receiver)) (sym c)
+              (subst (λ ts. DueOn (Came old.receiver.cumulative_tsn ts) k d.reach (stream_of st new.receiver)) (sym b) due);
+          turns = turns;
           most = d.most;
           arrived = record {
             place = h.place;
@@ -160,46 +137,51 @@ module _ (p st n : ℕ) (B : ℕ → ℕ) (E : ℕ → Bool) (M : ChunkPayloadDa
           };
         }
 
+    -- and nothing is read
+    pub quiet : (a : ℕ) (old new : Stand) (d : AreDue a old) → new.read ≡ old.read
+        → DueOn (Came old.receiver.cumulative_tsn old.receiver.beyond) d.k d.reach (stream_of st new.receiver)
+        → new.receiver.cumulative_tsn ≡ old.receiver.cumulative_tsn → new.receiver.beyond ≡ old.receiver.beyond → AreDue d.arrived.place new
+    quiet a old new d e due = moved a old new d d.k due (subst (AreInTurn d.k) (sym e) d.turns)
+
+    -- one that did not come, by its place
+    module _ (a : ℕ) (c : ChunkPayloadData) (old : Stand) (d : AreDue a old) (g : IsStepOf c)
+        (fresh : has_come c.tsn (filter_of old.receiver) ≡ false) where
+      past : d.arrived.place < g.before + 1
+      past =
+          let h = d.arrived in
+          let w = g.within in
+          let v = h.within in
+          let e = (neither (at_or_before c.tsn old.receiver.cumulative_tsn) (list_any (λ t. t == c.tsn) old.receiver.beyond) fresh).0 in
+          let t : nat_le (g.before + 1) h.place ≡ false =
+          sym (at-or-before p (g.before + 1) h.place (omega (arith, w, few)) (omega (arith, v, few))) ∙ ap (λ u. at_or_before u (tsn p h.place)) (sym g.is)
+          ∙ ap (at_or_before c.tsn) (sym h.is) ∙ e in
+          grind (arith, nat_tests, t)
+
+      -- an ordered one that is not too far on is of an index less than half the circle past the lowest one
+      pub window : B n ≤ B a + 2 ^ 14 → c.unordered ≡ false → (o : (i : ℕ) × (B (g.before + 1) ≡ i + 1) × (c.stream_sequence_number ≡ i % 2 ^ 16))
+          → (q : Reassembly) (dd : IsDue p n B Fits (Came old.receiver.cumulative_tsn old.receiver.beyond) d.k d.reach q)
+          → (not c.unordered && is_ssn_too_far c.stream_sequence_number q) ≡ false → (dd.low ≤ o.0) × (o.0 < dd.low + 2 ^ 15)
+      window near kind o q dd close =
+          let h = d.arrived in
+          let f = past in
+          let x = up h.place (g.before + 1) (omega (arith, f)) in
+          let y = up a h.place h.least_is in
+          let z = h.covered in
+          let m = d.most in
+          let b = o.1 in
+          let top = up (g.before + 1) n g.within in
+          in-window p n B Fits (Came old.receiver.cumulative_tsn old.receiver.beyond) (at-in p st n B E M few up) d.k d.reach o.0 c.stream_sequence_number q dd
+          o.2 (omega (arith, m, near, y, x, b)) (omega (arith, top, near, y, z, b))
+          (ap (λ b. not b && is_ssn_too_far c.stream_sequence_number q) (sym kind) ∙ close)
+
     module _ (a : ℕ) (near : B n ≤ B a + 2 ^ 14) where
       -- a chunk with a new TSN, that is not too far past the lowest number
       module _ (c : ChunkPayloadData) (answered : Bool) (old new : Stand) (d : AreDue a old) (g : IsStepOf c)
           (acc : Accepts c answered old.receiver new.receiver)
           (read : new.read ≡ old.read) (fresh : has_come c.tsn (filter_of old.receiver) ≡ false)
           (close : is_too_far_on c (stream_of c.stream_identifier old.receiver) ≡ false) where
-        abbrev sid : ℕ
-        sid = c.stream_identifier
-
-        keeps : (l : InboundStream) → has_number sid l ≡ true → acc.queue.si ≡ number l
-        keeps l e =
-            pushed-number c answered acc.stream.queue acc.queue acc.pushed
-            ∙ same-is (number acc.stream) sid (found-passes (has_number sid) old.receiver.streams acc.stream acc.found) ∙ sym (same-is (number l) sid e)
-
-        past : d.arrived.place < g.before + 1
-        past =
-            let h = d.arrived in
-            let w = g.within in
-            let v = h.within in
-            let e = (neither (at_or_before c.tsn old.receiver.cumulative_tsn) (list_any (λ t. t == c.tsn) old.receiver.beyond) fresh).0 in
-            let t : nat_le (g.before + 1) h.place ≡ false =
-            sym (at-or-before p (g.before + 1) h.place (omega (arith, w, few)) (omega (arith, v, few))) ∙ ap (λ u. at_or_before u (tsn p h.place)) (sym g.is)
-            ∙ ap (at_or_before c.tsn) (sym h.is) ∙ e in
-            grind (arith, nat_tests, t)
-
-        streams-here : sid ≡ st → stream_of st new.receiver ≡ Some (with_queue acc.queue acc.stream)
-        streams-here same =
-            ap (stream_of st) acc.after
-            ∙ subst (λ s. find (has_number s) (change_where (has_number sid) (with_queue acc.queue) old.receiver.streams) ≡ Some
-            (with_queue acc.queue acc.stream)) same (changed-here sid (with_queue acc.queue) keeps old.receiver.streams acc.stream acc.found)
-
-        streams-elsewhere : (sid == st) ≡ false → stream_of st new.receiver ≡ stream_of st old.receiver
-        streams-elsewhere differ =
-            ap (stream_of st) acc.after ∙ changed-elsewhere sid (with_queue acc.queue) keeps old.receiver.streams st differ
-
         abbrev Old : ℕ → Type 0
         Old = Came old.receiver.cumulative_tsn old.receiver.beyond
-
-        held : sid ≡ st → IsDue p n B Fits Old d.k d.reach acc.stream.queue.held
-        held same = subst (DueOn Old d.k d.reach) (subst (λ s. stream_of s old.receiver ≡ Some acc.stream) same acc.found) d.due
 
         inserted : (more : ℕ) → d.reach ≤ more → (B (g.before + 1) ≤ B g.before) ⊎ (B (g.before + 1) ≤ more)
             → Covers more d.arrived.place old.receiver.cumulative_tsn (insert_before comes_before c.tsn old.receiver.beyond)
@@ -250,9 +232,16 @@ module _ (p st n : ℕ) (B : ℕ → ℕ) (E : ℕ → Bool) (M : ChunkPayloadDa
               (inserted more le so));
         }
 
+        -- what is due on the stream, where it is that of the chunk
+        is-due : (C : ℕ → Type 0) (k reach : ℕ) → (is_on st c ≡ false → DueOn C k reach (stream_of st old.receiver))
+            → (is_on st c ≡ true → IsDue p n B Fits Old d.k d.reach acc.stream.queue.held → IsDue p n B Fits C k reach acc.queue.held)
+            → DueOn C k reach (stream_of st new.receiver)
+        is-due C k reach off on = accepted-on c answered old.receiver new.receiver acc st (DueOn C k reach) off
+            (λ e there. on e (subst (DueOn Old d.k d.reach) there d.due))
+
         ordered : is_ordered_on st c ≡ true → AreDue d.arrived.place new
         ordered e = elim (cases_lt d.reach (i + 1)) [
-          | inl lt ↦ put (i + 1) (omega (arith, lt)) (omega arith) (let w = window.1 in omega (arith, w)) (omega (arith, top, o.1))
+          | inl lt ↦ put (i + 1) (omega (arith, lt)) (omega arith) (let w = wide.1 in omega (arith, w)) (omega (arith, top, o.1))
           | inr ge ↦ put d.reach (omega arith) (omega (arith, ge)) dd.far d.most
         ]
           where
@@ -265,31 +254,17 @@ module _ (p st n : ℕ) (B : ℕ → ℕ) (E : ℕ → Bool) (M : ChunkPayloadDa
             on : (is_on st c ≡ true) × (not c.unordered ≡ true)
             on = both (is_on st c) (not c.unordered) e
 
-            same : sid ≡ st
-            same = same-is sid st on.0
-
             kind : c.unordered ≡ false
             kind = negated c.unordered on.1
 
             dd : IsDue p n B Fits Old d.k d.reach acc.stream.queue.held
-            dd = held same
+            dd = subst (DueOn Old d.k d.reach) (subst (λ s. stream_of s old.receiver ≡ Some acc.stream) (same-is c.stream_identifier st on.0) acc.found) d.due
 
             top : B (g.before + 1) ≤ B n
             top = up (g.before + 1) n g.within
 
-            window : (dd.low ≤ i) × (i < dd.low + 2 ^ 15)
-            window =
-                let h = d.arrived in
-                let f = past in
-                let x = up h.place (g.before + 1) (omega (arith, f)) in
-                let y = up a h.place h.least_is in
-                let z = h.covered in
-                let m = d.most in
-                let b = o.1 in
-                in-window p n B Fits Old (at-in p st n B E M few up) d.k d.reach i c.stream_sequence_number acc.stream.queue.held dd o.2
-                (omega (arith, m, near, y, x, b))
-                (omega (arith, top, near, y, z, b))
-                (ap (λ b. not b && is_ssn_too_far c.stream_sequence_number acc.stream.queue.held) (sym kind) ∙ (ap (is_too_far_on c) (sym acc.found) ∙ close))
+            wide : (dd.low ≤ i) × (i < dd.low + 2 ^ 15)
+            wide = window a c old d g fresh near kind o acc.stream.queue.held dd (ap (is_too_far_on c) (sym acc.found) ∙ close)
 
             of : IsOf i c
             of = record { before = g.before; within = g.within; is = g.is; begun = o.1; made = g.made; on = e; inner = λ f. g.inner e f ∙ o.1 }
@@ -300,10 +275,10 @@ module _ (p st n : ℕ) (B : ℕ → ℕ) (E : ℕ → Bool) (M : ChunkPayloadDa
                 let at : has_tsn (tsn p (g.before + 1)) c ≡ true = eq-eqb c.tsn (tsn p (g.before + 1)) g.is in
                 let x = push-ordered p n B Fits Old (at-in p st n B E M few up) d.k d.reach more i (g.before + 1) c answered acc.stream.queue acc.queue dd kind
                 (of, omega arith, tt)
-                (λ cs none r. rises-put p st n B E M few up i 0 c cs of (omega arith) none r) o.2 at o.1 window.0 window.1 le lt far acc.pushed in
-                build more le most
-                (subst (DueOn (Came new.receiver.cumulative_tsn new.receiver.beyond) d.k more) (sym (streams-here same))
-                (recame p n B Fits Old (Came new.receiver.cumulative_tsn new.receiver.beyond) d.k more acc.queue.held x.0 (λ y m h. elim (back y m h) [
+                (λ cs none r. rises-put p st n B E M few up i 0 c cs of (omega arith) none r) o.2 at o.1 wide.0 wide.1 le lt far acc.pushed in
+                build more le most (is-due (Came new.receiver.cumulative_tsn new.receiver.beyond) d.k more (λ no. absurd (not_both (sym no ∙ on.0)))
+                (λ yes held.
+                recame p n B Fits Old (Came new.receiver.cumulative_tsn new.receiver.beyond) d.k more acc.queue.held x.0 (λ y m h. elim (back y m h) [
                   | inl z ↦ inl z
                   | inr z ↦ inr (subst (IsKeptAt p n B Fits Old x.0.index acc.queue.held.ordered) (sym z.0) x.1)
                 ]))) (inr (omega (arith, b, lt)))
@@ -311,7 +286,9 @@ module _ (p st n : ℕ) (B : ℕ → ℕ) (E : ℕ → Bool) (M : ChunkPayloadDa
         other : is_ordered_on st c ≡ false → AreDue d.arrived.place new
         other e = build d.reach (omega arith) d.most
             (on-of p st n B E M few up Old (Came new.receiver.cumulative_tsn new.receiver.beyond) less d.k d.reach (stream_of st new.receiver)
-            (by (sid == st) refl e))
+            (is-due Old d.k d.reach (λ no. d.due) (λ on held.
+            push-unordered p n B Fits Old (at-in p st n B E M few up) d.k d.reach c answered acc.stream.queue acc.queue
+            (kind c.unordered (ap (λ b. b && not c.unordered) (sym on) ∙ e)) acc.pushed held)))
             (inl (let x = g.other e in omega (arith, x)))
           where
             less : (y : ℕ) → y ≤ n → Came new.receiver.cumulative_tsn new.receiver.beyond y → Old y
@@ -320,14 +297,6 @@ module _ (p st n : ℕ) (B : ℕ → ℕ) (E : ℕ → Bool) (M : ChunkPayloadDa
             kind : (b : Bool) → not b ≡ false → b ≡ true
             kind true h = refl
             kind false h = absurd (not_both (sym h))
-
-            by : (b : Bool) → (sid == st) ≡ b → (b && not c.unordered) ≡ false → DueOn Old d.k d.reach (stream_of st new.receiver)
-            by true on h =
-                let same = same-is sid st on in
-                subst (DueOn Old d.k d.reach) (sym (streams-here same))
-                (push-unordered p n B Fits Old (at-in p st n B E M few up) d.k d.reach c answered acc.stream.queue acc.queue (kind c.unordered h) acc.pushed
-                (held same))
-            by false on h = subst (DueOn Old d.k d.reach) (sym (streams-elsewhere on)) d.due
 
         pub taken-due : AreDue d.arrived.place new
         taken-due = by (is_ordered_on st c) refl
@@ -346,54 +315,38 @@ module _ (p st n : ℕ) (B : ℕ → ℕ) (E : ℕ → Bool) (M : ChunkPayloadDa
 
       read-to : (k : ℕ) → DueOn Then k d.reach (stream_of st new.receiver) → AreInTurn k (with_message stream (message_on stream old.receiver) old.read)
           → AreDue d.arrived.place new
-      read-to k due turns =
-          let h = d.arrived in
-          record {
-            k = k;
-            reach = d.reach;
-            due = subst (λ t. DueOn (Came t new.receiver.beyond) k d.reach (stream_of st new.receiver)) (sym cumulative)
-                (subst (λ ts. DueOn (Came old.receiver.cumulative_tsn ts) k d.reach (stream_of st new.receiver)) (sym beyond) due);
-            turns = subst (AreInTurn k) (sym read) turns;
-            most = d.most;
-            arrived = record {
-              place = h.place;
-              least_is = omega arith;
-              within = h.within;
-              is = cumulative ∙ h.is;
-              covered = h.covered;
-              each = subst (Every (IsBeyond d.reach)) (sym beyond) h.each;
-            };
-          }
+      read-to k due turns = moved a old new d k due (subst (AreInTurn k) (sym read) turns) cumulative beyond
 
       found : stream_of st new.receiver ≡ find (has_number st) (change_where (has_number stream) stream_read old.receiver.streams)
       found = ap (find (has_number st)) streams
 
-      here : stream ≡ st → (o : Option InboundStream) → stream_of stream old.receiver ≡ o → AreDue d.arrived.place new
-      here same None e =
-          let due = subst (λ s. DueOn Then d.k d.reach (stream_of s old.receiver)) (sym same) d.due in
-          let none = subst (λ s. find (has_number s) (change_where (has_number stream) stream_read old.receiver.streams) ≡ None) same
-          (changed-none stream stream_read (λ l h. refl) old.receiver.streams e) in
-          read-to d.k (subst (DueOn Then d.k d.reach) (sym (found ∙ none)) (subst (DueOn Then d.k d.reach) e due))
-          (subst (λ f. AreInTurn d.k (with_message stream (message_of f) old.read)) (sym e) d.turns)
-      here same (Some l) e =
-          let due = subst (λ s. DueOn Then d.k d.reach (stream_of s old.receiver)) (sym same) d.due in
-          let is = subst (λ s. find (has_number s) (change_where (has_number stream) stream_read old.receiver.streams) ≡ Some (stream_read l)) same
-          (changed-here stream stream_read (λ l h. refl) old.receiver.streams l e) in
-          let r = read-due p n B Fits Then (at-in p st n B E M few up) d.k d.reach l.queue.held (subst (DueOn Then d.k d.reach) e due) in
-          read-to r.after (subst (DueOn Then r.after d.reach) (sym (found ∙ is)) r.due)
-          (subst (λ f. AreInTurn r.after (with_message stream (message_of f) old.read)) (sym e) (turn r.after r.up r.turn (message_read l.queue.held) refl))
+      -- what is read has an index from k on
+      turn : (l : InboundStream) (after : ℕ) → d.k ≤ after → ((set : ChunkSet) → message_read l.queue.held ≡ Some set → starts_ordered set.chunks ≡ true
+          → (i : ℕ) × ((d.k ≤ i) × (i < after)) × Fits i set.chunks)
+          → (o : Option ChunkSet) → message_read l.queue.held ≡ o → AreInTurn after (with_message stream o old.read)
+      turn l after le t None f = turn-more p st n B E M few up d.k after old.read le d.turns
+      turn l after le t (Some set) f = by (stream == st) (starts_ordered set.chunks) refl
         where
-          turn : (after : ℕ) → d.k ≤ after → ((set : ChunkSet) → message_read l.queue.held ≡ Some set → starts_ordered set.chunks ≡ true
-              → (i : ℕ) × ((d.k ≤ i) × (i < after)) × Fits i set.chunks)
-              → (o : Option ChunkSet) → message_read l.queue.held ≡ o → AreInTurn after (with_message stream o old.read)
-          turn after le t None f = turn-more p st n B E M few up d.k after old.read le d.turns
-          turn after le t (Some set) f = by (stream == st) (starts_ordered set.chunks) refl
-            where
-              by : (b c : Bool) → starts_ordered set.chunks ≡ c
-                  → Where (b && c) ((i : ℕ) × (i < after) × Fits i set.chunks × AreInTurn i old.read) (AreInTurn after old.read)
-              by true true h = let x = t set f h in (x.0, x.1.1, x.2, turn-more p st n B E M few up d.k x.0 old.read x.1.0 d.turns)
-              by true false h = turn-more p st n B E M few up d.k after old.read le d.turns
-              by false c h = turn-more p st n B E M few up d.k after old.read le d.turns
+          by : (b c : Bool) → starts_ordered set.chunks ≡ c
+              → Where (b && c) ((i : ℕ) × (i < after) × Fits i set.chunks × AreInTurn i old.read) (AreInTurn after old.read)
+          by true true h = let x = t set f h in (x.0, x.1.1, x.2, turn-more p st n B E M few up d.k x.0 old.read x.1.0 d.turns)
+          by true false h = turn-more p st n B E M few up d.k after old.read le d.turns
+          by false c h = turn-more p st n B E M few up d.k after old.read le d.turns
+
+      here : (stream == st) ≡ true → (o : Option InboundStream) → stream_of st old.receiver ≡ o → AreDue d.arrived.place new
+      here on o e = by o (found ∙ changed-here stream stream_read (λ l h. refl) old.receiver.streams st on ∙ ap (option_map stream_read) e)
+          (subst (DueOn Then d.k d.reach) e d.due) (ap (λ s. stream_of s old.receiver) (same-is stream st on) ∙ e)
+        where
+          by : (o : Option InboundStream) → stream_of st new.receiver ≡ option_map stream_read o → DueOn Then d.k d.reach o → stream_of stream old.receiver ≡ o
+              → AreDue d.arrived.place new
+          by None is due there =
+              read-to d.k (subst (DueOn Then d.k d.reach) (sym is) due)
+              (subst (λ f. AreInTurn d.k (with_message stream (message_of f) old.read)) (sym there) d.turns)
+          by (Some l) is due there =
+              let r = read-due p n B Fits Then (at-in p st n B E M few up) d.k d.reach l.queue.held due in
+              read-to r.after (subst (DueOn Then r.after d.reach) (sym is) r.due)
+              (subst (λ f. AreInTurn r.after (with_message stream (message_of f) old.read)) (sym there)
+              (turn l r.after r.up r.turn (message_read l.queue.held) refl))
 
       elsewhere : (stream == st) ≡ false → AreDue d.arrived.place new
       elsewhere differ =
@@ -410,7 +363,7 @@ module _ (p st n : ℕ) (B : ℕ → ℕ) (E : ℕ → Bool) (M : ChunkPayloadDa
       read-on-due = by (stream == st) refl
         where
           by : (b : Bool) → (stream == st) ≡ b → AreDue d.arrived.place new
-          by true e = here (same-is stream st e) (stream_of stream old.receiver) refl
+          by true e = here e (stream_of st old.receiver) refl
           by false e = elsewhere e
 
     -- ## A FORWARD-TSN
@@ -430,11 +383,63 @@ module _ (p st n : ℕ) (B : ℕ → ℕ) (E : ℕ → Bool) (M : ChunkPayloadDa
         by true ih = ap (λ ys. x.sequence ∷ ys) ih
         by false ih = ih
 
-    module _ (a : ℕ) (near : B n ≤ B a + 2 ^ 14) (f : ForwardTsn) (m : ℕ) (old new : Stand) (d : AreDue a old) (le : m ≤ n)
-        (is : f.new_cumulative_tsn ≡ tsn p m) (after : new.receiver ≡ after_forward_tsn f old.receiver) (read : new.read ≡ old.read)
-        (naming : IsNamingTo a m f.streams) (answered : names_too_far f old.receiver ≡ false) (shut : names_closed f old.receiver ≡ false)
-        (missing : (i : ℕ) (cs : List ChunkPayloadData) → Fits i cs → misses (tsn p m) cs ≡ true
-        → (z : ℕ) × (z ≤ m) × (E z ≡ true) × (B z ≡ i + 1) × (list_any (has_tsn (tsn p z)) cs ≡ false)) where
+    -- what misses a TSN up to that of a place misses a chunk of its message
+    abbrev pub Misses : ℕ → Type 0
+    Misses m =
+        (i : ℕ) (cs : List ChunkPayloadData) → Fits i cs → misses (tsn p m) cs ≡ true
+        → (z : ℕ) × (z ≤ m) × (E z ≡ true) × (B z ≡ i + 1) × (list_any (has_tsn (tsn p z)) cs ≡ false)
+
+    module _ (t m : ℕ) (le : m ≤ n) (is : t ≡ tsn p m) (C : ℕ → Type 0) where
+      abbrev Sets : ℕ → ℕ → List ChunkSet → Type 0
+      Sets = AreSets p n B Fits C
+
+      abbrev has : ℕ → ChunkSet → Bool
+      has = has_place p n B Fits C
+
+      abbrev Goes : ℕ → (low top : ℕ) (ss : List ChunkSet) → Sets low top ss → Type 0
+      Goes = Gone p n B Fits C (λ set. not (cannot_complete t set))
+
+      missed : Misses m → (i : ℕ) (s : ChunkSet) → Fits i s.chunks → not (cannot_complete t s) ≡ false
+          → (z : ℕ) × (z ≤ m) × (E z ≡ true) × (B z ≡ i + 1) × (list_any (has_tsn (tsn p z)) s.chunks ≡ false)
+      missed missing i s h e =
+          let c = both (not (is_complete s.chunks)) (misses t s.chunks) (unnot (cannot_complete t s) e) in
+          missing i s.chunks h (subst (λ u. misses u s.chunks ≡ true) is c.1)
+
+      -- where each place up to m of a message from the index on is held, no such message misses one
+      pub gone-held : Misses m → (index low top : ℕ) (ss : List ChunkSet) (r : Sets low top ss)
+          → ((z : ℕ) → z ≤ m → E z ≡ true → low + 1 ≤ B z → index + 1 ≤ B z → list_any (has z) ss ≡ true) → Goes index low top ss r
+      gone-held missing index low top [] r hold = tt
+      gone-held missing index low top (s ∷ ss) r hold = (
+        λ e. elim (cases_lt r.0 index) [
+          | inl lt ↦ lt
+          | inr ge ↦
+              let x = r.1.0.0 in
+              let z = missed missing r.0 s r.1.1 e in
+              let upto = z.1 in
+              let b = z.3 in
+              elim (or-split (has z.0 s) (list_any (has z.0) ss) (hold z.0 z.1 z.2 (omega (arith, b, x)) (omega (arith, b, ge)))) [
+                | inl h ↦ absurd (not_both (sym z.4 ∙ h))
+                | inr h ↦ absurd (later-none p n B Fits C (at-in p st n B E M few up) (r.0 + 1) top z.0 ss r.2 (omega (arith, upto, le)) (omega (arith, b)) h)
+              ]
+        ],
+        gone-held missing index (r.0 + 1) top ss r.2 (λ z upto a lo from.
+            let x = r.1.0.0 in
+            elim (or-split (has z s) (list_any (has z) ss) (hold z upto a (omega (arith, lo, x)) from)) [
+              | inl h ↦ let b = (at-in p st n B E M few up) r.0 z s.chunks (omega (arith, upto, le)) r.1.1 h in absurd (omega (arith, b, lo))
+              | inr h ↦ h
+            ]),
+      )
+
+      -- where the index is past all messages begun up to m
+      pub gone-begun : Misses m → (index low top : ℕ) (ss : List ChunkSet) (r : Sets low top ss) → B m ≤ index → Goes index low top ss r
+      gone-begun missing index low top [] r past = tt
+      gone-begun missing index low top (s ∷ ss) r past = (
+        λ e. let z = missed missing r.0 s r.1.1 e in let b = z.3 in let x = up z.0 m z.1 in omega (arith, b, x, past),
+        gone-begun missing index (r.0 + 1) top ss r.2 past,
+      )
+
+    -- one whose place is m
+    module _ (a : ℕ) (f : ForwardTsn) (m : ℕ) (old : Stand) (d : AreDue a old) (le : m ≤ n) (is : f.new_cumulative_tsn ≡ tsn p m) where
       pub ahead-is : is_stale f old.receiver ≡ false → d.arrived.place < m
       ahead-is e =
           let h = d.arrived in
@@ -444,37 +449,92 @@ module _ (p st n : ℕ) (B : ℕ → ℕ) (E : ℕ → Bool) (M : ChunkPayloadDa
           ∙ ap (at_or_before f.new_cumulative_tsn) (sym h.is) ∙ e in
           grind (arith, nat_tests, t)
 
-      pub is-ahead : d.arrived.place < m → is_ahead f old.receiver ≡ true
-      is-ahead lt =
-          let h = d.arrived in
-          let v = h.within in
-          let t : nat_lt h.place m ≡ true = grind (arith, nat_tests, lt) in
-          ap (λ u. comes_before u f.new_cumulative_tsn) h.is ∙ ap (comes_before (tsn p h.place)) is
-          ∙ before p h.place m (omega (arith, v, few)) (omega (arith, le, few)) ∙ t
-
+      -- of the one name of the stream what is refused of any does not hold
       pub none-among : (q : ChunkForwardTsnStream → Bool) → (is_ahead f old.receiver && list_any q f.streams) ≡ false → d.arrived.place < m
           → (x : ChunkForwardTsnStream) → filter (is_pair_of st) f.streams ≡ x ∷ [] → q x ≡ false
       none-among q e lt x only =
-          let any : list_any q f.streams ≡ false = ap (λ b. b && list_any q f.streams) (sym (is-ahead lt)) ∙ e in
+          let h = d.arrived in
+          let v = h.within in
+          let t : nat_lt h.place m ≡ true = grind (arith, nat_tests, lt) in
+          let lead : is_ahead f old.receiver ≡ true =
+          ap (λ u. comes_before u f.new_cumulative_tsn) h.is ∙ ap (comes_before (tsn p h.place)) is
+          ∙ before p h.place m (omega (arith, v, few)) (omega (arith, le, few)) ∙ t in
+          let any : list_any q f.streams ≡ false = ap (λ b. b && list_any q f.streams) (sym lead) ∙ e in
           let those : list_any q (filter (is_pair_of st) f.streams) ≡ false = fails (list_any q (filter (is_pair_of st) f.streams))
           (λ h. not_both (sym any ∙ list_any-those q (is_pair_of st) f.streams h)) in
           (neither (q x) false (ap (list_any q) (sym only) ∙ those)).0
 
+      pub close : names_too_far f old.receiver ≡ false → d.arrived.place < m → (l : InboundStream) → stream_of st old.receiver ≡ Some l → (k : ℕ)
+          → filter (is_pair_of st) f.streams ≡ record { identifier = st; sequence = k } ∷ [] → is_name_too_far k l.queue.held ≡ false
+      close answered lt l g k only =
+          ap (is_named_too_far (record { identifier = st; sequence = k })) (sym g)
+          ∙ none-among (λ x. is_named_too_far x (stream_of x.identifier old.receiver)) answered lt (record { identifier = st; sequence = k }) only
+
+      -- its index is near what is held
+      pub name-within : B n ≤ B a + 2 ^ 14 → d.arrived.place < m → (j : ℕ) → j + 1 ≡ B m → (d.reach ≤ j + 1 + 2 ^ 14) × (j + 1 ≤ d.reach + 2 ^ 14)
+      name-within near lt j last =
+          let h = d.arrived in
+          let x = up h.place m (omega (arith, lt)) in
+          let y = up a h.place h.least_is in
+          let z = h.covered in
+          let w = d.most in
+          let top = up m n le in
+          (omega (arith, w, near, y, x, last), omega (arith, top, near, y, z, last))
+
+      -- where it passes nothing of the stream, all up to it came
+      pub clear-came : ((k : ℕ) → a < k → k ≤ m → E k ≡ false) → (y : ℕ) → y ≤ m → E y ≡ true → Came old.receiver.cumulative_tsn old.receiver.beyond y
+      clear-came clear y upto on = elim (cases_lt d.arrived.place y) [
+        | inl lt ↦ let x = d.arrived.least_is in absurd (not_both (sym (clear y (omega (arith, x, lt)) upto) ∙ on))
+        | inr ge ↦
+            let v = d.arrived.within in
+            let t : nat_le y d.arrived.place ≡ true = grind (arith, nat_tests, ge) in (
+              on,
+              or-left (at_or_before (tsn p y) old.receiver.cumulative_tsn) (list_any (λ u. u == tsn p y) old.receiver.beyond)
+                  (ap (at_or_before (tsn p y)) d.arrived.is ∙ at-or-before p y d.arrived.place (omega (arith, upto, le, few)) (omega (arith, v, few)) ∙ t),
+            )
+      ]
+
+      -- the queue of the stream, by its names
+      pub named-by : (l : InboundStream) → stream_of st old.receiver ≡ Some l
+          → ssns_of l.queue.si f.streams ≡ map (λ x. x.sequence) (filter (is_pair_of st) f.streams)
+      named-by l e =
+          ap (λ s. ssns_of s f.streams) (same-is (number l) st (found-passes (has_number st) old.receiver.streams l e)) ∙ own-names f.streams
+
+    -- what it makes of the receiver
+    module _ (f : ForwardTsn) (old new : Stand) (after : new.receiver ≡ after_forward_tsn f old.receiver) where
       abbrev pub changed : InboundStream → InboundStream
       changed l = incomplete_forwarded f.new_cumulative_tsn (unassembled_forwarded f.new_cumulative_tsn (stream_forwarded f.streams l))
 
+      by-stale : (b : Bool) → is_stale f old.receiver ≡ b → new.receiver
+          ≡ (if b then old.receiver else without_incomplete f.new_cumulative_tsn (if b then old.receiver else follow_forward_tsn f old.receiver))
+      by-stale b e = after ∙ ap (λ b. if b then old.receiver else without_incomplete f.new_cumulative_tsn
+          (if b then old.receiver else follow_forward_tsn f old.receiver)) e
+
+      pub stale-same : is_stale f old.receiver ≡ true → new.receiver ≡ old.receiver
+      stale-same = by-stale true
+
+      pub now-is : is_stale f old.receiver ≡ false → new.receiver ≡ without_incomplete f.new_cumulative_tsn (follow_forward_tsn f old.receiver)
+      now-is = by-stale false
+
       pub found-after : is_stale f old.receiver ≡ false → stream_of st new.receiver ≡ option_map changed (stream_of st old.receiver)
       found-after e =
-          ap (stream_of st) after
-          ∙ ap (λ b. stream_of st (if b then old.receiver else without_incomplete f.new_cumulative_tsn
-          (if b then old.receiver else follow_forward_tsn f old.receiver))) e
-          ∙ found-mapped st (incomplete_forwarded f.new_cumulative_tsn) (λ l. refl) (follow_forward_tsn f old.receiver).streams
+          ap (stream_of st) (now-is e) ∙ found-mapped st (incomplete_forwarded f.new_cumulative_tsn) (λ l. refl) (follow_forward_tsn f old.receiver).streams
           ∙ ap (option_map (incomplete_forwarded f.new_cumulative_tsn)) (found-followed st f old.receiver) ∙ twice (stream_of st old.receiver)
         where
           twice : (o : Option InboundStream) → option_map (incomplete_forwarded f.new_cumulative_tsn)
               (option_map (λ l. unassembled_forwarded f.new_cumulative_tsn (stream_forwarded f.streams l)) o) ≡ option_map changed o
           twice None = refl
           twice (Some l) = refl
+
+    module _ (a : ℕ) (near : B n ≤ B a + 2 ^ 14) (f : ForwardTsn) (m : ℕ) (old new : Stand) (d : AreDue a old) (le : m ≤ n)
+        (is : f.new_cumulative_tsn ≡ tsn p m) (after : new.receiver ≡ after_forward_tsn f old.receiver) (read : new.read ≡ old.read)
+        (naming : IsNamingTo a m f.streams) (answered : names_too_far f old.receiver ≡ false) (shut : names_closed f old.receiver ≡ false)
+        (missing : Misses m) where
+      abbrev t : ℕ
+      t = f.new_cumulative_tsn
+
+      abbrev change : InboundStream → InboundStream
+      change = changed f old new after
 
       abbrev Prior : ℕ → Type 0
       Prior = Came old.receiver.cumulative_tsn old.receiver.beyond
@@ -483,11 +543,11 @@ module _ (p st n : ℕ) (B : ℕ → ℕ) (E : ℕ → Bool) (M : ChunkPayloadDa
       New = Came new.receiver.cumulative_tsn new.receiver.beyond
 
       abbrev rest : List ℕ
-      rest = filter (λ u. not (at_or_before u f.new_cumulative_tsn)) old.receiver.beyond
+      rest = filter (λ u. not (at_or_before u t)) old.receiver.beyond
 
-      arrived-upto : is_stale f old.receiver ≡ false → (more : ℕ) → d.reach ≤ more → B m ≤ more → Covers more d.arrived.place f.new_cumulative_tsn rest
+      arrived-upto : is_stale f old.receiver ≡ false → (more : ℕ) → d.reach ≤ more → B m ≤ more → Covers more d.arrived.place t rest
       arrived-upto e more up' covered =
-          let lt = ahead-is e in
+          let lt = ahead-is a f m old d le is e in
           record {
             place = m;
             least_is = omega (arith, lt);
@@ -495,20 +555,14 @@ module _ (p st n : ℕ) (B : ℕ → ℕ) (E : ℕ → Bool) (M : ChunkPayloadDa
             is = is;
             covered = covered;
             each = every-of (IsBeyond d.reach) (IsBeyond more) (λ u. beyond-more p st n B E M few up d.reach more u up') rest
-                (every-passing (IsBeyond d.reach) (λ u. not (at_or_before u f.new_cumulative_tsn)) old.receiver.beyond d.arrived.each);
+                (every-passing (IsBeyond d.reach) (λ u. not (at_or_before u t)) old.receiver.beyond d.arrived.each);
           }
-
-      pub now-is : is_stale f old.receiver ≡ false → new.receiver ≡ without_incomplete f.new_cumulative_tsn (follow_forward_tsn f old.receiver)
-      now-is e =
-          after ∙ ap (λ b. if b then old.receiver else without_incomplete f.new_cumulative_tsn
-          (if b then old.receiver else follow_forward_tsn f old.receiver)) e
 
       -- what came lies up to the place of the FORWARD-TSN, or came before
       came-by : is_stale f old.receiver ≡ false → (y : ℕ) → y ≤ n → New y → (y ≤ m) ⊎ Prior y
       came-by e y most h =
-          let t = f.new_cumulative_tsn in
           let k = advance-back p st n B E M few up (d.reach + B m) d.arrived.place t rest (arrived-upto e (d.reach + B m) (omega arith) (omega arith)) y most
-          (subst (λ (r : Reception). come (tsn p y) r.cumulative_tsn r.beyond ≡ true) (now-is e) h.1) in
+          (subst (λ (r : Reception). come (tsn p y) r.cumulative_tsn r.beyond ≡ true) (now-is f old new after e) h.1) in
           elim (or-split (at_or_before (tsn p y) t) (list_any (λ u. u == tsn p y) rest) k) [
             | inl z ↦
                 let u : nat_le y m ≡ true = sym (at-or-before p y m (omega (arith, most, few)) (omega (arith, le, few)))
@@ -523,81 +577,21 @@ module _ (p st n : ℕ) (B : ℕ → ℕ) (E : ℕ → Bool) (M : ChunkPayloadDa
 
       -- with this reach
       leads-to : is_stale f old.receiver ≡ false → (more : ℕ) → d.reach ≤ more → more ≤ B n → B m ≤ more
-          → DueOn New d.k more (option_map changed (stream_of st old.receiver)) → AreDue d.arrived.place new
+          → DueOn New d.k more (option_map change (stream_of st old.receiver)) → AreDue d.arrived.place new
       leads-to e more up' most covered due = record {
         k = d.k;
         reach = more;
-        due = subst (DueOn New d.k more) (sym (found-after e)) due;
+        due = subst (DueOn New d.k more) (sym (found-after f old new after e)) due;
         turns = subst (AreInTurn d.k) (sym read) d.turns;
         most = most;
         arrived =
-            subst (λ (r : Reception). Covers more d.arrived.place r.cumulative_tsn r.beyond) (sym (now-is e))
-            (advanced p st n B E M few up more d.arrived.place f.new_cumulative_tsn rest (arrived-upto e more up' covered));
+            subst (λ (r : Reception). Covers more d.arrived.place r.cumulative_tsn r.beyond) (sym (now-is f old new after e))
+            (advanced p st n B E M few up more d.arrived.place t rest (arrived-upto e more up' covered));
       }
 
-      -- the queue of the stream, by its names
-      pub skipped : (l : InboundStream) → stream_of st old.receiver ≡ Some l
-          → ssns_of l.queue.si f.streams ≡ map (λ x. x.sequence) (filter (is_pair_of st) f.streams)
-      skipped l e =
-          ap (λ s. ssns_of s f.streams) (same-is (number l) st (found-passes (has_number st) old.receiver.streams l e)) ∙ own-names f.streams
-
-      -- sets of later messages have no chunk of the place
-      pub later-none : (low top z : ℕ) (ss : List ChunkSet) → AreSets p n B Fits Prior low top ss → z ≤ n → B z ≤ low
-          → list_any (has_place p n B Fits Prior z) ss ≡ true → ⊥
-      later-none low top z [] r most lo h = not_both h
-      later-none low top z (s ∷ ss) r most lo h =
-          elim (or-split (has_place p n B Fits Prior z s) (list_any (has_place p n B Fits Prior z) ss) h) [
-            | inl g ↦ let b = (at-in p st n B E M few up) r.0 z s.chunks most r.1.1 g in let x = r.1.0.0 in absurd (omega (arith, b, x, lo))
-            | inr g ↦ let x = r.1.0.0 in later-none (r.0 + 1) top z ss r.2 most (omega (arith, lo, x)) g
-          ]
-
-      unnot : (b : Bool) → not b ≡ false → b ≡ true
-      unnot true e = refl
-      unnot false e = absurd (not_both (sym e))
-
-      pub misses-it : (s : ChunkSet) → not (cannot_complete f.new_cumulative_tsn s) ≡ false → misses (tsn p m) s.chunks ≡ true
-      misses-it s e =
-          subst (λ t. misses t s.chunks ≡ true) is
-          (both (not (is_complete s.chunks)) (misses f.new_cumulative_tsn s.chunks) (unnot (cannot_complete f.new_cumulative_tsn s) e)).1
-
-      -- where each place up to m of a message from the index on is held, no such message misses one
-      pub gone-held : (index low top : ℕ) (ss : List ChunkSet) (r : AreSets p n B Fits Prior low top ss)
-          → ((z : ℕ) → z ≤ m → E z ≡ true → low + 1 ≤ B z → index + 1 ≤ B z → list_any (has_place p n B Fits Prior z) ss ≡ true)
-          → Gone p n B Fits Prior (λ set. not (cannot_complete f.new_cumulative_tsn set)) index low top ss r
-      gone-held index low top [] r hold = tt
-      gone-held index low top (s ∷ ss) r hold = (
-        λ e. elim (cases_lt r.0 index) [
-          | inl lt ↦ lt
-          | inr ge ↦
-              let x = r.1.0.0 in
-              let z = missing r.0 s.chunks r.1.1 (misses-it s e) in
-              let upto = z.1 in
-              let b = z.3 in
-              elim (or-split (has_place p n B Fits Prior z.0 s) (list_any (has_place p n B Fits Prior z.0) ss)
-              (hold z.0 z.1 z.2 (omega (arith, b, x)) (omega (arith, b, ge)))) [
-                | inl h ↦ absurd (not_both (sym z.4 ∙ h))
-                | inr h ↦ absurd (later-none (r.0 + 1) top z.0 ss r.2 (omega (arith, upto, le)) (omega (arith, b)) h)
-              ]
-        ],
-        gone-held index (r.0 + 1) top ss r.2 (λ z upto a lo from.
-            let x = r.1.0.0 in
-            elim (or-split (has_place p n B Fits Prior z s) (list_any (has_place p n B Fits Prior z) ss) (hold z upto a (omega (arith, lo, x)) from)) [
-              | inl h ↦ let b = (at-in p st n B E M few up) r.0 z s.chunks (omega (arith, upto, le)) r.1.1 h in absurd (omega (arith, b, lo))
-              | inr h ↦ h
-            ]),
-      )
-
-      -- where the index is past all messages begun up to m
-      pub gone-begun : (index low top : ℕ) (ss : List ChunkSet) (r : AreSets p n B Fits Prior low top ss) → B m ≤ index
-          → Gone p n B Fits Prior (λ set. not (cannot_complete f.new_cumulative_tsn set)) index low top ss r
-      gone-begun index low top [] r past = tt
-      gone-begun index low top (s ∷ ss) r past = (
-        λ e.
-            let c = subst (λ t. cannot_complete t s ≡ true) is (unnot (cannot_complete f.new_cumulative_tsn s) e) in
-            let b = misses-upto p st n B E M few up r.0 m s le r.1.1 c in
-            omega (arith, b, past),
-        gone-begun index (r.0 + 1) top ss r.2 past,
-      )
+      -- the queue after its names, and what is incomplete then
+      abbrev with-names : List ℕ → InboundStream → InboundStream
+      with-names ssns l = incomplete_forwarded t (unassembled_forwarded t (with_queue (skipped_each ssns l.queue) l))
 
       unnamed : is_stale f old.receiver ≡ false → filter (is_pair_of st) f.streams ≡ [] → B m ≤ B a → ((k : ℕ) → a < k → k ≤ m → E k ≡ false)
           → AreDue d.arrived.place new
@@ -606,89 +600,66 @@ module _ (p st n : ℕ) (B : ℕ → ℕ) (E : ℕ → Bool) (M : ChunkPayloadDa
           covered : B m ≤ d.reach
           covered = let h = d.arrived in let y = up a h.place h.least_is in let z = h.covered in omega (arith, most, y, z)
 
-          came : (y : ℕ) → y ≤ n → y ≤ m → E y ≡ true → Prior y
-          came y within upto on = elim (cases_lt d.arrived.place y) [
-            | inl lt ↦ let x = d.arrived.least_is in absurd (not_both (sym (clear y (omega (arith, x, lt)) upto) ∙ on))
-            | inr ge ↦
-                let v = d.arrived.within in
-                let t : nat_le y d.arrived.place ≡ true = grind (arith, nat_tests, ge) in (
-                  on,
-                  or-left (at_or_before (tsn p y) old.receiver.cumulative_tsn) (list_any (λ u. u == tsn p y) old.receiver.beyond)
-                      (ap (at_or_before (tsn p y)) d.arrived.is ∙ at-or-before p y d.arrived.place (omega (arith, within, few)) (omega (arith, v, few)) ∙ t),
-                )
-          ]
+          came : (y : ℕ) → y ≤ m → E y ≡ true → Prior y
+          came = clear-came a f m old d le is clear
 
           less : (y : ℕ) → y ≤ n → New y → Prior y
-          less y within h = elim (came-by e y within h) [ inl x ↦ came y within x h.0 | inr x ↦ x ]
+          less y within h = elim (came-by e y within h) [ inl x ↦ came y x h.0 | inr x ↦ x ]
 
-          by : (o : Option InboundStream) → stream_of st old.receiver ≡ o → DueOn New d.k d.reach (option_map changed o)
+          by : (o : Option InboundStream) → stream_of st old.receiver ≡ o → DueOn New d.k d.reach (option_map change o)
           by None g = on-of p st n B E M few up Prior New less d.k d.reach None (subst (DueOn Prior d.k d.reach) g d.due)
           by (Some l) g =
               let held = subst (DueOn Prior d.k d.reach) g d.due in
               let now = recame p n B Fits Prior New d.k d.reach l.queue.held held (λ y within h. inl (less y within h)) in
-              let u = unassembled-due p n B Fits New (at-in p st n B E M few up) d.k d.reach f.new_cumulative_tsn l.queue.held now in
-              let gone = gone-held held.index held.low d.reach l.queue.held.ordered held.sets
-              (λ z upto on lo from. elim (held.kept z (omega (arith, upto, le)) (came z (omega (arith, upto, le)) upto on)) [
+              let u = unassembled-due p n B Fits New (at-in p st n B E M few up) d.k d.reach t l.queue.held now in
+              let gone = gone-held t m le is Prior missing held.index held.low d.reach l.queue.held.ordered held.sets
+              (λ z upto on lo from. elim (held.kept z (omega (arith, upto, le)) (came z upto on)) [
                 | inl h ↦ absurd (omega (arith, h, from))
                 | inr h ↦ h
               ]) in
-              let names : ssns_of l.queue.si f.streams ≡ [] = skipped l g ∙ ap (map (λ (x : ChunkForwardTsnStream). x.sequence)) none in
-              subst (λ ssns. IsDue p n B Fits New d.k d.reach
-              (incomplete_forwarded f.new_cumulative_tsn (unassembled_forwarded f.new_cumulative_tsn (with_queue (skipped_each ssns l.queue) l))).queue.held)
-              (sym names) (incomplete-due p n B Fits New (at-in p st n B E M few up) d.k d.reach f.new_cumulative_tsn
-              (held_after_unordered_skip f.new_cumulative_tsn l.queue.held) u
-              gone)
+              let names : ssns_of l.queue.si f.streams ≡ [] = named-by a f m old d le is l g ∙ ap (map (λ (x : ChunkForwardTsnStream). x.sequence)) none in
+              subst (λ ssns. IsDue p n B Fits New d.k d.reach (with-names ssns l).queue.held) (sym names)
+              (incomplete-due p n B Fits New (at-in p st n B E M few up) d.k d.reach t (held_after_unordered_skip t l.queue.held) u gone)
 
       named : is_stale f old.receiver ≡ false → (j : ℕ) → j + 1 ≡ B m
           → filter (is_pair_of st) f.streams ≡ record { identifier = st; sequence = j % 2 ^ 16 } ∷ [] → AreDue d.arrived.place new
       named e j last only = by (stream_of st old.receiver) refl
         where
           lt : d.arrived.place < m
-          lt = ahead-is e
+          lt = ahead-is a f m old d le is e
 
           by : (o : Option InboundStream) → stream_of st old.receiver ≡ o → AreDue d.arrived.place new
           by None g =
-              let open' = none-among (λ x. not (is_open x.identifier old.receiver)) shut lt (record { identifier = st; sequence = j % 2 ^ 16 }) only in
+              let open' = none-among a f m old d le is (λ x. not (is_open x.identifier old.receiver)) shut lt
+              (record { identifier = st; sequence = j % 2 ^ 16 }) only in
               absurd (not_both (sym open' ∙ ap (λ o. not (is_some o)) g))
           by (Some l) g =
-              let h = d.arrived in
               let held = subst (DueOn Prior d.k d.reach) g d.due in
-              let close : is_name_too_far (j % 2 ^ 16) l.queue.held ≡ false =
-              ap (is_named_too_far (record { identifier = st; sequence = j % 2 ^ 16 })) (sym g)
-              ∙ none-among (λ x. is_named_too_far x (stream_of x.identifier old.receiver))
-              answered lt (record { identifier = st; sequence = j % 2 ^ 16 }) only in
-              let x = up h.place m (omega (arith, lt)) in
-              let y = up a h.place h.least_is in
-              let z = h.covered in
-              let w = d.most in
+              let w = name-within a f m old d le is near lt j last in
               let top = up m n le in
-              let s = name-due p n B Fits Prior (at-in p st n B E M few up) d.k d.reach j (j % 2 ^ 16)
-              (B n) l.queue.held held refl (omega (arith, w, near, y, x, last))
-              (omega (arith, top, near, y, z, last)) w (omega (arith, top, last)) close in
+              let s = name-due p n B Fits Prior (at-in p st n B E M few up) d.k d.reach j (j % 2 ^ 16) (B n) l.queue.held held refl w.0 w.1 d.most
+              (omega (arith, top, last)) (close a f m old d le is answered lt l g (j % 2 ^ 16) only) in
               let q = held_after_ordered_skip (j % 2 ^ 16) l.queue.held in
               let v = s.passed in
               let now = recame p n B Fits Prior New d.k s.more q s.due (λ y within h. elim (came-by e y within h) [
                 | inl z ↦ inr (inl (let b = up y m z in omega (arith, b, v, last)))
                 | inr z ↦ inl z
               ]) in
-              let u = unassembled-due p n B Fits New (at-in p st n B E M few up) d.k s.more f.new_cumulative_tsn q now in
-              let past = gone-begun s.due.index s.due.low s.more q.ordered s.due.sets (omega (arith, v, last)) in
-              let names : ssns_of l.queue.si f.streams ≡ j % 2 ^ 16 ∷ [] = skipped l g ∙ ap (map (λ (x : ChunkForwardTsnStream). x.sequence)) only in
+              let u = unassembled-due p n B Fits New (at-in p st n B E M few up) d.k s.more t q now in
+              let past = gone-begun t m le is Prior missing s.due.index s.due.low s.more q.ordered s.due.sets (omega (arith, v, last)) in
+              let names : ssns_of l.queue.si f.streams ≡ j % 2 ^ 16 ∷ [] =
+              named-by a f m old d le is l g ∙ ap (map (λ (x : ChunkForwardTsnStream). x.sequence)) only in
               let upto = s.upto in
-              leads-to e s.more s.up s.within (omega (arith, upto, last)) (subst (λ o. DueOn New d.k s.more (option_map changed o)) (sym g)
-              (subst (λ ssns. IsDue p n B Fits New d.k s.more
-              (incomplete_forwarded f.new_cumulative_tsn (unassembled_forwarded f.new_cumulative_tsn (with_queue (skipped_each ssns l.queue) l))).queue.held)
-              (sym names) (incomplete-due p n B Fits New (at-in p st n B E M few up) d.k s.more f.new_cumulative_tsn
-              (held_after_unordered_skip f.new_cumulative_tsn q) u past)))
+              leads-to e s.more s.up s.within (omega (arith, upto, last)) (subst (λ o. DueOn New d.k s.more (option_map change o)) (sym g)
+              (subst (λ ssns. IsDue p n B Fits New d.k s.more (with-names ssns l).queue.held) (sym names)
+              (incomplete-due p n B Fits New (at-in p st n B E M few up) d.k s.more t (held_after_unordered_skip t q) u past)))
 
       pub followed-due : AreDue d.arrived.place new
       followed-due = by (is_stale f old.receiver) refl
         where
           by : (b : Bool) → is_stale f old.receiver ≡ b → AreDue d.arrived.place new
           by true e =
-              let same : new.receiver ≡ old.receiver = after
-              ∙ ap (λ b. if b then old.receiver
-              else without_incomplete f.new_cumulative_tsn (if b then old.receiver else follow_forward_tsn f old.receiver)) e in
+              let same = stale-same f old new after e in
               quiet a old new d read (subst (λ (r : Reception). DueOn Prior d.k d.reach (stream_of st r)) (sym same) d.due)
               (ap (λ (r : Reception). r.cumulative_tsn) same) (ap (λ (r : Reception). r.beyond) same)
           by false e = elim naming [ inl x ↦ unnamed e x.0 x.1 x.2 | inr x ↦ named e x.0 x.1 x.2 ]

@@ -1,18 +1,16 @@
 -- In each session the indexes of the ordered messages that are read on a stream rise: what is due on the stream, and what came.
-use Rattle.std.proofs.Common.{◌≡◌, ℕ, ◌+◌, ◌%◌, ◌^◌, ◌<◌, ◌≤◌, Bool, true, false, not, List, [], ◌∷◌, Option, Some, None, inl, inr, refl, ap, sym, ◌∙◌, arith}
-use Rattle.std.specs.Prelude.{⊤, ◌⊎◌, ◌==◌, ◌&&◌, ◌||◌, if◌then◌else◌, nat_le, nat_lt}
+use Rattle.std.proofs.Common.{◌≡◌, ℕ, ◌+◌, ◌%◌, ◌^◌, ◌<◌, ◌≤◌, Bool, true, false, List, [], ◌∷◌, Option, Some, None, inl, inr, refl, ap, sym, ◌∙◌, arith}
+use Rattle.std.specs.Prelude.{⊤, ◌⊎◌, ◌==◌, ◌&&◌, if◌then◌else◌, nat_le, nat_lt}
 use Rattle.std.specs.List.{list_any}
 use Rattle.std.proofs.lemmas.Bool.{cases_lt, eq-eqb}
 use Rattle.std.proofs.lemmas.Bool.Decides.{nat_tests}
 use Rattle.sctp_util.specs.Lists.{Seen, advance_over, insert_before}
 use Rattle.sctp_util.specs.Serial.{at_or_before, comes_before}
-use Rattle.sctp_util.proofs.Cases.{negated, or-left, or-right, or-split, same-is}
-use Rattle.sctp_util.proofs.More.{both, not_both}
+use Rattle.sctp_util.proofs.Cases.{or-left, or-right, or-split, same-is}
+use Rattle.sctp_util.proofs.More.{not_both}
 use Rattle.sctp_util.proofs.Round.{tsn}
 use Rattle.sctp_data.specs.declared.chunk.chunk_payload_data.ChunkPayloadData.{ChunkPayloadData}
-use Rattle.sctp_data.specs.ChunkSet.{ChunkSet}
-use Rattle.sctp_serial.specs.DataChunks.{chunk_before, following_tsn, has_tsn, preceding_tsn}
-use Rattle.sctp_reassembly.specs.reassembly_queue.Skips.{cannot_complete, misses, misses_behind}
+use Rattle.sctp_serial.specs.DataChunks.{chunk_before, has_tsn}
 use Rattle.sctp_receiver.specs.declared.receiver.inbound_streams.InboundStream.{InboundStream}
 use Rattle.sctp_receiver.specs.Receiver.{Reception, stream_of}
 use Rattle.sctp_receiver.specs.ReceiverRuns.{Message, Stand}
@@ -20,12 +18,8 @@ use Rattle.sctp_sender.specs.Numbers.{is_ordered_on}
 use Rattle.sctp_delivery.proofs.Every.{Every}
 use Rattle.sctp_delivery.proofs.TakenTsns.{come}
 use Rattle.sctp_delivery.proofs.TsnPlaces.{at-or-before, before, next-place, same-place}
-use Rattle.sctp_delivery.proofs.UnwrappedReads.{IsDue, recame}
+use Rattle.sctp_delivery.proofs.UnwrappedReads.{IsDue, neither, recame}
 use Rattle.sctp_delivery.proofs.OrderedMessages.{starts_ordered}
-
-pub neither : (a b : Bool) → (a || b) ≡ false → (a ≡ false) × (b ≡ false)
-neither true b e = absurd (not_both (sym e))
-neither false b e = (refl, e)
 
 -- st: a stream. Of n TSNs from the base p on, B k says how many ordered messages of the stream the first k begin
 -- E k: the chunk at place k is an ordered one of the stream; M c: the chunk was made
@@ -106,50 +100,6 @@ module _ (p st n : ℕ) (B : ℕ → ℕ) (E : ℕ → Bool) (M : ChunkPayloadDa
     pub arrived : Covers reach a s.receiver.cumulative_tsn s.receiver.beyond
 
   module _ (few : n < 2 ^ 31) (up : (j k : ℕ) → j ≤ k → B j ≤ B k) where
-    -- ## Chunks
-
-    -- what is missing at or before a place
-    goes-after : (i m : ℕ) (x : ChunkPayloadData) → m ≤ n → IsOf i x → at_or_before (following_tsn x.tsn) (tsn p m) ≡ true → i + 1 ≤ B m
-    goes-after i m x le o f =
-        let w = o.within in
-        let next : following_tsn x.tsn ≡ tsn p (o.before + 1 + 1) = ap following_tsn o.is ∙ next-place p (o.before + 1) in
-        let t : nat_le (o.before + 1 + 1) m ≡ true = sym (at-or-before p (o.before + 1 + 1) m (omega (arith, w, few)) (omega (arith, le, few)))
-        ∙ ap (λ u. at_or_before u (tsn p m)) (sym next) ∙ f in
-        let l : o.before + 1 + 1 ≤ m = grind (arith, nat_tests, t) in
-        let b = o.begun in
-        let u = up (o.before + 1) m (omega (arith, l)) in
-        omega (arith, b, u)
-
-    misses-after : (i m low : ℕ) (x : ChunkPayloadData) (xs : List ChunkPayloadData) → m ≤ n → IsOf i x → Rises i low xs
-        → misses_behind (tsn p m) x xs ≡ true → i + 1 ≤ B m
-    misses-after i m low x [] le o h e = goes-after i m x le o (both (not x.ending_fragment) (at_or_before (following_tsn x.tsn) (tsn p m)) e).1
-    misses-after i m low x (y ∷ ys) le o h e =
-        elim (or-split (not (y.tsn == following_tsn x.tsn) && at_or_before (following_tsn x.tsn) (tsn p m)) (misses_behind (tsn p m) y ys) e) [
-          | inl a ↦ goes-after i m x le o (both (not (y.tsn == following_tsn x.tsn)) (at_or_before (following_tsn x.tsn) (tsn p m)) a).1
-          | inr a ↦ misses-after i m (h.0.before + 1) y ys le h.0 h.2 a
-        ]
-
-    pub misses-upto : (i m : ℕ) (s : ChunkSet) → m ≤ n → Fits i s.chunks → cannot_complete (tsn p m) s ≡ true → i + 1 ≤ B m
-    misses-upto i m s le h e = by s.chunks h (both _ (misses (tsn p m) s.chunks) e).1
-      where
-        by : (cs : List ChunkPayloadData) → Fits i cs → misses (tsn p m) cs ≡ true → i + 1 ≤ B m
-        by [] h e = absurd (not_both e)
-        by (x ∷ xs) h e =
-            elim (or-split (not x.beginning_fragment && at_or_before (preceding_tsn x.tsn) (tsn p m)) (misses_behind (tsn p m) x xs) e) [
-              | inl a ↦
-                  let o = h.0 in
-                  let w = o.within in
-                  let b = both (not x.beginning_fragment) (at_or_before (preceding_tsn x.tsn) (tsn p m)) a in
-                  let prior : preceding_tsn (tsn p (o.before + 1)) ≡ tsn p o.before = omega arith in
-                  let t : nat_le o.before m ≡ true = sym (at-or-before p o.before m (omega (arith, w, few)) (omega (arith, le, few)))
-                  ∙ ap (λ u. at_or_before u (tsn p m)) (sym (ap preceding_tsn o.is ∙ prior)) ∙ b.1 in
-                  let l : o.before ≤ m = grind (arith, nat_tests, t) in
-                  let i' = o.inner (negated x.beginning_fragment b.0) in
-                  let u = up o.before m l in
-                  omega (arith, i', u)
-              | inr a ↦ misses-after i m (h.0.before + 1) x xs le h.0 h.2 a
-            ]
-
     -- ## What came
 
     pub beyond-more : (reach more t : ℕ) → reach ≤ more → IsBeyond reach t → IsBeyond more t

@@ -29,6 +29,23 @@ use Rattle.sctp_delivery.proofs.KeptSets.{put-sets, sets-those, sets-to, strictl
 use Rattle.sctp_delivery.proofs.TakenTsns.{any-inserted}
 use Rattle.sctp_delivery.proofs.OrderedMessages.{IsUnorderedSet, starts_ordered}
 
+pub neither : (a b : Bool) → (a || b) ≡ false → (a ≡ false) × (b ≡ false)
+neither true b e = absurd (not_both (sym e))
+neither false b e = (refl, e)
+
+pub unnot : (b : Bool) → not b ≡ false → b ≡ true
+unnot true e = refl
+unnot false e = absurd (not_both (sym e))
+
+-- what is so of all is so of those that are left behind the first ones
+pub leading-each : (P : ChunkPayloadData → Type 0) (p : ChunkPayloadData → Bool) (xs : List ChunkPayloadData) → Every P xs → Every P (after_leading p xs)
+leading-each P p [] h = tt
+leading-each P p (x ∷ xs) h = by (p x) (leading-each P p xs h.1)
+  where
+    by : (b : Bool) → Every P (after_leading p xs) → Every P (if b then after_leading p xs else x ∷ xs)
+    by true ih = ih
+    by false ih = h
+
 -- a number less than half the circle past another one, by their indexes
 window : (low j : ℕ) → low ≤ j + 2 ^ 15 → j < low + 2 ^ 16 → distance16 (low % 2 ^ 16) (j % 2 ^ 16) < 2 ^ 15 → (low ≤ j) × (j < low + 2 ^ 15)
 unfolding distance16
@@ -428,6 +445,14 @@ module _ (p n : ℕ) (B : ℕ → ℕ) (Fits : ℕ → List ChunkPayloadData →
 
     -- ## A FORWARD-TSN comes
 
+    -- sets of later messages have no chunk of the place
+    pub later-none : (low top z : ℕ) (ss : List ChunkSet) → AreSets low top ss → z ≤ n → B z ≤ low → list_any (has_place z) ss ≡ true → ⊥
+    later-none low top z [] r most lo h = not_both h
+    later-none low top z (s ∷ ss) r most lo h = elim (or-split (has_place z s) (list_any (has_place z) ss) h) [
+      | inl g ↦ let b = at-in r.0 z s.chunks most r.1.1 g in let x = r.1.0.0 in absurd (omega (arith, b, x, lo))
+      | inr g ↦ let x = r.1.0.0 in later-none (r.0 + 1) top z ss r.2 most (omega (arith, lo, x)) g
+    ]
+
     -- where the sets of messages before an index go, what is held stays so, or lies before the index
     those-kept : (q : ChunkSet → Bool) (bound low top : ℕ) (ss : List ChunkSet) (r : AreSets low top ss)
         → Gone q bound low top ss r → (y : ℕ) → y ≤ n → list_any (has_place y) ss ≡ true → IsKeptAt bound (filter q ss) y
@@ -467,13 +492,38 @@ module _ (p n : ℕ) (B : ℕ → ℕ) (Fits : ℕ → List ChunkPayloadData →
             (sym is) (subst (λ n. AreSets (n + 1) top (filter (λ set. not (is_passed last set)) ss)) same
             (sets-those Fits (λ set. not (is_passed last set)) (r.0 + 1) top ss r.2))
 
-    pub neither : (a b : Bool) → (a || b) ≡ false → (a ≡ false) × (b ≡ false)
-    neither true b e = absurd (not_both (sym e))
-    neither false b e = (refl, e)
+    module _ (k reach j last : ℕ) (q : Reassembly) (d : IsDue k reach q) (is : last ≡ j % 2 ^ 16) (back : reach ≤ j + 1 + 2 ^ 14)
+        (ahead : j + 1 ≤ reach + 2 ^ 14) where
+      -- it lies past the lowest index, as far as the numbers say, or before it
+      name-side : ((d.low ≤ j) × (d.low + distance16 (lowest_ssn q) last ≡ j)) ⊎ (j < d.low)
+      name-side =
+          let same : distance16 (lowest_ssn q) last ≡ distance16 (d.low % 2 ^ 16) (j % 2 ^ 16) =
+          ap (λ n. distance16 n last) d.lowest ∙ ap (distance16 (d.low % 2 ^ 16)) is in
+          elim (sides d.low j (let a = d.from in let b = d.within in omega (arith, a, b, back)) (let c = d.far in omega (arith, c, ahead))) [
+            | inl x ↦ inl (x.0, (let at = x.1 in omega (arith, same, at)))
+            | inr x ↦ inr x.0
+          ]
 
-    unnot : (b : Bool) → not b ≡ false → b ≡ true
-    unnot true e = refl
-    unnot false e = absurd (not_both (sym e))
+      -- a name that is not too far is less than half the circle past the lowest index
+      pub name-near : is_name_too_far last q ≡ false → j < d.low + 2 ^ 15
+      name-near e = by name-side
+        where
+          close : (a : ℕ) → (nat_le (2 ^ 15) a && nat_lt a (2 ^ 15 + 2 ^ 14)) ≡ false → a < 2 ^ 15 + 2 ^ 14 → a < 2 ^ 15
+          close a f g = elim (cases_lt a (2 ^ 15)) [
+            | inl lt ↦ lt
+            | inr ge ↦
+                let s : nat_le (2 ^ 15) a ≡ true = grind (arith, nat_tests, ge) in
+                let t : nat_lt a (2 ^ 15 + 2 ^ 14) ≡ true = grind (arith, nat_tests, g) in
+                absurd (not_both (sym f ∙ and (nat_le (2 ^ 15) a) (nat_lt a (2 ^ 15 + 2 ^ 14)) s t))
+          ]
+
+          by : ((d.low ≤ j) × (d.low + distance16 (lowest_ssn q) last ≡ j)) ⊎ (j < d.low) → j < d.low + 2 ^ 15
+          by (inr lt) = omega (arith, lt)
+          by (inl x) =
+              let at = x.1 in
+              let c = d.far in
+              let near = close (distance16 (lowest_ssn q) last) (neither _ _ e).0 (omega (arith, at, c, ahead)) in
+              omega (arith, at, near)
 
     none-of : {A : Type 0} (o : Option A) → is_some o ≡ false → o ≡ None
     none-of None e = refl
@@ -579,51 +629,23 @@ module _ (p n : ℕ) (B : ℕ → ℕ) (Fits : ℕ → List ChunkPayloadData →
           ]
 
       pub name-due : is_name_too_far last q ≡ false → IsSkipped k reach j most (held_after_ordered_skip last q)
-      name-due e = by (sides d.low j (let a = d.from in let b = d.within in omega (arith, a, b, back)) (let c = d.far in omega (arith, c, ahead)))
+      name-due e = by (name-side k reach j last q d is back ahead)
         where
-          away : ℕ
-          away = distance16 (d.low % 2 ^ 16) (j % 2 ^ 16)
-
-          same : distance16 (lowest_ssn q) last ≡ away
-          same = ap (λ n. distance16 n last) d.lowest ∙ ap (distance16 (d.low % 2 ^ 16)) is
-
-          tests : ((nat_le (2 ^ 15) (distance16 (lowest_ssn q) last) && nat_lt (distance16 (lowest_ssn q) last) (2 ^ 15 + 2 ^ 14)) ≡ false) ×
-              (((distance16 (lowest_ssn q) last == 2 ^ 15 - 1) && is_some (front_readable q.next_ssn q.ordered)) ≡ false)
-          tests = neither _ _ e
-
-          close : (a : ℕ) → (nat_le (2 ^ 15) a && nat_lt a (2 ^ 15 + 2 ^ 14)) ≡ false → a < 2 ^ 15 + 2 ^ 14 → a < 2 ^ 15
-          close a f g = elim (cases_lt a (2 ^ 15)) [
-            | inl lt ↦ lt
-            | inr ge ↦
-                let s : nat_le (2 ^ 15) a ≡ true = grind (arith, nat_tests, ge) in
-                let t : nat_lt a (2 ^ 15 + 2 ^ 14) ≡ true = grind (arith, nat_tests, g) in
-                absurd (not_both (sym f ∙ and (nat_le (2 ^ 15) a) (nat_lt a (2 ^ 15 + 2 ^ 14)) s t))
-          ]
-
           unread : (a : ℕ) (b : Bool) → ((a == 2 ^ 15 - 1) && b) ≡ false → a ≡ 2 ^ 15 - 1 → b ≡ false
           unread a b f g = ap (λ c. c && b) (sym (ap (λ n. n == 2 ^ 15 - 1) g)) ∙ f
 
-          by : ((d.low ≤ j) × (d.low + away ≡ j)) ⊎ ((j < d.low) × (d.low + away ≡ j + 2 ^ 16)) → IsSkipped k reach j most (held_after_ordered_skip last q)
-          by (inr x) = old-name x.0
+          by : ((d.low ≤ j) × (d.low + distance16 (lowest_ssn q) last ≡ j)) ⊎ (j < d.low) → IsSkipped k reach j most (held_after_ordered_skip last q)
+          by (inr x) = old-name x
           by (inl x) =
               let at = x.1 in
               let c = d.far in
-              let near = close (distance16 (lowest_ssn q) last) tests.0 (omega (arith, same, at, c, ahead)) in
-              let top : j < d.low + 2 ^ 15 = omega (arith, same, at, near) in
+              let top = name-near k reach j last q d is back ahead e in
               let none : j + 1 ≡ d.low + 2 ^ 15 → front_readable q.next_ssn q.ordered ≡ None = λ f. none-of (front_readable q.next_ssn q.ordered)
-              (unread (distance16 (lowest_ssn q) last) (is_some (front_readable q.next_ssn q.ordered)) tests.1 (omega (arith, same, at, f))) in
+              (unread (distance16 (lowest_ssn q) last) (is_some (front_readable q.next_ssn q.ordered)) (neither _ _ e).1 (omega (arith, at, f))) in
               elim (cases_lt reach (j + 1)) [
                 | inl less ↦ new-name x.0 top none (j + 1) (omega (arith, less)) (omega arith) lt (omega (arith, top))
                 | inr ge ↦ new-name x.0 top none reach (omega arith) ge le c
               ]
-
-    pub leading-each : (P : ChunkPayloadData → Type 0) (p : ChunkPayloadData → Bool) (xs : List ChunkPayloadData) → Every P xs → Every P (after_leading p xs)
-    leading-each P p [] h = tt
-    leading-each P p (x ∷ xs) h = by (p x) (leading-each P p xs h.1)
-      where
-        by : (b : Bool) → Every P (after_leading p xs) → Every P (if b then after_leading p xs else x ∷ xs)
-        by true ih = ih
-        by false ih = h
 
     abbrev pub unassembled-due : (k reach t : ℕ) (q : Reassembly) → IsDue k reach q → IsDue k reach (held_after_unordered_skip t q)
     unassembled-due k reach t q d = record {
