@@ -1,14 +1,14 @@
 -- Where nothing waits, nothing is in flight and nothing is to be read, a receiver holds no fragment of a message that is not gone.
-use Rattle.std.proofs.Common.{◌≡◌, ℕ, suc, ◌+◌, ◌%◌, ◌^◌, ◌<◌, ◌≤◌, Bool, true, false, not, List, [], ◌∷◌, length, Option, Some, None, inl, inr, refl, ap, sym}
+use Rattle.std.proofs.Common.{◌≡◌, ℕ, suc, ◌+◌, ◌%◌, ◌^◌, ◌<◌, ◌≤◌, Bool, true, false, List, [], ◌∷◌, length, Option, Some, None, inl, inr, refl, ap, sym}
 use Rattle.std.proofs.Common.{subst, ◌∙◌, arith}
-use Rattle.std.specs.Prelude.{All, ◌⊎◌, ◌==◌, ◌&&◌, if◌then◌else◌, nat_le}
+use Rattle.std.specs.Prelude.{All, ◌⊎◌, ◌==◌, if◌then◌else◌, nat_le}
 use Rattle.std.specs.List.{list_all, list_any, sum_by}
 use Rattle.std.proofs.lemmas.Bool.{cases_lt}
 use Rattle.std.proofs.lemmas.Bool.Decides.{nat_tests}
 use Rattle.std.proofs.lemmas.Option.{none-some}
 use Rattle.sctp_util.specs.Serial.{at_or_before, at_or_before16}
 use Rattle.sctp_util.proofs.Cases.{or-left, or-split, same-is}
-use Rattle.sctp_util.proofs.More.{and, both, not_both}
+use Rattle.sctp_util.proofs.More.{and, not_both}
 use Rattle.sctp_util.proofs.Round.{tsn}
 use Rattle.sctp_util.proofs.Wraps.{at_or_before16-index}
 use Rattle.sctp_data.specs.declared.chunk.chunk_payload_data.ChunkPayloadData.{ChunkPayloadData}
@@ -27,7 +27,7 @@ use Rattle.sctp_delivery.specs.Complete.{reads_nothing}
 use Rattle.sctp_delivery.specs.Sacks.{was_taken}
 use Rattle.sctp_delivery.specs.Session.{Call, RunsTo, Session, at_start}
 use Rattle.sctp_delivery.proofs.InTheEnd.{any-of, none-selected, unread-of}
-use Rattle.sctp_delivery.proofs.CurrentSets.{IsSome, IsWholeAt, whole-below}
+use Rattle.sctp_delivery.proofs.CurrentSets.{IsSome}
 use Rattle.sctp_delivery.proofs.Delivered.{EachSent}
 use Rattle.sctp_delivery.proofs.EachRead.{IsIdle, complete-messages}
 use Rattle.sctp_delivery.proofs.Every.{Every, one-of}
@@ -35,65 +35,22 @@ use Rattle.sctp_delivery.proofs.GoneMessages.{IsGone}
 use Rattle.sctp_delivery.proofs.KeptCalls as calls
 use Rattle.sctp_delivery.proofs.KeptOrGone.{HeldWell, IsHeldWell, IsLate, at-in, place-in}
 use Rattle.sctp_delivery.proofs.KeptSessions.{IsKeptIn}
+use Rattle.sctp_delivery.proofs.NotRefused.{begun-low, lowest-next}
 use Rattle.sctp_delivery.proofs.MessagePlaces.{IsEntryAt, same-entry}
 use Rattle.sctp_delivery.proofs.MessageSets.{misses-one, place-tsn}
-use Rattle.sctp_delivery.proofs.OrderedEntries.{AreJoined, IsOpen, begins_on, begun_on, one as counted}
+use Rattle.sctp_delivery.proofs.OrderedEntries.{AreJoined, IsOpen}
 use Rattle.sctp_delivery.proofs.PassedMessages.{AreTakenOrGone, EndsMessage, is_gone}
 use Rattle.sctp_delivery.proofs.PassingCalls.{all-taken-or-gone}
 use Rattle.sctp_delivery.proofs.ReadOnce.{one}
 use Rattle.sctp_delivery.proofs.Sent.{Entry, IsLine, IsPart, Numbered, WasSent, fragment, part-itself, part-length, terminal}
 use Rattle.sctp_delivery.proofs.Sessions as made_in
-use Rattle.sctp_delivery.proofs.SpreadEntries.{at-here, at-more, begun_to, is_at, to-all, to-more, to-up}
+use Rattle.sctp_delivery.proofs.SpreadEntries.{begun_to, is_at, to-up}
 use Rattle.sctp_delivery.proofs.TsnPlaces.{at-or-before, base, same-place}
 use Rattle.sctp_delivery.proofs.UnassembledGone as unassembled
 use Rattle.sctp_delivery.proofs.UnwrappedHolds as holds
 use Rattle.sctp_delivery.proofs.UnwrappedReads as reads
 use Rattle.sctp_delivery.proofs.UnwrappedReads.{IsDue}
 use Rattle.sctp_delivery.proofs.UnwrappedSessions as sessions
-
--- where more than so many ordered messages of a stream were begun, the next one was, at some place
-begun-at : (st index : ℕ) (sent : List Entry) → index < begun_on st sent
-    → (x : ℕ) × (x ≤ length sent) × (is_at st x sent ≡ true) × (begun_to st x sent ≡ index + 1)
-begun-at st index [] lt = absurd (omega (arith, lt))
-begun-at st index (terminal ∷ xs) lt =
-    let r = begun-at st index xs lt in
-    let le = r.1 in
-    (r.0, omega (arith, le), at-more st r.0 terminal xs le ∙ r.2, to-more st r.0 terminal xs le ∙ r.3)
-begun-at st index (fragment d w after ∷ xs) lt = elim (cases_lt index (begun_on st xs)) [
-  | inl less ↦
-      let r = begun-at st index xs less in
-      let le = r.1 in
-      (r.0, omega (arith, le), at-more st r.0 (fragment d w after) xs le ∙ r.2, to-more st r.0 (fragment d w after) xs le ∙ r.3)
-  | inr ge ↦ by (begins_on st d) refl lt ge
-]
-  where
-    by : (b : Bool) → begins_on st d ≡ b → index < counted b + begun_on st xs → begun_on st xs ≤ index
-        → (x : ℕ) × (x ≤ length (fragment d w after ∷ xs)) × (is_at st x (fragment d w after ∷ xs) ≡ true)
-        × (begun_to st x (fragment d w after ∷ xs) ≡ index + 1)
-    by false e l g = absurd (omega (arith, l, g))
-    by true e l g =
-        let n = length (fragment d w after ∷ xs) in
-        let on = both (d.stream_identifier == st) (d.beginning_fragment && not d.unordered) e in
-        let kind = (both d.beginning_fragment (not d.unordered) on.1).1 in
-        let c = ap counted e in
-        let t = to-all st n (fragment d w after ∷ xs) (omega arith) in (
-          n,
-          omega arith,
-          at-here st (fragment d w after) xs n refl ∙ and (d.stream_identifier == st) (not d.unordered) on.0 kind,
-          omega (arith, t, c, l, g),
-        )
-
--- sets of later messages have no chunk of the place
-module _ (p n : ℕ) (B : ℕ → ℕ) (Fits : ℕ → List ChunkPayloadData → Type 0) (Came : ℕ → Type 0)
-    (in-set : (i y : ℕ) (cs : List ChunkPayloadData) → y ≤ n → Fits i cs → list_any (has_tsn (tsn p y)) cs ≡ true → B y ≡ i + 1) where
-  none-later : (low top z : ℕ) (ss : List ChunkSet) → reads.AreSets p n B Fits Came low top ss → z ≤ n → B z ≤ low
-      → list_any (λ (s : ChunkSet). list_any (has_tsn (tsn p z)) s.chunks) ss ≡ true → ⊥
-  none-later low top z [] r le lo h = not_both h
-  none-later low top z (s ∷ ss) r le lo h =
-      elim (or-split (list_any (has_tsn (tsn p z)) s.chunks) (list_any (λ (x : ChunkSet). list_any (has_tsn (tsn p z)) x.chunks) ss) h) [
-        | inl g ↦ let b = in-set r.0 z s.chunks le r.1.1 g in let x = r.1.0.0 in absurd (omega (arith, b, x, lo))
-        | inr g ↦ let x = r.1.0.0 in none-later (r.0 + 1) top z ss r.2 le (omega (arith, lo, x)) g
-      ]
 
 module _ (first size max most : ℕ) (limits : Option Limits) (cs : List Call) (s : Session) (run : RunsTo (at_start first size max most limits) cs s)
     (n : ℕ) (few : n < 2 ^ 31) (gone : List ℕ) (ns : List Numbered) (sent : List Entry) (k : IsKeptIn first n gone s ns sent) (idle : IsIdle s)
@@ -148,14 +105,19 @@ module _ (first size max most : ℕ) (limits : Option Limits) (cs : List Call) (
     answered = calls.answered first n few s s ns sent k.unwrapped gone st
 
     -- all that got TSNs has come
-    all-came : (y : ℕ) → y ≤ n → is_at st y sent ≡ true → Came y
-    all-came y le on =
+    upto : n ≤ answered.arrived.place
+    upto =
         let empty = ap length idle.inflight in
         let total = k.unwrapped.spread.step.numbered.total in
-        let v = answered.arrived.within in
         let x = answered.arrived.least_is in
-        let b : nat_le y answered.arrived.place ≡ true =
-        (let h : y ≤ answered.arrived.place = omega (arith, le, x, total, empty) in grind (arith, nat_tests, h)) in (
+        omega (arith, x, total, empty)
+
+    all-came : (y : ℕ) → y ≤ n → is_at st y sent ≡ true → Came y
+    all-came y le on =
+        let v = answered.arrived.within in
+        let x = upto in
+        let h : y ≤ answered.arrived.place = omega (arith, le, x) in
+        let b : nat_le y answered.arrived.place ≡ true = grind (arith, nat_tests, h) in (
           on,
           or-left (at_or_before (tsn p y) r.cumulative_tsn) (list_any (λ u. u == tsn p y) r.beyond)
               (ap (at_or_before (tsn p y)) answered.arrived.is ∙ at-or-before p y answered.arrived.place (omega (arith, le, few)) (omega (arith, v, few)) ∙ b),
@@ -192,9 +154,6 @@ module _ (first size max most : ℕ) (limits : Option Limits) (cs : List Call) (
       module _ (F : ChunkSet) (rest : List ChunkSet) (is : q.ordered ≡ F ∷ rest) where
         sets : reads.AreSets p n (λ y. begun_to st y sent) Fits Came d.low answered.reach (F ∷ rest)
         sets = subst (reads.AreSets p n (λ y. begun_to st y sent) Fits Came d.low answered.reach) is d.sets
-
-        whole-front : IsWholeAt p n (λ y. begun_to st y sent) well.current.index F
-        whole-front = (subst (Every (IsWholeAt p n (λ y. begun_to st y sent) well.current.index)) is well.current.whole).0
 
         some : IsSome F
         some = (subst (Every IsSome) is well.current.some).0
@@ -239,7 +198,7 @@ module _ (first size max most : ℕ) (limits : Option Limits) (cs : List Call) (
         -- it is not incomplete
         not-open : is_complete F.chunks ≡ false → d.index ≤ sets.0 → ⊥
         not-open c ge =
-            let most' : 0 < n = (let y = least in let u = to-most' in omega (arith, y, u)) in
+            let most' = some-given F.chunks sets.1.1 some in
             let miss = misses-one ns first sent line joined n long few st sets.0 n (omega arith)
             (sent, part-itself sent, long, ends most') least F.chunks sets.1.1 some c in
             let z = sessions.missed st first n s ns sent k.unwrapped.spread few n sets.0 F.chunks (omega arith) sets.1.1 miss in
@@ -247,49 +206,30 @@ module _ (first size max most : ℕ) (limits : Option Limits) (cs : List Call) (
             elim (is-held z.0 z.1 z.2 (omega (arith, at, ge))) [
               | inl h ↦ not_both (sym z.4 ∙ h)
               | inr h ↦
-                  none-later p n (λ y. begun_to st y sent) Fits Came in-set (sets.0 + 1) answered.reach z.0 rest sets.2 z.1 (omega (arith, at)) h
+                  reads.later-none p n (λ y. begun_to st y sent) Fits Came in-set (sets.0 + 1) answered.reach z.0 rest sets.2 z.1 (omega (arith, at)) h
             ]
           where
-            to-most' : begun_to st n sent ≤ n
-            to-most' = let e = to-all st n sent (let h = long in omega (arith, h)) in let c' = fewer sent in let h = long in omega (arith, e, c', h)
-              where
-                fewer : (xs : List Entry) → begun_on st xs ≤ length xs
-                fewer [] = omega arith
-                fewer (terminal ∷ xs) = let h = fewer xs in omega (arith, h)
-                fewer (fragment d' w after ∷ xs) = let h = fewer xs in let b = at-most (begins_on st d') in omega (arith, h, b)
-                  where
-                    at-most : (b : Bool) → counted b ≤ 1
-                    at-most true = omega arith
-                    at-most false = omega arith
+            some-given : (cs : List ChunkPayloadData) → Fits sets.0 cs → 0 < length cs → 0 < n
+            some-given [] h lt = absurd (omega (arith, lt))
+            some-given (c ∷ cs) h lt = let w = h.0.within in omega (arith, w)
 
-        -- nor of a message past the next one
-        not-past : d.index < sets.0 → ⊥
-        not-past lt =
-            let all = to-all st n sent (let h = long in omega (arith, h)) in
-            let l' = least in
-            let x = begun-at st d.index sent (omega (arith, all, l', lt)) in
-            let within : x.0 ≤ n = (let h = x.1 in let e = long in omega (arith, h, e)) in
-            let at = x.3 in
-            elim (is-held x.0 within x.2 (omega (arith, at))) [
-              | inl h ↦ let c = in-set sets.0 x.0 F.chunks within sets.1.1 h in omega (arith, c, at, lt)
-              | inr h ↦ none-later p n (λ y. begun_to st y sent) Fits Came in-set (sets.0 + 1) answered.reach x.0 rest sets.2 within (omega (arith, at, lt)) h
-            ]
+        -- it is of the next message, and no later one was begun
+        same : sets.0 ≡ d.index
+        same =
+            let low = begun-low st first n few s ns sent k.unwrapped.spread answered q d (IsLate first sent st r.cumulative_tsn r.beyond) well.current none in
+            let next = lowest-next st first n few s ns sent k.unwrapped.spread answered q d (IsLate first sent st r.cumulative_tsn r.beyond) well.current
+            none in
+            let u = to-up st n answered.arrived.place sent upto in
+            let l = least in
+            let x = sets.1.0.0 in
+            omega (arith, low, next, u, l, x)
 
         no-front : ⊥
-        no-front = elim (cases_lt d.index sets.0) [
-          | inl lt ↦ not-past lt
-          | inr le ↦ by (is_complete F.chunks) refl le
-        ]
+        no-front = by (is_complete F.chunks) refl
           where
-            by : (b : Bool) → is_complete F.chunks ≡ b → sets.0 ≤ d.index → ⊥
-            by true c le = not-due c le
-            by false c le = elim (cases_lt sets.0 d.index) [
-              | inr ge ↦ not-open c ge
-              | inl lt ↦
-                  let i' = index in
-                  not_both (sym c ∙ whole-below p n (λ y. begun_to st y sent) Fits Came in-set (place-in ns first sent line joined n long few st)
-                  well.current.index sets.0 F sets.1.1 some whole-front (omega (arith, lt, i')))
-            ]
+            by : (b : Bool) → is_complete F.chunks ≡ b → ⊥
+            by true c = not-due c (omega (arith, same))
+            by false c = not-open c (omega (arith, same))
 
       none-ordered : q.ordered ≡ []
       none-ordered = by q.ordered refl
