@@ -20,7 +20,7 @@ use Rattle.sctp_reassembly.specs.reassembly_queue.ReassemblyQueue.{is_passed, is
 use Rattle.sctp_reassembly.specs.reassembly_queue.Skips.{cannot_complete, held_after_incomplete_skip, ssn_past_sets}
 use Rattle.sctp_receiver.specs.Ssns.{is_name_too_far}
 use Rattle.sctp_serial.specs.DataChunks.{chunk_before, has_tsn}
-use Rattle.sctp_delivery.proofs.Every.{Every, every-inserted, every-passing}
+use Rattle.sctp_delivery.proofs.Every.{Every, every-inserted, every-of, every-passing}
 use Rattle.sctp_delivery.proofs.TakenTsns.{any-inserted}
 use Rattle.sctp_delivery.proofs.Tidy.{every-first}
 use Rattle.sctp_delivery.proofs.UnwrappedReads as reads
@@ -139,32 +139,21 @@ module _ (p n : ℕ) (B : ℕ → ℕ) (Fits : ℕ → List ChunkPayloadData →
     pub some-with : (ss : List ChunkSet) → Every IsSome ss → Every IsSome (sets_with x ss)
     some-with ss h = by (list_any (has_ssn x.stream_sequence_number) ss)
       where
-        each : (ts : List ChunkSet) → Every IsSome ts → Every (λ s. IsSome s × (has_ssn x.stream_sequence_number s ≡ true → IsSome (with_chunk x s))) ts
-        each [] e = tt
-        each (s ∷ ts) e = ((e.0, λ k. some-put s e.0), each ts e.1)
-
         by : (b : Bool) → Every IsSome (if b then change_first (has_ssn x.stream_sequence_number) (with_chunk x) ss
             else insert_before set_before (new_set x) ss)
-        by true = every-first IsSome (has_ssn x.stream_sequence_number) (with_chunk x) ss (each ss h)
+        by true = every-first IsSome (has_ssn x.stream_sequence_number) (with_chunk x) ss
+            (every-of IsSome (λ s. IsSome s × (has_ssn x.stream_sequence_number s ≡ true → IsSome (with_chunk x s))) (λ s w. (w, λ k. some-put s w)) ss h)
         by false = every-inserted IsSome set_before (new_set x) ss (omega arith) h
 
     put-with : (index : ℕ) (ss : List ChunkSet) → Every (IsWhole index) ss → Every (IsPut index) (sets_with x ss)
     put-with index ss h = by (list_any (has_ssn x.stream_sequence_number) ss)
       where
-        each : (ts : List ChunkSet) → Every (IsWhole index) ts
-            → Every (λ s. IsPut index s × (has_ssn x.stream_sequence_number s ≡ true → IsPut index (with_chunk x s))) ts
-        each [] e = tt
-        each (s ∷ ts) e = ((inr e.0, λ k. inl (has-put s)), each ts e.1)
-
-        all : (ts : List ChunkSet) → Every (IsWhole index) ts → Every (IsPut index) ts
-        all [] e = tt
-        all (s ∷ ts) e = (inr e.0, all ts e.1)
-
         by : (b : Bool) → Every (IsPut index) (if b then change_first (has_ssn x.stream_sequence_number) (with_chunk x) ss
             else insert_before set_before (new_set x) ss)
-        by true = every-first (IsPut index) (has_ssn x.stream_sequence_number) (with_chunk x) ss (each ss h)
+        by true = every-first (IsPut index) (has_ssn x.stream_sequence_number) (with_chunk x) ss (every-of (IsWhole index)
+            (λ s. IsPut index s × (has_ssn x.stream_sequence_number s ≡ true → IsPut index (with_chunk x s))) (λ s w. (inr w, λ k. inl (has-put s))) ss h)
         by false = every-inserted (IsPut index) set_before (new_set x) ss
-            (inl (or-left (has_tsn x.tsn x) false (eq-eqb x.tsn x.tsn refl))) (all ss h)
+            (inl (or-left (has_tsn x.tsn x) false (eq-eqb x.tsn x.tsn refl))) (every-of (IsWhole index) (IsPut index) (λ s w. inr w) ss h)
 
     -- the sets with a chunk of the index or a later one are as complete as before
     whole-with : (index y low top : ℕ) (ss : List ChunkSet) → y ≤ n → x.tsn ≡ tsn p y → index < B y → AreSets low top ss → Every (IsPut index) ss

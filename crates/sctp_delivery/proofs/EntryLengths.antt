@@ -23,41 +23,43 @@ use Rattle.sctp_delivery.proofs.UnwrappedReads.{leading-each}
 
 -- ## Entries
 
--- the entry at the place passes the test
-abbrev pub entry_at : (Entry → Bool) → ℕ → List Entry → Bool
-entry_at q k [] = false
-entry_at q k (x ∷ xs) = if length (x ∷ xs) == k then q x else entry_at q k xs
+-- of the entry at a place, or this where it has none
+abbrev of_entry : {A : Type 0} → A → (Entry → A) → ℕ → List Entry → A
+of_entry o f k [] = o
+of_entry o f k (x ∷ xs) = if length (x ∷ xs) == k then f x else of_entry o f k xs
+
+module _ {A : Type 0} (o : A) (f : Entry → A) where
+  entry-more : (k : ℕ) (x : Entry) (xs : List Entry) → k ≤ length xs → of_entry o f k (x ∷ xs) ≡ of_entry o f k xs
+  entry-more k x xs le =
+      let e : (length (x ∷ xs) == k) ≡ false = fails (length (x ∷ xs) == k) (λ h. let same = same-is (length (x ∷ xs)) k h in omega (arith, same, le)) in
+      ap (λ b. if b then f x else of_entry o f k xs) e
+
+  entry-here : (x : Entry) (xs : List Entry) (k : ℕ) → k ≡ length (x ∷ xs) → of_entry o f k (x ∷ xs) ≡ f x
+  entry-here x xs k e =
+      ap (λ m. if length (x ∷ xs) == m then f x else of_entry o f k xs) e
+      ∙ ap (λ b. if b then f x else of_entry o f k xs) (same-yes (length (x ∷ xs)))
+
+  entry-part : (sent : List Entry) (y : Entry) (ys : List Entry) → IsPart (y ∷ ys) sent → of_entry o f (length (y ∷ ys)) sent ≡ f y
+  entry-part [] y ys p = cc
+  entry-part (x ∷ xs) y ys (inl e) =
+      let head : y ≡ x = cc in
+      entry-here x xs (length (y ∷ ys)) (ap length e) ∙ ap f (sym head)
+  entry-part (x ∷ xs) y ys (inr p) = entry-more (length (y ∷ ys)) x xs (part-length xs (y ∷ ys) p) ∙ entry-part xs y ys p
 
 -- an ordered fragment of the stream
-abbrev pub is_fragment_on : ℕ → Entry → Bool
+abbrev is_fragment_on : ℕ → Entry → Bool
 is_fragment_on st terminal = false
 is_fragment_on st (fragment d w after) = (d.stream_identifier == st) && not d.unordered
 
-abbrev pub has_fragment : ℕ → ℕ → List Entry → Bool
-has_fragment st k sent = entry_at (is_fragment_on st) k sent
+abbrev has_fragment : ℕ → ℕ → List Entry → Bool
+has_fragment st k sent = of_entry false (is_fragment_on st) k sent
 
-pub entry-more : (q : Entry → Bool) (k : ℕ) (x : Entry) (xs : List Entry) → k ≤ length xs → entry_at q k (x ∷ xs) ≡ entry_at q k xs
-entry-more q k x xs le =
-    let e : (length (x ∷ xs) == k) ≡ false = fails (length (x ∷ xs) == k) (λ h. let same = same-is (length (x ∷ xs)) k h in omega (arith, same, le)) in
-    ap (λ b. if b then q x else entry_at q k xs) e
-
-pub entry-here : (q : Entry → Bool) (x : Entry) (xs : List Entry) (k : ℕ) → k ≡ length (x ∷ xs) → entry_at q k (x ∷ xs) ≡ q x
-entry-here q x xs k e =
-    ap (λ m. if length (x ∷ xs) == m then q x else entry_at q k xs) e ∙ ap (λ b. if b then q x else entry_at q k xs) (same-yes (length (x ∷ xs)))
-
-pub entry-part : (q : Entry → Bool) (sent : List Entry) (y : Entry) (ys : List Entry) → IsPart (y ∷ ys) sent → entry_at q (length (y ∷ ys)) sent ≡ q y
-entry-part q [] y ys p = cc
-entry-part q (x ∷ xs) y ys (inl e) =
-    let head : y ≡ x = cc in
-    entry-here q x xs (length (y ∷ ys)) (ap length e) ∙ ap q (sym head)
-entry-part q (x ∷ xs) y ys (inr p) = entry-more q (length (y ∷ ys)) x xs (part-length xs (y ∷ ys) p) ∙ entry-part q xs y ys p
-
-pub entry-within : (q : Entry → Bool) (k : ℕ) (sent : List Entry) → entry_at q k sent ≡ true → (0 < k) × (k ≤ length sent)
+entry-within : (q : Entry → Bool) (k : ℕ) (sent : List Entry) → of_entry false q k sent ≡ true → (0 < k) × (k ≤ length sent)
 entry-within q k [] e = absurd (not_both e)
 entry-within q k (x ∷ xs) e = by (length (x ∷ xs) == k) refl e (entry-within q k xs)
   where
-    by : (b : Bool) → (length (x ∷ xs) == k) ≡ b → (if b then q x else entry_at q k xs) ≡ true
-        → (entry_at q k xs ≡ true → (0 < k) × (k ≤ length xs)) → (0 < k) × (k ≤ length (x ∷ xs))
+    by : (b : Bool) → (length (x ∷ xs) == k) ≡ b → (if b then q x else of_entry false q k xs) ≡ true
+        → (of_entry false q k xs ≡ true → (0 < k) × (k ≤ length xs)) → (0 < k) × (k ≤ length (x ∷ xs))
     by true h f ih = let same = same-is (length (x ∷ xs)) k h in (omega (arith, same), omega (arith, same))
     by false h f ih = let le = (ih f).1 in ((ih f).0, omega (arith, le))
 
@@ -70,26 +72,8 @@ abbrev pub left_of : Entry → ℕ
 left_of terminal = 0
 left_of (fragment d w after) = length after
 
--- of the entry at a place
-abbrev pub number_at : (Entry → ℕ) → ℕ → List Entry → ℕ
-number_at f k [] = 0
-number_at f k (x ∷ xs) = if length (x ∷ xs) == k then f x else number_at f k xs
-
-number-more : (f : Entry → ℕ) (k : ℕ) (x : Entry) (xs : List Entry) → k ≤ length xs → number_at f k (x ∷ xs) ≡ number_at f k xs
-number-more f k x xs le =
-    let e : (length (x ∷ xs) == k) ≡ false = fails (length (x ∷ xs) == k) (λ h. let same = same-is (length (x ∷ xs)) k h in omega (arith, same, le)) in
-    ap (λ b. if b then f x else number_at f k xs) e
-
-number-here : (f : Entry → ℕ) (x : Entry) (xs : List Entry) (k : ℕ) → k ≡ length (x ∷ xs) → number_at f k (x ∷ xs) ≡ f x
-number-here f x xs k e =
-    ap (λ m. if length (x ∷ xs) == m then f x else number_at f k xs) e ∙ ap (λ b. if b then f x else number_at f k xs) (same-yes (length (x ∷ xs)))
-
-number-part : (f : Entry → ℕ) (sent : List Entry) (y : Entry) (ys : List Entry) → IsPart (y ∷ ys) sent → number_at f (length (y ∷ ys)) sent ≡ f y
-number-part f [] y ys p = cc
-number-part f (x ∷ xs) y ys (inl e) =
-    let head : y ≡ x = cc in
-    number-here f x xs (length (y ∷ ys)) (ap length e) ∙ ap f (sym head)
-number-part f (x ∷ xs) y ys (inr p) = number-more f (length (y ∷ ys)) x xs (part-length xs (y ∷ ys) p) ∙ number-part f xs y ys p
+abbrev number_at : (Entry → ℕ) → ℕ → List Entry → ℕ
+number_at f k sent = of_entry 0 f k sent
 
 rest-line : (ns : List Numbered) (first : ℕ) (y : Entry) (ys : List Entry) → IsLine ns first (y ∷ ys) → IsLine ns first ys
 rest-line ns first terminal ys l = l
@@ -105,23 +89,24 @@ later-left ns first st x y [] joined line lt from at same = absurd (not_both at)
 later-left ns first st x y (z ∷ zs) joined line lt from at same = elim (cases_lt y (length (z ∷ zs))) [
   | inl less ↦
       let ih = later-left ns first st x y zs (joined-rest z zs joined) (rest-line ns first z zs line) lt
-      (sym (entry-more (is_fragment_on st) x z zs (omega (arith, lt, less))) ∙ from) (sym (entry-more (is_fragment_on st) y z zs (omega (arith, less))) ∙ at)
+      (sym (entry-more false (is_fragment_on st) x z zs (omega (arith, lt, less))) ∙ from)
+      (sym (entry-more false (is_fragment_on st) y z zs (omega (arith, less))) ∙ at)
       (sym (to-more st x z zs (omega (arith, lt, less))) ∙ same ∙ to-more st y z zs (omega (arith, less))) in
-      let a = number-more size_of y z zs (omega (arith, less)) in
-      let b = number-more left_of y z zs (omega (arith, less)) in
-      let c = number-more left_of x z zs (omega (arith, lt, less)) in
+      let a = entry-more 0 size_of y z zs (omega (arith, less)) in
+      let b = entry-more 0 left_of y z zs (omega (arith, less)) in
+      let c = entry-more 0 left_of x z zs (omega (arith, lt, less)) in
       omega (arith, ih, a, b, c)
   | inr ge ↦
       let within = (entry-within (is_fragment_on st) y (z ∷ zs) at).1 in
       let last : y ≡ length (z ∷ zs) = omega (arith, within, ge) in
-      let a = number-here size_of z zs y last in
-      let b = number-here left_of z zs y last in
-      let c = number-more left_of x z zs (omega (arith, lt, last)) in
+      let a = entry-here 0 size_of z zs y last in
+      let b = entry-here 0 left_of z zs y last in
+      let c = entry-more 0 left_of x z zs (omega (arith, lt, last)) in
       let e = to-all st y (z ∷ zs) ge in
       let f = to-more st x z zs (omega (arith, lt, last)) in
       let u = here (λ l k s. later-left ns first st x (length zs) zs (joined-rest z zs joined) (rest-line ns first z zs line) l
-      (sym (entry-more (is_fragment_on st) x z zs (omega (arith, lt, last))) ∙ from) k s) last z joined line
-      (sym (entry-here (is_fragment_on st) z zs y last) ∙ at) (sym f ∙ same ∙ e) in
+      (sym (entry-more false (is_fragment_on st) x z zs (omega (arith, lt, last))) ∙ from) k s) last z joined line
+      (sym (entry-here false (is_fragment_on st) z zs y last) ∙ at) (sym f ∙ same ∙ e) in
       omega (arith, u, a, b, c)
 ]
   where
@@ -144,10 +129,10 @@ later-left ns first st x y (z ∷ zs) joined line lt from at same = elim (cases_
             let on' : ((c.stream_identifier == st) && not c.unordered) ≡ true =
             ap (λ m. (m == st) && not c.unordered) p.2 ∙ ap (λ b. (d.stream_identifier == st) && not b) p.1 ∙ on in
             let frag : has_fragment st (length zs) zs ≡ true =
-            ap (λ vs'. has_fragment st (length vs') vs') g ∙ entry-here (is_fragment_on st) (fragment c v rest) vs (length (fragment c v rest ∷ vs)) refl
+            ap (λ vs'. has_fragment st (length vs') vs') g ∙ entry-here false (is_fragment_on st) (fragment c v rest) vs (length (fragment c v rest ∷ vs)) refl
             ∙ on' in
             let left : number_at left_of (length zs) zs ≡ length rest =
-            ap (λ vs'. number_at left_of (length vs') vs') g ∙ number-here left_of (fragment c v rest) vs (length (fragment c v rest ∷ vs)) refl in
+            ap (λ vs'. number_at left_of (length vs') vs') g ∙ entry-here 0 left_of (fragment c v rest) vs (length (fragment c v rest ∷ vs)) refl in
             let all = to-all st (length zs) zs (omega arith) in
             let none = ap one (begins-none (d.stream_identifier == st) d.beginning_fragment (not d.unordered) h) in
             elim (cases_lt x (length zs)) [
@@ -203,9 +188,9 @@ module _ (st first n : ℕ) (few : n < 2 ^ 31) (ns : List Numbered) (sent : List
           let is = o.is in
           let within = o.within in
           let next : length (fragment (data_of c) w after ∷ xs) ≡ o.before + 1 = omega (arith, most, number, is, within, long, few) in (
-            ap (λ k. number_at size_of k sent) (sym next) ∙ number-part size_of sent (fragment (data_of c) w after) xs part,
-            ap (λ k. number_at left_of k sent) (sym next) ∙ number-part left_of sent (fragment (data_of c) w after) xs part,
-            ap (λ k. has_fragment st k sent) (sym next) ∙ entry-part (is_fragment_on st) sent (fragment (data_of c) w after) xs part ∙ o.on,
+            ap (λ k. number_at size_of k sent) (sym next) ∙ entry-part 0 size_of sent (fragment (data_of c) w after) xs part,
+            ap (λ k. number_at left_of k sent) (sym next) ∙ entry-part 0 left_of sent (fragment (data_of c) w after) xs part,
+            ap (λ k. has_fragment st k sent) (sym next) ∙ entry-part false (is_fragment_on st) sent (fragment (data_of c) w after) xs part ∙ o.on,
           )
 
   -- the chunks behind one of the message are of what is left behind it

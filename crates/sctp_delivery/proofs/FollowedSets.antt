@@ -17,7 +17,7 @@ use Rattle.sctp_receiver.proofs.OneMessage.{is_unmixed, named-unmixed, unassembl
 use Rattle.sctp_receiver.proofs.Weights.{set_weight}
 use Rattle.sctp_serial.specs.Runs.{HasNoRun}
 use Rattle.sctp_delivery.specs.Complete.{fragments_of_sets}
-use Rattle.sctp_delivery.proofs.Every.{Every, every-joined, every-passing}
+use Rattle.sctp_delivery.proofs.Every.{Every, every-joined, every-of, every-passing}
 use Rattle.sctp_delivery.proofs.Rising.{Ascend, ascend-from}
 use Rattle.sctp_delivery.proofs.Tidy.{IsTidy, IsTidySet, IsUnordered}
 use Rattle.sctp_delivery.proofs.UnwrappedReads.{leading-each}
@@ -123,16 +123,12 @@ module _ (p n : ℕ) (few : n < 2 ^ 31) where
   -- more TSNs are given out
   pub tidy-more : (m : ℕ) (q : Reassembly) → n ≤ m → IsTidy p n q → IsTidy p m q
   tidy-more m q le t = record {
-    sets = each q.ordered t.sets;
+    sets = every-of (IsTidySet p n) (IsTidySet p m) (λ s e. (ascend-more m 0 s.chunks le e.0, e.1)) q.ordered t.sets;
     whole = t.whole;
     unassembled = ascend-more m 0 q.unassembled le t.unassembled;
     kinds = t.kinds;
     none = t.none;
   }
-    where
-      each : (ss : List ChunkSet) → Every (IsTidySet p n) ss → Every (IsTidySet p m) ss
-      each [] e = tt
-      each (s ∷ ss) e = ((ascend-more m 0 s.chunks le e.0.0, e.0.1), each ss e.1)
 
 pub skipped-orderly : (last : ℕ) (q : ReassemblyState) → is_orderly q ≡ true → is_orderly (after_ordered_skip last q) ≡ true
 skipped-orderly last q h =

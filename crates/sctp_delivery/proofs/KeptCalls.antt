@@ -1,12 +1,9 @@
 -- What was taken on a stream is held or was read, but for fragments of messages that are gone: each call of the receiver but a FORWARD-TSN.
 use Rattle.std.proofs.Common.{◌≡◌, ℕ, ◌+◌, ◌%◌, ◌^◌, ◌<◌, ◌≤◌, Bool, true, false, not, List, [], ◌∷◌, length, Option, Some, None, inl, inr, refl, ap, sym}
 use Rattle.std.proofs.Common.{subst, ◌∙◌, arith}
-use Rattle.std.specs.Prelude.{◌==◌, nat_le}
 use Rattle.std.specs.List.{list_any, sum_by}
 use Rattle.std.proofs.lemmas.Bool.{cases_lt, eq-eqb}
-use Rattle.std.proofs.lemmas.Bool.Decides.{nat_tests}
 use Rattle.std.proofs.lemmas.List.Sums.{sum_by-cons}
-use Rattle.sctp_util.specs.Serial.{at_or_before}
 use Rattle.sctp_util.proofs.Cases.{or-split, same-is}
 use Rattle.sctp_util.proofs.More.{and, fails, not_both}
 use Rattle.sctp_util.proofs.Round.{tsn}
@@ -43,7 +40,7 @@ use Rattle.sctp_delivery.proofs.StreamCalls as streams
 use Rattle.sctp_delivery.proofs.StreamCalls.{IsOther, IsSo, Puts, accepted-on, after-call, none-held}
 use Rattle.sctp_delivery.proofs.TakenCalls.{HasCome, fresh-new, not-among}
 use Rattle.sctp_delivery.proofs.TakenTsns.{come}
-use Rattle.sctp_delivery.proofs.TsnPlaces.{at-or-before, base, same-place}
+use Rattle.sctp_delivery.proofs.TsnPlaces.{base}
 use Rattle.sctp_delivery.proofs.UnwrappedCalls.{window}
 use Rattle.sctp_delivery.proofs.UnwrappedHolds as holds
 use Rattle.sctp_delivery.proofs.UnwrappedReads.{IsDue}
@@ -121,21 +118,7 @@ module _ (first n : ℕ) (few : n < 2 ^ 31) (old new : Session) (ns : List Numbe
 
   -- what was not given out has not come
   pub unarrived : come (tsn p (n + 1)) r.cumulative_tsn r.beyond ≡ true → ⊥
-  unarrived e = elim (or-split (at_or_before (tsn p (n + 1)) r.cumulative_tsn) (list_any (λ t. t == tsn p (n + 1)) r.beyond) e) [
-    | inl x ↦
-        let w = answered.arrived.within in
-        let t : nat_le (n + 1) answered.arrived.place ≡ true =
-        sym (at-or-before p (n + 1) answered.arrived.place (omega (arith, few)) (omega (arith, w, few)))
-        ∙ ap (at_or_before (tsn p (n + 1))) (sym answered.arrived.is) ∙ x in
-        let le : n + 1 ≤ answered.arrived.place = grind (arith, nat_tests, t) in
-        omega (arith, le, w)
-    | inr x ↦
-        let o = one-of (holds.IsBeyond p st n B E M answered.reach)
-        (λ t. t == tsn p (n + 1)) r.beyond x answered.arrived.each in
-        let w = o.2.within in
-        let same = same-place p (o.2.before + 1) (n + 1) (omega (arith, w, few)) (omega (arith, few)) (sym o.2.is ∙ same-is o.0 (tsn p (n + 1)) o.1) in
-        omega (arith, same, w)
-  ]
+  unarrived = holds.none-past p st n B E M few answered.reach a r.cumulative_tsn r.beyond answered.arrived (n + 1) (omega arith) (omega (arith, few))
 
   pub late-less : (call : ReceiverCall) → ReceiverFollows call old new → (y : ℕ) → y ≤ n + 1 → Late new.receiving y → Late old.receiving y
   late-less call f y le l = (

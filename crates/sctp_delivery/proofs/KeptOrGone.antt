@@ -75,14 +75,23 @@ module _ (ws : List Numbered) (first : ℕ) (sent : List Entry) (line : IsLine w
   abbrev p : ℕ
   p = base first
 
+  abbrev B : ℕ → ℕ
+  B k = begun_to st k sent
+
+  abbrev E : ℕ → Bool
+  E k = is_at st k sent
+
+  abbrev M : ChunkPayloadData → Type 0
+  M c = WasSent sent (data_of c)
+
   abbrev pub Pieces : ℕ → List ChunkPayloadData → Type 0
-  Pieces = holds.Fits p st n (λ k. begun_to st k sent) (λ k. is_at st k sent) (λ c. WasSent sent (data_of c))
+  Pieces = holds.Fits p st n B E M
 
   abbrev pub Due : (ℕ → Type 0) → ℕ → ℕ → Reassembly → Type 0
-  Due C = IsDue p n (λ k. begun_to st k sent) (holds.Fits p st n (λ k. begun_to st k sent) (λ k. is_at st k sent) (λ c. WasSent sent (data_of c))) C
+  Due = IsDue p n B Pieces
 
-  pub at-in : (i y : ℕ) (cs : List ChunkPayloadData) → y ≤ n → Pieces i cs → list_any (has_tsn (tsn p y)) cs ≡ true → begun_to st y sent ≡ i + 1
-  at-in = holds.at-in p st n (λ k. begun_to st k sent) (λ k. is_at st k sent) (λ c. WasSent sent (data_of c)) few (λ j k le. to-up st j k sent le)
+  pub at-in : (i y : ℕ) (cs : List ChunkPayloadData) → y ≤ n → Pieces i cs → list_any (has_tsn (tsn p y)) cs ≡ true → B y ≡ i + 1
+  at-in = holds.at-in p st n B E M few (λ j k le. to-up st j k sent le)
 
   pub place-in : (i : ℕ) (cs : List ChunkPayloadData) → Pieces i cs → 0 < length cs → (y : ℕ) × (y ≤ n) × (list_any (has_tsn (tsn p y)) cs ≡ true)
   place-in i [] f some = absurd (omega (arith, some))
@@ -92,6 +101,9 @@ module _ (ws : List Numbered) (first : ℕ) (sent : List Entry) (line : IsLine w
       (o.before + 1, o.within, or-left (has_tsn t c) (list_any (has_tsn t) cs) (eq-eqb c.tsn t o.is))
 
   module _ (a : ℕ) (L : ℕ → Type 0) where
+    abbrev Now : Reassembly → Type 0
+    Now = IsCurrent p n B (B a) (B n) L
+
     abbrev Well : ReassemblyState → Type 0
     Well = IsHeldWell first sent st n a L
 
@@ -106,25 +118,21 @@ module _ (ws : List Numbered) (first : ℕ) (sent : List Entry) (line : IsLine w
       pub of : ℕ
       pub within : place ≤ n
       pub is : x.tsn ≡ tsn p place
-      pub begun : begun_to st place sent ≡ of + 1
+      pub begun : B place ≡ of + 1
       pub number : x.stream_sequence_number ≡ of % 2 ^ 16
       pub late : L place
       pub near : of < index + 2 ^ 15
 
     module _ (x : ChunkPayloadData) (answered : Bool) (old new : ReassemblyState) (pushes : Pushes x answered old new) (h : Well old)
         (fresh : Every (λ (s : ChunkSet). list_any (has_tsn x.tsn) s.chunks ≡ false) old.held.ordered) (C : ℕ → Type 0) where
-      abbrev Now : Type 0
-      Now = IsCurrent (base first) n (λ k. begun_to st k sent) (begun_to st a sent) (begun_to st n sent) L new.held
-
       abbrev Weighs : Type 0
       Weighs = (w : ChunkPayloadData → ℕ) → weight w new.held ≡ w x + weight w old.held
 
       put-ordered : (u : x.unordered ≡ false) → IsComing h.current.index x → (low top : ℕ)
-          → reads.AreSets p n (λ k. begun_to st k sent) Pieces C low top new.held.ordered → Now × Weighs
+          → reads.AreSets p n B Pieces C low top new.held.ordered → Now new.held × Weighs
       put-ordered u e low top sets = (
-        subst (λ q. IsCurrent (base first) n (λ k. begun_to st k sent) (begun_to st a sent) (begun_to st n sent) L q) (sym held)
-            (current-put p n (λ k. begun_to st k sent) Pieces C at-in place-in x (begun_to st a sent) (begun_to st n sent) L old.held h.current e.place low top
-            e.within e.is after (subst (λ (q : Reassembly). reads.AreSets p n (λ k. begun_to st k sent) Pieces C low top q.ordered) held sets)),
+        subst Now (sym held) (current-put p n B Pieces C at-in place-in x (B a) (B n) L old.held h.current e.place low top
+            e.within e.is after (subst (λ (q : Reassembly). reads.AreSets p n B Pieces C low top q.ordered) held sets)),
         λ w.
             let m = sets-more w x old.held.ordered fresh in
             let is = ap (weight w) held in
@@ -137,21 +145,21 @@ module _ (ws : List Numbered) (first : ℕ) (sent : List Entry) (line : IsLine w
           held : new.held ≡ record old.held { ordered = sets_with x old.held.ordered }
           held =
               ap (λ (q : ReassemblyState). q.held) (subst (λ b. PushesAs b x answered old new) u pushes).0
-              ∙ put-in p n (λ k. begun_to st k sent) Pieces C at-in place-in x h.current.index e.of old.held h.current.next e.number
+              ∙ put-in p n B Pieces C at-in place-in x h.current.index e.of old.held h.current.next e.number
               (let b = e.begun in omega (arith, after, b)) e.near
 
-      put-unordered : x.unordered ≡ true → Now × Weighs
+      put-unordered : x.unordered ≡ true → Now new.held × Weighs
       put-unordered u = (same answered b, weighs)
         where
           b : BecomesComplete (insert_before chunk_before x old.held.unassembled) old.held new.held answered
           b = (subst (λ k. PushesAs k x answered old new) u pushes).0
 
-          same : (k : Bool) → BecomesComplete (insert_before chunk_before x old.held.unassembled) old.held new.held k → Now
+          same : (k : Bool) → BecomesComplete (insert_before chunk_before x old.held.unassembled) old.held new.held k → Now new.held
           same true t =
-              current-same p n (λ k. begun_to st k sent) Pieces C at-in place-in (begun_to st a sent) (begun_to st n sent) L old.held new.held
+              current-same p n B Pieces C at-in place-in (B a) (B n) L old.held new.held
               (ap (λ (q : Reassembly). q.next_ssn) t.moved) (ap (λ (q : Reassembly). q.ordered) t.moved) h.current
           same false t =
-              current-same p n (λ k. begun_to st k sent) Pieces C at-in place-in (begun_to st a sent) (begun_to st n sent) L old.held new.held
+              current-same p n B Pieces C at-in place-in (B a) (B n) L old.held new.held
               (ap (λ (q : Reassembly). q.next_ssn) t.1) (ap (λ (q : Reassembly). q.ordered) t.1) h.current
 
           weighs : (w : ChunkPayloadData → ℕ) → weight w new.held ≡ w x + weight w old.held
@@ -161,11 +169,11 @@ module _ (ws : List Numbered) (first : ℕ) (sent : List Entry) (line : IsLine w
               omega (arith, e, m)
 
       pub pushed-well : is_on old.si x ≡ true → IsFit p n x → list_any (has_tsn x.tsn) old.held.unassembled ≡ false
-          → (x.unordered ≡ false → IsComing h.current.index x × ((low : ℕ) × (top : ℕ)
-          × reads.AreSets p n (λ k. begun_to st k sent) Pieces C low top new.held.ordered)) → Well new × Weighs
+          → (x.unordered ≡ false → IsComing h.current.index x × ((low : ℕ) × (top : ℕ) × reads.AreSets p n B Pieces C low top new.held.ordered))
+          → Well new × Weighs
       pushed-well on fit bare ordered = by x.unordered refl
         where
-          build : Now × Weighs → Well new × Weighs
+          build : Now new.held × Weighs → Well new × Weighs
           build r =
               let o = orderly-both old h.orderly in (
                 record {
@@ -185,7 +193,7 @@ module _ (ws : List Numbered) (first : ℕ) (sent : List Entry) (line : IsLine w
     -- ## A message is read
 
     module _ (q : ReassemblyState) (h : Well q) (C : ℕ → Type 0) (k reach : ℕ) (d : Due C k reach q.held) (same : h.current.index ≡ d.index)
-        (most : reach ≤ begun_to st n sent) (wanted : (y : ℕ) → L y → IsWanted st sent y)
+        (most : reach ≤ B n) (wanted : (y : ℕ) → L y → IsWanted st sent y)
         (came : (y : ℕ) → list_any (λ (s : ChunkSet). list_any (has_tsn (tsn p y)) s.chunks) q.held.ordered ≡ true → L y → ⊥) where
       pub read-well : Well (state_read q)
       read-well =
@@ -198,12 +206,11 @@ module _ (ws : List Numbered) (first : ℕ) (sent : List Entry) (line : IsLine w
                 (rest-unmixed q.si q.held o.1);
           }
         where
-          by : (us : List ChunkSet) → q.held.unordered ≡ us
-              → IsCurrent (base first) n (λ k. begun_to st k sent) (begun_to st a sent) (begun_to st n sent) L (rest_among us q.held)
+          by : (us : List ChunkSet) → q.held.unordered ≡ us → Now (rest_among us q.held)
           by [] e =
-              front-current p n (λ k. begun_to st k sent) Pieces C at-in place-in (begun_to st a sent) (begun_to st n sent) L q.held k reach d
+              front-current p n B Pieces C at-in place-in (B a) (B n) L q.held k reach d
               (λ i y cs fits whole l count. has-all ws first sent line joined n long few st i cs fits whole y (wanted y l) count) came most h.current same
               q.held.ordered refl
           by (u ∷ us) e =
-              current-same p n (λ k. begun_to st k sent) Pieces C at-in place-in (begun_to st a sent) (begun_to st n sent) L q.held
+              current-same p n B Pieces C at-in place-in (B a) (B n) L q.held
               (record q.held { unordered = us }) refl refl h.current

@@ -15,7 +15,7 @@ use Rattle.sctp_receiver.specs.declared.receiver.inbound_streams.InboundStream.{
 use Rattle.sctp_receiver.specs.Receiver.{Reception, stream_of}
 use Rattle.sctp_receiver.specs.ReceiverRuns.{Message, Stand}
 use Rattle.sctp_sender.specs.Numbers.{is_ordered_on}
-use Rattle.sctp_delivery.proofs.Every.{Every}
+use Rattle.sctp_delivery.proofs.Every.{Every, one-of}
 use Rattle.sctp_delivery.proofs.TakenTsns.{come}
 use Rattle.sctp_delivery.proofs.TsnPlaces.{at-or-before, before, next-place, same-place}
 use Rattle.sctp_delivery.proofs.UnwrappedReads.{IsDue, neither, recame}
@@ -99,6 +99,22 @@ module _ (p st n : ℕ) (B : ℕ → ℕ) (E : ℕ → Bool) (M : ChunkPayloadDa
     pub most : reach ≤ B n
     pub arrived : Covers reach a s.receiver.cumulative_tsn s.receiver.beyond
 
+  module _ (few : n < 2 ^ 31) where
+    -- no TSN that was not given out came
+    pub none-past : (reach least c : ℕ) (ts : List ℕ) → Covers reach least c ts → (y : ℕ) → n < y → y ≤ 2 ^ 31 → come (tsn p y) c ts ≡ true → ⊥
+    none-past reach least c ts h y lt most e = elim (or-split (at_or_before (tsn p y) c) (list_any (λ t. t == tsn p y) ts) e) [
+      | inl g ↦
+          let w = h.within in
+          let t : nat_le y h.place ≡ true = sym (at-or-before p y h.place most (omega (arith, w, few))) ∙ ap (at_or_before (tsn p y)) (sym h.is) ∙ g in
+          let u : y ≤ h.place = grind (arith, nat_tests, t) in
+          omega (arith, u, w, lt)
+      | inr g ↦
+          let o = one-of (IsBeyond reach) (λ t. t == tsn p y) ts g h.each in
+          let w = o.2.within in
+          let k = same-place p (o.2.before + 1) y (omega (arith, w, few)) (omega (arith, most)) (sym o.2.is ∙ same-is o.0 (tsn p y) o.1) in
+          omega (arith, k, w, lt)
+    ]
+
   module _ (few : n < 2 ^ 31) (up : (j k : ℕ) → j ≤ k → B j ≤ B k) where
     -- ## What came
 
@@ -110,6 +126,32 @@ module _ (p st n : ℕ) (B : ℕ → ℕ) (E : ℕ → Bool) (M : ChunkPayloadDa
       so = elim b.so [ inl x ↦ inl x | inr x ↦ inr (omega (arith, x, le)) ];
     }
 
+    -- where the first TSN beyond is the next one, all is covered up to it
+    onward : (reach least c t : ℕ) (ts : List ℕ) (h : Covers reach least c (t ∷ ts)) → (t == (c + 1) % 2 ^ 32) ≡ true
+        → (j : Covers reach least t ts) × (j.place ≡ h.place + 1)
+    onward reach least c t ts h e =
+        let x = h.each.0 in
+        let next : t ≡ tsn p (h.place + 1) = same-is t ((c + 1) % 2 ^ 32) e ∙ ap (λ u. (u + 1) % 2 ^ 32) h.is ∙ next-place p h.place in
+        let w = x.within in
+        let v = h.within in
+        let one : x.before + 1 ≡ h.place + 1 = same-place p (x.before + 1) (h.place + 1) (omega (arith, w, few)) (omega (arith, v, few))
+        (sym x.is ∙ next) in
+        let same : x.before ≡ h.place = omega (arith, one) in
+        let a = ap B same in
+        let b = ap B one in
+        let l = h.least_is in
+        let c' = h.covered in (
+          record {
+            place = h.place + 1;
+            least_is = omega (arith, l);
+            within = omega (arith, w, one);
+            is = next;
+            covered = elim x.so [ inl y ↦ omega (arith, y, a, b, c') | inr y ↦ omega (arith, y, b) ];
+            each = h.each.1;
+          },
+          refl,
+        )
+
     pub advanced : (reach least c : ℕ) (ts : List ℕ) → Covers reach least c ts → Covers reach least (advance_over c ts).cum (advance_over c ts).held
     advanced reach least c [] h = h
     advanced reach least c (t ∷ ts) h = by (t == (c + 1) % 2 ^ 32) refl (λ g. advanced reach least t ts g)
@@ -118,26 +160,7 @@ module _ (p st n : ℕ) (B : ℕ → ℕ) (E : ℕ → Bool) (M : ChunkPayloadDa
             → (Covers reach least t ts → Covers reach least (advance_over t ts).cum (advance_over t ts).held)
             → (let s : Seen = if b then advance_over t ts else (let r : Seen = record { cum = c; held = t ∷ ts } in r) in Covers reach least s.cum s.held)
         by false e ih = h
-        by true e ih =
-            let x = h.each.0 in
-            let next : t ≡ tsn p (h.place + 1) = same-is t ((c + 1) % 2 ^ 32) e ∙ ap (λ u. (u + 1) % 2 ^ 32) h.is ∙ next-place p h.place in
-            let w = x.within in
-            let v = h.within in
-            let one : x.before + 1 ≡ h.place + 1 = same-place p (x.before + 1) (h.place + 1) (omega (arith, w, few)) (omega (arith, v, few))
-            (sym x.is ∙ next) in
-            let same : x.before ≡ h.place = omega (arith, one) in
-            let a = ap B same in
-            let b = ap B one in
-            let l = h.least_is in
-            let c' = h.covered in
-            ih (record {
-              place = h.place + 1;
-              least_is = omega (arith, l);
-              within = omega (arith, w, one);
-              is = next;
-              covered = elim x.so [ inl y ↦ omega (arith, y, a, b, c') | inr y ↦ omega (arith, y, b) ];
-              each = h.each.1;
-            })
+        by true e ih = ih (onward reach least c t ts h e).0
 
     -- what came by a later cumulative TSN came before
     upto-back : (place y : ℕ) (t c : ℕ) → y ≤ n → place + 1 ≤ n → c ≡ tsn p place → t ≡ tsn p (place + 1) → at_or_before (tsn p y) t ≡ true
@@ -164,27 +187,12 @@ module _ (p st n : ℕ) (B : ℕ → ℕ) (E : ℕ → Bool) (M : ChunkPayloadDa
             come (tsn p y) s.cum s.held ≡ true) → come (tsn p y) c (t ∷ ts) ≡ true
         by false f ih g = g
         by true f ih g =
-            let x = h.each.0 in
-            let next : t ≡ tsn p (h.place + 1) = same-is t ((c + 1) % 2 ^ 32) f ∙ ap (λ u. (u + 1) % 2 ^ 32) h.is ∙ next-place p h.place in
-            let w = x.within in
-            let v = h.within in
-            let one : x.before + 1 ≡ h.place + 1 = same-place p (x.before + 1) (h.place + 1) (omega (arith, w, few)) (omega (arith, v, few))
-            (sym x.is ∙ next) in
-            let same : x.before ≡ h.place = omega (arith, one) in
-            let a = ap B same in
-            let b = ap B one in
-            let l = h.least_is in
-            let c' = h.covered in
-            let k = ih (record {
-              place = h.place + 1;
-              least_is = omega (arith, l);
-              within = omega (arith, w, one);
-              is = next;
-              covered = elim x.so [ inl z ↦ omega (arith, z, a, b, c') | inr z ↦ omega (arith, z, b) ];
-              each = h.each.1;
-            }) g in
+            let j = onward reach least c t ts h f in
+            let w = j.0.within in
+            let at = j.1 in
+            let k = ih j.0 g in
             elim (or-split (at_or_before (tsn p y) t) (list_any (λ u. u == tsn p y) ts) k) [
-              | inl m ↦ elim (upto-back h.place y t c le (omega (arith, w, one)) h.is next m) [
+              | inl m ↦ elim (upto-back h.place y t c le (omega (arith, w, at)) h.is (j.0.is ∙ ap (tsn p) at) m) [
                 | inl z ↦ or-left (at_or_before (tsn p y) c) (list_any (λ u. u == tsn p y) (t ∷ ts)) z
                 | inr z ↦ or-right (at_or_before (tsn p y) c) (list_any (λ u. u == tsn p y) (t ∷ ts))
                     (or-left (t == tsn p y) (list_any (λ u. u == tsn p y) ts) z)

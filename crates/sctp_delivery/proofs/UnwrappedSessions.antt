@@ -1,10 +1,10 @@
 -- In each session in which every FORWARD-TSN names a stream, the indexes of the ordered messages that are read on it rise.
 use Rattle.std.proofs.Common.{◌≡◌, ℕ, ◌+◌, ◌^◌, ◌<◌, ◌≤◌, Bool, true, false, List, [], ◌∷◌, length, Option, Some, None, inl, inr, refl, ap, sym, subst, ◌∙◌}
 use Rattle.std.proofs.Common.{arith}
-use Rattle.std.specs.Prelude.{Contains, IfSome, find, if◌then◌else◌, is_some, nat_le, ◌==◌, ◌⊎◌}
+use Rattle.std.specs.Prelude.{Contains, IfSome, find, if◌then◌else◌, is_some, ◌⊎◌}
 use Rattle.std.specs.List.{list_any}
 use Rattle.std.proofs.lemmas.Option.{none-some}
-use Rattle.sctp_util.specs.Serial.{at_or_before, distance}
+use Rattle.sctp_util.specs.Serial.{distance}
 use Rattle.sctp_util.proofs.More.{not_both}
 use Rattle.sctp_util.proofs.Round.{tsn}
 use Rattle.sctp_data.specs.declared.chunk.chunk_payload_data.ChunkPayloadData.{ChunkPayloadData}
@@ -35,8 +35,6 @@ use Rattle.sctp_delivery.proofs.UnwrappedArrived.{IsPiece, Rising, missing, miss
 use Rattle.sctp_reassembly.specs.reassembly_queue.Skips.{misses}
 use Rattle.sctp_serial.specs.DataChunks.{has_tsn}
 use Rattle.std.proofs.lemmas.Bool.{cases_lt}
-use Rattle.std.proofs.lemmas.Bool.Decides.{nat_tests}
-use Rattle.sctp_util.proofs.Cases.{or-split, same-is}
 use Rattle.sctp_delivery.proofs.Every.{Every, every-contained, every-of}
 use Rattle.sctp_delivery.proofs.GivenTsns.{raises-abandoned, raises-each}
 use Rattle.sctp_delivery.proofs.Queues.{IsOnceMore}
@@ -47,9 +45,9 @@ use Rattle.sctp_delivery.proofs.SpreadCalls.{IsSpread, Spreads, receiver-spreads
 use Rattle.sctp_delivery.proofs.SpreadEntries.{IsEntry, at-more, begun_to, is_at, made-entry, to-all, to-more, to-up}
 use Rattle.sctp_delivery.proofs.SpreadFlight.{IsMadeNaming}
 use Rattle.sctp_delivery.proofs.TakenCalls.{fresh-new}
-use Rattle.sctp_delivery.proofs.TsnPlaces.{at-or-before, base, same-place}
+use Rattle.sctp_delivery.proofs.TsnPlaces.{base, same-place}
 use Rattle.sctp_delivery.proofs.UnwrappedCalls.{followed-due, opened-due, quiet, read-on-due, taken-due}
-use Rattle.sctp_delivery.proofs.UnwrappedHolds.{AreDue, AreInTurn, Came, DueOn, Fits, IsBeyond, IsOf, IsStepOf, Rises, Where, is_in_order}
+use Rattle.sctp_delivery.proofs.UnwrappedHolds.{AreDue, AreInTurn, Came, DueOn, Fits, IsBeyond, IsOf, IsStepOf, Rises, Where, is_in_order, none-past}
 use Rattle.sctp_delivery.proofs.UnwrappedReads.{AreSets, IsDue}
 use Rattle.sctp_delivery.proofs.OrderedMessages.{not-far}
 
@@ -127,29 +125,12 @@ module _ (p st n m : ℕ) (B C : ℕ → ℕ) (E F : ℕ → Bool) (M N : ChunkP
         so = elim b.so [ inl z ↦ inl (omega (arith, x, y, z)) | inr z ↦ inr (omega (arith, y, z)) ];
       }
 
-  -- no place that was not given out came
-  none-new : (reach y : ℕ) (ts : List ℕ) → y ≤ m → n < y → Every (IsBeyond p st n B E M reach) ts → list_any (λ t. t == tsn p y) ts ≡ true → ⊥
-  none-new reach y [] most lt h e = not_both e
-  none-new reach y (t ∷ ts) most lt h e = elim (or-split (t == tsn p y) (list_any (λ u. u == tsn p y) ts) e) [
-    | inl g ↦
-        let w = h.0.within in
-        let k = same-place p (h.0.before + 1) y (omega (arith, w, le, few)) (omega (arith, most, few)) (sym h.0.is ∙ same-is t (tsn p y) g) in
-        absurd (omega (arith, k, w, lt))
-    | inr g ↦ none-new reach y ts most lt h.1 g
-  ]
-
   came-more : (a : ℕ) (s : Stand) (d : AreDue p st n B E M a s) (y : ℕ) → y ≤ m → Came p st m C F N s.receiver.cumulative_tsn s.receiver.beyond y
       → (y ≤ n) × Came p st n B E M s.receiver.cumulative_tsn s.receiver.beyond y
   came-more a s d y most h = elim (cases_lt n y) [
-    | inl lt ↦ absurd (elim (or-split (at_or_before (tsn p y) s.receiver.cumulative_tsn) (list_any (λ t. t == tsn p y) s.receiver.beyond) h.1) [
-      | inl g ↦
-          let w = d.arrived.within in
-          let t : nat_le y d.arrived.place ≡ true =
-          sym (at-or-before p y d.arrived.place (omega (arith, most, few)) (omega (arith, w, le, few))) ∙ ap (at_or_before (tsn p y)) (sym d.arrived.is) ∙ g in
-          let u : y ≤ d.arrived.place = grind (arith, nat_tests, t) in
-          omega (arith, u, w, lt)
-      | inr g ↦ none-new d.reach y s.receiver.beyond most lt d.arrived.each g
-    ])
+    | inl lt ↦
+        let small : n < 2 ^ 31 = omega (arith, le, few) in
+        absurd (none-past p st n B E M small d.reach a s.receiver.cumulative_tsn s.receiver.beyond d.arrived y lt (omega (arith, most, few)) h.1)
     | inr ge ↦ (ge, (sym (alike y ge) ∙ h.0, h.1))
   ]
 
