@@ -1,6 +1,6 @@
 -- What a stream holds of ordered messages, where messages may be cut short: each message before the next index came whole, or was cut short
 -- and passed; and each set of such a message is complete. So no fragment that comes for the first time lies before the next index.
-use Rattle.std.proofs.Common.{◌≡◌, ℕ, ◌+◌, ◌%◌, ◌^◌, ◌<◌, ◌≤◌, Bool, true, false, not, List, [], ◌∷◌, length, Some, None, inl, inr, refl, ap, sym, subst, ◌∙◌}
+use Rattle.std.proofs.Common.{◌≡◌, ℕ, ◌+◌, ◌%◌, ◌^◌, ◌<◌, ◌≤◌, Bool, true, false, not, List, [], ◌∷◌, length, inl, inr, refl, ap, sym, subst, ◌∙◌}
 use Rattle.std.proofs.Common.{arith}
 use Rattle.std.specs.Prelude.{◌⊎◌, ◌==◌, ◌&&◌, if◌then◌else◌, nat_le, nat_lt}
 use Rattle.std.specs.List.{filter, list_any}
@@ -16,11 +16,12 @@ use Rattle.sctp_data.specs.declared.chunk.chunk_payload_data.ChunkPayloadData.{C
 use Rattle.sctp_data.specs.ChunkSet.{ChunkSet}
 use Rattle.sctp_reassembly.specs.reassembly_queue.Fragments.{has_ssn, is_complete, new_set, set_before, sets_with, with_chunk}
 use Rattle.sctp_reassembly.specs.reassembly_queue.ReassemblyQueue.{Reassembly, after_read, front_readable, held_after_ordered_push, held_after_ordered_skip}
-use Rattle.sctp_reassembly.specs.reassembly_queue.ReassemblyQueue.{is_passed, is_readable, without_first}
+use Rattle.sctp_reassembly.specs.reassembly_queue.ReassemblyQueue.{is_passed, is_readable}
 use Rattle.sctp_reassembly.specs.reassembly_queue.Skips.{cannot_complete, held_after_incomplete_skip, ssn_past_sets}
 use Rattle.sctp_receiver.specs.Ssns.{is_name_too_far}
 use Rattle.sctp_serial.specs.DataChunks.{chunk_before, has_tsn}
 use Rattle.sctp_delivery.proofs.Every.{Every, every-inserted, every-of, every-passing}
+use Rattle.sctp_delivery.proofs.KeptSets.{front-read, without_front}
 use Rattle.sctp_delivery.proofs.TakenTsns.{any-inserted}
 use Rattle.sctp_delivery.proofs.Tidy.{every-first}
 use Rattle.sctp_delivery.proofs.UnwrappedReads as reads
@@ -207,37 +208,22 @@ module _ (p n : ℕ) (B : ℕ → ℕ) (Fits : ℕ → List ChunkPayloadData →
   module _ (low top : ℕ) (L : ℕ → Type 0) (q : Reassembly) (k reach : ℕ) (d : IsDue p n B Fits Came k reach q)
       (all-in : (i y : ℕ) (cs : List ChunkPayloadData) → Fits i cs → is_complete cs ≡ true → L y → B y ≡ i + 1 → list_any (has_tsn (tsn p y)) cs ≡ true)
       (came : (y : ℕ) → list_any (has_place y) q.ordered ≡ true → L y → ⊥) (most : reach ≤ top) where
-    pub front-current : (c : IsNow low top L q) → c.index ≡ d.index → (ss : List ChunkSet) → q.ordered ≡ ss
-        → IsNow low top L (after_read (front_readable q.next_ssn ss) q)
-    front-current c is [] e = c
-    front-current c is (s ∷ ss) e = by (is_readable q.next_ssn s) refl
+    pub front-current : (c : IsNow low top L q) → c.index ≡ d.index → IsNow low top L (after_read (front_readable q.next_ssn q.ordered) q)
+    front-current c is = front-read q (λ o r. IsNow low top L r) c step
       where
-        a : AreSets d.low reach (s ∷ ss)
-        a = subst (AreSets d.low reach) e d.sets
-
-        rest : Every (IsWhole c.index) ss
-        rest = (subst (Every (IsWhole c.index)) e c.whole).1
-
-        some : Every IsSome ss
-        some = (subst (Every IsSome) e c.some).1
-
-        build : (m next : ℕ) → next ≡ m % 2 ^ 16 → low ≤ m + 2 ^ 15 → m ≤ top → ((y : ℕ) → y ≤ n + 1 → L y → m < B y) → Every (IsWhole m) ss
-            → IsNow low top L (record q { ordered = without_first q.ordered; next_ssn = next })
-        build m next f from upto late whole = record {
-          index = m;
-          next = f;
-          from = from;
-          upto = upto;
-          late = late;
-          whole = subst (λ o. Every (IsWhole m) (without_first o)) (sym e) whole;
-          some = subst (λ o. Every IsSome (without_first o)) (sym e) some;
+        step : (s : ChunkSet) (ss : List ChunkSet) → q.ordered ≡ s ∷ ss → is_readable q.next_ssn s ≡ true → (b : Bool) → (s.ssn == q.next_ssn) ≡ b
+            → IsNow low top L (without_front q b ss)
+        step s ss e f false h = record {
+          index = c.index;
+          next = c.next;
+          from = c.from;
+          upto = c.upto;
+          late = c.late;
+          whole = (subst (Every (IsWhole c.index)) e c.whole).1;
+          some = (subst (Every IsSome) e c.some).1;
         }
-
-        step : is_readable q.next_ssn s ≡ true → (b : Bool) → (s.ssn == q.next_ssn) ≡ b
-            → IsNow low top L (record q { ordered = without_first q.ordered; next_ssn = (if b then (q.next_ssn + 1) % 2 ^ 16 else q.next_ssn) })
-        step f false h = build c.index q.next_ssn c.next c.from c.upto c.late rest
-        step f true h =
-            let i = a.0 in
+        step s ss e f true h =
+            let a : AreSets d.low reach (s ∷ ss) = subst (AreSets d.low reach) e d.sets in
             let n' : a.0 % 2 ^ 16 ≡ d.index % 2 ^ 16 = sym a.1.0.2 ∙ same-is s.ssn q.next_ssn h ∙ d.next in
             let lo = a.1.0.0 in
             let hi = a.1.0.1 in
@@ -246,23 +232,22 @@ module _ (p n : ℕ) (B : ℕ → ℕ) (Fits : ℕ → List ChunkPayloadData →
             let far = d.far in
             let same : a.0 ≡ c.index = omega (arith, n', lo, hi, from, near, far, is) in
             let b = c.from in
-            let whole-set = (both (is_complete s.chunks) _ f).0 in
-            build (c.index + 1) ((q.next_ssn + 1) % 2 ^ 16) (ap (λ m. (m + 1) % 2 ^ 16) c.next ∙ next16 c.index) (omega (arith, b))
-            (omega (arith, same, hi, most)) (λ y le l. later y le l same whole-set (c.late y le l))
-            (whole-later (c.index + 1) (a.0 + 1) reach ss (omega (arith, same)) a.2)
-          where
-            later : (y : ℕ) → y ≤ n + 1 → L y → a.0 ≡ c.index → is_complete s.chunks ≡ true → c.index < B y → c.index + 1 < B y
-            later y le l same whole lt = elim (cases_lt (c.index + 1) (B y)) [
-              | inl more ↦ more
-              | inr ge ↦
-                  let count : B y ≡ a.0 + 1 = omega (arith, same, lt, ge) in
-                  let there = all-in a.0 y s.chunks a.1.1 whole l count in
-                  absurd (came y (subst (λ o. list_any (has_place y) o ≡ true) (sym e) (or-left (has_place y s) (list_any (has_place y) ss) there)) l)
-            ]
-
-        by : (b : Bool) → is_readable q.next_ssn s ≡ b → IsNow low top L (after_read (if b then Some s else None) q)
-        by false f = c
-        by true f = step f (s.ssn == q.next_ssn) refl
+            record {
+              index = c.index + 1;
+              next = ap (λ m. (m + 1) % 2 ^ 16) c.next ∙ next16 c.index;
+              from = omega (arith, b);
+              upto = omega (arith, same, hi, most);
+              late = λ y le l. elim (cases_lt (c.index + 1) (B y)) [
+                | inl more ↦ more
+                | inr ge ↦
+                    let lt = c.late y le l in
+                    let count : B y ≡ a.0 + 1 = omega (arith, same, lt, ge) in
+                    let there = all-in a.0 y s.chunks a.1.1 (both (is_complete s.chunks) _ f).0 l count in
+                    absurd (came y (subst (λ o. list_any (has_place y) o ≡ true) (sym e) (or-left (has_place y s) (list_any (has_place y) ss) there)) l)
+              ];
+              whole = whole-later (c.index + 1) (a.0 + 1) reach ss (omega (arith, same)) a.2;
+              some = (subst (Every IsSome) e c.some).1;
+            }
 
   -- ## A FORWARD-TSN comes
 

@@ -210,7 +210,6 @@ module _ (ws : List Numbered) (first : ℕ) (sent : List Entry) (line : IsLine w
           by [] e =
               front-current p n B Pieces C at-in place-in (B a) (B n) L q.held k reach d
               (λ i y cs fits whole l count. has-all ws first sent line joined n long few st i cs fits whole y (wanted y l) count) came most h.current same
-              q.held.ordered refl
           by (u ∷ us) e =
               current-same p n B Pieces C at-in place-in (B a) (B n) L q.held
               (record q.held { unordered = us }) refl refl h.current

@@ -1,5 +1,5 @@
 -- The sets of ordered messages, where no FORWARD-TSN comes: none stands before the next number, so that no fragment is dropped.
-use Rattle.std.proofs.Common.{◌≡◌, ℕ, ◌+◌, ◌%◌, ◌^◌, ◌<◌, ◌≤◌, Bool, true, false, List, [], ◌∷◌, Some, None, inl, inr, refl, ap, sym, subst, ◌∙◌, arith}
+use Rattle.std.proofs.Common.{◌≡◌, ℕ, ◌+◌, ◌%◌, ◌^◌, ◌<◌, ◌≤◌, Bool, true, false, List, [], ◌∷◌, Option, Some, None, inl, inr, refl, ap, sym, subst, ◌∙◌, arith}
 use Rattle.std.specs.Prelude.{⊤, ◌==◌, ◌||◌, if◌then◌else◌, nat_lt, nat_le}
 use Rattle.std.specs.List.{filter, list_any, sum_by}
 use Rattle.std.proofs.lemmas.Bool.{cases_lt}
@@ -248,45 +248,58 @@ module _ (w : ChunkPayloadData → ℕ) (x : ChunkPayloadData) where
 
 -- ## A message is read
 
--- the set that is read first has the next number
-front-place : (q : Reassembly) (i : ℕ) → q.next_ssn ≡ i % 2 ^ 16 → (s : ChunkSet) (ss : List ChunkSet) (r : Rise i (i + 2 ^ 15) (s ∷ ss))
-    → is_readable q.next_ssn s ≡ true → r.0 ≡ i
-front-place q i next s ss r f =
-    let low = r.1.0.0 in
-    let top = r.1.0.1 in
-    let due : at_or_before16 (r.0 % 2 ^ 16) (i % 2 ^ 16) ≡ true = ap (at_or_before16 (r.0 % 2 ^ 16)) (sym next)
-    ∙ ap (λ n. at_or_before16 n q.next_ssn) (sym r.1.0.2) ∙ (both (is_complete s.chunks) (at_or_before16 s.ssn q.next_ssn) f).1 in
-    let order : nat_le r.0 i ≡ true = sym (at_or_before16-index r.0 i (omega (arith, top)) (omega (arith, low))) ∙ due in
-    let le : r.0 ≤ i = grind (arith, nat_tests, order) in
-    omega (arith, le, low)
+module _ (q : Reassembly) where
+  -- without the front set, whose number is the next one or not
+  abbrev pub without_front : Bool → List ChunkSet → Reassembly
+  without_front b ss = record q { ordered = ss; next_ssn = (if b then (q.next_ssn + 1) % 2 ^ 16 else q.next_ssn) }
 
-pub front-number : (q : Reassembly) (i : ℕ) → q.next_ssn ≡ i % 2 ^ 16 → (s : ChunkSet) (ss : List ChunkSet) → Rise i (i + 2 ^ 15) (s ∷ ss)
-    → is_readable q.next_ssn s ≡ true → s.ssn ≡ q.next_ssn
-front-number q i next s ss r f = r.1.0.2 ∙ ap (λ n. n % 2 ^ 16) (front-place q i next s ss r f) ∙ sym next
+  -- Q of what is read and what is left: nothing is read, or the front set
+  pub front-read : (Q : Option ChunkSet → Reassembly → Type 0) → Q None q
+      → ((s : ChunkSet) (ss : List ChunkSet) → q.ordered ≡ s ∷ ss → is_readable q.next_ssn s ≡ true → (b : Bool) → (s.ssn == q.next_ssn) ≡ b
+      → Q (Some s) (without_front b ss))
+      → Q (front_readable q.next_ssn q.ordered) (after_read (front_readable q.next_ssn q.ordered) q)
+  front-read Q none read = by q.ordered refl
+    where
+      by : (os : List ChunkSet) → q.ordered ≡ os → Q (front_readable q.next_ssn os) (after_read (front_readable q.next_ssn os) q)
+      by [] is = none
+      by (s ∷ ss) is = at (is_readable q.next_ssn s) refl
+        where
+          at : (b : Bool) → is_readable q.next_ssn s ≡ b → Q (if b then Some s else None) (after_read (if b then Some s else None) q)
+          at false e = none
+          at true e = subst (λ os. Q (Some s) (without_front (s.ssn == q.next_ssn) (without_first os))) (sym is) (read s ss is e (s.ssn == q.next_ssn) refl)
 
-front-turn : (q : Reassembly) (i : ℕ) → q.next_ssn ≡ i % 2 ^ 16 → (ss : List ChunkSet) → q.ordered ≡ ss → Rise i (i + 2 ^ 15) ss
-    → IsInTurn (after_read (front_readable q.next_ssn ss) q)
-front-turn q i next [] e r = record { index = i; next = next; rise = subst (Rise i (i + 2 ^ 15)) (sym e) tt }
-front-turn q i next (s ∷ ss) e r = by (is_readable q.next_ssn s) refl
+front-turn : (q : Reassembly) → IsInTurn q → IsInTurn (after_read (front_readable q.next_ssn q.ordered) q)
+front-turn q t = front-read q (λ o r. IsInTurn r) t step
   where
-    by : (b : Bool) → is_readable q.next_ssn s ≡ b → IsInTurn (after_read (if b then Some s else None) q)
-    by false f = record { index = i; next = next; rise = subst (Rise i (i + 2 ^ 15)) (sym e) r }
-    by true f =
-        let same : r.0 ≡ i = front-place q i next s ss r f in
-        let is = front-number q i next s ss r f in
-        let more : (if s.ssn == q.next_ssn then (q.next_ssn + 1) % 2 ^ 16 else q.next_ssn) ≡ (i + 1) % 2 ^ 16 =
-        ap (λ b. if b then (q.next_ssn + 1) % 2 ^ 16 else q.next_ssn) (ap (λ n. n == q.next_ssn) is ∙ same-yes q.next_ssn) ∙ ap (λ n. (n + 1) % 2 ^ 16) next
-        ∙ next16 i in
+    -- the set that is read has the next number
+    same : (s : ChunkSet) (ss : List ChunkSet) (r : Rise t.index (t.index + 2 ^ 15) (s ∷ ss)) → is_readable q.next_ssn s ≡ true → r.0 ≡ t.index
+    same s ss r f =
+        let low = r.1.0.0 in
+        let top = r.1.0.1 in
+        let order : nat_le r.0 t.index ≡ true = sym (at_or_before16-index r.0 t.index (omega (arith, top)) (omega (arith, low)))
+        ∙ ap (at_or_before16 (r.0 % 2 ^ 16)) (sym t.next) ∙ ap (λ n. at_or_before16 n q.next_ssn) (sym r.1.0.2)
+        ∙ (both (is_complete s.chunks) (at_or_before16 s.ssn q.next_ssn) f).1 in
+        let le : r.0 ≤ t.index = grind (arith, nat_tests, order) in
+        omega (arith, le, low)
+
+    step : (s : ChunkSet) (ss : List ChunkSet) → q.ordered ≡ s ∷ ss → is_readable q.next_ssn s ≡ true → (b : Bool) → (s.ssn == q.next_ssn) ≡ b
+        → IsInTurn (without_front q b ss)
+    step s ss e f true g =
+        let r : Rise t.index (t.index + 2 ^ 15) (s ∷ ss) = subst (Rise t.index (t.index + 2 ^ 15)) e t.rise in
         record {
-          index = i + 1;
-          next = more;
-          rise = subst (λ o. Rise (i + 1) (i + 1 + 2 ^ 15) (without_first o)) (sym e)
-              (sets-to (λ i cs. ⊤) (i + 1) (i + 2 ^ 15) (i + 1 + 2 ^ 15) ss (omega arith) (subst (λ n. Rise (n + 1) (i + 2 ^ 15) ss) same r.2));
+          index = t.index + 1;
+          next = ap (λ n. (n + 1) % 2 ^ 16) t.next ∙ next16 t.index;
+          rise = sets-to (λ i cs. ⊤) (t.index + 1) (t.index + 2 ^ 15) (t.index + 1 + 2 ^ 15) ss (omega arith)
+              (subst (λ n. Rise (n + 1) (t.index + 2 ^ 15) ss) (same s ss r f) r.2);
         }
+    step s ss e f false g =
+        let r : Rise t.index (t.index + 2 ^ 15) (s ∷ ss) = subst (Rise t.index (t.index + 2 ^ 15)) e t.rise in
+        let is : s.ssn ≡ q.next_ssn = r.1.0.2 ∙ ap (λ n. n % 2 ^ 16) (same s ss r f) ∙ sym t.next in
+        absurd (not_both (sym g ∙ ap (λ n. n == q.next_ssn) is ∙ same-yes q.next_ssn))
 
 pub read-in-turn : (q : Reassembly) → IsInTurn q → IsInTurn (rest_read q)
 read-in-turn q t = by q.unordered
   where
     by : (us : List ChunkSet) → IsInTurn (rest_among us q)
-    by [] = front-turn q t.index t.next q.ordered refl t.rise
+    by [] = front-turn q t
     by (u ∷ us) = record { index = t.index; next = t.next; rise = t.rise }

@@ -19,13 +19,13 @@ use Rattle.sctp_serial.specs.DataChunks.{chunk_before, has_tsn}
 use Rattle.sctp_reassembly.specs.reassembly_queue.Fragments.{has_ssn, is_complete, new_set, set_before, sets_with, with_chunk}
 use Rattle.sctp_reassembly.specs.reassembly_queue.ReassemblyQueue.{BecomesComplete, Reassembly, ReassemblyState, TakesRun, after_read, front_readable}
 use Rattle.sctp_reassembly.specs.reassembly_queue.ReassemblyQueue.{held_after_ordered_skip, held_after_unordered_skip, is_passed, is_readable, message_among}
-use Rattle.sctp_reassembly.specs.reassembly_queue.ReassemblyQueue.{message_read, rest_among, rest_read, set_of_run, without_first}
+use Rattle.sctp_reassembly.specs.reassembly_queue.ReassemblyQueue.{message_read, rest_among, rest_read, set_of_run}
 use Rattle.sctp_reassembly.specs.reassembly_queue.Skips.{cannot_complete, held_after_incomplete_skip, ssn_past_sets}
 use Rattle.sctp_receiver.specs.Inbound.{Pushes, PushesAs}
 use Rattle.sctp_receiver.specs.Ssns.{is_name_too_far, is_ssn_too_far, lowest_among, lowest_ssn}
 use Rattle.sctp_delivery.proofs.Every.{Every, every-inserted, every-joined, every-left, every-taken}
 use Rattle.sctp_delivery.proofs.KeptSets as sets
-use Rattle.sctp_delivery.proofs.KeptSets.{put-sets, sets-those, sets-to, strictly}
+use Rattle.sctp_delivery.proofs.KeptSets.{front-read, put-sets, sets-those, sets-to, strictly, without_front}
 use Rattle.sctp_delivery.proofs.TakenTsns.{any-inserted}
 use Rattle.sctp_delivery.proofs.OrderedMessages.{IsUnorderedSet, starts_ordered}
 
@@ -334,8 +334,8 @@ module _ (p n : ℕ) (B : ℕ → ℕ) (Fits : ℕ → List ChunkPayloadData →
     module _ (k reach : ℕ) (q : Reassembly) (d : IsDue k reach q) where
       -- the front set is read
       front-due : (s : ChunkSet) (ss : List ChunkSet) → q.ordered ≡ s ∷ ss → (a : AreSets d.low reach (s ∷ ss)) → is_readable q.next_ssn s ≡ true
-          → IsDue (a.0 + 1) reach (after_read (Some s) q)
-      front-due s ss is a e = by (s.ssn == q.next_ssn) refl
+          → (b : Bool) → (s.ssn == q.next_ssn) ≡ b → IsDue (a.0 + 1) reach (without_front q b ss)
+      front-due s ss is a e = by
         where
           i : ℕ
           i = a.0
@@ -355,30 +355,24 @@ module _ (p n : ℕ) (B : ℕ → ℕ) (Fits : ℕ → List ChunkPayloadData →
               ∙ at_or_before16-index i d.index (omega (arith, up, f, g)) (omega (arith, low, n)))
               ∙ (both (is_complete s.chunks) (at_or_before16 s.ssn q.next_ssn) e).1
 
-          kept : (m : ℕ) → i + 1 ≤ m → d.index ≤ m → IsKept m (without_first q.ordered)
-          kept m from at y le came = by (d.kept y le came)
-            where
-              by : (B y ≤ d.index) ⊎ (list_any (has_place y) q.ordered ≡ true) → IsKeptAt m (without_first q.ordered) y
-              by (inl h) = inl (omega (arith, h, at))
-              by (inr h) = elim (or-split (has_place y s) (list_any (has_place y) ss) (subst (λ os. list_any (has_place y) os ≡ true) is h)) [
-                | inl g ↦ inl (let b = at-in i y s.chunks le a.1.1 g in omega (arith, b, from))
-                | inr g ↦ inr (subst (λ os. list_any (has_place y) (without_first os) ≡ true) (sym is) g)
-              ]
+          kept : (m : ℕ) → i + 1 ≤ m → d.index ≤ m → IsKept m ss
+          kept m from at y le came = elim (d.kept y le came) [
+            | inl h ↦ inl (omega (arith, h, at))
+            | inr h ↦ elim (or-split (has_place y s) (list_any (has_place y) ss) (subst (λ os. list_any (has_place y) os ≡ true) is h)) [
+              | inl g ↦ inl (let b = at-in i y s.chunks le a.1.1 g in omega (arith, b, from))
+              | inr g ↦ inr g
+            ]
+          ]
 
           build : (n next : ℕ) → next ≡ n % 2 ^ 16 → i + 1 ≤ n → d.index ≤ n → n ≤ d.index + 1 → n ≤ reach
-              → IsDue (i + 1) reach (record q { ordered = without_first q.ordered; next_ssn = next })
+              → IsDue (i + 1) reach (record q { ordered = ss; next_ssn = next })
           build n next e from at most within =
               let f = d.far in
               let g = d.near in
-              (settled (i + 1) (i + 1) n reach (record q { ordered = without_first q.ordered; next_ssn = next }) e (omega arith) from
-              (omega (arith, most, g, low))
-              within (omega (arith, f, low)) (subst (λ os. AreSets (i + 1) reach (without_first os)) (sym is) a.2) (kept n from at) d.unordered
-              d.unassembled).0
+              (settled (i + 1) (i + 1) n reach (record q { ordered = ss; next_ssn = next }) e (omega arith) from (omega (arith, most, g, low)) within
+              (omega (arith, f, low)) a.2 (kept n from at) d.unordered d.unassembled).0
 
-          by : (b : Bool) → (s.ssn == q.next_ssn) ≡ b → IsDue (i + 1) reach (record q {
-            ordered = without_first q.ordered;
-            next_ssn = (if b then (q.next_ssn + 1) % 2 ^ 16 else q.next_ssn);
-          })
+          by : (b : Bool) → (s.ssn == q.next_ssn) ≡ b → IsDue (i + 1) reach (without_front q b ss)
           by true f =
               let n : i % 2 ^ 16 ≡ d.index % 2 ^ 16 = sym a.1.0.2 ∙ same-is s.ssn q.next_ssn f ∙ d.next in
               let le : i ≤ d.index = grind (arith, nat_tests, order) in
@@ -394,26 +388,20 @@ module _ (p n : ℕ) (B : ℕ → ℕ) (Fits : ℕ → List ChunkPayloadData →
               let w = d.within in
               build d.index q.next_ssn d.next (omega (arith, lt)) (omega arith) (omega arith) w
 
-      at-front : (os : List ChunkSet) → q.ordered ≡ os → (after : ℕ) × ((k ≤ after) × IsDue after reach (after_read (front_readable q.next_ssn os) q))
-          × ((set : ChunkSet) → front_readable q.next_ssn os ≡ Some set → (i : ℕ) × ((k ≤ i) × (i < after)) × Fits i set.chunks)
-      at-front [] is = (k, (omega arith, d), λ set e. absurd (none-some set e))
-      at-front (s ∷ ss) is = by (is_readable q.next_ssn s) refl
-        where
-          a : AreSets d.low reach (s ∷ ss)
-          a = subst (AreSets d.low reach) is d.sets
-
-          up : k ≤ a.0
-          up = let x = a.1.0.0 in let y = d.due in omega (arith, x, y)
-
-          by : (b : Bool) → is_readable q.next_ssn s ≡ b
-              → (after : ℕ) × ((k ≤ after) × IsDue after reach (after_read (if b then Some s else None) q))
-              × ((set : ChunkSet) → (if b then Some s else None) ≡ Some set → (i : ℕ) × ((k ≤ i) × (i < after)) × Fits i set.chunks)
-          by false e = (k, (omega arith, d), λ set f. absurd (none-some set f))
-          by true e = (
+      at-front : (after : ℕ) × ((k ≤ after) × IsDue after reach (after_read (front_readable q.next_ssn q.ordered) q))
+          × ((set : ChunkSet) → front_readable q.next_ssn q.ordered ≡ Some set → (i : ℕ) × ((k ≤ i) × (i < after)) × Fits i set.chunks)
+      at-front = front-read q
+          (λ o r. (after : ℕ) × ((k ≤ after) × IsDue after reach r)
+          × ((set : ChunkSet) → o ≡ Some set → (i : ℕ) × ((k ≤ i) × (i < after)) × Fits i set.chunks))
+          (k, (omega arith, d), λ set e. absurd (none-some set e)) (λ s ss is e b f.
+          let a : AreSets d.low reach (s ∷ ss) = subst (AreSets d.low reach) is d.sets in
+          let x = a.1.0.0 in
+          let y = d.due in
+          let up : k ≤ a.0 = omega (arith, x, y) in (
             a.0 + 1,
-            (omega (arith, up), front-due s ss is a e),
-            λ set f. (a.0, (up, omega arith), subst (λ (x : ChunkSet). Fits a.0 x.chunks) (some-same f) a.1.1),
-          )
+            (omega (arith, up), front-due s ss is a e b f),
+            λ set g. (a.0, (up, omega arith), subst (λ (z : ChunkSet). Fits a.0 z.chunks) (some-same g) a.1.1),
+          ))
 
       starts-not : (cs : List ChunkPayloadData) → Every (λ c. c.unordered ≡ true) cs → starts_ordered cs ≡ false
       starts-not [] h = refl
@@ -424,7 +412,7 @@ module _ (p n : ℕ) (B : ℕ → ℕ) (Fits : ℕ → List ChunkPayloadData →
         where
           by : (us : List ChunkSet) → q.unordered ≡ us → Reads k reach q
           by [] is =
-              let f = at-front q.ordered refl in
+              let f = at-front in
               record {
                 after = f.0;
                 up = f.1.0;
