@@ -245,7 +245,8 @@ module _ (now : ℕ) (old new : Transmission) where
   dropped (Some (Abandoned gone)) run of any few tail late worn held none =
       by (expiring_tail now old.flight.queue) refl (late_tsns now old.flight.queue) refl
     where
-      by : (o : Option ChunkPayloadData) → expiring_tail now old.flight.queue ≡ o → (ts : List ℕ) → late_tsns now old.flight.queue ≡ ts → Gives (λ x. bytes_of_messages x gone.items) now old new
+      by : (o : Option ChunkPayloadData) → expiring_tail now old.flight.queue ≡ o → (ts : List ℕ) → late_tsns now old.flight.queue ≡ ts
+          → Gives (λ x. bytes_of_messages x gone.items) now old new
       by (Some c) is ts due =
           tail-dropped now old new gone.items c is (subst (λ o. IfSome o (λ d. TailGoes d old new gone.items)) is tail) held
       by None is [] due = one now (expires_rexmit gone.items) old new refl (held, ((worn is due).0, (tt, (worn is due).1)))

@@ -11,8 +11,8 @@ use Rattle.sctp_delivery.specs.SenderCalls as outgoing
 use Rattle.sctp_delivery.specs.SenderCalls.{abandons, sends, writes}
 use Rattle.sctp_delivery.specs.Session.{Call, RunsTo, of_sender}
 use Rattle.sctp_delivery.proofs.EndSessions.{all-end}
-use Rattle.sctp_delivery.proofs.Examples.{in_flight, lost, opened, opens, sends-one, start, writes-one, written}
-use Rattle.sctp_delivery.proofs.RoundExamples.{abandons-first, first_gone, two_written, writes-second}
+use Rattle.sctp_delivery.proofs.Examples.{in_flight, opened, opens, sends-one, start, writes-one, written}
+use Rattle.sctp_delivery.proofs.RoundExamples.{abandons-first, first_gone, two_written, writes-second, lost}
 
 abbrev calls : List Call
 calls =

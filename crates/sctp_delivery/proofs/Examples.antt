@@ -1,6 +1,6 @@
 -- Worked sessions, by computation: a message of one byte is written, sent, taken, read and acknowledged.
-use Rattle.std.proofs.Common.{◌≡◌, ℕ, ◌<◌, Bool, true, false, List, [], ◌∷◌, Some, None, refl, ap, arith, inl}
-use Rattle.std.specs.Prelude.{AllPairs, if◌then◌else◌, ◌==◌, ◌≤◌, ◌^◌, length}
+use Rattle.std.proofs.Common.{◌≡◌, ℕ, ◌<◌, true, false, List, [], ◌∷◌, Some, None, refl, ap, arith, inl, sym, ◌∙◌}
+use Rattle.std.specs.Prelude.{AllPairs, ◌==◌, ◌≤◌, ◌^◌, length, ◌+◌}
 use Rattle.std.specs.List.{filter, list_all}
 use Rattle.sctp_util.specs.Lists.{change_where}
 use Rattle.sctp_util.specs.Serial.{at_or_before, at_or_before16, comes_before, comes_before16, distance, distance16}
@@ -9,39 +9,104 @@ use Rattle.sctp_data.specs.declared.chunk.chunk_payload_data.ChunkPayloadData.{C
 use Rattle.sctp_data.specs.declared.chunk.chunk_payload_data.PayloadProtocolIdentifier.TheVariants.{Binary, Unknown}
 use Rattle.sctp_data.specs.declared.chunk.chunk_payload_data.ReliabilityType.TheVariants.{Reliable}
 use Rattle.sctp_data.specs.ChunkSet.{fresh}
-use Rattle.sctp_data.specs.ForwardTsn.{ForwardTsn}
 use Rattle.sctp_data.specs.PayloadData.{Data}
 use Rattle.sctp_data.specs.SelectiveAck.{Sack}
 use Rattle.sctp_outbound.specs.outbound_queue.OutboundQueue.{sent_next}
 use Rattle.sctp_receiver.specs.declared.receiver.arrival.Arrival.TheVariants.{New}
-use Rattle.sctp_receiver.specs.declared.receiver.refusal.ReceiverRefusal.TheVariants.{NamedStreamUnknown, StreamUnknown}
+use Rattle.sctp_receiver.specs.declared.receiver.refusal.ReceiverRefusal.TheVariants.{StreamUnknown}
+use Rattle.sctp_receiver.specs.declared.receiver.inbound_streams.InboundStream.{InboundStream}
 use Rattle.sctp_receiver.specs.Inbound as inbound
-use Rattle.sctp_receiver.specs.Skips.{skip_refusal}
 use Rattle.sctp_receiver.specs.Receiver as receiver
 use Rattle.sctp_receiver.specs.Receiver.{Reception}
 use Rattle.sctp_receiver.specs.TsnFilter.{has_come}
 use Rattle.sctp_reassembly.specs.reassembly_queue.ReassemblyQueue.{after_ordered_push}
-use Rattle.sctp_outbound.specs.pending_queue.PendingQueue.{last_of}
-use Rattle.sctp_sender.specs.declared.sender.flight.late.AbandonedMessage.{AbandonedMessage}
-use Rattle.sctp_sender.specs.declared.sender.flight.Released.{Released}
-use Rattle.sctp_sender.specs.Abandonment.{Name, named_up_to, pairs_of}
-use Rattle.sctp_sender.specs.Flight.{message_to_abandon, released_by}
-use Rattle.sctp_sender.specs.Sender.{Transmission, after_abandon, after_acked, open_stream, with_flight, with_nothing, written_to}
-use Rattle.sctp_sender.specs.SenderRuns.{held_by_sender}
+use Rattle.sctp_sender.specs.Flight.{released_by, next_after_send}
+use Rattle.sctp_sender.specs.Sender.{Transmission, after_acked, open_stream, with_flight, with_nothing, written_to, stream_of}
+use Rattle.sctp_sender.specs.SenderRuns.{held_by_sender, taken_back_by, written_by, released_by as bytes_released}
 use Rattle.sctp_sender.specs.Thresholds.{with_lows}
 use Rattle.sctp_stream.specs.Stream.{new_stream}
-use Rattle.sctp_receiver.specs.ReceiverRuns.{Message}
+use Rattle.sctp_stream.specs.declared.stream.StreamState.{StreamState}
+use Rattle.sctp_receiver.specs.ReceiverRuns.{Message, accepted_after, messages_after}
 use Rattle.sctp_delivery.specs.Complete.{fragments_held, holds_nothing, is_exhausted, is_reliable, is_settled, reads_nothing}
 use Rattle.sctp_delivery.specs.Ending.{CanEnd}
 use Rattle.sctp_delivery.specs.Order.{ordered_places}
 use Rattle.sctp_delivery.specs.ReceiverCalls as incoming
-use Rattle.sctp_delivery.specs.ReceiverCalls.{reads, reports, takes}
-use Rattle.sctp_delivery.specs.Refused.{IsInFlight, MayMake, is_due_named, is_takable}
+use Rattle.sctp_delivery.specs.ReceiverCalls.{reads, reports, takes, ReceiverCall, reports_after}
+use Rattle.sctp_delivery.specs.Refused.{IsInFlight, is_takable}
 use Rattle.sctp_delivery.specs.Sacks.{is_reported, reports_tsn, tsns_given, was_passed, was_taken}
 use Rattle.sctp_delivery.specs.SenderCalls as outgoing
-use Rattle.sctp_delivery.specs.SenderCalls.{Write, abandons, data_chunk, forward_tsn, forwards, made_after, sends, takes_sack, writes, written_after}
-use Rattle.sctp_delivery.specs.Session.{Call, ReceiverFollows, RunsTo, SenderFollows, Session, at_start, of_receiver, of_sender}
+use Rattle.sctp_delivery.specs.SenderCalls.{data_chunk, made_after, sends, takes_sack, writes, written_after, Answers, MakesExactly, SenderCall, Writes}
+use Rattle.sctp_delivery.specs.Session.{Call, ReceiverFollows, RunsTo, SenderFollows, Session, at_start, of_receiver, of_sender, IsReported, IsSent}
 use Rattle.sctp_delivery.proofs.Every.{all-of-every}
+use Rattle.sctp_sender.specs.SenderRuns as sender_runs
+use Rattle.sctp_receiver.specs.ReceiverRuns as receiver_runs
+
+-- ## Calls
+
+-- a session after a call of the sender by which this becomes of the sender
+abbrev pub sending : SenderCall → Transmission → Session → Session
+sending call t s = record {
+  sending = record {
+    sender = t;
+    written = s.sending.written + written_by (outgoing.as_run call);
+    released = s.sending.released + bytes_released (outgoing.as_run call);
+    taken_back = s.sending.taken_back + taken_back_by (outgoing.as_run call);
+  };
+  receiving = s.receiving;
+  made = made_after call s.sending.sender s.made;
+  sacks = s.sacks;
+  written = written_after call s.written;
+}
+
+pub by-sender : (call : SenderCall) (t : Transmission) (s : Session) → IsReported call s → sender_runs.Makes (outgoing.as_run call) s.sending.sender t
+    → MakesExactly call s.sending.sender t → outgoing.IsAccepted call s.sending.sender → Answers call s.sending.sender
+    → SenderFollows call s (sending call t s)
+by-sender call t s handed made exact accepted answered = record {
+  handed = handed;
+  step = record { sender = made; written = refl; released = refl; taken_back = refl };
+  exact = exact;
+  accepted = accepted;
+  answered = answered;
+  after = refl;
+}
+
+-- and after a call of the receiver
+abbrev pub receiving : ReceiverCall → Reception → Session → Session
+receiving call r s = record s {
+  receiving = record {
+    receiver = r;
+    accepted = accepted_after (incoming.as_run call) s.receiving.accepted;
+    read = messages_after (incoming.as_run call) s.receiving.receiver s.receiving.read;
+  };
+  sacks = reports_after call s.receiving.receiver s.sacks;
+}
+
+pub by-receiver : (call : ReceiverCall) (r : Reception) (s : Session) → IsSent call s → receiver_runs.Makes (incoming.as_run call) s.receiving.receiver r
+    → incoming.IsAccepted call s.receiving.receiver → ReceiverFollows call s (receiving call r s)
+by-receiver call r s handed made accepted =
+    record { handed = handed; step = record { receiver = made; accepted = refl; read = refl }; accepted = accepted; after = refl }
+
+-- a byte is written on a stream that is open
+pub writes-byte : (b : ℕ) (l : StreamState) (t : Transmission) → stream_of 1 t ≡ Some l
+    → Writes 1 Binary (b ∷ []) t (written_to l 1 Binary (b ∷ []) t)
+writes-byte b l t found = ((λ e. cc), λ p k e. ap (λ x. written_to x 1 Binary (b ∷ []) t) (some-same (sym found ∙ e)))
+
+-- the sender after `send_next`
+abbrev pub after_send : ℕ → Transmission → Transmission
+after_send now t = with_flight (record t.flight { queue = sent_next t.flight.queue t.flight.next_tsn now; next_tsn = next_after_send t.flight }) t
+
+-- a receiver that has this stream 1 alone, after a chunk that is complete and in turn
+abbrev pub after_chunk : ChunkPayloadData → InboundStream → Reception → Reception
+after_chunk c l r = receiver.with_filter (record (receiver.filter_of r) { cumulative_tsn = c.tsn })
+    (record r { streams = change_where (inbound.has_number 1) (inbound.with_queue (after_ordered_push c l.queue)) r.streams })
+
+-- a SACK of all TSNs up to this one
+abbrev pub sack_of : ℕ → Sack
+sack_of tsn = record { cumulative_tsn_ack = tsn; advertised_receiver_window_credit = 1000; gap_ack_blocks = []; duplicate_tsn = [] }
+
+-- the sender takes it
+abbrev pub acks : ℕ → Transmission → SenderCall
+acks tsn t = takes_sack (sack_of tsn) (with_lows (released_by (sack_of tsn) t.flight) t.streams)
 
 -- a sender of fragments of up to 1,200 bytes, with stream 1 open and one byte written
 abbrev pub waiting : Transmission
@@ -81,154 +146,84 @@ idle = refl
 abbrev pub start : Session
 start = at_start 10 1200 65536 65536 None
 
-abbrev pub sending : Transmission → Session → Session
-sending t s = record s { sending = record s.sending { sender = t } }
-
-abbrev pub receiving : Reception → Session → Session
-receiving r s = record s { receiving = record s.receiving { receiver = r } }
-
 abbrev pub opened : Session
-opened = sending (open_stream 1 start.sending.sender) start
+opened = sending (outgoing.opens 1) (open_stream 1 start.sending.sender) start
 
 pub opens : SenderFollows (outgoing.opens 1) start opened
-opens = record {
-  handed = tt;
-  step = record { sender = refl; written = refl; released = refl; taken_back = refl };
-  exact = tt;
-  accepted = refl;
-  answered = tt;
-  after = refl;
-}
-
-abbrev pub one_write : Write
-one_write = record { stream = 1; payload_type = Binary; bytes = 7 ∷ [] }
+opens = by-sender (outgoing.opens 1) opened.sending.sender start tt refl tt refl tt
 
 abbrev pub written : Session
-written = record opened { sending = record opened.sending { sender = waiting; written = 1 }; written = one_write ∷ [] }
+written = sending (writes 1 Binary (7 ∷ [])) waiting opened
 
 pub writes-one : SenderFollows (writes 1 Binary (7 ∷ [])) opened written
-writes-one = record {
-  handed = tt;
-  step = record { sender = refl; written = refl; released = refl; taken_back = refl };
-  exact = ((λ e. cc), λ p l e. ap (λ x. written_to x 1 Binary (7 ∷ []) opened.sending.sender) (some-same e));
-  accepted = refl;
-  answered = tt;
-  after = refl;
-}
+writes-one =
+    by-sender (writes 1 Binary (7 ∷ [])) waiting opened tt refl (writes-byte 7 (new_stream 1 1200 65536 Unknown) opened.sending.sender refl) refl tt
 
 abbrev pub in_flight : Session
-in_flight = record (sending (with_flight (record waiting.flight { queue = sent_next waiting.flight.queue 10 5; next_tsn = 11 }) waiting) written)
-    { made = data_chunk (first_chunk (7 ∷ [])) ∷ [] }
+in_flight = sending (sends 5) (after_send 5 waiting) written
 
 pub sends-one : SenderFollows (sends 5) written in_flight
-sends-one =
-    record {
-      handed = tt;
-      step = record { sender = refl; written = refl; released = refl; taken_back = refl };
-      exact = refl;
-      accepted = refl;
-      answered = tt;
-      after = refl;
-    }
+sends-one = by-sender (sends 5) (after_send 5 waiting) written tt refl refl refl tt
 
 -- the receiver opens the stream too
 abbrev both_open : Session
-both_open = receiving (receiver.open_stream 1 start.receiving.receiver) in_flight
+both_open = receiving (incoming.opens 1) (receiver.open_stream 1 start.receiving.receiver) in_flight
 
 opens-too : ReceiverFollows (incoming.opens 1) in_flight both_open
-opens-too = record { handed = tt; step = record { receiver = (refl, refl); accepted = refl; read = refl }; accepted = tt; after = refl }
+opens-too = by-receiver (incoming.opens 1) both_open.receiving.receiver in_flight tt (refl, refl) tt
 
 -- the chunk as reading its packet leaves it
-abbrev chunk : ChunkPayloadData
+abbrev pub chunk : ChunkPayloadData
 chunk = fresh (first_chunk (7 ∷ []))
 
 abbrev pub taken : Session
-taken =
-    let r = both_open.receiving.receiver in
-    record both_open {
-      receiving = record both_open.receiving {
-        receiver = receiver.with_filter (record (receiver.filter_of r) { cumulative_tsn = 10 }) (record r
-            { streams = change_where (inbound.has_number 1) (inbound.with_queue (after_ordered_push chunk (inbound.new_stream 1 65536).queue)) r.streams });
-        accepted = chunk ∷ [];
-      };
-    }
+taken = receiving (takes chunk (New true)) (after_chunk chunk (inbound.new_stream 1 65536) both_open.receiving.receiver) both_open
 
 takes-one : ReceiverFollows (takes chunk (New true)) both_open taken
 unfolding at_or_before at_or_before16 comes_before comes_before16 distance distance16
-takes-one = record {
-  handed = (0, omega arith, refl);
-  step = record {
-    receiver = record {
+takes-one =
+    by-receiver (takes chunk (New true)) taken.receiving.receiver both_open (0, omega arith, refl) (record {
       stream = inbound.new_stream 1 65536;
       found = refl;
       queue = after_ordered_push chunk (inbound.new_stream 1 65536).queue;
       pushed = (refl, refl);
       after = refl;
-    };
-    accepted = refl;
-    read = refl;
-  };
-  accepted = (refl, refl);
-  after = refl;
-}
+    }) (refl, refl)
 
 abbrev has_read : Session
-has_read = record taken {
-  receiving = record taken.receiving { receiver = receiver.after_read 1 taken.receiving.receiver; read = record { stream = 1; fragments = chunk ∷ [] } ∷ [] };
-}
+has_read = receiving (reads 1) (receiver.after_read 1 taken.receiving.receiver) taken
 
 reads-one : ReceiverFollows (reads 1) taken has_read
 unfolding at_or_before at_or_before16 comes_before comes_before16 distance distance16
-reads-one = record { handed = tt; step = record { receiver = refl; accepted = refl; read = refl }; accepted = refl; after = refl }
-
-abbrev one_sack : Sack
-one_sack = record { cumulative_tsn_ack = 10; advertised_receiver_window_credit = 1000; gap_ack_blocks = []; duplicate_tsn = [] }
+reads-one = by-receiver (reads 1) has_read.receiving.receiver taken tt refl refl
 
 abbrev pub reported : Session
-reported = record has_read { sacks = one_sack ∷ [] }
+reported = receiving (reports 1000) has_read.receiving.receiver has_read
 
 reports-one : ReceiverFollows (reports 1000) has_read reported
-reports-one = record { handed = tt; step = record { receiver = refl; accepted = refl; read = refl }; accepted = tt; after = refl }
-
-abbrev pub gone : List Released
-gone = with_lows (released_by one_sack in_flight.sending.sender.flight) in_flight.sending.sender.streams
+reports-one = by-receiver (reports 1000) has_read.receiving.receiver has_read tt refl tt
 
 abbrev pub acknowledged : Session
-acknowledged = record reported { sending = record reported.sending { sender = after_acked one_sack in_flight.sending.sender; released = 1 } }
+acknowledged = sending (acks 10 in_flight.sending.sender) (after_acked (sack_of 10) in_flight.sending.sender) reported
 
-takes-sack : SenderFollows (takes_sack one_sack gone) reported acknowledged
+takes-sack : SenderFollows (acks 10 in_flight.sending.sender) reported acknowledged
 unfolding at_or_before at_or_before16 comes_before comes_before16 distance distance16
-takes-sack = record {
-  handed = (0, omega arith, refl);
-  step = record { sender = refl; written = refl; released = refl; taken_back = refl };
-  exact = refl;
-  accepted = refl;
-  answered = refl;
-  after = refl;
-}
+takes-sack = by-sender (acks 10 in_flight.sending.sender) acknowledged.sending.sender reported (0, omega arith, refl) refl refl refl refl
 
-abbrev pub calls : List Call
-calls =
-    of_sender (outgoing.opens 1) ∷ of_sender (writes 1 Binary (7 ∷ [])) ∷ of_sender (sends 5) ∷ of_receiver (incoming.opens 1)
-    ∷ of_receiver (takes chunk (New true)) ∷ of_receiver (reads 1) ∷ of_receiver (reports 1000) ∷ of_sender (takes_sack one_sack gone) ∷ []
+-- what follows the sending
+abbrev rest : List Call
+rest =
+    of_receiver (incoming.opens 1) ∷ of_receiver (takes chunk (New true)) ∷ of_receiver (reads 1) ∷ of_receiver (reports 1000)
+    ∷ of_sender (acks 10 in_flight.sending.sender) ∷ []
+
+abbrev goes-on : RunsTo in_flight rest acknowledged
+goes-on = (both_open, (opens-too, (taken, (takes-one, (has_read, (reads-one, (reported, (reports-one, (acknowledged, (takes-sack, refl))))))))))
+
+abbrev calls : List Call
+calls = of_sender (outgoing.opens 1) ∷ of_sender (writes 1 Binary (7 ∷ [])) ∷ of_sender (sends 5) ∷ rest
 
 abbrev session : RunsTo start calls acknowledged
-session = (
-  opened,
-  (
-    opens,
-    (
-      written,
-      (
-        writes-one,
-        (
-          in_flight,
-          (sends-one, (both_open, (opens-too, (taken, (takes-one, (has_read, (reads-one, (reported, (reports-one, (acknowledged, (takes-sack, refl))))))))))),
-        ),
-      ),
-    ),
-  ),
-)
+session = (opened, (opens, (written, (writes-one, (in_flight, (sends-one, goes-on))))))
 
 -- nothing is held any more
 drained : held_by_sender acknowledged.sending.sender ≡ 0
@@ -274,11 +269,11 @@ unfolding at_or_before at_or_before16 comes_before comes_before16 distance dista
 given = refl
 
 -- the SACK reports it, and not the next one
-tells : reports_tsn 10 one_sack ≡ true
+tells : reports_tsn 10 (sack_of 10) ≡ true
 unfolding at_or_before distance
 tells = refl
 
-no-more : reports_tsn 11 one_sack ≡ false
+no-more : reports_tsn 11 (sack_of 10) ≡ false
 unfolding at_or_before distance
 no-more = refl
 
@@ -296,63 +291,6 @@ in-flight-yet = refl
 is-reported : is_reported reported chunk ≡ true
 unfolding at_or_before distance
 is-reported = refl
-
--- ## A message is abandoned
-
-abbrev pub lost : AbandonedMessage
-lost = record { stream = 1; number = 0; bytes = 1; is_low = true }
-
-abbrev pub abandoned_one : Session
-abandoned_one = record in_flight {
-  sending =
-      record in_flight.sending { sender = after_abandon (message_to_abandon 10 in_flight.sending.sender.flight) 1 1 in_flight.sending.sender; released = 1 };
-}
-
-pub abandons-one : SenderFollows (abandons 10 lost) in_flight abandoned_one
-abandons-one =
-    record {
-      handed = tt;
-      step = record { sender = refl; written = refl; released = refl; taken_back = refl };
-      exact = refl;
-      accepted = refl;
-      answered = (refl, refl);
-      after = refl;
-    }
-
-abbrev pub skip : ForwardTsn
-skip = record { new_cumulative_tsn = 10; streams = record { identifier = 1; sequence = 0 } ∷ [] }
-
-abbrev pub skipped : Session
-skipped = record abandoned_one { made = forward_tsn skip ∷ abandoned_one.made }
-
--- it names the message of stream 1, and none of another
-names : Name skip.streams (named_up_to 10 abandoned_one.sending.sender.flight)
-unfolding distance
-names s = by (1 == s)
-  where
-    by : (b : Bool) → (if b then skip.streams else []) ≡ pairs_of (last_of (if b then named_up_to 10 abandoned_one.sending.sender.flight else []))
-    by true = refl
-    by false = refl
-
-pub makes-skip : SenderFollows (forwards 10 skip) abandoned_one skipped
-unfolding at_or_before comes_before distance
-makes-skip = record {
-  handed = tt;
-  step = record { sender = refl; written = refl; released = refl; taken_back = refl };
-  exact = refl;
-  accepted = (refl, names);
-  answered = tt;
-  after = refl;
-}
-
--- its chunk is passed, and abandoned
-passed : was_passed 10 skipped ≡ true
-unfolding at_or_before distance
-passed = refl
-
-pub abandoned : skipped.sending.sender.flight.queue.inflight.chunks
-    ≡ record chunk { since = Some 5; nsent = 1; reliability = Some (Reliable, 0); abandoned = true; user_data = [] } ∷ []
-abandoned = refl
 
 -- ## The order of what is read
 
@@ -406,36 +344,15 @@ not-due : is_takable chunk taken.receiving.receiver ≡ false
 unfolding at_or_before at_or_before16 comes_before comes_before16 distance distance16
 not-due = refl
 
--- the FORWARD-TSN may be made, and is not refused where stream 1 is open and nothing is to be read there
-may-make : MayMake skip abandoned_one.sending.sender
-unfolding at_or_before comes_before distance
-may-make = inl (10, (refl, names))
-
-due-there : is_due_named skip both_open.receiving.receiver ≡ true
-due-there = refl
-
-skip-taken : skip_refusal skip both_open.receiving.receiver ≡ None
-unfolding at_or_before at_or_before16 comes_before comes_before16 distance distance16
-skip-taken = refl
-
-skip-refused : skip_refusal skip in_flight.receiving.receiver ≡ Some NamedStreamUnknown
-unfolding at_or_before comes_before distance
-skip-refused = refl
-
 -- ## A session that ends
 
 -- from the write on these calls end it
 ends : CanEnd 5 [] written
 unfolding at_or_before at_or_before16 comes_before comes_before16 distance distance16
 ends = record {
-  calls =
-      of_sender (sends 5) ∷ of_receiver (incoming.opens 1) ∷ of_receiver (takes chunk (New true)) ∷ of_receiver (reads 1) ∷ of_receiver (reports 1000)
-      ∷ of_sender (takes_sack one_sack gone) ∷ [];
+  calls = of_sender (sends 5) ∷ rest;
   ended = acknowledged;
-  run = (
-    in_flight,
-    (sends-one, (both_open, (opens-too, (taken, (takes-one, (has_read, (reads-one, (reported, (reports-one, (acknowledged, (takes-sack, refl))))))))))),
-  );
+  run = (in_flight, (sends-one, goes-on));
   delivery = refl;
   given = refl;
   written = refl;

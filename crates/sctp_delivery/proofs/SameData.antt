@@ -69,6 +69,20 @@ same-itself d =
     (and _ _ (same-flags d.unordered) (and _ _ (same-flags d.beginning_fragment) (and _ _ (same-flags d.ending_fragment)
     (and _ _ (same-flags d.immediate_sack) (and _ _ (same-yes (payload_type_number d.payload_type)) (same-bytes d.user_data))))))))
 
+-- the data by its fields
+abbrev all_of : Data → Data
+all_of x = record {
+  unordered = x.unordered;
+  beginning_fragment = x.beginning_fragment;
+  ending_fragment = x.ending_fragment;
+  immediate_sack = x.immediate_sack;
+  tsn = x.tsn;
+  stream_identifier = x.stream_identifier;
+  stream_sequence_number = x.stream_sequence_number;
+  payload_type = x.payload_type;
+  user_data = x.user_data;
+}
+
 pub same-data : (x y : Data) → is_same x y ≡ true → x ≡ y
 same-data x y e =
     let a = both _ _ e in
@@ -88,44 +102,5 @@ same-data x y e =
     let at_once = flags-same x.immediate_sack y.immediate_sack h.0 in
     let types = types-same x.payload_type y.payload_type i.0 in
     let bytes = bytes-same x.user_data y.user_data i.1 in
-    ap (λ v. record x { unordered = v }) unordered
-    ∙ (ap (λ v. record x { unordered = y.unordered; beginning_fragment = v }) begins
-    ∙ (ap (λ v. record x { unordered = y.unordered; beginning_fragment = y.beginning_fragment; ending_fragment = v }) ends
-    ∙ (ap (λ v. record x { unordered = y.unordered; beginning_fragment = y.beginning_fragment; ending_fragment = y.ending_fragment; immediate_sack = v })
-    at_once ∙ (ap (λ v. record x
-    { unordered = y.unordered; beginning_fragment = y.beginning_fragment; ending_fragment = y.ending_fragment; immediate_sack = y.immediate_sack; tsn = v })
-    tsns ∙ (ap (λ v. record x {
-      unordered = y.unordered;
-      beginning_fragment = y.beginning_fragment;
-      ending_fragment = y.ending_fragment;
-      immediate_sack = y.immediate_sack;
-      tsn = y.tsn;
-      stream_identifier = v;
-    }) streams ∙ (ap (λ v. record x {
-      unordered = y.unordered;
-      beginning_fragment = y.beginning_fragment;
-      ending_fragment = y.ending_fragment;
-      immediate_sack = y.immediate_sack;
-      tsn = y.tsn;
-      stream_identifier = y.stream_identifier;
-      stream_sequence_number = v;
-    }) numbers ∙ (ap (λ v. record x {
-      unordered = y.unordered;
-      beginning_fragment = y.beginning_fragment;
-      ending_fragment = y.ending_fragment;
-      immediate_sack = y.immediate_sack;
-      tsn = y.tsn;
-      stream_identifier = y.stream_identifier;
-      stream_sequence_number = y.stream_sequence_number;
-      payload_type = v;
-    }) types ∙ (ap (λ v. record x {
-      unordered = y.unordered;
-      beginning_fragment = y.beginning_fragment;
-      ending_fragment = y.ending_fragment;
-      immediate_sack = y.immediate_sack;
-      tsn = y.tsn;
-      stream_identifier = y.stream_identifier;
-      stream_sequence_number = y.stream_sequence_number;
-      payload_type = y.payload_type;
-      user_data = v;
-    }) bytes))))))))
+    let it : all_of x ≡ all_of y = cc in
+    it
