@@ -1,20 +1,21 @@
--- A script played by the definitions: the answer to each event in the record reached so far, and what is shown of that record.
+-- A script played by the definitions: the answer to each event in the record reached so far, and what is shown of the last record.
 use Rattle.std.proofs.Common.{◌≡◌, refl}
 use Rattle.std.specs.Prelude.{ℕ, Bool, true, false, ◌&&◌, List, [], ◌∷◌, length, map, Option, Some, None, is_none, unwrap_or}
 use Rattle.sctp_util.proofs.More.{both}
 use Rattle.sctp_model.specs.declared.event.Event.{Event}
+use Rattle.sctp_model.specs.declared.event.Event.TheVariants.{Read}
 use Rattle.sctp_data.specs.declared.chunk.chunk_payload_data.PayloadProtocolIdentifier.{PayloadProtocolIdentifier}
 use Rattle.sctp_data.specs.declared.chunk.chunk_payload_data.ChunkPayloadData.{ChunkPayloadData}
 use Rattle.sctp_data.specs.ChunkSet.{ChunkSet, fresh}
 use Rattle.sctp_model.specs.Reply.{Reply}
 use Rattle.sctp_model.specs.Reply as R
 use Rattle.sctp_model.specs.declared.event.LinkRefusal.{LinkRefusal}
-use Rattle.sctp_model.specs.LinkRecord.{Setup, StreamRecord, Datagram, LinkRecord, Forward}
+use Rattle.sctp_model.specs.LinkRecord.{Setup, StreamRecord, Datagram, LinkRecord, Forward, start}
 use Rattle.sctp_model.specs.Messages
 use Rattle.sctp_model.specs.Changes
 use Rattle.sctp_model.specs.Steps
 use Rattle.sctp_model.specs.Steps.{History, IsRun}
-use Rattle.sctp_model.specs.Amounts.{buffered_amount, Counters, counters_of}
+use Rattle.sctp_model.specs.Amounts.{Ledger, ledger, buffered_amount, Counters, counters_of}
 use Rattle.sctp_model.specs.Contents.{Contents, contents_of}
 use Rattle.sctp_model.specs.Queues.{PendingFragment, pending_of, InFlightChunk, in_flight_of, filter_of, reassembly_of}
 
@@ -51,30 +52,65 @@ chunk tsn stream ssn ppi bytes begins ends unordered =
       user_data = bytes;
     })
 
-abbrev pub answer : Option LinkRefusal → Reply → Answer
+abbrev answer : Option LinkRefusal → Reply → Answer
 answer None reply = replied reply
 answer (Some refusal) reply = Refused refusal
 
-abbrev pub moved : Option LinkRefusal → LinkRecord → LinkRecord → LinkRecord
+abbrev moved : Option LinkRefusal → LinkRecord → LinkRecord → LinkRecord
 moved None old new = new
 moved (Some refusal) old new = old
 
-abbrev pub answer_to : LinkRecord → Asked → Answer
+abbrev answer_to : LinkRecord → Asked → Answer
 answer_to w (Ask e) = answer (Steps.refusal_of w e) (Steps.reply_to w e)
 answer_to w (AskSkip upto messages) = answer (Steps.skip_refusal w (Messages.place_of w upto) messages) (R.Skip (length w.network))
 
-abbrev pub next : LinkRecord → Asked → LinkRecord
+abbrev next : LinkRecord → Asked → LinkRecord
 next w (Ask e) = moved (Steps.refusal_of w e) w (Steps.after w e)
 next w (AskSkip upto messages) =
     moved (Steps.skip_refusal w (Messages.place_of w upto) messages) w (Changes.with_datagram w (Forward (Messages.place_of w upto) messages))
 
-abbrev pub play : LinkRecord → List Asked → List Answer
+abbrev play : LinkRecord → List Asked → List Answer
 play w [] = []
 play w (e ∷ es) = answer_to w e ∷ play (next w e) es
 
 abbrev pub played : LinkRecord → List Asked → LinkRecord
 played w [] = w
 played w (e ∷ es) = played (next w e) es
+
+-- ## Steps of a script
+
+abbrev pub link : ℕ → ℕ → ℕ → ℕ → LinkRecord
+link first size largest limit = start (record { first = first; size = size; largest = largest; limit = limit })
+
+pub record Step : Type 0 where
+  pub asked : Asked
+  pub told : Answer
+
+infix 70 ◌⇒◌
+abbrev pub ◌⇒◌ : Event → Reply → Step
+event ⇒ reply = record { asked = Ask event; told = Replied reply }
+
+-- it is refused
+infix 70 ◌⇏◌
+abbrev pub ◌⇏◌ : Event → LinkRefusal → Step
+event ⇏ refusal = record { asked = Ask event; told = Refused refusal }
+
+-- a read of this stream hands out a message
+abbrev pub hands : ℕ → PayloadProtocolIdentifier → List (List ℕ) → Step
+hands stream ppi pieces = record { asked = Ask (Read stream); told = Handed stream ppi pieces }
+
+-- a Skip makes this datagram
+abbrev pub skips : ℕ → List ℕ → ℕ → Step
+skips upto messages datagram = record { asked = AskSkip upto messages; told = Replied (R.Skip datagram) }
+
+abbrev pub skips_not : ℕ → List ℕ → LinkRefusal → Step
+skips_not upto messages refusal = record { asked = AskSkip upto messages; told = Refused refusal }
+
+abbrev asked_in : Step → Asked
+asked_in step = step.asked
+
+abbrev answer_in : Step → Answer
+answer_in step = step.told
 
 -- ## Histories
 
@@ -102,45 +138,26 @@ answered-run setup (x ∷ xs) h e run =
 
 -- ## What is shown of the record in the end
 
-abbrev pub contents_from : LinkRecord → List Datagram → List Contents
-contents_from w [] = []
-contents_from w (d ∷ ds) = contents_of w d ∷ contents_from w ds
-
-abbrev pub contents : LinkRecord → List Contents
-contents w = contents_from w w.network
-
-abbrev pub numbers_of : Option Counters → List ℕ
+abbrev numbers_of : Option Counters → List ℕ
 numbers_of None = []
 numbers_of (Some c) = c.messages_sent ∷ c.bytes_sent ∷ c.messages_received ∷ c.bytes_received ∷ []
 
-abbrev pub stream_shown : LinkRecord → StreamRecord → ℕ × ℕ × List ℕ
+abbrev stream_shown : LinkRecord → StreamRecord → ℕ × ℕ × List ℕ
 stream_shown w r = (r.stream, unwrap_or (buffered_amount w r.stream) 0, numbers_of (counters_of w r.stream))
 
-abbrev pub streams_shown : LinkRecord → List (ℕ × ℕ × List ℕ)
-streams_shown w = map (stream_shown w) w.streams
-
-abbrev pub pending_shown : PendingFragment → ℕ × List ℕ
+abbrev pending_shown : PendingFragment → ℕ × List ℕ
 pending_shown f = (f.message, f.fragment.user_data)
 
-abbrev pub flight_shown : InFlightChunk → ℕ × List ℕ
+abbrev flight_shown : InFlightChunk → ℕ × List ℕ
 flight_shown c = (c.tsn, c.payload)
 
-abbrev pub queues_shown : LinkRecord → List (ℕ × List ℕ) × List (ℕ × List ℕ) × List (ℕ × List ℕ) × List ℕ × List ℕ
-queues_shown w = (
-  map pending_shown (pending_of w).ordered,
-  map pending_shown (pending_of w).unordered,
-  map flight_shown (in_flight_of w),
-  (filter_of w).held,
-  (filter_of w).duplicates,
-)
-
-abbrev pub tsn_shown : ChunkPayloadData → ℕ
+abbrev tsn_shown : ChunkPayloadData → ℕ
 tsn_shown c = c.tsn
 
-abbrev pub set_shown : ChunkSet → List ℕ
+abbrev set_shown : ChunkSet → List ℕ
 set_shown x = map tsn_shown x.chunks
 
-abbrev pub stream_reassembly : LinkRecord → StreamRecord → ℕ × List (List ℕ) × List (List ℕ) × List ℕ
+abbrev stream_reassembly : LinkRecord → StreamRecord → ℕ × List (List ℕ) × List (List ℕ) × List ℕ
 stream_reassembly w r = (
   (reassembly_of w r.stream).next_ssn,
   map set_shown (reassembly_of w r.stream).ordered,
@@ -148,5 +165,44 @@ stream_reassembly w r = (
   map tsn_shown (reassembly_of w r.stream).unassembled,
 )
 
-abbrev pub reassembly_shown : LinkRecord → List (ℕ × List (List ℕ) × List (List ℕ) × List ℕ)
-reassembly_shown w = map (stream_reassembly w) w.streams
+-- what is shown of a record; `ordered` and `unordered` are pending, `held` and `duplicates` the receiver's
+pub record Outcome : Type 0 where
+  pub ledger : Ledger
+  pub contents : List Contents
+  pub streams : List (ℕ × ℕ × List ℕ)
+  pub ordered : List (ℕ × List ℕ)
+  pub unordered : List (ℕ × List ℕ)
+  pub in_flight : List (ℕ × List ℕ)
+  pub held : List ℕ
+  pub duplicates : List ℕ
+  pub reassembly : List (ℕ × List (List ℕ) × List (List ℕ) × List ℕ)
+
+abbrev outcome : LinkRecord → Outcome
+outcome w = record {
+  ledger = ledger w;
+  contents = map (contents_of w) w.network;
+  streams = map (stream_shown w) w.streams;
+  ordered = map pending_shown (pending_of w).ordered;
+  unordered = map pending_shown (pending_of w).unordered;
+  in_flight = map flight_shown (in_flight_of w);
+  held = (filter_of w).held;
+  duplicates = (filter_of w).duplicates;
+  reassembly = map (stream_reassembly w) w.streams;
+}
+
+abbrev pub nothing : Outcome
+nothing = record {
+  ledger = record { written = 0; pending = 0; in_flight = 0; released = 0 };
+  contents = [];
+  streams = [];
+  ordered = [];
+  unordered = [];
+  in_flight = [];
+  held = [];
+  duplicates = [];
+  reassembly = [];
+}
+
+-- the events have these answers, and this is shown in the end
+abbrev pub Plays : LinkRecord → List Step → Outcome → Type 0
+Plays w steps end = (play w (map asked_in steps) ≡ map answer_in steps) × (outcome (played w (map asked_in steps)) ≡ end)
