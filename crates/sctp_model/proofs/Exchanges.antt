@@ -402,7 +402,6 @@ fits setup x = nat_lt 0 (Log.length_shown x) && nat_le (Log.length_shown x) setu
 
 writes-fit : (setup : Setup) (h : History) → IsRun setup h → list_all (fits setup) (Log.writes_in h) ≡ true
 writes-fit setup [] run = refl
-writes-fit setup ((E.Write s ppi [], r) ∷ older) run = writes-fit setup older run.1.1
 writes-fit setup ((E.Write s ppi (b ∷ bs), r) ∷ older) run =
     let w = record_of setup older in
     let open' = unless-holds (Messages.is_open w s) StreamUnknown
@@ -414,20 +413,7 @@ writes-fit setup ((E.Write s ppi (b ∷ bs), r) ∷ older) run =
     all-snoc (fits setup) (Log.writes_in older) (s, ppi, b ∷ bs) (writes-fit setup older run.1.1)
     (and (nat_lt 0 (length (b ∷ bs))) (nat_le (length (b ∷ bs)) setup.largest) (grind (arith, nat_tests))
     (ap (λ t. nat_le (length (b ∷ bs)) t.largest) (sym (consistent-run setup older run.1.1).setup_is) ∙ short))
-writes-fit setup ((E.Open s, r) ∷ older) run = writes-fit setup older run.1.1
-writes-fit setup ((E.Mode s u v x, r) ∷ older) run = writes-fit setup older run.1.1
-writes-fit setup ((E.Start x, r) ∷ older) run = writes-fit setup older run.1.1
-writes-fit setup ((E.Send x, r) ∷ older) run = writes-fit setup older run.1.1
-writes-fit setup ((E.Resend x, r) ∷ older) run = writes-fit setup older run.1.1
-writes-fit setup ((E.Expire x, r) ∷ older) run = writes-fit setup older run.1.1
-writes-fit setup ((E.Tail x, r) ∷ older) run = writes-fit setup older run.1.1
-writes-fit setup ((E.Late x, r) ∷ older) run = writes-fit setup older run.1.1
-writes-fit setup ((E.Abandon x, r) ∷ older) run = writes-fit setup older run.1.1
-writes-fit setup ((E.Skip x y, r) ∷ older) run = writes-fit setup older run.1.1
-writes-fit setup ((E.Ack x, r) ∷ older) run = writes-fit setup older run.1.1
-writes-fit setup ((E.Arrive x, r) ∷ older) run = writes-fit setup older run.1.1
-writes-fit setup ((E.Acked x, r) ∷ older) run = writes-fit setup older run.1.1
-writes-fit setup ((E.Read x, r) ∷ older) run = writes-fit setup older run.1.1
+writes-fit setup ((event, r) ∷ older) run = writes-fit setup older run.1.1
 
 pub messages_are_bounded : OnEveryRun Exchanges.MessagesAreBounded
 messages_are_bounded setup h is run n lt =
@@ -466,10 +452,7 @@ few-after w (E.Skip upto names) ok e =
 few-after w (E.Send now) ok e = few-sent w now (Messages.front w) e
 few-after w (E.Resend tsn) ok e = all-snoc few w.network (Data (Messages.place_of w tsn ∷ [])) e refl
 few-after w (E.Ack credit) ok e = all-snoc few w.network (Sack (report_of w credit)) e refl
-few-after w (E.Open s) ok e = e
-few-after w (E.Mode s u v x) ok e = e
 few-after w (E.Write s ppi bytes) ok e = ap (list_all few) (network-written w s ppi bytes) ∙ e
-few-after w (E.Start now) ok e = e
 few-after w (E.Expire now) ok e = ap (list_all few) (network-expired w (Changes.expiring w now)) ∙ e
 few-after w (E.Tail now) ok e = ap (list_all few) (network-tail w (Changes.tailing w now)) ∙ e
 few-after w (E.Late now) ok e = ap (list_all few) (network-late (Changes.late_messages w now) w) ∙ e
@@ -477,6 +460,7 @@ few-after w (E.Abandon tsn) ok e = ap (list_all few) (network-abandoned w (Messa
 few-after w (E.Arrive k) ok e = ap (list_all few) (same-received w (slice_get w.network k)).network ∙ e
 few-after w (E.Acked k) ok e = ap (list_all few) (same-taken w (slice_get w.network k)).network ∙ e
 few-after w (E.Read s) ok e = ap (list_all few) (same-read w s (next_read w s)).network ∙ e
+few-after w event ok e = e
 
 few-run : (setup : Setup) (h : History) → IsRun setup h → list_all few (record_of setup h).network ≡ true
 few-run setup [] run = refl

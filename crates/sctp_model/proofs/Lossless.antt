@@ -38,9 +38,6 @@ alive-sent w now (Some m) a = λ n lt.
     (ap (λ ms. (slice_index_or ms n Messages.no_message).expired) e ∙ b.0, ap (λ ms. (slice_index_or ms n Messages.no_message).abandoned) e ∙ b.1)
 
 alive-after : (w : LinkRecord) (e : Event) → loses_nothing e ≡ true → AllAlive (shape w) → AllAlive (shape (after w e))
-alive-after w (E.Open s) k a = a
-alive-after w (E.Mode s u v x) k a = a
-alive-after w (E.Write s ppi []) k a = a
 alive-after w (E.Write s ppi (b ∷ bs)) k a =
     let m = message_part (written_as w s ppi (b ∷ bs)) in
     subst AllAlive (sym (Shapes.shape-written w (written_as w s ppi (b ∷ bs))))
@@ -50,16 +47,15 @@ alive-after w (E.Write s ppi (b ∷ bs)) k a =
     (ap (λ y. y.expired) e, ap (λ y. y.abandoned) e)))
 alive-after w (E.Start now) k a = alive-sent w now None a
 alive-after w (E.Send now) k a = alive-sent w now (Messages.front w) a
-alive-after w (E.Resend x) k a = a
 alive-after w (E.Expire now) k a = cc
 alive-after w (E.Tail now) k a = cc
 alive-after w (E.Late now) k a = cc
 alive-after w (E.Abandon tsn) k a = cc
 alive-after w (E.Skip upto names) k a = cc
-alive-after w (E.Ack credit) k a = a
 alive-after w (E.Arrive x) k a = subst AllAlive (sym (Network.same-received w (slice_get w.network x)).shape_is) a
 alive-after w (E.Acked x) k a = subst AllAlive (sym (Network.same-taken w (slice_get w.network x)).shape_is) a
 alive-after w (E.Read s) k a = subst AllAlive (sym (Network.same-read w s (next_read w s)).shape_is) a
+alive-after w event k a = a
 
 abbrev pub Lossless : History → Type 0
 Lossless h = list_all (λ entry. loses_nothing entry.0) h ≡ true
@@ -111,20 +107,8 @@ none-sent setup now R.Nothing = refl
 
 none-made : (setup : Setup) (e : Event) (r : Reply) → loses_nothing e ≡ true → list_any is_forward (made_by setup e r) ≡ false
 none-made setup (E.Send now) r k = none-sent setup now r
-none-made setup (E.Resend tsn) r k = refl
 none-made setup (E.Skip upto names) r k = cc
-none-made setup (E.Ack credit) r k = refl
-none-made setup (E.Open s) r k = refl
-none-made setup (E.Mode s a b c) r k = refl
-none-made setup (E.Write s a b) r k = refl
-none-made setup (E.Start a) r k = refl
-none-made setup (E.Expire a) r k = refl
-none-made setup (E.Tail a) r k = refl
-none-made setup (E.Late a) r k = refl
-none-made setup (E.Abandon a) r k = refl
-none-made setup (E.Arrive a) r k = refl
-none-made setup (E.Acked a) r k = refl
-none-made setup (E.Read a) r k = refl
+none-made setup event r k = refl
 
 none-forward : (setup : Setup) (h : History) → Lossless h → list_any is_forward (made_in setup h) ≡ false
 none-forward setup [] l = refl
@@ -162,20 +146,7 @@ no-skips setup ((e, r) ∷ older) l = let a = both (loses_nothing e) (list_all (
     step : (e : Event) → list_any is_skip (log_of setup older) ≡ false → Lossless older → list_any is_skip (log_of setup ((e, r) ∷ older)) ≡ false
     step (E.Arrive k) h l =
         skips-received (slice_get (made_in setup older) k) (log_of setup older) (λ d e. not-at (made_in setup older) k d (none-forward setup older l) e) h
-    step (E.Ack credit) h l = h
-    step (E.Open s) h l = h
-    step (E.Mode s a b c) h l = h
-    step (E.Write s a b) h l = h
-    step (E.Start a) h l = h
-    step (E.Send a) h l = h
-    step (E.Resend a) h l = h
-    step (E.Expire a) h l = h
-    step (E.Tail a) h l = h
-    step (E.Late a) h l = h
-    step (E.Abandon a) h l = h
-    step (E.Skip a b) h l = h
-    step (E.Acked a) h l = h
-    step (E.Read a) h l = h
+    step event h l = h
 
 pub none-named : (w : LinkRecord) (s : ℕ) (log : List LogEntry) → list_any is_skip log ≡ false → named_by w s log ≡ 0
 none-named w s [] e = refl

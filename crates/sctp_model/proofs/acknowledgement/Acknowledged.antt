@@ -160,20 +160,7 @@ seen-received (Some MadeSack) log p e = e
 pub seen-stays : (setup : Setup) (older : History) (event : Event) (r : Reply) (p : ℕ) → is_seen (log_of setup older) p ≡ true
     → is_seen (log_of setup ((event, r) ∷ older)) p ≡ true
 seen-stays setup older (E.Arrive k) r p e = seen-received (slice_get (made_in setup older) k) (log_of setup older) p e
-seen-stays setup older (E.Open s) r p e = e
-seen-stays setup older (E.Mode s u v x) r p e = e
-seen-stays setup older (E.Write s x y) r p e = e
-seen-stays setup older (E.Start x) r p e = e
-seen-stays setup older (E.Send x) r p e = e
-seen-stays setup older (E.Resend x) r p e = e
-seen-stays setup older (E.Expire x) r p e = e
-seen-stays setup older (E.Tail x) r p e = e
-seen-stays setup older (E.Late x) r p e = e
-seen-stays setup older (E.Abandon x) r p e = e
-seen-stays setup older (E.Skip x y) r p e = e
-seen-stays setup older (E.Ack x) r p e = e
-seen-stays setup older (E.Acked x) r p e = e
-seen-stays setup older (E.Read x) r p e = e
+seen-stays setup older event r p e = e
 
 -- ## The invariant
 
@@ -214,10 +201,7 @@ sacks-sent log w now (Some n) f =
 
 sacks-after : (setup : Setup) (older : History) (e : Event) (log : List LogEntry) → ((p : ℕ) → seen_by (record_of setup older) p ≡ true → is_seen log p ≡ true)
     → SacksFit log (record_of setup older).network → SacksFit log (after (record_of setup older) e).network
-sacks-after setup older (E.Open s) log h f = f
-sacks-after setup older (E.Mode s u v x) log h f = f
 sacks-after setup older (E.Write s x y) log h f = subst (SacksFit log) (sym (Network.network-written (record_of setup older) s x y)) f
-sacks-after setup older (E.Start x) log h f = f
 sacks-after setup older (E.Send now) log h f = sacks-sent log (record_of setup older) now (Messages.front (record_of setup older)) f
 sacks-after setup older (E.Resend tsn) log h f =
     sacks-append log (record_of setup older).network (Data (Messages.place_of (record_of setup older) tsn ∷ []) ∷ []) f (tt, tt)
@@ -239,6 +223,7 @@ sacks-after setup older (E.Acked k) log h f =
     subst (SacksFit log) (sym (Network.same-taken (record_of setup older) (slice_get (record_of setup older).network k)).network) f
 sacks-after setup older (E.Read s) log h f =
     subst (SacksFit log) (sym (Network.same-read (record_of setup older) s (next_read (record_of setup older) s)).network) f
+sacks-after setup older event log h f = f
 
 pub sacks-run : (setup : Setup) (h : History) → IsSetup setup → IsRun setup h → SacksFit (log_of setup h) (record_of setup h).network
 sacks-run setup [] is run = tt
@@ -268,19 +253,7 @@ seen-acknowledged setup ((E.Acked k, r) ∷ older) p is run e = step (slice_get 
     step o f (inl h) ih = ih h
     step o f (inr h) ih = new (slice_get (record_of setup older).network k) refl h
 seen-acknowledged setup ((E.Arrive k, r) ∷ older) p is run e = seen-stays setup older (E.Arrive k) r p (seen-acknowledged setup older p is run.1.1 e)
-seen-acknowledged setup ((E.Open s, r) ∷ older) p is run e = seen-acknowledged setup older p is run.1.1 e
-seen-acknowledged setup ((E.Mode s u v x, r) ∷ older) p is run e = seen-acknowledged setup older p is run.1.1 e
-seen-acknowledged setup ((E.Write s x y, r) ∷ older) p is run e = seen-acknowledged setup older p is run.1.1 e
-seen-acknowledged setup ((E.Start x, r) ∷ older) p is run e = seen-acknowledged setup older p is run.1.1 e
-seen-acknowledged setup ((E.Send x, r) ∷ older) p is run e = seen-acknowledged setup older p is run.1.1 e
-seen-acknowledged setup ((E.Resend x, r) ∷ older) p is run e = seen-acknowledged setup older p is run.1.1 e
-seen-acknowledged setup ((E.Expire x, r) ∷ older) p is run e = seen-acknowledged setup older p is run.1.1 e
-seen-acknowledged setup ((E.Tail x, r) ∷ older) p is run e = seen-acknowledged setup older p is run.1.1 e
-seen-acknowledged setup ((E.Late x, r) ∷ older) p is run e = seen-acknowledged setup older p is run.1.1 e
-seen-acknowledged setup ((E.Abandon x, r) ∷ older) p is run e = seen-acknowledged setup older p is run.1.1 e
-seen-acknowledged setup ((E.Skip x y, r) ∷ older) p is run e = seen-acknowledged setup older p is run.1.1 e
-seen-acknowledged setup ((E.Ack x, r) ∷ older) p is run e = seen-acknowledged setup older p is run.1.1 e
-seen-acknowledged setup ((E.Read x, r) ∷ older) p is run e = seen-acknowledged setup older p is run.1.1 e
+seen-acknowledged setup ((event, r) ∷ older) p is run e = seen-acknowledged setup older p is run.1.1 e
 
 -- what was seen was made
 pub seen-made : (w : LinkRecord) (log : List LogEntry) (p : ℕ) → Arrivals w log → is_seen log p ≡ true → p < length w.slots
@@ -414,8 +387,6 @@ acks-step setup older e r is run a = by_event e
     same v s = acks-same setup older (record_of setup older) v s a
 
     by_event : (e : Event) → Acks setup ((e, r) ∷ older) (after (record_of setup older) e)
-    by_event (E.Open s) = record { slots = a.slots; taken = a.taken }
-    by_event (E.Mode s u v x) = record { slots = a.slots; taken = a.taken }
     by_event (E.Write s x y) = let b = quiet (after (record_of setup older) (E.Write s x y))
         (Moves.quiet-written setup (record_of setup older) s x y (consistent-run setup older run)) in record { slots = b.slots; taken = b.taken }
     by_event (E.Start now) = let b = quiet (after (record_of setup older) (E.Start now)) (Moves.quiet-started (record_of setup older) now) in
@@ -423,7 +394,6 @@ acks-step setup older e r is run a = by_event e
     by_event (E.Send now) = let b = quiet (after (record_of setup older) (E.Send now))
         (Moves.quiet-sent setup (record_of setup older) now (Messages.front (record_of setup older)) (consistent-run setup older run)) in
         record { slots = b.slots; taken = b.taken }
-    by_event (E.Resend x) = record { slots = a.slots; taken = a.taken }
     by_event (E.Expire now) = let b = quiet (after (record_of setup older) (E.Expire now))
         (Moves.quiet-expire setup (record_of setup older) now (Messages.front (record_of setup older)) (consistent-run setup older run)) in
         record { slots = b.slots; taken = b.taken }
@@ -435,13 +405,12 @@ acks-step setup older e r is run a = by_event e
     by_event (E.Abandon tsn) = let b = quiet (after (record_of setup older) (E.Abandon tsn)) (Moves.quiet-abandoned setup (record_of setup older)
         (Messages.message_of (record_of setup older) (Messages.place_of (record_of setup older) tsn)) (consistent-run setup older run)) in
         record { slots = b.slots; taken = b.taken }
-    by_event (E.Skip upto names) = record { slots = a.slots; taken = a.taken }
-    by_event (E.Ack credit) = record { slots = a.slots; taken = a.taken }
     by_event (E.Arrive k) = let b = same (after (record_of setup older) (E.Arrive k))
         (as-datagram (record_of setup older) (slice_get (record_of setup older).network k)) in record { slots = b.slots; taken = b.taken }
     by_event (E.Acked k) = acks-taken setup older (record_of setup older) k r refl a
     by_event (E.Read s) = let b = same (after (record_of setup older) (E.Read s)) (as-read (record_of setup older) s (next_read (record_of setup older) s)) in
         record { slots = b.slots; taken = b.taken }
+    by_event event = record { slots = a.slots; taken = a.taken }
 
 acks-run : (setup : Setup) (h : History) → IsSetup setup → IsRun setup h → Acks setup h (record_of setup h)
 acks-run setup [] is run = record { slots = λ p lt. absurd (omega arith); taken = refl }

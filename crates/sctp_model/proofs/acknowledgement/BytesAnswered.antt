@@ -262,9 +262,6 @@ none-received w (Some (Forward upto names)) = step (Changes.skip_counts w upto)
 
 released-after : (setup : Setup) (w : LinkRecord) (e : Event) → IsSetup setup → Consistent setup w
     → released (after w e) ≡ released w + released_by (reply_to w e)
-released-after setup w (E.Open s) is g = omega arith
-released-after setup w (E.Mode s u v x) is g = omega arith
-released-after setup w (E.Write s ppi []) is g = omega arith
 released-after setup w (E.Write s ppi (b ∷ bs)) is g =
     let m = written_as w s ppi (b ∷ bs) in
     let e = ap (λ x. released_all x (acknowledged_at w)) (Shapes.shape-written w m) in
@@ -272,15 +269,12 @@ released-after setup w (E.Write s ppi (b ∷ bs)) is g =
     omega (arith, e, z)
 released-after setup w (E.Start now) is g = omega (arith, released-same w (Changes.after_start w now) (Shapes.shape-started w now) (λ p. refl))
 released-after setup w (E.Send now) is g = omega (arith, released-sent setup w now (Messages.front w) g, none-sent w (after w (E.Send now)) (Messages.front w))
-released-after setup w (E.Resend x) is g = omega arith
 released-after setup w (E.Expire now) is g = released-expired setup w (Changes.expiring w now) is g (Moves.quiet-expire setup w now (Messages.front w) g)
 released-after setup w (E.Tail now) is g = released-tail setup w (Changes.tailing w now) is g
 released-after setup w (E.Late now) is g =
     grown setup w (Changes.after_late w now) is g (Moves.quiet-lates setup w now g) (count-late (Changes.late_messages w now) w)
 released-after setup w (E.Abandon tsn) is g = let n = Messages.message_of w (Messages.place_of w tsn) in
     grown setup w (Changes.after_abandon w n) is g (Moves.quiet-abandoned setup w n g) (count-abandoned w n)
-released-after setup w (E.Skip upto names) is g = omega arith
-released-after setup w (E.Ack credit) is g = omega arith
 released-after setup w (E.Arrive k) is g = omega (
   arith,
   released-same w (Changes.after_arrive w (slice_get w.network k))
@@ -293,6 +287,7 @@ released-after setup w (E.Read s) is g = omega (
   released-same w (Changes.after_reading w s) (Network.same-read w s (next_read w s)).shape_is (as-read w s (next_read w s)).slots,
   none-read w (next_read w s),
 )
+released-after setup w event is g = omega arith
 
 pub released-run : (setup : Setup) (h : History) → IsSetup setup → IsRun setup h → released (record_of setup h) ≡ released_in h
 released-run setup [] is run = refl

@@ -233,8 +233,6 @@ marked-run show setup ((event, r) ∷ older) is run =
         && ((Messages.message_at (after (record_of setup older) event) n).stream == s)) (numbers_read setup ((event, r) ∷ older) s) ≡ true)
         → Marked setup older (record_of setup older) → Marked setup ((event, r) ∷ older) (after (record_of setup older) event)
     by_event (E.Read t) r ok f all m = marked-read setup older t r (next_read (record_of setup older) t) refl f all m
-    by_event (E.Open s) r ok f all m = record { is = m.is; made = m.made }
-    by_event (E.Mode s a b c) r ok f all m = record { is = m.is; made = m.made }
     by_event (E.Write s a b) r ok f all m = let q = quiet (after (record_of setup older) (E.Write s a b))
         (Moves.quiet-written setup (record_of setup older) s a b (consistent-run setup older run.1.1)) m in record { is = q.is; made = q.made }
     by_event (E.Start now) r ok f all m = let q = quiet (after (record_of setup older) (E.Start now)) (Moves.quiet-started (record_of setup older) now) m in
@@ -242,7 +240,6 @@ marked-run show setup ((event, r) ∷ older) is run =
     by_event (E.Send now) r ok f all m = let q = quiet (after (record_of setup older) (E.Send now))
         (Moves.quiet-sent setup (record_of setup older) now (Messages.front (record_of setup older)) (consistent-run setup older run.1.1)) m in
         record { is = q.is; made = q.made }
-    by_event (E.Resend a) r ok f all m = record { is = m.is; made = m.made }
     by_event (E.Expire now) r ok f all m = let q = quiet (after (record_of setup older) (E.Expire now))
         (Moves.quiet-expire setup (record_of setup older) now (Messages.front (record_of setup older)) (consistent-run setup older run.1.1)) m in
         record { is = q.is; made = q.made }
@@ -254,12 +251,11 @@ marked-run show setup ((event, r) ∷ older) is run =
     by_event (E.Abandon tsn) r ok f all m = let q = quiet (after (record_of setup older) (E.Abandon tsn)) (Moves.quiet-abandoned setup (record_of setup older)
         (Messages.message_of (record_of setup older) (Messages.place_of (record_of setup older) tsn)) (consistent-run setup older run.1.1)) m in
         record { is = q.is; made = q.made }
-    by_event (E.Skip a b) r ok f all m = record { is = m.is; made = m.made }
-    by_event (E.Ack a) r ok f all m = record { is = m.is; made = m.made }
     by_event (E.Arrive k) r ok f all m = let q = same (after (record_of setup older) (E.Arrive k))
         (messages-received (record_of setup older) (slice_get (record_of setup older).network k)) m in record { is = q.is; made = q.made }
     by_event (E.Acked k) r ok f all m = let q = same (after (record_of setup older) (E.Acked k))
         (messages-taken (record_of setup older) (slice_get (record_of setup older).network k)) m in record { is = q.is; made = q.made }
+    by_event event r ok f all m = record { is = m.is; made = m.made }
 
 -- ## The law
 
@@ -345,20 +341,7 @@ reads_differ setup ((event, r) ∷ older) is run s = by event r run.1.0 (reads_d
     by : (event : Event) (r : Reply) → r ≡ reply_to (record_of setup older) event → AllDifferent (numbers_read setup older s)
         → AllDifferent (numbers_read setup ((event, r) ∷ older) s)
     by (E.Read t) r f d = read t r (next_read (record_of setup older) t) refl f d
-    by (E.Open a) r f x = x
-    by (E.Mode a b c d) r f x = x
-    by (E.Write a b c) r f x = x
-    by (E.Start a) r f x = x
-    by (E.Send a) r f x = x
-    by (E.Resend a) r f x = x
-    by (E.Expire a) r f x = x
-    by (E.Tail a) r f x = x
-    by (E.Late a) r f x = x
-    by (E.Abandon a) r f x = x
-    by (E.Skip a b) r f x = x
-    by (E.Ack a) r f x = x
-    by (E.Arrive a) r f x = x
-    by (E.Acked a) r f x = x
+    by event r f x = x
 
 pub counters_are_sums : OnEveryRun CountersAreSums
 counters_are_sums = counters-sum reads_show_messages reads_differ

@@ -152,31 +152,5 @@ run-keeps setup P keeps ((E.Read s, r) ∷ older) is run =
     reads None e p = p
     reads (Some n) e p = keeps.read (record_of setup older) (log_of setup older) s n (consistent-run setup older run.1.1)
         (unless-holds (Messages.is_open (record_of setup older) s) StreamUnknown None run.0).0 e p
-run-keeps setup P keeps ((E.Open s, r) ∷ older) is run =
-    step-moves setup P (moving-of setup P keeps) older is run.1.1 (E.Open s) r refl run.0 (run-keeps setup P keeps older is run.1.1)
-run-keeps setup P keeps ((E.Mode s a b c, r) ∷ older) is run =
-    step-moves setup P (moving-of setup P keeps) older is run.1.1 (E.Mode s a b c) r refl run.0 (run-keeps setup P keeps older is run.1.1)
-run-keeps setup P keeps ((E.Write s a b, r) ∷ older) is run =
-    step-moves setup P (moving-of setup P keeps) older is run.1.1 (E.Write s a b) r refl run.0 (run-keeps setup P keeps older is run.1.1)
-run-keeps setup P keeps ((E.Start a, r) ∷ older) is run =
-    step-moves setup P (moving-of setup P keeps) older is run.1.1 (E.Start a) r refl run.0 (run-keeps setup P keeps older is run.1.1)
-run-keeps setup P keeps ((E.Send a, r) ∷ older) is run =
-    step-moves setup P (moving-of setup P keeps) older is run.1.1 (E.Send a) r refl run.0 (run-keeps setup P keeps older is run.1.1)
-run-keeps setup P keeps ((E.Resend a, r) ∷ older) is run =
-    step-moves setup P (moving-of setup P keeps) older is run.1.1 (E.Resend a) r refl run.0 (run-keeps setup P keeps older is run.1.1)
-run-keeps setup P keeps ((E.Expire a, r) ∷ older) is run =
-    step-moves setup P (moving-of setup P keeps) older is run.1.1 (E.Expire a) r refl run.0 (run-keeps setup P keeps older is run.1.1)
-run-keeps setup P keeps ((E.Tail a, r) ∷ older) is run =
-    step-moves setup P (moving-of setup P keeps) older is run.1.1 (E.Tail a) r refl run.0 (run-keeps setup P keeps older is run.1.1)
-run-keeps setup P keeps ((E.Late a, r) ∷ older) is run =
-    step-moves setup P (moving-of setup P keeps) older is run.1.1 (E.Late a) r refl run.0 (run-keeps setup P keeps older is run.1.1)
-run-keeps setup P keeps ((E.Abandon a, r) ∷ older) is run =
-    step-moves setup P (moving-of setup P keeps) older is run.1.1 (E.Abandon a) r refl run.0 (run-keeps setup P keeps older is run.1.1)
-run-keeps setup P keeps ((E.Skip a b, r) ∷ older) is run =
-    step-moves setup P (moving-of setup P keeps) older is run.1.1 (E.Skip a b) r refl run.0 (run-keeps setup P keeps older is run.1.1)
-run-keeps setup P keeps ((E.Ack a, r) ∷ older) is run =
-    step-moves setup P (moving-of setup P keeps) older is run.1.1 (E.Ack a) r refl run.0 (run-keeps setup P keeps older is run.1.1)
-run-keeps setup P keeps ((E.Arrive a, r) ∷ older) is run =
-    step-moves setup P (moving-of setup P keeps) older is run.1.1 (E.Arrive a) r refl run.0 (run-keeps setup P keeps older is run.1.1)
-run-keeps setup P keeps ((E.Acked a, r) ∷ older) is run =
-    step-moves setup P (moving-of setup P keeps) older is run.1.1 (E.Acked a) r refl run.0 (run-keeps setup P keeps older is run.1.1)
+run-keeps setup P keeps ((event, r) ∷ older) is run =
+    step-moves setup P (moving-of setup P keeps) older is run.1.1 event r refl run.0 (run-keeps setup P keeps older is run.1.1)

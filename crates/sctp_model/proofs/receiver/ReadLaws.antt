@@ -100,51 +100,9 @@ so_far-run setup ((E.Read t, r) ∷ older) is run s =
     (view (Changes.after_reading (record_of setup older) t)) (Log.log_of setup older)) (sym run.1.0)
     (answered-read setup older t s (Receiver.next_read (record_of setup older) t) (consistent-run setup older run.1.1)
     (unless-holds (Messages.is_open (record_of setup older) t) StreamUnknown None run.0).0 refl b)
-so_far-run setup ((E.Open a, r) ∷ older) is run s =
+so_far-run setup ((event, r) ∷ older) is run s =
     (step-moves setup (Answered s (numbers_read setup older s)) (answered-moving setup s (numbers_read setup older s))
-    older is run.1.1 (E.Open a) r refl run.0 (record { received = received-run setup older is run.1.1; so_far = so_far-run setup older is run.1.1 s })).so_far
-so_far-run setup ((E.Mode a b c d, r) ∷ older) is run s =
-    (step-moves setup (Answered s (numbers_read setup older s)) (answered-moving setup s (numbers_read setup older s)) older is run.1.1
-    (E.Mode a b c d) r refl run.0
-    (record { received = received-run setup older is run.1.1; so_far = so_far-run setup older is run.1.1 s })).so_far
-so_far-run setup ((E.Write a b c, r) ∷ older) is run s =
-    (step-moves setup (Answered s (numbers_read setup older s)) (answered-moving setup s (numbers_read setup older s)) older is run.1.1
-    (E.Write a b c) r refl run.0
-    (record { received = received-run setup older is run.1.1; so_far = so_far-run setup older is run.1.1 s })).so_far
-so_far-run setup ((E.Start a, r) ∷ older) is run s =
-    (step-moves setup (Answered s (numbers_read setup older s)) (answered-moving setup s (numbers_read setup older s))
-    older is run.1.1 (E.Start a) r refl run.0 (record { received = received-run setup older is run.1.1; so_far = so_far-run setup older is run.1.1 s })).so_far
-so_far-run setup ((E.Send a, r) ∷ older) is run s =
-    (step-moves setup (Answered s (numbers_read setup older s)) (answered-moving setup s (numbers_read setup older s))
-    older is run.1.1 (E.Send a) r refl run.0 (record { received = received-run setup older is run.1.1; so_far = so_far-run setup older is run.1.1 s })).so_far
-so_far-run setup ((E.Resend a, r) ∷ older) is run s =
-    (step-moves setup (Answered s (numbers_read setup older s)) (answered-moving setup s (numbers_read setup older s))
-    older is run.1.1 (E.Resend a) r refl run.0 (record { received = received-run setup older is run.1.1; so_far = so_far-run setup older is run.1.1 s })).so_far
-so_far-run setup ((E.Expire a, r) ∷ older) is run s =
-    (step-moves setup (Answered s (numbers_read setup older s)) (answered-moving setup s (numbers_read setup older s))
-    older is run.1.1 (E.Expire a) r refl run.0 (record { received = received-run setup older is run.1.1; so_far = so_far-run setup older is run.1.1 s })).so_far
-so_far-run setup ((E.Tail a, r) ∷ older) is run s =
-    (step-moves setup (Answered s (numbers_read setup older s)) (answered-moving setup s (numbers_read setup older s))
-    older is run.1.1 (E.Tail a) r refl run.0 (record { received = received-run setup older is run.1.1; so_far = so_far-run setup older is run.1.1 s })).so_far
-so_far-run setup ((E.Late a, r) ∷ older) is run s =
-    (step-moves setup (Answered s (numbers_read setup older s)) (answered-moving setup s (numbers_read setup older s))
-    older is run.1.1 (E.Late a) r refl run.0 (record { received = received-run setup older is run.1.1; so_far = so_far-run setup older is run.1.1 s })).so_far
-so_far-run setup ((E.Abandon a, r) ∷ older) is run s =
-    (step-moves setup (Answered s (numbers_read setup older s)) (answered-moving setup s (numbers_read setup older s)) older is run.1.1
-    (E.Abandon a) r refl run.0
-    (record { received = received-run setup older is run.1.1; so_far = so_far-run setup older is run.1.1 s })).so_far
-so_far-run setup ((E.Skip a b, r) ∷ older) is run s =
-    (step-moves setup (Answered s (numbers_read setup older s)) (answered-moving setup s (numbers_read setup older s))
-    older is run.1.1 (E.Skip a b) r refl run.0 (record { received = received-run setup older is run.1.1; so_far = so_far-run setup older is run.1.1 s })).so_far
-so_far-run setup ((E.Ack a, r) ∷ older) is run s =
-    (step-moves setup (Answered s (numbers_read setup older s)) (answered-moving setup s (numbers_read setup older s))
-    older is run.1.1 (E.Ack a) r refl run.0 (record { received = received-run setup older is run.1.1; so_far = so_far-run setup older is run.1.1 s })).so_far
-so_far-run setup ((E.Arrive a, r) ∷ older) is run s =
-    (step-moves setup (Answered s (numbers_read setup older s)) (answered-moving setup s (numbers_read setup older s))
-    older is run.1.1 (E.Arrive a) r refl run.0 (record { received = received-run setup older is run.1.1; so_far = so_far-run setup older is run.1.1 s })).so_far
-so_far-run setup ((E.Acked a, r) ∷ older) is run s =
-    (step-moves setup (Answered s (numbers_read setup older s)) (answered-moving setup s (numbers_read setup older s))
-    older is run.1.1 (E.Acked a) r refl run.0 (record { received = received-run setup older is run.1.1; so_far = so_far-run setup older is run.1.1 s })).so_far
+    older is run.1.1 event r refl run.0 (record { received = received-run setup older is run.1.1; so_far = so_far-run setup older is run.1.1 s })).so_far
 
 -- ## The run: what was read, then what was not
 

@@ -255,17 +255,4 @@ reads_show_messages setup ((event, r) ∷ older) is run s =
     by : (event : Event) (r : Reply) → r ≡ reply_to (record_of setup older) event → Extends (record_of setup older) (after (record_of setup older) event)
         → Says setup older (record_of setup older) s → Says setup ((event, r) ∷ older) (after (record_of setup older) event) s
     by (E.Read t) r f x a = says-read setup older t s r (after (record_of setup older) (E.Read t)) is run.1.1 x (next_read (record_of setup older) t) refl f a
-    by (E.Open a) r f x says = stays (record_of setup older) (after (record_of setup older) (E.Open a)) x setup older s says
-    by (E.Mode a b c d) r f x says = stays (record_of setup older) (after (record_of setup older) (E.Mode a b c d)) x setup older s says
-    by (E.Write a b c) r f x says = stays (record_of setup older) (after (record_of setup older) (E.Write a b c)) x setup older s says
-    by (E.Start a) r f x says = stays (record_of setup older) (after (record_of setup older) (E.Start a)) x setup older s says
-    by (E.Send a) r f x says = stays (record_of setup older) (after (record_of setup older) (E.Send a)) x setup older s says
-    by (E.Resend a) r f x says = stays (record_of setup older) (after (record_of setup older) (E.Resend a)) x setup older s says
-    by (E.Expire a) r f x says = stays (record_of setup older) (after (record_of setup older) (E.Expire a)) x setup older s says
-    by (E.Tail a) r f x says = stays (record_of setup older) (after (record_of setup older) (E.Tail a)) x setup older s says
-    by (E.Late a) r f x says = stays (record_of setup older) (after (record_of setup older) (E.Late a)) x setup older s says
-    by (E.Abandon a) r f x says = stays (record_of setup older) (after (record_of setup older) (E.Abandon a)) x setup older s says
-    by (E.Skip a b) r f x says = stays (record_of setup older) (after (record_of setup older) (E.Skip a b)) x setup older s says
-    by (E.Ack a) r f x says = stays (record_of setup older) (after (record_of setup older) (E.Ack a)) x setup older s says
-    by (E.Arrive a) r f x says = stays (record_of setup older) (after (record_of setup older) (E.Arrive a)) x setup older s says
-    by (E.Acked a) r f x says = stays (record_of setup older) (after (record_of setup older) (E.Acked a)) x setup older s says
+    by event r f x says = stays (record_of setup older) (after (record_of setup older) event) x setup older s says

@@ -393,14 +393,11 @@ near-after setup w log (E.Mode s u y v) g ok a r n = near-as (view w) (view (Cha
 near-after setup w log (E.Write s ppi bytes) g ok a r n = near-quiet setup w (after w (E.Write s ppi bytes)) log g a (quiet-written setup w s ppi bytes g) r n
 near-after setup w log (E.Start now) g ok a r n = near-quiet setup w (after w (E.Start now)) log g a (quiet-started w now) r n
 near-after setup w log (E.Send now) g ok a r n = near-quiet setup w (after w (E.Send now)) log g a (quiet-sent setup w now (Messages.front w) g) r n
-near-after setup w log (E.Resend tsn) g ok a r n = near-as (view w) (view (after w (E.Resend tsn))) refl n
 near-after setup w log (E.Expire now) g ok a r n = near-quiet setup w (after w (E.Expire now)) log g a (quiet-expire setup w now (Messages.front w) g) r n
 near-after setup w log (E.Tail now) g ok a r n = near-quiet setup w (after w (E.Tail now)) log g a (quiet-tail setup w (Changes.tailing w now) g) r n
 near-after setup w log (E.Late now) g ok a r n = near-quiet setup w (after w (E.Late now)) log g a (quiet-lates setup w now g) r n
 near-after setup w log (E.Abandon tsn) g ok a r n =
     near-quiet setup w (after w (E.Abandon tsn)) log g a (quiet-abandoned setup w (Messages.message_of w (Messages.place_of w tsn)) g) r n
-near-after setup w log (E.Skip upto names) g ok a r n = near-as (view w) (view (after w (E.Skip upto names))) refl n
-near-after setup w log (E.Ack credit) g ok a r n = near-as (view w) (view (after w (E.Ack credit))) refl n
 near-after setup w log (E.Arrive k) g ok a r n =
     let d = slice_get w.network k in
     let first = unless-holds (is_for_receiver d) NoSuchDatagram (unless (arrival_fits w d) SpanTooWide None) ok in
@@ -410,6 +407,7 @@ near-after setup w log (E.Arrive k) g ok a r n =
 near-after setup w log (E.Acked k) g ok a r n = near-taken w (slice_get w.network k) n
 near-after setup w log (E.Read s) g ok a r n =
     near-reads setup w log s (Receiver.next_read w s) g (unless-holds (Messages.is_open w s) StreamUnknown None ok).0 refl r n
+near-after setup w log event g ok a r n = near-as (view w) (view (after w event)) refl n
 
 pub near-run : (setup : Setup) (h : History) → IsSetup setup → IsRun setup h → AllNear (view (record_of setup h))
 near-run setup [] is run = λ s. record {

@@ -109,36 +109,29 @@ started-after w e n lt = by_event e
     same v e = e ∙ none (Messages.message_at w n).started
 
     by_event : (e : Event) → (Messages.message_at (after w e) n).started ≡ or_else (Messages.message_at w n).started (moment_of e)
-    by_event (E.Open s) = same (after w (E.Open s)) refl
-    by_event (E.Mode s u v x) = same (after w (E.Mode s u v x)) refl
     by_event (E.Write s ppi []) = same w refl
     by_event (E.Write s ppi (b ∷ bs)) = same (Changes.after_write w s ppi (b ∷ bs))
         (ap (λ m. m.started) (get-snoc_old w.messages (written_as w s ppi (b ∷ bs)) n Messages.no_message (λ e. absurd (omega arith))))
     by_event (E.Start now) = started-now w now n lt
     by_event (E.Send now) = started-sent w now n (Messages.front w) lt
-    by_event (E.Resend x) = same (after w (E.Resend x)) refl
     by_event (E.Expire now) = same (after w (E.Expire now)) (started-expired w n (Changes.expiring w now))
     by_event (E.Tail now) = same (after w (E.Tail now)) (started-tail w n (Changes.tailing w now))
     by_event (E.Late now) = same (after w (E.Late now)) (fold-keeps (λ v. (Messages.message_at v n).started
         ≡ (Messages.message_at w n).started) Changes.after_abandon (λ v m e. started-abandoned v m n ∙ e) (Changes.late_messages w now) w refl)
     by_event (E.Abandon tsn) = same (after w (E.Abandon tsn)) (started-abandoned w (Messages.message_of w (Messages.place_of w tsn)) n)
-    by_event (E.Skip upto names) = same (after w (E.Skip upto names)) refl
-    by_event (E.Ack credit) = same (after w (E.Ack credit)) refl
     by_event (E.Arrive k) =
         same (after w (E.Arrive k)) (ap (λ ms. (slice_index_or ms n Messages.no_message).started) (messages-received w (slice_get w.network k)))
     by_event (E.Acked k) = same (after w (E.Acked k)) (ap (λ ms. (slice_index_or ms n Messages.no_message).started) (messages-taken w (slice_get w.network k)))
     by_event (E.Read s) = same (after w (E.Read s)) (started-read w s n (next_read w s))
+    by_event event = same (after w event) refl
 
 -- a message that an event makes
 started-new : (w : LinkRecord) (e : Event) (n : ℕ) → length w.messages ≤ n → n < length (after w e).messages
     → (Messages.message_at (after w e) n).started ≡ None
-started-new w (E.Write s ppi []) n le lt = absurd (omega arith)
 started-new w (E.Write s ppi (b ∷ bs)) n le lt =
     let m = written_as w s ppi (b ∷ bs) in
     let e : n ≡ length w.messages = omega (arith, length-append w.messages (m ∷ [])) in
     ap (λ k. (Messages.message_at (Changes.after_write w s ppi (b ∷ bs)) k).started) e ∙ ap (λ y. y.started) (get-snoc_new w.messages m Messages.no_message)
-started-new w (E.Open s) n le lt = absurd (omega arith)
-started-new w (E.Mode s u v x) n le lt = absurd (omega arith)
 started-new w (E.Start now) n le lt = absurd (omega (arith, length-mapped (Changes.start_lifetime now) w.messages))
 started-new w (E.Send now) n le lt = absurd (few w now n (Messages.front w) le lt)
   where
@@ -146,7 +139,6 @@ started-new w (E.Send now) n le lt = absurd (few w now n (Messages.front w) le l
     few w now n None le lt = absurd (omega (arith, length-mapped (Changes.start_lifetime now) w.messages))
     few w now n (Some m) le lt =
         absurd (omega (arith, ap length (messages-sent (Changes.after_start w now)), length-mapped (Changes.start_lifetime now) w.messages))
-started-new w (E.Resend x) n le lt = absurd (omega arith)
 started-new w (E.Expire now) n le lt = absurd (few (Changes.expiring w now) lt)
   where
     few : (o : Option ℕ) → n < length (Changes.after_expire w o).messages → ⊥
@@ -159,8 +151,6 @@ started-new w (E.Tail now) n le lt = absurd (few (Changes.tailing w now) lt)
     few (Some m) lt = absurd (omega (arith, count-abandoned w m))
 started-new w (E.Late now) n le lt = absurd (omega (arith, count-late (Changes.late_messages w now) w))
 started-new w (E.Abandon tsn) n le lt = absurd (omega (arith, count-abandoned w (Messages.message_of w (Messages.place_of w tsn))))
-started-new w (E.Skip upto names) n le lt = absurd (omega arith)
-started-new w (E.Ack credit) n le lt = absurd (omega arith)
 started-new w (E.Arrive k) n le lt = absurd (omega (arith, ap length (messages-received w (slice_get w.network k))))
 started-new w (E.Acked k) n le lt = absurd (omega (arith, ap length (messages-taken w (slice_get w.network k))))
 started-new w (E.Read s) n le lt = absurd (few (next_read w s) lt)
@@ -168,6 +158,7 @@ started-new w (E.Read s) n le lt = absurd (few (next_read w s) lt)
     few : (o : Option ℕ) → n < length (Changes.read_of w s o).messages → ⊥
     few None lt = absurd (omega arith)
     few (Some m) lt = absurd (omega (arith, length-changed Changes.mark_read m w.messages))
+started-new w event n le lt = absurd (omega arith)
 
 record Begins (setup : Setup) (h : History) (w : LinkRecord) : Type 0 where
   each : (n : ℕ) → n < length w.messages → (Messages.message_at w n).started ≡ started_in h n

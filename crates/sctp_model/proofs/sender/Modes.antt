@@ -146,7 +146,6 @@ moded-step setup older e r ok run m = by e ok
           ∙ ap (λ b. if b then new else mode_now (stream_of (record_of setup older) t)) (swap t s) ∙ ap (λ y. if s == t then new else y) (m.streams t);
       messages = m.messages;
     }
-    by (E.Write s ppi []) ok = record { streams = m.streams; messages = m.messages }
     by (E.Write s ppi (b ∷ bs)) ok = record {
       streams = m.streams;
       messages = map-append mode_of (record_of setup older).messages (written_as (record_of setup older) s ppi (b ∷ bs) ∷ [])
@@ -159,7 +158,6 @@ moded-step setup older e r ok run m = by e ok
           (Moves.quiet-sent setup (record_of setup older) now (Messages.front (record_of setup older)) (consistent-run setup older run));
       messages = kept-sent (record_of setup older) now (Messages.front (record_of setup older)) ∙ m.messages;
     }
-    by (E.Resend a) ok = record { streams = m.streams; messages = m.messages }
     by (E.Expire now) ok = record {
       streams = quiet (after (record_of setup older) (E.Expire now))
           (Moves.quiet-expire setup (record_of setup older) now (Messages.front (record_of setup older)) (consistent-run setup older run));
@@ -181,8 +179,6 @@ moded-step setup older e r ok run m = by e ok
       messages = kept-abandoned (record_of setup older) (Messages.message_of (record_of setup older) (Messages.place_of (record_of setup older) tsn))
           ∙ m.messages;
     }
-    by (E.Skip a b) ok = record { streams = m.streams; messages = m.messages }
-    by (E.Ack a) ok = record { streams = m.streams; messages = m.messages }
     by (E.Arrive k) ok = record {
       streams = λ t. modes-received (record_of setup older) (slice_get (record_of setup older).network k) t ∙ m.streams t;
       messages = ap (map mode_of) (messages-received (record_of setup older) (slice_get (record_of setup older).network k)) ∙ m.messages;
@@ -195,6 +191,7 @@ moded-step setup older e r ok run m = by e ok
       streams = λ t. modes-read (record_of setup older) s (next_read (record_of setup older) s) t ∙ m.streams t;
       messages = kept-read (record_of setup older) s (next_read (record_of setup older) s) ∙ m.messages;
     }
+    by event ok = record { streams = m.streams; messages = m.messages }
 
 pub modes_are_kept : OnEveryRun ModesAreKept
 modes_are_kept setup h is run = (all h run).messages

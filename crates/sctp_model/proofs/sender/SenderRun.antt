@@ -338,17 +338,15 @@ consistent-after setup w (E.Write s ppi bytes) ok g =
     consistent-written setup w s ppi bytes first.0 (grind (arith, nat_tests)) g
 consistent-after setup w (E.Start now) ok g = consistent-started setup w now g
 consistent-after setup w (E.Send now) ok g = consistent-sent setup w now (Messages.front w) g
-consistent-after setup w (E.Resend tsn) ok g = g
 consistent-after setup w (E.Expire now) ok g = consistent-expired setup w now (Messages.front w) g
 consistent-after setup w (E.Tail now) ok g = consistent-tail setup w now (Messages.front w) g
 consistent-after setup w (E.Late now) ok g = consistent-late setup (Changes.late_messages w now) w g (late-sent setup w now g)
 consistent-after setup w (E.Abandon tsn) ok g = consistent-abandoned setup w (Messages.message_of w (Messages.place_of w tsn)) g
     (in-flight-sent setup w (Messages.place_of w tsn) g (unless-holds (Messages.is_in_flight w (Messages.place_of w tsn)) NotInFlight None ok).0)
-consistent-after setup w (E.Skip upto names) ok g = g
-consistent-after setup w (E.Ack credit) ok g = g
 consistent-after setup w (E.Arrive k) ok g = consistent-datagram setup w (slice_get w.network k) g
 consistent-after setup w (E.Acked k) ok g = consistent-taken setup w (slice_get w.network k) g
 consistent-after setup w (E.Read s) ok g = consistent-read setup w s (Receiver.next_read w s) g
+consistent-after setup w event ok g = g
 
 consistent-start : (setup : Setup) → Consistent setup (start setup)
 consistent-start setup = record {

@@ -81,9 +81,6 @@ write-open w s ppi bytes ok = (unless-holds (Messages.is_open w s) StreamUnknown
 
 written-step : (setup : Setup) (older : History) (e : Event) (r : Reply) → refusal_of (record_of setup older) e ≡ None
     → answered (shape (record_of setup older)) ≡ writes_in older → answered (shape (after (record_of setup older) e)) ≡ writes_in ((e, r) ∷ older)
-written-step setup older (E.Open s) r ok t = t
-written-step setup older (E.Mode s u v x) r ok t = t
-written-step setup older (E.Write s ppi []) r ok t = t
 written-step setup older (E.Write s ppi (b ∷ bs)) r ok t =
     let w = record_of setup older in
     ap answered (Shapes.shape-written w (written_as w s ppi (b ∷ bs))) ∙ answered-written (shape w) (message_part (written_as w s ppi (b ∷ bs)))
@@ -91,20 +88,18 @@ written-step setup older (E.Write s ppi (b ∷ bs)) r ok t =
     ∙ (let pair : ℕ → Shown = λ k. (k, ppi, b ∷ bs) in ap (λ k. writes_in older ++ pair k ∷ []) (stream-named w s (write-open w s ppi (b ∷ bs) ok)))
 written-step setup older (E.Start now) r ok t = ap answered (Shapes.shape-started (record_of setup older) now) ∙ t
 written-step setup older (E.Send now) r ok t = answered-sends (record_of setup older) now (Messages.front (record_of setup older)) ∙ t
-written-step setup older (E.Resend x) r ok t = t
 written-step setup older (E.Expire now) r ok t = answered-expired (record_of setup older) (Changes.expiring (record_of setup older) now) ∙ t
 written-step setup older (E.Tail now) r ok t = answered-tail (record_of setup older) (Changes.tailing (record_of setup older) now) ∙ t
 written-step setup older (E.Late now) r ok t = fold-keeps (λ v. answered (shape v) ≡ answered (shape (record_of setup older))) Changes.after_abandon
     (λ v n e. answered-abandoned v n ∙ e) (Changes.late_messages (record_of setup older) now) (record_of setup older) refl ∙ t
 written-step setup older (E.Abandon tsn) r ok t =
     answered-abandoned (record_of setup older) (Messages.message_of (record_of setup older) (Messages.place_of (record_of setup older) tsn)) ∙ t
-written-step setup older (E.Skip upto names) r ok t = t
-written-step setup older (E.Ack credit) r ok t = t
 written-step setup older (E.Arrive k) r ok t =
     ap answered (Network.same-received (record_of setup older) (slice_get (record_of setup older).network k)).shape_is ∙ t
 written-step setup older (E.Acked k) r ok t = ap answered (Network.same-taken (record_of setup older) (slice_get (record_of setup older).network k)).shape_is
     ∙ t
 written-step setup older (E.Read s) r ok t = ap answered (Network.same-read (record_of setup older) s (next_read (record_of setup older) s)).shape_is ∙ t
+written-step setup older event r ok t = t
 
 pub messages_are_writes : OnEveryRun MessagesAreWrites
 messages_are_writes setup [] is run = refl

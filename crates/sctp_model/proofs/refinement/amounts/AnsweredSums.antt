@@ -73,13 +73,10 @@ count-tail w None = refl
 count-tail w (Some n) = count-abandoned w n
 
 pub read-after : (setup : Setup) (w : LinkRecord) (e : Event) → Consistent setup w → is_write e ≡ false → is_read e ≡ false → AsRead w (after w e)
-read-after setup w (E.Open s) g a b = read-messages w (after w (E.Open s)) refl
-read-after setup w (E.Mode s u x y) g a b = read-messages w (after w (E.Mode s u x y)) refl
 read-after setup w (E.Write s x y) g a b = cc
 read-after setup w (E.Start now) g a b =
     read-quiet w (after w (E.Start now)) (length-mapped (Changes.start_lifetime now) w.messages) (Moves.quiet-started w now)
 read-after setup w (E.Send now) g a b = read-quiet w (after w (E.Send now)) (count-sent w now (front w)) (Moves.quiet-sent setup w now (front w) g)
-read-after setup w (E.Resend x) g a b = read-messages w (after w (E.Resend x)) refl
 read-after setup w (E.Expire now) g a b =
     read-quiet w (after w (E.Expire now)) (count-expired w (Changes.expiring w now)) (Moves.quiet-expire setup w now (front w) g)
 read-after setup w (E.Tail now) g a b =
@@ -87,11 +84,10 @@ read-after setup w (E.Tail now) g a b =
 read-after setup w (E.Late now) g a b = read-quiet w (after w (E.Late now)) (count-late (Changes.late_messages w now) w) (Moves.quiet-lates setup w now g)
 read-after setup w (E.Abandon tsn) g a b =
     read-quiet w (after w (E.Abandon tsn)) (count-abandoned w (message_of w (place_of w tsn))) (Moves.quiet-abandoned setup w (message_of w (place_of w tsn)) g)
-read-after setup w (E.Skip x y) g a b = read-messages w (after w (E.Skip x y)) refl
-read-after setup w (E.Ack x) g a b = read-messages w (after w (E.Ack x)) refl
 read-after setup w (E.Arrive k) g a b = read-messages w (after w (E.Arrive k)) (messages-received w (slice_get w.network k))
 read-after setup w (E.Acked k) g a b = read-messages w (after w (E.Acked k)) (messages-taken w (slice_get w.network k))
 read-after setup w (E.Read s) g a b = cc
+read-after setup w event g a b = read-messages w (after w event) refl
 
 pub answered-read_of : (w : LinkRecord) (s : ℕ) (o : Option ℕ) → AsAnswered w (read_of w s o)
 answered-read_of w s None = record { count = refl; stream = λ n lt. refl; ppi = λ n lt. refl; bytes = λ n lt. refl }
@@ -108,20 +104,7 @@ answered-after setup w e g a = by (is_read e) refl
   where
     read : (e : Event) → is_read e ≡ true → AsAnswered w (after w e)
     read (E.Read s) h = answered-read_of w s (next_read w s)
-    read (E.Open s) h = cc
-    read (E.Mode s u x y) h = cc
-    read (E.Write s x y) h = cc
-    read (E.Start now) h = cc
-    read (E.Send now) h = cc
-    read (E.Resend x) h = cc
-    read (E.Expire now) h = cc
-    read (E.Tail now) h = cc
-    read (E.Late now) h = cc
-    read (E.Abandon tsn) h = cc
-    read (E.Skip x y) h = cc
-    read (E.Ack x) h = cc
-    read (E.Arrive k) h = cc
-    read (E.Acked k) h = cc
+    read event h = cc
 
     by : (b : Bool) → is_read e ≡ b → AsAnswered w (after w e)
     by true h = read e h

@@ -117,20 +117,7 @@ acknowledged-below setup ((E.Acked k, r) ∷ older) p lt = by (slice_get (record
         split : (p < taken_in setup older) ⊎ (taken_in setup older ≤ p) → (is_acknowledged_in setup older p || reported_by o p) ≡ true
         split (inl x) = or-left (is_acknowledged_in setup older p) (reported_by o p) (ih x)
         split (inr x) = or-right (is_acknowledged_in setup older p) (reported_by o p) (reported o (omega (arith, l)))
-acknowledged-below setup ((E.Open a, r) ∷ older) p lt = acknowledged-below setup older p lt
-acknowledged-below setup ((E.Mode a b c d, r) ∷ older) p lt = acknowledged-below setup older p lt
-acknowledged-below setup ((E.Write a b c, r) ∷ older) p lt = acknowledged-below setup older p lt
-acknowledged-below setup ((E.Start a, r) ∷ older) p lt = acknowledged-below setup older p lt
-acknowledged-below setup ((E.Send a, r) ∷ older) p lt = acknowledged-below setup older p lt
-acknowledged-below setup ((E.Resend a, r) ∷ older) p lt = acknowledged-below setup older p lt
-acknowledged-below setup ((E.Expire a, r) ∷ older) p lt = acknowledged-below setup older p lt
-acknowledged-below setup ((E.Tail a, r) ∷ older) p lt = acknowledged-below setup older p lt
-acknowledged-below setup ((E.Late a, r) ∷ older) p lt = acknowledged-below setup older p lt
-acknowledged-below setup ((E.Abandon a, r) ∷ older) p lt = acknowledged-below setup older p lt
-acknowledged-below setup ((E.Skip a b, r) ∷ older) p lt = acknowledged-below setup older p lt
-acknowledged-below setup ((E.Ack a, r) ∷ older) p lt = acknowledged-below setup older p lt
-acknowledged-below setup ((E.Arrive a, r) ∷ older) p lt = acknowledged-below setup older p lt
-acknowledged-below setup ((E.Read a, r) ∷ older) p lt = acknowledged-below setup older p lt
+acknowledged-below setup ((event, r) ∷ older) p lt = acknowledged-below setup older p lt
 
 -- what is acknowledged cumulatively is acknowledged
 pub taken-acknowledged : (setup : Setup) (h : History) → IsSetup setup → IsRun setup h → (p : ℕ) → p < (record_of setup h).taken

@@ -54,26 +54,12 @@ writes-short setup (entry ∷ older) run = step entry.0 entry.1 run.0 (writes-sh
   where
     step : (e : Event) (r : Reply) → refusal_of (record_of setup older) e ≡ None → list_all (short setup.largest) (writes_in older) ≡ true
         → list_all (short setup.largest) (writes_in ((e, r) ∷ older)) ≡ true
-    step (E.Write s ppi []) r ok ih = ih
     step (E.Write s ppi (b ∷ bs)) r ok ih =
         let last : Shown = (s, ppi, b ∷ bs) in
         let one : short setup.largest last ≡ true = ap (λ x. nat_le (length (b ∷ bs)) x.largest) (sym (consistent-run setup older run.1.1).setup_is)
         ∙ fits-write (record_of setup older) s ppi (b ∷ bs) ok in
         all-both (short setup.largest) (writes_in older) (last ∷ []) ih (and (short setup.largest last) true one refl)
-    step (E.Open s) r ok ih = ih
-    step (E.Mode s u v x) r ok ih = ih
-    step (E.Start now) r ok ih = ih
-    step (E.Send now) r ok ih = ih
-    step (E.Resend tsn) r ok ih = ih
-    step (E.Expire now) r ok ih = ih
-    step (E.Tail now) r ok ih = ih
-    step (E.Late now) r ok ih = ih
-    step (E.Abandon tsn) r ok ih = ih
-    step (E.Skip upto names) r ok ih = ih
-    step (E.Ack credit) r ok ih = ih
-    step (E.Arrive k) r ok ih = ih
-    step (E.Acked k) r ok ih = ih
-    step (E.Read s) r ok ih = ih
+    step event r ok ih = ih
 
 -- no message is longer than the longest taken
 pub no-larger : (setup : Setup) (h : History) (n : ℕ) → IsSetup setup → IsRun setup h → n < length (record_of setup h).messages

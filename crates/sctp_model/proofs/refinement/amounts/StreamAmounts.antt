@@ -193,21 +193,16 @@ pub amount-same : (setup : Setup) (w : LinkRecord) (e : Event) (t : ℕ) → IsS
     → amount (after w e) t ≡ amount w t
 amount-same setup w (E.Open s) t is g k = refl
 amount-same setup w (E.Mode s a b c) t is g k = refl
-amount-same setup w (E.Write s a b) t is g k = cc
 amount-same setup w (E.Start now) t is g k = amount-shape w (Changes.after_start w now) t (Shapes.shape-started w now) (λ p. refl)
 amount-same setup w (E.Send now) t is g k = amount-sent setup w now t is g
 amount-same setup w (E.Resend a) t is g k = refl
-amount-same setup w (E.Expire a) t is g k = cc
-amount-same setup w (E.Tail a) t is g k = cc
-amount-same setup w (E.Late a) t is g k = cc
-amount-same setup w (E.Abandon a) t is g k = cc
 amount-same setup w (E.Skip a b) t is g k = refl
 amount-same setup w (E.Ack a) t is g k = refl
 amount-same setup w (E.Arrive a) t is g k =
     amount-shape w (after w (E.Arrive a)) t (Network.same-received w (slice_get w.network a)).shape_is (as-datagram w (slice_get w.network a)).slots
-amount-same setup w (E.Acked a) t is g k = cc
 amount-same setup w (E.Read s) t is g k =
     amount-shape w (after w (E.Read s)) t (Network.same-read w s (next_read w s)).shape_is (as-read w s (next_read w s)).slots
+amount-same setup w event t is g k = cc
 
 -- ## A stream that is not open
 

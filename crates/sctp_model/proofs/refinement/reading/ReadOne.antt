@@ -178,7 +178,6 @@ next-same setup h e t is run ok keeps = by e ok keeps
     by (E.Start now) ok keeps = quiet (E.Start now) ok (Moves.quiet-started (record_of setup h) now)
     by (E.Send now) ok keeps =
         quiet (E.Send now) ok (Moves.quiet-sent setup (record_of setup h) now (Messages.front (record_of setup h)) (consistent-run setup h run))
-    by (E.Resend tsn) ok keeps = refl
     by (E.Expire now) ok keeps =
         quiet (E.Expire now) ok (Moves.quiet-expire setup (record_of setup h) now (Messages.front (record_of setup h)) (consistent-run setup h run))
     by (E.Tail now) ok keeps =
@@ -186,11 +185,10 @@ next-same setup h e t is run ok keeps = by e ok keeps
     by (E.Late now) ok keeps = quiet (E.Late now) ok (Moves.quiet-lates setup (record_of setup h) now (consistent-run setup h run))
     by (E.Abandon tsn) ok keeps = quiet (E.Abandon tsn) ok (Moves.quiet-abandoned setup (record_of setup h)
         (Messages.message_of (record_of setup h) (Messages.place_of (record_of setup h) tsn)) (consistent-run setup h run))
-    by (E.Skip upto names) ok keeps = refl
-    by (E.Ack credit) ok keeps = refl
     by (E.Arrive k) ok keeps = absurd keeps
     by (E.Acked k) ok keeps = next-taken (record_of setup h) (slice_get (record_of setup h).network k) t
     by (E.Read s) ok keeps = absurd keeps
+    by event ok keeps = refl
 
 -- nor does the arrival of fragments move it
 next-slots : (ps : List ℕ) (w : LinkRecord) (t : ℕ) → next_of (fold receive_slot w ps) t ≡ next_of w t

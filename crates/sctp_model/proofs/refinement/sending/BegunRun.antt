@@ -82,23 +82,19 @@ SendsNone (E.Send now) = ⊥
 SendsNone e = Unit {0}
 
 pub none-after : (setup : Setup) (w : LinkRecord) (e : Event) → Consistent setup w → SendsNone e → NoneSent (shape w) (shape (after w e))
-none-after setup w (E.Open s) g no' = none-same (shape w) (shape (after w (E.Open s))) refl
-none-after setup w (E.Mode s unordered reliability value) g no' = none-same (shape w) (shape (after w (E.Mode s unordered reliability value))) refl
 none-after setup w (E.Write s ppi bytes) g no' = none-wrote setup w s ppi bytes g
 none-after setup w (E.Start now) g no' = none-same (shape w) (shape (Changes.after_start w now)) (Shapes.shape-started w now)
 none-after setup w (E.Send now) g no' = absurd no'
-none-after setup w (E.Resend tsn) g no' = none-same (shape w) (shape (after w (E.Resend tsn))) refl
 none-after setup w (E.Expire now) g no' = none-expired w (Changes.expiring w now)
 none-after setup w (E.Tail now) g no' = none-tail w (Changes.tailing w now)
 none-after setup w (E.Late now) g no' = none-fold (Changes.late_messages w now) w
 none-after setup w (E.Abandon tsn) g no' = none-gone w (Messages.message_of w (Messages.place_of w tsn))
-none-after setup w (E.Skip upto names) g no' = none-same (shape w) (shape (after w (E.Skip upto names))) refl
-none-after setup w (E.Ack credit) g no' = none-same (shape w) (shape (after w (E.Ack credit))) refl
 none-after setup w (E.Arrive k) g no' =
     none-same (shape w) (shape (Changes.after_arrive w (slice_get w.network k))) (same-received w (slice_get w.network k)).shape_is
 none-after setup w (E.Acked k) g no' =
     none-same (shape w) (shape (Changes.after_acked w (slice_get w.network k))) (same-taken w (slice_get w.network k)).shape_is
 none-after setup w (E.Read s) g no' = none-same (shape w) (shape (Changes.after_reading w s)) (same-read w s (Receiver.next_read w s)).shape_is
+none-after setup w event g no' = none-same (shape w) (shape (after w event)) refl
 
 -- ## What a link keeps: an index for each message, and for each stream how many of its ordered messages were begun
 

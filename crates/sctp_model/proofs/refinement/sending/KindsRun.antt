@@ -158,23 +158,19 @@ turns-sent setup w now (Some n) g t =
     (record { consistent = consistent-started setup w now g; turns = turns-as (shape w) (shape (Changes.after_start w now)) (Shapes.shape-started w now) t }))
 
 turns-after : (setup : Setup) (w : LinkRecord) (e : Event) → Consistent setup w → Turns (shape w) → Turns (shape (after w e))
-turns-after setup w (E.Open s) g t = t
-turns-after setup w (E.Mode s unordered reliability value) g t = t
 turns-after setup w (E.Write s ppi bytes) g t = turns-wrote setup w s ppi bytes g t
 turns-after setup w (E.Start now) g t = turns-as (shape w) (shape (Changes.after_start w now)) (Shapes.shape-started w now) t
 turns-after setup w (E.Send now) g t = turns-sent setup w now (front w) g t
-turns-after setup w (E.Resend tsn) g t = t
 turns-after setup w (E.Expire now) g t = turns-expire w (λ n. Messages.is_unsent w n && Messages.is_past_deadline w now n) (front w) t
 turns-after setup w (E.Tail now) g t = turns-tail w (λ n. Messages.is_partially_sent w n && Messages.is_past_deadline w now n) (front w) t
 turns-after setup w (E.Late now) g t = fold-keeps (λ v. Turns (shape v)) Changes.after_abandon (λ v n h. turns-gone v n h) (Changes.late_messages w now) w t
 turns-after setup w (E.Abandon tsn) g t = turns-gone w (Messages.message_of w (Messages.place_of w tsn)) t
-turns-after setup w (E.Skip upto names) g t = t
-turns-after setup w (E.Ack credit) g t = t
 turns-after setup w (E.Arrive k) g t =
     turns-as (shape w) (shape (Changes.after_arrive w (slice_get w.network k))) (same-received w (slice_get w.network k)).shape_is t
 turns-after setup w (E.Acked k) g t =
     turns-as (shape w) (shape (Changes.after_acked w (slice_get w.network k))) (same-taken w (slice_get w.network k)).shape_is t
 turns-after setup w (E.Read s) g t = turns-as (shape w) (shape (Changes.after_reading w s)) (same-read w s (Receiver.next_read w s)).shape_is t
+turns-after setup w event g t = t
 
 pub turns-run : (setup : Setup) (h : History) → IsRun setup h → KindsInTurn (record_of setup h)
 turns-run setup [] run = λ n k h lt ord. cc
@@ -224,23 +220,18 @@ module _ (setup : Setup) (older : History) (is : IsSetup setup) (run : IsRun set
           omega (arith, m, l)
 
       by : (e : Event) → length w.slots ≤ length (after w e).slots → (after w e).taken ≤ length (after w e).slots
-      by (E.Open s) g = same (after w (E.Open s)) g refl
-      by (E.Mode s unordered reliability value) g = same (after w (E.Mode s unordered reliability value)) g refl
       by (E.Write s ppi bytes) g = same (after w (E.Write s ppi bytes)) g (wrote s ppi bytes)
-      by (E.Start now) g = same (after w (E.Start now)) g refl
       by (E.Send now) g = same (after w (E.Send now)) g (Moves.quiet-sent setup w now (front w) (consistent-run setup older run)).taken
-      by (E.Resend tsn) g = same (after w (E.Resend tsn)) g refl
       by (E.Expire now) g = same (after w (E.Expire now)) g (Moves.quiet-expire setup w now (front w) (consistent-run setup older run)).taken
       by (E.Tail now) g = same (after w (E.Tail now)) g (Moves.quiet-tail setup w (Changes.tailing w now) (consistent-run setup older run)).taken
       by (E.Late now) g = same (after w (E.Late now)) g (Moves.quiet-lates setup w now (consistent-run setup older run)).taken
       by (E.Abandon tsn) g =
           same (after w (E.Abandon tsn)) g
           (Moves.quiet-abandoned setup w (Messages.message_of w (Messages.place_of w tsn)) (consistent-run setup older run)).taken
-      by (E.Skip upto names) g = same (after w (E.Skip upto names)) g refl
-      by (E.Ack credit) g = same (after w (E.Ack credit)) g refl
       by (E.Arrive k) g = same (after w (E.Arrive k)) g (Acknowledged.as-datagram w (slice_get w.network k)).taken
       by (E.Acked k) g = acked k (slice_get w.network k) refl
       by (E.Read s) g = same (after w (E.Read s)) g (Acknowledged.as-read w s (Receiver.next_read w s)).taken
+      by event g = same (after w event) g refl
 
 pub taken-run : (setup : Setup) (h : History) → IsSetup setup → IsRun setup h → (record_of setup h).taken ≤ length (record_of setup h).slots
 taken-run setup [] is run = omega arith

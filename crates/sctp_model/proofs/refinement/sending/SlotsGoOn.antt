@@ -160,25 +160,20 @@ goes-expiring w (Some n) g =
     goes-as (expired_at (shape w) n) (shape (Changes.message_changed w n Changes.mark_expired)) (Shapes.shape-expired w n) (goes-expired (shape w) n g)
 
 goes-after : (setup : Setup) (w : LinkRecord) (e : Event) → Consistent setup w → AllGoOn (shape w) → AllGoOn (shape (after w e))
-goes-after setup w (E.Open s) a g = g
-goes-after setup w (E.Mode s u r v) a g = g
-goes-after setup w (E.Write s ppi []) a g = g
 goes-after setup w (E.Write s ppi (b ∷ bs)) a g =
     let m = written_as w s ppi (b ∷ bs) in
     goes-as (written (shape w) (message_part m)) (shape (Changes.after_write w s ppi (b ∷ bs))) (Shapes.shape-written w m)
     (goes-written (shape w) (message_part m) a.sender g)
 goes-after setup w (E.Start now) a g = goes-as (shape w) (shape (Changes.after_start w now)) (Shapes.shape-started w now) g
 goes-after setup w (E.Send now) a g = goes-sent setup w now (Messages.front w) a g
-goes-after setup w (E.Resend tsn) a g = g
 goes-after setup w (E.Expire now) a g = goes-expiring w (Changes.expiring w now) g
 goes-after setup w (E.Tail now) a g = goes-tail setup w (Changes.tailing w now) a g
 goes-after setup w (E.Late now) a g = goes-late setup (Changes.late_messages w now) w a (late-sent setup w now a) g
 goes-after setup w (E.Abandon tsn) a g = goes-gone setup w (Messages.message_of w (Messages.place_of w tsn)) a g
-goes-after setup w (E.Skip upto names) a g = g
-goes-after setup w (E.Ack credit) a g = g
 goes-after setup w (E.Arrive k) a g = goes-as (shape w) (shape (after w (E.Arrive k))) (same-received w (slice_get w.network k)).shape_is g
 goes-after setup w (E.Acked k) a g = goes-as (shape w) (shape (after w (E.Acked k))) (same-taken w (slice_get w.network k)).shape_is g
 goes-after setup w (E.Read s) a g = goes-as (shape w) (shape (after w (E.Read s))) (same-read w s (Receiver.next_read w s)).shape_is g
+goes-after setup w event a g = g
 
 -- in every history
 pub goes-run : (setup : Setup) (h : History) → IsRun setup h → AllGoOn (shape (record_of setup h))
