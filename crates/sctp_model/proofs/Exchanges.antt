@@ -18,7 +18,7 @@ use Rattle.sctp_model.specs.declared.event.LinkRefusal.TheVariants.{NotInFlight,
 use Rattle.sctp_model.specs.Reply as R
 use Rattle.sctp_model.specs.LinkRecord.{Setup, Datagram, Data, Forward, Sack, LinkRecord}
 use Rattle.sctp_model.specs.Messages
-use Rattle.sctp_model.specs.Receiver.{arrived_at, cumulative, next_read}
+use Rattle.sctp_model.specs.Receiver.{arrived_at, cumulative}
 use Rattle.sctp_model.specs.Reports.{report_of, reports, distances, gap_blocks}
 use Rattle.sctp_model.specs.Changes
 use Rattle.sctp_model.specs.Contents.{chunk_at}
@@ -31,8 +31,7 @@ use Rattle.sctp_model.proofs.acknowledgement.Acknowledged.{acknowledged_is_repor
 use Rattle.sctp_model.proofs.receiver.Arrivals.{arrivals-run, cumulative_is_seen}
 use Rattle.sctp_model.proofs.receiver.Shown.{slots-joined}
 use Rattle.sctp_model.proofs.sender.Shape.{shape, front_of, index}
-use Rattle.sctp_model.proofs.sender.Network.{same-network, network-written, network-expired, network-tail, network-late, network-abandoned, same-received}
-use Rattle.sctp_model.proofs.sender.Network.{same-taken, same-read}
+use Rattle.sctp_model.proofs.sender.Network.{same-network, network-after}
 use Rattle.sctp_model.proofs.sender.Shapes
 use Rattle.sctp_util.specs.Lists.{pieces}
 use Rattle.sctp_model.proofs.sender.SenderSteps.{of-has}
@@ -452,15 +451,7 @@ few-after w (E.Skip upto names) ok e =
 few-after w (E.Send now) ok e = few-sent w now (Messages.front w) e
 few-after w (E.Resend tsn) ok e = all-snoc few w.network (Data (Messages.place_of w tsn ∷ [])) e refl
 few-after w (E.Ack credit) ok e = all-snoc few w.network (Sack (report_of w credit)) e refl
-few-after w (E.Write s ppi bytes) ok e = ap (list_all few) (network-written w s ppi bytes) ∙ e
-few-after w (E.Expire now) ok e = ap (list_all few) (network-expired w (Changes.expiring w now)) ∙ e
-few-after w (E.Tail now) ok e = ap (list_all few) (network-tail w (Changes.tailing w now)) ∙ e
-few-after w (E.Late now) ok e = ap (list_all few) (network-late (Changes.late_messages w now) w) ∙ e
-few-after w (E.Abandon tsn) ok e = ap (list_all few) (network-abandoned w (Messages.message_of w (Messages.place_of w tsn))) ∙ e
-few-after w (E.Arrive k) ok e = ap (list_all few) (same-received w (slice_get w.network k)).network ∙ e
-few-after w (E.Acked k) ok e = ap (list_all few) (same-taken w (slice_get w.network k)).network ∙ e
-few-after w (E.Read s) ok e = ap (list_all few) (same-read w s (next_read w s)).network ∙ e
-few-after w event ok e = e
+few-after w event ok e = ap (list_all few) (network-after w event refl) ∙ e
 
 few-run : (setup : Setup) (h : History) → IsRun setup h → list_all few (record_of setup h).network ≡ true
 few-run setup [] run = refl

@@ -10,7 +10,6 @@ use Rattle.sctp_model.specs.Reply.{Reply}
 use Rattle.sctp_model.specs.Reply as R
 use Rattle.sctp_model.specs.LinkRecord.{Setup, LinkRecord}
 use Rattle.sctp_model.specs.Messages
-use Rattle.sctp_model.specs.Receiver.{next_read}
 use Rattle.sctp_model.specs.Changes
 use Rattle.sctp_model.specs.Log
 use Rattle.sctp_model.specs.Log.{LogEntry, SlotReceived, SkipReceived, SackMade, Made, MadeData, MadeForward, MadeSack, made_in, made_by, log_of, named_by}
@@ -45,17 +44,13 @@ alive-after w (E.Write s ppi (b ∷ bs)) k a =
     (λ o. let c = a n o in let e = message-old (shape w) m n o in (ap (λ y. y.expired) e ∙ c.0, ap (λ y. y.abandoned) e ∙ c.1))
     (λ z. let e : (written (shape w) m).message n ≡ m = ap (written (shape w) m).message z ∙ message-new (shape w) m in
     (ap (λ y. y.expired) e, ap (λ y. y.abandoned) e)))
-alive-after w (E.Start now) k a = alive-sent w now None a
 alive-after w (E.Send now) k a = alive-sent w now (Messages.front w) a
 alive-after w (E.Expire now) k a = cc
 alive-after w (E.Tail now) k a = cc
 alive-after w (E.Late now) k a = cc
 alive-after w (E.Abandon tsn) k a = cc
 alive-after w (E.Skip upto names) k a = cc
-alive-after w (E.Arrive x) k a = subst AllAlive (sym (Network.same-received w (slice_get w.network x)).shape_is) a
-alive-after w (E.Acked x) k a = subst AllAlive (sym (Network.same-taken w (slice_get w.network x)).shape_is) a
-alive-after w (E.Read s) k a = subst AllAlive (sym (Network.same-read w s (next_read w s)).shape_is) a
-alive-after w event k a = a
+alive-after w event k a = subst AllAlive (sym (Network.shape-after w event refl)) a
 
 abbrev pub Lossless : History → Type 0
 Lossless h = list_all (λ entry. loses_nothing entry.0) h ≡ true

@@ -201,29 +201,14 @@ sacks-sent log w now (Some n) f =
 
 sacks-after : (setup : Setup) (older : History) (e : Event) (log : List LogEntry) → ((p : ℕ) → seen_by (record_of setup older) p ≡ true → is_seen log p ≡ true)
     → SacksFit log (record_of setup older).network → SacksFit log (after (record_of setup older) e).network
-sacks-after setup older (E.Write s x y) log h f = subst (SacksFit log) (sym (Network.network-written (record_of setup older) s x y)) f
 sacks-after setup older (E.Send now) log h f = sacks-sent log (record_of setup older) now (Messages.front (record_of setup older)) f
 sacks-after setup older (E.Resend tsn) log h f =
     sacks-append log (record_of setup older).network (Data (Messages.place_of (record_of setup older) tsn ∷ []) ∷ []) f (tt, tt)
-sacks-after setup older (E.Expire now) log h f =
-    subst (SacksFit log) (sym (Network.network-expired (record_of setup older) (Changes.expiring (record_of setup older) now))) f
-sacks-after setup older (E.Tail now) log h f =
-    subst (SacksFit log) (sym (Network.network-tail (record_of setup older) (Changes.tailing (record_of setup older) now))) f
-sacks-after setup older (E.Late now) log h f =
-    subst (SacksFit log) (sym (Network.network-late (Changes.late_messages (record_of setup older) now) (record_of setup older))) f
-sacks-after setup older (E.Abandon tsn) log h f = subst (SacksFit log)
-    (sym (Network.network-abandoned (record_of setup older) (Messages.message_of (record_of setup older) (Messages.place_of (record_of setup older) tsn)))) f
 sacks-after setup older (E.Skip upto names) log h f =
     sacks-append log (record_of setup older).network (Forward (Messages.place_of (record_of setup older) upto) names.items ∷ []) f (tt, tt)
 sacks-after setup older (E.Ack credit) log h f = sacks-append log (record_of setup older).network (Sack (report_of (record_of setup older) credit) ∷ []) f
     (λ p e. h p (report-seen (record_of setup older) credit p e), tt)
-sacks-after setup older (E.Arrive k) log h f =
-    subst (SacksFit log) (sym (Network.same-received (record_of setup older) (slice_get (record_of setup older).network k)).network) f
-sacks-after setup older (E.Acked k) log h f =
-    subst (SacksFit log) (sym (Network.same-taken (record_of setup older) (slice_get (record_of setup older).network k)).network) f
-sacks-after setup older (E.Read s) log h f =
-    subst (SacksFit log) (sym (Network.same-read (record_of setup older) s (next_read (record_of setup older) s)).network) f
-sacks-after setup older event log h f = f
+sacks-after setup older event log h f = subst (SacksFit log) (sym (Network.network-after (record_of setup older) event refl)) f
 
 pub sacks-run : (setup : Setup) (h : History) → IsSetup setup → IsRun setup h → SacksFit (log_of setup h) (record_of setup h).network
 sacks-run setup [] is run = tt
@@ -387,30 +372,17 @@ acks-step setup older e r is run a = by_event e
     same v s = acks-same setup older (record_of setup older) v s a
 
     by_event : (e : Event) → Acks setup ((e, r) ∷ older) (after (record_of setup older) e)
-    by_event (E.Write s x y) = let b = quiet (after (record_of setup older) (E.Write s x y))
-        (Moves.quiet-written setup (record_of setup older) s x y (consistent-run setup older run)) in record { slots = b.slots; taken = b.taken }
-    by_event (E.Start now) = let b = quiet (after (record_of setup older) (E.Start now)) (Moves.quiet-started (record_of setup older) now) in
-        record { slots = b.slots; taken = b.taken }
-    by_event (E.Send now) = let b = quiet (after (record_of setup older) (E.Send now))
-        (Moves.quiet-sent setup (record_of setup older) now (Messages.front (record_of setup older)) (consistent-run setup older run)) in
-        record { slots = b.slots; taken = b.taken }
-    by_event (E.Expire now) = let b = quiet (after (record_of setup older) (E.Expire now))
-        (Moves.quiet-expire setup (record_of setup older) now (Messages.front (record_of setup older)) (consistent-run setup older run)) in
-        record { slots = b.slots; taken = b.taken }
-    by_event (E.Tail now) = let b = quiet (after (record_of setup older) (E.Tail now))
-        (Moves.quiet-tail setup (record_of setup older) (Changes.tailing (record_of setup older) now) (consistent-run setup older run)) in
-        record { slots = b.slots; taken = b.taken }
-    by_event (E.Late now) = let b = quiet (after (record_of setup older) (E.Late now))
-        (Moves.quiet-lates setup (record_of setup older) now (consistent-run setup older run)) in record { slots = b.slots; taken = b.taken }
-    by_event (E.Abandon tsn) = let b = quiet (after (record_of setup older) (E.Abandon tsn)) (Moves.quiet-abandoned setup (record_of setup older)
-        (Messages.message_of (record_of setup older) (Messages.place_of (record_of setup older) tsn)) (consistent-run setup older run)) in
-        record { slots = b.slots; taken = b.taken }
     by_event (E.Arrive k) = let b = same (after (record_of setup older) (E.Arrive k))
         (as-datagram (record_of setup older) (slice_get (record_of setup older).network k)) in record { slots = b.slots; taken = b.taken }
     by_event (E.Acked k) = acks-taken setup older (record_of setup older) k r refl a
     by_event (E.Read s) = let b = same (after (record_of setup older) (E.Read s)) (as-read (record_of setup older) s (next_read (record_of setup older) s)) in
         record { slots = b.slots; taken = b.taken }
-    by_event event = record { slots = a.slots; taken = a.taken }
+    by_event (E.Open s) = record { slots = a.slots; taken = a.taken }
+    by_event (E.Mode s u v x) = record { slots = a.slots; taken = a.taken }
+    by_event (E.Ack credit) = record { slots = a.slots; taken = a.taken }
+    by_event event =
+        let b = quiet (after (record_of setup older) event) (Moves.quiet-after setup (record_of setup older) event refl (consistent-run setup older run)) in
+        record { slots = b.slots; taken = b.taken }
 
 acks-run : (setup : Setup) (h : History) → IsSetup setup → IsRun setup h → Acks setup h (record_of setup h)
 acks-run setup [] is run = record { slots = λ p lt. absurd (omega arith); taken = refl }

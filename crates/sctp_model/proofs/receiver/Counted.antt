@@ -233,29 +233,15 @@ marked-run show setup ((event, r) ∷ older) is run =
         && ((Messages.message_at (after (record_of setup older) event) n).stream == s)) (numbers_read setup ((event, r) ∷ older) s) ≡ true)
         → Marked setup older (record_of setup older) → Marked setup ((event, r) ∷ older) (after (record_of setup older) event)
     by_event (E.Read t) r ok f all m = marked-read setup older t r (next_read (record_of setup older) t) refl f all m
-    by_event (E.Write s a b) r ok f all m = let q = quiet (after (record_of setup older) (E.Write s a b))
-        (Moves.quiet-written setup (record_of setup older) s a b (consistent-run setup older run.1.1)) m in record { is = q.is; made = q.made }
-    by_event (E.Start now) r ok f all m = let q = quiet (after (record_of setup older) (E.Start now)) (Moves.quiet-started (record_of setup older) now) m in
-        record { is = q.is; made = q.made }
-    by_event (E.Send now) r ok f all m = let q = quiet (after (record_of setup older) (E.Send now))
-        (Moves.quiet-sent setup (record_of setup older) now (Messages.front (record_of setup older)) (consistent-run setup older run.1.1)) m in
-        record { is = q.is; made = q.made }
-    by_event (E.Expire now) r ok f all m = let q = quiet (after (record_of setup older) (E.Expire now))
-        (Moves.quiet-expire setup (record_of setup older) now (Messages.front (record_of setup older)) (consistent-run setup older run.1.1)) m in
-        record { is = q.is; made = q.made }
-    by_event (E.Tail now) r ok f all m = let q = quiet (after (record_of setup older) (E.Tail now))
-        (Moves.quiet-tail setup (record_of setup older) (Changes.tailing (record_of setup older) now) (consistent-run setup older run.1.1)) m in
-        record { is = q.is; made = q.made }
-    by_event (E.Late now) r ok f all m = let q = quiet (after (record_of setup older) (E.Late now))
-        (Moves.quiet-lates setup (record_of setup older) now (consistent-run setup older run.1.1)) m in record { is = q.is; made = q.made }
-    by_event (E.Abandon tsn) r ok f all m = let q = quiet (after (record_of setup older) (E.Abandon tsn)) (Moves.quiet-abandoned setup (record_of setup older)
-        (Messages.message_of (record_of setup older) (Messages.place_of (record_of setup older) tsn)) (consistent-run setup older run.1.1)) m in
-        record { is = q.is; made = q.made }
     by_event (E.Arrive k) r ok f all m = let q = same (after (record_of setup older) (E.Arrive k))
         (messages-received (record_of setup older) (slice_get (record_of setup older).network k)) m in record { is = q.is; made = q.made }
     by_event (E.Acked k) r ok f all m = let q = same (after (record_of setup older) (E.Acked k))
         (messages-taken (record_of setup older) (slice_get (record_of setup older).network k)) m in record { is = q.is; made = q.made }
-    by_event event r ok f all m = record { is = m.is; made = m.made }
+    by_event (E.Open s) r ok f all m = record { is = m.is; made = m.made }
+    by_event (E.Mode s a b c) r ok f all m = record { is = m.is; made = m.made }
+    by_event (E.Ack a) r ok f all m = record { is = m.is; made = m.made }
+    by_event event r ok f all m = let q = quiet (after (record_of setup older) event)
+        (Moves.quiet-after setup (record_of setup older) event refl (consistent-run setup older run.1.1)) m in record { is = q.is; made = q.made }
 
 -- ## The law
 

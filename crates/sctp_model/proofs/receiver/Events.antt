@@ -17,8 +17,7 @@ use Rattle.sctp_model.specs.Log.{LogEntry, SlotReceived, SkipReceived, SackMade,
 use Rattle.sctp_model.specs.Laws.{IsSetup, kind_of}
 use Rattle.sctp_model.proofs.sender.Shape.{shape}
 use Rattle.sctp_model.proofs.sender.SenderRun.{Consistent, consistent-run, consistent-after, consistent-received, unless-holds}
-use Rattle.sctp_model.proofs.sender.Moves.{Quiet, quiet-none, quiet-datagram, quiet-written, quiet-started, quiet-sent, quiet-expire, quiet-tail, quiet-lates}
-use Rattle.sctp_model.proofs.sender.Moves.{quiet-abandoned}
+use Rattle.sctp_model.proofs.sender.Moves.{Quiet, quiet-after}
 use Rattle.sctp_model.proofs.sender.Network.{SlotsFit, NamesFit, Fits, fit-at, fit-run, same-slot}
 use Rattle.sctp_model.proofs.sender.Made.{made-run}
 use Rattle.sctp_util.proofs.Cases.{negated}
@@ -107,26 +106,6 @@ step-moves setup P keeps older is run e r no' ok p =
     by (E.Open s) r no' g ok a p = keeps.opened (record_of setup older) (log_of setup older) s g
         (negated (Messages.is_open (record_of setup older) s) (unless-holds (not (Messages.is_open (record_of setup older) s)) StreamOpen None ok).0) p
     by (E.Mode s unordered reliability value) r no' g ok a p = keeps.moded (record_of setup older) (log_of setup older) s unordered reliability value g p
-    by (E.Write s ppi bytes) r no' g ok a p = keeps.quiet (record_of setup older) (after (record_of setup older) (E.Write s ppi bytes))
-        (log_of setup older) g a (quiet-written setup (record_of setup older) s ppi bytes g) p
-    by (E.Start now) r no' g ok a p =
-        keeps.quiet (record_of setup older) (after (record_of setup older) (E.Start now)) (log_of setup older) g a (quiet-started (record_of setup older) now) p
-    by (E.Send now) r no' g ok a p = keeps.quiet (record_of setup older) (after (record_of setup older) (E.Send now))
-        (log_of setup older) g a (quiet-sent setup (record_of setup older) now (Messages.front (record_of setup older)) g) p
-    by (E.Resend tsn) r no' g ok a p =
-        keeps.quiet (record_of setup older) (after (record_of setup older) (E.Resend tsn)) (log_of setup older) g a (quiet-datagram (record_of setup older)
-        (record_of setup older) (W.Data (Messages.place_of (record_of setup older) tsn ∷ [])) (quiet-none (record_of setup older))) p
-    by (E.Expire now) r no' g ok a p = keeps.quiet (record_of setup older) (after (record_of setup older) (E.Expire now))
-        (log_of setup older) g a (quiet-expire setup (record_of setup older) now (Messages.front (record_of setup older)) g) p
-    by (E.Tail now) r no' g ok a p = keeps.quiet (record_of setup older) (after (record_of setup older) (E.Tail now))
-        (log_of setup older) g a (quiet-tail setup (record_of setup older) (Changes.tailing (record_of setup older) now) g) p
-    by (E.Late now) r no' g ok a p = keeps.quiet (record_of setup older) (after (record_of setup older) (E.Late now))
-        (log_of setup older) g a (quiet-lates setup (record_of setup older) now g) p
-    by (E.Abandon tsn) r no' g ok a p = keeps.quiet (record_of setup older) (after (record_of setup older) (E.Abandon tsn)) (log_of setup older) g a
-        (quiet-abandoned setup (record_of setup older) (Messages.message_of (record_of setup older) (Messages.place_of (record_of setup older) tsn)) g) p
-    by (E.Skip upto names) r no' g ok a p =
-        keeps.quiet (record_of setup older) (after (record_of setup older) (E.Skip upto names)) (log_of setup older) g a (quiet-datagram (record_of setup older)
-        (record_of setup older) (Forward (Messages.place_of (record_of setup older) upto) names.items) (quiet-none (record_of setup older))) p
     by (E.Ack credit) r no' g ok a p = keeps.reported (record_of setup older) (log_of setup older) credit g p
     by (E.Arrive k) r no' g ok a p =
         let made = made-run setup older is run in
@@ -139,6 +118,8 @@ step-moves setup P keeps older is run e r no' ok p =
         (λ e. ap (λ l. slice_get l k) (sym made) ∙ get-map_none kind_of (record_of setup older).network k e) p
     by (E.Acked k) r no' g ok a p = taken-keeps setup P keeps (record_of setup older) (log_of setup older) (slice_get (record_of setup older).network k) g p
     by (E.Read s) r no' g ok a p = cc
+    by event r no' g ok a p = keeps.quiet (record_of setup older) (after (record_of setup older) event) (log_of setup older) g a
+        (quiet-after setup (record_of setup older) event refl g) p
 
 -- in every history
 pub run-keeps : (setup : Setup) (P : LinkRecord → List LogEntry → Type 0) → Keeps setup P → (h : History) → IsSetup setup → IsRun setup h

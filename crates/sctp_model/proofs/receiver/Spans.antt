@@ -28,7 +28,7 @@ use Rattle.sctp_model.proofs.sender.Shape.{shape, on, index, sent}
 use Rattle.sctp_model.proofs.sender.Sender.{Sender}
 use Rattle.sctp_util.proofs.Cases.{by_same, negated}
 use Rattle.sctp_model.proofs.sender.SenderRun.{Consistent, consistent-run, consistent-after, unless-holds, found}
-use Rattle.sctp_model.proofs.sender.Moves.{Quiet, quiet-written, quiet-started, quiet-sent, quiet-expire, quiet-tail, quiet-lates, quiet-abandoned}
+use Rattle.sctp_model.proofs.sender.Moves.{Quiet, quiet-after}
 use Rattle.sctp_model.proofs.receiver.View
 use Rattle.sctp_model.proofs.receiver.View.{View, view, come_count, complete_at, held, line, next, read_in}
 use Rattle.sctp_model.proofs.receiver.Indexes.{on-stream, on-ordered, index-lt, next_reads}
@@ -390,14 +390,6 @@ near-after : (setup : Setup) (w : LinkRecord) (log : List LogEntry) (e : Event) 
 near-after setup w log (E.Open s) g ok a r n = near-as (view w) (view (Changes.after_open w s))
     (View.view-opened w s (negated (Messages.is_open w s) (unless-holds (not (Messages.is_open w s)) StreamOpen None ok).0)) n
 near-after setup w log (E.Mode s u y v) g ok a r n = near-as (view w) (view (Changes.after_mode w s u y v)) (View.view-moded w s u y v) n
-near-after setup w log (E.Write s ppi bytes) g ok a r n = near-quiet setup w (after w (E.Write s ppi bytes)) log g a (quiet-written setup w s ppi bytes g) r n
-near-after setup w log (E.Start now) g ok a r n = near-quiet setup w (after w (E.Start now)) log g a (quiet-started w now) r n
-near-after setup w log (E.Send now) g ok a r n = near-quiet setup w (after w (E.Send now)) log g a (quiet-sent setup w now (Messages.front w) g) r n
-near-after setup w log (E.Expire now) g ok a r n = near-quiet setup w (after w (E.Expire now)) log g a (quiet-expire setup w now (Messages.front w) g) r n
-near-after setup w log (E.Tail now) g ok a r n = near-quiet setup w (after w (E.Tail now)) log g a (quiet-tail setup w (Changes.tailing w now) g) r n
-near-after setup w log (E.Late now) g ok a r n = near-quiet setup w (after w (E.Late now)) log g a (quiet-lates setup w now g) r n
-near-after setup w log (E.Abandon tsn) g ok a r n =
-    near-quiet setup w (after w (E.Abandon tsn)) log g a (quiet-abandoned setup w (Messages.message_of w (Messages.place_of w tsn)) g) r n
 near-after setup w log (E.Arrive k) g ok a r n =
     let d = slice_get w.network k in
     let first = unless-holds (is_for_receiver d) NoSuchDatagram (unless (arrival_fits w d) SpanTooWide None) ok in
@@ -407,7 +399,8 @@ near-after setup w log (E.Arrive k) g ok a r n =
 near-after setup w log (E.Acked k) g ok a r n = near-taken w (slice_get w.network k) n
 near-after setup w log (E.Read s) g ok a r n =
     near-reads setup w log s (Receiver.next_read w s) g (unless-holds (Messages.is_open w s) StreamUnknown None ok).0 refl r n
-near-after setup w log event g ok a r n = near-as (view w) (view (after w event)) refl n
+near-after setup w log (E.Ack credit) g ok a r n = near-as (view w) (view (after w (E.Ack credit))) refl n
+near-after setup w log event g ok a r n = near-quiet setup w (after w event) log g a (quiet-after setup w event refl g) r n
 
 pub near-run : (setup : Setup) (h : History) → IsSetup setup → IsRun setup h → AllNear (view (record_of setup h))
 near-run setup [] is run = λ s. record {

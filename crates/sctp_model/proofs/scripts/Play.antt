@@ -10,7 +10,7 @@ use Rattle.sctp_data.specs.ChunkSet.{ChunkSet, fresh}
 use Rattle.sctp_model.specs.Reply.{Reply}
 use Rattle.sctp_model.specs.Reply as R
 use Rattle.sctp_model.specs.declared.event.LinkRefusal.{LinkRefusal}
-use Rattle.sctp_model.specs.LinkRecord.{Setup, StreamRecord, Datagram, LinkRecord, Forward, start}
+use Rattle.sctp_model.specs.LinkRecord.{Setup, StreamRecord, LinkRecord, Forward, start}
 use Rattle.sctp_model.specs.Messages
 use Rattle.sctp_model.specs.Changes
 use Rattle.sctp_model.specs.Steps

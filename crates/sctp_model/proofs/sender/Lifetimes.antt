@@ -17,6 +17,7 @@ use Rattle.sctp_model.specs.Changes
 use Rattle.sctp_model.specs.Log.{writes_in, started_in, moment_of}
 use Rattle.sctp_model.specs.Steps.{History, record_of, IsRun, refusal_of, after}
 use Rattle.sctp_model.specs.Laws.{IsSetup, OnEveryRun, StartsOnce, LateAbandonsListed, shown_of}
+use Rattle.sctp_model.specs.refinement.Counts.{is_write}
 use Rattle.sctp_model.proofs.sender.Shapes
 use Rattle.sctp_model.proofs.sender.SenderRun.{fold-keeps, consistent-run, written_as}
 use Rattle.sctp_model.proofs.sender.Network.{extends-after}
@@ -95,6 +96,36 @@ messages-taken w (Some (Data ps)) = refl
 messages-taken w (Some (Forward upto names)) = refl
 messages-taken w (Some (Sack r)) = refl
 
+pub count-sent : (w : LinkRecord) (now : ℕ) (o : Option ℕ) → length (Changes.send_from (Changes.after_start w now) o).messages ≡ length w.messages
+count-sent w now None = length-mapped (Changes.start_lifetime now) w.messages
+count-sent w now (Some k) = ap length (messages-sent (Changes.after_start w now)) ∙ length-mapped (Changes.start_lifetime now) w.messages
+
+count-expired : (w : LinkRecord) (o : Option ℕ) → length (Changes.after_expire w o).messages ≡ length w.messages
+count-expired w None = refl
+count-expired w (Some n) = length-changed Changes.mark_expired n w.messages
+
+count-tail : (w : LinkRecord) (o : Option ℕ) → length (Changes.after_tail w o).messages ≡ length w.messages
+count-tail w None = refl
+count-tail w (Some n) = count-abandoned w n
+
+count-read : (w : LinkRecord) (s : ℕ) (o : Option ℕ) → length (Changes.read_of w s o).messages ≡ length w.messages
+count-read w s None = refl
+count-read w s (Some n) = length-changed Changes.mark_read n w.messages
+
+-- only a write makes a message
+pub count-after : (w : LinkRecord) (e : Event) → is_write e ≡ false → length (after w e).messages ≡ length w.messages
+count-after w (E.Write s ppi bytes) no' = cc
+count-after w (E.Start now) no' = length-mapped (Changes.start_lifetime now) w.messages
+count-after w (E.Send now) no' = count-sent w now (Messages.front w)
+count-after w (E.Expire now) no' = count-expired w (Changes.expiring w now)
+count-after w (E.Tail now) no' = count-tail w (Changes.tailing w now)
+count-after w (E.Late now) no' = count-late (Changes.late_messages w now) w
+count-after w (E.Abandon tsn) no' = count-abandoned w (Messages.message_of w (Messages.place_of w tsn))
+count-after w (E.Arrive k) no' = ap length (messages-received w (slice_get w.network k))
+count-after w (E.Acked k) no' = ap length (messages-taken w (slice_get w.network k))
+count-after w (E.Read s) no' = count-read w s (next_read w s)
+count-after w event no' = refl
+
 -- one event: a message that there was
 started-after : (w : LinkRecord) (e : Event) (n : ℕ) → n < length w.messages
     → (Messages.message_at (after w e) n).started ≡ or_else (Messages.message_at w n).started (moment_of e)
@@ -132,33 +163,8 @@ started-new w (E.Write s ppi (b ∷ bs)) n le lt =
     let m = written_as w s ppi (b ∷ bs) in
     let e : n ≡ length w.messages = omega (arith, length-append w.messages (m ∷ [])) in
     ap (λ k. (Messages.message_at (Changes.after_write w s ppi (b ∷ bs)) k).started) e ∙ ap (λ y. y.started) (get-snoc_new w.messages m Messages.no_message)
-started-new w (E.Start now) n le lt = absurd (omega (arith, length-mapped (Changes.start_lifetime now) w.messages))
-started-new w (E.Send now) n le lt = absurd (few w now n (Messages.front w) le lt)
-  where
-    few : (w : LinkRecord) (now n : ℕ) (o : Option ℕ) → length w.messages ≤ n → n < length (Changes.send_from (Changes.after_start w now) o).messages → ⊥
-    few w now n None le lt = absurd (omega (arith, length-mapped (Changes.start_lifetime now) w.messages))
-    few w now n (Some m) le lt =
-        absurd (omega (arith, ap length (messages-sent (Changes.after_start w now)), length-mapped (Changes.start_lifetime now) w.messages))
-started-new w (E.Expire now) n le lt = absurd (few (Changes.expiring w now) lt)
-  where
-    few : (o : Option ℕ) → n < length (Changes.after_expire w o).messages → ⊥
-    few None lt = absurd (omega arith)
-    few (Some m) lt = absurd (omega (arith, length-changed Changes.mark_expired m w.messages))
-started-new w (E.Tail now) n le lt = absurd (few (Changes.tailing w now) lt)
-  where
-    few : (o : Option ℕ) → n < length (Changes.after_tail w o).messages → ⊥
-    few None lt = absurd (omega arith)
-    few (Some m) lt = absurd (omega (arith, count-abandoned w m))
-started-new w (E.Late now) n le lt = absurd (omega (arith, count-late (Changes.late_messages w now) w))
-started-new w (E.Abandon tsn) n le lt = absurd (omega (arith, count-abandoned w (Messages.message_of w (Messages.place_of w tsn))))
-started-new w (E.Arrive k) n le lt = absurd (omega (arith, ap length (messages-received w (slice_get w.network k))))
-started-new w (E.Acked k) n le lt = absurd (omega (arith, ap length (messages-taken w (slice_get w.network k))))
-started-new w (E.Read s) n le lt = absurd (few (next_read w s) lt)
-  where
-    few : (o : Option ℕ) → n < length (Changes.read_of w s o).messages → ⊥
-    few None lt = absurd (omega arith)
-    few (Some m) lt = absurd (omega (arith, length-changed Changes.mark_read m w.messages))
-started-new w event n le lt = absurd (omega arith)
+started-new w (E.Write s ppi []) n le lt = absurd (omega arith)
+started-new w event n le lt = absurd (omega (arith, count-after w event refl))
 
 record Begins (setup : Setup) (h : History) (w : LinkRecord) : Type 0 where
   each : (n : ℕ) → n < length w.messages → (Messages.message_at w n).started ≡ started_in h n

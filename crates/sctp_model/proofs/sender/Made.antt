@@ -1,6 +1,5 @@
 -- The datagrams of the record are those that the events and replies tell of.
 use Rattle.std.proofs.Common.{◌≡◌, ℕ, ◌+◌, ◌-◌, ◌<◌, ◌%◌, ◌^◌, [], ◌∷◌, ◌++◌, length, map, Option, Some, None, refl, ap, sym, ◌∙◌, arith, append-nil}
-use Rattle.std.specs.Prelude.{slice_get}
 use Rattle.std.proofs.lemmas.List.{map-append}
 use Rattle.sctp_util.specs.Kept.{numbers_from}
 use Rattle.sctp_model.specs.declared.event.Event.{Event}
@@ -8,15 +7,13 @@ use Rattle.sctp_model.specs.declared.event.Event.TheVariants as E
 use Rattle.sctp_model.specs.LinkRecord.{Setup, Datagram, Forward, LinkRecord, start}
 use Rattle.sctp_model.specs.LinkRecord as W
 use Rattle.sctp_model.specs.Messages
-use Rattle.sctp_model.specs.Receiver
 use Rattle.sctp_model.specs.Changes
 use Rattle.sctp_model.specs.Steps.{History, record_of, IsRun, reply_to, after, sent_reply}
 use Rattle.sctp_model.specs.Log.{MadeData, MadeForward, made_by, made_in, place_in}
 use Rattle.sctp_model.specs.Laws.{IsSetup, OnEveryRun, NetworkIsMade, kind_of}
 use Rattle.sctp_model.proofs.sender.SenderRun.{Consistent, consistent-run}
 use Rattle.sctp_model.proofs.sender.Few.{few}
-use Rattle.sctp_model.proofs.sender.Network.{same-network, network-written, network-expired, network-tail, network-late, network-abandoned, same-received}
-use Rattle.sctp_model.proofs.sender.Network.{same-taken, same-read}
+use Rattle.sctp_model.proofs.sender.Network.{same-network, network-after}
 
 -- a TSN that was given out has its place
 pub place-back : (first p : ℕ) → first < 2 ^ 32 → p < 2 ^ 32 → ((first + p) % 2 ^ 32 + (2 ^ 32 - first)) % 2 ^ 32 ≡ p
@@ -48,24 +45,13 @@ place-same setup w tsn g = ap (λ s. place_in s tsn) g.setup_is
 
 made-step : (setup : Setup) (w : LinkRecord) (e : Event) → IsSetup setup → Consistent setup w
     → map kind_of (after w e).network ≡ map kind_of w.network ++ made_by setup e (reply_to w e)
-made-step setup w (E.Open s) is g = kinds-same w (Changes.after_open w s) refl
-made-step setup w (E.Mode s unordered reliability value) is g = kinds-same w (Changes.after_mode w s unordered reliability value) refl
-made-step setup w (E.Write s ppi bytes) is g = kinds-same w (Changes.after_write w s ppi bytes) (network-written w s ppi bytes)
-made-step setup w (E.Start now) is g = kinds-same w (Changes.after_start w now) refl
 made-step setup w (E.Send now) is g = made-sent setup w now (Messages.front w) is g
 made-step setup w (E.Resend tsn) is g = kinds-more w (Changes.after_resend w tsn) (W.Data (Messages.place_of w tsn ∷ [])) refl
     ∙ ap (λ p. map kind_of w.network ++ MadeData (p ∷ []) ∷ []) (place-same setup w tsn g)
-made-step setup w (E.Expire now) is g = kinds-same w (Changes.after_expire w (Changes.expiring w now)) (network-expired w (Changes.expiring w now))
-made-step setup w (E.Tail now) is g = kinds-same w (Changes.after_tail w (Changes.tailing w now)) (network-tail w (Changes.tailing w now))
-made-step setup w (E.Late now) is g = kinds-same w (Changes.after_late w now) (network-late (Changes.late_messages w now) w)
-made-step setup w (E.Abandon tsn) is g = kinds-same w (Changes.after_abandon w (Messages.message_of w (Messages.place_of w tsn)))
-    (network-abandoned w (Messages.message_of w (Messages.place_of w tsn)))
 made-step setup w (E.Skip upto names) is g = kinds-more w (after w (E.Skip upto names)) (Forward (Messages.place_of w upto) names.items) refl
     ∙ ap (λ p. map kind_of w.network ++ MadeForward p names.items ∷ []) (place-same setup w upto g)
 made-step setup w (E.Ack credit) is g = map-append kind_of w.network _
-made-step setup w (E.Arrive k) is g = kinds-same w (Changes.after_arrive w (slice_get w.network k)) (same-received w (slice_get w.network k)).network
-made-step setup w (E.Acked k) is g = kinds-same w (Changes.after_acked w (slice_get w.network k)) (same-taken w (slice_get w.network k)).network
-made-step setup w (E.Read s) is g = kinds-same w (Changes.after_reading w s) (same-read w s (Receiver.next_read w s)).network
+made-step setup w event is g = kinds-same w (after w event) (network-after w event refl)
 
 pub made-run : (setup : Setup) (h : History) → IsSetup setup → IsRun setup h → map kind_of (record_of setup h).network ≡ made_in setup h
 made-run setup [] is run = refl

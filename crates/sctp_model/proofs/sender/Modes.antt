@@ -124,74 +124,42 @@ record Moded (h : History) (w : LinkRecord) : Type 0 where
 
 moded-step : (setup : Setup) (older : History) (e : Event) (r : Reply) → refusal_of (record_of setup older) e ≡ None → IsRun setup older
     → Moded older (record_of setup older) → Moded ((e, r) ∷ older) (after (record_of setup older) e)
-moded-step setup older e r ok run m = by e ok
+moded-step setup older e r ok run m = record { streams = streams e ok; messages = messages e }
   where
-    quiet : (v : LinkRecord) → Moves.Quiet (record_of setup older) v → (s : ℕ) → mode_now (stream_of v s) ≡ mode_in older s
-    quiet v q s = modes-quiet (record_of setup older) v q s ∙ m.streams s
+    w : LinkRecord
+    w = record_of setup older
 
     swap : (a b : ℕ) → (a == b) ≡ (b == a)
     swap a b = same_test (a == b) (b == a) (λ e. grind (arith, nat_tests)) (λ e. grind (arith, nat_tests))
 
-    by : (e : Event) → refusal_of (record_of setup older) e ≡ None → Moded ((e, r) ∷ older) (after (record_of setup older) e)
-    by (E.Open s) ok = record {
-      streams = λ t. ap mode_now (find-more s t (record_of setup older).streams (negated (Messages.is_open (record_of setup older) s)
-          (unless-holds (not (Messages.is_open (record_of setup older) s)) StreamOpen None ok).0)) ∙ m.streams t;
-      messages = m.messages;
-    }
-    by (E.Mode s unordered reliability value) ok = record {
-      streams = λ t.
-          let new : Mode = record { unordered = unordered; reliability = reliability; value = value } in
-          field-changed mode_now (λ y. new) (Changes.with_mode unordered reliability value) (λ r. refl) (λ r. refl)
-          (record_of setup older) s t (unless-holds (Messages.is_open (record_of setup older) s) StreamUnknown None ok).0
-          ∙ ap (λ b. if b then new else mode_now (stream_of (record_of setup older) t)) (swap t s) ∙ ap (λ y. if s == t then new else y) (m.streams t);
-      messages = m.messages;
-    }
-    by (E.Write s ppi (b ∷ bs)) ok = record {
-      streams = m.streams;
-      messages = map-append mode_of (record_of setup older).messages (written_as (record_of setup older) s ppi (b ∷ bs) ∷ [])
-          ∙ ap (λ l. l ++ mode_for ppi (mode_now (stream_of (record_of setup older) s)) ∷ []) m.messages
-          ∙ ap (λ y. modes_in older ++ mode_for ppi y ∷ []) (m.streams s);
-    }
-    by (E.Start now) ok = record { streams = m.streams; messages = kept-sent (record_of setup older) now None ∙ m.messages }
-    by (E.Send now) ok = record {
-      streams = quiet (after (record_of setup older) (E.Send now))
-          (Moves.quiet-sent setup (record_of setup older) now (Messages.front (record_of setup older)) (consistent-run setup older run));
-      messages = kept-sent (record_of setup older) now (Messages.front (record_of setup older)) ∙ m.messages;
-    }
-    by (E.Expire now) ok = record {
-      streams = quiet (after (record_of setup older) (E.Expire now))
-          (Moves.quiet-expire setup (record_of setup older) now (Messages.front (record_of setup older)) (consistent-run setup older run));
-      messages = kept-expired (record_of setup older) (Changes.expiring (record_of setup older) now) ∙ m.messages;
-    }
-    by (E.Tail now) ok = record {
-      streams = quiet (after (record_of setup older) (E.Tail now))
-          (Moves.quiet-tail setup (record_of setup older) (Changes.tailing (record_of setup older) now) (consistent-run setup older run));
-      messages = kept-tail (record_of setup older) (Changes.tailing (record_of setup older) now) ∙ m.messages;
-    }
-    by (E.Late now) ok = record {
-      streams = quiet (after (record_of setup older) (E.Late now)) (Moves.quiet-lates setup (record_of setup older) now (consistent-run setup older run));
-      messages = fold-keeps (λ v. kept_modes v ≡ kept_modes (record_of setup older)) Changes.after_abandon (λ v n e. kept-abandoned v n ∙ e)
-          (Changes.late_messages (record_of setup older) now) (record_of setup older) refl ∙ m.messages;
-    }
-    by (E.Abandon tsn) ok = record {
-      streams = quiet (after (record_of setup older) (E.Abandon tsn)) (Moves.quiet-abandoned setup (record_of setup older)
-          (Messages.message_of (record_of setup older) (Messages.place_of (record_of setup older) tsn)) (consistent-run setup older run));
-      messages = kept-abandoned (record_of setup older) (Messages.message_of (record_of setup older) (Messages.place_of (record_of setup older) tsn))
-          ∙ m.messages;
-    }
-    by (E.Arrive k) ok = record {
-      streams = λ t. modes-received (record_of setup older) (slice_get (record_of setup older).network k) t ∙ m.streams t;
-      messages = ap (map mode_of) (messages-received (record_of setup older) (slice_get (record_of setup older).network k)) ∙ m.messages;
-    }
-    by (E.Acked k) ok = record {
-      streams = λ t. modes-taken (record_of setup older) (slice_get (record_of setup older).network k) t ∙ m.streams t;
-      messages = ap (map mode_of) (messages-taken (record_of setup older) (slice_get (record_of setup older).network k)) ∙ m.messages;
-    }
-    by (E.Read s) ok = record {
-      streams = λ t. modes-read (record_of setup older) s (next_read (record_of setup older) s) t ∙ m.streams t;
-      messages = kept-read (record_of setup older) s (next_read (record_of setup older) s) ∙ m.messages;
-    }
-    by event ok = record { streams = m.streams; messages = m.messages }
+    streams : (e : Event) → refusal_of w e ≡ None → ModesAre ((e, r) ∷ older) (after w e)
+    streams (E.Open s) ok t = ap mode_now (find-more s t w.streams
+        (negated (Messages.is_open w s) (unless-holds (not (Messages.is_open w s)) StreamOpen None ok).0)) ∙ m.streams t
+    streams (E.Mode s unordered reliability value) ok t =
+        let new : Mode = record { unordered = unordered; reliability = reliability; value = value } in
+        field-changed mode_now (λ y. new) (Changes.with_mode unordered reliability value) (λ r. refl) (λ r. refl)
+        w s t (unless-holds (Messages.is_open w s) StreamUnknown None ok).0
+        ∙ ap (λ b. if b then new else mode_now (stream_of w t)) (swap t s) ∙ ap (λ y. if s == t then new else y) (m.streams t)
+    streams (E.Ack credit) ok t = m.streams t
+    streams (E.Arrive k) ok t = modes-received w (slice_get w.network k) t ∙ m.streams t
+    streams (E.Acked k) ok t = modes-taken w (slice_get w.network k) t ∙ m.streams t
+    streams (E.Read s) ok t = modes-read w s (next_read w s) t ∙ m.streams t
+    streams event ok t = modes-quiet w (after w event) (Moves.quiet-after setup w event refl (consistent-run setup older run)) t ∙ m.streams t
+
+    messages : (e : Event) → kept_modes (after w e) ≡ modes_in ((e, r) ∷ older)
+    messages (E.Write s ppi (b ∷ bs)) = map-append mode_of w.messages (written_as w s ppi (b ∷ bs) ∷ [])
+        ∙ ap (λ l. l ++ mode_for ppi (mode_now (stream_of w s)) ∷ []) m.messages ∙ ap (λ y. modes_in older ++ mode_for ppi y ∷ []) (m.streams s)
+    messages (E.Start now) = kept-sent w now None ∙ m.messages
+    messages (E.Send now) = kept-sent w now (Messages.front w) ∙ m.messages
+    messages (E.Expire now) = kept-expired w (Changes.expiring w now) ∙ m.messages
+    messages (E.Tail now) = kept-tail w (Changes.tailing w now) ∙ m.messages
+    messages (E.Late now) = fold-keeps (λ v. kept_modes v ≡ kept_modes w) Changes.after_abandon (λ v n e. kept-abandoned v n ∙ e)
+        (Changes.late_messages w now) w refl ∙ m.messages
+    messages (E.Abandon tsn) = kept-abandoned w (Messages.message_of w (Messages.place_of w tsn)) ∙ m.messages
+    messages (E.Arrive k) = ap (map mode_of) (messages-received w (slice_get w.network k)) ∙ m.messages
+    messages (E.Acked k) = ap (map mode_of) (messages-taken w (slice_get w.network k)) ∙ m.messages
+    messages (E.Read s) = kept-read w s (next_read w s) ∙ m.messages
+    messages event = m.messages
 
 pub modes_are_kept : OnEveryRun ModesAreKept
 modes_are_kept setup h is run = (all h run).messages

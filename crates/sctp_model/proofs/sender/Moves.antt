@@ -6,10 +6,13 @@ use Rattle.std.proofs.lemmas.Bool.{cases_lt}
 use Rattle.sctp_util.proofs.More.{length-changed, changed-keeps}
 use Rattle.sctp_util.specs.Lists.{change_at}
 use Rattle.sctp_data.specs.declared.chunk.chunk_payload_data.PayloadProtocolIdentifier.{PayloadProtocolIdentifier}
-use Rattle.sctp_model.specs.LinkRecord.{Setup, Message, Slot, Datagram, Data, LinkRecord}
+use Rattle.sctp_model.specs.declared.event.Event.{Event}
+use Rattle.sctp_model.specs.declared.event.Event.TheVariants as E
+use Rattle.sctp_model.specs.LinkRecord.{Setup, Message, Slot, Datagram, Data, Forward, LinkRecord}
 use Rattle.sctp_model.specs.Messages
 use Rattle.sctp_model.specs.Receiver.{arrived_at}
 use Rattle.sctp_model.specs.Changes
+use Rattle.sctp_model.specs.Steps.{after}
 use Rattle.sctp_model.proofs.sender.Shape.{shape, message_part, slotted, abandoned_at, expired_at, written}
 use Rattle.sctp_model.proofs.sender.Shapes
 use Rattle.sctp_model.proofs.sender.Fronts.{front-takes, of-unsent}
@@ -265,3 +268,25 @@ quiet-tail setup w (Some n) g = quiet-abandoned setup w n g
 
 pub quiet-lates : (setup : Setup) (w : LinkRecord) (now : ℕ) → Consistent setup w → Quiet w (Changes.after_late w now)
 quiet-lates setup w now g = quiet-late setup (Changes.late_messages w now) w g (late-sent setup w now g)
+
+-- not so are what opens a stream or sets its mode, what makes or takes a SACK, an arrival and a read
+abbrev pub is_quiet : Event → Bool
+is_quiet (E.Open s) = false
+is_quiet (E.Mode s unordered reliability value) = false
+is_quiet (E.Ack credit) = false
+is_quiet (E.Arrive k) = false
+is_quiet (E.Acked k) = false
+is_quiet (E.Read s) = false
+is_quiet event = true
+
+pub quiet-after : (setup : Setup) (w : LinkRecord) (e : Event) → is_quiet e ≡ true → Consistent setup w → Quiet w (after w e)
+quiet-after setup w (E.Write s ppi bytes) q g = quiet-written setup w s ppi bytes g
+quiet-after setup w (E.Start now) q g = quiet-started w now
+quiet-after setup w (E.Send now) q g = quiet-sent setup w now (Messages.front w) g
+quiet-after setup w (E.Resend tsn) q g = quiet-datagram w w (Data (Messages.place_of w tsn ∷ [])) (quiet-none w)
+quiet-after setup w (E.Expire now) q g = quiet-expire setup w now (Messages.front w) g
+quiet-after setup w (E.Tail now) q g = quiet-tail setup w (Changes.tailing w now) g
+quiet-after setup w (E.Late now) q g = quiet-lates setup w now g
+quiet-after setup w (E.Abandon tsn) q g = quiet-abandoned setup w (Messages.message_of w (Messages.place_of w tsn)) g
+quiet-after setup w (E.Skip upto names) q g = quiet-datagram w w (Forward (Messages.place_of w upto) names.items) (quiet-none w)
+quiet-after setup w event q g = cc

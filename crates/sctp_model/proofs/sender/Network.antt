@@ -102,6 +102,29 @@ pub same-read : (w : LinkRecord) (s : ℕ) (o : Option ℕ) → Same w (Changes.
 same-read w s None = record { setup = refl; network = refl; shape_is = refl }
 same-read w s (Some n) = record { setup = refl; network = refl; shape_is = Shapes.shape-read w n }
 
+-- it changes neither which messages there are nor which of their fragments were sent
+abbrev pub leaves_shape : Event → Bool
+leaves_shape (E.Write s ppi (b ∷ bs)) = false
+leaves_shape (E.Send now) = false
+leaves_shape (E.Expire now) = false
+leaves_shape (E.Tail now) = false
+leaves_shape (E.Late now) = false
+leaves_shape (E.Abandon tsn) = false
+leaves_shape event = true
+
+pub shape-after : (w : LinkRecord) (e : Event) → leaves_shape e ≡ true → shape (after w e) ≡ shape w
+shape-after w (E.Start now) l = Shapes.shape-started w now
+shape-after w (E.Arrive k) l = (same-received w (slice_get w.network k)).shape_is
+shape-after w (E.Acked k) l = (same-taken w (slice_get w.network k)).shape_is
+shape-after w (E.Read s) l = (same-read w s (Receiver.next_read w s)).shape_is
+shape-after w (E.Write s ppi (b ∷ bs)) l = cc
+shape-after w (E.Send now) l = cc
+shape-after w (E.Expire now) l = cc
+shape-after w (E.Tail now) l = cc
+shape-after w (E.Late now) l = cc
+shape-after w (E.Abandon tsn) l = cc
+shape-after w event l = refl
+
 one-datagram : (w v : LinkRecord) (d : Datagram) → v.setup ≡ w.setup → v.network ≡ w.network ++ d ∷ [] → shape v ≡ shape w → Extends w v
 one-datagram w v d a b c = record { setup = a; network = (d ∷ [], b); grows = grows-same (shape w) (shape v) c }
 
@@ -109,20 +132,11 @@ pub extends-after : (setup : Setup) (w : LinkRecord) (e : Event) → refusal_of 
 extends-after setup w (E.Open s) ok g = extends-same w (Changes.after_open w s) (record { setup = refl; network = refl; shape_is = refl })
 extends-after setup w (E.Mode s unordered reliability value) ok g =
     extends-same w (Changes.after_mode w s unordered reliability value) (record { setup = refl; network = refl; shape_is = refl })
-extends-after setup w (E.Write s ppi bytes) ok g = of-quiet w (Changes.after_write w s ppi bytes) (Moves.quiet-written setup w s ppi bytes g)
-extends-after setup w (E.Start now) ok g = of-quiet w (Changes.after_start w now) (Moves.quiet-started w now)
-extends-after setup w (E.Send now) ok g = of-quiet w (Changes.after_send w now) (Moves.quiet-sent setup w now (Messages.front w) g)
-extends-after setup w (E.Resend tsn) ok g = one-datagram w (Changes.after_resend w tsn) (W.Data (Messages.place_of w tsn ∷ [])) refl refl refl
-extends-after setup w (E.Expire now) ok g = of-quiet w (Changes.after_expire w (Changes.expiring w now)) (Moves.quiet-expire setup w now (Messages.front w) g)
-extends-after setup w (E.Tail now) ok g = of-quiet w (Changes.after_tail w (Changes.tailing w now)) (Moves.quiet-tail setup w (Changes.tailing w now) g)
-extends-after setup w (E.Late now) ok g = of-quiet w (Changes.after_late w now) (Moves.quiet-lates setup w now g)
-extends-after setup w (E.Abandon tsn) ok g = of-quiet w (Changes.after_abandon w (Messages.message_of w (Messages.place_of w tsn)))
-    (Moves.quiet-abandoned setup w (Messages.message_of w (Messages.place_of w tsn)) g)
-extends-after setup w (E.Skip upto names) ok g = one-datagram w (after w (E.Skip upto names)) (Forward (Messages.place_of w upto) names.items) refl refl refl
 extends-after setup w (E.Ack credit) ok g = one-datagram w (Changes.after_ack w credit) (Sack (report_of w credit)) refl refl refl
 extends-after setup w (E.Arrive k) ok g = extends-same w (Changes.after_arrive w (slice_get w.network k)) (same-received w (slice_get w.network k))
 extends-after setup w (E.Acked k) ok g = extends-same w (Changes.after_acked w (slice_get w.network k)) (same-taken w (slice_get w.network k))
 extends-after setup w (E.Read s) ok g = extends-same w (Changes.after_reading w s) (same-read w s (Receiver.next_read w s))
+extends-after setup w event ok g = of-quiet w (after w event) (Moves.quiet-after setup w event refl g)
 
 -- ## What lies in the network
 
@@ -307,12 +321,6 @@ names-fit w upto (n ∷ ns) s e = let a = both (can_name w upto n) (list_all (ca
 
 -- ## In every history
 
-fit-quiet : (w v : LinkRecord) → Sender (shape w) → Moves.Quiet w v → v.network ≡ w.network → AllFit (shape w) w.network → AllFit (shape v) v.network
-fit-quiet w v s q e a = fit-kept w v s q.grows e a
-
-fit-same : (w v : LinkRecord) → Sender (shape w) → Same w v → AllFit (shape w) w.network → AllFit (shape v) v.network
-fit-same w v s q a = fit-kept w v s (grows-same (shape w) (shape v) q.shape_is) q.network a
-
 pub network-abandoned : (w : LinkRecord) (n : ℕ) → (Changes.after_abandon w n).network ≡ w.network
 network-abandoned w n = step (Messages.is_partially_sent w n)
   where
@@ -335,6 +343,29 @@ network-expired w (Some n) = refl
 pub network-written : (w : LinkRecord) (s : ℕ) (ppi : PayloadProtocolIdentifier) (bytes : List ℕ) → (Changes.after_write w s ppi bytes).network ≡ w.network
 network-written w s ppi [] = refl
 network-written w s ppi (b ∷ bs) = refl
+
+-- it makes no datagram
+abbrev pub makes_none : Event → Bool
+makes_none (E.Send now) = false
+makes_none (E.Resend tsn) = false
+makes_none (E.Skip upto names) = false
+makes_none (E.Ack credit) = false
+makes_none event = true
+
+pub network-after : (w : LinkRecord) (e : Event) → makes_none e ≡ true → (after w e).network ≡ w.network
+network-after w (E.Write s ppi bytes) n = network-written w s ppi bytes
+network-after w (E.Expire now) n = network-expired w (Changes.expiring w now)
+network-after w (E.Tail now) n = network-tail w (Changes.tailing w now)
+network-after w (E.Late now) n = network-late (Changes.late_messages w now) w
+network-after w (E.Abandon tsn) n = network-abandoned w (Messages.message_of w (Messages.place_of w tsn))
+network-after w (E.Arrive k) n = (same-received w (slice_get w.network k)).network
+network-after w (E.Acked k) n = (same-taken w (slice_get w.network k)).network
+network-after w (E.Read s) n = (same-read w s (Receiver.next_read w s)).network
+network-after w (E.Send now) n = cc
+network-after w (E.Resend tsn) n = cc
+network-after w (E.Skip upto names) n = cc
+network-after w (E.Ack credit) n = cc
+network-after w event n = refl
 
 pub skip-ok : (w : LinkRecord) (upto : ℕ) (names : List ℕ) → skip_refusal w upto names ≡ None
     → (upto < length w.slots) × (list_all (can_name w upto) names ≡ true)
@@ -359,31 +390,15 @@ resend-ok w p s e =
 
 pub fit-after : (setup : Setup) (w : LinkRecord) (e : Event) → refusal_of w e ≡ None → Consistent setup w → AllFit (shape w) w.network
     → AllFit (shape (after w e)) (after w e).network
-fit-after setup w (E.Open s) ok g a = a
-fit-after setup w (E.Mode s unordered reliability value) ok g a = a
-fit-after setup w (E.Write s ppi bytes) ok g a =
-    fit-quiet w (Changes.after_write w s ppi bytes) g.sender (Moves.quiet-written setup w s ppi bytes g) (network-written w s ppi bytes) a
-fit-after setup w (E.Start now) ok g a = fit-quiet w (Changes.after_start w now) g.sender (Moves.quiet-started w now) refl a
 fit-after setup w (E.Send now) ok g a = fit-sent setup w now (Messages.front w) g a
 fit-after setup w (E.Resend tsn) ok g a = all-fit-append (shape w) w.network (W.Data (Messages.place_of w tsn ∷ []) ∷ []) a
     (resend-ok w (Messages.place_of w tsn) g.sender (unless-holds (can_resend w (Messages.place_of w tsn)) NotInFlight None ok).0, tt)
-fit-after setup w (E.Expire now) ok g a = fit-quiet w (Changes.after_expire w (Changes.expiring w now)) g.sender
-    (Moves.quiet-expire setup w now (Messages.front w) g) (network-expired w (Changes.expiring w now)) a
-fit-after setup w (E.Tail now) ok g a = fit-quiet w (Changes.after_tail w (Changes.tailing w now)) g.sender (Moves.quiet-tail setup w (Changes.tailing w now) g)
-    (network-tail w (Changes.tailing w now)) a
-fit-after setup w (E.Late now) ok g a =
-    fit-quiet w (Changes.after_late w now) g.sender (Moves.quiet-lates setup w now g) (network-late (Changes.late_messages w now) w) a
-fit-after setup w (E.Abandon tsn) ok g a = fit-quiet w (Changes.after_abandon w (Messages.message_of w (Messages.place_of w tsn))) g.sender
-    (Moves.quiet-abandoned setup w (Messages.message_of w (Messages.place_of w tsn)) g)
-    (network-abandoned w (Messages.message_of w (Messages.place_of w tsn))) a
 fit-after setup w (E.Skip upto names) ok g a =
     let s = skip-ok w (Messages.place_of w upto) names.items ok in
     all-fit-append (shape w) w.network (Forward (Messages.place_of w upto) names.items ∷ []) a
     ((s.0, names-fit w (Messages.place_of w upto) names.items g.sender s.1), tt)
 fit-after setup w (E.Ack credit) ok g a = all-fit-append (shape w) w.network (Sack (report_of w credit) ∷ []) a (tt, tt)
-fit-after setup w (E.Arrive k) ok g a = fit-same w (Changes.after_arrive w (slice_get w.network k)) g.sender (same-received w (slice_get w.network k)) a
-fit-after setup w (E.Acked k) ok g a = fit-same w (Changes.after_acked w (slice_get w.network k)) g.sender (same-taken w (slice_get w.network k)) a
-fit-after setup w (E.Read s) ok g a = fit-same w (Changes.after_reading w s) g.sender (same-read w s (Receiver.next_read w s)) a
+fit-after setup w event ok g a = fit-kept w (after w event) g.sender (extends-after setup w event ok g).grows (network-after w event refl) a
 
 pub fit-run : (setup : Setup) (h : History) → IsRun setup h → AllFit (shape (record_of setup h)) (record_of setup h).network
 fit-run setup [] run = tt

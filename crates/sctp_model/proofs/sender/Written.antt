@@ -1,6 +1,6 @@
 -- The messages of the record are the accepted writes.
 use Rattle.std.proofs.Common.{◌≡◌, ℕ, ◌+◌, ◌^◌, Bool, true, false, List, [], ◌∷◌, ◌++◌, length, map, Option, Some, None, refl, ap, ◌∙◌, arith, add-one}
-use Rattle.std.specs.Prelude.{if◌then◌else◌, ◌==◌, find, is_some, slice_get, unwrap_or, nat_le, nat_lt}
+use Rattle.std.specs.Prelude.{if◌then◌else◌, ◌==◌, find, is_some, unwrap_or, nat_le, nat_lt}
 use Rattle.std.proofs.lemmas.List.{map-append}
 use Rattle.sctp_util.specs.Kept.{numbers_where, always}
 use Rattle.sctp_util.proofs.Passing.{map-kept-same, kept-snoc_in}
@@ -11,7 +11,6 @@ use Rattle.sctp_model.specs.declared.event.LinkRefusal.TheVariants.{StreamUnknow
 use Rattle.sctp_model.specs.Reply.{Reply}
 use Rattle.sctp_model.specs.LinkRecord.{Setup, StreamRecord, LinkRecord}
 use Rattle.sctp_model.specs.Messages
-use Rattle.sctp_model.specs.Receiver.{next_read}
 use Rattle.sctp_model.specs.Changes
 use Rattle.sctp_model.specs.Log.{Shown, writes_in}
 use Rattle.sctp_model.specs.Steps.{History, record_of, refusal_of, after, unless, fragments_accepted, fragments_in}
@@ -86,7 +85,6 @@ written-step setup older (E.Write s ppi (b ∷ bs)) r ok t =
     ap answered (Shapes.shape-written w (written_as w s ppi (b ∷ bs))) ∙ answered-written (shape w) (message_part (written_as w s ppi (b ∷ bs)))
     ∙ ap (λ l. l ++ shown_part (message_part (written_as w s ppi (b ∷ bs))) ∷ []) t
     ∙ (let pair : ℕ → Shown = λ k. (k, ppi, b ∷ bs) in ap (λ k. writes_in older ++ pair k ∷ []) (stream-named w s (write-open w s ppi (b ∷ bs) ok)))
-written-step setup older (E.Start now) r ok t = ap answered (Shapes.shape-started (record_of setup older) now) ∙ t
 written-step setup older (E.Send now) r ok t = answered-sends (record_of setup older) now (Messages.front (record_of setup older)) ∙ t
 written-step setup older (E.Expire now) r ok t = answered-expired (record_of setup older) (Changes.expiring (record_of setup older) now) ∙ t
 written-step setup older (E.Tail now) r ok t = answered-tail (record_of setup older) (Changes.tailing (record_of setup older) now) ∙ t
@@ -94,12 +92,7 @@ written-step setup older (E.Late now) r ok t = fold-keeps (λ v. answered (shape
     (λ v n e. answered-abandoned v n ∙ e) (Changes.late_messages (record_of setup older) now) (record_of setup older) refl ∙ t
 written-step setup older (E.Abandon tsn) r ok t =
     answered-abandoned (record_of setup older) (Messages.message_of (record_of setup older) (Messages.place_of (record_of setup older) tsn)) ∙ t
-written-step setup older (E.Arrive k) r ok t =
-    ap answered (Network.same-received (record_of setup older) (slice_get (record_of setup older).network k)).shape_is ∙ t
-written-step setup older (E.Acked k) r ok t = ap answered (Network.same-taken (record_of setup older) (slice_get (record_of setup older).network k)).shape_is
-    ∙ t
-written-step setup older (E.Read s) r ok t = ap answered (Network.same-read (record_of setup older) s (next_read (record_of setup older) s)).shape_is ∙ t
-written-step setup older event r ok t = t
+written-step setup older event r ok t = ap answered (Network.shape-after (record_of setup older) event refl) ∙ t
 
 pub messages_are_writes : OnEveryRun MessagesAreWrites
 messages_are_writes setup [] is run = refl

@@ -3,30 +3,27 @@ use Rattle.std.proofs.Common.{◌≡◌, ℕ, ◌+◌, ◌<◌, Bool, true, fals
 use Rattle.std.specs.Prelude.{if◌then◌else◌, ◌==◌, ◌&&◌, not, slice_get, slice_index_or}
 use Rattle.std.proofs.lemmas.Bool.Decides.{nat_tests}
 use Rattle.sctp_util.specs.Kept.{numbers_where, total_over}
-use Rattle.sctp_util.proofs.Getting.{length-mapped}
 use Rattle.sctp_util.proofs.More.{length-changed, changed-keeps, changed-same, changed-other}
 use Rattle.sctp_util.proofs.Totals.{total-one, total-where}
 use Rattle.sctp_data.specs.declared.chunk.chunk_payload_data.PayloadProtocolIdentifier.{PayloadProtocolIdentifier}
 use Rattle.sctp_model.specs.declared.event.Event.{Event}
 use Rattle.sctp_model.specs.declared.event.Event.TheVariants as E
 use Rattle.sctp_model.specs.LinkRecord.{Setup, LinkRecord}
-use Rattle.sctp_model.specs.Messages.{message_at, message_of, place_of, stream_of, no_message, front}
+use Rattle.sctp_model.specs.Messages.{message_at, stream_of, no_message}
 use Rattle.sctp_model.specs.Receiver.{next_read}
-use Rattle.sctp_model.specs.Changes
 use Rattle.sctp_model.specs.Changes.{message_on, after_write, read_of, after_reading, mark_read}
 use Rattle.sctp_model.specs.Steps.{History, record_of, IsRun, after}
 use Rattle.sctp_model.specs.Laws.{IsSetup}
 use Rattle.sctp_model.proofs.sender.SenderRun.{Consistent}
 use Rattle.sctp_model.proofs.sender.Moves
 use Rattle.sctp_model.proofs.sender.Moves.{Quiet}
-use Rattle.sctp_model.proofs.acknowledgement.BytesAnswered.{count-abandoned, count-late}
-use Rattle.sctp_model.proofs.sender.Lifetimes.{messages-received, messages-taken}
+use Rattle.sctp_model.proofs.sender.Lifetimes.{messages-received, messages-taken, count-after}
 use Rattle.sctp_model.proofs.receiver.Known.{HasRead}
 use Rattle.sctp_model.proofs.receiver.View.{view}
 use Rattle.sctp_model.proofs.receiver.Shown.{has-read}
 use Rattle.sctp_model.specs.refinement.Counts.{is_write, is_read}
 use Rattle.sctp_model.proofs.refinement.amounts.MessageSums.{is_on, sum_where, sum-written, sum-same}
-use Rattle.sctp_model.proofs.refinement.amounts.StreamAmounts.{count-sent, same-turned}
+use Rattle.sctp_model.proofs.refinement.amounts.StreamAmounts.{same-turned}
 
 -- ## What an event leaves
 
@@ -64,30 +61,15 @@ read-messages w v e = record {
   read = λ n lt. ap (λ ms. (slice_index_or ms n no_message).read) e;
 }
 
-count-expired : (w : LinkRecord) (o : Option ℕ) → length (Changes.after_expire w o).messages ≡ length w.messages
-count-expired w None = refl
-count-expired w (Some n) = length-changed Changes.mark_expired n w.messages
-
-count-tail : (w : LinkRecord) (o : Option ℕ) → length (Changes.after_tail w o).messages ≡ length w.messages
-count-tail w None = refl
-count-tail w (Some n) = count-abandoned w n
-
 pub read-after : (setup : Setup) (w : LinkRecord) (e : Event) → Consistent setup w → is_write e ≡ false → is_read e ≡ false → AsRead w (after w e)
 read-after setup w (E.Write s x y) g a b = cc
-read-after setup w (E.Start now) g a b =
-    read-quiet w (after w (E.Start now)) (length-mapped (Changes.start_lifetime now) w.messages) (Moves.quiet-started w now)
-read-after setup w (E.Send now) g a b = read-quiet w (after w (E.Send now)) (count-sent w now (front w)) (Moves.quiet-sent setup w now (front w) g)
-read-after setup w (E.Expire now) g a b =
-    read-quiet w (after w (E.Expire now)) (count-expired w (Changes.expiring w now)) (Moves.quiet-expire setup w now (front w) g)
-read-after setup w (E.Tail now) g a b =
-    read-quiet w (after w (E.Tail now)) (count-tail w (Changes.tailing w now)) (Moves.quiet-tail setup w (Changes.tailing w now) g)
-read-after setup w (E.Late now) g a b = read-quiet w (after w (E.Late now)) (count-late (Changes.late_messages w now) w) (Moves.quiet-lates setup w now g)
-read-after setup w (E.Abandon tsn) g a b =
-    read-quiet w (after w (E.Abandon tsn)) (count-abandoned w (message_of w (place_of w tsn))) (Moves.quiet-abandoned setup w (message_of w (place_of w tsn)) g)
 read-after setup w (E.Arrive k) g a b = read-messages w (after w (E.Arrive k)) (messages-received w (slice_get w.network k))
 read-after setup w (E.Acked k) g a b = read-messages w (after w (E.Acked k)) (messages-taken w (slice_get w.network k))
 read-after setup w (E.Read s) g a b = cc
-read-after setup w event g a b = read-messages w (after w event) refl
+read-after setup w (E.Open s) g a b = read-messages w (after w (E.Open s)) refl
+read-after setup w (E.Mode s u x y) g a b = read-messages w (after w (E.Mode s u x y)) refl
+read-after setup w (E.Ack x) g a b = read-messages w (after w (E.Ack x)) refl
+read-after setup w event g a b = read-quiet w (after w event) (count-after w event refl) (Moves.quiet-after setup w event refl g)
 
 pub answered-read_of : (w : LinkRecord) (s : ℕ) (o : Option ℕ) → AsAnswered w (read_of w s o)
 answered-read_of w s None = record { count = refl; stream = λ n lt. refl; ppi = λ n lt. refl; bytes = λ n lt. refl }

@@ -5,7 +5,6 @@ use Rattle.std.specs.Prelude.{if◌then◌else◌, ◌==◌, ◌&&◌, ◌||◌,
 use Rattle.sctp_util.specs.Kept.{numbers_where, total_over}
 use Rattle.sctp_util.specs.Lists.{pieces}
 use Rattle.sctp_util.proofs.Cases.{by_same, same-yes, same-is}
-use Rattle.sctp_util.proofs.Getting.{length-mapped}
 use Rattle.sctp_util.proofs.Passing.{kept-same, kept-none}
 use Rattle.sctp_util.proofs.More.{fails, not_both, kept-short}
 use Rattle.sctp_util.proofs.Totals.{total-plus, total-kept_same}
@@ -32,6 +31,7 @@ use Rattle.sctp_model.proofs.sender.Network
 use Rattle.sctp_model.proofs.acknowledgement.Acknowledged.{as-datagram, as-read}
 use Rattle.sctp_model.proofs.acknowledgement.Bytes.{balance, size-some}
 use Rattle.sctp_model.proofs.acknowledgement.BytesAnswered.{messages-sent}
+use Rattle.sctp_model.proofs.sender.Lifetimes.{count-sent}
 use Rattle.sctp_model.specs.refinement.Amount.{amount, keeps_amounts, stream_of_slot, bytes_at, acknowledged_at}
 use Rattle.sctp_model.proofs.refinement.amounts.MessageSums.{is_on, sum_where, sum-written, sum-same}
 use Rattle.sctp_model.proofs.refinement.acknowledging.Unacked.{bytes_where, bytes-by_slot, pending_on_by}
@@ -167,10 +167,6 @@ gone-sent w now None n lt = ap (λ x. (x.message n).expired || (x.message n).aba
 gone-sent w now (Some k) n lt =
     ap (λ ms. (slice_index_or ms n no_message).expired || (slice_index_or ms n no_message).abandoned) (messages-sent (Changes.after_start w now))
     ∙ ap (λ x. (x.message n).expired || (x.message n).abandoned) (Shapes.shape-started w now)
-
-pub count-sent : (w : LinkRecord) (now : ℕ) (o : Option ℕ) → length (Changes.send_from (Changes.after_start w now) o).messages ≡ length w.messages
-count-sent w now None = length-mapped (Changes.start_lifetime now) w.messages
-count-sent w now (Some k) = ap length (messages-sent (Changes.after_start w now)) ∙ length-mapped (Changes.start_lifetime now) w.messages
 
 pub amount-sent : (setup : Setup) (w : LinkRecord) (now t : ℕ) → IsSetup setup → Consistent setup w → amount (Changes.after_send w now) t ≡ amount w t
 amount-sent setup w now t is g = amount-quiet setup w (Changes.after_send w now) t is g (consistent-after setup w (E.Send now) refl g)

@@ -174,21 +174,11 @@ next-same setup h e t is run ok keeps = by e ok keeps
         (negated (Messages.is_open (record_of setup h) s) (unless-holds (not (Messages.is_open (record_of setup h) s)) StreamOpen None ok).0))
     by (E.Mode s u y v) ok keeps =
         next-view (record_of setup h) (Changes.after_mode (record_of setup h) s u y v) t (View.view-moded (record_of setup h) s u y v)
-    by (E.Write s ppi bytes) ok keeps = quiet (E.Write s ppi bytes) ok (Moves.quiet-written setup (record_of setup h) s ppi bytes (consistent-run setup h run))
-    by (E.Start now) ok keeps = quiet (E.Start now) ok (Moves.quiet-started (record_of setup h) now)
-    by (E.Send now) ok keeps =
-        quiet (E.Send now) ok (Moves.quiet-sent setup (record_of setup h) now (Messages.front (record_of setup h)) (consistent-run setup h run))
-    by (E.Expire now) ok keeps =
-        quiet (E.Expire now) ok (Moves.quiet-expire setup (record_of setup h) now (Messages.front (record_of setup h)) (consistent-run setup h run))
-    by (E.Tail now) ok keeps =
-        quiet (E.Tail now) ok (Moves.quiet-tail setup (record_of setup h) (Changes.tailing (record_of setup h) now) (consistent-run setup h run))
-    by (E.Late now) ok keeps = quiet (E.Late now) ok (Moves.quiet-lates setup (record_of setup h) now (consistent-run setup h run))
-    by (E.Abandon tsn) ok keeps = quiet (E.Abandon tsn) ok (Moves.quiet-abandoned setup (record_of setup h)
-        (Messages.message_of (record_of setup h) (Messages.place_of (record_of setup h) tsn)) (consistent-run setup h run))
     by (E.Arrive k) ok keeps = absurd keeps
     by (E.Acked k) ok keeps = next-taken (record_of setup h) (slice_get (record_of setup h).network k) t
     by (E.Read s) ok keeps = absurd keeps
-    by event ok keeps = refl
+    by (E.Ack credit) ok keeps = refl
+    by event ok keeps = quiet event ok (Moves.quiet-after setup (record_of setup h) event refl (consistent-run setup h run))
 
 -- nor does the arrival of fragments move it
 next-slots : (ps : List ℕ) (w : LinkRecord) (t : ℕ) → next_of (fold receive_slot w ps) t ≡ next_of w t

@@ -1,18 +1,17 @@
 -- Indexes as they are given out, at each event.
 use Rattle.std.proofs.Common.{◌≡◌, ℕ, ◌+◌, Bool, true, false, List, [], ◌∷◌, Option, Some, None, refl, ap, sym, ◌∙◌, arith, length}
-use Rattle.std.specs.Prelude.{if◌then◌else◌, ◌==◌, ◌&&◌, slice_get, fold, nat_lt}
+use Rattle.std.specs.Prelude.{if◌then◌else◌, ◌==◌, ◌&&◌, fold, nat_lt}
 use Rattle.sctp_model.specs.declared.event.Event.{Event}
 use Rattle.sctp_model.specs.declared.event.Event.TheVariants as E
 use Rattle.sctp_model.specs.LinkRecord.{Setup, LinkRecord}
 use Rattle.sctp_model.specs.Messages
-use Rattle.sctp_model.specs.Receiver
 use Rattle.sctp_model.specs.Changes
 use Rattle.sctp_model.specs.Steps.{refusal_of, after}
 use Rattle.sctp_model.proofs.sender.Shape.{Shape, shape, message_part, sent, slotted, abandoned_at, expired_at, written}
 use Rattle.sctp_model.proofs.sender.Shapes
 use Rattle.sctp_model.proofs.sender.Sender.{sent-slotted}
 use Rattle.sctp_model.proofs.sender.SenderRun.{Consistent}
-use Rattle.sctp_model.proofs.sender.Network.{extends-after, same-received, same-taken, same-read}
+use Rattle.sctp_model.proofs.sender.Network.{extends-after, shape-after}
 use Rattle.sctp_util.proofs.Passing.{kept-none}
 use Rattle.sctp_util.proofs.More.{fails, not_both, both}
 use Rattle.sctp_util.proofs.Cases.{same-is}
@@ -83,18 +82,12 @@ SendsNone e = Unit {0}
 
 pub none-after : (setup : Setup) (w : LinkRecord) (e : Event) → Consistent setup w → SendsNone e → NoneSent (shape w) (shape (after w e))
 none-after setup w (E.Write s ppi bytes) g no' = none-wrote setup w s ppi bytes g
-none-after setup w (E.Start now) g no' = none-same (shape w) (shape (Changes.after_start w now)) (Shapes.shape-started w now)
 none-after setup w (E.Send now) g no' = absurd no'
 none-after setup w (E.Expire now) g no' = none-expired w (Changes.expiring w now)
 none-after setup w (E.Tail now) g no' = none-tail w (Changes.tailing w now)
 none-after setup w (E.Late now) g no' = none-fold (Changes.late_messages w now) w
 none-after setup w (E.Abandon tsn) g no' = none-gone w (Messages.message_of w (Messages.place_of w tsn))
-none-after setup w (E.Arrive k) g no' =
-    none-same (shape w) (shape (Changes.after_arrive w (slice_get w.network k))) (same-received w (slice_get w.network k)).shape_is
-none-after setup w (E.Acked k) g no' =
-    none-same (shape w) (shape (Changes.after_acked w (slice_get w.network k))) (same-taken w (slice_get w.network k)).shape_is
-none-after setup w (E.Read s) g no' = none-same (shape w) (shape (Changes.after_reading w s)) (same-read w s (Receiver.next_read w s)).shape_is
-none-after setup w event g no' = none-same (shape w) (shape (after w event)) refl
+none-after setup w event g no' = none-same (shape w) (shape (after w event)) (shape-after w event refl)
 
 -- ## What a link keeps: an index for each message, and for each stream how many of its ordered messages were begun
 

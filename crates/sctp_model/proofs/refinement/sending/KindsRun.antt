@@ -26,7 +26,7 @@ use Rattle.sctp_model.proofs.sender.SenderEnds.{sent-none}
 use Rattle.sctp_model.proofs.sender.SenderRun.{Consistent, consistent-run, consistent-takes, consistent-started, sends-keep, fold-keeps}
 use Rattle.sctp_model.proofs.sender.Shapes
 use Rattle.sctp_model.proofs.sender.Moves
-use Rattle.sctp_model.proofs.sender.Network.{extends-after, same-received, same-taken, same-read}
+use Rattle.sctp_model.proofs.sender.Network.{extends-after, shape-after}
 use Rattle.sctp_model.proofs.acknowledgement.Acknowledged
 use Rattle.sctp_model.proofs.receiver.Received.{received-run}
 use Rattle.sctp_model.proofs.refinement.sending.Sent.{KindsInTurn, FrontIs, front_is}
@@ -159,18 +159,12 @@ turns-sent setup w now (Some n) g t =
 
 turns-after : (setup : Setup) (w : LinkRecord) (e : Event) → Consistent setup w → Turns (shape w) → Turns (shape (after w e))
 turns-after setup w (E.Write s ppi bytes) g t = turns-wrote setup w s ppi bytes g t
-turns-after setup w (E.Start now) g t = turns-as (shape w) (shape (Changes.after_start w now)) (Shapes.shape-started w now) t
 turns-after setup w (E.Send now) g t = turns-sent setup w now (front w) g t
 turns-after setup w (E.Expire now) g t = turns-expire w (λ n. Messages.is_unsent w n && Messages.is_past_deadline w now n) (front w) t
 turns-after setup w (E.Tail now) g t = turns-tail w (λ n. Messages.is_partially_sent w n && Messages.is_past_deadline w now n) (front w) t
 turns-after setup w (E.Late now) g t = fold-keeps (λ v. Turns (shape v)) Changes.after_abandon (λ v n h. turns-gone v n h) (Changes.late_messages w now) w t
 turns-after setup w (E.Abandon tsn) g t = turns-gone w (Messages.message_of w (Messages.place_of w tsn)) t
-turns-after setup w (E.Arrive k) g t =
-    turns-as (shape w) (shape (Changes.after_arrive w (slice_get w.network k))) (same-received w (slice_get w.network k)).shape_is t
-turns-after setup w (E.Acked k) g t =
-    turns-as (shape w) (shape (Changes.after_acked w (slice_get w.network k))) (same-taken w (slice_get w.network k)).shape_is t
-turns-after setup w (E.Read s) g t = turns-as (shape w) (shape (Changes.after_reading w s)) (same-read w s (Receiver.next_read w s)).shape_is t
-turns-after setup w event g t = t
+turns-after setup w event g t = turns-as (shape w) (shape (after w event)) (shape-after w event refl) t
 
 pub turns-run : (setup : Setup) (h : History) → IsRun setup h → KindsInTurn (record_of setup h)
 turns-run setup [] run = λ n k h lt ord. cc
@@ -208,10 +202,6 @@ module _ (setup : Setup) (older : History) (is : IsSetup setup) (run : IsRun set
       same : (v : LinkRecord) → length w.slots ≤ length v.slots → v.taken ≡ w.taken → v.taken ≤ length v.slots
       same v g t = omega (arith, g, t, le)
 
-      wrote : (s : ℕ) (ppi : _) (bytes : List ℕ) → (Changes.after_write w s ppi bytes).taken ≡ w.taken
-      wrote s ppi [] = refl
-      wrote s ppi (b ∷ bs) = refl
-
       acked : (k : ℕ) (o : Option Datagram) → slice_get w.network k ≡ o → (Changes.after_acked w o).taken ≤ length (Changes.after_acked w o).slots
       acked k None x = le
       acked k (Some (W.Data ps)) x = le
@@ -220,18 +210,13 @@ module _ (setup : Setup) (older : History) (is : IsSetup setup) (run : IsRun set
           omega (arith, m, l)
 
       by : (e : Event) → length w.slots ≤ length (after w e).slots → (after w e).taken ≤ length (after w e).slots
-      by (E.Write s ppi bytes) g = same (after w (E.Write s ppi bytes)) g (wrote s ppi bytes)
-      by (E.Send now) g = same (after w (E.Send now)) g (Moves.quiet-sent setup w now (front w) (consistent-run setup older run)).taken
-      by (E.Expire now) g = same (after w (E.Expire now)) g (Moves.quiet-expire setup w now (front w) (consistent-run setup older run)).taken
-      by (E.Tail now) g = same (after w (E.Tail now)) g (Moves.quiet-tail setup w (Changes.tailing w now) (consistent-run setup older run)).taken
-      by (E.Late now) g = same (after w (E.Late now)) g (Moves.quiet-lates setup w now (consistent-run setup older run)).taken
-      by (E.Abandon tsn) g =
-          same (after w (E.Abandon tsn)) g
-          (Moves.quiet-abandoned setup w (Messages.message_of w (Messages.place_of w tsn)) (consistent-run setup older run)).taken
       by (E.Arrive k) g = same (after w (E.Arrive k)) g (Acknowledged.as-datagram w (slice_get w.network k)).taken
       by (E.Acked k) g = acked k (slice_get w.network k) refl
       by (E.Read s) g = same (after w (E.Read s)) g (Acknowledged.as-read w s (Receiver.next_read w s)).taken
-      by event g = same (after w event) g refl
+      by (E.Open s) g = same (after w (E.Open s)) g refl
+      by (E.Mode s u v x) g = same (after w (E.Mode s u v x)) g refl
+      by (E.Ack credit) g = same (after w (E.Ack credit)) g refl
+      by event g = same (after w event) g (Moves.quiet-after setup w event refl (consistent-run setup older run)).taken
 
 pub taken-run : (setup : Setup) (h : History) → IsSetup setup → IsRun setup h → (record_of setup h).taken ≤ length (record_of setup h).slots
 taken-run setup [] is run = omega arith

@@ -1,6 +1,6 @@
 -- In every history the slot after a fragment that does not end its message is of the same message.
 use Rattle.std.proofs.Common.{◌≡◌, ℕ, ◌+◌, ◌<◌, Bool, true, false, List, [], ◌∷◌, length, Option, Some, None, refl, ap, sym, ◌∙◌, arith, add-one, length-append}
-use Rattle.std.specs.Prelude.{if◌then◌else◌, ◌==◌, ◌||◌, not, fold, slice_get}
+use Rattle.std.specs.Prelude.{if◌then◌else◌, ◌==◌, ◌||◌, not, fold}
 use Rattle.std.proofs.Math.Path.{subst}
 use Rattle.sctp_util.specs.Kept.{numbers_where}
 use Rattle.sctp_util.proofs.Passing.{kept-snoc_in}
@@ -10,7 +10,6 @@ use Rattle.sctp_model.specs.declared.event.Event.{Event}
 use Rattle.sctp_model.specs.declared.event.Event.TheVariants as E
 use Rattle.sctp_model.specs.LinkRecord.{Setup, LinkRecord}
 use Rattle.sctp_model.specs.Messages
-use Rattle.sctp_model.specs.Receiver
 use Rattle.sctp_model.specs.Changes
 use Rattle.sctp_model.specs.Steps.{History, record_of, IsRun, after}
 use Rattle.sctp_model.proofs.sender.Shape.{Shape, MessagePart, shape, message_part, has, sent, parts, partial, slotted, written, abandoned_at, expired_at}
@@ -21,7 +20,7 @@ use Rattle.sctp_model.proofs.sender.SenderEnds.{message-old, parts-old}
 use Rattle.sctp_model.proofs.sender.SenderRun.{Consistent, consistent-run, consistent-takes, consistent-started, consistent-abandoned, sends-keep, written_as}
 use Rattle.sctp_model.proofs.sender.SenderRun.{AllSent, sent-all, late-sent}
 use Rattle.sctp_model.proofs.sender.Fronts.{front-takes}
-use Rattle.sctp_model.proofs.sender.Network.{same-received, same-taken, same-read}
+use Rattle.sctp_model.proofs.sender.Network.{shape-after}
 
 -- after a fragment that does not end its message: the next slot is of this message, and where there is none it is not abandoned
 pub record GoesOn (x : Shape) (p : ℕ) : Type 0 where
@@ -164,16 +163,12 @@ goes-after setup w (E.Write s ppi (b ∷ bs)) a g =
     let m = written_as w s ppi (b ∷ bs) in
     goes-as (written (shape w) (message_part m)) (shape (Changes.after_write w s ppi (b ∷ bs))) (Shapes.shape-written w m)
     (goes-written (shape w) (message_part m) a.sender g)
-goes-after setup w (E.Start now) a g = goes-as (shape w) (shape (Changes.after_start w now)) (Shapes.shape-started w now) g
 goes-after setup w (E.Send now) a g = goes-sent setup w now (Messages.front w) a g
 goes-after setup w (E.Expire now) a g = goes-expiring w (Changes.expiring w now) g
 goes-after setup w (E.Tail now) a g = goes-tail setup w (Changes.tailing w now) a g
 goes-after setup w (E.Late now) a g = goes-late setup (Changes.late_messages w now) w a (late-sent setup w now a) g
 goes-after setup w (E.Abandon tsn) a g = goes-gone setup w (Messages.message_of w (Messages.place_of w tsn)) a g
-goes-after setup w (E.Arrive k) a g = goes-as (shape w) (shape (after w (E.Arrive k))) (same-received w (slice_get w.network k)).shape_is g
-goes-after setup w (E.Acked k) a g = goes-as (shape w) (shape (after w (E.Acked k))) (same-taken w (slice_get w.network k)).shape_is g
-goes-after setup w (E.Read s) a g = goes-as (shape w) (shape (after w (E.Read s))) (same-read w s (Receiver.next_read w s)).shape_is g
-goes-after setup w event a g = g
+goes-after setup w event a g = goes-as (shape w) (shape (after w event)) (shape-after w event refl) g
 
 -- in every history
 pub goes-run : (setup : Setup) (h : History) → IsRun setup h → AllGoOn (shape (record_of setup h))
