@@ -1,6 +1,6 @@
 //! The chunks of a packet, read one after another, without a list.
 
-ghost use Rattle.std.specs.Prelude.{◌≡◌, [], None, Some, IfOk, IfErr, IfSome, IfNone, IsOkUnless, OnErr, drop, length, option_map, ◌<◌};
+ghost use Rattle.std.specs.Prelude.{◌≡◌, [], None, Some, IfOk, IfErr, IfSome, IfNone, IsOk, IsOkUnless, OnErr, drop, length, option_map, ◌<◌};
 ghost use Rattle.sctp_util.specs.Field.{u16_at, u32_at};
 ghost use Rattle.sctp_util.specs.Outcome.{OrMemory, GivesUnlessMemory};
 ghost use Rattle.sctp_util.specs.declared.error.Error.TheVariants.{ErrOutOfMemory};
@@ -56,6 +56,7 @@ impl PacketReader {
         ensures shorter { IfOk result (λ r. IfSome r (λ _. length self.new < length self.old)) }
         ensures end { IfOk result (λ r. IfNone r ((self.old ≡ []) × (self.new ≡ []))) }
         ensures ended { self.old ≡ [] → IfOk result (λ r. option_map wire_of r ≡ None) }
+        ensures idle { self.old ≡ [] → IsOk result }
         ensures only { (w : Wire) → Steps self.old w
             → GivesUnlessMemory result (λ r. option_map wire_of r ≡ Some w) }
         ensures fault { IfErr result (λ e. OrMemory e (PlaceFault e self.old)) }

@@ -1,10 +1,11 @@
 //! Packets that are written chunk by chunk, without a list of their chunks.
 
-ghost use Rattle.std.specs.Prelude.{◌≡◌, ◌+◌, ◌≤◌, ◌++◌, [], true, nat_le, false, max, IfOk, IfErr, IsOkUnless, OnErr, length};
+ghost use Rattle.std.specs.Prelude.{◌≡◌, ◌+◌, ◌<◌, ◌≤◌, ◌++◌, [], true, nat_le, false, max, IfOk, IfErr, IsOkUnless, OnErr, length, take, drop};
 ghost use Rattle.sctp_util.specs.declared.error.Error.TheVariants.{ErrOutOfMemory};
 ghost use Rattle.sctp_chunks.specs.Check.{EncodingFault};
 ghost use Rattle.sctp_chunks.specs.Wire.{HasEncoding};
-ghost use Rattle.sctp_packets.specs.Packet.{IsCanonical, Parts, ReadsPacket, packet_encoding, padded_encoding};
+ghost use Rattle.sctp_util.specs.Field.{le32};
+ghost use Rattle.sctp_packets.specs.Packet.{IsCanonical, Parts, ReadsPacket, checksum_input, packet_encoding, padded_encoding};
 ghost use Rattle.sctp_packets.specs.Draft.{IsDraft, headed, with_chunk};
 
 use super::{
@@ -90,12 +91,16 @@ impl PacketWriter {
     }
 
     /// Writes the checksum into its place: the bytes are then the encoding of the packet that was begun, with the chunks that were put.
-    /// Where no packet was begun nothing changes. It takes no memory.
+    /// No other byte changes. Where no packet was begun nothing changes. It takes no memory.
     pub fn seal<C: Checksum>(&mut self, checksum: &C)
         ensures sealed { (p : Parts) → IsDraft p self.old.bytes
             → self.new.bytes ≡ packet_encoding (C.sum checksum.now) p }
         ensures reads_back { (p : Parts) → IsDraft p self.old.bytes → IsCanonical p
             → ReadsPacket (C.sum checksum.now) self.new.bytes p }
+        ensures stored { 12 ≤ length self.old.bytes → self.new.bytes ≡ take 8 self.old.bytes
+            ++ le32 (C.sum checksum.now (checksum_input self.old.bytes))
+            ++ drop 12 self.old.bytes }
+        ensures unbegun { length self.old.bytes < 12 → self.new ≡ self.old }
         ensures limit { self.new.limit ≡ self.old.limit }
     {
         if self.buf.len() >= PACKET_HEADER_SIZE {
