@@ -8,6 +8,7 @@ ghost use Rattle.sctp_data.specs.declared.chunk.chunk_payload_data.ChunkPayloadD
 ghost use Rattle.sctp_util.specs.declared.error.Error.TheVariants.{ErrOutOfMemory};
 ghost use Rattle.sctp_util.specs.Lists.{change_where};
 ghost use Rattle.sctp_outbound.specs.Marks.{IsBetween, is_of, is_outstanding};
+ghost use Rattle.sctp_outbound.specs.Outstanding.{outstanding_of};
 ghost use Rattle.sctp_outbound.specs.pending_queue.PendingQueue as pending;
 ghost use Rattle.sctp_outbound.specs.pending_queue.Whole.{GoesOn, IsMessageOrNone, partially_sent, waits};
 ghost use Rattle.sctp_serial.specs.Window.{SpansOneWindow, is_held};
@@ -20,6 +21,7 @@ mod waiting;
 
 pub use self::expiry::ExpiredRun;
 use self::message::{is_message_or_none, is_room_for};
+use crate::payload_queue::outstanding::Outstanding;
 use crate::payload_queue::{PayloadQueue, is_outstanding};
 use crate::pending_queue::PendingQueue;
 use bytes::Bytes;
@@ -684,6 +686,14 @@ impl OutboundQueue {
         ensures { result ≡ bytes_of self.now.inflight.chunks }
     {
         self.inflight.get_num_bytes()
+    }
+
+    /// What is outstanding: in flight, and neither acknowledged nor abandoned; and how much of that is marked to be sent again (RFC 9260
+    /// 6.3.3, 7.2.4). It is a look.
+    pub fn outstanding(&self) -> Outstanding
+        ensures { result ≡ outstanding_of self.now.inflight.chunks }
+    {
+        self.inflight.outstanding()
     }
 
     /// From here on messages of `ordered` ordered and `unordered` unordered fragments in all can be pushed without memory: the

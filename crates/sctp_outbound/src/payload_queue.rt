@@ -18,10 +18,12 @@ ghost use Rattle.sctp_outbound.specs.payload_queue.Blocks.{IsFirstAfter, IsRunUn
 mod arrival;
 mod blocks;
 pub mod held;
+pub mod outstanding;
 mod room;
 mod window;
 
 use self::held::{Held, Mark};
+use self::outstanding::Outstanding;
 use self::window::{are_within_half, is_front_up_to, span_one_window};
 use bytes::Bytes;
 use sctp_data::chunk::chunk_payload_data::ChunkPayloadData;
@@ -225,6 +227,7 @@ pub(crate) fn is_outstanding(chunk: &ChunkPayloadData) -> bool
 
 impl PayloadQueue {
     ghost use Rattle.sctp_outbound.specs.payload_queue.PayloadQueue.{FirstStays, FrontGoesFirst, Payload, with_chunks, push_chunk, add_duplicate, front_with, without_front, without, past};
+    ghost use Rattle.sctp_outbound.specs.Outstanding.{outstanding_of};
     ghost use Rattle.sctp_outbound.specs.Marks.{with_mark, as_acknowledged, as_taken_back, as_abandoned, with_retransmit, with_nsent, with_since, with_miss_indicator, is_of};
 
     /// A queue of nothing. It takes no memory.
@@ -535,6 +538,7 @@ impl PayloadQueue {
         ensures ok { IfOk result (λ q. q ≡ self.now) }
         ensures memory { IsOkUnless result ErrOutOfMemory }
     {
+        let n_bytes = self.get_num_bytes();
         let mut turns = Turns::new();
         let mut held = Held::new(alloc);
         held.reserve(self.held.len())?;
@@ -545,7 +549,7 @@ impl PayloadQueue {
         Ok(PayloadQueue {
             held,
             dup_tsn: self.dup_tsn.clone()?,
-            n_bytes: self.n_bytes,
+            n_bytes,
         })
     }
 
@@ -670,6 +674,13 @@ impl PayloadQueue {
         ensures { result ≡ bytes_of self.now.chunks }
     {
         self.n_bytes
+    }
+
+    /// What of them is outstanding: neither acknowledged nor abandoned; and how much of that is marked to be sent again. It is a look.
+    pub fn outstanding(&self) -> Outstanding
+        ensures { result ≡ outstanding_of self.now.chunks }
+    {
+        self.held.outstanding()
     }
 
     /// How many chunks are held.

@@ -3,6 +3,7 @@ pub mod Ends
 pub mod Gaps
 pub mod Marked
 pub mod Offsets
+pub mod Outstandings
 pub mod Payloads
 pub mod Search
 pub mod Between

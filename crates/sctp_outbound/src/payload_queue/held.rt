@@ -2,12 +2,14 @@
 //! `look`, `see`, `tsn_at`, `tsn_or`, `mark` and `take_back` take a turn each, and `settle_earliest` one for each chunk. `front_tsn` takes
 //! none, nor do `insert` and the removals of what was looked at; `tsns` hands out no TSN but by `tsn_or`.
 
-ghost use Rattle.std.specs.Prelude.{◌≡◌, ◌==◌, ◌+◌, ◌-◌, ◌<◌, ◌≤◌, [], ◌∷◌, false, length, map, max, min, insert, remove, slice_get, slice_index_or, slice_set, OnOk, OnErr, IfSome, IfNone, IsOk, IsOkUnless};
+ghost use Rattle.std.specs.Prelude.{◌≡◌, ◌==◌, ◌+◌, ◌-◌, ◌^◌, ◌<◌, ◌≤◌, [], ◌∷◌, false, length, map, max, min, insert, remove, slice_get, slice_index_or, slice_set, OnOk, OnErr, IfSome, IfNone, IsOk, IsOkUnless};
 ghost use Rattle.std.specs.Option.{option_map};
 ghost use Rattle.std.specs.VecDeque.{deque_capacity, deque_len};
 ghost use Rattle.sctp_util.specs.declared.error.Error.TheVariants.{ErrOutOfMemory};
+ghost use Rattle.sctp_outbound.specs.Outstanding.{HasRoom, IsRecounted};
 ghost use Rattle.sctp_outbound.specs.Stored.{IsNotBefore, NoneBefore};
 
+use super::outstanding::Outstanding;
 use bytes::Bytes;
 use sctp_data::chunk::chunk_payload_data::ChunkPayloadData;
 use sctp_serial::turns::Turns;
@@ -36,6 +38,26 @@ pub(crate) enum Mark {
 
 impl Mark {
     ghost use Rattle.sctp_outbound.specs.Marks.{with_mark};
+
+    // The same, and counts the chunk as it is then, in place of what it was.
+    // Precondition: the chunk is counted, and there is room for one more.
+    fn write_counted(
+        self,
+        chunk: &mut ChunkPayloadData,
+        outstanding: Outstanding,
+    ) -> (usize, Outstanding)
+        requires { HasRoom outstanding chunk.old (length chunk.old.user_data) }
+        ensures changed { chunk.new ≡ with_mark self chunk.old }
+        ensures left { result.0 + length (with_mark self chunk.old).user_data
+            ≡ length chunk.old.user_data }
+        ensures counted { IsRecounted outstanding result.1 chunk.old chunk.new }
+    {
+        let mut outstanding = outstanding;
+        outstanding.uncount(chunk);
+        let left = self.write(chunk);
+        outstanding.count(chunk);
+        (left, outstanding)
+    }
 
     // Writes it in a chunk, and answers how many bytes left.
     fn write(self, chunk: &mut ChunkPayloadData) -> usize
@@ -154,19 +176,22 @@ impl<'a> Tsns<'a> {
     }
 }
 
-/// Chunks by place, from 0. The next `room` insertions take no memory. None that is not abandoned has a deadline before `earliest`.
+/// Chunks by place, from 0, fewer than 2^64 bytes. The next `room` insertions take no memory. None that is not abandoned has a deadline
+/// before `earliest`.
 #[derive(Drop)]
 pub struct Held {
     places: VecDeque<Place>,
     slab: Slab<ChunkPayloadData>,
     room: usize,
     earliest: u64,
+    outstanding: Outstanding,
 }
 
 impl Model for Held {
-    ghost use Rattle.std.specs.Prelude.{◌≡◌, ◌+◌, ◌≤◌, length};
+    ghost use Rattle.std.specs.Prelude.{◌≡◌, ◌+◌, ◌^◌, ◌<◌, ◌≤◌, length};
     ghost use Rattle.std.specs.VecDeque.{deque_capacity, deque_len};
     ghost use Rattle.slab.specs.Slab.{HasRoomFor, get};
+    ghost use Rattle.sctp_outbound.specs.Outstanding.{Counts};
     ghost use Rattle.sctp_outbound.specs.Stored.{NoneBefore, Stored};
     ghost use Rattle.sctp_outbound.specs.payload_queue.Places.{AreHeldAt, chunks_at};
 
@@ -180,12 +205,15 @@ impl Model for Held {
       counted : deque_len h.places ≡ length (chunks_at (get h.slab) h.places.items);
       held : AreHeldAt (get h.slab) h.places.items (chunks_at (get h.slab) h.places.items);
       deadlines : NoneBefore h.earliest (chunks_at (get h.slab) h.places.items);
+      outstanding : Counts h.outstanding (chunks_at (get h.slab) h.places.items);
     } };
 }
 
 impl Held {
     ghost use Rattle.sctp_outbound.specs.Stored.{with_chunks};
     ghost use Rattle.sctp_outbound.specs.Marks.{as_taken_back, with_mark};
+    ghost use Rattle.sctp_outbound.specs.Outstanding.{outstanding_of};
+    ghost use Rattle.sctp_serial.specs.DataChunks.{bytes_of};
 
     /// No chunks. It takes no memory.
     pub fn new(alloc: Global) -> Self
@@ -196,6 +224,7 @@ impl Held {
             slab: Slab::new(alloc),
             room: 0,
             earliest: u64::MAX,
+            outstanding: Outstanding::none(),
         }
     }
 
@@ -284,6 +313,13 @@ impl Held {
         self.earliest
     }
 
+    /// What of them is outstanding.
+    pub(crate) fn outstanding(&self) -> Outstanding
+        ensures { result ≡ outstanding_of self.now.chunks }
+    {
+        self.outstanding
+    }
+
     /// Looks at each chunk, a turn each, so that `earliest` hangs on those alone that are held and not abandoned.
     pub(crate) fn settle_earliest(&mut self, turns: &mut Turns)
         ensures same { self.new ≡ self.old }
@@ -315,10 +351,11 @@ impl Held {
     }
 
     /// Puts a chunk at a place, before the one that is there.
-    /// Precondition: the place is at most the number of chunks.
+    /// Precondition: the place is at most the number of chunks, and all have fewer than 2^64 bytes with it.
     /// Refuses only for memory, and never within the room. Nothing changes then.
     pub fn insert(&mut self, place: usize, chunk: ChunkPayloadData) -> Result<()>
-        requires { place ≤ length self.old.chunks }
+        requires place { place ≤ length self.old.chunks }
+        requires bytes { bytes_of self.old.chunks + length chunk.user_data < 2 ^ 64 }
         ensures ok { OnOk result (self.new
             ≡ record { chunks = insert self.old.chunks place chunk; room = self.old.room - 1 }) }
         ensures err { OnErr result (self.new ≡ self.old) }
@@ -329,6 +366,7 @@ impl Held {
         self.slab.reserve(1)?;
         let tsn = chunk.tsn;
         self.earliest = self.earliest.min(deadline_of(&chunk));
+        self.outstanding.count(&chunk);
         self.room = self.room.saturating_sub(1);
         let key = self.slab.insert_reserved(chunk);
         put_in(&mut self.places, place, Place { tsn, key });
@@ -354,7 +392,9 @@ impl Held {
     {
         let taken = take_from(&mut self.places, place);
         self.room += 1;
-        self.slab.remove(taken.key)
+        let chunk = self.slab.remove(taken.key);
+        self.outstanding.uncount(&chunk);
+        chunk
     }
 
     /// Takes out the chunk at a place. The room stays as it is.
@@ -383,13 +423,16 @@ impl Held {
     {
         turns.tick();
         let key = self.places[place].key;
-        mark.write(&mut self.slab[key])
+        let (left, outstanding) = mark.write_counted(&mut self.slab[key], self.outstanding);
+        self.outstanding = outstanding;
+        left
     }
 
     /// Takes back the acknowledgement of the chunk at a place, which is a turn: it has these bytes then. Answers how many it had.
-    /// Precondition: the place has one.
+    /// Precondition: the place has one, and all have fewer than 2^64 bytes with these.
     pub(crate) fn take_back(&mut self, place: usize, user_data: Bytes, turns: &mut Turns) -> usize
-        requires { place < length self.old.chunks }
+        requires place { place < length self.old.chunks }
+        requires bytes { bytes_of self.old.chunks + length user_data < 2 ^ 64 }
         ensures changed { (d : _) → self.new ≡ with_chunks self.old (slice_set self.old.chunks place
             (as_taken_back user_data (slice_index_or self.old.chunks place d))) }
         ensures had { (d : _)
@@ -398,7 +441,9 @@ impl Held {
     {
         turns.tick();
         let key = self.places[place].key;
-        take_back(&mut self.slab[key], user_data)
+        let (had, outstanding) = take_back(&mut self.slab[key], user_data, self.outstanding);
+        self.outstanding = outstanding;
+        had
     }
 }
 
@@ -450,15 +495,25 @@ fn deadline_of(chunk: &ChunkPayloadData) -> u64
     chunk.deadline.unwrap_or(u64::MAX)
 }
 
-// Takes back the acknowledgement of a chunk: it has these bytes then. Answers how many it had.
-fn take_back(chunk: &mut ChunkPayloadData, user_data: Bytes) -> usize
+// Takes back the acknowledgement of a chunk: it has these bytes then. Answers how many it had, and counts it as it is then.
+// Precondition: the chunk is counted, and there is room for one more of so many bytes.
+fn take_back(
+    chunk: &mut ChunkPayloadData,
+    user_data: Bytes,
+    outstanding: Outstanding,
+) -> (usize, Outstanding)
+    requires { HasRoom outstanding chunk.old (length user_data) }
     ensures back { chunk.new ≡ record chunk.old { acked = false; user_data = user_data } }
-    ensures had { result ≡ length chunk.old.user_data }
+    ensures had { result.0 ≡ length chunk.old.user_data }
+    ensures counted { IsRecounted outstanding result.1 chunk.old chunk.new }
 {
+    let mut outstanding = outstanding;
     let len = chunk.user_data.len();
+    outstanding.uncount(chunk);
     chunk.acked = false;
     chunk.user_data = user_data;
-    len
+    outstanding.count(chunk);
+    (len, outstanding)
 }
 
 // Takes the bytes out of a chunk, and answers how many they were.

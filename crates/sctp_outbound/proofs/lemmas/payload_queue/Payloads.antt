@@ -1,7 +1,8 @@
 -- Payload queues that differ in their chunks alone.
-use Rattle.std.proofs.Common.{◌≡◌, ℕ, ◌+◌, ◌≤◌, Bool, true, false, List, [], ◌∷◌, length, ap, ◌∙◌, arith}
+use Rattle.std.proofs.Common.{◌≡◌, ℕ, ◌+◌, ◌≤◌, Bool, true, false, List, [], ◌∷◌, length, refl, ap, ◌∙◌, arith}
 use Rattle.std.specs.Prelude.{min, not, if◌then◌else◌}
 use Rattle.sctp_data.specs.declared.chunk.chunk_payload_data.ChunkPayloadData.{ChunkPayloadData}
+use Rattle.sctp_outbound.specs.Stored.{Stored}
 use Rattle.sctp_outbound.specs.payload_queue.PayloadQueue.{Payload, with_chunks, without_front, without}
 use Rattle.sctp_serial.specs.DataChunks.{has_tsn}
 
@@ -9,6 +10,11 @@ use Rattle.sctp_serial.specs.DataChunks.{has_tsn}
 pub same_but_chunks : {duplicates : List ℕ} {room : ℕ} {xs ys : List ChunkPayloadData} → xs ≡ ys
     → (let q : Payload = record { chunks = xs; duplicates = duplicates; room = room } in q) ≡ record { chunks = ys; duplicates = duplicates; room = room }
 same_but_chunks {duplicates} {room} e = ap (λ cs. let q : Payload = record { chunks = cs; duplicates = duplicates; room = room } in q) e
+
+-- one that is made of the same parts
+pub made_of : (q : Payload) (held : Stored) (ds : List ℕ) → held.chunks ≡ q.chunks → held.room ≡ q.room → ds ≡ q.duplicates
+    → (let p : Payload = record { chunks = held.chunks; duplicates = ds; room = held.room } in p) ≡ q
+made_of q held ds chunks room duplicates = rw (chunks, room, duplicates) refl
 
 -- a chunk leaves its place as room, and then the room is what it was
 pub room_back : (q mid new : Payload) (cs : List ChunkPayloadData) (room : ℕ) → room ≡ q.room → mid ≡ record q { chunks = cs; room = mid.room }

@@ -1,9 +1,13 @@
 use Rattle.std.proofs.Common.{◌-◌, length, sym, ap, subst, arith}
 use Rattle.std.proofs.lemmas.List.Sums.{sum_by-insert}
+use Rattle.sctp_serial.specs.DataChunks.{bytes_of}
 use Rattle.sctp_serial.specs.Window.{SpansOneWindow, IsPlaceFor}
 use Rattle.sctp_outbound.specs.payload_queue.PayloadQueue.{Payload}
 use Rattle.sctp_serial.proofs.lemmas.Serials.{serial_insert, inserted-place}
 use Rattle.sctp_outbound.proofs.payload_queue.PayloadQueue.insert.Goals as goal
+
+pub insert-requires-clause-bytes : goal.insert-requires-clause-bytes
+insert-requires-clause-bytes c = omega (arith, c.requires.bytes, ap (λ (q : Payload). bytes_of q.chunks) c.self.view_is)
 
 pub invariant_of-self-2 : goal.invariant_of-self-2
 invariant_of-self-2 c =

@@ -2,7 +2,7 @@ use Rattle.std.proofs.Common.{◌<◌, ap, length, sym, slice_index_or, refl, ar
 use Rattle.std.proofs.lemmas.List.{get_or_default}
 use Rattle.std.proofs.lemmas.List.Sums.{get_or-le-sum_by, sum_by-set}
 use Rattle.sctp_data.specs.declared.chunk.chunk_payload_data.ChunkPayloadData.{ChunkPayloadData}
-use Rattle.sctp_serial.specs.DataChunks.{has_tsn}
+use Rattle.sctp_serial.specs.DataChunks.{bytes_of, has_tsn}
 use Rattle.sctp_serial.specs.Window.{IsHeldAt}
 use Rattle.sctp_outbound.specs.payload_queue.PayloadQueue.{Payload}
 use Rattle.sctp_outbound.specs.Marks.{as_taken_back}
@@ -11,6 +11,9 @@ use Rattle.sctp_outbound.proofs.lemmas.payload_queue.Payloads.{same_but_chunks}
 use Rattle.sctp_util.proofs.Edits.{change_where-only}
 use Rattle.sctp_outbound.proofs.lemmas.payload_queue.Marked.{any_chunk}
 use Rattle.sctp_outbound.proofs.payload_queue.PayloadQueue.take_back_at.Goals as goal
+
+pub take_back-had-requires-clause-bytes : goal.take_back-had-requires-clause-bytes
+take_back-had-requires-clause-bytes c = omega (arith, c.requires.bytes, ap (λ (q : Payload). bytes_of q.chunks) c.self.view_is)
 
 pub invariant_of-self : goal.invariant_of-self
 invariant_of-self c =

@@ -1,9 +1,12 @@
 use Rattle.std.proofs.Common.{◌≡◌, ◌-◌, length, refl, sym, ap, ◌∙◌, subst, arith}
 use Rattle.std.specs.List.{insert}
 use Rattle.slab.specs.Slab.{get, slab_len}
+use Rattle.sctp_serial.specs.DataChunks.{bytes_of}
+use Rattle.sctp_outbound.specs.Outstanding.{Counts}
 use Rattle.sctp_outbound.specs.Stored.{NoneBefore}
 use Rattle.sctp_outbound.specs.payload_queue.Places.{AreHeldAt, chunks_at}
 use Rattle.sctp_outbound.proofs.lemmas.payload_queue.Places.{inserted, held_length, still, stored, none_before_insert}
+use Rattle.sctp_outbound.proofs.lemmas.payload_queue.Outstandings.{counted_more, few, room_for}
 use Rattle.sctp_outbound.proofs.payload_queue.held.Held.insert.Goals as goal
 
 pub invariant_of-self-in_err-reserve-2 : goal.invariant_of-self-in_err-reserve-2
@@ -19,12 +22,25 @@ invariant_of-self-in_err-reserve-2 c =
       held = still (λ under ps. AreHeldAt under ps (chunks_at under ps)) c.self.inside.slab c.reserve-2.new.self _ _ _ kept same inv.held;
       deadlines = still (λ under ps. NoneBefore c.self.inside.earliest (chunks_at under ps)) c.self.inside.slab c.reserve-2.new.self _ _ _ kept same
           inv.deadlines;
+      outstanding = still (λ under ps. Counts c.self.inside.outstanding (chunks_at under ps)) c.self.inside.slab c.reserve-2.new.self _ _ _ kept same
+          inv.outstanding;
     }
+
+-- the chunk can be counted
+pub count-requires-clause-bytes : goal.count-requires-clause-bytes
+count-requires-clause-bytes c =
+    room_for _ _ (length c.args.chunk.user_data) c.self.invariant.outstanding (omega (arith, c.requires.bytes, ap (λ s. bytes_of s.chunks) c.self.view_is))
+
+pub count-requires-clause-chunks : goal.count-requires-clause-chunks
+count-requires-clause-chunks c = (few _ _ c.self.invariant.outstanding (omega (arith, c.self.invariant.counted))).0
+
+pub count-requires-clause-marked : goal.count-requires-clause-marked
+count-requires-clause-marked c = (few _ _ c.self.invariant.outstanding (omega (arith, c.self.invariant.counted))).1
 
 pub put_in-requires-clause-index : goal.put_in-requires-clause-index
 put_in-requires-clause-index c =
     let viewed = ap (λ s. length s.chunks) c.self.view_is in
-    omega (arith, viewed, c.requires, c.self.invariant.counted, c.in_ok-reserve.ensures.len)
+    omega (arith, viewed, c.requires.place, c.self.invariant.counted, c.in_ok-reserve.ensures.len)
 
 -- the places of the new deque, and the chunks under the new slab's keys
 after : (c : goal.After-put_in) → (chunks_at (get c.insert_reserved-key.new.self) c.put_in.new.places.items
@@ -41,7 +57,7 @@ after c =
     let more = inserted (get c.reserve-2.new.self)
     (get c.insert_reserved-key.new.self) c.insert_reserved-key.result c.insert_reserved-key.ensures.updates.others
     c.args.chunk c.insert_reserved-key.ensures.was_vacant c.insert_reserved-key.ensures.updates.changed c.reserve.new.self.items c.put_in.new.places.items
-    c.args.place _ (omega (arith, viewed, c.requires, long, ap length same)) refl refl c.put_in.ensures.items held in
+    c.args.place _ (omega (arith, viewed, c.requires.place, long, ap length same)) refl refl c.put_in.ensures.items held in
     (more.0 ∙ ap (λ cs. insert cs c.args.place c.args.chunk) unchanged, more.1)
 
 pub invariant_of-self-2 : goal.invariant_of-self-2
@@ -78,6 +94,9 @@ invariant_of-self-2 c =
       deadlines = subst (NoneBefore c.min-self-inside.result) (sym now.0)
           (none_before_insert c.self.inside.earliest c.deadline_of.result c.args.place _ c.args.chunk c.min-self-inside.result c.min-self-inside.ensures
           inv.deadlines c.deadline_of.ensures);
+      outstanding = subst (Counts c.count.new.self) (sym now.0) (counted_more c.self.inside.outstanding c.count.new.self _ c.args.place c.args.chunk
+          inv.outstanding (omega (arith, c.requires.bytes, ap (λ s. bytes_of s.chunks) c.self.view_is)) c.count.ensures.bytes c.count.ensures.chunks
+          c.count.ensures.marked);
     }
 
 pub returns-clause-ok : goal.returns-clause-ok

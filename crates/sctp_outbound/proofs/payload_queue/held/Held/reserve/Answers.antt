@@ -1,5 +1,6 @@
 use Rattle.std.proofs.Common.{◌≡◌, length, ap, ◌∙◌, arith}
 use Rattle.slab.specs.Slab.{slab_len}
+use Rattle.sctp_outbound.specs.Outstanding.{Counts}
 use Rattle.sctp_outbound.specs.Stored.{NoneBefore}
 use Rattle.sctp_outbound.specs.payload_queue.Places.{AreHeldAt, chunks_at}
 use Rattle.sctp_outbound.proofs.lemmas.payload_queue.Places.{still}
@@ -18,6 +19,8 @@ invariant_of-self-in_err-reserve-2 c =
       held = still (λ under ps. AreHeldAt under ps (chunks_at under ps)) c.self.inside.slab c.reserve-2.new.self _ _ _ kept same inv.held;
       deadlines = still (λ under ps. NoneBefore c.self.inside.earliest (chunks_at under ps)) c.self.inside.slab c.reserve-2.new.self _ _ _ kept same
           inv.deadlines;
+      outstanding = still (λ under ps. Counts c.self.inside.outstanding (chunks_at under ps)) c.self.inside.slab c.reserve-2.new.self _ _ _ kept same
+          inv.outstanding;
     }
 
 pub invariant_of-self-2 : goal.invariant_of-self-2
@@ -33,4 +36,6 @@ invariant_of-self-2 c =
       held = still (λ under ps. AreHeldAt under ps (chunks_at under ps)) c.self.inside.slab c.reserve-2.new.self _ _ _ kept same inv.held;
       deadlines = still (λ under ps. NoneBefore c.self.inside.earliest (chunks_at under ps)) c.self.inside.slab c.reserve-2.new.self _ _ _ kept same
           inv.deadlines;
+      outstanding = still (λ under ps. Counts c.self.inside.outstanding (chunks_at under ps)) c.self.inside.slab c.reserve-2.new.self _ _ _ kept same
+          inv.outstanding;
     }

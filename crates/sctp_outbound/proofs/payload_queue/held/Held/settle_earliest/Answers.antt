@@ -29,4 +29,5 @@ invariant_of-self c =
       counted = inv.counted;
       held = inv.held;
       deadlines = subst (NoneBefore c.loop-place.earliest) (all ∙ ap (λ s. s.chunks) (sym c.self.view_is)) c.loop-place.invariant.deadlines;
+      outstanding = inv.outstanding;
     }

@@ -1,44 +1,64 @@
-use Rattle.std.proofs.Common.{get_or, length, sym, ap, ◌∙◌, subst, arith}
+use Rattle.std.proofs.Common.{◌≡◌, ◌+◌, ◌<◌, get_or, length, refl, sym, ap, ◌∙◌, subst, arith}
+use Rattle.slab.specs.Slab.{get}
 use Rattle.sctp_data.specs.declared.chunk.chunk_payload_data.ChunkPayloadData.{ChunkPayloadData}
+use Rattle.sctp_serial.specs.DataChunks.{bytes_of}
 use Rattle.sctp_outbound.specs.Marks.{as_taken_back}
+use Rattle.sctp_outbound.specs.Outstanding.{Counts}
 use Rattle.sctp_outbound.specs.Stored.{IsNotBefore}
+use Rattle.sctp_outbound.specs.payload_queue.Places.{chunks_at}
 use Rattle.sctp_outbound.proofs.lemmas.payload_queue.Places.{IsRewritten, is_kept, rewritten, rewritten_as}
+use Rattle.sctp_outbound.proofs.lemmas.payload_queue.Outstandings.{has_room, recounted}
 use Rattle.sctp_outbound.proofs.payload_queue.held.Held.take_back.Goals as goal
 
 pub index_mut-requires : goal.index_mut-requires
 index_mut-requires c =
     is_kept c.self.inside.slab c.self.inside.places.items c.args.place c.index.result.now
-    (omega (arith, c.requires, ap (λ s. length s.chunks) c.self.view_is)) c.index.ensures c.self.invariant.held
+    (omega (arith, c.requires.place, ap (λ s. length s.chunks) c.self.view_is)) c.index.ensures c.self.invariant.held
+
+pub take_back-had-requires : goal.take_back-had-requires
+take_back-had-requires c =
+    let inv = c.self.invariant in
+    let lt : c.args.place < length (chunks_at (get c.self.inside.slab) c.self.inside.places.items) =
+    omega (arith, c.requires.place, ap (λ s. length s.chunks) c.self.view_is) in
+    let same = rewritten c.self.inside.slab c.self.inside.places.items c.args.place c.self.inside.earliest c.index.result.now c.index_mut.result.now
+    c.index_mut.result.now lt c.index.ensures c.index_mut.ensures.value refl (λ own. own) inv.held inv.deadlines in
+    has_room c.self.inside.outstanding _ c.args.place c.index_mut.result.now lt same.read inv.outstanding (length c.args.user_data)
+    (omega (arith, inv.counted)) (omega (arith, c.requires.bytes, ap (λ s. bytes_of s.chunks) c.self.view_is))
 
 -- the chunk once its acknowledgement is taken back
-after : (c : goal.After-self-1) → IsRewritten c.self.inside.slab c.self.inside.places.items c.args.place c.index.result.now.key c.self.inside.earliest
-    c.index_mut.result.now c.take_back.new.chunk
+after : (c : goal.After-outstanding-2-1) → IsRewritten c.self.inside.slab c.self.inside.places.items c.args.place c.index.result.now.key
+    c.self.inside.earliest c.index_mut.result.now c.take_back-had.new.chunk
 after c =
     let inv = c.self.invariant in
     let moment = c.self.inside.earliest in
-    let e = c.take_back.ensures.back in
-    rewritten c.self.inside.slab c.self.inside.places.items c.args.place moment c.index.result.now c.index_mut.result.now c.take_back.new.chunk
-    (omega (arith, c.requires, ap (λ s. length s.chunks) c.self.view_is)) c.index.ensures c.index_mut.ensures.value
+    let e = c.take_back-had.ensures.back in
+    rewritten c.self.inside.slab c.self.inside.places.items c.args.place moment c.index.result.now c.index_mut.result.now c.take_back-had.new.chunk
+    (omega (arith, c.requires.place, ap (λ s. length s.chunks) c.self.view_is)) c.index.ensures c.index_mut.ensures.value
     (ap (λ (x : ChunkPayloadData). x.tsn) e) (subst (IsNotBefore moment) (sym e)) inv.held inv.deadlines
 
 pub invariant_of-self : goal.invariant_of-self
 invariant_of-self c =
     let inv = c.self.invariant in
     let now = after c in
+    let xs = chunks_at (get c.self.inside.slab) c.self.inside.places.items in
+    let long = ap (λ (x : ChunkPayloadData). length x.user_data) c.take_back-had.ensures.back in
     record {
       fits = inv.fits;
       slab_fits = omega (arith, inv.slab_fits, now.len);
       counted = omega (arith, inv.counted, now.counted);
       held = now.held;
       deadlines = now.deadlines;
+      outstanding = subst (Counts c.take_back-had.result.1) (sym now.chunks) (recounted c.self.inside.outstanding xs c.args.place c.index_mut.result.now
+          (omega (arith, c.requires.place, ap (λ s. length s.chunks) c.self.view_is)) now.read inv.outstanding c.take_back-had.result.1
+          c.take_back-had.new.chunk c.take_back-had.ensures.counted (omega (arith, long, c.requires.bytes, ap (λ s. bytes_of s.chunks) c.self.view_is)));
     }
 
 pub returns-clause-changed : goal.returns-clause-changed
 returns-clause-changed c =
     rewritten_as c.self.inside.slab c.self.inside.places.items c.args.place c.index.result.now.key c.self.inside.earliest c.self.inside.room
-    c.index_mut.result.now c.take_back.new.chunk (as_taken_back c.args.user_data) c.args.self.now (after c) c.take_back.ensures.back c.self.view_is
+    c.index_mut.result.now c.take_back-had.new.chunk (as_taken_back c.args.user_data) c.args.self.now (after c) c.take_back-had.ensures.back c.self.view_is
 
 pub returns-clause-had : goal.returns-clause-had
 returns-clause-had c d =
-    c.take_back.ensures.had ∙ ap (λ (x : ChunkPayloadData). length x.user_data)
+    c.take_back-had.ensures.had ∙ ap (λ (x : ChunkPayloadData). length x.user_data)
     (sym (ap (λ s. get_or s.chunks c.args.place d) (sym c.self.view_is) ∙ (after c).read d))
