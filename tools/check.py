@@ -11,7 +11,7 @@ import re
 import subprocess
 import sys
 
-from sources import Sources
+from sources import Sources, promises_of
 
 # how many there may be at most: public calls of a type's own, in all files of its crate; folders of crates/ with a src; files, not folders, of tools/
 MOST = {
@@ -58,7 +58,7 @@ def claims_of(page, titles):
 
 def unproved_claims():
     """Says which claims name nothing that carries them, and which names are of nothing."""
-    functions = {it.title(): {name for clause in it.clauses for name in re.findall(r"^ensures (\w+)", clause)} for it in Sources().functions}
+    functions = {it.title(): promises_of(it) for it in Sources().functions}
     told = []
     for page, titles in CLAIMS.items():
         for claim in claims_of(page, titles):

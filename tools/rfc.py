@@ -13,7 +13,7 @@ import os
 import re
 import sys
 
-from sources import Sources, crates, files_below, lines_of
+from sources import Sources, crates, files_below, lines_of, promises_of
 from trace import Callers, definition_at
 
 CITED = re.compile(r"RFC (\d{4})((?: (?:[A-C]|\d+(?:\.\d+)*)\b(?:, (?:[A-C]|\d+(?:\.\d+)*)\b(?! (?:bytes|bits|times|streams)))*)?)")
@@ -363,7 +363,7 @@ def show(rfc, section, citations, sources, callers):
             print(f"  {call.title() if call else name or 'the file'}  {path}:{line}")
             if not call:
                 continue
-            names = re.findall(r"(?:ensures|requires) (\w+) \{", " ".join(call.clauses))
+            names = re.findall(r"requires (\w+) \{", " ".join(call.clauses)) + promises_of(call)
             tests = [row.split("  ")[0] for row, test in callers.of(call)[0] if test]
             print(f"    clauses: {', '.join(names) or ('one' if call.clauses else 'none')}; tests: {', '.join(tests[:6]) or 'none'}")
 
@@ -377,7 +377,7 @@ def faults_of(rule, functions):
     calls, words, tests = rule[-3:]
     told = []
     for call, *clauses in map(str.split, calls):
-        named = set(re.findall(r"(?:ensures|requires) (\w+) \{", " ".join(functions[call].clauses))) if call in functions else set()
+        named = promises_of(functions[call]) if call in functions else []
         told += [call] if call not in functions else [f"{call} {it}" for it in clauses if it not in named]
     for crate, path in map(str.split, words):
         module, _, word = path.rpartition(".")

@@ -129,6 +129,25 @@ def clauses_from(lines, at):
     return found
 
 
+def fields_of(crate, module, word):
+    """Returns the names of a record's fields in a module of a crate's specs, and of those of the fields that it opens."""
+    at = f"crates/{crate}/specs/{module.replace('.', '/')}.antt"
+    text = "\n".join(lines_of(at)) if os.path.exists(at) else ""
+    found = re.search(rf"^pub record {re.escape(word)}(?![\w'])(.*?)(?:\n\n|\Z)", text, re.M | re.S)
+    if not found:
+        return []
+    fields = re.findall(r"^  pub (\w+) : (\w+)", found[1], re.M)
+    opened = re.findall(r"^  pub open (\w+) use \*", found[1], re.M)
+    return [*(name for name, _ in fields), *(it for name, kind in fields if name in opened for it in fields_of(crate, module, kind))]
+
+
+def promises_of(call):
+    """Returns the names of what a call ensures: of its clauses, and of the fields of a record that a clause is."""
+    text = " ".join(call.clauses)
+    relations = [call.words[it] for it in re.findall(r"\bensures (?:\w+ )?\{ (\w+)", text) if it in call.words]
+    return [*re.findall(r"\bensures (\w+) \{", text), *(it for relation in relations for it in fields_of(*relation))]
+
+
 def head_from(lines, at):
     """Returns the text of a function's head: its name, parameters and result."""
     found = []

@@ -24,7 +24,7 @@ import re
 import signal
 import sys
 
-from sources import SHOWN, Sources, crates, files_below, imports, lines_of
+from sources import SHOWN, Sources, crates, files_below, imports, lines_of, promises_of
 from wrong_bodies import bodies_of, function_of
 
 # crates that only call others
@@ -348,7 +348,7 @@ def list_calls(crate, sources):
     """Prints the public calls of a crate, but for those that a trait has: those of types first. Then the names of other crates that it offers."""
     listed = [it for it in sources.functions if it.crate == crate and it.is_public and not it.is_test and not it.trait]
     for it in sorted(listed, key=lambda it: not it.owner):
-        clauses = re.findall(r"\bensures (\w+) \{", " ".join(it.clauses))
+        clauses = promises_of(it)
         print(f"{it.title()}  {it.path}:{it.line}")
         print(f"    {it.head}")
         print(f"    {first_sentence(comment_of(it)) or 'no comment'}" + (f" ({', '.join(clauses)})" if clauses else ""))

@@ -49,7 +49,7 @@ TRAITS = {
 }
 DEFINITIONS = {
     "crc32c::Crc::update": {"Holds"},
-    "sctp_receiver::Receiver::data_each": {"TakesEach", "StopsAt"},
+    "sctp_receiver::Receiver::data_each": {"TakesDataEach", "arrival_refusal"},
 }
 # what the definitions of a contract use, and which calls name a definition that uses this one, by which
 BEHIND = {
@@ -73,7 +73,7 @@ COMMENTS = {
 BODIES = {
     "sctp_receiver::Receiver::data": {"calls", "wrong bodies"},
     "sctp_receiver::Receiver::forward_tsn": {"calls", "wrong bodies"},
-    "sctp_receiver::Receiver::read": set(),
+    "sctp_receiver::Receiver::discard": set(),
     "sctp_sender::Sender::acked": {"calls", "proof", "wrong bodies"},
     "sctp_sender::Sender::write": set(),
 }

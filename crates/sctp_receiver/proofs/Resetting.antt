@@ -1,6 +1,6 @@
 -- A reset of the stream at a place, and streams of which none has what a skip discards without a name.
-use Rattle.std.proofs.Common.{◌≡◌, ℕ, true, false, List, [], ◌∷◌, map, Some, refl, ap, ap₂, ◌∙◌, Result, Ok, Err}
-use Rattle.std.specs.Prelude.{find, slice_index_or, slice_set, OnOk, OnErr}
+use Rattle.std.proofs.Common.{◌≡◌, ℕ, true, false, List, [], ◌∷◌, map, Some, refl, ap, ap₂, sym, ◌∙◌, Result, Ok, Err}
+use Rattle.std.specs.Prelude.{find, if◌then◌else◌, is_some, slice_index_or, slice_set, OnOk, OnErr, IfErr}
 use Rattle.std.specs.List.{list_any}
 use Rattle.sctp_util.specs.Lists.{change_where}
 use Rattle.sctp_serial.proofs.lemmas.ListEdits.{neither}
@@ -9,23 +9,32 @@ use Rattle.sctp_reassembly.proofs.lemmas.reassembly_queue.ByteCounts.{incomplete
 use Rattle.sctp_stream.specs.Numbers.{IsOnlyPlace}
 use Rattle.sctp_stream.proofs.StreamPlaces.{found, changed}
 use Rattle.sctp_receiver.specs.declared.receiver.inbound_streams.InboundStream.{InboundStream}
+use Rattle.sctp_receiver.specs.declared.receiver.refusal.ReceiverRefusal.{ReceiverRefusal}
+use Rattle.sctp_receiver.specs.declared.receiver.refusal.ReceiverRefusal.TheVariants.{StreamUnknown, OutOfMemory}
 use Rattle.sctp_receiver.specs.Inbound.{number, numbers_of, has_number, with_queue}
 use Rattle.sctp_receiver.specs.Resets.{stream_reset, keeps_message}
 use Rattle.sctp_receiver.specs.Skips.{incomplete_forwarded, has_incomplete}
 
-module _ (s last : ℕ) (ls : List InboundStream) (k : ℕ) (p : IsOnlyPlace s (numbers_of ls) k) (x y : InboundStream) (at : x ≡ slice_index_or ls k x) where
-  pub number-kept : {T E : Type 0} (r : Result T E) → OnOk r (y ≡ stream_reset last x) → OnErr r (y ≡ x) → number y ≡ number x
-  number-kept (Ok v) ok err = ap number ok
-  number-kept (Err e) ok err = ap number err
+pub number-kept : (last : ℕ) (x y : InboundStream) {T E : Type 0} (r : Result T E) → OnOk r (y ≡ stream_reset last x) → OnErr r (y ≡ x) → number y ≡ number x
+number-kept last x y (Ok v) ok err = ap number ok
+number-kept last x y (Err e) ok err = ap number err
 
-  pub resets : {T E : Type 0} (r : Result T E) → OnOk r (y ≡ stream_reset last x)
+module _ (s last : ℕ) (ls : List InboundStream) (ns : List ℕ) (is : ns ≡ numbers_of ls) (k : ℕ) (p : IsOnlyPlace s ns k) (x y : InboundStream)
+    (at : x ≡ slice_index_or ls k x) {T : Type 0} where
+  pub resets : (r : Result T ReceiverRefusal) → OnOk r (y ≡ stream_reset last x)
       → OnOk r (slice_set ls k y ≡ change_where (has_number s) (stream_reset last) ls)
-  resets (Ok v) ok = changed number ls (numbers_of ls) refl s k p (stream_reset last) x y at ok
+  resets (Ok v) ok = changed number ls ns is s k p (stream_reset last) x y at ok
   resets (Err e) ok = tt
 
-  pub wanted : {T E : Type 0} (r : Result T E) → OnErr r (keeps_message last (Some x) ≡ true) → OnErr r (keeps_message last (find (has_number s) ls) ≡ true)
+  pub wanted : (r : Result T ReceiverRefusal) → OnErr r (keeps_message last (Some x) ≡ true)
+      → IfErr r (λ e. e ≡ OutOfMemory → keeps_message last (find (has_number s) ls) ≡ true)
   wanted (Ok v) w = tt
-  wanted (Err e) w = ap (keeps_message last) (found number ls (numbers_of ls) refl s k p x at) ∙ w
+  wanted (Err e) w = λ _. ap (keeps_message last) (found number ls ns is s k p x at) ∙ w
+
+  pub refused : (r : Result T ReceiverRefusal) → IfErr r (λ e. e ≡ OutOfMemory)
+      → IfErr r (λ e. e ≡ (if is_some (find (has_number s) ls) then OutOfMemory else StreamUnknown))
+  refused (Ok v) memory = tt
+  refused (Err e) memory = memory ∙ ap (λ o. if is_some o then OutOfMemory else StreamUnknown) (sym (found number ls ns is s k p x at))
 
 -- where no stream has such a message, none changes
 pub none-incomplete : (tsn : ℕ) (ls : List InboundStream) → has_incomplete tsn ls ≡ false → map (incomplete_forwarded tsn) ls ≡ ls

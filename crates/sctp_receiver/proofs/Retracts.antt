@@ -154,7 +154,7 @@ can-retract u new old back lt rise places room = record {
 -- ## The TSNs that it moved over are beyond again
 
 -- the last one of a run by itself
-run-end : (t n : ℕ) → t < 2 ^ 32 → tsns_from t (suc n) ≡ tsns_from t n ++ (t + n) % 2 ^ 32 ∷ []
+pub run-end : (t n : ℕ) → t < 2 ^ 32 → tsns_from t (suc n) ≡ tsns_from t n ++ (t + n) % 2 ^ 32 ∷ []
 run-end t zero lt = let e : t ≡ (t + 0) % 2 ^ 32 = omega arith in ap (λ u. u ∷ []) e
 run-end t (suc n) lt =
     let e : (following_tsn t + n) % 2 ^ 32 ≡ (t + suc n) % 2 ^ 32 = omega arith in

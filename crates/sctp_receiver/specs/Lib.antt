@@ -13,6 +13,7 @@ pub mod Undo
 pub mod Visited
 pub mod Costs
 pub mod SkipCosts
+pub mod Calls
 pub mod Datagrams
 pub mod Advice
 pub mod Beside

@@ -186,9 +186,6 @@ pub record StopsAtBy (refusal : ChunkPayloadData → Reception → Option Receiv
 abbrev pub TakesEach : List ChunkPayloadData → List Arrival → Reception → Reception → Type 0
 TakesEach = TakesEachBy arrival_refusal
 
-abbrev pub StopsAt : List ChunkPayloadData → Reception → ReceiverRefusal → Type 0
-StopsAt = StopsAtBy arrival_refusal
-
 -- whether memory may be asked for: a duplicate is to be noted, or a fragment to be kept
 abbrev pub takes_memory : ChunkPayloadData → Reception → Bool
 takes_memory c r =

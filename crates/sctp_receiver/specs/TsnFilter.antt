@@ -64,7 +64,7 @@ gap_ack_blocks f = map block_of (runs_of (offsets f))
 
 -- ## What is kept
 
--- a TSN as the queue keeps it: a chunk that says nothing else
+-- a TSN as a payload queue keeps it: a chunk that says nothing else
 abbrev pub placeholder : ℕ → ChunkPayloadData
 placeholder tsn = fresh (record {
   unordered = false;

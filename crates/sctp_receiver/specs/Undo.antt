@@ -1,8 +1,8 @@
 -- What a chunk made of a receiver is taken back.
 use Rattle.std.specs.Prelude.{◌≡◌, ℕ, ◌-◌, ◌<◌, ◌≤◌, ◌^◌, ◌==◌, Bool, true, false, not, if◌then◌else◌, List, [], ◌∷◌, ◌++◌, length, take}
-use Rattle.std.specs.Prelude.{IfSome}
-use Rattle.std.specs.List.{find, filter}
-use Rattle.sctp_util.specs.Lists.{change_where}
+use Rattle.std.specs.Prelude.{IsSomeAnd, slice_get}
+use Rattle.std.specs.List.{filter}
+use Rattle.sctp_util.specs.Lists.{change_at}
 use Rattle.sctp_util.specs.Serial.{distance}
 use Rattle.sctp_serial.specs.DataChunks.{following_tsn}
 use Rattle.sctp_receiver.specs.declared.receiver.tsn_filter.undo.FilterUndo.{FilterUndo}
@@ -11,13 +11,12 @@ use Rattle.sctp_receiver.specs.declared.receiver.inbound_streams.InboundStream.{
 use Rattle.sctp_receiver.specs.declared.receiver.intake.ChunkUndo.{ChunkUndo}
 use Rattle.sctp_receiver.specs.declared.receiver.intake.ChunkUndo.TheVariants.{Repeat, New}
 use Rattle.sctp_receiver.specs.declared.receiver.intake.Rules.{Rules}
-use Rattle.sctp_receiver.specs.Inbound.{numbers_of, has_number, with_queue}
+use Rattle.sctp_receiver.specs.Inbound.{with_queue}
 use Rattle.sctp_receiver.specs.Receiver.{Reception}
 use Rattle.sctp_receiver.specs.TsnFilter.{Filter, rise_beyond}
 use Rattle.sctp_receiver.specs.TsnRuns.{count_of_runs, tsns_from}
 use Rattle.sctp_reassembly.specs.declared.reassembly_queue.undo.PushUndo.{PushUndo}
 use Rattle.sctp_reassembly.specs.reassembly_queue.Undo.{undone, CanUndo}
-use Rattle.sctp_stream.specs.Numbers.{IsOnlyPlace}
 
 -- ## TSNs
 
@@ -54,14 +53,13 @@ pub record CanRetract (u : FilterUndo) (f : Filter) : Type 0 where
 abbrev pub stream_undone : PushUndo → InboundStream → InboundStream
 stream_undone u l = with_queue (undone u l.queue) l
 
--- the last fragment of a stream is taken back
-abbrev pub undone_on : ℕ → PushUndo → List InboundStream → List InboundStream
-undone_on s u ls = change_where (has_number s) (stream_undone u) ls
+-- the last fragment of the stream at a place is taken back
+abbrev pub undone_at : ℕ → PushUndo → List InboundStream → List InboundStream
+undone_at place u ls = change_at (stream_undone u) place ls
 
--- it can be: the stream stands at the place, and its queue is as the push left it
-pub record CanUndoOn (s place : ℕ) (u : PushUndo) (ls : List InboundStream) : Type 0 where
-  pub placed : IsOnlyPlace s (numbers_of ls) place
-  pub queue : IfSome (find (has_number s) ls) (λ l. CanUndo u l.queue)
+-- it can be: a stream stands there, and its queue is as the push left it
+abbrev pub CanUndoAt : ℕ → PushUndo → List InboundStream → Type 0
+CanUndoAt place u ls = IsSomeAnd (slice_get ls place) (λ l. CanUndo u l.queue)
 
 -- ## Chunks
 
@@ -98,13 +96,13 @@ repeat_undone false f = f
 -- a chunk is taken back
 abbrev pub chunk_undone : ChunkUndo → Parts → Parts
 chunk_undone (Repeat noted) p = record p { filter = repeat_undone noted p.filter }
-chunk_undone (New tsn place s u) p =
-    parts (undone_on s u p.streams) (retracted tsn p.filter)
+chunk_undone (New tsn place u) p =
+    parts (undone_at place u p.streams) (retracted tsn p.filter)
 
 abbrev pub CanUndoChunk : ChunkUndo → Parts → Type 0
 CanUndoChunk (Repeat noted) p = Unit {0}
-CanUndoChunk (New tsn place s u) p =
-    CanRetract tsn p.filter × CanUndoOn s place u p.streams
+CanUndoChunk (New tsn place u) p =
+    CanRetract tsn p.filter × CanUndoAt place u p.streams
 
 -- several, the last one first
 abbrev pub chunks_undone : List ChunkUndo → Parts → Parts

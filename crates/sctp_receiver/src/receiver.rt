@@ -1,6 +1,6 @@
 //! The receiving half of a link (RFC 4960 6.2; RFC 3758 3.6).
 
-ghost use Rattle.std.specs.Prelude.{◌≡◌, true, false, not, None, Some, OnOk, OnErr, IfOk, IfErr, IsOk, option_map, option_copied, is_some, find, map, min, length, ◌==◌, ◌<◌, ◌≤◌, ◌-◌, ◌^◌, if◌then◌else◌};
+ghost use Rattle.std.specs.Prelude.{◌≡◌, true, false, not, None, Some, OnOk, OnErr, IfOk, IfErr, IsOk, option_map, option_copied, is_some, find, min, length, ◌==◌, ◌<◌, ◌-◌, ◌^◌, if◌then◌else◌};
 ghost use Rattle.sctp_receiver.specs.declared.receiver.refusal.ReceiverRefusal.TheVariants.{StreamOpen, StreamUnknown, OutOfMemory};
 
 pub mod arrival;
@@ -64,11 +64,10 @@ impl Model for Receiver {
 
 impl Receiver {
     ghost use Rattle.sctp_reassembly.specs.reassembly_queue.ReassemblyQueue.{at_start};
-    ghost use Rattle.sctp_receiver.specs.Costs.{IsWithinData};
-    ghost use Rattle.sctp_receiver.specs.Ssns.{is_kept_on};
+    ghost use Rattle.sctp_receiver.specs.Calls.{TakesData, TakesDataCounted};
     ghost use Rattle.sctp_receiver.specs.TsnFilter.{has_come};
     ghost use Rattle.sctp_serial.specs.DataChunks.{bytes_of};
-    ghost use Rattle.sctp_receiver.specs.Receiver.{at_first, filter_of, stream_of, is_open, open_stream, close_stream, arrival_refusal, refusal_for, IsRefusedFor, takes_memory, arrival_of, is_answered_complete, Takes, discard_refusal, after_discard, discard_takes_memory, message_on, readable_streams, after_read};
+    ghost use Rattle.sctp_receiver.specs.Receiver.{at_first, filter_of, stream_of, is_open, open_stream, close_stream, IsRefusedFor, arrival_of, discard_refusal, after_discard, discard_takes_memory, message_on, readable_streams, after_read};
 
     /// A receiver with no stream, to which nothing came. It expects `first_tsn` next, and a message may have `max_message_size` bytes.
     /// With limits it copies the user data that it keeps. Without them it shares that, refuses nothing for them, and notes each TSN that
@@ -111,18 +110,7 @@ impl Receiver {
     /// refuses, by the first that holds, with `SsnTooFar`, `TsnOpposite`, `TsnTooFar`, `WindowFull`, `StreamUnknown`, `MessageTooLarge` or
     /// `OutOfMemory`, and changes nothing then. A chunk that it takes as new stays (`kept`), unless a FORWARD-TSN passed its message.
     pub fn data(&mut self, chunk: &ChunkPayloadData) -> Result<Arrival, ReceiverRefusal>
-        ensures answer { IfOk result (λ arrival. arrival
-            ≡ arrival_of chunk.now.tsn (is_answered_complete arrival) self.old) }
-        ensures ok { IfOk result (λ arrival. Takes chunk.now arrival self.old self.new) }
-        ensures accepted { IsOk result → arrival_refusal chunk.now self.old ≡ None }
-        ensures kept { IsOk result → has_come chunk.now.tsn (filter_of self.old) ≡ false
-            → is_kept_on chunk.now (stream_of chunk.now.stream_identifier self.old) ≡ true }
-        ensures came { IsOk result → has_come chunk.now.tsn (filter_of self.new) ≡ true }
-        ensures refused { IfErr result
-            (λ e. IsRefusedFor (arrival_refusal chunk.now self.old) e) }
-        ensures wants { IfErr result (λ e. e ≡ OutOfMemory
-            → takes_memory chunk.now self.old ≡ true) }
-        ensures err { OnErr result (self.new ≡ self.old) }
+        ensures { TakesData false chunk.now self.old self.new result }
     {
         self.take(chunk, false, &mut Turns::new())
     }
@@ -135,21 +123,7 @@ impl Receiver {
         any_ssn: bool,
         turns: &mut Turns,
     ) -> Result<Arrival, ReceiverRefusal>
-        ensures answer { IfOk result (λ arrival. arrival
-            ≡ arrival_of chunk.now.tsn (is_answered_complete arrival) self.old) }
-        ensures ok { IfOk result (λ arrival. Takes chunk.now arrival self.old self.new) }
-        ensures accepted { IsOk result → refusal_for any_ssn chunk.now self.old ≡ None }
-        ensures kept { IsOk result → any_ssn ≡ false
-            → has_come chunk.now.tsn (filter_of self.old) ≡ false
-            → is_kept_on chunk.now (stream_of chunk.now.stream_identifier self.old) ≡ true }
-        ensures came { IsOk result → has_come chunk.now.tsn (filter_of self.new) ≡ true }
-        ensures refused { IfErr result
-            (λ e. IsRefusedFor (refusal_for any_ssn chunk.now self.old) e) }
-        ensures wants { IfErr result (λ e. e ≡ OutOfMemory
-            → takes_memory chunk.now self.old ≡ true) }
-        ensures err { OnErr result (self.new ≡ self.old) }
-        ensures not_back { turns.old ≤ turns.new }
-        ensures cost { IsWithinData chunk.now self.old self.new (turns.new - turns.old) }
+        ensures { TakesDataCounted any_ssn chunk.now self.old self.new result turns.old turns.new }
     {
         let rules = self.rules(any_ssn);
         let (arrival, _) = take(&mut self.streams, &mut self.filter, rules, chunk, turns)?;
@@ -211,10 +185,7 @@ impl Receiver {
             × (is_open stream self.old ≡ false)) }
         ensures err { OnErr result (self.new ≡ self.old) }
     {
-        let Some(place) = self.streams.place_of(stream) else {
-            return Err(ReceiverRefusal::StreamUnknown);
-        };
-        Ok(self.streams.read_at(place, stream))
+        self.streams.read(stream)
     }
 
     // The open streams, in the order in which they were opened.

@@ -1,10 +1,11 @@
 //! What a replay of a record does with a receiver beside its own calls: it tests nothing that the record does not answer for, and looks
 //! at what the receiver holds.
 
-ghost use Rattle.std.specs.Prelude.{◌≡◌, ◌⊎◌, ◌+◌, ◌≤◌, None, Some, OnOk, OnErr, IfOk, IfErr, IsOk, length, option_copied, option_map};
+ghost use Rattle.std.specs.Prelude.{◌≡◌, ◌+◌, ◌≤◌, IfOk, IfErr, length, option_copied, option_map};
 ghost use Rattle.sctp_data.specs.ForwardTsn.{forward_tsn_of};
 ghost use Rattle.sctp_data.specs.SelectiveAck.{sack_of};
-ghost use Rattle.sctp_receiver.specs.Receiver.{TakesEachBy, StopsAtBy, data_refusal, filter_of, stream_of, sack, forward_refusal, forwarded_of, after_forward};
+ghost use Rattle.sctp_receiver.specs.Calls.{SkipsByNames, TakesDataEach};
+ghost use Rattle.sctp_receiver.specs.Receiver.{data_refusal, filter_of, stream_of, sack};
 ghost use Rattle.sctp_receiver.specs.TsnFilter.{has_come};
 ghost use Rattle.sctp_receiver.specs.declared.receiver.refusal.ReceiverRefusal.TheVariants.{OutOfMemory};
 
@@ -24,11 +25,7 @@ pub fn data_each_with_any_ssn(
     receiver: &mut Receiver,
     chunks: &[ChunkPayloadData],
 ) -> Result<Vec<Arrival>, ReceiverRefusal>
-    ensures ok { IfOk result (λ arrivals.
-        TakesEachBy data_refusal chunks.now arrivals.items receiver.old receiver.new) }
-    ensures refused { IfErr result (λ e. (e ≡ OutOfMemory)
-        ⊎ StopsAtBy data_refusal chunks.now receiver.old e) }
-    ensures err { OnErr result (receiver.new ≡ receiver.old) }
+    ensures { TakesDataEach data_refusal chunks.now receiver.old receiver.new result }
 {
     receiver.take_all(chunks, true, &mut Turns::new())
 }
@@ -40,15 +37,7 @@ pub fn forward_tsn_by_names(
     receiver: &mut Receiver,
     chunk: &ChunkForwardTsn,
 ) -> Result<Forwarded, ReceiverRefusal>
-    ensures answer { IfOk result (λ forwarded. forwarded
-        ≡ forwarded_of (forward_tsn_of chunk.now) receiver.old) }
-    ensures ok { OnOk result
-        (receiver.new ≡ after_forward (forward_tsn_of chunk.now) receiver.old) }
-    ensures accepted { IsOk result
-        → forward_refusal (forward_tsn_of chunk.now) receiver.old ≡ None }
-    ensures refused { IfErr result
-        (λ e. forward_refusal (forward_tsn_of chunk.now) receiver.old ≡ Some e) }
-    ensures err { OnErr result (receiver.new ≡ receiver.old) }
+    ensures { SkipsByNames (forward_tsn_of chunk.now) receiver.old receiver.new result }
 {
     receiver.follow_names(chunk, &mut Turns::new(), &mut Turns::new())
 }

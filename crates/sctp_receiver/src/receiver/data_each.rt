@@ -3,8 +3,9 @@
 ghost use Rattle.std.specs.Prelude.{◌≡◌, ◌⊎◌, ◌≤◌, ◌-◌, [], OnOk, OnErr, IfOk, IfErr};
 ghost use Rattle.std.specs.Vec.{vec_capacity};
 ghost use Rattle.sctp_receiver.specs.declared.receiver.refusal.ReceiverRefusal.TheVariants.{OutOfMemory};
+ghost use Rattle.sctp_receiver.specs.Calls.{TakesDataEach};
 ghost use Rattle.sctp_receiver.specs.Costs.{IsWithinEachBy, IsWithinRefusedBy};
-ghost use Rattle.sctp_receiver.specs.Receiver.{TakesEach, TakesEachBy, StopsAt, StopsAtBy, refusal_for};
+ghost use Rattle.sctp_receiver.specs.Receiver.{arrival_refusal, TakesEachBy, StopsAtBy, refusal_for};
 ghost use Rattle.sctp_receiver.specs.Undo.{parts, reception_of};
 
 use crate::receiver::Receiver;
@@ -26,10 +27,7 @@ impl Receiver {
         &mut self,
         chunks: &[ChunkPayloadData],
     ) -> Result<Vec<Arrival>, ReceiverRefusal>
-        ensures ok { IfOk result (λ arrivals.
-            TakesEach chunks.now arrivals.items self.old self.new) }
-        ensures refused { IfErr result (λ e. (e ≡ OutOfMemory) ⊎ StopsAt chunks.now self.old e) }
-        ensures err { OnErr result (self.new ≡ self.old) }
+        ensures { TakesDataEach arrival_refusal chunks.now self.old self.new result }
     {
         self.take_all(chunks, false, &mut Turns::new())
     }
@@ -41,11 +39,7 @@ impl Receiver {
         any_ssn: bool,
         turns: &mut Turns,
     ) -> Result<Vec<Arrival>, ReceiverRefusal>
-        ensures ok { IfOk result (λ arrivals.
-            TakesEachBy (refusal_for any_ssn) chunks.now arrivals.items self.old self.new) }
-        ensures refused { IfErr result (λ e. (e ≡ OutOfMemory)
-            ⊎ StopsAtBy (refusal_for any_ssn) chunks.now self.old e) }
-        ensures err { OnErr result (self.new ≡ self.old) }
+        ensures takes { TakesDataEach (refusal_for any_ssn) chunks.now self.old self.new result }
         ensures not_back { turns.old ≤ turns.new }
         ensures cost { OnOk result (IsWithinEachBy (refusal_for any_ssn) chunks.now
             self.old self.new (turns.new - turns.old)) }

@@ -1,9 +1,9 @@
 //! The streams of a receiver.
 
-ghost use Rattle.std.specs.Prelude.{◌≡◌, ◌==◌, ◌<◌, ◌≤◌, ◌+◌, ◌-◌, ◌^◌, ◌++◌, ◌∷◌, ◌⊎◌, [], not, true, false, Some, None, OnOk, OnErr, IfOk, IfErr, IsOk, MatchOption, length, map, find, option_map, option_copied, if◌then◌else◌};
+ghost use Rattle.std.specs.Prelude.{◌≡◌, ◌==◌, ◌<◌, ◌≤◌, ◌+◌, ◌-◌, ◌^◌, ◌++◌, ◌∷◌, ◌⊎◌, [], not, true, false, Some, None, OnOk, OnErr, IfOk, IfErr, IsOk, MatchOption, length, map, find, option_map, option_copied, is_some, if◌then◌else◌};
 ghost use Rattle.std.specs.List.{filter, sum_by};
 ghost use Rattle.sctp_util.specs.Lists.{change_where};
-ghost use Rattle.sctp_receiver.specs.declared.receiver.refusal.ReceiverRefusal.TheVariants.{MessageTooLarge, OutOfMemory};
+ghost use Rattle.sctp_receiver.specs.declared.receiver.refusal.ReceiverRefusal.TheVariants.{MessageTooLarge, OutOfMemory, StreamUnknown};
 ghost use Rattle.sctp_stream.specs.Numbers.{IsOnlyPlace, IsAbsent};
 ghost use Rattle.sctp_reassembly.specs.reassembly_queue.ReassemblyQueue.{is_too_large};
 ghost use Rattle.sctp_reassembly.specs.reassembly_queue.Undo.{CanUndo};
@@ -14,7 +14,7 @@ ghost use Rattle.sctp_receiver.specs.Receiver.{readable_streams};
 ghost use Rattle.sctp_receiver.specs.Resets.{stream_reset, keeps_message};
 ghost use Rattle.sctp_receiver.specs.SkipCosts.{named_walk, unordered_skips_walk, incomplete_skips_walk, visit_walk, settle_walk};
 ghost use Rattle.sctp_receiver.specs.Skips.{incomplete_forwarded};
-ghost use Rattle.sctp_receiver.specs.Undo.{stream_undone, undone_on, CanUndoOn};
+ghost use Rattle.sctp_receiver.specs.Undo.{stream_undone, undone_at, CanUndoAt};
 ghost use Rattle.sctp_receiver.specs.Visited.{skip_forwarded, to_visit};
 
 use crate::receiver::limits::cost_of;
@@ -267,10 +267,8 @@ impl InboundStreams {
     ) -> Result<(bool, PushUndo), ReceiverRefusal>
         requires { IsOnlyPlace chunk.now.stream_identifier (numbers_of self.old) place }
         ensures ok { IfOk result (λ put. PushesOn chunk.now put.0 self.old self.new) }
-        ensures undo { IfOk result (λ put.
-            undone_on chunk.now.stream_identifier put.1 self.new ≡ self.old) }
-        ensures can { IfOk result (λ put.
-            CanUndoOn chunk.now.stream_identifier place put.1 self.new) }
+        ensures undo { IfOk result (λ put. undone_at place put.1 self.new ≡ self.old) }
+        ensures can { IfOk result (λ put. CanUndoAt place put.1 self.new) }
         ensures fits { IsOk result → stream_refusal chunk.now
             (find (has_number chunk.now.stream_identifier) self.old) ≡ None }
         ensures refused { IfErr result (λ e. IsRefusedFor
@@ -288,30 +286,23 @@ impl InboundStreams {
         pushed
     }
 
-    /// Takes a fragment of a stream back by what `push_undoable_at` answered. It takes no memory.
-    /// Precondition: the streams are as that left them (`CanUndoOn`), so that the stream stands at the place.
-    pub(crate) fn undo_push_at(&mut self, place: usize, stream: u16, undo: PushUndo)
-        requires { CanUndoOn stream place undo self.old }
-        ensures { self.new ≡ undone_on stream undo self.old }
+    /// Takes a fragment of a stream back by what `push_undoable_at_counted` answered. It takes no memory.
+    /// Precondition: the stream at the place is as that left it (`CanUndoAt`).
+    pub(crate) fn undo_push_at(&mut self, place: usize, undo: PushUndo)
+        requires { CanUndoAt place undo self.old }
+        ensures { self.new ≡ undone_at place undo self.old }
     {
-        self.undo_push_at_counted(place, stream, undo, &mut Turns::new());
+        self.undo_push_at_counted(place, undo, &mut Turns::new());
     }
 
     /// The same, and its turns are added: one for each fragment of an unordered message that it completed.
-    pub(crate) fn undo_push_at_counted(
-        &mut self,
-        place: usize,
-        stream: u16,
-        undo: PushUndo,
-        turns: &mut Turns,
-    )
-        requires { CanUndoOn stream place undo self.old }
-        ensures value { self.new ≡ undone_on stream undo self.old }
+    pub(crate) fn undo_push_at_counted(&mut self, place: usize, undo: PushUndo, turns: &mut Turns)
+        requires { CanUndoAt place undo self.old }
+        ensures value { self.new ≡ undone_at place undo self.old }
         ensures not_back { turns.old ≤ turns.new }
         ensures cost { turns.new
             ≤ turns.old + (unassembled_on self.new + 1 - unassembled_on self.old) }
     {
-        let _number_of_it = stream;
         let inbound = &mut self.items[place];
         let before = cost_of(&inbound.queue);
         inbound.undo_push_counted(undo, turns);
@@ -319,41 +310,44 @@ impl InboundStreams {
         renew(&mut self.visits, place, &inbound.queue, true);
     }
 
-    /// Takes the next message of a stream out, where there is one. It takes no memory.
-    /// Precondition: that stream stands at the place.
-    pub(crate) fn read_at(&mut self, place: usize, stream: u16) -> Option<Chunks>
-        requires { IsOnlyPlace stream (numbers_of self.old) place }
-        ensures message { result
-            ≡ option_map at_start (message_of (find (has_number stream) self.old)) }
-        ensures rest { self.new ≡ change_where (has_number stream) stream_read self.old }
+    /// Takes the next message of a stream out, where there is one. Refuses with `StreamUnknown`, where the stream is not open. It takes no
+    /// memory.
+    pub(crate) fn read(&mut self, stream: u16) -> Result<Option<Chunks>, ReceiverRefusal>
+        ensures message { IfOk result (λ message. message
+            ≡ option_map at_start (message_of (find (has_number stream) self.old))) }
+        ensures ok { OnOk result (self.new
+            ≡ change_where (has_number stream) stream_read self.old) }
+        ensures accepted { IsOk result → is_some (find (has_number stream) self.old) ≡ true }
+        ensures refused { IfErr result (λ e. (e ≡ StreamUnknown)
+            × (is_some (find (has_number stream) self.old) ≡ false)) }
+        ensures err { OnErr result (self.new ≡ self.old) }
     {
-        let _stream = stream;
+        let Some(place) = self.numbers.place_of(stream) else {
+            return Err(ReceiverRefusal::StreamUnknown);
+        };
         let inbound = &mut self.items[place];
         let before = cost_of(&inbound.queue);
         let message = inbound.read();
         self.cost = moved(self.cost, before, cost_of(&inbound.queue));
         renew(&mut self.visits, place, &inbound.queue, false);
-        message
+        Ok(message)
     }
 
-    /// Resets a stream, whose old use ends with the TSN (RFC 6525 5.2.2). Refuses only for memory, and only where a complete ordered
-    /// message is to be kept; the streams are as they were then.
-    /// Precondition: that stream stands at the place.
-    pub(crate) fn reset_at(
-        &mut self,
-        place: usize,
-        stream: u16,
-        last_tsn: u32,
-    ) -> Result<(), ReceiverRefusal>
-        requires { IsOnlyPlace stream (numbers_of self.old) place }
+    /// Resets a stream, whose old use ends with the TSN (RFC 6525 5.2.2). Refuses with `StreamUnknown`, where the stream is not open, else only
+    /// for memory, and only where a complete ordered message is to be kept; the streams are as they were then.
+    pub(crate) fn reset(&mut self, stream: u16, last_tsn: u32) -> Result<(), ReceiverRefusal>
         ensures ok { OnOk result (self.new
             ≡ change_where (has_number stream) (stream_reset last_tsn) self.old) }
-        ensures wants { OnErr result
-            (keeps_message last_tsn (find (has_number stream) self.old) ≡ true) }
+        ensures accepted { IsOk result → is_some (find (has_number stream) self.old) ≡ true }
+        ensures refused { IfErr result (λ e. e
+            ≡ (if is_some (find (has_number stream) self.old) then OutOfMemory else StreamUnknown)) }
+        ensures wants { IfErr result (λ e. e ≡ OutOfMemory
+            → keeps_message last_tsn (find (has_number stream) self.old) ≡ true) }
         ensures err { OnErr result (self.new ≡ self.old) }
-        ensures memory { IfErr result (λ e. e ≡ OutOfMemory) }
     {
-        let _number = stream;
+        let Some(place) = self.numbers.place_of(stream) else {
+            return Err(ReceiverRefusal::StreamUnknown);
+        };
         let inbound = &mut self.items[place];
         let before = cost_of(&inbound.queue);
         let answer = inbound.reset(last_tsn);

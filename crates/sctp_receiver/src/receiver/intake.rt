@@ -39,11 +39,10 @@ pub(crate) enum ChunkUndo {
     Repeat {
         noted: bool,
     },
-    /// Its TSN came, and its stream, which stands at a place, has it.
+    /// Its TSN came, and the stream at a place has it.
     New {
         tsn: FilterUndo,
         place: usize,
-        stream: u16,
         queue: PushUndo,
     },
 }
@@ -132,24 +131,18 @@ fn take_any_ssn(
     if let Some(refusal) = refusal_by(rules.limits, streams, filter, chunk.tsn) {
         return Err(refusal);
     }
-    let stream = chunk.stream_identifier;
     turns.tick();
-    let Some(place) = streams.place_of(stream) else {
+    let Some(place) = streams.place_of(chunk.stream_identifier) else {
         return Err(ReceiverRefusal::StreamUnknown);
     };
     let (complete, queue) = streams.push_undoable_at_counted(place, chunk, turns)?;
     let Ok(tsn) = filter.accept_undoable_counted(chunk.tsn, turns) else {
-        streams.undo_push_at(place, stream, queue);
+        streams.undo_push_at(place, queue);
         return Err(ReceiverRefusal::OutOfMemory);
     };
     Ok((
         Arrival::New { complete },
-        ChunkUndo::New {
-            tsn,
-            place,
-            stream,
-            queue,
-        },
+        ChunkUndo::New { tsn, place, queue },
     ))
 }
 
@@ -233,13 +226,8 @@ fn undo_chunk(
     turns.tick();
     match undo {
         ChunkUndo::Repeat { noted } => forget_repeat(filter, noted),
-        ChunkUndo::New {
-            tsn,
-            place,
-            stream,
-            queue,
-        } => {
-            streams.undo_push_at_counted(place, stream, queue, turns);
+        ChunkUndo::New { tsn, place, queue } => {
+            streams.undo_push_at_counted(place, queue, turns);
             filter.retract_counted(tsn, turns);
         }
     }

@@ -23,12 +23,10 @@ impl Receiver {
             → reset_takes_memory stream last_tsn self.old ≡ true) }
         ensures err { OnErr result (self.new ≡ self.old) }
     {
-        let Some(place) = self.streams.place_of(stream) else {
-            return Err(ReceiverRefusal::StreamUnknown);
-        };
-        if sna32lt(self.filter.cumulative_tsn(), last_tsn) {
+        let is_open = self.streams.find(stream).is_some();
+        if is_open && sna32lt(self.filter.cumulative_tsn(), last_tsn) {
             return Err(ReceiverRefusal::ResetInProgress);
         }
-        self.streams.reset_at(place, stream, last_tsn)
+        self.streams.reset(stream, last_tsn)
     }
 }

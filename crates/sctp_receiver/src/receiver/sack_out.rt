@@ -1,6 +1,6 @@
 //! What a receiver acknowledges (RFC 4960 3.3.4, 6.2).
 
-ghost use Rattle.std.specs.Prelude.{◌≡◌, ◌+◌, ◌*◌, ◌-◌, ◌≤◌, max, OnOk, OnErr, IfOk, IfErr, length};
+ghost use Rattle.std.specs.Prelude.{◌≡◌, ◌+◌, ◌-◌, ◌≤◌, IfOk, IfErr, length};
 ghost use Rattle.sctp_receiver.specs.declared.receiver.refusal.ReceiverRefusal.TheVariants.{OutOfMemory};
 
 use crate::receiver::Receiver;
@@ -13,26 +13,15 @@ pub(crate) const MAX_SACK_ENTRIES: usize = 16379;
 
 impl Receiver {
     ghost use Rattle.sctp_data.specs.SelectiveAck.{sack_of};
+    ghost use Rattle.sctp_receiver.specs.Calls.{CountsBlocks, MakesSack, Sacks};
     ghost use Rattle.sctp_receiver.specs.Costs.{IsWithinBlocks};
-    ghost use Rattle.sctp_receiver.specs.Receiver.{entries_wanted, sack, sack_of_entries, without_duplicates, sack_within, after_sack_within, window};
+    ghost use Rattle.sctp_receiver.specs.Receiver.{sack_of_entries, without_duplicates};
 
     /// The SACK of what came, with the `window` as its credit, in a chunk of at most `room` bytes: its header takes 16, each gap ack
     /// block and each duplicate 4. Gap ack blocks come first, then as many duplicates as fit; these are forgotten, and the others are
     /// kept for the next SACK (RFC 4960 6.2). Refuses only for memory, and changes nothing then.
     pub fn sack(&mut self, room: usize) -> Result<ChunkSelectiveAck, ReceiverRefusal>
-        ensures sack { IfOk result (λ s. sack_of s
-            ≡ sack_within (window self.old) room self.old) }
-        ensures all { 65532 ≤ room
-            → IfOk result (λ s. sack_of s ≡ sack (window self.old) self.old) }
-        ensures fits { IfOk result (λ s. 16
-            + 4 * (length s.gap_ack_blocks.items + length s.duplicate_tsn.items) ≤ max 16 room) }
-        ensures fits_chunk { IfOk result
-            (λ s. length s.gap_ack_blocks.items + length s.duplicate_tsn.items ≤ 16379) }
-        ensures rest { OnOk result (self.new ≡ after_sack_within room self.old) }
-        ensures rest_of_all { 65532 ≤ room → entries_wanted self.old ≤ 16379
-            → OnOk result (self.new ≡ without_duplicates self.old) }
-        ensures err { OnErr result (self.new ≡ self.old) }
-        ensures memory { IfErr result (λ e. e ≡ OutOfMemory) }
+        ensures { Sacks room self.old self.new result }
     {
         self.report(room, &mut Turns::new())
     }
@@ -43,28 +32,8 @@ impl Receiver {
         room: usize,
         turns: &mut Turns,
     ) -> Result<ChunkSelectiveAck, ReceiverRefusal>
-        ensures sack { IfOk result (λ s. sack_of s
-            ≡ sack_within (window self.old) room self.old) }
-        ensures all { 65532 ≤ room
-            → IfOk result (λ s. sack_of s ≡ sack (window self.old) self.old) }
-        ensures fits { IfOk result (λ s. 16
-            + 4 * (length s.gap_ack_blocks.items + length s.duplicate_tsn.items) ≤ max 16 room) }
-        ensures fits_chunk { IfOk result
-            (λ s. length s.gap_ack_blocks.items + length s.duplicate_tsn.items ≤ 16379) }
-        ensures rest { OnOk result (self.new ≡ after_sack_within room self.old) }
-        ensures rest_of_all { 65532 ≤ room → entries_wanted self.old ≤ 16379
-            → OnOk result (self.new ≡ without_duplicates self.old) }
-        ensures err { OnErr result (self.new ≡ self.old) }
-        ensures memory { IfErr result (λ e. e ≡ OutOfMemory) }
-        ensures not_back { turns.old ≤ turns.new }
-        ensures cost { IfOk result (λ s. IsWithinBlocks (length s.gap_ack_blocks.items)
-            (length self.old.beyond) (turns.new - turns.old)) }
-        ensures cost_of_blocks { IsWithinBlocks
-            (length (sack_within (window self.old) room self.old).gap_ack_blocks)
-            (length self.old.beyond) (turns.new - turns.old) }
-        ensures cost_of_all { 65532 ≤ room
-            → IsWithinBlocks (length (sack (window self.old) self.old).gap_ack_blocks)
-            (length self.old.beyond) (turns.new - turns.old) }
+        ensures sacks { Sacks room self.old self.new result }
+        ensures cost { CountsBlocks room self.old result turns.old turns.new }
     {
         let sack = self.sack_within(room, turns)?;
         self.filter.forget_duplicates(sack.duplicate_tsn.len());
@@ -73,15 +42,7 @@ impl Receiver {
 
     /// The SACK that `sack` makes. The receiver stays as it is: whoever sends the SACK calls `sack_sent` then. Refuses only for memory.
     pub fn make_sack(&self, room: usize) -> Result<ChunkSelectiveAck, ReceiverRefusal>
-        ensures sack { IfOk result (λ s. sack_of s
-            ≡ sack_within (window self.now) room self.now) }
-        ensures all { 65532 ≤ room
-            → IfOk result (λ s. sack_of s ≡ sack (window self.now) self.now) }
-        ensures fits { IfOk result (λ s. 16
-            + 4 * (length s.gap_ack_blocks.items + length s.duplicate_tsn.items) ≤ max 16 room) }
-        ensures fits_chunk { IfOk result
-            (λ s. length s.gap_ack_blocks.items + length s.duplicate_tsn.items ≤ 16379) }
-        ensures memory { IfErr result (λ e. e ≡ OutOfMemory) }
+        ensures { MakesSack room self.now result }
     {
         self.sack_within(room, &mut Turns::new())
     }
@@ -92,24 +53,8 @@ impl Receiver {
         room: usize,
         turns: &mut Turns,
     ) -> Result<ChunkSelectiveAck, ReceiverRefusal>
-        ensures sack { IfOk result (λ s. sack_of s
-            ≡ sack_within (window self.now) room self.now) }
-        ensures all { 65532 ≤ room
-            → IfOk result (λ s. sack_of s ≡ sack (window self.now) self.now) }
-        ensures fits { IfOk result (λ s. 16
-            + 4 * (length s.gap_ack_blocks.items + length s.duplicate_tsn.items) ≤ max 16 room) }
-        ensures fits_chunk { IfOk result
-            (λ s. length s.gap_ack_blocks.items + length s.duplicate_tsn.items ≤ 16379) }
-        ensures memory { IfErr result (λ e. e ≡ OutOfMemory) }
-        ensures not_back { turns.old ≤ turns.new }
-        ensures cost { IfOk result (λ s. IsWithinBlocks (length s.gap_ack_blocks.items)
-            (length self.now.beyond) (turns.new - turns.old)) }
-        ensures cost_of_blocks { IsWithinBlocks
-            (length (sack_within (window self.now) room self.now).gap_ack_blocks)
-            (length self.now.beyond) (turns.new - turns.old) }
-        ensures cost_of_all { 65532 ≤ room
-            → IsWithinBlocks (length (sack (window self.now) self.now).gap_ack_blocks)
-            (length self.now.beyond) (turns.new - turns.old) }
+        ensures made { MakesSack room self.now result }
+        ensures cost { CountsBlocks room self.now result turns.old turns.new }
     {
         let entries = (room.saturating_sub(16) / 4).min(MAX_SACK_ENTRIES);
         self.sack_of_entries(self.window(), entries, turns)

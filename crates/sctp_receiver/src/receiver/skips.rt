@@ -1,6 +1,6 @@
 //! A FORWARD-TSN, and what no name of it covers (RFC 3758 3.6).
 
-ghost use Rattle.std.specs.Prelude.{◌≡◌, ◌≤◌, ◌+◌, false, None, Some, OnOk, OnErr, IfOk, IfErr, IsOk};
+ghost use Rattle.std.specs.Prelude.{◌≤◌, ◌+◌};
 ghost use Rattle.sctp_data.specs.ForwardTsn.{forward_tsn_of};
 
 use crate::receiver::Receiver;
@@ -11,10 +11,10 @@ use sctp_serial::turns::Turns;
 use sctp_util::util::sna32lte;
 
 impl Receiver {
-    ghost use Rattle.sctp_receiver.specs.Costs.{forward_turns, names_turns};
-    ghost use Rattle.sctp_receiver.specs.Receiver.{forward_refusal, forwarded_of, after_forward};
-    ghost use Rattle.sctp_receiver.specs.SkipCosts.{names_walk, skips_walk, unordered_skips_walk};
-    ghost use Rattle.sctp_receiver.specs.Skips.{after_forward_tsn, has_incomplete, past_closed_refusal, refusal_to_skip};
+    ghost use Rattle.sctp_receiver.specs.Calls.{Skips, SkipsByNames, SkipsCounted};
+    ghost use Rattle.sctp_receiver.specs.Costs.{names_turns};
+    ghost use Rattle.sctp_receiver.specs.SkipCosts.{names_walk, unordered_skips_walk};
+    ghost use Rattle.sctp_receiver.specs.Skips.{past_closed_refusal, refusal_to_skip};
 
     /// Takes a FORWARD-TSN (RFC 3758 3.6): `Skipped`, where its TSN comes after the cumulative one, else `Stale`, which changes nothing.
     /// It discards what the chunk names, and each ordered message that misses a TSN at or before the chunk's. It refuses, by the first
@@ -24,18 +24,8 @@ impl Receiver {
         chunk: &ChunkForwardTsn,
         closed: Closed,
     ) -> Result<Forwarded, ReceiverRefusal>
-        ensures answer { IfOk result (λ forwarded. forwarded
-            ≡ forwarded_of (forward_tsn_of chunk.now) self.old) }
-        ensures ok { OnOk result (self.new
-            ≡ after_forward_tsn (forward_tsn_of chunk.now) self.old) }
-        ensures accepted { IsOk result
-            → refusal_to_skip closed (forward_tsn_of chunk.now) self.old ≡ None }
-        ensures refused { IfErr result
-            (λ e. refusal_to_skip closed (forward_tsn_of chunk.now) self.old ≡ Some e) }
-        ensures err { OnErr result (self.new ≡ self.old) }
-        ensures agrees { has_incomplete chunk.now.new_cumulative_tsn
-            (after_forward (forward_tsn_of chunk.now) self.old).streams ≡ false
-            → OnOk result (self.new ≡ after_forward (forward_tsn_of chunk.now) self.old) }
+        ensures { Skips
+            (refusal_to_skip closed) (forward_tsn_of chunk.now) self.old self.new result }
     {
         self.follow(chunk, closed, &mut Turns::new(), &mut Turns::new())
     }
@@ -48,24 +38,8 @@ impl Receiver {
         turns: &mut Turns,
         skips: &mut Turns,
     ) -> Result<Forwarded, ReceiverRefusal>
-        ensures answer { IfOk result (λ forwarded. forwarded
-            ≡ forwarded_of (forward_tsn_of chunk.now) self.old) }
-        ensures ok { OnOk result (self.new
-            ≡ after_forward_tsn (forward_tsn_of chunk.now) self.old) }
-        ensures accepted { IsOk result
-            → refusal_to_skip closed (forward_tsn_of chunk.now) self.old ≡ None }
-        ensures refused { IfErr result
-            (λ e. refusal_to_skip closed (forward_tsn_of chunk.now) self.old ≡ Some e) }
-        ensures err { OnErr result (self.new ≡ self.old) }
-        ensures agrees { has_incomplete chunk.now.new_cumulative_tsn
-            (after_forward (forward_tsn_of chunk.now) self.old).streams ≡ false
-            → OnOk result (self.new ≡ after_forward (forward_tsn_of chunk.now) self.old) }
-        ensures not_back { turns.old ≤ turns.new }
-        ensures cost { turns.new
-            ≤ turns.old + forward_turns (forward_tsn_of chunk.now) self.old self.new }
-        ensures skips_not_back { skips.old ≤ skips.new }
-        ensures walk { skips.new
-            ≤ skips.old + skips_walk (forward_tsn_of chunk.now) self.old }
+        ensures { SkipsCounted (refusal_to_skip closed) (forward_tsn_of chunk.now)
+            self.old self.new result turns.old turns.new skips.old skips.new }
     {
         match closed {
             Closed::Refuse => {
@@ -85,24 +59,8 @@ impl Receiver {
         turns: &mut Turns,
         skips: &mut Turns,
     ) -> Result<Forwarded, ReceiverRefusal>
-        ensures answer { IfOk result (λ forwarded. forwarded
-            ≡ forwarded_of (forward_tsn_of chunk.now) self.old) }
-        ensures ok { OnOk result (self.new
-            ≡ after_forward_tsn (forward_tsn_of chunk.now) self.old) }
-        ensures accepted { IsOk result
-            → past_closed_refusal (forward_tsn_of chunk.now) self.old ≡ None }
-        ensures refused { IfErr result
-            (λ e. past_closed_refusal (forward_tsn_of chunk.now) self.old ≡ Some e) }
-        ensures err { OnErr result (self.new ≡ self.old) }
-        ensures agrees { has_incomplete chunk.now.new_cumulative_tsn
-            (after_forward (forward_tsn_of chunk.now) self.old).streams ≡ false
-            → OnOk result (self.new ≡ after_forward (forward_tsn_of chunk.now) self.old) }
-        ensures not_back { turns.old ≤ turns.new }
-        ensures cost { turns.new
-            ≤ turns.old + forward_turns (forward_tsn_of chunk.now) self.old self.new }
-        ensures skips_not_back { skips.old ≤ skips.new }
-        ensures walk { skips.new
-            ≤ skips.old + skips_walk (forward_tsn_of chunk.now) self.old }
+        ensures { SkipsCounted past_closed_refusal (forward_tsn_of chunk.now)
+            self.old self.new result turns.old turns.new skips.old skips.new }
     {
         if self.names_too_far(chunk, skips) {
             return Err(ReceiverRefusal::NamedSsnTooFar);
@@ -125,14 +83,7 @@ impl Receiver {
         turns: &mut Turns,
         skips: &mut Turns,
     ) -> Result<Forwarded, ReceiverRefusal>
-        ensures answer { IfOk result (λ forwarded. forwarded
-            ≡ forwarded_of (forward_tsn_of chunk.now) self.old) }
-        ensures ok { OnOk result (self.new ≡ after_forward (forward_tsn_of chunk.now) self.old) }
-        ensures accepted { IsOk result
-            → forward_refusal (forward_tsn_of chunk.now) self.old ≡ None }
-        ensures refused { IfErr result (λ e. forward_refusal (forward_tsn_of chunk.now) self.old
-            ≡ Some e) }
-        ensures err { OnErr result (self.new ≡ self.old) }
+        ensures names { SkipsByNames (forward_tsn_of chunk.now) self.old self.new result }
         ensures not_back { turns.old ≤ turns.new }
         ensures cost { turns.new
             ≤ turns.old + names_turns (forward_tsn_of chunk.now) self.old self.new }

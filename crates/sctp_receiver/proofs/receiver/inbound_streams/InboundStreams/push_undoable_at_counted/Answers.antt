@@ -88,20 +88,16 @@ returns-clause-undo c =
     let ls = c.self.inside.items.items in
     let p : IsOnlyPlace c.args.chunk.now.stream_identifier (numbers_of ls) c.args.place = rw (← c.self.view_is) at c.requires in
     let put = c.push_undoable_counted-pushed in
-    let same = number-stays c.args.chunk.now ls c.args.place p c.index_mut-stream.result.now put.new.self c.index_mut-stream.ensures.value
-    put.ensures.rest put.result put.ensures.ok put.ensures.err in
-    rw (← c.self.view_is) (push-undone c.args.chunk.now.stream_identifier ls c.args.place p c.index_mut-stream.result.now put.new.self
-    c.index_mut-stream.ensures.value same put.result put.ensures.undo)
+    rw (← c.self.view_is) (push-undone ls c.args.place c.index_mut-stream.result.now put.new.self
+    (inside number ls (numbers_of ls) refl c.args.chunk.now.stream_identifier c.args.place p) c.index_mut-stream.ensures.value put.result put.ensures.undo)
 
 pub returns-clause-can : goal.returns-clause-can
 returns-clause-can c =
     let ls = c.self.inside.items.items in
     let p : IsOnlyPlace c.args.chunk.now.stream_identifier (numbers_of ls) c.args.place = rw (← c.self.view_is) at c.requires in
     let put = c.push_undoable_counted-pushed in
-    let same = number-stays c.args.chunk.now ls c.args.place p c.index_mut-stream.result.now put.new.self c.index_mut-stream.ensures.value
-    put.ensures.rest put.result put.ensures.ok put.ensures.err in
-    push-can c.args.chunk.now.stream_identifier ls c.args.place p c.index_mut-stream.result.now put.new.self c.index_mut-stream.ensures.value same
-    put.result put.ensures.can
+    push-can ls c.args.place c.index_mut-stream.result.now put.new.self
+    (inside number ls (numbers_of ls) refl c.args.chunk.now.stream_identifier c.args.place p) c.index_mut-stream.ensures.value put.result put.ensures.can
 
 pub renew-requires : goal.renew-requires
 renew-requires c =

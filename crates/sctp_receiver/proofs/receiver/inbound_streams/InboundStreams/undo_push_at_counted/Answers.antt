@@ -1,28 +1,34 @@
-use Rattle.std.proofs.Common.{rules, ◌<◌, ◌^◌, ap, ◌∙◌, refl, length, length-set, arith}
+use Rattle.std.proofs.Common.{rules, ◌<◌, ◌^◌, ap, sym, ◌∙◌, length, length-set, arith}
+use Rattle.std.specs.Prelude.{slice_set}
 use Rattle.std.proofs.lemmas.List.Sums.{sum_by-set}
-use Rattle.sctp_stream.specs.Numbers.{IsOnlyPlace}
+use Rattle.sctp_reassembly.proofs.lemmas.reassembly_queue.Undone.{changed-set}
 use Rattle.sctp_receiver.specs.declared.receiver.inbound_streams.InboundStream.{InboundStream}
-use Rattle.sctp_receiver.specs.Inbound.{number, numbers_of}
-use Rattle.sctp_receiver.specs.Undo.{stream_undone, CanUndoOn}
+use Rattle.sctp_receiver.specs.Inbound.{number}
+use Rattle.sctp_receiver.specs.Undo.{stream_undone, CanUndoAt}
 use Rattle.sctp_receiver.proofs.Listing.{renewed-more}
 use Rattle.sctp_receiver.proofs.CostSums.{is-part, changed-fits, changed-sum}
-use Rattle.sctp_stream.proofs.StreamPlaces.{inside, changed, numbers-stay}
-use Rattle.sctp_receiver.proofs.Undone.{undone-number, can-here}
+use Rattle.sctp_stream.proofs.StreamPlaces.{map-set_same}
+use Rattle.sctp_receiver.proofs.Undone.{undone-number, can-here, can-inside}
 use Rattle.sctp_receiver.proofs.receiver.inbound_streams.InboundStreams.undo_push_at_counted.Goals as goal
+
+pub index_mut-inbound-requires : goal.index_mut-inbound-requires
+index_mut-inbound-requires c =
+    let can : CanUndoAt c.args.place c.args.undo c.self.inside.items.items = rw (← c.self.view_is) at c.requires in
+    let lt = can-inside c.args.place c.args.undo c.self.inside.items.items can in search rules
 
 pub moved-self-inside-requires-clause-part : goal.moved-self-inside-requires-clause-part
 moved-self-inside-requires-clause-part c =
     let ls = c.self.inside.items.items in
-    let p : IsOnlyPlace c.args.stream (numbers_of ls) c.args.place = rw (← c.self.view_is) at c.requires.placed in
-    let lt = inside number ls (numbers_of ls) refl c.args.stream c.args.place p in
+    let can : CanUndoAt c.args.place c.args.undo ls = rw (← c.self.view_is) at c.requires in
+    let lt = can-inside c.args.place c.args.undo ls can in
     let h = is-part ls c.args.place c.index_mut-inbound.result.now lt c.index_mut-inbound.ensures.value in
     omega (arith, h, c.self.invariant.cost, c.cost_of-before.ensures)
 
 pub moved-self-inside-requires-clause-fits : goal.moved-self-inside-requires-clause-fits
 moved-self-inside-requires-clause-fits c =
     let ls = c.self.inside.items.items in
-    let p : IsOnlyPlace c.args.stream (numbers_of ls) c.args.place = rw (← c.self.view_is) at c.requires.placed in
-    let lt = inside number ls (numbers_of ls) refl c.args.stream c.args.place p in
+    let can : CanUndoAt c.args.place c.args.undo ls = rw (← c.self.view_is) at c.requires in
+    let lt = can-inside c.args.place c.args.undo ls can in
     let few : length ls < 2 ^ 64 = search rules in
     let h = changed-fits ls c.args.place c.index_mut-inbound.result.now lt c.index_mut-inbound.ensures.value few c.undo_push_counted.new.self in
     omega (arith, h, c.self.invariant.cost, c.cost_of-before.ensures, c.cost_of.ensures)
@@ -30,13 +36,13 @@ moved-self-inside-requires-clause-fits c =
 pub invariant_of-self : goal.invariant_of-self
 invariant_of-self c =
     let ls = c.self.inside.items.items in
-    let p : IsOnlyPlace c.args.stream (numbers_of ls) c.args.place = rw (← c.self.view_is) at c.requires.placed in
-    let lt = inside number ls (numbers_of ls) refl c.args.stream c.args.place p in
+    let can : CanUndoAt c.args.place c.args.undo ls = rw (← c.self.view_is) at c.requires in
+    let lt = can-inside c.args.place c.args.undo ls can in
     let h = changed-sum ls c.args.place c.index_mut-inbound.result.now lt c.index_mut-inbound.ensures.value c.undo_push_counted.new.self in
     record {
-      numbers = c.self.invariant.numbers ∙ numbers-stay number ls (numbers_of ls) refl c.args.stream c.args.place p c.index_mut-inbound.result.now
-          c.undo_push_counted.new.self c.index_mut-inbound.ensures.value (ap number c.undo_push_counted.ensures.value
-          ∙ undone-number c.args.undo c.index_mut-inbound.result.now);
+      numbers = c.self.invariant.numbers ∙ sym (map-set_same number ls c.args.place c.undo_push_counted.new.self c.index_mut-inbound.result.now
+          (ap number c.undo_push_counted.ensures.value ∙ undone-number c.args.undo c.index_mut-inbound.result.now
+          ∙ ap number c.index_mut-inbound.ensures.value));
       cost = omega (arith, h, c.moved-self-inside.ensures, c.self.invariant.cost, c.cost_of-before.ensures, c.cost_of.ensures);
       visits = renewed-more c.self.inside.visits c.renew.new.visits ls c.args.place
           c.index_mut-inbound.result.now c.undo_push_counted.new.self lt c.index_mut-inbound.ensures.value c.self.invariant.visits c.renew.ensures.places
@@ -48,28 +54,27 @@ invariant_of-self c =
 pub returns-clause-value : goal.returns-clause-value
 returns-clause-value c =
     let ls = c.self.inside.items.items in
-    let p : IsOnlyPlace c.args.stream (numbers_of ls) c.args.place = rw (← c.self.view_is) at c.requires.placed in
-    rw (← c.self.view_is) (changed number ls (numbers_of ls) refl c.args.stream c.args.place p (stream_undone c.args.undo)
-    c.index_mut-inbound.result.now c.undo_push_counted.new.self c.index_mut-inbound.ensures.value c.undo_push_counted.ensures.value)
+    let back = stream_undone c.args.undo in
+    rw (← c.self.view_is) (ap (slice_set ls c.args.place) (c.undo_push_counted.ensures.value ∙ ap back c.index_mut-inbound.ensures.value)
+    ∙ sym (changed-set back c.args.place ls c.index_mut-inbound.result.now))
 
 pub undo_push_counted-requires : goal.undo_push_counted-requires
 undo_push_counted-requires c =
-    let ls = c.self.inside.items.items in
-    let can : CanUndoOn c.args.stream c.args.place c.args.undo ls = rw (← c.self.view_is) at c.requires in
-    can-here c.args.stream c.args.place c.args.undo ls c.index_mut-inbound.result.now c.index_mut-inbound.ensures.value can
+    let can : CanUndoAt c.args.place c.args.undo c.self.inside.items.items = rw (← c.self.view_is) at c.requires in
+    can-here c.args.place c.args.undo c.self.inside.items.items c.index_mut-inbound.result.now c.index_mut-inbound.ensures.value can
 
 pub renew-requires : goal.renew-requires
 renew-requires c =
     let ls = c.self.inside.items.items in
-    let p : IsOnlyPlace c.args.stream (numbers_of ls) c.args.place = rw (← c.self.view_is) at c.requires.placed in
-    let lt = inside number ls (numbers_of ls) refl c.args.stream c.args.place p in
+    let can : CanUndoAt c.args.place c.args.undo ls = rw (← c.self.view_is) at c.requires in
+    let lt = can-inside c.args.place c.args.undo ls can in
     omega (arith, lt, c.self.invariant.visits.listed.places)
 
 pub returns-clause-cost : goal.returns-clause-cost
 returns-clause-cost c =
     let ls = c.self.inside.items.items in
-    let p : IsOnlyPlace c.args.stream (numbers_of ls) c.args.place = rw (← c.self.view_is) at c.requires.placed in
-    let lt = inside number ls (numbers_of ls) refl c.args.stream c.args.place p in
+    let can : CanUndoAt c.args.place c.args.undo ls = rw (← c.self.view_is) at c.requires in
+    let lt = can-inside c.args.place c.args.undo ls can in
     let count = (λ (l : InboundStream). length l.queue.held.unassembled) in
     let sums = sum_by-set count ls c.args.place c.undo_push_counted.new.self c.index_mut-inbound.result.now lt in
     let read = ap count c.index_mut-inbound.ensures.value in
