@@ -19,9 +19,8 @@ use Rattle.sctp_receiver.specs.declared.advice.SkipAdvice.TheVariants as skip
 use Rattle.sctp_receiver.specs.declared.receiver.inbound_streams.InboundStream.{InboundStream}
 use Rattle.sctp_receiver.specs.declared.receiver.limits.Limits.{Limits}
 use Rattle.sctp_receiver.specs.declared.receiver.refusal.ReceiverRefusal.{ReceiverRefusal}
-use Rattle.sctp_receiver.specs.declared.receiver.refusal.ReceiverRefusal.TheVariants.{StreamOpen, StreamUnknown, TsnOpposite, MessageTooLarge, TsnTooFar}
+use Rattle.sctp_receiver.specs.declared.receiver.refusal.ReceiverRefusal.TheVariants.{StreamUnknown, TsnOpposite, MessageTooLarge, TsnTooFar}
 use Rattle.sctp_receiver.specs.declared.receiver.refusal.ReceiverRefusal.TheVariants.{WindowFull, SsnTooFar, NamedStreamUnknown, NamedSsnTooFar}
-use Rattle.sctp_receiver.specs.declared.receiver.refusal.ReceiverRefusal.TheVariants.{ResetInProgress, OutOfMemory}
 use Rattle.sctp_receiver.specs.Advice.{is_any_readable, is_next_to_come, drop_or_abort, advice_for, skip_advice_for, IsDiscarded, IsDropped, SettlesAtOnce, IsSettledBy}
 use Rattle.sctp_receiver.specs.Advice.{IsSettled, Settles, AdviceSettles, SettlesSkip, SkipAdviceSettles}
 use Rattle.sctp_receiver.specs.Inbound.{has_number, new_stream}
@@ -109,12 +108,7 @@ module _ (c : ChunkPayloadData) (r : Reception) (small : r.cumulative_tsn < 2 ^ 
   Reasons (Some WindowFull) = ⊤
   Reasons (Some TsnTooFar) = ⊤
   Reasons (Some SsnTooFar) = ⊤
-  Reasons (Some StreamOpen) = ⊥
-  Reasons (Some TsnOpposite) = ⊥
-  Reasons (Some NamedStreamUnknown) = ⊥
-  Reasons (Some NamedSsnTooFar) = ⊥
-  Reasons (Some ResetInProgress) = ⊥
-  Reasons (Some OutOfMemory) = ⊥
+  Reasons (Some _) = ⊥
 
   limit-reasons : (o : Option Limits) (rest : Option ReceiverRefusal) → (refusal_by o c.tsn (filter_of r) r.streams ≡ None → Reasons rest)
       → Reasons (option_or (refusal_by o c.tsn (filter_of r) r.streams) rest)
@@ -179,12 +173,7 @@ module _ (c : ChunkPayloadData) (r : Reception) (small : r.cumulative_tsn < 2 ^ 
   at-once known (Some WindowFull) why = aborts OutOfResource
   at-once known (Some TsnTooFar) why = aborts OutOfResource
   at-once known (Some SsnTooFar) why = aborts ProtocolViolation
-  at-once known (Some StreamOpen) why = absurd why
-  at-once known (Some TsnOpposite) why = absurd why
-  at-once known (Some NamedStreamUnknown) why = absurd why
-  at-once known (Some NamedSsnTooFar) why = absurd why
-  at-once known (Some ResetInProgress) why = absurd why
-  at-once known (Some OutOfMemory) why = absurd why
+  at-once known (Some _) why = absurd why
 
 -- ## The law
 
@@ -208,12 +197,7 @@ settles c r e small next is = by e (subst (Reasons c r small next) is (reasons c
     by WindowFull why = aborted c r small next OutOfResource
     by TsnTooFar why = aborted c r small next OutOfResource
     by SsnTooFar why = aborted c r small next ProtocolViolation
-    by StreamOpen why = absurd why
-    by TsnOpposite why = absurd why
-    by NamedStreamUnknown why = absurd why
-    by NamedSsnTooFar why = absurd why
-    by ResetInProgress why = absurd why
-    by OutOfMemory why = absurd why
+    by _ why = absurd why
 
 -- ## A FORWARD-TSN
 
@@ -230,14 +214,7 @@ module _ (f : ForwardTsn) (r : Reception) (unread : is_any_readable r ≡ false)
   SkipReasons (Some NamedStreamUnknown) = (e : ReceiverRefusal) → past_closed_refusal f r ≡ Some e → e ≡ NamedSsnTooFar
   SkipReasons (Some NamedSsnTooFar) = ⊤
   SkipReasons (Some TsnOpposite) = is_opposite f.new_cumulative_tsn (filter_of r) ≡ true
-  SkipReasons (Some StreamOpen) = ⊥
-  SkipReasons (Some StreamUnknown) = ⊥
-  SkipReasons (Some MessageTooLarge) = ⊥
-  SkipReasons (Some TsnTooFar) = ⊥
-  SkipReasons (Some WindowFull) = ⊥
-  SkipReasons (Some SsnTooFar) = ⊥
-  SkipReasons (Some ResetInProgress) = ⊥
-  SkipReasons (Some OutOfMemory) = ⊥
+  SkipReasons (Some _) = ⊥
 
   -- a chunk that is followed is refused for a name alone
   named : is_ahead f r ≡ true → (e : ReceiverRefusal) → past_closed_refusal f r ≡ Some e → e ≡ NamedSsnTooFar
@@ -270,11 +247,4 @@ settles-skip f r e unread is = by e (subst (SkipReasons f r unread) is (skip-rea
     by NamedStreamUnknown why = why
     by NamedSsnTooFar why = subst (λ b. SettlesSkip (if b then skip.Drop else skip.Abort ProtocolViolation) f r) (sym unread) tt
     by TsnOpposite why = why
-    by StreamOpen why = absurd why
-    by StreamUnknown why = absurd why
-    by MessageTooLarge why = absurd why
-    by TsnTooFar why = absurd why
-    by WindowFull why = absurd why
-    by SsnTooFar why = absurd why
-    by ResetInProgress why = absurd why
-    by OutOfMemory why = absurd why
+    by _ why = absurd why

@@ -5,7 +5,7 @@ use Rattle.std.proofs.lemmas.List.{get_or-set_same}
 use Rattle.std.proofs.lemmas.Option.{slice_get_read}
 use Rattle.sctp_reassembly.specs.declared.reassembly_queue.undo.PushUndo.{PushUndo}
 use Rattle.sctp_reassembly.specs.declared.reassembly_queue.undo.PushChange.{PushChange}
-use Rattle.sctp_reassembly.specs.declared.reassembly_queue.undo.PushChange.TheVariants.{NotKept, Ordered, Unassembled, Message}
+use Rattle.sctp_reassembly.specs.declared.reassembly_queue.undo.PushChange.TheVariants.{NotKept}
 use Rattle.sctp_reassembly.specs.reassembly_queue.Undo.{change_undone, CanUndo}
 use Rattle.sctp_reassembly.proofs.lemmas.reassembly_queue.Undone.{changed-back}
 use Rattle.sctp_receiver.specs.declared.receiver.inbound_streams.InboundStream.{InboundStream}
@@ -21,9 +21,7 @@ undone-number u l = by u.change
   where
     by : (c : PushChange) → (change_undone c l.queue).si ≡ l.queue.si
     by NotKept = refl
-    by (Ordered o) = refl
-    by (Unassembled p) = refl
-    by (Message p) = refl
+    by _ = refl
 
 -- of a push on the stream at a place
 module _ (ls : List InboundStream) (k : ℕ) (x y : InboundStream) (lt : k < length ls) (at : x ≡ slice_index_or ls k x) where

@@ -8,7 +8,7 @@ use Rattle.sctp_data.specs.ForwardTsn.{ForwardTsn}
 use Rattle.sctp_reassembly.specs.reassembly_queue.Fragments.{is_complete}
 use Rattle.sctp_reassembly.specs.reassembly_queue.ReassemblyQueue.{held_chunks}
 use Rattle.sctp_receiver.specs.declared.receiver.arrival.Arrival.{Arrival}
-use Rattle.sctp_receiver.specs.declared.receiver.arrival.Arrival.TheVariants.{New, Repeat}
+use Rattle.sctp_receiver.specs.declared.receiver.arrival.Arrival.TheVariants.{New}
 use Rattle.sctp_receiver.specs.declared.receiver.limits.Limits.{Limits}
 use Rattle.sctp_receiver.specs.Limits.{chunk_cost, cost_of}
 use Rattle.sctp_receiver.specs.Receiver.{Reception, at_first, is_open, open_stream, close_stream, data_refusal, arrival_of, is_answered_complete, Takes}
@@ -62,16 +62,7 @@ pub record Stand : Type 0 where
 
 abbrev pub accepted_after : Call → List ChunkPayloadData → List ChunkPayloadData
 accepted_after (takes c (New complete)) cs = c ∷ cs
-accepted_after (takes c Repeat) cs = cs
-accepted_after (opens stream) cs = cs
-accepted_after (closes stream) cs = cs
-accepted_after (discards tsn) cs = cs
-accepted_after reports cs = cs
-accepted_after (reports_within bytes) cs = cs
-accepted_after (reads stream) cs = cs
-accepted_after (resets stream last) cs = cs
-accepted_after (forwards f) cs = cs
-accepted_after (forwards_by_names f) cs = cs
+accepted_after _ cs = cs
 
 abbrev pub with_message : ℕ → Option ChunkSet → List Message → List Message
 with_message stream None ms = ms
@@ -79,15 +70,7 @@ with_message stream (Some set) ms = record { stream = stream; fragments = set.ch
 
 abbrev pub messages_after : Call → Reception → List Message → List Message
 messages_after (reads stream) r ms = with_message stream (message_on stream r) ms
-messages_after (takes c arrival) r ms = ms
-messages_after (opens stream) r ms = ms
-messages_after (closes stream) r ms = ms
-messages_after (discards tsn) r ms = ms
-messages_after reports r ms = ms
-messages_after (reports_within bytes) r ms = ms
-messages_after (resets stream last) r ms = ms
-messages_after (forwards f) r ms = ms
-messages_after (forwards_by_names f) r ms = ms
+messages_after _ r ms = ms
 
 -- one call, and calls one after another
 pub record Follows (c : Call) (old new : Stand) : Type 0 where
@@ -169,11 +152,7 @@ IsUnrefused (resets stream last) r = reset_refusal stream last r ≡ None
 IsUnrefused (forwards f) r = (f.new_cumulative_tsn < 2 ^ 32) × (forward_refusal f r ≡ None)
 IsUnrefused (forwards_by_names f) r =
     (f.new_cumulative_tsn < 2 ^ 32) × (forward_refusal f r ≡ None)
-IsUnrefused (opens stream) r = ⊤
-IsUnrefused (closes stream) r = ⊤
-IsUnrefused reports r = ⊤
-IsUnrefused (reports_within bytes) r = ⊤
-IsUnrefused (reads stream) r = ⊤
+IsUnrefused _ r = ⊤
 
 -- calls one after another, none of which is refused
 abbrev pub RunsUnrefused : Stand → List Call → Stand → Type 0

@@ -8,12 +8,10 @@ ghost use Rattle.sctp_stream.specs.Numbers.{IsOnlyPlace, IsAbsent};
 ghost use Rattle.sctp_reassembly.specs.reassembly_queue.ReassemblyQueue.{is_too_large};
 ghost use Rattle.sctp_reassembly.specs.reassembly_queue.Undo.{CanUndo};
 ghost use Rattle.sctp_receiver.specs.Costs.{IsWithinPush, IsWithinPushOn, unassembled_on};
-ghost use Rattle.sctp_receiver.specs.Inbound.{unassembled_forwarded};
 ghost use Rattle.sctp_receiver.specs.Limits.{held_cost};
 ghost use Rattle.sctp_receiver.specs.Receiver.{readable_streams};
 ghost use Rattle.sctp_receiver.specs.Resets.{stream_reset, keeps_message};
-ghost use Rattle.sctp_receiver.specs.SkipCosts.{named_walk, unordered_skips_walk, incomplete_skips_walk, visit_walk, settle_walk};
-ghost use Rattle.sctp_receiver.specs.Skips.{incomplete_forwarded};
+ghost use Rattle.sctp_receiver.specs.SkipCosts.{named_walk, visit_walk, settle_walk};
 ghost use Rattle.sctp_receiver.specs.Undo.{stream_undone, undone_at, CanUndoAt};
 ghost use Rattle.sctp_receiver.specs.Visited.{skip_forwarded, to_visit};
 
@@ -382,45 +380,11 @@ impl InboundStreams {
         );
     }
 
-    /// Discards the unassembled fragments of all streams up to a TSN (RFC 3758 3.6). Its turns are added: at most one for each stream that
-    /// has unassembled fragments or ordered messages. What it looks at within these streams is added to `skips`: six turns for each
-    /// unassembled fragment at most, and one more for each stream. It takes no memory.
-    pub(crate) fn forward_unordered_skips_counted(
-        &mut self,
-        tsn: u32,
-        turns: &mut Turns,
-        skips: &mut Turns,
-    )
-        ensures value { self.new ≡ map (unassembled_forwarded tsn) self.old }
-        ensures not_back { turns.old ≤ turns.new }
-        ensures cost { turns.new ≤ turns.old + length (to_visit self.old) }
-        ensures skips_not_back { skips.old ≤ skips.new }
-        ensures walk { skips.new ≤ skips.old + unordered_skips_walk self.old }
-    {
-        self.forward(Skip::Unassembled, tsn, turns, skips);
-    }
-
-    /// Discards the incomplete ordered messages of all streams that miss a TSN at or before the given one (RFC 3758 3.6). Its turns are
-    /// added: at most one for each stream that has unassembled fragments or ordered messages. What it looks at within these streams is
-    /// added to `skips`: nine turns for each ordered message at most, and four for each of their fragments. It takes no memory.
-    pub(crate) fn forward_incomplete_skips_counted(
-        &mut self,
-        tsn: u32,
-        turns: &mut Turns,
-        skips: &mut Turns,
-    )
-        ensures value { self.new ≡ map (incomplete_forwarded tsn) self.old }
-        ensures not_back { turns.old ≤ turns.new }
-        ensures cost { turns.new ≤ turns.old + length (to_visit self.old) }
-        ensures skips_not_back { skips.old ≤ skips.new }
-        ensures walk { skips.new ≤ skips.old + incomplete_skips_walk self.old }
-    {
-        self.forward(Skip::Incomplete, tsn, turns, skips);
-    }
-
-    // Discards, as the skip says, on all streams: those are visited that may hold something incomplete, and a turn is taken for each.
-    // Those of the skips are added to `skips`.
-    fn forward(&mut self, skip: Skip, tsn: u32, turns: &mut Turns, skips: &mut Turns)
+    /// Discards, as the skip says, on all streams: the unassembled fragments up to a TSN, or the incomplete ordered messages that miss a TSN
+    /// at or before it (RFC 3758 3.6). Its turns are added: at most one for each stream that has unassembled fragments or ordered messages.
+    /// What it looks at within these is added to `skips`: six turns for each unassembled fragment at most, and one more for each stream; or
+    /// nine for each ordered message, and four for each of their fragments. It takes no memory.
+    pub(crate) fn forward(&mut self, skip: Skip, tsn: u32, turns: &mut Turns, skips: &mut Turns)
         ensures value { self.new ≡ map (skip_forwarded skip tsn) self.old }
         ensures not_back { turns.old ≤ turns.new }
         ensures cost { turns.new ≤ turns.old + length (to_visit self.old) }

@@ -6,6 +6,7 @@ ghost use Rattle.sctp_data.specs.ForwardTsn.{forward_tsn_of};
 use crate::receiver::Receiver;
 use crate::receiver::arrival::{Closed, Forwarded};
 use crate::receiver::refusal::ReceiverRefusal;
+use crate::receiver::visit::Skip;
 use sctp_data::chunk::chunk_forward_tsn::ChunkForwardTsn;
 use sctp_serial::turns::Turns;
 use sctp_util::util::sna32lte;
@@ -67,8 +68,8 @@ impl Receiver {
         }
         let forwarded = self.follow_names(chunk, turns, skips)?;
         if let Forwarded::Skipped = forwarded {
-            self.streams
-                .forward_incomplete_skips_counted(chunk.new_cumulative_tsn, turns, skips);
+            let tsn = chunk.new_cumulative_tsn;
+            self.streams.forward(Skip::Incomplete, tsn, turns, skips);
         }
         Ok(forwarded)
     }
@@ -100,8 +101,7 @@ impl Receiver {
         }
         self.streams
             .forward_named_counted(&chunk.streams, turns, skips);
-        self.streams
-            .forward_unordered_skips_counted(tsn, turns, skips);
+        self.streams.forward(Skip::Unassembled, tsn, turns, skips);
         self.filter.skip_to_counted(tsn, turns);
         self.filter.settle();
         Ok(Forwarded::Skipped)

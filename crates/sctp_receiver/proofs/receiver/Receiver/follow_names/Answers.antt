@@ -5,7 +5,7 @@ use Rattle.sctp_receiver.specs.Visited.{to_visit}
 use Rattle.sctp_receiver.proofs.Receptions.{after}
 use Rattle.sctp_receiver.proofs.Settled.{fewer-named}
 use Rattle.sctp_receiver.specs.SkipCosts.{named_walk, unordered_skips_walk}
-use Rattle.sctp_receiver.proofs.SkipCosts.{unordered-after-names}
+use Rattle.sctp_receiver.proofs.SkipCosts.{none-settled, unordered-after-names}
 use Rattle.sctp_receiver.proofs.receiver.Receiver.follow_names.Goals as goal
 
 pub skip_to_counted-requires : goal.skip_to_counted-requires
@@ -22,16 +22,7 @@ returns-clause-cost c =
     let names = ap length c.deref.ensures.value in
     let named = ap (λ ls. length (to_visit ls)) c.forward_named_counted.ensures.value in
     let beyond = ap (λ (f : Filter). length f.beyond) c.settle.ensures in
-    rw (← c.self.view_is) (omega (
-      arith,
-      c.forward_named_counted.ensures.cost,
-      c.forward_unordered_skips_counted.ensures.cost,
-      c.skip_to_counted.ensures.cost,
-      few,
-      named,
-      names,
-      beyond,
-    ))
+    rw (← c.self.view_is) (omega (arith, few, named, names, beyond))
 
 pub returns-clause-walk : goal.returns-clause-walk
 returns-clause-walk c =
@@ -39,4 +30,4 @@ returns-clause-walk c =
     let few = unordered-after-names c.deref.result.now ls in
     let names = ap (λ ns. named_walk ns ls) c.deref.ensures.value in
     let named = ap unordered_skips_walk c.forward_named_counted.ensures.value in
-    rw (← c.self.view_is) (omega (arith, c.forward_named_counted.ensures.walk, c.forward_unordered_skips_counted.ensures.walk, few, named, names))
+    rw (← c.self.view_is) (omega (arith, none-settled c.forward_named_counted.new.self, few, named, names))

@@ -29,10 +29,10 @@ returns-in-Skipped c =
         err = search rules;
         agrees = λ none.
             let here = none-incomplete f.new_cumulative_tsn q.streams (ap (λ (r : Reception). has_incomplete f.new_cumulative_tsn r.streams) is ∙ none) in
-            ap (λ ls. reception_in ls q.filter q.max_message_size q.limits) (c.forward_incomplete_skips_counted.ensures.value ∙ here) ∙ is;
+            ap (λ ls. reception_in ls q.filter q.max_message_size q.limits) (c.forward.ensures.value ∙ here) ∙ is;
       };
       not_back = search rules;
-      cost = omega (arith, few, visited, beyond, c.in_ok-forwarded.ensures.cost, c.forward_incomplete_skips_counted.ensures.cost);
+      cost = omega (arith, few, visited, beyond, c.in_ok-forwarded.ensures.cost, c.forward.ensures.cost);
       skips_not_back = search rules;
-      walk = omega (arith, walked, held, c.names_too_far.ensures.walk, c.in_ok-forwarded.ensures.walk, c.forward_incomplete_skips_counted.ensures.walk);
+      walk = omega (arith, walked, held, c.names_too_far.ensures.walk, c.in_ok-forwarded.ensures.walk, c.forward.ensures.walk);
     }

@@ -1,4 +1,5 @@
-use Rattle.std.proofs.Common.{◌≡◌, ◌-◌, length, sym, ◌∙◌, subst, inr, None, true, arith}
+use Rattle.std.proofs.Common.{◌≡◌, ◌-◌, ◌≤◌, length, sym, ◌∙◌, subst, inr, None, true, arith}
+use Rattle.sctp_reassembly.specs.reassembly_queue.Orders.{digits}
 use Rattle.sctp_reassembly.proofs.lemmas.reassembly_queue.Digits.{within_digits}
 use Rattle.sctp_receiver.proofs.PushCosts.{data-none}
 use Rattle.sctp_receiver.specs.Receiver.{new_refusal}
@@ -6,6 +7,7 @@ use Rattle.sctp_receiver.specs.Undo.{parts, reception_of}
 use Rattle.sctp_receiver.proofs.Receptions.{closed, unknown, any-room}
 use Rattle.sctp_receiver.specs.TsnFilter.{Filter, has_come}
 use Rattle.sctp_receiver.proofs.Came.{taken-came}
+use Rattle.sctp_receiver.proofs.receiver.intake.take_any_ssn.Goals.{After-has_come_counted}
 use Rattle.sctp_receiver.proofs.receiver.intake.take_any_ssn.Goals as goal
 
 pub returns-in_default-place_of-clause-refused : goal.returns-in_default-place_of-clause-refused
@@ -17,81 +19,53 @@ returns-in_default-place_of-clause-refused c =
     ∙ sym c.in_default.ensures in
     inr (unknown c.args.chunk.now r fresh near within (closed r c.args.chunk.now.stream_identifier c.in_default-place_of.ensures))
 
+looks : (c : After-has_come_counted) → c.has_come_counted.new.turns - c.args.turns.now ≤ digits (length c.args.filter.now.beyond)
+looks c = within_digits (length c.args.filter.now.beyond) (c.has_come_counted.new.turns - c.args.turns.now) c.has_come_counted.ensures.cost
+
 pub returns-in_err-noted-clause-cost : goal.returns-in_err-noted-clause-cost
 returns-in_err-noted-clause-cost c =
-    let n = length c.args.filter.now.beyond in
-    let looked = within_digits n (c.has_come_counted.new.turns - c.args.turns.now) c.has_come_counted.ensures.cost in
-    data-none _ _ _ _ (omega (arith, looked))
+    data-none _ _ _ _ (omega (arith, looks (goal.at.returns-in_err-noted-clause-cost c).After-has_come_counted))
 
 pub returns-then-has_come_counted-clause-cost : goal.returns-then-has_come_counted-clause-cost
 returns-then-has_come_counted-clause-cost c =
-    let n = length c.args.filter.now.beyond in
-    let looked = within_digits n (c.has_come_counted.new.turns - c.args.turns.now) c.has_come_counted.ensures.cost in
-    data-none _ _ _ _ (omega (arith, looked))
+    data-none _ _ _ _ (omega (arith, looks (goal.at.returns-then-has_come_counted-clause-cost c).After-has_come_counted))
 
 pub returns-then-is_opposite-clause-cost : goal.returns-then-is_opposite-clause-cost
 returns-then-is_opposite-clause-cost c =
-    let n = length c.args.filter.now.beyond in
-    let looked = within_digits n (c.has_come_counted.new.turns - c.args.turns.now) c.has_come_counted.ensures.cost in
-    data-none _ _ _ _ (omega (arith, looked))
+    data-none _ _ _ _ (omega (arith, looks (goal.at.returns-then-is_opposite-clause-cost c).After-has_come_counted))
 
 pub returns-in-Some-clause-cost : goal.returns-in-Some-clause-cost
 returns-in-Some-clause-cost c =
-    let n = length c.args.filter.now.beyond in
-    let looked = within_digits n (c.has_come_counted.new.turns - c.args.turns.now) c.has_come_counted.ensures.cost in
-    data-none _ _ _ _ (omega (arith, looked, c.tick.ensures))
+    data-none _ _ _ _ (omega (arith, looks (goal.at.returns-in-Some-clause-cost c).After-has_come_counted))
 
 pub returns-in_default-place_of-clause-cost : goal.returns-in_default-place_of-clause-cost
 returns-in_default-place_of-clause-cost c =
-    let n = length c.args.filter.now.beyond in
-    let looked = within_digits n (c.has_come_counted.new.turns - c.args.turns.now) c.has_come_counted.ensures.cost in
-    data-none _ _ _ _ (omega (arith, looked, c.tick.ensures, c.tick-2.ensures))
+    data-none _ _ _ _ (omega (arith, looks (goal.at.returns-in_default-place_of-clause-cost c).After-has_come_counted))
 
 pub returns-in_err-complete-clause-cost : goal.returns-in_err-complete-clause-cost
 returns-in_err-complete-clause-cost c =
-    let n = length c.args.filter.now.beyond in
-    let looked = within_digits n (c.has_come_counted.new.turns - c.args.turns.now) c.has_come_counted.ensures.cost in
+    let looked = looks (goal.at.returns-in_err-complete-clause-cost c).After-has_come_counted in
     record {
       pushing = c.push_undoable_at_counted.new.turns - c.tick-2.new.self;
-      others = omega (arith, looked, c.has_come_counted.ensures.not_back, c.tick.ensures, c.tick-2.ensures, c.push_undoable_at_counted.ensures.not_back);
+      others = omega (arith, looked);
       pushes = c.push_undoable_at_counted.ensures.cost;
     }
 
 pub returns-in_default-accept_undoable_counted-clause-cost : goal.returns-in_default-accept_undoable_counted-clause-cost
 returns-in_default-accept_undoable_counted-clause-cost c =
-    let n = length c.args.filter.now.beyond in
-    let looked = within_digits n (c.has_come_counted.new.turns - c.args.turns.now) c.has_come_counted.ensures.cost in
+    let looked = looks (goal.at.returns-in_default-accept_undoable_counted-clause-cost c).After-has_come_counted in
     record {
       pushing = c.push_undoable_at_counted.new.turns - c.tick-2.new.self;
-      others = omega (
-        arith,
-        looked,
-        c.has_come_counted.ensures.not_back,
-        c.tick.ensures,
-        c.tick-2.ensures,
-        c.push_undoable_at_counted.ensures.not_back,
-        c.accept_undoable_counted.ensures.cost,
-        c.accept_undoable_counted.ensures.not_back,
-      );
+      others = omega (arith, looked);
       pushes = c.push_undoable_at_counted.ensures.cost;
     }
 
 pub returns-clause-cost : goal.returns-clause-cost
 returns-clause-cost c =
-    let n = length c.args.filter.now.beyond in
-    let looked = within_digits n (c.has_come_counted.new.turns - c.args.turns.now) c.has_come_counted.ensures.cost in
+    let looked = looks (goal.at.returns-clause-cost c).After-has_come_counted in
     record {
       pushing = c.push_undoable_at_counted.new.turns - c.tick-2.new.self;
-      others = omega (
-        arith,
-        looked,
-        c.has_come_counted.ensures.not_back,
-        c.tick.ensures,
-        c.tick-2.ensures,
-        c.push_undoable_at_counted.ensures.not_back,
-        c.accept_undoable_counted.ensures.cost,
-        c.accept_undoable_counted.ensures.not_back,
-      );
+      others = omega (arith, looked);
       pushes = c.push_undoable_at_counted.ensures.cost;
     }
 

@@ -29,7 +29,5 @@ loop-undo-preserved c =
         looks-last us c.in-Some.undo p,
         ap (undo_each_looks us) c.undo_chunk.ensures.value,
         ap (λ (q : Parts). undo_looks (counts_in q) (counts_in p)) c.undo_chunk.ensures.value,
-        c.undo_chunk.ensures.cost,
-        c.loop-undo.invariant.cost,
       );
     }
