@@ -69,9 +69,8 @@ pub use Rattle.sctp_sender.proofs.Flights.{started-inflight}
 pub use Rattle.sctp_sender.proofs.Walks.{none-of, found-changed}
 pub use Rattle.sctp_receiver.specs.Receiver.{Reception, sack, StopsAtBy, data_refusal, at_first, arrival_of, is_answered_complete, stream_refusal}
 pub use Rattle.sctp_receiver.specs.Receiver.{forward_refusal}
-pub use Rattle.sctp_receiver.specs.TsnFilter.{Filter, gap_ack_blocks, has_come, is_opposite, with_tsn, with_duplicate, skipped_to, offsets}
+pub use Rattle.sctp_receiver.specs.TsnFilter.{Filter, gap_ack_blocks, has_come, is_opposite, with_tsn, with_duplicate, skipped_to, offsets, placeholder}
 pub use Rattle.sctp_receiver.specs.declared.receiver.refusal.ReceiverRefusal.{ReceiverRefusal}
-pub use Rattle.sctp_link.specs.Tsns.{placeholder}
 pub use Rattle.sctp_link.proofs.tsns.Placeholders.{tsns-placeholder}
 pub use Rattle.sctp_receiver.specs.declared.receiver.inbound_streams.InboundStream.{InboundStream}
 pub use Rattle.sctp_receiver.specs.declared.receiver.arrival.Arrival.{Arrival}

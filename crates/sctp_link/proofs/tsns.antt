@@ -1,4 +1,3 @@
-pub mod TsnLists
 pub mod Placeholders
 pub mod QueueCalls
 pub mod TakenBack

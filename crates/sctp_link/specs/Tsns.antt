@@ -1,31 +1,16 @@
 -- The TSNs that the receiver of a link has, as the payload queue that a link lends keeps them (RFC 9260 6.2).
-use Rattle.std.specs.Prelude.{◌≡◌, ℕ, zero, suc, ◌-◌, ◌<◌, ◌≤◌, ◌^◌, ◌==◌, Bool, true, false, not, ◌&&◌, if◌then◌else◌, nat_lt, List, [], ◌∷◌, ◌++◌}
+use Rattle.std.specs.Prelude.{◌≡◌, ℕ, ◌-◌, ◌<◌, ◌≤◌, ◌^◌, ◌==◌, true, not, if◌then◌else◌, List, [], ◌∷◌, ◌++◌}
 use Rattle.std.specs.Prelude.{length, take, None}
 use Rattle.std.specs.List.{filter}
-use Rattle.sctp_util.specs.Serial.{distance, comes_before}
-use Rattle.sctp_data.specs.ChunkSet.{fresh}
-use Rattle.sctp_data.specs.declared.chunk.chunk_payload_data.PayloadProtocolIdentifier.TheVariants.{Unknown}
+use Rattle.sctp_util.specs.Serial.{comes_before}
 use Rattle.sctp_data.specs.declared.chunk.chunk_payload_data.ChunkPayloadData.{ChunkPayloadData}
 use Rattle.sctp_serial.specs.DataChunks.{following_tsn, tsns}
 use Rattle.sctp_outbound.specs.payload_queue.PayloadQueue.{Payload}
-use Rattle.sctp_receiver.specs.TsnFilter.{Filter, has_come, is_opposite, with_tsn, with_duplicate, skipped_to}
+use Rattle.sctp_receiver.specs.TsnFilter.{Filter, has_come, is_opposite, rise_beyond, with_tsn, with_duplicate, skipped_to}
 use Rattle.sctp_receiver.specs.Receiver.{filter_of}
+use Rattle.sctp_receiver.specs.Undo.{passed}
 use Rattle.sctp_link.specs.declared.link_receiver.tsn_queue.undo.TsnUndo.{TsnUndo}
 use Rattle.sctp_link.specs.declared.link_receiver.tsn_queue.undo.TsnUndo.TheVariants.{Nothing, Repeat, Beyond, Next}
-
--- a TSN as the queue keeps it: a chunk that says nothing else
-abbrev pub placeholder : ℕ → ChunkPayloadData
-placeholder tsn = fresh (record {
-  unordered = false;
-  beginning_fragment = false;
-  ending_fragment = false;
-  immediate_sack = false;
-  tsn = tsn;
-  stream_identifier = 0;
-  stream_sequence_number = 0;
-  payload_type = Unknown;
-  user_data = [];
-})
 
 -- the cumulative TSN, those that came beyond it, and those that came again
 abbrev pub came : ℕ → List ℕ → List ℕ → Filter
@@ -48,13 +33,6 @@ pub record Kept : Type 0 where
   pub filter : Filter
   pub places : ℕ
 
--- each lies farther after the base than the one before it, and nearer than half the circle (RFC 1982 3.2)
-abbrev pub rise_beyond : ℕ → ℕ → List ℕ → Bool
-rise_beyond base far [] = true
-rise_beyond base far (t ∷ ts) =
-    (nat_lt t (2 ^ 32) && (nat_lt far (distance base t) && nat_lt (distance base t) (2 ^ 31)))
-    && rise_beyond base (distance base t) ts
-
 -- ## TSNs come
 
 -- one that came is noted; one that is opposite to the cumulative TSN is passed over
@@ -73,15 +51,6 @@ abbrev pub with_skip : ℕ → Filter → Filter
 with_skip tsn f = if comes_before f.cumulative_tsn tsn then skipped_to tsn f else f
 
 -- ## They are taken back
-
--- so many TSNs, one after another, from this one on
-abbrev pub tsns_from : ℕ → ℕ → List ℕ
-tsns_from tsn zero = []
-tsns_from tsn (suc n) = tsn ∷ tsns_from (following_tsn tsn) n
-
--- from the second one after a TSN on, up to a later one: the cumulative TSN moved over them when the first one came
-abbrev pub passed : ℕ → ℕ → List ℕ
-passed tsn later = tsns_from (following_tsn (following_tsn tsn)) (distance tsn later - 1)
 
 -- how a new TSN is taken back
 abbrev pub undo_of : ℕ → Filter → TsnUndo

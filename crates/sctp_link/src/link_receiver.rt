@@ -44,7 +44,7 @@ impl Model for LinkReceiver {
 impl LinkReceiver {
     ghost use Rattle.sctp_reassembly.specs.reassembly_queue.ReassemblyQueue.{at_start};
     ghost use Rattle.sctp_receiver.specs.Receiver.{TakesEachBy, StopsAtBy, at_first, is_open, open_stream, close_stream, data_refusal, message_on, after_read, forward_refusal, forwarded_of, after_forward, without_duplicates};
-    ghost use Rattle.sctp_link.specs.Tsns.{placeholder};
+    ghost use Rattle.sctp_receiver.specs.TsnFilter.{placeholder};
 
     /// No stream is open, nothing came, and the first TSN is expected next. It takes no memory.
     pub(crate) fn new(alloc: Global, first_tsn: u32, max_message_size: u32) -> Self

@@ -10,8 +10,8 @@ use Rattle.sctp_serial.specs.DataChunks.{chunk_before, bytes_of, tsns}
 use Rattle.sctp_serial.specs.Window
 use Rattle.sctp_serial.specs.Window.{IsWithinHalf, IsWindow}
 use Rattle.sctp_outbound.specs.payload_queue.PayloadQueue.{past}
-use Rattle.sctp_link.specs.Tsns.{placeholder, rise_beyond}
-use Rattle.sctp_link.proofs.tsns.TsnLists.{step-of, IsStep}
+use Rattle.sctp_receiver.specs.TsnFilter.{placeholder, rise_beyond}
+use Rattle.sctp_receiver.proofs.TsnLists.{step-of, IsStep}
 use Rattle.sctp_serial.proofs.lemmas.Serials.{held-any}
 
 pub tsns-placeholder : (ts : List ℕ) → tsns (map placeholder ts) ≡ ts

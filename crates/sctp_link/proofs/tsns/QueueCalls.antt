@@ -8,15 +8,15 @@ use Rattle.std.proofs.lemmas.Bool.Decides.{nat_tests}
 use Rattle.sctp_util.specs.Lists.{insert_before, advance_over, Seen}
 use Rattle.sctp_util.specs.Serial.{distance, comes_before, at_or_before}
 use Rattle.sctp_util.proofs.More.{not_both}
-use Rattle.sctp_util.proofs.Distances.{before_is, distance_cases, comes_before_from}
+use Rattle.sctp_util.proofs.Distances.{before_is, distance_cases}
 use Rattle.sctp_data.specs.declared.chunk.chunk_payload_data.ChunkPayloadData.{ChunkPayloadData}
 use Rattle.sctp_serial.specs.DataChunks.{chunk_before, bytes_of, following_tsn, tsns}
 use Rattle.sctp_serial.specs.Window
 use Rattle.sctp_serial.specs.Window.{IsWindow}
 use Rattle.sctp_outbound.specs.payload_queue.PayloadQueue.{Payload, push_chunk, add_duplicate, past, with_chunks}
-use Rattle.sctp_receiver.specs.TsnFilter.{Filter, has_come, is_opposite, with_tsn, with_duplicate, skipped_to}
-use Rattle.sctp_link.specs.Tsns.{placeholder, rise_beyond, came, came_in}
-use Rattle.sctp_link.proofs.tsns.TsnLists.{IsStep, IsMoved, expected-absent, expected-after, beyond, stays, moves, moved, rise-inserted, rise-past, rebased}
+use Rattle.sctp_receiver.specs.TsnFilter.{Filter, has_come, is_opposite, with_tsn, with_duplicate, skipped_to, placeholder, rise_beyond}
+use Rattle.sctp_link.specs.Tsns.{came, came_in}
+use Rattle.sctp_receiver.proofs.TsnLists.{IsStep, IsMoved, expected-absent, expected-after, beyond, stays, moves, moved, rise-inserted, rise-past, rebased}
 use Rattle.sctp_link.proofs.tsns.Placeholders.{tsns-placeholder, as-placeholders, placeholders-inserted, placeholders-past, no-bytes, new-is, window}
 use Rattle.sctp_serial.proofs.lemmas.ListEdits.{neither}
 use Rattle.sctp_reassembly.proofs.lemmas.reassembly_queue.SerialPlaces.{after_one}
@@ -207,25 +207,8 @@ after-repeat c t q then' v new view come answer is =
     let e : then' ≡ add_duplicate q t = is ∙ ap (λ b. if b then push_chunk q (placeholder t) else add_duplicate q t) (answer ∙ old) in
     (e, ap (came_in c) e ∙ ap (with_duplicate t) view)
 
--- ## What is neither at or before nor opposite comes after
+-- ## What is at or before does not come after
 
-pub after : (c t : ℕ) → c < 2 ^ 32 → t < 2 ^ 32 → (distance c t == 2 ^ 31) ≡ false → at_or_before t c ≡ false → comes_before c t ≡ true
-unfolding at_or_before
-after c t hc ht near late =
-    let apart : distance c t ≡ 2 ^ 31 → ⊥ = λ e. not_both (sym near ∙ ap (λ d. d == 2 ^ 31) e) in
-    let far : 2 ^ 31 ≤ distance t c = grind (arith, nat_tests, late) in
-    elim (distance_cases c t hc ht) [
-      | inl p ↦ elim (distance_cases t c ht hc) [
-        | inl q ↦ comes_before_from c t (omega (arith, apart, far)) (omega (arith, apart, far))
-        | inr q ↦ comes_before_from c t (omega (arith, apart, far)) (omega (arith, apart, far))
-      ]
-      | inr p ↦ elim (distance_cases t c ht hc) [
-        | inl q ↦ comes_before_from c t (omega (arith, apart, far)) (omega (arith, apart, far))
-        | inr q ↦ comes_before_from c t (omega (arith, apart, far)) (omega (arith, apart, far))
-      ]
-    ]
-
--- and what is at or before does not
 pub not-after : (c t : ℕ) → c < 2 ^ 32 → t < 2 ^ 32 → at_or_before t c ≡ true → comes_before c t ≡ false
 unfolding at_or_before comes_before
 not-after c t hc ht early =

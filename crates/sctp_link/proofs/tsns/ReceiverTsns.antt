@@ -13,7 +13,8 @@ use Rattle.sctp_receiver.specs.Receiver.{Reception, filter_of, noted_by, arrival
 use Rattle.sctp_receiver.specs.Receiver.{Takes, TakesFirstBy, TakesEachBy, is_stale, forward_refusal, follow_forward_tsn, after_forward, repeat_tsn}
 use Rattle.std.specs.Option.{option_or}
 use Rattle.sctp_link.specs.Tsns.{with_arrival, with_arrivals, with_skip}
-use Rattle.sctp_link.proofs.tsns.QueueCalls.{after, not-after}
+use Rattle.sctp_receiver.proofs.Receptions.{after}
+use Rattle.sctp_link.proofs.tsns.QueueCalls.{not-after}
 
 -- ## DATA
 

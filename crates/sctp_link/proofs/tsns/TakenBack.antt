@@ -4,120 +4,39 @@ use Rattle.std.proofs.Common.{arith, take}
 use Rattle.std.specs.Prelude.{if◌then◌else◌, ◌==◌, ◌||◌, not}
 use Rattle.std.specs.List.{list_any, filter}
 use Rattle.std.proofs.lemmas.List.{length-map, length-append, append_assoc}
-use Rattle.sctp_util.specs.Lists.{insert_before, advance_over, Seen}
+use Rattle.sctp_util.specs.Lists.{insert_before}
 use Rattle.sctp_util.specs.Serial.{distance, comes_before, at_or_before}
-use Rattle.sctp_util.proofs.Cases.{same-yes, same-is}
+use Rattle.sctp_util.proofs.Cases.{same-is}
 use Rattle.sctp_util.proofs.More.{fails}
 use Rattle.sctp_data.specs.declared.chunk.chunk_payload_data.ChunkPayloadData.{ChunkPayloadData}
 use Rattle.sctp_serial.specs.DataChunks.{chunk_before, following_tsn, tsns}
 use Rattle.sctp_serial.specs.Window
 use Rattle.sctp_serial.specs.Window.{IsWindow}
 use Rattle.sctp_serial.proofs.lemmas.AscendingEdits.{before_farther}
-use Rattle.sctp_serial.proofs.lemmas.ListEdits.{neither}
-use Rattle.sctp_reassembly.proofs.lemmas.reassembly_queue.SerialPlaces.{after_one}
 use Rattle.sctp_outbound.specs.payload_queue.PayloadQueue.{Payload, push_chunk, without}
-use Rattle.sctp_receiver.specs.TsnFilter.{Filter, has_come, is_opposite, with_tsn, with_duplicate}
+use Rattle.sctp_receiver.specs.TsnFilter.{Filter, has_come, is_opposite, with_tsn, with_duplicate, placeholder, rise_beyond}
 use Rattle.sctp_link.specs.declared.link_receiver.tsn_queue.undo.TsnUndo.{TsnUndo}
 use Rattle.sctp_link.specs.declared.link_receiver.tsn_queue.undo.TsnUndo.TheVariants.{Repeat, Beyond, Next}
-use Rattle.sctp_link.specs.Tsns.{Kept, placeholder, rise_beyond, came, came_in, tsns_from, passed, undo_of, undone, CanUndo, each_undone, CanUndoEach}
+use Rattle.sctp_receiver.specs.TsnRuns.{tsns_from}
+use Rattle.sctp_receiver.specs.Undo.{passed, retracted}
+use Rattle.sctp_receiver.specs.declared.receiver.tsn_filter.undo.FilterUndo.TheVariants as undo
+use Rattle.sctp_receiver.proofs.Retracts as retracts
+use Rattle.sctp_receiver.proofs.Retracts.{run-end}
+use Rattle.sctp_link.specs.Tsns.{Kept, came, came_in, undo_of, undone, CanUndo, each_undone, CanUndoEach}
 use Rattle.sctp_link.proofs.tsns.Placeholders.{tsns-placeholder, as-placeholders, placeholders-inserted, new-is, window}
-use Rattle.sctp_link.proofs.tsns.TsnLists.{IsStep, step-of, beyond, moves, stays, rise-inserted, nearer, behind-it}
-
--- ## What the cumulative TSN moved over
-
-next-farther : (c x t : ℕ) → c < 2 ^ 32 → x < 2 ^ 32 → t ≡ following_tsn x → distance c x < distance c t → distance c t ≡ distance c x + 1
-unfolding distance
-next-farther c x t hc hx is lt = omega (arith, is, lt)
-
-no-more : (n x : ℕ) (ts : List ℕ) → tsns_from x (n - n) ++ ts ≡ ts
-no-more n x ts = let e : n - n ≡ 0 = omega arith in ap (λ k. tsns_from x k ++ ts) e
-
--- it is one run, from the next one on
-moved-over : (c x : ℕ) (ts : List ℕ) → c < 2 ^ 32 → x < 2 ^ 32 → rise_beyond c (distance c x) ts ≡ true
-    → (distance c x ≤ distance c (advance_over x ts).cum) × (ts ≡ tsns_from (following_tsn x) (distance c (advance_over x ts).cum - distance c x) ++
-    (advance_over x ts).held)
-moved-over c x [] hc hx h = (omega arith, sym (no-more (distance c x) (following_tsn x) []))
-moved-over c x (t ∷ ts) hc hx h = by (t == following_tsn x) refl (moved-over c t ts hc s.0.small s.1)
-  where
-    s : IsStep c (distance c x) t × (rise_beyond c (distance c t) ts ≡ true)
-    s = step-of c (distance c x) t ts h
-
-    by : (b : Bool) → (t == following_tsn x) ≡ b
-        → (distance c t ≤ distance c (advance_over t ts).cum) × (ts ≡ tsns_from (following_tsn t) (distance c (advance_over t ts).cum - distance c t)
-        ++ (advance_over t ts).held)
-        → (let m : Seen = if b then advance_over t ts else record { cum = x; held = t ∷ ts } in (distance c x ≤ distance c m.cum) ×
-        (t ∷ ts ≡ tsns_from (following_tsn x) (distance c m.cum - distance c x) ++ m.held))
-    by true e ih =
-        let is : t ≡ following_tsn x = same-is t (following_tsn x) e in
-        let one : distance c t ≡ distance c x + 1 = next-farther c x t hc hx is s.0.farther in
-        let end = (advance_over t ts).cum in
-        let count : suc (distance c end - distance c t) ≡ distance c end - distance c x = omega (arith, one, ih.0) in (
-          omega (arith, one, ih.0),
-          ap (λ us. t ∷ us) ih.1
-              ∙ ap (λ u. u ∷ (tsns_from (following_tsn u) (distance c end - distance c t) ++ (advance_over t ts).held)) is
-              ∙ ap (λ n. tsns_from (following_tsn x) n ++ (advance_over t ts).held) count,
-        )
-    by false e ih = (omega arith, sym (no-more (distance c x) (following_tsn x) (t ∷ ts)))
-
-pub passed-is : (c : ℕ) (ts : List ℕ) → c < 2 ^ 32 → rise_beyond c 1 ts ≡ true → passed c (advance_over (following_tsn c) ts).cum ++
-    (advance_over (following_tsn c) ts).held ≡ ts
-passed-is c ts lt h =
-    let one = after_one c lt in
-    let m = moved-over c (following_tsn c) ts lt (omega arith) (subst (λ n. rise_beyond c n ts ≡ true) (sym one) h) in
-    let end = advance_over (following_tsn c) ts in
-    sym (m.1 ∙ ap (λ n. tsns_from (following_tsn (following_tsn c)) (distance c end.cum - n) ++ end.held) one)
-
--- ## One beyond
-
-rest-is : (t : ℕ) (ts : List ℕ) → list_any (λ u. u == t) ts ≡ false → filter (λ u. not (u == t)) ts ≡ ts
-rest-is t [] gone = refl
-rest-is t (u ∷ us) gone =
-    let n = neither (u == t) (list_any (λ v. v == t) us) gone in
-    ap (λ b. if not b then u ∷ filter (λ v. not (v == t)) us else filter (λ v. not (v == t)) us) n.0
-    ∙ ap (λ vs. u ∷ vs) (rest-is t us n.1)
-
-without-new : (t : ℕ) (ts : List ℕ) → filter (λ u. not (u == t)) (t ∷ ts) ≡ filter (λ u. not (u == t)) ts
-without-new t ts = ap (λ b. if not b then t ∷ filter (λ u. not (u == t)) ts else filter (λ u. not (u == t)) ts) (same-yes t)
-
-pub taken-out : (t : ℕ) (ts : List ℕ) → list_any (λ u. u == t) ts ≡ false → filter (λ u. not (u == t)) (insert_before comes_before t ts) ≡ ts
-taken-out t [] gone = without-new t []
-taken-out t (u ∷ us) gone = by (comes_before t u) (taken-out t us n.1)
-  where
-    n : ((u == t) ≡ false) × (list_any (λ v. v == t) us ≡ false)
-    n = neither (u == t) (list_any (λ v. v == t) us) gone
-
-    by : (b : Bool) → filter (λ v. not (v == t)) (insert_before comes_before t us) ≡ us
-        → filter (λ v. not (v == t)) (if b then t ∷ u ∷ us else u ∷ insert_before comes_before t us) ≡ u ∷ us
-    by true ih = without-new t (u ∷ us) ∙ rest-is t (u ∷ us) gone
-    by false ih =
-        ap (λ b. if not b then u ∷ filter (λ v. not (v == t)) (insert_before comes_before t us) else filter (λ v. not (v == t))
-        (insert_before comes_before t us)) n.0
-        ∙ ap (λ vs. u ∷ vs) ih
+use Rattle.sctp_receiver.proofs.TsnLists.{IsStep, step-of, nearer, behind-it}
 
 -- ## What is taken back is what was
 
 module _ (t : ℕ) (f : Filter) (lt : f.cumulative_tsn < 2 ^ 32) (small : t < 2 ^ 32) (rise : rise_beyond f.cumulative_tsn 1 f.beyond ≡ true)
     (fresh : has_come t f ≡ false) (near : is_opposite t f ≡ false) where
   pub taken-back : undone (undo_of t f) (with_tsn t f) ≡ f
-  taken-back = by (t == following_tsn f.cumulative_tsn) refl
+  taken-back = by (t == following_tsn f.cumulative_tsn) (retracts.taken-back t f lt small rise fresh near f.room)
     where
-      apart : (at_or_before t f.cumulative_tsn ≡ false) × (list_any (λ u. u == t) f.beyond ≡ false)
-      apart = neither (at_or_before t f.cumulative_tsn) (list_any (λ u. u == t) f.beyond) fresh
-
-      by : (b : Bool) → (t == following_tsn f.cumulative_tsn) ≡ b → undone (if b then Next f.cumulative_tsn else Beyond t) (with_tsn t f) ≡ f
-      by true e =
-          let is : t ≡ following_tsn f.cumulative_tsn = same-is t (following_tsn f.cumulative_tsn) e in
-          let go : advance_over f.cumulative_tsn (insert_before comes_before t f.beyond) ≡ advance_over (following_tsn f.cumulative_tsn) f.beyond = ap
-          (λ u. advance_over f.cumulative_tsn (insert_before comes_before u f.beyond)) is ∙ moves f.cumulative_tsn f.beyond lt rise in
-          ap (λ (s : Seen). let g : Filter = record f { beyond = passed f.cumulative_tsn s.cum ++ s.held } in g) go
-          ∙ ap (λ ts. let g : Filter = record f { beyond = ts } in g) (passed-is f.cumulative_tsn f.beyond lt rise)
-      by false e =
-          let lies : IsStep f.cumulative_tsn 1 t = beyond f.cumulative_tsn t lt small apart.0 near e in
-          let more : rise_beyond f.cumulative_tsn 1 (insert_before comes_before t f.beyond) ≡ true = rise-inserted f.cumulative_tsn 1 t f.beyond lt
-          lies apart.1 rise in
-          ap (λ (s : Seen). let g : Filter = record f { cumulative_tsn = s.cum; beyond = filter (λ u. not (u == t)) s.held } in g)
-          (stays f.cumulative_tsn (insert_before comes_before t f.beyond) lt more)
-          ∙ ap (λ ts. let g : Filter = record f { beyond = ts } in g) (taken-out t f.beyond apart.1)
+      by : (b : Bool) → retracted (if b then undo.Next f.cumulative_tsn f.room else undo.Beyond t f.room) (with_tsn t f) ≡ f
+          → undone (if b then Next f.cumulative_tsn else Beyond t) (with_tsn t f) ≡ f
+      by true back = back
+      by false back = back
 
 -- one that came again is noted no more
 shorter : (t : ℕ) (ds : List ℕ) → take (length (ds ++ t ∷ []) - 1) (ds ++ t ∷ []) ≡ ds
@@ -158,13 +77,6 @@ placeholders-without t (u ∷ us) = by (not (u == t)) (placeholders-without t us
         (if b then u ∷ filter (λ v. not (v == t)) us else filter (λ v. not (v == t)) us)
     by true ih = ap (λ cs. placeholder u ∷ cs) ih
     by false ih = ih
-
--- the last one of a run by itself
-pub run-end : (t n : ℕ) → t < 2 ^ 32 → tsns_from t (suc n) ≡ tsns_from t n ++ (t + n) % 2 ^ 32 ∷ []
-run-end t zero lt = let e : t ≡ (t + 0) % 2 ^ 32 = omega arith in ap (λ u. u ∷ []) e
-run-end t (suc n) lt =
-    let e : (following_tsn t + n) % 2 ^ 32 ≡ (t + suc n) % 2 ^ 32 = omega arith in
-    ap (λ us. t ∷ us) (run-end (following_tsn t) n (omega arith) ∙ ap (λ u. tsns_from (following_tsn t) n ++ u ∷ []) e)
 
 -- what stands behind others rises too
 pub rise-behind : (c far : ℕ) (us : List ℕ) (t : ℕ) (ts : List ℕ) → rise_beyond c far (us ++ t ∷ ts) ≡ true

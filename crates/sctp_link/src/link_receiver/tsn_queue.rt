@@ -4,7 +4,8 @@ ghost use Rattle.std.specs.Prelude.{◌≡◌, ◌==◌, ◌<◌, ◌≤◌, ◌
 ghost use Rattle.sctp_util.specs.declared.error.Error.TheVariants.{ErrOutOfMemory};
 ghost use Rattle.sctp_util.specs.Lists.{advance_over};
 ghost use Rattle.sctp_serial.specs.DataChunks.{preceding_tsn, tsns};
-ghost use Rattle.sctp_link.specs.Tsns.{placeholder, came, rise_beyond};
+ghost use Rattle.sctp_receiver.specs.TsnFilter.{placeholder, rise_beyond};
+ghost use Rattle.sctp_link.specs.Tsns.{came};
 
 pub(crate) mod undo;
 
@@ -29,7 +30,8 @@ pub(crate) struct TsnQueue {
 impl Model for TsnQueue {
     ghost use Rattle.std.specs.Prelude.{◌≡◌, ◌<◌, ◌+◌, ◌^◌, true, length, map};
     ghost use Rattle.sctp_serial.specs.DataChunks.{tsns};
-    ghost use Rattle.sctp_link.specs.Tsns.{Kept, came_in, placeholder, rise_beyond};
+    ghost use Rattle.sctp_receiver.specs.TsnFilter.{placeholder, rise_beyond};
+    ghost use Rattle.sctp_link.specs.Tsns.{Kept, came_in};
 
     ghost Value = { Kept };
 

@@ -3,7 +3,9 @@
 ghost use Rattle.std.specs.Prelude.{◌≡◌, ◌<◌, ◌≤◌, ◌+◌, ◌-◌, ◌^◌, ◌++◌, true, OnErr, OnOk, IfOk, IsOkUnless, length, map};
 ghost use Rattle.sctp_util.specs.declared.error.Error.TheVariants.{ErrOutOfMemory};
 ghost use Rattle.sctp_serial.specs.DataChunks.{following_tsn, tsns};
-ghost use Rattle.sctp_link.specs.Tsns.{placeholder, rise_beyond, with_arrivals, tsns_from, each_undone, CanUndoEach};
+ghost use Rattle.sctp_receiver.specs.TsnFilter.{placeholder, rise_beyond};
+ghost use Rattle.sctp_receiver.specs.TsnRuns.{tsns_from};
+ghost use Rattle.sctp_link.specs.Tsns.{with_arrivals, each_undone, CanUndoEach};
 
 use super::{TsnQueue, placeholder};
 use sctp_chunks::chunk::chunk_payload_data::ChunkPayloadData;

@@ -1,6 +1,6 @@
 use Rattle.std.proofs.Common.{◌≡◌, ◌+◌, length, map}
 use Rattle.sctp_util.specs.Lists.{advance_over}
-use Rattle.sctp_link.specs.Tsns.{placeholder}
+use Rattle.sctp_receiver.specs.TsnFilter.{placeholder}
 use Rattle.sctp_link.proofs.link_receiver.tsn_queue.advance.Given as goal
 use Rattle.sctp_serial.specs.DataChunks.{tsns}
 

@@ -1,7 +1,8 @@
 use Rattle.std.proofs.Common.{◌≡◌, ap, arith}
 use Rattle.std.proofs.lemmas.Bool.{ne_eqb}
 use Rattle.sctp_outbound.specs.payload_queue.PayloadQueue.{push_chunk}
-use Rattle.sctp_link.specs.Tsns.{Kept, placeholder}
+use Rattle.sctp_receiver.specs.TsnFilter.{placeholder}
+use Rattle.sctp_link.specs.Tsns.{Kept}
 use Rattle.sctp_link.proofs.tsns.QueueCalls.{after-next, put-window, put-new, after-put, few-bytes, put-in, put-places}
 use Rattle.sctp_link.proofs.link_receiver.tsn_queue.TsnQueue.accept.Goals.{In_ok-push}
 use Rattle.sctp_link.proofs.link_receiver.tsn_queue.TsnQueue.accept.Goals as goal

@@ -1,7 +1,7 @@
 use Rattle.std.proofs.Common.{◌≡◌, ◌+◌, length, ap, sym, ◌∙◌, true, map}
 use Rattle.sctp_outbound.specs.payload_queue.PayloadQueue.{Payload}
-use Rattle.sctp_receiver.specs.TsnFilter.{has_come}
-use Rattle.sctp_link.specs.Tsns.{Kept, came_in, placeholder, rise_beyond}
+use Rattle.sctp_receiver.specs.TsnFilter.{has_come, placeholder, rise_beyond}
+use Rattle.sctp_link.specs.Tsns.{Kept, came_in}
 use Rattle.sctp_link.proofs.tsns.QueueCalls.{no-window, few-bytes, after-repeat}
 use Rattle.sctp_link.proofs.link_receiver.tsn_queue.TsnQueue.record_duplicate.Goals as goal
 use Rattle.sctp_serial.specs.DataChunks.{tsns}

@@ -2,7 +2,10 @@ use Rattle.std.proofs.Common.{◌≡◌, ℕ, ◌-◌, ◌++◌, ap, sym, subst,
 use Rattle.sctp_util.specs.Serial.{distance}
 use Rattle.sctp_outbound.specs.payload_queue.PayloadQueue.{Payload}
 use Rattle.sctp_link.specs.declared.link_receiver.tsn_queue.undo.TsnUndo.TheVariants.{Repeat, Beyond, Next}
-use Rattle.sctp_link.specs.Tsns.{Kept, came_in, placeholder, tsns_from, passed, undone, CanUndo}
+use Rattle.sctp_receiver.specs.TsnFilter.{placeholder}
+use Rattle.sctp_receiver.specs.TsnRuns.{tsns_from}
+use Rattle.sctp_receiver.specs.Undo.{passed}
+use Rattle.sctp_link.specs.Tsns.{Kept, came_in, undone, CanUndo}
 use Rattle.sctp_serial.specs.DataChunks.{following_tsn, tsns}
 use Rattle.sctp_link.proofs.tsns.TakenBack.{gone-is, gone-placeholders, gone-rise, back-rise, back-room, next-is-back, next-placeholders, next-rise}
 use Rattle.sctp_link.proofs.tsns.TakenBack.{next-places}

@@ -1,6 +1,7 @@
 use Rattle.std.proofs.Common.{◌≡◌, ◌<◌, ◌+◌, ◌-◌, ◌^◌, ◌%◌, ◌++◌, true, ap, ◌∙◌, arith}
 use Rattle.sctp_outbound.specs.payload_queue.PayloadQueue.{Payload, push_chunk}
-use Rattle.sctp_link.specs.Tsns.{placeholder, rise_beyond, tsns_from}
+use Rattle.sctp_receiver.specs.TsnFilter.{placeholder, rise_beyond}
+use Rattle.sctp_receiver.specs.TsnRuns.{tsns_from}
 use Rattle.sctp_serial.specs.DataChunks.{following_tsn, tsns}
 use Rattle.sctp_link.proofs.tsns.QueueCalls.{few-bytes, within-room}
 use Rattle.sctp_link.proofs.tsns.TakenBack.{back-window, back-new, back-placeholders, back-same}

@@ -1,6 +1,7 @@
 use Rattle.std.proofs.Common.{◌≡◌, ◌-◌, ◌+◌, ◌≤◌, ◌++◌, map}
 use Rattle.std.specs.Prelude.{min}
-use Rattle.sctp_link.specs.Tsns.{placeholder, tsns_from}
+use Rattle.sctp_receiver.specs.TsnFilter.{placeholder}
+use Rattle.sctp_receiver.specs.TsnRuns.{tsns_from}
 use Rattle.sctp_serial.specs.DataChunks.{following_tsn, tsns}
 use Rattle.sctp_link.proofs.link_receiver.tsn_queue.undo.put_back.Given as goal
 
