@@ -60,7 +60,7 @@ CALLS_BEHIND = {
 }
 # which functions a name has
 CANDIDATES = {
-    "set_mode": {"sctp_sender::Sender::set_mode", "sctp_delivery::set_mode"},
+    "set_mode": {"sctp_sender::OutboundStreams::set_mode", "sctp_sender::Sender::set_mode", "sctp_delivery::set_mode"},
     "Sender::set_mode": {"sctp_sender::Sender::set_mode"},
     "sctp_receiver::cumulative_tsn": {"sctp_receiver::Receiver::cumulative_tsn", "sctp_receiver::TsnFilter::cumulative_tsn"},
 }

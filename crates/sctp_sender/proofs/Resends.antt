@@ -138,10 +138,6 @@ module _ (cs : List ChunkPayloadData) (o : Option ChunkPayloadData) (tsn now : �
 
 -- ## It fits
 
-pub fits-is : (room : ℕ) (o : Option ChunkPayloadData) (c : ChunkPayloadData) (b : Bool) → o ≡ Some c → fits room c ≡ b
-    → if_it_fits room o ≡ (if b then Some c else None)
-fits-is room o c b is e = ap (if_it_fits room) is ∙ ap (λ k. if k then Some c else None) e
-
 -- what fits is what was found
 pub within-is : (room : ℕ) (o : Option ChunkPayloadData) (c : ChunkPayloadData) → if_it_fits room o ≡ Some c → o ≡ Some c
 within-is room None c e = e

@@ -40,11 +40,6 @@ module _ (ls : List StreamState) (s : ℕ) where
   open-is None absent = ap is_some (closed absent)
   open-is (Some k) p = open-at k p
 
-  pub found-at : (k : ℕ) → IsOnlyPlace s (numbers_of ls) k → (l : StreamState) × (find (has_number s) ls ≡ Some l)
-  found-at k p =
-      let x = slice_index_or ls k (new_stream 0 0 0 Unknown) in
-      (x, found number ls (numbers_of ls) refl s k p x (get_or_default ls k (new_stream 0 0 0 Unknown) x (inside number ls (numbers_of ls) refl s k p)))
-
 -- ## Why a write is refused
 
 module _ (s len : ℕ) (t : Transmission) where

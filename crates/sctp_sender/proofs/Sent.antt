@@ -1,5 +1,5 @@
 -- A chunk that is sent, as it is noted in flight.
-use Rattle.std.proofs.Common.{◌≡◌, ℕ, Bool, true, false, List, [], ◌∷◌, Option, Some, None, ap, sym, ◌∙◌}
+use Rattle.std.proofs.Common.{◌≡◌, ℕ, Bool, true, false, List, [], ◌∷◌, Option, Some, None, refl, ap, sym, ◌∙◌}
 use Rattle.std.specs.Prelude.{if◌then◌else◌, ◌==◌, find, is_some, option_map}
 use Rattle.std.proofs.lemmas.Option.{none-some}
 use Rattle.sctp_data.specs.declared.chunk.chunk_payload_data.ChunkPayloadData.{ChunkPayloadData}
@@ -10,7 +10,9 @@ use Rattle.sctp_outbound.specs.payload_queue.PayloadQueue as payload
 use Rattle.sctp_outbound.specs.pending_queue.PendingQueue.{is_to_start, next_pending, start_pending, with_deadline}
 use Rattle.sctp_outbound.proofs.lemmas.outbound_queue.Outbounds.{peeked_all_started}
 use Rattle.sctp_serial.specs.DataChunks.{chunk_before, has_tsn}
-use Rattle.sctp_sender.specs.Flight.{Flight, IsContiguous}
+use Rattle.sctp_sender.specs.declared.sender.refusal.SenderRefusal.TheVariants.{TsnsUsedUp}
+use Rattle.sctp_sender.specs.Flight.{Flight, IsContiguous, may_send}
+use Rattle.sctp_sender.specs.Numbers.{refusal_of, send_refusal, tsn_refusal}
 use Rattle.sctp_sender.proofs.Flights.{fresh, started-inflight}
 use Rattle.sctp_sender.proofs.Walks.{find-inserted, none-of}
 
@@ -97,3 +99,15 @@ pub some-noted : (q : Outbound) (tsn now : ℕ) (c : ChunkPayloadData) → next_
 some-noted q tsn now c e none =
     let t = peeked-started now q c e in
     none-some (as_sent tsn now (record c { deadline = t.0 })) (none ∙ ap (option_map (as_sent tsn now)) t.1)
+
+-- ## What is refused
+
+unrefused-of : (o : Option ChunkPayloadData) (f : Flight) (may : Bool) → may_send f ≡ may → refusal_of o f ≡ None
+    → (if may then None else (if is_some o then Some TsnsUsedUp else None)) ≡ None
+unrefused-of o f true is e = refl
+unrefused-of None f false is e = refl
+unrefused-of (Some c) f false is e = let h = rw is at e in cc
+
+-- what may be sent by its number too is not refused
+pub unrefused : (f : Flight) → send_refusal f ≡ None → tsn_refusal f ≡ None
+unrefused f e = unrefused-of (next_pending f.queue.pending) f (may_send f) refl e

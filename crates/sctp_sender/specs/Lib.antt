@@ -15,3 +15,4 @@ pub mod Totals
 pub mod SenderRuns
 pub mod Thresholds
 pub mod Drops
+pub mod Calls

@@ -1,6 +1,6 @@
 -- How far apart the numbers of ordered messages in flight are (RFC 4960 6.5, 6.6; RFC 1982).
 use Rattle.std.specs.Prelude.{◌≡◌, ℕ, ◌+◌, ◌-◌, ◌%◌, ◌^◌, ◌<◌, ◌⊎◌, Bool, true, not, ◌&&◌, nat_le, if◌then◌else◌, List, [], ◌∷◌, ◌++◌, length, Option, Some}
-use Rattle.std.specs.Prelude.{None}
+use Rattle.std.specs.Prelude.{None, is_some}
 use Rattle.std.specs.List.{filter, find}
 use Rattle.sctp_data.specs.declared.chunk.chunk_payload_data.ChunkPayloadData.{ChunkPayloadData}
 use Rattle.sctp_outbound.specs.pending_queue.PendingQueue.{next_pending}
@@ -63,3 +63,9 @@ refusal_of (Some c) f =
 
 abbrev pub send_refusal : Flight → Option SenderRefusal
 send_refusal f = refusal_of (next_pending f.queue.pending) f
+
+-- and why not, however far its number goes
+abbrev pub tsn_refusal : Flight → Option SenderRefusal
+tsn_refusal f =
+    if may_send f then None
+    else (if is_some (next_pending f.queue.pending) then Some TsnsUsedUp else None)

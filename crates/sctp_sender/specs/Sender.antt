@@ -8,14 +8,14 @@ use Rattle.sctp_data.specs.declared.chunk.chunk_payload_data.PayloadProtocolIden
 use Rattle.sctp_data.specs.declared.chunk.chunk_payload_data.PayloadProtocolIdentifier.TheVariants.{Unknown}
 use Rattle.sctp_data.specs.declared.chunk.chunk_payload_data.ReliabilityType.{ReliabilityType}
 use Rattle.sctp_data.specs.SelectiveAck.{Sack}
-use Rattle.sctp_outbound.specs.outbound_queue.OutboundQueue.{Outbound, with_message, total_bytes, expired_of, expired_times}
+use Rattle.sctp_outbound.specs.outbound_queue.OutboundQueue.{Outbound, with_message, total_bytes, expired_of, expired_times, sent_next}
 use Rattle.sctp_stream.specs.declared.stream.StreamState.{StreamState}
 use Rattle.sctp_sender.specs.declared.sender.Reported.{Reported}
 use Rattle.sctp_sender.specs.declared.sender.Reported.TheVariants.{Drop, Keep}
 use Rattle.sctp_sender.specs.declared.sender.flight.kept.TakenBack.{TakenBack}
 use Rattle.sctp_sender.specs.declared.sender.refusal.SenderRefusal.{SenderRefusal}
 use Rattle.sctp_sender.specs.declared.sender.refusal.SenderRefusal.TheVariants.{StreamUnknown, MessageTooLarge, QueueFull}
-use Rattle.sctp_sender.specs.Flight.{Flight, with_queue, at_first, after_sack, released_by, is_outdated, sack_refusal, after_abandonment}
+use Rattle.sctp_sender.specs.Flight.{Flight, with_queue, at_first, after_sack, released_by, is_outdated, sack_refusal, next_after_send, after_abandonment}
 use Rattle.sctp_sender.specs.Keeping.{after_returns, bytes_back, coming_back, kept_after, answered_back, with_restored}
 use Rattle.sctp_sender.specs.Outgoing.{has_number, with_mode, fragments_with_mode, wrote, after_releases, less_by, after_expiries, after_expiry}
 use Rattle.sctp_stream.specs.Stream.{new_stream}
@@ -93,6 +93,14 @@ written_to l s ppi bytes t = record t {
 }
 
 -- ## Sending
+
+-- the fragment that is next is in flight, and lifetimes start
+abbrev pub after_send : ℕ → Transmission → Transmission
+after_send now t =
+    with_flight (record t.flight {
+      queue = sent_next t.flight.queue t.flight.next_tsn now;
+      next_tsn = next_after_send t.flight;
+    }) t
 
 -- ## A SACK
 

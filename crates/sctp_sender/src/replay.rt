@@ -1,19 +1,16 @@
 //! Single steps of a sender: what replays a record of calls, takes the steps of a session one by one, or lends them to another language
 //! needs of a `Sender` beside its calls.
 
-ghost use Rattle.std.specs.Prelude.{◌≡◌, ◌≢◌, ◌+◌, ◌<◌, ◌≤◌, ◌⊎◌, ℕ, [], true, false, None, Some, OnOk, OnErr, IfOk, IfErr, IfSome, IsOk, find, is_some, option_copied, option_map, option_to_list, slice_get, if◌then◌else◌};
-ghost use Rattle.std.specs.List.{count_by, list_any, sum_by};
+ghost use Rattle.std.specs.Prelude.{◌≡◌, ◌<◌, ◌≤◌, [], None, Some, OnOk, IfOk, IfErr, IfSome, IsOk, find, option_copied, option_map, slice_get};
 ghost use Rattle.sctp_data.specs.declared.chunk.chunk_payload_data.ChunkPayloadData.{ChunkPayloadData};
-ghost use Rattle.sctp_outbound.specs.outbound_queue.OutboundQueue.{all_started, as_sent, expiring, expiring_tail, late_tsns, message_of, sent_next, total_bytes};
-ghost use Rattle.sctp_outbound.specs.pending_queue.PendingQueue.{next_pending};
-ghost use Rattle.sctp_sender.specs.declared.sender.refusal.SenderRefusal.TheVariants.{OutOfMemory, TsnsUsedUp};
+ghost use Rattle.sctp_outbound.specs.outbound_queue.OutboundQueue.{all_started, late_tsns};
+ghost use Rattle.sctp_sender.specs.declared.sender.refusal.SenderRefusal.TheVariants.{OutOfMemory};
 ghost use Rattle.sctp_sender.specs.Abandonment.{Name, advanced_ack_point, named_up_to, skip_end};
-ghost use Rattle.sctp_sender.specs.Flight.{may_send, next_after_send, resent, with_queue};
-ghost use Rattle.sctp_sender.specs.Late.{after_late, after_worn, late_order, leaving_each, with_tail, worn_order};
-ghost use Rattle.sctp_sender.specs.Numbers.{send_refusal};
+ghost use Rattle.sctp_sender.specs.Calls.{AbandonsEach, Expires, ExpiresTail, SendsTsn};
+ghost use Rattle.sctp_sender.specs.Flight.{resent, with_queue};
+ghost use Rattle.sctp_sender.specs.Numbers.{send_refusal, tsn_refusal};
 ghost use Rattle.sctp_sender.specs.Resending.{is_to_resend, worn_tsns};
-ghost use Rattle.sctp_sender.specs.Sender.{after_abandon, after_expire, with_flight};
-ghost use Rattle.sctp_sender.specs.Thresholds.{fell, tells_message_low, with_message_lows};
+ghost use Rattle.sctp_sender.specs.Sender.{with_flight};
 ghost use Rattle.sctp_serial.specs.DataChunks.{has_tsn};
 
 use crate::sender::flight::late::AbandonedMessage;
@@ -34,14 +31,7 @@ pub fn start(sender: &mut Sender, now: u64)
 /// Removes the message in front, where it is past its deadline and wholly unsent, and answers it (RFC 3758 4.1). `now` is in
 /// nanoseconds. It takes no memory.
 pub fn expire(sender: &mut Sender, now: u64) -> Option<ExpiredMessage>
-    ensures some { IfSome result (λ r. IfSome (expiring now sender.old.flight.queue)
-        (λ c. (r.stream ≡ c.stream_identifier)
-        × (sender.new ≡ after_expire c r.bytes now sender.old))) }
-    ensures none { is_some result ≡ is_some (expiring now sender.old.flight.queue) }
-    ensures idle { result ≡ None → sender.new ≡ sender.old }
-    ensures released { IfSome result (λ r. total_bytes sender.new.flight.queue + r.bytes
-        ≡ total_bytes sender.old.flight.queue) }
-    ensures low { IfSome result (λ r. r.is_low ≡ fell r.stream sender.old sender.new) }
+    ensures { Expires now sender.old sender.new result }
 {
     sender.expire(now)
 }
@@ -50,24 +40,7 @@ pub fn expire(sender: &mut Sender, now: u64) -> Option<ExpiredMessage>
 /// left. Refuses, only where there is such a message, with `TsnsUsedUp`, where 2^31 - 1 chunks are in flight, and for memory, though not
 /// within the room of `Sender::reserve`. The sender is as it was then.
 pub fn expire_tail(sender: &mut Sender, now: u64) -> Result<Option<AbandonedMessage>, SenderRefusal>
-    ensures some { IfOk result (λ r. IfSome r (λ a. sender.new ≡ after_abandon
-        (message_of (expiring_tail now sender.old.flight.queue)) a.stream a.bytes sender.old)) }
-    ensures answer { IfOk result (λ r. option_map {U = ℕ × ℕ} (λ a. (a.stream, a.number)) r
-        ≡ option_map {U = ℕ × ℕ}
-        (λ c. (c.stream_identifier, c.message_id)) (expiring_tail now sender.old.flight.queue)) }
-    ensures none { IfOk result (λ r. r ≡ None → sender.new ≡ sender.old) }
-    ensures released { IfOk result (λ r. total_bytes sender.new.flight.queue
-        + sum_by (λ g. g.bytes) (option_to_list r) ≡ total_bytes sender.old.flight.queue) }
-    ensures low { IfOk result (λ r. IfSome r
-        (λ a. a.is_low ≡ fell a.stream sender.old sender.new)) }
-    ensures accepted { IsOk result → (expiring_tail now sender.old.flight.queue ≡ None)
-        ⊎ (may_send sender.old.flight ≡ true) }
-    ensures refused { IfErr result (λ e. e
-        ≡ (if may_send sender.old.flight then OutOfMemory else TsnsUsedUp)) }
-    ensures succeeds { 0 < sender.old.flight.queue.inflight.room
-        → may_send sender.old.flight ≡ true → IsOk result }
-    ensures idle { expiring_tail now sender.old.flight.queue ≡ None → IsOk result }
-    ensures err { OnErr result (sender.new ≡ sender.old) }
+    ensures { ExpiresTail now sender.old sender.new result }
 {
     sender.expire_tail(now)
 }
@@ -76,24 +49,7 @@ pub fn expire_tail(sender: &mut Sender, now: u64) -> Result<Option<AbandonedMess
 /// where there is such a one, with `TsnsUsedUp`, where 2^31 - 1 chunks are in flight; and for memory, but not where no message is late.
 /// The sender is as it was then.
 pub fn expire_late(sender: &mut Sender, now: u64) -> Result<Vec<AbandonedMessage>, SenderRefusal>
-    ensures ok { OnOk result (sender.new ≡ after_late now sender.old) }
-    ensures answer { IfOk result (λ abandoned. abandoned.items
-        ≡ with_message_lows (leaving_each (late_order now sender.old.flight) sender.old.flight)
-        sender.old.streams) }
-    ensures low { IfOk result (λ abandoned. (s : ℕ)
-        → list_any (tells_message_low s) abandoned.items ≡ fell s sender.old sender.new) }
-    ensures once { IfOk result (λ abandoned. (s : ℕ)
-        → count_by (tells_message_low s) abandoned.items ≤ 1) }
-    ensures released { IfOk result (λ abandoned. total_bytes sender.new.flight.queue
-        + sum_by (λ g. g.bytes) abandoned.items ≡ total_bytes sender.old.flight.queue) }
-    ensures accepted { IsOk result →
-        (with_tail (late_tsns now sender.old.flight.queue) sender.old.flight ≡ None)
-        ⊎ (may_send sender.old.flight ≡ true) }
-    ensures refused { IfErr result (λ e. (e ≡ OutOfMemory)
-        ⊎ ((e ≡ TsnsUsedUp) × (may_send sender.old.flight ≡ false)
-        × (is_some (with_tail (late_tsns now sender.old.flight.queue) sender.old.flight) ≡ true))) }
-    ensures idle { late_tsns now sender.old.flight.queue ≡ [] → IsOk result }
-    ensures err { OnErr result (sender.new ≡ sender.old) }
+    ensures { AbandonsEach (late_tsns now sender.old.flight.queue) sender.old sender.new result }
 {
     sender.expire_late(now)
 }
@@ -102,25 +58,8 @@ pub fn expire_late(sender: &mut Sender, now: u64) -> Result<Vec<AbandonedMessage
 /// once chunks are marked for retransmission: `next_to_retransmit` lends no such chunk then. The answer and the refusals are those of
 /// `expire_late`. The sender is as it was then.
 pub fn expire_rexmit(sender: &mut Sender) -> Result<Vec<AbandonedMessage>, SenderRefusal>
-    ensures ok { OnOk result (sender.new ≡ after_worn sender.old) }
+    ensures abandons { AbandonsEach (worn_tsns sender.old.flight) sender.old sender.new result }
     ensures none_left { OnOk result (worn_tsns sender.new.flight ≡ []) }
-    ensures answer { IfOk result (λ abandoned. abandoned.items
-        ≡ with_message_lows (leaving_each (worn_order sender.old.flight) sender.old.flight)
-        sender.old.streams) }
-    ensures low { IfOk result (λ abandoned. (s : ℕ)
-        → list_any (tells_message_low s) abandoned.items ≡ fell s sender.old sender.new) }
-    ensures once { IfOk result (λ abandoned. (s : ℕ)
-        → count_by (tells_message_low s) abandoned.items ≤ 1) }
-    ensures released { IfOk result (λ abandoned. total_bytes sender.new.flight.queue
-        + sum_by (λ g. g.bytes) abandoned.items ≡ total_bytes sender.old.flight.queue) }
-    ensures accepted { IsOk result →
-        (with_tail (worn_tsns sender.old.flight) sender.old.flight ≡ None)
-        ⊎ (may_send sender.old.flight ≡ true) }
-    ensures refused { IfErr result (λ e. (e ≡ OutOfMemory)
-        ⊎ ((e ≡ TsnsUsedUp) × (may_send sender.old.flight ≡ false)
-        × (is_some (with_tail (worn_tsns sender.old.flight) sender.old.flight) ≡ true))) }
-    ensures idle { worn_tsns sender.old.flight ≡ [] → IsOk result }
-    ensures err { OnErr result (sender.new ≡ sender.old) }
 {
     sender.expire_rexmit()
 }
@@ -128,29 +67,7 @@ pub fn expire_rexmit(sender: &mut Sender) -> Result<Vec<AbandonedMessage>, Sende
 /// As `Sender::send_next`, but answers the TSN alone: `outbound().get` lends the chunk. So within the room of `Sender::reserve` it takes
 /// no memory.
 pub fn send_next_tsn(sender: &mut Sender, now: u64) -> Result<Option<u32>, SenderRefusal>
-    ensures answer { IfOk result (λ sent. sent
-        ≡ option_map (λ _. sender.old.flight.next_tsn)
-        (next_pending sender.old.flight.queue.pending)) }
-    ensures noted { next_pending sender.old.flight.queue.pending ≢ None → OnOk result
-        (find (has_tsn sender.old.flight.next_tsn) sender.new.flight.queue.inflight.chunks
-        ≡ option_map (as_sent sender.old.flight.next_tsn now)
-        (next_pending (all_started now sender.old.flight.queue).pending)) }
-    ensures ok { OnOk result (sender.new
-        ≡ with_flight (record sender.old.flight {
-          queue = sent_next sender.old.flight.queue
-              sender.old.flight.next_tsn now;
-          next_tsn = next_after_send sender.old.flight;
-        }) sender.old) }
-    ensures bytes { OnOk result (total_bytes sender.new.flight.queue
-        ≡ total_bytes sender.old.flight.queue) }
-    ensures accepted { IsOk result → send_refusal sender.old.flight ≡ None }
-    ensures refused { IfErr result
-        (λ e. ((e ≡ OutOfMemory) × (send_refusal sender.old.flight ≡ None))
-        ⊎ (send_refusal sender.old.flight ≡ Some e)) }
-    ensures succeeds { 0 < sender.old.flight.queue.inflight.room
-        → send_refusal sender.old.flight ≡ None → IsOk result }
-    ensures idle { next_pending sender.old.flight.queue.pending ≡ None → IsOk result }
-    ensures err { OnErr result (sender.new ≡ sender.old) }
+    ensures { SendsTsn (send_refusal sender.old.flight) now sender.old sender.new result }
 {
     sender.send_next_tsn(now)
 }
@@ -159,29 +76,7 @@ pub fn send_next_tsn(sender: &mut Sender, now: u64) -> Result<Option<u32>, Sende
 /// apart. Refuses, only where something waits, with `TsnsUsedUp`, where 2^31 - 1 chunks are in flight, and for memory, but not within the
 /// room of `Sender::reserve`. The sender is as it was then.
 pub fn send_next_tsn_unbounded(sender: &mut Sender, now: u64) -> Result<Option<u32>, SenderRefusal>
-    ensures answer { IfOk result (λ sent. sent
-        ≡ option_map (λ _. sender.old.flight.next_tsn)
-        (next_pending sender.old.flight.queue.pending)) }
-    ensures noted { next_pending sender.old.flight.queue.pending ≢ None → OnOk result
-        (find (has_tsn sender.old.flight.next_tsn) sender.new.flight.queue.inflight.chunks
-        ≡ option_map (as_sent sender.old.flight.next_tsn now)
-        (next_pending (all_started now sender.old.flight.queue).pending)) }
-    ensures ok { OnOk result (sender.new
-        ≡ with_flight (record sender.old.flight {
-          queue = sent_next sender.old.flight.queue
-              sender.old.flight.next_tsn now;
-          next_tsn = next_after_send sender.old.flight;
-        }) sender.old) }
-    ensures bytes { OnOk result (total_bytes sender.new.flight.queue
-        ≡ total_bytes sender.old.flight.queue) }
-    ensures accepted { IsOk result → (next_pending sender.old.flight.queue.pending ≡ None)
-        ⊎ (may_send sender.old.flight ≡ true) }
-    ensures refused { IfErr result (λ e. e
-        ≡ (if may_send sender.old.flight then OutOfMemory else TsnsUsedUp)) }
-    ensures succeeds { 0 < sender.old.flight.queue.inflight.room
-        → may_send sender.old.flight ≡ true → IsOk result }
-    ensures idle { next_pending sender.old.flight.queue.pending ≡ None → IsOk result }
-    ensures err { OnErr result (sender.new ≡ sender.old) }
+    ensures { SendsTsn (tsn_refusal sender.old.flight) now sender.old sender.new result }
 {
     sender.send_next_tsn_unbounded(now)
 }

@@ -1,11 +1,10 @@
 //! The sending half of a link (RFC 4960 6.1, 6.2.1, 6.9).
 
-ghost use Rattle.std.specs.Prelude.{◌≡◌, ◌≢◌, ◌==◌, ◌<◌, ◌≤◌, ◌^◌, ◌⊎◌, ℕ, Bool, true, false, not, None, Some, OnOk, OnErr, IfOk, IfErr, IfNone, IfSome, IsOk, IsOkUnless, ◌+◌, option_map, option_copied, option_to_list, slice_get, is_some, map, find, length, if◌then◌else◌};
-ghost use Rattle.std.specs.List.{count_by, list_any, sum_by};
+ghost use Rattle.std.specs.Prelude.{◌≡◌, ◌≢◌, ◌==◌, ◌<◌, ◌≤◌, ◌^◌, ◌⊎◌, true, false, None, Some, OnOk, OnErr, IfOk, IfErr, IfNone, IfSome, IsOk, ◌+◌, option_map, option_copied, slice_get, find, length, if◌then◌else◌};
 ghost use Rattle.sctp_sender.specs.Outgoing.{after_releases};
 ghost use Rattle.sctp_sender.specs.Thresholds.{with_lows};
 ghost use Rattle.sctp_sender.specs.Sender.{is_full_of};
-ghost use Rattle.sctp_sender.specs.declared.sender.refusal.SenderRefusal.TheVariants.{StreamOpen, StreamUnknown, TsnsUsedUp, NotInFlight, OutOfMemory};
+ghost use Rattle.sctp_sender.specs.declared.sender.refusal.SenderRefusal.TheVariants.{StreamOpen, StreamUnknown, OutOfMemory};
 
 mod abandonment;
 mod drops;
@@ -20,7 +19,7 @@ use self::flight::anew::{keep_anew, make_room};
 use self::flight::kept::Kept;
 use self::flight::late::AbandonedMessage;
 use self::flight::{InFlight, Released};
-use self::outbound_streams::OutboundStreams;
+use self::outbound_streams::{OutboundStreams, fragments_of};
 use self::refusal::SenderRefusal;
 use bytes::Bytes;
 use sctp_data::chunk::chunk_payload_data::{
@@ -115,20 +114,18 @@ impl Model for Sender {
 
 impl Sender {
     ghost use Rattle.sctp_data.specs.SelectiveAck.{sack_of};
-    ghost use Rattle.sctp_outbound.specs.outbound_queue.OutboundQueue.{all_started, as_sent, sent_next, AreExpiredOf, expiring, expiring_tail, stream_and_kind, message_of, total_bytes};
+    ghost use Rattle.sctp_outbound.specs.outbound_queue.OutboundQueue.{all_started, as_sent, AreExpiredOf, expiring, stream_and_kind, total_bytes};
     ghost use Rattle.sctp_stream.specs.declared.stream.StreamState.{StreamState};
     ghost use Rattle.sctp_outbound.specs.pending_queue.PendingQueue.{next_pending};
     ghost use Rattle.sctp_serial.specs.DataChunks.{has_tsn};
     ghost use Rattle.sctp_serial.specs.Window.{is_held};
-    ghost use Rattle.sctp_sender.specs.Costs.{keeping_turns, sack_turns};
-    ghost use Rattle.sctp_sender.specs.Keeping.{places_kept};
-    ghost use Rattle.sctp_sender.specs.Flight.{with_queue, with_room, may_send, next_after_send, resent, is_outdated, sack_refusal, released_by, message_to_abandon, has_tail_at};
+    ghost use Rattle.sctp_sender.specs.Flight.{with_queue, with_room, resent, message_to_abandon, has_tail_at};
     ghost use Rattle.sctp_sender.specs.Abandonment.{abandon_refusal};
-    ghost use Rattle.sctp_sender.specs.Numbers.{send_refusal};
+    ghost use Rattle.sctp_sender.specs.Calls.{Acks, CountsAcked, Expires, ExpiresTail, SendsTsn};
+    ghost use Rattle.sctp_sender.specs.Numbers.{send_refusal, tsn_refusal};
     ghost use Rattle.sctp_sender.specs.Outgoing.{fragments_with_mode};
-    ghost use Rattle.sctp_sender.specs.Totals.{bytes_in};
-    ghost use Rattle.sctp_sender.specs.Sender.{with_nothing, with_reported, stream_of, is_open, open_stream, close_stream, with_mode_on, with_flight, write_refusal, written_to, after_acked, after_abandon, after_expire, after_expire_run};
-    ghost use Rattle.sctp_sender.specs.Thresholds.{falls_on, fell, tells_low};
+    ghost use Rattle.sctp_sender.specs.Sender.{with_nothing, with_reported, stream_of, is_open, open_stream, close_stream, with_mode_on, with_flight, write_refusal, written_to, after_send, after_abandon, after_expire_run};
+    ghost use Rattle.sctp_sender.specs.Thresholds.{fell};
 
     /// A sender with no stream, whose first chunk gets the first TSN. It takes no memory.
     /// Precondition: `fragment_size` is 1 to 65,519.
@@ -207,11 +204,11 @@ impl Sender {
             × (is_open stream self.old ≡ false)) }
         ensures err { OnErr result (self.new ≡ self.old) }
     {
-        let Some(place) = self.streams.place_of(stream) else {
+        let Some(_) = self.streams.find(stream) else {
             return Err(SenderRefusal::StreamUnknown);
         };
         self.streams
-            .set_mode_at(place, stream, (unordered, reliability, value));
+            .set_mode(stream, (unordered, reliability, value));
         Ok(())
     }
 
@@ -251,7 +248,7 @@ impl Sender {
             ⊎ (write_refusal stream (length bytes.now) self.old ≡ Some e)) }
         ensures err { OnErr result (self.new ≡ self.old) }
     {
-        let Some(place) = self.streams.place_of(stream) else {
+        let Some(state) = self.streams.find(stream) else {
             return Err(SenderRefusal::StreamUnknown);
         };
         let len = bytes.len();
@@ -264,13 +261,11 @@ impl Sender {
         if len == 0 {
             return Ok((None, 0));
         }
-        let chunks = self
-            .streams
-            .fragments_at(self.alloc, place, stream, ppi, bytes)?;
+        let chunks = fragments_of(self.alloc, state, ppi, bytes)?;
         let count = chunks.len();
         let number = self.flight.queue().next_message_id();
         self.flight.push(chunks)?;
-        self.streams.wrote_at(place, stream, ppi, len);
+        self.streams.wrote(stream, ppi, len);
         Ok((Some(number), count))
     }
 
@@ -278,6 +273,7 @@ impl Sender {
     /// sent once at `now`, in nanoseconds; None where nothing waits. Lifetimes start. Refuses, only where something waits, in this
     /// order: with `TsnsUsedUp`; with `SsnsUsedUp`: it waits on, and all ordered ones behind it; for memory. The sender is as it was
     /// then, no lifetime starts.
+    #[tactic(auto, using(crate::proofs::Sent::unrefused))]
     pub fn send_next(&mut self, now: u64) -> Result<Option<ChunkPayloadData>, SenderRefusal>
         ensures answer { IfOk result (λ sent. sent
             ≡ option_map (as_sent self.old.flight.next_tsn now)
@@ -287,12 +283,7 @@ impl Sender {
             ≡ Some c)) }
         ensures nothing { next_pending self.old.flight.queue.pending ≡ None
             → IfOk result (λ sent. sent ≡ None) }
-        ensures ok { OnOk result (self.new
-            ≡ with_flight (record self.old.flight {
-              queue = sent_next self.old.flight.queue
-                  self.old.flight.next_tsn now;
-              next_tsn = next_after_send self.old.flight;
-            }) self.old) }
+        ensures ok { OnOk result (self.new ≡ after_send now self.old) }
         ensures bytes { OnOk result (total_bytes self.new.flight.queue
             ≡ total_bytes self.old.flight.queue) }
         ensures accepted { IsOk result → send_refusal self.old.flight ≡ None }
@@ -303,7 +294,20 @@ impl Sender {
         ensures err { OnErr result (self.new ≡ self.old) }
     {
         self.test_next()?;
-        self.copy_and_send(now)
+        let Some(mut chunk) = self.copy_next()? else {
+            self.send_next_tsn_unbounded(now)?;
+            return Ok(None);
+        };
+        let tsn = self.flight.next_tsn();
+        self.send_next_tsn_unbounded(now)?;
+        let Some(noted) = self.flight.queue().get(tsn) else {
+            unreachable!()
+        };
+        chunk.tsn = tsn;
+        chunk.since = noted.since;
+        chunk.nsent = noted.nsent;
+        chunk.deadline = noted.deadline;
+        Ok(Some(chunk))
     }
 
     // Whether the fragment that is next may be sent.
@@ -323,61 +327,16 @@ impl Sender {
         Ok(())
     }
 
-    // Sends the fragment that is next, whatever its number, and answers a copy of it as it is noted in flight.
-    fn copy_and_send(&mut self, now: u64) -> Result<Option<ChunkPayloadData>, SenderRefusal>
-        ensures answer { IfOk result (λ sent. sent
-            ≡ option_map (as_sent self.old.flight.next_tsn now)
-            (next_pending (all_started now self.old.flight.queue).pending)) }
-        ensures noted { IfOk result (λ sent. IfSome sent
-            (λ c. find (has_tsn self.old.flight.next_tsn) self.new.flight.queue.inflight.chunks
-            ≡ Some c)) }
-        ensures nothing { next_pending self.old.flight.queue.pending ≡ None
-            → IfOk result (λ sent. sent ≡ None) }
-        ensures ok { OnOk result (self.new
-            ≡ with_flight (record self.old.flight {
-              queue = sent_next self.old.flight.queue
-                  self.old.flight.next_tsn now;
-              next_tsn = next_after_send self.old.flight;
-            }) self.old) }
-        ensures bytes { OnOk result (total_bytes self.new.flight.queue
-            ≡ total_bytes self.old.flight.queue) }
-        ensures accepted { IsOk result → (next_pending self.old.flight.queue.pending ≡ None)
-            ⊎ (may_send self.old.flight ≡ true) }
-        ensures refused { IfErr result (λ e. e
-            ≡ (if may_send self.old.flight then OutOfMemory else TsnsUsedUp)) }
-        ensures idle { next_pending self.old.flight.queue.pending ≡ None → IsOk result }
-        ensures err { OnErr result (self.new ≡ self.old) }
-    {
-        let Some(mut chunk) = self.copy_next()? else {
-            self.send_next_tsn_unbounded(now)?;
-            return Ok(None);
-        };
-        let tsn = self.flight.next_tsn();
-        self.send_next_tsn_unbounded(now)?;
-        let Some(noted) = self.flight.queue().get(tsn) else {
-            unreachable!()
-        };
-        chunk.tsn = tsn;
-        chunk.since = noted.since;
-        chunk.nsent = noted.nsent;
-        chunk.deadline = noted.deadline;
-        Ok(Some(chunk))
-    }
-
     // A copy of the fragment that is next; None where nothing waits.
     fn copy_next(&self) -> Result<Option<ChunkPayloadData>, SenderRefusal>
         ensures ok { IfOk result (λ copied. copied
             ≡ next_pending self.now.flight.queue.pending) }
-        ensures refused { IfErr result (λ e. e
-            ≡ (if may_send self.now.flight then OutOfMemory else TsnsUsedUp)) }
+        ensures memory { IfErr result (λ e. e ≡ OutOfMemory) }
         ensures idle { next_pending self.now.flight.queue.pending ≡ None → IsOk result }
     {
         let Some(waiting) = self.flight.queue().peek_pending() else {
             return Ok(None);
         };
-        if !self.flight.may_send() {
-            return Err(SenderRefusal::TsnsUsedUp);
-        }
         Ok(Some(waiting.try_clone()?))
     }
 
@@ -397,30 +356,9 @@ impl Sender {
 
     /// As `send_next`, but answers the TSN alone: `outbound().get` lends the chunk. So within the room of `reserve` it takes
     /// no memory; `send_next` takes what a copy of the chunk wants.
+    #[tactic(auto, using(crate::proofs::Sent::unrefused))]
     pub(crate) fn send_next_tsn(&mut self, now: u64) -> Result<Option<u32>, SenderRefusal>
-        ensures answer { IfOk result (λ sent. sent
-            ≡ option_map (λ _. self.old.flight.next_tsn)
-            (next_pending self.old.flight.queue.pending)) }
-        ensures noted { next_pending self.old.flight.queue.pending ≢ None → OnOk result
-            (find (has_tsn self.old.flight.next_tsn) self.new.flight.queue.inflight.chunks
-            ≡ option_map (as_sent self.old.flight.next_tsn now)
-            (next_pending (all_started now self.old.flight.queue).pending)) }
-        ensures ok { OnOk result (self.new
-            ≡ with_flight (record self.old.flight {
-              queue = sent_next self.old.flight.queue
-                  self.old.flight.next_tsn now;
-              next_tsn = next_after_send self.old.flight;
-            }) self.old) }
-        ensures bytes { OnOk result (total_bytes self.new.flight.queue
-            ≡ total_bytes self.old.flight.queue) }
-        ensures accepted { IsOk result → send_refusal self.old.flight ≡ None }
-        ensures refused { IfErr result
-            (λ e. ((e ≡ OutOfMemory) × (send_refusal self.old.flight ≡ None))
-            ⊎ (send_refusal self.old.flight ≡ Some e)) }
-        ensures succeeds { 0 < self.old.flight.queue.inflight.room
-            → send_refusal self.old.flight ≡ None → IsOk result }
-        ensures idle { next_pending self.old.flight.queue.pending ≡ None → IsOk result }
-        ensures err { OnErr result (self.new ≡ self.old) }
+        ensures { SendsTsn (send_refusal self.old.flight) now self.old self.new result }
     {
         self.test_next()?;
         self.send_next_tsn_unbounded(now)
@@ -430,29 +368,7 @@ impl Sender {
     /// them apart. Refuses, only where something waits, with `TsnsUsedUp`, where 2^31 - 1 chunks are in flight, and for memory, but not
     /// within the room of `reserve`. The sender is as it was then.
     pub(crate) fn send_next_tsn_unbounded(&mut self, now: u64) -> Result<Option<u32>, SenderRefusal>
-        ensures answer { IfOk result (λ sent. sent
-            ≡ option_map (λ _. self.old.flight.next_tsn)
-            (next_pending self.old.flight.queue.pending)) }
-        ensures noted { next_pending self.old.flight.queue.pending ≢ None → OnOk result
-            (find (has_tsn self.old.flight.next_tsn) self.new.flight.queue.inflight.chunks
-            ≡ option_map (as_sent self.old.flight.next_tsn now)
-            (next_pending (all_started now self.old.flight.queue).pending)) }
-        ensures ok { OnOk result (self.new
-            ≡ with_flight (record self.old.flight {
-              queue = sent_next self.old.flight.queue
-                  self.old.flight.next_tsn now;
-              next_tsn = next_after_send self.old.flight;
-            }) self.old) }
-        ensures bytes { OnOk result (total_bytes self.new.flight.queue
-            ≡ total_bytes self.old.flight.queue) }
-        ensures accepted { IsOk result → (next_pending self.old.flight.queue.pending ≡ None)
-            ⊎ (may_send self.old.flight ≡ true) }
-        ensures refused { IfErr result (λ e. e
-            ≡ (if may_send self.old.flight then OutOfMemory else TsnsUsedUp)) }
-        ensures succeeds { 0 < self.old.flight.queue.inflight.room
-            → may_send self.old.flight ≡ true → IsOk result }
-        ensures idle { next_pending self.old.flight.queue.pending ≡ None → IsOk result }
-        ensures err { OnErr result (self.new ≡ self.old) }
+        ensures { SendsTsn (tsn_refusal self.old.flight) now self.old self.new result }
     {
         self.flight.queue().are_whole();
         let Some(_) = self.flight.queue().peek_pending() else {
@@ -513,14 +429,7 @@ impl Sender {
     /// Removes the message in front, where it is past its deadline and wholly unsent, and answers it (RFC 3758 4.1). `now` is in
     /// nanoseconds. It takes no memory.
     pub(crate) fn expire(&mut self, now: u64) -> Option<ExpiredMessage>
-        ensures some { IfSome result (λ r. IfSome (expiring now self.old.flight.queue)
-            (λ c. (r.stream ≡ c.stream_identifier)
-            × (self.new ≡ after_expire c r.bytes now self.old))) }
-        ensures none { is_some result ≡ is_some (expiring now self.old.flight.queue) }
-        ensures idle { result ≡ None → self.new ≡ self.old }
-        ensures released { IfSome result (λ r. total_bytes self.new.flight.queue + r.bytes
-            ≡ total_bytes self.old.flight.queue) }
-        ensures low { IfSome result (λ r. r.is_low ≡ fell r.stream self.old self.new) }
+        ensures { Expires now self.old self.new result }
     {
         let (stream, unordered, bytes) = self.flight.expire(now)?;
         let is_low = self.streams.expire(stream, unordered, 1, bytes);
@@ -572,26 +481,7 @@ impl Sender {
         &mut self,
         now: u64,
     ) -> Result<Option<AbandonedMessage>, SenderRefusal>
-        ensures some { IfOk result (λ r. IfSome r (λ a. self.new ≡ after_abandon
-            (message_of (expiring_tail now self.old.flight.queue)) a.stream a.bytes self.old)) }
-        ensures answer { IfOk result (λ r. option_map {U = ℕ × ℕ} (λ a. (a.stream, a.number)) r
-            ≡ option_map {U = ℕ × ℕ}
-            (λ c. (c.stream_identifier, c.message_id)) (expiring_tail now self.old.flight.queue)) }
-        ensures none { IfOk result (λ r. r ≡ None → self.new ≡ self.old) }
-        ensures released { IfOk result (λ r. total_bytes self.new.flight.queue
-            + sum_by (λ g. g.bytes) (option_to_list r) ≡ total_bytes self.old.flight.queue) }
-        ensures falls { IfOk result (λ r. IfSome r
-            (λ a. a.is_low ≡ falls_on a.stream a.bytes self.old.streams)) }
-        ensures low { IfOk result (λ r. IfSome r
-            (λ a. a.is_low ≡ fell a.stream self.old self.new)) }
-        ensures accepted { IsOk result → (expiring_tail now self.old.flight.queue ≡ None)
-            ⊎ (may_send self.old.flight ≡ true) }
-        ensures refused { IfErr result (λ e. e
-            ≡ (if may_send self.old.flight then OutOfMemory else TsnsUsedUp)) }
-        ensures succeeds { 0 < self.old.flight.queue.inflight.room
-            → may_send self.old.flight ≡ true → IsOk result }
-        ensures idle { expiring_tail now self.old.flight.queue ≡ None → IsOk result }
-        ensures err { OnErr result (self.new ≡ self.old) }
+        ensures { ExpiresTail now self.old self.new result }
     {
         if self.flight.queue().is_tail_expired(now) && !self.flight.may_send() {
             return Err(SenderRefusal::TsnsUsedUp);
@@ -625,20 +515,7 @@ impl Sender {
     /// says that. One whose cumulative TSN is before the last one changes nothing. Refuses with `InflightQueueTsnPop` or
     /// `TsnRequestNotExist`, or for memory.
     pub fn acked(&mut self, sack: &ChunkSelectiveAck) -> Result<Vec<Released>, SenderRefusal>
-        ensures answer { IfOk result (λ r. r.items
-            ≡ with_lows (released_by (sack_of sack.now) self.old.flight) self.old.streams) }
-        ensures low { IfOk result (λ r. (s : ℕ)
-            → list_any (tells_low s) r.items ≡ fell s self.old self.new) }
-        ensures once { IfOk result (λ r. (s : ℕ) → count_by (tells_low s) r.items ≤ 1) }
-        ensures ok { OnOk result (self.new ≡ after_acked (sack_of sack.now) self.old) }
-        ensures released { IfOk result (λ r. total_bytes self.new.flight.queue + bytes_in r.items
-            ≡ total_bytes self.old.flight.queue) }
-        ensures accepted { IsOk result → sack_refusal (sack_of sack.now) self.old.flight ≡ None }
-        ensures refused { IfErr result
-            (λ e. ((e ≡ OutOfMemory) × (sack_refusal (sack_of sack.now) self.old.flight ≡ None))
-            ⊎ (sack_refusal (sack_of sack.now) self.old.flight ≡ Some e)) }
-        ensures outdated { is_outdated (sack_of sack.now) self.old.flight ≡ true → IsOk result }
-        ensures err { OnErr result (self.new ≡ self.old) }
+        ensures { Acks (sack_of sack.now) self.old self.new result }
     {
         self.acked_counted(sack, &mut Turns::new())
     }
@@ -651,36 +528,8 @@ impl Sender {
         sack: &ChunkSelectiveAck,
         turns: &mut Turns,
     ) -> Result<Vec<Released>, SenderRefusal>
-        ensures answer { IfOk result (λ r. r.items
-            ≡ with_lows (released_by (sack_of sack.now) self.old.flight) self.old.streams) }
-        ensures low { IfOk result (λ r. (s : ℕ)
-            → list_any (tells_low s) r.items ≡ fell s self.old self.new) }
-        ensures once { IfOk result (λ r. (s : ℕ) → count_by (tells_low s) r.items ≤ 1) }
-        ensures ok { OnOk result (self.new ≡ after_acked (sack_of sack.now) self.old) }
-        ensures released { IfOk result (λ r. total_bytes self.new.flight.queue + bytes_in r.items
-            ≡ total_bytes self.old.flight.queue) }
-        ensures accepted { IsOk result → sack_refusal (sack_of sack.now) self.old.flight ≡ None }
-        ensures refused { IfErr result
-            (λ e. ((e ≡ OutOfMemory) × (sack_refusal (sack_of sack.now) self.old.flight ≡ None))
-            ⊎ (sack_refusal (sack_of sack.now) self.old.flight ≡ Some e)) }
-        ensures outdated { is_outdated (sack_of sack.now) self.old.flight ≡ true → IsOk result }
-        ensures err { OnErr result (self.new ≡ self.old) }
-        ensures not_back { turns.old ≤ turns.new }
-        ensures cost { self.old.kept ≡ None
-            → turns.new ≤ turns.old + sack_turns (sack_of sack.now) self.old.flight }
-        ensures cost_keeping { IfSome self.old.kept (λ ks. turns.new
-            ≤ turns.old + sack_turns (sack_of sack.now) self.old.flight
-            + keeping_turns (sack_of sack.now) self.old.flight
-            (places_kept (sack_of sack.now) self.old.flight ks)) }
-        ensures stale_keeping { is_outdated (sack_of sack.now) self.old.flight ≡ true
-            → turns.new ≡ turns.old }
-        ensures forged_keeping { is_some (sack_refusal (sack_of sack.now) self.old.flight) ≡ true
-            → turns.new ≤ turns.old + length (sack_of sack.now).gap_ack_blocks }
-        ensures stale { self.old.kept ≡ None
-            → is_outdated (sack_of sack.now) self.old.flight ≡ true → turns.new ≡ turns.old }
-        ensures forged { self.old.kept ≡ None
-            → is_some (sack_refusal (sack_of sack.now) self.old.flight) ≡ true
-            → turns.new ≤ turns.old + length (sack_of sack.now).gap_ack_blocks }
+        ensures acks { Acks (sack_of sack.now) self.old self.new result }
+        ensures turns { CountsAcked (sack_of sack.now) self.old turns.old turns.new }
     {
         let anew = self.anew_by(sack, turns)?;
         make_room(&mut self.kept, &anew, turns)?;

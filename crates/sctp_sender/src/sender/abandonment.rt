@@ -1,8 +1,7 @@
 //! What a sender abandons, and how its peer learns of it (RFC 3758 3.5).
 
-ghost use Rattle.std.specs.Prelude.{◌≡◌, ℕ, ◌+◌, ◌*◌, ◌<◌, ◌≤◌, ◌⊎◌, [], true, false, None, OnOk, OnErr, IfOk, IfErr, IfSome, IsOk, is_some, length, option_map};
-ghost use Rattle.std.specs.List.{count_by, list_any, sum_by};
-ghost use Rattle.sctp_sender.specs.declared.sender.refusal.SenderRefusal.TheVariants.{OutOfMemory, TsnsUsedUp};
+ghost use Rattle.std.specs.Prelude.{◌≡◌, ℕ, ◌+◌, ◌*◌, ◌≤◌, ◌⊎◌, [], true, None, OnOk, IfOk, IfErr, IfSome, IsOk, length, option_map};
+ghost use Rattle.sctp_sender.specs.declared.sender.refusal.SenderRefusal.TheVariants.{OutOfMemory};
 ghost use Rattle.sctp_sender.specs.Late.{after_leaving};
 ghost use Rattle.sctp_sender.specs.Thresholds.{with_message_lows};
 
@@ -13,12 +12,10 @@ use crate::sender::refusal::SenderRefusal;
 use sctp_data::chunk::chunk_forward_tsn::ChunkForwardTsn;
 
 impl Sender {
-    ghost use Rattle.sctp_outbound.specs.outbound_queue.OutboundQueue.{late_tsns, total_bytes};
-    ghost use Rattle.sctp_sender.specs.Flight.{may_send};
+    ghost use Rattle.sctp_outbound.specs.outbound_queue.OutboundQueue.{late_tsns};
     ghost use Rattle.sctp_sender.specs.Abandonment.{Name, advanced_ack_point, named_up_to, skip_end};
-    ghost use Rattle.sctp_sender.specs.Late.{after_late, after_worn, late_order, leaving_each, with_tail, worn_order};
+    ghost use Rattle.sctp_sender.specs.Calls.{AbandonsEach};
     ghost use Rattle.sctp_sender.specs.Resending.{worn_tsns};
-    ghost use Rattle.sctp_sender.specs.Thresholds.{fell, tells_message_low};
 
     /// Abandons each message in flight that is late (RFC 3758 3.5, 4.1): a chunk of it has reached its deadline, it is
     /// not abandoned yet, and of it some chunk is not acknowledged or some fragment waits. `now` is in nanoseconds. Answers
@@ -28,26 +25,7 @@ impl Sender {
     /// one, with `TsnsUsedUp`, where 2^31 - 1 chunks are in flight; and for memory, but not where no message is late. The sender
     /// is as it was then.
     pub(crate) fn expire_late(&mut self, now: u64) -> Result<Vec<AbandonedMessage>, SenderRefusal>
-        ensures ok { OnOk result (self.new ≡ after_late now self.old) }
-        ensures answer { IfOk result (λ abandoned. abandoned.items
-            ≡ with_message_lows (leaving_each (late_order now self.old.flight) self.old.flight)
-            self.old.streams) }
-        ensures low { IfOk result (λ abandoned. (s : ℕ)
-            → list_any (tells_message_low s) abandoned.items ≡ fell s self.old self.new) }
-        ensures once { IfOk result (λ abandoned. (s : ℕ)
-            → count_by (tells_message_low s) abandoned.items ≤ 1) }
-        ensures released { IfOk result (λ abandoned. total_bytes self.new.flight.queue
-            + sum_by (λ g. g.bytes) abandoned.items ≡ total_bytes self.old.flight.queue) }
-        ensures accepted { IsOk result →
-            (with_tail (late_tsns now self.old.flight.queue) self.old.flight ≡ None)
-            ⊎ (may_send self.old.flight ≡ true) }
-        ensures refused { IfErr result (λ e. (e ≡ OutOfMemory)
-            ⊎ ((e ≡ TsnsUsedUp) × (may_send self.old.flight ≡ false)
-            × (is_some (with_tail (late_tsns now self.old.flight.queue) self.old.flight) ≡ true))) }
-        ensures none { IfOk result (λ abandoned. abandoned.items ≡ []
-            → late_tsns now self.old.flight.queue ≡ []) }
-        ensures idle { late_tsns now self.old.flight.queue ≡ [] → IsOk result }
-        ensures err { OnErr result (self.new ≡ self.old) }
+        ensures { AbandonsEach (late_tsns now self.old.flight.queue) self.old self.new result }
     {
         let mut abandoned = self.flight.expire_late(self.alloc, now)?;
         release_abandoned(&mut self.streams, &mut abandoned);
@@ -59,27 +37,8 @@ impl Sender {
     /// DCEP message (RFC 8832 6). Call it once chunks are marked: `next_to_retransmit` lends no such chunk then. The answer and the
     /// refusals are those of `expire_late`. The sender is as it was then.
     pub(crate) fn expire_rexmit(&mut self) -> Result<Vec<AbandonedMessage>, SenderRefusal>
-        ensures ok { OnOk result (self.new ≡ after_worn self.old) }
+        ensures abandons { AbandonsEach (worn_tsns self.old.flight) self.old self.new result }
         ensures none_left { OnOk result (worn_tsns self.new.flight ≡ []) }
-        ensures answer { IfOk result (λ abandoned. abandoned.items
-            ≡ with_message_lows (leaving_each (worn_order self.old.flight) self.old.flight)
-            self.old.streams) }
-        ensures low { IfOk result (λ abandoned. (s : ℕ)
-            → list_any (tells_message_low s) abandoned.items ≡ fell s self.old self.new) }
-        ensures once { IfOk result (λ abandoned. (s : ℕ)
-            → count_by (tells_message_low s) abandoned.items ≤ 1) }
-        ensures released { IfOk result (λ abandoned. total_bytes self.new.flight.queue
-            + sum_by (λ g. g.bytes) abandoned.items ≡ total_bytes self.old.flight.queue) }
-        ensures accepted { IsOk result →
-            (with_tail (worn_tsns self.old.flight) self.old.flight ≡ None)
-            ⊎ (may_send self.old.flight ≡ true) }
-        ensures refused { IfErr result (λ e. (e ≡ OutOfMemory)
-            ⊎ ((e ≡ TsnsUsedUp) × (may_send self.old.flight ≡ false)
-            × (is_some (with_tail (worn_tsns self.old.flight) self.old.flight) ≡ true))) }
-        ensures none { IfOk result (λ abandoned. abandoned.items ≡ []
-            → worn_tsns self.old.flight ≡ []) }
-        ensures idle { worn_tsns self.old.flight ≡ [] → IsOk result }
-        ensures err { OnErr result (self.new ≡ self.old) }
     {
         let mut worn = self.flight.expire_rexmit(self.alloc)?;
         release_abandoned(&mut self.streams, &mut worn);

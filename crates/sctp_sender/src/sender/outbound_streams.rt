@@ -10,7 +10,7 @@ ghost use Rattle.sctp_sender.specs.declared.sender.refusal.SenderRefusal.TheVari
 ghost use Rattle.sctp_stream.specs.Numbers.{IsOnlyPlace, IsAbsent};
 ghost use Rattle.sctp_stream.specs.Stream.{falls_low};
 ghost use Rattle.sctp_sender.specs.Keeping.{more_by};
-ghost use Rattle.sctp_sender.specs.Outgoing.{with_reliability, with_size, wrote, after_expiries, less_by};
+ghost use Rattle.sctp_sender.specs.Outgoing.{fragments_with_mode, with_reliability, with_size, wrote, after_expiries, less_by};
 
 use crate::sender::refusal::SenderRefusal;
 use bytes::Bytes;
@@ -44,7 +44,7 @@ impl Model for OutboundStreams {
 
 impl OutboundStreams {
     ghost use Rattle.sctp_stream.specs.Stream.{new_stream};
-    ghost use Rattle.sctp_sender.specs.Outgoing.{has_number, numbers_of, with_mode, with_low, from_first, fragments_with_mode};
+    ghost use Rattle.sctp_sender.specs.Outgoing.{has_number, numbers_of, with_mode, with_low, from_first};
     ghost use Rattle.sctp_sender.specs.Thresholds.{falls_on};
 
     /// No streams. It takes no memory.
@@ -117,19 +117,14 @@ impl OutboundStreams {
         self.numbers.remove(stream);
     }
 
-    /// Sets the mode of later writes of the stream at a place. It takes no memory.
-    /// Precondition: that stream stands there.
-    pub(crate) fn set_mode_at(
-        &mut self,
-        place: usize,
-        stream: u16,
-        mode: (bool, ReliabilityType, u32),
-    )
-        requires { IsOnlyPlace stream (numbers_of self.old) place }
+    /// Sets the mode of later writes of a stream, where it is open. It takes no memory.
+    pub(crate) fn set_mode(&mut self, stream: u16, mode: (bool, ReliabilityType, u32))
         ensures { self.new
             ≡ change_where (has_number stream) (with_mode mode.0 mode.1 mode.2) self.old }
     {
-        let _stream = stream;
+        let Some(place) = self.numbers.place_of(stream) else {
+            return;
+        };
         self.items[place].set_reliability_params(mode.0, mode.1, mode.2);
     }
 
@@ -142,23 +137,23 @@ impl OutboundStreams {
         set_sizes(&mut self.items, size);
     }
 
-    /// Sets the low threshold of the stream at a place, in bytes. It takes no memory.
-    /// Precondition: that stream stands there.
-    pub(crate) fn set_low_at(&mut self, place: usize, stream: u16, bytes: usize)
-        requires { IsOnlyPlace stream (numbers_of self.old) place }
+    /// Sets the low threshold of a stream, in bytes, where it is open. It takes no memory.
+    pub(crate) fn set_low(&mut self, stream: u16, bytes: usize)
         ensures { self.new ≡ change_where (has_number stream) (with_low bytes) self.old }
     {
-        let _stream = stream;
+        let Some(place) = self.numbers.place_of(stream) else {
+            return;
+        };
         self.items[place].set_buffered_amount_low_threshold(bytes);
     }
 
-    /// The next ordered message of the stream at a place has the number 0. It takes no memory.
-    /// Precondition: that stream stands there.
-    pub(crate) fn restart_at(&mut self, place: usize, stream: u16)
-        requires { IsOnlyPlace stream (numbers_of self.old) place }
+    /// The next ordered message of a stream has the number 0, where it is open. It takes no memory.
+    pub(crate) fn restart(&mut self, stream: u16)
         ensures { self.new ≡ change_where (has_number stream) from_first self.old }
     {
-        let _stream = stream;
+        let Some(place) = self.numbers.place_of(stream) else {
+            return;
+        };
         self.items[place].set_sequence_number(0);
     }
 
@@ -169,47 +164,14 @@ impl OutboundStreams {
         &self.items
     }
 
-    /// The fragments of a write to the stream at a place, with its mode. Refuses only for memory.
-    /// Precondition: that stream stands there.
-    pub(crate) fn fragments_at(
-        &self,
-        alloc: Global,
-        place: usize,
-        stream: u16,
-        ppi: PayloadProtocolIdentifier,
-        bytes: &Bytes,
-    ) -> Result<Vec<ChunkPayloadData>>
-        requires { IsOnlyPlace stream (numbers_of self.now) place }
-        ensures ok { IfOk result (λ chunks. (l : StreamState) → find (has_number stream) self.now
-            ≡ Some l → chunks.items ≡ fragments_with_mode l ppi bytes.now) }
-        ensures length { IfOk result (λ chunks. bytes_of chunks.items ≡ length bytes.now) }
-        ensures memory { IsOkUnless result ErrOutOfMemory }
-    {
-        let _stream = stream;
-        let state = &self.items[place];
-        let mut chunks = state.fragments(alloc, bytes, ppi)?;
-        set_reliability(
-            &mut chunks,
-            state.reliability_type(),
-            state.reliability_value(),
-        );
-        Ok(chunks)
-    }
-
-    /// A write to the stream at a place was accepted. It takes no memory.
-    /// Precondition: that stream stands there.
-    pub(crate) fn wrote_at(
-        &mut self,
-        place: usize,
-        stream: u16,
-        ppi: PayloadProtocolIdentifier,
-        len: usize,
-    )
-        requires { IsOnlyPlace stream (numbers_of self.old) place }
+    /// A write to a stream was accepted, where it is open. It takes no memory.
+    pub(crate) fn wrote(&mut self, stream: u16, ppi: PayloadProtocolIdentifier, len: usize)
         ensures { (bytes : List ℕ) → len ≡ length bytes
             → self.new ≡ change_where (has_number stream) (wrote ppi bytes) self.old }
     {
-        let _stream = stream;
+        let Some(place) = self.numbers.place_of(stream) else {
+            return;
+        };
         count_write(&mut self.items[place], ppi, len);
     }
 
@@ -253,6 +215,27 @@ impl OutboundStreams {
         };
         expire_messages(&mut self.items[place], unordered, messages, bytes)
     }
+}
+
+/// The fragments of a write to a stream, with its mode. Refuses only for memory.
+pub(crate) fn fragments_of(
+    alloc: Global,
+    state: &StreamState,
+    ppi: PayloadProtocolIdentifier,
+    bytes: &Bytes,
+) -> Result<Vec<ChunkPayloadData>>
+    ensures ok { IfOk result
+        (λ chunks. chunks.items ≡ fragments_with_mode state.now ppi bytes.now) }
+    ensures length { IfOk result (λ chunks. bytes_of chunks.items ≡ length bytes.now) }
+    ensures memory { IsOkUnless result ErrOutOfMemory }
+{
+    let mut chunks = state.fragments(alloc, bytes, ppi)?;
+    set_reliability(
+        &mut chunks,
+        state.reliability_type(),
+        state.reliability_value(),
+    );
+    Ok(chunks)
 }
 
 // Takes bytes off the amount of a stream, and says whether it fell from above the low threshold to at most it.

@@ -1,6 +1,6 @@
 //! What a sender sends again, and when (RFC 4960 6.3.3, 7.2.4).
 
-ghost use Rattle.std.specs.Prelude.{◌≡◌, ◌+◌, ◌*◌, ◌-◌, ◌^◌, ◌≤◌, true, None, Some, OnOk, OnErr, IfOk, IfErr, IfSome, IsOk, find, length, option_copied, option_map, if◌then◌else◌};
+ghost use Rattle.std.specs.Prelude.{◌≡◌, ◌+◌, ◌*◌, ◌≤◌, true, None, Some, OnOk, OnErr, IfOk, IfErr, IfSome, IsOk, find, option_copied, option_map, if◌then◌else◌};
 ghost use Rattle.sctp_data.specs.declared.chunk.chunk_payload_data.ChunkPayloadData.{ChunkPayloadData};
 ghost use Rattle.sctp_sender.specs.declared.sender.refusal.SenderRefusal.TheVariants.{NotInFlight, OutOfMemory};
 ghost use Rattle.sctp_serial.specs.DataChunks.{has_tsn};
@@ -11,9 +11,10 @@ use sctp_data::chunk::chunk_payload_data::ChunkPayloadData;
 use sctp_serial::turns::Turns;
 
 impl Sender {
+    ghost use Rattle.sctp_sender.specs.Calls.{Misses};
     ghost use Rattle.sctp_sender.specs.Flight.{can_resend};
     ghost use Rattle.sctp_sender.specs.Sender.{with_flight};
-    ghost use Rattle.sctp_sender.specs.Resending.{after_misses, all_marked, count_again, count_before, is_to_resend, next_within, resent_at, sent_again, thirds};
+    ghost use Rattle.sctp_sender.specs.Resending.{all_marked, count_again, count_before, is_to_resend, next_within, resent_at, sent_again};
 
     /// Sends the chunk in flight with a TSN again: it is counted, `now` is noted, in nanoseconds, and it is no longer marked for
     /// retransmission. Answers it as it is noted then. Refuses with `NotInFlight`, where none is, or it is acknowledged or
@@ -98,10 +99,7 @@ impl Sender {
     /// fast recovery. Hand in the highest TSN that the SACK reports anew, in fast recovery the highest that it reports. It takes no
     /// memory.
     pub fn add_miss_indications(&mut self, before: u32) -> usize
-        ensures missed { self.new ≡ with_flight
-            (after_misses (count_before before self.old.flight) self.old.flight) self.old }
-        ensures thirds { result
-            ≡ length (thirds (count_before before self.old.flight) self.old.flight) }
+        ensures { Misses before self.old self.new result }
     {
         self.add_miss_indications_counted(before, &mut Turns::new())
     }
@@ -109,10 +107,7 @@ impl Sender {
     /// The same, and its turns are added: at most two for each chunk in flight whose TSN is before this one. The look-up by which a chunk
     /// is counted takes none.
     pub(crate) fn add_miss_indications_counted(&mut self, before: u32, turns: &mut Turns) -> usize
-        ensures missed { self.new ≡ with_flight
-            (after_misses (count_before before self.old.flight) self.old.flight) self.old }
-        ensures thirds { result
-            ≡ length (thirds (count_before before self.old.flight) self.old.flight) }
+        ensures misses { Misses before self.old self.new result }
         ensures not_back { turns.old ≤ turns.new }
         ensures cost { turns.new ≤ turns.old + 2 * count_before before self.old.flight }
     {

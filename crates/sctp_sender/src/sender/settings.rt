@@ -35,10 +35,10 @@ impl Sender {
             × (is_open stream self.old ≡ false)) }
         ensures err { OnErr result (self.new ≡ self.old) }
     {
-        let Some(place) = self.streams.place_of(stream) else {
+        let Some(_) = self.streams.find(stream) else {
             return Err(SenderRefusal::StreamUnknown);
         };
-        self.streams.set_low_at(place, stream, bytes);
+        self.streams.set_low(stream, bytes);
         Ok(())
     }
 
@@ -58,13 +58,13 @@ impl Sender {
         ensures refused { IfErr result (λ e. reset_refusal stream self.old ≡ Some e) }
         ensures err { OnErr result (self.new ≡ self.old) }
     {
-        let Some(place) = self.streams.place_of(stream) else {
+        let Some(_) = self.streams.find(stream) else {
             return Err(SenderRefusal::StreamUnknown);
         };
         if !self.is_drained(stream) {
             return Err(SenderRefusal::StreamBusy);
         }
-        self.streams.restart_at(place, stream);
+        self.streams.restart(stream);
         Ok(())
     }
 

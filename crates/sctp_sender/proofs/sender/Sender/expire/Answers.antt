@@ -1,4 +1,4 @@
-use Rattle.std.proofs.Common.{sym, subst}
+use Rattle.std.proofs.Common.{sym, subst, rules}
 use Rattle.sctp_sender.specs.Flight.{Flight}
 use Rattle.sctp_outbound.specs.outbound_queue.OutboundQueue.{expiring}
 use Rattle.sctp_sender.specs.Totals.{IsAllSettled}
@@ -21,5 +21,11 @@ invariant_of-self-2 c =
           (expired-reported c.self.inside.kept (expiring c.args.now f.queue) f c.self.invariant.4),
     )
 
-pub returns-clause-low : goal.returns-clause-low
-returns-clause-low c = rw (← c.self.view_is) (expiry-answered _ _ _ _ _ _ _ c.expire-is_low.ensures.low c.expire-is_low.ensures.less)
+pub returns : goal.returns
+returns c = record {
+  some = search rules;
+  none = search rules;
+  idle = search rules;
+  released = search rules;
+  low = rw (← c.self.view_is) (expiry-answered _ _ _ _ _ _ _ c.expire-is_low.ensures.low c.expire-is_low.ensures.less);
+}

@@ -1,4 +1,4 @@
-use Rattle.std.proofs.Common.{sym, subst, ◌∙◌}
+use Rattle.std.proofs.Common.{sym, subst, ◌∙◌, rules}
 use Rattle.sctp_sender.specs.Flight.{Flight}
 use Rattle.sctp_sender.specs.Late.{late_order}
 use Rattle.sctp_sender.specs.Totals.{IsAllSettled}
@@ -20,14 +20,16 @@ invariant_of-self-2 c =
       reported-on c.self.inside.kept f c.expire_late.new.self c.expire_late.ensures.known c.self.invariant.4,
     )
 
-pub returns-clause-low : goal.returns-clause-low
-returns-clause-low c = λ s. rw (← c.self.view_is) (messages-tell s _ _ _ _ c.release_abandoned.ensures.lows c.release_abandoned.ensures.less)
-
-pub returns-clause-once : goal.returns-clause-once
-returns-clause-once c = λ s. one-message-tells s _ _ _ _ c.release_abandoned.ensures.lows c.release_abandoned.ensures.less
-
-pub returns-clause-released : goal.returns-clause-released
-returns-clause-released c = rw (← c.self.view_is) (messages-released-same _ _ _ _ _ c.release_abandoned.ensures.lows c.in_ok-abandoned.ensures.released)
-
-pub returns-clause-none : goal.returns-clause-none
-returns-clause-none c = rw (← c.self.view_is) (λ e. c.in_ok-abandoned.ensures.none (lows-none _ _ (sym c.release_abandoned.ensures.lows ∙ e)))
+pub returns : goal.returns
+returns c = record {
+  ok = search rules;
+  answer = search rules;
+  low = λ s. rw (← c.self.view_is) (messages-tell s _ _ _ _ c.release_abandoned.ensures.lows c.release_abandoned.ensures.less);
+  once = λ s. one-message-tells s _ _ _ _ c.release_abandoned.ensures.lows c.release_abandoned.ensures.less;
+  released = rw (← c.self.view_is) (messages-released-same _ _ _ _ _ c.release_abandoned.ensures.lows c.in_ok-abandoned.ensures.released);
+  accepted = search rules;
+  refused = search rules;
+  none = rw (← c.self.view_is) (λ e. c.in_ok-abandoned.ensures.none (lows-none _ _ (sym c.release_abandoned.ensures.lows ∙ e)));
+  idle = search rules;
+  err = search rules;
+}

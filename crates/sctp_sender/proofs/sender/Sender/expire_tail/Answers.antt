@@ -1,4 +1,4 @@
-use Rattle.std.proofs.Common.{sym, subst}
+use Rattle.std.proofs.Common.{sym, subst, rules}
 use Rattle.sctp_outbound.specs.outbound_queue.OutboundQueue.{expiring_tail, message_of}
 use Rattle.sctp_sender.specs.Flight.{Flight}
 use Rattle.sctp_sender.specs.Totals.{IsAllSettled}
@@ -21,5 +21,17 @@ invariant_of-self-2 c =
       reported-on c.self.inside.kept f c.expire_tail.new.self c.expire_tail.ensures.known c.self.invariant.4,
     )
 
-pub returns-clause-low : goal.returns-clause-low
-returns-clause-low c = rw (← c.self.view_is) (release-answered _ _ _ _ _ c.release-is_low.ensures.low c.release-is_low.ensures.less)
+pub returns : goal.returns
+returns c = record {
+  some = search rules;
+  answer = search rules;
+  none = search rules;
+  released = search rules;
+  falls = search rules;
+  low = rw (← c.self.view_is) (release-answered _ _ _ _ _ c.release-is_low.ensures.low c.release-is_low.ensures.less);
+  accepted = search rules;
+  refused = search rules;
+  succeeds = search rules;
+  idle = search rules;
+  err = search rules;
+}

@@ -1,4 +1,4 @@
-use Rattle.std.proofs.Common.{◌≡◌, ap, subst, sym, ◌∙◌, ℕ, None}
+use Rattle.std.proofs.Common.{◌≡◌, ap, subst, sym, ◌∙◌, ℕ, None, rules}
 use Rattle.std.specs.Prelude.{if◌then◌else◌, is_some}
 use Rattle.sctp_outbound.specs.outbound_queue.OutboundQueue.{Outbound, sent_next, total_bytes}
 use Rattle.sctp_outbound.specs.pending_queue.PendingQueue.{next_pending}
@@ -16,16 +16,25 @@ use Rattle.sctp_sender.proofs.Seen.{sender_in}
 use Rattle.sctp_sender.proofs.sender.Sender.send_next_tsn_unbounded.Goals as goal
 use Rattle.sctp_serial.specs.DataChunks.{following_tsn}
 
-pub returns-in_default-clause-ok : goal.returns-in_default-clause-ok
-returns-in_default-clause-ok c =
+pub returns-in_default : goal.returns-in_default
+returns-in_default c =
     let f : Flight = c.self.inside.flight in
     let t : Transmission = sender_in c.self.inside in
     let none : None ≡ next_pending f.queue.pending = c.in_default.ensures.value ∙ ap (λ (o : Outbound). next_pending o.pending) c.queue-2.ensures in
     let same : (if is_some (next_pending f.queue.pending) then following_tsn f.next_tsn else f.next_tsn) ≡ f.next_tsn =
     ap (λ o. if is_some o then following_tsn f.next_tsn else f.next_tsn) (sym none) in
-    rw (← c.self.view_is)
-    (ap (λ (g : Flight). with_flight g t) (c.start.ensures ∙ ap (with_queue f) (sent_none f.next_tsn c.args.now f.queue none)
-    ∙ ap (λ (n : ℕ). let g : Flight = record f { queue = sent_next f.queue f.next_tsn c.args.now; next_tsn = n } in g) (sym same)))
+    record {
+      answer = search rules;
+      noted = search rules;
+      ok = rw (← c.self.view_is) (ap (λ (g : Flight). with_flight g t) (c.start.ensures ∙ ap (with_queue f) (sent_none f.next_tsn c.args.now f.queue none)
+          ∙ ap (λ (n : ℕ). let g : Flight = record f { queue = sent_next f.queue f.next_tsn c.args.now; next_tsn = n } in g) (sym same)));
+      bytes = rw (← c.self.view_is) (ap (λ (g : Flight). total_bytes g.queue) c.start.ensures ∙ started-bytes c.args.now f.queue);
+      accepted = search rules;
+      refused = search rules;
+      succeeds = search rules;
+      idle = search rules;
+      err = search rules;
+    }
 
 module _ (f : Flight) (q : Outbound) (is : q ≡ f.queue) (s : IsSendable q.pending q.inflight.chunks q.next_message_id) (now : ℕ) where
   abbrev after : Flight
@@ -35,14 +44,19 @@ module _ (f : Flight) (q : Outbound) (is : q ≡ f.queue) (s : IsSendable q.pend
   same-bytes g e = ap (λ (h : Flight). total_bytes h.queue) e
       ∙ sent-bytes f.next_tsn now f.queue (subst (λ (r : Outbound). IsSendable r.pending r.inflight.chunks r.next_message_id) is s)
 
-pub returns-clause-bytes : goal.returns-clause-bytes
-returns-clause-bytes c =
-    let f : Flight = c.self.inside.flight in
-    rw (← c.self.view_is) (same-bytes f c.queue.result.now c.queue.ensures c.are_whole.ensures c.args.now c.send_next.new.self c.in_ok-sent.ensures.ok)
-
-pub returns-in_default-clause-bytes : goal.returns-in_default-clause-bytes
-returns-in_default-clause-bytes c =
-    rw (← c.self.view_is) (ap (λ (g : Flight). total_bytes g.queue) c.start.ensures ∙ started-bytes c.args.now c.self.inside.flight.queue)
+pub returns : goal.returns
+returns c = record {
+  answer = search rules;
+  noted = search rules;
+  ok = search rules;
+  bytes = rw (← c.self.view_is) (same-bytes c.self.inside.flight c.queue.result.now c.queue.ensures c.are_whole.ensures c.args.now c.send_next.new.self
+      c.in_ok-sent.ensures.ok);
+  accepted = search rules;
+  refused = search rules;
+  succeeds = search rules;
+  idle = search rules;
+  err = search rules;
+}
 
 pub invariant_of-self : goal.invariant_of-self
 invariant_of-self c =

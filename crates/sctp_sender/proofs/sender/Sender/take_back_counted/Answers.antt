@@ -1,5 +1,5 @@
 use Rattle.std.proofs.Common.{◌≡◌, true, false, ℕ, ◌+◌, ◌*◌, ◌<◌, ◌≤◌, ◌^◌, List, Option, Some, None, length, map, get_or, inr, refl, ap, sym, subst, ◌∙◌}
-use Rattle.std.proofs.Common.{arith}
+use Rattle.std.proofs.Common.{arith, rules}
 use Rattle.std.specs.List.{All, count_by}
 use Rattle.std.specs.Option.{option_map}
 use Rattle.std.specs.Prelude.{IfSome, is_some, nat_lt}
@@ -13,7 +13,8 @@ use Rattle.sctp_data.specs.declared.chunk.chunk_selective_ack.GapAckBlock.{GapAc
 use Rattle.sctp_outbound.specs.outbound_queue.OutboundQueue.{Outbound, total_bytes}
 use Rattle.sctp_serial.specs.DataChunks.{bytes_of}
 use Rattle.sctp_stream.specs.declared.stream.StreamState.{StreamState}
-use Rattle.sctp_sender.specs.Costs.{is_left_out, to_sort}
+use Rattle.sctp_sender.specs.Calls.{CountsBack}
+use Rattle.sctp_sender.specs.Costs.{is_left_out, take_back_turns, to_sort}
 use Rattle.sctp_sender.specs.Flight.{Flight, can_resend, is_outdated, sack_refusal}
 use Rattle.sctp_sender.specs.declared.sender.flight.kept.Kept.{Kept}
 use Rattle.sctp_sender.specs.declared.sender.flight.kept.TakenBack.{TakenBack}
@@ -217,125 +218,135 @@ invariant_of-self c =
 
 -- ## The answer
 
-pub returns-then-not-is_room_for-clause-refused : goal.returns-then-not-is_room_for-clause-refused
-returns-then-not-is_room_for-clause-refused c =
-    let p = goal.at.returns-then-not-is_room_for-clause-refused c in
+pub returns-then-not-is_room_for-clause-takes : goal.returns-then-not-is_room_for-clause-takes
+returns-then-not-is_room_for-clause-takes c =
+    let p = goal.at.returns-then-not-is_room_for-clause-takes c in
     let b = backs p.In_ok-backs in
     let t : Transmission = sender_in c.self.inside in
     let s : Sack = sack_of c.args.sack.now in
     let full : nat_lt (total_bytes t.flight.queue + bytes_back (taken_back_by s t)) (2 ^ 64) ≡ false =
     ap (λ (rs : List TakenBack). nat_lt (total_bytes t.flight.queue + bytes_back rs) (2 ^ 64)) (sym (answered p.In_ok-answered b).is)
     ∙ sym (room p.After-is_room_for) ∙ c.if-not-is_room_for.true in
-    inr (ap (take_back_refusal s) (sym c.self.view_is)
-    ∙ refusal-is s t c.in-Some.kept.user_data.items b.kept b.current false (c.in_ok-is_current_counted.ensures.accepted refl) full)
+    record {
+      answer = search rules;
+      ok = search rules;
+      outstanding = search rules;
+      bytes = search rules;
+      accepted = search rules;
+      refused = inr (ap (take_back_refusal s) (sym c.self.view_is)
+          ∙ refusal-is s t c.in-Some.kept.user_data.items b.kept b.current false (c.in_ok-is_current_counted.ensures.accepted refl) full);
+      idle = λ none. nothing p.After-coming_back_counted (ap (λ (u : Transmission). u.kept) c.self.view_is ∙ none);
+      outdated = λ old. stale p.After-coming_back_counted (ap (λ (u : Transmission). is_outdated s u.flight) c.self.view_is ∙ old);
+      err = search rules;
+    }
 
-pub returns-clause-accepted : goal.returns-clause-accepted
-returns-clause-accepted c = λ ok.
-    let p = goal.at.returns-clause-accepted c in
-    let b = backs p.In_ok-backs in
-    let t : Transmission = sender_in c.self.inside in
-    let s : Sack = sack_of c.args.sack.now in
-    let fits : nat_lt (total_bytes t.flight.queue + bytes_back (taken_back_by s t)) (2 ^ 64) ≡ true =
-    ap (λ (rs : List TakenBack). nat_lt (total_bytes t.flight.queue + bytes_back rs) (2 ^ 64)) (sym (answered p.In_ok-answered b).is)
-    ∙ sym (room p.After-is_room_for) ∙ c.if-not-is_room_for.false in
-    ap (take_back_refusal s) (sym c.self.view_is)
-    ∙ refusal-is s t c.in-Some.kept.user_data.items b.kept b.current true (c.in_ok-is_current_counted.ensures.accepted refl) fits
-
-pub returns-clause-answer : goal.returns-clause-answer
-returns-clause-answer c =
-    let p = goal.at.returns-clause-answer c in
-    (answered p.In_ok-answered (backs p.In_ok-backs)).is ∙ ap (taken_back_by (sack_of c.args.sack.now)) c.self.view_is
-
-pub returns-clause-ok : goal.returns-clause-ok
-returns-clause-ok c =
-    let p = goal.at.returns-clause-ok c in
-    let b = backs p.In_ok-backs in
-    let s : Sack = sack_of c.args.sack.now in
-    let t : Transmission = sender_in c.self.inside in
-    let streams : c.return_each.new.streams ≡ after_returns (taken_back_by s t) t.streams = c.return_each.ensures.value
-    ∙ ap (λ rs. after_returns rs t.streams) (c.deref-4.ensures.value ∙ (answered p.In_ok-answered b).is) in
-    let new : c.set_left.new.flight ≡ with_restored (back_by s t.flight t.kept) t.flight = c.set_left.ensures.flight
-    ∙ after p.After-restore_counted b ∙ ap (λ bs. with_restored bs t.flight) (back-by-is s t c.in-Some.kept.user_data.items b.kept b.current) in
-    ap (λ (o : Option (List (Option (List ℕ)))). let u : Transmission = record t {
-      streams = c.return_each.new.streams;
-      flight = c.set_left.new.flight;
-      kept = o;
-    } in u) c.set_left.ensures.data
-    ∙ ap (λ (ls : List StreamState). let u : Transmission = record t { streams = ls; flight = c.set_left.new.flight } in u) streams
-    ∙ ap (λ (g : Flight). let u : Transmission = record t { streams = after_returns (taken_back_by s t) t.streams; flight = g } in u) new
-    ∙ ap (after_take_back s) c.self.view_is
-
-pub returns-clause-bytes : goal.returns-clause-bytes
-returns-clause-bytes c =
-    let p = goal.at.returns-clause-bytes c in
+pub returns-clause-takes : goal.returns-clause-takes
+returns-clause-takes c =
+    let p = goal.at.returns-clause-takes c in
     let b = backs p.In_ok-backs in
     let s : Sack = sack_of c.args.sack.now in
     let t : Transmission = sender_in c.self.inside in
     let cs = t.flight.queue.inflight.chunks in
     let ks = c.in-Some.kept.user_data.items in
     let dense = back_each s cs ks in
-    let new = ap (λ (g : Flight). total_bytes g.queue) (c.set_left.ensures.flight ∙ after p.After-restore_counted b) in
+    let is = (answered p.In_ok-answered b).is in
+    let fits : nat_lt (total_bytes t.flight.queue + bytes_back (taken_back_by s t)) (2 ^ 64) ≡ true =
+    ap (λ (rs : List TakenBack). nat_lt (total_bytes t.flight.queue + bytes_back rs) (2 ^ 64)) (sym is)
+    ∙ sym (room p.After-is_room_for) ∙ c.if-not-is_room_for.false in
+    let by-dense : c.in_ok-answered.answered.items ≡ answered_back dense cs = is
+    ∙ ap (λ bs. answered_back bs cs) (sym (back-by-is s t ks b.kept b.current)) in
+    let streams : c.return_each.new.streams ≡ after_returns (taken_back_by s t) t.streams = c.return_each.ensures.value
+    ∙ ap (λ rs. after_returns rs t.streams) (c.deref-4.ensures.value ∙ is) in
+    let restored-flight = c.set_left.ensures.flight ∙ after p.After-restore_counted b in
+    let new : c.set_left.new.flight ≡ with_restored (back_by s t.flight t.kept) t.flight = restored-flight
+    ∙ ap (λ bs. with_restored bs t.flight) (back-by-is s t ks b.kept b.current) in
+    let total = ap (λ (g : Flight). total_bytes g.queue) restored-flight in
     let back : bytes_of (restored dense cs) ≡ bytes_of cs + weight dense = back-bytes s cs ks c.self.invariant.2.inflight in
-    let answers : bytes_back c.in_ok-answered.answered.items ≡ weight dense = ap bytes_back ((answered p.In_ok-answered b).is
-    ∙ ap (λ bs. answered_back bs cs) (sym (back-by-is s t ks b.kept b.current))) ∙ answered-weight dense cs b.short in
+    let answers : bytes_back c.in_ok-answered.answered.items ≡ weight dense = ap bytes_back by-dense ∙ answered-weight dense cs b.short in
     let all : total_bytes c.set_left.new.flight.queue ≡ total_bytes t.flight.queue + bytes_back c.in_ok-answered.answered.items =
-    omega (arith, answers, back, new) in
-    rw (← c.self.view_is) all
-
-pub returns-clause-outstanding : goal.returns-clause-outstanding
-returns-clause-outstanding c =
-    let p = goal.at.returns-clause-outstanding c in
-    let b = backs p.In_ok-backs in
-    let s : Sack = sack_of c.args.sack.now in
-    let cs = c.self.inside.flight.queue.inflight.chunks in
-    let ks = c.in-Some.kept.user_data.items in
-    let dense-answer : c.in_ok-answered.answered.items ≡ answered_back (back_each s cs ks) cs = (answered p.In_ok-answered b).is
-    ∙ ap (λ bs. answered_back bs cs) (sym (back-by-is s (sender_in c.self.inside) ks b.kept b.current)) in
-    subst (λ (f : Flight). All (λ (b : TakenBack). can_resend b.tsn f ≡ true) c.in_ok-answered.answered.items) (sym c.set_left.ensures.flight)
-    (subst (λ ts. All (λ (b : TakenBack). can_resend b.tsn c.restore_counted.new.self ≡ true) ts) (sym dense-answer)
-    (c.restore_counted.ensures.outstanding s ks b.is))
+    omega (arith, answers, back, total) in
+    record {
+      answer = is ∙ ap (taken_back_by s) c.self.view_is;
+      ok = ap (λ (o : Option (List (Option (List ℕ)))). let u : Transmission = record t {
+        streams = c.return_each.new.streams;
+        flight = c.set_left.new.flight;
+        kept = o;
+      } in u) c.set_left.ensures.data
+          ∙ ap (λ (ls : List StreamState). let u : Transmission = record t { streams = ls; flight = c.set_left.new.flight } in u) streams
+          ∙ ap (λ (g : Flight). let u : Transmission = record t { streams = after_returns (taken_back_by s t) t.streams; flight = g } in u) new
+          ∙ ap (after_take_back s) c.self.view_is;
+      outstanding = subst (λ (f : Flight). All (λ (b : TakenBack). can_resend b.tsn f ≡ true) c.in_ok-answered.answered.items)
+          (sym c.set_left.ensures.flight) (subst (λ ts. All (λ (b : TakenBack). can_resend b.tsn c.restore_counted.new.self ≡ true) ts) (sym by-dense)
+          (c.restore_counted.ensures.outstanding s ks b.is));
+      bytes = rw (← c.self.view_is) all;
+      accepted = λ ok. ap (take_back_refusal s) (sym c.self.view_is)
+          ∙ refusal-is s t ks b.kept b.current true (c.in_ok-is_current_counted.ensures.accepted refl) fits;
+      refused = search rules;
+      idle = search rules;
+      outdated = search rules;
+      err = search rules;
+    }
 
 -- ## The turns, for each way out
 
-pub returns-in_err-backs-clause-cost : goal.returns-in_err-backs-clause-cost
-returns-in_err-backs-clause-cost c =
-    let w = walked (goal.at.returns-in_err-backs-clause-cost c).After-coming_back_counted in rw (← c.self.view_is) (omega (arith, w.0))
+-- so many until one of these, and none of that stands where nothing is kept, or the SACK is out of date or refused
+spent : (c : After-coming_back_counted) (last : ℕ) → c.args.turns.now ≤ last
+    → last ≤ c.args.turns.now + take_back_turns (sack_of c.args.sack.now) c.self.inside.flight
+    (length (taken_back_by (sack_of c.args.sack.now) (sender_in c.self.inside)))
+    → CountsBack (sack_of c.args.sack.now) c.args.self.now (length (taken_back_by (sack_of c.args.sack.now) c.args.self.now)) c.args.turns.now last
+spent c last not-back cost =
+    let s : Sack = sack_of c.args.sack.now in
+    subst (λ (t : Transmission). CountsBack s t (length (taken_back_by s t)) c.args.turns.now last) c.self.view_is (record {
+      not_back = not-back;
+      cost = cost;
+      nothing_kept = nothing c;
+      stale = stale c;
+      forged = forged c;
+    })
 
-pub returns-in_err-left-clause-cost : goal.returns-in_err-left-clause-cost
-returns-in_err-left-clause-cost c =
-    let p = goal.at.returns-in_err-left-clause-cost c in
+pub returns-in_err-backs-clause-turns : goal.returns-in_err-backs-clause-turns
+returns-in_err-backs-clause-turns c =
+    let p = (goal.at.returns-in_err-backs-clause-turns c).After-coming_back_counted in
+    let w = walked p in
+    spent p c.coming_back_counted.new.turns (omega arith) (omega (arith, w.0))
+
+pub returns-in_err-left-clause-turns : goal.returns-in_err-left-clause-turns
+returns-in_err-left-clause-turns c =
+    let p = goal.at.returns-in_err-left-clause-turns c in
     let w = walked p.After-coming_back_counted in
     let l = cut p.After-left_reported (backs p.In_ok-backs) in
-    rw (← c.self.view_is) (omega (arith, w.0, w.1, l.0, l.1))
+    spent p.After-coming_back_counted c.left_reported.new.turns (omega arith) (omega (arith, w.0, w.1, l.0, l.1))
 
-pub returns-in_err-answered-clause-cost : goal.returns-in_err-answered-clause-cost
-returns-in_err-answered-clause-cost c =
-    let p = goal.at.returns-in_err-answered-clause-cost c in
+pub returns-in_err-answered-clause-turns : goal.returns-in_err-answered-clause-turns
+returns-in_err-answered-clause-turns c =
+    let p = goal.at.returns-in_err-answered-clause-turns c in
     let w = walked p.After-coming_back_counted in
     let l = cut p.After-left_reported (backs p.In_ok-backs) in
     let d2 = ap length c.deref-2.ensures.value in
-    rw (← c.self.view_is) (omega (arith, w.0, w.1, l.0, l.1, d2, c.answered_back_counted.ensures.cost))
+    spent p.After-coming_back_counted c.answered_back_counted.new.turns (omega arith)
+    (omega (arith, w.0, w.1, l.0, l.1, d2, c.answered_back_counted.ensures.cost))
 
-pub returns-then-not-is_room_for-clause-cost : goal.returns-then-not-is_room_for-clause-cost
-returns-then-not-is_room_for-clause-cost c =
-    let p = goal.at.returns-then-not-is_room_for-clause-cost c in
+pub returns-then-not-is_room_for-clause-turns : goal.returns-then-not-is_room_for-clause-turns
+returns-then-not-is_room_for-clause-turns c =
+    let p = goal.at.returns-then-not-is_room_for-clause-turns c in
     let w = walked p.After-coming_back_counted in
     let b = backs p.In_ok-backs in
     let l = cut p.After-left_reported b in
     let d2 = ap length c.deref-2.ensures.value in
     let d3 = ap length (c.deref-3.ensures.value ∙ (answered p.In_ok-answered b).is) in
-    rw (← c.self.view_is) (omega (arith, w.0, w.1, l.0, l.1, d2, d3, c.answered_back_counted.ensures.cost, c.is_room_for.ensures.cost))
+    spent p.After-coming_back_counted c.is_room_for.new.turns (omega arith)
+    (omega (arith, w.0, w.1, l.0, l.1, d2, d3, c.answered_back_counted.ensures.cost, c.is_room_for.ensures.cost))
 
-pub returns-clause-cost : goal.returns-clause-cost
-returns-clause-cost c =
-    let p = goal.at.returns-clause-cost c in
+pub returns-clause-turns : goal.returns-clause-turns
+returns-clause-turns c =
+    let p = goal.at.returns-clause-turns c in
     let w = walked p.After-coming_back_counted in
     let b = backs p.In_ok-backs in
     let l = cut p.After-left_reported b in
     let d2 = ap length c.deref-2.ensures.value in
     let d3 = ap length (c.deref-3.ensures.value ∙ (answered p.In_ok-answered b).is) in
     let d4 = ap length (c.deref-4.ensures.value ∙ (answered p.In_ok-answered b).is) in
-    rw (← c.self.view_is) (omega (
+    spent p.After-coming_back_counted c.return_each.new.turns (omega arith) (omega (
       arith,
       w.0,
       w.1,
@@ -349,50 +360,3 @@ returns-clause-cost c =
       c.restore_counted.ensures.cost,
       c.return_each.ensures.cost,
     ))
-
-pub returns-in_err-backs-clause-stale : goal.returns-in_err-backs-clause-stale
-returns-in_err-backs-clause-stale c = rw (← c.self.view_is) (stale (goal.at.returns-in_err-backs-clause-stale c).After-coming_back_counted)
-
-pub returns-in_err-backs-clause-forged : goal.returns-in_err-backs-clause-forged
-returns-in_err-backs-clause-forged c = rw (← c.self.view_is) (forged (goal.at.returns-in_err-backs-clause-forged c).After-coming_back_counted)
-
-pub returns-in_err-backs-clause-nothing_kept : goal.returns-in_err-backs-clause-nothing_kept
-returns-in_err-backs-clause-nothing_kept c = rw (← c.self.view_is) (nothing (goal.at.returns-in_err-backs-clause-nothing_kept c).After-coming_back_counted)
-
-pub returns-in_err-left-clause-stale : goal.returns-in_err-left-clause-stale
-returns-in_err-left-clause-stale c = rw (← c.self.view_is) (stale (goal.at.returns-in_err-left-clause-stale c).After-coming_back_counted)
-
-pub returns-in_err-left-clause-forged : goal.returns-in_err-left-clause-forged
-returns-in_err-left-clause-forged c = rw (← c.self.view_is) (forged (goal.at.returns-in_err-left-clause-forged c).After-coming_back_counted)
-
-pub returns-in_err-left-clause-nothing_kept : goal.returns-in_err-left-clause-nothing_kept
-returns-in_err-left-clause-nothing_kept c = rw (← c.self.view_is) (nothing (goal.at.returns-in_err-left-clause-nothing_kept c).After-coming_back_counted)
-
-pub returns-in_err-answered-clause-stale : goal.returns-in_err-answered-clause-stale
-returns-in_err-answered-clause-stale c = rw (← c.self.view_is) (stale (goal.at.returns-in_err-answered-clause-stale c).After-coming_back_counted)
-
-pub returns-in_err-answered-clause-forged : goal.returns-in_err-answered-clause-forged
-returns-in_err-answered-clause-forged c = rw (← c.self.view_is) (forged (goal.at.returns-in_err-answered-clause-forged c).After-coming_back_counted)
-
-pub returns-in_err-answered-clause-nothing_kept : goal.returns-in_err-answered-clause-nothing_kept
-returns-in_err-answered-clause-nothing_kept c =
-    rw (← c.self.view_is) (nothing (goal.at.returns-in_err-answered-clause-nothing_kept c).After-coming_back_counted)
-
-pub returns-then-not-is_room_for-clause-stale : goal.returns-then-not-is_room_for-clause-stale
-returns-then-not-is_room_for-clause-stale c = rw (← c.self.view_is) (stale (goal.at.returns-then-not-is_room_for-clause-stale c).After-coming_back_counted)
-
-pub returns-then-not-is_room_for-clause-forged : goal.returns-then-not-is_room_for-clause-forged
-returns-then-not-is_room_for-clause-forged c = rw (← c.self.view_is) (forged (goal.at.returns-then-not-is_room_for-clause-forged c).After-coming_back_counted)
-
-pub returns-then-not-is_room_for-clause-nothing_kept : goal.returns-then-not-is_room_for-clause-nothing_kept
-returns-then-not-is_room_for-clause-nothing_kept c =
-    rw (← c.self.view_is) (nothing (goal.at.returns-then-not-is_room_for-clause-nothing_kept c).After-coming_back_counted)
-
-pub returns-clause-stale : goal.returns-clause-stale
-returns-clause-stale c = rw (← c.self.view_is) (stale (goal.at.returns-clause-stale c).After-coming_back_counted)
-
-pub returns-clause-forged : goal.returns-clause-forged
-returns-clause-forged c = rw (← c.self.view_is) (forged (goal.at.returns-clause-forged c).After-coming_back_counted)
-
-pub returns-clause-nothing_kept : goal.returns-clause-nothing_kept
-returns-clause-nothing_kept c = rw (← c.self.view_is) (nothing (goal.at.returns-clause-nothing_kept c).After-coming_back_counted)

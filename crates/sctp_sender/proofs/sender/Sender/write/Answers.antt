@@ -1,5 +1,5 @@
 use Rattle.std.proofs.Common.{◌≡◌, ◌+◌, ◌<◌, ap, sym, ◌∙◌, true, false, subst, inr, None, rules, arith, length}
-use Rattle.std.specs.Prelude.{Some, if◌then◌else◌}
+use Rattle.std.specs.Prelude.{Some, if◌then◌else◌, is_some}
 use Rattle.std.specs.List.{list_any}
 use Rattle.std.proofs.Common.{List}
 use Rattle.sctp_data.specs.declared.chunk.chunk_payload_data.ChunkPayloadData.{ChunkPayloadData}
@@ -9,7 +9,7 @@ use Rattle.sctp_sender.specs.declared.sender.refusal.SenderRefusal.TheVariants.{
 use Rattle.sctp_sender.specs.Flight.{Flight}
 use Rattle.sctp_sender.proofs.Amounts.{message-bytes}
 use Rattle.sctp_sender.specs.Sender.{Transmission, is_open, is_full_of, write_refusal}
-use Rattle.sctp_sender.proofs.SenderStreams.{closed, open-at, found-at, unknown, too-large, by-room, one-message, refused-not}
+use Rattle.sctp_sender.proofs.SenderStreams.{unknown, too-large, by-room, one-message, refused-not}
 use Rattle.sctp_sender.specs.Totals.{AreSettled, IsAllSettled}
 use Rattle.sctp_sender.proofs.Settled.{fragments-settled, message-settled}
 use Rattle.sctp_sender.specs.Keeping.{AreReported, IsCovered}
@@ -21,7 +21,7 @@ use Rattle.sctp_sender.proofs.sender.Sender.write.Goals as goal
 
 -- The stream is open.
 opens : (c : In-Some) → is_open c.args.stream (sender_in c.self.inside) ≡ true
-opens c = open-at c.self.inside.streams c.args.stream c.in-Some.place c.in-Some.ensures
+opens c = ap is_some (sym c.in-Some.ensures)
 
 -- What refuses the write where its message is not too large.
 judged : (c : After-is_full) → is_open c.args.stream (sender_in c.self.inside) ≡ true
@@ -42,7 +42,7 @@ taken c e = rw (← c.self.view_is) (e ∙ ap (λ b. if b then Some QueueFull el
 pub returns-in_default-clause-refused : goal.returns-in_default-clause-refused
 returns-in_default-clause-refused c =
     inr (rw (← c.self.view_is) (unknown c.args.stream (length c.args.bytes.now) (sender_in c.self.inside)
-    (closed c.self.inside.streams c.args.stream c.in_default.ensures)))
+    (sym c.in_default.ensures)))
 
 pub returns-then-len-self-clause-refused : goal.returns-then-len-self-clause-refused
 returns-then-len-self-clause-refused c =
@@ -66,9 +66,8 @@ returns-in_err-chunks-clause-refused c =
 
 pub push-requires-clause-message : goal.push-requires-clause-message
 push-requires-clause-message c =
-    let l = found-at c.self.inside.streams c.args.stream c.in-Some.place c.in-Some.ensures in
     let some : 0 < length c.args.bytes.now = omega (arith, c.if-len-eq0.false, c.len-len.ensures.value) in
-    subst IsMessageOrNone (sym (c.in_ok-chunks.ensures.ok l.0 l.1)) (one-message l.0 c.args.ppi c.args.bytes.now some)
+    subst IsMessageOrNone (sym c.in_ok-chunks.ensures.ok) (one-message c.in-Some.state.now c.args.ppi c.args.bytes.now some)
 
 pub returns-in_err-push-clause-refused : goal.returns-in_err-push-clause-refused
 returns-in_err-push-clause-refused c =
@@ -85,7 +84,7 @@ returns-in_default-clause-idle c = λ len none.
     let t : Transmission = sender_in c.self.inside in
     let here : write_refusal c.args.stream 0 t ≡ None = rw (← c.self.view_is) at none in
     refused-not c.args.stream (length c.args.bytes.now) t _
-    (unknown c.args.stream (length c.args.bytes.now) t (closed c.self.inside.streams c.args.stream c.in_default.ensures)) len here
+    (unknown c.args.stream (length c.args.bytes.now) t (sym c.in_default.ensures)) len here
 
 pub returns-then-len-self-clause-idle : goal.returns-then-len-self-clause-idle
 returns-then-len-self-clause-idle c = λ len none. absurd (omega (arith, c.if-len-self.true, c.len-len.ensures.value, len))
@@ -113,10 +112,9 @@ returns-clause-bytes c =
 pub invariant_of-self-2 : goal.invariant_of-self-2
 invariant_of-self-2 c =
     let f : Flight = c.self.inside.flight in
-    let l = found-at c.self.inside.streams c.args.stream c.in-Some.place c.in-Some.ensures in
-    let new = subst AreSettled (sym (c.in_ok-chunks.ensures.ok l.0 l.1)) (fragments-settled l.0 c.args.ppi c.args.bytes.now) in
-    let unacked = subst (λ (cs : List ChunkPayloadData). list_any (λ d. d.acked) cs ≡ false) (sym (c.in_ok-chunks.ensures.ok l.0 l.1))
-    (fragments-unacked l.0 c.args.ppi c.args.bytes.now) in (
+    let new = subst AreSettled (sym c.in_ok-chunks.ensures.ok) (fragments-settled c.in-Some.state.now c.args.ppi c.args.bytes.now) in
+    let unacked = subst (λ (cs : List ChunkPayloadData). list_any (λ d. d.acked) cs ≡ false) (sym c.in_ok-chunks.ensures.ok)
+    (fragments-unacked c.in-Some.state.now c.args.ppi c.args.bytes.now) in (
       c.self.invariant.0,
       c.self.invariant.1,
       subst (λ (g : Flight). IsAllSettled g.queue) (sym c.in_ok-push.ensures.ok) (message-settled c.in_ok-chunks.chunks.items f.queue new c.self.invariant.2),

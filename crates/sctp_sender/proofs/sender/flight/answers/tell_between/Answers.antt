@@ -10,7 +10,7 @@ use Rattle.sctp_sender.specs.Telling.{no_message}
 use Rattle.sctp_sender.proofs.Anew.{jumped}
 use Rattle.sctp_sender.proofs.KnownPlaces.{not-known, one-unknown, unknown-up}
 use Rattle.sctp_sender.proofs.sender.flight.answers.tell_between.Goals as goal
-use Rattle.sctp_sender.proofs.sender.flight.answers.tell_between.Goals.{then-next-known+else-block-place+else-block-place-2, else-next-known}
+use Rattle.sctp_sender.proofs.sender.flight.answers.tell_between.Goals.{After-tell_at, then-next-known+else-block-place+else-block-place-2, else-next-known}
 
 pub loop-place-preserved-then-block-place : goal.loop-place-preserved-then-block-place
 loop-place-preserved-then-block-place c =
@@ -69,8 +69,11 @@ loop-place-preserved-then-block-place-2 c =
           (omega (arith, c.min-place.ensures))));
     }
 
-pub loop-place-preserved : goal.loop-place-preserved
-loop-place-preserved c =
+-- What is known of a place of which something is told.
+seen-at : (c : After-tell_at) → (c.if-next-known.turns ≤ c.loop-place.turns + 1) × (is_in_blocks c.args.known.now (suc c.loop-place.place) ≡ false)
+    × (c.loop-place.turns + 2 * c.args.next.now
+    ≤ c.args.turns.now + 2 * c.loop-place.next + 2 * unknown_from c.args.known.now c.args.places.0 (c.loop-place.place - c.args.places.0))
+seen-at c =
     let bs = c.args.known.now in
     let i = c.loop-place.next in
     let place = c.loop-place.place in
@@ -79,9 +82,7 @@ loop-place-preserved c =
     let below : place < c.args.places.1 = omega (arith, c.loop-place-test.true) in
     let other : (i < length bs → place + 1 < (get_or bs i none).start) → is_in_blocks bs (suc place) ≡ false = not-known bs i place none c.requires.ascend
     (λ k lt. inv.passed k none lt) in
-    let seen : (c.if-next-known.turns ≤ c.loop-place.turns + 1) × (is_in_blocks bs (suc place) ≡ false)
-    × (c.loop-place.turns + 2 * c.args.next.now ≤ c.args.turns.now + 2 * i + 2 * unknown_from bs c.args.places.0 (place - c.args.places.0))
-    = elim c.if-next-known.branch [
+    elim c.if-next-known.branch [
       | then-next-known+else-block-place+else-block-place-2 w ↦ (
         omega (arith, w.turns-is, w.tick.ensures),
         other (λ lt. omega (arith, w.if-block-place-2.false)),
@@ -92,7 +93,15 @@ loop-place-preserved c =
         other (λ lt. absurd (omega (arith, lt, w.if-next-known.false))),
         inv.settled below (λ lt. absurd (omega (arith, lt, w.if-next-known.false))),
       )
-    ] in
+    ]
+
+pub loop-place-preserved : goal.loop-place-preserved
+loop-place-preserved c =
+    let bs = c.args.known.now in
+    let place = c.loop-place.place in
+    let inv = c.loop-place.invariant in
+    let below : place < c.args.places.1 = omega (arith, c.loop-place-test.true) in
+    let seen = seen-at (goal.at.loop-place-preserved c).After-tell_at in
     let from = inv.from in
     let one = one-unknown bs c.args.places.0 place from seen.1 in
     let turns = seen.0 in
@@ -117,27 +126,10 @@ loop-place-preserved c =
 pub returns-in_err-tell_at-clause-unknown : goal.returns-in_err-tell_at-clause-unknown
 returns-in_err-tell_at-clause-unknown c =
     let bs = c.args.known.now in
-    let i = c.loop-place.next in
     let place = c.loop-place.place in
-    let none : GapAckBlock = record { start = 0; end = 0 } in
     let inv = c.loop-place.invariant in
     let below : place < c.args.places.1 = omega (arith, c.loop-place-test.true) in
-    let other : (i < length bs → place + 1 < (get_or bs i none).start) → is_in_blocks bs (suc place) ≡ false = not-known bs i place none c.requires.ascend
-    (λ k lt. inv.passed k none lt) in
-    let seen : (c.if-next-known.turns ≤ c.loop-place.turns + 1) × (is_in_blocks bs (suc place) ≡ false)
-    × (c.loop-place.turns + 2 * c.args.next.now ≤ c.args.turns.now + 2 * i + 2 * unknown_from bs c.args.places.0 (place - c.args.places.0))
-    = elim c.if-next-known.branch [
-      | then-next-known+else-block-place+else-block-place-2 w ↦ (
-        omega (arith, w.turns-is, w.tick.ensures),
-        other (λ lt. omega (arith, w.if-block-place-2.false)),
-        inv.settled below (λ lt. omega (arith, w.if-block-place.false)),
-      )
-      | else-next-known w ↦ (
-        omega (arith, w.turns-is),
-        other (λ lt. absurd (omega (arith, lt, w.if-next-known.false))),
-        inv.settled below (λ lt. absurd (omega (arith, lt, w.if-next-known.false))),
-      )
-    ] in
+    let seen = seen-at (goal.at.returns-in_err-tell_at-clause-unknown c).After-tell_at in
     let from = inv.from in
     let one = one-unknown bs c.args.places.0 place from seen.1 in
     let turns = seen.0 in

@@ -7,7 +7,7 @@ use Rattle.sctp_outbound.specs.pending_queue.PendingQueue.{next_pending}
 use Rattle.sctp_serial.specs.DataChunks.{has_tsn}
 use Rattle.sctp_sender.specs.Sender.{Transmission}
 use Rattle.sctp_sender.proofs.Sent.{as-noted, none-noted, some-noted}
-use Rattle.sctp_sender.proofs.sender.Sender.copy_and_send.Goals as goal
+use Rattle.sctp_sender.proofs.sender.Sender.send_next.Goals as goal
 
 pub returns-in_default-clause-answer : goal.returns-in_default-clause-answer
 returns-in_default-clause-answer c =
