@@ -10,6 +10,8 @@
 extern long granted;
 /* How many blocks are held. */
 extern long held;
+/* How many bytes of heap they take. */
+extern size_t in_use;
 
 static unsigned passed, failed;
 
