@@ -261,13 +261,13 @@ is_clean() {
 }
 if [ "$valgrind" = yes ]; then try is_clean; fi
 
-# Each of the five runs is a test.
+# Each of the four runs that reset streams is a test, and each of the five that exchange messages.
 if [ "$usrsctp" = yes ]; then
     wait "$interop" || true
     cat "$BUILD/interop.log"
-    good=$(grep -c '^usrsctp: .* 0 faults' "$BUILD/interop.log" || true)
+    good=$(grep -c '^\(usrsctp\|reconfig\): .* 0 faults' "$BUILD/interop.log" || true)
     passed=$((passed + good))
-    failed=$((failed + 5 - good))
+    failed=$((failed + 9 - good))
 else
     leave_out "the exchange with usrsctp" "there is no libusrsctp-dev"
 fi

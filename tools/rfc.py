@@ -284,7 +284,7 @@ RULES = [
          "association::Resets::take_request", "association::Resets::take_response"], [], []),
         ("in C: any request of a RE-CONFIG has a number, and a response answers it", "6525 4.1 to 4.6",
          ["sctp_c::sctpr_read_request read", "sctp_c::sctpr_read_reset read", "sctp_c::sctpr_read_response read", "sctp_c::sctpr_write_response done"],
-         ["sctp_c Reconfig.IsRequest"], ["c_tests/allowed.c"]),
+         ["sctp_c Reconfig.IsRequest"], ["c_tests/allowed.c", "c_tests/interop/reconfig.c"]),
         ("handshake, cookie, restart", "5.1, 5.2", "the caller makes it", [], [], []),
         ("several addresses, HEARTBEAT", "6.4, 8.2, 8.3", "this layer knows no addresses", [], [], []),
         ("SHUTDOWN", "9.2", "the caller sends it; its TSN is `Receiver::cumulative_tsn`", ["sctp_receiver::Receiver::cumulative_tsn"], [], []),

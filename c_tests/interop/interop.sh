@@ -1,6 +1,6 @@
 #!/bin/sh
 # Builds c_tests/interop on the static library, and lets the endpoint of examples/c and usrsctp exchange messages: RUNS runs that write for
-# TICKS ticks of 10 ms each, in no real time, with seeds from SEED on.
+# TICKS ticks of 10 ms each, in no real time, with seeds from SEED on. Before them both reset streams and add some, four runs.
 #
 #     c_tests/interop/interop.sh [RUNS] [TICKS] [SEED]
 #
@@ -15,7 +15,7 @@ TICKS=${2:-10000}
 SEED=${3:-1}
 BUILD=$(mktemp -d)
 trap 'rm -rf "$BUILD"' EXIT
-ARCHIVE=crates/sctp_c/out/libsctp_c.a
+ARCHIVE=${ARCHIVE:-crates/sctp_c/out/libsctp_c.a}
 
 # Builds a program of the files given.
 build() {
@@ -27,6 +27,9 @@ build() {
 build usrsctp c_tests/interop/usrsctp.c c_tests/interop/legal.c examples/c/messages.c -Wl,--wrap=read_random
 build usrsctp_abort c_tests/interop/usrsctp_abort.c
 "$BUILD/usrsctp_abort" || true
+build reconfig c_tests/interop/reconfig.c -Wl,--wrap=read_random
+failed=0
+for seed in 0 1 2 3; do "$BUILD/reconfig" "$seed" || failed=$((failed + 1)); done
 
 # By the seed two runs at 2 % loss, one at 10 %, one with messages of one and of several chunks mixed, and one whose stream sequence numbers
 # pass 65,535.
@@ -38,7 +41,6 @@ one() {
     *) "$BUILD/usrsctp" "$1" "$TICKS" 200 100 500 20 ;;
     esac
 }
-failed=0
 i=0
 while [ "$i" -lt "$RUNS" ]; do
     status=0

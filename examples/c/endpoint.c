@@ -5,8 +5,6 @@
 enum { PACKET_HEADER = 12, HEADERS = 28, CHUNK_ROWS = 400 };
 /* Chunks in flight at most, and rows that are enough for them: abandoning a message that was sent in part gives out one TSN more. */
 enum { MAX_CHUNKS_IN_FLIGHT = 512, ROWS = MAX_CHUNKS_IN_FLIGHT + 8 };
-/* Streams that a request to reset them may name. */
-enum { STREAMS_A_REQUEST = 64 };
 /* The longest time before a SACK is sent, in nanoseconds (RFC 4960 6.2). */
 enum { SACK_DELAY = 200000000 };
 
@@ -69,6 +67,8 @@ static int open_streams(struct endpoint *e) {
         if (sctpr_receiver_open(&e->receiver, i) != SCTPR_OK) return 0;
         if (i < e->peer.streams && sctpr_sender_open(&e->sender, i) != SCTPR_OK) return 0;
     }
+    e->incoming = e->config.streams;
+    e->outgoing = e->config.streams < e->peer.streams ? e->config.streams : e->peer.streams;
     return 1;
 }
 
@@ -83,6 +83,7 @@ static int make_halves(struct endpoint *e) {
         return 0;
     }
     e->has_halves = 1;
+    e->next_request = c->first_tsn;
     e->credit = e->peer.credit;
     e->advertised = c->window;
     if (open_streams(e)) return 1;
@@ -92,14 +93,14 @@ static int make_halves(struct endpoint *e) {
 
 /* Sends an INIT, or to the peer of a tag an INIT-ACK with a cookie. */
 static void send_init(struct endpoint *e, uint8_t is_ack, uint32_t tag, const uint8_t *cookie, size_t cookie_length) {
-    static const uint8_t extensions[] = { SCTPR_FORWARD_TSN };
+    static const uint8_t extensions[] = { SCTPR_FORWARD_TSN, SCTPR_RECONFIG };
     const struct endpoint_config *c = &e->config;
     struct sctpr_init init = { c->tag, c->window, c->first_tsn, c->streams, c->streams, is_ack };
     uint8_t params[64];
     size_t first = 0, second = 0, third = 0, written = 0;
     flush(e);
     if (sctpr_write_param(SCTPR_PARAM_FORWARD_TSN_SUPPORTED, NULL, 0, params, sizeof params, &first) != SCTPR_OK) return;
-    if (sctpr_write_param(SCTPR_PARAM_SUPPORTED_EXTENSIONS, extensions, 1, params + first, 8, &second) != SCTPR_OK) return;
+    if (sctpr_write_param(SCTPR_PARAM_SUPPORTED_EXTENSIONS, extensions, 2, params + first, 8, &second) != SCTPR_OK) return;
     first += second;
     if (is_ack && sctpr_write_param(SCTPR_PARAM_STATE_COOKIE, cookie, cookie_length, params + first, 32, &third) != SCTPR_OK) return;
     if (sctpr_write_init(&init, params, first + third, end_of(e), room_of(e), &written) == SCTPR_OK) e->length += written;
@@ -176,7 +177,8 @@ static void on_cookie_echo(struct endpoint *e, const uint8_t *chunk, size_t leng
     if (length != 4 + sizeof peer || endpoint_is_over(e)) return;
     memcpy(&peer, chunk + 4, sizeof peer);
     if (e->has_halves && peer.tag != e->peer.tag) return;
-    e->peer = peer;
+    /* one that comes again tells nothing new */
+    if (e->state < ENDPOINT_ESTABLISHED) e->peer = peer;
     if (!make_halves(e)) return;
     establish(e, ENDPOINT_CLOSED);
     put_chunk(e, SCTPR_COOKIE_ACK, NULL, 0);
@@ -295,11 +297,11 @@ static void on_abort(struct endpoint *e, const uint8_t *chunk, size_t length) {
 /* Resets the streams of a request, or says that they are none, or that DATA from before it is still to come (RFC 6525 5.2.2). */
 static uint32_t reset_streams(struct endpoint *e, const uint8_t *request, size_t length) {
     struct sctpr_reset reset;
-    uint16_t streams[STREAMS_A_REQUEST];
+    uint16_t streams[ENDPOINT_REQUEST_STREAMS];
     size_t count;
-    if (sctpr_read_reset(request, length, &reset, streams, STREAMS_A_REQUEST, &count) != SCTPR_OK) return SCTPR_RESULT_DENIED;
-    if (count > STREAMS_A_REQUEST) return SCTPR_RESULT_DENIED;
-    for (size_t i = 0; i < (count > 0 ? count : e->config.streams); i++) {
+    if (sctpr_read_reset(request, length, &reset, streams, ENDPOINT_REQUEST_STREAMS, &count) != SCTPR_OK) return SCTPR_RESULT_DENIED;
+    if (count > ENDPOINT_REQUEST_STREAMS) return SCTPR_RESULT_DENIED;
+    for (size_t i = 0; i < (count > 0 ? count : e->incoming); i++) {
         sctpr_code code = sctpr_receiver_reset(&e->receiver, count > 0 ? streams[i] : (uint16_t)i, reset.last_tsn);
         if (code == SCTPR_RESET_IN_PROGRESS) return SCTPR_RESULT_IN_PROGRESS;
         if (code == SCTPR_STREAM_UNKNOWN) return SCTPR_RESULT_WRONG_SSN;
@@ -308,22 +310,174 @@ static uint32_t reset_streams(struct endpoint *e, const uint8_t *request, size_t
     return SCTPR_RESULT_PERFORMED;
 }
 
-/* Answers each request of a RE-CONFIG, one that comes again as before (RFC 6525 5.2.1): streams are reset, and the rest is denied. Without an
- * answer it would be repeated for ever. */
+/* ---- Our requests (RFC 6525) ----------------------------------------------------------------------------------------------- */
+
+static void put16(uint8_t *at, uint32_t value) {
+    at[0] = (uint8_t)(value >> 8);
+    at[1] = (uint8_t)value;
+}
+
+static void put32(uint8_t *at, uint32_t value) {
+    put16(at, value >> 16);
+    put16(at + 2, value & 0xffff);
+}
+
+/* Sends our request, at first and again when it has no answer. It is written by hand: sctpr_write_chunk takes a request of type 13 alone. */
+static void send_request(struct endpoint *e) {
+    size_t length = e->request.length, padded = (length + 3) / 4 * 4;
+    make_place(e, 4 + padded);
+    end_of(e)[0] = SCTPR_RECONFIG;
+    end_of(e)[1] = 0;
+    put16(end_of(e) + 2, (uint32_t)(4 + length));
+    memcpy(end_of(e) + 4, e->request.param, padded);
+    e->length += 4 + padded;
+    e->request.due = e->now + e->rto;
+    e->counts.requests_sent++;
+}
+
+/* Makes a request of a value, whose number has its place in front, and of the streams that follow it. */
+static sctpr_code ask(struct endpoint *e, uint16_t type, const uint8_t *value, size_t length, const uint16_t *streams, uint16_t count) {
+    struct endpoint_request *r = &e->request;
+    if (e->state != ENDPOINT_ESTABLISHED || r->length > 0 || count > ENDPOINT_REQUEST_STREAMS) return SCTPR_INVALID;
+    memset(r, 0, sizeof *r);
+    r->length = 4 + length + 2 * (size_t)count;
+    r->type = type;
+    r->number = e->next_request++;
+    r->count = count;
+    put16(r->param, type);
+    put16(r->param + 2, (uint32_t)r->length);
+    memcpy(r->param + 4, value, length);
+    put32(r->param + 4, r->number);
+    for (uint16_t i = 0; i < count; i++) {
+        r->streams[i] = streams[i];
+        put16(r->param + 4 + length + 2 * i, streams[i]);
+    }
+    send_request(e);
+    return SCTPR_OK;
+}
+
+/* Whether a stream is one of those of a request. */
+static int names(const struct endpoint_request *r, uint16_t stream) {
+    for (uint16_t i = 0; i < r->count; i++)
+        if (r->streams[i] == stream) return 1;
+    return 0;
+}
+
+/* Asks the peer to follow a reset of ours, of our own accord or because it asked for it: the number of its request stands in it (4.1). */
+static sctpr_code ask_reset(struct endpoint *e, const uint16_t *streams, uint16_t count, uint32_t response) {
+    uint8_t value[12] = { 0 };
+    if (e->state != ENDPOINT_ESTABLISHED || count == 0) return SCTPR_INVALID;
+    for (uint16_t i = 0; i < count; i++)
+        if (!sctpr_sender_is_drained(&e->sender, streams[i])) return SCTPR_STREAM_BUSY;
+    put32(value + 4, response);
+    put32(value + 8, sctpr_sender_next_tsn(&e->sender) - 1);
+    return ask(e, SCTPR_PARAM_OUTGOING_RESET, value, 12, streams, count);
+}
+
+sctpr_code endpoint_reset(struct endpoint *e, const uint16_t *streams, uint16_t count) {
+    return ask_reset(e, streams, count, e->peer.next_request - 1);
+}
+
+sctpr_code endpoint_reset_incoming(struct endpoint *e, const uint16_t *streams, uint16_t count) {
+    const uint8_t value[4] = { 0 };
+    return ask(e, SCTPR_PARAM_INCOMING_RESET, value, 4, streams, count);
+}
+
+sctpr_code endpoint_add_streams(struct endpoint *e, uint16_t count) {
+    uint8_t value[8] = { 0 };
+    if (count == 0 || e->outgoing + count > 65535) return SCTPR_INVALID;
+    put16(value + 4, count);
+    sctpr_code code = ask(e, SCTPR_PARAM_ADD_OUTGOING_STREAMS, value, sizeof value, NULL, 0);
+    if (code == SCTPR_OK) e->request.added = count;
+    return code;
+}
+
+/* Our request has its answer: what it asked for is done (5.2.7). */
+static void finish_request(struct endpoint *e, uint32_t result) {
+    struct endpoint_request *r = &e->request;
+    r->length = 0;
+    e->request_result = result;
+    if (result != SCTPR_RESULT_PERFORMED) return;
+    for (uint16_t i = 0; r->type == SCTPR_PARAM_OUTGOING_RESET && i < r->count; i++) sctpr_sender_reset(&e->sender, r->streams[i]);
+    for (uint16_t i = 0; r->type == SCTPR_PARAM_ADD_OUTGOING_STREAMS && i < r->added; i++)
+        if (sctpr_sender_open(&e->sender, (uint16_t)e->outgoing) == SCTPR_OK) e->outgoing++;
+}
+
+/* "In progress": the request is sent again, under its number. */
+static void on_response(struct endpoint *e, const uint8_t *param, size_t length) {
+    struct sctpr_response response;
+    if (sctpr_read_response(param, length, &response) != SCTPR_OK || response.result == SCTPR_RESULT_IN_PROGRESS) return;
+    if (e->request.length > 0 && response.response == e->request.number) finish_request(e, response.result);
+}
+
+/* Sends our request again when it is due, and the reset that the peer asked for, once nothing of its streams is on the way. */
+static void poll_requests(struct endpoint *e) {
+    if (e->request.length > 0 && e->request.due <= e->now) send_request(e);
+    if (e->wanted.length > 0 && ask_reset(e, e->wanted.streams, e->wanted.count, e->wanted.number) == SCTPR_OK) e->wanted.length = 0;
+}
+
+/* ---- Requests of the peer -------------------------------------------------------------------------------------------------- */
+
+/* What on_request answers where the request has no answer of its own. */
+enum { NO_ANSWER = 0xffff };
+
+/* The peer asks for a reset of ours: the request to follow it is the answer (5.2.3). One that names no stream, or too many, is denied. */
+static uint32_t want_reset(struct endpoint *e, uint32_t number, const uint8_t *value, size_t length) {
+    struct endpoint_request *w = &e->wanted;
+    if (length < 6 || (length - 4) / 2 > ENDPOINT_REQUEST_STREAMS || w->length > 0) return SCTPR_RESULT_DENIED;
+    w->number = number;
+    w->count = (uint16_t)((length - 4) / 2);
+    for (uint16_t i = 0; i < w->count; i++) {
+        w->streams[i] = (uint16_t)(value[4 + 2 * i] << 8 | value[5 + 2 * i]);
+        if (w->streams[i] >= e->outgoing) return SCTPR_RESULT_WRONG_SSN;
+    }
+    w->length = 1;
+    return NO_ANSWER;
+}
+
+/* The peer has so many outgoing streams more (5.2.5). */
+static uint32_t add_streams(struct endpoint *e, const uint8_t *value, size_t length) {
+    uint32_t count = length < 8 ? 0 : (uint32_t)(value[4] << 8 | value[5]);
+    if (count == 0 || e->incoming + count > (uint32_t)e->config.streams + ENDPOINT_ADDED_STREAMS) return SCTPR_RESULT_DENIED;
+    for (; count > 0; count--, e->incoming++)
+        if (sctpr_receiver_open(&e->receiver, (uint16_t)e->incoming) != SCTPR_OK) return SCTPR_RESULT_DENIED;
+    return SCTPR_RESULT_PERFORMED;
+}
+
+/* Follows a request of the peer, and answers its result. A reset may be the answer to our own request (4.1). */
+static uint32_t on_request(struct endpoint *e, uint32_t number, const uint8_t *bytes, size_t length, const struct sctpr_param *param) {
+    struct sctpr_reset reset;
+    size_t count;
+    switch (param->type) {
+    case SCTPR_PARAM_OUTGOING_RESET:
+        if (sctpr_read_reset(bytes, length, &reset, NULL, 0, &count) == SCTPR_OK && e->request.type == SCTPR_PARAM_INCOMING_RESET
+            && e->request.length > 0 && reset.response == e->request.number)
+            finish_request(e, SCTPR_RESULT_PERFORMED);
+        return reset_streams(e, bytes, length);
+    case SCTPR_PARAM_INCOMING_RESET: return want_reset(e, number, bytes + 4, param->length);
+    case SCTPR_PARAM_ADD_OUTGOING_STREAMS: return add_streams(e, bytes + 4, param->length);
+    default: return SCTPR_RESULT_DENIED;
+    }
+}
+
+/* Answers each request of a RE-CONFIG, one that comes again as before (RFC 6525 5.2.1), and takes the answer to ours. Without an answer a
+ * request would be repeated for ever. */
 static void on_reconfig(struct endpoint *e, const uint8_t *chunk, size_t length) {
     struct sctpr_param param;
     uint8_t answer[12];
     size_t written;
     for (size_t at = 4; at < length && sctpr_read_any_param(chunk + at, length - at, &param) == SCTPR_OK; at += param.next) {
         uint32_t number;
+        if (param.type == SCTPR_PARAM_RECONFIG_RESPONSE) on_response(e, chunk + at, length - at);
         if (sctpr_read_request(chunk + at, length - at, &number) != SCTPR_OK) continue;
         int is_again = number == e->peer.next_request - 1 && e->peer.last_result != SCTPR_RESULT_IN_PROGRESS;
         struct sctpr_response response = { number, is_again ? e->peer.last_result : SCTPR_RESULT_BAD_SEQUENCE_NUMBER };
         if (number == e->peer.next_request || (number == e->peer.next_request - 1 && !is_again)) {
-            response.result = param.type == SCTPR_PARAM_OUTGOING_RESET ? reset_streams(e, chunk + at, length - at) : SCTPR_RESULT_DENIED;
+            response.result = on_request(e, number, chunk + at, length - at, &param);
             e->peer.next_request = number + 1;
             e->peer.last_result = response.result;
         }
+        if (response.result == NO_ANSWER) continue;
         if (sctpr_write_response(&response, answer, sizeof answer, &written) == SCTPR_OK) put_chunk(e, SCTPR_RECONFIG, answer, written);
         e->counts.requests_answered++;
     }
@@ -422,6 +576,7 @@ sctpr_code endpoint_write(struct endpoint *e, uint16_t stream, uint32_t payload_
     uint64_t number;
     size_t fragments;
     if (e->state != ENDPOINT_ESTABLISHED) return SCTPR_INVALID;
+    if (e->request.length > 0 && e->request.type == SCTPR_PARAM_OUTGOING_RESET && names(&e->request, stream)) return SCTPR_INVALID;
     return sctpr_sender_write(&e->sender, stream, payload_type, message, length, &number, &fragments);
 }
 
@@ -547,6 +702,7 @@ void endpoint_poll(struct endpoint *e, uint64_t now) {
     if (e->has_halves) send_sack_if_due(e);
     if (ENDPOINT_ESTABLISHED <= e->state && e->state <= ENDPOINT_SHUTDOWN_RECEIVED) {
         if (e->heartbeat_due <= now) send_heartbeat(e);
+        poll_requests(e);
         abandon(e);
         if (e->wants_forward_tsn) send_forward_tsn(e);
         send_marked(e);

@@ -17,6 +17,9 @@ enum endpoint_state {
 /* The greatest length of a packet, of a cookie that is sent back, and of an ABORT that is kept, in bytes. */
 enum { ENDPOINT_PACKET_ROOM = 1500, ENDPOINT_COOKIE_ROOM = 1024, ENDPOINT_ABORT_ROOM = 256 };
 
+/* How many streams a request of a RE-CONFIG may name, and how many the peer may add in all. */
+enum { ENDPOINT_REQUEST_STREAMS = 64, ENDPOINT_ADDED_STREAMS = 64 };
+
 struct endpoint_config {
     /* `streams` of each direction, from 0 on. */
     uint16_t port, peer_port, streams;
@@ -42,12 +45,22 @@ struct endpoint_peer {
     uint8_t has_forward_tsn, unused;
 };
 
+/* Streams of a request: our own one, of which one waits for its answer at a time (RFC 6525 5.1), or one that the peer wants of us (5.2.3).
+ * `length` is that of its parameter, 0 where there is none; `added` is how many streams it adds; `due` is when it is sent again. */
+struct endpoint_request {
+    uint8_t param[16 + 2 * ENDPOINT_REQUEST_STREAMS];
+    size_t length;
+    uint64_t due;
+    uint32_t number;
+    uint16_t type, added, count, streams[ENDPOINT_REQUEST_STREAMS];
+};
+
 /* How often what happened. `packets` counts packets that came, `chunks` the DATA, SACK and FORWARD-TSN chunks, by the code with which they
  * were taken or refused. */
 struct endpoint_counts {
     uint64_t packets[SCTPR_NOT_AS_GIVEN + 1], chunks[SCTPR_NOT_AS_GIVEN + 1], wrong_tag;
     uint64_t packets_sent, data_sent, data_sent_again, timeouts, fast_retransmissions;
-    uint64_t abandoned, expired, taken_back, forward_tsns_sent, heartbeats_sent, heartbeats_answered, requests_answered;
+    uint64_t abandoned, expired, taken_back, forward_tsns_sent, heartbeats_sent, heartbeats_answered, requests_answered, requests_sent;
 };
 
 struct endpoint {
@@ -59,6 +72,10 @@ struct endpoint {
     sctpr_sender sender;
     sctpr_receiver receiver;
     uint8_t has_halves;
+    /* Streams that are open of each direction; our request, the number of the next one, and the result of the last one; the reset that the
+     * peer asked for, once nothing of its streams waits or is in flight: its `length` is 1. */
+    uint32_t outgoing, incoming, next_request, request_result;
+    struct endpoint_request request, wanted;
     /* `timer` is when T1-init, T1-cookie, T2-shutdown or T3-rtx runs out, of which one runs at a time; 0: none does. */
     uint64_t now, timer, rto, smoothed_rtt, rtt_variation, heartbeat_due, heartbeat_sent_at;
     uint8_t awaits_heartbeat_ack;
@@ -87,10 +104,17 @@ void endpoint_free(struct endpoint *e);
 void endpoint_connect(struct endpoint *e, uint64_t now);
 /* Takes a datagram that came, whatever it is, and does what endpoint_poll does. Messages are then read from `receiver`. */
 void endpoint_receive(struct endpoint *e, const uint8_t *packet, size_t length, uint64_t now);
-/* Takes a message to be sent, as sctpr_sender_write does, in the mode that was set on `sender`. SCTPR_INVALID: not established. */
+/* Takes a message to be sent, as sctpr_sender_write does, in the mode that was set on `sender`. SCTPR_INVALID: not established, or the
+ * stream is being reset. */
 sctpr_code endpoint_write(struct endpoint *e, uint16_t stream, uint32_t payload_type, const uint8_t *message, size_t length);
 /* Looks at the timers, and sends what may be sent. To be called after writes, after reads, and every few milliseconds. */
 void endpoint_poll(struct endpoint *e, uint64_t now);
+/* Ask the peer to follow a reset of outgoing streams, to reset streams of its own, and to take so many outgoing streams more (RFC 6525
+ * 5.1.2, 5.1.3, 5.1.5). Once `request.length` is 0 again, `request_result` is the answer. SCTPR_STREAM_BUSY: something of a stream waits or
+ * is in flight; SCTPR_INVALID: not established, another request waits, or there are too many streams. */
+sctpr_code endpoint_reset(struct endpoint *e, const uint16_t *streams, uint16_t count);
+sctpr_code endpoint_reset_incoming(struct endpoint *e, const uint16_t *streams, uint16_t count);
+sctpr_code endpoint_add_streams(struct endpoint *e, uint16_t count);
 /* Sends what was written, and then shuts the association down (RFC 4960 9.2). */
 void endpoint_shutdown(struct endpoint *e, uint64_t now);
 /* Ends the association at once (RFC 4960 9.1). */

@@ -3,7 +3,7 @@
  *
  *     exchange [seed] [ticks] [lost repeated late damaged, each of 10,000 datagrams] [short]
  *
- * It writes for so many ticks of 10 ms, in no real time, then waits until all came, and shuts down. With `short` it writes more messages,
+ * It writes for so many ticks of 10 ms, in no real time, then waits until all came, resets streams and adds some (RFC 6525), and shuts down. With `short` it writes more messages,
  * of under 64 bytes, so that stream sequence numbers pass 65,535 within 20,000 ticks. The last line says how many messages came and how
  * many faults there were; the status is 0 where there was none. */
 #include "endpoint.h"
@@ -126,6 +126,57 @@ static void exchange(long ticks) {
     messages_forget(0);
 }
 
+/* Goes on until the request of a side has its answer, and the other side none that waits. */
+static void await_answer(int side) {
+    for (int i = 0; i < 5000 && (sides[side].request.length > 0 || sides[1 - side].request.length > 0); i++) one_tick();
+    if (sides[side].request.length > 0 || sides[side].request_result != SCTPR_RESULT_PERFORMED)
+        fault("side %d: a request: result %u", side, (unsigned)sides[side].request_result);
+}
+
+/* After a reset the next message of the first stream, which is ordered, has the number 0 (RFC 6525 5.1.2), and arrives. */
+static void write_after_reset(int side) {
+    static uint8_t message[100];
+    struct sctpr_in_flight row;
+    message_fill(message, sizeof message, side, 0, channels[side][0].written);
+    if (endpoint_write(&sides[side], 0, SCTPR_PPID_BINARY, message, sizeof message) != SCTPR_OK) fault("side %d: a write", side);
+    message_written(side, 0, sizeof message);
+    endpoint_poll(&sides[side], now());
+    if (sctpr_sender_in_flight_at(&sides[side].sender, 0, &row) != SCTPR_OK || row.sequence != 0) fault("side %d: no number 0", side);
+    for (int i = 0; i < 5000 && !(messages_arrived() && is_drained(&sides[0]) && is_drained(&sides[1])); i++) one_tick();
+    if (!messages_arrived()) fault("side %d: the message after a reset did not come", side);
+}
+
+/* A message on the last of the streams that were added arrives. */
+static void write_on_added(int side) {
+    const struct endpoint *other = &sides[1 - side];
+    uint8_t message[4] = { 0 };
+    size_t length = 0;
+    uint32_t type;
+    sctpr_receiver receiver = other->receiver;
+    if (sides[side].outgoing != STREAMS + 2 || other->incoming != STREAMS + 2) fault("side %d: streams that were added", side);
+    if (endpoint_write(&sides[side], STREAMS + 1, SCTPR_PPID_STRING, (const uint8_t *)"new", 3) != SCTPR_OK) fault("side %d: a write", side);
+    for (int i = 0; i < 5000 && !is_drained(&sides[side]); i++) one_tick();
+    sctpr_code code = sctpr_receiver_read(&receiver, STREAMS + 1, message, sizeof message, &length, &type);
+    if (code != SCTPR_OK || length != 3 || memcmp(message, "new", 4) != 0) fault("side %d: no message on a stream that was added", side);
+}
+
+/* A side resets two streams, the other one asks it to reset one, and it adds two. */
+static void reconfigure(int side) {
+    static const uint16_t streams[] = { 0, 3 };
+    if (endpoint_reset(&sides[side], streams, 2) != SCTPR_OK) fault("side %d: a reset", side);
+    if (endpoint_write(&sides[side], 3, SCTPR_PPID_STRING, (const uint8_t *)"no", 2) != SCTPR_INVALID)
+        fault("side %d: a write while the stream is reset", side);
+    await_answer(side);
+    write_after_reset(side);
+    if (endpoint_reset_incoming(&sides[1 - side], streams, 1) != SCTPR_OK) fault("side %d: a reset is asked for", side);
+    await_answer(1 - side);
+    await_answer(side);
+    write_after_reset(side);
+    if (endpoint_add_streams(&sides[side], 2) != SCTPR_OK) fault("side %d: streams are added", side);
+    await_answer(side);
+    write_on_added(side);
+}
+
 static void shut_down(int side) {
     endpoint_shutdown(&sides[side], now());
     for (int i = 0; i < 5000 && !both_are(ENDPOINT_SHUT_DOWN); i++) one_tick();
@@ -143,6 +194,7 @@ static void print_side(int side) {
     printf("  messages abandoned %lu, expired %lu, FORWARD-TSN %lu, heartbeats answered %lu of %lu\n", (unsigned long)c->abandoned,
            (unsigned long)c->expired, (unsigned long)c->forward_tsns_sent, (unsigned long)c->heartbeats_answered,
            (unsigned long)c->heartbeats_sent);
+    printf("  requests sent %lu, answered %lu\n", (unsigned long)c->requests_sent, (unsigned long)c->requests_answered);
     for (unsigned i = 16; i <= SCTPR_ERR_SHORT_BUFFER; i++)
         if (c->chunks[i]) printf("  chunks refused with %u: %lu\n", i, (unsigned long)c->chunks[i]);
 }
@@ -180,6 +232,7 @@ int main(int argc, char **argv) {
     set_up();
     connect_sides(seed);
     if (faults == 0) exchange(argc > 2 ? atol(argv[2]) : 1000);
+    for (int side = 0; side < 2 && faults == 0; side++) reconfigure(side);
     if (faults == 0) shut_down(seed / 3 % 2);
     print_side(0);
     print_side(1);
