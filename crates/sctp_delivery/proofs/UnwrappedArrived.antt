@@ -11,21 +11,23 @@ use Rattle.sctp_util.proofs.Round.{tsn}
 use Rattle.sctp_data.specs.declared.chunk.chunk_payload_data.ChunkPayloadData.{ChunkPayloadData}
 use Rattle.sctp_reassembly.specs.reassembly_queue.Skips.{misses, misses_behind}
 use Rattle.sctp_serial.specs.DataChunks.{following_tsn, has_tsn, preceding_tsn}
-use Rattle.sctp_sender.specs.Numbers.{is_ordered_on}
-use Rattle.sctp_delivery.proofs.Every.{Every}
 use Rattle.sctp_delivery.proofs.OrderedEntries.{AreJoined, Joins, begins_on, begun_on, ends_on, one}
 use Rattle.sctp_delivery.proofs.Sent.{Entry, fragment, part-itself, terminal}
-use Rattle.sctp_delivery.proofs.SpreadEntries.{IsEntry, at-here, at-more, at-part, begun_to, is_at, joined-rest, step-up, to-all, to-most, to-more, to-up}
-use Rattle.sctp_delivery.proofs.TsnPlaces.{at-or-before, base, next-place, same-place}
+use Rattle.sctp_delivery.proofs.SpreadEntries.{at-here, at-more, at-part, begun_to, is_at, joined-rest, step-up, to-all, to-most, to-more}
+use Rattle.sctp_delivery.proofs.TsnPlaces.{at-or-before, next-place, same-place}
 
--- n TSNs behind the base p
-module _ (p n : ℕ) (few : n < 2 ^ 31) where
-  -- the chunk has the TSN of a place behind k, up to n
+-- n TSNs behind the base p. Q z: the place z is one of the message; all between two of these are
+module _ (p n : ℕ) (few : n < 2 ^ 31) (Q : ℕ → Type 0) (among : (j k l : ℕ) → Q j → Q k → j ≤ l → l ≤ k → Q l) where
+  -- the chunk has the TSN of a place of the message behind k, up to n. So is the next place, where it does not end the message, and the one
+  -- before, where it does not begin it
   pub record IsBehind (k : ℕ) (c : ChunkPayloadData) : Type 0 where
     pub place : ℕ
     pub past : k < place
     pub within : place ≤ n
     pub is : c.tsn ≡ tsn p place
+    pub of : Q place
+    pub next : c.ending_fragment ≡ false → place + 1 ≤ n → Q (place + 1)
+    pub prior : c.beginning_fragment ≡ false → Q (place - 1)
 
   -- their places rise
   abbrev pub Rising : ℕ → List ChunkPayloadData → Type 0
@@ -46,21 +48,15 @@ module _ (p n : ℕ) (few : n < 2 ^ 31) where
       omega (arith, same, lt, le)) in
       ap (λ b. b || list_any (has_tsn (tsn p j)) cs) off ∙ none-upto j r.0.place cs (omega (arith, lt, le)) most r.1
 
-  -- a place that is missing stands behind a chunk that does not end its message, between two, or before one that does not begin it
-  pub data Beside (P : ChunkPayloadData → Type 0) (missing : ℕ) : Type 0 where
-    last : (c : ChunkPayloadData) → P c → c.tsn ≡ tsn p (missing - 1) → 0 < missing → c.ending_fragment ≡ false → Beside P missing
-    inner : (c d : ChunkPayloadData) (k : ℕ) → P c → P d → c.tsn ≡ tsn p (missing - 1) → d.tsn ≡ tsn p k → 0 < missing → missing < k → k ≤ n → Beside P missing
-    front : (c : ChunkPayloadData) → P c → c.tsn ≡ tsn p (missing + 1) → missing + 1 ≤ n → c.beginning_fragment ≡ false → Beside P missing
-
-  -- it is at most m, and no chunk has its TSN
-  pub record IsMissing (P : ChunkPayloadData → Type 0) (least m : ℕ) (cs : List ChunkPayloadData) : Type 0 where
+  -- a place of the message, at most m, whose TSN no chunk has
+  pub record IsMissing (least m : ℕ) (cs : List ChunkPayloadData) : Type 0 where
     pub place : ℕ
     pub from : least ≤ place
     pub upto : place ≤ m
     pub absent : list_any (has_tsn (tsn p place)) cs ≡ false
-    pub beside : Beside P place
+    pub of : Q place
 
-  module _ (P : ChunkPayloadData → Type 0) (m : ℕ) (le : m ≤ n) where
+  module _ (m : ℕ) (le : m ≤ n) where
     -- the place behind a chunk
     behind : (k : ℕ) (x : ChunkPayloadData) (b : IsBehind k x) → at_or_before (following_tsn x.tsn) (tsn p m) ≡ true → b.place + 1 ≤ m
     behind k x b e =
@@ -77,9 +73,9 @@ module _ (p n : ℕ) (few : n < 2 ^ 31) where
         let same = same-place p b.place j (omega (arith, w, few)) (omega (arith, most, few)) (sym b.is ∙ same-is x.tsn (tsn p j) e) in
         omega (arith, same, lt))
 
-    missing-behind : (k : ℕ) (x : ChunkPayloadData) (xs : List ChunkPayloadData) (b : IsBehind k x) → P x → Every P xs → Rising b.place xs
-        → misses_behind (tsn p m) x xs ≡ true → IsMissing P (b.place + 1) m (x ∷ xs)
-    missing-behind k x [] b own each r e =
+    missing-behind : (k : ℕ) (x : ChunkPayloadData) (xs : List ChunkPayloadData) (b : IsBehind k x) → Rising b.place xs
+        → misses_behind (tsn p m) x xs ≡ true → IsMissing (b.place + 1) m (x ∷ xs)
+    missing-behind k x [] b r e =
         let f = both (not x.ending_fragment) (at_or_before (following_tsn x.tsn) (tsn p m)) e in
         let up = behind k x b f.1 in
         record {
@@ -87,9 +83,9 @@ module _ (p n : ℕ) (few : n < 2 ^ 31) where
           from = omega arith;
           upto = up;
           absent = ap (λ t. t || false) (off k (b.place + 1) x b (omega arith) (omega (arith, up, le)));
-          beside = last x own (b.is ∙ ap (tsn p) {x = b.place} {y = b.place + 1 - 1} (omega arith)) (omega arith) (negated x.ending_fragment f.0);
+          of = b.next (negated x.ending_fragment f.0) (omega (arith, up, le));
         }
-    missing-behind k x (y ∷ ys) b own each r e =
+    missing-behind k x (y ∷ ys) b r e =
         elim (or-split (not (y.tsn == following_tsn x.tsn) && at_or_before (following_tsn x.tsn) (tsn p m)) (misses_behind (tsn p m) y ys) e) [
           | inl a ↦
               let f = both (not (y.tsn == following_tsn x.tsn)) (at_or_before (following_tsn x.tsn) (tsn p m)) a in
@@ -107,11 +103,11 @@ module _ (p n : ℕ) (few : n < 2 ^ 31) where
                 absent =
                     ap (λ t. t || list_any (has_tsn (tsn p (b.place + 1))) (y ∷ ys)) (off k (b.place + 1) x b (omega arith) (omega (arith, up, le)))
                     ∙ none-upto (b.place + 1) (b.place + 1) (y ∷ ys) (omega arith) (omega (arith, up, le))
-                    (record { place = c.place; past = lt; within = c.within; is = c.is }, r.1);
-                beside = inner x y c.place own each.0 (b.is ∙ ap (tsn p) {x = b.place} {y = b.place + 1 - 1} (omega arith)) c.is (omega arith) lt c.within;
+                    (record { place = c.place; past = lt; within = c.within; is = c.is; of = c.of; next = c.next; prior = c.prior }, r.1);
+                of = among b.place c.place (b.place + 1) b.of c.of (omega arith) (omega (arith, lt));
               }
           | inr a ↦
-              let i = missing-behind b.place y ys r.0 each.0 each.1 r.1 a in
+              let i = missing-behind b.place y ys r.0 r.1 a in
               let from = i.from in
               let upto = i.upto in
               let past = r.0.past in
@@ -122,14 +118,14 @@ module _ (p n : ℕ) (few : n < 2 ^ 31) where
                 absent =
                     ap (λ t. t || list_any (has_tsn (tsn p i.place)) (y ∷ ys)) (off k i.place x b (omega (arith, from, past)) (omega (arith, upto, le)))
                     ∙ i.absent;
-                beside = i.beside;
+                of = i.of;
               }
         ]
 
     -- the place that a set misses
-    pub missing : (cs : List ChunkPayloadData) → Every P cs → Rising 0 cs → misses (tsn p m) cs ≡ true → IsMissing P 0 m cs
-    missing [] each r e = absurd (not_both e)
-    missing (x ∷ xs) each r e =
+    pub missing : (cs : List ChunkPayloadData) → Rising 0 cs → misses (tsn p m) cs ≡ true → IsMissing 0 m cs
+    missing [] r e = absurd (not_both e)
+    missing (x ∷ xs) r e =
         elim (or-split (not x.beginning_fragment && at_or_before (preceding_tsn x.tsn) (tsn p m)) (misses_behind (tsn p m) x xs) e) [
           | inl a ↦
               let b = r.0 in
@@ -146,12 +142,12 @@ module _ (p n : ℕ) (few : n < 2 ^ 31) where
                 from = omega arith;
                 upto = up;
                 absent = none-upto (b.place - 1) (b.place - 1) (x ∷ xs) (omega arith) (omega (arith, w))
-                    (record { place = b.place; past = omega (arith, past); within = b.within; is = b.is }, r.1);
-                beside = front x each.0 at (omega (arith, w, past)) (negated x.beginning_fragment f.0);
+                    (record { place = b.place; past = omega (arith, past); within = b.within; is = b.is; of = b.of; next = b.next; prior = b.prior }, r.1);
+                of = b.prior (negated x.beginning_fragment f.0);
               }
           | inr a ↦
-              let i = missing-behind 0 x xs r.0 each.0 each.1 r.1 a in
-              record { place = i.place; from = omega arith; upto = i.upto; absent = i.absent; beside = i.beside }
+              let i = missing-behind 0 x xs r.0 r.1 a in
+              record { place = i.place; from = omega arith; upto = i.upto; absent = i.absent; of = i.of }
         ]
 
 -- ## What is missing is of the message
@@ -211,40 +207,3 @@ between st (y ∷ ys) joined j k l a b le most same = elim (cases_lt k (length (
             (let whole = to-all st (length ys) ys (omega arith) in omega (arith, here, all, same, none, whole))
       ]
 ]
-
-module _ (st first n : ℕ) (few : n < 2 ^ 31) (sent : List Entry) (long : length sent ≡ n) (joined : AreJoined sent) where
-  -- an ordered chunk of the message of the stream with this index
-  pub record IsPiece (i : ℕ) (c : ChunkPayloadData) : Type 0 where
-    pub entry : IsEntry st first sent c
-    pub ordered : is_ordered_on st c ≡ true
-    pub begun : begun_to st (entry.before + 1) sent ≡ i + 1
-
-  place-is : (i k : ℕ) (c : ChunkPayloadData) (o : IsPiece i c) → k ≤ n → c.tsn ≡ tsn (base first) k → o.entry.before + 1 ≡ k
-  place-is i k c o le at =
-      let w = o.entry.within in
-      same-place (base first) (o.entry.before + 1) k (omega (arith, w, long, few)) (omega (arith, le, few)) (sym o.entry.is ∙ at)
-
-  -- a place that is missing beside its chunks is one of it
-  pub missing-of : (i z : ℕ) → z ≤ n → Beside (base first) n few (IsPiece i) z → (is_at st z sent ≡ true) × (begun_to st z sent ≡ i + 1)
-  missing-of i z le (last c o at pos open') =
-      let same = place-is i (z - 1) c o (omega (arith, le)) at in
-      let next = o.entry.next open' (omega (arith, same, pos, le, long)) in
-      let it : o.entry.before + 1 + 1 ≡ z = omega (arith, same, pos) in
-      (ap (λ k. is_at st k sent) (sym it) ∙ next.0 ∙ o.ordered, ap (λ k. begun_to st k sent) (sym it) ∙ next.1 ∙ o.begun)
-  missing-of i z le (inner c d k o q at there pos lt most) =
-      let same = place-is i (z - 1) c o (omega (arith, le)) at in
-      let far = place-is i k d q most there in
-      let a : is_at st (z - 1) sent ≡ true = ap (λ j. is_at st j sent) (sym same) ∙ o.entry.on ∙ o.ordered in
-      let b : is_at st k sent ≡ true = ap (λ j. is_at st j sent) (sym far) ∙ q.entry.on ∙ q.ordered in
-      let x : begun_to st (z - 1) sent ≡ i + 1 = ap (λ j. begun_to st j sent) (sym same) ∙ o.begun in
-      let y : begun_to st k sent ≡ i + 1 = ap (λ j. begun_to st j sent) (sym far) ∙ q.begun in
-      let up = to-up st (z - 1) z sent (omega arith) in
-      let down = to-up st z k sent (omega (arith, lt)) in
-      (between st sent joined (z - 1) k z a b (omega arith) (omega (arith, lt)) (x ∙ sym y), omega (arith, up, down, x, y))
-  missing-of i z le (front c o at most begins) =
-      let same = place-is i (z + 1) c o most at in
-      let it : o.entry.before ≡ z = omega (arith, same) in
-      let prior = o.entry.prior begins in (
-        ap (λ k. is_at st k sent) (sym it) ∙ prior.1 ∙ o.ordered,
-        ap (λ k. begun_to st k sent) (sym it) ∙ sym (o.entry.inner begins) ∙ o.begun,
-      )

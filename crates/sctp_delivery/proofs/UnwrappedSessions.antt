@@ -1,6 +1,6 @@
 -- In each session in which every FORWARD-TSN names a stream, the indexes of the ordered messages that are read on it rise.
-use Rattle.std.proofs.Common.{◌≡◌, ℕ, ◌+◌, ◌^◌, ◌<◌, ◌≤◌, Bool, true, false, List, [], ◌∷◌, length, Option, Some, None, inl, inr, refl, ap, sym, subst, ◌∙◌}
-use Rattle.std.proofs.Common.{arith}
+use Rattle.std.proofs.Common.{◌≡◌, ℕ, ◌+◌, ◌-◌, ◌^◌, ◌<◌, ◌≤◌, Bool, true, false, List, [], ◌∷◌, length, Option, Some, None, inl, inr, refl, ap, sym}
+use Rattle.std.proofs.Common.{subst, ◌∙◌, arith}
 use Rattle.std.specs.Prelude.{Contains, IfSome, find, if◌then◌else◌, is_some, ◌⊎◌}
 use Rattle.std.specs.List.{list_any}
 use Rattle.std.proofs.lemmas.Option.{none-some}
@@ -31,7 +31,7 @@ use Rattle.sctp_delivery.specs.SenderCalls as outgoing
 use Rattle.sctp_delivery.specs.SenderCalls.{SenderCall, data_chunk, forward_tsn}
 use Rattle.sctp_delivery.specs.Session.{ReceiverFollows, SenderFollows, Session, at_start}
 use Rattle.sctp_delivery.proofs.Delivered.{found-sent, next_tsn}
-use Rattle.sctp_delivery.proofs.UnwrappedArrived.{IsPiece, Rising, missing, missing-of}
+use Rattle.sctp_delivery.proofs.UnwrappedArrived.{Rising, between, missing}
 use Rattle.sctp_reassembly.specs.reassembly_queue.Skips.{misses}
 use Rattle.sctp_serial.specs.DataChunks.{has_tsn}
 use Rattle.std.proofs.lemmas.Bool.{cases_lt}
@@ -306,38 +306,54 @@ module _ (st first : ℕ) where
           inner = λ h b. sym (e.inner b);
         }
 
-    -- what a set misses is of its message
-    abbrev Piece : ℕ → ChunkPayloadData → Type 0
-    Piece = IsPiece st first n few sent i.long i.holds.held.stands.queued.joined
+    -- the place is one of the message with this index
+    abbrev IsIn : ℕ → ℕ → Type 0
+    IsIn j z = (at sent z ≡ true) × (to sent z ≡ j + 1)
 
-    piece-of : (j : ℕ) (c : ChunkPayloadData) → IsOf (base first) st n (to sent) (at sent) (Was sent) j c → Piece j c
-    piece-of j c o =
+    all-in : (j k l m : ℕ) → IsIn j k → IsIn j l → k ≤ m → m ≤ l → IsIn j m
+    all-in j k l m a b le most =
+        let up = to-up st k m sent le in
+        let down = to-up st m l sent most in
+        let x = a.1 in
+        let y = b.1 in
+        (between st sent i.holds.held.stands.queued.joined k l m a.0 b.0 le most (x ∙ sym y), omega (arith, up, down, x, y))
+
+    rising-of : (j low : ℕ) (cs : List ChunkPayloadData) → Rises (base first) st n (to sent) (at sent) (Was sent) j low cs
+        → Rising (base first) n few (IsIn j) (all-in j) low cs
+    rising-of j low [] r = tt
+    rising-of j low (c ∷ cs) r =
+        let o = r.0 in
+        let le = r.1 in
         let e = entry-of c o.made in
         let w = e.within in
         let v = o.within in
         let long = i.long in
-        let same = same-place (base first) (e.before + 1) (o.before + 1) (omega (arith, w, long, few)) (omega (arith, v, few)) (sym e.is ∙ o.is) in
-        record { entry = e; ordered = o.on; begun = ap (λ k. begun_to st k sent) same ∙ o.begun }
-
-    rising-of : (j low : ℕ) (cs : List ChunkPayloadData) → Rises (base first) st n (to sent) (at sent) (Was sent) j low cs
-        → Every (Piece j) cs × Rising (base first) n few low cs
-    rising-of j low [] r = (tt, tt)
-    rising-of j low (c ∷ cs) r =
-        let le = r.1 in
-        let ih = rising-of j (r.0.before + 1) cs r.2 in (
-          (piece-of j c r.0, ih.0),
-          (record { place = r.0.before + 1; past = omega (arith, le); within = r.0.within; is = r.0.is }, ih.1),
+        let same : e.before + 1 ≡ o.before + 1 =
+        same-place (base first) (e.before + 1) (o.before + 1) (omega (arith, w, long, few)) (omega (arith, v, few)) (sym e.is ∙ o.is) in
+        let back : e.before ≡ o.before + 1 - 1 = omega (arith, same) in
+        let begun = ap (to sent) same ∙ o.begun in (
+          record {
+            place = o.before + 1;
+            past = omega (arith, le);
+            within = o.within;
+            is = o.is;
+            of = (ap (at sent) (sym same) ∙ e.on ∙ o.on, o.begun);
+            next = λ open' most.
+                let x = e.next open' (omega (arith, same, most, long)) in
+                (ap (λ k. at sent (k + 1)) (sym same) ∙ x.0 ∙ o.on, ap (λ k. to sent (k + 1)) (sym same) ∙ x.1 ∙ begun);
+            prior = λ open'.
+                let x = e.prior open' in
+                (ap (at sent) (sym back) ∙ x.1 ∙ o.on, ap (to sent) (sym back) ∙ sym (e.inner open') ∙ begun);
+          },
+          rising-of j (o.before + 1) cs r.2,
         )
 
     pub missed : (m j : ℕ) (cs : List ChunkPayloadData) → m ≤ n → Fits (base first) st n (to sent) (at sent) (Was sent) j cs
         → misses (tsn (base first) m) cs ≡ true
         → (z : ℕ) × (z ≤ m) × (at sent z ≡ true) × (to sent z ≡ j + 1) × (list_any (has_tsn (tsn (base first) z)) cs ≡ false)
     missed m j cs le r e =
-        let x = rising-of j 0 cs r in
-        let g = missing (base first) n few (Piece j) m le cs x.0 x.1 e in
-        let upto = g.upto in
-        let of = missing-of st first n few sent i.long i.holds.held.stands.queued.joined j g.place (omega (arith, upto, le)) g.beside in
-        (g.place, g.upto, of.0, of.1, g.absent)
+        let g = missing (base first) n few (IsIn j) (all-in j) m le cs (rising-of j 0 cs r) e in
+        (g.place, g.upto, g.of.0, g.of.1, g.absent)
 
     pub refused : (f : _) (r : Reception) → skip_refusal f r ≡ None → (names_too_far f r ≡ false) × (names_closed f r ≡ false)
     refused f r e = by (names_closed f r) refl (names_too_far f r) refl e
