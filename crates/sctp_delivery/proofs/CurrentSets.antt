@@ -46,6 +46,70 @@ module _ (p n : ℕ) (B : ℕ → ℕ) where
     pub whole : Every (IsWholeAt index) q.ordered
     pub some : Every IsSome q.ordered
 
+  -- with fewer to come
+  abbrev pub current-less : (low top : ℕ) (L M : ℕ → Type 0) (q : Reassembly) → ((y : ℕ) → y ≤ n + 1 → M y → L y) → IsCurrent low top L q
+      → IsCurrent low top M q
+  current-less low top L M q less c = record {
+    index = c.index;
+    next = c.next;
+    from = c.from;
+    upto = c.upto;
+    late = λ y le m. c.late y le (less y le m);
+    whole = c.whole;
+    some = c.some;
+  }
+
+  -- with the same ordered messages
+  pub current-same : (low top : ℕ) (L : ℕ → Type 0) (q r : Reassembly) → r.next_ssn ≡ q.next_ssn → r.ordered ≡ q.ordered → IsCurrent low top L q
+      → IsCurrent low top L r
+  current-same low top L q r e f c = record {
+    index = c.index;
+    next = e ∙ c.next;
+    from = c.from;
+    upto = c.upto;
+    late = c.late;
+    whole = subst (Every (IsWholeAt c.index)) (sym f) c.whole;
+    some = subst (Every IsSome) (sym f) c.some;
+  }
+
+-- a fragment of the index or a later one is put in
+pub put-in : (x : ChunkPayloadData) (index i : ℕ) (q : Reassembly) → q.next_ssn ≡ index % 2 ^ 16 → x.stream_sequence_number ≡ i % 2 ^ 16 → index ≤ i
+    → i < index + 2 ^ 15 → held_after_ordered_push x q ≡ record q { ordered = sets_with x q.ordered }
+put-in x index i q next is le near =
+    let order : nat_lt i index ≡ false = grind (arith, nat_tests, le) in
+    let off : comes_before16 x.stream_sequence_number q.next_ssn ≡ false =
+    ap (λ m. comes_before16 m q.next_ssn) is ∙ ap (comes_before16 (i % 2 ^ 16)) next
+    ∙ comes_before16-index i index (omega (arith, near)) (omega (arith, le)) ∙ order in
+    ap (λ b. if b then q else record q { ordered = sets_with x q.ordered }) off
+
+filter-none : (r : ChunkSet → Bool) (ss : List ChunkSet) → Every (λ s. r s ≡ false) ss → (filter r ss ≡ []) × (filter (λ s. not (r s)) ss ≡ ss)
+filter-none r [] e = (refl, refl)
+filter-none r (s ∷ ss) e =
+    let ih = filter-none r ss e.1 in (
+      ap (λ b. if b then s ∷ filter r ss else filter r ss) e.0 ∙ ih.0,
+      ap (λ b. if not b then s ∷ filter (λ t. not (r t)) ss else filter (λ t. not (r t)) ss) e.0 ∙ ap (λ ts. s ∷ ts) ih.1,
+    )
+
+pub same-uncut : (t : ℕ) (q : Reassembly) → Every (λ s. cannot_complete t s ≡ false) q.ordered → held_after_incomplete_skip t q ≡ q
+same-uncut t q e =
+    let f = filter-none (cannot_complete t) q.ordered e in
+    ap (λ ss. record q { ordered = filter (λ s. not (cannot_complete t s)) q.ordered; next_ssn = ssn_past_sets q.next_ssn ss }) f.0
+    ∙ ap (λ ss. record q { ordered = ss; next_ssn = q.next_ssn }) f.1
+
+module _ (p n : ℕ) (B : ℕ → ℕ) (Fits : ℕ → List ChunkPayloadData → Type 0) (Came : ℕ → Type 0) where
+  -- the index is the one that is due
+  pub due-index : (low top : ℕ) (L : ℕ → Type 0) (q : Reassembly) (c : IsCurrent p n B low top L q) (k reach : ℕ) (d : IsDue p n B Fits Came k reach q)
+      → top ≤ low + 2 ^ 14 → low ≤ reach → reach ≤ top → c.index ≡ d.index
+  due-index low top L q c k reach d near from upto =
+      let a = c.next in
+      let b = d.next in
+      let e = c.from in
+      let f = c.upto in
+      let g = d.from in
+      let h = d.within in
+      let i = d.far in
+      omega (arith, a, b, e, f, g, h, i, near, from, upto)
+
 -- the places, the indexes and the chunks are those of UnwrappedReads
 module _ (p n : ℕ) (B : ℕ → ℕ) (Fits : ℕ → List ChunkPayloadData → Type 0) (Came : ℕ → Type 0)
     (at-in : (i y : ℕ) (cs : List ChunkPayloadData) → y ≤ n → Fits i cs → list_any (has_tsn (tsn p y)) cs ≡ true → B y ≡ i + 1)
@@ -63,49 +127,11 @@ module _ (p n : ℕ) (B : ℕ → ℕ) (Fits : ℕ → List ChunkPayloadData →
   abbrev IsNow : ℕ → ℕ → (ℕ → Type 0) → Reassembly → Type 0
   IsNow = IsCurrent p n B
 
-  -- it is the one that is due
-  pub due-index : (low top : ℕ) (L : ℕ → Type 0) (q : Reassembly) (c : IsNow low top L q) (k reach : ℕ) (d : IsDue p n B Fits Came k reach q)
-      → top ≤ low + 2 ^ 14 → low ≤ reach → reach ≤ top → c.index ≡ d.index
-  due-index low top L q c k reach d near from upto =
-      let a = c.next in
-      let b = d.next in
-      let e = c.from in
-      let f = c.upto in
-      let g = d.from in
-      let h = d.within in
-      let i = d.far in
-      omega (arith, a, b, e, f, g, h, i, near, from, upto)
-
   pub whole-below : (index k : ℕ) (s : ChunkSet) → Fits k s.chunks → IsSome s → IsWhole index s → k < index → is_complete s.chunks ≡ true
   whole-below index k s h some w lt =
       let y = place-in k s.chunks h some in
       let b = at-in k y.0 s.chunks y.1 h y.2 in
       w y.0 y.1 y.2 (omega (arith, b, lt))
-
-  -- with fewer to come
-  abbrev pub current-less : (low top : ℕ) (L M : ℕ → Type 0) (q : Reassembly) → ((y : ℕ) → y ≤ n + 1 → M y → L y) → IsNow low top L q → IsNow low top M q
-  current-less low top L M q less c = record {
-    index = c.index;
-    next = c.next;
-    from = c.from;
-    upto = c.upto;
-    late = λ y le m. c.late y le (less y le m);
-    whole = c.whole;
-    some = c.some;
-  }
-
-  -- with the same ordered messages
-  pub current-same : (low top : ℕ) (L : ℕ → Type 0) (q r : Reassembly) → r.next_ssn ≡ q.next_ssn → r.ordered ≡ q.ordered → IsNow low top L q
-      → IsNow low top L r
-  current-same low top L q r e f c = record {
-    index = c.index;
-    next = e ∙ c.next;
-    from = c.from;
-    upto = c.upto;
-    late = c.late;
-    whole = subst (Every (IsWhole c.index)) (sym f) c.whole;
-    some = subst (Every IsSome) (sym f) c.some;
-  }
 
   -- ## A fragment comes
 
@@ -170,16 +196,6 @@ module _ (p n : ℕ) (B : ℕ → ℕ) (Fits : ℕ → List ChunkPayloadData →
       ],
       whole-with index y (r.0 + 1) top ss le is lt r.2 e.1,
     )
-
-    -- one of the index or a later one is put in
-    pub put-in : (index i : ℕ) (q : Reassembly) → q.next_ssn ≡ index % 2 ^ 16 → x.stream_sequence_number ≡ i % 2 ^ 16 → index ≤ i → i < index + 2 ^ 15
-        → held_after_ordered_push x q ≡ record q { ordered = sets_with x q.ordered }
-    put-in index i q next is le near =
-        let order : nat_lt i index ≡ false = grind (arith, nat_tests, le) in
-        let off : comes_before16 x.stream_sequence_number q.next_ssn ≡ false =
-        ap (λ m. comes_before16 m q.next_ssn) is ∙ ap (comes_before16 (i % 2 ^ 16)) next
-        ∙ comes_before16-index i index (omega (arith, near)) (omega (arith, le)) ∙ order in
-        ap (λ b. if b then q else record q { ordered = sets_with x q.ordered }) off
 
     pub current-put : (low top : ℕ) (L : ℕ → Type 0) (q : Reassembly) (c : IsNow low top L q) (y l t : ℕ) → y ≤ n → x.tsn ≡ tsn p y
         → c.index < B y → AreSets l t (sets_with x q.ordered) → IsNow low top L (record q { ordered = sets_with x q.ordered })
@@ -251,14 +267,6 @@ module _ (p n : ℕ) (B : ℕ → ℕ) (Fits : ℕ → List ChunkPayloadData →
 
   -- ## A FORWARD-TSN comes
 
-  filter-none : (r : ChunkSet → Bool) (ss : List ChunkSet) → Every (λ s. r s ≡ false) ss → (filter r ss ≡ []) × (filter (λ s. not (r s)) ss ≡ ss)
-  filter-none r [] e = (refl, refl)
-  filter-none r (s ∷ ss) e =
-      let ih = filter-none r ss e.1 in (
-        ap (λ b. if b then s ∷ filter r ss else filter r ss) e.0 ∙ ih.0,
-        ap (λ b. if not b then s ∷ filter (λ t. not (r t)) ss else filter (λ t. not (r t)) ss) e.0 ∙ ap (λ ts. s ∷ ts) ih.1,
-      )
-
   -- what misses a TSN lies before the index, and so is none of what is held
   pub none-cut : (t index low top : ℕ) (ss : List ChunkSet) (r : AreSets low top ss)
       → reads.Gone p n B Fits Came (λ s. not (cannot_complete t s)) index low top ss r → Every (IsWhole index) ss → Every IsSome ss
@@ -272,12 +280,6 @@ module _ (p n : ℕ) (B : ℕ → ℕ) (Fits : ℕ → List ChunkPayloadData →
           let lt = g.0 (ap not e) in
           let whole = whole-below index r.0 s r.1.1 h.0 w.0 lt in
           not_both (sym (ap not whole) ∙ (both (not (is_complete s.chunks)) _ e).0)
-
-  pub same-uncut : (t : ℕ) (q : Reassembly) → Every (λ s. cannot_complete t s ≡ false) q.ordered → held_after_incomplete_skip t q ≡ q
-  same-uncut t q e =
-      let f = filter-none (cannot_complete t) q.ordered e in
-      ap (λ ss. record q { ordered = filter (λ s. not (cannot_complete t s)) q.ordered; next_ssn = ssn_past_sets q.next_ssn ss }) f.0
-      ∙ ap (λ ss. record q { ordered = ss; next_ssn = q.next_ssn }) f.1
 
   module _ (k reach j last : ℕ) (q : Reassembly) (d : IsDue p n B Fits Came k reach q) (is : last ≡ j % 2 ^ 16) (back : reach ≤ j + 1 + 2 ^ 14)
       (ahead : j + 1 ≤ reach + 2 ^ 14) (answered : is_name_too_far last q ≡ false) where

@@ -223,7 +223,7 @@ module _ (first n : ℕ) (few : n < 2 ^ 31) (old new : Session) (ns : List Numbe
       same-index = calls.index-due first n few old new ns sent i gone st Old l e h d
 
       abbrev later : Now l.queue.held
-      later = current.current-less p n B Fits Came at place (B a) (B n) Old New l.queue.held less h.current
+      later = current.current-less p n B (B a) (B n) Old New l.queue.held less h.current
 
       names : ssns_of l.queue.si g.streams ≡ map (λ x. x.sequence) (filter (is_pair_of st) g.streams)
       names = named-by p st n B E M few up a g m old.receiving answered least pass.is l e
@@ -357,12 +357,12 @@ module _ (first n : ℕ) (few : n < 2 ^ 31) (old new : Session) (ns : List Numbe
       after-all = after_incomplete_skip t (after_unordered_skip t after-names)
 
       uncut-same : after-all.held ≡ held_after_unordered_skip t after-names.held
-      uncut-same = current.same-uncut p n B Fits Came at place t (held_after_unordered_skip t after-names.held) skipped.uncut
+      uncut-same = current.same-uncut t (held_after_unordered_skip t after-names.held) skipped.uncut
 
       well-after : IsHeldWell first sent st n a New after-all
       well-after = record {
         current =
-            subst Now (sym uncut-same) (current.current-same p n B Fits Came at place (B a) (B n) New after-names.held
+            subst Now (sym uncut-same) (current.current-same p n B (B a) (B n) New after-names.held
             (held_after_unordered_skip t after-names.held) refl refl skipped.well.current);
         tidy = subst (IsTidy p n) (sym uncut-same) (left-tidy p n few t after-names.held skipped.well.tidy);
         orderly =

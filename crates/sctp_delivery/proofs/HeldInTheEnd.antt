@@ -1,21 +1,20 @@
 -- Where nothing waits, nothing is in flight and nothing is to be read, a receiver holds no fragment of a message that is not gone.
-use Rattle.std.proofs.Common.{◌≡◌, ℕ, suc, ◌+◌, ◌%◌, ◌^◌, ◌<◌, ◌≤◌, Bool, true, false, List, [], ◌∷◌, length, Option, Some, None, inl, inr, refl, ap, sym}
+use Rattle.std.proofs.Common.{◌≡◌, ℕ, suc, ◌+◌, ◌^◌, ◌<◌, ◌≤◌, Bool, true, false, List, [], ◌∷◌, length, Option, Some, None, inl, inr, refl, ap, sym}
 use Rattle.std.proofs.Common.{subst, ◌∙◌, arith}
-use Rattle.std.specs.Prelude.{All, ◌⊎◌, ◌==◌, if◌then◌else◌, nat_le}
+use Rattle.std.specs.Prelude.{All, ◌⊎◌, ◌==◌, nat_le}
 use Rattle.std.specs.List.{list_all, list_any, sum_by}
 use Rattle.std.proofs.lemmas.Bool.{cases_lt}
 use Rattle.std.proofs.lemmas.Bool.Decides.{nat_tests}
 use Rattle.std.proofs.lemmas.Option.{none-some}
-use Rattle.sctp_util.specs.Serial.{at_or_before, at_or_before16}
+use Rattle.sctp_util.specs.Serial.{at_or_before}
 use Rattle.sctp_util.proofs.Cases.{or-left, or-split, same-is}
-use Rattle.sctp_util.proofs.More.{and, not_both}
+use Rattle.sctp_util.proofs.More.{not_both}
 use Rattle.sctp_util.proofs.Round.{tsn}
-use Rattle.sctp_util.proofs.Wraps.{at_or_before16-index}
 use Rattle.sctp_data.specs.declared.chunk.chunk_payload_data.ChunkPayloadData.{ChunkPayloadData}
 use Rattle.sctp_data.specs.ChunkSet.{ChunkSet}
 use Rattle.sctp_data.specs.PayloadData.{Data, data_of}
 use Rattle.sctp_reassembly.specs.reassembly_queue.Fragments.{is_complete}
-use Rattle.sctp_reassembly.specs.reassembly_queue.ReassemblyQueue.{Reassembly, front_readable, is_readable, message_among, message_read}
+use Rattle.sctp_reassembly.specs.reassembly_queue.ReassemblyQueue.{Reassembly, message_among, message_read}
 use Rattle.sctp_receiver.specs.declared.receiver.inbound_streams.InboundStream.{InboundStream}
 use Rattle.sctp_receiver.specs.declared.receiver.limits.Limits.{Limits}
 use Rattle.sctp_receiver.specs.Receiver.{Reception, stream_of}
@@ -35,7 +34,7 @@ use Rattle.sctp_delivery.proofs.GoneMessages.{IsGone}
 use Rattle.sctp_delivery.proofs.KeptCalls as calls
 use Rattle.sctp_delivery.proofs.KeptOrGone.{HeldWell, IsHeldWell, IsLate, at-in, place-in}
 use Rattle.sctp_delivery.proofs.KeptSessions.{IsKeptIn}
-use Rattle.sctp_delivery.proofs.NotRefused.{begun-low, lowest-next}
+use Rattle.sctp_delivery.proofs.NotRefused.{begun-low, front-open, lowest-next}
 use Rattle.sctp_delivery.proofs.MessagePlaces.{IsEntryAt, same-entry}
 use Rattle.sctp_delivery.proofs.MessageSets.{misses-one, place-tsn}
 use Rattle.sctp_delivery.proofs.OrderedEntries.{AreJoined, IsOpen}
@@ -146,9 +145,6 @@ module _ (first size max most : ℕ) (limits : Option Limits) (cs : List Call) (
           by [] e m = refl
           by (u ∷ us) e m = absurd (none-some u (sym m))
 
-      none-front : front_readable q.next_ssn q.ordered ≡ None
-      none-front = ap (λ us. message_among us q) (sym none-unordered) ∙ none
-
       -- ## Ordered sets
 
       module _ (F : ChunkSet) (rest : List ChunkSet) (is : q.ordered ≡ F ∷ rest) where
@@ -157,24 +153,6 @@ module _ (first size max most : ℕ) (limits : Option Limits) (cs : List Call) (
 
         some : IsSome F
         some = (subst (Every IsSome) is well.current.some).0
-
-        -- its number is at or before the next one where its index is
-        order : at_or_before16 F.ssn q.next_ssn ≡ nat_le sets.0 d.index
-        order =
-            let x = sets.1.0.0 in
-            let y = sets.1.0.1 in
-            let from = d.from in
-            let near = d.near in
-            let far = d.far in
-            ap (λ m. at_or_before16 m q.next_ssn) sets.1.0.2 ∙ ap (at_or_before16 (sets.0 % 2 ^ 16)) d.next
-            ∙ at_or_before16-index sets.0 d.index (omega (arith, y, far, from)) (omega (arith, x, near))
-
-        not-due : is_complete F.chunks ≡ true → sets.0 ≤ d.index → ⊥
-        not-due c le =
-            let b : nat_le sets.0 d.index ≡ true = grind (arith, nat_tests, le) in
-            let readable : is_readable q.next_ssn F ≡ true = and (is_complete F.chunks) (at_or_before16 F.ssn q.next_ssn) c (order ∙ b) in
-            let e = ap (front_readable q.next_ssn) (sym is) ∙ none-front in
-            none-some F (sym (ap (λ x. if x then Some F else None) (sym readable) ∙ e))
 
         place : (y : ℕ) × (y ≤ n) × (list_any (has_tsn (tsn p y)) F.chunks ≡ true)
         place = place-in ns first sent line joined n long few st sets.0 F.chunks sets.1.1 some
@@ -214,7 +192,7 @@ module _ (first size max most : ℕ) (limits : Option Limits) (cs : List Call) (
             some-given (c ∷ cs) h lt = let w = h.0.within in omega (arith, w)
 
         -- it is of the next message, and no later one was begun
-        same : sets.0 ≡ d.index
+        same : (sets.0 ≡ d.index) × (sets.0 ≡ d.low)
         same =
             let low = begun-low st first n few s ns sent k.unwrapped.spread answered q d (IsLate first sent st r.cumulative_tsn r.beyond) well.current none in
             let next = lowest-next st first n few s ns sent k.unwrapped.spread answered q d (IsLate first sent st r.cumulative_tsn r.beyond) well.current
@@ -222,14 +200,15 @@ module _ (first size max most : ℕ) (limits : Option Limits) (cs : List Call) (
             let u = to-up st n answered.arrived.place sent upto in
             let l = least in
             let x = sets.1.0.0 in
-            omega (arith, low, next, u, l, x)
+            (omega (arith, low, next, u, l, x), omega (arith, low, u, l, x))
 
         no-front : ⊥
         no-front = by (is_complete F.chunks) refl
           where
             by : (b : Bool) → is_complete F.chunks ≡ b → ⊥
-            by true c = not-due c (omega (arith, same))
-            by false c = not-open c (omega (arith, same))
+            by true c = front-open st first n few s ns sent k.unwrapped.spread answered q d (IsLate first sent st r.cumulative_tsn r.beyond) well.current none
+                F rest is sets same.1 c
+            by false c = let e = same.0 in not-open c (omega (arith, e))
 
       none-ordered : q.ordered ≡ []
       none-ordered = by q.ordered refl

@@ -1,5 +1,5 @@
 -- What was taken on a stream is held or was read, but for fragments of messages that are gone: each call of the receiver but a FORWARD-TSN.
-use Rattle.std.proofs.Common.{◌≡◌, ℕ, ◌+◌, ◌%◌, ◌^◌, ◌<◌, ◌≤◌, Bool, true, false, not, List, [], ◌∷◌, length, Option, Some, None, inl, inr, refl, ap, sym}
+use Rattle.std.proofs.Common.{◌≡◌, ℕ, ◌+◌, ◌%◌, ◌^◌, ◌<◌, ◌≤◌, Bool, true, false, not, List, [], ◌∷◌, Option, Some, None, inl, inr, refl, ap, sym}
 use Rattle.std.proofs.Common.{subst, ◌∙◌, arith}
 use Rattle.std.specs.List.{list_any, sum_by}
 use Rattle.std.proofs.lemmas.Bool.{cases_lt, eq-eqb}
@@ -28,7 +28,7 @@ use Rattle.sctp_delivery.specs.Session.{ReceiverFollows, Session}
 use Rattle.sctp_delivery.proofs.CurrentSets.{current-less, due-index}
 use Rattle.sctp_delivery.proofs.Every.{one-of}
 use Rattle.sctp_delivery.proofs.Kept.{not-too-far, sets-fresh}
-use Rattle.sctp_delivery.proofs.KeptOrGone.{IsComing, HeldWell, IsHeldWell, IsKeptBut, IsLate, at-in, place-in, pushed-well, read-well}
+use Rattle.sctp_delivery.proofs.KeptOrGone.{IsComing, HeldWell, IsHeldWell, IsKeptBut, IsLate, pushed-well, read-well}
 use Rattle.sctp_delivery.proofs.MessagePlaces.{IsWanted, wanted-some, within}
 use Rattle.sctp_delivery.proofs.MessageSets.{entry-at}
 use Rattle.sctp_delivery.proofs.OrderedEntries.{AreJoined}
@@ -92,12 +92,6 @@ module _ (first n : ℕ) (few : n < 2 ^ 31) (old new : Session) (ns : List Numbe
   up : (j k : ℕ) → j ≤ k → B j ≤ B k
   up j k le = to-up st j k sent le
 
-  at-in' : (j y : ℕ) (cs : List ChunkPayloadData) → y ≤ n → Fits j cs → list_any (has_tsn (tsn p y)) cs ≡ true → B y ≡ j + 1
-  at-in' = at-in ns first sent line joined n i.spread.long few st
-
-  place-in' : (j : ℕ) (cs : List ChunkPayloadData) → Fits j cs → 0 < length cs → (y : ℕ) × (y ≤ n) × (list_any (has_tsn (tsn p y)) cs ≡ true)
-  place-in' = place-in ns first sent line joined n i.spread.long few st
-
   abbrev pub Answered : Session → Type 0
   Answered s = holds.AreDue p st n B E M a s.receiving
 
@@ -138,7 +132,7 @@ module _ (first n : ℕ) (few : n < 2 ^ 31) (old new : Session) (ns : List Numbe
   pub well-less : (L M : ℕ → Type 0) → ((y : ℕ) → y ≤ n + 1 → M y → L y) → (o : Option InboundStream) → Well L o → Well M o
   well-less L M less None h = tt
   well-less L M less (Some l) h = record {
-    current = current-less p n B Fits Came at-in' place-in' (B a) (B n) L M l.queue.held less h.current;
+    current = current-less p n B (B a) (B n) L M l.queue.held less h.current;
     tidy = h.tidy;
     orderly = h.orderly;
   }
@@ -223,7 +217,7 @@ module _ (first n : ℕ) (few : n < 2 ^ 31) (old new : Session) (ns : List Numbe
   index-due L l e h d =
       let c = answered.arrived.covered in
       let u = up a answered.arrived.place answered.arrived.least_is in
-      due-index p n B Fits Came at-in' place-in' (B a) (B n) L l.queue.held h.current answered.k answered.reach d near (omega (arith, c, u)) answered.most
+      due-index p n B Fits Came (B a) (B n) L l.queue.held h.current answered.k answered.reach d near (omega (arith, c, u)) answered.most
 
   abbrev Due : ReassemblyState → Type 0
   Due q = IsDue p n B Fits Came answered.k answered.reach q.held

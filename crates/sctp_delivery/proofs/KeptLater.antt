@@ -16,7 +16,7 @@ use Rattle.sctp_receiver.specs.ReceiverRuns.{Stand}
 use Rattle.sctp_serial.specs.DataChunks.{has_tsn}
 use Rattle.sctp_delivery.specs.Sacks.{passes}
 use Rattle.sctp_delivery.specs.SenderCalls.{Made}
-use Rattle.sctp_delivery.proofs.CurrentSets.{IsWholeAt}
+use Rattle.sctp_delivery.proofs.CurrentSets.{IsWholeAt, due-index}
 use Rattle.sctp_delivery.proofs.Every.{Every, every-of}
 use Rattle.sctp_delivery.proofs.FollowedSets.{tidy-more}
 use Rattle.sctp_delivery.proofs.GoneMessages.{IsGone}
@@ -237,17 +237,10 @@ module _ (ns : List Numbered) (first : ℕ) (sent more : List Entry) (line : IsL
     where
       same : h.current.index ≡ d.index
       same =
-          let x = h.current.next in
-          let y = d.next in
-          let e = h.current.from in
-          let f = h.current.upto in
-          let g = d.from in
-          let i = d.within in
-          let j = d.far in
           let c = answered.arrived.covered in
           let u = to-up st a answered.arrived.place sent answered.arrived.least_is in
-          let v = answered.most in
-          omega (arith, x, y, e, f, g, i, j, near, c, u, v)
+          due-index p n (λ k. begun_to st k sent) Fits Came (begun_to st a sent) (begun_to st n sent) Old l.queue.held h.current answered.k answered.reach d
+          near (omega (arith, c, u)) answered.most
 
   gone-more : (gone now : List ℕ) → ((k : ℕ) → is_gone gone k ≡ true → is_gone now k ≡ true) → (c : ChunkPayloadData) → IsGone gone sent c
       → IsGone now more c

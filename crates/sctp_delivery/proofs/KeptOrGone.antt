@@ -145,7 +145,7 @@ module _ (ws : List Numbered) (first : ℕ) (sent : List Entry) (line : IsLine w
           held : new.held ≡ record old.held { ordered = sets_with x old.held.ordered }
           held =
               ap (λ (q : ReassemblyState). q.held) (subst (λ b. PushesAs b x answered old new) u pushes).0
-              ∙ put-in p n B Pieces C at-in place-in x h.current.index e.of old.held h.current.next e.number
+              ∙ put-in x h.current.index e.of old.held h.current.next e.number
               (let b = e.begun in omega (arith, after, b)) e.near
 
       put-unordered : x.unordered ≡ true → Now new.held × Weighs
@@ -156,10 +156,10 @@ module _ (ws : List Numbered) (first : ℕ) (sent : List Entry) (line : IsLine w
 
           same : (k : Bool) → BecomesComplete (insert_before chunk_before x old.held.unassembled) old.held new.held k → Now new.held
           same true t =
-              current-same p n B Pieces C at-in place-in (B a) (B n) L old.held new.held
+              current-same p n B (B a) (B n) L old.held new.held
               (ap (λ (q : Reassembly). q.next_ssn) t.moved) (ap (λ (q : Reassembly). q.ordered) t.moved) h.current
           same false t =
-              current-same p n B Pieces C at-in place-in (B a) (B n) L old.held new.held
+              current-same p n B (B a) (B n) L old.held new.held
               (ap (λ (q : Reassembly). q.next_ssn) t.1) (ap (λ (q : Reassembly). q.ordered) t.1) h.current
 
           weighs : (w : ChunkPayloadData → ℕ) → weight w new.held ≡ w x + weight w old.held
@@ -211,5 +211,5 @@ module _ (ws : List Numbered) (first : ℕ) (sent : List Entry) (line : IsLine w
               front-current p n B Pieces C at-in place-in (B a) (B n) L q.held k reach d
               (λ i y cs fits whole l count. has-all ws first sent line joined n long few st i cs fits whole y (wanted y l) count) came most h.current same
           by (u ∷ us) e =
-              current-same p n B Pieces C at-in place-in (B a) (B n) L q.held
+              current-same p n B (B a) (B n) L q.held
               (record q.held { unordered = us }) refl refl h.current

@@ -148,7 +148,7 @@ module _ (st first n : ℕ) (few : n < 2 ^ 31) (s : Session) (ns : List Numbered
           let near = sessions.near st first n s ns sent i few in
           let covered = d.arrived.covered in
           let least = up i.step.numbered.acked d.arrived.place d.arrived.least_is in
-          due-index p n B (Fits p st n B E M) Prior (at-in p st n B E M few up) place-in (B i.step.numbered.acked) (B n) L held c d.k d.reach due near
+          due-index p n B (Fits p st n B E M) Prior (B i.step.numbered.acked) (B n) L held c d.k d.reach due near
           (omega (arith, covered, least)) d.most
 
       pub front-none : front_readable held.next_ssn held.ordered ≡ None
@@ -162,6 +162,18 @@ module _ (st first n : ℕ) (few : n < 2 ^ 31) (s : Session) (ns : List Numbered
       not-readable x xs is whole at =
           let e : is_readable held.next_ssn x ≡ true = and (is_complete x.chunks) (at_or_before16 x.ssn held.next_ssn) whole at in
           none-some x (sym (sym (ap (front_readable held.next_ssn) is ∙ ap (λ b. if b then Some x else None) e) ∙ front-none))
+
+      -- a set of the lowest message is not complete
+      pub front-open : (x : ChunkSet) (xs : List ChunkSet) → held.ordered ≡ x ∷ xs → (a : Sets due.low (x ∷ xs)) → a.0 ≡ due.low
+          → is_complete x.chunks ≡ true → ⊥
+      front-open x xs is a same whole =
+          let le = due.from in
+          let close = due.near in
+          let order : nat_le a.0 due.index ≡ true = grind (arith, nat_tests, same, le) in
+          let at : at_or_before16 x.ssn held.next_ssn ≡ true = ap (λ k. at_or_before16 k held.next_ssn) a.1.0.2
+          ∙ ap (at_or_before16 (a.0 % 2 ^ 16)) due.next
+          ∙ at_or_before16-index a.0 due.index (omega (arith, same, le)) (omega (arith, same, close)) ∙ order in
+          not-readable x xs is whole at
 
       -- the lowest message is the next one
       pub lowest-next : due.low ≡ due.index
@@ -240,23 +252,17 @@ module _ (st first n : ℕ) (few : n < 2 ^ 31) (s : Session) (ns : List Numbered
               let z = begin-place st d.arrived.place due.low sent (omega (arith, lt)) in
               let f = in-front z.0 z.1 z.2 z.3 in
               let a = subst (Sets due.low) f.2 due.sets in
-              let le = due.from in
               let w = d.arrived.within in
               let l = z.1 in
               let b = at-in p st n B E M few up a.0 z.0 f.0.chunks (omega (arith, l, w)) a.1.1 f.3 in
               let begun = z.3 in
               let same : a.0 ≡ due.low = omega (arith, b, begun) in
-              let order : nat_le a.0 due.index ≡ true = grind (arith, nat_tests, same, le) in
-              let close = due.near in
-              let at : at_or_before16 f.0.ssn held.next_ssn ≡ true = ap (λ k. at_or_before16 k held.next_ssn) a.1.0.2
-              ∙ ap (at_or_before16 (a.0 % 2 ^ 16)) due.next
-              ∙ at_or_before16-index a.0 due.index (omega (arith, same, le)) (omega (arith, same, close)) ∙ order in
-              by f.0 f.1 f.2 a same at (is_complete f.0.chunks) refl
+              by f.0 f.1 f.2 a same (is_complete f.0.chunks) refl
             where
               by : (x : ChunkSet) (xs : List ChunkSet) → held.ordered ≡ x ∷ xs → (a : Sets due.low (x ∷ xs)) → a.0 ≡ due.low
-                  → at_or_before16 x.ssn held.next_ssn ≡ true → (b : Bool) → is_complete x.chunks ≡ b → ⊥
-              by x xs is a same at true whole = not-readable x xs is whole at
-              by x xs is a same at false open' =
+                  → (b : Bool) → is_complete x.chunks ≡ b → ⊥
+              by x xs is a same true whole = front-open x xs is a same whole
+              by x xs is a same false open' =
                   let w = d.arrived.within in
                   let before' : (c : ChunkPayloadData) (o : Of a.0 c) → o.before + 2 ≤ d.arrived.place =
                   λ c o. inside d.arrived.place a.0 c o (omega (arith, same, lt)) in
