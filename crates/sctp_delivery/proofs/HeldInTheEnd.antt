@@ -135,9 +135,6 @@ module _ (first size max most : ℕ) (limits : Option Limits) (cs : List Call) (
       d : IsDue p n (λ y. begun_to st y sent) Fits Came answered.k answered.reach q
       d = calls.due-on first n few s s ns sent k.unwrapped gone st l found
 
-      index : well.current.index ≡ d.index
-      index = calls.index-due first n few s s ns sent k.unwrapped gone st (IsLate first sent st r.cumulative_tsn r.beyond) l found well d
-
       none-unordered : q.unordered ≡ []
       none-unordered = by q.unordered refl none
         where

@@ -1,4 +1,5 @@
--- The sets of ordered messages, where no FORWARD-TSN comes: none stands before the next number, so that no fragment is dropped.
+-- Sets of ordered messages by their indexes, as a fragment comes and as the front message is read. Where no FORWARD-TSN comes none stands before
+-- the next number, so that no fragment is dropped.
 use Rattle.std.proofs.Common.{◌≡◌, ℕ, ◌+◌, ◌%◌, ◌^◌, ◌<◌, ◌≤◌, Bool, true, false, List, [], ◌∷◌, Option, Some, None, inl, inr, refl, ap, sym, subst, ◌∙◌, arith}
 use Rattle.std.specs.Prelude.{⊤, ◌==◌, ◌||◌, if◌then◌else◌, nat_lt, nat_le}
 use Rattle.std.specs.List.{filter, list_any, sum_by}

@@ -102,7 +102,7 @@ known-each first sent [] k = tt
 known-each first sent (c ∷ cs) k = (k.0, known-each first sent cs k.1)
 
 module _ (first n : ℕ) (few : n < 2 ^ 31) (gone : List ℕ) (s : Session) (h : HasKept first n gone s)
-    (was-open : (st : ℕ) (l : InboundStream) → stream_of st s.receiving.receiver ≡ Some l
+    (unassembled-sent : (st : ℕ) (l : InboundStream) → stream_of st s.receiving.receiver ≡ Some l
     → Every (λ c. WasSent h.sent (data_of c)) l.queue.held.unassembled)
     (within : AreWithin s.sending.sender.max_message_size s.written)
     (sized : Every (λ (l : InboundStream). l.queue.max_message_size ≡ s.receiving.receiver.max_message_size) s.receiving.receiver.streams)
@@ -309,7 +309,7 @@ module _ (first n : ℕ) (few : n < 2 ^ 31) (gone : List ℕ) (s : Session) (h :
             let long = spread.long in
             let queued = spread.holds.held.stands.queued in
             let all = unassembled-fits first h.numbered sent (omega (arith, long, few)) queued.line queued.joined l.queue.held.unassembled
-            (was-open x.stream_identifier l there) x was in
+            (unassembled-sent x.stream_identifier l there) x was in
             let most = bound x was in
             omega (arith, all, most)
         by false e = ordered-fits x g fresh was e l.queue.held both-of.0 both-of.1.current (absent x g fresh was l there) (unread e)

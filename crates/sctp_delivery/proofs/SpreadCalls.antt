@@ -18,10 +18,9 @@ use Rattle.sctp_sender.specs.Numbers.{begins_ordered, first_ordered, is_too_far,
 use Rattle.sctp_sender.specs.Sender.{Transmission}
 use Rattle.sctp_sender.proofs.Sent.{as-noted, none-noted}
 use Rattle.sctp_delivery.specs.ReceiverCalls.{ReceiverCall}
-use Rattle.sctp_delivery.specs.Sacks.{tsns_given}
 use Rattle.sctp_delivery.specs.SenderCalls as outgoing
 use Rattle.sctp_delivery.specs.SenderCalls.{IsAccepted, SenderCall, made_after, next_chunk, with_chunk}
-use Rattle.sctp_delivery.specs.Session.{Call, ReceiverFollows, RunsTo, SenderFollows, Session, at_start, of_receiver, of_sender}
+use Rattle.sctp_delivery.specs.Session.{ReceiverFollows, SenderFollows, Session, at_start}
 use Rattle.sctp_delivery.proofs.Calls.{numbered_after, sent_by}
 use Rattle.sctp_delivery.proofs.Delivered as delivered
 use Rattle.sctp_delivery.proofs.Delivered.{Holds, next_tsn}
@@ -235,36 +234,3 @@ spread-first tsn size max most limits small some = record {
   near = λ st. omega arith;
   names = λ st. tt;
 }
-
--- the writes and entries of a session
-pub record HasSpread (first n : ℕ) (s : Session) : Type 0 where
-  pub numbered : List Numbered
-  pub sent : List Entry
-  pub spread : IsSpread first n s numbered sent
-
-spread-after : (first n : ℕ) (cs : List Call) (old new : Session) (ns : List Numbered) (sent : List Entry) (r : RunsTo old cs new)
-    → n + tsns_given old cs new r < 2 ^ 31 → IsSpread first n old ns sent → HasSpread first (n + tsns_given old cs new r) new
-spread-after first n [] old new ns sent r few i =
-    subst (λ k. HasSpread first k new) {x = n} {y = n + 0} (omega arith)
-    (subst (HasSpread first n) (sym r) (record { numbered = ns; sent = sent; spread = i }))
-spread-after first n (of_sender call ∷ cs) old new ns sent r few i =
-    let d = distance (next_tsn old) (next_tsn r.0) in
-    let x = sender-spreads first n call old r.0 ns sent i (omega (arith, few)) r.1.0 in
-    let sum : (n + d) + tsns_given r.0 cs new r.1.1 ≡ n + (d + tsns_given r.0 cs new r.1.1) = omega arith in
-    subst (λ k. HasSpread first k new) sum
-    (spread-after first (n + d) cs r.0 new (numbered_after call ns) x.more r.1.1 (omega (arith, few)) x.spread)
-spread-after first n (of_receiver call ∷ cs) old new ns sent r few i =
-    let d = distance (next_tsn old) (next_tsn r.0) in
-    let none : d ≡ 0 = sacks.no-move (base first) n old r.0 (ap (λ (s : Session). s.sending) r.1.0.after) i.step.numbered in
-    let sum : n + tsns_given r.0 cs new r.1.1 ≡ n + (d + tsns_given r.0 cs new r.1.1) = omega (arith, none) in
-    subst (λ k. HasSpread first k new) sum
-    (spread-after first n cs r.0 new ns sent r.1.1 (omega (arith, few)) (receiver-spreads first n call old r.0 ns sent (omega (arith, few)) r.1.0 i))
-
--- of each session in which few TSNs were given out
-pub spread : (tsn size max most : ℕ) (limits : Option Limits) (cs : List Call) (s : Session) → tsn < 2 ^ 32 → 0 < size
-    → (r : RunsTo (at_start tsn size max most limits) cs s) → tsns_given (at_start tsn size max most limits) cs s r < 2 ^ 31
-    → HasSpread tsn (tsns_given (at_start tsn size max most limits) cs s r) s
-spread tsn size max most limits cs s small some r few =
-    let n = tsns_given (at_start tsn size max most limits) cs s r in
-    subst (λ k. HasSpread tsn k s) {x = 0 + n} {y = n} (omega arith)
-    (spread-after tsn 0 cs (at_start tsn size max most limits) s [] [] r (omega (arith, few)) (spread-first tsn size max most limits small some))

@@ -29,11 +29,6 @@ abbrev pub IsFor : ChunkPayloadData → Entry → Type 0
 IsFor c terminal = ⊤
 IsFor c (fragment d w after) = (w.place ≡ c.message_id) × (d.ending_fragment ≡ c.ending_fragment)
 
--- it is a terminal chunk, or a fragment that ends its message
-abbrev pub ends_message : Entry → Bool
-ends_message terminal = true
-ends_message (fragment d w after) = d.ending_fragment
-
 -- the chunk stands for the entry with its TSN
 pub record IsPlaced (first : ℕ) (sent : List Entry) (c : ChunkPayloadData) : Type 0 where
   pub entry : Entry
