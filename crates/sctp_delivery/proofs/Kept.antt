@@ -1,9 +1,8 @@
 -- In a reliable session nothing that was taken is dropped: it is held, or it was read.
 use Rattle.std.proofs.Common.{◌≡◌, ℕ, ◌+◌, Bool, true, false, List, [], ◌∷◌, ◌++◌, Option, Some, None, refl, ap, sym, subst, ◌∙◌, arith}
-use Rattle.std.specs.Prelude.{⊤, ◌&&◌, if◌then◌else◌, not}
+use Rattle.std.specs.Prelude.{⊤, ◌&&◌, not}
 use Rattle.std.specs.List.{list_all, list_any, sum_by}
 use Rattle.std.proofs.lemmas.List.Sums.{sum_by-append, sum_by-cons}
-use Rattle.std.proofs.lemmas.Option.{none-some}
 use Rattle.sctp_util.specs.Lists.{insert_before}
 use Rattle.sctp_util.proofs.Cases.{negated}
 use Rattle.sctp_util.proofs.Edits.{sum_by-inserted}
@@ -14,12 +13,10 @@ use Rattle.sctp_data.specs.PayloadData.{data_of}
 use Rattle.sctp_reassembly.specs.reassembly_queue.ReassemblyQueue.{BecomesComplete, Reassembly, ReassemblyState, held_after_ordered_push}
 use Rattle.sctp_receiver.specs.declared.receiver.arrival.Arrival.TheVariants.{New, Repeat}
 use Rattle.sctp_receiver.specs.declared.receiver.inbound_streams.InboundStream.{InboundStream}
-use Rattle.sctp_receiver.specs.declared.receiver.refusal.ReceiverRefusal.TheVariants.{SsnTooFar}
 use Rattle.sctp_receiver.specs.Inbound.{Pushes, PushesAs, with_queue}
-use Rattle.sctp_receiver.specs.Receiver.{Reception, arrival_refusal, data_refusal, filter_of, stream_of}
+use Rattle.sctp_receiver.specs.Receiver.{Reception, stream_of}
 use Rattle.sctp_receiver.specs.ReceiverRuns.{Stand}
 use Rattle.sctp_receiver.specs.Ssns.{is_ssn_too_far, is_too_far_on}
-use Rattle.sctp_receiver.specs.TsnFilter.{has_come}
 use Rattle.sctp_receiver.proofs.Handed.{held_weight}
 use Rattle.sctp_receiver.proofs.Weights as weights
 use Rattle.sctp_receiver.proofs.Weights.{set_weight, weight}
@@ -33,6 +30,7 @@ use Rattle.sctp_delivery.specs.SenderCalls.{data_chunk}
 use Rattle.sctp_delivery.specs.Session.{Call, ReceiverFollows, RunsTo, SenderFollows, Session, at_start, of_receiver, of_sender}
 use Rattle.sctp_delivery.proofs.Every.{Every, every-contained}
 use Rattle.sctp_delivery.proofs.KeptSets.{IsInTurn, IsNear, near-of, put-in, put-in-turn, read-in-turn, sets-more}
+use Rattle.sctp_delivery.proofs.OrderedMessages.{not-far}
 use Rattle.sctp_delivery.proofs.ReadOnce.{count-none, one}
 use Rattle.sctp_delivery.proofs.SackLaws as sacks
 use Rattle.sctp_delivery.proofs.ShortNumbers.{AreShort, IsShort, IsShortMade, made-short, stays-short}
@@ -82,15 +80,6 @@ pushed st c answered l new p t near fresh = by c.unordered refl p
       holds = unordered-turn (insert_before chunk_before c l.queue.held.unassembled) l.queue.held new.held answered e.0 t;
     }
 
-pub not-too-far : (c : ChunkPayloadData) (r : Reception) → arrival_refusal c r ≡ None → has_come c.tsn (filter_of r) ≡ false
-    → is_too_far_on c (stream_of c.stream_identifier r) ≡ false
-not-too-far c r e fresh = by (is_too_far_on c (stream_of c.stream_identifier r))
-    (ap (λ b. if not b && is_too_far_on c (stream_of c.stream_identifier r) then Some SsnTooFar else data_refusal c r) (sym fresh) ∙ e)
-  where
-    by : (b : Bool) → (if b then Some SsnTooFar else data_refusal c r) ≡ None → b ≡ false
-    by true f = absurd (none-some SsnTooFar (sym f))
-    by false f = refl
-
 -- ## The calls
 
 abbrev pub IsKept : ℕ → Stand → Type 0
@@ -113,7 +102,7 @@ kept-on call old new st reliable made apart f k =
     put c said f on there =
         let a = f.step.receiver in
         let short : IsShort c = every-contained IsShortMade old.made (data_chunk (data_of c)) f.handed made in
-        let near = not-too-far c r f.accepted.0 (fresh-new c.tsn said r f.accepted.1) in
+        let near = not-far c r (fresh-new c.tsn said r f.accepted.1) f.accepted.0 in
         let all = subst (λ cs. are_apart cs ≡ true) f.step.accepted apart in
         let none = negated (list_any (has_tsn c.tsn) old.receiving.accepted)
         (both (not (list_any (has_tsn c.tsn) old.receiving.accepted)) (are_apart old.receiving.accepted) all).0 in

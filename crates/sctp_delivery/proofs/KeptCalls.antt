@@ -27,7 +27,8 @@ use Rattle.sctp_delivery.specs.ReceiverCalls.{ReceiverCall}
 use Rattle.sctp_delivery.specs.Session.{ReceiverFollows, Session}
 use Rattle.sctp_delivery.proofs.CurrentSets.{current-less, due-index}
 use Rattle.sctp_delivery.proofs.Every.{one-of}
-use Rattle.sctp_delivery.proofs.Kept.{not-too-far, sets-fresh}
+use Rattle.sctp_delivery.proofs.Kept.{sets-fresh}
+use Rattle.sctp_delivery.proofs.OrderedMessages.{not-far}
 use Rattle.sctp_delivery.proofs.KeptOrGone.{IsComing, HeldWell, IsHeldWell, IsKeptBut, IsLate, pushed-well, read-well}
 use Rattle.sctp_delivery.proofs.MessagePlaces.{IsWanted, wanted-some, within}
 use Rattle.sctp_delivery.proofs.MessageSets.{entry-at}
@@ -283,7 +284,7 @@ module _ (first n : ℕ) (few : n < 2 ^ 31) (old new : Session) (ns : List Numbe
             → o.0 < h.current.index + 2 ^ 15
         near-number o kind =
             let w = window p st n B E M few up a c old.receiving answered g fresh near kind o acc.stream.queue.held dd
-            (ap (is_too_far_on c) (sym acc.found) ∙ not-too-far c r f.accepted.0 fresh) in
+            (ap (is_too_far_on c) (sym acc.found) ∙ not-far c r fresh f.accepted.0) in
             let v = w.1 in
             let from = dd.from in
             let same = index-due (Late old.receiving) acc.stream e h dd in

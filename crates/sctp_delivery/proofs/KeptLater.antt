@@ -26,11 +26,12 @@ use Rattle.sctp_delivery.proofs.OrderedEntries.{AreJoined}
 use Rattle.sctp_delivery.proofs.PassedMessages.{is_gone}
 use Rattle.sctp_delivery.proofs.Queues.{IsOnceMore}
 use Rattle.sctp_delivery.proofs.Sent.{Entry, IsLine, IsPart, Numbered, WasSent, fragment, part-length}
-use Rattle.sctp_delivery.proofs.SpreadEntries.{begun_to, is_at, to-all, to-more, to-up}
+use Rattle.sctp_delivery.proofs.SpreadEntries.{begun_to, is_at, to-all, to-up}
 use Rattle.sctp_delivery.proofs.TakenTsns.{come}
 use Rattle.sctp_delivery.proofs.TsnPlaces.{base, same-place}
 use Rattle.sctp_delivery.proofs.UnwrappedHolds as holds
 use Rattle.sctp_delivery.proofs.UnwrappedReads as reads
+use Rattle.sctp_delivery.proofs.UnwrappedSessions as sessions
 
 entry-later : (x : Entry) (sent : List Entry) (y : ℕ) (d : Data) (w : Numbered) → IsEntryAt sent y d w → IsEntryAt (x ∷ sent) y d w
 entry-later x sent y d w i = record { after = i.after; entries = i.entries; part = inr i.part; place = i.place }
@@ -73,10 +74,7 @@ module _ (ns : List Numbered) (first : ℕ) (sent more : List Entry) (line : IsL
   wider = elim sizes [ inl e ↦ omega (arith, e) | inr e ↦ omega (arith, e) ]
 
   same-to : (k : ℕ) → k ≤ n → begun_to st k more ≡ begun_to st k sent
-  same-to k le = elim once [
-    | inl e ↦ ap (begun_to st k) e
-    | inr e ↦ ap (begun_to st k) e.1 ∙ to-more st k e.0 sent (omega (arith, le, long))
-  ]
+  same-to = sessions.same-to st first n sent more long once
 
   past-all : begun_to st (n + 1) sent ≡ begun_to st n sent
   past-all = to-all st (n + 1) sent (omega (arith, long)) ∙ sym (to-all st n sent (omega (arith, long)))

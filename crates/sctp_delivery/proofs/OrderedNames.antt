@@ -26,7 +26,7 @@ pub named-more : (x : Entry) (sent : List Entry) (ns : List ChunkForwardTsnStrea
 named-more x sent ns h = every-of (IsNamed sent) (IsNamed (x ∷ sent)) (λ n k. number-more x sent n.identifier n.sequence k) ns h
 
 -- what is in flight is known
-known-each : (first : ℕ) (sent : List Entry) (cs : List ChunkPayloadData) → AreKnown first sent cs → Every (IsKnown first sent) cs
+pub known-each : (first : ℕ) (sent : List Entry) (cs : List ChunkPayloadData) → AreKnown first sent cs → Every (IsKnown first sent) cs
 known-each first sent [] k = tt
 known-each first sent (c ∷ cs) k = (k.0, known-each first sent cs k.1)
 

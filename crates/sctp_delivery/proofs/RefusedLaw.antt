@@ -40,7 +40,7 @@ use Rattle.sctp_delivery.proofs.EntryLengths.{unassembled-fits, set-fits, part-f
 use Rattle.sctp_delivery.proofs.Every.{Every, every-contained, every-of-all, one-of, every-found}
 use Rattle.sctp_delivery.proofs.CurrentSets.{IsCurrent}
 use Rattle.sctp_delivery.proofs.EachRead.{complete-messages}
-use Rattle.sctp_delivery.proofs.InFlight.{AreKnown, IsKnown}
+use Rattle.sctp_delivery.proofs.InFlight.{IsKnown}
 use Rattle.sctp_delivery.proofs.Kept.{sets-fresh}
 use Rattle.sctp_delivery.proofs.KeptCalls as calls
 use Rattle.sctp_delivery.proofs.KeptOrGone.{HeldWell, IsLate}
@@ -48,6 +48,7 @@ use Rattle.sctp_delivery.proofs.KeptSessions.{HasKept, kept-in}
 use Rattle.sctp_delivery.proofs.MessageSets.{entry-at}
 use Rattle.sctp_delivery.proofs.MessageSizes.{fit-session, AreWithin}
 use Rattle.sctp_delivery.proofs.NotRefused.{begun-low, near-distance, same-index}
+use Rattle.sctp_delivery.proofs.OrderedNames.{known-each}
 use Rattle.sctp_delivery.proofs.PassedTsns.{flight-given}
 use Rattle.sctp_delivery.proofs.ReadOnce.{one}
 use Rattle.sctp_delivery.proofs.SackLaws as sacks
@@ -96,10 +97,6 @@ limits-same (of_sender call ∷ cs) old new r =
 limits-same (of_receiver call ∷ cs) old new r = limits-same cs r.0 new r.1.1 ∙ limits-after call old r.0 r.1.0
 
 -- ## A chunk in flight
-
-known-each : (first : ℕ) (sent : List Entry) (cs : List ChunkPayloadData) → AreKnown first sent cs → Every (IsKnown first sent) cs
-known-each first sent [] k = tt
-known-each first sent (c ∷ cs) k = (k.0, known-each first sent cs k.1)
 
 module _ (first n : ℕ) (few : n < 2 ^ 31) (gone : List ℕ) (s : Session) (h : HasKept first n gone s)
     (unassembled-sent : (st : ℕ) (l : InboundStream) → stream_of st s.receiving.receiver ≡ Some l

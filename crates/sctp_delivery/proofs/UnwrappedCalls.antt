@@ -39,15 +39,12 @@ use Rattle.sctp_delivery.proofs.TsnPlaces.{at-or-before, before, same-place}
 use Rattle.sctp_delivery.proofs.UnwrappedReads.{AreSets, Gone, IsDue, IsKeptAt, has_place, in-window, incomplete-due, name-due, push-ordered, push-unordered}
 use Rattle.sctp_delivery.proofs.UnwrappedReads.{later-none, neither, read-due, recame, unassembled-due, unnot}
 use Rattle.sctp_delivery.proofs.UnwrappedHolds as holds
-use Rattle.sctp_delivery.proofs.UnwrappedHolds.{advance-back, advanced, at-in, beyond-more, on-of, rises-put, turn-more}
+use Rattle.sctp_delivery.proofs.UnwrappedHolds.{Where, advance-back, advanced, at-in, beyond-more, on-of, rises-put, turn-more}
 use Rattle.sctp_delivery.proofs.OrderedMessages.{starts_ordered}
 
 -- st: a stream. Of n TSNs from the base p on, B k says how many ordered messages of the stream the first k begin
 -- E k: the chunk at place k is an ordered one of the stream; M c: the chunk was made
 module _ (p st n : ℕ) (B : ℕ → ℕ) (E : ℕ → Bool) (M : ChunkPayloadData → Type 0) where
-  abbrev IsOf : ℕ → ChunkPayloadData → Type 0
-  IsOf = holds.IsOf p st n B E M
-
   abbrev IsStepOf : ChunkPayloadData → Type 0
   IsStepOf = holds.IsStepOf p st n B E M
 
@@ -65,12 +62,6 @@ module _ (p st n : ℕ) (B : ℕ → ℕ) (E : ℕ → Bool) (M : ChunkPayloadDa
 
   abbrev DueOn : (ℕ → Type 0) → ℕ → ℕ → Option InboundStream → Type 0
   DueOn = holds.DueOn p st n B E M
-
-  abbrev DueIn : ℕ → ℕ → Reception → Type 0
-  DueIn = holds.DueIn p st n B E M
-
-  abbrev Where : Bool → Type 0 → Type 0 → Type 0
-  Where = holds.Where p st n B E M
 
   abbrev AreInTurn : ℕ → List Message → Type 0
   AreInTurn = holds.AreInTurn p st n B E M
@@ -218,7 +209,7 @@ module _ (p st n : ℕ) (B : ℕ → ℕ) (E : ℕ → Bool) (M : ChunkPayloadDa
                   ]
             ]
 
-        build : (more : ℕ) → d.reach ≤ more → more ≤ B n → DueIn d.k more new.receiver
+        build : (more : ℕ) → d.reach ≤ more → more ≤ B n → holds.DueIn p st n B E M d.k more new.receiver
             → (B (g.before + 1) ≤ B g.before) ⊎ (B (g.before + 1) ≤ more) → AreDue d.arrived.place new
         build more le most due so = record {
           k = d.k;
@@ -266,7 +257,7 @@ module _ (p st n : ℕ) (B : ℕ → ℕ) (E : ℕ → Bool) (M : ChunkPayloadDa
             wide : (dd.low ≤ i) × (i < dd.low + 2 ^ 15)
             wide = window a c old d g fresh near kind o acc.stream.queue.held dd (ap (is_too_far_on c) (sym acc.found) ∙ close)
 
-            of : IsOf i c
+            of : holds.IsOf p st n B E M i c
             of = record { before = g.before; within = g.within; is = g.is; begun = o.1; made = g.made; on = e; inner = λ f. g.inner e f ∙ o.1 }
 
             put : (more : ℕ) → d.reach ≤ more → i < more → more ≤ dd.low + 2 ^ 15 → more ≤ B n → AreDue d.arrived.place new
@@ -288,15 +279,11 @@ module _ (p st n : ℕ) (B : ℕ → ℕ) (E : ℕ → Bool) (M : ChunkPayloadDa
             (on-of p st n B E M few up Old (Came new.receiver.cumulative_tsn new.receiver.beyond) less d.k d.reach (stream_of st new.receiver)
             (is-due Old d.k d.reach (λ no. d.due) (λ on held.
             push-unordered p n B Fits Old (at-in p st n B E M few up) d.k d.reach c answered acc.stream.queue acc.queue
-            (kind c.unordered (ap (λ b. b && not c.unordered) (sym on) ∙ e)) acc.pushed held)))
+            (unnot c.unordered (ap (λ b. b && not c.unordered) (sym on) ∙ e)) acc.pushed held)))
             (inl (let x = g.other e in omega (arith, x)))
           where
             less : (y : ℕ) → y ≤ n → Came new.receiver.cumulative_tsn new.receiver.beyond y → Old y
             less y le h = elim (back y le h) [ inl z ↦ z | inr z ↦ absurd (not_both (sym (ap E z.0 ∙ g.on ∙ e) ∙ z.1)) ]
-
-            kind : (b : Bool) → not b ≡ false → b ≡ true
-            kind true h = refl
-            kind false h = absurd (not_both (sym h))
 
         pub taken-due : AreDue d.arrived.place new
         taken-due = by (is_ordered_on st c) refl

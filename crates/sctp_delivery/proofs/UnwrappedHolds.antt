@@ -1,6 +1,6 @@
 -- In each session the indexes of the ordered messages that are read on a stream rise: what is due on the stream, and what came.
 use Rattle.std.proofs.Common.{◌≡◌, ℕ, ◌+◌, ◌%◌, ◌^◌, ◌<◌, ◌≤◌, Bool, true, false, List, [], ◌∷◌, Option, Some, None, inl, inr, refl, ap, sym, ◌∙◌, arith}
-use Rattle.std.specs.Prelude.{⊤, ◌⊎◌, ◌==◌, ◌&&◌, if◌then◌else◌, nat_le, nat_lt}
+use Rattle.std.specs.Prelude.{⊤, ◌⊎◌, ◌==◌, if◌then◌else◌, nat_le, nat_lt}
 use Rattle.std.specs.List.{list_any}
 use Rattle.std.proofs.lemmas.Bool.{cases_lt, eq-eqb}
 use Rattle.std.proofs.lemmas.Bool.Decides.{nat_tests}
@@ -19,7 +19,11 @@ use Rattle.sctp_delivery.proofs.Every.{Every, one-of}
 use Rattle.sctp_delivery.proofs.TakenTsns.{come}
 use Rattle.sctp_delivery.proofs.TsnPlaces.{at-or-before, before, next-place, same-place}
 use Rattle.sctp_delivery.proofs.UnwrappedReads.{IsDue, neither, recame}
-use Rattle.sctp_delivery.proofs.OrderedMessages.{starts_ordered}
+use Rattle.sctp_delivery.proofs.OrderedMessages.{is_in_order}
+
+abbrev pub Where : Bool → Type 0 → Type 0 → Type 0
+Where true P Q = P
+Where false P Q = Q
 
 -- st: a stream. Of n TSNs from the base p on, B k says how many ordered messages of the stream the first k begin
 -- E k: the chunk at place k is an ordered one of the stream; M c: the chunk was made
@@ -79,17 +83,10 @@ module _ (p st n : ℕ) (B : ℕ → ℕ) (E : ℕ → Bool) (M : ChunkPayloadDa
   abbrev pub DueIn : ℕ → ℕ → Reception → Type 0
   DueIn k reach r = DueOn (Came r.cumulative_tsn r.beyond) k reach (stream_of st r)
 
-  abbrev pub is_in_order : Message → Bool
-  is_in_order m = (m.stream == st) && starts_ordered m.fragments
-
-  abbrev pub Where : Bool → Type 0 → Type 0 → Type 0
-  Where true P Q = P
-  Where false P Q = Q
-
   -- the ordered messages of the stream that were read have indexes below this one, each later one a greater one
   abbrev pub AreInTurn : ℕ → List Message → Type 0
   AreInTurn k [] = ⊤
-  AreInTurn k (m ∷ ms) = Where (is_in_order m) ((i : ℕ) × (i < k) × Fits i m.fragments × AreInTurn i ms) (AreInTurn k ms)
+  AreInTurn k (m ∷ ms) = Where (is_in_order st m) ((i : ℕ) × (i < k) × Fits i m.fragments × AreInTurn i ms) (AreInTurn k ms)
 
   pub record AreDue (a : ℕ) (s : Stand) : Type 0 where
     pub k : ℕ
@@ -254,7 +251,7 @@ module _ (p st n : ℕ) (B : ℕ → ℕ) (E : ℕ → Bool) (M : ChunkPayloadDa
 
     pub turn-more : (j k : ℕ) (ms : List Message) → j ≤ k → AreInTurn j ms → AreInTurn k ms
     turn-more j k [] le t = tt
-    turn-more j k (m ∷ ms) le t = by (is_in_order m) t (λ h. turn-more j k ms le h)
+    turn-more j k (m ∷ ms) le t = by (is_in_order st m) t (λ h. turn-more j k ms le h)
       where
         by : (b : Bool) → Where b ((i : ℕ) × (i < j) × Fits i m.fragments × AreInTurn i ms) (AreInTurn j ms) → (AreInTurn j ms → AreInTurn k ms)
             → Where b ((i : ℕ) × (i < k) × Fits i m.fragments × AreInTurn i ms) (AreInTurn k ms)

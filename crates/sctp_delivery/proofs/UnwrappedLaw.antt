@@ -70,8 +70,7 @@ module _ (st first n : ℕ) (ns : List Numbered) (sent : List Entry) (few : n < 
     away k (o ∷ os) e le t = by (T o e.0.written.0) refl (is_in_order st o) refl t (λ j l u. away j os e.1 l u)
       where
         by : (b : Bool) → T o e.0.written.0 ≡ b → (c : Bool) → is_in_order st o ≡ c
-            → Where (base first) st n (λ k. begun_to st k sent) (λ k. is_at st k sent)
-            (λ c. WasSent sent (data_of c)) c ((j : ℕ) × (j < k) × Piece j o.fragments × InTurn j os) (InTurn k os)
+            → Where c ((j : ℕ) × (j < k) × Piece j o.fragments × InTurn j os) (InTurn k os)
             → ((j : ℕ) → j ≤ i → InTurn j os → All (λ q. x.written.0 < q) (places_where T os (places ns sent once os e.1)))
             → All (λ q. x.written.0 < q) (if b then e.0.written.0 ∷ places_where T os (places ns sent once os e.1) else places_where T os
             (places ns sent once os e.1))
@@ -90,8 +89,8 @@ module _ (st first n : ℕ) (ns : List Numbered) (sent : List Entry) (few : n < 
   in-order-of k (m ∷ ms) e t = by (T m e.0.written.0) refl (is_in_order st m) refl t (λ j u. in-order-of j ms e.1 u)
     where
       by : (b : Bool) → T m e.0.written.0 ≡ b → (c : Bool) → is_in_order st m ≡ c
-          → Where (base first) st n (λ k. begun_to st k sent) (λ k. is_at st k sent) (λ c. WasSent sent (data_of c)) c ((j : ℕ) × (j < k) × Piece j m.fragments
-          × InTurn j ms) (InTurn k ms) → ((j : ℕ) → InTurn j ms → AllPairs (λ p q. p < q) (places_where T ms (places ns sent once ms e.1)))
+          → Where c ((j : ℕ) × (j < k) × Piece j m.fragments × InTurn j ms) (InTurn k ms)
+          → ((j : ℕ) → InTurn j ms → AllPairs (λ p q. p < q) (places_where T ms (places ns sent once ms e.1)))
           → AllPairs (λ p q. p < q) (if b then e.0.written.0 ∷ places_where T ms (places ns sent once ms e.1) else places_where T ms
           (places ns sent once ms e.1))
       by true f false g u ih = absurd (not_both (sym g ∙ (starts' m e.0 f).1))

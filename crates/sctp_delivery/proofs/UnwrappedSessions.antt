@@ -47,9 +47,9 @@ use Rattle.sctp_delivery.proofs.SpreadFlight.{IsMadeNaming}
 use Rattle.sctp_delivery.proofs.TakenCalls.{fresh-new}
 use Rattle.sctp_delivery.proofs.TsnPlaces.{base, same-place}
 use Rattle.sctp_delivery.proofs.UnwrappedCalls.{followed-due, opened-due, quiet, read-on-due, taken-due}
-use Rattle.sctp_delivery.proofs.UnwrappedHolds.{AreDue, AreInTurn, Came, DueOn, Fits, IsBeyond, IsOf, IsStepOf, Rises, Where, is_in_order, none-past}
+use Rattle.sctp_delivery.proofs.UnwrappedHolds.{AreDue, AreInTurn, Came, DueOn, Fits, IsBeyond, IsOf, IsStepOf, Rises, Where, none-past}
 use Rattle.sctp_delivery.proofs.UnwrappedReads.{AreSets, IsDue}
-use Rattle.sctp_delivery.proofs.OrderedMessages.{not-far}
+use Rattle.sctp_delivery.proofs.OrderedMessages.{is_in_order, not-far}
 
 -- ## More TSNs are given out
 
@@ -104,12 +104,12 @@ module _ (p st n m : ℕ) (B C : ℕ → ℕ) (E F : ℕ → Bool) (M N : ChunkP
 
   turns-more : (k : ℕ) (ms : List Message) → AreInTurn p st n B E M k ms → AreInTurn p st m C F N k ms
   turns-more k [] t = tt
-  turns-more k (x ∷ xs) t = by (is_in_order p st n B E M x) t (λ j h. turns-more j xs h)
+  turns-more k (x ∷ xs) t = by (is_in_order st x) t (λ j h. turns-more j xs h)
     where
       by : (b : Bool)
-          → Where p st n B E M b ((i : ℕ) × (i < k) × Fits p st n B E M i x.fragments × AreInTurn p st n B E M i xs) (AreInTurn p st n B E M k xs)
+          → Where b ((i : ℕ) × (i < k) × Fits p st n B E M i x.fragments × AreInTurn p st n B E M i xs) (AreInTurn p st n B E M k xs)
           → ((j : ℕ) → AreInTurn p st n B E M j xs → AreInTurn p st m C F N j xs)
-          → Where p st m C F N b ((i : ℕ) × (i < k) × Fits p st m C F N i x.fragments × AreInTurn p st m C F N i xs) (AreInTurn p st m C F N k xs)
+          → Where b ((i : ℕ) × (i < k) × Fits p st m C F N i x.fragments × AreInTurn p st m C F N i xs) (AreInTurn p st m C F N k xs)
       by true h ih = (h.0, h.1, rises-more h.0 0 x.fragments h.2, ih h.0 h.3)
       by false h ih = ih k h
 
