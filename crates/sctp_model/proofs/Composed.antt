@@ -413,11 +413,7 @@ module _ (setup : Setup) (h : History) (s : ℕ) (is : IsSetup setup) (run : IsR
   run-is = run-passed (is_complete_by w log) (named_by w s log) (Messages.ordered_on w s) none-passed ∙ ap (leading (is_complete_by w log)) line-is
 
   pub ordered-settled : ordered_reads setup h s ≡ run_by w log s → ordered_shown setup h s ≡ ordered_run (writes_on h s) (arrivals_on setup h s)
-  ordered-settled e =
-      ap (map (shown_of w)) (e ∙ run-is)
-      ∙ leading-as (shown_of w) (is_ordered w) (is_complete_by w log) (messages_on w s)
-      ∙ ap (λ xs. ordered_run xs (map (is_complete_by w log) (messages_on w s))) (sym writes-are)
-      ∙ ap (ordered_run (writes_on h s)) complete_ones-are
+  ordered-settled e = cc (e, run-is, leading-as (shown_of w) (is_ordered w) (is_complete_by w log) (messages_on w s), writes-are, complete_ones-are)
 
   pub unordered-settled : unordered_reads setup h s ≡ complete_by w log s
       → unordered_shown setup h s ≡ complete_unordered (writes_on h s) (arrivals_on setup h s)
@@ -501,8 +497,7 @@ module _ (setup : Setup) (g h : History) (s : ℕ) (a : IsReadWholly setup g s) 
 
   line : messages_on old s ≡ messages_on new s
   line =
-      ap (numbers_where (λ n. (Messages.message_at old n).stream == s) 0) counts
-      ∙ kept-same (λ n. (Messages.message_at old n).stream == s) there 0 (length new.messages) (λ n i j. ap (λ y. y.0 == s) (each n (omega arith)))
+      cc (counts, kept-same (λ n. (Messages.message_at old n).stream == s) there 0 (length new.messages) (λ n i j. ap (λ y. y.0 == s) (each n (omega arith))))
 
   parts-same : (n : ℕ) → n < length new.messages → Messages.fragment_count old n ≡ Messages.fragment_count new n
   parts-same n lt =

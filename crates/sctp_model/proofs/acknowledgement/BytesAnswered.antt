@@ -159,11 +159,7 @@ released-written x a m s e b =
         fails (has x x.count p && a p) (λ h. absurd (omega (arith, (of-has x x.count p (both (has x x.count p) (a p) h).0).0, s.made p (omega arith)))))
 
     new : released_with (written x m) a x.count ≡ 0
-    new = ap (released_of x.count) (message-new x m) ∙ ap (λ c. if c || m.abandoned then length m.bytes else total_over
-        (λ p. length (get_or (pieces (length m.bytes) x.size m.bytes) (x.slot p).fragment [])) (numbers_where (λ p. has x x.count p && a p) 0 x.slots)) e
-        ∙ ap (λ c. if c then length m.bytes else total_over (λ p. length (get_or (pieces (length m.bytes) x.size m.bytes) (x.slot p).fragment []))
-        (numbers_where (λ p. has x x.count p && a p) 0 x.slots)) b
-        ∙ ap (total_over (λ p. length (get_or (pieces (length m.bytes) x.size m.bytes) (x.slot p).fragment []))) none
+    new = cc (message-new x m, e, b, none)
 
 pub messages-sent : (u : LinkRecord) → (Changes.send_fragments u).messages ≡ u.messages
 messages-sent u = sends-keep (λ v. v.messages ≡ u.messages) (λ v e. more v (Messages.front v) ∙ e) u refl
@@ -292,9 +288,7 @@ released-after setup w event is g = omega arith
 pub released-run : (setup : Setup) (h : History) → IsSetup setup → IsRun setup h → released (record_of setup h) ≡ released_in h
 released-run setup [] is run = refl
 released-run setup (entry ∷ older) is run =
-    released-after setup (record_of setup older) entry.0 is (consistent-run setup older run.1.1)
-    ∙ ap (λ r. released (record_of setup older) + released_by r) (sym run.1.0)
-    ∙ ap (λ c. c + released_by entry.1) (released-run setup older is run.1.1)
+    cc (released-after setup (record_of setup older) entry.0 is (consistent-run setup older run.1.1), run.1.0, released-run setup older is run.1.1)
 
 pub sums_agree : OnEveryRun SumsAgree
 sums_agree setup h is run = (

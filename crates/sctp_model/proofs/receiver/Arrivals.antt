@@ -93,14 +93,12 @@ any-hit q k from (suc count) a b e = step (eq-or-lt_of_le a) (λ l. any-hit q k 
   where
     step : (from ≡ k) ⊎ (from < k) → (from + 1 ≤ k → list_any q (numbers_where always (from + 1) count) ≡ true)
         → (q from || list_any q (numbers_where always (from + 1) count)) ≡ true
-    step (inl z) ih = ap (λ j. q j || list_any q (numbers_where always (from + 1) count)) z
-        ∙ ap (λ b. b || list_any q (numbers_where always (from + 1) count)) e
+    step (inl z) ih = cc (z, e)
     step (inr l) ih = or-right (q from) (list_any q (numbers_where always (from + 1) count)) (ih (omega arith))
 
 pub any-none : (q : ℕ → Bool) (from count : ℕ) → ((k : ℕ) → from ≤ k → k < from + count → q k ≡ false) → list_any q (numbers_where always from count) ≡ false
 any-none q from zero none = refl
-any-none q from (suc count) none = ap (λ b. b || list_any q (numbers_where always (from + 1) count)) (none from (omega arith) (omega arith))
-    ∙ any-none q (from + 1) count (λ k a b. none k (omega arith) (omega arith))
+any-none q from (suc count) none = cc (none from (omega arith) (omega arith), any-none q (from + 1) count (λ k a b. none k (omega arith) (omega arith)))
 
 -- ## By what came
 

@@ -1,7 +1,7 @@
 use Rattle.std.proofs.Common.{◌≡◌, ℕ, zero, suc, ◌+◌, ◌-◌, ◌<◌, ◌≤◌, Bool, true, false, List, [], ◌∷◌, ◌++◌, length, refl, ap, sym, ◌∙◌, inl, inr, arith}
 use Rattle.std.proofs.Common.{append-nil, length-append}
 use Rattle.std.specs.Prelude.{◌⊎◌, if◌then◌else◌, ◌==◌, ◌&&◌, ◌||◌, not, nat_le, nat_lt}
-use Rattle.std.specs.List.{list_any, list_all}
+use Rattle.std.specs.List.{list_all}
 use Rattle.std.proofs.lemmas.Bool.{cases_lt}
 use Rattle.std.proofs.lemmas.Bool.Decides.{nat_tests}
 use Rattle.sctp_util.specs.Kept.{numbers_where}
@@ -270,8 +270,4 @@ complete-come v log n arrived le e =
 -- an ordered one is complete exactly where it has arrived
 pub ordered-complete : (v : View) (log : List LogEntry) (n : ℕ) → ((p : ℕ) → v.arrived p ≡ Log.arrived_new log p) → sent v.x n ≤ parts v.x n
     → (v.x.message n).ordered ≡ true → complete_at v n ≡ complete_in v.x log n
-ordered-complete v log n arrived le o =
-    ap (λ b. if b then all_come v n else v.read n || list_any (λ k. k == n) (v.complete (v.x.message n).stream)) o
-    ∙ all-come v n le
-    ∙ ap (λ b. (sent v.x n == parts v.x n) && b) (Alls.all-same v.arrived (Log.arrived_new log) (has v.x n) 0 v.x.slots (λ k x y z. arrived k))
-    ∙ sym (ap (λ b. (sent v.x n == parts v.x n) && (if b then list_all (Log.arrived_new log) (slots_in v.x n) else Log.were_complete (slots_in v.x n) log)) o)
+ordered-complete v log n arrived le o = cc (o, all-come v n le, Alls.all-same v.arrived (Log.arrived_new log) (has v.x n) 0 v.x.slots (λ k x y z. arrived k))

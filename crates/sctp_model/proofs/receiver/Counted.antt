@@ -122,8 +122,7 @@ marked-nothing setup older t r f m = record {
     step false l = append-nil l
 
     none : (s : ℕ) → numbers_read setup ((E.Read t, r) ∷ older) s ≡ numbers_read setup older s
-    none s = ap (λ x. numbers_read setup older s ++ (if t == s then number_read (record_of setup older) s x else [])) f
-        ∙ step (t == s) (numbers_read setup older s)
+    none s = cc (f, step (t == s) (numbers_read setup older s))
 
 -- message k is read
 module _ (setup : Setup) (older : History) (t k : ℕ) (r : Reply) (e : next_read (record_of setup older) t ≡ Some k)

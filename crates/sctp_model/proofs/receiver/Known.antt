@@ -297,16 +297,13 @@ module _ (v : View) (log : List LogEntry) (p : ℕ) (s : Sender v.x) (h : Comple
   agrees-then n l = by (v.x.message n).ordered refl
     where
       kind : (b : Bool) → (v.x.message n).ordered ≡ true → complete_at (if b then noted_in v1 (v.x.message m).stream m else v1) n ≡ complete_at v1 n
-      kind true o = ap (λ b. if b then all_come v1 n else v.read n || list_any (λ k. k == n) (if (v.x.message n).stream == (v.x.message m).stream
-          then v.complete (v.x.message n).stream ++ m ∷ [] else v.complete (v.x.message n).stream)) o
-          ∙ sym (ap (λ b. if b then all_come v1 n else v.read n || list_any (λ k. k == n) (v.complete (v.x.message n).stream)) o)
+      kind true o = cc o
       kind false o = refl
 
       by : (b : Bool) → (v.x.message n).ordered ≡ b → complete_at v2 n ≡ CompleteMessages.complete_in v.x (SlotReceived p ∷ log) n
       by true o = kind (not (v.x.message m).ordered && CompleteMessages.due v1 m) o
           ∙ CompleteMessages.ordered-complete v1 (SlotReceived p ∷ log) n arrivals'.arrived (s.within n l) o
-      by false o = complete-then n l o ∙ ap (λ b. b || CompleteMessages.due v1 n) (h.agrees n l)
-          ∙ sym (CompleteMessages.one-more v1 (SlotReceived p) log n arrivals' (s.within n l) o)
+      by false o = cc (complete-then n l o, h.agrees n l, CompleteMessages.one-more v1 (SlotReceived p) log n arrivals' (s.within n l) o)
 
   pub complete-slot : Complete v2 (SlotReceived p ∷ log)
   complete-slot = by (not (v.x.message m).ordered && CompleteMessages.due v1 m) refl
@@ -376,8 +373,7 @@ agrees-still u v coming log arrivals arrivals' e s h same less n lt = by (u.x.me
     kind = ap (λ y. (y.message n).ordered) (sym e)
 
     by : (b : Bool) → (u.x.message n).ordered ≡ b → complete_at v n ≡ CompleteMessages.complete_in u.x (coming ∷ log) n
-    by true o = CompleteMessages.ordered-complete v (coming ∷ log) n arrivals'.arrived le (sym kind ∙ o)
-        ∙ ap (λ y. CompleteMessages.complete_in y (coming ∷ log) n) e
+    by true o = cc (CompleteMessages.ordered-complete v (coming ∷ log) n arrivals'.arrived le (sym kind ∙ o), e)
     by false o =
         same n lt ∙ h.agrees n lt
         ∙ sym (ap (λ y. CompleteMessages.complete_in y (coming ∷ log) n) (sym e) ∙ CompleteMessages.one-more v coming log n arrivals' le (sym kind ∙ o)
@@ -518,8 +514,7 @@ complete-read v log s n h r k = by (v.x.message k).ordered refl
     same ne false e = refl
 
     by : (b : Bool) → (v.x.message k).ordered ≡ b → complete_at (read_in v s n) k ≡ complete_at v k
-    by true o = ap (λ b. if b then all_come v k else (if k == n then true else v.read k) || list_any (λ j. j == k) (if (v.x.message k).stream == s
-        then drop 1 (v.complete (v.x.message k).stream) else v.complete (v.x.message k).stream)) o ∙ sym (flat true o)
+    by true o = cc (o, flat true o)
     by false o =
         ap (λ b. if b then all_come v k else (if k == n then true else v.read k) || list_any (λ j. j == k) (if (v.x.message k).stream == s
         then drop 1 (v.complete (v.x.message k).stream) else v.complete (v.x.message k).stream)) o ∙ by_same {

@@ -43,8 +43,7 @@ named_in x s (SackMade ∷ log) = named_in x s log
 
 pub named-is : (w : LinkRecord) (s : ℕ) (log : List LogEntry) → Log.named_by w s log ≡ named_in (shape w) s log
 named-is w s [] = refl
-named-is w s (SkipReceived upto names ∷ log) =
-    ap (λ k. if Log.counts log upto then greatest k (map (λ n. index (shape w) n + 1) (filter (on (shape w) s) names)) else k) (named-is w s log)
+named-is w s (SkipReceived upto names ∷ log) = cc (named-is w s log)
 named-is w s (SlotReceived p ∷ log) = named-is w s log
 named-is w s (SackMade ∷ log) = named-is w s log
 
@@ -75,9 +74,7 @@ indexes-later x y a b g s upto (n ∷ ns) f =
 
 named-later : (x y : Shape) → Sender x → Sender y → Grows x y → (s : ℕ) (log : List LogEntry) → NamesReceived x log → named_in y s log ≡ named_in x s log
 named-later x y a b g s [] f = refl
-named-later x y a b g s (SkipReceived upto names ∷ log) f =
-    ap (λ k. if Log.counts log upto then greatest k (map (λ n. index y n + 1) (filter (on y s) names)) else k) (named-later x y a b g s log f.1)
-    ∙ ap (λ l. if Log.counts log upto then greatest (named_in x s log) l else named_in x s log) (indexes-later x y a b g s upto names f.0)
+named-later x y a b g s (SkipReceived upto names ∷ log) f = cc (named-later x y a b g s log f.1, indexes-later x y a b g s upto names f.0)
 named-later x y a b g s (SlotReceived p ∷ log) f = named-later x y a b g s log f
 named-later x y a b g s (SackMade ∷ log) f = named-later x y a b g s log f
 

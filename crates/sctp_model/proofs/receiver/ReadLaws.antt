@@ -133,8 +133,7 @@ passing-kept q p from (suc count) = step (p from) (q from) refl (passing-kept q 
     step : (a b : Bool) → q from ≡ b → filter q (numbers_where p (from + 1) count) ≡ numbers_where (λ k. p k && q k) (from + 1) count
         → filter q (if a then from ∷ numbers_where p (from + 1) count else numbers_where p (from + 1) count)
         ≡ (if a && b then from ∷ numbers_where (λ k. p k && q k) (from + 1) count else numbers_where (λ k. p k && q k) (from + 1) count)
-    step true true e ih = ap (λ c. if c then from ∷ filter q (numbers_where p (from + 1) count) else filter q (numbers_where p (from + 1) count)) e
-        ∙ ap (λ l. from ∷ l) ih
+    step true true e ih = cc (e, ih)
     step true false e ih = ap (λ c. if c then from ∷ filter q (numbers_where p (from + 1) count) else filter q (numbers_where p (from + 1) count)) e ∙ ih
     step false b e ih = ih
 
@@ -150,8 +149,7 @@ passing-leading q zero (x ∷ xs) = front (x ∷ xs)
       where
         step : (b : Bool) → q y ≡ b → leading q ys ≡ filter q (take (length (leading q ys)) ys)
             → (if b then y ∷ leading q ys else []) ≡ filter q (take (length (if b then y ∷ leading q ys else [])) (y ∷ ys))
-        step true e ih = ap (λ l. y ∷ l) ih
-            ∙ sym (ap (λ c. if c then y ∷ filter q (take (length (leading q ys)) ys) else filter q (take (length (leading q ys)) ys)) e)
+        step true e ih = cc (ih, e)
         step false e ih = refl
 passing-leading q (suc i) [] = sym (take-none (suc i + 0) q)
 passing-leading q (suc i) (x ∷ xs) =

@@ -89,10 +89,7 @@ joined-slots w n from (suc count) = step (has (shape w) n from) refl (joined-slo
         else numbers_where (has (shape w) n) (from + 1) count)) ≡ flat (map (Messages.fragment_at w n) (map (λ p. (Messages.slot_at w p).fragment) (if b
         then from ∷ numbers_where (has (shape w) n) (from + 1) count else numbers_where (has (shape w) n) (from + 1) count)))
     step false e ih = ih
-    step true e ih =
-        ap (λ m. Messages.fragment_at w m (Messages.slot_at w from).fragment
-        ++ joined_bytes (map (chunk_at w) (numbers_where (has (shape w) n) (from + 1) count))) (of-has (shape w) n from e).0
-        ∙ ap (λ l. Messages.fragment_at w n (Messages.slot_at w from).fragment ++ l) ih
+    step true e ih = cc ((of-has (shape w) n from e).0, ih)
 
 pub slots-joined : (w : LinkRecord) (n : ℕ) → Sender (shape w) → 0 < w.setup.size → sent (shape w) n ≡ parts (shape w) n
     → joined_bytes (map (chunk_at w) (Messages.slots_of w n)) ≡ (Messages.message_at w n).bytes
@@ -220,9 +217,7 @@ says-read setup older t s r v is run x (Some n) e f a = by (t == s) refl
         == s) (grind (arith, nat_tests)) (ap (λ m. m.stream == s) (x.grows.message n lt) ∙ ap (λ k. k == s) (hit.stream ∙ q) ∙ same-yes s)) refl
 
     shown : shown_by (read_reply (record_of setup older) (Some n)) ≡ shown_of v n ∷ []
-    shown =
-        ap (λ b. let y : List Shown = ((Messages.message_at (record_of setup older) n).stream, (Messages.message_at (record_of setup older) n).ppi, b) ∷ [] in
-        y) (read-joined setup older is run t n e) ∙ ap (λ y. y ∷ []) (sym (shown-stays (record_of setup older) v x n hit.made))
+    shown = cc (read-joined setup older is run t n e, shown-stays (record_of setup older) v x n hit.made)
 
     by : (b : Bool) → (t == s) ≡ b → Says setup ((E.Read t, r) ∷ older) v s
     by false q =

@@ -58,8 +58,7 @@ module _ (v : View) (log : List LogEntry) (p : ℕ) (a : Sender v.x) (h : Comple
     where
       old : (v.x.message n).ordered ≡ false → (b : Bool) → due v n ≡ b → (complete_in v.x log n || due v1 n) ≡ complete_in v.x log n
       old o true e = let y = CompleteMessages.due-complete v log n arrivals (a.within n l) (a.some n l) o e in ap (λ b. b || due v1 n) y ∙ sym y
-      old o false e = ap (λ b. complete_in v.x log n || b) (Known.due-other v log p a h arrivals arrivals' lt terminal new n ne ∙ e)
-          ∙ or-none (complete_in v.x log n)
+      old o false e = cc (Known.due-other v log p a h arrivals arrivals' lt terminal new n ne, e, or-none (complete_in v.x log n))
 
       none : (b c : Bool) → (b && (c && not c)) ≡ false
       none true true = refl
@@ -67,10 +66,8 @@ module _ (v : View) (log : List LogEntry) (p : ℕ) (a : Sender v.x) (h : Comple
       none false c = refl
 
       kind : (b : Bool) → (v.x.message n).ordered ≡ b → became v.x (SlotReceived p) log s n ≡ false
-      kind true o = ap (λ b. (((v.x.message n).stream == s) && not b) && (complete_in v.x (SlotReceived p ∷ log) n && not (complete_in v.x log n))) o
-          ∙ ap (λ b. b && (complete_in v.x (SlotReceived p ∷ log) n && not (complete_in v.x log n))) (and-none ((v.x.message n).stream == s))
-      kind false o = ap (λ b. off v.x s n && (b && not (complete_in v.x log n))) (complete-now n l o ∙ old o (due v n) refl)
-          ∙ none (off v.x s n) (complete_in v.x log n)
+      kind true o = cc (o, and-none ((v.x.message n).stream == s))
+      kind false o = cc (complete-now n l o, old o (due v n) refl, none (off v.x s n) (complete_in v.x log n))
 
   became-here : (s : ℕ) → became v.x (SlotReceived p) log s m ≡ (off v.x s m && due v1 m)
   became-here s = kind (v.x.message m).ordered refl
@@ -89,10 +86,7 @@ module _ (v : View) (log : List LogEntry) (p : ℕ) (a : Sender v.x) (h : Comple
       kind true o =
           let e : off v.x s m ≡ false = ap (λ b. ((v.x.message m).stream == s) && not b) o ∙ and-none ((v.x.message m).stream == s) in
           ap (λ b. b && (complete_in v.x (SlotReceived p ∷ log) m && not (complete_in v.x log m))) e ∙ sym (ap (λ b. b && due v1 m) e)
-      kind false o =
-          ap (λ b. off v.x s m && (b && not (complete_in v.x log m))) (complete-now m made o)
-          ∙ ap (λ b. off v.x s m && ((b || due v1 m) && not b)) (not-then o)
-          ∙ ap (λ b. off v.x s m && b) (flat (due v1 m))
+      kind false o = cc (complete-now m made o, not-then o, flat (due v1 m))
 
   list-is : (s : ℕ) → complete_list v.x (SlotReceived p ∷ log) s ≡ complete_list v.x log s ++ (if off v.x s m && due v1 m then m ∷ [] else [])
   list-is s = ap (λ l. complete_list v.x log s ++ l) (kept-one (became v.x (SlotReceived p) log s) m 0 v.x.count (omega arith) (let z = a.made p lt in
@@ -247,8 +241,7 @@ so_far-elsewhere v log s t n list on-it ne f = record {
   all = all-more (was_read v s) (was_read (read_in v t n) s) list (λ k e. was-stays v s t n k e) f.all;
   ordered = f.ordered ∙ sym (kept-same (read_on (read_in v t n) s) (read_on v s) 0 v.x.count
       (λ k a b. by_same {P = read_on (read_in v t n) s k ≡ read_on v s k} k n (λ e. gone k e) (λ z y. ap (λ c. on v.x s k && c) (read-other v t n k z))));
-  unordered = f.unordered ∙ ap (λ l. filter (λ n. not (v.x.message n).ordered) list ++ l) (sym (ap (λ b. if b then drop 1 (v.complete s)
-      else v.complete s) (fails (s == t) (λ e. not_both (sym ne ∙ (let z = same-is s t e in ap (λ k. k == s) (sym z) ∙ same-yes s))))));
+  unordered = cc (f.unordered, fails (s == t) (λ e. not_both (sym ne ∙ (let z = same-is s t e in ap (λ k. k == s) (sym z) ∙ same-yes s))));
 }
   where
     gone : (k : ℕ) → k ≡ n → read_on (read_in v t n) s k ≡ read_on v s k

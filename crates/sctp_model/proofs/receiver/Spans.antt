@@ -203,8 +203,7 @@ held-still u v t o s n e =
         on_it = old.on_it;
         unread = sym (t.read n old.made) ∙ h.unread;
         some = come;
-        kept_for = ap (λ b. b || nat_le (u.named s) (index u.x n)) (sym (complete-still u v t n old.made)) ∙ ap (λ k. complete_at v n || nat_le k (index u.x n))
-            (sym (t.named s)) ∙ ap (λ i. complete_at v n || nat_le (v.named s) i) (sym old.same) ∙ h.kept_for;
+        kept_for = cc (complete-still u v t n old.made, t.named s, old.same, h.kept_for);
       });
       same = old.same;
     }

@@ -1,12 +1,12 @@
 -- The record of every history is valid.
-use Rattle.std.proofs.Common.{◌≡◌, ℕ, zero, suc, ◌+◌, ◌-◌, ◌<◌, ◌≤◌, Bool, true, false, List, [], ◌∷◌, ◌++◌, length, map, drop, get_or, Option, Some, None}
+use Rattle.std.proofs.Common.{◌≡◌, ℕ, zero, suc, ◌+◌, ◌-◌, ◌<◌, ◌≤◌, Bool, true, false, List, [], ◌∷◌, ◌++◌, length, map, get_or, Option, Some, None}
 use Rattle.std.proofs.Common.{refl, ap, sym, ◌∙◌, inl, inr, arith, zero-add}
 use Rattle.std.specs.Prelude.{◌⊎◌, if◌then◌else◌, ◌==◌, ◌&&◌, ◌||◌, not, nat_le, nat_lt, fold, slice_get, find, is_some}
 use Rattle.std.specs.List.{list_any, filter}
 use Rattle.std.proofs.Math.Path.{subst}
 use Rattle.std.proofs.lemmas.Bool.{cases_lt}
 use Rattle.std.proofs.lemmas.Bool.Decides.{nat_tests}
-use Rattle.sctp_util.specs.Kept.{numbers_where, always, leading}
+use Rattle.sctp_util.specs.Kept.{numbers_where, always}
 use Rattle.sctp_util.proofs.Passing.{length-kept-lt}
 use Rattle.sctp_util.proofs.More.{not_both, both, and}
 use Rattle.sctp_util.proofs.Cases.{same-yes, same-is, negated, or-right, or-split}
@@ -26,7 +26,6 @@ use Rattle.sctp_model.specs.Log
 use Rattle.sctp_model.specs.Log.{LogEntry}
 use Rattle.sctp_model.specs.Laws.{OnEveryRun}
 use Rattle.sctp_model.specs.Valid.{IsLaid, IsSpan, Valid, ValidUnassembled, InOrder, AllFragments, AllNamable, RecordIsValid, SlotsComeValid, SkipsComeValid}
-use Rattle.sctp_util.specs.Lists.{pieces}
 use Rattle.sctp_model.proofs.sender.SenderEnds.{sent-none}
 use Rattle.sctp_model.proofs.sender.Shape.{Shape, shape, has, sent, parts, on, index}
 use Rattle.sctp_model.proofs.sender.Sender.{Sender}
@@ -138,16 +137,14 @@ unassembled-of setup w log g r =
         → Receiver.has_arrived w n ≡ true
     complete n kind e (inl lt) =
         CompleteMessages.complete-come (view w) log n r.known.arrivals.arrived (g.sender.within n lt) (sym (r.known.complete.agrees n lt) ∙ e)
-    complete n kind e (inr ge) = ap (λ c. c == Messages.fragment_count w n) (none n ge)
-        ∙ ap (λ m. 0 == length (pieces (length m.bytes) w.setup.size m.bytes)) (beyond n ge)
+    complete n kind e (inr ge) = cc (none n ge, beyond n ge)
 
     arrived : (n : ℕ) → Changes.becomes_complete w n ≡ true → (n < length w.messages) ⊎ (length w.messages ≤ n) → Receiver.is_complete_message w n ≡ true
     arrived n e (inl lt) =
         let a = both (not (Messages.message_at w n).ordered) (CompleteMessages.due (view w) n) e in
         r.known.complete.agrees n lt ∙ CompleteMessages.due-complete (view w) log n (Known.hears w log r.known.arrivals) (g.sender.within n lt)
         (g.sender.some n lt) (negated (Messages.message_at w n).ordered a.0) a.1
-    arrived n e (inr ge) =
-        ap (λ m. if m.ordered then Receiver.has_arrived w n else m.read || list_any (λ k. k == n) (Messages.stream_of w m.stream).complete) (beyond n ge)
+    arrived n e (inr ge) = cc (beyond n ge)
 
 pub order-of : (setup : Setup) (w : LinkRecord) → Consistent setup w → InOrder w
 order-of setup w g = record {
@@ -379,10 +376,7 @@ held-later u v a l s k lt e =
         (ap (λ f. nat_le (f s) (index v.x k)) l.names ∙ ap (λ x. nat_le (u.named s) (index x k)) l.shapes ∙ n)
 
 next-later : (u v : View) → Later u v → (s : ℕ) → next v s ≡ next u s
-next-later u v l s =
-    ap (λ f. f s + length (leading v.read (drop (f s) (numbers_where (on v.x s) 0 v.x.count)))) l.names
-    ∙ ap (λ r. u.named s + length (leading r (drop (u.named s) (numbers_where (on v.x s) 0 v.x.count)))) l.reads
-    ∙ ap (λ x. u.named s + length (leading u.read (drop (u.named s) (numbers_where (on x s) 0 x.count)))) l.shapes
+next-later u v l s = cc (l.names, l.reads, l.shapes)
 
 -- what is new later was new before
 new-later : (w v : LinkRecord) (p : ℕ) → Later (view w) (view v) → Receiver.is_new v p ≡ true → Receiver.is_new w p ≡ true
@@ -398,13 +392,7 @@ new-later w v p l e = new-unseen w p
 adds-it : (w : LinkRecord) (t : ℕ → Bool) (ps : List ℕ) (p : ℕ) (qs : List ℕ) → Receiver.is_new w p ≡ true → t (Messages.message_of w p) ≡ true
     → list_any (λ z. z == Messages.index_of w (Messages.message_of w p))
     (map (Messages.index_of w) (filter t (map (Messages.message_of w) (filter (Receiver.is_new w) (ps ++ p ∷ qs))))) ≡ true
-adds-it w t [] p qs new on' =
-    ap (λ b. list_any (λ z. z == Messages.index_of w (Messages.message_of w p)) (map (Messages.index_of w)
-    (filter t (map (Messages.message_of w) (if b then p ∷ filter (Receiver.is_new w) qs else filter (Receiver.is_new w) qs))))) new
-    ∙ ap (λ b. list_any (λ z. z == Messages.index_of w (Messages.message_of w p)) (map (Messages.index_of w) (if b then Messages.message_of w p ∷ filter t
-    (map (Messages.message_of w) (filter (Receiver.is_new w) qs)) else filter t (map (Messages.message_of w) (filter (Receiver.is_new w) qs))))) on'
-    ∙ ap (λ b. b || list_any (λ z. z == Messages.index_of w (Messages.message_of w p)) (map (Messages.index_of w)
-    (filter t (map (Messages.message_of w) (filter (Receiver.is_new w) qs))))) (same-yes (Messages.index_of w (Messages.message_of w p)))
+adds-it w t [] p qs new on' = cc (new, on', same-yes (Messages.index_of w (Messages.message_of w p)))
 adds-it w t (q ∷ ps) p qs new on' = step (Receiver.is_new w q) (t (Messages.message_of w q)) refl (adds-it w t ps p qs new on')
   where
     rest : List ℕ
@@ -420,9 +408,7 @@ adds-it w t (q ∷ ps) p qs new on' = step (Receiver.is_new w q) (t (Messages.me
         ap (λ c. among (if c then Messages.message_of w q ∷ filter t (map (Messages.message_of w) rest) else filter t (map (Messages.message_of w) rest))) e
         ∙ or-right (Messages.index_of w (Messages.message_of w q) == Messages.index_of w (Messages.message_of w p))
         (among (filter t (map (Messages.message_of w) rest))) ih
-    step true false e ih =
-        ap (λ c. among (if c then Messages.message_of w q ∷ filter t (map (Messages.message_of w) rest) else filter t (map (Messages.message_of w) rest))) e
-        ∙ ih
+    step true false e ih = cc (e, ih)
 
 fits-after : (w : LinkRecord) (k : ℕ) (d : Datagram) → refusal_of w (E.Arrive k) ≡ None → slice_get w.network k ≡ Some d
     → (Receiver.spans_fit w (adds_to_span w (Some d)) ≡ true) × (Receiver.spans_fit (Changes.after_arrive w (Some d)) (adds_to_span w (Some d)) ≡ true)

@@ -141,9 +141,7 @@ view_by x arrived read named complete skipped = record { x = x; arrived = arrive
 view-streams : (w : LinkRecord) (rs : List StreamRecord) (named : ℕ → ℕ) (complete : ℕ → List ℕ)
     → ((t : ℕ) → (stream_of (record w { streams = rs }) t).named ≡ named t) → ((t : ℕ) → (stream_of (record w { streams = rs }) t).complete ≡ complete t)
     → view (record w { streams = rs }) ≡ record (view w) { named = named; complete = complete }
-view-streams w rs named complete a b =
-    ap (λ f. view_by (shape w) (arrived_at w) (view w).read f (λ t. (stream_of (record w { streams = rs }) t).complete) w.skipped) (fun_ext a)
-    ∙ ap (λ f. view_by (shape w) (arrived_at w) (view w).read named f w.skipped) (fun_ext b)
+view-streams w rs named complete a b = cc (fun_ext a, fun_ext b)
 
 pub view-opened : (w : LinkRecord) (s : ℕ) → Messages.is_open w s ≡ false → view (Changes.after_open w s) ≡ view w
 view-opened w s e = view-streams w (w.streams ++ no_stream s ∷ []) (view w).named (view w).complete (λ t. ap (λ r. r.named) (find-more s t w.streams e))

@@ -2,7 +2,7 @@
 use Rattle.std.proofs.Common.{◌≡◌, ℕ, suc, ◌<◌, Bool, true, List, [], ◌∷◌, length, get_or, refl, arith, zero, ◌+◌, false, Some, ap, sym, ◌∙◌, take, ◌≤◌, drop}
 use Rattle.std.proofs.Common.{None, ◌++◌, map, length-take}
 use Rattle.std.specs.List.{list_all, list_any, AllByRecursion, filter}
-use Rattle.std.specs.Prelude.{◌&&◌, slice_get, ◌||◌, find, if◌then◌else◌, slice_index_or, slice_set, is_some, min}
+use Rattle.std.specs.Prelude.{◌&&◌, slice_get, find, if◌then◌else◌, slice_index_or, slice_set, is_some, min}
 use Rattle.std.proofs.lemmas.Option.{slice_get-get_or}
 use Rattle.std.proofs.lemmas.List.Folds.{list_all_more}
 use Rattle.std.proofs.Math.ListN.{drop_of_length-le}
@@ -22,8 +22,7 @@ all-from p (x ∷ xs) h = and (p x) (list_all p xs) (h 0 x (omega arith)) (all-f
 pub all-more : {X : Type 0} (P : X → Bool) (rs : List X) (i : ℕ) (b : Bool) → i < length rs → ((r : X) → slice_get rs i ≡ Some r → b ≡ P r)
     → list_all P (take i rs) ≡ true → list_all P (take (i + 1) rs) ≡ b
 all-more P [] i b lt h e = absurd (omega arith)
-all-more P (r ∷ rs) i b lt h e = list_all_more P (r ∷ rs) i r lt ∙ ap (λ c. c && P (get_or (r ∷ rs) i r)) e
-    ∙ sym (h (get_or (r ∷ rs) i r) (slice_get-get_or (r ∷ rs) i r lt))
+all-more P (r ∷ rs) i b lt h e = cc (list_all_more P (r ∷ rs) i r lt, e, h (get_or (r ∷ rs) i r) (slice_get-get_or (r ∷ rs) i r lt))
 
 pub all-no : {X : Type 0} (P : X → Bool) (rs : List X) (i : ℕ) → list_all P (take i rs) ≡ false → list_all P rs ≡ false
 all-no P rs zero e = cc
@@ -39,8 +38,7 @@ pub any-same : (p q : GapAckBlock → Bool) (old new : List GapAckBlock) → len
 any-same p q [] [] e h = refl
 any-same p q [] (c ∷ cs) e h = absurd (omega (arith, e))
 any-same p q (b ∷ bs) [] e h = absurd (omega (arith, e))
-any-same p q (b ∷ bs) (c ∷ cs) e h = ap (λ t. t || list_any p cs) (h 0 b (omega arith))
-    ∙ ap (λ t. q b || t) (any-same p q bs cs (omega (arith, e)) (λ i d lt. h (suc i) d (omega (arith, lt))))
+any-same p q (b ∷ bs) (c ∷ cs) e h = cc (h 0 b (omega arith), any-same p q bs cs (omega (arith, e)) (λ i d lt. h (suc i) d (omega (arith, lt))))
 
 -- one TSN further in the search
 pub found-step : (p : ℕ → Bool) (ts : List ℕ) (i : ℕ) (b : Bool) → i < length ts → p (get_or ts i 0) ≡ b → find p ts ≡ find p (drop i ts)

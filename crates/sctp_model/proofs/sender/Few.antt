@@ -34,8 +34,7 @@ counted g most (suc things) h =
         ∙ (let z = length-append (numbers_where (λ p. g p == k) 0 things) [] in omega (arith, z)))
 
     here : length (numbers_where (λ p. g p == g things) 0 (suc things)) ≡ length (numbers_where (λ p. g p == g things) 0 things) + 1
-    here = more (g things) ∙ ap (λ b. length (numbers_where (λ p. g p == g things) 0 things ++ (if b then things ∷ [] else []))) (same-yes (g things))
-        ∙ length-append (numbers_where (λ p. g p == g things) 0 things) (things ∷ [])
+    here = cc (more (g things), same-yes (g things), length-append (numbers_where (λ p. g p == g things) 0 things) (things ∷ []))
 
 length-split : (p q : ℕ → Bool) (from count : ℕ)
     → length (numbers_where (λ k. p k && not (q k)) from count) + length (numbers_where (λ k. p k && q k) from count) ≡ length (numbers_where p from count)

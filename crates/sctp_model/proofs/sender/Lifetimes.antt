@@ -42,8 +42,7 @@ started-now w now n lt = ap (λ m. m.started) (map-at (Changes.start_lifetime no
 started-sent : (w : LinkRecord) (now n : ℕ) (o : Option ℕ) → n < length w.messages
     → (Messages.message_at (Changes.send_from (Changes.after_start w now) o) n).started ≡ or_else (Messages.message_at w n).started (Some now)
 started-sent w now n None lt = started-now w now n lt
-started-sent w now n (Some m) lt = ap (λ ms. (slice_index_or ms n Messages.no_message).started) (messages-sent (Changes.after_start w now))
-    ∙ started-now w now n lt
+started-sent w now n (Some m) lt = cc (messages-sent (Changes.after_start w now), started-now w now n lt)
 
 started-abandoned : (w : LinkRecord) (m n : ℕ) → (Messages.message_at (Changes.after_abandon w m) n).started ≡ (Messages.message_at w n).started
 started-abandoned w m n = step (Messages.is_partially_sent w m)

@@ -206,8 +206,7 @@ send-made setup h is run now d tsn ssn count chunks e m = step (Messages.front w
         let same : shape (after w (E.Send now)) ≡ shape v = ap shape made in
         record {
           filled = send-fills setup w now n (consistent-run setup h run).setup_is f;
-          many = sym (ap length listed) ∙ length-mapped (chunk_at (after w (E.Send now))) (numbers_from (length w.slots) count)
-              ∙ length-numbers (length w.slots) count;
+          many = cc (listed, length-mapped (chunk_at (after w (E.Send now))) (numbers_from (length w.slots) count), length-numbers (length w.slots) count);
           is = sym (ap packet_length listed) ∙ packet-is (after w (E.Send now)) (length w.slots) count
               ∙ ap (λ x. 12 + total_over (λ p. data_length (data_in x p)) (numbers_from (length w.slots) count)) same
               ∙ ap (λ k. 12 + total_over (λ p. data_length (data_in (shape v) p)) (numbers_from (length w.slots) k)) (sym all);

@@ -46,8 +46,7 @@ place-same setup w tsn g = ap (λ s. place_in s tsn) g.setup_is
 made-step : (setup : Setup) (w : LinkRecord) (e : Event) → IsSetup setup → Consistent setup w
     → map kind_of (after w e).network ≡ map kind_of w.network ++ made_by setup e (reply_to w e)
 made-step setup w (E.Send now) is g = made-sent setup w now (Messages.front w) is g
-made-step setup w (E.Resend tsn) is g = kinds-more w (Changes.after_resend w tsn) (W.Data (Messages.place_of w tsn ∷ [])) refl
-    ∙ ap (λ p. map kind_of w.network ++ MadeData (p ∷ []) ∷ []) (place-same setup w tsn g)
+made-step setup w (E.Resend tsn) is g = cc (kinds-more w (Changes.after_resend w tsn) (W.Data (Messages.place_of w tsn ∷ [])) refl, place-same setup w tsn g)
 made-step setup w (E.Skip upto names) is g = kinds-more w (after w (E.Skip upto names)) (Forward (Messages.place_of w upto) names.items) refl
     ∙ ap (λ p. map kind_of w.network ++ MadeForward p names.items ∷ []) (place-same setup w upto g)
 made-step setup w (E.Ack credit) is g = map-append kind_of w.network _
@@ -56,9 +55,7 @@ made-step setup w event is g = kinds-same w (after w event) (network-after w eve
 pub made-run : (setup : Setup) (h : History) → IsSetup setup → IsRun setup h → map kind_of (record_of setup h).network ≡ made_in setup h
 made-run setup [] is run = refl
 made-run setup (entry ∷ older) is run =
-    made-step setup (record_of setup older) entry.0 is (consistent-run setup older run.1.1)
-    ∙ ap (λ l. l ++ made_by setup entry.0 (reply_to (record_of setup older) entry.0)) (made-run setup older is run.1.1)
-    ∙ ap (λ r. made_in setup older ++ made_by setup entry.0 r) (sym run.1.0)
+    cc (made-step setup (record_of setup older) entry.0 is (consistent-run setup older run.1.1), made-run setup older is run.1.1, run.1.0)
 
 pub network_is_made : OnEveryRun NetworkIsMade
 network_is_made setup h is run = made-run setup h is run

@@ -14,7 +14,7 @@ use Rattle.sctp_model.specs.Messages
 use Rattle.sctp_model.specs.Messages.{stream_of}
 use Rattle.sctp_model.specs.Receiver.{next_read, is_new}
 use Rattle.sctp_model.specs.Changes
-use Rattle.sctp_model.specs.Log.{Mode, mode_in, mode_for, modes_in}
+use Rattle.sctp_model.specs.Log.{Mode, mode_in, modes_in}
 use Rattle.sctp_model.specs.Steps.{History, record_of, IsRun, refusal_of, after}
 use Rattle.sctp_model.specs.Laws.{OnEveryRun, ModesAreKept, mode_of}
 use Rattle.sctp_model.proofs.sender.SenderRun.{consistent-run, fold-keeps, unless-holds, written_as}
@@ -147,8 +147,7 @@ moded-step setup older e r ok run m = record { streams = streams e ok; messages 
     streams event ok t = modes-quiet w (after w event) (Moves.quiet-after setup w event refl (consistent-run setup older run)) t ∙ m.streams t
 
     messages : (e : Event) → kept_modes (after w e) ≡ modes_in ((e, r) ∷ older)
-    messages (E.Write s ppi (b ∷ bs)) = map-append mode_of w.messages (written_as w s ppi (b ∷ bs) ∷ [])
-        ∙ ap (λ l. l ++ mode_for ppi (mode_now (stream_of w s)) ∷ []) m.messages ∙ ap (λ y. modes_in older ++ mode_for ppi y ∷ []) (m.streams s)
+    messages (E.Write s ppi (b ∷ bs)) = cc (map-append mode_of w.messages (written_as w s ppi (b ∷ bs) ∷ []), m.messages, m.streams s)
     messages (E.Start now) = kept-sent w now None ∙ m.messages
     messages (E.Send now) = kept-sent w now (Messages.front w) ∙ m.messages
     messages (E.Expire now) = kept-expired w (Changes.expiring w now) ∙ m.messages

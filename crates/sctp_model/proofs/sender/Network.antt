@@ -470,8 +470,7 @@ name-stays w v upto n s x f =
 names-stay : (w v : LinkRecord) (upto : ℕ) → Sender (shape w) → Extends w v → (ns : List ℕ) → NamesFit (shape w) upto ns
     → map (name_of v) ns ≡ map (name_of w) ns
 names-stay w v upto s x [] f = refl
-names-stay w v upto s x (n ∷ ns) f = ap (λ c. c ∷ map (name_of v) ns) (name-stays w v upto n s x f.0)
-    ∙ ap (λ l. name_of w n ∷ l) (names-stay w v upto s x ns f.1)
+names-stay w v upto s x (n ∷ ns) f = cc (name-stays w v upto n s x f.0, names-stay w v upto s x ns f.1)
 
 pub contents-stay : (w v : LinkRecord) (d : Datagram) → Sender (shape w) → Extends w v → Fits (shape w) d → contents_of v d ≡ contents_of w d
 contents-stay w v (W.Data ps) s x f = ap DataContents (chunks-stay w v s x ps f)

@@ -171,8 +171,7 @@ sender-expired x n s z = record {
 -- ## Writes
 
 pub sent-none : (x : Shape) (n : ℕ) → Sender x → x.count ≤ n → sent x n ≡ 0
-sent-none x n s le =
-    ap length (kept-none (has x n) 0 x.slots (λ p a b. fails (has x n p) (λ h. absurd (omega (arith, (of-has x n p h).0, s.made p (omega arith))))))
+sent-none x n s le = cc (kept-none (has x n) 0 x.slots (λ p a b. fails (has x n p) (λ h. absurd (omega (arith, (of-has x n p h).0, s.made p (omega arith))))))
 
 module _ (x : Shape) (m : MessagePart) where
   abbrev z : Shape

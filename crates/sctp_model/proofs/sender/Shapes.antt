@@ -1,4 +1,4 @@
-use Rattle.std.proofs.Common.{◌≡◌, ℕ, ◌+◌, Bool, true, false, List, [], ◌∷◌, ◌++◌, length, map, get_or, refl, ap, ◌∙◌, length-append}
+use Rattle.std.proofs.Common.{◌≡◌, ℕ, ◌+◌, Bool, true, false, List, [], ◌∷◌, ◌++◌, length, map, get_or, refl, ◌∙◌, length-append}
 use Rattle.std.proofs.Math.Path.{fun_ext}
 use Rattle.std.specs.Prelude.{if◌then◌else◌, ◌==◌, ◌||◌}
 use Rattle.sctp_util.specs.Lists.{change_at, each_numbered}
@@ -21,16 +21,12 @@ shape_by size count message slots slot = record { size = size; count = count; me
 -- other messages
 shape-messages : (w : LinkRecord) (ms : List Message) (count : ℕ) (message : ℕ → MessagePart) → length ms ≡ count
     → ((k : ℕ) → message_part (get_or ms k no_message) ≡ message k) → shape (record w { messages = ms }) ≡ record (shape w) { count = count; message = message }
-shape-messages w ms count message a b =
-    ap (λ c. shape_by w.setup.size c (λ k. message_part (get_or ms k no_message)) (length w.slots) (λ p. slot_part (slot_at w p))) a
-    ∙ ap (λ f. shape_by w.setup.size count f (length w.slots) (λ p. slot_part (slot_at w p))) (fun_ext b)
+shape-messages w ms count message a b = cc (a, fun_ext b)
 
 -- other slots
 shape-slots : (w : LinkRecord) (xs : List Slot) (slots : ℕ) (slot : ℕ → SlotPart) → length xs ≡ slots → ((p : ℕ) → slot_part (get_or xs p no_slot) ≡ slot p)
     → shape (record w { slots = xs }) ≡ record (shape w) { slots = slots; slot = slot }
-shape-slots w xs slots slot a b =
-    ap (λ c. shape_by w.setup.size (length w.messages) (λ k. message_part (message_at w k)) c (λ p. slot_part (get_or xs p no_slot))) a
-    ∙ ap (λ f. shape_by w.setup.size (length w.messages) (λ k. message_part (message_at w k)) slots f) (fun_ext b)
+shape-slots w xs slots slot a b = cc (a, fun_ext b)
 
 pub shape-started : (w : LinkRecord) (now : ℕ) → shape (Changes.after_start w now) ≡ shape w
 shape-started w now = shape-messages w (map (Changes.start_lifetime now) w.messages) (length w.messages) (λ k. message_part (message_at w k))

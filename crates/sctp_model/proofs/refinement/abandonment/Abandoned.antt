@@ -148,8 +148,7 @@ module _ (w : LinkRecord) (n : ℕ) where
       ∙ ap (λ l. selected_of v (first_of l)) (sym less)
     where
       less : messages_where v (is_partially_sent v) ≡ numbers_where (λ k. is_partially_sent w k && not (k == n)) 0 (length w.messages)
-      less = ap (numbers_where (is_partially_sent v) 0) count-messages
-          ∙ kept-same (is_partially_sent v) (λ k. is_partially_sent w k && not (k == n)) 0 (length w.messages) (λ k a b. partial-then k)
+      less = cc (count-messages, kept-same (is_partially_sent v) (λ k. is_partially_sent w k && not (k == n)) 0 (length w.messages) (λ k a b. partial-then k))
 
       none : (j : ℕ) → is_partially_sent w j ≡ true → j ≡ n → numbers_where (λ k. is_partially_sent w k && not (k == n)) 0 (length w.messages) ≡ []
       none j h e = kept-none (λ k. is_partially_sent w k && not (k == n)) 0 (length w.messages) (λ k a b. one k (is_partially_sent w k) refl)
@@ -172,8 +171,7 @@ module _ (w : LinkRecord) (n : ℕ) where
 
       by : (l : List ℕ) → FrontOf (is_partially_sent w) 0 (length w.messages) l → selected_without n (selected_of w (first_of l))
           ≡ selected_of v (first_of (numbers_where (λ k. is_partially_sent w k && not (k == n)) 0 (length w.messages)))
-      by [] f = ap (λ l. selected_of v (first_of l))
-          (sym (kept-none (λ k. is_partially_sent w k && not (k == n)) 0 (length w.messages) (λ k a b. ap (λ c. c && not (k == n)) (f k a b))))
+      by [] f = cc (kept-none (λ k. is_partially_sent w k && not (k == n)) 0 (length w.messages) (λ k a b. ap (λ c. c && not (k == n)) (f k a b)))
       by (j ∷ l) f = by_same {
           P = selected_without n (selected_of w (Some j))
           ≡ selected_of v (first_of (numbers_where (λ k. is_partially_sent w k && not (k == n)) 0 (length w.messages)))} j n
@@ -185,10 +183,8 @@ module _ (w : LinkRecord) (n : ℕ) where
 
   pub pending-given : Sender (shape w) → (q : Pending) → RefinesPending w q → RefinesPending v (without n q)
   pending-given s q t = record {
-    ordered = ap (payload_less) t.ordered ∙ those-gathered w (λ k. not (k == n)) (waits_ordered w) 0 (length w.messages)
-        ∙ sym (where-less (λ m. m.ordered) (λ m. refl));
-    unordered = ap (payload_less) t.unordered ∙ those-gathered w (λ k. not (k == n)) (waits_unordered w) 0 (length w.messages)
-        ∙ sym (where-less (λ m. not m.ordered) (λ m. refl));
+    ordered = cc (t.ordered, those-gathered w (λ k. not (k == n)) (waits_ordered w) 0 (length w.messages), where-less (λ m. m.ordered) (λ m. refl));
+    unordered = cc (t.unordered, those-gathered w (λ k. not (k == n)) (waits_unordered w) 0 (length w.messages), where-less (λ m. not m.ordered) (λ m. refl));
     selected = ap (selected_without n) t.selected ∙ selected-then s;
   }
     where

@@ -122,8 +122,7 @@ module _ (setup : Setup) (w : LinkRecord) (tsn : ℕ) (q : Outbound) (g : Consis
 
   pub next-abandon : tsn_after_of (to_abandon (find (has_tsn tsn) q.inflight.chunks)) (tsn_of w (length w.slots)) q ≡ tsn_of (after w (E.Abandon tsn))
       (length (after w (E.Abandon tsn)).slots)
-  next-abandon = subst (λ k. tsn_after_of (to_abandon (find (has_tsn k) q.inflight.chunks)) (tsn_of w (length w.slots)) q
-      ≡ tsn_of (after w (E.Abandon tsn)) (length (after w (E.Abandon tsn)).slots)) back (next-tsn setup w (place_of w tsn) q g low high t)
+  next-abandon = cc (back, next-tsn setup w (place_of w tsn) q g low high t)
 
 -- ## Tail
 

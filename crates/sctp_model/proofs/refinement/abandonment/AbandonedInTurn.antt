@@ -251,8 +251,7 @@ all-fly w (p ∷ ps) first short a =
 messages-back : (w : LinkRecord) (ps : List ℕ) → w.setup.first < 2 ^ 32 → length w.slots < 2 ^ 32 → AllInFlight w ps
     → map (message_of_tsn w) (map (tsn_of w) ps) ≡ map (message_of w) ps
 messages-back w [] first short a = refl
-messages-back w (p ∷ ps) first short a = ap (λ k. message_of w k ∷ map (message_of_tsn w) (map (tsn_of w) ps))
-    (place-back w p first (omega (arith, a.1, short))) ∙ ap (λ l. message_of w p ∷ l) (messages-back w ps first short a.2)
+messages-back w (p ∷ ps) first short a = cc (place-back w p first (omega (arith, a.1, short)), messages-back w ps first short a.2)
 
 module _ (w : LinkRecord) (now : ℕ) (q : Outbound) (ts : List ℕ) (is : IsSetup w.setup) (g : Consistent w.setup w) (made : w.taken ≤ length w.slots)
     (t : RefinesOutbound w q) (listed : ts ≡ late_tsns now q) where
@@ -284,8 +283,7 @@ module _ (w : LinkRecord) (now : ℕ) (q : Outbound) (ts : List ℕ) (is : IsSet
   pub late-done : (v : LinkRecord) (o : Option ℕ) (bytes : ℕ) → o ≡ find (λ t. is_partially_sent w (message_of_tsn w t)) ts
       → GivesInTurn w v o ts (length ts) bytes → IsRight w (E.Late now) (R.Late (length ts) bytes) v
   late-done v o bytes e i = record {
-    right = ap (λ k. R.Late k bytes) (ap length here ∙ length-mapped (tsn_of w) (late_slots w now))
-        ∙ ap (R.Late (length (late_slots w now))) (i.bytes_are ∙ ap (growth w) moves);
+    right = cc (here, length-mapped (tsn_of w) (late_slots w now), i.bytes_are, moves);
     moves = moves;
   }
     where

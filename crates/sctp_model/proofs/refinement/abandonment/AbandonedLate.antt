@@ -5,7 +5,7 @@ use Rattle.sctp_util.specs.Lists.{change_at}
 use Rattle.sctp_model.specs.LinkRecord.{LinkRecord, Message}
 use Rattle.sctp_model.specs.Messages.{message_at, no_message, fragment_count, sent_of, is_partially_sent}
 use Rattle.sctp_model.specs.Changes.{after_abandon, with_slot, message_changed, mark_abandoned}
-use Rattle.sctp_model.proofs.refinement.abandonment.Abandoned.{marked, abandoned-then, partial-then}
+use Rattle.sctp_model.proofs.refinement.abandonment.Abandoned.{abandoned-then, partial-then}
 use Rattle.sctp_model.proofs.refinement.abandonment.NothingHeld.{sent-same}
 
 -- ## Once more
@@ -54,6 +54,5 @@ pub partial-still : (w : LinkRecord) (n k : ℕ) → is_partially_sent (after_ab
 partial-still w n k = by (is_partially_sent w n)
   where
     by : (b : Bool) → is_partially_sent (message_changed (if b then with_slot w n true else w) n mark_abandoned) k ≡ (is_partially_sent w k && not (k == n))
-    by true = ap (λ c. nat_lt 0 c && (nat_lt c (fragment_count (marked w n) k) && not (message_at (marked w n) k).abandoned)) (sent-same w n k)
-        ∙ partial-then w n k
+    by true = cc (sent-same w n k, partial-then w n k)
     by false = partial-then w n k

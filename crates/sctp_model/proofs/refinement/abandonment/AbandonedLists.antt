@@ -30,10 +30,8 @@ those-message w n t is = by (t n) refl is
     by : (b : Bool) → t n ≡ b → (is : List ℕ) → filter (λ c. t c.message_id) (map (waiting_at w n) is) ≡ (if b then map (waiting_at w n) is else [])
     by true e [] = refl
     by false e [] = refl
-    by true e (i ∷ is) = ap (λ b. if b then waiting_at w n i ∷ filter (λ c. t c.message_id) (map (waiting_at w n) is)
-        else filter (λ c. t c.message_id) (map (waiting_at w n) is)) e ∙ ap (λ l. waiting_at w n i ∷ l) (by true e is)
-    by false e (i ∷ is) = ap (λ b. if b then waiting_at w n i ∷ filter (λ c. t c.message_id) (map (waiting_at w n) is)
-        else filter (λ c. t c.message_id) (map (waiting_at w n) is)) e ∙ by false e is
+    by true e (i ∷ is) = cc (e, by true e is)
+    by false e (i ∷ is) = cc (e, by false e is)
 
 pub those-gathered : (w : LinkRecord) (t p : ℕ → Bool) (from count : ℕ)
     → filter (λ c. t c.message_id) (flat_map (waiting_of w) (numbers_where p from count)) ≡ flat_map (waiting_of w) (numbers_where (λ k. p k && t k) from count)

@@ -52,10 +52,8 @@ without-waiting w n k xs = by (k == n) refl xs
     by : (b : Bool) → (k == n) ≡ b → (xs : List ℕ) → without_message n (map (waiting_at w k) xs) ≡ (if b then [] else map (waiting_at w k) xs)
     by true e [] = refl
     by false e [] = refl
-    by true e (x ∷ xs) =
-        ap (λ b. if not b then waiting_at w k x ∷ without_message n (map (waiting_at w k) xs) else without_message n (map (waiting_at w k) xs)) e ∙ by true e xs
-    by false e (x ∷ xs) = ap (λ b. if not b then waiting_at w k x ∷ without_message n (map (waiting_at w k) xs)
-        else without_message n (map (waiting_at w k) xs)) e ∙ ap (λ l. waiting_at w k x ∷ l) (by false e xs)
+    by true e (x ∷ xs) = cc (e, by true e xs)
+    by false e (x ∷ xs) = cc (e, by false e xs)
 
 -- closing up changes what waits one by one
 changed-waiting : (t : ChunkPayloadData → Bool) (f : ChunkPayloadData → ChunkPayloadData) (g h : ℕ → ChunkPayloadData)
@@ -145,8 +143,7 @@ module _ (setup : Setup) (w : LinkRecord) (n : ℕ) (g : Going setup w) (is : fr
   -- the count of all, which a later write takes
   pub before-all : (s : ℕ) → ordered_before v s (length v.messages) + (if ((message_at w n).stream == s) && (message_at w n).ordered then 1 else 0)
       ≡ ordered_before w s (length w.messages)
-  before-all s = ap (λ c. ordered_before v s c + (if ((message_at w n).stream == s) && (message_at w n).ordered then 1 else 0)) len-same
-      ∙ before-high s (length w.messages) f.takes.made
+  before-all s = cc (len-same, before-high s (length w.messages) f.takes.made)
 
   -- ## The numbers of messages
 
@@ -239,11 +236,7 @@ module _ (setup : Setup) (w : LinkRecord) (n : ℕ) (g : Going setup w) (is : fr
                       ∙ same-yes (message_at w n).stream) e)) ∙ before-high (message_at w k).stream k lt)
 
                   number : (ssn_of w k + (2 ^ 16 - 1)) % 2 ^ 16 ≡ ssn_of v k
-                  number =
-                      ap (λ b. ((if b then ordered_before w (message_at w k).stream k else (message_at w k).before) % 2 ^ 16 + (2 ^ 16 - 1)) % 2 ^ 16) o
-                      ∙ lower (ordered_before v (message_at w k).stream k) (ordered_before w (message_at w k).stream k) less
-                      ∙ sym (ap (λ x. (if x.ordered then ordered_before v x.stream k else x.before) % 2 ^ 16) (message-other k ne)
-                      ∙ ap (λ b. (if b then ordered_before v (message_at w k).stream k else (message_at w k).before) % 2 ^ 16) o)
+                  number = cc (o, lower (ordered_before v (message_at w k).stream k) (ordered_before w (message_at w k).stream k) less, message-other k ne)
 
                   one : (i : ℕ)
                       → (if (message_at w k).stream == (message_at w n).stream then one_lower (waiting_at w k i) else waiting_at w k i) ≡ waiting_at v k i
@@ -326,9 +319,7 @@ module _ (setup : Setup) (w : LinkRecord) (n : ℕ) (g : Going setup w) (is : fr
       && (nat_lt (sent_of w k) (length (pieces (length x.bytes) w.setup.size x.bytes)) && not x.abandoned)) (λ x. refl) n k w.messages no_message
 
   selected-v : selected_of v (first_of (messages_where v (is_partially_sent v))) ≡ None
-  selected-v =
-      ap (λ l. selected_of v (first_of l))
-      (kept-none (is_partially_sent v) 0 (length v.messages) (λ k a b. partial-v k ∙ partial-none k (omega (arith, b, len-same))))
+  selected-v = cc (kept-none (is_partially_sent v) 0 (length v.messages) (λ k a b. partial-v k ∙ partial-none k (omega (arith, b, len-same))))
 
   selected-w : selected_of w (first_of (messages_where w (is_partially_sent w))) ≡ None
   selected-w = ap (λ l. selected_of w (first_of l)) (kept-none (is_partially_sent w) 0 (length w.messages) (λ k a b. partial-none k (omega (arith, b))))
@@ -395,16 +386,13 @@ test-same setup w n now size g is = by (sent_of w n == 0) refl
         (Messages.deadline_from (message_at w n).value (message_at w n).started)
 
     some : sent_of w n ≡ 0 → (length (fragment_at w n (sent_of w n)) == 0) ≡ false
-    some z = ap (λ i. length (fragment_at w n i) == 0) z
-        ∙ first-piece (length (message_at w n).bytes) w.setup.size (message_at w n).bytes size (g.consistent.sender.some n t.takes.made)
+    some z = cc (z, first-piece (length (message_at w n).bytes) w.setup.size (message_at w n).bytes size (g.consistent.sender.some n t.takes.made))
 
     by : (b : Bool) → (sent_of w n == 0) ≡ b
         → (b && (not (length (fragment_at w n (sent_of w n)) == 0) && (not (is_dcep (message_at w n).ppi) && is_past now (deadline_of w n))))
         ≡ ((b && not (message_at w n).expired) && is_past_deadline w now n)
     by false e = refl
-    by true e =
-        ap (λ b. not b && (not (is_dcep (message_at w n).ppi) && is_past now (deadline_of w n))) (some (same-is (sent_of w n) 0 e))
-        ∙ past_deadline ∙ ap (λ b. not b && is_past_deadline w now n) (sym t.takes.kept)
+    by true e = cc (some (same-is (sent_of w n) 0 e), past_deadline, t.takes.kept)
 
 -- ## Expire
 

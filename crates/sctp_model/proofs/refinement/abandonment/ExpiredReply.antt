@@ -86,9 +86,7 @@ reply-expire setup h is run now q r a t moved answer bytes = by a (tells setup w
     by : (a : Option (ℕ × Bool × ℕ)) → TellsOf (record_of setup h) now a → growth (record_of setup h) (after (record_of setup h) (E.Expire now))
         ≡ expired_bytes a → reply_of a ≡ expired_reply (record_of setup h) (after (record_of setup h) (E.Expire now)) (expiring (record_of setup h) now)
     by None c e = ap (expired_reply (record_of setup h) (after (record_of setup h) (E.Expire now))) (sym c)
-    by (Some a) c e =
-        ap (λ b. R.Expired a.0 b) (sym e) ∙ ap (λ s. R.Expired s (growth (record_of setup h) (after (record_of setup h) (E.Expire now)))) (sym c.stream)
-        ∙ ap (expired_reply (record_of setup h) (after (record_of setup h) (E.Expire now))) (sym c.is)
+    by (Some a) c e = cc (e, c.stream, c.is)
 
 -- ## The streams
 

@@ -46,8 +46,7 @@ module _ (w : LinkRecord) (n : ℕ) where
       none false = omega arith
 
   pending-same : (k : ℕ) → pending_bytes v k ≡ pending_bytes w k
-  pending-same k = ap (λ c. if is_expired_or_abandoned w k then 0
-      else total_over (λ i. length (Messages.fragment_at w k i)) (numbers_from c (Messages.fragment_count w k - c))) (sent-same k)
+  pending-same k = cc (sent-same k)
 
   in_flight-same : (k : ℕ) → in_flight_bytes v k ≡ in_flight_bytes w k
   in_flight-same k = ap (λ c. if is_expired_or_abandoned w k then 0 else c) slots

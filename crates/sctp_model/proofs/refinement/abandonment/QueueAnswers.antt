@@ -186,8 +186,7 @@ module _ {w : LinkRecord} {had : Outbound} {coming : ℕ} (l : Sends w had comin
 
   pub tail-right : (n s bytes : ℕ) → tailing w now ≡ Some n → s ≡ (message_at w n).stream
       → bytes ≡ growth w (after w (E.Tail now)) → R.Released s bytes ≡ reply_to w (E.Tail now)
-  tail-right n s bytes e es eb = ap (λ t. R.Released t bytes) es ∙ ap (R.Released (message_at w n).stream) eb
-      ∙ sym (ap (tail_reply w (after w (E.Tail now))) e)
+  tail-right n s bytes e es eb = cc (es, eb, e)
 
   -- where it is partially sent and late the queue abandons it
   module _ (n : ℕ) (e : tailing w now ≡ Some n) where

@@ -95,8 +95,7 @@ module _ (setup : Setup) (w : LinkRecord) (now n : ℕ) (g : Consistent setup w)
   -- an Expire takes what the front holds from its stream
   pub amount-expire : expiring w now ≡ Some n → (t : ℕ)
       → amount (after w (E.Expire now)) t + (if (message_at w n).stream == t then held_bytes w n else 0) ≡ amount w t
-  amount-expire e t = ap (λ o. amount (after_expire w o) t + (if (message_at w n).stream == t then held_bytes w n else 0)) e
-      ∙ amount-expired w n t (made-front setup w (λ n. is_unsent w n && is_past_deadline w now n) n g e)
+  amount-expire e t = cc (e, amount-expired w n t (made-front setup w (λ n. is_unsent w n && is_past_deadline w now n) n g e))
 
   pub growth-expire : IsSetup setup → expiring w now ≡ Some n → growth w (after w (E.Expire now)) ≡ held_bytes w n
   growth-expire is e =

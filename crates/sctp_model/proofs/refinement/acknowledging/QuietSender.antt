@@ -137,8 +137,7 @@ module _ (w v : LinkRecord) (s : SameToSender w v) where
     pending = record {
       ordered = t.pending.ordered ∙ sym (where-same (λ m. m.ordered && not (m.expired || m.abandoned)));
       unordered = t.pending.unordered ∙ sym (where-same (λ m. not m.ordered && not (m.expired || m.abandoned)));
-      selected = t.pending.selected
-          ∙ sym (ap (λ l. selected_of v (first_of l)) partial-same ∙ selected-same (first_of (messages_where w (is_partially_sent w))));
+      selected = cc (t.pending.selected, partial-same, selected-same (first_of (messages_where w (is_partially_sent w))));
     };
     in_flight = t.in_flight ∙ sym (ap (λ c. map (sending_at v) (numbers_from c (length v.slots - c))) s.taken
         ∙ ap (λ c. map (sending_at v) (numbers_from w.taken (c - w.taken))) s.slots

@@ -12,7 +12,6 @@ use Rattle.sctp_model.specs.LinkRecord.{LinkRecord, Report, Sack}
 use Rattle.sctp_model.specs.Messages.{message_at, slot_at, message_of, messages_where, slots_where, has_fragment, no_slot}
 use Rattle.sctp_model.specs.Amounts.{is_expired_or_abandoned, slot_bytes, in_all, on_stream, written_bytes, pending_bytes, in_flight_bytes, released_bytes}
 use Rattle.sctp_model.specs.Amounts.{growth}
-use Rattle.sctp_model.specs.Reports.{reports}
 use Rattle.sctp_model.specs.Changes.{after_acked, acknowledged_by}
 use Rattle.sctp_model.proofs.sender.Shape.{Shape, shape, sent, parts}
 use Rattle.sctp_model.proofs.sender.Shapes
@@ -143,8 +142,7 @@ module _ (w : LinkRecord) (r : Report) where
   same-shape = Shapes.shape-acknowledged w r (max w.taken r.cumulative)
 
   acknowledged-now : (k : ℕ) → k < length w.slots → acknowledged_at v k ≡ acknowledged_then w r k
-  acknowledged-now k lt = ap (λ x. x.acknowledged) (numbered-at (acknowledged_by r) 0 k w.slots no_slot lt)
-      ∙ ap (λ i. (slot_at w k).acknowledged || reports r i) (zero-add k)
+  acknowledged-now k lt = cc (numbered-at (acknowledged_by r) 0 k w.slots no_slot lt, zero-add k)
 
   -- the slots that it reports hold nothing then
   pub unacked-acked : bytes_but_for v (acknowledged_at v) ≡ bytes_but_for w (acknowledged_then w r)
@@ -163,14 +161,12 @@ module _ (w : LinkRecord) (r : Report) where
 
   -- a stream then still has what is pending on it and what its slots hold that are not acknowledged then
   pub amount-acked : (t : ℕ) → Sender (shape w) → amount v t ≡ on_stream w t (pending_bytes w) + unacked_on w (acknowledged_then w r) t
-  amount-acked t s = amount-is v t (sender-acked s) ∙ ap (λ k. k + unacked_on v (acknowledged_at v) t) (pending_on-acked t)
-      ∙ ap (λ k. on_stream w t (pending_bytes w) + k) (unacked_on-acked t)
+  amount-acked t s = cc (amount-is v t (sender-acked s), pending_on-acked t, unacked_on-acked t)
 
   -- what the slots no longer hold was released
   pub released-acked : Sender (shape w)
       → in_all v (released_bytes v) + bytes_but_for w (acknowledged_then w r) ≡ in_all w (released_bytes w) + bytes_but_for w (acknowledged_at w)
-  released-acked s = ap (λ k. in_all v (released_bytes v) + k) (sym unacked-acked) ∙ released-is v (sender-acked s) ∙ ap lost_or_sent_by same-shape
-      ∙ sym (released-is w s)
+  released-acked s = cc (unacked-acked, released-is v (sender-acked s), same-shape, released-is w s)
 
   -- that much the released bytes grow
   pub growth-acked : Sender (shape w) → growth w v ≡ bytes_but_for w (acknowledged_at w) - bytes_but_for w (acknowledged_then w r)

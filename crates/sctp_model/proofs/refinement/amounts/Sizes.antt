@@ -77,8 +77,7 @@ chunks-found P ssn f q from (suc count) none some =
 
 bytes-mapped : (w : LinkRecord) (ks : List ℕ) → bytes_of (map (chunk_at w) ks) ≡ total_over (λ k. length (chunk_at w k).user_data) ks
 bytes-mapped w [] = refl
-bytes-mapped w (k ∷ ks) = sum_by-cons (λ (c : ChunkPayloadData). length c.user_data) (chunk_at w k) (map (chunk_at w) ks)
-    ∙ ap (λ t. length (chunk_at w k).user_data + t) (bytes-mapped w ks)
+bytes-mapped w (k ∷ ks) = cc (sum_by-cons (λ (c : ChunkPayloadData). length c.user_data) (chunk_at w k) (map (chunk_at w) ks), bytes-mapped w ks)
 
 -- ## Chunks of slots
 

@@ -143,10 +143,7 @@ alive-wrote w s t ppi [] e = none (t == s) (sum_where w (is_on t) alive_bytes)
     none : (b : Bool) (k : ℕ) → k ≡ k + (if b then 0 else 0)
     none true k = omega arith
     none false k = omega arith
-alive-wrote w s t ppi (b ∷ bs) e =
-    sum-written w (message_on w (stream_of w s) ppi (b ∷ bs)) (is_on t) alive_bytes
-    ∙ ap (λ k. sum_where w (is_on t) alive_bytes + (if k == t then length (b ∷ bs) else 0)) e
-    ∙ ap (λ c. sum_where w (is_on t) alive_bytes + (if c then length (b ∷ bs) else 0)) (same-turned s t)
+alive-wrote w s t ppi (b ∷ bs) e = cc (sum-written w (message_on w (stream_of w s) ppi (b ∷ bs)) (is_on t) alive_bytes, e, same-turned s t)
 
 -- a write adds its bytes to its stream
 pub amount-wrote : (setup : Setup) (w : LinkRecord) (s t : ℕ) (ppi : PayloadProtocolIdentifier) (bytes : List ℕ) → IsSetup setup → Consistent setup w

@@ -133,11 +133,7 @@ received-added s a b c d ppi bytes = by ppi
 
 counters-sums : (w v : LinkRecord) (t a b c d : ℕ) → answered_on v t one ≡ a → answered_on v t size ≡ b → read_on v t one ≡ c → read_on v t size ≡ d
     → counters_on v t ≡ counters_by t a b c d
-counters-sums w v t a b c d e f g h =
-    ap (λ k. counters_by t k (answered_on v t size) (read_on v t one) (read_on v t size)) e
-    ∙ ap (λ k. counters_by t a k (read_on v t one) (read_on v t size)) f
-    ∙ ap (λ k. counters_by t a b k (read_on v t size)) g
-    ∙ ap (counters_by t a b c) h
+counters-sums w v t a b c d e f g h = cc (e, f, g, h)
 
 -- a write is counted on its stream, where it has a byte
 pub counters-wrote : (w : LinkRecord) (s t : ℕ) (ppi : PayloadProtocolIdentifier) (bytes : List ℕ) → refusal_of w (E.Write s ppi bytes) ≡ None

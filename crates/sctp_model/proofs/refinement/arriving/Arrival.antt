@@ -129,8 +129,7 @@ has_come-elsewhere w p n k ne = step (cases_lt k p) (cases_lt p k)
 pub kept_come-elsewhere : (w : LinkRecord) (p n : ℕ) → (message_of w p ≡ n → ⊥)
     → numbers_where (has_come (with_arrived w p) n) 0 (length (with_arrived w p).slots) ≡ numbers_where (has_come w n) 0 (length w.slots)
 kept_come-elsewhere w p n ne =
-    ap (numbers_where (has_come (with_arrived w p) n) 0) (count-arrived w p)
-    ∙ kept-same (has_come (with_arrived w p) n) (has_come w n) 0 (length w.slots) (λ k a b. has_come-elsewhere w p n k ne)
+    cc (count-arrived w p, kept-same (has_come (with_arrived w p) n) (has_come w n) 0 (length w.slots) (λ k a b. has_come-elsewhere w p n k ne))
 
 pub set_of-elsewhere : (w : LinkRecord) (p n : ℕ) → (message_of w p ≡ n → ⊥) → set_of (with_arrived w p) n ≡ set_of w n
 set_of-elsewhere w p n ne =

@@ -1,7 +1,6 @@
 -- Streams open and change their mode: the receiver's queues.
-use Rattle.std.proofs.Common.{◌≡◌, ℕ, ◌+◌, ◌<◌, Bool, true, false, [], length, map, Option, Some, None, refl, ap, sym, ◌∙◌, arith}
-use Rattle.std.specs.Prelude.{is_some, drop, unwrap_or}
-use Rattle.sctp_util.specs.Kept.{leading}
+use Rattle.std.proofs.Common.{◌≡◌, ℕ, ◌<◌, Bool, true, false, [], length, map, Option, Some, None, refl, ap, sym, ◌∙◌, arith}
+use Rattle.std.specs.Prelude.{is_some, unwrap_or}
 use Rattle.sctp_util.proofs.Passing.{kept-none}
 use Rattle.sctp_util.proofs.More.{fails, not_both}
 use Rattle.sctp_data.specs.declared.chunk.chunk_payload_data.ReliabilityType.{ReliabilityType}
@@ -51,9 +50,7 @@ module _ (setup : Setup) (w : LinkRecord) (s : ℕ) (g : Consistent setup w) (cl
   line = kept-none (is_ordered_on w s) 0 (length w.messages) (λ k a b. none-on k (omega arith))
 
   pub next : next_of w s ≡ 0
-  next =
-      ap (λ r. r.named + length (leading (λ n. (message_at w n).read) (drop r.named (ordered_on w s)))) no-record
-      ∙ ap (λ l. 0 + length (leading (λ n. (message_at w n).read) (drop 0 l))) line
+  next = cc (no-record, line)
 
   sets : ordered_sets w s ≡ []
   sets = ap (map (set_of w))

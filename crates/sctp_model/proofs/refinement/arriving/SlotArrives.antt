@@ -104,8 +104,7 @@ complete-run w n p has lt = step (slots_of w n) refl (front-kept (has_fragment w
     step : (l : List ℕ) → slots_of w n ≡ l → FrontOf (has_fragment w n) 0 (length w.slots) l
         → set_of_run (map (chunk_at w) l) ≡ (let x : ChunkSet = record { ssn = 0; ppi = (message_at w n).ppi; chunks = map (chunk_at w) l } in x)
     step [] e f = absurd (not_both (sym (f p (omega arith) (omega arith)) ∙ has))
-    step (k ∷ rest) e f = ap (λ m. let x : ChunkSet = record { ssn = 0; ppi = (message_at w m).ppi; chunks = map (chunk_at w) (k ∷ rest) } in x)
-        (Arrival.of_message w n k f.passes)
+    step (k ∷ rest) e f = cc (Arrival.of_message w n k f.passes)
 
 module _ (w : LinkRecord) (s p : ℕ) (r : StreamRecord) (valid : Valid w) (more : ValidUnassembled w) (a : Enters w s p)
     (kind : (message_at w (message_of w p)).ordered ≡ false) (open' : stream_at w s ≡ Some r) where
@@ -160,8 +159,7 @@ pub slot-elsewhere : (w : LinkRecord) (s p t : ℕ) → Valid w → Enters w s p
 slot-elsewhere w s p t valid a sp ne = by_kind (message_at w (message_of w p)).ordered refl
   where
     by_kind : (b : Bool) → (message_at w (message_of w p)).ordered ≡ b → reassembly_of (receive_slot w p) t ≡ reassembly_of w t
-    by_kind true e = ap (λ v. reassembly_of v t) (Ordered.ordered-step w s p valid (arrives w s p a e sp))
-        ∙ Ordered.ordered-elsewhere w s p valid (arrives w s p a e sp) t ne
+    by_kind true e = cc (Ordered.ordered-step w s p valid (arrives w s p a e sp), Ordered.ordered-elsewhere w s p valid (arrives w s p a e sp) t ne)
     by_kind false e = Keeps.unordered-elsewhere w s p t (arrives-unassembled w s p a e) ne
 
 -- what an arrival leaves of the record but for the slot and the stream's complete messages
@@ -176,8 +174,7 @@ noted w p e = step (becomes_complete (with_arrived w p) (message_of w p)) refl
 
 pub filter-slot : (w : LinkRecord) (p : ℕ) → Valid w → p < length w.slots → is_new w p ≡ true
     → seen_of (receive_slot w p) ≡ advance_over (seen_of w).cum (insert_before comes_before (tsn_of w p) (seen_of w).held)
-filter-slot w p valid made e =
-    (noted w p e).0 ∙ Filter.filter-arrived w p valid.skipped_made valid.few made (fresh w p e) (not-arrived w p e)
+filter-slot w p valid made e = cc ((noted w p e).0, Filter.filter-arrived w p valid.skipped_made valid.few made (fresh w p e) (not-arrived w p e))
 
 pub duplicates-slot : (w : LinkRecord) (p : ℕ) → is_new w p ≡ true → (filter_of (receive_slot w p)).duplicates ≡ (filter_of w).duplicates
 duplicates-slot w p e = step (becomes_complete (with_arrived w p) (message_of w p)) refl

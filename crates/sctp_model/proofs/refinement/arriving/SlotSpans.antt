@@ -44,8 +44,7 @@ added-any w t n (m ∷ ms) on e = step (m == n) refl (is_ordered_on w t m) refl 
     step : (b : Bool) → (m == n) ≡ b → (o : Bool) → is_ordered_on w t m ≡ o → (b || among n ms) ≡ true
         → (among n ms ≡ true → list_any (λ z. z == index_of w n) (map (index_of w) (filter (is_ordered_on w t) ms)) ≡ true)
         → list_any (λ z. z == index_of w n) (map (index_of w) (if o then m ∷ filter (is_ordered_on w t) ms else filter (is_ordered_on w t) ms)) ≡ true
-    step true h true f e ih = ap (λ k. (index_of w k == index_of w n) || list_any (λ z. z == index_of w n) (map (index_of w) (filter (is_ordered_on w t) ms)))
-        (same-is m n h) ∙ ap (λ b. b || list_any (λ z. z == index_of w n) (map (index_of w) (filter (is_ordered_on w t) ms))) (same-yes (index_of w n))
+    step true h true f e ih = cc (same-is m n h, same-yes (index_of w n))
     step true h false f e ih = absurd (not_both (sym f ∙ ap (is_ordered_on w t) (same-is m n h) ∙ on))
     step false h true f e ih = or-right (index_of w m == index_of w n) _ (ih e)
     step false h false f e ih = ih e
@@ -136,8 +135,7 @@ new-among w (q ∷ ps) p h new = step (q == p) refl (is_new w q) refl h (λ g. n
     step : (b : Bool) → (q == p) ≡ b → (o : Bool) → is_new w q ≡ o → (b || list_any (λ q. q == p) ps) ≡ true
         → (list_any (λ q. q == p) ps ≡ true → list_any (λ m. m == message_of w p) (map (message_of w) (filter (is_new w) ps)) ≡ true)
         → list_any (λ m. m == message_of w p) (map (message_of w) (if o then q ∷ filter (is_new w) ps else filter (is_new w) ps)) ≡ true
-    step true e true f g ih = ap (λ k. (message_of w k == message_of w p) || list_any (λ m. m == message_of w p) (map (message_of w) (filter (is_new w) ps)))
-        (same-is q p e) ∙ ap (λ b. b || list_any (λ m. m == message_of w p) (map (message_of w) (filter (is_new w) ps))) (same-yes (message_of w p))
+    step true e true f g ih = cc (same-is q p e, same-yes (message_of w p))
     step true e false f g ih = absurd (not_both (sym f ∙ ap (is_new w) (same-is q p e) ∙ new))
     step false e true f g ih = or-right (message_of w q == message_of w p) _ (ih g)
     step false e false f g ih = ih g

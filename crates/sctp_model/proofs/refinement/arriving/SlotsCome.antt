@@ -50,8 +50,7 @@ rest-one w p = by (is_new w p) refl
         ap (λ b. if b then note_completion (with_arrived w p) (message_of w p) else record w { duplicates = w.duplicates ++ p ∷ [] }) e in
         subst (λ (v : LinkRecord). v ≡ record w { streams = v.streams; slots = v.slots; duplicates = v.duplicates }) (sym is)
         (noted (becomes_complete (with_arrived w p) (message_of w p)) refl)
-    by false e =
-        subst (λ (v : LinkRecord). v ≡ record w { streams = v.streams; slots = v.slots; duplicates = v.duplicates }) (sym (SlotArrives.repeated w p e)) refl
+    by false e = cc (SlotArrives.repeated w p e)
 
 pub rest-all : (w v : LinkRecord) (ps : List ℕ) → v ≡ record w { streams = v.streams; slots = v.slots; duplicates = v.duplicates }
     → (let u = fold receive_slot v ps in u ≡ record w { streams = u.streams; slots = u.slots; duplicates = u.duplicates })

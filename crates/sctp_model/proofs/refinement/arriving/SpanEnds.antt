@@ -1,7 +1,7 @@
 -- The span test of a datagram of one fragment, from the ends of what a stream holds.
 use Rattle.std.proofs.Common.{◌≡◌, ℕ, zero, suc, ◌+◌, ◌-◌, ◌<◌, ◌≤◌, ◌^◌, Bool, true, false, List, [], ◌∷◌, ◌++◌, length, map, get_or, refl, ap, sym, ◌∙◌}
 use Rattle.std.proofs.Common.{arith}
-use Rattle.std.specs.Prelude.{if◌then◌else◌, ◌==◌, ◌||◌, min, max, nat_le, slice_index_or}
+use Rattle.std.specs.Prelude.{if◌then◌else◌, ◌==◌, ◌||◌, min, max, slice_index_or}
 use Rattle.std.specs.List.{list_any, list_all}
 use Rattle.std.proofs.Math.Path.{subst}
 use Rattle.std.proofs.lemmas.Bool.Decides.{nat_tests}
@@ -99,8 +99,7 @@ held-back v s n t k h =
       on = x.on;
       unread = x.unread;
       some = x.some;
-      due = ap (λ b. b || nat_le (stream_of v t).named (index_of v k)) complete
-          ∙ ap (λ m. is_complete_message u k || nat_le m (index_of v k)) (sym (Keeps.named-changed v s (with_complete n) (λ r. refl) (λ r. refl) t)) ∙ x.due;
+      due = cc (complete, Keeps.named-changed v s (with_complete n) (λ r. refl) (λ r. refl) t, x.due);
     })
 
 pub only-slot : (w : LinkRecord) (p : ℕ) → Only w (receive_slot w p) (message_of w p)

@@ -96,7 +96,4 @@ unassembled-elsewhere w p s off =
     none v k false e = refl
 
     same : (k : ℕ) → k ≡ p → is_unassembled (with_arrived w p) s k ≡ is_unassembled w s k
-    same k e =
-        ap (λ m. unassembled_as (with_arrived w p) s k m (arrived_at (with_arrived w p) k)) (Arrival.message_of-arrived w p k ∙ ap (message_of w) e)
-        ∙ none (with_arrived w p) k (arrived_at (with_arrived w p) k) off
-        ∙ sym (ap (λ m. unassembled_as w s k m (arrived_at w k)) (ap (message_of w) e) ∙ none w k (arrived_at w k) off)
+    same k e = cc (Arrival.message_of-arrived w p k, e, none (with_arrived w p) k (arrived_at (with_arrived w p) k) off, none w k (arrived_at w k) off)

@@ -79,8 +79,7 @@ hands-ordered {w} f s n o =
           (set-begins w s n f.valid.valid f.setup.first held);
       made = Line.on-made w s n o.due.on;
       stream = Line.on-stream w s n o.due.on;
-      next = o.here ∙ step (index_of w n == next_of w s) refl
-          ∙ sym (ap (λ b. if b && (index_of w n == next_of w s) then index_of w n + 1 else next_of w s) kind);
+      next = cc (o.here, step (index_of w n == next_of w s) refl, kind);
       other = o.other;
       complete = ap (λ b. if b then (stream_of w s).complete else drop 1 (stream_of w s).complete) kind ∙ o.none ∙ sym (ap (drop 1) o.none);
     }

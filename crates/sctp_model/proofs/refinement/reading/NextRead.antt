@@ -88,9 +88,7 @@ module _ (w : LinkRecord) (s : ℕ) (r : StreamRecord) (valid : Valid w) (more :
 
   rest-with : (l : List ℕ) → (stream_of w s).complete ≡ l
       → rest_among (map (complete_set_of w) l) (reassembly_of w s) ≡ reassembly_of (read_of w s (next_with l)) s
-  rest-with [] e =
-      ap (λ o. after_read o (reassembly_of w s)) (front-gives w s valid sp)
-      ∙ after-ordered due refl e ∙ ap (λ o. reassembly_of (read_of w s o) s) (sym next-due)
+  rest-with [] e = cc (front-gives w s valid sp, after-ordered due refl e, next-due)
   rest-with (n ∷ rest) e =
       let f = of-front n rest e in
       ap (λ l. let q : Reassembly = record (reassembly_of w s) { unordered = l } in q) (ap (λ l. without_first (map (complete_set_of w) l)) (sym e))

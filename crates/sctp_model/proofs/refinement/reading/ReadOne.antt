@@ -16,7 +16,7 @@ use Rattle.sctp_model.specs.Messages.{message_of, stream_at, stream_of, index_of
 use Rattle.sctp_model.specs.Receiver.{next_of, next_read, held_on, is_unread, run_of}
 use Rattle.sctp_model.specs.Changes
 use Rattle.sctp_model.specs.Changes.{read_of, after_reading, stream_changed, receive_slot}
-use Rattle.sctp_model.specs.Queues.{set_of, complete_set_of, handed_out}
+use Rattle.sctp_model.specs.Queues.{set_of, handed_out}
 use Rattle.sctp_model.specs.Steps.{History, record_of, IsRun, refusal_of, after}
 use Rattle.sctp_model.specs.Laws.{IsSetup}
 use Rattle.sctp_model.proofs.sender.SenderRun.{consistent-run, consistent-after, unless-holds}
@@ -95,8 +95,7 @@ module _ (w : LinkRecord) (s : ℕ) (r : StreamRecord) (valid : Valid w) (more :
         due = d.0;
         rest = d.1.0;
         front = d.1.1;
-        message = NextRead.message-is w s r valid more sp open' ∙ ap (map_option (handed_out w)) front
-            ∙ ap (λ x. Some x) (ap (λ b. if b then set_of w n else complete_set_of w n) kind);
+        message = cc (NextRead.message-is w s r valid more sp open', front, kind);
         here = ap (λ o. next_of (read_of w s o) s) front ∙ restreamed n s ∙ step (index_of w n == next_of w s) refl d.0;
         other = λ t ne. ap (λ o. next_of (read_of w s o) t) front ∙ restreamed n t ∙ Reading.next-other w s n valid sp d.0 t ne;
       }

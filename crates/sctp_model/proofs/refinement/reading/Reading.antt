@@ -49,8 +49,7 @@ index-read w n k =
     (λ j a b. on-read w n (message_at w k).stream j)))
 
 pub line-read : (w : LinkRecord) (n s : ℕ) → ordered_on (with_read w n) s ≡ ordered_on w s
-line-read w n s = ap (numbers_where (is_ordered_on (with_read w n) s) 0) (count-read w n)
-    ∙ kept-same (is_ordered_on (with_read w n) s) (is_ordered_on w s) 0 (length w.messages) (λ k a b. on-read w n s k)
+line-read w n s = cc (count-read w n, kept-same (is_ordered_on (with_read w n) s) (is_ordered_on w s) 0 (length w.messages) (λ k a b. on-read w n s k))
 
 pub ssn-read : (w : LinkRecord) (n k : ℕ) → ssn_of (with_read w n) k ≡ ssn_of w k
 ssn-read w n k = rw (index-read w n k, ordered-read w n k, changed-keeps mark_read (λ m. m.before) (λ m. refl) n k w.messages no_message) refl

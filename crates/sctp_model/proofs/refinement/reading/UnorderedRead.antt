@@ -55,8 +55,7 @@ module _ (w : LinkRecord) (n : ℕ) (valid : Valid w) (kind : (message_at w n).o
       at : (j : ℕ) → j < length (ordered_on w t)
           → (message_at (with_read w n) (get_or (ordered_on (with_read w n) t) j 0)).read ≡ (message_at w (get_or (ordered_on w t) j 0)).read
       at j lt =
-          ap (λ l. (message_at (with_read w n) (get_or l j 0)).read) (Reading.line-read w n t)
-          ∙ ap (λ m. m.read) (Reading.message-other w n (get_or (ordered_on w t) j 0) (off t (get_or (ordered_on w t) j 0) (index-at w t j lt).0))
+          cc (Reading.line-read w n t, Reading.message-other w n (get_or (ordered_on w t) j 0) (off t (get_or (ordered_on w t) j 0) (index-at w t j lt).0))
 
       stop : next_of w t < length (ordered_on w t) → (message_at w (get_or (ordered_on w t) (next_of w t) 0)).read ≡ false
       stop lt = let x = index-at w t (next_of w t) lt in Line.next_unread w t (get_or (ordered_on w t) (next_of w t) 0) x.0 x.1
@@ -95,10 +94,7 @@ module _ (w : LinkRecord) (s n : ℕ) (rest : List ℕ) (r : StreamRecord) (vali
           ∙ (let z : (n == n) ≡ true = grind (arith, nat_tests) in ap (λ b. b || list_any (λ k. k == n) rest) z))
 
       now : is_complete_message u n ≡ true
-      now =
-          ap (λ b. if b then has_arrived u n else ((message_at u n).read || list_any (λ k. k == n) (stream_of u (message_at u n).stream).complete))
-          (Reading.ordered-read w n n ∙ kind)
-          ∙ ap (λ b. b || list_any (λ k. k == n) (stream_of u (message_at u n).stream).complete) (Reading.read-now w n made)
+      now = cc (Reading.ordered-read w n n, kind, Reading.read-now w n made)
 
       other : (m ≡ n → ⊥) → is_complete_message u m ≡ is_complete_message w m
       other ne =

@@ -61,13 +61,11 @@ goes-on f most limit used tsn i q c ks ls complete lt shown le more e =
 -- no further one
 further-none : (most limit used tsn : ℕ) (q : Pending) → next_pending q ≡ None → further most limit used tsn q ≡ []
 further-none zero limit used tsn q none = refl
-further-none (suc most) limit used tsn q none = ap (λ o. if fits_in limit used (length_shown o)
-    then leaving tsn o ++ further most limit (plus used (length_shown o)) (following_tsn tsn) (taken_of (next_pending q) q) else []) none
+further-none (suc most) limit used tsn q none = cc none
 
 pub stops-none : {A : Type 0} (f : ChunkPayloadData → A) (most limit used tsn : ℕ) (q : Pending) (ks complete : List A) → next_pending q ≡ None
     → ks ++ map f (further most limit used tsn q) ≡ complete → ks ≡ complete
-stops-none f most limit used tsn q ks complete none e = sym (append-nil ks) ∙ ap (λ l. ks ++ map f l) (sym (further-none most limit used tsn q none))
-    ∙ e
+stops-none f most limit used tsn q ks complete none e = cc (append-nil ks, further-none most limit used tsn q none, e)
 
 -- none that fits
 further-full : (most limit used tsn : ℕ) (q : Pending) (c : ChunkPayloadData) → next_pending q ≡ Some c → limit < used + chunk_length (length c.user_data)
@@ -81,8 +79,7 @@ further-full (suc most) limit used tsn q c shown lt =
 
 pub stops-full : {A : Type 0} (f : ChunkPayloadData → A) (most limit used tsn : ℕ) (q : Pending) (c : ChunkPayloadData) (ks complete : List A)
     → next_pending q ≡ Some c → limit < used + chunk_length (length c.user_data) → ks ++ map f (further most limit used tsn q) ≡ complete → ks ≡ complete
-stops-full f most limit used tsn q c ks complete shown lt e = sym (append-nil ks)
-    ∙ ap (λ l. ks ++ map f l) (sym (further-full most limit used tsn q c shown lt)) ∙ e
+stops-full f most limit used tsn q c ks complete shown lt e = cc (append-nil ks, further-full most limit used tsn q c shown lt, e)
 
 -- ## Room
 

@@ -47,8 +47,7 @@ slots-alone w (Some n) = refl
 
 pub only-slots : (n : ℕ) (w : LinkRecord) → after_fragments n w ≡ record w { slots = (after_fragments n w).slots }
 only-slots zero w = refl
-only-slots (suc n) w = only-slots n (send_fragment w)
-    ∙ ap (λ (v : LinkRecord). record v { slots = (after_fragments n (send_fragment w)).slots }) (slots-alone w (front w))
+only-slots (suc n) w = cc (only-slots n (send_fragment w), slots-alone w (front w))
 
 -- the slots of before stay
 pub slots-longer : (n : ℕ) (w : LinkRecord) → length w.slots ≤ length (after_fragments n w).slots
@@ -107,9 +106,7 @@ fills-more w z n c cs fr is f = record {
     each (suc i) lt = ap (λ y. is_some (front (after_fragments i y))) takes ∙ f.fronts i (omega (arith, lt))
 
     slot : slot_at z (length w.slots) ≡ new
-    slot =
-        ap (λ y. slot_at y (length w.slots)) f.all ∙ slots-stay (length cs) (length w.slots) (with_slot w n false) (omega (arith, longer))
-        ∙ get-snoc_new w.slots new no_slot
+    slot = cc (f.all, slots-stay (length cs) (length w.slots) (with_slot w n false) (omega (arith, longer)), get-snoc_new w.slots new no_slot)
 
     same : z ≡ record w { slots = z.slots }
     same = f.all ∙ only-slots (length cs) (with_slot w n false) ∙ ap (λ s. record w { slots = s }) (ap (λ y. y.slots) (sym f.all))
@@ -276,10 +273,7 @@ filled-started (suc most) used w now =
         test false same = refl
 
 pub sent-started : (w : LinkRecord) (now : ℕ) → send_fragments (after_start w now) ≡ after_start (send_fragments w) now
-sent-started w now =
-    ap (λ o. fill_datagram w.setup.limit (plus 12 o) (send_fragment (after_start w now))) (next-started w now)
-    ∙ ap (fill_datagram w.setup.limit (plus 12 (next_length w))) (fragment-started w now)
-    ∙ filled-started w.setup.limit (plus 12 (next_length w)) (send_fragment w) now
+sent-started w now = cc (next-started w now, fragment-started w now, filled-started w.setup.limit (plus 12 (next_length w)) (send_fragment w) now)
 
 -- what a chunk says does not rest on lifetimes
 abbrev data_by : Shape → ℕ → ℕ → ℕ → Data
@@ -310,8 +304,7 @@ fill-started w z now cs f = record {
   where
     map-same : (ps : List ℕ) → map (λ p. data_of (chunk_at z p)) ps ≡ map (λ p. data_of (chunk_at (after_start z now) p)) ps
     map-same [] = refl
-    map-same (p ∷ ps) = ap (λ d. d ∷ map (λ p. data_of (chunk_at z p)) ps) (sym (data-started z now (slot_at z p).message (slot_at z p).fragment (tsn_of z p)))
-        ∙ ap (λ l. data_of (chunk_at (after_start z now) p) ∷ l) (map-same ps)
+    map-same (p ∷ ps) = cc (data-started z now (slot_at z p).message (slot_at z p).fragment (tsn_of z p), map-same ps)
 
 -- ## The turns
 
@@ -342,5 +335,4 @@ turns-enough (suc most) more limit used tsn q short =
         ≡ (if fits_in limit used (length_shown p) then leaving tsn p ++ further most limit (plus used (length_shown p)) (following_tsn tsn) (taken_of p q)
         else [])
     by rest None = refl
-    by rest (Some c) = ap (λ l. if fits_in limit used (length_shown (Some c)) then under_tsn tsn c ∷ l else [])
-        (rest (used + chunk_length (length c.user_data)) (taken_of (Some c) q) (omega (arith, short)))
+    by rest (Some c) = cc (rest (used + chunk_length (length c.user_data)) (taken_of (Some c) q) (omega (arith, short)))

@@ -95,8 +95,7 @@ turns-takes w n' f t n k h lt ord =
     by_same {P = unsent (slotted (shape w) n' false) k ≡ false} n' n (λ e. here e) (λ ne x. absurd (ne (sym (f.takes.alone n (other ne)))))
   where
     other : (n' ≡ n → ⊥) → partial (shape w) n ≡ true
-    other ne = ap (λ c. nat_lt 0 c && (nat_lt c (Messages.fragment_count w n) && not (Messages.message_at w n).abandoned))
-        (sym (sent-other (shape w) n' false n ne)) ∙ h
+    other ne = cc (sent-other (shape w) n' false n ne, h)
 
     here : n' ≡ n → unsent (slotted (shape w) n' false) k ≡ false
     here e =

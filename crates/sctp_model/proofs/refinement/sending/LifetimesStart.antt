@@ -1,5 +1,5 @@
 -- Lifetimes start: the outbound queue holds what the record says.
-use Rattle.std.proofs.Common.{◌≡◌, ℕ, suc, ◌-◌, ◌<◌, ◌≤◌, ◌%◌, ◌^◌, Bool, true, false, List, [], ◌∷◌, ◌++◌, length, map, Option, Some, None, refl, ap, sym, ◌∙◌}
+use Rattle.std.proofs.Common.{◌≡◌, ℕ, suc, ◌-◌, ◌<◌, ◌≤◌, Bool, true, false, List, [], ◌∷◌, ◌++◌, length, map, Option, Some, None, refl, ap, sym, ◌∙◌}
 use Rattle.std.proofs.Common.{arith}
 use Rattle.std.specs.Prelude.{if◌then◌else◌, ◌==◌, ◌&&◌, ◌||◌, not, nat_le, nat_lt, is_some, is_none, slice_index_or}
 use Rattle.std.proofs.Math.Path.{subst}
@@ -115,9 +115,7 @@ module _ (w : LinkRecord) (now : ℕ) where
   before-same s n le = ap length (kept-same (is_ordered_on v s) (is_ordered_on w s) 0 n (λ k a b. on-same s k (omega arith)))
 
   ssn-same : (n : ℕ) → n < length w.messages → ssn_of v n ≡ ssn_of w n
-  ssn-same n lt =
-      ap (λ x. (if x.ordered then ordered_before v x.stream n else x.before) % 2 ^ 16) (message-now n lt)
-      ∙ ap (λ c. (if (message_at w n).ordered then c else (message_at w n).before) % 2 ^ 16) (before-same (message_at w n).stream n (omega arith))
+  ssn-same n lt = cc (message-now n lt, before-same (message_at w n).stream n (omega arith))
 
   count-same : (n : ℕ) → n < length w.messages → fragment_count v n ≡ fragment_count w n
   count-same n lt = ap (λ x. length (pieces (length x.bytes) w.setup.size x.bytes)) (message-now n lt)
@@ -170,8 +168,7 @@ module _ (w : LinkRecord) (now : ℕ) where
     where
       all-stay : (xs : List Message) → ((k : ℕ) → k < length xs → is_some (slice_index_or xs k no_message).started ≡ true) → map (start_lifetime now) xs ≡ xs
       all-stay [] h = refl
-      all-stay (m ∷ xs) h = ap (λ x. x ∷ map (start_lifetime now) xs) (stays m (h 0 (omega arith)))
-          ∙ ap (λ l. m ∷ l) (all-stay xs (λ k lt. h (suc k) (omega arith)))
+      all-stay (m ∷ xs) h = cc (stays m (h 0 (omega arith)), all-stay xs (λ k lt. h (suc k) (omega arith)))
 
       past : (n : ℕ) → n < q.next_unstarted → is_some (message_at w n).started ≡ true
       past n lt = t.unstarted n (omega (arith, t.started)) ∙ ap not (let e : nat_le q.next_unstarted n ≡ false = grind (arith, nat_tests) in e)
@@ -184,12 +181,9 @@ module _ (w : LinkRecord) (now : ℕ) where
           subst (λ ms. RefinesOutbound (record w { messages = ms }) q) (sym same) t
       by false e = record {
         pending = record {
-          ordered = ap (change_where (pending.is_to_start q.next_unstarted) (pending.with_deadline now)) t.pending.ordered
-              ∙ where-now q.next_unstarted (λ x. x.ordered && not (x.expired || x.abandoned)) (λ m. refl) t.unstarted;
-          unordered = ap (change_where (pending.is_to_start q.next_unstarted) (pending.with_deadline now)) t.pending.unordered
-              ∙ where-now q.next_unstarted (λ x. not x.ordered && not (x.expired || x.abandoned)) (λ m. refl) t.unstarted;
-          selected = t.pending.selected ∙ sym (ap (λ l. selected_of v (first_of l)) partial-same
-              ∙ selected-same (numbers_where (is_partially_sent w) 0 len) (front-kept (is_partially_sent w) 0 len));
+          ordered = cc (t.pending.ordered, where-now q.next_unstarted (λ x. x.ordered && not (x.expired || x.abandoned)) (λ m. refl) t.unstarted);
+          unordered = cc (t.pending.unordered, where-now q.next_unstarted (λ x. not x.ordered && not (x.expired || x.abandoned)) (λ m. refl) t.unstarted);
+          selected = cc (t.pending.selected, partial-same, selected-same (numbers_where (is_partially_sent w) 0 len) (front-kept (is_partially_sent w) 0 len));
         };
         in_flight = t.in_flight ∙ sym (sendings-alike w v refl refl
             (λ p lt. (refl, alike (message_of w p) (omega (arith, t.begun p lt, t.started)) (past (message_of w p) (t.begun p lt)))));

@@ -102,8 +102,7 @@ module _ (setup : Setup) (w v : LinkRecord) (log : List LogEntry) (g : Consisten
       by : (b : Bool) → is_ordered_on w s k ≡ b → 0 < sent_of w k
           → (b && (is_unread w k && (nat_lt 0 (arrived_of w k) && (is_complete_message w k || nat_le (stream_of w s).named (index_of v k)))))
           ≡ (b && (is_unread w k && (nat_lt 0 (arrived_of w k) && (is_complete_message w k || nat_le (stream_of w s).named (index_of w k)))))
-      by true e pos = ap (λ i. is_unread w k && (nat_lt 0 (arrived_of w k) && (is_complete_message w k || nat_le (stream_of w s).named i)))
-          (q.grows.same_index k pos (Line.on-ordered w s k e))
+      by true e pos = cc (q.grows.same_index k pos (Line.on-ordered w s k e))
       by false e pos = refl
 
   held-none : (u : LinkRecord) (s k : ℕ) → arrived_of u k ≡ 0 → is_held u s k ≡ false
@@ -146,8 +145,7 @@ module _ (setup : Setup) (w v : LinkRecord) (log : List LogEntry) (g : Consisten
   unassembled-same s = over-slots (chunk_at v) (chunk_at w) (is_unassembled v s) (is_unassembled w s) same none chunk-same
     where
       none : (p : ℕ) → length w.slots ≤ p → is_unassembled v s p ≡ false
-      none p le =
-          ap (λ b. b && (nat_le v.skipped p && (is_unordered_on v s (message_of v p) && not (is_complete_message v (message_of v p))))) (arrived-none p le)
+      none p le = cc (arrived-none p le)
 
       same : (p : ℕ) → p < length w.slots → is_unassembled v s p ≡ is_unassembled w s p
       same p lt =
@@ -218,8 +216,7 @@ module _ (setup : Setup) (w v : LinkRecord) (log : List LogEntry) (g : Consisten
           → map (complete_set_of v) l ≡ map (complete_set_of w) l
       over [] h = refl
       over (n ∷ l) h =
-          ap (λ x. x ∷ map (complete_set_of v) l) (one n (h n (or-left (n == n) (list_any (λ k. k == n) l) (same-yes n))))
-          ∙ ap (λ x. complete_set_of w n ∷ x) (over l (λ k e. h k (or-right (n == k) (list_any (λ j. j == k) l) e)))
+          cc (one n (h n (or-left (n == n) (list_any (λ k. k == n) l) (same-yes n))), over l (λ k e. h k (or-right (n == k) (list_any (λ j. j == k) l) e)))
 
   -- the reassembly queues are as they were
   pub reassembly-quiet : (s : ℕ) → reassembly_of v s ≡ reassembly_of w s

@@ -1,13 +1,11 @@
 -- What a record does not know of the outbound queue: its room, and lifetimes that have all started.
-use Rattle.std.proofs.Common.{◌≡◌, ℕ, Option, Some, None, refl, ap, sym, ◌∙◌}
-use Rattle.std.specs.Prelude.{◌==◌, if◌then◌else◌}
+use Rattle.std.proofs.Common.{◌≡◌, ℕ, Option, Some, None, refl, sym}
 use Rattle.std.proofs.Math.Path.{subst}
 use Rattle.sctp_util.proofs.Cases.{same-yes}
 use Rattle.sctp_data.specs.declared.chunk.chunk_payload_data.ChunkPayloadData.{ChunkPayloadData}
 use Rattle.sctp_outbound.specs.outbound_queue.OutboundQueue.{Outbound, all_started, sent_of}
 use Rattle.sctp_model.specs.LinkRecord.{LinkRecord}
 use Rattle.sctp_model.specs.refinement.Refines.{RefinesOutbound}
-use Rattle.sctp_outbound.specs.pending_queue.PendingQueue.{start_pending as pending_started}
 
 -- more room in flight is nothing that the record knows
 pub refines-room : {w : LinkRecord} {q : Outbound} (r : Outbound) (room : ℕ) → r ≡ record q { inflight = record q.inflight { room = room } }
@@ -17,8 +15,7 @@ refines-room {w} r room e t = subst (RefinesOutbound w) (sym e)
 
 -- lifetimes that have all started start no more
 pub none-start : (q : Outbound) (now : ℕ) → q.next_unstarted ≡ q.next_message_id → all_started now q ≡ q
-none-start q now e = ap (λ b. if b then q else record q { pending = pending_started q.next_unstarted now q.pending; next_unstarted = q.next_message_id })
-    (ap (λ k. k == q.next_message_id) e ∙ same-yes q.next_message_id)
+none-start q now e = cc (e, same-yes q.next_message_id)
 
 pub next-unstarted : (q : Outbound) (tsn now : ℕ) (o : Option ChunkPayloadData) → (sent_of o q tsn now).next_unstarted ≡ q.next_unstarted
 next-unstarted q tsn now None = refl

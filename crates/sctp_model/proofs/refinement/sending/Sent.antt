@@ -248,9 +248,7 @@ module _ (w : LinkRecord) (n : ℕ) (f : FrontIs w n) where
 
   -- the partially sent message then
   partial-elsewhere : (k : ℕ) → (n ≡ k → ⊥) → is_partially_sent v k ≡ false
-  partial-elsewhere k ne =
-      ap (λ s. nat_lt 0 s && (nat_lt s (fragment_count w k) && not (message_at w k).abandoned)) (sent-elsewhere k ne)
-      ∙ fails (is_partially_sent w k) (λ h. ne (sym (f.takes.alone k h)))
+  partial-elsewhere k ne = cc (sent-elsewhere k ne, fails (is_partially_sent w k) (λ h. ne (sym (f.takes.alone k h))))
 
   partial-here : is_partially_sent v n ≡ not (i + 1 == fragment_count w n)
   partial-here =

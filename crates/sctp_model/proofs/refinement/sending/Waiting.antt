@@ -1,5 +1,5 @@
 -- What waits to be sent: lists of messages' fragments, and a write.
-use Rattle.std.proofs.Common.{◌≡◌, ℕ, zero, suc, ◌+◌, ◌-◌, ◌<◌, ◌≤◌, ◌%◌, ◌^◌, Bool, true, false, List, [], ◌∷◌, ◌++◌, length, map, refl, ap, sym, ◌∙◌, inl}
+use Rattle.std.proofs.Common.{◌≡◌, ℕ, zero, suc, ◌+◌, ◌-◌, ◌<◌, ◌≤◌, Bool, true, false, List, [], ◌∷◌, ◌++◌, length, map, refl, ap, sym, ◌∙◌, inl}
 use Rattle.std.proofs.Common.{inr, arith, append-nil}
 use Rattle.std.specs.Prelude.{◌⊎◌, if◌then◌else◌, ◌==◌, ◌&&◌, not}
 use Rattle.std.proofs.lemmas.Bool.{cases_lt}
@@ -123,9 +123,7 @@ module _ (w : LinkRecord) (m : Message) where
   alike n lt = record {
     setup = refl;
     message = message-old n lt;
-    ssn =
-        ap (λ x. (if x.ordered then ordered_before v x.stream n else x.before) % 2 ^ 16) (message-old n lt)
-        ∙ ap (λ c. (if (message_at w n).ordered then c else (message_at w n).before) % 2 ^ 16) (before-same (message_at w n).stream n (omega arith));
+    ssn = cc (message-old n lt, before-same (message_at w n).stream n (omega arith));
   }
 
   -- what waits of one kind: the new message stands behind the others

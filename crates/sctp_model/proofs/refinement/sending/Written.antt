@@ -83,9 +83,8 @@ module _ (w : LinkRecord) (m : Message) (made : (p : ℕ) → p < length w.slots
   ordered-is : (b : Bool) → m.ordered ≡ b → (m.expired || m.abandoned) ≡ false → (q : Pending) (chunks : List ChunkPayloadData) → chunks ≡ waiting_of v len
       → RefinesPending w q → RefinesPending v (append_chunks (not b) chunks q)
   ordered-is true e given q chunks c t = record {
-    ordered = ap (λ l. l ++ chunks) t.ordered ∙ ap (λ l. waiting_where w (waits_ordered w) ++ l) c
-        ∙ sym (Waiting.where-written w m (λ x. x.ordered && not (x.expired || x.abandoned))
-        ∙ ap (λ b. waiting_where w (waits_ordered w) ++ (if b then waiting_of v len else [])) (passes m.ordered (m.expired || m.abandoned) e given));
+    ordered =
+        cc (t.ordered, c, Waiting.where-written w m (λ x. x.ordered && not (x.expired || x.abandoned)), passes m.ordered (m.expired || m.abandoned) e given);
     unordered = t.unordered ∙ sym (Waiting.where-written w m (λ x. not x.ordered && not (x.expired || x.abandoned))
         ∙ ap (λ b. waiting_where w (waits_unordered w) ++ (if b then waiting_of v len else [])) (stops (not m.ordered) (m.expired || m.abandoned) (ap not e))
         ∙ append-nil (waiting_where w (waits_unordered w)));

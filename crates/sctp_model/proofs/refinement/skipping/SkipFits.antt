@@ -117,8 +117,7 @@ skips-in {w} f k upto names e = let t = fit-at (shape w) w.network k (Forward up
 pub stream-fits : {w : LinkRecord} (f : Facts w) (s upto : ℕ) (names : List ℕ) (r : StreamRecord) → stream_at w s ≡ Some r
     → (fits w (map (index_of w) (on_stream w s names)) s
     && fits (with_skip w upto names) (map (index_of w) (on_stream w s names)) s) ≡ names_fit w s names
-stream-fits {w} f s upto names r e =
-    fits-both w s upto names r f.valid.valid e (messages-few w.setup w f.consistent)
+stream-fits {w} f s upto names r e = cc (fits-both w s upto names r f.valid.valid e (messages-few w.setup w f.consistent))
 
 -- all of them
 pub all-fit : {w : LinkRecord} (f : Facts w) (upto : ℕ) (names : List ℕ) → cumulative w ≤ upto

@@ -377,9 +377,7 @@ skip-fits w upto names counts =
 -- and of one that does not
 pub stale-fits : (w : LinkRecord) (upto : ℕ) (names : List ℕ) → skip_counts w upto ≡ false → spans_fit w [] ≡ true
     → arrival_fits w (Some (Forward upto names)) ≡ true
-stale-fits w upto names stale fits' =
-    ap (λ b. spans_fit w (if b then names else []) && spans_fit (if b then with_skip w upto names else w) (if b then names else [])) stale
-    ∙ and (spans_fit w []) (spans_fit w []) fits' fits'
+stale-fits w upto names stale fits' = cc (stale, and (spans_fit w []) (spans_fit w []) fits' fits')
 
 -- ## What the queue is after it
 
@@ -456,8 +454,7 @@ queue-skip w s upto names r valid lt counts open' before after' = step (last-nam
   where
     step : (end_named w s names ≡ 0) ⊎ IsLast w s (end_named w s names) (on_stream w s names)
         → reassembly_of (with_skip w upto names) s ≡ held_after_unordered_skip (tsn_of w upto) (gone_forward (end_named w s names) (reassembly_of w s))
-    step (inl z) = skipped-none w s upto names r valid lt counts open' before after' (none-named w (on_stream w s names) z)
-        ∙ ap (λ e. held_after_unordered_skip (tsn_of w upto) (gone_forward e (reassembly_of w s))) (sym z)
+    step (inl z) = cc (skipped-none w s upto names r valid lt counts open' before after' (none-named w (on_stream w s names) z), z)
     step (inr last) =
         skipped-once w s upto names r valid lt counts open' before after' last.number last.on last.among (named-last w s names last)
         ∙ ap (held_after_unordered_skip (tsn_of w upto)) (sym (gone-last w s (end_named w s names) (on_stream w s names) (reassembly_of w s) last))

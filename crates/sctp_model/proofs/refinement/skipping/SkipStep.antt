@@ -7,7 +7,7 @@ use Rattle.sctp_util.specs.Kept.{numbers_where}
 use Rattle.sctp_util.proofs.Passing.{map-kept-same}
 use Rattle.sctp_model.specs.LinkRecord.{LinkRecord, StreamRecord}
 use Rattle.sctp_model.specs.Messages.{message_at, message_of, stream_at, stream_of, no_stream, is_ordered_on, index_of, ssn_of, tsn_of}
-use Rattle.sctp_model.specs.Receiver.{arrived_at, has_arrived, cumulative, is_complete_message, is_held, next_of}
+use Rattle.sctp_model.specs.Receiver.{arrived_at, cumulative, is_complete_message, is_held, next_of}
 use Rattle.sctp_model.specs.Changes.{named_by, receive_skip, skip_counts}
 use Rattle.sctp_util.specs.Lists.{after_leading}
 use Rattle.sctp_util.specs.Serial.{at_or_before}
@@ -75,9 +75,7 @@ named-frame w upto names t r e =
     ∙ ap (λ o. named_with w (unwrap_or o (no_stream t)).named (filter (is_ordered_on w t) names)) (sym e)
 
 pub complete-skip : (w : LinkRecord) (upto : ℕ) (names : List ℕ) (n : ℕ) → is_complete_message (with_skip w upto names) n ≡ is_complete_message w n
-complete-skip w upto names n =
-    ap (λ l. if (message_at w n).ordered then has_arrived w n else ((message_at w n).read || list_any (λ k. k == n) l))
-    (complete-frame w upto names (message_at w n).stream)
+complete-skip w upto names n = cc (complete-frame w upto names (message_at w n).stream)
 
 pub parts : {a b : ℕ} {xs ys us vs : List ChunkSet} {ls ms : List ChunkPayloadData} → a ≡ b → xs ≡ ys → us ≡ vs → ls ≡ ms
     → reassembly a xs us ls ≡ reassembly b ys vs ms
@@ -98,9 +96,7 @@ module _ (w : LinkRecord) (s upto : ℕ) (names : List ℕ) (r : StreamRecord) (
   named-ge from ns = Skips.named_with-ge w from ns
 
   top-is : next_of (with_skip w upto names) s ≡ max (next_of w s) named
-  top-is =
-      ap (λ k. next_past w s k) (named-frame w upto names s r open')
-      ∙ next_past-is w s named valid (named-ge (stream_of w s).named mine)
+  top-is = cc (named-frame w upto names s r open', next_past-is w s named valid (named-ge (stream_of w s).named mine))
 
   near-one : (n : ℕ) → is_ordered_on w s n ≡ true → list_any (λ z. z == index_of w n) (map (index_of w) mine) ≡ true → IsNear w s (max (next_of w s) named) n
   near-one n on among =

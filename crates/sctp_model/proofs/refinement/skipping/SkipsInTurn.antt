@@ -32,9 +32,7 @@ skips-in-turn w s upto names r valid lt counts open' before after' =
   where
     step : (end_named w s names ≡ 0) ⊎ IsLast w s (end_named w s names) (on_stream w s names)
         → held_after_ordered_skips (map (ssn_of w) (on_stream w s names)) (reassembly_of w s) ≡ gone_forward (end_named w s names) (reassembly_of w s)
-    step (inl z) =
-        ap (λ ns. held_after_ordered_skips (map (ssn_of w) ns) (reassembly_of w s)) (none-named w (on_stream w s names) z)
-        ∙ ap (λ e. gone_forward e (reassembly_of w s)) (sym z)
+    step (inl z) = cc (none-named w (on_stream w s names) z, z)
     step (inr last) =
         once-is w s upto names r valid lt counts open' before after' last.number last.on last.among (named-last w s names last)
         ∙ sym (gone-last w s (end_named w s names) (on_stream w s names) (reassembly_of w s) last)
