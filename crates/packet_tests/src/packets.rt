@@ -1,6 +1,7 @@
-//! Callers of `sctp_packets`: one reads a datagram, two write one.
+//! Callers of `sctp_packets`: one reads a datagram chunk by chunk, two write one.
 
-ghost use Rattle.std.specs.Prelude.{◌≡◌, ◌∷◌, [], true, length, IfOk, IsOkUnless};
+ghost use Rattle.std.specs.Prelude.{◌≡◌, ◌<◌, ◌^◌, ◌∷◌, [], true, false, length, IfOk, IsOkUnless};
+ghost use Rattle.packet_tests.specs.Passing.{HasRead, Passes};
 ghost use Rattle.sctp_data.specs.SelectiveAck.{sack_of};
 ghost use Rattle.sctp_util.specs.declared.error.Error.TheVariants.{ErrOutOfMemory};
 ghost use Rattle.sctp_chunks.specs.Wire.{sack_chunk};
@@ -12,17 +13,44 @@ use sctp_base::error::Result;
 use sctp_base::util::Checksum;
 use sctp_chunks::chunk::chunk_kind::ChunkKind;
 use sctp_chunks::chunk::chunk_selective_ack::ChunkSelectiveAck;
-use sctp_packets::PacketWriter;
 use sctp_packets::packet::{CommonHeader, Packet};
+use sctp_packets::{PacketReader, PacketWriter};
 use std::alloc::Global;
 
-/// How many chunks a datagram has.
+/// How many chunks a datagram has, read one after another.
 pub fn count_chunks<C: Checksum>(alloc: Global, raw: &Bytes, checksum: &C) -> Result<usize>
     ensures { IfOk result (λ count. (p : Parts)
         × ReadsPacket (C.sum checksum.now) raw.now p × (count ≡ length p.chunks)) }
 {
-    let packet = Packet::unmarshal(alloc, raw, checksum)?;
-    Ok(packet.chunks.len())
+    let (_, mut reader) = PacketReader::open(raw, checksum)?;
+    let count = count_rest(alloc, &mut reader)?;
+    Ok(count)
+}
+
+// How many chunks are left; then none is.
+fn count_rest(alloc: Global, reader: &mut PacketReader) -> Result<usize>
+    requires { length reader.old < 2 ^ 64 }
+    ensures { IfOk result (λ count. HasRead reader.old [] count) }
+{
+    let mut count = 0;
+    'walk: loop {
+        if !pass_chunk(alloc, reader)? {
+            break;
+        }
+        count += 1;
+    }
+    Ok(count)
+}
+
+// Reads the next chunk, and answers whether there was one.
+fn pass_chunk(alloc: Global, reader: &mut PacketReader) -> Result<bool>
+    ensures passed { IfOk result (λ more. more ≡ true → Passes reader.old reader.new) }
+    ensures shorter { IfOk result (λ more. more ≡ true
+        → length reader.new < length reader.old) }
+    ensures end { IfOk result (λ more. more ≡ false → reader.old ≡ []) }
+{
+    let chunk = reader.next(alloc)?;
+    Ok(chunk.is_some())
 }
 
 /// Writes the datagram of a SACK into a writer, and answers whether it fits. Whoever reads it reads that SACK.
