@@ -218,6 +218,8 @@ RULES = [
          "sctp_sender::Sender::resend_next answer ok", "sctp_delivery::chunks_in_flight_are_noted"],
          ["sctp_sender Resending.all_marked", "sctp_sender Resending.is_to_resend"],
          ["transfer_tests::sender_cases the timer runs out: what is outstanding is marked, lent one after another, and sent again"]),
+        ("a chunk that is marked for retransmission leaves the flight size, and counts there again once it is sent again", "6.2.1 B, 6.3.3, 7.2.4",
+         ["sctp_sender::Sender::outstanding"], ["sctp_outbound Outstanding.outstanding_of", "sctp_outbound Outstanding.flight_bytes"], []),
         ("T3-rtx and RTO", "6.3.1, 6.3.2, 6.3.3 E1, E2", "the caller runs it; `acked` answers `nsent` and `since` of each chunk",
          ["association::Timer::start", "association::Timer::measure", "association::Association::measure"], [], []),
         ("chunks that are marked for retransmission precede new ones", "6.1 C", "the caller calls `resend_next` before `send_next`",

@@ -19,7 +19,8 @@ use Rattle.sctp_data.specs.SelectiveAck.{Sack}
 use Rattle.sctp_sender.specs.Abandonment.{advanced_ack_point}
 use Rattle.sctp_sender.specs.Keeping.{coming_back, kept_after, answered_back, with_restored}
 use Rattle.sctp_sender.specs.Late.{late_order, leaving_each}
-use Rattle.sctp_sender.specs.Resending.{after_misses, is_to_resend, thirds, worn_tsns}
+use Rattle.sctp_outbound.specs.Outstanding.{outstanding_of}
+use Rattle.sctp_sender.specs.Resending.{after_misses, all_marked, is_to_resend, resent_at, thirds, worn_tsns}
 use Rattle.sctp_sender.specs.declared.sender.flight.Released.{Released}
 use Rattle.sctp_sender.specs.declared.sender.flight.kept.TakenBack.{TakenBack}
 use Rattle.sctp_sender.specs.Thresholds.{with_lows}
@@ -99,6 +100,33 @@ not_yet = refl
 never : worn_tsns (marked_after 9 identifiers.Dcep) ≡ []
 never = refl
 
+-- ## What is outstanding
+
+-- three chunks of 1, 2 and 3 bytes: how many bytes count for the flight size, of how many chunks, and how many are marked
+abbrev one : ChunkPayloadData
+one = fragment 103 true true (1 ∷ [])
+
+abbrev three : Flight
+three = in_flight (one ∷ fragment 104 true true (1 ∷ 2 ∷ []) ∷ fragment 105 true true (1 ∷ 2 ∷ 3 ∷ []) ∷ [])
+
+abbrev told : List ChunkPayloadData → ℕ × ℕ × ℕ
+told cs = ((outstanding_of cs).bytes, (outstanding_of cs).chunks, (outstanding_of cs).marked)
+
+sent : told three.queue.inflight.chunks ≡ (6, 3, 0)
+sent = refl
+
+-- T3-rtx expires: all are marked
+timed_out : told (all_marked three).queue.inflight.chunks ≡ (0, 0, 3)
+timed_out = refl
+
+-- then the first is sent again
+again : told (resent_at 103 9 one (all_marked three)).queue.inflight.chunks ≡ (1, 1, 2)
+again = refl
+
+-- one that is acknowledged or abandoned counts nowhere
+gone_both : told (as_acknowledged one ∷ as_abandoned one ∷ record one { acked = true; retransmit = true } ∷ one ∷ []) ≡ (1, 1, 0)
+gone_both = refl
+
 -- ## Thresholds
 
 -- a stream with ten bytes and a threshold of five, and one with ten bytes and none
@@ -154,6 +182,11 @@ up_to tsn reported = record { cumulative_tsn_ack = tsn; advertised_receiver_wind
 -- 103 to 106 are in flight, each with one byte
 abbrev four : Flight
 four = in_flight (fragment 103 true true (3 ∷ []) ∷ fragment 104 true true (4 ∷ []) ∷ fragment 105 true true (5 ∷ []) ∷ fragment 106 true true (6 ∷ []) ∷ [])
+
+-- after T3-rtx a SACK reports 104 and 105 in a gap ack block: 103 and 106 are still marked
+reported_marked : told (flight.after_sack (up_to 102 (block 2 3 ∷ [])) (all_marked four)).queue.inflight.chunks ≡ (0, 0, 2)
+unfolding distance comes_before at_or_before
+reported_marked = refl
 
 -- so many from a TSN on
 abbrev chunks : ℕ → ℕ → List ChunkPayloadData

@@ -11,6 +11,7 @@ use Rattle.sctp_data.specs.declared.chunk.chunk_payload_data.ChunkPayloadData.{C
 use Rattle.sctp_data.specs.declared.chunk.chunk_payload_data.ReliabilityType.{ReliabilityType}
 use Rattle.sctp_data.specs.declared.chunk.chunk_payload_data.ReliabilityType.TheVariants.{Rexmit}
 use Rattle.sctp_outbound.specs.Marks.{is_outstanding, with_retransmit}
+use Rattle.sctp_outbound.specs.Outstanding as outstanding
 use Rattle.sctp_outbound.specs.outbound_queue.OutboundQueue.{with_inflight}
 use Rattle.sctp_serial.specs.DataChunks.{has_tsn}
 use Rattle.sctp_sender.specs.Flight.{Flight, with_queue}
@@ -44,7 +45,7 @@ all_marked f =
 
 -- marked, and outstanding
 abbrev pub is_to_resend : ChunkPayloadData → Bool
-is_to_resend c = c.retransmit && is_outstanding c
+is_to_resend c = outstanding.is_to_resend c
 
 -- of the chunks in flight so many are not marked, from the first one on
 pub record AreUnmarked (count : ℕ) (chunks : List ChunkPayloadData) : Type 0 where

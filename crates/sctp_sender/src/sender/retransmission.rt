@@ -8,10 +8,12 @@ ghost use Rattle.sctp_serial.specs.DataChunks.{has_tsn};
 use super::Sender;
 use crate::sender::refusal::SenderRefusal;
 use sctp_data::chunk::chunk_payload_data::ChunkPayloadData;
+use sctp_outbound::payload_queue::outstanding::Outstanding;
 use sctp_serial::turns::Turns;
 
 impl Sender {
     ghost use Rattle.sctp_sender.specs.Calls.{Misses};
+    ghost use Rattle.sctp_outbound.specs.Outstanding.{outstanding_of};
     ghost use Rattle.sctp_sender.specs.Flight.{can_resend};
     ghost use Rattle.sctp_sender.specs.Sender.{with_flight};
     ghost use Rattle.sctp_sender.specs.Resending.{all_marked, count_again, count_before, is_to_resend, next_within, resent_at, sent_again};
@@ -77,6 +79,15 @@ impl Sender {
             → can_resend c.tsn self.old.flight ≡ true }
     {
         self.flight.tsn_to_resend(room)
+    }
+
+    /// What is in flight, and neither acknowledged nor abandoned: the bytes and the number of the chunks that are not marked for
+    /// retransmission, and how many are marked. The bytes are the flight size that a congestion window limits: they fall when chunks are
+    /// marked, and rise as these are sent again (RFC 9260 6.2.1 B, 7.2). It is a look, however much is in flight, and takes no memory.
+    pub fn outstanding(&self) -> Outstanding
+        ensures { result ≡ outstanding_of self.now.flight.queue.inflight.chunks }
+    {
+        self.flight.queue().outstanding()
     }
 
     /// Marks each outstanding chunk in flight for retransmission, as where the timer T3-rtx runs out (RFC 4960 6.3.3 E3). It takes no
