@@ -141,11 +141,16 @@ def fields_of(crate, module, word):
     return [*(name for name, _ in fields), *(it for name, kind in fields if name in opened for it in fields_of(crate, module, kind))]
 
 
+def relations_of(call):
+    """Returns the records that clauses of a call are: a crate, a module and a word each."""
+    named = re.findall(r"\bensures (?:\w+ )?\{ (\w+)", " ".join(call.clauses))
+    return [call.words[it] for it in named if it in call.words and fields_of(*call.words[it])]
+
+
 def promises_of(call):
     """Returns the names of what a call ensures: of its clauses, and of the fields of a record that a clause is."""
-    text = " ".join(call.clauses)
-    relations = [call.words[it] for it in re.findall(r"\bensures (?:\w+ )?\{ (\w+)", text) if it in call.words]
-    return [*re.findall(r"\bensures (\w+) \{", text), *(it for relation in relations for it in fields_of(*relation))]
+    fields = [it for relation in relations_of(call) for it in fields_of(*relation)]
+    return [*re.findall(r"\bensures (\w+) \{", " ".join(call.clauses)), *fields]
 
 
 def head_from(lines, at):

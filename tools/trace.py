@@ -24,7 +24,7 @@ import re
 import signal
 import sys
 
-from sources import SHOWN, Sources, crates, files_below, imports, lines_of, promises_of
+from sources import SHOWN, Sources, crates, files_below, imports, lines_of, promises_of, relations_of
 from wrong_bodies import bodies_of, function_of
 
 # crates that only call others
@@ -319,6 +319,8 @@ def trace(call, traits, bodies, callers, definitions):
     show("comment", comment_of(call), "none", 60)
     origin = traits.get((call.path, call.line))
     show("contract", ([origin] if origin else []) + call.clauses, "no clause: it is safe and total", len(call.clauses) + 1)
+    for relation in relations_of(call):
+        show(relation[2], text_at(definition_at(*relation)), "", 40)
     show("definitions", definitions_of(call), "none beside those of its types")
     show("what these use", definitions.behind(call), "none")
     does = callers.body_of(call)
