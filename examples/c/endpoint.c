@@ -226,6 +226,22 @@ static void on_sack(struct endpoint *e, const uint8_t *chunk, size_t length) {
     }
 }
 
+/* Ends the association, and tells why (RFC 4960 9.1). */
+static void abort_for(struct endpoint *e, uint16_t cause) {
+    if (e->peer.tag != 0) put_cause(e, SCTPR_ABORT, cause, NULL, 0);
+    flush(e);
+    e->state = ENDPOINT_ABORTED;
+}
+
+/* Ends the association where a chunk of the lowest missing TSN, or a FORWARD-TSN, is refused and no stream can be read: nothing that can be
+ * read makes room, and the same would come for ever (RFC 4960 6.2, 3.3.10.4, 3.3.10.13). */
+static void end_if_for_ever(struct endpoint *e, sctpr_code code) {
+    size_t count = 0;
+    if (sctpr_receiver_readable_streams(&e->receiver, NULL, 0, &count) != SCTPR_OK) return;
+    if (code == SCTPR_WINDOW_FULL || code == SCTPR_TSN_TOO_FAR) abort_for(e, SCTPR_CAUSE_OUT_OF_RESOURCE);
+    if (code == SCTPR_SSN_TOO_FAR || code == SCTPR_NAMED_SSN_TOO_FAR) abort_for(e, SCTPR_CAUSE_PROTOCOL_VIOLATION);
+}
+
 /* Takes a DATA chunk (RFC 4960 6.2). One of a stream that is not open is reported, and counts as come (6.5). One of a message that is too
  * long closes its stream, so that nothing of the message stays, and counts as come. A SACK goes at once where the chunk came before, asks
  * for it (RFC 7053), or leaves a gap. */
@@ -241,12 +257,15 @@ static void on_data(struct endpoint *e, const uint8_t *chunk, size_t length) {
     }
     if (code == SCTPR_MESSAGE_TOO_LARGE) sctpr_receiver_close(&e->receiver, data.stream);
     if (code == SCTPR_STREAM_UNKNOWN || code == SCTPR_MESSAGE_TOO_LARGE) sctpr_receiver_discard(&e->receiver, data.tsn);
+    else if (data.tsn == sctpr_receiver_cumulative_tsn(&e->receiver) + 1) end_if_for_ever(e, code);
     if (code == SCTPR_REPEAT || data.wants_sack || is_after(data.tsn, sctpr_receiver_cumulative_tsn(&e->receiver))) e->sack_due = e->now;
 }
 
 /* A FORWARD-TSN is answered by a SACK (RFC 3758 3.6). What it names on a stream that is not open is passed over. */
 static void on_forward_tsn(struct endpoint *e, const uint8_t *chunk, size_t length) {
-    e->counts.chunks[sctpr_receiver_forward_tsn_past_closed(&e->receiver, chunk, length)]++;
+    sctpr_code code = sctpr_receiver_forward_tsn_past_closed(&e->receiver, chunk, length);
+    e->counts.chunks[code]++;
+    if (code == SCTPR_NAMED_SSN_TOO_FAR) end_if_for_ever(e, code);
     e->unacknowledged++;
     e->sack_due = e->now;
 }
@@ -719,10 +738,7 @@ void endpoint_shutdown(struct endpoint *e, uint64_t now) {
 }
 
 void endpoint_abort(struct endpoint *e) {
-    if (endpoint_is_over(e)) return;
-    if (e->peer.tag != 0) put_cause(e, SCTPR_ABORT, SCTPR_CAUSE_USER_INITIATED_ABORT, NULL, 0);
-    flush(e);
-    e->state = ENDPOINT_ABORTED;
+    if (!endpoint_is_over(e)) abort_for(e, SCTPR_CAUSE_USER_INITIATED_ABORT);
 }
 
 int endpoint_is_over(const struct endpoint *e) { return e->state == ENDPOINT_SHUT_DOWN || e->state == ENDPOINT_ABORTED; }

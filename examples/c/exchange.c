@@ -217,6 +217,26 @@ static void abort_one(void) {
     end();
 }
 
+/* A message of 1,000 bytes fills a window of 1,401 after three fragments, which count 472 each: no stream can be read, and the
+ * side that receives ends the association with the cause Out of Resource (RFC 4960 3.3.10.4). */
+static void end_at_full_window(void) {
+    static const uint8_t message[1000], cause[8] = { SCTPR_ABORT, 0, 0, 8, 0, SCTPR_CAUSE_OUT_OF_RESOURCE, 0, 4 };
+    struct network_rates none = { 0, 0, 0, 0 };
+    network_init(&network, 1, none);
+    set_up();
+    for (int i = 0; i < 2; i++) {
+        sides[i].config.mtu = 100;
+        sides[i].config.max_message_size = 1000;
+        sides[i].config.window = (uint32_t)SCTPR_LEAST_WINDOW(1000, 65519) + 1;
+    }
+    connect_sides(0);
+    if (endpoint_write(&sides[0], 0, SCTPR_PPID_BINARY, message, sizeof message) != SCTPR_OK) fault("a write");
+    for (int i = 0; i < 100 && !both_are(ENDPOINT_ABORTED); i++) one_tick();
+    if (!both_are(ENDPOINT_ABORTED) || sides[0].abort_length != 8 || memcmp(sides[0].abort_chunk, cause, 8) != 0)
+        fault("not ended at a full window: states %d and %d", sides[0].state, sides[1].state);
+    end();
+}
+
 int main(int argc, char **argv) {
     uint64_t seed = argc > 1 ? strtoull(argv[1], NULL, 0) : 1, bytes;
     struct network_rates rates = { 200, 100, 500, 20 };
@@ -239,6 +259,7 @@ int main(int argc, char **argv) {
     printf("%lu ticks\n", (unsigned long)network.tick);
     end();
     abort_one();
+    end_at_full_window();
     uint64_t messages = messages_read(&bytes);
     printf("exchange: %lu messages, %lu bytes, %lu faults\n", (unsigned long)messages, (unsigned long)bytes, faults);
     return faults != 0;
