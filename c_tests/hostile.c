@@ -121,6 +121,7 @@ static void skips(uint32_t count, uint32_t streams, size_t names) {
 }
 
 static void skips_on_one(void) { skips(INCOMPLETE, 1, 0); }
+static void skips_on_some(void) { skips(1024, 1024, 0); }
 static void skips_on_as_many(void) { skips(INCOMPLETE, INCOMPLETE, 0); }
 static void skips_on_all(void) { skips(65535, 65535, 0); }
 static void named_skips_on_one(void) { skips(INCOMPLETE, 1, 1); }
@@ -168,10 +169,10 @@ static void between_messages(void) {
     }
 }
 
-static void resets(void) {
+static void resets(uint32_t streams) {
     static uint8_t value[2048], param[2048];
     size_t n = 0;
-    begin_receiver(ALL);
+    begin_receiver(streams);
     put32(value, 1), put32(value + 4, 0), put32(value + 8, 0);
     for (uint32_t i = 0; i < 680; i++) put16(value + 12 + 2 * i, i);
     must(sctpr_write_param(SCTPR_PARAM_OUTGOING_RESET, value, 12 + 2 * 680, param, sizeof param, &n), SCTPR_OK);
@@ -179,6 +180,8 @@ static void resets(void) {
     CHECK(add(n));
 }
 
+static void resets_of_some(void) { resets(1024); }
+static void resets_of_all(void) { resets(ALL); }
 static void all_open(void) { begin_receiver(ALL); }
 
 static void readable(void) {
@@ -259,6 +262,7 @@ static const struct row {
     int is_within;
 } all[] = {
     { "170 FORWARD-TSNs by one, 4,975 incomplete messages of a stream", skips_on_one, take_packet, 1000, 0 },
+    { "the same, one on each of 1,024 streams", skips_on_some, take_packet, 1000, 0 },
     { "the same, each on a stream of its own", skips_on_as_many, take_packet, 1000, 0 },
     { "the same, on each of 65,535 streams", skips_on_all, take_packet, 1000, 0 },
     { "115 FORWARD-TSNs with a name, 4,975 messages of a stream", named_skips_on_one, take_packet, 1000, 0 },
@@ -269,7 +273,8 @@ static const struct row {
     { "69 DATA between 50,000 fragments of an ordered message", between_ordered, take_packet, 1000, 0 },
     { "the same, unordered", between_unordered, take_packet, 1000, 0 },
     { "69 DATA between 16,000 ordered messages", between_messages, take_packet, 1000, 0 },
-    { "a reset of 680 of 65,536 streams, which are closed", resets, take_packet, 1000, 0 },
+    { "a reset of 680 of 1,024 streams, which are closed", resets_of_some, take_packet, 1000, 0 },
+    { "the same of 65,536 streams", resets_of_all, take_packet, 1000, 0 },
     { "receiver_readable_streams, 65,536 open", all_open, readable, 1000, 0 },
     { "receiver_sack, 100,000 runs of a TSN", gaps_between_runs, sack_out, 1000, 1 },
     { "68 SACKs in turn of 2..65,535 and of nothing, reports kept", reports_in_turn, take_packet, 1000, 0 },
