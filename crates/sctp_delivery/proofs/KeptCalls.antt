@@ -27,6 +27,7 @@ use Rattle.sctp_delivery.specs.ReceiverCalls.{ReceiverCall}
 use Rattle.sctp_delivery.specs.Session.{ReceiverFollows, Session}
 use Rattle.sctp_delivery.proofs.CurrentSets.{current-less, due-index}
 use Rattle.sctp_delivery.proofs.Every.{one-of}
+use Rattle.sctp_delivery.proofs.InTheEnd.{some-of}
 use Rattle.sctp_delivery.proofs.Kept.{sets-fresh}
 use Rattle.sctp_delivery.proofs.OrderedMessages.{not-far}
 use Rattle.sctp_delivery.proofs.KeptOrGone.{IsComing, HeldWell, IsHeldWell, IsKeptBut, IsLate, pushed-well, read-well}
@@ -201,14 +202,8 @@ module _ (first n : ℕ) (few : n < 2 ^ 31) (old new : Session) (ns : List Numbe
   sets-came t (s ∷ ss) e =
       let m = sum_by-cons (set_weight (one t)) s ss in
       elim (or-split (list_any (has_tsn t) s.chunks) (list_any (λ (x : ChunkSet). list_any (has_tsn t) x.chunks) ss) e) [
-        | inl h ↦ let x = some s.chunks h in omega (arith, m, x)
+        | inl h ↦ let x = some-of t s.chunks h in omega (arith, m, x)
         | inr h ↦ let x = sets-came t ss h in omega (arith, m, x)
-      ]
-    where
-      some : (cs : List ChunkPayloadData) → list_any (has_tsn t) cs ≡ true → 0 < sum_by (one t) cs
-      some cs h = elim (cases_lt 0 (sum_by (one t) cs)) [
-        | inl lt ↦ lt
-        | inr z ↦ absurd (not_both (sym (count-none t cs (omega (arith, z))) ∙ h))
       ]
 
   -- where the queue is current, its index is the one that is due

@@ -82,13 +82,23 @@ module _ (ns : List Numbered) (first : ℕ) (sent more : List Entry) (line : IsL
   up : (j k : ℕ) → j ≤ k → begun_to st j more ≤ begun_to st k more
   up j k le = to-up st j k more le
 
+  -- no fewer were begun up to a place
+  not-less : (y : ℕ) → y ≤ n + 1 → begun_to st y sent ≤ begun_to st y more
+  not-less y le = elim (cases_lt n y) [
+    | inr ge ↦ let e = same-to y ge in omega (arith, e)
+    | inl lt ↦
+        let it : y ≡ n + 1 = omega (arith, lt, le) in
+        let e = ap (λ k. begun_to st k sent) it in
+        let z = past-all in
+        let f = same-to n (omega arith) in
+        let u = up n y (omega (arith, lt)) in
+        omega (arith, e, z, f, u)
+  ]
+
   -- what is still to come is past the index
   module _ (index : ℕ) (top : index ≤ begun_to st n sent) (late : (y : ℕ) → y ≤ n + 1 → Old y → index < begun_to st y sent) where
-    before : (y : ℕ) → y ≤ n → Old y → index < begun_to st y more
-    before y le l = let x = late y (omega (arith, le)) l in let e = same-to y le in omega (arith, x, e)
-
-    at-next : Old (n + 1) → index < begun_to st n more
-    at-next l = let x = late (n + 1) (omega arith) l in let e = same-to n (omega arith) in let z = past-all in omega (arith, x, e, z)
+    old : (y : ℕ) → y ≤ n + 1 → Old y → index < begun_to st y more
+    old y le l = let x = late y le l in let e = not-less y le in omega (arith, x, e)
 
     off : (y : ℕ) → y ≡ n + 1 → come (tsn p y) s.receiver.cumulative_tsn s.receiver.beyond ≡ false
         → come (tsn p (n + 1)) s.receiver.cumulative_tsn s.receiver.beyond ≡ false
@@ -113,20 +123,14 @@ module _ (ns : List Numbered) (first : ℕ) (sent more : List Entry) (line : IsL
             let z : r.0 ≡ n = (let y = r.1 in omega (arith, y)) in
             let there = subst (λ y. IsEntryAt more y r.2 w) z r.3 in
             let back = entry-back x sent n r.2 w (subst (λ ys. IsEntryAt ys n r.2 w) e there) in
-            let old : IsEntryAt sent n r.2 w = elim back [ inl y ↦ absurd (omega (arith, y, long)) | inr y ↦ y ] in
-            let want : IsWanted st sent (n + 1) = inr (n, plus, r.2, w, old, ordered-alike st d r.2 r.4 ∙ on, r.4.0) in
-            let lt = at-next (want, c) in
-            let u = up n (n + 1) (omega arith) in
-            omega (arith, lt, u)
+            let prior : IsEntryAt sent n r.2 w = elim back [ inl y ↦ absurd (omega (arith, y, long)) | inr y ↦ y ] in
+            old (n + 1) (omega arith) (inr (n, plus, r.2, w, prior, ordered-alike st d r.2 r.4 ∙ on, r.4.0), c)
 
     late-more : (y : ℕ) → y ≤ m + 1 → New y → index < begun_to st y more
     late-more y le l = elim once [
       | inl e ↦
           let k = ap length e in
-          let it = subst (λ ys. IsWanted st ys y) e l.0 in
-          let lt = late y (omega (arith, le, k, long, longer)) (it, l.1) in
-          let same = ap (begun_to st y) e in
-          omega (arith, lt, same)
+          old y (omega (arith, le, k, long, longer)) (subst (λ ys. IsWanted st ys y) e l.0, l.1)
       | inr e ↦ by e.0 e.1 (subst (λ ys. IsWanted st ys y) e.1 l.0)
     ]
       where
@@ -139,18 +143,10 @@ module _ (ns : List Numbered) (first : ℕ) (sent more : List Entry) (line : IsL
               let q = ap (λ k. begun_to st k more) at in
               omega (arith, lt, q)
           | inr i ↦
+              let q = part-length sent (fragment h.0 h.1 i.after ∷ i.entries) i.part in
               let t = i.place in
-              before y (within y h.0 h.1 i) (inl (h.0, h.1, i, h.3), l.1)
+              old y (omega (arith, q, t, long)) (inl (h.0, h.1, i, h.3), l.1)
         ]
-          where
-            within : (y : ℕ) (d : Data) (w : Numbered) → IsEntryAt sent y d w → y ≤ n
-            within y d w i =
-                let q = part-size i.part in
-                let t = i.place in
-                omega (arith, q, t, long)
-              where
-                part-size : IsPart (fragment d w i.after ∷ i.entries) sent → length (fragment d w i.after ∷ i.entries) ≤ length sent
-                part-size q = part-length sent (fragment d w i.after ∷ i.entries) q
         by x e (inr h) = elim (entry-back x sent h.0 h.2 h.3 h.4) [
           | inl z ↦
               let at : h.0 ≡ n + 1 = omega (arith, z, long) in
@@ -165,15 +161,7 @@ module _ (ns : List Numbered) (first : ℕ) (sent more : List Entry) (line : IsL
               let next = h.1 in
               let q = part-length sent (fragment h.2 h.3 i.after ∷ i.entries) i.part in
               let t = i.place in
-              let want : IsWanted st sent y = inr (h.0, h.1, h.2, h.3, i, h.5, h.6) in
-              elim (cases_lt n y) [
-                | inr under ↦ before y under (want, l.1)
-                | inl over ↦
-                    let at : y ≡ n + 1 = omega (arith, over, next, q, t, long) in
-                    let lt = at-next (subst (λ k. IsWanted st sent k) at want, off y at l.1) in
-                    let u = up n y (omega (arith, at)) in
-                    omega (arith, lt, u)
-              ]
+              old y (omega (arith, next, q, t, long)) (inr (h.0, h.1, h.2, h.3, i, h.5, h.6), l.1)
         ]
 
   -- no chunk of a set has a TSN that was not given out

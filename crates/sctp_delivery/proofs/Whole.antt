@@ -16,7 +16,8 @@ use Rattle.sctp_delivery.proofs.Delivered.{EachSent, inner-of}
 use Rattle.sctp_delivery.proofs.EachRead.{none-begins}
 use Rattle.sctp_delivery.proofs.Every.{Every}
 use Rattle.sctp_delivery.proofs.FragmentPlaces.{Shows, part-place}
-use Rattle.sctp_delivery.proofs.ReadOnce.{count-none, none-count, one}
+use Rattle.sctp_delivery.proofs.InTheEnd.{some-of}
+use Rattle.sctp_delivery.proofs.ReadOnce.{none-count, one}
 use Rattle.sctp_delivery.proofs.Sent.{Entry, IsLine, Numbered, WasSent, fragment, part-length, part-line}
 use Rattle.sctp_delivery.proofs.TsnPlaces.{base, next-place, same-place}
 
@@ -135,12 +136,6 @@ module _ (ws : List Numbered) (first : ℕ) (sent : List Entry) (few : length se
       where
         facts : (is_complete m.fragments ≡ true) × (is_one_message m.fragments ≡ true) × EachSent sent m.fragments
         facts = all 0 m (omega arith)
-
-        some-of : (t : ℕ) (cs : List ChunkPayloadData) → list_any (has_tsn t) cs ≡ true → 0 < sum_by (one t) cs
-        some-of t cs e = elim (cases_lt 0 (sum_by (one t) cs)) [
-          | inl more ↦ more
-          | inr none ↦ absurd (not_both (sym (count-none t cs (omega (arith, none))) ∙ e))
-        ]
 
         by : (b : Bool) → 0 < sum_by (one (tsn p j)) (if b then m.fragments ++ fragments_read st ms else fragments_read st ms)
             → (0 < sum_by (one (tsn p j)) (fragments_read st ms) → 0 < sum_by (one (tsn p k)) (fragments_read st ms))
