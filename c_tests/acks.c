@@ -39,9 +39,24 @@ static void stale(void) {
     count = 9;
     CHECK(sctpr_sender_take_back(&sender, sack_up_to(0xffffffff), 16, back, 4, &count) == SCTPR_STALE && count == 0);
     CHECK(sctpr_sender_take_back(&sender, sack_up_to(0), 16, back, 4, &count) == SCTPR_OK && count == 0);
-    CHECK(sctpr_sender_acked(&sender, sack_up_to(0xffffffff), 16, rows, 0, &count) == SCTPR_SHORT_BUFFER && count == 1);
-    CHECK(sctpr_sender_acked(&sender, sack_up_to(2), 16, rows, 4, &count) == SCTPR_SACK_BEYOND_SENT && count == 1);
+    CHECK(sctpr_sender_acked(&sender, sack_up_to(0xffffffff), 16, NULL, 0, &count) == SCTPR_STALE && count == 0);
+    CHECK(sctpr_sender_acked(&sender, sack_up_to(2), 16, rows, 4, &count) == SCTPR_SACK_BEYOND_SENT && count == 0);
     CHECK(sctpr_sender_acked_tsn(&sender) == 0 && sctpr_sender_bytes_in_flight(&sender) == 1);
+    sctpr_sender_free(&sender);
+    CHECK(held == 0);
+}
+
+/* A caller that wants no rows hands in none: the SACK counts, and a length says of how many chunks. */
+static void without_rows(void) {
+    struct sctpr_taken_back back[1];
+    size_t count = 9;
+    begin(3);
+    CHECK(sctpr_sender_acked(&sender, sack_up_to(0), 16, rows, 2, &count) == SCTPR_SHORT_BUFFER && count == 3);
+    CHECK(sctpr_sender_take_back(&sender, sack_up_to(0), 16, back, 1, &count) == SCTPR_SHORT_BUFFER && count == 3);
+    CHECK(sctpr_sender_take_back(&sender, sack_up_to(0), 16, NULL, 0, &count) == SCTPR_OK && count == 0);
+    CHECK(sctpr_sender_acked(&sender, sack_up_to(0), 16, NULL, 0, &count) == SCTPR_OK && count == 2);
+    CHECK(sctpr_sender_acked_tsn(&sender) == 0 && sctpr_sender_chunks_in_flight(&sender) == 1);
+    CHECK(sctpr_sender_acked_up_to(&sender, 1, NULL, 0, &count) == SCTPR_OK && count == 1 && sctpr_sender_is_drained(&sender, 3) == 1);
     sctpr_sender_free(&sender);
     CHECK(held == 0);
 }
@@ -91,6 +106,7 @@ static void forward_tsn(void) {
 
 int main(void) {
     stale();
+    without_rows();
     up_to();
     forward_tsn();
     return report("acks");

@@ -181,6 +181,7 @@ static void expired(void) {
     CHECK(sctpr_sender_expire(&sender, 2000000, &gone) == SCTPR_NOTHING && sctpr_sender_pending(&sender) == 0);
     TRY(sctpr_sender_expire_late(&sender, 2000000, rows, 4, &count), SCTPR_SHORT_BUFFER, 1);
     CHECK(count == 4);
+    CHECK(sctpr_sender_expire_late(&sender, 2000000, NULL, 0, &count) == SCTPR_OK && count == 1);
     free_both();
 }
 

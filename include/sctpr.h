@@ -681,10 +681,11 @@ struct sctpr_acked {
 };
 
 /* Takes the bytes of a SACK (RFC 4960 6.2.1). SCTPR_OK: `count` becomes how many chunks it reports anew, and the first so many `rows` tell
- * of them, in the order of their TSNs. SCTPR_STALE: its cumulative TSN is before sctpr_sender_acked_tsn; `count` becomes 0, and nothing
- * else changed. SCTPR_SHORT_BUFFER, where there are fewer rows than sctpr_sender_chunks_in_flight, so that no row is ever lost: `count`
- * becomes how many are wanted. Refuses with an error of bytes that are no SACK, with SCTPR_SACK_BEYOND_SENT and SCTPR_SACK_BAD_GAP, where
- * it reports what is not in flight, and with SCTPR_NO_MEMORY. `rows` stay then, and `count` too but for the first. */
+ * of them, in the order of their TSNs; with a `room` of 0 no row is told. SCTPR_STALE: its cumulative TSN is before sctpr_sender_acked_tsn;
+ * `count` becomes 0, and nothing else changed. SCTPR_SHORT_BUFFER, where 0 < `room` < sctpr_sender_chunks_in_flight, so that no row is
+ * lost: `count` becomes how many are wanted. Refuses with an error of bytes that are no SACK, with SCTPR_SACK_BEYOND_SENT and
+ * SCTPR_SACK_BAD_GAP, where it reports what is not in flight, and with SCTPR_NO_MEMORY. `rows` stay then, and `count` too but for the
+ * first. */
 sctpr_code sctpr_sender_acked(sctpr_sender *sender, const uint8_t *chunk, size_t length, struct sctpr_acked *rows, size_t room,
                               size_t *count);
 
@@ -736,8 +737,9 @@ sctpr_code sctpr_sender_expire(sctpr_sender *sender, uint64_t now, struct sctpr_
 sctpr_code sctpr_sender_expire_tail(sctpr_sender *sender, uint64_t now, struct sctpr_abandoned *row);
 
 /* Abandons each message in flight that is past its deadline (RFC 3758 3.5, 4.1): `count` becomes how many, and the first so many `rows`
- * tell of them. SCTPR_SHORT_BUFFER, where there are not more rows than sctpr_sender_chunks_in_flight, so that no row is ever lost: `count`
- * becomes how many are in flight. SCTPR_TSNS_USED_UP, SCTPR_NO_MEMORY. `rows` stay then, and `count` too but for the first. */
+ * tell of them; with a `room` of 0 no row is told. SCTPR_SHORT_BUFFER, where 0 < `room` <= sctpr_sender_chunks_in_flight, so that no row is
+ * lost: `count` becomes how many are in flight. SCTPR_TSNS_USED_UP, SCTPR_NO_MEMORY. `rows` stay then, and `count` too but for the
+ * first. */
 sctpr_code sctpr_sender_expire_late(sctpr_sender *sender, uint64_t now, struct sctpr_abandoned *rows, size_t room, size_t *count);
 
 /* Abandons each message in flight that was sent again as often as it may be (RFC 7496 3.1); never a DCEP message. Call it once chunks are

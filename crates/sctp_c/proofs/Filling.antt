@@ -1,9 +1,9 @@
 -- Rows that are filled, one after another, and how many there can be.
 use Rattle.std.proofs.Common.{◌≡◌, ℕ, zero, suc, ◌+◌, ◌<◌, ◌≤◌, Bool, true, false, if◌then◌else◌, List, [], ◌∷◌, ◌++◌, length, get_or, set, take, drop, Option}
-use Rattle.std.proofs.Common.{Some, None, refl, ap, ◌∙◌, arith}
-use Rattle.std.specs.Prelude.{map, not}
+use Rattle.std.proofs.Common.{Some, None, refl, ap, sym, ◌∙◌, arith}
+use Rattle.std.specs.Prelude.{map, min, not}
 use Rattle.std.specs.List.{filter}
-use Rattle.std.proofs.lemmas.List.{length-map}
+use Rattle.std.proofs.lemmas.List.{length-map, take-map}
 use Rattle.std.proofs.lemmas.List.Filters.{length-filter_both}
 use Rattle.sctp_data.specs.SelectiveAck.{Sack}
 use Rattle.sctp_data.specs.declared.chunk.chunk_payload_data.ChunkPayloadData.{ChunkPayloadData}
@@ -16,37 +16,33 @@ use Rattle.sctp_sender.specs.Sender.{Transmission, taken_back_by, back_by}
 use Rattle.sctp_sender.specs.Thresholds.{with_lows}
 use Rattle.sctp_stream.specs.declared.stream.StreamState.{StreamState}
 use Rattle.sctp_c.specs.Acks.{released_to}
+use Rattle.sctp_c.specs.Out.{filled}
+use Rattle.sctp_c.proofs.Rows.{filled-done}
 
 -- the first so many rows are filled
 abbrev pub filled_to : {A B : Type 0} → (A → B) → ℕ → List A → List B → List B
 filled_to f i xs old = map f (take i xs) ++ drop i old
 
-pub fill-step : {A B : Type 0} (f : A → B) (xs : List A) (old : List B) (i : ℕ) (d : A) → i < length xs → length xs ≤ length old
+pub fill-step : {A B : Type 0} (f : A → B) (xs : List A) (old : List B) (i : ℕ) (d : A) → i < length xs → i < length old
     → set (filled_to f i xs old) i (f (get_or xs i d)) ≡ filled_to f (suc i) xs old
-fill-step f [] old i d lt le = absurd (omega arith)
-fill-step f (x ∷ xs) [] i d lt le = absurd (omega arith)
-fill-step f (x ∷ xs) (o ∷ old) zero d lt le = refl
-fill-step f (x ∷ xs) (o ∷ old) (suc i) d lt le = ap (λ rest. f x ∷ rest) (fill-step f xs old i d (omega arith) (omega arith))
-
-pub fill-all : {A B : Type 0} (f : A → B) (xs : List A) (old : List B) → length xs ≤ length old
-    → filled_to f (length xs) xs old ≡ map f xs ++ drop (length (map f xs)) old
-fill-all f [] old le = refl
-fill-all f (x ∷ xs) [] le = absurd (omega arith)
-fill-all f (x ∷ xs) (o ∷ old) le = ap (λ rest. f x ∷ rest) (fill-all f xs old (omega arith))
+fill-step f [] old i d lt room = absurd (omega arith)
+fill-step f (x ∷ xs) [] i d lt room = absurd (omega arith)
+fill-step f (x ∷ xs) (o ∷ old) zero d lt room = refl
+fill-step f (x ∷ xs) (o ∷ old) (suc i) d lt room = ap (λ rest. f x ∷ rest) (fill-step f xs old i d (omega arith) (omega arith))
 
 -- one more row is filled
-pub fill-next : {A B : Type 0} (f : A → B) (xs : List A) (old rows : List B) (i : ℕ) (y : B) (d : A) → i < length xs → length xs ≤ length old
+pub fill-next : {A B : Type 0} (f : A → B) (xs : List A) (old rows : List B) (i : ℕ) (y : B) (d : A) → i < min (length old) (length xs)
     → rows ≡ filled_to f i xs old → y ≡ f (get_or xs i d) → set rows i y ≡ filled_to f (i + 1) xs old
-fill-next f xs old rows i y d lt le e is =
+fill-next f xs old rows i y d lt e is =
     let next : suc i ≡ i + 1 = omega arith in
-    ap (λ r. set r i y) e ∙ ap (λ z. set (filled_to f i xs old) i z) is ∙ fill-step f xs old i d lt le ∙ ap (λ n. filled_to f n xs old) next
+    ap (λ r. set r i y) e ∙ ap (λ z. set (filled_to f i xs old) i z) is ∙ fill-step f xs old i d (omega arith) (omega arith)
+    ∙ ap (λ n. filled_to f n xs old) next
 
--- all are
-pub fill-done : {A B : Type 0} (f : A → B) (xs : List A) (old rows : List B) (i : ℕ) → i ≤ length xs → length xs ≤ i → length xs ≤ length old
-    → rows ≡ filled_to f i xs old → rows ≡ map f xs ++ drop (length (map f xs)) old
-fill-done f xs old rows i le ge room e =
-    let end : i ≡ length xs = omega arith in
-    e ∙ ap (λ n. filled_to f n xs old) end ∙ fill-all f xs old room
+-- as many as there is room for
+pub fill-done : {A B : Type 0} (f : A → B) (xs : List A) (old rows : List B) (i : ℕ) → i ≡ min (length old) (length xs) → rows ≡ filled_to f i xs old
+    → rows ≡ filled (map f xs) old
+fill-done f xs old rows i end e =
+    e ∙ ap (λ z. z ++ drop i old) (sym (take-map f i xs)) ∙ filled-done i (map f xs) old (omega (arith, end, length-map xs f))
 
 -- ## How many rows there are
 
@@ -88,7 +84,3 @@ answered-few (Some bytes ∷ bs) (c ∷ cs) = omega (arith, answered-few bs cs)
 
 pub taken-few : (s : Sack) (t : Transmission) → length (taken_back_by s t) ≤ length t.flight.queue.inflight.chunks
 taken-few s t = answered-few (back_by s t.flight t.kept) t.flight.queue.inflight.chunks
-
-pub rows-fit : {A : Type 0} (items answered view : List A) (most rows : ℕ) → items ≡ answered → length answered ≤ most → view ≡ items → most ≤ rows
-    → length view ≤ rows
-rows-fit items answered view most rows e few same le = omega (arith, ap (λ (l : List _). length l) e, ap (λ (l : List _). length l) same, few, le)

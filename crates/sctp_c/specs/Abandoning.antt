@@ -13,7 +13,7 @@ use Rattle.sctp_serial.specs.DataChunks.{has_tsn}
 use Rattle.sctp_c.specs.declared.sender.abandoning.SctpAbandoned.{SctpAbandoned}
 use Rattle.sctp_c.specs.declared.sender.abandoning.SctpExpired.{SctpExpired}
 use Rattle.sctp_c.specs.Flags.{flag}
-use Rattle.sctp_c.specs.Out.{at_front}
+use Rattle.sctp_c.specs.Out.{filled}
 use Rattle.sctp_c.specs.Rows.{abandoned_row}
 
 -- the message of a chunk in flight is abandoned, and the row tells of it
@@ -50,8 +50,8 @@ pub record ExpiresTail (now : ℕ) (row : SctpAbandoned) (old new : Transmission
 abbrev pub leaving_to : List ℕ → Transmission → List AbandonedMessage
 leaving_to tsns t = with_message_lows (leaving_each tsns t.flight) t.streams
 
--- a row tells of each
+-- a row tells of each, as far as there is room
 pub record AbandonsEach (tsns : List ℕ) (rows_old rows_new : List SctpAbandoned) (count : ℕ)
     (old : Transmission) : Type 0 where
-  pub rows : rows_new ≡ at_front (map abandoned_row (leaving_to tsns old)) rows_old
+  pub rows : rows_new ≡ filled (map abandoned_row (leaving_to tsns old)) rows_old
   pub size : count ≡ length (leaving_to tsns old)

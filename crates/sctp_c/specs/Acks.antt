@@ -8,7 +8,7 @@ use Rattle.sctp_sender.specs.Sender.{Transmission, after_acked, after_take_back,
 use Rattle.sctp_sender.specs.Thresholds.{with_lows}
 use Rattle.sctp_c.specs.declared.sender.acks.SctpAcked.{SctpAcked}
 use Rattle.sctp_c.specs.declared.sender.acks.SctpTakenBack.{SctpTakenBack}
-use Rattle.sctp_c.specs.Out.{at_front}
+use Rattle.sctp_c.specs.Out.{filled}
 use Rattle.sctp_c.specs.Rows.{acked_row, taken_back_row}
 use Rattle.sctp_c.specs.Sending.{IsSenderCode, sender_code_for}
 
@@ -16,12 +16,12 @@ use Rattle.sctp_c.specs.Sending.{IsSenderCode, sender_code_for}
 abbrev pub released_to : Sack → Transmission → List Released
 released_to s t = with_lows (released_by s t.flight) t.streams
 
--- a SACK is not out of date, and is taken: a row tells of each chunk that it reports anew
+-- a SACK is not out of date, and is taken: a row tells of each chunk that it reports anew, as far as there is room
 pub record Takes (sack : Sack) (rows_old rows_new : List SctpAcked) (count : ℕ)
     (old new : Transmission) : Type 0 where
   pub current : is_outdated sack old.flight ≡ false
   pub accepted : sack_refusal sack old.flight ≡ None
-  pub rows : rows_new ≡ at_front (map acked_row (released_to sack old)) rows_old
+  pub rows : rows_new ≡ filled (map acked_row (released_to sack old)) rows_old
   pub size : count ≡ length (released_to sack old)
   pub after : new ≡ after_acked sack old
 
@@ -53,14 +53,14 @@ pub record RefusesSack (bytes : List ℕ) (code : ℕ) (old : Transmission) : Ty
   pub reads : ReadsChunk bytes (sack_chunk sack)
   pub number : code ≡ sender_code_for (sack_refusal sack old.flight)
 
--- they are a SACK that is not out of date, and a row tells of each chunk that it takes back
+-- they are a SACK that is not out of date, and a row tells of each chunk that it takes back, as far as there is room
 pub record TakesBack (bytes : List ℕ) (rows_old rows_new : List SctpTakenBack) (count : ℕ)
     (old new : Transmission) : Type 0 where
   pub sack : Sack
   pub reads : ReadsChunk bytes (sack_chunk sack)
   pub current : is_outdated sack old.flight ≡ false
   pub accepted : take_back_refusal sack old ≡ None
-  pub rows : rows_new ≡ at_front (map taken_back_row (taken_back_by sack old)) rows_old
+  pub rows : rows_new ≡ filled (map taken_back_row (taken_back_by sack old)) rows_old
   pub size : count ≡ length (taken_back_by sack old)
   pub after : new ≡ after_take_back sack old
 

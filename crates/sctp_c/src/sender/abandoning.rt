@@ -3,7 +3,7 @@
 ghost use Rattle.std.specs.Prelude.{◌≡◌, ◌≢◌, ◌<◌, ◌≤◌, ◌⊎◌, None, length, map, if◌then◌else◌};
 ghost use Rattle.sctp_c.specs.Abandoning.{Abandons, AbandonsEach, Expires, ExpiresTail};
 ghost use Rattle.sctp_c.specs.Codes.{sender_code};
-ghost use Rattle.sctp_c.specs.Out.{at_front};
+ghost use Rattle.sctp_c.specs.Out.{filled};
 ghost use Rattle.sctp_c.specs.Rows.{abandoned_row};
 ghost use Rattle.sctp_c.specs.Sending.{sender_code_for};
 ghost use Rattle.sctp_outbound.specs.outbound_queue.OutboundQueue.{expiring, expiring_tail};
@@ -55,12 +55,12 @@ fn abandoned_row(one: &AbandonedMessage) -> SctpAbandoned
     }
 }
 
-// A row for each.
+// A row for each, as far as there is room.
 fn fill_abandoned(rows: &mut [SctpAbandoned], answered: &[AbandonedMessage])
-    requires { length answered.now ≤ length rows.old }
-    ensures { rows.new ≡ at_front (map abandoned_row answered.now) rows.old }
+    ensures { rows.new ≡ filled (map abandoned_row answered.now) rows.old }
 {
-    for place in 0..answered.len() {
+    let count = rows.len().min(answered.len());
+    for place in 0..count {
         rows[place] = abandoned_row(&answered[place]);
     }
 }
@@ -142,9 +142,9 @@ pub extern "C" fn sctpr_sender_expire_tail(
 }
 
 /// Abandons each message in flight that is past its deadline (RFC 3758 3.5, 4.1): `count` becomes how many, and the first so many `rows`
-/// tell of them. Refuses with `SCTPR_SHORT_BUFFER`, where there are not more rows than chunks in flight, so that no row is ever lost:
-/// `count` becomes how many are in flight; and, only where some of such a message still waits, with `SCTPR_TSNS_USED_UP`; and with
-/// `SCTPR_NO_MEMORY`. `rows` stay then, and `count` too but for the first.
+/// tell of them; where there are no rows at all, none is told. Refuses with `SCTPR_SHORT_BUFFER`, where there are rows, but not more than
+/// chunks in flight, so that no row is lost: `count` becomes how many are in flight; and, only where some of such a message still waits,
+/// with `SCTPR_TSNS_USED_UP`; and with `SCTPR_NO_MEMORY`. `rows` stay then, and `count` too but for the first.
 #[unsafe(no_mangle)]
 pub extern "C" fn sctpr_sender_expire_late(
     sender: &mut SctpSender,
@@ -156,15 +156,16 @@ pub extern "C" fn sctpr_sender_expire_late(
     ensures ok { result ≡ 0 → (sender.new.value ≡ after_late now sender.old.value)
         × AbandonsEach (late_order now sender.old.value.flight) rows.old rows.new count.new
         sender.old.value }
-    ensures short { result ≡ 17 → (length rows.old ≤ count.new)
-        × (count.new ≡ length sender.old.value.flight.queue.inflight.chunks) }
+    ensures whole { result ≡ 0 → (length rows.old ≡ 0) ⊎ (count.new ≤ length rows.old) }
+    ensures short { result ≡ 17 → (0 < length rows.old) × ((length rows.old ≤ count.new)
+        × (count.new ≡ length sender.old.value.flight.queue.inflight.chunks)) }
     ensures codes_refused { 16 ≤ result → (result ≡ 16) ⊎ ((result ≡ 17) ⊎ (result ≡ 26)) }
     ensures refused { result ≢ 0 → (sender.new.value ≡ sender.old.value) × (rows.new ≡ rows.old) }
     ensures kept { 16 ≤ result → result ≢ 17 → count.new ≡ count.old }
 {
     let own = sender.get_mut();
     let in_flight = own.outbound().inflight_len();
-    if rows.len() <= in_flight {
+    if !rows.is_empty() && rows.len() <= in_flight {
         *count = in_flight;
         return SCTPR_SHORT_BUFFER;
     }
@@ -191,15 +192,16 @@ pub extern "C" fn sctpr_sender_expire_rexmit(
     ensures ok { result ≡ 0 → (sender.new.value ≡ after_worn sender.old.value)
         × AbandonsEach (worn_order sender.old.value.flight) rows.old rows.new count.new
         sender.old.value }
-    ensures short { result ≡ 17 → (length rows.old ≤ count.new)
-        × (count.new ≡ length sender.old.value.flight.queue.inflight.chunks) }
+    ensures whole { result ≡ 0 → (length rows.old ≡ 0) ⊎ (count.new ≤ length rows.old) }
+    ensures short { result ≡ 17 → (0 < length rows.old) × ((length rows.old ≤ count.new)
+        × (count.new ≡ length sender.old.value.flight.queue.inflight.chunks)) }
     ensures codes_refused { 16 ≤ result → (result ≡ 16) ⊎ ((result ≡ 17) ⊎ (result ≡ 26)) }
     ensures refused { result ≢ 0 → (sender.new.value ≡ sender.old.value) × (rows.new ≡ rows.old) }
     ensures kept { 16 ≤ result → result ≢ 17 → count.new ≡ count.old }
 {
     let own = sender.get_mut();
     let in_flight = own.outbound().inflight_len();
-    if rows.len() <= in_flight {
+    if !rows.is_empty() && rows.len() <= in_flight {
         *count = in_flight;
         return SCTPR_SHORT_BUFFER;
     }

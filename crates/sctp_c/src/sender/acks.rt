@@ -2,7 +2,7 @@
 
 ghost use Rattle.std.specs.Prelude.{◌≡◌, ◌≢◌, ◌<◌, ◌≤◌, ◌⊎◌, true, is_some, length, map};
 ghost use Rattle.sctp_c.specs.Acks.{IsStale, RefusesSack, RefusesTakeBack, Takes, TakesBack, TakesSack, up_to};
-ghost use Rattle.sctp_c.specs.Out.{at_front};
+ghost use Rattle.sctp_c.specs.Out.{filled};
 ghost use Rattle.sctp_c.specs.Refusal.{IsRefusal};
 ghost use Rattle.sctp_c.specs.Rows.{acked_row, taken_back_row};
 ghost use Rattle.sctp_chunks.specs.Fault.{SackFault};
@@ -76,12 +76,12 @@ fn acked_row(one: &Released) -> SctpAcked
     }
 }
 
-// A row for each.
+// A row for each, as far as there is room.
 fn fill_acked(rows: &mut [SctpAcked], released: &[Released])
-    requires { length released.now ≤ length rows.old }
-    ensures { rows.new ≡ at_front (map acked_row released.now) rows.old }
+    ensures { rows.new ≡ filled (map acked_row released.now) rows.old }
 {
-    for place in 0..released.len() {
+    let count = rows.len().min(released.len());
+    for place in 0..count {
         rows[place] = acked_row(&released[place]);
     }
 }
@@ -98,12 +98,12 @@ fn taken_back_row(one: &TakenBack) -> SctpTakenBack
     }
 }
 
-// A row for each.
+// A row for each, as far as there is room.
 fn fill_taken_back(rows: &mut [SctpTakenBack], answered: &[TakenBack])
-    requires { length answered.now ≤ length rows.old }
-    ensures { rows.new ≡ at_front (map taken_back_row answered.now) rows.old }
+    ensures { rows.new ≡ filled (map taken_back_row answered.now) rows.old }
 {
-    for place in 0..answered.len() {
+    let count = rows.len().min(answered.len());
+    for place in 0..count {
         rows[place] = taken_back_row(&answered[place]);
     }
 }
@@ -122,10 +122,11 @@ fn take_sack(
     rows: &mut [SctpAcked],
     count: &mut usize,
 ) -> u32
-    requires { length own.old.flight.queue.inflight.chunks ≤ length rows.old }
     ensures codes { (result ≡ 0) ⊎ ((result ≡ 2) ⊎ (16 ≤ result)) }
     ensures ok { result ≡ 0
         → Takes (sack_of sack.now) rows.old rows.new count.new own.old own.new }
+    ensures few { result ≡ 0
+        → count.new ≤ length own.old.flight.queue.inflight.chunks }
     ensures stale { result ≡ 2 → (is_outdated (sack_of sack.now) own.old.flight ≡ true)
         × (count.new ≡ 0) }
     ensures refused { result ≢ 0 → (own.new ≡ own.old) × (rows.new ≡ rows.old) }
@@ -148,11 +149,11 @@ fn take_sack(
 }
 
 /// Takes the bytes of a SACK chunk (RFC 4960 6.2.1). `SCTPR_OK`: `count` becomes how many chunks it reports anew, and the first so many
-/// `rows` tell of them, in the order of their TSNs. `SCTPR_STALE`: its cumulative TSN is before the last one that was acknowledged;
-/// `count` becomes 0, and nothing else changed. Refuses with `SCTPR_SHORT_BUFFER`, where there are fewer rows than chunks in flight, so
-/// that no row is ever lost: `count` becomes how many are wanted; with the codes of bytes that are no SACK; with `SCTPR_SACK_BEYOND_SENT`
-/// and `SCTPR_SACK_BAD_GAP`, where it reports what is not in flight; and with `SCTPR_NO_MEMORY`. `rows` stay then, and `count` too but for
-/// the first.
+/// `rows` tell of them, in the order of their TSNs; where there are no rows at all, none is told. `SCTPR_STALE`: its cumulative TSN is
+/// before the last one that was acknowledged; `count` becomes 0, and nothing else changed. Refuses with `SCTPR_SHORT_BUFFER`, where there
+/// are rows, but fewer than chunks in flight, so that no row is lost: `count` becomes how many are wanted; with the codes of bytes that
+/// are no SACK; with `SCTPR_SACK_BEYOND_SENT` and `SCTPR_SACK_BAD_GAP`, where it reports what is not in flight; and with
+/// `SCTPR_NO_MEMORY`. `rows` stay then, and `count` too but for the first.
 #[unsafe(no_mangle)]
 pub extern "C" fn sctpr_sender_acked(
     alloc: Global,
@@ -165,8 +166,9 @@ pub extern "C" fn sctpr_sender_acked(
     ensures ok { result ≡ 0 → TakesSack chunk.now rows.old rows.new count.new
         sender.old.value sender.new.value }
     ensures stale { result ≡ 2 → IsStale chunk.now sender.old.value × (count.new ≡ 0) }
-    ensures short { result ≡ 17 → (length rows.old < count.new)
-        × (count.new ≡ length sender.old.value.flight.queue.inflight.chunks) }
+    ensures whole { result ≡ 0 → (length rows.old ≡ 0) ⊎ (count.new ≤ length rows.old) }
+    ensures short { result ≡ 17 → (0 < length rows.old) × ((length rows.old < count.new)
+        × (count.new ≡ length sender.old.value.flight.queue.inflight.chunks)) }
     ensures refused { result ≢ 0 → (sender.new.value ≡ sender.old.value) × (rows.new ≡ rows.old) }
     ensures reason { 16 ≤ result → result ≢ 17 → IsRefusal (λ e. SackFault e chunk.now) result
         ⊎ RefusesSack chunk.now result sender.old.value }
@@ -174,7 +176,7 @@ pub extern "C" fn sctpr_sender_acked(
 {
     let own = sender.get_mut();
     let most = own.outbound().inflight_len();
-    if rows.len() < most {
+    if !rows.is_empty() && rows.len() < most {
         *count = most;
         return SCTPR_SHORT_BUFFER;
     }
@@ -199,8 +201,9 @@ pub extern "C" fn sctpr_sender_acked_up_to(
         sender.old.value sender.new.value }
     ensures stale { result ≡ 2 → (is_outdated (up_to tsn) sender.old.value.flight ≡ true)
         × (count.new ≡ 0) }
-    ensures short { result ≡ 17 → (length rows.old < count.new)
-        × (count.new ≡ length sender.old.value.flight.queue.inflight.chunks) }
+    ensures whole { result ≡ 0 → (length rows.old ≡ 0) ⊎ (count.new ≤ length rows.old) }
+    ensures short { result ≡ 17 → (0 < length rows.old) × ((length rows.old < count.new)
+        × (count.new ≡ length sender.old.value.flight.queue.inflight.chunks)) }
     ensures refused { result ≢ 0 → (sender.new.value ≡ sender.old.value) × (rows.new ≡ rows.old) }
     ensures reason { 16 ≤ result → result ≢ 17
         → result ≡ sender_code_for (sack_refusal (up_to tsn) sender.old.value.flight) }
@@ -208,7 +211,7 @@ pub extern "C" fn sctpr_sender_acked_up_to(
 {
     let own = sender.get_mut();
     let most = own.outbound().inflight_len();
-    if rows.len() < most {
+    if !rows.is_empty() && rows.len() < most {
         *count = most;
         return SCTPR_SHORT_BUFFER;
     }
@@ -238,8 +241,9 @@ pub extern "C" fn sctpr_sender_take_back(
     ensures ok { result ≡ 0 → TakesBack chunk.now rows.old rows.new count.new
         sender.old.value sender.new.value }
     ensures stale { result ≡ 2 → IsStale chunk.now sender.old.value × (count.new ≡ 0) }
-    ensures short { result ≡ 17 → (length rows.old < count.new)
-        × (count.new ≡ length sender.old.value.flight.queue.inflight.chunks) }
+    ensures whole { result ≡ 0 → (length rows.old ≡ 0) ⊎ (count.new ≤ length rows.old) }
+    ensures short { result ≡ 17 → (0 < length rows.old) × ((length rows.old < count.new)
+        × (count.new ≡ length sender.old.value.flight.queue.inflight.chunks)) }
     ensures refused { result ≢ 0 → (sender.new.value ≡ sender.old.value) × (rows.new ≡ rows.old) }
     ensures reason { 16 ≤ result → result ≢ 17 → IsRefusal (λ e. SackFault e chunk.now) result
         ⊎ RefusesTakeBack chunk.now result sender.old.value }
@@ -247,7 +251,7 @@ pub extern "C" fn sctpr_sender_take_back(
 {
     let own = sender.get_mut();
     let most = own.outbound().inflight_len();
-    if rows.len() < most {
+    if !rows.is_empty() && rows.len() < most {
         *count = most;
         return SCTPR_SHORT_BUFFER;
     }

@@ -662,10 +662,11 @@ extern "C" {
     pub fn sctpr_sender_next_to_retransmit(sender: *const sctpr_sender, row: *mut sctpr_in_flight) -> sctpr_code;
 
     /// Takes the bytes of a SACK (RFC 4960 6.2.1). SCTPR_OK: `count` becomes how many chunks it reports anew, and the first so many `rows` tell
-    /// of them, in the order of their TSNs. SCTPR_STALE: its cumulative TSN is before sctpr_sender_acked_tsn; `count` becomes 0, and nothing
-    /// else changed. SCTPR_SHORT_BUFFER, where there are fewer rows than sctpr_sender_chunks_in_flight, so that no row is ever lost: `count`
-    /// becomes how many are wanted. Refuses with an error of bytes that are no SACK, with SCTPR_SACK_BEYOND_SENT and SCTPR_SACK_BAD_GAP, where
-    /// it reports what is not in flight, and with SCTPR_NO_MEMORY. `rows` stay then, and `count` too but for the first.
+    /// of them, in the order of their TSNs; with a `room` of 0 no row is told. SCTPR_STALE: its cumulative TSN is before sctpr_sender_acked_tsn;
+    /// `count` becomes 0, and nothing else changed. SCTPR_SHORT_BUFFER, where 0 < `room` < sctpr_sender_chunks_in_flight, so that no row is
+    /// lost: `count` becomes how many are wanted. Refuses with an error of bytes that are no SACK, with SCTPR_SACK_BEYOND_SENT and
+    /// SCTPR_SACK_BAD_GAP, where it reports what is not in flight, and with SCTPR_NO_MEMORY. `rows` stay then, and `count` too but for the
+    /// first.
     pub fn sctpr_sender_acked(sender: *mut sctpr_sender, chunk: *const u8, length: usize, rows: *mut sctpr_acked, room: usize, count: *mut usize) -> sctpr_code;
 
     /// Takes the TSN of a SHUTDOWN, as sctpr_read_shutdown tells it (RFC 4960 3.3.8, 9.2): as a SACK with this cumulative TSN and no gap ack
@@ -692,8 +693,9 @@ extern "C" {
     pub fn sctpr_sender_expire_tail(sender: *mut sctpr_sender, now: u64, row: *mut sctpr_abandoned) -> sctpr_code;
 
     /// Abandons each message in flight that is past its deadline (RFC 3758 3.5, 4.1): `count` becomes how many, and the first so many `rows`
-    /// tell of them. SCTPR_SHORT_BUFFER, where there are not more rows than sctpr_sender_chunks_in_flight, so that no row is ever lost: `count`
-    /// becomes how many are in flight. SCTPR_TSNS_USED_UP, SCTPR_NO_MEMORY. `rows` stay then, and `count` too but for the first.
+    /// tell of them; with a `room` of 0 no row is told. SCTPR_SHORT_BUFFER, where 0 < `room` <= sctpr_sender_chunks_in_flight, so that no row is
+    /// lost: `count` becomes how many are in flight. SCTPR_TSNS_USED_UP, SCTPR_NO_MEMORY. `rows` stay then, and `count` too but for the
+    /// first.
     pub fn sctpr_sender_expire_late(sender: *mut sctpr_sender, now: u64, rows: *mut sctpr_abandoned, room: usize, count: *mut usize) -> sctpr_code;
 
     /// Abandons each message in flight that was sent again as often as it may be (RFC 7496 3.1); never a DCEP message. Call it once chunks are

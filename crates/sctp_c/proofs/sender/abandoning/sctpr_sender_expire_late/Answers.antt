@@ -1,14 +1,15 @@
-use Rattle.std.proofs.Common.{rules, ◌+◌, length}
-use Rattle.sctp_sender.specs.Late.{late_order}
-use Rattle.sctp_sender.specs.Sender.{Transmission}
-use Rattle.sctp_c.specs.Abandoning.{leaving_to}
-use Rattle.sctp_c.proofs.Filling.{rows-fit}
+use Rattle.std.proofs.Common.{length, ap, arith, inl, inr}
+use Rattle.std.proofs.lemmas.Grind.{common_steps}
 use Rattle.sctp_c.proofs.Leaving.{late-few}
+use Rattle.sctp_c.proofs.sender.abandoning.sctpr_sender_expire_late.Goals.{else-not-is_empty-via-then-not-is_empty+else-rows-in_flight}
+use Rattle.sctp_c.proofs.sender.abandoning.sctpr_sender_expire_late.Goals.{else-not-is_empty-via-else-not-is_empty}
 use Rattle.sctp_c.proofs.sender.abandoning.sctpr_sender_expire_late.Goals as goal
 
-pub fill_abandoned-requires : goal.fill_abandoned-requires
-fill_abandoned-requires c =
-    let t : Transmission = c.get_mut-own.result.now in
-    rows-fit c.in-Ok.gone.items (leaving_to (late_order c.args.now t.flight) t) c.deref.result.now (length t.flight.queue.inflight.chunks + 1)
-    (length c.args.rows.now)
-    c.in-Ok.ensures.answer (late-few c.args.now t) c.deref.ensures.value (search rules)
+pub returns-in-Ok-clause-whole : goal.returns-in-Ok-clause-whole
+returns-in-Ok-clause-whole c _ =
+    let few = late-few c.args.now c.get_mut-own.result.now in
+    let told = ap length c.in-Ok.ensures.answer in
+    elim c.else-not-is_empty.branch [
+      | else-not-is_empty-via-then-not-is_empty+else-rows-in_flight w ↦ inr (grind (arith, common_steps, few, told, w.if-rows-in_flight.false))
+      | else-not-is_empty-via-else-not-is_empty w ↦ inl (grind (arith, common_steps, w.if-not-is_empty.false, c.is_empty.ensures))
+    ]

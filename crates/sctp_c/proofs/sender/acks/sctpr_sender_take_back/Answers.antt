@@ -1,12 +1,16 @@
-use Rattle.std.proofs.Common.{rules, length}
-use Rattle.sctp_data.specs.SelectiveAck.{Sack, sack_of}
-use Rattle.sctp_sender.specs.Sender.{Transmission, taken_back_by}
-use Rattle.sctp_c.proofs.Filling.{rows-fit, taken-few}
+use Rattle.std.proofs.Common.{length, ap, inl, inr, arith}
+use Rattle.std.proofs.lemmas.Grind.{common_steps}
+use Rattle.sctp_data.specs.SelectiveAck.{sack_of}
+use Rattle.sctp_c.proofs.Filling.{taken-few}
+use Rattle.sctp_c.proofs.sender.acks.sctpr_sender_take_back.Goals.{else-not-is_empty-via-then-not-is_empty+else-rows-most}
+use Rattle.sctp_c.proofs.sender.acks.sctpr_sender_take_back.Goals.{else-not-is_empty-via-else-not-is_empty}
 use Rattle.sctp_c.proofs.sender.acks.sctpr_sender_take_back.Goals as goal
 
-pub fill_taken_back-requires : goal.fill_taken_back-requires
-fill_taken_back-requires c =
-    let s : Sack = sack_of c.in-Ok.sack in
-    let t : Transmission = c.get_mut-own.result.now in
-    rows-fit c.in-Ok-take_back.answered.items (taken_back_by s t) c.deref.result.now (length t.flight.queue.inflight.chunks) (length c.args.rows.now)
-    c.in-Ok-take_back.ensures.answer (taken-few s t) c.deref.ensures.value (search rules)
+pub returns-in-Ok-take_back-clause-whole : goal.returns-in-Ok-take_back-clause-whole
+returns-in-Ok-take_back-clause-whole c _ =
+    let few = taken-few (sack_of c.in-Ok.sack) c.get_mut-own.result.now in
+    let told = ap length c.in-Ok-take_back.ensures.answer in
+    elim c.else-not-is_empty.branch [
+      | else-not-is_empty-via-then-not-is_empty+else-rows-most w ↦ inr (grind (arith, common_steps, few, told, w.if-rows-most.false))
+      | else-not-is_empty-via-else-not-is_empty w ↦ inl (grind (arith, common_steps, w.if-not-is_empty.false, c.is_empty.ensures))
+    ]
