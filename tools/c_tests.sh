@@ -1,7 +1,7 @@
 #!/bin/sh
 # Builds the static library for C, where its crate is proved, installs it into a folder of its own, and runs on it
-#   - the tests in C, with sanitizers and an allocator that refuses, eight million calls in any order, 10,000 sessions of
-#     hostile peers, the heap against its bound, and the worst packets by the clock
+#   - the tests in C, with sanitizers and an allocator that refuses: eight million calls in any order, 13,000 sessions with hostile
+#     peers, the heap against its bound, and the worst packets by the clock
 #   - the endpoints of examples/c: with one another, and with usrsctp
 #   - the wrappers for C++, Rust and Go: their tests, and the echo, which prints the same in each
 # and on the program sctpdump, where rt ci or rt run has built it, what dump_tests/dump_tests.py tests.
