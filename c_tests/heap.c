@@ -15,10 +15,14 @@ enum { MANY = 8193, REACH = 20000, LONGEST = 65536, MTU = 1400 };
 static sctpr_receiver receiver;
 static size_t open_streams, messages, runs;
 
+static void must(sctpr_code code, sctpr_code wanted) {
+    if (code != wanted) CHECK(code == wanted);
+}
+
 static void begin(size_t window, uint32_t streams) {
     CHECK(in_use == 0 && sctpr_receiver_new(1, LONGEST, window, REACH, &receiver) == SCTPR_OK);
     for (uint32_t i = 0; i < streams; i++)
-        if (sctpr_receiver_open(&receiver, (uint16_t)i) != SCTPR_OK) CHECK(!"opened");
+        must(sctpr_receiver_open(&receiver, (uint16_t)i), SCTPR_OK);
     open_streams = streams;
     messages = runs = 0;
 }
@@ -28,10 +32,6 @@ static sctpr_code give(uint32_t tsn, uint16_t stream, uint16_t ssn, uint8_t flag
     struct data data = { tsn, stream, ssn, flags, length };
     uint8_t complete = 0;
     return sctpr_receiver_data(&receiver, chunk, put_data(chunk, &data), &complete);
-}
-
-static void must(sctpr_code code, sctpr_code wanted) {
-    if (code != wanted) CHECK(!"the code that was wanted");
 }
 
 static size_t bound(void) {

@@ -82,7 +82,7 @@ static void follow(const uint8_t *bytes, size_t size, uint8_t type) {
         if (count > 0) (void)sctpr_sender_add_miss_indications(&sender, rows[count - 1].tsn);
         break;
     case SCTPR_RECONFIG: follow_reset(bytes, size); break;
-    default: CHECK(!"another chunk"); break;
+    default: CHECK(type == SCTPR_DATA); break;
     }
 }
 

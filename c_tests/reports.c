@@ -80,10 +80,9 @@ static void send_marked(int may_lose) {
     size_t length = 0;
     while (sctpr_sender_next_to_retransmit(&s.sender, &row) == SCTPR_OK) {
         HOLDS(!row.is_acked && !row.is_abandoned);
-        if (sctpr_sender_resend(&s.sender, row.tsn, ++s.now, chunk, sizeof chunk, &length) != SCTPR_OK) {
-            HOLDS(!"a marked chunk is sent again");
-            return;
-        }
+        sctpr_code code = sctpr_sender_resend(&s.sender, row.tsn, ++s.now, chunk, sizeof chunk, &length);
+        HOLDS(code == SCTPR_OK);
+        if (code != SCTPR_OK) return;
         deliver(chunk, length, may_lose && any(2));
         sent_again++;
     }

@@ -170,7 +170,7 @@ static enum fate take(const struct data *data) {
         return end_or_drop(data, &ended_full);
     case SCTPR_TSN_TOO_FAR: HOLDS(data->tsn - cumulative() > s.reach); return DROPPED;
     case SCTPR_SSN_TOO_FAR: return end_or_drop(data, &ended_ssn);
-    default: HOLDS(!"another refusal"); return DROPPED;
+    default: HOLDS(code == SCTPR_OK); return DROPPED;
     }
 }
 

@@ -3,9 +3,9 @@
  *
  *     exchange [seed] [ticks] [lost repeated late damaged, each of 10,000 datagrams] [short]
  *
- * It writes for so many ticks of 10 ms, in no real time, then waits until all came, resets streams and adds some (RFC 6525), and shuts down. With `short` it writes more messages,
- * of under 64 bytes, so that stream sequence numbers pass 65,535 within 20,000 ticks. The last line says how many messages came and how
- * many faults there were; the status is 0 where there was none. */
+ * It writes for so many ticks of 10 ms, in no real time, then waits until all came, resets streams and adds some (RFC 6525), and shuts down.
+ * With `short` it writes more messages, of under 64 bytes, so that stream sequence numbers pass 65,535 within 20,000 ticks. The last line says
+ * how many messages came and how many faults there were; the status is 0 where there was none. */
 #include "endpoint.h"
 #include "messages.h"
 #include "network.h"
