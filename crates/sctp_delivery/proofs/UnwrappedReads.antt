@@ -525,7 +525,6 @@ module _ (p n : ℕ) (B : ℕ → ℕ) (Fits : ℕ → List ChunkPayloadData →
       next-order : d.index < j + 2 ^ 15 → j < d.index + 2 ^ 15 → at_or_before16 q.next_ssn last ≡ nat_le d.index j
       next-order a b = ap (λ m. at_or_before16 m last) d.next ∙ ap (at_or_before16 (d.index % 2 ^ 16)) is ∙ at_or_before16-index d.index j a b
 
-      -- from another lowest index on
       -- the sets that go are of no later message
       pub passed-gone : (low top : ℕ) (ss : List ChunkSet) (r : AreSets low top ss) → top ≤ j + 2 ^ 15 → j < low + 2 ^ 15
           → Gone (λ set. not (is_passed last set)) (j + 1) low top ss r
@@ -554,8 +553,9 @@ module _ (p n : ℕ) (B : ℕ → ℕ) (Fits : ℕ → List ChunkPayloadData →
             ]
       ]
 
+      -- from another lowest index on
       module _ (wide : j < d.low + 2 ^ 15) (low more : ℕ) (a : d.index < j + 2 ^ 15) (b : j < d.index + 2 ^ 15) (due : k ≤ low)
-          (from : low ≤ d.index ⊎ (d.index ≤ j) × (low ≤ j + 1))
+          (from : j < d.index → low ≤ d.index) (on : d.index ≤ j → low ≤ j + 1)
           (near : d.index < low + 2 ^ 15) (top : d.index ≤ j → j + 1 < low + 2 ^ 15) (up : reach ≤ more) (upto : j + 1 ≤ more) (within : more ≤ most)
           (far : more ≤ low + 2 ^ 15) (sets : AreSets low more left) where
         skips : IsSkipped k reach j most (held_after_ordered_skip last q)
@@ -568,35 +568,27 @@ module _ (p n : ℕ) (B : ℕ → ℕ) (Fits : ℕ → List ChunkPayloadData →
                 d.unassembled in
                 record { more = more; up = up; upto = upto; within = within; due = s.0; passed = let x = s.1 in omega (arith, x, i) }
 
-            low-is : low ≤ d.index ⊎ (d.index ≤ j) × (low ≤ j + 1) → j < d.index → low ≤ d.index
-            low-is (inl x) lt = x
-            low-is (inr x) lt = let y = x.0 in absurd (omega (arith, y, lt))
-
-            low-on : low ≤ d.index ⊎ (d.index ≤ j) × (low ≤ j + 1) → d.index ≤ j → low ≤ j + 1
-            low-on (inl x) le = omega (arith, x, le)
-            low-on (inr x) le = x.1
-
             by : (b : Bool) → at_or_before16 q.next_ssn last ≡ b
                 → IsSkipped k reach j most (record q { ordered = left; next_ssn = (if b then (last + 1) % 2 ^ 16 else q.next_ssn) })
             by true e =
                 let t : nat_le d.index j ≡ true = sym (next-order a b) ∙ e in
                 let upto' : d.index ≤ j = grind (arith, nat_tests, t) in
-                build (j + 1) ((last + 1) % 2 ^ 16) (ap (λ m. (m + 1) % 2 ^ 16) is ∙ next16 j) (omega (arith, upto')) (low-on from upto')
+                build (j + 1) ((last + 1) % 2 ^ 16) (ap (λ m. (m + 1) % 2 ^ 16) is ∙ next16 j) (omega (arith, upto')) (on upto')
                 (top upto') upto (omega arith)
             by false e =
                 let t : nat_le d.index j ≡ false = sym (next-order a b) ∙ e in
                 let past : j < d.index = grind (arith, nat_tests, t) in
                 let w = d.within in
-                build d.index q.next_ssn d.next (omega arith) (low-is from past) near (omega (arith, w, up)) past
+                build d.index q.next_ssn d.next (omega arith) (from past) near (omega (arith, w, up)) past
 
       -- the name is an old one
       old-name : j < d.low → IsSkipped k reach j most (held_after_ordered_skip last q)
       old-name x =
           let f = d.from in
           let w = d.within in
-          skips (omega (arith, x)) d.low reach (omega (arith, w, back)) (omega (arith, x, f)) d.due (inl f) d.near (λ y. absurd (omega (arith, x, f, y)))
-          (omega arith)
-          (omega (arith, x, f, w)) le d.far (sets-those Fits (λ set. not (is_passed last set)) d.low reach q.ordered d.sets)
+          skips (omega (arith, x)) d.low reach (omega (arith, w, back)) (omega (arith, x, f)) d.due (λ z. f) (λ z. omega (arith, f, z)) d.near
+          (λ y. absurd (omega (arith, x, f, y))) (omega arith) (omega (arith, x, f, w)) le d.far
+          (sets-those Fits (λ set. not (is_passed last set)) d.low reach q.ordered d.sets)
 
       -- or lies in the window
       new-name : d.low ≤ j → j < d.low + 2 ^ 15 → (j + 1 ≡ d.low + 2 ^ 15 → front_readable q.next_ssn q.ordered ≡ None) → (more : ℕ) → reach ≤ more
@@ -607,12 +599,13 @@ module _ (p n : ℕ) (B : ℕ → ℕ) (Fits : ℕ → List ChunkPayloadData →
           let u = d.due in
           let sets = sets-to Fits d.low reach more q.ordered up d.sets in
           elim (cases_lt (j + 1) (d.low + 2 ^ 15)) [
-            | inl lt ↦ skips y d.low more (omega (arith, x, n)) (omega (arith, y, f)) d.due (inl f) d.near (λ z. lt) up upto within far
+            | inl lt ↦ skips y d.low more (omega (arith, x, n)) (omega (arith, y, f)) d.due (λ z. f) (λ z. omega (arith, f, z)) d.near (λ z. lt) up upto
+                within far
                 (sets-those Fits (λ set. not (is_passed last set)) d.low more q.ordered sets)
             | inr ge ↦
                 let top : j + 1 ≡ d.low + 2 ^ 15 = omega (arith, ge, y) in
-                skips y (d.low + 1) more (omega (arith, x, n)) (omega (arith, y, f)) (omega (arith, u)) (inr (omega (arith, top, n), omega (arith, x)))
-                (omega (arith, n)) (λ z. omega (arith, top)) up upto within (omega (arith, far))
+                skips y (d.low + 1) more (omega (arith, x, n)) (omega (arith, y, f)) (omega (arith, u)) (λ z. omega (arith, top, n, z))
+                (λ z. omega (arith, x)) (omega (arith, n)) (λ z. omega (arith, top)) up upto within (omega (arith, far))
                 (without-lowest d.low more j d.index q.next_ssn last q.ordered d.next is f n x y (last-one top) sets)
           ]
 
