@@ -278,10 +278,7 @@ complete-among w s n (c ∷ log) =
         (if (Messages.message_at w n).ordered then list_all (arrived_new log) (Messages.slots_of w n) else were_complete (Messages.slots_of w n) log) e in
         let b : were_complete (Messages.slots_of w n) log ≡ true =
         ap (λ t. if t then list_all (arrived_new log) (Messages.slots_of w n) else were_complete (Messages.slots_of w n) log) (sym o) ∙ a.1 in
-        and (Messages.sent_of w n == Messages.fragment_count w n) (if (Messages.message_at w n).ordered
-        then list_all (arrived_new (c ∷ log)) (Messages.slots_of w n) else were_complete (Messages.slots_of w n) (c ∷ log)) a.0
-        (ap (λ t. if t then list_all (arrived_new (c ∷ log)) (Messages.slots_of w n) else were_complete (Messages.slots_of w n) (c ∷ log)) o ∙ or-left
-        (were_complete (Messages.slots_of w n) log) (list_all (λ p. arrived_new (c ∷ log) p && not (is_skipped (c ∷ log) p)) (Messages.slots_of w n)) b)
+        cc
 
     joined : (a b o : Bool) → (Messages.message_at w n).ordered ≡ o → (old new : Bool) → is_complete_by w log n ≡ old → is_complete_by w (c ∷ log) n ≡ new
         → ((a && ((b && not o) && old)) || (a && ((b && not o) && (new && not old)))) ≡ (a && ((b && not o) && new))

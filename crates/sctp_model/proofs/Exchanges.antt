@@ -376,8 +376,7 @@ write_is_answered setup h is run s byte ppi bytes =
     let cut : fragments_in w (byte ∷ bytes) ≡ Messages.fragment_count v (length w.messages) =
     ap (λ y. length (pieces (length y.bytes) w.setup.size y.bytes)) (sym (get-snoc_new w.messages m Messages.no_message)) in
     let some : (length (byte ∷ bytes) == 0) ≡ false = grind (arith, nat_tests) in
-    ap (λ b. R.Wrote (if b then None else Some (length w.messages)) (fragments_in w (byte ∷ bytes))) some
-    ∙ ap (λ k. R.Wrote (Some (length w.messages)) k) cut ∙ ap (λ i. R.Wrote (Some i) (Messages.fragment_count v i)) c
+    cc
 
 pub resend_is_answered : OnEveryRun Exchanges.ResendIsAnswered
 resend_is_answered setup h is run tsn d e =

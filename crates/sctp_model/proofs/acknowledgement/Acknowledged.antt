@@ -22,7 +22,6 @@ use Rattle.sctp_model.specs.Log
 use Rattle.sctp_model.specs.Log.{LogEntry, SlotReceived, is_seen, arrived_new, is_skipped, seen_count, log_of, made_in}
 use Rattle.sctp_model.specs.Log.{Made, MadeData, MadeForward, MadeSack, is_acknowledged_in, taken_in, reported_by}
 use Rattle.sctp_model.specs.Steps.{History, record_of, IsRun, after}
-use Rattle.sctp_model.specs.Contents.{SackContents, cumulative_tsn, contents_in}
 use Rattle.sctp_model.specs.Laws.{IsSetup, OnEveryRun, AcknowledgedArrived, AcknowledgedIsReported, SacksSay, blocks_by}
 use Rattle.sctp_model.proofs.receiver.Arrivals.{Arrivals, arrivals-run, seen_by, seen-below, arrived-beyond, cumulative_is_seen}
 use Rattle.sctp_model.proofs.sender.SenderRun.{consistent-run, fold-keeps}
@@ -351,10 +350,7 @@ acks-taken setup older w k r same a = step (slice_get w.network k) (ap (λ v. sl
     step (Some (Sack x)) e = record {
       slots = λ p lt.
           let lt' : p < length w.slots = omega (arith, lt, length-numbered (Changes.acknowledged_by x) 0 w.slots) in
-          ap (λ y. y.acknowledged) (numbered-at (Changes.acknowledged_by x) 0 p w.slots Messages.no_slot lt')
-          ∙ ap (λ i. (Messages.slot_at w p).acknowledged || reports x i) (zero-add p)
-          ∙ ap (λ b. b || reports x p) (a.slots p lt')
-          ∙ ap (λ o. is_acknowledged_in setup older p || reported_by o p) e;
+          cc (numbered-at (Changes.acknowledged_by x) 0 p w.slots Messages.no_slot lt', zero-add p, a.slots p lt', e);
       taken = ap (λ c. max c x.cumulative) a.taken ∙ ap (λ o. max (taken_in setup older) (Log.cumulative_in o)) e;
     }
 
@@ -411,9 +407,4 @@ sacks_say setup h is run credit =
     let log = log_of setup h in
     let g = arrivals-run setup h is run in
     let c : cumulative w ≡ seen_count log (length w.slots) = cumulative_is_seen setup h is run in
-    ap (contents_in (after w (E.Ack credit))) (get-last w.network (Sack (report_of w credit)))
-    ∙ ap (λ q. Some (SackContents (cumulative_tsn w q) credit (gap_blocks w) (map (Messages.tsn_of w) (take (16379 - length (gap_blocks w)) w.duplicates)))) c
-    ∙ ap (λ b.
-    Some (SackContents (cumulative_tsn w (seen_count log (length w.slots))) credit b (map (Messages.tsn_of w) (take (16379 - length b) w.duplicates))))
-    (blocks-are setup h is run) ∙ ap (λ d. Some (SackContents (cumulative_tsn w (seen_count log (length w.slots))) credit (blocks_by w log)
-    (map (Messages.tsn_of w) (take (16379 - length (blocks_by w log)) d)))) g.duplicates
+    cc (get-last w.network (Sack (report_of w credit)), c, blocks-are setup h is run, g.duplicates)

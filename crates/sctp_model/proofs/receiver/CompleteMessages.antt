@@ -154,13 +154,10 @@ complete-later x y a b g log f n lt = step (cases_lt (sent x n) (sent y n))
         (if (y.message n).ordered then list_all (Log.arrived_new log) (slots_in y n) else Log.were_complete (slots_in y n) log) e).1) in
         let not-all : (sent x n == parts x n) ≡ false = fails (sent x n == parts x n)
         (λ e. let z = same-is (sent x n) (parts x n) e in absurd (omega (arith, more, g.ended n (omega (arith, z, a.some n lt)) (inl z)))) in
-        out ∙ sym
-        (ap (λ c. c && (if (x.message n).ordered then list_all (Log.arrived_new log) (slots_in x n) else Log.were_complete (slots_in x n) log)) not-all)
+        cc
     step (inr le) =
         let same : slots_in y n ≡ slots_in x n = slots-same x y g n (omega (arith, le, g.sent_more n)) in
-        ap (λ l. both-ways y l (parts y n) (y.message n).ordered) same
-        ∙ ap (λ k. both-ways y (slots_in x n) k (y.message n).ordered) (parts-grown x y g n lt)
-        ∙ ap (both-ways y (slots_in x n) (parts x n)) ordered-is
+        cc (same, parts-grown x y g n lt, ordered-is)
 
 -- ## By the record
 

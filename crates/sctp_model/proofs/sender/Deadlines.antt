@@ -91,10 +91,7 @@ deadlines_by_events setup h is run now n = step (cases_lt n (length (record_of s
         ∙ ap (λ xs. slice_get xs n) (messages_are_writes setup h is run) in
         let mode : Some (mode_of m) ≡ slice_get (modes_in h) n = sym (got-mapped mode_of w.messages n Messages.no_message lt)
         ∙ ap (λ xs. slice_get xs n) (modes_are_kept setup h is run) in
-        lapses now m.value m.ppi m.reliability m.started
-        ∙ ap (λ o. is_write_past_deadline now o (Some (shown_of w n)) (Some (mode_of m))) (starts_once setup h is run n lt)
-        ∙ ap (λ x. is_write_past_deadline now (started_in h n) x (Some (mode_of m))) write
-        ∙ ap (is_write_past_deadline now (started_in h n) (slice_get (writes_in h) n)) mode
+        cc (lapses now m.value m.ppi m.reliability m.started, starts_once setup h is run n lt, write, mode)
     step (inr le) =
         ap (λ m. is_past now (if is_timed m.reliability && not (is_dcep m.ppi) then Messages.deadline_from m.value m.started else None))
         (get-beyond w.messages n Messages.no_message le) ∙ sym (ap (λ x. is_write_past_deadline now (started_in h n) x (slice_get (modes_in h) n))

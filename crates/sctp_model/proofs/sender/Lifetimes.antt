@@ -193,8 +193,7 @@ begins-step setup older e r is run ok b = record {
     at n lt (inl l) =
         let t : nat_lt n (length (writes_in older)) ≡ true =
         (let z : n < length (writes_in older) = omega (arith, l, writes-count setup older is run) in grind (arith, nat_tests)) in
-        started-after (record_of setup older) e n l ∙ ap (λ o. or_else o (moment_of e)) (b.each n l)
-        ∙ ap (λ c. or_else (started_in older n) (if c then moment_of e else None)) (sym t)
+        cc (started-after (record_of setup older) e n l, b.each n l, t)
     at n lt (inr g) = started-new (record_of setup older) e n g lt ∙ sym (beyond n g)
 
 begins-run : (setup : Setup) (h : History) → IsSetup setup → IsRun setup h → Begins setup h (record_of setup h)

@@ -20,7 +20,7 @@ use Rattle.sctp_model.specs.Messages
 use Rattle.sctp_model.specs.Receiver
 use Rattle.sctp_model.specs.Changes
 use Rattle.sctp_model.specs.Reports.{report_of}
-use Rattle.sctp_model.specs.Contents.{chunk_at, name_of, contents_of, contents_in, DataContents, ForwardContents, SackContents}
+use Rattle.sctp_model.specs.Contents.{chunk_at, name_of, contents_of, contents_in, DataContents, SackContents}
 use Rattle.sctp_model.specs.Steps.{History, record_of, IsRun, refusal_of, after, unless, can_name, is_ended, can_resend, skip_refusal}
 use Rattle.sctp_model.specs.Laws.{OnEveryRun, NoTerminalChunkIsSent, DatagramsStay}
 use Rattle.sctp_model.proofs.sender.Shape.{Shape, MessagePart, shape, has, sent, parts, index, slotted}
@@ -476,8 +476,7 @@ pub contents-stay : (w v : LinkRecord) (d : Datagram) → Sender (shape w) → E
 contents-stay w v (W.Data ps) s x f = ap DataContents (chunks-stay w v s x ps f)
 contents-stay w v (Forward upto names) s x f =
     let first : v.setup.first ≡ w.setup.first = ap (λ t. t.first) x.setup in
-    ap (λ i. ForwardContents ((i + upto) % 2 ^ 32) (map (name_of v) names)) first
-    ∙ ap (ForwardContents (Messages.tsn_of w upto)) (names-stay w v upto s x names f.1)
+    cc (first, names-stay w v upto s x names f.1)
 contents-stay w v (Sack r) s x f =
     let first : v.setup.first ≡ w.setup.first = ap (λ t. t.first) x.setup in
     ap (λ i. SackContents ((i + (2 ^ 32 - 1) + r.cumulative) % 2 ^ 32) r.credit r.blocks (map (λ p. (i + p) % 2 ^ 32) r.duplicates)) first

@@ -89,17 +89,13 @@ module _ (x : Shape) (n : ℕ) (s : Sender x) (h : partial x n ≡ true) where
           ∙ s.terminals n made-n ∙ ap (λ b. if b && nat_lt (sent x n) (parts x n) then 1 else 0) i.alive in
           let more : nat_lt (sent y k) (parts x k) ≡ true =
           (let l : sent y k < parts x k = omega (arith, sent-same k, ap (sent x) e, ap (parts x) e, i.more) in grind (arith, nat_tests)) in
-          ap (λ b. length (numbers_where (is_terminal x k) 0 x.slots) + (if b && true then 1 else 0)) hit
-          ∙ ap (λ c. c + 1) few
-          ∙ sym (ap (λ b. if (b || (x.message k).abandoned) && nat_lt (sent y k) (parts x k) then 1 else 0) hit' ∙ ap (λ b. if true && b then 1 else 0) more)
+          cc
 
       other : (k : ℕ) → (n ≡ k → ⊥) → (n == k) ≡ false → k < x.count
           → length (numbers_where (is_terminal x k) 0 x.slots) + (if (n == k) && true then 1 else 0) ≡ terminals_due y k
       other k ne f lt =
           let z : length (numbers_where (is_terminal x k) 0 x.slots) + 0 ≡ length (numbers_where (is_terminal x k) 0 x.slots) = omega arith in
-          ap (λ b. length (numbers_where (is_terminal x k) 0 x.slots) + (if b && true then 1 else 0)) f ∙ z ∙ s.terminals k lt
-          ∙ ap (λ c. if (x.message k).abandoned && nat_lt c (parts x k) then 1 else 0) (sym (sent-same k))
-          ∙ ap (λ b. if (b || (x.message k).abandoned) && nat_lt (sent y k) (parts x k) then 1 else 0) (sym (off k ne))
+          cc (f, z, s.terminals k lt, sent-same k, off k ne)
 
 -- without one, where it was sent or abandoned before
 pub sender-abandoned : (x : Shape) (n : ℕ) → Sender x → partial x n ≡ false → 0 < sent x n → Sender (abandoned_at x n)

@@ -153,14 +153,11 @@ last-removed w n q lt t =
         let z : fragment_count w n - sent_of w n ≡ suc (fragment_count w n - sent_of w n - 1) = omega (arith, l) in
         let y : sent_of w n + (fragment_count w n - sent_of w n - 1) ≡ fragment_count w n - 1 = omega (arith, l) in
         let t : nat_lt (sent_of w n) (fragment_count w n) ≡ true = grind (arith, nat_tests) in
-        ap (λ c. last_of (map (waiting_at w n) (numbers_from (sent_of w n) c))) z
-        ∙ last-of w n (sent_of w n) (fragment_count w n - sent_of w n - 1)
-        ∙ ap (λ i. Some (waiting_at w n i)) y ∙ ap (λ b. if b then Some (waiting_at w n (fragment_count w n - 1)) else None) (sym t)
+        cc (z, last-of w n (sent_of w n) (fragment_count w n - sent_of w n - 1), y, t)
     rest (inr g) =
         let z : fragment_count w n - sent_of w n ≡ 0 = omega (arith, g) in
         let t : nat_lt (sent_of w n) (fragment_count w n) ≡ false = grind (arith, nat_tests) in
-        ap (λ c. last_of (map (waiting_at w n) (numbers_from (sent_of w n) c))) z
-        ∙ ap (λ b. if b then Some (waiting_at w n (fragment_count w n - 1)) else None) (sym t)
+        cc
 
     complete : (g : Bool) → (if not g then last_of (waiting_of w n) else None)
         ≡ (if not g && nat_lt (sent_of w n) (fragment_count w n) then Some (waiting_at w n (fragment_count w n - 1)) else None)

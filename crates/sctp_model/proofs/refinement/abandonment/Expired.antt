@@ -220,8 +220,7 @@ module _ (setup : Setup) (w : LinkRecord) (n : ℕ) (g : Going setup w) (is : fr
               side : (n < k) ⊎ (k ≤ n) → closed true (message_at w n).stream (waiting_of w k) ≡ waiting_of v k
               side (inr le) =
                   let b = f.before k (omega (arith, le, ne)) (o ∙ sym e) in
-                  ap (closed true (message_at w n).stream) (all-sent w k alive b.0 b.1)
-                  ∙ sym (waiting_of-alike w v k (alike-by k ne (λ x. before-low (message_at w k).stream k le)) refl ∙ all-sent w k alive b.0 b.1)
+                  cc (all-sent w k alive b.0 b.1, waiting_of-alike w v k (alike-by k ne (λ x. before-low (message_at w k).stream k le)) refl)
               side (inl lt) =
                   changed-waiting (is_on (message_at w n).stream) one_lower (waiting_at w k)
                   (waiting_at v k) one (numbers_from (sent_of w k) (fragment_count w k - sent_of w k))

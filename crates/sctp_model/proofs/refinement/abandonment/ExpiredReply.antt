@@ -14,7 +14,7 @@ use Rattle.sctp_model.specs.Reply as R
 use Rattle.sctp_model.specs.LinkRecord.{LinkRecord, Setup}
 use Rattle.sctp_model.specs.Messages.{message_at, ordered_before, sent_of}
 use Rattle.sctp_model.specs.Amounts.{growth}
-use Rattle.sctp_model.specs.Changes.{after_expire, expiring}
+use Rattle.sctp_model.specs.Changes.{expiring}
 use Rattle.sctp_model.specs.Steps.{History, record_of, IsRun, reply_to, after, expired_reply}
 use Rattle.sctp_model.specs.Laws.{IsSetup}
 use Rattle.sctp_model.proofs.acknowledgement.Bytes.{size-some}
@@ -96,8 +96,7 @@ pub count-expire : (setup : Setup) (w : LinkRecord) (now n : ℕ) → Going setu
     + (if ((message_at w n).stream == s) && (message_at w n).ordered then 1 else 0) ≡ ordered_before w s (length w.messages)
 count-expire setup w now n g e s =
     let p = expiring-front w now n e in
-    ap (λ o. ordered_before (after_expire w o) s (length (after_expire w o).messages)
-    + (if ((message_at w n).stream == s) && (message_at w n).ordered then 1 else 0)) e ∙ before-all setup w n g p.0 p.1 s
+    cc (e, before-all setup w n g p.0 p.1 s)
 
 -- the sequence number that a stream keeps, one lower
 pub number-lower : (number old new : ℕ) → number ≡ old % 2 ^ 16 → old ≡ new + 1 → (number + (2 ^ 16 - 1)) % 2 ^ 16 ≡ new % 2 ^ 16

@@ -1,5 +1,5 @@
 -- What expiring or abandoning a message releases.
-use Rattle.std.proofs.Common.{◌≡◌, ℕ, ◌+◌, ◌-◌, ◌<◌, Bool, true, false, [], ◌∷◌, length, get_or, refl, ap, sym, ◌∙◌, arith, add-one, length-append}
+use Rattle.std.proofs.Common.{◌≡◌, ℕ, ◌+◌, ◌-◌, ◌<◌, Bool, true, false, [], ◌∷◌, length, get_or, refl, ap, ◌∙◌, arith, add-one, length-append}
 use Rattle.std.specs.Prelude.{if◌then◌else◌, ◌==◌, ◌&&◌, ◌||◌, not}
 use Rattle.sctp_util.specs.Kept.{numbers_where, numbers_from, total_over}
 use Rattle.sctp_util.specs.Lists.{pieces}
@@ -123,8 +123,7 @@ held-abandoned w n q same lt = by (is_partially_sent w n)
         let v = with_slot w n true in
         let here : held_bytes v n ≡ held_bytes w n = ap (λ c. c + in_flight_bytes v n) (pending-same w n n)
         ∙ ap (λ c. pending_bytes w n + c) (in_flight-same w n n) in
-        ap (λ c. held_where (message_changed v n mark_abandoned) q + (if q (message_at w n) then c else 0)) (sym here)
-        ∙ held-changed v n mark_abandoned q same gone lt ∙ held-marked w n q
+        cc (here, held-changed v n mark_abandoned q same gone lt, held-marked w n q)
     by false = held-changed w n mark_abandoned q same gone lt
 
 -- ## Of a stream, and in all

@@ -88,8 +88,7 @@ module _ {w : LinkRecord} {had : Outbound} {coming : ℕ} (l : Sends w had comin
   pub partial-tail : has_tail (to_abandon (find (has_tsn tsn) had.inflight.chunks)) had ≡ is_partially_sent w n
   partial-tail =
       let f = facts l.told in
-      subst (λ t. has_tail (to_abandon (find (has_tsn t) had.inflight.chunks)) had ≡ is_partially_sent w n) (back l tsn fits flies)
-      (tail-tsn w.setup w p had f.consistent (low l tsn fits flies) high l.outbound)
+      cc (back l tsn fits flies, tail-tsn w.setup w p had f.consistent (low l tsn fits flies) high l.outbound)
 
   -- the queue answers
   pub held : is_some (find (has_tsn tsn) had.inflight.chunks) ≡ true

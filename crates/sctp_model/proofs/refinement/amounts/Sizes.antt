@@ -343,7 +343,4 @@ module _ (setup : Setup) (w : LinkRecord) (p : ℕ) (q : ReassemblyState) (g : C
       (reassembly_of w s).ordered (reassembly_of w s).unassembled ≤ w.setup.largest = omega (arith, bound (message_at w n).ordered refl, short) in
       let no : nat_lt w.setup.largest (projected_size (chunk_at w p) (reassembly_of w s).ordered (reassembly_of w s).unassembled) ≡ false =
       grind (arith, nat_tests) in
-      ap (λ h. ((chunk_at w p).stream_identifier == q.si) && nat_lt q.max_message_size (projected_size (chunk_at w p) h.ordered h.unassembled)) holds
-      ∙ ap (λ m. ((chunk_at w p).stream_identifier == q.si)
-      && nat_lt m (projected_size (chunk_at w p) (reassembly_of w s).ordered (reassembly_of w s).unassembled)) limit
-      ∙ ap (λ b. ((chunk_at w p).stream_identifier == q.si) && b) no ∙ and-none ((chunk_at w p).stream_identifier == q.si)
+      cc (holds, limit, no, and-none ((chunk_at w p).stream_identifier == q.si))

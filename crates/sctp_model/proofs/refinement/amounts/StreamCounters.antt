@@ -2,7 +2,6 @@
 use Rattle.std.proofs.Common.{◌≡◌, ℕ, ◌+◌, Bool, true, false, List, [], ◌∷◌, length, Some, None, refl, ap, ◌∙◌, arith}
 use Rattle.std.specs.Prelude.{if◌then◌else◌, ◌==◌, ◌&&◌, not}
 use Rattle.sctp_data.specs.PayloadTypes.{counted_as, has_bytes, is_counted}
-use Rattle.sctp_util.specs.Kept.{total_over}
 use Rattle.sctp_data.specs.declared.chunk.chunk_payload_data.PayloadProtocolIdentifier.{PayloadProtocolIdentifier}
 use Rattle.sctp_data.specs.declared.chunk.chunk_payload_data.PayloadProtocolIdentifier.TheVariants.{Dcep, String, Binary, StringEmpty, BinaryEmpty, Unknown}
 use Rattle.sctp_model.specs.declared.event.Event.{Event}
@@ -153,8 +152,7 @@ counters-wrote w s t ppi bytes ok =
     by false =
         let x : answered_on w t one + 0 ≡ answered_on w t one = omega arith in
         let y : answered_on w t size + 0 ≡ answered_on w t size = omega arith in
-        ap (λ k. counters_by t k (answered_on w t size + 0) (read_on w t one) (read_on w t size)) x
-        ∙ ap (λ k. counters_by t (answered_on w t one) k (read_on w t one) (read_on w t size)) y
+        cc
 
 -- a read is counted on its stream
 pub counters-read : (setup : Setup) (h : History) → IsSetup setup → IsRun setup h → (s t n : ℕ) → next_read (record_of setup h) s ≡ Some n
@@ -177,8 +175,7 @@ counters-read setup h is run s t n e =
     by w ppi bytes false =
         let x : read_on w t one + 0 ≡ read_on w t one = omega arith in
         let y : read_on w t size + 0 ≡ read_on w t size = omega arith in
-        ap (λ k. counters_by t (answered_on w t one) (answered_on w t size) k (read_on w t size + 0)) x
-        ∙ ap (counters_by t (answered_on w t one) (answered_on w t size) (read_on w t one)) y
+        cc
 
 -- where nothing is left to read nothing is counted
 pub counters-nothing : (w : LinkRecord) (s t : ℕ) → next_read w s ≡ None → counters_on (after_reading w s) t ≡ counters_on w t
@@ -197,6 +194,4 @@ counters-same setup w e t g a b =
 pub counters-none : (setup : Setup) (w : LinkRecord) (t : ℕ) → Consistent setup w → is_open w t ≡ false → counters_on w t ≡ no_counters t
 counters-none setup w t g e =
     let l = none-written setup w t g e in
-    counters-sums w w t 0 0 0 0
-    (ap (total_over (message_count w)) l) (ap (total_over (counted_bytes w)) l) (ap (total_over (if_read w (message_count w))) l)
-    (ap (total_over (if_read w (counted_bytes w))) l)
+    cc

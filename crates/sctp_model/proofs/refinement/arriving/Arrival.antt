@@ -79,9 +79,7 @@ pub set_is_complete : (w : LinkRecord) (n : ℕ) → Valid w → n < length w.me
 set_is_complete w n valid lt =
     let laid = valid.laid n in
     let l = window w n laid.0 laid.1 in
-    ap (λ ks. is_complete (map (chunk_at w) ks)) l
-    ∙ complete-kept w.setup.first (chunk_at w) (has_come w n) laid.0 (fragment_count w n) (is_message w n laid.0 valid lt laid.1)
-    ∙ ap (λ ks. length ks == fragment_count w n) (sym l)
+    cc (l, complete-kept w.setup.first (chunk_at w) (has_come w n) laid.0 (fragment_count w n) (is_message w n laid.0 valid lt laid.1))
 
 -- ## An arrival: what stays
 

@@ -1,12 +1,11 @@
 -- The slots of a datagram that come: what is known of them before, and what of the record they change.
-use Rattle.std.proofs.Common.{◌≡◌, ℕ, zero, suc, ◌<◌, false, List, [], ◌∷◌, length, Some, arith, Bool, true, ◌++◌, refl, ap, sym, ◌∙◌}
+use Rattle.std.proofs.Common.{◌≡◌, ℕ, zero, suc, ◌<◌, false, List, [], ◌∷◌, length, Some, arith, Bool, true, ◌++◌, refl, ap, ◌∙◌}
 use Rattle.std.specs.Prelude.{slice_get, slice_index_or, if◌then◌else◌, fold}
 use Rattle.sctp_model.specs.LinkRecord.{LinkRecord, Data}
 use Rattle.sctp_model.specs.Messages.{slot_at, message_of}
 use Rattle.sctp_model.specs.Valid.{AllFragments}
 use Rattle.sctp_model.proofs.refinement.arriving.Carried.{Carried, carried}
 use Rattle.sctp_model.proofs.refinement.Histories.{Facts}
-use Rattle.std.proofs.Math.Path.{subst}
 use Rattle.sctp_model.specs.Receiver.{is_new}
 use Rattle.sctp_model.specs.Changes.{receive_slot, note_completion, becomes_complete}
 use Rattle.sctp_model.proofs.refinement.acknowledging.QuietSender.{SameToSender, same-then}
@@ -48,8 +47,7 @@ rest-one w p = by (is_new w p) refl
     by true e =
         let is : receive_slot w p ≡ note_completion (with_arrived w p) (message_of w p) =
         ap (λ b. if b then note_completion (with_arrived w p) (message_of w p) else record w { duplicates = w.duplicates ++ p ∷ [] }) e in
-        subst (λ (v : LinkRecord). v ≡ record w { streams = v.streams; slots = v.slots; duplicates = v.duplicates }) (sym is)
-        (noted (becomes_complete (with_arrived w p) (message_of w p)) refl)
+        cc (is, noted (becomes_complete (with_arrived w p) (message_of w p)) refl)
     by false e = cc (SlotArrives.repeated w p e)
 
 pub rest-all : (w v : LinkRecord) (ps : List ℕ) → v ≡ record w { streams = v.streams; slots = v.slots; duplicates = v.duplicates }

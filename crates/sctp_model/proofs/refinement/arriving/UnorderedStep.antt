@@ -1,7 +1,7 @@
 -- An unordered chunk arrives: the complete step.
 use Rattle.std.proofs.Common.{◌≡◌, ℕ, zero, suc, ◌+◌, ◌-◌, ◌<◌, ◌≤◌, Bool, true, false, List, [], ◌∷◌, ◌++◌, length, map, take, drop, Option, Some, None, refl}
 use Rattle.std.proofs.Common.{ap, sym, ◌∙◌, inl, inr, arith}
-use Rattle.std.specs.Prelude.{◌⊎◌, if◌then◌else◌, ◌==◌, ◌&&◌, ◌||◌, not, nat_lt, nat_le, unwrap_or}
+use Rattle.std.specs.Prelude.{◌⊎◌, if◌then◌else◌, ◌==◌, ◌&&◌, ◌||◌, not, nat_le, unwrap_or}
 use Rattle.std.specs.List.{list_any}
 use Rattle.std.proofs.lemmas.Bool.Decides.{nat_tests}
 use Rattle.std.proofs.lemmas.List.{map-append}
@@ -16,9 +16,9 @@ use Rattle.sctp_model.specs.Queues.{set_of, complete_set_of, is_unassembled}
 use Rattle.sctp_model.specs.refinement.Holds.{ordered_sets, complete_sets, unassembled_chunks}
 use Rattle.sctp_util.proofs.Passing.{kept-same, kept-none, map-kept-same}
 use Rattle.sctp_model.specs.LinkRecord.{LinkRecord, StreamRecord}
-use Rattle.sctp_model.specs.Messages.{message_at, message_of, stream_at, stream_of, no_stream, is_ordered_on, index_of, fragment_count, has_fragment}
+use Rattle.sctp_model.specs.Messages.{message_at, message_of, stream_at, stream_of, no_stream, is_ordered_on, fragment_count, has_fragment}
 use Rattle.sctp_model.specs.Messages.{is_unordered_on}
-use Rattle.sctp_model.specs.Receiver.{arrived_at, arrived_of, has_arrived, is_complete_message, is_unread, is_held, next_of, is_new}
+use Rattle.sctp_model.specs.Receiver.{arrived_at, has_arrived, is_complete_message, is_held, next_of, is_new}
 use Rattle.sctp_model.specs.Changes.{stream_changed, with_complete, becomes_complete, receive_slot}
 use Rattle.sctp_model.specs.Valid.{Valid, ValidUnassembled}
 use Rattle.sctp_util.proofs.More.{fails, not_both}
@@ -95,10 +95,7 @@ module _ (v : LinkRecord) (rs : List StreamRecord) (named-same : (t : ℕ) → (
       by_test : (k : ℕ) (b : Bool) → is_ordered_on v t k ≡ b → is_held (with_streams v rs) t k ≡ is_held v t k
       by_test k true on =
           let complete : is_complete_message (with_streams v rs) k ≡ is_complete_message v k = rw (on-ordered v t k on) refl in
-          ap (λ x. is_ordered_on v t k
-          && (is_unread v k && (nat_lt 0 (arrived_of v k) && (x || nat_le (stream_of (with_streams v rs) t).named (index_of v k))))) complete
-          ∙ ap (λ x. is_ordered_on v t k && (is_unread v k && (nat_lt 0 (arrived_of v k) && (is_complete_message v k || nat_le x (index_of v k)))))
-          (named-same t)
+          cc (complete, named-same t)
       by_test k false off = rw off refl
 
 -- ## One more complete message
@@ -135,9 +132,7 @@ pub complete-noted : (v : LinkRecord) (s n : ℕ) (r : StreamRecord) → stream_
 complete-noted v s n r e =
     let id : r.stream ≡ s = find-passes s v.streams r e in
     let hit : (r.stream == s) ≡ true = grind (arith, nat_tests) in
-    ap (λ o. (unwrap_or o (no_stream s)).complete) (found-noted v s n s ∙ ap (then_by (noted s n)) e)
-    ∙ ap (λ b. (if b then with_complete n r else r).complete) hit
-    ∙ ap (λ o. (unwrap_or o (no_stream s)).complete ++ n ∷ []) (sym e)
+    cc (found-noted v s n s, e, hit)
 
 -- message m is complete now: as before, or it is this one
 pub is_complete_message-noted : (v : LinkRecord) (s n m : ℕ) (r : StreamRecord) → stream_at v s ≡ Some r → is_unordered_on v s m ≡ true

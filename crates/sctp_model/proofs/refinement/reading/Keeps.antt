@@ -89,9 +89,7 @@ module _ (v : LinkRecord) (s : ℕ) (f : StreamRecord → StreamRecord) (stream 
   complete-here r e =
       let id : r.stream ≡ s = find-passes s v.streams r e in
       let hit : (r.stream == s) ≡ true = grind (arith, nat_tests) in
-      ap (λ o. (unwrap_or o (no_stream s)).complete) (found s ∙ ap (then_by (λ r. if r.stream == s then f r else r)) e)
-      ∙ ap (λ b. (if b then f r else r).complete) hit
-      ∙ ap (λ o. (f (unwrap_or o (no_stream s))).complete) (sym e)
+      cc (found s, e, hit)
 
 -- ## An unordered chunk arrives: the other streams
 

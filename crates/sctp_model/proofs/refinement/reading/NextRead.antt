@@ -5,7 +5,7 @@ use Rattle.std.specs.List.{list_any, filter}
 use Rattle.sctp_util.specs.Kept.{numbers_where, first_of, or_else}
 use Rattle.sctp_util.proofs.Passing.{map-kept-same}
 use Rattle.sctp_util.proofs.More.{fails}
-use Rattle.sctp_reassembly.specs.reassembly_queue.ReassemblyQueue.{Reassembly, after_read, without_first, message_among, message_read, rest_among, rest_read}
+use Rattle.sctp_reassembly.specs.reassembly_queue.ReassemblyQueue.{after_read, message_among, message_read, rest_among, rest_read}
 use Rattle.sctp_model.specs.LinkRecord.{LinkRecord, StreamRecord}
 use Rattle.sctp_model.specs.Messages.{message_at, message_of, stream_at, stream_of, is_unordered_on}
 use Rattle.sctp_model.specs.Receiver.{arrived_at, is_complete_message, is_unread, run_of, next_read}
@@ -91,8 +91,7 @@ module _ (w : LinkRecord) (s : ℕ) (r : StreamRecord) (valid : Valid w) (more :
   rest-with [] e = cc (front-gives w s valid sp, after-ordered due refl e, next-due)
   rest-with (n ∷ rest) e =
       let f = of-front n rest e in
-      ap (λ l. let q : Reassembly = record (reassembly_of w s) { unordered = l } in q) (ap (λ l. without_first (map (complete_set_of w) l)) (sym e))
-      ∙ sym (UnorderedRead.unordered-read_off w s n rest r valid f.0 f.1 open' e)
+      cc (e, UnorderedRead.unordered-read_off w s n rest r valid f.0 f.1 open' e)
 
   -- and holds then what the record says
   pub rest-is : rest_read (reassembly_of w s) ≡ reassembly_of (after_reading w s) s

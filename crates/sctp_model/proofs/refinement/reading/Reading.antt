@@ -235,8 +235,7 @@ module _ (w : LinkRecord) (s n : ℕ) (valid : Valid w) (sp : IsSpan w s []) (d 
           stop lt =
               let m = get_or (ordered_on w t) (next_of w t) 0 in
               let at = index-at w t (next_of w t) lt in
-              stays-unread m (off m at.0)
-              (fails (message_at w m).read (λ r. absurd (omega (arith, at.1, valid.read_past t m at.0 r))))
+              cc (stays-unread m (off m at.0) (fails (message_at w m).read (λ r. absurd (omega (arith, at.1, valid.read_past t m at.0 r)))))
 
   pub next-other : (t : ℕ) → (t ≡ s → ⊥) → next_of (with_read w n) t ≡ next_of w t
   next-other t ne =

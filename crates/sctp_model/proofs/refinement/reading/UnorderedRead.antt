@@ -101,14 +101,7 @@ module _ (w : LinkRecord) (s n : ℕ) (rest : List ℕ) (r : StreamRecord) (vali
           let same = Reading.message-other w n m ne in
           let k = unordered-of w s m e in
           let miss : (n == m) ≡ false = fails (n == m) (λ h. let z : n ≡ m = grind (arith, nat_tests) in ne (sym z)) in
-          ap (λ b. if b then has_arrived u m else ((message_at u m).read || list_any (λ k. k == m) (stream_of u (message_at u m).stream).complete))
-          (Reading.ordered-read w n m ∙ k.1) ∙ ap (λ x. x.read || list_any (λ k. k == m) (stream_of u x.stream).complete) same ∙ ap (λ b. if b
-          then has_arrived w m else ((message_at w m).read || list_any (λ k. k == m) (stream_of u (message_at w m).stream).complete)) (sym k.1)
-          ∙ ap (λ t. if (message_at w m).ordered then has_arrived w m else ((message_at w m).read || list_any (λ k. k == m) (stream_of u t).complete)) k.0
-          ∙ ap (λ l. if (message_at w m).ordered then has_arrived w m else ((message_at w m).read || list_any (λ k. k == m) l)) left
-          ∙ ap (λ b. if (message_at w m).ordered then has_arrived w m else ((message_at w m).read || (b || list_any (λ k. k == m) rest))) (sym miss)
-          ∙ ap (λ l. if (message_at w m).ordered then has_arrived w m else ((message_at w m).read || list_any (λ k. k == m) l)) (sym front) ∙ ap
-          (λ t. if (message_at w m).ordered then has_arrived w m else ((message_at w m).read || list_any (λ k. k == m) (stream_of w t).complete)) (sym k.0)
+          cc (Reading.ordered-read w n m, k.1, same, k.0, left, miss, front)
 
   unassembled-u : unassembled_chunks u s ≡ unassembled_chunks w s
   unassembled-u =

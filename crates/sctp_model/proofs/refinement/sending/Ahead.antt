@@ -8,8 +8,8 @@ use Rattle.sctp_data.specs.declared.chunk.chunk_payload_data.ChunkPayloadData.{C
 use Rattle.sctp_outbound.specs.pending_queue.PendingQueue.{Pending, next_pending, start_pending}
 use Rattle.sctp_outbound.specs.outbound_queue.OutboundQueue.{Outbound, sent_of, sent_next, all_started, after_sends, taken_of}
 use Rattle.sctp_outbound.proofs.lemmas.outbound_queue.Outbounds.{peeked_all_started}
-use Rattle.sctp_model.specs.Changes.{chunk_length, plus}
-use Rattle.sctp_model.specs.refinement.Filling.{leaving, length_shown, fits_in, further, chunks_taken}
+use Rattle.sctp_model.specs.Changes.{chunk_length}
+use Rattle.sctp_model.specs.refinement.Filling.{further, chunks_taken}
 use Rattle.sctp_model.proofs.refinement.sending.FilledDatagrams.{turns-enough}
 use Rattle.sctp_serial.specs.DataChunks.{following_tsn, under_tsn}
 
@@ -25,13 +25,7 @@ pub begins : {A : Type 0} (f : ChunkPayloadData → A) (limit tsn used : ℕ) (q
 begins f limit tsn used q c ks shown one is =
     let fuel : limit / 16 - 0 ≡ limit / 16 = omega arith in
     let all : limit / 16 + (limit - limit / 16) ≡ limit = omega arith in
-    ap (λ l. l ++ map f (further (limit / 16 - 0) limit used (following_tsn tsn) (taken_of (next_pending q) q))) one
-    ∙ ap (λ k. f (under_tsn tsn c) ∷ map f (further k limit used (following_tsn tsn) (taken_of (next_pending q) q))) fuel
-    ∙ ap (λ l. f (under_tsn tsn c) ∷ map f l)
-    (sym (turns-enough (limit / 16) (limit - limit / 16) limit used (following_tsn tsn) (taken_of (next_pending q) q) (omega arith)))
-    ∙ ap (λ k. f (under_tsn tsn c) ∷ map f (further k limit used (following_tsn tsn) (taken_of (next_pending q) q))) all
-    ∙ ap (λ k. f (under_tsn tsn c) ∷ map f (further limit limit k (following_tsn tsn) (taken_of (next_pending q) q))) is ∙ ap
-    (λ o. map f (leaving tsn o ++ further limit limit (plus 12 (length_shown o)) (following_tsn tsn) (taken_of (next_pending q) q))) (sym shown)
+    cc (one, fuel, turns-enough (limit / 16) (limit - limit / 16) limit used (following_tsn tsn) (taken_of (next_pending q) q) (omega arith), all, is, shown)
 
 -- with the next one
 further-fits : (most limit used tsn : ℕ) (q : Pending) (c : ChunkPayloadData) → next_pending q ≡ Some c → used + chunk_length (length c.user_data) ≤ limit
@@ -39,9 +33,7 @@ further-fits : (most limit used tsn : ℕ) (q : Pending) (c : ChunkPayloadData) 
     (taken_of (next_pending q) q)
 further-fits most limit used tsn q c shown le =
     let fits : nat_le (used + chunk_length (length c.user_data)) limit ≡ true = grind (arith, nat_tests) in
-    ap (λ o. if fits_in limit used (length_shown o)
-    then leaving tsn o ++ further most limit (plus used (length_shown o)) (following_tsn tsn) (taken_of (next_pending q) q) else []) shown ∙ ap (λ b. if b
-    then under_tsn tsn c ∷ further most limit (used + chunk_length (length c.user_data)) (following_tsn tsn) (taken_of (next_pending q) q) else []) fits
+    cc
 
 pub goes-on : {A : Type 0} (f : ChunkPayloadData → A) (most limit used tsn i : ℕ) (q : Pending) (c : ChunkPayloadData) (ks ls complete : List A) → i < most
     → next_pending (after_sends (i + 1) q) ≡ Some c → used + chunk_length (length c.user_data) ≤ limit → ls ≡ ks ++ f (under_tsn tsn c) ∷ []
@@ -73,9 +65,7 @@ further-full : (most limit used tsn : ℕ) (q : Pending) (c : ChunkPayloadData) 
 further-full zero limit used tsn q c shown lt = refl
 further-full (suc most) limit used tsn q c shown lt =
     let no' : nat_le (used + chunk_length (length c.user_data)) limit ≡ false = grind (arith, nat_tests) in
-    ap (λ o. if fits_in limit used (length_shown o)
-    then leaving tsn o ++ further most limit (plus used (length_shown o)) (following_tsn tsn) (taken_of (next_pending q) q) else []) shown ∙ ap (λ b. if b
-    then under_tsn tsn c ∷ further most limit (used + chunk_length (length c.user_data)) (following_tsn tsn) (taken_of (next_pending q) q) else []) no'
+    cc
 
 pub stops-full : {A : Type 0} (f : ChunkPayloadData → A) (most limit used tsn : ℕ) (q : Pending) (c : ChunkPayloadData) (ks complete : List A)
     → next_pending q ≡ Some c → limit < used + chunk_length (length c.user_data) → ks ++ map f (further most limit used tsn q) ≡ complete → ks ≡ complete

@@ -318,8 +318,7 @@ none-fits (suc most) limit used tsn q short = by (next_pending q)
     by None = refl
     by (Some c) =
         let no' : nat_le (used + chunk_length (length c.user_data)) limit ≡ false = grind (arith, nat_tests) in
-        ap (λ b. if b then under_tsn tsn c ∷ further most limit (used + chunk_length (length c.user_data)) (following_tsn tsn) (taken_of (Some c) q)
-        else []) no'
+        cc
 
 -- so no more turns are of use than the limit has room for
 pub turns-enough : (most more limit used tsn : ℕ) (q : Pending) → limit < used + 16 * (most + 1)

@@ -9,7 +9,6 @@ use Rattle.sctp_util.proofs.Passing.{kept-same, map-kept-same, unbroken-same}
 use Rattle.sctp_util.proofs.Cases.{same-yes, same-is, or-left, or-right}
 use Rattle.sctp_model.proofs.refinement.arriving.UnorderedStep.{kept-split}
 use Rattle.sctp_util.proofs.More.{fails, kept-short}
-use Rattle.sctp_data.specs.ChunkSet.{ChunkSet}
 use Rattle.sctp_model.specs.LinkRecord.{Setup, LinkRecord}
 use Rattle.sctp_model.specs.Messages.{message_at, message_of, stream_of, is_ordered_on, is_unordered_on, index_of, ssn_of, has_fragment, slots_of, sent_of}
 use Rattle.sctp_model.specs.Messages.{fragment_count, tsn_of}
@@ -128,9 +127,7 @@ module _ (setup : Setup) (w v : LinkRecord) (log : List LogEntry) (g : Consisten
       ap (λ b. (if b then index_of v n else (message_at v n).before) % 2 ^ 16) (m.1 ∙ Line.on-ordered w s n i.on)
       ∙ ap (λ j. j % 2 ^ 16) (q.grows.same_index n pos (Line.on-ordered w s n i.on))
       ∙ sym (ap (λ b. (if b then index_of w n else (message_at w n).before) % 2 ^ 16) (Line.on-ordered w s n i.on)) in
-      ap (λ x. let y : ChunkSet = record { ssn = x; ppi = (message_at v n).ppi; chunks = (set_of v n).chunks } in y) ssn
-      ∙ ap (λ x. let y : ChunkSet = record { ssn = ssn_of w n; ppi = x; chunks = (set_of v n).chunks } in y) m.2
-      ∙ ap (λ x. let y : ChunkSet = record { ssn = ssn_of w n; ppi = (message_at w n).ppi; chunks = x } in y) (come-chunks n)
+      cc (ssn, m.2, come-chunks n)
 
   pub sets-same : (s : ℕ) → ordered_sets v s ≡ ordered_sets w s
   sets-same s =
@@ -198,8 +195,7 @@ module _ (setup : Setup) (w v : LinkRecord) (log : List LogEntry) (g : Consisten
       let chunks : map (chunk_at v) (slots_of v n) ≡ map (chunk_at w) (slots_of w n) =
       ap (map (chunk_at v)) (slots-same n lt all) ∙ map-kept-same (chunk_at v) (chunk_at w) (has_fragment w n) (has_fragment w n) 0 (length w.slots)
       (λ k a b. refl) (λ k a b e. chunk-same k (omega arith)) in
-      ap (λ x. let y : ChunkSet = record { ssn = 0; ppi = x; chunks = map (chunk_at v) (slots_of v n) } in y) m.2
-      ∙ ap (λ x. let y : ChunkSet = record { ssn = 0; ppi = (message_at w n).ppi; chunks = x } in y) chunks
+      cc
 
   pub complete-same : (s : ℕ) → complete_sets v s ≡ complete_sets w s
   complete-same s = ap (λ x. map (complete_set_of v) x.complete) (stream-same s) ∙ over (stream_of w s).complete (λ n e. e)

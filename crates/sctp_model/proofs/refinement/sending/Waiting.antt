@@ -54,8 +54,7 @@ gathered-from {A} f p n from (suc count) low high e none =
     here : from ≡ n → flat_map f (numbers_where p from (suc count)) ≡ f n ++ flat_map f (numbers_where p (n + 1) (from + suc count - (n + 1)))
     here z =
         let c : count ≡ from + suc count - (n + 1) = omega arith in
-        ap (λ b. flat_map f (if b then from ∷ numbers_where p (from + 1) count else numbers_where p (from + 1) count)) (ap p z ∙ e)
-        ∙ ap (λ k. f k ++ flat_map f (numbers_where p (k + 1) count)) z ∙ ap (λ j. f n ++ flat_map f (numbers_where p (n + 1) j)) c
+        cc
 
     by : (from < n) ⊎ (n ≤ from)
         → (from < n → flat_map f (numbers_where p (from + 1) count) ≡ f n ++ flat_map f (numbers_where p (n + 1) (from + 1 + count - (n + 1))))

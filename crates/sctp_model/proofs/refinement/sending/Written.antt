@@ -125,8 +125,7 @@ module _ (w : LinkRecord) (m : Message) (made : (p : ℕ) → p < length w.slots
       now : (n : ℕ) → n ≡ len → is_some (message_at v n).started ≡ not (nat_le q.next_unstarted n)
       now n e =
           let le : nat_le q.next_unstarted len ≡ true = (let s = t.started in grind (arith, nat_tests)) in
-          ap (λ k. is_some (message_at v k).started) e ∙ ap (λ x. is_some x.started) (Waiting.message-new w m) ∙ ap is_some not-started
-          ∙ sym (ap (λ k. not (nat_le q.next_unstarted k)) e ∙ ap not le)
+          cc (e, Waiting.message-new w m, not-started, le)
 
 -- ## The fragments that a write makes
 

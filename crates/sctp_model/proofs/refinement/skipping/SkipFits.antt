@@ -43,8 +43,7 @@ pub complete-set : {w : LinkRecord} (f : Facts w) (s n : ℕ) (set : ChunkSet) �
     → is_complete set.chunks ≡ is_complete_message w n
 complete-set {w} f s n set h e =
     let on = (Taken.held w s n h).on in
-    ap (λ (q : ChunkSet). is_complete q.chunks) e ∙ Arrival.set_is_complete w n f.valid.valid (Line.on-made w s n on)
-    ∙ sym (Taken.complete-ordered w s n on)
+    cc (e, Arrival.set_is_complete w n f.valid.valid (Line.on-made w s n on), Taken.complete-ordered w s n on)
 
 -- the first one held is at least the least
 pub first-over : (w : LinkRecord) (s a : ℕ) → min (lowest_held w s) a ≤ min_with (complete_first w (held_on w s)) a

@@ -1,5 +1,5 @@
 -- The span test of a skip's arrival, from the ends of what a stream holds and of what the skip names.
-use Rattle.std.proofs.Common.{◌≡◌, ℕ, zero, suc, ◌+◌, ◌-◌, ◌<◌, ◌≤◌, ◌^◌, Bool, true, false, List, [], ◌∷◌, ◌++◌, length, map, Option, Some, None, refl, ap}
+use Rattle.std.proofs.Common.{◌≡◌, ℕ, zero, suc, ◌+◌, ◌-◌, ◌<◌, ◌≤◌, ◌^◌, Bool, true, false, List, [], ◌∷◌, length, map, Option, Some, None, refl, ap}
 use Rattle.std.proofs.Common.{sym, ◌∙◌, inl, inr, arith}
 use Rattle.std.specs.Prelude.{◌⊎◌, ◌%◌, if◌then◌else◌, ◌==◌, ◌&&◌, min, max, nat_lt, nat_le}
 use Rattle.std.specs.List.{list_any, list_all}
@@ -92,8 +92,7 @@ fits-before w s names small =
     ∙ least-min (index_of w) low (2 ^ 64 - 1) mine in
     let next = greatest-next (index_of w) high mine ∙ named-from w (high + 1) mine in
     let g : greatest high (map (index_of w) mine) ≡ max high (end_named w s names - 1) = omega (arith, next) in
-    ap (λ z. nat_lt z (least n (xs ++ map (index_of w) mine) + 2 ^ 15)) (greatest-append n xs (map (index_of w) mine) ∙ g)
-    ∙ ap (λ z. nat_lt (max high (end_named w s names - 1)) (z + 2 ^ 15)) (least-append n xs (map (index_of w) mine) ∙ l)
+    cc (greatest-append n xs (map (index_of w) mine), g, least-append n xs (map (index_of w) mine), l)
 
 -- ## What is held, from its ends
 
@@ -433,9 +432,7 @@ gone-last w s end names q last =
     let is = last.is in
     let later : (end == 0) ≡ false = grind (arith, nat_tests) in
     let back : end - 1 ≡ index_of w n = omega (arith, is) in
-    ap (λ b. if b then q else held_after_ordered_skip ((end - 1) % 2 ^ 16) q) later
-    ∙ ap (λ j. held_after_ordered_skip (j % 2 ^ 16) q) back
-    ∙ ap (λ j. held_after_ordered_skip j q) (sym (Line.ssn_on w s n last.on))
+    cc (later, back, Line.ssn_on w s n last.on)
 
 -- where the end is 0, none is named
 pub none-named : (w : LinkRecord) (ns : List ℕ) → named_with w 0 ns ≡ 0 → ns ≡ []

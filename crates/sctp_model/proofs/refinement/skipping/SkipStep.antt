@@ -70,9 +70,7 @@ pub named-frame : (w : LinkRecord) (upto : ℕ) (names : List ℕ) (t : ℕ) (r 
     → (stream_of (with_skip w upto names) t).named ≡ named_with w (stream_of w t).named (filter (is_ordered_on w t) names)
 named-frame w upto names t r e =
     let id : r.stream ≡ t = find-passes t w.streams r e in
-    ap (λ o. (unwrap_or o (no_stream t)).named) (find-map (named_by w names) (λ r. refl) t w.streams ∙ ap (then_by (named_by w names)) e)
-    ∙ ap (λ x. named_with w r.named (filter (is_ordered_on w x) names)) id
-    ∙ ap (λ o. named_with w (unwrap_or o (no_stream t)).named (filter (is_ordered_on w t) names)) (sym e)
+    cc (find-map (named_by w names) (λ r. refl) t w.streams, e, id)
 
 pub complete-skip : (w : LinkRecord) (upto : ℕ) (names : List ℕ) (n : ℕ) → is_complete_message (with_skip w upto names) n ≡ is_complete_message w n
 complete-skip w upto names n = cc (complete-frame w upto names (message_at w n).stream)
