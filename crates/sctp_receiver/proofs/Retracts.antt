@@ -18,7 +18,7 @@ use Rattle.sctp_receiver.specs.declared.receiver.tsn_filter.runs.Run.{Run}
 use Rattle.sctp_receiver.specs.TsnRuns.{tsns_from, tsns_of, AreRuns, count_of_runs}
 use Rattle.sctp_receiver.specs.Undo.{passed, undo_of, retracted, CanRetract}
 use Rattle.sctp_receiver.proofs.RunBlocks.{run-count}
-use Rattle.sctp_receiver.proofs.TsnRuns.{next-far, span, split-at, got-within, runs-split, runs-nearer, tsns-append}
+use Rattle.sctp_receiver.proofs.TsnRuns.{next-far, rest-is, span, split-at, got-within, runs-split, runs-nearer, tsns-append}
 use Rattle.sctp_receiver.proofs.TsnLists.{IsStep, step-of, beyond, moves, stays, rise-inserted}
 
 -- ## Room
@@ -86,13 +86,6 @@ passed-is c ts lt h =
     sym (m.1 ∙ ap (λ n. tsns_from (following_tsn (following_tsn c)) (distance c end.cum - n) ++ end.held) one)
 
 -- ## One beyond
-
-rest-is : (t : ℕ) (ts : List ℕ) → list_any (λ u. u == t) ts ≡ false → filter (λ u. not (u == t)) ts ≡ ts
-rest-is t [] gone = refl
-rest-is t (u ∷ us) gone =
-    let n = neither (u == t) (list_any (λ v. v == t) us) gone in
-    ap (λ b. if not b then u ∷ filter (λ v. not (v == t)) us else filter (λ v. not (v == t)) us) n.0
-    ∙ ap (λ vs. u ∷ vs) (rest-is t us n.1)
 
 without-new : (t : ℕ) (ts : List ℕ) → filter (λ u. not (u == t)) (t ∷ ts) ≡ filter (λ u. not (u == t)) ts
 without-new t ts = ap (λ b. if not b then t ∷ filter (λ u. not (u == t)) ts else filter (λ u. not (u == t)) ts) (same-yes t)

@@ -135,7 +135,7 @@ fewer-runs (r ∷ rs) =
 
 -- ## One TSN among those that rise
 
-rise-behind : (c far : ℕ) (us : List ℕ) (t : ℕ) (ts : List ℕ) → rise_beyond c far (us ++ t ∷ ts) ≡ true
+pub rise-behind : (c far : ℕ) (us : List ℕ) (t : ℕ) (ts : List ℕ) → rise_beyond c far (us ++ t ∷ ts) ≡ true
     → IsStep c far t × (rise_beyond c (distance c t) ts ≡ true)
 rise-behind c far [] t ts h = step-of c far t ts h
 rise-behind c far (u ∷ us) t ts h =
@@ -150,7 +150,7 @@ absent-nearer c far t (u ∷ us) le h =
     let nay : (u == t) ≡ false = fails (u == t) (λ e. omega (arith, le, s.0.farther, ap (distance c) (same-is u t e))) in
     ap (λ b. b || list_any (λ v. v == t) us) nay ∙ absent-nearer c (distance c u) t us (omega (arith, le, s.0.farther)) s.1
 
-in-front : (c t : ℕ) (ts : List ℕ) → c < 2 ^ 32 → t < 2 ^ 32 → rise_beyond c (distance c t) ts ≡ true → insert_before comes_before t ts ≡ t ∷ ts
+pub in-front : (c t : ℕ) (ts : List ℕ) → c < 2 ^ 32 → t < 2 ^ 32 → rise_beyond c (distance c t) ts ≡ true → insert_before comes_before t ts ≡ t ∷ ts
 in-front c t [] hc ht h = refl
 in-front c t (u ∷ us) hc ht h =
     let s = step-of c (distance c t) u us h in

@@ -34,7 +34,7 @@ pub record TakesData (any_ssn : Bool) (c : ChunkPayloadData) (old new : Receptio
   pub wants : IfErr result (λ e. e ≡ OutOfMemory → takes_memory c old ≡ true)
   pub err : OnErr result (new ≡ old)
 
--- so many turns are taken for that
+-- the same, with its turns counted: the count before the call, and after it
 pub record TakesDataCounted (any_ssn : Bool) (c : ChunkPayloadData) (old new : Reception)
     (result : Result Arrival ReceiverRefusal) (turns turns_after : ℕ) : Type 0 where
   pub takes : TakesData any_ssn c old new result
@@ -52,7 +52,7 @@ pub record TakesDataEach (refusal : ChunkPayloadData → Reception → Option Re
 
 -- ## FORWARD-TSN
 
--- it is followed, or refused for the reason that is handed in, and nothing changes then
+-- a FORWARD-TSN is followed; or it is refused for the reason that is handed in, and nothing changes
 pub record Skips (refusal : ForwardTsn → Reception → Option ReceiverRefusal)
     (f : ForwardTsn) (old new : Reception) (result : Result Forwarded ReceiverRefusal)
     : Type 0 where
@@ -64,7 +64,7 @@ pub record Skips (refusal : ForwardTsn → Reception → Option ReceiverRefusal)
   pub agrees : has_incomplete f.new_cumulative_tsn (after_forward f old).streams ≡ false
       → OnOk result (new ≡ after_forward f old)
 
--- so many turns are taken for that, and so many more within streams
+-- the same, with its turns counted, and apart from them those within streams
 pub record SkipsCounted (refusal : ForwardTsn → Reception → Option ReceiverRefusal)
     (f : ForwardTsn) (old new : Reception) (result : Result Forwarded ReceiverRefusal)
     (turns turns_after skips skips_after : ℕ) : Type 0 where
@@ -75,7 +75,7 @@ pub record SkipsCounted (refusal : ForwardTsn → Reception → Option ReceiverR
   pub skips_not_back : skips ≤ skips_after
   pub walk : skips_after ≤ skips + skips_walk f old
 
--- it is followed by what it names alone
+-- a FORWARD-TSN is followed by what it names alone; or it is refused, and nothing changes
 pub record SkipsByNames (f : ForwardTsn) (old new : Reception)
     (result : Result Forwarded ReceiverRefusal) : Type 0 where
   pub answer : IfOk result (λ forwarded. forwarded ≡ forwarded_of f old)
@@ -86,7 +86,7 @@ pub record SkipsByNames (f : ForwardTsn) (old new : Reception)
 
 -- ## SACK
 
--- a SACK is made, in a chunk of at most so many bytes
+-- a SACK is made in a chunk of at most so many bytes, or memory runs out
 pub record MakesSack (room : ℕ) (r : Reception)
     (result : Result ChunkSelectiveAck ReceiverRefusal) : Type 0 where
   pub all : 65532 ≤ room → IfOk result (λ s. sack_of s ≡ sack (window r) r)
@@ -97,7 +97,7 @@ pub record MakesSack (room : ℕ) (r : Reception)
       (λ s. length s.gap_ack_blocks.items + length s.duplicate_tsn.items ≤ 16379)
   pub memory : IfErr result (λ e. e ≡ OutOfMemory)
 
--- and its duplicates are forgotten
+-- a SACK is made, and its duplicates are forgotten; or memory runs out, and nothing changes
 pub record Sacks (room : ℕ) (old new : Reception)
     (result : Result ChunkSelectiveAck ReceiverRefusal) : Type 0 where
   pub made : MakesSack room old result
