@@ -5,14 +5,11 @@ use Rattle.std.specs.Prelude.{if◌then◌else◌, ◌==◌, ◌||◌, not}
 use Rattle.std.specs.List.{list_any, filter}
 use Rattle.std.proofs.lemmas.List.{length-map, length-append, append_assoc}
 use Rattle.sctp_util.specs.Lists.{insert_before}
-use Rattle.sctp_util.specs.Serial.{distance, comes_before, at_or_before}
-use Rattle.sctp_util.proofs.Cases.{same-is}
-use Rattle.sctp_util.proofs.More.{fails}
+use Rattle.sctp_util.specs.Serial.{distance, at_or_before}
 use Rattle.sctp_data.specs.declared.chunk.chunk_payload_data.ChunkPayloadData.{ChunkPayloadData}
 use Rattle.sctp_serial.specs.DataChunks.{chunk_before, following_tsn, tsns}
 use Rattle.sctp_serial.specs.Window
 use Rattle.sctp_serial.specs.Window.{IsWindow}
-use Rattle.sctp_serial.proofs.lemmas.AscendingEdits.{before_farther}
 use Rattle.sctp_outbound.specs.payload_queue.PayloadQueue.{Payload, push_chunk, without}
 use Rattle.sctp_receiver.specs.TsnFilter.{Filter, has_come, is_opposite, with_tsn, with_duplicate, placeholder, rise_beyond}
 use Rattle.sctp_link.specs.declared.link_receiver.tsn_queue.undo.TsnUndo.{TsnUndo}
@@ -22,9 +19,10 @@ use Rattle.sctp_receiver.specs.Undo.{passed, retracted}
 use Rattle.sctp_receiver.specs.declared.receiver.tsn_filter.undo.FilterUndo.TheVariants as undo
 use Rattle.sctp_receiver.proofs.Retracts as retracts
 use Rattle.sctp_receiver.proofs.Retracts.{run-end}
+use Rattle.sctp_receiver.proofs.TsnRuns.{absent-nearer, in-front, rise-behind}
 use Rattle.sctp_link.specs.Tsns.{Kept, came, came_in, undo_of, undone, CanUndo, each_undone, CanUndoEach}
 use Rattle.sctp_link.proofs.tsns.Placeholders.{tsns-placeholder, as-placeholders, placeholders-inserted, new-is, window}
-use Rattle.sctp_receiver.proofs.TsnLists.{IsStep, step-of, nearer, behind-it}
+use Rattle.sctp_receiver.proofs.TsnLists.{IsStep, nearer, behind-it}
 
 -- ## What is taken back is what was
 
@@ -77,28 +75,6 @@ placeholders-without t (u ∷ us) = by (not (u == t)) (placeholders-without t us
         (if b then u ∷ filter (λ v. not (v == t)) us else filter (λ v. not (v == t)) us)
     by true ih = ap (λ cs. placeholder u ∷ cs) ih
     by false ih = ih
-
--- what stands behind others rises too
-pub rise-behind : (c far : ℕ) (us : List ℕ) (t : ℕ) (ts : List ℕ) → rise_beyond c far (us ++ t ∷ ts) ≡ true
-    → IsStep c far t × (rise_beyond c (distance c t) ts ≡ true)
-rise-behind c far [] t ts h = step-of c far t ts h
-rise-behind c far (u ∷ us) t ts h =
-    let s = step-of c far u (us ++ t ∷ ts) h in
-    let r = rise-behind c (distance c u) us t ts s.1 in
-    (record { small = r.0.small; farther = omega (arith, s.0.farther, r.0.farther); near = r.0.near }, r.1)
-
-absent-nearer : (c far t : ℕ) (ts : List ℕ) → distance c t ≤ far → rise_beyond c far ts ≡ true → list_any (λ u. u == t) ts ≡ false
-absent-nearer c far t [] le h = refl
-absent-nearer c far t (u ∷ us) le h =
-    let s = step-of c far u us h in
-    let nay : (u == t) ≡ false = fails (u == t) (λ e. omega (arith, le, s.0.farther, ap (distance c) (same-is u t e))) in
-    ap (λ b. b || list_any (λ v. v == t) us) nay ∙ absent-nearer c (distance c u) t us (omega (arith, le, s.0.farther)) s.1
-
-pub in-front : (c t : ℕ) (ts : List ℕ) → c < 2 ^ 32 → t < 2 ^ 32 → rise_beyond c (distance c t) ts ≡ true → insert_before comes_before t ts ≡ t ∷ ts
-in-front c t [] hc ht h = refl
-in-front c t (u ∷ us) hc ht h =
-    let s = step-of c (distance c t) u us h in
-    ap (λ b. if b then t ∷ u ∷ us else u ∷ insert_before comes_before t us) (before_farther c t u hc ht s.0.small s.0.farther s.0.near)
 
 self-distance : (c : ℕ) → c < 2 ^ 32 → distance c c ≡ 0
 unfolding distance
