@@ -2,7 +2,7 @@
 -- these stands a terminal chunk.
 use Rattle.std.proofs.Common.{◌≡◌, ℕ, ◌+◌, ◌-◌, ◌%◌, ◌^◌, Bool, true, false, List, [], ◌∷◌, ◌++◌, length, map, take, drop, Option, Some, None, is_some, ◌⊎◌}
 use Rattle.std.proofs.Common.{inl, inr, refl, ap, sym, subst, ◌∙◌, arith, not}
-use Rattle.std.specs.Prelude.{◌==◌, if◌then◌else◌, find, option_map, option_to_list, IfSome, nat_eq}
+use Rattle.std.specs.Prelude.{◌==◌, if◌then◌else◌, find, option_map, option_to_list, nat_eq}
 use Rattle.std.proofs.lemmas.Option.{none-some}
 use Rattle.sctp_util.specs.Lists.{change_where}
 use Rattle.sctp_util.specs.Serial.{at_or_before}
@@ -12,24 +12,23 @@ use Rattle.sctp_util.proofs.More.{not_both}
 use Rattle.sctp_data.specs.declared.chunk.chunk_payload_data.ChunkPayloadData.{ChunkPayloadData}
 use Rattle.sctp_data.specs.SelectiveAck.{Sack}
 use Rattle.sctp_outbound.specs.declared.pending_queue.Selected.{Selected}
-use Rattle.sctp_outbound.specs.Marks.{as_abandoned, as_acknowledged, is_of, is_outstanding, with_retransmit}
-use Rattle.sctp_outbound.specs.outbound_queue.OutboundQueue.{Outbound, abandoned_of, all_started, as_sent, expiring, expiring_tail, message_of, sent_of}
-use Rattle.sctp_outbound.specs.outbound_queue.OutboundQueue.{terminal_chunk, to_abandon, total_bytes, with_terminal_chunk}
+use Rattle.sctp_outbound.specs.Marks.{as_abandoned, as_acknowledged, is_of}
+use Rattle.sctp_outbound.specs.outbound_queue.OutboundQueue.{Outbound, abandoned_of, all_started, as_sent, sent_of, terminal_chunk, to_abandon, total_bytes}
+use Rattle.sctp_outbound.specs.outbound_queue.OutboundQueue.{with_terminal_chunk}
 use Rattle.sctp_outbound.specs.payload_queue.PayloadQueue as payload
 use Rattle.sctp_outbound.specs.pending_queue.PendingQueue.{Pending, last_removed, next_pending}
 use Rattle.sctp_outbound.specs.pending_queue.Whole.{partial_of, partially_sent, waits}
 use Rattle.sctp_outbound.proofs.lemmas.outbound_queue.Outbounds.{peeked_all_started}
 use Rattle.sctp_outbound.proofs.lemmas.outbound_queue.Abandoned.{last_is_of}
 use Rattle.sctp_serial.specs.DataChunks.{chunk_before, following_tsn, has_tsn}
-use Rattle.sctp_stream.specs.declared.stream.StreamState.{StreamState}
 use Rattle.sctp_sender.specs.declared.sender.flight.late.AbandonedMessage.{AbandonedMessage}
 use Rattle.sctp_sender.specs.Flight.{Flight, after_abandonment, after_sack, is_outdated, message_to_abandon, reports_anew, take_sack}
-use Rattle.sctp_sender.specs.Late.{abandoned_at, abandoned_each, abandoned_with, late_order, leaving_at, leaving_each, worn_order}
+use Rattle.sctp_sender.specs.Late.{abandoned_at, abandoned_each, abandoned_with, leaving_at, leaving_each}
 use Rattle.sctp_sender.specs.Outgoing.{fragments_with_mode}
-use Rattle.sctp_sender.specs.Resending.{can_miss, count_again, missed, sent_again}
-use Rattle.sctp_sender.specs.Sender.{Transmission, after_expire, stream_of}
+use Rattle.sctp_sender.specs.Resending.{can_miss, missed}
+use Rattle.sctp_sender.specs.Sender.{Transmission}
 use Rattle.sctp_sender.proofs.Flights.{started-inflight}
-use Rattle.sctp_sender.proofs.InLine.{found-partial, tail-partial}
+use Rattle.sctp_sender.proofs.InLine.{found-partial}
 use Rattle.sctp_delivery.specs.Abandoned.{abandoned_by}
 use Rattle.sctp_delivery.specs.SenderCalls as outgoing
 use Rattle.sctp_delivery.specs.SenderCalls.{SenderCall}
@@ -41,7 +40,7 @@ use Rattle.sctp_delivery.proofs.Delivered.{Holds}
 use Rattle.sctp_delivery.proofs.Numbers.{number_of}
 use Rattle.sctp_delivery.proofs.OrderedEntries.{IsOpen}
 use Rattle.sctp_delivery.proofs.Queues.{Abandons, IsEnded, Stands, abandoned, nowhere-none}
-use Rattle.sctp_delivery.proofs.SackSteps.{message-inflight, written-open}
+use Rattle.sctp_delivery.proofs.SackSteps.{message-inflight, sack-next}
 use Rattle.sctp_delivery.proofs.Senders.{IsMoreBy}
 use Rattle.sctp_delivery.proofs.Sending.{Queued}
 use Rattle.sctp_delivery.proofs.Sent.{Entry, Numbered, fragment, terminal}
@@ -49,6 +48,8 @@ use Rattle.sctp_delivery.proofs.ValidMarks.{IsUnmarked, IsValid, started-valid}
 use Rattle.sctp_delivery.proofs.Waiting.{Waits, between, inside, place_of}
 use Rattle.sctp_delivery.proofs.Writing.{accepted-stream}
 use Rattle.sctp_delivery.proofs.QueueChunks.{peeked}
+use Rattle.sctp_delivery.proofs.Changes.{Change, all_start, acknowledges, changes, each_leaves, flight_after, front_expires, more_room, nothing, one_leaves}
+use Rattle.sctp_delivery.proofs.Changes.{partial-found, some_marked, some_missed}
 
 -- ## Numbers
 
@@ -174,21 +175,33 @@ module _ (gone : List ℕ) (old new : Session) (taken passed : ℕ → Bool) (va
       → AreMarkedGone gone (flight_of new).queue.inflight.chunks
   marked-to t e m = subst (λ (u : Transmission). AreMarkedGone gone u.flight.queue.inflight.chunks) (sym e) m
 
+  changed-marked : (call : SenderCall) → AreAmong (abandoned_by call old.sending.sender) gone → (c : Change call old.sending.sender)
+      → AreMarkedGone gone (flight_after call old.sending.sender c).queue.inflight.chunks
+  changed-marked call a nothing = h
+  changed-marked call a (all_start now) = subst (λ (i : payload.Payload). AreMarkedGone gone i.chunks) (sym (started-inflight now (flight_of old).queue)) h
+  changed-marked call a (more_room count) = h
+  changed-marked call a (some_marked p f k) =
+      marked-changed gone p f (λ c. ap (λ (d : ChunkPayloadData). d.abandoned) (k c)) (λ c. ap (λ (d : ChunkPayloadData). d.message_id) (k c))
+      (flight_of old).queue.inflight.chunks h
+  changed-marked call a (some_missed count) =
+      let cs = (flight_of old).queue.inflight.chunks in
+      every-joined (IsMarkedGone gone) (change_where can_miss missed (take count cs)) (drop count cs)
+      (marked-changed gone can_miss missed (λ d. refl) (λ d. refl) (take count cs) (every-taken (IsMarkedGone gone) count cs h))
+      (every-left (IsMarkedGone gone) count cs h)
+  changed-marked call a (one_leaves o e found) =
+      abandoned-marked gone o (flight_of old).next_tsn (flight_of old).queue (λ m i. a m (ap (λ ms. is_gone ms m) e ∙ one-gone m o i)) h
+  changed-marked call a (each_leaves ts short e) =
+      each-marked gone ts (flight_of old) (subst (λ ms. AreAmong ms gone) e a) h
+  changed-marked call a (front_expires now c found e) = h
+  changed-marked call a (acknowledges k answered e) = acked-marked gone k (flight_of old) h
+
   pub stays-marked : (call : SenderCall) → AreAmong (abandoned_by call old.sending.sender) gone → SenderFollows call old new
       → AreMarkedGone gone (flight_of new).queue.inflight.chunks
-  stays-marked (outgoing.forwards u c) a f = marked-to _ f.exact h
-  stays-marked (outgoing.forwards_within bytes c) a f = marked-to _ f.exact h
-  stays-marked (outgoing.writes stream ppi []) a f = marked-to _ (f.exact.0 refl) h
-  stays-marked (outgoing.writes stream ppi (b ∷ bs)) a f = by (stream_of stream old.sending.sender) refl
-    where
-      by : (o : Option StreamState) → stream_of stream old.sending.sender ≡ o → AreMarkedGone gone (flight_of new).queue.inflight.chunks
-      by None e = absurd (written-open stream (length (b ∷ bs)) old.sending.sender f.accepted e)
-      by (Some l) e =
-          marked-to _ (f.exact.1 (omega arith) l e)
-          (subst (λ (i : payload.Payload). AreMarkedGone gone i.chunks)
-          (sym (message-inflight (fragments_with_mode l ppi (b ∷ bs)) (flight_of old).queue)) h)
-  stays-marked (outgoing.starts now) a f =
-      marked-to _ f.step.sender (subst (λ (i : payload.Payload). AreMarkedGone gone i.chunks) (sym (started-inflight now (flight_of old).queue)) h)
+  stays-marked (outgoing.writes stream ppi (b ∷ bs)) a f =
+      let l = accepted-stream stream (length (b ∷ bs)) old.sending.sender f.accepted in
+      marked-to _ (f.exact.1 (omega arith) l.0 l.1)
+      (subst (λ (i : payload.Payload). AreMarkedGone gone i.chunks)
+      (sym (message-inflight (fragments_with_mode l.0 ppi (b ∷ bs)) (flight_of old).queue)) h)
   stays-marked (outgoing.sends now) a f =
       let q = all_started now (flight_of old).queue in
       let v = started-valid taken passed now (flight_of old).queue valid in
@@ -196,36 +209,9 @@ module _ (gone : List ℕ) (old new : Session) (taken passed : ℕ → Bool) (va
       (sent-marked gone (next_pending q.pending) q (flight_of old).next_tsn now
       (λ c e. (peeked IsUnmarked q.pending.selected q.pending c e (v.ordered, v.unordered)).1)
       (subst (λ (i : payload.Payload). AreMarkedGone gone i.chunks) (sym (started-inflight now (flight_of old).queue)) h))
-  stays-marked (outgoing.resends u now c) a f =
-      marked-to _ f.step.sender
-      (marked-changed gone (has_tsn u) (sent_again (count_again c) now) (λ d. refl) (λ d. refl) (flight_of old).queue.inflight.chunks h)
-  stays-marked outgoing.marks a f =
-      marked-to _ f.step.sender (marked-changed gone is_outstanding (with_retransmit true) (λ d. refl) (λ d. refl) (flight_of old).queue.inflight.chunks h)
-  stays-marked (outgoing.misses count) a f =
-      let cs = (flight_of old).queue.inflight.chunks in
-      marked-to _ f.step.sender
-      (every-joined (IsMarkedGone gone) (change_where can_miss missed (take count cs)) (drop count cs)
-      (marked-changed gone can_miss missed (λ d. refl) (λ d. refl) (take count cs) (every-taken (IsMarkedGone gone) count cs h))
-      (every-left (IsMarkedGone gone) count cs h))
-  stays-marked (outgoing.abandons u x) a f =
-      marked-to _ f.exact
-      (abandoned-marked gone (message_to_abandon u (flight_of old)) (flight_of old).next_tsn (flight_of old).queue
-      (λ m e. a m (one-gone m (message_to_abandon u (flight_of old)) e)) h)
-  stays-marked (outgoing.expires now None) a f = marked-to _ (f.exact.1.1 refl) h
-  stays-marked (outgoing.expires now (Some e)) a f = by (expiring now (flight_of old).queue) f.exact.0 f.exact.1.0
-    where
-      by : (o : Option ChunkPayloadData) → true ≡ is_some o → IfSome o (λ c. new.sending.sender ≡ after_expire c e.bytes now old.sending.sender)
-          → AreMarkedGone gone (flight_of new).queue.inflight.chunks
-      by None k i = absurd (not_both (sym k))
-      by (Some c) k i = marked-to _ i h
-  stays-marked (outgoing.expires_tail now None) a f = marked-to _ (f.exact.1 refl) h
-  stays-marked (outgoing.expires_tail now (Some x)) a f =
-      let o = message_of (expiring_tail now (flight_of old).queue) in
-      marked-to _ f.exact.0 (abandoned-marked gone o (flight_of old).next_tsn (flight_of old).queue (λ m e. a m (one-gone m o e)) h)
-  stays-marked (outgoing.expires_late now answered) a f = marked-to _ f.exact (each-marked gone (late_order now (flight_of old)) (flight_of old) a h)
-  stays-marked (outgoing.expires_rexmit answered) a f = marked-to _ f.exact (each-marked gone (worn_order (flight_of old)) (flight_of old) a h)
-  stays-marked (outgoing.takes_sack k answered) a f = marked-to _ f.exact (acked-marked gone k (flight_of old) h)
-  stays-marked call a f = marked-to _ f.step.sender h
+  stays-marked call a f =
+      let x = changes old.sending.sender new.sending.sender call refl f.step.sender f.exact in
+      subst (λ (g : Flight). AreMarkedGone gone g.queue.inflight.chunks) (sym x.flight) (changed-marked call a x.change)
 
 -- ## Terminal chunks
 
@@ -331,13 +317,20 @@ module _ (gone : List ℕ) (first : ℕ) (old new : Session) (ns : List Numbered
       absurd (omega (arith, a, counted, k, n))
   cuts (inr e) (inr k) = subst (AreCutGone gone) (sym e) (k, h)
 
-  same-to : (t : Transmission) → new.sending.sender ≡ t → t.flight.next_tsn ≡ (flight_of old).next_tsn → Cuts
-  same-to t e k = inl (ap (λ (u : Transmission). u.flight.next_tsn) e ∙ k)
-
-  to : (t : Transmission) → new.sending.sender ≡ t
-      → EndsOrSame gone ns first (λ s. number_of s old.sending.sender.streams) sent (flight_of old) t.flight → Cuts
-  to t e (inl k) = inl (ap (λ (u : Transmission). u.flight.next_tsn) e ∙ k)
-  to t e (inr k) = inr k
+  changed-cuts : (call : SenderCall) → AreAmong (abandoned_by call old.sending.sender) gone → (c : Change call old.sending.sender)
+      → EndsOrSame gone ns first (λ s. number_of s old.sending.sender.streams) sent (flight_of old) (flight_after call old.sending.sender c)
+  changed-cuts call a nothing = inl refl
+  changed-cuts call a (all_start now) = inl refl
+  changed-cuts call a (more_room count) = inl refl
+  changed-cuts call a (some_marked p f k) = inl refl
+  changed-cuts call a (some_missed count) = inl refl
+  changed-cuts call a (one_leaves o e found) =
+      abandon-cut gone ns first (λ s. number_of s old.sending.sender.streams) sent o (flight_of old) i.held.stands
+      (partial-found old.sending.sender i.held.stands.sendable o found) (λ m k. a m (ap (λ ms. is_gone ms m) e ∙ one-gone m o k))
+  changed-cuts call a (each_leaves ts short e) =
+      each-cut gone ns first (λ s. number_of s old.sending.sender.streams) sent ts (flight_of old) i.held.stands (subst (λ ms. AreAmong ms gone) e a)
+  changed-cuts call a (front_expires now c found e) = inl refl
+  changed-cuts call a (acknowledges k answered e) = inl (sack-next k (flight_of old))
 
   pub stays-cut : (call : SenderCall) → AreAmong (abandoned_by call old.sending.sender) gone → SenderFollows call old new
       → IsMoreBy (sent_by call old.sending.sender) sent more → AreCutGone gone more
@@ -350,41 +343,10 @@ module _ (gone : List ℕ) (first : ℕ) (old new : Session) (ns : List Numbered
           cuts g (inl (ap (λ (u : Transmission). u.flight.next_tsn) f.exact
           ∙ ap (λ b. if b then following_tsn (flight_of old).next_tsn else (flight_of old).next_tsn) none))
       by (Some c) e g = subst (AreCutGone gone) (sym g.2) h
-  stays-cut (outgoing.forwards u c) a f g = cuts g (same-to _ f.exact refl)
-  stays-cut (outgoing.forwards_within bytes c) a f g = cuts g (same-to _ f.exact refl)
-  stays-cut (outgoing.writes stream ppi []) a f g = cuts g (same-to _ (f.exact.0 refl) refl)
   stays-cut (outgoing.writes stream ppi (b ∷ bs)) a f g =
       let l = accepted-stream stream (length (b ∷ bs)) old.sending.sender f.accepted in
-      cuts g (same-to _ (f.exact.1 (omega arith) l.0 l.1) refl)
-  stays-cut (outgoing.abandons u x) a f g =
-      let o = message_to_abandon u (flight_of old) in
-      cuts g (to _ f.exact
-      (abandon-cut gone ns first (λ s. number_of s old.sending.sender.streams) sent o (flight_of old) i.held.stands
-      (found-partial (flight_of old).queue i.held.stands.sendable u (find (has_tsn u) (flight_of old).queue.inflight.chunks) refl)
-      (λ m e. a m (one-gone m o e))))
-  stays-cut (outgoing.expires now None) a f g = cuts g (same-to _ (f.exact.1.1 refl) refl)
-  stays-cut (outgoing.expires now (Some e)) a f g = by (expiring now (flight_of old).queue) f.exact.0 f.exact.1.0
-    where
-      by : (o : Option ChunkPayloadData) → true ≡ is_some o → IfSome o (λ c. new.sending.sender ≡ after_expire c e.bytes now old.sending.sender)
-          → AreCutGone gone more
-      by None k x = absurd (not_both (sym k))
-      by (Some c) k x = cuts g (same-to _ x refl)
-  stays-cut (outgoing.expires_tail now None) a f g = cuts g (same-to _ (f.exact.1 refl) refl)
-  stays-cut (outgoing.expires_tail now (Some x)) a f g =
-      let o = message_of (expiring_tail now (flight_of old).queue) in
-      cuts g (to _ f.exact.0
-      (abandon-cut gone ns first (λ s. number_of s old.sending.sender.streams) sent o (flight_of old) i.held.stands
-      (λ m e _. tail-partial (flight_of old).queue i.held.stands.sendable now (next_pending (flight_of old).queue.pending) refl m e)
-      (λ m e. a m (one-gone m o e))))
-  stays-cut (outgoing.expires_late now answered) a f g =
-      cuts g (to _ f.exact (each-cut gone ns first (λ s. number_of s old.sending.sender.streams) sent (late_order now (flight_of old)) (flight_of old)
-      i.held.stands a))
-  stays-cut (outgoing.expires_rexmit answered) a f g =
-      cuts g (to _ f.exact (each-cut gone ns first (λ s. number_of s old.sending.sender.streams) sent (worn_order (flight_of old)) (flight_of old)
-      i.held.stands a))
-  stays-cut (outgoing.takes_sack k answered) a f g = cuts g (same-to _ f.exact (by (is_outdated k (flight_of old))))
-    where
-      by : (b : Bool) → (if b then flight_of old else take_sack k (flight_of old)).next_tsn ≡ (flight_of old).next_tsn
-      by true = refl
-      by false = refl
-  stays-cut call a f g = cuts g (same-to _ f.step.sender refl)
+      cuts g (inl (ap (λ (u : Transmission). u.flight.next_tsn) (f.exact.1 (omega arith) l.0 l.1)))
+  stays-cut call a f g =
+      let x = changes old.sending.sender new.sending.sender call refl f.step.sender f.exact in
+      cuts g (subst (EndsOrSame gone ns first (λ s. number_of s old.sending.sender.streams) sent (flight_of old)) (sym x.flight)
+      (changed-cuts call a x.change))

@@ -1,21 +1,19 @@
 -- No write is lost before its first fragment is sent, whatever is abandoned: that was sent, or it waits, or the message was abandoned.
-use Rattle.std.proofs.Common.{◌≡◌, ℕ, ◌<◌, Bool, true, false, not, List, [], ◌∷◌, length, Option, Some, None, is_some, ◌⊎◌, inl, inr, refl, ap, sym, subst, ◌∙◌}
-use Rattle.std.proofs.Common.{arith}
-use Rattle.std.specs.Prelude.{◌==◌, ◌&&◌, ◌||◌, if◌then◌else◌, option_map, IfSome}
+use Rattle.std.proofs.Common.{◌≡◌, ℕ, ◌<◌, Bool, true, false, not, List, [], ◌∷◌, length, Option, Some, None, ◌⊎◌, inl, inr, refl, ap, sym, subst, ◌∙◌, arith}
+use Rattle.std.specs.Prelude.{◌==◌, ◌&&◌, ◌||◌, if◌then◌else◌, option_map}
 use Rattle.std.specs.List.{list_any}
 use Rattle.std.proofs.lemmas.Bool.{cases_lt}
 use Rattle.sctp_util.proofs.Cases.{or-left, or-right, or-split, same-is}
 use Rattle.sctp_util.proofs.More.{and, both, fails, not_both}
 use Rattle.sctp_data.specs.declared.chunk.chunk_payload_data.ChunkPayloadData.{ChunkPayloadData}
 use Rattle.sctp_data.specs.PayloadData.{data_of}
-use Rattle.sctp_outbound.specs.outbound_queue.OutboundQueue.{Outbound, abandoned_of, all_started, as_sent, expired_of, expiring, expiring_tail, message_of}
-use Rattle.sctp_outbound.specs.outbound_queue.OutboundQueue.{sent_of}
+use Rattle.sctp_outbound.specs.outbound_queue.OutboundQueue.{Outbound, abandoned_of, all_started, as_sent, expired_of, sent_of}
 use Rattle.sctp_outbound.specs.pending_queue.PendingQueue.{Pending, closed_up, next_pending, one_lower, rest_after, without, without_message}
 use Rattle.sctp_outbound.proofs.lemmas.pending_queue.CompleteMessages.{KeepsMessage}
 use Rattle.sctp_serial.specs.DataChunks.{is_on}
 use Rattle.sctp_sender.specs.Flight.{Flight, is_outdated, message_to_abandon, take_sack}
-use Rattle.sctp_sender.specs.Late.{abandoned_at, abandoned_each, late_order, leaving_each, worn_order}
-use Rattle.sctp_sender.specs.Sender.{Transmission, after_expire, written_to}
+use Rattle.sctp_sender.specs.Late.{abandoned_at, abandoned_each, leaving_each}
+use Rattle.sctp_sender.specs.Sender.{Transmission, written_to}
 use Rattle.sctp_stream.specs.declared.stream.StreamState.{StreamState}
 use Rattle.sctp_delivery.specs.Abandoned.{abandoned_by}
 use Rattle.sctp_delivery.specs.SenderCalls as outgoing
@@ -32,6 +30,8 @@ use Rattle.sctp_delivery.proofs.Sent.{Entry, Numbered, fragment}
 use Rattle.sctp_delivery.proofs.Delivered.{Holds}
 use Rattle.sctp_delivery.proofs.Numbers.{number_of}
 use Rattle.sctp_delivery.proofs.Writing.{accepted-stream}
+use Rattle.sctp_delivery.proofs.Changes.{Change, all_start, acknowledges, changes, each_leaves, flight_after, front_expires, more_room, nothing, one_leaves}
+use Rattle.sctp_delivery.proofs.Changes.{some_marked, some_missed}
 
 -- of each of the first n writes the first fragment got a TSN or waits, or the message is gone
 abbrev pub AreBegunOrGone : List ℕ → ℕ → List Entry → Pending → Type 0
@@ -118,18 +118,6 @@ module _ (gone : List ℕ) (first : ℕ) (old new : Session) (ns : List Numbered
   abbrev Begins : SenderCall → Type 0
   Begins call = AreBegunOrGone gone (length (numbered_after call ns)) more (flight_of new).queue.pending
 
-  -- one by which nothing is written
-  keeps-to : (t : Transmission) → new.sending.sender ≡ t → KeepsOthers gone (flight_of old).queue.pending t.flight.queue.pending
-      → AreBegunOrGone gone (length ns) more (flight_of new).queue.pending
-  keeps-to t e k =
-      subst (λ (u : Transmission). AreBegunOrGone gone (length ns) more u.flight.queue.pending) (sym e)
-      (kept-others gone (length ns) sent more (flight_of old).queue.pending t.flight.queue.pending once k h)
-
-  -- one by which what waits stays
-  same-to : (t : Transmission) → new.sending.sender ≡ t → t.flight.queue.pending ≡ (flight_of old).queue.pending
-      → AreBegunOrGone gone (length ns) more (flight_of new).queue.pending
-  same-to t e k = keeps-to t e (λ m _ b. ap (begins_in m) k ∙ b)
-
   -- the first fragment that is sent gets its entry
   sends-begun : (now : ℕ) (o : Option ChunkPayloadData) → next_pending (all_started now (flight_of old).queue).pending ≡ o
       → IsMoreBy (option_map (as_sent (flight_of old).next_tsn now) o) sent more
@@ -167,15 +155,29 @@ module _ (gone : List ℕ) (first : ℕ) (old new : Session) (ns : List Numbered
             ]
       ]
 
+  changed-keeps : (call : SenderCall) → AreAmong (abandoned_by call old.sending.sender) gone → (c : Change call old.sending.sender)
+      → KeepsOthers gone (flight_of old).queue.pending (flight_after call old.sending.sender c).queue.pending
+  changed-keeps call a nothing = λ m _ b. b
+  changed-keeps call a (all_start now) = λ m _ b. starts-keep now (flight_of old).queue m b
+  changed-keeps call a (more_room count) = λ m _ b. b
+  changed-keeps call a (some_marked p f k) = λ m _ b. b
+  changed-keeps call a (some_missed count) = λ m _ b. b
+  changed-keeps call a (one_leaves o e found) =
+      abandon-keeps gone o (flight_of old).next_tsn (flight_of old).queue (λ m i. a m (ap (λ ms. is_gone ms m) e ∙ one-gone m o i))
+  changed-keeps call a (each_leaves ts short e) = each-keeps gone ts (flight_of old) (subst (λ ms. AreAmong ms gone) e a)
+  changed-keeps call a (front_expires now c found e) =
+      expire-keeps gone c (flight_of old).queue (a c.message_id (ap (λ ms. is_gone ms c.message_id) e ∙ one-gone c.message_id (Some c.message_id) refl))
+  changed-keeps call a (acknowledges k answered e) = λ m _ b. ap (begins_in m) (by (is_outdated k (flight_of old))) ∙ b
+    where
+      by : (b : Bool) → (if b then flight_of old else take_sack k (flight_of old)).queue.pending ≡ (flight_of old).queue.pending
+      by true = refl
+      by false = refl
+
   pub stays-begun-or-gone : (call : SenderCall) → AreAmong (abandoned_by call old.sending.sender) gone → SenderFollows call old new
       → IsMoreBy (sent_by call old.sending.sender) sent more → Begins call
-  stays-begun-or-gone (outgoing.forwards u c) a f g = same-to _ f.exact refl
-  stays-begun-or-gone (outgoing.forwards_within bytes c) a f g = same-to _ f.exact refl
-  stays-begun-or-gone (outgoing.starts now) a f g = keeps-to _ f.step.sender (λ m _ b. starts-keep now (flight_of old).queue m b)
   stays-begun-or-gone (outgoing.sends now) a f g =
       subst (λ (u : Transmission). AreBegunOrGone gone (length ns) more u.flight.queue.pending) (sym f.exact)
       (sends-begun now (next_pending (all_started now (flight_of old).queue).pending) refl g)
-  stays-begun-or-gone (outgoing.writes stream ppi []) a f g = same-to _ (f.exact.0 refl) refl
   stays-begun-or-gone (outgoing.writes stream ppi (b ∷ bs)) a f g =
       let l = accepted-stream stream (length (b ∷ bs)) old.sending.sender f.accepted in
       subst (λ (u : Transmission). Begins' u) (sym (f.exact.1 (omega arith) l.0 l.1)) (after l.0)
@@ -194,30 +196,8 @@ module _ (gone : List ℕ) (first : ℕ) (old new : Session) (ns : List Numbered
             or-right (was_begun m more) _ (subst (λ k. begins_in k (written_to l stream ppi (b ∷ bs) old.sending.sender).flight.queue.pending ≡ true) (sym same)
             (write-begins l ppi b bs (flight_of old).queue))
       ]
-  stays-begun-or-gone (outgoing.abandons u x) a f g =
-      let o = message_to_abandon u (flight_of old) in
-      keeps-to _ f.exact (abandon-keeps gone o (flight_of old).next_tsn (flight_of old).queue (λ m e. a m (one-gone m o e)))
-  stays-begun-or-gone (outgoing.expires now None) a f g = same-to _ (f.exact.1.1 refl) refl
-  stays-begun-or-gone (outgoing.expires now (Some x)) a f g = by (expiring now (flight_of old).queue) refl f.exact.0 f.exact.1.0
-    where
-      by : (o : Option ChunkPayloadData) → expiring now (flight_of old).queue ≡ o → true ≡ is_some o
-          → IfSome o (λ c. new.sending.sender ≡ after_expire c x.bytes now old.sending.sender)
-          → AreBegunOrGone gone (length ns) more (flight_of new).queue.pending
-      by None e k y = absurd (not_both (sym k))
-      by (Some c) e k y =
-          keeps-to _ y (expire-keeps gone c (flight_of old).queue (a c.message_id (one-gone c.message_id (message_of (expiring now (flight_of old).queue))
-          (ap message_of e))))
-  stays-begun-or-gone (outgoing.expires_tail now None) a f g = same-to _ (f.exact.1 refl) refl
-  stays-begun-or-gone (outgoing.expires_tail now (Some x)) a f g =
-      let o = message_of (expiring_tail now (flight_of old).queue) in
-      keeps-to _ f.exact.0 (abandon-keeps gone o (flight_of old).next_tsn (flight_of old).queue (λ m e. a m (one-gone m o e)))
-  stays-begun-or-gone (outgoing.expires_late now answered) a f g =
-      keeps-to _ f.exact (each-keeps gone (late_order now (flight_of old)) (flight_of old) a)
-  stays-begun-or-gone (outgoing.expires_rexmit answered) a f g =
-      keeps-to _ f.exact (each-keeps gone (worn_order (flight_of old)) (flight_of old) a)
-  stays-begun-or-gone (outgoing.takes_sack k answered) a f g = same-to _ f.exact (by (is_outdated k (flight_of old)))
-    where
-      by : (b : Bool) → (if b then flight_of old else take_sack k (flight_of old)).queue.pending ≡ (flight_of old).queue.pending
-      by true = refl
-      by false = refl
-  stays-begun-or-gone call a f g = same-to _ f.step.sender refl
+  stays-begun-or-gone call a f g =
+      let x = changes old.sending.sender new.sending.sender call refl f.step.sender f.exact in
+      subst (λ (k : Flight). AreBegunOrGone gone (length ns) more k.queue.pending) (sym x.flight)
+      (kept-others gone (length ns) sent more (flight_of old).queue.pending (flight_after call old.sending.sender x.change).queue.pending once
+      (changed-keeps call a x.change) h)

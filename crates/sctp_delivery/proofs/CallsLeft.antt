@@ -1,7 +1,6 @@
 -- What each call of a sender makes of the chunks in flight and of how many are left, in a session of few TSNs.
-use Rattle.std.proofs.Common.{◌≡◌, ℕ, ◌+◌, ◌-◌, ◌%◌, ◌^◌, ◌<◌, ◌≤◌, Bool, true, false, List, [], ◌∷◌, length, drop, map, Option, Some, None, is_some, inr, refl}
-use Rattle.std.proofs.Common.{ap, sym, subst, ◌∙◌, arith}
-use Rattle.std.specs.Prelude.{if◌then◌else◌, nat_lt, find, IfSome}
+use Rattle.std.proofs.Common.{◌≡◌, ℕ, ◌+◌, ◌-◌, ◌%◌, ◌^◌, ◌<◌, ◌≤◌, Bool, true, false, List, [], ◌∷◌, length, drop, map, inr, refl, ap, sym, subst, ◌∙◌, arith}
+use Rattle.std.specs.Prelude.{if◌then◌else◌, nat_lt, find}
 use Rattle.std.proofs.lemmas.Bool.Decides.{nat_tests}
 use Rattle.sctp_util.specs.Lists.{change_where}
 use Rattle.sctp_util.specs.Serial.{comes_before, distance}
@@ -10,28 +9,26 @@ use Rattle.sctp_util.proofs.More.{not_both}
 use Rattle.sctp_util.proofs.Round.{distance-tsn, tsn}
 use Rattle.sctp_data.specs.declared.chunk.chunk_payload_data.ChunkPayloadData.{ChunkPayloadData}
 use Rattle.sctp_data.specs.SelectiveAck.{Sack}
-use Rattle.sctp_outbound.specs.Marks.{as_acknowledged, is_outstanding, with_retransmit}
-use Rattle.sctp_outbound.specs.outbound_queue.OutboundQueue.{Outbound, abandoned_of, all_started, expiring, expiring_tail, message_of, sent_next, with_inflight}
-use Rattle.sctp_outbound.specs.outbound_queue.OutboundQueue.{with_message, with_message_id}
+use Rattle.sctp_outbound.specs.Marks.{as_acknowledged}
+use Rattle.sctp_outbound.specs.outbound_queue.OutboundQueue.{Outbound, all_started, sent_next, with_inflight, with_message, with_message_id}
 use Rattle.sctp_outbound.specs.payload_queue.PayloadQueue as payload
 use Rattle.sctp_outbound.specs.pending_queue.PendingQueue.{next_pending}
-use Rattle.sctp_outbound.specs.pending_queue.Whole.{partially_sent, waits}
 use Rattle.sctp_outbound.proofs.lemmas.outbound_queue.SideBySide.{partial_appended}
 use Rattle.sctp_serial.specs.DataChunks.{has_tsn}
-use Rattle.sctp_stream.specs.declared.stream.StreamState.{StreamState}
-use Rattle.sctp_sender.specs.Flight.{Flight, after_sack, is_outdated, message_to_abandon, reports_anew, take_sack, tsns_from}
-use Rattle.sctp_sender.specs.Late.{abandoned_at, abandoned_each, late_order, worn_order}
+use Rattle.sctp_sender.specs.Flight.{Flight, after_sack, is_outdated, message_to_abandon, reports_anew, take_sack, tsns_from, with_room}
+use Rattle.sctp_sender.specs.Late.{abandoned_at, abandoned_each}
 use Rattle.sctp_sender.specs.Outgoing.{fragments_with_mode}
-use Rattle.sctp_sender.specs.Resending.{after_misses, all_marked, can_miss, count_again, missed, resent_at, sent_again}
-use Rattle.sctp_sender.specs.Sender.{Transmission, after_expire, stream_of}
+use Rattle.sctp_sender.specs.Resending.{after_misses, can_miss, missed}
+use Rattle.sctp_sender.specs.Sender.{Transmission}
+use Rattle.sctp_sender.specs.declared.sender.flight.Released.{Released}
 use Rattle.sctp_sender.proofs.Flights.{started-inflight}
-use Rattle.sctp_sender.proofs.InLine.{found-partial, tail-partial}
+use Rattle.sctp_sender.proofs.InLine.{found-partial}
 use Rattle.sctp_sender.proofs.Runs.{IsRunFrom, changed-run, past-is}
 use Rattle.sctp_delivery.specs.Rounds.{flight_of, is_exchange}
 use Rattle.sctp_delivery.specs.SenderCalls as outgoing
 use Rattle.sctp_delivery.specs.SenderCalls.{SenderCall}
-use Rattle.sctp_delivery.specs.Session.{SenderFollows, Session, of_sender}
-use Rattle.sctp_delivery.proofs.Continued.{facts-changed, facts-part-changed}
+use Rattle.sctp_delivery.specs.Session.{SenderFollows, Session, of_sender, IsReported}
+use Rattle.sctp_delivery.proofs.Continued.{facts-changed, facts-part-changed, facts}
 use Rattle.sctp_delivery.proofs.Every.{Every, every-contained}
 use Rattle.sctp_delivery.proofs.GivenTsns.{IsNumbered}
 use Rattle.sctp_delivery.proofs.Queues.{Stands, abandoned, started}
@@ -39,14 +36,16 @@ use Rattle.sctp_delivery.proofs.QueuesLeft.{CanPut, Goes, HasPlace, abandoned-go
 use Rattle.sctp_delivery.proofs.QueuesLeft.{started-goes}
 use Rattle.sctp_delivery.proofs.ReportedTsns.{IsTruthful}
 use Rattle.sctp_delivery.proofs.SackMarks.{IsValidIn}
-use Rattle.sctp_delivery.proofs.SackSteps.{known, written-open}
+use Rattle.sctp_delivery.proofs.SackSteps.{known}
 use Rattle.sctp_delivery.proofs.Senders.{IsHeld}
 use Rattle.sctp_delivery.proofs.Numbers.{number_of}
 use Rattle.sctp_delivery.proofs.Sent.{Entry, Numbered}
 use Rattle.sctp_delivery.proofs.TsnPlaces.{before, tsn-small}
 use Rattle.sctp_delivery.proofs.ValidMarks.{IsUnmarked, started-valid}
-use Rattle.sctp_delivery.proofs.Writing.{in-front}
+use Rattle.sctp_delivery.proofs.Writing.{in-front, accepted-stream}
 use Rattle.sctp_delivery.proofs.QueueChunks.{peeked}
+use Rattle.sctp_delivery.proofs.Changes.{Change, all_start, acknowledges, changes, each_leaves, flight_after, front_expires, more_room, nothing, one_leaves}
+use Rattle.sctp_delivery.proofs.Changes.{partial-found, some_marked, some_missed}
 
 -- ## A SACK
 
@@ -117,9 +116,6 @@ module _ (p n : ℕ) (old new : Session) (few : n < 2 ^ 31) (h : IsNumbered p n 
   goes-to : (b : Bool) (t : Transmission) → new.sending.sender ≡ t → Goes b old.sending.sender.flight.queue t.flight.queue → GoesOn b
   goes-to b t e g = subst (λ (u : Transmission). Goes b queue u.flight.queue) (sym e) g
 
-  stays : (t : Transmission) → new.sending.sender ≡ t → t.flight.queue ≡ old.sending.sender.flight.queue → GoesOn true
-  stays t e same = goes-to true t e (subst (Goes true queue) (sym same) (goes-none true queue))
-
   place : CanPut old.sending.sender.flight.queue.inflight.chunks old.sending.sender.flight.next_tsn
   place = record {
     first = tsn p (h.acked + 1);
@@ -128,14 +124,6 @@ module _ (p n : ℕ) (old new : Session) (few : n < 2 ^ 31) (h : IsNumbered p n 
     run = h.run;
     is = let total = h.total in let next = h.next_is in omega (arith, total, next);
   }
-
-  abandons : (o : Option ℕ)
-      → ((m : ℕ) → o ≡ Some m → waits m old.sending.sender.flight.queue.pending ≡ true → partially_sent old.sending.sender.flight.queue.pending ≡ Some m)
-      → (t : Transmission) → new.sending.sender ≡ t
-      → t.flight.queue ≡ abandoned_of o old.sending.sender.flight.next_tsn old.sending.sender.flight.queue → GoesOn true
-  abandons o partial t e is =
-      goes-to true t e (subst (Goes true queue) (sym is)
-      (abandoned-goes queue old.sending.sender.flight.next_tsn held.stands.sendable o partial (inr place)).goes)
 
   sends : (now : ℕ) → Goes true old.sending.sender.flight.queue (sent_next old.sending.sender.flight.queue old.sending.sender.flight.next_tsn now)
   sends now =
@@ -147,51 +135,34 @@ module _ (p n : ℕ) (old new : Session) (few : n < 2 ^ 31) (h : IsNumbered p n 
       (sent-goes q next now s.sendable (subst (λ (i : payload.Payload). CanPut i.chunks next) (sym (started-inflight now queue)) place)
       (next_pending q.pending) refl (λ c e. peeked IsUnmarked q.pending.selected q.pending c e (w.ordered, w.unordered)))
 
+  changed-goes : (call : SenderCall) → ((k : Sack) (gone : List Released) → call ≡ outgoing.takes_sack k gone → IsTruthful p n (known old) k)
+      → (c : Change call old.sending.sender) → Goes true queue (flight_after call old.sending.sender c).queue
+  changed-goes call t nothing = goes-none true queue
+  changed-goes call t (all_start now) = started-goes now queue
+  changed-goes call t (more_room count) = same-goes true queue (with_room count queue) refl refl (λ _. omega arith)
+  changed-goes call t (some_marked q f k) =
+      same-goes true queue (with_inflight queue (change_where q f queue.inflight.chunks))
+      (facts-changed q f (λ c. ap facts (k c)) queue.inflight.chunks) refl (λ _. omega arith)
+  changed-goes call t (some_missed count) =
+      same-goes true queue (after_misses count (flight_of old)).queue
+      (facts-part-changed can_miss missed (λ d. refl) queue.inflight.chunks count) refl (λ _. omega arith)
+  changed-goes call t (one_leaves o e found) =
+      (abandoned-goes queue old.sending.sender.flight.next_tsn held.stands.sendable o
+      (partial-found old.sending.sender held.stands.sendable o found) (inr place)).goes
+  changed-goes call t (each_leaves ts short e) =
+      gone-each ws first (λ s. number_of s old.sending.sender.streams) ts (flight_of old) sent held.stands (inr place)
+  changed-goes call t (front_expires now c found e) =
+      let front = in-front now (next_pending queue.pending) c found in
+      expired-goes queue held.stands.sendable c front.0 front.1
+  changed-goes call t (acknowledges k gone e) = sack-goes p n (known old) k (flight_of old) few h (t k gone e)
+
   pub calls-go : (call : SenderCall) → Every (IsTruthful p n (known old)) old.sacks → SenderFollows call old new → GoesOn (is_exchange (of_sender call))
-  calls-go (outgoing.forwards u c) t f = stays _ f.exact refl
-  calls-go (outgoing.forwards_within bytes c) t f = stays _ f.exact refl
   calls-go (outgoing.writes stream ppi []) t f = goes-to false _ (f.exact.0 refl) (goes-none false queue)
-  calls-go (outgoing.writes stream ppi (b ∷ bs)) t f = by (stream_of stream old.sending.sender) refl
-    where
-      by : (o : Option StreamState) → stream_of stream old.sending.sender ≡ o → GoesOn false
-      by None e = absurd (written-open stream (length (b ∷ bs)) old.sending.sender f.accepted e)
-      by (Some l) e = goes-to false _ (f.exact.1 (omega arith) l e) (message-same (fragments_with_mode l ppi (b ∷ bs)) queue)
-  calls-go (outgoing.starts now) t f = goes-to true _ f.step.sender (started-goes now queue)
-  calls-go (outgoing.reserves more) t f = goes-to true _ f.step.sender (same-goes true queue _ refl refl (λ _. omega arith))
+  calls-go (outgoing.writes stream ppi (b ∷ bs)) t f =
+      let l = accepted-stream stream (length (b ∷ bs)) old.sending.sender f.accepted in
+      goes-to false _ (f.exact.1 (omega arith) l.0 l.1) (message-same (fragments_with_mode l.0 ppi (b ∷ bs)) queue)
   calls-go (outgoing.sends now) t f = goes-to true _ f.exact (sends now)
-  calls-go (outgoing.resends u now c) t f =
-      goes-to true _ f.step.sender
-      (same-goes true queue (resent_at u now c (flight_of old)).queue
-      (facts-changed (has_tsn u) (sent_again (count_again c) now) (λ d. refl) queue.inflight.chunks) refl (λ _. omega arith))
-  calls-go outgoing.marks t f =
-      goes-to true _ f.step.sender
-      (same-goes true queue (all_marked (flight_of old)).queue
-      (facts-changed is_outstanding (with_retransmit true) (λ d. refl) queue.inflight.chunks) refl (λ _. omega arith))
-  calls-go (outgoing.misses count) t f =
-      goes-to true _ f.step.sender
-      (same-goes true queue (after_misses count (flight_of old)).queue
-      (facts-part-changed can_miss missed (λ d. refl) queue.inflight.chunks count) refl (λ _. omega arith))
-  calls-go (outgoing.abandons u a) t f =
-      abandons (message_to_abandon u (flight_of old)) (found-partial queue held.stands.sendable u (find (has_tsn u) queue.inflight.chunks) refl) _ f.exact refl
-  calls-go (outgoing.expires now None) t f = stays _ (f.exact.1.1 refl) refl
-  calls-go (outgoing.expires now (Some e)) t f = by (expiring now queue) refl f.exact.0 f.exact.1.0
-    where
-      by : (o : Option ChunkPayloadData) → expiring now old.sending.sender.flight.queue ≡ o → true ≡ is_some o
-          → IfSome o (λ c. new.sending.sender ≡ after_expire c e.bytes now old.sending.sender) → GoesOn true
-      by None g k i = absurd (not_both (sym k))
-      by (Some c) g k i =
-          let front = in-front now (next_pending queue.pending) c g in
-          goes-to true _ i (expired-goes queue held.stands.sendable c front.0 front.1)
-  calls-go (outgoing.expires_tail now None) t f = stays _ (f.exact.1 refl) refl
-  calls-go (outgoing.expires_tail now (Some a)) t f =
-      abandons (message_of (expiring_tail now queue))
-      (λ m e _. tail-partial queue held.stands.sendable now (next_pending queue.pending) refl m e) _ f.exact.0 refl
-  calls-go (outgoing.expires_late now gone) t f =
-      goes-to true _ f.exact
-      (gone-each ws first (λ s. number_of s old.sending.sender.streams) (late_order now (flight_of old)) (flight_of old) sent held.stands (inr place))
-  calls-go (outgoing.expires_rexmit gone) t f =
-      goes-to true _ f.exact
-      (gone-each ws first (λ s. number_of s old.sending.sender.streams) (worn_order (flight_of old)) (flight_of old) sent held.stands (inr place))
-  calls-go (outgoing.takes_sack k gone) t f =
-      goes-to true _ f.exact (sack-goes p n (known old) k (flight_of old) few h (every-contained (IsTruthful p n (known old)) old.sacks k f.handed t))
-  calls-go call t f = stays _ f.step.sender refl
+  calls-go call t f =
+      let x = changes old.sending.sender new.sending.sender call refl f.step.sender f.exact in
+      subst (λ (g : Flight). Goes true queue g.queue) (sym x.flight)
+      (changed-goes call (λ k gone e. every-contained (IsTruthful p n (known old)) old.sacks k (subst (λ c. IsReported c old) e f.handed) t) x.change)

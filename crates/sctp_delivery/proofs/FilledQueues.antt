@@ -1,29 +1,26 @@
 -- Each chunk that waits has some bytes, whatever a sender does.
-use Rattle.std.proofs.Common.{◌≡◌, ℕ, zero, suc, ◌+◌, ◌<◌, ◌≤◌, Bool, true, false, List, [], ◌∷◌, length, map, drop, Option, Some, None, is_some, refl}
-use Rattle.std.proofs.Common.{sym, subst, arith}
-use Rattle.std.specs.Prelude.{IfSome, if◌then◌else◌}
+use Rattle.std.proofs.Common.{◌≡◌, ℕ, zero, suc, ◌+◌, ◌<◌, ◌≤◌, Bool, true, false, List, [], ◌∷◌, length, map, drop, Option, Some, refl, sym, subst, arith}
+use Rattle.std.specs.Prelude.{if◌then◌else◌}
 use Rattle.sctp_util.specs.Kept.{always, numbers_where}
 use Rattle.sctp_util.specs.Lists.{pieces}
-use Rattle.sctp_util.proofs.More.{not_both}
 use Rattle.sctp_data.specs.declared.chunk.chunk_payload_data.ChunkPayloadData.{ChunkPayloadData}
 use Rattle.sctp_data.specs.declared.chunk.chunk_payload_data.PayloadProtocolIdentifier.{PayloadProtocolIdentifier}
-use Rattle.sctp_outbound.specs.outbound_queue.OutboundQueue.{Outbound, abandoned_of, all_started, expired_of, expiring, expiring_tail}
-use Rattle.sctp_outbound.specs.outbound_queue.OutboundQueue.{message_of, sent_of, with_message}
+use Rattle.sctp_outbound.specs.outbound_queue.OutboundQueue.{Outbound, abandoned_of, all_started, expired_of, sent_of, with_message}
 use Rattle.sctp_outbound.specs.pending_queue.PendingQueue.{next_pending}
 use Rattle.sctp_stream.specs.declared.stream.StreamState.{StreamState}
 use Rattle.sctp_stream.specs.Stream.{fragment_at, fragments_of, pieces_of}
-use Rattle.sctp_sender.specs.Flight.{Flight, is_outdated, message_to_abandon, take_sack}
-use Rattle.sctp_sender.specs.Late.{abandoned_each, late_order, worn_order}
+use Rattle.sctp_sender.specs.Flight.{Flight, is_outdated, take_sack}
+use Rattle.sctp_sender.specs.Late.{abandoned_each}
 use Rattle.sctp_sender.specs.Outgoing.{fragments_with_mode, with_reliability}
-use Rattle.sctp_sender.specs.Sender.{Transmission, after_expire}
+use Rattle.sctp_sender.specs.Sender.{Transmission}
 use Rattle.sctp_sender.specs.SenderRuns.{Makes}
-use Rattle.sctp_delivery.specs.SenderCalls.{IsAccepted, MakesExactly, SenderCall, abandons, as_run, expires, expires_late, expires_rexmit}
-use Rattle.sctp_delivery.specs.SenderCalls.{expires_tail, forwards, forwards_within, sends}
-use Rattle.sctp_delivery.specs.SenderCalls.{starts, takes_sack, writes}
+use Rattle.sctp_delivery.specs.SenderCalls.{IsAccepted, MakesExactly, SenderCall, as_run, sends, writes}
 use Rattle.sctp_delivery.proofs.Every.{Every, every-at, every-mapped}
 use Rattle.sctp_delivery.proofs.Numbers.{AreSized, size-found}
 use Rattle.sctp_delivery.proofs.Writing.{accepted-stream}
 use Rattle.sctp_delivery.proofs.QueueChunks.{AllWait, EachIs, abandoned, each-abandoned, expired, pushed, sent, started}
+use Rattle.sctp_delivery.proofs.Changes.{Change, all_start, acknowledges, changes, each_leaves, flight_after, front_expires, more_room, nothing, one_leaves}
+use Rattle.sctp_delivery.proofs.Changes.{some_marked, some_missed}
 
 abbrev pub IsFilled : ChunkPayloadData → Type 0
 IsFilled c = 0 < length c.user_data
@@ -93,37 +90,33 @@ module _ (t : Transmission) (sized : AreSized t.streams) (h : AreFilled t.flight
   to : (u v : Transmission) → u ≡ v → AreFilled v.flight.queue → AreFilled u.flight.queue
   to u v e i = subst (λ (x : Transmission). AreFilled x.flight.queue) (sym e) i
 
+  changed-filled : (call : SenderCall) (c : Change call t) → AreFilled (flight_after call t c).queue
+  changed-filled call nothing = h
+  changed-filled call (all_start now) = started-filled now t.flight.queue h
+  changed-filled call (more_room count) = h
+  changed-filled call (some_marked p f k) = h
+  changed-filled call (some_missed count) = h
+  changed-filled call (one_leaves o e found) = abandoned-filled o t.flight.next_tsn t.flight.queue h
+  changed-filled call (each_leaves ts short e) = each-filled ts t.flight h
+  changed-filled call (front_expires now c found e) = expired-filled c t.flight.queue h
+  changed-filled call (acknowledges k gone e) = by (is_outdated k t.flight)
+    where
+      by : (b : Bool) → AreFilled (if b then t.flight else take_sack k t.flight).queue
+      by true = h
+      by false = h
+
   filled-call : (call : SenderCall) (u : Transmission) → Makes (as_run call) t u → MakesExactly call t u → IsAccepted call t → AreFilled u.flight.queue
-  filled-call (writes stream ppi []) u e x a = to u _ (x.0 refl) h
   filled-call (writes stream ppi (b ∷ bs)) u e x a =
       let l = accepted-stream stream (length (b ∷ bs)) t a in
       to u _ (x.1 (omega arith) l.0 l.1)
       (message-filled (fragments_with_mode l.0 ppi (b ∷ bs)) t.flight.queue
       (fragments-filled l.0 ppi (b ∷ bs) (size-found stream t.streams l.0 l.1 sized)) h)
-  filled-call (starts now) u e x a = to u _ e (started-filled now t.flight.queue h)
   filled-call (sends now) u e x a =
       let q = all_started now t.flight.queue in
       to u _ x (sent-filled (next_pending q.pending) q t.flight.next_tsn now refl (started-filled now t.flight.queue h))
-  filled-call (abandons tsn y) u e x a = to u _ x (abandoned-filled (message_to_abandon tsn t.flight) t.flight.next_tsn t.flight.queue h)
-  filled-call (expires now None) u e x a = to u _ (x.1.1 refl) h
-  filled-call (expires now (Some y)) u e x a = by (expiring now t.flight.queue) x.0 x.1.0
-    where
-      by : (o : Option ChunkPayloadData) → true ≡ is_some o → IfSome o (λ c. u ≡ after_expire c y.bytes now t) → AreFilled u.flight.queue
-      by None f g = absurd (not_both (sym f))
-      by (Some c) f g = to u _ g (expired-filled c t.flight.queue h)
-  filled-call (expires_tail now None) u e x a = to u _ (x.1 refl) h
-  filled-call (expires_tail now (Some y)) u e x a =
-      to u _ x.0 (abandoned-filled (message_of (expiring_tail now t.flight.queue)) t.flight.next_tsn t.flight.queue h)
-  filled-call (expires_late now gone) u e x a = to u _ x (each-filled (late_order now t.flight) t.flight h)
-  filled-call (expires_rexmit gone) u e x a = to u _ x (each-filled (worn_order t.flight) t.flight h)
-  filled-call (forwards tsn f) u e x a = to u _ x h
-  filled-call (forwards_within bytes f) u e x a = to u _ x h
-  filled-call (takes_sack sack gone) u e x a = to u _ x (by (is_outdated sack t.flight))
-    where
-      by : (b : Bool) → AreFilled (if b then t.flight else take_sack sack t.flight).queue
-      by true = h
-      by false = h
-  filled-call call u e x a = to u _ e h
+  filled-call call u e x a =
+      let c = changes t u call refl e x in
+      subst (λ (f : Flight). AreFilled f.queue) (sym c.flight) (changed-filled call c.change)
 
 pub filled-step : (call : SenderCall) (t u : Transmission) → Makes (as_run call) t u → MakesExactly call t u → IsAccepted call t → AreSized t.streams
     → AllWait IsFilled t.flight.queue.pending → AllWait IsFilled u.flight.queue.pending

@@ -15,6 +15,7 @@ pub mod Fragments
 pub mod Numbers
 pub mod Senders
 pub mod Writing
+pub mod Changes
 pub mod Calls
 pub mod OrderedPlaces
 pub mod Sessions

@@ -15,15 +15,14 @@ use Rattle.sctp_receiver.specs.Receiver.{Reception, follow_forward_tsn, is_stale
 use Rattle.sctp_receiver.specs.Skips.{incomplete_forwarded, without_incomplete}
 use Rattle.sctp_receiver.proofs.Forwarded.{followed-mapped, skipped-size}
 use Rattle.sctp_sender.specs.declared.sender.refusal.SenderRefusal.TheVariants.{MessageTooLarge, QueueFull, StreamUnknown}
-use Rattle.sctp_sender.specs.Sender.{Transmission, after_expire, is_full, is_open, stream_of as sender_stream}
-use Rattle.sctp_stream.specs.declared.stream.StreamState.{StreamState}
+use Rattle.sctp_sender.specs.Sender.{Transmission, after_expire, is_full, is_open}
 use Rattle.sctp_delivery.specs.ReceiverCalls as incoming
 use Rattle.sctp_delivery.specs.ReceiverCalls.{ReceiverCall}
 use Rattle.sctp_delivery.specs.SenderCalls as outgoing
 use Rattle.sctp_delivery.specs.SenderCalls.{SenderCall, Write, written_after}
 use Rattle.sctp_delivery.specs.Session.{Call, ReceiverFollows, RunsTo, SenderFollows, Session, at_start, of_receiver, of_sender}
 use Rattle.sctp_delivery.proofs.Every.{Every, every-changed, every-found, every-joined}
-use Rattle.sctp_delivery.proofs.SackSteps.{written-open}
+use Rattle.sctp_delivery.proofs.Writing.{accepted-stream}
 
 -- ## The sender
 
@@ -36,11 +35,9 @@ max-after (outgoing.sends now) old new f = ap (λ (u : Transmission). u.max_mess
 max-after (outgoing.forwards u c) old new f = ap (λ (u : Transmission). u.max_message_size) f.exact
 max-after (outgoing.forwards_within bytes c) old new f = ap (λ (u : Transmission). u.max_message_size) f.exact
 max-after (outgoing.writes stream ppi []) old new f = ap (λ (u : Transmission). u.max_message_size) (f.exact.0 refl)
-max-after (outgoing.writes stream ppi (b ∷ bs)) old new f = by (sender_stream stream old.sending.sender) refl
-  where
-    by : (o : Option StreamState) → sender_stream stream old.sending.sender ≡ o → MaxSame old new
-    by None e = absurd (written-open stream (length (b ∷ bs)) old.sending.sender f.accepted e)
-    by (Some l) e = ap (λ (u : Transmission). u.max_message_size) (f.exact.1 (omega arith) l e)
+max-after (outgoing.writes stream ppi (b ∷ bs)) old new f =
+    let l = accepted-stream stream (length (b ∷ bs)) old.sending.sender f.accepted in
+    ap (λ (u : Transmission). u.max_message_size) (f.exact.1 (omega arith) l.0 l.1)
 max-after (outgoing.abandons u a) old new f = ap (λ (u : Transmission). u.max_message_size) f.exact
 max-after (outgoing.expires now None) old new f = ap (λ (u : Transmission). u.max_message_size) (f.exact.1.1 refl)
 max-after (outgoing.expires now (Some e)) old new f = by (expiring now old.sending.sender.flight.queue) f.exact.0 f.exact.1.0

@@ -12,7 +12,7 @@ use Rattle.sctp_outbound.specs.outbound_queue.OutboundQueue.{expiring, expiring_
 use Rattle.sctp_sender.specs.declared.sender.ExpiredMessage.{ExpiredMessage}
 use Rattle.sctp_sender.specs.declared.sender.flight.late.AbandonedMessage.{AbandonedMessage}
 use Rattle.sctp_sender.specs.declared.sender.flight.Released.{Released}
-use Rattle.sctp_sender.specs.Flight.{message_to_abandon, with_queue}
+use Rattle.sctp_sender.specs.Flight.{message_to_abandon}
 use Rattle.sctp_sender.specs.Late.{after_leaving, late_order, leaving_each, worn_order}
 use Rattle.sctp_sender.specs.Flight as flight
 use Rattle.sctp_sender.specs.Outgoing.{after_expiry, after_releases, has_number, less_by, with_low, with_mode, with_reliability, with_size, wrote}
@@ -22,9 +22,9 @@ use Rattle.sctp_sender.proofs.SenderStreams.{made}
 use Rattle.sctp_stream.specs.declared.stream.StreamState.{StreamState}
 use Rattle.sctp_stream.specs.Stream.{fragment_at, new_stream}
 use Rattle.sctp_delivery.specs.Modes.{Mode, Modes, Sending, all_starting, at_first, mode_of_write, modes_after, reliable_mode, with_mode_of}
-use Rattle.sctp_delivery.specs.SenderCalls.{Expires, ExpiresTail, IsAccepted, MakesExactly, SenderCall, abandons, as_run, expires, expires_late}
-use Rattle.sctp_delivery.specs.SenderCalls.{expires_rexmit, expires_tail, forwards, forwards_within, marks, misses, opens}
-use Rattle.sctp_delivery.specs.SenderCalls.{resends, reserves, sends, sets_low, sets_mode, sets_size, starts, takes_sack, writes}
+use Rattle.sctp_delivery.specs.SenderCalls.{Expires, ExpiresTail, IsAccepted, MakesExactly, SenderCall, abandons, as_run, expires, expires_late, expires_rexmit}
+use Rattle.sctp_delivery.specs.SenderCalls.{expires_tail, forwards, forwards_within, marks, misses, opens, resends, reserves, sends, sets_low, sets_mode}
+use Rattle.sctp_delivery.specs.SenderCalls.{sets_size, starts, takes_sack, writes}
 use Rattle.sctp_delivery.proofs.Every.{Every, every-changed, every-found, every-joined, every-mapped}
 use Rattle.sctp_delivery.proofs.ModeQueues.{AreModed, HasModeOf, abandoned-moded, each-moded, expired-moded, fragments-new, marked-moded, message-moded}
 use Rattle.sctp_delivery.proofs.ModeQueues.{missed-moded, resent-moded, sack-moded, sent-moded, started-moded}

@@ -15,7 +15,7 @@ use Rattle.sctp_delivery.specs.Modes.{AfterEachFitRun, AreSentAsWritten, IsUnord
 use Rattle.sctp_delivery.specs.Modes.{starting}
 use Rattle.sctp_delivery.specs.ReceiverCalls.{ReceiverCall}
 use Rattle.sctp_delivery.specs.SenderCalls as outgoing
-use Rattle.sctp_delivery.specs.SenderCalls.{SenderCall, Write, data_chunk, next_chunk}
+use Rattle.sctp_delivery.specs.SenderCalls.{SenderCall}
 use Rattle.sctp_delivery.specs.Session.{Call, ReceiverFollows, RunsTo, SenderFollows, Session, at_start, of_receiver, of_sender}
 use Rattle.sctp_delivery.proofs.Calls.{at-forgotten, forget, length-forgotten, numbered_after, sent_by}
 use Rattle.sctp_delivery.proofs.Delivered.{Holds, at-first, found-sent, receiver-step, sender-step}

@@ -9,11 +9,10 @@ use Rattle.sctp_data.specs.declared.chunk.chunk_payload_data.ChunkPayloadData.{C
 use Rattle.sctp_outbound.specs.outbound_queue.OutboundQueue.{expiring, expiring_tail, message_of}
 use Rattle.sctp_outbound.specs.payload_queue.PayloadQueue as payload
 use Rattle.sctp_receiver.specs.declared.receiver.limits.Limits.{Limits}
-use Rattle.sctp_stream.specs.declared.stream.StreamState.{StreamState}
 use Rattle.sctp_sender.specs.Flight.{message_to_abandon}
 use Rattle.sctp_sender.specs.Late.{late_order, worn_order}
 use Rattle.sctp_sender.specs.Outgoing.{fragments_with_mode}
-use Rattle.sctp_sender.specs.Sender.{Transmission, after_expire, stream_of}
+use Rattle.sctp_sender.specs.Sender.{Transmission, after_expire}
 use Rattle.sctp_sender.proofs.Flights.{started-inflight}
 use Rattle.sctp_delivery.specs.Retransmission.{AfterEachSessionWithEvents, AreNoted, Event, events_after, events_from}
 use Rattle.sctp_delivery.specs.Sacks.{tsns_given}
@@ -27,8 +26,9 @@ use Rattle.sctp_delivery.proofs.NotedCalls.{sent-so, started-so}
 use Rattle.sctp_delivery.proofs.NotedChunks.{SaysSo}
 use Rattle.sctp_delivery.proofs.PassedTsns.{flight-given}
 use Rattle.sctp_delivery.proofs.SackLaws.{IsInStep, begin, no-move, receiver-step, sender-step}
-use Rattle.sctp_delivery.proofs.SackSteps.{flight_of, written-open}
+use Rattle.sctp_delivery.proofs.SackSteps.{flight_of}
 use Rattle.sctp_delivery.proofs.TsnPlaces.{IsGiven, base, same-place, tsn-small}
+use Rattle.sctp_delivery.proofs.Writing.{accepted-stream}
 
 -- ## A call of the sender
 
@@ -55,13 +55,10 @@ module _ (p n : ℕ) (es : List Event) (old new : Session) (few : n < 2 ^ 31) (h
   step (outgoing.forwards u c) f = to es _ f.exact s
   step (outgoing.forwards_within bytes c) f = to es _ f.exact s
   step (outgoing.writes stream ppi []) f = to es _ (f.exact.0 refl) s
-  step (outgoing.writes stream ppi (b ∷ bs)) f = by (stream_of stream old.sending.sender) refl
-    where
-      by : (o : Option StreamState) → stream_of stream old.sending.sender ≡ o → AreSo es (flight_of new).queue
-      by None e = absurd (written-open stream (length (b ∷ bs)) old.sending.sender f.accepted e)
-      by (Some l) e =
-          to es _ (f.exact.1 (omega arith) l e)
-          (message-so es (fragments_with_mode l ppi (b ∷ bs)) (flight_of old).queue (fragments-unsent l ppi (b ∷ bs)) s)
+  step (outgoing.writes stream ppi (b ∷ bs)) f =
+      let l = accepted-stream stream (length (b ∷ bs)) old.sending.sender f.accepted in
+      to es _ (f.exact.1 (omega arith) l.0 l.1)
+      (message-so es (fragments_with_mode l.0 ppi (b ∷ bs)) (flight_of old).queue (fragments-unsent l.0 ppi (b ∷ bs)) s)
   step (outgoing.starts now) f = to es _ f.step.sender (started-so es now (flight_of old).queue s)
   step (outgoing.reserves more) f = to es _ f.step.sender (record { ordered = s.ordered; unordered = s.unordered; inflight = s.inflight })
   step (outgoing.sends now) f =

@@ -1,7 +1,6 @@
 -- Each call leads from a session to one other alone.
 use Rattle.std.proofs.Common.{◌≡◌, ℕ, ◌+◌, ◌<◌, ◌≤◌, Bool, true, false, List, [], ◌∷◌, ◌++◌, take, drop, length, Option, Some, None, is_some, inl, inr, refl}
-use Rattle.std.proofs.Common.{ap}
-use Rattle.std.proofs.Common.{sym, subst, ◌∙◌, arith}
+use Rattle.std.proofs.Common.{ap, sym, subst, ◌∙◌, arith}
 use Rattle.std.specs.Prelude.{◌⊎◌, IfSome, if◌then◌else◌, max}
 use Rattle.std.proofs.lemmas.Bool.{cases_lt}
 use Rattle.sctp_util.specs.Lists.{change_where, insert_before}
@@ -18,16 +17,15 @@ use Rattle.sctp_receiver.specs.ReceiverRuns.{Stand}
 use Rattle.sctp_receiver.specs.TsnFilter.{has_come, with_tsn}
 use Rattle.sctp_serial.specs.DataChunks.{chunk_before}
 use Rattle.sctp_serial.specs.Runs.{IsEarliestRun, IsRun}
-use Rattle.sctp_sender.specs.Sender.{after_expire, stream_of}
+use Rattle.sctp_sender.specs.Sender.{after_expire}
 use Rattle.sctp_sender.specs.SenderRuns.{Ledger}
-use Rattle.sctp_stream.specs.declared.stream.StreamState.{StreamState}
 use Rattle.sctp_delivery.specs.Ending.{ArrivalsAreDetermined, EachMakesOneStep, ReleasesAreDetermined}
 use Rattle.sctp_delivery.specs.ReceiverCalls as incoming
 use Rattle.sctp_delivery.specs.ReceiverCalls.{ReceiverCall}
 use Rattle.sctp_delivery.specs.SenderCalls as outgoing
 use Rattle.sctp_delivery.specs.SenderCalls.{Made, SenderCall, Write, takes_sack}
 use Rattle.sctp_delivery.specs.Session.{ReceiverFollows, SenderFollows, Session, of_receiver, of_sender}
-use Rattle.sctp_delivery.proofs.SackSteps.{written-open}
+use Rattle.sctp_delivery.proofs.Writing.{accepted-stream}
 
 -- ## The sender
 
@@ -58,11 +56,9 @@ sender-one (outgoing.forwards tsn c) s t u f g = f.exact ∙ sym g.exact
 sender-one (outgoing.forwards_within bytes c) s t u f g = f.exact ∙ sym g.exact
 sender-one (outgoing.takes_sack sack gone) s t u f g = f.exact ∙ sym g.exact
 sender-one (outgoing.writes stream ppi []) s t u f g = f.exact.0 refl ∙ sym (g.exact.0 refl)
-sender-one (outgoing.writes stream ppi (b ∷ bs)) s t u f g = by (stream_of stream s.sending.sender) refl
-  where
-    by : (o : Option StreamState) → stream_of stream s.sending.sender ≡ o → SameSender t u
-    by None e = absurd (written-open stream (length (b ∷ bs)) s.sending.sender f.accepted e)
-    by (Some l) e = f.exact.1 (omega arith) l e ∙ sym (g.exact.1 (omega arith) l e)
+sender-one (outgoing.writes stream ppi (b ∷ bs)) s t u f g =
+    let l = accepted-stream stream (length (b ∷ bs)) s.sending.sender f.accepted in
+    f.exact.1 (omega arith) l.0 l.1 ∙ sym (g.exact.1 (omega arith) l.0 l.1)
 sender-one (outgoing.expires now None) s t u f g = f.exact.1.1 refl ∙ sym (g.exact.1.1 refl)
 sender-one (outgoing.expires now (Some e)) s t u f g = by (expiring now s.sending.sender.flight.queue) f.exact.0 f.exact.1.0 g.exact.1.0
   where

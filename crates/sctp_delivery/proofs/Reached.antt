@@ -21,6 +21,7 @@ use Rattle.sctp_delivery.proofs.SackLaws as sacks
 use Rattle.sctp_delivery.proofs.SackLaws.{IsInStep}
 use Rattle.sctp_delivery.proofs.Sent.{Entry, Numbered}
 use Rattle.sctp_delivery.proofs.TsnPlaces.{base}
+use Rattle.sctp_delivery.proofs.OneRead.{given-then, run-then}
 
 -- ## The chunks in flight are continued
 
@@ -106,18 +107,6 @@ kept first n s few i =
       continued = tt;
     })))
 
--- with one more call
-module _ (call : Call) (s t : Session) (f : Follows call s t) where
-  pub with-one : (cs : List Call) (r : Session) → RunsTo r cs s → RunsTo r (cs ++ call ∷ []) t
-  with-one [] r run = (t, (subst (λ x. Follows call x t) run f, refl))
-  with-one (c ∷ cs) r run = (run.0, (run.1.0, with-one cs run.0 run.1.1))
-
-  one-given : (cs : List Call) (r : Session) (run : RunsTo r cs s)
-      → tsns_given r (cs ++ call ∷ []) t (with-one cs r run) ≡ tsns_given r cs s run + distance (next_tsn s) (next_tsn t)
-  unfolding with-one
-  one-given [] r run = let e = ap (λ x. distance (next_tsn x) (next_tsn t)) run in omega (arith, e)
-  one-given (c ∷ cs) r run = let ih = one-given cs run.0 run.1.1 in omega (arith, ih)
-
 pub reach-one : (first n : ℕ) (call : Call) (s t : Session) → Follows call s t → IsReached first n s
     → IsReached first (n + distance (next_tsn s) (next_tsn t)) t
 reach-one first n call s t f i =
@@ -130,8 +119,8 @@ reach-one first n call s t f i =
       calls = i.calls ++ call ∷ [];
       small = i.small;
       some = i.some;
-      run = with-one call s t f i.calls start i.run;
-      given = let e = one-given call s t f i.calls start i.run in let g = i.given in omega (arith, e, g);
+      run = run-then i.calls call start s t i.run f;
+      given = let e = given-then i.calls call start s t i.run f in let g = i.given in omega (arith, e, g);
     }
 
 pub reach-on : (first n : ℕ) (cs : List Call) (s t : Session) (run : RunsTo s cs t) → IsReached first n s

@@ -1,32 +1,33 @@
 -- A session in which few TSNs are given out, call by call: what is acknowledged, and what is passed.
-use Rattle.std.proofs.Common.{◌≡◌, ℕ, ◌<◌, ◌^◌, Bool, true, List, [], ◌∷◌, length, Option, Some, None, refl, ap, sym, subst, ◌∙◌, inl, inr, arith}
-use Rattle.std.specs.Prelude.{◌||◌, is_some, option_map, IfSome, Contains}
+use Rattle.std.proofs.Common.{◌≡◌, ℕ, ◌<◌, ◌^◌, Bool, true, List, ◌∷◌, length, Option, Some, None, refl, ap, sym, subst, ◌∙◌, inl, inr, arith}
+use Rattle.std.specs.Prelude.{◌||◌, option_map, Contains}
 use Rattle.std.specs.List.{list_any}
 use Rattle.sctp_util.specs.Serial.{at_or_before}
 use Rattle.sctp_util.proofs.Cases.{or-left, or-right, or-split}
-use Rattle.sctp_util.proofs.More.{not_both}
 use Rattle.sctp_data.specs.declared.chunk.chunk_payload_data.ChunkPayloadData.{ChunkPayloadData}
 use Rattle.sctp_data.specs.ForwardTsn.{ForwardTsn}
 use Rattle.sctp_data.specs.SelectiveAck.{Sack}
-use Rattle.sctp_outbound.specs.outbound_queue.OutboundQueue.{all_started, as_sent, expiring, expiring_tail, message_of}
+use Rattle.sctp_outbound.specs.outbound_queue.OutboundQueue.{all_started, as_sent}
 use Rattle.sctp_outbound.specs.pending_queue.PendingQueue.{next_pending}
-use Rattle.sctp_stream.specs.declared.stream.StreamState.{StreamState}
-use Rattle.sctp_sender.specs.Flight.{message_to_abandon, reports}
-use Rattle.sctp_sender.specs.Late.{late_order, worn_order}
+use Rattle.sctp_sender.specs.Flight.{reports, Flight}
 use Rattle.sctp_sender.specs.Outgoing.{fragments_with_mode}
-use Rattle.sctp_sender.specs.Sender.{Transmission, after_expire, stream_of}
+use Rattle.sctp_sender.specs.Sender.{Transmission}
+use Rattle.sctp_sender.specs.declared.sender.flight.Released.{Released}
 use Rattle.sctp_delivery.specs.Sacks.{passes, reports_tsn, was_taken}
 use Rattle.sctp_delivery.specs.SenderCalls as outgoing
 use Rattle.sctp_delivery.specs.SenderCalls.{Made, SenderCall, forward_tsn, made_after, with_chunk}
-use Rattle.sctp_delivery.specs.Session.{SenderFollows, Session}
+use Rattle.sctp_delivery.specs.Session.{SenderFollows, Session, IsReported}
 use Rattle.sctp_delivery.proofs.Every.{Every, every-contained, every-of}
 use Rattle.sctp_delivery.proofs.GivenTsns.{IsNumbered}
 use Rattle.sctp_delivery.proofs.PassedTsns.{IsGoneUpTo, IsPassable, flight-given, passable-end, passable-skip, passed-gone}
 use Rattle.sctp_delivery.proofs.ReportedTsns.{IsTruthful, answered-known}
-use Rattle.sctp_delivery.proofs.SackSteps.{IsMadeGiven, known_or, next-unpassed, none_dropped, written-open}
+use Rattle.sctp_delivery.proofs.SackSteps.{IsMadeGiven, known_or, next-unpassed, none_dropped}
 use Rattle.sctp_delivery.proofs.ValidMarks.{IsValid, abandoned-valid, each-valid, expired-valid, fragments-unmarked, marked-valid, message-valid, missed-valid}
-use Rattle.sctp_delivery.proofs.ValidMarks.{more-passed, resent-valid, sack-valid, sent-valid, started-valid}
+use Rattle.sctp_delivery.proofs.ValidMarks.{more-passed, sack-valid, sent-valid, started-valid}
 use Rattle.sctp_delivery.proofs.TsnPlaces.{IsGiven}
+use Rattle.sctp_delivery.proofs.Changes.{Change, all_start, acknowledges, changes, each_leaves, flight_after, front_expires, more_room, nothing, one_leaves}
+use Rattle.sctp_delivery.proofs.Changes.{some_marked, some_missed}
+use Rattle.sctp_delivery.proofs.Writing.{accepted-stream}
 
 -- ## Marks of a call of the sender
 
@@ -67,53 +68,38 @@ module _ (dropped : ℕ → Bool) (p n : ℕ) (old new : Session) (few : n < 2 ^
           (subst (λ t. reports_tsn t k ≡ true) g.is e) in
           subst (λ t. known_or dropped old t ≡ true) (sym g.is) at.0
 
+  changed-valid : (call : SenderCall) → ((k : Sack) (gone : List Released) → call ≡ outgoing.takes_sack k gone → Contains old.sacks k)
+      → Every (IsTruthful p n (known_or dropped old)) old.sacks → (c : Change call old.sending.sender)
+      → IsValid (came_in dropped old) (passed_in old.made) (flight_after call old.sending.sender c).queue
+  changed-valid call r t nothing = s
+  changed-valid call r t (all_start now) = started-valid (came_in dropped old) (passed_in old.made) now old.sending.sender.flight.queue s
+  changed-valid call r t (more_room count) = record { ordered = s.ordered; unordered = s.unordered; inflight = s.inflight }
+  changed-valid call r t (some_marked q f k) =
+      marked-valid (came_in dropped old) (passed_in old.made) q f k old.sending.sender.flight.queue s
+  changed-valid call r t (some_missed count) = missed-valid (came_in dropped old) (passed_in old.made) count old.sending.sender.flight s
+  changed-valid call r t (one_leaves o e found) =
+      abandoned-valid (came_in dropped old) (passed_in old.made) o old.sending.sender.flight.next_tsn old.sending.sender.flight.queue s
+  changed-valid call r t (each_leaves ts short e) = each-valid (came_in dropped old) (passed_in old.made) ts old.sending.sender.flight s
+  changed-valid call r t (front_expires now c found e) =
+      expired-valid (came_in dropped old) (passed_in old.made) (Some c) old.sending.sender.flight.queue s
+  changed-valid call r t (acknowledges k gone e) =
+      sack-valid (came_in dropped old) (passed_in old.made) k old.sending.sender.flight (answered t k (r k gone e)) s
+
   stays-valid : (call : SenderCall) → Every (IsTruthful p n (known_or dropped old)) old.sacks → Every (IsMadeGiven p n) old.made
       → SenderFollows call old new → StillValid
-  stays-valid (outgoing.forwards u c) t m f = valid-to _ f.exact s
-  stays-valid (outgoing.forwards_within bytes c) t m f = valid-to _ f.exact s
-  stays-valid (outgoing.writes stream ppi []) t m f = valid-to _ (f.exact.0 refl) s
-  stays-valid (outgoing.writes stream ppi (b ∷ bs)) t m f = by (stream_of stream old.sending.sender) refl
-    where
-      by : (o : Option StreamState) → stream_of stream old.sending.sender ≡ o → StillValid
-      by None e = absurd (written-open stream (length (b ∷ bs)) old.sending.sender f.accepted e)
-      by (Some l) e =
-          valid-to _ (f.exact.1 (omega arith) l e)
-          (message-valid (came_in dropped old) (passed_in old.made) (fragments_with_mode l ppi (b ∷ bs)) old.sending.sender.flight.queue
-          (fragments-unmarked l ppi (b ∷ bs)) s)
-  stays-valid (outgoing.starts now) t m f = valid-to _ f.step.sender
-      (started-valid (came_in dropped old) (passed_in old.made) now old.sending.sender.flight.queue s)
-  stays-valid (outgoing.reserves more) t m f = valid-to _ f.step.sender (record { ordered = s.ordered; unordered = s.unordered; inflight = s.inflight })
+  stays-valid (outgoing.writes stream ppi (b ∷ bs)) t m f =
+      let l = accepted-stream stream (length (b ∷ bs)) old.sending.sender f.accepted in
+      valid-to _ (f.exact.1 (omega arith) l.0 l.1)
+      (message-valid (came_in dropped old) (passed_in old.made) (fragments_with_mode l.0 ppi (b ∷ bs)) old.sending.sender.flight.queue
+      (fragments-unmarked l.0 ppi (b ∷ bs)) s)
   stays-valid (outgoing.sends now) t m f =
       valid-to _ f.exact
       (sent-valid (came_in dropped old) (passed_in old.made) old.sending.sender.flight.queue old.sending.sender.flight.next_tsn now
       (ap (passed_in old.made) h.next_is ∙ next-unpassed p n old.made few m) s)
-  stays-valid (outgoing.resends u now c) t m f = valid-to _ f.step.sender
-      (resent-valid (came_in dropped old) (passed_in old.made) u now c old.sending.sender.flight s)
-  stays-valid outgoing.marks t m f = valid-to _ f.step.sender (marked-valid (came_in dropped old) (passed_in old.made) old.sending.sender.flight s)
-  stays-valid (outgoing.misses count) t m f = valid-to _ f.step.sender
-      (missed-valid (came_in dropped old) (passed_in old.made) count old.sending.sender.flight s)
-  stays-valid (outgoing.abandons u a) t m f =
-      valid-to _ f.exact
-      (abandoned-valid (came_in dropped old) (passed_in old.made)
-      (message_to_abandon u old.sending.sender.flight) old.sending.sender.flight.next_tsn old.sending.sender.flight.queue s)
-  stays-valid (outgoing.expires now None) t m f = valid-to _ (f.exact.1.1 refl) s
-  stays-valid (outgoing.expires now (Some e)) t m f = by (expiring now old.sending.sender.flight.queue) f.exact.0 f.exact.1.0
-    where
-      by : (o : Option ChunkPayloadData) → true ≡ is_some o → IfSome o (λ c. new.sending.sender ≡ after_expire c e.bytes now old.sending.sender) → StillValid
-      by None k i = absurd (not_both (sym k))
-      by (Some c) k i = valid-to _ i (expired-valid (came_in dropped old) (passed_in old.made) (Some c) old.sending.sender.flight.queue s)
-  stays-valid (outgoing.expires_tail now None) t m f = valid-to _ (f.exact.1 refl) s
-  stays-valid (outgoing.expires_tail now (Some a)) t m f =
-      valid-to _ f.exact.0
-      (abandoned-valid (came_in dropped old) (passed_in old.made) (message_of
-      (expiring_tail now old.sending.sender.flight.queue)) old.sending.sender.flight.next_tsn old.sending.sender.flight.queue s)
-  stays-valid (outgoing.expires_late now gone) t m f = valid-to _ f.exact
-      (each-valid (came_in dropped old) (passed_in old.made) (late_order now old.sending.sender.flight) old.sending.sender.flight s)
-  stays-valid (outgoing.expires_rexmit gone) t m f = valid-to _ f.exact
-      (each-valid (came_in dropped old) (passed_in old.made) (worn_order old.sending.sender.flight) old.sending.sender.flight s)
-  stays-valid (outgoing.takes_sack k gone) t m f = valid-to _ f.exact
-      (sack-valid (came_in dropped old) (passed_in old.made) k old.sending.sender.flight (answered t k f.handed) s)
-  stays-valid call t m f = valid-to _ f.step.sender s
+  stays-valid call t m f =
+      let x = changes old.sending.sender new.sending.sender call refl f.step.sender f.exact in
+      subst (λ (g : Flight). IsValid (came_in dropped old) (passed_in old.made) g.queue) (sym x.flight)
+      (changed-valid call (λ k gone e. subst (λ c. IsReported c old) e f.handed) t x.change)
 
   -- and with what it passes itself
   abbrev IsValidWith : List Made → Type 0
@@ -151,19 +137,4 @@ module _ (dropped : ℕ → Bool) (p n : ℕ) (old new : Session) (few : n < 2 ^
       (stays-valid (outgoing.forwards u c) t m f)
   stays-valid-with (outgoing.forwards_within bytes c) t m f = passing c f.exact
       (passable-end p n old.sending.sender.flight h few c.new_cumulative_tsn f.accepted.0 f.accepted.1) (stays-valid (outgoing.forwards_within bytes c) t m f)
-  stays-valid-with (outgoing.resends u now c) t m f = stays-valid (outgoing.resends u now c) t m f
-  stays-valid-with outgoing.marks t m f = stays-valid outgoing.marks t m f
-  stays-valid-with (outgoing.misses count) t m f = stays-valid (outgoing.misses count) t m f
-  stays-valid-with (outgoing.sets_size size) t m f = stays-valid (outgoing.sets_size size) t m f
-  stays-valid-with (outgoing.sets_low stream bytes) t m f = stays-valid (outgoing.sets_low stream bytes) t m f
-  stays-valid-with (outgoing.reserves more) t m f = stays-valid (outgoing.reserves more) t m f
-  stays-valid-with (outgoing.opens stream) t m f = stays-valid (outgoing.opens stream) t m f
-  stays-valid-with (outgoing.sets_mode stream unordered reliability value) t m f = stays-valid (outgoing.sets_mode stream unordered reliability value) t m f
-  stays-valid-with (outgoing.writes stream ppi bytes) t m f = stays-valid (outgoing.writes stream ppi bytes) t m f
-  stays-valid-with (outgoing.starts now) t m f = stays-valid (outgoing.starts now) t m f
-  stays-valid-with (outgoing.abandons u a) t m f = stays-valid (outgoing.abandons u a) t m f
-  stays-valid-with (outgoing.expires now e) t m f = stays-valid (outgoing.expires now e) t m f
-  stays-valid-with (outgoing.expires_tail now a) t m f = stays-valid (outgoing.expires_tail now a) t m f
-  stays-valid-with (outgoing.expires_late now gone) t m f = stays-valid (outgoing.expires_late now gone) t m f
-  stays-valid-with (outgoing.expires_rexmit gone) t m f = stays-valid (outgoing.expires_rexmit gone) t m f
-  stays-valid-with (outgoing.takes_sack k gone) t m f = stays-valid (outgoing.takes_sack k gone) t m f
+  stays-valid-with call t m f = stays-valid call t m f

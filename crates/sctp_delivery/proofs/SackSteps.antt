@@ -1,44 +1,42 @@
 -- A session in which few TSNs are given out, call by call of the sender: what is given out, and what is made of it.
-use Rattle.std.proofs.Common.{◌≡◌, ℕ, ◌+◌, ◌-◌, ◌<◌, ◌≤◌, ◌^◌, Bool, true, false, List, [], ◌∷◌, ◌++◌, length, length-append, map, Option, Some, None, refl, ap}
-use Rattle.std.proofs.Common.{sym, subst, ◌∙◌, arith}
-use Rattle.std.specs.Prelude.{if◌then◌else◌, ◌||◌, not, is_some, nat_le, nat_lt, option_map, option_to_list, IfSome}
-use Rattle.std.specs.List.{filter, list_any}
+use Rattle.std.proofs.Common.{◌≡◌, ℕ, ◌+◌, ◌-◌, ◌<◌, ◌≤◌, ◌^◌, Bool, true, false, List, [], ◌∷◌, length, Option, Some, None, refl, ap, sym, subst, ◌∙◌, arith}
+use Rattle.std.specs.Prelude.{if◌then◌else◌, ◌||◌, is_some, nat_le, nat_lt, option_map}
+use Rattle.std.specs.List.{list_any}
 use Rattle.std.proofs.lemmas.Bool.Decides.{nat_tests}
-use Rattle.std.proofs.lemmas.List.{length-map}
 use Rattle.std.proofs.lemmas.Option.{none-some}
 use Rattle.sctp_util.specs.Serial.{distance, at_or_before, comes_before}
+use Rattle.sctp_util.specs.Lists.{change_where}
 use Rattle.sctp_util.proofs.More.{not_both}
 use Rattle.sctp_util.proofs.Round.{tsn, distance-tsn}
 use Rattle.sctp_data.specs.declared.chunk.chunk_payload_data.ChunkPayloadData.{ChunkPayloadData}
 use Rattle.sctp_data.specs.SelectiveAck.{Sack}
-use Rattle.sctp_outbound.specs.Marks.{is_outstanding, with_retransmit}
-use Rattle.sctp_outbound.specs.outbound_queue.OutboundQueue.{Outbound, all_started, as_sent, expired_of, expiring, expiring_tail, is_late, late_tsns}
-use Rattle.sctp_outbound.specs.outbound_queue.OutboundQueue.{message_of, sent_next, with_message}
+use Rattle.sctp_outbound.specs.outbound_queue.OutboundQueue.{Outbound, all_started, as_sent, expired_of, sent_next, with_message, with_inflight}
 use Rattle.sctp_outbound.specs.payload_queue.PayloadQueue as payload
 use Rattle.sctp_outbound.specs.pending_queue.PendingQueue.{next_pending}
 use Rattle.sctp_outbound.proofs.lemmas.outbound_queue.Outbounds.{peeked_all_started}
 use Rattle.sctp_serial.specs.DataChunks.{following_tsn, has_tsn, tsns}
-use Rattle.sctp_stream.specs.declared.stream.StreamState.{StreamState}
-use Rattle.sctp_sender.specs.declared.sender.refusal.SenderRefusal.TheVariants.{MessageTooLarge, QueueFull, StreamUnknown}
-use Rattle.sctp_sender.specs.Flight.{Flight, after_abandonment, after_sack, is_outdated, message_to_abandon, next_after_send, take_sack, with_queue, with_room}
-use Rattle.sctp_sender.specs.Late.{abandoned_each, late_order, with_tail, worn_order}
+use Rattle.sctp_sender.specs.declared.sender.flight.Released.{Released}
+use Rattle.sctp_sender.specs.Flight.{Flight, after_abandonment, after_sack, is_outdated, next_after_send, take_sack, with_queue, with_room}
+use Rattle.sctp_sender.specs.Late.{abandoned_each}
 use Rattle.sctp_sender.specs.Outgoing.{fragments_with_mode}
-use Rattle.sctp_sender.specs.Resending.{after_misses, all_marked, can_miss, count_again, is_worn, missed, resent_at, sent_again, worn_tsns}
-use Rattle.sctp_sender.specs.Sender.{Transmission, after_expire, is_full, stream_of, write_refusal}
+use Rattle.sctp_sender.specs.Resending.{after_misses, can_miss, missed}
+use Rattle.sctp_sender.specs.Sender.{Transmission, write_refusal, stream_of}
 use Rattle.sctp_sender.proofs.Flights.{started-inflight}
-use Rattle.sctp_sender.proofs.Lates.{at-most-one}
 use Rattle.sctp_sender.proofs.MarkedRuns.{part-run}
 use Rattle.sctp_sender.proofs.Runs.{changed-run}
 use Rattle.sctp_delivery.specs.Sacks.{passes, was_passed, was_taken}
 use Rattle.sctp_delivery.specs.SenderCalls as outgoing
 use Rattle.sctp_delivery.specs.SenderCalls.{Made, SenderCall, data_chunk, forward_tsn, made_after, with_chunk}
-use Rattle.sctp_delivery.specs.Session.{SenderFollows, Session}
+use Rattle.sctp_delivery.specs.Session.{SenderFollows, Session, IsReported}
 use Rattle.sctp_delivery.proofs.Every.{Every, every-contained, every-found, every-of}
 use Rattle.sctp_delivery.proofs.GivenTsns.{IsNumbered, Raises, given, raises-abandoned, raises-each, raises-none, raises-sent, taken-numbered}
 use Rattle.sctp_delivery.proofs.ArrivedTsns.{IsArrived}
 use Rattle.sctp_delivery.proofs.PassedTsns.{flight-given, passable-end, passable-skip}
 use Rattle.sctp_delivery.proofs.ReportedTsns.{IsTruthful}
 use Rattle.sctp_delivery.proofs.TsnPlaces.{IsGiven, at-or-before, before, more-given, next-place}
+use Rattle.sctp_delivery.proofs.Changes.{Change, all_start, acknowledges, changes, each_leaves, flight_after, front_expires, more_room, nothing, one_leaves}
+use Rattle.sctp_delivery.proofs.Changes.{some_marked, some_missed}
+use Rattle.sctp_delivery.proofs.Writing.{accepted-stream}
 
 -- ## What is known
 
@@ -105,14 +103,6 @@ moved-none p n kn f g same settled rises h k =
     let z : n + distance f.next_tsn g.next_tsn ≡ n = omega (arith, e) in
     record { numbered = λ few. subst (λ k. IsNumbered p k g) (sym z) k; settled = settled; rises = rises }
 
-fewer : {A : Type 0} (q : A → Bool) (xs : List A) → length (filter q xs) ≤ length xs
-fewer q [] = omega arith
-fewer q (x ∷ xs) = by (q x) (fewer q xs)
-  where
-    by : (b : Bool) → length (filter q xs) ≤ length xs → length (if b then x ∷ filter q xs else filter q xs) ≤ length (x ∷ xs)
-    by true ih = omega (arith, ih)
-    by false ih = omega (arith, ih)
-
 same-moved : (p n : ℕ) (kn : ℕ → Bool) (f g : Flight) → tsns g.queue.inflight.chunks ≡ tsns f.queue.inflight.chunks → g.next_tsn ≡ f.next_tsn
     → g.acked_tsn ≡ f.acked_tsn → IsNumbered p n f → IsMoved p n kn f g
 same-moved p n kn f g same next acked h = moved p n 0 kn f g (omega arith) h (raises-none p 0 f g same next acked)
@@ -127,18 +117,7 @@ message-inflight (c ∷ cs) q = refl
 
 -- a stream that a write is accepted for is open
 pub written-open : (stream len : ℕ) (t : Transmission) → write_refusal stream len t ≡ None → stream_of stream t ≡ None → ⊥
-written-open stream len t none closed = none-some StreamUnknown
-    (sym none ∙ ap (λ o. if not (is_some o) then Some StreamUnknown else
-    (if nat_lt t.max_message_size len then Some MessageTooLarge else (if is_full len t then Some QueueFull else None))) closed)
-
-pub order-short : (q : ChunkPayloadData → Bool) (f : Flight) (o : Option ℕ) → length
-    (option_to_list o ++ map (λ (c : ChunkPayloadData). c.tsn) (filter q f.queue.inflight.chunks)) ≤ 1 + length f.queue.inflight.chunks
-order-short q f o =
-    let a = length-append (option_to_list o) (map (λ (c : ChunkPayloadData). c.tsn) (filter q f.queue.inflight.chunks)) in
-    let b = at-most-one o in
-    let d = length-map (filter q f.queue.inflight.chunks) (λ (c : ChunkPayloadData). c.tsn) in
-    let e = fewer q f.queue.inflight.chunks in
-    omega (arith, a, b, d, e)
+written-open stream len t none closed = let l = accepted-stream stream len t none in none-some l.0 (sym closed ∙ l.1)
 
 each-moved : (p n : ℕ) (kn : ℕ → Bool) (f : Flight) (ts : List ℕ) → n < 2 ^ 31 → length ts ≤ 1 + length f.queue.inflight.chunks → IsNumbered p n f
     → IsMoved p n kn f (abandoned_each ts f)
@@ -148,7 +127,7 @@ each-moved p n kn f ts few short h = let total = h.total in moved p n (length ts
 abandoned-moved : (p n : ℕ) (kn : ℕ → Bool) (o : Option ℕ) (f : Flight) → IsNumbered p n f → IsMoved p n kn f (after_abandonment o f)
 abandoned-moved p n kn o f h = moved p n 1 kn f (after_abandonment o f) (omega arith) h (raises-abandoned p 1 o f (omega arith))
 
-sack-next : (k : Sack) (f : Flight) → (after_sack k f).next_tsn ≡ f.next_tsn
+pub sack-next : (k : Sack) (f : Flight) → (after_sack k f).next_tsn ≡ f.next_tsn
 sack-next k f = by (is_outdated k f)
   where
     by : (b : Bool) → (if b then f else take_sack k f).next_tsn ≡ f.next_tsn
@@ -183,72 +162,43 @@ module _ (p n : ℕ) (kn : ℕ → Bool) (old new : Session) (few : n < 2 ^ 31) 
   abbrev Moves : Type 0
   Moves = IsMoved p n kn old.sending.sender.flight new.sending.sender.flight
 
-  stays : new.sending.sender.flight ≡ old.sending.sender.flight → Moves
-  stays e = moved-to p n kn (flight_of old) (flight_of new) (flight_of old) e (same-moved p n kn (flight_of old) (flight_of old) refl refl refl h)
+  same-queue : (q : Outbound) → tsns q.inflight.chunks ≡ tsns (flight_of old).queue.inflight.chunks
+      → IsMoved p n kn (flight_of old) (with_queue (flight_of old) q)
+  same-queue q same = same-moved p n kn (flight_of old) (with_queue (flight_of old) q) same refl refl h
 
-  same-queue : (q : Outbound) → tsns q.inflight.chunks ≡ tsns (flight_of old).queue.inflight.chunks → flight_of new ≡ with_queue (flight_of old) q → Moves
-  same-queue q same e = moved-to p n kn (flight_of old) (flight_of new) (with_queue (flight_of old) q) e
-      (same-moved p n kn (flight_of old) (with_queue (flight_of old) q) same refl refl h)
-
-  abandons-message : (o : Option ℕ) → flight_of new ≡ after_abandonment o (flight_of old) → Moves
-  abandons-message o e = moved-to p n kn (flight_of old) (flight_of new) (after_abandonment o (flight_of old)) e (abandoned-moved p n kn o (flight_of old) h)
-
-  abandons-each : (ts : List ℕ) → length ts ≤ 1 + length (flight_of old).queue.inflight.chunks → flight_of new ≡ abandoned_each ts (flight_of old) → Moves
-  abandons-each ts short e = moved-to p n kn (flight_of old) (flight_of new) (abandoned_each ts (flight_of old)) e
-      (each-moved p n kn (flight_of old) ts few short h)
+  moved-by : (call : SenderCall) → ((k : Sack) (gone : List Released) → call ≡ outgoing.takes_sack k gone → IsTruthful p n kn k)
+      → (c : Change call old.sending.sender) → IsMoved p n kn (flight_of old) (flight_after call old.sending.sender c)
+  moved-by call t nothing = same-queue (flight_of old).queue refl
+  moved-by call t (all_start now) =
+      same-queue (all_started now (flight_of old).queue) (ap (λ (w : payload.Payload). tsns w.chunks) (started-inflight now (flight_of old).queue))
+  moved-by call t (more_room count) = same-queue (with_room count (flight_of old).queue) refl
+  moved-by call t (some_marked q g k) =
+      same-queue (with_inflight (flight_of old).queue (change_where q g (flight_of old).queue.inflight.chunks))
+      (changed-run q g (λ c. ap (λ (d : ChunkPayloadData). d.tsn) (k c)) (flight_of old).queue.inflight.chunks)
+  moved-by call t (some_missed count) =
+      same-queue (after_misses count (flight_of old)).queue (part-run can_miss missed (λ d. refl) (flight_of old).queue.inflight.chunks count)
+  moved-by call t (one_leaves o e found) = abandoned-moved p n kn o (flight_of old) h
+  moved-by call t (each_leaves ts short e) = each-moved p n kn (flight_of old) ts few short h
+  moved-by call t (front_expires now c found e) = same-queue (expired_of (Some c) (flight_of old).queue) refl
+  moved-by call t (acknowledges k gone e) =
+      let truth = t k gone e in
+      moved-none p n kn (flight_of old) (after_sack k (flight_of old)) (sack-next k (flight_of old)) (sack-settled p n kn k (flight_of old) truth)
+      (sack-rises p n kn k (flight_of old) few truth) h (taken-numbered p n truth.place k (flight_of old) few truth.within truth.is h)
 
   pub moves : (call : SenderCall) → Every (IsTruthful p n kn) old.sacks → SenderFollows call old new → Moves
-  moves (outgoing.forwards u c) t f = stays (ap (λ (u : Transmission). u.flight) f.exact)
-  moves (outgoing.forwards_within bytes c) t f = stays (ap (λ (u : Transmission). u.flight) f.exact)
-  moves (outgoing.writes stream ppi []) t f = stays (ap (λ (u : Transmission). u.flight) (f.exact.0 refl))
-  moves (outgoing.writes stream ppi (b ∷ bs)) t f = by (stream_of stream old.sending.sender) refl
-    where
-      by : (o : Option StreamState) → stream_of stream old.sending.sender ≡ o → Moves
-      by None e = absurd (written-open stream (length (b ∷ bs)) old.sending.sender f.accepted e)
-      by (Some l) e =
-          let q = with_message (fragments_with_mode l ppi (b ∷ bs)) (flight_of old).queue in
-          same-queue q (ap (λ (w : payload.Payload). tsns w.chunks) (message-inflight (fragments_with_mode l ppi (b ∷ bs)) (flight_of old).queue))
-          (ap (λ (u : Transmission). u.flight) (f.exact.1 (omega arith) l e))
-  moves (outgoing.starts now) t f =
-      same-queue (all_started now (flight_of old).queue) (ap (λ (w : payload.Payload). tsns w.chunks) (started-inflight now (flight_of old).queue))
-      (ap (λ (u : Transmission). u.flight) f.step.sender)
-  moves (outgoing.reserves more) t f = same-queue (with_room more (flight_of old).queue) refl (ap (λ (u : Transmission). u.flight) f.step.sender)
+  moves (outgoing.writes stream ppi (b ∷ bs)) t f =
+      let l = accepted-stream stream (length (b ∷ bs)) old.sending.sender f.accepted in
+      let cs = fragments_with_mode l.0 ppi (b ∷ bs) in
+      moved-to p n kn (flight_of old) (flight_of new) _ (ap (λ (u : Transmission). u.flight) (f.exact.1 (omega arith) l.0 l.1))
+      (same-queue (with_message cs (flight_of old).queue) (ap (λ (w : payload.Payload). tsns w.chunks) (message-inflight cs (flight_of old).queue)))
   moves (outgoing.sends now) t f =
       let k = record (flight_of old) { queue = sent_next (flight_of old).queue (flight_of old).next_tsn now; next_tsn = next_after_send (flight_of old) } in
       moved-to p n kn (flight_of old) (flight_of new) k (ap (λ (u : Transmission). u.flight) f.exact)
       (moved p n 1 kn (flight_of old) k (omega arith) h (raises-sent p 1 now (flight_of old) (omega arith)))
-  moves (outgoing.resends u now c) t f = same-queue (resent_at u now c (flight_of old)).queue
-      (changed-run (has_tsn u) (sent_again (count_again c) now) (λ d. refl) (flight_of old).queue.inflight.chunks)
-      (ap (λ (u : Transmission). u.flight) f.step.sender)
-  moves outgoing.marks t f = same-queue (all_marked (flight_of old)).queue
-      (changed-run is_outstanding (with_retransmit true) (λ d. refl) (flight_of old).queue.inflight.chunks)
-      (ap (λ (u : Transmission). u.flight) f.step.sender)
-  moves (outgoing.misses count) t f = same-queue (after_misses count (flight_of old)).queue
-      (part-run can_miss missed (λ d. refl) (flight_of old).queue.inflight.chunks count) (ap (λ (u : Transmission). u.flight) f.step.sender)
-  moves (outgoing.abandons u a) t f = abandons-message (message_to_abandon u (flight_of old)) (ap (λ (u : Transmission). u.flight) f.exact)
-  moves (outgoing.expires now None) t f = stays (ap (λ (u : Transmission). u.flight) (f.exact.1.1 refl))
-  moves (outgoing.expires now (Some e)) t f = by (expiring now (flight_of old).queue) f.exact.0 f.exact.1.0
-    where
-      by : (o : Option ChunkPayloadData) → true ≡ is_some o → IfSome o (λ c. new.sending.sender ≡ after_expire c e.bytes now old.sending.sender) → Moves
-      by None s i = absurd (not_both (sym s))
-      by (Some c) s i = same-queue (expired_of (Some c) (flight_of old).queue) refl (ap (λ (u : Transmission). u.flight) i)
-  moves (outgoing.expires_tail now None) t f = stays (ap (λ (u : Transmission). u.flight) (f.exact.1 refl))
-  moves (outgoing.expires_tail now (Some a)) t f = abandons-message (message_of (expiring_tail now (flight_of old).queue))
-      (ap (λ (u : Transmission). u.flight) f.exact.0)
-  moves (outgoing.expires_late now gone) t f =
-      abandons-each (late_order now (flight_of old)) (order-short (is_late now (flight_of old).queue.pending) (flight_of old)
-      (with_tail (late_tsns now (flight_of old).queue) (flight_of old))) (ap (λ (u : Transmission). u.flight) f.exact)
-  moves (outgoing.expires_rexmit gone) t f =
-      abandons-each (worn_order (flight_of old)) (order-short is_worn (flight_of old) (with_tail (worn_tsns (flight_of old)) (flight_of old)))
-      (ap (λ (u : Transmission). u.flight) f.exact)
-  moves (outgoing.takes_sack k gone) t f =
-      let truth = every-contained (IsTruthful p n kn) old.sacks k f.handed t in
-      let g = after_sack k (flight_of old) in
-      moved-to p n kn (flight_of old) (flight_of new) g (ap (λ (u : Transmission). u.flight) f.exact)
-      (moved-none p n kn (flight_of old) g (sack-next k (flight_of old)) (sack-settled p n kn k (flight_of old) truth)
-      (sack-rises p n kn k (flight_of old) few truth) h
-      (taken-numbered p n truth.place k (flight_of old) few truth.within truth.is h))
-  moves call t f = stays (ap (λ (u : Transmission). u.flight) f.step.sender)
+  moves call t f =
+      let x = changes old.sending.sender new.sending.sender call refl f.step.sender f.exact in
+      moved-to p n kn (flight_of old) (flight_of new) _ x.flight
+      (moved-by call (λ k gone e. every-contained (IsTruthful p n kn) old.sacks k (subst (λ c. IsReported c old) e f.handed) t) x.change)
 
 -- ## What they make
 
@@ -298,5 +248,4 @@ module _ (p n : ℕ) (old new : Session) (few : n < 2 ^ 31) (h : IsNumbered p n 
         (passable-end p n (flight_of old) h few c.new_cumulative_tsn f.accepted.0 f.accepted.1).given,
     kept-given old.made m,
   )
-  made-given outgoing.marks m f = kept-given old.made m
   made-given call m f = kept-given old.made m

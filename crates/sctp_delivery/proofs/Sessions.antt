@@ -23,9 +23,8 @@ use Rattle.sctp_delivery.proofs.SameData.{is_same, same-data, same-itself}
 use Rattle.sctp_delivery.specs.ReceiverCalls as incoming
 use Rattle.sctp_delivery.specs.ReceiverCalls.{ReceiverCall}
 use Rattle.sctp_delivery.specs.SenderCalls as outgoing
-use Rattle.sctp_delivery.specs.SenderCalls.{Made, SenderCall, Write, abandons, data_chunk, expires, expires_late, expires_rexmit, expires_tail, forward_tsn}
-use Rattle.sctp_delivery.specs.SenderCalls.{forwards, forwards_within, made_after, marks, misses, next_chunk, opens, resends, reserves, sends, sets_low}
-use Rattle.sctp_delivery.specs.SenderCalls.{sets_mode, sets_size, starts, takes_sack, with_chunk, writes, written_after}
+use Rattle.sctp_delivery.specs.SenderCalls.{Made, SenderCall, Write, data_chunk, forward_tsn, forwards, forwards_within, made_after, next_chunk, opens, resends}
+use Rattle.sctp_delivery.specs.SenderCalls.{sends, with_chunk, writes, written_after}
 use Rattle.sctp_delivery.specs.Session.{AfterEachSession, AreMade, AreMessages, AreRuns, Call, IsAccounted, ReceiverFollows, RunsTo, SenderFollows, Session}
 use Rattle.sctp_delivery.specs.Session.{at_start, bytes_written, of_receiver, of_sender}
 

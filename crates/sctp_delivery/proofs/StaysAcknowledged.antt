@@ -1,39 +1,40 @@
 -- A chunk in flight that is acknowledged stays so while it is in flight (RFC 4960 6.2.1): marks keep it so, and a further chunk has a TSN
 -- of its own.
-use Rattle.std.proofs.Common.{◌≡◌, ℕ, zero, suc, ◌+◌, ◌++◌, ◌<◌, ◌≤◌, ◌^◌, Bool, true, false, List, [], ◌∷◌, length, take, drop, get_or, Option, Some}
-use Rattle.std.proofs.Common.{None, refl, ap, sym, subst, ◌∙◌, arith}
-use Rattle.std.specs.Prelude.{if◌then◌else◌, not, is_some, IfSome, Contains}
+use Rattle.std.proofs.Common.{◌≡◌, ℕ, zero, suc, ◌+◌, ◌++◌, ◌<◌, ◌≤◌, ◌^◌, Bool, true, false, List, [], ◌∷◌, length, take, drop, get_or, Option, Some, None}
+use Rattle.std.proofs.Common.{refl, ap, sym, subst, ◌∙◌, arith}
+use Rattle.std.specs.Prelude.{if◌then◌else◌, not, Contains}
 use Rattle.sctp_util.specs.Lists.{change_where}
 use Rattle.sctp_util.specs.Serial.{at_or_before}
-use Rattle.sctp_util.proofs.More.{not_both}
 use Rattle.sctp_util.proofs.Round.{tsn}
 use Rattle.sctp_data.specs.declared.chunk.chunk_payload_data.ChunkPayloadData.{ChunkPayloadData}
 use Rattle.sctp_data.specs.SelectiveAck.{Sack}
-use Rattle.sctp_outbound.specs.Marks.{as_abandoned, as_acknowledged, is_of, is_outstanding, with_retransmit}
-use Rattle.sctp_outbound.specs.outbound_queue.OutboundQueue.{Outbound, abandoned_of, all_started, as_sent, expiring, expiring_tail, message_of, sent_next}
-use Rattle.sctp_outbound.specs.outbound_queue.OutboundQueue.{is_late, late_tsns, sent_of, terminal_chunk, with_terminal_chunk}
+use Rattle.sctp_outbound.specs.Marks.{as_abandoned, as_acknowledged, is_of}
+use Rattle.sctp_outbound.specs.outbound_queue.OutboundQueue.{Outbound, abandoned_of, all_started, as_sent, sent_next, sent_of, terminal_chunk}
+use Rattle.sctp_outbound.specs.outbound_queue.OutboundQueue.{with_terminal_chunk}
 use Rattle.sctp_outbound.specs.payload_queue.PayloadQueue as payload
 use Rattle.sctp_outbound.specs.pending_queue.PendingQueue.{last_removed, next_pending}
-use Rattle.sctp_serial.specs.DataChunks.{chunk_before, has_tsn}
-use Rattle.sctp_stream.specs.declared.stream.StreamState.{StreamState}
+use Rattle.sctp_serial.specs.DataChunks.{chunk_before}
 use Rattle.sctp_sender.specs.Flight.{Flight, after_sack, is_outdated, message_to_abandon, reports_anew, take_sack}
-use Rattle.sctp_sender.specs.Late.{abandoned_at, abandoned_each, late_order, with_tail, worn_order}
+use Rattle.sctp_sender.specs.Late.{abandoned_at, abandoned_each}
 use Rattle.sctp_sender.specs.Outgoing.{fragments_with_mode}
-use Rattle.sctp_sender.specs.Resending.{can_miss, count_again, is_worn, missed, sent_again, worn_tsns}
-use Rattle.sctp_sender.specs.Sender.{Transmission, after_expire, stream_of}
+use Rattle.sctp_sender.specs.Resending.{can_miss, missed}
+use Rattle.sctp_sender.specs.Sender.{Transmission}
 use Rattle.sctp_sender.proofs.Flights.{started-inflight}
 use Rattle.sctp_sender.proofs.Runs.{tsn-at}
 use Rattle.sctp_delivery.specs.Sacks.{AfterEachSessionOfFewTsns, StaysAcknowledged, tsns_given}
 use Rattle.sctp_delivery.specs.SenderCalls as outgoing
 use Rattle.sctp_delivery.specs.SenderCalls.{SenderCall}
 use Rattle.sctp_delivery.specs.Session.{SenderFollows, Session, at_start, of_receiver, of_sender}
-use Rattle.sctp_delivery.proofs.Every.{Every, every-changed, every-contained, every-inserted, every-joined, every-left, every-of-all}
-use Rattle.sctp_delivery.proofs.Every.{every-passing, every-taken}
+use Rattle.sctp_delivery.proofs.Every.{Every, every-changed, every-contained, every-inserted, every-joined, every-left, every-of-all, every-passing}
+use Rattle.sctp_delivery.proofs.Every.{every-taken}
 use Rattle.sctp_delivery.proofs.GivenTsns.{IsNumbered, raises-abandoned}
 use Rattle.sctp_delivery.proofs.PassedTsns.{flight-given}
 use Rattle.sctp_delivery.proofs.SackLaws.{IsInStep, in-step}
-use Rattle.sctp_delivery.proofs.SackSteps.{flight_of, message-inflight, order-short, written-open}
+use Rattle.sctp_delivery.proofs.SackSteps.{flight_of, message-inflight}
 use Rattle.sctp_delivery.proofs.TsnPlaces.{IsGiven, base, same-place, tsn-small}
+use Rattle.sctp_delivery.proofs.Changes.{Change, all_start, acknowledges, changes, each_leaves, flight_after, front_expires, more_room, nothing, one_leaves}
+use Rattle.sctp_delivery.proofs.Changes.{some_marked, some_missed}
+use Rattle.sctp_delivery.proofs.Writing.{accepted-stream}
 
 -- ## Of chunks that were in flight
 
@@ -162,55 +163,33 @@ module _ (p n : ℕ) (old new : Session) (few : n < 2 ^ 31) (h : IsNumbered p n 
       let total = h.total in
       abandoned-each (flight_of old).queue.inflight.chunks p n given ts (flight_of old) (n + 1) (omega arith) (omega (arith, few, short, total)) h.next_is first
 
+  changed-by : (call : SenderCall) (c : Change call old.sending.sender)
+      → AllStaySo (flight_of old).queue.inflight.chunks (flight_after call old.sending.sender c).queue
+  changed-by call nothing = first
+  changed-by call (all_start now) =
+      subst (λ (w : payload.Payload). Every (StaysSo (flight_of old).queue.inflight.chunks) w.chunks) (sym (started-inflight now (flight_of old).queue)) first
+  changed-by call (more_room count) = first
+  changed-by call (some_marked p f k) =
+      changed (flight_of old).queue.inflight.chunks p f (λ c. ap (λ (d : ChunkPayloadData). d.tsn) (k c))
+      (λ c a. ap (λ (d : ChunkPayloadData). d.acked) (k c) ∙ a) (flight_of old).queue.inflight.chunks first
+  changed-by call (some_missed count) = missed-stay (flight_of old).queue.inflight.chunks count (flight_of old).queue.inflight.chunks first
+  changed-by call (one_leaves o e found) =
+      abandoned (flight_of old).queue.inflight.chunks o (flight_of old).next_tsn (flight_of old).queue next first
+  changed-by call (each_leaves ts short e) = each ts short
+  changed-by call (front_expires now c found e) = first
+  changed-by call (acknowledges k gone e) = acknowledged (flight_of old).queue.inflight.chunks k (flight_of old) first
+
   stay : (call : SenderCall) → SenderFollows call old new → Stay
-  stay (outgoing.forwards u c) f = stay-to _ f.exact first
-  stay (outgoing.forwards_within bytes c) f = stay-to _ f.exact first
-  stay (outgoing.writes stream ppi []) f = stay-to _ (f.exact.0 refl) first
-  stay (outgoing.writes stream ppi (b ∷ bs)) f = by (stream_of stream old.sending.sender) refl
-    where
-      by : (o : Option StreamState) → stream_of stream old.sending.sender ≡ o → Stay
-      by None e = absurd (written-open stream (length (b ∷ bs)) old.sending.sender f.accepted e)
-      by (Some l) e =
-          stay-to _ (f.exact.1 (omega arith) l e)
-          (subst (λ (w : payload.Payload). Every (StaysSo (flight_of old).queue.inflight.chunks) w.chunks)
-          (sym (message-inflight (fragments_with_mode l ppi (b ∷ bs)) (flight_of old).queue)) first)
-  stay (outgoing.starts now) f =
-      stay-to _ f.step.sender
-      (subst (λ (w : payload.Payload). Every (StaysSo (flight_of old).queue.inflight.chunks) w.chunks) (sym (started-inflight now (flight_of old).queue)) first)
+  stay (outgoing.writes stream ppi (b ∷ bs)) f =
+      let l = accepted-stream stream (length (b ∷ bs)) old.sending.sender f.accepted in
+      stay-to _ (f.exact.1 (omega arith) l.0 l.1)
+      (subst (λ (w : payload.Payload). Every (StaysSo (flight_of old).queue.inflight.chunks) w.chunks)
+      (sym (message-inflight (fragments_with_mode l.0 ppi (b ∷ bs)) (flight_of old).queue)) first)
   stay (outgoing.sends now) f =
       stay-to _ f.exact (sent (flight_of old).queue.inflight.chunks (flight_of old).queue (flight_of old).next_tsn now next first)
-  stay (outgoing.resends u now c) f =
-      stay-to _ f.step.sender
-      (changed (flight_of old).queue.inflight.chunks (has_tsn u) (sent_again (count_again c) now) (λ d. refl) (λ d a. a)
-      (flight_of old).queue.inflight.chunks first)
-  stay outgoing.marks f =
-      stay-to _ f.step.sender
-      (changed (flight_of old).queue.inflight.chunks is_outstanding (with_retransmit true) (λ d. refl) (λ d a. a) (flight_of old).queue.inflight.chunks first)
-  stay (outgoing.misses count) f =
-      stay-to _ f.step.sender (missed-stay (flight_of old).queue.inflight.chunks count (flight_of old).queue.inflight.chunks first)
-  stay (outgoing.abandons u a) f =
-      stay-to _ f.exact
-      (abandoned (flight_of old).queue.inflight.chunks (message_to_abandon u (flight_of old)) (flight_of old).next_tsn (flight_of old).queue next first)
-  stay (outgoing.expires now None) f = stay-to _ (f.exact.1.1 refl) first
-  stay (outgoing.expires now (Some e)) f = by (expiring now (flight_of old).queue) f.exact.0 f.exact.1.0
-    where
-      by : (o : Option ChunkPayloadData) → true ≡ is_some o → IfSome o (λ c. new.sending.sender ≡ after_expire c e.bytes now old.sending.sender) → Stay
-      by None k i = absurd (not_both (sym k))
-      by (Some c) k i = stay-to _ i first
-  stay (outgoing.expires_tail now None) f = stay-to _ (f.exact.1 refl) first
-  stay (outgoing.expires_tail now (Some a)) f =
-      stay-to _ f.exact.0
-      (abandoned (flight_of old).queue.inflight.chunks (message_of (expiring_tail now (flight_of old).queue)) (flight_of old).next_tsn
-      (flight_of old).queue next first)
-  stay (outgoing.expires_late now gone) f =
-      stay-to _ f.exact
-      (each (late_order now (flight_of old)) (order-short (is_late now (flight_of old).queue.pending) (flight_of old)
-      (with_tail (late_tsns now (flight_of old).queue) (flight_of old))))
-  stay (outgoing.expires_rexmit gone) f =
-      stay-to _ f.exact
-      (each (worn_order (flight_of old)) (order-short is_worn (flight_of old) (with_tail (worn_tsns (flight_of old)) (flight_of old))))
-  stay (outgoing.takes_sack k gone) f = stay-to _ f.exact (acknowledged (flight_of old).queue.inflight.chunks k (flight_of old) first)
-  stay call f = stay-to _ f.step.sender first
+  stay call f =
+      let x = changes old.sending.sender new.sending.sender call refl f.step.sender f.exact in
+      subst (λ (g : Flight). AllStaySo (flight_of old).queue.inflight.chunks g.queue) (sym x.flight) (changed-by call x.change)
 
 -- ## The law
 

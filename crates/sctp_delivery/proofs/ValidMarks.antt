@@ -3,20 +3,22 @@ use Rattle.std.proofs.Common.{◌≡◌, ℕ, Bool, true, false, List, length, O
 use Rattle.std.specs.Prelude.{◌||◌, not}
 use Rattle.sctp_util.proofs.Cases.{or-left, or-right, or-split}
 use Rattle.sctp_util.proofs.More.{both, not_both}
+use Rattle.sctp_util.specs.Lists.{change_where}
 use Rattle.sctp_data.specs.declared.chunk.chunk_payload_data.ChunkPayloadData.{ChunkPayloadData}
 use Rattle.sctp_data.specs.declared.chunk.chunk_payload_data.PayloadProtocolIdentifier.{PayloadProtocolIdentifier}
 use Rattle.sctp_data.specs.SelectiveAck.{Sack}
-use Rattle.sctp_outbound.specs.Marks.{as_abandoned, as_acknowledged, is_outstanding, with_retransmit}
+use Rattle.sctp_outbound.specs.Marks.{as_abandoned, as_acknowledged}
 use Rattle.sctp_outbound.specs.outbound_queue.OutboundQueue.{Outbound, abandoned_of, all_started, expired_of, sent_next, terminal_chunk, with_message}
+use Rattle.sctp_outbound.specs.outbound_queue.OutboundQueue.{with_inflight}
 use Rattle.sctp_outbound.specs.pending_queue.PendingQueue.{next_pending}
-use Rattle.sctp_serial.specs.DataChunks.{has_tsn}
 use Rattle.sctp_stream.specs.declared.stream.StreamState.{StreamState}
 use Rattle.sctp_sender.specs.Flight.{Flight, after_sack, reports, reports_anew}
 use Rattle.sctp_sender.specs.Late.{abandoned_each}
 use Rattle.sctp_sender.specs.Outgoing.{fragments_with_mode}
-use Rattle.sctp_sender.specs.Resending.{after_misses, all_marked, count_again, missed, resent_at, sent_again}
+use Rattle.sctp_sender.specs.Resending.{after_misses, missed}
 use Rattle.sctp_delivery.proofs.Every.{Every, every-of, every-pair}
 use Rattle.sctp_delivery.proofs.QueueChunks.{EachIs, abandoned, each-abandoned, each-fragment, expired, marked, missed-some, pushed, sacked, sent, started}
+use Rattle.sctp_delivery.proofs.Changes.{IsMark}
 
 -- ## Chunks
 
@@ -85,13 +87,11 @@ module _ (taken passed : ℕ → Bool) where
   pub expired-valid : (o : Option ChunkPayloadData) (q : Outbound) → Valid q → Valid (expired_of o q)
   expired-valid o q s = expired IsUnmarked Right (λ c i. i) o q s
 
-  pub resent-valid : (tsn now : ℕ) (c : ChunkPayloadData) (f : Flight) → Valid f.queue → Valid (resent_at tsn now c f).queue
-  resent-valid tsn now c f s = marked IsUnmarked Right (has_tsn tsn) (sent_again (count_again c) now)
-      (λ d r. right-same d (sent_again (count_again c) now d) refl refl refl refl r) f.queue s
-
-  pub marked-valid : (f : Flight) → Valid f.queue → Valid (all_marked f).queue
-  marked-valid f s =
-      marked IsUnmarked Right is_outstanding (with_retransmit true) (λ d r. right-same d (with_retransmit true d) refl refl refl refl r) f.queue s
+  pub marked-valid : (p : ChunkPayloadData → Bool) (f : ChunkPayloadData → ChunkPayloadData) → IsMark f → (q : Outbound) → Valid q
+      → Valid (with_inflight q (change_where p f q.inflight.chunks))
+  marked-valid p f k q s =
+      marked IsUnmarked Right p f (λ c r. right-same c (f c) (ap (λ (d : ChunkPayloadData). d.acked) (k c)) (ap (λ (d : ChunkPayloadData). d.tsn) (k c))
+      (ap (λ (d : ChunkPayloadData). d.abandoned) (k c)) (ap (λ (d : ChunkPayloadData). d.user_data) (k c)) r) q s
 
   pub missed-valid : (count : ℕ) (f : Flight) → Valid f.queue → Valid (after_misses count f).queue
   missed-valid count f s = missed-some IsUnmarked Right (λ d r. right-same d (missed d) refl refl refl refl r) count f s

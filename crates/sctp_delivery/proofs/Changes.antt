@@ -1,0 +1,132 @@
+-- What a call of a sender makes of what waits and of what is in flight, but for a write and a sending: one of nine changes.
+use Rattle.std.proofs.Common.{◌≡◌, ℕ, ◌+◌, ◌≤◌, ◌++◌, Bool, true, false, List, [], ◌∷◌, length, length-append, map, Option, Some, None, refl, ap, sym, ◌∙◌}
+use Rattle.std.proofs.Common.{arith, inl, inr}
+use Rattle.std.specs.Prelude.{◌⊎◌, if◌then◌else◌, find, is_some, option_to_list, IfSome}
+use Rattle.std.specs.List.{filter}
+use Rattle.std.proofs.lemmas.List.{length-map}
+use Rattle.sctp_util.specs.Lists.{change_where}
+use Rattle.sctp_util.proofs.More.{not_both}
+use Rattle.sctp_data.specs.declared.chunk.chunk_payload_data.ChunkPayloadData.{ChunkPayloadData}
+use Rattle.sctp_data.specs.SelectiveAck.{Sack}
+use Rattle.sctp_outbound.specs.Marks.{is_outstanding, with_retransmit}
+use Rattle.sctp_outbound.specs.outbound_queue.OutboundQueue.{all_started, expired_of, expiring, expiring_tail, is_late, late_tsns, message_of, with_inflight}
+use Rattle.sctp_outbound.specs.pending_queue.PendingQueue.{next_pending}
+use Rattle.sctp_outbound.specs.pending_queue.Whole.{IsSendable, partially_sent, waits}
+use Rattle.sctp_serial.specs.DataChunks.{has_tsn}
+use Rattle.sctp_sender.specs.declared.sender.flight.Released.{Released}
+use Rattle.sctp_sender.specs.Flight.{Flight, after_abandonment, after_sack, message_to_abandon, with_queue, with_room}
+use Rattle.sctp_sender.specs.Late.{abandoned_each, late_order, leaving_each, with_tail, worn_order}
+use Rattle.sctp_sender.specs.Resending.{after_misses, count_again, is_worn, sent_again, worn_tsns}
+use Rattle.sctp_sender.specs.Sender.{Transmission, after_expire}
+use Rattle.sctp_sender.specs.SenderRuns.{Makes}
+use Rattle.sctp_sender.proofs.InLine.{found-partial, tail-partial}
+use Rattle.sctp_sender.proofs.Lates.{at-most-one}
+use Rattle.sctp_delivery.specs.Abandoned.{abandoned_by}
+use Rattle.sctp_delivery.specs.SenderCalls as outgoing
+use Rattle.sctp_delivery.specs.SenderCalls.{MakesExactly, SenderCall, as_run}
+
+-- chunks are marked: of each only how often and when it was sent, and whether it goes again, may change
+abbrev pub IsMark : (ChunkPayloadData → ChunkPayloadData) → Type 0
+IsMark f =
+    (c : ChunkPayloadData)
+    → f c ≡ record c { since = (f c).since; nsent = (f c).nsent; retransmit = (f c).retransmit; miss_indicator = (f c).miss_indicator }
+
+-- the message of a chunk in flight, or the one that is partially sent and past its deadline
+abbrev pub IsFound : Option ℕ → Transmission → Type 0
+IsFound o t =
+    ((tsn : ℕ) × (o ≡ message_to_abandon tsn t.flight)) ⊎ ((now : ℕ) × (o ≡ message_of (expiring_tail now t.flight.queue)))
+
+-- what it makes of the flight, with what the call found
+pub data Change (call : SenderCall) (t : Transmission) : Type 0 where
+  nothing : Change call t
+  all_start : ℕ → Change call t
+  more_room : ℕ → Change call t
+  some_marked : (p : ChunkPayloadData → Bool) (f : ChunkPayloadData → ChunkPayloadData) → IsMark f → Change call t
+  some_missed : ℕ → Change call t
+  one_leaves : (o : Option ℕ) → abandoned_by call t ≡ option_to_list o → IsFound o t → Change call t
+  each_leaves : (tsns : List ℕ) → length tsns ≤ 1 + length t.flight.queue.inflight.chunks
+      → abandoned_by call t ≡ map (λ a. a.number) (leaving_each tsns t.flight) → Change call t
+  front_expires : (now : ℕ) (c : ChunkPayloadData) → expiring now t.flight.queue ≡ Some c → abandoned_by call t ≡ c.message_id ∷ [] → Change call t
+  acknowledges : (k : Sack) (gone : List Released) → call ≡ outgoing.takes_sack k gone → Change call t
+
+abbrev pub flight_after : (call : SenderCall) (t : Transmission) → Change call t → Flight
+flight_after call t nothing = t.flight
+flight_after call t (all_start now) = with_queue t.flight (all_started now t.flight.queue)
+flight_after call t (more_room count) = with_queue t.flight (with_room count t.flight.queue)
+flight_after call t (some_marked p f k) = with_queue t.flight (with_inflight t.flight.queue (change_where p f t.flight.queue.inflight.chunks))
+flight_after call t (some_missed count) = after_misses count t.flight
+flight_after call t (one_leaves o e found) = after_abandonment o t.flight
+flight_after call t (each_leaves tsns short e) = abandoned_each tsns t.flight
+flight_after call t (front_expires now c found e) = with_queue t.flight (expired_of (Some c) t.flight.queue)
+flight_after call t (acknowledges k gone e) = after_sack k t.flight
+
+pub record Changes (call : SenderCall) (t u : Transmission) : Type 0 where
+  pub change : Change call t
+  pub flight : u.flight ≡ flight_after call t change
+
+-- neither a write of bytes nor a sending
+abbrev pub is_change : SenderCall → Bool
+is_change (outgoing.writes stream ppi (b ∷ bs)) = false
+is_change (outgoing.sends now) = false
+is_change _ = true
+
+fewer : {A : Type 0} (q : A → Bool) (xs : List A) → length (filter q xs) ≤ length xs
+fewer q [] = omega arith
+fewer q (x ∷ xs) = by (q x) (fewer q xs)
+  where
+    by : (b : Bool) → length (filter q xs) ≤ length xs → length (if b then x ∷ filter q xs else filter q xs) ≤ length (x ∷ xs)
+    by true ih = omega (arith, ih)
+    by false ih = omega (arith, ih)
+
+order-short : (q : ChunkPayloadData → Bool) (f : Flight) (o : Option ℕ) → length
+    (option_to_list o ++ map (λ (c : ChunkPayloadData). c.tsn) (filter q f.queue.inflight.chunks)) ≤ 1 + length f.queue.inflight.chunks
+order-short q f o =
+    let a = length-append (option_to_list o) (map (λ (c : ChunkPayloadData). c.tsn) (filter q f.queue.inflight.chunks)) in
+    let b = at-most-one o in
+    let d = length-map (filter q f.queue.inflight.chunks) (λ (c : ChunkPayloadData). c.tsn) in
+    let e = fewer q f.queue.inflight.chunks in
+    omega (arith, a, b, d, e)
+
+module _ (t u : Transmission) where
+  to : (call : SenderCall) (v : Transmission) (c : Change call t) → u ≡ v → v.flight ≡ flight_after call t c → Changes call t u
+  to call v c e same = record { change = c; flight = ap (λ (x : Transmission). x.flight) e ∙ same }
+
+  pub changes : (call : SenderCall) → is_change call ≡ true → Makes (as_run call) t u → MakesExactly call t u → Changes call t u
+  changes (outgoing.forwards tsn c) o m x = to _ _ nothing x refl
+  changes (outgoing.forwards_within bytes c) o m x = to _ _ nothing x refl
+  changes (outgoing.writes stream ppi []) o m x = to _ _ nothing (x.0 refl) refl
+  changes (outgoing.writes stream ppi (b ∷ bs)) o m x = absurd (not_both o)
+  changes (outgoing.sends now) o m x = absurd (not_both o)
+  changes (outgoing.starts now) o m x = to _ _ (all_start now) m refl
+  changes (outgoing.reserves count) o m x = to _ _ (more_room count) m refl
+  changes (outgoing.resends tsn now c) o m x = to _ _ (some_marked (has_tsn tsn) (sent_again (count_again c) now) (λ d. refl)) m refl
+  changes outgoing.marks o m x = to _ _ (some_marked is_outstanding (with_retransmit true) (λ d. refl)) m refl
+  changes (outgoing.misses count) o m x = to _ _ (some_missed count) m refl
+  changes (outgoing.abandons tsn a) o m x = to _ _ (one_leaves (message_to_abandon tsn t.flight) refl (inl (tsn, refl))) x refl
+  changes (outgoing.expires now None) o m x = to _ _ nothing (x.1.1 refl) refl
+  changes (outgoing.expires now (Some e)) o m x = by (expiring now t.flight.queue) refl x.0 x.1.0
+    where
+      by : (o : Option ChunkPayloadData) → expiring now t.flight.queue ≡ o → true ≡ is_some o → IfSome o (λ c. u ≡ after_expire c e.bytes now t)
+          → Changes (outgoing.expires now (Some e)) t u
+      by None i k y = absurd (not_both (sym k))
+      by (Some c) i k y = to _ _ (front_expires now c i (ap (λ d. option_to_list (message_of d)) i)) y refl
+  changes (outgoing.expires_tail now None) o m x = to _ _ nothing (x.1 refl) refl
+  changes (outgoing.expires_tail now (Some a)) o m x =
+      to _ _ (one_leaves (message_of (expiring_tail now t.flight.queue)) refl (inr (now, refl))) x.0 refl
+  changes (outgoing.expires_late now gone) o m x =
+      to _ _ (each_leaves (late_order now t.flight)
+      (order-short (is_late now t.flight.queue.pending) t.flight (with_tail (late_tsns now t.flight.queue) t.flight)) refl) x refl
+  changes (outgoing.expires_rexmit gone) o m x =
+      to _ _ (each_leaves (worn_order t.flight) (order-short is_worn t.flight (with_tail (worn_tsns t.flight) t.flight)) refl) x refl
+  changes (outgoing.takes_sack k gone) o m x = to _ _ (acknowledges k gone refl) x refl
+  changes (outgoing.opens stream) o m x = to _ _ nothing m refl
+  changes (outgoing.sets_mode stream unordered reliability value) o m x = to _ _ nothing m refl
+  changes (outgoing.sets_size size) o m x = to _ _ nothing m refl
+  changes (outgoing.sets_low stream bytes) o m x = to _ _ nothing m refl
+
+-- of a message that is found so what waits is the rest of the one that is partially sent
+pub partial-found : (t : Transmission) → IsSendable t.flight.queue.pending t.flight.queue.inflight.chunks t.flight.queue.next_message_id
+    → (o : Option ℕ) → IsFound o t → (m : ℕ) → o ≡ Some m → waits m t.flight.queue.pending ≡ true → partially_sent t.flight.queue.pending ≡ Some m
+partial-found t s o (inl i) m e w =
+    found-partial t.flight.queue s i.0 (find (has_tsn i.0) t.flight.queue.inflight.chunks) refl m (sym i.1 ∙ e) w
+partial-found t s o (inr i) m e w = tail-partial t.flight.queue s i.0 (next_pending t.flight.queue.pending) refl m (sym i.1 ∙ e)
