@@ -1,12 +1,13 @@
 use Rattle.std.proofs.Common.{◌≡◌, ℕ, Some, ap, sym, ◌∙◌}
-use Rattle.std.specs.Prelude.{find}
+use Rattle.std.specs.Prelude.{find, option_map}
 use Rattle.std.proofs.lemmas.Option.{none-some}
 use Rattle.sctp_data.specs.declared.chunk.chunk_payload_data.ChunkPayloadData.{ChunkPayloadData}
-use Rattle.sctp_outbound.specs.outbound_queue.OutboundQueue.{Outbound}
+use Rattle.sctp_outbound.specs.outbound_queue.OutboundQueue.{Outbound, all_started, as_sent}
 use Rattle.sctp_outbound.specs.pending_queue.PendingQueue.{next_pending}
 use Rattle.sctp_serial.specs.DataChunks.{has_tsn}
 use Rattle.sctp_sender.specs.Sender.{Transmission}
 use Rattle.sctp_sender.proofs.Sent.{as-noted, none-noted, some-noted}
+use Rattle.sctp_sender.proofs.sender.Sender.send_next.Goals.{After-get}
 use Rattle.sctp_sender.proofs.sender.Sender.send_next.Goals as goal
 
 pub returns-in_default-clause-answer : goal.returns-in_default-clause-answer
@@ -14,44 +15,51 @@ returns-in_default-clause-answer c =
     let f = c.args.self.now.flight in
     none-noted f.queue f.next_tsn c.args.now (sym c.in_default.is ∙ c.in_ok-chunk.ensures.ok)
 
+-- The TSN that was next is that of the chunk that is looked for.
+numbered : (c : After-get) → c.next_tsn-tsn.result ≡ c.args.self.now.flight.next_tsn
+numbered c = c.next_tsn-tsn.ensures ∙ ap (λ (t : Transmission). t.flight.next_tsn) c.self.view_is
+
+-- What is looked up stands in the sender as it is then.
+looked-up : (c : After-get) → find (has_tsn c.next_tsn-tsn.result) c.queue.result.now.inflight.chunks
+    ≡ find (has_tsn c.args.self.now.flight.next_tsn) c.send_next_tsn_unbounded-2.new.self.flight.queue.inflight.chunks
+looked-up c = ap (λ (n : ℕ). find (has_tsn n) c.queue.result.now.inflight.chunks) (numbered c)
+    ∙ ap (λ (o : Outbound). find (has_tsn c.args.self.now.flight.next_tsn) o.inflight.chunks)
+    (c.queue.ensures ∙ ap (λ (t : Transmission). t.flight.queue) c.self-2.view_is)
+
+-- It is noted there as it is sent.
+noted : (c : After-get) → (next_pending c.args.self.now.flight.queue.pending ≡ Some c.in-Some.chunk)
+    × (find (has_tsn c.args.self.now.flight.next_tsn) c.send_next_tsn_unbounded-2.new.self.flight.queue.inflight.chunks
+    ≡ option_map (as_sent c.args.self.now.flight.next_tsn c.args.now) (next_pending (all_started c.args.now c.args.self.now.flight.queue).pending))
+noted c =
+    let e = sym c.in_ok-chunk.ensures.ok ∙ c.in-Some.is in
+    (e, c.in_ok-send_next_tsn_unbounded-2.ensures.noted (λ none. none-some c.in-Some.chunk (sym none ∙ e)))
+
 pub unreachable-requires : goal.unreachable-requires
 unreachable-requires c =
     let f = c.args.self.now.flight in
-    let e : next_pending f.queue.pending ≡ Some c.in-Some.chunk = sym c.in_ok-chunk.ensures.ok ∙ c.in-Some.is in
-    let noted = c.in_ok-send_next_tsn_unbounded-2.ensures.noted (λ n. none-some c.in-Some.chunk (sym n ∙ e)) in
-    let tsn : c.next_tsn-tsn.result ≡ f.next_tsn = c.next_tsn-tsn.ensures ∙ ap (λ (t : Transmission). t.flight.next_tsn) c.self.view_is in
-    let queue : c.queue.result.now ≡ c.send_next_tsn_unbounded-2.new.self.flight.queue = c.queue.ensures
-    ∙ ap (λ (t : Transmission). t.flight.queue) c.self-2.view_is in
-    let none = c.in_default-get.ensures ∙ ap (λ (n : ℕ). find (has_tsn n) c.queue.result.now.inflight.chunks) tsn
-    ∙ ap (λ (o : Outbound). find (has_tsn f.next_tsn) o.inflight.chunks) queue ∙ noted in
-    some-noted f.queue f.next_tsn c.args.now c.in-Some.chunk e none
+    let p = (goal.at.unreachable-requires c).After-get in
+    let n = noted p in
+    some-noted f.queue f.next_tsn c.args.now c.in-Some.chunk n.0 (c.in_default-get.ensures ∙ looked-up p ∙ n.1)
 
 pub returns-clause-answer : goal.returns-clause-answer
 returns-clause-answer c =
     let f = c.args.self.now.flight in
     let x = c.in-Some.chunk in
     let n = c.in-Some-get.noted.now in
-    let e : next_pending f.queue.pending ≡ Some x = sym c.in_ok-chunk.ensures.ok ∙ c.in-Some.is in
-    let noted = c.in_ok-send_next_tsn_unbounded-2.ensures.noted (λ none. none-some x (sym none ∙ e)) in
-    let tsn : c.next_tsn-tsn.result ≡ f.next_tsn = c.next_tsn-tsn.ensures ∙ ap (λ (t : Transmission). t.flight.next_tsn) c.self.view_is in
-    let queue : c.queue.result.now ≡ c.send_next_tsn_unbounded-2.new.self.flight.queue = c.queue.ensures
-    ∙ ap (λ (t : Transmission). t.flight.queue) c.self-2.view_is in
-    let is = c.in-Some-get.ensures ∙ ap (λ (m : ℕ). find (has_tsn m) c.queue.result.now.inflight.chunks) tsn
-    ∙ ap (λ (o : Outbound). find (has_tsn f.next_tsn) o.inflight.chunks) queue ∙ noted in
-    ap (λ (m : ℕ). let r : ChunkPayloadData = record x { tsn = m; since = n.since; nsent = n.nsent; deadline = n.deadline } in Some r) tsn
-    ∙ ap Some (as-noted f.queue f.next_tsn c.args.now x n e is) ∙ is
+    let p = (goal.at.returns-clause-answer c).After-get in
+    let told = noted p in
+    let is = c.in-Some-get.ensures ∙ looked-up p ∙ told.1 in
+    ap (λ (m : ℕ). let r : ChunkPayloadData = record x { tsn = m; since = n.since; nsent = n.nsent; deadline = n.deadline } in Some r) (numbered p)
+    ∙ ap Some (as-noted f.queue f.next_tsn c.args.now x n told.0 is) ∙ is
 
 pub returns-clause-noted : goal.returns-clause-noted
 returns-clause-noted c =
     let f = c.args.self.now.flight in
     let x = c.in-Some.chunk in
     let n = c.in-Some-get.noted.now in
-    let e : next_pending f.queue.pending ≡ Some x = sym c.in_ok-chunk.ensures.ok ∙ c.in-Some.is in
-    let noted = c.in_ok-send_next_tsn_unbounded-2.ensures.noted (λ none. none-some x (sym none ∙ e)) in
-    let tsn : c.next_tsn-tsn.result ≡ f.next_tsn = c.next_tsn-tsn.ensures ∙ ap (λ (t : Transmission). t.flight.next_tsn) c.self.view_is in
-    let queue : c.queue.result.now ≡ c.send_next_tsn_unbounded-2.new.self.flight.queue = c.queue.ensures
-    ∙ ap (λ (t : Transmission). t.flight.queue) c.self-2.view_is in
-    let found = c.in-Some-get.ensures ∙ ap (λ (m : ℕ). find (has_tsn m) c.queue.result.now.inflight.chunks) tsn
-    ∙ ap (λ (o : Outbound). find (has_tsn f.next_tsn) o.inflight.chunks) queue in
-    sym found ∙ sym (ap (λ (m : ℕ). let r : ChunkPayloadData = record x { tsn = m; since = n.since; nsent = n.nsent; deadline = n.deadline } in Some r) tsn
-    ∙ ap Some (as-noted f.queue f.next_tsn c.args.now x n e (found ∙ noted)))
+    let p = (goal.at.returns-clause-noted c).After-get in
+    let told = noted p in
+    let found = c.in-Some-get.ensures ∙ looked-up p in
+    sym found
+    ∙ sym (ap (λ (m : ℕ). let r : ChunkPayloadData = record x { tsn = m; since = n.since; nsent = n.nsent; deadline = n.deadline } in Some r) (numbered p)
+    ∙ ap Some (as-noted f.queue f.next_tsn c.args.now x n told.0 (found ∙ told.1)))

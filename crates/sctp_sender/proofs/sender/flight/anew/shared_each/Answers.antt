@@ -1,4 +1,4 @@
-use Rattle.std.proofs.Common.{◌≡◌, ◌+◌, ◌-◌, ◌<◌, ◌≤◌, ◌++◌, ◌∷◌, [], ℕ, false, length, take, get_or, ap, sym, subst, ◌∙◌, arith}
+use Rattle.std.proofs.Common.{◌≡◌, ◌+◌, ◌-◌, ◌<◌, ◌≤◌, ◌++◌, ◌∷◌, [], ℕ, suc, false, length, take, get_or, ap, sym, subst, ◌∙◌, arith}
 use Rattle.std.specs.Prelude.{◌==◌, ◌||◌}
 use Rattle.std.specs.List.{All, list_any}
 use Rattle.std.proofs.lemmas.Bool.Decides.{nat_tests}
@@ -12,33 +12,30 @@ use Rattle.sctp_sender.specs.Keeping.{IsOwn, is_at}
 use Rattle.sctp_sender.specs.Telling.{is_answered, is_of_chunk}
 use Rattle.sctp_sender.proofs.Anew.{all-at}
 use Rattle.sctp_sender.proofs.AnewKept.{one-more-at, own-more}
-use Rattle.sctp_sender.proofs.Answered.{answered-more, any_answered, stands-at, answer-here}
+use Rattle.sctp_sender.proofs.Answered.{StandsAt, answered-more, any_answered, stands-at, answer-here}
 use Rattle.sctp_sender.proofs.Runs.{any_chunk}
 use Rattle.sctp_sender.proofs.Walks.{read-of}
+use Rattle.sctp_sender.proofs.sender.flight.anew.shared_each.Goals.{After-distance}
 use Rattle.sctp_sender.proofs.sender.flight.anew.shared_each.Goals as goal
 
+-- The chunk of which the answer tells, and how far it is.
+told-at : (c : After-distance) → (p : StandsAt c.args.acked_tsn c.args.queue.now.inflight.chunks (get_or c.args.released.now c.loop-one.one-index any_answered))
+    × (c.distance.result ≡ suc p.k)
+told-at c =
+    let p = stands-at c.args.acked_tsn _ c.ranges.acked_tsn.fits c.requires.run c.requires.few _
+    (all-at (λ x. list_any (is_of_chunk x) c.args.queue.now.inflight.chunks) c.args.released.now c.loop-one.one-index any_answered c.requires.answered
+    c.loop-one-test.true) any_chunk in
+    (p, c.distance.ensures.value ∙ p.far)
+
 pub overflow_sub-place : goal.overflow_sub-place
-overflow_sub-place c =
-    let cs = c.args.queue.now.inflight.chunks in
-    let rs = c.args.released.now in
-    let i = c.loop-one.one-index in
-    let lt : i < length rs = c.loop-one-test.true in
-    let r = get_or rs i any_answered in
-    let at = stands-at c.args.acked_tsn cs c.ranges.acked_tsn.fits c.requires.run c.requires.few r
-    (all-at (λ x. list_any (is_of_chunk x) cs) rs i any_answered c.requires.answered lt) any_chunk in
-    let far = c.distance.ensures.value ∙ at.far in
-    omega (arith, far)
+overflow_sub-place c = let far = (told-at (goal.at.overflow_sub-place c).After-distance).1 in omega (arith, far)
 
 pub unreachable-requires : goal.unreachable-requires
 unreachable-requires c =
     let cs = c.args.queue.now.inflight.chunks in
-    let rs = c.args.released.now in
-    let i = c.loop-one.one-index in
-    let lt : i < length rs = c.loop-one-test.true in
-    let r = get_or rs i any_answered in
-    let at = stands-at c.args.acked_tsn cs c.ranges.acked_tsn.fits c.requires.run c.requires.few r
-    (all-at (λ x. list_any (is_of_chunk x) cs) rs i any_answered c.requires.answered lt) any_chunk in
-    let far = c.distance.ensures.value ∙ at.far in
+    let p = told-at (goal.at.unreachable-requires c).After-distance in
+    let at = p.0 in
+    let far = p.1 in
     let here = at.lt in
     let e = slice_get-get_or cs (c.distance.result - 1) any_chunk (omega (arith, far, here)) in
     let none = c.in_default.ensures in
@@ -51,9 +48,9 @@ loop-one-preserved-then-place-count c =
     let i = c.loop-one.one-index in
     let lt : i < length rs = c.loop-one-test.true in
     let r = get_or rs i any_answered in
-    let at = stands-at c.args.acked_tsn cs c.ranges.acked_tsn.fits c.requires.run c.requires.few r
-    (all-at (λ x. list_any (is_of_chunk x) cs) rs i any_answered c.requires.answered lt) any_chunk in
-    let far = c.distance.ensures.value ∙ at.far in
+    let p = told-at (goal.at.loop-one-preserved-then-place-count c).After-distance in
+    let at = p.0 in
+    let far = p.1 in
     let low : at.k < c.args.count = omega (arith, far, c.if-place-count.true) in
     record {
       own = c.loop-one.invariant.own;
@@ -77,9 +74,9 @@ loop-one-preserved c =
     let i = c.loop-one.one-index in
     let lt : i < length rs = c.loop-one-test.true in
     let r = get_or rs i any_answered in
-    let at = stands-at c.args.acked_tsn cs c.ranges.acked_tsn.fits c.requires.run c.requires.few r
-    (all-at (λ x. list_any (is_of_chunk x) cs) rs i any_answered c.requires.answered lt) any_chunk in
-    let far = c.distance.ensures.value ∙ at.far in
+    let p = told-at (goal.at.loop-one-preserved c).After-distance in
+    let at = p.0 in
+    let far = p.1 in
     let x = c.in-Some.chunk.now in
     let read = read-of cs (c.distance.result - 1) x (sym c.in-Some.ensures) in
     let place : c.distance.result - 1 ≡ at.k = omega (arith, far) in
