@@ -1,4 +1,4 @@
-use Rattle.std.proofs.Common.{rules, ◌≡◌, ℕ, ◌+◌, ◌-◌, ◌<◌, List, length, get_or, ap, sym, ◌∙◌, arith}
+use Rattle.std.proofs.Common.{rules, ◌≡◌, ℕ, suc, ◌+◌, ◌-◌, ◌<◌, List, length, get_or, ap, sym, ◌∙◌, arith}
 use Rattle.std.proofs.lemmas.Grind.{common_steps}
 use Rattle.std.proofs.lemmas.List.{get_or-map, length-map}
 use Rattle.std.proofs.lemmas.Option.{none-some}
@@ -6,46 +6,35 @@ use Rattle.sctp_sender.specs.declared.sender.flight.Released.{Released}
 use Rattle.sctp_sender.specs.SideBySide.{messages_of}
 use Rattle.sctp_sender.proofs.Counts.{numbers-stay, numbers_of, one-judged}
 use Rattle.sctp_sender.proofs.Runs.{any_chunk}
-use Rattle.sctp_sender.proofs.Answered.{any_answered, next-in-flight, stands-at}
+use Rattle.sctp_sender.proofs.Answered.{StandsAt, any_answered, next-in-flight, stands-at}
+use Rattle.sctp_sender.proofs.sender.flight.answers.judge_each.Goals.{After-distance}
 use Rattle.sctp_sender.proofs.sender.flight.answers.judge_each.Goals as goal
 
+-- The chunk of which the answer tells, and how far it is.
+told-at : (c : After-distance) → (p : StandsAt c.args.acked_tsn c.args.queue.now.inflight.chunks (get_or c.loop-one.one-items c.loop-one.one-index any_answered))
+    × (c.distance.result ≡ suc p.k)
+told-at c =
+    let lt : c.loop-one.one-index < length c.loop-one.one-items = omega arith in
+    let p = stands-at c.args.acked_tsn _ c.ranges.acked_tsn.fits c.requires.run c.requires.few _
+    (next-in-flight c.args.queue.now.inflight.chunks c.loop-one.one-items c.loop-one.one-index any_answered lt c.loop-one.invariant.there) any_chunk in
+    (p, c.distance.ensures.value ∙ p.far)
+
 pub overflow_sub-place : goal.overflow_sub-place
-overflow_sub-place c =
-    let cs = c.args.queue.now.inflight.chunks in
-    let rs = c.loop-one.one-items in
-    let i = c.loop-one.one-index in
-    let lt : i < length rs = omega arith in
-    let r = get_or rs i any_answered in
-    let at = stands-at c.args.acked_tsn cs c.ranges.acked_tsn.fits c.requires.run c.requires.few r
-    (next-in-flight cs rs i any_answered lt c.loop-one.invariant.there) any_chunk in
-    let far = c.distance.ensures.value ∙ at.far in
-    omega (arith, far)
+overflow_sub-place c = let far = (told-at (goal.at.overflow_sub-place c).After-distance).1 in omega (arith, far)
 
 pub whole_or_last-whole-requires-clause-place : goal.whole_or_last-whole-requires-clause-place
 whole_or_last-whole-requires-clause-place c =
-    let cs = c.args.queue.now.inflight.chunks in
-    let rs = c.loop-one.one-items in
-    let i = c.loop-one.one-index in
-    let lt : i < length rs = omega arith in
-    let r = get_or rs i any_answered in
-    let at = stands-at c.args.acked_tsn cs c.ranges.acked_tsn.fits c.requires.run c.requires.few r
-    (next-in-flight cs rs i any_answered lt c.loop-one.invariant.there) any_chunk in
-    let far = c.distance.ensures.value ∙ at.far in
-    let here = at.lt in
+    let p = told-at (goal.at.whole_or_last-whole-requires-clause-place c).After-distance in
+    let far = p.1 in
+    let here = p.0.lt in
     omega (arith, far, here)
 
 pub whole_or_last-whole-requires-clause-own : goal.whole_or_last-whole-requires-clause-own
 whole_or_last-whole-requires-clause-own c =
-    let cs = c.args.queue.now.inflight.chunks in
-    let rs = c.loop-one.one-items in
-    let i = c.loop-one.one-index in
-    let lt : i < length rs = omega arith in
-    let r = get_or rs i any_answered in
-    let at = stands-at c.args.acked_tsn cs c.ranges.acked_tsn.fits c.requires.run c.requires.few r
-    (next-in-flight cs rs i any_answered lt c.loop-one.invariant.there) any_chunk in
-    let far = c.distance.ensures.value ∙ at.far in
-    let place : c.distance.result - 1 ≡ at.k = omega (arith, far) in
-    λ d. ap (λ k. (get_or cs k d).message_id) place ∙ at.own d
+    let p = told-at (goal.at.whole_or_last-whole-requires-clause-own c).After-distance in
+    let far = p.1 in
+    let place : c.distance.result - 1 ≡ p.0.k = omega (arith, far) in
+    λ d. ap (λ k. (get_or c.args.queue.now.inflight.chunks k d).message_id) place ∙ p.0.own d
 
 pub loop-one-preserved : goal.loop-one-preserved
 loop-one-preserved c =
