@@ -1,4 +1,5 @@
-use Rattle.sctp_link.proofs.Names.{◌≡◌, ◌+◌, ◌<◌, ◌^◌, true, Some, length, ap, rules, arith, refl, sym, ◌∙◌, is_some, if◌then◌else◌, nat_tests, next_pending}
+use Rattle.sctp_link.proofs.Names.{◌≡◌, ◌+◌, ◌<◌, ◌^◌, true, None, Some, length, ap, rules, arith, refl, sym, ◌∙◌, is_some, if◌then◌else◌, nat_tests, next_pending}
+use Rattle.sctp_sender.specs.Numbers.{tsn_refusal}
 use Rattle.sctp_link.proofs.Names.{sent_next, may_send, begun_by, following_tsn, room-less, on-ok, not-err}
 use Rattle.sctp_link.proofs.sender.Noted.{noted-next}
 use Rattle.sctp_link.proofs.link.fragments.take_next.Goals as goal
@@ -6,7 +7,8 @@ use Rattle.sctp_link.proofs.link.fragments.take_next.Goals as goal
 pub unreachable-requires-then-is_err : goal.unreachable-requires-then-is_err
 unreachable-requires-then-is_err c =
     let lt : length c.args.sender.now.flight.queue.inflight.chunks + 1 < 2 ^ 31 = c.requires.able.room in
-    let next : may_send c.args.sender.now.flight ≡ true = grind (arith, nat_tests) in
+    let may : may_send c.args.sender.now.flight ≡ true = grind (arith, nat_tests) in
+    let next : tsn_refusal c.args.sender.now.flight ≡ None = rw may refl in
     not-err c.send_next_tsn_unbounded.result (c.send_next_tsn_unbounded.ensures.succeeds c.requires.flight next) (sym c.is_err.ensures.value ∙ c.if-is_err.true)
 
 pub returns-clause-noted : goal.returns-clause-noted
