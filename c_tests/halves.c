@@ -11,6 +11,13 @@ static int is_closed(void) {
     return sctpr_receiver_next_length(&receiver, 3, &size, &type) == SCTPR_STREAM_UNKNOWN;
 }
 
+/* Whether the sender tells so many outstanding bytes and chunks that are not marked, and so many that are. */
+static int tells(size_t bytes, size_t chunks, size_t marked) {
+    struct sctpr_outstanding row = { 9, 9, 9 };
+    sctpr_sender_outstanding(&sender, &row);
+    return row.bytes == bytes && row.chunks == chunks && row.marked == marked;
+}
+
 static void open_both(uint32_t tsn, uint32_t fragment_size) {
     TRY(sctpr_sender_new(tsn, fragment_size, 1 << 16, 0, &sender), SCTPR_OK, held == 0);
     TRY(sctpr_receiver_new(tsn, 1 << 16, 1 << 20, 4096, &receiver), SCTPR_OK, 1);
@@ -100,7 +107,7 @@ static void goes_over(void) {
         TRY(sctpr_sender_send_next(&sender, 5 + i, chunks[i], 64, &n[i], &tsn), SCTPR_OK, sctpr_sender_pending(&sender) == 3 - i);
         CHECK(tsn == (uint32_t)(0xffffffff + i) && n[i] == (i == 2 ? 24 : 28));
     }
-    CHECK(sctpr_sender_bytes_in_flight(&sender) == 28 && sctpr_sender_chunks_in_flight(&sender) == 3);
+    CHECK(sctpr_sender_bytes_in_flight(&sender) == 28 && sctpr_sender_chunks_in_flight(&sender) == 3 && tells(28, 3, 0));
     for (i = 0; i < 3; i += 2) {
         TRY(sctpr_receiver_data(&receiver, chunks[i], n[i], &complete), SCTPR_OK, sctpr_receiver_held_bytes(&receiver) == (i ? 410 : 0));
         CHECK(complete == 0);
@@ -111,11 +118,13 @@ static void goes_over(void) {
     CHECK(sctpr_sender_acked(&sender, sack, length, rows, 2, &count) == SCTPR_SHORT_BUFFER && count == 3);
     TRY(sctpr_sender_acked(&sender, sack, length, rows, 4, &count), SCTPR_OK, sctpr_sender_bytes_in_flight(&sender) == 28);
     CHECK(count == 2 && rows[0].tsn == 0xffffffff && rows[0].sent_at == 5 && rows[1].tsn == 1 && !rows[1].is_message_acked);
-    CHECK(sctpr_sender_acked_tsn(&sender) == 0xffffffff && sctpr_sender_bytes_in_flight(&sender) == 10);
+    CHECK(sctpr_sender_acked_tsn(&sender) == 0xffffffff && sctpr_sender_bytes_in_flight(&sender) == 10 && tells(10, 1, 0));
     CHECK(sctpr_sender_add_miss_indications(&sender, 1) == 0 && sctpr_sender_next_to_retransmit(&sender, &row) == SCTPR_NOTHING);
     sctpr_sender_retransmit_all(&sender);
     CHECK(sctpr_sender_next_to_retransmit(&sender, &row) == SCTPR_OK && row.tsn == 0 && row.size == 10 && row.is_marked);
+    CHECK(sctpr_sender_bytes_in_flight(&sender) == 10 && tells(0, 0, 1));
     TRY(sctpr_sender_resend(&sender, 0, 50, chunks[1], 64, &n[1]), SCTPR_OK, sctpr_sender_next_to_retransmit(&sender, &row) == SCTPR_OK);
+    CHECK(tells(10, 1, 0));
     TRY(sctpr_receiver_data(&receiver, chunks[1], n[1], &complete), SCTPR_OK, sctpr_receiver_cumulative_tsn(&receiver) == 0xffffffff);
     CHECK(complete == 1);
     CHECK(sctpr_receiver_readable_streams(&receiver, NULL, 0, &count) == SCTPR_SHORT_BUFFER && count == 1);
@@ -126,7 +135,7 @@ static void goes_over(void) {
     CHECK(sctpr_receiver_read(&receiver, 3, message, 64, &length, &ppid) == SCTPR_OK && memcmp(message, text, 28) == 0);
     TRY(sctpr_receiver_sack(&receiver, sack, sizeof sack, &length), SCTPR_OK, 1);
     TRY(sctpr_sender_acked(&sender, sack, length, rows, 4, &count), SCTPR_OK, sctpr_sender_bytes_in_flight(&sender) == 10);
-    CHECK(count == 1 && rows[0].tsn == 0 && rows[0].sent == 2 && rows[0].sent_at == 50 && rows[0].is_message_acked);
+    CHECK(count == 1 && rows[0].tsn == 0 && rows[0].sent == 2 && rows[0].sent_at == 50 && rows[0].is_message_acked && tells(0, 0, 0));
     for (i = 0; i < count; i++) amount_low |= rows[i].is_low;
     CHECK(amount_low == 1 && sctpr_sender_is_drained(&sender, 3) == 1 && sctpr_sender_reset(&sender, 3) == SCTPR_OK);
     free_both();

@@ -146,6 +146,7 @@ void goes_over() {
         CHECK(sent && *sent && (*sent)->tsn == 1000 + i && (*sent)->size == (i == 2 ? 24 : 28));
         size[i] = (*sent)->size;
     }
+    CHECK(s.outstanding().bytes == 28 && s.outstanding().chunks == 3 && s.outstanding().marked == 0);
     CHECK(s.chunks_in_flight() == 3 && s.bytes_in_flight() == 28 && s.next_tsn() == 1003 && s.acked_tsn() == 999 && s.advanced_ack_point() == 999);
     auto bytes = [&](std::size_t i) { return sctpr::bytes(out[i]).first(size[i]); };
     CHECK(*r.take_data(bytes(0)) == sctpr::arrival::added && *r.take_data(bytes(0)) == sctpr::arrival::repeat);

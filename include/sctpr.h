@@ -762,8 +762,18 @@ uint32_t sctpr_sender_next_tsn(const sctpr_sender *sender);
 uint32_t sctpr_sender_acked_tsn(const sctpr_sender *sender);
 /* The Advanced.Peer.Ack.Point (RFC 3758 3.5 C2). */
 uint32_t sctpr_sender_advanced_ack_point(const sctpr_sender *sender);
-/* How many bytes of user data are in flight (RFC 4960 7.2): what is acknowledged or abandoned counts no more. */
+/* How many bytes of user data are in flight: what is acknowledged or abandoned counts no more, and what is marked counts. */
 size_t sctpr_sender_bytes_in_flight(const sctpr_sender *sender);
+/* What is outstanding: in flight, and neither acknowledged nor abandoned. `bytes` and `chunks` leave out what is marked for retransmission:
+ * `bytes` is the flight size (RFC 9260 6.2.1 B, 7.2). `marked` is how many chunks are marked. */
+struct sctpr_outstanding {
+    size_t bytes;
+    size_t chunks;
+    size_t marked;
+};
+
+/* What is outstanding: `row` tells of it. After sctpr_sender_retransmit_all `bytes` is 0, and each chunk that is sent again raises it. */
+void sctpr_sender_outstanding(const sctpr_sender *sender, struct sctpr_outstanding *row);
 /* How many chunks are in flight: each TSN past sctpr_sender_acked_tsn and before sctpr_sender_next_tsn has one. */
 size_t sctpr_sender_chunks_in_flight(const sctpr_sender *sender);
 /* The first TSN in flight that is neither acknowledged nor abandoned (RFC 4960 6.3.3). SCTPR_NOTHING: there is none, and `tsn` stays. */

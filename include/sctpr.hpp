@@ -249,6 +249,7 @@ using cause = sctpr_cause;
 using reset = sctpr_reset;
 using response = sctpr_response;
 using in_flight = sctpr_in_flight;
+using outstanding_row = sctpr_outstanding;
 using acked = sctpr_acked;
 using taken_back = sctpr_taken_back;
 using abandoned = sctpr_abandoned;
@@ -731,6 +732,11 @@ public:
     std::uint32_t advanced_ack_point() { return sctpr_sender_advanced_ack_point(&handle_); }
     std::size_t bytes_in_flight() { return sctpr_sender_bytes_in_flight(&handle_); }
     std::size_t chunks_in_flight() { return sctpr_sender_chunks_in_flight(&handle_); }
+    outstanding_row outstanding() {
+        outstanding_row row{};
+        sctpr_sender_outstanding(&handle_, &row);
+        return row;
+    }
     std::optional<std::uint32_t> earliest_outstanding() {
         std::uint32_t tsn = 0;
         return sctpr_sender_earliest_outstanding(&handle_, &tsn) == SCTPR_OK ? std::optional(tsn) : std::nullopt;

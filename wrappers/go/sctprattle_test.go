@@ -172,7 +172,7 @@ func three(t *testing.T, s *Sender, text []byte) [][]byte {
 	}
 	size, _, err := s.SendNext(9, make([]byte, 28))
 	check(t, "nothing waits", size == 0 && err == nil)
-	check(t, "in flight", s.ChunksInFlight() == 3 && s.BytesInFlight() == 28 && s.NextTSN() == 1003)
+	check(t, "in flight", s.ChunksInFlight() == 3 && s.BytesInFlight() == 28 && s.NextTSN() == 1003 && s.Outstanding() == Outstanding{28, 3, 0})
 	check(t, "nothing acknowledged", s.AckedTSN() == 999 && s.AdvancedAckPoint() == 999)
 	return chunks
 }

@@ -44,6 +44,12 @@ type Acked struct {
 	HasSentAt, MessageAcked, Low bool
 }
 
+// An Outstanding is what is in flight, and neither acknowledged nor abandoned. Bytes and Chunks leave out what is marked for retransmission:
+// Bytes is the flight size (RFC 9260 6.2.1 B, 7.2). Marked is how many chunks are marked.
+type Outstanding struct {
+	Bytes, Chunks, Marked int
+}
+
 // A TakenBack is a chunk whose acknowledgement a SACK took back.
 type TakenBack struct {
 	Bytes   int
@@ -414,6 +420,16 @@ func (s *Sender) BytesInFlight() int {
 		return 0
 	}
 	return int(C.sctpr_sender_bytes_in_flight(&s.handle))
+}
+
+// Outstanding is what is outstanding; all is 0 where the sender is closed.
+func (s *Sender) Outstanding() Outstanding {
+	if !s.isOpen() {
+		return Outstanding{}
+	}
+	var row C.struct_sctpr_outstanding
+	C.sctpr_sender_outstanding(&s.handle, &row)
+	return Outstanding{int(row.bytes), int(row.chunks), int(row.marked)}
 }
 
 // ChunksInFlight is how many chunks are in flight.

@@ -2,6 +2,7 @@
 use Rattle.std.specs.Prelude.{length, is_some}
 use Rattle.sctp_data.specs.declared.chunk.chunk_payload_data.ChunkPayloadData.{ChunkPayloadData}
 use Rattle.sctp_data.specs.PayloadData.{payload_type_number}
+use Rattle.sctp_outbound.specs.declared.payload_queue.outstanding.Outstanding.{Outstanding}
 use Rattle.sctp_sender.specs.declared.sender.flight.Released.{Released}
 use Rattle.sctp_sender.specs.declared.sender.flight.kept.TakenBack.{TakenBack}
 use Rattle.sctp_sender.specs.declared.sender.flight.late.AbandonedMessage.{AbandonedMessage}
@@ -9,7 +10,12 @@ use Rattle.sctp_c.specs.declared.sender.abandoning.SctpAbandoned.{SctpAbandoned}
 use Rattle.sctp_c.specs.declared.sender.acks.SctpAcked.{SctpAcked}
 use Rattle.sctp_c.specs.declared.sender.acks.SctpTakenBack.{SctpTakenBack}
 use Rattle.sctp_c.specs.declared.sender.queries.SctpInFlight.{SctpInFlight}
+use Rattle.sctp_c.specs.declared.sender.queries.SctpOutstanding.{SctpOutstanding}
 use Rattle.sctp_c.specs.Flags.{flag, moment}
+
+-- of what is outstanding
+abbrev pub outstanding_row : Outstanding → SctpOutstanding
+outstanding_row o = record { bytes = o.bytes; chunks = o.chunks; marked = o.marked }
 
 -- of a chunk that was acknowledged
 abbrev pub acked_row : Released → SctpAcked

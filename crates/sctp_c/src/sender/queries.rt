@@ -2,8 +2,9 @@
 
 ghost use Rattle.std.specs.Prelude.{◌≡◌, ◌⊎◌, None, Some, find, length, option_map, slice_get};
 ghost use Rattle.sctp_c.specs.Flags.{flag, moment};
-ghost use Rattle.sctp_c.specs.Rows.{in_flight_row};
+ghost use Rattle.sctp_c.specs.Rows.{in_flight_row, outstanding_row};
 ghost use Rattle.sctp_outbound.specs.Marks.{is_outstanding};
+ghost use Rattle.sctp_outbound.specs.Outstanding.{outstanding_of};
 ghost use Rattle.sctp_outbound.specs.pending_queue.PendingQueue.{chunk_count};
 ghost use Rattle.sctp_sender.specs.Abandonment.{advanced_ack_point};
 ghost use Rattle.sctp_sender.specs.Resending.{is_to_resend};
@@ -44,6 +45,18 @@ pub struct SctpInFlight {
     pub is_abandoned: u8,
     /// 1 where it is marked for retransmission, else 0.
     pub is_marked: u8,
+}
+
+/// What is outstanding: in flight, and neither acknowledged nor abandoned.
+#[repr(C)]
+#[derive(Clone, Copy)]
+pub struct SctpOutstanding {
+    /// How many bytes of user data the chunks have that are not marked for retransmission: the flight size.
+    pub bytes: usize,
+    /// How many chunks are not marked.
+    pub chunks: usize,
+    /// How many chunks are marked.
+    pub marked: usize,
 }
 
 // A moment, 0 where there is none.
@@ -222,6 +235,22 @@ pub extern "C" fn sctpr_sender_chunks_in_flight(sender: &mut SctpSender) -> usiz
     ensures same { sender.new.value ≡ sender.old.value }
 {
     sender.get_mut().outbound().inflight_len()
+}
+
+/// What is outstanding: `row` tells of it. A chunk that is marked for retransmission has no part in the flight size until it is sent again
+/// (RFC 9260 6.2.1 B, 7.2).
+#[unsafe(no_mangle)]
+pub extern "C" fn sctpr_sender_outstanding(sender: &mut SctpSender, row: &mut SctpOutstanding)
+    ensures row { row.new
+        ≡ outstanding_row (outstanding_of sender.old.value.flight.queue.inflight.chunks) }
+    ensures same { sender.new.value ≡ sender.old.value }
+{
+    let told = sender.get_mut().outstanding();
+    *row = SctpOutstanding {
+        bytes: told.bytes,
+        chunks: told.chunks,
+        marked: told.marked,
+    };
 }
 
 /// The first TSN in flight that is neither acknowledged nor abandoned (RFC 4960 6.3.3): `tsn` becomes that. `SCTPR_NOTHING`: there is

@@ -428,6 +428,16 @@ pub struct sctpr_expired {
     pub is_low: u8,
 }
 
+/// What is outstanding: in flight, and neither acknowledged nor abandoned. `bytes` and `chunks` leave out what is marked for retransmission:
+/// `bytes` is the flight size (RFC 9260 6.2.1 B, 7.2). `marked` is how many chunks are marked.
+#[derive(Clone, Copy, Debug, Default, PartialEq, Eq)]
+#[repr(C)]
+pub struct sctpr_outstanding {
+    pub bytes: usize,
+    pub chunks: usize,
+    pub marked: usize,
+}
+
 #[rustfmt::skip]
 extern "C" {
     /// The version of the library that was linked: major << 16 | minor << 8 | patch.
@@ -721,8 +731,11 @@ extern "C" {
     /// The Advanced.Peer.Ack.Point (RFC 3758 3.5 C2).
     pub fn sctpr_sender_advanced_ack_point(sender: *const sctpr_sender) -> u32;
 
-    /// How many bytes of user data are in flight (RFC 4960 7.2): what is acknowledged or abandoned counts no more.
+    /// How many bytes of user data are in flight: what is acknowledged or abandoned counts no more, and what is marked counts.
     pub fn sctpr_sender_bytes_in_flight(sender: *const sctpr_sender) -> usize;
+
+    /// What is outstanding: `row` tells of it. After sctpr_sender_retransmit_all `bytes` is 0, and each chunk that is sent again raises it.
+    pub fn sctpr_sender_outstanding(sender: *const sctpr_sender, row: *mut sctpr_outstanding);
 
     /// How many chunks are in flight: each TSN past sctpr_sender_acked_tsn and before sctpr_sender_next_tsn has one.
     pub fn sctpr_sender_chunks_in_flight(sender: *const sctpr_sender) -> usize;

@@ -32,7 +32,8 @@ pub use receiver::{Arrival, MessageInfo, Receiver};
 pub use receiver::{Message, Messages};
 pub use sctp_rattle_sys as sys;
 pub use sender::{
-    Abandoned, AbandonedRow, Acked, AckedRow, Expired, InFlight, InFlightChunks, Mode, Sender, Sent, TakenBack, TakenBackRow, Written,
+    Abandoned, AbandonedRow, Acked, AckedRow, Expired, InFlight, InFlightChunks, Mode, Outstanding, Sender, Sent, TakenBack, TakenBackRow,
+    Written,
 };
 
 /// What a call answers.

@@ -129,6 +129,17 @@ pub struct Expired {
     pub is_low: bool,
 }
 
+/// What is in flight, and neither acknowledged nor abandoned.
+#[derive(Clone, Copy, Debug, PartialEq, Eq)]
+pub struct Outstanding {
+    /// The bytes of the chunks that are not marked for retransmission: the flight size (RFC 9260 6.2.1 B, 7.2).
+    pub bytes: usize,
+    /// How many chunks are not marked.
+    pub chunks: usize,
+    /// How many chunks are marked.
+    pub marked: usize,
+}
+
 /// Room for an [`Acked`].
 pub type AckedRow = sys::sctpr_acked;
 /// Room for a [`TakenBack`].
@@ -441,6 +452,14 @@ impl Sender {
     pub fn bytes_in_flight(&self) -> usize {
         // SAFETY: as in `next_tsn`.
         unsafe { sys::sctpr_sender_bytes_in_flight(self.handle.get()) }
+    }
+
+    /// What is outstanding: in flight, and neither acknowledged nor abandoned.
+    pub fn outstanding(&self) -> Outstanding {
+        let mut row = sys::sctpr_outstanding::default();
+        // SAFETY: as in `in_flight`.
+        unsafe { sys::sctpr_sender_outstanding(self.handle.get(), &mut row) };
+        Outstanding { bytes: row.bytes, chunks: row.chunks, marked: row.marked }
     }
 
     /// How many chunks are in flight.

@@ -131,6 +131,7 @@ fn a_message_goes_over() {
         chunks.push(out);
     }
     assert_eq!((s.chunks_in_flight(), s.bytes_in_flight(), s.next_tsn()), (3, 28, 1003));
+    assert_eq!(s.outstanding(), Outstanding { bytes: 28, chunks: 3, marked: 0 });
     assert_eq!((s.acked_tsn(), s.advanced_ack_point()), (999, 999));
     assert_eq!((r.data(&chunks[0]), r.data(&chunks[0]), r.data(&chunks[2])), (Ok(Arrival::Added), Ok(Arrival::Repeat), Ok(Arrival::Added)));
     assert_eq!((r.held_bytes(), r.window(), r.cumulative_tsn()), (818, 65536 - 818, 1000));
