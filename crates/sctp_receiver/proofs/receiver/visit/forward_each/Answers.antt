@@ -22,10 +22,6 @@ loop-spot-init c = record {
   walk = omega arith;
 }
 
-pub forward_at-cost-requires-clause-place : goal.forward_at-cost-requires-clause-place
-forward_at-cost-requires-clause-place c =
-    omega (arith, c.at.ensures.in_range, c.requires.listing.listed.places, c.loop-spot.invariant.same)
-
 pub loop-spot-preserved : goal.loop-spot-preserved
 loop-spot-preserved c =
     let f = skip_forwarded c.args.skip c.args.tsn in

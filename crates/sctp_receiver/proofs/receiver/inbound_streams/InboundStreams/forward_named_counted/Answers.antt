@@ -1,13 +1,7 @@
 use Rattle.std.proofs.Common.{ap, sym, ◌∙◌, arith}
-use Rattle.sctp_receiver.specs.Inbound.{numbers_of, named_forwarded}
+use Rattle.sctp_receiver.specs.Inbound.{named_forwarded}
 use Rattle.sctp_receiver.specs.Noted.{each_made}
 use Rattle.sctp_receiver.proofs.receiver.inbound_streams.InboundStreams.forward_named_counted.Goals as goal
-
-pub note_each-requires-clause-numbers : goal.note_each-requires-clause-numbers
-note_each-requires-clause-numbers c = c.self.invariant.numbers ∙ ap numbers_of (sym c.deref.ensures.value)
-
-pub make_each-self-inside-requires-clause-places : goal.make_each-self-inside-requires-clause-places
-make_each-self-inside-requires-clause-places c = omega (arith, c.self.invariant.places, c.note_each.ensures.places)
 
 pub invariant_of-self : goal.invariant_of-self
 invariant_of-self c =
@@ -25,6 +19,3 @@ returns-clause-value c =
     let lent = c.deref.ensures.value in
     rw (← c.self.view_is) (c.make_each-self-inside.ensures.value ∙ ap (each_made c.note_each.new.noted.items) (sym lent) ∙ c.note_each.ensures.value
     ∙ ap (named_forwarded c.args.names.now) lent)
-
-pub returns-clause-walk : goal.returns-clause-walk
-returns-clause-walk c = rw (← c.self.view_is) c.make_each-self-inside.ensures.walk

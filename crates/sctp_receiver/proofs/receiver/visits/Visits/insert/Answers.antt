@@ -4,9 +4,6 @@ use Rattle.sctp_receiver.specs.Visited.{is_spot_before}
 use Rattle.sctp_receiver.proofs.VisitOrders.{swapped-inverse, inserted}
 use Rattle.sctp_receiver.proofs.receiver.visits.Visits.insert.Goals as goal
 
-pub swap-requires-clause-first : goal.swap-requires-clause-first
-swap-requires-clause-first c = rw (← c.self.view_is) at c.spot_of-spot.ensures.in_range
-
 pub swap-requires-clause-second : goal.swap-requires-clause-second
 swap-requires-clause-second c =
     let lt : c.spot_of-spot.result < length c.self.inside.order.items = rw (← c.self.view_is) at c.spot_of-spot.ensures.in_range in
