@@ -144,6 +144,4 @@ module _ {sum : List ℕ → ℕ} {x : State} (l : IsLinked sum x) (credit : ℕ
 -- the record with the datagram that says it
 pub recorded-acked : (w : LinkRecord) (credit : ℕ) (network : List W.Datagram) (repeats : List ℕ) (r : W.Report) → network ≡ w.network ++ W.Sack r ∷ []
     → r ≡ report_of w credit → repeats ≡ [] → record w { network = network; duplicates = repeats } ≡ after_ack w credit
-recorded-acked w credit network repeats r a b c =
-    ap (λ n. record w { network = n; duplicates = repeats }) (a ∙ ap (λ s. w.network ++ W.Sack s ∷ []) b)
-    ∙ ap (λ d. record w { network = w.network ++ W.Sack (report_of w credit) ∷ []; duplicates = d }) c
+recorded-acked w credit network repeats r a b c = cc (a, b, c)

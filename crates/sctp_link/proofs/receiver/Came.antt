@@ -109,8 +109,7 @@ filter-new {w} p f then' valid made new is e =
 pub filter-again : (w : LinkRecord) (p : ℕ) (f then' : Filter) → is_new w p ≡ false → filter_shown f ≡ filter_of w → then' ≡ with_duplicate (tsn_of w p) f
     → filter_shown then' ≡ filter_of (receive_slot w p)
 filter-again w p f then' old is e =
-    ap filter_shown e ∙ ap {B = FilterRecord} (λ (r : FilterRecord). record r { duplicates = r.duplicates ++ tsn_of w p ∷ [] }) is
-    ∙ sym (SlotArrives.repeated-filter w p old)
+    cc (e, ap {B = FilterRecord} (λ (r : FilterRecord). record r { duplicates = r.duplicates ++ tsn_of w p ∷ [] }) is, SlotArrives.repeated-filter w p old)
 
 -- all up to a TSN counts as come
 pub filter-gone : (w v : LinkRecord) (tsn : ℕ) (f then' : Filter) → filter_shown f ≡ filter_of w → then' ≡ skipped_to tsn f

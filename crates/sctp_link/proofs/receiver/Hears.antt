@@ -119,9 +119,7 @@ module _ {sum : List ℕ → ℕ} {x : State} (l : IsLinked sum x) (at s : ℕ) 
   pub low-front : (i : ℕ) → 0 < length (slice_index_or x.open_streams at d).inbound.queue.held.ordered
       → i ≡ index_of x.recorded (slice_index_or (held_on x.recorded s) 0 0)
       → min (slice_index_or x.open_streams at d).next i ≡ least (next_of x.recorded s) (map (index_of x.recorded) (held_on x.recorded s))
-  low-front i some e = ap (min (slice_index_or x.open_streams at d).next) e
-      ∙ ap (λ n. min n (index_of x.recorded (slice_index_or (held_on x.recorded s) 0 0))) stream-next
-      ∙ sym (lowest-front x.recorded s 0 (omega (arith, some, ap length stream-ordered, sets-held x.recorded s)))
+  low-front i some e = cc (e, stream-next, lowest-front x.recorded s 0 (omega (arith, some, ap length stream-ordered, sets-held x.recorded s)))
 
   pub high-back : (i : ℕ) → 0 < length (slice_index_or x.open_streams at d).inbound.queue.held.ordered
       → i ≡ index_of x.recorded (slice_index_or (held_on x.recorded s) (length (slice_index_or x.open_streams at d).inbound.queue.held.ordered - 1) 0)
@@ -129,10 +127,7 @@ module _ {sum : List ℕ → ℕ} {x : State} (l : IsLinked sum x) (at s : ℕ) 
   high-back i some e =
       let same : length (slice_index_or x.open_streams at d).inbound.queue.held.ordered ≡ length (held_on x.recorded s) = ap length stream-ordered
       ∙ sets-held x.recorded s in
-      ap (max (slice_index_or x.open_streams at d).next) e ∙ ap (λ n. max n (index_of x.recorded
-      (slice_index_or (held_on x.recorded s) (length (slice_index_or x.open_streams at d).inbound.queue.held.ordered - 1) 0))) stream-next
-      ∙ ap (λ k. max (next_of x.recorded s) (index_of x.recorded (slice_index_or (held_on x.recorded s) (k - 1) 0))) same
-      ∙ sym (highest-back x.recorded s 0 (omega (arith, some, same)))
+      cc (e, stream-next, same, highest-back x.recorded s 0 (omega (arith, some, same)))
 
 -- ## The message of a slot that comes
 

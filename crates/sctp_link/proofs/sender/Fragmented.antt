@@ -1,6 +1,6 @@
 -- The fragments of a write are one message, and wait as the record says.
 use Rattle.sctp_link.proofs.Names.{◌≡◌, ℕ, ◌+◌, ◌-◌, ◌<◌, ◌%◌, ◌^◌, Bool, false, List, [], ◌∷◌, ◌++◌, length, map, Some, ap, sym, ◌∙◌, arith, ◌==◌, not}
-use Rattle.sctp_link.proofs.Names.{slice_index_or, fresh, is_ordered, numbers_from, pieces, ChunkPayloadData, PayloadProtocolIdentifier, with_message_id}
+use Rattle.sctp_link.proofs.Names.{slice_index_or, fresh, numbers_from, pieces, ChunkPayloadData, PayloadProtocolIdentifier, with_message_id}
 use Rattle.sctp_link.proofs.Names.{fragments_with_mode, LinkRecord, StreamRecord, message_of, fragment_count, ordered_before, message_on, waiting_at}
 use Rattle.sctp_link.proofs.Names.{waiting_of, StreamState, map-twice, pieces_of, map-all}
 use Rattle.sctp_model.proofs.refinement.sending.Waiting
@@ -28,14 +28,7 @@ module _ (w : LinkRecord) (s : StreamState) (r : StreamRecord) (ppi : PayloadPro
   v = record w { messages = w.messages ++ message_on w r ppi bytes ∷ [] }
 
   one-waits : (i : ℕ) → with_message_id (length w.messages) (made s ppi bytes i) ≡ waiting_at v (length w.messages) i
-  one-waits i =
-      ap (λ (t : ℕ). record (with_message_id (length w.messages) (made s ppi bytes i)) { stream_identifier = t }) (sym number) ∙ ap (λ t.
-      record (built w r ppi bytes i (is_ordered s.unordered ppi) s.max_payload_size s.sequence_number) { reliability = Some (t, s.reliability_value) })
-      (sym reliability)
-      ∙ ap (λ t. record (built w r ppi bytes i (is_ordered s.unordered ppi) s.max_payload_size s.sequence_number) { reliability = Some (r.reliability, t) })
-      (sym value) ∙ ap (λ t. built w r ppi bytes i t s.max_payload_size s.sequence_number) (ap (λ u. is_ordered u ppi) (sym mode))
-      ∙ ap (λ t. built w r ppi bytes i (is_ordered r.unordered ppi) t s.sequence_number) size
-      ∙ ap (λ t. built w r ppi bytes i (is_ordered r.unordered ppi) w.setup.size t) ssn ∙ sym (Written.waiting-new w r ppi bytes i)
+  one-waits i = cc (number, reliability, value, mode, size, ssn, Written.waiting-new w r ppi bytes i)
 
   pub all-wait : ((p : ℕ) → p < length w.slots → message_of w p < length w.messages)
       → map (with_message_id (length w.messages)) (fragments_with_mode s ppi bytes) ≡ waiting_of v (length w.messages)

@@ -1,6 +1,6 @@
 -- The datagrams that a link makes of DATA chunks.
 use Rattle.sctp_link.proofs.Names.{◌≡◌, ℕ, ◌+◌, ◌<◌, ◌≤◌, ◌^◌, true, false, List, [], ◌∷◌, ◌++◌, length, map, get_or, Some, None, refl, ap, sym, ◌∙◌, arith}
-use Rattle.sctp_link.proofs.Names.{◌&&◌, ◌||◌, not, find, subst, map-append, pieces, change_where, both, negated, ChunkPayloadData, data_of, data_value}
+use Rattle.sctp_link.proofs.Names.{◌&&◌, not, find, subst, map-append, pieces, change_where, both, negated, ChunkPayloadData, data_of, data_value}
 use Rattle.sctp_link.proofs.Names.{data_chunk, ReadsPacket, packet_encoding, has_tsn, with_nsent, Outbound, with_inflight, NotInFlight, LinkRecord, slot_at}
 use Rattle.sctp_link.proofs.Names.{message_at, message_of, place_of, is_in_flight, chunk_at, contents_of, is_cleared, after_resend, refusal_of, can_resend}
 use Rattle.sctp_link.proofs.Names.{unless-holds, RefinesOutbound, Found, says-same, refines-marked, nsent-quiet, Kind, Datagram, datagram_record, kind_record}
@@ -39,8 +39,7 @@ network-more ds es k bytes e = ap (map datagram_record) e ∙ map-append datagra
 
 pub bytes-more : (ds es : List Datagram) (k : Kind) (bytes : List ℕ) → es ≡ ds ++ (let d : Datagram = record { kind = k; bytes = bytes } in d) ∷ []
     → map (λ d. d.bytes) es ≡ map (λ d. d.bytes) ds ++ bytes ∷ []
-bytes-more ds es k bytes e = ap (map (λ d. d.bytes)) e
-    ∙ map-append (λ (d : Datagram). d.bytes) ds ((let d : Datagram = record { kind = k; bytes = bytes } in d) ∷ [])
+bytes-more ds es k bytes e = cc (e, map-append (λ (d : Datagram). d.bytes) ds ((let d : Datagram = record { kind = k; bytes = bytes } in d) ∷ []))
 
 -- ## A chunk leaves again
 
@@ -63,8 +62,7 @@ module _ {sum : List ℕ → ℕ} {x : State} (l : IsLinked sum x) (tsn : ℕ) (
   clear : is_cleared x.recorded p ≡ false
   clear =
       let r = both (not (slot_at x.recorded p).acknowledged) (not (message_at x.recorded (message_of x.recorded p)).abandoned) rest in
-      ap (λ b. b || (message_at x.recorded (message_of x.recorded p)).abandoned) (negated (slot_at x.recorded p).acknowledged r.0)
-      ∙ negated (message_at x.recorded (message_of x.recorded p)).abandoned r.1
+      cc (negated (slot_at x.recorded p).acknowledged r.0, negated (message_at x.recorded (message_of x.recorded p)).abandoned r.1)
 
   -- the chunk in flight with the TSN
   abbrev pub found : Found x.recorded p cs

@@ -2,8 +2,8 @@
 use Rattle.sctp_link.proofs.Names.{◌≡◌, ℕ, ◌-◌, ◌<◌, ◌≤◌, List, [], ◌∷◌, ◌++◌, length, map, Some, refl, ap, sym, ◌∙◌, arith, slice_get, slice_index_or}
 use Rattle.sctp_link.proofs.Names.{AllByRecursion, subst, numbers_from, length-mapped, ChunkKind, ChunkPayloadData, wire_of, data_of, data_chunk, HasEncoding}
 use Rattle.sctp_link.proofs.Names.{Canonical, ReadsPacket, packet_encoding, LinkRecord, StreamRecord, message_at, tsn_of, front, ordered_before, ssn_of}
-use Rattle.sctp_link.proofs.Names.{chunk_at, contents_of, filter_of, in_all, written_bytes, after_start, start_lifetime, after_send, send_from, with_datagram}
-use Rattle.sctp_link.proofs.Names.{send_fragments, IsRight, StandsFor, reply_to, sent_reply, fragments_accepted, shape, Quiet, chunks_taken, begun_on}
+use Rattle.sctp_link.proofs.Names.{chunk_at, contents_of, filter_of, in_all, written_bytes, after_start, start_lifetime, after_send}
+use Rattle.sctp_link.proofs.Names.{send_fragments, IsRight, StandsFor, reply_to, fragments_accepted, shape, Quiet, chunks_taken, begun_on}
 use Rattle.sctp_link.proofs.Names.{RefinesOutbound, Indexed, Fills, fill-sent, fill-started, sent-started, only-slots, before-started, outbound-same}
 use Rattle.sctp_link.proofs.Names.{same-self, OpenStream, join_each, IsApart, IsDatagram, packet_with, wire_data, State, IsLinked, IsOpenStream, progress_of}
 use Rattle.sctp_link.proofs.Names.{StreamState, InboundStream, Outgoing, stands-then, piece-short, SameStream, stream-quiet, filter-kept, fragments-same}
@@ -84,15 +84,11 @@ module _ {sum : List ℕ → ℕ} {x : State} (l : IsLinked sum x) (now n : ℕ)
   many = let c = fills.count in omega (arith, c)
 
   sent-moves : after_send w now ≡ v
-  sent-moves =
-      ap (send_from u) fr ∙ ap (λ k. with_datagram z (W.Data (numbers_from (length x.recorded.slots) k))) many ∙ ap (λ y. with_datagram y (W.Data places)) only
+  sent-moves = cc (fr, many, only)
 
   pub send-right : (ssn : ℕ) → ssn ≡ ssn_of w n → IsRight w (E.Send now) (R.Sent (length w.network) x.next_tsn ssn (length cs)) v
   send-right ssn e = record {
-    right = ap (λ t. R.Sent (length w.network) t ssn (length cs)) l.next ∙ ap (λ k. R.Sent (length w.network) (tsn_of w (length w.slots)) k (length cs)) e
-        ∙ sym (ap (sent_reply w (after_send w now)) fr
-        ∙ ap (λ (y : LinkRecord). R.Sent (length w.network) (tsn_of w (length w.slots)) (ssn_of w n) (length y.slots - length w.slots)) sent-moves
-        ∙ ap (R.Sent (length w.network) (tsn_of w (length w.slots)) (ssn_of w n)) many);
+    right = cc (l.next, e, fr, sent-moves, many);
     moves = sym sent-moves;
   }
 
@@ -125,9 +121,7 @@ module _ {sum : List ℕ → ℕ} {x : State} (l : IsLinked sum x) (now n : ℕ)
   -- the record that the link then has
   pub recorded-is : (rs : List StreamRecord) (ms : List Message) (ss : List Slot) (ns : List W.Datagram) → rs ≡ w.streams → ms ≡ u.messages → ss ≡ z.slots
       → ns ≡ w.network ++ W.Data places ∷ [] → record w { streams = rs; messages = ms; slots = ss; network = ns } ≡ v
-  recorded-is rs ms ss ns r a b c =
-      ap (λ t. record w { streams = t; messages = ms; slots = ss; network = ns }) r ∙ ap (λ m. record w { messages = m; slots = ss; network = ns }) a
-      ∙ ap (λ m. record u { slots = m; network = ns }) b ∙ ap (λ m. record u { slots = z.slots; network = m }) c
+  recorded-is rs ms ss ns r a b c = cc (r, a, b, c)
 
   module _ (states : List StreamState) (inbounds : List InboundStream) (s : Outgoing)
       (b : Between states inbounds x now (send_fragments (after_start x.recorded now)) s) (bytes : List ℕ)

@@ -143,8 +143,7 @@ module _ {t : Transmission} {r : Reception} {ps : List Standing} (a : IsAligned 
       record { state = s; inbound = i; complete = (f p).complete; ordered = (f p).ordered; begun = (f p).begun; next = (f p).next; named = (f p).named } in l)
       ≡ g (record { state = s; inbound = i; complete = p.complete; ordered = p.ordered; begun = p.begun; next = p.next; named = p.named })) → (s : ℕ)
       → sides t r (change_where (Progress.has_number s) f ps) ≡ on_stream s g (sides t r ps)
-  progress-sides f g made s =
-      ap (λ ls. let y : Sides = record (sides t r ps) { streams = ls } in y) (progress-changed f g made s t.streams r.streams ps a.progresses)
+  progress-sides f g made s = cc (progress-changed f g made s t.streams r.streams ps a.progresses)
 
   pub read-recorded : (s : ℕ) (ordered : Bool) (index : ℕ)
       → sides t r (change_where (Progress.has_number s) (Progress.with_read ordered index) ps) ≡ on_stream s (read_recorded ordered index) (sides t r ps)

@@ -140,8 +140,7 @@ module _ (f : Standing → Standing) (g : OpenStream → OpenStream)
   progress-mapped [] is ps a = refl
   progress-mapped (s ∷ ss) [] ps a = refl
   progress-mapped (s ∷ ss) (i ∷ is) [] a = refl
-  progress-mapped (s ∷ ss) (i ∷ is) (p ∷ ps) a = ap (λ xs. join s i (f p) ∷ xs) (progress-mapped ss is ps (tail-same a))
-      ∙ ap (λ l. l ∷ map g (join_each ss is ps)) (made s i p (head-same a))
+  progress-mapped (s ∷ ss) (i ∷ is) (p ∷ ps) a = cc (progress-mapped ss is ps (tail-same a), made s i p (head-same a))
 
 -- what is told of the progress of the stream with a number
 pub found-progress : {B : Type 0} (h : OpenStream → B) (k : Standing → B) → ((s : StreamState) (i : InboundStream) (p : Standing) → h (join s i p) ≡ k p)

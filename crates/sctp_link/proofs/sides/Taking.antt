@@ -3,7 +3,7 @@ use Rattle.sctp_link.proofs.Names.{◌≡◌, ℕ, zero, suc, ◌≤◌, List, [
 use Rattle.sctp_link.proofs.Names.{arith, ◌&&◌, if◌then◌else◌, option_map, slice_get, change_where, some-same, ChunkPayloadData, ReassemblyState}
 use Rattle.sctp_link.proofs.Names.{PushesUnordered, after_ordered_push, Arrival, New, Repeat, InboundStream, ReceiverRefusal, Pushes, PushesAs, Reception}
 use Rattle.sctp_link.proofs.Names.{is_answered_complete, data_refusal, Transmission, Standing, after_one, after_each, IsApart, OpenStream, join_each}
-use Rattle.sctp_link.proofs.Names.{has_number, stream_numbers, on_inbound, Sides, IsAligned, stream_in, on_stream, Takes, TakesEach, CanTake, sides, twice}
+use Rattle.sctp_link.proofs.Names.{has_number, stream_numbers, on_inbound, IsAligned, stream_in, Takes, TakesEach, CanTake, sides, twice}
 use Rattle.sctp_link.proofs.Names.{unchanged}
 use Rattle.sctp_receiver.specs.Inbound.{with_queue}
 use Rattle.sctp_receiver.specs.Receiver as R
@@ -65,8 +65,7 @@ module _ {t : Transmission} {r : Reception} {ps : List Standing} (a : IsAligned 
 -- one is taken
 pub takes-one : {t : Transmission} {r : Reception} {ps : List Standing} → IsAligned t r ps → IsApart (Outgoing.numbers_of t.streams)
     → (c : ChunkPayloadData) (n : ℕ) (b : Arrival) (x : Reception) → R.Takes c b r x → Takes c n b (sides t r ps) (sides t x (after_one c n b ps))
-takes-one {t} {r} {ps} a apart c n Repeat x h =
-    ap (λ z. sides t z ps) h ∙ ap (λ l. let z : Reception = record r { duplicates = R.noted_by l c.tsn r.duplicates } in sides t z ps) a.unlimited
+takes-one {t} {r} {ps} a apart c n Repeat x h = cc (h, a.unlimited)
 takes-one {t} {r} {ps} a apart c n (New b) x h =
     let s = c.stream_identifier in
     let gone = b && c.unordered in
@@ -86,9 +85,7 @@ takes-one {t} {r} {ps} a apart c n (New b) x h =
       found = there.1.0;
       kept = kept;
       keeps = record { complete = b; ordered_queue = pushed.ordered; unordered_queue = pushed.unordered; rest = refl };
-      after =
-          ap (λ zs. let z : Sides = record (sides t x (after_one c n (New b) ps)) { streams = zs } in z) streams ∙ ap (λ (w : Reception). let z : Sides =
-          record (on_stream s (λ _. kept) (sides t r ps)) { cumulative_tsn = w.cumulative_tsn; beyond = w.beyond; duplicates = w.duplicates } in z) h.after;
+      after = cc (streams, h.after);
     }
 
 -- ## Several, one after another

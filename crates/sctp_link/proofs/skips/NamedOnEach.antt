@@ -1,5 +1,5 @@
 -- What a skip names on the open streams of a link, by its messages and by its record.
-use Rattle.sctp_link.proofs.Names.{◌≡◌, ℕ, ◌<◌, List, [], length, Some, refl, ap, sym, ◌∙◌, slice_get, slice_index_or, get_or_default, Forward, StreamRecord}
+use Rattle.sctp_link.proofs.Names.{◌≡◌, ℕ, ◌<◌, List, [], length, Some, refl, sym, ◌∙◌, slice_get, slice_index_or, get_or_default, Forward, StreamRecord}
 use Rattle.sctp_link.proofs.Names.{Inside, Named, record_in, state_in, sides_in, IsLinked, IsAligned, named_from, none_named, new_open_stream, named_in}
 use Rattle.sctp_link.proofs.Names.{HasNames, skips-in}
 use Rattle.sctp_link.specs.Progress.{fresh}
@@ -16,8 +16,7 @@ module _ {C : Type 0} (sum : List ℕ → ℕ) (a : Inside C) (al : IsAligned a.
       let y = new_open_stream 0 0 0 in
       let same : s ≡ r.stream =
       number ∙ number-answered al at' (fresh 0) y inside ∙ sym (record-at (sides_in a).streams at' y r e) in
-      ap (λ t. named_from a.messages.items t none_named names) same
-      ∙ names-are l a.messages.items refl refl upto r.stream names (skips-in (facts l) k upto names lies).fit
+      cc (same, names-are l a.messages.items refl refl upto r.stream names (skips-in (facts l) k upto names lies).fit)
 
   -- as a table has it
   pub table-there : (table : List Named) → HasNames a.messages.items names [] a.progress table → (r : StreamRecord) (d : Named)

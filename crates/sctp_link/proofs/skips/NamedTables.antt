@@ -29,8 +29,7 @@ module _ (ms : List Message) (n : ℕ) where
 
   -- on another stream it names nothing
   pub name-other : (s : ℕ) (d : Named) (rest : List ℕ) → is_on ms s n ≡ false → named_from ms s d (n ∷ rest) ≡ named_from ms s d rest
-  name-other s d rest e = name-next s d rest
-      ∙ ap (λ b. named_from ms s (if b then record { low = min d.low (index_in ms n); end = max d.end (index_in ms n + 1) } else d) rest) e
+  name-other s d rest e = cc (name-next s d rest, e)
 
   pub on-other : (s : ℕ) → ((message_in ms n).stream ≡ s → ⊥) → is_on ms s n ≡ false
   on-other s ne = ap (λ b. b && ((message_in ms n).ordered && not (message_in ms n).expired)) (ne_eqb _ _ ne)

@@ -2,7 +2,7 @@
 use Rattle.sctp_link.proofs.Names.{◌≡◌, ℕ, ◌≤◌, ◌^◌, ◌%◌, Bool, true, false, List, [], ◌∷◌, map, Some, None, refl, ap, sym, ◌∙◌, if◌then◌else◌, ◌==◌, is_some}
 use Rattle.sctp_link.proofs.Names.{slice_get, filter, ReassemblyState, after_ordered_skip, held_after_ordered_skips, LinkRecord, StreamRecord, Forward}
 use Rattle.sctp_link.proofs.Names.{message_at, stream_at, is_ordered_on, index_of, ssn_of, cumulative, name_of, refusal_of, shape, Sender, NamesFit}
-use Rattle.sctp_link.proofs.Names.{reassembly_of, end_named, ssns_of, skipped_each, Message, State, IsLinked, message_record, progress_of, index_in}
+use Rattle.sctp_link.proofs.Names.{reassembly_of, end_named, ssns_of, skipped_each, Message, State, IsLinked, message_record, progress_of}
 use Rattle.sctp_link.proofs.Names.{message_in, pair_in, named_stream, gone_forward, skips-in, named-on}
 use Rattle.sctp_data.specs.declared.chunk.chunk_forward_tsn.ChunkForwardTsnStream.{ChunkForwardTsnStream}
 use Rattle.sctp_model.specs.declared.event.Event.TheVariants as E
@@ -45,10 +45,7 @@ pairs-are {x} l ms messages_are progress_are upto (n ∷ ns) fit =
     let stream : (message_in ms n).stream ≡ (message_at w n).stream = ap (λ rs. (message_at (record w { messages = rs }) n).stream) (sym messages_are) in
     let index = index-is l ms messages_are progress_are upto n fit.0 in
     let ssn = ap (λ b. (if b then index_of w n else (message_at w n).before) % 2 ^ 16) fit.0.ordered in
-    ap (λ s. named_stream (s, index_in ms n % 2 ^ 16) ∷ map (pair_in ms) ns) stream
-    ∙ ap (λ i. named_stream ((message_at w n).stream, i % 2 ^ 16) ∷ map (pair_in ms) ns) index
-    ∙ ap (λ i. named_stream ((message_at w n).stream, i) ∷ map (pair_in ms) ns) (sym ssn)
-    ∙ ap (λ ps. named_stream (name_of w n) ∷ ps) (pairs-are l ms messages_are progress_are upto ns fit.1)
+    cc (stream, index, ssn, pairs-are l ms messages_are progress_are upto ns fit.1)
 
 -- ## What becomes of a queue
 
@@ -70,6 +67,4 @@ module _ {sum : List ℕ → ℕ} {x : State} (l : IsLinked sum x) (k upto : ℕ
       let skips = skips-in (facts l) k upto names e in
       let sp = spans l k upto names none e counts s (ap is_some o) in
       let ssns = names-in-turn w upto s names f.consistent.sender skips.fit in
-      held-each (ssns_of s (pairs_of w names)) q ∙ ap (λ is. held_after_ordered_skips is q.held) ssns
-      ∙ ap (held_after_ordered_skips (map (λ n. index_of w n % 2 ^ 16) (on_stream w s names))) held
-      ∙ skips-in-turn w s upto names r f.valid.valid skips.made counts o sp.0 sp.1
+      cc (held-each (ssns_of s (pairs_of w names)) q, ssns, held, skips-in-turn w s upto names r f.valid.valid skips.made counts o sp.0 sp.1)

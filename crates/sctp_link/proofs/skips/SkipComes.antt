@@ -1,7 +1,7 @@
 -- The arrival of a FORWARD-TSN: what it names, and its span test.
-use Rattle.sctp_link.proofs.Names.{◌≡◌, ℕ, zero, suc, ◌+◌, ◌-◌, ◌<◌, ◌≤◌, ◌^◌, Bool, true, false, List, [], ◌∷◌, length, map, Some, None, refl, ap, sym, ◌∙◌}
+use Rattle.sctp_link.proofs.Names.{◌≡◌, ℕ, zero, suc, ◌+◌, ◌-◌, ◌<◌, ◌≤◌, Bool, true, false, List, [], ◌∷◌, length, map, Some, None, refl, ap, sym, ◌∙◌}
 use Rattle.sctp_link.proofs.Names.{arith, if◌then◌else◌, ◌==◌, find, slice_get, slice_index_or, filter, subst, forward_tsn_chunk, ReadsPacket, LinkRecord}
-use Rattle.sctp_link.proofs.Names.{StreamRecord, Forward, stream_at, is_open, is_ordered_on, index_of, cumulative, held_on, greatest, least, after_arrive}
+use Rattle.sctp_link.proofs.Names.{StreamRecord, Forward, stream_at, is_open, is_ordered_on, index_of, cumulative, held_on, after_arrive}
 use Rattle.sctp_link.proofs.Names.{refusal_of, IsSpan, shape, IsNamable, NamesFit, low_named, end_named, complete_first, min_with, with_skip, skip-step}
 use Rattle.sctp_link.proofs.Names.{sets-held, OpenStream, has_number, Named, Message, Datagram, State, IsLinked, message_record, progress_of, stream_record}
 use Rattle.sctp_link.proofs.Names.{datagram_record, kind_record, index_in, is_on, named_from, none_named, wire_skip, packet_with, length-mapped, get_or-map}
@@ -41,8 +41,7 @@ module _ {sum : List ℕ → ℕ} {x : State} (l : IsLinked sum x) (ms : List Me
   names-are upto s ns fit =
       let low = mapped-is (index_in ms) (index_of x.recorded) upto s ns (λ n i. index-is upto n i) fit in
       let end = mapped-is (λ n. index_in ms n + 1) (λ n. index_of x.recorded n + 1) upto s ns (λ n i. ap (λ k. k + 1) (index-is upto n i)) fit in
-      ap (λ is. let r : Named = record { low = least (2 ^ 64 - 1) is; end = greatest 0 (map (λ n. index_in ms n + 1) (filter (is_on ms s) ns)) } in r) low
-      ∙ ap (λ is. let r : Named = record { low = low_named x.recorded s ns; end = greatest 0 is } in r) end
+      cc (low, end)
 
 -- ## A stream at a place
 

@@ -27,8 +27,7 @@ with-twice : (a b c : ℕ) (p : Standing) → c ≡ max a b → with_named b (wi
 with-twice a b c p e =
     let next : max (max p.next a) b ≡ max p.next c = omega (arith, e) in
     let named : max (max p.named a) b ≡ max p.named c = omega (arith, e) in
-    ap (λ n. let q : Standing = record p { next = n; named = max (max p.named a) b } in q) next
-    ∙ ap (λ n. let q : Standing = record p { next = max p.next c; named = n } in q) named
+    cc (next, named)
 
 greatest-from : (c : ℕ) (is : List ℕ) → greatest c is ≡ max c (greatest 0 is)
 greatest-from c [] = omega arith
@@ -61,8 +60,7 @@ module _ (ms : List Message) (n : ℕ) where
   -- it is not there
   pub nowhere-named : length ms ≤ n → (ps : List Standing) → ps ≡ map (standing_named ms (n ∷ [])) ps
   nowhere-named le [] = refl
-  nowhere-named le (p ∷ ps) = ap (λ q. q ∷ ps) (sym (named-off p (on-none ms n p.number le)))
-      ∙ ap (λ qs. standing_named ms (n ∷ []) p ∷ qs) (nowhere-named le ps)
+  nowhere-named le (p ∷ ps) = cc (named-off p (on-none ms n p.number le), nowhere-named le ps)
 
   -- it changes its own stream alone
   named-where : (s : ℕ) → (message_in ms n).stream ≡ s → (ps : List Standing)

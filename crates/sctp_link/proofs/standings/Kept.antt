@@ -94,8 +94,7 @@ module _ (ns : List ℕ) (ps : List StreamProgress) (is : ns ≡ map (λ (p : St
 
   pub put-at : (k : ℕ) (p q : StreamProgress) → p ≡ slice_index_or ps k p → (f : Standing → Standing) → standing_of q ≡ f (standing_of p)
       → map standing_of (slice_set ps k q) ≡ change_at f k (map standing_of ps)
-  put-at k p q at' f made = mapped-set standing_of ps k q ∙ ap (slice_set (map standing_of ps) k) made
-      ∙ changed-set f k (map standing_of ps) (standing_of p) (shown-at k p at')
+  put-at k p q at' f made = cc (mapped-set standing_of ps k q, made, changed-set f k (map standing_of ps) (standing_of p) (shown-at k p at'))
 
   pub opens : (s : ℕ) (o : Option ℕ) → MatchOption o (IsAbsent s ns) (IsOnlyPlace s ns) → is_some o ≡ is_some (find (has_number s) (map standing_of ps))
   opens s None absent = ap is_some (sym (absent-found s absent))

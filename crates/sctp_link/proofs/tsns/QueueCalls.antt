@@ -2,7 +2,7 @@
 use Rattle.std.proofs.Common.{◌≡◌, ℕ, ◌+◌, ◌-◌, ◌<◌, ◌≤◌, ◌^◌, Bool, true, false, List, [], ◌∷◌, length, map, ap, sym, subst, ◌∙◌, inl, inr, arith}
 use Rattle.std.proofs.Common.{IsTrue}
 use Rattle.std.proofs.Common.{Result, Ok, Err}
-use Rattle.std.specs.Prelude.{if◌then◌else◌, ◌==◌, ◌||◌, not, IsOk, IfOk}
+use Rattle.std.specs.Prelude.{if◌then◌else◌, ◌==◌, not, IsOk, IfOk}
 use Rattle.std.specs.List.{list_any, filter}
 use Rattle.std.proofs.lemmas.Bool.Decides.{nat_tests}
 use Rattle.sctp_util.specs.Lists.{insert_before, advance_over, Seen}
@@ -24,8 +24,7 @@ use Rattle.sctp_reassembly.proofs.lemmas.reassembly_queue.SerialPlaces.{after_on
 -- ## New and repeated ones
 
 pub come-expected : (c : ℕ) (q : Payload) → c < 2 ^ 32 → rise_beyond c 1 (tsns q.chunks) ≡ true → has_come (following_tsn c) (came_in c q) ≡ false
-come-expected c q lt h =
-    ap (λ a. a || list_any (λ u. u == following_tsn c) (tsns q.chunks)) (expected-after c lt) ∙ expected-absent c 1 (tsns q.chunks) lt (omega arith) h
+come-expected c q lt h = cc (expected-after c lt, expected-absent c 1 (tsns q.chunks) lt (omega arith) h)
 
 pub few-bytes : (cs : List ChunkPayloadData) → cs ≡ map placeholder (tsns cs) → bytes_of cs + 0 < 2 ^ 64
 few-bytes cs e = let none : bytes_of cs ≡ 0 = ap bytes_of e ∙ no-bytes (tsns cs) in omega arith
@@ -190,13 +189,9 @@ module _ (c t : ℕ) (q then' : Payload) (v : Filter) (view : came_in c q ≡ v)
   after-put e =
       let cs : then'.chunks ≡ insert_before chunk_before (placeholder t) q.chunks = ap (λ (p : Payload). p.chunks) e in
       record {
-        as-placeholders = cs ∙ put-placeholders c t q lt small placeholders rise inside-fresh inside-near differs
-            ∙ ap (λ ds. map placeholder (tsns ds)) (sym cs);
+        as-placeholders = cc (cs, put-placeholders c t q lt small placeholders rise inside-fresh inside-near differs);
         rises = ap (λ ds. rise_beyond c 1 (tsns ds)) cs ∙ put-rise c t q lt small placeholders rise inside-fresh inside-near differs;
-        is = ap (λ (ds : List ChunkPayloadData). came c (tsns ds) then'.duplicates) cs
-            ∙ ap (λ (d : List ℕ). came c (tsns (insert_before chunk_before (placeholder t) q.chunks)) d) (ap (λ (p : Payload). p.duplicates) e)
-            ∙ put-is c t q lt small placeholders rise inside-fresh inside-near differs
-            ∙ ap (with_tsn t) view;
+        is = cc (cs, e, put-is c t q lt small placeholders rise inside-fresh inside-near differs, view);
       }
 
 -- a TSN that came is noted

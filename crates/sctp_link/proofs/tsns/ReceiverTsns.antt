@@ -5,11 +5,10 @@ use Rattle.sctp_data.specs.declared.chunk.chunk_payload_data.ChunkPayloadData.{C
 use Rattle.sctp_data.specs.ForwardTsn.{ForwardTsn}
 use Rattle.sctp_receiver.specs.declared.receiver.arrival.Arrival.{Arrival}
 use Rattle.sctp_receiver.specs.declared.receiver.arrival.Arrival.TheVariants.{New, Repeat}
-use Rattle.sctp_receiver.specs.declared.receiver.limits.Limits.{Limits}
 use Rattle.sctp_receiver.specs.declared.receiver.refusal.ReceiverRefusal.{ReceiverRefusal}
 use Rattle.sctp_receiver.specs.declared.receiver.refusal.ReceiverRefusal.TheVariants.{TsnOpposite}
-use Rattle.sctp_receiver.specs.TsnFilter.{Filter, has_come, is_opposite, with_tsn, with_duplicate, skipped_to}
-use Rattle.sctp_receiver.specs.Receiver.{Reception, filter_of, noted_by, arrival_of, is_answered_complete, data_refusal, new_refusal, stream_refusal, stream_of}
+use Rattle.sctp_receiver.specs.TsnFilter.{Filter, has_come, is_opposite, with_tsn, skipped_to}
+use Rattle.sctp_receiver.specs.Receiver.{Reception, filter_of, arrival_of, is_answered_complete, data_refusal, new_refusal, stream_refusal, stream_of}
 use Rattle.sctp_receiver.specs.Receiver.{Takes, TakesFirstBy, TakesEachBy, is_stale, forward_refusal, follow_forward_tsn, after_forward, repeat_tsn}
 use Rattle.std.specs.Option.{option_or}
 use Rattle.sctp_link.specs.Tsns.{with_arrival, with_arrivals, with_skip}
@@ -29,9 +28,7 @@ module _ (c : ChunkPayloadData) (old mid : Reception) (unlimited : old.limits �
 
   again : has_come c.tsn f ≡ true → mid ≡ repeat_tsn c.tsn old → Came c old mid
   again come t = record {
-    filter = ap filter_of t
-        ∙ ap (λ (l : Option Limits). filter_of (record old { duplicates = noted_by l c.tsn old.duplicates })) unlimited
-        ∙ ap (λ b. if b then with_duplicate c.tsn f else (if is_opposite c.tsn f then f else with_tsn c.tsn f)) (sym come);
+    filter = cc (t, unlimited, come);
     limits = ap (λ (r : Reception). r.limits) t ∙ unlimited;
   }
 
@@ -49,8 +46,7 @@ module _ (c : ChunkPayloadData) (old mid : Reception) (unlimited : old.limits �
 
   fresh : has_come c.tsn f ≡ false → data_refusal c old ≡ None → filter_of mid ≡ with_tsn c.tsn f → mid.limits ≡ old.limits → Came c old mid
   fresh come ok e l = record {
-    filter = e ∙ ap (λ b. if b then f else with_tsn c.tsn f) (sym (near come ok))
-        ∙ ap (λ b. if b then with_duplicate c.tsn f else (if is_opposite c.tsn f then f else with_tsn c.tsn f)) (sym come);
+    filter = cc (e, near come ok, come);
     limits = l ∙ unlimited;
   }
 

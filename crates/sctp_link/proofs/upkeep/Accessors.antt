@@ -51,8 +51,7 @@ module _ {sum : List ℕ → ℕ} {x : State} (i : IsLinked sum x) (s : ℕ) (sa
       by None e = sym (ap (λ b. option_map stats_of (if b then Some (counters_on x.recorded s) else None)) (none-open x.recorded s x.open_streams same e))
       by (Some l) e =
           let k = kept-found s l same i e in
-          ap (λ n. Some n) (k.open_stream.stats ∙ ap (λ t. stats_of (counters_on x.recorded t)) k.number)
-          ∙ sym (ap (λ b. option_map stats_of (if b then Some (counters_on x.recorded s) else None)) k.is_open)
+          cc (k.open_stream.stats, k.number, k.is_open)
 
   pub queue-is : (r : Option (Bor ReassemblyState)) → option_copied r ≡ option_map (λ (l : OpenStream). l.inbound.queue) (find (has_number s) x.open_streams)
       → TellsQueue x.recorded s r

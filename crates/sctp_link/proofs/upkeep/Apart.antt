@@ -50,8 +50,7 @@ untouched : (s : ℕ) (f : StreamRecord → StreamRecord) (ls : List OpenStream)
 untouched s f [] e = refl
 untouched s f (l ∷ ls) e =
     let x = neither (l.state.stream_identifier == s) (list_any (λ k. k == s) (stream_numbers ls)) e in
-    ap (λ b. (if b then f (stream_record l) else stream_record l) ∷ map (λ r. if r.stream == s then f r else r) (map stream_record ls)) x.0
-    ∙ ap (λ rs. stream_record l ∷ rs) (untouched s f ls x.1)
+    cc (x.0, untouched s f ls x.1)
 
 -- one stream is set: so its stream changes in the record
 pub streams-set : (ls : List OpenStream) (k : ℕ) (y d : OpenStream) (f : StreamRecord → StreamRecord) → IsApart (stream_numbers ls) → k < length ls
@@ -60,13 +59,11 @@ pub streams-set : (ls : List OpenStream) (k : ℕ) (y d : OpenStream) (f : Strea
 streams-set [] k y d f a lt e = absurd (omega arith)
 streams-set (l ∷ ls) zero y d f a lt e =
     let s = l.state.stream_identifier in
-    ap (λ r. r ∷ map stream_record ls) e ∙ ap (λ rs. f (stream_record l) ∷ rs) (sym (untouched s f ls a.0))
-    ∙ ap (λ b. (if b then f (stream_record l) else stream_record l) ∷ map (λ r. if r.stream == s then f r else r) (map stream_record ls)) (sym (same-yes s))
+    cc (e, untouched s f ls a.0, same-yes s)
 streams-set (l ∷ ls) (suc k) y d f a lt e =
     let s = (slice_index_or ls k d).state.stream_identifier in
     let off : (l.state.stream_identifier == s) ≡ false = same-turned l.state.stream_identifier s ∙ none-at l.state.stream_identifier ls k d a.0 (omega arith) in
-    ap (λ rs. stream_record l ∷ rs) (streams-set ls k y d f a.1 (omega arith) e)
-    ∙ ap (λ b. (if b then f (stream_record l) else stream_record l) ∷ map (λ r. if r.stream == s then f r else r) (map stream_record ls)) (sym off)
+    cc (streams-set ls k y d f a.1 (omega arith) e, off)
 
 -- what holds of the new stream and of the others holds of each
 pub each-set : (P : OpenStream → Type 0) (ls : List OpenStream) (k j : ℕ) (y d : OpenStream) → k < length ls → P y → ((j ≡ k → ⊥) → P (slice_index_or ls j d))

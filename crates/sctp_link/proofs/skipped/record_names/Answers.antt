@@ -1,4 +1,4 @@
-use Rattle.sctp_link.proofs.Names.{◌+◌, map, drop, ap, sym, ◌∙◌, drop_all, drop_more, slice_index_or, standing_named}
+use Rattle.sctp_link.proofs.Names.{◌+◌, drop, drop_all, drop_more, slice_index_or}
 use Rattle.sctp_link.proofs.skips.Skipping.{named-rest, none-named}
 use Rattle.sctp_link.proofs.skipped.record_names.Goals as goal
 
@@ -9,12 +9,10 @@ loop-number-preserved c =
     let i = c.loop-number.number-index in
     let n = slice_index_or names i 0 in
     let rest = drop (i + 1) names in
-    ap (map (standing_named ms rest)) c.record_name.ensures ∙ named-rest ms n rest c.loop-number.progress
-    ∙ ap (λ ns. map (standing_named ms ns) c.loop-number.progress) (sym (drop_more names i 0 c.loop-number-test.true)) ∙ c.loop-number.invariant
+    cc (c.record_name.ensures, named-rest ms n rest c.loop-number.progress, drop_more names i 0 c.loop-number-test.true, c.loop-number.invariant)
 
 pub returns : goal.returns
 returns c =
     let ms = c.args.messages.now in
     let names = c.args.names.now in
-    none-named ms c.loop-number.progress ∙ ap (λ ns. map (standing_named ms ns) c.loop-number.progress)
-    (sym (drop_all c.loop-number.number-index names c.loop-number-test.false)) ∙ c.loop-number.invariant
+    cc (none-named ms c.loop-number.progress, drop_all c.loop-number.number-index names c.loop-number-test.false, c.loop-number.invariant)

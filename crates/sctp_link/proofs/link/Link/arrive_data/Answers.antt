@@ -1,8 +1,8 @@
-use Rattle.sctp_link.proofs.Names.{◌≡◌, ◌≤◌, ℕ, List, None, Some, inl, inr, ◌++◌, length, map, refl, ap, sym, ◌∙◌, arith, rules, subst, ◌⊎◌, ◌<◌, slice_get}
+use Rattle.sctp_link.proofs.Names.{◌≡◌, ◌≤◌, ℕ, List, None, Some, inl, inr, length, map, refl, ap, sym, ◌∙◌, arith, rules, subst, ◌⊎◌, ◌<◌, slice_get}
 use Rattle.sctp_link.proofs.Names.{slice_index_or, fold, with_items, vec_len, with_items_is, list_any, Data, chunk_at, receive_slot, refusal_of, IsRight}
 use Rattle.sctp_link.proofs.Names.{ChunkPayloadData, Reception, StopsAtBy, data_refusal, ReceiverRefusal, numbers_of, Transmission, Standing, IsApart, Sides}
 use Rattle.sctp_link.proofs.Names.{IsAligned, CanTake, TakesEach, sides, record_in, record_from, state_from, sides_in, IsLinked, Inside, Slot, kind_record}
-use Rattle.sctp_link.proofs.Names.{slot_record, number_at, arrived_in, repeated_of, is_first, length-mapped, all-inside}
+use Rattle.sctp_link.proofs.Names.{slot_record, number_at, arrived_in, is_first, length-mapped, all-inside}
 use Rattle.sctp_model.specs.declared.event.Event.TheVariants as E
 use Rattle.sctp_receiver.specs.declared.receiver.refusal.ReceiverRefusal.TheVariants.{OutOfMemory}
 use Rattle.sctp_link.proofs.sides.Aligned as Aligned
@@ -102,9 +102,7 @@ recorded g c d =
           ∙ sym (ap (map slot_record) (with_items_is c.self.inside.slots c.record_arrivals-new.new.slots same ∙ arrived.slots
           ∙ ap (λ qs. arrived_in qs c.deref-6.result.now c.deref_mut.result.now) c.deref-5.ensures.value
           ∙ ap (λ cs. arrived_in ps cs c.deref_mut.result.now) c.deref-6.ensures.value ∙ ap (arrived_in ps bs) c.deref_mut.ensures.value));
-      dups_are = d.duplicates ∙ sym (arrived.duplicates ∙ ap (λ ds. ds ++ repeated_of c.deref-5.result.now c.deref-6.result.now) c.in_ok-reserve.ensures.items
-          ∙ ap (λ qs. c.self.inside.duplicates.items ++ repeated_of qs c.deref-6.result.now) c.deref-5.ensures.value
-          ∙ ap (λ cs. c.self.inside.duplicates.items ++ repeated_of ps cs) c.deref-6.ensures.value);
+      dups_are = cc (d.duplicates, arrived.duplicates, c.in_ok-reserve.ensures.items, c.deref-5.ensures.value, c.deref-6.ensures.value);
     }
 
 pub read_data-requires : goal.read_data-requires

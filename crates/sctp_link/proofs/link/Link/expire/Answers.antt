@@ -54,8 +54,7 @@ gone g c =
       stream = answered.0;
       aligned = subst (λ ps. IsAligned c.expire.new.sender c.self.inside.receiver ps) (sym progress)
           (expired-aligned c.self.invariant.0 d bytes now c.expire.new.sender answered.1);
-      both = ap (λ k. sides c.expire.new.sender c.self.inside.receiver k) progress
-          ∙ expired-sides c.self.invariant.0 d bytes now c.expire.new.sender answered.1;
+      both = cc (progress, expired-sides c.self.invariant.0 d bytes now c.expire.new.sender answered.1);
       lt = omega (arith, told.made, length-mapped message_record c.self.inside.messages.items);
     }
 

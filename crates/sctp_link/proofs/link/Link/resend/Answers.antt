@@ -28,8 +28,7 @@ moves g c =
     let places = c.in_ok-places.places in
     let more : c.push_reserved.new.self.items
     ≡ c.self.inside.network.items ++ (let d : Datagram = record { kind = K.Data places; bytes = c.in_ok-bytes.bytes } in d) ∷ [] = search rules in
-    ap (λ ds. record (record_in c.self.inside) { network = ds }) (network-more c.self.inside.network.items c.push_reserved.new.self.items (K.Data places)
-    c.in_ok-bytes.bytes more ∙ ap (λ ps. (record_in c.self.inside).network ++ Data ps ∷ []) c.in_ok-places.ensures.places)
+    cc (network-more c.self.inside.network.items c.push_reserved.new.self.items (K.Data places) c.in_ok-bytes.bytes more, c.in_ok-places.ensures.places)
 
 pub invariant_of-self-2 : goal.invariant_of-self-2
 invariant_of-self-2 g c =

@@ -1,5 +1,5 @@
 use Rattle.sctp_link.proofs.Names.{◌≡◌, List, map, length, rules, refl, ap, None, Some, ◌∙◌, is_some, with_items, vec_len, with_items_is, numbers_from}
-use Rattle.sctp_link.proofs.Names.{next_pending, Outbound, after_start, chunks_taken, Slot, Datagram, slot_record, datagram_record, record_in, next-is}
+use Rattle.sctp_link.proofs.Names.{next_pending, after_start, chunks_taken, Slot, Datagram, slot_record, datagram_record, record_in, next-is}
 use Rattle.sctp_link.proofs.Names.{idle-right, looks-short, front, true, on-err}
 use Rattle.sctp_chunks.specs.declared.chunk.chunk_kind.ChunkKind.TheVariants as C
 use Rattle.sctp_link.proofs.sender.SentLists.{encodings-each, canonical-each}
@@ -21,9 +21,7 @@ next_chunks-requires-clause-short g c = rw c.outbound-2.ensures (looks-short (se
 -- The chunks that leave.
 chosen : (g : Over) (c : After-len-count g) → c.in_ok-chunks.chunks.items
     ≡ map C.PayloadData (chunks_taken c.self.inside.limit c.self.inside.sender.flight.next_tsn c.self.inside.sender.flight.queue.pending)
-chosen g c =
-    c.in_ok-chunks.ensures.chunks ∙ ap (λ t. map C.PayloadData (chunks_taken c.self.inside.limit t c.outbound-2.result.now.pending)) c.next_tsn-tsn.ensures
-    ∙ ap (λ (q : Outbound). map C.PayloadData (chunks_taken c.self.inside.limit c.self.inside.sender.flight.next_tsn q.pending)) c.outbound-2.ensures
+chosen g c = cc (c.in_ok-chunks.ensures.chunks, c.next_tsn-tsn.ensures, c.outbound-2.ensures)
 
 pub write_chunks-requires-clause-encoding : goal.write_chunks-requires-clause-encoding
 write_chunks-requires-clause-encoding g c =

@@ -1,4 +1,4 @@
-use Rattle.sctp_link.proofs.Names.{◌≡◌, ◌++◌, ◌∷◌, ◌+◌, [], length, rules, refl, ap, sym, subst, None, Some, ◌∙◌, arith, pieces, refusal_of, fragments_in}
+use Rattle.sctp_link.proofs.Names.{◌≡◌, ◌++◌, ◌∷◌, ◌+◌, [], length, rules, refl, ap, sym, subst, None, Some, ◌∙◌, arith, refusal_of, fragments_in}
 use Rattle.sctp_link.proofs.Names.{IsRight, written_of, message_written, Written, Sides, IsAligned, sides, written_on, IsLinked, record_in, state_from}
 use Rattle.sctp_link.proofs.Names.{record_from, sides_in, Inside, OpenStream, PayloadProtocolIdentifier, ℕ, List, ◌<◌, stream_in}
 use Rattle.sctp_model.specs.declared.event.Event.TheVariants as E
@@ -71,10 +71,8 @@ wrote g c w =
     record {
       both = ap (sides c.write.new.self c.self.inside.receiver) c.record_write.ensures ∙ written-sides c.self.invariant.0 c.args.stream w.on w.found c.args.ppi
           c.args.bytes c.write.new.self sent c.written_of-written.result.ordered (ap (λ (w : Written). w.ordered) written) c.self.invariant.1.apart;
-      more = c.push_reserved.ensures.items ∙ ap (λ ms. ms ++ c.message_written.result ∷ []) kept ∙ ap (λ m. c.self.inside.messages.items ++ m ∷ [])
-          (c.message_written.ensures ∙ ap (λ w. message_written c.args.stream w c.args.ppi c.args.bytes) written);
-      count = c.fragments_in-count.ensures.value c.args.bytes c.len-len.ensures.value
-          ∙ ap (λ n. length (pieces (length c.args.bytes) n c.args.bytes)) c.fragment_size.ensures.value;
+      more = cc (c.push_reserved.ensures.items, kept, c.message_written.ensures, written);
+      count = cc (c.fragments_in-count.ensures.value c.args.bytes c.len-len.ensures.value, c.fragment_size.ensures.value);
     }
 
 pub invariant_of-self-2 : goal.invariant_of-self-2

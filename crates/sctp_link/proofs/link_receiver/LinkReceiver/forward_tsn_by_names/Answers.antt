@@ -1,5 +1,4 @@
-use Rattle.sctp_link.proofs.Names.{◌<◌, ◌^◌, refl, ap, sym, ◌∙◌, Filter, forward_tsn_of}
-use Rattle.sctp_link.specs.Tsns.{with_skip}
+use Rattle.sctp_link.proofs.Names.{◌<◌, ◌^◌, refl, ap, ◌∙◌, Filter, forward_tsn_of}
 use Rattle.sctp_link.proofs.tsns.ReceiverTsns.{forward-filter, forward-limits}
 use Rattle.sctp_link.proofs.link_receiver.LinkReceiver.forward_tsn_by_names.Goals as goal
 
@@ -12,7 +11,6 @@ invariant_of-self-2 c =
     let is = c.in_ok-forwarded.ensures.ok in
     let accepted = c.in_ok-forwarded.ensures.accepted refl in
     record {
-      tsns = s.value ∙ ap (with_skip c.args.chunk.now.new_cumulative_tsn) c.self.invariant.tsns
-          ∙ sym (forward-filter w r c.forward_tsn_by_names.new.receiver small s.tsn_fits accepted is);
+      tsns = cc (s.value, c.self.invariant.tsns, forward-filter w r c.forward_tsn_by_names.new.receiver small s.tsn_fits accepted is);
       unlimited = forward-limits w r c.forward_tsn_by_names.new.receiver small s.tsn_fits accepted is ∙ c.self.invariant.unlimited;
     }

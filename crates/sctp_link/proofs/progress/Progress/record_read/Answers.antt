@@ -10,9 +10,7 @@ use Rattle.sctp_link.proofs.progress.Progress.record_read.Goals.{else-not-ordere
 
 read-made : (ordered : Bool) (index : ℕ) (p : Standing) (complete : List ℕ) (next : ℕ) → complete ≡ (if ordered then p.complete else drop 1 p.complete)
     → next ≡ (if ordered && (index == p.next) then index + 1 else p.next) → record p { complete = complete; next = next } ≡ with_read ordered index p
-read-made ordered index p complete next w n =
-    ap (λ ws. let x : Standing = record p { complete = ws; next = next } in x) w
-    ∙ ap (λ m. let x : Standing = record p { complete = (if ordered then p.complete else drop 1 p.complete); next = m } in x) n
+read-made ordered index p complete next w n = cc (w, n)
 
 pub returns-in_default : goal.returns-in_default
 returns-in_default c =

@@ -61,6 +61,4 @@ returns c =
     let answers : take c.loop-at.at c.args.arrivals.now ≡ c.args.arrivals.now =
     take_all c.loop-at.at c.args.arrivals.now (omega (arith, c.loop-at-test.false, c.requires.arrivals)) in
     let ps = map standing_of c.args.streams.now.items in
-    c.loop-at.invariant.complete
-    ∙ ap (λ xs. after_each xs c.args.messages.now (take c.loop-at.at c.args.arrivals.now) ps) chunks
-    ∙ ap (λ xs. after_each c.args.chunks.now c.args.messages.now xs ps) answers
+    cc (c.loop-at.invariant.complete, chunks, answers)

@@ -11,12 +11,10 @@ again : (t : ℕ) (f : Filter) → has_come t f ≡ true → with_arrival t f �
 again t f come = ap (λ b. if b then with_duplicate t f else (if is_opposite t f then f else with_tsn t f)) come
 
 passed : (t : ℕ) (f : Filter) → has_come t f ≡ false → is_opposite t f ≡ true → with_arrival t f ≡ f
-passed t f come far = ap (λ b. if b then with_duplicate t f else (if is_opposite t f then f else with_tsn t f)) come
-    ∙ ap (λ b. if b then f else with_tsn t f) far
+passed t f come far = cc (come, far)
 
 fresh : (t : ℕ) (f : Filter) → has_come t f ≡ false → is_opposite t f ≡ false → with_arrival t f ≡ with_tsn t f
-fresh t f come near = ap (λ b. if b then with_duplicate t f else (if is_opposite t f then f else with_tsn t f)) come
-    ∙ ap (λ b. if b then f else with_tsn t f) near
+fresh t f come near = cc (come, near)
 
 pub returns-then-has_come-clause-ok : goal.returns-then-has_come-clause-ok
 returns-then-has_come-clause-ok c =

@@ -1,5 +1,5 @@
-use Rattle.std.proofs.Common.{◌≡◌, ◌++◌, ◌∷◌, [], ap, sym, subst, ◌∙◌}
-use Rattle.sctp_link.specs.Tsns.{undone, each_undone, CanUndoEach}
+use Rattle.std.proofs.Common.{◌≡◌, ◌++◌, ◌∷◌, [], sym, subst}
+use Rattle.sctp_link.specs.Tsns.{undone, CanUndoEach}
 use Rattle.sctp_link.proofs.tsns.TakenBack.{undone-last, can-last, kept}
 use Rattle.sctp_link.proofs.link_receiver.tsn_queue.undo.take_back_each.Goals as goal
 
@@ -16,8 +16,7 @@ loop-undo-preserved c =
     let items : c.loop-undo.undos.items ≡ us ++ c.in-Some.undo ∷ [] = c.in-Some.ensures.items in
     let rest = (can-last us c.in-Some.undo k (subst (λ vs. CanUndoEach vs k) items c.loop-undo.invariant.can)).1 in
     record {
-      same = ap (each_undone us) c.take_back.ensures.value ∙ sym (undone-last us c.in-Some.undo k.filter) ∙ ap (λ vs. each_undone vs k.filter) (sym items)
-          ∙ c.loop-undo.invariant.same;
+      same = cc (c.take_back.ensures.value, undone-last us c.in-Some.undo k.filter, items, c.loop-undo.invariant.same);
       can = subst (λ f. CanUndoEach us (kept f c.take_back.new.self.places)) (sym c.take_back.ensures.value)
           (subst (λ n. CanUndoEach us (kept (undone c.in-Some.undo k.filter) n)) (sym c.take_back.ensures.places) rest);
     }

@@ -2,7 +2,7 @@ use Rattle.std.proofs.Common.{rules, ◌≡◌, ◌<◌, ◌+◌, ◌∙◌, ap,
 use Rattle.std.proofs.lemmas.List.{take_more, length-append}
 use Rattle.sctp_data.specs.declared.chunk.chunk_payload_data.ChunkPayloadData.{ChunkPayloadData}
 use Rattle.sctp_link.specs.declared.link_receiver.tsn_queue.undo.TsnUndo.{TsnUndo}
-use Rattle.sctp_link.specs.Tsns.{with_arrival, with_arrivals, undone, each_undone, CanUndoEach}
+use Rattle.sctp_link.specs.Tsns.{undone, each_undone, CanUndoEach}
 use Rattle.sctp_link.proofs.tsns.TakenBack.{undone-last, last-can, can-more, kept}
 use Rattle.sctp_link.proofs.tsns.ReceiverTsns.{arrivals-more}
 use Rattle.sctp_link.proofs.link_receiver.tsn_queue.undo.take_each.Goals as goal
@@ -26,8 +26,7 @@ loop-chunk-preserved c =
     let rest : CanUndoEach l.undos.items (kept (undone u k.filter) k.places) = subst (λ f. CanUndoEach l.undos.items (kept f k.places)) (sym back)
     (can-more l.undos.items l.tsns.filter l.tsns.places k.places c.in-Ok.ensures.places v.can) in
     record {
-      taken = c.in-Ok.ensures.ok ∙ ap (with_arrival x.tsn) v.taken ∙ sym (arrivals-more (take i cs) x c.args.tsns.now.filter)
-          ∙ ap (λ ys. with_arrivals ys c.args.tsns.now.filter) front;
+      taken = cc (c.in-Ok.ensures.ok, v.taken, arrivals-more (take i cs) x c.args.tsns.now.filter, front);
       undone = ap (λ us. each_undone us k.filter) undos ∙ undone-last l.undos.items u k.filter ∙ ap (each_undone l.undos.items) back ∙ v.undone;
       can = subst (λ us. CanUndoEach us k) (sym undos) (last-can l.undos.items u k c.in-Ok.ensures.can rest);
       undos = omega (arith, v.undos, m, many);
