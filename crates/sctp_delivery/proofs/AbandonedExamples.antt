@@ -1,5 +1,5 @@
 -- Worked sessions, by computation, in which messages are abandoned.
-use Rattle.std.proofs.Common.{◌≡◌, ℕ, zero, suc, ◌+◌, ◌-◌, ◌<◌, true, false, List, [], ◌∷◌, None, refl, sym, arith}
+use Rattle.std.proofs.Common.{◌≡◌, ℕ, zero, suc, ◌+◌, ◌-◌, ◌<◌, true, false, List, [], ◌∷◌, None, refl, sym, arith, length, ap}
 use Rattle.std.specs.Prelude.{All, Contains, nat_eq}
 use Rattle.std.specs.List.{list_any}
 use Rattle.sctp_util.specs.Serial.{at_or_before, at_or_before16, comes_before, comes_before16, distance, distance16}
@@ -16,11 +16,13 @@ use Rattle.sctp_delivery.specs.ReceiverCalls.{follows, reads, reports, takes}
 use Rattle.sctp_delivery.specs.SenderCalls as outgoing
 use Rattle.sctp_delivery.specs.SenderCalls.{abandons, forwards, sends, writes}
 use Rattle.sctp_delivery.specs.Session.{Call, ReceiverFollows, RunsTo, Session, of_receiver, of_sender}
-use Rattle.sctp_delivery.proofs.Examples.{waiting, start, sending, receiving, opened, opens, written, writes-one, in_flight, sends-one, acks, after_send}
-use Rattle.sctp_delivery.proofs.Examples.{by-receiver}
+use Rattle.sctp_delivery.proofs.Examples.{waiting, start, receiving, opened, opens, written, writes-one, in_flight, sends-one, acks, after_send, by-receiver}
 use Rattle.sctp_delivery.proofs.RoundExamples.{abandons-first, emptied, first_gone, first_reported, first_taken, follows-skip, lost, makes-skip, opens-receiver}
 use Rattle.sctp_delivery.proofs.RoundExamples.{past_first, receiver_open, reports-first, reports-second, second_chunk, second_reported, second_sent}
 use Rattle.sctp_delivery.proofs.RoundExamples.{second_taken, sends-second, skip, skipped, takes-both, takes-first, takes-second, two_written, writes-second}
+use Rattle.sctp_delivery.specs.Ending.{CanEnd, chunks_waiting, takes_all_of}
+use Rattle.sctp_delivery.specs.Sacks.{tsns_given}
+use Rattle.sctp_delivery.proofs.EndSessions.{all-end}
 
 -- ## What is read where a message was abandoned
 
@@ -108,3 +110,36 @@ each-other = (
     others zero lt e = (0, omega arith, refl)
     others (suc zero) lt e = absurd (not_both (sym e))
     others (suc (suc k)) lt e = absurd (omega (arith, lt))
+
+-- # A worked session that can end: the first of two messages is abandoned in flight, and the second one waits
+
+abbrev first_calls : List Call
+first_calls =
+    of_sender (outgoing.opens 1) ∷ of_sender (writes 1 Binary (7 ∷ [])) ∷ of_sender (sends 5) ∷ of_sender (writes 1 Binary (8 ∷ []))
+    ∷ of_sender (abandons 10 lost) ∷ []
+
+abbrev first-run : RunsTo start first_calls first_gone
+first-run = (opened, (opens, (written, (writes-one, (in_flight, (sends-one, (two_written, (writes-second, (first_gone, (abandons-first, refl))))))))))
+
+given : tsns_given start first_calls first_gone first-run ≡ 1
+unfolding distance
+given = refl
+
+one-waits : chunks_waiting first_gone.sending.sender ≡ 1
+one-waits = refl
+
+gone : abandoned_in start first_calls first_gone first-run ≡ 0 ∷ []
+gone = refl
+
+takes-all : takes_all_of first_gone.sending.sender first_gone.receiving.receiver ≡ true
+takes-all = refl
+
+-- the law leads to its end
+ends : CanEnd 7 (0 ∷ []) first_gone
+ends = all-end 10 1200 65536 65536 None first_calls first_gone (omega arith) (omega arith) first-run (omega (arith, given, one-waits)) takes-all 7
+
+-- where the second message was read
+second-read : Contains ends.read.0 0
+second-read =
+    let same = ap length ends.written in
+    ends.read.3 0 (omega (arith, same)) (ap (λ n. list_any (nat_eq (n - (0 + 1))) (0 ∷ [])) same)

@@ -1,32 +1,33 @@
 -- Which messages the calls of a sender abandon (RFC 3758 3.5): only of these is a chunk in flight abandoned, and only behind a fragment of
 -- these stands a terminal chunk.
 use Rattle.std.proofs.Common.{◌≡◌, ℕ, ◌+◌, ◌-◌, ◌%◌, ◌^◌, Bool, true, false, List, [], ◌∷◌, ◌++◌, length, map, take, drop, Option, Some, None, is_some, ◌⊎◌}
-use Rattle.std.proofs.Common.{inl, inr, refl, ap, sym, subst, ◌∙◌, arith, not}
-use Rattle.std.specs.Prelude.{◌==◌, if◌then◌else◌, find, option_map, option_to_list, nat_eq}
+use Rattle.std.proofs.Common.{inl, inr, refl, ap, sym, subst, ◌∙◌, arith, not, ◌<◌, ◌≤◌}
+use Rattle.std.specs.Prelude.{◌==◌, if◌then◌else◌, find, option_map, option_to_list, nat_eq, ◌&&◌, ◌||◌}
 use Rattle.std.proofs.lemmas.Option.{none-some}
 use Rattle.sctp_util.specs.Lists.{change_where}
 use Rattle.sctp_util.specs.Serial.{at_or_before}
-use Rattle.sctp_util.proofs.Cases.{or-left, or-right, same-is, same-yes, some-same}
+use Rattle.sctp_util.proofs.Cases.{or-left, or-right, same-is, same-yes, some-same, or-split}
 use Rattle.sctp_util.proofs.Edits.{list_any-append}
-use Rattle.sctp_util.proofs.More.{not_both}
+use Rattle.sctp_util.proofs.More.{not_both, and, both, fails}
 use Rattle.sctp_data.specs.declared.chunk.chunk_payload_data.ChunkPayloadData.{ChunkPayloadData}
 use Rattle.sctp_data.specs.SelectiveAck.{Sack}
 use Rattle.sctp_outbound.specs.declared.pending_queue.Selected.{Selected}
 use Rattle.sctp_outbound.specs.Marks.{as_abandoned, as_acknowledged, is_of}
 use Rattle.sctp_outbound.specs.outbound_queue.OutboundQueue.{Outbound, abandoned_of, all_started, as_sent, sent_of, terminal_chunk, to_abandon, total_bytes}
-use Rattle.sctp_outbound.specs.outbound_queue.OutboundQueue.{with_terminal_chunk}
+use Rattle.sctp_outbound.specs.outbound_queue.OutboundQueue.{with_terminal_chunk, expired_of, expiring, expiring_tail, is_expired, is_expired_tail, message_of}
+use Rattle.sctp_outbound.specs.outbound_queue.OutboundQueue.{passing}
 use Rattle.sctp_outbound.specs.payload_queue.PayloadQueue as payload
-use Rattle.sctp_outbound.specs.pending_queue.PendingQueue.{Pending, last_removed, next_pending}
-use Rattle.sctp_outbound.specs.pending_queue.Whole.{partial_of, partially_sent, waits}
+use Rattle.sctp_outbound.specs.pending_queue.PendingQueue.{Pending, last_removed, next_pending, closed_up, one_lower, rest_after, without, without_message}
+use Rattle.sctp_outbound.specs.pending_queue.Whole.{partial_of, partially_sent, waits, IsSendable, stage_of}
 use Rattle.sctp_outbound.proofs.lemmas.outbound_queue.Outbounds.{peeked_all_started}
 use Rattle.sctp_outbound.proofs.lemmas.outbound_queue.Abandoned.{last_is_of}
-use Rattle.sctp_serial.specs.DataChunks.{chunk_before, following_tsn, has_tsn}
+use Rattle.sctp_serial.specs.DataChunks.{chunk_before, following_tsn, has_tsn, is_on}
 use Rattle.sctp_sender.specs.declared.sender.flight.late.AbandonedMessage.{AbandonedMessage}
 use Rattle.sctp_sender.specs.Flight.{Flight, after_abandonment, after_sack, is_outdated, message_to_abandon, reports_anew, take_sack}
-use Rattle.sctp_sender.specs.Late.{abandoned_at, abandoned_each, abandoned_with, leaving_at, leaving_each}
+use Rattle.sctp_sender.specs.Late.{abandoned_at, abandoned_each, abandoned_with, leaving_at, leaving_each, late_order, worn_order}
 use Rattle.sctp_sender.specs.Outgoing.{fragments_with_mode}
 use Rattle.sctp_sender.specs.Resending.{can_miss, missed}
-use Rattle.sctp_sender.specs.Sender.{Transmission}
+use Rattle.sctp_sender.specs.Sender.{Transmission, written_to}
 use Rattle.sctp_sender.proofs.Flights.{started-inflight}
 use Rattle.sctp_sender.proofs.InLine.{found-partial}
 use Rattle.sctp_delivery.specs.Abandoned.{abandoned_by}
@@ -35,11 +36,11 @@ use Rattle.sctp_delivery.specs.SenderCalls.{SenderCall}
 use Rattle.sctp_delivery.specs.Session.{SenderFollows, Session}
 use Rattle.sctp_delivery.proofs.Every.{Every, every-changed, every-inserted, every-joined, every-left, every-of, every-passing, every-taken}
 use Rattle.sctp_delivery.proofs.PassedMessages.{AreCutGone, EndsGone, is_gone}
-use Rattle.sctp_delivery.proofs.Calls.{sent_by}
+use Rattle.sctp_delivery.proofs.Calls.{sent_by, numbered_after}
 use Rattle.sctp_delivery.proofs.Delivered.{Holds}
 use Rattle.sctp_delivery.proofs.Numbers.{number_of}
 use Rattle.sctp_delivery.proofs.OrderedEntries.{IsOpen}
-use Rattle.sctp_delivery.proofs.Queues.{Abandons, IsEnded, Stands, abandoned, nowhere-none}
+use Rattle.sctp_delivery.proofs.Queues.{Abandons, IsEnded, Stands, abandoned, nowhere-none, IsOnceMore, started}
 use Rattle.sctp_delivery.proofs.SackSteps.{message-inflight, sack-next}
 use Rattle.sctp_delivery.proofs.Senders.{IsMoreBy}
 use Rattle.sctp_delivery.proofs.Sending.{Queued}
@@ -50,6 +51,14 @@ use Rattle.sctp_delivery.proofs.Writing.{accepted-stream}
 use Rattle.sctp_delivery.proofs.QueueChunks.{peeked}
 use Rattle.sctp_delivery.proofs.Changes.{Change, all_start, acknowledges, changes, each_leaves, flight_after, front_expires, more_room, nothing, one_leaves}
 use Rattle.sctp_delivery.proofs.Changes.{partial-found, some_marked, some_missed}
+use Rattle.std.specs.List.{list_any, find}
+use Rattle.std.proofs.lemmas.Bool.{cases_lt}
+use Rattle.sctp_data.specs.PayloadData.{data_of}
+use Rattle.sctp_outbound.proofs.lemmas.pending_queue.CompleteMessages.{KeepsMessage, none_past}
+use Rattle.sctp_stream.specs.declared.stream.StreamState.{StreamState}
+use Rattle.sctp_delivery.proofs.AllBegun.{begins_in, begun-then, is_begun, next-or-stays, starts-keep, still-begun, write-begins, write-keeps}
+use Rattle.sctp_delivery.proofs.Begun.{begins, begins-changed, was_begun, next-any}
+use Rattle.sctp_outbound.proofs.lemmas.outbound_queue.Sendable.{or_false}
 
 -- ## Numbers
 
@@ -350,3 +359,277 @@ module _ (gone : List ℕ) (first : ℕ) (old new : Session) (ns : List Numbered
       let x = changes old.sending.sender new.sending.sender call refl f.step.sender f.exact in
       cuts g (subst (EndsOrSame gone ns first (λ s. number_of s old.sending.sender.streams) sent (flight_of old)) (sym x.flight)
       (changed-cuts call a x.change))
+
+-- # No write is lost before its first fragment is sent, whatever is abandoned: that was sent, or it waits, or the message was abandoned
+
+-- of each of the first n writes the first fragment got a TSN or waits, or the message is gone
+abbrev pub AreBegunOrGone : List ℕ → ℕ → List Entry → Pending → Type 0
+AreBegunOrGone gone n sent q = (m : ℕ) → m < n → is_gone gone m ≡ false → is_begun m sent q ≡ true
+
+-- the first fragments that wait wait still, but of messages that are gone
+abbrev KeepsOthers : List ℕ → Pending → Pending → Type 0
+KeepsOthers gone p q = (m : ℕ) → is_gone gone m ≡ false → begins_in m p ≡ true → begins_in m q ≡ true
+
+-- what is not gone now was not gone before
+earlier : (gone more : List ℕ) → AreAmong gone more → (m : ℕ) → is_gone more m ≡ false → is_gone gone m ≡ false
+earlier gone more a m e = fails (is_gone gone m) (λ h. not_both (sym e ∙ a m h))
+
+kept-others : (gone : List ℕ) (n : ℕ) (sent more : List Entry) (p q : Pending) → IsOnceMore sent more → KeepsOthers gone p q
+    → AreBegunOrGone gone n sent p → AreBegunOrGone gone n more q
+kept-others gone n sent more p q once keeps a m lt e = elim (or-split (was_begun m sent) (begins_in m p) (a m lt e)) [
+  | inl h ↦ or-left (was_begun m more) (begins_in m q) (begun-then sent more once m h)
+  | inr h ↦ or-right (was_begun m more) (begins_in m q) (keeps m e h)
+]
+
+pub begun-later : (gone more : List ℕ) → AreAmong gone more → (n : ℕ) (sent : List Entry) (q : Pending) → AreBegunOrGone gone n sent q
+    → AreBegunOrGone more n sent q
+begun-later gone more a n sent q b m lt e = b m lt (earlier gone more a m e)
+
+-- ## A message leaves
+
+-- the first fragments of other messages stay
+others-begin : (k m : ℕ) → (k ≡ m → ⊥) → (cs : List ChunkPayloadData) → list_any (begins k) cs ≡ true → list_any (begins k) (without_message m cs) ≡ true
+others-begin k m other [] e = e
+others-begin k m other (c ∷ cs) e = by (c.message_id == m) refl (or-split (begins k c) (list_any (begins k) cs) e) (others-begin k m other cs)
+  where
+    by : (b : Bool) → (c.message_id == m) ≡ b → (begins k c ≡ true) ⊎ (list_any (begins k) cs ≡ true)
+        → (list_any (begins k) cs ≡ true → list_any (begins k) (without_message m cs) ≡ true)
+        → list_any (begins k) (if not b then c ∷ without_message m cs else without_message m cs) ≡ true
+    by true h (inl f) ih = absurd (other (sym (same-is c.message_id k (both (c.message_id == k) c.beginning_fragment f).0) ∙ same-is c.message_id m h))
+    by true h (inr f) ih = ih f
+    by false h (inl f) ih = or-left (begins k c) (list_any (begins k) (without_message m cs)) f
+    by false h (inr f) ih = or-right (begins k c) (list_any (begins k) (without_message m cs)) (ih f)
+
+without-keeps : (k m : ℕ) → (k ≡ m → ⊥) → (q : Pending) → begins_in k q ≡ true → begins_in k (without m q) ≡ true
+without-keeps k m other q e = elim (or-split (list_any (begins k) q.ordered) (list_any (begins k) q.unordered) e) [
+  | inl f ↦ or-left (list_any (begins k) (without_message m q.ordered)) (list_any (begins k) (without_message m q.unordered))
+      (others-begin k m other q.ordered f)
+  | inr f ↦ or-right (list_any (begins k) (without_message m q.ordered)) (list_any (begins k) (without_message m q.unordered))
+      (others-begin k m other q.unordered f)
+]
+
+module _ (gone : List ℕ) where
+  apart-from : (m : ℕ) → is_gone gone m ≡ true → (k : ℕ) → is_gone gone k ≡ false → k ≡ m → ⊥
+  apart-from m g k e same = not_both (sym e ∙ ap (is_gone gone) same ∙ g)
+
+  abandon-keeps : (o : Option ℕ) (tsn : ℕ) (q : Outbound) → ((m : ℕ) → o ≡ Some m → is_gone gone m ≡ true)
+      → KeepsOthers gone q.pending (abandoned_of o tsn q).pending
+  abandon-keeps None tsn q g k e h = h
+  abandon-keeps (Some m) tsn q g k e h = without-keeps k m (apart-from m (g m refl) k e) q.pending h
+
+  each-keeps : (tsns : List ℕ) (f : Flight) → AreAmong (numbers (leaving_each tsns f)) gone
+      → KeepsOthers gone f.queue.pending (abandoned_each tsns f).queue.pending
+  each-keeps [] f a k e h = h
+  each-keeps (tsn ∷ tsns) f a k e h =
+      each-keeps tsns (abandoned_at tsn f) (among-rest tsn tsns f gone a) k e
+      (abandon-keeps (message_to_abandon tsn f) f.next_tsn f.queue (among-first tsn tsns f gone a) k e h)
+
+  expire-keeps : (c : ChunkPayloadData) (q : Outbound) → is_gone gone c.message_id ≡ true → KeepsOthers gone q.pending (expired_of (Some c) q).pending
+  expire-keeps c q g k e h = by c.unordered
+    where
+      keeps : KeepsMessage one_lower
+      keeps = record { number = λ _. refl; begins = λ _. refl; ends = λ _. refl; kind = λ _. refl }
+
+      p : Pending
+      p = without c.message_id q.pending
+
+      left : begins_in k p ≡ true
+      left = without-keeps k c.message_id (apart-from c.message_id g k e) q.pending h
+
+      by : (b : Bool) → begins_in k (if b then p else closed_up c.stream_identifier p) ≡ true
+      by true = left
+      by false = ap (λ b. b || list_any (begins k) p.unordered) (begins-changed (is_on c.stream_identifier) one_lower keeps k p.ordered) ∙ left
+
+-- ## A call
+
+module _ (gone : List ℕ) (first : ℕ) (old new : Session) (ns : List Numbered) (sent more : List Entry) (i : Holds first old ns sent)
+    (once : IsOnceMore sent more) (h : AreBegunOrGone gone (length ns) sent (flight_of old).queue.pending) where
+  abbrev Begins : SenderCall → Type 0
+  Begins call = AreBegunOrGone gone (length (numbered_after call ns)) more (flight_of new).queue.pending
+
+  -- the first fragment that is sent gets its entry
+  sends-begun : (now : ℕ) (o : Option ChunkPayloadData) → next_pending (all_started now (flight_of old).queue).pending ≡ o
+      → IsMoreBy (option_map (as_sent (flight_of old).next_tsn now) o) sent more
+      → AreBegunOrGone gone (length ns) more (sent_of o (all_started now (flight_of old).queue) (flight_of old).next_tsn now).pending
+  sends-begun now None e g =
+      kept-others gone (length ns) sent more (flight_of old).queue.pending (all_started now (flight_of old).queue).pending once
+      (λ m _ b. starts-keep now (flight_of old).queue m b) h
+  sends-begun now (Some c) e g = subst (λ xs. AreBegunOrGone gone (length ns) xs q) (sym g.2) here
+    where
+      ready : Outbound
+      ready = all_started now (flight_of old).queue
+
+      p : Pending
+      p = ready.pending
+
+      q : Pending
+      q = rest_after c.beginning_fragment c.unordered p
+
+      stands : Stands ns first (λ s. number_of s old.sending.sender.streams) ready (flight_of old).next_tsn sent
+      stands = started ns first (λ s. number_of s old.sending.sender.streams) now (flight_of old).queue (flight_of old).next_tsn sent i.held.stands
+
+      entry : Entry
+      entry = fragment (data_of (as_sent (flight_of old).next_tsn now c)) g.0 g.1
+
+      here : AreBegunOrGone gone (length ns) (entry ∷ sent) q
+      here m lt d = elim (or-split (was_begun m sent) (begins_in m (flight_of old).queue.pending) (h m lt d)) [
+        | inl f ↦ or-left (was_begun m (entry ∷ sent)) (begins_in m q) (still-begun m entry sent f)
+        | inr f ↦ elim (next-or-stays m c p.selected p.ordered_room p.unordered_room ready.next_message_id ready.inflight.chunks p.ordered p.unordered
+            stands.sendable e (starts-keep now (flight_of old).queue m f)) [
+              | inl x ↦
+                  let b = both (c.message_id == m) c.beginning_fragment x in
+                  or-left (was_begun m (entry ∷ sent)) (begins_in m q) (or-left (c.beginning_fragment && (g.0.place == m)) (was_begun m sent)
+                  (and c.beginning_fragment (g.0.place == m) b.1 (ap (λ k. k == m) g.3 ∙ b.0)))
+              | inr x ↦ or-right (was_begun m (entry ∷ sent)) (begins_in m q) x
+            ]
+      ]
+
+  changed-keeps : (call : SenderCall) → AreAmong (abandoned_by call old.sending.sender) gone → (c : Change call old.sending.sender)
+      → KeepsOthers gone (flight_of old).queue.pending (flight_after call old.sending.sender c).queue.pending
+  changed-keeps call a nothing = λ m _ b. b
+  changed-keeps call a (all_start now) = λ m _ b. starts-keep now (flight_of old).queue m b
+  changed-keeps call a (more_room count) = λ m _ b. b
+  changed-keeps call a (some_marked p f k) = λ m _ b. b
+  changed-keeps call a (some_missed count) = λ m _ b. b
+  changed-keeps call a (one_leaves o e found) =
+      abandon-keeps gone o (flight_of old).next_tsn (flight_of old).queue (λ m i. a m (ap (λ ms. is_gone ms m) e ∙ one-gone m o i))
+  changed-keeps call a (each_leaves ts short e) = each-keeps gone ts (flight_of old) (subst (λ ms. AreAmong ms gone) e a)
+  changed-keeps call a (front_expires now c found e) =
+      expire-keeps gone c (flight_of old).queue (a c.message_id (ap (λ ms. is_gone ms c.message_id) e ∙ one-gone c.message_id (Some c.message_id) refl))
+  changed-keeps call a (acknowledges k answered e) = λ m _ b. ap (begins_in m) (by (is_outdated k (flight_of old))) ∙ b
+    where
+      by : (b : Bool) → (if b then flight_of old else take_sack k (flight_of old)).queue.pending ≡ (flight_of old).queue.pending
+      by true = refl
+      by false = refl
+
+  pub stays-begun-or-gone : (call : SenderCall) → AreAmong (abandoned_by call old.sending.sender) gone → SenderFollows call old new
+      → IsMoreBy (sent_by call old.sending.sender) sent more → Begins call
+  stays-begun-or-gone (outgoing.sends now) a f g =
+      subst (λ (u : Transmission). AreBegunOrGone gone (length ns) more u.flight.queue.pending) (sym f.exact)
+      (sends-begun now (next_pending (all_started now (flight_of old).queue).pending) refl g)
+  stays-begun-or-gone (outgoing.writes stream ppi (b ∷ bs)) a f g =
+      let l = accepted-stream stream (length (b ∷ bs)) old.sending.sender f.accepted in
+      subst (λ (u : Transmission). Begins' u) (sym (f.exact.1 (omega arith) l.0 l.1)) (after l.0)
+    where
+      Begins' : Transmission → Type 0
+      Begins' u = AreBegunOrGone gone (length (numbered_after (outgoing.writes stream ppi (b ∷ bs)) ns)) more u.flight.queue.pending
+
+      after : (l : StreamState) → Begins' (written_to l stream ppi (b ∷ bs) old.sending.sender)
+      after l m lt d = elim (cases_lt m (length ns)) [
+        | inl less ↦
+            kept-others gone (length ns) sent more (flight_of old).queue.pending (written_to l stream ppi (b ∷ bs) old.sending.sender).flight.queue.pending
+            once (λ k _ x. write-keeps l ppi b bs (flight_of old).queue k x) h m less d
+        | inr le ↦
+            let ids = i.held.stands.ids in
+            let same : m ≡ (flight_of old).queue.next_message_id = omega (arith, lt, le, ids) in
+            or-right (was_begun m more) _ (subst (λ k. begins_in k (written_to l stream ppi (b ∷ bs) old.sending.sender).flight.queue.pending ≡ true) (sym same)
+            (write-begins l ppi b bs (flight_of old).queue))
+      ]
+  stays-begun-or-gone call a f g =
+      let x = changes old.sending.sender new.sending.sender call refl f.step.sender f.exact in
+      subst (λ (k : Flight). AreBegunOrGone gone (length ns) more k.queue.pending) (sym x.flight)
+      (kept-others gone (length ns) sent more (flight_of old).queue.pending (flight_after call old.sending.sender x.change).queue.pending once
+      (changed-keeps call a x.change) h)
+
+-- # The messages that calls abandon are writes: the number of each is below that of the next one
+
+abbrev pub AreBelow : ℕ → List ℕ → Type 0
+AreBelow n ms = Every (λ m. m < n) ms
+
+found-any : (p q : ChunkPayloadData → Bool) (cs : List ChunkPayloadData) (c : ChunkPayloadData) → find p cs ≡ Some c → q c ≡ true → list_any q cs ≡ true
+found-any p q [] c e h = absurd (none-some c e)
+found-any p q (x ∷ xs) c e h = by (p x) e (λ f. found-any p q xs c f h)
+  where
+    by : (b : Bool) → (if b then Some x else find p xs) ≡ Some c → (find p xs ≡ Some c → list_any q xs ≡ true) → (q x || list_any q xs) ≡ true
+    by true f ih = or-left (q x) (list_any q xs) (ap q (some-same f) ∙ h)
+    by false f ih = or-right (q x) (list_any q xs) (ih f)
+
+module _ (q : Pending) (xs : List ChunkPayloadData) (n : ℕ) (s : IsSendable q xs n) where
+  flight-below : (m : ℕ) → list_any (is_of m) xs ≡ true → m < n
+  flight-below m h = elim (cases_lt m n) [ inl lt ↦ lt | inr le ↦ absurd (not_both (sym (s.below m le) ∙ h)) ]
+
+  found-below : (tsn : ℕ) (c : ChunkPayloadData) → find (has_tsn tsn) xs ≡ Some c → c.message_id < n
+  found-below tsn c e = flight-below c.message_id (found-any (has_tsn tsn) (is_of c.message_id) xs c e (same-yes c.message_id))
+
+  next-below : (c : ChunkPayloadData) → next_pending q ≡ Some c → c.message_id < n
+  next-below c e = elim (cases_lt c.message_id n) [
+    | inl lt ↦ lt
+    | inr le ↦ absurd (not_both
+        (sym (or_false (list_any (is_of c.message_id) q.unordered) (list_any (is_of c.message_id) q.ordered)
+        (none_past true n c.message_id le (stage_of true q.selected) q.unordered s.unordered)
+        (none_past false n c.message_id le (stage_of false q.selected) q.ordered s.ordered))
+        ∙ next-any (is_of c.message_id) q.ordered q.unordered q.selected q.ordered_room q.unordered_room c (same-yes c.message_id) e))
+  ]
+
+  -- the message in front, where it passes
+  passing-below : (p : ChunkPayloadData → Bool) (o : Option ChunkPayloadData) → next_pending q ≡ o → AreBelow n (option_to_list (message_of (passing p o)))
+  passing-below p None e = tt
+  passing-below p (Some c) e = by (p c)
+    where
+      by : (b : Bool) → AreBelow n (option_to_list (message_of (if b then Some c else None)))
+      by true = (next-below c e, tt)
+      by false = tt
+
+  abandon-below : (tsn : ℕ) (o : Option ChunkPayloadData) → find (has_tsn tsn) xs ≡ o → AreBelow n (option_to_list (to_abandon o))
+  abandon-below tsn None e = tt
+  abandon-below tsn (Some c) e = by c.abandoned
+    where
+      by : (b : Bool) → AreBelow n (option_to_list (if b then None else Some c.message_id))
+      by true = tt
+      by false = (found-below tsn c e, tt)
+
+  answered-below : (tsn bytes : ℕ) (o : Option ChunkPayloadData) → find (has_tsn tsn) xs ≡ o → AreBelow n (numbers (abandoned_with o bytes))
+  answered-below tsn bytes None e = tt
+  answered-below tsn bytes (Some c) e = by c.abandoned
+    where
+      answered : List AbandonedMessage
+      answered = record { stream = c.stream_identifier; number = c.message_id; bytes = bytes; is_low = false } ∷ []
+
+      by : (b : Bool) → AreBelow n (numbers (if b then [] else answered))
+      by true = tt
+      by false = (found-below tsn c e, tt)
+
+module _ (ws : List Numbered) (first : ℕ) (number : ℕ → ℕ) where
+  each-below : (tsns : List ℕ) (f : Flight) (sent : List Entry) → Stands ws first number f.queue f.next_tsn sent
+      → AreBelow (length ws) (numbers (leaving_each tsns f))
+  each-below [] f sent s = tt
+  each-below (tsn ∷ tsns) f sent s =
+      subst (AreBelow (length ws)) (sym (numbers-append (leaving_at tsn f) (leaving_each tsns (abandoned_at tsn f))))
+      (every-joined (λ m. m < length ws) (numbers (leaving_at tsn f)) (numbers (leaving_each tsns (abandoned_at tsn f)))
+      (subst (λ n. AreBelow n (numbers (leaving_at tsn f))) s.ids
+      (answered-below f.queue.pending f.queue.inflight.chunks f.queue.next_message_id s.sendable tsn _ (find (has_tsn tsn) f.queue.inflight.chunks) refl))
+      (each-below tsns (abandoned_at tsn f) x.more x.stands))
+    where
+      x : Abandons ws first number sent f.queue (abandoned_at tsn f).queue (abandoned_at tsn f).next_tsn
+      x = abandoned ws first number f.queue f.next_tsn sent s (message_to_abandon tsn f)
+          (found-partial f.queue s.sendable tsn (find (has_tsn tsn) f.queue.inflight.chunks) refl)
+
+  -- of a call
+  pub by-below : (call : SenderCall) (t : Transmission) (sent : List Entry) → Stands ws first number t.flight.queue t.flight.next_tsn sent
+      → AreBelow (length ws) (abandoned_by call t)
+  by-below (outgoing.abandons tsn a) t sent s =
+      subst (λ n. AreBelow n (option_to_list (message_to_abandon tsn t.flight))) s.ids
+      (abandon-below t.flight.queue.pending t.flight.queue.inflight.chunks t.flight.queue.next_message_id s.sendable tsn
+      (find (has_tsn tsn) t.flight.queue.inflight.chunks) refl)
+  by-below (outgoing.expires now m) t sent s =
+      subst (λ n. AreBelow n (option_to_list (message_of (expiring now t.flight.queue)))) s.ids
+      (passing-below t.flight.queue.pending t.flight.queue.inflight.chunks t.flight.queue.next_message_id s.sendable (is_expired now)
+      (next_pending t.flight.queue.pending) refl)
+  by-below (outgoing.expires_tail now None) t sent s = tt
+  by-below (outgoing.expires_tail now (Some a)) t sent s =
+      subst (λ n. AreBelow n (option_to_list (message_of (expiring_tail now t.flight.queue)))) s.ids
+      (passing-below t.flight.queue.pending t.flight.queue.inflight.chunks t.flight.queue.next_message_id s.sendable (is_expired_tail now)
+      (next_pending t.flight.queue.pending) refl)
+  by-below (outgoing.expires_late now answered) t sent s = each-below (late_order now t.flight) t.flight sent s
+  by-below (outgoing.expires_rexmit answered) t sent s = each-below (worn_order t.flight) t.flight sent s
+  by-below call t sent s = tt
+
+longer : (call : SenderCall) (ns : List Numbered) → length ns ≤ length (numbered_after call ns)
+longer (outgoing.writes stream ppi []) ns = omega arith
+longer (outgoing.writes stream ppi (b ∷ bs)) ns = omega arith
+longer call ns = omega arith
+
+-- so they stay while more is written
+pub below-after : (call : SenderCall) (ns : List Numbered) (ms : List ℕ) → AreBelow (length ns) ms → AreBelow (length (numbered_after call ns)) ms
+below-after call ns ms h =
+    every-of (λ m. m < length ns) (λ m. m < length (numbered_after call ns)) (λ m lt. let le = longer call ns in omega (arith, lt, le)) ms h

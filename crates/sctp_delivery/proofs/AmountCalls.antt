@@ -1,24 +1,25 @@
--- What each call of a sender makes of the bytes of a stream, of its buffered amount, and of what the answers told on it.
-use Rattle.std.proofs.Common.{◌≡◌, ℕ, ◌+◌, ◌-◌, ◌^◌, ◌<◌, ◌≤◌, Bool, true, false, not, List, [], ◌∷◌, length, map, Option, Some, None, refl, ap, sym}
-use Rattle.std.proofs.Common.{subst, ◌∙◌, arith}
+-- Each chunk that waits or is in flight is on the stream of its write, and has no bytes once it is acknowledged or abandoned.
+use Rattle.std.proofs.Common.{◌≡◌, ℕ, ◌+◌, ◌-◌, ◌^◌, ◌<◌, ◌≤◌, Bool, true, false, not, List, [], ◌∷◌, length, map, Option, Some, None, refl, ap, sym, subst}
+use Rattle.std.proofs.Common.{◌∙◌, arith}
 use Rattle.std.specs.Prelude.{IfSome, if◌then◌else◌, ◌==◌, ◌||◌, find, nat_lt, option_map}
 use Rattle.std.specs.List.{filter}
 use Rattle.std.proofs.lemmas.Bool.Decides.{nat_tests}
 use Rattle.std.proofs.lemmas.List.Sums.{sum_by-append, sum_by-cons}
 use Rattle.std.proofs.lemmas.Option.{none-some}
 use Rattle.sctp_util.specs.Lists.{change_where}
-use Rattle.sctp_util.proofs.Cases.{same-is, some-same}
+use Rattle.sctp_util.proofs.Cases.{same-is, some-same, same-yes}
 use Rattle.sctp_util.proofs.Edits.{sum_by-inserted}
 use Rattle.sctp_util.proofs.More.{not_both}
 use Rattle.sctp_data.specs.declared.chunk.chunk_payload_data.ChunkPayloadData.{ChunkPayloadData}
 use Rattle.sctp_data.specs.declared.chunk.chunk_payload_data.PayloadProtocolIdentifier.{PayloadProtocolIdentifier}
 use Rattle.sctp_data.specs.declared.chunk.chunk_payload_data.PayloadProtocolIdentifier.TheVariants.{Unknown}
 use Rattle.sctp_data.specs.SelectiveAck.{Sack}
-use Rattle.sctp_outbound.specs.Marks.{as_abandoned, is_of, is_outstanding, with_retransmit}
-use Rattle.sctp_outbound.specs.outbound_queue.OutboundQueue.{Outbound, abandoned_of, all_started, expiring, expiring_tail, is_expired}
-use Rattle.sctp_outbound.specs.outbound_queue.OutboundQueue.{is_expired_tail, message_of, passing, terminal_chunk, to_abandon, total_bytes, with_terminal_chunk}
+use Rattle.sctp_outbound.specs.Marks.{as_abandoned, is_of, is_outstanding, with_retransmit, as_acknowledged}
+use Rattle.sctp_outbound.specs.outbound_queue.OutboundQueue.{Outbound, abandoned_of, all_started, expiring, expiring_tail, is_expired, is_expired_tail}
+use Rattle.sctp_outbound.specs.outbound_queue.OutboundQueue.{message_of, passing, terminal_chunk, to_abandon, total_bytes, with_terminal_chunk, as_sent}
+use Rattle.sctp_outbound.specs.outbound_queue.OutboundQueue.{with_message, with_message_id}
 use Rattle.sctp_outbound.specs.payload_queue.PayloadQueue as payload
-use Rattle.sctp_outbound.specs.pending_queue.PendingQueue.{last_removed, next_pending}
+use Rattle.sctp_outbound.specs.pending_queue.PendingQueue.{last_removed, next_pending, one_lower, with_deadline}
 use Rattle.sctp_outbound.specs.pending_queue.Whole.{IsSendable}
 use Rattle.sctp_outbound.proofs.lemmas.pending_queue.Waiting.{removed_le}
 use Rattle.sctp_serial.specs.DataChunks.{bytes_of, chunk_before, has_tsn}
@@ -37,17 +38,117 @@ use Rattle.sctp_stream.specs.Stream.{new_stream}
 use Rattle.sctp_delivery.specs.Amounts.{bytes_for, bytes_of_chunks, bytes_of_messages, told_by, written_by}
 use Rattle.sctp_delivery.specs.SenderCalls.{Answers, Expires, IsAccepted, MakesExactly, SenderCall, Write, abandons, as_run, expires, expires_late}
 use Rattle.sctp_delivery.specs.SenderCalls.{expires_rexmit, expires_tail, forwards, forwards_within, marks, misses, opens, resends, reserves, sends, sets_low}
-use Rattle.sctp_delivery.specs.SenderCalls.{sets_mode, sets_size, starts, takes_sack, writes}
+use Rattle.sctp_delivery.specs.SenderCalls.{sets_mode, sets_size, starts, takes_sack, writes, written_after}
 use Rattle.sctp_delivery.specs.Session.{of_sender}
-use Rattle.sctp_delivery.proofs.AmountChunks.{AllOf, IsFresh, IsOf, all-at, fragments-fresh, stream_in}
-use Rattle.sctp_delivery.proofs.StreamBytes.{IsBare, IsOff, abandoned, amount, amount-at, amount-elsewhere, amount-found, amount-kept, amount-left}
-use Rattle.sctp_delivery.proofs.StreamBytes.{amount-less, amount-mapped, amount-opened, amount-released, changed, expired, first-changed, held, lows-told}
-use Rattle.sctp_delivery.proofs.StreamBytes.{message-lows-told}
+use Rattle.sctp_delivery.proofs.StreamBytes.{IsBare, IsOff, abandoned, amount, amount-at, amount-elsewhere, amount-found, amount-kept, amount-left, amount-less}
+use Rattle.sctp_delivery.proofs.StreamBytes.{amount-mapped, amount-opened, amount-released, changed, expired, first-changed, held, lows-told, message-lows-told}
 use Rattle.sctp_delivery.proofs.StreamBytes.{only, others, pushed, sacked, sent, split-all, started, zero-if}
 use Rattle.sctp_delivery.proofs.Every.{Every, every-found, every-of}
 use Rattle.sctp_delivery.proofs.Numbers.{number-is}
 use Rattle.sctp_delivery.proofs.Writing.{accepted-stream}
-use Rattle.sctp_delivery.proofs.QueueChunks.{peeked}
+use Rattle.sctp_delivery.proofs.QueueChunks.{peeked, EachIs, each-fragment}
+use Rattle.sctp_delivery.proofs.QueueChunks as queues
+use Rattle.sctp_delivery.proofs.Changes.{Keeps, each-call}
+
+-- the stream of the write before which so many were made: that is the number of its message
+abbrev pub stream_in : ℕ → List Write → ℕ
+stream_in n [] = 0
+stream_in n (w ∷ ws) = if length ws == n then w.stream else stream_in n ws
+
+pub record IsOf (ws : List Write) (c : ChunkPayloadData) : Type 0 where
+  pub below : c.message_id < length ws
+  pub stream : c.stream_identifier ≡ stream_in c.message_id ws
+  pub bare : IsBare c
+
+abbrev pub AllOf : List Write → Outbound → Type 0
+AllOf ws q = EachIs (IsOf ws) (IsOf ws) q
+
+-- one write more
+of-more : (w : Write) (ws : List Write) (c : ChunkPayloadData) → IsOf ws c → IsOf (w ∷ ws) c
+of-more w ws c h =
+    let lt = h.below in
+    let e : (length ws == c.message_id) ≡ false = grind (arith, nat_tests, lt) in
+    record {
+      below = omega (arith, lt);
+      stream = h.stream ∙ sym (ap (λ b. if b then w.stream else stream_in c.message_id ws) e);
+      bare = h.bare;
+    }
+
+-- a fragment of a write on a stream
+pub record IsFresh (stream : ℕ) (c : ChunkPayloadData) : Type 0 where
+  pub on : c.stream_identifier ≡ stream
+  pub outstanding : is_outstanding c ≡ true
+
+pub fragments-fresh : (l : StreamState) (ppi : PayloadProtocolIdentifier) (bytes : List ℕ)
+    → Every (IsFresh l.stream_identifier) (fragments_with_mode l ppi bytes)
+fragments-fresh l ppi bytes = each-fragment (IsFresh l.stream_identifier) l ppi bytes (λ i. record { on = refl; outstanding = refl })
+
+module _ (ws : List Write) where
+  of-alike : (c d : ChunkPayloadData) → d.message_id ≡ c.message_id → d.stream_identifier ≡ c.stream_identifier → IsBare d → IsOf ws c → IsOf ws d
+  of-alike c d m s bare h = record {
+    below = subst (λ n. n < length ws) (sym m) h.below;
+    stream = s ∙ h.stream ∙ ap (λ n. stream_in n ws) (sym m);
+    bare = bare;
+  }
+
+  gone-of : (c : ChunkPayloadData) → IsOf ws c → IsOf ws (as_abandoned c)
+  gone-of c i = of-alike c (as_abandoned c) refl refl (λ _. refl) i
+
+  end-of : (tsn : ℕ) (c : ChunkPayloadData) → IsOf ws c → IsOf ws (terminal_chunk tsn c)
+  end-of tsn c i = of-alike c (terminal_chunk tsn c) refl refl (λ _. refl) i
+
+  pub all-at : (t : ℕ) (f : Flight) → AllOf ws f.queue → AllOf ws (abandoned_at t f).queue
+  all-at t f h = queues.abandoned (IsOf ws) (IsOf ws) gone-of end-of (message_to_abandon t f) f.next_tsn f.queue h
+
+-- a message is written
+all-pushed : (ws : List Write) (w : Write) (cs : List ChunkPayloadData) (q : Outbound) → q.next_message_id ≡ length ws → Every (IsFresh w.stream) cs
+    → AllOf ws q → AllOf (w ∷ ws) (with_message cs q)
+all-pushed ws w cs q ids fresh h =
+    queues.pushed (IsOf ws) (IsOf ws) (IsOf (w ∷ ws)) (IsOf (w ∷ ws)) (of-more w ws) (of-more w ws) cs q
+    (every-of (IsFresh w.stream) (λ c. IsOf (w ∷ ws) (with_message_id q.next_message_id c)) one cs fresh) h
+  where
+    one : (c : ChunkPayloadData) → IsFresh w.stream c → IsOf (w ∷ ws) (with_message_id q.next_message_id c)
+    one c i =
+        let same : (length ws == q.next_message_id) ≡ true = ap (λ n. length ws == n) ids ∙ same-yes (length ws) in
+        record {
+          below = omega (arith, ids);
+          stream = i.on ∙ sym (ap (λ b. if b then w.stream else stream_in q.next_message_id ws) same);
+          bare = λ e. absurd (not_both (sym e ∙ i.outstanding));
+        }
+
+-- ## The calls
+
+module _ (ws : List Write) (t : Transmission) (ids : t.flight.queue.next_message_id ≡ length ws) (h : AllOf ws t.flight.queue) where
+  to : (vs : List Write) (u v : Transmission) → u ≡ v → AllOf vs v.flight.queue → AllOf vs u.flight.queue
+  to vs u v e i = subst (λ (x : Transmission). AllOf vs x.flight.queue) (sym e) i
+
+  abbrev P : ChunkPayloadData → Type 0
+  P = IsOf ws
+
+  keeps : Keeps P P t
+  keeps = record {
+    start = λ now c i. of-alike ws c (with_deadline now c) refl refl i.bare i;
+    lower = λ c i. of-alike ws c (one_lower c) refl refl i.bare i;
+    put = λ now c i. of-alike ws c (as_sent t.flight.next_tsn now c) refl refl i.bare i;
+    mark = λ f k d i.
+        of-alike ws d (f d) (ap (λ (c : ChunkPayloadData). c.message_id) (k d)) (ap (λ (c : ChunkPayloadData). c.stream_identifier) (k d))
+        (λ o. ap (λ (c : ChunkPayloadData). length c.user_data) (k d) ∙ i.bare (sym (ap is_outstanding (k d)) ∙ o)) i;
+    leave = gone-of ws;
+    end' = end-of ws;
+    acknowledge = λ c i. of-alike ws c (as_acknowledged c) refl refl (λ _. refl) i;
+  }
+
+  pub all-call : (call : SenderCall) (u : Transmission) → Makes (as_run call) t u → MakesExactly call t u → IsAccepted call t
+      → AllOf (written_after call ws) u.flight.queue
+  all-call (writes stream ppi (b ∷ bs)) u e x a =
+      let l = accepted-stream stream (length (b ∷ bs)) t a in
+      let w : Write = record { stream = stream; payload_type = ppi; bytes = b ∷ bs } in
+      to (w ∷ ws) u _ (x.1 (omega arith) l.0 l.1)
+      (all-pushed ws w (fragments_with_mode l.0 ppi (b ∷ bs)) t.flight.queue ids
+      (subst (λ n. Every (IsFresh n) (fragments_with_mode l.0 ppi (b ∷ bs))) (number-is stream t.streams l.0 l.1) (fragments-fresh l.0 ppi (b ∷ bs))) h)
+  all-call call u e x a = each-call P P t keeps h u call refl e x
+
+-- # What each call of a sender makes of the bytes of a stream, of its buffered amount, and of what the answers told on it
 
 -- ## Which stream the bytes leave
 

@@ -28,11 +28,11 @@ use Rattle.sctp_delivery.proofs.Continued.{lead-ends}
 use Rattle.sctp_delivery.proofs.Every.{Every, every-changed, every-of-all, every-passing}
 use Rattle.sctp_delivery.proofs.GivenTsns.{IsNumbered, taken-numbered}
 use Rattle.sctp_delivery.proofs.KeptSessions.{kept-in}
-use Rattle.sctp_delivery.proofs.PassedTsns.{lead, lead-within, point-ahead, point-is, rest-run}
+use Rattle.sctp_delivery.proofs.GivenTsns.{lead, lead-within, point-ahead, point-is, rest-run}
 use Rattle.sctp_delivery.proofs.Reached.{IsReached, kept}
 use Rattle.sctp_delivery.proofs.SackCalls.{cumulative-of}
 use Rattle.sctp_delivery.proofs.SackLaws.{IsInStep}
-use Rattle.sctp_delivery.proofs.AnsweredCalls.{next-untaken}
+use Rattle.sctp_delivery.proofs.TakenCalls.{next-untaken}
 use Rattle.sctp_delivery.proofs.SackSteps.{known}
 use Rattle.sctp_delivery.proofs.TsnPlaces.{at-or-before, base, before, next-place, same-place}
 

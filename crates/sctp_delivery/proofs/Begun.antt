@@ -107,11 +107,7 @@ rest-begins kind n m [] w = absurd w
 rest-begins kind n m (c ∷ cs) w = or_false (begins m c) (list_any (begins m) cs) here (by c.ending_fragment w.3 (rest-begins kind n m cs))
   where
     here : begins m c ≡ false
-    here = one (c.message_id == m)
-      where
-        one : (b : Bool) → (b && c.beginning_fragment) ≡ false
-        one true = w.0.0
-        one false = refl
+    here = elim (c.message_id == m) as (λ b. (b && c.beginning_fragment) ≡ false) [ true ↦ w.0.0 | false ↦ refl ]
 
     by : (b : Bool) → IsWhole kind n (if b then free (c.message_id + 1) else begun c.message_id) cs
         → (IsWhole kind n (begun m) cs → list_any (begins m) cs ≡ false) → list_any (begins m) cs ≡ false

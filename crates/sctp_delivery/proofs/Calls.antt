@@ -1,12 +1,11 @@
 -- Each call of a sender, and what it makes of all that got TSNs.
-use Rattle.std.proofs.Common.{◌≡◌, ℕ, ◌<◌, true, List, [], ◌∷◌, length, Option, Some, None, is_some, inl, refl, ap, sym, subst, ◌∙◌, arith, zero, suc}
-use Rattle.std.specs.Prelude.{Contains, IfSome, find, slice_index_or}
-use Rattle.sctp_util.proofs.More.{not_both}
+use Rattle.std.proofs.Common.{◌≡◌, ℕ, ◌<◌, true, List, [], ◌∷◌, length, Option, Some, None, inl, refl, ap, sym, subst, ◌∙◌, arith, zero, suc}
+use Rattle.std.specs.Prelude.{Contains, find, slice_index_or}
 use Rattle.sctp_data.specs.declared.chunk.chunk_payload_data.ChunkPayloadData.{ChunkPayloadData}
 use Rattle.sctp_data.specs.declared.chunk.chunk_payload_data.PayloadProtocolIdentifier.TheVariants.{Unknown}
 use Rattle.sctp_data.specs.ForwardTsn.{ForwardTsn}
 use Rattle.sctp_outbound.specs.Marks.{is_outstanding, with_retransmit}
-use Rattle.sctp_outbound.specs.outbound_queue.OutboundQueue.{all_started, expiring, expiring_tail, message_of}
+use Rattle.sctp_outbound.specs.outbound_queue.OutboundQueue.{all_started, expiring_tail, message_of}
 use Rattle.sctp_outbound.specs.pending_queue.PendingQueue.{next_pending}
 use Rattle.sctp_outbound.proofs.lemmas.pending_queue.CompleteMessages.{KeepsMessage}
 use Rattle.sctp_serial.specs.DataChunks.{has_tsn}
@@ -17,42 +16,27 @@ use Rattle.sctp_sender.specs.Flight.{is_outstanding_in, message_to_abandon, with
 use Rattle.sctp_sender.specs.Late.{late_order, worn_order}
 use Rattle.sctp_sender.specs.Outgoing.{has_number, with_low, with_mode}
 use Rattle.sctp_sender.specs.Resending.{can_miss, count_again, missed, sent_again}
-use Rattle.sctp_sender.specs.Sender.{Transmission, after_expire, written_to}
+use Rattle.sctp_sender.specs.Sender.{Transmission, written_to}
 use Rattle.sctp_sender.specs.SenderRuns.{Makes}
 use Rattle.sctp_sender.proofs.InLine.{found-partial, tail-partial}
 use Rattle.sctp_delivery.specs.SenderCalls.{Expires, ExpiresTail, IsAccepted, Made, MakesExactly, SenderCall, abandons, as_run, expires, expires_late}
 use Rattle.sctp_delivery.specs.SenderCalls.{expires_rexmit, expires_tail, forward_tsn, forwards, forwards_within, made_after, marks, misses, next_chunk, opens}
 use Rattle.sctp_delivery.specs.SenderCalls.{resends, reserves, sends, sets_low, sets_mode, sets_size, starts, takes_sack, writes, written_after, Write}
-use Rattle.sctp_delivery.proofs.InFlight.{known-found}
-use Rattle.sctp_delivery.proofs.OrderedNames.{names-known}
+use Rattle.sctp_delivery.proofs.InFlight.{IsKnown}
+use Rattle.sctp_delivery.proofs.OrderedRest.{names-known}
 use Rattle.sctp_delivery.proofs.Numbers.{all-open, number_of, numbers-sized, opened, sized-all, steady-changed, steady-same, there-sized}
 use Rattle.sctp_delivery.proofs.Queues.{started}
 use Rattle.sctp_delivery.proofs.Senders.{IsHeld, Result, abandons-all, abandons-message, acked, calm, changed, first-changed, renumbered, sends-next, steady}
 use Rattle.sctp_delivery.proofs.Sent.{Entry, Numbered}
 use Rattle.sctp_delivery.proofs.Writing.{accepted-stream, expires-one, writes-some}
+use Rattle.sctp_delivery.proofs.Every.{every-found}
+use Rattle.sctp_delivery.proofs.Changes.{expired-one}
 
 -- the writes, numbered, after a call
 abbrev pub numbered_after : SenderCall → List Numbered → List Numbered
 numbered_after (writes stream ppi []) ns = ns
 numbered_after (writes stream ppi (b ∷ bs)) ns = record { stream = stream; payload_type = ppi; bytes = b ∷ bs; place = length ns } ∷ ns
-numbered_after (opens stream) ns = ns
-numbered_after (sets_mode stream unordered reliability value) ns = ns
-numbered_after (starts now) ns = ns
-numbered_after (sends now) ns = ns
-numbered_after (resends tsn now c) ns = ns
-numbered_after (abandons tsn a) ns = ns
-numbered_after (expires now m) ns = ns
-numbered_after (expires_tail now m) ns = ns
-numbered_after (expires_late now gone) ns = ns
-numbered_after (expires_rexmit gone) ns = ns
-numbered_after (forwards tsn f) ns = ns
-numbered_after (forwards_within bytes f) ns = ns
-numbered_after marks ns = ns
-numbered_after (misses count) ns = ns
-numbered_after (sets_size size) ns = ns
-numbered_after (sets_low stream bytes) ns = ns
-numbered_after (reserves more) ns = ns
-numbered_after (takes_sack sack gone) ns = ns
+numbered_after call ns = ns
 
 -- the chunk that a call gives the next TSN, if it sends one
 abbrev pub sent_by : SenderCall → Transmission → Option ChunkPayloadData
@@ -66,12 +50,9 @@ module _ (ws : List Numbered) (first : ℕ) (t : Transmission) (sent : List Entr
 
   expires-call : (now : ℕ) (m : Option ExpiredMessage) (u : Transmission) → Expires now m t u → Result None ws ws first sent u ms ms
   expires-call now None u x = same u (x.1.1 refl)
-  expires-call now (Some e) u x = by (expiring now t.flight.queue) refl x.0 x.1.0
-    where
-      by : (o : Option ChunkPayloadData) → expiring now t.flight.queue ≡ o → true ≡ is_some o → IfSome o (λ c. u ≡ after_expire c e.bytes now t)
-          → Result None ws ws first sent u ms ms
-      by None i f g = absurd (not_both (sym f))
-      by (Some c) i f g = subst (λ y. Result None ws ws first sent y ms ms) (sym g) (expires-one ws first t sent ms h now c e.bytes i)
+  expires-call now (Some e) u x =
+      let i = expired-one now e t u x in
+      subst (λ y. Result None ws ws first sent y ms ms) (sym i.2) (expires-one ws first t sent ms h now i.0 e.bytes i.1)
 
   expires-tail-call : (now : ℕ) (m : Option AbandonedMessage) (u : Transmission) → ExpiresTail now m t u → Result None ws ws first sent u ms ms
   expires-tail-call now None u x = same u (x.1 refl)
@@ -94,7 +75,7 @@ module _ (ws : List Numbered) (first : ℕ) (t : Transmission) (sent : List Entr
         once = inl refl;
         grown = inl refl;
         made = λ s. (
-          (known-found first sent (has_tsn tsn) t.flight.queue.inflight.chunks c a.1 h.stands.known).0
+          (every-found (IsKnown first sent) (has_tsn tsn) t.flight.queue.inflight.chunks c a.1 h.stands.known).0
               (subst (λ o. is_outstanding_in o ≡ true) a.1 a.0),
           s,
         );

@@ -1,6 +1,6 @@
 -- What a call of a sender makes of what waits and of what is in flight, but for a write and a sending: one of nine changes.
 use Rattle.std.proofs.Common.{◌≡◌, ℕ, ◌+◌, ◌≤◌, ◌++◌, Bool, true, false, List, [], ◌∷◌, length, length-append, map, Option, Some, None, refl, ap, sym, ◌∙◌}
-use Rattle.std.proofs.Common.{arith, inl, inr}
+use Rattle.std.proofs.Common.{arith, inl, inr, subst}
 use Rattle.std.specs.Prelude.{◌⊎◌, if◌then◌else◌, find, is_some, option_to_list, IfSome}
 use Rattle.std.specs.List.{filter}
 use Rattle.std.proofs.lemmas.List.{length-map}
@@ -8,22 +8,25 @@ use Rattle.sctp_util.specs.Lists.{change_where}
 use Rattle.sctp_util.proofs.More.{not_both}
 use Rattle.sctp_data.specs.declared.chunk.chunk_payload_data.ChunkPayloadData.{ChunkPayloadData}
 use Rattle.sctp_data.specs.SelectiveAck.{Sack}
-use Rattle.sctp_outbound.specs.Marks.{is_outstanding, with_retransmit}
+use Rattle.sctp_outbound.specs.Marks.{is_outstanding, with_retransmit, as_abandoned, as_acknowledged}
 use Rattle.sctp_outbound.specs.outbound_queue.OutboundQueue.{all_started, expired_of, expiring, expiring_tail, is_late, late_tsns, message_of, with_inflight}
-use Rattle.sctp_outbound.specs.pending_queue.PendingQueue.{next_pending}
+use Rattle.sctp_outbound.specs.outbound_queue.OutboundQueue.{as_sent, terminal_chunk}
+use Rattle.sctp_outbound.specs.pending_queue.PendingQueue.{next_pending, one_lower, with_deadline}
 use Rattle.sctp_outbound.specs.pending_queue.Whole.{IsSendable, partially_sent, waits}
 use Rattle.sctp_serial.specs.DataChunks.{has_tsn}
 use Rattle.sctp_sender.specs.declared.sender.flight.Released.{Released}
+use Rattle.sctp_sender.specs.declared.sender.ExpiredMessage.{ExpiredMessage}
 use Rattle.sctp_sender.specs.Flight.{Flight, after_abandonment, after_sack, message_to_abandon, with_queue, with_room}
 use Rattle.sctp_sender.specs.Late.{abandoned_each, late_order, leaving_each, with_tail, worn_order}
-use Rattle.sctp_sender.specs.Resending.{after_misses, count_again, is_worn, sent_again, worn_tsns}
+use Rattle.sctp_sender.specs.Resending.{after_misses, count_again, is_worn, sent_again, worn_tsns, missed}
 use Rattle.sctp_sender.specs.Sender.{Transmission, after_expire}
 use Rattle.sctp_sender.specs.SenderRuns.{Makes}
 use Rattle.sctp_sender.proofs.InLine.{found-partial, tail-partial}
 use Rattle.sctp_sender.proofs.Lates.{at-most-one}
 use Rattle.sctp_delivery.specs.Abandoned.{abandoned_by}
 use Rattle.sctp_delivery.specs.SenderCalls as outgoing
-use Rattle.sctp_delivery.specs.SenderCalls.{MakesExactly, SenderCall, as_run}
+use Rattle.sctp_delivery.specs.SenderCalls.{MakesExactly, SenderCall, as_run, Expires}
+use Rattle.sctp_delivery.proofs.QueueChunks.{EachIs, abandoned, each-abandoned, expired, marked, missed-some, sacked, sent, started}
 
 -- chunks are marked: of each only how often and when it was sent, and whether it goes again, may change
 abbrev pub IsMark : (ChunkPayloadData → ChunkPayloadData) → Type 0
@@ -70,6 +73,21 @@ is_change (outgoing.writes stream ppi (b ∷ bs)) = false
 is_change (outgoing.sends now) = false
 is_change _ = true
 
+-- a write of bytes
+abbrev pub is_write : SenderCall → Bool
+is_write (outgoing.writes stream ppi (b ∷ bs)) = true
+is_write _ = false
+
+-- the message in front that expires, where one is told
+pub expired-one : (now : ℕ) (e : ExpiredMessage) (t u : Transmission) → Expires now (Some e) t u
+    → (c : ChunkPayloadData) × (expiring now t.flight.queue ≡ Some c) × (u ≡ after_expire c e.bytes now t)
+expired-one now e t u x = by (expiring now t.flight.queue) refl x.0 x.1.0
+  where
+    by : (o : Option ChunkPayloadData) → expiring now t.flight.queue ≡ o → true ≡ is_some o → IfSome o (λ c. u ≡ after_expire c e.bytes now t)
+        → (c : ChunkPayloadData) × (expiring now t.flight.queue ≡ Some c) × (u ≡ after_expire c e.bytes now t)
+    by None i k y = absurd (not_both (sym k))
+    by (Some c) i k y = (c, i, y)
+
 fewer : {A : Type 0} (q : A → Bool) (xs : List A) → length (filter q xs) ≤ length xs
 fewer q [] = omega arith
 fewer q (x ∷ xs) = by (q x) (fewer q xs)
@@ -104,12 +122,9 @@ module _ (t u : Transmission) where
   changes (outgoing.misses count) o m x = to _ _ (some_missed count) m refl
   changes (outgoing.abandons tsn a) o m x = to _ _ (one_leaves (message_to_abandon tsn t.flight) refl (inl (tsn, refl))) x refl
   changes (outgoing.expires now None) o m x = to _ _ nothing (x.1.1 refl) refl
-  changes (outgoing.expires now (Some e)) o m x = by (expiring now t.flight.queue) refl x.0 x.1.0
-    where
-      by : (o : Option ChunkPayloadData) → expiring now t.flight.queue ≡ o → true ≡ is_some o → IfSome o (λ c. u ≡ after_expire c e.bytes now t)
-          → Changes (outgoing.expires now (Some e)) t u
-      by None i k y = absurd (not_both (sym k))
-      by (Some c) i k y = to _ _ (front_expires now c i (ap (λ d. option_to_list (message_of d)) i)) y refl
+  changes (outgoing.expires now (Some e)) o m x =
+      let i = expired-one now e t u x in
+      to _ _ (front_expires now i.0 i.1 (ap (λ c. option_to_list (message_of c)) i.1)) i.2 refl
   changes (outgoing.expires_tail now None) o m x = to _ _ nothing (x.1 refl) refl
   changes (outgoing.expires_tail now (Some a)) o m x =
       to _ _ (one_leaves (message_of (expiring_tail now t.flight.queue)) refl (inr (now, refl))) x.0 refl
@@ -130,3 +145,38 @@ pub partial-found : (t : Transmission) → IsSendable t.flight.queue.pending t.f
 partial-found t s o (inl i) m e w =
     found-partial t.flight.queue s i.0 (find (has_tsn i.0) t.flight.queue.inflight.chunks) refl m (sym i.1 ∙ e) w
 partial-found t s o (inr i) m e w = tail-partial t.flight.queue s i.0 (next_pending t.flight.queue.pending) refl m (sym i.1 ∙ e)
+
+-- ## Each chunk
+
+-- what is so of a chunk that waits (P) and of one in flight (Q) stays so, whatever call is made but a write
+pub record Keeps (P Q : ChunkPayloadData → Type 0) (t : Transmission) : Type 0 where
+  pub start : (now : ℕ) (c : ChunkPayloadData) → P c → P (with_deadline now c)
+  pub lower : (c : ChunkPayloadData) → P c → P (one_lower c)
+  pub put : (now : ℕ) (c : ChunkPayloadData) → P c → Q (as_sent t.flight.next_tsn now c)
+  pub mark : (f : ChunkPayloadData → ChunkPayloadData) → IsMark f → (c : ChunkPayloadData) → Q c → Q (f c)
+  pub leave : (c : ChunkPayloadData) → Q c → Q (as_abandoned c)
+  pub end' : (tsn : ℕ) (c : ChunkPayloadData) → P c → Q (terminal_chunk tsn c)
+  pub acknowledge : (c : ChunkPayloadData) → Q c → Q (as_acknowledged c)
+
+module _ (P Q : ChunkPayloadData → Type 0) (t : Transmission) (k : Keeps P Q t) (h : EachIs P Q t.flight.queue) where
+  changed-each : (call : SenderCall) (c : Change call t) → EachIs P Q (flight_after call t c).queue
+  changed-each call nothing = h
+  changed-each call (all_start now) = started P Q now (k.start now) t.flight.queue h
+  changed-each call (more_room count) = record { ordered = h.ordered; unordered = h.unordered; inflight = h.inflight }
+  changed-each call (some_marked p f m) = marked P Q p f (k.mark f m) t.flight.queue h
+  changed-each call (some_missed count) = missed-some P Q (k.mark missed (λ c. refl)) count t.flight h
+  changed-each call (one_leaves o e found) = abandoned P Q k.leave k.end' o t.flight.next_tsn t.flight.queue h
+  changed-each call (each_leaves tsns short e) = each-abandoned P Q k.leave k.end' tsns t.flight h
+  changed-each call (front_expires now c found e) = expired P Q k.lower (Some c) t.flight.queue h
+  changed-each call (acknowledges s gone e) = sacked P Q s (λ c _ i. k.acknowledge c i) t.flight h
+
+  pub each-call : (u : Transmission) (call : SenderCall) → is_write call ≡ false → Makes (as_run call) t u → MakesExactly call t u
+      → EachIs P Q u.flight.queue
+  each-call u (outgoing.writes stream ppi (b ∷ bs)) o m x = absurd (not_both (sym o))
+  each-call u (outgoing.sends now) o m x =
+      let q = all_started now t.flight.queue in
+      subst (λ (v : Transmission). EachIs P Q v.flight.queue) (sym x)
+      (sent P Q t.flight.next_tsn now (k.put now) (next_pending q.pending) q refl (started P Q now (k.start now) t.flight.queue h))
+  each-call u call o m x =
+      let c = changes t u call refl m x in
+      subst (λ (f : Flight). EachIs P Q f.queue) (sym c.flight) (changed-each call c.change)

@@ -17,7 +17,7 @@ use Rattle.sctp_outbound.specs.pending_queue.PendingQueue.{last_of}
 use Rattle.sctp_outbound.specs.pending_queue.Whole.{ends, partially_sent}
 use Rattle.sctp_sender.proofs.Runs.{IsRunFrom}
 use Rattle.sctp_delivery.specs.Rounds.{is_first_abandoned}
-use Rattle.sctp_delivery.proofs.PassedTsns.{lead, rest-run}
+use Rattle.sctp_delivery.proofs.GivenTsns.{lead, rest-run}
 
 -- ## What is so of the chunks in flight
 
@@ -73,18 +73,10 @@ facts-abandoned m (c ∷ cs) = ap₂ (λ x xs. x ∷ xs) (by (c.message_id == m)
     by false = refl
 
 same-number : (m : ℕ) (x : Facts) → (gone_at m x).0 ≡ x.0
-same-number m x = by (x.0 == m)
-  where
-    by : (b : Bool) → (if b then (x.0, x.1, true) else x).0 ≡ x.0
-    by true = refl
-    by false = refl
+same-number m x = elim (x.0 == m) as (λ b. (if b then (x.0, x.1, true) else x).0 ≡ x.0) [ true ↦ refl | false ↦ refl ]
 
 same-end : (m : ℕ) (x : Facts) → (gone_at m x).1 ≡ x.1
-same-end m x = by (x.0 == m)
-  where
-    by : (b : Bool) → (if b then (x.0, x.1, true) else x).1 ≡ x.1
-    by true = refl
-    by false = refl
+same-end m x = elim (x.0 == m) as (λ b. (if b then (x.0, x.1, true) else x).1 ≡ x.1) [ true ↦ refl | false ↦ refl ]
 
 gone : (m : ℕ) (x : Facts) → x.0 ≡ m → (gone_at m x).2 ≡ true
 gone m x same = ap (λ b. (if b then (x.0, x.1, true) else x).2) (subst (λ j. (j == m) ≡ true) (sym same) (same-yes m))

@@ -1,16 +1,14 @@
 -- The counters of each open stream are sums over what was written to it.
 use Rattle.std.proofs.Common.{◌≡◌, ℕ, ◌+◌, ◌-◌, ◌^◌, Bool, true, false, List, [], ◌∷◌, length, Option, Some, None, is_some, refl, ap, sym, subst, ◌∙◌, arith}
-use Rattle.std.specs.Prelude.{IfSome, find, if◌then◌else◌, ◌==◌, ◌&&◌, min}
+use Rattle.std.specs.Prelude.{find, if◌then◌else◌, ◌==◌, ◌&&◌, min}
 use Rattle.std.specs.List.{sum_by}
 use Rattle.std.proofs.lemmas.List.Sums.{sum_by-cons}
 use Rattle.sctp_util.specs.Lists.{change_where}
 use Rattle.sctp_util.proofs.Cases.{same-is, same-yes}
 use Rattle.sctp_util.proofs.More.{fails, not_both}
 use Rattle.sctp_data.specs.PayloadTypes.{counted_as, has_bytes, is_counted}
-use Rattle.sctp_data.specs.declared.chunk.chunk_payload_data.ChunkPayloadData.{ChunkPayloadData}
 use Rattle.sctp_data.specs.declared.chunk.chunk_payload_data.PayloadProtocolIdentifier.{PayloadProtocolIdentifier}
 use Rattle.sctp_data.specs.declared.chunk.chunk_payload_data.PayloadProtocolIdentifier.TheVariants.{Binary, BinaryEmpty, Dcep, String, StringEmpty, Unknown}
-use Rattle.sctp_outbound.specs.outbound_queue.OutboundQueue.{expiring}
 use Rattle.sctp_sender.specs.declared.sender.ExpiredMessage.{ExpiredMessage}
 use Rattle.sctp_sender.specs.declared.sender.flight.Released.{Released}
 use Rattle.sctp_sender.specs.declared.sender.flight.late.AbandonedMessage.{AbandonedMessage}
@@ -26,8 +24,8 @@ use Rattle.sctp_stream.specs.Stream.{new_stream}
 use Rattle.sctp_delivery.specs.Counters.{AreSums, bytes_on, messages_on}
 use Rattle.sctp_delivery.specs.Messages.{AfterEachFitSession}
 use Rattle.sctp_delivery.specs.SenderCalls.{Expires, IsAccepted, MakesExactly, SenderCall, Write, abandons, as_run, expires, expires_late, expires_rexmit}
-use Rattle.sctp_delivery.specs.SenderCalls.{expires_tail, forwards, forwards_within, opens, sends, sets_low}
-use Rattle.sctp_delivery.specs.SenderCalls.{sets_mode, sets_size, takes_sack, writes, written_after}
+use Rattle.sctp_delivery.specs.SenderCalls.{expires_tail, forwards, forwards_within, opens, sends, sets_low, sets_mode, sets_size, takes_sack, writes}
+use Rattle.sctp_delivery.specs.SenderCalls.{written_after}
 use Rattle.sctp_delivery.specs.Session.{Call, RunsTo, Session, at_start, of_receiver, of_sender}
 use Rattle.sctp_delivery.proofs.Calls.{forgotten, numbered_after}
 use Rattle.sctp_delivery.proofs.Delivered.{Holds, at-first, receiver-step, sender-step}
@@ -35,6 +33,7 @@ use Rattle.sctp_delivery.proofs.Every.{Every, all-of-every, every-changed, every
 use Rattle.sctp_delivery.proofs.Numbers.{AreOpen, found-there, is_there}
 use Rattle.sctp_delivery.proofs.Sent.{Entry, Numbered}
 use Rattle.sctp_delivery.proofs.Writing.{accepted-stream}
+use Rattle.sctp_delivery.proofs.Changes.{expired-one}
 
 -- ## One stream
 
@@ -161,13 +160,11 @@ module _ (t : Transmission) (ns : List Numbered) (o : AreOpen t.streams ns) (h :
 
   expires-call : (now : ℕ) (x : Option ExpiredMessage) (u : Transmission) → Expires now x t u → Every (Counts (forgotten ns)) u.streams
   expires-call now None u x = to (forgotten ns) u t (x.1.1 refl) h
-  expires-call now (Some e) u x = by (expiring now t.flight.queue) x.0 x.1.0
-    where
-      by : (o : Option ChunkPayloadData) → true ≡ is_some o → IfSome o (λ c. u ≡ after_expire c e.bytes now t) → Every (Counts (forgotten ns)) u.streams
-      by None f g = absurd (not_both (sym f))
-      by (Some c) f g =
-          to (forgotten ns) u (after_expire c e.bytes now t) g
-          (changed-counts (forgotten ns) (has_number c.stream_identifier) (after_expiry c.unordered e.bytes) (expiry-keeps c.unordered e.bytes) t.streams h)
+  expires-call now (Some e) u x =
+      let i = expired-one now e t u x in
+      to (forgotten ns) u (after_expire i.0 e.bytes now t) i.2
+      (changed-counts (forgotten ns) (has_number i.0.stream_identifier) (after_expiry i.0.unordered e.bytes) (expiry-keeps i.0.unordered e.bytes)
+      t.streams h)
 
   less-call : (stream bytes : ℕ) → Every (Counts (forgotten ns)) (change_where (has_number stream) (less_by bytes) t.streams)
   less-call stream bytes = changed-counts (forgotten ns) (has_number stream) (less_by bytes) (less-keeps bytes) t.streams h

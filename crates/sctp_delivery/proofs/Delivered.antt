@@ -1,6 +1,6 @@
 -- Each message that is read was written.
 use Rattle.std.proofs.Common.{◌≡◌, ℕ, zero, suc, ◌+◌, ◌%◌, ◌^◌, ◌<◌, ◌≤◌, Bool, true, false, not, List, [], ◌∷◌, ◌++◌, length, Option, inl, inr, refl, ap, sym}
-use Rattle.std.proofs.Common.{subst, ◌∙◌, arith}
+use Rattle.std.proofs.Common.{subst, ◌∙◌, arith, get_or}
 use Rattle.std.specs.Prelude.{⊤, All, Contains, ◌==◌, ◌&&◌, if◌then◌else◌, slice_index_or}
 use Rattle.std.specs.List.{list_all}
 use Rattle.std.proofs.lemmas.List.Sums.{AllPass-from_list_all}
@@ -25,6 +25,7 @@ use Rattle.sctp_delivery.proofs.Queues.{IsOnceMore}
 use Rattle.sctp_delivery.proofs.Senders.{AreSent, IsHeld, IsMoreBy}
 use Rattle.sctp_delivery.proofs.Sent.{Numbered, AreApart, Entry, GoesOn, IsLine, IsPart, WasSent, fragment, part-line, same-tsn, stands-behind}
 use Rattle.sctp_delivery.proofs.Sessions as sessions
+use Rattle.sctp_delivery.proofs.Every.{Every, every-of-all, all-of-every}
 
 -- ## All that a sender gave TSNs to, in every session
 
@@ -144,14 +145,12 @@ found-sent sent ms d a c = at ms c.0 c.1 c.2 a
 
 -- each of these chunks got a TSN
 abbrev pub EachSent : List Entry → List ChunkPayloadData → Type 0
-EachSent sent [] = ⊤
-EachSent sent (c ∷ cs) = WasSent sent (data_of c) × EachSent sent cs
+EachSent sent cs = Every (λ c. WasSent sent (data_of c)) cs
 
 pub each-sent : (sent : List Entry) (ms : List Made) (cs : List ChunkPayloadData) → AreSent sent ms → All (λ c. Contains ms (data_chunk (data_of c))) cs
     → EachSent sent cs
-each-sent sent ms [] a all = tt
-each-sent sent ms (c ∷ cs) a all =
-    (found-sent sent ms (data_of c) a (all 0 c (omega arith)), each-sent sent ms cs a (λ k d lt. all (suc k) d (omega (arith, lt))))
+each-sent sent ms cs a all =
+    every-of-all (λ c. WasSent sent (data_of c)) cs (λ k d lt. found-sent sent ms (data_of (get_or cs k d)) a (all k d lt))
 
 -- behind the first one a chunk that begins a message is alike the one before it: ordered, of the same stream and number
 abbrev pub AreInner : ChunkPayloadData → List ChunkPayloadData → Type 0
@@ -202,8 +201,7 @@ inner-of x ys e = let b = both (list_all (is_like x) ys) (rest x.unordered) e in
 
 -- each of these has the payload type
 abbrev EachTyped : Numbered → List ChunkPayloadData → Type 0
-EachTyped w [] = ⊤
-EachTyped w (c ∷ cs) = (c.payload_type ≡ w.payload_type) × EachTyped w cs
+EachTyped w cs = Every (λ c. c.payload_type ≡ w.payload_type) cs
 
 -- the message is a write, of which the first fragment stands in the line
 pub record IsReadOf (ws : List Numbered) (sent : List Entry) (m : Message) : Type 0 where
@@ -265,11 +263,6 @@ module _ (ws : List Numbered) (first : ℕ) (sent : List Entry) (few : length se
       → list_all (is_on m.stream) m.fragments ≡ true → IsReadOf ws sent m
   message-is m complete one s on = by m.fragments refl complete one s on
     where
-      typed-all : (w : Numbered) (cs : List ChunkPayloadData) → EachTyped w cs → All (λ c. c.payload_type ≡ w.payload_type) cs
-      typed-all w [] t k d lt = absurd (omega (arith, lt))
-      typed-all w (c ∷ cs) t zero d lt = t.0
-      typed-all w (c ∷ cs) t (suc k) d lt = typed-all w cs t.1 k d (omega (arith, lt))
-
       by : (cs : List ChunkPayloadData) → m.fragments ≡ cs → is_complete cs ≡ true → is_one_message cs ≡ true → EachSent sent cs
           → list_all (is_on m.stream) cs ≡ true → IsReadOf ws sent m
       by [] is e o s on = absurd (not_both e)
@@ -291,7 +284,8 @@ module _ (ws : List Numbered) (first : ℕ) (sent : List Entry) (few : length se
             written = l.0.written;
             write = record {
               stream = sym (same-is c.stream_identifier m.stream (both (is_on m.stream c) (list_all (is_on m.stream) cs) on).0) ∙ l.0.stream;
-              payload_type = subst (λ ds. All (λ x. x.payload_type ≡ w.payload_type) ds) (sym is) (typed-all w (c ∷ cs) f.1);
+              payload_type =
+                  subst (λ ds. All (λ x. x.payload_type ≡ w.payload_type) ds) (sym is) (all-of-every (λ x. x.payload_type ≡ w.payload_type) (c ∷ cs) f.1);
               bytes = ap payload_of is ∙ ap (λ bs. c.user_data ++ bs) f.0 ∙ sym (l.0.begins b.0);
             };
           }

@@ -1,9 +1,6 @@
 -- A session in which the receiver drops a chunk: it is acknowledged, though it was not taken.
 use Rattle.std.proofs.Common.{◌≡◌, true, false, List, [], ◌∷◌, refl, arith}
-use Rattle.sctp_data.specs.declared.chunk.chunk_payload_data.ChunkPayloadData.{ChunkPayloadData}
 use Rattle.sctp_data.specs.declared.chunk.chunk_payload_data.PayloadProtocolIdentifier.TheVariants.{Binary}
-use Rattle.sctp_data.specs.ChunkSet.{fresh}
-use Rattle.sctp_data.specs.SelectiveAck.{Sack}
 use Rattle.sctp_util.specs.Serial.{at_or_before, at_or_before16, comes_before, comes_before16, distance, distance16}
 use Rattle.sctp_delivery.specs.Discards.{CallOrDiscard, Discards, RunsWithDiscards, came, discards, makes}
 use Rattle.sctp_delivery.specs.ReceiverCalls.{reports_within}
@@ -11,12 +8,9 @@ use Rattle.sctp_delivery.specs.Sacks.{reports_tsn, was_taken}
 use Rattle.sctp_delivery.specs.SenderCalls as outgoing
 use Rattle.sctp_delivery.specs.SenderCalls.{sends, writes}
 use Rattle.sctp_delivery.specs.Session.{ReceiverFollows, Session, of_receiver, of_sender}
-use Rattle.sctp_delivery.proofs.Examples.{first_chunk, in_flight, opened, opens, sends-one, start, writes-one, written}
+use Rattle.sctp_delivery.proofs.Examples.{in_flight, opened, opens, sends-one, start, writes-one, written, chunk, sack_of}
 
--- the chunk that is in flight, of a stream that is not open at the receiver
-abbrev chunk : ChunkPayloadData
-chunk = fresh (first_chunk (7 ∷ []))
-
+-- the chunk that is in flight is dropped: its stream is not open at the receiver
 abbrev dropped : Session
 dropped = record in_flight { receiving = record in_flight.receiving { receiver = record in_flight.receiving.receiver { cumulative_tsn = 10 } } }
 
@@ -24,12 +18,9 @@ drops-one : Discards chunk in_flight dropped
 unfolding at_or_before at_or_before16 comes_before comes_before16 distance distance16
 drops-one = record { handed = (0, omega arith, refl); step = record { receiver = refl; accepted = refl; read = refl }; accepted = refl; after = refl }
 
--- and a SACK of 16 bytes
-abbrev sack : Sack
-sack = record { cumulative_tsn_ack = 10; advertised_receiver_window_credit = 1000; gap_ack_blocks = []; duplicate_tsn = [] }
-
+-- and a SACK of 16 bytes is made
 abbrev reported : Session
-reported = record dropped { sacks = sack ∷ [] }
+reported = record dropped { sacks = sack_of 10 ∷ [] }
 
 reports-one : ReceiverFollows (reports_within 1000 16) dropped reported
 reports-one = record { handed = tt; step = record { receiver = refl; accepted = refl; read = refl }; accepted = tt; after = refl }
@@ -43,7 +34,7 @@ session : RunsWithDiscards start calls reported
 session = (opened, (opens, (written, (writes-one, (in_flight, (sends-one, (dropped, (drops-one, (reported, (reports-one, refl))))))))))
 
 -- so what sessions without such calls have is not so here: the SACK reports the TSN, and no chunk with it was taken
-is-reported : reports_tsn 10 sack ≡ true
+is-reported : reports_tsn 10 (sack_of 10) ≡ true
 unfolding at_or_before at_or_before16 comes_before comes_before16 distance distance16
 is-reported = refl
 

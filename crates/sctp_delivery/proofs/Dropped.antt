@@ -29,8 +29,8 @@ use Rattle.sctp_stream.specs.declared.stream.StreamState.{StreamState}
 use Rattle.sctp_util.specs.Lists.{change_where}
 use Rattle.sctp_util.proofs.Cases.{same-yes}
 use Rattle.sctp_delivery.specs.Amounts.{Drops, bytes_for, bytes_of_messages, told_each, told_of}
-use Rattle.sctp_delivery.specs.SenderCalls.{SenderCall, SenderMakes, SenderMakesEach, Tells, expires, expires_late, expires_rexmit, expires_tail}
-use Rattle.sctp_delivery.specs.SenderCalls.{is_drop, starts}
+use Rattle.sctp_delivery.specs.SenderCalls.{SenderCall, SenderMakes, SenderMakesEach, Tells, expires, expires_late, expires_rexmit, expires_tail, is_drop}
+use Rattle.sctp_delivery.specs.SenderCalls.{starts}
 
 -- ## Calls one after another
 

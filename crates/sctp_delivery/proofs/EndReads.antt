@@ -13,16 +13,14 @@ use Rattle.sctp_data.specs.ChunkSet.{ChunkSet}
 use Rattle.sctp_reassembly.specs.reassembly_queue.ReassemblyQueue.{Reassembly, after_read, front_readable, message_among, message_read, rest_among, rest_read}
 use Rattle.sctp_reassembly.specs.reassembly_queue.ReassemblyQueue.{without_first}
 use Rattle.sctp_receiver.specs.Inbound.{has_number, new_stream, stream_read}
-use Rattle.sctp_receiver.specs.Receiver as receiver
 use Rattle.sctp_receiver.specs.Receiver.{is_open, open_stream}
-use Rattle.sctp_receiver.specs.ReceiverRuns as receiver_runs
-use Rattle.sctp_receiver.specs.ReceiverRuns.{messages_after}
 use Rattle.sctp_receiver.specs.declared.receiver.inbound_streams.InboundStream.{InboundStream}
 use Rattle.sctp_delivery.specs.Complete.{reads_nothing}
 use Rattle.sctp_delivery.specs.ReceiverCalls.{opens, reads}
 use Rattle.sctp_delivery.specs.Session.{ReceiverFollows, Session, of_receiver}
 use Rattle.sctp_delivery.proofs.EndRoom.{open-cost, read-cost}
 use Rattle.sctp_delivery.proofs.EndSteps.{At, Ends, Setting, at-same, receiver-before}
+use Rattle.sctp_delivery.proofs.OneRead.{read_of, reads-on}
 
 -- ## A read leaves fewer
 
@@ -141,23 +139,6 @@ rests-then s t u a c = record {
 
 -- ## Reading
 
-abbrev pub after_reads : ℕ → Session → Session
-after_reads stream s =
-    record s {
-      receiving = record s.receiving {
-        receiver = receiver.after_read stream s.receiving.receiver;
-        read = messages_after (receiver_runs.reads stream) s.receiving.receiver s.receiving.read;
-      };
-    }
-
-reads-one : (stream : ℕ) (s : Session) → is_open stream s.receiving.receiver ≡ true → ReceiverFollows (reads stream) s (after_reads stream s)
-reads-one stream s there = record {
-  handed = tt;
-  step = record { receiver = refl; accepted = refl; read = refl };
-  accepted = there;
-  after = refl;
-}
-
 module _ (b : Setting) where
   -- where nothing is to be read, whatever else is as it was, it can end
   abbrev pub EndsRead : ℕ → Session → Type 0
@@ -171,10 +152,11 @@ module _ (b : Setting) where
       by false e = more (readable s.receiving.receiver.streams e)
 
   read-all : (m n : ℕ) (s : Session) → At b n s → sum_by sets s.receiving.receiver.streams ≤ m → EndsRead n s → Ends b s
+  unfolding read_of
   read-all zero n s i le next = read-on n s i next (λ r. let lt = r.fewer in absurd (omega (arith, le, lt)))
   read-all (suc m) n s i le next = read-on n s i next (λ r.
-      let t = after_reads r.number s in
-      let f = reads-one r.number s r.there in
+      let t = read_of r.number s in
+      let f = reads-on r.number s r.there in
       let lt = r.fewer in
       receiver-before b n (reads r.number) s t i f
       (read-all m n t (at-same b n (of_receiver (reads r.number)) s t f refl refl (omega arith) (let less = read-cost r.number s.receiving.receiver.streams in

@@ -36,18 +36,16 @@ use Rattle.sctp_delivery.specs.Sacks.{tsns_given}
 use Rattle.sctp_delivery.specs.SenderCalls.{Made, made_after, next_chunk, sends, with_chunk}
 use Rattle.sctp_delivery.specs.Session.{Call, RunsTo, SenderFollows, Session, at_start, of_sender}
 use Rattle.sctp_delivery.proofs.Delivered.{next_tsn}
-use Rattle.sctp_delivery.proofs.EndDelivers.{ends-delivered, few-given}
-use Rattle.sctp_delivery.proofs.EndForwards.{ends-answered, ends-caught-up}
+use Rattle.sctp_delivery.proofs.EndDelivers.{ends-delivered, few-given, ends-answered, ends-caught-up}
 use Rattle.sctp_delivery.proofs.EndReads.{ends-read}
 use Rattle.sctp_delivery.proofs.EndRoom.{RoomIn, cost, due_by, few-spent, price, put-due, room-of, spent, waiting_cost}
 use Rattle.sctp_delivery.proofs.EndSteps.{At, Ends, Setting, at-next, kept-at, numbered-at, sender-before}
-use Rattle.sctp_delivery.proofs.MessageSizes.{fit-session}
+use Rattle.sctp_delivery.proofs.RefusedLaw.{fit-session, limits-same}
 use Rattle.sctp_delivery.proofs.NoneAbandoned.{each-of-others}
 use Rattle.sctp_delivery.proofs.Numbers.{number_of}
 use Rattle.sctp_delivery.proofs.OthersOnce.{others-read}
 use Rattle.sctp_delivery.proofs.Queues.{started}
 use Rattle.sctp_delivery.proofs.QueuesLeft.{popped}
-use Rattle.sctp_delivery.proofs.RefusedLaw.{limits-same}
 use Rattle.sctp_delivery.proofs.TsnPlaces.{base, next-place}
 
 -- ## A chunk is sent

@@ -18,7 +18,7 @@ use Rattle.sctp_delivery.specs.Session.{Call, Follows, ReceiverFollows, RunsTo, 
 use Rattle.sctp_delivery.proofs.Delivered.{next_tsn}
 use Rattle.sctp_delivery.proofs.EndRoom.{RoomIn, apart-in, cost, room-still}
 use Rattle.sctp_delivery.proofs.GivenTsns.{IsNumbered}
-use Rattle.sctp_delivery.proofs.MessageSizes.{fit-session}
+use Rattle.sctp_delivery.proofs.RefusedLaw.{fit-session}
 use Rattle.sctp_delivery.proofs.Reached.{HasKept, IsReached, kept}
 use Rattle.sctp_delivery.proofs.TsnPlaces.{base}
 

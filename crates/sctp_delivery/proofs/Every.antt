@@ -25,7 +25,14 @@ pub every-pair : {A : Type 0} (P Q : A → Type 0) (xs : List A) → Every P xs 
 every-pair P Q [] e f = tt
 every-pair P Q (x ∷ xs) e f = ((e.0, f.0), every-pair P Q xs e.1 f.1)
 
+pub every-both : {A : Type 0} (P Q R : A → Type 0) → ((x : A) → P x → Q x → R x) → (xs : List A) → Every P xs → Every Q xs → Every R xs
+every-both P Q R f xs e h = every-of (λ x. P x × Q x) R (λ x i. f x i.0 i.1) xs (every-pair P Q xs e h)
+
 module _ {A : Type 0} (P : A → Type 0) where
+  pub every-all : ((x : A) → P x) → (xs : List A) → Every P xs
+  every-all h [] = tt
+  every-all h (x ∷ xs) = (h x, every-all h xs)
+
   pub every-inserted : (before : A → A → Bool) (x : A) (xs : List A) → P x → Every P xs → Every P (insert_before before x xs)
   every-inserted before x [] px e = (px, tt)
   every-inserted before x (y ∷ ys) px e = by (before x y) (every-inserted before x ys px e.1)
@@ -41,6 +48,15 @@ module _ {A : Type 0} (P : A → Type 0) where
       by : (b : Bool) → Every P (filter p xs) → Every P (if b then x ∷ filter p xs else filter p xs)
       by true ih = (e.0, ih)
       by false ih = ih
+
+  -- those that pass, where each that does is so
+  pub every-tested : (p : A → Bool) (xs : List A) → Every (λ x. p x ≡ true → P x) xs → Every P (filter p xs)
+  every-tested p [] e = tt
+  every-tested p (x ∷ xs) e = by (p x) refl (every-tested p xs e.1)
+    where
+      by : (b : Bool) → p x ≡ b → Every P (filter p xs) → Every P (if b then x ∷ filter p xs else filter p xs)
+      by true h ih = (e.0 h, ih)
+      by false h ih = ih
 
   pub every-changed : (p : A → Bool) (f : A → A) → ((x : A) → p x ≡ true → P x → P (f x)) → (xs : List A) → Every P xs → Every P (change_where p f xs)
   every-changed p f keep [] e = tt

@@ -1,18 +1,18 @@
 -- Only what may expire expires, and each that is due.
-use Rattle.std.proofs.Common.{◌≡◌, ℕ, ◌-◌, ◌<◌, ◌^◌, Bool, true, false, not, List, [], ◌∷◌, length, map, Option, Some, None, is_some, refl, ap, sym}
-use Rattle.std.proofs.Common.{subst, ◌∙◌, arith}
-use Rattle.std.specs.Prelude.{⊤, ◌==◌, ◌&&◌, ◌||◌, if◌then◌else◌, find, option_to_list}
-use Rattle.std.specs.List.{filter}
+use Rattle.std.proofs.Common.{◌≡◌, ℕ, ◌-◌, ◌<◌, ◌^◌, Bool, true, false, not, List, [], ◌∷◌, length, map, Option, Some, None, is_some, refl, ap, sym, subst, ◌∙◌}
+use Rattle.std.proofs.Common.{arith, ◌+◌, ◌++◌, ◌⊎◌, inl, inr}
+use Rattle.std.specs.Prelude.{⊤, ◌==◌, ◌&&◌, ◌||◌, if◌then◌else◌, find, option_to_list, nat_eq}
+use Rattle.std.specs.List.{filter, list_any}
 use Rattle.std.proofs.lemmas.Bool.Decides.{nat_tests}
 use Rattle.sctp_util.specs.Lists.{change_where}
-use Rattle.sctp_util.proofs.Cases.{same-is, same-yes}
-use Rattle.sctp_util.proofs.More.{and, both, not_both}
+use Rattle.sctp_util.proofs.Cases.{same-is, same-yes, or-left, or-right}
+use Rattle.sctp_util.proofs.More.{and, both, not_both, fails}
 use Rattle.sctp_data.specs.PayloadTypes.{is_dcep}
-use Rattle.sctp_data.specs.Reliability.{is_past}
+use Rattle.sctp_data.specs.Reliability.{is_past, deadline_at, is_timed}
 use Rattle.sctp_data.specs.declared.chunk.chunk_payload_data.ChunkPayloadData.{ChunkPayloadData}
 use Rattle.sctp_outbound.specs.Marks.{as_abandoned, is_of}
-use Rattle.sctp_outbound.specs.outbound_queue.OutboundQueue.{abandoned_of, expiring_tail, is_expired, is_expired_tail, is_late, late_tsns}
-use Rattle.sctp_outbound.specs.outbound_queue.OutboundQueue.{message_of, passing, terminal_chunk, total_bytes, with_terminal_chunk}
+use Rattle.sctp_outbound.specs.outbound_queue.OutboundQueue.{abandoned_of, expiring_tail, is_expired, is_expired_tail, is_late, late_tsns, message_of, passing}
+use Rattle.sctp_outbound.specs.outbound_queue.OutboundQueue.{terminal_chunk, total_bytes, with_terminal_chunk}
 use Rattle.sctp_outbound.specs.payload_queue.PayloadQueue as payload
 use Rattle.sctp_outbound.specs.pending_queue.PendingQueue.{Pending, last_removed, next_pending}
 use Rattle.sctp_outbound.specs.pending_queue.Whole.{waits}
@@ -22,23 +22,33 @@ use Rattle.sctp_sender.specs.Late.{abandoned_at, abandoned_with, late_order, lea
 use Rattle.sctp_sender.specs.Resending.{is_over, is_to_resend, is_worn, limit_of, rexmit_limit, worn_tsns}
 use Rattle.sctp_sender.specs.Sender.{Transmission}
 use Rattle.sctp_sender.proofs.Lates.{found-passes}
-use Rattle.sctp_delivery.specs.Abandoned.{abandoned_by}
-use Rattle.sctp_delivery.specs.Expiries.{EachDueExpires, IsReason, OnlyTheDueExpire, is_due_in_front, is_late_as_written}
-use Rattle.sctp_delivery.specs.Expiries.{is_lifetime_over, is_limit_passed, is_sent_too_often, is_worn_as_written}
+use Rattle.sctp_delivery.specs.Abandoned.{abandoned_by, abandoned_in}
+use Rattle.sctp_delivery.specs.Expiries.{EachDueExpires, IsReason, OnlyTheDueExpire, is_due_in_front, is_late_as_written, is_lifetime_over, is_limit_passed}
+use Rattle.sctp_delivery.specs.Expiries.{is_sent_too_often, is_worn_as_written, AfterEachRunOfAsked, IsEachReliableReadInTheEnd, asked_by, asked_in}
 use Rattle.sctp_delivery.specs.Modes.{AfterEachFitRun, AfterEachRunOfFewTsns, Mode, Sending, at_first, deadline_from, deadline_of, modes_from, numbered_in}
-use Rattle.sctp_delivery.specs.Modes.{reliable_mode}
+use Rattle.sctp_delivery.specs.Modes.{reliable_mode, Modes, modes_after, unknown}
 use Rattle.sctp_delivery.specs.SenderCalls as outgoing
 use Rattle.sctp_delivery.specs.SenderCalls.{SenderCall}
-use Rattle.sctp_delivery.proofs.AbandonedMessages.{numbers, numbers-append}
-use Rattle.sctp_delivery.proofs.Every.{Every, all-of-every, every-changed, every-found, every-inserted, every-joined, every-of}
+use Rattle.sctp_delivery.proofs.AbandonedMessages.{numbers, numbers-append, gone-left, gone-right, by-below}
+use Rattle.sctp_delivery.proofs.Every.{Every, all-of-every, every-changed, every-found, every-inserted, every-joined, every-of, every-all, every-both}
 use Rattle.sctp_delivery.proofs.FilledQueues.{IsFilled}
 use Rattle.sctp_delivery.proofs.GivenTsns.{IsNumbered}
 use Rattle.sctp_delivery.proofs.ListedTsns.{each-any, each-one, is_one, own-listed, same-left}
-use Rattle.sctp_delivery.proofs.ModeOrder.{said-of-few}
-use Rattle.sctp_delivery.proofs.ModeQueues.{AreModed, IsFlying, IsInMode, IsWaiting}
-use Rattle.sctp_delivery.proofs.ModeSessions.{said-in}
+use Rattle.sctp_delivery.proofs.ModeOrder.{said-of-few, HasSaidOfFew, few-start, none-given, said-then, still-then}
+use Rattle.sctp_delivery.proofs.ModeQueues.{AreModed, IsFlying, IsInMode, IsWaiting, numbered-at}
+use Rattle.sctp_delivery.proofs.ModeSessions.{said-in, KeepsModes, keeps-after}
 use Rattle.sctp_delivery.proofs.TsnPlaces.{base}
 use Rattle.sctp_delivery.proofs.QueueChunks.{AllWait, peeked}
+use Rattle.std.proofs.lemmas.List.{append_assoc, append-nil}
+use Rattle.sctp_util.specs.Serial.{distance}
+use Rattle.sctp_data.specs.declared.chunk.chunk_payload_data.ReliabilityType.TheVariants.{Reliable}
+use Rattle.sctp_delivery.specs.Sacks.{tsns_given}
+use Rattle.sctp_delivery.specs.Session.{Call, RunsTo, Session, at_start, of_receiver, of_sender}
+use Rattle.sctp_delivery.proofs.Calls.{length-forgotten}
+use Rattle.sctp_delivery.proofs.Delivered.{next_tsn}
+use Rattle.sctp_delivery.proofs.Numbers.{number_of}
+use Rattle.sctp_delivery.proofs.OthersOnce.{others-read}
+use Rattle.sctp_delivery.proofs.PassedMessages.{is_gone}
 
 -- ## One chunk
 
@@ -83,11 +93,7 @@ module _ (now : ℕ) (ws : List Sending) (q : Pending) (moded : AllWait (IsWaiti
       ap (λ b. not c.beginning_fragment && b) (past-is now (numbered_in c.message_id ws) c h.0.1 h.1)
 
   some-passing : (p : ChunkPayloadData → Bool) (c : ChunkPayloadData) → is_some (if p c then Some c else None) ≡ p c
-  some-passing p c = by (p c)
-    where
-      by : (b : Bool) → is_some (if b then Some c else None) ≡ b
-      by true = refl
-      by false = refl
+  some-passing p c = elim (p c) as (λ b. is_some (if b then Some c else None) ≡ b) [ true ↦ refl | false ↦ refl ]
 
   pub front-goes : (o : Option ChunkPayloadData) → next_pending q ≡ o → is_some (passing (is_expired now) o) ≡ is_due_in_front true now ws o
   front-goes None e = refl
@@ -204,8 +210,8 @@ module _ (R : ℕ → Type 0) (L : List ℕ) where
 ready : (R : ℕ → Type 0) (p : ChunkPayloadData → Bool) (L : List ℕ) (cs : List ChunkPayloadData)
     → Every (λ (c : ChunkPayloadData). is_one L c.tsn ≡ true → p c ≡ true) cs → Every (λ (c : ChunkPayloadData). p c ≡ true → R c.message_id) cs
     → Every (IsReady R L) cs
-ready R p L [] own so = tt
-ready R p L (c ∷ cs) own so = (λ e l. so.0 (own.0 l), ready R p L cs own.1 so.1)
+ready R p L cs own so =
+    every-both (λ c. is_one L c.tsn ≡ true → p c ≡ true) (λ c. p c ≡ true → R c.message_id) (IsReady R L) (λ c i h e l. h (i l)) cs own so
 
 module _ (b most : ℕ) (few : most < 2 ^ 31) (ws : List Sending) (t : Transmission) (h : AreModed ws t.flight.queue)
     (filled : AllWait IsFilled t.flight.queue.pending) (given : IsNumbered b most t.flight) where
@@ -267,11 +273,7 @@ module _ (b most : ℕ) (few : most < 2 ^ 31) (ws : List Sending) (t : Transmiss
   each-reason (outgoing.expires_rexmit gone) =
       each-answered Often (worn_tsns t.flight) (worn_order t.flight) t.flight (order-listed Often (worn_tsns t.flight) t.flight)
       (ready Often is_worn (worn_tsns t.flight) cs (own is_worn) worn-often)
-  each-reason (outgoing.abandons tsn a) = unasked (abandoned_by (outgoing.abandons tsn a) t)
-    where
-      unasked : (ns : List ℕ) → Every (λ (k : ℕ). ⊤) ns
-      unasked [] = tt
-      unasked (k ∷ ks) = (tt, unasked ks)
+  each-reason (outgoing.abandons tsn a) = every-all (λ (k : ℕ). ⊤) (λ k. tt) (abandoned_by (outgoing.abandons tsn a) t)
   each-reason call = tt
 
 -- ## The laws
@@ -294,4 +296,148 @@ each-due-expires tsn size max most limits cs s small some r now =
         tail-goes now ws q.pending (m.ordered, m.unordered) a.said.filled (next_pending q.pending) refl,
       ),
       (late-are ws q.next_unstarted now q.pending q.inflight.chunks m.inflight, worn-are ws q.next_unstarted q.inflight.chunks m.inflight),
+    )
+
+-- # A reliable write is abandoned by `abandon` alone, so that each other one is read in the end
+
+-- ## A reason is none of what is reliable
+
+never-over : (now : ℕ) (w : Sending) → w.mode.reliability ≡ Reliable → is_lifetime_over now w ≡ false
+never-over now w e = by w.started
+  where
+    by : (o : Option ℕ) → is_past now (deadline_from w.mode o) ≡ false
+    by None = refl
+    by (Some t) = ap (λ r. is_past now (if is_timed r then deadline_at t w.mode.value else None)) e
+
+never-passed : (count : ℕ) (w : Sending) → w.mode.reliability ≡ Reliable → is_limit_passed count w ≡ false
+never-passed count w e = ap (λ r. is_over count (limit_of r w.mode.value)) e
+
+never-often : (n : ℕ) (w : Sending) (cs : List ChunkPayloadData) → w.mode.reliability ≡ Reliable
+    → list_any (λ c. (c.message_id == n) && is_limit_passed c.nsent w) cs ≡ false
+never-often n w [] e = refl
+never-often n w (c ∷ cs) e =
+    ap (λ b. ((c.message_id == n) && b) || list_any (λ d. (d.message_id == n) && is_limit_passed d.nsent w) cs) (never-passed c.nsent w e)
+    ∙ by (c.message_id == n) (never-often n w cs e)
+  where
+    by : (b : Bool) → list_any (λ d. (d.message_id == n) && is_limit_passed d.nsent w) cs ≡ false
+        → ((b && false) || list_any (λ d. (d.message_id == n) && is_limit_passed d.nsent w) cs) ≡ false
+    by true ih = ih
+    by false ih = ih
+
+-- a call of `abandon` named the message, or its write is not reliable
+abbrev pub IsAskedOrNot : List Sending → List ℕ → ℕ → Type 0
+IsAskedOrNot ws asked n = (is_gone asked n ≡ true) ⊎ ((n < length ws) × (((numbered_in n ws).mode.reliability ≡ Reliable) → ⊥))
+
+-- each of a list is one of it
+each-asked : (ws : List Sending) (ns : List ℕ) → Every (IsAskedOrNot ws ns) ns
+each-asked ws [] = tt
+each-asked ws (n ∷ ns) = (
+  inl (or-left (nat_eq n n) (is_gone ns n) (same-yes n)),
+  every-of (IsAskedOrNot ws ns) (IsAskedOrNot ws (n ∷ ns)) more ns (each-asked ws ns),
+)
+  where
+    more : (k : ℕ) → IsAskedOrNot ws ns k → IsAskedOrNot ws (n ∷ ns) k
+    more k (inl e) = inl (or-right (nat_eq k n) (is_gone ns k) e)
+    more k (inr e) = inr e
+
+-- those with a reason are not reliable
+unasked : (R : ℕ → Type 0) (ws : List Sending) (asked ns : List ℕ) → ((n : ℕ) → R n → (numbered_in n ws).mode.reliability ≡ Reliable → ⊥) → Every R ns
+    → Every (λ n. n < length ws) ns → Every (IsAskedOrNot ws asked) ns
+unasked R ws asked ns not-so h b = every-both R (λ n. n < length ws) (IsAskedOrNot ws asked) (λ n i lt. inr (lt, not-so n i)) ns h b
+
+of-reasons : (call : SenderCall) (t : Transmission) (ws : List Sending) → Every (λ n. IsReason call t n (numbered_in n ws)) (abandoned_by call t)
+    → Every (λ n. n < length ws) (abandoned_by call t) → Every (IsAskedOrNot ws (asked_by call t)) (abandoned_by call t)
+of-reasons (outgoing.expires now m) t ws h b = unasked (λ n. is_lifetime_over now (numbered_in n ws) ≡ true) ws []
+    (abandoned_by (outgoing.expires now m) t) (λ n e r. not_both (sym (never-over now (numbered_in n ws) r) ∙ e)) h b
+of-reasons (outgoing.expires_tail now m) t ws h b = unasked (λ n. is_lifetime_over now (numbered_in n ws) ≡ true) ws []
+    (abandoned_by (outgoing.expires_tail now m) t) (λ n e r. not_both (sym (never-over now (numbered_in n ws) r) ∙ e)) h b
+of-reasons (outgoing.expires_late now gone) t ws h b = unasked (λ n. is_lifetime_over now (numbered_in n ws) ≡ true) ws []
+    (abandoned_by (outgoing.expires_late now gone) t) (λ n e r. not_both (sym (never-over now (numbered_in n ws) r) ∙ e)) h b
+of-reasons (outgoing.expires_rexmit gone) t ws h b = unasked (λ n. is_sent_too_often n (numbered_in n ws) t ≡ true) ws []
+    (abandoned_by (outgoing.expires_rexmit gone) t)
+    (λ n e r. not_both (sym (never-often n (numbered_in n ws) t.flight.queue.inflight.chunks r) ∙ e)) h b
+of-reasons (outgoing.abandons tsn a) t ws h b = each-asked ws (abandoned_by (outgoing.abandons tsn a) t)
+of-reasons call t ws h b = tt
+
+-- ## Calls
+
+askable : (ws vs : List Sending) (xs ys : List ℕ) → KeepsModes ws vs → ((n : ℕ) → is_gone xs n ≡ true → is_gone ys n ≡ true) → (n : ℕ)
+    → IsAskedOrNot ws xs n → IsAskedOrNot vs ys n
+askable ws vs xs ys keep more n (inl e) = inl (more n e)
+askable ws vs xs ys keep more n (inr e) =
+    let k = keep n e.0 in inr (k.0, λ r. e.1 (sym (ap (λ (m : Mode). m.reliability) k.1) ∙ r))
+
+module _ (first : ℕ) where
+  -- what a call gives up
+  left-by : (n : ℕ) (call : SenderCall) (old : Session) (m : Modes) → n < 2 ^ 31 → HasSaidOfFew first n m old
+      → Every (IsAskedOrNot m.of_writes (asked_by call old.sending.sender)) (abandoned_by call old.sending.sender)
+  left-by n call old m few h =
+      let t = old.sending.sender in
+      let p = h.unwrapped.spread in
+      of-reasons call t m.of_writes (each-reason (base first) n few m.of_writes t h.said.sender.queue h.said.filled p.step.numbered call)
+      (subst (λ k. Every (λ i. i < k) (abandoned_by call t)) (sym h.said.count)
+      (by-below h.numbered first (λ s. number_of s t.streams) call t h.sent p.holds.held.stands))
+
+  given-in : (n : ℕ) (cs : List Call) (old new : Session) (m : Modes) (r : RunsTo old cs new) → n + tsns_given old cs new r < 2 ^ 31
+      → HasSaidOfFew first n m old → (gone asked : List ℕ) → Every (IsAskedOrNot m.of_writes asked) gone
+      → Every (IsAskedOrNot (modes_from m cs).of_writes (asked ++ asked_in old cs new r)) (gone ++ abandoned_in old cs new r)
+  given-in n [] old new m r few h gone asked e =
+      subst (λ xs. Every (IsAskedOrNot m.of_writes (asked ++ [])) xs) (sym (append-nil gone))
+      (subst (λ xs. Every (IsAskedOrNot m.of_writes xs) gone) (sym (append-nil asked)) e)
+  given-in n (of_sender call ∷ cs) old new m r few h gone asked e =
+      let t = old.sending.sender in
+      let d = distance (next_tsn old) (next_tsn r.0) in
+      let k = modes_after call m in
+      let xs = asked ++ asked_by call t in
+      let keep = keeps-after call m in
+      let all : Every (IsAskedOrNot k.of_writes xs) (gone ++ abandoned_by call t) =
+      every-joined (IsAskedOrNot k.of_writes xs) gone (abandoned_by call t)
+      (every-of (IsAskedOrNot m.of_writes asked) (IsAskedOrNot k.of_writes xs)
+      (askable m.of_writes k.of_writes asked xs keep (gone-left asked (asked_by call t))) gone e)
+      (every-of (IsAskedOrNot m.of_writes (asked_by call t)) (IsAskedOrNot k.of_writes xs)
+      (askable m.of_writes k.of_writes (asked_by call t) xs keep (gone-right asked (asked_by call t))) (abandoned_by call t)
+      (left-by n call old m (omega (arith, few)) h)) in
+      subst (λ ys. Every (IsAskedOrNot (modes_from k cs).of_writes ys) (gone ++ (abandoned_by call t ++ abandoned_in r.0 cs new r.1.1)))
+      (append_assoc asked (asked_by call t) (asked_in r.0 cs new r.1.1))
+      (subst (λ ys. Every (IsAskedOrNot (modes_from k cs).of_writes (xs ++ asked_in r.0 cs new r.1.1)) ys)
+      (append_assoc gone (abandoned_by call t) (abandoned_in r.0 cs new r.1.1))
+      (given-in (n + d) cs r.0 new k r.1.1 (omega (arith, few)) (said-then first n call old r.0 m (omega (arith, few)) r.1.0 h)
+      (gone ++ abandoned_by call t) xs all))
+  given-in n (of_receiver call ∷ cs) old new m r few h gone asked e =
+      let none = none-given first n call old r.0 m r.1.0 h in
+      given-in n cs r.0 new m r.1.1 (omega (arith, few, none)) (still-then first n call old r.0 m (omega (arith, few)) r.1.0 h) gone asked e
+
+-- ## The law
+
+-- one of those
+at-gone : (P : ℕ → Type 0) (n : ℕ) (ns : List ℕ) → is_gone ns n ≡ true → Every P ns → P n
+at-gone P n [] e h = absurd (not_both e)
+at-gone P n (k ∷ ks) e h = by (nat_eq n k) refl e (λ f. at-gone P n ks f h.1)
+  where
+    by : (b : Bool) → nat_eq n k ≡ b → (b || is_gone ks n) ≡ true → (is_gone ks n ≡ true → P n) → P n
+    by true i f ih = subst P (sym (same-is n k i)) h.0
+    by false i f ih = ih f
+
+pub reliable-read : AfterEachRunOfAsked IsEachReliableReadInTheEnd
+reliable-read tsn size max most limits cs s run small some few exhausted =
+    let start = at_start tsn size max most limits in
+    let u = said-of-few tsn size max most limits cs s small some run few in
+    let ws = (modes_from at_first cs).of_writes in
+    let asked = asked_in start cs s run in
+    let gone = abandoned_in start cs s run in
+    let o = others-read tsn size max most limits cs s run small few some exhausted in
+    let total = ap length u.unwrapped.spread.holds.writes in
+    let long = length-forgotten u.numbered in
+    let count = u.said.count in
+    let each = given-in tsn 0 cs start s at_first run (omega (arith, few)) (few-start tsn size max most limits small some) [] [] tt in (
+      o.0,
+      o.1,
+      o.2,
+      λ k lt reliable unasked'.
+          let n = length s.written - (k + 1) in
+          let is = numbered-at ws k n unknown (omega (arith, lt, total, long, count)) in
+          o.3 k lt (fails (is_gone gone n) (λ e. elim (at-gone (IsAskedOrNot ws asked) n gone e each) [
+            | inl a ↦ not_both (sym unasked' ∙ a)
+            | inr r ↦ r.1 (sym (ap (λ (v : Sending). v.mode.reliability) is) ∙ reliable)
+          ])),
     )

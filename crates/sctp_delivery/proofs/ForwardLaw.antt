@@ -11,7 +11,6 @@ use Rattle.sctp_util.proofs.More.{both, not_both}
 use Rattle.sctp_util.proofs.Round.{distance-tsn, tsn}
 use Rattle.sctp_data.specs.declared.chunk.chunk_payload_data.ChunkPayloadData.{ChunkPayloadData}
 use Rattle.sctp_data.specs.declared.chunk.chunk_forward_tsn.ChunkForwardTsnStream.{ChunkForwardTsnStream}
-use Rattle.sctp_data.specs.ChunkSet.{ChunkSet}
 use Rattle.sctp_data.specs.ForwardTsn.{ForwardTsn}
 use Rattle.sctp_data.specs.PayloadData.{data_of}
 use Rattle.sctp_outbound.specs.pending_queue.PendingQueue.{last_of}
@@ -32,17 +31,18 @@ use Rattle.sctp_delivery.specs.Session.{Session, at_start}
 use Rattle.sctp_delivery.proofs.KeptOrGone.{HeldWell, IsLate}
 use Rattle.sctp_delivery.proofs.KeptSessions.{HasKept, kept-in}
 use Rattle.sctp_delivery.proofs.NotRefused.{begun-low}
-use Rattle.sctp_delivery.proofs.PassedTsns.{IsPassable, passable-end, passable-skip}
+use Rattle.sctp_delivery.proofs.GivenTsns.{IsPassable, passable-end, passable-skip}
 use Rattle.sctp_delivery.proofs.SackSteps.{known}
 use Rattle.sctp_delivery.proofs.Sent.{Entry, WasSent}
 use Rattle.sctp_delivery.proofs.SpreadCalls.{IsSpread}
 use Rattle.sctp_delivery.proofs.SpreadEntries.{begun_to, is_at, to-all}
 use Rattle.sctp_delivery.proofs.SpreadFlight.{AreOn, AreSteps, IsNaming, are-on, are-steps, named}
 use Rattle.sctp_delivery.proofs.TightFlight.{last-at}
-use Rattle.sctp_delivery.proofs.AnsweredCalls as answered
+use Rattle.sctp_delivery.proofs.TakenCalls as answered
 use Rattle.sctp_delivery.proofs.TsnPlaces.{base, same-place}
 use Rattle.sctp_delivery.proofs.UnwrappedHolds.{AreDue, Came, DueOn}
 use Rattle.sctp_delivery.proofs.UnwrappedSessions as sessions
+use Rattle.sctp_delivery.proofs.InTheEnd.{nothing}
 
 -- ## Names
 
@@ -250,14 +250,10 @@ module _ (first n : ℕ) (few : n < 2 ^ 31) (gone : List ℕ) (s : Session) (h :
     not-named-far : is_named_too_far x (stream_of st r) ≡ false
     not-named-far = by (stream_of st r) refl (all-in (λ y. is_open y.identifier r && reads_nothing_on y.identifier r) x f.streams due in')
       where
-        none-of : (o : Option ChunkSet) → not (is_some o) ≡ true → o ≡ None
-        none-of None e = refl
-        none-of (Some y) e = absurd (not_both e)
-
         by : (o : Option InboundStream) → stream_of st r ≡ o → (is_open st r && reads_nothing_on st r) ≡ true → is_named_too_far x o ≡ false
         by None there e = refl
         by (Some l) there e =
-            near-name l there (none-of (message_read l.queue.held)
+            near-name l there (nothing (message_read l.queue.held)
             (ap (λ o. not (is_some (message_of o))) (sym there) ∙ (both (is_open st r) (reads_nothing_on st r) e).1))
 
   open-all : list_any (λ y. not (is_open y.identifier r)) f.streams ≡ false

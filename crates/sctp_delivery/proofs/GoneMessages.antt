@@ -13,25 +13,17 @@ use Rattle.sctp_delivery.proofs.MessagePlaces.{IsEntryAt, is_of_stream, same-mes
 use Rattle.sctp_delivery.proofs.MessageSets as sets
 use Rattle.sctp_delivery.proofs.OrderedEntries.{AreJoined, ends_on}
 use Rattle.sctp_delivery.proofs.PassedMessages.{AreCutGone, AreTakenOrGone, EndsGone, is_gone}
-use Rattle.sctp_delivery.proofs.Sent.{Entry, IsLine, IsPart, Numbered, WasSent, fragment, part-itself, part-length, part-line, tail-part, terminal}
+use Rattle.sctp_delivery.proofs.Sent.{Entry, IsLine, IsPart, Numbered, WasSent, fragment, part-itself, part-line, tail-part, terminal}
 use Rattle.sctp_delivery.proofs.SpreadEntries.{begun_to, is_at, to-part}
 use Rattle.sctp_delivery.proofs.TsnPlaces.{base}
 use Rattle.sctp_delivery.proofs.UnwrappedHolds as holds
+use Rattle.sctp_delivery.proofs.PassingCalls.{shorter-part}
 
 -- the chunk is of a message that is gone
 abbrev pub IsGone : List ℕ → List Entry → ChunkPayloadData → Type 0
 IsGone gone sent c = (y : ℕ) × (w : Numbered) × IsEntryAt sent y (data_of c) w × (is_gone gone w.place ≡ true)
 
 -- what is no longer than one part is a part of it
-pub part-within : (sent ys zs : List Entry) → IsPart ys sent → IsPart zs sent → length ys ≤ length zs → IsPart ys zs
-part-within [] ys zs p q le = subst (IsPart ys) (sym q) p
-part-within (x ∷ xs) ys zs p (inl e) le = subst (IsPart ys) (sym e) p
-part-within (x ∷ xs) ys zs (inl e) (inr q) le =
-    let n = ap length e in
-    let m = part-length xs zs q in
-    absurd (omega (arith, n, m, le))
-part-within (x ∷ xs) ys zs (inr p) (inr q) le = part-within xs ys zs p q le
-
 taken-part : (gone : List ℕ) (s : Session) (passed : List Entry) (d : Data) (w : Numbered) (after : List ℕ) (xs : List Entry)
     → IsPart (fragment d w after ∷ xs) passed → AreTakenOrGone gone s passed → (was_taken d.tsn s || is_gone gone w.place) ≡ true
 taken-part gone s [] d w after xs p t = cc
@@ -104,7 +96,7 @@ module _ (ws : List Numbered) (first : ℕ) (sent : List Entry) (line : IsLine w
       → (was_taken (tsn p z) s ≡ true) ⊎ (is_gone gone w.place ≡ true)
   taken-or-gone z d w i le =
       let at = i.place in
-      let q = part-within sent (fragment d w i.after ∷ i.entries) passed i.part part (omega (arith, at, le)) in
+      let q = shorter-part sent (fragment d w i.after ∷ i.entries) passed i.part part (omega (arith, at, le)) in
       let number = (part-line ws first sent (fragment d w i.after ∷ i.entries) i.part line).0.number in
       let is : d.tsn ≡ tsn p z = omega (arith, number, at) in
       or-split (was_taken (tsn p z) s) (is_gone gone w.place)

@@ -29,7 +29,7 @@ use Rattle.sctp_delivery.proofs.InTheEnd.{any-of, none-selected, unread-of}
 use Rattle.sctp_delivery.proofs.CurrentSets.{IsSome}
 use Rattle.sctp_delivery.proofs.Delivered.{EachSent}
 use Rattle.sctp_delivery.proofs.EachRead.{IsIdle, complete-messages}
-use Rattle.sctp_delivery.proofs.Every.{Every, one-of}
+use Rattle.sctp_delivery.proofs.Every.{Every, one-of, every-pair}
 use Rattle.sctp_delivery.proofs.GoneMessages.{IsGone}
 use Rattle.sctp_delivery.proofs.KeptCalls as calls
 use Rattle.sctp_delivery.proofs.KeptOrGone.{HeldWell, IsHeldWell, IsLate, at-in, place-in}
@@ -227,7 +227,7 @@ module _ (first size max most : ℕ) (limits : Option Limits) (cs : List Call) (
           held more =
               let at = i.place in
               let o = one-of (λ c. WasSent sent (data_of c) × (c.unordered ≡ true)) (has_tsn (tsn p y)) q.unassembled (any-of (tsn p y) q.unassembled more)
-              (pair q.unassembled
+              (every-pair (λ c. WasSent sent (data_of c)) (λ c. c.unordered ≡ true) q.unassembled
               (unassembled.was-unassembled ns first sent line joined n long few gone k.passed.cut s k.unwrapped.spread.holds.made made
               k.unwrapped.spread.step.taken.apart whole st a (k.kept st) l found) well.tidy.kinds) in
               let is = same-is o.0.tsn (tsn p y) o.1 in
@@ -248,11 +248,6 @@ module _ (first size max most : ℕ) (limits : Option Limits) (cs : List Call) (
                   (sym (place-tsn ns first sent line joined n long few g.0 (data_of c) g.1 g.2) ∙ is) in
                   let x = same-entry ns first sent line joined y e (data_of c) w g.1 i (subst (λ z. IsEntryAt sent z (data_of c) g.1) same g.2) in
                   not_both (sym alive ∙ ap (λ (u : Numbered). is_gone gone u.place) x.1 ∙ g.3)
-
-              pair : (xs : List ChunkPayloadData) → Every (λ c. WasSent sent (data_of c)) xs → Every (λ c. c.unordered ≡ true) xs
-                  → Every (λ c. WasSent sent (data_of c) × (c.unordered ≡ true)) xs
-              pair [] u v = tt
-              pair (c ∷ cs') u v = ((u.0, v.0), pair cs' u.1 v.1)
 
     -- of a message that is not gone nothing is held
     pub none-held : (y : ℕ) (e : Data) (w : Numbered) → IsEntryAt sent y e w → y ≤ n → is_gone gone w.place ≡ false

@@ -101,6 +101,10 @@ none-data = record {
   user_data = [];
 }
 
+pub nothing : (o : Option ChunkSet) → not (is_some o) ≡ true → o ≡ None
+nothing None e = refl
+nothing (Some s) e = absurd (not_both e)
+
 -- on a stream of these nothing is to be read
 pub unread-of : (st : ℕ) (ls : List InboundStream) (l : InboundStream) → list_all (λ x. not (is_some (message_read x.queue.held))) ls ≡ true
     → find (has_number st) ls ≡ Some l → message_read l.queue.held ≡ None
@@ -109,10 +113,6 @@ unread-of st (x ∷ xs) l e found =
     let b = both (not (is_some (message_read x.queue.held))) (list_all (λ y. not (is_some (message_read y.queue.held))) xs) e in
     by (has_number st x) found (nothing (message_read x.queue.held) b.0) (unread-of st xs l b.1)
   where
-    nothing : (o : Option ChunkSet) → not (is_some o) ≡ true → o ≡ None
-    nothing None h' = refl
-    nothing (Some y) h' = absurd (not_both h')
-
     by : (k : Bool) → (if k then Some x else find (has_number st) xs) ≡ Some l → message_read x.queue.held ≡ None
         → (find (has_number st) xs ≡ Some l → message_read l.queue.held ≡ None) → message_read l.queue.held ≡ None
     by true g m ih = ap (λ (y : InboundStream). message_read y.queue.held) (sym (some-same g)) ∙ m

@@ -8,7 +8,6 @@ pub mod Sending
 pub mod Begun
 pub mod InFlight
 pub mod OrderedRest
-pub mod OrderedNames
 pub mod Queues
 pub mod Pushing
 pub mod Fragments
@@ -24,29 +23,19 @@ pub mod OneRead
 pub mod Every
 pub mod TsnPlaces
 pub mod GivenTsns
-pub mod PassedTsns
 pub mod PassedMessages
 pub mod SpreadFlight
 pub mod ArrivedTsns
 pub mod ReportedTsns
-pub mod Resent
-pub mod ArrivedCalls
 pub mod TakenTsns
 pub mod TakenCalls
-pub mod TakenTogether
-pub mod AnsweredTsns
-pub mod AnsweredCalls
 pub mod QueueChunks
 pub mod ValidMarks
 pub mod SackCalls
 pub mod SackSteps
-pub mod SackMarks
 pub mod SackLaws
-pub mod StaysAcknowledged
-pub mod SpreadCalls
 pub mod ReadOnce
 pub mod OnceWritten
-pub mod DiscardSteps
 pub mod Dropped
 pub mod DiscardRuns
 pub mod DiscardExamples
@@ -62,18 +51,14 @@ pub mod Rising
 pub mod Tidy
 pub mod AllBegun
 pub mod AbandonedMessages
-pub mod BegunOrAbandoned
-pub mod AbandonedWrites
 pub mod PassingCalls
 pub mod EachRead
-pub mod OthersRead
 pub mod NoneAbandoned
 pub mod OthersOnce
 pub mod Whole
 pub mod InTheEnd
 mod Examples
 mod RoundExamples
-mod AbandonedExamples
 pub mod UnwrappedReads
 pub mod UnwrappedHolds
 pub mod UnwrappedCalls
@@ -96,31 +81,25 @@ pub mod KeptSessions
 pub mod HeldInTheEnd
 pub mod Continued
 pub mod QueuesLeft
-pub mod CallsLeft
 pub mod Reached
 pub mod Answered
-pub mod RoundsEnd
 pub mod SentAgain
+pub mod SpreadCalls
 pub mod TightFlight
 pub mod NotRefused
 pub mod EntryLengths
-pub mod MessageSizes
 pub mod RefusedLaw
 pub mod ForwardLaw
 pub mod Taking
-pub mod ReadAfterRounds
+pub mod RoundsEnd
 pub mod PushesExist
-pub mod NamesExist
 pub mod EndRoom
 pub mod EndSteps
 pub mod EndReads
 pub mod EndDelivers
-pub mod EndForwards
 pub mod EndSessions
 pub mod OneStep
 pub mod NotedChunks
-pub mod NotedCalls
-pub mod NotedSessions
 pub mod ResentCounts
 pub mod ModeQueues
 pub mod FilledQueues
@@ -129,11 +108,8 @@ pub mod ModeSessions
 pub mod ModeOrder
 pub mod ListedTsns
 pub mod ExpiryLaws
-pub mod ReliableWrites
 pub mod CounterLaws
 pub mod StreamBytes
-pub mod AmountChunks
 pub mod AmountCalls
 pub mod AmountLaws
-pub mod ToldChunks
-mod EndExamples
+mod AbandonedExamples

@@ -7,8 +7,8 @@ use Rattle.sctp_util.proofs.More.{fails, not_both}
 use Rattle.sctp_util.proofs.Round.{tsn}
 use Rattle.sctp_data.specs.declared.chunk.chunk_payload_data.ChunkPayloadData.{ChunkPayloadData}
 use Rattle.sctp_sender.proofs.Runs.{IsRunFrom}
-use Rattle.sctp_delivery.proofs.Every.{Every, every-of, every-passing}
-use Rattle.sctp_delivery.proofs.PassedTsns.{IsPast, rest-run}
+use Rattle.sctp_delivery.proofs.Every.{Every, every-of, every-passing, every-both}
+use Rattle.sctp_delivery.proofs.GivenTsns.{IsPast, rest-run}
 use Rattle.sctp_delivery.proofs.TsnPlaces.{same-place}
 
 -- the TSN is one of these
@@ -73,11 +73,9 @@ module _ (p : ChunkPayloadData → Bool) (b n : ℕ) (few : n < 2 ^ 31) where
 
       both-so : (ds : List ChunkPayloadData) → Every (λ (x : ChunkPayloadData). (x.tsn == c.tsn) ≡ false) ds → Every (IsItsOwn (listed cs)) ds
           → Every (IsItsOwn (c.tsn ∷ listed cs)) ds
-      both-so [] h k = tt
-      both-so (d ∷ ds) h k = (
-        λ e. k.0 (sym (ap (λ q. q || is_one (listed cs) d.tsn) (turned d h.0)) ∙ e),
-        both-so ds h.1 k.1,
-      )
+      both-so ds h k =
+          every-both (λ x. (x.tsn == c.tsn) ≡ false) (IsItsOwn (listed cs)) (IsItsOwn (c.tsn ∷ listed cs))
+          (λ x i o e. o (sym (ap (λ q. q || is_one (listed cs) x.tsn) (turned x i)) ∙ e)) ds h k
 
       by : (q : Bool) → p c ≡ q → Every (IsItsOwn (listed cs)) cs
           → Every (IsItsOwn (map (λ (x : ChunkPayloadData). x.tsn) (if q then c ∷ filter p cs else filter p cs))) (c ∷ cs)

@@ -1,14 +1,13 @@
 -- Each call of a sender, and how each stream and each chunk is sent after it.
 use Rattle.std.proofs.Common.{◌≡◌, ℕ, ◌+◌, Bool, true, false, List, [], ◌∷◌, map, Option, Some, None, is_some, refl, ap, sym, subst, ◌∙◌, arith}
-use Rattle.std.specs.Prelude.{IfSome, find, if◌then◌else◌, ◌==◌, drop, length}
+use Rattle.std.specs.Prelude.{find, if◌then◌else◌, ◌==◌, drop, length}
 use Rattle.sctp_util.specs.Kept.{always, numbers_where}
 use Rattle.sctp_util.specs.Lists.{change_where, pieces}
 use Rattle.sctp_util.proofs.Cases.{same-yes}
 use Rattle.sctp_util.proofs.More.{not_both}
-use Rattle.sctp_data.specs.declared.chunk.chunk_payload_data.ChunkPayloadData.{ChunkPayloadData}
 use Rattle.sctp_data.specs.declared.chunk.chunk_payload_data.PayloadProtocolIdentifier.{PayloadProtocolIdentifier}
 use Rattle.sctp_data.specs.declared.chunk.chunk_payload_data.PayloadProtocolIdentifier.TheVariants.{Unknown}
-use Rattle.sctp_outbound.specs.outbound_queue.OutboundQueue.{expiring, expiring_tail, message_of}
+use Rattle.sctp_outbound.specs.outbound_queue.OutboundQueue.{expiring_tail, message_of}
 use Rattle.sctp_sender.specs.declared.sender.ExpiredMessage.{ExpiredMessage}
 use Rattle.sctp_sender.specs.declared.sender.flight.late.AbandonedMessage.{AbandonedMessage}
 use Rattle.sctp_sender.specs.declared.sender.flight.Released.{Released}
@@ -30,6 +29,7 @@ use Rattle.sctp_delivery.proofs.ModeQueues.{AreModed, HasModeOf, abandoned-moded
 use Rattle.sctp_delivery.proofs.ModeQueues.{missed-moded, resent-moded, sack-moded, sent-moded, started-moded}
 use Rattle.sctp_delivery.proofs.Numbers.{number-is}
 use Rattle.sctp_delivery.proofs.Writing.{accepted-stream}
+use Rattle.sctp_delivery.proofs.Changes.{expired-one}
 
 -- ## Streams
 
@@ -133,14 +133,12 @@ module _ (m : Modes) (t : Transmission) (h : IsModed m t) where
 
   expires-call : (now : ℕ) (x : Option ExpiredMessage) (u : Transmission) → Expires now x t u → IsModed m u
   expires-call now None u x = to m u t (x.1.1 refl) h
-  expires-call now (Some e) u x = by (expiring now t.flight.queue) x.0 x.1.0
-    where
-      by : (o : Option ChunkPayloadData) → true ≡ is_some o → IfSome o (λ c. u ≡ after_expire c e.bytes now t) → IsModed m u
-      by None f g = absurd (not_both (sym f))
-      by (Some c) f g = to m u (after_expire c e.bytes now t) g (record {
-        streams = changed-in m.of_streams (has_number c.stream_identifier)
-            (after_expiry c.unordered e.bytes) (expiry-keeps c.unordered e.bytes) t.streams h.streams;
-        queue = expired-moded m.of_writes (Some c) t.flight.queue h.queue;
+  expires-call now (Some e) u x =
+      let i = expired-one now e t u x in
+      to m u (after_expire i.0 e.bytes now t) i.2 (record {
+        streams = changed-in m.of_streams (has_number i.0.stream_identifier)
+            (after_expiry i.0.unordered e.bytes) (expiry-keeps i.0.unordered e.bytes) t.streams h.streams;
+        queue = expired-moded m.of_writes (Some i.0) t.flight.queue h.queue;
       })
 
   abandons-call : (o : Option ℕ) (stream bytes : ℕ) (u : Transmission) → u ≡ Rattle.sctp_sender.specs.Sender.after_abandon o stream bytes t → IsModed m u

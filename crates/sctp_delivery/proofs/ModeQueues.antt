@@ -1,6 +1,6 @@
 -- How each chunk that waits or is in flight is sent: as its write is, whatever a sender does.
-use Rattle.std.proofs.Common.{◌≡◌, ℕ, zero, suc, ◌+◌, ◌<◌, ◌≤◌, Bool, true, false, List, [], ◌∷◌, length, map, Option, Some, None, is_some}
-use Rattle.std.proofs.Common.{refl, ap, sym, subst, ◌∙◌, inl, inr, arith}
+use Rattle.std.proofs.Common.{◌≡◌, ℕ, zero, suc, ◌+◌, ◌<◌, ◌≤◌, Bool, true, false, List, [], ◌∷◌, length, map, Option, Some, None, is_some, refl, ap, sym}
+use Rattle.std.proofs.Common.{subst, ◌∙◌, inl, inr, arith}
 use Rattle.std.specs.Prelude.{if◌then◌else◌, ◌==◌, ◌&&◌, ◌||◌, not, is_none, nat_le, slice_index_or}
 use Rattle.std.proofs.lemmas.Bool.{cases_lt}
 use Rattle.std.proofs.lemmas.Bool.Decides.{nat_tests}
@@ -16,9 +16,7 @@ use Rattle.sctp_data.specs.SelectiveAck.{Sack}
 use Rattle.sctp_outbound.specs.Marks.{as_abandoned, as_acknowledged, is_outstanding, with_retransmit}
 use Rattle.sctp_outbound.specs.outbound_queue.OutboundQueue.{Outbound, abandoned_of, all_started, append_chunks, as_sent, expired_of, sent_next, sent_of}
 use Rattle.sctp_outbound.specs.outbound_queue.OutboundQueue.{terminal_chunk, with_inflight, with_message, with_message_id}
-use Rattle.sctp_outbound.specs.pending_queue.PendingQueue.{has_lifetime, is_to_start, lifetime_of}
-use Rattle.sctp_outbound.specs.pending_queue.PendingQueue.{next_pending, one_lower, start_pending}
-use Rattle.sctp_outbound.specs.pending_queue.PendingQueue.{with_deadline}
+use Rattle.sctp_outbound.specs.pending_queue.PendingQueue.{has_lifetime, is_to_start, lifetime_of, next_pending, one_lower, start_pending, with_deadline}
 use Rattle.sctp_serial.specs.DataChunks.{has_tsn}
 use Rattle.sctp_stream.specs.declared.stream.StreamState.{StreamState}
 use Rattle.sctp_sender.specs.Flight.{Flight, after_sack, is_outdated, message_to_abandon, take_sack}
@@ -27,7 +25,7 @@ use Rattle.sctp_sender.specs.Outgoing.{fragments_with_mode, with_reliability}
 use Rattle.sctp_sender.specs.Resending.{after_misses, all_marked, count_again, missed, resent_at, sent_again}
 use Rattle.sctp_stream.specs.Stream.{fragment_at, fragments_of}
 use Rattle.sctp_delivery.specs.Modes.{Mode, Sending, deadline_of, mode_of_write, moment, numbered_in, reliable_mode, starting}
-use Rattle.sctp_delivery.proofs.Every.{Every, every-joined, every-mapped, every-of}
+use Rattle.sctp_delivery.proofs.Every.{Every, every-joined, every-mapped, every-of, every-made}
 use Rattle.sctp_delivery.proofs.QueueChunks.{EachIs, abandoned, expired, marked, missed-some, sacked, sent}
 
 -- ## Writes by their numbers
@@ -505,10 +503,6 @@ pub fragments-new : (m : Mode) (l : StreamState) (ppi : PayloadProtocolIdentifie
 fragments-new m l ppi bytes has =
     every-moded (fragments_of l ppi bytes) (every-made (IsBareOf l ppi) (fragment_at l ppi bytes) (λ i. record { kind = refl; of_type = refl; bare = refl }) _)
   where
-    every-made : {A : Type 0} (Q : ChunkPayloadData → Type 0) (f : A → ChunkPayloadData) → ((x : A) → Q (f x)) → (xs : List A) → Every Q (map f xs)
-    every-made Q f h [] = tt
-    every-made Q f h (x ∷ xs) = (h x, every-made Q f h xs)
-
     kinds : (u b : Bool) → is_dcep ppi ≡ b → not (is_ordered u ppi) ≡ (if b then reliable_mode else record m { unordered = u }).unordered
     kinds u true e = ap (λ d. not (d || not u)) e
     kinds true false e = ap (λ d. not (d || false)) e
@@ -529,5 +523,6 @@ fragments-new m l ppi bytes has =
 
     every-moded : (cs : List ChunkPayloadData) → Every (IsBareOf l ppi) cs
         → Every (IsNew (record { mode = mode_of_write ppi m; started = None })) (map (with_reliability l.reliability_type l.reliability_value) cs)
-    every-moded [] h = tt
-    every-moded (c ∷ cs) h = (record { mode = one c h.0 (is_dcep ppi) refl; bare = h.0.bare }, every-moded cs h.1)
+    every-moded cs h =
+        every-mapped (IsBareOf l ppi) (IsNew (record { mode = mode_of_write ppi m; started = None }))
+        (with_reliability l.reliability_type l.reliability_value) (λ c i. record { mode = one c i (is_dcep ppi) refl; bare = i.bare }) cs h

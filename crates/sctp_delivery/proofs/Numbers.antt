@@ -1,6 +1,6 @@
 -- The streams of a sender: which are open, what number the next ordered write has, and how long a fragment is.
-use Rattle.std.proofs.Common.{◌≡◌, ℕ, zero, suc, ◌<◌, Bool, true, false, List, [], ◌∷◌, ◌++◌, length, map, Some, refl, ap, sym, subst, ◌∙◌, arith}
-use Rattle.std.specs.Prelude.{⊤, Contains, ◌==◌, ◌||◌, if◌then◌else◌, slice_index_or}
+use Rattle.std.proofs.Common.{◌≡◌, ℕ, ◌<◌, Bool, true, false, List, [], ◌∷◌, ◌++◌, map, Some, refl, ap, sym, subst, ◌∙◌}
+use Rattle.std.specs.Prelude.{Contains, ◌==◌, ◌||◌, if◌then◌else◌}
 use Rattle.std.specs.List.{find, list_any}
 use Rattle.std.proofs.lemmas.Option.{none-some}
 use Rattle.sctp_util.specs.Lists.{change_where}
@@ -14,6 +14,7 @@ use Rattle.sctp_sender.specs.Outgoing.{after_releases, has_number, less_by, with
 use Rattle.sctp_stream.specs.declared.stream.StreamState.{StreamState}
 use Rattle.sctp_stream.specs.Stream.{new_stream}
 use Rattle.sctp_delivery.proofs.Sent.{Numbered}
+use Rattle.sctp_delivery.proofs.Every.{Every, every-changed, every-contained, every-found, every-joined, every-made, every-of}
 
 -- the number of the next ordered write on a stream; 0 where it is not open
 abbrev pub number_of : ℕ → List StreamState → ℕ
@@ -21,17 +22,18 @@ number_of s [] = 0
 number_of s (l ∷ ls) = if l.stream_identifier == s then l.sequence_number else number_of s ls
 
 -- fragments have some bytes on each stream
+abbrev pub IsSized : StreamState → Type 0
+IsSized l = 0 < l.max_payload_size
+
 abbrev pub AreSized : List StreamState → Type 0
-AreSized [] = ⊤
-AreSized (l ∷ ls) = (0 < l.max_payload_size) × AreSized ls
+AreSized ls = Every IsSized ls
 
 abbrev pub is_there : ℕ → List StreamState → Bool
 is_there s ls = list_any (has_number s) ls
 
 -- each write is on a stream that is open
 abbrev pub AreOpen : List StreamState → List Numbered → Type 0
-AreOpen ls [] = ⊤
-AreOpen ls (w ∷ ws) = (is_there w.stream ls ≡ true) × AreOpen ls ws
+AreOpen ls ws = Every (λ (w : Numbered). is_there w.stream ls ≡ true) ws
 
 -- a change of streams after which these are as they were
 pub record IsSteady (old new : List StreamState) : Type 0 where
@@ -40,8 +42,7 @@ pub record IsSteady (old new : List StreamState) : Type 0 where
   pub sized : AreSized old → AreSized new
 
 pub all-open : (old new : List StreamState) → ((s : ℕ) → is_there s old ≡ true → is_there s new ≡ true) → (ws : List Numbered) → AreOpen old ws → AreOpen new ws
-all-open old new more [] o = tt
-all-open old new more (w ∷ ws) o = (more w.stream o.0, all-open old new more ws o.1)
+all-open old new more ws o = every-of (λ w. is_there w.stream old ≡ true) (λ w. is_there w.stream new ≡ true) (λ w i. more w.stream i) ws o
 
 pub steady-same : (ls : List StreamState) → IsSteady ls ls
 steady-same ls = record { numbers = λ s. refl; there = λ s o. o; sized = λ z. z }
@@ -62,12 +63,7 @@ there-changed p f same s (l ∷ ls) = by (p l) (there-changed p f same s ls)
 
 pub sized-changed : (p : StreamState → Bool) (f : StreamState → StreamState) → ((l : StreamState) → (f l).max_payload_size ≡ l.max_payload_size)
     → (ls : List StreamState) → AreSized ls → AreSized (change_where p f ls)
-sized-changed p f same [] z = tt
-sized-changed p f same (l ∷ ls) z = (by (p l), sized-changed p f same ls z.1)
-  where
-    by : (b : Bool) → 0 < (if b then f l else l).max_payload_size
-    by true = subst (λ n. 0 < n) (sym (same l)) z.0
-    by false = z.0
+sized-changed p f same ls z = every-changed IsSized p f (λ l _ some. subst (λ n. 0 < n) (sym (same l)) some) ls z
 
 numbers-changed : (p : StreamState → Bool) (f : StreamState → StreamState) → ((l : StreamState) → (f l).stream_identifier ≡ l.stream_identifier)
     → ((l : StreamState) → (f l).sequence_number ≡ l.sequence_number) → (s : ℕ) (ls : List StreamState) → number_of s (change_where p f ls) ≡ number_of s ls
@@ -108,8 +104,7 @@ steady-left (g ∷ gs) ls =
 -- ## Sizes
 
 pub sized-all : (size : ℕ) → 0 < size → (ls : List StreamState) → AreSized (map (with_size size) ls)
-sized-all size some [] = tt
-sized-all size some (l ∷ ls) = (some, sized-all size some ls)
+sized-all size some ls = every-made IsSized (with_size size) (λ l. some) ls
 
 pub numbers-sized : (size s : ℕ) (ls : List StreamState) → number_of s (map (with_size size) ls) ≡ number_of s ls
 numbers-sized size s [] = refl
@@ -122,14 +117,11 @@ there-sized size s (l ∷ ls) = ap (λ b. (l.stream_identifier == s) || b) (ther
 -- ## A new stream
 
 pub opened : (s size max : ℕ) (ppi : PayloadProtocolIdentifier) → 0 < size → (ls : List StreamState) → IsSteady ls (ls ++ new_stream s size max ppi ∷ [])
-opened s size max ppi some ls = record { numbers = λ r. numbers r ls; there = λ r. there r ls; sized = sized ls }
+opened s size max ppi some ls =
+    record { numbers = λ r. numbers r ls; there = λ r. there r ls; sized = λ z. every-joined IsSized ls (new_stream s size max ppi ∷ []) z (some, tt) }
   where
     numbers : (r : ℕ) (ls : List StreamState) → number_of r (ls ++ new_stream s size max ppi ∷ []) ≡ number_of r ls
-    numbers r [] = by (s == r)
-      where
-        by : (b : Bool) → ◌≡◌ {A = ℕ} (if b then 0 else 0) 0
-        by true = refl
-        by false = refl
+    numbers r [] = elim (s == r) as (λ b. ◌≡◌ {A = ℕ} (if b then 0 else 0) 0) [ true ↦ refl | false ↦ refl ]
     numbers r (l ∷ ls) = ap (λ k. if l.stream_identifier == r then l.sequence_number else k) (numbers r ls)
 
     there : (r : ℕ) (ls : List StreamState) → is_there r ls ≡ true → is_there r (ls ++ new_stream s size max ppi ∷ []) ≡ true
@@ -140,10 +132,6 @@ opened s size max ppi some ls = record { numbers = λ r. numbers r ls; there = �
             → (b || is_there r (ls ++ new_stream s size max ppi ∷ [])) ≡ true
         by true o ih = refl
         by false o ih = ih o
-
-    sized : (ls : List StreamState) → AreSized ls → AreSized (ls ++ new_stream s size max ppi ∷ [])
-    sized [] z = (some, tt)
-    sized (l ∷ ls) z = (z.0, sized ls z.1)
 
 -- ## One stream
 
@@ -166,13 +154,7 @@ number-found s (x ∷ xs) l e = by (x.stream_identifier == s) e (number-found s 
     by false e ih = ih e
 
 pub size-found : (s : ℕ) (ls : List StreamState) (l : StreamState) → find (has_number s) ls ≡ Some l → AreSized ls → 0 < l.max_payload_size
-size-found s [] l e z = absurd (none-some l e)
-size-found s (x ∷ xs) l e z = by (x.stream_identifier == s) e (size-found s xs l)
-  where
-    by : (b : Bool) → (if b then Some x else find (has_number s) xs) ≡ Some l → (find (has_number s) xs ≡ Some l → AreSized xs → 0 < l.max_payload_size)
-        → 0 < l.max_payload_size
-    by true e ih = subst (λ (y : StreamState). 0 < y.max_payload_size) (some-same e) z.0
-    by false e ih = ih e z.1
+size-found s ls l e z = every-found IsSized (has_number s) ls l e z
 
 pub there-found : (s : ℕ) (ls : List StreamState) (l : StreamState) → find (has_number s) ls ≡ Some l → is_there s ls ≡ true
 there-found s [] l e = absurd (none-some l e)
@@ -227,9 +209,4 @@ number-elsewhere r s differ f same (x ∷ xs) = by (x.stream_identifier == s) re
 -- ## A write among the writes
 
 pub open-of : (ls : List StreamState) (ws : List Numbered) (w : Numbered) → Contains ws w → AreOpen ls ws → is_there w.stream ls ≡ true
-open-of ls ws w c o = at ws c.0 c.1 c.2 o
-  where
-    at : (ws : List Numbered) (k : ℕ) → k < length ws → slice_index_or ws k w ≡ w → AreOpen ls ws → is_there w.stream ls ≡ true
-    at [] k lt e o = absurd (omega (arith, lt))
-    at (v ∷ vs) zero lt e o = subst (λ (x : Numbered). is_there x.stream ls ≡ true) e o.0
-    at (v ∷ vs) (suc k) lt e o = at vs k (omega (arith, lt)) e o.1
+open-of ls ws w c o = every-contained (λ v. is_there v.stream ls ≡ true) ws w c o

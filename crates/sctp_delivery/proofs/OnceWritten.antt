@@ -1,6 +1,6 @@
 -- No write is read twice: each message that was read is a write at a place of its own.
-use Rattle.std.proofs.Common.{◌≡◌, ◌≢◌, ℕ, zero, suc, ◌<◌, Bool, true, false, not, List, [], ◌∷◌, ◌++◌, length, inl, inr, refl, ap, sym, subst, ◌∙◌, arith}
-use Rattle.std.specs.Prelude.{⊤, All, AllPairs, ◌==◌, ◌&&◌, ◌||◌, slice_index_or}
+use Rattle.std.proofs.Common.{◌≡◌, ◌≢◌, ℕ, zero, suc, ◌<◌, true, false, not, List, [], ◌∷◌, ◌++◌, length, inl, inr, ap, sym, subst, ◌∙◌, arith}
+use Rattle.std.specs.Prelude.{All, AllPairs, ◌==◌, ◌&&◌, slice_index_or}
 use Rattle.std.specs.List.{list_any}
 use Rattle.sctp_util.proofs.Cases.{negated, or-left, or-right, same-yes}
 use Rattle.sctp_util.proofs.Edits.{list_any-append, pairs_cons}
@@ -17,6 +17,8 @@ use Rattle.sctp_delivery.proofs.Calls.{at-forgotten, forgotten, length-forgotten
 use Rattle.sctp_delivery.proofs.Delivered.{IsReadOf, IsReadSession, read-of}
 use Rattle.sctp_delivery.proofs.ReadOnce as read_once
 use Rattle.sctp_delivery.proofs.Sent.{Entry, IsPart, Numbered, fragment, terminal}
+use Rattle.sctp_delivery.proofs.Every.{Every, every-of-all}
+use Rattle.sctp_delivery.proofs.Sessions.{neither}
 
 -- ## Entries of one write
 
@@ -51,12 +53,10 @@ one-first (fragment f u left ∷ zs) o d e w v after rest xs ys b c same (inr p)
 
 module _ (ns : List Numbered) (sent : List Entry) (once : AreOnce sent) where
   abbrev pub EachRead : List Message → Type 0
-  EachRead [] = ⊤
-  EachRead (m ∷ ms) = IsReadOf ns sent m × EachRead ms
+  EachRead ms = Every (λ m. IsReadOf ns sent m) ms
 
   pub each-read : (ms : List Message) → All (λ m. IsReadOf ns sent m) ms → EachRead ms
-  each-read [] all = tt
-  each-read (m ∷ ms) all = (all 0 m (omega arith), each-read ms (λ k d lt. all (suc k) d (omega (arith, lt))))
+  each-read ms all = every-of-all (λ m. IsReadOf ns sent m) ms all
 
   abbrev pub places : (ms : List Message) → EachRead ms → List ℕ
   places [] e = []
@@ -85,10 +85,6 @@ module _ (ns : List Numbered) (sent : List Entry) (once : AreOnce sent) where
       let it = one-first sent once (data_of x.chunk)
       (data_of y.chunk) x.numbered y.numbered x.after y.after x.entries y.entries x.begins y.begins (ap (λ (n : Numbered). n.place) same) x.part y.part in
       sym (ap (λ (d : Data). d.tsn) it)
-
-  neither : (a b : Bool) → (a || b) ≡ false → (a ≡ false) × (b ≡ false)
-  neither true b e = absurd (not_both (sym e))
-  neither false b e = (refl, e)
 
   away : (m : Message) (x : IsReadOf ns sent m) (ms : List Message) (e : EachRead ms) → list_any (has_tsn x.chunk.tsn) (fragments_of_all ms) ≡ false
       → All (λ q. x.written.0 ≢ q) (places ms e)

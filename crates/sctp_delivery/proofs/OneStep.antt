@@ -1,13 +1,12 @@
 -- Each call leads from a session to one other alone.
-use Rattle.std.proofs.Common.{◌≡◌, ℕ, ◌+◌, ◌<◌, ◌≤◌, Bool, true, false, List, [], ◌∷◌, ◌++◌, take, drop, length, Option, Some, None, is_some, inl, inr, refl}
-use Rattle.std.proofs.Common.{ap, sym, subst, ◌∙◌, arith}
-use Rattle.std.specs.Prelude.{◌⊎◌, IfSome, if◌then◌else◌, max}
+use Rattle.std.proofs.Common.{◌≡◌, ℕ, ◌+◌, ◌<◌, ◌≤◌, Bool, true, false, List, [], ◌∷◌, ◌++◌, take, drop, length, Some, None, inl, inr, refl, ap, sym, subst}
+use Rattle.std.proofs.Common.{◌∙◌, arith}
+use Rattle.std.specs.Prelude.{◌⊎◌, if◌then◌else◌, max}
 use Rattle.std.proofs.lemmas.Bool.{cases_lt}
 use Rattle.sctp_util.specs.Lists.{change_where, insert_before}
 use Rattle.sctp_util.proofs.Cases.{some-same}
 use Rattle.sctp_util.proofs.More.{not_both}
 use Rattle.sctp_data.specs.declared.chunk.chunk_payload_data.ChunkPayloadData.{ChunkPayloadData}
-use Rattle.sctp_outbound.specs.outbound_queue.OutboundQueue.{expiring}
 use Rattle.sctp_reassembly.specs.reassembly_queue.ReassemblyQueue.{BecomesComplete, Reassembly, ReassemblyState, count_up, set_of_run}
 use Rattle.sctp_receiver.specs.declared.receiver.arrival.Arrival.{Arrival}
 use Rattle.sctp_receiver.specs.declared.receiver.arrival.Arrival.TheVariants.{New, Repeat}
@@ -26,6 +25,7 @@ use Rattle.sctp_delivery.specs.SenderCalls as outgoing
 use Rattle.sctp_delivery.specs.SenderCalls.{Made, SenderCall, Write, takes_sack}
 use Rattle.sctp_delivery.specs.Session.{ReceiverFollows, SenderFollows, Session, of_receiver, of_sender}
 use Rattle.sctp_delivery.proofs.Writing.{accepted-stream}
+use Rattle.sctp_delivery.proofs.Changes.{expired-one}
 
 -- ## The sender
 
@@ -60,12 +60,10 @@ sender-one (outgoing.writes stream ppi (b ∷ bs)) s t u f g =
     let l = accepted-stream stream (length (b ∷ bs)) s.sending.sender f.accepted in
     f.exact.1 (omega arith) l.0 l.1 ∙ sym (g.exact.1 (omega arith) l.0 l.1)
 sender-one (outgoing.expires now None) s t u f g = f.exact.1.1 refl ∙ sym (g.exact.1.1 refl)
-sender-one (outgoing.expires now (Some e)) s t u f g = by (expiring now s.sending.sender.flight.queue) f.exact.0 f.exact.1.0 g.exact.1.0
-  where
-    by : (o : Option ChunkPayloadData) → true ≡ is_some o → IfSome o (λ c. t.sending.sender ≡ after_expire c e.bytes now s.sending.sender)
-        → IfSome o (λ c. u.sending.sender ≡ after_expire c e.bytes now s.sending.sender) → SameSender t u
-    by None h i j = absurd (not_both (sym h))
-    by (Some c) h i j = i ∙ sym j
+sender-one (outgoing.expires now (Some e)) s t u f g =
+    let i = expired-one now e s.sending.sender t.sending.sender f.exact in
+    let j = expired-one now e s.sending.sender u.sending.sender g.exact in
+    i.2 ∙ ap (λ c. after_expire c e.bytes now s.sending.sender) (some-same (sym i.1 ∙ j.1)) ∙ sym j.2
 sender-one (outgoing.expires_tail now None) s t u f g = f.exact.1 refl ∙ sym (g.exact.1 refl)
 sender-one (outgoing.expires_tail now (Some a)) s t u f g = f.exact.0 ∙ sym g.exact.0
 sender-one call s t u f g = f.step.sender ∙ sym g.step.sender

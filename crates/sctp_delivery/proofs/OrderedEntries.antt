@@ -254,23 +254,18 @@ rest-begins-none kind s n (c ∷ d ∷ ds) m =
     let e = ap one (inner-not s (with_message_id n c) m.0) in
     omega (arith, ih, e)
 
+one-first : (a b : Bool) → one (a && b) ≤ one a
+one-first true true = omega arith
+one-first true false = omega arith
+one-first false b = omega arith
+
 message-begins-one : (kind : Bool) (s n : ℕ) (c : ChunkPayloadData) (cs : List ChunkPayloadData) → IsMessage kind false (c ∷ cs)
     → waiting_on s (map (with_message_id n) (c ∷ cs)) ≤ one (c.stream_identifier == s)
-message-begins-one kind s n c [] m = let h = counted (c.stream_identifier == s) c.beginning_fragment in omega (arith, h)
-  where
-    counted : (a b : Bool) → one (a && b) ≤ one a
-    counted true true = omega arith
-    counted true false = omega arith
-    counted false b = omega arith
+message-begins-one kind s n c [] m = let h = one-first (c.stream_identifier == s) c.beginning_fragment in omega (arith, h)
 message-begins-one kind s n c (d ∷ ds) m =
-    let h = counted (c.stream_identifier == s) c.beginning_fragment in
+    let h = one-first (c.stream_identifier == s) c.beginning_fragment in
     let z = rest-begins-none kind s n (d ∷ ds) m.3 in
     omega (arith, h, z)
-  where
-    counted : (a b : Bool) → one (a && b) ≤ one a
-    counted true true = omega arith
-    counted true false = omega arith
-    counted false b = omega arith
 
 pub ranked-written : (w : Numbered) (ws : List Numbered) (os : List ChunkPayloadData) (sent : List Entry) (n : ℕ) (c : ChunkPayloadData)
     (cs : List ChunkPayloadData) (kind : Bool) → n ≡ length ws → c.stream_identifier ≡ w.stream → IsMessage kind false (c ∷ cs) → AreRanked ws os sent

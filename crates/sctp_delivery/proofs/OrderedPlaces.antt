@@ -1,8 +1,7 @@
 -- The place of a write among the writes, from where it stands in their list.
 use Rattle.std.proofs.Common.{◌≡◌, ℕ, zero, suc, ◌+◌, ◌<◌, List, [], ◌∷◌, length, refl, ap, arith}
 use Rattle.std.specs.Prelude.{⊤, slice_index_or}
-use Rattle.sctp_delivery.specs.SenderCalls.{SenderCall}
-use Rattle.sctp_delivery.specs.SenderCalls.{writes}
+use Rattle.sctp_delivery.specs.SenderCalls.{SenderCall, writes}
 use Rattle.sctp_delivery.proofs.Calls.{numbered_after}
 use Rattle.sctp_delivery.proofs.Sent.{Numbered}
 

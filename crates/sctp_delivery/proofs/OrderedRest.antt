@@ -1,21 +1,27 @@
 -- The rest of a message that is partially sent has the number of what was sent of it.
-use Rattle.std.proofs.Common.{◌≡◌, ℕ, ◌+◌, Bool, true, false, not, List, [], ◌∷◌, ◌++◌, Option, Some, None, ap, sym, subst, ◌∙◌, arith}
+use Rattle.std.proofs.Common.{◌≡◌, ℕ, ◌+◌, Bool, true, false, not, List, [], ◌∷◌, ◌++◌, Option, Some, None, ap, sym, subst, ◌∙◌, arith, take}
 use Rattle.std.specs.Prelude.{◌==◌, ◌&&◌, ◌||◌, if◌then◌else◌}
 use Rattle.std.specs.List.{filter, list_any}
 use Rattle.std.proofs.lemmas.Option.{none-some}
-use Rattle.sctp_util.proofs.Cases.{or-left, same-yes, some-same}
-use Rattle.sctp_util.proofs.More.{fails, not_both}
+use Rattle.sctp_util.proofs.Cases.{or-left, same-yes, some-same, negated}
+use Rattle.sctp_util.proofs.More.{fails, not_both, both}
 use Rattle.sctp_data.specs.declared.chunk.chunk_payload_data.ChunkPayloadData.{ChunkPayloadData}
 use Rattle.sctp_outbound.specs.declared.pending_queue.Selected.{Selected}
 use Rattle.sctp_outbound.specs.Marks.{is_of}
 use Rattle.sctp_outbound.specs.pending_queue.PendingQueue.{Pending, last_of, last_removed}
 use Rattle.sctp_outbound.specs.pending_queue.Whole.{IsSendable, IsWhole, begun, free, partial_of, partially_sent, stage_of}
 use Rattle.sctp_outbound.proofs.lemmas.pending_queue.CompleteMessages.{none_before}
-use Rattle.sctp_delivery.proofs.Every.{Every, every-joined}
-use Rattle.sctp_delivery.proofs.OrderedEntries.{AreIndexed, IsLatest, begun_on, ends_on, latest-here}
+use Rattle.sctp_delivery.proofs.Every.{Every, every-joined, every-of, every-passing, every-taken, every-all, every-both, every-tested}
+use Rattle.sctp_delivery.proofs.OrderedEntries.{AreIndexed, IsLatest, begun_on, ends_on, latest-here, IsNumberOf, number-more}
 use Rattle.sctp_delivery.proofs.Sending.{Queued}
 use Rattle.sctp_delivery.proofs.Sent.{Entry, IsLine, Numbered, fragment, terminal}
 use Rattle.sctp_delivery.proofs.Waiting.{Waits, between, inside, place_of, within}
+use Rattle.sctp_data.specs.declared.chunk.chunk_forward_tsn.ChunkForwardTsnStream.{ChunkForwardTsnStream}
+use Rattle.sctp_sender.specs.Abandonment.{Name, ahead, is_named, is_pair_of, named_up_to, pairs_of}
+use Rattle.sctp_sender.specs.Flight.{Flight}
+use Rattle.sctp_serial.specs.DataChunks.{is_on}
+use Rattle.sctp_delivery.proofs.InFlight.{AreKnown, IsKnown}
+use Rattle.sctp_delivery.proofs.SpreadEntries.{number-of}
 
 -- it goes on with the last entry: on the streams that this is of, with the number of the last message that was begun, if it is ordered
 abbrev pub IsRest : List Entry → ChunkPayloadData → Type 0
@@ -115,3 +121,53 @@ last-rest ws first number sent m c p xs n s partial last q =
         (subst (λ j. IsWhole true n (if t.unordered then begun j else free 0) p.unordered) same w)
         (subst (λ j. Waits ws p.ordered (if t.unordered then between else inside j sent)) same h)
         (subst (λ j. Waits ws p.unordered (if t.unordered then inside j sent else between)) same g)
+
+-- # Each name of a FORWARD-TSN has the number of a message that was begun
+
+abbrev pub IsNamed : List Entry → ChunkForwardTsnStream → Type 0
+IsNamed sent n = IsNumberOf sent n.identifier n.sequence
+
+abbrev pub AreNamed : List Entry → List ChunkForwardTsnStream → Type 0
+AreNamed sent ns = Every (IsNamed sent) ns
+
+pub named-more : (x : Entry) (sent : List Entry) (ns : List ChunkForwardTsnStream) → AreNamed sent ns → AreNamed (x ∷ sent) ns
+named-more x sent ns h = every-of (IsNamed sent) (IsNamed (x ∷ sent)) (λ n k. number-more x sent n.identifier n.sequence k) ns h
+
+-- the pair of the last of these
+last-named : (sent : List Entry) (cs : List ChunkPayloadData) → Every (λ c. IsNumberOf sent c.stream_identifier c.stream_sequence_number) cs
+    → AreNamed sent (pairs_of (last_of cs))
+last-named sent [] h = tt
+last-named sent (c ∷ []) h = (h.0, tt)
+last-named sent (c ∷ d ∷ ds) h = last-named sent (d ∷ ds) h.1
+
+-- each pair is one of those of its stream
+own-pairs : (sent : List Entry) (ns : List ChunkForwardTsnStream) → ((s : ℕ) → AreNamed sent (filter (is_pair_of s) ns)) → AreNamed sent ns
+own-pairs sent [] h = tt
+own-pairs sent (n ∷ ns) h = (here, own-pairs sent ns later)
+  where
+    here : IsNamed sent n
+    here = (subst (λ b. AreNamed sent (if b then n ∷ filter (is_pair_of n.identifier) ns else filter (is_pair_of n.identifier) ns))
+        (same-yes n.identifier) (h n.identifier)).0
+
+    later : (s : ℕ) → AreNamed sent (filter (is_pair_of s) ns)
+    later s = by (is_pair_of s n) (h s)
+      where
+        by : (b : Bool) → AreNamed sent (if b then n ∷ filter (is_pair_of s) ns else filter (is_pair_of s) ns) → AreNamed sent (filter (is_pair_of s) ns)
+        by true k = k.1
+        by false k = k
+
+pub names-known : (first : ℕ) (sent : List Entry) (ns : List ChunkForwardTsnStream) (tsn : ℕ) (f : Flight) → AreKnown first sent f.queue.inflight.chunks
+    → Name ns (named_up_to tsn f) → AreNamed sent ns
+names-known first sent ns tsn f known name =
+    own-pairs sent ns (λ s. subst (AreNamed sent) (sym (name s))
+    (last-named sent (filter (is_on s) (named_up_to tsn f))
+    (every-passing (λ c. IsNumberOf sent c.stream_identifier c.stream_sequence_number) (is_on s) (named_up_to tsn f) numbered)))
+  where
+    numbered : Every (λ c. IsNumberOf sent c.stream_identifier c.stream_sequence_number) (named_up_to tsn f)
+    numbered =
+        every-both (IsKnown first sent) (λ c. is_named c ≡ true) (λ c. IsNumberOf sent c.stream_identifier c.stream_sequence_number)
+        (λ c k e. number-of first sent c k.1 (negated c.unordered (both c.abandoned _ e).1)) (named_up_to tsn f)
+        (every-passing (IsKnown first sent) is_named (take (ahead f tsn) f.queue.inflight.chunks)
+        (every-taken (IsKnown first sent) (ahead f tsn) f.queue.inflight.chunks known))
+        (every-tested (λ c. is_named c ≡ true) is_named (take (ahead f tsn) f.queue.inflight.chunks)
+        (every-all (λ c. is_named c ≡ true → is_named c ≡ true) (λ c e. e) (take (ahead f tsn) f.queue.inflight.chunks)))

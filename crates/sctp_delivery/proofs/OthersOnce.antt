@@ -11,14 +11,13 @@ use Rattle.sctp_delivery.specs.Sacks.{was_passed}
 use Rattle.sctp_delivery.specs.Session.{at_start}
 use Rattle.sctp_delivery.proofs.AbandonedMessages.{IsMarkedGone}
 use Rattle.sctp_delivery.proofs.Calls.{length-forgotten}
-use Rattle.sctp_delivery.proofs.EachRead.{idle-of, none-held}
+use Rattle.sctp_delivery.proofs.EachRead.{idle-of, none-held, others-once, read-whole}
 use Rattle.sctp_delivery.proofs.Every.{all-of-every, every-of}
 use Rattle.sctp_delivery.proofs.HeldInTheEnd.{taken-read}
 use Rattle.sctp_delivery.proofs.Kept.{held-weighs}
 use Rattle.sctp_delivery.proofs.KeptOrGone.{IsPassedBy}
 use Rattle.sctp_delivery.proofs.KeptSessions.{kept-in}
 use Rattle.sctp_delivery.proofs.NoneAbandoned.{each-of-others, none-in}
-use Rattle.sctp_delivery.proofs.OthersRead.{others-once, read-whole}
 use Rattle.sctp_delivery.proofs.ReadOnce.{one}
 
 pub others-read : AfterEachSessionOfMessages (λ size gone s. 0 < size → IsEachOtherReadInTheEnd gone s)

@@ -27,15 +27,14 @@ use Rattle.sctp_delivery.specs.SenderCalls as outgoing
 use Rattle.sctp_delivery.specs.SenderCalls.{IsAccepted, Made, SenderCall, data_chunk, forward_tsn, made_after, next_chunk, with_chunk}
 use Rattle.sctp_delivery.specs.Session.{ReceiverFollows, SenderFollows, Session, at_start}
 use Rattle.sctp_delivery.proofs.AbandonedMessages.{AreAmong, AreMarkedGone, cut-later, flight_of, gone-left, gone-right, marked-later, stays-cut, stays-marked}
-use Rattle.sctp_delivery.proofs.AbandonedWrites.{AreBelow, below-after, by-below}
-use Rattle.sctp_delivery.proofs.BegunOrAbandoned.{AreBegunOrGone, begun-later, stays-begun-or-gone}
+use Rattle.sctp_delivery.proofs.AbandonedMessages.{AreBegunOrGone, begun-later, stays-begun-or-gone, AreBelow, below-after, by-below}
 use Rattle.sctp_delivery.proofs.Calls.{numbered_after}
 use Rattle.sctp_delivery.proofs.Delivered.{next_tsn}
-use Rattle.sctp_delivery.proofs.Every.{Every, every-joined, every-of, every-taken, one-of}
-use Rattle.sctp_delivery.proofs.InFlight.{AreKnown, known-found}
+use Rattle.sctp_delivery.proofs.Every.{Every, every-joined, every-of, every-taken, one-of, every-found, every-tested}
+use Rattle.sctp_delivery.proofs.InFlight.{AreKnown, IsKnown}
 use Rattle.sctp_delivery.proofs.Numbers.{number_of}
 use Rattle.sctp_delivery.proofs.PassedMessages.{AreCutGone, ArePassing, AreTakenOrGone, EndsMessage, IsMadePassing, IsPassing, is_gone}
-use Rattle.sctp_delivery.proofs.PassedTsns.{IsPassable, last-every, lead, passable-end, passable-skip, rest-run}
+use Rattle.sctp_delivery.proofs.GivenTsns.{IsPassable, last-every, lead, passable-end, passable-skip, rest-run}
 use Rattle.sctp_delivery.proofs.Queues.{IsOnceMore}
 use Rattle.sctp_delivery.proofs.SackLaws.{more-accepted}
 use Rattle.sctp_delivery.proofs.Sent.{Entry, IsPart, Numbered, fragment, part-length, part-line, same-parts, terminal}
@@ -170,18 +169,8 @@ module _ (first n : ℕ) (s : Session) (ns : List Numbered) (sent : List Entry) 
 
 -- ## A FORWARD-TSN is made
 
-every-filtered : {A : Type 0} (P : A → Type 0) (p : A → Bool) (xs : List A) → Every P xs → Every (λ x. P x × (p x ≡ true)) (filter p xs)
-every-filtered P p [] h = tt
-every-filtered P p (x ∷ xs) h = by (p x) refl (every-filtered P p xs h.1)
-  where
-    by : (b : Bool) → p x ≡ b → Every (λ x. P x × (p x ≡ true)) (filter p xs)
-        → Every (λ x. P x × (p x ≡ true)) (if b then x ∷ filter p xs else filter p xs)
-    by true e ih = ((h.0, e), ih)
-    by false e ih = ih
-
 placed-each : (first : ℕ) (sent : List Entry) (cs : List ChunkPayloadData) → AreKnown first sent cs → Every (IsPlaced first sent) cs
-placed-each first sent [] k = tt
-placed-each first sent (c ∷ cs) k = (k.0.1, placed-each first sent cs k.1)
+placed-each first sent cs k = every-of (IsKnown first sent) (IsPlaced first sent) (λ c i. i.1) cs k
 
 module _ (first n : ℕ) (sent : List Entry) (long : length sent ≡ n) (few : n < 2 ^ 31) where
   -- the entry of a chunk is the last of as many entries
@@ -239,7 +228,7 @@ ends-end first sent t f e known = by (find (has_tsn t) f.queue.inflight.chunks) 
       chunk = c;
       is = same-is c.tsn t (found-passes (has_tsn t) f.queue.inflight.chunks c h);
       ends' = g;
-      placed = (known-found first sent (has_tsn t) f.queue.inflight.chunks c h known).1;
+      placed = (every-found (IsKnown first sent) (has_tsn t) f.queue.inflight.chunks c h known).1;
     }
 
 ends-skip : (first : ℕ) (sent : List Entry) (t u : ℕ) (f : Flight) → Some u ≡ skip_end t f → AreKnown first sent f.queue.inflight.chunks
@@ -250,8 +239,9 @@ ends-skip first sent t u f is known = by (can_skip_to t f) is
     front = take (ahead f t) f.queue.inflight.chunks
 
     each : Every (λ (c : ChunkPayloadData). IsPlaced first sent c × (ends c ≡ true)) (filter ends front)
-    each = every-filtered (IsPlaced first sent) ends front
-        (every-taken (IsPlaced first sent) (ahead f t) f.queue.inflight.chunks (placed-each first sent f.queue.inflight.chunks known))
+    each = every-tested (λ c. IsPlaced first sent c × (ends c ≡ true)) ends front
+        (every-of (IsPlaced first sent) (λ c. ends c ≡ true → IsPlaced first sent c × (ends c ≡ true)) (λ c i e. (i, e)) front
+        (every-taken (IsPlaced first sent) (ahead f t) f.queue.inflight.chunks (placed-each first sent f.queue.inflight.chunks known)))
 
     found : (o : Option ChunkPayloadData) → last_end t f ≡ o → Some u ≡ option_map (λ (c : ChunkPayloadData). c.tsn) o → EndsThere first sent u
     found None e i = absurd (none-some u (sym i))

@@ -12,8 +12,8 @@ use Rattle.sctp_outbound.specs.Marks.{as_abandoned, as_acknowledged, is_of}
 use Rattle.sctp_outbound.specs.outbound_queue.OutboundQueue.{Outbound, abandoned_of, all_started, append_chunks, as_sent, expired_of, sent_of, terminal_chunk}
 use Rattle.sctp_outbound.specs.outbound_queue.OutboundQueue.{with_inflight, with_message, with_message_id, with_terminal_chunk}
 use Rattle.sctp_outbound.specs.payload_queue.PayloadQueue as payload
-use Rattle.sctp_outbound.specs.pending_queue.PendingQueue.{Pending, closed_up, front_of, is_to_start, last_of, last_removed, list_of, list_to_pop}
-use Rattle.sctp_outbound.specs.pending_queue.PendingQueue.{next_pending, next_pending_of, one_lower, rest_from, rest_of, start_pending, with_deadline, without}
+use Rattle.sctp_outbound.specs.pending_queue.PendingQueue.{Pending, closed_up, front_of, is_to_start, last_of, last_removed, list_of, list_to_pop, next_pending}
+use Rattle.sctp_outbound.specs.pending_queue.PendingQueue.{next_pending_of, one_lower, rest_from, rest_of, start_pending, with_deadline, without}
 use Rattle.sctp_serial.specs.DataChunks.{chunk_before, is_on}
 use Rattle.sctp_stream.specs.declared.stream.StreamState.{StreamState}
 use Rattle.sctp_stream.specs.Stream.{fragment_at, fragments_of}

@@ -23,7 +23,7 @@ use Rattle.sctp_outbound.proofs.lemmas.pending_queue.CompleteMessages.{KeepsMess
 use Rattle.sctp_serial.specs.DataChunks.{chunk_before, following_tsn}
 use Rattle.sctp_util.proofs.Edits.{list_any-inserted, list_any-those}
 use Rattle.sctp_delivery.proofs.Begun.{IsBegun, begins, begins-changed, begun-ended, begun-less, begun-sent}
-use Rattle.sctp_delivery.proofs.InFlight.{AreKnown, KeepsData, abandoned-keeps, abandoned-not, known-changed, known-inserted, known-more}
+use Rattle.sctp_delivery.proofs.InFlight.{AreKnown, KeepsData, abandoned-keeps, abandoned-not, known-changed, known-more, IsKnown}
 use Rattle.sctp_delivery.proofs.OrderedEntries.{ranked-changed, ranked-ended, ranked-those}
 use Rattle.sctp_delivery.proofs.OrderedRest.{last-rest}
 use Rattle.sctp_delivery.proofs.Sending.{Queued, queued-sent}
@@ -31,6 +31,7 @@ use Rattle.sctp_delivery.proofs.Sent.{Entry, Numbered, fragment, terminal}
 use Rattle.sctp_delivery.proofs.SpreadEntries.{step-fragment, step-terminal}
 use Rattle.sctp_delivery.proofs.Turns.{Turns, turns-rest, turns-started, without-none}
 use Rattle.sctp_delivery.proofs.Waiting.{Waits, between, inside, nowhere, place_of, waits-started, waits-without}
+use Rattle.sctp_delivery.proofs.Every.{every-inserted}
 
 -- the queues and the next TSN, where these entries got TSNs
 pub record Stands (ws : List Numbered) (first : ℕ) (number : ℕ → ℕ) (q : Outbound) (next : ℕ) (sent : List Entry) : Type 0 where
@@ -113,7 +114,7 @@ sends ws first number now q next sent c e s =
       stands = record {
         queued = on.2.0;
         sendable = (sendable-sent p q.inflight.chunks q.next_message_id c t refl s.sendable e).sendable;
-        known = known-inserted first (fragment (data_of t) on.0 on.1 ∷ sent) chunk_before t q.inflight.chunks (
+        known = every-inserted (IsKnown first (fragment (data_of t) on.0 on.1 ∷ sent)) chunk_before t q.inflight.chunks (
           (λ o. (on.0, on.1, sent, inl refl)),
           record {
             entry = fragment (data_of t) on.0 on.1;
@@ -288,7 +289,7 @@ module _ (ws : List Numbered) (first : ℕ) (number : ℕ → ℕ) (q : Outbound
         stands = record {
           queued = selected q.pending.selected partial s.sendable s.queued;
           sendable = sendable-abandoned q.pending q.inflight.chunks q.next_message_id m t (last_is_of m q.pending c f) e s.sendable;
-          known = known-inserted first (terminal ∷ sent) chunk_before t xs (
+          known = every-inserted (IsKnown first (terminal ∷ sent)) chunk_before t xs (
             (λ o. absurd (abandoned-not t refl o)),
             record {
               entry = terminal;

@@ -12,11 +12,10 @@ use Rattle.sctp_delivery.specs.Sacks.{tsns_given}
 use Rattle.sctp_delivery.specs.SenderCalls.{SenderCall}
 use Rattle.sctp_delivery.specs.Session.{Call, Follows, ReceiverFollows, RunsTo, SenderFollows, Session, at_start, of_receiver, of_sender}
 use Rattle.sctp_delivery.proofs.Calls.{numbered_after}
-use Rattle.sctp_delivery.proofs.CallsLeft.{calls-go}
+use Rattle.sctp_delivery.proofs.QueuesLeft.{calls-go, Goes, left}
 use Rattle.sctp_delivery.proofs.Continued.{IsContinued}
 use Rattle.sctp_delivery.proofs.Delivered as delivered
 use Rattle.sctp_delivery.proofs.Delivered.{Holds, next_tsn}
-use Rattle.sctp_delivery.proofs.QueuesLeft.{Goes, left}
 use Rattle.sctp_delivery.proofs.SackLaws as sacks
 use Rattle.sctp_delivery.proofs.SackLaws.{IsInStep}
 use Rattle.sctp_delivery.proofs.Sent.{Entry, Numbered}

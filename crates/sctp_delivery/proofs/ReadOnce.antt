@@ -26,27 +26,24 @@ one t c = if has_tsn t c then 1 else 0
 abbrev pub count : ℕ → List ChunkPayloadData → ℕ
 count t cs = sum_by (one t) cs
 
+more : (t : ℕ) (c : ChunkPayloadData) (cs : List ChunkPayloadData) → count t (c ∷ cs) ≡ one t c + count t cs
+more t c cs = sum_by-cons (one t) c cs
+
 pub none-count : (t : ℕ) (cs : List ChunkPayloadData) → list_any (has_tsn t) cs ≡ false → count t cs ≡ 0
 none-count t [] e = refl
 none-count t (c ∷ cs) e = by (has_tsn t c) refl e (none-count t cs)
   where
-    more : count t (c ∷ cs) ≡ one t c + count t cs
-    more = sum_by-cons (one t) c cs
-
     by : (b : Bool) → has_tsn t c ≡ b → (b || list_any (has_tsn t) cs) ≡ false → (list_any (has_tsn t) cs ≡ false → count t cs ≡ 0) → count t (c ∷ cs) ≡ 0
     by true i h ih = absurd (not_both (sym h))
-    by false i h ih = let z = ih h in let o : one t c ≡ 0 = ap (λ b. if b then 1 else 0) i in omega (arith, more, z, o)
+    by false i h ih = let z = ih h in let o : one t c ≡ 0 = ap (λ b. if b then 1 else 0) i in omega (arith, more t c cs, z, o)
 
 pub count-none : (t : ℕ) (cs : List ChunkPayloadData) → count t cs ≡ 0 → list_any (has_tsn t) cs ≡ false
 count-none t [] e = refl
 count-none t (c ∷ cs) e = by (has_tsn t c) refl (count-none t cs)
   where
-    more : count t (c ∷ cs) ≡ one t c + count t cs
-    more = sum_by-cons (one t) c cs
-
     by : (b : Bool) → has_tsn t c ≡ b → (count t cs ≡ 0 → list_any (has_tsn t) cs ≡ false) → (b || list_any (has_tsn t) cs) ≡ false
-    by true i ih = let o : one t c ≡ 1 = ap (λ b. if b then 1 else 0) i in absurd (omega (arith, more, e, o))
-    by false i ih = ih (omega (arith, more, e))
+    by true i ih = let o : one t c ≡ 1 = ap (λ b. if b then 1 else 0) i in absurd (omega (arith, more t c cs, e, o))
+    by false i ih = ih (omega (arith, more t c cs, e))
 
 pub once : (t : ℕ) (cs : List ChunkPayloadData) → are_apart cs ≡ true → count t cs ≤ 1
 once t [] e = omega arith
@@ -55,15 +52,12 @@ once t (c ∷ cs) e = by (has_tsn t c) refl (once t cs b.1)
     b : (not (list_any (has_tsn c.tsn) cs) ≡ true) × (are_apart cs ≡ true)
     b = both (not (list_any (has_tsn c.tsn) cs)) (are_apart cs) e
 
-    more : count t (c ∷ cs) ≡ one t c + count t cs
-    more = sum_by-cons (one t) c cs
-
     by : (k : Bool) → has_tsn t c ≡ k → count t cs ≤ 1 → count t (c ∷ cs) ≤ 1
     by true i le =
         let z = none-count t cs (subst (λ n. list_any (has_tsn n) cs ≡ false) (same-is c.tsn t i) (negated (list_any (has_tsn c.tsn) cs) b.0)) in
         let o : one t c ≡ 1 = ap (λ k. if k then 1 else 0) i in
-        omega (arith, more, z, o)
-    by false i le = let o : one t c ≡ 0 = ap (λ k. if k then 1 else 0) i in omega (arith, more, le, o)
+        omega (arith, more t c cs, z, o)
+    by false i le = let o : one t c ≡ 0 = ap (λ k. if k then 1 else 0) i in omega (arith, more t c cs, le, o)
 
 apart-where : (cs : List ChunkPayloadData) → ((t : ℕ) → count t cs ≤ 1) → are_apart cs ≡ true
 apart-where [] le = refl
@@ -118,12 +112,9 @@ pub fewer : (t : ℕ) (p : ChunkPayloadData → Bool) (cs : List ChunkPayloadDat
 fewer t p [] = omega arith
 fewer t p (c ∷ cs) = by (p c) (fewer t p cs)
   where
-    more : count t (c ∷ cs) ≡ one t c + count t cs
-    more = sum_by-cons (one t) c cs
-
     by : (b : Bool) → count t (filter p cs) ≤ count t cs → count t (if b then c ∷ filter p cs else filter p cs) ≤ count t (c ∷ cs)
-    by true le = let kept = sum_by-cons (one t) c (filter p cs) in omega (arith, more, kept, le)
-    by false le = omega (arith, more, le)
+    by true le = let kept = sum_by-cons (one t) c (filter p cs) in omega (arith, more t c cs, kept, le)
+    by false le = omega (arith, more t c cs, le)
 
 -- ## Messages
 

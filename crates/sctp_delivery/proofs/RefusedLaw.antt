@@ -1,7 +1,7 @@
--- A receiver that is read refuses nothing that an honest sender still needs taken.
+-- How long messages may be: in each session what the sender and the streams of the receiver were given stays, and no write is longer.
 use Rattle.std.proofs.Common.{◌≡◌, ℕ, ◌+◌, ◌%◌, ◌^◌, ◌<◌, ◌≤◌, Bool, true, false, not, List, [], ◌∷◌, Option, Some, None, inl, inr, refl, ap, sym, subst, ◌∙◌}
 use Rattle.std.proofs.Common.{arith, length}
-use Rattle.std.specs.Prelude.{◌==◌, ◌&&◌, ◌||◌, Contains, if◌then◌else◌, is_some, nat_le, nat_lt}
+use Rattle.std.specs.Prelude.{◌==◌, ◌&&◌, ◌||◌, Contains, if◌then◌else◌, is_some, nat_le, nat_lt, not}
 use Rattle.std.specs.List.{list_any, find, list_all}
 use Rattle.std.specs.Option.{option_or}
 use Rattle.std.proofs.lemmas.Bool.{cases_lt}
@@ -15,7 +15,7 @@ use Rattle.sctp_data.specs.declared.chunk.chunk_payload_data.ChunkPayloadData.{C
 use Rattle.sctp_data.specs.ChunkSet.{ChunkSet}
 use Rattle.sctp_data.specs.PayloadData.{Data, data_of}
 use Rattle.sctp_serial.specs.DataChunks.{has_tsn, bytes_of, chunk_before}
-use Rattle.sctp_reassembly.specs.reassembly_queue.ReassemblyQueue.{message_read, Reassembly}
+use Rattle.sctp_reassembly.specs.reassembly_queue.ReassemblyQueue.{message_read, Reassembly, ReassemblyState}
 use Rattle.sctp_receiver.specs.declared.receiver.arrival.Arrival.TheVariants.{New, Repeat}
 use Rattle.sctp_receiver.specs.declared.receiver.inbound_streams.InboundStream.{InboundStream}
 use Rattle.sctp_receiver.specs.declared.receiver.refusal.ReceiverRefusal.TheVariants.{SsnTooFar, TsnOpposite, MessageTooLarge}
@@ -23,7 +23,7 @@ use Rattle.sctp_receiver.specs.declared.receiver.limits.Limits.{Limits}
 use Rattle.sctp_receiver.specs.Limits.{refusal_by}
 use Rattle.sctp_receiver.specs.Receiver.{Reception, arrival_refusal, filter_of, follow_forward_tsn, is_stale, new_refusal, message_of, stream_of}
 use Rattle.sctp_receiver.specs.Receiver.{stream_refusal, is_open}
-use Rattle.sctp_receiver.specs.Skips.{without_incomplete}
+use Rattle.sctp_receiver.specs.Skips.{without_incomplete, incomplete_forwarded}
 use Rattle.sctp_receiver.specs.Ssns.{is_ssn_too_far, is_too_far_on, lowest_ssn}
 use Rattle.sctp_receiver.specs.TsnFilter.{has_come, is_opposite}
 use Rattle.sctp_sender.specs.Flight.{reports}
@@ -34,7 +34,7 @@ use Rattle.sctp_delivery.specs.ReceiverCalls as incoming
 use Rattle.sctp_delivery.specs.ReceiverCalls.{ReceiverCall}
 use Rattle.sctp_delivery.specs.Refused.{AfterEachUnlimitedSession, IsInFlight, NoneInFlightIsRefused, is_due_on, is_takable, IsCopy, NoneIsRefusedWhereRead}
 use Rattle.sctp_delivery.specs.Sacks.{is_reported, tsns_given, was_taken}
-use Rattle.sctp_delivery.specs.Session.{Call, ReceiverFollows, RunsTo, Session, at_start, of_receiver, of_sender}
+use Rattle.sctp_delivery.specs.Session.{Call, ReceiverFollows, RunsTo, Session, at_start, of_receiver, of_sender, SenderFollows}
 use Rattle.sctp_delivery.proofs.Delivered.{found-sent}
 use Rattle.sctp_delivery.proofs.EntryLengths.{unassembled-fits, set-fits, part-fits}
 use Rattle.sctp_delivery.proofs.Every.{Every, every-contained, every-of-all, one-of, every-found}
@@ -46,11 +46,10 @@ use Rattle.sctp_delivery.proofs.KeptCalls as calls
 use Rattle.sctp_delivery.proofs.KeptOrGone.{HeldWell, IsLate}
 use Rattle.sctp_delivery.proofs.KeptSessions.{HasKept, kept-in}
 use Rattle.sctp_delivery.proofs.MessageSets.{entry-at}
-use Rattle.sctp_delivery.proofs.MessageSizes.{fit-session, AreWithin}
 use Rattle.sctp_delivery.proofs.NotRefused.{begun-low, near-distance, same-index}
-use Rattle.sctp_delivery.proofs.OrderedNames.{known-each}
-use Rattle.sctp_delivery.proofs.PassedTsns.{flight-given}
+use Rattle.sctp_delivery.proofs.GivenTsns.{flight-given}
 use Rattle.sctp_delivery.proofs.ReadOnce.{one}
+use Rattle.sctp_delivery.proofs.Every.{every-changed, every-joined, every-mapped}
 use Rattle.sctp_delivery.proofs.SackLaws as sacks
 use Rattle.sctp_delivery.proofs.SackSteps.{known}
 use Rattle.sctp_delivery.proofs.Sent.{Entry, WasSent, fragment, part-line}
@@ -59,7 +58,7 @@ use Rattle.sctp_delivery.proofs.SpreadCalls.{IsSpread}
 use Rattle.sctp_delivery.proofs.SpreadEntries.{begun_to, is_at, made-entry}
 use Rattle.sctp_delivery.proofs.TakenCalls.{HasCome}
 use Rattle.sctp_delivery.proofs.TakenTsns.{come}
-use Rattle.sctp_delivery.proofs.AnsweredCalls as answered
+use Rattle.sctp_delivery.proofs.TakenCalls as answered
 use Rattle.sctp_delivery.proofs.TsnPlaces.{IsGiven, base}
 use Rattle.sctp_delivery.proofs.UnassembledGone.{was-unassembled}
 use Rattle.sctp_delivery.proofs.UnwrappedHolds.{AreDue, Came, DueOn, IsOf, rises-put, Fits}
@@ -68,11 +67,151 @@ use Rattle.sctp_util.proofs.Edits.{sum_by-inserted}
 use Rattle.sctp_util.specs.Lists.{insert_before}
 use Rattle.sctp_reassembly.specs.reassembly_queue.Fragments.{chunks_of_ssn}
 use Rattle.sctp_reassembly.specs.reassembly_queue.Sizes.{projected_size, size_after, size_before}
-use Rattle.sctp_receiver.specs.Inbound.{has_number}
-use Rattle.sctp_delivery.specs.SenderCalls.{Write}
+use Rattle.sctp_receiver.specs.Inbound.{has_number, Pushes, PushesAs, new_stream, ssns_of, stream_forwarded, stream_read, unassembled_forwarded, with_queue}
+use Rattle.sctp_delivery.specs.SenderCalls.{Write, SenderCall, written_after}
 use Rattle.sctp_delivery.proofs.Calls.{contains-forgotten, forget}
 use Rattle.sctp_delivery.proofs.UnwrappedReads.{AreSets, IsDue}
 use Rattle.sctp_delivery.specs.Complete.{reads_nothing}
+use Rattle.sctp_receiver.proofs.Forwarded.{followed-mapped, skipped-size}
+use Rattle.sctp_sender.specs.declared.sender.refusal.SenderRefusal.TheVariants.{MessageTooLarge as TooLargeToSend, QueueFull, StreamUnknown}
+use Rattle.sctp_sender.specs.Sender.{Transmission, is_full, is_open as is_open_to_send}
+use Rattle.sctp_delivery.specs.SenderCalls as outgoing
+use Rattle.sctp_delivery.proofs.Writing.{accepted-stream}
+use Rattle.sctp_delivery.proofs.InTheEnd.{nothing}
+use Rattle.sctp_delivery.proofs.Changes.{expired-one}
+
+-- ## The sender
+
+abbrev MaxSame : Session → Session → Type 0
+MaxSame old new = new.sending.sender.max_message_size ≡ old.sending.sender.max_message_size
+
+max-after : (call : SenderCall) (old new : Session) → SenderFollows call old new → MaxSame old new
+max-after (outgoing.resends u now c) old new f = ap (λ (u : Transmission). u.max_message_size) f.step.sender
+max-after (outgoing.sends now) old new f = ap (λ (u : Transmission). u.max_message_size) f.exact
+max-after (outgoing.forwards u c) old new f = ap (λ (u : Transmission). u.max_message_size) f.exact
+max-after (outgoing.forwards_within bytes c) old new f = ap (λ (u : Transmission). u.max_message_size) f.exact
+max-after (outgoing.writes stream ppi []) old new f = ap (λ (u : Transmission). u.max_message_size) (f.exact.0 refl)
+max-after (outgoing.writes stream ppi (b ∷ bs)) old new f =
+    let l = accepted-stream stream (length (b ∷ bs)) old.sending.sender f.accepted in
+    ap (λ (u : Transmission). u.max_message_size) (f.exact.1 (omega arith) l.0 l.1)
+max-after (outgoing.abandons u a) old new f = ap (λ (u : Transmission). u.max_message_size) f.exact
+max-after (outgoing.expires now None) old new f = ap (λ (u : Transmission). u.max_message_size) (f.exact.1.1 refl)
+max-after (outgoing.expires now (Some e)) old new f =
+    ap (λ (u : Transmission). u.max_message_size) (expired-one now e old.sending.sender new.sending.sender f.exact).2
+max-after (outgoing.expires_tail now None) old new f = ap (λ (u : Transmission). u.max_message_size) (f.exact.1 refl)
+max-after (outgoing.expires_tail now (Some a)) old new f = ap (λ (u : Transmission). u.max_message_size) f.exact.0
+max-after (outgoing.expires_late now gone) old new f = ap (λ (u : Transmission). u.max_message_size) f.exact
+max-after (outgoing.expires_rexmit gone) old new f = ap (λ (u : Transmission). u.max_message_size) f.exact
+max-after (outgoing.takes_sack k gone) old new f = ap (λ (u : Transmission). u.max_message_size) f.exact
+max-after call old new f = ap (λ (u : Transmission). u.max_message_size) f.step.sender
+
+-- no write is longer
+abbrev pub AreWithin : ℕ → List Write → Type 0
+AreWithin max ws = Every (λ w. length w.bytes ≤ max) ws
+
+written-within : (call : SenderCall) (t : Transmission) (ws : List Write) → outgoing.IsAccepted call t → AreWithin t.max_message_size ws
+    → AreWithin t.max_message_size (written_after call ws)
+written-within (outgoing.writes stream ppi []) t ws a h = h
+written-within (outgoing.writes stream ppi (b ∷ bs)) t ws a h =
+    (by (is_open_to_send stream t) (nat_lt t.max_message_size (length (b ∷ bs))) refl a, h)
+  where
+    by : (o c : Bool) → nat_lt t.max_message_size (length (b ∷ bs)) ≡ c
+        → (if not o then Some StreamUnknown else (if c then Some TooLargeToSend else (if is_full (length (b ∷ bs)) t then Some QueueFull else None))) ≡ None
+        → length (b ∷ bs) ≤ t.max_message_size
+    by false c e f = absurd (none-some StreamUnknown (sym f))
+    by true true e f = absurd (none-some TooLargeToSend (sym f))
+    by true false e f = grind (arith, nat_tests, e)
+written-within call t ws a h = h
+
+-- ## The receiver
+
+-- each stream takes messages of up to this length, as the receiver does
+pub record AreSized (most : ℕ) (r : Reception) : Type 0 where
+  pub own : r.max_message_size ≡ most
+  pub each : Every (λ l. l.queue.max_message_size ≡ most) r.streams
+
+pushed-size : (c : ChunkPayloadData) (answered : Bool) (old new : ReassemblyState) → Pushes c answered old new → new.max_message_size ≡ old.max_message_size
+pushed-size c answered old new pushed = by c.unordered pushed
+  where
+    by : (b : Bool) → PushesAs b c answered old new → new.max_message_size ≡ old.max_message_size
+    by false h = ap (λ (s : ReassemblyState). s.max_message_size) h.0
+    by true h = ap (λ (s : ReassemblyState). s.max_message_size) h.1
+
+module _ (most : ℕ) where
+  abbrev P : InboundStream → Type 0
+  P l = l.queue.max_message_size ≡ most
+
+  sized-after : (call : ReceiverCall) (old new : Session) → ReceiverFollows call old new → AreSized most old.receiving.receiver
+      → AreSized most new.receiving.receiver
+  sized-after (incoming.opens stream) old new f s = subst (AreSized most) (sym f.step.receiver.1) (record {
+    own = s.own;
+    each = every-joined P old.receiving.receiver.streams (new_stream stream old.receiving.receiver.max_message_size ∷ []) s.each (s.own, tt);
+  })
+  sized-after (incoming.takes c Repeat) old new f s = subst (AreSized most) (sym f.step.receiver) (record { own = s.own; each = s.each })
+  sized-after (incoming.takes c (New answered)) old new f s =
+      let r = old.receiving.receiver in
+      let acc = f.step.receiver in
+      let size : acc.queue.max_message_size ≡ most = pushed-size c answered acc.stream.queue acc.queue acc.pushed
+      ∙ every-found P (has_number c.stream_identifier) r.streams acc.stream acc.found s.each in
+      subst (AreSized most) (sym acc.after) (record {
+        own = s.own;
+        each = every-changed P (has_number c.stream_identifier) (with_queue acc.queue) (λ l h p. size) r.streams s.each;
+      })
+  sized-after (incoming.follows g) old new f s = subst (AreSized most) (sym f.step.receiver) (by (is_stale g old.receiving.receiver))
+    where
+      r : Reception
+      r = old.receiving.receiver
+
+      by : (b : Bool) → AreSized most (if b then old.receiving.receiver else without_incomplete g.new_cumulative_tsn
+          (if b then old.receiving.receiver else follow_forward_tsn g old.receiving.receiver))
+      by true = s
+      by false = record {
+        own = s.own;
+        each = every-mapped P P (incomplete_forwarded g.new_cumulative_tsn) (λ l p. p) (follow_forward_tsn g old.receiving.receiver).streams
+            (subst (Every P) (sym (followed-mapped g old.receiving.receiver))
+            (every-mapped P P (λ l. unassembled_forwarded g.new_cumulative_tsn (stream_forwarded g.streams l))
+            (λ l p. skipped-size (ssns_of l.queue.si g.streams) l.queue ∙ p) old.receiving.receiver.streams s.each));
+      }
+  sized-after (incoming.reads stream) old new f s = subst (AreSized most) (sym f.step.receiver) (record {
+    own = s.own;
+    each = every-changed P (has_number stream) stream_read (λ l h p. p) old.receiving.receiver.streams s.each;
+  })
+  sized-after call old new f s = subst (AreSized most) (sym f.step.receiver) (record { own = s.own; each = s.each })
+
+-- ## Every session
+
+pub record AreFit (max most : ℕ) (s : Session) : Type 0 where
+  pub sender : s.sending.sender.max_message_size ≡ max
+  pub writes : AreWithin max s.written
+  pub streams : AreSized most s.receiving.receiver
+
+sender-fit : (max most : ℕ) (call : SenderCall) (old new : Session) → SenderFollows call old new → AreFit max most old → AreFit max most new
+sender-fit max most call old new f h = record {
+  sender = max-after call old new f ∙ h.sender;
+  writes = subst (AreWithin max) (sym (ap (λ (s : Session). s.written) f.after))
+      (subst (λ k. AreWithin k (written_after call old.written)) h.sender (written-within call old.sending.sender old.written f.accepted
+      (subst (λ k. AreWithin k old.written) (sym h.sender) h.writes)));
+  streams = subst (AreSized most) (sym (ap (λ (s : Session). s.receiving.receiver) f.after)) h.streams;
+}
+
+receiver-fit : (max most : ℕ) (call : ReceiverCall) (old new : Session) → ReceiverFollows call old new → AreFit max most old → AreFit max most new
+receiver-fit max most call old new f h = record {
+  sender = ap (λ (s : Session). s.sending.sender.max_message_size) f.after ∙ h.sender;
+  writes = subst (AreWithin max) (sym (ap (λ (s : Session). s.written) f.after)) h.writes;
+  streams = sized-after most call old new f h.streams;
+}
+
+fit-after : (max most : ℕ) (cs : List Call) (old new : Session) → RunsTo old cs new → AreFit max most old → AreFit max most new
+fit-after max most [] old new r h = subst (AreFit max most) (sym r) h
+fit-after max most (of_sender call ∷ cs) old new r h = fit-after max most cs r.0 new r.1.1 (sender-fit max most call old r.0 r.1.0 h)
+fit-after max most (of_receiver call ∷ cs) old new r h = fit-after max most cs r.0 new r.1.1 (receiver-fit max most call old r.0 r.1.0 h)
+
+pub fit-session : (tsn size max most : ℕ) (limits : Option Limits) (cs : List Call) (s : Session) → RunsTo (at_start tsn size max most limits) cs s
+    → AreFit max most s
+fit-session tsn size max most limits cs s r =
+    fit-after max most cs (at_start tsn size max most limits) s r (record { sender = refl; writes = tt; streams = record { own = refl; each = tt } })
+
+-- # A receiver that is read refuses nothing that an honest sender still needs taken
 
 -- ## Limits
 
@@ -140,7 +279,7 @@ module _ (first n : ℕ) (few : n < 2 ^ 31) (gone : List ℕ) (s : Session) (h :
   was-sent c in' kept fresh = by c.acked refl
     where
       k : IsKnown first sent c
-      k = every-contained (IsKnown first sent) chunks c in' (known-each first sent chunks spread.holds.held.stands.known)
+      k = every-contained (IsKnown first sent) chunks c in' spread.holds.held.stands.known
 
       by : (b : Bool) → c.acked ≡ b → WasSent sent (data_of c)
       by false e = k.0 (and (not c.acked) (not c.abandoned) (ap not e) (ap not kept))
@@ -342,12 +481,8 @@ module _ (first n : ℕ) (few : n < 2 ^ 31) (gone : List ℕ) (s : Session) (h :
       parts = both (is_open x.stream_identifier r) (is_due_on x r) due
 
       unread : (l : InboundStream) → stream_of x.stream_identifier r ≡ Some l → x.unordered ≡ false → message_read l.queue.held ≡ None
-      unread l there e = none-of (message_read l.queue.held) (sym (ap (λ b. b || not (is_some (message_of (stream_of x.stream_identifier r)))) e
+      unread l there e = nothing (message_read l.queue.held) (sym (ap (λ b. b || not (is_some (message_of (stream_of x.stream_identifier r)))) e
           ∙ ap (λ o. not (is_some (message_of o))) there) ∙ parts.1)
-        where
-          none-of : (o : Option ChunkSet) → not (is_some o) ≡ true → o ≡ None
-          none-of None h = refl
-          none-of (Some y) h = absurd (not_both h)
 
       sent-too : has_come x.tsn (filter_of r) ≡ false → WasSent sent (data_of x)
       sent-too fresh = elim same [

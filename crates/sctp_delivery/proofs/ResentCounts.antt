@@ -12,9 +12,8 @@ use Rattle.sctp_sender.specs.Resending.{count_again, sent_again}
 use Rattle.sctp_sender.specs.Sender.{Transmission}
 use Rattle.sctp_delivery.specs.Retransmission.{AfterEachSessionWithEvents, moments}
 use Rattle.sctp_delivery.proofs.Every.{every-found, every-of-all}
-use Rattle.sctp_delivery.proofs.NotedCalls.{found-tsn}
-use Rattle.sctp_delivery.proofs.NotedChunks.{SaysSo}
-use Rattle.sctp_delivery.proofs.NotedSessions as noted
+use Rattle.sctp_delivery.proofs.NotedChunks.{found-tsn, SaysSo}
+use Rattle.sctp_delivery.proofs.NotedChunks as noted
 
 -- what the chunk was, and what it answers
 abbrev Answers : ℕ → ℕ → Transmission → ChunkPayloadData → Type 0

@@ -18,6 +18,7 @@ use Rattle.sctp_serial.specs.Runs.{IsRun}
 use Rattle.sctp_serial.specs.Window.{IsSerial}
 use Rattle.sctp_delivery.proofs.Every.{Every, every-at}
 use Rattle.sctp_delivery.proofs.TsnPlaces.{before, next-place, same-place, tsn-small}
+use Rattle.sctp_delivery.proofs.Sessions.{neither}
 
 -- the chunk has the TSN of a place, from the lowest one on and among the first n
 abbrev pub IsPlaced : ℕ → ℕ → ℕ → ℕ → ChunkPayloadData → Type 0
@@ -32,10 +33,6 @@ Ascend p n low (c ∷ cs) = (k : ℕ) × IsPlaced p n low k c × Ascend p n (k +
 abbrev pub Covers : ℕ → ℕ → ℕ → List ChunkPayloadData → Type 0
 Covers p a b cs = (j : ℕ) → a ≤ j → j ≤ b → list_any (has_tsn (tsn p j)) cs ≡ true
 
-either-none : (b c : Bool) → (b || c) ≡ false → (b ≡ false) × (c ≡ false)
-either-none true c e = absurd (not_both (sym e))
-either-none false c e = (refl, e)
-
 module _ (p n : ℕ) (few : n < 2 ^ 31) where
   pub ascend-from : (low less : ℕ) (cs : List ChunkPayloadData) → less ≤ low → Ascend p n low cs → Ascend p n less cs
   ascend-from low less [] le a = tt
@@ -45,7 +42,7 @@ module _ (p n : ℕ) (few : n < 2 ^ 31) where
       → Ascend p n low cs → Ascend p n low (insert_before chunk_before x cs)
   ascend-inserted low k x [] at none a = (k, at, tt)
   ascend-inserted low k x (c ∷ cs) at none a = by (chunk_before x c) refl
-      (λ i. ascend-inserted (a.0 + 1) k x cs i (either-none (has_tsn x.tsn c) (list_any (has_tsn x.tsn) cs) none).1 a.2)
+      (λ i. ascend-inserted (a.0 + 1) k x cs i (neither (has_tsn x.tsn c) (list_any (has_tsn x.tsn) cs) none).1 a.2)
     where
       j : ℕ
       j = a.0
@@ -59,7 +56,7 @@ module _ (p n : ℕ) (few : n < 2 ^ 31) where
       other : k ≡ j → ⊥
       other e =
           let same : c.tsn ≡ x.tsn = a.1.2 ∙ ap (tsn p) (sym e) ∙ sym at.2 in
-          not_both (sym (either-none (has_tsn x.tsn c) (list_any (has_tsn x.tsn) cs) none).0 ∙ eq-eqb c.tsn x.tsn same)
+          not_both (sym (neither (has_tsn x.tsn c) (list_any (has_tsn x.tsn) cs) none).0 ∙ eq-eqb c.tsn x.tsn same)
 
       by : (b : Bool) → chunk_before x c ≡ b → (IsPlaced p n (a.0 + 1) k x → Ascend p n (a.0 + 1) (insert_before chunk_before x cs))
           → Ascend p n low (if b then x ∷ c ∷ cs else c ∷ insert_before chunk_before x cs)

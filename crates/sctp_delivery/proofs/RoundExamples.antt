@@ -36,8 +36,8 @@ use Rattle.sctp_delivery.specs.SenderCalls.{abandons, forwards, sends, writes}
 use Rattle.sctp_delivery.specs.Session.{ReceiverFollows, SenderFollows, Session, of_receiver, of_sender}
 use Rattle.sctp_delivery.specs.Refused.{MayMake, is_due_named}
 use Rattle.sctp_delivery.proofs.Every.{all-of-every}
-use Rattle.sctp_delivery.proofs.Examples.{first_chunk, receiving, in_flight, acks, after_chunk, after_send, by-receiver, by-sender, chunk, sack_of}
-use Rattle.sctp_delivery.proofs.Examples.{sending, writes-byte}
+use Rattle.sctp_delivery.proofs.Examples.{first_chunk, receiving, in_flight, acks, after_chunk, after_send, by-receiver, by-sender, chunk, sack_of, sending}
+use Rattle.sctp_delivery.proofs.Examples.{writes-byte}
 
 -- ## A message is abandoned
 

@@ -1,7 +1,7 @@
 -- What SACKs and FORWARD-TSNs say after every session in which fewer than 2^31 TSNs are given out.
 use Rattle.std.proofs.Common.{◌≡◌, ℕ, ◌+◌, ◌<◌, ◌≤◌, ◌%◌, ◌^◌, Bool, true, false, List, [], ◌∷◌, length, map, Option, refl, ap, sym, subst, ◌∙◌, inl, inr}
-use Rattle.std.proofs.Common.{arith, None}
-use Rattle.std.specs.Prelude.{if◌then◌else◌, ◌||◌, not, nat_le, nat_lt, All}
+use Rattle.std.proofs.Common.{arith, None, zero, suc, ◌++◌, take, drop, get_or, Some}
+use Rattle.std.specs.Prelude.{if◌then◌else◌, ◌||◌, not, nat_le, nat_lt, All, Contains}
 use Rattle.std.specs.List.{filter, list_any}
 use Rattle.std.proofs.lemmas.Bool.Decides.{nat_tests}
 use Rattle.sctp_util.specs.Serial.{distance, at_or_before, comes_before}
@@ -14,28 +14,44 @@ use Rattle.sctp_receiver.specs.declared.receiver.arrival.Arrival.TheVariants.{Ne
 use Rattle.sctp_receiver.specs.declared.receiver.limits.Limits.{Limits}
 use Rattle.sctp_receiver.specs.Receiver.{Reception}
 use Rattle.sctp_receiver.specs.ReceiverRuns.{Stand}
-use Rattle.sctp_serial.specs.DataChunks.{following_tsn, has_tsn}
+use Rattle.sctp_serial.specs.DataChunks.{following_tsn, has_tsn, chunk_before}
 use Rattle.sctp_sender.specs.Flight.{Flight, after_sack, is_outdated, is_whole, released_by, released_of, reports, reports_anew, sack_refusal, take_sack}
+use Rattle.sctp_sender.specs.Flight.{message_to_abandon}
 use Rattle.sctp_delivery.specs.ReceiverCalls as incoming
 use Rattle.sctp_delivery.specs.ReceiverCalls.{ReceiverCall}
 use Rattle.sctp_delivery.specs.Sacks.{AcknowledgedCame, AfterEachSessionOfFewTsns, AllReportedLeaves, EachSackTells, LeftCame, NextSackTells, NoneIsRefused}
-use Rattle.sctp_delivery.specs.Sacks.{NoneIsTakenTwice}
-use Rattle.sctp_delivery.specs.Sacks.{PassAbandoned, ReleasedCame, ReportWhatCame, is_reported, passes, reports_tsn, tsns_given, was_passed, was_taken}
+use Rattle.sctp_delivery.specs.Sacks.{NoneIsTakenTwice, PassAbandoned, ReleasedCame, ReportWhatCame, is_reported, passes, reports_tsn, tsns_given, was_passed}
+use Rattle.sctp_delivery.specs.Sacks.{was_taken, StaysAcknowledged}
 use Rattle.sctp_delivery.specs.SenderCalls.{SenderCall}
 use Rattle.sctp_delivery.specs.Session.{Call, ReceiverFollows, RunsTo, SenderFollows, Session, at_start, of_receiver, of_sender}
-use Rattle.sctp_delivery.proofs.Every.{Every, all-of-every, every-mapped, every-of, one-of}
-use Rattle.sctp_delivery.proofs.GivenTsns.{IsNumbered, taken-numbered}
-use Rattle.sctp_delivery.proofs.ArrivedCalls.{hears, more-arrived, tells}
+use Rattle.sctp_delivery.proofs.Every.{Every, all-of-every, every-mapped, every-of, one-of, every-changed, every-contained, every-inserted, every-joined}
+use Rattle.sctp_delivery.proofs.Every.{every-left, every-of-all, every-passing, every-taken, every-both, every-tested}
+use Rattle.sctp_delivery.proofs.GivenTsns.{IsNumbered, taken-numbered, flight-given, raises-abandoned}
+use Rattle.sctp_delivery.proofs.TakenCalls.{hears, more-arrived, tells, AreTaken, more-come, takes-once, IsInOrder, each-sack-tells, keeps-order}
+use Rattle.sctp_delivery.proofs.TakenCalls.{next-sack-tells}
 use Rattle.sctp_delivery.proofs.ArrivedTsns.{IsArrived}
-use Rattle.sctp_delivery.proofs.PassedTsns.{flight-given}
 use Rattle.sctp_delivery.proofs.ReportedTsns.{IsTruthful, later-truthful, not-refused, answered-known}
-use Rattle.sctp_delivery.proofs.SackMarks.{IsValidBut, came_in, stays-valid-with}
-use Rattle.sctp_delivery.proofs.SackSteps.{IsMadeGiven, known, known_or, made-given, moves, none_dropped}
-use Rattle.sctp_delivery.proofs.Sessions.{more-made, or-more}
+use Rattle.sctp_delivery.proofs.SackSteps.{IsValidBut, came_in, stays-valid-with, IsMadeGiven, known, known_or, made-given, moves, none_dropped, flight_of}
+use Rattle.sctp_delivery.proofs.SackSteps.{message-inflight}
+use Rattle.sctp_delivery.proofs.Sessions.{more-made}
 use Rattle.sctp_delivery.proofs.ValidMarks.{IsRight, IsValid, came-of, more-taken}
-use Rattle.sctp_delivery.proofs.TakenCalls.{AreTaken, more-come, takes-once}
-use Rattle.sctp_delivery.proofs.AnsweredCalls.{IsInOrder, each-sack-tells, keeps-order, next-sack-tells}
-use Rattle.sctp_delivery.proofs.TsnPlaces.{IsGiven, at-or-before, base, before, first-is, next-place, past-first, same-place}
+use Rattle.sctp_delivery.proofs.TsnPlaces.{IsGiven, at-or-before, base, before, first-is, next-place, past-first, same-place, tsn-small}
+use Rattle.sctp_util.specs.Lists.{change_where}
+use Rattle.sctp_outbound.specs.Marks.{as_abandoned, as_acknowledged, is_of}
+use Rattle.sctp_outbound.specs.outbound_queue.OutboundQueue.{Outbound, abandoned_of, all_started, as_sent, sent_next, sent_of, terminal_chunk}
+use Rattle.sctp_outbound.specs.outbound_queue.OutboundQueue.{with_terminal_chunk}
+use Rattle.sctp_outbound.specs.payload_queue.PayloadQueue as payload
+use Rattle.sctp_outbound.specs.pending_queue.PendingQueue.{last_removed, next_pending}
+use Rattle.sctp_sender.specs.Late.{abandoned_at, abandoned_each}
+use Rattle.sctp_sender.specs.Outgoing.{fragments_with_mode}
+use Rattle.sctp_sender.specs.Resending.{can_miss, missed}
+use Rattle.sctp_sender.specs.Sender.{Transmission}
+use Rattle.sctp_sender.proofs.Flights.{started-inflight}
+use Rattle.sctp_sender.proofs.Runs.{tsn-at}
+use Rattle.sctp_delivery.specs.SenderCalls as outgoing
+use Rattle.sctp_delivery.proofs.Changes.{Change, all_start, acknowledges, changes, each_leaves, flight_after, front_expires, more_room, nothing, one_leaves}
+use Rattle.sctp_delivery.proofs.Changes.{some_marked, some_missed}
+use Rattle.sctp_delivery.proofs.Writing.{accepted-stream}
 
 -- after n TSNs were given out nobody speaks of another; those that the receiver drops are among these
 pub record IsInStepBut (dropped : ℕ → Bool) (p n : ℕ) (s : Session) : Type 0 where
@@ -154,7 +170,7 @@ sender-step p n call old new few f i = sender-step-but none_dropped p n old new 
 -- what was taken stays so
 pub more-accepted : (call : ReceiverCall) (old new : Session) → ReceiverFollows call old new → (t : ℕ) → was_taken t old ≡ true → was_taken t new ≡ true
 more-accepted (incoming.takes c Repeat) old new f t e = ap (list_any (has_tsn t)) f.step.accepted ∙ e
-more-accepted (incoming.takes c (New answered)) old new f t e = ap (list_any (has_tsn t)) f.step.accepted ∙ or-more (has_tsn t c) (was_taken t old) e
+more-accepted (incoming.takes c (New answered)) old new f t e = ap (list_any (has_tsn t)) f.step.accepted ∙ or-right (has_tsn t c) (was_taken t old) e
 more-accepted call old new f t e = ap (list_any (has_tsn t)) f.step.accepted ∙ e
 
 pub receiver-step-but : (dropped : ℕ → Bool) (p n : ℕ) (call : ReceiverCall) (old new : Session) → n < 2 ^ 31 → ReceiverFollows call old new
@@ -290,24 +306,21 @@ pub came-so : (dropped : ℕ → Bool) (p n : ℕ) (s : Session) → n < 2 ^ 31 
 came-so dropped p n s few i =
     let cs = s.sending.sender.flight.queue.inflight.chunks in
     all-of-every (λ (c : ChunkPayloadData). is_reported s c ≡ true → (came_in dropped s c.tsn || c.abandoned) ≡ true) cs
-    (each cs (flight-given p n s.sending.sender.flight i.numbered) i.valid.inflight)
+    (every-both (λ c. IsGiven p n c.tsn) (IsRight (came_in dropped s) (λ t. was_passed t s))
+    (λ c. is_reported s c ≡ true → (came_in dropped s c.tsn || c.abandoned) ≡ true) each cs (flight-given p n s.sending.sender.flight i.numbered)
+    i.valid.inflight)
   where
     answered : (c : ChunkPayloadData) → IsGiven p n c.tsn → list_any (λ k. reports k c) s.sacks ≡ true → known_or dropped s c.tsn ≡ true
     answered c g e =
         let one = one-of (IsTruthful p n (known_or dropped s)) (λ k. reports k c) s.sacks e i.sacks in
         answered-of (known_or dropped s) p n few one.0 one.2 c g one.1
 
-    each : (cs : List ChunkPayloadData) → Every (λ (c : ChunkPayloadData). IsGiven p n c.tsn) cs → Every
-        (IsRight (came_in dropped s) (λ t. was_passed t s)) cs → Every
-        (λ (c : ChunkPayloadData). is_reported s c ≡ true → (came_in dropped s c.tsn || c.abandoned) ≡ true) cs
-    each [] g r = tt
-    each (c ∷ cs) g r = (
-      λ e. elim (or-split c.acked (list_any (λ k. reports k c) s.sacks) e) [
-        | inl a ↦ r.0.came a
-        | inr a ↦ came-of (came_in dropped s) (λ t. was_passed t s) c r.0 (answered c g.0 a)
-      ],
-      each cs g.1 r.1,
-    )
+    each : (c : ChunkPayloadData) → IsGiven p n c.tsn → IsRight (came_in dropped s) (λ t. was_passed t s) c → is_reported s c ≡ true
+        → (came_in dropped s c.tsn || c.abandoned) ≡ true
+    each c g r e = elim (or-split c.acked (list_any (λ k. reports k c) s.sacks) e) [
+      | inl a ↦ r.came a
+      | inr a ↦ came-of (came_in dropped s) (λ t. was_passed t s) c r (answered c g a)
+    ]
 
 pub came : (p n : ℕ) (s : Session) → n < 2 ^ 31 → IsInStep p n s → AcknowledgedCame s
 came p n s few i = came-so none_dropped p n s few i
@@ -329,14 +342,6 @@ pass-abandoned first size max most limits cs s run small few =
     (in-step first size max most limits cs s run small few)
 
 -- ## What is released
-
-filtered : {A : Type 0} (q : A → Bool) (Q : A → Type 0) (xs : List A) → Every (λ x. q x ≡ true → Q x) xs → Every Q (filter q xs)
-filtered q Q [] e = tt
-filtered q Q (x ∷ xs) e = by (q x) refl (filtered q Q xs e.1)
-  where
-    by : (b : Bool) → q x ≡ b → Every Q (filter q xs) → Every Q (if b then x ∷ filter q xs else filter q xs)
-    by true h ih = (e.0 h, ih)
-    by false h ih = ih
 
 -- a chunk with bytes came
 abbrev HasCome : (ℕ → Bool) → Session → ChunkPayloadData → Type 0
@@ -362,8 +367,9 @@ released dropped p n s few i =
 
     each : (k : Sack) → IsTruthful p n (known_or dropped s) k → (cs : List ChunkPayloadData) → Every (λ (c : ChunkPayloadData). IsGiven p n c.tsn) cs → Every
         (IsRight (came_in dropped s) (λ t. was_passed t s)) cs → Every (λ (c : ChunkPayloadData). reports_anew k c ≡ true → HasCome dropped s c) cs
-    each k t [] g r = tt
-    each k t (c ∷ cs) g r = (λ e. one k t c g.0 r.0 e, each k t cs g.1 r.1)
+    each k t cs g r =
+        every-both (λ c. IsGiven p n c.tsn) (IsRight (came_in dropped s) (λ u. was_passed u s)) (λ c. reports_anew k c ≡ true → HasCome dropped s c)
+        (one k t) cs g r
 
     of-sack : (k : Sack) → IsTruthful p n (known_or dropped s) k
         → All (λ r. 0 < r.bytes → came_in dropped s r.tsn ≡ true) (released_by k s.sending.sender.flight)
@@ -377,7 +383,7 @@ released dropped p n s few i =
             let w = is_whole k s.sending.sender.flight in
             all-of-every (λ r. 0 < r.bytes → came_in dropped s r.tsn ≡ true) (map (released_of w) (filter (reports_anew k) cs))
             (every-mapped (HasCome dropped s) (λ r. 0 < r.bytes → came_in dropped s r.tsn ≡ true) (released_of w) (λ c h. h) (filter (reports_anew k) cs)
-            (filtered (reports_anew k) (HasCome dropped s) cs (each k t cs (flight-given p n s.sending.sender.flight i.numbered) i.valid.inflight)))
+            (every-tested (HasCome dropped s) (reports_anew k) cs (each k t cs (flight-given p n s.sending.sender.flight i.numbered) i.valid.inflight)))
 
 pub all-released-came : AfterEachSessionOfFewTsns (λ first count s. ReleasedCame s)
 all-released-came first size max most limits cs s run small few =
@@ -403,7 +409,7 @@ each-tells first size max most limits cs s run small few =
 
 -- ## Nothing is left
 
-none-of : (cs : List ChunkPayloadData) → length cs ≡ 0 → cs ≡ []
+pub none-of : (cs : List ChunkPayloadData) → length cs ≡ 0 → cs ≡ []
 none-of [] e = refl
 none-of (c ∷ cs) e = absurd (omega (arith, e))
 
@@ -445,3 +451,176 @@ pub all-reported-leaves : AfterEachSessionOfFewTsns (λ first count s. AllReport
 all-reported-leaves first size max most limits cs s run small few =
     reported-leaves none_dropped (base first) (tsns_given (at_start first size max most limits) cs s run) s few
     (in-step first size max most limits cs s run small few)
+
+-- # A chunk in flight that is acknowledged stays so while it is in flight (RFC 4960 6.2.1): marks keep it so, and a further chunk has a TSN of
+-- its own
+
+-- ## Of chunks that were in flight
+
+module _ (xs : List ChunkPayloadData) where
+  -- acknowledged where one of them with its TSN was
+  abbrev pub StaysSo : ChunkPayloadData → Type 0
+  StaysSo d = (c : ChunkPayloadData) → Contains xs c → c.tsn ≡ d.tsn → c.acked ≡ true → d.acked ≡ true
+
+  abbrev pub AllStaySo : Outbound → Type 0
+  AllStaySo q = Every StaysSo q.inflight.chunks
+
+  -- none of them has the TSN
+  abbrev pub IsUnused : ℕ → Type 0
+  IsUnused t = (c : ChunkPayloadData) → Contains xs c → c.tsn ≡ t → ⊥
+
+  changed : (p : ChunkPayloadData → Bool) (f : ChunkPayloadData → ChunkPayloadData) → ((c : ChunkPayloadData) → (f c).tsn ≡ c.tsn)
+      → ((c : ChunkPayloadData) → c.acked ≡ true → (f c).acked ≡ true) → (cs : List ChunkPayloadData) → Every StaysSo cs
+      → Every StaysSo (change_where p f cs)
+  changed p f same keep cs s = every-changed StaysSo p f (λ x h so c i e a. keep x (so c i (e ∙ same x) a)) cs s
+
+  sent-of : (o : Option ChunkPayloadData) (q : Outbound) (tsn now : ℕ) → IsUnused tsn → AllStaySo q → AllStaySo (sent_of o q tsn now)
+  sent-of None q tsn now new s = s
+  sent-of (Some x) q tsn now new s =
+      every-inserted StaysSo chunk_before (as_sent tsn now x) q.inflight.chunks (λ c i e a. absurd (new c i e)) s
+
+  sent : (q : Outbound) (tsn now : ℕ) → IsUnused tsn → AllStaySo q → AllStaySo (sent_next q tsn now)
+  sent q tsn now new s =
+      sent-of (next_pending (all_started now q).pending) (all_started now q) tsn now new
+      (subst (λ (w : payload.Payload). Every StaysSo w.chunks) (sym (started-inflight now q)) s)
+
+  abandoned : (o : Option ℕ) (tsn : ℕ) (q : Outbound) → IsUnused tsn → AllStaySo q → AllStaySo (abandoned_of o tsn q)
+  abandoned None tsn q new s = s
+  abandoned (Some m) tsn q new s = by (last_removed m q.pending)
+    where
+      left : Every StaysSo (change_where (is_of m) as_abandoned q.inflight.chunks)
+      left = changed (is_of m) as_abandoned (λ c. refl) (λ c a. a) q.inflight.chunks s
+
+      by : (o : Option ChunkPayloadData) → Every StaysSo (with_terminal_chunk o tsn
+          (payload.with_chunks q.inflight (change_where (is_of m) as_abandoned q.inflight.chunks))).chunks
+      by None = left
+      by (Some x) = every-inserted StaysSo chunk_before (terminal_chunk tsn x) (change_where (is_of m) as_abandoned q.inflight.chunks)
+          (λ c i e a. absurd (new c i e)) left
+
+  missed-stay : (count : ℕ) (cs : List ChunkPayloadData) → Every StaysSo cs → Every StaysSo (change_where can_miss missed (take count cs) ++ drop count cs)
+  missed-stay count cs s =
+      every-joined StaysSo (change_where can_miss missed (take count cs)) (drop count cs)
+      (changed can_miss missed (λ c. refl) (λ c a. a) (take count cs) (every-taken StaysSo count cs s)) (every-left StaysSo count cs s)
+
+  acknowledged : (k : Sack) (f : Flight) → AllStaySo f.queue → AllStaySo (after_sack k f).queue
+  acknowledged k f s = by (is_outdated k f)
+    where
+      by : (b : Bool) → AllStaySo (if b then f else take_sack k f).queue
+      by true = s
+      by false =
+          every-passing StaysSo (λ c. not (at_or_before c.tsn k.cumulative_tsn_ack)) (change_where (reports_anew k) as_acknowledged f.queue.inflight.chunks)
+          (changed (reports_anew k) as_acknowledged (λ c. refl) (λ c a. refl) f.queue.inflight.chunks s)
+
+  -- ## Where they are the first n
+
+  module _ (p n : ℕ) (given : Every (λ (c : ChunkPayloadData). IsGiven p n c.tsn) xs) where
+    unused : (k t : ℕ) → n < k → k < 2 ^ 32 → t ≡ tsn p k → IsUnused t
+    unused k t past fits is c i e =
+        let g = every-contained (λ (d : ChunkPayloadData). IsGiven p n d.tsn) xs c i given in
+        let within = g.within in
+        let same = same-place p g.place k (omega (arith, within, past, fits)) fits (sym g.is ∙ e ∙ is) in
+        omega (arith, within, past, same)
+
+    abandoned-each : (ts : List ℕ) (f : Flight) (k : ℕ) → n < k → k + length ts ≤ 2 ^ 32 → f.next_tsn ≡ tsn p k → AllStaySo f.queue
+        → AllStaySo (abandoned_each ts f).queue
+    abandoned-each [] f k past fits is s = s
+    abandoned-each (t ∷ ts) f k past fits is s =
+        let r = raises-abandoned p 1 (message_to_abandon t f) f (omega arith) in
+        let few = r.few in
+        abandoned-each ts (abandoned_at t f) (k + r.count) (omega (arith, past)) (omega (arith, fits, few)) (r.next k is)
+        (abandoned (message_to_abandon t f) f.next_tsn f.queue (unused k f.next_tsn past (omega (arith, fits)) is) s)
+
+-- ## One TSN is one chunk
+
+same-chunk : (p n : ℕ) (f : Flight) → n < 2 ^ 31 → IsNumbered p n f → (i j : ℕ) (c d : ChunkPayloadData) → i < length f.queue.inflight.chunks
+    → j < length f.queue.inflight.chunks → (get_or f.queue.inflight.chunks i c).tsn ≡ (get_or f.queue.inflight.chunks j d).tsn → i ≡ j
+same-chunk p n f few h i j c d lt less e =
+    let first = tsn p (h.acked + 1) in
+    let small = tsn-small p (h.acked + 1) in
+    let a = tsn-at f.queue.inflight.chunks first i c small h.run lt in
+    let b = tsn-at f.queue.inflight.chunks first j d small h.run less in
+    let total = h.total in
+    omega (arith, a, b, e, total, few, lt, less, small)
+
+get-same : {A : Type 0} (xs : List A) (k : ℕ) (c d : A) → k < length xs → get_or xs k d ≡ get_or xs k c
+get-same [] k c d lt = absurd (omega (arith, lt))
+get-same (x ∷ xs) zero c d lt = refl
+get-same (x ∷ xs) (suc k) c d lt = get-same xs k c d (omega (arith, lt))
+
+at-first : (p n : ℕ) (f : Flight) → n < 2 ^ 31 → IsNumbered p n f → Every (StaysSo f.queue.inflight.chunks) f.queue.inflight.chunks
+at-first p n f few h = every-of-all (StaysSo f.queue.inflight.chunks) f.queue.inflight.chunks one
+  where
+    one : (j : ℕ) (d : ChunkPayloadData) → j < length f.queue.inflight.chunks → StaysSo f.queue.inflight.chunks (get_or f.queue.inflight.chunks j d)
+    one j d lt c i e a =
+        let cs = f.queue.inflight.chunks in
+        let at : get_or cs i.0 c ≡ c = i.2 in
+        let same = same-chunk p n f few h i.0 j c d i.1 lt (ap (λ (x : ChunkPayloadData). x.tsn) at ∙ e) in
+        let is : get_or cs j d ≡ c = get-same cs j c d lt ∙ ap (λ k. get_or cs k c) (sym same) ∙ at in
+        ap (λ (x : ChunkPayloadData). x.acked) is ∙ a
+
+-- ## A call of the sender
+
+module _ (p n : ℕ) (old new : Session) (few : n < 2 ^ 31) (h : IsNumbered p n old.sending.sender.flight) where
+  abbrev Stay : Type 0
+  Stay = AllStaySo (flight_of old).queue.inflight.chunks (flight_of new).queue
+
+  first : AllStaySo (flight_of old).queue.inflight.chunks (flight_of old).queue
+  first = at-first p n (flight_of old) few h
+
+  given : Every (λ (c : ChunkPayloadData). IsGiven p n c.tsn) (flight_of old).queue.inflight.chunks
+  given = flight-given p n (flight_of old) h
+
+  next : IsUnused (flight_of old).queue.inflight.chunks (flight_of old).next_tsn
+  next = unused (flight_of old).queue.inflight.chunks p n given (n + 1) (flight_of old).next_tsn (omega arith) (omega (arith, few)) h.next_is
+
+  stay-to : (t : Transmission) → new.sending.sender ≡ t → AllStaySo (flight_of old).queue.inflight.chunks t.flight.queue → Stay
+  stay-to t e s = subst (λ (u : Transmission). AllStaySo (flight_of old).queue.inflight.chunks u.flight.queue) (sym e) s
+
+  each : (ts : List ℕ) → length ts ≤ 1 + length (flight_of old).queue.inflight.chunks
+      → AllStaySo (flight_of old).queue.inflight.chunks (abandoned_each ts (flight_of old)).queue
+  each ts short =
+      let total = h.total in
+      abandoned-each (flight_of old).queue.inflight.chunks p n given ts (flight_of old) (n + 1) (omega arith) (omega (arith, few, short, total)) h.next_is first
+
+  changed-by : (call : SenderCall) (c : Change call old.sending.sender)
+      → AllStaySo (flight_of old).queue.inflight.chunks (flight_after call old.sending.sender c).queue
+  changed-by call nothing = first
+  changed-by call (all_start now) =
+      subst (λ (w : payload.Payload). Every (StaysSo (flight_of old).queue.inflight.chunks) w.chunks) (sym (started-inflight now (flight_of old).queue)) first
+  changed-by call (more_room count) = first
+  changed-by call (some_marked p f k) =
+      changed (flight_of old).queue.inflight.chunks p f (λ c. ap (λ (d : ChunkPayloadData). d.tsn) (k c))
+      (λ c a. ap (λ (d : ChunkPayloadData). d.acked) (k c) ∙ a) (flight_of old).queue.inflight.chunks first
+  changed-by call (some_missed count) = missed-stay (flight_of old).queue.inflight.chunks count (flight_of old).queue.inflight.chunks first
+  changed-by call (one_leaves o e found) =
+      abandoned (flight_of old).queue.inflight.chunks o (flight_of old).next_tsn (flight_of old).queue next first
+  changed-by call (each_leaves ts short e) = each ts short
+  changed-by call (front_expires now c found e) = first
+  changed-by call (acknowledges k gone e) = acknowledged (flight_of old).queue.inflight.chunks k (flight_of old) first
+
+  stay : (call : SenderCall) → SenderFollows call old new → Stay
+  stay (outgoing.writes stream ppi (b ∷ bs)) f =
+      let l = accepted-stream stream (length (b ∷ bs)) old.sending.sender f.accepted in
+      stay-to _ (f.exact.1 (omega arith) l.0 l.1)
+      (subst (λ (w : payload.Payload). Every (StaysSo (flight_of old).queue.inflight.chunks) w.chunks)
+      (sym (message-inflight (fragments_with_mode l.0 ppi (b ∷ bs)) (flight_of old).queue)) first)
+  stay (outgoing.sends now) f =
+      stay-to _ f.exact (sent (flight_of old).queue.inflight.chunks (flight_of old).queue (flight_of old).next_tsn now next first)
+  stay call f =
+      let x = changes old.sending.sender new.sending.sender call refl f.step.sender f.exact in
+      subst (λ (g : Flight). AllStaySo (flight_of old).queue.inflight.chunks g.queue) (sym x.flight) (changed-by call x.change)
+
+-- ## The law
+
+pub kept : (p n : ℕ) (s : Session) → n < 2 ^ 31 → IsNumbered p n s.sending.sender.flight → StaysAcknowledged s
+kept p n s few h (of_sender call) t f c d i j e a =
+    every-contained (StaysSo (flight_of s).queue.inflight.chunks) (flight_of t).queue.inflight.chunks d j (stay p n s t few h call f) c i e a
+kept p n s few h (of_receiver call) t f c d i j e a =
+    let same : flight_of t ≡ flight_of s = ap (λ (u : Session). flight_of u) f.after in
+    every-contained (StaysSo (flight_of s).queue.inflight.chunks) (flight_of t).queue.inflight.chunks d j
+    (subst (λ (g : Flight). Every (StaysSo (flight_of s).queue.inflight.chunks) g.queue.inflight.chunks) (sym same) (at-first p n (flight_of s) few h)) c i e a
+
+pub stays-acknowledged : AfterEachSessionOfFewTsns (λ first count s. StaysAcknowledged s)
+stays-acknowledged first size max most limits cs s run small few =
+    let i : IsInStep (base first) (tsns_given (at_start first size max most limits) cs s run) s = in-step first size max most limits cs s run small few in
+    kept (base first) (tsns_given (at_start first size max most limits) cs s run) s few i.numbered

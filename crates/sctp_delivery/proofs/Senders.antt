@@ -23,13 +23,14 @@ use Rattle.sctp_sender.specs.Sender.{Transmission, after_abandon, after_acked, w
 use Rattle.sctp_sender.proofs.InLine.{found-partial}
 use Rattle.sctp_stream.specs.declared.stream.StreamState.{StreamState}
 use Rattle.sctp_delivery.specs.SenderCalls.{Made, data_chunk, forward_tsn, next_chunk, with_chunk}
-use Rattle.sctp_delivery.proofs.InFlight.{KeepsData, acknowledged-keeps, known-changed, known-part-changed, known-those}
+use Rattle.sctp_delivery.proofs.InFlight.{KeepsData, acknowledged-keeps, known-changed, known-part-changed, IsKnown}
 use Rattle.sctp_delivery.proofs.Numbers.{AreOpen, AreSized, IsSteady, all-open, number_of, steady-left, steady-less, steady-released, steady-same}
-use Rattle.sctp_delivery.proofs.OrderedNames.{AreNamed, named-more}
+use Rattle.sctp_delivery.proofs.OrderedRest.{AreNamed, named-more}
 use Rattle.sctp_delivery.proofs.Queues.{sends as sends-one, Abandons, IsEnded, IsOnceMore, Stands, abandoned, abandons-then, marked, no-abandons, once-ended}
 use Rattle.sctp_delivery.proofs.Queues.{refilled, started}
 use Rattle.sctp_delivery.proofs.Sent.{Entry, Numbered, WasSent, fragment, sent-more}
 use Rattle.sctp_delivery.proofs.Turns.{Turns}
+use Rattle.sctp_delivery.proofs.Every.{every-passing}
 
 -- a sender, where these were written, and these entries got TSNs from the first one on
 pub record IsHeld (ws : List Numbered) (first : ℕ) (t : Transmission) (sent : List Entry) : Type 0 where
@@ -156,7 +157,7 @@ acked ws first t sent s h =
     stands false =
         refilled ws first (λ r. number_of r t.streams) t.flight.queue t.flight.next_tsn sent
         (past s.cumulative_tsn_ack (change_where (reports_anew s) as_acknowledged t.flight.queue.inflight.chunks)) fewer
-        (known-those first sent _ (change_where (reports_anew s) as_acknowledged t.flight.queue.inflight.chunks)
+        (every-passing (IsKnown first sent) _ (change_where (reports_anew s) as_acknowledged t.flight.queue.inflight.chunks)
         (known-changed first sent (reports_anew s) as_acknowledged acknowledged-keeps t.flight.queue.inflight.chunks h.stands.known))
         h.stands
 

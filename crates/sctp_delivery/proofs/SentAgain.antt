@@ -1,6 +1,6 @@
 -- What is in flight can be sent again, unless it came or is abandoned.
-use Rattle.std.proofs.Common.{◌≡◌, ℕ, ◌+◌, ◌^◌, ◌<◌, Bool, true, false, length, get_or, Some, refl, ap, sym, ◌∙◌, arith}
-use Rattle.std.specs.Prelude.{◌&&◌, ◌||◌, not, find}
+use Rattle.std.proofs.Common.{◌≡◌, ℕ, ◌+◌, ◌^◌, ◌<◌, Bool, true, false, length, get_or, Some, refl, ap, sym, ◌∙◌, arith, Result, Ok, Err}
+use Rattle.std.specs.Prelude.{◌&&◌, ◌||◌, not, find, OnOk}
 use Rattle.sctp_util.proofs.Cases.{or-left, or-right}
 use Rattle.sctp_util.proofs.More.{not_both}
 use Rattle.sctp_data.specs.declared.chunk.chunk_payload_data.ChunkPayloadData.{ChunkPayloadData}
@@ -14,6 +14,9 @@ use Rattle.sctp_delivery.specs.Sacks.{AfterEachSessionOfFewTsns, AcknowledgedCam
 use Rattle.sctp_delivery.specs.Session.{Session, at_start}
 use Rattle.sctp_delivery.proofs.SackLaws.{IsInStep, acknowledged-came, in-step}
 use Rattle.sctp_delivery.proofs.TsnPlaces.{base, tsn-small}
+use Rattle.sctp_sender.specs.Resending.{next_within, resent_at}
+use Rattle.sctp_sender.specs.Sender.{Transmission, with_flight}
+use Rattle.sctp_delivery.specs.SenderCalls.{SenderMakes, resends}
 
 -- the chunk at a place is the first with its TSN
 pub found-in : (p n : ℕ) (s : Session) → n < 2 ^ 31 → IsInStep p n s → (k : ℕ) (d : ChunkPayloadData) → k < length (in_flight s)
@@ -47,3 +50,13 @@ pub all-go-on : AfterEachSessionOfFewTsns (λ first count s. EachCanGoOn s)
 all-go-on first size max most limits cs s run small few k d lt =
     goes-on (base first) (tsns_given (at_start first size max most limits) cs s run) s few (in-step first size max most limits cs s run small few)
     (acknowledged-came first size max most limits cs s run small few) k d lt (is_outstanding (get_or (in_flight s) k d)) refl
+
+-- # What `resend_next` sends, as the call of a session that sends a chunk again
+
+pub resent : {V E : Type 0} (now room : ℕ) (old new : Transmission) (a : Result V E)
+    → OnOk a ((c : ChunkPayloadData) → next_within room old.flight ≡ Some c → new ≡ with_flight (resent_at c.tsn now c old.flight) old)
+    → ((c : ChunkPayloadData) → next_within room old.flight ≡ Some c
+    → (find (has_tsn c.tsn) old.flight.queue.inflight.chunks ≡ Some c) × (can_resend c.tsn old.flight ≡ true))
+    → OnOk a ((c : ChunkPayloadData) → next_within room old.flight ≡ Some c → SenderMakes (resends c.tsn now c) old new)
+resent now room old new (Ok v) made marked = λ c e. let m = marked c e in (made c e, (tt, ((m.1, m.0), tt)))
+resent now room old new (Err x) made marked = tt

@@ -1,11 +1,11 @@
 -- What holds of every session of two hosts.
 use Rattle.std.proofs.Common.{◌≡◌, ℕ, ◌+◌, Bool, true, false, List, [], ◌∷◌, ◌++◌, length, Option, Some, None, refl, ap, sym, ◌∙◌, arith, subst}
-use Rattle.std.specs.Prelude.{◌==◌, ◌||◌, if◌then◌else◌, All, Contains, slice_index_or}
+use Rattle.std.specs.Prelude.{◌==◌, ◌||◌, if◌then◌else◌, All, Contains, slice_index_or, not}
 use Rattle.std.specs.List.{list_all, list_any, sum_by, filter}
 use Rattle.std.proofs.lemmas.List.Folds.{list_any_at, Any-from_list_any}
 use Rattle.std.proofs.lemmas.List.Sums.{sum_by-cons, sum_by-append, AllPass-from_list_all}
-use Rattle.sctp_util.proofs.Cases.{same-yes}
-use Rattle.sctp_util.proofs.More.{and, both}
+use Rattle.sctp_util.proofs.Cases.{same-yes, or-right}
+use Rattle.sctp_util.proofs.More.{and, both, not_both}
 use Rattle.sctp_data.specs.declared.chunk.chunk_payload_data.ChunkPayloadData.{ChunkPayloadData}
 use Rattle.sctp_data.specs.PayloadData.{Data, data_of}
 use Rattle.sctp_receiver.specs.declared.receiver.arrival.Arrival.TheVariants.{New, Repeat}
@@ -113,9 +113,13 @@ every : {A : Type 0} (p q : A → Bool) → ((x : A) → p x ≡ true → q x �
 every p q h [] e = refl
 every p q h (x ∷ xs) e = let b = both (p x) (list_all p xs) e in and (q x) (list_all q xs) (h x b.0) (every p q h xs b.1)
 
-pub or-more : (a b : Bool) → b ≡ true → (a || b) ≡ true
-or-more true b e = refl
-or-more false b e = e
+pub neither : (a b : Bool) → (a || b) ≡ false → (a ≡ false) × (b ≡ false)
+neither true b e = absurd (not_both (sym e))
+neither false b e = (refl, e)
+
+pub unnot : (b : Bool) → not b ≡ false → b ≡ true
+unnot true e = refl
+unnot false e = absurd (not_both (sym e))
 
 -- 1 where the test fails
 abbrev pub fails : (ChunkPayloadData → Bool) → ChunkPayloadData → ℕ
@@ -183,10 +187,10 @@ more-made p (sends now) t ms e = by (next_chunk now t)
   where
     by : (o : Option ChunkPayloadData) → list_any p (with_chunk o ms) ≡ true
     by None = e
-    by (Some c) = or-more (p (data_chunk (data_of c))) (list_any p ms) e
-more-made p (resends tsn now c) t ms e = or-more _ _ e
-more-made p (forwards tsn f) t ms e = or-more (p (forward_tsn f)) (list_any p ms) e
-more-made p (forwards_within bytes f) t ms e = or-more (p (forward_tsn f)) (list_any p ms) e
+    by (Some c) = or-right (p (data_chunk (data_of c))) (list_any p ms) e
+more-made p (resends tsn now c) t ms e = or-right _ _ e
+more-made p (forwards tsn f) t ms e = or-right (p (forward_tsn f)) (list_any p ms) e
+more-made p (forwards_within bytes f) t ms e = or-right (p (forward_tsn f)) (list_any p ms) e
 more-made p call t ms e = e
 
 -- each chunk that was taken was made

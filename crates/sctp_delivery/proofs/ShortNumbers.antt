@@ -1,14 +1,12 @@
 -- Stream sequence numbers are numbers of 16 bits, in every reliable session: those of the streams, of what waits, of what is in flight,
 -- and of each DATA chunk that was made.
-use Rattle.std.proofs.Common.{◌≡◌, ℕ, ◌+◌, ◌%◌, ◌^◌, ◌<◌, Bool, true, false, List, [], ◌∷◌, length, Option, Some, None, refl, sym, subst}
-use Rattle.std.proofs.Common.{arith}
+use Rattle.std.proofs.Common.{◌≡◌, ℕ, ◌+◌, ◌%◌, ◌^◌, ◌<◌, Bool, true, false, List, [], ◌∷◌, length, Option, Some, None, refl, sym, subst, arith, ap}
 use Rattle.std.specs.Prelude.{⊤, ◌&&◌, if◌then◌else◌, nat_lt, option_map}
 use Rattle.sctp_util.specs.Lists.{change_where}
 use Rattle.sctp_util.proofs.More.{not_both}
 use Rattle.sctp_data.specs.declared.chunk.chunk_payload_data.ChunkPayloadData.{ChunkPayloadData}
 use Rattle.sctp_data.specs.declared.chunk.chunk_payload_data.PayloadProtocolIdentifier.{PayloadProtocolIdentifier}
 use Rattle.sctp_data.specs.PayloadTypes.{is_ordered}
-use Rattle.sctp_outbound.specs.Marks.{is_outstanding, with_retransmit}
 use Rattle.sctp_outbound.specs.outbound_queue.OutboundQueue.{Outbound, all_started, as_sent}
 use Rattle.sctp_outbound.specs.pending_queue.PendingQueue.{next_pending}
 use Rattle.sctp_serial.specs.DataChunks.{has_tsn}
@@ -16,16 +14,15 @@ use Rattle.sctp_stream.specs.declared.stream.StreamState.{StreamState}
 use Rattle.sctp_sender.specs.declared.sender.flight.Released.{Released}
 use Rattle.sctp_sender.specs.Flight.{released_by}
 use Rattle.sctp_sender.specs.Outgoing.{after_releases, fragments_with_mode, has_number, less_by, with_low, with_mode, with_size, wrote}
-use Rattle.sctp_sender.specs.Resending.{count_again, sent_again}
 use Rattle.sctp_sender.specs.Sender.{Transmission}
 use Rattle.sctp_sender.specs.SenderRuns.{Makes}
 use Rattle.sctp_delivery.specs.Complete.{is_reliable_at_sender}
 use Rattle.sctp_delivery.specs.SenderCalls as outgoing
 use Rattle.sctp_delivery.specs.SenderCalls.{IsAccepted, Made, MakesExactly, SenderCall, as_run, data_chunk, forward_tsn, made_after, with_chunk}
-use Rattle.sctp_delivery.proofs.Every.{Every, every-changed, every-found, every-joined}
-use Rattle.sctp_delivery.proofs.QueueChunks.{EachIs, each-fragment, marked, missed-some, peeked, pushed, sacked, sent, started}
+use Rattle.sctp_delivery.proofs.Every.{Every, every-changed, every-found, every-joined, every-mapped}
+use Rattle.sctp_delivery.proofs.QueueChunks.{EachIs, each-fragment, peeked, pushed, started}
 use Rattle.sctp_delivery.proofs.Writing.{accepted-stream}
-use Rattle.sctp_delivery.proofs.Every.{every-mapped}
+use Rattle.sctp_delivery.proofs.Changes.{Keeps, each-call, is_write}
 
 -- the number is one of 16 bits
 abbrev pub IsShort : ChunkPayloadData → Type 0
@@ -71,25 +68,40 @@ releases-short (r ∷ rs) ls s = releases-short rs (change_where (has_number r.s
 -- ## The calls
 
 module _ (t u : Transmission) (s : AreShort t) where
-  to : (v : Transmission) → u ≡ v → AreShort v → AreShort u
-  to v e k = subst AreShort (sym e) k
+  keeps : Keeps IsShort IsShort t
+  keeps = record {
+    start = λ now c i. i;
+    lower = λ c i. omega arith;
+    put = λ now c i. i;
+    mark = λ f k c i. subst (λ n. n < 2 ^ 16) (sym (ap (λ (d : ChunkPayloadData). d.stream_sequence_number) (k c))) i;
+    leave = λ c i. i;
+    end' = λ tsn c i. i;
+    acknowledge = λ c i. i;
+  }
+
+  -- by a call that writes nothing, where the streams are so
+  unwritten : (call : SenderCall) → is_write call ≡ false → Makes (as_run call) t u → MakesExactly call t u → (v : Transmission) → u ≡ v
+      → Every IsShortOn v.streams → AreShort u
+  unwritten call o m x v e k = record {
+    streams = subst (λ (w : Transmission). Every IsShortOn w.streams) (sym e) k;
+    queue = each-call IsShort IsShort t keeps s.queue u call o m x;
+  }
 
   pub stays-short : (call : SenderCall) → is_reliable_at_sender call ≡ true → Makes (as_run call) t u → MakesExactly call t u → IsAccepted call t → AreShort u
-  stays-short (outgoing.opens stream) r m x a = to _ m (record { streams = every-joined IsShortOn t.streams _ s.streams (omega arith, tt); queue = s.queue })
+  stays-short (outgoing.opens stream) r m x a =
+      unwritten (outgoing.opens stream) refl m x _ m (every-joined IsShortOn t.streams _ s.streams (omega arith, tt))
   stays-short (outgoing.sets_mode stream unordered reliability value) r m x a =
-      to _ m (record {
-        streams = every-changed IsShortOn (has_number stream) (with_mode unordered reliability value)
-            (λ l h e. e) t.streams s.streams;
-        queue = s.queue;
-      })
+      unwritten (outgoing.sets_mode stream unordered reliability value) refl m x _ m
+      (every-changed IsShortOn (has_number stream) (with_mode unordered reliability value) (λ l h e. e) t.streams s.streams)
   stays-short (outgoing.sets_low stream bytes) r m x a =
-      to _ m (record { streams = every-changed IsShortOn (has_number stream) (with_low bytes) (λ l h e. e) t.streams s.streams; queue = s.queue })
+      unwritten (outgoing.sets_low stream bytes) refl m x _ m
+      (every-changed IsShortOn (has_number stream) (with_low bytes) (λ l h e. e) t.streams s.streams)
   stays-short (outgoing.sets_size size) r m x a =
-      to _ m (record { streams = every-mapped IsShortOn IsShortOn (with_size size) (λ l h. h) t.streams s.streams; queue = s.queue })
-  stays-short (outgoing.writes stream ppi []) r m x a = to _ (x.0 refl) s
+      unwritten (outgoing.sets_size size) refl m x _ m (every-mapped IsShortOn IsShortOn (with_size size) (λ l h. h) t.streams s.streams)
+  stays-short (outgoing.writes stream ppi []) r m x a = subst AreShort (sym (x.0 refl)) s
   stays-short (outgoing.writes stream ppi (b ∷ bs)) r m x a =
       let l = accepted-stream stream (length (b ∷ bs)) t a in
-      to _ (x.1 (omega arith) l.0 l.1)
+      subst AreShort (sym (x.1 (omega arith) l.0 l.1))
       (record {
         streams = every-changed IsShortOn (has_number stream) (wrote ppi (b ∷ bs)) (λ k h e. wrote-short ppi (b ∷ bs) k e) t.streams s.streams;
         queue =
@@ -97,31 +109,14 @@ module _ (t u : Transmission) (s : AreShort t) where
             pushed IsShort IsShort IsShort IsShort (λ c i. i) (λ c i. i) (fragments_with_mode l.0 ppi (b ∷ bs)) t.flight.queue
             (each-fragment IsShort l.0 ppi (b ∷ bs) (λ _. h)) s.queue;
       })
-  stays-short (outgoing.starts now) r m x a = to _ m (record { streams = s.streams; queue = started-short now t.flight.queue s.queue })
-  stays-short (outgoing.reserves more) r m x a = to _ m (record {
-    streams = s.streams;
-    queue =
-        record { ordered = s.queue.ordered; unordered = s.queue.unordered; inflight = s.queue.inflight };
-  })
-  stays-short (outgoing.sends now) r m x a =
-      to _ x
-      (record {
-        streams = s.streams;
-        queue = sent IsShort IsShort t.flight.next_tsn now (λ c i. i) (next_pending (all_started now t.flight.queue).pending)
-            (all_started now t.flight.queue) refl (started-short now t.flight.queue s.queue);
-      })
-  stays-short (outgoing.resends tsn now c) r m x a = to _ m (record {
-    streams = s.streams;
-    queue = marked IsShort IsShort (has_tsn tsn) (sent_again (count_again c) now) (λ d i. i) t.flight.queue s.queue;
-  })
-  stays-short outgoing.marks r m x a =
-      to _ m (record { streams = s.streams; queue = marked IsShort IsShort is_outstanding (with_retransmit true) (λ d i. i) t.flight.queue s.queue })
-  stays-short (outgoing.misses count) r m x a =
-      to _ m (record { streams = s.streams; queue = missed-some IsShort IsShort (λ d i. i) count t.flight s.queue })
-  stays-short (outgoing.takes_sack k gone) r m x a = to _ x (record {
-    streams = releases-short (released_by k t.flight) t.streams s.streams;
-    queue = sacked IsShort IsShort k (λ c _ i. i) t.flight s.queue;
-  })
+  stays-short (outgoing.starts now) r m x a = unwritten (outgoing.starts now) refl m x _ m s.streams
+  stays-short (outgoing.reserves more) r m x a = unwritten (outgoing.reserves more) refl m x _ m s.streams
+  stays-short (outgoing.sends now) r m x a = unwritten (outgoing.sends now) refl m x _ x s.streams
+  stays-short (outgoing.resends tsn now c) r m x a = unwritten (outgoing.resends tsn now c) refl m x _ m s.streams
+  stays-short outgoing.marks r m x a = unwritten outgoing.marks refl m x _ m s.streams
+  stays-short (outgoing.misses count) r m x a = unwritten (outgoing.misses count) refl m x _ m s.streams
+  stays-short (outgoing.takes_sack k gone) r m x a =
+      unwritten (outgoing.takes_sack k gone) refl m x _ x (releases-short (released_by k t.flight) t.streams s.streams)
   stays-short call r m x a = absurd (not_both r)
 
 pub made-short : (call : SenderCall) (t : Transmission) (ms : List Made) → is_reliable_at_sender call ≡ true → IsAccepted call t → AreShort t
@@ -133,11 +128,6 @@ made-short (outgoing.sends now) t ms r a s h = by (next_pending (all_started now
     by None e = h
     by (Some c) e = (next-short now t.flight.queue c e s.queue, h)
 made-short (outgoing.resends tsn now c) t ms r a s h = (every-found IsShort (has_tsn tsn) t.flight.queue.inflight.chunks c a.1 s.queue.inflight, h)
-made-short (outgoing.abandons tsn a') t ms r a s h = absurd (not_both r)
-made-short (outgoing.expires now m') t ms r a s h = absurd (not_both r)
-made-short (outgoing.expires_tail now m') t ms r a s h = absurd (not_both r)
-made-short (outgoing.expires_late now gone) t ms r a s h = absurd (not_both r)
-made-short (outgoing.expires_rexmit gone) t ms r a s h = absurd (not_both r)
 made-short (outgoing.forwards tsn f) t ms r a s h = absurd (not_both r)
 made-short (outgoing.forwards_within bytes f) t ms r a s h = absurd (not_both r)
 made-short call t ms r a s h = h

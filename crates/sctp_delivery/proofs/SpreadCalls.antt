@@ -26,7 +26,7 @@ use Rattle.sctp_delivery.proofs.Delivered as delivered
 use Rattle.sctp_delivery.proofs.Delivered.{Holds, next_tsn}
 use Rattle.sctp_delivery.proofs.Every.{Every, every-of}
 use Rattle.sctp_delivery.proofs.OrderedEntries.{AreIndexed, IsIndexed, begins_on, begun_on, one}
-use Rattle.sctp_delivery.proofs.PassedTsns.{passable-end, passable-skip}
+use Rattle.sctp_delivery.proofs.GivenTsns.{passable-end, passable-skip}
 use Rattle.sctp_delivery.proofs.Queues.{IsEnded, IsOnceMore}
 use Rattle.sctp_delivery.proofs.SackLaws as sacks
 use Rattle.sctp_delivery.proofs.SackLaws.{IsInStep}

@@ -39,9 +39,14 @@ pub record IsPlaced (first : ℕ) (sent : List Entry) (c : ChunkPayloadData) : T
   pub on : (st : ℕ) → is_ordered_on st c ≡ ends_on st (entry ∷ entries)
   pub for' : IsFor c entry
 
-one-most : (b : Bool) → one b ≤ 1
+pub one-most : (b : Bool) → one b ≤ 1
 one-most true = omega arith
 one-most false = omega arith
+
+pub begins-none : (a b u : Bool) → (a && u) ≡ false → (a && (b && u)) ≡ false
+begins-none true true u e = e
+begins-none true false u e = refl
+begins-none false b u e = refl
 
 pub step-fragment : (st : ℕ) (t : ChunkPayloadData) (w : Numbered) (after : List ℕ) (xs : List Entry) → IsIndexed (data_of t) xs
     → IsStep st (begun_on st xs) (begun_on st (fragment (data_of t) w after ∷ xs)) t
@@ -54,11 +59,6 @@ step-fragment st t w after xs i = record {
       subst (λ s. IsLatest (begun_on s (fragment (data_of t) w after ∷ xs)) t.stream_sequence_number) (same-is t.stream_identifier st b.0)
       (latest-here (data_of t) w after xs (negated t.unordered b.1) i);
 }
-  where
-    begins-none : (a b u : Bool) → (a && u) ≡ false → (a && (b && u)) ≡ false
-    begins-none true true u e = e
-    begins-none true false u e = refl
-    begins-none false b u e = refl
 
 pub step-terminal : (st : ℕ) (t : ChunkPayloadData) (sent : List Entry)
     → (t.unordered ≡ false → IsLatest (begun_on t.stream_identifier sent) t.stream_sequence_number)

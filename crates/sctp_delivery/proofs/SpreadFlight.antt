@@ -8,7 +8,7 @@ use Rattle.std.proofs.lemmas.Bool.Decides.{nat_tests}
 use Rattle.std.proofs.lemmas.Option.{none-some}
 use Rattle.sctp_util.specs.Serial.{distance}
 use Rattle.sctp_util.proofs.Cases.{same-is, some-same}
-use Rattle.sctp_util.proofs.More.{both, not_both}
+use Rattle.sctp_util.proofs.More.{both}
 use Rattle.sctp_util.proofs.Round.{tsn, distance-tsn}
 use Rattle.sctp_data.specs.declared.chunk.chunk_payload_data.ChunkPayloadData.{ChunkPayloadData}
 use Rattle.sctp_data.specs.declared.chunk.chunk_forward_tsn.ChunkForwardTsnStream.{ChunkForwardTsnStream}
@@ -20,14 +20,14 @@ use Rattle.sctp_sender.specs.Flight.{Flight}
 use Rattle.sctp_sender.specs.Numbers.{begins_ordered, first_ordered, is_ordered_on, is_too_far, past_number}
 use Rattle.sctp_sender.proofs.Runs.{IsRunFrom}
 use Rattle.sctp_delivery.specs.SenderCalls.{Made, data_chunk, forward_tsn}
-use Rattle.sctp_delivery.proofs.GivenTsns.{IsNumbered}
+use Rattle.sctp_delivery.proofs.GivenTsns.{IsNumbered, IsPassable, lead, rest-run}
 use Rattle.sctp_delivery.proofs.InFlight.{AreKnown}
 use Rattle.sctp_delivery.proofs.OrderedEntries.{IsLatest, begun_on}
-use Rattle.sctp_delivery.proofs.PassedTsns.{IsPassable, lead, rest-run}
 use Rattle.sctp_delivery.proofs.Queues.{IsOnceMore}
 use Rattle.sctp_delivery.proofs.Sent.{Entry, part-length, tail-part}
 use Rattle.sctp_delivery.proofs.SpreadEntries.{IsPlaced, IsStep, at-more, at-part, begun_to, is_at, to-more, to-part, to-up}
 use Rattle.sctp_delivery.proofs.TsnPlaces.{base}
+use Rattle.sctp_delivery.proofs.Sessions.{unnot}
 
 -- each chunk stands for the entry at the next place behind a
 abbrev pub AreSteps : ℕ → List Entry → ℕ → List ChunkPayloadData → Type 0
@@ -202,10 +202,6 @@ module _ (st : ℕ) (sent : List Entry) where
       by false true e = refl
       by false false e = refl
 
-  dropped : (b : Bool) → not b ≡ false → b ≡ true
-  dropped true i = refl
-  dropped false i = absurd (not_both (sym i))
-
   says-named : (a e j : ℕ) (cs : List ChunkPayloadData) → a + j ≡ e → j ≤ lead cs → AreSteps st sent a cs
       → Says st (begun_to st a sent) (begun_to st e sent) (last_of (filter (is_on st) (filter is_named (take j cs))))
   says-named a e zero cs total le s = let same : e ≡ a = omega (arith, total) in ap (λ k. begun_to st k sent) same
@@ -224,7 +220,7 @@ module _ (st : ℕ) (sent : List Entry) where
           → Says st (begun_to st a sent) (begun_to st e sent) (last_of (filter (is_on st) (filter is_named (c ∷ take j cs))))
       kept true h l ih = absurd (omega (arith, l))
       kept false h l ih =
-          subst (λ ys. Says st (begun_to st a sent) (begun_to st e sent) (last_of ys)) (sym (both-tests c (take j cs) (dropped c.abandoned h)))
+          subst (λ ys. Says st (begun_to st a sent) (begun_to st e sent) (last_of ys)) (sym (both-tests c (take j cs) (unnot c.abandoned h)))
           (by (is_ordered_on st c) refl (ih (omega (arith, l))))
 
 last-none : (y : ChunkPayloadData) (ys : List ChunkPayloadData) → last_of (y ∷ ys) ≡ None → ⊥
@@ -257,7 +253,7 @@ none-named st sent a e (suc j) (c ∷ cs) total le o none k lt most =
         → is_at st k sent ≡ false
     kept true h l ih = absurd (omega (arith, l))
     kept false h l ih =
-        by (is_ordered_on st c) refl (ap last_of (sym (both-tests st sent c (take j cs) (dropped st sent c.abandoned h))) ∙ none) (ih (omega (arith, l)))
+        by (is_ordered_on st c) refl (ap last_of (sym (both-tests st sent c (take j cs) (unnot c.abandoned h))) ∙ none) (ih (omega (arith, l)))
 
 -- these names, up to a place: none of the stream, and no ordered chunk of it behind the place acknowledged; or one, the number of the
 -- last message that was begun up to there

@@ -1,6 +1,6 @@
 -- The bytes of some streams that wait and are in flight, and the buffered amount of a stream: what each change of a sender makes of them.
-use Rattle.std.proofs.Common.{◌≡◌, ℕ, ◌+◌, ◌-◌, Bool, true, false, not, List, [], ◌∷◌, ◌++◌, length, map, take, drop, Option, Some, None, refl, ap, sym}
-use Rattle.std.proofs.Common.{subst, ◌∙◌, arith}
+use Rattle.std.proofs.Common.{◌≡◌, ℕ, ◌+◌, ◌-◌, Bool, true, false, not, List, [], ◌∷◌, ◌++◌, length, map, take, drop, Option, Some, None, refl, ap, sym, subst}
+use Rattle.std.proofs.Common.{◌∙◌, arith}
 use Rattle.std.specs.Prelude.{if◌then◌else◌, ◌==◌, ◌&&◌, ◌||◌, find}
 use Rattle.std.specs.List.{filter, sum_by}
 use Rattle.std.proofs.lemmas.List.{take-append-drop}
@@ -33,7 +33,7 @@ use Rattle.sctp_sender.specs.Outgoing.{after_releases, has_number, less_by}
 use Rattle.sctp_sender.specs.Thresholds.{falls_on, with_lows, with_message_lows}
 use Rattle.sctp_stream.specs.declared.stream.StreamState.{StreamState}
 use Rattle.sctp_delivery.specs.Amounts.{bytes_for, bytes_of_chunks, bytes_of_messages}
-use Rattle.sctp_delivery.proofs.Every.{Every, every-of}
+use Rattle.sctp_delivery.proofs.Every.{Every, every-of, every-all}
 
 -- ## The bytes of some streams
 
@@ -83,10 +83,6 @@ split-all s q =
     let c = split s q.inflight.chunks in
     omega (arith, a, b, c)
 
-each : {A : Type 0} (P : A → Type 0) → ((x : A) → P x) → (xs : List A) → Every P xs
-each P h [] = tt
-each P h (x ∷ xs) = (h x, each P h xs)
-
 -- it is outstanding, or has no bytes
 abbrev pub IsBare : ChunkPayloadData → Type 0
 IsBare c = is_outstanding c ≡ false → length c.user_data ≡ 0
@@ -108,7 +104,7 @@ module _ (on : ℕ → Bool) where
 
   pub changed : (p : ChunkPayloadData → Bool) (f : ChunkPayloadData → ChunkPayloadData) → ((c : ChunkPayloadData) → size on (f c) ≡ size on c)
       → (xs : List ChunkPayloadData) → weigh on (change_where p f xs) ≡ weigh on xs
-  changed p f same xs = changed-where p f xs (each (λ c. p c ≡ true → size on (f c) ≡ size on c) (λ c _. same c) xs)
+  changed p f same xs = changed-where p f xs (every-all (λ c. p c ≡ true → size on (f c) ≡ size on c) (λ c _. same c) xs)
 
   -- of the first so many
   pub first-changed : (p : ChunkPayloadData → Bool) (f : ChunkPayloadData → ChunkPayloadData) → ((c : ChunkPayloadData) → size on (f c) ≡ size on c)
@@ -311,11 +307,7 @@ amount-found s (x ∷ xs) l e = by (x.stream_identifier == s) e (amount-found s 
 
 -- a stream is opened
 pub amount-opened : (s : ℕ) (x : StreamState) → x.buffered_amount ≡ 0 → (ls : List StreamState) → amount s (ls ++ x ∷ []) ≡ amount s ls
-amount-opened s x z [] = by (x.stream_identifier == s)
-  where
-    by : (b : Bool) → (if b then x.buffered_amount else 0) ≡ 0
-    by true = z
-    by false = refl
+amount-opened s x z [] = elim (x.stream_identifier == s) as (λ b. (if b then x.buffered_amount else 0) ≡ 0) [ true ↦ z | false ↦ refl ]
 amount-opened s x z (l ∷ ls) = ap (λ k. if l.stream_identifier == s then l.buffered_amount else k) (amount-opened s x z ls)
 
 -- all are changed, and their amounts stay

@@ -1,31 +1,116 @@
--- A session in which few TSNs are given out, call by call of the receiver: no TSN is taken twice.
-use Rattle.std.proofs.Common.{◌≡◌, ℕ, ◌<◌, ◌≤◌, ◌^◌, Bool, true, false, List, ◌∷◌, refl, ap, sym, subst, ◌∙◌, arith}
-use Rattle.std.specs.Prelude.{if◌then◌else◌, ◌==◌, not, nat_le}
+-- What gap ack blocks leave out: nothing of the distances that they are made of.
+use Rattle.std.proofs.Common.{◌≡◌, ℕ, ◌<◌, ◌≤◌, ◌^◌, Bool, true, false, List, ◌∷◌, refl, ap, sym, subst, ◌∙◌, arith, ◌+◌, length, inl, inr, zero, suc, [], map}
+use Rattle.std.proofs.Common.{take}
+use Rattle.std.specs.Prelude.{if◌then◌else◌, ◌==◌, not, nat_le, Contains, ◌||◌, ◌⊎◌, nat_lt}
 use Rattle.std.specs.List.{filter, list_any}
 use Rattle.std.proofs.lemmas.Bool.Decides.{nat_tests}
 use Rattle.sctp_util.specs.Lists.{advance_over, insert_before}
-use Rattle.sctp_util.specs.Serial.{at_or_before, comes_before}
-use Rattle.sctp_util.proofs.Cases.{or-left, or-right, same-is, same-yes}
-use Rattle.sctp_util.proofs.More.{and, fails, not_both}
-use Rattle.sctp_util.proofs.Round.{tsn}
+use Rattle.sctp_util.specs.Serial.{at_or_before, comes_before, distance}
+use Rattle.sctp_util.proofs.Cases.{or-left, or-right, same-is, same-yes, or-split}
+use Rattle.sctp_util.proofs.More.{and, fails, not_both, both}
+use Rattle.sctp_util.proofs.Round.{tsn, distance-tsn, distance-tsn_back}
 use Rattle.sctp_data.specs.declared.chunk.chunk_payload_data.ChunkPayloadData.{ChunkPayloadData}
 use Rattle.sctp_data.specs.ForwardTsn.{ForwardTsn}
 use Rattle.sctp_data.specs.PayloadData.{data_of}
 use Rattle.sctp_receiver.specs.declared.receiver.arrival.Arrival.TheVariants.{New, Repeat}
-use Rattle.sctp_receiver.specs.Receiver.{Reception, filter_of, follow_forward_tsn, is_stale}
+use Rattle.sctp_receiver.specs.Receiver.{Reception, filter_of, follow_forward_tsn, is_stale, max_sack_entries, sack_entries, sack_of_entries}
 use Rattle.sctp_receiver.specs.Skips.{after_forward_tsn, without_incomplete}
-use Rattle.sctp_receiver.specs.TsnFilter.{has_come}
-use Rattle.sctp_serial.specs.DataChunks.{has_tsn}
+use Rattle.sctp_receiver.specs.TsnFilter.{has_come, gap_ack_blocks, is_opposite, offsets, with_tsn}
+use Rattle.sctp_serial.specs.DataChunks.{has_tsn, following_tsn}
 use Rattle.sctp_delivery.specs.ReceiverCalls as incoming
-use Rattle.sctp_delivery.specs.ReceiverCalls.{ReceiverCall}
-use Rattle.sctp_delivery.specs.Sacks.{are_apart}
-use Rattle.sctp_delivery.specs.SenderCalls.{data_chunk, forward_tsn}
+use Rattle.sctp_delivery.specs.ReceiverCalls.{ReceiverCall, reports_after}
+use Rattle.sctp_delivery.specs.Sacks.{are_apart, passes, was_passed, was_taken, EachSackTells, NextSackTells, TellsWhatCame, reports_tsn}
+use Rattle.sctp_delivery.specs.SenderCalls.{data_chunk, forward_tsn, Made}
 use Rattle.sctp_delivery.specs.Session.{ReceiverFollows, Session}
-use Rattle.sctp_delivery.proofs.Every.{Every, every-contained, every-inserted, every-of, every-passing, one-of}
-use Rattle.sctp_delivery.proofs.ArrivedTsns.{IsArrived, IsKnown}
+use Rattle.sctp_delivery.proofs.Every.{Every, every-contained, every-inserted, every-of, every-passing, one-of, all-of-every}
+use Rattle.sctp_delivery.proofs.ArrivedTsns.{IsArrived, IsKnown, advanced, in_run}
 use Rattle.sctp_delivery.proofs.SackSteps.{IsMadeGiven}
 use Rattle.sctp_delivery.proofs.TakenTsns.{advance-keeps, any-inserted, come, insert-keeps, skip-keeps}
-use Rattle.sctp_delivery.proofs.TsnPlaces.{IsGiven, at-or-before, more-given}
+use Rattle.sctp_delivery.proofs.TsnPlaces.{IsGiven, at-or-before, more-given, before, tsn-small}
+use Rattle.std.proofs.lemmas.List.Folds.{list_any_at}
+use Rattle.sctp_delivery.proofs.ReportedTsns.{IsTruthful, later-truthful, sack-truthful, any-run}
+use Rattle.std.proofs.lemmas.Bool.{cases_lt}
+use Rattle.sctp_util.specs.Kept.{runs_of, put_before_runs}
+use Rattle.sctp_data.specs.SelectiveAck.{Sack}
+use Rattle.sctp_outbound.specs.payload_queue.Blocks.{is_in_blocks, is_offset}
+use Rattle.sctp_receiver.proofs.GapCounts.{IsAscending, far_in, next-skipped, next-with}
+use Rattle.sctp_receiver.proofs.TsnLists.{expected-absent, expected-after}
+
+abbrev IsRun : ℕ × ℕ → Type 0
+IsRun b = b.0 ≤ b.1
+
+put-run : (x : ℕ) (bs : List (ℕ × ℕ)) → Every IsRun bs → Every IsRun (put_before_runs x bs)
+put-run x [] v = (omega arith, tt)
+put-run x (b ∷ bs) v = by (b.0 == x + 1) refl
+  where
+    by : (k : Bool) → (b.0 == x + 1) ≡ k → Every IsRun (if k then (x, b.1) ∷ bs else (x, x) ∷ b ∷ bs)
+    by true e = (let same = same-is b.0 (x + 1) e in let le = v.0 in omega (arith, same, le), v.1)
+    by false e = (omega arith, v)
+
+runs-run : (ds : List ℕ) → Every IsRun (runs_of ds)
+runs-run [] = tt
+runs-run (d ∷ ds) = put-run d (runs_of ds) (runs-run ds)
+
+alone : (x d : ℕ) → (x == d) ≡ true → in_run d (x, x) ≡ true
+alone x d e = let same = same-is x d e in and (nat_le x d) (nat_le d x) (grind (arith, nat_tests, same)) (grind (arith, nat_tests, same))
+
+put-has : (x d : ℕ) (bs : List (ℕ × ℕ)) → Every IsRun bs → (x == d) ≡ true → list_any (in_run d) (put_before_runs x bs) ≡ true
+put-has x d [] v e = or-left (in_run d (x, x)) false (alone x d e)
+put-has x d (b ∷ bs) v e = by (b.0 == x + 1) refl
+  where
+    by : (k : Bool) → (b.0 == x + 1) ≡ k → list_any (in_run d) (if k then (x, b.1) ∷ bs else (x, x) ∷ b ∷ bs) ≡ true
+    by true f =
+        let next = same-is b.0 (x + 1) f in
+        let same = same-is x d e in
+        let le = v.0 in
+        or-left (in_run d (x, b.1)) (list_any (in_run d) bs) (and (nat_le x d) (nat_le d b.1) (grind (arith, nat_tests, same))
+        (grind (arith, nat_tests, same, next, le)))
+    by false f = or-left (in_run d (x, x)) (list_any (in_run d) (b ∷ bs)) (alone x d e)
+
+put-keeps : (x d : ℕ) (bs : List (ℕ × ℕ)) → list_any (in_run d) bs ≡ true → list_any (in_run d) (put_before_runs x bs) ≡ true
+put-keeps x d [] e = absurd (not_both e)
+put-keeps x d (b ∷ bs) e = by (b.0 == x + 1) refl (or-split (in_run d b) (list_any (in_run d) bs) e)
+  where
+    by : (k : Bool) → (b.0 == x + 1) ≡ k → (in_run d b ≡ true) ⊎ (list_any (in_run d) bs ≡ true) → list_any (in_run d)
+        (if k then (x, b.1) ∷ bs else (x, x) ∷ b ∷ bs) ≡ true
+    by true f (inl a) =
+        let next = same-is b.0 (x + 1) f in
+        let h = both (nat_le b.0 d) (nat_le d b.1) a in
+        let first = h.0 in
+        or-left (in_run d (x, b.1)) (list_any (in_run d) bs) (and (nat_le x d) (nat_le d b.1) (grind (arith, nat_tests, next, first)) h.1)
+    by true f (inr a) = or-right (in_run d (x, b.1)) (list_any (in_run d) bs) a
+    by false f s = or-right (in_run d (x, x)) (list_any (in_run d) (b ∷ bs)) e
+
+pub runs-have : (ds : List ℕ) (d : ℕ) → list_any (λ x. x == d) ds ≡ true → list_any (in_run d) (runs_of ds) ≡ true
+runs-have [] d e = absurd (not_both e)
+runs-have (x ∷ xs) d e = by (or-split (x == d) (list_any (λ y. y == d) xs) e) (λ f. runs-have xs d f)
+  where
+    by : ((x == d) ≡ true) ⊎ (list_any (λ y. y == d) xs ≡ true) → (list_any (λ y. y == d) xs ≡ true → list_any (in_run d) (runs_of xs) ≡ true) → list_any
+        (in_run d) (put_before_runs x (runs_of xs)) ≡ true
+    by (inl a) ih = put-has x d (runs_of xs) (runs-run xs) a
+    by (inr a) ih = put-keeps x d (runs_of xs) (ih a)
+
+-- the distance of one that is held
+pub distance-held : (f : ℕ → ℕ) (q : ℕ → Bool) (ts : List ℕ) (t : ℕ) → q (f t) ≡ true → list_any (λ u. u == t) ts ≡ true → list_any (λ x. x == f t)
+    (filter q (map f ts)) ≡ true
+distance-held f q [] t h e = absurd (not_both e)
+distance-held f q (x ∷ xs) t h e = by (q (f x)) refl (or-split (x == t) (list_any (λ u. u == t) xs) e) (λ g. distance-held f q xs t h g)
+  where
+    by : (k : Bool) → q (f x) ≡ k → ((x == t) ≡ true) ⊎ (list_any (λ u. u == t) xs ≡ true) →
+        (list_any (λ u. u == t) xs ≡ true → list_any (λ y. y == f t) (filter q (map f xs)) ≡ true) → list_any (λ y. y == f t)
+        (if k then f x ∷ filter q (map f xs) else filter q (map f xs)) ≡ true
+    by true g (inl a) ih = or-left (f x == f t) (list_any (λ y. y == f t) (filter q (map f xs))) (ap (λ u. f u == f t) (same-is x t a) ∙ same-yes (f t))
+    by true g (inr a) ih = or-right (f x == f t) (list_any (λ y. y == f t) (filter q (map f xs))) (ih a)
+    by false g (inl a) ih = absurd (not_both (sym g ∙ ap (λ u. q (f u)) (same-is x t a) ∙ h))
+    by false g (inr a) ih = ih a
+
+-- a list that is not full is whole
+pub whole : {A : Type 0} (n : ℕ) (xs : List A) → length (take n xs) < n → take n xs ≡ xs
+whole zero xs lt = absurd (omega (arith, lt))
+whole (suc n) [] lt = refl
+whole (suc n) (x ∷ xs) lt = ap (λ ys. x ∷ ys) (whole n xs (omega (arith, lt)))
+
+-- # A session in which few TSNs are given out, call by call of the receiver: no TSN is taken twice
 
 -- a chunk whose TSN was given out, and came
 abbrev pub HasCome : ℕ → ℕ → Reception → ChunkPayloadData → Type 0
@@ -152,3 +237,267 @@ module _ (p n : ℕ) (kn : ℕ → Bool) (old new : Session) (few : n < 2 ^ 31) 
       taken-to _ old.receiving.accepted f.step.receiver f.step.accepted
       (skip-come p n old.receiving.receiver kn few h g old.receiving.accepted (every-contained (IsMadeGiven p n) old.made (forward_tsn g) f.handed m) t)
   takes-once call f = kept _ f.step.receiver refl refl f.step.accepted
+
+-- # A session in which few TSNs are given out, call by call of the receiver: what arrived
+
+-- ## What stays known
+
+pub more-arrived : (p m n : ℕ) (kn kn' : ℕ → Bool) (cumulative : ℕ) (beyond : List ℕ) → m ≤ n → ((t : ℕ) → kn t ≡ true → kn' t ≡ true)
+    → IsArrived p m kn cumulative beyond → IsArrived p n kn' cumulative beyond
+more-arrived p m n kn kn' cumulative beyond le more h = record {
+  place = h.place;
+  within = omega (arith, le, h.within);
+  is = h.is;
+  so_far = λ k pos l. more (tsn p k) (h.so_far k pos l);
+  each = every-of (IsKnown p m kn) (IsKnown p n kn') (λ t x. record {
+    place = x.place;
+    some = x.some;
+    within = omega
+        (arith, le, x.within);
+    is = x.is;
+    so = more t x.so;
+  }) beyond h.each;
+}
+
+-- ## A TSN comes
+
+-- what is passed up to a FORWARD-TSN that was made
+passed-upto : (p n : ℕ) (ms : List Made) (f : ForwardTsn) → n < 2 ^ 31 → (g : IsGiven p n f.new_cumulative_tsn) → Contains ms (forward_tsn f) → (k : ℕ)
+    → k ≤ g.place → list_any (passes (tsn p k)) ms ≡ true
+passed-upto p n ms f few g in' k le =
+    let within = g.within in
+    let at : at_or_before (tsn p k) f.new_cumulative_tsn ≡ true = ap (at_or_before (tsn p k)) g.is ∙ at-or-before p k g.place (omega (arith, within, few, le))
+    (omega (arith, within, few)) ∙ (let e : nat_le k g.place ≡ true = grind (arith, nat_tests, le) in e) in
+    list_any_at (passes (tsn p k)) ms in'.0 (forward_tsn f) in'.1 (ap (passes (tsn p k)) in'.2 ∙ at)
+
+module _ (p n : ℕ) (kn now : ℕ → Bool) (old new : Session) (few : n < 2 ^ 31) (m : Every (IsMadeGiven p n) old.made) where
+  -- what arrived at the receiver, known by what is known after the call
+  abbrev Hears : Reception → Type 0
+  Hears r = IsArrived p n now r.cumulative_tsn r.beyond
+
+  -- what is known stays so; and known is what was taken, and what is passed
+  module _ (grows : (t : ℕ) → kn t ≡ true → now t ≡ true) (taken : (t : ℕ) → was_taken t new ≡ true → now t ≡ true)
+      (passed : (t : ℕ) → was_passed t old ≡ true → now t ≡ true)
+      (h : IsArrived p n kn old.receiving.receiver.cumulative_tsn old.receiving.receiver.beyond) where
+    still : Hears old.receiving.receiver
+    still = more-arrived p n n kn now old.receiving.receiver.cumulative_tsn old.receiving.receiver.beyond (omega arith) grows h
+
+    hears-to : (r : Reception) → new.receiving.receiver ≡ r → Hears r → Hears new.receiving.receiver
+    hears-to r e k = subst Hears (sym e) k
+
+    -- with a new TSN
+    hears-one : (t : ℕ) → IsGiven p n t → now t ≡ true → IsArrived p n now old.receiving.receiver.cumulative_tsn
+        (insert_before comes_before t old.receiving.receiver.beyond)
+    hears-one t g so = record {
+      place = still.place;
+      within = still.within;
+      is = still.is;
+      so_far = still.so_far;
+      each = every-inserted (IsKnown p n now) comes_before t old.receiving.receiver.beyond
+          (record { place = g.place; some = g.some; within = g.within; is = g.is; so = so }) still.each;
+    }
+
+    -- with all up to a FORWARD-TSN
+    hears-upto : (f : ForwardTsn) → Contains old.made (forward_tsn f) → IsArrived p n now f.new_cumulative_tsn
+        (filter (λ t. not (at_or_before t f.new_cumulative_tsn)) old.receiving.receiver.beyond)
+    hears-upto f in' =
+        let g : IsGiven p n f.new_cumulative_tsn = every-contained (IsMadeGiven p n) old.made (forward_tsn f) in' m in
+        record {
+          place = g.place;
+          within = g.within;
+          is = g.is;
+          so_far = λ k pos le. passed (tsn p k) (passed-upto p n old.made f few g in' k le);
+          each = every-passing (IsKnown p n now) (λ t. not (at_or_before t f.new_cumulative_tsn)) old.receiving.receiver.beyond still.each;
+        }
+
+    follows-arrived : (f : ForwardTsn) → Contains old.made (forward_tsn f) → Hears (after_forward_tsn f old.receiving.receiver)
+    follows-arrived f in' = by (is_stale f old.receiving.receiver)
+      where
+        by : (b : Bool) → Hears (if b then old.receiving.receiver else without_incomplete f.new_cumulative_tsn
+            (if b then old.receiving.receiver else follow_forward_tsn f old.receiving.receiver))
+        by true = still
+        by false = advanced p n now f.new_cumulative_tsn (filter (λ t. not (at_or_before t f.new_cumulative_tsn)) old.receiving.receiver.beyond) few
+            (hears-upto f in')
+
+    pub hears : (call : ReceiverCall) → ReceiverFollows call old new → Hears new.receiving.receiver
+    hears (incoming.opens stream) f = hears-to _ f.step.receiver.1 still
+    hears (incoming.takes c Repeat) f = hears-to _ f.step.receiver still
+    hears (incoming.takes c (New answered)) f =
+        let given : IsGiven p n c.tsn = every-contained (IsMadeGiven p n) old.made (data_chunk (data_of c)) f.handed m in
+        let here : was_taken c.tsn new ≡ true = ap (list_any (has_tsn c.tsn)) f.step.accepted ∙ or-left (has_tsn c.tsn c)
+        (list_any (has_tsn c.tsn) old.receiving.accepted) (same-yes c.tsn) in
+        hears-to _ f.step.receiver.after
+        (advanced p n now old.receiving.receiver.cumulative_tsn (insert_before comes_before c.tsn old.receiving.receiver.beyond) few
+        (hears-one c.tsn given (taken c.tsn here)))
+    hears (incoming.follows g) f = hears-to _ f.step.receiver (follows-arrived g f.handed)
+    hears call f = hears-to _ f.step.receiver still
+
+-- ## What SACKs say
+
+pub tells : (p n : ℕ) (kn now : ℕ → Bool) (old : Session) (call : ReceiverCall) → n < 2 ^ 31 → ((t : ℕ) → kn t ≡ true → now t ≡ true)
+    → IsArrived p n kn old.receiving.receiver.cumulative_tsn old.receiving.receiver.beyond → Every (IsTruthful p n kn) old.sacks
+    → Every (IsTruthful p n now) (reports_after call old.receiving.receiver old.sacks)
+tells p n kn now old call few grows h t = by call
+  where
+    rest : Every (IsTruthful p n now) old.sacks
+    rest = every-of (IsTruthful p n kn) (IsTruthful p n now) (λ k x. later-truthful p n n kn now k (omega arith) grows x) old.sacks t
+
+    told : (credit entries : ℕ) → IsTruthful p n now (sack_of_entries credit entries old.receiving.receiver)
+    told credit entries =
+        later-truthful p n n kn now _ (omega arith) grows (sack-truthful p n kn credit entries old.receiving.receiver few h)
+
+    by : (c : ReceiverCall) → Every (IsTruthful p n now) (reports_after c old.receiving.receiver old.sacks)
+    by (incoming.reports credit) = (told credit max_sack_entries, rest)
+    by (incoming.reports_within credit bytes) = (told credit (sack_entries bytes), rest)
+    by (incoming.makes_sack credit bytes) = (told credit (sack_entries bytes), rest)
+    by call = rest
+
+-- # A session in which few TSNs are given out, call by call of the receiver: its TSNs stay in order, and the next SACK leaves none out
+
+-- ## The order of TSNs
+
+abbrev pub IsInOrder : Reception → Type 0
+IsInOrder r = IsAscending (filter_of r)
+
+module _ (p n : ℕ) (r : Reception) (kn : ℕ → Bool) (few : n < 2 ^ 31) (h : IsArrived p n kn r.cumulative_tsn r.beyond) (a : IsInOrder r) where
+  -- one that was given out is not half the circle away
+  pub near : (t : ℕ) → IsGiven p n t → is_opposite t (filter_of r) ≡ false
+  near t g =
+      let in' = g.within in
+      let within = h.within in
+      let is : distance r.cumulative_tsn t ≡ distance (tsn p h.place) (tsn p g.place) = ap (λ u. distance u t) h.is ∙ ap (distance (tsn p h.place)) g.is in
+      elim (cases_lt g.place h.place) [
+        | inl lt ↦ let back = distance-tsn_back p g.place h.place lt (omega (arith, within, few)) in grind (arith, nat_tests, is, back, within, few)
+        | inr ge ↦ let far = distance-tsn p h.place g.place ge (omega (arith, in', few)) in grind (arith, nat_tests, is, far, in', few)
+      ]
+
+  small-of : (t : ℕ) → IsGiven p n t → t < 2 ^ 32
+  small-of t g = let s = tsn-small p g.place in let e = g.is in omega (arith, s, e)
+
+  pub order-with : (t : ℕ) → IsGiven p n t → has_come t (filter_of r) ≡ false → IsAscending (with_tsn t (filter_of r))
+  order-with t g fresh =
+      (next-with (filter_of r) t (distance r.cumulative_tsn t + far_in (filter_of r)) a (small-of t g) fresh (near t g) (omega arith) (omega arith)).ascending
+
+  pub order-past : (f : ForwardTsn) → IsGiven p n f.new_cumulative_tsn → IsInOrder (after_forward_tsn f r)
+  order-past f g = by (is_stale f r) refl
+    where
+      ahead : is_stale f r ≡ false → comes_before r.cumulative_tsn f.new_cumulative_tsn ≡ true
+      ahead stale =
+          let in' = g.within in
+          let within = h.within in
+          let order : nat_le g.place h.place ≡ false =
+          sym (at-or-before p g.place h.place (omega (arith, in', few)) (omega (arith, within, few))) ∙ ap (λ v. at_or_before v (tsn p h.place)) (sym g.is)
+          ∙ ap (at_or_before f.new_cumulative_tsn) (sym h.is) ∙ stale in
+          ap (λ v. comes_before v f.new_cumulative_tsn) h.is ∙ ap (comes_before (tsn p h.place)) g.is
+          ∙ before p h.place g.place (omega (arith, within, few)) (omega (arith, in', few)) ∙
+          (let e : nat_lt h.place g.place ≡ true = grind (arith, nat_tests, order) in e)
+
+      by : (b : Bool) → is_stale f r ≡ b → IsInOrder (if b then r else without_incomplete f.new_cumulative_tsn (if b then r else follow_forward_tsn f r))
+      by true e = a
+      by false e = let k = (next-skipped (filter_of r) f.new_cumulative_tsn a (small-of f.new_cumulative_tsn g)
+          (ahead e)).ascending in record { small = k.small; rise = k.rise }
+
+module _ (p n : ℕ) (kn : ℕ → Bool) (old new : Session) (few : n < 2 ^ 31) (m : Every (IsMadeGiven p n) old.made)
+    (h : IsArrived p n kn old.receiving.receiver.cumulative_tsn old.receiving.receiver.beyond) (a : IsInOrder old.receiving.receiver) where
+  order-to : (q : Reception) → new.receiving.receiver ≡ q → IsInOrder q → IsInOrder new.receiving.receiver
+  order-to q e o = subst IsInOrder (sym e) o
+
+  pub keeps-order : (call : ReceiverCall) → ReceiverFollows call old new → IsInOrder new.receiving.receiver
+  keeps-order (incoming.opens stream) f = order-to _ f.step.receiver.1 (record { small = a.small; rise = a.rise })
+  keeps-order (incoming.takes c Repeat) f = order-to _ f.step.receiver (record { small = a.small; rise = a.rise })
+  keeps-order (incoming.takes c (New answered)) f =
+      let g : IsGiven p n c.tsn = every-contained (IsMadeGiven p n) old.made (data_chunk (data_of c)) f.handed m in
+      let k = order-with p n old.receiving.receiver kn few h a c.tsn g (fresh-new c.tsn answered old.receiving.receiver f.accepted.1) in
+      order-to _ f.step.receiver.after (record { small = k.small; rise = k.rise })
+  keeps-order (incoming.follows g) f = order-to _ f.step.receiver
+      (order-past p n old.receiving.receiver kn few h a g (every-contained (IsMadeGiven p n) old.made (forward_tsn g) f.handed m))
+  keeps-order call f = order-to _ f.step.receiver (record { small = a.small; rise = a.rise })
+
+-- ## The next SACK
+
+module _ (p n : ℕ) (s : Session) (kn : ℕ → Bool) (few : n < 2 ^ 31) (h : IsArrived p n kn s.receiving.receiver.cumulative_tsn s.receiving.receiver.beyond)
+    (a : IsInOrder s.receiving.receiver) (t : AreTaken p n s.receiving.receiver s.receiving.accepted) where
+  abbrev r : Reception
+  r = s.receiving.receiver
+
+  expected : come (following_tsn s.receiving.receiver.cumulative_tsn) s.receiving.receiver.cumulative_tsn s.receiving.receiver.beyond ≡ true → ⊥
+  expected e = elim (or-split (at_or_before (following_tsn r.cumulative_tsn) r.cumulative_tsn)
+      (list_any (λ u. u == following_tsn r.cumulative_tsn) r.beyond) e) [
+        | inl x ↦ not_both (sym (expected-after r.cumulative_tsn a.small) ∙ x)
+        | inr x ↦ not_both (sym (expected-absent r.cumulative_tsn 1 r.beyond a.small (omega arith) a.rise) ∙ x)
+      ]
+
+  pub next-untaken : was_taken (following_tsn s.receiving.receiver.cumulative_tsn) s ≡ false
+  next-untaken = fails (was_taken (following_tsn r.cumulative_tsn) s) (λ e.
+      let one = one-of (HasCome p n r) (has_tsn (following_tsn r.cumulative_tsn)) s.receiving.accepted e t.each in
+      expected (ap (λ u. come u r.cumulative_tsn r.beyond) (sym (same-is one.0.tsn (following_tsn r.cumulative_tsn) one.1)) ∙ one.2.1))
+
+  -- one beyond is in a block, if it is not too far
+  in-block : (u : ℕ) → is_offset (distance s.receiving.receiver.cumulative_tsn u) ≡ true → list_any (λ v. v == u) s.receiving.receiver.beyond ≡ true
+      → is_in_blocks (gap_ack_blocks (filter_of s.receiving.receiver)) (distance s.receiving.receiver.cumulative_tsn u) ≡ true
+  in-block u far e =
+      any-run (distance r.cumulative_tsn u) (runs_of (offsets (filter_of r)))
+      ∙ runs-have (offsets (filter_of r)) (distance r.cumulative_tsn u) (distance-held (distance r.cumulative_tsn) is_offset r.beyond u far e)
+
+  abbrev IsAnswered : Sack → ChunkPayloadData → Type 0
+  IsAnswered k c = (reports_tsn c.tsn k || nat_le (2 ^ 16) (distance k.cumulative_tsn_ack c.tsn)) ≡ true
+
+  answered : (credit entries : ℕ) → length (sack_of_entries credit entries s.receiving.receiver).gap_ack_blocks < entries → (c : ChunkPayloadData)
+      → HasCome p n s.receiving.receiver c → IsAnswered (sack_of_entries credit entries s.receiving.receiver) c
+  answered credit entries free c k = by (at_or_before c.tsn r.cumulative_tsn) refl
+      (or-split (at_or_before c.tsn r.cumulative_tsn) (list_any (λ u. u == c.tsn) r.beyond) k.1)
+    where
+      past : at_or_before c.tsn s.receiving.receiver.cumulative_tsn ≡ false → 0 < distance s.receiving.receiver.cumulative_tsn c.tsn
+      past e =
+          let g = k.0 in
+          let in' = g.within in
+          let within = h.within in
+          let order : nat_le g.place h.place ≡ false =
+          sym (at-or-before p g.place h.place (omega (arith, in', few)) (omega (arith, within, few))) ∙ ap (λ v. at_or_before v (tsn p h.place)) (sym g.is)
+          ∙ ap (at_or_before c.tsn) (sym h.is) ∙ e in
+          let lt : h.place < g.place = grind (arith, nat_tests, order) in
+          let is : distance r.cumulative_tsn c.tsn ≡ distance (tsn p h.place) (tsn p g.place) = ap (λ u. distance u c.tsn) h.is ∙ ap
+          (distance (tsn p h.place)) g.is in
+          let far = distance-tsn p h.place g.place (omega (arith, lt)) (omega (arith, in', few)) in
+          omega (arith, is, far, lt)
+
+      beyond-answered : (b : Bool) → nat_le (2 ^ 16) (distance s.receiving.receiver.cumulative_tsn c.tsn) ≡ b
+          → 0 < distance s.receiving.receiver.cumulative_tsn c.tsn
+          → list_any (λ u. u == c.tsn) s.receiving.receiver.beyond ≡ true → IsAnswered (sack_of_entries credit entries s.receiving.receiver) c
+      beyond-answered true e pos x = or-right (reports_tsn c.tsn (sack_of_entries credit entries r)) (nat_le (2 ^ 16) (distance r.cumulative_tsn c.tsn)) e
+      beyond-answered false e pos x =
+          let offset : is_offset (distance r.cumulative_tsn c.tsn) ≡ true =
+          and (nat_lt 0 (distance r.cumulative_tsn c.tsn)) (nat_lt (distance r.cumulative_tsn c.tsn) (2 ^ 16)) (grind (arith, nat_tests, pos))
+          (grind (arith, nat_tests, e)) in
+          let all = whole entries (gap_ack_blocks (filter_of r)) free in
+          let in' = ap (λ bs. is_in_blocks bs (distance r.cumulative_tsn c.tsn)) all ∙ in-block c.tsn offset x in
+          or-left (reports_tsn c.tsn (sack_of_entries credit entries r)) (nat_le (2 ^ 16) (distance r.cumulative_tsn c.tsn))
+          (or-right (at_or_before c.tsn r.cumulative_tsn)
+          (is_in_blocks (sack_of_entries credit entries r).gap_ack_blocks (distance r.cumulative_tsn c.tsn)) in')
+
+      by : (b : Bool) → at_or_before c.tsn s.receiving.receiver.cumulative_tsn ≡ b → (at_or_before c.tsn s.receiving.receiver.cumulative_tsn ≡ true) ⊎
+          (list_any (λ u. u == c.tsn) s.receiving.receiver.beyond ≡ true) → IsAnswered (sack_of_entries credit entries s.receiving.receiver) c
+      by true e x =
+          or-left (reports_tsn c.tsn (sack_of_entries credit entries r)) (nat_le (2 ^ 16) (distance r.cumulative_tsn c.tsn))
+          (or-left (at_or_before c.tsn r.cumulative_tsn) (is_in_blocks (sack_of_entries credit entries r).gap_ack_blocks (distance r.cumulative_tsn c.tsn)) e)
+      by false e (inl x) = absurd (not_both (sym e ∙ x))
+      by false e (inr x) = beyond-answered (nat_le (2 ^ 16) (distance r.cumulative_tsn c.tsn)) refl (past e) x
+
+  told : (credit entries : ℕ) → TellsWhatCame entries s (sack_of_entries credit entries s.receiving.receiver)
+  told credit entries = record {
+    next = next-untaken;
+    all = λ free. all-of-every (IsAnswered (sack_of_entries credit entries r)) s.receiving.accepted
+        (every-of (HasCome p n r) (IsAnswered (sack_of_entries credit entries r)) (λ c k. answered credit entries free c k) s.receiving.accepted t.each);
+  }
+
+  pub next-sack-tells : NextSackTells s
+  next-sack-tells credit new f = (sack_of_entries credit max_sack_entries r, ap (λ (x : Session). x.sacks) f.after, told credit max_sack_entries)
+
+  pub each-sack-tells : EachSackTells s
+  each-sack-tells (incoming.reports credit) new e f =
+      (sack_of_entries credit max_sack_entries r, ap (λ (x : Session). x.sacks) f.after, told credit max_sack_entries)
+  each-sack-tells (incoming.reports_within credit bytes) new e f =
+      (sack_of_entries credit (sack_entries bytes) r, ap (λ (x : Session). x.sacks) f.after, told credit (sack_entries bytes))
+  each-sack-tells (incoming.makes_sack credit bytes) new e f =
+      (sack_of_entries credit (sack_entries bytes) r, ap (λ (x : Session). x.sacks) f.after, told credit (sack_entries bytes))
+  each-sack-tells call new e f = absurd (not_both e)

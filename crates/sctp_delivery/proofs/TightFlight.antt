@@ -20,19 +20,15 @@ use Rattle.sctp_delivery.proofs.Queues.{IsEnded}
 use Rattle.sctp_delivery.proofs.Senders.{IsMoreBy}
 use Rattle.sctp_delivery.proofs.Sent.{Entry, Numbered, fragment, terminal}
 use Rattle.sctp_delivery.proofs.SpreadCalls.{not-far}
-use Rattle.sctp_delivery.proofs.SpreadEntries.{at-here, at-more, begun_to, is_at, to-all, to-more, to-up}
+use Rattle.sctp_delivery.proofs.SpreadEntries.{at-here, at-more, begun_to, is_at, to-all, to-more, to-up, begins-none, one-most}
 use Rattle.sctp_delivery.proofs.SpreadFlight.{AreOn, AreSteps}
 use Rattle.sctp_delivery.proofs.UnwrappedArrived.{at-within}
 
 -- ## Entries
 
-one-few : (b : Bool) → one b ≤ 1
-one-few true = omega arith
-one-few false = omega arith
-
 step-few : (st : ℕ) (x : Entry) (xs : List Entry) → begun_on st (x ∷ xs) ≤ begun_on st xs + 1
 step-few st terminal xs = omega arith
-step-few st (fragment d w after) xs = let h = one-few (begins_on st d) in omega (arith, h)
+step-few st (fragment d w after) xs = let h = one-most (begins_on st d) in omega (arith, h)
 
 -- no more messages are begun than there are entries
 pub to-few : (st j k : ℕ) (sent : List Entry) → j ≤ k → begun_to st k sent ≤ begun_to st j sent + (k - j)
@@ -78,11 +74,6 @@ to-same st k (x ∷ xs) e = elim (cases_lt (k + 1) (length (x ∷ xs))) [
     here : (y : Entry) → ends_on st (y ∷ xs) ≡ false → begun_on st (y ∷ xs) ≡ begun_on st xs
     here terminal h = refl
     here (fragment d w after) h = let n = ap one (begins-none (d.stream_identifier == st) d.beginning_fragment (not d.unordered) h) in omega (arith, n)
-      where
-        begins-none : (a b u : Bool) → (a && u) ≡ false → (a && (b && u)) ≡ false
-        begins-none true true u f = f
-        begins-none true false u f = refl
-        begins-none false b u f = refl
 
 -- the last ordered fragment of the stream between two places, if there is one
 pub last-at : (st a m : ℕ) (sent : List Entry) → ((k : ℕ) → a < k → k ≤ m → is_at st k sent ≡ false)

@@ -51,11 +51,7 @@ pub turns-past : (s : ℕ) (c : ChunkPayloadData) (cs : List ChunkPayloadData) (
 turns-past s c cs n next e t = subst (λ b. Turns s cs (number_after b n) next) e t.1
 
 pub inner-not : (s : ℕ) (c : ChunkPayloadData) → c.beginning_fragment ≡ false → counts s c ≡ false
-inner-not s c e = by (c.stream_identifier == s)
-  where
-    by : (b : Bool) → (b && c.beginning_fragment) ≡ false
-    by true = e
-    by false = refl
+inner-not s c e = elim (c.stream_identifier == s) as (λ b. (b && c.beginning_fragment) ≡ false) [ true ↦ e | false ↦ refl ]
 
 -- ## The rest of a message is gone
 

@@ -28,7 +28,7 @@ use Rattle.sctp_delivery.specs.Sacks.{are_apart, was_taken}
 use Rattle.sctp_delivery.specs.Session.{Session}
 use Rattle.sctp_delivery.proofs.InTheEnd.{all-every, any-of, in-sets, none-data, sets-all, some-of}
 use Rattle.sctp_delivery.proofs.Delivered.{EachSent, found-sent}
-use Rattle.sctp_delivery.proofs.Every.{Every, every-of}
+use Rattle.sctp_delivery.proofs.Every.{Every, every-of, every-both, every-pair}
 use Rattle.sctp_delivery.proofs.GoneMessages.{IsGone, taken-or-gone}
 use Rattle.sctp_delivery.proofs.Kept as kept
 use Rattle.sctp_delivery.proofs.KeptOrGone.{HeldWell, IsHeldWell, IsKeptBut, IsLate, IsPassedBy}
@@ -183,18 +183,13 @@ module _ (ws : List Numbered) (first : ℕ) (sent : List Entry) (line : IsLine w
     was-unassembled = all-every (sessions.made_among s.made) Was was q.unassembled parts.2
 
     was-sets : (ss : List ChunkSet) → Every (λ x. Made x.chunks) ss → Every (λ x. Every Was x.chunks) ss
-    was-sets [] e = tt
-    was-sets (x ∷ xs) e = (all-every (sessions.made_among s.made) Was was x.chunks e.0, was-sets xs e.1)
+    was-sets ss e = every-of (λ x. Made x.chunks) (λ x. Every Was x.chunks) (λ x m. all-every (sessions.made_among s.made) Was was x.chunks m) ss e
 
     was-ordered : Every (λ x. Every Was x.chunks) q.ordered
     was-ordered = was-sets q.ordered (sets-all (sessions.made_among s.made) q.ordered parts.0)
 
     was-unordered : Every (λ x. Every Was x.chunks) q.unordered
     was-unordered = was-sets q.unordered (sets-all (sessions.made_among s.made) q.unordered parts.1)
-
-    each-sent : (cs : List ChunkPayloadData) → Every Was cs → EachSent sent cs
-    each-sent [] e = tt
-    each-sent (c ∷ cs) e = (e.0, each-sent cs e.1)
 
     -- of a place, the chunk that has its TSN
     its-data : (c : ChunkPayloadData) (j : ℕ) → Was c → j ≤ n → has_tsn (tsn p j) c ≡ true → data_of c ≡ f j
@@ -208,13 +203,10 @@ module _ (ws : List Numbered) (first : ℕ) (sent : List Entry) (line : IsLine w
         let o = in-sets (λ x c. Was c × IsOrdered c) (tsn p j) q.ordered (pair q.ordered was-ordered well.tidy.sets) lt in
         ap (λ (x : Data). x.unordered) (sym (its-data o.1 j o.3.0 le o.2)) ∙ o.3.1
       where
-        each : (cs : List ChunkPayloadData) → Every Was cs → Every IsOrdered cs → Every (λ c. Was c × IsOrdered c) cs
-        each [] e g = tt
-        each (c ∷ cs) e g = ((e.0, g.0), each cs e.1 g.1)
-
         pair : (ss : List ChunkSet) → Every (λ x. Every Was x.chunks) ss → Every (IsTidySet p n) ss → Every (λ x. Every (λ c. Was c × IsOrdered c) x.chunks) ss
-        pair [] e t = tt
-        pair (x ∷ xs) e t = (each x.chunks e.0 t.0.1, pair xs e.1 t.1)
+        pair ss e t =
+            every-both (λ x. Every Was x.chunks) (IsTidySet p n) (λ x. Every (λ c. Was c × IsOrdered c) x.chunks)
+            (λ x w i. every-pair Was IsOrdered x.chunks w i.1) ss e t
 
     orderly : (all_complete q.unordered ≡ true) × (list_all (λ (x : ChunkSet). is_one_message x.chunks) q.unordered ≡ true)
     orderly =
@@ -243,7 +235,7 @@ module _ (ws : List Numbered) (first : ℕ) (sent : List Entry) (line : IsLine w
                 → 0 < sum_by (set_weight (one (tsn p y))) (x ∷ xs)
             by true h ih =
                 let there = whole-of ws first sent (omega (arith, long, few)) line f show b j y begins upto inner le to open' x.chunks ec.0 oc.0
-                (each-sent x.chunks w.0) h in
+                w.0 h in
                 let c = some-of (tsn p y) x.chunks there in
                 let m = sum_by-cons (set_weight (one (tsn p y))) x xs in
                 omega (arith, c, m)

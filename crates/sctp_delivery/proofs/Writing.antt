@@ -7,7 +7,7 @@ use Rattle.std.proofs.lemmas.Option.{none-some}
 use Rattle.sctp_util.specs.Kept.{always, numbers_where}
 use Rattle.sctp_util.specs.Lists.{change_where, pieces}
 use Rattle.sctp_util.proofs.Cases.{by_same, negated, same-is, same-yes, some-same}
-use Rattle.sctp_util.proofs.More.{both, fails, not_both}
+use Rattle.sctp_util.proofs.More.{both, fails}
 use Rattle.sctp_data.specs.declared.chunk.chunk_payload_data.ChunkPayloadData.{ChunkPayloadData}
 use Rattle.sctp_data.specs.declared.chunk.chunk_payload_data.PayloadProtocolIdentifier.{PayloadProtocolIdentifier}
 use Rattle.sctp_data.specs.PayloadTypes.{is_ordered}
@@ -28,6 +28,7 @@ use Rattle.sctp_delivery.proofs.Sending.{next-fits}
 use Rattle.sctp_delivery.proofs.Sent.{Entry, Numbered}
 use Rattle.sctp_delivery.proofs.Turns.{Turns, counts, number_after}
 use Rattle.sctp_delivery.proofs.Waiting.{Waits, between, lower}
+use Rattle.sctp_delivery.proofs.Sessions.{unnot}
 
 -- ## A write
 
@@ -71,10 +72,6 @@ module _ (ws : List Numbered) (first : ℕ) (t : Transmission) (sent : List Entr
       else l.sequence_number) (negated (is_ordered l.unordered ppi) e) ∙ sym (number-found stream t.streams l found)))
       (λ differ _. number-elsewhere r stream differ (wrote ppi (b ∷ bs)) (λ x. refl) t.streams)
 
-  ordered-is : (k : Bool) → not k ≡ false → k ≡ true
-  ordered-is true e = refl
-  ordered-is false e = absurd (not_both (sym e))
-
   counts-are : (r : ℕ) (k : Bool) → (l.stream_identifier == r) ≡ k → counts r (nth ws next_id l ppi (b ∷ bs) some 0) ≡ k
   counts-are r true e = ap (λ k. k && (0 == 0)) e
   counts-are r false e = ap (λ k. k && (0 == 0)) e
@@ -97,7 +94,7 @@ module _ (ws : List Numbered) (first : ℕ) (t : Transmission) (sent : List Entr
           let longer : nat_lt 0 (length (b ∷ bs)) ≡ true = grind (arith, nat_tests) in
           numbers-after
           ∙ ap (λ k. if k && nat_lt 0 (length (b ∷ bs)) then (l.sequence_number + 1) % 2 ^ 16 else l.sequence_number)
-          (ordered-is (is_ordered l.unordered ppi) e) ∙ ap (λ k. if k then (l.sequence_number + 1) % 2 ^ 16 else l.sequence_number) longer
+          (unnot (is_ordered l.unordered ppi) e) ∙ ap (λ k. if k then (l.sequence_number + 1) % 2 ^ 16 else l.sequence_number) longer
 
       next : number_of r after ≡ number_after (counts r (nth ws next_id l ppi (b ∷ bs) some 0)) (number_of r t.streams)
       next = by_same r stream
@@ -160,18 +157,10 @@ expires-one ws first t sent ms h now c bytes e = calm ws ws first sent (after_ex
     front = in-front now (next_pending t.flight.queue.pending) c e
 
     keeps : (l : StreamState) → (after_expiry c.unordered bytes l).stream_identifier ≡ l.stream_identifier
-    keeps l = by c.unordered
-      where
-        by : (b : Bool) → (after_expiry b bytes l).stream_identifier ≡ l.stream_identifier
-        by true = refl
-        by false = refl
+    keeps l = elim c.unordered as (λ b. (after_expiry b bytes l).stream_identifier ≡ l.stream_identifier) [ true ↦ refl | false ↦ refl ]
 
     sizes : (l : StreamState) → (after_expiry c.unordered bytes l).max_payload_size ≡ l.max_payload_size
-    sizes l = by c.unordered
-      where
-        by : (b : Bool) → (after_expiry b bytes l).max_payload_size ≡ l.max_payload_size
-        by true = refl
-        by false = refl
+    sizes l = elim c.unordered as (λ b. (after_expiry b bytes l).max_payload_size ≡ l.max_payload_size) [ true ↦ refl | false ↦ refl ]
 
     same : c.unordered ≡ true → (r : ℕ) → number_of r after ≡ number_of r t.streams
     same k r =

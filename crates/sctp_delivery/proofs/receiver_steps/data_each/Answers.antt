@@ -1,4 +1,4 @@
-use Rattle.sctp_delivery.proofs.TakenTogether as together
+use Rattle.sctp_delivery.proofs.Taking as together
 use Rattle.sctp_delivery.proofs.receiver_steps.data_each.Goals as goal
 
 pub returns-clause-all : goal.returns-clause-all

@@ -1,4 +1,4 @@
-use Rattle.sctp_delivery.proofs.ReadAfterRounds.{all-read-after}
+use Rattle.sctp_delivery.proofs.RoundsEnd.{all-read-after}
 use Rattle.sctp_delivery.proofs.laws.rounds.all_is_read_after_rounds.Goals as goal
 
 pub returns : goal.returns
