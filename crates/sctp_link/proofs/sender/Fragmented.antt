@@ -1,25 +1,11 @@
 -- The fragments of a write are one message, and wait as the record says.
-use Rattle.sctp_link.proofs.Names.{◌≡◌, ℕ, ◌+◌, ◌-◌, ◌<◌, ◌%◌, ◌^◌, Bool, false, List, [], ◌∷◌, ◌++◌, length, map, Some, ap, sym, ◌∙◌, arith, ◌==◌, not}
-use Rattle.sctp_link.proofs.Names.{slice_index_or, fresh, numbers_from, pieces, ChunkPayloadData, PayloadProtocolIdentifier, with_message_id}
+use Rattle.sctp_link.proofs.Names.{◌≡◌, ℕ, ◌+◌, ◌-◌, ◌<◌, ◌%◌, ◌^◌, List, [], ◌∷◌, ◌++◌, length, map, ap, sym, ◌∙◌, arith}
+use Rattle.sctp_link.proofs.Names.{numbers_from, pieces, PayloadProtocolIdentifier, with_message_id}
 use Rattle.sctp_link.proofs.Names.{fragments_with_mode, LinkRecord, StreamRecord, message_of, fragment_count, ordered_before, message_on, waiting_at}
 use Rattle.sctp_link.proofs.Names.{waiting_of, StreamState, map-twice, pieces_of, map-all}
 use Rattle.sctp_model.proofs.refinement.sending.Waiting
 use Rattle.sctp_model.proofs.refinement.sending.Written
 use Rattle.sctp_sender.proofs.SenderStreams.{made, fragments-made}
-
-abbrev built : LinkRecord → StreamRecord → PayloadProtocolIdentifier → List ℕ → ℕ → Bool → ℕ → ℕ → ChunkPayloadData
-built w r ppi bytes i ordered size ssn =
-    record (fresh (record {
-      unordered = not ordered;
-      beginning_fragment = i == 0;
-      ending_fragment = i + 1 == length (pieces (length bytes) size bytes);
-      immediate_sack = false;
-      tsn = 0;
-      stream_identifier = r.stream;
-      stream_sequence_number = ssn;
-      payload_type = ppi;
-      user_data = slice_index_or (pieces (length bytes) size bytes) i [];
-    })) { message_id = length w.messages; reliability = Some (r.reliability, r.value) }
 
 module _ (w : LinkRecord) (s : StreamState) (r : StreamRecord) (ppi : PayloadProtocolIdentifier) (bytes : List ℕ) (number : r.stream ≡ s.stream_identifier)
     (mode : r.unordered ≡ s.unordered) (reliability : r.reliability ≡ s.reliability_type) (value : r.value ≡ s.reliability_value)
