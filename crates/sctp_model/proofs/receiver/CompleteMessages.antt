@@ -130,9 +130,6 @@ pub complete-later : (x y : Shape) → Sender x → Sender y → Grows x y → (
     → complete_in y log n ≡ complete_in x log n
 complete-later x y a b g log f n lt = step (cases_lt (sent x n) (sent y n))
   where
-    both-ways : Shape → List ℕ → ℕ → Bool → Bool
-    both-ways z places k o = (length places == k) && (if o then list_all (Log.arrived_new log) places else Log.were_complete places log)
-
     ordered-is : (y.message n).ordered ≡ (x.message n).ordered
     ordered-is = ap (λ m. m.ordered) (g.message n lt)
 

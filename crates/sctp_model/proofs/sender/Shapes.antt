@@ -6,17 +6,12 @@ use Rattle.sctp_util.proofs.More.{length-changed, changed-keeps}
 use Rattle.sctp_model.specs.LinkRecord.{Message, Slot, Report, LinkRecord}
 use Rattle.sctp_model.specs.Messages.{message_at, slot_at, no_message, no_slot, sent_of}
 use Rattle.sctp_model.specs.Changes
-use Rattle.sctp_model.proofs.sender.Shape.{Shape, MessagePart, SlotPart, shape, message_part, slot_part, slotted, written, abandoned_at, expired_at}
+use Rattle.sctp_model.proofs.sender.Shape.{MessagePart, SlotPart, shape, message_part, slot_part, slotted, written, abandoned_at, expired_at}
 use Rattle.sctp_util.proofs.Getting.{get-snoc, get-changed, get-map, length-mapped, get-numbered, length-numbered}
 
 -- The shape of the record after each change.
 
--- ## Lists
-
 -- ## Shapes
-
-abbrev shape_by : ℕ → ℕ → (ℕ → MessagePart) → ℕ → (ℕ → SlotPart) → Shape
-shape_by size count message slots slot = record { size = size; count = count; message = message; slots = slots; slot = slot }
 
 -- other messages
 shape-messages : (w : LinkRecord) (ms : List Message) (count : ℕ) (message : ℕ → MessagePart) → length ms ≡ count

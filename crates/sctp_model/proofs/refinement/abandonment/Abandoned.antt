@@ -18,7 +18,7 @@ use Rattle.sctp_data.specs.ChunkSet.{fresh}
 use Rattle.sctp_outbound.specs.declared.pending_queue.Selected.{Selected}
 use Rattle.sctp_outbound.specs.Marks.{is_of, as_abandoned}
 use Rattle.sctp_outbound.specs.payload_queue.PayloadQueue as payload
-use Rattle.sctp_outbound.specs.pending_queue.PendingQueue.{Pending, selected_without, without, without_message, last_removed}
+use Rattle.sctp_outbound.specs.pending_queue.PendingQueue.{Pending, selected_without, without, last_removed}
 use Rattle.sctp_outbound.specs.pending_queue.Whole.{waits}
 use Rattle.sctp_outbound.specs.outbound_queue.OutboundQueue as queue
 use Rattle.sctp_outbound.specs.outbound_queue.OutboundQueue.{Outbound, terminal_chunk, with_terminal_chunk, tsn_after}
@@ -187,9 +187,6 @@ module _ (w : LinkRecord) (n : ℕ) where
     unordered = cc (t.unordered, those-gathered w (λ k. not (k == n)) (waits_unordered w) 0 (length w.messages), where-less (λ m. not m.ordered) (λ m. refl));
     selected = ap (selected_without n) t.selected ∙ selected-then s;
   }
-    where
-      payload_less : List ChunkPayloadData → List ChunkPayloadData
-      payload_less l = without_message n l
 
   -- ## In flight
 
