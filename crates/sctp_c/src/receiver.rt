@@ -116,7 +116,7 @@ fn hand_out(alloc: Global, receiver: Receiver, out: &mut SctpNewReceiver) -> u32
 /// Makes a receiver with no stream, to which nothing came: `first_tsn`, the peer's initial TSN, is expected next, and a message may have
 /// `max_message_size` bytes. It holds about `window` bytes at most, each chunk counted as 400 more than its user data, and no TSN farther
 /// than `reach` past the cumulative one (RFC 4960 6.2). `out` becomes its handle. Refuses with `SCTPR_INVALID`, where the window can't hold a
-/// message in the largest chunks, and with `SCTPR_NO_MEMORY`; `out` stays then.
+/// message in the largest chunks, or window or reach is 0, so that nothing could come; and with `SCTPR_NO_MEMORY`. `out` stays then.
 #[unsafe(no_mangle)]
 pub extern "C" fn sctpr_receiver_new(
     alloc: Global,
@@ -129,11 +129,13 @@ pub extern "C" fn sctpr_receiver_new(
     ensures codes { (result ≡ 0) ⊎ ((result ≡ 16) ⊎ (result ≡ 18)) }
     ensures ok { result ≡ 0 → out.new.value ≡ Some (at_first first_tsn max_message_size
         (Some (record { window = window; reach = reach }))) }
-    ensures holds { result ≢ 18 → least_window max_message_size 65519 ≤ window }
-    ensures invalid { result ≡ 18 → window < least_window max_message_size 65519 }
+    ensures holds { result ≢ 18
+        → (0 < reach) × ((0 < window) × (least_window max_message_size 65519 ≤ window)) }
+    ensures invalid { result ≡ 18
+        → (reach ≡ 0) ⊎ ((window ≡ 0) ⊎ (window < least_window max_message_size 65519)) }
     ensures refused { result ≢ 0 → out.new ≡ out.old }
 {
-    if window < Limits::least_window(max_message_size, 65_519) {
+    if reach == 0 || window == 0 || window < Limits::least_window(max_message_size, 65_519) {
         return SCTPR_INVALID;
     }
     let limits = Some(Limits { window, reach });
