@@ -104,7 +104,7 @@ static void make_host(struct host *h) {
     uint32_t tsn = any(2) ? 0u - any(40) : any(1000) * 4294967u, most = any(4) ? 5000 : any(3) * 100;
     memset(h, 0, sizeof *h);
     while (sctpr_sender_new(tsn, any(8) ? 1 + any(1200) : 1 + any(65519), most, any(3), &h->sender) != SCTPR_OK) granted = -1;
-    if (any(8)) while (sctpr_receiver_new(tsn, most, SCTPR_LEAST_WINDOW(most, 65519) + any(20000), any(70000), &h->receiver) != SCTPR_OK) granted = -1;
+    if (any(8)) while (sctpr_receiver_new(tsn, most, SCTPR_LEAST_WINDOW(most, 65519) + 1 + any(20000), 1 + any(70000), &h->receiver) != SCTPR_OK) granted = -1;
     else while (sctpr_receiver_new_unlimited(tsn, most, &h->receiver) != SCTPR_OK) granted = -1;
 }
 

@@ -53,6 +53,8 @@ static void traps(void) {
     uint64_t number = 5;
     CHECK(SCTPR_LEAST_WINDOW(65536, 65519) == 66336 && SCTPR_LEAST_WINDOW(1200, 1200) == 1600 && SCTPR_LEAST_WINDOW(1201, 1200) == 2001);
     WITHOUT_MEMORY(sctpr_receiver_new(1, 65536, 66335, 9, &receiver), SCTPR_INVALID);
+    WITHOUT_MEMORY(sctpr_receiver_new(1, 65536, 66336, 0, &receiver), SCTPR_INVALID);
+    WITHOUT_MEMORY(sctpr_receiver_new(1, 0, 0, 9, &receiver), SCTPR_INVALID);
     TRY(sctpr_receiver_new(1, 65536, 66336, 9, &receiver), SCTPR_OK, held == 0);
     sctpr_receiver_free(&receiver);
     open_both(1000, 1000);

@@ -488,9 +488,9 @@ typedef struct sctpr_receiver {
 
 /* Makes a receiver with no stream, to which nothing came: `first_tsn`, the peer's initial TSN, is expected next, and a message may have
  * `max_message_size` bytes. It holds about `window` bytes at most, each chunk counted as 400 more than its user data, and no TSN farther
- * than `reach` past the cumulative one (RFC 4960 6.2). `out` becomes its handle. SCTPR_INVALID, where `window` is under
- * SCTPR_LEAST_WINDOW(max_message_size, 65519), so that a message would never fit; SCTPR_NO_MEMORY; `out` stays then. A peer whose chunks
- * have fewer bytes of user data each needs a window of SCTPR_LEAST_WINDOW(max_message_size, bytes). */
+ * than `reach` past the cumulative one (RFC 4960 6.2). `out` becomes its handle. SCTPR_INVALID, where `window` or `reach` is 0, so that
+ * nothing could come, or `window` is under SCTPR_LEAST_WINDOW(max_message_size, 65519), so that a message would never fit; SCTPR_NO_MEMORY;
+ * `out` stays then. A peer whose chunks have fewer bytes of user data each needs a window of SCTPR_LEAST_WINDOW(max_message_size, bytes). */
 #define SCTPR_LEAST_WINDOW(size, fragment) ((size_t)(size) + 400 * (((size_t)(size) + (size_t)(fragment) - 1) / (size_t)(fragment)))
 sctpr_code sctpr_receiver_new(uint32_t first_tsn, uint32_t max_message_size, size_t window, uint32_t reach, sctpr_receiver *out);
 

@@ -25,6 +25,7 @@ pub use sctp_util::{Checksum, Error, Result};
 pub use sctp_util::util::{sna16lt, sna16lte, sna32lt, sna32lte};
 
 // the two halves (RFC 9260 6)
+pub use sctp_outbound::payload_queue::outstanding::Outstanding;
 pub use sctp_reassembly::Chunks;
 pub use sctp_receiver::advice::{AbortCause, Advice, SkipAdvice, advise, advise_skip};
 pub use sctp_receiver::receiver::Receiver;

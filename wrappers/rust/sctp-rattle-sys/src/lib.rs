@@ -533,9 +533,9 @@ extern "C" {
 
     /// Makes a receiver with no stream, to which nothing came: `first_tsn`, the peer's initial TSN, is expected next, and a message may have
     /// `max_message_size` bytes. It holds about `window` bytes at most, each chunk counted as 400 more than its user data, and no TSN farther
-    /// than `reach` past the cumulative one (RFC 4960 6.2). `out` becomes its handle. SCTPR_INVALID, where `window` is under
-    /// SCTPR_LEAST_WINDOW(max_message_size, 65519), so that a message would never fit; SCTPR_NO_MEMORY; `out` stays then. A peer whose chunks
-    /// have fewer bytes of user data each needs a window of SCTPR_LEAST_WINDOW(max_message_size, bytes).
+    /// than `reach` past the cumulative one (RFC 4960 6.2). `out` becomes its handle. SCTPR_INVALID, where `window` or `reach` is 0, so that
+    /// nothing could come, or `window` is under SCTPR_LEAST_WINDOW(max_message_size, 65519), so that a message would never fit; SCTPR_NO_MEMORY;
+    /// `out` stays then. A peer whose chunks have fewer bytes of user data each needs a window of SCTPR_LEAST_WINDOW(max_message_size, bytes).
     pub fn sctpr_receiver_new(first_tsn: u32, max_message_size: u32, window: usize, reach: u32, out: *mut sctpr_receiver) -> sctpr_code;
 
     /// The same, with no limit to what is held: for a peer that is trusted, or a replay.
