@@ -12,7 +12,6 @@ use sctp::{
     ChunkKind, Chunks, Dropped, Limits, PayloadProtocolIdentifier, Receiver, Reported, Sender,
     SenderRefusal,
 };
-use sctp_sender::replay::in_flight_at;
 use std::alloc::Global;
 
 /// How many bytes of user data a fragment has: a whole one fills a packet.
@@ -159,17 +158,9 @@ impl Association {
         }
     }
 
-    // How many bytes are under way: sent, and neither acknowledged nor abandoned nor taken for lost.
+    // How many bytes are under way: sent, and neither acknowledged nor abandoned nor taken for lost (RFC 9260 7.2).
     fn flight(&self) -> usize {
-        let mut bytes = 0usize;
-        for place in 0..self.sender.outbound().inflight_len() {
-            if let Some(chunk) = in_flight_at(&self.sender, place) {
-                if !chunk.retransmit {
-                    bytes = bytes.saturating_add(chunk.user_data.len());
-                }
-            }
-        }
-        bytes
+        self.sender.outstanding().bytes
     }
 
     /// The chunks of the next packet: none where nothing is to be sent now. Call it again until there are none, after `receive`,
