@@ -487,7 +487,7 @@ static sctpr_code sender_in_flight(struct host *h) {
     return SCTPR_OK;
 }
 
-/* Rows for what is in flight, one fewer, or one more. */
+/* Rows for what is in flight, one fewer, or one more; none where nobody wants them. */
 static size_t row_room(struct host *h) {
     size_t room = sctpr_sender_chunks_in_flight(&h->sender) + any(3);
     return room == 0 ? 0 : room - 1;
@@ -502,7 +502,8 @@ static sctpr_code sender_acked(struct host *h) {
     else code = sctpr_sender_acked_up_to(&h->sender, a_tsn(h), rows, room, &count);
     ONE_OF(code, 1, SCTPR_OK, SCTPR_STALE, SCTPR_SHORT_BUFFER, SCTPR_SACK_BEYOND_SENT, SCTPR_SACK_BAD_GAP);
     HOLDS(count == (code == SCTPR_STALE ? 0 : code == SCTPR_SHORT_BUFFER ? chunks : code == SCTPR_OK && count <= chunks ? count : 7));
-    take_back(rows, code == SCTPR_OK ? count * sizeof *rows : 0, room * sizeof *rows);
+    HOLDS(code == SCTPR_OK ? room == 0 || count <= room : code != SCTPR_SHORT_BUFFER || room > 0);
+    take_back(rows, code == SCTPR_OK && room > 0 ? count * sizeof *rows : 0, room * sizeof *rows);
     take_back_chunk(chunk, length);
     return code;
 }
@@ -514,7 +515,8 @@ static sctpr_code sender_take_back(struct host *h) {
     sctpr_code code = sctpr_sender_take_back(&h->sender, chunk, length, rows, room, &count);
     ONE_OF(code, 1, SCTPR_OK, SCTPR_STALE, SCTPR_SHORT_BUFFER, SCTPR_SACK_BEYOND_SENT, SCTPR_SACK_BAD_GAP, SCTPR_QUEUE_FULL);
     HOLDS(count == (code == SCTPR_STALE ? 0 : code == SCTPR_SHORT_BUFFER ? chunks : code == SCTPR_OK && count <= chunks ? count : 7));
-    take_back(rows, code == SCTPR_OK ? count * sizeof *rows : 0, room * sizeof *rows);
+    HOLDS(code == SCTPR_OK ? room == 0 || count <= room : code != SCTPR_SHORT_BUFFER || room > 0);
+    take_back(rows, code == SCTPR_OK && room > 0 ? count * sizeof *rows : 0, room * sizeof *rows);
     take_back_chunk(chunk, length);
     return code;
 }
@@ -544,7 +546,8 @@ static sctpr_code sender_expire(struct host *h) {
     else code = sctpr_sender_expire_rexmit(&h->sender, rows, room, &count);
     ONE_OF(code, 0, SCTPR_OK, SCTPR_SHORT_BUFFER, SCTPR_TSNS_USED_UP, SCTPR_NO_MEMORY);
     HOLDS(code == SCTPR_OK ? count <= chunks : code == SCTPR_SHORT_BUFFER ? count == chunks : count == 7);
-    take_back(rows, code == SCTPR_OK ? count * sizeof *rows : 0, room * sizeof *rows);
+    HOLDS(code == SCTPR_OK ? room == 0 || count <= room : code != SCTPR_SHORT_BUFFER || room > 0);
+    take_back(rows, code == SCTPR_OK && room > 0 ? count * sizeof *rows : 0, room * sizeof *rows);
     return code;
 }
 
