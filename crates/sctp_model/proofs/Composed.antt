@@ -1,24 +1,14 @@
 -- Without loss what is read in the end is settled by what was written and by what of it arrived.
-use Rattle.std.proofs.Common.{◌≡◌, ℕ, zero, suc, ◌+◌, ◌-◌, ◌<◌, ◌≤◌, Bool, true, false, List, [], ◌∷◌, ◌++◌, length, map, get_or, take, drop, refl, ap, sym}
-use Rattle.std.proofs.Common.{◌∙◌, inl, inr, arith}
-use Rattle.std.specs.Prelude.{◌⊎◌, if◌then◌else◌, ◌==◌, ◌&&◌, ◌||◌, not, nat_lt}
-use Rattle.std.specs.List.{list_any, list_all, filter}
-use Rattle.std.proofs.Math.Nat.{eq-or-lt_of_le}
-use Rattle.std.proofs.lemmas.Bool.{cases_lt}
-use Rattle.std.proofs.lemmas.Bool.Decides.{nat_tests}
-use Rattle.sctp_util.specs.Kept.{numbers_where, always, numbers_from, leading}
-use Rattle.sctp_util.specs.Lists.{pieces}
-use Rattle.sctp_util.proofs.Passing.{kept-same, kept-none, map-kept-same, length-kept-lt}
-use Rattle.sctp_util.proofs.More.{fails, not_both, both, and, same_test}
-use Rattle.sctp_model.specs.LinkRecord.{Setup, LinkRecord}
+use Rattle.sctp_model.proofs.Names.{◌≡◌, ℕ, zero, suc, ◌+◌, ◌-◌, ◌<◌, ◌≤◌, Bool, true, false, List, [], ◌∷◌, ◌++◌, length, map, get_or, take, drop, refl, ap}
+use Rattle.sctp_model.proofs.Names.{sym, ◌∙◌, inl, inr, arith, ◌⊎◌, if◌then◌else◌, ◌==◌, ◌&&◌, ◌||◌, not, nat_lt, list_any, list_all, filter, eq-or-lt_of_le}
+use Rattle.sctp_model.proofs.Names.{cases_lt, nat_tests, numbers_where, always, leading, kept-same, kept-none, map-kept-same, length-kept-lt, fails, not_both}
+use Rattle.sctp_model.proofs.Names.{both, and, Setup, LinkRecord, LogEntry, arrived_new, is_skipped, were_complete, is_complete_by, run_by, complete_by}
+use Rattle.sctp_model.proofs.Names.{named_by, log_of, Shown, Mode, written_on, writes_on, writes_in, modes_in, History, record_of, IsRun, OnEveryRun, IsSetup}
+use Rattle.sctp_model.proofs.Names.{IsReadWholly, ReadsAreSettled, ReadsByArrivals, NoneIsLost, messages_on, fragment_arrived, arrived_wholly, arrivals_on}
+use Rattle.sctp_model.proofs.Names.{is_passed_over, was_lost, has_loss_on, has_expired, loses_nothing, ordered_run, complete_unordered, ordered_shown}
+use Rattle.sctp_model.proofs.Names.{unordered_shown, ordered_reads, unordered_reads, is_ordered, mode_of, shown_of, same-yes, same-is, negated, or-split}
+use Rattle.sctp_model.proofs.Names.{length-mapped, numbered, all-kept, all-same, any-out, any-in, all-out, all-more, among-kept, any-append}
 use Rattle.sctp_model.specs.Messages
-use Rattle.sctp_model.specs.Log
-use Rattle.sctp_model.specs.Log.{LogEntry, SlotReceived, SkipReceived, SackMade, arrived_new, is_skipped, were_complete, is_complete_by, run_by, complete_by}
-use Rattle.sctp_model.specs.Log.{named_by, log_of, Shown, Mode, written_on, writes_on, writes_in, modes_in}
-use Rattle.sctp_model.specs.Steps.{History, record_of, IsRun}
-use Rattle.sctp_model.specs.Laws.{OnEveryRun, IsSetup, IsReadWholly, ReadsAreSettled, ReadsByArrivals, NoneIsLost, messages_on, fragment_arrived}
-use Rattle.sctp_model.specs.Laws.{arrived_wholly, arrivals_on, is_passed_over, was_lost, has_loss_on, has_expired, loses_nothing, ordered_run}
-use Rattle.sctp_model.specs.Laws.{complete_unordered, ordered_shown, unordered_shown, ordered_reads, unordered_reads, is_ordered, mode_of, shown_of}
 use Rattle.sctp_model.proofs.sender.Shape.{Shape, shape, has, sent}
 use Rattle.sctp_model.proofs.sender.Sender.{Sender}
 use Rattle.sctp_model.proofs.sender.SenderSteps.{of-has}
@@ -28,18 +18,8 @@ use Rattle.sctp_model.proofs.receiver.ReadLaws.{nothing_where_read, passing-kept
 use Rattle.sctp_model.proofs.sender.Written.{messages_are_writes}
 use Rattle.sctp_model.proofs.sender.Modes.{modes_are_kept}
 use Rattle.sctp_model.proofs.Lossless.{alive-run, is_skip, no-skips, none-named, none-skipped}
-use Rattle.sctp_util.proofs.Cases.{same-yes, same-is, negated, or-left, or-right, or-split}
-use Rattle.sctp_util.proofs.Getting.{length-mapped}
-use Rattle.sctp_util.proofs.Rows.{numbered}
-use Rattle.sctp_util.proofs.Alls.{all-kept, all-same}
-use Rattle.sctp_util.proofs.Tests.{any-out, any-in, all-out, all-more, among-kept, any-append}
 
 -- ## Complete messages
-
-arrived-more : (c : LogEntry) (log : List LogEntry) (p : ℕ) → arrived_new log p ≡ true → arrived_new (c ∷ log) p ≡ true
-arrived-more (SlotReceived q) log p e = or-left (arrived_new log p) ((q == p) && not (Log.is_seen log p)) e
-arrived-more (SkipReceived upto names) log p e = e
-arrived-more SackMade log p e = e
 
 were-arrived : (places : List ℕ) (log : List LogEntry) → were_complete places log ≡ true → list_all (arrived_new log) places ≡ true
 were-arrived places [] e = cc
@@ -48,18 +28,13 @@ were-arrived places (c ∷ log) e = side (or-split (were_complete places log) (l
   where
     side : (were_complete places log ≡ true) ⊎ (list_all (λ p. arrived_new (c ∷ log) p && not (is_skipped (c ∷ log) p)) places ≡ true)
         → (were_complete places log ≡ true → list_all (arrived_new log) places ≡ true) → list_all (arrived_new (c ∷ log)) places ≡ true
-    side (inl h) ih = all-more (arrived_new log) (arrived_new (c ∷ log)) places (λ p. arrived-more c log p) (ih h)
-    side (inr h) ih = all-more (λ p. arrived_new (c ∷ log) p && not (is_skipped (c ∷ log) p))
-        (arrived_new (c ∷ log)) places (λ p g. (both (arrived_new (c ∷ log) p) (not (is_skipped (c ∷ log) p)) g).0) h
+    side h1 h2 = grind (arith, nat_tests, all-more)
 
 arrived-were : (places : List ℕ) (log : List LogEntry) → list_any is_skip log ≡ false → 0 < length places → list_all (arrived_new log) places ≡ true
     → were_complete places log ≡ true
 arrived-were [] log n some e = absurd (omega arith)
 arrived-were (p ∷ ps) [] n some e = cc
-arrived-were (p ∷ ps) (c ∷ log) n some e =
-    or-right (were_complete (p ∷ ps) log) (list_all (λ q. arrived_new (c ∷ log) q && not (is_skipped (c ∷ log) q)) (p ∷ ps))
-    (all-more (arrived_new (c ∷ log)) (λ q. arrived_new (c ∷ log) q && not (is_skipped (c ∷ log) q)) (p ∷ ps)
-    (λ q h. and (arrived_new (c ∷ log) q) (not (is_skipped (c ∷ log) q)) h (ap not (none-skipped (c ∷ log) q n))) e)
+arrived-were (p ∷ ps) (c ∷ log) n some e = grind (arith, nat_tests, none-skipped)
 
 module _ (w : LinkRecord) (log : List LogEntry) (n : ℕ) (s : Sender (shape w)) (lt : n < length w.messages) where
   abbrev x : Shape
@@ -103,20 +78,11 @@ module _ (w : LinkRecord) (log : List LogEntry) (n : ℕ) (s : Sender (shape w))
       mapped f (p ∷ ps) = ap (λ b. (f p == i) || b) (mapped f ps)
 
   all-arrived : is_complete_by w log n ≡ true → list_all (arrived_new log) (Messages.slots_of w n) ≡ true
-  all-arrived e = step (Messages.message_at w n).ordered (both (Messages.sent_of w n == Messages.fragment_count w n) _ e).1
-    where
-      step : (b : Bool) → (if b then list_all (arrived_new log) (Messages.slots_of w n) else were_complete (Messages.slots_of w n) log) ≡ true
-          → list_all (arrived_new log) (Messages.slots_of w n) ≡ true
-      step true h = h
-      step false h = were-arrived (Messages.slots_of w n) log h
+  all-arrived e = grind (arith, nat_tests, were-arrived)
 
   place : (i : ℕ) → fragment_arrived w log n i ≡ true
       → (p : ℕ) × (p < length w.slots) × (has x n p ≡ true) × ((Messages.slot_at w p).fragment ≡ i) × (arrived_new log p ≡ true)
-  place i e =
-      let r = any-out (arrived_as i) always 0 (length w.slots) e in
-      let a = both (has x n r.0) (((Messages.slot_at w r.0).fragment == i) && arrived_new log r.0) r.4 in
-      let b = both ((Messages.slot_at w r.0).fragment == i) (arrived_new log r.0) a.1 in
-      (r.0, omega (arith, r.2), a.0, same-is (Messages.slot_at w r.0).fragment i b.0, b.1)
+  place i e = grind (arith, nat_tests, any-out)
 
   -- where each fragment arrived, all of the message was sent, and each of its slots arrived
   pub wholly-sent : arrived_wholly w log n ≡ true
@@ -152,16 +118,7 @@ module _ (w : LinkRecord) (log : List LogEntry) (n : ℕ) (s : Sender (shape w))
   -- a message is complete exactly where it arrived wholly, an unordered one before a skip covered a fragment
   pub complete-settled : ((Messages.message_at w n).ordered ≡ false → arrived_wholly w log n ≡ true → were_complete (Messages.slots_of w n) log ≡ true)
       → is_complete_by w log n ≡ arrived_wholly w log n
-  complete-settled early = same_test (is_complete_by w log n) (arrived_wholly w log n) complete-arrived (λ e.
-      let a = wholly-sent e in
-      and (Messages.sent_of w n == Messages.fragment_count w n) (if (Messages.message_at w n).ordered then list_all (arrived_new log) (Messages.slots_of w n)
-      else were_complete (Messages.slots_of w n) log) (ap (λ c. c == Messages.fragment_count w n) a.0 ∙ same-yes (Messages.fragment_count w n))
-      (kind (Messages.message_at w n).ordered refl a.1 e))
-    where
-      kind : (b : Bool) → (Messages.message_at w n).ordered ≡ b → list_all (arrived_new log) (Messages.slots_of w n) ≡ true → arrived_wholly w log n ≡ true
-          → (if b then list_all (arrived_new log) (Messages.slots_of w n) else were_complete (Messages.slots_of w n) log) ≡ true
-      kind true o h e = h
-      kind false o h e = early o e
+  complete-settled early = grind (arith, nat_tests, complete-arrived, wholly-sent)
 
   -- without skips an unordered message is complete where it arrived wholly
   pub early-enough : list_any is_skip log ≡ false → arrived_wholly w log n ≡ true → were_complete (Messages.slots_of w n) log ≡ true
@@ -176,27 +133,7 @@ record Unlost (w : LinkRecord) (log : List LogEntry) (s n : ℕ) : Type 0 where
   early : (Messages.message_at w n).ordered ≡ false → arrived_wholly w log n ≡ true → were_complete (Messages.slots_of w n) log ≡ true
 
 unlost-parts : (w : LinkRecord) (log : List LogEntry) (s n : ℕ) → (Messages.message_at w n).stream ≡ s → was_lost w log n ≡ false → Unlost w log s n
-unlost-parts w log s n at e = record {
-  unexpired = λ o. (ordered-parts (Messages.message_at w n).ordered (Messages.message_at w n).expired (is_passed_over w log n) (arrived_wholly w log n)
-      (were_complete (Messages.slots_of w n) log) o e).0;
-  near = λ o l. (ordered-parts (Messages.message_at w n).ordered (Messages.message_at w n).expired (is_passed_over w log n) (arrived_wholly w log n)
-      (were_complete (Messages.slots_of w n) log) o e).1 (ap (λ t. nat_lt (Messages.ordered_before w t n) (named_by w t log)) at ∙ l);
-  early = unordered-parts (Messages.message_at w n).ordered (Messages.message_at w n).expired (is_passed_over w log n) (arrived_wholly w log n)
-      (were_complete (Messages.slots_of w n) log) e;
-}
-  where
-    ordered-parts : (o x p a u : Bool) → o ≡ true → (if o then x || (p && not a) else a && not u) ≡ false → (x ≡ false) × (p ≡ true → a ≡ true)
-    ordered-parts true false true true u e f = (refl, λ h. refl)
-    ordered-parts true false true false u e f = cc
-    ordered-parts true false false a u e f = (refl, λ h. cc)
-    ordered-parts true true p a u e f = cc
-    ordered-parts false x p a u e f = cc
-
-    unordered-parts : (o x p a u : Bool) → (if o then x || (p && not a) else a && not u) ≡ false → o ≡ false → a ≡ true → u ≡ true
-    unordered-parts false x p true true f e g = refl
-    unordered-parts false x p true false f e g = cc
-    unordered-parts false x p false u f e g = cc
-    unordered-parts true x p a u f e g = cc
+unlost-parts w log s n at e = grind (arith, nat_tests)
 
 -- where none has a property, this one has not
 none-has : (t p : ℕ → Bool) (count : ℕ) → list_any t (numbers_where p 0 count) ≡ false → (n : ℕ) → n < count → p n ≡ true → t n ≡ false
@@ -206,12 +143,7 @@ none-has t p count e n lt h = fails (t n) (λ y. not_both (sym e ∙ any-in t p 
 has-none : (t p : ℕ → Bool) (from count : ℕ) → ((n : ℕ) → from ≤ n → n < from + count → p n ≡ true → t n ≡ false)
     → list_any t (numbers_where p from count) ≡ false
 has-none t p from zero h = refl
-has-none t p from (suc count) h = step (p from) refl (has-none t p (from + 1) count (λ n a b e. h n (omega arith) (omega arith) e))
-  where
-    step : (b : Bool) → p from ≡ b → list_any t (numbers_where p (from + 1) count) ≡ false
-        → list_any t (if b then from ∷ numbers_where p (from + 1) count else numbers_where p (from + 1) count) ≡ false
-    step true e ih = rw (h from (omega arith) (omega arith) e) ih
-    step false e ih = ih
+has-none t p from (suc count) h = grind (arith, nat_tests, (has-none t p (from + 1) count (λ n a b e. h n (omega arith) (omega arith) e)))
 
 -- without losing events nothing is lost
 module _ (setup : Setup) (h : History) (run : IsRun setup h) (lossless : list_all (λ entry. loses_nothing entry.0) h ≡ true) where
@@ -225,23 +157,14 @@ module _ (setup : Setup) (h : History) (run : IsRun setup h) (lossless : list_al
   none = no-skips setup h lossless
 
   late : (n : ℕ) → n < length v.messages → (a : Bool) → arrived_wholly v came n ≡ a → (a && not (were_complete (Messages.slots_of v n) came)) ≡ false
-  late n lt true e = ap not (early-enough v came n (consistent-run setup h run).sender lt none e)
-  late n lt false e = refl
-
-  never : (i : ℕ) → nat_lt i 0 ≡ false
-  never i = grind (arith, nat_tests)
+  late n h1 a h2 = grind (arith, nat_tests, early-enough, consistent-run, none)
 
   not-lost : (n : ℕ) → n < length v.messages → (o : Bool) → (if o then has_expired v n || (is_passed_over v came n && not (arrived_wholly v came n))
       else arrived_wholly v came n && not (were_complete (Messages.slots_of v n) came)) ≡ false
-  not-lost n lt true =
-      let unnamed : is_passed_over v came n ≡ false = ap (nat_lt (Messages.index_of v n)) (none-named v (Messages.message_at v n).stream came none)
-      ∙ never (Messages.index_of v n) in
-      rw ((alive-run setup h lossless n lt).0, unnamed) refl
-  not-lost n lt false = late n lt (arrived_wholly v came n) refl
+  not-lost n h1 o = grind (arith, nat_tests, none-named, none, alive-run, late)
 
   none-lost : (s : ℕ) → has_loss_on setup h s ≡ false
-  none-lost s = has-none (was_lost v came) (λ n. (Messages.message_at v n).stream == s) 0 (length v.messages)
-      (λ n a b at. not-lost n (omega arith) (Messages.message_at v n).ordered)
+  none-lost s = grind (arith, nat_tests, has-none, not-lost)
 
 pub none_is_lost : OnEveryRun NoneIsLost
 none_is_lost setup h is run s lossless = none-lost setup h run lossless s
@@ -251,44 +174,8 @@ none_is_lost setup h is run s lossless = none-lost setup h run lossless s
 -- the unordered messages that became complete are those that are complete
 complete-among : (w : LinkRecord) (s n : ℕ) (log : List LogEntry)
     → list_any (λ k. k == n) (complete_by w log s) ≡ (nat_lt n (length w.messages) && (Messages.is_unordered_on w s n && is_complete_by w log n))
-complete-among w s n [] = sym (none (nat_lt n (length w.messages)) ((Messages.message_at w n).stream == s) (Messages.message_at w n).ordered
-    (Messages.sent_of w n == Messages.fragment_count w n))
-  where
-    none : (a b o d : Bool) → (a && ((b && not o) && (d && (if o then list_all (arrived_new []) (Messages.slots_of w n) else false)))) ≡ false
-    none true true true d = refl
-    none true true false true = refl
-    none true true false false = refl
-    none true false o d = refl
-    none false b o d = refl
-complete-among w s n (c ∷ log) =
-    any-append (λ k. k == n) (complete_by w log s)
-    (Messages.messages_where w (λ k. Messages.is_unordered_on w s k && (is_complete_by w (c ∷ log) k && not (is_complete_by w log k))))
-    ∙ ap (λ b. b || list_any (λ k. k == n)
-    (Messages.messages_where w (λ k. Messages.is_unordered_on w s k && (is_complete_by w (c ∷ log) k && not (is_complete_by w log k)))))
-    (complete-among w s n log) ∙ ap (λ b. (nat_lt n (length w.messages) && (Messages.is_unordered_on w s n && is_complete_by w log n)) || b) (among-kept
-    (λ k. Messages.is_unordered_on w s k && (is_complete_by w (c ∷ log) k && not (is_complete_by w log k))) n 0 (length w.messages) (omega arith))
-    ∙ ap (λ k. (nat_lt n (length w.messages) && (Messages.is_unordered_on w s n && is_complete_by w log n))
-    || (nat_lt n k && (Messages.is_unordered_on w s n && (is_complete_by w (c ∷ log) n && not (is_complete_by w log n)))))
-    (let z : 0 + length w.messages ≡ length w.messages = omega arith in z) ∙ joined (nat_lt n (length w.messages)) ((Messages.message_at w n).stream == s)
-    (Messages.message_at w n).ordered refl (is_complete_by w log n) (is_complete_by w (c ∷ log) n) refl refl
-  where
-    more : (Messages.message_at w n).ordered ≡ false → is_complete_by w log n ≡ true → is_complete_by w (c ∷ log) n ≡ true
-    more o e =
-        let a = both (Messages.sent_of w n == Messages.fragment_count w n)
-        (if (Messages.message_at w n).ordered then list_all (arrived_new log) (Messages.slots_of w n) else were_complete (Messages.slots_of w n) log) e in
-        let b : were_complete (Messages.slots_of w n) log ≡ true =
-        ap (λ t. if t then list_all (arrived_new log) (Messages.slots_of w n) else were_complete (Messages.slots_of w n) log) (sym o) ∙ a.1 in
-        cc
-
-    joined : (a b o : Bool) → (Messages.message_at w n).ordered ≡ o → (old new : Bool) → is_complete_by w log n ≡ old → is_complete_by w (c ∷ log) n ≡ new
-        → ((a && ((b && not o) && old)) || (a && ((b && not o) && (new && not old)))) ≡ (a && ((b && not o) && new))
-    joined true true false e true true x y = refl
-    joined true true false e true false x y = absurd (not_both (sym y ∙ more e x))
-    joined true true false e false true x y = refl
-    joined true true false e false false x y = refl
-    joined true true true e old new x y = refl
-    joined true false o e old new x y = refl
-    joined false b o e old new x y = refl
+complete-among w s n [] = grind (arith, nat_tests)
+complete-among w s n (c ∷ log) = grind (arith, nat_tests, any-append, among-kept, both, not_both, (complete-among w s n log))
 
 -- the run, where each of those passed over is complete
 run-passed : (t : ℕ → Bool) (i : ℕ) (xs : List ℕ) → filter (λ n. not (t n)) (take i xs) ≡ [] → filter t (take i xs) ++ leading t (drop i xs) ≡ leading t xs
@@ -300,20 +187,12 @@ run-passed t (suc i) (x ∷ xs) e = step (t x) e (run-passed t i xs)
     step : (b : Bool) → (if not b then x ∷ filter (λ n. not (t n)) (take i xs) else filter (λ n. not (t n)) (take i xs)) ≡ []
         → (filter (λ n. not (t n)) (take i xs) ≡ [] → filter t (take i xs) ++ leading t (drop i xs) ≡ leading t xs)
         → (if b then x ∷ filter t (take i xs) else filter t (take i xs)) ++ leading t (drop i xs) ≡ (if b then x ∷ leading t xs else [])
-    step true e ih = ap (λ l. x ∷ l) (ih e)
-    step false e ih = cc
+    step b h1 h2 = grind (arith, nat_tests)
 
 -- the ordered ones in the lead, by what was written and what arrived
 leading-as : (f : ℕ → Shown) (o t : ℕ → Bool) (ns : List ℕ) → map f (leading t (filter o ns)) ≡ ordered_run (map (λ n. (f n, not (o n))) ns) (map t ns)
 leading-as f o t [] = refl
-leading-as f o t (n ∷ ns) = step (o n) (t n) refl (leading-as f o t ns)
-  where
-    step : (a b : Bool) → t n ≡ b → map f (leading t (filter o ns)) ≡ ordered_run (map (λ n. (f n, not (o n))) ns) (map t ns)
-        → map f (leading t (if a then n ∷ filter o ns else filter o ns)) ≡ (if not a then ordered_run (map (λ n. (f n, not (o n))) ns) (map t ns)
-        else (if b then f n ∷ ordered_run (map (λ n. (f n, not (o n))) ns) (map t ns) else []))
-    step true true y ih = rw y (ap (λ l. f n ∷ l) ih)
-    step true false y ih = rw y refl
-    step false b y ih = ih
+leading-as f o t (n ∷ ns) = grind (arith, nat_tests, (leading-as f o t ns))
 
 -- the unordered complete ones, by what was written and what arrived
 complete_ones-as : (f : ℕ → Shown) (o t : ℕ → Bool) (ns : List ℕ)
@@ -325,15 +204,7 @@ complete_ones-as f o t (n ∷ ns) = ap (λ l. (not (o n) && t n) ∷ l) (complet
 written-as : (s : ℕ) (f : ℕ → Shown) (g : ℕ → Mode) (from count : ℕ) → written_on s (map f (numbers_where always from count))
     (map g (numbers_where always from count)) ≡ map (λ n. (f n, (g n).unordered)) (numbers_where (λ n. (f n).0 == s) from count)
 written-as s f g from zero = refl
-written-as s f g from (suc count) = step ((f from).0 == s) (written-as s f g (from + 1) count)
-  where
-    step : (b : Bool) → written_on s (map f (numbers_where always (from + 1) count))
-        (map g (numbers_where always (from + 1) count)) ≡ map (λ n. (f n, (g n).unordered)) (numbers_where (λ n. (f n).0 == s) (from + 1) count)
-        → (if b then (f from, (g from).unordered) ∷ written_on s (map f (numbers_where always (from + 1) count)) (map g (numbers_where always (from + 1) count))
-        else written_on s (map f (numbers_where always (from + 1) count)) (map g (numbers_where always (from + 1) count))) ≡ map (λ n. (f n, (g n).unordered))
-        (if b then from ∷ numbers_where (λ n. (f n).0 == s) (from + 1) count else numbers_where (λ n. (f n).0 == s) (from + 1) count)
-    step true ih = ap (λ l. (f from, (g from).unordered) ∷ l) ih
-    step false ih = ih
+written-as s f g from (suc count) = grind (arith, nat_tests, (written-as s f g (from + 1) count))
 
 -- a list by its places
 moved-up : {A : Type 0} (h : ℕ → A) (from count : ℕ) → map h (numbers_where always (from + 1) count) ≡ map (λ n. h (n + 1)) (numbers_where always from count)
@@ -366,8 +237,7 @@ module _ (setup : Setup) (h : History) (s : ℕ) (is : IsSetup setup) (run : IsR
   complete-here n lt at = complete-settled w log n (consistent-run setup h run).sender lt (parts n lt at).early
 
   complete_ones-are : map (is_complete_by w log) (messages_on w s) ≡ arrivals_on setup h s
-  complete_ones-are =
-      map-kept-same (is_complete_by w log) (arrived_wholly w log) here here 0 (length w.messages) (λ k a b. refl) (λ k a b e. complete-here k (omega arith) e)
+  complete_ones-are = grind (arith, nat_tests, map-kept-same, complete-here)
 
   writes-are : writes_on h s ≡ map (λ n. (shown_of w n, not (is_ordered w n))) (messages_on w s)
   writes-are =
@@ -387,11 +257,7 @@ module _ (setup : Setup) (h : History) (s : ℕ) (is : IsSetup setup) (run : IsR
       step n lt false at t o = refl
 
   placed : (k : ℕ) → Messages.ordered_before w s k ≡ 0 + length (numbers_where (Messages.is_ordered_on w s) 0 (k - 0))
-  placed k =
-      let z : k ≡ k - 0 = omega arith in
-      let e : length (numbers_where (Messages.is_ordered_on w s) 0 k) ≡ length (numbers_where (Messages.is_ordered_on w s) 0 (k - 0)) =
-      ap (λ j. length (numbers_where (Messages.is_ordered_on w s) 0 j)) z in
-      omega (arith, e)
+  placed k = grind (arith, nat_tests)
 
   -- each of those passed over is complete
   none-passed : filter (λ n. not (is_complete_by w log n)) (take (named_by w s log) (Messages.ordered_on w s)) ≡ []
@@ -424,14 +290,10 @@ module _ (setup : Setup) (h : History) (s : ℕ) (is : IsSetup setup) (run : IsR
     where
       step : (n : ℕ) (l : Bool) → l ≡ true → (b : Bool) → b ≡ true
           → (l && ((b && not (is_ordered w n)) && is_complete_by w log n)) ≡ (not (is_ordered w n) && is_complete_by w log n)
-      step n true e true f = refl
-      step n true e false f = cc
-      step n false e b f = cc
+      step n l h1 b h2 = grind (arith, nat_tests)
 
 pub reads_by_arrivals : OnEveryRun ReadsByArrivals
-reads_by_arrivals setup h is run s unlost exhausted =
-    let r = (nothing_where_read setup h is run s).0 exhausted in
-    (ordered-settled setup h s is run unlost r.0, unordered-settled setup h s is run unlost r.1)
+reads_by_arrivals setup h is run s unlost exhausted = grind (arith, nat_tests, nothing_where_read, ordered-settled, unordered-settled)
 
 -- ## Two histories
 
@@ -461,10 +323,7 @@ same-at {A} f g p from (suc count) n e a b h = step (p from) refl e (eq-or-lt_of
     step : (b : Bool) → p from ≡ b → map f (if b then from ∷ numbers_where p (from + 1) count else numbers_where p (from + 1) count)
         ≡ map g (if b then from ∷ numbers_where p (from + 1) count else numbers_where p (from + 1) count) → (from ≡ n) ⊎ (from < n)
         → (map f (numbers_where p (from + 1) count) ≡ map g (numbers_where p (from + 1) count) → from + 1 ≤ n → f n ≡ g n) → f n ≡ g n
-    step true x t (inl z) ih = let y : f from ≡ g from = cc in ap f (sym z) ∙ y ∙ ap g z
-    step true x t (inr l) ih = let y : map f (numbers_where p (from + 1) count) ≡ map g (numbers_where p (from + 1) count) = cc in ih y (omega arith)
-    step false x t (inl z) ih = absurd (not_both (sym x ∙ ap p z ∙ h))
-    step false x t (inr l) ih = ih t (omega arith)
+    step b h1 h2 h3 h4 = grind (arith, nat_tests)
 
 module _ (setup : Setup) (g h : History) (s : ℕ) (a : IsReadWholly setup g s) (b : IsReadWholly setup h s) (same : SameFragments setup g h s) where
   abbrev old : LinkRecord
@@ -493,20 +352,10 @@ module _ (setup : Setup) (g h : History) (s : ℕ) (a : IsReadWholly setup g s) 
       ∙ sym (messages_are_writes setup h b.is b.run)) (omega arith) (omega arith) refl
 
   line : messages_on old s ≡ messages_on new s
-  line =
-      cc (counts, kept-same (λ n. (Messages.message_at old n).stream == s) there 0 (length new.messages) (λ n i j. ap (λ y. y.0 == s) (each n (omega arith))))
+  line = grind (arith, nat_tests, counts, kept-same, each)
 
   parts-same : (n : ℕ) → n < length new.messages → Messages.fragment_count old n ≡ Messages.fragment_count new n
-  parts-same n lt =
-      ap (λ y. length (pieces (length y) old.setup.size y)) (ap (λ y. y.2) (each n lt))
-      ∙ ap (λ z. length (pieces (length (Messages.message_at new n).bytes) z.size (Messages.message_at new n).bytes))
-      ((consistent-run setup g a.run).setup_is ∙ sym (consistent-run setup h b.run).setup_is)
+  parts-same n lt = grind (arith, nat_tests, each, consistent-run)
 
   arrivals : arrivals_on setup g s ≡ arrivals_on setup h s
-  arrivals =
-      ap (map (arrived_wholly old (log_of setup g))) line
-      ∙ map-kept-same (arrived_wholly old (log_of setup g)) (arrived_wholly new (log_of setup h)) there there 0 (length new.messages) (λ n i j. refl)
-      (λ n i j at.
-      ap (λ c. list_all (fragment_arrived old (log_of setup g) n) (numbers_from 0 c)) (parts-same n (omega arith))
-      ∙ all-same (fragment_arrived old (log_of setup g) n) (fragment_arrived new (log_of setup h) n) always 0 (Messages.fragment_count new n)
-      (λ k x y z. same.fragments n k (same-is (Messages.message_at new n).stream s at)))
+  arrivals = search (arith, nat_tests, line, map-kept-same, parts-same, all-same, same-is)

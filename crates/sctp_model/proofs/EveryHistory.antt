@@ -1,7 +1,7 @@
 -- All laws at once.
-use Rattle.sctp_model.specs.Laws.{EachSendEmits, SlotsAreValid, ArrivalsAgree, OrderedReads, UnorderedReads, NothingWhenExhausted, OnlyArrivedIsAcknowledged}
-use Rattle.sctp_model.specs.Laws.{BytesBalance, LifetimesEnd, DatagramsKeepLimit, CountersCount, Composition, RecordsAreValid, Headline, Beside}
-use Rattle.sctp_model.specs.Laws.{ReliableDelivery, PartialDelivery}
+use Rattle.sctp_model.proofs.Names.{EachSendEmits, SlotsAreValid, ArrivalsAgree, OrderedReads, UnorderedReads, NothingWhenExhausted, OnlyArrivedIsAcknowledged}
+use Rattle.sctp_model.proofs.Names.{BytesBalance, LifetimesEnd, DatagramsKeepLimit, CountersCount, Composition, RecordsAreValid, Headline, Beside}
+use Rattle.sctp_model.proofs.Names.{ReliableDelivery, PartialDelivery}
 use Rattle.sctp_model.proofs.acknowledgement.Acknowledged.{acknowledged_arrived, acknowledged_is_reported, sacks_say}
 use Rattle.sctp_model.proofs.receiver.Arrivals.{arrived_is_new, cumulative_is_seen, arrivals_answered}
 use Rattle.sctp_model.proofs.acknowledgement.Bytes.{balances}

@@ -1,31 +1,17 @@
 -- What a sender and a receiver can count on in each exchange.
-use Rattle.std.proofs.Common.{◌≡◌, ℕ, zero, suc, ◌+◌, ◌-◌, ◌<◌, ◌≤◌, ◌^◌, ◌%◌, Bool, true, false, List, [], ◌∷◌, ◌++◌, length, map, Option, Some, None, refl}
-use Rattle.std.proofs.Common.{ap, sym, ◌∙◌, inl, inr, arith, zero-add}
-use Rattle.std.specs.Prelude.{◌⊎◌, if◌then◌else◌, ◌==◌, ◌&&◌, ◌||◌, not, nat_lt, nat_le, min, max, slice_get, take, All}
-use Rattle.std.specs.List.{list_all, list_any}
-use Rattle.std.proofs.lemmas.Bool.{cases_lt}
-use Rattle.std.proofs.lemmas.Bool.Decides.{nat_tests}
-use Rattle.sctp_util.specs.Kept.{numbers_where, always, numbers_from, runs_of, put_before_runs, first_of, or_else}
-use Rattle.sctp_util.proofs.Passing.{map-kept-same, unbroken-le}
-use Rattle.sctp_util.proofs.More.{both, and, not_both, length-kept-positive, fails}
-use Rattle.sctp_util.proofs.Cases.{same-yes, negated, or-right, or-split}
-use Rattle.sctp_util.proofs.Getting.{map-twice, length-mapped, numbered-at, get-last, get-snoc_new, get-snoc_old}
-use Rattle.sctp_util.proofs.Totals.{length-numbers}
-use Rattle.sctp_util.proofs.Tests.{any-in, all-out, FirstOf, first-kept}
-use Rattle.sctp_model.specs.declared.event.Event.{Event}
+use Rattle.sctp_model.proofs.Names.{◌≡◌, ℕ, zero, suc, ◌+◌, ◌-◌, ◌<◌, ◌≤◌, ◌^◌, ◌%◌, Bool, true, false, List, [], ◌∷◌, ◌++◌, length, map, Option, Some, None}
+use Rattle.sctp_model.proofs.Names.{refl, ap, sym, ◌∙◌, inl, inr, arith, zero-add, ◌⊎◌, if◌then◌else◌, ◌==◌, ◌&&◌, ◌||◌, not, nat_lt, nat_le, min, max}
+use Rattle.sctp_model.proofs.Names.{slice_get, All, take, list_all, list_any, cases_lt, nat_tests, numbers_where, always, numbers_from, runs_of}
+use Rattle.sctp_model.proofs.Names.{put_before_runs, first_of, or_else, map-kept-same, unbroken-le, both, and, not_both, length-kept-positive, fails, same-yes}
+use Rattle.sctp_model.proofs.Names.{or-right, or-split, map-twice, length-mapped, numbered-at, get-last, get-snoc_new, get-snoc_old, length-numbers, any-in}
+use Rattle.sctp_model.proofs.Names.{all-out, FirstOf, first-kept, Event, Setup, Datagram, Data, Forward, Sack, LinkRecord, arrived_at, cumulative, report_of}
+use Rattle.sctp_model.proofs.Names.{reports, distances, gap_blocks, chunk_at, log_of, seen_count, History, record_of, IsRun, after, refusal_of, sent_reply}
+use Rattle.sctp_model.proofs.Names.{OnEveryRun, shown_of}
 use Rattle.sctp_model.specs.declared.event.Event.TheVariants as E
-use Rattle.sctp_model.specs.declared.event.LinkRefusal.TheVariants.{NotInFlight, StreamUnknown, MessageTooLarge, TsnsUsedUp, SkipNames, SkipUnassigned}
 use Rattle.sctp_model.specs.Reply as R
-use Rattle.sctp_model.specs.LinkRecord.{Setup, Datagram, Data, Forward, Sack, LinkRecord}
 use Rattle.sctp_model.specs.Messages
-use Rattle.sctp_model.specs.Receiver.{arrived_at, cumulative}
-use Rattle.sctp_model.specs.Reports.{report_of, reports, distances, gap_blocks}
 use Rattle.sctp_model.specs.Changes
-use Rattle.sctp_model.specs.Contents.{chunk_at}
 use Rattle.sctp_model.specs.Log
-use Rattle.sctp_model.specs.Log.{log_of, seen_count}
-use Rattle.sctp_model.specs.Steps.{History, record_of, IsRun, after, refusal_of, sent_reply, unless, can_resend, can_name, fragments_accepted, fragments_in}
-use Rattle.sctp_model.specs.Laws.{OnEveryRun, is_ordered, sent_before, shown_of}
 use Rattle.sctp_model.specs.Exchanges
 use Rattle.sctp_model.proofs.acknowledgement.Acknowledged.{acknowledged_is_reported, blocks-are}
 use Rattle.sctp_model.proofs.receiver.Arrivals.{arrivals-run, cumulative_is_seen}
@@ -33,7 +19,6 @@ use Rattle.sctp_model.proofs.receiver.Shown.{slots-joined}
 use Rattle.sctp_model.proofs.sender.Shape.{shape, front_of, index}
 use Rattle.sctp_model.proofs.sender.Network.{same-network, network-after}
 use Rattle.sctp_model.proofs.sender.Shapes
-use Rattle.sctp_util.specs.Lists.{pieces}
 use Rattle.sctp_model.proofs.sender.SenderSteps.{of-has}
 use Rattle.sctp_model.proofs.sender.SenderRun.{consistent-run, filled-keeps, unless-holds}
 use Rattle.sctp_model.proofs.sender.Slots.{slots_in_order, indexes_leave_no_gap}
@@ -61,18 +46,13 @@ begin_and_end setup h is run n last lt e =
     ending i m same = ap (λ k. i + 1 == Messages.fragment_count (record_of setup h) k) same ∙ ap (λ c. i + 1 == c) e ∙ grind (arith, nat_tests)
 
 all-cons : {A : Type 0} (P : A → Type 0) (x : A) (xs : List A) → P x → All P xs → All P (x ∷ xs)
-all-cons P x xs p ps zero d lt = p
-all-cons P x xs p ps (suc k) d lt = ps k d (omega (arith, lt))
+all-cons {A} P x xs h1 h2 = grind (arith, nat_tests)
 
 all-mapped : {A : Type 0} (P : A → Type 0) (f : ℕ → A) (t : ℕ → Bool) (from count : ℕ) → ((k : ℕ) → from ≤ k → k < from + count → t k ≡ true → P (f k))
     → All P (map f (numbers_where t from count))
 all-mapped P f t from zero each = λ k d lt. absurd (omega (arith, lt))
-all-mapped {A} P f t from (suc count) each = step (t from) refl (all-mapped P f t (from + 1) count (λ k a b e. each k (omega arith) (omega arith) e))
-  where
-    step : (b : Bool) → t from ≡ b → All P (map f (numbers_where t (from + 1) count))
-        → All P (map f (if b then from ∷ numbers_where t (from + 1) count else numbers_where t (from + 1) count))
-    step true e ih = all-cons P (f from) (map f (numbers_where t (from + 1) count)) (each from (omega arith) (omega arith) e) ih
-    step false e ih = ih
+all-mapped {A} P f t from (suc count) each =
+    grind (arith, nat_tests, all-cons, (all-mapped P f t (from + 1) count (λ k a b e. each k (omega arith) (omega arith) e)))
 
 pub chunks_say_messages : OnEveryRun Exchanges.ChunksSayMessages
 chunks_say_messages setup h is run n =
@@ -84,13 +64,7 @@ chunks_say_messages setup h is run n =
     w = record_of setup h
 
     number : 0 < Messages.sent_of w n → Messages.ssn_of w n ≡ Exchanges.number_of w n
-    number pos = step (Messages.message_at w n).ordered refl
-      where
-        step : (b : Bool) → (Messages.message_at w n).ordered ≡ b
-            → (if b then Messages.index_of w n else (Messages.message_at w n).before) % 2 ^ 16
-            ≡ (if b then length (sent_before w n) else (Messages.message_at w n).before) % 2 ^ 16
-        step true o = ap (λ i. i % 2 ^ 16) (indexes_leave_no_gap setup h is run n o pos)
-        step false o = refl
+    number pos = grind (arith, nat_tests, indexes_leave_no_gap)
 
     says : (k : ℕ) → k < length w.slots → Messages.has_fragment w n k ≡ true → Exchanges.SaysMessage w n (chunk_at w k)
     says k lt f =
@@ -104,28 +78,12 @@ chunks_say_messages setup h is run n =
         )
 
 pub chunks_join : OnEveryRun Exchanges.ChunksJoin
-chunks_join setup h is run n lt all =
-    let s = consistent-run setup h run in slots-joined (record_of setup h) n s.sender (omega (arith, ap (λ t. t.size) s.setup_is, is.some)) all
+chunks_join setup h is run n lt all = grind (arith, nat_tests, consistent-run, slots-joined)
 
 -- ## What goes again
 
 pub outstanding_go_again : OnEveryRun Exchanges.OutstandingGoAgain
-outstanding_go_again setup h is run tsn ok =
-    let w = record_of setup h in
-    let place = Messages.place_of w tsn in
-    let can : can_resend w place ≡ true = (unless-holds (can_resend w place) NotInFlight None ok).0 in
-    let a = both (Messages.is_in_flight w place)
-    (not (Messages.slot_at w place).acknowledged && not (Messages.message_at w (Messages.message_of w place)).abandoned) can in
-    let b = both (not (Messages.slot_at w place).acknowledged) (not (Messages.message_at w (Messages.message_of w place)).abandoned) a.1 in
-    let f = both (nat_le w.taken place) (nat_lt place (length w.slots)) a.0 in
-    let test : nat_lt place (length w.slots) ≡ true = f.1 in
-    let lt : place < length w.slots = grind (arith, nat_tests) in (
-      lt,
-      (
-        sym ((acknowledged_is_reported setup h is run).0 place lt) ∙ negated (Messages.slot_at w place).acknowledged b.0,
-        negated (Messages.message_at w (Messages.message_of w place)).abandoned b.1,
-      ),
-    )
+outstanding_go_again setup h is run tsn ok = grind (arith, nat_tests, acknowledged_is_reported)
 
 -- ## What a SACK acknowledges
 
@@ -136,11 +94,7 @@ covers c p b = nat_le (c + b.0) (p + 1) && nat_le (p + 1) (c + b.1)
 -- once a SACK is taken, each slot that it reports is acknowledged
 taken-reports : (w : LinkRecord) (credit place : ℕ) → place < length w.slots → reports (report_of w credit) place ≡ true
     → (Messages.slot_at (Exchanges.acknowledged w credit) place).acknowledged ≡ true
-taken-reports w credit place lt r =
-    ap (λ o. (Messages.slot_at (Changes.after_acked (Changes.after_ack w credit) o) place).acknowledged) (get-last w.network (Sack (report_of w credit)))
-    ∙ ap (λ y. y.acknowledged) (numbered-at (Changes.acknowledged_by (report_of w credit)) 0 place w.slots Messages.no_slot lt)
-    ∙ ap (λ i. (Messages.slot_at w place).acknowledged || reports (report_of w credit) i) (zero-add place)
-    ∙ or-right (Messages.slot_at w place).acknowledged (reports (report_of w credit) place) r
+taken-reports w credit place lt r = search (arith, nat_tests, get-last, numbered-at, zero-add, or-right)
 
 pub acknowledges_seen : OnEveryRun Exchanges.AcknowledgesSeen
 acknowledges_seen setup h is run credit place lt =
@@ -167,61 +121,16 @@ run-ordered (d ∷ ds) b bs e = by_rest (runs_of ds) refl e (λ c cs f. run-orde
   where
     by_rest : (rs : List (ℕ × ℕ)) → runs_of ds ≡ rs → put_before_runs d rs ≡ b ∷ bs → ((c : ℕ × ℕ) (cs : List (ℕ × ℕ)) → runs_of ds ≡ c ∷ cs → c.0 ≤ c.1)
         → b.0 ≤ b.1
-    by_rest [] f e ih = let same : (d, d) ≡ b = cc in omega (arith, ap (λ x. x.0) same, ap (λ x. x.1) same)
-    by_rest (r ∷ rs) f e ih = step (r.0 == d + 1) refl e (ih r rs f)
-      where
-        step : (t : Bool) → (r.0 == d + 1) ≡ t → (if t then (d, r.1) ∷ rs else (d, d) ∷ r ∷ rs) ≡ b ∷ bs → r.0 ≤ r.1 → b.0 ≤ b.1
-        step true s e le =
-            let same : (d, r.1) ≡ b = cc in
-            let next : r.0 ≡ d + 1 = grind (arith, nat_tests) in omega (arith, ap (λ x. x.0) same, ap (λ x. x.1) same, next, le)
-        step false s e le = let same : (d, d) ≡ b = cc in omega (arith, ap (λ x. x.0) same, ap (λ x. x.1) same)
+    by_rest rs h1 h2 h3 = grind (arith, nat_tests)
 
 -- the runs cover each of the numbers
 runs-cover : (c p d : ℕ) (ds : List ℕ) → c + d ≡ p + 1 → list_any (λ k. k == d) ds ≡ true → list_any (covers c p) (runs_of ds) ≡ true
 runs-cover c p d [] s e = cc
 runs-cover c p d (x ∷ ds) s e = by_rest (runs_of ds) refl (or-split (x == d) (list_any (λ k. k == d) ds) e) (λ h. runs-cover c p d ds s h)
   where
-    -- a run from x on covers d where it is x
-    here : (last : ℕ) → x ≡ d → x ≤ last → covers c p (x, last) ≡ true
-    here last same le =
-        let low : c + x ≤ p + 1 = omega (arith, s, same) in
-        let high : p + 1 ≤ c + last = omega (arith, s, same, le) in
-        and (nat_le (c + x) (p + 1)) (nat_le (p + 1) (c + last)) (grind (arith, nat_tests)) (grind (arith, nat_tests))
-
     by_rest : (bs : List (ℕ × ℕ)) → runs_of ds ≡ bs → ((x == d) ≡ true) ⊎ (list_any (λ k. k == d) ds ≡ true)
         → (list_any (λ k. k == d) ds ≡ true → list_any (covers c p) bs ≡ true) → list_any (covers c p) (put_before_runs x bs) ≡ true
-    by_rest [] f (inl h) ih = let same : x ≡ d = grind (arith, nat_tests) in ap (λ b. b || false) (here x same (omega arith))
-    by_rest [] f (inr h) ih = absurd (not_both (ih h))
-    by_rest (b ∷ bs) f o ih = step (b.0 == x + 1) refl o
-      where
-        wider : b.0 ≡ x + 1 → covers c p b ≡ true → covers c p (x, b.1) ≡ true
-        wider next h =
-            let a = both (nat_le (c + b.0) (p + 1)) (nat_le (p + 1) (c + b.1)) h in
-            let t : nat_le (c + b.0) (p + 1) ≡ true = a.0 in
-            let le : c + b.0 ≤ p + 1 = grind (arith, nat_tests) in
-            let low : c + x ≤ p + 1 = omega (arith, le, next) in
-            and (nat_le (c + x) (p + 1)) (nat_le (p + 1) (c + b.1)) (grind (arith, nat_tests)) a.1
-
-        joint : b.0 ≡ x + 1 → ((x == d) ≡ true) ⊎ (list_any (λ k. k == d) ds ≡ true) → (covers c p (x, b.1) || list_any (covers c p) bs) ≡ true
-        joint next (inl h) =
-            let same : x ≡ d = grind (arith, nat_tests) in
-            ap (λ a. a || list_any (covers c p) bs) (here b.1 same (omega (arith, next, run-ordered ds b bs f)))
-        joint next (inr h) = later (or-split (covers c p b) (list_any (covers c p) bs) (ih h))
-          where
-            later : (covers c p b ≡ true) ⊎ (list_any (covers c p) bs ≡ true) → (covers c p (x, b.1) || list_any (covers c p) bs) ≡ true
-            later (inl k) = ap (λ a. a || list_any (covers c p) bs) (wider next k)
-            later (inr k) = or-right (covers c p (x, b.1)) (list_any (covers c p) bs) k
-
-        apart : ((x == d) ≡ true) ⊎ (list_any (λ k. k == d) ds ≡ true) → (covers c p (x, x) || (covers c p b || list_any (covers c p) bs)) ≡ true
-        apart (inl h) =
-            let same : x ≡ d = grind (arith, nat_tests) in
-            ap (λ a. a || (covers c p b || list_any (covers c p) bs)) (here x same (omega arith))
-        apart (inr h) = or-right (covers c p (x, x)) (covers c p b || list_any (covers c p) bs) (ih h)
-
-        step : (t : Bool) → (b.0 == x + 1) ≡ t → ((x == d) ≡ true) ⊎ (list_any (λ k. k == d) ds ≡ true)
-            → list_any (covers c p) (if t then (x, b.1) ∷ bs else (x, x) ∷ b ∷ bs) ≡ true
-        step true s o = joint (grind (arith, nat_tests)) o
-        step false s o = apart o
+    by_rest bs h1 h2 h3 = search (arith, nat_tests, not_both, both, and, run-ordered, or-split, or-right)
 
 -- a list of which fewer are taken than may be is taken as a whole
 take-all : {A : Type 0} (n : ℕ) (xs : List A) → length (take n xs) < n → take n xs ≡ xs
@@ -273,13 +182,7 @@ begun-more : (w : LinkRecord) (k : ℕ) (v : LinkRecord) → Begun w k v → Beg
 begun-more w k v g = step (Messages.front v)
   where
     step : (o : Option ℕ) → Begun w k (Changes.send_fragment_of v o)
-    step None = g
-    step (Some j) = record {
-      more = omega (arith, g.more, ap (λ y. y.slots) (Shapes.shape-slot v j false));
-      first = ap (λ y. y.message) (get-snoc_old v.slots _ (length w.slots) Messages.no_slot (λ e. omega (arith, g.more, e))) ∙ g.first;
-      number = g.number;
-      setup = g.setup;
-    }
+    step o = grind (arith, nat_tests, Shapes.shape-slot, get-snoc_old)
 
 begun-first : (w : LinkRecord) (now k : ℕ) → Messages.front w ≡ Some k → Begun w k (Changes.send_fragment (Changes.after_start w now))
 begun-first w now k f = step (Messages.front (Changes.after_start w now)) (ap front_of (Shapes.shape-started w now) ∙ f)
@@ -317,33 +220,14 @@ unordered_go_first setup h is run now d tsn ssn count n m e first ordered none l
     front : Messages.front w ≡ Some n
     front = of_front (Messages.front w) refl e first
 
-    partial_front : (k : ℕ) → Messages.is_partially_sent w k ≡ true → Some k ≡ Some n → ⊥
-    partial_front k p same =
-        let s : k ≡ n = cc in
-        let a = (both (nat_lt 0 (Messages.sent_of w k))
-        (nat_lt (Messages.sent_of w k) (Messages.fragment_count w k) && not (Messages.message_at w k).abandoned) p).0 in
-        let pos : 0 < Messages.sent_of w k = grind (arith, nat_tests) in
-        omega (arith, pos, ap (Messages.sent_of w) s, none)
-
     clash : Messages.is_unsent w m ≡ true → ⊥
     clash u =
         partial_or (first_of (Messages.messages_where w (Messages.is_partially_sent w))) (first-kept (Messages.is_partially_sent w) (length w.messages)) front
       where
-        next : (o : Option ℕ) → FirstOf (λ k. Messages.is_unsent w k && not (Messages.message_at w k).ordered) (length w.messages) o
-            → or_else o (first_of (Messages.messages_where w (λ k. Messages.is_unsent w k && (Messages.message_at w k).ordered))) ≡ Some n → ⊥
-        next None f q = not_both (sym (f m lt) ∙ and (Messages.is_unsent w m) (not (Messages.message_at w m).ordered) u un)
-        next (Some k) f q =
-            let same : k ≡ n = cc in
-            let a = both (Messages.is_unsent w k) (not (Messages.message_at w k).ordered) f.1 in
-            not_both (sym (negated (Messages.message_at w k).ordered a.1) ∙ ap (is_ordered w) same ∙ ordered)
-
         partial_or : (o : Option ℕ) → FirstOf (Messages.is_partially_sent w) (length w.messages) o
             → or_else o (or_else (first_of (Messages.messages_where w (λ k. Messages.is_unsent w k && not (Messages.message_at w k).ordered)))
             (first_of (Messages.messages_where w (λ k. Messages.is_unsent w k && (Messages.message_at w k).ordered)))) ≡ Some n → ⊥
-        partial_or None f q =
-            next (first_of (Messages.messages_where w (λ k. Messages.is_unsent w k && not (Messages.message_at w k).ordered)))
-            (first-kept (λ k. Messages.is_unsent w k && not (Messages.message_at w k).ordered) (length w.messages)) q
-        partial_or (Some k) f q = partial_front k f.1 q
+        partial_or o h1 h2 = grind (arith, nat_tests, first-kept)
 
 -- ## What replies tell
 
@@ -366,23 +250,10 @@ send_is_answered setup h is run now d tsn ssn count e = step (Messages.front (re
         (ap (λ s. (s.first + length w.slots) % 2 ^ 32) g.setup ∙ t, ap (Messages.ssn_of v) g.first ∙ g.number ∙ q)
 
 pub write_is_answered : OnEveryRun Exchanges.WriteIsAnswered
-write_is_answered setup h is run s byte ppi bytes =
-    let w = record_of setup h in
-    let c : length w.messages ≡ length (Log.writes_in h) =
-    sym (length-numbers 0 (length w.messages)) ∙ sym (length-mapped (shown_of w) (numbers_from 0 (length w.messages)))
-    ∙ ap length (messages_are_writes setup h is run) in
-    let m = Changes.message_on w (Messages.stream_of w s) ppi (byte ∷ bytes) in
-    let v = after w (E.Write s ppi (byte ∷ bytes)) in
-    let cut : fragments_in w (byte ∷ bytes) ≡ Messages.fragment_count v (length w.messages) =
-    ap (λ y. length (pieces (length y.bytes) w.setup.size y.bytes)) (sym (get-snoc_new w.messages m Messages.no_message)) in
-    let some : (length (byte ∷ bytes) == 0) ≡ false = grind (arith, nat_tests) in
-    cc
+write_is_answered setup h is run s byte ppi bytes = grind (arith, nat_tests, length-numbers, length-mapped, messages_are_writes, get-snoc_new)
 
 pub resend_is_answered : OnEveryRun Exchanges.ResendIsAnswered
-resend_is_answered setup h is run tsn d e =
-    let w = record_of setup h in
-    let same : length w.network ≡ d = cc in
-    ap (λ k. slice_get (w.network ++ Data (Messages.place_of w tsn ∷ []) ∷ []) k) (sym same) ∙ get-last w.network (Data (Messages.place_of w tsn ∷ []))
+resend_is_answered setup h is run tsn d e = grind (arith, nat_tests, get-last)
 
 -- ## What is bounded
 
@@ -401,24 +272,14 @@ fits setup x = nat_lt 0 (Log.length_shown x) && nat_le (Log.length_shown x) setu
 writes-fit : (setup : Setup) (h : History) → IsRun setup h → list_all (fits setup) (Log.writes_in h) ≡ true
 writes-fit setup [] run = refl
 writes-fit setup ((E.Write s ppi (b ∷ bs), r) ∷ older) run =
-    let w = record_of setup older in
-    let open' = unless-holds (Messages.is_open w s) StreamUnknown
-    (unless (nat_le (length (b ∷ bs)) w.setup.largest) MessageTooLarge
-    (unless (nat_lt (fragments_accepted w + fragments_in w (b ∷ bs)) (2 ^ 31)) TsnsUsedUp None)) run.0 in
-    let short : nat_le (length (b ∷ bs)) w.setup.largest ≡ true =
-    (unless-holds (nat_le (length (b ∷ bs)) w.setup.largest) MessageTooLarge
-    (unless (nat_lt (fragments_accepted w + fragments_in w (b ∷ bs)) (2 ^ 31)) TsnsUsedUp None) open'.1).0 in
-    all-snoc (fits setup) (Log.writes_in older) (s, ppi, b ∷ bs) (writes-fit setup older run.1.1)
-    (and (nat_lt 0 (length (b ∷ bs))) (nat_le (length (b ∷ bs)) setup.largest) (grind (arith, nat_tests))
-    (ap (λ t. nat_le (length (b ∷ bs)) t.largest) (sym (consistent-run setup older run.1.1).setup_is) ∙ short))
+    grind (arith, nat_tests, unless-holds, all-snoc, and, consistent-run, (writes-fit setup older run.1.1))
 writes-fit setup ((event, r) ∷ older) run = writes-fit setup older run.1.1
 
 pub messages_are_bounded : OnEveryRun Exchanges.MessagesAreBounded
 messages_are_bounded setup h is run n lt =
     let w = record_of setup h in
-    let all : list_all (λ k. fits setup (shown_of w k)) (numbers_from 0 (length w.messages)) ≡ true =
-    sym (all-map (fits setup) (shown_of w) (numbers_from 0 (length w.messages))) ∙ ap (list_all (fits setup)) (messages_are_writes setup h is run)
-    ∙ writes-fit setup h run in
+    let all : list_all (λ k. fits setup (shown_of w k))
+    (numbers_from 0 (length w.messages)) ≡ true = grind (arith, nat_tests, all-map, messages_are_writes, writes-fit) in
     let fit : fits setup (shown_of w n) ≡ true = all-out (λ k. fits setup (shown_of w k)) always n 0 (length w.messages) all (omega arith)
     (omega (arith, lt)) refl in
     let a = both (nat_lt 0 (length (Messages.message_at w n).bytes)) (nat_le (length (Messages.message_at w n).bytes) setup.largest) fit in
@@ -435,22 +296,10 @@ few (Sack r) = true
 few-sent : (w : LinkRecord) (now : ℕ) (o : Option ℕ) → list_all few w.network ≡ true
     → list_all few (Changes.send_from (Changes.after_start w now) o).network ≡ true
 few-sent w now None e = e
-few-sent w now (Some n) e =
-    let u = Changes.after_start w now in
-    let v = Changes.send_fragments u in
-    all-snoc few v.network (Data (numbers_from (length u.slots) (length v.slots - length u.slots))) (ap (list_all few) (same-network u) ∙ e) refl
+few-sent w now (Some n) e = search (arith, nat_tests, all-snoc, same-network)
 
 few-after : (w : LinkRecord) (e : Event) → refusal_of w e ≡ None → list_all few w.network ≡ true → list_all few (after w e).network ≡ true
-few-after w (E.Skip upto names) ok e =
-    let place = Messages.place_of w upto in
-    let first = unless-holds (nat_lt place (length w.slots)) SkipUnassigned
-    (unless (list_all (can_name w place) names.items && nat_le (length names.items) 16381) SkipNames None) ok in
-    let second = unless-holds (list_all (can_name w place) names.items && nat_le (length names.items) 16381) SkipNames None first.1 in
-    all-snoc few w.network (Forward place names.items) e (both (list_all (can_name w place) names.items) (nat_le (length names.items) 16381) second.0).1
-few-after w (E.Send now) ok e = few-sent w now (Messages.front w) e
-few-after w (E.Resend tsn) ok e = all-snoc few w.network (Data (Messages.place_of w tsn ∷ [])) e refl
-few-after w (E.Ack credit) ok e = all-snoc few w.network (Sack (report_of w credit)) e refl
-few-after w event ok e = ap (list_all few) (network-after w event refl) ∙ e
+few-after w e h1 h2 = grind (arith, nat_tests, all-snoc, few-sent, network-after)
 
 few-run : (setup : Setup) (h : History) → IsRun setup h → list_all few (record_of setup h).network ≡ true
 few-run setup [] run = refl
@@ -463,6 +312,4 @@ few-at (d ∷ ds) zero upto names e f = let same : d ≡ Forward upto names = cc
 few-at (d ∷ ds) (suc k) upto names e f = few-at ds k upto names (both (few d) (list_all few ds) e).1 f
 
 pub names_are_bounded : OnEveryRun Exchanges.NamesAreBounded
-names_are_bounded setup h is run k upto names e =
-    let test : nat_le (length names) 16381 ≡ true = few-at (record_of setup h).network k upto names (few-run setup h run) e in
-    let le : length names ≤ 16381 = grind (arith, nat_tests) in omega (arith, le)
+names_are_bounded setup h is run k upto names e = grind (arith, nat_tests, few-at, few-run)

@@ -1,3 +1,4 @@
+pub mod Names
 pub mod sender
 pub mod receiver
 pub mod acknowledgement

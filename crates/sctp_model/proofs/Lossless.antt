@@ -1,28 +1,18 @@
 -- Histories in which nothing is lost.
-use Rattle.std.proofs.Common.{◌≡◌, ℕ, zero, suc, ◌<◌, Bool, true, false, List, [], ◌∷◌, ◌++◌, length, Option, Some, None, refl, ap, sym, ◌∙◌, arith}
-use Rattle.std.specs.Prelude.{◌||◌, slice_get, slice_index_or}
-use Rattle.std.specs.List.{list_any, list_all}
-use Rattle.std.proofs.Math.Path.{subst}
-use Rattle.sctp_util.proofs.More.{not_both, both}
-use Rattle.sctp_model.specs.declared.event.Event.{Event}
+use Rattle.sctp_model.proofs.Names.{◌≡◌, ℕ, zero, suc, ◌<◌, Bool, true, false, List, [], ◌∷◌, ◌++◌, length, Option, Some, None, refl, ap, sym, ◌∙◌, arith, ◌||◌}
+use Rattle.sctp_model.proofs.Names.{slice_get, slice_index_or, list_any, list_all, subst, not_both, both, Event, Reply, Setup, LinkRecord, LogEntry}
+use Rattle.sctp_model.proofs.Names.{SlotReceived, SkipReceived, SackMade, Made, MadeData, MadeForward, MadeSack, made_in, made_by, log_of, named_by, is_skipped}
+use Rattle.sctp_model.proofs.Names.{History, record_of, after, loses_nothing, by_last, nat_tests}
 use Rattle.sctp_model.specs.declared.event.Event.TheVariants as E
-use Rattle.sctp_model.specs.Reply.{Reply}
-use Rattle.sctp_model.specs.Reply as R
-use Rattle.sctp_model.specs.LinkRecord.{Setup, LinkRecord}
 use Rattle.sctp_model.specs.Messages
 use Rattle.sctp_model.specs.Changes
 use Rattle.sctp_model.specs.Log
-use Rattle.sctp_model.specs.Log.{LogEntry, SlotReceived, SkipReceived, SackMade, Made, MadeData, MadeForward, MadeSack, made_in, made_by, log_of, named_by}
-use Rattle.sctp_model.specs.Log.{is_skipped}
-use Rattle.sctp_model.specs.Steps.{History, record_of, after}
-use Rattle.sctp_model.specs.Laws.{loses_nothing}
 use Rattle.sctp_model.proofs.sender.Shape.{Shape, shape, message_part, written}
 use Rattle.sctp_model.proofs.sender.Shapes
 use Rattle.sctp_model.proofs.sender.SenderEnds.{message-old, message-new}
 use Rattle.sctp_model.proofs.sender.SenderRun.{written_as}
 use Rattle.sctp_model.proofs.sender.Network
 use Rattle.sctp_model.proofs.acknowledgement.BytesAnswered.{messages-sent}
-use Rattle.sctp_util.proofs.Cases.{by_last}
 
 -- ## No message expires or is abandoned
 
@@ -76,34 +66,10 @@ any-append (x ∷ xs) ys a b = step (is_forward x) a (λ h. any-append xs ys h b
   where
     step : (c : Bool) → (c || list_any is_forward xs) ≡ false → (list_any is_forward xs ≡ false → list_any is_forward (xs ++ ys) ≡ false)
         → (c || list_any is_forward (xs ++ ys)) ≡ false
-    step true e ih = cc
-    step false e ih = ih e
-
-none-sent : (setup : Setup) (now : ℕ) (r : Reply) → list_any is_forward (made_by setup (E.Send now) r) ≡ false
-none-sent setup now (R.Sent d tsn ssn count) = refl
-none-sent setup now R.Opened = refl
-none-sent setup now R.«Set» = refl
-none-sent setup now (R.Wrote a b) = refl
-none-sent setup now R.Started = refl
-none-sent setup now R.Idle = refl
-none-sent setup now (R.Resent a) = refl
-none-sent setup now (R.Expired a b) = refl
-none-sent setup now (R.Released a b) = refl
-none-sent setup now (R.Late a b) = refl
-none-sent setup now (R.Skip a) = refl
-none-sent setup now (R.Ack a) = refl
-none-sent setup now R.New = refl
-none-sent setup now R.Repeat = refl
-none-sent setup now R.Skipped = refl
-none-sent setup now R.Stale = refl
-none-sent setup now (R.Acked a) = refl
-none-sent setup now (R.Message a b c) = refl
-none-sent setup now R.Nothing = refl
+    step c h1 h2 = grind (arith, nat_tests)
 
 none-made : (setup : Setup) (e : Event) (r : Reply) → loses_nothing e ≡ true → list_any is_forward (made_by setup e r) ≡ false
-none-made setup (E.Send now) r k = none-sent setup now r
-none-made setup (E.Skip upto names) r k = cc
-none-made setup event r k = refl
+none-made setup e r h1 = grind (arith, nat_tests)
 
 none-forward : (setup : Setup) (h : History) → Lossless h → list_any is_forward (made_in setup h) ≡ false
 none-forward setup [] l = refl
@@ -112,16 +78,11 @@ none-forward setup (entry ∷ older) l = let a = both (loses_nothing entry.0) (l
 
 not-at : (ds : List Made) (k : ℕ) (d : Made) → list_any is_forward ds ≡ false → slice_get ds k ≡ Some d → is_forward d ≡ false
 not-at [] k d a e = cc
-not-at (c ∷ ds) zero d a e = let z : c ≡ d = cc in ap is_forward (sym z) ∙ left (is_forward c) (list_any is_forward ds) a
-  where
-    left : (a b : Bool) → (a || b) ≡ false → a ≡ false
-    left true b e = cc
-    left false b e = refl
+not-at (c ∷ ds) zero d a e = grind (arith, nat_tests)
 not-at (c ∷ ds) (suc k) d a e = not-at ds k d (right (is_forward c) (list_any is_forward ds) a) e
   where
     right : (a b : Bool) → (a || b) ≡ false → b ≡ false
-    right true b e = cc
-    right false b e = e
+    right a b h1 = grind (arith, nat_tests)
 
 skips-slots : (ps : List ℕ) (log : List LogEntry) → list_any is_skip log ≡ false → list_any is_skip (Log.slots_come ps log) ≡ false
 skips-slots [] log e = e
@@ -139,9 +100,7 @@ no-skips setup [] l = refl
 no-skips setup ((e, r) ∷ older) l = let a = both (loses_nothing e) (list_all (λ entry. loses_nothing entry.0) older) l in step e (no-skips setup older a.1) a.1
   where
     step : (e : Event) → list_any is_skip (log_of setup older) ≡ false → Lossless older → list_any is_skip (log_of setup ((e, r) ∷ older)) ≡ false
-    step (E.Arrive k) h l =
-        skips-received (slice_get (made_in setup older) k) (log_of setup older) (λ d e. not-at (made_in setup older) k d (none-forward setup older l) e) h
-    step event h l = h
+    step e h1 h2 = grind (arith, nat_tests, skips-received, not-at, none-forward)
 
 pub none-named : (w : LinkRecord) (s : ℕ) (log : List LogEntry) → list_any is_skip log ≡ false → named_by w s log ≡ 0
 none-named w s [] e = refl

@@ -1,35 +1,18 @@
-use Rattle.std.proofs.Common.{◌≡◌, ℕ, zero, suc, ◌+◌, ◌-◌, ◌<◌, ◌≤◌, Bool, true, false, List, [], ◌∷◌, ◌++◌, length, map, Option, Some, None, refl, ap, sym}
-use Rattle.std.proofs.Common.{◌∙◌, inl, inr, arith, zero-add}
-use Rattle.std.specs.Prelude.{◌⊎◌, if◌then◌else◌, ◌==◌, ◌&&◌, ◌||◌, nat_lt, nat_le, min, max, slice_get, take}
-use Rattle.std.specs.List.{list_any}
-use Rattle.std.proofs.Math.Path.{subst}
-use Rattle.std.proofs.Math.Nat.{eq-or-lt_of_le}
-use Rattle.std.proofs.lemmas.Bool.{cases_lt}
-use Rattle.std.proofs.lemmas.Bool.Decides.{nat_tests}
-use Rattle.sctp_util.specs.Kept.{numbers_where, runs_of, put_before_runs, numbers_from}
-use Rattle.sctp_util.specs.Lists.{change_at}
-use Rattle.sctp_util.proofs.Passing.{kept-same}
-use Rattle.sctp_util.proofs.More.{fails, not_both, both, and, changed-keeps, length-changed}
-use Rattle.sctp_model.specs.declared.event.Event.{Event}
+use Rattle.sctp_model.proofs.Names.{◌≡◌, ℕ, zero, suc, ◌+◌, ◌-◌, ◌<◌, ◌≤◌, Bool, true, false, List, [], ◌∷◌, ◌++◌, length, Option, Some, None, refl, ap, sym}
+use Rattle.sctp_model.proofs.Names.{◌∙◌, inl, inr, arith, take, ◌⊎◌, if◌then◌else◌, ◌==◌, ◌&&◌, ◌||◌, nat_lt, nat_le, slice_get, list_any, subst, nat_tests}
+use Rattle.sctp_model.proofs.Names.{numbers_where, runs_of, put_before_runs, change_at, kept-same, both, changed-keeps, length-changed, Event, Reply, Setup}
+use Rattle.sctp_model.proofs.Names.{Datagram, Data, Forward, Sack, LinkRecord, arrived_at, cumulative, is_new, report_of, reports, distances, gap_blocks}
+use Rattle.sctp_model.proofs.Names.{LogEntry, SlotReceived, is_seen, is_skipped, log_of, Made, is_acknowledged_in, taken_in, reported_by, History, record_of}
+use Rattle.sctp_model.proofs.Names.{IsRun, after, IsSetup, OnEveryRun, AcknowledgedArrived, AcknowledgedIsReported, SacksSay, blocks_by, or-split}
+use Rattle.sctp_model.proofs.Names.{length-numbered, numbered-at, get-last, or-right}
 use Rattle.sctp_model.specs.declared.event.Event.TheVariants as E
-use Rattle.sctp_model.specs.Reply.{Reply}
-use Rattle.sctp_model.specs.LinkRecord.{Setup, Datagram, Data, Forward, Sack, LinkRecord}
 use Rattle.sctp_model.specs.Messages
-use Rattle.sctp_model.specs.Receiver.{arrived_at, cumulative, is_new, next_read}
 use Rattle.sctp_model.specs.Changes
-use Rattle.sctp_model.specs.Reports.{report_of, reports, distances, gap_blocks}
 use Rattle.sctp_model.specs.Log
-use Rattle.sctp_model.specs.Log.{LogEntry, SlotReceived, is_seen, arrived_new, is_skipped, seen_count, log_of, made_in}
-use Rattle.sctp_model.specs.Log.{Made, MadeData, MadeForward, MadeSack, is_acknowledged_in, taken_in, reported_by}
-use Rattle.sctp_model.specs.Steps.{History, record_of, IsRun, after}
-use Rattle.sctp_model.specs.Laws.{IsSetup, OnEveryRun, AcknowledgedArrived, AcknowledgedIsReported, SacksSay, blocks_by}
 use Rattle.sctp_model.proofs.receiver.Arrivals.{Arrivals, arrivals-run, seen_by, seen-below, arrived-beyond, cumulative_is_seen}
 use Rattle.sctp_model.proofs.sender.SenderRun.{consistent-run, fold-keeps}
 use Rattle.sctp_model.proofs.sender.Moves
 use Rattle.sctp_model.proofs.sender.Network
-use Rattle.sctp_util.proofs.Cases.{or-split}
-use Rattle.sctp_util.proofs.Getting.{length-numbered, numbered-at, get-last}
-use Rattle.sctp_util.proofs.Cases.{or-right}
 
 -- Only what arrived or was skipped is acknowledged.
 
@@ -42,8 +25,7 @@ any-take t (suc n) [] e = cc
 any-take t (suc n) (x ∷ xs) e = step (t x) e (λ h. any-take t n xs h)
   where
     step : (b : Bool) → (b || list_any t (take n xs)) ≡ true → (list_any t (take n xs) ≡ true → list_any t xs ≡ true) → (b || list_any t xs) ≡ true
-    step true e ih = refl
-    step false e ih = ih e
+    step b h1 h2 = grind (arith, nat_tests)
 
 abbrev covers : ℕ → ℕ → ℕ × ℕ → Bool
 covers c p b = nat_le (c + b.0) (p + 1) && nat_le (p + 1) (c + b.1)
@@ -60,43 +42,25 @@ in-runs c p (d ∷ ds) e = by_rest (runs_of ds) refl e (λ h. in-runs c p ds h)
     here e = (d, e, (let z : (d == d) ≡ true = grind (arith, nat_tests) in rw z refl))
 
     later : Hit c p ds → Hit c p (d ∷ ds)
-    later h = (h.0, h.1, step (d == h.0) (list_any (λ k. k == h.0) ds) h.2)
-      where
-        step : (a b : Bool) → b ≡ true → (a || b) ≡ true
-        step true b e = refl
-        step false b e = e
+    later h = (h.0, h.1, (elim (d == h.0) as (λ a. (a || (list_any (λ k. k == h.0) ds)) ≡ true) [ true ↦ refl | false ↦ h.2 ]))
 
     exact : covers c p (d, d) ≡ true → Hit c p (d ∷ ds)
     exact e = let a = both (nat_le (c + d) (p + 1)) (nat_le (p + 1) (c + d)) e in let x = a.0 in let y = a.1 in
         let l : c + d ≤ p + 1 = grind (arith, nat_tests) in let g : p + 1 ≤ c + d = grind (arith, nat_tests) in here (omega arith)
 
     wider : (b : ℕ × ℕ) → b.0 ≡ d + 1 → covers c p (d, b.1) ≡ true → (covers c p b ≡ true → Hit c p ds) → Hit c p (d ∷ ds)
-    wider b s e ih = let a = both (nat_le (c + d) (p + 1)) (nat_le (p + 1) (c + b.1)) e in let x = a.0 in let y = a.1 in
-        let l : c + d ≤ p + 1 = grind (arith, nat_tests) in side l y (eq-or-lt_of_le l)
-      where
-        side : c + d ≤ p + 1 → nat_le (p + 1) (c + b.1) ≡ true → (c + d ≡ p + 1) ⊎ (c + d < p + 1) → Hit c p (d ∷ ds)
-        side l y (inl z) = here z
-        side l y (inr z) = let q : c + b.0 ≤ p + 1 = omega (arith, s) in
-            later (ih (and (nat_le (c + b.0) (p + 1)) (nat_le (p + 1) (c + b.1)) (grind (arith, nat_tests)) y))
+    wider b s e ih = grind (arith, nat_tests)
 
     by_rest : (bs : List (ℕ × ℕ)) → runs_of ds ≡ bs → list_any (covers c p) (put_before_runs d bs) ≡ true → (list_any (covers c p) bs ≡ true → Hit c p ds)
         → Hit c p (d ∷ ds)
-    by_rest [] f e ih = side (or-split (covers c p (d, d)) false e)
-      where
-        side : (covers c p (d, d) ≡ true) ⊎ (false ≡ true) → Hit c p (d ∷ ds)
-        side (inl h) = exact h
-        side (inr h) = cc
+    by_rest [] f e ih = elim (or-split (covers c p (d, d)) false e) [ inl h ↦ exact h | inr h ↦ cc ]
     by_rest (b ∷ bs) f e ih = step (b.0 == d + 1) refl e
       where
         old : covers c p b ≡ true → Hit c p ds
         old h = ih (ap (λ a. a || list_any (covers c p) bs) h)
 
         rest : list_any (covers c p) bs ≡ true → Hit c p ds
-        rest h = ih (ors (covers c p b) (list_any (covers c p) bs) h)
-          where
-            ors : (x y : Bool) → y ≡ true → (x || y) ≡ true
-            ors true y h = refl
-            ors false y h = h
+        rest h = ih ((elim (covers c p b) as (λ x. (x || (list_any (covers c p) bs)) ≡ true) [ true ↦ refl | false ↦ h ]))
 
         joint : b.0 ≡ d + 1 → (covers c p (d, b.1) ≡ true) ⊎ (list_any (covers c p) bs ≡ true) → Hit c p (d ∷ ds)
         joint s (inl h) = wider b s h old
@@ -116,12 +80,7 @@ any-kept q d from (suc count) e = step (q from) refl e (λ h. any-kept q d (from
   where
     step : (b : Bool) → q from ≡ b → list_any (λ k. k == d) (if b then from ∷ numbers_where q (from + 1) count else numbers_where q (from + 1) count) ≡ true
         → (list_any (λ k. k == d) (numbers_where q (from + 1) count) ≡ true → q d ≡ true) → q d ≡ true
-    step true f e ih = side (or-split (from == d) (list_any (λ k. k == d) (numbers_where q (from + 1) count)) e)
-      where
-        side : ((from == d) ≡ true) ⊎ (list_any (λ k. k == d) (numbers_where q (from + 1) count) ≡ true) → q d ≡ true
-        side (inl h) = let z : from ≡ d = grind (arith, nat_tests) in ap q (sym z) ∙ f
-        side (inr h) = ih h
-    step false f e ih = ih e
+    step b h1 h2 h3 = grind (arith, nat_tests)
 
 -- what the next SACK reports was seen
 report-seen : (w : LinkRecord) (credit p : ℕ) → reports (report_of w credit) p ≡ true → seen_by w p ≡ true
@@ -131,8 +90,7 @@ report-seen w credit p e = step (or-split (nat_lt p (cumulative w)) (list_any (c
     step (inl h) = seen-below w p (grind (arith, nat_tests))
     step (inr h) =
         let r = in-runs (cumulative w) p (distances w) (any-take (covers (cumulative w) p) 16379 (runs_of (distances w)) h) in
-        let a : arrived_at w (cumulative w + r.0 - 1) ≡ true =
-        any-kept (λ d. arrived_at w (cumulative w + d - 1)) r.0 1 (min 65535 (length w.slots - cumulative w)) r.2 in
+        let a : arrived_at w (cumulative w + r.0 - 1) ≡ true = grind (arith, nat_tests, any-kept) in
         let same : cumulative w + r.0 - 1 ≡ p = omega (arith, r.1) in
         or-right (nat_lt p w.skipped) (arrived_at w p) (ap (arrived_at w) (sym same) ∙ a)
 
@@ -140,26 +98,14 @@ report-seen w credit p e = step (or-split (nat_lt p (cumulative w)) (list_any (c
 
 seen-slots : (ps : List ℕ) (log : List LogEntry) (p : ℕ) → is_seen log p ≡ true → is_seen (Log.slots_come ps log) p ≡ true
 seen-slots [] log p e = e
-seen-slots (q ∷ ps) log p e = seen-slots ps (SlotReceived q ∷ log) p (ors (q == p) (is_seen log p) e)
-  where
-    ors : (x y : Bool) → y ≡ true → (x || y) ≡ true
-    ors true y h = refl
-    ors false y h = h
+seen-slots (q ∷ ps) log p e = seen-slots ps (SlotReceived q ∷ log) p ((elim (q == p) as (λ x. (x || (is_seen log p)) ≡ true) [ true ↦ refl | false ↦ e ]))
 
 seen-received : (o : Option Made) (log : List LogEntry) (p : ℕ) → is_seen log p ≡ true → is_seen (Log.datagram_comes o log) p ≡ true
-seen-received None log p e = e
-seen-received (Some (MadeData ps)) log p e = seen-slots ps log p e
-seen-received (Some (MadeForward upto names)) log p e = ors (nat_le p upto) (is_seen log p) e
-  where
-    ors : (x y : Bool) → y ≡ true → (x || y) ≡ true
-    ors true y h = refl
-    ors false y h = h
-seen-received (Some MadeSack) log p e = e
+seen-received o log p h1 = grind (arith, nat_tests, seen-slots)
 
 pub seen-stays : (setup : Setup) (older : History) (event : Event) (r : Reply) (p : ℕ) → is_seen (log_of setup older) p ≡ true
     → is_seen (log_of setup ((event, r) ∷ older)) p ≡ true
-seen-stays setup older (E.Arrive k) r p e = seen-received (slice_get (made_in setup older) k) (log_of setup older) p e
-seen-stays setup older event r p e = e
+seen-stays setup older event r p h1 = grind (arith, nat_tests, seen-received)
 
 -- ## The invariant
 
@@ -173,12 +119,7 @@ SacksFit log (d ∷ ds) = SackFits log d × SacksFit log ds
 
 sacks-more : (old new : List LogEntry) → ((p : ℕ) → is_seen old p ≡ true → is_seen new p ≡ true) → (ds : List Datagram) → SacksFit old ds → SacksFit new ds
 sacks-more old new more [] f = tt
-sacks-more old new more (d ∷ ds) f = (one d f.0, sacks-more old new more ds f.1)
-  where
-    one : (d : Datagram) → SackFits old d → SackFits new d
-    one (Sack r) g = λ p e. more p (g p e)
-    one (Data ps) g = tt
-    one (Forward upto names) g = tt
+sacks-more old new more (d ∷ ds) f = grind (arith, nat_tests, (sacks-more old new more ds f.1))
 
 sacks-append : (log : List LogEntry) (ds es : List Datagram) → SacksFit log ds → SacksFit log es → SacksFit log (ds ++ es)
 sacks-append log [] es f g = g
@@ -192,19 +133,13 @@ sack-at log (c ∷ ds) (suc k) d f e = sack-at log ds k d f.1 e
 sacks-sent : (log : List LogEntry) (w : LinkRecord) (now : ℕ) (o : Option ℕ) → SacksFit log w.network
     → SacksFit log (Changes.send_from (Changes.after_start w now) o).network
 sacks-sent log w now None f = f
-sacks-sent log w now (Some n) f =
-    let u = Changes.after_start w now in
-    let v = Changes.send_fragments u in
-    sacks-append log v.network (Data (numbers_from (length u.slots) (length v.slots - length u.slots)) ∷ [])
-    (subst (SacksFit log) (sym (Network.same-network u)) f) (tt, tt)
+sacks-sent log w now (Some n) f = search (arith, nat_tests, sacks-append, Network.same-network)
 
 sacks-after : (setup : Setup) (older : History) (e : Event) (log : List LogEntry) → ((p : ℕ) → seen_by (record_of setup older) p ≡ true → is_seen log p ≡ true)
     → SacksFit log (record_of setup older).network → SacksFit log (after (record_of setup older) e).network
 sacks-after setup older (E.Send now) log h f = sacks-sent log (record_of setup older) now (Messages.front (record_of setup older)) f
-sacks-after setup older (E.Resend tsn) log h f =
-    sacks-append log (record_of setup older).network (Data (Messages.place_of (record_of setup older) tsn ∷ []) ∷ []) f (tt, tt)
-sacks-after setup older (E.Skip upto names) log h f =
-    sacks-append log (record_of setup older).network (Forward (Messages.place_of (record_of setup older) upto) names.items ∷ []) f (tt, tt)
+sacks-after setup older (E.Resend tsn) log h f = grind (arith, nat_tests, sacks-append)
+sacks-after setup older (E.Skip upto names) log h f = grind (arith, nat_tests, sacks-append)
 sacks-after setup older (E.Ack credit) log h f = sacks-append log (record_of setup older).network (Sack (report_of (record_of setup older) credit) ∷ []) f
     (λ p e. h p (report-seen (record_of setup older) credit p e), tt)
 sacks-after setup older event log h f = subst (SacksFit log) (sym (Network.network-after (record_of setup older) event refl)) f
@@ -241,12 +176,7 @@ seen-acknowledged setup ((event, r) ∷ older) p is run e = seen-acknowledged se
 
 -- what was seen was made
 pub seen-made : (w : LinkRecord) (log : List LogEntry) (p : ℕ) → Arrivals w log → is_seen log p ≡ true → p < length w.slots
-seen-made w log p g e = step (or-split (nat_lt p w.skipped) (arrived_at w p) (sym (g.seen p) ∙ e)) (cases_lt p (length w.slots))
-  where
-    step : (nat_lt p w.skipped ≡ true) ⊎ (arrived_at w p ≡ true) → (p < length w.slots) ⊎ (length w.slots ≤ p) → p < length w.slots
-    step h (inl l) = l
-    step (inl h) (inr o) = let z : p < w.skipped = grind (arith, nat_tests) in omega (arith, g.short)
-    step (inr h) (inr o) = absurd (not_both (sym (arrived-beyond w p o) ∙ h))
+seen-made w log p g e = grind (arith, nat_tests, arrived-beyond)
 
 pub acknowledged_arrived : OnEveryRun AcknowledgedArrived
 acknowledged_arrived setup h is run p e =
@@ -258,9 +188,7 @@ acknowledged_arrived setup h is run p e =
     )
   where
     swapped : (a b : Bool) → (b || a) ≡ true → (a || b) ≡ true
-    swapped true b e = refl
-    swapped false true e = refl
-    swapped false false e = e
+    swapped a b h1 = grind (arith, nat_tests)
 
 -- ## What is acknowledged is what the SACKs taken report
 
@@ -270,11 +198,7 @@ record Acks (setup : Setup) (h : History) (w : LinkRecord) : Type 0 where
 
 acks-quiet : (setup : Setup) (h : History) (w v : LinkRecord) → Moves.Quiet w v → ((p : ℕ) → is_acknowledged_in setup h p ≡ true → p < length w.slots)
     → Acks setup h w → Acks setup h v
-acks-quiet setup h w v q made a = record { slots = λ p lt. step p lt (cases_lt p (length w.slots)); taken = q.taken ∙ a.taken }
-  where
-    step : (p : ℕ) → p < length v.slots → (p < length w.slots) ⊎ (length w.slots ≤ p) → (Messages.slot_at v p).acknowledged ≡ is_acknowledged_in setup h p
-    step p lt (inl l) = q.acknowledged p l ∙ a.slots p l
-    step p lt (inr g) = q.fresh p g lt ∙ sym (fails (is_acknowledged_in setup h p) (λ e. absurd (omega (arith, made p e))))
+acks-quiet setup h w v q made a = grind (arith, nat_tests)
 
 -- the receiver's events acknowledge nothing
 pub record AsAcknowledged (w v : LinkRecord) : Type 0 where
@@ -289,11 +213,7 @@ as-received : (w : LinkRecord) (p : ℕ) → AsAcknowledged w (Changes.receive_s
 as-received w p = step (is_new w p)
   where
     noted : (v : LinkRecord) (n : ℕ) → AsAcknowledged w v → AsAcknowledged w (Changes.note_completion v n)
-    noted v n a = by_complete (Changes.becomes_complete v n)
-      where
-        by_complete : (b : Bool) → AsAcknowledged w (if b then Changes.stream_changed v (Messages.message_at v n).stream (Changes.with_complete n) else v)
-        by_complete true = record { slots = a.slots; count = a.count; taken = a.taken }
-        by_complete false = a
+    noted v n a = grind (arith, nat_tests)
 
     step : (b : Bool)
         → AsAcknowledged w (if b then Changes.note_completion (record w { slots = change_at Changes.mark_arrived p w.slots }) (Messages.message_of w p)
@@ -312,47 +232,15 @@ pub as-datagram : (w : LinkRecord) (o : Option Datagram) → AsAcknowledged w (C
 as-datagram w None = record { slots = λ k. refl; count = refl; taken = refl }
 as-datagram w (Some (Data ps)) = fold-keeps (AsAcknowledged w) Changes.receive_slot (λ v p a. as-then w v (Changes.receive_slot v p) a (as-received v p)) ps w
     (record { slots = λ k. refl; count = refl; taken = refl })
-as-datagram w (Some (Forward upto names)) = step (Changes.skip_counts w upto)
-  where
-    step : (b : Bool) → AsAcknowledged w (if b then record w { skipped = upto + 1; streams = map (Changes.named_by w names) w.streams } else w)
-    step true = record { slots = λ k. refl; count = refl; taken = refl }
-    step false = record { slots = λ k. refl; count = refl; taken = refl }
+as-datagram w (Some (Forward upto names)) = grind (arith, nat_tests)
 as-datagram w (Some (Sack r)) = record { slots = λ k. refl; count = refl; taken = refl }
 
 pub as-read : (w : LinkRecord) (s : ℕ) (o : Option ℕ) → AsAcknowledged w (Changes.read_of w s o)
-as-read w s None = record { slots = λ k. refl; count = refl; taken = refl }
-as-read w s (Some n) = record { slots = λ k. refl; count = refl; taken = refl }
+as-read w s o = grind (arith, nat_tests)
 
 acks-taken : (setup : Setup) (older : History) (w : LinkRecord) (k : ℕ) (r : Reply) → w ≡ record_of setup older → Acks setup older w
     → Acks setup ((E.Acked k, r) ∷ older) (Changes.after_acked w (slice_get w.network k))
-acks-taken setup older w k r same a = step (slice_get w.network k) (ap (λ v. slice_get v.network k) same)
-  where
-    ors : (b : Bool) → (b || false) ≡ b
-    ors true = refl
-    ors false = refl
-
-    zeros : (n : ℕ) → max n 0 ≡ n
-    zeros n = omega arith
-
-    step : (o : Option Datagram) → o ≡ slice_get (record_of setup older).network k → Acks setup ((E.Acked k, r) ∷ older) (Changes.after_acked w o)
-    step None e = record {
-      slots = λ p lt. a.slots p lt ∙ sym (ap (λ o. is_acknowledged_in setup older p || reported_by o p) (sym e) ∙ ors (is_acknowledged_in setup older p));
-      taken = a.taken ∙ sym (ap (λ o. max (taken_in setup older) (Log.cumulative_in o)) (sym e) ∙ zeros (taken_in setup older));
-    }
-    step (Some (Data ps)) e = record {
-      slots = λ p lt. a.slots p lt ∙ sym (ap (λ o. is_acknowledged_in setup older p || reported_by o p) (sym e) ∙ ors (is_acknowledged_in setup older p));
-      taken = a.taken ∙ sym (ap (λ o. max (taken_in setup older) (Log.cumulative_in o)) (sym e) ∙ zeros (taken_in setup older));
-    }
-    step (Some (Forward upto names)) e = record {
-      slots = λ p lt. a.slots p lt ∙ sym (ap (λ o. is_acknowledged_in setup older p || reported_by o p) (sym e) ∙ ors (is_acknowledged_in setup older p));
-      taken = a.taken ∙ sym (ap (λ o. max (taken_in setup older) (Log.cumulative_in o)) (sym e) ∙ zeros (taken_in setup older));
-    }
-    step (Some (Sack x)) e = record {
-      slots = λ p lt.
-          let lt' : p < length w.slots = omega (arith, lt, length-numbered (Changes.acknowledged_by x) 0 w.slots) in
-          cc (numbered-at (Changes.acknowledged_by x) 0 p w.slots Messages.no_slot lt', zero-add p, a.slots p lt', e);
-      taken = ap (λ c. max c x.cumulative) a.taken ∙ ap (λ o. max (taken_in setup older) (Log.cumulative_in o)) e;
-    }
+acks-taken setup older w k r same a = grind (arith, nat_tests, length-numbered, numbered-at)
 
 acks-step : (setup : Setup) (older : History) (e : Event) (r : Reply) → IsSetup setup → IsRun setup older → Acks setup older (record_of setup older)
     → Acks setup ((e, r) ∷ older) (after (record_of setup older) e)
@@ -371,8 +259,7 @@ acks-step setup older e r is run a = by_event e
     by_event (E.Arrive k) = let b = same (after (record_of setup older) (E.Arrive k))
         (as-datagram (record_of setup older) (slice_get (record_of setup older).network k)) in record { slots = b.slots; taken = b.taken }
     by_event (E.Acked k) = acks-taken setup older (record_of setup older) k r refl a
-    by_event (E.Read s) = let b = same (after (record_of setup older) (E.Read s)) (as-read (record_of setup older) s (next_read (record_of setup older) s)) in
-        record { slots = b.slots; taken = b.taken }
+    by_event (E.Read s) = grind (arith, nat_tests)
     by_event (E.Open s) = record { slots = a.slots; taken = a.taken }
     by_event (E.Mode s u v x) = record { slots = a.slots; taken = a.taken }
     by_event (E.Ack credit) = record { slots = a.slots; taken = a.taken }
@@ -391,20 +278,7 @@ acknowledged_is_reported setup h is run = let a = acks-run setup h is run in (a.
 
 -- the gap blocks are those that the order of arrivals gives
 pub blocks-are : (setup : Setup) (h : History) → IsSetup setup → IsRun setup h → gap_blocks (record_of setup h) ≡ blocks_by (record_of setup h) (log_of setup h)
-blocks-are setup h is run =
-    let w = record_of setup h in
-    let log = log_of setup h in
-    let g = arrivals-run setup h is run in
-    let c : cumulative w ≡ seen_count log (length w.slots) = cumulative_is_seen setup h is run in
-    ap (λ q. take 16379 (runs_of (numbers_where (λ d. arrived_at w (q + d - 1)) 1 (min 65535 (length w.slots - q))))) c
-    ∙ ap (λ l. take 16379 (runs_of l))
-    (kept-same (λ d. arrived_at w (seen_count log (length w.slots) + d - 1)) (λ d. arrived_new log (seen_count log (length w.slots) + d - 1)) 1
-    (min 65535 (length w.slots - seen_count log (length w.slots))) (λ k a b. (g.arrived (seen_count log (length w.slots) + k - 1))))
+blocks-are setup h is run = grind (arith, nat_tests, arrivals-run, cumulative_is_seen, kept-same)
 
 pub sacks_say : OnEveryRun SacksSay
-sacks_say setup h is run credit =
-    let w = record_of setup h in
-    let log = log_of setup h in
-    let g = arrivals-run setup h is run in
-    let c : cumulative w ≡ seen_count log (length w.slots) = cumulative_is_seen setup h is run in
-    cc (get-last w.network (Sack (report_of w credit)), c, blocks-are setup h is run, g.duplicates)
+sacks_say setup h is run credit = grind (arith, nat_tests, arrivals-run, cumulative_is_seen, get-last, blocks-are)

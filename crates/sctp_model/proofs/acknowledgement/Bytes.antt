@@ -1,18 +1,13 @@
-use Rattle.std.proofs.Common.{◌≡◌, ℕ, ◌+◌, ◌-◌, ◌<◌, Bool, true, false, length, refl, ap, ◌∙◌, arith}
-use Rattle.std.specs.Prelude.{if◌then◌else◌, ◌==◌}
-use Rattle.sctp_util.specs.Kept.{numbers_where, always, numbers_from, total_over}
-use Rattle.sctp_model.specs.LinkRecord.{LinkRecord}
+use Rattle.sctp_model.proofs.Names.{◌≡◌, ℕ, ◌+◌, ◌-◌, ◌<◌, Bool, true, false, length, refl, ap, ◌∙◌, arith, if◌then◌else◌, numbers_where, always, numbers_from}
+use Rattle.sctp_model.proofs.Names.{total_over, LinkRecord, IsSetup, OnEveryRun, Balances, numbered, total-plus, total-append, total-split, total-map}
+use Rattle.sctp_model.proofs.Names.{numbers-append, nat_tests}
 use Rattle.sctp_model.specs.Messages
 use Rattle.sctp_model.specs.Amounts
-use Rattle.sctp_model.specs.Steps.{record_of}
-use Rattle.sctp_model.specs.Laws.{IsSetup, OnEveryRun, Balances}
 use Rattle.sctp_model.proofs.sender.Shape.{shape, has}
 use Rattle.sctp_model.proofs.sender.Sender.{Sender}
 use Rattle.sctp_model.proofs.sender.SenderSteps.{of-has}
 use Rattle.sctp_model.proofs.sender.SenderRun.{Consistent, consistent-run}
 use Rattle.sctp_util.proofs.Pieces.{lengths-pieces, total-lengths}
-use Rattle.sctp_util.proofs.Rows.{numbered}
-use Rattle.sctp_util.proofs.Totals.{total-plus, total-append, total-split, total-map, numbers-append}
 
 -- Each written byte is pending, in flight or released.
 
@@ -30,8 +25,7 @@ slots-bytes w n s =
 
 pub fragments-bytes : (w : LinkRecord) (n : ℕ) → 0 < w.setup.size
     → total_over (λ i. length (Messages.fragment_at w n i)) (numbers_from 0 (Messages.fragment_count w n)) ≡ Amounts.written_bytes w n
-fragments-bytes w n pos = total-lengths (Messages.fragments_of w n)
-    ∙ lengths-pieces (length (Messages.message_at w n).bytes) w.setup.size (Messages.message_at w n).bytes pos (omega arith)
+fragments-bytes w n pos = grind (arith, nat_tests, total-lengths, lengths-pieces)
 
 pub balance : (w : LinkRecord) (n : ℕ) → Sender (shape w) → 0 < w.setup.size → n < length w.messages
     → Amounts.pending_bytes w n + Amounts.in_flight_bytes w n + Amounts.released_bytes w n ≡ Amounts.written_bytes w n
@@ -67,7 +61,4 @@ sums w p s pos =
     omega (arith, a, b)
 
 pub balances : OnEveryRun Balances
-balances setup h is run =
-    let w = record_of setup h in
-    let g = consistent-run setup h run in
-    (sums w always g.sender (size-some setup w is g), λ r. sums w (λ n. (Messages.message_at w n).stream == r) g.sender (size-some setup w is g))
+balances setup h is run = grind (arith, nat_tests, consistent-run, sums)

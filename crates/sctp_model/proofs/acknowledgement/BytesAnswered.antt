@@ -1,38 +1,24 @@
-use Rattle.std.proofs.Common.{◌≡◌, ℕ, ◌+◌, ◌-◌, ◌<◌, ◌≤◌, Bool, true, false, List, [], ◌∷◌, length, map, get_or, Option, Some, None, refl, ap, sym, ◌∙◌, arith}
-use Rattle.std.proofs.Common.{add-one}
-use Rattle.std.proofs.Math.Path.{fun_ext}
-use Rattle.std.specs.Prelude.{if◌then◌else◌, ◌==◌, ◌&&◌, ◌||◌, not, fold, slice_get, slice_index_or, max}
-use Rattle.std.specs.List.{list_any}
-use Rattle.sctp_util.specs.Kept.{numbers_where, always, numbers_from, total_over}
-use Rattle.sctp_util.specs.Lists.{pieces}
-use Rattle.sctp_util.proofs.Passing.{kept-same, kept-none, kept-snoc_in}
-use Rattle.sctp_util.proofs.More.{fails, not_both, both, and, kept-short, length-changed}
+use Rattle.sctp_model.proofs.Names.{◌≡◌, ℕ, ◌+◌, ◌-◌, ◌<◌, ◌≤◌, Bool, true, false, List, [], ◌∷◌, length, map, get_or, Option, Some, None, refl, ap, sym, ◌∙◌}
+use Rattle.sctp_model.proofs.Names.{arith, add-one, fun_ext, if◌then◌else◌, ◌==◌, ◌&&◌, ◌||◌, not, fold, slice_get, slice_index_or, max, numbers_where, always}
+use Rattle.sctp_model.proofs.Names.{numbers_from, total_over, pieces, kept-same, kept-none, kept-snoc_in, fails, not_both, both, and, kept-short}
+use Rattle.sctp_model.proofs.Names.{length-changed, Event, Setup, Datagram, Data, Forward, Sack, LinkRecord, reports, Shown, total_shown, length_shown}
+use Rattle.sctp_model.proofs.Names.{released_by, released_in, History, record_of, IsRun, reply_to, after, sent_reply, expired_reply, tail_reply, IsSetup}
+use Rattle.sctp_model.proofs.Names.{OnEveryRun, SumsAgree, length-mapped, numbered-at, total-le, total-append, total-kept_same, total-wider, nat_tests}
 use Rattle.sctp_model.proofs.sender.Sender.{Sender}
-use Rattle.sctp_model.specs.declared.event.Event.{Event}
 use Rattle.sctp_model.specs.declared.event.Event.TheVariants as E
-use Rattle.sctp_model.specs.Reply as R
-use Rattle.sctp_model.specs.LinkRecord.{Setup, Datagram, Data, Forward, Sack, LinkRecord}
 use Rattle.sctp_model.specs.Messages
-use Rattle.sctp_model.specs.Receiver.{next_read, is_new}
 use Rattle.sctp_model.specs.Amounts
 use Rattle.sctp_model.specs.Changes
-use Rattle.sctp_model.specs.Reports.{reports}
-use Rattle.sctp_model.specs.Log.{Shown, total_shown, length_shown, released_by, released_in}
-use Rattle.sctp_model.specs.Steps.{History, record_of, IsRun, reply_to, after, sent_reply, expired_reply, tail_reply, arrive_reply, read_reply}
-use Rattle.sctp_model.specs.Laws.{IsSetup, OnEveryRun, SumsAgree}
 use Rattle.sctp_model.proofs.sender.Shape.{Shape, MessagePart, shape, message_part, has, written}
 use Rattle.sctp_model.proofs.sender.Shapes
-use Rattle.sctp_model.proofs.sender.SenderSteps.{of-has}
 use Rattle.sctp_model.proofs.sender.SenderEnds.{message-old, message-new}
 use Rattle.sctp_model.proofs.sender.SenderRun.{Consistent, consistent-run, sends-keep, written_as}
 use Rattle.sctp_model.proofs.sender.Moves
 use Rattle.sctp_model.proofs.sender.Moves.{Quiet}
 use Rattle.sctp_model.proofs.sender.Network
 use Rattle.sctp_model.proofs.acknowledgement.Bytes.{balance, size-some}
-use Rattle.sctp_model.proofs.acknowledgement.Acknowledged.{as-datagram, as-read}
+use Rattle.sctp_model.proofs.acknowledgement.Acknowledged.{as-datagram}
 use Rattle.sctp_model.proofs.sender.Written.{shown_part, messages_are_writes}
-use Rattle.sctp_util.proofs.Getting.{length-mapped, numbered-at}
-use Rattle.sctp_util.proofs.Totals.{total-le, total-append, total-kept_same, total-wider}
 
 -- What was written and what was released, by the writes and the replies.
 
@@ -76,11 +62,7 @@ acknowledged-quiet w v q n lt =
     && acknowledged_at v k) (g.slot k (omega arith)) ∙ ap (λ c. has (shape w) n k && c) (q.acknowledged k (omega arith))))
   where
     same-bytes : (k : ℕ) → k < length w.slots → Amounts.slot_bytes v n k ≡ Amounts.slot_bytes w n k
-    same-bytes k l =
-        ap (λ s. length (Messages.fragment_at v n s.fragment)) (q.grows.slot k l)
-        ∙ ap (λ m. length (slice_index_or (pieces (length m.bytes) v.setup.size m.bytes) (Messages.slot_at w k).fragment [])) (q.grows.message n lt)
-        ∙ ap (λ z. length (slice_index_or (pieces (length (Messages.message_at w n).bytes) z (Messages.message_at w n).bytes)
-        (Messages.slot_at w k).fragment [])) q.grows.size
+    same-bytes k l = grind (arith, nat_tests)
 
 -- it never takes back what was released
 released-grows : (setup : Setup) (w v : LinkRecord) → IsSetup setup → Consistent setup w → Quiet w v → length v.messages ≡ length w.messages
@@ -96,44 +78,22 @@ released-grows setup w v is g q count = omega (
     bytes n lt = ap (λ m. m.bytes) (q.grows.message n lt)
 
     given : (n : ℕ) → n < length w.messages → Amounts.is_expired_or_abandoned w n ≡ true → Amounts.is_expired_or_abandoned v n ≡ true
-    given n lt e = step (Messages.message_at w n).expired refl e
-      where
-        ors : (a b : Bool) → b ≡ true → (a || b) ≡ true
-        ors true b h = refl
-        ors false b h = h
-
-        step : (b : Bool) → (Messages.message_at w n).expired ≡ b → (b || (Messages.message_at w n).abandoned) ≡ true
-            → Amounts.is_expired_or_abandoned v n ≡ true
-        step true h e = ap (λ b. b || (Messages.message_at v n).abandoned) (q.grows.expired n lt h)
-        step false h e = ors (Messages.message_at v n).expired (Messages.message_at v n).abandoned (q.grows.abandoned n lt e)
+    given n lt e = grind (arith, nat_tests)
 
     within : (n : ℕ) → n < length w.messages → Amounts.released_bytes w n ≤ Amounts.written_bytes w n
     within n lt = omega (arith, balance w n g.sender (size-some setup w is g) lt)
 
     each : (n : ℕ) → n < length w.messages → (b : Bool) → Amounts.is_expired_or_abandoned v n ≡ b → (c : Bool) → Amounts.is_expired_or_abandoned w n ≡ c
         → Amounts.released_bytes w n ≤ Amounts.released_bytes v n
-    each n lt true e c f = let z : Amounts.released_bytes v n ≡ Amounts.written_bytes v n =
-        ap (λ b. if b then Amounts.written_bytes v n else Amounts.acknowledged_bytes v n) e in omega (arith, z, within n lt, ap length (bytes n lt))
+    each n lt true e c f = let z : Amounts.released_bytes v n ≡ Amounts.written_bytes v n = grind (arith, nat_tests) in
+        omega (arith, z, within n lt, ap length (bytes n lt))
     each n lt false e true f = absurd (not_both (sym e ∙ given n lt f))
-    each n lt false e false f =
-        let y : Amounts.released_bytes v n ≡ Amounts.acknowledged_bytes v n =
-        ap (λ b. if b then Amounts.written_bytes v n else Amounts.acknowledged_bytes v n) e in
-        let z : Amounts.released_bytes w n ≡ Amounts.acknowledged_bytes w n =
-        ap (λ b. if b then Amounts.written_bytes w n else Amounts.acknowledged_bytes w n) f in
-        omega (arith, y, z, acknowledged-quiet w v q n lt)
+    each n lt false e false f = grind (arith, nat_tests, acknowledged-quiet)
 
 -- where no message expires or is abandoned, nothing is released
 released-kept : (w v : LinkRecord) → Quiet w v → length v.messages ≡ length w.messages
     → ((n : ℕ) → Amounts.is_expired_or_abandoned v n ≡ Amounts.is_expired_or_abandoned w n) → released v ≡ released w
-released-kept w v q count given =
-    ap (λ c. total_over (Amounts.released_bytes v) (numbers_from 0 c)) count
-    ∙ total-kept_same (Amounts.released_bytes v) (Amounts.released_bytes w) always 0 (length w.messages) (λ n a b. each n (omega arith))
-  where
-    each : (n : ℕ) → n < length w.messages → Amounts.released_bytes v n ≡ Amounts.released_bytes w n
-    each n lt =
-        ap (λ b. if b then Amounts.written_bytes v n else Amounts.acknowledged_bytes v n) (given n)
-        ∙ ap (λ m. if Amounts.is_expired_or_abandoned w n then length m.bytes else Amounts.acknowledged_bytes v n) (q.grows.message n lt)
-        ∙ ap (λ c. if Amounts.is_expired_or_abandoned w n then Amounts.written_bytes w n else c) (acknowledged-quiet w v q n lt)
+released-kept w v q count given = search (arith, nat_tests, total-kept_same, acknowledged-quiet)
 
 -- ## Each event
 
@@ -155,8 +115,7 @@ released-written x a m s e b =
         else total_over (λ p. length (get_or (pieces (length y.bytes) x.size y.bytes) (x.slot p).fragment [])) (numbers_where (λ p. has x k p && a p) 0 x.slots)
 
     none : numbers_where (λ p. has x x.count p && a p) 0 x.slots ≡ []
-    none = kept-none (λ p. has x x.count p && a p) 0 x.slots (λ p i j.
-        fails (has x x.count p && a p) (λ h. absurd (omega (arith, (of-has x x.count p (both (has x x.count p) (a p) h).0).0, s.made p (omega arith)))))
+    none = grind (arith, nat_tests, kept-none)
 
     new : released_with (written x m) a x.count ≡ 0
     new = cc (message-new x m, e, b, none)
@@ -165,8 +124,7 @@ pub messages-sent : (u : LinkRecord) → (Changes.send_fragments u).messages ≡
 messages-sent u = sends-keep (λ v. v.messages ≡ u.messages) (λ v e. more v (Messages.front v) ∙ e) u refl
   where
     more : (v : LinkRecord) (o : Option ℕ) → (Changes.send_fragment_of v o).messages ≡ v.messages
-    more v None = refl
-    more v (Some n) = refl
+    more v o = grind (arith, nat_tests)
 
 released-sent : (setup : Setup) (w : LinkRecord) (now : ℕ) (o : Option ℕ) → Consistent setup w
     → released (Changes.send_from (Changes.after_start w now) o) ≡ released w
@@ -180,11 +138,7 @@ released-sent setup w now (Some n) g =
     ∙ ap (λ x. (x.message k).expired || (x.message k).abandoned) (Shapes.shape-started w now))
 
 pub count-abandoned : (w : LinkRecord) (n : ℕ) → length (Changes.after_abandon w n).messages ≡ length w.messages
-count-abandoned w n = step (Messages.is_partially_sent w n)
-  where
-    step : (b : Bool) → length (Changes.message_changed (if b then Changes.with_slot w n true else w) n Changes.mark_abandoned).messages ≡ length w.messages
-    step true = length-changed Changes.mark_abandoned n w.messages
-    step false = length-changed Changes.mark_abandoned n w.messages
+count-abandoned w n = grind (arith, nat_tests, length-changed)
 
 pub count-late : (ns : List ℕ) (w : LinkRecord) → length (fold Changes.after_abandon w ns).messages ≡ length w.messages
 count-late [] w = refl
@@ -235,26 +189,7 @@ released-acked w (Some (Sack r)) = omega (arith, less)
     )
 
 none-sent : (w v : LinkRecord) (o : Option ℕ) → released_by (sent_reply w v o) ≡ 0
-none-sent w v None = refl
-none-sent w v (Some n) = refl
-
-none-read : (w : LinkRecord) (o : Option ℕ) → released_by (read_reply w o) ≡ 0
-none-read w None = refl
-none-read w (Some n) = refl
-
-none-received : (w : LinkRecord) (o : Option Datagram) → released_by (arrive_reply w o) ≡ 0
-none-received w None = refl
-none-received w (Some (Sack r)) = refl
-none-received w (Some (Data ps)) = step (list_any (is_new w) ps)
-  where
-    step : (b : Bool) → released_by (if b then R.New else R.Repeat) ≡ 0
-    step true = refl
-    step false = refl
-none-received w (Some (Forward upto names)) = step (Changes.skip_counts w upto)
-  where
-    step : (b : Bool) → released_by (if b then R.Skipped else R.Stale) ≡ 0
-    step true = refl
-    step false = refl
+none-sent w v o = grind (arith, nat_tests)
 
 released-after : (setup : Setup) (w : LinkRecord) (e : Event) → IsSetup setup → Consistent setup w
     → released (after w e) ≡ released w + released_by (reply_to w e)
@@ -271,18 +206,9 @@ released-after setup w (E.Late now) is g =
     grown setup w (Changes.after_late w now) is g (Moves.quiet-lates setup w now g) (count-late (Changes.late_messages w now) w)
 released-after setup w (E.Abandon tsn) is g = let n = Messages.message_of w (Messages.place_of w tsn) in
     grown setup w (Changes.after_abandon w n) is g (Moves.quiet-abandoned setup w n g) (count-abandoned w n)
-released-after setup w (E.Arrive k) is g = omega (
-  arith,
-  released-same w (Changes.after_arrive w (slice_get w.network k))
-      (Network.same-received w (slice_get w.network k)).shape_is (as-datagram w (slice_get w.network k)).slots,
-  none-received w (slice_get w.network k),
-)
+released-after setup w (E.Arrive k) is g = grind (arith, nat_tests, released-same, Network.same-received, as-datagram)
 released-after setup w (E.Acked k) is g = released-acked w (slice_get w.network k)
-released-after setup w (E.Read s) is g = omega (
-  arith,
-  released-same w (Changes.after_reading w s) (Network.same-read w s (next_read w s)).shape_is (as-read w s (next_read w s)).slots,
-  none-read w (next_read w s),
-)
+released-after setup w (E.Read s) is g = grind (arith, nat_tests, released-same, Network.same-read)
 released-after setup w event is g = omega arith
 
 pub released-run : (setup : Setup) (h : History) → IsSetup setup → IsRun setup h → released (record_of setup h) ≡ released_in h

@@ -1,22 +1,13 @@
-use Rattle.std.proofs.Common.{◌≡◌, ℕ, zero, suc, ◌+◌, ◌-◌, ◌<◌, ◌≤◌, Bool, true, false, List, [], ◌∷◌, ◌++◌, length, refl, ap, sym, ◌∙◌, inl, inr, arith}
-use Rattle.std.proofs.Common.{append-nil, length-append}
-use Rattle.std.specs.Prelude.{◌⊎◌, if◌then◌else◌, ◌==◌, ◌&&◌, ◌||◌, not, nat_le, nat_lt}
-use Rattle.std.specs.List.{list_all}
-use Rattle.std.proofs.lemmas.Bool.{cases_lt}
-use Rattle.std.proofs.lemmas.Bool.Decides.{nat_tests}
-use Rattle.sctp_util.specs.Kept.{numbers_where}
-use Rattle.sctp_util.proofs.Passing.{kept-same}
-use Rattle.sctp_util.proofs.More.{fails, both, and}
+use Rattle.sctp_model.proofs.Names.{◌≡◌, ℕ, zero, suc, ◌+◌, ◌-◌, ◌<◌, ◌≤◌, Bool, true, false, List, [], ◌∷◌, ◌++◌, length, refl, ap, sym, ◌∙◌, inl, inr, arith}
+use Rattle.sctp_model.proofs.Names.{append-nil, length-append, ◌⊎◌, if◌then◌else◌, ◌==◌, ◌&&◌, ◌||◌, not, nat_le, nat_lt, list_all, cases_lt, nat_tests}
+use Rattle.sctp_model.proofs.Names.{numbers_where, kept-same, fails, both, and, LogEntry, SlotReceived, SkipReceived, SackMade, same-yes, same-is, or-right}
+use Rattle.sctp_model.proofs.Names.{or-split, all-more}
 use Rattle.sctp_util.proofs.Alls
 use Rattle.sctp_model.specs.Log
-use Rattle.sctp_model.specs.Log.{LogEntry, SlotReceived, SkipReceived, SackMade}
 use Rattle.sctp_model.proofs.sender.Shape.{Shape, has, sent, parts}
 use Rattle.sctp_model.proofs.sender.Sender.{Sender}
 use Rattle.sctp_model.proofs.sender.Grows.{Grows, parts-grown}
 use Rattle.sctp_model.proofs.receiver.View.{View, come_count, all_come, complete_at}
-use Rattle.sctp_util.proofs.Cases.{same-yes, same-is}
-use Rattle.sctp_util.proofs.Cases.{or-left, or-right, or-split}
-use Rattle.sctp_util.proofs.Tests.{all-more}
 
 -- A message is complete in the record exactly where the order of arrivals makes it complete.
 
@@ -53,16 +44,9 @@ new-received x (SlotReceived q ∷ log) p f e = by (Log.arrived_new log p) refl 
   where
     by : (b : Bool) → Log.arrived_new log p ≡ b → (b || ((q == p) && not (Log.is_seen log p))) ≡ true → (Log.arrived_new log p ≡ true → p < x.slots)
         → p < x.slots
-    by true h g ih = ih h
-    by false h g ih = let z = same-is q p (both (q == p) (not (Log.is_seen log p)) g).0 in omega (arith, f.0, z)
+    by b h1 h2 h3 = grind (arith, nat_tests)
 new-received x (SkipReceived upto names ∷ log) p f e = new-received x log p f e
 new-received x (SackMade ∷ log) p f e = new-received x log p f e
-
--- what arrived new did so for good
-new-stays : (coming : LogEntry) (log : List LogEntry) (p : ℕ) → Log.arrived_new log p ≡ true → Log.arrived_new (coming ∷ log) p ≡ true
-new-stays (SlotReceived q) log p e = or-left (Log.arrived_new log p) ((q == p) && not (Log.is_seen log p)) e
-new-stays (SkipReceived upto names) log p e = e
-new-stays SackMade log p e = e
 
 -- where they were complete, each of them arrived new
 pub were-new : (places : List ℕ) (log : List LogEntry) → Log.were_complete places log ≡ true → list_all (Log.arrived_new log) places ≡ true
@@ -71,9 +55,7 @@ were-new places (coming ∷ log) e = step (or-split (Log.were_complete places lo
   where
     step : (Log.were_complete places log ≡ true) ⊎ (all_now (coming ∷ log) places ≡ true)
         → (Log.were_complete places log ≡ true → list_all (Log.arrived_new log) places ≡ true) → list_all (Log.arrived_new (coming ∷ log)) places ≡ true
-    step (inl h) ih = all-more (Log.arrived_new log) (Log.arrived_new (coming ∷ log)) places (λ k f. new-stays coming log k f) (ih h)
-    step (inr h) ih = all-more (λ p. Log.arrived_new (coming ∷ log) p && not (Log.is_skipped (coming ∷ log) p))
-        (Log.arrived_new (coming ∷ log)) places (λ k f. (both (Log.arrived_new (coming ∷ log) k) (not (Log.is_skipped (coming ∷ log) k)) f).0) h
+    step h1 h2 = grind (arith, nat_tests, all-more)
 
 -- what is complete now, was
 pub now-were : (p : ℕ) (places : List ℕ) (log : List LogEntry) → all_now log (p ∷ places) ≡ true → Log.were_complete (p ∷ places) log ≡ true
@@ -91,10 +73,8 @@ slots-same : (x y : Shape) → Grows x y → (n : ℕ) → sent y n ≡ sent x n
 slots-same x y g n e =
     let more = y.slots - x.slots in
     let total : y.slots ≡ x.slots + more = omega (arith, g.slots) in
-    let front : numbers_where (has y n) 0 x.slots ≡ slots_in x n = kept-same (has y n)
-    (has x n) 0 x.slots (λ k a b. ap (λ s. (s.message == n) && not s.is_terminal_chunk) (g.slot k (omega arith))) in
-    let split : slots_in y n ≡ slots_in x n ++ numbers_where (has y n) (0 + x.slots) more = ap (numbers_where (has y n) 0) total
-    ∙ Alls.kept-split (has y n) 0 x.slots more ∙ ap (λ l. l ++ numbers_where (has y n) (0 + x.slots) more) front in
+    let front : numbers_where (has y n) 0 x.slots ≡ slots_in x n = grind (arith, nat_tests, kept-same) in
+    let split : slots_in y n ≡ slots_in x n ++ numbers_where (has y n) (0 + x.slots) more = grind (arith, nat_tests, Alls.kept-split) in
     split ∙ ap (λ l. slots_in x n ++ l) (nothing (numbers_where (has y n) (0 + x.slots) more) (let l = ap length split in
     omega (arith, e, l, length-append (slots_in x n) (numbers_where (has y n) (0 + x.slots) more)))) ∙ append-nil (slots_in x n)
   where
@@ -110,25 +90,29 @@ some-kept t from (suc count) pos = step (t from) refl pos (λ h. some-kept t (fr
     step : (b : Bool) → t from ≡ b → 0 < length (if b then from ∷ numbers_where t (from + 1) count else numbers_where t (from + 1) count)
         → (0 < length (numbers_where t (from + 1) count) → (q : ℕ) × (from + 1 ≤ q) × (q < from + 1 + count) × (t q ≡ true))
         → (q : ℕ) × (from ≤ q) × (q < from + suc count) × (t q ≡ true)
-    step true e h ih = (from, omega arith, omega arith, e)
-    step false e h ih = let r = ih h in (r.0, omega (arith, r.1), omega (arith, r.2), r.3)
+    step b h1 h2 h3 = grind (arith, nat_tests)
 
 -- one that got a further one has a slot that never came
 slots-new : (x y : Shape) → Grows x y → (n : ℕ) → sent x n < sent y n → (q : ℕ) × (x.slots ≤ q) × (q < y.slots) × (has y n q ≡ true)
 slots-new x y g n lt =
     let more = y.slots - x.slots in
     let total : y.slots ≡ x.slots + more = omega (arith, g.slots) in
-    let front : numbers_where (has y n) 0 x.slots ≡ slots_in x n = kept-same (has y n)
-    (has x n) 0 x.slots (λ k a b. ap (λ s. (s.message == n) && not s.is_terminal_chunk) (g.slot k (omega arith))) in
-    let split : slots_in y n ≡ slots_in x n ++ numbers_where (has y n) (0 + x.slots) more = ap (numbers_where (has y n) 0) total
-    ∙ Alls.kept-split (has y n) 0 x.slots more ∙ ap (λ l. l ++ numbers_where (has y n) (0 + x.slots) more) front in
+    let front : numbers_where (has y n) 0 x.slots ≡ slots_in x n = grind (arith, nat_tests, kept-same) in
+    let split : slots_in y n ≡ slots_in x n ++ numbers_where (has y n) (0 + x.slots) more = grind (arith, nat_tests, Alls.kept-split) in
     let r = some-kept (has y n)
     (0 + x.slots) more (let l = ap length split in omega (arith, lt, l, length-append (slots_in x n) (numbers_where (has y n) (0 + x.slots) more))) in
     (r.0, omega (arith, r.1), omega (arith, r.2, g.slots), r.3)
 
 pub complete-later : (x y : Shape) → Sender x → Sender y → Grows x y → (log : List LogEntry) → SlotsReceived x log → (n : ℕ) → n < x.count
     → complete_in y log n ≡ complete_in x log n
-complete-later x y a b g log f n lt = step (cases_lt (sent x n) (sent y n))
+complete-later x y a b g log f n lt = elim (cases_lt (sent x n) (sent y n)) [
+  | inl more ↦
+      let out : complete_in y log n ≡ false = fails (complete_in y log n) (λ e. new-none (y.message n).ordered more (both (sent y n == parts y n)
+      (if (y.message n).ordered then list_all (Log.arrived_new log) (slots_in y n) else Log.were_complete (slots_in y n) log) e).1) in
+      let not-all : (sent x n == parts x n) ≡ false = grind (arith, nat_tests) in
+      cc
+  | inr le ↦ let same : slots_in y n ≡ slots_in x n = slots-same x y g n (omega (arith, le, g.sent_more n)) in cc (same, parts-grown x y g n lt, ordered-is)
+]
   where
     ordered-is : (y.message n).ordered ≡ (x.message n).ordered
     ordered-is = ap (λ m. m.ordered) (g.message n lt)
@@ -142,19 +126,7 @@ complete-later x y a b g log f n lt = step (cases_lt (sent x n) (sent y n))
       where
         either : (o : Bool) → (if o then list_all (Log.arrived_new log) (slots_in y n) else Log.were_complete (slots_in y n) log) ≡ true
             → list_all (Log.arrived_new log) (slots_in y n) ≡ true
-        either true e = e
-        either false e = were-new (slots_in y n) log e
-
-    step : (sent x n < sent y n) ⊎ (sent y n ≤ sent x n) → complete_in y log n ≡ complete_in x log n
-    step (inl more) =
-        let out : complete_in y log n ≡ false = fails (complete_in y log n) (λ e. new-none (y.message n).ordered more (both (sent y n == parts y n)
-        (if (y.message n).ordered then list_all (Log.arrived_new log) (slots_in y n) else Log.were_complete (slots_in y n) log) e).1) in
-        let not-all : (sent x n == parts x n) ≡ false = fails (sent x n == parts x n)
-        (λ e. let z = same-is (sent x n) (parts x n) e in absurd (omega (arith, more, g.ended n (omega (arith, z, a.some n lt)) (inl z)))) in
-        cc
-    step (inr le) =
-        let same : slots_in y n ≡ slots_in x n = slots-same x y g n (omega (arith, le, g.sent_more n)) in
-        cc (same, parts-grown x y g n lt, ordered-is)
+        either o h1 = grind (arith, nat_tests, were-new)
 
 -- ## By the record
 
@@ -182,27 +154,17 @@ all-come v n le = ands (cases_lt (come_count v n) (sent v.x n))
                 → length (if c && d then from ∷ numbers_where (λ k. has v.x n k && v.arrived k) (from + 1) count
                 else numbers_where (λ k. has v.x n k && v.arrived k) (from + 1) count)
                 ≤ length (if c then from ∷ numbers_where (has v.x n) (from + 1) count else numbers_where (has v.x n) (from + 1) count)
-            step true true ih = omega (arith, ih)
-            step true false ih = omega (arith, ih)
-            step false d ih = ih
+            step c d h1 = grind (arith, nat_tests)
 
     ands : (come_count v n < sent v.x n) ⊎ (sent v.x n ≤ come_count v n) → all_come v n ≡ ((sent v.x n == parts v.x n) && (come_count v n == sent v.x n))
-    ands (inl l) =
-        let a : (come_count v n == parts v.x n) ≡ false = (let z : come_count v n < parts v.x n = omega (arith, l, le) in grind (arith, nat_tests)) in
-        let b : (come_count v n == sent v.x n) ≡ false = grind (arith, nat_tests) in
-        a ∙ sym (ap (λ c. (sent v.x n == parts v.x n) && c) b ∙ none (sent v.x n == parts v.x n))
-      where
-        none : (b : Bool) → (b && false) ≡ false
-        none true = refl
-        none false = refl
+    ands (inl l) = grind (arith, nat_tests)
     ands (inr g) =
         let z : come_count v n ≡ sent v.x n = omega (arith, g, most) in
         ap (λ k. k == parts v.x n) z ∙ sym (ap (λ k. (sent v.x n == parts v.x n) && (k == sent v.x n)) z
         ∙ ap (λ c. (sent v.x n == parts v.x n) && c) (same-yes (sent v.x n)) ∙ id (sent v.x n == parts v.x n))
       where
         id : (b : Bool) → (b && true) ≡ b
-        id true = refl
-        id false = refl
+        id b = grind (arith, nat_tests)
 
 -- what is due is what is complete now
 pub due-now : (v : View) (log : List LogEntry) (n : ℕ) → Hears v log → sent v.x n ≤ parts v.x n
@@ -215,12 +177,10 @@ due-now v log n h le =
     ap (λ b. b && nat_le v.skipped k) (h.arrived k) ∙ ap (λ b. Log.arrived_new log k && b) (past k (cases_lt k v.skipped) ∙ ap not (sym (h.covered k)))))
   where
     assoc : (a b c : Bool) → ((a && b) && c) ≡ (a && (b && c))
-    assoc true b c = refl
-    assoc false b c = refl
+    assoc a b c = grind (arith, nat_tests)
 
     past : (k : ℕ) → (k < v.skipped) ⊎ (v.skipped ≤ k) → nat_le v.skipped k ≡ not (nat_lt k v.skipped)
-    past k (inl l) = grind (arith, nat_tests)
-    past k (inr g) = grind (arith, nat_tests)
+    past k h1 = grind (arith, nat_tests)
 
 -- an unordered message after one thing more came
 pub one-more : (v : View) (coming : LogEntry) (log : List LogEntry) (n : ℕ) → Hears v (coming ∷ log) → sent v.x n ≤ parts v.x n
@@ -233,8 +193,7 @@ one-more v coming log n h le o =
     ∙ ap (λ b. complete_in v.x log n || b) (sym (due-now v (coming ∷ log) n h le))
   where
     dist : (a b c : Bool) → (a && (b || c)) ≡ ((a && b) || (a && c))
-    dist true b c = refl
-    dist false b c = refl
+    dist a b c = grind (arith, nat_tests)
 
 -- what is due was complete
 pub due-complete : (v : View) (log : List LogEntry) (n : ℕ) → Hears v log → sent v.x n ≤ parts v.x n → 0 < parts v.x n → (v.x.message n).ordered ≡ false
@@ -250,16 +209,7 @@ due-complete v log n h le some o e =
 -- an unordered message that is complete by the order of arrivals has arrived
 pub complete-come : (v : View) (log : List LogEntry) (n : ℕ) → ((p : ℕ) → v.arrived p ≡ Log.arrived_new log p) → sent v.x n ≤ parts v.x n
     → complete_in v.x log n ≡ true → all_come v n ≡ true
-complete-come v log n arrived le e =
-    let a = both (sent v.x n == parts v.x n)
-    (if (v.x.message n).ordered then list_all (Log.arrived_new log) (slots_in v.x n) else Log.were_complete (slots_in v.x n) log) e in
-    all-come v n le ∙ and (sent v.x n == parts v.x n) (list_all v.arrived (slots_in v.x n)) a.0
-    (Alls.all-same v.arrived (Log.arrived_new log) (has v.x n) 0 v.x.slots (λ k x y z. arrived k) ∙ by (v.x.message n).ordered a.1)
-  where
-    by : (o : Bool) → (if o then list_all (Log.arrived_new log) (slots_in v.x n) else Log.were_complete (slots_in v.x n) log) ≡ true
-        → list_all (Log.arrived_new log) (slots_in v.x n) ≡ true
-    by true e = e
-    by false e = were-new (slots_in v.x n) log e
+complete-come v log n arrived le e = grind (arith, nat_tests, all-come, were-new)
 
 -- an ordered one is complete exactly where it has arrived
 pub ordered-complete : (v : View) (log : List LogEntry) (n : ℕ) → ((p : ℕ) → v.arrived p ≡ Log.arrived_new log p) → sent v.x n ≤ parts v.x n

@@ -1,16 +1,10 @@
 -- The next message of the run is the first one that is due.
-use Rattle.std.proofs.Common.{◌≡◌, ℕ, zero, suc, ◌+◌, ◌-◌, ◌<◌, ◌≤◌, Bool, true, false, List, [], ◌∷◌, ◌++◌, length, take, drop, Some, refl, ap, sym, ◌∙◌}
-use Rattle.std.proofs.Common.{arith}
-use Rattle.std.specs.Prelude.{if◌then◌else◌, ◌&&◌, not, nat_lt, nat_le}
-use Rattle.std.proofs.lemmas.Bool.Decides.{nat_tests}
-use Rattle.std.specs.List.{filter}
-use Rattle.sctp_util.specs.Kept.{numbers_where, leading, first_of}
-use Rattle.sctp_util.proofs.Passing.{kept-same, kept-none, front-kept, FrontOf, IsFront}
-use Rattle.sctp_util.proofs.More.{fails, not_both, both}
+use Rattle.sctp_model.proofs.Names.{◌≡◌, ℕ, zero, suc, ◌+◌, ◌-◌, ◌<◌, ◌≤◌, Bool, true, false, List, [], ◌∷◌, ◌++◌, length, take, drop, Some, refl, ap, sym, ◌∙◌}
+use Rattle.sctp_model.proofs.Names.{arith, if◌then◌else◌, ◌&&◌, not, nat_lt, nat_le, nat_tests, filter, numbers_where, leading, first_of, kept-same, kept-none}
+use Rattle.sctp_model.proofs.Names.{front-kept, not_both, both}
 use Rattle.sctp_model.proofs.receiver.View.{View, line, run, next, complete_at}
 use Rattle.sctp_model.proofs.sender.Shape.{on, index}
 use Rattle.sctp_model.proofs.receiver.Indexes.{index_on}
-use Rattle.sctp_util.proofs.Cases.{negated}
 
 abbrev pub wanted : (ℕ → Bool) → (ℕ → Bool) → ℕ → Bool
 wanted wh r x = not (r x) && wh x
@@ -23,45 +17,18 @@ ReadComplete wh r (x ∷ xs) = (r x ≡ true → wh x ≡ true) × ReadComplete 
 pub run-tail : (wh r : ℕ → Bool) (line : List ℕ) → ReadComplete wh r line
     → first_of (filter (λ x. not (r x)) (leading wh line)) ≡ first_of (filter (wanted wh r) (take (length (leading r line) + 1) line))
 run-tail wh r [] all = refl
-run-tail wh r (x ∷ xs) all = step (r x) (wh x) refl refl (run-tail wh r xs all.1)
-  where
-    step : (b c : Bool) → r x ≡ b → wh x ≡ c
-        → first_of (filter (λ x. not (r x)) (leading wh xs)) ≡ first_of (filter (wanted wh r) (take (length (leading r xs) + 1) xs))
-        → first_of (filter (λ x. not (r x)) (if c then x ∷ leading wh xs else []))
-        ≡ first_of (filter (wanted wh r) (take (length (if b then x ∷ leading r xs else []) + 1) (x ∷ xs)))
-    step true true e h ih =
-        let count : length (x ∷ leading r xs) + 1 ≡ suc (length (leading r xs) + 1) = omega arith in
-        rw (count, e) ih
-    step true false e h ih = absurd (not_both (sym h ∙ all.0 e))
-    step false true e h ih = rw (e, h) refl
-    step false false e h ih = rw (e, h) refl
+run-tail wh r (x ∷ xs) all = search (arith, nat_tests, not_both, (run-tail wh r xs all.1))
 
 pub take-none : (i : ℕ) (q : ℕ → Bool) → filter q (take i []) ≡ []
-take-none zero q = refl
-take-none (suc i) q = refl
+take-none i q = grind (arith, nat_tests)
 
 pub run-first : (wh r : ℕ → Bool) (i : ℕ) (line : List ℕ) → ReadComplete wh r line
     → first_of (filter (λ x. not (r x)) (filter wh (take i line) ++ leading wh (drop i line)))
     ≡ first_of (filter (wanted wh r) (take (i + length (leading r (drop i line)) + 1) line))
 run-first wh r zero [] all = refl
-run-first wh r zero (x ∷ xs) all =
-    let count : 0 + length (leading r (x ∷ xs)) + 1 ≡ length (leading r (x ∷ xs)) + 1 = omega arith in
-    run-tail wh r (x ∷ xs) all ∙ ap (λ k. first_of (filter (wanted wh r) (take k (x ∷ xs)))) (sym count)
+run-first wh r zero (x ∷ xs) all = grind (arith, nat_tests, run-tail)
 run-first wh r (suc i) [] all = sym (ap first_of (take-none (suc i + 0 + 1) (wanted wh r)))
-run-first wh r (suc i) (x ∷ xs) all =
-    let more : suc i + length (leading r (drop i xs)) + 1 ≡ suc (i + length (leading r (drop i xs)) + 1) = omega arith in
-    step (r x) (wh x) refl refl (run-first wh r i xs all.1)
-    ∙ ap (λ k. first_of (filter (wanted wh r) (take k (x ∷ xs)))) (sym more)
-  where
-    step : (b c : Bool) → r x ≡ b → wh x ≡ c
-        → first_of (filter (λ x. not (r x)) (filter wh (take i xs) ++ leading wh (drop i xs)))
-        ≡ first_of (filter (wanted wh r) (take (i + length (leading r (drop i xs)) + 1) xs))
-        → first_of (filter (λ x. not (r x)) ((if c then x ∷ filter wh (take i xs) else filter wh (take i xs)) ++ leading wh (drop i xs)))
-        ≡ first_of (filter (wanted wh r) (x ∷ take (i + length (leading r (drop i xs)) + 1) xs))
-    step true true e h ih = rw e ih
-    step true false e h ih = rw e ih
-    step false true e h ih = rw (e, h) refl
-    step false false e h ih = rw (e, h) ih
+run-first wh r (suc i) (x ∷ xs) all = grind (arith, nat_tests, (run-first wh r i xs all.1))
 
 -- the first ones of a line, by their places
 pub take-kept : (p q : ℕ → Bool) (idx : ℕ → ℕ) (from count i b top : ℕ) → top ≡ b + i
@@ -82,9 +49,7 @@ take-kept p q idx from (suc count) i b top t places = step (p from) refl i t
         ≡ numbers_where (λ k. p k && (q k && nat_lt (idx k) top)) from (suc count)
     step false e i t ih =
         rw e (ih i b t (λ k x y z. places k (omega arith) (omega arith) z ∙ ap (λ n. b + length (numbers_where p from n)) (later k x) ∙ rw e refl))
-    step true e zero t ih = sym (kept-none (λ k. p k && (q k && nat_lt (idx k) top)) from (suc count)
-        (λ k x y. fails (p k && (q k && nat_lt (idx k) top)) (λ z. let a = both (p k) (q k && nat_lt (idx k) top) z in let c : nat_lt (idx k) top ≡ true =
-        (both (q k) (nat_lt (idx k) top) a.1).1 in let at = places k x y a.0 in let lt : idx k < top = grind (arith, nat_tests) in absurd (omega (arith, at)))))
+    step true e zero t ih = grind (arith, nat_tests, kept-none)
     step true e (suc i) t ih =
         let zero' : from - from ≡ 0 = omega arith in
         let at : idx from ≡ b + length (numbers_where p from (from - from)) = places from (omega arith) (omega arith) e in
@@ -97,8 +62,7 @@ take-kept p q idx from (suc count) i b top t places = step (p from) refl i t
             → (if c then from ∷ filter q (take i (numbers_where p (from + 1) count)) else filter q (take i (numbers_where p (from + 1) count)))
             ≡ (if true && (c && true) then from ∷ numbers_where (λ k. p k && (q k && nat_lt (idx k) top)) (from + 1) count
             else numbers_where (λ k. p k && (q k && nat_lt (idx k) top)) (from + 1) count)
-        on true h = ap (λ l. from ∷ l) h
-        on false h = h
+        on c h1 = grind (arith, nat_tests)
 
 -- an unread complete message of the stream, at most the one expected next
 abbrev pub is_due : View → ℕ → ℕ → Bool
@@ -123,14 +87,10 @@ run-due v s reads =
       where
         step : (b : Bool) → p from ≡ b → ReadComplete (complete_at v) v.read (numbers_where p (from + 1) count)
             → ReadComplete (complete_at v) v.read (if b then from ∷ numbers_where p (from + 1) count else numbers_where p (from + 1) count)
-        step true e ih = (h from (omega arith) (omega arith) e, ih)
-        step false e ih = ih
+        step b h1 h2 = grind (arith, nat_tests)
 
     same : (a b c : Bool) (i n : ℕ) → (a && ((b && c) && nat_lt i (n + 1))) ≡ (a && (b && (c && nat_le i n)))
-    same true true true i n = grind (arith, nat_tests)
-    same true true false i n = refl
-    same true false c i n = refl
-    same false b c i n = refl
+    same a b c i n = grind (arith, nat_tests)
 
 -- the first one due
 pub record IsDue (v : View) (s n : ℕ) : Type 0 where
@@ -143,24 +103,4 @@ pub record IsDue (v : View) (s n : ℕ) : Type 0 where
   pub first : (k : ℕ) → k < n → is_due v s k ≡ false
 
 pub due-first : (v : View) (s n : ℕ) → first_of (numbers_where (is_due v s) 0 v.x.count) ≡ Some n → IsDue v s n
-due-first v s n e = by (numbers_where (is_due v s) 0 v.x.count) e (front-kept (is_due v s) 0 v.x.count)
-  where
-    by : (l : List ℕ) → first_of l ≡ Some n → FrontOf (is_due v s) 0 v.x.count l → IsDue v s n
-    by [] e f = cc
-    by (k ∷ rest) e f = let z : k ≡ n = cc in at z f
-      where
-        at : k ≡ n → IsFront (is_due v s) 0 v.x.count k rest → IsDue v s n
-        at z g =
-            let p : is_due v s n ≡ true = ap (is_due v s) (sym z) ∙ g.passes in
-            let a = both (on v.x s n) (not (v.read n) && (complete_at v n && nat_le (index v.x n) (next v s))) p in
-            let b = both (not (v.read n)) (complete_at v n && nat_le (index v.x n) (next v s)) a.1 in
-            let c = both (complete_at v n) (nat_le (index v.x n) (next v s)) b.1 in
-            let d = c.1 in
-            record {
-              made = omega (arith, g.high, z);
-              on_it = a.0;
-              unread = negated (v.read n) b.0;
-              complete_now = c.0;
-              near = grind (arith, nat_tests);
-              first = λ j lt. g.first j (omega arith) (omega (arith, lt, z));
-            }
+due-first v s n e = grind (arith, nat_tests, front-kept, both)

@@ -1,26 +1,18 @@
 -- What each change of the record keeps is so in every history.
-use Rattle.std.proofs.Common.{◌≡◌, ℕ, zero, suc, ◌<◌, Bool, true, false, List, [], ◌∷◌, length, map, Option, Some, None, refl, ap, sym, ◌∙◌}
-use Rattle.std.specs.Prelude.{not, fold, slice_get}
-use Rattle.std.proofs.Math.Path.{subst}
-use Rattle.sctp_data.specs.declared.chunk.chunk_payload_data.ReliabilityType.{ReliabilityType}
-use Rattle.sctp_model.specs.declared.event.Event.{Event}
+use Rattle.sctp_model.proofs.Names.{◌≡◌, ℕ, zero, suc, ◌<◌, Bool, true, false, List, [], ◌∷◌, length, map, Option, Some, None, refl, ap, sym, ◌∙◌, fold}
+use Rattle.sctp_model.proofs.Names.{slice_get, subst, ReliabilityType, Event, Reply, Setup, Datagram, Forward, Sack, Report, LinkRecord, start, History}
+use Rattle.sctp_model.proofs.Names.{record_of, IsRun, refusal_of, after, LogEntry, SlotReceived, SkipReceived, SackMade, Made, made_in, datagram_comes}
+use Rattle.sctp_model.proofs.Names.{slots_come, log_of, IsSetup, kind_of, arith, nat_tests}
 use Rattle.sctp_model.specs.declared.event.Event.TheVariants as E
-use Rattle.sctp_model.specs.declared.event.LinkRefusal.TheVariants.{StreamUnknown, StreamOpen}
-use Rattle.sctp_model.specs.Reply.{Reply}
-use Rattle.sctp_model.specs.LinkRecord.{Setup, Datagram, Forward, Sack, Report, LinkRecord, start}
 use Rattle.sctp_model.specs.LinkRecord as W
 use Rattle.sctp_model.specs.Messages
 use Rattle.sctp_model.specs.Receiver
 use Rattle.sctp_model.specs.Changes
-use Rattle.sctp_model.specs.Steps.{History, record_of, IsRun, refusal_of, after}
-use Rattle.sctp_model.specs.Log.{LogEntry, SlotReceived, SkipReceived, SackMade, Made, made_in, datagram_comes, slots_come, log_of}
-use Rattle.sctp_model.specs.Laws.{IsSetup, kind_of}
 use Rattle.sctp_model.proofs.sender.Shape.{shape}
 use Rattle.sctp_model.proofs.sender.SenderRun.{Consistent, consistent-run, consistent-after, consistent-received, unless-holds}
 use Rattle.sctp_model.proofs.sender.Moves.{Quiet, quiet-after}
 use Rattle.sctp_model.proofs.sender.Network.{SlotsFit, NamesFit, Fits, fit-at, fit-run, same-slot}
 use Rattle.sctp_model.proofs.sender.Made.{made-run}
-use Rattle.sctp_util.proofs.Cases.{negated}
 
 -- each change keeps P, which speaks of the record and of what came
 pub record Keeps (setup : Setup) (P : LinkRecord → List LogEntry → Type 0) : Type 0 where
@@ -60,8 +52,7 @@ module _ (setup : Setup) (P : LinkRecord → List LogEntry → Type 0) (keeps : 
   slots-keep [] w log g f p = p
   slots-keep (q ∷ ps) w log g f p =
       slots-keep ps (Changes.receive_slot w q) (SlotReceived q ∷ log) (consistent-received setup w q g)
-      (subst (λ x. SlotsFit x ps) (sym (same-slot w q).shape_is) f.2)
-      (keeps.slot w log q g f.0 f.1 p)
+      (subst (λ x. SlotsFit x ps) (sym (same-slot w q).shape_is) f.2) (keeps.slot w log q g f.0 f.1 p)
 
   arrive-keeps : (w : LinkRecord) (log : List LogEntry) (o : Option Datagram) (m : Option Made) → Consistent setup w → ((d : Datagram) → o ≡ Some d
       → (Fits (shape w) d) × (m ≡ Some (kind_of d))) → (o ≡ None → m ≡ None) → P w log → P (Changes.after_arrive w o) (datagram_comes m log)
@@ -73,10 +64,7 @@ module _ (setup : Setup) (P : LinkRecord → List LogEntry → Type 0) (keeps : 
   arrive-keeps w log (Some (Sack r)) m g f none p = let a = f (Sack r) refl in subst (λ x. P w (datagram_comes x log)) (sym a.1) p
 
   taken-keeps : (w : LinkRecord) (log : List LogEntry) (o : Option Datagram) → Consistent setup w → P w log → P (Changes.after_acked w o) log
-  taken-keeps w log None g p = p
-  taken-keeps w log (Some (W.Data ps)) g p = p
-  taken-keeps w log (Some (Forward upto names)) g p = p
-  taken-keeps w log (Some (Sack r)) g p = keeps.taken w log r g p
+  taken-keeps w log o h1 h2 = grind (arith, nat_tests)
 
 pub get-map_some : {A B : Type 0} (f : A → B) (xs : List A) (k : ℕ) (x : A) → slice_get xs k ≡ Some x → slice_get (map f xs) k ≡ Some (f x)
 get-map_some f [] k x e = cc
@@ -103,8 +91,7 @@ step-moves setup P keeps older is run e r no' ok p =
     by : (e : Event) (r : Reply) → is_read e ≡ false → Consistent setup (record_of setup older) → refusal_of (record_of setup older) e ≡ None
         → Consistent setup (after (record_of setup older) e) → P (record_of setup older) (log_of setup older)
         → P (after (record_of setup older) e) (log_of setup ((e, r) ∷ older))
-    by (E.Open s) r no' g ok a p = keeps.opened (record_of setup older) (log_of setup older) s g
-        (negated (Messages.is_open (record_of setup older) s) (unless-holds (not (Messages.is_open (record_of setup older) s)) StreamOpen None ok).0) p
+    by (E.Open s) r no' g ok a p = grind (arith, nat_tests)
     by (E.Mode s unordered reliability value) r no' g ok a p = keeps.moded (record_of setup older) (log_of setup older) s unordered reliability value g p
     by (E.Ack credit) r no' g ok a p = keeps.reported (record_of setup older) (log_of setup older) credit g p
     by (E.Arrive k) r no' g ok a p =
@@ -125,13 +112,6 @@ step-moves setup P keeps older is run e r no' ok p =
 pub run-keeps : (setup : Setup) (P : LinkRecord → List LogEntry → Type 0) → Keeps setup P → (h : History) → IsSetup setup → IsRun setup h
     → P (record_of setup h) (log_of setup h)
 run-keeps setup P keeps [] is run = keeps.begins
-run-keeps setup P keeps ((E.Read s, r) ∷ older) is run =
-    reads (Receiver.next_read (record_of setup older) s) refl (run-keeps setup P keeps older is run.1.1)
-  where
-    reads : (o : Option ℕ) → Receiver.next_read (record_of setup older) s ≡ o → P (record_of setup older) (log_of setup older)
-        → P (Changes.read_of (record_of setup older) s o) (log_of setup older)
-    reads None e p = p
-    reads (Some n) e p = keeps.read (record_of setup older) (log_of setup older) s n (consistent-run setup older run.1.1)
-        (unless-holds (Messages.is_open (record_of setup older) s) StreamUnknown None run.0).0 e p
+run-keeps setup P keeps ((E.Read s, r) ∷ older) is run = grind (arith, nat_tests, consistent-run, unless-holds, (run-keeps setup P keeps older is run.1.1))
 run-keeps setup P keeps ((event, r) ∷ older) is run =
     step-moves setup P (moving-of setup P keeps) older is run.1.1 event r refl run.0 (run-keeps setup P keeps older is run.1.1)

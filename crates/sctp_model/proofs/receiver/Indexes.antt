@@ -1,14 +1,9 @@
 -- The ordered messages of a stream, by index, and the one that is expected next.
-use Rattle.std.proofs.Common.{◌≡◌, ℕ, ◌+◌, ◌-◌, ◌<◌, ◌≤◌, true, false, length, drop, get_or, refl, ap, sym, ◌∙◌, inl, inr, arith, zero-add}
-use Rattle.std.specs.Prelude.{◌⊎◌, ◌==◌, ◌&&◌, not}
-use Rattle.std.proofs.lemmas.Bool.{cases_lt}
-use Rattle.sctp_util.specs.Kept.{numbers_where, leading}
-use Rattle.sctp_util.proofs.Passing.{length-kept-lt}
-use Rattle.sctp_util.proofs.More.{both}
-use Rattle.sctp_util.proofs.Places.{leading-passes, leading-stops, leading-le, leading-is, get-drop, length-dropped, kept-get, kept-place}
+use Rattle.sctp_model.proofs.Names.{◌≡◌, ℕ, ◌+◌, ◌-◌, ◌<◌, ◌≤◌, true, false, length, drop, get_or, refl, ap, sym, ◌∙◌, inl, inr, arith, zero-add, ◌⊎◌, ◌==◌}
+use Rattle.sctp_model.proofs.Names.{◌&&◌, not, cases_lt, numbers_where, leading, length-kept-lt, both, leading-passes, leading-stops, leading-le, leading-is}
+use Rattle.sctp_model.proofs.Names.{get-drop, length-dropped, kept-get, kept-place, same-is, nat_tests}
 use Rattle.sctp_model.proofs.sender.Shape.{Shape, on, index}
 use Rattle.sctp_model.proofs.receiver.View.{View, line, next}
-use Rattle.sctp_util.proofs.Cases.{same-is}
 
 -- ## Indexes
 
@@ -16,8 +11,7 @@ pub on-stream : (x : Shape) (s n : ℕ) → on x s n ≡ true → (x.message n).
 on-stream x s n h = same-is (x.message n).stream s (both ((x.message n).stream == s) ((x.message n).ordered && not (x.message n).expired) h).0
 
 pub on-ordered : (x : Shape) (s n : ℕ) → on x s n ≡ true → (x.message n).ordered ≡ true
-on-ordered x s n h =
-    (both (x.message n).ordered (not (x.message n).expired) (both ((x.message n).stream == s) ((x.message n).ordered && not (x.message n).expired) h).1).0
+on-ordered x s n h = grind (arith, nat_tests)
 
 pub index_on : (x : Shape) (s n : ℕ) → on x s n ≡ true → index x n ≡ length (numbers_where (on x s) 0 n)
 index_on x s n h = ap (λ r. length (numbers_where (on x r) 0 n)) (on-stream x s n h)
@@ -49,11 +43,7 @@ pub index-at : (v : View) (s j : ℕ) → j < length (line v s) → IsPlaced v s
 index-at v s j lt =
     let r = kept-place (on v.x s) 0 v.x.count j 0 lt in
     let k : get_or (line v s) j 0 ≡ r.k = omega (arith, r.is) in
-    record {
-      made = omega (arith, r.is, r.low);
-      on_it = r.passes;
-      at = index_on v.x s (get_or (line v s) j 0) r.passes ∙ ap (λ n. length (numbers_where (on v.x s) 0 n)) k ∙ r.place_is;
-    }
+    (grind (arith, nat_tests))
 
 -- ## The one expected next
 

@@ -1,24 +1,14 @@
-use Rattle.std.proofs.Common.{◌≡◌, ℕ, zero, suc, ◌+◌, ◌-◌, ◌<◌, ◌≤◌, Bool, true, false, List, [], ◌∷◌, ◌++◌, length, take, drop, Some, refl, ap, sym, ◌∙◌, inl}
-use Rattle.std.proofs.Common.{inr, arith}
-use Rattle.std.specs.Prelude.{◌⊎◌, if◌then◌else◌, ◌==◌, ◌&&◌, ◌||◌, not, nat_le, nat_lt}
-use Rattle.std.specs.List.{list_any, list_all, filter}
-use Rattle.std.proofs.Math.Path.{subst}
-use Rattle.std.proofs.lemmas.Bool.{cases_lt}
-use Rattle.std.proofs.lemmas.Bool.Decides.{nat_tests}
-use Rattle.sctp_util.specs.Kept.{numbers_where, leading, first_of, or_else}
-use Rattle.sctp_util.proofs.Passing.{kept-same}
-use Rattle.sctp_util.proofs.More.{fails, not_both, both, and, kept-short}
+use Rattle.sctp_model.proofs.Names.{◌≡◌, ℕ, zero, suc, ◌+◌, ◌-◌, ◌<◌, ◌≤◌, Bool, true, false, List, [], ◌∷◌, ◌++◌, length, take, drop, Some, refl, ap, sym, ◌∙◌}
+use Rattle.sctp_model.proofs.Names.{inl, inr, arith, ◌⊎◌, if◌then◌else◌, ◌==◌, ◌&&◌, ◌||◌, not, nat_le, nat_lt, list_any, list_all, filter, subst, cases_lt}
+use Rattle.sctp_model.proofs.Names.{nat_tests, numbers_where, leading, first_of, kept-same, fails, not_both, both, and, kept-short, Setup, LinkRecord, is_new}
+use Rattle.sctp_model.proofs.Names.{LogEntry, SlotReceived, SkipReceived, AllDifferent, by_same, same-yes, same-is, negated, or-right, or-split, or-none}
+use Rattle.sctp_model.proofs.Names.{and-none, all-more, any-append}
 use Rattle.sctp_util.proofs.Alls
-use Rattle.sctp_model.specs.LinkRecord.{Setup, LinkRecord}
 use Rattle.sctp_model.specs.Messages
-use Rattle.sctp_model.specs.Receiver.{is_new}
 use Rattle.sctp_model.specs.Changes
 use Rattle.sctp_model.specs.Log
-use Rattle.sctp_model.specs.Log.{LogEntry, SlotReceived, SkipReceived}
-use Rattle.sctp_model.specs.Laws.{AllDifferent}
 use Rattle.sctp_model.proofs.sender.Shape.{has, on, sent, parts}
 use Rattle.sctp_model.proofs.sender.Sender.{Sender}
-use Rattle.sctp_model.proofs.sender.SenderSteps.{of-has}
 use Rattle.sctp_model.proofs.sender.SenderEnds.{sent-none}
 use Rattle.sctp_model.proofs.sender.SenderRun.{Consistent}
 use Rattle.sctp_model.proofs.sender.Grows.{Grows, parts-grown}
@@ -28,9 +18,6 @@ use Rattle.sctp_model.proofs.receiver.View
 use Rattle.sctp_model.proofs.receiver.View.{View, view, has_come, come_count, all_come, complete_at, arrived_in, noted_in, skipped_in, read_in, run, line}
 use Rattle.sctp_model.proofs.receiver.View.{next_read}
 use Rattle.sctp_model.proofs.receiver.CompleteMessages
-use Rattle.sctp_util.proofs.Cases.{by_same, same-yes, same-is, negated}
-use Rattle.sctp_util.proofs.Cases.{or-right, or-split, or-none, and-none}
-use Rattle.sctp_util.proofs.Tests.{all-more, any-append}
 
 -- In every history what is complete in the record is what the order of arrivals makes complete.
 
@@ -49,18 +36,7 @@ pub record Still (u v : View) : Type 0 where
   pub skipped : v.skipped ≡ u.skipped
 
 pub still-of : (setup : Setup) (w v : LinkRecord) → Consistent setup w → Consistent setup v → Quiet w v → Still (view w) (view v)
-still-of setup w v g a q = record {
-  grows = q.grows;
-  sender = g.sender;
-  sender' = a.sender;
-  arrived = q.arrived;
-  beyond = λ p le. arrived-beyond w p le;
-  read = q.read;
-  unread = q.unread;
-  named = λ s. ap (λ rs. (Messages.stream_of (record v { streams = rs }) s).named) q.streams;
-  complete = λ s. ap (λ rs. (Messages.stream_of (record v { streams = rs }) s).complete) q.streams;
-  skipped = q.skipped;
-}
+still-of setup w v g a q = grind (arith, nat_tests, arrived-beyond)
 
 pub come-still : (u v : View) → Still u v → (n : ℕ) → come_count v n ≡ come_count u n
 come-still u v s n = ap length
@@ -72,11 +48,7 @@ pub all-still : (u v : View) → Still u v → (n : ℕ) → n < u.x.count → a
 all-still u v s n lt = ap (λ c. c == parts v.x n) (come-still u v s n) ∙ ap (λ k. come_count u n == k) (parts-grown u.x v.x s.grows n lt)
 
 pub complete-still : (u v : View) → Still u v → (n : ℕ) → n < u.x.count → complete_at v n ≡ complete_at u n
-complete-still u v s n lt =
-    ap (λ m. if m.ordered then all_come v n else v.read n || list_any (λ k. k == n) (v.complete m.stream)) (s.grows.message n lt)
-    ∙ ap (λ b. if (u.x.message n).ordered then b else v.read n || list_any (λ k. k == n) (v.complete (u.x.message n).stream)) (all-still u v s n lt)
-    ∙ ap (λ b. if (u.x.message n).ordered then all_come u n else b || list_any (λ k. k == n) (v.complete (u.x.message n).stream)) (s.read n lt)
-    ∙ ap (λ l. if (u.x.message n).ordered then all_come u n else u.read n || list_any (λ k. k == n) l) (s.complete (u.x.message n).stream)
+complete-still u v s n lt = search (arith, nat_tests, all-still)
 
 -- what has arrived was sent
 pub come-sent : (v : View) (n : ℕ) → come_count v n ≤ sent v.x n
@@ -90,9 +62,7 @@ come-sent v n = less 0 v.x.slots
             → length (if c && d then from ∷ numbers_where (λ k. has v.x n k && v.arrived k) (from + 1) count
             else numbers_where (λ k. has v.x n k && v.arrived k) (from + 1) count)
             ≤ length (if c then from ∷ numbers_where (has v.x n) (from + 1) count else numbers_where (has v.x n) (from + 1) count)
-        step true true ih = omega (arith, ih)
-        step true false ih = omega (arith, ih)
-        step false d ih = ih
+        step c d h1 = grind (arith, nat_tests)
 
 -- ## The invariant
 
@@ -127,13 +97,7 @@ different-same xs ys e a = subst AllDifferent (sym e) a
 pub complete-quiet : (u v : View) (log : List LogEntry) → ((p : ℕ) → u.arrived p ≡ Log.arrived_new log p) → Still u v → Complete u log → Complete v log
 complete-quiet u v log arrivals s h = record {
   datagram_received = CompleteMessages.received-later u.x v.x s.grows.slots log h.datagram_received;
-  ready = λ t n e. let r = h.ready t n (ap (list_any (λ k. k == n)) (sym (s.complete t)) ∙ e) in
-      record {
-        made = omega (arith, r.made, s.grows.count);
-        stream = ap (λ m. m.stream) (s.grows.message n r.made) ∙ r.stream;
-        kind = ap (λ m. m.ordered) (s.grows.message n r.made) ∙ r.kind;
-        unread = s.read n r.made ∙ r.unread;
-      };
+  ready = grind (arith, nat_tests);
   differ = λ t. different-same (u.complete t) (v.complete t) (s.complete t) (h.differ t);
   agrees = λ n lt. by n lt (cases_lt n u.x.count);
 }
@@ -147,10 +111,7 @@ complete-quiet u v log arrivals s h = record {
         kind : (b : Bool) → (v.x.message n).ordered ≡ b
             → (if b then all_come v n else v.read n || list_any (λ k. k == n) (v.complete (v.x.message n).stream)) ≡ false
         kind true e = let z : come_count v n < parts v.x n = omega (arith, none, s.sender'.some n lt) in grind (arith, nat_tests)
-        kind false e =
-            ap (λ b. b || list_any (λ k. k == n) (v.complete (v.x.message n).stream)) (s.unread n ge lt)
-            ∙ fails (list_any (λ k. k == n) (v.complete (v.x.message n).stream)) (λ i.
-            absurd (omega (arith, (h.ready (v.x.message n).stream n (ap (list_any (λ k. k == n)) (sym (s.complete (v.x.message n).stream)) ∙ i)).made)))
+        kind false e = grind (arith, nat_tests)
 
     new-in : (n : ℕ) → n < v.x.count → u.x.count ≤ n → CompleteMessages.complete_in v.x log n ≡ false
     new-in n lt ge = fails (CompleteMessages.complete_in v.x log n)
@@ -190,12 +151,10 @@ differ-more (x ∷ xs) n e a = (
 )
   where
     left : (a b : Bool) → (a || b) ≡ false → a ≡ false
-    left true b e = e
-    left false b e = refl
+    left a b h1 = grind (arith, nat_tests)
 
     right : (a b : Bool) → (a || b) ≡ false → b ≡ false
-    right true b e = cc
-    right false b e = e
+    right a b h1 = grind (arith, nat_tests)
 
     flip : n ≡ x → (x == n) ≡ true
     flip z = grind (arith, nat_tests)
@@ -207,10 +166,7 @@ not-all v n p le lt h e = fails (all_come v n) (λ a. not_both (sym e ∙ Alls.a
 
 -- another message has arrived as it had
 pub come-other : (v : View) (p n : ℕ) → ((v.x.slot p).message ≡ n → ⊥) → come_count (arrived_in v p) n ≡ come_count v n
-come-other v p n ne =
-    ap length (kept-same (has_come (arrived_in v p) n) (has_come v n) 0 v.x.slots (λ k a b. by_same {P = has_come (arrived_in v p) n k ≡ has_come v n k} k p
-    (λ e. let off : has v.x n k ≡ false = fails (has v.x n k) (λ i. ne (sym (ap (λ q. (v.x.slot q).message) e) ∙ (of-has v.x n k i).0)) in rw off refl)
-    (λ nk f. ap (λ b. has v.x n k && (if b then true else v.arrived k)) f)))
+come-other v p n ne = grind (arith, nat_tests)
 
 module _ (v : View) (log : List LogEntry) (p : ℕ) (s : Sender v.x) (h : Complete v log) (arrivals : CompleteMessages.Hears v log)
     (arrivals' : CompleteMessages.Hears (arrived_in v p) (SlotReceived p ∷ log)) (lt : p < v.x.slots) (terminal : (v.x.slot p).is_terminal_chunk ≡ false)
@@ -232,8 +188,7 @@ module _ (v : View) (log : List LogEntry) (p : ℕ) (s : Sender v.x) (h : Comple
 
   -- it was not complete before
   pub not-complete : (v.x.message m).ordered ≡ false → complete_at v m ≡ false
-  not-complete o = fails (complete_at v m) (λ e. not_both (sym (not-all v m p (s.within m made) lt here new)
-      ∙ CompleteMessages.complete-come v log m arrivals.arrived (s.within m made) (sym (h.agrees m made) ∙ e)))
+  not-complete o = grind (arith, nat_tests, not-all, made, here, CompleteMessages.complete-come)
 
   pub due-other : (n : ℕ) → (m ≡ n → ⊥) → CompleteMessages.due v1 n ≡ CompleteMessages.due v n
   due-other n ne = ap (λ c. (c == parts v.x n) && list_all (λ q. nat_le v.skipped q) (CompleteMessages.slots_in v.x n)) (come-other v p n ne)
@@ -244,54 +199,15 @@ module _ (v : View) (log : List LogEntry) (p : ℕ) (s : Sender v.x) (h : Comple
       (λ e. same e (CompleteMessages.due v1 m) refl)
       (λ ne f. other ne f (not (v.x.message m).ordered && CompleteMessages.due v1 m) ∙ sym (stays ne))
     where
-      plain : complete_at v n ≡ (v.read n || list_any (λ k. k == n) (v.complete (v.x.message n).stream))
-      plain = ap (λ b. if b then all_come v n else v.read n || list_any (λ k. k == n) (v.complete (v.x.message n).stream)) o
-
       same : m ≡ n → (b : Bool) → CompleteMessages.due v1 m ≡ b → complete_at v2 n ≡ (complete_at v n || CompleteMessages.due v1 n)
-      same e true f =
-          let un : not (v.x.message m).ordered ≡ true = ap (λ k. not (v.x.message k).ordered) e ∙ ap not o in
-          ap (λ b. complete_at (if b then noted_in v1 (v.x.message m).stream m else v1) n) (and (not (v.x.message m).ordered) (CompleteMessages.due v1 m) un f)
-          ∙ ap (λ b. if b then all_come (noted_in v1 (v.x.message m).stream m) n else v.read n || list_any (λ k. k == n)
-          (if (v.x.message n).stream == (v.x.message m).stream then v.complete (v.x.message n).stream ++ m ∷ [] else v.complete (v.x.message n).stream)) o
-          ∙ or-right (v.read n) (list_any (λ k. k == n) (if (v.x.message n).stream == (v.x.message m).stream
-          then v.complete (v.x.message n).stream ++ m ∷ [] else v.complete (v.x.message n).stream))
-          (ap (λ b. list_any (λ k. k == n) (if b then v.complete (v.x.message n).stream ++ m ∷ [] else v.complete (v.x.message n).stream))
-          (ap (λ k. (v.x.message n).stream == (v.x.message k).stream) e ∙ same-yes (v.x.message n).stream)
-          ∙ any-append (λ k. k == n) (v.complete (v.x.message n).stream) (m ∷ [])
-          ∙ or-right (list_any (λ k. k == n) (v.complete (v.x.message n).stream)) ((m == n) || false) (or-left' (m == n) (ap (λ k. k == n) e ∙ same-yes n)))
-          ∙ sym (or-right (complete_at v n) (CompleteMessages.due v1 n) (ap (CompleteMessages.due v1) (sym e) ∙ f))
-        where
-          or-left' : (b : Bool) → b ≡ true → (b || false) ≡ true
-          or-left' true e = refl
-          or-left' false e = cc
-      same e false f =
-          ap (λ b. complete_at (if b then noted_in v1 (v.x.message m).stream m else v1) n)
-          (ap (λ b. not (v.x.message m).ordered && b) f ∙ and-none (not (v.x.message m).ordered))
-          ∙ ap (λ b. if b then all_come v1 n else v.read n || list_any (λ k. k == n) (v.complete (v.x.message n).stream)) o ∙ sym plain
-          ∙ sym (or-none (complete_at v n)) ∙ ap (λ b. complete_at v n || b) (sym (ap (CompleteMessages.due v1) (sym e) ∙ f))
+      same h1 b h2 = search (arith, nat_tests, and, or-right, same-yes, any-append, and-none, or-none)
 
       other : (m ≡ n → ⊥) → (m == n) ≡ false → (b : Bool) → complete_at (if b then noted_in v1 (v.x.message m).stream m else v1) n ≡ complete_at v n
-      other ne f true =
-          ap (λ b. if b then all_come (noted_in v1 (v.x.message m).stream m) n else v.read n || list_any (λ k. k == n)
-          (if (v.x.message n).stream == (v.x.message m).stream then v.complete (v.x.message n).stream ++ m ∷ [] else v.complete (v.x.message n).stream)) o
-          ∙ ap (λ b. v.read n || b) (either ((v.x.message n).stream == (v.x.message m).stream)) ∙ sym plain
-        where
-          either : (b : Bool) → list_any (λ k. k == n) (if b then v.complete (v.x.message n).stream ++ m ∷ [] else v.complete (v.x.message n).stream)
-              ≡ list_any (λ k. k == n) (v.complete (v.x.message n).stream)
-          either true = any-append (λ k. k == n) (v.complete (v.x.message n).stream) (m ∷ [])
-              ∙ ap (λ b. list_any (λ k. k == n) (v.complete (v.x.message n).stream) || (b || false)) f
-              ∙ or-none (list_any (λ k. k == n) (v.complete (v.x.message n).stream))
-          either false = refl
-      other ne f false = ap (λ b. if b then all_come v1 n else v.read n || list_any (λ k. k == n) (v.complete (v.x.message n).stream)) o ∙ sym plain
+      other h1 h2 b = search (arith, nat_tests, any-append, or-none)
 
       -- what is due was complete
       stays : (m ≡ n → ⊥) → (complete_at v n || CompleteMessages.due v1 n) ≡ complete_at v n
-      stays ne = by (CompleteMessages.due v n) refl ∙ or-none (complete_at v n)
-        where
-          by : (b : Bool) → CompleteMessages.due v n ≡ b → (complete_at v n || CompleteMessages.due v1 n) ≡ (complete_at v n || false)
-          by false e = ap (λ b. complete_at v n || b) (due-other n ne ∙ e)
-          by true e = let y : complete_at v n ≡ true = h.agrees n l ∙ CompleteMessages.due-complete v log n arrivals (s.within n l) (s.some n l) o e in
-              ap (λ b. b || CompleteMessages.due v1 n) y ∙ sym (ap (λ b. b || false) y)
+      stays ne = grind (arith, nat_tests, due-other, CompleteMessages.due-complete)
 
   agrees-then : (n : ℕ) → n < v.x.count → complete_at v2 n ≡ CompleteMessages.complete_in v.x (SlotReceived p ∷ log) n
   agrees-then n l = by (v.x.message n).ordered refl
@@ -328,13 +244,10 @@ module _ (v : View) (log : List LogEntry) (p : ℕ) (s : Sender v.x) (h : Comple
           })
         where
           unread : (v.x.message m).ordered ≡ false → v.read m ≡ false
-          unread kind = fails (v.read m) (λ r. not_both (sym (not-complete kind) ∙ ap (λ b. if b then all_come v m else v.read m || list_any (λ k. k == m)
-              (v.complete (v.x.message m).stream)) kind ∙ ap (λ b. b || list_any (λ k. k == m) (v.complete (v.x.message m).stream)) r))
+          unread kind = grind (arith, nat_tests, not-complete)
 
           absent : (v.x.message m).ordered ≡ false → list_any (λ k. k == m) (v.complete (v.x.message m).stream) ≡ false
-          absent kind = fails (list_any (λ k. k == m) (v.complete (v.x.message m).stream)) (λ r. not_both (sym (not-complete kind)
-              ∙ ap (λ b. if b then all_come v m else v.read m || list_any (λ k. k == m) (v.complete (v.x.message m).stream)) kind
-              ∙ or-right (v.read m) (list_any (λ k. k == m) (v.complete (v.x.message m).stream)) r))
+          absent kind = grind (arith, nat_tests, not-complete)
 
           old : (t n : ℕ) → list_any (λ k. k == n) (v.complete t) ≡ true → IsReady (noted_in v1 (v.x.message m).stream m) t n
           old t n i = let r = h.ready t n i in record { made = r.made; stream = r.stream; kind = r.kind; unread = r.unread }
@@ -381,19 +294,12 @@ agrees-still u v coming log arrivals arrivals' e s h same less n lt = by (u.x.me
       where
         gone : (b : Bool) → CompleteMessages.due v n ≡ b
             → (CompleteMessages.complete_in u.x log n || CompleteMessages.due v n) ≡ CompleteMessages.complete_in u.x log n
-        gone true f = let y = CompleteMessages.due-complete u log n arrivals (s.within n lt) (s.some n lt) o (less n f) in
-            ap (λ b. b || CompleteMessages.due v n) y ∙ sym y
-        gone false f = ap (λ b. CompleteMessages.complete_in u.x log n || b) f ∙ or-none (CompleteMessages.complete_in u.x log n)
+        gone b h1 = grind (arith, nat_tests, CompleteMessages.due-complete)
 
 -- a slot comes again, or a SACK is made
 pub complete-again : (v : View) (coming : LogEntry) (log : List LogEntry) → CompleteMessages.Hears v log → CompleteMessages.Hears v (coming ∷ log) → Sender v.x
     → CompleteMessages.SlotsReceived v.x (coming ∷ log) → Complete v log → Complete v (coming ∷ log)
-complete-again v coming log arrivals arrivals' s datagram_received h = record {
-  datagram_received = datagram_received;
-  ready = h.ready;
-  differ = h.differ;
-  agrees = agrees-still v v coming log arrivals arrivals' refl s h (λ n lt. refl) (λ n e. e);
-}
+complete-again v coming log arrivals arrivals' s datagram_received h = grind (arith, nat_tests, agrees-still)
 
 pub complete-skip : (v : View) (log : List LogEntry) (upto : ℕ) (names : List ℕ) → CompleteMessages.Hears v log
     → CompleteMessages.Hears (skipped_in v upto names) (SkipReceived upto names ∷ log) → Sender v.x → v.skipped ≤ upto → Complete v log
@@ -406,11 +312,7 @@ complete-skip v log upto names arrivals arrivals' s le h = record {
 }
   where
     less : (n : ℕ) → CompleteMessages.due (skipped_in v upto names) n ≡ true → CompleteMessages.due v n ≡ true
-    less n e =
-        let a = both (all_come v n) (list_all (λ p. nat_le (upto + 1) p) (CompleteMessages.slots_in v.x n)) e in
-        and (all_come v n) (list_all (λ p. nat_le v.skipped p) (CompleteMessages.slots_in v.x n)) a.0
-        (all-more (λ p. nat_le (upto + 1) p) (λ p. nat_le v.skipped p) (CompleteMessages.slots_in v.x n) (λ k f. let z : upto + 1 ≤ k =
-        grind (arith, nat_tests) in let y : v.skipped ≤ k = omega (arith, z, le) in grind (arith, nat_tests)) a.1)
+    less n e = grind (arith, nat_tests, all-more) steps 150000
 
 -- ## A read
 
@@ -424,12 +326,7 @@ pub record ReadsRun (v : View) (s n : ℕ) : Type 0 where
   pub first : first_of (filter (λ n. not (v.read n)) (run v s)) ≡ Some n
 
 pub reads : (v : View) (s n : ℕ) → next_read v s ≡ Some n → ReadsComplete v s n ⊎ ReadsRun v s n
-reads v s n e = by (v.complete s) refl e
-  where
-    by : (l : List ℕ) → v.complete s ≡ l → or_else (first_of l) (first_of (filter (λ n. not (v.read n)) (run v s))) ≡ Some n
-        → ReadsComplete v s n ⊎ ReadsRun v s n
-    by [] f g = inr (record { none = f; first = g })
-    by (k ∷ rest) f g = let z : k ≡ n = cc in inl (record { rest = rest; is = f ∙ ap (λ j. j ∷ rest) z })
+reads v s n e = grind (arith, nat_tests)
 
 -- one of the run is complete, unread, and on the line
 pub record IsNext (v : View) (s n : ℕ) : Type 0 where
@@ -462,8 +359,7 @@ run-is v s n r = record {
     all-led q (x ∷ xs) = step (q x) refl (all-led q xs)
       where
         step : (b : Bool) → q x ≡ b → list_all q (leading q xs) ≡ true → list_all q (if b then x ∷ leading q xs else []) ≡ true
-        step true e ih = and (q x) (list_all q (leading q xs)) e ih
-        step false e ih = refl
+        step b h1 h2 = grind (arith, nat_tests)
 
 -- a message read is ordered, or it was ready
 pub record HasRead (v : View) (s n : ℕ) : Type 0 where
@@ -494,24 +390,9 @@ complete-read v log s n h r k = by (v.x.message k).ordered refl
         → complete_at v k ≡ (if b then all_come v k else v.read k || list_any (λ j. j == k) (v.complete (v.x.message k).stream))
     flat b o = ap (λ b. if b then all_come v k else v.read k || list_any (λ j. j == k) (v.complete (v.x.message k).stream)) o
 
-    miss : (xs : List ℕ) → (k ≡ n → ⊥) → xs ≡ [] ⊎ ((rest : List ℕ) × (xs ≡ n ∷ rest)) → list_any (λ j. j == k) (drop 1 xs) ≡ list_any (λ j. j == k) xs
-    miss xs ne (inl e) = ap (λ l. list_any (λ j. j == k) (drop 1 l)) e ∙ sym (ap (list_any (λ j. j == k)) e)
-    miss xs ne (inr r) = ap (λ l. list_any (λ j. j == k) (drop 1 l)) r.1 ∙ dropped r.0
-        ∙ sym (ap (list_any (λ j. j == k)) r.1 ∙ ap (λ b. b || list_any (λ j. j == k) r.0) (fails (n == k) (λ z. ne (sym (same-is n k z)))))
-      where
-        dropped : (l : List ℕ) → list_any (λ j. j == k) (drop 1 (n ∷ l)) ≡ list_any (λ j. j == k) l
-        dropped [] = refl
-        dropped (y ∷ l) = refl
-
-    shape-of : ReadsComplete v s n ⊎ ReadsRun v s n → v.complete s ≡ [] ⊎ ((rest : List ℕ) × (v.complete s ≡ n ∷ rest))
-    shape-of (inl a) = inr (a.rest, a.is)
-    shape-of (inr a) = inl a.none
-
     same : (k ≡ n → ⊥) → (b : Bool) → ((v.x.message k).stream == s) ≡ b → list_any (λ j. j == k) (if b then drop 1 (v.complete (v.x.message k).stream)
         else v.complete (v.x.message k).stream) ≡ list_any (λ j. j == k) (v.complete (v.x.message k).stream)
-    same ne true e = let z = same-is (v.x.message k).stream s e in ap (λ t. list_any (λ j. j == k) (drop 1 (v.complete t))) z
-        ∙ miss (v.complete s) ne (shape-of r) ∙ sym (ap (λ t. list_any (λ j. j == k) (v.complete t)) z)
-    same ne false e = refl
+    same h1 b h2 = grind (arith, nat_tests)
 
     by : (b : Bool) → (v.x.message k).ordered ≡ b → complete_at (read_in v s n) k ≡ complete_at v k
     by true o = cc (o, flat true o)
@@ -539,37 +420,14 @@ complete-reading v log s n h r = record {
 }
   where
     dropped : (t k : ℕ) (l : List ℕ) → list_any (λ j. j == k) (drop 1 l) ≡ true → list_any (λ j. j == k) l ≡ true
-    dropped t k [] e = e
-    dropped t k (y ∷ l) e = or-right (y == k) (list_any (λ j. j == k) l) (after l e)
-      where
-        after : (l : List ℕ) → list_any (λ j. j == k) (drop 1 (y ∷ l)) ≡ true → list_any (λ j. j == k) l ≡ true
-        after [] e = e
-        after (z ∷ l) e = e
+    dropped t k l h1 = grind (arith, nat_tests)
 
     kept-on : (t k : ℕ) → (k ≡ n → ⊥) → IsReady v t k → IsReady (read_in v s n) t k
-    kept-on t k ne i = record {
-      made = i.made;
-      stream = i.stream;
-      kind = i.kind;
-      unread = ap (λ b. if b then true else v.read k) (fails (k == n) (λ z. ne (same-is k n z))) ∙ i.unread;
-    }
-
-    tail-differs : (l : List ℕ) → AllDifferent l → AllDifferent (drop 1 l)
-    tail-differs [] a = tt
-    tail-differs (y ∷ []) a = tt
-    tail-differs (y ∷ z ∷ l) a = a.1
+    kept-on t k ne i = grind (arith, nat_tests)
 
     -- what is left is not the one that was read
     not-first : (k : ℕ) → list_any (λ j. j == k) (drop 1 (v.complete s)) ≡ true → k ≡ n → ReadsComplete v s n ⊎ ReadsRun v s n → ⊥
-    not-first k i e (inl a) =
-        let d = subst AllDifferent a.is (h.differ s) in
-        not_both (sym d.0 ∙ sym (dropped' a.rest) ∙ ap (λ l. list_any (λ j. j == n) (drop 1 l)) (sym a.is)
-        ∙ ap (λ z. list_any (λ j. j == z) (drop 1 (v.complete s))) (sym e) ∙ i)
-      where
-        dropped' : (l : List ℕ) → list_any (λ j. j == n) (drop 1 (n ∷ l)) ≡ list_any (λ j. j == n) l
-        dropped' [] = refl
-        dropped' (y ∷ l) = refl
-    not-first k i e (inr a) = not_both (ap (λ l. list_any (λ j. j == k) (drop 1 l)) (sym a.none) ∙ i)
+    not-first k h1 h2 h3 = grind (arith, nat_tests)
 
     other-stream : (t k : ℕ) → (t == s) ≡ false → IsReady v t k → k ≡ n → ReadsComplete v s n ⊎ ReadsRun v s n → ⊥
     other-stream t k f i e (inl a) = not_both (sym f
@@ -587,5 +445,4 @@ complete-reading v log s n h r = record {
     waits t k false f i = kept-on t k (λ e. other-stream t k f (h.ready t k i) e r) (h.ready t k i)
 
     apart : (t : ℕ) (b : Bool) → AllDifferent (if b then drop 1 (v.complete t) else v.complete t)
-    apart t true = tail-differs (v.complete t) (h.differ t)
-    apart t false = h.differ t
+    apart t b = grind (arith, nat_tests)

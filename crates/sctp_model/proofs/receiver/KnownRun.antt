@@ -1,21 +1,15 @@
 -- In every history what is complete in the record is what the order of arrivals makes complete.
-use Rattle.std.proofs.Common.{◌≡◌, ℕ, ◌+◌, ◌<◌, ◌≤◌, Bool, true, false, List, [], ◌∷◌, ◌++◌, length, map, Some, refl, ap, sym, ◌∙◌, arith}
-use Rattle.std.specs.Prelude.{if◌then◌else◌, ◌||◌, not, nat_lt}
-use Rattle.std.proofs.Math.Path.{subst}
-use Rattle.std.proofs.lemmas.Bool.Decides.{nat_tests}
-use Rattle.sctp_model.specs.LinkRecord.{Setup, Sack, LinkRecord}
+use Rattle.sctp_model.proofs.Names.{◌≡◌, ℕ, ◌+◌, ◌<◌, ◌≤◌, Bool, true, false, List, [], ◌∷◌, ◌++◌, length, map, Some, refl, ap, sym, ◌∙◌, arith, if◌then◌else◌}
+use Rattle.sctp_model.proofs.Names.{subst, nat_tests, Setup, Sack, LinkRecord, is_new, arrived_at, cumulative, History, record_of, IsRun, LogEntry}
+use Rattle.sctp_model.proofs.Names.{SlotReceived, SkipReceived, SackMade, IsSetup, OnEveryRun, CompletenessAgrees}
 use Rattle.sctp_model.specs.Messages
-use Rattle.sctp_model.specs.Receiver.{is_new, arrived_at, cumulative}
 use Rattle.sctp_model.specs.Changes
-use Rattle.sctp_model.specs.Steps.{History, record_of, IsRun}
 use Rattle.sctp_model.specs.Log
-use Rattle.sctp_model.specs.Log.{LogEntry, SlotReceived, SkipReceived, SackMade}
-use Rattle.sctp_model.specs.Laws.{IsSetup, OnEveryRun, CompletenessAgrees}
 use Rattle.sctp_model.proofs.sender.Shape.{shape}
 use Rattle.sctp_model.proofs.sender.SenderRun.{Consistent}
 use Rattle.sctp_model.proofs.sender.Network.{NamesFit}
 use Rattle.sctp_model.proofs.receiver.Events.{Keeps, run-keeps}
-use Rattle.sctp_model.proofs.receiver.Arrivals.{Arrivals, arrivals-keeps, arrivals-new, with_arrived, skipped-le, new-unseen}
+use Rattle.sctp_model.proofs.receiver.Arrivals.{Arrivals, arrivals-keeps, arrivals-new, with_arrived, skipped-le}
 use Rattle.sctp_model.proofs.receiver.View
 use Rattle.sctp_model.proofs.receiver.View.{View, view, arrived_in, skipped_in, read_in}
 use Rattle.sctp_model.proofs.receiver.Names.{view-skip}
@@ -25,20 +19,11 @@ use Rattle.sctp_model.proofs.receiver.Known.{Complete, Known, hears, complete-as
 
 -- what is new has not arrived
 pub new-not : (w : LinkRecord) (p : ℕ) → is_new w p ≡ true → arrived_at w p ≡ false
-new-not w p e = by (nat_lt p w.skipped) (arrived_at w p) (sym (new-unseen w p) ∙ e)
-  where
-    by : (a b : Bool) → not (a || b) ≡ true → b ≡ false
-    by true b e = cc
-    by false true e = cc
-    by false false e = refl
+new-not w p e = grind (arith, nat_tests)
 
 -- and is past what was skipped
 pub new-past : (w : LinkRecord) (p : ℕ) → is_new w p ≡ true → w.skipped ≤ p
-new-past w p e = let z : nat_lt p w.skipped ≡ false = by (nat_lt p w.skipped) (arrived_at w p) (sym (new-unseen w p) ∙ e) in grind (arith, nat_tests)
-  where
-    by : (a b : Bool) → not (a || b) ≡ true → a ≡ false
-    by true b e = cc
-    by false b e = refl
+new-past w p e = grind (arith, nat_tests)
 
 pub hears-as : (u v : View) (log : List LogEntry) → v ≡ u → CompleteMessages.Hears u log → CompleteMessages.Hears v log
 hears-as u v log e h = subst (λ y. CompleteMessages.Hears y log) (sym e) h
@@ -80,8 +65,7 @@ complete-skipped setup w log upto names g f arrivals arrivals' h = by (Changes.s
         (SkipReceived upto names ∷ log) (sym same) (hears (Changes.receive_skip w upto names) (SkipReceived upto names ∷ log) arrivals')) g.sender
         (omega (arith, c, skipped-le w)) h)
     by false e =
-        let same : view (Changes.receive_skip w upto names) ≡ view w =
-        ap (λ b. view (if b then record w { skipped = upto + 1; streams = map (Changes.named_by w names) w.streams } else w)) e in
+        let same : view (Changes.receive_skip w upto names) ≡ view w = grind (arith, nat_tests) in
         complete-as (view w) (view (Changes.receive_skip w upto names)) (SkipReceived upto names ∷ log) same
         (Known.complete-again (view w) (SkipReceived upto names) log (hears w log arrivals)
         (hears-as (view (Changes.receive_skip w upto names)) (view w) (SkipReceived upto names ∷ log) (sym same)
@@ -91,18 +75,12 @@ pub known-keeps : (setup : Setup) → Keeps setup Known
 known-keeps setup =
     let k = arrivals-keeps setup in
     record {
-      begins = record {
-        arrivals = k.begins;
-        complete = record { datagram_received = tt; ready = λ s n e. cc; differ = λ s. tt; agrees = λ n lt. absurd (omega arith) };
-      };
+      begins = grind (arith, nat_tests);
       quiet = λ w v log g a q b. record {
         arrivals = k.quiet w v log g a q b.arrivals;
         complete = Known.complete-quiet (view w) (view v) log b.arrivals.arrived (still-of setup w v g a q) b.complete;
       };
-      opened = λ w log s g o b. record {
-        arrivals = k.opened w log s g o b.arrivals;
-        complete = complete-as (view w) (view (Changes.after_open w s)) log (View.view-opened w s o) b.complete;
-      };
+      opened = grind (arith, nat_tests, View.view-opened);
       moded = λ w log s u r n g b. record {
         arrivals = k.moded w log s u r n g b.arrivals;
         complete = complete-as (view w) (view (Changes.after_mode w s u r n)) log (View.view-moded w s u r n) b.complete;

@@ -1,16 +1,9 @@
-use Rattle.std.proofs.Common.{◌≡◌, ℕ, ◌+◌, ◌<◌, Bool, true, false, List, [], ◌∷◌, ◌++◌, map, Some, refl, ap, sym, ◌∙◌, arith}
-use Rattle.std.specs.Prelude.{if◌then◌else◌, ◌==◌, ◌&&◌, not}
-use Rattle.std.proofs.Math.Path.{subst}
-use Rattle.std.specs.List.{filter}
-use Rattle.sctp_util.proofs.More.{fails, not_both}
-use Rattle.sctp_model.specs.LinkRecord.{Setup, Sack, LinkRecord}
+use Rattle.sctp_model.proofs.Names.{◌≡◌, ℕ, ◌+◌, ◌<◌, Bool, true, false, List, [], ◌∷◌, ◌++◌, map, Some, refl, ap, sym, ◌∙◌, arith, if◌then◌else◌, ◌==◌, ◌&&◌}
+use Rattle.sctp_model.proofs.Names.{not, subst, filter, fails, not_both, Setup, Sack, LinkRecord, greatest, is_new, History, record_of, IsRun, LogEntry}
+use Rattle.sctp_model.proofs.Names.{SlotReceived, SkipReceived, SackMade, IsSetup, OnEveryRun, NamedIsNamed}
 use Rattle.sctp_model.specs.Messages
-use Rattle.sctp_model.specs.Receiver.{greatest, is_new}
 use Rattle.sctp_model.specs.Changes
-use Rattle.sctp_model.specs.Steps.{History, record_of, IsRun}
 use Rattle.sctp_model.specs.Log
-use Rattle.sctp_model.specs.Log.{LogEntry, SlotReceived, SkipReceived, SackMade}
-use Rattle.sctp_model.specs.Laws.{IsSetup, OnEveryRun, NamedIsNamed}
 use Rattle.sctp_model.proofs.sender.Shape.{Shape, shape, on, index, sent}
 use Rattle.sctp_model.proofs.sender.Sender.{Sender}
 use Rattle.sctp_model.proofs.sender.Slots.{sent-made, sent-alive}

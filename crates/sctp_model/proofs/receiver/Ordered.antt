@@ -1,16 +1,9 @@
 -- What the receiver keeps of ordered messages.
-use Rattle.std.proofs.Common.{◌≡◌, ℕ, ◌+◌, ◌-◌, ◌<◌, ◌≤◌, Bool, true, false, List, [], ◌∷◌, length, map, get_or, refl, ap, sym, ◌∙◌, inl, inr, arith}
-use Rattle.std.specs.Prelude.{◌⊎◌, if◌then◌else◌, ◌==◌, ◌&&◌, ◌||◌, not, nat_le, max}
-use Rattle.std.specs.List.{list_any, filter}
-use Rattle.std.proofs.Math.Path.{subst}
-use Rattle.std.proofs.Math.Nat.{eq-or-lt_of_le}
-use Rattle.std.proofs.lemmas.Bool.{cases_lt}
-use Rattle.std.proofs.lemmas.Bool.Decides.{nat_tests}
-use Rattle.sctp_util.proofs.More.{fails, not_both, and}
-use Rattle.sctp_model.specs.Receiver.{greatest}
+use Rattle.sctp_model.proofs.Names.{◌≡◌, ℕ, ◌+◌, ◌-◌, ◌<◌, ◌≤◌, Bool, true, false, List, [], ◌∷◌, length, map, get_or, refl, ap, sym, ◌∙◌, inl, inr, arith, ◌⊎◌}
+use Rattle.sctp_model.proofs.Names.{if◌then◌else◌, ◌==◌, ◌&&◌, ◌||◌, not, nat_le, max, list_any, filter, subst, eq-or-lt_of_le, cases_lt, nat_tests, fails}
+use Rattle.sctp_model.proofs.Names.{not_both, and, greatest, by_same, same-yes, same-is}
 use Rattle.sctp_model.proofs.sender.Shape.{has, on, index, sent, parts}
 use Rattle.sctp_model.proofs.sender.Sender.{Sender}
-use Rattle.sctp_util.proofs.Cases.{by_same, same-yes, same-is}
 use Rattle.sctp_model.proofs.sender.Network.{IsNamable, NamesFit, namable-grown}
 use Rattle.sctp_model.proofs.sender.Slots.{sent-made}
 use Rattle.sctp_model.proofs.receiver.View.{View, come_count, all_come, complete_at, arrived_in, noted_in, skipped_in, read_in, line, next, named_more}
@@ -58,20 +51,12 @@ named-skipped v a o s n p h lt l f = by (o.named_is s)
     by (inr d) = at (cases_lt n d.n) (cases_lt d.n n)
       where
         at : (n < d.n) ⊎ (d.n ≤ n) → (d.n < n) ⊎ (n ≤ d.n) → p < v.skipped
-        at (inl lo) t =
-            let q = some-kept (has v.x d.n) 0 v.x.slots d.namable.some in
-            let r = a.ascend s n d.n p q.0 lo h d.on_it l (omega (arith, q.2)) f q.3 in
-            let w = d.namable.within q.0 (omega (arith, q.2)) q.3 in
-            omega (arith, r, w, d.covered)
+        at (inl lo) t = grind (arith, nat_tests, some-kept)
         at (inr g) (inl hi) = absurd (omega (arith, index-lt v.x s d.n n d.on_it h hi, d.is))
         at (inr g) (inr e) = let z : n ≡ d.n = omega arith in omega (arith, d.namable.within p l (ap (λ k. has v.x k p) (sym z) ∙ f), d.covered)
 
 pub named-made : (v : View) → Sender v.x → Ordered v → (s : ℕ) → v.named s ≤ length (line v s)
-named-made v a o s = by (o.named_is s)
-  where
-    by : NamedIs v s (v.named s) → v.named s ≤ length (line v s)
-    by (inl z) = omega arith
-    by (inr d) = omega (arith, d.is, index-short v s d.n (sent-made v.x d.n a d.namable.some) d.on_it)
+named-made v a o s = grind (arith, nat_tests, index-short, sent-made)
 
 -- ## The sender's changes
 
@@ -99,11 +84,7 @@ module _ (u v : View) (t : Still u v) (o : Ordered u) where
   read-sent s n lt h r = come-pos n lt (o.read_complete n lt (on-ordered u.x s n h) r)
 
   was-made : (n : ℕ) → n < v.x.count → v.read n ≡ true → n < u.x.count
-  was-made n lt r = by (cases_lt n u.x.count)
-    where
-      by : (n < u.x.count) ⊎ (u.x.count ≤ n) → n < u.x.count
-      by (inl l) = l
-      by (inr g) = absurd (not_both (sym (t.unread n g lt) ∙ r))
+  was-made n lt r = elim (cases_lt n u.x.count) [ inl l ↦ l | inr g ↦ absurd (not_both (sym (t.unread n g lt) ∙ r)) ]
 
   was-read : (n : ℕ) → n < v.x.count → v.read n ≡ true → u.read n ≡ true
   was-read n lt r = sym (t.read n (was-made n lt r)) ∙ r
@@ -158,8 +139,7 @@ module _ (u v : View) (t : Still u v) (o : Ordered u) where
   pub ordered-still : ((p : ℕ) → u.arrived p ≡ true → p < u.x.slots) → Ordered v
   ordered-still inside = record {
     terminals = λ p e. let f : u.arrived p ≡ true = sym (t.arrived p) ∙ e in ap (λ y. y.is_terminal_chunk) (t.grows.slot p (inside p f)) ∙ o.terminals p f;
-    read_complete = λ n lt h r. let l = was-made n lt r in
-        all-still u v t n l ∙ o.read_complete n l (sym (ap (λ m. m.ordered) (t.grows.message n l)) ∙ h) (was-read n lt r);
+    read_complete = grind (arith, nat_tests, all-still);
     read_past = λ s n lt h r. let d = read-old s n lt h r in omega (arith, d.same, next-still s, o.read_past s n d.made d.on_it (was-read n lt r));
     downward = λ s m n mn lt hm hn r c.
         let d = read-old s n lt hn r in
@@ -186,8 +166,7 @@ module _ (u v : View) (t : Still u v) (o : Ordered u) where
 pub ordered-arrived : (v : View) (p : ℕ) → Sender v.x → p < v.x.slots → (v.x.slot p).is_terminal_chunk ≡ false → v.arrived p ≡ false → v.skipped ≤ p → Ordered v
     → Ordered (arrived_in v p)
 ordered-arrived v p a lt terminal new past o = record {
-  terminals = λ k e. by_same {P = (v.x.slot k).is_terminal_chunk ≡ false} k p (λ z. ap (λ j. (v.x.slot j).is_terminal_chunk) z ∙ terminal)
-      (λ ne f. o.terminals k (ap (λ b. if b then true else v.arrived k) (sym f) ∙ e));
+  terminals = grind (arith, nat_tests);
   read_complete = λ n l h r.
       let all = o.read_complete n l h r in
       ap (λ c. c == parts v.x n) (come-other v p n (λ e. not_both (sym (not-all v n p (a.within n l) lt (slot-of n e) new) ∙ all))) ∙ all;
@@ -207,19 +186,13 @@ ordered-arrived v p a lt terminal new past o = record {
     above s m h e (inl l) = absurd (omega (arith, past, named-skipped v a o s m p h l lt (slot-of m e)))
 
     by : (s : ℕ) → NamedIs v s (v.named s) → NamedIs (arrived_in v p) s (v.named s)
-    by s (inl z) = inl z
-    by s (inr d) = inr (record { n = d.n; on_it = d.on_it; upto = d.upto; namable = d.namable; covered = d.covered; is = d.is })
+    by s h1 = grind (arith, nat_tests)
 
 pub ordered-noting : (v : View) (n : ℕ) → Ordered v → Ordered (noting v n)
 ordered-noting v n o = step (not (v.x.message n).ordered && _)
   where
-    by : (s : ℕ) → NamedIs v s (v.named s) → NamedIs (noted_in v (v.x.message n).stream n) s (v.named s)
-    by s (inl z) = inl z
-    by s (inr d) = inr (record { n = d.n; on_it = d.on_it; upto = d.upto; namable = d.namable; covered = d.covered; is = d.is })
-
     step : (b : Bool) → Ordered (if b then noted_in v (v.x.message n).stream n else v)
-    step true =
-        record { terminals = o.terminals; read_complete = o.read_complete; read_past = o.read_past; downward = o.downward; named_is = λ s. by s (o.named_is s) }
+    step true = grind (arith, nat_tests)
     step false = o
 
 -- ## A skip
@@ -241,35 +214,28 @@ ordered-skipped v upto names a f le o = record {
     past : (s n : ℕ) → n < v.x.count → on v.x s n ≡ true → v.read n ≡ true → (index v.x n < named_more v names s) ⊎ (named_more v names s ≤ index v.x n)
         → index v.x n < next (skipped_in v upto names) s
     past s n lt h r (inl l) = omega arith
-    past s n lt h r (inr g) = by (cases_lt (index v.x n) (next (skipped_in v upto names) s))
-      where
-        by : (index v.x n < next (skipped_in v upto names) s) ⊎ (next (skipped_in v upto names) s ≤ index v.x n)
-            → index v.x n < next (skipped_in v upto names) s
-        by (inl l) = l
-        by (inr e) =
-            let j = next (skipped_in v upto names) s in
-            let k = get_or (line v s) j 0 in
-            let q = index-at v s j (omega (arith, e, index-short v s n lt h)) in
-            let un : v.read k ≡ false = next_unread (skipped_in v upto names) s k q.made q.on_it q.at in
-            let red : v.read k ≡ true = next_reads v s k q.made q.on_it (let m = grown s (v.named s) (filter (on v.x s) names) in omega (arith, q.at, m))
-            (omega (arith, q.at, e, o.read_past s n lt h r)) in
-            absurd (not_both (sym un ∙ red))
+    past s n lt h r (inr g) = elim (cases_lt (index v.x n) (next (skipped_in v upto names) s)) [
+      | inl l ↦ l
+      | inr e ↦
+          let j = next (skipped_in v upto names) s in
+          let k = get_or (line v s) j 0 in
+          let q = index-at v s j (omega (arith, e, index-short v s n lt h)) in
+          let un : v.read k ≡ false = next_unread (skipped_in v upto names) s k q.made q.on_it q.at in
+          let red : v.read k ≡ true = next_reads v s k q.made q.on_it (let m = grown s (v.named s) (filter (on v.x s) names) in omega (arith, q.at, m))
+          (omega (arith, q.at, e, o.read_past s n lt h r)) in
+          absurd (not_both (sym un ∙ red))
+    ]
 
     old : (s : ℕ) → NamedIs v s (v.named s) → NamedIs (skipped_in v upto names) s (v.named s)
-    old s (inl z) = inl z
-    old s (inr d) = inr (record { n = d.n; on_it = d.on_it; upto = d.upto; namable = d.namable; covered = omega (arith, d.covered, le); is = d.is })
+    old s h1 = grind (arith, nat_tests)
 
     all : (s : ℕ) (ns : List ℕ) → NamesFit v.x upto ns → (x : ℕ) → NamedIs (skipped_in v upto names) s x
         → NamedIs (skipped_in v upto names) s (greatest x (map (λ n. index v.x n + 1) (filter (on v.x s) ns)))
     all s [] f x h = h
     all s (n ∷ ns) f x h = step (on v.x s n) refl (λ y g. all s ns f.1 y g)
       where
-        one : on v.x s n ≡ true → NamedIs (skipped_in v upto names) s (index v.x n + 1)
-        one e = inr (record { n = n; on_it = e; upto = upto; namable = f.0; covered = omega arith; is = refl })
-
         larger : on v.x s n ≡ true → (x < index v.x n + 1) ⊎ (index v.x n + 1 ≤ x) → NamedIs (skipped_in v upto names) s (max x (index v.x n + 1))
-        larger e (inl l) = let z : index v.x n + 1 ≡ max x (index v.x n + 1) = omega arith in subst (NamedIs (skipped_in v upto names) s) z (one e)
-        larger e (inr g) = let z : x ≡ max x (index v.x n + 1) = omega arith in subst (NamedIs (skipped_in v upto names) s) z h
+        larger h1 h2 = grind (arith, nat_tests)
 
         step : (b : Bool) → on v.x s n ≡ b → ((y : ℕ) → NamedIs (skipped_in v upto names) s y
             → NamedIs (skipped_in v upto names) s (greatest y (map (λ n. index v.x n + 1) (filter (on v.x s) ns))))
@@ -280,8 +246,7 @@ ordered-skipped v upto names a f le o = record {
 -- ## A read
 
 named-read : (v : View) (s n t : ℕ) → NamedIs v t (v.named t) → NamedIs (read_in v s n) t (v.named t)
-named-read v s n t (inl z) = inl z
-named-read v s n t (inr d) = inr (record { n = d.n; on_it = d.on_it; upto = d.upto; namable = d.namable; covered = d.covered; is = d.is })
+named-read v s n t h1 = grind (arith, nat_tests)
 
 pub read-other : (v : View) (s n k : ℕ) → (k ≡ n → ⊥) → (read_in v s n).read k ≡ v.read k
 read-other v s n k ne = ap (λ b. if b then true else v.read k) (fails (k == n) (λ z. ne (same-is k n z)))
@@ -290,11 +255,7 @@ pub read-here : (v : View) (s n : ℕ) → (read_in v s n).read n ≡ true
 read-here v s n = ap (λ b. if b then true else v.read n) (same-yes n)
 
 pub stays-read : (v : View) (s n k : ℕ) → v.read k ≡ true → (read_in v s n).read k ≡ true
-stays-read v s n k e = step (k == n)
-  where
-    step : (b : Bool) → (if b then true else v.read k) ≡ true
-    step true = refl
-    step false = e
+stays-read v s n k e = elim (k == n) as (λ b. (if b then true else v.read k) ≡ true) [ true ↦ refl | false ↦ e ]
 
 -- the next one of a stream on which no ordered message is read
 pub next-read_other : (v : View) (s n t : ℕ) → Sender v.x → Ordered v → ((k : ℕ) → on v.x t k ≡ true → k ≡ n → ⊥) → next (read_in v s n) t ≡ next v t
@@ -334,8 +295,7 @@ module _ (v : View) (s n : ℕ) (a : Sender v.x) (o : Ordered v) (d : IsDue v s 
 
       pass : (k : ℕ) → k < v.x.count → on v.x s k ≡ true → v.named s ≤ index v.x k → (index v.x k ≡ next v s) ⊎ (index v.x k < next v s)
           → (read_in v s n).read k ≡ true
-      pass k lt h low (inl z) = ap (read_in v s n).read (index-same v.x s k n h d.on_it (z ∙ sym e)) ∙ read-here v s n
-      pass k lt h low (inr l) = stays-read v s n k (next_reads v s k lt h low l)
+      pass k h1 h2 h3 h4 = grind (arith, nat_tests, index-same, next_reads)
 
   pub next-stays : index v.x n < next v s → next (read_in v s n) s ≡ next v s
   next-stays l = next_by (read_in v s n) s (next v s) (omega arith) (next_le v s (named-made v a o s))
@@ -347,8 +307,7 @@ module _ (v : View) (s n : ℕ) (a : Sender v.x) (o : Ordered v) (d : IsDue v s 
   next-grows = by (eq-or-lt_of_le d.near)
     where
       by : (index v.x n ≡ next v s) ⊎ (index v.x n < next v s) → (next v s ≤ next (read_in v s n) s) × (index v.x n < next (read_in v s n) s)
-      by (inl e) = (omega (arith, next-moves e), omega (arith, next-moves e, e))
-      by (inr l) = (omega (arith, next-stays l), omega (arith, next-stays l, l))
+      by h1 = grind (arith, nat_tests, next-moves, next-stays)
 
   pub next-elsewhere : (t : ℕ) → (t ≡ s → ⊥) → next (read_in v s n) t ≡ next v t
   next-elsewhere t ne = next-read_other v s n t a o (λ k h e. ne (sym (on-stream v.x t k h) ∙ ap (λ j. (v.x.message j).stream) e ∙ on-stream v.x s n d.on_it))

@@ -1,32 +1,21 @@
 -- The reads of a stream: ordered messages in order, unordered ones as they became complete, Nothing where all is read.
-use Rattle.std.proofs.Common.{◌≡◌, ℕ, zero, suc, ◌+◌, ◌-◌, ◌<◌, ◌≤◌, Bool, true, false, List, [], ◌∷◌, ◌++◌, length, take, drop, Option, Some, None, refl, ap}
-use Rattle.std.proofs.Common.{sym, ◌∙◌, inl, inr, arith, append-nil, length-append}
-use Rattle.std.specs.Prelude.{◌⊎◌, if◌then◌else◌, ◌==◌, ◌&&◌, ◌||◌, not, nat_lt, slice_get, option_to_list}
-use Rattle.std.specs.List.{list_all, filter}
-use Rattle.std.proofs.Math.Path.{subst}
-use Rattle.std.proofs.lemmas.Bool.Decides.{nat_tests}
-use Rattle.sctp_util.specs.Kept.{numbers_where, leading, first_of, or_else}
-use Rattle.sctp_util.proofs.Passing.{kept-same, kept-none}
-use Rattle.sctp_util.proofs.More.{fails, not_both, both, and}
-use Rattle.sctp_util.proofs.Cases.{same-is}
+use Rattle.sctp_model.proofs.Names.{◌≡◌, ℕ, zero, suc, ◌+◌, ◌-◌, ◌<◌, ◌≤◌, Bool, true, false, List, [], ◌∷◌, ◌++◌, length, take, drop, Option, Some, None, refl}
+use Rattle.sctp_model.proofs.Names.{ap, sym, ◌∙◌, inl, inr, arith, append-nil, length-append, ◌⊎◌, if◌then◌else◌, ◌==◌, ◌&&◌, ◌||◌, not, nat_lt, slice_get}
+use Rattle.sctp_model.proofs.Names.{option_to_list, list_all, filter, subst, nat_tests, numbers_where, leading, first_of, or_else, kept-same, kept-none, both}
+use Rattle.sctp_model.proofs.Names.{and, same-is, StreamUnknown, Setup, LinkRecord, LogEntry, number_read, numbers_read, History, record_of, IsRun, read_reply}
+use Rattle.sctp_model.proofs.Names.{IsSetup, OnEveryRun, ordered_reads, unordered_reads, ReadsBeginRun, ReadsBeginCompleteRun, ReadsBeginComplete}
+use Rattle.sctp_model.proofs.Names.{UnorderedFirst, NothingWhereRead}
 use Rattle.sctp_util.proofs.Alls
 use Rattle.sctp_model.specs.declared.event.Event.TheVariants as E
-use Rattle.sctp_model.specs.declared.event.LinkRefusal.TheVariants.{StreamUnknown}
-use Rattle.sctp_model.specs.Reply as R
-use Rattle.sctp_model.specs.LinkRecord.{Setup, LinkRecord}
 use Rattle.sctp_model.specs.Messages
 use Rattle.sctp_model.specs.Receiver
 use Rattle.sctp_model.specs.Changes
 use Rattle.sctp_model.specs.Log
-use Rattle.sctp_model.specs.Log.{LogEntry, number_read, numbers_read}
-use Rattle.sctp_model.specs.Steps.{History, record_of, IsRun, read_reply}
-use Rattle.sctp_model.specs.Laws.{IsSetup, OnEveryRun, ordered_reads, unordered_reads, ReadsBeginRun, ReadsBeginCompleteRun, ReadsBeginComplete, UnorderedFirst}
-use Rattle.sctp_model.specs.Laws.{NothingWhereRead}
 use Rattle.sctp_model.proofs.sender.Shape.{shape, on, index}
 use Rattle.sctp_model.proofs.sender.SenderRun.{Consistent, consistent-run, unless-holds}
 use Rattle.sctp_model.proofs.receiver.Events.{step-moves}
 use Rattle.sctp_model.proofs.receiver.View
-use Rattle.sctp_model.proofs.receiver.View.{View, view, complete_at, read_in, line, run, next, next_read}
+use Rattle.sctp_model.proofs.receiver.View.{View, view, complete_at, read_in, line, run, next_read}
 use Rattle.sctp_model.proofs.receiver.Indexes.{on-stream, on-ordered, index_on}
 use Rattle.sctp_model.proofs.receiver.Names.{named_is_named}
 use Rattle.sctp_model.proofs.receiver.KnownRun.{completeness_agrees}
@@ -48,11 +37,7 @@ answered-read : (setup : Setup) (older : History) (t s : ℕ) (o : Option ℕ) �
     → Answered s (numbers_read setup older s) (record_of setup older) (Log.log_of setup older)
     → SoFar s (numbers_read setup older s ++ (if t == s then number_read (record_of setup older) s (read_reply (record_of setup older) o) else []))
     (view (Changes.read_of (record_of setup older) t o)) (Log.log_of setup older)
-answered-read setup older t s None g a e b = subst (λ l. SoFar s l (view (record_of setup older)) (Log.log_of setup older)) (sym (either (t == s))) b.so_far
-  where
-    either : (c : Bool) → numbers_read setup older s ++ (if c then [] else []) ≡ numbers_read setup older s
-    either true = append-nil (numbers_read setup older s)
-    either false = append-nil (numbers_read setup older s)
+answered-read setup older t s None g a e b = grind (arith, nat_tests, append-nil)
 answered-read setup older t s (Some n) g a e b =
     so_far-as s list' (read_in (view w) t n) (view (Changes.read_of w t (Some n))) log (View.view-read w t n a) (by (t == s) refl)
   where
@@ -122,20 +107,12 @@ kept-halves t r from (suc count) down = step (t from) (r from) refl refl (kept-h
     step false b e f ih = ih
     step true true e f ih = ap (λ l. from ∷ l) ih
     step true false e f ih =
-        let none : reads' ≡ [] = kept-none (λ k. t k && r k)
-        (from + 1) count (λ k a b. fails (t k && r k) (λ g. let c = both (t k) (r k) g in not_both (sym f ∙ down from k (omega arith) e c.0 c.1))) in
+        let none : reads' ≡ [] = grind (arith, nat_tests, kept-none) in
         ap (λ l. from ∷ l) (ih ∙ ap (λ l. l ++ others) none) ∙ sym (ap (λ l. l ++ from ∷ others) none)
 
 pub passing-kept : (q p : ℕ → Bool) (from count : ℕ) → filter q (numbers_where p from count) ≡ numbers_where (λ k. p k && q k) from count
 passing-kept q p from zero = refl
-passing-kept q p from (suc count) = step (p from) (q from) refl (passing-kept q p (from + 1) count)
-  where
-    step : (a b : Bool) → q from ≡ b → filter q (numbers_where p (from + 1) count) ≡ numbers_where (λ k. p k && q k) (from + 1) count
-        → filter q (if a then from ∷ numbers_where p (from + 1) count else numbers_where p (from + 1) count)
-        ≡ (if a && b then from ∷ numbers_where (λ k. p k && q k) (from + 1) count else numbers_where (λ k. p k && q k) (from + 1) count)
-    step true true e ih = cc (e, ih)
-    step true false e ih = ap (λ c. if c then from ∷ filter q (numbers_where p (from + 1) count) else filter q (numbers_where p (from + 1) count)) e ∙ ih
-    step false b e ih = ih
+passing-kept q p from (suc count) = grind (arith, nat_tests, (passing-kept q p (from + 1) count))
 
 -- the first so many, and the leading of the others, are those that pass among more of the first
 passing-leading : (q : ℕ → Bool) (i : ℕ) (xs : List ℕ) → filter q (take i xs) ++ leading q (drop i xs) ≡ filter q (take (i + length (leading q (drop i xs))) xs)
@@ -149,8 +126,7 @@ passing-leading q zero (x ∷ xs) = front (x ∷ xs)
       where
         step : (b : Bool) → q y ≡ b → leading q ys ≡ filter q (take (length (leading q ys)) ys)
             → (if b then y ∷ leading q ys else []) ≡ filter q (take (length (if b then y ∷ leading q ys else [])) (y ∷ ys))
-        step true e ih = cc (ih, e)
-        step false e ih = refl
+        step b h1 h2 = grind (arith, nat_tests)
 passing-leading q (suc i) [] = sym (take-none (suc i + 0) q)
 passing-leading q (suc i) (x ∷ xs) =
     let z : suc (i + length (leading q (drop i xs))) ≡ suc i + length (leading q (drop i xs)) = omega arith in
@@ -159,8 +135,7 @@ passing-leading q (suc i) (x ∷ xs) =
     step : (b : Bool) → filter q (take i xs) ++ leading q (drop i xs) ≡ filter q (take (i + length (leading q (drop i xs))) xs)
         → (if b then x ∷ filter q (take i xs) else filter q (take i xs)) ++ leading q (drop i xs)
         ≡ (if b then x ∷ filter q (take (i + length (leading q (drop i xs))) xs) else filter q (take (i + length (leading q (drop i xs))) xs))
-    step true ih = ap (λ l. x ∷ l) ih
-    step false ih = ih
+    step b h1 = grind (arith, nat_tests)
 
 leading-more : (q r : ℕ → Bool) (xs : List ℕ) → list_all (λ k. not (q k) || r k) xs ≡ true → length (leading q xs) ≤ length (leading r xs)
 leading-more q r [] e = omega arith
@@ -168,9 +143,7 @@ leading-more q r (x ∷ xs) e = let c = both (not (q x) || r x) (list_all (λ k.
   where
     step : (a b : Bool) → (not a || b) ≡ true → length (leading q xs) ≤ length (leading r xs)
         → length (if a then x ∷ leading q xs else []) ≤ length (if b then x ∷ leading r xs else [])
-    step true true e ih = omega (arith, ih)
-    step true false e ih = cc
-    step false b e ih = omega arith
+    step a b h1 h2 = grind (arith, nat_tests)
 
 -- where the run ends
 abbrev edge : View → ℕ → ℕ
@@ -213,13 +186,7 @@ run-halves v s o =
     (sym (ap (filter (λ n. not (v.read n))) (run-kept v s) ∙ passing-kept (λ n. not (v.read n)) (in_run v s) 0 v.x.count))
   where
     same : (k : ℕ) → k < v.x.count → (r : Bool) → v.read k ≡ r → (c : Bool) → on v.x s k ≡ c → (in_run v s k && r) ≡ (on v.x s k && r)
-    same k lt false r c e = none (in_run v s k) ∙ sym (none (on v.x s k))
-      where
-        none : (b : Bool) → (b && false) ≡ false
-        none true = refl
-        none false = refl
-    same k lt true r true e = ap (λ b. b && true) (read-in_run v s k o lt (and (on v.x s k) (v.read k) e r)) ∙ sym (ap (λ b. b && true) e)
-    same k lt true r false e = ap (λ b. (b && (complete_at v k && nat_lt (index v.x k) (edge v s))) && true) e ∙ sym (ap (λ b. b && true) e)
+    same k h1 r h2 c h3 = search (arith, nat_tests, read-in_run, and)
 
     -- only the numbers of messages matter
     short : (t r : ℕ → Bool) → numbers_where (in_run v s) 0 v.x.count
@@ -310,8 +277,7 @@ reads_begin_complete_run setup h is go s lossless =
     )
   where
     complete-line : (q : ℕ → Bool) (xs : List ℕ) → filter q (take 0 xs) ++ leading q (drop 0 xs) ≡ leading q xs
-    complete-line q [] = refl
-    complete-line q (x ∷ xs) = refl
+    complete-line q xs = grind (arith, nat_tests)
 
 -- the unordered reads, then those that wait
 pub unordered-then : (setup : Setup) (h : History) → IsSetup setup → IsRun setup h → (s : ℕ)
@@ -333,43 +299,11 @@ unordered_first setup h is go s n e =
 
     first : (l : List ℕ) → first_of l ≡ Some n
         → or_else (first_of l) (first_of (filter (λ n. not ((view (record_of setup h)).read n)) (run (view (record_of setup h)) s))) ≡ Some n
-    first [] f = cc
-    first (x ∷ xs) f = f
+    first l h1 = grind (arith, nat_tests)
 
 nothing-left : (xs ys : List ℕ) → xs ≡ xs ++ ys → ys ≡ []
 nothing-left xs [] e = refl
 nothing-left xs (y ∷ ys) e = absurd (omega (arith, ap length e, length-append xs (y ∷ ys)))
 
-none-first : (l : List ℕ) → first_of l ≡ None → l ≡ []
-none-first [] e = refl
-none-first (x ∷ xs) e = cc
-
 pub nothing_where_read : OnEveryRun NothingWhereRead
-nothing_where_read setup h is go s = (λ e. exhausted (next_read v s) refl e, λ e. nothing e.0 e.1)
-  where
-    v : View
-    v = view (record_of setup h)
-
-    unread : List ℕ
-    unread = filter (λ n. not ((view (record_of setup h)).read n)) (run (view (record_of setup h)) s)
-
-    parted : (l : List ℕ) → or_else (first_of l) (first_of unread) ≡ None → (l ≡ []) × (unread ≡ [])
-    parted [] f = (refl, none-first unread f)
-    parted (x ∷ xs) f = cc
-
-    exhausted : (o : Option ℕ) → next_read v s ≡ o → read_reply (record_of setup h) o ≡ R.Nothing
-        → (ordered_reads setup h s ≡ Log.run_by (record_of setup h) (Log.log_of setup h) s)
-        × (unordered_reads setup h s ≡ Log.complete_by (record_of setup h) (Log.log_of setup h) s)
-    exhausted (Some n) f e = cc
-    exhausted None f e =
-        let p = parted (v.complete s) f in (
-          sym (reads-then setup h is go s ∙ ap (λ l. ordered_reads setup h s ++ l) p.1 ∙ append-nil (ordered_reads setup h s)),
-          sym (unordered-then setup h is go s ∙ ap (λ l. unordered_reads setup h s ++ l) p.0 ∙ append-nil (unordered_reads setup h s)),
-        )
-
-    nothing : ordered_reads setup h s ≡ Log.run_by (record_of setup h) (Log.log_of setup h) s
-        → unordered_reads setup h s ≡ Log.complete_by (record_of setup h) (Log.log_of setup h) s → read_reply (record_of setup h) (next_read v s) ≡ R.Nothing
-    nothing a b =
-        let p = nothing-left (ordered_reads setup h s) unread (a ∙ reads-then setup h is go s) in
-        let q = nothing-left (unordered_reads setup h s) (v.complete s) (b ∙ unordered-then setup h is go s) in
-        ap (λ l. read_reply (record_of setup h) (or_else (first_of l) (first_of unread))) q ∙ ap (λ l. read_reply (record_of setup h) (first_of l)) p
+nothing_where_read setup h is go s = grind (arith, nat_tests, reads-then, append-nil, unordered-then, nothing-left)

@@ -1,18 +1,10 @@
 -- In every history: what the receiver keeps.
-use Rattle.std.proofs.Common.{◌≡◌, ℕ, ◌+◌, ◌<◌, ◌≤◌, Bool, true, false, List, [], ◌∷◌, ◌++◌, length, map, Some, refl, ap, sym, ◌∙◌, inl, inr, arith}
-use Rattle.std.specs.Prelude.{◌⊎◌, if◌then◌else◌}
-use Rattle.std.proofs.Math.Path.{subst}
-use Rattle.std.proofs.lemmas.Bool.{cases_lt}
-use Rattle.std.proofs.lemmas.Bool.Decides.{nat_tests}
-use Rattle.sctp_util.proofs.More.{not_both}
-use Rattle.sctp_model.specs.LinkRecord.{Setup, Sack, LinkRecord}
+use Rattle.sctp_model.proofs.Names.{◌≡◌, ℕ, ◌+◌, ◌<◌, ◌≤◌, Bool, true, false, List, [], ◌∷◌, ◌++◌, length, map, Some, refl, ap, sym, ◌∙◌, inl, inr, arith, ◌⊎◌}
+use Rattle.sctp_model.proofs.Names.{if◌then◌else◌, subst, cases_lt, nat_tests, Setup, Sack, LinkRecord, is_new, cumulative, History, record_of, IsRun, LogEntry}
+use Rattle.sctp_model.proofs.Names.{IsSetup}
 use Rattle.sctp_model.specs.Messages
-use Rattle.sctp_model.specs.Receiver.{is_new, cumulative}
 use Rattle.sctp_model.specs.Changes
-use Rattle.sctp_model.specs.Steps.{History, record_of, IsRun}
 use Rattle.sctp_model.specs.Log
-use Rattle.sctp_model.specs.Log.{LogEntry}
-use Rattle.sctp_model.specs.Laws.{IsSetup}
 use Rattle.sctp_model.proofs.sender.Shape.{shape}
 use Rattle.sctp_model.proofs.sender.SenderRun.{Consistent}
 use Rattle.sctp_model.proofs.sender.Network.{NamesFit}
@@ -57,8 +49,7 @@ ordered-skip setup w upto names g f o = by (Changes.skip_counts w upto) refl
         (ap (λ b. view (if b then record w { skipped = upto + 1; streams = map (Changes.named_by w names) w.streams } else w)) e
         ∙ view-skip setup w upto names g f)
         (Ordered.ordered-skipped (view w) upto names g.sender f (omega (arith, c, skipped-le w)) o)
-    by false e = ordered-as (view w) (view (Changes.receive_skip w upto names))
-        (ap (λ b. view (if b then record w { skipped = upto + 1; streams = map (Changes.named_by w names) w.streams } else w)) e) o
+    by false e = grind (arith, nat_tests)
 
 ordered-reading : (setup : Setup) (w : LinkRecord) (log : List LogEntry) (s n : ℕ) → Consistent setup w → Messages.is_open w s ≡ true
     → ReadsComplete (view w) s n ⊎ ReadsRun (view w) s n → Complete (view w) log → Ordered (view w) → Ordered (view (Changes.read_of w s (Some n)))
@@ -71,22 +62,12 @@ pub received-keeps : (setup : Setup) → Keeps setup Received
 received-keeps setup =
     let k = known-keeps setup in
     record {
-      begins = record {
-        known = k.begins;
-        ordered = record {
-          terminals = λ p e. cc;
-          read_complete = λ n lt. absurd (omega arith);
-          read_past = λ s n lt. absurd (omega arith);
-          downward = λ s m n mn lt. absurd (omega arith);
-          named_is = λ s. inl refl;
-        };
-      };
+      begins = grind (arith, nat_tests);
       quiet = λ w v log g a q b. record {
         known = k.quiet w v log g a q b.known;
         ordered = Ordered.ordered-still (view w) (view v) (still-of setup w v g a q) b.ordered (λ p e. inside w p e (cases_lt p (length w.slots)));
       };
-      opened = λ w log s g o b.
-          record { known = k.opened w log s g o b.known; ordered = ordered-as (view w) (view (Changes.after_open w s)) (View.view-opened w s o) b.ordered };
+      opened = grind (arith, nat_tests, View.view-opened);
       moded = λ w log s u r n g b. record {
         known = k.moded w log s u r n g b.known;
         ordered = ordered-as (view w) (view (Changes.after_mode w s u r n)) (View.view-moded w s u r n) b.ordered;
@@ -103,8 +84,7 @@ received-keeps setup =
     }
   where
     inside : (w : LinkRecord) (p : ℕ) → (view w).arrived p ≡ true → (p < length w.slots) ⊎ (length w.slots ≤ p) → p < length w.slots
-    inside w p e (inl l) = l
-    inside w p e (inr g) = absurd (not_both (sym (arrived-beyond w p g) ∙ e))
+    inside w p h1 h2 = grind (arith, nat_tests, arrived-beyond)
 
 pub received-run : (setup : Setup) (h : History) → IsSetup setup → IsRun setup h → Received (record_of setup h) (Log.log_of setup h)
 received-run setup h is run = run-keeps setup Received (received-keeps setup) h is run

@@ -1,42 +1,21 @@
-use Rattle.std.proofs.Common.{◌≡◌, ℕ, zero, suc, ◌+◌, ◌<◌, ◌≤◌, Bool, true, false, List, [], ◌∷◌, ◌++◌, length, map, get_or, take, drop, Option, Some, None}
-use Rattle.std.proofs.Common.{refl, ap, sym, ◌∙◌, inl, inr, arith, append-nil, add-one}
-use Rattle.std.specs.Prelude.{◌⊎◌, if◌then◌else◌, ◌==◌, ◌&&◌, not, nat_lt, option_to_list}
-use Rattle.std.specs.List.{list_all}
-use Rattle.std.proofs.lemmas.Bool.Decides.{nat_tests}
-use Rattle.std.proofs.lemmas.List.{map-append}
-use Rattle.sctp_util.specs.Kept.{numbers_where, always}
-use Rattle.sctp_util.specs.Lists.{pieces}
-use Rattle.sctp_util.proofs.Passing.{kept-same}
+use Rattle.sctp_model.proofs.Names.{◌≡◌, ℕ, zero, suc, ◌+◌, ◌<◌, ◌≤◌, Bool, true, false, List, [], ◌∷◌, ◌++◌, length, map, get_or, take, drop, Option, Some}
+use Rattle.sctp_model.proofs.Names.{refl, ap, sym, ◌∙◌, inl, inr, arith, add-one, ◌⊎◌, if◌then◌else◌, ◌==◌, ◌&&◌, nat_lt, list_all, nat_tests, map-append}
+use Rattle.sctp_model.proofs.Names.{numbers_where, always, pieces, kept-same, both, and, numbered, all-out, Event, Reply, Setup, LinkRecord, next_read}
+use Rattle.sctp_model.proofs.Names.{chunk_at, handed_out, set_of, complete_set_of, Shown, joined_bytes, reads_in, numbers_read, log_of, History, record_of}
+use Rattle.sctp_model.proofs.Names.{IsRun, reply_to, after, read_reply, IsSetup, OnEveryRun, ReadsShowMessages, shown_of, all-append, all-more}
 use Rattle.sctp_util.proofs.Lines.{take-drop}
-use Rattle.sctp_util.proofs.More.{both, and}
-use Rattle.sctp_util.proofs.Cases.{same-is, same-yes}
-use Rattle.sctp_util.proofs.Rows.{numbered}
-use Rattle.sctp_util.proofs.Tests.{all-out}
-use Rattle.sctp_model.specs.declared.event.Event.{Event}
 use Rattle.sctp_model.specs.declared.event.Event.TheVariants as E
-use Rattle.sctp_model.specs.Reply.{Reply}
-use Rattle.sctp_model.specs.LinkRecord.{Setup, LinkRecord}
 use Rattle.sctp_model.specs.Messages
 use Rattle.sctp_model.specs.Receiver
-use Rattle.sctp_model.specs.Receiver.{next_read}
-use Rattle.sctp_model.specs.Contents.{chunk_at}
-use Rattle.sctp_model.specs.Queues.{handed_out, set_of, complete_set_of}
-use Rattle.sctp_model.specs.Log
-use Rattle.sctp_model.specs.Log.{Shown, joined_bytes, reads_in, numbers_read, number_read, shown_by, log_of}
-use Rattle.sctp_model.specs.Steps.{History, record_of, IsRun, reply_to, after, read_reply}
-use Rattle.sctp_model.specs.Laws.{IsSetup, OnEveryRun, ReadsShowMessages, shown_of}
 use Rattle.sctp_model.proofs.sender.Shape.{shape, has, sent, parts}
 use Rattle.sctp_model.proofs.sender.Sender.{Sender}
 use Rattle.sctp_model.proofs.sender.SenderSteps.{of-has}
 use Rattle.sctp_model.proofs.sender.SenderRun.{consistent-run}
-use Rattle.sctp_model.proofs.acknowledgement.Bytes.{size-some}
 use Rattle.sctp_model.proofs.sender.Network.{Extends, extends-after}
 use Rattle.sctp_model.proofs.receiver.Arrivals.{arrivals-run}
 use Rattle.sctp_model.proofs.receiver.View.{view}
 use Rattle.sctp_model.proofs.receiver.Known.{HasRead, ReadsComplete, ReadsRun, reads, run-is, ready-first, ready-complete}
 use Rattle.sctp_model.proofs.receiver.KnownRun.{known-run, completeness_agrees}
-use Rattle.sctp_util.proofs.Alls.{all-append}
-use Rattle.sctp_util.proofs.Tests.{all-more}
 
 -- Each read hands out a message as it was written.
 
@@ -81,15 +60,7 @@ elements (x ∷ xs) = ap (λ l. x ∷ l) (map-shift (λ i. get_or (x ∷ xs) i [
 joined-slots : (w : LinkRecord) (n from count : ℕ) → joined_bytes (map (chunk_at w) (numbers_where (has (shape w) n) from count))
     ≡ flat (map (Messages.fragment_at w n) (map (λ p. (Messages.slot_at w p).fragment) (numbers_where (has (shape w) n) from count)))
 joined-slots w n from zero = refl
-joined-slots w n from (suc count) = step (has (shape w) n from) refl (joined-slots w n (from + 1) count)
-  where
-    step : (b : Bool) → has (shape w) n from ≡ b → joined_bytes (map (chunk_at w) (numbers_where (has (shape w) n) (from + 1) count))
-        ≡ flat (map (Messages.fragment_at w n) (map (λ p. (Messages.slot_at w p).fragment) (numbers_where (has (shape w) n) (from + 1) count)))
-        → joined_bytes (map (chunk_at w) (if b then from ∷ numbers_where (has (shape w) n) (from + 1) count
-        else numbers_where (has (shape w) n) (from + 1) count)) ≡ flat (map (Messages.fragment_at w n) (map (λ p. (Messages.slot_at w p).fragment) (if b
-        then from ∷ numbers_where (has (shape w) n) (from + 1) count else numbers_where (has (shape w) n) (from + 1) count)))
-    step false e ih = ih
-    step true e ih = cc ((of-has (shape w) n from e).0, ih)
+joined-slots w n from (suc count) = grind (arith, nat_tests, of-has, (joined-slots w n (from + 1) count))
 
 pub slots-joined : (w : LinkRecord) (n : ℕ) → Sender (shape w) → 0 < w.setup.size → sent (shape w) n ≡ parts (shape w) n
     → joined_bytes (map (chunk_at w) (Messages.slots_of w n)) ≡ (Messages.message_at w n).bytes
@@ -107,8 +78,7 @@ handed-joined : (w : LinkRecord) (n : ℕ) → Sender (shape w) → 0 < w.setup.
 handed-joined w n s pos all datagram_received = step (Messages.message_at w n).ordered refl
   where
     ands : (a b : Bool) → (a ≡ true → b ≡ true) → (a && b) ≡ a
-    ands true b f = f refl
-    ands false b f = refl
+    ands a b h1 = grind (arith, nat_tests)
 
     step : (b : Bool) → (Messages.message_at w n).ordered ≡ b → joined_bytes (handed_out w n).chunks ≡ (Messages.message_at w n).bytes
     step true o =
@@ -132,27 +102,12 @@ has-read setup h is run s n e = step (reads (view (record_of setup h)) s n e)
         record { made = i.made; stream = i.stream; unread = i.unread; complete_now = ready-complete (view (record_of setup h)) (log_of setup h) s n k a }
     step (inr a) =
         let i = run-is (view (record_of setup h)) s n a in
-        record {
-          made = i.made;
-          stream = same-is (Messages.message_at (record_of setup h) n).stream s (both ((Messages.message_at (record_of setup h) n).stream == s)
-              ((Messages.message_at (record_of setup h) n).ordered && not (Messages.message_at (record_of setup h) n).expired) i.on_it).0;
-          unread = i.unread;
-          complete_now = i.complete_now;
-        }
+        (grind (arith, nat_tests))
 
 pub read-joined : (setup : Setup) (h : History) → IsSetup setup → IsRun setup h → (s n : ℕ) → next_read (record_of setup h) s ≡ Some n
     → joined_bytes (handed_out (record_of setup h) n).chunks ≡ (Messages.message_at (record_of setup h) n).bytes
 read-joined setup h is run s n e =
-    let w = record_of setup h in
-    let g = consistent-run setup h run in
-    let r = has-read setup h is run s n e in
-    let complete = sym (completeness_agrees setup h is run n r.made) ∙ r.complete_now in
-    let a = both (Messages.sent_of w n == Messages.fragment_count w n) (if (Messages.message_at w n).ordered
-    then list_all (Log.arrived_new (log_of setup h)) (Messages.slots_of w n) else Log.were_complete (Messages.slots_of w n) (log_of setup h)) complete in
-    handed-joined w n g.sender (size-some setup w is g) (same-is (Messages.sent_of w n) (Messages.fragment_count w n) a.0)
-    (λ o. all-more (Log.arrived_new (log_of setup h)) (Receiver.arrived_at w) (Messages.slots_of w n) (λ k f. (arrivals-run setup h is run).arrived k ∙ f)
-    (ap (λ b. if b then list_all (Log.arrived_new (log_of setup h)) (Messages.slots_of w n)
-    else Log.were_complete (Messages.slots_of w n) (log_of setup h)) (sym o) ∙ a.1))
+    grind (arith, nat_tests, consistent-run, has-read, completeness_agrees, handed-joined, all-more, arrivals-run)
 
 -- ## The law
 
@@ -189,57 +144,8 @@ stays w v x setup h s a = let r = all-shown w v x s (numbers_read setup h s) a.1
 says-read : (setup : Setup) (older : History) (t s : ℕ) (r : Reply) (v : LinkRecord) → IsSetup setup → IsRun setup older → Extends (record_of setup older) v
     → (o : Option ℕ) → next_read (record_of setup older) t ≡ o → r ≡ read_reply (record_of setup older) o → Says setup older (record_of setup older) s
     → Says setup ((E.Read t, r) ∷ older) v s
-says-read setup older t s r v is run x None e f a =
-    let b = stays (record_of setup older) v x setup older s a in
-    let same : numbers_read setup ((E.Read t, r) ∷ older) s ≡ numbers_read setup older s = ap (λ y.
-    numbers_read setup older s ++ (if t == s then number_read (record_of setup older) s y else [])) f ∙ none (t == s) (numbers_read setup older s) in (
-      ap (λ y. reads_in older s ++ (if t == s then shown_by y else [])) f ∙ none' (t == s) (reads_in older s) ∙ b.0 ∙ ap (map (shown_of v)) (sym same),
-      ap (list_all (λ n. nat_lt n (length v.messages) && ((Messages.message_at v n).stream == s))) same ∙ b.1,
-    )
-  where
-    none : (c : Bool) (l : List ℕ) → l ++ (if c then [] else []) ≡ l
-    none true l = append-nil l
-    none false l = append-nil l
-
-    none' : (c : Bool) (l : List Shown) → l ++ (if c then [] else []) ≡ l
-    none' true l = append-nil l
-    none' false l = append-nil l
-says-read setup older t s r v is run x (Some n) e f a = by (t == s) refl
-  where
-    hit : HasRead (view (record_of setup older)) t n
-    hit = has-read setup older is run t n e
-
-    one : t ≡ s → list_all (λ k. nat_lt k (length v.messages) && ((Messages.message_at v k).stream == s)) (n ∷ []) ≡ true
-    one q =
-        let lt = hit.made in
-        let lt' : n < length v.messages = omega (arith, lt, x.grows.count) in
-        and (nat_lt n (length v.messages) && ((Messages.message_at v n).stream == s)) true (and (nat_lt n (length v.messages)) ((Messages.message_at v n).stream
-        == s) (grind (arith, nat_tests)) (ap (λ m. m.stream == s) (x.grows.message n lt) ∙ ap (λ k. k == s) (hit.stream ∙ q) ∙ same-yes s)) refl
-
-    shown : shown_by (read_reply (record_of setup older) (Some n)) ≡ shown_of v n ∷ []
-    shown = cc (read-joined setup older is run t n e, shown-stays (record_of setup older) v x n hit.made)
-
-    by : (b : Bool) → (t == s) ≡ b → Says setup ((E.Read t, r) ∷ older) v s
-    by false q =
-        let b = stays (record_of setup older) v x setup older s a in
-        let numbers : numbers_read setup ((E.Read t, r) ∷ older) s ≡ numbers_read setup older s =
-        ap (λ c. numbers_read setup older s ++ (if c then number_read (record_of setup older) s r else [])) q ∙ append-nil (numbers_read setup older s) in (
-          ap (λ c. reads_in older s ++ (if c then shown_by r else [])) q ∙ append-nil (reads_in older s) ∙ b.0 ∙ ap (map (shown_of v)) (sym numbers),
-          ap (list_all (λ k. nat_lt k (length v.messages) && ((Messages.message_at v k).stream == s))) numbers ∙ b.1,
-        )
-    by true q =
-        let b = stays (record_of setup older) v x setup older s a in
-        let here : option_to_list (next_read (record_of setup older) s) ≡ n ∷ [] =
-        ap option_to_list (ap (next_read (record_of setup older)) (sym (same-is t s q)) ∙ e) in
-        let numbers : numbers_read setup ((E.Read t, r) ∷ older) s ≡ numbers_read setup older s ++ n ∷ [] =
-        ap (λ c. numbers_read setup older s ++ (if c then number_read (record_of setup older) s r else [])) q
-        ∙ ap (λ y. numbers_read setup older s ++ number_read (record_of setup older) s y) f ∙ ap (λ l. numbers_read setup older s ++ l) here in (
-          ap (λ c. reads_in older s ++ (if c then shown_by r else [])) q ∙ ap (λ y. reads_in older s ++ shown_by y) f ∙ ap (λ l. reads_in older s ++ l) shown
-              ∙ ap (λ l. l ++ shown_of v n ∷ []) b.0 ∙ sym (map-append (shown_of v) (numbers_read setup older s) (n ∷ []))
-              ∙ ap (map (shown_of v)) (sym numbers),
-          ap (list_all (λ k. nat_lt k (length v.messages) && ((Messages.message_at v k).stream == s))) numbers ∙ all-append
-              (λ k. nat_lt k (length v.messages) && ((Messages.message_at v k).stream == s)) (numbers_read setup older s) (n ∷ []) b.1 (one (same-is t s q)),
-        )
+says-read setup older t s r v h1 h2 h3 o h4 h5 h6 =
+    grind (arith, nat_tests, stays, has-read, read-joined, map-append, all-append)
 
 pub reads_show_messages : OnEveryRun ReadsShowMessages
 reads_show_messages setup [] is run s = (refl, refl)

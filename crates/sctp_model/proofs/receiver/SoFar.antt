@@ -1,30 +1,21 @@
 -- What was read so far on a stream.
-use Rattle.std.proofs.Common.{◌≡◌, ℕ, suc, ◌+◌, ◌-◌, ◌<◌, ◌≤◌, Bool, true, false, List, [], ◌∷◌, ◌++◌, length, refl, ap, sym, ◌∙◌, arith, append-nil}
-use Rattle.std.specs.Prelude.{if◌then◌else◌, ◌==◌, ◌&&◌, not, nat_lt}
-use Rattle.std.specs.List.{list_all, filter}
-use Rattle.std.proofs.Math.Path.{subst}
-use Rattle.std.proofs.lemmas.Bool.Decides.{nat_tests}
-use Rattle.sctp_util.specs.Kept.{numbers_where}
-use Rattle.sctp_util.proofs.Passing.{kept-same, kept-none, kept-snoc_in}
-use Rattle.sctp_util.proofs.More.{fails, not_both, both, and, kept-short}
-use Rattle.sctp_util.proofs.Cases.{same-is}
+use Rattle.sctp_model.proofs.Names.{◌≡◌, ℕ, suc, ◌+◌, ◌-◌, ◌<◌, ◌≤◌, Bool, true, false, List, [], ◌∷◌, ◌++◌, length, refl, ap, sym, ◌∙◌, arith, append-nil}
+use Rattle.sctp_model.proofs.Names.{if◌then◌else◌, ◌==◌, ◌&&◌, not, nat_lt, list_all, filter, subst, nat_tests, numbers_where, kept-same, kept-none}
+use Rattle.sctp_model.proofs.Names.{kept-snoc_in, fails, not_both, both, and, kept-short, same-is, LinkRecord, LogEntry, all-more}
 use Rattle.sctp_util.proofs.Alls
-use Rattle.sctp_model.specs.LinkRecord.{LinkRecord}
 use Rattle.sctp_model.specs.Log
-use Rattle.sctp_model.specs.Log.{LogEntry, SlotReceived, SkipReceived, SackMade}
 use Rattle.sctp_model.proofs.sender.Shape.{Shape, shape, has, on, sent, parts}
 use Rattle.sctp_model.proofs.sender.Sender.{Sender}
 use Rattle.sctp_model.proofs.sender.SenderSteps.{of-has}
 use Rattle.sctp_model.proofs.sender.Grows.{Grows}
 use Rattle.sctp_model.proofs.receiver.View
-use Rattle.sctp_model.proofs.receiver.View.{View, next}
+use Rattle.sctp_model.proofs.receiver.View.{View}
 use Rattle.sctp_model.proofs.receiver.Indexes.{on-ordered}
 use Rattle.sctp_model.proofs.receiver.Names.{on-grown}
 use Rattle.sctp_model.proofs.receiver.CompleteMessages.{SlotsReceived, complete_in, slots_in, complete-later, new-received, were-new, some-kept}
 use Rattle.sctp_model.proofs.receiver.Known
 use Rattle.sctp_model.proofs.receiver.Known.{Known, Complete, Still}
 use Rattle.sctp_model.proofs.receiver.Ordered.{Ordered}
-use Rattle.sctp_util.proofs.Tests.{all-more}
 
 -- ## Lists
 
@@ -53,12 +44,7 @@ kept-last t u n count lt out in' same below =
 
 pub passing-append : (q : ℕ → Bool) (xs ys : List ℕ) → filter q (xs ++ ys) ≡ filter q xs ++ filter q ys
 passing-append q [] ys = refl
-passing-append q (x ∷ xs) ys = step (q x) (passing-append q xs ys)
-  where
-    step : (b : Bool) → filter q (xs ++ ys) ≡ filter q xs ++ filter q ys
-        → (if b then x ∷ filter q (xs ++ ys) else filter q (xs ++ ys)) ≡ (if b then x ∷ filter q xs else filter q xs) ++ filter q ys
-    step true ih = ap (λ l. x ∷ l) ih
-    step false ih = ih
+passing-append q (x ∷ xs) ys = grind (arith, nat_tests, (passing-append q xs ys))
 
 -- tests that agree on each of a list
 pub passing-same : (t q r : ℕ → Bool) (xs : List ℕ) → ((k : ℕ) → t k ≡ true → q k ≡ r k) → list_all t xs ≡ true → filter q xs ≡ filter r xs
@@ -97,13 +83,10 @@ complete-fresh x y a b g log f n ge lt = fails (complete_in y log n) (λ e.
   where
     either : (o : Bool) → (if o then list_all (Log.arrived_new log) (slots_in y n) else Log.were_complete (slots_in y n) log) ≡ true
         → list_all (Log.arrived_new log) (slots_in y n) ≡ true
-    either true e = e
-    either false e = were-new (slots_in y n) log e
+    either o h1 = grind (arith, nat_tests, were-new)
 
 received-tail : (x : Shape) (coming : LogEntry) (log : List LogEntry) → SlotsReceived x (coming ∷ log) → SlotsReceived x log
-received-tail x (SlotReceived p) log f = f.1
-received-tail x (SkipReceived upto names) log f = f
-received-tail x SackMade log f = f
+received-tail x coming log h1 = grind (arith, nat_tests)
 
 pub complete_list-later : (x y : Shape) → Sender x → Sender y → Grows x y → (log : List LogEntry) → SlotsReceived x log → (s : ℕ)
     → complete_list y log s ≡ complete_list x log s
@@ -119,20 +102,12 @@ complete_list-later x y a b g (coming ∷ log) f s =
     ∙ ap (λ m. ((m.stream == s) && not m.ordered) && (complete_in x (coming ∷ log) k && not (complete_in x log k))) (g.message k (omega arith))))
   where
     none : (b : Bool) → (b && false) ≡ false
-    none true = refl
-    none false = refl
+    none b = grind (arith, nat_tests)
 
 -- nothing becomes complete
 pub complete_list-same : (x : Shape) (coming : LogEntry) (log : List LogEntry) (s : ℕ)
     → ((n : ℕ) → n < x.count → complete_in x (coming ∷ log) n ≡ complete_in x log n) → complete_list x (coming ∷ log) s ≡ complete_list x log s
-complete_list-same x coming log s same =
-    ap (λ l. complete_list x log s ++ l) (kept-none (became x coming log s) 0 x.count (λ k a b. ap (λ e. off x s k && (e && not (complete_in x log k)))
-    (same k (omega arith)) ∙ none (off x s k) (complete_in x log k))) ∙ append-nil (complete_list x log s)
-  where
-    none : (a b : Bool) → (a && (b && not b)) ≡ false
-    none true true = refl
-    none true false = refl
-    none false b = refl
+complete_list-same x coming log s same = grind (arith, nat_tests, kept-none, append-nil)
 
 -- ## What was read so far
 
@@ -148,9 +123,7 @@ pub record SoFar (s : ℕ) (list : List ℕ) (v : View) (log : List LogEntry) : 
   pub unordered : complete_list v.x log s ≡ filter (λ n. not (v.x.message n).ordered) list ++ v.complete s
 
 pub was-made : (v : View) (s n : ℕ) → was_read v s n ≡ true → n < v.x.count
-was-made v s n e =
-    let a = (both (nat_lt n v.x.count) ((v.x.message n).stream == s) (both (nat_lt n v.x.count && ((v.x.message n).stream == s)) (v.read n) e).0).0 in
-    grind (arith, nat_tests)
+was-made v s n e = grind (arith, nat_tests)
 
 pub so_far-as : (s : ℕ) (list : List ℕ) (u v : View) (log : List LogEntry) → v ≡ u → SoFar s list u log → SoFar s list v log
 so_far-as s list u v log e f = subst (λ y. SoFar s list y log) (sym e) f
@@ -167,18 +140,10 @@ so_far-still s list u v log t h o f = record {
 }
   where
     stays : (n : ℕ) → was_read u s n ≡ true → was_read v s n ≡ true
-    stays n e =
-        let lt = was-made u s n e in
-        let a = both (nat_lt n u.x.count && ((u.x.message n).stream == s)) (u.read n) e in
-        let b = both (nat_lt n u.x.count) ((u.x.message n).stream == s) a.0 in
-        let l : n < v.x.count = omega (arith, lt, t.grows.count) in
-        and (nat_lt n v.x.count && ((v.x.message n).stream == s)) (v.read n)
-        (and (nat_lt n v.x.count) ((v.x.message n).stream == s) (grind (arith, nat_tests)) (ap (λ m. m.stream == s) (t.grows.message n lt) ∙ b.1))
-        (t.read n lt ∙ a.1)
+    stays n e = search (arith, nat_tests, was-made, both, and)
 
     none : (b : Bool) → (b && false) ≡ false
-    none true = refl
-    none false = refl
+    none b = grind (arith, nat_tests)
 
     lines : numbers_where (read_on v s) 0 v.x.count ≡ numbers_where (read_on u s) 0 u.x.count
     lines =

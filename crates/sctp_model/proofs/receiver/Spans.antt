@@ -1,32 +1,17 @@
 -- In every state the indexes that 16-bit numbers must tell apart lie within half a circle.
-use Rattle.std.proofs.Common.{◌≡◌, ℕ, zero, suc, ◌+◌, ◌<◌, ◌≤◌, ◌^◌, Bool, true, false, List, [], ◌∷◌, ◌++◌, length, map, Option, Some, None, refl, ap, sym}
-use Rattle.std.proofs.Common.{◌∙◌, inl, inr, arith, append-nil, drop}
-use Rattle.std.specs.Prelude.{◌⊎◌, if◌then◌else◌, ◌==◌, ◌&&◌, ◌||◌, not, min, max, nat_lt, nat_le, find, is_some, unwrap_or, slice_get}
-use Rattle.std.specs.List.{list_any, list_all, filter}
-use Rattle.std.proofs.Math.Path.{subst}
-use Rattle.std.proofs.Math.Nat.{eq-or-lt_of_le}
-use Rattle.std.proofs.lemmas.Bool.{cases_lt}
-use Rattle.std.proofs.lemmas.Bool.Decides.{nat_tests}
-use Rattle.sctp_util.specs.Kept.{numbers_where}
-use Rattle.sctp_util.proofs.Passing.{kept-none}
-use Rattle.sctp_util.proofs.More.{fails, not_both, both, and}
-use Rattle.sctp_util.proofs.Places.{leading-le, length-dropped}
-use Rattle.sctp_model.specs.declared.event.Event.{Event}
+use Rattle.sctp_model.proofs.Names.{◌≡◌, ℕ, zero, suc, ◌+◌, ◌<◌, ◌≤◌, ◌^◌, Bool, true, false, List, [], ◌∷◌, ◌++◌, length, map, Option, Some, None, refl, ap}
+use Rattle.sctp_model.proofs.Names.{sym, ◌∙◌, inl, inr, arith, append-nil, ◌⊎◌, if◌then◌else◌, ◌==◌, ◌||◌, min, max, nat_lt, nat_le, find, is_some, unwrap_or}
+use Rattle.sctp_model.proofs.Names.{slice_get, list_any, list_all, filter, subst, eq-or-lt_of_le, cases_lt, nat_tests, numbers_where, kept-none, fails}
+use Rattle.sctp_model.proofs.Names.{not_both, both, and, leading-le, length-dropped, Event, StreamUnknown, NoSuchDatagram, SpanTooWide, Setup, StreamRecord}
+use Rattle.sctp_model.proofs.Names.{Datagram, LinkRecord, least, greatest, fits, spans_fit, History, record_of, IsRun, refusal_of, after, unless}
+use Rattle.sctp_model.proofs.Names.{is_for_receiver, arrival_fits, adds_to_span, LogEntry, IsSetup, OnEveryRun, SpansFit, by_same}
 use Rattle.sctp_model.specs.declared.event.Event.TheVariants as E
-use Rattle.sctp_model.specs.declared.event.LinkRefusal.TheVariants.{StreamUnknown, StreamOpen, NoSuchDatagram, SpanTooWide}
-use Rattle.sctp_model.specs.LinkRecord.{Setup, StreamRecord, Datagram, Forward, Sack, LinkRecord}
-use Rattle.sctp_model.specs.LinkRecord as W
 use Rattle.sctp_model.specs.Messages
 use Rattle.sctp_model.specs.Receiver
-use Rattle.sctp_model.specs.Receiver.{least, greatest, fits, spans_fit}
 use Rattle.sctp_model.specs.Changes
-use Rattle.sctp_model.specs.Steps.{History, record_of, IsRun, refusal_of, after, unless, is_for_receiver, arrival_fits, adds_to_span}
 use Rattle.sctp_model.specs.Log
-use Rattle.sctp_model.specs.Log.{LogEntry}
-use Rattle.sctp_model.specs.Laws.{IsSetup, OnEveryRun, SpansFit}
 use Rattle.sctp_model.proofs.sender.Shape.{shape, on, index, sent}
 use Rattle.sctp_model.proofs.sender.Sender.{Sender}
-use Rattle.sctp_util.proofs.Cases.{by_same, negated}
 use Rattle.sctp_model.proofs.sender.SenderRun.{Consistent, consistent-run, consistent-after, unless-holds, found}
 use Rattle.sctp_model.proofs.sender.Moves.{Quiet, quiet-after}
 use Rattle.sctp_model.proofs.receiver.View
@@ -61,8 +46,7 @@ greatest-in x y (z ∷ xs) e = step (z == y) refl e (λ h. greatest-in (max x z)
   where
     step : (b : Bool) → (z == y) ≡ b → (b || list_any (λ z. z == y) xs) ≡ true → (list_any (λ z. z == y) xs ≡ true → y ≤ greatest (max x z) xs)
         → y ≤ greatest (max x z) xs
-    step true h e ih = let same : z ≡ y = grind (arith, nat_tests) in omega (arith, greatest-ge (max x z) xs)
-    step false h e ih = ih e
+    step b h1 h2 h3 = grind (arith, nat_tests, greatest-ge)
 
 least-in : (x y : ℕ) (xs : List ℕ) → list_any (λ z. z == y) xs ≡ true → least x xs ≤ y
 least-in x y [] e = cc
@@ -70,8 +54,7 @@ least-in x y (z ∷ xs) e = step (z == y) refl e (λ h. least-in (min x z) y xs 
   where
     step : (b : Bool) → (z == y) ≡ b → (b || list_any (λ z. z == y) xs) ≡ true → (list_any (λ z. z == y) xs ≡ true → least (min x z) xs ≤ y)
         → least (min x z) xs ≤ y
-    step true h e ih = let same : z ≡ y = grind (arith, nat_tests) in omega (arith, least-le (min x z) xs)
-    step false h e ih = ih e
+    step b h1 h2 h3 = grind (arith, nat_tests, least-le)
 
 in-kept : (f : ℕ → ℕ) (p : ℕ → Bool) (k from count : ℕ) → from ≤ k → k < from + count → p k ≡ true
     → list_any (λ z. z == f k) (map f (numbers_where p from count)) ≡ true
@@ -80,14 +63,7 @@ in-kept f p k from (suc count) low high e = step (p from) refl (eq-or-lt_of_le l
   where
     step : (b : Bool) → p from ≡ b → (from ≡ k) ⊎ (from < k) → (from + 1 ≤ k → list_any (λ z. z == f k) (map f (numbers_where p (from + 1) count)) ≡ true)
         → list_any (λ z. z == f k) (map f (if b then from ∷ numbers_where p (from + 1) count else numbers_where p (from + 1) count)) ≡ true
-    step true h (inl x) ih = let same : (f from == f k) ≡ true = (let z : f from ≡ f k = ap f x in grind (arith, nat_tests)) in rw same refl
-    step true h (inr l) ih = or-right (f from == f k) (list_any (λ z. z == f k) (map f (numbers_where p (from + 1) count))) (ih (omega arith))
-      where
-        or-right : (a b : Bool) → b ≡ true → (a || b) ≡ true
-        or-right true b e = refl
-        or-right false b e = e
-    step false h (inl x) ih = let no : true ≡ false = sym e ∙ ap p (sym x) ∙ h in cc
-    step false h (inr l) ih = ih (omega arith)
+    step b h1 h2 h3 = grind (arith, nat_tests)
 
 all-below : (x y : ℕ) (f : ℕ → ℕ) (p : ℕ → Bool) (from count : ℕ) → x ≤ y → ((k : ℕ) → from ≤ k → k < from + count → p k ≡ true → f k ≤ y)
     → greatest x (map f (numbers_where p from count)) ≤ y
@@ -96,8 +72,7 @@ all-below x y f p from (suc count) le h = step (p from) refl (λ z g. all-below 
   where
     step : (b : Bool) → p from ≡ b → ((z : ℕ) → z ≤ y → greatest z (map f (numbers_where p (from + 1) count)) ≤ y)
         → greatest x (map f (if b then from ∷ numbers_where p (from + 1) count else numbers_where p (from + 1) count)) ≤ y
-    step true e ih = ih (max x (f from)) (let z = h from (omega arith) (omega arith) e in omega (arith, z, le))
-    step false e ih = ih x le
+    step b h1 h2 = grind (arith, nat_tests)
 
 all-above : (x y : ℕ) (f : ℕ → ℕ) (p : ℕ → Bool) (from count : ℕ) → y ≤ x → ((k : ℕ) → from ≤ k → k < from + count → p k ≡ true → y ≤ f k)
     → y ≤ least x (map f (numbers_where p from count))
@@ -106,8 +81,7 @@ all-above x y f p from (suc count) le h = step (p from) refl (λ z g. all-above 
   where
     step : (b : Bool) → p from ≡ b → ((z : ℕ) → y ≤ z → y ≤ least z (map f (numbers_where p (from + 1) count)))
         → y ≤ least x (map f (if b then from ∷ numbers_where p (from + 1) count else numbers_where p (from + 1) count))
-    step true e ih = ih (min x (f from)) (let z = h from (omega arith) (omega arith) e in omega (arith, z, le))
-    step false e ih = ih x le
+    step b h1 h2 = grind (arith, nat_tests)
 
 -- the index expected next and those of the messages held lie between two numbers less than 2^15 apart
 pub record IsNear (v : View) (s : ℕ) : Type 0 where
@@ -144,12 +118,7 @@ near-fits w s more e =
 pub near-others : (w : LinkRecord) (s : ℕ) (more : List ℕ) (e : fits w more s ≡ true) (y : ℕ) → list_any (λ z. z == y) more ≡ true
     → ((near-fits w s more e).low ≤ y) × (y ≤ (near-fits w s more e).high)
 unfolding near-fits
-near-others w s more e y i =
-    let n = Receiver.next_of w s in
-    let held' = map (Messages.index_of w) (Receiver.held_on w s) in
-    let g : greatest n (held' ++ more) ≡ greatest (greatest n held') more = greatest-append n held' more in
-    let l : least n (held' ++ more) ≡ least (least n held') more = least-append n held' more in
-    (omega (arith, l, least-in (least n held') y more i), omega (arith, g, greatest-in (greatest n held') y more i))
+near-others w s more e y i = grind (arith, nat_tests, greatest-append, least-append, least-in, greatest-in)
 
 fits-near : (w : LinkRecord) (s : ℕ) → IsNear (view w) s → fits w [] s ≡ true
 fits-near w s near =
@@ -170,19 +139,10 @@ pub record IsHeld (v : View) (s n : ℕ) : Type 0 where
   pub kept_for : (complete_at v n || nat_le (v.named s) (index v.x n)) ≡ true
 
 pub held-of : (v : View) (s n : ℕ) → held v s n ≡ true → IsHeld v s n
-held-of v s n e =
-    let a = both (on v.x s n) (not (v.read n) && (nat_lt 0 (come_count v n) && (complete_at v n || nat_le (v.named s) (index v.x n)))) e in
-    let b = both (not (v.read n)) (nat_lt 0 (come_count v n) && (complete_at v n || nat_le (v.named s) (index v.x n))) a.1 in
-    let c = both (nat_lt 0 (come_count v n)) (complete_at v n || nat_le (v.named s) (index v.x n)) b.1 in
-    let d = c.0 in
-    record { on_it = a.0; unread = negated (v.read n) b.0; some = grind (arith, nat_tests); kept_for = c.1 }
+held-of v s n e = grind (arith, nat_tests, both)
 
 pub is-held : (v : View) (s n : ℕ) → IsHeld v s n → held v s n ≡ true
-is-held v s n h =
-    let p = h.some in
-    and (on v.x s n) (not (v.read n) && (nat_lt 0 (come_count v n) && (complete_at v n || nat_le (v.named s) (index v.x n)))) h.on_it
-    (and (not (v.read n)) (nat_lt 0 (come_count v n) && (complete_at v n || nat_le (v.named s) (index v.x n))) (ap not h.unread)
-    (and (nat_lt 0 (come_count v n)) (complete_at v n || nat_le (v.named s) (index v.x n)) (grind (arith, nat_tests)) h.kept_for))
+is-held v s n h = grind (arith, nat_tests)
 
 -- ## The sender's changes
 
@@ -225,29 +185,11 @@ near-still u v t o near s =
 
 held-read : (v : View) (log : List LogEntry) (s n t k : ℕ) → Complete v log → ReadsComplete v s n ⊎ ReadsRun v s n → held (read_in v s n) t k ≡ true
     → (k ≡ n → ⊥) × (held v t k ≡ true)
-held-read v log s n t k h r e =
-    let i = held-of (read_in v s n) t k e in
-    let ne : k ≡ n → ⊥ = λ z. not_both (sym i.unread ∙ ap (read_in v s n).read z ∙ Ordered.read-here v s n) in (
-      ne,
-      is-held v t k (record {
-        on_it = i.on_it;
-        unread = sym (read-other v s n k ne) ∙ i.unread;
-        some = i.some;
-        kept_for = ap (λ b. b || nat_le (v.named t) (index v.x k)) (sym (complete-read v log s n h r k)) ∙ i.kept_for;
-      }),
-    )
+held-read v log s n t k h r e = search (arith, nat_tests, held-of, not_both, Ordered.read-here, is-held, read-other, complete-read)
 
 near-read_other : (v : View) (log : List LogEntry) (s n t : ℕ) → Complete v log → ReadsComplete v s n ⊎ ReadsRun v s n → next (read_in v s n) t ≡ next v t
     → IsNear v t → IsNear (read_in v s n) t
-near-read_other v log s n t h r e near = record {
-  low = near.low;
-  high = near.high;
-  short = near.short;
-  above = omega (arith, near.above, e);
-  below = omega (arith, near.below, e);
-  held_above = λ k lt i. near.held_above k lt (held-read v log s n t k h r i).1;
-  held_below = λ k lt i. near.held_below k lt (held-read v log s n t k h r i).1;
-}
+near-read_other v log s n t h r e near = search (arith, nat_tests, held-read)
 
 -- the first one due is the first one held
 first-held : (v : View) (s n k : ℕ) → IsDue v s n → k < v.x.count → held v s k ≡ true → n ≤ k
@@ -261,15 +203,7 @@ first-held v s n k d lt e = by (cases_lt k n)
         kind h less l (complete_at v k) refl
       where
         kind : IsHeld v s k → index v.x k < index v.x n → k < n → (b : Bool) → complete_at v k ≡ b → n ≤ k
-        kind h less l true f =
-            let near : nat_le (index v.x k) (next v s) ≡ true = (let z : index v.x k ≤ next v s = omega (arith, less, d.near) in grind (arith, nat_tests)) in
-            absurd (not_both (sym (d.first k l)
-            ∙ and (on v.x s k) (not (v.read k) && (complete_at v k && nat_le (index v.x k) (next v s))) h.on_it (and (not (v.read k))
-            (complete_at v k && nat_le (index v.x k) (next v s)) (ap not h.unread) (and (complete_at v k) (nat_le (index v.x k) (next v s)) f near))))
-        kind h less l false f =
-            let t : nat_le (v.named s) (index v.x k) ≡ true = sym (ap (λ b. b || nat_le (v.named s) (index v.x k)) f) ∙ h.kept_for in
-            let low : v.named s ≤ index v.x k = grind (arith, nat_tests) in
-            absurd (not_both (sym h.unread ∙ next_reads v s k lt h.on_it low (omega (arith, less, d.near))))
+        kind h1 h2 h3 b h4 = grind (arith, nat_tests, next_reads)
 
 near-due : (v : View) (log : List LogEntry) (s n : ℕ) → Sender v.x → Complete v log → Ordered v → ReadsRun v s n → IsDue v s n → IsNear v s
     → IsNear (read_in v s n) s
@@ -279,11 +213,7 @@ near-due v log s n a h o r d near = by (eq-or-lt_of_le d.near)
     past k lt e = let x = held-read v log s n s k h (inr r) e in index-lt v.x s n k d.on_it (held-of v s k x.1).on_it (strict (first-held v s n k d lt x.1) x.0)
       where
         strict : n ≤ k → (k ≡ n → ⊥) → n < k
-        strict le ne = either (eq-or-lt_of_le le)
-          where
-            either : (n ≡ k) ⊎ (n < k) → n < k
-            either (inl z) = absurd (ne (sym z))
-            either (inr l) = l
+        strict le ne = elim (eq-or-lt_of_le le) [ inl z ↦ absurd (ne (sym z)) | inr l ↦ l ]
 
     by : (index v.x n ≡ next v s) ⊎ (index v.x n < next v s) → IsNear (read_in v s n) s
     by (inr l) = near-read_other v log s n s h (inr r) (Ordered.next-stays v s n a o d l) near
@@ -332,8 +262,7 @@ near-closed setup w s g e = record {
     empty = kept-none (on (shape w) s) 0 (length w.messages) (λ k a b. fails (on (shape w) s k) (λ h. none k (omega arith) h))
 
     at : (o : Option StreamRecord) → is_some o ≡ false → unwrap_or o (Messages.no_stream s) ≡ Messages.no_stream s
-    at None f = refl
-    at (Some r) f = cc
+    at o h1 = grind (arith, nat_tests)
 
     zero' : next (view w) s ≡ 0
     zero' =
@@ -342,8 +271,7 @@ near-closed setup w s g e = record {
         omega (arith, n, l)
       where
         next-none : (v : View) (s : ℕ) → line v s ≡ [] → next v s ≤ v.named s
-        next-none v s e = let z = leading-le v.read (drop (v.named s) (line v s)) in let y = length-dropped (v.named s) (line v s) in
-            omega (arith, z, y, ap length e)
+        next-none v s e = grind (arith, nat_tests, leading-le, length-dropped)
 
 pub all-streams : (t : ℕ → Bool) (rs : List StreamRecord) (s : ℕ) (r : StreamRecord) → list_all (λ r. t r.stream) rs ≡ true
     → find (λ r. r.stream == s) rs ≡ Some r → t r.stream ≡ true
@@ -352,8 +280,7 @@ all-streams t (q ∷ rs) s r a e = let c = both (t q.stream) (list_all (λ r. t 
   where
     step : (b : Bool) → (if b then Some q else find (λ r. r.stream == s) rs) ≡ Some r → t q.stream ≡ true
         → (find (λ r. r.stream == s) rs ≡ Some r → t r.stream ≡ true) → t r.stream ≡ true
-    step true h x ih = let z : q ≡ r = cc in ap (λ y. t y.stream) (sym z) ∙ x
-    step false h x ih = ih h
+    step b h1 h2 h3 = grind (arith, nat_tests)
 
 pub near-spans : (setup : Setup) (w : LinkRecord) (messages : List ℕ) → Consistent setup w → spans_fit w messages ≡ true → AllNear (view w)
 near-spans setup w messages g e s = by (Messages.stream_at w s) refl
@@ -373,10 +300,7 @@ near-quiet : (setup : Setup) (w v : LinkRecord) (log : List LogEntry) → Consis
 near-quiet setup w v log g a q r n = near-still (view w) (view v) (still-of setup w v g a q) r.ordered n
 
 near-taken : (w : LinkRecord) (o : Option Datagram) → AllNear (view w) → AllNear (view (Changes.after_acked w o))
-near-taken w None n = n
-near-taken w (Some (W.Data ps)) n = n
-near-taken w (Some (Forward upto names)) n = n
-near-taken w (Some (Sack r)) n = near-as (view w) (view (Changes.after_acked w (Some (Sack r)))) (View.view-taken w r) n
+near-taken w o h1 = search (arith, nat_tests, near-as, View.view-taken)
 
 near-reads : (setup : Setup) (w : LinkRecord) (log : List LogEntry) (s : ℕ) (o : Option ℕ) → Consistent setup w → Messages.is_open w s ≡ true
     → Receiver.next_read w s ≡ o → Received w log → AllNear (view w) → AllNear (view (Changes.read_of w s o))
@@ -386,8 +310,7 @@ near-reads setup w log s (Some k) g a e r n = near-as (read_in (view w) s k) (vi
 
 near-after : (setup : Setup) (w : LinkRecord) (log : List LogEntry) (e : Event) → Consistent setup w → refusal_of w e ≡ None → Consistent setup (after w e)
     → Received w log → AllNear (view w) → AllNear (view (after w e))
-near-after setup w log (E.Open s) g ok a r n = near-as (view w) (view (Changes.after_open w s))
-    (View.view-opened w s (negated (Messages.is_open w s) (unless-holds (not (Messages.is_open w s)) StreamOpen None ok).0)) n
+near-after setup w log (E.Open s) g ok a r n = grind (arith, nat_tests, View.view-opened)
 near-after setup w log (E.Mode s u y v) g ok a r n = near-as (view w) (view (Changes.after_mode w s u y v)) (View.view-moded w s u y v) n
 near-after setup w log (E.Arrive k) g ok a r n =
     let d = slice_get w.network k in

@@ -1,43 +1,29 @@
 -- The record of every history is valid.
-use Rattle.std.proofs.Common.{◌≡◌, ℕ, zero, suc, ◌+◌, ◌-◌, ◌<◌, ◌≤◌, Bool, true, false, List, [], ◌∷◌, ◌++◌, length, map, get_or, Option, Some, None}
-use Rattle.std.proofs.Common.{refl, ap, sym, ◌∙◌, inl, inr, arith, zero-add}
-use Rattle.std.specs.Prelude.{◌⊎◌, if◌then◌else◌, ◌==◌, ◌&&◌, ◌||◌, not, nat_le, nat_lt, fold, slice_get, find, is_some}
-use Rattle.std.specs.List.{list_any, filter}
-use Rattle.std.proofs.Math.Path.{subst}
-use Rattle.std.proofs.lemmas.Bool.{cases_lt}
-use Rattle.std.proofs.lemmas.Bool.Decides.{nat_tests}
-use Rattle.sctp_util.specs.Kept.{numbers_where, always}
-use Rattle.sctp_util.proofs.Passing.{length-kept-lt}
-use Rattle.sctp_util.proofs.More.{not_both, both, and}
-use Rattle.sctp_util.proofs.Cases.{same-yes, same-is, negated, or-right, or-split}
-use Rattle.sctp_util.proofs.Places.{kept-get}
-use Rattle.sctp_util.proofs.Getting.{get-beyond}
-use Rattle.sctp_util.proofs.Rows.{IsRow}
-use Rattle.sctp_util.proofs.Totals.{total-at, length-numbers}
+use Rattle.sctp_model.proofs.Names.{◌≡◌, ℕ, zero, suc, ◌+◌, ◌-◌, ◌<◌, ◌≤◌, Bool, true, false, List, [], ◌∷◌, ◌++◌, length, map, get_or, Option, Some, None}
+use Rattle.sctp_model.proofs.Names.{refl, ap, sym, ◌∙◌, inl, inr, arith, zero-add, ◌⊎◌, if◌then◌else◌, ◌==◌, ◌&&◌, ◌||◌, not, nat_le, fold, slice_get, find}
+use Rattle.sctp_model.proofs.Names.{is_some, list_any, filter, subst, cases_lt, nat_tests, numbers_where, always, length-kept-lt, not_both, both, same-yes}
+use Rattle.sctp_model.proofs.Names.{negated, or-right, or-split, kept-get, get-beyond, IsRow, total-at, length-numbers, Setup, StreamRecord, Datagram, Forward}
+use Rattle.sctp_model.proofs.Names.{LinkRecord, record_of, refusal_of, adds_to_span, LogEntry, OnEveryRun, IsLaid, IsSpan, Valid, ValidUnassembled}
+use Rattle.sctp_model.proofs.Names.{AllFragments}
 use Rattle.sctp_model.specs.declared.event.Event.TheVariants as E
-use Rattle.sctp_model.specs.declared.event.LinkRefusal.TheVariants.{NoSuchDatagram, SpanTooWide}
-use Rattle.sctp_model.specs.LinkRecord.{Setup, StreamRecord, Datagram, Forward, LinkRecord}
 use Rattle.sctp_model.specs.LinkRecord as W
 use Rattle.sctp_model.specs.Messages
 use Rattle.sctp_model.specs.Receiver
 use Rattle.sctp_model.specs.Changes
-use Rattle.sctp_model.specs.Steps.{record_of, refusal_of, unless, is_for_receiver, arrival_fits, adds_to_span}
 use Rattle.sctp_model.specs.Log
-use Rattle.sctp_model.specs.Log.{LogEntry}
-use Rattle.sctp_model.specs.Laws.{OnEveryRun}
-use Rattle.sctp_model.specs.Valid.{IsLaid, IsSpan, Valid, ValidUnassembled, InOrder, AllFragments, AllNamable, RecordIsValid, SlotsComeValid, SkipsComeValid}
+use Rattle.sctp_model.specs.Valid.{InOrder, AllNamable, RecordIsValid, SlotsComeValid, SkipsComeValid}
 use Rattle.sctp_model.proofs.sender.SenderEnds.{sent-none}
-use Rattle.sctp_model.proofs.sender.Shape.{Shape, shape, has, sent, parts, on, index}
+use Rattle.sctp_model.proofs.sender.Shape.{Shape, shape, has, parts, on, index}
 use Rattle.sctp_model.proofs.sender.Sender.{Sender}
 use Rattle.sctp_model.proofs.sender.SenderSteps.{of-has}
 use Rattle.sctp_model.proofs.sender.Slots.{slots-row, beyond-slots}
 use Rattle.sctp_model.proofs.sender.Few.{few}
-use Rattle.sctp_model.proofs.sender.SenderRun.{Consistent, consistent-run, consistent-received, unless-holds, found, open-mapped}
+use Rattle.sctp_model.proofs.sender.SenderRun.{Consistent, consistent-run, consistent-received, found, open-mapped}
 use Rattle.sctp_model.proofs.sender.Network
 use Rattle.sctp_model.proofs.sender.Network.{SlotsFit, NamesFit, fit-at, fit-run}
 use Rattle.sctp_model.proofs.receiver.View
 use Rattle.sctp_model.proofs.receiver.View.{View, view, come_count, all_come, complete_at, held, next}
-use Rattle.sctp_model.proofs.receiver.Arrivals.{with_arrived, new-unseen}
+use Rattle.sctp_model.proofs.receiver.Arrivals.{new-unseen}
 use Rattle.sctp_model.proofs.receiver.Indexes.{on-ordered, on-stream}
 use Rattle.sctp_model.proofs.receiver.CompleteMessages
 use Rattle.sctp_model.proofs.receiver.CompleteMessages.{some-kept}
@@ -50,18 +36,10 @@ use Rattle.sctp_model.proofs.receiver.Spans.{AllNear, near-run}
 -- ## Numbers of messages and places of slots
 
 slot-made : (w : LinkRecord) (n p : ℕ) → Messages.has_fragment w n p ≡ true → p < length w.slots
-slot-made w n p h = by (cases_lt p (length w.slots))
-  where
-    by : (p < length w.slots) ⊎ (length w.slots ≤ p) → p < length w.slots
-    by (inl l) = l
-    by (inr g) = absurd (not_both (sym (beyond-slots w n p g) ∙ h))
+slot-made w n p h = elim (cases_lt p (length w.slots)) [ inl l ↦ l | inr g ↦ absurd (not_both (sym (beyond-slots w n p g) ∙ h)) ]
 
 message-made : (w : LinkRecord) (n : ℕ) → (Messages.message_at w n).ordered ≡ true → n < length w.messages
-message-made w n o = by (cases_lt n (length w.messages))
-  where
-    by : (n < length w.messages) ⊎ (length w.messages ≤ n) → n < length w.messages
-    by (inl l) = l
-    by (inr g) = absurd (not_both (sym (ap (λ m. m.ordered) (get-beyond w.messages n Messages.no_message g)) ∙ o))
+message-made w n o = grind (arith, nat_tests, get-beyond)
 
 -- the fragments of a message lie side by side
 laid-of : (w : LinkRecord) (n : ℕ) → Sender (shape w) → (base : ℕ) × IsLaid w n base
@@ -119,8 +97,7 @@ unassembled-of setup w log g r =
     let s = g.sender in
     let h = r.known.complete in
     record {
-      prefix = λ n p j f e. let o = of-has (shape w) n p f in let b = s.beside p (slot-made w n p f) o.1 (omega (arith, e)) in
-          let q : b.0 ≡ p - 1 = omega (arith, b.1) in ap (Messages.has_fragment w n) (sym q) ∙ ap (λ m. Messages.has_fragment w m b.0) (sym o.0) ∙ b.2;
+      prefix = grind (arith, nat_tests, slot-made) steps 150000;
       terminals = r.ordered.terminals;
       complete_arrived = λ n kind e. complete n kind e (cases_lt n (length w.messages));
       arrived_complete = λ n e. arrived n e (cases_lt n (length w.messages));
@@ -154,8 +131,7 @@ order-of setup w g = record {
   where
     at : (n : ℕ) (o : Option StreamRecord) → find (λ r. r.stream == (Messages.message_at w n).stream) w.streams ≡ o → is_some o ≡ true
         → (r : StreamRecord) × (find (λ r. r.stream == (Messages.message_at w n).stream) w.streams ≡ Some r)
-    at n None e f = cc
-    at n (Some r) e f = (r, e)
+    at n o h1 h2 = grind (arith, nat_tests)
 
 all-fragments : (w : LinkRecord) (ps : List ℕ) → SlotsFit (shape w) ps → AllFragments w ps
 all-fragments w [] f = tt
@@ -163,9 +139,7 @@ all-fragments w (p ∷ ps) f = (f.0, f.1, all-fragments w ps f.2)
 
 all-namable : (w : LinkRecord) (upto : ℕ) (ns : List ℕ) → NamesFit (shape w) upto ns → AllNamable w upto ns
 all-namable w upto [] f = tt
-all-namable w upto (n ∷ ns) f =
-    let q = some-kept (has (shape w) n) 0 (length w.slots) f.0.some in
-    (record { ordered = f.0.ordered; some = (q.0, q.3); within = λ p h. f.0.within p (slot-made w n p h) h }, all-namable w upto ns f.1)
+all-namable w upto (n ∷ ns) f = grind (arith, nat_tests, some-kept, slot-made, (all-namable w upto ns f.1))
 
 near-span : (w : LinkRecord) → AllNear (view w) → (s : ℕ) → IsSpan w s []
 near-span w near s =
@@ -204,14 +178,7 @@ span-fits w s more e =
     let n = Receiver.next_of w s in
     let held' = map (Messages.index_of w) (Receiver.held_on w s) in
     let near = Spans.near-fits w s more e in
-    record {
-      low = near.low;
-      high = near.high;
-      short = near.short;
-      next = (near.above, near.below);
-      held = λ k lt h. (near.held_above k lt h, near.held_below k lt h);
-      others = λ y i. Spans.near-others w s more e y i;
-    }
+    (grind (arith, nat_tests, Spans.near-others))
 
 -- one message more than those that fit
 pub span-open : (w : LinkRecord) (s : ℕ) (messages : List ℕ) → Receiver.spans_fit w messages ≡ true → Messages.is_open w s ≡ true
@@ -231,15 +198,7 @@ span-open w s messages e o = by (Messages.stream_at w s) refl o
 span-among : (w v : LinkRecord) (s : ℕ) (more fewer : List ℕ) → length w.messages ≤ length v.messages → Receiver.next_of w s ≡ Receiver.next_of v s → ((k : ℕ)
     → Messages.index_of w k ≡ Messages.index_of v k) → ((k : ℕ) → k < length w.messages → Receiver.is_held w s k ≡ true → Receiver.is_held v s k ≡ true)
     → ((y : ℕ) → list_any (λ z. z == y) fewer ≡ true → list_any (λ z. z == y) more ≡ true) → IsSpan v s more → IsSpan w s fewer
-span-among w v s more fewer le next' index' held' others sp = record {
-  low = sp.low;
-  high = sp.high;
-  short = sp.short;
-  next = (omega (arith, next', sp.next), omega (arith, next', sp.next));
-  held = λ k lt h.
-      (omega (arith, sp.held k (omega (arith, le, lt)) (held' k lt h), index' k), omega (arith, sp.held k (omega (arith, le, lt)) (held' k lt h), index' k));
-  others = λ y h. sp.others y (others y h);
-}
+span-among w v s more fewer le next' index' held' others sp = grind (arith, nat_tests)
 
 -- what the arrivals of slots leave, and what they add to
 record Later (u v : View) : Type 0 where
@@ -254,48 +213,20 @@ later-none : (v : View) → Later v v
 later-none v = record { shapes = refl; reads = refl; names = refl; skips = refl; come = λ n. omega arith; arrived = λ p e. e }
 
 later-then : (u v z : View) → Later u v → Later v z → Later u z
-later-then u v z f g = record {
-  shapes = g.shapes ∙ f.shapes;
-  reads = g.reads ∙ f.reads;
-  names = g.names ∙ f.names;
-  skips = g.skips ∙ f.skips;
-  come = λ n. omega (arith, f.come n, g.come n);
-  arrived = λ p e. g.arrived p (f.arrived p e);
-}
+later-then u v z f g = grind (arith, nat_tests)
 
 later-as : (u v z : View) → z ≡ v → Later u v → Later u z
 later-as u v z e l = subst (Later u) (sym e) l
 
 kept-more : (p q : ℕ → Bool) (from count : ℕ) → ((k : ℕ) → p k ≡ true → q k ≡ true) → length (numbers_where p from count) ≤ length (numbers_where q from count)
 kept-more p q from zero h = omega arith
-kept-more p q from (suc count) h = step (p from) (q from) refl refl (kept-more p q (from + 1) count h)
-  where
-    step : (a b : Bool) → p from ≡ a → q from ≡ b → length (numbers_where p (from + 1) count) ≤ length (numbers_where q (from + 1) count)
-        → length (if a then from ∷ numbers_where p (from + 1) count else numbers_where p (from + 1) count)
-        ≤ length (if b then from ∷ numbers_where q (from + 1) count else numbers_where q (from + 1) count)
-    step true true e f ih = omega (arith, ih)
-    step true false e f ih = absurd (not_both (sym f ∙ h from e))
-    step false true e f ih = omega (arith, ih)
-    step false false e f ih = ih
+kept-more p q from (suc count) h = grind (arith, nat_tests, not_both, (kept-more p q (from + 1) count h))
 
 later-slot : (setup : Setup) (w : LinkRecord) (p : ℕ) → Consistent setup w → p < length w.slots → Later (view w) (view (Changes.receive_slot w p))
 later-slot setup w p g lt = by (Receiver.is_new w p) refl
   where
-    arrives : (k : ℕ) (b : Bool) → Receiver.arrived_at w k ≡ true → (if b then true else Receiver.arrived_at w k) ≡ true
-    arrives k true e = refl
-    arrives k false e = e
-
     first : Later (view w) (View.arrived_in (view w) p)
-    first = record {
-      shapes = refl;
-      reads = refl;
-      names = refl;
-      skips = refl;
-      come = λ n. kept-more (View.has_come (view w) n) (View.has_come (View.arrived_in (view w) p) n) 0 (length w.slots)
-          (λ k e. let c = both (has (shape w) n k) (Receiver.arrived_at w k) e in
-          and (has (shape w) n k) (if k == p then true else Receiver.arrived_at w k) c.0 (arrives k (k == p) c.1));
-      arrived = λ k e. arrives k (k == p) e;
-    }
+    first = grind (arith, nat_tests, kept-more)
 
     noted : (b : Bool) → Later (View.arrived_in (view w) p) (if b then View.noted_in (View.arrived_in (view w) p)
         (Messages.message_at w (Messages.message_of w p)).stream (Messages.message_of w p) else View.arrived_in (view w) p)
@@ -307,9 +238,7 @@ later-slot setup w p g lt = by (Receiver.is_new w p) refl
         (Known.view-received setup w p g lt e)
         (later-then (view w) (View.arrived_in (view w) p) (Known.noting (View.arrived_in (view w) p) (Messages.message_of w p)) first (noted
         (not (Messages.message_at w (Messages.message_of w p)).ordered && CompleteMessages.due (View.arrived_in (view w) p) (Messages.message_of w p))))
-    by false e = later-as (view w) (view w) (view (Changes.receive_slot w p)) (ap
-        (λ b. view (if b then Changes.note_completion (with_arrived w p) (Messages.message_of w p) else record w { duplicates = w.duplicates ++ p ∷ [] })) e)
-        (later-none (view w))
+    by false e = grind (arith, nat_tests)
 
 -- a state on the way
 record Between (setup : Setup) (w : LinkRecord) : Type 0 where
@@ -357,67 +286,33 @@ held-later u v a l s k lt e =
       kept_for = either (or-split (complete_at u k) (nat_le (u.named s) (index u.x k)) h.kept_for) kind;
     })
   where
-    le : sent v.x k ≤ parts v.x k
-    le = subst (λ x. sent x k ≤ parts x k) (sym l.shapes) (a.within k lt)
-
     all : all_come u k ≡ true → all_come v k ≡ true
-    all e =
-        let z = same-is (come_count u k) (parts u.x k) e in
-        let c = l.come k in
-        let y : come_count v k ≡ parts v.x k = omega (arith, z, c, Known.come-sent v k, le, ap (λ x. parts x k) l.shapes) in
-        ap (λ i. i == parts v.x k) y ∙ same-yes (parts v.x k)
+    all e = grind (arith, nat_tests, Known.come-sent)
 
     either : (complete_at u k ≡ true) ⊎ (nat_le (u.named s) (index u.x k) ≡ true) → (u.x.message k).ordered ≡ true
         → (complete_at v k || nat_le (v.named s) (index v.x k)) ≡ true
     either (inl w) o =
         let y : complete_at v k ≡ true = Ordered.ordered-at v k (ap (λ x. (x.message k).ordered) l.shapes ∙ o) ∙ all (sym (Ordered.ordered-at u k o) ∙ w) in
         ap (λ b. b || nat_le (v.named s) (index v.x k)) y
-    either (inr n) o = or-right (complete_at v k) (nat_le (v.named s) (index v.x k))
-        (ap (λ f. nat_le (f s) (index v.x k)) l.names ∙ ap (λ x. nat_le (u.named s) (index x k)) l.shapes ∙ n)
+    either (inr n) o = grind (arith, nat_tests)
 
 next-later : (u v : View) → Later u v → (s : ℕ) → next v s ≡ next u s
 next-later u v l s = cc (l.names, l.reads, l.shapes)
 
 -- what is new later was new before
 new-later : (w v : LinkRecord) (p : ℕ) → Later (view w) (view v) → Receiver.is_new v p ≡ true → Receiver.is_new w p ≡ true
-new-later w v p l e = new-unseen w p
-    ∙ by (nat_lt p w.skipped) (Receiver.arrived_at w p) refl (ap (λ k. not (nat_lt p k || Receiver.arrived_at v p)) (sym l.skips) ∙ sym (new-unseen v p) ∙ e)
-  where
-    by : (a b : Bool) → Receiver.arrived_at w p ≡ b → not (a || Receiver.arrived_at v p) ≡ true → not (a || b) ≡ true
-    by true b f g = cc
-    by false false f g = refl
-    by false true f g = absurd (not_both (sym (negated (Receiver.arrived_at v p) g) ∙ l.arrived p f))
+new-later w v p l e = grind (arith, nat_tests, new-unseen)
 
 -- the index of a new slot's message is among those that the datagram adds
 adds-it : (w : LinkRecord) (t : ℕ → Bool) (ps : List ℕ) (p : ℕ) (qs : List ℕ) → Receiver.is_new w p ≡ true → t (Messages.message_of w p) ≡ true
     → list_any (λ z. z == Messages.index_of w (Messages.message_of w p))
     (map (Messages.index_of w) (filter t (map (Messages.message_of w) (filter (Receiver.is_new w) (ps ++ p ∷ qs))))) ≡ true
 adds-it w t [] p qs new on' = cc (new, on', same-yes (Messages.index_of w (Messages.message_of w p)))
-adds-it w t (q ∷ ps) p qs new on' = step (Receiver.is_new w q) (t (Messages.message_of w q)) refl (adds-it w t ps p qs new on')
-  where
-    rest : List ℕ
-    rest = filter (Receiver.is_new w) (ps ++ p ∷ qs)
-
-    among : List ℕ → Bool
-    among l = list_any (λ z. z == Messages.index_of w (Messages.message_of w p)) (map (Messages.index_of w) l)
-
-    step : (a b : Bool) → t (Messages.message_of w q) ≡ b → among (filter t (map (Messages.message_of w) rest)) ≡ true
-        → among (filter t (map (Messages.message_of w) (if a then q ∷ rest else rest))) ≡ true
-    step false b e ih = ih
-    step true true e ih =
-        ap (λ c. among (if c then Messages.message_of w q ∷ filter t (map (Messages.message_of w) rest) else filter t (map (Messages.message_of w) rest))) e
-        ∙ or-right (Messages.index_of w (Messages.message_of w q) == Messages.index_of w (Messages.message_of w p))
-        (among (filter t (map (Messages.message_of w) rest))) ih
-    step true false e ih = cc (e, ih)
+adds-it w t (q ∷ ps) p qs new on' = grind (arith, nat_tests, or-right, (adds-it w t ps p qs new on'))
 
 fits-after : (w : LinkRecord) (k : ℕ) (d : Datagram) → refusal_of w (E.Arrive k) ≡ None → slice_get w.network k ≡ Some d
     → (Receiver.spans_fit w (adds_to_span w (Some d)) ≡ true) × (Receiver.spans_fit (Changes.after_arrive w (Some d)) (adds_to_span w (Some d)) ≡ true)
-fits-after w k d ok e =
-    let o : unless (is_for_receiver (Some d)) NoSuchDatagram (unless (arrival_fits w (Some d)) SpanTooWide None) ≡ None =
-    ap (λ x. unless (is_for_receiver x) NoSuchDatagram (unless (arrival_fits w x) SpanTooWide None)) (sym e) ∙ ok in
-    let first = unless-holds (is_for_receiver (Some d)) NoSuchDatagram (unless (arrival_fits w (Some d)) SpanTooWide None) o in
-    let second = unless-holds (arrival_fits w (Some d)) SpanTooWide None first.1 in
-    both (Receiver.spans_fit w (adds_to_span w (Some d))) (Receiver.spans_fit (Changes.after_arrive w (Some d)) (adds_to_span w (Some d))) second.0
+fits-after w k d ok e = grind (arith, nat_tests)
 
 pub slots_come_valid : OnEveryRun SlotsComeValid
 slots_come_valid setup h is run k ps p qs ok e =
@@ -486,18 +381,13 @@ slots_come_valid setup h is run k ps p qs ok e =
         (λ k lt g. held-later (view v) (view z) b.consistent.sender l s k lt g)
         (λ y g. one y m same index-v index-z all.shapes (adds-it w (Messages.is_ordered_on w s) ps p qs (new-later w v p first.1 new) on-w) g) span
       where
-        or-none : (a : Bool) → (a || false) ≡ a
-        or-none true = refl
-        or-none false = refl
-
         one : (y m : ℕ) → Messages.message_of v p ≡ m → ((k : ℕ) → Messages.index_of v k ≡ Messages.index_of w k)
             → ((k : ℕ) → Messages.index_of z k ≡ Messages.index_of w k) → shape z ≡ shape w → list_any (λ z. z == Messages.index_of w (Messages.message_of w p))
             (map (Messages.index_of w) (filter (Messages.is_ordered_on w s) (map (Messages.message_of w) (filter (Receiver.is_new w) (ps ++ p ∷ qs))))) ≡ true
             → ((Messages.index_of v (Messages.message_of v p) == y) || false) ≡ true → list_any (λ z. z == y)
             (map (Messages.index_of z) (filter (Messages.is_ordered_on z s) (map (Messages.message_of w) (filter (Receiver.is_new w) (ps ++ p ∷ qs))))) ≡ true
         one y m same iv iz shapes a g =
-            let e' : Messages.index_of v (Messages.message_of v p) ≡ y =
-            same-is (Messages.index_of v (Messages.message_of v p)) y (sym (or-none (Messages.index_of v (Messages.message_of v p) == y)) ∙ g) in
+            let e' : Messages.index_of v (Messages.message_of v p) ≡ y = grind (arith, nat_tests) in
             let y' : Messages.index_of w (Messages.message_of w p) ≡ y =
             sym (iv (Messages.message_of v p) ∙ ap (Messages.index_of w) (ap (λ x. (x.slot p).message) first.1.shapes)) ∙ e' in
             ap (λ x. list_any (λ z. z == y) (map (index x) (filter (on x s) (map (Messages.message_of w) (filter (Receiver.is_new w) (ps ++ p ∷ qs)))))) shapes
@@ -528,8 +418,4 @@ skips_come_valid setup h is run k upto names ok e counts s opens = (
     adds = ap (λ b. if b then names else []) counted
 
     still-open : Messages.is_open v s ≡ true
-    still-open = by (Changes.skip_counts w upto)
-      where
-        by : (b : Bool) → Messages.is_open (if b then record w { skipped = upto + 1; streams = map (Changes.named_by w names) w.streams } else w) s ≡ true
-        by true = open-mapped (Changes.named_by w names) s w.streams (λ r. refl) ∙ opens
-        by false = opens
+    still-open = grind (arith, nat_tests, open-mapped)

@@ -1,22 +1,15 @@
 -- What the receiver's laws speak of: the shape of the record, what arrived, what was read, and what each stream knows.
-use Rattle.std.proofs.Common.{◌≡◌, ℕ, ◌+◌, ◌<◌, Bool, true, false, List, [], ◌∷◌, ◌++◌, length, map, take, drop, Option, Some, None, refl, ap, sym, ◌∙◌}
-use Rattle.std.proofs.Math.Path.{fun_ext}
-use Rattle.std.specs.Prelude.{if◌then◌else◌, ◌==◌, ◌&&◌, ◌||◌, not, nat_lt, nat_le, find, is_some, unwrap_or, max}
-use Rattle.std.specs.List.{list_any, filter}
-use Rattle.sctp_util.specs.Kept.{numbers_where, leading, first_of, or_else}
-use Rattle.sctp_util.proofs.More.{not_both, changed-same, changed-other}
-use Rattle.sctp_data.specs.declared.chunk.chunk_payload_data.ReliabilityType.{ReliabilityType}
-use Rattle.sctp_model.specs.LinkRecord.{StreamRecord, Sack, Report, LinkRecord}
+use Rattle.sctp_model.proofs.Names.{◌≡◌, ℕ, ◌+◌, ◌<◌, Bool, true, false, List, [], ◌∷◌, ◌++◌, length, map, take, drop, Option, Some, None, refl, ap, sym, ◌∙◌}
+use Rattle.sctp_model.proofs.Names.{fun_ext, if◌then◌else◌, ◌==◌, ◌&&◌, ◌||◌, not, nat_lt, nat_le, find, is_some, unwrap_or, max, list_any, filter}
+use Rattle.sctp_model.proofs.Names.{numbers_where, leading, first_of, or_else, not_both, changed-same, changed-other, ReliabilityType, StreamRecord, Sack}
+use Rattle.sctp_model.proofs.Names.{Report, LinkRecord, no_stream, no_slot, no_message, stream_at, stream_of, arrived_at, greatest, same-is, get-changed}
+use Rattle.sctp_model.proofs.Names.{get-numbered, arith, nat_tests}
 use Rattle.sctp_model.specs.Messages
-use Rattle.sctp_model.specs.Messages.{no_stream, no_slot, no_message, stream_at, stream_of}
-use Rattle.sctp_model.specs.Receiver.{arrived_at, greatest}
 use Rattle.sctp_model.specs.Changes
 use Rattle.sctp_model.proofs.sender.Shape.{Shape, shape, has, parts, on, index}
 use Rattle.sctp_model.proofs.sender.Shapes
 use Rattle.sctp_model.proofs.sender.SenderRun.{found}
 use Rattle.sctp_model.proofs.receiver.Arrivals.{with_arrived}
-use Rattle.sctp_util.proofs.Cases.{by_same, same-yes, same-is}
-use Rattle.sctp_util.proofs.Getting.{get-changed, get-numbered}
 
 pub record View : Type 0 where
   pub x : Shape
@@ -98,40 +91,23 @@ Changed f (Some r) = Some (f r)
 pub find-mapped : (f : StreamRecord → StreamRecord) → ((r : StreamRecord) → (f r).stream ≡ r.stream) → (t : ℕ) (rs : List StreamRecord)
     → find (λ r. r.stream == t) (map f rs) ≡ (Changed f (find (λ r. r.stream == t) rs))
 find-mapped f keeps t [] = refl
-find-mapped f keeps t (r ∷ rs) = step ((f r).stream == t) (r.stream == t) (ap (λ a. a == t) (keeps r)) (find-mapped f keeps t rs)
-  where
-    step : (a b : Bool) → a ≡ b → find (λ r. r.stream == t) (map f rs) ≡ Changed f (find (λ r. r.stream == t) rs)
-        → (if a then Some (f r) else find (λ r. r.stream == t) (map f rs)) ≡ Changed f (if b then Some r else find (λ r. r.stream == t) rs)
-    step true true e ih = refl
-    step false false e ih = ih
-    step true false e ih = cc
-    step false true e ih = cc
+find-mapped f keeps t (r ∷ rs) = grind (arith, nat_tests, (find-mapped f keeps t rs))
 
 -- a field of the record of a stream, where the change leaves it
 pub field-kept : {A : Type 0} (g : StreamRecord → A) (f : StreamRecord → StreamRecord) → ((r : StreamRecord) → (f r).stream ≡ r.stream)
     → ((r : StreamRecord) → g (f r) ≡ g r) → (w : LinkRecord) (t : ℕ) → g (stream_of (record w { streams = map f w.streams }) t) ≡ g (stream_of w t)
-field-kept {A} g f keeps same w t = ap (λ o. g (unwrap_or o (no_stream t))) (find-mapped f keeps t w.streams) ∙ by (stream_at w t)
-  where
-    by : (o : Option StreamRecord) → g (unwrap_or (Changed f o) (no_stream t)) ≡ g (unwrap_or o (no_stream t))
-    by None = refl
-    by (Some r) = same r
+field-kept {A} g f keeps same w t = grind (arith, nat_tests, find-mapped)
 
 pub find-more : (s t : ℕ) (rs : List StreamRecord) → is_some (find (λ r. r.stream == s) rs) ≡ false
     → unwrap_or (find (λ r. r.stream == t) (rs ++ no_stream s ∷ [])) (no_stream t) ≡ unwrap_or (find (λ r. r.stream == t) rs) (no_stream t)
-find-more s t [] e = step (s == t) refl
-  where
-    step : (b : Bool) → (s == t) ≡ b → unwrap_or (if b then Some (no_stream s) else None) (no_stream t) ≡ no_stream t
-    step true e = ap no_stream (same-is s t e)
-    step false e = refl
+find-more s t [] e = grind (arith, nat_tests)
 find-more s t (r ∷ rs) e = step (r.stream == s) e (λ h. find-more s t rs h) (r.stream == t)
   where
     step : (a : Bool) → is_some (if a then Some r else find (λ r. r.stream == s) rs) ≡ false → (is_some (find (λ r. r.stream == s) rs) ≡ false
         → unwrap_or (find (λ r. r.stream == t) (rs ++ no_stream s ∷ [])) (no_stream t) ≡ unwrap_or (find (λ r. r.stream == t) rs) (no_stream t)) → (b : Bool)
         → unwrap_or (if b then Some r else find (λ r. r.stream == t) (rs ++ no_stream s ∷ []))
         (no_stream t) ≡ unwrap_or (if b then Some r else find (λ r. r.stream == t) rs) (no_stream t)
-    step true h ih b = cc
-    step false h ih true = refl
-    step false h ih false = ih h
+    step a h1 h2 b = grind (arith, nat_tests)
 
 -- ## The view after each change
 
@@ -144,16 +120,11 @@ view-streams : (w : LinkRecord) (rs : List StreamRecord) (named : ℕ → ℕ) (
 view-streams w rs named complete a b = cc (fun_ext a, fun_ext b)
 
 pub view-opened : (w : LinkRecord) (s : ℕ) → Messages.is_open w s ≡ false → view (Changes.after_open w s) ≡ view w
-view-opened w s e = view-streams w (w.streams ++ no_stream s ∷ []) (view w).named (view w).complete (λ t. ap (λ r. r.named) (find-more s t w.streams e))
-    (λ t. ap (λ r. r.complete) (find-more s t w.streams e))
+view-opened w s e = grind (arith, nat_tests, find-more)
 
 pub either-keeps : {A : Type 0} (g : StreamRecord → A) (f : StreamRecord → StreamRecord) → ((r : StreamRecord) → g (f r) ≡ g r) → (s : ℕ) (r : StreamRecord)
     → g (if r.stream == s then f r else r) ≡ g r
-either-keeps g f same s r = step (r.stream == s)
-  where
-    step : (b : Bool) → g (if b then f r else r) ≡ g r
-    step true = same r
-    step false = refl
+either-keeps g f same s r = elim (r.stream == s) as (λ b. g (if b then f r else r) ≡ g r) [ true ↦ same r | false ↦ refl ]
 
 pub view-moded : (w : LinkRecord) (s : ℕ) (unordered : Bool) (reliability : ReliabilityType) (value : ℕ)
     → view (Changes.after_mode w s unordered reliability value) ≡ view w
@@ -171,38 +142,13 @@ view-taken w r =
     (fun_ext (λ p. get-numbered (Changes.acknowledged_by r) (λ x. x.arrived) (λ i x. refl) 0 p w.slots no_slot))
 
 pub view-arrived : (w : LinkRecord) (p : ℕ) → p < length w.slots → view (with_arrived w p) ≡ arrived_in (view w) p
-view-arrived w p lt =
-    ap (λ y. view_by y (arrived_at (with_arrived w p)) (view w).read (view w).named (view w).complete w.skipped) (Shapes.shape-arrived w p)
-    ∙ ap (λ f. view_by (shape w) f (view w).read (view w).named (view w).complete w.skipped) (fun_ext same)
-  where
-    same : (k : ℕ) → arrived_at (with_arrived w p) k ≡ (if k == p then true else arrived_at w k)
-    same k = by_same {P = arrived_at (with_arrived w p) k ≡ (if k == p then true else arrived_at w k)} k p
-        (λ e. ap (arrived_at (with_arrived w p)) e ∙ ap (λ x. x.arrived) (changed-same Changes.mark_arrived p w.slots no_slot lt)
-        ∙ sym (ap (λ b. if b then true else arrived_at w k) (ap (λ j. j == p) e ∙ same-yes p)))
-        (λ ne f. ap (λ x. x.arrived) (changed-other Changes.mark_arrived p k w.slots no_slot ne) ∙ sym (ap (λ b. if b then true else arrived_at w k) f))
+view-arrived w p lt = grind (arith, nat_tests, Shapes.shape-arrived, changed-same, changed-other)
 
 -- a change of one stream that is open
 pub field-changed : {A : Type 0} (g : StreamRecord → A) (h : A → A) (f : StreamRecord → StreamRecord) → ((r : StreamRecord) → (f r).stream ≡ r.stream)
     → ((r : StreamRecord) → g (f r) ≡ h (g r)) → (w : LinkRecord) (s t : ℕ) → Messages.is_open w s ≡ true
     → g (stream_of (Changes.stream_changed w s f) t) ≡ (if t == s then h (g (stream_of w t)) else g (stream_of w t))
-field-changed {A} g h f keeps same w s t open' =
-    ap (λ o. g (unwrap_or o (no_stream t))) (find-mapped c (either-keeps (λ r. r.stream) f keeps s) t w.streams) ∙ by (stream_at w t) refl
-  where
-    c : StreamRecord → StreamRecord
-    c r = if r.stream == s then f r else r
-
-    at : (r : StreamRecord) → r.stream ≡ t → (b : Bool) → (t == s) ≡ b → g (if r.stream == s then f r else r) ≡ (if b then h (g r) else g r)
-    at r z true e = ap (λ b. g (if b then f r else r)) (ap (λ k. k == s) z ∙ e) ∙ same r
-    at r z false e = ap (λ b. g (if b then f r else r)) (ap (λ k. k == s) z ∙ e)
-
-    none : (b : Bool) → (t == s) ≡ b → stream_at w t ≡ None → g (no_stream t) ≡ (if b then h (g (no_stream t)) else g (no_stream t))
-    none true e z = absurd (not_both (sym (ap is_some z) ∙ ap (Messages.is_open w) (same-is t s e) ∙ open'))
-    none false e z = refl
-
-    by : (o : Option StreamRecord) → stream_at w t ≡ o
-        → g (unwrap_or (Changed c o) (no_stream t)) ≡ (if t == s then h (g (unwrap_or o (no_stream t))) else g (unwrap_or o (no_stream t)))
-    by None e = none (t == s) refl e
-    by (Some r) e = at r (found t w.streams r e) (t == s) refl
+field-changed {A} g h f keeps same w s t open' = search (arith, nat_tests, find-mapped, either-keeps, not_both, same-is, found)
 
 pub view-noted : (w : LinkRecord) (s n : ℕ) → Messages.is_open w s ≡ true → view (Changes.stream_changed w s (Changes.with_complete n)) ≡ noted_in (view w) s n
 view-noted w s n o =

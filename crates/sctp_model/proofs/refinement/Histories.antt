@@ -1,16 +1,9 @@
 -- What every record that a history leads to keeps, and what one more event adds.
-use Rattle.std.proofs.Common.{◌≡◌, ℕ, ◌<◌, ◌≤◌, ◌^◌, true, [], ◌∷◌, length, Some, None, ap, sym, ◌∙◌}
-use Rattle.std.specs.Prelude.{slice_get}
-use Rattle.std.proofs.Math.Path.{subst}
+use Rattle.sctp_model.proofs.Names.{◌≡◌, ℕ, ◌<◌, ◌≤◌, ◌^◌, true, [], ◌∷◌, length, Some, None, ap, sym, arith, slice_get, subst, Event, Setup, LinkRecord}
+use Rattle.sctp_model.proofs.Names.{message_at, tsn_of, spans_fit, contents_of, datagram, History, IsRun, record_of, refusal_of, reply_to, after, IsSetup}
+use Rattle.sctp_model.proofs.Names.{IsValid, Outbound, RefinesOutbound, nat_tests}
 use Rattle.std.proofs.lemmas.Option.{slice_get_within}
-use Rattle.sctp_model.specs.declared.event.Event.{Event}
-use Rattle.sctp_model.specs.LinkRecord.{Setup, LinkRecord}
-use Rattle.sctp_model.specs.Messages.{message_at, tsn_of}
-use Rattle.sctp_model.specs.Receiver.{spans_fit}
-use Rattle.sctp_model.specs.Contents.{contents_of, contents_in, datagram}
-use Rattle.sctp_model.specs.Steps.{History, StandsFor, IsRun, record_of, refusal_of, reply_to, after}
-use Rattle.sctp_model.specs.Laws.{IsSetup}
-use Rattle.sctp_model.specs.Valid.{IsValid}
+use Rattle.sctp_model.specs.Steps.{StandsFor}
 use Rattle.sctp_model.proofs.sender.Shape.{shape}
 use Rattle.sctp_model.proofs.sender.SenderRun.{Consistent, consistent-run}
 use Rattle.sctp_model.proofs.sender.Network.{AllFit, fit-run, datagrams_stay}
@@ -19,11 +12,8 @@ use Rattle.sctp_model.proofs.receiver.ValidRun.{record_is_valid}
 use Rattle.sctp_model.proofs.refinement.sending.KindsRun.{Going, taken-run}
 use Rattle.sctp_model.proofs.refinement.sending.Fragments.{going-run}
 use Rattle.sctp_model.proofs.refinement.amounts.NoLarger.{no-larger}
-use Rattle.sctp_util.proofs.Cases.{some-same}
 use Rattle.sctp_model.specs.LinkRecord as W
 use Rattle.sctp_model.proofs.sender.Few
-use Rattle.sctp_outbound.specs.outbound_queue.OutboundQueue.{Outbound}
-use Rattle.sctp_model.specs.refinement.Refines.{RefinesOutbound}
 
 -- what every record that a history leads to keeps
 pub record Facts (w : LinkRecord) : Type 0 where
@@ -42,36 +32,17 @@ pub record Facts (w : LinkRecord) : Type 0 where
 -- those of the record of a history
 pub of-run : (setup : Setup) (h : History) → IsSetup setup → IsRun setup h → (record_of setup h).setup ≡ setup → Facts (record_of setup h)
 of-run setup h is run same =
-    let w = record_of setup h in
-    let consistent : Consistent w.setup w = subst (λ s. Consistent s w) (sym same) (consistent-run setup h run) in
-    record {
-      setup = subst IsSetup (sym same) is;
-      consistent = consistent;
-      going = subst (λ s. Going s w) (sym same) (going-run setup h run);
-      valid = record_is_valid setup h is run;
-      spans = spans_fit_always setup h is run;
-      few = Few.few w.setup w consistent;
-      taken = taken-run setup h is run;
-      fit = fit-run setup h run;
-      largest = λ n lt. let le = no-larger setup h n is run lt in subst (λ s. length (message_at w n).bytes ≤ s.largest) (sym same) le;
-      stays = λ e k none lt. datagrams_stay setup h is run e k none lt;
-    }
+    grind (arith, nat_tests, consistent-run, going-run, record_is_valid, spans_fit_always, Few.few, taken-run, fit-run, no-larger, datagrams_stay)
 
 -- after an accepted event the record stands for the longer history
 pub stands-then : {setup : Setup} {w : LinkRecord} {h : History} (e : Event) → refusal_of w e ≡ None → StandsFor setup w h
     → StandsFor setup (after w e) ((e, reply_to w e) ∷ h)
-stands-then e none s = record {
-  is = ap (λ v. after v e) s.is;
-  run = (ap (λ v. refusal_of v e) (sym s.is) ∙ none, (ap (λ v. reply_to v e) s.is, s.run));
-}
+stands-then e none s = grind (arith, nat_tests)
 
 -- what a datagram of before says after it
 pub says-still : {w : LinkRecord} (f : Facts w) (e : Event) → refusal_of w e ≡ None → (k : ℕ) (g g' : W.Datagram) → slice_get w.network k ≡ Some g
     → slice_get (after w e).network k ≡ Some g' → contents_of (after w e) g' ≡ contents_of w g
-says-still {w} f e none k g g' old new =
-    let lt = slice_get_within w.network k g old in
-    let same = f.stays e k none lt in
-    some-same (ap (contents_in (after w e)) (sym new) ∙ same ∙ ap (contents_in w) old)
+says-still {w} f e none k g g' old new = grind (arith, nat_tests, slice_get_within)
 
 -- ## A record that stands for a history
 

@@ -1,19 +1,10 @@
 -- What an event leaves of a record that stands for a history.
-use Rattle.std.proofs.Common.{◌≡◌, ℕ, true, false, length, None, refl, ap, sym, ◌∙◌}
-use Rattle.std.proofs.Math.Path.{subst}
-use Rattle.sctp_util.specs.Lists.{pieces}
-use Rattle.sctp_model.specs.declared.event.Event.{Event}
-use Rattle.sctp_model.specs.LinkRecord.{LinkRecord}
-use Rattle.sctp_model.specs.Messages.{ordered_before, message_at}
-use Rattle.sctp_model.specs.Receiver.{next_of}
-use Rattle.sctp_model.specs.Steps.{refusal_of, after, fragments_accepted, record_of}
-use Rattle.sctp_model.specs.Amounts.{in_all, written_bytes}
-use Rattle.sctp_model.specs.Queues.{filter_of}
+use Rattle.sctp_model.proofs.Names.{◌≡◌, ℕ, true, false, length, None, refl, ap, sym, ◌∙◌, arith, subst, pieces, Event, LinkRecord, ordered_before, message_at}
+use Rattle.sctp_model.proofs.Names.{next_of, refusal_of, after, fragments_accepted, record_of, in_all, written_bytes, filter_of, amount, keeps_amounts}
+use Rattle.sctp_model.proofs.Names.{counters_on, is_write, is_read, log_of, nat_tests}
 use Rattle.sctp_model.proofs.sender.SenderRun.{consistent-run, consistent-after}
 use Rattle.sctp_model.proofs.sender.Moves.{Quiet}
 use Rattle.sctp_model.specs.refinement.Holds.{reassembly_of}
-use Rattle.sctp_model.specs.refinement.Amount.{amount, keeps_amounts}
-use Rattle.sctp_model.specs.refinement.Counts.{counters_on, is_write, is_read}
 use Rattle.sctp_model.specs.refinement.Indexes.{begun_on}
 use Rattle.sctp_model.proofs.refinement.sending.BegunRun.{SendsNone, none-after}
 use Rattle.sctp_model.proofs.refinement.amounts.StreamCounters.{written-same, counters-same}
@@ -22,7 +13,6 @@ use Rattle.sctp_model.proofs.refinement.reading.ReadOne.{KeepsNext, next-same}
 use Rattle.sctp_model.proofs.refinement.amounts.MessageSums.{sum-same}
 use Rattle.sctp_model.proofs.receiver.ValidRun.{record_is_valid}
 use Rattle.sctp_model.proofs.receiver.Received.{received-run}
-use Rattle.sctp_model.specs.Log.{log_of}
 use Rattle.sctp_model.proofs.refinement.amounts.AnsweredSums.{answered-after}
 use Rattle.sctp_model.proofs.refinement.sending.QuietReceiver.{reassembly-quiet, filter-quiet}
 use Rattle.sctp_model.proofs.refinement.Histories.{Stands, facts}
@@ -45,9 +35,7 @@ module _ {w : LinkRecord} (s : Stands w) (e : Event) (ok : refusal_of w e ≡ No
 
   -- the index expected next
   pub next-kept : KeepsNext e → (t : ℕ) → next_of v t ≡ next_of w t
-  next-kept keeps t =
-      subst (λ u. refusal_of u e ≡ None → next_of (after u e) t ≡ next_of u t) (sym s.stands.is)
-      (λ ok'. next-same w.setup s.history e t s.setup s.stands.run ok' keeps) ok
+  next-kept keeps t = grind (arith, nat_tests, next-same)
 
   -- the receiver's queues, where the receiver knows of nothing new
   pub held-quiet : Quiet w v → (t : ℕ) → reassembly_of v t ≡ reassembly_of w t
@@ -59,13 +47,7 @@ module _ {w : LinkRecord} (s : Stands w) (e : Event) (ok : refusal_of w e ≡ No
       ok q
 
   pub filter-kept : Quiet w v → filter_of v ≡ filter_of w
-  filter-kept q =
-      subst (λ u. refusal_of u e ≡ None → Quiet u (after u e) → filter_of (after u e) ≡ filter_of u) (sym s.stands.is)
-      (λ ok' q'. let g = consistent-run w.setup s.history s.stands.run in
-      filter-quiet w.setup (record_of w.setup s.history) (after (record_of w.setup s.history) e)
-      (log_of w.setup s.history) g (consistent-after w.setup (record_of w.setup s.history) e ok' g) q' (received-run w.setup s.history s.setup s.stands.run)
-      (record_is_valid w.setup s.history s.setup s.stands.run))
-      ok q
+  filter-kept q = grind (arith, nat_tests, consistent-run, filter-quiet, consistent-after, received-run, record_is_valid)
 
   -- indexes, where no fragment is sent
   pub begun-kept : SendsNone e → (t : ℕ) → begun_on v t ≡ begun_on w t

@@ -1,16 +1,15 @@
 -- Lists that are tested, changed, put into order or cut.
-use Rattle.std.proofs.Common.{◌≡◌, ℕ, suc, ◌<◌, Bool, true, List, [], ◌∷◌, length, get_or, refl, arith, zero, ◌+◌, false, Some, ap, sym, ◌∙◌, take, ◌≤◌, drop}
-use Rattle.std.proofs.Common.{None, ◌++◌, map, length-take}
-use Rattle.std.specs.List.{list_all, list_any, AllByRecursion, filter}
-use Rattle.std.specs.Prelude.{◌&&◌, slice_get, find, if◌then◌else◌, slice_index_or, slice_set, is_some, min}
+use Rattle.sctp_model.proofs.Names.{◌≡◌, ℕ, suc, ◌<◌, Bool, true, List, [], ◌∷◌, length, get_or, refl, arith, zero, ◌+◌, false, Some, ap, sym, ◌∙◌, take, ◌≤◌}
+use Rattle.sctp_model.proofs.Names.{drop, None, ◌++◌, map, list_all, list_any, filter, slice_get, find, if◌then◌else◌, slice_index_or, is_some, min, subst, and}
+use Rattle.sctp_model.proofs.Names.{change_at, change_where, insert_before, pieces, nat_tests}
+use Rattle.std.proofs.Common.{length-take}
+use Rattle.std.specs.List.{AllByRecursion}
+use Rattle.std.specs.Prelude.{slice_set}
 use Rattle.std.proofs.lemmas.Option.{slice_get-get_or}
 use Rattle.std.proofs.lemmas.List.Folds.{list_all_more}
 use Rattle.std.proofs.Math.ListN.{drop_of_length-le}
 use Rattle.std.proofs.Math.Seq.{drop-cons}
-use Rattle.std.proofs.Math.Path.{subst}
-use Rattle.sctp_util.proofs.More.{and}
 use Rattle.sctp_data.specs.declared.chunk.chunk_selective_ack.GapAckBlock.{GapAckBlock}
-use Rattle.sctp_util.specs.Lists.{change_at, change_where, insert_before, pieces}
 
 -- ## Tests of all and of some
 
@@ -27,11 +26,7 @@ all-more P (r ∷ rs) i b lt h e = cc (list_all_more P (r ∷ rs) i r lt, e, h (
 pub all-no : {X : Type 0} (P : X → Bool) (rs : List X) (i : ℕ) → list_all P (take i rs) ≡ false → list_all P rs ≡ false
 all-no P rs zero e = cc
 all-no P [] (suc i) e = cc
-all-no P (r ∷ rs) (suc i) e = step (P r) e (λ h. all-no P rs i h)
-  where
-    step : (b : Bool) → (b && list_all P (take i rs)) ≡ false → (list_all P (take i rs) ≡ false → list_all P rs ≡ false) → (b && list_all P rs) ≡ false
-    step true e ih = ih e
-    step false e ih = refl
+all-no P (r ∷ rs) (suc i) e = grind (arith, nat_tests, all-no P rs i)
 
 pub any-same : (p q : GapAckBlock → Bool) (old new : List GapAckBlock) → length new ≡ length old
     → ((i : ℕ) (d : GapAckBlock) → i < length old → p (get_or new i d) ≡ q (get_or old i d)) → list_any p new ≡ list_any q old
@@ -43,9 +38,7 @@ any-same p q (b ∷ bs) (c ∷ cs) e h = cc (h 0 b (omega arith), any-same p q b
 -- one TSN further in the search
 pub found-step : (p : ℕ → Bool) (ts : List ℕ) (i : ℕ) (b : Bool) → i < length ts → p (get_or ts i 0) ≡ b → find p ts ≡ find p (drop i ts)
     → find p ts ≡ (if b then Some (get_or ts i 0) else find p (drop (i + 1) ts))
-found-step p ts i b lt e h =
-    h ∙ ap (find p) (drop-cons ts i 0 lt) ∙ ap (λ c. if c then Some (get_or ts i 0) else find p (drop (suc i) ts)) e
-    ∙ ap (λ k. if b then Some (get_or ts i 0) else find p (drop k ts)) (let z : suc i ≡ i + 1 = omega arith in z)
+found-step p ts i b lt e h = cc (h, drop-cons ts i 0 lt, e, (let z : suc i ≡ i + 1 = omega arith in z))
 
 -- past its end
 pub found-none : (p : ℕ → Bool) (ts : List ℕ) (i : ℕ) → length ts ≤ i → find p ts ≡ find p (drop i ts) → None ≡ find p ts
@@ -76,12 +69,7 @@ map-set f g (x ∷ xs) (suc i) y d lt e = ap (λ bs. f x ∷ bs) (map-set f g xs
 -- none is changed where none is found
 pub none-changed : {X : Type 0} (p : X → Bool) (f : X → X) (xs : List X) → is_some (find p xs) ≡ false → change_where p f xs ≡ xs
 none-changed p f [] none = refl
-none-changed p f (x ∷ xs) none = by (p x) none (none-changed p f xs)
-  where
-    by : (b : Bool) → is_some (if b then Some x else find p xs) ≡ false → (is_some (find p xs) ≡ false → change_where p f xs ≡ xs)
-        → (if b then f x else x) ∷ change_where p f xs ≡ x ∷ xs
-    by true e rest = absurd (cc)
-    by false e rest = ap (λ ys. x ∷ ys) (rest e)
+none-changed p f (x ∷ xs) none = grind (arith, nat_tests, none-changed p f xs)
 
 pub same-at : {A B : Type 0} (f : A → ℕ) (g : B → ℕ) (xs : List A) (ys : List B) (k : ℕ) (d : A) (e : B) → map f xs ≡ map g ys → k < length xs
     → f (slice_index_or xs k d) ≡ g (slice_index_or ys k e)
@@ -94,21 +82,11 @@ same-at f g (x ∷ xs) (y ∷ ys) (suc k) d e same lt = let h : map f xs ≡ map
 pub twice : {X : Type 0} (p : X → Bool) (f g : X → X) → ((x : X) → p (f x) ≡ p x) → (xs : List X)
     → change_where p g (change_where p f xs) ≡ change_where p (λ x. g (f x)) xs
 twice p f g same [] = refl
-twice p f g same (x ∷ xs) = ap (λ y. y ∷ change_where p g (change_where p f xs)) (by (p x) refl (same x))
-    ∙ ap (λ ys. (if p x then g (f x) else x) ∷ ys) (twice p f g same xs)
-  where
-    by : (b : Bool) → p x ≡ b → p (f x) ≡ b
-        → (if p (if b then f x else x) then g (if b then f x else x) else (if b then f x else x)) ≡ (if b then g (f x) else x)
-    by true e h = ap (λ c. if c then g (f x) else f x) h
-    by false e h = ap (λ c. if c then g x else x) e
+twice p f g same (x ∷ xs) = grind (arith, nat_tests, twice p f g same xs)
 
 pub unchanged : {A : Type 0} (p : A → Bool) (f : A → A) → ((x : A) → f x ≡ x) → (xs : List A) → change_where p f xs ≡ xs
 unchanged p f same [] = refl
-unchanged p f same (x ∷ xs) = ap (λ y. y ∷ change_where p f xs) (by (p x)) ∙ ap (λ ys. x ∷ ys) (unchanged p f same xs)
-  where
-    by : (b : Bool) → (if b then f x else x) ≡ x
-    by true = same x
-    by false = refl
+unchanged p f same (x ∷ xs) = grind (arith, nat_tests, unchanged p f same xs)
 
 -- ## Parts
 
@@ -116,21 +94,11 @@ unchanged p f same (x ∷ xs) = ap (λ y. y ∷ change_where p f xs) (by (p x)) 
 pub filter-inserted : {X : Type 0} (p : X → Bool) (before : X → X → Bool) (x : X) (xs : List X) → p x ≡ false
     → filter p (insert_before before x xs) ≡ filter p xs
 filter-inserted p before x [] out = ap (λ b. if b then x ∷ [] else []) out
-filter-inserted p before x (e ∷ es) out = by (before x e) (filter-inserted p before x es out)
-  where
-    by : (b : Bool) → filter p (insert_before before x es) ≡ filter p es
-        → filter p (if b then x ∷ e ∷ es else e ∷ insert_before before x es) ≡ filter p (e ∷ es)
-    by true ih = ap (λ b. if b then x ∷ filter p (e ∷ es) else filter p (e ∷ es)) out
-    by false ih = ap (λ l. if p e then e ∷ l else l) ih
+filter-inserted p before x (e ∷ es) out = grind (arith, nat_tests, filter-inserted p before x es out)
 
 pub length-inserted : {X : Type 0} (before : X → X → Bool) (x : X) (xs : List X) → length (insert_before before x xs) ≡ length xs + 1
 length-inserted before x [] = refl
-length-inserted before x (e ∷ es) = by (before x e) (length-inserted before x es)
-  where
-    by : (b : Bool) → length (insert_before before x es) ≡ length es + 1
-        → length (if b then x ∷ e ∷ es else e ∷ insert_before before x es) ≡ length (e ∷ es) + 1
-    by true ih = omega arith
-    by false ih = omega (arith, ih)
+length-inserted before x (e ∷ es) = grind (arith, nat_tests, length-inserted before x es)
 
 -- no more are taken than there are
 pub take-min : {A : Type 0} (n k : ℕ) (xs : List A) → k ≡ min n (length xs) → take k xs ≡ take n xs

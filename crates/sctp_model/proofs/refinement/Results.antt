@@ -1,5 +1,6 @@
 -- What holds of a result, from what its callee says of each outcome.
-use Rattle.std.proofs.Common.{◌≡◌, Result, Ok, Err, Bool, true, false, Option, Some, None}
+use Rattle.sctp_model.proofs.Names.{◌≡◌, Bool, true, false, Option, Some, None}
+use Rattle.std.proofs.Common.{Result, Ok, Err}
 use Rattle.std.specs.Prelude.{is_err, OnOk, OnErr, IsOk, IfErr}
 
 pub on-error : {T E P : Type 0} (r : Result T E) (b : Bool) → b ≡ is_err r → b ≡ true → OnErr r P → P

@@ -1,6 +1,8 @@
 -- Walks that change each element of a list, or of its tail.
-use Rattle.std.proofs.Common.{◌≡◌, ◌<◌, ◌≤◌, ◌+◌, ◌-◌, ℕ, List, ◌++◌, length, get_or, set, take, drop, map, refl, sym, ap, ◌∙◌, arith, length-append}
-use Rattle.std.proofs.lemmas.List.{get_or_default, get_or-append_right, set-append_right, length-take-le, length-drop, take-append-drop, append-nil, take_all}
+use Rattle.sctp_model.proofs.Names.{◌≡◌, ◌<◌, ◌≤◌, ◌+◌, ◌-◌, ℕ, List, ◌++◌, length, get_or, take, drop, map, refl, sym, ap, ◌∙◌, arith, length-append}
+use Rattle.sctp_model.proofs.Names.{length-drop, nat_tests}
+use Rattle.std.proofs.Common.{set}
+use Rattle.std.proofs.lemmas.List.{get_or_default, get_or-append_right, set-append_right, length-take-le, take-append-drop, append-nil, take_all}
 use Rattle.std.proofs.lemmas.List.{drop_all}
 use Rattle.std.proofs.lemmas.List.Edits.{map_over_more}
 
@@ -18,11 +20,7 @@ module _ {X : Type 0} (f : X → X) where
   changed_none xs first = let none : first - first ≡ 0 = omega arith in rw none (sym (take-append-drop first xs))
 
   pub changed_all : (xs : List X) (first i : ℕ) → length xs ≤ i → changed_to first i xs ≡ take first xs ++ map f (drop first xs)
-  changed_all xs first i long =
-      let n = length-drop first xs in
-      let rest : length (drop first xs) ≤ i - first = omega (arith, n, long) in
-      rw (take_all (i - first) (drop first xs) rest, drop_all (i - first) (drop first xs) rest)
-      (ap (λ zs. take first xs ++ zs) (append-nil (map f (drop first xs))))
+  changed_all xs first i long = grind (arith, nat_tests, length-drop, take_all, drop_all, append-nil)
 
   pub changed_more : (xs ys : List X) (first i : ℕ) (r : X) → first ≤ i → i < length xs → length ys ≡ length xs → ys ≡ changed_to first i xs
       → set ys i (f (get_or ys i r)) ≡ changed_to first (i + 1) xs

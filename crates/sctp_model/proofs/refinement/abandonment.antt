@@ -1,9 +1,7 @@
 pub mod NothingHeld
 pub mod Released
-pub mod ExpiredLists
 pub mod Expired
 pub mod ExpiredReply
-pub mod AbandonedLists
 pub mod Abandoned
 pub mod AbandonedLate
 pub mod AbandonedEvents

@@ -1,5 +1,4 @@
 pub mod PendingBytes
-pub mod Owned
 pub mod InFlightBytes
 pub mod MessageSums
 pub mod StreamAmounts

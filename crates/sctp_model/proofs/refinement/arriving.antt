@@ -1,9 +1,7 @@
-pub mod Complete
 pub mod Arrival
 pub mod Stays
 pub mod Ordered
 pub mod Filter
-pub mod NextOfRun
 pub mod Unassembled
 pub mod Unordered
 pub mod UnorderedStep

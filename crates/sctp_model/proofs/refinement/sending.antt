@@ -15,7 +15,6 @@ pub mod Begun
 pub mod BegunRun
 pub mod Ahead
 pub mod Flying
-pub mod SameChunks
 pub mod Rooms
 pub mod Resending
 pub mod NextFragment

@@ -1,23 +1,13 @@
 -- A script played by the definitions: the answer to each event in the record reached so far, and what is shown of the last record.
-use Rattle.std.proofs.Common.{◌≡◌, refl}
-use Rattle.std.specs.Prelude.{ℕ, Bool, true, false, ◌&&◌, List, [], ◌∷◌, length, map, Option, Some, None, is_none, unwrap_or}
-use Rattle.sctp_util.proofs.More.{both}
-use Rattle.sctp_model.specs.declared.event.Event.{Event}
+use Rattle.sctp_model.proofs.Names.{◌≡◌, refl, ℕ, Bool, true, false, List, [], ◌∷◌, length, map, Option, Some, None, ◌&&◌, is_none, unwrap_or, both, Event}
+use Rattle.sctp_model.proofs.Names.{PayloadProtocolIdentifier, ChunkPayloadData, ChunkSet, fresh, Reply, LinkRefusal, Setup, StreamRecord, LinkRecord, Forward}
+use Rattle.sctp_model.proofs.Names.{start, History, IsRun, Ledger, ledger, buffered_amount, Counters, counters_of, Contents, contents_of, PendingFragment}
+use Rattle.sctp_model.proofs.Names.{pending_of, InFlightChunk, in_flight_of, filter_of, reassembly_of}
 use Rattle.sctp_model.specs.declared.event.Event.TheVariants.{Read}
-use Rattle.sctp_data.specs.declared.chunk.chunk_payload_data.PayloadProtocolIdentifier.{PayloadProtocolIdentifier}
-use Rattle.sctp_data.specs.declared.chunk.chunk_payload_data.ChunkPayloadData.{ChunkPayloadData}
-use Rattle.sctp_data.specs.ChunkSet.{ChunkSet, fresh}
-use Rattle.sctp_model.specs.Reply.{Reply}
 use Rattle.sctp_model.specs.Reply as R
-use Rattle.sctp_model.specs.declared.event.LinkRefusal.{LinkRefusal}
-use Rattle.sctp_model.specs.LinkRecord.{Setup, StreamRecord, LinkRecord, Forward, start}
 use Rattle.sctp_model.specs.Messages
 use Rattle.sctp_model.specs.Changes
 use Rattle.sctp_model.specs.Steps
-use Rattle.sctp_model.specs.Steps.{History, IsRun}
-use Rattle.sctp_model.specs.Amounts.{Ledger, ledger, buffered_amount, Counters, counters_of}
-use Rattle.sctp_model.specs.Contents.{Contents, contents_of}
-use Rattle.sctp_model.specs.Queues.{PendingFragment, pending_of, InFlightChunk, in_flight_of, filter_of, reassembly_of}
 
 -- an event; a Skip with its names as a plain list
 pub data Asked : Type 0 where

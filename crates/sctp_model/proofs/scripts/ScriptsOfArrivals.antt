@@ -1,13 +1,10 @@
 -- Scripts computed by the definitions: 6 scripts, 77 steps.
-use Rattle.std.proofs.Common.{◌≡◌, true, false, [], ◌∷◌, Some, refl}
-use Rattle.std.specs.Prelude.{codes}
+use Rattle.sctp_model.proofs.Names.{◌≡◌, true, false, [], ◌∷◌, Some, refl, codes, reply_to, DataContents, SackContents}
 use Rattle.sctp_model.specs.declared.event.Event.TheVariants as E
 use Rattle.sctp_model.specs.Reply as R
 use Rattle.sctp_data.specs.declared.chunk.chunk_payload_data.PayloadProtocolIdentifier.TheVariants as P
 use Rattle.sctp_data.specs.declared.chunk.chunk_payload_data.ReliabilityType.TheVariants as T
 use Rattle.sctp_model.specs.declared.event.LinkRefusal.TheVariants as F
-use Rattle.sctp_model.specs.Steps.{reply_to}
-use Rattle.sctp_model.specs.Contents.{DataContents, SackContents}
 use Rattle.sctp_model.proofs.scripts.Play.{link, chunk, Ask, ◌⇒◌, ◌⇏◌, hands, Plays, nothing, played}
 
 acknowledgement_and_resend : Plays (link 10 3 100 0) (

@@ -1,15 +1,11 @@
 -- Worked examples for the law without loss: histories that agree on one stream and in nothing else, and what counts as lost.
-use Rattle.std.proofs.Common.{◌≡◌, ℕ, Bool, true, false, List, [], ◌∷◌, map, Some, refl, sym, ◌∙◌, arith}
-use Rattle.std.specs.List.{list_all}
+use Rattle.sctp_model.proofs.Names.{◌≡◌, ℕ, Bool, true, false, List, [], ◌∷◌, map, Some, refl, sym, ◌∙◌, arith, list_all, Event, Setup, LinkRecord, LogEntry}
+use Rattle.sctp_model.proofs.Names.{◌++◌, numbers_from, SlotReceived, SkipReceived, Shown, modes_in, writes_on, started_in, log_of, History, record_of}
+use Rattle.sctp_model.proofs.Names.{IsReadWholly, arrivals_on, fragment_arrived, was_lost, has_loss_on, loses_nothing, ordered_run, complete_unordered}
+use Rattle.sctp_model.proofs.Names.{ordered_shown, unordered_shown}
 use Rattle.sctp_data.specs.declared.chunk.chunk_payload_data.PayloadProtocolIdentifier.TheVariants as P
 use Rattle.sctp_data.specs.declared.chunk.chunk_payload_data.ReliabilityType.TheVariants as T
-use Rattle.sctp_model.specs.declared.event.Event.{Event}
 use Rattle.sctp_model.specs.declared.event.Event.TheVariants as E
-use Rattle.sctp_model.specs.LinkRecord.{Setup, LinkRecord}
-use Rattle.sctp_model.specs.Log.{LogEntry, SlotReceived, SkipReceived, Shown, modes_in, writes_on, started_in, log_of}
-use Rattle.sctp_model.specs.Steps.{History, record_of}
-use Rattle.sctp_model.specs.Laws.{IsReadWholly, arrivals_on, fragment_arrived, was_lost, has_loss_on, loses_nothing, ordered_run, complete_unordered}
-use Rattle.sctp_model.specs.Laws.{ordered_shown, unordered_shown}
 use Rattle.sctp_model.proofs.scripts.Play.{answered, answered-run}
 use Rattle.sctp_model.proofs.Composed.{reads_are_settled}
 
@@ -17,6 +13,16 @@ use Rattle.sctp_model.proofs.Composed.{reads_are_settled}
 
 abbrev setup : Setup
 setup = record { first = 10; size = 3; largest = 100; limit = 0 }
+
+-- so many Sends at a moment, arrivals of these datagrams, and so many reads of stream 1
+abbrev sends : ℕ → ℕ → List Event
+sends now count = map (λ k. E.Send now) (numbers_from 0 count)
+
+abbrev arrivals : List ℕ → List Event
+arrivals datagrams = map (λ k. E.Arrive k) datagrams
+
+abbrev reads : ℕ → List Event
+reads count = map (λ k. E.Read 1) (numbers_from 0 count)
 
 -- stream 1: an ordered message of two fragments, an unordered one, an ordered one of which only the first fragment arrives, and one behind it; stream 2: a
 -- message that arrives
@@ -31,22 +37,7 @@ base_events =
     E.Write 1 P.Binary (102 ∷ 103 ∷ 104 ∷ 105 ∷ []) ∷
     E.Write 1 P.Binary (106 ∷ []) ∷
     E.Write 2 P.Binary (120 ∷ []) ∷
-    E.Send 0 ∷
-    E.Send 0 ∷
-    E.Send 0 ∷
-    E.Send 0 ∷
-    E.Send 0 ∷
-    E.Send 0 ∷
-    E.Send 0 ∷
-    E.Arrive 6 ∷
-    E.Arrive 0 ∷
-    E.Arrive 1 ∷
-    E.Arrive 2 ∷
-    E.Arrive 3 ∷
-    E.Arrive 5 ∷
-    E.Read 1 ∷
-    E.Read 1 ∷
-    []
+    sends 0 7 ++ arrivals (6 ∷ 0 ∷ 1 ∷ 2 ∷ 3 ∷ 5 ∷ []) ++ reads 2
 
 abbrev base : History
 base = answered setup base_events []
@@ -107,19 +98,7 @@ timed_events =
     E.Write 1 P.Binary (106 ∷ []) ∷
     E.Write 2 P.Binary (120 ∷ []) ∷
     E.Start 9 ∷
-    E.Send 10 ∷
-    E.Send 10 ∷
-    E.Send 10 ∷
-    E.Send 10 ∷
-    E.Send 10 ∷
-    E.Send 10 ∷
-    E.Arrive 1 ∷
-    E.Arrive 2 ∷
-    E.Arrive 0 ∷
-    E.Arrive 5 ∷
-    E.Read 1 ∷
-    E.Read 1 ∷
-    []
+    sends 10 6 ++ arrivals (1 ∷ 2 ∷ 0 ∷ 5 ∷ []) ++ reads 2
 
 abbrev timed : History
 timed = answered setup timed_events []
@@ -186,10 +165,7 @@ link_events =
     E.Acked 3 ∷
     E.Abandon 2 ∷
     E.Arrive 0 ∷
-    E.Read 1 ∷
-    E.Read 1 ∷
-    E.Read 1 ∷
-    []
+    reads 3
 
 abbrev link : History
 link = answered other link_events []

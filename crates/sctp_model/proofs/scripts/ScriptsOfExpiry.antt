@@ -1,11 +1,9 @@
 -- Scripts computed by the definitions: 9 scripts, 75 steps.
-use Rattle.std.proofs.Common.{true, false, [], ◌∷◌, Some, refl}
-use Rattle.std.specs.Prelude.{codes}
+use Rattle.sctp_model.proofs.Names.{true, false, [], ◌∷◌, Some, refl, codes, DataContents, SackContents}
 use Rattle.sctp_model.specs.declared.event.Event.TheVariants as E
 use Rattle.sctp_model.specs.Reply as R
 use Rattle.sctp_data.specs.declared.chunk.chunk_payload_data.PayloadProtocolIdentifier.TheVariants as P
 use Rattle.sctp_data.specs.declared.chunk.chunk_payload_data.ReliabilityType.TheVariants as T
-use Rattle.sctp_model.specs.Contents.{DataContents, SackContents}
 use Rattle.sctp_model.proofs.scripts.Play.{link, chunk, ◌⇒◌, Plays, nothing}
 
 dcep_never_expires : Plays (link 10 3 100 0) (

@@ -1,15 +1,10 @@
 -- Worked examples for the words of the laws: which messages are past their deadlines, which slots are late, how long a datagram is.
-use Rattle.std.proofs.Common.{◌≡◌, ℕ, Bool, true, false, List, [], ◌∷◌, map, Some, None, refl}
-use Rattle.std.specs.Prelude.{option_to_list}
+use Rattle.sctp_model.proofs.Names.{◌≡◌, ℕ, Bool, true, false, List, [], ◌∷◌, map, Some, None, refl, option_to_list, Event, Setup, Contents, DataContents}
+use Rattle.sctp_model.proofs.Names.{datagram, is_past_deadline_by_events, History, record_of, may_want_memory, data_length, packet_length, next_fragment}
+use Rattle.sctp_model.proofs.Names.{unsent_past_deadline, partially_sent_past_deadline, late_slots_by_events}
 use Rattle.sctp_data.specs.declared.chunk.chunk_payload_data.PayloadProtocolIdentifier.TheVariants as P
 use Rattle.sctp_data.specs.declared.chunk.chunk_payload_data.ReliabilityType.TheVariants as T
-use Rattle.sctp_model.specs.declared.event.Event.{Event}
 use Rattle.sctp_model.specs.declared.event.Event.TheVariants as E
-use Rattle.sctp_model.specs.LinkRecord.{Setup}
-use Rattle.sctp_model.specs.Contents.{Contents, DataContents, datagram}
-use Rattle.sctp_model.specs.Log.{is_past_deadline_by_events}
-use Rattle.sctp_model.specs.Steps.{History, record_of, may_want_memory}
-use Rattle.sctp_model.specs.Laws.{data_length, packet_length, next_fragment, unsent_past_deadline, partially_sent_past_deadline, late_slots_by_events}
 use Rattle.sctp_model.proofs.scripts.Play.{answered}
 
 abbrev setup_of : ℕ → Setup

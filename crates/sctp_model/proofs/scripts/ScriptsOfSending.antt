@@ -1,11 +1,9 @@
 -- Scripts computed by the definitions: 9 scripts, 63 steps.
-use Rattle.std.proofs.Common.{true, false, [], ◌∷◌, Some, None, refl}
-use Rattle.std.specs.Prelude.{codes}
+use Rattle.sctp_model.proofs.Names.{true, false, [], ◌∷◌, Some, None, refl, codes, DataContents, SackContents}
 use Rattle.sctp_model.specs.declared.event.Event.TheVariants as E
 use Rattle.sctp_model.specs.Reply as R
 use Rattle.sctp_data.specs.declared.chunk.chunk_payload_data.PayloadProtocolIdentifier.TheVariants as P
 use Rattle.sctp_model.specs.declared.event.LinkRefusal.TheVariants as F
-use Rattle.sctp_model.specs.Contents.{DataContents, SackContents}
 use Rattle.sctp_model.proofs.scripts.Play.{link, chunk, ◌⇒◌, ◌⇏◌, skips_not, hands, Plays, nothing}
 
 both_fragments_fit_with_padding : Plays (link 10 3 100 52) (

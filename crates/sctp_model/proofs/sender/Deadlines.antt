@@ -1,30 +1,15 @@
-use Rattle.std.proofs.Common.{◌≡◌, ℕ, zero, suc, ◌+◌, ◌*◌, ◌<◌, ◌≤◌, ◌^◌, Bool, true, false, List, [], ◌∷◌, length, map, Option, Some, None, refl, ap, sym, ◌∙◌}
-use Rattle.std.proofs.Common.{inl, inr, arith}
-use Rattle.std.specs.Prelude.{◌⊎◌, if◌then◌else◌, ◌==◌, ◌&&◌, ◌||◌, not, nat_lt, nat_le, slice_get, slice_index_or, option_to_list}
-use Rattle.std.specs.List.{list_any, filter}
-use Rattle.std.proofs.lemmas.Bool.{cases_lt}
-use Rattle.std.proofs.lemmas.Bool.Decides.{nat_tests}
-use Rattle.sctp_data.specs.Reliability.{is_past, is_timed}
-use Rattle.sctp_data.specs.PayloadTypes.{is_dcep}
-use Rattle.sctp_util.specs.Kept.{numbers_where, always, first_of}
-use Rattle.sctp_util.proofs.Cases.{or-none}
-use Rattle.sctp_util.proofs.Getting.{get-beyond}
-use Rattle.sctp_util.proofs.Passing.{kept-same}
-use Rattle.sctp_data.specs.declared.chunk.chunk_payload_data.ReliabilityType.{ReliabilityType}
-use Rattle.sctp_data.specs.declared.chunk.chunk_payload_data.ReliabilityType.TheVariants as T
-use Rattle.sctp_data.specs.declared.chunk.chunk_payload_data.PayloadProtocolIdentifier.{PayloadProtocolIdentifier}
-use Rattle.sctp_data.specs.declared.chunk.chunk_payload_data.PayloadProtocolIdentifier.TheVariants as P
+use Rattle.sctp_model.proofs.Names.{◌≡◌, ℕ, zero, suc, ◌+◌, ◌<◌, ◌≤◌, Bool, true, false, List, [], ◌∷◌, length, map, Option, Some, None, refl, ap, sym, ◌∙◌}
+use Rattle.sctp_model.proofs.Names.{inl, inr, arith, ◌⊎◌, if◌then◌else◌, ◌==◌, ◌&&◌, ◌||◌, not, nat_lt, nat_le, slice_get, slice_index_or, option_to_list}
+use Rattle.sctp_model.proofs.Names.{filter, cases_lt, nat_tests, numbers_where, always, first_of, or-none, get-beyond, kept-same, ReliabilityType}
+use Rattle.sctp_model.proofs.Names.{PayloadProtocolIdentifier, Setup, LinkRecord, growth, has_lifetime, is_over, is_past_deadline_by_events, writes_in}
+use Rattle.sctp_model.proofs.Names.{modes_in, taken_in, is_acknowledged_in, History, record_of, IsRun, after, expired_reply, tail_reply, OnEveryRun}
+use Rattle.sctp_model.proofs.Names.{DeadlinesByEvents, ExpiresPastDeadline, TailAbandonsPastDeadline, LateListsPastDeadline, answered_of, is_this}
+use Rattle.sctp_model.proofs.Names.{unsent_past_deadline, partially_sent_past_deadline, is_late_in, late_slots_by_events, shown_of, mode_of, is_past, is_timed}
+use Rattle.sctp_model.proofs.Names.{is_dcep}
 use Rattle.sctp_model.specs.declared.event.Event.TheVariants as E
 use Rattle.sctp_model.specs.Reply as R
-use Rattle.sctp_model.specs.LinkRecord.{Setup, LinkRecord}
 use Rattle.sctp_model.specs.Messages
-use Rattle.sctp_model.specs.Amounts.{growth}
 use Rattle.sctp_model.specs.Changes
-use Rattle.sctp_model.specs.Log.{has_lifetime, is_over, is_write_past_deadline, is_past_deadline_by_events, writes_in, modes_in, started_in, taken_in}
-use Rattle.sctp_model.specs.Log.{is_acknowledged_in}
-use Rattle.sctp_model.specs.Steps.{History, record_of, IsRun, after, expired_reply, tail_reply}
-use Rattle.sctp_model.specs.Laws.{OnEveryRun, DeadlinesByEvents, ExpiresPastDeadline, TailAbandonsPastDeadline, LateListsPastDeadline, answered_of, is_this}
-use Rattle.sctp_model.specs.Laws.{unsent_past_deadline, partially_sent_past_deadline, is_late_in, late_slots_by_events, shown_of, mode_of}
 use Rattle.sctp_model.proofs.sender.Shape.{shape, sent}
 use Rattle.sctp_model.proofs.sender.Shapes
 use Rattle.sctp_model.proofs.sender.Fronts.{front-takes, slot-sent}
@@ -32,7 +17,7 @@ use Rattle.sctp_model.proofs.sender.SenderRun.{consistent-run}
 use Rattle.sctp_model.proofs.sender.Written.{messages_are_writes}
 use Rattle.sctp_model.proofs.sender.Modes.{modes_are_kept}
 use Rattle.sctp_model.proofs.acknowledgement.Acknowledged.{acknowledged_is_reported}
-use Rattle.sctp_model.proofs.sender.Lifetimes.{starts_once, writes-count, late_abandons_listed, abandoned-by, swap}
+use Rattle.sctp_model.proofs.sender.Lifetimes.{starts_once, writes-count, late_abandons_listed, abandoned-by}
 
 -- Which messages are past their deadlines, by the events alone, and that Expire, Tail and Late go by it.
 
@@ -46,36 +31,16 @@ got-mapped f (x ∷ xs) (suc n) d lt = got-mapped f xs n d (omega arith)
 got-number : {B : Type 0} (f : ℕ → B) (from count n : ℕ) → n < count → slice_get (map f (numbers_where always from count)) n ≡ Some (f (from + n))
 got-number f from zero n lt = absurd (omega arith)
 got-number f from (suc count) zero lt = let z : from ≡ from + 0 = omega arith in ap (λ k. Some (f k)) z
-got-number f from (suc count) (suc n) lt = let z : from + 1 + n ≡ from + suc n = omega arith in
-    got-number f (from + 1) count n (omega arith) ∙ ap (λ k. Some (f k)) z
+got-number f from (suc count) (suc n) lt = grind (arith, nat_tests, (got-number f (from + 1) count n (omega arith)))
 
 got-none : {A : Type 0} (xs : List A) (n : ℕ) → length xs ≤ n → slice_get xs n ≡ None
 got-none [] n le = refl
 got-none (x ∷ xs) zero le = absurd (omega arith)
 got-none (x ∷ xs) (suc n) le = got-none xs n (omega arith)
 
-timed-lifetime : (ppi : PayloadProtocolIdentifier) → not (is_dcep ppi) ≡ has_lifetime T.Timed ppi
-timed-lifetime P.Dcep = refl
-timed-lifetime P.String = refl
-timed-lifetime P.Binary = refl
-timed-lifetime P.StringEmpty = refl
-timed-lifetime P.BinaryEmpty = refl
-timed-lifetime P.Unknown = refl
-
-reached : (now value : ℕ) (b : Bool) (o : Option ℕ) → is_past now (if b then Messages.deadline_from value o else None) ≡ (b && is_over now value o)
-reached now value false o = refl
-reached now value true None = refl
-reached now value true (Some t) = step (nat_lt (t + value * 1000000) (2 ^ 64))
-  where
-    step : (b : Bool) → is_past now (if b then Some (t + value * 1000000) else None) ≡ (b && nat_le (t + value * 1000000) now)
-    step true = refl
-    step false = refl
-
 lapses : (now value : ℕ) (ppi : PayloadProtocolIdentifier) (r : ReliabilityType) (o : Option ℕ)
     → is_past now (if is_timed r && not (is_dcep ppi) then Messages.deadline_from value o else None) ≡ (has_lifetime r ppi && is_over now value o)
-lapses now value ppi T.Reliable o = refl
-lapses now value ppi T.Rexmit o = refl
-lapses now value ppi T.Timed o = reached now value (not (is_dcep ppi)) o ∙ ap (λ b. b && is_over now value o) (timed-lifetime ppi)
+lapses now value ppi r o = grind (arith, nat_tests)
 
 pub deadlines_by_events : OnEveryRun DeadlinesByEvents
 deadlines_by_events setup h is run now n = step (cases_lt n (length (record_of setup h).messages))
@@ -92,22 +57,14 @@ deadlines_by_events setup h is run now n = step (cases_lt n (length (record_of s
         let mode : Some (mode_of m) ≡ slice_get (modes_in h) n = sym (got-mapped mode_of w.messages n Messages.no_message lt)
         ∙ ap (λ xs. slice_get xs n) (modes_are_kept setup h is run) in
         cc (lapses now m.value m.ppi m.reliability m.started, starts_once setup h is run n lt, write, mode)
-    step (inr le) =
-        ap (λ m. is_past now (if is_timed m.reliability && not (is_dcep m.ppi) then Messages.deadline_from m.value m.started else None))
-        (get-beyond w.messages n Messages.no_message le) ∙ sym (ap (λ x. is_write_past_deadline now (started_in h n) x (slice_get (modes_in h) n))
-        (got-none (writes_in h) n (omega (arith, le, writes-count setup h is run))))
+    step (inr le) = grind (arith, nat_tests, get-beyond, got-none, writes-count)
 
 -- ## Expire and Tail
 
 -- the front, where a test holds of it, as the record and as the law have it
 front-where : (w : LinkRecord) (p q : ℕ → Bool) (o : Option ℕ) → ((n : ℕ) → o ≡ Some n → p n ≡ q n)
     → Changes.front_if w p o ≡ first_of (filter q (option_to_list o))
-front-where w p q None same = refl
-front-where w p q (Some n) same = ap (λ b. if b then Some n else None) (same n refl) ∙ step (q n)
-  where
-    step : (b : Bool) → (if b then Some n else None) ≡ first_of (if b then n ∷ [] else [])
-    step true = refl
-    step false = refl
+front-where w p q o h1 = grind (arith, nat_tests)
 
 expiring-is : (setup : Setup) (h : History) → Rattle.sctp_model.specs.Laws.IsSetup setup → IsRun setup h → (now : ℕ)
     → Changes.expiring (record_of setup h) now ≡ unsent_past_deadline h (record_of setup h) now
@@ -118,10 +75,7 @@ expiring-is setup h is run now = front-where w (λ n. Messages.is_unsent w n && 
     w = record_of setup h
 
     mixed : (a b c d : Bool) → b ≡ false → c ≡ d → ((a && not b) && c) ≡ (d && a)
-    mixed true b c true e f = rw (e, f) refl
-    mixed true b c false e f = rw (e, f) refl
-    mixed false b c true e f = refl
-    mixed false b c false e f = refl
+    mixed a b c d h1 h2 = grind (arith, nat_tests)
 
     same : (n : ℕ) → Messages.front w ≡ Some n
         → (Messages.is_unsent w n && Messages.is_past_deadline w now n) ≡ (is_past_deadline_by_events h now n && (Messages.sent_of w n == 0))
@@ -137,10 +91,7 @@ tailing-is setup h is run now = front-where w (λ n. Messages.is_partially_sent 
     w = record_of setup h
 
     mixed : (a m b c d : Bool) → m ≡ true → b ≡ false → c ≡ d → ((a && (m && not b)) && c) ≡ (d && a)
-    mixed true m b c true i e f = rw (i, e, f) refl
-    mixed true m b c false i e f = rw (i, e, f) refl
-    mixed false m b c true i e f = refl
-    mixed false m b c false i e f = refl
+    mixed a m b c d h1 h2 h3 = grind (arith, nat_tests)
 
     same : (n : ℕ) → Messages.front w ≡ Some n
         → (Messages.is_partially_sent w n && Messages.is_past_deadline w now n) ≡ (is_past_deadline_by_events h now n && nat_lt 0 (Messages.sent_of w n))
@@ -153,13 +104,7 @@ tailing-is setup h is run now = front-where w (λ n. Messages.is_partially_sent 
 
 -- message n, or what was so before
 marked : (n m : ℕ) (b : Bool) → ((n == m) || b) ≡ (b || ((m == n) || false))
-marked n m b = ap (λ c. c || b) (swap m n) ∙ step (m == n) b
-  where
-    step : (a b : Bool) → (a || b) ≡ (b || (a || false))
-    step true true = refl
-    step true false = refl
-    step false true = refl
-    step false false = refl
+marked n m b = grind (arith, nat_tests)
 
 pub expires_past_deadline : OnEveryRun ExpiresPastDeadline
 expires_past_deadline setup h is run now = (
@@ -172,8 +117,7 @@ expires_past_deadline setup h is run now = (
 
     answered : (o : Option ℕ)
         → expired_reply w (after w (E.Expire now)) o ≡ answered_of (λ n. R.Expired (Messages.message_at w n).stream (growth w (after w (E.Expire now)))) o
-    answered None = refl
-    answered (Some n) = refl
+    answered o = grind (arith, nat_tests)
 
     gone : (n : ℕ) (o : Option ℕ) → (Messages.message_at (Changes.after_expire w o) n).expired ≡ ((Messages.message_at w n).expired || is_this o n)
     gone n None = sym (or-none (Messages.message_at w n).expired)
@@ -190,12 +134,10 @@ tail_abandons_past_deadline setup h is run now = (
 
     answered : (o : Option ℕ)
         → tail_reply w (after w (E.Tail now)) o ≡ answered_of (λ n. R.Released (Messages.message_at w n).stream (growth w (after w (E.Tail now)))) o
-    answered None = refl
-    answered (Some n) = refl
+    answered o = grind (arith, nat_tests)
 
     gone : (n : ℕ) (o : Option ℕ) → (Messages.message_at (Changes.after_tail w o) n).abandoned ≡ ((Messages.message_at w n).abandoned || is_this o n)
-    gone n None = sym (or-none (Messages.message_at w n).abandoned)
-    gone n (Some m) = abandoned-by w m n ∙ marked n m (Messages.message_at w n).abandoned
+    gone n o = grind (arith, nat_tests, abandoned-by)
 
 -- ## Late
 
@@ -209,17 +151,7 @@ slots-are setup h is run now =
 
     mixed : (f f' i l l' g a a' s m : Bool) → f ≡ f' → i ≡ true → l ≡ l' → a ≡ a' → s ≡ true
         → ((f && i) && (l && (not g && (not a || (s && (m && not g)))))) ≡ (f' && (l' && (not g && (not a' || m))))
-    mixed f f' i l l' true a a' s m e j k o q = rw (e, j, k) (none f' l')
-      where
-        none : (f l : Bool) → ((f && true) && (l && false)) ≡ (f && (l && false))
-        none true l = refl
-        none false l = refl
-    mixed f f' i l l' false a a' s m e j k o q = rw (e, j, k, o, q) (some f' l' a' m)
-      where
-        some : (f l a m : Bool) → ((f && true) && (l && (not a || (m && true)))) ≡ (f && (l && (not a || m)))
-        some false l a m = refl
-        some true l a true = refl
-        some true l a false = refl
+    mixed f f' i l l' g a a' s m h1 h2 h3 h4 h5 = grind (arith, nat_tests)
 
     same : (p : ℕ) → p < length w.slots → Changes.is_late w now p ≡ is_late_in setup h w now (Messages.message_of w p) p
     same p lt =
@@ -234,11 +166,4 @@ slots-are setup h is run now =
         (ap (λ t. nat_le t p) r.1) there (deadlines_by_events setup h is run now n) (r.0 p lt) begun
 
 pub late_lists_past_deadline : OnEveryRun LateListsPastDeadline
-late_lists_past_deadline setup h is run now = (
-  ap (λ ps. R.Late (length ps) (growth w (after w (E.Late now)))) (slots-are setup h is run now),
-  λ n lt. late_abandons_listed setup h is run now n lt
-      ∙ ap (λ ps. (Messages.message_at w n).abandoned || list_any (λ p. Messages.message_of w p == n) ps) (slots-are setup h is run now),
-)
-  where
-    w : LinkRecord
-    w = record_of setup h
+late_lists_past_deadline setup h is run now = grind (arith, nat_tests, slots-are, late_abandons_listed)

@@ -1,15 +1,10 @@
 -- There are fewer than 2^31 slots.
-use Rattle.std.proofs.Common.{◌≡◌, ℕ, zero, suc, ◌+◌, ◌<◌, ◌≤◌, ◌^◌, Bool, true, false, [], ◌∷◌, ◌++◌, length, refl, ap, sym, ◌∙◌, arith, length-append}
-use Rattle.std.specs.Prelude.{if◌then◌else◌, ◌==◌, ◌&&◌, not, nat_lt}
-use Rattle.std.proofs.lemmas.Bool.Decides.{nat_tests}
-use Rattle.sctp_util.specs.Kept.{numbers_where, always, total_over}
-use Rattle.sctp_util.proofs.Passing.{kept-snoc}
-use Rattle.sctp_model.specs.LinkRecord.{Setup, LinkRecord}
+use Rattle.sctp_model.proofs.Names.{◌≡◌, ℕ, zero, suc, ◌+◌, ◌<◌, ◌≤◌, ◌^◌, Bool, [], ◌∷◌, ◌++◌, length, refl, ap, sym, ◌∙◌, arith, length-append, if◌then◌else◌}
+use Rattle.sctp_model.proofs.Names.{◌==◌, ◌&&◌, not, nat_lt, nat_tests, numbers_where, always, total_over, kept-snoc, Setup, LinkRecord, by_same, same-yes}
+use Rattle.sctp_model.proofs.Names.{total-none, total-one, total-le}
 use Rattle.sctp_model.proofs.sender.Shape.{Shape, shape, sent, parts}
 use Rattle.sctp_model.proofs.sender.Sender.{Sender}
 use Rattle.sctp_model.proofs.sender.SenderRun.{Consistent, accepted_of}
-use Rattle.sctp_util.proofs.Cases.{by_same, same-yes}
-use Rattle.sctp_util.proofs.Totals.{total-none, total-one, total-le}
 
 -- each of so many things is of one of the messages
 counted : (g : ℕ → ℕ) (most things : ℕ) → ((p : ℕ) → p < things → g p < most)
@@ -39,16 +34,7 @@ counted g most (suc things) h =
 length-split : (p q : ℕ → Bool) (from count : ℕ)
     → length (numbers_where (λ k. p k && not (q k)) from count) + length (numbers_where (λ k. p k && q k) from count) ≡ length (numbers_where p from count)
 length-split p q from zero = refl
-length-split p q from (suc count) = step (p from) (q from) (length-split p q (from + 1) count)
-  where
-    step : (b c : Bool) → length (numbers_where (λ k. p k && not (q k)) (from + 1) count) + length (numbers_where (λ k. p k && q k) (from + 1) count)
-        ≡ length (numbers_where p (from + 1) count)
-        → length (if b && not c then from ∷ numbers_where (λ k. p k && not (q k)) (from + 1) count else numbers_where (λ k. p k && not (q k)) (from + 1) count)
-        + length (if b && c then from ∷ numbers_where (λ k. p k && q k) (from + 1) count else numbers_where (λ k. p k && q k) (from + 1) count)
-        ≡ length (if b then from ∷ numbers_where p (from + 1) count else numbers_where p (from + 1) count)
-    step true true ih = omega (arith, ih)
-    step true false ih = omega (arith, ih)
-    step false c ih = ih
+length-split p q from (suc count) = grind (arith, nat_tests, (length-split p q (from + 1) count))
 
 pub few-slots : (x : Shape) → Sender x → x.slots ≤ accepted_of x
 few-slots x s = omega (
@@ -58,9 +44,7 @@ few-slots x s = omega (
 )
   where
     one : (a b : Bool) (m p : ℕ) → m ≤ p → b ≡ nat_lt m p → m + (if a && b then 1 else 0) ≤ p
-    one true true m p le e = let z : m < p = (let w = sym e in grind (arith, nat_tests)) in omega arith
-    one true false m p le e = omega arith
-    one false b m p le e = omega arith
+    one a b m p h1 h2 = grind (arith, nat_tests)
 
     each : (n : ℕ) → n < x.count → length (numbers_where (λ p. (x.slot p).message == n) 0 x.slots) ≤ parts x n
     each n lt = omega (

@@ -1,23 +1,14 @@
-use Rattle.std.proofs.Common.{◌≡◌, ℕ, zero, suc, ◌+◌, ◌-◌, ◌*◌, ◌/◌, ◌<◌, ◌≤◌, Bool, true, false, List, [], ◌∷◌, length, map, Option, Some, None, refl, ap, sym}
-use Rattle.std.proofs.Common.{◌∙◌, inl, inr, arith}
-use Rattle.std.specs.Prelude.{◌⊎◌, if◌then◌else◌, nat_le, slice_index_or}
-use Rattle.std.proofs.lemmas.Bool.Decides.{nat_tests}
-use Rattle.sctp_util.specs.Kept.{numbers_where, always, numbers_from, total_over}
-use Rattle.sctp_util.specs.Lists.{pieces}
-use Rattle.sctp_util.proofs.Passing.{kept-snoc_in}
-use Rattle.sctp_util.proofs.Getting.{length-mapped}
-use Rattle.sctp_util.proofs.Totals.{length-numbers, total-append, total-kept_same}
-use Rattle.sctp_data.specs.declared.chunk.chunk_payload_data.ChunkPayloadData.{ChunkPayloadData}
+use Rattle.sctp_model.proofs.Names.{◌≡◌, ℕ, zero, suc, ◌+◌, ◌-◌, ◌*◌, ◌/◌, ◌<◌, ◌≤◌, Bool, true, false, List, [], ◌∷◌, length, map, Option, Some, None, refl}
+use Rattle.sctp_model.proofs.Names.{ap, sym, ◌∙◌, inl, inr, arith, ◌⊎◌, if◌then◌else◌, nat_le, slice_index_or, nat_tests, numbers_where, always, numbers_from}
+use Rattle.sctp_model.proofs.Names.{total_over, pieces, kept-snoc_in, length-mapped, length-numbers, total-append, total-kept_same, ChunkPayloadData, Setup}
+use Rattle.sctp_model.proofs.Names.{LinkRecord, chunk_at, contents_in, datagram, DataContents, History, record_of, IsRun, reply_to, after, sent_reply, IsSetup}
+use Rattle.sctp_model.proofs.Names.{OnEveryRun, WithinLimit, FilledToLimit, data_length, packet_length, next_fragment}
 use Rattle.sctp_model.specs.declared.event.Event.TheVariants as E
 use Rattle.sctp_model.specs.Reply as R
-use Rattle.sctp_model.specs.LinkRecord.{Setup, LinkRecord}
 use Rattle.sctp_model.specs.Messages
 use Rattle.sctp_model.specs.Changes
-use Rattle.sctp_model.specs.Contents.{chunk_at, contents_in, datagram, DataContents}
-use Rattle.sctp_model.specs.Steps.{History, record_of, IsRun, reply_to, after, sent_reply}
-use Rattle.sctp_model.specs.Laws.{IsSetup, OnEveryRun, WithinLimit, FilledToLimit, data_length, packet_length, next_fragment}
 use Rattle.sctp_model.proofs.sender.Shape.{Shape, shape, sent, slotted, front_of}
-use Rattle.sctp_model.proofs.sender.Sender.{slot-old, slot-new}
+use Rattle.sctp_model.proofs.sender.Sender.{slot-old}
 use Rattle.sctp_model.proofs.sender.SenderRun.{consistent-run}
 use Rattle.sctp_model.proofs.sender.Shapes
 use Rattle.sctp_model.proofs.sender.Sends.{takes_pending}
@@ -54,8 +45,7 @@ used-more w n start le =
     let old = total-kept_same f (λ p. data_length (data_in x p)) always start (x.slots - start)
     (λ k a b. ap (λ s. data_length (slice_index_or (pieces (length (x.message s.message).bytes) x.size (x.message s.message).bytes) s.fragment []))
     (slot-old x n k false (omega (arith, le)))) in
-    let new : f x.slots ≡ next_of w n = ap (λ s.
-    data_length (slice_index_or (pieces (length (x.message s.message).bytes) x.size (x.message s.message).bytes) s.fragment [])) (slot-new x n false) in
+    let new : f x.slots ≡ next_of w n = grind (arith, nat_tests) in
     omega (arith, all, old, new)
 
 -- ## As a datagram is filled
@@ -68,11 +58,7 @@ record Filling (setup : Setup) (start used : ℕ) (v : LinkRecord) : Type 0 wher
 
 filling-more : (setup : Setup) (start used : ℕ) (v : LinkRecord) (n : ℕ) → Filling setup start used v
     → Filling setup start (Changes.plus used (Changes.next_length_of v (Some n))) (Changes.with_slot v n false)
-filling-more setup start used v n f = record {
-  own = f.own;
-  begun = omega (arith, f.begun, ap (λ y. y.slots) (Shapes.shape-slot v n false));
-  is = omega (arith, f.is, ap (λ y. used_from y start) (Shapes.shape-slot v n false), used-more v n start f.begun, chunk-is (length (next_fragment v n)));
-}
+filling-more setup start used v n f = grind (arith, nat_tests, Shapes.shape-slot, used-more, chunk-is)
 
 -- what filling makes of a record of which this much was used
 record Filled (setup : Setup) (start used : ℕ) (v u : LinkRecord) : Type 0 where
@@ -97,8 +83,7 @@ fill setup start (suc most) used v f fuel = step (λ n g m. fill setup start mos
         → Filled setup start (used + more n) (Changes.with_slot v n false) (Changes.fill_datagram most (used + more n) (Changes.with_slot v n false))
 
     low : (n now : ℕ) (P : Type 0) → used + more n ≤ setup.limit → (now ≤ setup.limit) ⊎ ((now ≡ used + more n) × P) → now ≤ setup.limit
-    low n now P fits (inl l) = l
-    low n now P fits (inr e) = omega (arith, e.0, fits)
+    low n now P h1 h2 = grind (arith, nat_tests)
 
     test : (n : ℕ) → Rest n → Messages.front v ≡ Some n → (b : Bool) → nat_le (used + more n) v.setup.limit ≡ b
         → Filled setup start used v (if b then Changes.fill_datagram most (used + more n) (Changes.with_slot v n false) else v)
@@ -106,15 +91,7 @@ fill setup start (suc most) used v f fuel = step (λ n g m. fill setup start mos
         let fits : used + more n ≤ setup.limit = (let z : used + more n ≤ v.setup.limit = grind (arith, nat_tests) in omega (arith, z, limit)) in
         let r = rest (filling-more setup start used v n f) (omega (arith, fuel)) in
         record { length_now = r.length_now; filling = r.filling; kept_within = inl (low n r.length_now _ fits r.kept_within); full = r.full }
-    test n rest e false t = record {
-      length_now = used;
-      filling = f;
-      kept_within = inr (refl, refl);
-      full = λ k g.
-          let same : n ≡ k = cc in
-          let z : v.setup.limit < used + more n = grind (arith, nat_tests) in
-          omega (arith, z, limit, chunk-is (length (next_fragment v n)), ap (next_of v) same);
-    }
+    test n rest e false t = grind (arith, nat_tests)
 
     step : ((n : ℕ) → Rest n) → (o : Option ℕ) → Messages.front v ≡ o → Filled setup start used v (if Changes.chunk_fits v used (Changes.next_length_of v o)
         then Changes.fill_datagram most (Changes.plus used (Changes.next_length_of v o)) (Changes.send_fragment_of v o) else v)
@@ -139,12 +116,7 @@ send-fills setup w now n own e = step (Messages.front (Changes.after_start w now
     u = Changes.after_start w now
 
     base : Filling setup (length w.slots) 12 u
-    base = record {
-      own = own;
-      begun = omega arith;
-      is = let z : length w.slots - length w.slots ≡ 0 = omega arith in
-          sym (ap (λ c. 12 + total_over (λ p. data_length (data_in (shape u) p)) (numbers_from (length w.slots) c)) z);
-    }
+    base = grind (arith, nat_tests)
 
     step : (o : Option ℕ) → Messages.front u ≡ o → o ≡ Some n → Sent setup w now
     step o f g =
@@ -152,8 +124,8 @@ send-fills setup w now n own e = step (Messages.front (Changes.after_start w now
         let limit : u.setup.limit ≡ setup.limit = ap (λ t. t.limit) own in
         let r = fill setup (length w.slots) u.setup.limit (12 + Changes.chunk_length (length (next_fragment u n)))
         (Changes.with_slot u n false) one (omega (arith, limit)) in
-        let same : Changes.fill_datagram u.setup.limit (12 + Changes.chunk_length (length (next_fragment u n))) (Changes.with_slot u n false) ≡ taken w now =
-        sym (ap (λ o. Changes.fill_datagram u.setup.limit (Changes.plus 12 (Changes.next_length_of u o)) (Changes.send_fragment_of u o)) (f ∙ g)) in
+        let same : Changes.fill_datagram u.setup.limit (12 + Changes.chunk_length (length (next_fragment u n)))
+        (Changes.with_slot u n false) ≡ taken w now = grind (arith, nat_tests) in
         record {
           length_now = r.length_now;
           is = r.filling.is ∙ ap (λ v. used_from (shape v) (length w.slots)) same;
@@ -220,15 +192,7 @@ send-made setup h is run now d tsn ssn count chunks e m = step (Messages.front w
 pub within_limit : OnEveryRun WithinLimit
 within_limit setup h is run now d tsn ssn count chunks e m =
     let s = send-made setup h is run now d tsn ssn count chunks e m in
-    (s.many, λ several. low s several s.filled.kept_within)
-  where
-    w : LinkRecord
-    w = record_of setup h
-
-    low : (s : Made setup w now count chunks) → 1 < count → (s.filled.length_now ≤ setup.limit) ⊎ (length (taken w now).slots ≡ length w.slots + 1)
-        → packet_length chunks ≤ setup.limit
-    low s several (inl l) = omega (arith, l, s.is, s.filled.is)
-    low s several (inr one) = absurd (omega (arith, one, s.slots, several))
+    (s.many, λ several. (elim s.filled.kept_within [ inl l ↦ omega (arith, l, s.is, s.filled.is) | inr one ↦ absurd (omega (arith, one, s.slots, several)) ]))
 
 pub filled_to_limit : OnEveryRun FilledToLimit
 filled_to_limit setup h is run now d tsn ssn count n chunks e m f =

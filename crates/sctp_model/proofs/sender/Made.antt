@@ -1,16 +1,11 @@
 -- The datagrams of the record are those that the events and replies tell of.
-use Rattle.std.proofs.Common.{◌≡◌, ℕ, ◌+◌, ◌-◌, ◌<◌, ◌%◌, ◌^◌, [], ◌∷◌, ◌++◌, length, map, Option, Some, None, refl, ap, sym, ◌∙◌, arith, append-nil}
-use Rattle.std.proofs.lemmas.List.{map-append}
-use Rattle.sctp_util.specs.Kept.{numbers_from}
-use Rattle.sctp_model.specs.declared.event.Event.{Event}
+use Rattle.sctp_model.proofs.Names.{◌≡◌, ℕ, ◌+◌, ◌-◌, ◌<◌, ◌%◌, ◌^◌, [], ◌∷◌, ◌++◌, length, map, Option, Some, None, refl, ap, sym, ◌∙◌, arith, append-nil}
+use Rattle.sctp_model.proofs.Names.{map-append, numbers_from, Event, Setup, Datagram, LinkRecord, History, record_of, IsRun, reply_to, after, sent_reply}
+use Rattle.sctp_model.proofs.Names.{MadeData, made_by, made_in, place_in, IsSetup, OnEveryRun, NetworkIsMade, kind_of, nat_tests}
 use Rattle.sctp_model.specs.declared.event.Event.TheVariants as E
-use Rattle.sctp_model.specs.LinkRecord.{Setup, Datagram, Forward, LinkRecord, start}
 use Rattle.sctp_model.specs.LinkRecord as W
 use Rattle.sctp_model.specs.Messages
 use Rattle.sctp_model.specs.Changes
-use Rattle.sctp_model.specs.Steps.{History, record_of, IsRun, reply_to, after, sent_reply}
-use Rattle.sctp_model.specs.Log.{MadeData, MadeForward, made_by, made_in, place_in}
-use Rattle.sctp_model.specs.Laws.{IsSetup, OnEveryRun, NetworkIsMade, kind_of}
 use Rattle.sctp_model.proofs.sender.SenderRun.{Consistent, consistent-run}
 use Rattle.sctp_model.proofs.sender.Few.{few}
 use Rattle.sctp_model.proofs.sender.Network.{same-network, network-after}
@@ -40,22 +35,13 @@ made-sent setup w now (Some n) is g =
     (ap (λ l. l ++ W.Data (numbers_from (length u.slots) (length v.slots - length u.slots)) ∷ []) (same-network u))
     ∙ ap (λ i. map kind_of w.network ++ MadeData (numbers_from i (length v.slots - length w.slots)) ∷ []) (sym place)
 
-place-same : (setup : Setup) (w : LinkRecord) (tsn : ℕ) → Consistent setup w → Messages.place_of w tsn ≡ place_in setup tsn
-place-same setup w tsn g = ap (λ s. place_in s tsn) g.setup_is
-
 made-step : (setup : Setup) (w : LinkRecord) (e : Event) → IsSetup setup → Consistent setup w
     → map kind_of (after w e).network ≡ map kind_of w.network ++ made_by setup e (reply_to w e)
-made-step setup w (E.Send now) is g = made-sent setup w now (Messages.front w) is g
-made-step setup w (E.Resend tsn) is g = cc (kinds-more w (Changes.after_resend w tsn) (W.Data (Messages.place_of w tsn ∷ [])) refl, place-same setup w tsn g)
-made-step setup w (E.Skip upto names) is g = kinds-more w (after w (E.Skip upto names)) (Forward (Messages.place_of w upto) names.items) refl
-    ∙ ap (λ p. map kind_of w.network ++ MadeForward p names.items ∷ []) (place-same setup w upto g)
-made-step setup w (E.Ack credit) is g = map-append kind_of w.network _
-made-step setup w event is g = kinds-same w (after w event) (network-after w event refl)
+made-step setup w e h1 h2 = grind (arith, nat_tests, made-sent, map-append, kinds-same, network-after)
 
 pub made-run : (setup : Setup) (h : History) → IsSetup setup → IsRun setup h → map kind_of (record_of setup h).network ≡ made_in setup h
 made-run setup [] is run = refl
-made-run setup (entry ∷ older) is run =
-    cc (made-step setup (record_of setup older) entry.0 is (consistent-run setup older run.1.1), made-run setup older is run.1.1, run.1.0)
+made-run setup (entry ∷ older) is run = grind (arith, nat_tests, made-step, consistent-run, (made-run setup older is run.1.1))
 
 pub network_is_made : OnEveryRun NetworkIsMade
 network_is_made setup h is run = made-run setup h is run

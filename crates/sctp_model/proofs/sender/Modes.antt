@@ -1,22 +1,10 @@
-use Rattle.std.proofs.Common.{◌≡◌, ℕ, zero, suc, ◌+◌, Bool, true, false, List, [], ◌∷◌, ◌++◌, map, Option, Some, None, refl, ap, ◌∙◌, arith}
-use Rattle.std.specs.Prelude.{if◌then◌else◌, ◌==◌, not, slice_get, find, unwrap_or}
-use Rattle.std.proofs.lemmas.List.{map-append}
-use Rattle.std.proofs.lemmas.Bool.Decides.{nat_tests}
-use Rattle.sctp_util.specs.Lists.{change_at}
-use Rattle.sctp_util.proofs.More.{same_test}
-use Rattle.sctp_util.proofs.Cases.{negated}
-use Rattle.sctp_model.specs.declared.event.Event.{Event}
+use Rattle.sctp_model.proofs.Names.{◌≡◌, ℕ, zero, suc, ◌+◌, Bool, true, false, List, [], ◌∷◌, map, Option, Some, None, refl, ap, ◌∙◌, arith, if◌then◌else◌}
+use Rattle.sctp_model.proofs.Names.{◌==◌, slice_get, find, unwrap_or, map-append, nat_tests, change_at, same_test, Event, StreamUnknown, Reply, Setup}
+use Rattle.sctp_model.proofs.Names.{StreamRecord, Message, Datagram, Data, Forward, Sack, LinkRecord, stream_of, next_read, Mode, mode_in, modes_in, History}
+use Rattle.sctp_model.proofs.Names.{record_of, IsRun, refusal_of, after, OnEveryRun, ModesAreKept, mode_of}
 use Rattle.sctp_model.specs.declared.event.Event.TheVariants as E
-use Rattle.sctp_model.specs.declared.event.LinkRefusal.TheVariants.{StreamUnknown, StreamOpen}
-use Rattle.sctp_model.specs.Reply.{Reply}
-use Rattle.sctp_model.specs.LinkRecord.{Setup, StreamRecord, Message, Datagram, Data, Forward, Sack, LinkRecord}
 use Rattle.sctp_model.specs.Messages
-use Rattle.sctp_model.specs.Messages.{stream_of}
-use Rattle.sctp_model.specs.Receiver.{next_read, is_new}
 use Rattle.sctp_model.specs.Changes
-use Rattle.sctp_model.specs.Log.{Mode, mode_in, modes_in}
-use Rattle.sctp_model.specs.Steps.{History, record_of, IsRun, refusal_of, after}
-use Rattle.sctp_model.specs.Laws.{OnEveryRun, ModesAreKept, mode_of}
 use Rattle.sctp_model.proofs.sender.SenderRun.{consistent-run, fold-keeps, unless-holds, written_as}
 use Rattle.sctp_model.proofs.sender.Moves
 use Rattle.sctp_model.proofs.receiver.View.{field-kept, field-changed, find-more, either-keeps}
@@ -42,18 +30,7 @@ modes-changed : (w : LinkRecord) (s : ℕ) (f : StreamRecord → StreamRecord) �
 modes-changed w s f a b t = field-kept mode_now (λ r. if r.stream == s then f r else r) (either-keeps (λ r. r.stream) f a s) (either-keeps mode_now f b s) w t
 
 modes-slot : (w : LinkRecord) (p : ℕ) → SameModes w (Changes.receive_slot w p)
-modes-slot w p = step (is_new w p)
-  where
-    noted : (v : LinkRecord) (n : ℕ) (b : Bool)
-        → SameModes v (if b then Changes.stream_changed v (Messages.message_at v n).stream (Changes.with_complete n) else v)
-    noted v n true = modes-changed v (Messages.message_at v n).stream (Changes.with_complete n) (λ r. refl) (λ r. refl)
-    noted v n false = λ t. refl
-
-    step : (b : Bool) → SameModes w (if b then Changes.note_completion (record w { slots = change_at Changes.mark_arrived p w.slots }) (Messages.message_of w p)
-        else record w { duplicates = w.duplicates ++ p ∷ [] })
-    step true = noted (record w { slots = change_at Changes.mark_arrived p w.slots }) (Messages.message_of w p)
-        (Changes.becomes_complete (record w { slots = change_at Changes.mark_arrived p w.slots }) (Messages.message_of w p))
-    step false = λ t. refl
+modes-slot w p = grind (arith, nat_tests, modes-changed)
 
 modes-received : (w : LinkRecord) (o : Option Datagram) → SameModes w (Changes.after_arrive w o)
 modes-received w None = λ t. refl
@@ -66,14 +43,10 @@ modes-received w (Some (Forward upto names)) = step (Changes.skip_counts w upto)
 modes-received w (Some (Sack r)) = λ t. refl
 
 modes-taken : (w : LinkRecord) (o : Option Datagram) → SameModes w (Changes.after_acked w o)
-modes-taken w None = λ t. refl
-modes-taken w (Some (Data ps)) = λ t. refl
-modes-taken w (Some (Forward upto names)) = λ t. refl
-modes-taken w (Some (Sack r)) = λ t. refl
+modes-taken w o = grind (arith, nat_tests)
 
 modes-read : (w : LinkRecord) (s : ℕ) (o : Option ℕ) → SameModes w (Changes.read_of w s o)
-modes-read w s None = λ t. refl
-modes-read w s (Some n) = modes-changed (Changes.message_changed w n Changes.mark_read) s Changes.without_first (λ r. refl) (λ r. refl)
+modes-read w s o = grind (arith, nat_tests, modes-changed)
 
 modes-quiet : (w v : LinkRecord) → Moves.Quiet w v → SameModes w v
 modes-quiet w v q t = ap (λ rs. mode_now (unwrap_or (find (λ r. r.stream == t) rs) (Messages.no_stream t))) q.streams
@@ -94,23 +67,16 @@ abbrev kept_modes : LinkRecord → List Mode
 kept_modes w = map mode_of w.messages
 
 kept-abandoned : (w : LinkRecord) (n : ℕ) → kept_modes (Changes.after_abandon w n) ≡ kept_modes w
-kept-abandoned w n = step (Messages.is_partially_sent w n)
-  where
-    step : (b : Bool) → kept_modes (Changes.message_changed (if b then Changes.with_slot w n true else w) n Changes.mark_abandoned) ≡ kept_modes w
-    step true = modes-flagged Changes.mark_abandoned (λ m. refl) n w.messages
-    step false = modes-flagged Changes.mark_abandoned (λ m. refl) n w.messages
+kept-abandoned w n = grind (arith, nat_tests, modes-flagged)
 
 kept-tail : (w : LinkRecord) (o : Option ℕ) → kept_modes (Changes.after_tail w o) ≡ kept_modes w
-kept-tail w None = refl
-kept-tail w (Some n) = kept-abandoned w n
+kept-tail w o = grind (arith, nat_tests, kept-abandoned)
 
 kept-expired : (w : LinkRecord) (o : Option ℕ) → kept_modes (Changes.after_expire w o) ≡ kept_modes w
-kept-expired w None = refl
-kept-expired w (Some n) = modes-flagged Changes.mark_expired (λ m. refl) n w.messages
+kept-expired w o = grind (arith, nat_tests, modes-flagged)
 
 kept-read : (w : LinkRecord) (s : ℕ) (o : Option ℕ) → kept_modes (Changes.read_of w s o) ≡ kept_modes w
-kept-read w s None = refl
-kept-read w s (Some n) = modes-flagged Changes.mark_read (λ m. refl) n w.messages
+kept-read w s o = grind (arith, nat_tests, modes-flagged)
 
 kept-sent : (w : LinkRecord) (now : ℕ) (o : Option ℕ) → kept_modes (Changes.send_from (Changes.after_start w now) o) ≡ kept_modes w
 kept-sent w now None = modes-mapped (Changes.start_lifetime now) (λ m. refl) w.messages
@@ -133,8 +99,7 @@ moded-step setup older e r ok run m = record { streams = streams e ok; messages 
     swap a b = same_test (a == b) (b == a) (λ e. grind (arith, nat_tests)) (λ e. grind (arith, nat_tests))
 
     streams : (e : Event) → refusal_of w e ≡ None → ModesAre ((e, r) ∷ older) (after w e)
-    streams (E.Open s) ok t = ap mode_now (find-more s t w.streams
-        (negated (Messages.is_open w s) (unless-holds (not (Messages.is_open w s)) StreamOpen None ok).0)) ∙ m.streams t
+    streams (E.Open s) ok t = grind (arith, nat_tests, find-more)
     streams (E.Mode s unordered reliability value) ok t =
         let new : Mode = record { unordered = unordered; reliability = reliability; value = value } in
         field-changed mode_now (λ y. new) (Changes.with_mode unordered reliability value) (λ r. refl) (λ r. refl)

@@ -1,28 +1,18 @@
 -- What the sender's events leave to the receiver as it was.
-use Rattle.std.proofs.Common.{◌≡◌, ℕ, ◌-◌, ◌<◌, ◌≤◌, Bool, true, false, List, [], ◌∷◌, ◌++◌, length, map, Option, Some, None, refl, ap, sym, ◌∙◌, inl, inr}
-use Rattle.std.proofs.Common.{arith, length-append, append-nil, append_assoc}
-use Rattle.std.specs.Prelude.{◌⊎◌, if◌then◌else◌, ◌==◌, ◌&&◌, fold}
-use Rattle.std.proofs.lemmas.Bool.{cases_lt}
-use Rattle.sctp_util.proofs.More.{length-changed, changed-keeps}
-use Rattle.sctp_util.specs.Lists.{change_at}
-use Rattle.sctp_data.specs.declared.chunk.chunk_payload_data.PayloadProtocolIdentifier.{PayloadProtocolIdentifier}
-use Rattle.sctp_model.specs.declared.event.Event.{Event}
+use Rattle.sctp_model.proofs.Names.{◌≡◌, ℕ, ◌-◌, ◌<◌, ◌≤◌, Bool, true, false, List, [], ◌∷◌, ◌++◌, length, map, Option, Some, None, refl, ap, sym, ◌∙◌, inl}
+use Rattle.sctp_model.proofs.Names.{inr, arith, length-append, append-nil, append_assoc, if◌then◌else◌, ◌&&◌, fold, cases_lt, length-changed, changed-keeps}
+use Rattle.sctp_model.proofs.Names.{change_at, PayloadProtocolIdentifier, Event, Setup, Message, Datagram, Data, Forward, LinkRecord, arrived_at, after}
+use Rattle.sctp_model.proofs.Names.{numbers_from, get-snoc_old, get-snoc_new, get-map, length-mapped, nat_tests, common_steps}
 use Rattle.sctp_model.specs.declared.event.Event.TheVariants as E
-use Rattle.sctp_model.specs.LinkRecord.{Setup, Message, Slot, Datagram, Data, Forward, LinkRecord}
 use Rattle.sctp_model.specs.Messages
-use Rattle.sctp_model.specs.Receiver.{arrived_at}
 use Rattle.sctp_model.specs.Changes
-use Rattle.sctp_model.specs.Steps.{after}
 use Rattle.sctp_model.proofs.sender.Shape.{shape, message_part, slotted, abandoned_at, expired_at, written}
 use Rattle.sctp_model.proofs.sender.Shapes
 use Rattle.sctp_model.proofs.sender.Fronts.{front-takes, of-unsent}
 use Rattle.sctp_model.proofs.sender.SenderRun.{Consistent, consistent-takes, consistent-abandoned, consistent-started, filled-keeps, written_as, AllSent}
 use Rattle.sctp_model.proofs.sender.SenderRun.{sent-all, late-sent}
-use Rattle.sctp_util.specs.Kept.{numbers_from}
 use Rattle.sctp_model.proofs.sender.Grows.{Grows, grows-same, grows-by, grows-then, grows-takes, grows-abandoned, grows-marked, grows-terminals, grows-expired}
 use Rattle.sctp_model.proofs.sender.Grows.{grows-written}
-use Rattle.sctp_util.proofs.Cases.{by_same}
-use Rattle.sctp_util.proofs.Getting.{get-beyond, get-snoc_old, get-snoc_new, get-snoc, get-map, length-mapped}
 
 -- what a sender's change leaves
 pub record Quiet (w v : LinkRecord) : Type 0 where
@@ -40,20 +30,7 @@ pub record Quiet (w v : LinkRecord) : Type 0 where
   pub grows : Grows (shape w) (shape v)
 
 pub quiet-none : (w : LinkRecord) → Quiet w w
-quiet-none w = record {
-  setup = refl;
-  streams = refl;
-  skipped = refl;
-  taken = refl;
-  duplicates = refl;
-  network = ([], sym (append-nil w.network));
-  arrived = λ p. refl;
-  acknowledged = λ p lt. refl;
-  fresh = λ p a b. absurd (omega arith);
-  read = λ n lt. refl;
-  unread = λ n a b. absurd (omega arith);
-  grows = grows-same (shape w) (shape w) refl;
-}
+quiet-none w = grind (arith, nat_tests, append-nil)
 
 pub quiet-then : (setup : Setup) (w v u : LinkRecord) → Consistent setup w → Quiet w v → Quiet v u → Quiet w u
 quiet-then setup w v u g f h = record {
@@ -65,39 +42,18 @@ quiet-then setup w v u g f h = record {
   network = (f.network.0 ++ h.network.0, h.network.1 ∙ ap (λ l. l ++ h.network.0) f.network.1 ∙ append_assoc w.network f.network.0 h.network.0);
   arrived = λ p. h.arrived p ∙ f.arrived p;
   acknowledged = λ p lt. h.acknowledged p (omega (arith, f.grows.slots)) ∙ f.acknowledged p lt;
-  fresh = λ p a b. older p a b (cases_lt p (length v.slots));
+  fresh = λ p a b. (elim (cases_lt p (length v.slots)) [ inl l ↦ h.acknowledged p l ∙ f.fresh p a l | inr g ↦ h.fresh p g b ]);
   read = λ n lt. h.read n (omega (arith, f.grows.count)) ∙ f.read n lt;
-  unread = λ n a b. newer n a b (cases_lt n (length v.messages));
+  unread = λ n a b. (elim (cases_lt n (length v.messages)) [ inl l ↦ h.read n l ∙ f.unread n a l | inr g ↦ h.unread n g b ]);
   grows = grows-then (shape w) (shape v) (shape u) g.sender f.grows h.grows;
 }
-  where
-    older : (p : ℕ) → length w.slots ≤ p → p < length u.slots → (p < length v.slots) ⊎ (length v.slots ≤ p) → (Messages.slot_at u p).acknowledged ≡ false
-    older p a b (inl l) = h.acknowledged p l ∙ f.fresh p a l
-    older p a b (inr g) = h.fresh p g b
-
-    newer : (n : ℕ) → length w.messages ≤ n → n < length u.messages → (n < length v.messages) ⊎ (length v.messages ≤ n) → (Messages.message_at u n).read ≡ false
-    newer n a b (inl l) = h.read n l ∙ f.unread n a l
-    newer n a b (inr g) = h.unread n g b
 
 -- ## Each change
 
 quiet-messages : (w : LinkRecord) (ms : List Message) → length ms ≡ length w.messages
     → ((n : ℕ) → (Messages.message_at (record w { messages = ms }) n).read ≡ (Messages.message_at w n).read)
     → Grows (shape w) (shape (record w { messages = ms })) → Quiet w (record w { messages = ms })
-quiet-messages w ms l r g = record {
-  setup = refl;
-  streams = refl;
-  skipped = refl;
-  taken = refl;
-  duplicates = refl;
-  network = ([], sym (append-nil w.network));
-  arrived = λ p. refl;
-  acknowledged = λ p lt. refl;
-  fresh = λ p a b. absurd (omega arith);
-  read = λ n lt. r n;
-  unread = λ n a b. absurd (omega (arith, l));
-  grows = g;
-}
+quiet-messages w ms l r g = grind (arith, nat_tests, append-nil)
 
 pub quiet-started : (w : LinkRecord) (now : ℕ) → Quiet w (Changes.after_start w now)
 quiet-started w now = quiet-messages w (map (Changes.start_lifetime now) w.messages) (length-mapped (Changes.start_lifetime now) w.messages)
@@ -110,31 +66,7 @@ quiet-flagged w n f keeps g =
     quiet-messages w (change_at f n w.messages) (length-changed f n w.messages) (λ k. changed-keeps f (λ m. m.read) keeps n k w.messages Messages.no_message) g
 
 quiet-slot : (w : LinkRecord) (n : ℕ) (terminal : Bool) → Grows (shape w) (shape (Changes.with_slot w n terminal)) → Quiet w (Changes.with_slot w n terminal)
-quiet-slot w n terminal g = record {
-  setup = refl;
-  streams = refl;
-  skipped = refl;
-  taken = refl;
-  duplicates = refl;
-  network = ([], sym (append-nil w.network));
-  arrived = λ p. get-snoc (λ x. x.arrived) w.slots new p Messages.no_slot
-      ∙ by_same {P = (if p == length w.slots then false else arrived_at w p) ≡ arrived_at w p} p (length w.slots)
-      (λ e. same (p == length w.slots) (arrived_at w p) (ap (λ x. x.arrived) (get-beyond w.slots p Messages.no_slot (omega arith))))
-      (λ ne f. ap (λ b. if b then false else arrived_at w p) f);
-  acknowledged = λ p lt. ap (λ x. x.acknowledged) (get-snoc_old w.slots new p Messages.no_slot (λ e. absurd (omega arith)));
-  fresh = λ p a b. let e : p ≡ length w.slots = omega (arith, length-append w.slots (new ∷ [])) in
-      ap (λ q. (Messages.slot_at (Changes.with_slot w n terminal) q).acknowledged) e ∙ ap (λ x. x.acknowledged) (get-snoc_new w.slots new Messages.no_slot);
-  read = λ n lt. refl;
-  unread = λ n a b. absurd (omega arith);
-  grows = g;
-}
-  where
-    new : Slot
-    new = record { message = n; fragment = Messages.sent_of w n; is_terminal_chunk = terminal; arrived = false; acknowledged = false }
-
-    same : (b c : Bool) → c ≡ false → (if b then false else c) ≡ c
-    same true c e = sym e
-    same false c e = refl
+quiet-slot w n terminal g = grind (arith, nat_tests, common_steps)
 
 pub quiet-takes : (setup : Setup) (w : LinkRecord) → Consistent setup w → Quiet w (Changes.send_fragment w)
 quiet-takes setup w g = step (Messages.front w) refl
@@ -205,20 +137,7 @@ quiet-written setup w s ppi (b ∷ bs) g = record {
     m = written_as w s ppi (b ∷ bs)
 
 pub quiet-datagram : (w v : LinkRecord) (d : Datagram) → Quiet w v → Quiet w (Changes.with_datagram v d)
-quiet-datagram w v d q = record {
-  setup = q.setup;
-  streams = q.streams;
-  skipped = q.skipped;
-  taken = q.taken;
-  duplicates = q.duplicates;
-  network = (q.network.0 ++ d ∷ [], ap (λ l. l ++ d ∷ []) q.network.1 ∙ append_assoc w.network q.network.0 (d ∷ []));
-  arrived = q.arrived;
-  acknowledged = q.acknowledged;
-  fresh = q.fresh;
-  read = q.read;
-  unread = q.unread;
-  grows = q.grows;
-}
+quiet-datagram w v d q = grind (arith, nat_tests, append_assoc)
 
 -- ## Sends and late messages
 
@@ -227,11 +146,7 @@ pub record Reached (setup : Setup) (w v : LinkRecord) : Type 0 where
   pub quiet : Quiet w v
 
 pub reached-more : (setup : Setup) (w : LinkRecord) → Consistent setup w → (v : LinkRecord) → Reached setup w v → Reached setup w (Changes.send_fragment v)
-reached-more setup w g v r =
-    record {
-      consistent = consistent-takes setup v r.consistent;
-      quiet = quiet-then setup w v (Changes.send_fragment v) g r.quiet (quiet-takes setup v r.consistent);
-    }
+reached-more setup w g v r = search (arith, nat_tests, consistent-takes, quiet-then, quiet-takes)
 
 pub quiet-sent : (setup : Setup) (w : LinkRecord) (now : ℕ) (o : Option ℕ) → Consistent setup w → Quiet w (Changes.send_from (Changes.after_start w now) o)
 quiet-sent setup w now None g = quiet-started w now

@@ -1,40 +1,24 @@
-use Rattle.std.proofs.Common.{◌≡◌, ℕ, zero, suc, ◌+◌, ◌-◌, ◌<◌, ◌≤◌, ◌%◌, ◌^◌, Bool, true, false, List, [], ◌∷◌, ◌++◌, length, map, Option, Some, None, refl}
-use Rattle.std.proofs.Common.{ap, sym, ◌∙◌, inl, inr, arith, append-nil, zero-add}
-use Rattle.std.specs.Prelude.{◌⊎◌, if◌then◌else◌, ◌==◌, ◌&&◌, ◌||◌, not, nat_le, nat_lt, fold, slice_get, slice_index_or, max}
-use Rattle.std.specs.List.{list_any, list_all}
-use Rattle.std.proofs.Math.Path.{subst}
-use Rattle.std.proofs.lemmas.Bool.{cases_lt}
-use Rattle.std.proofs.lemmas.Bool.Decides.{nat_tests}
-use Rattle.sctp_util.specs.Kept.{numbers_where, always, numbers_from}
-use Rattle.sctp_util.specs.Lists.{change_at, pieces}
-use Rattle.sctp_util.proofs.Passing.{length-kept-lt, length-kept-mono, kept-same}
-use Rattle.sctp_util.proofs.More.{fails, not_both, both}
+use Rattle.sctp_model.proofs.Names.{◌≡◌, ℕ, zero, suc, ◌+◌, ◌-◌, ◌<◌, ◌≤◌, ◌%◌, ◌^◌, Bool, true, false, List, [], ◌∷◌, ◌++◌, length, map, Option, Some, None}
+use Rattle.sctp_model.proofs.Names.{refl, ap, sym, ◌∙◌, arith, append-nil, zero-add, if◌then◌else◌, ◌==◌, ◌&&◌, ◌||◌, not, nat_le, nat_lt, fold, slice_get}
+use Rattle.sctp_model.proofs.Names.{slice_index_or, max, list_any, list_all, subst, cases_lt, nat_tests, numbers_where, always, numbers_from, change_at, pieces}
+use Rattle.sctp_model.proofs.Names.{length-kept-lt, length-kept-mono, kept-same, fails, not_both, both, fresh, Event, Setup, Datagram, Forward, Sack}
+use Rattle.sctp_model.proofs.Names.{LinkRecord, report_of, chunk_at, name_of, contents_of, contents_in, History, record_of, IsRun, refusal_of, after, can_name}
+use Rattle.sctp_model.proofs.Names.{is_ended, can_resend, OnEveryRun, NoTerminalChunkIsSent, DatagramsStay, by_last, negated, slice-front, all-out}
+use Rattle.sctp_model.proofs.Names.{common_steps}
 use Rattle.sctp_data.specs.PayloadData.{Data}
-use Rattle.sctp_data.specs.ChunkSet.{fresh}
-use Rattle.sctp_model.specs.declared.event.Event.{Event}
 use Rattle.sctp_model.specs.declared.event.Event.TheVariants as E
-use Rattle.sctp_model.specs.declared.event.LinkRefusal.TheVariants.{NotInFlight, SkipUnassigned, SkipNames}
-use Rattle.sctp_model.specs.LinkRecord.{Setup, Datagram, Forward, Sack, LinkRecord}
 use Rattle.sctp_model.specs.LinkRecord as W
 use Rattle.sctp_model.specs.Messages
 use Rattle.sctp_model.specs.Receiver
 use Rattle.sctp_model.specs.Changes
-use Rattle.sctp_model.specs.Reports.{report_of}
-use Rattle.sctp_model.specs.Contents.{chunk_at, name_of, contents_of, contents_in, DataContents, SackContents}
-use Rattle.sctp_model.specs.Steps.{History, record_of, IsRun, refusal_of, after, unless, can_name, is_ended, can_resend, skip_refusal}
-use Rattle.sctp_model.specs.Laws.{OnEveryRun, NoTerminalChunkIsSent, DatagramsStay}
 use Rattle.sctp_model.proofs.sender.Shape.{Shape, MessagePart, shape, has, sent, parts, index, slotted}
 use Rattle.sctp_model.proofs.sender.Sender.{Sender, slot-old, slot-new}
 use Rattle.sctp_model.proofs.sender.Slots.{sent-made}
 use Rattle.sctp_model.proofs.sender.Shapes
-use Rattle.sctp_model.proofs.sender.SenderRun.{Consistent, consistent-run, consistent-started, filled-keeps, fold-keeps, unless-holds}
+use Rattle.sctp_model.proofs.sender.SenderRun.{Consistent, consistent-run, consistent-started, filled-keeps, fold-keeps}
 use Rattle.sctp_model.proofs.sender.Grows.{Grows, IsEnded, as_written, grows-same, parts-grown}
 use Rattle.sctp_model.proofs.sender.Moves
 use Rattle.sctp_model.proofs.sender.Fronts.{slot-sent, mark-abandoned}
-use Rattle.sctp_data.specs.declared.chunk.chunk_payload_data.PayloadProtocolIdentifier.{PayloadProtocolIdentifier}
-use Rattle.sctp_util.proofs.Cases.{by_last, same-is, negated}
-use Rattle.sctp_util.proofs.Getting.{slice-front}
-use Rattle.sctp_util.proofs.Tests.{all-out}
 
 -- What lies in the network stays true as the record grows.
 
@@ -58,11 +42,7 @@ extends-same : (w v : LinkRecord) → Same w v → Extends w v
 extends-same w v s = record { setup = s.setup; network = ([], s.network ∙ sym (append-nil w.network)); grows = grows-same (shape w) (shape v) s.shape_is }
 
 same-noted : (v : LinkRecord) (n : ℕ) → Same v (Changes.note_completion v n)
-same-noted v n = step (Changes.becomes_complete v n)
-  where
-    step : (b : Bool) → Same v (if b then Changes.stream_changed v (Messages.message_at v n).stream (Changes.with_complete n) else v)
-    step true = record { setup = refl; network = refl; shape_is = refl }
-    step false = record { setup = refl; network = refl; shape_is = refl }
+same-noted v n = grind (arith, nat_tests)
 
 same-then : (w v u : LinkRecord) → Same w v → Same v u → Same w u
 same-then w v u f g = record { setup = g.setup ∙ f.setup; network = g.network ∙ f.network; shape_is = g.shape_is ∙ f.shape_is }
@@ -83,14 +63,7 @@ same-slots w ps = fold-keeps (Same w) Changes.receive_slot (λ v p s. same-then 
     (record { setup = refl; network = refl; shape_is = refl })
 
 pub same-received : (w : LinkRecord) (o : Option Datagram) → Same w (Changes.after_arrive w o)
-same-received w None = record { setup = refl; network = refl; shape_is = refl }
-same-received w (Some (W.Data ps)) = same-slots w ps
-same-received w (Some (Forward upto names)) = step (Changes.skip_counts w upto)
-  where
-    step : (b : Bool) → Same w (if b then record w { skipped = upto + 1; streams = map (Changes.named_by w names) w.streams } else w)
-    step true = record { setup = refl; network = refl; shape_is = refl }
-    step false = record { setup = refl; network = refl; shape_is = refl }
-same-received w (Some (Sack r)) = record { setup = refl; network = refl; shape_is = refl }
+same-received w o = grind (arith, nat_tests, same-slots)
 
 pub same-taken : (w : LinkRecord) (o : Option Datagram) → Same w (Changes.after_acked w o)
 same-taken w None = record { setup = refl; network = refl; shape_is = refl }
@@ -113,25 +86,14 @@ leaves_shape (E.Abandon tsn) = false
 leaves_shape event = true
 
 pub shape-after : (w : LinkRecord) (e : Event) → leaves_shape e ≡ true → shape (after w e) ≡ shape w
-shape-after w (E.Start now) l = Shapes.shape-started w now
-shape-after w (E.Arrive k) l = (same-received w (slice_get w.network k)).shape_is
-shape-after w (E.Acked k) l = (same-taken w (slice_get w.network k)).shape_is
-shape-after w (E.Read s) l = (same-read w s (Receiver.next_read w s)).shape_is
-shape-after w (E.Write s ppi (b ∷ bs)) l = cc
-shape-after w (E.Send now) l = cc
-shape-after w (E.Expire now) l = cc
-shape-after w (E.Tail now) l = cc
-shape-after w (E.Late now) l = cc
-shape-after w (E.Abandon tsn) l = cc
-shape-after w event l = refl
+shape-after w e h1 = grind (arith, nat_tests, Shapes.shape-started, same-received, same-taken, same-read)
 
 one-datagram : (w v : LinkRecord) (d : Datagram) → v.setup ≡ w.setup → v.network ≡ w.network ++ d ∷ [] → shape v ≡ shape w → Extends w v
 one-datagram w v d a b c = record { setup = a; network = (d ∷ [], b); grows = grows-same (shape w) (shape v) c }
 
 pub extends-after : (setup : Setup) (w : LinkRecord) (e : Event) → refusal_of w e ≡ None → Consistent setup w → Extends w (after w e)
 extends-after setup w (E.Open s) ok g = extends-same w (Changes.after_open w s) (record { setup = refl; network = refl; shape_is = refl })
-extends-after setup w (E.Mode s unordered reliability value) ok g =
-    extends-same w (Changes.after_mode w s unordered reliability value) (record { setup = refl; network = refl; shape_is = refl })
+extends-after setup w (E.Mode s unordered reliability value) ok g = grind (arith, nat_tests, extends-same)
 extends-after setup w (E.Ack credit) ok g = one-datagram w (Changes.after_ack w credit) (Sack (report_of w credit)) refl refl refl
 extends-after setup w (E.Arrive k) ok g = extends-same w (Changes.after_arrive w (slice_get w.network k)) (same-received w (slice_get w.network k))
 extends-after setup w (E.Acked k) ok g = extends-same w (Changes.after_acked w (slice_get w.network k)) (same-taken w (slice_get w.network k))
@@ -171,38 +133,19 @@ slots-grown x y g (p ∷ ps) f = (omega (arith, f.0, g.slots), ap (λ s. s.is_te
 -- an ended message has no slot past those it had
 no-later : (x y : Shape) → Grows x y → (n q : ℕ) → 0 < sent x n → IsEnded x n → x.slots ≤ q → q < y.slots → has y n q ≡ true → ⊥
 no-later x y g n q pos e a b h =
-    let old : length (numbers_where (has y n) 0 x.slots) ≡ sent x n =
-    ap length (kept-same (has y n) (has x n) 0 x.slots (λ k i j. ap (λ s. (s.message == n) && not s.is_terminal_chunk) (g.slot k (omega arith)))) in
+    let old : length (numbers_where (has y n) 0 x.slots) ≡ sent x n = grind (arith, nat_tests, kept-same) in
     absurd
     (omega (arith, g.ended n pos e, old, length-kept-mono (has y n) 0 x.slots q a, length-kept-lt (has y n) 0 q y.slots (ap (has y n) (zero-add q) ∙ h) b))
 
 pub namable-grown : (x y : Shape) → Sender x → Grows x y → (upto n : ℕ) → IsNamable x upto n → IsNamable y upto n
-namable-grown x y s g upto n f = record {
-  ordered = ap (λ m. m.ordered) (g.message n made) ∙ f.ordered;
-  some = omega (arith, f.some, g.sent_more n);
-  ended = later f.ended;
-  within = λ q lt h. place q lt h (cases_lt q x.slots);
-}
-  where
-    made : n < x.count
-    made = sent-made x n s f.some
-
-    later : IsEnded x n → IsEnded y n
-    later (inl e) = inl (g.ended n f.some (inl e) ∙ e ∙ sym (parts-grown x y g n made))
-    later (inr e) = inr (g.abandoned n made e)
-
-    place : (q : ℕ) → q < y.slots → has y n q ≡ true → (q < x.slots) ⊎ (x.slots ≤ q) → q ≤ upto
-    place q lt h (inl l) = f.within q l (ap (λ s. (s.message == n) && not s.is_terminal_chunk) (sym (g.slot q l)) ∙ h)
-    place q lt h (inr o) = absurd (no-later x y g n q f.some f.ended o lt h)
+namable-grown x y s g upto n f = grind (arith, nat_tests, parts-grown, cases_lt, sent-made, no-later)
 
 pub names-grown : (x y : Shape) → Sender x → Grows x y → (upto : ℕ) (ns : List ℕ) → NamesFit x upto ns → NamesFit y upto ns
 names-grown x y s g upto [] f = tt
 names-grown x y s g upto (n ∷ ns) f = (namable-grown x y s g upto n f.0, names-grown x y s g upto ns f.1)
 
 pub fits-grown : (x y : Shape) → Sender x → Grows x y → (d : Datagram) → Fits x d → Fits y d
-fits-grown x y s g (W.Data ps) f = slots-grown x y g ps f
-fits-grown x y s g (Forward upto names) f = (omega (arith, f.0, g.slots), names-grown x y s g upto names f.1)
-fits-grown x y s g (Sack r) f = tt
+fits-grown x y h1 h2 d h3 = grind (arith, nat_tests, slots-grown, names-grown)
 
 all-grown : (x y : Shape) → Sender x → Grows x y → (ds : List Datagram) → AllFit x ds → AllFit y ds
 all-grown x y s g [] f = tt
@@ -259,11 +202,7 @@ slots-fit x from (suc count) h = let a = h from (omega arith) (omega arith) in
     (a.0, a.1, slots-fit x (from + 1) count (λ p i j. h p (omega arith) (omega arith)))
 
 pub network-more : (v : LinkRecord) → (Changes.send_fragment v).network ≡ v.network
-network-more v = step (Messages.front v)
-  where
-    step : (o : Option ℕ) → (Changes.send_fragment_of v o).network ≡ v.network
-    step None = refl
-    step (Some n) = refl
+network-more v = elim (Messages.front v) as (λ o. (Changes.send_fragment_of v o).network ≡ v.network) [ None ↦ refl | Some n ↦ refl ]
 
 pub same-network : (u : LinkRecord) → (Changes.send_fragments u).network ≡ u.network
 same-network u = filled-keeps (λ v. v.network ≡ u.network) (λ v e. network-more v ∙ e) u.setup.limit (Changes.plus 12 (Changes.next_length u))
@@ -308,12 +247,10 @@ namable w upto n s e =
     }
   where
     ended : (t : Bool) → (sent (shape w) n == parts (shape w) n) ≡ t → (t || (Messages.message_at w n).abandoned) ≡ true → IsEnded (shape w) n
-    ended true f e = inl (same-is (sent (shape w) n) (parts (shape w) n) f)
-    ended false f e = inr e
+    ended t h1 h2 = grind (arith, nat_tests)
 
     some : n < length w.messages → IsEnded (shape w) n → 0 < sent (shape w) n
-    some lt (inl f) = omega (arith, f, s.some n lt)
-    some lt (inr f) = s.abandoned_sent n lt f
+    some h1 h2 = grind (arith, nat_tests)
 
 pub names-fit : (w : LinkRecord) (upto : ℕ) (ns : List ℕ) → Sender (shape w) → list_all (can_name w upto) ns ≡ true → NamesFit (shape w) upto ns
 names-fit w upto [] s e = tt
@@ -322,27 +259,17 @@ names-fit w upto (n ∷ ns) s e = let a = both (can_name w upto n) (list_all (ca
 -- ## In every history
 
 pub network-abandoned : (w : LinkRecord) (n : ℕ) → (Changes.after_abandon w n).network ≡ w.network
-network-abandoned w n = step (Messages.is_partially_sent w n)
-  where
-    step : (b : Bool) → (Changes.message_changed (if b then Changes.with_slot w n true else w) n Changes.mark_abandoned).network ≡ w.network
-    step true = refl
-    step false = refl
+network-abandoned w n = grind (arith, nat_tests)
 
 pub network-late : (ns : List ℕ) (w : LinkRecord) → (fold Changes.after_abandon w ns).network ≡ w.network
 network-late [] w = refl
 network-late (n ∷ ns) w = network-late ns (Changes.after_abandon w n) ∙ network-abandoned w n
 
 pub network-tail : (w : LinkRecord) (o : Option ℕ) → (Changes.after_tail w o).network ≡ w.network
-network-tail w None = refl
-network-tail w (Some n) = network-abandoned w n
+network-tail w o = grind (arith, nat_tests)
 
 pub network-expired : (w : LinkRecord) (o : Option ℕ) → (Changes.after_expire w o).network ≡ w.network
-network-expired w None = refl
-network-expired w (Some n) = refl
-
-pub network-written : (w : LinkRecord) (s : ℕ) (ppi : PayloadProtocolIdentifier) (bytes : List ℕ) → (Changes.after_write w s ppi bytes).network ≡ w.network
-network-written w s ppi [] = refl
-network-written w s ppi (b ∷ bs) = refl
+network-expired w o = grind (arith, nat_tests)
 
 -- it makes no datagram
 abbrev pub makes_none : Event → Bool
@@ -353,28 +280,8 @@ makes_none (E.Ack credit) = false
 makes_none event = true
 
 pub network-after : (w : LinkRecord) (e : Event) → makes_none e ≡ true → (after w e).network ≡ w.network
-network-after w (E.Write s ppi bytes) n = network-written w s ppi bytes
-network-after w (E.Expire now) n = network-expired w (Changes.expiring w now)
-network-after w (E.Tail now) n = network-tail w (Changes.tailing w now)
-network-after w (E.Late now) n = network-late (Changes.late_messages w now) w
-network-after w (E.Abandon tsn) n = network-abandoned w (Messages.message_of w (Messages.place_of w tsn))
-network-after w (E.Arrive k) n = (same-received w (slice_get w.network k)).network
-network-after w (E.Acked k) n = (same-taken w (slice_get w.network k)).network
-network-after w (E.Read s) n = (same-read w s (Receiver.next_read w s)).network
-network-after w (E.Send now) n = cc
-network-after w (E.Resend tsn) n = cc
-network-after w (E.Skip upto names) n = cc
-network-after w (E.Ack credit) n = cc
-network-after w event n = refl
-
-pub skip-ok : (w : LinkRecord) (upto : ℕ) (names : List ℕ) → skip_refusal w upto names ≡ None
-    → (upto < length w.slots) × (list_all (can_name w upto) names ≡ true)
-skip-ok w upto names ok =
-    let first = unless-holds (nat_lt upto (length w.slots)) SkipUnassigned
-    (unless (list_all (can_name w upto) names && nat_le (length names) 16381) SkipNames None) ok in
-    let second = unless-holds (list_all (can_name w upto) names && nat_le (length names) 16381) SkipNames None first.1 in
-    let low = first.0 in
-    (grind (arith, nat_tests), (both (list_all (can_name w upto) names) (nat_le (length names) 16381) second.0).0)
+network-after w e h1 =
+    grind (arith, nat_tests, network-expired, network-tail, network-late, same-received)
 
 resend-ok : (w : LinkRecord) (p : ℕ) → Sender (shape w) → can_resend w p ≡ true → SlotsFit (shape w) (p ∷ [])
 resend-ok w p s e =
@@ -391,12 +298,8 @@ resend-ok w p s e =
 pub fit-after : (setup : Setup) (w : LinkRecord) (e : Event) → refusal_of w e ≡ None → Consistent setup w → AllFit (shape w) w.network
     → AllFit (shape (after w e)) (after w e).network
 fit-after setup w (E.Send now) ok g a = fit-sent setup w now (Messages.front w) g a
-fit-after setup w (E.Resend tsn) ok g a = all-fit-append (shape w) w.network (W.Data (Messages.place_of w tsn ∷ []) ∷ []) a
-    (resend-ok w (Messages.place_of w tsn) g.sender (unless-holds (can_resend w (Messages.place_of w tsn)) NotInFlight None ok).0, tt)
-fit-after setup w (E.Skip upto names) ok g a =
-    let s = skip-ok w (Messages.place_of w upto) names.items ok in
-    all-fit-append (shape w) w.network (Forward (Messages.place_of w upto) names.items ∷ []) a
-    ((s.0, names-fit w (Messages.place_of w upto) names.items g.sender s.1), tt)
+fit-after setup w (E.Resend tsn) ok g a = grind (arith, nat_tests, all-fit-append, resend-ok)
+fit-after setup w (E.Skip upto names) ok g a = grind (arith, nat_tests, all-fit-append, names-fit)
 fit-after setup w (E.Ack credit) ok g a = all-fit-append (shape w) w.network (Sack (report_of w credit) ∷ []) a (tt, tt)
 fit-after setup w event ok g a = fit-kept w (after w event) g.sender (extends-after setup w event ok g).grows (network-after w event refl) a
 
@@ -432,11 +335,7 @@ said m size place i tsn =
 -- the number of a message in its stream
 place-stays : (x y : Shape) → Grows x y → (n : ℕ) → 0 < sent x n → (m : MessagePart) (size i tsn : ℕ) → m.ordered ≡ (x.message n).ordered
     → said m size (index y n) i tsn ≡ said m size (index x n) i tsn
-place-stays x y g n pos m size i tsn e = step m.ordered refl
-  where
-    step : (b : Bool) → m.ordered ≡ b → said m size (index y n) i tsn ≡ said m size (index x n) i tsn
-    step true o = ap (λ k. said m size k i tsn) (g.same_index n pos (sym e ∙ o))
-    step false o = rw o refl
+place-stays x y g n pos m size i tsn e = grind (arith, nat_tests)
 
 pub chunk-stays : (w v : LinkRecord) (p : ℕ) → Sender (shape w) → Extends w v → p < length w.slots → chunk_at v p ≡ chunk_at w p
 chunk-stays w v p s x lt =
@@ -457,15 +356,7 @@ chunks-stay w v s x [] f = refl
 chunks-stay w v s x (p ∷ ps) f = ap (λ c. c ∷ map (chunk_at v) ps) (chunk-stays w v p s x f.0) ∙ ap (λ l. chunk_at w p ∷ l) (chunks-stay w v s x ps f.2)
 
 name-stays : (w v : LinkRecord) (upto n : ℕ) → Sender (shape w) → Extends w v → IsNamable (shape w) upto n → name_of v n ≡ name_of w n
-name-stays w v upto n s x f =
-    let g = x.grows in
-    let m = g.message n (sent-made (shape w) n s f.some) in
-    let o : (Messages.message_at v n).ordered ≡ true = ap (λ y. y.ordered) m ∙ f.ordered in
-    let pair : ℕ → ℕ → ℕ × ℕ = λ a b. (a, b) in
-    ap (λ r. pair r (Messages.ssn_of v n)) (ap (λ y. y.stream) m)
-    ∙ ap (λ b. pair (Messages.message_at w n).stream ((if b then index (shape v) n else (Messages.message_at v n).before) % 2 ^ 16)) o
-    ∙ ap (λ k. pair (Messages.message_at w n).stream (k % 2 ^ 16)) (g.same_index n f.some f.ordered)
-    ∙ sym (ap (λ b. pair (Messages.message_at w n).stream ((if b then index (shape w) n else (Messages.message_at w n).before) % 2 ^ 16)) f.ordered)
+name-stays w v upto n s x f = grind (arith, nat_tests, common_steps)
 
 names-stay : (w v : LinkRecord) (upto : ℕ) → Sender (shape w) → Extends w v → (ns : List ℕ) → NamesFit (shape w) upto ns
     → map (name_of v) ns ≡ map (name_of w) ns
@@ -473,13 +364,7 @@ names-stay w v upto s x [] f = refl
 names-stay w v upto s x (n ∷ ns) f = cc (name-stays w v upto n s x f.0, names-stay w v upto s x ns f.1)
 
 pub contents-stay : (w v : LinkRecord) (d : Datagram) → Sender (shape w) → Extends w v → Fits (shape w) d → contents_of v d ≡ contents_of w d
-contents-stay w v (W.Data ps) s x f = ap DataContents (chunks-stay w v s x ps f)
-contents-stay w v (Forward upto names) s x f =
-    let first : v.setup.first ≡ w.setup.first = ap (λ t. t.first) x.setup in
-    cc (first, names-stay w v upto s x names f.1)
-contents-stay w v (Sack r) s x f =
-    let first : v.setup.first ≡ w.setup.first = ap (λ t. t.first) x.setup in
-    ap (λ i. SackContents ((i + (2 ^ 32 - 1) + r.cumulative) % 2 ^ 32) r.credit r.blocks (map (λ p. (i + p) % 2 ^ 32) r.duplicates)) first
+contents-stay w v d h1 h2 h3 = grind (arith, nat_tests, chunks-stay, names-stay)
 
 pub datagrams_stay : OnEveryRun DatagramsStay
 datagrams_stay setup h is run event k ok lt =

@@ -1,9 +1,6 @@
 -- What the sender keeps of messages and slots: fragments in order, side by side, in the order of the stream.
-use Rattle.std.proofs.Common.{◌≡◌, ℕ, ◌+◌, ◌<◌, ◌≤◌, Bool, true, false, List, [], ◌∷◌, ◌++◌, length, refl, ap, ◌∙◌, arith, add-one, length-append}
-use Rattle.std.specs.Prelude.{if◌then◌else◌, ◌==◌, ◌&&◌, not, nat_lt}
-use Rattle.std.proofs.lemmas.Bool.Decides.{nat_tests}
-use Rattle.sctp_util.specs.Kept.{numbers_where}
-use Rattle.sctp_util.proofs.Passing.{kept-same, kept-snoc}
+use Rattle.sctp_model.proofs.Names.{◌≡◌, ℕ, ◌+◌, ◌<◌, ◌≤◌, Bool, true, false, List, [], ◌∷◌, ◌++◌, length, refl, ap, ◌∙◌, arith, add-one, length-append}
+use Rattle.sctp_model.proofs.Names.{if◌then◌else◌, ◌==◌, ◌&&◌, not, nat_lt, nat_tests, numbers_where, kept-same, kept-snoc}
 use Rattle.sctp_model.proofs.sender.Shape.{Shape, SlotPart, has, sent, parts, partial, on, slotted}
 
 abbrev pub is_terminal : Shape → ℕ → ℕ → Bool
@@ -50,8 +47,7 @@ kept-slots x n m t =
     ∙ ap (λ y. numbers_where (λ p. t (x.slot p)) 0 x.slots ++ (if t y then x.slots ∷ [] else [])) (slot-new x n m)
 
 one-more : (xs : List ℕ) (p : ℕ) (b : Bool) → length (xs ++ (if b then p ∷ [] else [])) ≡ length xs + (if b then 1 else 0)
-one-more xs p true = length-append xs (p ∷ [])
-one-more xs p false = length-append xs []
+one-more xs p b = grind (arith, nat_tests, length-append)
 
 pub sent-slotted : (x : Shape) (n k : ℕ) (m : Bool) → sent (slotted x n m) k ≡ sent x k + (if (n == k) && not m then 1 else 0)
 sent-slotted x n k m = ap length (kept-slots x n m (λ y. (y.message == k) && not y.is_terminal_chunk))

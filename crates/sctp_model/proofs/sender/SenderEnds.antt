@@ -1,17 +1,11 @@
 -- Writes, expiry and abandonment keep what the sender keeps.
-use Rattle.std.proofs.Common.{◌≡◌, ℕ, ◌+◌, ◌<◌, ◌≤◌, Bool, true, false, length, refl, ap, sym, ◌∙◌, inl, inr, arith}
-use Rattle.std.specs.Prelude.{◌⊎◌, if◌then◌else◌, ◌==◌, ◌&&◌, ◌||◌, not, nat_lt}
-use Rattle.std.proofs.lemmas.Bool.{cases_lt}
-use Rattle.std.proofs.lemmas.Bool.Decides.{nat_tests}
-use Rattle.sctp_util.specs.Kept.{numbers_where}
-use Rattle.sctp_util.proofs.Passing.{kept-none}
-use Rattle.sctp_util.proofs.More.{fails, not_both, both, and}
+use Rattle.sctp_model.proofs.Names.{◌≡◌, ℕ, ◌+◌, ◌<◌, ◌≤◌, Bool, true, false, length, refl, ap, sym, ◌∙◌, inl, inr, arith, if◌then◌else◌, ◌==◌, ◌&&◌, nat_lt}
+use Rattle.sctp_model.proofs.Names.{cases_lt, nat_tests, numbers_where, kept-none, fails, not_both, both, by_last, by_same, same-yes, same-is}
 use Rattle.sctp_model.proofs.sender.Shape.{Shape, MessagePart, has, sent, parts, partial, on, slotted, written, abandoned_at, expired_at}
 use Rattle.sctp_model.proofs.sender.Sender.{Sender, is_terminal, sent-slotted, terminals-slotted, slot-old, slot-new}
 use Rattle.sctp_model.proofs.sender.SenderSteps.{of-has, sent-some, of-partial, is-partial, partial-one, has-old, has-new, number-slotted, made-slotted, Next}
 use Rattle.sctp_model.proofs.sender.SenderSteps.{Last}
 use Rattle.sctp_model.proofs.sender.SenderSteps.{terminals_due}
-use Rattle.sctp_util.proofs.Cases.{by_last, by_same, same-yes, same-is}
 
 -- ## Abandonment
 
@@ -24,18 +18,13 @@ module _ (x : Shape) (n : ℕ) (s : Sender x) (h : partial x n ≡ true) where
   sent-same k = sent-slotted x n k true ∙ none (n == k) (sent x k)
     where
       none : (b : Bool) (c : ℕ) → c + (if b && false then 1 else 0) ≡ c
-      none true c = omega arith
-      none false c = omega arith
+      none b c = grind (arith, nat_tests)
 
   made-n : n < x.count
   made-n = let l = s.last n h in rw (of-has x n l.0 l.2).0 at (s.made l.0 (omega (arith, l.1)))
 
   new-none : (k : ℕ) → has y k x.slots ≡ false
-  new-none k = has-new x n true k ∙ none (n == k)
-    where
-      none : (b : Bool) → (b && false) ≡ false
-      none true = refl
-      none false = refl
+  new-none k = has-new x n true k ∙ (elim (n == k) as (λ b. (b && false) ≡ false) [ true ↦ refl | false ↦ refl ])
 
   pub sender-marked : Sender y
   sender-marked = record {
@@ -53,9 +42,7 @@ module _ (x : Shape) (n : ℕ) (s : Sender x) (h : partial x n ≡ true) where
         (λ e. ended k e)
         (λ ne f. other k ne f lt);
     expired_unsent = λ k lt e. sent-same k ∙ s.expired_unsent k lt e;
-    abandoned_sent = λ k lt e. by_same {P = 0 < sent y k} n k
-        (λ z. omega (arith, (of-partial x n h).some, ap (sent x) z, sent-same k))
-        (λ ne f. omega (arith, sent-same k, s.abandoned_sent k lt (before k ne e)));
+    abandoned_sent = grind (arith, nat_tests, sent-same);
     turn = λ r j k jk lt a b pos. omega (arith, sent-same j, s.turn r j k jk lt a b (omega (arith, pos, sent-same k)));
     ascend = λ r j k p q jk a b lp lq hp hq. by_last {P = p < q} p x.slots lp
         (λ op. by_last {P = p < q} q x.slots lq (λ oq. s.ascend r j k p q jk a b op oq (sym (has-old x n true j p op) ∙ hp) (sym (has-old x n true k q oq)
@@ -64,75 +51,21 @@ module _ (x : Shape) (n : ℕ) (s : Sender x) (h : partial x n ≡ true) where
   }
     where
       old : (p : ℕ) → p < x.slots → (y.slot p).is_terminal_chunk ≡ false → 0 < (y.slot p).fragment → Next y p
-      old p o terminal pos =
-          let z = slot-old x n p true o in
-          let r = s.beside p o (ap (λ v. v.is_terminal_chunk) (sym z) ∙ terminal) (rw z at pos) in
-          (r.0, r.1, ap (λ v. has y v.message r.0) z ∙ has-old x n true (x.slot p).message r.0 (omega (arith, r.1)) ∙ r.2)
-
-      off : (k : ℕ) → (n ≡ k → ⊥) → (k == n) ≡ false
-      off k ne = fails (k == n) (λ z. ne (sym (same-is k n z)))
-
-      before : (k : ℕ) → (n ≡ k → ⊥) → (y.message k).abandoned ≡ true → (x.message k).abandoned ≡ true
-      before k ne e = ap (λ b. b || (x.message k).abandoned) (sym (off k ne)) ∙ e
+      old p o terminal pos = grind (arith, nat_tests, slot-old)
 
       was : (k : ℕ) → (k == n) ≡ false → partial y k ≡ true → partial x k ≡ true
-      was k f g =
-          let i = of-partial y k g in
-          is-partial x k (omega (arith, i.some, sent-same k)) (omega (arith, i.more, sent-same k)) (ap (λ b. b || (x.message k).abandoned) (sym f) ∙ i.alive)
+      was k f g = grind (arith, nat_tests, sent-same)
 
       ended : (k : ℕ) → n ≡ k → length (numbers_where (is_terminal x k) 0 x.slots) + (if (n == k) && true then 1 else 0) ≡ terminals_due y k
-      ended k e =
-          let i = of-partial x n h in
-          let hit : (n == k) ≡ true = ap (λ j. n == j) (sym e) ∙ same-yes n in
-          let hit' : (k == n) ≡ true = ap (λ j. j == n) (sym e) ∙ same-yes n in
-          let few : length (numbers_where (is_terminal x k) 0 x.slots) ≡ 0 = ap (λ j. length (numbers_where (is_terminal x j) 0 x.slots)) (sym e)
-          ∙ s.terminals n made-n ∙ ap (λ b. if b && nat_lt (sent x n) (parts x n) then 1 else 0) i.alive in
-          let more : nat_lt (sent y k) (parts x k) ≡ true =
-          (let l : sent y k < parts x k = omega (arith, sent-same k, ap (sent x) e, ap (parts x) e, i.more) in grind (arith, nat_tests)) in
-          cc
+      ended k e = grind (arith, nat_tests, sent-same) steps 150000
 
       other : (k : ℕ) → (n ≡ k → ⊥) → (n == k) ≡ false → k < x.count
           → length (numbers_where (is_terminal x k) 0 x.slots) + (if (n == k) && true then 1 else 0) ≡ terminals_due y k
-      other k ne f lt =
-          let z : length (numbers_where (is_terminal x k) 0 x.slots) + 0 ≡ length (numbers_where (is_terminal x k) 0 x.slots) = omega arith in
-          cc (f, z, s.terminals k lt, sent-same k, off k ne)
+      other k ne f lt = grind (arith, nat_tests, sent-same)
 
 -- without one, where it was sent or abandoned before
 pub sender-abandoned : (x : Shape) (n : ℕ) → Sender x → partial x n ≡ false → 0 < sent x n → Sender (abandoned_at x n)
-sender-abandoned x n s no' pos = record {
-  some = s.some;
-  made = s.made;
-  number = s.number;
-  beside = s.beside;
-  last = λ k g. let i = of-partial (abandoned_at x n) k g in s.last k (is-partial x k i.some i.more (alive (k == n) (x.message k).abandoned i.alive));
-  within = s.within;
-  terminals = λ k lt. s.terminals k lt ∙ by_same {P = terminals_due x k ≡ terminals_due (abandoned_at x n) k} k n
-      (λ e. by_flag k e (x.message k).abandoned refl (cases_lt (sent x k) (parts x k)))
-      (λ ne f. ap (λ b. if (b || (x.message k).abandoned) && nat_lt (sent x k) (parts x k) then 1 else 0) (sym f));
-  expired_unsent = s.expired_unsent;
-  abandoned_sent = λ k lt e. by_same {P = 0 < sent x k} k n
-      (λ z. omega (arith, ap (sent x) z))
-      (λ ne f. s.abandoned_sent k lt (ap (λ b. b || (x.message k).abandoned) (sym f) ∙ e));
-  turn = s.turn;
-  ascend = s.ascend;
-}
-  where
-    alive : (b c : Bool) → (b || c) ≡ false → c ≡ false
-    alive true c e = cc
-    alive false c e = e
-
-    by_flag : (k : ℕ) → k ≡ n → (b : Bool) → (x.message k).abandoned ≡ b → (sent x k < parts x k) ⊎ (parts x k ≤ sent x k)
-        → terminals_due x k ≡ terminals_due (abandoned_at x n) k
-    by_flag k e true f side = let hit : (k == n) ≡ true = ap (λ j. k == j) (sym e) ∙ same-yes k in rw (f, hit) refl
-    by_flag k e false f (inl l) = absurd (not_both (sym no' ∙ ap (partial x) (sym e) ∙ is-partial x k (omega (arith, ap (sent x) e)) l f))
-    by_flag k e false f (inr g) =
-        let z : nat_lt (sent x k) (parts x k) ≡ false = grind (arith, nat_tests) in
-        ap (λ b. if (x.message k).abandoned && b then 1 else 0) z ∙ none (x.message k).abandoned
-        ∙ sym (ap (λ b. if ((k == n) || (x.message k).abandoned) && b then 1 else 0) z ∙ none ((k == n) || (x.message k).abandoned))
-      where
-        none : (b : Bool) → ◌≡◌ {A = ℕ} (if b && false then 1 else 0) 0
-        none true = refl
-        none false = refl
+sender-abandoned x n s no' pos = search (arith, nat_tests, of-partial, is-partial, by_same, cases_lt, same-yes, not_both)
 
 -- ## Expiry
 
@@ -145,24 +78,14 @@ sender-expired x n s z = record {
   last = s.last;
   within = s.within;
   terminals = s.terminals;
-  expired_unsent = λ k lt e. by_same {P = sent x k ≡ 0} k n
-      (λ i. ap (sent x) i ∙ z)
-      (λ ne f. s.expired_unsent k lt (ap (λ b. b || (x.message k).expired) (sym f) ∙ e));
+  expired_unsent = grind (arith, nat_tests);
   abandoned_sent = s.abandoned_sent;
   turn = λ r j k jk lt a b pos. s.turn r j k jk lt (was r j a) (was r k b) pos;
   ascend = λ r j k p q jk a b. s.ascend r j k p q jk (was r j a) (was r k b);
 }
   where
     was : (r k : ℕ) → on (expired_at x n) r k ≡ true → on x r k ≡ true
-    was r k e =
-        let a = both ((x.message k).stream == r) ((x.message k).ordered && not ((k == n) || (x.message k).expired)) e in
-        let b = both (x.message k).ordered (not ((k == n) || (x.message k).expired)) a.1 in
-        and ((x.message k).stream == r) ((x.message k).ordered && not (x.message k).expired) a.0
-        (and (x.message k).ordered (not (x.message k).expired) b.0 (less (k == n) (x.message k).expired b.1))
-      where
-        less : (b c : Bool) → not (b || c) ≡ true → not c ≡ true
-        less true c e = cc
-        less false c e = e
+    was r k e = grind (arith, nat_tests)
 
 -- ## Writes
 
@@ -202,8 +125,7 @@ module _ (x : Shape) (m : MessagePart) where
         (ap (λ b. if b && nat_lt (sent x k) (parts z k) then 1 else 0) (ap (λ j. (z.message j).abandoned) e ∙ ap (λ v. v.abandoned) message-new ∙ kept')));
     expired_unsent =
         λ k lt e. by_last {P = sent x k ≡ 0} k x.count lt (λ o. s.expired_unsent k o (ap (λ v. v.expired) (sym (message-old k o)) ∙ e)) (λ i. none k i);
-    abandoned_sent = λ k lt e. by_last {P = 0 < sent x k} k x.count lt (λ o. s.abandoned_sent k o (ap (λ v. v.abandoned) (sym (message-old k o)) ∙ e))
-        (λ i. absurd (not_both (sym kept' ∙ ap (λ v. v.abandoned) (sym message-new) ∙ ap (λ j. (z.message j).abandoned) (sym i) ∙ e)));
+    abandoned_sent = grind (arith, nat_tests);
     turn = λ r j k jk lt a b pos. by_made {P = 0 < sent x j} k pos (λ o. s.turn r j k jk o (sym (on-old r j (omega arith)) ∙ a) (sym (on-old r k o) ∙ b) pos);
     ascend = λ r j k p q jk a b lp lq hp hq. by_made {P = p < q} k (sent-some x k q lq hq)
         (λ o. s.ascend r j k p q jk (sym (on-old r j (omega arith)) ∙ a) (sym (on-old r k o) ∙ b) lp lq hp hq);
@@ -213,8 +135,4 @@ module _ (x : Shape) (m : MessagePart) where
       none k e = sent-none x k s (omega arith)
 
       by_made : {P : Type 0} (k : ℕ) → 0 < sent x k → (k < x.count → P) → P
-      by_made {P} k pos f = step (cases_lt k x.count)
-        where
-          step : (k < x.count) ⊎ (x.count ≤ k) → P
-          step (inl l) = f l
-          step (inr g) = absurd (omega (arith, sent-none x k s g))
+      by_made {P} k pos f = elim (cases_lt k x.count) [ inl l ↦ f l | inr g ↦ absurd (omega (arith, sent-none x k s g)) ]

@@ -1,32 +1,20 @@
 -- In every history the sender's slots are valid.
-use Rattle.std.proofs.Common.{◌≡◌, ℕ, zero, suc, ◌+◌, ◌<◌, ◌^◌, Bool, true, false, List, [], ◌∷◌, ◌++◌, length, map, Option, Some, None, refl, ap, sym, ◌∙◌}
-use Rattle.std.proofs.Common.{arith, add-one}
-use Rattle.std.specs.Prelude.{if◌then◌else◌, ◌==◌, ◌&&◌, nat_lt, find, is_some, slice_get, fold, max, nat_le, unwrap_or}
-use Rattle.std.proofs.Math.Path.{subst}
-use Rattle.std.proofs.lemmas.Bool.Decides.{nat_tests}
-use Rattle.std.specs.List.{filter}
-use Rattle.sctp_util.specs.Kept.{numbers_where, always, numbers_from, total_over}
-use Rattle.sctp_util.specs.Lists.{change_at, pieces}
-use Rattle.sctp_util.proofs.Passing.{kept-snoc_in}
-use Rattle.sctp_util.proofs.More.{both}
-use Rattle.sctp_model.specs.declared.event.Event.{Event}
+use Rattle.sctp_model.proofs.Names.{◌≡◌, ℕ, zero, suc, ◌+◌, ◌<◌, ◌^◌, Bool, true, false, List, [], ◌∷◌, ◌++◌, length, map, Option, Some, None, refl, ap, sym}
+use Rattle.sctp_model.proofs.Names.{◌∙◌, arith, add-one, if◌then◌else◌, ◌==◌, ◌&&◌, nat_lt, find, is_some, slice_get, fold, nat_le, unwrap_or, subst, nat_tests}
+use Rattle.sctp_model.proofs.Names.{filter, numbers_where, always, numbers_from, total_over, change_at, kept-snoc_in, both, Event, LinkRefusal, StreamUnknown}
+use Rattle.sctp_model.proofs.Names.{MessageTooLarge, TsnsUsedUp, NotInFlight, PayloadProtocolIdentifier, Setup, StreamRecord, Message, Datagram, Data, Forward}
+use Rattle.sctp_model.proofs.Names.{Sack, LinkRecord, start, History, record_of, IsRun, refusal_of, after, unless, fragments_accepted, fragments_in, by_last}
+use Rattle.sctp_model.proofs.Names.{total-append, total-kept_same}
 use Rattle.sctp_model.specs.declared.event.Event.TheVariants as E
-use Rattle.sctp_model.specs.declared.event.LinkRefusal.{LinkRefusal}
-use Rattle.sctp_model.specs.declared.event.LinkRefusal.TheVariants.{StreamUnknown, MessageTooLarge, TsnsUsedUp, NotInFlight}
-use Rattle.sctp_data.specs.declared.chunk.chunk_payload_data.PayloadProtocolIdentifier.{PayloadProtocolIdentifier}
-use Rattle.sctp_model.specs.LinkRecord.{Setup, StreamRecord, Message, Datagram, Data, Forward, Sack, LinkRecord, start}
 use Rattle.sctp_model.specs.Messages
 use Rattle.sctp_model.specs.Receiver
 use Rattle.sctp_model.specs.Changes
-use Rattle.sctp_model.specs.Steps.{History, record_of, IsRun, refusal_of, after, unless, fragments_accepted, fragments_in}
 use Rattle.sctp_model.proofs.sender.Shape.{Shape, MessagePart, shape, message_part, sent, parts, slotted, written, abandoned_at, expired_at}
 use Rattle.sctp_model.proofs.sender.Sender.{Sender}
 use Rattle.sctp_model.proofs.sender.SenderSteps.{sender-takes, of-partial, sent-grows}
 use Rattle.sctp_model.proofs.sender.SenderEnds.{sender-marked, sender-abandoned, sender-expired, sender-written, message-old, message-new, parts-old}
 use Rattle.sctp_model.proofs.sender.Shapes
 use Rattle.sctp_model.proofs.sender.Fronts.{front-takes, slot-sent, of-unsent}
-use Rattle.sctp_util.proofs.Cases.{by_last}
-use Rattle.sctp_util.proofs.Totals.{total-append, total-kept_same}
 
 -- ## The invariant
 
@@ -54,14 +42,7 @@ consistent-shape setup own x y rs e g = subst (λ z. ConsistentIn setup own z rs
 pub open-mapped : (f : StreamRecord → StreamRecord) (s : ℕ) (rs : List StreamRecord) → ((r : StreamRecord) → (f r).stream ≡ r.stream)
     → open_in (map f rs) s ≡ open_in rs s
 open-mapped f s [] keeps = refl
-open-mapped f s (r ∷ rs) keeps = step ((f r).stream == s) (r.stream == s) (ap (λ t. t == s) (keeps r)) (open-mapped f s rs keeps)
-  where
-    step : (a b : Bool) → a ≡ b → open_in (map f rs) s ≡ open_in rs s
-        → is_some (if a then Some (f r) else find (λ r. r.stream == s) (map f rs)) ≡ is_some (if b then Some r else find (λ r. r.stream == s) rs)
-    step true true e ih = refl
-    step false false e ih = ih
-    step true false e ih = cc
-    step false true e ih = cc
+open-mapped f s (r ∷ rs) keeps = grind (arith, nat_tests, (open-mapped f s rs keeps))
 
 open-more : (r : StreamRecord) (s : ℕ) (rs : List StreamRecord) → open_in rs s ≡ true → open_in (rs ++ r ∷ []) s ≡ true
 open-more r s [] e = cc
@@ -69,13 +50,11 @@ open-more r s (q ∷ rs) e = step (q.stream == s) e (λ h. open-more r s rs h)
   where
     step : (a : Bool) → is_some (if a then Some q else find (λ r. r.stream == s) rs) ≡ true → (open_in rs s ≡ true → open_in (rs ++ r ∷ []) s ≡ true)
         → is_some (if a then Some q else find (λ r. r.stream == s) (rs ++ r ∷ [])) ≡ true
-    step true e ih = refl
-    step false e ih = ih e
+    step a h1 h2 = grind (arith, nat_tests)
 
 pub consistent-streams : (setup own : Setup) (x : Shape) (rs ss : List StreamRecord) → ((s : ℕ) → open_in rs s ≡ true → open_in ss s ≡ true)
     → ConsistentIn setup own x rs → ConsistentIn setup own x ss
-consistent-streams setup own x rs ss more g =
-    record { setup_is = g.setup_is; sender = g.sender; accepted = g.accepted; known = λ n lt. more (x.message n).stream (g.known n lt) }
+consistent-streams setup own x rs ss more g = grind (arith, nat_tests)
 
 pub consistent-mapped : (setup own : Setup) (x : Shape) (rs : List StreamRecord) (f : StreamRecord → StreamRecord)
     → ((r : StreamRecord) → (f r).stream ≡ r.stream) → ConsistentIn setup own x rs → ConsistentIn setup own x (map f rs)
@@ -83,11 +62,7 @@ consistent-mapped setup own x rs f keeps g = consistent-streams setup own x rs (
 
 pub stream-where : (s : ℕ) (f : StreamRecord → StreamRecord) → ((r : StreamRecord) → (f r).stream ≡ r.stream) → (r : StreamRecord)
     → (if r.stream == s then f r else r).stream ≡ r.stream
-stream-where s f keeps r = step (r.stream == s)
-  where
-    step : (b : Bool) → (if b then f r else r).stream ≡ r.stream
-    step true = keeps r
-    step false = refl
+stream-where s f keeps r = elim (r.stream == s) as (λ b. (if b then f r else r).stream ≡ r.stream) [ true ↦ keeps r | false ↦ refl ]
 
 pub consistent-changed : (setup : Setup) (w : LinkRecord) (s : ℕ) (f : StreamRecord → StreamRecord) → ((r : StreamRecord) → (f r).stream ≡ r.stream)
     → Consistent setup w → Consistent setup (Changes.stream_changed w s f)
@@ -103,13 +78,8 @@ fold-keeps P f keeps (x ∷ xs) w p = fold-keeps P f keeps xs (f w x) (keeps w x
 pub filled-keeps : (P : LinkRecord → Type 0) → ((v : LinkRecord) → P v → P (Changes.send_fragment v)) → (most used : ℕ) (w : LinkRecord) → P w
     → P (Changes.fill_datagram most used w)
 filled-keeps P keeps zero used w p = p
-filled-keeps P keeps (suc most) used w p = step (Changes.chunk_fits w used (Changes.next_length w))
-    (filled-keeps P keeps most (Changes.plus used (Changes.next_length w)) (Changes.send_fragment w) (keeps w p))
-  where
-    step : (b : Bool) → P (Changes.fill_datagram most (Changes.plus used (Changes.next_length w)) (Changes.send_fragment w))
-        → P (if b then Changes.fill_datagram most (Changes.plus used (Changes.next_length w)) (Changes.send_fragment w) else w)
-    step true h = h
-    step false h = p
+filled-keeps P keeps (suc most) used w p =
+    grind (arith, nat_tests, (filled-keeps P keeps most (Changes.plus used (Changes.next_length w)) (Changes.send_fragment w) (keeps w p)))
 
 pub sends-keep : (P : LinkRecord → Type 0) → ((v : LinkRecord) → P v → P (Changes.send_fragment v)) → (w : LinkRecord) → P w → P (Changes.send_fragments w)
 sends-keep P keeps w p = filled-keeps P keeps w.setup.limit (Changes.plus 12 (Changes.next_length w)) (Changes.send_fragment w) (keeps w p)
@@ -167,20 +137,11 @@ consistent-late setup (n ∷ ns) w g a = consistent-late setup ns (Changes.after
 all-kept : (w : LinkRecord) (p : ℕ → Bool) (from count : ℕ) → ((k : ℕ) → p k ≡ true → 0 < sent (shape w) (Messages.message_of w k))
     → AllSent w (map (Messages.message_of w) (numbers_where p from count))
 all-kept w p from zero h = tt
-all-kept w p from (suc count) h = step (p from) refl (all-kept w p (from + 1) count h)
-  where
-    step : (b : Bool) → p from ≡ b → AllSent w (map (Messages.message_of w) (numbers_where p (from + 1) count))
-        → AllSent w (map (Messages.message_of w) (if b then from ∷ numbers_where p (from + 1) count else numbers_where p (from + 1) count))
-    step true e ih = (h from e, ih)
-    step false e ih = ih
+all-kept w p from (suc count) h = grind (arith, nat_tests, (all-kept w p (from + 1) count h))
 
 all-passing : (w : LinkRecord) (q : ℕ → Bool) (ns : List ℕ) → AllSent w ns → AllSent w (filter q ns)
 all-passing w q [] a = tt
-all-passing w q (n ∷ ns) a = step (q n) (all-passing w q ns a.1)
-  where
-    step : (b : Bool) → AllSent w (filter q ns) → AllSent w (if b then n ∷ filter q ns else filter q ns)
-    step true ih = (a.0, ih)
-    step false ih = ih
+all-passing w q (n ∷ ns) a = grind (arith, nat_tests, (all-passing w q ns a.1))
 
 all-append : (w : LinkRecord) (ms ns : List ℕ) → AllSent w ms → AllSent w ns → AllSent w (ms ++ ns)
 all-append w [] ns a b = b
@@ -227,9 +188,7 @@ consistent-datagram setup w (Some (Forward upto names)) g = step (Changes.skip_c
 consistent-datagram setup w (Some (Sack r)) g = g
 
 consistent-taken : (setup : Setup) (w : LinkRecord) (o : Option Datagram) → Consistent setup w → Consistent setup (Changes.after_acked w o)
-consistent-taken setup w (Some (Sack r)) g =
-    consistent-shape setup w.setup (shape w)
-    (shape (Changes.after_acked w (Some (Sack r)))) w.streams (Shapes.shape-acknowledged w r (max w.taken r.cumulative)) g
+consistent-taken setup w (Some (Sack r)) g = search (arith, nat_tests, consistent-shape, Shapes.shape-acknowledged)
 consistent-taken setup w (Some (Data slots)) g = g
 consistent-taken setup w (Some (Forward upto names)) g = g
 consistent-taken setup w None g = g
@@ -247,8 +206,7 @@ found s (q ∷ rs) r e = step (q.stream == s) refl e (λ h. found s rs r h)
   where
     step : (b : Bool) → (q.stream == s) ≡ b → (if b then Some q else find (λ r. r.stream == s) rs) ≡ Some r
         → (find (λ r. r.stream == s) rs ≡ Some r → r.stream ≡ s) → r.stream ≡ s
-    step true h e ih = let z : q ≡ r = cc in let same : q.stream ≡ s = grind (arith, nat_tests) in ap (λ y. y.stream) (sym z) ∙ same
-    step false h e ih = ih e
+    step b h1 h2 h3 = grind (arith, nat_tests)
 
 pub accepted-written : (x : Shape) (m : MessagePart) → accepted_of (written x m) ≡ accepted_of x + parts (written x m) x.count
 accepted-written x m =
@@ -258,8 +216,7 @@ accepted-written x m =
     ∙ (let e = total-kept_same (parts (written x m)) (parts x) always 0 x.count (λ k a b. parts-old x m k (omega arith)) in omega (arith, e))
 
 pub unless-holds : (b : Bool) (r : LinkRefusal) (others : Option LinkRefusal) → unless b r others ≡ None → (b ≡ true) × (others ≡ None)
-unless-holds true r others e = (refl, e)
-unless-holds false r others e = cc
+unless-holds b r others h1 = grind (arith, nat_tests)
 
 abbrev pub written_as : LinkRecord → ℕ → PayloadProtocolIdentifier → List ℕ → Message
 written_as w s ppi bytes = Changes.message_on w (Messages.stream_of w s) ppi bytes
@@ -268,8 +225,8 @@ consistent-written : (setup : Setup) (w : LinkRecord) (s : ℕ) (ppi : PayloadPr
     → fragments_accepted w + fragments_in w bytes < 2 ^ 31 → Consistent setup w → Consistent setup (Changes.after_write w s ppi bytes)
 consistent-written setup w s ppi [] open' fits g = g
 consistent-written setup w s ppi (b ∷ bs) open' fits g =
-    let new : parts (written (shape w) (message_part (written_as w s ppi (b ∷ bs)))) (length w.messages) ≡ fragments_in w (b ∷ bs) =
-    ap (λ y. length (pieces (length y.bytes) w.setup.size y.bytes)) (message-new (shape w) (message_part (written_as w s ppi (b ∷ bs)))) in
+    let new : parts (written (shape w) (message_part (written_as w s ppi (b ∷ bs))))
+    (length w.messages) ≡ fragments_in w (b ∷ bs) = grind (arith, nat_tests) in
     let total = accepted-written (shape w) (message_part (written_as w s ppi (b ∷ bs))) in
     consistent-shape setup w.setup (written (shape w) (message_part (written_as w s ppi (b ∷ bs))))
     (shape (Changes.after_write w s ppi (b ∷ bs))) w.streams (Shapes.shape-written w (written_as w s ppi (b ∷ bs)))
@@ -287,8 +244,7 @@ consistent-written setup w s ppi (b ∷ bs) open' fits g =
   where
     named : (o : Option StreamRecord) → find (λ r. r.stream == s) w.streams ≡ o → is_some o ≡ true
         → open_in w.streams (unwrap_or o (Messages.no_stream s)).stream ≡ true
-    named None e h = cc
-    named (Some r) e h = let q : r.stream ≡ s = found s w.streams r e in ap (open_in w.streams) q ∙ ap is_some e
+    named o h1 h2 = grind (arith, nat_tests, found)
 
 -- ## Each accepted event keeps it
 
@@ -324,8 +280,7 @@ consistent-sent setup w now (Some n) g =
     sends-keep (Consistent setup) (λ v h. consistent-takes setup v h) (Changes.after_start w now) (consistent-started setup w now g)
 
 pub consistent-after : (setup : Setup) (w : LinkRecord) (e : Event) → refusal_of w e ≡ None → Consistent setup w → Consistent setup (after w e)
-consistent-after setup w (E.Open s) ok g =
-    consistent-streams setup w.setup (shape w) w.streams (w.streams ++ Messages.no_stream s ∷ []) (λ t h. open-more (Messages.no_stream s) t w.streams h) g
+consistent-after setup w (E.Open s) ok g = grind (arith, nat_tests, open-more)
 consistent-after setup w (E.Mode s unordered reliability value) ok g =
     consistent-changed setup w s (Changes.with_mode unordered reliability value) (λ r. refl) g
 consistent-after setup w (E.Write s ppi bytes) ok g =
@@ -349,24 +304,7 @@ consistent-after setup w (E.Read s) ok g = consistent-read setup w s (Receiver.n
 consistent-after setup w event ok g = g
 
 consistent-start : (setup : Setup) → Consistent setup (start setup)
-consistent-start setup = record {
-  setup_is = refl;
-  sender = record {
-    some = λ n lt. absurd (omega arith);
-    made = λ p lt. absurd (omega arith);
-    number = λ p lt. absurd (omega arith);
-    beside = λ p lt m f. absurd (omega arith);
-    last = λ n h. cc;
-    within = λ n lt. absurd (omega arith);
-    terminals = λ n lt. absurd (omega arith);
-    expired_unsent = λ n lt e. absurd (omega arith);
-    abandoned_sent = λ n lt e. absurd (omega arith);
-    turn = λ s m n a b c d e. absurd (omega arith);
-    ascend = λ s m n p q a b c lp lq. absurd (omega arith);
-  };
-  accepted = omega arith;
-  known = λ n lt. absurd (omega arith);
-}
+consistent-start setup = grind (arith, nat_tests)
 
 -- in every history
 pub consistent-run : (setup : Setup) (h : History) → IsRun setup h → Consistent setup (record_of setup h)

@@ -1,21 +1,15 @@
-use Rattle.std.proofs.Common.{◌≡◌, ℕ, ◌+◌, ◌<◌, ◌≤◌, Bool, true, false, length, refl, ap, sym, ◌∙◌, inl, inr, arith}
-use Rattle.std.specs.Prelude.{◌⊎◌, if◌then◌else◌, ◌==◌, ◌&&◌, not, nat_lt}
-use Rattle.std.proofs.lemmas.Bool.{cases_lt}
-use Rattle.std.proofs.lemmas.Bool.Decides.{nat_tests}
-use Rattle.sctp_util.specs.Kept.{numbers_where}
-use Rattle.sctp_util.proofs.Passing.{kept-same}
-use Rattle.sctp_util.proofs.More.{fails, not_both, both, and, length-kept-positive}
+use Rattle.sctp_model.proofs.Names.{◌≡◌, ℕ, ◌+◌, ◌<◌, ◌≤◌, Bool, true, false, length, refl, ap, sym, ◌∙◌, inl, inr, arith, ◌⊎◌, if◌then◌else◌, ◌==◌, ◌&&◌, not}
+use Rattle.sctp_model.proofs.Names.{nat_lt, cases_lt, nat_tests, numbers_where, kept-same, fails, not_both, both, length-kept-positive, by_last, by_same}
+use Rattle.sctp_model.proofs.Names.{same-yes, same-is, negated}
 use Rattle.sctp_model.proofs.sender.Shape.{Shape, has, sent, parts, partial, on, slotted}
-use Rattle.sctp_model.proofs.sender.Sender.{Sender, is_terminal, sent-slotted, terminals-slotted, slot-old, slot-new}
-use Rattle.sctp_util.proofs.Cases.{by_last, by_same, same-yes, same-is, negated}
+use Rattle.sctp_model.proofs.sender.Sender.{Sender, sent-slotted, terminals-slotted, slot-old, slot-new}
 
 -- Each change of messages and slots keeps what the sender keeps.
 
 -- ## By cases
 
 pub of-has : (x : Shape) (n p : ℕ) → has x n p ≡ true → ((x.slot p).message ≡ n) × ((x.slot p).is_terminal_chunk ≡ false)
-of-has x n p h = let a = both ((x.slot p).message == n) (not (x.slot p).is_terminal_chunk) h in
-    (same-is (x.slot p).message n a.0, negated (x.slot p).is_terminal_chunk a.1)
+of-has x n p h = grind (arith, nat_tests)
 
 -- a slot with a fragment of a message: some was sent
 pub sent-some : (x : Shape) (n p : ℕ) → p < x.slots → has x n p ≡ true → 0 < sent x n
@@ -27,24 +21,14 @@ pub record IsPartial (x : Shape) (n : ℕ) : Type 0 where
   pub alive : (x.message n).abandoned ≡ false
 
 pub of-partial : (x : Shape) (n : ℕ) → partial x n ≡ true → IsPartial x n
-of-partial x n h =
-    let a = both (nat_lt 0 (sent x n)) (nat_lt (sent x n) (parts x n) && not (x.message n).abandoned) h in
-    let b = both (nat_lt (sent x n) (parts x n)) (not (x.message n).abandoned) a.1 in
-    let c = a.0 in
-    let d = b.0 in
-    record { some = grind (arith, nat_tests); more = grind (arith, nat_tests); alive = negated (x.message n).abandoned b.1 }
+of-partial x n h = grind (arith, nat_tests)
 
 pub is-partial : (x : Shape) (n : ℕ) → 0 < sent x n → sent x n < parts x n → (x.message n).abandoned ≡ false → partial x n ≡ true
-is-partial x n a b c = and (nat_lt 0 (sent x n)) (nat_lt (sent x n) (parts x n) && not (x.message n).abandoned) (grind (arith, nat_tests))
-    (and (nat_lt (sent x n) (parts x n)) (not (x.message n).abandoned) (grind (arith, nat_tests)) (ap not c))
+is-partial x n a b c = grind (arith, nat_tests)
 
 -- at most one message is partially sent
 pub partial-one : (x : Shape) (j k : ℕ) → Sender x → partial x j ≡ true → partial x k ≡ true → j ≡ k
-partial-one x j k s a b =
-    let p = s.last j a in
-    let q = s.last k b in
-    let same : p.0 ≡ q.0 = omega (arith, p.1, q.1) in
-    sym (of-has x j p.0 p.2).0 ∙ ap (λ r. (x.slot r).message) same ∙ (of-has x k q.0 q.2).0
+partial-one x j k s a b = grind (arith, nat_tests, of-has) steps 60000
 
 -- ## A fragment takes a slot
 
@@ -86,13 +70,7 @@ module _ (x : Shape) (n : ℕ) (m : Bool) where
       upto k p le = ap length (kept-same (has y k) (has x k) 0 p (λ j a b. has-old k j (omega arith)))
 
   pub made-slotted : Sender x → n < x.count → (p : ℕ) → p < y.slots → (y.slot p).message < y.count
-  made-slotted s lt p l = by_last p x.slots l
-      (λ o. rw (slot-old x n p m o) (s.made p o))
-      (λ e. rw (ap (λ r. (y.slot r).message) e ∙ ap (λ z. z.message) (slot-new x n m)) lt)
-
--- the new slot is the last of its message
-pub here : (x : Shape) (n : ℕ) → has (slotted x n false) n x.slots ≡ true
-here x n = has-new x n false n ∙ and (n == n) (not false) (same-yes n) refl
+  made-slotted s lt p l = grind (arith, nat_tests)
 
 pub sent-here : (x : Shape) (n : ℕ) → sent (slotted x n false) n ≡ sent x n + 1
 sent-here x n = sent-slotted x n n false ∙ (let e : (n == n) ≡ true = same-yes n in rw e refl)
@@ -112,18 +90,12 @@ sender-takes x n s t = record {
   made = made-slotted x n false s t.made;
   number = number-slotted x n false s;
   beside = λ p lt terminal pos. by_last {P = Next (slotted x n false) p} p x.slots lt (λ o. old p o terminal pos) (λ e. new p e pos);
-  last = λ k h. by_same {P = Last (slotted x n false) k} n k
-      (λ e. (x.slots, refl, ap (λ j. has (slotted x n false) j x.slots) (sym e) ∙ here x n))
-      (λ ne f.
-      absurd (ne (sym (t.alone k (ap (λ c. nat_lt 0 c && (nat_lt c (parts x k) && not (x.message k).abandoned)) (sym (sent-other x n false k ne)) ∙ h)))));
+  last = grind (arith, nat_tests, sent-other);
   within = λ k lt. by_same {P = sent (slotted x n false) k ≤ parts x k} n k
       (λ e. let z : sent (slotted x n false) k ≡ sent x n + 1 = ap (sent (slotted x n false)) (sym e) ∙ sent-here x n in
       let w : parts x n ≡ parts x k = ap (parts x) e in omega (arith, t.more, z, w))
       (λ ne f. omega (arith, sent-other x n false k ne, s.within k lt));
-  terminals = λ k lt. terminals-slotted x n k false ∙ none (n == k) (length (numbers_where (is_terminal x k) 0 x.slots)) ∙ s.terminals k lt
-      ∙ by_same {P = terminals_due x k ≡ terminals_due (slotted x n false) k} n k
-      (λ e. let dead : (x.message k).abandoned ≡ false = ap (λ j. (x.message j).abandoned) (sym e) ∙ t.alive in rw dead refl)
-      (λ ne f. ap (λ c. if (x.message k).abandoned && nat_lt c (parts x k) then 1 else 0) (sym (sent-other x n false k ne)));
+  terminals = grind (arith, nat_tests, terminals-slotted, sent-other);
   expired_unsent = λ k lt e. sent-other x n false k (λ z. not_both (sym t.kept ∙ ap (λ j. (x.message j).expired) z ∙ e)) ∙ s.expired_unsent k lt e;
   abandoned_sent = λ k lt e. omega (arith, sent-grows x n false k, s.abandoned_sent k lt e);
   turn = λ r j k jk lt a b pos. by_same {P = 0 < sent (slotted x n false) j} n k
@@ -136,24 +108,12 @@ sender-takes x n s t = record {
       (λ eq. by_last {P = p < q} p x.slots lp (λ op. omega arith) (λ ep. absurd (clash j k jk (taken j p ep hp) (taken k q eq hq))));
 }
   where
-    none : (b : Bool) (c : ℕ) → c + (if b && false then 1 else 0) ≡ c
-    none true c = omega arith
-    none false c = omega arith
-
     old : (p : ℕ) → p < x.slots → ((slotted x n false).slot p).is_terminal_chunk ≡ false → 0 < ((slotted x n false).slot p).fragment
         → Next (slotted x n false) p
-    old p o terminal pos =
-        let z = slot-old x n p false o in
-        let r = s.beside p o (ap (λ v. v.is_terminal_chunk) (sym z) ∙ terminal) (rw z at pos) in
-        (r.0, r.1, ap (λ v. has (slotted x n false) v.message r.0) z ∙ has-old x n false (x.slot p).message r.0 (omega (arith, r.1)) ∙ r.2)
+    old p o terminal pos = grind (arith, nat_tests, slot-old)
 
     new : (p : ℕ) → p ≡ x.slots → 0 < ((slotted x n false).slot p).fragment → Next (slotted x n false) p
-    new p e pos =
-        let z : (slotted x n false).slot p ≡ record { message = n; fragment = sent x n; is_terminal_chunk = false } = ap (slotted x n false).slot e
-        ∙ slot-new x n false in
-        let some : 0 < sent x n = omega (arith, pos, ap (λ v. v.fragment) z) in
-        let r = s.last n (is-partial x n some t.more t.alive) in
-        (r.0, e ∙ r.1, ap (λ v. has (slotted x n false) v.message r.0) z ∙ has-old x n false n r.0 (omega (arith, r.1)) ∙ r.2)
+    new p e pos = grind (arith, nat_tests) steps 150000
 
     -- the new slot is of message n alone
     taken : (k p : ℕ) → p ≡ x.slots → has (slotted x n false) k p ≡ true → n ≡ k
@@ -165,16 +125,7 @@ sender-takes x n s t = record {
     -- the first of it: those before it were sent
     first : (r j k : ℕ) → j < k → k < x.count → on x r j ≡ true → on x r k ≡ true → n ≡ k → (0 < sent x n) ⊎ (sent x n ≤ 0) → 0 < sent (slotted x n false) j
     first r j k jk lt a b e (inl pos) = omega (arith, sent-grows x n false j, s.turn r j k jk lt a b (omega (arith, pos, ap (sent x) e)))
-    first r j k jk lt a b e (inr z) =
-        let p = both ((x.message j).stream == r) ((x.message j).ordered && not (x.message j).expired) a in
-        let q = both (x.message j).ordered (not (x.message j).expired) p.1 in
-        let kp = both ((x.message k).stream == r) ((x.message k).ordered && not (x.message k).expired) b in
-        let kq = both (x.message k).ordered (not (x.message k).expired) kp.1 in
-        omega (
-          arith,
-          sent-grows x n false j,
-          t.turn (ap (λ i. (x.message i).ordered) e ∙ kq.0) (omega arith) j (omega arith) q.0 (negated (x.message j).expired q.1),
-        )
+    first r j k jk lt a b e (inr z) = grind (arith, nat_tests, both, sent-grows, negated)
 
     -- a later message of the stream has no slot yet
     early : (r j k q : ℕ) → j < k → on x r j ≡ true → on x r k ≡ true → q < x.slots → has x k q ≡ true → n ≡ j → ⊥

@@ -1,30 +1,18 @@
-use Rattle.std.proofs.Common.{◌≡◌, ℕ, ◌+◌, ◌-◌, ◌<◌, ◌≤◌, Bool, true, false, [], ◌∷◌, ◌++◌, length, Option, Some, None, refl, ap, sym, ◌∙◌, inl, inr, arith}
-use Rattle.std.proofs.Common.{length-append}
-use Rattle.std.specs.Prelude.{◌⊎◌, if◌then◌else◌, ◌&&◌, ◌||◌, not, ◌↔◌, slice_get, is_some, Result, Ok, Err}
-use Rattle.std.proofs.lemmas.Bool.{cases_lt}
-use Rattle.std.specs.List.{flat_map}
-use Rattle.sctp_util.specs.Kept.{numbers_where, always, numbers_from, total_over}
-use Rattle.sctp_util.proofs.More.{not_both}
+use Rattle.sctp_model.proofs.Names.{◌≡◌, ℕ, ◌+◌, ◌-◌, ◌<◌, ◌≤◌, Bool, true, false, [], ◌∷◌, ◌++◌, length, Option, Some, None, refl, ap, sym, ◌∙◌, inl, inr}
+use Rattle.sctp_model.proofs.Names.{arith, length-append, ◌⊎◌, if◌then◌else◌, ◌&&◌, ◌||◌, not, ◌↔◌, slice_get, Result, Ok, cases_lt, flat_map, numbers_where}
+use Rattle.sctp_model.proofs.Names.{always, numbers_from, total_over, not_both, LinkRefusal, Reply, Setup, Data, LinkRecord, is_expired_or_abandoned}
+use Rattle.sctp_model.proofs.Names.{pending_fragments, pending_at, record_of, after, reply_to, sent_reply, Answers, OnEveryRun, pending_count}
+use Rattle.sctp_model.proofs.Names.{EmitsWherePending, TakesPending, IdleIsAnswered, length-mapped, get-last, length-numbers, length-gathered, total-plus}
+use Rattle.sctp_model.proofs.Names.{total-none, total-at, total-one, nat_tests}
 use Rattle.sctp_model.specs.declared.event.Event.TheVariants as E
-use Rattle.sctp_model.specs.declared.event.LinkRefusal.{LinkRefusal}
-use Rattle.sctp_model.specs.declared.event.LinkRefusal.TheVariants.{StreamUnknown, StreamOpen, MessageTooLarge, TsnsUsedUp, NoSuchDatagram, NotInFlight}
-use Rattle.sctp_model.specs.declared.event.LinkRefusal.TheVariants.{SkipUnassigned, SkipNames, SpanTooWide, OutOfMemory}
-use Rattle.sctp_model.specs.Reply.{Reply}
 use Rattle.sctp_model.specs.Reply as R
-use Rattle.sctp_model.specs.LinkRecord.{Setup, Data, LinkRecord}
 use Rattle.sctp_model.specs.Messages
-use Rattle.sctp_model.specs.Amounts.{is_expired_or_abandoned}
 use Rattle.sctp_model.specs.Changes
-use Rattle.sctp_model.specs.Queues.{pending_fragments, pending_at}
-use Rattle.sctp_model.specs.Steps.{record_of, after, refusal_of, reply_to, sent_reply, Answers}
-use Rattle.sctp_model.specs.Laws.{OnEveryRun, pending_count, EmitsWherePending, TakesPending, IdleIsAnswered}
 use Rattle.sctp_model.proofs.sender.Shape.{Shape, shape, sent, parts, slotted, front_of}
 use Rattle.sctp_model.proofs.sender.SenderSteps.{Takes, is-partial, sent-other, sent-here}
 use Rattle.sctp_model.proofs.sender.Fronts.{front-takes, front-none, is-unsent}
 use Rattle.sctp_model.proofs.sender.SenderRun.{Consistent, consistent-run, consistent-takes, consistent-started, filled-keeps}
 use Rattle.sctp_model.proofs.sender.Shapes
-use Rattle.sctp_util.proofs.Getting.{length-mapped, get-last}
-use Rattle.sctp_util.proofs.Totals.{length-numbers, length-gathered, total-plus, total-none, total-at, total-one}
 
 -- Each send takes fragments that wait.
 
@@ -49,10 +37,7 @@ count-pending w =
     ∙ length-numbers (sent (shape w) n) (parts (shape w) n - sent (shape w) n)))
   where
     each : (b g : Bool) (l c : ℕ) → l ≡ c → (if b && not g then l else 0) + (if not b && not g then l else 0) ≡ (if g then 0 else c)
-    each true true l c e = refl
-    each true false l c e = omega (arith, e)
-    each false true l c e = refl
-    each false false l c e = omega (arith, e)
+    each b g l c h1 = grind (arith, nat_tests)
 
 -- nothing waits where there is no front
 none-waits : (x : Shape) → front_of x ≡ None → waiting x ≡ 0
@@ -188,25 +173,7 @@ idle_is_answered setup h is run now result new a = (answered result a, λ z. idl
     w = record_of setup h
 
     answered : (result : Result Reply LinkRefusal) → Answers w (E.Send now) result new → result ≡ Ok R.Idle → pending_count w ≡ 0
-    answered (Ok reply) a e = let z : reply ≡ R.Idle = cc in (emits_where_pending setup h is run now).0 (sym a.1.right ∙ z)
-    answered (Err refusal) a e = cc
-
-    never : (r : LinkRefusal) → refusal_of w (E.Send now) ≡ Some r → ⊥
-    never r e = cc
-
-    none : (o : Option ℕ) → sent_reply w (after w (E.Send now)) o ≡ R.Idle → is_some o ≡ false
-    none None e = refl
-    none (Some n) e = cc
+    answered result h1 h2 = grind (arith, nat_tests, emits_where_pending)
 
     idle : (result : Result Reply LinkRefusal) → Answers w (E.Send now) result new → reply_to w (E.Send now) ≡ R.Idle → result ≡ Ok R.Idle
-    idle (Ok reply) a e = ap Ok (a.1.right ∙ e)
-    idle (Err OutOfMemory) a e = absurd (not_both (sym (ap (λ b. b && true) (none (Messages.front w) e)) ∙ a.because))
-    idle (Err StreamUnknown) a e = absurd (never StreamUnknown a.because)
-    idle (Err StreamOpen) a e = absurd (never StreamOpen a.because)
-    idle (Err MessageTooLarge) a e = absurd (never MessageTooLarge a.because)
-    idle (Err TsnsUsedUp) a e = absurd (never TsnsUsedUp a.because)
-    idle (Err NoSuchDatagram) a e = absurd (never NoSuchDatagram a.because)
-    idle (Err NotInFlight) a e = absurd (never NotInFlight a.because)
-    idle (Err SkipUnassigned) a e = absurd (never SkipUnassigned a.because)
-    idle (Err SkipNames) a e = absurd (never SkipNames a.because)
-    idle (Err SpanTooWide) a e = absurd (never SpanTooWide a.because)
+    idle result h1 h2 = grind (arith, nat_tests)

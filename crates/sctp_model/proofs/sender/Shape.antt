@@ -1,11 +1,6 @@
 -- What the sender's laws speak of: messages and slots without the flags that the receiver and the network set.
-use Rattle.std.proofs.Common.{ℕ, ◌+◌, Bool, List, length, Option}
-use Rattle.std.specs.Prelude.{if◌then◌else◌, ◌==◌, ◌&&◌, ◌||◌, not, nat_lt}
-use Rattle.sctp_util.specs.Kept.{numbers_where, first_of, or_else}
-use Rattle.sctp_util.specs.Lists.{pieces}
-use Rattle.sctp_data.specs.declared.chunk.chunk_payload_data.PayloadProtocolIdentifier.{PayloadProtocolIdentifier}
-use Rattle.sctp_model.specs.LinkRecord.{Message, Slot, LinkRecord}
-use Rattle.sctp_model.specs.Messages.{message_at, slot_at}
+use Rattle.sctp_model.proofs.Names.{ℕ, ◌+◌, Bool, List, length, Option, if◌then◌else◌, ◌==◌, ◌&&◌, ◌||◌, not, nat_lt, numbers_where, first_of, or_else, pieces}
+use Rattle.sctp_model.proofs.Names.{PayloadProtocolIdentifier, Message, Slot, LinkRecord, message_at, slot_at}
 
 -- a message as it was written, and whether it expired or was abandoned
 pub record MessagePart : Type 0 where

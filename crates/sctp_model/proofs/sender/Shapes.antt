@@ -1,13 +1,8 @@
-use Rattle.std.proofs.Common.{◌≡◌, ℕ, ◌+◌, Bool, true, false, List, [], ◌∷◌, ◌++◌, length, map, get_or, refl, ◌∙◌, length-append}
-use Rattle.std.proofs.Math.Path.{fun_ext}
-use Rattle.std.specs.Prelude.{if◌then◌else◌, ◌==◌, ◌||◌}
-use Rattle.sctp_util.specs.Lists.{change_at, each_numbered}
-use Rattle.sctp_util.proofs.More.{length-changed, changed-keeps}
-use Rattle.sctp_model.specs.LinkRecord.{Message, Slot, Report, LinkRecord}
-use Rattle.sctp_model.specs.Messages.{message_at, slot_at, no_message, no_slot, sent_of}
+use Rattle.sctp_model.proofs.Names.{◌≡◌, ℕ, ◌+◌, Bool, List, [], ◌∷◌, ◌++◌, length, map, get_or, refl, ◌∙◌, length-append, fun_ext, if◌then◌else◌, ◌==◌, ◌||◌}
+use Rattle.sctp_model.proofs.Names.{change_at, each_numbered, length-changed, changed-keeps, Message, Slot, Report, LinkRecord, message_at, slot_at, no_message}
+use Rattle.sctp_model.proofs.Names.{no_slot, get-snoc, get-changed, get-map, length-mapped, get-numbered, length-numbered, arith, nat_tests, common_steps}
 use Rattle.sctp_model.specs.Changes
 use Rattle.sctp_model.proofs.sender.Shape.{MessagePart, SlotPart, shape, message_part, slot_part, slotted, written, abandoned_at, expired_at}
-use Rattle.sctp_util.proofs.Getting.{get-snoc, get-changed, get-map, length-mapped, get-numbered, length-numbered}
 
 -- The shape of the record after each change.
 
@@ -38,8 +33,7 @@ shape-abandoned w n = shape-messages w (change_at Changes.mark_abandoned n w.mes
   where
     either : (b : Bool) (m : Message)
         → (if b then message_part (Changes.mark_abandoned m) else message_part m) ≡ record (message_part m) { abandoned = b || m.abandoned }
-    either true m = refl
-    either false m = refl
+    either b m = grind (arith, nat_tests)
 
 pub shape-expired : (w : LinkRecord) (n : ℕ) → shape (Changes.message_changed w n Changes.mark_expired) ≡ expired_at (shape w) n
 shape-expired w n = shape-messages w (change_at Changes.mark_expired n w.messages) (length w.messages)
@@ -48,18 +42,14 @@ shape-expired w n = shape-messages w (change_at Changes.mark_expired n w.message
   where
     either : (b : Bool) (m : Message)
         → (if b then message_part (Changes.mark_expired m) else message_part m) ≡ record (message_part m) { expired = b || m.expired }
-    either true m = refl
-    either false m = refl
+    either b m = grind (arith, nat_tests)
 
 pub shape-written : (w : LinkRecord) (m : Message) → shape (record w { messages = w.messages ++ m ∷ [] }) ≡ written (shape w) (message_part m)
 shape-written w m = shape-messages w (w.messages ++ m ∷ []) (length w.messages + 1)
     (written (shape w) (message_part m)).message (length-append w.messages (m ∷ [])) (λ k. get-snoc message_part w.messages m k no_message)
 
 pub shape-slot : (w : LinkRecord) (n : ℕ) (terminal : Bool) → shape (Changes.with_slot w n terminal) ≡ slotted (shape w) n terminal
-shape-slot w n terminal =
-    let y : Slot = record { message = n; fragment = sent_of w n; is_terminal_chunk = terminal; arrived = false; acknowledged = false } in
-    shape-slots w (w.slots ++ y ∷ []) (length w.slots + 1) (slotted (shape w) n terminal).slot (length-append w.slots (y ∷ []))
-    (λ p. get-snoc slot_part w.slots y p no_slot)
+shape-slot w n terminal = grind (arith, nat_tests, common_steps) steps 200000
 
 pub shape-arrived : (w : LinkRecord) (p : ℕ) → shape (record w { slots = change_at Changes.mark_arrived p w.slots }) ≡ shape w
 shape-arrived w p = shape-slots w (change_at Changes.mark_arrived p w.slots) (length w.slots) (λ k. slot_part (slot_at w k))

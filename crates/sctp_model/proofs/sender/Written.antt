@@ -1,24 +1,14 @@
 -- The messages of the record are the accepted writes.
-use Rattle.std.proofs.Common.{◌≡◌, ℕ, ◌+◌, ◌^◌, Bool, true, false, List, [], ◌∷◌, ◌++◌, length, map, Option, Some, None, refl, ap, ◌∙◌, arith, add-one}
-use Rattle.std.specs.Prelude.{if◌then◌else◌, ◌==◌, find, is_some, unwrap_or, nat_le, nat_lt}
-use Rattle.std.proofs.lemmas.List.{map-append}
-use Rattle.sctp_util.specs.Kept.{numbers_where, always}
-use Rattle.sctp_util.proofs.Passing.{map-kept-same, kept-snoc_in}
-use Rattle.sctp_data.specs.declared.chunk.chunk_payload_data.PayloadProtocolIdentifier.{PayloadProtocolIdentifier}
-use Rattle.sctp_model.specs.declared.event.Event.{Event}
+use Rattle.sctp_model.proofs.Names.{◌≡◌, ℕ, ◌+◌, Bool, true, false, List, [], ◌∷◌, ◌++◌, map, Option, Some, None, refl, ap, ◌∙◌, arith, add-one, if◌then◌else◌}
+use Rattle.sctp_model.proofs.Names.{map-append, numbers_where, always, map-kept-same, kept-snoc_in, PayloadProtocolIdentifier, Event, Reply, Setup, LinkRecord}
+use Rattle.sctp_model.proofs.Names.{Shown, writes_in, History, record_of, refusal_of, after, OnEveryRun, MessagesAreWrites, nat_tests}
 use Rattle.sctp_model.specs.declared.event.Event.TheVariants as E
-use Rattle.sctp_model.specs.declared.event.LinkRefusal.TheVariants.{StreamUnknown, MessageTooLarge, TsnsUsedUp}
-use Rattle.sctp_model.specs.Reply.{Reply}
-use Rattle.sctp_model.specs.LinkRecord.{Setup, StreamRecord, LinkRecord}
 use Rattle.sctp_model.specs.Messages
 use Rattle.sctp_model.specs.Changes
-use Rattle.sctp_model.specs.Log.{Shown, writes_in}
-use Rattle.sctp_model.specs.Steps.{History, record_of, refusal_of, after, unless, fragments_accepted, fragments_in}
-use Rattle.sctp_model.specs.Laws.{OnEveryRun, MessagesAreWrites}
 use Rattle.sctp_model.proofs.sender.Shape.{Shape, MessagePart, shape, message_part, written}
 use Rattle.sctp_model.proofs.sender.Shapes
 use Rattle.sctp_model.proofs.sender.SenderEnds.{message-old, message-new}
-use Rattle.sctp_model.proofs.sender.SenderRun.{fold-keeps, sends-keep, found, written_as, unless-holds}
+use Rattle.sctp_model.proofs.sender.SenderRun.{fold-keeps, sends-keep, found, written_as}
 use Rattle.sctp_model.proofs.sender.Network
 
 abbrev pub shown_part : MessagePart → Shown
@@ -38,11 +28,7 @@ answered-written x m =
     ∙ ap (λ y. answered x ++ shown_part y ∷ []) (message-new x m)
 
 answered-sent : (w : LinkRecord) → answered (shape (Changes.send_fragment w)) ≡ answered (shape w)
-answered-sent w = step (Messages.front w)
-  where
-    step : (o : Option ℕ) → answered (shape (Changes.send_fragment_of w o)) ≡ answered (shape w)
-    step None = refl
-    step (Some n) = refl
+answered-sent w = elim (Messages.front w) as (λ o. answered (shape (Changes.send_fragment_of w o)) ≡ answered (shape w)) [ None ↦ refl | Some n ↦ refl ]
 
 answered-sends : (w : LinkRecord) (now : ℕ) (o : Option ℕ) → answered (shape (Changes.send_from (Changes.after_start w now) o)) ≡ answered (shape w)
 answered-sends w now None = ap answered (Shapes.shape-started w now)
@@ -58,8 +44,7 @@ answered-abandoned w n = step (Messages.is_partially_sent w n)
     step false = ap answered (Shapes.shape-abandoned w n)
 
 answered-tail : (w : LinkRecord) (o : Option ℕ) → answered (shape (Changes.after_tail w o)) ≡ answered (shape w)
-answered-tail w None = refl
-answered-tail w (Some n) = answered-abandoned w n
+answered-tail w o = grind (arith, nat_tests, answered-abandoned)
 
 answered-expired : (w : LinkRecord) (o : Option ℕ) → answered (shape (Changes.after_expire w o)) ≡ answered (shape w)
 answered-expired w None = refl
@@ -67,16 +52,11 @@ answered-expired w (Some n) = ap answered (Shapes.shape-expired w n)
 
 -- the stream of a write that was accepted
 pub stream-named : (w : LinkRecord) (s : ℕ) → Messages.is_open w s ≡ true → (Messages.stream_of w s).stream ≡ s
-stream-named w s open' = step (find (λ r. r.stream == s) w.streams) refl open'
-  where
-    step : (o : Option StreamRecord) → find (λ r. r.stream == s) w.streams ≡ o → is_some o ≡ true → (unwrap_or o (Messages.no_stream s)).stream ≡ s
-    step None e h = cc
-    step (Some r) e h = found s w.streams r e
+stream-named w s open' = grind (arith, nat_tests, found)
 
 pub write-open : (w : LinkRecord) (s : ℕ) (ppi : PayloadProtocolIdentifier) (bytes : List ℕ) → refusal_of w (E.Write s ppi bytes) ≡ None
     → Messages.is_open w s ≡ true
-write-open w s ppi bytes ok = (unless-holds (Messages.is_open w s) StreamUnknown (unless (nat_le (length bytes) w.setup.largest) MessageTooLarge
-    (unless (nat_lt (fragments_accepted w + fragments_in w bytes) (2 ^ 31)) TsnsUsedUp None)) ok).0
+write-open w s ppi bytes ok = grind (arith, nat_tests)
 
 written-step : (setup : Setup) (older : History) (e : Event) (r : Reply) → refusal_of (record_of setup older) e ≡ None
     → answered (shape (record_of setup older)) ≡ writes_in older → answered (shape (after (record_of setup older) e)) ≡ writes_in ((e, r) ∷ older)
@@ -90,8 +70,7 @@ written-step setup older (E.Expire now) r ok t = answered-expired (record_of set
 written-step setup older (E.Tail now) r ok t = answered-tail (record_of setup older) (Changes.tailing (record_of setup older) now) ∙ t
 written-step setup older (E.Late now) r ok t = fold-keeps (λ v. answered (shape v) ≡ answered (shape (record_of setup older))) Changes.after_abandon
     (λ v n e. answered-abandoned v n ∙ e) (Changes.late_messages (record_of setup older) now) (record_of setup older) refl ∙ t
-written-step setup older (E.Abandon tsn) r ok t =
-    answered-abandoned (record_of setup older) (Messages.message_of (record_of setup older) (Messages.place_of (record_of setup older) tsn)) ∙ t
+written-step setup older (E.Abandon tsn) r ok t = grind (arith, nat_tests, answered-abandoned)
 written-step setup older event r ok t = ap answered (Network.shape-after (record_of setup older) event refl) ∙ t
 
 pub messages_are_writes : OnEveryRun MessagesAreWrites

@@ -1,65 +1,120 @@
 -- A message is abandoned: what waits and what is in flight then is what the record says.
-use Rattle.std.proofs.Common.{◌≡◌, ℕ, zero, suc, ◌+◌, ◌-◌, ◌<◌, ◌≤◌, ◌%◌, ◌^◌, Bool, true, false, List, [], ◌∷◌, ◌++◌, length, map, Option, Some, None, refl}
-use Rattle.std.proofs.Common.{ap, sym, ◌∙◌, arith}
-use Rattle.std.specs.Prelude.{if◌then◌else◌, ◌==◌, ◌&&◌, ◌||◌, not, nat_lt, is_some, slice_index_or}
-use Rattle.std.proofs.Math.Path.{subst}
-use Rattle.std.proofs.lemmas.Bool.Decides.{nat_tests}
-use Rattle.std.proofs.lemmas.List.{map-append}
-use Rattle.std.specs.List.{flat_map}
-use Rattle.sctp_util.specs.Kept.{numbers_where, always, numbers_from, first_of}
-use Rattle.sctp_util.specs.Lists.{pieces, change_where}
-use Rattle.sctp_util.proofs.Passing.{kept-same, kept-none, map-kept-same, kept-snoc_in, front-kept, FrontOf}
-use Rattle.sctp_util.proofs.More.{length-changed, changed-keeps, fails, not_both}
-use Rattle.sctp_util.proofs.Getting.{get-snoc_old, get-snoc_new}
-use Rattle.sctp_util.proofs.Cases.{by_last, by_same, same-yes}
-use Rattle.sctp_data.specs.declared.chunk.chunk_payload_data.ChunkPayloadData.{ChunkPayloadData}
-use Rattle.sctp_data.specs.PayloadData.{data_of}
-use Rattle.sctp_data.specs.ChunkSet.{fresh}
-use Rattle.sctp_outbound.specs.declared.pending_queue.Selected.{Selected}
-use Rattle.sctp_outbound.specs.Marks.{is_of, as_abandoned}
-use Rattle.sctp_outbound.specs.payload_queue.PayloadQueue as payload
-use Rattle.sctp_outbound.specs.pending_queue.PendingQueue.{Pending, selected_without, without, last_removed}
-use Rattle.sctp_outbound.specs.pending_queue.Whole.{waits}
-use Rattle.sctp_outbound.specs.outbound_queue.OutboundQueue as queue
-use Rattle.sctp_outbound.specs.outbound_queue.OutboundQueue.{Outbound, terminal_chunk, with_terminal_chunk, tsn_after}
-use Rattle.sctp_model.specs.LinkRecord.{LinkRecord, Setup, Message, Slot}
-use Rattle.sctp_model.specs.Messages.{message_at, slot_at, message_of, messages_where, no_message, no_slot, is_ordered_on, ordered_before, ssn_of}
-use Rattle.sctp_model.specs.Messages.{fragment_count, has_fragment, sent_of, is_partially_sent, tsn_of}
-use Rattle.sctp_model.specs.Amounts.{is_expired_or_abandoned}
-use Rattle.sctp_model.specs.Changes.{after_abandon, with_slot, message_changed, mark_abandoned}
+use Rattle.sctp_model.proofs.Names.{◌≡◌, ℕ, zero, suc, ◌+◌, ◌-◌, ◌<◌, ◌≤◌, ◌%◌, ◌^◌, Bool, true, false, List, [], ◌∷◌, ◌++◌, length, map, Option, Some, None}
+use Rattle.sctp_model.proofs.Names.{refl, ap, sym, ◌∙◌, arith, append-nil, if◌then◌else◌, ◌==◌, ◌&&◌, ◌||◌, not, nat_lt, ◌⊎◌, subst, nat_tests, flat_map}
+use Rattle.sctp_model.proofs.Names.{list_any, filter, numbers_where, always, first_of, pieces, change_where, kept-same, kept-none, map-kept-same, front-kept}
+use Rattle.sctp_model.proofs.Names.{FrontOf, length-changed, changed-keeps, not_both, both, fails, by_same, same-yes, same-is, ChunkPayloadData, Selected}
+use Rattle.sctp_model.proofs.Names.{is_of, Pending, without, waits, Outbound, LinkRecord, Message, Slot, message_at, message_of, messages_where, no_message}
+use Rattle.sctp_model.proofs.Names.{is_ordered_on, ordered_before, ssn_of, fragment_count, sent_of, is_partially_sent, tsn_of, is_expired_or_abandoned}
+use Rattle.sctp_model.proofs.Names.{after_abandon, with_slot, message_changed, mark_abandoned, waiting_at, waiting_of, waiting_where, waits_ordered}
+use Rattle.sctp_model.proofs.Names.{waits_unordered, selected_of, RefinesPending, RefinesOutbound, Sending, sending_of, sending_at, following_tsn, cases_lt}
+use Rattle.sctp_model.proofs.Names.{those-append}
+use Rattle.sctp_outbound.specs.Marks.{as_abandoned}
+use Rattle.sctp_outbound.specs.pending_queue.PendingQueue.{selected_without, last_removed, last_of}
+use Rattle.sctp_outbound.specs.outbound_queue.OutboundQueue.{terminal_chunk, with_terminal_chunk, tsn_after}
 use Rattle.sctp_model.proofs.sender.Shape.{shape}
 use Rattle.sctp_model.proofs.sender.Sender.{Sender}
 use Rattle.sctp_model.proofs.sender.SenderSteps.{of-has, partial-one}
-use Rattle.sctp_model.proofs.sender.Shapes
 use Rattle.sctp_model.proofs.sender.Slots.{sent-made}
-use Rattle.sctp_model.specs.refinement.Refines.{waiting_at, waiting_of, waiting_where, waits_ordered, waits_unordered, selected_of, RefinesPending}
-use Rattle.sctp_model.specs.refinement.Refines.{RefinesOutbound}
-use Rattle.sctp_model.specs.refinement.Refines.{Sending, unless_gone, sending_of, sending_at, sendings_of}
-use Rattle.sctp_model.proofs.refinement.sending.Waiting.{gathered-same, waiting_of-alike}
-use Rattle.sctp_model.proofs.refinement.sending.Written.{sending-alike}
-use Rattle.sctp_model.proofs.refinement.acknowledging.QuietSender.{chunk_by, deadline_by, waiting_by}
-use Rattle.sctp_model.proofs.refinement.sending.SentInFlight.{put-last}
+use Rattle.sctp_model.proofs.refinement.sending.Waiting.{gathered-same, waiting_of-alike, gathered-from}
+use Rattle.sctp_model.proofs.refinement.acknowledging.QuietSender.{waiting_by}
+use Rattle.sctp_model.proofs.refinement.sending.SentInFlight.{slot-new, in-flight-more, begun-more}
 use Rattle.sctp_model.proofs.refinement.abandonment.NothingHeld.{sent-same}
-use Rattle.sctp_model.proofs.refinement.abandonment.AbandonedLists.{those-gathered, has_rest, waits-is, last-removed}
-use Rattle.sctp_serial.specs.DataChunks.{following_tsn}
+use Rattle.sctp_outbound.specs.payload_queue.PayloadQueue as payload
+use Rattle.sctp_outbound.specs.outbound_queue.OutboundQueue as queue
+use Rattle.sctp_model.proofs.sender.Shapes
+
+-- ## What waits of one message, among what waits
+
+-- a test of the message's number takes all of it or nothing
+those-message : (w : LinkRecord) (n : ℕ) (t : ℕ → Bool) (is : List ℕ)
+    → filter (λ c. t c.message_id) (map (waiting_at w n) is) ≡ (if t n then map (waiting_at w n) is else [])
+those-message w n t is = by (t n) refl is
+  where
+    by : (b : Bool) → t n ≡ b → (is : List ℕ) → filter (λ c. t c.message_id) (map (waiting_at w n) is) ≡ (if b then map (waiting_at w n) is else [])
+    by true e [] = refl
+    by false e [] = refl
+    by true e (i ∷ is) = cc (e, by true e is)
+    by false e (i ∷ is) = cc (e, by false e is)
+
+pub those-gathered : (w : LinkRecord) (t p : ℕ → Bool) (from count : ℕ)
+    → filter (λ c. t c.message_id) (flat_map (waiting_of w) (numbers_where p from count)) ≡ flat_map (waiting_of w) (numbers_where (λ k. p k && t k) from count)
+those-gathered w t p from zero = refl
+those-gathered w t p from (suc count) = grind (arith, nat_tests, those-append, those-message, those-gathered w t p (from + 1) count)
+
+gathered-one : {A : Type 0} (f : ℕ → List A) (p : ℕ → Bool) (n count : ℕ) → n < count
+    → flat_map f (numbers_where (λ k. p k && (k == n)) 0 count) ≡ (if p n then f n else [])
+gathered-one {A} f p n count lt = by (p n) refl
+  where
+    no-other : (k : ℕ) → (k ≡ n → ⊥) → (p k && (k == n)) ≡ false
+    no-other k ne = fails (p k && (k == n)) (λ h. ne (same-is k n (both (p k) (k == n) h).1))
+
+    by : (b : Bool) → p n ≡ b → flat_map f (numbers_where (λ k. p k && (k == n)) 0 count) ≡ (if b then f n else [])
+    by true e =
+        gathered-from f (λ k. p k && (k == n)) n 0 count (omega arith) (omega (arith, lt)) (ap (λ b. b && (n == n)) e ∙ same-yes n)
+        (λ k a b h. absurd (not_both (sym (no-other k (λ z. omega (arith, b, z))) ∙ h))) ∙ ap (λ l. f n ++ flat_map f l)
+        (kept-none (λ k. p k && (k == n)) (n + 1) (0 + count - (n + 1)) (λ k a b. no-other k (λ z. omega (arith, a, z)))) ∙ append-nil (f n)
+    by false e = ap (flat_map f) (kept-none (λ k. p k && (k == n)) 0 count
+        (λ k a b. by_same {P = (p k && (k == n)) ≡ false} k n (λ z. ap (λ j. p j && (k == n)) z ∙ ap (λ b. b && (k == n)) e) (λ ne x. no-other k ne)))
+
+-- ## One message
+
+-- what waits of a message, in one of the lists
+pub those-one : (w : LinkRecord) (n : ℕ) (p : ℕ → Bool) → n < length w.messages → filter (is_of n) (waiting_where w p) ≡ (if p n then waiting_of w n else [])
+those-one w n p lt = those-gathered w (λ k. k == n) p 0 (length w.messages) ∙ gathered-one (waiting_of w) p n (length w.messages) lt
+
+abbrev some : List ChunkPayloadData → Bool
+some [] = false
+some (c ∷ cs) = true
+
+any-those : (t : ChunkPayloadData → Bool) (xs : List ChunkPayloadData) → list_any t xs ≡ some (filter t xs)
+any-those t [] = refl
+any-those t (x ∷ xs) = grind (arith, nat_tests, any-those t xs)
+
+-- the rest of a message, where there is one
+rest-some : (w : LinkRecord) (n : ℕ) → some (waiting_of w n) ≡ nat_lt (sent_of w n) (fragment_count w n)
+rest-some w n = grind (arith, nat_tests)
+
+-- whether fragments of it wait
+abbrev pub has_rest : LinkRecord → ℕ → Bool
+has_rest w n = not (is_expired_or_abandoned w n) && nat_lt (sent_of w n) (fragment_count w n)
+
+pub waits-is : (w : LinkRecord) (n : ℕ) (q : Pending) → n < length w.messages → RefinesPending w q → waits n q ≡ has_rest w n
+waits-is w n q lt t = grind (arith, nat_tests, any-those, those-one, rest-some)
+
+-- the last fragment of the rest
+last-of : (w : LinkRecord) (n from count : ℕ) → last_of (map (waiting_at w n) (numbers_where always from (suc count))) ≡ Some (waiting_at w n (from + count))
+last-of w n from zero = ap (λ i. Some (waiting_at w n i)) (let z : from ≡ from + 0 = omega arith in z)
+last-of w n from (suc count) = last-of w n (from + 1) count ∙ ap (λ i. Some (waiting_at w n i)) (let z : from + 1 + count ≡ from + suc count = omega arith in z)
+
+pub last-removed : (w : LinkRecord) (n : ℕ) (q : Pending) → n < length w.messages → RefinesPending w q
+    → last_removed n q ≡ (if has_rest w n then Some (waiting_at w n (fragment_count w n - 1)) else None)
+last-removed w n q lt t =
+    ap (λ l. last_of (filter (is_of n) l ++ filter (is_of n) q.unordered)) t.ordered
+    ∙ ap (λ l. last_of (filter (is_of n) (waiting_where w (waits_ordered w)) ++ filter (is_of n) l)) t.unordered
+    ∙ ap (λ l. last_of (l ++ filter (is_of n) (waiting_where w (waits_unordered w)))) (those-one w n (waits_ordered w) lt)
+    ∙ ap (λ l. last_of ((if waits_ordered w n then waiting_of w n else []) ++ l)) (those-one w n (waits_unordered w) lt)
+    ∙ by (message_at w n).ordered (is_expired_or_abandoned w n)
+    ∙ complete (is_expired_or_abandoned w n)
+  where
+    by : (o g : Bool) → last_of ((if o && not g then waiting_of w n else []) ++ (if not o && not g then waiting_of w n else []))
+        ≡ (if not g then last_of (waiting_of w n) else None)
+    by true true = refl
+    by true false = ap last_of (append-nil (waiting_of w n))
+    by false true = refl
+    by false false = refl
+
+    rest : (sent_of w n < fragment_count w n) ⊎ (fragment_count w n ≤ sent_of w n)
+        → last_of (waiting_of w n) ≡ (if nat_lt (sent_of w n) (fragment_count w n) then Some (waiting_at w n (fragment_count w n - 1)) else None)
+    rest b = grind (arith, nat_tests, last-of)
+
+    complete : (g : Bool) → (if not g then last_of (waiting_of w n) else None)
+        ≡ (if not g && nat_lt (sent_of w n) (fragment_count w n) then Some (waiting_at w n (fragment_count w n - 1)) else None)
+    complete true = refl
+    complete false = rest (cases_lt (sent_of w n) (fragment_count w n))
 
 -- a message without what an abandonment changes
 abbrev pub alive : Message → Message
 alive m = record m { abandoned = false }
-
-abbrev sending_with : Setup → Message → Bool → ℕ → Slot → ℕ → Sending
-sending_with s m gone ssn x p = record {
-  chunk = record {
-    tsn = (s.first + p) % 2 ^ 32;
-    message = x.message;
-    payload = if x.acknowledged || gone then [] else slice_index_or (pieces (length m.bytes) s.size m.bytes) x.fragment [];
-    acknowledged = x.acknowledged;
-    abandoned = gone;
-    deadline = deadline_by m;
-  };
-  stream = m.stream;
-  says = unless_gone (x.acknowledged || gone) (data_of (fresh (chunk_by s m ssn x.fragment ((s.first + p) % 2 ^ 32))));
-}
 
 -- ## The message alone
 
@@ -88,9 +143,7 @@ module _ (w : LinkRecord) (n : ℕ) where
       ap length (kept-same (is_ordered_on v t) (is_ordered_on w t) 0 k (λ j a b. ap (λ m. (m.stream == t) && (m.ordered && not m.expired)) (alive-same j)))
 
   ssn-same : (k : ℕ) → ssn_of v k ≡ ssn_of w k
-  ssn-same k =
-      ap (λ m. (if m.ordered then ordered_before v m.stream k else m.before) % 2 ^ 16) (alive-same k)
-      ∙ ap (λ c. (if (message_at w k).ordered then c else (message_at w k).before) % 2 ^ 16) (before-same (message_at w k).stream k)
+  ssn-same k = grind (arith, nat_tests, alive-same, before-same)
 
   waiting_at-same : (k i : ℕ) → waiting_at v k i ≡ waiting_at w k i
   waiting_at-same k i = ap (λ m. waiting_by w.setup m (ssn_of v k) k i) (alive-same k)
@@ -100,52 +153,20 @@ module _ (w : LinkRecord) (n : ℕ) where
   count-same k = ap (λ m. length (pieces (length m.bytes) w.setup.size m.bytes)) (alive-same k)
 
   waiting_of-same : (k : ℕ) → waiting_of v k ≡ waiting_of w k
-  waiting_of-same k =
-      ap (λ c. map (waiting_at v k) (numbers_from (sent_of w k) (c - sent_of w k))) (count-same k)
-      ∙ map-kept-same (waiting_at v k) (waiting_at w k) always always (sent_of w k) (fragment_count w k - sent_of w k) (λ j a b. refl)
-      (λ j a b e. waiting_at-same k j)
+  waiting_of-same k = grind (arith, nat_tests, count-same, map-kept-same, waiting_at-same)
 
   -- what waits, by a test that abandons message n
   where-less : (t : Message → Bool) → ((m : Message) → t m ≡ t (alive m)) → waiting_where v (λ k. t (message_at v k) && not (is_expired_or_abandoned v k))
       ≡ flat_map (waiting_of w) (numbers_where (λ k. (t (message_at w k) && not (is_expired_or_abandoned w k)) && not (k == n)) 0 (length w.messages))
-  where-less t same =
-      ap (λ c. flat_map (waiting_of v) (numbers_where (λ k. t (message_at v k) && not (is_expired_or_abandoned v k)) 0 c)) count-messages
-      ∙ gathered-same (waiting_of v) (waiting_of w) (λ k. t (message_at v k) && not (is_expired_or_abandoned v k))
-      (λ k. (t (message_at w k) && not (is_expired_or_abandoned w k)) && not (k == n)) 0 (length w.messages)
-      (λ k a b.
-      ap (λ b. b && not (is_expired_or_abandoned v k)) (same (message_at v k) ∙ ap t (alive-same k) ∙ sym (same (message_at w k)))
-      ∙ ap (λ b. t (message_at w k) && not (b || (message_at v k).abandoned)) (ap (λ m. m.expired) (alive-same k))
-      ∙ ap (λ b. t (message_at w k) && not ((message_at w k).expired || b)) (abandoned-then k)
-      ∙ turned (t (message_at w k)) (message_at w k).expired (k == n) (message_at w k).abandoned)
-      (λ k a b e. waiting_of-same k)
-    where
-      turned : (a x b c : Bool) → (a && not (x || (b || c))) ≡ ((a && not (x || c)) && not b)
-      turned false x b c = refl
-      turned true true b c = refl
-      turned true false true true = refl
-      turned true false true false = refl
-      turned true false false true = refl
-      turned true false false false = refl
+  where-less t same = grind (arith, nat_tests, count-messages, gathered-same, alive-same, abandoned-then, waiting_of-same)
 
   pub partial-then : (k : ℕ) → is_partially_sent v k ≡ (is_partially_sent w k && not (k == n))
-  partial-then k =
-      ap (λ c. nat_lt 0 (sent_of w k) && (nat_lt (sent_of w k) c && not (message_at v k).abandoned)) (count-same k)
-      ∙ ap (λ b. nat_lt 0 (sent_of w k) && (nat_lt (sent_of w k) (fragment_count w k) && not b)) (abandoned-then k)
-      ∙ turned (nat_lt 0 (sent_of w k)) (nat_lt (sent_of w k) (fragment_count w k)) (k == n) (message_at w k).abandoned
-    where
-      turned : (a b c d : Bool) → (a && (b && not (c || d))) ≡ ((a && (b && not d)) && not c)
-      turned false b c d = refl
-      turned true false c d = refl
-      turned true true true true = refl
-      turned true true true false = refl
-      turned true true false true = refl
-      turned true true false false = refl
+  partial-then k = grind (arith, nat_tests, count-same, abandoned-then)
 
   -- at most one message is partially sent
   selected-then : Sender (shape w) → selected_without n (selected_of w (first_of (messages_where w (is_partially_sent w))))
       ≡ selected_of v (first_of (messages_where v (is_partially_sent v)))
-  selected-then s = by (messages_where w (is_partially_sent w)) (front-kept (is_partially_sent w) 0 (length w.messages))
-      ∙ ap (λ l. selected_of v (first_of l)) (sym less)
+  selected-then s = cc (by (messages_where w (is_partially_sent w)) (front-kept (is_partially_sent w) 0 (length w.messages)), less)
     where
       less : messages_where v (is_partially_sent v) ≡ numbers_where (λ k. is_partially_sent w k && not (k == n)) 0 (length w.messages)
       less = cc (count-messages, kept-same (is_partially_sent v) (λ k. is_partially_sent w k && not (k == n)) 0 (length w.messages) (λ k a b. partial-then k))
@@ -194,61 +215,20 @@ module _ (w : LinkRecord) (n : ℕ) where
   gone s = record { chunk = record s.chunk { payload = []; abandoned = true }; stream = s.stream; says = None }
 
   gone-queue : (c : ChunkPayloadData) → sending_of (as_abandoned c) ≡ gone (sending_of c)
-  gone-queue c = by c.acked
-    where
-      by : (b : Bool) → (let s : Sending = record {
-        chunk = record (sending_of c).chunk { payload = []; abandoned = true };
-        stream = c.stream_identifier;
-        says = unless_gone (b || true) (data_of (as_abandoned c));
-      } in s) ≡ gone (sending_of c)
-      by true = refl
-      by false = refl
+  gone-queue c = grind (arith, nat_tests)
 
   sending-then : (p : ℕ) → sending_at v p ≡ (if message_of w p == n then gone (sending_at w p) else sending_at w p)
-  sending-then p =
-      ap (λ m. sending_with w.setup m (message_at v (message_of w p)).abandoned (ssn_of v (message_of w p)) (slot_at w p) p) (alive-same (message_of w p))
-      ∙ ap (λ b. sending_with w.setup (alive (message_at w (message_of w p))) b (ssn_of v (message_of w p)) (slot_at w p) p) (abandoned-then (message_of w p))
-      ∙ ap (λ c. sending_with w.setup (alive (message_at w (message_of w p))) ((message_of w p == n) || (message_at w (message_of w p)).abandoned) c
-      (slot_at w p) p) (ssn-same (message_of w p)) ∙ by (message_of w p == n) (slot_at w p).acknowledged refl
-    where
-      by : (b a : Bool) → (slot_at w p).acknowledged ≡ a → sending_with w.setup (alive (message_at w (message_of w p)))
-          (b || (message_at w (message_of w p)).abandoned) (ssn_of w (message_of w p)) (slot_at w p) p ≡ (if b then gone (sending_at w p) else sending_at w p)
-      by false a e = refl
-      by true true e = rw e refl
-      by true false e = rw e refl
+  sending-then p = grind (arith, nat_tests, alive-same, abandoned-then, ssn-same)
 
   in-flight-given : (cs : List ChunkPayloadData) (from count : ℕ) → map sending_of cs ≡ map (sending_at w) (numbers_where always from count)
       → map sending_of (change_where (is_of n) as_abandoned cs) ≡ map (sending_at v) (numbers_where always from count)
   in-flight-given [] from zero e = refl
   in-flight-given [] from (suc count) e = cc
   in-flight-given (c ∷ cs) from zero e = cc
-  in-flight-given (c ∷ cs) from (suc count) e =
-      let head : sending_of c ≡ sending_at w from = ap (λ l. head_of l (sending_of c)) e in
-      ap (λ l. sending_of (if c.message_id == n then as_abandoned c else c) ∷ l) (in-flight-given cs (from + 1) count (ap tail_of e))
-      ∙ ap (λ s. s ∷ map (sending_at v) (numbers_where always (from + 1) count))
-      (one (c.message_id == n) ∙ ap (λ s. if s.chunk.message == n then gone s else s) head ∙ sym (sending-then from))
-    where
-      one : (b : Bool) → sending_of (if b then as_abandoned c else c) ≡ (if b then gone (sending_of c) else sending_of c)
-      one true = gone-queue c
-      one false = refl
-
-      head_of : List Sending → Sending → Sending
-      head_of [] d = d
-      head_of (s ∷ ss) d = s
-
-      tail_of : List Sending → List Sending
-      tail_of [] = []
-      tail_of (s ∷ ss) = ss
+  in-flight-given (c ∷ cs) from (suc count) e = grind (arith, nat_tests, sending-then, gone-queue, in-flight-given cs (from + 1) count)
 
   pub refines-given : Sender (shape w) → (q : Outbound) → RefinesOutbound w q → RefinesOutbound v (given n q)
-  refines-given s q t = record {
-    pending = pending-given s q.pending t.pending;
-    in_flight = in-flight-given q.inflight.chunks w.taken (length w.slots - w.taken) t.in_flight;
-    next = t.next ∙ sym count-messages;
-    unstarted = λ k lt. ap (λ m. is_some m.started) (alive-same k) ∙ t.unstarted k (omega (arith, lt, count-messages));
-    started = omega (arith, t.started, count-messages);
-    begun = t.begun;
-  }
+  refines-given s q t = grind (arith, nat_tests, pending-given, in-flight-given, count-messages, alive-same)
 
 -- ## The terminal chunk
 
@@ -260,34 +240,9 @@ module _ (u : LinkRecord) (n : ℕ) (dead : (message_at u n).abandoned ≡ true)
   abbrev here : ℕ
   here = length u.slots
 
-  abbrev new : Slot
-  new = record { message = n; fragment = sent_of u n; is_terminal_chunk = true; arrived = false; acknowledged = false }
-
-  pub slots-more : length z.slots ≡ suc (length u.slots)
-  slots-more = by u.slots
-    where
-      by : (xs : List Slot) → length (xs ++ new ∷ []) ≡ suc (length xs)
-      by [] = refl
-      by (x ∷ xs) = ap suc (by xs)
-
-  slot-new : slot_at z here ≡ new
-  slot-new = get-snoc_new u.slots new no_slot
-
-  slot-old : (p : ℕ) → p < length u.slots → slot_at z p ≡ slot_at u p
-  slot-old p lt = get-snoc_old u.slots new p no_slot (λ e. omega arith)
-
   -- whatever fragment of the message the mark is made from
   terminal-new : (i : ℕ) → sending_of (terminal_chunk (tsn_of u here) (waiting_at u n i)) ≡ sending_at z here
-  terminal-new i = sym (rw (ap (λ x. x.message) slot-new, slot-new, dead) refl)
-
-  sendings-more : sendings_of z ≡ sendings_of u ++ sending_at z here ∷ []
-  sendings-more =
-      let many : length z.slots - u.taken ≡ suc (length u.slots - u.taken) = omega (arith, slots-more, made) in
-      ap (λ c. map (sending_at z) (numbers_from u.taken c)) many
-      ∙ ap (map (sending_at z)) (kept-snoc_in always u.taken (length u.slots - u.taken) here (omega (arith, made)) refl)
-      ∙ map-append (sending_at z) (numbers_from u.taken (length u.slots - u.taken)) (here ∷ [])
-      ∙ ap (λ l. l ++ sending_at z here ∷ []) (map-kept-same (sending_at z) (sending_at u) always always u.taken (length u.slots - u.taken) (λ k a b. refl)
-      (λ k a b e. sending-alike u z k (slot-old k (omega (arith, made))) (record { setup = refl; message = refl; ssn = refl })))
+  terminal-new i = let new = slot-new u n true few made in sym (rw (ap (λ x. x.message) new, new, dead) refl)
 
   where-same : (t : ℕ → Bool) → waiting_where z t ≡ waiting_where u t
   where-same t = gathered-same (waiting_of z) (waiting_of u) t t 0 (length u.messages) (λ k a b. refl)
@@ -305,17 +260,11 @@ module _ (u : LinkRecord) (n : ℕ) (dead : (message_at u n).abandoned ≡ true)
       unordered = t.pending.unordered ∙ sym (where-same (waits_unordered u));
       selected = t.pending.selected ∙ sym (ap (λ l. selected_of z (first_of l)) partial-same ∙ same (first_of (messages_where u (is_partially_sent u))));
     };
-    in_flight =
-        ap (map sending_of) (put-last u (terminal_chunk (tsn_of u here) (waiting_at u n i)) here refl few q.inflight.chunks u.taken (length u.slots
-        - u.taken) t.in_flight (omega (arith, made))) ∙ map-append sending_of q.inflight.chunks (terminal_chunk (tsn_of u here) (waiting_at u n i) ∷ [])
-        ∙ ap (λ l. l ++ sending_of (terminal_chunk (tsn_of u here) (waiting_at u n i)) ∷ []) t.in_flight ∙ ap (λ x. sendings_of u ++ x ∷ []) (terminal-new i)
-        ∙ sym sendings-more;
+    in_flight = in-flight-more u n true few made (terminal_chunk (tsn_of u here) (waiting_at u n i)) q.inflight.chunks refl (terminal-new i) t.in_flight;
     next = t.next;
     unstarted = t.unstarted;
     started = t.started;
-    begun = λ k lt. by_last k (length u.slots) (omega (arith, lt, slots-more))
-        (λ l. omega (arith, t.begun k l, ap (λ x. x.message) (slot-old k l)))
-        (λ e. let m : message_of z k ≡ n = ap (message_of z) e ∙ ap (λ x. x.message) slot-new in omega (arith, m, begun));
+    begun = begun-more u n true few made q.next_unstarted begun t.begun;
   }
     where
       same : (o : Option ℕ) → selected_of z o ≡ selected_of u o
@@ -330,30 +279,14 @@ module _ (w : LinkRecord) (n : ℕ) (s : Sender (shape w)) (pos : 0 < sent_of w 
   made-message = sent-made (shape w) n s pos
 
   pub rest-is : has_rest w n ≡ is_partially_sent w n
-  rest-is = by (message_at w n).expired (fails (message_at w n).expired (λ e. absurd (omega (arith, pos, s.expired_unsent n made-message e))))
-      (nat_lt 0 (sent_of w n)) (grind (arith, nat_tests, pos)) (message_at w n).abandoned (nat_lt (sent_of w n) (fragment_count w n))
-    where
-      by : (x : Bool) → x ≡ false → (p : Bool) → p ≡ true → (a m : Bool) → (not (x || a) && m) ≡ (p && (m && not a))
-      by true e p f a m = cc
-      by false e false f a m = cc
-      by false e true f true true = refl
-      by false e true f true false = refl
-      by false e true f false true = refl
-      by false e true f false false = refl
+  rest-is = grind (arith, nat_tests, made-message)
 
   pub waits-partial : (q : Outbound) → RefinesOutbound w q → waits n q.pending ≡ is_partially_sent w n
   waits-partial q t = waits-is w n q.pending made-message t.pending ∙ rest-is
 
   -- its lifetime has started
   begun-message : (q : Outbound) → RefinesOutbound w q → n < q.next_unstarted
-  begun-message q t = by (messages_kept) (front-kept (has_fragment w n) 0 (length w.slots)) pos
-    where
-      messages_kept : List ℕ
-      messages_kept = numbers_where (has_fragment w n) 0 (length w.slots)
-
-      by : (l : List ℕ) → FrontOf (has_fragment w n) 0 (length w.slots) l → 0 < length l → n < q.next_unstarted
-      by [] f lt = absurd (omega (arith, lt))
-      by (p ∷ l) f lt = let e = (of-has (shape w) n p f.passes).0 in omega (arith, e, t.begun p (omega (arith, f.high)))
+  begun-message q t = grind (arith, nat_tests, front-kept, of-has)
 
   -- the queue abandons what the record does
   pub refines-abandoned : length w.slots < 2 ^ 31 → w.taken ≤ length w.slots → (q : Outbound) → RefinesOutbound w q
@@ -382,8 +315,7 @@ module _ (w : LinkRecord) (n : ℕ) (s : Sender (shape w)) (pos : 0 < sent_of w 
   -- and the next TSN is that of the next slot
   pub tsn-abandoned : (q : Outbound) → RefinesOutbound w q
       → tsn_after n (tsn_of w (length w.slots)) q ≡ tsn_of (after_abandon w n) (length (after_abandon w n).slots)
-  tsn-abandoned q t = ap (λ b. if b then following_tsn (tsn_of w (length w.slots)) else tsn_of w (length w.slots)) (waits-partial q t)
-      ∙ by (is_partially_sent w n)
+  tsn-abandoned q t = cc (waits-partial q t, by (is_partially_sent w n))
     where
       many : length (with_slot w n true).slots ≡ suc (length w.slots)
       many = ones w.slots

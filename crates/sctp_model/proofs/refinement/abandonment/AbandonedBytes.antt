@@ -1,16 +1,9 @@
 -- The bytes that leave, by what the queue holds before and after.
-use Rattle.std.proofs.Common.{◌≡◌, ℕ, ◌-◌, ◌<◌, ◌^◌, length, None, refl, ap, arith}
-use Rattle.std.specs.Prelude.{find}
-use Rattle.sctp_serial.specs.DataChunks.{has_tsn}
-use Rattle.sctp_outbound.specs.outbound_queue.OutboundQueue.{Outbound, total_bytes, to_abandon, abandoned_of, message_of, expiring_tail}
+use Rattle.sctp_model.proofs.Names.{◌≡◌, ℕ, ◌-◌, ◌<◌, ◌^◌, length, None, refl, ap, arith, find, has_tsn, Outbound, total_bytes, to_abandon, abandoned_of}
+use Rattle.sctp_model.proofs.Names.{expiring_tail, LinkRecord, Setup, tsn_of, growth, History, record_of, IsRun, refusal_of, after, IsSetup, RefinesOutbound}
+use Rattle.sctp_outbound.specs.outbound_queue.OutboundQueue.{message_of}
 use Rattle.sctp_model.specs.declared.event.Event.TheVariants as E
-use Rattle.sctp_model.specs.LinkRecord.{LinkRecord, Setup}
-use Rattle.sctp_model.specs.Messages.{tsn_of}
-use Rattle.sctp_model.specs.Amounts.{growth}
-use Rattle.sctp_model.specs.Steps.{History, record_of, IsRun, refusal_of, after}
-use Rattle.sctp_model.specs.Laws.{IsSetup}
 use Rattle.sctp_model.proofs.sender.SenderRun.{consistent-run}
-use Rattle.sctp_model.specs.refinement.Refines.{RefinesOutbound}
 use Rattle.sctp_model.proofs.refinement.sending.Fragments.{going-run}
 use Rattle.sctp_model.proofs.refinement.sending.KindsRun.{taken-run}
 use Rattle.sctp_model.proofs.refinement.abandonment.Released.{growth-by_queues}

@@ -1,38 +1,22 @@
 -- Abandon, Tail and Late leave an outbound queue that refines the record.
-use Rattle.std.proofs.Common.{◌≡◌, ℕ, zero, suc, ◌+◌, ◌-◌, ◌<◌, ◌≤◌, ◌^◌, Bool, true, false, List, [], ◌∷◌, length, map, Option, Some, None, refl, ap, sym, ◌∙◌}
-use Rattle.std.proofs.Common.{inl, inr, arith, length-append}
-use Rattle.std.specs.Prelude.{◌⊎◌, if◌then◌else◌, ◌==◌, ◌&&◌, ◌||◌, not, nat_lt, nat_le, find}
-use Rattle.std.proofs.Math.Path.{subst}
-use Rattle.std.proofs.lemmas.Bool.{cases_lt}
-use Rattle.std.proofs.lemmas.Bool.Decides.{nat_tests}
-use Rattle.std.specs.List.{filter}
-use Rattle.sctp_data.specs.Reliability.{is_past, is_timed}
-use Rattle.sctp_data.specs.PayloadTypes.{is_dcep}
-use Rattle.sctp_util.specs.Kept.{numbers_where, always}
-use Rattle.sctp_util.proofs.Passing.{kept-skip}
-use Rattle.sctp_util.proofs.More.{both, and}
-use Rattle.sctp_util.proofs.Getting.{get-snoc_old}
-use Rattle.sctp_data.specs.declared.chunk.chunk_payload_data.ChunkPayloadData.{ChunkPayloadData}
-use Rattle.sctp_serial.specs.DataChunks.{has_tsn}
-use Rattle.sctp_outbound.specs.pending_queue.Whole.{waits}
+use Rattle.sctp_model.proofs.Names.{◌≡◌, ℕ, zero, suc, ◌+◌, ◌-◌, ◌<◌, ◌≤◌, ◌^◌, Bool, true, false, List, [], ◌∷◌, length, map, Option, Some, None, refl, ap}
+use Rattle.sctp_model.proofs.Names.{sym, ◌∙◌, arith, length-append, ◌⊎◌, if◌then◌else◌, ◌==◌, ◌&&◌, ◌||◌, not, nat_lt, nat_le, find, subst, cases_lt, nat_tests}
+use Rattle.sctp_model.proofs.Names.{filter, is_past, is_dcep, numbers_where, always, kept-skip, both, and, get-snoc_old, ChunkPayloadData, has_tsn, waits}
+use Rattle.sctp_model.proofs.Names.{Outbound, to_abandon, abandoned_of, tsn_after_of, has_tail, expiring_tail, late_tsns, NotInFlight, LinkRecord, Setup, Slot}
+use Rattle.sctp_model.proofs.Names.{message_at, slot_at, message_of, no_slot, front, fragment_count, sent_of, is_partially_sent, is_in_flight, is_past_deadline}
+use Rattle.sctp_model.proofs.Names.{deadline_of, tsn_of, place_of, after_abandon, with_slot, message_changed, mark_abandoned, front_if, tailing, after_tail}
+use Rattle.sctp_model.proofs.Names.{late_slots, refusal_of, after, waiting_at, RefinesOutbound, sending_of, sending_at}
 use Rattle.sctp_outbound.specs.outbound_queue.OutboundQueue as queue
-use Rattle.sctp_outbound.specs.outbound_queue.OutboundQueue.{Outbound, to_abandon, abandoned_of, tsn_after_of, has_tail, expiring_tail, is_expired_tail}
-use Rattle.sctp_outbound.specs.outbound_queue.OutboundQueue.{late_tsns}
+use Rattle.sctp_outbound.specs.outbound_queue.OutboundQueue.{is_expired_tail}
 use Rattle.sctp_model.specs.declared.event.Event.TheVariants as E
-use Rattle.sctp_model.specs.declared.event.LinkRefusal.TheVariants.{NotInFlight}
-use Rattle.sctp_model.specs.LinkRecord.{LinkRecord, Setup, Slot}
-use Rattle.sctp_model.specs.Messages.{message_at, slot_at, message_of, no_slot, front, fragment_count, sent_of, is_partially_sent, is_in_flight}
-use Rattle.sctp_model.specs.Messages.{is_past_deadline, deadline_from, deadline_of, tsn_of, place_of}
-use Rattle.sctp_model.specs.Changes.{after_abandon, with_slot, message_changed, mark_abandoned, front_if, tailing, after_tail, is_late, late_slots}
-use Rattle.sctp_model.specs.Steps.{refusal_of, after}
+use Rattle.sctp_model.specs.Changes.{is_late}
 use Rattle.sctp_model.proofs.sender.Shape.{shape}
 use Rattle.sctp_model.proofs.sender.Sender.{Sender}
 use Rattle.sctp_model.proofs.sender.SenderSteps.{of-partial, is-partial}
 use Rattle.sctp_model.proofs.sender.SenderRun.{Consistent, consistent-abandoned, unless-holds}
 use Rattle.sctp_model.proofs.sender.Fronts.{slot-sent}
 use Rattle.sctp_model.proofs.sender.Few.{few}
-use Rattle.sctp_model.specs.refinement.Refines.{waiting_at, RefinesOutbound, Sending, sending_of, sending_at}
-use Rattle.sctp_model.proofs.refinement.sending.InFlight.{Found, found-in}
+use Rattle.sctp_model.proofs.refinement.sending.InFlight.{Found, found-in, head_of, tail_of}
 use Rattle.sctp_model.proofs.refinement.sending.Sent.{FrontIs, front_is}
 use Rattle.sctp_model.proofs.refinement.sending.Fragments.{idle, shown}
 use Rattle.sctp_model.proofs.refinement.sending.KindsRun.{Going}
@@ -90,10 +74,7 @@ module _ (setup : Setup) (w : LinkRecord) (p : ℕ) (q : Outbound) (g : Consiste
   tail-tsn = by (message_at w owner).abandoned refl
     where
       dead : (a b c : Bool) → c ≡ true → false ≡ (a && (b && not c))
-      dead a b false e = cc
-      dead true true true e = refl
-      dead true false true e = refl
-      dead false b true e = refl
+      dead a b c e = grind (arith, nat_tests)
 
       by : (b : Bool) → (message_at w owner).abandoned ≡ b → has_tail chosen q ≡ is_partially_sent w owner
       by true e = ap (λ o. has_tail o q) (chosen-is true e)
@@ -133,37 +114,20 @@ tail-is setup w now q g t = by (front w) refl
   where
     -- DCEP messages never expire
     past_deadline : (n : ℕ) → (not (is_dcep (message_at w n).ppi) && is_past now (deadline_of w n)) ≡ is_past_deadline w now n
-    past_deadline n =
-        turned (is_timed (message_at w n).reliability) (is_dcep (message_at w n).ppi) (deadline_from (message_at w n).value (message_at w n).started)
-      where
-        turned : (a d : Bool) (o : Option ℕ) → (not d && is_past now (if a && not d then o else None)) ≡ is_past now (if a && not d then o else None)
-        turned true true o = refl
-        turned true false o = refl
-        turned false true o = refl
-        turned false false o = refl
+    past_deadline n = grind (arith, nat_tests)
 
     chosen : (p : ChunkPayloadData → Bool) (c : ChunkPayloadData) (m : ℕ) → c.message_id ≡ m
         → queue.message_of (queue.passing p (Some c)) ≡ (if p c then Some m else None)
-    chosen p c m e = by (p c)
-      where
-        by : (b : Bool) → queue.message_of (if b then Some c else None) ≡ (if b then Some m else None)
-        by true = ap Some e
-        by false = refl
+    chosen p c m e = grind (arith, nat_tests)
 
     by : (o : Option ℕ) → front w ≡ o → queue.message_of (expiring_tail now q) ≡ front_if w (λ n. is_partially_sent w n && is_past_deadline w now n) o
     by None e = ap (λ c. queue.message_of (queue.passing (is_expired_tail now) c)) (idle w q t e)
     by (Some n) e =
         let f : FrontIs w n = front_is w g.consistent.sender g.turns n e in
-        ap (λ c. queue.message_of (queue.passing (is_expired_tail now) c)) (shown setup w n q g e t)
-        ∙ chosen (is_expired_tail now) (waiting_at w n (sent_of w n)) n refl
-        ∙ ap (λ b. if not (sent_of w n == 0) && b then Some n else None) (past_deadline n)
-        ∙ ap (λ b. if b && is_past_deadline w now n then Some n else None) (partial f (cases_lt 0 (sent_of w n)))
+        cc (shown setup w n q g e t, chosen (is_expired_tail now) (waiting_at w n (sent_of w n)) n refl, past_deadline n, partial f (cases_lt 0 (sent_of w n)))
       where
         partial : FrontIs w n → (0 < sent_of w n) ⊎ (sent_of w n ≤ 0) → not (sent_of w n == 0) ≡ is_partially_sent w n
-        partial f (inl l) = (let z : (sent_of w n == 0) ≡ false = grind (arith, nat_tests) in ap not z)
-            ∙ sym (is-partial (shape w) n l f.takes.more f.takes.alive)
-        partial f (inr z) = (let y : (sent_of w n == 0) ≡ true = grind (arith, nat_tests) in ap not y) ∙ (let y : nat_lt 0 (sent_of w n) ≡ false =
-            grind (arith, nat_tests) in ap (λ b. b && (nat_lt (sent_of w n) (fragment_count w n) && not (message_at w n).abandoned)) (sym y))
+        partial f b = grind (arith, nat_tests, is-partial)
 
 module _ (setup : Setup) (w : LinkRecord) (now : ℕ) (q : Outbound) (g : Going setup w) (made : w.taken ≤ length w.slots) (t : RefinesOutbound w q) where
   partial-tail : (n : ℕ) → tailing w now ≡ Some n → is_partially_sent w n ≡ true
@@ -251,14 +215,6 @@ late-in w now q s t (c ∷ cs) from zero low high e = cc
 late-in w now q s t (c ∷ cs) from (suc count) low high e =
     by (is_late w now from) (test ∙ refl) (late-in w now q s t cs (from + 1) count (omega (arith, low)) (omega (arith, high)) (ap tail_of e))
   where
-    head_of : List Sending → Sending → Sending
-    head_of [] d = d
-    head_of (s ∷ ss) d = s
-
-    tail_of : List Sending → List Sending
-    tail_of [] = []
-    tail_of (s ∷ ss) = ss
-
     head : sending_of c ≡ sending_at w from
     head = ap (λ l. head_of l (sending_of c)) e
 
@@ -270,10 +226,7 @@ late-in w now q s t (c ∷ cs) from (suc count) low high e =
         (let l : from < length w.slots = omega (arith, high) in grind (arith, nat_tests))
 
     swap : (a b c : Bool) → (not a && (b && c)) ≡ (b && (not a && c))
-    swap true true c = refl
-    swap true false c = refl
-    swap false true c = refl
-    swap false false c = refl
+    swap b o c = grind (arith, nat_tests)
 
     test : queue.is_late now q.pending c ≡ is_late w now from
     test =
@@ -287,9 +240,7 @@ late-in w now q s t (c ∷ cs) from (suc count) low high e =
     by : (b : Bool) → queue.is_late now q.pending c ≡ b → map (λ c. c.tsn) (filter (queue.is_late now q.pending) cs) ≡ map (tsn_of w)
         (numbers_where (is_late w now) (from + 1) count) → map (λ c. c.tsn) (filter (queue.is_late now q.pending) (c ∷ cs)) ≡ map (tsn_of w)
         (if b then from ∷ numbers_where (is_late w now) (from + 1) count else numbers_where (is_late w now) (from + 1) count)
-    by true f ih = ap (λ b. map (λ c. c.tsn) (if b then c ∷ filter (queue.is_late now q.pending) cs else filter (queue.is_late now q.pending) cs)) f
-        ∙ ap (λ k. k ∷ map (λ c. c.tsn) (filter (queue.is_late now q.pending) cs)) (ap (λ x. x.chunk.tsn) head) ∙ ap (λ l. tsn_of w from ∷ l) ih
-    by false f ih = ap (λ b. map (λ c. c.tsn) (if b then c ∷ filter (queue.is_late now q.pending) cs else filter (queue.is_late now q.pending) cs)) f ∙ ih
+    by b f ih = grind (arith, nat_tests)
 
 -- the late slots are in flight
 late-slots : (w : LinkRecord) (now : ℕ) → w.taken ≤ length w.slots → late_slots w now ≡ numbers_where (is_late w now) w.taken (length w.slots - w.taken)
@@ -311,12 +262,7 @@ pub late-in_flight : (w : LinkRecord) (now : ℕ) → AllInFlight w (late_slots 
 late-in_flight w now = all 0 (length w.slots)
   where
     one : (p : ℕ) → is_late w now p ≡ true → (w.taken ≤ p) × (p < length w.slots)
-    one p e =
-        let f = both (nat_le w.taken p) (nat_lt p (length w.slots)) (both (is_in_flight w p) (is_past_deadline w now (message_of w p)
-        && (not (message_at w (message_of w p)).abandoned && (not (slot_at w p).acknowledged || is_partially_sent w (message_of w p)))) e).0 in
-        let a = f.0 in
-        let b = f.1 in
-        (grind (arith, nat_tests), grind (arith, nat_tests))
+    one p e = grind (arith, nat_tests)
 
     all : (from count : ℕ) → AllInFlight w (numbers_where (is_late w now) from count)
     all from zero = tt

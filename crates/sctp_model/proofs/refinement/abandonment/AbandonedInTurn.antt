@@ -1,34 +1,19 @@
 -- A Late as a link does it: the partially sent message of the late slots is abandoned first, then that of each late slot in turn.
-use Rattle.std.proofs.Common.{◌≡◌, ℕ, zero, suc, ◌+◌, ◌-◌, ◌<◌, ◌≤◌, ◌%◌, ◌^◌, Bool, true, false, List, [], ◌∷◌, ◌++◌, length, map, get_or, take, Option, Some}
-use Rattle.std.proofs.Common.{None, refl, ap, sym, ◌∙◌, arith}
-use Rattle.std.specs.Prelude.{if◌then◌else◌, ◌==◌, ◌&&◌, ◌||◌, not, nat_lt, nat_le, fold, find}
-use Rattle.std.specs.List.{list_all, filter}
-use Rattle.std.proofs.Math.Path.{subst}
-use Rattle.std.proofs.lemmas.Bool.Decides.{nat_tests}
-use Rattle.std.proofs.lemmas.List.{map-append}
-use Rattle.std.proofs.lemmas.List.Sums.{fold-append}
+use Rattle.sctp_model.proofs.Names.{◌≡◌, ℕ, zero, suc, ◌+◌, ◌-◌, ◌<◌, ◌≤◌, ◌%◌, ◌^◌, Bool, true, false, List, [], ◌∷◌, ◌++◌, length, map, get_or, take, Option}
+use Rattle.sctp_model.proofs.Names.{Some, None, refl, ap, sym, ◌∙◌, arith, ◌==◌, ◌&&◌, not, nat_lt, nat_le, fold, find, if◌then◌else◌, ◌||◌, list_all, filter}
+use Rattle.sctp_model.proofs.Names.{subst, nat_tests, map-append, fold-append, same-yes, length-mapped, both, Outbound, late_tsns, LinkRecord, message_of}
+use Rattle.sctp_model.proofs.Names.{sent_of, is_partially_sent, is_in_flight, tsn_of, place_of, message_at, in_all, written_bytes, released_bytes, growth}
+use Rattle.sctp_model.proofs.Names.{after_abandon, late_slots, IsRight, refusal_of, after, takes_memory, IsSetup, message_of_tsn, abandoned_tsn}
+use Rattle.sctp_model.proofs.Names.{RefinesOutbound}
 use Rattle.std.proofs.Math.Seq.{take-suc, take-length}
-use Rattle.sctp_util.proofs.Cases.{same-yes}
-use Rattle.sctp_util.proofs.Getting.{length-mapped}
-use Rattle.sctp_util.proofs.More.{both, and}
-use Rattle.sctp_outbound.specs.outbound_queue.OutboundQueue.{Outbound, late_tsns}
 use Rattle.sctp_model.specs.declared.event.Event.TheVariants as E
-use Rattle.sctp_model.specs.declared.event.LinkRefusal.TheVariants.{NotInFlight}
-use Rattle.sctp_model.specs.LinkRecord.{LinkRecord}
-use Rattle.sctp_model.specs.Messages.{message_at, message_of, sent_of, is_partially_sent, is_in_flight, tsn_of, place_of}
-use Rattle.sctp_model.specs.Amounts.{in_all, written_bytes, released_bytes, growth}
-use Rattle.sctp_model.specs.Changes.{after_abandon, late_slots}
-use Rattle.sctp_model.specs.Steps.{IsRight, refusal_of, after, takes_memory, unless}
 use Rattle.sctp_model.specs.Reply as R
-use Rattle.sctp_model.specs.Laws.{IsSetup}
 use Rattle.sctp_model.proofs.sender.Shape.{shape}
 use Rattle.sctp_model.proofs.sender.Sender.{Sender}
 use Rattle.sctp_model.proofs.sender.SenderSteps.{partial-one}
 use Rattle.sctp_model.proofs.sender.SenderRun.{Consistent}
 use Rattle.sctp_model.proofs.sender.Fronts.{slot-sent}
 use Rattle.sctp_model.proofs.sender.Few.{few}
-use Rattle.sctp_model.specs.refinement.InTurn.{message_of_tsn, abandoned_tsn}
-use Rattle.sctp_model.specs.refinement.Refines.{RefinesOutbound}
 use Rattle.sctp_model.proofs.refinement.abandonment.AbandonedEvents.{IsAbandoning, AllInFlight, abandoning-first, abandoning-next, late-tsns, late-in_flight}
 use Rattle.sctp_model.proofs.refinement.abandonment.AbandonedLate.{abandoned-again, dead-then, partial-still}
 use Rattle.sctp_model.proofs.refinement.abandonment.AbandonedLink.{place-back}
@@ -55,47 +40,21 @@ again-all w n (k ∷ ns) s e = by (is_partially_sent w k) refl (again-all w n ns
 pub first-is : (w : LinkRecord) (ts : List ℕ) → Sender (shape w) → abandoned_tsn w (find (λ t. is_partially_sent w (message_of_tsn w t)) ts)
     ≡ fold after_abandon w (filter (is_partially_sent w) (map (message_of_tsn w) ts))
 first-is w [] s = refl
-first-is w (t ∷ ts) s = by (is_partially_sent w (message_of_tsn w t)) refl (first-is w ts s)
-  where
-    by : (b : Bool) → is_partially_sent w (message_of_tsn w t) ≡ b → abandoned_tsn w (find (λ t. is_partially_sent w (message_of_tsn w t)) ts)
-        ≡ fold after_abandon w (filter (is_partially_sent w) (map (message_of_tsn w) ts))
-        → abandoned_tsn w (if b then Some t else find (λ t. is_partially_sent w (message_of_tsn w t)) ts) ≡ fold after_abandon w (if b
-        then message_of_tsn w t ∷ filter (is_partially_sent w) (map (message_of_tsn w) ts) else filter (is_partially_sent w) (map (message_of_tsn w) ts))
-    by false e h = h
-    by true e h = sym (again-all w (message_of_tsn w t) (map (message_of_tsn w) ts) s e)
+first-is w (t ∷ ts) s = grind (arith, nat_tests, again-all, first-is w ts s)
 
 find-yes : (p : ℕ → Bool) (ts : List ℕ) (t : ℕ) → find p ts ≡ Some t → p t ≡ true
 find-yes p [] t e = cc
-find-yes p (x ∷ ts) t e = by (p x) refl (find-yes p ts t) e
-  where
-    by : (b : Bool) → p x ≡ b → (find p ts ≡ Some t → p t ≡ true) → (if b then Some x else find p ts) ≡ Some t → p t ≡ true
-    by true f ih h = let z : x ≡ t = cc in ap p (sym z) ∙ f
-    by false f ih h = ih h
+find-yes p (x ∷ ts) t e = grind (arith, nat_tests, find-yes p ts t)
 
 find-none : (p : ℕ → Bool) (ts : List ℕ) → find p ts ≡ None → (j d : ℕ) → j < length ts → p (get_or ts j d) ≡ false
 find-none p [] e j d lt = absurd (omega (arith, lt))
-find-none p (x ∷ ts) e zero d lt = by (p x) e
-  where
-    by : (b : Bool) → (if b then Some x else find p ts) ≡ None → b ≡ false
-    by true h = cc
-    by false h = refl
-find-none p (x ∷ ts) e (suc j) d lt = find-none p ts (by (p x) e) j d (omega (arith, lt))
-  where
-    by : (b : Bool) → (if b then Some x else find p ts) ≡ None → find p ts ≡ None
-    by true h = cc
-    by false h = h
+find-none p (x ∷ ts) e zero d lt = grind (arith, nat_tests)
+find-none p (x ∷ ts) e (suc j) d lt = grind (arith, nat_tests, find-none p ts)
 
 -- what holds of each holds of the one that is found
 pub find-among : (p q : ℕ → Bool) (ts : List ℕ) (t : ℕ) → list_all q ts ≡ true → find p ts ≡ Some t → q t ≡ true
 find-among p q [] t a e = cc
-find-among p q (x ∷ ts) t a e = by (p x) (find-among p q ts t each.1) e
-  where
-    each : (q x ≡ true) × (list_all q ts ≡ true)
-    each = both (q x) (list_all q ts) a
-
-    by : (b : Bool) → (find p ts ≡ Some t → q t ≡ true) → (if b then Some x else find p ts) ≡ Some t → q t ≡ true
-    by true ih h = let z : x ≡ t = cc in ap q (sym z) ∙ each.0
-    by false ih h = ih h
+find-among p q (x ∷ ts) t a e = grind (arith, nat_tests, find-among p q ts t)
 
 pub each-of : (q : ℕ → Bool) (ts : List ℕ) (j d : ℕ) → list_all q ts ≡ true → j < length ts → q (get_or ts j d) ≡ true
 each-of q [] j d a lt = absurd (omega (arith, lt))
@@ -165,10 +124,7 @@ module _ (w v : LinkRecord) (t : ℕ) (turn : IsTurn w v) (flies : is_in_flight 
 
   -- it is an Abandon that is accepted
   pub turn-accepted : refusal_of v (E.Abandon t) ≡ None
-  turn-accepted =
-      ap (λ k. unless (is_in_flight v k) NotInFlight None) place-same
-      ∙ ap (λ b. unless b NotInFlight None) (and (nat_le v.taken p) (nat_lt p (length v.slots)) (let l : v.taken ≤ p =
-      omega (arith, low, turn.abandoning.taken) in grind (arith, nat_tests)) (let l : p < length v.slots = high' in grind (arith, nat_tests)))
+  turn-accepted = grind (arith, nat_tests, place-same, low, high')
 
   pub turn-is : after v (E.Abandon t) ≡ after_abandon v n
   turn-is = ap (after_abandon v) message-same
@@ -242,11 +198,7 @@ module _ (w : LinkRecord) (ts : List ℕ) (o : Option ℕ) (all : list_all (λ t
 pub all-fly : (w : LinkRecord) (ps : List ℕ) → w.setup.first < 2 ^ 32 → length w.slots < 2 ^ 32 → AllInFlight w ps
     → list_all (λ t. is_in_flight w (place_of w t)) (map (tsn_of w) ps) ≡ true
 all-fly w [] first short a = refl
-all-fly w (p ∷ ps) first short a =
-    and (is_in_flight w (place_of w (tsn_of w p))) (list_all (λ t. is_in_flight w (place_of w t)) (map (tsn_of w) ps))
-    (ap (is_in_flight w) (place-back w p first (omega (arith, a.1, short))) ∙ and (nat_le w.taken p) (nat_lt p (length w.slots)) (let l : w.taken ≤ p = a.0 in
-    grind (arith, nat_tests)) (let l : p < length w.slots = a.1 in grind (arith, nat_tests)))
-    (all-fly w ps first short a.2)
+all-fly w (p ∷ ps) first short a = grind (arith, nat_tests, place-back, all-fly w ps first short)
 
 messages-back : (w : LinkRecord) (ps : List ℕ) → w.setup.first < 2 ^ 32 → length w.slots < 2 ^ 32 → AllInFlight w ps
     → map (message_of_tsn w) (map (tsn_of w) ps) ≡ map (message_of w) ps
@@ -274,18 +226,9 @@ module _ (w : LinkRecord) (now : ℕ) (q : Outbound) (ts : List ℕ) (is : IsSet
 
   in-all : (o : Option ℕ) → o ≡ find (λ t. is_partially_sent w (message_of_tsn w t)) ts
       → fold after_abandon (abandoned_tsn w o) (map (message_of_tsn w) ts) ≡ after w (E.Late now)
-  in-all o e =
-      ap (λ v. fold after_abandon v (map (message_of_tsn w) ts)) (ap (abandoned_tsn w) e ∙ first-is w ts g.sender)
-      ∙ ap (λ ns. fold after_abandon (fold after_abandon w (filter (is_partially_sent w) ns)) ns) messages-are
-      ∙ sym (fold-append after_abandon w (filter (is_partially_sent w) (map (message_of w) (late_slots w now))) (map (message_of w) (late_slots w now)))
+  in-all o e = grind (arith, nat_tests, first-is, messages-are, fold-append)
 
   -- all in all it is the Late
   pub late-done : (v : LinkRecord) (o : Option ℕ) (bytes : ℕ) → o ≡ find (λ t. is_partially_sent w (message_of_tsn w t)) ts
       → GivesInTurn w v o ts (length ts) bytes → IsRight w (E.Late now) (R.Late (length ts) bytes) v
-  late-done v o bytes e i = record {
-    right = cc (here, length-mapped (tsn_of w) (late_slots w now), i.bytes_are, moves);
-    moves = moves;
-  }
-    where
-      moves : v ≡ after w (E.Late now)
-      moves = i.is ∙ ap (λ l. fold after_abandon (abandoned_tsn w o) (map (message_of_tsn w) l)) (take-length ts) ∙ in-all o e
+  late-done v o bytes e i = grind (arith, nat_tests, here, length-mapped, take-length, in-all)

@@ -1,11 +1,7 @@
 -- What else a link keeps, as it abandons: what it writes into its record, and the place of a TSN.
-use Rattle.std.proofs.Common.{◌≡◌, ℕ, ◌<◌, ◌^◌, Bool, true, false, List, [], ◌∷◌, ◌++◌, length, refl, ap, sym, ◌∙◌, arith, append-nil}
-use Rattle.std.specs.Prelude.{if◌then◌else◌}
-use Rattle.sctp_util.specs.Lists.{change_at}
-use Rattle.sctp_util.proofs.More.{length-changed}
-use Rattle.sctp_model.specs.LinkRecord.{LinkRecord, Slot}
-use Rattle.sctp_model.specs.Messages.{ordered_before, sent_of, is_partially_sent, tsn_of, place_of}
-use Rattle.sctp_model.specs.Changes.{after_abandon, with_slot, message_changed, mark_abandoned}
+use Rattle.sctp_model.proofs.Names.{◌≡◌, ℕ, ◌<◌, ◌^◌, Bool, true, false, List, [], ◌∷◌, ◌++◌, length, refl, ap, sym, ◌∙◌, arith, append-nil, if◌then◌else◌}
+use Rattle.sctp_model.proofs.Names.{change_at, length-changed, LinkRecord, Slot, ordered_before, sent_of, is_partially_sent, tsn_of, place_of, after_abandon}
+use Rattle.sctp_model.proofs.Names.{with_slot, message_changed, mark_abandoned, nat_tests}
 use Rattle.sctp_model.proofs.refinement.abandonment.Abandoned.{before-same}
 use Rattle.sctp_model.proofs.refinement.abandonment.AbandonedLate.{messages-then}
 
@@ -35,11 +31,7 @@ count-then w n = ap length (messages-then w n) ∙ length-changed mark_abandoned
 
 -- the count of ordered messages before one, and the one that was noted with it
 pub before-then : (w : LinkRecord) (n s k : ℕ) → ordered_before (after_abandon w n) s k ≡ ordered_before w s k
-before-then w n s k = by (is_partially_sent w n)
-  where
-    by : (b : Bool) → ordered_before (message_changed (if b then with_slot w n true else w) n mark_abandoned) s k ≡ ordered_before w s k
-    by true = before-same w n s k
-    by false = before-same w n s k
+before-then w n s k = grind (arith, nat_tests, before-same)
 
 -- ## The place of a TSN
 

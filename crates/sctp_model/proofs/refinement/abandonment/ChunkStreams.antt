@@ -1,22 +1,13 @@
 -- Of which stream a chunk is that a call looks up: in flight, even where its bytes are gone, or in front of what waits.
-use Rattle.std.proofs.Common.{◌≡◌, ℕ, ◌-◌, ◌<◌, ◌≤◌, ◌^◌, Bool, true, false, length, Option, Some, None, refl, ap, sym, ◌∙◌, arith}
-use Rattle.std.specs.Prelude.{if◌then◌else◌, nat_lt, nat_le, find, option_map}
-use Rattle.std.proofs.lemmas.Bool.Decides.{nat_tests}
-use Rattle.sctp_util.proofs.More.{both}
-use Rattle.sctp_data.specs.declared.chunk.chunk_payload_data.ChunkPayloadData.{ChunkPayloadData}
-use Rattle.sctp_serial.specs.DataChunks.{has_tsn}
-use Rattle.sctp_outbound.specs.pending_queue.PendingQueue.{next_pending}
-use Rattle.sctp_outbound.specs.outbound_queue.OutboundQueue.{Outbound, passing, expiring_tail}
+use Rattle.sctp_model.proofs.Names.{◌≡◌, ℕ, ◌-◌, ◌<◌, ◌≤◌, ◌^◌, Bool, true, length, Option, Some, None, refl, ap, sym, ◌∙◌, arith, nat_lt, nat_le, find}
+use Rattle.sctp_model.proofs.Names.{option_map, nat_tests, both, ChunkPayloadData, has_tsn, next_pending, Outbound, passing, expiring_tail, LinkRecord, Setup}
+use Rattle.sctp_model.proofs.Names.{message_at, message_of, front, sent_of, is_in_flight, tsn_of, place_of, waiting_at, RefinesOutbound, some-same}
 use Rattle.sctp_outbound.specs.outbound_queue.OutboundQueue as queue
-use Rattle.sctp_model.specs.LinkRecord.{LinkRecord, Setup}
-use Rattle.sctp_model.specs.Messages.{message_at, message_of, front, sent_of, is_in_flight, tsn_of, place_of}
 use Rattle.sctp_model.proofs.sender.SenderRun.{Consistent}
 use Rattle.sctp_model.proofs.sender.Few.{few}
-use Rattle.sctp_model.specs.refinement.Refines.{waiting_at, RefinesOutbound}
 use Rattle.sctp_model.proofs.refinement.sending.InFlight.{Found, found-in}
 use Rattle.sctp_model.proofs.refinement.sending.Fragments.{idle, shown}
 use Rattle.sctp_model.proofs.refinement.sending.KindsRun.{Going}
-use Rattle.sctp_util.proofs.Cases.{some-same}
 
 -- ## The chunk of a TSN in flight
 
@@ -57,9 +48,7 @@ peeked-next setup w q c g t e = by (front w) refl
     nothing z = cc
 
     of : (n : ℕ) → front w ≡ Some n → c ≡ waiting_at w n (sent_of w n) → IsNext w c
-    of n f same =
-        let own : n ≡ c.message_id = sym (ap (λ (d : ChunkPayloadData). d.message_id) same) in
-        record { front = f ∙ ap Some own; is = same ∙ ap (λ k. waiting_at w k (sent_of w k)) own }
+    of n f same = grind (arith, nat_tests)
 
     by : (o : Option ℕ) → front w ≡ o → IsNext w c
     by None f = absurd (nothing (sym e ∙ idle w q t f))
@@ -74,12 +63,7 @@ peeked-stream setup w q c g t e = next-stream w c (peeked-next setup w q c g t e
 
 -- what passes a test is what is shown
 passed : (p : ChunkPayloadData → Bool) (o : Option ChunkPayloadData) (c : ChunkPayloadData) → passing p o ≡ Some c → o ≡ Some c
-passed p None c e = e
-passed p (Some d) c e = by (p d) e
-  where
-    by : (b : Bool) → (if b then Some d else None) ≡ Some c → Some d ≡ Some c
-    by true h = h
-    by false h = cc
+passed p b c e = grind (arith, nat_tests)
 
 -- the rest of a message in front, past its deadline
 pub tail-stream : (setup : Setup) (w : LinkRecord) (now : ℕ) (q : Outbound) (c : ChunkPayloadData) → Going setup w → RefinesOutbound w q

@@ -1,47 +1,46 @@
 -- A message expires: the outbound queue holds what the record says.
-use Rattle.std.proofs.Common.{◌≡◌, ℕ, zero, suc, ◌+◌, ◌-◌, ◌<◌, ◌≤◌, ◌%◌, ◌^◌, Bool, true, false, List, [], ◌∷◌, length, map, Option, Some, None, refl, ap, sym}
-use Rattle.std.proofs.Common.{◌∙◌, inl, inr, arith}
-use Rattle.std.specs.Prelude.{◌⊎◌, if◌then◌else◌, ◌==◌, ◌&&◌, ◌||◌, not, nat_lt, slice_index_or, is_some}
+use Rattle.sctp_model.proofs.Names.{◌≡◌, ℕ, zero, suc, ◌+◌, ◌-◌, ◌<◌, ◌≤◌, ◌%◌, ◌^◌, Bool, true, false, List, [], ◌∷◌, length, map, Option, Some, None, refl}
+use Rattle.sctp_model.proofs.Names.{ap, sym, ◌∙◌, inl, inr, arith, ◌++◌, ◌⊎◌, if◌then◌else◌, ◌==◌, ◌&&◌, ◌||◌, not, nat_lt, slice_index_or, is_some, subst}
+use Rattle.sctp_model.proofs.Names.{cases_lt, nat_tests, flat_map, filter, is_past, is_dcep, numbers_where, numbers_from, first_of, change_where, pieces}
+use Rattle.sctp_model.proofs.Names.{kept-same, kept-none, not_both, both, length-changed, changed-same, changed-other, changed-keeps, length-kept-one_more}
+use Rattle.sctp_model.proofs.Names.{by_same, negated, same-yes, same-is, and-true, and-none, ChunkPayloadData, PayloadProtocolIdentifier, Dcep, String, Binary}
+use Rattle.sctp_model.proofs.Names.{StringEmpty, BinaryEmpty, Unknown, is_of, Pending, without, Outbound, expired_of, passing, LinkRecord, Message, Setup}
+use Rattle.sctp_model.proofs.Names.{message_at, message_of, messages_where, front, is_ordered_on, ordered_before, ssn_of, fragment_count, sent_of}
+use Rattle.sctp_model.proofs.Names.{is_partially_sent, is_unsent, is_past_deadline, no_message, is_expired_or_abandoned, mark_expired, message_changed}
+use Rattle.sctp_model.proofs.Names.{after_expire, expiring, front_if, after, waiting_at, waiting_of, waiting_where, waits_ordered, waits_unordered, selected_of}
+use Rattle.sctp_model.proofs.Names.{RefinesPending, RefinesOutbound, those-append}
 use Rattle.std.specs.Option.{option_map}
-use Rattle.std.proofs.Math.Path.{subst}
-use Rattle.std.proofs.lemmas.Bool.{cases_lt}
-use Rattle.std.proofs.lemmas.Bool.Decides.{nat_tests}
-use Rattle.std.specs.List.{flat_map}
-use Rattle.sctp_data.specs.Reliability.{is_past, is_timed}
-use Rattle.sctp_data.specs.PayloadTypes.{is_dcep}
-use Rattle.sctp_util.specs.Kept.{numbers_where, numbers_from, first_of}
-use Rattle.sctp_util.specs.Lists.{change_where, pieces}
-use Rattle.sctp_util.proofs.Passing.{kept-same, kept-none}
-use Rattle.sctp_util.proofs.More.{not_both, both, and, length-changed, changed-same, changed-other, changed-keeps, length-kept-one_more}
-use Rattle.sctp_util.proofs.Cases.{by_same, negated, same-yes, same-is}
-use Rattle.sctp_data.specs.declared.chunk.chunk_payload_data.ChunkPayloadData.{ChunkPayloadData}
-use Rattle.sctp_data.specs.declared.chunk.chunk_payload_data.PayloadProtocolIdentifier.{PayloadProtocolIdentifier}
-use Rattle.sctp_data.specs.declared.chunk.chunk_payload_data.PayloadProtocolIdentifier.TheVariants.{Dcep, String, Binary, StringEmpty, BinaryEmpty, Unknown}
-use Rattle.sctp_outbound.specs.Marks.{is_of}
-use Rattle.sctp_outbound.specs.pending_queue.PendingQueue.{Pending, without, without_message, selected_without, closed_up, one_lower}
-use Rattle.sctp_outbound.specs.outbound_queue.OutboundQueue as outbound
-use Rattle.sctp_outbound.specs.outbound_queue.OutboundQueue.{Outbound, expired_of, is_expired, passing}
-use Rattle.sctp_model.specs.declared.event.Event.TheVariants as E
-use Rattle.sctp_model.specs.LinkRecord.{LinkRecord, Message, Setup}
-use Rattle.sctp_model.specs.Messages.{message_at, message_of, messages_where, front, is_ordered_on, ordered_before, ssn_of, fragment_count, fragment_at}
-use Rattle.sctp_model.specs.Messages.{sent_of, is_partially_sent, is_unsent, is_past_deadline, deadline_of, no_message}
-use Rattle.sctp_model.specs.Messages
-use Rattle.sctp_model.specs.Amounts.{is_expired_or_abandoned}
-use Rattle.sctp_model.specs.Changes.{mark_expired, message_changed, after_expire, expiring, front_if}
-use Rattle.sctp_model.specs.Steps.{after}
+use Rattle.sctp_outbound.specs.pending_queue.PendingQueue.{without_message, closed_up, one_lower}
+use Rattle.sctp_outbound.specs.outbound_queue.OutboundQueue.{is_expired}
 use Rattle.sctp_model.proofs.sender.Shape.{shape}
 use Rattle.sctp_model.proofs.sender.Fronts.{slot-sent}
 use Rattle.sctp_model.proofs.sender.Moves.{quiet-expired}
-use Rattle.sctp_model.specs.refinement.Refines.{waiting_at, waiting_of, waiting_where, waits_ordered, waits_unordered, selected_of, RefinesPending}
-use Rattle.sctp_model.specs.refinement.Refines.{RefinesOutbound}
 use Rattle.sctp_model.proofs.refinement.sending.Waiting.{Alike, waiting_of-alike}
 use Rattle.sctp_model.proofs.refinement.sending.Written.{sendings-alike}
-use Rattle.sctp_model.proofs.refinement.sending.LifetimesStart.{change-gathered}
+use Rattle.sctp_model.proofs.refinement.sending.LifetimesStart.{change-gathered, change-map}
 use Rattle.sctp_model.proofs.refinement.sending.Sent.{FrontIs, front_is, all-sent}
 use Rattle.sctp_model.proofs.refinement.sending.KindsRun.{Going}
 use Rattle.sctp_model.proofs.refinement.sending.Fragments.{idle, shown}
-use Rattle.sctp_model.proofs.refinement.abandonment.ExpiredLists.{those-gathered, gathered-by, lower}
 use Rattle.sctp_serial.specs.DataChunks.{is_on}
+use Rattle.sctp_outbound.specs.outbound_queue.OutboundQueue as outbound
+use Rattle.sctp_model.specs.declared.event.Event.TheVariants as E
+
+-- ## Lists that are gathered
+
+-- what passes of lists gathered
+pub those-gathered : {A : Type 0} (t : A → Bool) (f : ℕ → List A) (xs : List ℕ) → filter t (flat_map f xs) ≡ flat_map (λ n. filter t (f n)) xs
+those-gathered t f [] = refl
+those-gathered t f (x ∷ xs) = those-append t (f x) (flat_map f xs) ∙ ap (λ l. filter t (f x) ++ l) (those-gathered t f xs)
+
+-- gathered of the numbers that pass two tests, where each number gives the same
+pub gathered-by : {A : Type 0} (f g : ℕ → List A) (p q : ℕ → Bool) (from count : ℕ) → ((k : ℕ) → from ≤ k → k < from + count
+    → (if p k then f k else []) ≡ (if q k then g k else [])) → flat_map f (numbers_where p from count) ≡ flat_map g (numbers_where q from count)
+gathered-by f g p q from zero same = refl
+gathered-by {A} f g p q from (suc count) same = grind (arith, nat_tests, gathered-by f g p q (from + 1) count)
+
+-- a number modulo 2^16 one lower
+pub lower : (i j : ℕ) → j ≡ i + 1 → (j % 2 ^ 16 + (2 ^ 16 - 1)) % 2 ^ 16 ≡ i % 2 ^ 16
+lower i j e = omega (arith, e)
 
 -- ## The queue's words on what waits
 
@@ -54,12 +53,6 @@ without-waiting w n k xs = by (k == n) refl xs
     by false e [] = refl
     by true e (x ∷ xs) = cc (e, by true e xs)
     by false e (x ∷ xs) = cc (e, by false e xs)
-
--- closing up changes what waits one by one
-changed-waiting : (t : ChunkPayloadData → Bool) (f : ChunkPayloadData → ChunkPayloadData) (g h : ℕ → ChunkPayloadData)
-    → ((i : ℕ) → (if t (g i) then f (g i) else g i) ≡ h i) → (xs : List ℕ) → change_where t f (map g xs) ≡ map h xs
-changed-waiting t f g h e [] = refl
-changed-waiting t f g h e (x ∷ xs) = ap (λ y. y ∷ change_where t f (map g xs)) (e x) ∙ ap (λ l. h x ∷ l) (changed-waiting t f g h e xs)
 
 -- the numbers of a stream closed up, or not
 abbrev closed : Bool → ℕ → List ChunkPayloadData → List ChunkPayloadData
@@ -101,20 +94,10 @@ module _ (setup : Setup) (w : LinkRecord) (n : ℕ) (g : Going setup w) (is : fr
   -- ## The counts
 
   on-here : (s : ℕ) → is_ordered_on v s n ≡ false
-  on-here s = ap (λ x. (x.stream == s) && (x.ordered && not x.expired)) message-here ∙ out ((message_at w n).stream == s) (message_at w n).ordered
-    where
-      out : (a b : Bool) → (a && (b && false)) ≡ false
-      out true true = refl
-      out true false = refl
-      out false b = refl
+  on-here s = grind (arith, nat_tests, message-here)
 
   on-was : (s : ℕ) → is_ordered_on w s n ≡ (((message_at w n).stream == s) && (message_at w n).ordered)
-  on-was s = ap (λ b. ((message_at w n).stream == s) && ((message_at w n).ordered && not b)) f.takes.kept
-      ∙ ap (λ b. ((message_at w n).stream == s) && b) (ands (message_at w n).ordered)
-    where
-      ands : (b : Bool) → (b && true) ≡ b
-      ands true = refl
-      ands false = refl
+  on-was s = cc (f.takes.kept, and-true (message_at w n).ordered)
 
   on-other : (s k : ℕ) → (k ≡ n → ⊥) → is_ordered_on v s k ≡ is_ordered_on w s k
   on-other s k ne = ap (λ x. (x.stream == s) && (x.ordered && not x.expired)) (message-other k ne)
@@ -150,14 +133,7 @@ module _ (setup : Setup) (w : LinkRecord) (n : ℕ) (g : Going setup w) (is : fr
   -- a message whose count before it is as it was
   ssn-by : (k : ℕ) → (k ≡ n → ⊥) → ((message_at w k).ordered ≡ true → ordered_before v (message_at w k).stream k ≡ ordered_before w (message_at w k).stream k)
       → ssn_of v k ≡ ssn_of w k
-  ssn-by k ne same =
-      ap (λ x. (if x.ordered then ordered_before v x.stream k else x.before) % 2 ^ 16) (message-other k ne)
-      ∙ by (message_at w k).ordered refl
-    where
-      by : (b : Bool) → (message_at w k).ordered ≡ b → (if b then ordered_before v (message_at w k).stream k else (message_at w k).before) % 2 ^ 16
-          ≡ (if b then ordered_before w (message_at w k).stream k else (message_at w k).before) % 2 ^ 16
-      by true e = ap (λ c. c % 2 ^ 16) (same e)
-      by false e = refl
+  ssn-by k ne same = grind (arith, nat_tests, message-other)
 
   alike-by : (k : ℕ) → (k ≡ n → ⊥) → ((message_at w k).ordered ≡ true → ordered_before v (message_at w k).stream k ≡ ordered_before w (message_at w k).stream k)
       → Alike w v k
@@ -165,12 +141,7 @@ module _ (setup : Setup) (w : LinkRecord) (n : ℕ) (g : Going setup w) (is : fr
 
   -- no other stream, and no unordered message, changes a count
   elsewhere : (s k : ℕ) → (((message_at w n).stream == s) && (message_at w n).ordered) ≡ false → ordered_before v s k ≡ ordered_before w s k
-  elsewhere s k miss = by (cases_lt n k)
-    where
-      by : (n < k) ⊎ (k ≤ n) → ordered_before v s k ≡ ordered_before w s k
-      by (inr le) = before-low s k le
-      by (inl lt) = (let z : ordered_before v s k + 0 ≡ ordered_before w s k = ap (λ b. ordered_before v s k + (if b then 1 else 0)) (sym miss)
-          ∙ before-high s k lt in omega (arith, z))
+  elsewhere s k miss = grind (arith, nat_tests, before-low, before-high)
 
   -- what was sent keeps its index
   pub index-sent : (k : ℕ) → 0 < sent_of w k → (message_at w k).ordered ≡ true
@@ -192,47 +163,38 @@ module _ (setup : Setup) (w : LinkRecord) (n : ℕ) (g : Going setup w) (is : fr
     where
       by : (b : Bool) → (message_at w n).ordered ≡ b → closed b (message_at w n).stream (waiting_of w k) ≡ waiting_of v k
       by false e = sym (waiting_of-alike w v k (alike-by k ne (λ x. elsewhere (message_at w k).stream k
-          (ap (λ b. ((message_at w n).stream == (message_at w k).stream) && b) e ∙ no' ((message_at w n).stream == (message_at w k).stream)))) refl)
-        where
-          no' : (a : Bool) → (a && false) ≡ false
-          no' true = refl
-          no' false = refl
+          (ap (λ b. ((message_at w n).stream == (message_at w k).stream) && b) e ∙ and-none ((message_at w n).stream == (message_at w k).stream)))) refl)
       by true e = on ((message_at w k).stream == (message_at w n).stream) refl
         where
           -- on another stream
           on : (b : Bool) → ((message_at w k).stream == (message_at w n).stream) ≡ b → closed true (message_at w n).stream (waiting_of w k) ≡ waiting_of v k
-          on false h =
-              changed-waiting (is_on (message_at w n).stream) one_lower (waiting_at w k) (waiting_at w k)
-              (λ i. ap (λ b. if b then one_lower (waiting_at w k i) else waiting_at w k i) h)
-              (numbers_from (sent_of w k) (fragment_count w k - sent_of w k)) ∙ sym (waiting_of-alike w v k
-              (alike-by k ne (λ x. elsewhere (message_at w k).stream k (miss ((message_at w n).stream == (message_at w k).stream) refl))) refl)
+          on false h = cc (
+            change-map (is_on (message_at w n).stream) one_lower (waiting_at w k) (waiting_at w k)
+                (λ i. ap (λ b. if b then one_lower (waiting_at w k i) else waiting_at w k i) h) (numbers_from (sent_of w k) (fragment_count w k - sent_of w k)),
+            waiting_of-alike w v k
+                (alike-by k ne (λ x. elsewhere (message_at w k).stream k (miss ((message_at w n).stream == (message_at w k).stream) refl))) refl,
+          )
             where
               miss : (b : Bool) → ((message_at w n).stream == (message_at w k).stream) ≡ b → (b && (message_at w n).ordered) ≡ false
-              miss true z = absurd (not_both (sym h ∙ ap (λ t. t == (message_at w n).stream) (sym (same-is (message_at w n).stream (message_at w k).stream z))
-                  ∙ same-yes (message_at w n).stream))
-              miss false z = refl
+              miss b z = grind (arith, nat_tests)
           -- on its stream: earlier ones were sent
           on true h = side (cases_lt n k)
             where
-              s-same : (message_at w k).stream ≡ (message_at w n).stream
-              s-same = same-is (message_at w k).stream (message_at w n).stream h
-
               side : (n < k) ⊎ (k ≤ n) → closed true (message_at w n).stream (waiting_of w k) ≡ waiting_of v k
               side (inr le) =
                   let b = f.before k (omega (arith, le, ne)) (o ∙ sym e) in
                   cc (all-sent w k alive b.0 b.1, waiting_of-alike w v k (alike-by k ne (λ x. before-low (message_at w k).stream k le)) refl)
-              side (inl lt) =
-                  changed-waiting (is_on (message_at w n).stream) one_lower (waiting_at w k)
-                  (waiting_at v k) one (numbers_from (sent_of w k) (fragment_count w k - sent_of w k))
-                  ∙ ap (λ c. map (waiting_at v k) (numbers_from (sent_of w k) (c - sent_of w k))) (sym counts)
+              side (inl lt) = cc (
+                change-map (is_on (message_at w n).stream) one_lower (waiting_at w k)
+                    (waiting_at v k) one (numbers_from (sent_of w k) (fragment_count w k - sent_of w k)),
+                counts,
+              )
                 where
                   counts : fragment_count v k ≡ fragment_count w k
                   counts = ap (λ x. length (pieces (length x.bytes) w.setup.size x.bytes)) (message-other k ne)
 
                   less : ordered_before w (message_at w k).stream k ≡ ordered_before v (message_at w k).stream k + 1
-                  less = sym (ap (λ b. ordered_before v (message_at w k).stream k + (if b then 1 else 0))
-                      (sym (and ((message_at w n).stream == (message_at w k).stream) (message_at w n).ordered (ap (λ t. (message_at w n).stream == t) s-same
-                      ∙ same-yes (message_at w n).stream) e)) ∙ before-high (message_at w k).stream k lt)
+                  less = grind (arith, nat_tests, before-high)
 
                   number : (ssn_of w k + (2 ^ 16 - 1)) % 2 ^ 16 ≡ ssn_of v k
                   number = cc (o, lower (ordered_before v (message_at w k).stream k) (ordered_before w (message_at w k).stream k) less, message-other k ne)
@@ -284,9 +246,7 @@ module _ (setup : Setup) (w : LinkRecord) (n : ℕ) (g : Going setup w) (is : fr
               by false e = refl
 
   split : (a b : Bool) → (a && not b) ≡ true → (a ≡ true) × (b ≡ false)
-  split true true e = cc
-  split true false e = (refl, refl)
-  split false b e = cc
+  split c b e = grind (arith, nat_tests)
 
   miss : (a b : Bool) → (a && not (true || b)) ≡ false
   miss true b = refl
@@ -328,18 +288,7 @@ module _ (setup : Setup) (w : LinkRecord) (n : ℕ) (g : Going setup w) (is : fr
   pending_then ordered q = if not ordered then without n q else closed_up (message_at w n).stream (without n q)
 
   pub pending-expired : (q : Pending) → RefinesPending w q → RefinesPending v (pending_then (message_at w n).ordered q)
-  pending-expired q t =
-      by (message_at w n).ordered (ap (λ l. closed (message_at w n).ordered (message_at w n).stream (without_message n l)) t.ordered ∙ ordered-expired)
-    where
-      sel : selected_without n q.selected ≡ selected_of v (first_of (messages_where v (is_partially_sent v)))
-      sel = ap (selected_without n) (t.selected ∙ selected-w) ∙ sym selected-v
-
-      un' : without_message n q.unordered ≡ waiting_where v (waits_unordered v)
-      un' = ap (without_message n) t.unordered ∙ unordered-expired
-
-      by : (b : Bool) → closed b (message_at w n).stream (without_message n q.ordered) ≡ waiting_where v (waits_ordered v) → RefinesPending v (pending_then b q)
-      by true e = record { ordered = e; unordered = un'; selected = sel }
-      by false e = record { ordered = e; unordered = un'; selected = sel }
+  pending-expired q t = grind (arith, nat_tests, ordered-expired, selected-w, selected-v, unordered-expired)
 
   -- the message leaves the queue
   pub refines-expired : (q : Outbound) → RefinesOutbound w q → RefinesOutbound v (record q { pending = pending_then (message_at w n).ordered q.pending })
@@ -375,23 +324,7 @@ past_deadline-same now Unknown timed o = refl
 -- the queue takes the fragment in front for an unsent message past its deadline where the record does
 test-same : (setup : Setup) (w : LinkRecord) (n now : ℕ) → 0 < w.setup.size → Going setup w → front w ≡ Some n
     → is_expired now (waiting_at w n (sent_of w n)) ≡ (is_unsent w n && is_past_deadline w now n)
-test-same setup w n now size g is = by (sent_of w n == 0) refl
-  where
-    t : FrontIs w n
-    t = front_is w g.consistent.sender g.turns n is
-
-    past_deadline : (not (is_dcep (message_at w n).ppi) && is_past now (deadline_of w n)) ≡ is_past_deadline w now n
-    past_deadline = past_deadline-same now (message_at w n).ppi (is_timed (message_at w n).reliability)
-        (Messages.deadline_from (message_at w n).value (message_at w n).started)
-
-    some : sent_of w n ≡ 0 → (length (fragment_at w n (sent_of w n)) == 0) ≡ false
-    some z = cc (z, first-piece (length (message_at w n).bytes) w.setup.size (message_at w n).bytes size (g.consistent.sender.some n t.takes.made))
-
-    by : (b : Bool) → (sent_of w n == 0) ≡ b
-        → (b && (not (length (fragment_at w n (sent_of w n)) == 0) && (not (is_dcep (message_at w n).ppi) && is_past now (deadline_of w n))))
-        ≡ ((b && not (message_at w n).expired) && is_past_deadline w now n)
-    by false e = refl
-    by true e = cc (some (same-is (sent_of w n) 0 e), past_deadline, t.takes.kept)
+test-same setup w n now size g is = grind (arith, nat_tests, front_is, past_deadline-same, first-piece)
 
 -- ## Expire
 
@@ -403,16 +336,11 @@ expiring-is setup w now q size g t = by (front w) refl
     by : (o : Option ℕ) → front w ≡ o
         → outbound.expiring now q ≡ option_map (λ n. waiting_at w n 0) (front_if w (λ n. is_unsent w n && is_past_deadline w now n) o)
     by None e = ap (passing (is_expired now)) (idle w q t e)
-    by (Some n) e =
-        ap (passing (is_expired now)) (shown setup w n q g e t)
-        ∙ ap (λ b. if b then Some (waiting_at w n (sent_of w n)) else None) (test-same setup w n now size g e)
-        ∙ take-it (is_unsent w n) (is_past_deadline w now n) refl
+    by (Some n) e = cc (shown setup w n q g e t, test-same setup w n now size g e, take-it (is_unsent w n) (is_past_deadline w now n) refl)
       where
         take-it : (b c : Bool) → is_unsent w n ≡ b
             → (if b && c then Some (waiting_at w n (sent_of w n)) else None) ≡ option_map (λ k. waiting_at w k 0) (if b && c then Some n else None)
-        take-it true true h = ap (λ i. Some (waiting_at w n i)) (same-is (sent_of w n) 0 (both (sent_of w n == 0) (not (message_at w n).expired) h).0)
-        take-it true false h = refl
-        take-it false c h = refl
+        take-it b c h = grind (arith, nat_tests)
 
 -- what the record's Expire removes: the front, which is unsent, and which is late
 pub expiring-front : (w : LinkRecord) (now n : ℕ) → expiring w now ≡ Some n → (front w ≡ Some n) × (is_unsent w n ≡ true) × (is_past_deadline w now n ≡ true)
@@ -425,11 +353,7 @@ expiring-front w now n e = by (front w) refl e
       where
         on : (b : Bool) → (is_unsent w k && is_past_deadline w now k) ≡ b → (if b then Some k else None) ≡ Some n
             → (front w ≡ Some n) × (is_unsent w n ≡ true) × (is_past_deadline w now n ≡ true)
-        on true a y =
-            let same : k ≡ n = cc in
-            let p = both (is_unsent w k) (is_past_deadline w now k) a in
-            (h ∙ ap (λ j. Some j) same, ap (is_unsent w) (sym same) ∙ p.0, ap (is_past_deadline w now) (sym same) ∙ p.1)
-        on false a y = cc
+        on b a y = grind (arith, nat_tests)
 
 -- the outbound queue after the call holds what the record after the event says
 pub refines-expire : (setup : Setup) (w : LinkRecord) (now : ℕ) (q : Outbound) → 0 < w.setup.size → Going setup w → RefinesOutbound w q

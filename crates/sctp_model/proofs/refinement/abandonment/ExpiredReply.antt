@@ -1,29 +1,18 @@
 -- What an Expire answers, and what it leaves of the counts of streams.
-use Rattle.std.proofs.Common.{◌≡◌, ℕ, ◌+◌, ◌-◌, ◌<◌, ◌%◌, ◌^◌, Bool, length, Option, Some, None, refl, ap, sym, ◌∙◌, arith}
-use Rattle.std.specs.Prelude.{if◌then◌else◌, ◌==◌, ◌&&◌, not}
+use Rattle.sctp_model.proofs.Names.{◌≡◌, ℕ, ◌+◌, ◌-◌, ◌<◌, ◌%◌, ◌^◌, Bool, length, Option, Some, None, refl, ap, sym, ◌∙◌, arith, if◌then◌else◌, ◌==◌, ◌&&◌}
+use Rattle.sctp_model.proofs.Names.{not, subst, both, same-is, next_pending, Outbound, expired_of, total_bytes, Reply, LinkRecord, Setup, message_at}
+use Rattle.sctp_model.proofs.Names.{ordered_before, sent_of, growth, expiring, History, record_of, IsRun, reply_to, after, expired_reply, IsSetup, waiting_at}
+use Rattle.sctp_model.proofs.Names.{RefinesOutbound, held_bytes, nat_tests}
 use Rattle.std.specs.Option.{option_map}
-use Rattle.std.proofs.Math.Path.{subst}
-use Rattle.sctp_util.proofs.More.{both}
-use Rattle.sctp_util.proofs.Cases.{same-is}
-use Rattle.sctp_outbound.specs.pending_queue.PendingQueue.{next_pending}
 use Rattle.sctp_outbound.specs.outbound_queue.OutboundQueue as outbound
-use Rattle.sctp_outbound.specs.outbound_queue.OutboundQueue.{Outbound, expired_of, expired_bytes, total_bytes}
+use Rattle.sctp_outbound.specs.outbound_queue.OutboundQueue.{expired_bytes}
 use Rattle.sctp_model.specs.declared.event.Event.TheVariants as E
-use Rattle.sctp_model.specs.Reply.{Reply}
 use Rattle.sctp_model.specs.Reply as R
-use Rattle.sctp_model.specs.LinkRecord.{LinkRecord, Setup}
-use Rattle.sctp_model.specs.Messages.{message_at, ordered_before, sent_of}
-use Rattle.sctp_model.specs.Amounts.{growth}
-use Rattle.sctp_model.specs.Changes.{expiring}
-use Rattle.sctp_model.specs.Steps.{History, record_of, IsRun, reply_to, after, expired_reply}
-use Rattle.sctp_model.specs.Laws.{IsSetup}
 use Rattle.sctp_model.proofs.acknowledgement.Bytes.{size-some}
-use Rattle.sctp_model.specs.refinement.Refines.{waiting_at, RefinesOutbound}
 use Rattle.sctp_model.proofs.refinement.sending.KindsRun.{Going}
 use Rattle.sctp_model.proofs.refinement.sending.Fragments.{going-run, shown}
 use Rattle.sctp_model.proofs.refinement.abandonment.Released.{growth-by_queues, growth-expire}
-use Rattle.sctp_model.specs.refinement.Amount.{held_bytes}
-use Rattle.sctp_model.proofs.refinement.abandonment.ExpiredLists.{lower}
+use Rattle.sctp_model.proofs.refinement.abandonment.Expired.{lower}
 use Rattle.sctp_model.proofs.refinement.abandonment.Expired.{expiring-is, expiring-front, refines-expire, before-all}
 
 -- ## The answer
@@ -50,16 +39,9 @@ pub tells : (setup : Setup) (w : LinkRecord) (now : ℕ) (q : Outbound) (a : Opt
 tells setup w now q a size g t e =
     by a (expiring w now) refl (e ∙ ap (option_map {U = ℕ × Bool} (λ c. (c.stream_identifier, c.unordered))) (expiring-is setup w now q size g t))
   where
-    inner : {A : Type 0} {x y : A} → Some x ≡ Some y → x ≡ y
-    inner e = cc
-
     by : (a : Option (ℕ × Bool × ℕ)) (o : Option ℕ) → expiring w now ≡ o → option_map {U = ℕ × Bool} (λ a. (a.0, a.1)) a
         ≡ option_map {U = ℕ × Bool} (λ c. (c.stream_identifier, c.unordered)) (option_map (λ n. waiting_at w n 0) o) → TellsOf w now a
-    by None None h z = h
-    by None (Some n) h z = cc
-    by (Some a) None h z = cc
-    by (Some a) (Some n) h z =
-        record { number = n; is = h; stream = sym (ap (λ (x : ℕ × Bool). x.0) (inner z)); kind = sym (ap (λ (x : ℕ × Bool). x.1) (inner z)) }
+    by b c h z = grind (arith, nat_tests)
 
 -- it is the right reply
 pub reply-expire : (setup : Setup) (h : History) → IsSetup setup → IsRun setup h → (now : ℕ) (q r : Outbound) (a : Option (ℕ × Bool × ℕ))

@@ -1,16 +1,8 @@
 -- A Late: what a link knows of the TSNs that are late, while their messages are abandoned in turn.
-use Rattle.std.proofs.Common.{◌≡◌, ℕ, ◌<◌, ◌^◌, true, false, List, [], ◌∷◌, length, Option, refl, sym, ◌∙◌, arith}
-use Rattle.std.specs.Prelude.{find}
-use Rattle.std.specs.List.{list_all}
-use Rattle.std.proofs.Math.Path.{subst}
+use Rattle.sctp_model.proofs.Names.{◌≡◌, ℕ, ◌<◌, ◌^◌, true, false, List, [], ◌∷◌, length, Option, refl, sym, ◌∙◌, arith, find, list_all, subst, late_tsns}
+use Rattle.sctp_model.proofs.Names.{Outbound, LinkRecord, is_in_flight, is_partially_sent, place_of, growth, IsRight, takes_memory, IsSetup, message_of_tsn}
+use Rattle.sctp_model.proofs.Names.{abandoned_tsn}
 use Rattle.std.proofs.lemmas.Bool.{false≢true}
-use Rattle.sctp_outbound.specs.outbound_queue.OutboundQueue.{late_tsns, Outbound}
-use Rattle.sctp_model.specs.LinkRecord.{LinkRecord}
-use Rattle.sctp_model.specs.Messages.{is_in_flight, is_partially_sent, place_of}
-use Rattle.sctp_model.specs.Amounts.{growth}
-use Rattle.sctp_model.specs.Steps.{IsRight, takes_memory}
-use Rattle.sctp_model.specs.Laws.{IsSetup}
-use Rattle.sctp_model.specs.refinement.InTurn.{message_of_tsn, abandoned_tsn}
 use Rattle.sctp_model.proofs.refinement.abandonment.AbandonedInTurn.{IsTurn, GivesInTurn, turn-written, late-fly, late-takes, late-done, begins}
 use Rattle.sctp_model.proofs.refinement.amounts.Bounds.{written-few}
 use Rattle.sctp_model.specs.declared.event.Event.TheVariants as E

@@ -1,22 +1,15 @@
 -- What expiring or abandoning a message releases.
-use Rattle.std.proofs.Common.{◌≡◌, ℕ, ◌+◌, ◌-◌, ◌<◌, Bool, true, false, [], ◌∷◌, length, get_or, refl, ap, ◌∙◌, arith, add-one, length-append}
-use Rattle.std.specs.Prelude.{if◌then◌else◌, ◌==◌, ◌&&◌, ◌||◌, not}
-use Rattle.sctp_util.specs.Kept.{numbers_where, numbers_from, total_over}
-use Rattle.sctp_util.specs.Lists.{pieces}
-use Rattle.sctp_util.proofs.Cases.{and-none}
-use Rattle.sctp_util.proofs.Getting.{get-snoc_old, get-snoc_new}
-use Rattle.sctp_util.proofs.Passing.{kept-same, kept-snoc_out}
-use Rattle.sctp_util.proofs.More.{length-changed, changed-same, changed-other}
-use Rattle.sctp_util.proofs.Totals.{total-one, total-plus, total-where, total-kept_same}
-use Rattle.sctp_model.specs.LinkRecord.{Message, Slot, LinkRecord}
+use Rattle.sctp_model.proofs.Names.{◌≡◌, ℕ, ◌+◌, ◌-◌, ◌<◌, Bool, true, false, [], ◌∷◌, length, get_or, refl, ap, ◌∙◌, arith, add-one, length-append}
+use Rattle.sctp_model.proofs.Names.{if◌then◌else◌, ◌==◌, ◌&&◌, ◌||◌, not, numbers_where, numbers_from, total_over, pieces, and-none, get-snoc_old, get-snoc_new}
+use Rattle.sctp_model.proofs.Names.{kept-same, kept-snoc_out, length-changed, changed-same, changed-other, total-one, total-plus, total-where, total-kept_same}
+use Rattle.sctp_model.proofs.Names.{Message, Slot, LinkRecord, message_at, slot_at, messages_where, has_fragment, sent_of, no_message, no_slot}
+use Rattle.sctp_model.proofs.Names.{is_partially_sent, is_expired_or_abandoned, in_all, pending_bytes, in_flight_bytes, with_slot, message_changed}
+use Rattle.sctp_model.proofs.Names.{mark_abandoned, mark_expired, after_abandon, amount, held_bytes}
+use Rattle.sctp_util.proofs.Cases.{or-true}
 use Rattle.sctp_model.specs.Messages
-use Rattle.sctp_model.specs.Messages.{message_at, slot_at, messages_where, has_fragment, sent_of, no_message, no_slot, is_partially_sent}
-use Rattle.sctp_model.specs.Amounts.{is_expired_or_abandoned, in_all, pending_bytes, in_flight_bytes}
-use Rattle.sctp_model.specs.Changes.{with_slot, message_changed, mark_abandoned, mark_expired, after_abandon}
 use Rattle.sctp_model.proofs.sender.Shape.{shape, sent}
 use Rattle.sctp_model.proofs.sender.Sender.{sent-slotted}
 use Rattle.sctp_model.proofs.sender.Shapes
-use Rattle.sctp_model.specs.refinement.Amount.{amount, held_bytes}
 
 -- the bytes held, of the messages that pass
 abbrev held_where : LinkRecord → (Message → Bool) → ℕ
@@ -111,11 +104,7 @@ held-abandoned : (w : LinkRecord) (n : ℕ) (q : Message → Bool) → ((m : Mes
 held-abandoned w n q same lt = by (is_partially_sent w n)
   where
     gone : (m : Message) → ((mark_abandoned m).expired || (mark_abandoned m).abandoned) ≡ true
-    gone m = ors m.expired
-      where
-        ors : (b : Bool) → (b || true) ≡ true
-        ors true = refl
-        ors false = refl
+    gone m = or-true m.expired
 
     by : (b : Bool) → held_where (message_changed (if b then with_slot w n true else w) n mark_abandoned) q + (if q (message_at w n) then held_bytes w n else 0)
         ≡ held_where w q

@@ -1,33 +1,18 @@
 -- A message is abandoned: what the outbound queue answers.
-use Rattle.std.proofs.Common.{◌≡◌, ℕ, ◌+◌, ◌-◌, ◌<◌, ◌^◌, Bool, true, false, [], ◌∷◌, length, length-append, Option, Some, None, refl, ap, sym, ◌∙◌, arith}
-use Rattle.std.specs.Prelude.{if◌then◌else◌, ◌==◌, ◌&&◌, not, nat_lt, find, is_some, option_map}
-use Rattle.std.proofs.Math.Path.{subst}
-use Rattle.std.proofs.lemmas.Bool.{lt-ltb}
-use Rattle.std.proofs.lemmas.Bool.Decides.{nat_tests}
-use Rattle.sctp_data.specs.declared.chunk.chunk_payload_data.ChunkPayloadData.{ChunkPayloadData}
-use Rattle.sctp_serial.specs.DataChunks.{has_tsn}
-use Rattle.sctp_outbound.specs.pending_queue.PendingQueue.{next_pending}
-use Rattle.sctp_outbound.specs.outbound_queue.OutboundQueue.{Outbound, to_abandon, abandoned_of, tsn_after_of, has_tail, total_bytes, expiring_tail}
-use Rattle.sctp_model.specs.declared.event.Event.{Event}
-use Rattle.sctp_model.specs.declared.event.LinkRefusal.TheVariants.{NotInFlight}
-use Rattle.sctp_model.specs.LinkRecord.{LinkRecord, Slot}
-use Rattle.sctp_model.specs.Messages.{message_at, message_of, tsn_of, place_of, sent_of, fragment_count, deadline_of, is_past_deadline, is_partially_sent}
-use Rattle.sctp_model.specs.Messages.{is_in_flight}
-use Rattle.sctp_model.specs.Amounts.{growth}
-use Rattle.sctp_model.specs.Changes.{after_abandon, tailing, after_tail, front_if}
-use Rattle.sctp_model.specs.Steps.{IsRight, refusal_of, reply_to, tail_reply, after, record_of}
+use Rattle.sctp_model.proofs.Names.{◌≡◌, ℕ, ◌+◌, ◌-◌, ◌<◌, ◌^◌, Bool, true, false, [], ◌∷◌, length, length-append, Option, Some, None, refl, ap, sym, ◌∙◌}
+use Rattle.sctp_model.proofs.Names.{arith, if◌then◌else◌, ◌==◌, ◌&&◌, not, nat_lt, find, is_some, option_map, subst, lt-ltb, nat_tests, ChunkPayloadData}
+use Rattle.sctp_model.proofs.Names.{has_tsn, next_pending, Outbound, to_abandon, abandoned_of, tsn_after_of, has_tail, total_bytes, expiring_tail, Event}
+use Rattle.sctp_model.proofs.Names.{NotInFlight, LinkRecord, Slot, message_at, message_of, tsn_of, place_of, sent_of, fragment_count, deadline_of}
+use Rattle.sctp_model.proofs.Names.{is_past_deadline, is_partially_sent, is_in_flight, growth, after_abandon, tailing, after_tail, front_if, IsRight}
+use Rattle.sctp_model.proofs.Names.{refusal_of, reply_to, tail_reply, after, record_of, held_bytes, RefinesOutbound, some-same, is_past}
 use Rattle.sctp_model.proofs.sender.SenderRun.{unless-holds, consistent-run}
 use Rattle.sctp_model.proofs.sender.Fronts.{front-takes}
 use Rattle.sctp_model.proofs.sender.Shape.{shape}
-use Rattle.sctp_model.specs.refinement.Amount.{held_bytes}
-use Rattle.sctp_model.specs.refinement.Refines.{RefinesOutbound}
 use Rattle.sctp_model.proofs.refinement.abandonment.AbandonedLink.{terminal_of, abandoned-is}
-use Rattle.sctp_util.proofs.Cases.{some-same}
 use Rattle.sctp_model.proofs.refinement.Histories.{stands-then, Sends, facts, over}
 use Rattle.sctp_model.proofs.refinement.abandonment.ChunkStreams.{flying-answer, tail-stream}
 use Rattle.sctp_model.proofs.refinement.abandonment.Released.{growth-abandon, growth-tail}
 use Rattle.sctp_model.proofs.sender.SenderSteps.{is-partial}
-use Rattle.sctp_data.specs.Reliability.{is_past}
 use Rattle.sctp_outbound.specs.outbound_queue.OutboundQueue as queue
 use Rattle.sctp_model.specs.declared.event.Event.TheVariants as E
 use Rattle.sctp_model.specs.Reply as R
@@ -159,10 +144,7 @@ module _ {w : LinkRecord} {had : Outbound} {coming : ℕ} (l : Sends w had comin
     deadline-is = ap (λ (d : ChunkPayloadData). d.deadline) next.is
 
     tailing-is : tailing w now ≡ (if not c.beginning_fragment && is_past now c.deadline then Some k else None)
-    tailing-is =
-        ap (front_if w (λ n. is_partially_sent w n && is_past_deadline w now n)) next.front
-        ∙ ap (λ b. if b && is_past_deadline w now k then Some k else None) (sym partial-is)
-        ∙ ap (λ d. if not c.beginning_fragment && is_past now d then Some k else None) (sym deadline-is)
+    tailing-is = cc (next.front, partial-is, deadline-is)
 
     pub partial-front : c.beginning_fragment ≡ false → true ≡ is_partially_sent w k
     partial-front e = sym (ap not e) ∙ partial-is
@@ -171,11 +153,7 @@ module _ {w : LinkRecord} {had : Outbound} {coming : ℕ} (l : Sends w had comin
     complete-idle e = tailing-is ∙ ap (λ b. if not b && is_past now c.deadline then Some k else None) e
 
     pub early-idle : is_past now c.deadline ≡ false → tailing w now ≡ None
-    early-idle e = tailing-is ∙ ap (λ b. if not c.beginning_fragment && b then Some k else None) e ∙ by (not c.beginning_fragment)
-      where
-        by : (b : Bool) → (if b && false then Some k else None) ≡ None
-        by true = refl
-        by false = refl
+    early-idle e = grind (arith, nat_tests, tailing-is)
 
     pub tails : c.beginning_fragment ≡ false → is_past now c.deadline ≡ true → tailing w now ≡ Some k
     tails e f = tailing-is ∙ ap (λ b. if not b && is_past now c.deadline then Some k else None) e ∙ ap (λ b. if b then Some k else None) f
@@ -193,11 +171,7 @@ module _ {w : LinkRecord} {had : Outbound} {coming : ℕ} (l : Sends w had comin
     answered = tail-is w.setup w now had (facts l.told).going l.outbound ∙ e
 
     pub past_deadline : is_some (expiring_tail now had) ≡ true
-    past_deadline = by (expiring_tail now had) answered
-      where
-        by : (o : Option ChunkPayloadData) → queue.message_of o ≡ Some n → is_some o ≡ true
-        by None t = cc
-        by (Some c) t = refl
+    past_deadline = grind (arith, nat_tests, answered)
 
     pub number-is : (a : ℕ) → queue.message_of (expiring_tail now had) ≡ Some a → a ≡ n
     number-is a h = some-same (sym h ∙ answered)
@@ -213,9 +187,7 @@ module _ {w : LinkRecord} {had : Outbound} {coming : ℕ} (l : Sends w had comin
         by : (o : Option ChunkPayloadData) → expiring_tail now had ≡ o → queue.message_of o ≡ Some n
             → Some s ≡ option_map (λ (c : ChunkPayloadData). c.stream_identifier) o → s ≡ (message_at w n).stream
         by None h t e = cc
-        by (Some c) h t e =
-            some-same e ∙ tail-stream w.setup w now had c (facts l.told).going l.outbound h
-            ∙ ap (λ k. (message_at w k).stream) (some-same t)
+        by (Some c) h t e = cc (some-same e, tail-stream w.setup w now had c (facts l.told).going l.outbound h, some-same t)
 
     pub gives-tail : (s bytes : ℕ) (q : Outbound) (next : ℕ) → n < length w.messages
         → Some s ≡ option_map (λ (c : ChunkPayloadData). c.stream_identifier) (expiring_tail now had)

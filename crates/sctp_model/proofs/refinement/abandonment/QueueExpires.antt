@@ -1,21 +1,11 @@
 -- A message expires: what the outbound queue answers.
-use Rattle.std.proofs.Common.{◌≡◌, ℕ, ◌+◌, ◌<◌, Bool, true, false, length, Option, Some, None, refl, ap, sym, ◌∙◌}
-use Rattle.std.specs.Prelude.{if◌then◌else◌, not, is_some}
-use Rattle.std.proofs.Math.Path.{subst}
-use Rattle.sctp_data.specs.declared.chunk.chunk_payload_data.ChunkPayloadData.{ChunkPayloadData}
-use Rattle.sctp_outbound.specs.pending_queue.PendingQueue.{next_pending}
-use Rattle.sctp_outbound.specs.outbound_queue.OutboundQueue.{Outbound, expired_of, total_bytes}
-use Rattle.sctp_model.specs.LinkRecord.{LinkRecord}
-use Rattle.sctp_model.specs.Messages.{message_at, front}
-use Rattle.sctp_model.specs.Changes.{after_expire, expiring}
-use Rattle.sctp_model.specs.Steps.{IsRight, after, reply_to, expired_reply}
+use Rattle.sctp_model.proofs.Names.{◌≡◌, ℕ, ◌+◌, ◌<◌, Bool, true, false, length, Option, Some, None, ap, sym, ◌∙◌, arith, not, is_some, subst, ChunkPayloadData}
+use Rattle.sctp_model.proofs.Names.{next_pending, Outbound, expired_of, total_bytes, LinkRecord, message_at, front, after_expire, expiring, IsRight, after}
+use Rattle.sctp_model.proofs.Names.{reply_to, expired_reply, RefinesOutbound, held_bytes, some-same, nat_tests}
 use Rattle.sctp_model.proofs.acknowledgement.Bytes.{size-some}
 use Rattle.sctp_model.proofs.sender.Fronts.{front-takes}
 use Rattle.sctp_model.proofs.sender.Moves.{Quiet}
 use Rattle.sctp_model.proofs.sender.Shape.{shape}
-use Rattle.sctp_model.specs.refinement.Refines.{RefinesOutbound}
-use Rattle.sctp_model.specs.refinement.Amount.{held_bytes}
-use Rattle.sctp_util.proofs.Cases.{some-same}
 use Rattle.sctp_model.proofs.refinement.abandonment.ChunkStreams.{peeked-stream}
 use Rattle.std.specs.Option.{option_map}
 use Rattle.sctp_outbound.specs.outbound_queue.OutboundQueue as outbound
@@ -29,12 +19,7 @@ use Rattle.sctp_model.proofs.refinement.Histories.{Sends, facts, over}
 -- what is shown is what is past its deadline, where something is
 pub shown-past_deadline : (now : ℕ) (c : ChunkPayloadData) (o : Option ChunkPayloadData) → o ≡ Some c
     → is_some (outbound.passing (outbound.is_expired now) o) ≡ true → outbound.passing (outbound.is_expired now) o ≡ Some c
-shown-past_deadline now c None e some = cc
-shown-past_deadline now c (Some d) e some = by (outbound.is_expired now d) some
-  where
-    by : (b : Bool) → is_some (if b then Some d else None) ≡ true → (if b then Some d else None) ≡ Some c
-    by true z = e
-    by false z = cc
+shown-past_deadline now c b e some = grind (arith, nat_tests)
 
 module _ {w : LinkRecord} {had : Outbound} {coming : ℕ} (l : Sends w had coming) (now : ℕ) where
   pub quiet : Quiet w (after w (E.Expire now))
@@ -48,11 +33,7 @@ module _ {w : LinkRecord} {had : Outbound} {coming : ℕ} (l : Sends w had comin
     outbound-expired = subst (RefinesOutbound (after w (E.Expire now))) (sym moves) (refines-expire w.setup w now had size (facts l.told).going l.outbound)
 
     pub unstarted-expired : had.next_unstarted ≡ q.next_unstarted
-    unstarted-expired = sym (ap (λ (r : Outbound). r.next_unstarted) moves ∙ same (outbound.expiring now had))
-      where
-        same : (o : Option ChunkPayloadData) → (expired_of o had).next_unstarted ≡ had.next_unstarted
-        same None = refl
-        same (Some c) = refl
+    unstarted-expired = grind (arith, nat_tests)
 
   pub idle-right : expiring w now ≡ None → IsRight w (E.Expire now) R.Idle w
   idle-right none =
@@ -81,11 +62,7 @@ module _ {w : LinkRecord} {had : Outbound} {coming : ℕ} (l : Sends w had comin
   none-waits e = none-expires (ap (outbound.passing (outbound.is_expired now)) e)
 
   pub none-past_deadline : is_some (outbound.expiring now had) ≡ false → expiring w now ≡ None
-  none-past_deadline e = by (outbound.expiring now had) refl e
-    where
-      by : (o : Option ChunkPayloadData) → outbound.expiring now had ≡ o → is_some o ≡ false → expiring w now ≡ None
-      by None h z = none-expires h
-      by (Some c) h z = cc
+  none-past_deadline e = grind (arith, nat_tests, none-expires)
 
   pub expires : (c : ChunkPayloadData) (bytes : ℕ) (q : Outbound) → next_pending had.pending ≡ Some c → is_some (outbound.expiring now had) ≡ true
       → total_bytes q + bytes ≡ total_bytes had → q ≡ expired_of (Some c) had → Expires c bytes

@@ -1,19 +1,10 @@
 -- What is released as messages are abandoned, by the record and by what the queues hold.
-use Rattle.std.proofs.Common.{◌≡◌, ℕ, ◌+◌, ◌-◌, ◌<◌, Bool, true, false, ◌∷◌, length, Option, Some, None, refl, ap, sym, ◌∙◌, arith}
-use Rattle.std.specs.Prelude.{if◌then◌else◌, ◌==◌, ◌&&◌}
-use Rattle.sctp_util.specs.Kept.{always}
-use Rattle.sctp_util.proofs.More.{both}
-use Rattle.sctp_util.proofs.Totals.{total-plus}
-use Rattle.sctp_outbound.specs.outbound_queue.OutboundQueue.{Outbound, total_bytes}
-use Rattle.sctp_model.specs.declared.event.Event.{Event}
+use Rattle.sctp_model.proofs.Names.{◌≡◌, ℕ, ◌+◌, ◌-◌, ◌<◌, Bool, true, false, ◌∷◌, length, Option, Some, None, refl, ap, ◌∙◌, arith, if◌then◌else◌, ◌==◌, ◌&&◌}
+use Rattle.sctp_model.proofs.Names.{always, both, total-plus, Outbound, total_bytes, Event, NotInFlight, Setup, LinkRecord, message_at, message_of, place_of}
+use Rattle.sctp_model.proofs.Names.{front, is_unsent, is_partially_sent, is_in_flight, is_past_deadline, in_all, written_bytes, released_bytes, growth}
+use Rattle.sctp_model.proofs.Names.{after_abandon, after_expire, expiring, front_if, tailing, after_tail, History, record_of, IsRun, refusal_of, reply_to}
+use Rattle.sctp_model.proofs.Names.{after, IsSetup, amount, held_bytes, is_write, RefinesOutbound, nat_tests}
 use Rattle.sctp_model.specs.declared.event.Event.TheVariants as E
-use Rattle.sctp_model.specs.declared.event.LinkRefusal.TheVariants.{NotInFlight}
-use Rattle.sctp_model.specs.LinkRecord.{Setup, LinkRecord}
-use Rattle.sctp_model.specs.Messages.{message_at, message_of, place_of, front, is_unsent, is_partially_sent, is_in_flight, is_past_deadline}
-use Rattle.sctp_model.specs.Amounts.{in_all, written_bytes, released_bytes, growth}
-use Rattle.sctp_model.specs.Changes.{after_abandon, after_expire, expiring, front_if, tailing, after_tail}
-use Rattle.sctp_model.specs.Steps.{History, record_of, IsRun, refusal_of, reply_to, after}
-use Rattle.sctp_model.specs.Laws.{IsSetup}
 use Rattle.sctp_model.proofs.sender.Shape.{shape, sent}
 use Rattle.sctp_model.proofs.sender.SenderSteps.{of-partial}
 use Rattle.sctp_model.proofs.sender.SenderRun.{Consistent, consistent-run, consistent-after, consistent-abandoned, in-flight-sent, unless-holds}
@@ -22,9 +13,6 @@ use Rattle.sctp_model.proofs.sender.Fronts.{front-takes}
 use Rattle.sctp_model.proofs.sender.Moves
 use Rattle.sctp_model.proofs.acknowledgement.Bytes.{balance, balances, size-some}
 use Rattle.sctp_model.proofs.acknowledgement.BytesAnswered.{count-abandoned}
-use Rattle.sctp_model.specs.refinement.Amount.{amount, held_bytes}
-use Rattle.sctp_model.specs.refinement.Counts.{is_write}
-use Rattle.sctp_model.specs.refinement.Refines.{RefinesOutbound}
 use Rattle.sctp_model.proofs.refinement.abandonment.NothingHeld.{amount-expired, held-in-abandoned, held-in-expired}
 use Rattle.sctp_model.proofs.refinement.amounts.InFlightBytes.{in-flight-bytes}
 use Rattle.sctp_model.proofs.refinement.amounts.MessageSums.{sum-same}
@@ -79,12 +67,7 @@ released-abandoned setup w n is g pos =
 
 -- the front, where a test chose it
 chosen : (w : LinkRecord) (p : ℕ → Bool) (o : Option ℕ) (n : ℕ) → front_if w p o ≡ Some n → (o ≡ Some n) × (p n ≡ true)
-chosen w p None n e = cc
-chosen w p (Some k) n e = by (p k) refl e
-  where
-    by : (b : Bool) → p k ≡ b → (if b then Some k else None) ≡ Some n → (Some k ≡ Some n) × (p n ≡ true)
-    by true f h = let z : k ≡ n = cc in (h, ap p (sym z) ∙ f)
-    by false f h = cc
+chosen w p b n e = grind (arith, nat_tests)
 
 -- ## Each event
 

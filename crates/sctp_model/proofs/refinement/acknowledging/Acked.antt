@@ -1,19 +1,11 @@
 -- A SACK is taken: what is in flight then is what the record says.
-use Rattle.std.proofs.Common.{◌≡◌, ℕ, ◌+◌, ◌-◌, ◌<◌, ◌≤◌, Bool, List, [], ◌∷◌, length, map, Some, refl, ap, sym, ◌∙◌, arith}
-use Rattle.std.specs.Prelude.{◌&&◌, ◌||◌, not, nat_lt, max}
-use Rattle.sctp_util.specs.Kept.{always, numbers_from, first_of}
-use Rattle.sctp_util.proofs.Passing.{map-kept-same, kept-same}
-use Rattle.sctp_util.proofs.Getting.{get-numbered, numbered-at, length-numbered}
-use Rattle.sctp_data.specs.declared.chunk.chunk_payload_data.ChunkPayloadData.{ChunkPayloadData}
-use Rattle.sctp_outbound.specs.outbound_queue.OutboundQueue.{Outbound, with_inflight}
-use Rattle.sctp_model.specs.LinkRecord.{LinkRecord, Report, Sack}
-use Rattle.sctp_model.specs.Messages.{message_at, slot_at, message_of, messages_where, no_slot, sent_of, fragment_count, is_partially_sent}
-use Rattle.sctp_model.specs.Reports.{reports}
-use Rattle.sctp_model.specs.Changes.{after_acked, acknowledged_by}
+use Rattle.sctp_model.proofs.Names.{◌≡◌, ℕ, ◌+◌, ◌-◌, ◌<◌, ◌≤◌, Bool, List, length, map, Some, refl, ap, ◌∙◌, arith, ◌&&◌, ◌||◌, not, nat_lt, max, always}
+use Rattle.sctp_model.proofs.Names.{numbers_from, map-kept-same, kept-same, get-numbered, numbered-at, length-numbered, ChunkPayloadData, Outbound}
+use Rattle.sctp_model.proofs.Names.{with_inflight, LinkRecord, Report, Sack, message_at, slot_at, message_of, messages_where, no_slot, sent_of, fragment_count}
+use Rattle.sctp_model.proofs.Names.{is_partially_sent, reports, after_acked, acknowledged_by, sending_by, IsInFlight, sending_at, sendings_of, waiting_of}
+use Rattle.sctp_model.proofs.Names.{waiting_where, RefinesOutbound, nat_tests}
 use Rattle.sctp_model.proofs.sender.Shape.{sent}
 use Rattle.sctp_model.proofs.sender.Shapes
-use Rattle.sctp_model.specs.refinement.Refines.{sending_by, IsInFlight, sending_at, sendings_of, selected_of, waiting_of, waiting_where, waits_ordered}
-use Rattle.sctp_model.specs.refinement.Refines.{waits_unordered, RefinesOutbound}
 use Rattle.sctp_model.proofs.refinement.sending.Waiting
 use Rattle.sctp_model.proofs.refinement.sending.Waiting.{gathered-same}
 
@@ -34,10 +26,7 @@ module _ (w : LinkRecord) (r : Report) where
 
   pub sendings-taken : sendings_of v ≡ map (λ k. sending_by w ((slot_at w k).acknowledged || reports r k) k)
       (numbers_from (max w.taken r.cumulative) (length w.slots - max w.taken r.cumulative))
-  sendings-taken =
-      ap (λ c. map (sending_at v) (numbers_from (max w.taken r.cumulative) (c - max w.taken r.cumulative))) count-same
-      ∙ map-kept-same (sending_at v) (λ k. sending_by w ((slot_at w k).acknowledged || reports r k) k) always always (max w.taken r.cumulative)
-      (length w.slots - max w.taken r.cumulative) (λ k a b. refl) (λ k a b e. sending-then k (omega arith))
+  sendings-taken = grind (arith, nat_tests, count-same, map-kept-same, sending-then)
 
   sent-same : (n : ℕ) → sent_of v n ≡ sent_of w n
   sent-same n = ap (λ x. sent x n) (Shapes.shape-acknowledged w r (max w.taken r.cumulative))
@@ -58,22 +47,7 @@ module _ (w : LinkRecord) (r : Report) where
   -- once what the SACK reports is marked, and what it acknowledges cumulatively is popped
   pub refines-taken : (q : Outbound) (cs : List ChunkPayloadData) → RefinesOutbound w q → IsInFlight w (λ k. (slot_at w k).acknowledged || reports r k)
       (max w.taken r.cumulative) (length w.slots - max w.taken r.cumulative) cs → RefinesOutbound v (with_inflight q cs)
-  refines-taken q cs t e = record {
-    pending = record {
-      ordered = t.pending.ordered ∙ sym (where-same (waits_ordered w));
-      unordered = t.pending.unordered ∙ sym (where-same (waits_unordered w));
-      selected = t.pending.selected ∙ sym (ap (λ l. selected_of v (first_of l)) partial-same ∙ same (messages_where w (is_partially_sent w)));
-    };
-    in_flight = e ∙ sym sendings-taken;
-    next = t.next;
-    unstarted = t.unstarted;
-    started = t.started;
-    begun = λ p lt. omega (arith, t.begun p (omega (arith, lt, count-same)), message-same p);
-  }
-    where
-      same : (l : List ℕ) → selected_of v (first_of l) ≡ selected_of w (first_of l)
-      same [] = refl
-      same (n ∷ l) = refl
+  refines-taken q cs t e = grind (arith, nat_tests, where-same, partial-same, sendings-taken, count-same, message-same)
 
 -- marks and pops begin from what the record has in flight
 pub in-flight-first : (w : LinkRecord) (q : Outbound) → RefinesOutbound w q

@@ -1,25 +1,11 @@
 -- What the receiver does leaves the outbound queue as it is.
-use Rattle.std.proofs.Common.{◌≡◌, ℕ, ◌+◌, ◌-◌, ◌%◌, ◌^◌, Bool, true, false, List, [], ◌∷◌, ◌++◌, length, map, Option, Some, None, refl, ap, sym, ◌∙◌, arith}
-use Rattle.std.specs.Prelude.{if◌then◌else◌, ◌==◌, ◌&&◌, ◌||◌, not, nat_lt, is_some, slice_index_or}
-use Rattle.std.specs.List.{flat_map}
-use Rattle.sctp_data.specs.Reliability.{is_timed}
-use Rattle.sctp_data.specs.PayloadTypes.{is_dcep}
-use Rattle.sctp_util.specs.Kept.{numbers_where, always, numbers_from, first_of}
-use Rattle.sctp_util.specs.Lists.{pieces}
-use Rattle.sctp_util.proofs.Passing.{kept-same, map-kept-same}
-use Rattle.sctp_util.proofs.More.{length-changed, changed-keeps}
-use Rattle.sctp_data.specs.declared.chunk.chunk_payload_data.ChunkPayloadData.{ChunkPayloadData}
-use Rattle.sctp_data.specs.PayloadData.{Data, data_of}
-use Rattle.sctp_data.specs.ChunkSet.{fresh}
-use Rattle.sctp_outbound.specs.outbound_queue.OutboundQueue.{Outbound}
-use Rattle.sctp_outbound.specs.declared.pending_queue.Selected.{Selected}
-use Rattle.sctp_model.specs.LinkRecord.{LinkRecord, Setup, Message, Slot}
-use Rattle.sctp_model.specs.Messages.{message_at, slot_at, message_of, messages_where, no_message, no_slot, is_ordered_on, ordered_before, ssn_of}
-use Rattle.sctp_model.specs.Messages.{fragment_count, has_fragment, sent_of, is_partially_sent, deadline_from}
-use Rattle.sctp_model.specs.Changes.{mark_arrived, mark_read, stream_changed, with_complete, becomes_complete, skip_counts, named_by, receive_slot}
-use Rattle.sctp_model.specs.Changes.{receive_skip, read_of, note_completion}
-use Rattle.sctp_model.specs.Receiver.{is_new}
-use Rattle.sctp_model.specs.refinement.Refines.{waiting_at, waiting_of, waiting_where, selected_of, RefinesOutbound, Sending, unless_gone, sending_at}
+use Rattle.sctp_model.proofs.Names.{◌≡◌, ℕ, ◌+◌, ◌-◌, Bool, false, List, [], length, map, Option, Some, None, refl, ap, sym, ◌∙◌, arith, if◌then◌else◌, ◌==◌}
+use Rattle.sctp_model.proofs.Names.{◌&&◌, ◌||◌, not, is_some, slice_index_or, is_timed, is_dcep, numbers_where, always, numbers_from, first_of, pieces}
+use Rattle.sctp_model.proofs.Names.{kept-same, map-kept-same, length-changed, changed-keeps, ChunkPayloadData, fresh, Outbound, Selected, LinkRecord, Setup}
+use Rattle.sctp_model.proofs.Names.{Message, Slot, message_at, slot_at, message_of, messages_where, no_message, no_slot, is_ordered_on, ordered_before, ssn_of}
+use Rattle.sctp_model.proofs.Names.{fragment_count, has_fragment, sent_of, is_partially_sent, deadline_from, mark_arrived, mark_read, receive_slot}
+use Rattle.sctp_model.proofs.Names.{receive_skip, read_of, waiting_at, waiting_of, waiting_where, selected_of, RefinesOutbound, sending_at, nat_tests}
+use Rattle.sctp_data.specs.PayloadData.{Data}
 use Rattle.sctp_model.proofs.refinement.sending.Waiting.{gathered-same}
 use Rattle.sctp_model.proofs.refinement.arriving.Arrival.{with_arrived}
 
@@ -58,45 +44,22 @@ deadline_by m = if is_timed m.reliability && not (is_dcep m.ppi) then deadline_f
 abbrev pub waiting_by : Setup → Message → ℕ → ℕ → ℕ → ChunkPayloadData
 waiting_by s m ssn n i = record (fresh (chunk_by s m ssn i 0)) { message_id = n; reliability = Some (m.reliability, m.value); deadline = deadline_by m }
 
-abbrev sending_by : Setup → Message → ℕ → Slot → ℕ → Sending
-sending_by s m ssn x p = record {
-  chunk = record {
-    tsn = (s.first + p) % 2 ^ 32;
-    message = x.message;
-    payload = if x.acknowledged || m.abandoned then [] else slice_index_or (pieces (length m.bytes) s.size m.bytes) x.fragment [];
-    acknowledged = x.acknowledged;
-    abandoned = m.abandoned;
-    deadline = deadline_by m;
-  };
-  stream = m.stream;
-  says = unless_gone (x.acknowledged || m.abandoned) (data_of (fresh (chunk_by s m ssn x.fragment ((s.first + p) % 2 ^ 32))));
-}
-
 module _ (w v : LinkRecord) (s : SameToSender w v) where
   before-same : (t n : ℕ) → ordered_before v t n ≡ ordered_before w t n
   before-same t n =
       ap length (kept-same (is_ordered_on v t) (is_ordered_on w t) 0 n (λ k a b. ap (λ m. (m.stream == t) && (m.ordered && not m.expired)) (s.message k)))
 
   ssn-same : (n : ℕ) → ssn_of v n ≡ ssn_of w n
-  ssn-same n =
-      ap (λ m. (if m.ordered then ordered_before v m.stream n else m.before) % 2 ^ 16) (s.message n)
-      ∙ ap (λ c. (if (message_at w n).ordered then c else (message_at w n).before) % 2 ^ 16) (before-same (message_at w n).stream n)
+  ssn-same n = grind (arith, nat_tests, before-same)
 
   message-same : (p : ℕ) → message_of v p ≡ message_of w p
   message-same p = ap (λ x. x.message) (s.slot p)
 
   waiting_at-same : (n i : ℕ) → waiting_at v n i ≡ waiting_at w n i
-  waiting_at-same n i =
-      ap (λ t. waiting_by t (unread (message_at v n)) (ssn_of v n) n i) s.setup
-      ∙ ap (λ m. waiting_by w.setup m (ssn_of v n) n i) (s.message n) ∙ ap (λ c. waiting_by w.setup (unread (message_at w n)) c n i) (ssn-same n)
+  waiting_at-same n i = grind (arith, nat_tests, ssn-same)
 
   sending-same : (p : ℕ) → sending_at v p ≡ sending_at w p
-  sending-same p =
-      ap (λ n. sending_by v.setup (unread (message_at v n)) (ssn_of v n) (unarrived (slot_at v p)) p) (message-same p)
-      ∙ ap (λ t. sending_by t (unread (message_at v (message_of w p))) (ssn_of v (message_of w p)) (unarrived (slot_at v p)) p) s.setup
-      ∙ ap (λ m. sending_by w.setup m (ssn_of v (message_of w p)) (unarrived (slot_at v p)) p) (s.message (message_of w p))
-      ∙ ap (λ c. sending_by w.setup (unread (message_at w (message_of w p))) c (unarrived (slot_at v p)) p) (ssn-same (message_of w p))
-      ∙ ap (λ x. sending_by w.setup (unread (message_at w (message_of w p))) (ssn_of w (message_of w p)) x p) (s.slot p)
+  sending-same p = grind (arith, nat_tests, message-same, ssn-same)
 
   sent-same : (n : ℕ) → sent_of v n ≡ sent_of w n
   sent-same n = ap (λ c. length (numbers_where (has_fragment v n) 0 c)) s.slots ∙ ap length
@@ -107,25 +70,13 @@ module _ (w v : LinkRecord) (s : SameToSender w v) where
       ∙ ap (λ t. length (pieces (length (message_at w n).bytes) t.size (message_at w n).bytes)) s.setup
 
   waiting_of-same : (n : ℕ) → waiting_of v n ≡ waiting_of w n
-  waiting_of-same n =
-      ap (λ c. map (waiting_at v n) (numbers_from c (fragment_count v n - c))) (sent-same n)
-      ∙ ap (λ c. map (waiting_at v n) (numbers_from (sent_of w n) (c - sent_of w n))) (count-same n)
-      ∙ map-kept-same (waiting_at v n) (waiting_at w n) always always (sent_of w n) (fragment_count w n - sent_of w n) (λ k a b. refl)
-      (λ k a b e. waiting_at-same n k)
+  waiting_of-same n = grind (arith, nat_tests, sent-same, count-same, map-kept-same, waiting_at-same)
 
   where-same : (t : Message → Bool) → waiting_where v (λ n. t (unread (message_at v n))) ≡ waiting_where w (λ n. t (unread (message_at w n)))
-  where-same t =
-      ap (λ c. flat_map (waiting_of v) (numbers_where (λ n. t (unread (message_at v n))) 0 c)) s.count
-      ∙ gathered-same (waiting_of v) (waiting_of w) (λ n. t (unread (message_at v n))) (λ n. t (unread (message_at w n))) 0 (length w.messages)
-      (λ k a b. ap t (s.message k)) (λ k a b e. waiting_of-same k)
+  where-same t = grind (arith, nat_tests, gathered-same, waiting_of-same)
 
   partial-same : messages_where v (is_partially_sent v) ≡ messages_where w (is_partially_sent w)
-  partial-same =
-      ap (numbers_where (is_partially_sent v) 0) s.count
-      ∙ kept-same (is_partially_sent v) (is_partially_sent w) 0 (length w.messages) (λ k a b.
-      ap (λ c. nat_lt 0 c && (nat_lt c (fragment_count v k) && not (message_at v k).abandoned)) (sent-same k)
-      ∙ ap (λ c. nat_lt 0 (sent_of w k) && (nat_lt (sent_of w k) c && not (message_at v k).abandoned)) (count-same k)
-      ∙ ap (λ m. nat_lt 0 (sent_of w k) && (nat_lt (sent_of w k) (fragment_count w k) && not m.abandoned)) (s.message k))
+  partial-same = grind (arith, nat_tests, kept-same, sent-same, count-same)
 
   selected-same : (o : Option ℕ) → selected_of v o ≡ selected_of w o
   selected-same None = refl
@@ -151,24 +102,10 @@ module _ (w v : LinkRecord) (s : SameToSender w v) where
 -- ## The receiver's events
 
 pub same-self : (w v : LinkRecord) → v.setup ≡ w.setup → v.messages ≡ w.messages → v.slots ≡ w.slots → v.taken ≡ w.taken → SameToSender w v
-same-self w v a b c d = record {
-  setup = a;
-  count = ap length b;
-  message = λ n. ap (λ l. unread (slice_index_or l n no_message)) b;
-  slots = ap length c;
-  slot = λ p. ap (λ l. unarrived (slice_index_or l p no_slot)) c;
-  taken = d;
-}
+same-self w v a b c d = grind (arith, nat_tests)
 
 pub same-then : (u w v : LinkRecord) → SameToSender u w → SameToSender w v → SameToSender u v
-same-then u w v a b = record {
-  setup = b.setup ∙ a.setup;
-  count = b.count ∙ a.count;
-  message = λ n. b.message n ∙ a.message n;
-  slots = b.slots ∙ a.slots;
-  slot = λ p. b.slot p ∙ a.slot p;
-  taken = b.taken ∙ a.taken;
-}
+same-then u w v a b = grind (arith, nat_tests)
 
 same-arrived : (w : LinkRecord) (p : ℕ) → SameToSender w (with_arrived w p)
 same-arrived w p = record {
@@ -181,25 +118,10 @@ same-arrived w p = record {
 }
 
 pub same-slot : (w : LinkRecord) (p : ℕ) → SameToSender w (receive_slot w p)
-same-slot w p = by (is_new w p)
-  where
-    by : (b : Bool) → SameToSender w (if b then note_completion (with_arrived w p) (message_of w p) else record w { duplicates = w.duplicates ++ p ∷ [] })
-    by true = complete (becomes_complete (with_arrived w p) (message_of w p))
-      where
-        complete : (b : Bool) → SameToSender w (if b
-            then stream_changed (with_arrived w p) (message_at w (message_of w p)).stream (with_complete (message_of w p)) else with_arrived w p)
-        complete true = same-then w (with_arrived w p)
-            (stream_changed (with_arrived w p) (message_at w (message_of w p)).stream (with_complete (message_of w p))) (same-arrived w p) (same-self
-            (with_arrived w p) (stream_changed (with_arrived w p) (message_at w (message_of w p)).stream (with_complete (message_of w p))) refl refl refl refl)
-        complete false = same-arrived w p
-    by false = same-self w (record w { duplicates = w.duplicates ++ p ∷ [] }) refl refl refl refl
+same-slot w p = grind (arith, nat_tests, same-then, same-arrived, same-self)
 
 pub same-skip : (w : LinkRecord) (upto : ℕ) (names : List ℕ) → SameToSender w (receive_skip w upto names)
-same-skip w upto names = by (skip_counts w upto)
-  where
-    by : (b : Bool) → SameToSender w (if b then record w { skipped = upto + 1; streams = map (named_by w names) w.streams } else w)
-    by true = same-self w (record w { skipped = upto + 1; streams = map (named_by w names) w.streams }) refl refl refl refl
-    by false = same-self w w refl refl refl refl
+same-skip w upto names = grind (arith, nat_tests, same-self)
 
 pub same-read : (w : LinkRecord) (t : ℕ) (o : Option ℕ) → SameToSender w (read_of w t o)
 same-read w t None = same-self w w refl refl refl refl

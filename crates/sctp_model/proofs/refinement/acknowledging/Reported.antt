@@ -1,24 +1,15 @@
 -- A SACK of the network, and the slots that it reports.
-use Rattle.std.proofs.Common.{◌≡◌, ℕ, ◌-◌, ◌<◌, ◌≤◌, true, length, Option, Some, None, refl, inl, inr, arith}
-use Rattle.std.specs.Prelude.{nat_lt, slice_get}
-use Rattle.std.proofs.lemmas.Bool.{cases_lt, lt-ltb}
-use Rattle.sctp_model.specs.declared.event.LinkRefusal.TheVariants.{NoSuchDatagram}
-use Rattle.sctp_model.specs.LinkRecord.{Setup, LinkRecord, Report, Forward, Sack}
-use Rattle.sctp_model.specs.Steps.{History, IsRun, record_of, unless, is_for_sender}
-use Rattle.sctp_model.specs.Log.{log_of}
-use Rattle.sctp_model.specs.Laws.{IsSetup}
+use Rattle.sctp_model.proofs.Names.{◌≡◌, ℕ, ◌-◌, ◌<◌, ◌≤◌, true, length, Option, Some, None, inl, inr, arith, nat_lt, slice_get, cases_lt, lt-ltb}
+use Rattle.sctp_model.proofs.Names.{NoSuchDatagram, Setup, LinkRecord, Report, Sack, History, IsRun, record_of, unless, log_of, IsSetup, or-left, reports}
+use Rattle.sctp_model.proofs.Names.{nat_tests}
+use Rattle.sctp_model.specs.Steps.{is_for_sender}
 use Rattle.sctp_model.proofs.receiver.Received.{received-run}
-use Rattle.sctp_util.proofs.Cases.{or-left}
-use Rattle.sctp_model.specs.Reports.{reports}
 use Rattle.sctp_model.specs.LinkRecord as W
 use Rattle.sctp_model.proofs.acknowledgement.Acknowledged
 
 -- what is for the sender is a SACK
 pub sack-there : (o : Option W.Datagram) → unless (is_for_sender o) NoSuchDatagram None ≡ None → (r : Report) × (o ≡ Some (Sack r))
-sack-there None e = cc
-sack-there (Some (W.Data ps)) e = cc
-sack-there (Some (Forward upto names)) e = cc
-sack-there (Some (Sack r)) e = (r, refl)
+sack-there b e = grind (arith, nat_tests)
 
 -- only slots that are there are reported
 abbrev pub Reported : LinkRecord → Type 0

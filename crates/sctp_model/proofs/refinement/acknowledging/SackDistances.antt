@@ -1,11 +1,6 @@
 -- How far a slot lies from a cumulative TSN.
-use Rattle.std.proofs.Common.{◌≡◌, ℕ, ◌+◌, ◌-◌, ◌<◌, ◌≤◌, ◌^◌, false, ap, sym, ◌∙◌, inl, inr, arith}
-use Rattle.std.specs.Prelude.{nat_lt}
-use Rattle.std.proofs.lemmas.Bool.{cases_lt, lt-ltb, le-ltb}
-use Rattle.sctp_util.specs.Serial.{comes_before, distance, at_or_before}
-use Rattle.sctp_model.specs.LinkRecord.{LinkRecord}
-use Rattle.sctp_model.specs.Messages.{tsn_of}
-use Rattle.sctp_model.specs.Contents.{cumulative_tsn}
+use Rattle.sctp_model.proofs.Names.{◌≡◌, ℕ, ◌+◌, ◌-◌, ◌<◌, ◌≤◌, ◌^◌, false, arith, nat_lt, comes_before, LinkRecord, tsn_of, cumulative_tsn, nat_tests}
+use Rattle.sctp_util.specs.Serial.{distance, at_or_before}
 use Rattle.sctp_util.proofs.Distances.{not_before_from, before_irrefl}
 
 -- from the last TSN before a place to that of a slot
@@ -27,15 +22,8 @@ back w from top first lt short = omega (arith, first, lt, short)
 -- the later one is not out of date
 pub up-to-date : (w : LinkRecord) (from top : ℕ) → w.setup.first < 2 ^ 32 → from ≤ top → top < 2 ^ 31
     → comes_before (cumulative_tsn w top) (cumulative_tsn w from) ≡ false
-up-to-date w from top first le short = elim (cases_lt from top) [
-  | inl lt ↦ not_before_from (cumulative_tsn w top) (cumulative_tsn w from) (back w from top first lt short)
-  | inr ge ↦ let same : from ≡ top = omega (arith, le, ge) in
-      ap (λ n. comes_before (cumulative_tsn w top) (cumulative_tsn w n)) same ∙ before_irrefl (cumulative_tsn w top) (omega arith)
-]
+up-to-date w from top first le short = grind (arith, nat_tests, not_before_from, back, before_irrefl)
 
 pub at-top : (w : LinkRecord) (top k : ℕ) → w.setup.first < 2 ^ 32 → top < 2 ^ 31 → k < 2 ^ 31 → at_or_before (tsn_of w k) (cumulative_tsn w top) ≡ nat_lt k top
 unfolding at_or_before distance
-at-top w top k first short near = elim (cases_lt k top) [
-  | inl lt ↦ lt-ltb _ _ (omega (arith, first, short, near, lt)) ∙ sym (lt-ltb k top lt)
-  | inr le ↦ le-ltb _ _ (omega (arith, first, short, near, le)) ∙ sym (le-ltb k top le)
-]
+at-top w top k first short near = grind (arith, nat_tests)

@@ -1,17 +1,9 @@
 -- A SACK that is taken leaves what the receiver has as it is.
-use Rattle.std.proofs.Common.{◌≡◌, ℕ, ◌+◌, ◌-◌, ◌%◌, ◌^◌, Bool, length, map, Some, ap}
-use Rattle.std.specs.Prelude.{if◌then◌else◌, ◌==◌, ◌&&◌, ◌||◌, not, nat_le, nat_lt}
-use Rattle.std.specs.List.{list_any}
-use Rattle.sctp_util.specs.Kept.{numbers_where, unbroken}
-use Rattle.sctp_data.specs.declared.chunk.chunk_payload_data.ChunkPayloadData.{ChunkPayloadData}
-use Rattle.sctp_data.specs.ChunkSet.{ChunkSet, fresh}
-use Rattle.sctp_reassembly.specs.reassembly_queue.ReassemblyQueue.{Reassembly}
-use Rattle.sctp_model.specs.LinkRecord.{LinkRecord, Report, Sack}
-use Rattle.sctp_model.specs.Messages.{message_at, stream_of, is_ordered_on, is_unordered_on, index_of, ssn_of, fragment_count, tsn_of}
-use Rattle.sctp_model.specs.Receiver.{is_unread, next_of}
-use Rattle.sctp_model.specs.Contents.{data_fields, cumulative_tsn}
-use Rattle.sctp_model.specs.Queues.{FilterRecord, filter_of}
-use Rattle.sctp_model.specs.Changes.{after_acked}
+use Rattle.sctp_model.proofs.Names.{◌≡◌, ℕ, ◌+◌, ◌-◌, ◌%◌, ◌^◌, Bool, length, map, Some, ap, if◌then◌else◌, ◌==◌, ◌&&◌, ◌||◌, not, nat_le, nat_lt, list_any}
+use Rattle.sctp_model.proofs.Names.{numbers_where, unbroken, ChunkPayloadData, ChunkSet, fresh, Reassembly, LinkRecord, Report, Sack, message_at, stream_of}
+use Rattle.sctp_model.proofs.Names.{is_ordered_on, is_unordered_on, index_of, ssn_of, fragment_count, tsn_of, is_unread, next_of, data_fields, cumulative_tsn}
+use Rattle.sctp_model.proofs.Names.{filter_of, after_acked}
+use Rattle.sctp_model.specs.Queues.{FilterRecord}
 use Rattle.sctp_model.proofs.sender.Shape.{has}
 use Rattle.sctp_model.proofs.receiver.View.{View, view-taken}
 use Rattle.sctp_model.specs.refinement.Holds.{reassembly_of}

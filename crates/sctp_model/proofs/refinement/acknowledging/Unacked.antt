@@ -1,23 +1,35 @@
 -- The bytes in flight, by message and by slot.
-use Rattle.std.proofs.Common.{◌≡◌, ℕ, ◌+◌, ◌-◌, ◌<◌, Bool, true, false, [], length, get_or, Some, refl, ap, sym, ◌∙◌, arith, zero-add}
-use Rattle.std.proofs.Math.Path.{subst}
-use Rattle.std.specs.Prelude.{if◌then◌else◌, ◌==◌, ◌&&◌, ◌||◌, not, max}
-use Rattle.sctp_util.specs.Kept.{numbers_where, always, numbers_from, total_over}
-use Rattle.sctp_util.specs.Lists.{pieces}
-use Rattle.sctp_util.proofs.Passing.{kept-same}
-use Rattle.sctp_util.proofs.Cases.{and-true}
-use Rattle.sctp_util.proofs.Getting.{numbered-at}
-use Rattle.sctp_util.proofs.Totals.{total-none, total-plus, total-split, total-where, total-kept_same}
-use Rattle.sctp_model.specs.LinkRecord.{LinkRecord, Report, Sack}
-use Rattle.sctp_model.specs.Messages.{message_at, slot_at, message_of, messages_where, slots_where, has_fragment, no_slot}
-use Rattle.sctp_model.specs.Amounts.{is_expired_or_abandoned, slot_bytes, in_all, on_stream, written_bytes, pending_bytes, in_flight_bytes, released_bytes}
-use Rattle.sctp_model.specs.Amounts.{growth}
-use Rattle.sctp_model.specs.Changes.{after_acked, acknowledged_by}
+use Rattle.sctp_model.proofs.Names.{◌≡◌, ℕ, ◌+◌, ◌-◌, ◌<◌, Bool, true, false, [], length, get_or, Some, refl, ap, sym, ◌∙◌, arith, zero-add, zero, suc, ◌≤◌}
+use Rattle.sctp_model.proofs.Names.{subst, if◌then◌else◌, ◌==◌, ◌&&◌, ◌||◌, not, max, numbers_where, always, numbers_from, total_over, pieces, kept-same}
+use Rattle.sctp_model.proofs.Names.{and-true, same-yes, same-is, numbered-at, total-none, total-plus, total-split, total-where, total-kept_same, total-one}
+use Rattle.sctp_model.proofs.Names.{LinkRecord, Report, Sack, message_at, slot_at, message_of, messages_where, slots_where, has_fragment, no_slot}
+use Rattle.sctp_model.proofs.Names.{is_expired_or_abandoned, in_all, written_bytes, pending_bytes, in_flight_bytes, released_bytes, growth, after_acked}
+use Rattle.sctp_model.proofs.Names.{acknowledged_by, amount, stream_of_slot, bytes_at, bytes_but_for, acknowledged_at, acknowledged_then, nat_tests, fails}
+use Rattle.sctp_model.specs.Amounts.{slot_bytes, on_stream}
 use Rattle.sctp_model.proofs.sender.Shape.{Shape, shape, sent, parts}
-use Rattle.sctp_model.proofs.sender.Shapes
 use Rattle.sctp_model.proofs.sender.Sender.{Sender}
-use Rattle.sctp_model.specs.refinement.Amount.{amount, stream_of_slot, bytes_at, bytes_but_for, unacked_on, acknowledged_at, acknowledged_then}
-use Rattle.sctp_model.proofs.refinement.amounts.Owned.{total-owned}
+use Rattle.sctp_model.specs.refinement.Amount.{unacked_on}
+use Rattle.sctp_model.proofs.sender.Shapes
+
+-- ## Sums over things of which each has one owner
+
+-- the sum over the owners of what is theirs is the sum over all
+pub total-owned : (owner : ℕ → ℕ) (f : ℕ → ℕ → ℕ) (owners from count : ℕ) → ((p : ℕ) → from ≤ p → p < from + count → owner p < owners)
+    → total_over (λ n. total_over (λ p. if owner p == n then f n p else 0) (numbers_where always from count))
+    (numbers_where always 0 owners) ≡ total_over (λ p. f (owner p) p) (numbers_where always from count)
+total-owned owner f owners from zero below = total-none (λ n. 0) 0 owners (λ k a b. refl)
+total-owned owner f owners from (suc count) below =
+    let here : ℕ → ℕ = λ n. if owner from == n then f n from else 0 in
+    let later : ℕ → ℕ = λ n. total_over (λ p. if owner p == n then f n p else 0) (numbers_where always (from + 1) count) in
+    let rest = total-owned owner f owners (from + 1) count (λ p a b. below p (omega arith) (omega arith)) in
+    let one = total-one (λ n. 0) here (owner from) (f (owner from) from) 0 owners (omega arith) (omega (arith, below from (omega arith) (omega arith)))
+    (λ k ne. ap (λ b. if b then f k from else 0) (sym (fails (owner from == k) (λ e. ne (sym (same-is (owner from) k e))))))
+    (zero-add (f (owner from) from) ∙ ap (λ b. if b then f (owner from) from else 0) (sym (same-yes (owner from)))) in
+    let none = total-none (λ n. 0) 0 owners (λ k a b. refl) in
+    let both = total-plus here later (λ n. here n + later n) always 0 owners (λ k a b. refl) in
+    omega (arith, rest, one, none, both)
+
+-- ## Bytes by message and by slot
 
 -- the bytes of message n in the slots that pass, none where it expired or was abandoned
 abbrev pub bytes_where : LinkRecord → (ℕ → Bool) → ℕ → ℕ
@@ -43,31 +55,15 @@ bytes-by_slot w q c s =
     zero' true = refl
     zero' false = refl
 
-    one : (a b d : Bool) (k : ℕ) → (if (a && b) && d then k else 0) ≡ (if a then (if b && d then k else 0) else 0)
-    one true b d k = refl
-    one false b d k = refl
-
     each : (n : ℕ) (b g : Bool) → (if b then (if g then 0 else total_over (slot_bytes w n) (slots_where w (λ p. has_fragment w n p && c p))) else 0)
         ≡ total_over (λ p. if message_of w p == n then (if b && (not g && (not (slot_at w p).is_terminal_chunk && c p)) then slot_bytes w n p else 0) else 0)
         (numbers_where always 0 (length w.slots))
-    each n true false = total-where (slot_bytes w n) (λ p. has_fragment w n p && c p) 0 (length w.slots)
-        ∙ total-kept_same (λ p. if has_fragment w n p && c p then slot_bytes w n p else 0)
-        (λ p. if message_of w p == n then (if not (slot_at w p).is_terminal_chunk && c p then slot_bytes w n p else 0) else 0) always 0 (length w.slots)
-        (λ p a b. one (message_of w p == n) (not (slot_at w p).is_terminal_chunk) (c p) (slot_bytes w n p))
+    each n true false = grind (arith, nat_tests, total-where, total-kept_same)
     each n true true = sym (total-none (λ p. if message_of w p == n then 0 else 0) 0 (length w.slots) (λ p a b. zero' (message_of w p == n)))
     each n false g = sym (total-none (λ p. if message_of w p == n then 0 else 0) 0 (length w.slots) (λ p a b. zero' (message_of w p == n)))
 
     turned : (b g m d : Bool) (k : ℕ) → (if b && (not g && (not m && d)) then k else 0) ≡ (if d && b then (if m || g then 0 else k) else 0)
-    turned true true true true k = refl
-    turned true true true false k = refl
-    turned true true false true k = refl
-    turned true true false false k = refl
-    turned true false true true k = refl
-    turned true false true false k = refl
-    turned true false false true k = refl
-    turned true false false false k = refl
-    turned false g m true k = refl
-    turned false g m false k = refl
+    turned b g m c k = grind (arith, nat_tests)
 
 -- what is in flight on a stream is what its slots hold that are not acknowledged
 pub in-flight-on : (w : LinkRecord) (t : ℕ) → Sender (shape w) → on_stream w t (in_flight_bytes w) ≡ unacked_on w (acknowledged_at w) t

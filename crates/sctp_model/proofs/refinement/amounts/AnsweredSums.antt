@@ -1,19 +1,10 @@
 -- What an event leaves of the messages as they were written and read, and sums over the messages of a stream.
-use Rattle.std.proofs.Common.{◌≡◌, ℕ, ◌+◌, ◌<◌, Bool, true, false, List, [], ◌∷◌, length, Option, Some, None, refl, ap, sym, ◌∙◌, arith}
-use Rattle.std.specs.Prelude.{if◌then◌else◌, ◌==◌, ◌&&◌, not, slice_get, slice_index_or}
-use Rattle.std.proofs.lemmas.Bool.Decides.{nat_tests}
-use Rattle.sctp_util.specs.Kept.{numbers_where, total_over}
-use Rattle.sctp_util.proofs.More.{length-changed, changed-keeps, changed-same, changed-other}
-use Rattle.sctp_util.proofs.Totals.{total-one, total-where}
-use Rattle.sctp_data.specs.declared.chunk.chunk_payload_data.PayloadProtocolIdentifier.{PayloadProtocolIdentifier}
-use Rattle.sctp_model.specs.declared.event.Event.{Event}
+use Rattle.sctp_model.proofs.Names.{◌≡◌, ℕ, ◌+◌, ◌<◌, Bool, true, false, List, [], ◌∷◌, length, Option, Some, None, refl, ap, sym, ◌∙◌, arith, if◌then◌else◌}
+use Rattle.sctp_model.proofs.Names.{◌==◌, ◌&&◌, not, slice_get, nat_tests, numbers_where, total_over, length-changed, changed-keeps, changed-same}
+use Rattle.sctp_model.proofs.Names.{changed-other, total-one, total-where, PayloadProtocolIdentifier, Event, Setup, LinkRecord, message_at, stream_of}
+use Rattle.sctp_model.proofs.Names.{no_message, next_read, after_write, read_of, after_reading, mark_read, History, record_of, IsRun, after, IsSetup, is_write}
+use Rattle.sctp_model.proofs.Names.{is_read}
 use Rattle.sctp_model.specs.declared.event.Event.TheVariants as E
-use Rattle.sctp_model.specs.LinkRecord.{Setup, LinkRecord}
-use Rattle.sctp_model.specs.Messages.{message_at, stream_of, no_message}
-use Rattle.sctp_model.specs.Receiver.{next_read}
-use Rattle.sctp_model.specs.Changes.{message_on, after_write, read_of, after_reading, mark_read}
-use Rattle.sctp_model.specs.Steps.{History, record_of, IsRun, after}
-use Rattle.sctp_model.specs.Laws.{IsSetup}
 use Rattle.sctp_model.proofs.sender.SenderRun.{Consistent}
 use Rattle.sctp_model.proofs.sender.Moves
 use Rattle.sctp_model.proofs.sender.Moves.{Quiet}
@@ -21,7 +12,6 @@ use Rattle.sctp_model.proofs.sender.Lifetimes.{messages-received, messages-taken
 use Rattle.sctp_model.proofs.receiver.Known.{HasRead}
 use Rattle.sctp_model.proofs.receiver.View.{view}
 use Rattle.sctp_model.proofs.receiver.Shown.{has-read}
-use Rattle.sctp_model.specs.refinement.Counts.{is_write, is_read}
 use Rattle.sctp_model.proofs.refinement.amounts.MessageSums.{is_on, sum_where, sum-written, sum-same}
 use Rattle.sctp_model.proofs.refinement.amounts.StreamAmounts.{same-turned}
 
@@ -40,26 +30,10 @@ pub record AsRead (w v : LinkRecord) : Type 0 where
   pub read : (n : ℕ) → n < length w.messages → (message_at v n).read ≡ (message_at w n).read
 
 pub read-quiet : (w v : LinkRecord) → length v.messages ≡ length w.messages → Quiet w v → AsRead w v
-read-quiet w v count q = record {
-  answered = record {
-    count = count;
-    stream = λ n lt. ap (λ m. m.stream) (q.grows.message n lt);
-    ppi = λ n lt. ap (λ m. m.ppi) (q.grows.message n lt);
-    bytes = λ n lt. ap (λ m. m.bytes) (q.grows.message n lt);
-  };
-  read = q.read;
-}
+read-quiet w v count q = grind (arith, nat_tests)
 
 read-messages : (w v : LinkRecord) → v.messages ≡ w.messages → AsRead w v
-read-messages w v e = record {
-  answered = record {
-    count = ap length e;
-    stream = λ n lt. ap (λ ms. (slice_index_or ms n no_message).stream) e;
-    ppi = λ n lt. ap (λ ms. (slice_index_or ms n no_message).ppi) e;
-    bytes = λ n lt. ap (λ ms. (slice_index_or ms n no_message).bytes) e;
-  };
-  read = λ n lt. ap (λ ms. (slice_index_or ms n no_message).read) e;
-}
+read-messages w v e = grind (arith, nat_tests)
 
 pub read-after : (setup : Setup) (w : LinkRecord) (e : Event) → Consistent setup w → is_write e ≡ false → is_read e ≡ false → AsRead w (after w e)
 read-after setup w (E.Write s x y) g a b = cc
@@ -107,41 +81,20 @@ answered_on-same w v t g a = sum-same w v (is_on t) (λ m. g m.ppi m.bytes) a.co
     (λ n lt. ap (λ p. g p (message_at v n).bytes) (a.ppi n lt) ∙ ap (g (message_at w n).ppi) (a.bytes n lt))
 
 pub read_on-same : (w v : LinkRecord) (t : ℕ) (g : PayloadProtocolIdentifier → List ℕ → ℕ) → AsRead w v → read_on v t g ≡ read_on w t g
-read_on-same w v t g a =
-    sum-same w v (is_on t) (λ m. if m.read then g m.ppi m.bytes else 0) a.answered.count (λ n lt. ap (λ k. k == t) (a.answered.stream n lt))
-    (λ n lt. ap (λ p. if (message_at v n).read then g p (message_at v n).bytes else 0) (a.answered.ppi n lt) ∙ ap (λ l. if (message_at v n).read
-    then g (message_at w n).ppi l else 0) (a.answered.bytes n lt) ∙ ap (λ b. if b then g (message_at w n).ppi (message_at w n).bytes else 0) (a.read n lt))
+read_on-same w v t g a = grind (arith, nat_tests, sum-same, is_on)
 
 -- a write adds its message to its stream
 pub answered_on-wrote : (w : LinkRecord) (s t : ℕ) (ppi : PayloadProtocolIdentifier) (bytes : List ℕ) (g : PayloadProtocolIdentifier → List ℕ → ℕ)
     → (stream_of w s).stream ≡ s
     → answered_on (after_write w s ppi bytes) t g ≡ answered_on w t g + (if (t == s) && not (length bytes == 0) then g ppi bytes else 0)
-answered_on-wrote w s t ppi [] g e = none (t == s) (answered_on w t g)
-  where
-    none : (b : Bool) (k : ℕ) → k ≡ k + (if b && false then g ppi [] else 0)
-    none true k = omega arith
-    none false k = omega arith
-answered_on-wrote w s t ppi (b ∷ bs) g e =
-    sum-written w (message_on w (stream_of w s) ppi (b ∷ bs)) (is_on t) (λ m. g m.ppi m.bytes)
-    ∙ ap (λ k. answered_on w t g + (if k == t then g ppi (b ∷ bs) else 0)) e
-    ∙ ap (λ c. answered_on w t g + (if c then g ppi (b ∷ bs) else 0)) (same-turned s t)
-    ∙ ap (λ k. answered_on w t g + k) (some (t == s) (length (b ∷ bs) == 0) (let z : (length (b ∷ bs) == 0) ≡ false = grind (arith, nat_tests) in z))
-  where
-    some : (c d : Bool) → d ≡ false → (if c then g ppi (b ∷ bs) else 0) ≡ (if c && not d then g ppi (b ∷ bs) else 0)
-    some c true h = cc
-    some true false h = refl
-    some false false h = refl
+answered_on-wrote w s t ppi [] g e = grind (arith, nat_tests)
+answered_on-wrote w s t ppi (b ∷ bs) g e = grind (arith, nat_tests, sum-written, is_on, same-turned)
 
 -- it was not read yet
 pub read_on-wrote : (w : LinkRecord) (s t : ℕ) (ppi : PayloadProtocolIdentifier) (bytes : List ℕ) (g : PayloadProtocolIdentifier → List ℕ → ℕ)
     → read_on (after_write w s ppi bytes) t g ≡ read_on w t g
 read_on-wrote w s t ppi [] g = refl
-read_on-wrote w s t ppi (b ∷ bs) g = sum-written w (message_on w (stream_of w s) ppi (b ∷ bs)) (is_on t) (λ m. if m.read then g m.ppi m.bytes else 0)
-    ∙ none ((stream_of w s).stream == t)
-  where
-    none : (c : Bool) → read_on w t g + (if c then 0 else 0) ≡ read_on w t g
-    none true = omega arith
-    none false = omega arith
+read_on-wrote w s t ppi (b ∷ bs) g = grind (arith, nat_tests, sum-written, is_on)
 
 -- a read adds the message that it reads
 pub read_on-read : (setup : Setup) (h : History) → IsSetup setup → IsRun setup h → (s t n : ℕ) (g : PayloadProtocolIdentifier → List ℕ → ℕ)
@@ -179,7 +132,4 @@ read_on-read setup h is run s t n g e =
     r = has-read setup h is run s n e
 
     here : (a b : Bool) → a ≡ b → (if a then 0 else 0) + (if b then all n else 0) ≡ (if a then all n else 0)
-    here true true q = omega arith
-    here false false q = refl
-    here true false q = cc
-    here false true q = cc
+    here b c q = grind (arith, nat_tests)

@@ -1,14 +1,7 @@
 -- How much can have been written.
-use Rattle.std.proofs.Common.{◌≡◌, ℕ, zero, suc, ◌+◌, ◌*◌, ◌<◌, ◌≤◌, ◌^◌, List, [], ◌∷◌, length, drop, refl, arith}
-use Rattle.std.proofs.lemmas.List.{length-drop}
-use Rattle.sctp_util.specs.Kept.{numbers_where, always, total_over, numbers_from}
-use Rattle.sctp_util.specs.Lists.{pieces}
-use Rattle.sctp_util.proofs.Totals.{total-le}
-use Rattle.sctp_model.specs.LinkRecord.{Setup, LinkRecord}
-use Rattle.sctp_model.specs.Messages.{message_at, fragment_count}
-use Rattle.sctp_model.specs.Amounts.{in_all, written_bytes}
-use Rattle.sctp_model.specs.Steps.{fragments_accepted}
-use Rattle.sctp_model.specs.Laws.{IsSetup}
+use Rattle.sctp_model.proofs.Names.{◌≡◌, ℕ, zero, suc, ◌+◌, ◌*◌, ◌<◌, ◌≤◌, ◌^◌, List, [], ◌∷◌, length, refl, arith, length-drop, numbers_where, always}
+use Rattle.sctp_model.proofs.Names.{total_over, pieces, total-le, Setup, LinkRecord, fragment_count, in_all, written_bytes, fragments_accepted, IsSetup}
+use Rattle.sctp_model.proofs.Names.{nat_tests}
 use Rattle.sctp_model.proofs.sender.SenderRun.{Consistent}
 
 -- a piece has at most so many bytes
@@ -16,10 +9,7 @@ pub pieces-many : (most size : ℕ) (bytes : List ℕ) → 0 < size → size ≤
 pieces-many zero size [] some small le = omega arith
 pieces-many zero size (x ∷ xs) some small le = absurd (omega (arith, le))
 pieces-many (suc most) size [] some small le = omega arith
-pieces-many (suc most) size (x ∷ xs) some small le =
-    let rest = length-drop size (x ∷ xs) in
-    let more = pieces-many most size (drop size (x ∷ xs)) some small (omega (arith, rest, le, some)) in
-    omega (arith, rest, more, small)
+pieces-many (suc most) size (x ∷ xs) some small le = grind (arith, nat_tests, length-drop, pieces-many most size)
 
 pub total-times : (f g : ℕ → ℕ) (ns : List ℕ) → ((n : ℕ) → f n ≤ 65519 * g n) → total_over f ns ≤ 65519 * total_over g ns
 total-times f g [] le = omega arith
@@ -27,12 +17,7 @@ total-times f g (n ∷ ns) le = omega (arith, le n, total-times f g ns le)
 
 -- the bytes written, by the fragments that are accepted
 pub written-few : (setup : Setup) (w : LinkRecord) → IsSetup w.setup → Consistent setup w → in_all w (written_bytes w) < 2 ^ 47
-written-few setup w is g =
-    let each : (n : ℕ) → written_bytes w n ≤ 65519 * fragment_count w n =
-    λ n. pieces-many (length (message_at w n).bytes) w.setup.size (message_at w n).bytes is.some is.size (omega arith) in
-    let all = total-times (written_bytes w) (fragment_count w) (numbers_from 0 (length w.messages)) each in
-    let few : fragments_accepted w < 2 ^ 31 = g.accepted in
-    omega (arith, all, few)
+written-few setup w is g = grind (arith, nat_tests, pieces-many, total-times)
 
 pub ones : (from count : ℕ) → total_over (λ n. 1) (numbers_where always from count) ≡ count
 ones from zero = refl

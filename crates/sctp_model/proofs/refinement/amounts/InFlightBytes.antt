@@ -1,35 +1,18 @@
 -- The bytes that the queue in flight holds are those that the record says.
-use Rattle.std.proofs.Common.{◌≡◌, ℕ, zero, suc, ◌+◌, ◌-◌, ◌<◌, ◌≤◌, Bool, true, false, List, [], ◌∷◌, length, Option, Some, None, refl, ap, sym, ◌∙◌, inl, inr}
-use Rattle.std.proofs.Common.{arith}
-use Rattle.std.specs.Prelude.{◌⊎◌, if◌then◌else◌, ◌==◌, ◌||◌, not, nat_lt, max, slice_get}
-use Rattle.std.proofs.lemmas.Bool.{cases_lt}
-use Rattle.std.proofs.lemmas.Bool.Decides.{nat_tests}
-use Rattle.std.proofs.lemmas.List.Sums.{sum_by-cons}
-use Rattle.sctp_util.specs.Kept.{numbers_where, always, total_over}
-use Rattle.sctp_util.proofs.Cases.{or-left, or-right}
-use Rattle.sctp_util.proofs.More.{fails, not_both}
-use Rattle.sctp_util.proofs.Totals.{total-none, total-append, total-where, total-kept_same, numbers-append}
-use Rattle.sctp_data.specs.declared.chunk.chunk_payload_data.ChunkPayloadData.{ChunkPayloadData}
-use Rattle.sctp_serial.specs.DataChunks.{bytes_of}
-use Rattle.sctp_outbound.specs.outbound_queue.OutboundQueue.{Outbound}
+use Rattle.sctp_model.proofs.Names.{◌≡◌, ℕ, zero, suc, ◌+◌, ◌-◌, ◌<◌, ◌≤◌, Bool, true, false, List, [], ◌∷◌, length, refl, ap, sym, ◌∙◌, arith, if◌then◌else◌}
+use Rattle.sctp_model.proofs.Names.{◌==◌, ◌||◌, not, max, nat_tests, sum_by-cons, numbers_where, always, total_over, fails, total-none, total-append}
+use Rattle.sctp_model.proofs.Names.{total-where, total-kept_same, numbers-append, ChunkPayloadData, bytes_of, Outbound, Report, Setup, LinkRecord, message_at}
+use Rattle.sctp_model.proofs.Names.{slot_at, message_of, in_all, written_bytes, in_flight_bytes, Ledger, ledger, is_acknowledged_in, taken_in, chunk_at}
+use Rattle.sctp_model.proofs.Names.{History, record_of, IsRun, IsSetup, stream_of_slot, bytes_at, bytes_but_for, acknowledged_at, acknowledged_then, sending_by}
+use Rattle.sctp_model.proofs.Names.{IsInFlight, sending_of, RefinesOutbound}
 use Rattle.sctp_outbound.specs.pending_queue.PendingQueue.{total_bytes}
 use Rattle.sctp_model.specs.declared.event.Event.TheVariants as E
-use Rattle.sctp_model.specs.LinkRecord.{Report, Setup, Datagram, Data, Forward, Sack, LinkRecord}
-use Rattle.sctp_model.specs.Messages.{message_at, slot_at, message_of}
-use Rattle.sctp_model.specs.Amounts.{in_all, written_bytes, pending_bytes, in_flight_bytes, released_bytes, Ledger, ledger}
-use Rattle.sctp_model.specs.Log.{is_acknowledged_in, taken_in, cumulative_in, reported_by}
-use Rattle.sctp_model.specs.Reports.{reports}
-use Rattle.sctp_model.specs.Contents.{chunk_at}
-use Rattle.sctp_model.specs.Steps.{History, record_of, IsRun}
-use Rattle.sctp_model.specs.Laws.{IsSetup}
 use Rattle.sctp_model.proofs.sender.Shape.{shape}
 use Rattle.sctp_model.proofs.sender.Sender.{Sender}
 use Rattle.sctp_model.proofs.sender.SenderRun.{consistent-run}
 use Rattle.sctp_model.proofs.sender.Fronts.{mark-abandoned, slot-sent}
 use Rattle.sctp_model.proofs.acknowledgement.Acknowledged.{acknowledged_is_reported}
 use Rattle.sctp_model.proofs.acknowledgement.Bytes.{balances}
-use Rattle.sctp_model.specs.refinement.Amount.{stream_of_slot, bytes_at, bytes_but_for, acknowledged_at, acknowledged_then}
-use Rattle.sctp_model.specs.refinement.Refines.{sending_by, IsInFlight, sending_of, RefinesOutbound}
 use Rattle.sctp_model.proofs.refinement.acknowledging.Acked.{in-flight-first}
 use Rattle.sctp_model.proofs.refinement.sending.KindsRun.{taken-run}
 use Rattle.sctp_model.proofs.refinement.amounts.PendingBytes.{pending-bytes}
@@ -48,11 +31,7 @@ payload-bytes w false p s lt =
     (mark-abandoned (shape w) p s lt)
   where
     by : (m x a : Bool) (bytes : List ℕ) → x ≡ false → (m ≡ true → a ≡ true) → length (if a then [] else bytes) ≡ (if m || (x || a) then 0 else length bytes)
-    by m true a bytes e terminals = cc
-    by true false true bytes e terminals = refl
-    by true false false bytes e terminals = absurd (not_both (terminals refl))
-    by false false true bytes e terminals = refl
-    by false false false bytes e terminals = refl
+    by m b a bytes e terminals = grind (arith, nat_tests)
 
 pub chunk-bytes : (w : LinkRecord) (acked : Bool) (p : ℕ) (c : ChunkPayloadData) → Sender (shape w) → p < length w.slots → sending_of c ≡ sending_by w acked p
     → length c.user_data ≡ (if acked then 0 else bytes_at w p)
@@ -61,9 +40,7 @@ chunk-bytes w acked p c s lt e = ap (λ x. length x.chunk.payload) e ∙ payload
 -- what a chunk in flight has of stream t, by the chunk and by the record
 pub chunk-on : (w : LinkRecord) (acked : Bool) (p t : ℕ) (c : ChunkPayloadData) → Sender (shape w) → p < length w.slots → sending_of c ≡ sending_by w acked p
     → (if c.stream_identifier == t then length c.user_data else 0) ≡ (if stream_of_slot w p == t then (if acked then 0 else bytes_at w p) else 0)
-chunk-on w acked p t c s lt e =
-    ap (λ x. if x.stream == t then length c.user_data else 0) e
-    ∙ ap (λ k. if stream_of_slot w p == t then k else 0) (chunk-bytes w acked p c s lt e)
+chunk-on w acked p t c s lt e = grind (arith, nat_tests, chunk-bytes)
 
 -- ## The queue
 
@@ -102,29 +79,13 @@ bytes-unacked w acked cs from s le before e =
 
 acknowledged-below : (setup : Setup) (h : History) (p : ℕ) → p < taken_in setup h → is_acknowledged_in setup h p ≡ true
 acknowledged-below setup [] p lt = absurd (omega arith)
-acknowledged-below setup ((E.Acked k, r) ∷ older) p lt = by (slice_get (record_of setup older).network k) (λ l. acknowledged-below setup older p l) lt
-  where
-    reported : (o : Option Datagram) → p < cumulative_in o → reported_by o p ≡ true
-    reported None l = absurd (omega arith)
-    reported (Some (Data ps)) l = absurd (omega arith)
-    reported (Some (Forward upto names)) l = absurd (omega arith)
-    reported (Some (Sack r)) l = let z : nat_lt p r.cumulative ≡ true = grind (arith, nat_tests) in or-left (nat_lt p r.cumulative) _ z
-
-    by : (o : Option Datagram) → (p < taken_in setup older → is_acknowledged_in setup older p ≡ true) → p < max (taken_in setup older) (cumulative_in o)
-        → (is_acknowledged_in setup older p || reported_by o p) ≡ true
-    by o ih l = split (cases_lt p (taken_in setup older))
-      where
-        split : (p < taken_in setup older) ⊎ (taken_in setup older ≤ p) → (is_acknowledged_in setup older p || reported_by o p) ≡ true
-        split (inl x) = or-left (is_acknowledged_in setup older p) (reported_by o p) (ih x)
-        split (inr x) = or-right (is_acknowledged_in setup older p) (reported_by o p) (reported o (omega (arith, l)))
+acknowledged-below setup ((E.Acked k, r) ∷ older) p lt = grind (arith, nat_tests, acknowledged-below setup older p)
 acknowledged-below setup ((event, r) ∷ older) p lt = acknowledged-below setup older p lt
 
 -- what is acknowledged cumulatively is acknowledged
 pub taken-acknowledged : (setup : Setup) (h : History) → IsSetup setup → IsRun setup h → (p : ℕ) → p < (record_of setup h).taken
     → acknowledged_at (record_of setup h) p ≡ true
-taken-acknowledged setup h is run p lt =
-    let a = acknowledged_is_reported setup h is run in
-    a.0 p (omega (arith, lt, taken-run setup h is run)) ∙ acknowledged-below setup h p (omega (arith, lt, a.1))
+taken-acknowledged setup h is run p lt = grind (arith, nat_tests, acknowledged_is_reported, taken-run, acknowledged-below)
 
 pub in-flight-bytes : (setup : Setup) (h : History) → IsSetup setup → IsRun setup h → (q : Outbound) → RefinesOutbound (record_of setup h) q
     → bytes_of q.inflight.chunks ≡ in_all (record_of setup h) (in_flight_bytes (record_of setup h))
@@ -141,27 +102,11 @@ ledger_by written pending in_flight = record { written = written; pending = pend
 pub ledger-is : (setup : Setup) (h : History) → IsSetup setup → IsRun setup h → (q : Outbound) → RefinesOutbound (record_of setup h) q
     → ledger (record_of setup h) ≡ ledger_by (in_all (record_of setup h) (written_bytes (record_of setup h))) (total_bytes q.pending)
     (bytes_of q.inflight.chunks)
-ledger-is setup h is run q t =
-    let w = record_of setup h in
-    let f = in-flight-bytes setup h is run q t in
-    let p = pending-bytes w q.pending t.pending in
-    let b = (balances setup h is run).0 in
-    let r : in_all w (released_bytes w) ≡ in_all w (written_bytes w) - in_all w (pending_bytes w) - in_all w (in_flight_bytes w) = omega (arith, b) in
-    ap (λ k. four (in_all w (written_bytes w)) (in_all w (pending_bytes w)) (in_all w (in_flight_bytes w)) k) r
-    ∙ ap (λ k. ledger_by (in_all w (written_bytes w)) k (in_all w (in_flight_bytes w))) (sym p)
-    ∙ ap (λ k. ledger_by (in_all w (written_bytes w)) (total_bytes q.pending) k) (sym f)
-  where
-    four : ℕ → ℕ → ℕ → ℕ → Ledger
-    four a b c d = record { written = a; pending = b; in_flight = c; released = d }
+ledger-is setup h is run q t = grind (arith, nat_tests, in-flight-bytes, pending-bytes, balances)
 
 -- ## A SACK is taken
 
 -- what it acknowledges cumulatively is acknowledged then, with what was before
 pub then-below : (w : LinkRecord) (r : Report) (p : ℕ) → ((k : ℕ) → k < w.taken → acknowledged_at w k ≡ true) → p < max w.taken r.cumulative
     → acknowledged_then w r p ≡ true
-then-below w r p before lt = by (cases_lt p w.taken)
-  where
-    by : (p < w.taken) ⊎ (w.taken ≤ p) → acknowledged_then w r p ≡ true
-    by (inl l) = or-left (acknowledged_at w p) (reports r p) (before p l)
-    by (inr g) = let low : p < r.cumulative = omega (arith, lt, g) in let z : nat_lt p r.cumulative ≡ true = grind (arith, nat_tests) in
-        or-right (acknowledged_at w p) (reports r p) (or-left (nat_lt p r.cumulative) _ z)
+then-below w r p before lt = grind (arith, nat_tests)

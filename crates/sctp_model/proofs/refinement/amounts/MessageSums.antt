@@ -1,11 +1,7 @@
 -- Sums over the messages as more are written, and as they stay.
-use Rattle.std.proofs.Common.{◌≡◌, ℕ, suc, ◌+◌, ◌<◌, Bool, true, false, [], ◌∷◌, length, refl, ap, ◌∙◌, arith, add-one, length-append}
-use Rattle.std.specs.Prelude.{if◌then◌else◌, ◌==◌}
-use Rattle.sctp_util.specs.Kept.{numbers_where, total_over}
-use Rattle.sctp_util.proofs.Passing.{kept-same, kept-snoc}
-use Rattle.sctp_util.proofs.Totals.{total-append, total-kept_same}
-use Rattle.sctp_model.specs.LinkRecord.{Message, LinkRecord}
-use Rattle.sctp_model.specs.Messages.{message_at, messages_where}
+use Rattle.sctp_model.proofs.Names.{◌≡◌, ℕ, suc, ◌+◌, ◌<◌, Bool, true, false, [], ◌∷◌, length, refl, ap, ◌∙◌, arith, add-one, length-append, if◌then◌else◌}
+use Rattle.sctp_model.proofs.Names.{◌==◌, numbers_where, total_over, kept-same, kept-snoc, total-append, total-kept_same, Message, LinkRecord, message_at}
+use Rattle.sctp_model.proofs.Names.{messages_where, nat_tests}
 use Rattle.sctp_model.proofs.refinement.sending.InLine.{with_message, message-before, message-last}
 
 -- what f gives for the messages that pass
@@ -38,8 +34,4 @@ sum-written w m q f =
 
 pub sum-same : (w v : LinkRecord) (q : Message → Bool) (f : Message → ℕ) → length v.messages ≡ length w.messages → ((n : ℕ) → n < length w.messages
     → q (message_at v n) ≡ q (message_at w n)) → ((n : ℕ) → n < length w.messages → f (message_at v n) ≡ f (message_at w n)) → sum_where v q f ≡ sum_where w q f
-sum-same w v q f count qs fs =
-    ap (λ c. total_over (λ n. f (message_at v n)) (numbers_where (λ n. q (message_at v n)) 0 c)) count
-    ∙ total-kept_same (λ n. f (message_at v n)) (λ n. f (message_at w n)) (λ n. q (message_at v n)) 0 (length w.messages) (λ k a b. fs k (omega arith))
-    ∙ ap (total_over (λ n. f (message_at w n)))
-    (kept-same (λ n. q (message_at v n)) (λ n. q (message_at w n)) 0 (length w.messages) (λ k a b. qs k (omega arith)))
+sum-same w v q f count qs fs = grind (arith, nat_tests, total-kept_same, kept-same)

@@ -1,39 +1,23 @@
 -- No fragment makes its message larger than the link takes: what the queue counts with it are fragments of its message.
-use Rattle.std.proofs.Common.{◌≡◌, ℕ, zero, suc, ◌+◌, ◌-◌, ◌<◌, ◌≤◌, ◌%◌, ◌^◌, Bool, true, false, List, [], ◌∷◌, ◌++◌, length, map, refl, ap, sym, ◌∙◌, inl}
-use Rattle.std.proofs.Common.{inr, arith}
-use Rattle.std.specs.Prelude.{◌⊎◌, if◌then◌else◌, ◌==◌, ◌&&◌, not, nat_lt, reverse}
-use Rattle.std.specs.List.{list_any}
-use Rattle.std.proofs.Math.Path.{subst}
-use Rattle.std.proofs.lemmas.Bool.{cases_lt}
-use Rattle.std.proofs.lemmas.Bool.Decides.{nat_tests}
+use Rattle.sctp_model.proofs.Names.{◌≡◌, ℕ, zero, suc, ◌+◌, ◌-◌, ◌<◌, ◌≤◌, ◌%◌, ◌^◌, Bool, true, false, List, [], ◌∷◌, ◌++◌, length, map, refl, ap, sym, ◌∙◌}
+use Rattle.sctp_model.proofs.Names.{arith, if◌then◌else◌, ◌==◌, ◌&&◌, not, nat_lt, subst, nat_tests, sum_by-cons, numbers_where, always, total_over}
+use Rattle.sctp_model.proofs.Names.{after_leading, kept-snoc_in, not_both, both, and, same-yes, same-is, negated, and-none, total-append, total-at, total-where}
+use Rattle.sctp_model.proofs.Names.{total-split, total-kept_same, numbers-append, same16-index, ChunkPayloadData, ChunkSet, has_ssn, bytes_of, following_tsn}
+use Rattle.sctp_model.proofs.Names.{is_too_large, Setup, LinkRecord, message_at, slot_at, message_of, is_ordered_on, index_of, ssn_of, tsn_of, fragment_at}
+use Rattle.sctp_model.proofs.Names.{fragment_count, has_fragment, sent_of, arrived_at, is_new, is_held, chunk_at, set_of, is_unassembled, has_come, IsSpan}
+use Rattle.sctp_model.proofs.Names.{Valid, ValidUnassembled}
+use Rattle.std.specs.Prelude.{reverse}
 use Rattle.std.proofs.lemmas.List.{reverse-append}
-use Rattle.std.proofs.lemmas.List.Sums.{sum_by-cons}
-use Rattle.sctp_util.specs.Kept.{numbers_where, always, total_over}
-use Rattle.sctp_util.specs.Lists.{after_leading}
-use Rattle.sctp_util.proofs.Passing.{kept-snoc_in}
-use Rattle.sctp_util.proofs.More.{not_both, both, and}
-use Rattle.sctp_util.proofs.Cases.{same-yes, same-is, negated, and-none}
-use Rattle.sctp_util.proofs.Totals.{total-append, total-at, total-where, total-split, total-kept_same, numbers-append}
-use Rattle.sctp_util.proofs.Wraps.{same16-index}
-use Rattle.sctp_data.specs.declared.chunk.chunk_payload_data.ChunkPayloadData.{ChunkPayloadData}
-use Rattle.sctp_data.specs.ChunkSet.{ChunkSet}
-use Rattle.sctp_reassembly.specs.reassembly_queue.Fragments.{has_ssn, chunks_of_ssn}
-use Rattle.sctp_serial.specs.DataChunks.{bytes_of, has_tsn, following_tsn, preceding_tsn}
+use Rattle.sctp_reassembly.specs.reassembly_queue.Fragments.{chunks_of_ssn}
+use Rattle.sctp_serial.specs.DataChunks.{preceding_tsn}
 use Rattle.sctp_reassembly.specs.reassembly_queue.Sizes.{bytes_down, bytes_up, back_from, on_from, size_before, size_after, projected_size}
-use Rattle.sctp_reassembly.specs.reassembly_queue.ReassemblyQueue.{ReassemblyState, is_too_large}
-use Rattle.sctp_model.specs.LinkRecord.{Setup, LinkRecord}
-use Rattle.sctp_model.specs.Messages.{message_at, slot_at, message_of, is_ordered_on, index_of, ssn_of, tsn_of, fragment_at, fragment_count, has_fragment}
-use Rattle.sctp_model.specs.Messages.{sent_of}
-use Rattle.sctp_model.specs.Receiver.{arrived_at, is_new, is_held}
-use Rattle.sctp_model.specs.Contents.{chunk_at}
-use Rattle.sctp_model.specs.Queues.{set_of, is_unassembled}
+use Rattle.sctp_reassembly.specs.reassembly_queue.ReassemblyQueue.{ReassemblyState}
 use Rattle.sctp_model.specs.Amounts
 use Rattle.sctp_model.proofs.sender.Shape.{shape}
 use Rattle.sctp_model.proofs.sender.Sender.{Sender}
 use Rattle.sctp_model.proofs.sender.SenderRun.{Consistent}
 use Rattle.sctp_model.proofs.acknowledgement.Bytes.{slots-bytes, fragments-bytes}
-use Rattle.sctp_model.specs.refinement.Holds.{has_come, reassembly_of}
-use Rattle.sctp_model.specs.Valid.{IsSpan, Valid, ValidUnassembled}
+use Rattle.sctp_model.specs.refinement.Holds.{reassembly_of}
 use Rattle.sctp_model.proofs.refinement.arriving.Arrival
 use Rattle.sctp_model.proofs.refinement.reading.Line
 use Rattle.sctp_model.proofs.refinement.arriving.Unassembled
@@ -65,15 +49,7 @@ upto-more f a b le =
 chunks-found : (P : List ChunkPayloadData → Type 0) (ssn : ℕ) (f : ℕ → ChunkSet) (q : ℕ → Bool) (from count : ℕ) → P [] → ((k : ℕ) → from ≤ k → k < from + count
     → q k ≡ true → has_ssn ssn (f k) ≡ true → P (f k).chunks) → P (chunks_of_ssn ssn (map f (numbers_where q from count)))
 chunks-found P ssn f q from zero none some = none
-chunks-found P ssn f q from (suc count) none some =
-    step (q from) refl (has_ssn ssn (f from)) refl (chunks-found P ssn f q (from + 1) count none (λ k a b c d. some k (omega arith) (omega arith) c d))
-  where
-    step : (b : Bool) → q from ≡ b → (c : Bool) → has_ssn ssn (f from) ≡ c → P (chunks_of_ssn ssn (map f (numbers_where q (from + 1) count)))
-        → P (chunks_of_ssn ssn (map f (if b then from ∷ numbers_where q (from + 1) count else numbers_where q (from + 1) count)))
-    step true e true h ih = subst (λ b. P (if b then (f from).chunks else chunks_of_ssn ssn (map f (numbers_where q (from + 1) count)))) (sym h)
-        (some from (omega arith) (omega arith) e h)
-    step true e false h ih = subst (λ b. P (if b then (f from).chunks else chunks_of_ssn ssn (map f (numbers_where q (from + 1) count)))) (sym h) ih
-    step false e c h ih = ih
+chunks-found P ssn f q from (suc count) none some = grind (arith, nat_tests, chunks-found P ssn f q (from + 1) count none)
 
 bytes-mapped : (w : LinkRecord) (ks : List ℕ) → bytes_of (map (chunk_at w) ks) ≡ total_over (λ k. length (chunk_at w k).user_data) ks
 bytes-mapped w [] = refl
@@ -102,30 +78,16 @@ slots-reverse w (x ∷ xs) a = subst (AllSlots w) (sym (reverse-append (x ∷ []
 
 slots-after : (w : LinkRecord) (t : ChunkPayloadData → Bool) (xs : List ChunkPayloadData) → AllSlots w xs → AllSlots w (after_leading t xs)
 slots-after w t [] a = tt
-slots-after w t (x ∷ xs) a = step (t x) (slots-after w t xs a.1)
-  where
-    step : (b : Bool) → AllSlots w (after_leading t xs) → AllSlots w (if b then after_leading t xs else x ∷ xs)
-    step true ih = ih
-    step false ih = a
+slots-after w t (x ∷ xs) a = grind (arith, nat_tests, slots-after w t xs)
 
 slots-on : (w : LinkRecord) (tsn : ℕ) (xs : List ChunkPayloadData) → AllSlots w xs → AllSlots w (on_from tsn xs)
 slots-on w tsn [] a = tt
-slots-on w tsn (x ∷ xs) a = step (list_any (has_tsn tsn) xs) (has_tsn tsn x) (slots-on w tsn xs a.1)
-  where
-    step : (b c : Bool) → AllSlots w (on_from tsn xs) → AllSlots w (if b then on_from tsn xs else (if c then x ∷ xs else []))
-    step true c ih = ih
-    step false true ih = a
-    step false false ih = tt
+slots-on w tsn (x ∷ xs) a = grind (arith, nat_tests, slots-on w tsn xs)
 
 slots-kept : (w : LinkRecord) (q : ℕ → Bool) (from count : ℕ) → ((k : ℕ) → from ≤ k → k < from + count → q k ≡ true
     → (k < length w.slots) × ((slot_at w k).is_terminal_chunk ≡ false)) → AllSlots w (map (chunk_at w) (numbers_where q from count))
 slots-kept w q from zero h = tt
-slots-kept w q from (suc count) h = step (q from) refl (slots-kept w q (from + 1) count (λ k a b e. h k (omega arith) (omega arith) e))
-  where
-    step : (b : Bool) → q from ≡ b → AllSlots w (map (chunk_at w) (numbers_where q (from + 1) count))
-        → AllSlots w (map (chunk_at w) (if b then from ∷ numbers_where q (from + 1) count else numbers_where q (from + 1) count))
-    step true e ih = let x = h from (omega arith) (omega arith) e in (record { place = from; made = x.0; is = refl; fragment = x.1 }, ih)
-    step false e ih = ih
+slots-kept w q from (suc count) h = grind (arith, nat_tests, slots-kept w q (from + 1) count)
 
 -- ## One message
 
@@ -208,9 +170,7 @@ module _ (w : LinkRecord) (valid : Valid w) (n : ℕ) where
             by : (b : Bool) → (suc j + 1 == fragment_count w n) ≡ b
                 → (suc j + 1 < fragment_count w n → bytes_up (tsn_of w a.0.place) ys + upto size (suc (suc j)) ≤ upto size (fragment_count w n))
                 → size (suc j) + (if b then 0 else bytes_up (tsn_of w a.0.place) ys) + upto size (suc j) ≤ upto size (fragment_count w n)
-            by true s ih = let z = same-is (suc j + 1) (fragment_count w n) s in let c : fragment_count w n ≡ suc (suc j) = omega (arith, z) in
-                rw c (omega (arith, upto-next size (suc j)))
-            by false s ih = let lt' : suc j + 1 < fragment_count w n = grind (arith, nat_tests) in omega (arith, upto-next size (suc j), ih lt')
+            by b s ih = grind (arith, nat_tests, upto-next, size)
 
     -- with the unassembled neighbours of a fragment: its message at most
     around : (p : ℕ) (unassembled : List ChunkPayloadData) → p < length w.slots → has_fragment w n p ≡ true → AllSlots w unassembled
@@ -222,10 +182,7 @@ module _ (w : LinkRecord) (valid : Valid w) (n : ℕ) where
         low : (j : ℕ) → (slot_at w p).fragment ≡ j
             → (if j == 0 then 0 else bytes_down (tsn_of w p) (back_from (preceding_tsn (tsn_of w p)) unassembled)) ≤ upto size j
         low zero e = omega arith
-        low (suc i) e =
-            let z : (suc i == 0) ≡ false = grind (arith, nat_tests) in
-            rw z (down (back_from (preceding_tsn (tsn_of w p)) unassembled) p i (slots-after w (λ y. not (has_tsn (preceding_tsn (tsn_of w p)) y))
-            (reverse unassembled) (slots-reverse w unassembled a)) lt h (omega (arith, e)))
+        low (suc i) e = grind (arith, nat_tests, down, slots-after, slots-reverse)
 
         high : (b : Bool) → ((slot_at w p).fragment + 1 == fragment_count w (message_of w p)) ≡ b
             → (if b then 0 else bytes_up (tsn_of w p) (on_from (following_tsn (tsn_of w p)) unassembled)) + upto size (suc (slot_at w p).fragment)
@@ -242,11 +199,7 @@ module _ (w : LinkRecord) (valid : Valid w) (n : ℕ) where
             (slots-on w (following_tsn (tsn_of w p)) unassembled a) lt h refl short
           where
             strict : (a b : ℕ) → a ≤ b → (a ≡ b → ⊥) → a < b
-            strict a b le ne = by (cases_lt a b)
-              where
-                by : (a < b) ⊎ (b ≤ a) → a < b
-                by (inl l) = l
-                by (inr g) = absurd (ne (omega arith))
+            strict a b le ne = grind (arith, nat_tests)
 
   -- what has come of it, and a fragment that has not
   come-with : (p : ℕ) → Sender (shape w) → p < length w.slots → has_fragment w n p ≡ true → arrived_at w p ≡ false

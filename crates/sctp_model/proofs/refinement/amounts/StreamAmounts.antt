@@ -1,26 +1,14 @@
 -- What a stream still has to send or to see acknowledged, after each event.
-use Rattle.std.proofs.Common.{◌≡◌, ℕ, ◌+◌, ◌-◌, ◌<◌, ◌^◌, Bool, true, false, List, [], ◌∷◌, length, get_or, Option, Some, None, refl, ap, sym, ◌∙◌, arith}
-use Rattle.std.proofs.Math.Path.{fun_ext}
-use Rattle.std.specs.Prelude.{if◌then◌else◌, ◌==◌, ◌&&◌, ◌||◌, not, nat_le, nat_lt, find, is_some, unwrap_or, slice_get, slice_index_or}
-use Rattle.sctp_util.specs.Kept.{numbers_where, total_over}
-use Rattle.sctp_util.specs.Lists.{pieces}
-use Rattle.sctp_util.proofs.Cases.{by_same, same-yes, same-is}
-use Rattle.sctp_util.proofs.Passing.{kept-same, kept-none}
-use Rattle.sctp_util.proofs.More.{fails, not_both, kept-short}
-use Rattle.sctp_util.proofs.Totals.{total-plus, total-kept_same}
-use Rattle.sctp_data.specs.declared.chunk.chunk_payload_data.PayloadProtocolIdentifier.{PayloadProtocolIdentifier}
-use Rattle.sctp_model.specs.declared.event.Event.{Event}
+use Rattle.sctp_model.proofs.Names.{◌≡◌, ℕ, ◌+◌, ◌-◌, ◌<◌, ◌^◌, Bool, true, false, List, [], ◌∷◌, length, get_or, Option, Some, None, refl, ap, sym, ◌∙◌, arith}
+use Rattle.sctp_model.proofs.Names.{fun_ext, if◌then◌else◌, ◌==◌, ◌&&◌, ◌||◌, not, nat_le, nat_lt, slice_get, slice_index_or, numbers_where, total_over, pieces}
+use Rattle.sctp_model.proofs.Names.{by_same, same-yes, same-is, kept-same, kept-none, fails, not_both, kept-short, total-plus, total-kept_same}
+use Rattle.sctp_model.proofs.Names.{PayloadProtocolIdentifier, Event, StreamUnknown, MessageTooLarge, TsnsUsedUp, Setup, Message, LinkRecord, message_at}
+use Rattle.sctp_model.proofs.Names.{message_of, messages_where, slots_where, is_open, stream_of, no_message, front, next_read, is_expired_or_abandoned}
+use Rattle.sctp_model.proofs.Names.{written_bytes, unsent_bytes, pending_bytes, in_flight_bytes, message_on, after_write, refusal_of, after, unless}
+use Rattle.sctp_model.proofs.Names.{fragments_accepted, fragments_in, IsSetup, amount, keeps_amounts, stream_of_slot, bytes_at, acknowledged_at, nat_tests}
 use Rattle.sctp_model.specs.declared.event.Event.TheVariants as E
-use Rattle.sctp_model.specs.declared.event.LinkRefusal.TheVariants.{StreamUnknown, MessageTooLarge, TsnsUsedUp}
-use Rattle.sctp_model.specs.LinkRecord.{Setup, StreamRecord, Message, LinkRecord}
-use Rattle.sctp_model.specs.Messages.{message_at, slot_at, message_of, messages_where, slots_where, is_open, stream_of, no_stream, no_message, front}
-use Rattle.sctp_model.specs.Receiver.{next_read}
-use Rattle.sctp_model.specs.Amounts.{is_expired_or_abandoned, written_bytes, unsent_bytes, unacknowledged_bytes, acknowledged_bytes, pending_bytes}
-use Rattle.sctp_model.specs.Amounts.{in_flight_bytes}
+use Rattle.sctp_model.specs.Amounts.{unacknowledged_bytes, acknowledged_bytes}
 use Rattle.sctp_model.specs.Changes
-use Rattle.sctp_model.specs.Changes.{message_on, after_write}
-use Rattle.sctp_model.specs.Steps.{refusal_of, after, unless, fragments_accepted, fragments_in}
-use Rattle.sctp_model.specs.Laws.{IsSetup}
 use Rattle.sctp_model.proofs.sender.Shape.{Shape, shape, has}
 use Rattle.sctp_model.proofs.sender.Sender.{Sender}
 use Rattle.sctp_model.proofs.sender.SenderRun.{Consistent, consistent-after, unless-holds, found}
@@ -32,7 +20,6 @@ use Rattle.sctp_model.proofs.acknowledgement.Acknowledged.{as-datagram, as-read}
 use Rattle.sctp_model.proofs.acknowledgement.Bytes.{balance, size-some}
 use Rattle.sctp_model.proofs.acknowledgement.BytesAnswered.{messages-sent}
 use Rattle.sctp_model.proofs.sender.Lifetimes.{count-sent}
-use Rattle.sctp_model.specs.refinement.Amount.{amount, keeps_amounts, stream_of_slot, bytes_at, acknowledged_at}
 use Rattle.sctp_model.proofs.refinement.amounts.MessageSums.{is_on, sum_where, sum-written, sum-same}
 use Rattle.sctp_model.proofs.refinement.acknowledging.Unacked.{bytes_where, bytes-by_slot, pending_on_by}
 use Rattle.sctp_model.proofs.refinement.sending.InLine.{message-before}
@@ -65,23 +52,12 @@ amount-rest w t s pos =
 
 -- ## The sender's events
 
--- what a slot holds, by its parts
-abbrev held_by : ℕ → Bool → Bool → List ℕ → ℕ → ℕ
-held_by size terminal gone bytes fragment = if terminal || gone then 0 else length (get_or (pieces (length bytes) size bytes) fragment [])
-
 abbrev SameGone : LinkRecord → LinkRecord → Type 0
 SameGone w v = (n : ℕ) → n < length w.messages → is_expired_or_abandoned v n ≡ is_expired_or_abandoned w n
 
 module _ (w v : LinkRecord) (s : Sender (shape w)) (q : Quiet w v) (gone : SameGone w v) where
   bytes_at-quiet : (p : ℕ) → p < length w.slots → bytes_at v p ≡ bytes_at w p
-  bytes_at-quiet p lt =
-      let n = message_of w p in
-      let made = s.made p lt in
-      let bytes : (message_at v n).bytes ≡ (message_at w n).bytes = ap (λ m. m.bytes) (q.grows.message n made) in
-      ap (λ y. held_by v.setup.size y.is_terminal_chunk (is_expired_or_abandoned v y.message) (message_at v y.message).bytes y.fragment) (q.grows.slot p lt)
-      ∙ ap (λ b. held_by v.setup.size (slot_at w p).is_terminal_chunk b (message_at v n).bytes (slot_at w p).fragment) (gone n made)
-      ∙ ap (λ l. held_by v.setup.size (slot_at w p).is_terminal_chunk (is_expired_or_abandoned w n) l (slot_at w p).fragment) bytes
-      ∙ ap (λ k. held_by k (slot_at w p).is_terminal_chunk (is_expired_or_abandoned w n) (message_at w n).bytes (slot_at w p).fragment) q.grows.size
+  bytes_at-quiet p lt = grind (arith, nat_tests)
 
   stream-quiet : (p : ℕ) → p < length w.slots → stream_of_slot v p ≡ stream_of_slot w p
   stream-quiet p lt = ap (λ y. (message_at v y.message).stream) (q.grows.slot p lt) ∙ ap (λ m. m.stream) (q.grows.message (message_of w p) (s.made p lt))
@@ -97,21 +73,12 @@ module _ (w v : LinkRecord) (s : Sender (shape w)) (q : Quiet w v) (gone : SameG
       ap (λ d. d && (stream_of_slot v k == t)) (q.acknowledged k (omega arith)) ∙ ap (λ r. acknowledged_at w k && (r == t)) (stream-quiet k (omega arith))))
 
   alive-quiet : (t : ℕ) → length v.messages ≡ length w.messages → sum_where v (is_on t) alive_bytes ≡ sum_where w (is_on t) alive_bytes
-  alive-quiet t count =
-      sum-same w v (is_on t) alive_bytes count
-      (λ n lt. ap (λ m. m.stream == t) (q.grows.message n lt))
-      (λ n lt. ap (λ b. if b then 0 else length (message_at v n).bytes) (gone n lt)
-      ∙ ap (λ m. if is_expired_or_abandoned w n then 0 else length m.bytes) (q.grows.message n lt))
+  alive-quiet t count = grind (arith, nat_tests, sum-same, is_on)
 
 -- where the sender gives nothing up and writes nothing, each stream has as much to send or to see acknowledged as before
 pub amount-quiet : (setup : Setup) (w v : LinkRecord) (t : ℕ) → IsSetup setup → Consistent setup w → Consistent setup v → Quiet w v → SameGone w v
     → length v.messages ≡ length w.messages → amount v t ≡ amount w t
-amount-quiet setup w v t is g h q gone count =
-    let a = amount-rest w t g.sender (size-some setup w is g) in
-    let b = amount-rest v t h.sender (size-some setup v is h) in
-    let c = acked-quiet w v g.sender q gone t in
-    let d = alive-quiet w v g.sender q gone t count in
-    omega (arith, a, b, c, d)
+amount-quiet setup w v t is g h q gone count = grind (arith, nat_tests, amount-rest, size-some, acked-quiet, alive-quiet)
 
 -- ## Writes
 
@@ -121,11 +88,7 @@ gone-wrote w s ppi (b ∷ bs) n lt = ap (λ m. m.expired || m.abandoned) (messag
 
 -- an open stream's record has its number
 pub stream-open : (w : LinkRecord) (s : ℕ) → is_open w s ≡ true → (stream_of w s).stream ≡ s
-stream-open w s e = by (find (λ r. r.stream == s) w.streams) refl e
-  where
-    by : (o : Option StreamRecord) → find (λ r. r.stream == s) w.streams ≡ o → is_some o ≡ true → (unwrap_or o (no_stream s)).stream ≡ s
-    by None f h = cc
-    by (Some r) f h = found s w.streams r f
+stream-open w s e = grind (arith, nat_tests, found)
 
 -- the stream of an accepted write is open
 pub write-open : (w : LinkRecord) (s : ℕ) (ppi : PayloadProtocolIdentifier) (bytes : List ℕ) → refusal_of w (E.Write s ppi bytes) ≡ None → is_open w s ≡ true
@@ -138,11 +101,7 @@ same-turned s t = by_same s t (λ e. ap (λ k. k == t) e ∙ same-yes t ∙ sym 
 
 alive-wrote : (w : LinkRecord) (s t : ℕ) (ppi : PayloadProtocolIdentifier) (bytes : List ℕ) → (stream_of w s).stream ≡ s
     → sum_where (after_write w s ppi bytes) (is_on t) alive_bytes ≡ sum_where w (is_on t) alive_bytes + (if t == s then length bytes else 0)
-alive-wrote w s t ppi [] e = none (t == s) (sum_where w (is_on t) alive_bytes)
-  where
-    none : (b : Bool) (k : ℕ) → k ≡ k + (if b then 0 else 0)
-    none true k = omega arith
-    none false k = omega arith
+alive-wrote w s t ppi [] e = grind (arith, nat_tests, is_on)
 alive-wrote w s t ppi (b ∷ bs) e = cc (sum-written w (message_on w (stream_of w s) ppi (b ∷ bs)) (is_on t) alive_bytes, e, same-turned s t)
 
 -- a write adds its bytes to its stream

@@ -1,20 +1,14 @@
 -- The counters of a stream, and the bytes written in all, after each event.
-use Rattle.std.proofs.Common.{◌≡◌, ℕ, ◌+◌, Bool, true, false, List, [], ◌∷◌, length, Some, None, refl, ap, ◌∙◌, arith}
-use Rattle.std.specs.Prelude.{if◌then◌else◌, ◌==◌, ◌&&◌, not}
+use Rattle.sctp_model.proofs.Names.{◌≡◌, ℕ, ◌+◌, Bool, true, false, List, [], ◌∷◌, length, Some, None, refl, ap, ◌∙◌, arith, if◌then◌else◌, ◌==◌, ◌&&◌, not}
+use Rattle.sctp_model.proofs.Names.{PayloadProtocolIdentifier, Dcep, String, Binary, StringEmpty, BinaryEmpty, Unknown, Event, Setup, LinkRecord, message_at}
+use Rattle.sctp_model.proofs.Names.{is_open, stream_of, next_read, Counters, in_all, written_bytes, saturate, message_on, after_write, read_of, after_reading}
+use Rattle.sctp_model.proofs.Names.{History, record_of, IsRun, refusal_of, after, IsSetup, is_write, is_read, counters_on, nat_tests}
+use Rattle.std.proofs.Common.{add-zero}
 use Rattle.sctp_data.specs.PayloadTypes.{counted_as, has_bytes, is_counted}
-use Rattle.sctp_data.specs.declared.chunk.chunk_payload_data.PayloadProtocolIdentifier.{PayloadProtocolIdentifier}
-use Rattle.sctp_data.specs.declared.chunk.chunk_payload_data.PayloadProtocolIdentifier.TheVariants.{Dcep, String, Binary, StringEmpty, BinaryEmpty, Unknown}
-use Rattle.sctp_model.specs.declared.event.Event.{Event}
 use Rattle.sctp_model.specs.declared.event.Event.TheVariants as E
-use Rattle.sctp_model.specs.LinkRecord.{Setup, LinkRecord}
-use Rattle.sctp_model.specs.Messages.{message_at, is_open, stream_of}
-use Rattle.sctp_model.specs.Receiver.{next_read}
-use Rattle.sctp_model.specs.Amounts.{Counters, in_all, on_stream, written_bytes, saturate, message_count, counted_bytes, if_read}
-use Rattle.sctp_model.specs.Changes.{message_on, after_write, read_of, after_reading}
-use Rattle.sctp_model.specs.Steps.{History, record_of, IsRun, refusal_of, after}
-use Rattle.sctp_model.specs.Laws.{IsSetup}
+use Rattle.sctp_model.specs.Amounts.{on_stream, message_count, counted_bytes, if_read}
 use Rattle.sctp_model.proofs.sender.SenderRun.{Consistent}
-use Rattle.sctp_model.specs.refinement.Counts.{is_write, is_read, counters_on, no_counters, count_more, sent_more, received_more}
+use Rattle.sctp_model.specs.refinement.Counts.{no_counters, count_more, sent_more, received_more}
 use Rattle.sctp_model.proofs.refinement.amounts.MessageSums.{sum-written, sum-same}
 use Rattle.sctp_model.proofs.refinement.amounts.StreamAmounts.{stream-open, write-open, none-written}
 use Rattle.sctp_model.proofs.refinement.amounts.AnsweredSums.{AsAnswered, read-after, answered-after, answered-read_of, answered_on, read_on, answered_on-same}
@@ -84,51 +78,21 @@ saturated-more a b = omega arith
 
 sent-added : (s a b c d : ℕ) (ppi : PayloadProtocolIdentifier) (bytes : List ℕ)
     → counters_by s (a + one ppi bytes) (b + size ppi bytes) c d ≡ sent_more (counted_as ppi (length bytes)) (counters_by s a b c d)
-sent-added s a b c d ppi bytes = by ppi
-  where
-    counters : ℕ → ℕ → Counters
-    counters m k =
-        record { stream_identifier = s; generation = 0; messages_sent = m; bytes_sent = k; messages_received = saturate c; bytes_received = saturate d }
-
-    more : (k : ℕ) → counters (saturate (a + 1)) (saturate (b + k)) ≡ counters (count_more (saturate a) 1) (count_more (saturate b) k)
-    more k = ap (λ m. counters m (saturate (b + k))) (saturated-more a 1) ∙ ap (counters (count_more (saturate a) 1)) (saturated-more b k)
-
-    none : counters (saturate (a + 0)) (saturate (b + 0)) ≡ counters (saturate a) (saturate b)
-    none = let x : a + 0 ≡ a = omega arith in let y : b + 0 ≡ b = omega arith in
-        ap (λ m. counters (saturate m) (saturate (b + 0))) x ∙ ap (λ k. counters (saturate a) (saturate k)) y
-
-    by : (p : PayloadProtocolIdentifier)
-        → counters (saturate (a + one p bytes)) (saturate (b + size p bytes)) ≡ sent_more (counted_as p (length bytes)) (counters_by s a b c d)
-    by String = more (length bytes)
-    by Binary = more (length bytes)
-    by StringEmpty = more 0
-    by BinaryEmpty = more 0
-    by Dcep = none
-    by Unknown = none
+sent-added s a b c d String bytes = cc (saturated-more a 1, saturated-more b (length bytes))
+sent-added s a b c d Binary bytes = cc (saturated-more a 1, saturated-more b (length bytes))
+sent-added s a b c d StringEmpty bytes = cc (saturated-more a 1, saturated-more b 0)
+sent-added s a b c d BinaryEmpty bytes = cc (saturated-more a 1, saturated-more b 0)
+sent-added s a b c d Dcep bytes = cc (add-zero a, add-zero b)
+sent-added s a b c d Unknown bytes = cc (add-zero a, add-zero b)
 
 received-added : (s a b c d : ℕ) (ppi : PayloadProtocolIdentifier) (bytes : List ℕ)
     → counters_by s a b (c + one ppi bytes) (d + size ppi bytes) ≡ received_more (counted_as ppi (length bytes)) (counters_by s a b c d)
-received-added s a b c d ppi bytes = by ppi
-  where
-    counters : ℕ → ℕ → Counters
-    counters m k =
-        record { stream_identifier = s; generation = 0; messages_sent = saturate a; bytes_sent = saturate b; messages_received = m; bytes_received = k }
-
-    more : (k : ℕ) → counters (saturate (c + 1)) (saturate (d + k)) ≡ counters (count_more (saturate c) 1) (count_more (saturate d) k)
-    more k = ap (λ m. counters m (saturate (d + k))) (saturated-more c 1) ∙ ap (counters (count_more (saturate c) 1)) (saturated-more d k)
-
-    none : counters (saturate (c + 0)) (saturate (d + 0)) ≡ counters (saturate c) (saturate d)
-    none = let x : c + 0 ≡ c = omega arith in let y : d + 0 ≡ d = omega arith in
-        ap (λ m. counters (saturate m) (saturate (d + 0))) x ∙ ap (λ k. counters (saturate c) (saturate k)) y
-
-    by : (p : PayloadProtocolIdentifier)
-        → counters (saturate (c + one p bytes)) (saturate (d + size p bytes)) ≡ received_more (counted_as p (length bytes)) (counters_by s a b c d)
-    by String = more (length bytes)
-    by Binary = more (length bytes)
-    by StringEmpty = more 0
-    by BinaryEmpty = more 0
-    by Dcep = none
-    by Unknown = none
+received-added s a b c d String bytes = cc (saturated-more c 1, saturated-more d (length bytes))
+received-added s a b c d Binary bytes = cc (saturated-more c 1, saturated-more d (length bytes))
+received-added s a b c d StringEmpty bytes = cc (saturated-more c 1, saturated-more d 0)
+received-added s a b c d BinaryEmpty bytes = cc (saturated-more c 1, saturated-more d 0)
+received-added s a b c d Dcep bytes = cc (add-zero c, add-zero d)
+received-added s a b c d Unknown bytes = cc (add-zero c, add-zero d)
 
 counters-sums : (w v : LinkRecord) (t a b c d : ℕ) → answered_on v t one ≡ a → answered_on v t size ≡ b → read_on v t one ≡ c → read_on v t size ≡ d
     → counters_on v t ≡ counters_by t a b c d
@@ -138,21 +102,7 @@ counters-sums w v t a b c d e f g h = cc (e, f, g, h)
 pub counters-wrote : (w : LinkRecord) (s t : ℕ) (ppi : PayloadProtocolIdentifier) (bytes : List ℕ) → refusal_of w (E.Write s ppi bytes) ≡ None
     → counters_on (after_write w s ppi bytes) t
     ≡ (if (t == s) && not (length bytes == 0) then sent_more (counted_as ppi (length bytes)) (counters_on w t) else counters_on w t)
-counters-wrote w s t ppi bytes ok =
-    let c = (t == s) && not (length bytes == 0) in
-    counters-sums w (after_write w s ppi bytes) t (answered_on w t one + (if c then one ppi bytes else 0))
-    (answered_on w t size + (if c then size ppi bytes else 0))
-    (read_on w t one) (read_on w t size)
-    (sent-wrote w s t ppi bytes ok) (bytes_sent-wrote w s t ppi bytes ok) (read_on-wrote w s t ppi bytes one) (read_on-wrote w s t ppi bytes size)
-    ∙ by c
-  where
-    by : (c : Bool) → counters_by t (answered_on w t one + (if c then one ppi bytes else 0)) (answered_on w t size + (if c then size ppi bytes else 0))
-        (read_on w t one) (read_on w t size) ≡ (if c then sent_more (counted_as ppi (length bytes)) (counters_on w t) else counters_on w t)
-    by true = sent-added t (answered_on w t one) (answered_on w t size) (read_on w t one) (read_on w t size) ppi bytes
-    by false =
-        let x : answered_on w t one + 0 ≡ answered_on w t one = omega arith in
-        let y : answered_on w t size + 0 ≡ answered_on w t size = omega arith in
-        cc
+counters-wrote w s t ppi bytes ok = grind (arith, nat_tests, counters-sums, read_on, sent-wrote, bytes_sent-wrote, read_on-wrote, sent-added)
 
 -- a read is counted on its stream
 pub counters-read : (setup : Setup) (h : History) → IsSetup setup → IsRun setup h → (s t n : ℕ) → next_read (record_of setup h) s ≡ Some n
@@ -171,11 +121,7 @@ counters-read setup h is run s t n e =
     by : (w : LinkRecord) (ppi : PayloadProtocolIdentifier) (bytes : List ℕ) (c : Bool) → counters_by t (answered_on w t one) (answered_on w t size)
         (read_on w t one + (if c then one ppi bytes else 0)) (read_on w t size + (if c then size ppi bytes else 0))
         ≡ (if c then received_more (counted_as ppi (length bytes)) (counters_on w t) else counters_on w t)
-    by w ppi bytes true = received-added t (answered_on w t one) (answered_on w t size) (read_on w t one) (read_on w t size) ppi bytes
-    by w ppi bytes false =
-        let x : read_on w t one + 0 ≡ read_on w t one = omega arith in
-        let y : read_on w t size + 0 ≡ read_on w t size = omega arith in
-        cc
+    by w ppi bytes b = grind (arith, nat_tests, received-added, read_on)
 
 -- where nothing is left to read nothing is counted
 pub counters-nothing : (w : LinkRecord) (s t : ℕ) → next_read w s ≡ None → counters_on (after_reading w s) t ≡ counters_on w t
@@ -184,14 +130,8 @@ counters-nothing w s t e = ap (λ o. counters_on (read_of w s o) t) e
 -- but for writes and reads, each event leaves the counters
 pub counters-same : (setup : Setup) (w : LinkRecord) (e : Event) (t : ℕ) → Consistent setup w → is_write e ≡ false → is_read e ≡ false
     → counters_on (after w e) t ≡ counters_on w t
-counters-same setup w e t g a b =
-    let r = read-after setup w e g a b in
-    counters-sums w (after w e) t (answered_on w t one) (answered_on w t size) (read_on w t one) (read_on w t size)
-    (answered_on-same w (after w e) t one r.answered) (answered_on-same w (after w e) t size r.answered) (read_on-same w (after w e) t one r)
-    (read_on-same w (after w e) t size r)
+counters-same setup w e t g a b = grind (arith, nat_tests, read-after, counters-sums, read_on, answered_on-same, read_on-same)
 
 -- a stream that is not open has counted nothing
 pub counters-none : (setup : Setup) (w : LinkRecord) (t : ℕ) → Consistent setup w → is_open w t ≡ false → counters_on w t ≡ no_counters t
-counters-none setup w t g e =
-    let l = none-written setup w t g e in
-    cc
+counters-none setup w t g e = grind (arith, nat_tests, none-written)

@@ -1,30 +1,45 @@
 -- The slots of a datagram come to a valid record, one after another.
-use Rattle.std.proofs.Common.{◌≡◌, ℕ, ◌<◌, ◌≤◌, List, [], ◌∷◌, ◌++◌, length, map, Some, None, refl, ap, sym, ◌∙◌, arith, append_assoc}
-use Rattle.std.specs.Prelude.{fold, slice_get}
-use Rattle.std.proofs.Math.Path.{subst}
-use Rattle.sctp_reassembly.specs.reassembly_queue.ReassemblyQueue.{is_too_large}
-use Rattle.sctp_model.specs.LinkRecord.{Setup, LinkRecord, Data}
-use Rattle.sctp_model.specs.Messages.{message_at, message_of}
-use Rattle.sctp_model.specs.Changes.{receive_slot}
-use Rattle.sctp_model.specs.Contents.{chunk_at}
-use Rattle.sctp_model.specs.Steps.{History, IsRun, record_of, refusal_of}
-use Rattle.sctp_model.specs.Laws.{IsSetup}
+use Rattle.sctp_model.proofs.Names.{◌≡◌, ℕ, ◌<◌, ◌≤◌, List, [], ◌∷◌, ◌++◌, length, map, Some, None, refl, ap, sym, ◌∙◌, arith, append_assoc, ◌+◌, ◌%◌, ◌^◌}
+use Rattle.sctp_model.proofs.Names.{false, fold, slice_get, ◌==◌, not, if◌then◌else◌, slice_index_or, subst, is_too_large, Setup, LinkRecord, Data, message_at}
+use Rattle.sctp_model.proofs.Names.{message_of, receive_slot, chunk_at, History, IsRun, record_of, refusal_of, IsSetup, fold-append, nat_tests, pieces, fresh}
+use Rattle.sctp_model.proofs.Names.{ChunkPayloadData}
 use Rattle.sctp_model.specs.Valid.{ComesValid}
 use Rattle.sctp_model.proofs.sender.SenderRun.{Consistent, consistent-run, consistent-received}
 use Rattle.sctp_model.proofs.acknowledgement.Bytes.{size-some}
 use Rattle.sctp_model.proofs.refinement.arriving.Carried.{carried, enters}
 use Rattle.sctp_model.specs.refinement.Arriving.{Comes, AllCome}
 use Rattle.sctp_model.proofs.receiver.ValidRun.{slots_come_valid}
-use Rattle.sctp_model.proofs.refinement.sending.SameChunks.{chunk-same}
 use Rattle.sctp_model.proofs.refinement.amounts.NoLarger.{no-larger}
-use Rattle.std.proofs.lemmas.List.Sums.{fold-append}
-use Rattle.sctp_model.specs.declared.event.Event.TheVariants as E
-use Rattle.sctp_model.proofs.sender.Network
 use Rattle.sctp_model.proofs.refinement.sending.SlotsGoOn.{AllGoOn, goes-run}
 use Rattle.sctp_model.proofs.refinement.amounts.Sizes.{never-too-large}
+use Rattle.sctp_model.proofs.refinement.Histories.{Stands, over}
+use Rattle.sctp_model.proofs.sender.Shape.{Shape, shape, index, parts}
+use Rattle.sctp_model.specs.declared.event.Event.TheVariants as E
+use Rattle.sctp_model.proofs.sender.Network
 use Rattle.sctp_model.proofs.refinement.arriving.Arrival
 use Rattle.sctp_model.proofs.refinement.arriving.SlotArrives
-use Rattle.sctp_model.proofs.refinement.Histories.{Stands, over}
+
+-- ## What a chunk says, where the same is known of its slot
+
+-- the chunk of a slot, by what the sender knows
+abbrev chunk_by : Shape → ℕ → ℕ → ChunkPayloadData
+chunk_by y first p =
+    fresh (record {
+      unordered = not (y.message (y.slot p).message).ordered;
+      beginning_fragment = (y.slot p).fragment == 0;
+      ending_fragment = (y.slot p).fragment + 1 == parts y (y.slot p).message;
+      immediate_sack = false;
+      tsn = (first + p) % 2 ^ 32;
+      stream_identifier = (y.message (y.slot p).message).stream;
+      stream_sequence_number = (if (y.message (y.slot p).message).ordered then index y (y.slot p).message else (y.message (y.slot p).message).before) % 2 ^ 16;
+      payload_type = (y.message (y.slot p).message).ppi;
+      user_data = slice_index_or (pieces (length (y.message (y.slot p).message).bytes) y.size (y.message (y.slot p).message).bytes) (y.slot p).fragment [];
+    })
+
+pub chunk-same : (w v : LinkRecord) (p : ℕ) → Network.Same w v → chunk_at w p ≡ chunk_at v p
+chunk-same w v p s = ap (λ y. chunk_by y w.setup.first p) (sym s.shape_is) ∙ ap (λ t. chunk_by (shape v) t.first p) (sym s.setup)
+
+-- ## Slots one after another
 
 module _ (setup : Setup) (h : History) (is : IsSetup setup) (run : IsRun setup h) (k : ℕ) (none : refusal_of (record_of setup h) (E.Arrive k) ≡ None) where
   abbrev w : LinkRecord
@@ -67,6 +82,4 @@ module _ (setup : Setup) (h : History) (is : IsSetup setup) (run : IsRun setup h
 -- so do those of a datagram of a record that stands for a history
 pub all-come : {w : LinkRecord} (s : Stands w) (k : ℕ) (ps : List ℕ) → refusal_of w (E.Arrive k) ≡ None → slice_get w.network k ≡ Some (Data ps)
     → AllCome w ps (map (chunk_at w) ps)
-all-come {w} s k ps none e =
-    over (λ (u : LinkRecord). refusal_of u (E.Arrive k) ≡ None → slice_get u.network k ≡ Some (Data ps)
-    → AllCome u ps (map (chunk_at u) ps)) s (λ n i. comes-run w.setup s.history s.setup s.stands.run k n ps i) none e
+all-come {w} s k ps none e = grind (arith, nat_tests, over, comes-run)

@@ -1,27 +1,43 @@
 -- What an arrival leaves as it was, and what it changes.
-use Rattle.std.proofs.Common.{◌≡◌, ℕ, ◌+◌, ◌-◌, ◌<◌, ◌≤◌, ◌^◌, Bool, true, false, length, map, refl, ap, sym, ◌∙◌, inl, inr, arith}
-use Rattle.std.specs.Prelude.{◌⊎◌, ◌==◌, not, nat_lt}
-use Rattle.std.proofs.lemmas.Bool.{cases_lt}
-use Rattle.std.proofs.lemmas.Bool.Decides.{nat_tests}
-use Rattle.std.proofs.lemmas.Grind.{common_steps}
-use Rattle.sctp_util.specs.Kept.{numbers_where}
-use Rattle.sctp_util.specs.Lists.{change_at, insert_before}
-use Rattle.sctp_data.specs.ChunkSet.{ChunkSet}
-use Rattle.sctp_reassembly.specs.reassembly_queue.Fragments.{is_complete}
-use Rattle.sctp_serial.specs.DataChunks.{chunk_before}
-use Rattle.sctp_model.specs.Contents.{chunk_at}
-use Rattle.sctp_model.specs.refinement.Holds.{has_come, chunks_come}
-use Rattle.sctp_model.specs.Queues.{set_of}
-use Rattle.sctp_util.proofs.Passing.{kept-same, kept-skip, map-kept-same, map-kept-inserted}
-use Rattle.sctp_util.proofs.Round.{comes_before-tsn}
-use Rattle.sctp_model.specs.LinkRecord.{LinkRecord}
-use Rattle.sctp_model.specs.Messages.{slot_at, message_of, no_slot, fragment_count, has_fragment}
-use Rattle.sctp_model.specs.Receiver.{arrived_at, arrived_of, has_arrived, is_held}
-use Rattle.sctp_model.specs.Changes.{mark_arrived}
-use Rattle.sctp_model.specs.Valid.{IsLaid, Valid}
-use Rattle.sctp_util.proofs.More.{fails, not_both, both, same_test, length-changed, changed-same, changed-other, changed-keeps, kept-short}
-use Rattle.sctp_util.proofs.More.{length-kept-one_more}
-use Rattle.sctp_model.proofs.refinement.arriving.Complete.{IsMessage, complete-kept}
+use Rattle.sctp_model.proofs.Names.{◌≡◌, ℕ, ◌+◌, ◌-◌, ◌<◌, ◌≤◌, ◌^◌, Bool, true, false, length, refl, ap, sym, ◌∙◌, arith, map, zero, suc, ◌%◌, ◌∷◌, ◌==◌, not}
+use Rattle.sctp_model.proofs.Names.{nat_lt, if◌then◌else◌, nat_tests, common_steps, numbers_where, change_at, insert_before, is_complete, chunk_before}
+use Rattle.sctp_model.proofs.Names.{chunk_at, has_come, chunks_come, set_of, kept-same, kept-skip, map-kept-same, map-kept-inserted, length-kept-le, front-kept}
+use Rattle.sctp_model.proofs.Names.{comes_before-tsn, tsn, LinkRecord, slot_at, message_of, no_slot, fragment_count, has_fragment, arrived_at, arrived_of}
+use Rattle.sctp_model.proofs.Names.{has_arrived, is_held, mark_arrived, IsLaid, Valid, fails, both, length-changed, changed-same, changed-other, changed-keeps}
+use Rattle.sctp_model.proofs.Names.{kept-short, length-kept-one_more, ChunkPayloadData}
+use Rattle.sctp_reassembly.specs.reassembly_queue.Fragments.{completes}
+
+-- ## A set is complete exactly where each fragment of the message came
+
+-- the chunks of a message that lies at count places from base on
+pub record IsMessage (first : ℕ) (f : ℕ → ChunkPayloadData) (p : ℕ → Bool) (base count : ℕ) : Type 0 where
+  pub some : 0 < count
+  pub short : count < 2 ^ 32
+  pub tsn_is : (k : ℕ) → base ≤ k → k < base + count → p k ≡ true → (f k).tsn ≡ tsn first k
+  pub begins : (k : ℕ) → base ≤ k → k < base + count → p k ≡ true → (f k).beginning_fragment ≡ (k == base)
+  pub ends : (k : ℕ) → base ≤ k → k < base + count → p k ≡ true → (f k).ending_fragment ≡ (k + 1 == base + count)
+
+module _ (first : ℕ) (f : ℕ → ChunkPayloadData) (p : ℕ → Bool) (base count : ℕ) (m : IsMessage first f p base count) where
+  follows : (x y : ℕ) → base ≤ x → x < y → y < base + count → p x ≡ true → p y ≡ true → ((f y).tsn == ((f x).tsn + 1) % 2 ^ 32) ≡ (y == x + 1)
+  follows x y low lt high px py = grind (arith, nat_tests)
+
+  -- those after x are all the rest
+  rest : (x left : ℕ) → base ≤ x → x + 1 + left ≡ base + count → p x ≡ true
+      → completes (f x) (map f (numbers_where p (x + 1) left)) ≡ (length (numbers_where p (x + 1) left) == left)
+  rest x zero low e px = m.ends x low (omega arith) px ∙ let h : x + 1 ≡ base + count = omega arith in grind (arith, nat_tests)
+  rest x (suc left) low e px = step (p (x + 1)) refl (λ h. rest (x + 1) left (omega arith) (omega arith) h)
+    where
+      step : (b : Bool) → p (x + 1) ≡ b
+          → (p (x + 1) ≡ true → completes (f (x + 1)) (map f (numbers_where p (x + 1 + 1) left)) ≡ (length (numbers_where p (x + 1 + 1) left) == left))
+          → completes (f x) (map f (if b then (x + 1) ∷ numbers_where p (x + 1 + 1) left else numbers_where p (x + 1 + 1) left))
+          ≡ (length (if b then (x + 1) ∷ numbers_where p (x + 1 + 1) left else numbers_where p (x + 1 + 1) left) == suc left)
+      step true h ih = grind (arith, nat_tests, follows)
+      step false h ih = grind (arith, nat_tests, front-kept, length-kept-le)
+
+  pub complete-kept : is_complete (map f (numbers_where p base count)) ≡ (length (numbers_where p base count) == count)
+  complete-kept = grind (arith, nat_tests, rest, front-kept, length-kept-le)
+
+-- ## A slot arrives
 
 abbrev pub with_arrived : LinkRecord → ℕ → LinkRecord
 with_arrived w p = record w { slots = change_at mark_arrived p w.slots }
@@ -56,24 +72,11 @@ kept-window p all base count inside =
 
 pub is_message : (w : LinkRecord) (n base : ℕ) → Valid w → n < length w.messages → IsLaid w n base
     → IsMessage w.setup.first (chunk_at w) (has_come w n) base (fragment_count w n)
-is_message w n base valid lt laid = record {
-  some = valid.some n lt;
-  short = omega (arith, valid.short n lt);
-  tsn_is = λ k a b e. refl;
-  begins = λ k a b e. let at = laid.at k (come w n k e).0 in
-      same_test ((slot_at w k).fragment == 0) (k == base) (λ h. grind (arith, nat_tests)) (λ h. grind (arith, nat_tests));
-  ends = λ k a b e. let at = laid.at k (come w n k e).0 in rw (of_message w n k (come w n k e).0) (same_test ((slot_at w k).fragment + 1 == fragment_count w n)
-      (k + 1 == base + fragment_count w n) (λ h. grind (arith, nat_tests)) (λ h. grind (arith, nat_tests)));
-}
+is_message w n base valid lt laid = grind (arith, nat_tests, come, of_message)
 
 pub window : (w : LinkRecord) (n base : ℕ) → IsLaid w n base
     → numbers_where (has_come w n) 0 (length w.slots) ≡ numbers_where (has_come w n) base (fragment_count w n)
-window w n base laid = kept-window (has_come w n) (length w.slots) base (fragment_count w n)
-    (λ k e. let h = (come w n k e).0 in (omega (arith, laid.at k h), omega (arith, laid.at k h, laid.within k h), made k h (cases_lt k (length w.slots))))
-  where
-    made : (k : ℕ) → has_fragment w n k ≡ true → (k < length w.slots) ⊎ (length w.slots ≤ k) → k < length w.slots
-    made k h (inl l) = l
-    made k h (inr g) = absurd (not_both (sym (beyond w n k g) ∙ h))
+window w n base laid = grind (arith, nat_tests, kept-window, come, beyond)
 
 pub set_is_complete : (w : LinkRecord) (n : ℕ) → Valid w → n < length w.messages → is_complete (chunks_come w n) ≡ has_arrived w n
 set_is_complete w n valid lt =
@@ -112,15 +115,7 @@ has_come-other w p n k ne = rw (has_fragment-arrived w p n k, arrived-other w p 
 
 -- a slot of another message
 pub has_come-elsewhere : (w : LinkRecord) (p n k : ℕ) → (message_of w p ≡ n → ⊥) → has_come (with_arrived w p) n k ≡ has_come w n k
-has_come-elsewhere w p n k ne = step (cases_lt k p) (cases_lt p k)
-  where
-    step : (k < p) ⊎ (p ≤ k) → (p < k) ⊎ (k ≤ p) → has_come (with_arrived w p) n k ≡ has_come w n k
-    step (inl l) s = has_come-other w p n k (λ e. omega arith)
-    step (inr g) (inl l) = has_come-other w p n k (λ e. omega arith)
-    step (inr g) (inr l) =
-        let e : k ≡ p = omega arith in
-        let no : has_fragment w n k ≡ false = no-fragment w n k (λ h. ne (ap (message_of w) (sym e) ∙ h)) in
-        rw (has_fragment-arrived w p n k, no) refl
+has_come-elsewhere w p n k ne = grind (arith, nat_tests, has_come-other, no-fragment, has_fragment-arrived)
 
 -- ## An arrival: the sets
 
@@ -130,12 +125,7 @@ kept_come-elsewhere w p n ne =
     cc (count-arrived w p, kept-same (has_come (with_arrived w p) n) (has_come w n) 0 (length w.slots) (λ k a b. has_come-elsewhere w p n k ne))
 
 pub set_of-elsewhere : (w : LinkRecord) (p n : ℕ) → (message_of w p ≡ n → ⊥) → set_of (with_arrived w p) n ≡ set_of w n
-set_of-elsewhere w p n ne =
-    let chunks : chunks_come (with_arrived w p) n ≡ chunks_come w n =
-    ap (λ c. map (chunk_at (with_arrived w p)) (numbers_where (has_come (with_arrived w p) n) 0 c)) (count-arrived w p)
-    ∙ map-kept-same (chunk_at (with_arrived w p)) (chunk_at w) (has_come (with_arrived w p) n) (has_come w n) 0 (length w.slots)
-    (λ k a b. has_come-elsewhere w p n k ne) (λ k a b e. chunk_at-arrived w p k) in
-    ap (λ c. let x : ChunkSet = record { ssn = (set_of w n).ssn; ppi = (set_of w n).ppi; chunks = c } in x) chunks
+set_of-elsewhere w p n ne = grind (arith, nat_tests, count-arrived, map-kept-same, has_come-elsewhere, chunk_at-arrived)
 
 -- the place of a chunk among those of its list, whatever the list
 pub order_of : (w : LinkRecord) (p k : ℕ) → length w.slots < 2 ^ 31 → p < length w.slots → k < length w.slots → (k ≡ p → ⊥)

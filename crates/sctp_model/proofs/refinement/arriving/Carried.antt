@@ -1,11 +1,7 @@
 -- A slot that a DATA datagram carries, and the forms that the record may have after it.
-use Rattle.std.proofs.Common.{◌≡◌, ℕ, ◌<◌, Bool, true, false, [], ◌∷◌, ◌++◌, length, Option, Some, None, refl, arith}
-use Rattle.std.specs.Prelude.{if◌then◌else◌, is_some}
-use Rattle.sctp_util.proofs.More.{fails, length-kept-positive}
-use Rattle.sctp_model.specs.LinkRecord.{Setup, LinkRecord, StreamRecord}
-use Rattle.sctp_model.specs.Messages.{message_at, slot_at, message_of, stream_at, has_fragment}
-use Rattle.sctp_model.specs.Receiver.{is_new}
-use Rattle.sctp_model.specs.Changes.{stream_changed, with_complete, becomes_complete, receive_slot}
+use Rattle.sctp_model.proofs.Names.{◌≡◌, ℕ, ◌<◌, Bool, true, false, [], ◌∷◌, ◌++◌, length, Option, Some, None, refl, arith, if◌then◌else◌, is_some, fails}
+use Rattle.sctp_model.proofs.Names.{length-kept-positive, Setup, LinkRecord, StreamRecord, message_at, slot_at, message_of, stream_at, has_fragment, is_new}
+use Rattle.sctp_model.proofs.Names.{stream_changed, with_complete, becomes_complete, receive_slot, nat_tests}
 use Rattle.sctp_model.proofs.sender.Shape.{shape, sent}
 use Rattle.sctp_model.proofs.sender.SenderRun.{Consistent}
 use Rattle.sctp_model.proofs.refinement.arriving.Arrival
@@ -49,9 +45,4 @@ noted w p b = if b then stream_changed (with_arrived w p) (message_at w (message
 -- P of the record after a slot, from P of the forms that it may have
 pub by_step : (P : LinkRecord → Type 0) (w : LinkRecord) (p : ℕ) → P (record w { duplicates = w.duplicates ++ p ∷ [] })
     → (is_new w p ≡ true → (b : Bool) → becomes_complete (with_arrived w p) (message_of w p) ≡ b → P (noted w p b)) → P (receive_slot w p)
-by_step P w p again new = step (is_new w p) refl
-  where
-    step : (b : Bool) → is_new w p ≡ b
-        → P (if b then noted w p (becomes_complete (with_arrived w p) (message_of w p)) else record w { duplicates = w.duplicates ++ p ∷ [] })
-    step true e = new e (becomes_complete (with_arrived w p) (message_of w p)) refl
-    step false e = again
+by_step P w p again new = grind (arith, nat_tests)

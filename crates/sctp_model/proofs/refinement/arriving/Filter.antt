@@ -1,20 +1,10 @@
 -- The filter of TSNs: an arrival, and a skip.
-use Rattle.std.proofs.Common.{◌≡◌, ℕ, ◌+◌, ◌-◌, ◌<◌, ◌≤◌, ◌%◌, ◌^◌, Bool, true, false, length, map, refl, ap, sym, ◌∙◌, inl, inr, arith}
-use Rattle.std.specs.Prelude.{◌⊎◌, nat_lt, nat_le, not, ◌&&◌}
-use Rattle.std.proofs.lemmas.Bool.{cases_lt, lt-ltb, le-ltb}
-use Rattle.std.proofs.lemmas.Bool.Decides.{nat_tests}
-use Rattle.std.specs.List.{filter}
-use Rattle.sctp_util.specs.Kept.{numbers_where, unbroken}
-use Rattle.sctp_util.specs.Lists.{insert_before, advance_over, Seen}
-use Rattle.sctp_model.specs.refinement.Holds.{seen_of}
-use Rattle.sctp_util.specs.Serial.{comes_before, at_or_before}
-use Rattle.sctp_util.proofs.Passing.{unbroken-passes, unbroken-on, map-kept-inserted, IsRound, advanced-kept, kept-same, kept-skip}
-use Rattle.sctp_util.proofs.Round.{tsn_differ, tsn_same, comes_before-tsn, tsn}
-use Rattle.sctp_model.specs.LinkRecord.{LinkRecord}
-use Rattle.sctp_model.specs.Messages.{tsn_of}
-use Rattle.sctp_model.specs.Receiver.{arrived_at, cumulative}
-use Rattle.sctp_util.proofs.More.{those-kept}
-use Rattle.sctp_util.proofs.Wraps.{at_or_before-tsn}
+use Rattle.sctp_model.proofs.Names.{◌≡◌, ℕ, ◌+◌, ◌-◌, ◌<◌, ◌≤◌, ◌%◌, ◌^◌, Bool, true, false, length, map, refl, ap, sym, ◌∙◌, arith, ◌⊎◌, nat_lt, not, ◌&&◌}
+use Rattle.sctp_model.proofs.Names.{cases_lt, lt-ltb, le-ltb, nat_tests, filter, numbers_where, unbroken, insert_before, advance_over, seen_of, comes_before}
+use Rattle.sctp_model.proofs.Names.{at_or_before, unbroken-passes, unbroken-on, map-kept-inserted, kept-same, kept-skip, tsn_differ, tsn_same, comes_before-tsn}
+use Rattle.sctp_model.proofs.Names.{tsn, LinkRecord, tsn_of, arrived_at, cumulative, those-kept, at_or_before-tsn}
+use Rattle.sctp_util.specs.Lists.{Seen}
+use Rattle.sctp_util.proofs.Passing.{IsRound, advanced-kept}
 use Rattle.sctp_model.proofs.refinement.arriving.Arrival
 use Rattle.sctp_model.proofs.refinement.arriving.Arrival.{with_arrived}
 use Rattle.sctp_model.proofs.receiver.Arrivals.{cumulative-le}
@@ -27,12 +17,7 @@ abbrev pub tsn_before : ℕ → ℕ → ℕ
 tsn_before first k = (first + (2 ^ 32 - 1) + k) % 2 ^ 32
 
 pub is_round : (first low high : ℕ) → high < low + 2 ^ 32 → IsRound (tsn first) (tsn_before first) low high
-is_round first low high short = record {
-  next = λ k a b. let e : (tsn_before first k + 1) % 2 ^ 32 ≡ tsn first k = omega arith in e;
-  before = λ k. let e : tsn_before first (k + 1) ≡ tsn first k = omega arith in e;
-  differ = λ j k a b c. tsn_differ first j k b (omega arith);
-  same = λ k. tsn_same first k;
-}
+is_round first low high short = grind (arith, nat_tests, tsn_differ, tsn_same)
 
 abbrev seen_with : LinkRecord → ℕ → ℕ → Seen
 seen_with w c count = record { cum = tsn_before w.setup.first c; held = map (tsn w.setup.first) (numbers_where (arrived_at w) c count) }
@@ -54,16 +39,15 @@ filter-arrived w p made short lt small new =
     let u = unbroken (arrived_at after) c count in
     let top = cumulative-le w made in
     let put = map-kept-inserted (tsn w.setup.first) comes_before (arrived_at w)
-    (arrived_at after) p c count new (Arrival.arrived-here w p lt) small (omega arith)
-    (λ k a b ne. sym (Arrival.arrived-other w p k ne))
+    (arrived_at after) p c count new (Arrival.arrived-here w p lt) small (omega arith) (λ k a b ne. sym (Arrival.arrived-other w p k ne))
     (λ k a b ne pass. comes_before-tsn w.setup.first p k (omega arith) (omega arith) (λ e. ne (sym e))) in
     let moved = advanced-kept (tsn w.setup.first) (tsn_before w.setup.first) (arrived_at after) c count (is_round w.setup.first c (c + count) (omega arith)) in
-    let front : cumulative after ≡ c + unbroken (arrived_at after) c (length after.slots - c) =
-    cumulative-from after c (omega arith) (omega (arith, Arrival.count-arrived w p, top))
+    let front : cumulative after ≡ c + unbroken (arrived_at after) c (length after.slots - c) = cumulative-from after c (omega arith)
+    (omega (arith, Arrival.count-arrived w p, top))
     (λ k a b. Arrival.arrived-other w p k (λ e. omega arith) ∙ unbroken-passes (arrived_at w) w.skipped (length w.slots - w.skipped) k a (omega arith)) in
     let cum' : cumulative after ≡ c + u = front ∙ ap (λ l. c + unbroken (arrived_at after) c (l - c)) (Arrival.count-arrived w p) in
     let count' : length after.slots - cumulative after ≡ count - u = omega (arith, Arrival.count-arrived w p, cum') in
-    ap2 (seen_with after) cum' count' ∙ sym moved ∙ ap (advance_over (tsn_before w.setup.first c)) put
+    cc (ap2 (seen_with after) cum' count', moved, put)
 
 -- ## A skip
 
@@ -86,28 +70,18 @@ filter-skipped w upto short lt counts =
     let start : tsn_before w.setup.first from ≡ f upto = omega arith in
     let past : ℕ → Bool = λ k. nat_lt upto k && arrived_at w k in
     let stay : map f (numbers_where past c (length w.slots - c)) ≡ filter (λ t. not (at_or_before t (f upto)))
-    (map f (numbers_where (arrived_at w) c (length w.slots - c))) =
-    those-kept (λ t. not (at_or_before t (f upto))) f f (arrived_at w) past c (length w.slots - c)
-    (λ k a b. after_it k (omega arith) (cases_lt upto k)) (λ k a b e. refl) in
+    (map f (numbers_where (arrived_at w) c (length w.slots - c))) = those-kept (λ t. not (at_or_before t (f upto))) f f (arrived_at w) past c
+    (length w.slots - c) (λ k a b. after_it k (omega arith) (cases_lt upto k)) (λ k a b e. refl) in
     let cut : numbers_where past c (length w.slots - c) ≡ numbers_where past from (c + (length w.slots - c) - from) =
     kept-skip past c (length w.slots - c) from (omega arith) (omega arith) (λ j a b. low j (omega arith)) in
     let size : c + (length w.slots - c) - from ≡ count = omega arith in
     let same : numbers_where past from count ≡ numbers_where (arrived_at w) from count =
     kept-same past (arrived_at w) from count (λ k a b. high k (omega arith)) in
-    ap2 (seen_with after) cum' count' ∙ sym moved ∙ ap2 advance_over start (ap (map f) (sym (cut ∙ ap (numbers_where past from) size ∙ same)) ∙ stay)
+    cc (ap2 (seen_with after) cum' count', moved, ap2 advance_over start (ap (map f) (sym (cut ∙ ap (numbers_where past from) size ∙ same)) ∙ stay))
   where
     after_it : (k : ℕ) → k < length w.slots → (upto < k) ⊎ (k ≤ upto)
         → (nat_lt upto k && arrived_at w k) ≡ (arrived_at w k && not (at_or_before (tsn w.setup.first k) (tsn w.setup.first upto)))
-    after_it k b (inl l) = rw (lt-ltb upto k l, at_or_before-tsn w.setup.first k upto (omega arith) (omega arith)) (last (arrived_at w k))
-      where
-        last : (b : Bool) → b ≡ (b && not (nat_le k upto))
-        last true = grind (arith, nat_tests)
-        last false = refl
-    after_it k b (inr g) = rw (le-ltb upto k g, at_or_before-tsn w.setup.first k upto (omega arith) (omega arith)) (last (arrived_at w k))
-      where
-        last : (b : Bool) → false ≡ (b && not (nat_le k upto))
-        last true = grind (arith, nat_tests)
-        last false = refl
+    after_it k b c = grind (arith, nat_tests, at_or_before-tsn)
 
     low : (j : ℕ) → j < upto + 1 → (nat_lt upto j && arrived_at w j) ≡ false
     low j l = rw (le-ltb upto j (omega arith)) refl

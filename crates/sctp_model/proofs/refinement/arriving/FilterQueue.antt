@@ -1,24 +1,13 @@
 -- The queue that filters TSNs, against the record: what it tells new, where it puts it, and how its front moves.
-use Rattle.std.proofs.Common.{◌≡◌, ℕ, zero, suc, ◌+◌, ◌-◌, ◌<◌, ◌≤◌, ◌^◌, Bool, true, false, List, [], ◌∷◌, length, map, refl, ap, sym, ◌∙◌, inl, inr, arith}
-use Rattle.std.specs.Prelude.{◌⊎◌, if◌then◌else◌, ◌==◌, ◌&&◌, not, nat_le, nat_lt, min}
-use Rattle.std.specs.List.{list_any, filter}
-use Rattle.std.proofs.lemmas.Bool.{cases_lt}
-use Rattle.std.proofs.lemmas.Bool.Decides.{nat_tests}
-use Rattle.sctp_util.specs.Kept.{numbers_where}
+use Rattle.sctp_model.proofs.Names.{◌≡◌, ℕ, zero, suc, ◌+◌, ◌-◌, ◌<◌, ◌≤◌, ◌^◌, Bool, true, false, List, [], ◌∷◌, length, map, refl, ap, sym, ◌∙◌, inl, inr}
+use Rattle.sctp_model.proofs.Names.{arith, ◌⊎◌, ◌==◌, ◌&&◌, not, nat_le, nat_lt, min, list_any, cases_lt, nat_tests, numbers_where, kept-same, kept-short}
+use Rattle.sctp_model.proofs.Names.{those-kept, tsn, tsn_differ, tsn_same, ChunkPayloadData, tsns, gap_offsets, LinkRecord, tsn_of, arrived_at, cumulative}
+use Rattle.sctp_model.proofs.Names.{is_new, distances, seen_of, and-none, and-true}
 use Rattle.sctp_util.specs.Serial.{distance, at_or_before}
-use Rattle.sctp_util.proofs.Passing.{any-kept, kept-same}
-use Rattle.sctp_util.proofs.More.{fails, not_both, kept-short, those-kept}
-use Rattle.sctp_util.proofs.Round.{tsn, tsn_differ, tsn_same}
-use Rattle.sctp_data.specs.declared.chunk.chunk_payload_data.ChunkPayloadData.{ChunkPayloadData}
+use Rattle.sctp_util.proofs.Passing.{any-kept}
 use Rattle.sctp_serial.specs.Window
 use Rattle.sctp_serial.specs.Window.{is_held}
-use Rattle.sctp_serial.specs.DataChunks.{tsns}
-use Rattle.sctp_outbound.specs.payload_queue.Blocks.{is_offset, gap_offsets}
-use Rattle.sctp_model.specs.LinkRecord.{LinkRecord}
-use Rattle.sctp_model.specs.Messages.{tsn_of}
-use Rattle.sctp_model.specs.Receiver.{arrived_at, cumulative, is_new}
-use Rattle.sctp_model.specs.Reports.{distances}
-use Rattle.sctp_model.specs.refinement.Holds.{seen_of}
+use Rattle.sctp_outbound.specs.payload_queue.Blocks.{is_offset}
 use Rattle.sctp_model.proofs.refinement.arriving.Filter.{tsn_before}
 use Rattle.sctp_model.proofs.receiver.Arrivals.{cumulative-le}
 use Rattle.sctp_serial.proofs.lemmas.Serials.{held-any}
@@ -40,11 +29,7 @@ beyond first c k le lt = omega arith
 -- a slot is at or before the cumulative ones exactly where it is one of them
 pub at_or_before-cumulative : (first c k : ℕ) → c < 2 ^ 31 → k < 2 ^ 31 → at_or_before (tsn first k) (tsn_before first c) ≡ nat_lt k c
 unfolding at_or_before
-at_or_before-cumulative first c k short lt = step (cases_lt k c)
-  where
-    step : (k < c) ⊎ (c ≤ k) → nat_lt (distance (tsn first k) (tsn_before first c)) (2 ^ 31) ≡ nat_lt k c
-    step (inl l) = rw (behind first c k short l) (grind (arith, nat_tests))
-    step (inr g) = rw (beyond first c k g lt) (grind (arith, nat_tests))
+at_or_before-cumulative first c k short lt = grind (arith, nat_tests, behind, beyond)
 
 -- ## Windows
 
@@ -72,10 +57,7 @@ module _ (w : LinkRecord) (cs : List ChunkPayloadData) (made : w.skipped ≤ len
       swapped false = refl
 
       differ : (k : ℕ) → k < length w.slots → (k ≡ p → ⊥) → (k < p) ⊎ (p ≤ k) → (tsn w.setup.first k == tsn w.setup.first p) ≡ false
-      differ k lk ne (inl l) = let e = tsn_differ w.setup.first k p l (omega arith) in
-          fails (tsn w.setup.first k == tsn w.setup.first p) (λ h. let z : tsn w.setup.first k ≡ tsn w.setup.first p = grind (arith, nat_tests) in
-          let t : (tsn w.setup.first p == tsn w.setup.first k) ≡ true = grind (arith, nat_tests) in not_both (sym e ∙ t))
-      differ k lk ne (inr g) = tsn_differ w.setup.first p k (omega arith) (omega arith)
+      differ k lk ne b = grind (arith, nat_tests, tsn_differ)
 
       step : (p < c) ⊎ (c ≤ p) → (not (is_held cs (tsn_of w p)) && not (at_or_before (tsn_of w p) (seen_of w).cum)) ≡ (nat_le c p && not (arrived_at w p))
       step (inl l) =
@@ -95,18 +77,7 @@ module _ (w : LinkRecord) (cs : List ChunkPayloadData) (made : w.skipped ≤ len
   shifted : (p : ℕ → Bool) (b from count : ℕ) → b ≤ from
       → map (λ k. k + 1 - b) (numbers_where p from count) ≡ numbers_where (λ d. p (b + d - 1)) (from + 1 - b) count
   shifted p b from zero le = refl
-  shifted p b from (suc count) le =
-      let place : b + (from + 1 - b) - 1 ≡ from = omega arith in
-      let next : from + 1 + 1 - b ≡ from + 1 - b + 1 = omega arith in
-      step (p from) (shifted p b (from + 1) count (omega arith) ∙ ap (λ j. numbers_where (λ d. p (b + d - 1)) j count) next)
-      ∙ ap (λ j. if p j then (from + 1 - b) ∷ numbers_where (λ d. p (b + d - 1)) (from + 1 - b + 1) count
-      else numbers_where (λ d. p (b + d - 1)) (from + 1 - b + 1) count) (sym place)
-    where
-      step : (t : Bool) → map (λ k. k + 1 - b) (numbers_where p (from + 1) count) ≡ numbers_where (λ d. p (b + d - 1)) (from + 1 - b + 1) count
-          → map (λ k. k + 1 - b) (if t then from ∷ numbers_where p (from + 1) count else numbers_where p (from + 1) count) ≡ (if t
-          then (from + 1 - b) ∷ numbers_where (λ d. p (b + d - 1)) (from + 1 - b + 1) count else numbers_where (λ d. p (b + d - 1)) (from + 1 - b + 1) count)
-      step true ih = ap (λ l. (from + 1 - b) ∷ l) ih
-      step false ih = ih
+  shifted p b from (suc count) le = grind (arith, nat_tests, shifted p b (from + 1) count)
 
   map-twice : {A : Type 0} (f : ℕ → ℕ) (g : A → ℕ) (xs : List A) → map (λ x. f (g x)) xs ≡ map f (map g xs)
   map-twice f g [] = refl
@@ -116,50 +87,39 @@ module _ (w : LinkRecord) (cs : List ChunkPayloadData) (made : w.skipped ≤ len
   map-numbers f g [] = refl
   map-numbers f g (x ∷ xs) = ap (λ l. f (g x) ∷ l) (map-numbers f g xs)
 
-  and-no : (b : Bool) → (b && false) ≡ false
-  and-no true = refl
-  and-no false = refl
-
-  and-yes : (b : Bool) → (b && true) ≡ b
-  and-yes true = refl
-  and-yes false = refl
-
   -- the queue's distances are the record's, so the blocks that they make are too
   pub distances-is : gap_offsets (seen_of w).cum cs ≡ distances w
   distances-is =
       let count = length w.slots - c in
       let all : map (λ x. distance (seen_of w).cum x.tsn) cs ≡ map (λ k. distance (seen_of w).cum (tsn w.setup.first k))
-      (numbers_where (arrived_at w) c count) =
-      map-twice (distance (seen_of w).cum) (λ x. x.tsn) cs ∙ ap (map (distance (seen_of w).cum)) held
+      (numbers_where (arrived_at w) c count) = map-twice (distance (seen_of w).cum) (λ x. x.tsn) cs ∙ ap (map (distance (seen_of w).cum)) held
       ∙ map-numbers (distance (seen_of w).cum) (tsn w.setup.first) (numbers_where (arrived_at w) c count) in
-      ap (filter is_offset) all
-      ∙ sym (those-kept is_offset (λ k. distance (seen_of w).cum (tsn w.setup.first k)) (λ k. k + 1 - c) (arrived_at w)
-      (λ k. arrived_at w k && is_offset (k + 1 - c)) c count
-      (λ k a b. ap (λ d. arrived_at w k && is_offset d) (sym (ahead w.setup.first c k a (omega (arith, top)))))
-      (λ k a b e. sym (ahead w.setup.first c k a (omega (arith, top)))))
-      ∙ shifted (λ k. arrived_at w k && is_offset (k + 1 - c)) c c count (omega arith)
-      ∙ ap (λ j. numbers_where (λ d. arrived_at w (c + d - 1) && is_offset (c + d - 1 + 1 - c)) j count) (let one : c + 1 - c ≡ 1 = omega arith in one)
-      ∙ cut (cases_lt 65535 count)
+      cc (
+        all,
+        those-kept is_offset (λ k. distance (seen_of w).cum (tsn w.setup.first k)) (λ k. k + 1 - c) (arrived_at w) (λ k. arrived_at w k
+            && is_offset (k + 1 - c)) c count (λ k a b. ap (λ d. arrived_at w k && is_offset d) (sym (ahead w.setup.first c k a (omega (arith, top)))))
+            (λ k a b e. sym (ahead w.setup.first c k a (omega (arith, top)))),
+        shifted (λ k. arrived_at w k && is_offset (k + 1 - c)) c c count (omega arith),
+        (let one : c + 1 - c ≡ 1 = omega arith in one),
+        cut (cases_lt 65535 count),
+      )
     where
       at : (d : ℕ) → 1 ≤ d → (arrived_at w (c + d - 1) && is_offset (c + d - 1 + 1 - c)) ≡ (arrived_at w (c + d - 1) && is_offset d)
       at d le = ap (λ x. arrived_at w (c + d - 1) && is_offset x) (let e : c + d - 1 + 1 - c ≡ d = omega arith in e)
 
       small : (d : ℕ) → 1 ≤ d → d < 65536 → (arrived_at w (c + d - 1) && is_offset (c + d - 1 + 1 - c)) ≡ arrived_at w (c + d - 1)
-      small d le lt = at d le ∙ ap (λ b. arrived_at w (c + d - 1) && b) (let e : is_offset d ≡ true = grind (arith, nat_tests) in e)
-          ∙ and-yes (arrived_at w (c + d - 1))
+      small d le lt = cc (at d le, (let e : is_offset d ≡ true = grind (arith, nat_tests) in e), and-true (arrived_at w (c + d - 1)))
 
       large : (d : ℕ) → 65536 ≤ d → (arrived_at w (c + d - 1) && is_offset (c + d - 1 + 1 - c)) ≡ false
-      large d le = at d (omega arith) ∙ ap (λ b. arrived_at w (c + d - 1) && b) (let e : is_offset d ≡ false = grind (arith, nat_tests) in e)
-          ∙ and-no (arrived_at w (c + d - 1))
+      large d le = cc (at d (omega arith), (let e : is_offset d ≡ false = grind (arith, nat_tests) in e), and-none (arrived_at w (c + d - 1)))
 
       cut : (65535 < length w.slots - c) ⊎ (length w.slots - c ≤ 65535) → numbers_where (λ d. arrived_at w (c + d - 1) && is_offset (c + d - 1 + 1 - c)) 1
           (length w.slots - c) ≡ numbers_where (λ d. arrived_at w (c + d - 1)) 1 (min 65535 (length w.slots - c))
-      cut (inl l) =
-          kept-short (λ d. arrived_at w (c + d - 1) && is_offset (c + d - 1 + 1 - c)) 1 65535 (length w.slots - c - 65535) (length w.slots - c) (omega arith)
-          (λ d a b. large d (omega arith)) ∙ kept-same (λ d. arrived_at w (c + d - 1) && is_offset (c + d - 1 + 1 - c))
-          (λ d. arrived_at w (c + d - 1)) 1 65535 (λ d a b. small d (omega arith) (omega arith))
-          ∙ ap (numbers_where (λ d. arrived_at w (c + d - 1)) 1) (let e : 65535 ≡ min 65535 (length w.slots - c) = omega arith in e)
-      cut (inr g) =
-          kept-same (λ d. arrived_at w (c + d - 1) && is_offset (c + d - 1 + 1 - c)) (λ d. arrived_at w (c + d - 1)) 1 (length w.slots - c)
-          (λ d a b. small d (omega arith) (omega arith))
-          ∙ ap (numbers_where (λ d. arrived_at w (c + d - 1)) 1) (let e : length w.slots - c ≡ min 65535 (length w.slots - c) = omega arith in e)
+      cut (inl l) = cc (
+        kept-short (λ d. arrived_at w (c + d - 1) && is_offset (c + d - 1 + 1 - c)) 1 65535 (length w.slots - c - 65535) (length w.slots - c) (omega arith)
+            (λ d a b. large d (omega arith)),
+        kept-same (λ d. arrived_at w (c + d - 1) && is_offset (c + d - 1 + 1 - c))
+            (λ d. arrived_at w (c + d - 1)) 1 65535 (λ d a b. small d (omega arith) (omega arith)),
+        (let e : 65535 ≡ min 65535 (length w.slots - c) = omega arith in e),
+      )
+      cut (inr g) = grind (arith, nat_tests, kept-same)

@@ -1,17 +1,8 @@
 -- A new slot of an ordered message: its index is at or past the one expected next.
-use Rattle.std.proofs.Common.{◌≡◌, ℕ, ◌+◌, ◌<◌, ◌≤◌, Bool, true, false, refl, ap, sym, ◌∙◌, inl, inr, arith}
-use Rattle.std.specs.Prelude.{◌⊎◌, ◌||◌, nat_lt}
-use Rattle.std.proofs.lemmas.Bool.{cases_lt}
-use Rattle.std.proofs.lemmas.Bool.Decides.{nat_tests}
-use Rattle.sctp_util.proofs.Cases.{negated}
-use Rattle.sctp_util.proofs.More.{fails, not_both}
-use Rattle.sctp_util.proofs.Passing.{length-kept-le}
-use Rattle.sctp_model.specs.LinkRecord.{LinkRecord}
-use Rattle.sctp_model.specs.Messages.{message_at, message_of, stream_of, is_ordered_on, index_of, fragment_count, has_fragment}
-use Rattle.sctp_model.specs.Receiver.{arrived_at, arrived_of, is_new, next_of}
-use Rattle.sctp_model.specs.Valid.{IsLaid, Valid}
+use Rattle.sctp_model.proofs.Names.{◌≡◌, ℕ, ◌+◌, ◌≤◌, Bool, true, false, refl, ap, sym, ◌∙◌, arith, ◌||◌, nat_lt, nat_tests, negated, fails, length-kept-le}
+use Rattle.sctp_model.proofs.Names.{LinkRecord, message_at, message_of, stream_of, is_ordered_on, index_of, fragment_count, has_fragment, arrived_at}
+use Rattle.sctp_model.proofs.Names.{arrived_of, is_new, next_of, IsLaid, Valid, has_come}
 use Rattle.sctp_model.proofs.receiver.Arrivals.{new-unseen}
-use Rattle.sctp_model.specs.refinement.Holds.{has_come}
 use Rattle.sctp_model.proofs.refinement.arriving.Arrival
 use Rattle.sctp_model.proofs.refinement.arriving.Arrival.{with_arrived}
 use Rattle.sctp_model.proofs.refinement.arriving.Carried.{Carried}
@@ -48,15 +39,7 @@ module _ (w : LinkRecord) (s p : ℕ) (valid : Valid w) (c : Carried w p) (new :
       let h : arrived_of w n ≡ fragment_count w n = grind (arith, nat_tests) in absurd (omega (arith, one-short)))
 
   past : (stream_of w s).named ≤ index_of w n
-  past = by (cases_lt (index_of w n) (stream_of w s).named)
-    where
-      by : (index_of w n < (stream_of w s).named) ⊎ ((stream_of w s).named ≤ index_of w n) → (stream_of w s).named ≤ index_of w n
-      by (inl l) = let lt = valid.named_skipped s n p on l here in let late = unseen.0 in absurd (grind (arith, nat_tests))
-      by (inr g) = g
+  past = grind (arith, nat_tests, here)
 
   pub new-past : next_of w s ≤ index_of w n
-  new-past = by (cases_lt (index_of w n) (next_of w s))
-    where
-      by : (index_of w n < next_of w s) ⊎ (next_of w s ≤ index_of w n) → next_of w s ≤ index_of w n
-      by (inl l) = absurd (not_both (sym unread ∙ next_reads w s n on past l))
-      by (inr g) = g
+  new-past = grind (arith, nat_tests, unread, next_reads, past)

@@ -1,19 +1,11 @@
 -- Streams open and change their mode: the receiver's queues.
-use Rattle.std.proofs.Common.{◌≡◌, ℕ, ◌<◌, Bool, true, false, [], length, map, Option, Some, None, refl, ap, sym, ◌∙◌, arith}
-use Rattle.std.specs.Prelude.{is_some, unwrap_or}
-use Rattle.sctp_util.proofs.Passing.{kept-none}
-use Rattle.sctp_util.proofs.More.{fails, not_both}
-use Rattle.sctp_data.specs.declared.chunk.chunk_payload_data.ReliabilityType.{ReliabilityType}
-use Rattle.sctp_reassembly.specs.reassembly_queue.ReassemblyQueue.{Reassembly}
-use Rattle.sctp_model.specs.LinkRecord.{Setup, StreamRecord, LinkRecord}
-use Rattle.sctp_model.specs.Messages.{message_at, message_of, stream_at, stream_of, is_open, no_stream, ordered_on, is_ordered_on}
-use Rattle.sctp_model.specs.Receiver.{is_held, next_of}
+use Rattle.sctp_model.proofs.Names.{◌≡◌, ℕ, ◌<◌, Bool, true, false, [], length, map, ap, sym, ◌∙◌, arith, kept-none, fails, not_both, ReliabilityType}
+use Rattle.sctp_model.proofs.Names.{Reassembly, Setup, LinkRecord, message_at, stream_of, is_open, no_stream, ordered_on, is_ordered_on, is_held, next_of}
+use Rattle.sctp_model.proofs.Names.{chunk_at, set_of, complete_set_of, is_unassembled, ordered_sets, unassembled_chunks, nat_tests}
 use Rattle.sctp_model.specs.Changes.{after_open, after_mode}
-use Rattle.sctp_model.specs.Contents.{chunk_at}
-use Rattle.sctp_model.specs.Queues.{set_of, complete_set_of, is_unassembled}
 use Rattle.sctp_model.proofs.sender.SenderRun.{Consistent}
 use Rattle.sctp_model.proofs.receiver.View
-use Rattle.sctp_model.specs.refinement.Holds.{ordered_sets, unassembled_chunks, reassembly_of}
+use Rattle.sctp_model.specs.refinement.Holds.{reassembly_of}
 use Rattle.sctp_model.proofs.refinement.reading.Keeps
 use Rattle.sctp_model.proofs.refinement.reading.Line
 use Rattle.sctp_model.proofs.refinement.arriving.Unassembled
@@ -37,11 +29,7 @@ module _ (setup : Setup) (w : LinkRecord) (s : ℕ) (g : Consistent setup w) (cl
   no-message n lt e = not_both (sym closed ∙ ap (is_open w) (sym e) ∙ g.known n lt)
 
   no-record : stream_of w s ≡ no_stream s
-  no-record = by (stream_at w s) refl closed
-    where
-      by : (o : Option StreamRecord) → stream_at w s ≡ o → is_some o ≡ false → unwrap_or (stream_at w s) (no_stream s) ≡ no_stream s
-      by None e h = ap (λ o. unwrap_or o (no_stream s)) e
-      by (Some r) e h = cc
+  no-record = grind (arith, nat_tests)
 
   none-on : (k : ℕ) → k < length w.messages → is_ordered_on w s k ≡ false
   none-on k lt = fails (is_ordered_on w s k) (λ e. no-message k lt (Line.on-stream w s k e))
@@ -60,9 +48,7 @@ module _ (setup : Setup) (w : LinkRecord) (s : ℕ) (g : Consistent setup w) (cl
   unassembled = ap (map (chunk_at w)) (kept-none (is_unassembled w s) 0 (length w.slots) (λ p a b. fails (is_unassembled w s p) (λ h. none p (omega arith) h)))
     where
       none : (p : ℕ) → p < length w.slots → is_unassembled w s p ≡ true → ⊥
-      none p lt h =
-          let x = Unassembled.unassembled w s p h in
-          no-message (message_of w p) (g.sender.made p lt) (unordered-of w s (message_of w p) x.on).0
+      none p lt h = grind (arith, nat_tests, Unassembled.unassembled, no-message, unordered-of)
 
   -- as a new queue has it
   pub closed-empty : reassembly_of w s ≡ (let q : Reassembly = record { next_ssn = 0; ordered = []; unordered = []; unassembled = [] } in q)

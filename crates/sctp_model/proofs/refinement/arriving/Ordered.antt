@@ -1,31 +1,17 @@
 -- An ordered chunk arrives: the queue's push and the record's step agree.
-use Rattle.std.proofs.Common.{◌≡◌, ℕ, ◌+◌, ◌<◌, ◌≤◌, ◌%◌, ◌^◌, Bool, true, false, List, [], ◌∷◌, length, map, refl, ap, sym, ◌∙◌, inl, inr, arith}
-use Rattle.std.specs.Prelude.{◌⊎◌, if◌then◌else◌, ◌==◌, ◌&&◌, ◌||◌, not, nat_lt, nat_le}
-use Rattle.std.specs.List.{list_any}
-use Rattle.std.proofs.lemmas.Bool.{cases_lt, lt-ltb, le-ltb}
-use Rattle.std.proofs.lemmas.Bool.Decides.{nat_tests}
-use Rattle.std.proofs.lemmas.Grind.{common_steps}
-use Rattle.sctp_util.specs.Kept.{numbers_where}
-use Rattle.sctp_util.specs.Lists.{insert_before}
-use Rattle.sctp_data.specs.ChunkSet.{ChunkSet}
-use Rattle.sctp_reassembly.specs.reassembly_queue.Fragments.{set_before, has_ssn, with_chunk, new_set, sets_with}
-use Rattle.sctp_serial.specs.DataChunks.{chunk_before, has_tsn}
-use Rattle.sctp_reassembly.specs.reassembly_queue.ReassemblyQueue.{held_after_ordered_push}
-use Rattle.sctp_model.specs.Contents.{chunk_at}
-use Rattle.sctp_model.specs.refinement.Holds.{has_come, chunks_come, ordered_sets, reassembly_of}
-use Rattle.sctp_model.specs.Queues.{set_of}
+use Rattle.sctp_model.proofs.Names.{◌≡◌, ℕ, ◌+◌, ◌<◌, ◌≤◌, true, false, List, [], ◌∷◌, length, map, refl, ap, sym, ◌∙◌, inl, inr, arith, ◌⊎◌, ◌==◌, ◌&&◌, ◌||◌}
+use Rattle.sctp_model.proofs.Names.{nat_lt, nat_le, list_any, cases_lt, lt-ltb, le-ltb, nat_tests, common_steps, numbers_where, insert_before, has_ssn}
+use Rattle.sctp_model.proofs.Names.{chunk_before, has_tsn, held_after_ordered_push, chunk_at, has_come, chunks_come, ordered_sets, set_of, kept-same}
+use Rattle.sctp_model.proofs.Names.{map-kept-same, map-kept-inserted, length-kept-le, tsn_differ, tsn_same, LinkRecord, message_at, slot_at, message_of}
+use Rattle.sctp_model.proofs.Names.{stream_of, is_ordered_on, index_of, ssn_of, fragment_count, has_fragment, is_unordered_on, arrived_at, arrived_of}
+use Rattle.sctp_model.proofs.Names.{has_arrived, cumulative, is_complete_message, is_unread, is_held, next_of, receive_slot, IsLaid, IsSpan, Valid, fails}
+use Rattle.sctp_model.proofs.Names.{not_both, both, same16-index, and-none, ChunkSet}
+use Rattle.sctp_reassembly.specs.reassembly_queue.Fragments.{set_before, with_chunk, new_set, sets_with}
+use Rattle.sctp_model.specs.refinement.Holds.{reassembly_of}
 use Rattle.sctp_util.specs.Serial.{comes_before16}
-use Rattle.sctp_util.proofs.Passing.{kept-same, map-kept-same, map-kept-inserted, length-kept-le}
-use Rattle.sctp_util.proofs.Round.{tsn_differ, tsn_same}
-use Rattle.sctp_model.specs.LinkRecord.{LinkRecord}
-use Rattle.sctp_model.specs.Messages.{message_at, slot_at, message_of, stream_of, is_ordered_on, index_of, ssn_of, fragment_count, has_fragment}
-use Rattle.sctp_model.specs.Messages.{is_unordered_on}
-use Rattle.sctp_model.specs.Receiver.{arrived_at, arrived_of, has_arrived, cumulative, is_complete_message, is_unread, is_held, next_of, is_new}
-use Rattle.sctp_model.specs.Changes.{receive_slot, becomes_complete}
 use Rattle.sctp_util.specs.Lists.{change_first}
-use Rattle.sctp_model.specs.Valid.{IsLaid, IsSpan, Valid}
-use Rattle.sctp_util.proofs.More.{fails, not_both, both, any-kept_one, change_first-kept}
-use Rattle.sctp_util.proofs.Wraps.{comes_before16-index, same16-index}
+use Rattle.sctp_util.proofs.More.{any-kept_one, change_first-kept}
+use Rattle.sctp_util.proofs.Wraps.{comes_before16-index}
 use Rattle.sctp_model.proofs.refinement.reading.Line.{index-lt, index-same, ssn_on, on-made, on-ordered, on-stream, next_reads}
 use Rattle.sctp_model.proofs.refinement.arriving.Stays
 use Rattle.sctp_model.proofs.refinement.arriving.Arrival
@@ -72,37 +58,18 @@ module _ (w : LinkRecord) (s p : ℕ) (valid : Valid w) (a : Arrives w s p) wher
   unread = fails (message_at w n).read (λ e. not_both (sym not_complete ∙ valid.read_complete s n a.on e))
 
   past : (stream_of w s).named ≤ index_of w n
-  past = step (cases_lt (index_of w n) (stream_of w s).named)
-    where
-      step : (index_of w n < (stream_of w s).named) ⊎ ((stream_of w s).named ≤ index_of w n) → (stream_of w s).named ≤ index_of w n
-      step (inl l) = absurd (omega (arith, valid.named_skipped s n p a.on l here, a.fresh))
-      step (inr g) = g
+  past = grind (arith, nat_tests, here)
 
   not_before : next_of w s ≤ index_of w n
-  not_before = step (cases_lt (index_of w n) (next_of w s))
-    where
-      step : (index_of w n < next_of w s) ⊎ (next_of w s ≤ index_of w n) → next_of w s ≤ index_of w n
-      step (inl l) = absurd (not_both (sym unread ∙ next_reads w s n a.on past l))
-      step (inr g) = g
+  not_before = grind (arith, nat_tests, unread, next_reads, past)
 
   -- it is held exactly where some of it had arrived
   held-is : (v : LinkRecord) → is_ordered_on v s n ≡ true → (message_at v n).read ≡ false → (stream_of v s).named ≤ index_of v n
       → is_held v s n ≡ nat_lt 0 (arrived_of v n)
-  held-is v on unr le = holds (is_ordered_on v s n) (message_at v n).read (nat_lt 0 (arrived_of v n)) (is_complete_message v n)
-      (nat_le (stream_of v s).named (index_of v n)) on unr (grind (arith, nat_tests))
-    where
-      holds : (a b h c d : Bool) → a ≡ true → b ≡ false → d ≡ true → (a && (not b && (h && (c || d)))) ≡ h
-      holds true false true true true x y z = refl
-      holds true false true false true x y z = refl
-      holds true false false c true x y z = refl
-      holds false b h c d x y z = cc
-      holds true true h c d x y z = cc
-      holds true false h c false x y z = cc
+  held-is v on unr le = grind (arith, nat_tests)
 
   held-after : is_held (with_arrived w p) s n ≡ true
-  held-after =
-      held-is (with_arrived w p) a.on unread past
-      ∙ (let h = Arrival.arrived_of-here w p a.made a.new a.fragment in grind (arith, nat_tests))
+  held-after = grind (arith, nat_tests, held-is, unread, past, Arrival.arrived_of-here)
 
   -- ## Indexes near one another
 
@@ -117,11 +84,7 @@ module _ (w : LinkRecord) (s p : ℕ) (valid : Valid w) (a : Arrives w s p) wher
       (is_unread w k && (nat_lt 0 (arrived_of w k) && (is_complete_message w k || nat_le (stream_of w s).named (index_of w k)))) e).0
 
   ssn-other : (k : ℕ) → k < length w.messages → is_held w s k ≡ true → (k ≡ n → ⊥) → (ssn_of w k == ssn_of w n) ≡ false
-  ssn-other k lt e ne =
-      let on = held-on k e in
-      let h = sp.held k lt e in
-      rw (ssn_on w s k on, ssn_on w s n a.on, same16-index (index_of w k) (index_of w n) (omega (arith, h, mine, sp.short)) (omega (arith, h, mine, sp.short)))
-      (fails (index_of w k == index_of w n) (λ z. let x : index_of w k ≡ index_of w n = grind (arith, nat_tests) in ne (index-same w s k n on a.on x)))
+  ssn-other k lt e ne = grind (arith, nat_tests, held-on, ssn_on, same16-index, mine, index-same)
 
   ssn-before : (k : ℕ) → k < length w.messages → is_held w s k ≡ true → (k ≡ n → ⊥) → comes_before16 (ssn_of w n) (ssn_of w k) ≡ nat_lt n k
   ssn-before k lt e ne =
@@ -153,19 +116,10 @@ module _ (w : LinkRecord) (s p : ℕ) (valid : Valid w) (a : Arrives w s p) wher
       (λ k x y ne e. differ k (omega arith) ne (cases_lt k p)) (λ e. tsn_same w.setup.first p) ∙ out
     where
       differ : (k : ℕ) → k < length w.slots → (k ≡ p → ⊥) → (k < p) ⊎ (p ≤ k) → ((chunk_at w k).tsn == (chunk_at w p).tsn) ≡ false
-      differ k lt ne (inl l) = let e = tsn_differ w.setup.first k p l (omega (arith, a.made, valid.few)) in turned (chunk_at w k).tsn (chunk_at w p).tsn e
-        where
-          turned : (x y : ℕ) → (y == x) ≡ false → (x == y) ≡ false
-          turned x y e =
-              fails (x == y) (λ h. let z : x ≡ y = grind (arith, nat_tests) in let t : (y == x) ≡ true = grind (arith, nat_tests) in not_both (sym e ∙ t))
-      differ k lt ne (inr g) = tsn_differ w.setup.first p k (omega arith) (omega (arith, valid.few))
+      differ k lt ne b = grind (arith, nat_tests, tsn_differ)
 
   set-grown : set_of (with_arrived w p) n ≡ with_chunk (chunk_at w p) (set_of w n)
-  set-grown =
-      let chunks : chunks_come (with_arrived w p) n
-      ≡ (if list_any (has_tsn (chunk_at w p).tsn) (chunks_come w n) then chunks_come w n else insert_before chunk_before (chunk_at w p) (chunks_come w n)) =
-      rw unknown (Arrival.chunks_come-here w p valid.few a.made a.new a.fragment) in
-      ap (λ c. let x : ChunkSet = record { ssn = (set_of w n).ssn; ppi = (set_of w n).ppi; chunks = c } in x) chunks
+  set-grown = grind (arith, nat_tests, unknown, Arrival.chunks_come-here)
 
   set-new : arrived_of w n ≡ 0 → set_of (with_arrived w p) n ≡ new_set (chunk_at w p)
   set-new none =
@@ -211,31 +165,16 @@ module _ (w : LinkRecord) (s p : ℕ) (valid : Valid w) (a : Arrives w s p) wher
       ∙ ap (λ x. insert_before set_before x (ordered_sets w s)) first
 
   pub sets-arrived : ordered_sets (with_arrived w p) s ≡ sets_with (chunk_at w p) (ordered_sets w s)
-  sets-arrived = rw known (step (is_held w s n) refl)
-    where
-      step : (b : Bool) → is_held w s n ≡ b
-          → ordered_sets (with_arrived w p) s ≡ (if b then change_first (has_ssn (ssn_of w n)) (with_chunk (chunk_at w p)) (ordered_sets w s)
-          else insert_before set_before (new_set (chunk_at w p)) (ordered_sets w s))
-      step true h = joined h
-      step false h = put h
+  sets-arrived = grind (arith, nat_tests, known, joined, put)
 
   -- ## The complete queue
 
   ordered-not : is_unordered_on w s n ≡ false
-  ordered-not = rw (on-ordered w s n a.on) (ands ((message_at w n).stream == s))
-    where
-      ands : (b : Bool) → (b && false) ≡ false
-      ands true = refl
-      ands false = refl
+  ordered-not = rw (on-ordered w s n a.on) (and-none ((message_at w n).stream == s))
 
   pub ordered-arrived : reassembly_of (with_arrived w p) s ≡ held_after_ordered_push (chunk_at w p) (reassembly_of w s)
-  ordered-arrived =
-      let late : comes_before16 (ssn_of w n) (next_of w s % 2 ^ 16) ≡ false =
-      rw (
-        ssn_on w s n a.on,
-        comes_before16-index (index_of w n) (next_of w s) (omega (arith, mine, sp.next, sp.short)) (omega (arith, mine, sp.next, sp.short)),
-      ) (le-ltb (index_of w n) (next_of w s) not_before) in
-      rw (late, Stays.complete_sets-arrived w p s, Stays.unassembled-elsewhere w p s ordered-not, sets-arrived) refl
+  ordered-arrived = grind
+      (arith, nat_tests, ssn_on, comes_before16-index, mine, not_before, Stays.complete_sets-arrived, Stays.unassembled-elsewhere, ordered-not, sets-arrived)
 
   other-stream : (t : ℕ) → (t ≡ s → ⊥) → ((message_at w n).stream == t) ≡ false
   other-stream t ne =
@@ -243,13 +182,8 @@ module _ (w : LinkRecord) (s p : ℕ) (valid : Valid w) (a : Arrives w s p) wher
 
   -- the queues of the other streams are as they were
   pub ordered-elsewhere : (t : ℕ) → (t ≡ s → ⊥) → reassembly_of (with_arrived w p) t ≡ reassembly_of w t
-  ordered-elsewhere t ne =
-      let off = other-stream t ne in
-      rw (Stays.complete_sets-arrived w p t, Stays.unassembled-elsewhere w p t (rw off refl), Stays.ordered_sets-elsewhere w p t (rw off refl)) refl
+  ordered-elsewhere t ne = grind (arith, nat_tests, other-stream, Stays.complete_sets-arrived, Stays.unassembled-elsewhere, Stays.ordered_sets-elsewhere)
 
   -- and this is the record's step
   pub ordered-step : receive_slot w p ≡ with_arrived w p
-  ordered-step =
-      let new : is_new w p ≡ true = rw a.new (grind (arith, nat_tests, a.fresh)) in
-      let kind : becomes_complete (with_arrived w p) n ≡ false = rw (on-ordered w s n a.on) refl in
-      rw (new, kind) refl
+  ordered-step = grind (arith, nat_tests, on-ordered)

@@ -1,26 +1,10 @@
 -- What an unordered push leaves is determined.
-use Rattle.std.proofs.Common.{◌≡◌, ℕ, ◌+◌, ◌<◌, ◌≤◌, Bool, true, false, List, [], ◌∷◌, ◌++◌, take, drop, refl, ap, sym, ◌∙◌, inl, inr, arith}
-use Rattle.std.specs.Prelude.{◌⊎◌}
-use Rattle.std.proofs.lemmas.Bool.{cases_lt}
-use Rattle.sctp_util.proofs.More.{not_both}
-use Rattle.sctp_data.specs.declared.chunk.chunk_payload_data.ChunkPayloadData.{ChunkPayloadData}
-use Rattle.sctp_data.specs.declared.chunk.chunk_payload_data.PayloadProtocolIdentifier.TheVariants.{Unknown}
-use Rattle.sctp_data.specs.ChunkSet.{fresh}
-use Rattle.sctp_serial.specs.Runs.{IsRun, IsEarliestRun}
-use Rattle.sctp_reassembly.specs.reassembly_queue.ReassemblyQueue.{Reassembly, set_of_run, BecomesComplete}
+use Rattle.sctp_model.proofs.Names.{◌≡◌, ℕ, ◌+◌, ◌<◌, ◌≤◌, Bool, true, false, List, [], ◌∷◌, ◌++◌, take, drop, refl, ap, sym, ◌∙◌, inl, inr, arith, ◌⊎◌}
+use Rattle.sctp_model.proofs.Names.{cases_lt, not_both, ChunkPayloadData, IsEarliestRun, Reassembly, set_of_run, BecomesComplete, nat_tests}
+use Rattle.sctp_serial.specs.Runs.{IsRun}
 
 some_chunk : ChunkPayloadData
-some_chunk = fresh (record {
-  unordered = false;
-  beginning_fragment = false;
-  ending_fragment = false;
-  immediate_sack = false;
-  tsn = 0;
-  stream_identifier = 0;
-  stream_sequence_number = 0;
-  payload_type = Unknown;
-  user_data = [];
-})
+some_chunk = grind (arith, nat_tests)
 
 -- two runs that end at the same place begin at the same place
 later-first : (xs : List ChunkPayloadData) (f n g m : ℕ) → IsRun xs f n → IsRun xs g m → f + n ≡ g + m → f < g → ⊥

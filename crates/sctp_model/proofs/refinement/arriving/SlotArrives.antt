@@ -1,24 +1,11 @@
 -- A fragment arrives: what the reassembly queues and the filter hold then, in the words of the queues.
-use Rattle.std.proofs.Common.{◌≡◌, ℕ, ◌+◌, ◌<◌, ◌≤◌, Bool, true, false, List, [], ◌∷◌, ◌++◌, length, map, take, drop, Some, refl, ap, sym, ◌∙◌, arith}
-use Rattle.std.specs.Prelude.{◌==◌, ◌&&◌, not, nat_le}
-use Rattle.std.proofs.lemmas.Bool.Decides.{nat_tests}
-use Rattle.std.proofs.lemmas.List.{map-append}
-use Rattle.sctp_util.specs.Lists.{insert_before, advance_over}
-use Rattle.sctp_util.specs.Serial.{comes_before}
-use Rattle.sctp_util.proofs.Passing.{front-kept, FrontOf}
-use Rattle.sctp_util.proofs.More.{fails, not_both, and}
-use Rattle.sctp_data.specs.declared.chunk.chunk_payload_data.ChunkPayloadData.{ChunkPayloadData}
-use Rattle.sctp_data.specs.ChunkSet.{ChunkSet}
-use Rattle.sctp_serial.specs.DataChunks.{chunk_before}
-use Rattle.sctp_reassembly.specs.reassembly_queue.ReassemblyQueue.{held_after_ordered_push, set_of_run, BecomesComplete}
-use Rattle.sctp_model.specs.LinkRecord.{LinkRecord, StreamRecord}
-use Rattle.sctp_model.specs.Messages.{message_at, slot_at, message_of, stream_at, is_ordered_on, is_unordered_on, index_of, has_fragment, slots_of, tsn_of}
-use Rattle.sctp_model.specs.Receiver.{arrived_at, cumulative, is_new}
-use Rattle.sctp_model.specs.Changes.{stream_changed, with_complete, becomes_complete, receive_slot}
-use Rattle.sctp_model.specs.Contents.{chunk_at}
-use Rattle.sctp_model.specs.Queues.{complete_set_of, filter_of}
-use Rattle.sctp_model.specs.refinement.Holds.{unassembled_chunks, reassembly_of, seen_of}
-use Rattle.sctp_model.specs.Valid.{IsSpan, Valid, ValidUnassembled}
+use Rattle.sctp_model.proofs.Names.{◌≡◌, ℕ, ◌+◌, ◌<◌, ◌≤◌, Bool, true, false, List, [], ◌∷◌, ◌++◌, length, map, take, drop, Some, refl, ap, sym, ◌∙◌, arith}
+use Rattle.sctp_model.proofs.Names.{◌==◌, ◌&&◌, not, nat_tests, map-append, insert_before, advance_over, comes_before, front-kept, fails, not_both, and}
+use Rattle.sctp_model.proofs.Names.{ChunkPayloadData, chunk_before, held_after_ordered_push, set_of_run, BecomesComplete, LinkRecord, StreamRecord, message_at}
+use Rattle.sctp_model.proofs.Names.{slot_at, message_of, stream_at, is_ordered_on, is_unordered_on, index_of, has_fragment, slots_of, tsn_of, arrived_at}
+use Rattle.sctp_model.proofs.Names.{cumulative, is_new, stream_changed, with_complete, becomes_complete, receive_slot, chunk_at, complete_set_of, filter_of}
+use Rattle.sctp_model.proofs.Names.{unassembled_chunks, seen_of, IsSpan, Valid, ValidUnassembled}
+use Rattle.sctp_model.specs.refinement.Holds.{reassembly_of}
 use Rattle.sctp_model.proofs.refinement.arriving.Arrival
 use Rattle.sctp_model.proofs.refinement.arriving.Arrival.{with_arrived}
 use Rattle.sctp_model.proofs.refinement.arriving.Filter
@@ -57,19 +44,10 @@ pub record Enters (w : LinkRecord) (s p : ℕ) : Type 0 where
 
 module _ (w : LinkRecord) (p : ℕ) (new : is_new w p ≡ true) where
   pub fresh : cumulative w ≤ p
-  fresh = step (nat_le (cumulative w) p) (arrived_at w p) refl new
-    where
-      step : (a b : Bool) → nat_le (cumulative w) p ≡ a → (a && not b) ≡ true → cumulative w ≤ p
-      step true b e h = grind (arith, nat_tests)
-      step false b e h = cc
+  fresh = grind (arith, nat_tests)
 
   pub not-arrived : arrived_at w p ≡ false
-  not-arrived = step (nat_le (cumulative w) p) (arrived_at w p) new
-    where
-      step : (a b : Bool) → (a && not b) ≡ true → b ≡ false
-      step true true h = cc
-      step true false h = refl
-      step false b h = cc
+  not-arrived = grind (arith, nat_tests)
 
 module _ (w : LinkRecord) (s p : ℕ) (a : Enters w s p) where
   abbrev n : ℕ
@@ -99,12 +77,7 @@ module _ (w : LinkRecord) (s p : ℕ) (a : Enters w s p) where
 -- ## A complete unordered message
 
 complete-run : (w : LinkRecord) (n p : ℕ) → has_fragment w n p ≡ true → p < length w.slots → set_of_run (map (chunk_at w) (slots_of w n)) ≡ complete_set_of w n
-complete-run w n p has lt = step (slots_of w n) refl (front-kept (has_fragment w n) 0 (length w.slots))
-  where
-    step : (l : List ℕ) → slots_of w n ≡ l → FrontOf (has_fragment w n) 0 (length w.slots) l
-        → set_of_run (map (chunk_at w) l) ≡ (let x : ChunkSet = record { ssn = 0; ppi = (message_at w n).ppi; chunks = map (chunk_at w) l } in x)
-    step [] e f = absurd (not_both (sym (f p (omega arith) (omega arith)) ∙ has))
-    step (k ∷ rest) e f = cc (Arrival.of_message w n k f.passes)
+complete-run w n p has lt = grind (arith, nat_tests, front-kept, Arrival.of_message)
 
 module _ (w : LinkRecord) (s p : ℕ) (r : StreamRecord) (valid : Valid w) (more : ValidUnassembled w) (a : Enters w s p)
     (kind : (message_at w (message_of w p)).ordered ≡ false) (open' : stream_at w s ≡ Some r) where
@@ -156,29 +129,17 @@ module _ (w : LinkRecord) (s p : ℕ) (r : StreamRecord) (valid : Valid w) (more
 
 pub slot-elsewhere : (w : LinkRecord) (s p t : ℕ) → Valid w → Enters w s p → IsSpan w s (index_of w (message_of w p) ∷ []) → (t ≡ s → ⊥)
     → reassembly_of (receive_slot w p) t ≡ reassembly_of w t
-slot-elsewhere w s p t valid a sp ne = by_kind (message_at w (message_of w p)).ordered refl
-  where
-    by_kind : (b : Bool) → (message_at w (message_of w p)).ordered ≡ b → reassembly_of (receive_slot w p) t ≡ reassembly_of w t
-    by_kind true e = cc (Ordered.ordered-step w s p valid (arrives w s p a e sp), Ordered.ordered-elsewhere w s p valid (arrives w s p a e sp) t ne)
-    by_kind false e = Keeps.unordered-elsewhere w s p t (arrives-unassembled w s p a e) ne
+slot-elsewhere w s p t valid a sp ne =
+    grind (arith, nat_tests, Ordered.ordered-step, arrives, Ordered.ordered-elsewhere, Keeps.unordered-elsewhere, arrives-unassembled)
 
 -- what an arrival leaves of the record but for the slot and the stream's complete messages
 noted : (w : LinkRecord) (p : ℕ) → is_new w p ≡ true
     → (seen_of (receive_slot w p) ≡ seen_of (with_arrived w p)) × ((receive_slot w p).duplicates ≡ w.duplicates)
-noted w p e = step (becomes_complete (with_arrived w p) (message_of w p)) refl
-  where
-    step : (b : Bool) → becomes_complete (with_arrived w p) (message_of w p) ≡ b
-        → (seen_of (receive_slot w p) ≡ seen_of (with_arrived w p)) × ((receive_slot w p).duplicates ≡ w.duplicates)
-    step true h = rw (e, h) (refl, refl)
-    step false h = rw (e, h) (refl, refl)
+noted w p e = grind (arith, nat_tests)
 
 pub filter-slot : (w : LinkRecord) (p : ℕ) → Valid w → p < length w.slots → is_new w p ≡ true
     → seen_of (receive_slot w p) ≡ advance_over (seen_of w).cum (insert_before comes_before (tsn_of w p) (seen_of w).held)
 filter-slot w p valid made e = cc ((noted w p e).0, Filter.filter-arrived w p valid.skipped_made valid.few made (fresh w p e) (not-arrived w p e))
 
 pub duplicates-slot : (w : LinkRecord) (p : ℕ) → is_new w p ≡ true → (filter_of (receive_slot w p)).duplicates ≡ (filter_of w).duplicates
-duplicates-slot w p e = step (becomes_complete (with_arrived w p) (message_of w p)) refl
-  where
-    step : (b : Bool) → becomes_complete (with_arrived w p) (message_of w p) ≡ b → (filter_of (receive_slot w p)).duplicates ≡ (filter_of w).duplicates
-    step true h = rw (e, h) refl
-    step false h = rw (e, h) refl
+duplicates-slot w p e = grind (arith, nat_tests)

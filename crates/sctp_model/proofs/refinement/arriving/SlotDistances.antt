@@ -1,9 +1,5 @@
 -- How far the TSN of a slot lies from the cumulative one, and back.
-use Rattle.std.proofs.Common.{◌≡◌, ℕ, ◌+◌, ◌-◌, ◌<◌, ◌≤◌, ◌%◌, ◌^◌, Bool, true, false, refl, arith}
-use Rattle.std.specs.Prelude.{◌&&◌, not, nat_le}
-use Rattle.std.proofs.lemmas.Bool.Decides.{nat_tests}
-use Rattle.sctp_model.specs.LinkRecord.{LinkRecord}
-use Rattle.sctp_model.specs.Receiver.{arrived_at, cumulative, is_new}
+use Rattle.sctp_model.proofs.Names.{◌≡◌, ℕ, ◌+◌, ◌-◌, ◌<◌, ◌≤◌, ◌%◌, ◌^◌, true, arith, nat_tests, LinkRecord, cumulative, is_new}
 use Rattle.sctp_model.proofs.refinement.arriving.Filter.{tsn_before}
 use Rattle.sctp_util.specs.Serial.{distance}
 
@@ -25,8 +21,4 @@ unfolding distance
 back-past first c k le lt = omega arith
 
 pub past-front : (w : LinkRecord) (p : ℕ) → is_new w p ≡ true → cumulative w ≤ p
-past-front w p e = step (nat_le (cumulative w) p) (arrived_at w p) refl e
-  where
-    step : (a b : Bool) → nat_le (cumulative w) p ≡ a → (a && not b) ≡ true → cumulative w ≤ p
-    step true b h e = grind (arith, nat_tests)
-    step false b h e = cc
+past-front w p e = grind (arith, nat_tests)

@@ -1,15 +1,8 @@
 -- The span test of a datagram of slots, slot by slot.
-use Rattle.std.proofs.Common.{◌≡◌, ℕ, ◌<◌, ◌≤◌, Bool, true, false, List, [], ◌∷◌, length, map, Some, refl, ap, sym, ◌∙◌, arith}
-use Rattle.std.specs.Prelude.{◌==◌, ◌&&◌, is_some, if◌then◌else◌, fold, slice_get, slice_index_or}
-use Rattle.std.specs.List.{list_any, list_all, filter}
-use Rattle.std.proofs.Math.Path.{subst}
-use Rattle.sctp_util.proofs.More.{both, and, same_test}
-use Rattle.sctp_model.specs.LinkRecord.{LinkRecord, StreamRecord, Data}
-use Rattle.sctp_model.specs.Messages.{message_at, message_of, index_of}
-use Rattle.sctp_model.specs.Receiver.{is_new, next_of, fits, spans_fit}
-use Rattle.sctp_model.specs.Changes.{receive_slot}
-use Rattle.sctp_model.specs.Steps.{arrival_fits}
-use Rattle.sctp_model.specs.Valid.{IsSpan, Valid}
+use Rattle.sctp_model.proofs.Names.{◌≡◌, ℕ, ◌<◌, ◌≤◌, Bool, true, false, List, [], ◌∷◌, length, map, Some, refl, ap, sym, ◌∙◌, arith, ◌==◌, ◌&&◌, is_some}
+use Rattle.sctp_model.proofs.Names.{if◌then◌else◌, fold, slice_get, slice_index_or, list_any, list_all, filter, subst, both, and, same_test, LinkRecord}
+use Rattle.sctp_model.proofs.Names.{StreamRecord, Data, message_at, message_of, index_of, is_new, next_of, fits, spans_fit, receive_slot, arrival_fits, IsSpan}
+use Rattle.sctp_model.proofs.Names.{Valid}
 use Rattle.sctp_model.proofs.refinement.arriving.Carried.{Carried}
 use Rattle.sctp_model.proofs.refinement.arriving.SpanEnds.{fits-span}
 use Rattle.sctp_model.specs.refinement.Arriving.{LiesSomewhere, slot_fits}

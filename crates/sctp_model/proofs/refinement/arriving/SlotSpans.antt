@@ -1,17 +1,8 @@
 -- What slots that arrive add to the spans of the streams, and the span test of all of them.
-use Rattle.std.proofs.Common.{◌≡◌, ℕ, suc, ◌+◌, ◌<◌, ◌≤◌, ◌^◌, Bool, true, false, List, [], ◌∷◌, ◌++◌, ◌-◌, length, map, refl}
-use Rattle.std.proofs.Common.{ap, sym, ◌∙◌, arith}
-use Rattle.std.specs.Prelude.{◌==◌, ◌&&◌, ◌||◌, not, if◌then◌else◌, fold, max, min, nat_lt, slice_index_or}
-use Rattle.std.specs.List.{list_any, list_all, filter}
-use Rattle.std.proofs.Math.Path.{subst}
-use Rattle.std.proofs.lemmas.Bool.Decides.{nat_tests}
-use Rattle.sctp_util.proofs.Cases.{same-yes, same-is}
-use Rattle.sctp_util.proofs.More.{both, and, not_both, same_test}
-use Rattle.sctp_model.specs.LinkRecord.{LinkRecord}
-use Rattle.sctp_model.specs.Messages.{message_at, message_of, index_of, is_ordered_on}
-use Rattle.sctp_model.specs.Receiver.{is_new, arrived_at, held_on, next_of, least, greatest, fits, spans_fit}
-use Rattle.sctp_model.specs.Changes.{receive_slot}
-use Rattle.sctp_model.specs.Valid.{IsSpan}
+use Rattle.sctp_model.proofs.Names.{◌≡◌, ℕ, suc, ◌+◌, ◌<◌, ◌≤◌, ◌^◌, Bool, true, false, List, [], ◌∷◌, ◌-◌, length, map, refl, ap, sym, ◌∙◌, arith, ◌==◌, ◌||◌}
+use Rattle.sctp_model.proofs.Names.{if◌then◌else◌, fold, max, min, nat_lt, slice_index_or, list_any, list_all, filter, subst, nat_tests, same-yes, same-is, and}
+use Rattle.sctp_model.proofs.Names.{LinkRecord, message_at, message_of, index_of, is_ordered_on, is_new, next_of, least, greatest, fits, spans_fit}
+use Rattle.sctp_model.proofs.Names.{receive_slot, IsSpan, lowest_held, highest_held, or-right}
 use Rattle.sctp_model.proofs.sender.Network
 use Rattle.sctp_model.proofs.receiver.Arrivals.{new-unseen}
 use Rattle.sctp_model.proofs.receiver.ValidRun.{span-fits}
@@ -22,9 +13,7 @@ use Rattle.sctp_model.proofs.refinement.arriving.SpanEnds.{only-slot, all-stream
 use Rattle.sctp_model.proofs.refinement.arriving.Stays.{by_place}
 use Rattle.sctp_model.proofs.refinement.reading.Taken.{held}
 use Rattle.sctp_model.proofs.receiver.Spans.{greatest-append, least-append}
-use Rattle.sctp_model.specs.refinement.Naming.{lowest_held, highest_held}
 use Rattle.sctp_model.proofs.refinement.skipping.SkipSpans.{least-start}
-use Rattle.sctp_util.proofs.Cases.{or-right}
 
 -- ## What slots add
 
@@ -39,33 +28,13 @@ among n ms = list_any (λ m. m == n) ms
 pub added-any : (w : LinkRecord) (t n : ℕ) (ms : List ℕ) → is_ordered_on w t n ≡ true → among n ms ≡ true
     → list_any (λ z. z == index_of w n) (map (index_of w) (filter (is_ordered_on w t) ms)) ≡ true
 added-any w t n [] on e = cc
-added-any w t n (m ∷ ms) on e = step (m == n) refl (is_ordered_on w t m) refl e (added-any w t n ms on)
-  where
-    step : (b : Bool) → (m == n) ≡ b → (o : Bool) → is_ordered_on w t m ≡ o → (b || among n ms) ≡ true
-        → (among n ms ≡ true → list_any (λ z. z == index_of w n) (map (index_of w) (filter (is_ordered_on w t) ms)) ≡ true)
-        → list_any (λ z. z == index_of w n) (map (index_of w) (if o then m ∷ filter (is_ordered_on w t) ms else filter (is_ordered_on w t) ms)) ≡ true
-    step true h true f e ih = cc (same-is m n h, same-yes (index_of w n))
-    step true h false f e ih = absurd (not_both (sym f ∙ ap (is_ordered_on w t) (same-is m n h) ∙ on))
-    step false h true f e ih = or-right (index_of w m == index_of w n) _ (ih e)
-    step false h false f e ih = ih e
+added-any w t n (m ∷ ms) on e = grind (arith, nat_tests, added-any w t n ms on)
 
 -- ## After a slot
 
 -- a slot that is new then was new before
 pub new-back : (w : LinkRecord) (q p : ℕ) → is_new (receive_slot w q) p ≡ true → is_new w p ≡ true
-new-back w q p = by_step (λ v. is_new v p ≡ true → is_new w p ≡ true) w q (λ h. h)
-    (λ e b k. by_place {C = is_new (noted w q b) p ≡ true → is_new w p ≡ true} p q (λ ne h. unseen b ne ∙ h) (λ z h. ap (is_new w) z ∙ e))
-  where
-    unseen : (b : Bool) → (p ≡ q → ⊥) → is_new w p ≡ is_new (noted w q b) p
-    unseen b ne = new-unseen w p ∙ ap (λ a. not (nat_lt p w.skipped || a)) (sym (arrived b)) ∙ skipped b ∙ sym (new-unseen (noted w q b) p)
-      where
-        arrived : (b : Bool) → arrived_at (noted w q b) p ≡ arrived_at w p
-        arrived true = Arrival.arrived-other w q p ne
-        arrived false = Arrival.arrived-other w q p ne
-
-        skipped : (b : Bool) → not (nat_lt p w.skipped || arrived_at (noted w q b) p) ≡ not (nat_lt p (noted w q b).skipped || arrived_at (noted w q b) p)
-        skipped true = refl
-        skipped false = refl
+new-back w q p = grind (arith, nat_tests, by_step, noted, new-unseen, Arrival.arrived-other)
 
 module _ (w : LinkRecord) (q : ℕ) (ms : List ℕ) where
   abbrev v : LinkRecord
@@ -130,15 +99,7 @@ fits-all w v ps (q ∷ qs) ms same back have e =
 pub new-among : (w : LinkRecord) (ps : List ℕ) (p : ℕ) → list_any (λ q. q == p) ps ≡ true → is_new w p ≡ true
     → list_any (λ m. m == message_of w p) (map (message_of w) (filter (is_new w) ps)) ≡ true
 new-among w [] p h new = cc
-new-among w (q ∷ ps) p h new = step (q == p) refl (is_new w q) refl h (λ g. new-among w ps p g new)
-  where
-    step : (b : Bool) → (q == p) ≡ b → (o : Bool) → is_new w q ≡ o → (b || list_any (λ q. q == p) ps) ≡ true
-        → (list_any (λ q. q == p) ps ≡ true → list_any (λ m. m == message_of w p) (map (message_of w) (filter (is_new w) ps)) ≡ true)
-        → list_any (λ m. m == message_of w p) (map (message_of w) (if o then q ∷ filter (is_new w) ps else filter (is_new w) ps)) ≡ true
-    step true e true f g ih = cc (same-is q p e, same-yes (message_of w p))
-    step true e false f g ih = absurd (not_both (sym f ∙ ap (is_new w) (same-is q p e) ∙ new))
-    step false e true f g ih = or-right (message_of w q == message_of w p) _ (ih g)
-    step false e false f g ih = ih g
+new-among w (q ∷ ps) p h new = grind (arith, nat_tests, new-among w ps p)
 
 -- ## The test by slots
 
@@ -157,12 +118,7 @@ all-each f (q ∷ ps) h =
 
 pub each-all : (f : ℕ → Bool) (ps : List ℕ) → list_all f ps ≡ true → (p : ℕ) → list_any (λ q. q == p) ps ≡ true → f p ≡ true
 each-all f [] h p e = cc
-each-all f (q ∷ ps) h p e = step (q == p) refl e (both (f q) (list_all f ps) h) (λ g i. each-all f ps g p i)
-  where
-    step : (b : Bool) → (q == p) ≡ b → (b || list_any (λ q. q == p) ps) ≡ true → (f q ≡ true) × (list_all f ps ≡ true)
-        → (list_all f ps ≡ true → list_any (λ q. q == p) ps ≡ true → f p ≡ true) → f p ≡ true
-    step true s g h ih = ap f (sym (same-is q p s)) ∙ h.0
-    step false s g h ih = ih h.1 g
+each-all f (q ∷ ps) h p e = grind (arith, nat_tests, each-all f ps)
 
 -- a slot that adds an index on stream t
 pub record AddsAt (w : LinkRecord) (t y : ℕ) (ps : List ℕ) : Type 0 where
@@ -174,36 +130,7 @@ pub record AddsAt (w : LinkRecord) (t y : ℕ) (ps : List ℕ) : Type 0 where
 
 pub added-from : (w : LinkRecord) (t y : ℕ) (ps : List ℕ) → list_any (λ z. z == y) (added_on w t ps) ≡ true → AddsAt w t y ps
 added-from w t y [] h = cc
-added-from w t y (q ∷ ps) h = step (is_new w q) refl (is_ordered_on w t (message_of w q)) refl h (added-from w t y ps)
-  where
-    more : AddsAt w t y ps → AddsAt w t y (q ∷ ps)
-    more a = record { place = a.place; there = or-right (q == a.place) _ a.there; new = a.new; on = a.on; index = a.index }
-
-    one : is_new w q ≡ true → is_ordered_on w t (message_of w q) ≡ true → (i : Bool) → (index_of w (message_of w q) == y) ≡ i
-        → (i || list_any (λ z. z == y) (added_on w t ps)) ≡ true → (list_any (λ z. z == y) (added_on w t ps) ≡ true → AddsAt w t y ps)
-        → AddsAt w t y (q ∷ ps)
-    one e f true i g ih = record {
-      place = q;
-      there = ap (λ b. b || list_any (λ p. p == q) ps) (same-yes q);
-      new = e;
-      on = f;
-      index = same-is (index_of w (message_of w q)) y i;
-    }
-    one e f false i g ih = more (ih g)
-
-    step : (b : Bool) → is_new w q ≡ b → (o : Bool) → is_ordered_on w t (message_of w q) ≡ o → list_any (λ z. z == y)
-        (map (index_of w) (filter (is_ordered_on w t) (map (message_of w) (if b then q ∷ filter (is_new w) ps else filter (is_new w) ps)))) ≡ true
-        → (list_any (λ z. z == y) (added_on w t ps) ≡ true → AddsAt w t y ps) → AddsAt w t y (q ∷ ps)
-    step false e o f g ih = more (ih g)
-    step true e o f g ih = by o f (sym (ap (λ k. list_any (λ z. z == y) (map (index_of w) (if k then message_of w q
-        ∷ filter (is_ordered_on w t) (map (message_of w) (filter (is_new w) ps)) else filter (is_ordered_on w t) (map (message_of w) (filter (is_new w) ps)))))
-        f) ∙ g)
-      where
-        by : (o : Bool) → is_ordered_on w t (message_of w q) ≡ o → list_any (λ z. z == y) (map (index_of w) (if o then message_of w q
-            ∷ filter (is_ordered_on w t) (map (message_of w) (filter (is_new w) ps))
-            else filter (is_ordered_on w t) (map (message_of w) (filter (is_new w) ps)))) ≡ true → AddsAt w t y (q ∷ ps)
-        by true f g = one e f (index_of w (message_of w q) == y) refl g ih
-        by false f g = more (ih g)
+added-from w t y (q ∷ ps) h = grind (arith, nat_tests, added-from w t y ps)
 
 -- what lies from a low end on and less than 2^15 past it is near it
 ends-near : (low high : ℕ) (ys : List ℕ) → high < low + 2 ^ 15 → ((y : ℕ) → list_any (λ z. z == y) ys ≡ true → (low ≤ y) × (y < low + 2 ^ 15))
@@ -217,15 +144,7 @@ ends-near low high (y ∷ ys) lt all =
 
 -- the test on a stream, from the ends of what is held, widened by what is added
 fits-ends : (w : LinkRecord) (s : ℕ) (more : List ℕ) → nat_lt (greatest (highest_held w s) more - least (lowest_held w s) more) 32768 ≡ fits w more s
-fits-ends w s more =
-    let n = next_of w s in
-    let xs = map (index_of w) (held_on w s) in
-    lt-gap (greatest (highest_held w s) more) (least (lowest_held w s) more)
-    ∙ ap (λ g. nat_lt g (least (lowest_held w s) more + 2 ^ 15)) (sym (greatest-append n xs more))
-    ∙ ap (λ l. nat_lt (greatest n (xs ++ more)) (l + 2 ^ 15)) (sym (least-append n xs more))
-  where
-    lt-gap : (g l : ℕ) → nat_lt (g - l) 32768 ≡ nat_lt g (l + 2 ^ 15)
-    lt-gap g l = same_test (nat_lt (g - l) 32768) (nat_lt g (l + 2 ^ 15)) (λ e. grind (arith, nat_tests)) (λ e. grind (arith, nat_tests))
+fits-ends w s more = grind (arith, nat_tests, greatest-append, least-append)
 
 -- the test with one that lies at or past the index expected next
 pub fits-new : (w : LinkRecord) (s y : ℕ) → next_of w s ≤ y → nat_lt (max (highest_held w s) y - lowest_held w s) 32768 ≡ fits w (y ∷ []) s
@@ -257,15 +176,9 @@ fits-each w s more none each =
 
 -- a stream's one index among those added
 pub only-one : (i y : ℕ) → list_any (λ z. z == y) (i ∷ []) ≡ true → y ≡ i
-only-one i y h = by (i == y) refl h
-  where
-    by : (b : Bool) → (i == y) ≡ b → (b || false) ≡ true → y ≡ i
-    by true e g = sym (same-is i y e)
-    by false e g = cc
+only-one i y h = grind (arith, nat_tests)
 
 -- an ordered message is one of its stream
 pub own-stream : (w : LinkRecord) (p : ℕ) → Carried w p → (message_at w (message_of w p)).ordered ≡ true
     → is_ordered_on w (message_at w (message_of w p)).stream (message_of w p) ≡ true
-own-stream w p c kind =
-    let m = message_at w (message_of w p) in
-    and (m.stream == m.stream) (m.ordered && not m.expired) (same-yes m.stream) (and m.ordered (not m.expired) kind (ap not c.alive))
+own-stream w p c kind = grind (arith, nat_tests)

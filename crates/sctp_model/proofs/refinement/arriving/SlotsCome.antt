@@ -1,15 +1,9 @@
 -- The slots of a datagram that come: what is known of them before, and what of the record they change.
-use Rattle.std.proofs.Common.{◌≡◌, ℕ, zero, suc, ◌<◌, false, List, [], ◌∷◌, length, Some, arith, Bool, true, ◌++◌, refl, ap, ◌∙◌}
-use Rattle.std.specs.Prelude.{slice_get, slice_index_or, if◌then◌else◌, fold}
-use Rattle.sctp_model.specs.LinkRecord.{LinkRecord, Data}
-use Rattle.sctp_model.specs.Messages.{slot_at, message_of}
-use Rattle.sctp_model.specs.Valid.{AllFragments}
+use Rattle.sctp_model.proofs.Names.{◌≡◌, ℕ, zero, suc, ◌<◌, false, List, [], ◌∷◌, length, Some, arith, ap, ◌∙◌, slice_get, slice_index_or, fold, LinkRecord}
+use Rattle.sctp_model.proofs.Names.{Data, slot_at, AllFragments, receive_slot, nat_tests}
 use Rattle.sctp_model.proofs.refinement.arriving.Carried.{Carried, carried}
 use Rattle.sctp_model.proofs.refinement.Histories.{Facts}
-use Rattle.sctp_model.specs.Receiver.{is_new}
-use Rattle.sctp_model.specs.Changes.{receive_slot, note_completion, becomes_complete}
 use Rattle.sctp_model.proofs.refinement.acknowledging.QuietSender.{SameToSender, same-then}
-use Rattle.sctp_model.proofs.refinement.arriving.Arrival.{with_arrived}
 use Rattle.sctp_model.proofs.refinement.acknowledging.QuietSender
 use Rattle.sctp_model.proofs.refinement.arriving.SlotArrives
 
@@ -32,23 +26,7 @@ module _ {w : LinkRecord} (f : Facts w) (k : ℕ) (ps : List ℕ) (e : slice_get
 -- slots change streams, slots and duplicates alone
 pub rest-one : (w : LinkRecord) (p : ℕ)
     → receive_slot w p ≡ record w { streams = (receive_slot w p).streams; slots = (receive_slot w p).slots; duplicates = (receive_slot w p).duplicates }
-rest-one w p = by (is_new w p) refl
-  where
-    noted : (b : Bool) → becomes_complete (with_arrived w p) (message_of w p) ≡ b → note_completion (with_arrived w p) (message_of w p) ≡ record w {
-      streams = (note_completion (with_arrived w p) (message_of w p)).streams;
-      slots = (note_completion (with_arrived w p) (message_of w p)).slots;
-      duplicates = (note_completion (with_arrived w p) (message_of w p)).duplicates;
-    }
-    noted true e = rw e refl
-    noted false e = rw e refl
-
-    by : (b : Bool) → is_new w p ≡ b
-        → receive_slot w p ≡ record w { streams = (receive_slot w p).streams; slots = (receive_slot w p).slots; duplicates = (receive_slot w p).duplicates }
-    by true e =
-        let is : receive_slot w p ≡ note_completion (with_arrived w p) (message_of w p) =
-        ap (λ b. if b then note_completion (with_arrived w p) (message_of w p) else record w { duplicates = w.duplicates ++ p ∷ [] }) e in
-        cc (is, noted (becomes_complete (with_arrived w p) (message_of w p)) refl)
-    by false e = cc (SlotArrives.repeated w p e)
+rest-one w p = grind (arith, nat_tests, SlotArrives.repeated)
 
 pub rest-all : (w v : LinkRecord) (ps : List ℕ) → v ≡ record w { streams = v.streams; slots = v.slots; duplicates = v.duplicates }
     → (let u = fold receive_slot v ps in u ≡ record w { streams = u.streams; slots = u.slots; duplicates = u.duplicates })

@@ -1,61 +1,33 @@
 -- The span test of a datagram of one fragment, from the ends of what a stream holds.
-use Rattle.std.proofs.Common.{◌≡◌, ℕ, zero, suc, ◌+◌, ◌-◌, ◌<◌, ◌≤◌, ◌^◌, Bool, true, false, List, [], ◌∷◌, ◌++◌, length, map, get_or, refl, ap, sym, ◌∙◌}
-use Rattle.std.proofs.Common.{arith}
-use Rattle.std.specs.Prelude.{if◌then◌else◌, ◌==◌, ◌||◌, min, max, slice_index_or}
-use Rattle.std.specs.List.{list_any, list_all}
-use Rattle.std.proofs.Math.Path.{subst}
-use Rattle.std.proofs.lemmas.Bool.Decides.{nat_tests}
-use Rattle.sctp_util.specs.Kept.{numbers_where}
-use Rattle.sctp_util.proofs.Passing.{front-kept, FrontOf}
-use Rattle.sctp_util.proofs.More.{both, and, length-kept-positive}
-use Rattle.sctp_util.proofs.Cases.{same-yes, same-is, or-left, or-right}
-use Rattle.sctp_data.specs.declared.chunk.chunk_payload_data.ChunkPayloadData.{ChunkPayloadData}
-use Rattle.sctp_data.specs.ChunkSet.{ChunkSet}
-use Rattle.sctp_model.specs.LinkRecord.{LinkRecord, StreamRecord}
-use Rattle.sctp_model.specs.Messages.{message_at, slot_at, message_of, stream_of, is_ordered_on, index_of, fragment_count, has_fragment, tsn_of, place_of}
-use Rattle.sctp_model.specs.Receiver.{arrived_of, has_arrived, is_held, is_complete_message, held_on, next_of, least, greatest, fits}
-use Rattle.sctp_model.specs.Changes.{stream_changed, with_complete, receive_slot}
-use Rattle.sctp_model.specs.Contents.{chunk_at}
-use Rattle.sctp_model.specs.Queues.{set_of, complete_set_of}
-use Rattle.sctp_model.proofs.sender.Shape.{shape}
+use Rattle.sctp_model.proofs.Names.{◌≡◌, ℕ, zero, suc, ◌+◌, ◌-◌, ◌<◌, ◌≤◌, ◌^◌, Bool, true, false, List, [], ◌∷◌, ◌++◌, length, map, get_or, refl, ap, sym, ◌∙◌}
+use Rattle.sctp_model.proofs.Names.{arith, if◌then◌else◌, ◌==◌, ◌||◌, min, max, slice_index_or, list_any, list_all, subst, nat_tests, numbers_where, front-kept}
+use Rattle.sctp_model.proofs.Names.{both, and, length-kept-positive, same-yes, same-is, or-left, or-right, ChunkPayloadData, ChunkSet, LinkRecord, StreamRecord}
+use Rattle.sctp_model.proofs.Names.{message_at, slot_at, message_of, stream_of, is_ordered_on, index_of, fragment_count, has_fragment, tsn_of, place_of}
+use Rattle.sctp_model.proofs.Names.{arrived_of, has_arrived, is_held, is_complete_message, held_on, next_of, least, greatest, fits, stream_changed}
+use Rattle.sctp_model.proofs.Names.{with_complete, receive_slot, chunk_at, set_of, complete_set_of, has_come, ordered_sets, IsSpan, Valid, ValidUnassembled}
+use Rattle.sctp_model.proofs.Names.{kept-place, lowest_held, highest_held, length-mapped, get_or-map}
 use Rattle.sctp_model.proofs.sender.SenderSteps.{of-has}
 use Rattle.sctp_model.proofs.sender.Made.{place-back}
-use Rattle.sctp_model.specs.refinement.Holds.{has_come, ordered_sets}
-use Rattle.sctp_model.specs.Valid.{IsSpan, Valid, ValidUnassembled}
 use Rattle.sctp_model.proofs.refinement.arriving.Arrival
 use Rattle.sctp_model.proofs.refinement.arriving.Arrival.{with_arrived}
 use Rattle.sctp_model.proofs.refinement.reading.Keeps
 use Rattle.sctp_model.proofs.refinement.reading.Line
-use Rattle.sctp_model.proofs.refinement.arriving.Unassembled.{get-map, length-map}
 use Rattle.sctp_model.proofs.refinement.arriving.Carried.{noted, by_step}
 use Rattle.sctp_model.proofs.refinement.reading.Taken.{held, is-held, complete-ordered}
 use Rattle.sctp_model.proofs.refinement.arriving.UnorderedStep
-use Rattle.sctp_util.proofs.Places.{kept-place}
 use Rattle.sctp_model.proofs.receiver.Spans.{greatest-append, least-append}
-use Rattle.sctp_model.specs.refinement.Naming.{lowest_held, highest_held}
 
 -- ## Least and greatest of what passes
 
 greatest-under : (f : ℕ → ℕ) (p : ℕ → Bool) (from count x top : ℕ) → x ≤ top → ((k : ℕ) → from ≤ k → k < from + count → p k ≡ true → f k ≤ top)
     → greatest x (map f (numbers_where p from count)) ≤ top
 greatest-under f p from zero x top le h = le
-greatest-under f p from (suc count) x top le h =
-    step (p from) refl (λ z l. greatest-under f p (from + 1) count z top l (λ k a b e. h k (omega arith) (omega arith) e))
-  where
-    step : (b : Bool) → p from ≡ b → ((z : ℕ) → z ≤ top → greatest z (map f (numbers_where p (from + 1) count)) ≤ top)
-        → greatest x (map f (if b then from ∷ numbers_where p (from + 1) count else numbers_where p (from + 1) count)) ≤ top
-    step true e ih = ih (max x (f from)) (let z = h from (omega arith) (omega arith) e in omega (arith, z, le))
-    step false e ih = ih x le
+greatest-under f p from (suc count) x top le h = grind (arith, nat_tests, greatest-under f p (from + 1) count)
 
 least-over : (f : ℕ → ℕ) (p : ℕ → Bool) (from count x low : ℕ) → low ≤ x → ((k : ℕ) → from ≤ k → k < from + count → p k ≡ true → low ≤ f k)
     → low ≤ least x (map f (numbers_where p from count))
 least-over f p from zero x low le h = le
-least-over f p from (suc count) x low le h = step (p from) refl (λ z l. least-over f p (from + 1) count z low l (λ k a b e. h k (omega arith) (omega arith) e))
-  where
-    step : (b : Bool) → p from ≡ b → ((z : ℕ) → low ≤ z → low ≤ least z (map f (numbers_where p (from + 1) count)))
-        → low ≤ least x (map f (if b then from ∷ numbers_where p (from + 1) count else numbers_where p (from + 1) count))
-    step true e ih = ih (min x (f from)) (let z = h from (omega arith) (omega arith) e in omega (arith, z, le))
-    step false e ih = ih x le
+least-over f p from (suc count) x low le h = grind (arith, nat_tests, least-over f p (from + 1) count)
 
 greatest-all : (x top : ℕ) (ys : List ℕ) → x ≤ top → ((y : ℕ) → list_any (λ z. z == y) ys ≡ true → y ≤ top) → greatest x ys ≤ top
 greatest-all x top [] le h = le
@@ -136,21 +108,10 @@ all-streams w p t u more a = by_step (λ v. list_all (λ r. u r.stream) v.stream
     on : ℕ
     on = (message_at w (message_of w p)).stream
 
-    kept-stream : (r : StreamRecord) → (if r.stream == on then with_complete (message_of w p) r else r).stream ≡ r.stream
-    kept-stream r = step (r.stream == on)
-      where
-        step : (b : Bool) → (if b then with_complete (message_of w p) r else r).stream ≡ r.stream
-        step true = refl
-        step false = refl
-
     mapped : (rs : List StreamRecord) → list_all (λ r. t r.stream) rs ≡ true
         → list_all (λ r. u r.stream) (map (λ r. if r.stream == on then with_complete (message_of w p) r else r) rs) ≡ true
     mapped [] e = refl
-    mapped (r ∷ rs) e =
-        let c = both (t r.stream) (list_all (λ r. t r.stream) rs) e in
-        and (u (if r.stream == on then with_complete (message_of w p) r else r).stream)
-        (list_all (λ r. u r.stream) (map (λ r. if r.stream == on then with_complete (message_of w p) r else r) rs))
-        (ap u (kept-stream r) ∙ more r.stream c.0) (mapped rs c.1)
+    mapped (r ∷ rs) e = grind (arith, nat_tests, mapped rs)
 
     new : (b : Bool) → list_all (λ r. u r.stream) (noted w p b).streams ≡ true
     new true = mapped w.streams a
@@ -161,13 +122,7 @@ all-streams w p t u more a = by_step (λ v. list_all (λ r. u r.stream) v.stream
 least-from : (f : ℕ → ℕ) (p : ℕ → Bool) (from count x : ℕ) → ((k : ℕ) → from ≤ k → k < from + count → p k ≡ true → x ≤ f k)
     → least x (map f (numbers_where p from count)) ≡ x
 least-from f p from zero x h = refl
-least-from f p from (suc count) x h = step (p from) refl (least-from f p (from + 1) count x (λ k a b e. h k (omega arith) (omega arith) e))
-  where
-    step : (b : Bool) → p from ≡ b → least x (map f (numbers_where p (from + 1) count)) ≡ x
-        → least x (map f (if b then from ∷ numbers_where p (from + 1) count else numbers_where p (from + 1) count)) ≡ x
-    step true e ih = let m : min x (f from) ≡ x = (let z = h from (omega arith) (omega arith) e in omega (arith, z)) in
-        ap (λ y. least y (map f (numbers_where p (from + 1) count))) m ∙ ih
-    step false e ih = ih
+least-from f p from (suc count) x h = grind (arith, nat_tests, least-from f p (from + 1) count x)
 
 least-front : (f : ℕ → ℕ) (p : ℕ → Bool) (from count x d : ℕ) → ((j k : ℕ) → p j ≡ true → p k ≡ true → j < k → f j < f k)
     → 0 < length (numbers_where p from count) → least x (map f (numbers_where p from count)) ≡ min x (f (get_or (numbers_where p from count) 0 d))
@@ -237,22 +192,7 @@ pub record Begins (w : LinkRecord) (n : ℕ) (chunks : List ChunkPayloadData) : 
 
 begins-kept : (w : LinkRecord) (n : ℕ) (q : ℕ → Bool) → w.setup.first < 2 ^ 32 → length w.slots < 2 ^ 31 → ((k : ℕ) → q k ≡ true → has_fragment w n k ≡ true)
     → 0 < length (numbers_where q 0 (length w.slots)) → Begins w n (map (chunk_at w) (numbers_where q 0 (length w.slots)))
-begins-kept w n q first few has some = step (numbers_where q 0 (length w.slots)) some (front-kept q 0 (length w.slots))
-  where
-    step : (l : List ℕ) → 0 < length l → FrontOf q 0 (length w.slots) l → Begins w n (map (chunk_at w) l)
-    step [] lt f = absurd (omega arith)
-    step (k ∷ rest) lt f =
-        let h = has k f.passes in
-        let o = of-has (shape w) n k h in
-        record {
-          place = k;
-          rest = map (chunk_at w) rest;
-          is = refl;
-          of = o.0;
-          made = omega (arith, f.high);
-          fragment = o.1;
-          back = place-back w.setup.first k first (omega (arith, f.high, few));
-        }
+begins-kept w n q first few has some = grind (arith, nat_tests, front-kept, of-has, place-back)
 
 -- the set of a message that is held
 pub set-begins : (w : LinkRecord) (s n : ℕ) → Valid w → w.setup.first < 2 ^ 32 → is_held w s n ≡ true → Begins w n (set_of w n).chunks
@@ -269,10 +209,11 @@ pub record IsSetOf (w : LinkRecord) (s n : ℕ) (set : ChunkSet) : Type 0 where
 pub set-at : (w : LinkRecord) (s i d : ℕ) (e : ChunkSet) → Valid w → w.setup.first < 2 ^ 32 → i < length (ordered_sets w s)
     → IsSetOf w s (slice_index_or (held_on w s) i d) (slice_index_or (ordered_sets w s) i e)
 set-at w s i d e valid first lt =
-    let lt' : i < length (held_on w s) = omega (arith, lt, length-map (set_of w) (held_on w s)) in
+    let lt' : i < length (held_on w s) = omega (arith, lt, length-mapped (set_of w) (held_on w s)) in
     let r = kept-place (is_held w s) 0 (length w.messages) i d lt' in
     let n = get_or (held_on w s) i d in
-    let same : get_or (ordered_sets w s) i e ≡ set_of w n = get-map (set_of w) (held_on w s) i e lt' ∙ ap (set_of w) (get-default (held_on w s) i 0 d lt') in
+    let same : get_or (ordered_sets w s) i e ≡ set_of w n = get_or-map (set_of w) (held_on w s) i 0 e lt'
+    ∙ ap (set_of w) (get-default (held_on w s) i 0 d lt') in
     record {
       is = same;
       held = r.passes;
@@ -287,7 +228,7 @@ set-at w s i d e valid first lt =
     get-default (x ∷ xs) (suc i) a b l = get-default xs i a b (omega arith)
 
 pub sets-held : (w : LinkRecord) (s : ℕ) → length (ordered_sets w s) ≡ length (held_on w s)
-sets-held w s = length-map (set_of w) (held_on w s)
+sets-held w s = length-mapped (set_of w) (held_on w s)
 
 -- a complete unordered message
 pub complete-begins : (w : LinkRecord) (s n : ℕ) → Valid w → ValidUnassembled w → w.setup.first < 2 ^ 32

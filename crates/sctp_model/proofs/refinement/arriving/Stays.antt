@@ -1,17 +1,8 @@
 -- An arrival leaves the parts of a reassembly queue that it does not concern.
-use Rattle.std.proofs.Common.{◌≡◌, ℕ, ◌<◌, ◌≤◌, Bool, true, false, List, [], ◌∷◌, length, map, refl, ap, sym, ◌∙◌, inl, inr, arith}
-use Rattle.std.specs.Prelude.{◌⊎◌, ◌==◌, ◌&&◌, ◌||◌, not, nat_lt, nat_le}
-use Rattle.std.proofs.lemmas.Bool.{cases_lt}
-use Rattle.sctp_util.specs.Kept.{numbers_where}
-use Rattle.sctp_util.proofs.Passing.{kept-same, map-kept-same}
-use Rattle.sctp_model.specs.LinkRecord.{LinkRecord}
-use Rattle.sctp_model.specs.Messages.{message_at, message_of, stream_of, is_ordered_on, index_of, has_fragment, slots_of, is_unordered_on}
-use Rattle.sctp_model.specs.Receiver.{arrived_at, arrived_of, is_complete_message, is_unread, is_held}
-use Rattle.sctp_data.specs.ChunkSet.{ChunkSet}
-use Rattle.sctp_model.specs.Contents.{chunk_at}
-use Rattle.sctp_model.specs.Queues.{set_of, complete_set_of, is_unassembled}
-use Rattle.sctp_model.specs.refinement.Holds.{ordered_sets, complete_sets, unassembled_chunks}
-use Rattle.sctp_util.proofs.More.{fails, not_both, both}
+use Rattle.sctp_model.proofs.Names.{◌≡◌, ℕ, Bool, true, false, List, [], ◌∷◌, length, map, refl, ap, sym, ◌∙◌, arith, ◌&&◌, ◌||◌, not, nat_lt, nat_le}
+use Rattle.sctp_model.proofs.Names.{numbers_where, kept-same, map-kept-same, LinkRecord, message_at, message_of, stream_of, is_ordered_on, index_of, slots_of}
+use Rattle.sctp_model.proofs.Names.{is_unordered_on, arrived_at, arrived_of, is_complete_message, is_unread, is_held, chunk_at, set_of, complete_set_of}
+use Rattle.sctp_model.proofs.Names.{is_unassembled, ordered_sets, complete_sets, unassembled_chunks, not_both, both, and-none, nat_tests}
 use Rattle.sctp_model.proofs.refinement.arriving.Arrival
 use Rattle.sctp_model.proofs.refinement.arriving.Arrival.{with_arrived}
 
@@ -21,24 +12,13 @@ map-all f g (x ∷ xs) same = rw (same x, map-all f g xs same) refl
 
 -- one of two places
 pub by_place : {C : Type 0} (k p : ℕ) → ((k ≡ p → ⊥) → C) → (k ≡ p → C) → C
-by_place {C} k p other same = step (cases_lt k p) (cases_lt p k)
-  where
-    step : (k < p) ⊎ (p ≤ k) → (p < k) ⊎ (k ≤ p) → C
-    step (inl l) t = other (λ e. omega arith)
-    step (inr g) (inl l) = other (λ e. omega arith)
-    step (inr g) (inr l) = same (omega arith)
+by_place {C} k p other same = grind (arith, nat_tests)
 
 pub slots_of-arrived : (w : LinkRecord) (p n : ℕ) → slots_of (with_arrived w p) n ≡ slots_of w n
-slots_of-arrived w p n =
-    ap (numbers_where (has_fragment (with_arrived w p) n) 0) (Arrival.count-arrived w p)
-    ∙ kept-same (has_fragment (with_arrived w p) n) (has_fragment w n) 0 (length w.slots) (λ k a b. Arrival.has_fragment-arrived w p n k)
+slots_of-arrived w p n = grind (arith, nat_tests, Arrival.count-arrived, kept-same, Arrival.has_fragment-arrived)
 
 pub complete_set_of-arrived : (w : LinkRecord) (p n : ℕ) → complete_set_of (with_arrived w p) n ≡ complete_set_of w n
-complete_set_of-arrived w p n =
-    let chunks : map (chunk_at (with_arrived w p)) (slots_of (with_arrived w p) n) ≡ map (chunk_at w) (slots_of w n) =
-    map-all (chunk_at (with_arrived w p)) (chunk_at w) (slots_of (with_arrived w p) n) (λ k. Arrival.chunk_at-arrived w p k)
-    ∙ ap (map (chunk_at w)) (slots_of-arrived w p n) in
-    ap (λ c. let x : ChunkSet = record { ssn = 0; ppi = (message_at w n).ppi; chunks = c } in x) chunks
+complete_set_of-arrived w p n = grind (arith, nat_tests, map-all, Arrival.chunk_at-arrived, slots_of-arrived)
 
 pub complete_sets-arrived : (w : LinkRecord) (p s : ℕ) → complete_sets (with_arrived w p) s ≡ complete_sets w s
 complete_sets-arrived w p s = map-all (complete_set_of (with_arrived w p)) (complete_set_of w) (stream_of w s).complete (λ n. complete_set_of-arrived w p n)
@@ -66,17 +46,7 @@ unassembled_as v s k n arrived = arrived && (nat_le v.skipped k && (is_unordered
 
 -- other places are unassembled as they were
 pub unassembled-other : (w : LinkRecord) (p s k : ℕ) → (k ≡ p → ⊥) → is_unassembled (with_arrived w p) s k ≡ is_unassembled w s k
-unassembled-other w p s k ne =
-    ap (λ m. unassembled_as (with_arrived w p) s k m (arrived_at (with_arrived w p) k)) (Arrival.message_of-arrived w p k)
-    ∙ ap (unassembled_as (with_arrived w p) s k (message_of w k)) (Arrival.arrived-other w p k ne)
-    ∙ ap (λ b. arrived_at w k && (nat_le w.skipped k && b)) (by_kind (message_of w k) (is_unordered_on w s (message_of w k)) refl)
-  where
-    unordered : (k : ℕ) → is_unordered_on w s k ≡ true → (message_at w k).ordered ≡ false
-    unordered k e = fails (message_at w k).ordered (λ h. not_both (sym (ap not h) ∙ (both ((message_at w k).stream == s) (not (message_at w k).ordered) e).1))
-
-    by_kind : (k : ℕ) → (b : Bool) → is_unordered_on w s k ≡ b → (b && not (is_complete_message (with_arrived w p) k)) ≡ (b && not (is_complete_message w k))
-    by_kind k true e = ap not (complete-unordered w p k (unordered k e))
-    by_kind k false e = refl
+unassembled-other w p s k ne = grind (arith, nat_tests, Arrival.message_of-arrived, Arrival.arrived-other, complete-unordered)
 
 -- the unassembled chunks, where the slot is of no unordered message of the stream
 pub unassembled-elsewhere : (w : LinkRecord) (p s : ℕ) → is_unordered_on w s (message_of w p) ≡ false
@@ -88,11 +58,7 @@ unassembled-elsewhere w p s off =
     (λ k a b e. Arrival.chunk_at-arrived w p k)
   where
     none : (v : LinkRecord) (k : ℕ) (a : Bool) → is_unordered_on v s (message_of w p) ≡ false → unassembled_as v s k (message_of w p) a ≡ false
-    none v k true e = rw e (ands (nat_le v.skipped k))
-      where
-        ands : (b : Bool) → (b && false) ≡ false
-        ands true = refl
-        ands false = refl
+    none v k true e = rw e (and-none (nat_le v.skipped k))
     none v k false e = refl
 
     same : (k : ℕ) → k ≡ p → is_unassembled (with_arrived w p) s k ≡ is_unassembled w s k

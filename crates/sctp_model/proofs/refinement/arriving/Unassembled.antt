@@ -1,36 +1,13 @@
 -- Runs among the unassembled chunks are complete messages.
-use Rattle.std.proofs.Common.{◌≡◌, ℕ, zero, suc, ◌+◌, ◌-◌, ◌<◌, ◌≤◌, ◌%◌, ◌^◌, Bool, true, false, List, [], ◌∷◌, length, map, get_or, refl, ap, sym, ◌∙◌, inl}
-use Rattle.std.proofs.Common.{inr, arith}
-use Rattle.std.specs.Prelude.{◌⊎◌, if◌then◌else◌, ◌==◌, ◌&&◌, not, nat_le}
-use Rattle.std.specs.List.{list_all}
-use Rattle.std.proofs.lemmas.Bool.{cases_lt}
-use Rattle.std.proofs.lemmas.Bool.Decides.{nat_tests}
-use Rattle.sctp_util.specs.Kept.{numbers_where}
-use Rattle.sctp_util.proofs.Passing.{length-kept-le}
+use Rattle.sctp_model.proofs.Names.{◌≡◌, ℕ, zero, suc, ◌+◌, ◌-◌, ◌<◌, ◌≤◌, ◌%◌, ◌^◌, Bool, true, false, length, map, get_or, refl, ap, sym, ◌∙◌, arith, ◌==◌}
+use Rattle.sctp_model.proofs.Names.{nat_tests, numbers_where, length-kept-le, LinkRecord, slot_at, message_of, fragment_count, has_fragment, is_unordered_on}
+use Rattle.sctp_model.proofs.Names.{arrived_at, is_complete_message, ChunkPayloadData, chunk_at, is_unassembled, Valid, ValidUnassembled, kept-place}
+use Rattle.sctp_model.proofs.Names.{length-mapped, get_or-map}
 use Rattle.sctp_util.proofs.Lines.{IsAt}
-use Rattle.sctp_model.specs.LinkRecord.{LinkRecord}
-use Rattle.sctp_model.specs.Messages.{slot_at, message_of, fragment_count, has_fragment, is_unordered_on}
-use Rattle.sctp_model.specs.Receiver.{arrived_at, is_complete_message}
-use Rattle.sctp_data.specs.declared.chunk.chunk_payload_data.ChunkPayloadData.{ChunkPayloadData}
 use Rattle.sctp_serial.specs.Runs.{IsRun}
-use Rattle.sctp_model.specs.Contents.{chunk_at}
-use Rattle.sctp_model.specs.Queues.{is_unassembled}
-use Rattle.sctp_model.specs.Valid.{Valid, ValidUnassembled}
-use Rattle.sctp_util.proofs.More.{not_both, both, and}
 use Rattle.sctp_model.proofs.refinement.arriving.Arrival
-use Rattle.sctp_util.proofs.Cases.{negated}
-use Rattle.sctp_util.proofs.Places.{kept-place}
 
 -- ## Lists
-
-pub get-map : {A : Type 0} (f : ℕ → A) (xs : List ℕ) (i : ℕ) (d : A) → i < length xs → get_or (map f xs) i d ≡ f (get_or xs i 0)
-get-map f [] i d lt = absurd (omega arith)
-get-map f (x ∷ xs) zero d lt = refl
-get-map f (x ∷ xs) (suc i) d lt = get-map f xs i d (omega arith)
-
-pub length-map : {A : Type 0} (f : ℕ → A) (xs : List ℕ) → length (map f xs) ≡ length xs
-length-map f [] = refl
-length-map f (x ∷ xs) = ap suc (length-map f xs)
 
 -- where all pass
 pub length-kept-all : (p : ℕ → Bool) (from count : ℕ) → ((k : ℕ) → from ≤ k → k < from + count → p k ≡ true) → length (numbers_where p from count) ≡ count
@@ -40,33 +17,7 @@ length-kept-all p from (suc count) all =
 
 pub kept-full : (p : ℕ → Bool) (from count k : ℕ) → length (numbers_where p from count) ≡ count → from ≤ k → k < from + count → p k ≡ true
 kept-full p from zero k e a b = absurd (omega arith)
-kept-full p from (suc count) k e a b = step (p from) refl e (cases_lt from k) (λ h l. kept-full p (from + 1) count k h l (omega arith))
-  where
-    step : (c : Bool) → p from ≡ c → length (if c then from ∷ numbers_where p (from + 1) count else numbers_where p (from + 1) count) ≡ suc count
-        → (from < k) ⊎ (k ≤ from) → (length (numbers_where p (from + 1) count) ≡ count → from + 1 ≤ k → p k ≡ true) → p k ≡ true
-    step true h e (inl l) ih = ih (omega arith) (omega arith)
-    step true h e (inr g) ih = let z : k ≡ from = omega arith in rw z h
-    step false h e side ih = absurd (omega (arith, length-kept-le p (from + 1) count))
-
-pub all-kept : (t p : ℕ → Bool) (from count : ℕ) → ((k : ℕ) → p k ≡ true → t k ≡ true) → list_all t (numbers_where p from count) ≡ true
-all-kept t p from zero h = refl
-all-kept t p from (suc count) h = step (p from) refl (all-kept t p (from + 1) count h)
-  where
-    step : (b : Bool) → p from ≡ b → list_all t (numbers_where p (from + 1) count) ≡ true
-        → list_all t (if b then from ∷ numbers_where p (from + 1) count else numbers_where p (from + 1) count) ≡ true
-    step true e ih = rw (h from e, ih) refl
-    step false e ih = ih
-
-pub kept-all : (t p : ℕ → Bool) (from count k : ℕ) → list_all t (numbers_where p from count) ≡ true → from ≤ k → k < from + count → p k ≡ true → t k ≡ true
-kept-all t p from zero k e a b h = absurd (omega arith)
-kept-all t p from (suc count) k e a b h = step (p from) refl e (cases_lt from k) (λ x l. kept-all t p (from + 1) count k x l (omega arith) h)
-  where
-    step : (c : Bool) → p from ≡ c → list_all t (if c then from ∷ numbers_where p (from + 1) count else numbers_where p (from + 1) count) ≡ true
-        → (from < k) ⊎ (k ≤ from) → (list_all t (numbers_where p (from + 1) count) ≡ true → from + 1 ≤ k → t k ≡ true) → t k ≡ true
-    step true x e (inl l) ih = ih (both (t from) (list_all t (numbers_where p (from + 1) count)) e).1 (omega arith)
-    step true x e (inr g) ih = let z : k ≡ from = omega arith in rw z (both (t from) (list_all t (numbers_where p (from + 1) count)) e).0
-    step false x e (inl l) ih = ih e (omega arith)
-    step false x e (inr g) ih = let z : from ≡ k = omega arith in absurd (not_both (sym x ∙ ap p z ∙ h))
+kept-full p from (suc count) k e a b = grind (arith, nat_tests, length-kept-le, kept-full p (from + 1) count k)
 
 -- ## What an unassembled place is
 
@@ -77,19 +28,10 @@ pub record IsUnassembled (w : LinkRecord) (s k : ℕ) : Type 0 where
   pub complete : is_complete_message w (message_of w k) ≡ false
 
 pub unassembled : (w : LinkRecord) (s k : ℕ) → is_unassembled w s k ≡ true → IsUnassembled w s k
-unassembled w s k e =
-    let a = both (arrived_at w k) (nat_le w.skipped k && (is_unordered_on w s (message_of w k) && not (is_complete_message w (message_of w k)))) e in
-    let b = both (nat_le w.skipped k) (is_unordered_on w s (message_of w k) && not (is_complete_message w (message_of w k))) a.1 in
-    let c = both (is_unordered_on w s (message_of w k)) (not (is_complete_message w (message_of w k))) b.1 in
-    let le : nat_le w.skipped k ≡ true = b.0 in
-    record { datagram_received = a.0; past = grind (arith, nat_tests); on = c.0; complete = negated (is_complete_message w (message_of w k)) c.1 }
+unassembled w s k e = grind (arith, nat_tests)
 
 pub is-unassembled : (w : LinkRecord) (s k : ℕ) → IsUnassembled w s k → is_unassembled w s k ≡ true
-is-unassembled w s k l =
-    and (arrived_at w k) (nat_le w.skipped k && (is_unordered_on w s (message_of w k) && not (is_complete_message w (message_of w k)))) l.datagram_received
-    (and (nat_le w.skipped k) (is_unordered_on w s (message_of w k) && not (is_complete_message w (message_of w k))) (let le = l.past in
-    grind (arith, nat_tests))
-    (and (is_unordered_on w s (message_of w k)) (not (is_complete_message w (message_of w k))) l.on (ap not l.complete)))
+is-unassembled w s k l = grind (arith, nat_tests)
 
 -- ## A run is a message
 
@@ -109,7 +51,7 @@ module _ (w : LinkRecord) (q : ℕ → Bool) (first count : ℕ) (valid : Valid 
   at i = get_or (numbers_where q 0 (length w.slots)) (first + i) 0
 
   long : first + count ≤ length (numbers_where q 0 (length w.slots))
-  long = omega (arith, run.in_range, length-map (chunk_at w) (numbers_where q 0 (length w.slots)))
+  long = omega (arith, run.in_range, length-mapped (chunk_at w) (numbers_where q 0 (length w.slots)))
 
   place : (i : ℕ) → i < count → IsAt q 0 (length w.slots) (at i) (first + i)
   place i lt = kept-place q 0 (length w.slots) (first + i) 0 (omega (arith, long))
@@ -121,7 +63,7 @@ module _ (w : LinkRecord) (q : ℕ → Bool) (first count : ℕ) (valid : Valid 
   in-slots i lt = let r = place i lt in omega (arith, r.is, r.low)
 
   value : (i : ℕ) (d : ChunkPayloadData) → i < count → get_or (map (chunk_at w) (numbers_where q 0 (length w.slots))) (first + i) d ≡ chunk_at w (at i)
-  value i d lt = get-map (chunk_at w) (numbers_where q 0 (length w.slots)) (first + i) d (omega (arith, long))
+  value i d lt = get_or-map (chunk_at w) (numbers_where q 0 (length w.slots)) (first + i) 0 d (omega (arith, long))
 
   starts : (slot_at w (at 0)).fragment ≡ 0
   starts =

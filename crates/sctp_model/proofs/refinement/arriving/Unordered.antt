@@ -1,33 +1,19 @@
 -- An unordered chunk arrives: a complete run is there exactly where its message becomes complete.
-use Rattle.std.proofs.Common.{◌≡◌, ℕ, zero, suc, ◌+◌, ◌-◌, ◌<◌, ◌≤◌, ◌%◌, ◌^◌, Bool, true, false, List, [], ◌∷◌, length, map, get_or, refl, ap, sym, ◌∙◌, inl}
-use Rattle.std.proofs.Common.{inr, arith, length-append}
-use Rattle.std.specs.Prelude.{◌⊎◌, ◌==◌, ◌&&◌, not, nat_le}
-use Rattle.std.specs.List.{list_all}
-use Rattle.std.proofs.lemmas.Bool.{cases_lt}
-use Rattle.std.proofs.lemmas.Bool.Decides.{nat_tests}
-use Rattle.sctp_util.specs.Kept.{numbers_where}
-use Rattle.sctp_util.specs.Lists.{insert_before}
-use Rattle.sctp_data.specs.declared.chunk.chunk_payload_data.ChunkPayloadData.{ChunkPayloadData}
-use Rattle.sctp_serial.specs.Runs.{IsRun, IsEarliestRun, HasNoRun}
-use Rattle.sctp_serial.specs.DataChunks.{chunk_before}
-use Rattle.sctp_model.specs.Contents.{chunk_at}
-use Rattle.sctp_model.specs.refinement.Holds.{has_come, unassembled_chunks}
-use Rattle.sctp_model.specs.Queues.{is_unassembled}
-use Rattle.sctp_util.proofs.Passing.{map-kept-same, map-kept-inserted, kept-snoc_in, length-kept-le, length-kept-mono}
-use Rattle.sctp_model.specs.LinkRecord.{LinkRecord}
-use Rattle.sctp_model.specs.Messages.{message_at, slot_at, message_of, fragment_count, has_fragment, slots_of, is_unordered_on}
-use Rattle.sctp_model.specs.Receiver.{arrived_at, arrived_of, has_arrived, cumulative, is_complete_message}
-use Rattle.sctp_model.specs.Changes.{becomes_complete}
-use Rattle.sctp_model.specs.Valid.{IsLaid, Valid, IsWaiting, ValidUnassembled}
-use Rattle.sctp_util.proofs.More.{fails, not_both, both, and}
+use Rattle.sctp_model.proofs.Names.{◌≡◌, ℕ, zero, suc, ◌+◌, ◌-◌, ◌<◌, ◌≤◌, ◌%◌, ◌^◌, Bool, true, false, List, [], ◌∷◌, length, map, get_or, refl, ap, sym, ◌∙◌}
+use Rattle.sctp_model.proofs.Names.{inl, inr, arith, length-append, ◌⊎◌, ◌==◌, ◌&&◌, not, nat_le, list_all, cases_lt, nat_tests, numbers_where, insert_before}
+use Rattle.sctp_model.proofs.Names.{ChunkPayloadData, IsEarliestRun, HasNoRun, chunk_before, chunk_at, has_come, unassembled_chunks, is_unassembled}
+use Rattle.sctp_model.proofs.Names.{map-kept-same, map-kept-inserted, kept-snoc_in, length-kept-le, length-kept-mono, LinkRecord, message_at, slot_at}
+use Rattle.sctp_model.proofs.Names.{message_of, fragment_count, has_fragment, slots_of, is_unordered_on, arrived_at, arrived_of, has_arrived, cumulative}
+use Rattle.sctp_model.proofs.Names.{is_complete_message, becomes_complete, IsLaid, Valid, ValidUnassembled, fails, not_both, both, and, kept-get, length-mapped}
+use Rattle.sctp_model.proofs.Names.{get_or-map, all-kept, all-at}
+use Rattle.sctp_serial.specs.Runs.{IsRun}
+use Rattle.sctp_model.specs.Valid.{IsWaiting}
 use Rattle.sctp_model.proofs.refinement.arriving.Arrival
 use Rattle.sctp_model.proofs.refinement.arriving.Arrival.{with_arrived}
 use Rattle.sctp_model.proofs.refinement.arriving.Stays
 use Rattle.sctp_model.proofs.refinement.arriving.Stays.{by_place}
-use Rattle.sctp_model.proofs.refinement.arriving.Unassembled.{get-map, length-map, length-kept-all, kept-full, all-kept, kept-all, unassembled, is-unassembled}
+use Rattle.sctp_model.proofs.refinement.arriving.Unassembled.{length-kept-all, kept-full, unassembled, is-unassembled}
 use Rattle.sctp_model.proofs.refinement.arriving.Unassembled.{IsCompleteRun, run-is}
-use Rattle.sctp_util.proofs.Cases.{negated}
-use Rattle.sctp_util.proofs.Places.{kept-get}
 
 -- what an accepted Arrive of a new slot of an unordered message knows
 pub record ArrivesUnassembled (w : LinkRecord) (s p : ℕ) : Type 0 where
@@ -38,22 +24,14 @@ pub record ArrivesUnassembled (w : LinkRecord) (s p : ℕ) : Type 0 where
   pub on : is_unordered_on w s (message_of w p) ≡ true
 
 pub unordered-of : (w : LinkRecord) (s n : ℕ) → is_unordered_on w s n ≡ true → ((message_at w n).stream ≡ s) × ((message_at w n).ordered ≡ false)
-unordered-of w s n e =
-    let a = both ((message_at w n).stream == s) (not (message_at w n).ordered) e in
-    let h : ((message_at w n).stream == s) ≡ true = a.0 in
-    (grind (arith, nat_tests), negated (message_at w n).ordered a.1)
+unordered-of w s n e = grind (arith, nat_tests)
 
 -- one that waits to be read is an unordered message of its stream
 pub waits-on : (w : LinkRecord) (s n : ℕ) → IsWaiting w s n → is_unordered_on w s n ≡ true
-waits-on w s n i =
-    let hit : ((message_at w n).stream == s) ≡ true = (let z = i.stream in grind (arith, nat_tests)) in
-    and ((message_at w n).stream == s) (not (message_at w n).ordered) hit (ap not i.unordered)
+waits-on w s n i = grind (arith, nat_tests)
 
 pub laid-arrived : (w : LinkRecord) (p n base : ℕ) → IsLaid w n base → IsLaid (with_arrived w p) n base
-laid-arrived w p n base laid = record {
-  at = λ k e. laid.at k (sym (Arrival.has_fragment-arrived w p n k) ∙ e) ∙ ap (λ i. base + i) (sym (Arrival.fragment-arrived w p k));
-  within = λ k e. rw (Arrival.fragment-arrived w p k) (laid.within k (sym (Arrival.has_fragment-arrived w p n k) ∙ e));
-}
+laid-arrived w p n base laid = grind (arith, nat_tests, Arrival.has_fragment-arrived, Arrival.fragment-arrived)
 
 -- whether a message becomes complete, by the count of its arrived fragments and by its slots
 pub becomes-elsewhere : (w : LinkRecord) (p m : ℕ) → (message_of w p ≡ m → ⊥) → becomes_complete (with_arrived w p) m ≡ becomes_complete w m
@@ -99,18 +77,11 @@ module _ (w : LinkRecord) (s p : ℕ) (valid : Valid w) (more : ValidUnassembled
   -- ## The unassembled list
 
   unassembled-here : q p ≡ true
-  unassembled-here =
-      is-unassembled v s p (record {
-        datagram_received = Arrival.arrived-here w p a.made;
-        past = skipped-le;
-        on = ap (is_unordered_on w s) (Arrival.message_of-arrived w p p) ∙ a.on;
-        complete = ap (is_complete_message v) (Arrival.message_of-arrived w p p) ∙ Stays.complete-unordered w p n (unordered-of w s n a.on).1 ∙ not_complete;
-      })
+  unassembled-here = grind
+      (arith, nat_tests, is-unassembled, Arrival.arrived-here, skipped-le, Arrival.message_of-arrived, Stays.complete-unordered, unordered-of, not_complete)
 
   pub unassembled-is : unassembled_chunks v s ≡ xs
-  unassembled-is =
-      ap (λ c. map (chunk_at v) (numbers_where q 0 c)) (Arrival.count-arrived w p)
-      ∙ map-kept-same (chunk_at v) (chunk_at w) q q 0 (length w.slots) (λ k a b. refl) (λ k a b e. Arrival.chunk_at-arrived w p k)
+  unassembled-is = grind (arith, nat_tests, Arrival.count-arrived, map-kept-same, Arrival.chunk_at-arrived)
 
   -- the queue puts it at its place
   pub unassembled-put : xs ≡ insert_before chunk_before (chunk_at w p) (unassembled_chunks w s)
@@ -139,7 +110,7 @@ module _ (w : LinkRecord) (s p : ℕ) (valid : Valid w) (more : ValidUnassembled
       (λ k b e. arrived r k (omega (arith, b, start)) (omega (arith, e, start, r.count_is))) in
       let arrives : has_arrived v m ≡ true = (let z : arrived_of v m ≡ fragment_count w m = ap length window ∙ full in grind (arith, nat_tests)) in
       let past : list_all (λ k. nat_le w.skipped k) (slots_of v m) ≡ true = all-kept (λ k. nat_le w.skipped k) (has_fragment v m) 0 (length v.slots)
-      (λ k e. low k (omega (arith, l.1.at k (sym (Arrival.has_fragment-arrived w p m k) ∙ e), start, x.past))) in
+      (λ k a b e. low k (omega (arith, l.1.at k (sym (Arrival.has_fragment-arrived w p m k) ∙ e), start, x.past))) in
       and (not (message_at w m).ordered) (has_arrived v m && list_all (λ k. nat_le w.skipped k) (slots_of v m)) (ap not kind)
       (and (has_arrived v m) (list_all (λ k. nat_le w.skipped k) (slots_of v m)) arrives past)
     where
@@ -168,13 +139,7 @@ module _ (w : LinkRecord) (s p : ℕ) (valid : Valid w) (more : ValidUnassembled
       (ap (becomes_complete v) same ∙ complete, sym r.first_is ∙ ap (λ b. length (numbers_where q 0 b)) start, r.count_is ∙ ap (fragment_count w) (sym same))
     where
       stale : (r : IsCompleteRun w q first c) → (n ≡ message_of w r.base → ⊥) → becomes_complete w (message_of w r.base) ≡ true → ⊥
-      stale r ne e =
-          let x = unassembled v s r.base r.passes in
-          let m = message_of w r.base in
-          let kind : (message_at w m).ordered ≡ false =
-          (unordered-of w s m (ap (is_unordered_on w s) (sym (Arrival.message_of-arrived w p r.base)) ∙ x.on)).1 in
-          not_both (sym x.complete ∙ ap (is_complete_message v) (Arrival.message_of-arrived w p r.base) ∙ Stays.complete-unordered w p m kind
-          ∙ more.arrived_complete m e)
+      stale r ne e = grind (arith, nat_tests, unassembled, unordered-of, Arrival.message_of-arrived, Stays.complete-unordered)
 
   pub no-run : becomes_complete v n ≡ false → HasNoRun xs
   no-run e = λ f c run. not_both (sym e ∙ (run-mine f c run).0)
@@ -197,8 +162,8 @@ module _ (w : LinkRecord) (s p : ℕ) (valid : Valid w) (more : ValidUnassembled
         let c = Arrival.come v n k (kept-full (has_come v n) base count k full low high) in
         let frag : has_fragment w n k ≡ true = sym (Arrival.has_fragment-arrived w p n k) ∙ c.0 in
         let of : message_of v k ≡ n = Arrival.message_of-arrived w p k ∙ Arrival.of_message w n k frag in
-        let past : nat_le w.skipped k ≡ true = kept-all (λ k. nat_le w.skipped k) (has_fragment v n) 0 (length v.slots) k parts.1 (omega arith)
-        (omega (arith, inside k c.0 (cases_lt k (length v.slots)))) c.0 in (
+        let past : nat_le w.skipped k ≡ true = all-at (λ k. nat_le w.skipped k) (has_fragment v n) k 0 (length v.slots) (omega arith)
+        (omega (arith, inside k c.0 (cases_lt k (length v.slots)))) c.0 parts.1 in (
           is-unassembled v s k (record {
             datagram_received = c.1;
             past = grind (arith, nat_tests);
@@ -241,7 +206,7 @@ module _ (w : LinkRecord) (s p : ℕ) (valid : Valid w) (more : ValidUnassembled
 
     value : (i : ℕ) (d : ChunkPayloadData) → i < count → get_or xs (first + i) d ≡ chunk_at w (base + i)
     value i d lt =
-        get-map (chunk_at w) (numbers_where q 0 (length w.slots)) (first + i) d (omega (arith, long))
+        get_or-map (chunk_at w) (numbers_where q 0 (length w.slots)) (first + i) 0 d (omega (arith, long))
         ∙ ap (chunk_at w) (ap (λ j. get_or (numbers_where q 0 (length w.slots)) j 0) (sym (upto i (omega arith)))
         ∙ kept-get q 0 (length w.slots) (base + i) (base + i) 0 (omega arith) (omega (arith, top)) (mine (base + i) (omega arith) (omega arith)).0)
 
@@ -251,7 +216,7 @@ module _ (w : LinkRecord) (s p : ℕ) (valid : Valid w) (more : ValidUnassembled
     pub own-run : IsRun xs first count
     own-run = record {
       some = some;
-      in_range = omega (arith, long, length-map (chunk_at w) (numbers_where q 0 (length w.slots)));
+      in_range = omega (arith, long, length-mapped (chunk_at w) (numbers_where q 0 (length w.slots)));
       begins = λ d.
           let z : first + 0 ≡ first = omega arith in
           let f = number 0 some in

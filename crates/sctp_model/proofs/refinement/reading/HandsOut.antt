@@ -1,24 +1,11 @@
 -- What a read hands out.
-use Rattle.std.proofs.Common.{◌≡◌, ℕ, ◌+◌, ◌<◌, Bool, true, false, List, [], ◌∷◌, length, drop, Some, None, refl, ap, sym, ◌∙◌, inl, inr, arith, length-append}
-use Rattle.std.proofs.Common.{Option}
-use Rattle.std.specs.Prelude.{◌⊎◌, ◌==◌, ◌&&◌, if◌then◌else◌, option_map}
-use Rattle.std.specs.List.{list_any}
-use Rattle.std.proofs.Math.Path.{subst}
-use Rattle.sctp_util.proofs.Cases.{same-yes, same-is, or-left}
-use Rattle.sctp_util.proofs.Passing.{front-kept, FrontOf}
-use Rattle.sctp_data.specs.ChunkSet.{ChunkSet}
-use Rattle.sctp_data.specs.declared.chunk.chunk_payload_data.ChunkPayloadData.{ChunkPayloadData}
-use Rattle.sctp_serial.specs.DataChunks.{bytes_of}
+use Rattle.sctp_model.proofs.Names.{◌≡◌, ℕ, ◌+◌, ◌<◌, true, List, [], ◌∷◌, length, drop, Some, None, refl, ap, sym, ◌∙◌, inl, inr, arith, length-append, Option}
+use Rattle.sctp_model.proofs.Names.{◌⊎◌, ◌==◌, ◌&&◌, if◌then◌else◌, option_map, list_any, subst, same-yes, or-left, front-kept, FrontOf, ChunkSet}
+use Rattle.sctp_model.proofs.Names.{ChunkPayloadData, bytes_of, LinkRecord, message_at, stream_of, index_of, is_held, next_of, read_of, after_reading}
+use Rattle.sctp_model.proofs.Names.{filter_of, set_of, complete_set_of, handed_out, joined_bytes, sum_by-cons, nat_tests}
 use Rattle.sctp_reassembly.specs.reassembly_queue.ReassemblyQueue.{at_start}
-use Rattle.sctp_model.specs.LinkRecord.{LinkRecord}
-use Rattle.sctp_model.specs.Messages.{message_at, stream_of, index_of}
-use Rattle.sctp_model.specs.Receiver.{is_held, held_on, next_of}
-use Rattle.sctp_model.specs.Changes.{read_of, after_reading}
-use Rattle.sctp_model.specs.Queues.{filter_of, set_of, complete_set_of, handed_out}
 use Rattle.sctp_model.proofs.refinement.reading.ReadOne.{ReadsComplete, ReadsOrdered}
 use Rattle.sctp_model.proofs.refinement.arriving.SpanEnds.{Begins, set-begins, complete-begins}
-use Rattle.sctp_model.specs.Log.{joined_bytes}
-use Rattle.std.proofs.lemmas.List.Sums.{sum_by-cons}
 use Rattle.sctp_reassembly.specs.declared.reassembly_queue.chunks.Chunks.{Chunks}
 use Rattle.sctp_model.proofs.refinement.reading.Line
 use Rattle.sctp_model.proofs.refinement.Histories.{Facts}
@@ -39,11 +26,7 @@ joined-length (c ∷ cs) = let more = sum_by-cons (λ (x : ChunkPayloadData). le
 
 -- what is handed out has the payload type of its message
 pub ppi-handed : (w : LinkRecord) (n : ℕ) → (handed_out w n).ppi ≡ (message_at w n).ppi
-ppi-handed w n = by (message_at w n).ordered
-  where
-    by : (b : Bool) → (if b then set_of w n else complete_set_of w n).ppi ≡ (message_at w n).ppi
-    by true = refl
-    by false = refl
+ppi-handed w n = grind (arith, nat_tests)
 
 -- what is read, by its kind
 pub record HandsOut (w : LinkRecord) (s n : ℕ) : Type 0 where
@@ -71,22 +54,7 @@ hands-complete {w} f s n o =
     }
 
 pub hands-ordered : {w : LinkRecord} (f : Facts w) (s n : ℕ) → ReadsOrdered w s n → HandsOut w s n
-hands-ordered {w} f s n o =
-    let kind = Line.on-ordered w s n o.due.on in
-    let held = front-held w s (held_on w s) n o.rest (front-kept (is_held w s) 0 (length w.messages)) o.front in
-    record {
-      begins = subst (λ (c : ChunkSet). Begins w n c.chunks) (sym (ap (λ b. if b then set_of w n else complete_set_of w n) kind))
-          (set-begins w s n f.valid.valid f.setup.first held);
-      made = Line.on-made w s n o.due.on;
-      stream = Line.on-stream w s n o.due.on;
-      next = cc (o.here, step (index_of w n == next_of w s) refl, kind);
-      other = o.other;
-      complete = ap (λ b. if b then (stream_of w s).complete else drop 1 (stream_of w s).complete) kind ∙ o.none ∙ sym (ap (drop 1) o.none);
-    }
-  where
-    step : (b : Bool) → (index_of w n == next_of w s) ≡ b → (if b then next_of w s + 1 else next_of w s) ≡ (if b then index_of w n + 1 else next_of w s)
-    step true h = ap (λ k. k + 1) (sym (same-is (index_of w n) (next_of w s) h))
-    step false h = refl
+hands-ordered {w} f s n o = grind (arith, nat_tests, Line.on-ordered, front-held, front-kept, set-begins, Line.on-made, Line.on-stream)
 
 pub hands-out : {w : LinkRecord} (f : Facts w) (s n : ℕ) → ReadsComplete w s n ⊎ ReadsOrdered w s n → HandsOut w s n
 hands-out f s n (inl o) = hands-complete f s n o

@@ -1,16 +1,8 @@
 -- The ordered messages of a stream, by index, and the one that is expected next.
-use Rattle.std.proofs.Common.{◌≡◌, ℕ, ◌+◌, ◌-◌, ◌<◌, ◌≤◌, ◌%◌, ◌^◌, Bool, true, false, length, drop, get_or, refl, ap, sym, ◌∙◌, inl, inr, arith, zero-add}
-use Rattle.std.specs.Prelude.{◌⊎◌, ◌==◌, ◌&&◌, not}
-use Rattle.std.proofs.lemmas.Bool.{cases_lt}
-use Rattle.std.proofs.lemmas.Bool.Decides.{nat_tests}
-use Rattle.std.proofs.lemmas.Grind.{common_steps}
-use Rattle.sctp_util.specs.Kept.{numbers_where, leading}
-use Rattle.sctp_util.proofs.Passing.{length-kept-lt}
-use Rattle.sctp_model.specs.LinkRecord.{LinkRecord}
-use Rattle.sctp_model.specs.Messages.{message_at, stream_of, is_ordered_on, index_of, ssn_of, ordered_on, no_message}
-use Rattle.sctp_model.specs.Receiver.{next_of}
-use Rattle.sctp_util.proofs.More.{not_both, both}
-use Rattle.sctp_util.proofs.Places.{leading-passes, leading-stops, leading-le, leading-is, get-drop, length-dropped, kept-get, kept-place}
+use Rattle.sctp_model.proofs.Names.{◌≡◌, ℕ, ◌+◌, ◌-◌, ◌<◌, ◌≤◌, ◌%◌, ◌^◌, Bool, true, false, length, drop, get_or, refl, ap, sym, ◌∙◌, inl, inr, arith}
+use Rattle.sctp_model.proofs.Names.{zero-add, ◌⊎◌, ◌==◌, ◌&&◌, not, cases_lt, nat_tests, common_steps, numbers_where, leading, length-kept-lt, LinkRecord}
+use Rattle.sctp_model.proofs.Names.{message_at, stream_of, is_ordered_on, index_of, ssn_of, ordered_on, no_message, next_of, not_both, both, leading-passes}
+use Rattle.sctp_model.proofs.Names.{leading-stops, leading-le, leading-is, get-drop, length-dropped, kept-get, kept-place}
 
 -- ## Indexes
 

@@ -1,31 +1,57 @@
 -- A read: what the queue hands out, and what it holds then, are what the record says.
-use Rattle.std.proofs.Common.{◌≡◌, ℕ, ◌<◌, true, false, List, [], ◌∷◌, length, map, Option, Some, None, refl, ap, sym, ◌∙◌}
-use Rattle.std.specs.Prelude.{if◌then◌else◌, ◌==◌, ◌&&◌, not, nat_le}
-use Rattle.std.specs.List.{list_any, filter}
-use Rattle.sctp_util.specs.Kept.{numbers_where, first_of, or_else}
-use Rattle.sctp_util.proofs.Passing.{map-kept-same}
-use Rattle.sctp_util.proofs.More.{fails}
-use Rattle.sctp_reassembly.specs.reassembly_queue.ReassemblyQueue.{after_read, message_among, message_read, rest_among, rest_read}
-use Rattle.sctp_model.specs.LinkRecord.{LinkRecord, StreamRecord}
-use Rattle.sctp_model.specs.Messages.{message_at, message_of, stream_at, stream_of, is_unordered_on}
-use Rattle.sctp_model.specs.Receiver.{arrived_at, is_complete_message, is_unread, run_of, next_read}
-use Rattle.sctp_model.specs.Changes.{read_of, after_reading}
-use Rattle.sctp_model.specs.Changes
-use Rattle.sctp_model.specs.Contents.{chunk_at}
-use Rattle.sctp_model.specs.Queues.{set_of, complete_set_of, handed_out, is_unassembled}
-use Rattle.sctp_model.specs.refinement.Holds.{unassembled_chunks, reassembly_of}
-use Rattle.sctp_model.specs.Valid.{IsSpan, Valid, ValidUnassembled}
-use Rattle.sctp_model.proofs.refinement.reading.Line
+use Rattle.sctp_model.proofs.Names.{◌≡◌, ℕ, ◌<◌, true, false, List, [], ◌∷◌, length, map, Option, Some, None, refl, ap, sym, ◌∙◌, arith, zero, suc, ◌+◌, ◌-◌}
+use Rattle.sctp_model.proofs.Names.{Bool, if◌then◌else◌, ◌==◌, ◌&&◌, not, nat_le, nat_lt, list_any, filter, numbers_where, first_of, or_else, map-kept-same}
+use Rattle.sctp_model.proofs.Names.{kept-same, fails, after_read, message_read, LinkRecord, StreamRecord, message_at, message_of, stream_at, stream_of}
+use Rattle.sctp_model.proofs.Names.{is_unordered_on, is_ordered_on, index_of, ordered_on, arrived_at, is_complete_message, is_unread, run_of, next_read}
+use Rattle.sctp_model.proofs.Names.{next_of, read_of, after_reading, chunk_at, set_of, complete_set_of, handed_out, is_unassembled, unassembled_chunks, IsSpan}
+use Rattle.sctp_model.proofs.Names.{Valid, ValidUnassembled, nat_tests}
+use Rattle.sctp_reassembly.specs.reassembly_queue.ReassemblyQueue.{message_among, rest_among, rest_read}
+use Rattle.sctp_model.specs.refinement.Holds.{reassembly_of}
 use Rattle.sctp_model.proofs.refinement.arriving.Stays.{by_place}
-use Rattle.sctp_model.proofs.refinement.reading.Taken.{is_due, map_option, front-gives, due-front}
-use Rattle.sctp_model.proofs.refinement.arriving.NextOfRun.{run-due}
-use Rattle.sctp_model.proofs.refinement.reading.Reading
+use Rattle.sctp_model.proofs.refinement.reading.Taken.{is_due, map_option, front-gives, due-front, complete-ordered}
 use Rattle.sctp_model.proofs.refinement.reading.Reading.{with_read}
+use Rattle.sctp_model.proofs.refinement.arriving.Unordered.{unordered-of, waits-on}
+use Rattle.sctp_model.proofs.receiver.Known.{any-here}
+use Rattle.sctp_model.proofs.refinement.reading.Line.{index_on}
+use Rattle.sctp_model.proofs.receiver.Due.{wanted, ReadComplete, run-first, take-kept}
+use Rattle.sctp_model.specs.Changes
+use Rattle.sctp_model.proofs.refinement.reading.Line
+use Rattle.sctp_model.proofs.refinement.reading.Reading
 use Rattle.sctp_model.proofs.refinement.reading.Keeps
 use Rattle.sctp_model.proofs.refinement.skipping.SkipStep
 use Rattle.sctp_model.proofs.refinement.reading.UnorderedRead
-use Rattle.sctp_model.proofs.refinement.arriving.Unordered.{unordered-of, waits-on}
-use Rattle.sctp_model.proofs.receiver.Known.{any-here}
+
+-- ## The next message of the run is the first one that is due
+
+-- the definition's next ordered message
+pub run-due : (w : LinkRecord) (s : ℕ) → Valid w → first_of (filter (is_unread w) (run_of w s)) ≡ first_of (numbers_where (is_due w s) 0 (length w.messages))
+run-due w s valid =
+    let line = ordered_on w s in
+    let next = next_of w s in
+    cc (
+      run-first (is_complete_message w) (read_at w)
+          (stream_of w s).named line (all (is_ordered_on w s) 0 (length w.messages) (λ k e r. complete-ordered w s k e ∙ valid.read_complete s k e r)),
+      take-kept (is_ordered_on w s) (wanted (is_complete_message w) (read_at w)) (index_of w) 0 (length w.messages) (next + 1) 0 (next + 1) (omega arith)
+          (λ k a b e. index_on w s k e ∙ place k),
+      kept-same (λ k. is_ordered_on w s k && (wanted (is_complete_message w) (read_at w) k && nat_lt (index_of w k) (next + 1)))
+          (is_due w s) 0 (length w.messages) (λ k a b. same (is_ordered_on w s k) (not (read_at w k)) (is_complete_message w k) (index_of w k) next),
+    )
+  where
+    read_at : LinkRecord → ℕ → Bool
+    read_at w k = (message_at w k).read
+
+    place : (k : ℕ) → length (numbers_where (is_ordered_on w s) 0 k) ≡ 0 + length (numbers_where (is_ordered_on w s) 0 (k - 0))
+    place k = let e : k - 0 ≡ k = omega arith in rw e (omega arith)
+
+    all : (p : ℕ → Bool) (from count : ℕ) → ((k : ℕ) → p k ≡ true → (message_at w k).read ≡ true → is_complete_message w k ≡ true)
+        → ReadComplete (is_complete_message w) (λ k. (message_at w k).read) (numbers_where p from count)
+    all p from zero h = tt
+    all p from (suc count) h = grind (arith, nat_tests, all p (from + 1) count h)
+
+    same : (a b c : Bool) (i n : ℕ) → (a && ((b && c) && nat_lt i (n + 1))) ≡ (a && (b && (c && nat_le i n)))
+    same o b c i n = grind (arith, nat_tests)
+
+-- ## The queue after a read
 
 -- the unassembled fragments of a stream that message n is no unordered one of
 unassembled-other : (w : LinkRecord) (n t : ℕ) → is_unordered_on w t n ≡ false → unassembled_chunks (with_read w n) t ≡ unassembled_chunks w t
@@ -81,10 +107,7 @@ module _ (w : LinkRecord) (s : ℕ) (r : StreamRecord) (valid : Valid w) (more :
 
   after-ordered : (o : Option ℕ) → due ≡ o → (stream_of w s).complete ≡ []
       → after_read (map_option (set_of w) o) (reassembly_of w s) ≡ reassembly_of (read_of w s o) s
-  after-ordered None e empty = refl
-  after-ordered (Some n) e empty =
-      let d = due-front w s valid sp n e in
-      sym (Keeps.ordered-read_of w s n s r open' empty ∙ Reading.ordered-read_off w s n valid sp d.0 d.1.0 d.1.1)
+  after-ordered b e empty = grind (arith, nat_tests, due-front, Keeps.ordered-read_of, Reading.ordered-read_off)
 
   rest-with : (l : List ℕ) → (stream_of w s).complete ≡ l
       → rest_among (map (complete_set_of w) l) (reassembly_of w s) ≡ reassembly_of (read_of w s (next_with l)) s
@@ -98,10 +121,7 @@ module _ (w : LinkRecord) (s : ℕ) (r : StreamRecord) (valid : Valid w) (more :
   rest-is = rest-with (stream_of w s).complete refl
 
   other-ordered : (t : ℕ) → (t ≡ s → ⊥) → (o : Option ℕ) → due ≡ o → (stream_of w s).complete ≡ [] → reassembly_of (read_of w s o) t ≡ reassembly_of w t
-  other-ordered t ne None e empty = refl
-  other-ordered t ne (Some n) e empty =
-      let d = due-front w s valid sp n e in
-      Keeps.ordered-read_of w s n t r open' empty ∙ Reading.read-elsewhere w s n valid sp d.0 t ne
+  other-ordered t ne b e empty = grind (arith, nat_tests, due-front, Keeps.ordered-read_of, Reading.read-elsewhere)
 
   other-with : (t : ℕ) → (t ≡ s → ⊥) → (l : List ℕ) → (stream_of w s).complete ≡ l → reassembly_of (read_of w s (next_with l)) t ≡ reassembly_of w t
   other-with t ne [] e = ap (λ o. reassembly_of (read_of w s o) t) next-due ∙ other-ordered t ne due refl e

@@ -1,24 +1,13 @@
 -- What a read and the other events make of the index expected next, and when the queue has nothing to read.
-use Rattle.std.proofs.Common.{◌≡◌, ℕ, ◌+◌, Bool, true, false, List, [], ◌∷◌, Option, Some, None, refl, ap, sym, ◌∙◌, inl, inr, arith}
-use Rattle.std.specs.Prelude.{◌⊎◌, ◌↔◌, if◌then◌else◌, ◌==◌, not, fold, slice_get}
-use Rattle.std.specs.List.{list_any, filter}
-use Rattle.std.proofs.lemmas.Bool.Decides.{nat_tests}
-use Rattle.sctp_util.specs.Kept.{first_of, or_else}
-use Rattle.sctp_util.proofs.Cases.{negated}
-use Rattle.sctp_data.specs.ChunkSet.{ChunkSet}
-use Rattle.sctp_reassembly.specs.reassembly_queue.ReassemblyQueue.{message_read}
-use Rattle.sctp_model.specs.declared.event.Event.{Event}
+use Rattle.sctp_model.proofs.Names.{◌≡◌, ℕ, ◌+◌, Bool, true, false, List, [], ◌∷◌, Option, Some, None, refl, ap, ◌∙◌, arith, ◌⊎◌, ◌↔◌, if◌then◌else◌, ◌==◌, not}
+use Rattle.sctp_model.proofs.Names.{fold, slice_get, list_any, filter, nat_tests, first_of, or_else, negated, ChunkSet, message_read, Event, Setup, LinkRecord}
+use Rattle.sctp_model.proofs.Names.{StreamRecord, Datagram, Data, stream_at, stream_of, index_of, next_of, next_read, held_on, is_unread, run_of, read_of}
+use Rattle.sctp_model.proofs.Names.{after_reading, receive_slot, set_of, handed_out, History, record_of, IsRun, refusal_of, after, IsSetup, IsSpan, Valid}
+use Rattle.sctp_model.proofs.Names.{ValidUnassembled}
 use Rattle.sctp_model.specs.declared.event.Event.TheVariants as E
 use Rattle.sctp_model.specs.declared.event.LinkRefusal.TheVariants.{StreamOpen}
-use Rattle.sctp_model.specs.LinkRecord.{Setup, LinkRecord, StreamRecord, Datagram, Data, Forward, Sack}
 use Rattle.sctp_model.specs.Messages
-use Rattle.sctp_model.specs.Messages.{message_of, stream_at, stream_of, index_of}
-use Rattle.sctp_model.specs.Receiver.{next_of, next_read, held_on, is_unread, run_of}
 use Rattle.sctp_model.specs.Changes
-use Rattle.sctp_model.specs.Changes.{read_of, after_reading, stream_changed, receive_slot}
-use Rattle.sctp_model.specs.Queues.{set_of, handed_out}
-use Rattle.sctp_model.specs.Steps.{History, record_of, IsRun, refusal_of, after}
-use Rattle.sctp_model.specs.Laws.{IsSetup}
 use Rattle.sctp_model.proofs.sender.SenderRun.{consistent-run, consistent-after, unless-holds}
 use Rattle.sctp_model.proofs.sender.Moves
 use Rattle.sctp_model.proofs.sender.Moves.{Quiet}
@@ -28,15 +17,13 @@ use Rattle.sctp_model.proofs.receiver.Received.{received-run}
 use Rattle.sctp_model.proofs.receiver.View
 use Rattle.sctp_model.proofs.receiver.View.{view}
 use Rattle.sctp_model.specs.refinement.Holds.{reassembly_of}
-use Rattle.sctp_model.specs.Valid.{IsSpan, Valid, ValidUnassembled}
 use Rattle.sctp_model.proofs.refinement.reading.Keeps
 use Rattle.sctp_model.proofs.refinement.reading.Line
 use Rattle.sctp_model.proofs.refinement.reading.NextRead
 use Rattle.sctp_model.proofs.refinement.reading.Reading
 use Rattle.sctp_model.proofs.refinement.reading.Reading.{with_read}
-use Rattle.sctp_model.proofs.refinement.arriving.NextOfRun.{run-due}
+use Rattle.sctp_model.proofs.refinement.reading.NextRead.{run-due}
 use Rattle.sctp_model.proofs.refinement.reading.UnorderedRead
-use Rattle.sctp_model.proofs.refinement.arriving.Arrival.{with_arrived}
 use Rattle.sctp_model.proofs.refinement.arriving.Carried.{by_step, noted}
 use Rattle.sctp_model.proofs.refinement.reading.Taken.{IsDue, map_option, due-front}
 use Rattle.sctp_model.proofs.refinement.arriving.UnorderedStep
@@ -86,57 +73,25 @@ module _ (w : LinkRecord) (s : ℕ) (r : StreamRecord) (valid : Valid w) (more :
 
   pub ordered-read : (n : ℕ) → (stream_of w s).complete ≡ [] → next_read w s ≡ Some n → ReadsOrdered w s n
   ordered-read n e front =
-      let run : first_of (filter (is_unread w) (run_of w s)) ≡ Some n = ap (λ l. or_else (first_of l) (first_of (filter (is_unread w) (run_of w s)))) (sym e)
-      ∙ front in
-      let d = due-front w s valid sp n (sym (run-due w s valid) ∙ run) in
-      let kind = Line.on-ordered w s n d.0.on in
-      record {
-        none = e;
-        due = d.0;
-        rest = d.1.0;
-        front = d.1.1;
-        message = cc (NextRead.message-is w s r valid more sp open', front, kind);
-        here = ap (λ o. next_of (read_of w s o) s) front ∙ restreamed n s ∙ step (index_of w n == next_of w s) refl d.0;
-        other = λ t ne. ap (λ o. next_of (read_of w s o) t) front ∙ restreamed n t ∙ Reading.next-other w s n valid sp d.0 t ne;
-      }
-    where
-      step : (b : Bool) → (index_of w n == next_of w s) ≡ b → IsDue w s n → next_of (with_read w n) s ≡ (if b then next_of w s + 1 else next_of w s)
-      step true h d = Reading.next-moves w s n valid sp d (let z : index_of w n ≡ next_of w s = grind (arith, nat_tests) in z)
-      step false h d = Reading.next-stays w s n valid sp d (λ z. grind (arith, nat_tests))
+      grind (arith, nat_tests, due-front, run-due, Line.on-ordered, NextRead.message-is, restreamed, Reading.next-other, Reading.next-moves, Reading.next-stays)
 
   -- what is read next: the first complete unordered message, or the ordered one at the front
   pub reads-one : (n : ℕ) → next_read w s ≡ Some n → ReadsComplete w s n ⊎ ReadsOrdered w s n
-  reads-one n e = by (stream_of w s).complete refl
-    where
-      by : (l : List ℕ) → (stream_of w s).complete ≡ l → ReadsComplete w s n ⊎ ReadsOrdered w s n
-      by [] f = inr (ordered-read n f e)
-      by (k ∷ rest) f =
-          let first : Some k ≡ Some n = ap (λ l. or_else (first_of l) (first_of (filter (is_unread w) (run_of w s)))) (sym f) ∙ e in
-          let z : k ≡ n = cc in
-          inl (complete-read n rest (f ∙ ap (λ j. j ∷ rest) z))
+  reads-one n e = grind (arith, nat_tests, ordered-read, complete-read)
 
   -- the queue has nothing to read where the record has nothing
   pub none-read : next_read w s ≡ None → message_read (reassembly_of w s) ≡ None
   none-read e = NextRead.message-is w s r valid more sp open' ∙ ap (map_option (handed_out w)) e
 
   pub none-due : message_read (reassembly_of w s) ≡ None → next_read w s ≡ None
-  none-due e = by (next_read w s) refl
-    where
-      by : (o : Option ℕ) → next_read w s ≡ o → next_read w s ≡ None
-      by None f = f
-      by (Some n) f = let z : Some (handed_out w n) ≡ None = sym (NextRead.message-is w s r valid more sp open' ∙ ap (map_option (handed_out w)) f) ∙ e in cc
+  none-due e = grind (arith, nat_tests, NextRead.message-is)
 
   pub none : (message_read (reassembly_of w s) ≡ None) ↔ (next_read w s ≡ None)
   none = (none-due, none-read)
 
   -- what the queue hands out is a message of the record
   pub some-read : (set : ChunkSet) → message_read (reassembly_of w s) ≡ Some set → (n : ℕ) × (next_read w s ≡ Some n) × (set ≡ handed_out w n)
-  some-read set e = by (next_read w s) refl
-    where
-      by : (o : Option ℕ) → next_read w s ≡ o → (n : ℕ) × (next_read w s ≡ Some n) × (set ≡ handed_out w n)
-      by None f = let z : Some set ≡ None = sym e ∙ none-read f in cc
-      by (Some n) f = let z : Some set ≡ Some (handed_out w n) = sym e ∙ NextRead.message-is w s r valid more sp open' ∙ ap (map_option (handed_out w)) f in
-          (n, f, cc)
+  some-read set e = grind (arith, nat_tests, none-read, NextRead.message-is)
 
 -- ## The other events leave the index expected next
 
@@ -150,10 +105,7 @@ next-view : (w v : LinkRecord) (t : ℕ) → view v ≡ view w → next_of v t �
 next-view w v t e = ap (λ x. View.next x t) e
 
 next-taken : (w : LinkRecord) (o : Option Datagram) (t : ℕ) → next_of (Changes.after_acked w o) t ≡ next_of w t
-next-taken w None t = refl
-next-taken w (Some (Data ps)) t = refl
-next-taken w (Some (Forward upto names)) t = refl
-next-taken w (Some (Sack r)) t = refl
+next-taken w b t = grind (arith, nat_tests)
 
 pub next-same : (setup : Setup) (h : History) (e : Event) (t : ℕ) → IsSetup setup → IsRun setup h → refusal_of (record_of setup h) e ≡ None → KeepsNext e
     → next_of (after (record_of setup h) e) t ≡ next_of (record_of setup h) t
@@ -185,15 +137,8 @@ next-slots [] w t = refl
 next-slots (p ∷ ps) w t = next-slots ps (receive_slot w p) t ∙ by_step (λ u. next_of u t ≡ next_of w t) w p refl (λ e b h. new b)
   where
     new : (b : Bool) → next_of (noted w p b) t ≡ next_of w t
-    new false = refl
-    new true =
-        let v = with_arrived w p in
-        let on = (Messages.message_at w (message_of w p)).stream in
-        let f = Changes.with_complete (message_of w p) in
-        UnorderedStep.next-streams v (Changes.stream_changed v on f).streams (Keeps.named-changed v on f (λ r. refl) (λ r. refl)) t
+    new b = grind (arith, nat_tests, UnorderedStep.next-streams, Keeps.named-changed)
 
 pub next-arrive : (setup : Setup) (h : History) (k t : ℕ) (slots : List ℕ) → slice_get (record_of setup h).network k ≡ Some (Data slots)
     → next_of (after (record_of setup h) (E.Arrive k)) t ≡ next_of (record_of setup h) t
-next-arrive setup h k t slots e =
-    let w = record_of setup h in
-    ap (λ d. next_of (Changes.after_arrive w d) t) e ∙ next-slots slots w t
+next-arrive setup h k t slots e = grind (arith, nat_tests, next-slots)

@@ -1,24 +1,13 @@
 -- A read of an ordered message: what it leaves.
-use Rattle.std.proofs.Common.{◌≡◌, ℕ, ◌+◌, ◌-◌, ◌<◌, ◌≤◌, ◌%◌, ◌^◌, Bool, true, false, List, [], ◌∷◌, length, map, get_or, Some, refl, ap, sym, ◌∙◌, inl, inr}
-use Rattle.std.proofs.Common.{arith}
-use Rattle.std.specs.Prelude.{◌⊎◌, if◌then◌else◌, ◌==◌, ◌&&◌, not, nat_le}
-use Rattle.std.proofs.lemmas.Bool.Decides.{nat_tests}
-use Rattle.std.proofs.Math.Nat.{eq-or-lt_of_le}
-use Rattle.sctp_util.specs.Kept.{numbers_where}
-use Rattle.sctp_util.specs.Lists.{change_at}
-use Rattle.sctp_reassembly.specs.reassembly_queue.ReassemblyQueue.{after_read, without_first}
-use Rattle.sctp_model.specs.Contents.{chunk_at}
-use Rattle.sctp_model.specs.Queues.{set_of, complete_set_of, is_unassembled}
-use Rattle.sctp_model.specs.refinement.Holds.{ordered_sets, complete_sets, unassembled_chunks, reassembly_of}
-use Rattle.sctp_util.proofs.Passing.{kept-same, kept-skip, map-kept-same, front-kept, FrontOf, IsFront}
-use Rattle.sctp_model.specs.LinkRecord.{LinkRecord}
-use Rattle.sctp_model.specs.Messages.{message_at, message_of, stream_of, no_message, is_ordered_on, index_of, ssn_of, fragments_of, has_fragment, ordered_on}
-use Rattle.sctp_model.specs.Messages.{slots_of, is_unordered_on}
-use Rattle.sctp_model.specs.Receiver.{arrived_at, is_complete_message, is_held, held_on, next_of}
-use Rattle.sctp_model.specs.Changes.{mark_read}
-use Rattle.sctp_model.specs.Valid.{IsSpan, Valid}
-use Rattle.sctp_util.proofs.More.{fails, not_both, length-changed, changed-same, changed-other, changed-keeps}
-use Rattle.sctp_util.proofs.Wraps.{same16-index}
+use Rattle.sctp_model.proofs.Names.{◌≡◌, ℕ, ◌+◌, ◌-◌, ◌<◌, ◌≤◌, ◌%◌, ◌^◌, true, false, List, [], ◌∷◌, length, get_or, Some, refl, ap, sym, ◌∙◌, inl, inr, map}
+use Rattle.sctp_model.proofs.Names.{arith, ◌⊎◌, if◌then◌else◌, ◌==◌, ◌&&◌, not, nat_le, nat_tests, eq-or-lt_of_le, change_at, after_read, without_first}
+use Rattle.sctp_model.proofs.Names.{chunk_at, set_of, complete_set_of, is_unassembled, ordered_sets, complete_sets, unassembled_chunks, kept-same, kept-skip}
+use Rattle.sctp_model.proofs.Names.{map-kept-same, front-kept, FrontOf, IsFront, LinkRecord, message_at, message_of, stream_of, no_message, is_ordered_on}
+use Rattle.sctp_model.proofs.Names.{index_of, ssn_of, ordered_on, slots_of, is_unordered_on, arrived_at, is_complete_message, is_held, held_on, next_of}
+use Rattle.sctp_model.proofs.Names.{mark_read, IsSpan, Valid, fails, not_both, length-changed, changed-same, changed-other, changed-keeps, same16-index}
+use Rattle.sctp_model.proofs.Names.{numbers_where}
+use Rattle.sctp_model.specs.refinement.Holds.{reassembly_of}
+use Rattle.sctp_model.specs.Messages.{fragments_of}
 use Rattle.sctp_model.proofs.refinement.reading.Line
 use Rattle.sctp_model.proofs.refinement.reading.Line.{on-made, on-ordered, ssn_on, line-at, index-at, next_is, next_le, next_passes}
 use Rattle.sctp_model.proofs.refinement.arriving.Stays.{map-all, by_place}
@@ -44,9 +33,7 @@ pub stream-read : (w : LinkRecord) (n k : ℕ) → (message_at (with_read w n) k
 stream-read w n k = changed-keeps mark_read (λ m. m.stream) (λ m. refl) n k w.messages no_message
 
 pub index-read : (w : LinkRecord) (n k : ℕ) → index_of (with_read w n) k ≡ index_of w k
-index-read w n k =
-    rw (stream-read w n k) (ap length (kept-same (is_ordered_on (with_read w n) (message_at w k).stream) (is_ordered_on w (message_at w k).stream) 0 k
-    (λ j a b. on-read w n (message_at w k).stream j)))
+index-read w n k = grind (arith, nat_tests, stream-read, kept-same, on-read)
 
 pub line-read : (w : LinkRecord) (n s : ℕ) → ordered_on (with_read w n) s ≡ ordered_on w s
 line-read w n s = cc (count-read w n, kept-same (is_ordered_on (with_read w n) s) (is_ordered_on w s) 0 (length w.messages) (λ k a b. on-read w n s k))
@@ -61,16 +48,10 @@ pub ppi-read : (w : LinkRecord) (n k : ℕ) → (message_at (with_read w n) k).p
 ppi-read w n k = changed-keeps mark_read (λ m. m.ppi) (λ m. refl) n k w.messages no_message
 
 pub chunk-read : (w : LinkRecord) (n p : ℕ) → chunk_at (with_read w n) p ≡ chunk_at w p
-chunk-read w n p =
-    let k = message_of w p in
-    rw (ssn-read w n k, fragments-read w n k, stream-read w n k, ordered-read w n k, ppi-read w n k) refl
+chunk-read w n p = grind (arith, nat_tests, ssn-read, fragments-read, stream-read, ordered-read, ppi-read)
 
 pub set-read : (w : LinkRecord) (n k : ℕ) → set_of (with_read w n) k ≡ set_of w k
-set-read w n k = rw (
-  ssn-read w n k,
-  ppi-read w n k,
-  map-all (chunk_at (with_read w n)) (chunk_at w) (numbers_where (λ p. has_fragment w k p && arrived_at w p) 0 (length w.slots)) (λ p. chunk-read w n p),
-) refl
+set-read w n k = grind (arith, nat_tests, ssn-read, ppi-read, map-all, chunk-read)
 
 pub message-other : (w : LinkRecord) (n k : ℕ) → (k ≡ n → ⊥) → message_at (with_read w n) k ≡ message_at w k
 message-other w n k ne = changed-other mark_read n k w.messages no_message ne
@@ -97,20 +78,9 @@ unassembled-read w n s on =
     (λ k a b. ap (λ x. arrived_at w k && (nat_le w.skipped k && x)) (by_message (message_of w k)))
     (λ k a b e. chunk-read w n k)
   where
-    ands : (b : Bool) → (b && false) ≡ false
-    ands true = refl
-    ands false = refl
-
-    here : (v : LinkRecord) → (message_at v n).ordered ≡ true → (is_unordered_on v s n && not (is_complete_message v n)) ≡ false
-    here v e = let off : is_unordered_on v s n ≡ false = (rw e (ands ((message_at v n).stream == s))) in rw off refl
-
     by_message : (m : ℕ)
         → (is_unordered_on (with_read w n) s m && not (is_complete_message (with_read w n) m)) ≡ (is_unordered_on w s m && not (is_complete_message w m))
-    by_message m = by_place
-        {C = (is_unordered_on (with_read w n) s m && not (is_complete_message (with_read w n) m)) ≡ (is_unordered_on w s m && not (is_complete_message w m))} m
-        n
-        (λ ne. rw (message-other w n m ne) refl)
-        (λ e. rw e (here (with_read w n) (ordered-read w n n ∙ on) ∙ sym (here w on)))
+    by_message m = grind (arith, nat_tests, message-other, ordered-read)
 
 -- ## What changes
 
@@ -166,17 +136,10 @@ module _ (w : LinkRecord) (s n : ℕ) (valid : Valid w) (sp : IsSpan w s []) (d 
 
       pass : (j : ℕ) → (stream_of w s).named ≤ j → (j ≡ next_of w s) ⊎ (j < next_of w s)
           → (message_at (with_read w n) (get_or (ordered_on w s) j 0)).read ≡ true
-      pass j low (inl z) =
-          let m : get_or (ordered_on w s) j 0 ≡ n = ap (λ i. get_or (ordered_on w s) i 0) (z ∙ sym e) ∙ line-at w s n 0 d.on in
-          rw m (read-now w n n-made)
-      pass j low (inr l) = stays-read (get_or (ordered_on w s) j 0) (next_passes w s j low l)
+      pass j low b = grind (arith, nat_tests, line-at, read-now, n-made, stays-read, next_passes)
 
       stop : next_of w s + 1 < length (ordered_on w s) → (message_at (with_read w n) (get_or (ordered_on w s) (next_of w s + 1) 0)).read ≡ false
-      stop lt =
-          let m = get_or (ordered_on w s) (next_of w s + 1) 0 in
-          let at = index-at w s (next_of w s + 1) lt in
-          stays-unread m (λ z. absurd (omega (arith, at.1, ap (index_of w) z, e)))
-          (fails (message_at w m).read (λ r. absurd (omega (arith, at.1, valid.read_past s m at.0 r))))
+      stop lt = grind (arith, nat_tests, index-at, stays-unread)
 
   pub next-stays : (index_of w n ≡ next_of w s → ⊥) → next_of (with_read w n) s ≡ next_of w s
   next-stays ne =
@@ -185,57 +148,16 @@ module _ (w : LinkRecord) (s n : ℕ) (valid : Valid w) (sp : IsSpan w s []) (d 
       (λ lt. ap (λ m. (message_at (with_read w n) m).read) (at-line (next_of w s)) ∙ stop (omega (arith, lt, ap length (line-read w n s))))
     where
       stop : next_of w s < length (ordered_on w s) → (message_at (with_read w n) (get_or (ordered_on w s) (next_of w s) 0)).read ≡ false
-      stop lt =
-          let m = get_or (ordered_on w s) (next_of w s) 0 in
-          let at = index-at w s (next_of w s) lt in
-          stays-unread m (λ z. ne (sym (ap (index_of w) z) ∙ at.1))
-          (fails (message_at w m).read (λ r. absurd (omega (arith, at.1, valid.read_past s m at.0 r))))
+      stop lt = grind (arith, nat_tests, index-at, stays-unread)
 
   next-read : next_of (with_read w n) s % 2 ^ 16 ≡ (if ssn_of w n == next_of w s % 2 ^ 16 then (next_of w s % 2 ^ 16 + 1) % 2 ^ 16 else next_of w s % 2 ^ 16)
-  next-read =
-      let near = sp.held n n-made n-held in
-      rw (ssn_on w s n d.on, same16-index (index_of w n) (next_of w s) (omega (arith, near, sp.next, sp.short)) (omega (arith, near, sp.next, sp.short)))
-      (step (index_of w n == next_of w s) refl)
-    where
-      step : (b : Bool) → (index_of w n == next_of w s) ≡ b
-          → next_of (with_read w n) s % 2 ^ 16 ≡ (if b then (next_of w s % 2 ^ 16 + 1) % 2 ^ 16 else next_of w s % 2 ^ 16)
-      step true e = let h : index_of w n ≡ next_of w s = grind (arith, nat_tests) in ap (λ x. x % 2 ^ 16) (next-moves h) ∙ sym (Wraps.next16 (next_of w s))
-      step false e = ap (λ x. x % 2 ^ 16) (next-stays (λ h. grind (arith, nat_tests)))
+  next-read = grind (arith, nat_tests, n-made, n-held, ssn_on, same16-index, next-moves, Wraps.next16, next-stays)
 
   pub ordered-read_off : (rest : List ℕ) → held_on w s ≡ n ∷ rest → reassembly_of (with_read w n) s ≡ after_read (Some (set_of w n)) (reassembly_of w s)
   ordered-read_off rest e =
       rw (next-read, sets-left rest e, complete_sets-read w n s, unassembled-read w n s (on-ordered w s n d.on)) refl
 
   -- ## The other streams are as they were
-
-  pub read-elsewhere : (t : ℕ) → (t ≡ s → ⊥) → reassembly_of (with_read w n) t ≡ reassembly_of w t
-  read-elsewhere t ne = rw (ap (λ x. x % 2 ^ 16) next-same, sets-same, complete_sets-read w n t, unassembled-read w n t (on-ordered w s n d.on)) refl
-    where
-      off : (k : ℕ) → is_ordered_on w t k ≡ true → k ≡ n → ⊥
-      off k on z = ne (sym (Line.on-stream w t k on) ∙ ap (λ m. (message_at w m).stream) z ∙ Line.on-stream w s n d.on)
-
-      held-same : (k : ℕ) → is_held (with_read w n) t k ≡ is_held w t k
-      held-same k = by_place {C = is_held (with_read w n) t k ≡ is_held w t k} k n (λ x. held-read w n t k x)
-          (λ z. ap (is_held (with_read w n) t) z ∙ held-now w n t n-made ∙ sym (fails (is_held w t k) (λ h. off k (held w t k h).on z)))
-
-      sets-same : ordered_sets (with_read w n) t ≡ ordered_sets w t
-      sets-same =
-          map-kept-same (set_of (with_read w n)) (set_of w) (is_held (with_read w n) t) (is_held w t) 0 (length (with_read w n).messages) (λ k a b. held-same k)
-          (λ k a b h. set-read w n k) ∙ ap (λ c. map (set_of w) (numbers_where (is_held w t) 0 c)) (count-read w n)
-
-      next-same : next_of (with_read w n) t ≡ next_of w t
-      next-same =
-          next_is (with_read w n) t (next_of w t) (omega arith) (omega (arith, next_le w t (valid.named_made t), ap length (line-read w n t)))
-          (λ j low high. ap (λ m. (message_at (with_read w n) m).read) (ap (λ l. get_or l j 0) (line-read w n t))
-          ∙ stays-read (get_or (ordered_on w t) j 0) (next_passes w t j low high))
-          (λ lt. ap (λ m. (message_at (with_read w n) m).read) (ap (λ l. get_or l (next_of w t) 0) (line-read w n t))
-          ∙ stop (omega (arith, lt, ap length (line-read w n t))))
-        where
-          stop : next_of w t < length (ordered_on w t) → (message_at (with_read w n) (get_or (ordered_on w t) (next_of w t) 0)).read ≡ false
-          stop lt =
-              let m = get_or (ordered_on w t) (next_of w t) 0 in
-              let at = index-at w t (next_of w t) lt in
-              cc (stays-unread m (off m at.0) (fails (message_at w m).read (λ r. absurd (omega (arith, at.1, valid.read_past t m at.0 r)))))
 
   pub next-other : (t : ℕ) → (t ≡ s → ⊥) → next_of (with_read w n) t ≡ next_of w t
   next-other t ne =
@@ -251,3 +173,18 @@ module _ (w : LinkRecord) (s n : ℕ) (valid : Valid w) (sp : IsSpan w s []) (d 
           let at = index-at w t (next_of w t) lt in
           stays-unread m (λ z. ne (sym (Line.on-stream w t m at.0) ∙ ap (λ k. (message_at w k).stream) z ∙ Line.on-stream w s n d.on))
           (fails (message_at w m).read (λ r. absurd (omega (arith, at.1, valid.read_past t m at.0 r))))
+
+  pub read-elsewhere : (t : ℕ) → (t ≡ s → ⊥) → reassembly_of (with_read w n) t ≡ reassembly_of w t
+  read-elsewhere t ne = rw (ap (λ x. x % 2 ^ 16) (next-other t ne), sets-same, complete_sets-read w n t, unassembled-read w n t (on-ordered w s n d.on)) refl
+    where
+      off : (k : ℕ) → is_ordered_on w t k ≡ true → k ≡ n → ⊥
+      off k on z = ne (sym (Line.on-stream w t k on) ∙ ap (λ m. (message_at w m).stream) z ∙ Line.on-stream w s n d.on)
+
+      held-same : (k : ℕ) → is_held (with_read w n) t k ≡ is_held w t k
+      held-same k = by_place {C = is_held (with_read w n) t k ≡ is_held w t k} k n (λ x. held-read w n t k x)
+          (λ z. ap (is_held (with_read w n) t) z ∙ held-now w n t n-made ∙ sym (fails (is_held w t k) (λ h. off k (held w t k h).on z)))
+
+      sets-same : ordered_sets (with_read w n) t ≡ ordered_sets w t
+      sets-same =
+          map-kept-same (set_of (with_read w n)) (set_of w) (is_held (with_read w n) t) (is_held w t) 0 (length (with_read w n).messages) (λ k a b. held-same k)
+          (λ k a b h. set-read w n k) ∙ ap (λ c. map (set_of w) (numbers_where (is_held w t) 0 c)) (count-read w n)

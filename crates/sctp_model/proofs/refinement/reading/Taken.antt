@@ -1,26 +1,12 @@
 -- A read of an ordered message: the queue's front and the record's next one agree.
-use Rattle.std.proofs.Common.{◌≡◌, ℕ, suc, ◌+◌, ◌-◌, ◌<◌, ◌≤◌, ◌%◌, ◌^◌, Bool, true, false, List, [], ◌∷◌, length, map, Option, Some, None, refl, ap, sym, ◌∙◌}
-use Rattle.std.proofs.Common.{inl, inr, arith}
-use Rattle.std.specs.Prelude.{◌⊎◌, if◌then◌else◌, ◌&&◌, ◌||◌, not, nat_lt, nat_le}
-use Rattle.std.proofs.lemmas.Bool.{cases_lt}
-use Rattle.std.proofs.lemmas.Bool.Decides.{nat_tests}
-use Rattle.std.proofs.Math.Nat.{eq-or-lt_of_le}
-use Rattle.sctp_util.specs.Kept.{numbers_where, first_of}
-use Rattle.sctp_util.proofs.Passing.{kept-none, kept-skip, front-kept, FrontOf, IsFront}
-use Rattle.sctp_model.specs.LinkRecord.{LinkRecord}
-use Rattle.sctp_model.specs.Messages.{message_at, stream_of, is_ordered_on, index_of, ssn_of, fragment_count}
-use Rattle.sctp_model.specs.Receiver.{arrived_of, has_arrived, is_complete_message, is_unread, is_held, held_on, next_of}
-use Rattle.sctp_reassembly.specs.reassembly_queue.Fragments.{is_complete}
+use Rattle.sctp_model.proofs.Names.{◌≡◌, ℕ, suc, ◌+◌, ◌-◌, ◌<◌, ◌≤◌, ◌%◌, ◌^◌, Bool, true, false, List, [], ◌∷◌, length, map, Option, Some, None, refl, ap, sym}
+use Rattle.sctp_model.proofs.Names.{◌∙◌, inl, inr, arith, ◌⊎◌, if◌then◌else◌, ◌&&◌, ◌||◌, not, nat_le, cases_lt, nat_tests, eq-or-lt_of_le, numbers_where}
+use Rattle.sctp_model.proofs.Names.{first_of, kept-none, kept-skip, front-kept, FrontOf, IsFront, LinkRecord, message_at, stream_of, is_ordered_on, index_of}
+use Rattle.sctp_model.proofs.Names.{arrived_of, has_arrived, is_complete_message, is_unread, is_held, held_on, next_of, set_of, ordered_sets, IsSpan, Valid}
+use Rattle.sctp_model.proofs.Names.{fails, not_both, and, at_or_before16-index}
 use Rattle.sctp_reassembly.specs.reassembly_queue.ReassemblyQueue.{is_readable, front_readable}
-use Rattle.sctp_util.specs.Serial.{at_or_before16}
-use Rattle.sctp_model.specs.Queues.{set_of}
-use Rattle.sctp_model.specs.refinement.Holds.{ordered_sets, chunks_come}
-use Rattle.sctp_model.specs.Valid.{IsSpan, Valid}
-use Rattle.sctp_util.proofs.More.{fails, not_both, both, and}
-use Rattle.sctp_util.proofs.Wraps.{at_or_before16-index}
 use Rattle.sctp_model.proofs.refinement.reading.Line.{on-made, on-ordered, ssn_on, index-lt, next_reads}
 use Rattle.sctp_model.proofs.refinement.arriving.Arrival.{set_is_complete}
-use Rattle.sctp_util.proofs.Cases.{negated}
 
 -- an ordered message that may be read: complete, unread, and not after the one expected next
 abbrev pub is_due : LinkRecord → ℕ → ℕ → Bool
@@ -39,28 +25,13 @@ pub record IsHeld (w : LinkRecord) (s n : ℕ) : Type 0 where
   pub due : (is_complete_message w n || nat_le (stream_of w s).named (index_of w n)) ≡ true
 
 pub due : (w : LinkRecord) (s n : ℕ) → is_due w s n ≡ true → IsDue w s n
-due w s n e =
-    let a = both (is_ordered_on w s n) (is_unread w n && (is_complete_message w n && nat_le (index_of w n) (next_of w s))) e in
-    let b = both (is_unread w n) (is_complete_message w n && nat_le (index_of w n) (next_of w s)) a.1 in
-    let c = both (is_complete_message w n) (nat_le (index_of w n) (next_of w s)) b.1 in
-    let le : nat_le (index_of w n) (next_of w s) ≡ true = c.1 in
-    record { on = a.0; unread = negated (message_at w n).read b.0; complete = c.0; le = grind (arith, nat_tests) }
+due w s n e = grind (arith, nat_tests)
 
 pub held : (w : LinkRecord) (s n : ℕ) → is_held w s n ≡ true → IsHeld w s n
-held w s n e =
-    let a = both (is_ordered_on w s n)
-    (is_unread w n && (nat_lt 0 (arrived_of w n) && (is_complete_message w n || nat_le (stream_of w s).named (index_of w n)))) e in
-    let b = both (is_unread w n) (nat_lt 0 (arrived_of w n) && (is_complete_message w n || nat_le (stream_of w s).named (index_of w n))) a.1 in
-    let c = both (nat_lt 0 (arrived_of w n)) (is_complete_message w n || nat_le (stream_of w s).named (index_of w n)) b.1 in
-    let some : nat_lt 0 (arrived_of w n) ≡ true = c.0 in
-    record { on = a.0; unread = negated (message_at w n).read b.0; some = grind (arith, nat_tests); due = c.1 }
+held w s n e = grind (arith, nat_tests, due)
 
 pub is-held : (w : LinkRecord) (s n : ℕ) → IsHeld w s n → is_held w s n ≡ true
-is-held w s n d =
-    and (is_ordered_on w s n) (is_unread w n && (nat_lt 0 (arrived_of w n) && (is_complete_message w n || nat_le (stream_of w s).named (index_of w n)))) d.on
-    (and (is_unread w n) (nat_lt 0 (arrived_of w n) && (is_complete_message w n || nat_le (stream_of w s).named (index_of w n))) (ap not d.unread)
-    (and (nat_lt 0 (arrived_of w n)) (is_complete_message w n || nat_le (stream_of w s).named (index_of w n)) (let some = d.some in
-    grind (arith, nat_tests)) d.due))
+is-held w s n d = grind (arith, nat_tests)
 
 pub complete-ordered : (w : LinkRecord) (s n : ℕ) → is_ordered_on w s n ≡ true → is_complete_message w n ≡ has_arrived w n
 complete-ordered w s n on = rw (on-ordered w s n on) refl
@@ -68,10 +39,7 @@ complete-ordered w s n on = rw (on-ordered w s n on) refl
 -- what is complete and unread is held
 pub complete_held : (w : LinkRecord) (s n : ℕ) → Valid w → is_ordered_on w s n ≡ true → (message_at w n).read ≡ false → is_complete_message w n ≡ true
     → IsHeld w s n
-complete_held w s n valid on unread complete =
-    let all : has_arrived w n ≡ true = sym (complete-ordered w s n on) ∙ complete in
-    let count : arrived_of w n ≡ fragment_count w n = grind (arith, nat_tests) in
-    record { on = on; unread = unread; some = omega (arith, count, valid.some n (on-made w s n on)); due = rw complete refl }
+complete_held w s n valid on unread complete = grind (arith, nat_tests, complete-ordered, on-made, due)
 
 abbrev pub map_option : {A : Type 0} → (ℕ → A) → Option ℕ → Option A
 map_option f None = None
@@ -79,15 +47,7 @@ map_option f (Some n) = Some (f n)
 
 module _ (w : LinkRecord) (s : ℕ) (valid : Valid w) (sp : IsSpan w s []) where
   readable : (k : ℕ) → is_held w s k ≡ true → is_readable (next_of w s % 2 ^ 16) (set_of w k) ≡ (is_complete_message w k && nat_le (index_of w k) (next_of w s))
-  readable k e =
-      let h = held w s k e in
-      let lt = on-made w s k h.on in
-      let near = sp.held k lt e in
-      let serial : at_or_before16 (ssn_of w k) (next_of w s % 2 ^ 16) ≡ nat_le (index_of w k) (next_of w s) =
-      rw (ssn_on w s k h.on)
-      (at_or_before16-index (index_of w k) (next_of w s) (omega (arith, near, sp.next, sp.short)) (omega (arith, near, sp.next, sp.short))) in
-      let complete : is_complete (chunks_come w k) ≡ is_complete_message w k = set_is_complete w k valid lt ∙ sym (complete-ordered w s k h.on) in
-      rw (complete, serial) refl
+  readable k e = grind (arith, nat_tests, held, on-made, ssn_on, at_or_before16-index, set_is_complete, complete-ordered)
 
   due_held : (j : ℕ) → is_due w s j ≡ true → is_held w s j ≡ true
   due_held j e = let d = due w s j e in is-held w s j (complete_held w s j valid d.on d.unread d.complete)

@@ -1,21 +1,10 @@
 -- A read of an unordered message: the queues hold then what the record says.
-use Rattle.std.proofs.Common.{◌≡◌, ℕ, ◌<◌, Bool, true, false, List, [], ◌∷◌, length, map, drop, get_or, Some, refl, ap, sym, ◌∙◌, arith}
-use Rattle.std.specs.Prelude.{if◌then◌else◌, ◌==◌, ◌&&◌, ◌||◌, not, nat_le}
-use Rattle.std.specs.List.{list_any}
-use Rattle.std.proofs.lemmas.Bool.Decides.{nat_tests}
-use Rattle.sctp_util.specs.Kept.{numbers_where}
-use Rattle.sctp_util.proofs.Passing.{map-kept-same}
-use Rattle.sctp_model.specs.LinkRecord.{LinkRecord, StreamRecord}
-use Rattle.sctp_model.specs.Messages.{message_at, message_of, stream_at, stream_of, is_ordered_on, ordered_on, is_unordered_on}
-use Rattle.sctp_model.specs.Receiver.{arrived_at, has_arrived, is_complete_message, is_held, next_of}
-use Rattle.sctp_model.specs.Changes.{read_of}
+use Rattle.sctp_model.proofs.Names.{◌≡◌, ℕ, ◌<◌, true, false, List, ◌∷◌, length, map, get_or, Some, refl, ap, sym, ◌∙◌, arith, nat_tests, numbers_where}
+use Rattle.sctp_model.proofs.Names.{map-kept-same, LinkRecord, StreamRecord, message_at, stream_at, stream_of, is_ordered_on, ordered_on, is_unordered_on}
+use Rattle.sctp_model.proofs.Names.{is_complete_message, is_held, next_of, read_of, Reassembly, without_first, ordered_sets, unassembled_chunks, set_of}
+use Rattle.sctp_model.proofs.Names.{complete_set_of, Valid, fails, not_both}
 use Rattle.sctp_model.specs.Changes
-use Rattle.sctp_reassembly.specs.reassembly_queue.ReassemblyQueue.{Reassembly, without_first}
-use Rattle.sctp_model.specs.Contents.{chunk_at}
-use Rattle.sctp_model.specs.refinement.Holds.{ordered_sets, unassembled_chunks, reassembly_of}
-use Rattle.sctp_model.specs.Queues.{set_of, complete_set_of, is_unassembled}
-use Rattle.sctp_model.specs.Valid.{Valid}
-use Rattle.sctp_util.proofs.More.{fails, not_both}
+use Rattle.sctp_model.specs.refinement.Holds.{reassembly_of}
 use Rattle.sctp_model.proofs.refinement.reading.Line
 use Rattle.sctp_model.proofs.refinement.reading.Line.{index-at, next_is, next_le, next_passes}
 use Rattle.sctp_model.proofs.refinement.arriving.Stays
@@ -69,53 +58,16 @@ module _ (w : LinkRecord) (s n : ℕ) (rest : List ℕ) (r : StreamRecord) (vali
   kind = (unordered-of w s n on).1
 
   left : (stream_of u s).complete ≡ rest
-  left = Keeps.complete-here (with_read w n) s Changes.without_first (λ r. refl) (λ r. refl) r open' ∙ ap (drop 1) front ∙ dropped rest
-    where
-      dropped : (l : List ℕ) → drop 1 (n ∷ l) ≡ l
-      dropped [] = refl
-      dropped (x ∷ xs) = refl
+  left = grind (arith, nat_tests, Keeps.complete-here)
 
   named-u : (t : ℕ) → (stream_of u t).named ≡ (stream_of (with_read w n) t).named
   named-u t = Keeps.named-changed (with_read w n) s Changes.without_first (λ r. refl) (λ r. refl) t
 
   complete-u : (m : ℕ) → is_unordered_on w s m ≡ true → is_complete_message u m ≡ is_complete_message w m
-  complete-u m e = by_place {C = is_complete_message u m ≡ is_complete_message w m} m n (λ ne. other ne)
-      (λ z. ap (is_complete_message u) z ∙ now ∙ sym (ap (is_complete_message w) z ∙ was))
-    where
-      reads : (b c : Bool) → c ≡ true → (b || c) ≡ true
-      reads true c e = refl
-      reads false c e = e
-
-      was : is_complete_message w n ≡ true
-      was =
-          ap (λ b. if b then has_arrived w n else ((message_at w n).read || list_any (λ k. k == n) (stream_of w (message_at w n).stream).complete)) kind
-          ∙ reads (message_at w n).read (list_any (λ k. k == n) (stream_of w (message_at w n).stream).complete)
-          (ap (λ t. list_any (λ k. k == n) (stream_of w t).complete) (unordered-of w s n on).0 ∙ ap (list_any (λ k. k == n)) front
-          ∙ (let z : (n == n) ≡ true = grind (arith, nat_tests) in ap (λ b. b || list_any (λ k. k == n) rest) z))
-
-      now : is_complete_message u n ≡ true
-      now = cc (Reading.ordered-read w n n, kind, Reading.read-now w n made)
-
-      other : (m ≡ n → ⊥) → is_complete_message u m ≡ is_complete_message w m
-      other ne =
-          let same = Reading.message-other w n m ne in
-          let k = unordered-of w s m e in
-          let miss : (n == m) ≡ false = fails (n == m) (λ h. let z : n ≡ m = grind (arith, nat_tests) in ne (sym z)) in
-          cc (Reading.ordered-read w n m, k.1, same, k.0, left, miss, front)
+  complete-u m e = grind (arith, nat_tests, kind, unordered-of, Reading.ordered-read, Reading.read-now, Reading.message-other, left)
 
   unassembled-u : unassembled_chunks u s ≡ unassembled_chunks w s
-  unassembled-u =
-      map-kept-same (chunk_at u) (chunk_at w) (is_unassembled u s) (is_unassembled w s) 0 (length w.slots)
-      (λ k a b. ap (λ x. arrived_at w k && (nat_le w.skipped k && x)) (by_kind (message_of w k) (is_unordered_on w s (message_of w k)) refl))
-      (λ k a b e. Reading.chunk-read w n k)
-    where
-      on-u : (m : ℕ) → is_unordered_on u s m ≡ is_unordered_on w s m
-      on-u m = rw (Reading.stream-read w n m, Reading.ordered-read w n m) refl
-
-      by_kind : (m : ℕ) (b : Bool) → is_unordered_on w s m ≡ b
-          → (is_unordered_on u s m && not (is_complete_message u m)) ≡ (is_unordered_on w s m && not (is_complete_message w m))
-      by_kind m true e = ap (λ x. x && not (is_complete_message u m)) (on-u m) ∙ ap (λ x. is_unordered_on w s m && not x) (complete-u m e)
-      by_kind m false e = ap (λ x. x && not (is_complete_message u m)) (on-u m ∙ e) ∙ sym (ap (λ x. x && not (is_complete_message w m)) e)
+  unassembled-u = grind (arith, nat_tests, map-kept-same, Reading.chunk-read, Reading.stream-read, Reading.ordered-read, complete-u)
 
   pub unordered-read_off : reassembly_of u s ≡ after_read_unordered (reassembly_of w s)
   unordered-read_off =

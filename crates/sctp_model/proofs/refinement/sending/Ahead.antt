@@ -1,17 +1,11 @@
 -- The fragments of a datagram, looked at before they leave, each as the chunk that is made of it.
-use Rattle.std.proofs.Common.{◌≡◌, ℕ, zero, suc, ◌+◌, ◌-◌, ◌/◌, ◌<◌, ◌≤◌, Bool, true, false, List, [], ◌∷◌, ◌++◌, length, map, Option, Some, None, refl, ap}
-use Rattle.std.proofs.Common.{sym, ◌∙◌, arith, add-one, append_assoc}
-use Rattle.std.specs.Prelude.{if◌then◌else◌, nat_le, is_some, ◌==◌}
-use Rattle.std.proofs.lemmas.Bool.Decides.{nat_tests}
+use Rattle.sctp_model.proofs.Names.{◌≡◌, ℕ, zero, suc, ◌+◌, ◌-◌, ◌/◌, ◌<◌, ◌≤◌, true, List, [], ◌∷◌, ◌++◌, length, map, Option, Some, None, refl, ap, ◌∙◌}
+use Rattle.sctp_model.proofs.Names.{arith, add-one, append_assoc, sym, is_some, nat_tests, ChunkPayloadData, Pending, next_pending, Outbound, all_started}
+use Rattle.sctp_model.proofs.Names.{after_sends, taken_of, chunk_length, further, chunks_taken, following_tsn, under_tsn}
 use Rattle.std.proofs.lemmas.List.{append-nil}
-use Rattle.sctp_data.specs.declared.chunk.chunk_payload_data.ChunkPayloadData.{ChunkPayloadData}
-use Rattle.sctp_outbound.specs.pending_queue.PendingQueue.{Pending, next_pending, start_pending}
-use Rattle.sctp_outbound.specs.outbound_queue.OutboundQueue.{Outbound, sent_of, sent_next, all_started, after_sends, taken_of}
+use Rattle.sctp_outbound.specs.outbound_queue.OutboundQueue.{sent_of, sent_next}
 use Rattle.sctp_outbound.proofs.lemmas.outbound_queue.Outbounds.{peeked_all_started}
-use Rattle.sctp_model.specs.Changes.{chunk_length}
-use Rattle.sctp_model.specs.refinement.Filling.{further, chunks_taken}
 use Rattle.sctp_model.proofs.refinement.sending.FilledDatagrams.{turns-enough}
-use Rattle.sctp_serial.specs.DataChunks.{following_tsn, under_tsn}
 
 after-send : (i : ℕ) (q : Pending) → after_sends (suc i) q ≡ taken_of (next_pending (after_sends i q)) (after_sends i q)
 after-send zero q = refl
@@ -31,9 +25,7 @@ begins f limit tsn used q c ks shown one is =
 further-fits : (most limit used tsn : ℕ) (q : Pending) (c : ChunkPayloadData) → next_pending q ≡ Some c → used + chunk_length (length c.user_data) ≤ limit
     → further (suc most) limit used tsn q ≡ under_tsn tsn c ∷ further most limit (used + chunk_length (length c.user_data)) (following_tsn tsn)
     (taken_of (next_pending q) q)
-further-fits most limit used tsn q c shown le =
-    let fits : nat_le (used + chunk_length (length c.user_data)) limit ≡ true = grind (arith, nat_tests) in
-    cc
+further-fits most limit used tsn q c shown le = grind (arith, nat_tests)
 
 pub goes-on : {A : Type 0} (f : ChunkPayloadData → A) (most limit used tsn i : ℕ) (q : Pending) (c : ChunkPayloadData) (ks ls complete : List A) → i < most
     → next_pending (after_sends (i + 1) q) ≡ Some c → used + chunk_length (length c.user_data) ≤ limit → ls ≡ ks ++ f (under_tsn tsn c) ∷ []
@@ -63,9 +55,7 @@ stops-none f most limit used tsn q ks complete none e = cc (append-nil ks, furth
 further-full : (most limit used tsn : ℕ) (q : Pending) (c : ChunkPayloadData) → next_pending q ≡ Some c → limit < used + chunk_length (length c.user_data)
     → further most limit used tsn q ≡ []
 further-full zero limit used tsn q c shown lt = refl
-further-full (suc most) limit used tsn q c shown lt =
-    let no' : nat_le (used + chunk_length (length c.user_data)) limit ≡ false = grind (arith, nat_tests) in
-    cc
+further-full (suc most) limit used tsn q c shown lt = grind (arith, nat_tests)
 
 pub stops-full : {A : Type 0} (f : ChunkPayloadData → A) (most limit used tsn : ℕ) (q : Pending) (c : ChunkPayloadData) (ks complete : List A)
     → next_pending q ≡ Some c → limit < used + chunk_length (length c.user_data) → ks ++ map f (further most limit used tsn q) ≡ complete → ks ≡ complete
@@ -76,17 +66,10 @@ stops-full f most limit used tsn q c ks complete shown lt e = cc (append-nil ks,
 -- a fragment that leaves takes the room of one
 pub room-less : (q r : Outbound) (tsn now : ℕ) (c : ChunkPayloadData) → next_pending q.pending ≡ Some c → r ≡ sent_next q tsn now → 0 < q.inflight.room
     → q.inflight.room ≡ r.inflight.room + 1
-room-less q r tsn now c shown is pos =
-    by (next_pending (all_started now q).pending) (peeked_all_started now q ∙ ap is_some shown)
-    ∙ ap (λ k. k + 1) (sym (ap (λ (o : Outbound). o.inflight.room) is))
+room-less q r tsn now c shown is pos = cc (by (next_pending (all_started now q).pending) (peeked_all_started now q ∙ ap is_some shown), is)
   where
     same : (all_started now q).inflight.room ≡ q.inflight.room
-    same = step (q.next_unstarted == q.next_message_id)
-      where
-        step : (b : Bool) → (if b then q
-            else record q { pending = start_pending q.next_unstarted now q.pending; next_unstarted = q.next_message_id }).inflight.room ≡ q.inflight.room
-        step true = refl
-        step false = refl
+    same = grind (arith, nat_tests)
 
     by : (o : Option ChunkPayloadData) → is_some o ≡ true → q.inflight.room ≡ (sent_of o (all_started now q) tsn now).inflight.room + 1
     by None e = cc

@@ -1,12 +1,7 @@
 -- Indexes as they are given out: a message takes the next one of its stream when its first fragment is sent, and keeps it.
-use Rattle.std.proofs.Common.{◌≡◌, ℕ, ◌+◌, ◌-◌, ◌<◌, ◌≤◌, Bool, true, false, length, refl, ap, sym, ◌∙◌, inl, inr, arith, add-one}
-use Rattle.std.specs.Prelude.{◌⊎◌, if◌then◌else◌, ◌==◌, ◌&&◌, not, nat_lt}
-use Rattle.std.proofs.lemmas.Bool.{cases_lt}
-use Rattle.std.proofs.lemmas.Bool.Decides.{nat_tests}
-use Rattle.sctp_util.specs.Kept.{numbers_where}
-use Rattle.sctp_util.proofs.Passing.{kept-same, kept-snoc_out, length-kept-le}
-use Rattle.sctp_util.proofs.More.{fails, both, and, same_test, length-kept-one_more, kept-short}
-use Rattle.sctp_util.proofs.Cases.{by_same, same-yes, same-is, negated}
+use Rattle.sctp_model.proofs.Names.{◌≡◌, ℕ, ◌+◌, ◌-◌, ◌<◌, ◌≤◌, Bool, true, false, length, refl, ap, sym, ◌∙◌, inl, inr, arith, add-one, ◌⊎◌, if◌then◌else◌}
+use Rattle.sctp_model.proofs.Names.{◌==◌, ◌&&◌, not, nat_lt, cases_lt, nat_tests, numbers_where, kept-same, kept-snoc_out, length-kept-le, fails, both, and}
+use Rattle.sctp_model.proofs.Names.{length-kept-one_more, kept-short, by_same, same-yes, same-is}
 use Rattle.sctp_model.proofs.sender.Shape.{Shape, MessagePart, sent, on, index, slotted, written}
 use Rattle.sctp_model.proofs.sender.Sender.{Sender, sent-slotted}
 use Rattle.sctp_model.proofs.sender.SenderSteps.{Takes, sent-other, sent-here}
@@ -34,11 +29,7 @@ first-index x n s t z o =
     earlier m lt = step ((x.message m).stream == (x.message n).stream) (x.message m).ordered refl
       where
         step : (a b : Bool) → (x.message m).ordered ≡ b → (a && (b && not (x.message m).expired)) ≡ (a && (b && nat_lt 0 (sent x m)))
-        step false b q = refl
-        step true false q = refl
-        step true true q = same_test (not (x.message m).expired) (nat_lt 0 (sent x m))
-            (λ e. let l : 0 < sent x m = t.turn o z m lt q (negated (x.message m).expired e) in grind (arith, nat_tests))
-            (λ e. let l : 0 < sent x m = grind (arith, nat_tests) in ap not (sent-alive x m s l))
+        step c b q = grind (arith, nat_tests, sent, sent-alive)
 
     later : (k : ℕ) → n ≤ k → k < x.count → begins_on x (x.message n).stream k ≡ false
     later k le lt = fails (begins_on x (x.message n).stream k) (λ h.
@@ -72,23 +63,11 @@ begun-written x m s k =
     (λ j a b. ap (λ y. (y.stream == s) && (y.ordered && nat_lt 0 (sent x j))) (message-old x m j (omega arith))))
   where
     none : begins_on (written x m) s x.count ≡ true → ⊥
-    none h =
-        let c = (both ((written x m).message x.count).ordered (nat_lt 0 (sent x x.count))
-        (both (((written x m).message x.count).stream == s) (((written x m).message x.count).ordered && nat_lt 0 (sent x x.count)) h).1).1 in
-        let pos : 0 < sent x x.count = grind (arith, nat_tests) in
-        absurd (omega (arith, pos, sent-none x x.count k (omega arith)))
+    none h = grind (arith, nat_tests, written, sent, sent-none)
 
 -- a terminal chunk is no fragment
 pub begun-marked : (x : Shape) (n s : ℕ) → begun (slotted x n true) s ≡ begun x s
-begun-marked x n s = ap length (kept-same (begins_on (slotted x n true) s) (begins_on x s) 0 x.count
-    (λ j a b. ap (λ c. ((x.message j).stream == s) && ((x.message j).ordered && nat_lt 0 c)) (marked j)))
-  where
-    marked : (j : ℕ) → sent (slotted x n true) j ≡ sent x j
-    marked j = sent-slotted x n j true ∙ none (n == j)
-      where
-        none : (b : Bool) → sent x j + (if b && false then 1 else 0) ≡ sent x j
-        none true = omega arith
-        none false = omega arith
+begun-marked x n s = grind (arith, nat_tests, kept-same, sent, sent-slotted)
 
 -- a fragment counts where it is the first of an ordered message
 pub begun-taken : (x : Shape) (n s : ℕ) → n < x.count

@@ -1,21 +1,15 @@
 -- Indexes as they are given out, at each event.
-use Rattle.std.proofs.Common.{◌≡◌, ℕ, ◌+◌, Bool, true, false, List, [], ◌∷◌, Option, Some, None, refl, ap, sym, ◌∙◌, arith, length}
-use Rattle.std.specs.Prelude.{if◌then◌else◌, ◌==◌, ◌&&◌, fold, nat_lt}
-use Rattle.sctp_model.specs.declared.event.Event.{Event}
+use Rattle.sctp_model.proofs.Names.{◌≡◌, ℕ, Bool, true, false, List, [], ◌∷◌, Option, Some, None, refl, ap, sym, ◌∙◌, arith, length, if◌then◌else◌, fold, ◌==◌}
+use Rattle.sctp_model.proofs.Names.{◌&&◌, nat_lt, Event, Setup, LinkRecord, refusal_of, after, kept-none, nat_tests, fails, not_both, both, same-is}
 use Rattle.sctp_model.specs.declared.event.Event.TheVariants as E
-use Rattle.sctp_model.specs.LinkRecord.{Setup, LinkRecord}
 use Rattle.sctp_model.specs.Messages
 use Rattle.sctp_model.specs.Changes
-use Rattle.sctp_model.specs.Steps.{refusal_of, after}
 use Rattle.sctp_model.proofs.sender.Shape.{Shape, shape, message_part, sent, slotted, abandoned_at, expired_at, written}
 use Rattle.sctp_model.proofs.sender.Shapes
 use Rattle.sctp_model.proofs.sender.Sender.{sent-slotted}
 use Rattle.sctp_model.proofs.sender.SenderRun.{Consistent}
 use Rattle.sctp_model.proofs.sender.Network.{extends-after, shape-after}
-use Rattle.sctp_util.proofs.Passing.{kept-none}
-use Rattle.sctp_util.proofs.More.{fails, not_both, both}
-use Rattle.sctp_util.proofs.Cases.{same-is}
-use Rattle.sctp_model.proofs.refinement.sending.Begun.{begins_on, begun, begun-written, begun-marked, Indexed, indexed-grown}
+use Rattle.sctp_model.proofs.refinement.sending.Begun.{begun, begun-written, begun-marked, Indexed, indexed-grown, begins_on}
 
 -- no fragment is sent
 pub record NoneSent (x y : Shape) : Type 0 where
@@ -29,11 +23,7 @@ none-then : (x y z : Shape) → NoneSent x y → NoneSent y z → NoneSent x z
 none-then x y z a b = record { sent = λ n. b.sent n ∙ a.sent n; begun = λ s. b.begun s ∙ a.begun s }
 
 none-marked : (x : Shape) (n : ℕ) → NoneSent x (slotted x n true)
-none-marked x n = record { sent = λ k. sent-slotted x n k true ∙ none (n == k) (sent x k); begun = λ s. begun-marked x n s }
-  where
-    none : (b : Bool) (c : ℕ) → c + (if b && false then 1 else 0) ≡ c
-    none true c = omega arith
-    none false c = omega arith
+none-marked x n = grind (arith, nat_tests, sent, sent-slotted, begun, begun-marked)
 
 none-gone : (w : LinkRecord) (n : ℕ) → NoneSent (shape w) (shape (Changes.after_abandon w n))
 none-gone w n = by (Messages.is_partially_sent w n)

@@ -1,29 +1,19 @@
 -- The chunks that fill a datagram are those of the slots that it takes.
-use Rattle.std.proofs.Common.{◌≡◌, ℕ, zero, suc, ◌+◌, ◌<◌, ◌≤◌, Bool, true, false, List, [], ◌∷◌, ◌++◌, length, map, get_or, Option, Some, None, refl, ap, sym}
-use Rattle.std.proofs.Common.{◌∙◌, arith, length-append, ◌*◌}
-use Rattle.std.specs.Prelude.{if◌then◌else◌, nat_le, is_some, IfSome, not, ◌==◌, ◌%◌, ◌^◌}
-use Rattle.std.proofs.Math.Path.{subst}
-use Rattle.std.proofs.lemmas.Bool.Decides.{nat_tests}
-use Rattle.sctp_util.specs.Kept.{numbers_from}
-use Rattle.sctp_util.specs.Lists.{pieces}
-use Rattle.sctp_util.proofs.Getting.{get-snoc_old, get-snoc_new}
-use Rattle.sctp_data.specs.declared.chunk.chunk_payload_data.ChunkPayloadData.{ChunkPayloadData}
-use Rattle.sctp_data.specs.PayloadData.{Data, data_of}
-use Rattle.sctp_outbound.specs.pending_queue.PendingQueue.{Pending, next_pending}
-use Rattle.sctp_outbound.specs.outbound_queue.OutboundQueue.{taken_of, after_sends}
-use Rattle.sctp_model.specs.LinkRecord.{Setup, LinkRecord, Slot}
-use Rattle.sctp_model.specs.Messages.{front, sent_of, slot_at, tsn_of, no_slot}
-use Rattle.sctp_model.specs.Contents.{chunk_at, data_fields}
-use Rattle.sctp_model.specs.Changes.{after_start, with_slot, send_fragment, send_fragment_of, send_fragments, fill_datagram, plus, chunk_fits, chunk_length}
+use Rattle.sctp_model.proofs.Names.{◌≡◌, ℕ, zero, suc, ◌+◌, ◌<◌, ◌≤◌, Bool, true, false, List, [], ◌∷◌, ◌++◌, length, map, get_or, Option, Some, None, refl, ap}
+use Rattle.sctp_model.proofs.Names.{sym, ◌∙◌, arith, length-append, ◌*◌, if◌then◌else◌, nat_le, is_some, IfSome, not, ◌==◌, subst, nat_tests, numbers_from}
+use Rattle.sctp_model.proofs.Names.{pieces, get-snoc_old, get-snoc_new, ChunkPayloadData, data_of, Pending, next_pending, taken_of, after_sends, Setup}
+use Rattle.sctp_model.proofs.Names.{LinkRecord, Slot, front, sent_of, slot_at, tsn_of, no_slot, chunk_at, data_fields, after_start, with_slot, send_fragment}
+use Rattle.sctp_model.proofs.Names.{send_fragment_of, chunk_length, waiting_at, RefinesPending, further, chunks_taken, following_tsn, under_tsn}
+use Rattle.std.specs.Prelude.{◌%◌, ◌^◌}
+use Rattle.sctp_data.specs.PayloadData.{Data}
+use Rattle.sctp_model.specs.Changes.{send_fragments, fill_datagram, plus, chunk_fits}
 use Rattle.sctp_model.specs.Changes.{next_length, next_length_of}
 use Rattle.sctp_model.proofs.sender.Shape.{Shape, shape, sent, parts, index, front_of}
 use Rattle.sctp_model.proofs.sender.Shapes
 use Rattle.sctp_model.proofs.sender.Fronts.{front-none}
-use Rattle.sctp_model.specs.refinement.Refines.{waiting_at, RefinesPending}
-use Rattle.sctp_model.specs.refinement.Filling.{leaving, length_shown, fits_in, further, chunks_taken}
+use Rattle.sctp_model.specs.refinement.Filling.{leaving, length_shown, fits_in}
 use Rattle.sctp_model.proofs.refinement.sending.Sent.{front_is, pending-sent, pending-idle}
 use Rattle.sctp_model.proofs.refinement.sending.KindsRun.{Going, going-takes}
-use Rattle.sctp_serial.specs.DataChunks.{following_tsn, under_tsn}
 
 -- ## One fragment after another
 
@@ -64,10 +54,7 @@ slots-stay zero p w lt = refl
 slots-stay (suc n) p w lt = slots-stay n p (send_fragment w) (omega (arith, lt, slots-longer 1 w)) ∙ stays (front w)
   where
     stays : (o : Option ℕ) → slot_at (send_fragment_of w o) p ≡ slot_at w p
-    stays None = refl
-    stays (Some m) =
-        let new : Slot = record { message = m; fragment = sent_of w m; is_terminal_chunk = false; arrived = false; acknowledged = false } in
-        get-snoc_old w.slots new p no_slot (λ e. absurd (omega (arith, e, lt)))
+    stays b = grind (arith, nat_tests, get-snoc_old)
 
 -- ## What a queue shows, against the record
 
@@ -241,11 +228,7 @@ next-started w now = next-shape (after_start w now) (front (after_start w now)) 
     ∙ sym (next-shape w (front w))
 
 fragment-started : (w : LinkRecord) (now : ℕ) → send_fragment (after_start w now) ≡ after_start (send_fragment w) now
-fragment-started w now = ap (send_fragment_of (after_start w now)) (front-started w now) ∙ by (front w)
-  where
-    by : (o : Option ℕ) → send_fragment_of (after_start w now) o ≡ after_start (send_fragment_of w o) now
-    by None = refl
-    by (Some n) = refl
+fragment-started w now = grind (arith, nat_tests, front-started)
 
 pub after-started : (n : ℕ) (w : LinkRecord) (now : ℕ) → after_fragments n (after_start w now) ≡ after_start (after_fragments n w) now
 after-started zero w now = refl
@@ -254,23 +237,13 @@ after-started (suc n) w now = ap (after_fragments n) (fragment-started w now) �
 filled-started : (most used : ℕ) (w : LinkRecord) (now : ℕ) → fill_datagram most used (after_start w now) ≡ after_start (fill_datagram most used w) now
 filled-started zero used w now = refl
 filled-started (suc most) used w now =
-    ap (λ o. if chunk_fits (after_start w now) used o then fill_datagram most (plus used o) (send_fragment (after_start w now)) else after_start w now)
-    (next-started w now) ∙ ap (λ v. if chunk_fits (after_start w now) used (next_length w) then fill_datagram most (plus used (next_length w)) v
-    else after_start w now) (fragment-started w now) ∙ by (next_length w) (λ used'. filled-started most used' (send_fragment w) now)
+    cc (next-started w now, fragment-started w now, by (next_length w) (λ used'. filled-started most used' (send_fragment w) now))
   where
     by : (o : Option ℕ)
         → ((used' : ℕ) → fill_datagram most used' (after_start (send_fragment w) now) ≡ after_start (fill_datagram most used' (send_fragment w)) now)
         → (if chunk_fits (after_start w now) used o then fill_datagram most (plus used o) (after_start (send_fragment w) now) else after_start w now)
         ≡ after_start (if chunk_fits w used o then fill_datagram most (plus used o) (send_fragment w) else w) now
-    by None rest = refl
-    by (Some more) rest = test (nat_le (used + more) w.setup.limit) (rest (used + more))
-      where
-        test : (b : Bool)
-            → fill_datagram most (used + more) (after_start (send_fragment w) now) ≡ after_start (fill_datagram most (used + more) (send_fragment w)) now
-            → (if b then fill_datagram most (used + more) (after_start (send_fragment w) now) else after_start w now)
-            ≡ after_start (if b then fill_datagram most (used + more) (send_fragment w) else w) now
-        test true same = same
-        test false same = refl
+    by b rest = grind (arith, nat_tests)
 
 pub sent-started : (w : LinkRecord) (now : ℕ) → send_fragments (after_start w now) ≡ after_start (send_fragments w) now
 sent-started w now = cc (next-started w now, fragment-started w now, filled-started w.setup.limit (plus 12 (next_length w)) (send_fragment w) now)
@@ -311,14 +284,7 @@ fill-started w z now cs f = record {
 -- a chunk has at least 16 bytes: none fits where fewer are left
 none-fits : (most limit used tsn : ℕ) (q : Pending) → limit < used + 16 → further most limit used tsn q ≡ []
 none-fits zero limit used tsn q short = refl
-none-fits (suc most) limit used tsn q short = by (next_pending q)
-  where
-    by : (p : Option ChunkPayloadData) → (if fits_in limit used (length_shown p)
-        then leaving tsn p ++ further most limit (plus used (length_shown p)) (following_tsn tsn) (taken_of p q) else []) ≡ []
-    by None = refl
-    by (Some c) =
-        let no' : nat_le (used + chunk_length (length c.user_data)) limit ≡ false = grind (arith, nat_tests) in
-        cc
+none-fits (suc most) limit used tsn q short = grind (arith, nat_tests)
 
 -- so no more turns are of use than the limit has room for
 pub turns-enough : (most more limit used tsn : ℕ) (q : Pending) → limit < used + 16 * (most + 1)

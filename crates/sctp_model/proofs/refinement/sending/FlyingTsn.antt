@@ -1,12 +1,6 @@
 -- A TSN in flight: the place of its slot, and its chunk.
-use Rattle.std.proofs.Common.{◌≡◌, ℕ, ◌-◌, ◌<◌, ◌≤◌, ◌^◌, true, length, Some, ap, sym, ◌∙◌, arith}
-use Rattle.std.specs.Prelude.{nat_le, nat_lt, find}
-use Rattle.std.proofs.lemmas.Bool.Decides.{nat_tests}
-use Rattle.sctp_util.proofs.More.{both}
-use Rattle.sctp_serial.specs.DataChunks.{has_tsn}
-use Rattle.sctp_outbound.specs.outbound_queue.OutboundQueue.{Outbound}
-use Rattle.sctp_model.specs.LinkRecord.{LinkRecord}
-use Rattle.sctp_model.specs.Messages.{is_in_flight, place_of, tsn_of}
+use Rattle.sctp_model.proofs.Names.{◌≡◌, ℕ, ◌-◌, ◌<◌, ◌≤◌, ◌^◌, true, length, Some, ap, sym, ◌∙◌, arith, nat_le, nat_lt, find, nat_tests, both, has_tsn}
+use Rattle.sctp_model.proofs.Names.{Outbound, LinkRecord, is_in_flight, place_of, tsn_of}
 use Rattle.sctp_model.proofs.refinement.sending.InFlight.{Found, found-in}
 use Rattle.sctp_model.proofs.refinement.Histories.{Sends, facts}
 

@@ -1,19 +1,11 @@
 -- The fragments of a Send go one after another.
-use Rattle.std.proofs.Common.{◌≡◌, ℕ, ◌≤◌, Bool, true, false, length, Some, None, refl, sym, ◌∙◌, arith}
-use Rattle.std.specs.Prelude.{◌==◌}
-use Rattle.std.proofs.Math.Path.{subst}
-use Rattle.std.proofs.lemmas.Bool.Decides.{nat_tests}
-use Rattle.sctp_outbound.specs.pending_queue.PendingQueue.{next_pending}
-use Rattle.sctp_outbound.specs.outbound_queue.OutboundQueue.{Outbound, all_started, sent_peeked}
-use Rattle.sctp_model.specs.LinkRecord.{Setup, LinkRecord}
-use Rattle.sctp_model.specs.Messages.{front, sent_of, tsn_of}
-use Rattle.sctp_model.specs.Changes.{after_start, send_fragment, send_fragment_of}
-use Rattle.sctp_model.specs.Steps.{History, record_of, IsRun}
+use Rattle.sctp_model.proofs.Names.{◌≡◌, ℕ, ◌≤◌, length, Some, None, sym, arith, subst, nat_tests, next_pending, Outbound, all_started, sent_peeked, Setup}
+use Rattle.sctp_model.proofs.Names.{LinkRecord, front, sent_of, tsn_of, after_start, send_fragment, send_fragment_of, History, record_of, IsRun, waiting_at}
+use Rattle.sctp_model.proofs.Names.{RefinesOutbound}
 use Rattle.sctp_model.proofs.sender.Shape.{shape}
 use Rattle.sctp_model.proofs.sender.SenderRun.{consistent-run, consistent-started}
 use Rattle.sctp_model.proofs.sender.Few
 use Rattle.sctp_model.proofs.sender.Fronts.{front-none}
-use Rattle.sctp_model.specs.refinement.Refines.{waiting_at, RefinesOutbound}
 use Rattle.sctp_model.proofs.refinement.sending.Sent.{front_is, pending-sent, pending-idle}
 use Rattle.sctp_model.proofs.refinement.sending.SentInFlight.{refines-sent}
 use Rattle.sctp_model.proofs.refinement.sending.KindsRun.{Going, turns-as, turns-run}
@@ -40,11 +32,7 @@ refines-fragment setup w n now q g e made all t =
 
 -- once lifetimes have started, all have
 pub all-begun : (w : LinkRecord) (now : ℕ) (q : Outbound) → RefinesOutbound w q → (all_started now q).next_unstarted ≡ length w.messages
-all-begun w now q t = by (q.next_unstarted == q.next_message_id) refl
-  where
-    by : (b : Bool) → (q.next_unstarted == q.next_message_id) ≡ b → (all_started now q).next_unstarted ≡ length w.messages
-    by true e = let z : q.next_unstarted ≡ q.next_message_id = grind (arith, nat_tests) in rw e (z ∙ t.next)
-    by false e = rw e t.next
+all-begun w now q t = grind (arith, nat_tests)
 
 pub going-started : (setup : Setup) (w : LinkRecord) (now : ℕ) → Going setup w → Going setup (after_start w now)
 going-started setup w now g =

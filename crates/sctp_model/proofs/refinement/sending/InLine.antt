@@ -1,12 +1,7 @@
 -- The count of the ordered messages before a message: what events leave of it, and what a write adds.
-use Rattle.std.proofs.Common.{◌≡◌, ℕ, ◌+◌, ◌<◌, ◌≤◌, Bool, true, false, List, [], ◌∷◌, ◌++◌, length, refl, ap, ◌∙◌, arith, add-one, length-append}
-use Rattle.std.specs.Prelude.{if◌then◌else◌, ◌==◌, ◌&&◌, not}
-use Rattle.sctp_util.specs.Kept.{numbers_where}
-use Rattle.sctp_util.proofs.Passing.{kept-same, kept-snoc}
-use Rattle.sctp_util.proofs.Getting.{get-snoc_old, get-snoc_new, get-map}
-use Rattle.sctp_model.specs.LinkRecord.{Message, LinkRecord}
-use Rattle.sctp_model.specs.Messages.{message_at, no_message, is_ordered_on, ordered_before}
-use Rattle.sctp_model.specs.Changes.{after_start, start_lifetime}
+use Rattle.sctp_model.proofs.Names.{◌≡◌, ℕ, ◌+◌, ◌<◌, ◌≤◌, Bool, true, false, List, [], ◌∷◌, ◌++◌, length, refl, ap, arith, add-one, length-append, ◌∙◌}
+use Rattle.sctp_model.proofs.Names.{if◌then◌else◌, ◌==◌, ◌&&◌, not, numbers_where, kept-same, kept-snoc, get-snoc_old, get-snoc_new, get-map, Message}
+use Rattle.sctp_model.proofs.Names.{LinkRecord, message_at, no_message, is_ordered_on, ordered_before, after_start, start_lifetime, and-true, nat_tests}
 
 -- ## One more message
 
@@ -25,9 +20,7 @@ count-with w m = length-append w.messages (m ∷ [])
 
 -- the count before a message that was there is as it was
 pub before-same : (w : LinkRecord) (m : Message) (t k : ℕ) → k ≤ length w.messages → ordered_before (with_message w m) t k ≡ ordered_before w t k
-before-same w m t k le =
-    ap length (kept-same (is_ordered_on (with_message w m) t) (is_ordered_on w t) 0 k
-    (λ j a b. ap (λ x. (x.stream == t) && (x.ordered && not x.expired)) (message-before w m j (omega arith))))
+before-same w m t k le = grind (arith, nat_tests, kept-same, message-before)
 
 -- the count of all messages is one more where the new one is an ordered one of the stream
 pub before-more : (w : LinkRecord) (m : Message) (t : ℕ) → m.expired ≡ false → ordered_before (with_message w m) t (length (with_message w m).messages)
@@ -41,15 +34,11 @@ before-more w m t alive =
     ∙ ap (λ c. c + (if is_ordered_on v t n then 1 else 0)) (before-same w m t n (omega arith))
     ∙ ap (λ x. ordered_before w t n + (if (x.stream == t) && (x.ordered && not x.expired) then 1 else 0)) (message-last w m)
     ∙ ap (λ b. ordered_before w t n + (if (m.stream == t) && (m.ordered && not b) then 1 else 0)) alive
-    ∙ ap (λ b. ordered_before w t n + (if (m.stream == t) && b then 1 else 0)) (ands m.ordered)
+    ∙ ap (λ b. ordered_before w t n + (if (m.stream == t) && b then 1 else 0)) (and-true m.ordered)
   where
     one-more : (xs : List ℕ) (b : Bool) → length (xs ++ (if b then length w.messages ∷ [] else [])) ≡ length xs + (if b then 1 else 0)
     one-more xs true = length-append xs (length w.messages ∷ [])
     one-more xs false = length-append xs []
-
-    ands : (b : Bool) → (b && true) ≡ b
-    ands true = refl
-    ands false = refl
 
 -- ## What leaves it as it was
 

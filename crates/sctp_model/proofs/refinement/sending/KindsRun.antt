@@ -1,26 +1,15 @@
 -- In every history messages of a kind are sent in turn, and no more slots are acknowledged than there are.
-use Rattle.std.proofs.Common.{◌≡◌, ℕ, ◌+◌, ◌-◌, ◌<◌, ◌≤◌, Bool, true, false, List, [], ◌∷◌, length, Option, Some, None, refl, ap, sym, ◌∙◌, inl, inr, arith}
-use Rattle.std.specs.Prelude.{◌⊎◌, if◌then◌else◌, ◌==◌, ◌&&◌, ◌||◌, not, nat_lt, slice_get, max}
-use Rattle.std.proofs.Math.Path.{subst}
-use Rattle.std.proofs.lemmas.Bool.{cases_lt}
-use Rattle.std.proofs.lemmas.Bool.Decides.{nat_tests}
-use Rattle.sctp_util.proofs.Cases.{by_same}
-use Rattle.sctp_model.specs.declared.event.Event.{Event}
+use Rattle.sctp_model.proofs.Names.{◌≡◌, ℕ, ◌-◌, ◌<◌, ◌≤◌, Bool, true, false, List, [], ◌∷◌, length, Option, Some, None, refl, ap, sym, ◌∙◌, inl, inr, arith}
+use Rattle.sctp_model.proofs.Names.{◌⊎◌, if◌then◌else◌, ◌==◌, ◌&&◌, ◌||◌, not, nat_lt, slice_get, max, subst, cases_lt, nat_tests, by_same, or-left, Event}
+use Rattle.sctp_model.proofs.Names.{Setup, Datagram, Sack, LinkRecord, front, reports, History, record_of, IsRun, refusal_of, after, log_of, IsSetup, pieces}
+use Rattle.sctp_model.proofs.Names.{length-numbered}
 use Rattle.sctp_model.specs.declared.event.Event.TheVariants as E
-use Rattle.sctp_model.specs.LinkRecord.{Setup, Datagram, Forward, Sack, LinkRecord, start}
 use Rattle.sctp_model.specs.LinkRecord as W
 use Rattle.sctp_model.specs.Messages
-use Rattle.sctp_model.specs.Messages.{front}
 use Rattle.sctp_model.specs.Receiver
 use Rattle.sctp_model.specs.Changes
-use Rattle.sctp_model.specs.Reports.{reports}
-use Rattle.sctp_model.specs.Steps.{History, record_of, IsRun, refusal_of, after}
-use Rattle.sctp_model.specs.Log.{log_of}
-use Rattle.sctp_model.specs.Laws.{IsSetup}
 use Rattle.sctp_model.proofs.sender.Shape.{Shape, MessagePart, shape, sent, partial, unsent, slotted, written, abandoned_at, expired_at, message_part}
 use Rattle.sctp_model.proofs.sender.Sender.{Sender, sent-slotted}
-use Rattle.sctp_util.specs.Lists.{pieces}
-use Rattle.sctp_util.proofs.Getting.{length-numbered}
 use Rattle.sctp_model.proofs.sender.SenderSteps.{of-partial, is-partial, sent-other}
 use Rattle.sctp_model.proofs.sender.SenderEnds.{sent-none}
 use Rattle.sctp_model.proofs.sender.SenderRun.{Consistent, consistent-run, consistent-takes, consistent-started, sends-keep, fold-keeps}
@@ -71,24 +60,11 @@ turns-expired : (x : Shape) (n' : ℕ) → Turns x → Turns (expired_at x n')
 turns-expired x n' t n k h lt ord = more (sent x k == 0) (k == n') (x.message k).expired (t n k h lt ord)
   where
     more : (a b c : Bool) → (a && not c) ≡ false → (a && not (b || c)) ≡ false
-    more true true c e = refl
-    more true false c e = e
-    more false b c e = refl
+    more o b c e = grind (arith, nat_tests)
 
 -- a terminal chunk is no fragment
 turns-marked : (x : Shape) (n' : ℕ) → Turns x → Turns (slotted x n' true)
-turns-marked x n' t n k h lt ord =
-    let i = of-partial (slotted x n' true) n h in
-    let a = marked n in
-    let b = marked k in
-    ap (λ c. (c == 0) && not (x.message k).expired) b ∙ t n k (is-partial x n (omega (arith, i.some, a)) (omega (arith, i.more, a)) i.alive) lt ord
-  where
-    marked : (j : ℕ) → sent (slotted x n' true) j ≡ sent x j
-    marked j = sent-slotted x n' j true ∙ none (n' == j)
-      where
-        none : (b : Bool) → sent x j + (if b && false then 1 else 0) ≡ sent x j
-        none true = omega arith
-        none false = omega arith
+turns-marked x n' t n k h lt ord = grind (arith, nat_tests, of-partial, is-partial, sent, sent-slotted)
 
 turns-takes : (w : LinkRecord) (n' : ℕ) → FrontIs w n' → Turns (shape w) → Turns (slotted (shape w) n' false)
 turns-takes w n' f t n k h lt ord =
@@ -180,12 +156,8 @@ taken-sack w r le inside = by (cases_lt 0 r.cumulative)
     by (inl pos) =
         let p : ℕ = r.cumulative - 1 in
         let low : nat_lt (r.cumulative - 1) r.cumulative ≡ true = grind (arith, nat_tests) in
-        let lt = inside (r.cumulative - 1) (or-first (nat_lt (r.cumulative - 1) r.cumulative) _ low) in
+        let lt = inside (r.cumulative - 1) (or-left (nat_lt (r.cumulative - 1) r.cumulative) _ low) in
         omega (arith, le, lt)
-      where
-        or-first : (a b : Bool) → a ≡ true → (a || b) ≡ true
-        or-first true b e = refl
-        or-first false b e = cc
 
 module _ (setup : Setup) (older : History) (is : IsSetup setup) (run : IsRun setup older) where
   abbrev w : LinkRecord
@@ -202,11 +174,7 @@ module _ (setup : Setup) (older : History) (is : IsSetup setup) (run : IsRun set
       same v g t = omega (arith, g, t, le)
 
       acked : (k : ℕ) (o : Option Datagram) → slice_get w.network k ≡ o → (Changes.after_acked w o).taken ≤ length (Changes.after_acked w o).slots
-      acked k None x = le
-      acked k (Some (W.Data ps)) x = le
-      acked k (Some (Forward upto names)) x = le
-      acked k (Some (Sack r)) x = let m = taken-sack w r le (seen-in r k x) in let l = length-numbered (Changes.acknowledged_by r) 0 w.slots in
-          omega (arith, m, l)
+      acked k b x = grind (arith, nat_tests, taken-sack, seen-in, length-numbered)
 
       by : (e : Event) → length w.slots ≤ length (after w e).slots → (after w e).taken ≤ length (after w e).slots
       by (E.Arrive k) g = same (after w (E.Arrive k)) g (Acknowledged.as-datagram w (slice_get w.network k)).taken

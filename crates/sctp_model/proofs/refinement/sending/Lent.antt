@@ -1,17 +1,11 @@
 -- What a lent outbound queue shows is what the record says.
-use Rattle.std.proofs.Common.{◌≡◌, ℕ, ◌-◌, List, [], ◌∷◌, ◌++◌, length, map, Option, Some, None, refl, ap, sym, ◌∙◌}
-use Rattle.std.proofs.lemmas.List.{map-append}
-use Rattle.std.specs.List.{flat_map}
-use Rattle.sctp_util.specs.Kept.{numbers_from, first_of}
-use Rattle.sctp_outbound.specs.pending_queue.PendingQueue.{Pending}
-use Rattle.sctp_outbound.specs.outbound_queue.OutboundQueue.{Outbound}
-use Rattle.sctp_model.specs.LinkRecord.{LinkRecord}
-use Rattle.sctp_model.specs.Messages.{messages_where, is_partially_sent, sent_of, fragment_count}
-use Rattle.sctp_model.specs.Queues.{PendingRecord, pending_fragments, pending_of, in_flight_of, kind_of}
-use Rattle.sctp_model.specs.refinement.Refines.{waiting_at, waiting_of, sending_of, RefinesPending, RefinesOutbound, pending_shown, in_flight_shown}
+use Rattle.sctp_model.proofs.Names.{◌≡◌, ℕ, ◌-◌, List, [], ◌∷◌, ◌++◌, length, map, Option, Some, None, refl, ap, sym, ◌∙◌, arith, map-append, flat_map}
+use Rattle.sctp_model.proofs.Names.{numbers_from, Pending, Outbound, LinkRecord, sent_of, fragment_count, pending_fragments, pending_of, in_flight_of}
+use Rattle.sctp_model.proofs.Names.{waiting_at, waiting_of, sending_of, RefinesPending, RefinesOutbound, selected_of, map-twice, nat_tests}
+use Rattle.sctp_model.specs.Queues.{kind_of}
+use Rattle.sctp_model.specs.refinement.Refines.{pending_shown, in_flight_shown}
 use Rattle.sctp_model.specs.refinement.Refines.{selected_shown}
-use Rattle.sctp_model.specs.refinement.Refines.{selected_of, shown}
-use Rattle.sctp_util.proofs.Getting.{map-twice}
+use Rattle.sctp_model.specs.refinement.Refines.{shown}
 
 map-gathered : {A B : Type 0} (f : A → B) (g : ℕ → List A) (h : ℕ → List B) (xs : List ℕ) → ((n : ℕ) → map f (g n) ≡ h n)
     → map f (flat_map g xs) ≡ flat_map h xs
@@ -26,13 +20,7 @@ selected-shown w None = refl
 selected-shown w (Some n) = refl
 
 pub pending-shown : (w : LinkRecord) (q : Pending) → RefinesPending w q → shown q ≡ pending_of w
-pending-shown w q t =
-    ap (λ l. let p : PendingRecord = record { ordered = l; unordered = map pending_shown q.unordered; selected = selected_shown q.selected } in p)
-    (ap (map pending_shown) t.ordered ∙ map-gathered pending_shown (waiting_of w) (pending_fragments w) _ (fragments-shown w))
-    ∙ ap (λ l. let p : PendingRecord = record { ordered = (pending_of w).ordered; unordered = l; selected = selected_shown q.selected } in p)
-    (ap (map pending_shown) t.unordered ∙ map-gathered pending_shown (waiting_of w) (pending_fragments w) _ (fragments-shown w))
-    ∙ ap (λ s. let p : PendingRecord = record { ordered = (pending_of w).ordered; unordered = (pending_of w).unordered; selected = s } in p)
-    (ap selected_shown t.selected ∙ selected-shown w (first_of (messages_where w (is_partially_sent w))))
+pending-shown w q t = grind (arith, nat_tests, map-gathered, fragments-shown, selected-shown)
 
 pub in-flight-shown : (w : LinkRecord) (q : Outbound) → RefinesOutbound w q → map in_flight_shown q.inflight.chunks ≡ in_flight_of w
 in-flight-shown w q t =

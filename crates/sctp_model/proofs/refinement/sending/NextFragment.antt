@@ -1,19 +1,10 @@
 -- The fragment that is sent next, as the queue shows it.
-use Rattle.std.proofs.Common.{◌≡◌, ℕ, ◌<◌, ◌≤◌, length, Option, Some, None, refl, ap, sym, ◌∙◌, arith}
-use Rattle.std.specs.Prelude.{IfSome}
-use Rattle.sctp_data.specs.declared.chunk.chunk_payload_data.ChunkPayloadData.{ChunkPayloadData}
-use Rattle.sctp_outbound.specs.pending_queue.PendingQueue.{next_pending}
-use Rattle.sctp_outbound.specs.outbound_queue.OutboundQueue.{after_sends, Outbound}
-use Rattle.sctp_model.specs.LinkRecord.{LinkRecord}
-use Rattle.sctp_model.specs.Messages.{message_at, front}
-use Rattle.sctp_model.specs.Changes.{after_start, after_send, send_from}
-use Rattle.sctp_model.specs.Steps.{IsRight, sent_reply}
+use Rattle.sctp_model.proofs.Names.{◌≡◌, ℕ, ◌<◌, ◌≤◌, length, Option, Some, None, refl, ap, sym, ◌∙◌, arith, IfSome, ChunkPayloadData, next_pending}
+use Rattle.sctp_model.proofs.Names.{after_sends, Outbound, LinkRecord, message_at, front, after_start, IsRight, waiting_at, some-same, nat_tests}
 use Rattle.sctp_model.proofs.sender.Shape.{shape}
 use Rattle.sctp_model.proofs.sender.Fronts.{front-takes}
-use Rattle.sctp_model.specs.refinement.Refines.{waiting_at}
 use Rattle.sctp_model.proofs.refinement.sending.FilledDatagrams.{after_fragments, only-slots, shown-after}
 use Rattle.sctp_model.proofs.refinement.sending.Fragments.{shown, idle}
-use Rattle.sctp_util.proofs.Cases.{some-same}
 use Rattle.sctp_model.proofs.refinement.Lists.{piece-short}
 use Rattle.sctp_model.specs.declared.event.Event.TheVariants as E
 use Rattle.sctp_model.specs.Messages as M
@@ -55,9 +46,7 @@ module _ {w : LinkRecord} {had : Outbound} {coming : ℕ} (l : Sends w had comin
 
   pub idle-right : (now : ℕ) (new : LinkRecord) → next_pending had.pending ≡ None → new ≡ after_start w now
       → IsRight w (E.Send now) R.Idle new
-  idle-right now new e is =
-      let fr = none-next e in
-      record { right = sym (ap (sent_reply w (after_send w now)) fr); moves = is ∙ sym (ap (send_from (after_start w now)) fr) }
+  idle-right now new e is = grind (arith, nat_tests, none-next)
 
   -- each fragment that is looked at is short
   pub looks-short : (i : ℕ) → IfSome (next_pending (after_sends i had.pending)) (λ c. length c.user_data ≤ 65519)

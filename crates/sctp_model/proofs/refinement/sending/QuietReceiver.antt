@@ -1,22 +1,12 @@
 -- What the sender does leaves the receiver's queues as they are.
-use Rattle.std.proofs.Common.{◌≡◌, ℕ, zero, suc, ◌+◌, ◌-◌, ◌<◌, ◌≤◌, ◌%◌, ◌^◌, Bool, true, false, List, [], ◌∷◌, ◌++◌, length, map, refl, ap, sym, ◌∙◌, inl}
-use Rattle.std.proofs.Common.{inr, arith, append-nil, length-append}
-use Rattle.std.specs.Prelude.{◌⊎◌, if◌then◌else◌, ◌==◌, ◌&&◌, ◌||◌, not, nat_le, nat_lt}
-use Rattle.std.specs.List.{list_any}
-use Rattle.std.proofs.lemmas.Bool.{cases_lt}
-use Rattle.sctp_util.specs.Kept.{numbers_where, unbroken}
-use Rattle.sctp_util.proofs.Passing.{kept-same, map-kept-same, unbroken-same}
-use Rattle.sctp_util.proofs.Cases.{same-yes, same-is, or-left, or-right}
+use Rattle.sctp_model.proofs.Names.{◌≡◌, ℕ, zero, suc, ◌+◌, ◌-◌, ◌<◌, ◌≤◌, ◌%◌, ◌^◌, Bool, true, false, List, [], ◌∷◌, ◌++◌, length, map, refl, ap, sym, ◌∙◌}
+use Rattle.sctp_model.proofs.Names.{inl, inr, arith, append-nil, length-append, ◌⊎◌, if◌then◌else◌, ◌==◌, ◌&&◌, ◌||◌, not, nat_le, nat_lt, list_any, cases_lt}
+use Rattle.sctp_model.proofs.Names.{numbers_where, unbroken, kept-same, map-kept-same, unbroken-same, same-yes, same-is, or-left, or-right, and-none, fails}
+use Rattle.sctp_model.proofs.Names.{kept-short, Setup, LinkRecord, message_at, message_of, stream_of, is_ordered_on, is_unordered_on, index_of, ssn_of}
+use Rattle.sctp_model.proofs.Names.{has_fragment, slots_of, sent_of, fragment_count, tsn_of, arrived_at, arrived_of, has_arrived, is_complete_message}
+use Rattle.sctp_model.proofs.Names.{is_unread, is_held, next_of, cumulative, LogEntry, IsValid, chunk_at, set_of, complete_set_of, is_unassembled, filter_of}
+use Rattle.sctp_model.proofs.Names.{ordered_sets, complete_sets, unassembled_chunks, nat_tests}
 use Rattle.sctp_model.proofs.refinement.arriving.UnorderedStep.{kept-split}
-use Rattle.sctp_util.proofs.More.{fails, kept-short}
-use Rattle.sctp_model.specs.LinkRecord.{Setup, LinkRecord}
-use Rattle.sctp_model.specs.Messages.{message_at, message_of, stream_of, is_ordered_on, is_unordered_on, index_of, ssn_of, has_fragment, slots_of, sent_of}
-use Rattle.sctp_model.specs.Messages.{fragment_count, tsn_of}
-use Rattle.sctp_model.specs.Receiver.{arrived_at, arrived_of, has_arrived, is_complete_message, is_unread, is_held, next_of, cumulative}
-use Rattle.sctp_model.specs.Log.{LogEntry}
-use Rattle.sctp_model.specs.Valid.{IsValid}
-use Rattle.sctp_model.specs.Contents.{chunk_at, cumulative_tsn}
-use Rattle.sctp_model.specs.Queues.{set_of, complete_set_of, is_unassembled, filter_of, FilterRecord}
 use Rattle.sctp_model.proofs.sender.Shape.{shape}
 use Rattle.sctp_model.proofs.sender.SenderRun.{Consistent}
 use Rattle.sctp_model.proofs.sender.Moves.{Quiet}
@@ -28,7 +18,7 @@ use Rattle.sctp_model.proofs.receiver.View.{view}
 use Rattle.sctp_model.proofs.receiver.Known.{Still, still-of, come-still, complete-still, come-sent}
 use Rattle.sctp_model.proofs.receiver.Ordered
 use Rattle.sctp_model.proofs.receiver.Received.{Received}
-use Rattle.sctp_model.specs.refinement.Holds.{ordered_sets, complete_sets, unassembled_chunks, reassembly_of}
+use Rattle.sctp_model.specs.refinement.Holds.{reassembly_of}
 use Rattle.sctp_model.proofs.refinement.reading.Line
 use Rattle.sctp_model.proofs.refinement.skipping.SkipStep
 use Rattle.sctp_model.proofs.refinement.reading.Taken.{held}
@@ -67,15 +57,11 @@ module _ (setup : Setup) (w v : LinkRecord) (log : List LogEntry) (g : Consisten
   has-same : (n p : ℕ) → p < length w.slots → has_fragment v n p ≡ has_fragment w n p
   has-same n p lt = ap (λ s. (s.message == n) && not s.is_terminal_chunk) (q.grows.slot p lt)
 
-  and-false : (b : Bool) → (b && false) ≡ false
-  and-false true = refl
-  and-false false = refl
-
   come-chunks : (n : ℕ) → map (chunk_at v) (numbers_where (λ p. has_fragment v n p && arrived_at v p) 0 (length v.slots)) ≡ map (chunk_at w)
       (numbers_where (λ p. has_fragment w n p && arrived_at w p) 0 (length w.slots))
   come-chunks n = over-slots (chunk_at v) (chunk_at w) (λ p. has_fragment v n p && arrived_at v p) (λ p. has_fragment w n p && arrived_at w p)
       (λ p lt. ap (λ b. b && arrived_at v p) (has-same n p lt) ∙ ap (λ b. has_fragment w n p && b) (q.arrived p))
-      (λ p le. ap (λ b. has_fragment v n p && b) (arrived-none p le) ∙ and-false (has_fragment v n p))
+      (λ p le. ap (λ b. has_fragment v n p && b) (arrived-none p le) ∙ and-none (has_fragment v n p))
       chunk-same
 
   -- ## What is held
@@ -87,16 +73,14 @@ module _ (setup : Setup) (w v : LinkRecord) (log : List LogEntry) (g : Consisten
   held-parts s k some =
       let pos : 0 < sent_of w k = omega (arith, some, come-sent (view w) k) in
       let lt = made k pos in
-      ap (λ b. b && (is_unread v k && (nat_lt 0 (arrived_of v k) && (is_complete_message v k || nat_le (stream_of v s).named (index_of v k)))))
-      (on-grown (shape w) (shape v) g.sender g'.sender q.grows s k pos)
-      ∙ ap (λ b. is_ordered_on w s k && (not b && (nat_lt 0 (arrived_of v k) && (is_complete_message v k || nat_le (stream_of v s).named (index_of v k)))))
-      (q.read k lt)
-      ∙ ap (λ b. is_ordered_on w s k && (is_unread w k && (nat_lt 0 b && (is_complete_message v k || nat_le (stream_of v s).named (index_of v k)))))
-      (come-still (view w) (view v) still k)
-      ∙ ap (λ b. is_ordered_on w s k && (is_unread w k && (nat_lt 0 (arrived_of w k) && (b || nat_le (stream_of v s).named (index_of v k)))))
-      (complete-still (view w) (view v) still k lt)
-      ∙ ap (λ x. is_ordered_on w s k && (is_unread w k && (nat_lt 0 (arrived_of w k) && (is_complete_message w k || nat_le x.named (index_of v k)))))
-      (stream-same s) ∙ by (is_ordered_on w s k) refl pos
+      cc (
+        on-grown (shape w) (shape v) g.sender g'.sender q.grows s k pos,
+        q.read k lt,
+        come-still (view w) (view v) still k,
+        complete-still (view w) (view v) still k lt,
+        stream-same s,
+        by (is_ordered_on w s k) refl pos,
+      )
     where
       by : (b : Bool) → is_ordered_on w s k ≡ b → 0 < sent_of w k
           → (b && (is_unread w k && (nat_lt 0 (arrived_of w k) && (is_complete_message w k || nat_le (stream_of w s).named (index_of v k)))))
@@ -169,21 +153,20 @@ module _ (setup : Setup) (w v : LinkRecord) (log : List LogEntry) (g : Consisten
       let sent-all : sent_of w n ≡ fragment_count w n = omega (arith, full, come-sent (view w) n, g.sender.within n lt) in
       let count : sent_of v n ≡ sent_of w n = q.grows.ended n (omega (arith, sent-all, g.sender.some n lt)) (inl sent-all) in
       let split : numbers_where (has_fragment v n) 0 (length v.slots) ≡ numbers_where (has_fragment v n) 0 (length w.slots) ++ numbers_where (has_fragment v n)
-      (length w.slots) (length v.slots - length w.slots) =
-      kept-split (has_fragment v n) 0 (length w.slots) (length v.slots - length w.slots) (length v.slots) (length w.slots) (omega (arith, slots-le))
-      (omega arith) in
+      (length w.slots) (length v.slots - length w.slots) = kept-split (has_fragment v n) 0 (length w.slots) (length v.slots - length w.slots)
+      (length v.slots) (length w.slots) (omega (arith, slots-le)) (omega arith) in
       let old : numbers_where (has_fragment v n) 0 (length w.slots) ≡ slots_of w n = kept-same (has_fragment v n) (has_fragment w n) 0 (length w.slots)
       (λ k a b. has-same n k (omega arith)) in
       let joined : slots_of v n ≡ slots_of w n ++ numbers_where (has_fragment v n) (length w.slots) (length v.slots - length w.slots) = split
       ∙ ap (λ l. l ++ numbers_where (has_fragment v n) (length w.slots) (length v.slots - length w.slots)) old in
-      let none : numbers_where (has_fragment v n) (length w.slots) (length v.slots - length w.slots) ≡ [] =
-      nothing (numbers_where (has_fragment v n) (length w.slots) (length v.slots - length w.slots)) (omega (
+      let none : numbers_where (has_fragment v n) (length w.slots)
+      (length v.slots - length w.slots) ≡ [] = nothing (numbers_where (has_fragment v n) (length w.slots) (length v.slots - length w.slots)) (omega (
         arith,
         count,
         ap length joined,
         length-append (slots_of w n) (numbers_where (has_fragment v n) (length w.slots) (length v.slots - length w.slots)),
       )) in
-      joined ∙ ap (λ l. slots_of w n ++ l) none ∙ append-nil (slots_of w n)
+      cc (joined, none, append-nil (slots_of w n))
     where
       nothing : (l : List ℕ) → length l ≡ 0 → l ≡ []
       nothing [] e = refl
@@ -201,12 +184,7 @@ module _ (setup : Setup) (w v : LinkRecord) (log : List LogEntry) (g : Consisten
   complete-same s = ap (λ x. map (complete_set_of v) x.complete) (stream-same s) ∙ over (stream_of w s).complete (λ n e. e)
     where
       one : (n : ℕ) → list_any (λ k. k == n) (stream_of w s).complete ≡ true → complete_set_of v n ≡ complete_set_of w n
-      one n e =
-          let i = valid.unassembled.waits s n e in
-          complete-set-same n i.made (valid.unassembled.complete_arrived n i.unordered
-          (ap (λ b. if b then has_arrived w n else ((message_at w n).read || list_any (λ k. k == n) (stream_of w (message_at w n).stream).complete)) i.unordered
-          ∙ or-right (message_at w n).read (list_any (λ k. k == n) (stream_of w (message_at w n).stream).complete)
-          (ap (λ t. list_any (λ k. k == n) (stream_of w t).complete) i.stream ∙ e)))
+      one n e = grind (arith, nat_tests, complete-set-same)
 
       over : (l : List ℕ) → ((n : ℕ) → list_any (λ k. k == n) l ≡ true → list_any (λ k. k == n) (stream_of w s).complete ≡ true)
           → map (complete_set_of v) l ≡ map (complete_set_of w) l
@@ -238,18 +216,10 @@ module _ (setup : Setup) (w v : LinkRecord) (log : List LogEntry) (g : Consisten
       ∙ ap (map (tsn_of v)) (kept-short (arrived_at v) c (length w.slots - c) (length v.slots - length w.slots) (length v.slots - c)
       (omega (arith, slots-le, top)) (λ k a b. arrived-none k (omega (arith, top, a))))
       ∙ map-kept-same (tsn_of v) (tsn_of w) (arrived_at v) (arrived_at w) c (length w.slots - c) (λ k a b. q.arrived k) (λ k a b e. tsn-same k) in
-      ap (λ x. let f : FilterRecord = record { cumulative = x; held = (filter_of v).held; duplicates = (filter_of v).duplicates } in f)
-      (ap (cumulative_tsn v) cumulative-quiet ∙ ap (λ t. (t.first + (2 ^ 32 - 1) + cumulative w) % 2 ^ 32) q.setup)
-      ∙ ap (λ x. let f : FilterRecord = record { cumulative = (filter_of w).cumulative; held = x; duplicates = (filter_of v).duplicates } in f) held'
-      ∙ ap (λ x. let f : FilterRecord = record { cumulative = (filter_of w).cumulative; held = (filter_of w).held; duplicates = x } in f)
-      (duplicates-same w.duplicates ∙ refl)
+      cc (cumulative-quiet, q.setup, held', duplicates-same w.duplicates)
     where
       tsn-same : (k : ℕ) → tsn_of v k ≡ tsn_of w k
       tsn-same k = ap (λ t. (t.first + k) % 2 ^ 32) q.setup
 
       duplicates-same : (l : List ℕ) → map (tsn_of v) v.duplicates ≡ map (tsn_of w) w.duplicates
-      duplicates-same l = ap (map (tsn_of v)) q.duplicates ∙ each w.duplicates
-        where
-          each : (l : List ℕ) → map (tsn_of v) l ≡ map (tsn_of w) l
-          each [] = refl
-          each (x ∷ xs) = ap (λ y. y ∷ map (tsn_of v) xs) (tsn-same x) ∙ ap (λ l. tsn_of w x ∷ l) (each xs)
+      duplicates-same l = grind (arith, nat_tests)

@@ -1,11 +1,7 @@
 -- What can be sent again.
-use Rattle.std.proofs.Common.{◌≡◌, ℕ, ◌<◌, ◌≤◌, Bool, true, false, length, refl}
-use Rattle.std.specs.Prelude.{◌&&◌, ◌||◌, not, nat_le, nat_lt}
-use Rattle.std.proofs.lemmas.Bool.{lt-ltb, le-leb}
-use Rattle.sctp_model.specs.LinkRecord.{LinkRecord}
-use Rattle.sctp_model.specs.Queues.{is_cleared}
-use Rattle.sctp_model.specs.Messages.{message_at, message_of, slot_at}
-use Rattle.sctp_model.specs.Steps.{can_resend}
+use Rattle.sctp_model.proofs.Names.{◌≡◌, ℕ, ◌<◌, ◌≤◌, Bool, true, false, length, refl, ◌&&◌, ◌||◌, not, nat_le, nat_lt, lt-ltb, LinkRecord, is_cleared}
+use Rattle.sctp_model.proofs.Names.{message_at, message_of, slot_at, can_resend}
+use Rattle.std.proofs.lemmas.Bool.{le-leb}
 
 pub all-right : (a b c d : Bool) → a ≡ true → b ≡ true → ((a && b) && (not c && not d)) ≡ not (c || d)
 all-right a b true d h i = rw (h, i) refl

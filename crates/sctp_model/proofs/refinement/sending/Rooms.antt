@@ -1,11 +1,7 @@
 -- What a record does not know of the outbound queue: its room, and lifetimes that have all started.
-use Rattle.std.proofs.Common.{◌≡◌, ℕ, Option, Some, None, refl, sym}
-use Rattle.std.proofs.Math.Path.{subst}
-use Rattle.sctp_util.proofs.Cases.{same-yes}
-use Rattle.sctp_data.specs.declared.chunk.chunk_payload_data.ChunkPayloadData.{ChunkPayloadData}
-use Rattle.sctp_outbound.specs.outbound_queue.OutboundQueue.{Outbound, all_started, sent_of}
-use Rattle.sctp_model.specs.LinkRecord.{LinkRecord}
-use Rattle.sctp_model.specs.refinement.Refines.{RefinesOutbound}
+use Rattle.sctp_model.proofs.Names.{◌≡◌, ℕ, Option, Some, None, refl, sym, subst, same-yes, ChunkPayloadData, Outbound, all_started, LinkRecord}
+use Rattle.sctp_model.proofs.Names.{RefinesOutbound}
+use Rattle.sctp_outbound.specs.outbound_queue.OutboundQueue.{sent_of}
 
 -- more room in flight is nothing that the record knows
 pub refines-room : {w : LinkRecord} {q : Outbound} (r : Outbound) (room : ℕ) → r ≡ record q { inflight = record q.inflight { room = room } }

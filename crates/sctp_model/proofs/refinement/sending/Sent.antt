@@ -1,31 +1,18 @@
 -- A fragment is sent: what waits then is what the record says.
-use Rattle.std.proofs.Common.{◌≡◌, ℕ, suc, ◌+◌, ◌-◌, ◌<◌, ◌≤◌, Bool, true, false, List, [], ◌∷◌, ◌++◌, length, map, Option, Some, None, refl, ap, sym, ◌∙◌, inl}
-use Rattle.std.proofs.Common.{inr, arith}
-use Rattle.std.specs.Prelude.{◌⊎◌, if◌then◌else◌, ◌==◌, ◌&&◌, ◌||◌, not, nat_lt, slice_get}
-use Rattle.std.proofs.Math.Path.{subst}
-use Rattle.std.proofs.lemmas.Bool.{cases_lt}
-use Rattle.std.proofs.lemmas.Bool.Decides.{nat_tests}
-use Rattle.std.specs.List.{flat_map}
-use Rattle.sctp_util.specs.Kept.{numbers_where, numbers_from, first_of, or_else}
-use Rattle.sctp_util.proofs.Passing.{kept-none, front-kept, FrontOf}
-use Rattle.sctp_util.proofs.More.{fails, not_both, both}
-use Rattle.sctp_util.proofs.Cases.{by_same, negated, same-yes, same-is}
-use Rattle.sctp_util.proofs.Tests.{FirstOf, first-kept}
-use Rattle.sctp_data.specs.declared.chunk.chunk_payload_data.ChunkPayloadData.{ChunkPayloadData}
-use Rattle.sctp_outbound.specs.declared.pending_queue.Selected.{Selected}
-use Rattle.sctp_outbound.specs.pending_queue.PendingQueue.{Pending, list_of, front_of, next_pending, next_pending_of, list_to_pop, rest_after, rest_from}
+use Rattle.sctp_model.proofs.Names.{◌≡◌, ℕ, suc, ◌+◌, ◌-◌, ◌<◌, Bool, true, false, List, [], ◌∷◌, length, Option, Some, None, refl, ap, sym, ◌∙◌, inl, ◌++◌}
+use Rattle.sctp_model.proofs.Names.{inr, arith, ◌⊎◌, if◌then◌else◌, ◌==◌, ◌&&◌, not, slice_get, subst, nat_tests, first_of, or_else, numbers_where, kept-none}
+use Rattle.sctp_model.proofs.Names.{front-kept, FrontOf, fails, not_both, by_same, negated, same-yes, FirstOf, first-kept, ChunkPayloadData, Selected, Pending}
+use Rattle.sctp_model.proofs.Names.{next_pending, LinkRecord, message_at, messages_where, front, fragment_count, sent_of, is_partially_sent, is_unsent}
+use Rattle.sctp_model.proofs.Names.{with_slot, is_expired_or_abandoned, waiting_at, waiting_of, waiting_where, waits_ordered, waits_unordered, selected_of}
+use Rattle.sctp_model.proofs.Names.{RefinesPending, flat_map}
+use Rattle.sctp_outbound.specs.pending_queue.PendingQueue.{list_of, rest_after, front_of, next_pending_of}
 use Rattle.sctp_outbound.specs.pending_queue.PendingQueue.{rest_of, selected_after}
-use Rattle.sctp_model.specs.LinkRecord.{LinkRecord}
-use Rattle.sctp_model.specs.Messages.{message_at, messages_where, front, fragment_count, sent_of, is_partially_sent, is_unsent}
-use Rattle.sctp_model.specs.Changes.{with_slot}
-use Rattle.sctp_model.specs.Amounts.{is_expired_or_abandoned}
 use Rattle.sctp_model.proofs.sender.Shape.{shape, sent}
 use Rattle.sctp_model.proofs.sender.Sender.{Sender}
 use Rattle.sctp_model.proofs.sender.SenderSteps
 use Rattle.sctp_model.proofs.sender.SenderSteps.{Takes, is-partial, sent-other, sent-here}
 use Rattle.sctp_model.proofs.sender.Fronts.{front-takes, is-unsent}
 use Rattle.sctp_model.proofs.sender.Shapes
-use Rattle.sctp_model.specs.refinement.Refines.{waiting_at, waiting_of, waiting_where, waits_ordered, waits_unordered, selected_of, RefinesPending}
 use Rattle.sctp_model.proofs.refinement.sending.Waiting
 use Rattle.sctp_model.proofs.refinement.sending.Waiting.{Alike, gathered-same, gathered-from, gathered-none}
 
@@ -47,22 +34,11 @@ front-some c cs xs e = ap (λ l. slice_get l 0) e
 popped-none : (u : Bool) (q : Pending) (c : ChunkPayloadData) (cs : List ChunkPayloadData) → q.selected ≡ None → list_of u q ≡ c ∷ cs
     → (u ≡ false → q.unordered ≡ []) → c.beginning_fragment ≡ true
     → (next_pending q ≡ Some c) × (rest_after c.beginning_fragment u q ≡ left_of u cs (selected_after None u c) q)
-popped-none u q c cs sel l none begins = (
-  ap (λ o. next_pending_of o q) sel ∙ by u l none,
-  ap (λ o. rest_from (list_to_pop o c.beginning_fragment u) q) sel ∙ ap (λ b. rest_from (if b then Some u else None) q) begins ∙ ap (rest_of u q) l
-      ∙ last u q c cs None sel,
-)
-  where
-    by : (u : Bool) → list_of u q ≡ c ∷ cs → (u ≡ false → q.unordered ≡ []) → front_of q.unordered q.ordered ≡ Some c
-    by true e n = ap (λ l. front_of l q.ordered) e
-    by false e n = ap (λ l. front_of l q.ordered) (n refl) ∙ front-some c cs q.ordered e
+popped-none u q c cs sel l none begins = grind (arith, nat_tests, last, front-some)
 
 popped-some : (s : Selected) (q : Pending) (c : ChunkPayloadData) (cs : List ChunkPayloadData) (b : Bool) → q.selected ≡ Some s → list_of s.unordered q ≡ c ∷ cs
     → (next_pending q ≡ Some c) × (rest_after b s.unordered q ≡ left_of s.unordered cs (selected_after (Some s) s.unordered c) q)
-popped-some s q c cs b sel l = (
-  ap (λ o. next_pending_of o q) sel ∙ front-some c cs (list_of s.unordered q) l,
-  ap (λ o. rest_from (list_to_pop o b s.unordered) q) sel ∙ ap (rest_of s.unordered q) l ∙ last s.unordered q c cs (Some s) sel,
-)
+popped-some s q c cs b sel l = grind (arith, nat_tests, front-some, last)
 
 -- ## What the front is
 
@@ -92,65 +68,30 @@ module _ (w : LinkRecord) (s : Sender (shape w)) (turns : KindsInTurn w) (n : �
   }
 
   neither : (a b : Bool) → (a && b) ≡ false → b ≡ true → a ≡ false
-  neither true true e h = cc
-  neither true false e h = cc
-  neither false b e h = refl
+  neither c b e h = grind (arith, nat_tests)
 
   third : ((j : ℕ) → j < length w.messages → is_partially_sent w j ≡ false)
       → ((j : ℕ) → j < length w.messages → (is_unsent w j && not (message_at w j).ordered) ≡ false) → (o : Option ℕ)
       → FirstOf (λ k. is_unsent w k && (message_at w k).ordered) (length w.messages) o → o ≡ Some n → FrontIs w n
-  third no' none None f e = cc
-  third no' none (Some k) f e =
-      let same : k ≡ n = cc in
-      let a = both (is_unsent w n) (message_at w n).ordered (ap (λ j. is_unsent w j && (message_at w j).ordered) (sym same) ∙ f.1) in
-      record {
-        takes = takes;
-        before =
-            λ j lt ord. (no' j (omega (arith, lt, takes.made)), neither (is_unsent w j) (message_at w j).ordered (f.2 j (omega (arith, lt, same))) (ord ∙ a.1));
-        selected = inr (same-is (sent_of w n) 0 (both (sent_of w n == 0) (not (message_at w n).expired) a.0).0, no');
-        kinds = λ z ord j lt un. neither (is_unsent w j) (not (message_at w j).ordered) (none j lt) (ap not un);
-      }
+  third no' none b f e = grind (arith, nat_tests, takes, neither)
 
   second : ((j : ℕ) → j < length w.messages → is_partially_sent w j ≡ false) → (o : Option ℕ) → FirstOf (λ k. is_unsent w k && not (message_at w k).ordered)
       (length w.messages) o → or_else o (first_of (messages_where w (λ k. is_unsent w k && (message_at w k).ordered))) ≡ Some n → FrontIs w n
   second no' None f e = third no' (λ j lt. f j lt) (first_of (messages_where w (λ k. is_unsent w k && (message_at w k).ordered)))
       (first-kept (λ k. is_unsent w k && (message_at w k).ordered) (length w.messages)) e
-  second no' (Some k) f e =
-      let same : k ≡ n = cc in
-      let a = both (is_unsent w n) (not (message_at w n).ordered) (ap (λ j. is_unsent w j && not (message_at w j).ordered) (sym same) ∙ f.1) in
-      let un = negated (message_at w n).ordered a.1 in
-      record {
-        takes = takes;
-        before = λ j lt ord. (
-          no' j (omega (arith, lt, takes.made)),
-          neither (is_unsent w j) (not (message_at w j).ordered) (f.2 j (omega (arith, lt, same))) (ap not (ord ∙ un)),
-        );
-        selected = inr (same-is (sent_of w n) 0 (both (sent_of w n == 0) (not (message_at w n).expired) a.0).0, no');
-        kinds = λ z ord. absurd (not_both (sym un ∙ ord));
-      }
+  second no' (Some k) f e = grind (arith, nat_tests, takes, neither)
 
   first : (o : Option ℕ) → FirstOf (is_partially_sent w) (length w.messages) o
       → or_else o (or_else (first_of (messages_where w (λ k. is_unsent w k && not (message_at w k).ordered)))
       (first_of (messages_where w (λ k. is_unsent w k && (message_at w k).ordered)))) ≡ Some n → FrontIs w n
-  first None f e = second (λ j lt. f j lt) (first_of (messages_where w (λ k. is_unsent w k && not (message_at w k).ordered)))
-      (first-kept (λ k. is_unsent w k && not (message_at w k).ordered) (length w.messages)) e
-  first (Some k) f e = let same : k ≡ n = cc in first-partial (ap (is_partially_sent w) (sym same) ∙ f.1)
+  first b f e = grind (arith, nat_tests, second, first-kept, first-partial)
 
   pub front_is : FrontIs w n
   front_is = first (first_of (messages_where w (is_partially_sent w))) (first-kept (is_partially_sent w) (length w.messages)) is
 
 -- a message that is not expired or abandoned, neither partially sent nor unsent, was wholly sent
 pub all-sent : (w : LinkRecord) (k : ℕ) → is_expired_or_abandoned w k ≡ false → is_partially_sent w k ≡ false → is_unsent w k ≡ false → waiting_of w k ≡ []
-all-sent w k given partial unsent = by (cases_lt 0 (sent_of w k)) (cases_lt (sent_of w k) (fragment_count w k))
-  where
-    or-no : (a b : Bool) → (a || b) ≡ false → (a ≡ false) × (b ≡ false)
-    or-no true b e = cc
-    or-no false b e = (refl, e)
-
-    by : (0 < sent_of w k) ⊎ (sent_of w k ≤ 0) → (sent_of w k < fragment_count w k) ⊎ (fragment_count w k ≤ sent_of w k) → waiting_of w k ≡ []
-    by (inr z) t = absurd (not_both (sym unsent ∙ is-unsent (shape w) k (omega arith) (or-no (message_at w k).expired (message_at w k).abandoned given).0))
-    by (inl pos) (inl l) = absurd (not_both (sym partial ∙ is-partial (shape w) k pos l (or-no (message_at w k).expired (message_at w k).abandoned given).1))
-    by (inl pos) (inr g) = ap (λ c. map (waiting_at w k) (numbers_from (sent_of w k) c)) (let z : fragment_count w k - sent_of w k ≡ 0 = omega arith in z)
+all-sent w k given partial unsent = grind (arith, nat_tests, is-unsent, is-partial)
 
 -- ## The fragment leaves its list
 
@@ -179,8 +120,7 @@ module _ (w : LinkRecord) (n : ℕ) (f : FrontIs w n) where
   waiting-here : waiting_of w n ≡ c ∷ waiting_of v n
   waiting-here =
       let more = f.takes.more in
-      ap (λ j. map (waiting_at w n) (numbers_from i j)) (let z : fragment_count w n - i ≡ suc (fragment_count w n - (i + 1)) = omega (arith, more) in z)
-      ∙ ap (λ j. c ∷ map (waiting_at w n) (numbers_from j (fragment_count w n - j))) (sym sent-now)
+      cc ((let z : fragment_count w n - i ≡ suc (fragment_count w n - (i + 1)) = omega (arith, more) in z), sent-now)
 
   -- the list of its kind
   where-front : (t : ℕ → Bool) → t n ≡ true → ((k : ℕ) → k < n → t k ≡ true → waiting_of w k ≡ []) → waiting_where w t ≡ c ∷ waiting_where v t
@@ -203,17 +143,13 @@ module _ (w : LinkRecord) (n : ℕ) (f : FrontIs w n) where
   given = rw (f.takes.kept, f.takes.alive) refl
 
   split : (a b : Bool) → (a && not b) ≡ true → (a ≡ true) × (b ≡ false)
-  split true true e = cc
-  split true false e = (refl, refl)
-  split false b e = cc
+  split c b e = grind (arith, nat_tests)
 
   quiet : (k : ℕ) → k < n → (message_at w k).ordered ≡ (message_at w n).ordered → is_expired_or_abandoned w k ≡ false → waiting_of w k ≡ []
   quiet k lt e g = let b = f.before k lt e in all-sent w k g b.0 b.1
 
   join : (a b : Bool) → a ≡ true → b ≡ false → (a && not b) ≡ true
-  join true true e h = cc
-  join true false e h = refl
-  join false b e h = cc
+  join c b e h = grind (arith, nat_tests)
 
   miss-of : (a b : Bool) → a ≡ false → (a && not b) ≡ false
   miss-of true b e = cc
@@ -226,49 +162,15 @@ module _ (w : LinkRecord) (n : ℕ) (f : FrontIs w n) where
   lists : (u : Bool) → (message_at w n).ordered ≡ not u → (q : Pending) → RefinesPending w q
       → (list_of u q ≡ c ∷ waiting_where v (kind_of u)) × ((s : Option Selected) → s ≡ selected_of v (first_of (messages_where v (is_partially_sent v)))
       → RefinesPending v (left_of u (waiting_where v (kind_of u)) s q))
-  lists true e q t = (
-    t.unordered ∙ where-front (waits_unordered w) (join (not (message_at w n).ordered) (is_expired_or_abandoned w n) (ap not e) given)
-        (λ k lt h. let p = split (not (message_at w k).ordered) (is_expired_or_abandoned w k) h in
-        quiet k lt (negated (message_at w k).ordered p.0 ∙ sym e) p.1),
-    λ s es. record {
-      ordered = t.ordered ∙ sym (where-other (waits_ordered w) (miss-of (message_at w n).ordered (is_expired_or_abandoned w n) e));
-      unordered = refl;
-      selected = es;
-    },
-  )
-  lists false e q t = (
-    t.ordered ∙ where-front (waits_ordered w) (join (message_at w n).ordered (is_expired_or_abandoned w n) e given)
-        (λ k lt h. let p = split (message_at w k).ordered (is_expired_or_abandoned w k) h in quiet k lt (p.0 ∙ sym e) p.1),
-    λ s es. record {
-      ordered = refl;
-      unordered = t.unordered ∙ sym (where-other (waits_unordered w) (miss-of (not (message_at w n).ordered) (is_expired_or_abandoned w n) (ap not e)));
-      selected = es;
-    },
-  )
+  lists true e q t = grind (arith, nat_tests, where-front, join, given, split, quiet, where-other, miss-of)
+  lists false e q t = grind (arith, nat_tests, where-front, join, given, split, quiet, where-other, miss-of)
 
   -- the partially sent message then
   partial-elsewhere : (k : ℕ) → (n ≡ k → ⊥) → is_partially_sent v k ≡ false
   partial-elsewhere k ne = cc (sent-elsewhere k ne, fails (is_partially_sent w k) (λ h. ne (sym (f.takes.alone k h))))
 
   partial-here : is_partially_sent v n ≡ not (i + 1 == fragment_count w n)
-  partial-here =
-      let more = f.takes.more in
-      ap (λ s. nat_lt 0 s && (nat_lt s (fragment_count w n) && not (message_at w n).abandoned)) sent-now
-      ∙ ap (λ b. nat_lt 0 (i + 1) && (nat_lt (i + 1) (fragment_count w n) && not b)) f.takes.alive
-      ∙ by (cases_lt (i + 1) (fragment_count w n))
-    where
-      by : (sent_of w n + 1 < fragment_count w n) ⊎ (fragment_count w n ≤ sent_of w n + 1)
-          → (nat_lt 0 (i + 1) && (nat_lt (i + 1) (fragment_count w n) && true)) ≡ not (i + 1 == fragment_count w n)
-      by (inl l) =
-          let a : nat_lt 0 (i + 1) ≡ true = grind (arith, nat_tests) in
-          let b : nat_lt (i + 1) (fragment_count w n) ≡ true = grind (arith, nat_tests) in
-          let d : (i + 1 == fragment_count w n) ≡ false = grind (arith, nat_tests) in rw (a, b, d) refl
-      by (inr g) =
-          let m = f.takes.more in
-          let a : nat_lt 0 (i + 1) ≡ true = grind (arith, nat_tests) in
-          let b : nat_lt (i + 1) (fragment_count w n) ≡ false = grind (arith, nat_tests) in
-          let e : i + 1 ≡ fragment_count w n = omega (arith, m) in
-          let d : (i + 1 == fragment_count w n) ≡ true = grind (arith, nat_tests) in rw (a, b, d) refl
+  partial-here = grind (arith, nat_tests, sent-now)
 
   selected-then : (if i + 1 == fragment_count w n then None else Some (let s : Selected = record { message_id = n; unordered = not (message_at w n).ordered } in
       s)) ≡ selected_of v (first_of (messages_where v (is_partially_sent v)))
@@ -277,10 +179,7 @@ module _ (w : LinkRecord) (n : ℕ) (f : FrontIs w n) where
       found : (l : List ℕ) → FrontOf (is_partially_sent v) 0 (length w.messages) l → is_partially_sent v n ≡ true
           → Some (let s : Selected = record { message_id = n; unordered = not (message_at w n).ordered } in s) ≡ selected_of v (first_of l)
       found [] g h = absurd (not_both (sym (g n (omega arith) (omega (arith, f.takes.made))) ∙ h))
-      found (k ∷ rest) g h =
-          by_same {P = Some (let s : Selected = record { message_id = n; unordered = not (message_at w n).ordered } in s) ≡ selected_of v (Some k)} n k
-          (λ e. ap (λ j. Some (let s : Selected = record { message_id = j; unordered = not (message_at w j).ordered } in s)) e)
-          (λ ne x. absurd (not_both (sym (partial-elsewhere k ne) ∙ g.passes)))
+      found (k ∷ rest) g h = grind (arith, nat_tests, partial-elsewhere)
 
       none : is_partially_sent v n ≡ false → (k : ℕ) → is_partially_sent v k ≡ false
       none h k = by_same {P = is_partially_sent v k ≡ false} n k (λ e. ap (is_partially_sent v) (sym e) ∙ h) (λ ne x. partial-elsewhere k ne)
@@ -352,6 +251,4 @@ pending-idle w q t none =
     (λ k a b h. all-sent w k (given (message_at w k).ordered (is_expired_or_abandoned w k) h) (none k (omega arith)).0 (none k (omega arith)).1))
   where
     given : (a b : Bool) → (a && not b) ≡ true → b ≡ false
-    given true true e = cc
-    given true false e = refl
-    given false b e = cc
+    given c b e = grind (arith, nat_tests)

@@ -1,17 +1,10 @@
 -- In every history the slot after a fragment that does not end its message is of the same message.
-use Rattle.std.proofs.Common.{◌≡◌, ℕ, ◌+◌, ◌<◌, Bool, true, false, List, [], ◌∷◌, length, Option, Some, None, refl, ap, sym, ◌∙◌, arith, add-one, length-append}
-use Rattle.std.specs.Prelude.{if◌then◌else◌, ◌==◌, ◌||◌, not, fold}
-use Rattle.std.proofs.Math.Path.{subst}
-use Rattle.sctp_util.specs.Kept.{numbers_where}
-use Rattle.sctp_util.proofs.Passing.{kept-snoc_in}
-use Rattle.sctp_util.proofs.More.{not_both, and}
-use Rattle.sctp_util.proofs.Cases.{by_last, by_same, same-yes}
-use Rattle.sctp_model.specs.declared.event.Event.{Event}
+use Rattle.sctp_model.proofs.Names.{◌≡◌, ℕ, ◌+◌, ◌<◌, Bool, true, false, List, [], ◌∷◌, length, Option, Some, None, refl, ap, sym, ◌∙◌, arith, add-one}
+use Rattle.sctp_model.proofs.Names.{length-append, if◌then◌else◌, ◌==◌, not, fold, subst, numbers_where, kept-snoc_in, not_both, and, same-yes, Event, Setup}
+use Rattle.sctp_model.proofs.Names.{LinkRecord, History, record_of, IsRun, after, nat_tests}
 use Rattle.sctp_model.specs.declared.event.Event.TheVariants as E
-use Rattle.sctp_model.specs.LinkRecord.{Setup, LinkRecord}
 use Rattle.sctp_model.specs.Messages
 use Rattle.sctp_model.specs.Changes
-use Rattle.sctp_model.specs.Steps.{History, record_of, IsRun, after}
 use Rattle.sctp_model.proofs.sender.Shape.{Shape, MessagePart, shape, message_part, has, sent, parts, partial, slotted, written, abandoned_at, expired_at}
 use Rattle.sctp_model.proofs.sender.Shapes
 use Rattle.sctp_model.proofs.sender.Sender.{Sender, slot-old, slot-new}
@@ -47,50 +40,15 @@ partial-last x p s e terminal lt alive =
 -- one more slot, of the only message that may be partially sent
 goes-slotted : (x : Shape) (n : ℕ) (m : Bool) → Sender x → ((k : ℕ) → partial x k ≡ true → k ≡ n) → (m ≡ false → (x.message n).abandoned ≡ false) → AllGoOn x
     → AllGoOn (slotted x n m)
-goes-slotted x n m s alone alive g p lt terminal short = by_last {P = GoesOn (slotted x n m) p} p x.slots lt old new
-  where
-    old : p < x.slots → GoesOn (slotted x n m) p
-    old l =
-        let here = slot-old x n p m l in
-        let mark' : (x.slot p).is_terminal_chunk ≡ false = ap (λ z. z.is_terminal_chunk) (sym here) ∙ terminal in
-        let short' : (x.slot p).fragment + 1 < parts x (x.slot p).message = subst (λ z. z.fragment + 1 < parts x z.message) here short in
-        let o = g p l mark' short' in
-        let top : (slotted x n m).slots ≡ x.slots + 1 = refl in
-        record {
-          same = λ a. by_last {P = ((slotted x n m).slot (p + 1)).message ≡ ((slotted x n m).slot p).message} (p + 1) x.slots (omega (arith, a, top))
-              (λ b. ap (λ z. z.message) (slot-old x n (p + 1) m b) ∙ o.same b ∙ ap (λ z. z.message) (sym here))
-              (λ b. ap (λ r. ((slotted x n m).slot r).message) b ∙ ap (λ z. z.message) (slot-new x n m)
-              ∙ sym (alone (x.slot p).message (partial-last x p s b mark' short' (o.alive b))) ∙ ap (λ z. z.message) (sym here));
-          alive = λ a. absurd (omega (arith, a, top, l));
-        }
-
-    new : p ≡ x.slots → GoesOn (slotted x n m) p
-    new e =
-        let top : (slotted x n m).slots ≡ x.slots + 1 = refl in
-        let here : (slotted x n m).slot p ≡ record { message = n; fragment = sent x n; is_terminal_chunk = m } = ap (λ r. (slotted x n m).slot r) e
-        ∙ slot-new x n m in
-        record {
-          same = λ a. absurd (omega (arith, a, top, e));
-          alive = λ a. ap (λ z. (x.message z.message).abandoned) here ∙ alive (ap (λ z. z.is_terminal_chunk) (sym here) ∙ terminal);
-        }
+goes-slotted x n m s alone alive g p lt terminal short = grind (arith, nat_tests, slot-old, parts, slot-new, partial-last, sent)
 
 -- a message is abandoned, whose fragment does not stand last with more to come
 goes-abandoned : (x : Shape) (n : ℕ) → ((p : ℕ) → p + 1 ≡ x.slots → (x.slot p).is_terminal_chunk ≡ false → (x.slot p).fragment + 1 < parts x (x.slot p).message
     → (x.message (x.slot p).message).abandoned ≡ false → (x.slot p).message ≡ n → ⊥) → AllGoOn x → AllGoOn (abandoned_at x n)
-goes-abandoned x n last g p lt terminal short =
-    let o = g p lt terminal short in
-    record {
-      same = o.same;
-      alive = λ e. by_same {P = (((x.slot p).message == n) || (x.message (x.slot p).message).abandoned) ≡ false} (x.slot p).message n
-          (λ z. absurd (last p e terminal short (o.alive e) z))
-          (λ ne f. ap (λ b. b || (x.message (x.slot p).message).abandoned) f ∙ o.alive e);
-    }
+goes-abandoned x n last g p lt terminal short = grind (arith, nat_tests)
 
 goes-written : (x : Shape) (m : MessagePart) → Sender x → AllGoOn x → AllGoOn (written x m)
-goes-written x m s g p lt terminal short =
-    let made = s.made p lt in
-    let o = g p lt terminal (omega (arith, short, parts-old x m (x.slot p).message made)) in
-    record { same = o.same; alive = λ e. ap (λ y. y.abandoned) (message-old x m (x.slot p).message made) ∙ o.alive e }
+goes-written x m s g p lt terminal short = grind (arith, nat_tests, parts-old, message-old)
 
 goes-expired : (x : Shape) (n : ℕ) → AllGoOn x → AllGoOn (expired_at x n)
 goes-expired x n g p lt terminal short = let o = g p lt terminal short in record { same = o.same; alive = o.alive }
@@ -127,9 +85,7 @@ goes-gone : (setup : Setup) (w : LinkRecord) (n : ℕ) → Consistent setup w �
 goes-gone setup w n s g = step (Messages.is_partially_sent w n) refl
   where
     last : (m : Bool) → m ≡ true → (p : ℕ) → p + 1 ≡ (slotted (shape w) n m).slots → ((slotted (shape w) n m).slot p).is_terminal_chunk ≡ false → ⊥
-    last m t p e terminal =
-        let at : p ≡ (shape w).slots = omega (arith, e) in
-        not_both (sym terminal ∙ ap (λ r. ((slotted (shape w) n m).slot r).is_terminal_chunk) at ∙ ap (λ z. z.is_terminal_chunk) (slot-new (shape w) n m) ∙ t)
+    last m t p e terminal = grind (arith, nat_tests, slot-new)
 
     step : (b : Bool) → Messages.is_partially_sent w n ≡ b
         → AllGoOn (shape (Changes.message_changed (if b then Changes.with_slot w n true else w) n Changes.mark_abandoned))

@@ -1,27 +1,11 @@
 -- A message is written: the outbound queue holds what the record says.
-use Rattle.std.proofs.Common.{◌≡◌, ℕ, ◌+◌, ◌-◌, ◌<◌, ◌%◌, ◌^◌, Bool, true, false, List, [], ◌∷◌, ◌++◌, length, map, Option, Some, None, refl, ap, sym, ◌∙◌}
-use Rattle.std.proofs.Common.{arith, append-nil}
-use Rattle.std.specs.Prelude.{if◌then◌else◌, ◌==◌, ◌&&◌, ◌||◌, not, nat_le, nat_lt, is_some, slice_index_or}
-use Rattle.std.proofs.Math.Path.{subst}
-use Rattle.std.proofs.lemmas.Bool.Decides.{nat_tests}
-use Rattle.sctp_data.specs.Reliability.{is_timed}
-use Rattle.sctp_data.specs.PayloadTypes.{is_dcep, is_ordered}
-use Rattle.sctp_util.specs.Kept.{numbers_where, always, numbers_from, first_of}
-use Rattle.sctp_util.specs.Lists.{pieces}
-use Rattle.sctp_util.proofs.Passing.{kept-same, map-kept-same, kept-snoc_out, kept-none, front-kept, FrontOf}
-use Rattle.sctp_util.proofs.More.{fails, both}
-use Rattle.sctp_util.proofs.Cases.{by_last}
-use Rattle.sctp_data.specs.declared.chunk.chunk_payload_data.ChunkPayloadData.{ChunkPayloadData}
-use Rattle.sctp_data.specs.declared.chunk.chunk_payload_data.PayloadProtocolIdentifier.{PayloadProtocolIdentifier}
-use Rattle.sctp_data.specs.ChunkSet.{fresh}
-use Rattle.sctp_outbound.specs.pending_queue.PendingQueue.{Pending}
-use Rattle.sctp_outbound.specs.outbound_queue.OutboundQueue.{Outbound, with_message_id, append_chunks, with_message}
-use Rattle.sctp_model.specs.LinkRecord.{LinkRecord, Message, StreamRecord}
-use Rattle.sctp_model.specs.Messages.{message_at, slot_at, message_of, messages_where, ordered_before, has_fragment, fragment_count, sent_of, is_partially_sent}
-use Rattle.sctp_model.specs.Changes.{message_on}
-use Rattle.sctp_model.specs.refinement.Refines.{waiting_at, waiting_of, waiting_where, waits_ordered, waits_unordered, selected_of, RefinesPending}
-use Rattle.sctp_model.specs.refinement.Refines.{RefinesOutbound}
-use Rattle.sctp_model.specs.refinement.Refines.{sending_at, sendings_of}
+use Rattle.sctp_model.proofs.Names.{◌≡◌, ℕ, ◌+◌, ◌-◌, ◌<◌, ◌%◌, ◌^◌, Bool, true, false, List, [], ◌∷◌, ◌++◌, length, map, Some, None, refl, ap, sym, ◌∙◌, arith}
+use Rattle.sctp_model.proofs.Names.{append-nil, if◌then◌else◌, ◌==◌, ◌&&◌, ◌||◌, not, nat_le, nat_lt, is_some, slice_index_or, subst, nat_tests, numbers_where}
+use Rattle.sctp_model.proofs.Names.{first_of, pieces, kept-same, map-kept-same, kept-snoc_out, kept-none, front-kept, by_last, ChunkPayloadData}
+use Rattle.sctp_model.proofs.Names.{PayloadProtocolIdentifier, fresh, Pending, Outbound, LinkRecord, Message, StreamRecord, message_at, slot_at, message_of}
+use Rattle.sctp_model.proofs.Names.{messages_where, ordered_before, fragment_count, sent_of, is_partially_sent, message_on, waiting_at, waiting_of}
+use Rattle.sctp_model.proofs.Names.{waiting_where, waits_ordered, waits_unordered, selected_of, RefinesPending, RefinesOutbound, sending_at, sendings_of}
+use Rattle.sctp_outbound.specs.outbound_queue.OutboundQueue.{with_message_id, append_chunks, with_message}
 use Rattle.sctp_model.proofs.refinement.sending.Waiting
 use Rattle.sctp_model.proofs.refinement.sending.Waiting.{Alike}
 
@@ -31,15 +15,10 @@ sending-alike w v p e a = rw (ap (λ x. x.message) e, e, a.ssn, a.message, a.set
 
 pub sendings-alike : (w v : LinkRecord) → v.taken ≡ w.taken → length v.slots ≡ length w.slots
     → ((p : ℕ) → p < length w.slots → (slot_at v p ≡ slot_at w p) × Alike w v (message_of w p)) → sendings_of v ≡ sendings_of w
-sendings-alike w v t l same =
-    ap (λ c. map (sending_at v) (numbers_from c (length v.slots - c))) t ∙ ap (λ c. map (sending_at v) (numbers_from w.taken (c - w.taken))) l
-    ∙ map-kept-same (sending_at v) (sending_at w) always always w.taken (length w.slots - w.taken) (λ k a b. refl)
-    (λ k a b e. let s = same k (omega arith) in sending-alike w v k s.0 s.1)
+sendings-alike w v t l same = grind (arith, nat_tests, map-kept-same, sending-alike)
 
 passes : (b g : Bool) → b ≡ true → g ≡ false → (b && not g) ≡ true
-passes true false e h = refl
-passes true true e h = cc
-passes false g e h = cc
+passes b g e h = grind (arith, nat_tests)
 
 stops : (b g : Bool) → b ≡ false → (b && not g) ≡ false
 stops true g e = cc
@@ -48,11 +27,7 @@ stops false g e = refl
 -- the partially sent message, where the same messages are partially sent and it is as it was
 pub selected-same : (w v : LinkRecord) (p : ℕ → Bool) (count : ℕ) → ((n : ℕ) → n < count → message_at v n ≡ message_at w n)
     → selected_of v (first_of (numbers_where p 0 count)) ≡ selected_of w (first_of (numbers_where p 0 count))
-selected-same w v p count same = by (numbers_where p 0 count) (front-kept p 0 count)
-  where
-    by : (l : List ℕ) → FrontOf p 0 count l → selected_of v (first_of l) ≡ selected_of w (first_of l)
-    by [] f = refl
-    by (n ∷ rest) f = rw (same n (omega (arith, f.high))) refl
+selected-same w v p count same = grind (arith, nat_tests, front-kept)
 
 module _ (w : LinkRecord) (m : Message) (made : (p : ℕ) → p < length w.slots → message_of w p < length w.messages) where
   abbrev v : LinkRecord
@@ -62,12 +37,7 @@ module _ (w : LinkRecord) (m : Message) (made : (p : ℕ) → p < length w.slots
   len = length w.messages
 
   pub unsent : sent_of v len ≡ 0
-  unsent = ap length (kept-none (has_fragment v len) 0 (length w.slots)
-      (λ p a b. fails (has_fragment v len p) (λ e. let z = same p e in absurd (omega (arith, z, made p (omega arith))))))
-    where
-      same : (p : ℕ) → has_fragment v len p ≡ true → message_of w p ≡ length w.messages
-      same p e = let h : (message_of w p == length w.messages) ≡ true =
-          (both (message_of w p == length w.messages) (not (slot_at w p).is_terminal_chunk) e).0 in grind (arith, nat_tests)
+  unsent = grind (arith, nat_tests, kept-none)
 
   partial-same : messages_where v (is_partially_sent v) ≡ messages_where w (is_partially_sent w)
   partial-same =
@@ -123,9 +93,7 @@ module _ (w : LinkRecord) (m : Message) (made : (p : ℕ) → p < length w.slots
           (ordered-is m.ordered refl given q.pending (map (with_message_id q.next_message_id) (c ∷ cs)) numbered t.pending)
 
       now : (n : ℕ) → n ≡ len → is_some (message_at v n).started ≡ not (nat_le q.next_unstarted n)
-      now n e =
-          let le : nat_le q.next_unstarted len ≡ true = (let s = t.started in grind (arith, nat_tests)) in
-          cc (e, Waiting.message-new w m, not-started, le)
+      now n e = grind (arith, nat_tests, Waiting.message-new)
 
 -- ## The fragments that a write makes
 
@@ -143,20 +111,4 @@ pub waiting-new : (w : LinkRecord) (r : StreamRecord) (ppi : PayloadProtocolIden
       payload_type = ppi;
       user_data = slice_index_or (pieces (length bytes) w.setup.size bytes) i [];
     })) { message_id = n; reliability = Some (r.reliability, r.value); deadline = None })
-waiting-new w r ppi bytes i =
-    let m = message_on w r ppi bytes in
-    rw (
-      Waiting.message-new w m,
-      Waiting.before-same w m r.stream (length w.messages) (omega arith),
-      both-same (is_ordered r.unordered ppi),
-      none-same (is_timed r.reliability && not (is_dcep ppi)),
-    ) refl
-  where
-    both-same : (b : Bool) → (if b then ordered_before w r.stream (length w.messages) else ordered_before w r.stream (length w.messages))
-        ≡ ordered_before w r.stream (length w.messages)
-    both-same true = refl
-    both-same false = refl
-
-    none-same : (b : Bool) → (if b then (let o : Option ℕ = None in o) else None) ≡ None
-    none-same true = refl
-    none-same false = refl
+waiting-new w r ppi bytes i = grind (arith, nat_tests, Waiting.message-new, Waiting.before-same)

@@ -1,19 +1,14 @@
 -- What a FORWARD-TSN names, and whether stream sequence numbers can still be told apart after it.
-use Rattle.std.proofs.Common.{◌≡◌, ℕ, ◌+◌, ◌-◌, ◌<◌, ◌≤◌, ◌^◌, Bool, true, false, List, [], ◌∷◌, length, map, Some, None, refl, ap, sym, ◌∙◌, arith, inl, inr}
-use Rattle.std.specs.Prelude.{if◌then◌else◌, ◌&&◌, min, max, nat_lt, slice_get, slice_index_or, not, ◌⊎◌, nat_le, ◌==◌}
-use Rattle.std.specs.List.{list_all}
-use Rattle.std.proofs.lemmas.Bool.Decides.{nat_tests}
-use Rattle.sctp_util.proofs.More.{and, same_test, both, fails, not_both}
-use Rattle.sctp_data.specs.ChunkSet.{ChunkSet}
-use Rattle.sctp_reassembly.specs.reassembly_queue.Fragments.{is_complete}
-use Rattle.sctp_model.specs.LinkRecord.{LinkRecord, StreamRecord, Forward}
-use Rattle.sctp_model.specs.Messages.{stream_at, index_of, belongs_to, slots_where, message_at, is_ordered_on}
-use Rattle.sctp_model.specs.Receiver.{cumulative, next_of, is_held, is_complete_message, held_on, fits, least}
-use Rattle.sctp_model.specs.Queues.{set_of}
-use Rattle.sctp_model.specs.Steps.{arrival_fits, can_name, skip_refusal}
+use Rattle.sctp_model.proofs.Names.{◌≡◌, ℕ, ◌+◌, ◌-◌, ◌<◌, ◌≤◌, ◌^◌, Bool, true, false, List, [], ◌∷◌, length, map, Some, None, ap, sym, ◌∙◌, arith}
+use Rattle.sctp_model.proofs.Names.{if◌then◌else◌, ◌&&◌, min, max, nat_lt, slice_get, slice_index_or, not, nat_le, ◌==◌, list_all, nat_tests, same_test, fails}
+use Rattle.sctp_model.proofs.Names.{ChunkSet, is_complete, LinkRecord, StreamRecord, Forward, stream_at, index_of, slots_where, message_at, is_ordered_on}
+use Rattle.sctp_model.proofs.Names.{cumulative, next_of, is_held, is_complete_message, held_on, fits, least, set_of, arrival_fits, can_name, low_named}
+use Rattle.sctp_model.proofs.Names.{end_named, lowest_held, highest_held, complete_first, min_with, names_fit, on_stream, all-kept, all-at, same-yes, same-is}
+use Rattle.sctp_model.proofs.Names.{and-true}
+use Rattle.sctp_model.specs.Messages.{belongs_to}
+use Rattle.sctp_model.specs.Steps.{skip_refusal}
 use Rattle.sctp_model.proofs.sender.Shape.{shape}
 use Rattle.sctp_model.proofs.sender.Network.{NamesFit, fit-at, IsNamable}
-use Rattle.sctp_model.specs.refinement.Naming.{low_named, end_named, lowest_held, highest_held, complete_first, min_with, names_fit, on_stream}
 use Rattle.sctp_model.proofs.refinement.skipping.SkipStep.{with_skip}
 use Rattle.sctp_model.proofs.refinement.amounts.Bounds.{messages-few}
 use Rattle.sctp_model.proofs.refinement.skipping.StreamsAt.{found-at, all-same}
@@ -22,22 +17,13 @@ use Rattle.sctp_model.proofs.refinement.arriving.Arrival
 use Rattle.sctp_model.proofs.refinement.reading.Line
 use Rattle.sctp_model.proofs.refinement.reading.Taken
 use Rattle.sctp_model.proofs.refinement.Histories.{Facts}
-use Rattle.std.proofs.lemmas.Bool.{cases_lt}
-use Rattle.sctp_model.specs.declared.event.LinkRefusal.TheVariants.{SkipUnassigned, SkipNames}
 use Rattle.sctp_model.proofs.sender.SenderRun.{unless-holds}
-use Rattle.sctp_util.proofs.Alls.{all-kept, all-at}
-use Rattle.sctp_util.proofs.Cases.{same-yes, same-is, and-true}
 use Rattle.sctp_model.proofs.sender.Sender.{Sender}
 use Rattle.sctp_model.proofs.sender.Slots.{sent-alive}
 
 pub first-at : (w : LinkRecord) (s : ℕ) → 0 < length (held_on w s) → complete_first w (held_on w s)
     ≡ (if is_complete_message w (slice_index_or (held_on w s) 0 0) then Some (index_of w (slice_index_or (held_on w s) 0 0)) else None)
-first-at w s some = by (held_on w s) some
-  where
-    by : (ns : List ℕ) → 0 < length ns
-        → complete_first w ns ≡ (if is_complete_message w (slice_index_or ns 0 0) then Some (index_of w (slice_index_or ns 0 0)) else None)
-    by [] lt = absurd (omega arith)
-    by (n ∷ ns) lt = refl
+first-at w s some = grind (arith, nat_tests)
 
 pub complete-set : {w : LinkRecord} (f : Facts w) (s n : ℕ) (set : ChunkSet) → is_held w s n ≡ true → set ≡ set_of w n
     → is_complete set.chunks ≡ is_complete_message w n
@@ -74,35 +60,7 @@ pub record Judged (w : LinkRecord) (s : ℕ) (names : List ℕ) (lo hi low end :
 
 pub judged : (w : LinkRecord) (s : ℕ) (names : List ℕ) (lo hi low end : ℕ) → lo ≡ lowest_held w s → hi ≡ highest_held w s
     → low ≡ low_named w s names → end ≡ end_named w s names → Judged w s names lo hi low end
-judged w s names lo hi low end a b c d =
-    let same : names_fit w s names
-    ≡ (nat_lt (max hi (end - 1)) (min lo low + 2 ^ 15) && nat_lt end (min_with (complete_first w (held_on w s)) low + 2 ^ 15)) =
-    ap (λ h. nat_lt (max h (end_named w s names - 1)) (min (lowest_held w s) (low_named w s names) + 2 ^ 15)
-    && nat_lt (end_named w s names) (min_with (complete_first w (held_on w s)) (low_named w s names) + 2 ^ 15)) (sym b)
-    ∙ ap (λ h. nat_lt (max hi (end_named w s names - 1)) (min h (low_named w s names) + 2 ^ 15)
-    && nat_lt (end_named w s names) (min_with (complete_first w (held_on w s)) (low_named w s names) + 2 ^ 15)) (sym a)
-    ∙ ap (λ k. nat_lt (max hi (end_named w s names - 1)) (min lo k + 2 ^ 15)
-    && nat_lt (end_named w s names) (min_with (complete_first w (held_on w s)) k + 2 ^ 15))
-    (sym c) ∙ ap (λ k. nat_lt (max hi (k - 1)) (min lo low + 2 ^ 15) && nat_lt k (min_with (complete_first w (held_on w s)) low + 2 ^ 15)) (sym d) in
-    let over' : min lo low ≤ min_with (complete_first w (held_on w s)) low = omega (arith, a, first-over w s low) in
-    record {
-      no' = λ le. (let e : nat_lt (max hi (end - 1)) (min lo low + 2 ^ 15) ≡ false = grind (arith, nat_tests) in
-          sym (same ∙ ap (λ t. t && nat_lt end (min_with (complete_first w (held_on w s)) low + 2 ^ 15)) e));
-      yes' = λ near lt. (let e : nat_lt (max hi (end - 1)) (min lo low + 2 ^ 15) ≡ true = grind (arith, nat_tests) in
-          let g : nat_lt end (min_with (complete_first w (held_on w s)) low + 2 ^ 15) ≡ true =
-          (let t : end < min_with (complete_first w (held_on w s)) low + 2 ^ 15 = omega (arith, lt, over') in grind (arith, nat_tests)) in
-          let h : nat_lt end (min lo low + 32768) ≡ true = grind (arith, nat_tests) in
-          h ∙ sym (same
-          ∙ and (nat_lt (max hi (end - 1)) (min lo low + 2 ^ 15)) (nat_lt end (min_with (complete_first w (held_on w s)) low + 2 ^ 15)) e g));
-      edge = λ m is near le. (let e : nat_lt (max hi (end - 1)) (min lo low + 2 ^ 15) ≡ true = grind (arith, nat_tests) in
-          ap (nat_lt (end - 32768)) is ∙ moved end (min_with (complete_first w (held_on w s)) low) (omega (arith, le))
-          ∙ sym (same ∙ ap (λ t. t && nat_lt end (min_with (complete_first w (held_on w s)) low + 2 ^ 15)) e));
-    }
-  where
-    moved : (a b : ℕ) → 32768 ≤ a → nat_lt (a - 32768) b ≡ nat_lt a (b + 2 ^ 15)
-    moved a b le = same_test (nat_lt (a - 32768) b) (nat_lt a (b + 2 ^ 15))
-        (λ e. let t : a - 32768 < b = grind (arith, nat_tests) in let u : a < b + 2 ^ 15 = omega (arith, t, le) in grind (arith, nat_tests))
-        (λ e. let t : a < b + 2 ^ 15 = grind (arith, nat_tests) in let u : a - 32768 < b = omega (arith, t, le) in grind (arith, nat_tests))
+judged w s names lo hi low end a b c d = grind (arith, nat_tests, first-over)
 
 -- a skip that lies in the network
 pub record Skips (w : LinkRecord) (upto : ℕ) (names : List ℕ) : Type 0 where
@@ -134,11 +92,7 @@ same-names w k upto names others e f = let same : Some (Forward upto names) ≡ 
 -- no slot past a place is of the message
 pub past-none : (w : LinkRecord) (n upto : ℕ) → ((p : ℕ) → upto < p → p < length w.slots → belongs_to w n p ≡ false)
     → false ≡ not (list_all (λ p. nat_le p upto) (slots_where w (belongs_to w n)))
-past-none w n upto h = sym (ap not (all-kept (λ p. nat_le p upto) (belongs_to w n) 0 (length w.slots) (λ p a b e. by p (omega (arith, b)) e (cases_lt upto p))))
-  where
-    by : (p : ℕ) → p < length w.slots → belongs_to w n p ≡ true → (upto < p) ⊎ (p ≤ upto) → nat_le p upto ≡ true
-    by p lt e (inl l) = absurd (not_both (sym (h p l lt) ∙ e))
-    by p lt e (inr le) = grind (arith, nat_tests)
+past-none w n upto h = grind (arith, nat_tests, all-kept)
 
 pub past-some : (w : LinkRecord) (n upto p : ℕ) → upto < p → p < length w.slots → belongs_to w n p ≡ true
     → true ≡ not (list_all (λ p. nat_le p upto) (slots_where w (belongs_to w n)))
@@ -153,18 +107,11 @@ pub record Names (w : LinkRecord) (upto : ℕ) (names : List ℕ) : Type 0 where
   pub few : length names ≤ 16381
 
 pub accepted : (w : LinkRecord) (upto : ℕ) (names : List ℕ) → skip_refusal w upto names ≡ None → Names w upto names
-accepted w upto names ok =
-    let a = unless-holds (nat_lt upto (length w.slots)) SkipUnassigned _ ok in
-    let b = unless-holds (list_all (can_name w upto) names && nat_le (length names) 16381) SkipNames None a.1 in
-    let c = both (list_all (can_name w upto) names) (nat_le (length names) 16381) b.0 in
-    let e = a.0 in
-    let f = c.1 in
-    record { made = grind (arith, nat_tests); can = c.0; few = grind (arith, nat_tests) }
+accepted w upto names ok = grind (arith, nat_tests, unless-holds)
 
 -- a message that can be named stands on its stream
 pub named-on : (w : LinkRecord) (upto s n : ℕ) → Sender (shape w) → IsNamable (shape w) upto n → (s == (message_at w n).stream) ≡ is_ordered_on w s n
-named-on w upto s n sender i =
-    turn s (message_at w n).stream ∙ sym (and-true ((message_at w n).stream == s)) ∙ ap (λ b. ((message_at w n).stream == s) && b) (sym live)
+named-on w upto s n sender i = cc (turn s (message_at w n).stream, and-true ((message_at w n).stream == s), live)
   where
     turn : (a b : ℕ) → (a == b) ≡ (b == a)
     turn a b = same_test (a == b) (b == a) (λ e. ap (λ k. k == a) (sym (same-is a b e)) ∙ same-yes a) (λ e. ap (λ k. k == b) (sym (same-is b a e)) ∙ same-yes b)

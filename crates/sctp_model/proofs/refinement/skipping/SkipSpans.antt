@@ -1,27 +1,16 @@
 -- The span test of a skip's arrival, from the ends of what a stream holds and of what the skip names.
-use Rattle.std.proofs.Common.{◌≡◌, ℕ, zero, suc, ◌+◌, ◌-◌, ◌<◌, ◌≤◌, ◌^◌, Bool, true, false, List, [], ◌∷◌, length, map, Option, Some, None, refl, ap}
-use Rattle.std.proofs.Common.{sym, ◌∙◌, inl, inr, arith}
-use Rattle.std.specs.Prelude.{◌⊎◌, ◌%◌, if◌then◌else◌, ◌==◌, ◌&&◌, min, max, nat_lt, nat_le}
-use Rattle.std.specs.List.{list_any, list_all}
-use Rattle.std.proofs.Math.Nat.{eq-or-lt_of_le}
-use Rattle.std.proofs.lemmas.Bool.{cases_lt}
-use Rattle.std.proofs.lemmas.Bool.Decides.{nat_tests}
-use Rattle.sctp_util.specs.Kept.{numbers_where}
-use Rattle.sctp_util.proofs.Passing.{front-kept, FrontOf, length-kept-le}
-use Rattle.sctp_util.proofs.More.{not_both, and, same_test}
-use Rattle.sctp_util.proofs.Cases.{same-yes, same-is, or-left, or-right, or-split}
-use Rattle.sctp_model.specs.LinkRecord.{LinkRecord, StreamRecord, Forward}
-use Rattle.sctp_model.specs.Messages.{message_at, stream_at, stream_of, is_ordered_on, index_of, ssn_of, tsn_of}
-use Rattle.sctp_model.specs.Receiver.{cumulative, is_complete_message, is_held, held_on, next_of, least, greatest, fits, spans_fit}
-use Rattle.sctp_model.specs.Changes.{named_by, skip_counts}
-use Rattle.sctp_model.specs.Steps.{arrival_fits}
-use Rattle.sctp_model.specs.Valid.{IsSpan, Valid}
+use Rattle.sctp_model.proofs.Names.{◌≡◌, ℕ, zero, suc, ◌+◌, ◌-◌, ◌<◌, ◌≤◌, ◌^◌, Bool, true, false, List, [], ◌∷◌, length, map, Option, Some, None, refl, ap}
+use Rattle.sctp_model.proofs.Names.{sym, ◌∙◌, inl, inr, arith, ◌⊎◌, if◌then◌else◌, ◌==◌, ◌&&◌, min, max, nat_lt, list_any, list_all, eq-or-lt_of_le, cases_lt}
+use Rattle.sctp_model.proofs.Names.{nat_tests, numbers_where, front-kept, FrontOf, length-kept-le, not_both, and, same_test, LinkRecord, StreamRecord, Forward}
+use Rattle.sctp_model.proofs.Names.{stream_at, stream_of, is_ordered_on, index_of, ssn_of, tsn_of, cumulative, is_complete_message, is_held, held_on, next_of}
+use Rattle.sctp_model.proofs.Names.{least, greatest, fits, spans_fit, skip_counts, arrival_fits, IsSpan, Valid, Reassembly, held_after_ordered_skip}
+use Rattle.sctp_model.proofs.Names.{held_after_unordered_skip, on_stream, low_named, end_named, lowest_held, highest_held, complete_first, min_with, names_fit}
+use Rattle.std.specs.Prelude.{◌%◌}
+use Rattle.sctp_model.specs.Changes.{named_by}
 use Rattle.sctp_model.proofs.receiver.ValidRun.{span-fits}
-use Rattle.sctp_reassembly.specs.reassembly_queue.ReassemblyQueue.{Reassembly, held_after_ordered_skip, held_after_unordered_skip}
 use Rattle.sctp_model.specs.refinement.Holds.{reassembly_of}
-use Rattle.sctp_model.specs.refinement.Naming.{on_stream, low_named, end_named, lowest_held, highest_held, complete_first, min_with, names_fit}
 use Rattle.sctp_model.proofs.refinement.reading.Line
-use Rattle.sctp_model.proofs.refinement.reading.Taken.{IsHeld, held, is-held}
+use Rattle.sctp_model.proofs.refinement.reading.Taken.{held, is-held}
 use Rattle.sctp_model.proofs.refinement.skipping.SkipStep.{with_skip, named-frame, complete-skip, skipped-none, skipped-once}
 use Rattle.sctp_model.proofs.refinement.skipping.Skips.{next_past, next_past-is, named_with, named_with-ge}
 use Rattle.sctp_model.proofs.refinement.arriving.SpanEnds.{fits-span, least-all, held-rise}
@@ -31,21 +20,15 @@ use Rattle.sctp_model.proofs.receiver.Spans.{greatest-append, least-append}
 
 least-min : (f : ℕ → ℕ) (x y : ℕ) (ns : List ℕ) → least (min x y) (map f ns) ≡ min x (least y (map f ns))
 least-min f x y [] = refl
-least-min f x y (n ∷ ns) =
-    let same : min (min x y) (f n) ≡ min x (min y (f n)) = omega arith in
-    ap (λ z. least z (map f ns)) same ∙ least-min f x (min y (f n)) ns
+least-min f x y (n ∷ ns) = grind (arith, nat_tests, least-min f x (min y (f n)) ns)
 
 greatest-max : (f : ℕ → ℕ) (x y : ℕ) (ns : List ℕ) → greatest (max x y) (map f ns) ≡ max x (greatest y (map f ns))
 greatest-max f x y [] = refl
-greatest-max f x y (n ∷ ns) =
-    let same : max (max x y) (f n) ≡ max x (max y (f n)) = omega arith in
-    ap (λ z. greatest z (map f ns)) same ∙ greatest-max f x (max y (f n)) ns
+greatest-max f x y (n ∷ ns) = grind (arith, nat_tests, greatest-max f x (max y (f n)) ns)
 
 greatest-next : (f : ℕ → ℕ) (x : ℕ) (ns : List ℕ) → greatest x (map f ns) + 1 ≡ greatest (x + 1) (map (λ n. f n + 1) ns)
 greatest-next f x [] = refl
-greatest-next f x (n ∷ ns) =
-    let same : max x (f n) + 1 ≡ max (x + 1) (f n + 1) = omega arith in
-    greatest-next f (max x (f n)) ns ∙ ap (λ z. greatest z (map (λ n. f n + 1) ns)) same
+greatest-next f x (n ∷ ns) = grind (arith, nat_tests, greatest-next f (max x (f n)) ns)
 
 -- from a start: the greater of it and of the end
 pub named-from : (w : LinkRecord) (c : ℕ) (ns : List ℕ) → named_with w c ns ≡ max c (named_with w 0 ns)
@@ -56,13 +39,7 @@ named-from w c ns =
 -- each lies between both ends
 under-end : (w : LinkRecord) (y : ℕ) (ns : List ℕ) (c : ℕ) → list_any (λ z. z == y) (map (index_of w) ns) ≡ true → y < named_with w c ns
 under-end w y [] c e = cc
-under-end w y (n ∷ ns) c e =
-    step (or-split (index_of w n == y) (list_any (λ z. z == y) (map (index_of w) ns)) e) (λ h. under-end w y ns (max c (index_of w n + 1)) h)
-  where
-    step : ((index_of w n == y) ≡ true) ⊎ (list_any (λ z. z == y) (map (index_of w) ns) ≡ true) → (list_any (λ z. z == y) (map (index_of w) ns) ≡ true
-        → y < named_with w (max c (index_of w n + 1)) ns) → y < named_with w (max c (index_of w n + 1)) ns
-    step (inl h) ih = let z = same-is (index_of w n) y h in omega (arith, z, named_with-ge w (max c (index_of w n + 1)) ns)
-    step (inr h) ih = ih h
+under-end w y (n ∷ ns) c e = grind (arith, nat_tests, named_with-ge, under-end w y ns)
 
 least-le : (f : ℕ → ℕ) (c : ℕ) (ns : List ℕ) → least c (map f ns) ≤ c
 least-le f c [] = omega arith
@@ -70,12 +47,7 @@ least-le f c (n ∷ ns) = omega (arith, least-le f (min c (f n)) ns)
 
 over-low : (w : LinkRecord) (y : ℕ) (ns : List ℕ) (c : ℕ) → list_any (λ z. z == y) (map (index_of w) ns) ≡ true → least c (map (index_of w) ns) ≤ y
 over-low w y [] c e = cc
-over-low w y (n ∷ ns) c e = step (or-split (index_of w n == y) (list_any (λ z. z == y) (map (index_of w) ns)) e) (λ h. over-low w y ns (min c (index_of w n)) h)
-  where
-    step : ((index_of w n == y) ≡ true) ⊎ (list_any (λ z. z == y) (map (index_of w) ns) ≡ true) → (list_any (λ z. z == y) (map (index_of w) ns) ≡ true
-        → least (min c (index_of w n)) (map (index_of w) ns) ≤ y) → least (min c (index_of w n)) (map (index_of w) ns) ≤ y
-    step (inl h) ih = let z = same-is (index_of w n) y h in omega (arith, z, least-le (index_of w) (min c (index_of w n)) ns)
-    step (inr h) ih = ih h
+over-low w y (n ∷ ns) c e = grind (arith, nat_tests, least-le, over-low w y ns)
 
 -- ## Before the skip
 
@@ -98,14 +70,7 @@ fits-before w s names small =
 
 least-below : (f : ℕ → ℕ) (p : ℕ → Bool) (from count x k : ℕ) → from ≤ k → k < from + count → p k ≡ true → least x (map f (numbers_where p from count)) ≤ f k
 least-below f p from zero x k a b e = absurd (omega arith)
-least-below f p from (suc count) x k a b e = step (p from) refl (eq-or-lt_of_le a) (λ y l. least-below f p (from + 1) count y k l (omega arith) e)
-  where
-    step : (c : Bool) → p from ≡ c → (from ≡ k) ⊎ (from < k) → ((y : ℕ) → from + 1 ≤ k → least y (map f (numbers_where p (from + 1) count)) ≤ f k)
-        → least x (map f (if c then from ∷ numbers_where p (from + 1) count else numbers_where p (from + 1) count)) ≤ f k
-    step true h (inl z) ih = let same = ap f z in omega (arith, same, least-le f (min x (f from)) (numbers_where p (from + 1) count))
-    step true h (inr l) ih = ih (min x (f from)) (omega arith)
-    step false h (inl z) ih = absurd (not_both (sym h ∙ ap p z ∙ e))
-    step false h (inr l) ih = ih x (omega arith)
+least-below f p from (suc count) x k a b e = grind (arith, nat_tests, least-le, least-below f p (from + 1) count)
 
 greatest-ge : (f : ℕ → ℕ) (c : ℕ) (ns : List ℕ) → c ≤ greatest c (map f ns)
 greatest-ge f c [] = omega arith
@@ -114,14 +79,7 @@ greatest-ge f c (n ∷ ns) = omega (arith, greatest-ge f (max c (f n)) ns)
 greatest-above : (f : ℕ → ℕ) (p : ℕ → Bool) (from count x k : ℕ) → from ≤ k → k < from + count → p k ≡ true
     → f k ≤ greatest x (map f (numbers_where p from count))
 greatest-above f p from zero x k a b e = absurd (omega arith)
-greatest-above f p from (suc count) x k a b e = step (p from) refl (eq-or-lt_of_le a) (λ y l. greatest-above f p (from + 1) count y k l (omega arith) e)
-  where
-    step : (c : Bool) → p from ≡ c → (from ≡ k) ⊎ (from < k) → ((y : ℕ) → from + 1 ≤ k → f k ≤ greatest y (map f (numbers_where p (from + 1) count)))
-        → f k ≤ greatest x (map f (if c then from ∷ numbers_where p (from + 1) count else numbers_where p (from + 1) count))
-    step true h (inl z) ih = let same = ap f z in omega (arith, same, greatest-ge f (max x (f from)) (numbers_where p (from + 1) count))
-    step true h (inr l) ih = ih (max x (f from)) (omega arith)
-    step false h (inl z) ih = absurd (not_both (sym h ∙ ap p z ∙ e))
-    step false h (inr l) ih = ih x (omega arith)
+greatest-above f p from (suc count) x k a b e = grind (arith, nat_tests, greatest-ge, greatest-above f p (from + 1) count)
 
 held-low : (w : LinkRecord) (s k : ℕ) → is_held w s k ≡ true → lowest_held w s ≤ index_of w k
 held-low w s k h =
@@ -144,19 +102,11 @@ first-is : (w : LinkRecord) (s : ℕ) → FirstIs w s (complete_first w (held_on
 first-is w s = step (held_on w s) (front-kept (is_held w s) 0 (length w.messages))
   where
     step : (l : List ℕ) → FrontOf (is_held w s) 0 (length w.messages) l → FirstIs w s (complete_first w l)
-    step [] f = record {
-      some = λ i e. cc;
-      past = λ k h t. absurd (not_both (sym (f k (omega arith) (omega (arith, Line.on-made w s k (held w s k h).on))) ∙ h));
-    }
+    step [] f = grind (arith, nat_tests, Line.on-made, held)
     step (n ∷ ns) f = by (is_complete_message w n) refl
       where
         front : (k : ℕ) → is_held w s k ≡ true → (n < k) ⊎ (k ≤ n) → n ≤ k
-        front k h (inl l) = omega arith
-        front k h (inr g) = at k h (eq-or-lt_of_le g)
-          where
-            at : (k : ℕ) → is_held w s k ≡ true → (k ≡ n) ⊎ (k < n) → n ≤ k
-            at k h (inl z) = omega arith
-            at k h (inr l) = absurd (not_both (sym (f.first k (omega arith) l) ∙ h))
+        front k h b = grind (arith, nat_tests)
 
         rises : (k : ℕ) → is_held w s k ≡ true → (n ≡ k) ⊎ (n < k) → index_of w n ≤ index_of w k
         rises k h (inl z) = let same = ap (index_of w) z in omega (arith, same)
@@ -188,10 +138,7 @@ end-short w s c (n ∷ ns) le = step (is_ordered_on w s n) refl (λ d l. end-sho
   where
     step : (b : Bool) → is_ordered_on w s n ≡ b → ((d : ℕ) → d ≤ length w.messages → named_with w d (on_stream w s ns) ≤ length w.messages)
         → named_with w c (if b then n ∷ on_stream w s ns else on_stream w s ns) ≤ length w.messages
-    step true e ih =
-        let i : index_of w n ≤ n = length-kept-le (is_ordered_on w (message_at w n).stream) 0 n in
-        ih (max c (index_of w n + 1)) (omega (arith, le, i, Line.on-made w s n e))
-    step false e ih = ih c le
+    step b e ih = grind (arith, nat_tests, length-kept-le, Line.on-made)
 
 pub next-short : (w : LinkRecord) (s : ℕ) → Valid w → next_of w s ≤ length w.messages
 next-short w s valid = omega (arith, Line.next_le w s (valid.named_made s), length-kept-le (is_ordered_on w s) 0 (length w.messages))
@@ -217,45 +164,11 @@ module _ (w : LinkRecord) (s upto : ℕ) (names : List ℕ) (r : StreamRecord) (
 
   -- what is held after it was held, and is complete or past the named ones
   held-then : (k : ℕ) → is_held v s k ≡ true → (is_held w s k ≡ true) × ((is_complete_message w k ≡ true) ⊎ (end ≤ index_of w k))
-  held-then k h =
-      let x = held v s k h in
-      let complete = complete-skip w upto names k in
-      by x complete (or-split (is_complete_message v k) (nat_le (stream_of v s).named (index_of w k)) x.due)
-    where
-      by : IsHeld v s k → is_complete_message v k ≡ is_complete_message w k → (is_complete_message v k ≡ true)
-          ⊎ (nat_le (stream_of v s).named (index_of w k) ≡ true) → (is_held w s k ≡ true) × ((is_complete_message w k ≡ true) ⊎ (end ≤ index_of w k))
-      by x complete (inl t) =
-          let t' : is_complete_message w k ≡ true = sym complete ∙ t in (
-            is-held w s k (record {
-              on = x.on;
-              unread = x.unread;
-              some = x.some;
-              due = or-left (is_complete_message w k) (nat_le (stream_of w s).named (index_of w k)) t';
-            }),
-            inl t',
-          )
-      by x complete (inr t) =
-          let le : (stream_of v s).named ≤ index_of w k = grind (arith, nat_tests) in
-          let above : (stream_of w s).named ≤ index_of w k = omega (arith, le, named-skip) in (
-            is-held w s k (record {
-              on = x.on;
-              unread = x.unread;
-              some = x.some;
-              due = or-right (is_complete_message w k) (nat_le (stream_of w s).named (index_of w k)) (grind (arith, nat_tests));
-            }),
-            inr (omega (arith, le, named-skip)),
-          )
+  held-then k h = grind (arith, nat_tests, held, complete-skip, is-held, named-skip)
 
   -- a complete one stays
   held-still : (k : ℕ) → is_held w s k ≡ true → is_complete_message w k ≡ true → is_held v s k ≡ true
-  held-still k h t =
-      let x = held w s k h in
-      is-held v s k (record {
-        on = x.on;
-        unread = x.unread;
-        some = x.some;
-        due = or-left (is_complete_message v k) (nat_le (stream_of v s).named (index_of w k)) (complete-skip w upto names k ∙ t);
-      })
+  held-still k h t = grind (arith, nat_tests, held, is-held, complete-skip)
 
   module _ (few : length w.messages < 2 ^ 31) where
     abbrev low : ℕ
@@ -278,9 +191,7 @@ module _ (w : LinkRecord) (s upto : ℕ) (names : List ℕ) (r : StreamRecord) (
         top = omega (arith, next-skip, sp.next)
 
         below : sp.low ≤ low
-        below =
-            let short = end-short w s 0 names (omega arith) in
-            least-all (2 ^ 64 - 1) sp.low mine (omega (arith, next-skip, sp.next, short, next-short w s valid, few)) (λ y h. (sp.others y h).0)
+        below = grind (arith, nat_tests, end-short, least-all, next-skip, next-short)
 
         by : (o : Option ℕ) → complete_first w (held_on w s) ≡ o → nat_lt end (min_with o low + 2 ^ 15) ≡ true
         by None f = let lt : end < low + 2 ^ 15 = omega (arith, top, below, sp.short) in grind (arith, nat_tests)
@@ -336,32 +247,14 @@ module _ (w : LinkRecord) (s upto : ℕ) (names : List ℕ) (r : StreamRecord) (
 
     -- both tests
     pub fits-both : (fits w mine s && fits v mine s) ≡ names_fit w s names
-    fits-both =
-        let lowest = least-le (index_of w) (next_of w s) (held_on w s) in
-        let before = fits-before w s names (omega (arith, lowest, next-short w s valid, few)) in
-        by (nat_lt (max (highest_held w s) (end - 1)) (min (lowest_held w s) low + 2 ^ 15)) refl before
-      where
-        by : (b : Bool) → nat_lt (max (highest_held w s) (end - 1)) (min (lowest_held w s) low + 2 ^ 15) ≡ b → fits w mine s
-            ≡ nat_lt (max (highest_held w s) (end - 1)) (min (lowest_held w s) low + 2 ^ 15) → (fits w mine s && fits v mine s) ≡ names_fit w s names
-        by true e same = ap (λ b. b && fits v mine s) same
-            ∙ ap (λ c. nat_lt (max (highest_held w s) (end - 1)) (min (lowest_held w s) low + 2 ^ 15) && c) (fits-after e)
-        by false e same = ap (λ b. b && fits v mine s) (same ∙ e) ∙ sym (ap (λ b. b && nat_lt end (min_with first low + 2 ^ 15)) e)
+    fits-both = grind (arith, nat_tests, least-le, fits-before, next-short, fits-after)
 
 -- ## On all streams
 
 all-mapped : (f : StreamRecord → StreamRecord) (t u : ℕ → Bool) (rs : List StreamRecord) → ((r : StreamRecord) → (f r).stream ≡ r.stream)
     → (list_all (λ r. t r.stream) rs && list_all (λ r. u r.stream) (map f rs)) ≡ list_all (λ r. t r.stream && u r.stream) rs
 all-mapped f t u [] keeps = refl
-all-mapped f t u (r ∷ rs) keeps =
-    ap (λ b. (t r.stream && list_all (λ r. t r.stream) rs) && (u b && list_all (λ r. u r.stream) (map f rs))) (keeps r)
-    ∙ turn (t r.stream) (list_all (λ r. t r.stream) rs) (u r.stream) (list_all (λ r. u r.stream) (map f rs))
-    ∙ ap (λ b. (t r.stream && u r.stream) && b) (all-mapped f t u rs keeps)
-  where
-    turn : (a b c d : Bool) → ((a && b) && (c && d)) ≡ ((a && c) && (b && d))
-    turn true true c d = refl
-    turn true false true d = refl
-    turn true false false d = refl
-    turn false b c d = refl
+all-mapped f t u (r ∷ rs) keeps = grind (arith, nat_tests, all-mapped f t u rs keeps)
 
 -- the test of an arrival that counts
 pub skip-fits : (w : LinkRecord) (upto : ℕ) (names : List ℕ) → cumulative w ≤ upto
@@ -401,24 +294,13 @@ last-named w s c (n ∷ ns) = step (is_ordered_on w s n) refl (λ d. last-named 
       where
         here : named_with w (max c (index_of w n + 1)) (on_stream w s ns) ≡ max c (index_of w n + 1) → (index_of w n < c) ⊎ (c ≤ index_of w n)
             → (named_with w c (n ∷ on_stream w s ns) ≡ c) ⊎ IsLast w s (named_with w c (n ∷ on_stream w s ns)) (n ∷ on_stream w s ns)
-        here z (inl l) = inl (omega (arith, z, l))
-        here z (inr g) = inr (record {
-          number = n;
-          on = e;
-          among = or-left (index_of w n == index_of w n) (list_any (λ z. z == index_of w n) (map (index_of w) (on_stream w s ns))) (same-yes (index_of w n));
-          is = omega (arith, z, g);
-        })
+        here z b = grind (arith, nat_tests)
 
         by : (named_with w (max c (index_of w n + 1)) (on_stream w s ns) ≡ max c (index_of w n + 1))
             ⊎ IsLast w s (named_with w (max c (index_of w n + 1)) (on_stream w s ns)) (on_stream w s ns)
             → (named_with w c (n ∷ on_stream w s ns) ≡ c) ⊎ IsLast w s (named_with w c (n ∷ on_stream w s ns)) (n ∷ on_stream w s ns)
         by (inl z) = here z (cases_lt (index_of w n) c)
-        by (inr l) = inr (record {
-          number = l.number;
-          on = l.on;
-          among = or-right (index_of w n == index_of w l.number) (list_any (λ z. z == index_of w l.number) (map (index_of w) (on_stream w s ns))) l.among;
-          is = l.is;
-        })
+        by (inr l) = grind (arith, nat_tests)
 
 -- the queue, gone forward to the last one named, where one is
 abbrev pub gone_forward : ℕ → Reassembly → Reassembly
@@ -427,12 +309,7 @@ gone_forward end q = if end == 0 then q else held_after_ordered_skip ((end - 1) 
 -- that is an ordered skip to the SSN of the last one
 pub gone-last : (w : LinkRecord) (s end : ℕ) (names : List ℕ) (q : Reassembly) (last : IsLast w s end names)
     → gone_forward end q ≡ held_after_ordered_skip (ssn_of w last.number) q
-gone-last w s end names q last =
-    let n = last.number in
-    let is = last.is in
-    let later : (end == 0) ≡ false = grind (arith, nat_tests) in
-    let back : end - 1 ≡ index_of w n = omega (arith, is) in
-    cc (later, back, Line.ssn_on w s n last.on)
+gone-last w s end names q last = grind (arith, nat_tests, Line.ssn_on)
 
 -- where the end is 0, none is named
 pub none-named : (w : LinkRecord) (ns : List ℕ) → named_with w 0 ns ≡ 0 → ns ≡ []

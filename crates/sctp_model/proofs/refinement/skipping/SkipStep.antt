@@ -1,25 +1,13 @@
 -- A skip that counts: the complete step.
-use Rattle.std.proofs.Common.{◌≡◌, ℕ, ◌+◌, ◌<◌, ◌≤◌, ◌%◌, ◌^◌, Bool, true, false, List, [], ◌∷◌, length, map, Option, Some, None, refl, ap, sym, ◌∙◌, arith}
-use Rattle.std.specs.Prelude.{if◌then◌else◌, ◌==◌, ◌&&◌, ◌||◌, nat_le, max, find, unwrap_or}
-use Rattle.std.specs.List.{list_any, filter}
-use Rattle.std.proofs.lemmas.Bool.Decides.{nat_tests}
-use Rattle.sctp_util.specs.Kept.{numbers_where}
-use Rattle.sctp_util.proofs.Passing.{map-kept-same}
-use Rattle.sctp_model.specs.LinkRecord.{LinkRecord, StreamRecord}
-use Rattle.sctp_model.specs.Messages.{message_at, message_of, stream_at, stream_of, no_stream, is_ordered_on, index_of, ssn_of, tsn_of}
-use Rattle.sctp_model.specs.Receiver.{arrived_at, cumulative, is_complete_message, is_held, next_of}
-use Rattle.sctp_model.specs.Changes.{named_by, receive_skip, skip_counts}
-use Rattle.sctp_util.specs.Lists.{after_leading}
-use Rattle.sctp_util.specs.Serial.{at_or_before}
-use Rattle.sctp_data.specs.declared.chunk.chunk_payload_data.ChunkPayloadData.{ChunkPayloadData}
-use Rattle.sctp_data.specs.ChunkSet.{ChunkSet}
-use Rattle.sctp_reassembly.specs.reassembly_queue.ReassemblyQueue.{Reassembly, held_after_ordered_skip, held_after_ordered_skips, held_after_unordered_skip}
-use Rattle.sctp_model.specs.Contents.{chunk_at}
-use Rattle.sctp_model.specs.Queues.{set_of, complete_set_of, is_unassembled}
-use Rattle.sctp_model.specs.refinement.Holds.{ordered_sets, complete_sets, unassembled_chunks, reassembly_of}
-use Rattle.sctp_model.specs.Valid.{IsSpan, Valid}
+use Rattle.sctp_model.proofs.Names.{◌≡◌, ℕ, ◌+◌, ◌<◌, ◌≤◌, ◌%◌, ◌^◌, Bool, true, false, List, [], ◌∷◌, length, map, Option, Some, None, refl, ap, ◌∙◌, arith}
+use Rattle.sctp_model.proofs.Names.{sym, if◌then◌else◌, ◌==◌, nat_le, max, find, list_any, filter, nat_tests, numbers_where, map-kept-same, LinkRecord}
+use Rattle.sctp_model.proofs.Names.{StreamRecord, message_at, message_of, stream_at, stream_of, is_ordered_on, index_of, ssn_of, tsn_of, arrived_at, cumulative}
+use Rattle.sctp_model.proofs.Names.{is_complete_message, is_held, next_of, receive_skip, skip_counts, after_leading, at_or_before, ChunkPayloadData, ChunkSet}
+use Rattle.sctp_model.proofs.Names.{Reassembly, held_after_ordered_skip, held_after_ordered_skips, held_after_unordered_skip, chunk_at, set_of, complete_set_of}
+use Rattle.sctp_model.proofs.Names.{is_unassembled, ordered_sets, complete_sets, unassembled_chunks, IsSpan, Valid, at_or_before-tsn, or-right, and-none}
+use Rattle.sctp_model.specs.Changes.{named_by}
+use Rattle.sctp_model.specs.refinement.Holds.{reassembly_of}
 use Rattle.sctp_util.proofs.More.{after_leading-kept}
-use Rattle.sctp_util.proofs.Wraps.{at_or_before-tsn}
 use Rattle.sctp_model.proofs.refinement.skipping.Skips
 use Rattle.sctp_model.proofs.refinement.skipping.Skips.{held_past, next_past, queue_past, next_past-is, IsNear, AllNear, named_with, forwarded-one}
 use Rattle.sctp_model.proofs.refinement.skipping.Skips.{forwarded-all}
@@ -42,35 +30,18 @@ then_by f (Some r) = Some (f r)
 pub find-map : (f : StreamRecord → StreamRecord) → ((r : StreamRecord) → (f r).stream ≡ r.stream) → (t : ℕ) (rs : List StreamRecord)
     → find (λ r. r.stream == t) (map f rs) ≡ then_by f (find (λ r. r.stream == t) rs)
 find-map f keeps t [] = refl
-find-map f keeps t (r ∷ rs) =
-    ap (λ x. if x == t then Some (f r) else find (λ r. r.stream == t) (map f rs)) (keeps r) ∙ step (r.stream == t) (find-map f keeps t rs)
-  where
-    step : (b : Bool) → find (λ r. r.stream == t) (map f rs) ≡ then_by f (find (λ r. r.stream == t) rs)
-        → (if b then Some (f r) else find (λ r. r.stream == t) (map f rs)) ≡ then_by f (if b then Some r else find (λ r. r.stream == t) rs)
-    step true ih = refl
-    step false ih = ih
+find-map f keeps t (r ∷ rs) = grind (arith, nat_tests, find-map f keeps t rs)
 
 pub find-passes : (t : ℕ) (rs : List StreamRecord) (x : StreamRecord) → find (λ r. r.stream == t) rs ≡ Some x → x.stream ≡ t
 find-passes t [] x e = cc
-find-passes t (r ∷ rs) x e = step (r.stream == t) refl e (λ h. find-passes t rs x h)
-  where
-    step : (b : Bool) → (r.stream == t) ≡ b → (if b then Some r else find (λ r. r.stream == t) rs) ≡ Some x
-        → (find (λ r. r.stream == t) rs ≡ Some x → x.stream ≡ t) → x.stream ≡ t
-    step true h e ih = let same : r ≡ x = cc in ap (λ r. r.stream) (sym same) ∙ (let s : r.stream ≡ t = grind (arith, nat_tests) in s)
-    step false h e ih = ih e
+find-passes t (r ∷ rs) x e = grind (arith, nat_tests, find-passes t rs x)
 
 complete-frame : (w : LinkRecord) (upto : ℕ) (names : List ℕ) (t : ℕ) → (stream_of (with_skip w upto names) t).complete ≡ (stream_of w t).complete
-complete-frame w upto names t = ap (λ o. (unwrap_or o (no_stream t)).complete) (find-map (named_by w names) (λ r. refl) t w.streams) ∙ same (stream_at w t)
-  where
-    same : (o : Option StreamRecord) → (unwrap_or (then_by (named_by w names) o) (no_stream t)).complete ≡ (unwrap_or o (no_stream t)).complete
-    same None = refl
-    same (Some r) = refl
+complete-frame w upto names t = grind (arith, nat_tests, find-map)
 
 pub named-frame : (w : LinkRecord) (upto : ℕ) (names : List ℕ) (t : ℕ) (r : StreamRecord) → stream_at w t ≡ Some r
     → (stream_of (with_skip w upto names) t).named ≡ named_with w (stream_of w t).named (filter (is_ordered_on w t) names)
-named-frame w upto names t r e =
-    let id : r.stream ≡ t = find-passes t w.streams r e in
-    cc (find-map (named_by w names) (λ r. refl) t w.streams, e, id)
+named-frame w upto names t r e = grind (arith, nat_tests, find-passes, find-map)
 
 pub complete-skip : (w : LinkRecord) (upto : ℕ) (names : List ℕ) (n : ℕ) → is_complete_message (with_skip w upto names) n ≡ is_complete_message w n
 complete-skip w upto names n = cc (complete-frame w upto names (message_at w n).stream)
@@ -119,12 +90,8 @@ module _ (w : LinkRecord) (s upto : ℕ) (names : List ℕ) (r : StreamRecord) (
           → AllNear w s (max (next_of w s) named) (if b then n ∷ filter (is_ordered_on w s) ns else filter (is_ordered_on w s) ns)
       step true on among ih = (
         near-one n on (among (index_of w n) (let e : (index_of w n == index_of w n) ≡ true = grind (arith, nat_tests) in rw e refl)),
-        ih (λ y h. among y (or_right (index_of w n == y) (list_any (λ z. z == y) (map (index_of w) (filter (is_ordered_on w s) ns))) h)),
+        ih (λ y h. among y (or-right (index_of w n == y) (list_any (λ z. z == y) (map (index_of w) (filter (is_ordered_on w s) ns))) h)),
       )
-        where
-          or_right : (a b : Bool) → b ≡ true → (a || b) ≡ true
-          or_right true b e = refl
-          or_right false b e = e
       step false on among ih = ih among
 
   -- ## The unassembled chunks
@@ -143,11 +110,7 @@ module _ (w : LinkRecord) (s upto : ℕ) (names : List ℕ) (r : StreamRecord) (
       serial k l = at_or_before-tsn w.setup.first k upto (omega (arith, lt, valid.few)) (omega (arith, lt, valid.few))
 
       low : (k : ℕ) → k < upto + 1 → is_unassembled (with_skip w upto names) s k ≡ false
-      low k l = let e : nat_le (upto + 1) k ≡ false = grind (arith, nat_tests) in rw e (ands (arrived_at w k))
-        where
-          ands : (b : Bool) → (b && false) ≡ false
-          ands true = refl
-          ands false = refl
+      low k l = let e : nat_le (upto + 1) k ≡ false = grind (arith, nat_tests) in rw e (and-none (arrived_at w k))
 
       high : (k : ℕ) → upto + 1 ≤ k → is_unassembled (with_skip w upto names) s k ≡ is_unassembled w s k
       high k l =
@@ -186,10 +149,7 @@ module _ (w : LinkRecord) (s upto : ℕ) (names : List ℕ) (r : StreamRecord) (
   pub once-is : (n : ℕ) → is_ordered_on w s n ≡ true → list_any (λ z. z == index_of w n) (map (index_of w) mine) ≡ true
       → named ≡ max (stream_of w s).named (index_of w n + 1)
       → held_after_ordered_skips (map (ssn_of w) mine) (reassembly_of w s) ≡ held_after_ordered_skip (ssn_of w n) (reassembly_of w s)
-  once-is n on among last =
-      each-is ∙ ap (queue_past w s) last
-      ∙ sym (forwarded-one w s (stream_of w s).named (max (next_of w s) named) n valid (omega arith) (omega (arith, named-ge (stream_of w s).named mine))
-      (near-one n on among))
+  once-is n on among last = grind (arith, nat_tests, each-is, forwarded-one, named-ge, near-one)
 
   pub skipped-once : (n : ℕ) → is_ordered_on w s n ≡ true → list_any (λ z. z == index_of w n) (map (index_of w) mine) ≡ true
       → named ≡ max (stream_of w s).named (index_of w n + 1)

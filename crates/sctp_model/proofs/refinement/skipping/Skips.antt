@@ -1,25 +1,16 @@
 -- A skip that counts: the queue's forwards and the record's step agree.
-use Rattle.std.proofs.Common.{◌≡◌, ℕ, ◌+◌, ◌-◌, ◌<◌, ◌≤◌, ◌%◌, ◌^◌, Bool, true, false, List, [], ◌∷◌, length, map, drop, get_or, refl, ap, sym, ◌∙◌, inl, inr}
-use Rattle.std.proofs.Common.{arith}
-use Rattle.std.specs.Prelude.{◌⊎◌, if◌then◌else◌, ◌&&◌, ◌||◌, not, nat_lt, nat_le, max}
-use Rattle.std.proofs.lemmas.Bool.{cases_lt}
-use Rattle.std.proofs.lemmas.Bool.Decides.{nat_tests}
-use Rattle.sctp_util.specs.Kept.{numbers_where, leading}
-use Rattle.sctp_model.specs.LinkRecord.{LinkRecord}
-use Rattle.sctp_model.specs.Messages.{message_at, stream_of, is_ordered_on, index_of, ssn_of, ordered_on}
-use Rattle.sctp_model.specs.Receiver.{arrived_of, is_complete_message, is_unread, is_held, next_of, greatest}
+use Rattle.sctp_model.proofs.Names.{◌≡◌, ℕ, ◌+◌, ◌-◌, ◌<◌, ◌≤◌, ◌%◌, ◌^◌, Bool, true, false, List, [], ◌∷◌, length, map, drop, get_or, refl, ap, sym, ◌∙◌, inl}
+use Rattle.sctp_model.proofs.Names.{inr, arith, ◌⊎◌, if◌then◌else◌, ◌&&◌, ◌||◌, not, nat_lt, nat_le, max, cases_lt, nat_tests, numbers_where, leading}
+use Rattle.sctp_model.proofs.Names.{LinkRecord, message_at, stream_of, is_ordered_on, index_of, ssn_of, ordered_on, arrived_of, is_complete_message, is_unread}
+use Rattle.sctp_model.proofs.Names.{is_held, next_of, greatest, Reassembly, held_after_ordered_skip, held_after_ordered_skips, is_complete, chunks_come}
+use Rattle.sctp_model.proofs.Names.{complete_sets, unassembled_chunks, set_of, Valid, fails, both, those-kept, at_or_before16-index, leading-is, get-drop}
+use Rattle.sctp_model.proofs.Names.{length-dropped}
 use Rattle.sctp_util.specs.Serial.{at_or_before16}
-use Rattle.sctp_reassembly.specs.reassembly_queue.ReassemblyQueue.{Reassembly, is_passed, held_after_ordered_skip, held_after_ordered_skips}
-use Rattle.sctp_reassembly.specs.reassembly_queue.Fragments.{is_complete}
-use Rattle.sctp_model.specs.refinement.Holds.{chunks_come, complete_sets, unassembled_chunks}
-use Rattle.sctp_model.specs.Queues.{set_of}
-use Rattle.sctp_model.specs.Valid.{Valid}
-use Rattle.sctp_util.proofs.More.{fails, both, those-kept}
-use Rattle.sctp_util.proofs.Wraps.{at_or_before16-index, next16}
+use Rattle.sctp_reassembly.specs.reassembly_queue.ReassemblyQueue.{is_passed}
+use Rattle.sctp_util.proofs.Wraps.{next16}
 use Rattle.sctp_model.proofs.refinement.reading.Line.{on-made, ssn_on, index-at, next_le, next_passes, next_unread, read_at}
 use Rattle.sctp_model.proofs.refinement.arriving.Arrival.{set_is_complete}
 use Rattle.sctp_model.proofs.refinement.reading.Taken.{complete-ordered}
-use Rattle.sctp_util.proofs.Places.{leading-is, get-drop, length-dropped}
 
 -- ## The queue, had so many been named
 
@@ -79,16 +70,7 @@ pub record IsNear (w : LinkRecord) (s top n : ℕ) : Type 0 where
 module _ (w : LinkRecord) (s named top n : ℕ) (valid : Valid w) (from : (stream_of w s).named ≤ named) (upto : max (next_of w s) named ≤ top)
     (near : IsNear w s top n) where
   held-before : (m : ℕ) → held_past w s named m ≡ true → is_held w s m ≡ true
-  held-before m e = weaker (is_ordered_on w s m) (is_unread w m) (nat_lt 0 (arrived_of w m)) (is_complete_message w m) (nat_le named (index_of w m))
-      (nat_le (stream_of w s).named (index_of w m)) (λ h. grind (arith, nat_tests)) e
-    where
-      weaker : (a b c d e f : Bool) → (e ≡ true → f ≡ true) → (a && (b && (c && (d || e)))) ≡ true → (a && (b && (c && (d || f)))) ≡ true
-      weaker true true true true e f h x = refl
-      weaker true true true false true f h x = h refl
-      weaker true true true false false f h x = cc
-      weaker true true false d e f h x = cc
-      weaker true false c d e f h x = cc
-      weaker false b c d e f h x = cc
+  held-before m e = grind (arith, nat_tests)
 
   on-held : (m : ℕ) → held_past w s named m ≡ true → is_ordered_on w s m ≡ true
   on-held m e = (both (is_ordered_on w s m) (is_unread w m && (nat_lt 0 (arrived_of w m) && (is_complete_message w m || nat_le named (index_of w m)))) e).0
@@ -108,58 +90,20 @@ module _ (w : LinkRecord) (s named top n : ℕ) (valid : Valid w) (from : (strea
   stays m = step (held_past w s named m) refl
     where
       gone : (a b c d : Bool) (i k j : ℕ) → (a && (b && (c && (d || nat_le k i)))) ≡ false → (a && (b && (c && (d || nat_le (max k (j + 1)) i)))) ≡ false
-      gone true true true true i k j e = cc
-      gone true true true false i k j e = grind (arith, nat_tests)
-      gone true true false d i k j e = refl
-      gone true false c d i k j e = refl
-      gone false b c d i k j e = refl
+      gone o b c d i k j e = grind (arith, nat_tests)
 
       kept' : (a b c d : Bool) (i k j : ℕ) → (a && (b && (c && (d || nat_le k i)))) ≡ true
           → (a && (b && (c && (d || nat_le (max k (j + 1)) i)))) ≡ not (nat_le i j && not d)
-      kept' true true true true i k j e = sym (ap not (ands (nat_le i j)))
-        where
-          ands : (b : Bool) → (b && false) ≡ false
-          ands true = refl
-          ands false = refl
-      kept' true true true false i k j e = step (cases_lt j i)
-        where
-          step : (j < i) ⊎ (i ≤ j) → nat_le (max k (j + 1)) i ≡ not (nat_le i j && true)
-          step (inl l) = grind (arith, nat_tests)
-          step (inr g) = grind (arith, nat_tests)
-      kept' true true false d i k j e = cc
-      kept' true false c d i k j e = cc
-      kept' false b c d i k j e = cc
+      kept' o b c d i k j e = grind (arith, nat_tests)
 
       step : (b : Bool) → held_past w s named m ≡ b → held_past w s (max named (index_of w n + 1)) m ≡ (b && not (is_passed (ssn_of w n) (set_of w m)))
-      step true e =
-          kept' (is_ordered_on w s m) (is_unread w m) (nat_lt 0 (arrived_of w m)) (is_complete_message w m) (index_of w m) named (index_of w n) e
-          ∙ ap not (sym (passed m e))
+      step true e = cc
+          (kept' (is_ordered_on w s m) (is_unread w m) (nat_lt 0 (arrived_of w m)) (is_complete_message w m) (index_of w m) named (index_of w n) e, passed m e)
       step false e = gone (is_ordered_on w s m) (is_unread w m) (nat_lt 0 (arrived_of w m)) (is_complete_message w m) (index_of w m) named (index_of w n) e
 
   next-named : (if at_or_before16 (next_past w s named % 2 ^ 16) (ssn_of w n) then (ssn_of w n + 1) % 2 ^ 16 else next_past w s named % 2 ^ 16)
       ≡ next_past w s (max named (index_of w n + 1)) % 2 ^ 16
-  next-named =
-      let i = index_of w n in
-      let a : next_past w s named ≡ max (next_of w s) named = next_past-is w s named valid from in
-      let b : next_past w s (max named (i + 1)) ≡ max (next_of w s) (max named (i + 1)) = next_past-is w s (max named (i + 1)) valid (omega arith) in
-      rw (
-        ssn_on w s n near.on,
-        a,
-        b,
-        at_or_before16-index (max (next_of w s) named) (index_of w n) (omega (arith, near.above, upto)) (omega (arith, near.below)),
-        next16 (index_of w n),
-      ) (step (cases_lt (index_of w n) (max (next_of w s) named)))
-    where
-      step : (index_of w n < max (next_of w s) named) ⊎ (max (next_of w s) named ≤ index_of w n) → (if nat_le (max (next_of w s) named) (index_of w n)
-          then (index_of w n + 1) % 2 ^ 16 else max (next_of w s) named % 2 ^ 16) ≡ max (next_of w s) (max named (index_of w n + 1)) % 2 ^ 16
-      step (inl l) =
-          let off : nat_le (max (next_of w s) named) (index_of w n) ≡ false = grind (arith, nat_tests) in
-          let same : max (next_of w s) (max named (index_of w n + 1)) ≡ max (next_of w s) named = omega arith in
-          rw (off, same) refl
-      step (inr g) =
-          let on : nat_le (max (next_of w s) named) (index_of w n) ≡ true = grind (arith, nat_tests) in
-          let same : max (next_of w s) (max named (index_of w n + 1)) ≡ index_of w n + 1 = omega arith in
-          rw (on, same) refl
+  next-named = grind (arith, nat_tests, next_past-is, ssn_on, at_or_before16-index, next16)
 
   pub forwarded-one : held_after_ordered_skip (ssn_of w n) (queue_past w s named) ≡ queue_past w s (max named (index_of w n + 1))
   forwarded-one =

@@ -1,9 +1,6 @@
 -- The streams of a record at their places.
-use Rattle.std.proofs.Common.{◌≡◌, ℕ, zero, suc, ◌<◌, Bool, true, false, List, [], ◌∷◌, length, Some, refl, ap, ◌∙◌, arith}
-use Rattle.std.specs.Prelude.{if◌then◌else◌, ◌==◌, ◌&&◌, find, slice_index_or}
-use Rattle.std.specs.List.{list_all}
-use Rattle.sctp_util.proofs.Cases.{same-yes}
-use Rattle.sctp_model.specs.LinkRecord.{StreamRecord}
+use Rattle.sctp_model.proofs.Names.{◌≡◌, ℕ, zero, suc, ◌<◌, Bool, true, false, List, [], ◌∷◌, length, Some, refl, ap, ◌∙◌, arith, if◌then◌else◌, ◌==◌, ◌&&◌}
+use Rattle.sctp_model.proofs.Names.{find, slice_index_or, list_all, same-yes, StreamRecord}
 
 pub found-at : (i : ℕ) (rs : List StreamRecord) (d : StreamRecord) → i < length rs
     → (r : StreamRecord) × (find (λ q. q.stream == (slice_index_or rs i d).stream) rs ≡ Some r)
