@@ -12,15 +12,15 @@ use sctp_packets::packet::CommonHeader;
 use sctp_packets::{PacketReader, PacketWriter};
 use sctp_util::util::Checksum;
 
-// The header of each packet.
-const HEADER: CommonHeader = CommonHeader {
+/// The header of each packet.
+pub const HEADER: CommonHeader = CommonHeader {
     source_port: 5000,
     destination_port: 5001,
     verification_tag: 1,
 };
 
-// How many bytes a packet has at most.
-const LIMIT: usize = 1_400;
+/// How many bytes a packet has at most.
+pub const LIMIT: usize = 1_400;
 
 // A chunk comes to the half that it is for; whether it is taken.
 fn takes(ends: &mut Ends, chunk: &ChunkKind) -> bool {
@@ -31,14 +31,37 @@ fn takes(ends: &mut Ends, chunk: &ChunkKind) -> bool {
     }
 }
 
-// A packet of one chunk comes as its bytes; whether the chunk is taken.
-fn comes<C: Checksum>(ends: &mut Ends, raw: &Bytes, sum: &C) -> bool {
-    let Ok((_, mut chunks)) = PacketReader::open(raw, sum) else {
-        return false;
-    };
+// The next chunk of a packet is read; whether there is one and it is taken.
+fn takes_next(ends: &mut Ends, chunks: &mut PacketReader) -> bool {
     match chunks.next(ends.alloc) {
         Ok(Some(chunk)) => takes(ends, &chunk),
         _ => false,
+    }
+}
+
+// A packet of so many chunks comes as its bytes; whether all are taken.
+fn comes<C: Checksum>(ends: &mut Ends, raw: &Bytes, count: u32, sum: &C) -> bool {
+    let Ok((_, mut chunks)) = PacketReader::open(raw, sum) else {
+        return false;
+    };
+    for _ in 0..count {
+        if !takes_next(ends, &mut chunks) {
+            return false;
+        }
+    }
+    true
+}
+
+/// A sealed packet of so many chunks comes; whether all are taken.
+pub fn comes_each<C: Checksum>(
+    ends: &mut Ends,
+    writer: &PacketWriter,
+    count: u32,
+    sum: &C,
+) -> bool {
+    match Bytes::copy_from_slice(ends.alloc, writer.bytes()) {
+        Ok(raw) => comes(ends, &raw, count, sum),
+        Err(_) => false,
     }
 }
 
@@ -54,10 +77,7 @@ fn arrives<K: Chunk, C: Checksum>(
         return false;
     }
     writer.seal(sum);
-    match Bytes::copy_from_slice(ends.alloc, writer.bytes()) {
-        Ok(raw) => comes(ends, &raw, sum),
-        Err(_) => false,
-    }
+    comes_each(ends, writer, 1, sum)
 }
 
 // The next fragment is sent, and comes.
@@ -68,8 +88,8 @@ fn sends<C: Checksum>(ends: &mut Ends, writer: &mut PacketWriter, sum: &C) -> bo
     }
 }
 
-// What came is acknowledged, and the SACK comes.
-fn acknowledges<C: Checksum>(ends: &mut Ends, writer: &mut PacketWriter, sum: &C) -> bool {
+/// What came is acknowledged, and the SACK comes.
+pub fn acknowledges<C: Checksum>(ends: &mut Ends, writer: &mut PacketWriter, sum: &C) -> bool {
     match ends.receiver.sack(LIMIT) {
         Ok(sack) => arrives(ends, writer, &sack, sum),
         Err(_) => false,

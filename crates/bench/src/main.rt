@@ -9,6 +9,7 @@
 
 mod against;
 mod ends;
+mod everyday;
 mod exchange;
 mod growth;
 mod linking;

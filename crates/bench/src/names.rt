@@ -1,5 +1,6 @@
 //! How scenarios are told.
 
+use crate::everyday::Load;
 use crate::payload::Touch;
 use crate::receiving::Receiving;
 use crate::scenario::{Scenario, Sum};
@@ -28,6 +29,7 @@ impl fmt::Display for Scenario {
             Scenario::Pending(count) => write!(f, "pending push and pop {count}"),
             Scenario::OutboundPush(count) => write!(f, "outbound push {count}"),
             Scenario::Sack(count) => write!(f, "SACK of {count} blocks written and read"),
+            Scenario::Everyday(load, sum) => { write!(f, "{}, {}", load_name(load), sum_name(sum)) }
             Scenario::Exchange(sum) => write!(f, "64 KiB in packets, {}", sum_name(sum)),
             Scenario::Linked(sum) => write!(f, "64 KiB through a Link, {}", sum_name(sum)),
             _ => write!(f, "{} over {}", call_name(*self), held_in(*self)),
@@ -47,6 +49,14 @@ fn delivery_name(delivery: Delivery) -> &'static str {
     match delivery {
         Delivery::Ordered => "ordered",
         Delivery::Unordered => "unordered",
+    }
+}
+
+fn load_name(load: Load) -> &'static str {
+    match load {
+        Load::Short => "exchange of 100 bytes, a message a packet",
+        Load::Ten => "exchange of 100 bytes, ten messages a packet",
+        Load::Full => "exchange of 1200 bytes, a message a packet",
     }
 }
 
@@ -105,7 +115,10 @@ fn held_in(scenario: Scenario) -> u32 {
 /// The word for what a run gives.
 pub fn what_of(scenario: Scenario) -> &'static str {
     match scenario {
-        Scenario::OneMessage(_, _) | Scenario::Exchange(_) | Scenario::Linked(_) => "bytes",
+        Scenario::OneMessage(_, _)
+        | Scenario::Everyday(_, _)
+        | Scenario::Exchange(_)
+        | Scenario::Linked(_) => "bytes",
         Scenario::GapBlocks(_, _) | Scenario::Sack(_) => "blocks",
         Scenario::Interleaved => "messages",
         Scenario::Touch(_, _) | Scenario::Sending(_, _) | Scenario::Receiving(_, _) => "in all",

@@ -1,5 +1,6 @@
 //! Queues, senders, receivers and links.
 
+use crate::everyday::Load;
 use crate::names::what_of;
 use crate::receiving::Receiving;
 use crate::scenario::{Scenario, Sum, fastest, is_slow, measure, unit_of};
@@ -7,7 +8,7 @@ use crate::sending::Sending;
 use crate::subject::{Delivery, Order};
 use crate::table::Table;
 
-static SCENARIOS: [Scenario; 38] = [
+static SCENARIOS: [Scenario; 44] = [
     Scenario::PushAndPop(1000, Order::InOrder),
     Scenario::PushAndPop(1000, Order::Shuffled),
     Scenario::PushAndPop(10_000, Order::InOrder),
@@ -28,6 +29,12 @@ static SCENARIOS: [Scenario; 38] = [
     Scenario::OutboundPush(1000),
     Scenario::Sack(1),
     Scenario::Sack(100),
+    Scenario::Everyday(Load::Short, Sum::Zero),
+    Scenario::Everyday(Load::Short, Sum::Crc32c),
+    Scenario::Everyday(Load::Ten, Sum::Zero),
+    Scenario::Everyday(Load::Ten, Sum::Crc32c),
+    Scenario::Everyday(Load::Full, Sum::Zero),
+    Scenario::Everyday(Load::Full, Sum::Crc32c),
     Scenario::Exchange(Sum::Zero),
     Scenario::Exchange(Sum::Crc32c),
     Scenario::Linked(Sum::Zero),

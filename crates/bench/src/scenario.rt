@@ -1,6 +1,7 @@
 //! What is run.
 
 use crate::ends::Ends;
+use crate::everyday::{Load, everyday, messages_of};
 use crate::exchange::exchange;
 use crate::linking::through_link;
 use crate::packet::Zero;
@@ -56,6 +57,8 @@ pub enum Scenario {
     Sending(Sending, u32),
     /// A receiver that holds so many messages.
     Receiving(Receiving, u32),
+    /// Short messages go from a sender to a receiver, each packet acknowledged.
+    Everyday(Load, Sum),
     /// A message goes from a sender to a receiver in packets.
     Exchange(Sum),
     /// A message goes through a link.
@@ -78,6 +81,7 @@ pub fn unit_of(scenario: Scenario) -> Unit {
         | Scenario::OutboundPush(count) => ("chunk", u32::from(count)),
         Scenario::Interleaved => ("push", 4000),
         Scenario::Sack(_) | Scenario::Touch(_, _) => ("call", CALLS),
+        Scenario::Everyday(load, _) => ("message", CALLS * messages_of(load)),
         Scenario::Sending(call, _) => ("call", calls_to_send(call)),
         Scenario::Receiving(call, _) => ("call", calls_to_receive(call)),
         Scenario::GapBlocks(_, _) => ("call", 1),
@@ -174,6 +178,8 @@ fn run(ends: &mut Ends, scenario: Scenario) -> usize {
     match scenario {
         Scenario::Sending(call, _) => sending::run(ends, call),
         Scenario::Receiving(call, held) => receiving::run(ends, call, held),
+        Scenario::Everyday(load, Sum::Zero) => everyday(ends, load, &Zero),
+        Scenario::Everyday(load, Sum::Crc32c) => everyday(ends, load, &Crc32c),
         Scenario::Exchange(Sum::Crc32c) => exchange(ends, &Crc32c),
         _ => exchange(ends, &Zero),
     }
