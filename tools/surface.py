@@ -95,9 +95,14 @@ class Tree:
     def function(self, path, name):
         """Returns the signatures of the functions of this name at the path: those of its type or trait, or free ones."""
         crate, *rest = path.split("::")
-        owner = rest[-1] if rest and rest[-1][0].isupper() else ""
+        owners = self.owners(crate, rest[-1]) if rest and rest[-1][0].isupper() else [""]
         return [signature(f.head) for low in self.below[crate] for f in self.functions[low]
-                if f.name == name and f.owner == owner and (f.is_public or f.trait)]
+                if f.name == name and f.owner in owners and (f.is_public or f.trait)]
+
+    def owners(self, crate, owner):
+        """Returns the type, and the one to which it dereferences, if it does."""
+        target = re.search(r"type Target = (\w+);", "\n".join(self.item(crate, rf"impl Deref for {owner}\b") or []))
+        return [owner, target[1]] if target else [owner]
 
     def item(self, crate, pattern):
         return next((found for low in self.below[crate] for lines in self.texts[low].values() if (found := block(lines, pattern))), None)

@@ -103,7 +103,7 @@ pub fn run(ends: &mut Ends, call: Sending) -> usize {
         Sending::SendNext => send_each(sender, CALLS),
         Sending::Acked => ack_each(ends.alloc, sender),
         Sending::AckedBlocks => match sender.acked(&ends.sack) {
-            Ok(released) => released.len(),
+            Ok(acked) => acked.released.len(),
             Err(_) => 0,
         },
         Sending::ExpireLate => abandoned(sender, LATE),

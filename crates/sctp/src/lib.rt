@@ -37,4 +37,4 @@ pub use sctp_sender::sender::flight::kept::TakenBack;
 pub use sctp_sender::sender::flight::late::AbandonedMessage;
 pub use sctp_sender::sender::refusal::SenderRefusal;
 pub use sctp_sender::sender::{Dropped, ExpiredMessages, Reported, Sender};
-pub use sctp_stream::{DataChannelStats, StreamState};
+pub use sctp_stream::{DataChannelStats, OutboundStream};

@@ -14,7 +14,7 @@ use Rattle.sctp_sender.specs.Keeping.{answered_back}
 use Rattle.sctp_sender.specs.Outgoing.{has_number, less_by}
 use Rattle.sctp_sender.specs.Sender.{Transmission, taken_back_by, back_by}
 use Rattle.sctp_sender.specs.Thresholds.{with_lows}
-use Rattle.sctp_stream.specs.declared.stream.StreamState.{StreamState}
+use Rattle.sctp_stream.specs.declared.outbound_stream.OutboundStream.{OutboundStream}
 use Rattle.sctp_c.specs.Acks.{released_to}
 use Rattle.sctp_c.specs.Out.{filled}
 use Rattle.sctp_c.proofs.Rows.{filled-done}
@@ -46,7 +46,7 @@ fill-done f xs old rows i end e =
 
 -- ## How many rows there are
 
-pub lows-length : (rs : List Released) (ls : List StreamState) → length (with_lows rs ls) ≡ length rs
+pub lows-length : (rs : List Released) (ls : List OutboundStream) → length (with_lows rs ls) ≡ length rs
 lows-length [] ls = refl
 lows-length (r ∷ rs) ls = ap suc (lows-length rs (change_where (has_number r.stream) (less_by r.bytes) ls))
 

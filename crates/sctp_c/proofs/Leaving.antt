@@ -15,11 +15,11 @@ use Rattle.sctp_sender.specs.Resending.{is_worn, worn_tsns}
 use Rattle.sctp_sender.specs.Sender.{Transmission}
 use Rattle.sctp_sender.specs.Thresholds.{with_message_lows}
 use Rattle.sctp_serial.specs.DataChunks.{has_tsn}
-use Rattle.sctp_stream.specs.declared.stream.StreamState.{StreamState}
+use Rattle.sctp_stream.specs.declared.outbound_stream.OutboundStream.{OutboundStream}
 use Rattle.sctp_c.specs.Abandoning.{leaving_to}
 use Rattle.sctp_c.proofs.Filling.{filter-few}
 
-pub lows-length : (gs : List AbandonedMessage) (ls : List StreamState) → length (with_message_lows gs ls) ≡ length gs
+pub lows-length : (gs : List AbandonedMessage) (ls : List OutboundStream) → length (with_message_lows gs ls) ≡ length gs
 lows-length [] ls = refl
 lows-length (g ∷ gs) ls = ap suc (lows-length gs (change_where (has_number g.stream) (less_by g.bytes) ls))
 

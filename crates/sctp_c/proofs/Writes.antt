@@ -6,14 +6,14 @@ use Rattle.sctp_data.specs.PayloadData.{payload_type_from}
 use Rattle.sctp_data.specs.declared.chunk.chunk_payload_data.PayloadProtocolIdentifier.{PayloadProtocolIdentifier}
 use Rattle.sctp_sender.specs.Outgoing.{fragments_with_mode}
 use Rattle.sctp_sender.specs.Sender.{Transmission, stream_of, write_refusal, written_to}
-use Rattle.sctp_stream.specs.declared.stream.StreamState.{StreamState}
+use Rattle.sctp_stream.specs.declared.outbound_stream.OutboundStream.{OutboundStream}
 use Rattle.sctp_c.specs.Sending.{Writes}
 
 -- where nothing refuses it the stream is open
-pub opened : (s len : ℕ) (t : Transmission) → write_refusal s len t ≡ None → (l : StreamState) × (stream_of s t ≡ Some l)
+pub opened : (s len : ℕ) (t : Transmission) → write_refusal s len t ≡ None → (l : OutboundStream) × (stream_of s t ≡ Some l)
 opened s len t e = step (stream_of s t) refl
   where
-    step : (o : Option StreamState) → stream_of s t ≡ o → (l : StreamState) × (stream_of s t ≡ Some l)
+    step : (o : Option OutboundStream) → stream_of s t ≡ o → (l : OutboundStream) × (stream_of s t ≡ Some l)
     step (Some l) is = (l, is)
     step None is = absurd (grind (arith, e, is))
 
@@ -27,8 +27,8 @@ has-bytes n len next e = step (len == 0) refl
 
 pub writes : (stream payload_type number count : ℕ) (bytes : List ℕ) (ppi : PayloadProtocolIdentifier) (old new : Transmission)
     → ppi ≡ payload_type_from payload_type → write_refusal stream (length bytes) old ≡ None
-    → (0 < length bytes → (l : StreamState) → stream_of stream old ≡ Some l → new ≡ written_to l stream ppi bytes old)
-    → Some number ≡ (if length bytes == 0 then None else Some old.flight.queue.next_message_id) → ((l : StreamState) → stream_of stream old ≡ Some l
+    → (0 < length bytes → (l : OutboundStream) → stream_of stream old ≡ Some l → new ≡ written_to l stream ppi bytes old)
+    → Some number ≡ (if length bytes == 0 then None else Some old.flight.queue.next_message_id) → ((l : OutboundStream) → stream_of stream old ≡ Some l
     → 0 < length bytes → count ≡ length (fragments_with_mode l ppi bytes)) → (0 < length bytes) × Writes stream payload_type bytes number count old new
 writes stream payload_type number count bytes ppi old new is accepted after answered counted =
     let some = has-bytes number (length bytes) old.flight.queue.next_message_id answered in

@@ -15,7 +15,7 @@ use Rattle.sctp_sender.specs.Outgoing.{fragments_with_mode}
 use Rattle.sctp_sender.specs.Resending.{resent_at}
 use Rattle.sctp_sender.specs.Sender.{Transmission, stream_of, with_flight, written_to}
 use Rattle.sctp_serial.specs.DataChunks.{has_tsn}
-use Rattle.sctp_stream.specs.declared.stream.StreamState.{StreamState}
+use Rattle.sctp_stream.specs.declared.outbound_stream.OutboundStream.{OutboundStream}
 use Rattle.sctp_c.specs.Out.{at_front, padded}
 use Rattle.sctp_c.specs.Codes.{sender_code}
 
@@ -43,7 +43,7 @@ carries n = payload_type_number (payload_type_from n)
 -- the fragments of the message wait; its number, and how many they are, are told
 pub record Writes (stream payload_type : ℕ) (bytes : List ℕ) (number fragments : ℕ)
     (old new : Transmission) : Type 0 where
-  pub state : StreamState
+  pub state : OutboundStream
   pub found : stream_of stream old ≡ Some state
   pub after : new ≡ written_to state stream (payload_type_from payload_type) bytes old
   pub message : number ≡ old.flight.queue.next_message_id

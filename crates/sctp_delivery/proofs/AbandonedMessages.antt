@@ -1,64 +1,38 @@
 -- Which messages the calls of a sender abandon (RFC 3758 3.5): only of these is a chunk in flight abandoned, and only behind a fragment of
 -- these stands a terminal chunk.
-use Rattle.std.proofs.Common.{◌≡◌, ℕ, ◌+◌, ◌-◌, ◌%◌, ◌^◌, Bool, true, false, List, [], ◌∷◌, ◌++◌, length, map, take, drop, Option, Some, None, is_some, ◌⊎◌}
-use Rattle.std.proofs.Common.{inl, inr, refl, ap, sym, subst, ◌∙◌, arith, not, ◌<◌, ◌≤◌}
-use Rattle.std.specs.Prelude.{◌==◌, if◌then◌else◌, find, option_map, option_to_list, nat_eq, ◌&&◌, ◌||◌}
-use Rattle.std.proofs.lemmas.Option.{none-some}
-use Rattle.sctp_util.specs.Lists.{change_where}
-use Rattle.sctp_util.specs.Serial.{at_or_before}
-use Rattle.sctp_util.proofs.Cases.{or-left, or-right, same-is, same-yes, some-same, or-split}
-use Rattle.sctp_util.proofs.Edits.{list_any-append}
-use Rattle.sctp_util.proofs.More.{not_both, and, both, fails}
-use Rattle.sctp_data.specs.declared.chunk.chunk_payload_data.ChunkPayloadData.{ChunkPayloadData}
-use Rattle.sctp_data.specs.SelectiveAck.{Sack}
-use Rattle.sctp_outbound.specs.declared.pending_queue.Selected.{Selected}
-use Rattle.sctp_outbound.specs.Marks.{as_abandoned, as_acknowledged, is_of}
-use Rattle.sctp_outbound.specs.outbound_queue.OutboundQueue.{Outbound, abandoned_of, all_started, as_sent, sent_of, terminal_chunk, to_abandon, total_bytes}
-use Rattle.sctp_outbound.specs.outbound_queue.OutboundQueue.{with_terminal_chunk, expired_of, expiring, expiring_tail, is_expired, is_expired_tail, message_of}
-use Rattle.sctp_outbound.specs.outbound_queue.OutboundQueue.{passing}
+use Rattle.sctp_delivery.proofs.Names.{◌≡◌, ℕ, ◌+◌, ◌-◌, ◌%◌, ◌^◌, Bool, true, false, List, [], ◌∷◌, ◌++◌, length, map, Option, Some, None, is_some, inl, inr}
+use Rattle.sctp_delivery.proofs.Names.{refl, ap, sym, subst, ◌∙◌, arith, ◌<◌, ◌≤◌, ◌==◌, if◌then◌else◌, find, option_map, option_to_list, nat_eq, ◌&&◌, ◌||◌}
+use Rattle.sctp_delivery.proofs.Names.{none-some, nat_tests, change_where, or-left, or-right, same-is, same-yes, some-same, or-split, list_any-append, not_both}
+use Rattle.sctp_delivery.proofs.Names.{and, both, fails, ChunkPayloadData, Sack, is_of, Outbound, abandoned_of, all_started, as_sent, sent_of, to_abandon}
+use Rattle.sctp_delivery.proofs.Names.{total_bytes, expired_of, expiring, expiring_tail, is_expired, is_expired_tail, message_of, passing, Pending}
+use Rattle.sctp_delivery.proofs.Names.{next_pending, rest_after, without, without_message, partially_sent, waits, IsSendable, stage_of, peeked_all_started}
+use Rattle.sctp_delivery.proofs.Names.{last_is_of, following_tsn, has_tsn, AbandonedMessage, Flight, after_abandonment, after_sack, message_to_abandon}
+use Rattle.sctp_delivery.proofs.Names.{abandoned_at, abandoned_each, abandoned_with, leaving_at, leaving_each, late_order, worn_order, fragments_with_mode}
+use Rattle.sctp_delivery.proofs.Names.{Transmission, written_to, started-inflight, found-partial, abandoned_by, SenderCall, SenderFollows, Session, list_any}
+use Rattle.sctp_delivery.proofs.Names.{cases_lt, data_of, OutboundStream, or_false}
+use Rattle.std.proofs.Common.{◌⊎◌}
 use Rattle.sctp_outbound.specs.payload_queue.PayloadQueue as payload
-use Rattle.sctp_outbound.specs.pending_queue.PendingQueue.{Pending, last_removed, next_pending, closed_up, one_lower, rest_after, without, without_message}
-use Rattle.sctp_outbound.specs.pending_queue.Whole.{partial_of, partially_sent, waits, IsSendable, stage_of}
-use Rattle.sctp_outbound.proofs.lemmas.outbound_queue.Outbounds.{peeked_all_started}
-use Rattle.sctp_outbound.proofs.lemmas.outbound_queue.Abandoned.{last_is_of}
-use Rattle.sctp_serial.specs.DataChunks.{chunk_before, following_tsn, has_tsn, is_on}
-use Rattle.sctp_sender.specs.declared.sender.flight.late.AbandonedMessage.{AbandonedMessage}
-use Rattle.sctp_sender.specs.Flight.{Flight, after_abandonment, after_sack, is_outdated, message_to_abandon, reports_anew, take_sack}
-use Rattle.sctp_sender.specs.Late.{abandoned_at, abandoned_each, abandoned_with, leaving_at, leaving_each, late_order, worn_order}
-use Rattle.sctp_sender.specs.Outgoing.{fragments_with_mode}
-use Rattle.sctp_sender.specs.Resending.{can_miss, missed}
-use Rattle.sctp_sender.specs.Sender.{Transmission, written_to}
-use Rattle.sctp_sender.proofs.Flights.{started-inflight}
-use Rattle.sctp_sender.proofs.InLine.{found-partial}
-use Rattle.sctp_delivery.specs.Abandoned.{abandoned_by}
 use Rattle.sctp_delivery.specs.SenderCalls as outgoing
-use Rattle.sctp_delivery.specs.SenderCalls.{SenderCall}
-use Rattle.sctp_delivery.specs.Session.{SenderFollows, Session}
 use Rattle.sctp_delivery.proofs.Every.{Every, every-changed, every-inserted, every-joined, every-left, every-of, every-passing, every-taken}
 use Rattle.sctp_delivery.proofs.PassedMessages.{AreCutGone, EndsGone, is_gone}
 use Rattle.sctp_delivery.proofs.Calls.{sent_by, numbered_after}
 use Rattle.sctp_delivery.proofs.Delivered.{Holds}
 use Rattle.sctp_delivery.proofs.Numbers.{number_of}
-use Rattle.sctp_delivery.proofs.OrderedEntries.{IsOpen}
 use Rattle.sctp_delivery.proofs.Queues.{Abandons, IsEnded, Stands, abandoned, nowhere-none, IsOnceMore, started}
 use Rattle.sctp_delivery.proofs.SackSteps.{message-inflight, sack-next}
 use Rattle.sctp_delivery.proofs.Senders.{IsMoreBy}
 use Rattle.sctp_delivery.proofs.Sending.{Queued}
 use Rattle.sctp_delivery.proofs.Sent.{Entry, Numbered, fragment, terminal}
 use Rattle.sctp_delivery.proofs.ValidMarks.{IsUnmarked, IsValid, started-valid}
-use Rattle.sctp_delivery.proofs.Waiting.{Waits, between, inside, place_of}
+use Rattle.sctp_delivery.proofs.Waiting.{between}
 use Rattle.sctp_delivery.proofs.Writing.{accepted-stream}
 use Rattle.sctp_delivery.proofs.QueueChunks.{peeked}
 use Rattle.sctp_delivery.proofs.Changes.{Change, all_start, acknowledges, changes, each_leaves, flight_after, front_expires, more_room, nothing, one_leaves}
 use Rattle.sctp_delivery.proofs.Changes.{partial-found, some_marked, some_missed}
-use Rattle.std.specs.List.{list_any, find}
-use Rattle.std.proofs.lemmas.Bool.{cases_lt}
-use Rattle.sctp_data.specs.PayloadData.{data_of}
-use Rattle.sctp_outbound.proofs.lemmas.pending_queue.CompleteMessages.{KeepsMessage, none_past}
-use Rattle.sctp_stream.specs.declared.stream.StreamState.{StreamState}
+use Rattle.std.specs.List.{find}
+use Rattle.sctp_outbound.proofs.lemmas.pending_queue.CompleteMessages.{none_past}
 use Rattle.sctp_delivery.proofs.AllBegun.{begins_in, begun-then, is_begun, next-or-stays, starts-keep, still-begun, write-begins, write-keeps}
 use Rattle.sctp_delivery.proofs.Begun.{begins, begins-changed, was_begun, next-any}
-use Rattle.sctp_outbound.proofs.lemmas.outbound_queue.Sendable.{or_false}
 
 -- ## Numbers
 
@@ -84,15 +58,7 @@ one-gone m (Some k) e = or-left (nat_eq m k) false (subst (λ j. (m == j) ≡ tr
 
 -- the message of a chunk that is abandoned is told
 answered-of : (o : Option ChunkPayloadData) (bytes m : ℕ) → to_abandon o ≡ Some m → is_gone (numbers (abandoned_with o bytes)) m ≡ true
-answered-of None bytes m e = absurd (none-some m e)
-answered-of (Some c) bytes m e = by c.abandoned e
-  where
-    answered : List AbandonedMessage
-    answered = record { stream = c.stream_identifier; number = c.message_id; bytes = bytes; is_low = false } ∷ []
-
-    by : (b : Bool) → (if b then None else Some c.message_id) ≡ Some m → is_gone (numbers (if b then [] else answered)) m ≡ true
-    by true g = absurd (none-some m g)
-    by false g = or-left (nat_eq m c.message_id) false (subst (λ j. (m == j) ≡ true) (sym (some-same g)) (same-yes m))
+answered-of o bytes m h4 = grind (arith, nat_tests, none-some, or-left, same-yes, some-same)
 
 answered-at : (tsn : ℕ) (f : Flight) (m : ℕ) → message_to_abandon tsn f ≡ Some m → is_gone (numbers (leaving_at tsn f)) m ≡ true
 answered-at tsn f m e =
@@ -104,17 +70,11 @@ AreAmong answered gone = (m : ℕ) → is_gone answered m ≡ true → is_gone g
 
 pub among-first : (tsn : ℕ) (tsns : List ℕ) (f : Flight) (gone : List ℕ) → AreAmong (numbers (leaving_each (tsn ∷ tsns) f)) gone
     → (m : ℕ) → message_to_abandon tsn f ≡ Some m → is_gone gone m ≡ true
-among-first tsn tsns f gone a m e =
-    let xs = leaving_at tsn f in
-    let ys = leaving_each tsns (abandoned_at tsn f) in
-    a m (ap (λ ns. is_gone ns m) (numbers-append xs ys) ∙ gone-left (numbers xs) (numbers ys) m (answered-at tsn f m e))
+among-first tsn tsns f gone a m e = grind (arith, nat_tests, answered-at, gone-left, numbers-append)
 
 pub among-rest : (tsn : ℕ) (tsns : List ℕ) (f : Flight) (gone : List ℕ) → AreAmong (numbers (leaving_each (tsn ∷ tsns) f)) gone
     → AreAmong (numbers (leaving_each tsns (abandoned_at tsn f))) gone
-among-rest tsn tsns f gone a m e =
-    let xs = leaving_at tsn f in
-    let ys = leaving_each tsns (abandoned_at tsn f) in
-    a m (ap (λ ns. is_gone ns m) (numbers-append xs ys) ∙ gone-right (numbers xs) (numbers ys) m e)
+among-rest tsn tsns f gone a m e = grind (arith, nat_tests, gone-right, numbers-append)
 
 -- ## What is in flight
 
@@ -139,20 +99,7 @@ module _ (gone : List ℕ) where
   abandoned-marked : (o : Option ℕ) (tsn : ℕ) (q : Outbound) → ((m : ℕ) → o ≡ Some m → is_gone gone m ≡ true) → AreMarkedGone gone q.inflight.chunks
       → AreMarkedGone gone (abandoned_of o tsn q).inflight.chunks
   abandoned-marked None tsn q g h = h
-  abandoned-marked (Some m) tsn q g h = by (last_removed m q.pending) refl
-    where
-      cs : List ChunkPayloadData
-      cs = change_where (is_of m) as_abandoned q.inflight.chunks
-
-      left : AreMarkedGone gone cs
-      left = every-changed (IsMarkedGone gone) (is_of m) as_abandoned
-          (λ c p _ e. subst (λ k. is_gone gone k ≡ true) (sym (same-is c.message_id m p)) (g m refl)) q.inflight.chunks h
-
-      by : (o : Option ChunkPayloadData) → last_removed m q.pending ≡ o
-          → AreMarkedGone gone (with_terminal_chunk o tsn (payload.with_chunks q.inflight cs)).chunks
-      by None e = left
-      by (Some c) e = every-inserted (IsMarkedGone gone) chunk_before (terminal_chunk tsn c) cs
-          (λ _. subst (λ k. is_gone gone k ≡ true) (sym (last_is_of m q.pending c e)) (g m refl)) left
+  abandoned-marked (Some m) tsn q g h = grind (arith, nat_tests, every-changed, every-inserted, last_is_of, same-is)
 
   each-marked : (tsns : List ℕ) (f : Flight) → AreAmong (numbers (leaving_each tsns f)) gone → AreMarkedGone gone f.queue.inflight.chunks
       → AreMarkedGone gone (abandoned_each tsns f).queue.inflight.chunks
@@ -163,19 +110,10 @@ module _ (gone : List ℕ) where
 
   sent-marked : (o : Option ChunkPayloadData) (q : Outbound) (tsn now : ℕ) → ((c : ChunkPayloadData) → o ≡ Some c → c.abandoned ≡ false)
       → AreMarkedGone gone q.inflight.chunks → AreMarkedGone gone (sent_of o q tsn now).inflight.chunks
-  sent-marked None q tsn now kept h = h
-  sent-marked (Some c) q tsn now kept h =
-      every-inserted (IsMarkedGone gone) chunk_before (as_sent tsn now c) q.inflight.chunks (λ e. absurd (not_both (sym (kept c refl) ∙ e))) h
+  sent-marked o q tsn now h5 h6 = grind (arith, nat_tests, every-inserted, not_both)
 
   acked-marked : (k : Sack) (f : Flight) → AreMarkedGone gone f.queue.inflight.chunks → AreMarkedGone gone (after_sack k f).queue.inflight.chunks
-  acked-marked k f h = by (is_outdated k f)
-    where
-      by : (b : Bool) → AreMarkedGone gone (if b then f else take_sack k f).queue.inflight.chunks
-      by true = h
-      by false =
-          every-passing (IsMarkedGone gone) (λ c. not (at_or_before c.tsn k.cumulative_tsn_ack))
-          (change_where (reports_anew k) as_acknowledged f.queue.inflight.chunks)
-          (marked-changed (reports_anew k) as_acknowledged (λ c. refl) (λ c. refl) f.queue.inflight.chunks h)
+  acked-marked k f h = grind (arith, nat_tests, every-passing, marked-changed)
 
 -- after a call
 module _ (gone : List ℕ) (old new : Session) (taken passed : ℕ → Bool) (valid : IsValid taken passed (flight_of old).queue)
@@ -189,14 +127,8 @@ module _ (gone : List ℕ) (old new : Session) (taken passed : ℕ → Bool) (va
   changed-marked call a nothing = h
   changed-marked call a (all_start now) = subst (λ (i : payload.Payload). AreMarkedGone gone i.chunks) (sym (started-inflight now (flight_of old).queue)) h
   changed-marked call a (more_room count) = h
-  changed-marked call a (some_marked p f k) =
-      marked-changed gone p f (λ c. ap (λ (d : ChunkPayloadData). d.abandoned) (k c)) (λ c. ap (λ (d : ChunkPayloadData). d.message_id) (k c))
-      (flight_of old).queue.inflight.chunks h
-  changed-marked call a (some_missed count) =
-      let cs = (flight_of old).queue.inflight.chunks in
-      every-joined (IsMarkedGone gone) (change_where can_miss missed (take count cs)) (drop count cs)
-      (marked-changed gone can_miss missed (λ d. refl) (λ d. refl) (take count cs) (every-taken (IsMarkedGone gone) count cs h))
-      (every-left (IsMarkedGone gone) count cs h)
+  changed-marked call a (some_marked p f k) = grind (arith, nat_tests, marked-changed)
+  changed-marked call a (some_missed count) = grind (arith, nat_tests, every-joined, every-left, every-taken, marked-changed)
   changed-marked call a (one_leaves o e found) =
       abandoned-marked gone o (flight_of old).next_tsn (flight_of old).queue (λ m i. a m (ap (λ ms. is_gone ms m) e ∙ one-gone m o i)) h
   changed-marked call a (each_leaves ts short e) =
@@ -231,30 +163,12 @@ EndsOpen m (terminal ∷ xs) = ⊥
 EndsOpen m (fragment d w after ∷ xs) = (d.ending_fragment ≡ false) × (w.place ≡ m)
 
 open-gone : (gone : List ℕ) (m : ℕ) (sent : List Entry) → is_gone gone m ≡ true → EndsOpen m sent → EndsGone gone sent
-open-gone gone m [] g e = e
-open-gone gone m (terminal ∷ xs) g e = e
-open-gone gone m (fragment d w after ∷ xs) g e = (e.0, subst (λ k. is_gone gone k ≡ true) (sym e.1) g)
+open-gone gone m sent h4 h5 = grind (arith, nat_tests)
 
 -- the last entry is of the message that is partially sent
 partial-entry : (ws : List Numbered) (first : ℕ) (number : ℕ → ℕ) (q : Pending) (sent : List Entry) (m : ℕ) → Queued ws first number q sent
     → partially_sent q ≡ Some m → EndsOpen m sent
-partial-entry ws first number q sent m h e = by q.selected e h.ordered h.unordered h.open'
-  where
-    at : (s : Selected) (cs : List ChunkPayloadData) (ys : List Entry) → s.message_id ≡ m → Waits ws cs (inside s.message_id ys) → IsOpen ys (Some s)
-        → EndsOpen m ys
-    at s cs [] same w o = nowhere-none ws cs w
-    at s cs (terminal ∷ ys) same w o = nowhere-none ws cs w
-    at s cs (fragment d v after ∷ ys) same w o = (o.0, o.1 ∙ same)
-
-    by : (o : Option Selected) → partial_of o ≡ Some m → Waits ws q.ordered (place_of false o sent) → Waits ws q.unordered (place_of true o sent)
-        → IsOpen sent o → EndsOpen m sent
-    by None g w v o = absurd (none-some m g)
-    by (Some s) g w v o = kind s.unordered w v
-      where
-        kind : (b : Bool) → Waits ws q.ordered (if b then between else inside s.message_id sent)
-            → Waits ws q.unordered (if b then inside s.message_id sent else between) → EndsOpen m sent
-        kind true x y = at s q.unordered sent (some-same g) y o
-        kind false x y = at s q.ordered sent (some-same g) x o
+partial-entry ws first number q sent m h e = grind (arith, nat_tests, between, none-some, nowhere-none, some-same)
 
 -- where the next TSN stays, no entry is more
 ended-same : (first next : ℕ) (sent more : List Entry) → next ≡ (first + length sent) % 2 ^ 32 → next ≡ (first + length more) % 2 ^ 32
@@ -307,9 +221,7 @@ cut-later gone more a [] c = tt
 cut-later gone more a (terminal ∷ xs) c = (by xs c.0, cut-later gone more a xs c.1)
   where
     by : (ys : List Entry) → EndsGone gone ys → EndsGone more ys
-    by [] e = e
-    by (terminal ∷ ys) e = e
-    by (fragment d w after ∷ ys) e = (e.0, a w.place e.1)
+    by ys h2 = grind (arith, nat_tests)
 cut-later gone more a (fragment d w after ∷ xs) c = cut-later gone more a xs c
 
 -- after a call
@@ -319,12 +231,7 @@ module _ (gone : List ℕ) (first : ℕ) (old new : Session) (ns : List Numbered
   Cuts = EndsOrSame gone ns first (λ s. number_of s old.sending.sender.streams) sent (flight_of old) (flight_of new)
 
   cuts : IsEnded sent more → Cuts → AreCutGone gone more
-  cuts (inl e) k = subst (AreCutGone gone) (sym e) h
-  cuts (inr e) (inl k) =
-      let n = ap length e in
-      let a = i.held.stands.counted in
-      absurd (omega (arith, a, counted, k, n))
-  cuts (inr e) (inr k) = subst (AreCutGone gone) (sym e) (k, h)
+  cuts h1 h2 = grind (arith, nat_tests)
 
   changed-cuts : (call : SenderCall) → AreAmong (abandoned_by call old.sending.sender) gone → (c : Change call old.sending.sender)
       → EndsOrSame gone ns first (λ s. number_of s old.sending.sender.streams) sent (flight_of old) (flight_after call old.sending.sender c)
@@ -343,15 +250,7 @@ module _ (gone : List ℕ) (first : ℕ) (old new : Session) (ns : List Numbered
 
   pub stays-cut : (call : SenderCall) → AreAmong (abandoned_by call old.sending.sender) gone → SenderFollows call old new
       → IsMoreBy (sent_by call old.sending.sender) sent more → AreCutGone gone more
-  stays-cut (outgoing.sends now) a f grown = by (next_pending (all_started now (flight_of old).queue).pending) refl grown
-    where
-      by : (o : Option ChunkPayloadData) → next_pending (all_started now (flight_of old).queue).pending ≡ o
-          → IsMoreBy (option_map (as_sent (flight_of old).next_tsn now) o) sent more → AreCutGone gone more
-      by None e g =
-          let none = sym (peeked_all_started now (flight_of old).queue) ∙ ap is_some e in
-          cuts g (inl (ap (λ (u : Transmission). u.flight.next_tsn) f.exact
-          ∙ ap (λ b. if b then following_tsn (flight_of old).next_tsn else (flight_of old).next_tsn) none))
-      by (Some c) e g = subst (AreCutGone gone) (sym g.2) h
+  stays-cut (outgoing.sends now) a f grown = grind (arith, nat_tests, cuts, is_some, peeked_all_started)
   stays-cut (outgoing.writes stream ppi (b ∷ bs)) a f g =
       let l = accepted-stream stream (length (b ∷ bs)) old.sending.sender f.accepted in
       cuts g (inl (ap (λ (u : Transmission). u.flight.next_tsn) (f.exact.1 (omega arith) l.0 l.1)))
@@ -376,10 +275,7 @@ earlier gone more a m e = fails (is_gone gone m) (λ h. not_both (sym e ∙ a m 
 
 kept-others : (gone : List ℕ) (n : ℕ) (sent more : List Entry) (p q : Pending) → IsOnceMore sent more → KeepsOthers gone p q
     → AreBegunOrGone gone n sent p → AreBegunOrGone gone n more q
-kept-others gone n sent more p q once keeps a m lt e = elim (or-split (was_begun m sent) (begins_in m p) (a m lt e)) [
-  | inl h ↦ or-left (was_begun m more) (begins_in m q) (begun-then sent more once m h)
-  | inr h ↦ or-right (was_begun m more) (begins_in m q) (keeps m e h)
-]
+kept-others gone n sent more p q once keeps a m lt e = grind (arith, nat_tests, begun-then, or-left, or-right, or-split)
 
 pub begun-later : (gone more : List ℕ) → AreAmong gone more → (n : ℕ) (sent : List Entry) (q : Pending) → AreBegunOrGone gone n sent q
     → AreBegunOrGone more n sent q
@@ -390,23 +286,10 @@ begun-later gone more a n sent q b m lt e = b m lt (earlier gone more a m e)
 -- the first fragments of other messages stay
 others-begin : (k m : ℕ) → (k ≡ m → ⊥) → (cs : List ChunkPayloadData) → list_any (begins k) cs ≡ true → list_any (begins k) (without_message m cs) ≡ true
 others-begin k m other [] e = e
-others-begin k m other (c ∷ cs) e = by (c.message_id == m) refl (or-split (begins k c) (list_any (begins k) cs) e) (others-begin k m other cs)
-  where
-    by : (b : Bool) → (c.message_id == m) ≡ b → (begins k c ≡ true) ⊎ (list_any (begins k) cs ≡ true)
-        → (list_any (begins k) cs ≡ true → list_any (begins k) (without_message m cs) ≡ true)
-        → list_any (begins k) (if not b then c ∷ without_message m cs else without_message m cs) ≡ true
-    by true h (inl f) ih = absurd (other (sym (same-is c.message_id k (both (c.message_id == k) c.beginning_fragment f).0) ∙ same-is c.message_id m h))
-    by true h (inr f) ih = ih f
-    by false h (inl f) ih = or-left (begins k c) (list_any (begins k) (without_message m cs)) f
-    by false h (inr f) ih = or-right (begins k c) (list_any (begins k) (without_message m cs)) (ih f)
+others-begin k m other (c ∷ cs) e = grind (arith, nat_tests, both, or-left, or-right, or-split, same-is, others-begin k m other cs)
 
 without-keeps : (k m : ℕ) → (k ≡ m → ⊥) → (q : Pending) → begins_in k q ≡ true → begins_in k (without m q) ≡ true
-without-keeps k m other q e = elim (or-split (list_any (begins k) q.ordered) (list_any (begins k) q.unordered) e) [
-  | inl f ↦ or-left (list_any (begins k) (without_message m q.ordered)) (list_any (begins k) (without_message m q.unordered))
-      (others-begin k m other q.ordered f)
-  | inr f ↦ or-right (list_any (begins k) (without_message m q.ordered)) (list_any (begins k) (without_message m q.unordered))
-      (others-begin k m other q.unordered f)
-]
+without-keeps k m other q e = grind (arith, nat_tests, or-left, or-right, or-split, others-begin)
 
 module _ (gone : List ℕ) where
   apart-from : (m : ℕ) → is_gone gone m ≡ true → (k : ℕ) → is_gone gone k ≡ false → k ≡ m → ⊥
@@ -425,20 +308,7 @@ module _ (gone : List ℕ) where
       (abandon-keeps (message_to_abandon tsn f) f.next_tsn f.queue (among-first tsn tsns f gone a) k e h)
 
   expire-keeps : (c : ChunkPayloadData) (q : Outbound) → is_gone gone c.message_id ≡ true → KeepsOthers gone q.pending (expired_of (Some c) q).pending
-  expire-keeps c q g k e h = by c.unordered
-    where
-      keeps : KeepsMessage one_lower
-      keeps = record { number = λ _. refl; begins = λ _. refl; ends = λ _. refl; kind = λ _. refl }
-
-      p : Pending
-      p = without c.message_id q.pending
-
-      left : begins_in k p ≡ true
-      left = without-keeps k c.message_id (apart-from c.message_id g k e) q.pending h
-
-      by : (b : Bool) → begins_in k (if b then p else closed_up c.stream_identifier p) ≡ true
-      by true = left
-      by false = ap (λ b. b || list_any (begins k) p.unordered) (begins-changed (is_on c.stream_identifier) one_lower keeps k p.ordered) ∙ left
+  expire-keeps c q g k e h = grind (arith, nat_tests, apart-from, begins-changed, without-keeps)
 
 -- ## A call
 
@@ -451,9 +321,7 @@ module _ (gone : List ℕ) (first : ℕ) (old new : Session) (ns : List Numbered
   sends-begun : (now : ℕ) (o : Option ChunkPayloadData) → next_pending (all_started now (flight_of old).queue).pending ≡ o
       → IsMoreBy (option_map (as_sent (flight_of old).next_tsn now) o) sent more
       → AreBegunOrGone gone (length ns) more (sent_of o (all_started now (flight_of old).queue) (flight_of old).next_tsn now).pending
-  sends-begun now None e g =
-      kept-others gone (length ns) sent more (flight_of old).queue.pending (all_started now (flight_of old).queue).pending once
-      (λ m _ b. starts-keep now (flight_of old).queue m b) h
+  sends-begun now None e g = grind (arith, nat_tests, kept-others, starts-keep)
   sends-begun now (Some c) e g = subst (λ xs. AreBegunOrGone gone (length ns) xs q) (sym g.2) here
     where
       ready : Outbound
@@ -496,17 +364,11 @@ module _ (gone : List ℕ) (first : ℕ) (old new : Session) (ns : List Numbered
   changed-keeps call a (each_leaves ts short e) = each-keeps gone ts (flight_of old) (subst (λ ms. AreAmong ms gone) e a)
   changed-keeps call a (front_expires now c found e) =
       expire-keeps gone c (flight_of old).queue (a c.message_id (ap (λ ms. is_gone ms c.message_id) e ∙ one-gone c.message_id (Some c.message_id) refl))
-  changed-keeps call a (acknowledges k answered e) = λ m _ b. ap (begins_in m) (by (is_outdated k (flight_of old))) ∙ b
-    where
-      by : (b : Bool) → (if b then flight_of old else take_sack k (flight_of old)).queue.pending ≡ (flight_of old).queue.pending
-      by true = refl
-      by false = refl
+  changed-keeps call a (acknowledges k answered e) = grind (arith, nat_tests)
 
   pub stays-begun-or-gone : (call : SenderCall) → AreAmong (abandoned_by call old.sending.sender) gone → SenderFollows call old new
       → IsMoreBy (sent_by call old.sending.sender) sent more → Begins call
-  stays-begun-or-gone (outgoing.sends now) a f g =
-      subst (λ (u : Transmission). AreBegunOrGone gone (length ns) more u.flight.queue.pending) (sym f.exact)
-      (sends-begun now (next_pending (all_started now (flight_of old).queue).pending) refl g)
+  stays-begun-or-gone (outgoing.sends now) a f g = grind (arith, nat_tests, sends-begun)
   stays-begun-or-gone (outgoing.writes stream ppi (b ∷ bs)) a f g =
       let l = accepted-stream stream (length (b ∷ bs)) old.sending.sender f.accepted in
       subst (λ (u : Transmission). Begins' u) (sym (f.exact.1 (omega arith) l.0 l.1)) (after l.0)
@@ -514,7 +376,7 @@ module _ (gone : List ℕ) (first : ℕ) (old new : Session) (ns : List Numbered
       Begins' : Transmission → Type 0
       Begins' u = AreBegunOrGone gone (length (numbered_after (outgoing.writes stream ppi (b ∷ bs)) ns)) more u.flight.queue.pending
 
-      after : (l : StreamState) → Begins' (written_to l stream ppi (b ∷ bs) old.sending.sender)
+      after : (l : OutboundStream) → Begins' (written_to l stream ppi (b ∷ bs) old.sending.sender)
       after l m lt d = elim (cases_lt m (length ns)) [
         | inl less ↦
             kept-others gone (length ns) sent more (flight_of old).queue.pending (written_to l stream ppi (b ∷ bs) old.sending.sender).flight.queue.pending
@@ -563,31 +425,13 @@ module _ (q : Pending) (xs : List ChunkPayloadData) (n : ℕ) (s : IsSendable q 
 
   -- the message in front, where it passes
   passing-below : (p : ChunkPayloadData → Bool) (o : Option ChunkPayloadData) → next_pending q ≡ o → AreBelow n (option_to_list (message_of (passing p o)))
-  passing-below p None e = tt
-  passing-below p (Some c) e = by (p c)
-    where
-      by : (b : Bool) → AreBelow n (option_to_list (message_of (if b then Some c else None)))
-      by true = (next-below c e, tt)
-      by false = tt
+  passing-below p o h3 = grind (arith, nat_tests, next-below)
 
   abandon-below : (tsn : ℕ) (o : Option ChunkPayloadData) → find (has_tsn tsn) xs ≡ o → AreBelow n (option_to_list (to_abandon o))
-  abandon-below tsn None e = tt
-  abandon-below tsn (Some c) e = by c.abandoned
-    where
-      by : (b : Bool) → AreBelow n (option_to_list (if b then None else Some c.message_id))
-      by true = tt
-      by false = (found-below tsn c e, tt)
+  abandon-below tsn o h3 = grind (arith, nat_tests, found-below)
 
   answered-below : (tsn bytes : ℕ) (o : Option ChunkPayloadData) → find (has_tsn tsn) xs ≡ o → AreBelow n (numbers (abandoned_with o bytes))
-  answered-below tsn bytes None e = tt
-  answered-below tsn bytes (Some c) e = by c.abandoned
-    where
-      answered : List AbandonedMessage
-      answered = record { stream = c.stream_identifier; number = c.message_id; bytes = bytes; is_low = false } ∷ []
-
-      by : (b : Bool) → AreBelow n (numbers (if b then [] else answered))
-      by true = tt
-      by false = (found-below tsn c e, tt)
+  answered-below tsn bytes o h4 = grind (arith, nat_tests, found-below)
 
 module _ (ws : List Numbered) (first : ℕ) (number : ℕ → ℕ) where
   each-below : (tsns : List ℕ) (f : Flight) (sent : List Entry) → Stands ws first number f.queue f.next_tsn sent
@@ -607,10 +451,7 @@ module _ (ws : List Numbered) (first : ℕ) (number : ℕ → ℕ) where
   -- of a call
   pub by-below : (call : SenderCall) (t : Transmission) (sent : List Entry) → Stands ws first number t.flight.queue t.flight.next_tsn sent
       → AreBelow (length ws) (abandoned_by call t)
-  by-below (outgoing.abandons tsn a) t sent s =
-      subst (λ n. AreBelow n (option_to_list (message_to_abandon tsn t.flight))) s.ids
-      (abandon-below t.flight.queue.pending t.flight.queue.inflight.chunks t.flight.queue.next_message_id s.sendable tsn
-      (find (has_tsn tsn) t.flight.queue.inflight.chunks) refl)
+  by-below (outgoing.abandons tsn a) t sent s = grind (arith, nat_tests, abandon-below)
   by-below (outgoing.expires now m) t sent s =
       subst (λ n. AreBelow n (option_to_list (message_of (expiring now t.flight.queue)))) s.ids
       (passing-below t.flight.queue.pending t.flight.queue.inflight.chunks t.flight.queue.next_message_id s.sendable (is_expired now)
@@ -625,9 +466,7 @@ module _ (ws : List Numbered) (first : ℕ) (number : ℕ → ℕ) where
   by-below call t sent s = tt
 
 longer : (call : SenderCall) (ns : List Numbered) → length ns ≤ length (numbered_after call ns)
-longer (outgoing.writes stream ppi []) ns = omega arith
-longer (outgoing.writes stream ppi (b ∷ bs)) ns = omega arith
-longer call ns = omega arith
+longer call ns = grind (arith, nat_tests)
 
 -- so they stay while more is written
 pub below-after : (call : SenderCall) (ns : List Numbered) (ms : List ℕ) → AreBelow (length ns) ms → AreBelow (length (numbered_after call ns)) ms

@@ -1,22 +1,11 @@
 -- The first fragment of a write got a TSN, or it waits: while lifetimes start, writes come and fragments are sent.
-use Rattle.std.proofs.Common.{◌≡◌, ℕ, Bool, true, false, List, [], ◌∷◌, map, Option, Some, None, slice_get, ◌⊎◌, inl, inr, refl, ap, ap₂, sym, subst, ◌∙◌}
-use Rattle.std.specs.Prelude.{◌==◌, ◌&&◌, ◌||◌, if◌then◌else◌}
-use Rattle.std.specs.List.{list_any}
-use Rattle.std.proofs.lemmas.Option.{none-some}
-use Rattle.sctp_util.proofs.Cases.{or-left, or-right, or-split, same-yes, some-same}
-use Rattle.sctp_util.proofs.Edits.{list_any-append}
-use Rattle.sctp_util.proofs.More.{and}
-use Rattle.sctp_data.specs.declared.chunk.chunk_payload_data.ChunkPayloadData.{ChunkPayloadData}
-use Rattle.sctp_data.specs.declared.chunk.chunk_payload_data.PayloadProtocolIdentifier.{PayloadProtocolIdentifier}
-use Rattle.sctp_outbound.specs.declared.pending_queue.Selected.{Selected}
-use Rattle.sctp_outbound.specs.outbound_queue.OutboundQueue.{Outbound, all_started, append_chunks, with_message, with_message_id}
-use Rattle.sctp_outbound.specs.pending_queue.PendingQueue.{Pending, is_to_start, list_of, list_to_pop, next_pending, rest_after, rest_from, start_pending}
-use Rattle.sctp_outbound.specs.pending_queue.PendingQueue.{with_deadline}
-use Rattle.sctp_outbound.specs.pending_queue.Whole.{IsSendable, IsWhole, free}
-use Rattle.sctp_outbound.proofs.lemmas.outbound_queue.Sendable.{made}
-use Rattle.sctp_outbound.proofs.lemmas.pending_queue.CompleteMessages.{KeepsMessage}
-use Rattle.sctp_stream.specs.declared.stream.StreamState.{StreamState}
-use Rattle.sctp_sender.specs.Outgoing.{fragments_with_mode}
+use Rattle.sctp_delivery.proofs.Names.{◌≡◌, ℕ, Bool, true, false, List, [], ◌∷◌, map, Option, Some, None, slice_get, inl, inr, refl, ap, ap₂, sym, subst, ◌∙◌}
+use Rattle.sctp_delivery.proofs.Names.{◌==◌, ◌&&◌, ◌||◌, if◌then◌else◌, list_any, none-some, or-left, or-right, or-split, same-yes, some-same, list_any-append}
+use Rattle.sctp_delivery.proofs.Names.{and, ChunkPayloadData, PayloadProtocolIdentifier, Selected, Outbound, all_started, append_chunks, with_message}
+use Rattle.sctp_delivery.proofs.Names.{with_message_id, Pending, is_to_start, list_of, list_to_pop, next_pending, rest_after, rest_from, start_pending}
+use Rattle.sctp_delivery.proofs.Names.{with_deadline, IsSendable, IsWhole, free, made, KeepsMessage, OutboundStream, fragments_with_mode}
+use Rattle.std.proofs.Common.{◌⊎◌}
+use Rattle.sctp_delivery.proofs.Cases.{at-test}
 use Rattle.sctp_delivery.proofs.Begun.{begins, begins-changed, was_begun}
 use Rattle.sctp_delivery.proofs.Queues.{IsOnceMore}
 use Rattle.sctp_delivery.proofs.Sent.{Entry, fragment, terminal}
@@ -61,7 +50,7 @@ starts-keep now q m h = by (q.next_unstarted == q.next_message_id)
 
 -- ## A write
 
-module _ (l : StreamState) (ppi : PayloadProtocolIdentifier) (b : ℕ) (bs : List ℕ) (q : Outbound) where
+module _ (l : OutboundStream) (ppi : PayloadProtocolIdentifier) (b : ℕ) (bs : List ℕ) (q : Outbound) where
   abbrev new : List ChunkPayloadData
   new = map (with_message_id q.next_message_id) (fragments_with_mode l ppi (b ∷ bs))
 
@@ -85,16 +74,14 @@ module _ (l : StreamState) (ppi : PayloadProtocolIdentifier) (b : ℕ) (bs : Lis
       by false (inr e) = or-right _ (list_any (begins m) q.pending.unordered) e
 
   pub write-begins : begins_in q.next_message_id after ≡ true
-  write-begins = by _
+  write-begins = at-test (λ k. begins_in m (append_chunks k new q.pending) ≡ true) _
+      (λ e. or-right (list_any (begins m) q.pending.ordered) _ (list_any-append (begins m) q.pending.unordered new
+      ∙ or-right (list_any (begins m) q.pending.unordered) (list_any (begins m) new) here))
+      (λ e. or-left _ (list_any (begins m) q.pending.unordered) (list_any-append (begins m) q.pending.ordered new
+      ∙ or-right (list_any (begins m) q.pending.ordered) (list_any (begins m) new) here))
     where
       m : ℕ
       m = q.next_message_id
-
-      by : (k : Bool) → begins_in m (append_chunks k new q.pending) ≡ true
-      by true = or-right (list_any (begins m) q.pending.ordered) _ (list_any-append (begins m) q.pending.unordered new
-          ∙ or-right (list_any (begins m) q.pending.unordered) (list_any (begins m) new) here)
-      by false = or-left _ (list_any (begins m) q.pending.unordered) (list_any-append (begins m) q.pending.ordered new
-          ∙ or-right (list_any (begins m) q.pending.ordered) (list_any (begins m) new) here)
 
 -- ## A fragment is sent
 

@@ -1,48 +1,408 @@
 -- The amount of each open stream is what was written on it, less what was told; and it is 0 once nothing of the stream is left.
-use Rattle.std.proofs.Common.{◌≡◌, ℕ, ◌+◌, ◌^◌, ◌<◌, Bool, true, false, not, List, [], ◌∷◌, length, Option, Some, None, refl, ap, sym, subst, ◌∙◌, arith, map}
-use Rattle.std.proofs.Common.{ap₂, inl, inr}
-use Rattle.std.specs.Prelude.{IfSome, if◌then◌else◌, ◌&&◌, ◌||◌, option_map, ⊤, All, Contains, ◌==◌, nat_eq}
-use Rattle.std.specs.List.{list_any, filter}
-use Rattle.std.proofs.lemmas.List.Sums.{sum_by-cons}
-use Rattle.std.proofs.lemmas.Option.{none-some}
-use Rattle.sctp_util.proofs.Cases.{some-same, and-none, and-true, or-left, or-right, or-true, same-is, same-yes}
-use Rattle.sctp_util.proofs.More.{not_both, same_test}
-use Rattle.sctp_data.specs.declared.chunk.chunk_payload_data.ChunkPayloadData.{ChunkPayloadData}
-use Rattle.sctp_outbound.specs.Marks.{is_outstanding, as_acknowledged, is_of}
-use Rattle.sctp_receiver.specs.declared.receiver.limits.Limits.{Limits}
-use Rattle.sctp_serial.specs.DataChunks.{is_on}
-use Rattle.sctp_sender.specs.Sender.{Transmission, stream_of}
-use Rattle.sctp_stream.specs.declared.stream.StreamState.{StreamState}
-use Rattle.sctp_delivery.specs.Amounts.{AmountsAreLeft, AmountsEnd, told_by, told_on, written_by, written_on, EachIsTold, IsToldOf, is_abandoned}
-use Rattle.sctp_delivery.specs.Messages.{AfterEachFitSession}
-use Rattle.sctp_delivery.specs.Modes.{AfterEachFitRun}
-use Rattle.sctp_delivery.specs.SenderCalls.{Write, Made, SenderCall, data_chunk, forwards, forwards_within, made_after, next_chunk, resends, sends, takes_sack}
-use Rattle.sctp_delivery.specs.SenderCalls.{with_chunk}
-use Rattle.sctp_delivery.specs.Session.{Call, RunsTo, SenderFollows, Session, at_start, of_receiver, of_sender}
-use Rattle.sctp_delivery.proofs.AmountCalls.{Moves, moves-call, AllOf, IsOf, all-call}
-use Rattle.sctp_delivery.proofs.StreamBytes.{amount, amount-found, held, only, size, weigh}
+use Rattle.sctp_delivery.proofs.Names.{◌≡◌, ℕ, ◌+◌, ◌-◌, ◌^◌, ◌<◌, ◌≤◌, Bool, true, false, not, List, [], ◌∷◌, length, map, Option, Some, None, refl, ap, sym}
+use Rattle.sctp_delivery.proofs.Names.{subst, ◌∙◌, arith, inl, inr, IfSome, if◌then◌else◌, ◌==◌, find, option_map, ◌&&◌, ◌||◌, ⊤, All, Contains, nat_eq, filter}
+use Rattle.sctp_delivery.proofs.Names.{list_any, nat_tests, sum_by-append, sum_by-cons, none-some, common_steps, change_where, same-is, some-same, same-yes}
+use Rattle.sctp_delivery.proofs.Names.{and-none, and-true, or-left, or-right, sum_by-inserted, not_both, same_test, ChunkPayloadData, PayloadProtocolIdentifier}
+use Rattle.sctp_delivery.proofs.Names.{Sack, as_abandoned, is_of, is_outstanding, with_retransmit, as_acknowledged, Outbound, abandoned_of, all_started}
+use Rattle.sctp_delivery.proofs.Names.{expiring, expiring_tail, is_expired, is_expired_tail, message_of, passing, terminal_chunk, to_abandon, total_bytes}
+use Rattle.sctp_delivery.proofs.Names.{with_message, with_message_id, next_pending, IsSendable, partially_sent, waits, removed_le, bytes_of, has_tsn, is_on}
+use Rattle.sctp_delivery.proofs.Names.{ExpiredMessage, AbandonedMessage, Flight, after_abandonment, is_outdated, is_whole, message_to_abandon, released_by}
+use Rattle.sctp_delivery.proofs.Names.{released_of, reports_anew, take_sack, abandoned_at, abandoned_each, abandoned_with, after_abandoning, late_order}
+use Rattle.sctp_delivery.proofs.Names.{leaving_at, leaving_each, worn_order, after_expiry, fragments_with_mode, has_number, less_by, with_low, with_mode}
+use Rattle.sctp_delivery.proofs.Names.{with_size, wrote, can_miss, count_again, missed, sent_again, Transmission, after_abandon, after_acked, after_expire}
+use Rattle.sctp_delivery.proofs.Names.{write_refusal, written_to, Makes, held_by_sender, with_message_lows, with_lows, OutboundStream, bytes_for}
+use Rattle.sctp_delivery.proofs.Names.{bytes_of_chunks, bytes_of_messages, Answers, Expires, IsAccepted, MakesExactly, SenderCall, Write, abandons, as_run}
+use Rattle.sctp_delivery.proofs.Names.{expires, expires_late, expires_rexmit, expires_tail, forwards, forwards_within, marks, opens, resends, reserves, sends}
+use Rattle.sctp_delivery.proofs.Names.{sets_low, sets_mode, sets_size, starts, takes_sack, writes, written_after, Made, data_chunk, made_after, with_chunk}
+use Rattle.sctp_delivery.proofs.Names.{of_sender, Call, RunsTo, SenderFollows, Session, at_start, of_receiver, Limits, AfterEachFitSession, AfterEachFitRun}
+use Rattle.sctp_delivery.proofs.Names.{at_or_before, Data, data_of, past, partial_waits, Released}
+use Rattle.sctp_util.proofs.Cases.{or-true}
+use Rattle.sctp_outbound.specs.payload_queue.PayloadQueue as payload
+use Rattle.sctp_sender.specs.Flight.{is_half, open_messages}
+use Rattle.sctp_sender.specs.Sender.{stream_of}
+use Rattle.sctp_stream.specs.Stream.{new_stream}
+use Rattle.sctp_delivery.specs.Amounts.{told_by, written_by, AmountsAreLeft, AmountsEnd, told_on, written_on}
+use Rattle.sctp_delivery.specs.Amounts.{EachIsTold, IsToldOf}
+use Rattle.sctp_delivery.specs.SenderCalls.{misses}
+use Rattle.sctp_delivery.proofs.StreamBytes.{IsBare, IsOff, abandoned, amount, amount-at, amount-elsewhere, amount-found, amount-kept, amount-left, amount-less}
+use Rattle.sctp_delivery.proofs.StreamBytes.{amount-mapped, amount-opened, amount-released, changed, expired, first-changed, held, lows-told, message-lows-told}
+use Rattle.sctp_delivery.proofs.StreamBytes.{only, others, pushed, sacked, sent, split-all, started, zero-if, size, weigh}
+use Rattle.sctp_delivery.proofs.Every.{Every, every-found, every-of, all-of-every, every-both, every-tested, every-pair, every-mapped}
+use Rattle.sctp_delivery.proofs.Numbers.{number-is, number_of}
+use Rattle.sctp_delivery.proofs.Writing.{accepted-stream}
+use Rattle.sctp_delivery.proofs.QueueChunks.{peeked, EachIs, each-fragment}
+use Rattle.sctp_delivery.proofs.QueueChunks as queues
+use Rattle.sctp_delivery.proofs.Changes.{Keeps, each-call}
 use Rattle.sctp_delivery.proofs.Calls.{length-forgotten, numbered_after, sent_by}
 use Rattle.sctp_delivery.proofs.Delivered.{Holds, Sends, at-first, receiver-step, sender-step}
-use Rattle.sctp_delivery.proofs.Every.{Every, all-of-every, every-of, every-both, every-tested, every-pair, every-mapped}
-use Rattle.sctp_delivery.proofs.Numbers.{number_of}
-use Rattle.sctp_delivery.proofs.Queues.{started, IsEnded}
+use Rattle.sctp_delivery.proofs.Queues.{started as stands-started, IsEnded}
 use Rattle.sctp_delivery.proofs.Sent.{Entry, Numbered, IsPart, contains-more, fragment, terminal}
-use Rattle.sctp_util.specs.Lists.{change_where}
-use Rattle.sctp_util.specs.Serial.{at_or_before, distance}
-use Rattle.sctp_data.specs.PayloadData.{Data, data_of}
-use Rattle.sctp_data.specs.SelectiveAck.{Sack}
-use Rattle.sctp_outbound.specs.outbound_queue.OutboundQueue.{Outbound}
-use Rattle.sctp_outbound.specs.payload_queue.Blocks.{is_in_blocks}
-use Rattle.sctp_outbound.specs.payload_queue.PayloadQueue.{past}
-use Rattle.sctp_outbound.specs.pending_queue.Whole.{IsSendable, partially_sent, waits}
-use Rattle.sctp_outbound.proofs.lemmas.outbound_queue.Abandoned.{partial_waits}
-use Rattle.sctp_sender.specs.declared.sender.flight.Released.{Released}
-use Rattle.sctp_sender.specs.Flight.{Flight, is_half, is_outdated, is_whole, leaves_open, open_messages, released_by, released_of, reports_anew, take_sack}
-use Rattle.sctp_sender.specs.Outgoing.{has_number, less_by}
-use Rattle.sctp_sender.specs.Thresholds.{with_lows}
 use Rattle.sctp_delivery.proofs.InFlight.{AreKnown}
 use Rattle.sctp_delivery.proofs.Senders.{IsMoreBy}
 use Rattle.sctp_delivery.proofs.Sessions.{neither}
+
+-- # Each chunk that waits or is in flight is on the stream of its write, and has no bytes once it is acknowledged or abandoned
+
+-- the stream of the write before which so many were made: that is the number of its message
+abbrev pub stream_in : ℕ → List Write → ℕ
+stream_in n [] = 0
+stream_in n (w ∷ ws) = if length ws == n then w.stream else stream_in n ws
+
+pub record IsOf (ws : List Write) (c : ChunkPayloadData) : Type 0 where
+  pub below : c.message_id < length ws
+  pub stream : c.stream_identifier ≡ stream_in c.message_id ws
+  pub bare : IsBare c
+
+abbrev pub AllOf : List Write → Outbound → Type 0
+AllOf ws q = EachIs (IsOf ws) (IsOf ws) q
+
+-- one write more
+of-more : (w : Write) (ws : List Write) (c : ChunkPayloadData) → IsOf ws c → IsOf (w ∷ ws) c
+of-more w ws c h = grind (arith, nat_tests)
+
+-- a fragment of a write on a stream
+pub record IsFresh (stream : ℕ) (c : ChunkPayloadData) : Type 0 where
+  pub on : c.stream_identifier ≡ stream
+  pub outstanding : is_outstanding c ≡ true
+
+pub fragments-fresh : (l : OutboundStream) (ppi : PayloadProtocolIdentifier) (bytes : List ℕ)
+    → Every (IsFresh l.stream_identifier) (fragments_with_mode l ppi bytes)
+fragments-fresh l ppi bytes = each-fragment (IsFresh l.stream_identifier) l ppi bytes (λ i. record { on = refl; outstanding = refl })
+
+module _ (ws : List Write) where
+  of-alike : (c d : ChunkPayloadData) → d.message_id ≡ c.message_id → d.stream_identifier ≡ c.stream_identifier → IsBare d → IsOf ws c → IsOf ws d
+  of-alike c d m s bare h = grind (arith, nat_tests)
+
+  gone-of : (c : ChunkPayloadData) → IsOf ws c → IsOf ws (as_abandoned c)
+  gone-of c i = of-alike c (as_abandoned c) refl refl (λ _. refl) i
+
+  end-of : (tsn : ℕ) (c : ChunkPayloadData) → IsOf ws c → IsOf ws (terminal_chunk tsn c)
+  end-of tsn c i = of-alike c (terminal_chunk tsn c) refl refl (λ _. refl) i
+
+  pub all-at : (t : ℕ) (f : Flight) → AllOf ws f.queue → AllOf ws (abandoned_at t f).queue
+  all-at t f h = queues.abandoned (IsOf ws) (IsOf ws) gone-of end-of (message_to_abandon t f) f.next_tsn f.queue h
+
+-- a message is written
+all-pushed : (ws : List Write) (w : Write) (cs : List ChunkPayloadData) (q : Outbound) → q.next_message_id ≡ length ws → Every (IsFresh w.stream) cs
+    → AllOf ws q → AllOf (w ∷ ws) (with_message cs q)
+all-pushed ws w cs q ids fresh h =
+    queues.pushed (IsOf ws) (IsOf ws) (IsOf (w ∷ ws)) (IsOf (w ∷ ws)) (of-more w ws) (of-more w ws) cs q
+    (every-of (IsFresh w.stream) (λ c. IsOf (w ∷ ws) (with_message_id q.next_message_id c)) one cs fresh) h
+  where
+    one : (c : ChunkPayloadData) → IsFresh w.stream c → IsOf (w ∷ ws) (with_message_id q.next_message_id c)
+    one c h2 = grind (arith, nat_tests, not_both, same-yes)
+
+-- ## The calls
+
+module _ (ws : List Write) (t : Transmission) (ids : t.flight.queue.next_message_id ≡ length ws) (h : AllOf ws t.flight.queue) where
+  to : (vs : List Write) (u v : Transmission) → u ≡ v → AllOf vs v.flight.queue → AllOf vs u.flight.queue
+  to vs u v e i = subst (λ (x : Transmission). AllOf vs x.flight.queue) (sym e) i
+
+  abbrev P : ChunkPayloadData → Type 0
+  P = IsOf ws
+
+  keeps : Keeps P P t
+  keeps = grind (arith, nat_tests, end-of, gone-of, of-alike)
+
+  pub all-call : (call : SenderCall) (u : Transmission) → Makes (as_run call) t u → MakesExactly call t u → IsAccepted call t
+      → AllOf (written_after call ws) u.flight.queue
+  all-call (writes stream ppi (b ∷ bs)) u e x a =
+      let l = accepted-stream stream (length (b ∷ bs)) t a in
+      let w : Write = record { stream = stream; payload_type = ppi; bytes = b ∷ bs } in
+      to (w ∷ ws) u _ (x.1 (omega arith) l.0 l.1)
+      (all-pushed ws w (fragments_with_mode l.0 ppi (b ∷ bs)) t.flight.queue ids
+      (subst (λ n. Every (IsFresh n) (fragments_with_mode l.0 ppi (b ∷ bs))) (number-is stream t.streams l.0 l.1) (fragments-fresh l.0 ppi (b ∷ bs))) h)
+  all-call call u e x a = each-call P P t keeps h u call refl e x
+
+-- # What each call of a sender makes of the bytes of a stream, of its buffered amount, and of what the answers told on it
+
+-- ## Which stream the bytes leave
+
+-- where all other streams keep theirs, the bytes are of this one
+shares : (q r : Outbound) (st b : ℕ) → total_bytes r + b ≡ total_bytes q → ((on : ℕ → Bool) → on st ≡ false → held on r ≡ held on q) → (s : ℕ)
+    → held (only s) r + bytes_for s st b ≡ held (only s) q
+shares q r st b total same s = by (st == s) refl
+  where
+    by : (k : Bool) → (st == s) ≡ k → held (only s) r + (if k then b else 0) ≡ held (only s) q
+    by true e =
+        let x = same (others s) (ap not e) in
+        let a = split-all s q in
+        let c = split-all s r in
+        omega (arith, total, x, a, c)
+    by false e = let x = same (only s) e in omega (arith, x)
+
+passed : (p : ChunkPayloadData → Bool) (o : Option ChunkPayloadData) (c : ChunkPayloadData) → passing p o ≡ Some c → o ≡ Some c
+passed p None c e = e
+passed p (Some x) c e = grind (arith, nat_tests, none-some)
+
+module _ (ws : List Write) where
+  is-off : (on : ℕ → Bool) (m : ℕ) (q : Outbound) → on (stream_in m ws) ≡ false → AllOf ws q → IsOff on m q
+  is-off on m q off h = grind (arith, nat_tests, every-of, same-is)
+
+  -- the message of a chunk is on its stream
+  same-abandoned : (o : Option ℕ) (st tsn : ℕ) (q : Outbound) → ((m : ℕ) → o ≡ Some m → stream_in m ws ≡ st) → AllOf ws q → (on : ℕ → Bool)
+      → on st ≡ false → held on (abandoned_of o tsn q) ≡ held on q
+  same-abandoned None st tsn q is h on off = refl
+  same-abandoned (Some m) st tsn q is h on off = abandoned on m tsn q (is-off on m q (ap on (is m refl) ∙ off) h)
+
+  to-abandon : (o : Option ChunkPayloadData) (st : ℕ) → ((c : ChunkPayloadData) → o ≡ Some c → IsOf ws c)
+      → Some st ≡ option_map (λ (c : ChunkPayloadData). c.stream_identifier) o → (m : ℕ) → to_abandon o ≡ Some m → stream_in m ws ≡ st
+  to-abandon None st of told m e = absurd (none-some m e)
+  to-abandon (Some c) st of told m e = grind (arith, nat_tests, none-some, some-same)
+
+  in-tail : (o : Option ChunkPayloadData) (st : ℕ) → ((c : ChunkPayloadData) → o ≡ Some c → IsOf ws c)
+      → Some st ≡ option_map (λ (c : ChunkPayloadData). c.stream_identifier) o → (m : ℕ) → message_of o ≡ Some m → stream_in m ws ≡ st
+  in-tail None st of told m e = absurd (none-some m e)
+  in-tail (Some c) st of told m e = ap (λ n. stream_in n ws) (sym (some-same e)) ∙ sym (of c refl).stream ∙ sym (some-same told)
+
+-- ## Messages that are abandoned one after another
+
+marked-le : (m : ℕ) (xs : List ChunkPayloadData) → bytes_of (change_where (is_of m) as_abandoned xs) ≤ bytes_of xs
+marked-le m [] = omega arith
+marked-le m (c ∷ cs) = grind (arith, common_steps, sum_by-cons, marked-le m cs)
+
+abandoned-le : (o : Option ℕ) (tsn : ℕ) (q : Outbound) → total_bytes (abandoned_of o tsn q) ≤ total_bytes q
+abandoned-le None tsn q = omega arith
+abandoned-le (Some m) tsn q = grind (arith, nat_tests, marked-le, removed_le, sum_by-inserted)
+
+module _ (ws : List Write) (s : ℕ) where
+  one-leaves : (t : ℕ) (f : Flight) → AllOf ws f.queue → held (only s) (abandoned_at t f).queue + bytes_of_messages s (leaving_at t f) ≡ held (only s) f.queue
+  one-leaves t f h = by (find (has_tsn t) f.queue.inflight.chunks) refl
+    where
+      after : Option ChunkPayloadData → Outbound
+      after o = (after_abandonment (to_abandon o) f).queue
+
+      left : Option ChunkPayloadData → ℕ
+      left o = total_bytes f.queue - total_bytes (after o)
+
+      by : (o : Option ChunkPayloadData) → find (has_tsn t) f.queue.inflight.chunks ≡ o
+          → held (only s) (after o) + bytes_of_messages s (abandoned_with o (left o)) ≡ held (only s) f.queue
+      by None e = omega arith
+      by (Some c) e = open-one c.abandoned refl
+        where
+          i : IsOf ws c
+          i = every-found (IsOf ws) (has_tsn t) f.queue.inflight.chunks c e h.inflight
+
+          shared : held (only s) (abandoned_of (Some c.message_id) f.next_tsn f.queue)
+              + bytes_for s c.stream_identifier (total_bytes f.queue - total_bytes (abandoned_of (Some c.message_id) f.next_tsn f.queue))
+              ≡ held (only s) f.queue
+          shared =
+              let le = abandoned-le (Some c.message_id) f.next_tsn f.queue in
+              shares f.queue (abandoned_of (Some c.message_id) f.next_tsn f.queue) c.stream_identifier
+              (total_bytes f.queue - total_bytes (abandoned_of (Some c.message_id) f.next_tsn f.queue)) (omega (arith, le))
+              (same-abandoned ws (Some c.message_id) c.stream_identifier f.next_tsn f.queue
+              (λ m k. ap (λ n. stream_in n ws) (sym (some-same k)) ∙ sym i.stream) h) s
+
+          rest : Bool → Outbound
+          rest b = (after_abandonment (if b then None else Some c.message_id) f).queue
+
+          open-one : (b : Bool) → c.abandoned ≡ b → held (only s) (rest b)
+              + bytes_of_messages s (if b then [] else record {
+                stream = c.stream_identifier;
+                number = c.message_id;
+                bytes = total_bytes f.queue - total_bytes (rest b);
+                is_low = false;
+              } ∷ []) ≡ held (only s) f.queue
+          open-one true k = omega arith
+          open-one false k = let x = shared in omega (arith, x)
+
+  each-leaves : (ts : List ℕ) (f : Flight) → AllOf ws f.queue
+      → held (only s) (abandoned_each ts f).queue + bytes_of_messages s (leaving_each ts f) ≡ held (only s) f.queue
+  each-leaves [] f h = omega arith
+  each-leaves (t ∷ ts) f h = grind (arith, nat_tests, all-at, one-leaves, sum_by-append, each-leaves ts (abandoned_at t f) (all-at ws t f h))
+
+-- ## A SACK
+
+sack-leaves : (ws : List Write) (s : ℕ) (k : Sack) (f : Flight) → AllOf ws f.queue
+    → held (only s) (if is_outdated k f then f else take_sack k f).queue + bytes_of_chunks s (released_by k f) ≡ held (only s) f.queue
+sack-leaves ws s k f h = by (is_outdated k f)
+  where
+    by : (b : Bool) → held (only s) (if b then f else take_sack k f).queue
+        + bytes_of_chunks s (if b then [] else map (released_of (is_whole k f)) (filter (reports_anew k) f.queue.inflight.chunks)) ≡ held (only s) f.queue
+    by true = omega arith
+    by false =
+        let x = sacked (only s) k (is_whole k f) f.queue.inflight.chunks (every-of (IsOf ws) IsBare (λ c i. i.bare) f.queue.inflight.chunks h.inflight) in
+        omega (arith, x)
+
+-- ## A write
+
+room : (stream len : ℕ) (t : Transmission) → write_refusal stream len t ≡ None → total_bytes t.flight.queue + len < 2 ^ 64
+room stream len t e = grind (arith, nat_tests)
+
+-- ## The calls
+
+-- what a call makes of the bytes of a stream: so many leave and are told, and so many more were written; its amount is what is held
+pub record Moves (s told written : ℕ) (t u : Transmission) : Type 0 where
+  pub balance : held (only s) u.flight.queue + told ≡ held (only s) t.flight.queue + written
+  pub amounts : amount s u.streams ≡ held (only s) u.flight.queue
+
+module _ (ws : List Write) (t : Transmission) (all : AllOf ws t.flight.queue)
+    (ready : (now : ℕ) → IsSendable (all_started now t.flight.queue).pending (all_started now t.flight.queue).inflight.chunks
+    (all_started now t.flight.queue).next_message_id) (s : ℕ) (a : amount s t.streams ≡ held (only s) t.flight.queue) where
+  -- nothing leaves
+  calm : (u v : Transmission) → u ≡ v → amount s v.streams ≡ amount s t.streams → held (only s) v.flight.queue ≡ held (only s) t.flight.queue
+      → Moves s 0 0 t u
+  calm u v e streams queue =
+      subst (Moves s 0 0 t) (sym e) (record { balance = omega (arith, queue); amounts = streams ∙ a ∙ sym queue })
+
+  -- so many bytes leave
+  leaves : (b : ℕ) (u v : Transmission) → u ≡ v → amount s v.streams ≡ amount s t.streams - b → held (only s) v.flight.queue + b ≡ held (only s) t.flight.queue
+      → Moves s b 0 t u
+  leaves b u v e streams queue =
+      subst (Moves s b 0 t) (sym e) (record { balance = omega (arith, queue); amounts = let x = a in omega (arith, streams, queue, x) })
+
+  -- the chunks in flight are marked
+  marked : (u : Transmission) (p : ChunkPayloadData → Bool) (f : ChunkPayloadData → ChunkPayloadData)
+      → ((c : ChunkPayloadData) → (if only s (f c).stream_identifier then length (f c).user_data else 0)
+      ≡ (if only s c.stream_identifier then length c.user_data else 0)) → u ≡ record t {
+        flight = record t.flight {
+          queue = record t.flight.queue {
+            inflight = payload.with_chunks t.flight.queue.inflight (change_where p f t.flight.queue.inflight.chunks);
+          };
+        };
+      } → Moves s 0 0 t u
+  marked u p f same e = calm u _ e refl (let h = changed (only s) p f same t.flight.queue.inflight.chunks in omega (arith, h))
+
+  writes-call : (stream : ℕ) (ppi : PayloadProtocolIdentifier) (b : ℕ) (bs : List ℕ) (u : Transmission)
+      → held_by_sender u ≡ held_by_sender t + length (b ∷ bs) → MakesExactly (writes stream ppi (b ∷ bs)) t u
+      → write_refusal stream (length (b ∷ bs)) t ≡ None → Moves s 0 (bytes_for s stream (length (b ∷ bs))) t u
+  writes-call stream ppi b bs u e x free = subst (Moves s 0 (bytes_for s stream len) t) (sym is) (record {
+    balance = let h = grown in omega (arith, h);
+    amounts = by (stream == s) refl;
+  })
+    where
+      len : ℕ
+      len = length (b ∷ bs)
+
+      l : (k : OutboundStream) × (find (has_number stream) t.streams ≡ Some k)
+      l = accepted-stream stream (length (b ∷ bs)) t free
+
+      v : Transmission
+      v = written_to l.0 stream ppi (b ∷ bs) t
+
+      is : u ≡ v
+      is = x.1 (omega arith) l.0 l.1
+
+      total : total_bytes t.flight.queue + len ≡ total_bytes v.flight.queue
+      total = let h = ap held_by_sender is in omega (arith, h, e)
+
+      fresh : Every (IsFresh stream) (fragments_with_mode l.0 ppi (b ∷ bs))
+      fresh = subst (λ n. Every (IsFresh n) (fragments_with_mode l.0 ppi (b ∷ bs))) (number-is stream t.streams l.0 l.1) (fragments-fresh l.0 ppi (b ∷ bs))
+
+      grown : held (only s) t.flight.queue + bytes_for s stream len ≡ held (only s) v.flight.queue
+      grown = shares v.flight.queue t.flight.queue stream len total
+          (λ on off. sym (pushed on (fragments_with_mode l.0 ppi (b ∷ bs)) t.flight.queue
+          (every-of (IsFresh stream) (λ c. on c.stream_identifier ≡ false) (λ c i. ap on i.on ∙ off) (fragments_with_mode l.0 ppi (b ∷ bs)) fresh))) s
+
+      few : total_bytes t.flight.queue + len < 2 ^ 64
+      few = room stream len t free
+
+      by : (k : Bool) → (stream == s) ≡ k → amount s v.streams ≡ held (only s) v.flight.queue
+      by true k =
+          let same = same-is stream s k in
+          let now = subst (λ n. amount n v.streams ≡ (wrote ppi (b ∷ bs) l.0).buffered_amount) same
+          (amount-at stream (wrote ppi (b ∷ bs)) (λ y. refl) t.streams l.0 l.1) in
+          let before = subst (λ n. amount n t.streams ≡ l.0.buffered_amount) same (amount-found stream t.streams l.0 l.1) in
+          let g = subst (λ (y : Bool). held (only s) t.flight.queue + (if y then len else 0) ≡ held (only s) v.flight.queue) k grown in
+          let c = split-all s t.flight.queue in
+          let f = few in
+          let h = a in
+          omega (arith, now, before, g, c, f, h)
+      by false k = grind (arith, nat_tests, amount-elsewhere, grown, len)
+
+  abandons-call : (o : Option ℕ) (stream bytes : ℕ) (u : Transmission) → held_by_sender u + bytes ≡ held_by_sender t → u ≡ after_abandon o stream bytes t
+      → ((m : ℕ) → o ≡ Some m → stream_in m ws ≡ stream) → Moves s (bytes_for s stream bytes) 0 t u
+  abandons-call o stream bytes u e x is =
+      let h = ap held_by_sender x in
+      leaves (bytes_for s stream bytes) u (after_abandon o stream bytes t) x (amount-less s stream bytes (less_by bytes) (λ l. refl) (λ l. refl) t.streams)
+      (shares t.flight.queue (after_abandon o stream bytes t).flight.queue stream bytes (omega (arith, h, e))
+      (same-abandoned ws o stream t.flight.next_tsn t.flight.queue is all) s)
+
+  found : (tsn : ℕ) (c : ChunkPayloadData) → find (has_tsn tsn) t.flight.queue.inflight.chunks ≡ Some c → IsOf ws c
+  found tsn c e = every-found (IsOf ws) (has_tsn tsn) t.flight.queue.inflight.chunks c e all.inflight
+
+  in-front : (p : ChunkPayloadData → Bool) (c : ChunkPayloadData) → passing p (next_pending t.flight.queue.pending) ≡ Some c → IsOf ws c
+  in-front p c e = peeked (IsOf ws) t.flight.queue.pending.selected t.flight.queue.pending c
+      (passed p (next_pending t.flight.queue.pending) c e) (all.ordered, all.unordered)
+
+  expiry-number : (k : Bool) (b : ℕ) (l : OutboundStream) → (after_expiry k b l).stream_identifier ≡ l.stream_identifier
+  expiry-number true b l = refl
+  expiry-number false b l = refl
+
+  expiry-less : (k : Bool) (b : ℕ) (l : OutboundStream) → (after_expiry k b l).buffered_amount ≡ l.buffered_amount - b
+  expiry-less true b l = refl
+  expiry-less false b l = refl
+
+  expires-call : (now : ℕ) (m : ExpiredMessage) (u : Transmission) → held_by_sender u + m.bytes ≡ held_by_sender t → Expires now (Some m) t u
+      → Answers (expires now (Some m)) t → Moves s (bytes_for s m.stream m.bytes) 0 t u
+  expires-call now m u e x told = by (expiring now t.flight.queue) refl x.1.0 told
+    where
+      by : (o : Option ChunkPayloadData) → expiring now t.flight.queue ≡ o → IfSome o (λ c. u ≡ after_expire c m.bytes now t)
+          → Some m.stream ≡ option_map (λ (c : ChunkPayloadData). c.stream_identifier) o → Moves s (bytes_for s m.stream m.bytes) 0 t u
+      by None is g y = absurd (none-some m.stream (sym y))
+      by (Some c) is g y =
+          let i = in-front (is_expired now) c is in
+          let on : m.stream ≡ c.stream_identifier = some-same y in
+          let v = after_expire c m.bytes now t in
+          let h = ap held_by_sender g in
+          subst (λ n. Moves s (bytes_for s n m.bytes) 0 t u) (sym on)
+          (leaves (bytes_for s c.stream_identifier m.bytes) u v g
+          (amount-less s c.stream_identifier m.bytes (after_expiry c.unordered m.bytes) (expiry-number c.unordered m.bytes)
+          (expiry-less c.unordered m.bytes) t.streams)
+          (shares t.flight.queue v.flight.queue c.stream_identifier m.bytes (omega (arith, h, e))
+          (λ f off. expired f c t.flight.queue (is-off ws f c.message_id t.flight.queue (ap f (sym i.stream) ∙ off) all)) s))
+
+  abandons-each : (ts : List ℕ) (gone : List AbandonedMessage) (u : Transmission) → u ≡ after_abandoning ts t
+      → gone ≡ with_message_lows (leaving_each ts t.flight) t.streams → Moves s (bytes_of_messages s gone) 0 t u
+  abandons-each ts gone u x told =
+      let gs = leaving_each ts t.flight in
+      let n : bytes_of_messages s gone ≡ bytes_of_messages s gs = ap (bytes_of_messages s) told ∙ message-lows-told s gs t.streams in
+      subst (λ b. Moves s b 0 t u) (sym n)
+      (leaves (bytes_of_messages s gs) u (after_abandoning ts t) x (amount-left s gs t.streams) (each-leaves ws s ts t.flight all))
+
+  pub moves-call : (call : SenderCall) (u : Transmission) → Makes (as_run call) t u → MakesExactly call t u → IsAccepted call t → Answers call t
+      → Moves s (told_by s (of_sender call)) (written_by s (of_sender call)) t u
+  moves-call (opens stream) u e x free told =
+      calm u _ e (amount-opened s (new_stream stream t.fragment_size) refl t.streams) refl
+  moves-call (sets_mode stream unordered reliability value) u e x free told =
+      calm u _ e (amount-kept s (has_number stream) (with_mode unordered reliability value) (λ l. refl) (λ l. refl) t.streams) refl
+  moves-call (writes stream ppi []) u e x free told = subst (λ n. Moves s 0 n t u) (sym (zero-if (stream == s))) (calm u t (x.0 refl) refl refl)
+  moves-call (writes stream ppi (b ∷ bs)) u e x free told = writes-call stream ppi b bs u e x free
+  moves-call (starts now) u e x free told = calm u _ e refl (started (only s) now t.flight.queue)
+  moves-call (sends now) u e x free told =
+      calm u _ x refl
+      (sent (only s) t.flight.next_tsn now (all_started now t.flight.queue) (ready now) (next_pending (all_started now t.flight.queue).pending) refl
+      ∙ started (only s) now t.flight.queue)
+  moves-call (resends tsn now c) u e x free told = marked u (has_tsn tsn) (sent_again (count_again c) now) (λ d. refl) e
+  moves-call (abandons tsn y) u e x free told =
+      abandons-call (message_to_abandon tsn t.flight) y.stream y.bytes u e x
+      (to-abandon ws (find (has_tsn tsn) t.flight.queue.inflight.chunks) y.stream (found tsn) told.0)
+  moves-call (expires now None) u e x free told = calm u t (x.1.1 refl) refl refl
+  moves-call (expires now (Some y)) u e x free told = expires-call now y u e x told
+  moves-call (expires_tail now None) u e x free told = calm u t (x.1 refl) refl refl
+  moves-call (expires_tail now (Some y)) u e x free told =
+      let n : bytes_for s y.stream y.bytes ≡ bytes_of_messages s (y ∷ []) = omega arith in
+      subst (λ b. Moves s b 0 t u) n
+      (abandons-call (message_of (expiring_tail now t.flight.queue)) y.stream y.bytes u (omega (arith, e)) x.0
+      (in-tail ws (expiring_tail now t.flight.queue) y.stream (in-front (is_expired_tail now)) told.0))
+  moves-call (expires_late now gone) u e x free told = abandons-each (late_order now t.flight) gone u x told
+  moves-call (expires_rexmit gone) u e x free told = abandons-each (worn_order t.flight) gone u x told
+  moves-call (forwards tsn f) u e x free told = calm u t x refl refl
+  moves-call (forwards_within bytes f) u e x free told = calm u t x refl refl
+  moves-call marks u e x free told = marked u is_outstanding (with_retransmit true) (λ d. refl) e
+  moves-call (misses count) u e x free told =
+      calm u _ e refl (let h = first-changed (only s) can_miss missed (λ _. refl) count t.flight.queue.inflight.chunks in omega (arith, h))
+  moves-call (sets_size size) u e x free told = calm u _ e (amount-mapped s (with_size size) (λ l. refl) (λ l. refl) t.streams) refl
+  moves-call (sets_low stream bytes) u e x free told =
+      calm u _ e (amount-kept s (has_number stream) (with_low bytes) (λ l. refl) (λ l. refl) t.streams) refl
+  moves-call (reserves count) u e x free told = calm u _ e refl refl
+  moves-call (takes_sack sack gone) u e x free told =
+      let rs = released_by sack t.flight in
+      let n : bytes_of_chunks s gone ≡ bytes_of_chunks s rs = ap (bytes_of_chunks s) told ∙ lows-told s rs t.streams in
+      subst (λ b. Moves s b 0 t u) (sym n)
+      (leaves (bytes_of_chunks s rs) u (after_acked sack t) x (amount-released s rs t.streams) (sack-leaves ws s sack t.flight all))
+
+-- # The amount of each open stream is what was written on it, less what was told; and it is 0 once nothing of the stream is left
 
 -- ## Every session
 
@@ -96,7 +456,7 @@ goes first (of_sender call ∷ cs) old new ns sent r h k =
 
     moved : (stream : ℕ) → Moves stream (told_by stream (of_sender call)) (written_by stream (of_sender call)) t r.0.sending.sender
     moved stream = moves-call old.written t k.all
-        (λ now. (started ns first (λ s. number_of s t.streams) now t.flight.queue t.flight.next_tsn sent h.held.stands).sendable) stream
+        (λ now. (stands-started ns first (λ s. number_of s t.streams) now t.flight.queue t.flight.next_tsn sent h.held.stands).sendable) stream
         (k.amounts stream) call r.0.sending.sender f.step.sender f.exact f.accepted f.answered
 goes first (of_receiver call ∷ cs) old new ns sent r h k =
     after-call (of_receiver call) cs old r.0 new (λ stream. ap (λ (s : Session). held (only stream) s.sending.sender.flight.queue + 0) r.1.0.after)
@@ -117,7 +477,7 @@ are-left tsn size max most limits cs s small some r stream = by (stream_of strea
     g : Goes cs (at_start tsn size max most limits) s
     g = counted-in tsn size max most limits cs s small some r
 
-    by : (o : Option StreamState) → stream_of stream s.sending.sender ≡ o → IfSome o (λ l. l.buffered_amount + told_on stream cs ≡ written_on stream cs)
+    by : (o : Option OutboundStream) → stream_of stream s.sending.sender ≡ o → IfSome o (λ l. l.buffered_amount + told_on stream cs ≡ written_on stream cs)
     by None e = tt
     by (Some l) e =
         let a = amount-found stream s.sending.sender.streams l e in
@@ -137,65 +497,26 @@ bare-none ws stream (c ∷ cs) e n =
     omega (arith, a, z, ih)
   where
     by : (a b : Bool) → is_outstanding c ≡ b → (a && b) ≡ false → (if a then length c.user_data else 0) ≡ 0
-    by false b o k = refl
-    by true true o k = absurd (not_both (sym k))
-    by true false o k = e.0.bare o
+    by a b h3 h4 = grind (arith, nat_tests, not_both)
 
 -- or none on the stream
 absent-none : (stream : ℕ) (cs : List ChunkPayloadData) → list_any (is_on stream) cs ≡ false → weigh (only stream) cs ≡ 0
 absent-none stream [] n = refl
-absent-none stream (c ∷ cs) n =
-    let a = sum_by-cons (size (only stream)) c cs in
-    by (is_on stream c) n (absent-none stream cs) a
-  where
-    by : (b : Bool) → (b || list_any (is_on stream) cs) ≡ false → (list_any (is_on stream) cs ≡ false → weigh (only stream) cs ≡ 0)
-        → weigh (only stream) (c ∷ cs) ≡ (if b then length c.user_data else 0) + weigh (only stream) cs → weigh (only stream) (c ∷ cs) ≡ 0
-    by true k ih a = absurd (not_both (sym k))
-    by false k ih a = let z = ih k in omega (arith, a, z)
+absent-none stream (c ∷ cs) n = grind (arith, nat_tests, not_both, sum_by-cons, absent-none stream cs)
 
 pub end : AfterEachFitSession AmountsEnd
-end tsn size max most limits cs s small some r stream done = by (stream_of stream s.sending.sender) refl
-  where
-    t : Transmission
-    t = s.sending.sender
-
-    g : Goes cs (at_start tsn size max most limits) s
-    g = counted-in tsn size max most limits cs s small some r
-
-    split : (a b c : Bool) → (not (a || b) && not c) ≡ true → (a ≡ false) × (b ≡ false) × (c ≡ false)
-    split false false false e = (refl, refl, refl)
-    split true b c e = absurd (not_both e)
-    split false true c e = absurd (not_both e)
-    split false false true e = absurd (not_both e)
-
-    none : held (only stream) t.flight.queue ≡ 0
-    none =
-        let q = t.flight.queue in
-        let x = split (list_any (is_on stream) q.pending.ordered) (list_any (is_on stream) q.pending.unordered)
-        (list_any (λ c. is_on stream c && is_outstanding c) q.inflight.chunks) done in
-        let a = absent-none stream q.pending.ordered x.0 in
-        let b = absent-none stream q.pending.unordered x.1 in
-        let c = bare-none s.written stream q.inflight.chunks g.counted.all.inflight x.2 in
-        omega (arith, a, b, c)
-
-    by : (o : Option StreamState) → stream_of stream t ≡ o → IfSome o (λ l. l.buffered_amount ≡ 0)
-    by None e = tt
-    by (Some l) e =
-        let a = amount-found stream t.streams l e in
-        let h = g.counted.amounts stream in
-        let z = none in
-        omega (arith, a, h, z)
+end tsn size max most limits cs s small some r stream done = grind (arith, nat_tests, absent-none, amount-found, bare-none, counted-in, not_both)
 
 -- what an amount that is read says
-pub amount-says : (t : Transmission) (stream : ℕ) (o : Option ℕ) → o ≡ option_map (λ (l : StreamState). l.buffered_amount) (stream_of stream t)
+pub amount-says : (t : Transmission) (stream : ℕ) (o : Option ℕ) → o ≡ option_map (λ (l : OutboundStream). l.buffered_amount) (stream_of stream t)
     → IfSome o (λ n. AfterEachFitRun (λ cs s. s.sending.sender ≡ t → n + told_on stream cs ≡ written_on stream cs))
 amount-says t stream None is = tt
 amount-says t stream (Some n) is = λ tsn size max most limits cs s small some r same.
     by s cs (stream_of stream s.sending.sender)
-    (subst (λ (u : Transmission). Some n ≡ option_map (λ (l : StreamState). l.buffered_amount) (stream_of stream u)) (sym same) is)
+    (subst (λ (u : Transmission). Some n ≡ option_map (λ (l : OutboundStream). l.buffered_amount) (stream_of stream u)) (sym same) is)
     (are-left tsn size max most limits cs s small some r stream)
   where
-    by : (s : Session) (cs : List Call) (o : Option StreamState) → Some n ≡ option_map (λ (l : StreamState). l.buffered_amount) o
+    by : (s : Session) (cs : List Call) (o : Option OutboundStream) → Some n ≡ option_map (λ (l : OutboundStream). l.buffered_amount) o
         → IfSome o (λ l. l.buffered_amount + told_on stream cs ≡ written_on stream cs) → n + told_on stream cs ≡ written_on stream cs
     by s cs None e h = absurd (none-some n (sym e))
     by s cs (Some l) e h = ap (λ k. k + told_on stream cs) (some-same e) ∙ h
@@ -227,16 +548,10 @@ ended-made sent more ms (inr e) a = subst (λ xs. AllMade xs ms) (sym e) a
 
 module _ (t : Transmission) (sent more : List Entry) (ms : List Made) (a : AllMade sent ms) where
   sends-made : (o : Option ChunkPayloadData) → IsMoreBy o sent more → AllMade more (with_chunk o ms)
-  sends-made None g = ended-made sent more ms g a
-  sends-made (Some c) g =
-      subst (λ xs. AllMade xs (data_chunk (data_of c) ∷ ms)) (sym g.2) ((0, omega arith, refl), more-made (data_chunk (data_of c)) sent ms a)
+  sends-made o h2 = grind (arith, nat_tests, ended-made, more-made)
 
   all-made : (call : SenderCall) → IsMoreBy (sent_by call t) sent more → AllMade more (made_after call t ms)
-  all-made (sends now) g = sends-made (next_chunk now t) g
-  all-made (resends tsn now c) g = ended-made sent more _ g (more-made _ sent ms a)
-  all-made (forwards tsn f) g = ended-made sent more _ g (more-made _ sent ms a)
-  all-made (forwards_within bytes f) g = ended-made sent more _ g (more-made _ sent ms a)
-  all-made call g = ended-made sent more ms g a
+  all-made call h2 = grind (arith, nat_tests, ended-made, more-made, sends-made)
 
 -- the writes and entries of a session, each of which was made
 pub record HasMade (first : ℕ) (s : Session) : Type 0 where
@@ -279,19 +594,10 @@ same-number m n = same_test (nat_eq m n) (n == m)
 
 -- of the message, abandoned, acknowledged, reported cumulatively, and reported in a block
 open-is : (m a k c b : Bool) → (m && (a || not (k || (c || b)))) ≡ ((m && a) || (m && (not (not k && (c || b)) && (not c && not k))))
-open-is false a k c b = refl
-open-is true true k c b = refl
-open-is true false true true b = refl
-open-is true false true false b = refl
-open-is true false false true b = refl
-open-is true false false false true = refl
-open-is true false false false false = refl
+open-is m a k c b = grind (arith, nat_tests)
 
 apart : (p q x y : Bool) → ((p || q) || (x || y)) ≡ ((p || x) || (q || y))
-apart true q x y = refl
-apart false q true y = or-true q
-apart false true false y = refl
-apart false false false y = refl
+apart p q x y = grind (arith, nat_tests, or-true)
 
 module _ (k : Sack) (m : ℕ) where
   abbrev Unacked : ChunkPayloadData → Bool
@@ -312,33 +618,12 @@ module _ (k : Sack) (m : ℕ) where
   left-head : (r : Bool) (c : ChunkPayloadData) (ds : List ChunkPayloadData)
       → list_any Unacked (past k.cumulative_tsn_ack ((if r then as_acknowledged c else c) ∷ ds))
       ≡ ((is_of m c && (not r && (not (at_or_before c.tsn k.cumulative_tsn_ack) && not c.acked))) || list_any Unacked (past k.cumulative_tsn_ack ds))
-  left-head r c ds = by r (at_or_before c.tsn k.cumulative_tsn_ack) refl
-    where
-      others : List ChunkPayloadData
-      others = past k.cumulative_tsn_ack ds
-
-      none : list_any Unacked others ≡ ((is_of m c && false) || list_any Unacked others)
-      none = ap (λ x. x || list_any Unacked others) (sym (and-none (is_of m c)))
-
-      by : (r b : Bool) → at_or_before c.tsn k.cumulative_tsn_ack ≡ b → list_any Unacked (past k.cumulative_tsn_ack ((if r then as_acknowledged c else c) ∷ ds))
-          ≡ ((is_of m c && (not r && (not b && not c.acked))) || list_any Unacked others)
-      by true true e = ap (λ x. list_any Unacked (if not x then as_acknowledged c ∷ others else others)) e ∙ none
-      by true false e = ap (λ x. list_any Unacked (if not x then as_acknowledged c ∷ others else others)) e
-      by false true e = ap (λ x. list_any Unacked (if not x then c ∷ others else others)) e ∙ none
-      by false false e = ap (λ x. list_any Unacked (if not x then c ∷ others else others)) e
+  left-head r c ds = grind (arith, nat_tests, and-none)
 
   -- a chunk is left open where one was abandoned, or one is not acknowledged after the SACK
   open-are : (cs : List ChunkPayloadData) → list_any (nat_eq m) (open_messages k cs) ≡ (list_any Gone cs || list_any Unacked (after cs))
   open-are [] = refl
-  open-are (c ∷ cs) =
-      let rest = filter (leaves_open k) cs in
-      let cum = at_or_before c.tsn k.cumulative_tsn_ack in
-      let block = is_in_blocks k.gap_ack_blocks (distance k.cumulative_tsn_ack c.tsn) in
-      open-head (leaves_open k c) c rest
-      ∙ ap₂ (λ x y. (x && leaves_open k c) || y) (same-number m c.message_id) (open-are cs)
-      ∙ ap (λ x. x || (list_any Gone cs || list_any Unacked (after cs))) (open-is (is_of m c) c.abandoned c.acked cum block)
-      ∙ apart (Gone c) (is_of m c && (not (reports_anew k c) && (not cum && not c.acked))) (list_any Gone cs) (list_any Unacked (after cs))
-      ∙ ap (λ x. (Gone c || list_any Gone cs) || x) (sym (left-head (reports_anew k c) c (change_where (reports_anew k) as_acknowledged cs)))
+  open-are (c ∷ cs) = grind (arith, nat_tests, apart, left-head, open-head, open-is, same-number, open-are cs)
 
 -- of a message of which a chunk is in flight some waits exactly where it is partially sent
 half-waits : (q : Outbound) (m : ℕ) → IsSendable q.pending q.inflight.chunks q.next_message_id → list_any (is_of m) q.inflight.chunks ≡ true
@@ -354,13 +639,11 @@ half-waits q m s there = same_test (is_half (partially_sent q.pending) m) (waits
         (p ∙ ap Some (same-is n m e))
 
 shuffle : (a b c : Bool) → (not a && not (b || c)) ≡ not (b || (a || c))
-shuffle true true c = refl
-shuffle true false c = refl
-shuffle false b c = refl
+shuffle a b c = grind (arith, nat_tests)
 
 -- ## The answer
 
-lows-are : (s t : Session) (rs : List Released) (ls : List StreamState) → Every (IsToldOf s t) rs → Every (IsToldOf s t) (with_lows rs ls)
+lows-are : (s t : Session) (rs : List Released) (ls : List OutboundStream) → Every (IsToldOf s t) rs → Every (IsToldOf s t) (with_lows rs ls)
 lows-are s t [] ls e = tt
 lows-are s t (r ∷ rs) ls e =
     (record { chunk = e.0.chunk; message = e.0.message }, lows-are s t rs (change_where (has_number r.stream) (less_by r.bytes) ls) e.1)
@@ -368,34 +651,14 @@ lows-are s t (r ∷ rs) ls e =
 -- each is there
 each-there : (cs : List ChunkPayloadData) → Every (λ (c : ChunkPayloadData). list_any (is_of c.message_id) cs ≡ true) cs
 each-there [] = tt
-each-there (c ∷ cs) = (
-  or-left (c.message_id == c.message_id) (list_any (is_of c.message_id) cs) (same-yes c.message_id),
-  every-of (λ (x : ChunkPayloadData). list_any (is_of x.message_id) cs ≡ true) (λ x. list_any (is_of x.message_id) (c ∷ cs) ≡ true)
-      (λ x h. or-right (c.message_id == x.message_id) (list_any (is_of x.message_id) cs) h) cs (each-there cs),
-)
+each-there (c ∷ cs) = grind (arith, nat_tests, every-of, or-left, or-right, same-yes, each-there cs)
 
 module _ (s t : Session) (k : Sack) (gone : List Released) (f : SenderFollows (takes_sack k gone) s t) (first : ℕ) (h : HasMade first s)
     (counted : AreCounted s) where
   told-of : is_outdated k s.sending.sender.flight ≡ false → (c : ChunkPayloadData) → IsOf s.written c → WasMade s.made c
       → list_any (is_of c.message_id) s.sending.sender.flight.queue.inflight.chunks ≡ true
       → reports_anew k c ≡ true → IsToldOf s t (released_of (is_whole k s.sending.sender.flight) c)
-  told-of current c of made there anew = record {
-    chunk = λ some. (data_of c, made (outstanding (is_outstanding c) refl some), (refl, refl, refl));
-    message =
-        let q = s.sending.sender.flight.queue in
-        let m = c.message_id in
-        let same : t.sending.sender.flight ≡ take_sack k s.sending.sender.flight =
-        ap (λ (u : Transmission). u.flight) f.exact
-        ∙ ap (λ (b : Bool). if b then s.sending.sender.flight else take_sack k s.sending.sender.flight) current in
-        ap₂ (λ x y. not x && not y) (half-waits q m h.holds.held.stands.sendable there) (open-are k m q.inflight.chunks)
-        ∙ shuffle (waits m q.pending) (list_any (Gone k m) q.inflight.chunks) (list_any (Unacked k m) (after k m q.inflight.chunks))
-        ∙ ap (λ (g : Flight). not (is_abandoned m s.sending.sender
-        || (waits m g.queue.pending || list_any (Unacked k m) g.queue.inflight.chunks))) (sym same);
-  }
-    where
-      outstanding : (b : Bool) → is_outstanding c ≡ b → 0 < length c.user_data → is_outstanding c ≡ true
-      outstanding true e some = e
-      outstanding false e some = let z = of.bare e in absurd (omega (arith, z, some))
+  told-of current c of made there anew = grind (arith, nat_tests, half-waits, open-are, shuffle)
 
   abbrev Told : ChunkPayloadData → Type 0
   Told c = IsToldOf s t (released_of (is_whole k s.sending.sender.flight) c)
@@ -419,10 +682,7 @@ module _ (s t : Session) (k : Sack) (gone : List Released) (f : SenderFollows (t
           (each-there cs)))
 
   pub all-told : All (IsToldOf s t) gone
-  all-told =
-      subst (All (IsToldOf s t)) (sym f.answered)
-      (all-of-every (IsToldOf s t) (with_lows (released_by k s.sending.sender.flight) s.sending.sender.streams)
-      (lows-are s t (released_by k s.sending.sender.flight) s.sending.sender.streams each-told))
+  all-told = grind (arith, nat_tests, all-of-every, each-told, lows-are)
 
 pub each-is-told : AfterEachFitSession EachIsTold
 each-is-told tsn size max most limits cs s small some r k gone t f =

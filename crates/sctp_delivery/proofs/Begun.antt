@@ -1,23 +1,11 @@
 -- Which writes were begun: each once, and none of which the first fragment waits.
-use Rattle.std.proofs.Common.{◌≡◌, ℕ, ◌+◌, ◌<◌, Bool, true, false, List, [], ◌∷◌, ◌++◌, map, Option, Some, None, slice_get, inl, inr, refl, ap₂, sym, subst}
-use Rattle.std.proofs.Common.{◌∙◌, arith}
-use Rattle.std.specs.Prelude.{⊤, ◌==◌, ◌&&◌, ◌||◌, if◌then◌else◌}
-use Rattle.std.specs.List.{list_any}
-use Rattle.std.proofs.lemmas.Bool.{cases_lt}
-use Rattle.std.proofs.lemmas.Option.{none-some}
-use Rattle.sctp_util.specs.Lists.{change_where}
-use Rattle.sctp_util.proofs.Cases.{or-left, or-right, or-split, same-is, same-yes, some-same}
-use Rattle.sctp_util.proofs.Edits.{list_any-append}
-use Rattle.sctp_util.proofs.More.{and, both, fails, not_both}
-use Rattle.sctp_data.specs.declared.chunk.chunk_payload_data.ChunkPayloadData.{ChunkPayloadData}
-use Rattle.sctp_data.specs.PayloadData.{Data}
-use Rattle.sctp_outbound.specs.declared.pending_queue.Selected.{Selected}
-use Rattle.sctp_outbound.specs.Marks.{is_of}
-use Rattle.sctp_outbound.specs.outbound_queue.OutboundQueue.{with_message_id}
-use Rattle.sctp_outbound.specs.pending_queue.PendingQueue.{Pending, list_of, list_to_pop, next_pending, rest_after, rest_from}
-use Rattle.sctp_outbound.specs.pending_queue.Whole.{IsSendable, IsWhole, begun, free, partially_sent, stage_of}
-use Rattle.sctp_outbound.proofs.lemmas.outbound_queue.Sendable.{made, or_false}
-use Rattle.sctp_outbound.proofs.lemmas.pending_queue.CompleteMessages.{KeepsMessage, list_any-message, none_before, none_past}
+use Rattle.sctp_delivery.proofs.Names.{◌≡◌, ℕ, ◌+◌, ◌<◌, Bool, true, false, List, [], ◌∷◌, ◌++◌, map, Option, Some, None, slice_get, inl, inr, refl, ap₂, sym}
+use Rattle.sctp_delivery.proofs.Names.{subst, ◌∙◌, arith, ⊤, ◌==◌, ◌&&◌, ◌||◌, if◌then◌else◌, list_any, none-some, nat_tests, change_where, or-left, or-right}
+use Rattle.sctp_delivery.proofs.Names.{or-split, same-is, same-yes, some-same, list_any-append, and, both, fails, not_both, ChunkPayloadData, Data, Selected}
+use Rattle.sctp_delivery.proofs.Names.{is_of, with_message_id, Pending, list_of, list_to_pop, next_pending, rest_after, rest_from, IsSendable, IsWhole, begun}
+use Rattle.sctp_delivery.proofs.Names.{free, partially_sent, stage_of, made, or_false, KeepsMessage, none_before}
+use Rattle.sctp_outbound.proofs.lemmas.pending_queue.CompleteMessages.{list_any-message}
+use Rattle.sctp_delivery.proofs.Cases.{at-test, by-test}
 use Rattle.sctp_delivery.proofs.Sent.{Entry, Numbered, fragment, terminal}
 
 abbrev pub begins : ℕ → ChunkPayloadData → Bool
@@ -51,22 +39,18 @@ begun-ended os us n sent b = record { once = b.once; ordered = b.ordered; unorde
 pub begins-changed : (p : ChunkPayloadData → Bool) (f : ChunkPayloadData → ChunkPayloadData) → KeepsMessage f → (m : ℕ) (cs : List ChunkPayloadData)
     → list_any (begins m) (change_where p f cs) ≡ list_any (begins m) cs
 begins-changed p f keeps m [] = refl
-begins-changed p f keeps m (c ∷ cs) = ap₂ (λ a b. a || b) (by (p c)) (begins-changed p f keeps m cs)
-  where
-    by : (b : Bool) → begins m (if b then f c else c) ≡ begins m c
-    by true = ap₂ (λ (i : ℕ) k. (i == m) && k) (keeps.number c) (keeps.begins c)
-    by false = refl
+begins-changed p f keeps m (c ∷ cs) = ap₂ (λ a b. a || b) (at-test (λ b. begins m (if b then f c else c) ≡ begins m c) (p c)
+    (λ e. ap₂ (λ (i : ℕ) k. (i == m) && k) (keeps.number c) (keeps.begins c))
+    (λ e. refl)) (begins-changed p f keeps m cs)
 
 -- ## A write
 
 begins-of : (m : ℕ) (cs : List ChunkPayloadData) → list_any (begins m) cs ≡ true → list_any (is_of m) cs ≡ true
 begins-of m [] h = h
-begins-of m (c ∷ cs) h = by (c.message_id == m) h (begins-of m cs)
-  where
-    by : (b : Bool) → ((b && c.beginning_fragment) || list_any (begins m) cs) ≡ true → (list_any (begins m) cs ≡ true → list_any (is_of m) cs ≡ true)
-        → (b || list_any (is_of m) cs) ≡ true
-    by true h ih = refl
-    by false h ih = ih h
+begins-of m (c ∷ cs) h = at-test (λ b. ((b && c.beginning_fragment) || list_any (begins m) cs) ≡ true → (b || list_any (is_of m) cs) ≡ true)
+    (c.message_id == m)
+    (λ e h. refl)
+    (λ e h. (begins-of m cs) h) h
 
 not-begun : (os us : List ChunkPayloadData) (n : ℕ) (sent : List Entry) → IsBegun os us n sent → was_begun n sent ≡ false
 not-begun os us n sent b = fails (was_begun n sent) (λ h. let lt = b.below n h in omega (arith, lt))
@@ -104,22 +88,25 @@ begun-unordered os us n sent ms b = record {
 -- of a message that is begun no first fragment waits
 rest-begins : (kind : Bool) (n m : ℕ) (cs : List ChunkPayloadData) → IsWhole kind n (begun m) cs → list_any (begins m) cs ≡ false
 rest-begins kind n m [] w = absurd w
-rest-begins kind n m (c ∷ cs) w = or_false (begins m c) (list_any (begins m) cs) here (by c.ending_fragment w.3 (rest-begins kind n m cs))
+rest-begins kind n m (c ∷ cs) w = or_false (begins m c) (list_any (begins m) cs) here
+    (at-test (λ b. IsWhole kind n (if b then free (c.message_id + 1) else begun c.message_id) cs → list_any (begins m) cs ≡ false) c.ending_fragment
+    (λ f v.
+    let past : m < c.message_id + 1 = (omega arith) in
+    fails (list_any (begins m) cs) (λ h. not_both (sym (none_before kind n m (free (c.message_id + 1)) cs past v) ∙ begins-of m cs h)))
+    (λ e v. (rest-begins kind n m cs) (subst (λ j. IsWhole kind n (begun j) cs) w.0.1 v)) w.3)
   where
     here : begins m c ≡ false
     here = elim (c.message_id == m) as (λ b. (b && c.beginning_fragment) ≡ false) [ true ↦ w.0.0 | false ↦ refl ]
 
-    by : (b : Bool) → IsWhole kind n (if b then free (c.message_id + 1) else begun c.message_id) cs
-        → (IsWhole kind n (begun m) cs → list_any (begins m) cs ≡ false) → list_any (begins m) cs ≡ false
-    by true v ih =
-        let past : m < c.message_id + 1 = (let e = w.0.1 in omega (arith, e)) in
-        fails (list_any (begins m) cs) (λ h. not_both (sym (none_before kind n m (free (c.message_id + 1)) cs past v) ∙ begins-of m cs h))
-    by false v ih = ih (subst (λ j. IsWhole kind n (begun j) cs) w.0.1 v)
-
 -- what is in flight does not begin again
 pub none-again : (os us : List ChunkPayloadData) (sel : Option Selected) (ro ru n : ℕ) (xs : List ChunkPayloadData) → IsSendable (made os us sel ro ru) xs n
     → (m : ℕ) → list_any (is_of m) xs ≡ true → (list_any (begins m) os ≡ false) × (list_any (begins m) us ≡ false)
-none-again os us sel ro ru n xs s m there = by (list_any (is_of m) us || list_any (is_of m) os) refl
+none-again os us sel ro ru n xs s m there = by-test (list_any (is_of m) us || list_any (is_of m) os)
+    (λ e. partial sel s.ordered s.unordered (s.sent m there e))
+    (λ e. (
+      none os (fails (list_any (is_of m) os) (λ h. not_both (sym e ∙ or-right (list_any (is_of m) us) (list_any (is_of m) os) h))),
+      none us (fails (list_any (is_of m) us) (λ h. not_both (sym e ∙ or-left (list_any (is_of m) us) (list_any (is_of m) os) h))),
+    ))
   where
     none : (cs : List ChunkPayloadData) → list_any (is_of m) cs ≡ false → list_any (begins m) cs ≡ false
     none cs e = fails (list_any (begins m) cs) (λ h. not_both (sym e ∙ begins-of m cs h))
@@ -144,13 +131,6 @@ none-again os us sel ro ru n xs s m there = by (list_any (is_of m) us || list_an
         kind true w v = (none os (apart-from (front true us v)), rest-begins true n m us (subst (λ j. IsWhole true n (begun j) us) same v))
         kind false w v = (rest-begins false n m os (subst (λ j. IsWhole false n (begun j) os) same w), none us (s.apart m (front false os w)))
 
-    by : (b : Bool) → (list_any (is_of m) us || list_any (is_of m) os) ≡ b → (list_any (begins m) os ≡ false) × (list_any (begins m) us ≡ false)
-    by true e = partial sel s.ordered s.unordered (s.sent m there e)
-    by false e = (
-      none os (fails (list_any (is_of m) os) (λ h. not_both (sym e ∙ or-right (list_any (is_of m) us) (list_any (is_of m) os) h))),
-      none us (fails (list_any (is_of m) us) (λ h. not_both (sym e ∙ or-left (list_any (is_of m) us) (list_any (is_of m) os) h))),
-    )
-
 front-any : (p : ChunkPayloadData → Bool) (xs : List ChunkPayloadData) (c : ChunkPayloadData) → p c ≡ true → slice_get xs 0 ≡ Some c → list_any p xs ≡ true
 front-any p [] c h e = absurd (none-some c e)
 front-any p (x ∷ xs) c h e = or-left (p x) (list_any p xs) (subst (λ y. p y ≡ true) (sym (some-same e)) h)
@@ -160,11 +140,10 @@ pub next-any : (p : ChunkPayloadData → Bool) (os us : List ChunkPayloadData) (
     → next_pending (made os us sel ro ru) ≡ Some c → (list_any p us || list_any p os) ≡ true
 next-any p os (u ∷ us) None ro ru c h e = or-left (list_any p (u ∷ us)) (list_any p os) (front-any p (u ∷ us) c h e)
 next-any p os [] None ro ru c h e = front-any p os c h e
-next-any p os us (Some s) ro ru c h e = by s.unordered e
-  where
-    by : (b : Bool) → slice_get (list_of b (made os us (Some s) ro ru)) 0 ≡ Some c → (list_any p us || list_any p os) ≡ true
-    by true f = or-left (list_any p us) (list_any p os) (front-any p us c h f)
-    by false f = or-right (list_any p us) (list_any p os) (front-any p os c h f)
+next-any p os us (Some s) ro ru c h e = at-test (λ b. slice_get (list_of b (made os us (Some s) ro ru)) 0 ≡ Some c → (list_any p us || list_any p os)
+    ≡ true) s.unordered
+    (λ e f. or-left (list_any p us) (list_any p os) (front-any p us c h f))
+    (λ e f. or-right (list_any p us) (list_any p os) (front-any p os c h f)) e
 
 rest-any : (p : ChunkPayloadData → Bool) (k : Option Bool) (os us : List ChunkPayloadData) (sel : Option Selected) (ro ru : ℕ)
     → (list_any p (rest_from k (made os us sel ro ru)).ordered ≡ true → list_any p os ≡ true)
@@ -212,9 +191,4 @@ begun-sent q xs ys n sent c d w after same placed e s r there b = record {
         or_false (d.beginning_fragment && (w.place == m)) (was_begun m sent) (fails (d.beginning_fragment && (w.place == m)) (λ h. other (is-it m h))) f
 
     small : (m : ℕ) → (d.beginning_fragment && (w.place == m)) ≡ true → m < n
-    small m h = elim (cases_lt m n) [
-      | inl lt ↦ lt
-      | inr le ↦ absurd (not_both (sym (or_false (list_any (is_of m) q.unordered) (list_any (is_of m) q.ordered) (none_past true n m le
-          (stage_of true q.selected) q.unordered s.unordered) (none_past false n m le (stage_of false q.selected) q.ordered s.ordered)) ∙ next-any (is_of m)
-          q.ordered q.unordered q.selected q.ordered_room q.unordered_room c (subst (λ j. (c.message_id == j) ≡ true) (is-it m h) (same-yes c.message_id)) e))
-    ]
+    small m h = grind (arith, nat_tests)

@@ -1,27 +1,14 @@
 -- Each call of a sender, and what it makes of all that got TSNs.
-use Rattle.std.proofs.Common.{◌≡◌, ℕ, ◌<◌, true, List, [], ◌∷◌, length, Option, Some, None, inl, refl, ap, sym, subst, ◌∙◌, arith, zero, suc}
-use Rattle.std.specs.Prelude.{Contains, find, slice_index_or}
-use Rattle.sctp_data.specs.declared.chunk.chunk_payload_data.ChunkPayloadData.{ChunkPayloadData}
-use Rattle.sctp_data.specs.declared.chunk.chunk_payload_data.PayloadProtocolIdentifier.TheVariants.{Unknown}
-use Rattle.sctp_data.specs.ForwardTsn.{ForwardTsn}
-use Rattle.sctp_outbound.specs.Marks.{is_outstanding, with_retransmit}
-use Rattle.sctp_outbound.specs.outbound_queue.OutboundQueue.{all_started, expiring_tail, message_of}
-use Rattle.sctp_outbound.specs.pending_queue.PendingQueue.{next_pending}
-use Rattle.sctp_outbound.proofs.lemmas.pending_queue.CompleteMessages.{KeepsMessage}
-use Rattle.sctp_serial.specs.DataChunks.{has_tsn}
-use Rattle.sctp_sender.specs.declared.sender.ExpiredMessage.{ExpiredMessage}
-use Rattle.sctp_sender.specs.declared.sender.flight.late.AbandonedMessage.{AbandonedMessage}
-use Rattle.sctp_sender.specs.Abandonment.{Name, named_up_to}
-use Rattle.sctp_sender.specs.Flight.{is_outstanding_in, message_to_abandon, with_queue, with_room}
-use Rattle.sctp_sender.specs.Late.{late_order, worn_order}
-use Rattle.sctp_sender.specs.Outgoing.{has_number, with_low, with_mode}
-use Rattle.sctp_sender.specs.Resending.{can_miss, count_again, missed, sent_again}
-use Rattle.sctp_sender.specs.Sender.{Transmission, written_to}
-use Rattle.sctp_sender.specs.SenderRuns.{Makes}
-use Rattle.sctp_sender.proofs.InLine.{found-partial, tail-partial}
-use Rattle.sctp_delivery.specs.SenderCalls.{Expires, ExpiresTail, IsAccepted, Made, MakesExactly, SenderCall, abandons, as_run, expires, expires_late}
-use Rattle.sctp_delivery.specs.SenderCalls.{expires_rexmit, expires_tail, forward_tsn, forwards, forwards_within, made_after, marks, misses, next_chunk, opens}
-use Rattle.sctp_delivery.specs.SenderCalls.{resends, reserves, sends, sets_low, sets_mode, sets_size, starts, takes_sack, writes, written_after, Write}
+use Rattle.sctp_delivery.proofs.Names.{◌≡◌, ℕ, ◌<◌, true, List, [], ◌∷◌, length, Option, Some, None, inl, refl, ap, sym, subst, ◌∙◌, arith, zero, suc, Contains}
+use Rattle.sctp_delivery.proofs.Names.{find, slice_index_or, nat_tests, ChunkPayloadData, ForwardTsn, is_outstanding, with_retransmit, all_started}
+use Rattle.sctp_delivery.proofs.Names.{expiring_tail, message_of, next_pending, KeepsMessage, has_tsn, ExpiredMessage, AbandonedMessage, Name, named_up_to}
+use Rattle.sctp_delivery.proofs.Names.{is_outstanding_in, message_to_abandon, late_order, worn_order, has_number, with_low, with_mode, count_again, sent_again}
+use Rattle.sctp_delivery.proofs.Names.{Transmission, written_to, Makes, found-partial, tail-partial, Expires, ExpiresTail, IsAccepted, Made, MakesExactly}
+use Rattle.sctp_delivery.proofs.Names.{SenderCall, abandons, as_run, expires, expires_late, expires_rexmit, expires_tail, forward_tsn, forwards}
+use Rattle.sctp_delivery.proofs.Names.{forwards_within, made_after, marks, next_chunk, opens, resends, reserves, sends, sets_low, sets_mode, sets_size, starts}
+use Rattle.sctp_delivery.proofs.Names.{takes_sack, writes, written_after, Write}
+use Rattle.sctp_sender.specs.Flight.{with_queue}
+use Rattle.sctp_delivery.specs.SenderCalls.{misses}
 use Rattle.sctp_delivery.proofs.InFlight.{IsKnown}
 use Rattle.sctp_delivery.proofs.OrderedRest.{names-known}
 use Rattle.sctp_delivery.proofs.Numbers.{all-open, number_of, numbers-sized, opened, sized-all, steady-changed, steady-same, there-sized}
@@ -49,10 +36,7 @@ module _ (ws : List Numbered) (first : ℕ) (t : Transmission) (sent : List Entr
   same u e = subst (λ x. Result None ws ws first sent x ms ms) (sym e) (calm ws ws first sent t ms h)
 
   expires-call : (now : ℕ) (m : Option ExpiredMessage) (u : Transmission) → Expires now m t u → Result None ws ws first sent u ms ms
-  expires-call now None u x = same u (x.1.1 refl)
-  expires-call now (Some e) u x =
-      let i = expired-one now e t u x in
-      subst (λ y. Result None ws ws first sent y ms ms) (sym i.2) (expires-one ws first t sent ms h now i.0 e.bytes i.1)
+  expires-call now m u h4 = grind (arith, nat_tests, expired-one, expires-one, same)
 
   expires-tail-call : (now : ℕ) (m : Option AbandonedMessage) (u : Transmission) → ExpiresTail now m t u → Result None ws ws first sent u ms ms
   expires-tail-call now None u x = same u (x.1 refl)
@@ -96,7 +80,7 @@ module _ (ws : List Numbered) (first : ℕ) (t : Transmission) (sent : List Entr
   stepped (opens stream) u m x a =
       subst (λ y. Result None ws ws first sent y ms ms) (sym m)
       (calm ws ws first sent _ ms
-      (steady ws first t sent h _ (opened stream t.fragment_size t.max_message_size Unknown h.size t.streams) t.flight sent h.stands))
+      (steady ws first t sent h _ (opened stream t.fragment_size h.size t.streams) t.flight sent h.stands))
   stepped (sets_mode stream unordered reliability value) u m x a =
       subst (λ y. Result None ws ws first sent y ms ms) (sym m)
       (calm ws ws first sent _ ms (steady ws first t sent h _
@@ -130,11 +114,7 @@ module _ (ws : List Numbered) (first : ℕ) (t : Transmission) (sent : List Entr
       (calm ws ws first sent _ ms (changed ws first t sent is_outstanding (with_retransmit true)
       (record { number = λ _. refl; begins = λ _. refl; ends = λ _. refl; kind = λ _. refl })
       (λ d. (λ o. (o, refl), record { kind = refl; stream = refl; number = refl; tsn = refl; message = refl; ends = refl })) h))
-  stepped (misses count) u m x a =
-      subst (λ y. Result None ws ws first sent y ms ms) (sym m)
-      (calm ws ws first sent _ ms (first-changed ws first t sent can_miss missed count
-      (record { number = λ _. refl; begins = λ _. refl; ends = λ _. refl; kind = λ _. refl })
-      (λ d. (λ o. (o, refl), record { kind = refl; stream = refl; number = refl; tsn = refl; message = refl; ends = refl })) h))
+  stepped (misses count) u m x a = grind (arith, nat_tests, calm, first-changed)
   stepped (sets_size size) u m x a =
       subst (λ y. Result None ws ws first sent y ms ms) (sym m)
       (calm ws ws first sent _ ms (record {
@@ -147,17 +127,7 @@ module _ (ws : List Numbered) (first : ℕ) (t : Transmission) (sent : List Entr
       subst (λ y. Result None ws ws first sent y ms ms) (sym m)
       (calm ws ws first sent _ ms (steady ws first t sent h _
       (steady-changed (has_number stream) (with_low bytes) (λ l. refl) (λ l. refl) (λ l. refl) t.streams) t.flight sent h.stands))
-  stepped (reserves count) u m x a =
-      subst (λ y. Result None ws ws first sent y ms ms) (sym m)
-      (calm ws ws first sent _ ms
-      (steady ws first t sent h t.streams (steady-same t.streams) (with_queue t.flight (with_room count t.flight.queue)) sent (record {
-        queued = h.stands.queued;
-        sendable = h.stands.sendable;
-        known = h.stands.known;
-        counted = h.stands.counted;
-        begun' = h.stands.begun';
-        ids = h.stands.ids;
-      })))
+  stepped (reserves count) u m x a = grind (arith, nat_tests, calm, steady, steady-same)
   stepped (takes_sack sack gone) u m x a = subst (λ y. Result None ws ws first sent y ms ms) (sym x) (calm ws ws first sent _ ms (acked ws first t sent sack h))
 
 -- ## Writes without their places
@@ -170,9 +140,7 @@ forgotten [] = []
 forgotten (n ∷ ns) = forget n ∷ forgotten ns
 
 pub forgotten-after : (call : SenderCall) (ns : List Numbered) → forgotten (numbered_after call ns) ≡ written_after call (forgotten ns)
-forgotten-after (writes stream ppi []) ns = refl
-forgotten-after (writes stream ppi (b ∷ bs)) ns = refl
-forgotten-after call ns = refl
+forgotten-after call ns = grind (arith, nat_tests)
 
 pub length-forgotten : (ns : List Numbered) → length (forgotten ns) ≡ length ns
 length-forgotten [] = refl

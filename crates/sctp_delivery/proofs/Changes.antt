@@ -1,31 +1,18 @@
 -- What a call of a sender makes of what waits and of what is in flight, but for a write and a sending: one of nine changes.
-use Rattle.std.proofs.Common.{◌≡◌, ℕ, ◌+◌, ◌≤◌, ◌++◌, Bool, true, false, List, [], ◌∷◌, length, length-append, map, Option, Some, None, refl, ap, sym, ◌∙◌}
-use Rattle.std.proofs.Common.{arith, inl, inr, subst}
-use Rattle.std.specs.Prelude.{◌⊎◌, if◌then◌else◌, find, is_some, option_to_list, IfSome}
-use Rattle.std.specs.List.{filter}
-use Rattle.std.proofs.lemmas.List.{length-map}
-use Rattle.sctp_util.specs.Lists.{change_where}
-use Rattle.sctp_util.proofs.More.{not_both}
-use Rattle.sctp_data.specs.declared.chunk.chunk_payload_data.ChunkPayloadData.{ChunkPayloadData}
-use Rattle.sctp_data.specs.SelectiveAck.{Sack}
-use Rattle.sctp_outbound.specs.Marks.{is_outstanding, with_retransmit, as_abandoned, as_acknowledged}
-use Rattle.sctp_outbound.specs.outbound_queue.OutboundQueue.{all_started, expired_of, expiring, expiring_tail, is_late, late_tsns, message_of, with_inflight}
-use Rattle.sctp_outbound.specs.outbound_queue.OutboundQueue.{as_sent, terminal_chunk}
-use Rattle.sctp_outbound.specs.pending_queue.PendingQueue.{next_pending, one_lower, with_deadline}
-use Rattle.sctp_outbound.specs.pending_queue.Whole.{IsSendable, partially_sent, waits}
-use Rattle.sctp_serial.specs.DataChunks.{has_tsn}
-use Rattle.sctp_sender.specs.declared.sender.flight.Released.{Released}
-use Rattle.sctp_sender.specs.declared.sender.ExpiredMessage.{ExpiredMessage}
-use Rattle.sctp_sender.specs.Flight.{Flight, after_abandonment, after_sack, message_to_abandon, with_queue, with_room}
-use Rattle.sctp_sender.specs.Late.{abandoned_each, late_order, leaving_each, with_tail, worn_order}
-use Rattle.sctp_sender.specs.Resending.{after_misses, count_again, is_worn, sent_again, worn_tsns, missed}
-use Rattle.sctp_sender.specs.Sender.{Transmission, after_expire}
-use Rattle.sctp_sender.specs.SenderRuns.{Makes}
-use Rattle.sctp_sender.proofs.InLine.{found-partial, tail-partial}
+use Rattle.sctp_delivery.proofs.Names.{◌≡◌, ℕ, ◌+◌, ◌≤◌, ◌++◌, Bool, true, false, List, [], ◌∷◌, length, map, Option, Some, None, refl, ap, sym, ◌∙◌, arith}
+use Rattle.sctp_delivery.proofs.Names.{inl, inr, subst, ◌⊎◌, find, option_to_list, IfSome, filter, nat_tests, common_steps, change_where, not_both}
+use Rattle.sctp_delivery.proofs.Names.{ChunkPayloadData, Sack, is_outstanding, with_retransmit, as_abandoned, as_acknowledged, all_started, expired_of}
+use Rattle.sctp_delivery.proofs.Names.{expiring, expiring_tail, is_late, late_tsns, message_of, with_inflight, as_sent, terminal_chunk, next_pending, one_lower}
+use Rattle.sctp_delivery.proofs.Names.{with_deadline, IsSendable, partially_sent, waits, has_tsn, Released, ExpiredMessage, Flight, after_abandonment}
+use Rattle.sctp_delivery.proofs.Names.{after_sack, message_to_abandon, with_room, abandoned_each, late_order, leaving_each, worn_order, after_misses}
+use Rattle.sctp_delivery.proofs.Names.{count_again, is_worn, sent_again, worn_tsns, missed, Transmission, after_expire, Makes, found-partial, tail-partial}
+use Rattle.sctp_delivery.proofs.Names.{abandoned_by, MakesExactly, SenderCall, as_run, Expires}
+use Rattle.std.specs.Prelude.{is_some}
+use Rattle.sctp_sender.specs.Flight.{with_queue}
+use Rattle.sctp_sender.specs.Late.{with_tail}
 use Rattle.sctp_sender.proofs.Lates.{at-most-one}
-use Rattle.sctp_delivery.specs.Abandoned.{abandoned_by}
 use Rattle.sctp_delivery.specs.SenderCalls as outgoing
-use Rattle.sctp_delivery.specs.SenderCalls.{MakesExactly, SenderCall, as_run, Expires}
+use Rattle.sctp_delivery.proofs.Cases.{at-if}
 use Rattle.sctp_delivery.proofs.QueueChunks.{EachIs, abandoned, each-abandoned, expired, marked, missed-some, sacked, sent, started}
 
 -- chunks are marked: of each only how often and when it was sent, and whether it goes again, may change
@@ -90,20 +77,11 @@ expired-one now e t u x = by (expiring now t.flight.queue) refl x.0 x.1.0
 
 fewer : {A : Type 0} (q : A → Bool) (xs : List A) → length (filter q xs) ≤ length xs
 fewer q [] = omega arith
-fewer q (x ∷ xs) = by (q x) (fewer q xs)
-  where
-    by : (b : Bool) → length (filter q xs) ≤ length xs → length (if b then x ∷ filter q xs else filter q xs) ≤ length (x ∷ xs)
-    by true ih = omega (arith, ih)
-    by false ih = omega (arith, ih)
+fewer q (x ∷ xs) = at-if (λ z. length z ≤ length (x ∷ xs)) (q x) (λ e. omega (arith, fewer q xs)) (λ e. omega (arith, fewer q xs))
 
 order-short : (q : ChunkPayloadData → Bool) (f : Flight) (o : Option ℕ) → length
     (option_to_list o ++ map (λ (c : ChunkPayloadData). c.tsn) (filter q f.queue.inflight.chunks)) ≤ 1 + length f.queue.inflight.chunks
-order-short q f o =
-    let a = length-append (option_to_list o) (map (λ (c : ChunkPayloadData). c.tsn) (filter q f.queue.inflight.chunks)) in
-    let b = at-most-one o in
-    let d = length-map (filter q f.queue.inflight.chunks) (λ (c : ChunkPayloadData). c.tsn) in
-    let e = fewer q f.queue.inflight.chunks in
-    omega (arith, a, b, d, e)
+order-short q f o = grind (arith, nat_tests, common_steps, at-most-one o, fewer q f.queue.inflight.chunks)
 
 module _ (t u : Transmission) where
   to : (call : SenderCall) (v : Transmission) (c : Change call t) → u ≡ v → v.flight ≡ flight_after call t c → Changes call t u

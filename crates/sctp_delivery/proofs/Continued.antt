@@ -1,22 +1,10 @@
 -- Behind a chunk in flight that does not end its message stands one of it, abandoned where it is: whatever is sent, abandoned, marked or
 -- taken out.
-use Rattle.std.proofs.Common.{◌≡◌, ℕ, zero, suc, ◌+◌, Bool, true, false, not, List, [], ◌∷◌, ◌++◌, map, take, drop, Option, Some, refl, ap, ap₂, sym, subst}
-use Rattle.std.proofs.Common.{◌∙◌, arith}
-use Rattle.std.specs.Prelude.{if◌then◌else◌, ◌==◌}
-use Rattle.std.specs.List.{filter}
-use Rattle.std.proofs.lemmas.List.{map-append, take-append-drop}
-use Rattle.std.proofs.lemmas.Option.{none-some}
-use Rattle.sctp_util.specs.Lists.{change_where}
-use Rattle.sctp_util.proofs.Cases.{same-is, same-yes, some-same}
-use Rattle.sctp_util.proofs.More.{fails, not_both}
-use Rattle.sctp_util.proofs.Round.{tsn}
-use Rattle.sctp_data.specs.declared.chunk.chunk_payload_data.ChunkPayloadData.{ChunkPayloadData}
-use Rattle.sctp_outbound.specs.Marks.{as_abandoned, is_of}
-use Rattle.sctp_outbound.specs.outbound_queue.OutboundQueue.{Outbound}
-use Rattle.sctp_outbound.specs.pending_queue.PendingQueue.{last_of}
-use Rattle.sctp_outbound.specs.pending_queue.Whole.{ends, partially_sent}
-use Rattle.sctp_sender.proofs.Runs.{IsRunFrom}
-use Rattle.sctp_delivery.specs.Rounds.{is_first_abandoned}
+use Rattle.sctp_delivery.proofs.Names.{◌≡◌, ℕ, zero, suc, ◌+◌, Bool, true, false, not, List, [], ◌∷◌, ◌++◌, map, take, drop, Option, Some, refl, ap, ap₂, sym}
+use Rattle.sctp_delivery.proofs.Names.{subst, ◌∙◌, arith, if◌then◌else◌, ◌==◌, filter, map-append, take-append-drop, none-some, nat_tests, change_where}
+use Rattle.sctp_delivery.proofs.Names.{same-is, same-yes, some-same, fails, not_both, tsn, ChunkPayloadData, as_abandoned, is_of, Outbound, last_of, ends}
+use Rattle.sctp_delivery.proofs.Names.{partially_sent, IsRunFrom, is_first_abandoned}
+use Rattle.sctp_delivery.proofs.Cases.{at-test, by-test}
 use Rattle.sctp_delivery.proofs.GivenTsns.{lead, rest-run}
 
 -- ## What is so of the chunks in flight
@@ -66,11 +54,10 @@ gone_at m x = if x.0 == m then (x.0, x.1, true) else x
 
 pub facts-abandoned : (m : ℕ) (cs : List ChunkPayloadData) → facts_of (change_where (is_of m) as_abandoned cs) ≡ map (gone_at m) (facts_of cs)
 facts-abandoned m [] = refl
-facts-abandoned m (c ∷ cs) = ap₂ (λ x xs. x ∷ xs) (by (c.message_id == m)) (facts-abandoned m cs)
-  where
-    by : (b : Bool) → facts (if b then as_abandoned c else c) ≡ (if b then (c.message_id, c.ending_fragment, true) else facts c)
-    by true = refl
-    by false = refl
+facts-abandoned m (c ∷ cs) = ap₂ (λ x xs. x ∷ xs) (at-test (λ b. facts (if b then as_abandoned c else c) ≡
+    (if b then (c.message_id, c.ending_fragment, true) else facts c)) (c.message_id == m)
+    (λ e. refl)
+    (λ e. refl)) (facts-abandoned m cs)
 
 same-number : (m : ℕ) (x : Facts) → (gone_at m x).0 ≡ x.0
 same-number m x = elim (x.0 == m) as (λ b. (if b then (x.0, x.1, true) else x).0 ≡ x.0) [ true ↦ refl | false ↦ refl ]
@@ -86,13 +73,7 @@ kept m x other = ap (λ b. (if b then (x.0, x.1, true) else x).2) (fails (x.0 ==
 
 -- two of one message stay alike
 alike : (m : ℕ) (x y : Facts) → y.0 ≡ x.0 → y.2 ≡ x.2 → (gone_at m y).2 ≡ (gone_at m x).2
-alike m x y same both = by (x.0 == m) refl
-  where
-    by : (b : Bool) → (x.0 == m) ≡ b → (gone_at m y).2 ≡ (gone_at m x).2
-    by true e = let is = same-is x.0 m e in gone m y (same ∙ is) ∙ sym (gone m x is)
-    by false e =
-        let off : x.0 ≡ m → ⊥ = λ is. not_both (sym e ∙ subst (λ j. (j == m) ≡ true) (sym is) (same-yes m)) in
-        kept m y (λ is. off (sym same ∙ is)) ∙ both ∙ sym (kept m x off)
+alike m x y same both = grind (arith, nat_tests)
 
 pair-gone : (m : ℕ) (x y : Facts) → (x.1 ≡ false → (y.0 ≡ x.0) × (y.2 ≡ x.2))
     → (gone_at m x).1 ≡ false → ((gone_at m y).0 ≡ (gone_at m x).0) × ((gone_at m y).2 ≡ (gone_at m x).2)
@@ -126,11 +107,8 @@ ended-continued partial next m (x ∷ y ∷ ys) is a = (pair-gone m x y a.0, end
 pub facts-changed : (p : ChunkPayloadData → Bool) (f : ChunkPayloadData → ChunkPayloadData) → ((c : ChunkPayloadData) → facts (f c) ≡ facts c)
     → (cs : List ChunkPayloadData) → facts_of (change_where p f cs) ≡ facts_of cs
 facts-changed p f same [] = refl
-facts-changed p f same (c ∷ cs) = ap₂ (λ x xs. x ∷ xs) (by (p c)) (facts-changed p f same cs)
-  where
-    by : (b : Bool) → facts (if b then f c else c) ≡ facts c
-    by true = same c
-    by false = refl
+facts-changed p f same (c ∷ cs) =
+    ap₂ (λ x xs. x ∷ xs) (at-test (λ b. facts (if b then f c else c) ≡ facts c) (p c) (λ e. same c) (λ e. refl)) (facts-changed p f same cs)
 
 -- of the first so many
 pub facts-part-changed : (p : ChunkPayloadData → Bool) (f : ChunkPayloadData → ChunkPayloadData) → ((c : ChunkPayloadData) → facts (f c) ≡ facts c)
@@ -180,27 +158,18 @@ lead-ends partial p place (c ∷ cs) a run first = by cs refl a r.1
         let sum : place + 1 + lead cs ≡ place + lead (c ∷ cs) = omega (arith, n) in
         record {
           chunk = i.chunk;
-          last = ap (λ k. last_of (filter ends (take k (c ∷ cs)))) n ∙ more c.ending_fragment;
+          last = ap (λ k. last_of (filter ends (take k (c ∷ cs)))) n ∙ at-test
+              (λ b. last_of (if b then c ∷ filter ends (take (lead cs) cs) else filter ends (take (lead cs) cs)) ≡ Some i.chunk) c.ending_fragment
+              (λ e. last-more c i.chunk (filter ends (take (lead cs) cs)) i.last)
+              (λ e. i.last);
           is = i.is ∙ ap (tsn p) sum;
         }
-      where
-        more : (b : Bool) → last_of (if b then c ∷ filter ends (take (lead cs) cs) else filter ends (take (lead cs) cs)) ≡ Some i.chunk
-        more true = last-more c i.chunk (filter ends (take (lead cs) cs)) i.last
-        more false = i.last
 
     by : (ds : List ChunkPayloadData) → cs ≡ ds → AreContinued partial (facts c ∷ facts_of ds) → IsRunFrom (tsn p (place + 1 + 1)) ds
         → (is_first_abandoned cs ≡ true → EndsThere p (place + 1) cs) → EndsThere p place (c ∷ cs)
-    by [] e k run' ih = alone (ap lead e) (end c.ending_fragment refl)
-      where
-        end : (b : Bool) → c.ending_fragment ≡ b → b ≡ true
-        end true h = refl
-        end false h = absurd (not_both (sym (k h).1 ∙ first))
-    by (d ∷ ds) e k run' ih = on d.abandoned refl
-      where
-        on : (b : Bool) → d.abandoned ≡ b → EndsThere p place (c ∷ cs)
-        on true g = behind (ih (ap is_first_abandoned e ∙ g))
-        on false g = alone (ap lead e ∙ ap (λ b. if not b then 0 else lead ds + 1) g) (end c.ending_fragment refl)
-          where
-            end : (b : Bool) → c.ending_fragment ≡ b → b ≡ true
-            end true h = refl
-            end false h = absurd (not_both (sym g ∙ (k.0 h).1 ∙ first))
+    by [] e k run' ih = alone (ap lead e) (at-test (λ b. b ≡ true) c.ending_fragment (λ h. refl) (λ h. absurd (not_both (sym (k h).1 ∙ first))))
+    by (d ∷ ds) e k run' ih = by-test d.abandoned
+        (λ g. behind (ih (ap is_first_abandoned e ∙ g)))
+        (λ g. alone (ap lead e ∙ ap (λ b. if not b then 0 else lead ds + 1) g) (at-test (λ b. b ≡ true) c.ending_fragment
+        (λ h. refl)
+        (λ h. absurd (not_both (sym g ∙ (k.0 h).1 ∙ first)))))

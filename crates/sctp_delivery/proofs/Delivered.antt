@@ -1,29 +1,22 @@
 -- Each message that is read was written.
-use Rattle.std.proofs.Common.{◌≡◌, ℕ, zero, suc, ◌+◌, ◌%◌, ◌^◌, ◌<◌, ◌≤◌, Bool, true, false, not, List, [], ◌∷◌, ◌++◌, length, Option, inl, inr, refl, ap, sym}
-use Rattle.std.proofs.Common.{subst, ◌∙◌, arith, get_or}
-use Rattle.std.specs.Prelude.{⊤, All, Contains, ◌==◌, ◌&&◌, if◌then◌else◌, slice_index_or}
-use Rattle.std.specs.List.{list_all}
-use Rattle.std.proofs.lemmas.List.Sums.{AllPass-from_list_all}
+use Rattle.sctp_delivery.proofs.Names.{◌≡◌, ℕ, zero, suc, ◌+◌, ◌%◌, ◌^◌, ◌<◌, ◌≤◌, Bool, true, false, not, List, [], ◌∷◌, ◌++◌, length, Option, inl, inr, refl}
+use Rattle.sctp_delivery.proofs.Names.{ap, sym, subst, ◌∙◌, arith, get_or, ⊤, All, Contains, ◌==◌, ◌&&◌, if◌then◌else◌, slice_index_or, list_all}
+use Rattle.sctp_delivery.proofs.Names.{AllPass-from_list_all, negated, same-is, both, not_both, ChunkPayloadData, Data, data_of, completes, is_complete, Limits}
+use Rattle.sctp_delivery.proofs.Names.{Message, is_one_message, is_on, AfterEachFitSession, AreWrites, IsWrite, WhileTsnsLast, tsns_given, written_after, Made}
+use Rattle.sctp_delivery.proofs.Names.{SenderCall, Write, data_chunk, forward_tsn, AreMade, AreMessages, Call, ReceiverFollows, RunsTo, SenderFollows, Session}
+use Rattle.sctp_delivery.proofs.Names.{at_start, of_receiver, of_sender}
 use Rattle.sctp_util.specs.Serial.{distance}
-use Rattle.sctp_util.proofs.Cases.{negated, same-is}
-use Rattle.sctp_util.proofs.More.{both, not_both}
-use Rattle.sctp_data.specs.declared.chunk.chunk_payload_data.ChunkPayloadData.{ChunkPayloadData}
-use Rattle.sctp_data.specs.PayloadData.{Data, data_of}
-use Rattle.sctp_reassembly.specs.reassembly_queue.Fragments.{completes, is_complete, payload_of}
-use Rattle.sctp_receiver.specs.declared.receiver.limits.Limits.{Limits}
-use Rattle.sctp_receiver.specs.ReceiverRuns.{Message, is_like, is_one_message, none_ends_before}
-use Rattle.sctp_serial.specs.DataChunks.{is_on}
-use Rattle.sctp_delivery.specs.Messages.{AfterEachFitSession, AreParts, AreSame, AreWrites, IsWrite, WhileTsnsLast}
-use Rattle.sctp_delivery.specs.Sacks.{tsns_given}
-use Rattle.sctp_delivery.specs.SenderCalls.{written_after, Made, SenderCall, Write, data_chunk, forward_tsn}
-use Rattle.sctp_delivery.specs.Session.{AreMade, AreMessages, Call, ReceiverFollows, RunsTo, SenderFollows, Session, at_start, of_receiver, of_sender}
+use Rattle.sctp_reassembly.specs.reassembly_queue.Fragments.{payload_of}
+use Rattle.sctp_receiver.specs.ReceiverRuns.{is_like, none_ends_before}
+use Rattle.sctp_delivery.specs.Messages.{AreParts, AreSame}
+use Rattle.sctp_delivery.proofs.Cases.{at-test, by-test}
 use Rattle.sctp_delivery.proofs.Begun.{AreOnce}
 use Rattle.sctp_delivery.proofs.Calls.{contains-forgotten, forget, forgotten, forgotten-after, numbered_after, sent_by, stepped}
 use Rattle.sctp_delivery.proofs.OrderedEntries.{AreIndexed, AreRising, begun_on, written_on}
 use Rattle.sctp_delivery.proofs.OrderedPlaces.{AreNumbered, numbered-after}
 use Rattle.sctp_delivery.proofs.Queues.{IsOnceMore}
 use Rattle.sctp_delivery.proofs.Senders.{AreSent, IsHeld, IsMoreBy}
-use Rattle.sctp_delivery.proofs.Sent.{Numbered, AreApart, Entry, GoesOn, IsLine, IsPart, WasSent, fragment, part-line, same-tsn, stands-behind}
+use Rattle.sctp_delivery.proofs.Sent.{Numbered, Entry, GoesOn, IsLine, IsPart, WasSent, fragment, part-line, same-tsn, stands-behind}
 use Rattle.sctp_delivery.proofs.Sessions as sessions
 use Rattle.sctp_delivery.proofs.Every.{Every, every-of-all, all-of-every}
 
@@ -88,13 +81,10 @@ held-after first [] old new ns sent r h = record { numbered = ns; more = sent; h
 held-after first (of_sender call ∷ cs) old new ns sent r h =
     let x = sender-step first call old r.0 ns sent r.1.0 h in
     let a = held-after first cs r.0 new (numbered_after call ns) x.more r.1.1 x.holds in
-    let n = x.few in
-    let m = a.few in
-    record { numbered = a.numbered; more = a.more; holds = a.holds; few = omega (arith, n, m) }
+    record { numbered = a.numbered; more = a.more; holds = a.holds; few = omega arith }
 held-after first (of_receiver call ∷ cs) old new ns sent r h =
     let a = held-after first cs r.0 new ns sent r.1.1 (receiver-step first call old r.0 ns sent r.1.0 h) in
-    let m = a.few in
-    record { numbered = a.numbered; more = a.more; holds = a.holds; few = omega (arith, m) }
+    record { numbered = a.numbered; more = a.more; holds = a.holds; few = omega arith }
 
 -- a new sender
 pub held-first : (tsn size max most : ℕ) (limits : Option Limits) → tsn < 2 ^ 32 → 0 < size
@@ -187,15 +177,13 @@ all-like x k c (d ∷ ds) i e =
     (λ _. (j.ordered, i.ordered, j.same_stream ∙ sym i.same_stream, j.same_number ∙ sym i.same_number), all-like x k d ds j b.1)
 
 pub inner-of : (x : ChunkPayloadData) (ys : List ChunkPayloadData) → is_one_message (x ∷ ys) ≡ true → AreInner x ys
-inner-of x ys e = let b = both (list_all (is_like x) ys) (rest x.unordered) e in by x.unordered refl b.0 b.1
+inner-of x ys e = let b = both (list_all (is_like x) ys) (rest x.unordered) e in at-test
+    (λ b. (if b then list_all (λ y. not y.beginning_fragment) ys && none_ends_before x ys else true) ≡ true → AreInner x ys) x.unordered
+    (λ k alone. none-begins x ys (both (list_all (λ y. not y.beginning_fragment) ys) (none_ends_before x ys) alone).0)
+    (λ k alone. all-like x k x ys (record { ordered = k; same_stream = refl; same_number = refl }) b.0) b.1
   where
     rest : Bool → Bool
     rest u = if u then list_all (λ y. not y.beginning_fragment) ys && none_ends_before x ys else true
-
-    by : (b : Bool) → x.unordered ≡ b → list_all (is_like x) ys ≡ true
-        → (if b then list_all (λ y. not y.beginning_fragment) ys && none_ends_before x ys else true) ≡ true → AreInner x ys
-    by true k like alone = none-begins x ys (both (list_all (λ y. not y.beginning_fragment) ys) (none_ends_before x ys) alone).0
-    by false k like alone = all-like x k x ys (record { ordered = k; same_stream = refl; same_number = refl }) like
 
 -- ## The law
 
@@ -230,13 +218,13 @@ pub record IsReadSession (s : Session) : Type 0 where
   pub each : All (λ m. IsReadOf numbered sent m) s.receiving.read
 
 module _ (ws : List Numbered) (first : ℕ) (sent : List Entry) (few : length sent < 2 ^ 32) (line : IsLine ws first sent) where
-  -- a chunk, and those that follow it up to the end, are the rest of the write
-  follows : (c : ChunkPayloadData) (cs : List ChunkPayloadData) (w : Numbered) (after : List ℕ) (xs : List Entry)
+  -- a chunk, and those that follow it up to the end, are the rest of the write; none of these begins a message
+  pub follows : (c : ChunkPayloadData) (cs : List ChunkPayloadData) (w : Numbered) (after : List ℕ) (xs : List Entry)
       → IsPart (fragment (data_of c) w after ∷ xs) sent → completes c cs ≡ true → EachSent sent cs → AreInner c cs
-      → (payload_of cs ≡ after) × EachTyped w (c ∷ cs)
+      → (payload_of cs ≡ after) × EachTyped w (c ∷ cs) × Every (λ (d : ChunkPayloadData). d.beginning_fragment ≡ false) cs
   follows c [] w after xs p e s i =
       let l = part-line ws first sent (fragment (data_of c) w after ∷ xs) p line in
-      (sym (l.0.ends e), (l.0.payload, tt))
+      (sym (l.0.ends e), (l.0.payload, tt), tt)
   follows c (d ∷ ds) w after xs p e s i =
       let b = both (d.tsn == (c.tsn + 1) % 2 ^ 32) (completes d ds) e in
       let v = s.0.0 in
@@ -249,15 +237,11 @@ module _ (ws : List Numbered) (first : ℕ) (sent : List Entry) (few : length se
       let on = subst (GoesOn (data_of d) v rest) behind l.1.0 in
       let ih = follows d ds v rest ys q b.1 s.1 i.1 in
       let here = part-line ws first sent (fragment (data_of c) w after ∷ xs) p line in
-      by d.beginning_fragment refl on.0 on.1 ih here.0.payload
-    where
-      by : (b : Bool) → d.beginning_fragment ≡ b → (d.beginning_fragment ≡ false → (s.0.0 ≡ w) × (after ≡ d.user_data ++ s.0.1))
-          → (d.beginning_fragment ≡ true → AreApart (data_of d) (data_of c)) → (payload_of ds ≡ s.0.1) × EachTyped s.0.0 (d ∷ ds)
-          → c.payload_type ≡ w.payload_type → (payload_of (d ∷ ds) ≡ after) × EachTyped w (c ∷ d ∷ ds)
-      by true k goes apart ih typed = let a = i.0 k in absurd (apart k a.0 a.1 a.2 a.3)
-      by false k goes apart ih typed =
-          let g = goes k in
-          (ap (λ bs. d.user_data ++ bs) ih.0 ∙ sym g.1, (typed, subst (λ v. EachTyped v (d ∷ ds)) g.0 ih.1))
+      by-test d.beginning_fragment
+      (λ k. let a = i.0 k in absurd (on.1 k a.0 a.1 a.2 a.3))
+      (λ k.
+      let g = on.0 k in
+      (ap (λ bs. d.user_data ++ bs) ih.0 ∙ sym g.1, (here.0.payload, subst (λ v. EachTyped v (d ∷ ds)) g.0 ih.1), (k, ih.2)))
 
   pub message-is : (m : Message) → is_complete m.fragments ≡ true → is_one_message m.fragments ≡ true → EachSent sent m.fragments
       → list_all (is_on m.stream) m.fragments ≡ true → IsReadOf ws sent m
@@ -294,8 +278,7 @@ module _ (ws : List Numbered) (first : ℕ) (sent : List Entry) (few : length se
 pub next-small : AfterEachFitSession (λ s. next_tsn s < 2 ^ 32)
 next-small tsn size max most limits cs s small some r =
     let a = held-after tsn cs (at_start tsn size max most limits) s [] [] r (at-first tsn size max most limits small some) in
-    let n = a.holds.held.stands.counted in
-    omega (arith, n)
+    omega arith
 
 -- a DATA chunk that was made is a part of a write
 pub parts : AfterEachFitSession AreParts
@@ -312,8 +295,7 @@ parts tsn size max most limits cs s small some r d c =
 pub same : WhileTsnsLast AreSame
 same tsn size max most limits cs s small some r few d e c k is =
     let a = held-after tsn cs (at_start tsn size max most limits) s [] [] r (at-first tsn size max most limits small some) in
-    let n = a.few in
-    same-tsn a.numbered tsn a.more (omega (arith, n, few)) a.holds.held.stands.queued.line d e (found-sent a.more s.made d a.holds.made c)
+    same-tsn a.numbered tsn a.more (omega (arith, few)) a.holds.held.stands.queued.line d e (found-sent a.more s.made d a.holds.made c)
     (found-sent a.more s.made e a.holds.made k) is
 
 -- each message that was read is one of these writes, where they got these entries
@@ -347,8 +329,7 @@ pub read-of : (tsn size max most : ℕ) (limits : Option Limits) (cs : List Call
     → (r : RunsTo (at_start tsn size max most limits) cs s) → tsns_given (at_start tsn size max most limits) cs s r < 2 ^ 32 → IsReadSession s
 read-of tsn size max most limits cs s small some r few =
     let a = held-after tsn cs (at_start tsn size max most limits) s [] [] r (at-first tsn size max most limits small some) in
-    let n = a.few in
-    read-in tsn size max most limits cs s r a.numbered a.more (omega (arith, n, few)) a.holds
+    read-in tsn size max most limits cs s r a.numbered a.more (omega (arith, few)) a.holds
 
 pub are-writes : (s : Session) → IsReadSession s → AreWrites s
 are-writes s a k m lt =

@@ -1,13 +1,10 @@
 -- A session in which the receiver drops a chunk: it is acknowledged, though it was not taken.
-use Rattle.std.proofs.Common.{◌≡◌, true, false, List, [], ◌∷◌, refl, arith}
-use Rattle.sctp_data.specs.declared.chunk.chunk_payload_data.PayloadProtocolIdentifier.TheVariants.{Binary}
+use Rattle.sctp_delivery.proofs.Names.{◌≡◌, true, false, List, [], ◌∷◌, refl, arith, Binary, CallOrDiscard, Discards, RunsWithDiscards, discards, makes}
+use Rattle.sctp_delivery.proofs.Names.{reports_tsn, was_taken, sends, writes, ReceiverFollows, Session, of_receiver, of_sender}
 use Rattle.sctp_util.specs.Serial.{at_or_before, at_or_before16, comes_before, comes_before16, distance, distance16}
-use Rattle.sctp_delivery.specs.Discards.{CallOrDiscard, Discards, RunsWithDiscards, came, discards, makes}
+use Rattle.sctp_delivery.specs.Discards.{came}
 use Rattle.sctp_delivery.specs.ReceiverCalls.{reports_within}
-use Rattle.sctp_delivery.specs.Sacks.{reports_tsn, was_taken}
 use Rattle.sctp_delivery.specs.SenderCalls as outgoing
-use Rattle.sctp_delivery.specs.SenderCalls.{sends, writes}
-use Rattle.sctp_delivery.specs.Session.{ReceiverFollows, Session, of_receiver, of_sender}
 use Rattle.sctp_delivery.proofs.Examples.{in_flight, opened, opens, sends-one, start, writes-one, written, chunk, sack_of}
 
 -- the chunk that is in flight is dropped: its stream is not open at the receiver

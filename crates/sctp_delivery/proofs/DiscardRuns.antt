@@ -1,27 +1,20 @@
 -- The receiver drops a chunk: what its filter of TSNs knows then.
-use Rattle.std.proofs.Common.{◌≡◌, ℕ, ◌+◌, ◌<◌, ◌≤◌, ◌^◌, Bool, true, List, [], ◌∷◌, length, Option, refl, ap, sym, subst, ◌∙◌, arith, false}
-use Rattle.sctp_util.specs.Serial.{distance, comes_before}
-use Rattle.sctp_util.proofs.Cases.{or-left, or-right, same-yes}
-use Rattle.sctp_data.specs.declared.chunk.chunk_payload_data.ChunkPayloadData.{ChunkPayloadData}
-use Rattle.sctp_receiver.specs.declared.receiver.limits.Limits.{Limits}
+use Rattle.sctp_delivery.proofs.Names.{◌≡◌, ℕ, ◌+◌, ◌<◌, ◌≤◌, ◌^◌, Bool, true, List, [], ◌∷◌, length, Option, refl, ap, sym, subst, ◌∙◌, arith, distance}
+use Rattle.sctp_delivery.proofs.Names.{comes_before, or-left, or-right, same-yes, ChunkPayloadData, Limits, Drop, has_tsn, CallOrDiscard, Discards}
+use Rattle.sctp_delivery.proofs.Names.{RunsWithDiscards, discards, makes, AreWrites, AreWritesOfTheirOwn, NoneIsReadTwice, ReceiverCall, CanBeAnswered}
+use Rattle.sctp_delivery.proofs.Names.{AllReportedLeaves, EachSackTells, NoneIsRefused, NoneIsTakenTwice, PassAbandoned, StaysAcknowledged, are_apart}
+use Rattle.sctp_delivery.proofs.Names.{was_passed, was_taken, SenderCall, data_chunk, AreMade, AreMessages, IsAccounted, ReceiverFollows, SenderFollows}
+use Rattle.sctp_delivery.proofs.Names.{Session, at_start, bytes_written, of_receiver, of_sender, if◌then◌else◌, list_any, insert_before, both, data_of}
+use Rattle.sctp_delivery.proofs.Names.{Reception, filter_of, with_filter, has_come, with_tsn}
 use Rattle.sctp_receiver.specs.ReceiverRuns as receiver_runs
 use Rattle.sctp_sender.specs.SenderRuns as sender_runs
 use Rattle.sctp_sender.proofs.Accounts as accounts
-use Rattle.sctp_sender.specs.declared.sender.Reported.TheVariants.{Drop}
-use Rattle.sctp_serial.specs.DataChunks.{has_tsn}
-use Rattle.sctp_delivery.specs.Discards.{AfterEachWithDiscards, AfterEachWithDiscardsOfFewTsns, AcknowledgedCameSo, CallOrDiscard, Discards, LeftCameSo}
-use Rattle.sctp_delivery.specs.Discards.{ReleasedCameSo, ReportWhatCameSo, RunsWithDiscards, WhileFewerTsnsWithDiscards, discards, makes, tsns_given_so}
+use Rattle.sctp_delivery.specs.Discards.{AfterEachWithDiscards, AfterEachWithDiscardsOfFewTsns, AcknowledgedCameSo, LeftCameSo}
+use Rattle.sctp_delivery.specs.Discards.{ReleasedCameSo, ReportWhatCameSo, WhileFewerTsnsWithDiscards, tsns_given_so}
 use Rattle.sctp_delivery.specs.Discards.{was_discarded}
-use Rattle.sctp_delivery.specs.Messages.{AreWrites, AreWritesOfTheirOwn, NoneIsReadTwice}
 use Rattle.sctp_delivery.specs.ReceiverCalls as incoming
-use Rattle.sctp_delivery.specs.ReceiverCalls.{ReceiverCall}
-use Rattle.sctp_delivery.specs.Rounds.{CanBeAnswered}
-use Rattle.sctp_delivery.specs.Sacks.{AllReportedLeaves, EachSackTells, NoneIsRefused, NoneIsTakenTwice, PassAbandoned, StaysAcknowledged, are_apart}
-use Rattle.sctp_delivery.specs.Sacks.{was_passed, was_taken}
 use Rattle.sctp_delivery.specs.SenderCalls as outgoing
-use Rattle.sctp_delivery.specs.SenderCalls.{SenderCall, data_chunk}
-use Rattle.sctp_delivery.specs.Session.{AreMade, AreMessages, IsAccounted, ReceiverFollows, SenderFollows, Session, at_start, bytes_written, of_receiver}
-use Rattle.sctp_delivery.specs.Session.{of_sender}
+use Rattle.sctp_delivery.proofs.Cases.{at-if, at-test}
 use Rattle.sctp_delivery.proofs.TakenCalls.{each-sack-tells, IsInOrder, order-with, more-arrived, AreTaken, new-come}
 use Rattle.sctp_delivery.proofs.Calls.{numbered_after}
 use Rattle.sctp_delivery.proofs.Delivered as delivered
@@ -36,20 +29,19 @@ use Rattle.sctp_delivery.proofs.Sessions as sessions
 use Rattle.sctp_delivery.proofs.Sessions.{IsCounted, IsTakenMade, kept-so, sender-counts, sent-made, taken-made}
 use Rattle.sctp_delivery.proofs.Taking.{can-but}
 use Rattle.sctp_delivery.proofs.TsnPlaces.{base, IsGiven}
-use Rattle.std.specs.Prelude.{if◌then◌else◌, not}
-use Rattle.std.specs.List.{list_any}
-use Rattle.sctp_util.specs.Lists.{insert_before}
-use Rattle.sctp_util.proofs.More.{both}
-use Rattle.sctp_data.specs.PayloadData.{data_of}
-use Rattle.sctp_receiver.specs.Receiver.{Reception, after_discard, filter_of, repeat_tsn, with_filter}
-use Rattle.sctp_receiver.specs.TsnFilter.{has_come, placeholder, with_tsn}
+use Rattle.std.specs.Prelude.{not}
+use Rattle.sctp_receiver.specs.Receiver.{after_discard, repeat_tsn}
+use Rattle.sctp_receiver.specs.TsnFilter.{placeholder}
 use Rattle.sctp_delivery.proofs.ArrivedTsns.{IsArrived, IsKnown, advanced}
 use Rattle.sctp_delivery.proofs.Every.{Every, every-contained, every-inserted, every-of}
 use Rattle.sctp_delivery.proofs.ReportedTsns.{IsTruthful, later-truthful}
 
 module _ (p n : ℕ) (kn : ℕ → Bool) (r : Reception) (few : n < 2 ^ 31) (t : ℕ) (g : IsGiven p n t) (h : IsArrived p n kn r.cumulative_tsn r.beyond) where
   pub discard-arrived : kn t ≡ true → IsArrived p n kn (after_discard t r).cumulative_tsn (after_discard t r).beyond
-  discard-arrived so = by (has_come t (filter_of r))
+  discard-arrived so = at-test (λ b. IsArrived p n kn (if b then repeat_tsn t r else with_filter (with_tsn t (filter_of r)) r).cumulative_tsn
+      (if b then repeat_tsn t r else with_filter (with_tsn t (filter_of r)) r).beyond) (has_come t (filter_of r))
+      (λ e. h)
+      (λ e. advanced p n kn r.cumulative_tsn (insert_before comes_before t r.beyond) few one)
     where
       one : IsArrived p n kn r.cumulative_tsn (insert_before comes_before t r.beyond)
       one = record {
@@ -61,26 +53,17 @@ module _ (p n : ℕ) (kn : ℕ → Bool) (r : Reception) (few : n < 2 ^ 31) (t :
             (record { place = g.place; some = g.some; within = g.within; is = g.is; so = so }) h.each;
       }
 
-      by : (b : Bool) → IsArrived p n kn (if b then repeat_tsn t r else with_filter (with_tsn t (filter_of r)) r).cumulative_tsn
-          (if b then repeat_tsn t r else with_filter (with_tsn t (filter_of r)) r).beyond
-      by true = h
-      by false = advanced p n kn r.cumulative_tsn (insert_before comes_before t r.beyond) few one
-
   pub discard-order : IsInOrder r → IsInOrder (after_discard t r)
-  discard-order a = by (has_come t (filter_of r)) refl
-    where
-      by : (b : Bool) → has_come t (filter_of r) ≡ b → IsInOrder (if b then repeat_tsn t r else with_filter (with_tsn t (filter_of r)) r)
-      by true e = record { small = a.small; rise = a.rise }
-      by false e = let k = order-with p n r kn few h a t g e in record { small = k.small; rise = k.rise }
+  discard-order a = at-if IsInOrder (has_come t (filter_of r))
+      (λ e. record { small = a.small; rise = a.rise })
+      (λ e. let k = order-with p n r kn few h a t g e in record { small = k.small; rise = k.rise })
 
   pub discard-taken : (cs : List ChunkPayloadData) → AreTaken p n r cs → AreTaken p n (after_discard t r) cs
-  discard-taken cs k = by (has_come t (filter_of r)) refl
-    where
-      by : (b : Bool) → has_come t (filter_of r) ≡ b → AreTaken p n (if b then repeat_tsn t r else with_filter (with_tsn t (filter_of r)) r) cs
-      by true e = record { each = k.each; apart = k.apart }
-      by false e =
-          let x = new-come p n r kn few h (placeholder t) (with_filter (with_tsn t (filter_of r)) r) cs g e refl refl k in
-          record { each = x.each.1; apart = (both (not (list_any (has_tsn t) cs)) (are_apart cs) x.apart).1 }
+  discard-taken cs k = at-if (λ z. AreTaken p n z cs) (has_come t (filter_of r))
+      (λ e. record { each = k.each; apart = k.apart })
+      (λ e.
+      let x = new-come p n r kn few h (placeholder t) (with_filter (with_tsn t (filter_of r)) r) cs g e refl refl k in
+      record { each = x.each.1; apart = (both (not (list_any (has_tsn t) cs)) (are_apart cs) x.apart).1 })
 
 pub discard-step : (dropped : ℕ → Bool) (p n : ℕ) (c : ChunkPayloadData) (old new : Session) → n < 2 ^ 31 → dropped c.tsn ≡ true → Discards c old new
     → IsInStepBut dropped p n old → IsInStepBut dropped p n new
@@ -150,7 +133,7 @@ module _ (P : Session → Type 0) (sent : (call : SenderCall) (a b : Session) �
 
 same-count : (old new : Session) → bytes_written new ≡ bytes_written old → new.sending ≡ old.sending → IsCounted old → IsCounted new
 same-count old new e same h = record {
-  written = let l = ap (λ (k : sender_runs.Ledger). k.written) same in let o = h.written in omega (arith, e, l, o);
+  written = let l = ap (λ (k : sender_runs.Ledger). k.written) same in omega (arith, e, l);
   back = ap (λ (k : sender_runs.Ledger). k.taken_back) same ∙ h.back;
 }
 
@@ -162,9 +145,7 @@ accounted tsn size max most limits cs s r =
     (λ call a b f h. same-count a b (ap bytes_written f.after) (ap (λ (x : Session). x.sending) f.after) h)
     (λ d a b f h. same-count a b (ap bytes_written f.after) (ap (λ (x : Session). x.sending) f.after) h)
     cs start s r (record { written = refl; back = refl }) in
-    let w = c.written in
-    let b = c.back in
-    omega (arith, law, w, b)
+    omega (arith, law)
 
 -- ## Messages
 
@@ -197,27 +178,22 @@ held-after first [] old new ns sent r h = record { numbered = ns; more = sent; h
 held-after first (makes (of_sender call) ∷ cs) old new ns sent r h =
     let x = delivered.sender-step first call old r.0 ns sent r.1.0 h in
     let a = held-after first cs r.0 new (numbered_after call ns) x.more r.1.1 x.holds in
-    let n = x.few in
-    let m = a.few in
-    record { numbered = a.numbered; more = a.more; holds = a.holds; few = omega (arith, n, m) }
+    record { numbered = a.numbered; more = a.more; holds = a.holds; few = omega arith }
 held-after first (makes (of_receiver call) ∷ cs) old new ns sent r h =
     let a = held-after first cs r.0 new ns sent r.1.1 (delivered.receiver-step first call old r.0 ns sent r.1.0 h) in
-    let m = a.few in
-    record { numbered = a.numbered; more = a.more; holds = a.holds; few = omega (arith, m) }
+    record { numbered = a.numbered; more = a.more; holds = a.holds; few = omega arith }
 held-after first (discards c ∷ cs) old new ns sent r h =
     let same : Holds first r.0 ns sent =
     subst (λ s. Holds first s ns sent) (sym r.1.0.after) (record { held = h.held; made = h.made; writes = h.writes; placed = h.placed }) in
     let a = held-after first cs r.0 new ns sent r.1.1 same in
-    let m = a.few in
-    record { numbered = a.numbered; more = a.more; holds = a.holds; few = omega (arith, m) }
+    record { numbered = a.numbered; more = a.more; holds = a.holds; few = omega arith }
 
 read-of : WhileFewerTsnsWithDiscards (2 ^ 32) IsReadSession
 read-of tsn size max most limits cs s small some r few =
     let a = held-after tsn cs (at_start tsn size max most limits) s [] [] r (delivered.at-first tsn size max most limits small some) in
-    let n = a.few in
     delivered.read-from tsn s
     (sessions.read-on-so tsn most limits (receiver_calls cs) s (receiver-runs cs (at_start tsn size max most limits) s r))
-    (messages tsn size max most limits cs s r) (made tsn size max most limits cs s r) a.numbered a.more (omega (arith, n, few)) a.holds
+    (messages tsn size max most limits cs s r) (made tsn size max most limits cs s r) a.numbered a.more (omega (arith, few)) a.holds
 
 pub written : WhileFewerTsnsWithDiscards (2 ^ 32) AreWrites
 written tsn size max most limits cs s small some r few = delivered.are-writes s (read-of tsn size max most limits cs s small some r few)

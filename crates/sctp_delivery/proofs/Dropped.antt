@@ -1,36 +1,25 @@
 -- What `drop_expired` gives up, as calls of a session.
-use Rattle.std.proofs.Common.{◌≡◌, ℕ, zero, suc, ◌+◌, ◌-◌, ◌%◌, ◌^◌, ◌<◌, ◌≤◌, Bool, true, false, List, [], ◌∷◌, ◌++◌, Option, Some, None, Result, Ok, Err}
-use Rattle.std.proofs.Common.{refl, ap, ap₂, sym, subst, ◌∙◌, not, arith}
-use Rattle.std.specs.Prelude.{◌≢◌, ◌==◌, ◌&&◌, IfOk, IfSome, is_some, if◌then◌else◌, option_map}
-use Rattle.std.specs.List.{list_all}
-use Rattle.std.proofs.lemmas.List.Folds.{list_all-append}
-use Rattle.std.proofs.lemmas.List.Sums.{sum_by-append}
-use Rattle.std.proofs.lemmas.Option.{none-some}
-use Rattle.sctp_data.specs.declared.chunk.chunk_payload_data.ChunkPayloadData.{ChunkPayloadData}
-use Rattle.sctp_outbound.proofs.lemmas.pending_queue.Waiting.{bytes_of-change_where, removed_le}
-use Rattle.sctp_outbound.specs.outbound_queue.OutboundQueue.{AreExpiredOf, Outbound, expired_of, expired_times, expiring, expiring_tail, late_tsns, message_of}
-use Rattle.sctp_outbound.specs.outbound_queue.OutboundQueue.{stream_and_kind, total_bytes}
-use Rattle.sctp_outbound.specs.Marks.{is_of}
-use Rattle.sctp_outbound.specs.pending_queue.PendingQueue.{Pending, closed_up, one_lower, without, without_message}
+use Rattle.sctp_delivery.proofs.Names.{◌≡◌, ℕ, zero, suc, ◌+◌, ◌-◌, ◌^◌, ◌<◌, ◌≤◌, Bool, true, false, List, [], ◌∷◌, ◌++◌, Option, Some, None, Result, Ok, Err}
+use Rattle.sctp_delivery.proofs.Names.{refl, ap, ap₂, sym, subst, ◌∙◌, arith, ◌==◌, ◌&&◌, IfOk, IfSome, if◌then◌else◌, option_map, list_all, list_all-append}
+use Rattle.sctp_delivery.proofs.Names.{sum_by-append, none-some, nat_tests, ChunkPayloadData, removed_le, Outbound, expired_of, expiring, expiring_tail}
+use Rattle.sctp_delivery.proofs.Names.{late_tsns, message_of, total_bytes, ExpiredMessage, AbandonedMessage, SenderRefusal, late_order, leaving_each}
+use Rattle.sctp_delivery.proofs.Names.{worn_order, has_number, Transmission, after_abandon, after_expire, held_by_sender, with_message_lows, OutboundStream}
+use Rattle.sctp_delivery.proofs.Names.{change_where, same-yes, bytes_for, bytes_of_messages, SenderCall, SenderMakes, expires, expires_late, expires_rexmit}
+use Rattle.sctp_delivery.proofs.Names.{expires_tail, starts}
+use Rattle.std.specs.Prelude.{◌≢◌, is_some}
+use Rattle.sctp_outbound.proofs.lemmas.pending_queue.Waiting.{bytes_of-change_where}
+use Rattle.sctp_outbound.specs.outbound_queue.OutboundQueue.{AreExpiredOf, expired_times}
+use Rattle.sctp_outbound.specs.outbound_queue.OutboundQueue.{stream_and_kind}
 use Rattle.sctp_sender.specs.declared.sender.Dropped.{Dropped}
 use Rattle.sctp_sender.specs.declared.sender.Dropped.TheVariants.{Expired, Abandoned}
-use Rattle.sctp_sender.specs.declared.sender.ExpiredMessage.{ExpiredMessage}
-use Rattle.sctp_sender.specs.declared.sender.flight.late.AbandonedMessage.{AbandonedMessage}
-use Rattle.sctp_sender.specs.declared.sender.refusal.SenderRefusal.{SenderRefusal}
 use Rattle.sctp_sender.specs.Drops.{TailGoes, bytes_dropped, list_in, run_in, with_lifetimes}
 use Rattle.sctp_sender.specs.Flight.{with_queue}
-use Rattle.sctp_sender.specs.Late.{after_late, after_worn, late_order, leaving_each, worn_order}
-use Rattle.sctp_sender.specs.Outgoing.{after_expiries, has_number}
-use Rattle.sctp_sender.specs.Sender.{Transmission, after_abandon, after_expire, after_expire_run}
-use Rattle.sctp_sender.specs.SenderRuns.{bytes_of_all, held_by_sender}
-use Rattle.sctp_sender.specs.Thresholds.{with_message_lows}
-use Rattle.sctp_serial.specs.DataChunks.{bytes_of, is_on}
-use Rattle.sctp_stream.specs.declared.stream.StreamState.{StreamState}
-use Rattle.sctp_util.specs.Lists.{change_where}
-use Rattle.sctp_util.proofs.Cases.{same-yes}
-use Rattle.sctp_delivery.specs.Amounts.{Drops, bytes_for, bytes_of_messages, told_each, told_of}
-use Rattle.sctp_delivery.specs.SenderCalls.{SenderCall, SenderMakes, SenderMakesEach, Tells, expires, expires_late, expires_rexmit, expires_tail, is_drop}
-use Rattle.sctp_delivery.specs.SenderCalls.{starts}
+use Rattle.sctp_sender.specs.Late.{after_late, after_worn}
+use Rattle.sctp_sender.specs.Outgoing.{after_expiries}
+use Rattle.sctp_sender.specs.Sender.{after_expire_run}
+use Rattle.sctp_sender.specs.SenderRuns.{bytes_of_all}
+use Rattle.sctp_delivery.specs.Amounts.{Drops, told_each, told_of}
+use Rattle.sctp_delivery.specs.SenderCalls.{SenderMakesEach, Tells, is_drop}
 
 -- ## Calls one after another
 
@@ -51,20 +40,7 @@ each-then [] ds a b c h k = subst (λ t. SenderMakesEach ds t c) h k
 each-then (x ∷ cs) ds a b c h k = (h.0, (h.1.0, each-then cs ds h.0 b c h.1.1 k))
 
 both-drop : (b d : ℕ → ℕ) (now : ℕ) (x y z : Transmission) → Gives b now x y → Gives d now y z → Gives (λ s. b s + d s) now x z
-both-drop b d now x y z h k = (
-  h.0 ++ k.0,
-  (
-    each-then h.0 k.0 x y z h.1.0 k.1.0,
-    (
-      list_all-append (is_drop now) h.0 k.0 ∙ ap₂ (λ x y. x && y) h.1.1.0 k.1.1.0,
-      λ s.
-          let n = sum_by-append (told_of s) h.0 k.0 in
-          let a = h.1.1.1 s in
-          let c = k.1.1.1 s in
-          omega (arith, n, a, c),
-    ),
-  ),
-)
+both-drop b d now x y z h k = grind (arith, nat_tests, each-then, list_all-append, sum_by-append)
 
 -- ## Messages in front
 
@@ -77,55 +53,30 @@ kind_in None = false
 kind_in (Some p) = p.1
 
 -- so many messages and then one more
-states-then : (u : Bool) (n a b : ℕ) (l : StreamState) → n + 1 < 2 ^ 16 → after_expiries u 1 b (after_expiries u n a l) ≡ after_expiries u (n + 1) (a + b) l
-states-then true n a b l few = ap (λ k. record l { buffered_amount = k }) (omega arith)
-states-then false n a b l few =
-    let left : (l.buffered_amount - a) - b ≡ l.buffered_amount - (a + b) = omega arith in
-    let number : ((l.sequence_number + (2 ^ 16 - n)) % 2 ^ 16 + (2 ^ 16 - 1)) % 2 ^ 16 ≡ (l.sequence_number + (2 ^ 16 - (n + 1))) % 2 ^ 16 = omega arith in
-    ap (λ k. record l { buffered_amount = k; sequence_number = ((l.sequence_number + (2 ^ 16 - n)) % 2 ^ 16 + (2 ^ 16 - 1)) % 2 ^ 16 }) left
-    ∙ ap (λ k. record l { buffered_amount = l.buffered_amount - (a + b); sequence_number = k }) number
+states-then : (u : Bool) (n a b : ℕ) (l : OutboundStream) → n + 1 < 2 ^ 16 → after_expiries u 1 b (after_expiries u n a l) ≡ after_expiries u (n + 1) (a + b) l
+states-then u n a b l h6 = grind (arith, nat_tests)
 
-abbrev after_first : Bool → ℕ → ℕ → StreamState → Bool → StreamState
+abbrev after_first : Bool → ℕ → ℕ → OutboundStream → Bool → OutboundStream
 after_first u n a l k = if k then after_expiries u n a l else l
 
-abbrev after_both : ℕ → Bool → ℕ → ℕ → ℕ → StreamState → Bool → StreamState
+abbrev after_both : ℕ → Bool → ℕ → ℕ → ℕ → OutboundStream → Bool → OutboundStream
 after_both s u n a b l k = if has_number s (after_first u n a l k) then after_expiries u 1 b (after_first u n a l k) else after_first u n a l k
 
-heads : (s : ℕ) (u : Bool) (n a b : ℕ) (l : StreamState) → n + 1 < 2 ^ 16 → (k : Bool) → has_number s l ≡ k
+heads : (s : ℕ) (u : Bool) (n a b : ℕ) (l : OutboundStream) → n + 1 < 2 ^ 16 → (k : Bool) → has_number s l ≡ k
     → after_both s u n a b l (has_number s l) ≡ after_first u (n + 1) (a + b) l (has_number s l)
-heads s true n a b l few true e =
-    ap (after_both s true n a b l) e ∙ ap (λ (k : Bool). if k then after_expiries true 1 b (after_expiries true n a l) else after_expiries true n a l) e
-    ∙ states-then true n a b l few ∙ sym (ap (after_first true (n + 1) (a + b) l) e)
-heads s false n a b l few true e =
-    ap (after_both s false n a b l) e ∙ ap (λ (k : Bool). if k then after_expiries false 1 b (after_expiries false n a l) else after_expiries false n a l) e
-    ∙ states-then false n a b l few ∙ sym (ap (after_first false (n + 1) (a + b) l) e)
-heads s u n a b l few false e =
-    ap (after_both s u n a b l) e ∙ ap (λ (k : Bool). if k then after_expiries u 1 b l else l) e ∙ sym (ap (after_first u (n + 1) (a + b) l) e)
+heads s u n a b l h7 k h9 = grind (arith, nat_tests, states-then)
 
-streams-then : (s : ℕ) (u : Bool) (n a b : ℕ) → n + 1 < 2 ^ 16 → (ls : List StreamState)
+streams-then : (s : ℕ) (u : Bool) (n a b : ℕ) → n + 1 < 2 ^ 16 → (ls : List OutboundStream)
     → change_where (has_number s) (after_expiries u 1 b) (change_where (has_number s) (after_expiries u n a) ls)
     ≡ change_where (has_number s) (after_expiries u (n + 1) (a + b)) ls
 streams-then s u n a b few [] = refl
 streams-then s u n a b few (l ∷ ls) =
-    ap₂ (λ (x : StreamState) (xs : List StreamState). x ∷ xs) (heads s u n a b l few (has_number s l) refl) (streams-then s u n a b few ls)
+    ap₂ (λ (x : OutboundStream) (xs : List OutboundStream). x ∷ xs) (heads s u n a b l few (has_number s l) refl) (streams-then s u n a b few ls)
 
 -- a message that leaves takes its bytes with it
 leaves-le : (o : Option ChunkPayloadData) (q : Outbound) → total_bytes (expired_of o q) ≤ total_bytes q
 leaves-le None q = omega arith
-leaves-le (Some c) q = by c.unordered
-  where
-    left : Pending
-    left = without c.message_id q.pending
-
-    fewer : (cs : List ChunkPayloadData) → bytes_of (without_message c.message_id cs) ≤ bytes_of cs
-    fewer cs = removed_le (λ (x : ChunkPayloadData). not (is_of c.message_id x)) cs
-
-    lower : bytes_of (change_where (is_on c.stream_identifier) one_lower left.ordered) ≡ bytes_of left.ordered
-    lower = bytes_of-change_where (is_on c.stream_identifier) one_lower (λ x. refl) left.ordered
-
-    by : (b : Bool) → total_bytes (record q { pending = if b then left else closed_up c.stream_identifier left }) ≤ total_bytes q
-    by true = omega (arith, fewer q.pending.ordered, fewer q.pending.unordered)
-    by false = omega (arith, fewer q.pending.ordered, fewer q.pending.unordered, lower)
+leaves-le (Some c) q = grind (arith, nat_tests, bytes_of-change_where, removed_le)
 
 module _ (now s : ℕ) (u : Bool) (t : Transmission) where
   -- what waits once so many expired, and their bytes
@@ -190,12 +141,7 @@ module _ (now s : ℕ) (u : Bool) (t : Transmission) where
   run-dropped : (n bytes : ℕ) (new : Transmission) → AreExpiredOf s u now n t.flight.queue → 0 < n → n < 2 ^ 16
       → new ≡ after_expire_run s u n bytes now t → held_by_sender new + bytes ≡ held_by_sender t
       → Gives (λ x. bytes_for x s bytes) now t new
-  run-dropped zero bytes new are some few made held = absurd (omega (arith, some))
-  run-dropped (suc n) bytes new are some few made held =
-      let same : held_by_sender new ≡ total_bytes (left (suc n)) = ap held_by_sender made in
-      let b : bytes ≡ gone (suc n) = omega (arith, held, same) in
-      gives-as (λ x. bytes_for x s (gone (suc n))) (λ x. bytes_for x s bytes) (λ x. ap (bytes_for x s) (sym b)) now t new
-      (subst (λ v. Gives (λ x. bytes_for x s (gone (suc n))) now t v) (sym (made ∙ ap (λ k. after_expire_run s u (suc n) k now t) b)) (run-drops n are few))
+  run-dropped n bytes new h4 h5 h6 h7 h8 = grind (arith, nat_tests, gives-as, run-drops)
 
 -- ## The rest of a message
 

@@ -1,68 +1,33 @@
 -- Sessions that can end: each chunk in flight that was lost is sent again, and taken.
-use Rattle.std.proofs.Common.{◌≡◌, ℕ, zero, suc, ◌^◌, ◌<◌, ◌≤◌, Bool, true, false, not, List, [], ◌∷◌, length, get_or, Option, Some, None, is_some, inl, inr}
-use Rattle.std.proofs.Common.{refl, ap, sym, subst, ◌∙◌, arith, ◌+◌, ◌%◌}
-use Rattle.std.specs.Prelude.{◌==◌, ◌||◌, All, Contains, find, if◌then◌else◌, nat_le, ◌&&◌}
-use Rattle.std.specs.List.{list_any, filter, list_all, sum_by}
-use Rattle.std.proofs.lemmas.Bool.Decides.{nat_tests}
-use Rattle.std.proofs.lemmas.List.{get_or_default}
-use Rattle.std.proofs.lemmas.Bool.{cases_lt}
-use Rattle.sctp_util.proofs.Cases.{or-left, or-split, same-is, same-yes, some-same}
-use Rattle.sctp_util.proofs.Edits.{length-change_where}
-use Rattle.sctp_util.proofs.More.{fails, not_both, and, both}
-use Rattle.sctp_util.proofs.Round.{distance-tsn, tsn}
-use Rattle.sctp_util.specs.Lists.{change_where, Seen, advance_over}
-use Rattle.sctp_util.specs.Serial.{at_or_before, distance}
-use Rattle.sctp_data.specs.PayloadData.{data_of}
-use Rattle.sctp_data.specs.declared.chunk.chunk_payload_data.ChunkPayloadData.{ChunkPayloadData}
-use Rattle.sctp_reassembly.specs.reassembly_queue.ReassemblyQueue.{ReassemblyState, after_ordered_push, is_complete_with}
-use Rattle.sctp_receiver.specs.Inbound.{Pushes, PushesAs, has_number, with_queue}
-use Rattle.sctp_receiver.specs.Receiver.{Reception, arrival_refusal, filter_of, is_open, stream_of, with_filter, follow_forward_tsn, is_stale, message_of}
-use Rattle.sctp_receiver.specs.Receiver.{window}
-use Rattle.sctp_receiver.specs.TsnFilter.{has_come, with_tsn}
-use Rattle.sctp_receiver.specs.declared.receiver.arrival.Arrival.{Arrival}
-use Rattle.sctp_receiver.specs.declared.receiver.arrival.Arrival.TheVariants.{New, Repeat}
-use Rattle.sctp_receiver.specs.declared.receiver.inbound_streams.InboundStream.{InboundStream}
-use Rattle.sctp_serial.specs.DataChunks.{has_tsn}
-use Rattle.sctp_sender.specs.Flight.{Flight, can_resend, after_sack, is_outdated, reports_anew, take_sack}
-use Rattle.sctp_sender.specs.Resending.{count_again, resent_at, sent_again}
-use Rattle.sctp_sender.specs.Sender.{with_flight, Transmission}
-use Rattle.sctp_sender.specs.SenderRuns.{Ledger}
-use Rattle.sctp_delivery.specs.Complete.{reads_nothing}
-use Rattle.sctp_delivery.specs.ReceiverCalls.{takes, follows, reports}
-use Rattle.sctp_delivery.specs.Rounds.{flight_of, in_flight, IsCaughtUp, chunks_left}
-use Rattle.sctp_delivery.specs.Sacks.{passes, tsns_given, was_passed, was_taken}
-use Rattle.sctp_delivery.specs.SenderCalls.{Made, data_chunk, resends, forward_tsn, forwards, takes_sack}
-use Rattle.sctp_delivery.specs.Session.{ReceiverFollows, SenderFollows, Session, of_receiver, of_sender}
-use Rattle.sctp_delivery.proofs.Answered.{ahead-of-sacks, leaves-fewer}
+use Rattle.sctp_delivery.proofs.Names.{◌≡◌, ℕ, zero, suc, ◌^◌, ◌<◌, ◌≤◌, Bool, true, false, not, List, [], ◌∷◌, length, get_or, Option, Some, None, is_some}
+use Rattle.sctp_delivery.proofs.Names.{inl, inr, refl, ap, sym, subst, ◌∙◌, arith, ◌+◌, ◌%◌, ◌==◌, ◌||◌, All, Contains, find, if◌then◌else◌, nat_le, ◌&&◌}
+use Rattle.sctp_delivery.proofs.Names.{list_any, filter, list_all, sum_by, nat_tests, get_or_default, cases_lt, or-left, or-split, same-is, same-yes, some-same}
+use Rattle.sctp_delivery.proofs.Names.{length-change_where, fails, not_both, and, both, distance-tsn, tsn, change_where, Seen, advance_over, at_or_before}
+use Rattle.sctp_delivery.proofs.Names.{distance, data_of, ChunkPayloadData, ReassemblyState, after_ordered_push, Pushes, PushesAs, with_queue, Reception}
+use Rattle.sctp_delivery.proofs.Names.{arrival_refusal, filter_of, is_open, stream_of, with_filter, follow_forward_tsn, is_stale, window, has_come, with_tsn}
+use Rattle.sctp_delivery.proofs.Names.{New, InboundStream, has_tsn, Flight, can_resend, after_sack, count_again, resent_at, sent_again, with_flight}
+use Rattle.sctp_delivery.proofs.Names.{Transmission, Ledger, reads_nothing, takes, follows, flight_of, in_flight, IsCaughtUp, chunks_left, passes, tsns_given}
+use Rattle.sctp_delivery.proofs.Names.{was_passed, was_taken, Made, data_chunk, resends, forward_tsn, forwards, takes_sack, ReceiverFollows, SenderFollows}
+use Rattle.sctp_delivery.proofs.Names.{Session, of_receiver, of_sender, none-some, ForwardTsn, Sack, ChunkForwardTsnStream, as_acknowledged, cost_of, Stand}
+use Rattle.sctp_delivery.proofs.Names.{after_forward_tsn, without_incomplete, advanced_ack_point, named_up_to, skip_end, chunks_waiting, reads_nothing_on}
+use Rattle.sctp_reassembly.specs.reassembly_queue.ReassemblyQueue.{is_complete_with}
+use Rattle.sctp_receiver.specs.Inbound.{has_number}
+use Rattle.sctp_delivery.specs.ReceiverCalls.{reports}
+use Rattle.sctp_delivery.proofs.RoundsEnd.{ahead-of-sacks, leaves-fewer, all-go-on, found-in, same-next, same-pending, reporting-of}
 use Rattle.sctp_delivery.proofs.ArrivedTsns.{IsArrived, IsKnown}
-use Rattle.sctp_delivery.proofs.EndReads.{Rests, ends-open, ends-read, rests-same, rests-then}
-use Rattle.sctp_delivery.proofs.EndRoom.{due, is_due, less-due, none-refused, price, same-due, spent, taken-cost, due_by, followed-cost, sack-due, waiting_cost}
-use Rattle.sctp_delivery.proofs.EndSteps.{At, Ends, Setting, apart-at, at-same, kept-at, long-enough, no-distance, reached, receiver-before, sender-before}
-use Rattle.sctp_delivery.proofs.EndSteps.{start}
+use Rattle.sctp_delivery.proofs.EndSteps.{Rests, ends-open, ends-read, rests-same, rests-then, due, is_due, less-due, none-refused, price, same-due, spent}
+use Rattle.sctp_delivery.proofs.EndSteps.{taken-cost, due_by, followed-cost, sack-due, waiting_cost, At, Ends, Setting, apart-at, at-same, kept-at, long-enough}
+use Rattle.sctp_delivery.proofs.EndSteps.{no-distance, reached, receiver-before, sender-before, start}
 use Rattle.sctp_delivery.proofs.Every.{Every, all-of-every, every-at, every-of-all, one-of, every-passing}
 use Rattle.sctp_delivery.proofs.GivenTsns.{IsNumbered, flight-given, passable-skip}
 use Rattle.sctp_delivery.proofs.PushesExist.{unordered-pushed, named, names}
 use Rattle.sctp_delivery.proofs.RefusedLaw.{limits-same, none-read-with-room}
 use Rattle.sctp_delivery.proofs.SackLaws.{pass-abandoned}
 use Rattle.sctp_delivery.proofs.SackSteps.{known}
-use Rattle.sctp_delivery.proofs.SentAgain.{all-go-on, found-in}
 use Rattle.sctp_delivery.proofs.TsnPlaces.{IsGiven, at-or-before, base, next-place, same-place}
-use Rattle.std.proofs.lemmas.Option.{none-some}
-use Rattle.sctp_data.specs.ForwardTsn.{ForwardTsn}
-use Rattle.sctp_data.specs.SelectiveAck.{Sack}
-use Rattle.sctp_data.specs.declared.chunk.chunk_forward_tsn.ChunkForwardTsnStream.{ChunkForwardTsnStream}
-use Rattle.sctp_outbound.specs.Marks.{as_acknowledged}
-use Rattle.sctp_receiver.specs.Limits.{cost_of}
-use Rattle.sctp_receiver.specs.ReceiverRuns.{Stand}
-use Rattle.sctp_receiver.specs.Skips.{after_forward_tsn, without_incomplete}
-use Rattle.sctp_sender.specs.Abandonment.{advanced_ack_point, named_up_to, skip_end}
-use Rattle.sctp_delivery.specs.Ending.{chunks_waiting}
-use Rattle.sctp_delivery.specs.Refused.{reads_nothing_on}
 use Rattle.sctp_delivery.proofs.Delivered.{next_tsn}
 use Rattle.sctp_delivery.proofs.ForwardLaw.{none-made}
 use Rattle.sctp_delivery.proofs.InTheEnd.{unread-of}
-use Rattle.sctp_delivery.proofs.RoundsEnd.{same-next, same-pending}
-use Rattle.sctp_delivery.proofs.SackCalls.{reporting-of}
 use Rattle.sctp_delivery.proofs.Taking.{can}
 
 -- ## What is due
@@ -71,14 +36,7 @@ use Rattle.sctp_delivery.proofs.Taking.{can}
 none-due : (accepted cs : List ChunkPayloadData) → list_any (is_due accepted) cs ≡ false
     → Every (λ c. c.abandoned ≡ false → list_any (has_tsn c.tsn) accepted ≡ true) cs
 none-due accepted [] e = tt
-none-due accepted (c ∷ cs) e = by c.abandoned (list_any (has_tsn c.tsn) accepted) refl refl e (none-due accepted cs)
-  where
-    by : (a k : Bool) → c.abandoned ≡ a → list_any (has_tsn c.tsn) accepted ≡ k → (not (a || k) || list_any (is_due accepted) cs) ≡ false
-        → (list_any (is_due accepted) cs ≡ false → Every (λ d. d.abandoned ≡ false → list_any (has_tsn d.tsn) accepted ≡ true) cs)
-        → Every (λ d. d.abandoned ≡ false → list_any (has_tsn d.tsn) accepted ≡ true) (c ∷ cs)
-    by true k g h f ih = (λ kept. absurd (not_both (sym kept ∙ g)), ih f)
-    by false true g h f ih = (λ kept. h, ih f)
-    by false false g h f ih = absurd (not_both (sym f))
+none-due accepted (c ∷ cs) e = grind (arith, nat_tests, not_both, none-due accepted cs)
 
 -- ## A chunk is taken
 
@@ -114,25 +72,7 @@ module _ (c : ChunkPayloadData) (s : Session) (l : InboundStream) (found : strea
 
   takes-one : Contains s.made (data_chunk (data_of c)) → arrival_refusal c s.receiving.receiver ≡ None → has_come c.tsn (filter_of s.receiving.receiver) ≡ false
       → ReceiverFollows (takes c (New (queued c l.queue).complete)) s after_takes
-  takes-one handed accepted fresh = record {
-    handed = handed;
-    step = record {
-      receiver = record {
-        stream = l;
-        found = found;
-        queue = (queued c l.queue).queue;
-        pushed = (queued c l.queue).pushed;
-        after = refl;
-      };
-      accepted = refl;
-      read = refl;
-    };
-    accepted = (
-      accepted,
-      sym (ap (λ b. let a : Arrival = if b then Repeat else New (queued c l.queue).complete in a) fresh),
-    );
-    after = refl;
-  }
+  takes-one handed accepted fresh = grind (arith, nat_tests, queued)
 
 -- ## A chunk is sent again
 
@@ -145,14 +85,7 @@ after_resends now c s =
 
 resends-one : (now : ℕ) (c : ChunkPayloadData) (s : Session) → can_resend c.tsn (flight_of s) ≡ true → find (has_tsn c.tsn) (in_flight s) ≡ Some c
     → SenderFollows (resends c.tsn now c) s (after_resends now c s)
-resends-one now c s can found = record {
-  handed = tt;
-  step = record { sender = refl; written = omega arith; released = omega arith; taken_back = omega arith };
-  exact = tt;
-  accepted = (can, found);
-  answered = tt;
-  after = refl;
-}
+resends-one now c s can found = grind (arith, nat_tests)
 
 -- ## All are taken
 
@@ -177,10 +110,13 @@ IsFoundIn s c = IsFound s.sending.sender.flight s.receiving.accepted s.made c
 
 -- the same where these stay
 found-still : (s t : Session) (c : ChunkPayloadData) → Rests s t → IsFoundIn s c → IsFoundIn t c
-found-still s t c x f =
-    subst (λ (l : Ledger). IsFound l.sender.flight t.receiving.accepted t.made c) (sym x.sending)
-    (subst (λ xs. IsFound s.sending.sender.flight xs t.made c) (sym x.accepted)
-    (subst (λ ms. IsFound s.sending.sender.flight s.receiving.accepted ms c) (sym x.made) f))
+found-still s t c x f = grind (arith, nat_tests)
+
+-- as much is due
+due-still : (w : ChunkPayloadData → ℕ) (s t : Session) → t.sending ≡ s.sending → t.receiving.accepted ≡ s.receiving.accepted
+    → due_by w t.receiving.accepted (in_flight t) ≡ due_by w s.receiving.accepted (in_flight s)
+due-still w s t sent came =
+    ap (λ (l : Ledger). due_by w t.receiving.accepted l.sender.flight.queue.inflight.chunks) sent ∙ ap (λ xs. due_by w xs (in_flight s)) came
 
 -- one that is due
 record IsDue (accepted : List ChunkPayloadData) (c : ChunkPayloadData) : Type 0 where
@@ -188,36 +124,15 @@ record IsDue (accepted : List ChunkPayloadData) (c : ChunkPayloadData) : Type 0 
   untaken : list_any (has_tsn c.tsn) accepted ≡ false
 
 due-parts : (accepted : List ChunkPayloadData) (c : ChunkPayloadData) → is_due accepted c ≡ true → IsDue accepted c
-due-parts accepted c e = by c.abandoned (list_any (has_tsn c.tsn) accepted) refl refl e
-  where
-    by : (a k : Bool) → c.abandoned ≡ a → list_any (has_tsn c.tsn) accepted ≡ k → not (a || k) ≡ true → IsDue accepted c
-    by true k g h f = absurd (not_both f)
-    by false true g h f = absurd (not_both f)
-    by false false g h f = record { kept = g; untaken = h }
+due-parts accepted c e = grind (arith, nat_tests, not_both)
 
 can-again : (s : Session) (c : ChunkPayloadData) → IsFoundIn s c → IsDue s.receiving.accepted c → can_resend c.tsn (flight_of s) ≡ true
-can-again s c f d = elim (or-split (can_resend c.tsn (flight_of s)) (was_taken c.tsn s || c.abandoned) f.goes-on) [
-  | inl e ↦ e
-  | inr e ↦ elim (or-split (was_taken c.tsn s) c.abandoned e) [
-    | inl t ↦ absurd (not_both (sym d.untaken ∙ t))
-    | inr t ↦ absurd (not_both (sym d.kept ∙ t))
-  ]
-]
+can-again s c f d = grind (arith, nat_tests, not_both, or-split)
 
 -- what came is known
 come-known : (p n : ℕ) (kn : ℕ → Bool) (r : Reception) → n < 2 ^ 31 → IsArrived p n kn r.cumulative_tsn r.beyond → (t : ℕ) → IsGiven p n t
     → has_come t (filter_of r) ≡ true → kn t ≡ true
-come-known p n kn r few h t g e = elim (or-split (at_or_before t r.cumulative_tsn) (list_any (λ u. u == t) r.beyond) e) [
-  | inl a ↦
-      let within = g.within in
-      let most = h.within in
-      let order : nat_le g.place h.place ≡ true =
-      sym (at-or-before p g.place h.place (omega (arith, within, few)) (omega (arith, most, few)))
-      ∙ ap (λ u. at_or_before u (tsn p h.place)) (sym g.is) ∙ ap (at_or_before t) (sym h.is) ∙ a in
-      let le : g.place ≤ h.place = grind (arith, nat_tests, order) in
-      ap kn g.is ∙ h.so_far g.place g.some le
-  | inr a ↦ let one = one-of (IsKnown p n kn) (λ u. u == t) r.beyond a h.each in ap kn (sym (same-is one.0 t one.1)) ∙ one.2.so
-]
+come-known p n kn r few h t g e = grind (arith, nat_tests, at-or-before, one-of, or-split, same-is)
 
 some-of : {A : Type 0} (o : Option A) → is_some o ≡ true → (x : A) × (o ≡ Some x)
 some-of None e = absurd (not_both e)
@@ -230,6 +145,9 @@ record Nearer (s t : Session) : Type 0 where
   sacks : t.sacks ≡ s.sacks
   few : spent t ≤ spent s
   fewer : due t.receiving.accepted (in_flight t) < due s.receiving.accepted (in_flight s)
+
+nearer-then : (s u t : Session) → Rests s u → Nearer u t → Nearer s t
+nearer-then s u t x y = grind (arith, nat_tests, due-still)
 
 module _ (b : Setting) where
   pub few-given : (n : ℕ) (s : Session) (i : At b n s) → tsns_given (start b) i.calls s i.run < 2 ^ 31
@@ -265,18 +183,7 @@ module _ (b : Setting) where
         let total = step.numbered.total in
         let within = g.within in
         let most = step.arrived.within in
-        elim (cases_lt step.arrived.place g.place) [
-          | inl lt ↦
-              let far = distance-tsn (base b.first) step.arrived.place g.place (omega (arith, lt)) (omega (arith, within, few)) in
-              let same = ap (λ t. distance t c.tsn) step.arrived.is ∙ ap (distance (tsn (base b.first) step.arrived.place)) g.is in
-              omega (arith, far, same, total, within, up)
-          | inr ge ↦
-              let order : nat_le g.place step.arrived.place ≡ true = grind (arith, nat_tests, ge) in
-              absurd (not_both (sym fresh ∙ or-left (at_or_before c.tsn s.receiving.receiver.cumulative_tsn)
-              (list_any (λ u. u == c.tsn) s.receiving.receiver.beyond)
-              (ap (at_or_before c.tsn) step.arrived.is ∙ ap (λ t. at_or_before t (tsn (base b.first) step.arrived.place)) g.is
-              ∙ at-or-before (base b.first) g.place step.arrived.place (omega (arith, within, few)) (omega (arith, most, few)) ∙ order)))
-        ]
+        grind (arith, nat_tests, at-or-before, cases_lt, distance-tsn, fresh, not_both, or-left)
 
     unrefused : reads_nothing s.receiving.receiver ≡ true → is_open c.stream_identifier s.receiving.receiver ≡ true
         → arrival_refusal c s.receiving.receiver ≡ None
@@ -300,6 +207,8 @@ module _ (b : Setting) where
       let t = after_takes c u l.0 l.1 in
       let taking = takes-one c u l.0 l.1 (0, omega arith, refl) (unrefused n s i c f d none there) (fresh n s i c f d) in
       let zero' = no-distance b n s i in
+      let ones = same-due (λ x. 1) (λ k m x. refl) (c ∷ s.receiving.accepted) (has_tsn c.tsn) (count_again c) b.now (in_flight s) in
+      let lt = less-due (λ x. 1) c s.receiving.accepted (in_flight s) e f.found in
       sender-before b (resends c.tsn b.now c) s u again (same-yes b.now) (omega (arith, zero'))
       (receiver-before b n (takes c (New (queued c (l.0).queue).complete)) u t j taking
       (next t (at-same b n (of_receiver (takes c (New (queued c (l.0).queue).complete))) u t taking refl refl (omega arith)
@@ -309,31 +218,17 @@ module _ (b : Setting) where
       let less = less-due price c s.receiving.accepted (in_flight s) e f.found in
       omega (arith, more, before, less, price-same)) j) (record {
         pending = refl;
-        as_many = length-change_where (has_tsn c.tsn) (sent_again (count_again c) b.now) (in_flight s);
+        as_many = long;
         sacks = refl;
-        few =
-            let same = same-due (λ x. 1) (λ k m x. refl) (c ∷ s.receiving.accepted) (has_tsn c.tsn) (count_again c) b.now (in_flight s) in
-            let lt = less-due (λ x. 1) c s.receiving.accepted (in_flight s) e f.found in
-            omega (arith, same, lt);
-        fewer =
-            let same = same-due (λ x. 1) (λ k m x. refl) (c ∷ s.receiving.accepted) (has_tsn c.tsn) (count_again c) b.now (in_flight s) in
-            let lt = less-due (λ x. 1) c s.receiving.accepted (in_flight s) e f.found in
-            omega (arith, same, lt);
+        few = omega (arith, ones, lt);
+        fewer = omega (arith, ones, lt);
       })))
 
   deliver-one : (n : ℕ) (s : Session) → At b n s → reads_nothing s.receiving.receiver ≡ true → (c : ChunkPayloadData) → IsFoundIn s c
       → is_due s.receiving.accepted c ≡ true → ((t : Session) → At b n t → Nearer s t → Ends b t) → Ends b s
   deliver-one n s i none c f e next = ends-open b c.stream_identifier n s i (λ u j o.
-      let x = o.rests in
-      let same = ap (λ (l : Ledger). due u.receiving.accepted l.sender.flight.queue.inflight.chunks) x.sending
-      ∙ ap (λ xs. due xs (in_flight s)) x.accepted in
-      deliver-open n u j (o.unread none) c (found-still s u c x f) (ap (λ xs. is_due xs c) x.accepted ∙ e) o.there (λ t k y. next t k (record {
-        pending = y.pending ∙ ap (λ (l : Ledger). l.sender.flight.queue.pending) x.sending;
-        as_many = y.as_many ∙ ap (λ (l : Ledger). length l.sender.flight.queue.inflight.chunks) x.sending;
-        sacks = y.sacks ∙ x.sacks;
-        few = let le = y.few in let made = ap length x.made in omega (arith, le, made, same);
-        fewer = let lt = y.fewer in omega (arith, lt, same);
-      })))
+      deliver-open n u j (o.unread none) c (found-still s u c o.rests f) (ap (λ xs. is_due xs c) o.rests.accepted ∙ e) o.there
+      (λ t k y. next t k (nearer-then s u t o.rests y)))
 
   -- where each was taken, it can end
   abbrev pub EndsDelivered : ℕ → Session → Type 0
@@ -348,25 +243,13 @@ module _ (b : Setting) where
         pending = ap (λ (l : Ledger). l.sender.flight.queue.pending) x.sending;
         as_many = ap (λ (l : Ledger). length l.sender.flight.queue.inflight.chunks) x.sending;
         sacks = x.sacks;
-        few =
-            let made = ap length x.made in
-            let same = ap (λ (l : Ledger). due u.receiving.accepted l.sender.flight.queue.inflight.chunks) x.sending
-            ∙ ap (λ xs. due xs (in_flight s)) x.accepted in
-            omega (arith, made, same);
+        few = let made = ap length x.made in let same = due-still (λ c. 1) s u x.sending x.accepted in omega (arith, made, same);
         taken = all-of-every (λ (c : ChunkPayloadData). c.abandoned ≡ false → was_taken c.tsn u ≡ true) (in_flight u)
             (none-due u.receiving.accepted (in_flight u) e);
       })
       by u j x none true e =
           let one = one-of (IsFoundIn u) (is_due u.receiving.accepted) (in_flight u) e (all-found n u j) in
-          let same = ap (λ (l : Ledger). due u.receiving.accepted l.sender.flight.queue.inflight.chunks) x.sending
-          ∙ ap (λ xs. due xs (in_flight s)) x.accepted in
-          deliver-one n u j none one.0 one.2 one.1 (λ t k y. more t k (record {
-            pending = y.pending ∙ ap (λ (l : Ledger). l.sender.flight.queue.pending) x.sending;
-            as_many = y.as_many ∙ ap (λ (l : Ledger). length l.sender.flight.queue.inflight.chunks) x.sending;
-            sacks = y.sacks ∙ x.sacks;
-            few = let le = y.few in let made = ap length x.made in omega (arith, le, made, same);
-            fewer = let lt = y.fewer in omega (arith, lt, same);
-          }))
+          deliver-one n u j none one.0 one.2 one.1 (λ t k y. more t k (nearer-then s u t x y))
 
   deliver-all : (m n : ℕ) (s : Session) → At b n s → due s.receiving.accepted (in_flight s) ≤ m → EndsDelivered n s → Ends b s
   deliver-all zero n s i le next = deliver-on n s i next (λ t j y. let lt = y.fewer in absurd (omega (arith, le, lt)))
@@ -395,11 +278,7 @@ record AreOpened (ns : List ChunkForwardTsnStream) (s t : Session) : Type 0 wher
   all : list_all (λ m. is_open m.identifier t.receiving.receiver) ns ≡ true
 
 nothing-on : (x : ℕ) (r : Reception) → reads_nothing r ≡ true → reads_nothing_on x r ≡ true
-nothing-on x r none = by (stream_of x r) refl
-  where
-    by : (o : Option InboundStream) → stream_of x r ≡ o → not (is_some (message_of o)) ≡ true
-    by None e = refl
-    by (Some l) e = ap (λ o. not (is_some o)) (unread-of x r.streams l none e)
+nothing-on x r none = grind (arith, nat_tests, is_some, unread-of)
 
 all-due : (ns : List ChunkForwardTsnStream) (r : Reception) → reads_nothing r ≡ true → list_all (λ m. is_open m.identifier r) ns ≡ true
     → list_all (λ m. is_open m.identifier r && reads_nothing_on m.identifier r) ns ≡ true
@@ -422,15 +301,7 @@ goes-up p n kn c (t ∷ ts) j few le is h = by (t == (c + 1) % 2 ^ 32) refl
         → (t ≡ tsn p (j + 1) → j + 1 ≤ n → (q : ℕ) × (j + 1 ≤ q) × (q ≤ n) × ((advance_over t ts).cum ≡ tsn p q))
         → (q : ℕ) × (j ≤ q) × (q ≤ n)
         × ((let s : Seen = if b then advance_over t ts else (let r : Seen = record { cum = c; held = t ∷ ts } in r) in s.cum) ≡ tsn p q)
-    by false e ih = (j, omega arith, le, is)
-    by true e ih =
-        let x = h.0 in
-        let within = x.within in
-        let next : t ≡ tsn p (j + 1) = same-is t ((c + 1) % 2 ^ 32) e ∙ ap (λ u. (u + 1) % 2 ^ 32) is ∙ next-place p j in
-        let one : x.place ≡ j + 1 = same-place p x.place (j + 1) (omega (arith, within, few)) (omega (arith, le, few)) (sym x.is ∙ next) in
-        let r = ih next (omega (arith, one, within)) in
-        let up = r.1 in
-        (r.0, omega (arith, up), r.2, r.3)
+    by b h2 h3 = grind (arith, nat_tests, next-place, same-is, same-place)
 
 module _ (b : Setting) (n : ℕ) (s : Session) (i : At b n s) (p : ℕ)
     (skip : skip_end (advanced_ack_point (flight_of s)) (flight_of s) ≡ Some p) where
@@ -533,10 +404,7 @@ module _ (b : Setting) where
 
   caught-by : (s : Session) (p : ℕ) → skip_end (advanced_ack_point (flight_of s)) (flight_of s) ≡ Some p → AreTaken s
       → at_or_before p s.receiving.receiver.cumulative_tsn ≡ true → IsCaughtUp s
-  caught-by s p e taken upto = record {
-    taken = taken;
-    followed = λ t h. ap (λ u. at_or_before u s.receiving.receiver.cumulative_tsn) (some-same (sym h ∙ e)) ∙ upto;
-  }
+  caught-by s p e taken upto = grind (arith, nat_tests, some-same)
 
   pub ends-caught-up : (n : ℕ) (s : Session) → At b n s → AreTaken s → EndsCaughtUp n s → Ends b s
   ends-caught-up n s i taken next = by (skip_end (advanced_ack_point (flight_of s)) (flight_of s)) refl
@@ -559,8 +427,7 @@ module _ (b : Setting) where
             sacks = sacks ∙ o.rests.sacks ∙ x.sacks;
             few =
                 let more = ap length (o.rests.made ∙ x.made) in
-                let due-same = ap (λ (y : Ledger). due t.receiving.accepted y.sender.flight.queue.inflight.chunks) sent
-                ∙ ap (λ cs. due cs (in_flight s)) came in
+                let due-same = due-still (λ c. 1) s t sent came in
                 omega (arith, more, made, due-same);
           }))))
 
@@ -570,12 +437,7 @@ module _ (b : Setting) where
       at p e false upto = forward p e
 
       by : (o : Option ℕ) → skip_end (advanced_ack_point (flight_of s)) (flight_of s) ≡ o → Ends b s
-      by None e = next s i (record {
-        caught = record { taken = taken; followed = λ t h. absurd (none-some t (sym e ∙ h)) };
-        sending = refl;
-        sacks = refl;
-        few = omega arith;
-      })
+      by None e = grind (arith, nat_tests, none-some)
       by (Some p) e = at p e (at_or_before p s.receiving.receiver.cumulative_tsn) refl
 
 -- ## A SACK
@@ -590,11 +452,7 @@ pub record Answered (s t : Session) : Type 0 where
 -- it makes no more due
 after-due : (w : ChunkPayloadData → ℕ) → ((c : ChunkPayloadData) → w (as_acknowledged c) ≤ w c) → (k : Sack) (accepted : List ChunkPayloadData) (f : Flight)
     → due_by w accepted (after_sack k f).queue.inflight.chunks ≤ due_by w accepted f.queue.inflight.chunks
-after-due w less k accepted f = by (is_outdated k f)
-  where
-    by : (b : Bool) → due_by w accepted (if b then f else take_sack k f).queue.inflight.chunks ≤ due_by w accepted f.queue.inflight.chunks
-    by true = omega arith
-    by false = sack-due w less accepted k.cumulative_tsn_ack (reports_anew k) f.queue.inflight.chunks
+after-due w less k accepted f = grind (arith, nat_tests, sack-due)
 
 module _ (b : Setting) where
   pub ends-answered : (n : ℕ) (s : Session) → At b n s → IsCaughtUp s → 0 < length (in_flight s)
@@ -611,8 +469,7 @@ module _ (b : Setting) where
       let came = same-there.accepted in
       let left = ap (λ (l : Ledger). chunks_left l.sender) sender in
       let held = ap (sum_by cost_of) streams in
-      let due-there = ap (λ (l : Ledger). due_by price u.receiving.accepted l.sender.flight.queue.inflight.chunks) sender
-      ∙ ap (λ cs. due_by price cs (in_flight s)) came in
+      let due-there = due-still price s u sender came in
       let waiting = ap (λ (l : Ledger). waiting_cost l.sender.flight.queue.pending) sender in
       let j = at-same b n (of_receiver a.call) s u a.reporting refl first (omega (arith, left)) (omega (arith, held, due-there, waiting)) i in
       let second : next_tsn t ≡ next_tsn u = same-next s t a ∙ sym first in
@@ -626,8 +483,7 @@ module _ (b : Setting) where
       let fewer-due = after-due price (λ x. omega arith) a.sack u.receiving.accepted u.sending.sender.flight in
       let due-same = ap (λ (x : Stand). due x.accepted (in_flight t)) same
       ∙ ap (λ (x : Transmission). due u.receiving.accepted x.flight.queue.inflight.chunks) a.taking.exact in
-      let due-first = ap (λ (l : Ledger). due u.receiving.accepted l.sender.flight.queue.inflight.chunks) sender
-      ∙ ap (λ cs. due cs (in_flight s)) came in
+      let due-first = due-still (λ c. 1) s u sender came in
       let due-less = after-due (λ x. 1) (λ x. omega arith) a.sack u.receiving.accepted u.sending.sender.flight in
       let sent-same = ap length (ap (λ (x : Session). x.made) a.taking.after ∙ ap (λ (x : Session). x.made) a.reporting.after) in
       let k = at-same b n (of_sender (takes_sack a.sack a.gone)) u t a.taking refl second (omega (arith, less, waits, left))

@@ -1,45 +1,21 @@
 -- Each session can end: round after round leaves fewer chunks, and then all that is to be read is read.
-use Rattle.std.proofs.Common.{◌≡◌, ℕ, zero, suc, ◌+◌, ◌-◌, ◌%◌, ◌^◌, ◌<◌, ◌≤◌, Bool, true, false, not, List, [], ◌∷◌, length, Option, Some, None, is_some, inl}
-use Rattle.std.proofs.Common.{inr, refl, ap, subst, ◌∙◌, arith}
-use Rattle.std.specs.Prelude.{◌*◌, ◌==◌, ◌&&◌, if◌then◌else◌, nat_le, nat_lt, slice_get}
-use Rattle.std.proofs.lemmas.Bool.{cases_lt}
-use Rattle.std.proofs.lemmas.Bool.Decides.{nat_tests}
-use Rattle.std.proofs.lemmas.List.Sums.{sum_by-cons}
-use Rattle.sctp_util.proofs.Cases.{and-none, same-yes}
-use Rattle.sctp_util.proofs.Edits.{length-change_where}
-use Rattle.sctp_util.proofs.More.{and, both, not_both}
-use Rattle.sctp_util.proofs.Round.{distance-tsn}
-use Rattle.sctp_util.specs.Lists.{change_where, insert_before}
-use Rattle.sctp_util.specs.Serial.{distance}
-use Rattle.sctp_data.specs.declared.chunk.chunk_payload_data.ChunkPayloadData.{ChunkPayloadData}
-use Rattle.sctp_outbound.proofs.lemmas.outbound_queue.Outbounds.{peeked_all_started}
-use Rattle.sctp_outbound.proofs.lemmas.outbound_queue.Sendable.{popped_bytes, sendable-sent}
-use Rattle.sctp_outbound.specs.declared.pending_queue.Selected.{Selected}
-use Rattle.sctp_outbound.specs.outbound_queue.OutboundQueue.{Outbound, all_started, as_sent, sent_next, sent_of}
-use Rattle.sctp_outbound.specs.pending_queue.PendingQueue.{Pending, chunk_count, front_of, is_to_start, list_of, list_to_pop, next_pending, next_pending_of}
-use Rattle.sctp_outbound.specs.pending_queue.PendingQueue.{start_pending, with_deadline}
-use Rattle.sctp_outbound.specs.pending_queue.Whole.{IsSendable, IsWhole, begun, free, stage_of}
-use Rattle.sctp_receiver.specs.declared.receiver.limits.Limits.{Limits}
-use Rattle.sctp_serial.specs.DataChunks.{bytes_of, chunk_before, following_tsn}
+use Rattle.sctp_delivery.proofs.Names.{◌≡◌, ℕ, zero, suc, ◌+◌, ◌-◌, ◌%◌, ◌^◌, ◌<◌, ◌≤◌, Bool, true, false, List, [], ◌∷◌, length, Option, Some, None, is_some}
+use Rattle.sctp_delivery.proofs.Names.{inl, inr, refl, ap, subst, ◌∙◌, arith, ◌==◌, if◌then◌else◌, nat_le, cases_lt, nat_tests, sum_by-cons, common_steps}
+use Rattle.sctp_delivery.proofs.Names.{and-none, same-yes, length-change_where, and, both, not_both, distance-tsn, change_where, insert_before, distance}
+use Rattle.sctp_delivery.proofs.Names.{ChunkPayloadData, peeked_all_started, sendable-sent, Selected, Outbound, all_started, as_sent, sent_next, sent_of}
+use Rattle.sctp_delivery.proofs.Names.{Pending, chunk_count, front_of, list_of, list_to_pop, next_pending, next_pending_of, with_deadline, IsSendable, IsWhole}
+use Rattle.sctp_delivery.proofs.Names.{begun, free, stage_of, Limits, bytes_of, chunk_before, following_tsn, started-inflight, Flight, next_after_send}
+use Rattle.sctp_delivery.proofs.Names.{send_refusal, with_flight, Ledger, EachOtherIsReadOnce, abandoned_in, is_all_acknowledged, reads_nothing, chunks_waiting}
+use Rattle.sctp_delivery.proofs.Names.{has_room, takes_all_of, chunks_left, in_flight, tsns_given, Made, made_after, next_chunk, sends, with_chunk, Call}
+use Rattle.sctp_delivery.proofs.Names.{RunsTo, SenderFollows, Session, at_start, of_sender}
+use Rattle.std.specs.Prelude.{◌*◌, slice_get}
+use Rattle.sctp_outbound.proofs.lemmas.outbound_queue.Sendable.{popped_bytes}
 use Rattle.sctp_sender.proofs.Amounts.{sent-bytes}
-use Rattle.sctp_sender.proofs.Flights.{started-inflight}
-use Rattle.sctp_sender.specs.Flight.{Flight, next_after_send}
-use Rattle.sctp_sender.specs.Numbers.{begins_ordered, first_ordered, past_number, refusal_of, send_refusal}
-use Rattle.sctp_sender.specs.Sender.{with_flight}
-use Rattle.sctp_sender.specs.SenderRuns.{Ledger}
-use Rattle.sctp_sender.specs.declared.sender.refusal.SenderRefusal.TheVariants.{SsnsUsedUp, TsnsUsedUp}
-use Rattle.sctp_delivery.specs.Abandoned.{EachOtherIsReadOnce, abandoned_in}
-use Rattle.sctp_delivery.specs.Complete.{is_all_acknowledged, reads_nothing}
-use Rattle.sctp_delivery.specs.Ending.{AfterEachSessionWithTsnsLeft, EndsWhereTaken, EndsWithAllRead, chunks_waiting, has_room, takes_all_of}
-use Rattle.sctp_delivery.specs.Rounds.{chunks_left, flight_of, in_flight}
-use Rattle.sctp_delivery.specs.Sacks.{tsns_given}
-use Rattle.sctp_delivery.specs.SenderCalls.{Made, made_after, next_chunk, sends, with_chunk}
-use Rattle.sctp_delivery.specs.Session.{Call, RunsTo, SenderFollows, Session, at_start, of_sender}
+use Rattle.sctp_delivery.specs.Ending.{AfterEachSessionWithTsnsLeft, EndsWhereTaken, EndsWithAllRead}
 use Rattle.sctp_delivery.proofs.Delivered.{next_tsn}
 use Rattle.sctp_delivery.proofs.EndDelivers.{ends-delivered, few-given, ends-answered, ends-caught-up}
-use Rattle.sctp_delivery.proofs.EndReads.{ends-read}
-use Rattle.sctp_delivery.proofs.EndRoom.{RoomIn, cost, due_by, few-spent, price, put-due, room-of, spent, waiting_cost}
-use Rattle.sctp_delivery.proofs.EndSteps.{At, Ends, Setting, at-next, kept-at, numbered-at, sender-before}
+use Rattle.sctp_delivery.proofs.EndSteps.{ends-read, RoomIn, cost, due_by, few-spent, price, put-due, room-of, spent, waiting_cost, At, Ends, Setting, at-next}
+use Rattle.sctp_delivery.proofs.EndSteps.{kept-at, numbered-at, sender-before}
 use Rattle.sctp_delivery.proofs.RefusedLaw.{fit-session, limits-same}
 use Rattle.sctp_delivery.proofs.NoneAbandoned.{each-of-others}
 use Rattle.sctp_delivery.proofs.Numbers.{number_of}
@@ -75,54 +51,18 @@ next-there q xs n s some = by q.selected s.ordered s.unordered
 
 put-length : (x : ChunkPayloadData) (cs : List ChunkPayloadData) → length (insert_before chunk_before x cs) ≡ length cs + 1
 put-length x [] = omega arith
-put-length x (c ∷ cs) = by (chunk_before x c) (put-length x cs)
-  where
-    by : (b : Bool) → length (insert_before chunk_before x cs) ≡ length cs + 1
-        → length (if b then x ∷ c ∷ cs else c ∷ insert_before chunk_before x cs) ≡ length (c ∷ cs) + 1
-    by true ih = omega arith
-    by false ih = omega (arith, ih)
+put-length x (c ∷ cs) = grind (arith, nat_tests, put-length x cs)
 
 -- a deadline costs nothing
 bytes-same : (p : ChunkPayloadData → Bool) (now : ℕ) (cs : List ChunkPayloadData) → bytes_of (change_where p (with_deadline now) cs) ≡ bytes_of cs
 bytes-same p now [] = refl
-bytes-same p now (c ∷ cs) = by (p c) (bytes-same p now cs)
-  where
-    by : (b : Bool) → bytes_of (change_where p (with_deadline now) cs) ≡ bytes_of cs
-        → bytes_of ((if b then with_deadline now c else c) ∷ change_where p (with_deadline now) cs) ≡ bytes_of (c ∷ cs)
-    by true ih =
-        let n = sum_by-cons (λ (d : ChunkPayloadData). length d.user_data) (with_deadline now c) (change_where p (with_deadline now) cs) in
-        let m = sum_by-cons (λ (d : ChunkPayloadData). length d.user_data) c cs in
-        omega (arith, n, m, ih)
-    by false ih =
-        let n = sum_by-cons (λ (d : ChunkPayloadData). length d.user_data) c (change_where p (with_deadline now) cs) in
-        let m = sum_by-cons (λ (d : ChunkPayloadData). length d.user_data) c cs in
-        omega (arith, n, m, ih)
+bytes-same p now (c ∷ cs) = grind (arith, common_steps, sum_by-cons, bytes-same p now cs)
 
 started-count : (now : ℕ) (q : Outbound) → chunk_count (all_started now q).pending ≡ chunk_count q.pending
-started-count now q = by (q.next_unstarted == q.next_message_id)
-  where
-    by : (b : Bool)
-        → chunk_count (if b then q else record q { pending = start_pending q.next_unstarted now q.pending; next_unstarted = q.next_message_id }).pending
-        ≡ chunk_count q.pending
-    by true = refl
-    by false =
-        let o = length-change_where (is_to_start q.next_unstarted) (with_deadline now) q.pending.ordered in
-        let u = length-change_where (is_to_start q.next_unstarted) (with_deadline now) q.pending.unordered in
-        omega (arith, o, u)
+started-count now q = grind (arith, nat_tests, length-change_where)
 
 started-waiting : (now : ℕ) (q : Outbound) → waiting_cost (all_started now q).pending ≡ waiting_cost q.pending
-started-waiting now q = by (q.next_unstarted == q.next_message_id)
-  where
-    by : (b : Bool)
-        → waiting_cost (if b then q else record q { pending = start_pending q.next_unstarted now q.pending; next_unstarted = q.next_message_id }).pending
-        ≡ waiting_cost q.pending
-    by true = refl
-    by false =
-        let o = length-change_where (is_to_start q.next_unstarted) (with_deadline now) q.pending.ordered in
-        let u = length-change_where (is_to_start q.next_unstarted) (with_deadline now) q.pending.unordered in
-        let x = bytes-same (is_to_start q.next_unstarted) now q.pending.ordered in
-        let y = bytes-same (is_to_start q.next_unstarted) now q.pending.unordered in
-        omega (arith, o, u, x, y)
+started-waiting now q = grind (arith, nat_tests, bytes-same, length-change_where)
 
 -- it waits no more, and is in flight, for its price
 record IsMoved (q r : Outbound) : Type 0 where
@@ -150,21 +90,7 @@ moved q tsn now s (Some c) e some = record {
 
 -- with nothing in flight none is refused
 unrefused : (f : Flight) → length f.queue.inflight.chunks ≡ 0 → send_refusal f ≡ None
-unrefused f none = by (next_pending f.queue.pending)
-  where
-    room : nat_lt (length f.queue.inflight.chunks + 1) (2 ^ 31) ≡ true
-    room = grind (arith, nat_tests, none)
-
-    near : nat_le (2 ^ 14) (length f.queue.inflight.chunks) ≡ false
-    near = grind (arith, nat_tests, none)
-
-    by : (o : Option ChunkPayloadData) → refusal_of o f ≡ None
-    by None = refl
-    by (Some c) =
-        ap (λ b. if not b then Some TsnsUsedUp else (if begins_ordered c && (nat_le (2 ^ 14) (length f.queue.inflight.chunks)
-        && nat_le (2 ^ 14) (past_number (first_ordered c.stream_identifier f) c)) then Some SsnsUsedUp else None)) room
-        ∙ ap (λ b. if begins_ordered c && (b && nat_le (2 ^ 14) (past_number (first_ordered c.stream_identifier f) c)) then Some SsnsUsedUp else None) near
-        ∙ ap (λ b. if b then Some SsnsUsedUp else None) (and-none (begins_ordered c))
+unrefused f none = grind (arith, nat_tests, and-none)
 
 -- no more than one chunk is made
 few-made : (o : Option ChunkPayloadData) (ms : List Made) → length (with_chunk o ms) ≤ length ms + 1
@@ -206,14 +132,7 @@ module _ (b : Setting) (n : ℕ) (s : Session) (i : At b n s) (none : length (in
   there = next-there q.pending q.inflight.chunks q.next_message_id sendable some
 
   sending : SenderFollows (sends b.now) s (after_sends b.now s)
-  sending = record {
-    handed = tt;
-    step = record { sender = sent-bytes next b.now q sendable; written = omega arith; released = omega arith; taken_back = omega arith };
-    exact = refl;
-    accepted = unrefused (flight_of s) none;
-    answered = tt;
-    after = refl;
-  }
+  sending = grind (arith, nat_tests, sendable, sent-bytes, unrefused)
 
   sent : Sent s (after_sends b.now s)
   sent =
@@ -356,12 +275,7 @@ module _ (tsn size max most : ℕ) (limits : Option Limits) (cs : List Call) (s 
       (nat_le s.sending.sender.max_message_size s.receiving.receiver.max_message_size) takes
 
   longer : max ≤ most
-  longer =
-      let fit = fit-session tsn size max most limits cs s run in
-      let sent = fit.sender in
-      let own = fit.streams.own in
-      let enough : s.sending.sender.max_message_size ≤ s.receiving.receiver.max_message_size = grind (arith, nat_tests, parts.1) in
-      omega (arith, sent, own, enough)
+  longer = grind (arith, nat_tests, fit-session)
 
   abbrev setting : Setting
   setting = record {
@@ -392,18 +306,7 @@ module _ (tsn size max most : ℕ) (limits : Option Limits) (cs : List Call) (s 
 pub all-end : AfterEachSessionWithTsnsLeft EndsWhereTaken
 all-end tsn size max most limits cs s small some run few takes now =
     let e = ends tsn size max most limits cs s small some run few takes now in
-    record {
-      calls = e.calls;
-      ended = e.ended;
-      run = e.run;
-      delivery = e.delivery;
-      given = e.given;
-      written = e.written;
-      sacks = e.sacks;
-      made = e.made;
-      exhausted = e.exhausted;
-      read = e.read;
-    }
+    grind (arith, nat_tests)
 
 pub all-read : AfterEachSessionWithTsnsLeft EndsWithAllRead
 all-read tsn size max most limits cs s small some run few none takes now =

@@ -1,26 +1,200 @@
--- Sessions that can end: a call in front of others that end one.
-use Rattle.std.proofs.Common.{◌≡◌, ℕ, ◌+◌, ◌-◌, ◌^◌, ◌<◌, ◌≤◌, true, List, [], ◌∷◌, ◌++◌, length, refl, ap, sym, subst, ◌∙◌, arith, Option}
-use Rattle.std.specs.List.{list_all}
-use Rattle.sctp_util.proofs.More.{and, not_both}
-use Rattle.sctp_util.proofs.Round.{distance-tsn}
-use Rattle.sctp_util.specs.Serial.{distance}
-use Rattle.sctp_receiver.proofs.StreamCosts.{are_apart}
-use Rattle.sctp_receiver.specs.Inbound.{numbers_of}
-use Rattle.sctp_receiver.specs.declared.receiver.limits.Limits.{Limits}
-use Rattle.sctp_delivery.specs.Abandoned.{EachOtherIsReadOnce, abandoned_by, abandoned_in}
-use Rattle.sctp_delivery.specs.Complete.{is_exhausted}
-use Rattle.sctp_delivery.specs.Ending.{chunks_waiting, is_delivery}
-use Rattle.sctp_delivery.specs.ReceiverCalls.{ReceiverCall}
-use Rattle.sctp_delivery.specs.Rounds.{chunks_left}
-use Rattle.sctp_delivery.specs.Sacks.{tsns_given}
-use Rattle.sctp_delivery.specs.SenderCalls.{SenderCall, Write, forwards, resends, sends, takes_sack, written_after}
-use Rattle.sctp_delivery.specs.Session.{Call, Follows, ReceiverFollows, RunsTo, SenderFollows, Session, at_start, of_receiver, of_sender}
+-- Sessions that can end: what is due, a call in front of others that end one, reads, and streams that are opened.
+use Rattle.sctp_delivery.proofs.Names.{◌≡◌, ℕ, ◌+◌, ◌<◌, ◌≤◌, Bool, true, false, not, List, [], ◌∷◌, ◌++◌, length, Option, Some, None, refl, ap, ◌∙◌, arith}
+use Rattle.sctp_delivery.proofs.Names.{◌-◌, ◌^◌, subst, zero, suc, is_some, sym, ◌||◌, find, if◌then◌else◌, ◌&&◌, list_any, sum_by, list_all, nat_tests}
+use Rattle.sctp_delivery.proofs.Names.{sum_by-cons, none-some, common_steps, and-none, same-yes, some-same, sum_by-inserted, both, and, not_both, change_where}
+use Rattle.sctp_delivery.proofs.Names.{insert_before, distance, ForwardTsn, ChunkPayloadData, as_acknowledged, past, Pending, chunk_count, ReassemblyState}
+use Rattle.sctp_delivery.proofs.Names.{Reassembly, front_readable, message_read, rest_read, without_first, Pushes, new_stream, stream_read}
+use Rattle.sctp_delivery.proofs.Names.{unassembled_forwarded, with_queue, cost_of, Reception, follow_forward_tsn, is_stale, new_refusal, is_open}
+use Rattle.sctp_delivery.proofs.Names.{after_forward_tsn, incomplete_forwarded, without_incomplete, InboundStream, Limits, bytes_of, chunk_before, has_tsn}
+use Rattle.sctp_delivery.proofs.Names.{sent_again, has_room, chunks_waiting, ReceiverCall, reads, chunks_left, in_flight, Call, ReceiverFollows, RunsTo}
+use Rattle.sctp_delivery.proofs.Names.{Session, of_receiver, of_sender, Follows, SenderFollows, at_start, distance-tsn, EachOtherIsReadOnce, abandoned_by}
+use Rattle.sctp_delivery.proofs.Names.{abandoned_in, is_exhausted, reads_nothing, tsns_given, SenderCall, Write, written_after, list_all-append, ChunkSet}
+use Rattle.std.proofs.Common.{◌*◌}
+use Rattle.sctp_outbound.specs.pending_queue.PendingQueue as pending
+use Rattle.sctp_receiver.proofs.DataEach.{takes-keeps}
+use Rattle.sctp_receiver.proofs.Forwarded.{followed-numbers}
+use Rattle.sctp_receiver.proofs.Inbounds.{stays-mapped}
+use Rattle.sctp_receiver.proofs.Receptions.{read-numbers}
+use Rattle.sctp_receiver.proofs.StreamCosts.{all-cost, are_apart, changed-cost, mapped-cost, more-apart, named-cost, one-changed, opened-cost}
+use Rattle.sctp_receiver.specs.Inbound.{has_number, named_forwarded, numbers_of}
+use Rattle.sctp_receiver.specs.Limits.{chunk_cost}
+use Rattle.sctp_receiver.specs.Receiver.{open_stream}
+use Rattle.sctp_delivery.specs.Ending.{is_delivery}
+use Rattle.sctp_delivery.specs.ReceiverCalls as incoming
+use Rattle.sctp_delivery.specs.ReceiverCalls.{opens}
 use Rattle.sctp_delivery.proofs.Delivered.{next_tsn}
-use Rattle.sctp_delivery.proofs.EndRoom.{RoomIn, apart-in, cost, room-still}
 use Rattle.sctp_delivery.proofs.GivenTsns.{IsNumbered}
 use Rattle.sctp_delivery.proofs.RefusedLaw.{fit-session}
 use Rattle.sctp_delivery.proofs.Reached.{HasKept, IsReached, kept}
 use Rattle.sctp_delivery.proofs.TsnPlaces.{base}
+use Rattle.sctp_delivery.proofs.OneRead.{read_of, reads-on}
+
+-- # Sessions that can end: what is due, and what a receiver with limits has room for
+
+-- ## What was not taken
+
+-- the message is not abandoned, and the chunk is none of those that were taken
+abbrev pub is_due : List ChunkPayloadData → ChunkPayloadData → Bool
+is_due accepted c = not (c.abandoned || list_any (has_tsn c.tsn) accepted)
+
+abbrev worth : ℕ → Bool → ℕ
+worth n b = if b then n else 0
+
+-- what the chunks that are due weigh
+abbrev pub due_by : (ChunkPayloadData → ℕ) → List ChunkPayloadData → List ChunkPayloadData → ℕ
+due_by w accepted cs = sum_by (λ c. worth (w c) (is_due accepted c)) cs
+
+-- as many are due
+abbrev pub due : List ChunkPayloadData → List ChunkPayloadData → ℕ
+due accepted cs = due_by (λ c. 1) accepted cs
+
+-- so many chunks were made, and are due
+abbrev pub spent : Session → ℕ
+spent s = length s.made + due s.receiving.accepted s.sending.sender.flight.queue.inflight.chunks
+
+module _ (w : ChunkPayloadData → ℕ) where
+  -- one more was taken
+  no-more-due : (x : ChunkPayloadData) (accepted : List ChunkPayloadData) (c : ChunkPayloadData)
+      → worth (w c) (is_due (x ∷ accepted) c) ≤ worth (w c) (is_due accepted c)
+  no-more-due x accepted c = grind (arith, nat_tests)
+
+  few-due : (x : ChunkPayloadData) (accepted cs : List ChunkPayloadData) → due_by w (x ∷ accepted) cs ≤ due_by w accepted cs
+  few-due x accepted [] = omega arith
+  few-due x accepted (c ∷ cs) = grind (arith, common_steps, no-more-due, sum_by-cons, few-due x accepted cs)
+
+  -- it was due, so less is
+  pub less-due : (x : ChunkPayloadData) (accepted cs : List ChunkPayloadData) → is_due accepted x ≡ true → find (has_tsn x.tsn) cs ≡ Some x
+      → due_by w (x ∷ accepted) cs + w x ≤ due_by w accepted cs
+  less-due x accepted [] h e = absurd (none-some x e)
+  less-due x accepted (c ∷ cs) h e = grind (arith, common_steps, few-due, no-more-due, same-yes, some-same, sum_by-cons, less-due x accepted cs h)
+
+  -- to send one again changes nothing in that
+  pub same-due : ((count now : ℕ) (c : ChunkPayloadData) → w (sent_again count now c) ≡ w c) → (accepted : List ChunkPayloadData)
+      (p : ChunkPayloadData → Bool) (count now : ℕ) (cs : List ChunkPayloadData)
+      → due_by w accepted (change_where p (sent_again count now) cs) ≡ due_by w accepted cs
+  same-due same accepted p count now [] = refl
+  same-due same accepted p count now (c ∷ cs) = grind (arith, common_steps, sum_by-cons, same-due same accepted p count now cs)
+
+  -- nor does a SACK make more due
+  pub sack-due : ((c : ChunkPayloadData) → w (as_acknowledged c) ≤ w c) → (accepted : List ChunkPayloadData) (tsn : ℕ) (p : ChunkPayloadData → Bool)
+      (cs : List ChunkPayloadData) → due_by w accepted (past tsn (change_where p as_acknowledged cs)) ≤ due_by w accepted cs
+  sack-due less accepted tsn p [] = omega arith
+  sack-due less accepted tsn p (c ∷ cs) = grind (arith, common_steps, sum_by-cons, sack-due less accepted tsn p cs)
+
+  -- one that is put in flight
+  pub put-due : (accepted : List ChunkPayloadData) (x : ChunkPayloadData) (cs : List ChunkPayloadData)
+      → due_by w accepted (insert_before chunk_before x cs) ≤ due_by w accepted cs + w x
+  put-due accepted x cs = grind (arith, nat_tests, sum_by-inserted)
+
+  -- no more is due than all weigh
+  pub all-due : (accepted cs : List ChunkPayloadData) → due_by w accepted cs ≤ sum_by w cs
+  all-due accepted [] = omega arith
+  all-due accepted (c ∷ cs) = grind (arith, common_steps, sum_by-cons, all-due accepted cs)
+
+-- ## What it costs
+
+-- a chunk counts for its bytes, and for its cost
+abbrev pub price : ChunkPayloadData → ℕ
+price c = length c.user_data + chunk_cost
+
+-- what waits
+abbrev pub waiting_cost : Pending → ℕ
+waiting_cost q = pending.total_bytes q + chunk_cost * chunk_count q
+
+-- what the receiver holds, what is due in flight, and what waits
+abbrev pub cost : Session → ℕ
+cost s =
+    sum_by cost_of s.receiving.receiver.streams
+    + (due_by price s.receiving.accepted s.sending.sender.flight.queue.inflight.chunks + waiting_cost s.sending.sender.flight.queue.pending)
+
+-- where there are limits, the receiver has room for all that
+abbrev pub RoomIn : Option Limits → Session → Type 0
+RoomIn None s = Unit {0}
+RoomIn (Some l) s = (chunks_left s.sending.sender ≤ l.reach) × (cost s < l.window)
+
+pub room-still : (o : Option Limits) (s t : Session) → chunks_left t.sending.sender ≤ chunks_left s.sending.sender → cost t ≤ cost s → RoomIn o s → RoomIn o t
+room-still None s t left less r = tt
+room-still (Some l) s t left less r = let a = r.0 in let b = r.1 in (omega (arith, left, a), omega (arith, less, b))
+
+all-price : (cs : List ChunkPayloadData) → sum_by price cs ≡ bytes_of cs + chunk_cost * length cs
+all-price [] = omega arith
+all-price (c ∷ cs) =
+    let n = sum_by-cons price c cs in
+    let m = sum_by-cons (λ (d : ChunkPayloadData). length d.user_data) c cs in
+    let ih = all-price cs in
+    omega (arith, n, m, ih)
+
+pub room-of : (o : Option Limits) (s : Session) → has_room o s.sending.sender s.receiving.receiver ≡ true → RoomIn o s
+room-of o s h3 = grind (arith, nat_tests, all-due, all-price, both)
+
+-- so no TSN in flight is refused for the limits
+pub none-refused : (o : Option Limits) (s : Session) (tsn : ℕ) → RoomIn o s → s.receiving.receiver.limits ≡ o
+    → distance s.receiving.receiver.cumulative_tsn tsn ≤ length (in_flight s) → new_refusal tsn s.receiving.receiver ≡ None
+none-refused o s tsn room is near = grind (arith, nat_tests, and-none)
+
+-- ## What a call makes of it
+
+pub read-cost : (stream : ℕ) (ls : List InboundStream) → sum_by cost_of (change_where (has_number stream) stream_read ls) ≤ sum_by cost_of ls
+read-cost stream ls = changed-cost cost_of (has_number stream) stream_read (all-cost 0).read ls
+
+pub open-cost : (stream max : ℕ) (ls : List InboundStream) → sum_by cost_of (ls ++ new_stream stream max ∷ []) ≡ sum_by cost_of ls
+open-cost stream max ls = opened-cost cost_of ls (new_stream stream max) ((all-cost 0).fresh stream max)
+
+pub followed-cost : (g : ForwardTsn) (r : Reception) → sum_by cost_of (after_forward_tsn g r).streams ≤ sum_by cost_of r.streams
+followed-cost g r = by (is_stale g r)
+  where
+    by : (b : Bool) → sum_by cost_of (if b then r else without_incomplete g.new_cumulative_tsn (if b then r else follow_forward_tsn g r)).streams
+        ≤ sum_by cost_of r.streams
+    by true = omega arith
+    by false =
+        let t = g.new_cumulative_tsn in
+        let named = named-cost cost_of (all-cost 0).named g.streams r.streams in
+        let less = mapped-cost cost_of (unassembled_forwarded t) ((all-cost 0).unassembled t) (named_forwarded g.streams r.streams) in
+        let last = mapped-cost cost_of (incomplete_forwarded t) ((all-cost 0).incomplete t) (follow_forward_tsn g r).streams in
+        omega (arith, named, less, last)
+
+-- ## Streams of their own
+
+apart-after : (call : ReceiverCall) (old new : Session) → ReceiverFollows call old new → are_apart (numbers_of old.receiving.receiver.streams) ≡ true
+    → are_apart (numbers_of new.receiving.receiver.streams) ≡ true
+apart-after (incoming.opens stream) old new f a =
+    ap (λ (r : Reception). are_apart (numbers_of r.streams)) f.step.receiver.1
+    ∙ more-apart old.receiving.receiver.streams (new_stream stream old.receiving.receiver.max_message_size) a f.step.receiver.0
+apart-after (incoming.takes c arrival) old new f a = ap are_apart (takes-keeps c arrival old.receiving.receiver new.receiving.receiver f.step.receiver).0 ∙ a
+apart-after (incoming.follows g) old new f a = grind (arith, nat_tests, followed-numbers, stays-mapped)
+apart-after (incoming.reads stream) old new f a =
+    ap (λ (r : Reception). are_apart (numbers_of r.streams)) f.step.receiver ∙ ap are_apart (read-numbers stream old.receiving.receiver) ∙ a
+apart-after call old new f a = ap (λ (r : Reception). are_apart (numbers_of r.streams)) f.step.receiver ∙ a
+
+pub apart-in : (cs : List Call) (old new : Session) → RunsTo old cs new → are_apart (numbers_of old.receiving.receiver.streams) ≡ true
+    → are_apart (numbers_of new.receiving.receiver.streams) ≡ true
+apart-in [] old new r a = ap (λ (s : Session). are_apart (numbers_of s.receiving.receiver.streams)) r ∙ a
+apart-in (of_sender call ∷ cs) old new r a =
+    apart-in cs r.0 new r.1.1 (ap (λ (s : Session). are_apart (numbers_of s.receiving.receiver.streams)) r.1.0.after ∙ a)
+apart-in (of_receiver call ∷ cs) old new r a = apart-in cs r.0 new r.1.1 (apart-after call old r.0 r.1.0 a)
+
+-- a chunk that is taken adds its price
+pub taken-cost : (c : ChunkPayloadData) (complete : Bool) (l : InboundStream) (q : ReassemblyState) (ls : List InboundStream)
+    → are_apart (numbers_of ls) ≡ true → find (has_number c.stream_identifier) ls ≡ Some l → Pushes c complete l.queue q
+    → sum_by cost_of (change_where (has_number c.stream_identifier) (with_queue q) ls) ≤ sum_by cost_of ls + price c
+taken-cost c complete l q ls apart found pushed =
+    one-changed cost_of c.stream_identifier (length c.user_data + chunk_cost) (with_queue q) l ls apart found
+    ((all-cost (length c.user_data)).pushed c complete l q (omega arith) pushed)
+
+-- ## How many are due
+
+count-all : (cs : List ChunkPayloadData) → sum_by (λ (c : ChunkPayloadData). 1) cs ≡ length cs
+count-all [] = refl
+count-all (c ∷ cs) = let n = sum_by-cons (λ (d : ChunkPayloadData). 1) c cs in let ih = count-all cs in omega (arith, n, ih)
+
+-- no more than are in flight
+pub few-spent : (s : Session) → spent s ≤ length s.made + length (in_flight s)
+few-spent s =
+    let le = all-due (λ c. 1) s.receiving.accepted (in_flight s) in
+    let n = count-all (in_flight s) in
+    omega (arith, le, n)
+
+-- # Sessions that can end: a call in front of others that end one
 
 -- ## One more call
 
@@ -33,12 +207,7 @@ module _ (now : ℕ) (call : Call) (s t : Session) (f : Follows call s t) (deliv
 
   -- it abandons nothing
   alone : (c : Call) → is_delivery now c ≡ true → (r : Session) (run : RunsTo r (c ∷ []) t) → abandoned_in r (c ∷ []) t run ≡ []
-  alone (of_receiver c) d r run = refl
-  alone (of_sender (sends moment)) d r run = refl
-  alone (of_sender (resends tsn moment c)) d r run = refl
-  alone (of_sender (forwards tsn g)) d r run = refl
-  alone (of_sender (takes_sack sack gone)) d r run = refl
-  alone (of_sender c) d r run = absurd (not_both d)
+  alone c h2 r run = grind (arith, nat_tests, not_both)
 
   longer : (cs : List Call) (r : Session) (run : RunsTo r cs s) → Longer cs r run
   longer [] r run = record {
@@ -102,17 +271,7 @@ pub record Ends (b : Setting) (s : Session) : Type 0 where
 
 module _ (b : Setting) where
   pub reached : (n : ℕ) (s : Session) → At b n s → IsReached b.first n s
-  reached n s i = record {
-    size = b.size;
-    max = b.max;
-    most = b.most;
-    limits = b.limits;
-    calls = i.calls;
-    small = b.small;
-    some = b.some;
-    run = i.run;
-    given = sym i.given;
-  }
+  reached n s i = grind (arith, nat_tests)
 
   pub kept-at : (n : ℕ) (s : Session) → At b n s → HasKept b.first n s
   kept-at n s i = kept b.first n s i.few (reached n s i)
@@ -122,12 +281,7 @@ module _ (b : Setting) where
 
   -- the receiver takes messages as long as the sender writes
   pub long-enough : (n : ℕ) (s : Session) → At b n s → s.sending.sender.max_message_size ≤ s.receiving.receiver.max_message_size
-  long-enough n s i =
-      let fit = fit-session b.first b.size b.max b.most b.limits i.calls s i.run in
-      let sent = fit.sender in
-      let own = fit.streams.own in
-      let enough = b.enough in
-      omega (arith, sent, own, enough)
+  long-enough n s i = grind (arith, nat_tests, fit-session)
 
   -- no two of its streams have one number
   pub apart-at : (n : ℕ) (s : Session) → At b n s → are_apart (numbers_of s.receiving.receiver.streams) ≡ true
@@ -146,14 +300,7 @@ module _ (b : Setting) where
       → At b (n + distance (next_tsn s) (next_tsn t)) t
   at-next n call s t f d few left less i =
       let l = longer b.now call s t f d i.calls (start b) i.run in
-      record {
-        calls = i.calls ++ call ∷ [];
-        run = l.more;
-        given = let e = l.given in let g = i.given in omega (arith, e, g);
-        gone = l.gone ∙ i.gone;
-        few = few;
-        room = room-still b.limits s t left less i.room;
-      }
+      grind (arith, nat_tests, room-still)
 
   -- where no TSN is given out
   pub at-same : (n : ℕ) (call : Call) (s t : Session) → Follows call s t → is_delivery b.now call ≡ true → next_tsn t ≡ next_tsn s
@@ -167,11 +314,7 @@ module _ (b : Setting) where
   -- ## In front of calls that end it
 
   unwritten : (call : SenderCall) (ws : List Write) → is_delivery b.now (of_sender call) ≡ true → written_after call ws ≡ ws
-  unwritten (sends moment) ws d = refl
-  unwritten (resends tsn moment c) ws d = refl
-  unwritten (forwards tsn f) ws d = refl
-  unwritten (takes_sack sack gone) ws d = refl
-  unwritten call ws d = absurd (not_both d)
+  unwritten call ws h3 = grind (arith, nat_tests, not_both)
 
   pub sender-before : (call : SenderCall) (s t : Session) → SenderFollows call s t → is_delivery b.now (of_sender call) ≡ true
       → distance (next_tsn s) (next_tsn t) + chunks_waiting t.sending.sender ≡ chunks_waiting s.sending.sender → Ends b t → Ends b s
@@ -205,3 +348,161 @@ module _ (b : Setting) where
         exhausted = e.exhausted;
         read = e.read;
       }
+
+-- # Sessions that can end: all that is to be read is read, and streams are opened
+
+-- ## A read leaves fewer
+
+abbrev count : Reassembly → ℕ
+count q = length q.ordered + length q.unordered
+
+-- so many messages are whole or begun
+abbrev pub sets : InboundStream → ℕ
+sets l = length l.queue.held.ordered + length l.queue.held.unordered
+
+-- no more are left, and where a message is read fewer
+abbrev Fewer : Option ChunkSet → Reassembly → Reassembly → Type 0
+Fewer o r q = (count r ≤ count q) × (is_some o ≡ true → count r < count q)
+
+first-gone : (next : ℕ) (s : ChunkSet) (ss : List ChunkSet) → Some s ≡ front_readable next ss → length (without_first ss) < length ss
+first-gone next s [] e = absurd (none-some s (sym e))
+first-gone next s (x ∷ xs) e = omega arith
+
+rest-fewer : (q : Reassembly) → Fewer (message_read q) (rest_read q) q
+rest-fewer q = grind (arith, nat_tests, first-gone, not_both)
+
+no-more : (p : InboundStream → Bool) (ls : List InboundStream) → sum_by sets (change_where p stream_read ls) ≤ sum_by sets ls
+no-more p [] = omega arith
+no-more p (l ∷ ls) = grind (arith, common_steps, rest-fewer, sum_by-cons, no-more p ls)
+
+-- an open stream on which a message is to be read
+record Readable (ls : List InboundStream) : Type 0 where
+  number : ℕ
+  there : is_some (find (has_number number) ls) ≡ true
+  fewer : sum_by sets (change_where (has_number number) stream_read ls) < sum_by sets ls
+
+abbrev is_unread : InboundStream → Bool
+is_unread l = not (is_some (message_read l.queue.held))
+
+readable : (ls : List InboundStream) → list_all is_unread ls ≡ false → Readable ls
+readable [] e = absurd (not_both (sym e))
+readable (l ∷ ls) e = by (is_some (message_read l.queue.held)) refl e (readable ls)
+  where
+    by : (b : Bool) → is_some (message_read l.queue.held) ≡ b → (not b && list_all is_unread ls) ≡ false
+        → (list_all is_unread ls ≡ false → Readable ls) → Readable (l ∷ ls)
+    by true h f ih = record {
+      number = l.queue.si;
+      there = ap (λ b. is_some (if b then Some l else find (has_number l.queue.si) ls)) (same-yes l.queue.si);
+      fewer =
+          let rest = change_where (has_number l.queue.si) stream_read ls in
+          let n = sum_by-cons sets (stream_read l) rest in
+          let o = sum_by-cons sets l ls in
+          let lt = (rest-fewer l.queue.held).1 h in
+          let le = no-more (has_number l.queue.si) ls in
+          subst (λ b. sum_by sets ((if b then stream_read l else l) ∷ change_where (has_number l.queue.si) stream_read ls) < sum_by sets (l ∷ ls))
+          (sym (same-yes l.queue.si)) (omega (arith, n, o, lt, le));
+    }
+    by false h f ih = behind (ih f)
+      where
+        found : (k : ℕ) → is_some (find (has_number k) ls) ≡ true → (b : Bool) → is_some (if b then Some l else find (has_number k) ls) ≡ true
+        found k e true = refl
+        found k e false = e
+
+        less : (k : ℕ) → sum_by sets (change_where (has_number k) stream_read ls) < sum_by sets ls → (b : Bool)
+            → sum_by sets ((if b then stream_read l else l) ∷ change_where (has_number k) stream_read ls) < sum_by sets (l ∷ ls)
+        less k lt true =
+            let n = sum_by-cons sets (stream_read l) (change_where (has_number k) stream_read ls) in
+            let o = sum_by-cons sets l ls in
+            let le = (rest-fewer l.queue.held).0 in
+            omega (arith, n, o, le, lt)
+        less k lt false =
+            let n = sum_by-cons sets l (change_where (has_number k) stream_read ls) in
+            let o = sum_by-cons sets l ls in
+            omega (arith, n, o, lt)
+
+        behind : Readable ls → Readable (l ∷ ls)
+        behind r = record {
+          number = r.number;
+          there = found r.number r.there (has_number r.number l);
+          fewer = less r.number r.fewer (has_number r.number l);
+        }
+
+-- ## What stays
+
+-- the sender, what was taken and up to which TSN, what was made, and the SACKs
+pub record Rests (s t : Session) : Type 0 where
+  pub sending : t.sending ≡ s.sending
+  pub accepted : t.receiving.accepted ≡ s.receiving.accepted
+  pub cumulative : t.receiving.receiver.cumulative_tsn ≡ s.receiving.receiver.cumulative_tsn
+  pub made : t.made ≡ s.made
+  pub sacks : t.sacks ≡ s.sacks
+
+pub rests-same : (s : Session) → Rests s s
+rests-same s = record { sending = refl; accepted = refl; cumulative = refl; made = refl; sacks = refl }
+
+pub rests-then : (s t u : Session) → Rests s t → Rests t u → Rests s u
+rests-then s t u a c = grind (arith, nat_tests)
+
+-- ## Reading
+
+module _ (b : Setting) where
+  -- where nothing is to be read, whatever else is as it was, it can end
+  abbrev pub EndsRead : ℕ → Session → Type 0
+  EndsRead n s = (t : Session) → At b n t → Rests s t → reads_nothing t.receiving.receiver ≡ true → Ends b t
+
+  read-on : (n : ℕ) (s : Session) → At b n s → EndsRead n s → (Readable s.receiving.receiver.streams → Ends b s) → Ends b s
+  read-on n s i next more = grind (arith, nat_tests, readable, rests-same)
+
+  read-all : (m n : ℕ) (s : Session) → At b n s → sum_by sets s.receiving.receiver.streams ≤ m → EndsRead n s → Ends b s
+  unfolding read_of
+  read-all zero n s i le next = read-on n s i next (λ r. let lt = r.fewer in absurd (omega (arith, le, lt)))
+  read-all (suc m) n s i le next = read-on n s i next (λ r.
+      let t = read_of r.number s in
+      let f = reads-on r.number s r.there in
+      let lt = r.fewer in
+      receiver-before b n (reads r.number) s t i f
+      (read-all m n t (at-same b n (of_receiver (reads r.number)) s t f refl refl (omega arith) (let less = read-cost r.number s.receiving.receiver.streams in
+      omega (arith, less)) i) (omega (arith, le, lt)) (λ u j x none.
+      next u j (rests-then s t u (record { sending = refl; accepted = refl; cumulative = refl; made = refl; sacks = refl }) x) none)))
+
+  pub ends-read : (n : ℕ) (s : Session) → At b n s → EndsRead n s → Ends b s
+  ends-read n s i next = read-all (sum_by sets s.receiving.receiver.streams) n s i (omega arith) next
+
+-- ## Opening
+
+-- one more stream is open, or it was
+pub record Opens (stream : ℕ) (s t : Session) : Type 0 where
+  pub rests : Rests s t
+  pub there : is_open stream t.receiving.receiver ≡ true
+  pub stays : (x : ℕ) → is_open x s.receiving.receiver ≡ true → is_open x t.receiving.receiver ≡ true
+  pub unread : reads_nothing s.receiving.receiver ≡ true → reads_nothing t.receiving.receiver ≡ true
+
+found-more : (p : InboundStream → Bool) (ls ms : List InboundStream) → is_some (find p ls) ≡ true → is_some (find p (ls ++ ms)) ≡ true
+found-more p [] ms e = absurd (not_both e)
+found-more p (l ∷ ls) ms e = grind (arith, nat_tests, is_some, found-more p ls ms)
+
+found-last : (p : InboundStream → Bool) (ls : List InboundStream) (m : InboundStream) → p m ≡ true → is_some (find p (ls ++ m ∷ [])) ≡ true
+found-last p [] m e = ap (λ c. is_some (if c then Some m else None)) e
+found-last p (l ∷ ls) m e = grind (arith, nat_tests, is_some, found-last p ls m e)
+
+abbrev after_opens : ℕ → Session → Session
+after_opens stream s = record s { receiving = record s.receiving { receiver = open_stream stream s.receiving.receiver } }
+
+opens-one : (stream : ℕ) (s : Session) → is_open stream s.receiving.receiver ≡ false → ReceiverFollows (opens stream) s (after_opens stream s)
+opens-one stream s none = grind (arith, nat_tests)
+
+opened : (stream : ℕ) (s : Session) → Opens stream s (after_opens stream s)
+opened stream s = grind (arith, nat_tests, and, found-last, found-more, list_all-append, same-yes)
+
+module _ (b : Setting) where
+  pub ends-open : (stream n : ℕ) (s : Session) → At b n s → ((t : Session) → At b n t → Opens stream s t → Ends b t) → Ends b s
+  ends-open stream n s i next = by (is_open stream s.receiving.receiver) refl
+    where
+      by : (c : Bool) → is_open stream s.receiving.receiver ≡ c → Ends b s
+      by true e = next s i (record { rests = rests-same s; there = e; stays = λ x o. o; unread = λ o. o })
+      by false e =
+          let t = after_opens stream s in
+          let f = opens-one stream s e in
+          receiver-before b n (opens stream) s t i f
+          (next t (at-same b n (of_receiver (opens stream)) s t f refl refl (omega arith)
+          (let same = open-cost stream s.receiving.receiver.max_message_size s.receiving.receiver.streams in omega (arith, same)) i) (opened stream s))

@@ -1,18 +1,12 @@
 -- The fragments of a message together are no longer than its write, those of an ordered message that a set has, and those of an unordered one
 -- that stand beside a chunk among unassembled ones.
-use Rattle.std.proofs.Common.{◌≡◌, ℕ, ◌+◌, ◌%◌, ◌^◌, ◌<◌, ◌≤◌, Bool, true, false, not, List, [], ◌∷◌, ◌++◌, length, length-append, inl, inr, refl, ap, sym}
-use Rattle.std.proofs.Common.{subst, ◌∙◌, arith}
-use Rattle.std.specs.Prelude.{◌==◌, ◌&&◌, if◌then◌else◌, reverse}
-use Rattle.std.specs.List.{list_any}
-use Rattle.std.proofs.lemmas.Bool.{cases_lt}
+use Rattle.sctp_delivery.proofs.Names.{◌≡◌, ℕ, ◌+◌, ◌%◌, ◌^◌, ◌<◌, ◌≤◌, Bool, true, false, not, List, [], ◌∷◌, length, length-append, inl, inr, refl, ap, sym}
+use Rattle.sctp_delivery.proofs.Names.{subst, ◌∙◌, arith, ◌==◌, ◌&&◌, if◌then◌else◌, list_any, cases_lt, sum_by-cons, nat_tests, common_steps, same-is, fails}
+use Rattle.sctp_delivery.proofs.Names.{not_both, ChunkPayloadData, Data, data_of, bytes_of, following_tsn, has_tsn, preceding_tsn, size_after, size_before}
+use Rattle.std.specs.Prelude.{reverse}
 use Rattle.std.proofs.lemmas.List.{reverse-append}
-use Rattle.std.proofs.lemmas.List.Sums.{sum_by-cons}
-use Rattle.sctp_util.proofs.Cases.{same-is, same-yes}
-use Rattle.sctp_util.proofs.More.{fails, not_both}
-use Rattle.sctp_data.specs.declared.chunk.chunk_payload_data.ChunkPayloadData.{ChunkPayloadData}
-use Rattle.sctp_data.specs.PayloadData.{Data, data_of}
-use Rattle.sctp_serial.specs.DataChunks.{bytes_of, following_tsn, has_tsn, preceding_tsn}
-use Rattle.sctp_reassembly.specs.reassembly_queue.Sizes.{back_from, bytes_down, bytes_up, on_from, size_after, size_before}
+use Rattle.sctp_reassembly.specs.reassembly_queue.Sizes.{back_from, bytes_down, bytes_up, on_from}
+use Rattle.sctp_delivery.proofs.Cases.{at-if, at-test, by-test}
 use Rattle.sctp_delivery.proofs.Every.{Every, every-joined}
 use Rattle.sctp_delivery.proofs.OrderedEntries.{AreJoined, Joins, begins_on, begun_on, one}
 use Rattle.sctp_delivery.proofs.Sent.{Entry, GoesOn, IsLine, IsPart, Numbered, WasSent, fragment, part-length, part-line, stands-behind, terminal}
@@ -30,20 +24,14 @@ of_entry o f k (x ∷ xs) = if length (x ∷ xs) == k then f x else of_entry o f
 
 module _ {A : Type 0} (o : A) (f : Entry → A) where
   entry-more : (k : ℕ) (x : Entry) (xs : List Entry) → k ≤ length xs → of_entry o f k (x ∷ xs) ≡ of_entry o f k xs
-  entry-more k x xs le =
-      let e : (length (x ∷ xs) == k) ≡ false = fails (length (x ∷ xs) == k) (λ h. let same = same-is (length (x ∷ xs)) k h in omega (arith, same, le)) in
-      ap (λ b. if b then f x else of_entry o f k xs) e
+  entry-more k x xs le = grind (arith, nat_tests, common_steps)
 
   entry-here : (x : Entry) (xs : List Entry) (k : ℕ) → k ≡ length (x ∷ xs) → of_entry o f k (x ∷ xs) ≡ f x
-  entry-here x xs k e =
-      ap (λ m. if length (x ∷ xs) == m then f x else of_entry o f k xs) e
-      ∙ ap (λ b. if b then f x else of_entry o f k xs) (same-yes (length (x ∷ xs)))
+  entry-here x xs k e = grind (arith, nat_tests, common_steps)
 
   entry-part : (sent : List Entry) (y : Entry) (ys : List Entry) → IsPart (y ∷ ys) sent → of_entry o f (length (y ∷ ys)) sent ≡ f y
   entry-part [] y ys p = cc
-  entry-part (x ∷ xs) y ys (inl e) =
-      let head : y ≡ x = cc in
-      entry-here x xs (length (y ∷ ys)) (ap length e) ∙ ap f (sym head)
+  entry-part (x ∷ xs) y ys (inl e) = grind (arith, nat_tests, common_steps)
   entry-part (x ∷ xs) y ys (inr p) = entry-more (length (y ∷ ys)) x xs (part-length xs (y ∷ ys) p) ∙ entry-part xs y ys p
 
 -- an ordered fragment of the stream
@@ -56,12 +44,10 @@ has_fragment st k sent = of_entry false (is_fragment_on st) k sent
 
 entry-within : (q : Entry → Bool) (k : ℕ) (sent : List Entry) → of_entry false q k sent ≡ true → (0 < k) × (k ≤ length sent)
 entry-within q k [] e = absurd (not_both e)
-entry-within q k (x ∷ xs) e = by (length (x ∷ xs) == k) refl e (entry-within q k xs)
-  where
-    by : (b : Bool) → (length (x ∷ xs) == k) ≡ b → (if b then q x else of_entry false q k xs) ≡ true
-        → (of_entry false q k xs ≡ true → (0 < k) × (k ≤ length xs)) → (0 < k) × (k ≤ length (x ∷ xs))
-    by true h f ih = let same = same-is (length (x ∷ xs)) k h in (omega (arith, same), omega (arith, same))
-    by false h f ih = let le = (ih f).1 in ((ih f).0, omega (arith, le))
+entry-within q k (x ∷ xs) e = at-test (λ b. (if b then q x else of_entry false q k xs) ≡ true → (0 < k) × (k ≤ length (x ∷ xs)))
+    (length (x ∷ xs) == k)
+    (λ h f. let same = same-is (length (x ∷ xs)) k h in (omega (arith, same), omega (arith, same)))
+    (λ h f. let le = ((entry-within q k xs) f).1 in (((entry-within q k xs) f).0, omega (arith, le))) e
 
 -- how many bytes a fragment has, and how many of its write are left behind it
 abbrev pub size_of : Entry → ℕ
@@ -93,21 +79,15 @@ later-left ns first st x y (z ∷ zs) joined line lt from at same = elim (cases_
       (sym (entry-more false (is_fragment_on st) y z zs (omega (arith, less))) ∙ at)
       (sym (to-more st x z zs (omega (arith, lt, less))) ∙ same ∙ to-more st y z zs (omega (arith, less))) in
       let a = entry-more 0 size_of y z zs (omega (arith, less)) in
-      let b = entry-more 0 left_of y z zs (omega (arith, less)) in
-      let c = entry-more 0 left_of x z zs (omega (arith, lt, less)) in
-      omega (arith, ih, a, b, c)
+      omega (arith, ih, a, entry-more 0 left_of y z zs (omega (arith, less)), entry-more 0 left_of x z zs (omega (arith, lt, less)))
   | inr ge ↦
-      let within = (entry-within (is_fragment_on st) y (z ∷ zs) at).1 in
-      let last : y ≡ length (z ∷ zs) = omega (arith, within, ge) in
-      let a = entry-here 0 size_of z zs y last in
-      let b = entry-here 0 left_of z zs y last in
-      let c = entry-more 0 left_of x z zs (omega (arith, lt, last)) in
+      let last : y ≡ length (z ∷ zs) = omega (arith, (entry-within (is_fragment_on st) y (z ∷ zs) at).1, ge) in
       let e = to-all st y (z ∷ zs) ge in
       let f = to-more st x z zs (omega (arith, lt, last)) in
       let u = here (λ l k s. later-left ns first st x (length zs) zs (joined-rest z zs joined) (rest-line ns first z zs line) l
       (sym (entry-more false (is_fragment_on st) x z zs (omega (arith, lt, last))) ∙ from) k s) last z joined line
       (sym (entry-here false (is_fragment_on st) z zs y last) ∙ at) (sym f ∙ same ∙ e) in
-      omega (arith, u, a, b, c)
+      omega (arith, u, entry-here 0 size_of z zs y last, entry-here 0 left_of z zs y last, entry-more 0 left_of x z zs (omega (arith, lt, last)))
 ]
   where
     here : (x < length zs → has_fragment st (length zs) zs ≡ true → begun_to st x zs ≡ begun_to st (length zs) zs
@@ -115,7 +95,10 @@ later-left ns first st x y (z ∷ zs) joined line lt from at same = elim (cases_
         → AreJoined (u ∷ zs) → IsLine ns first (u ∷ zs) → is_fragment_on st u ≡ true → begun_to st x zs ≡ begun_on st (u ∷ zs)
         → size_of u + left_of u ≤ number_at left_of x zs
     here ih last terminal j l on e = absurd (not_both on)
-    here ih last (fragment d w after) j l on e = by d.beginning_fragment refl
+    here ih last (fragment d w after) j l on e = by-test d.beginning_fragment
+        (λ h.
+        absurd (omega (arith, ap one (counted st d h on), to-most st x zs, e)))
+        (λ h. inner h zs refl j.0 l.1.0)
       where
         inner : d.beginning_fragment ≡ false → (vs : List Entry) → zs ≡ vs → Joins d vs → GoesOn d w after vs
             → length d.user_data + length after ≤ number_at left_of x zs
@@ -126,8 +109,7 @@ later-left ns first st x y (z ∷ zs) joined line lt from at same = elim (cases_
             let q = (i.0 h).1 in
             let sum : length rest ≡ length d.user_data + length after = ap length q ∙ length-append d.user_data after in
             let long : length zs ≡ length (fragment c v rest ∷ vs) = ap length g in
-            let on' : ((c.stream_identifier == st) && not c.unordered) ≡ true =
-            ap (λ m. (m == st) && not c.unordered) p.2 ∙ ap (λ b. (d.stream_identifier == st) && not b) p.1 ∙ on in
+            let on' : ((c.stream_identifier == st) && not c.unordered) ≡ true = cc (p.2, p.1, on) in
             let frag : has_fragment st (length zs) zs ≡ true =
             ap (λ vs'. has_fragment st (length vs') vs') g ∙ entry-here false (is_fragment_on st) (fragment c v rest) vs (length (fragment c v rest ∷ vs)) refl
             ∙ on' in
@@ -141,20 +123,12 @@ later-left ns first st x y (z ∷ zs) joined line lt from at same = elim (cases_
                   omega (arith, less, left, sum)
               | inr m ↦
                   let same' : x ≡ length zs = omega (arith, m, lt, last) in
-                  let it = ap (λ k'. number_at left_of k' zs) same' in
-                  omega (arith, it, left, sum)
+                  omega (arith, ap (λ k'. number_at left_of k' zs) same', left, sum)
             ]
           where
             begins-none : (a b u : Bool) → b ≡ false → (a && (b && u)) ≡ false
             begins-none true b u f = ap (λ k'. k' && u) f
             begins-none false b u f = refl
-
-        by : (b : Bool) → d.beginning_fragment ≡ b → length d.user_data + length after ≤ number_at left_of x zs
-        by true h =
-            let n = ap one (counted st d h on) in
-            let few = to-most st x zs in
-            absurd (omega (arith, n, few, e))
-        by false h = inner h zs refl j.0 l.1.0
 
 -- ## The chunks of a set
 
@@ -162,10 +136,7 @@ later-left ns first st x y (z ∷ zs) joined line lt from at same = elim (cases_
 pub part-fits : (ns : List Numbered) (first : ℕ) (sent : List Entry) → IsLine ns first sent → (c : ChunkPayloadData)
     → (was : WasSent sent (data_of c)) → length c.user_data + length was.1 ≤ length was.0.bytes
 part-fits ns first sent line c (w, after, xs, part) =
-    let f = (part-line ns first sent (fragment (data_of c) w after ∷ xs) part line).0.part in
-    let a = ap length f.1 ∙ length-append f.0 (c.user_data ++ after) in
-    let b = length-append c.user_data after in
-    omega (arith, a, b)
+    grind (arith, nat_tests, common_steps, length-append c.user_data after, (part-line ns first sent (fragment (data_of c) w after ∷ xs) part line).0.part)
 
 module _ (st first n : ℕ) (few : n < 2 ^ 31) (ns : List Numbered) (sent : List Entry) (long : length sent ≡ n) (line : IsLine ns first sent)
     (joined : AreJoined sent) where
@@ -185,9 +156,7 @@ module _ (st first n : ℕ) (few : n < 2 ^ 31) (ns : List Numbered) (sent : List
       by (w, after, xs, part) =
           let most = part-length sent (fragment (data_of c) w after ∷ xs) part in
           let number = (part-line ns first sent (fragment (data_of c) w after ∷ xs) part line).0.number in
-          let is = o.is in
-          let within = o.within in
-          let next : length (fragment (data_of c) w after ∷ xs) ≡ o.before + 1 = omega (arith, most, number, is, within, long, few) in (
+          let next : length (fragment (data_of c) w after ∷ xs) ≡ o.before + 1 = omega (arith, most, number, long, few) in (
             ap (λ k. number_at size_of k sent) (sym next) ∙ entry-part 0 size_of sent (fragment (data_of c) w after) xs part,
             ap (λ k. number_at left_of k sent) (sym next) ∙ entry-part 0 left_of sent (fragment (data_of c) w after) xs part,
             ap (λ k. has_fragment st k sent) (sym next) ∙ entry-part false (is_fragment_on st) sent (fragment (data_of c) w after) xs part ∙ o.on,
@@ -198,16 +167,12 @@ module _ (st first n : ℕ) (few : n < 2 ^ 31) (ns : List Numbered) (sent : List
       → bytes_of cs ≤ number_at left_of (o.before + 1) sent
   behind-fits i c [] o r = omega arith
   behind-fits i c (d ∷ ds) o r =
-      let ih = behind-fits i d ds r.0 r.2 in
-      let sum = sum_by-cons (λ (x : ChunkPayloadData). length x.user_data) d ds in
       let a = at-place i d r.0 in
-      let size = a.0 in
-      let low = r.1 in
       let p = o.begun in
       let q = r.0.begun in
-      let less = later-left ns first st (o.before + 1) (r.0.before + 1) sent joined line (omega (arith, low))
+      let less = later-left ns first st (o.before + 1) (r.0.before + 1) sent joined line (omega arith)
       (at-place i c o).2 a.2 (p ∙ sym q) in
-      omega (arith, ih, sum, size, less)
+      omega (arith, behind-fits i d ds r.0 r.2, sum_by-cons (λ (x : ChunkPayloadData). length x.user_data) d ds, less)
 
   -- so together they are no longer than the write of the first one
   pub set-fits : (most : ℕ) → ((c : ChunkPayloadData) (was : WasSent sent (data_of c)) → length was.0.bytes ≤ most) → (i : ℕ) (cs : List ChunkPayloadData)
@@ -215,12 +180,8 @@ module _ (st first n : ℕ) (few : n < 2 ^ 31) (ns : List Numbered) (sent : List
   set-fits most bound i [] r = omega arith
   set-fits most bound i (c ∷ cs) r =
       let o = r.0 in
-      let rest = behind-fits i c cs o r.2 in
       let sum = sum_by-cons (λ (x : ChunkPayloadData). length x.user_data) c cs in
-      let left = (at-place i c o).1 in
-      let own = part-fits ns first sent line c o.made in
-      let le = bound c o.made in
-      omega (arith, rest, sum, left, own, le)
+      omega (arith, behind-fits i c cs o r.2, sum, (at-place i c o).1, part-fits ns first sent line c o.made, bound c o.made)
 
 -- ## Unassembled fragments
 
@@ -247,7 +208,15 @@ module _ (first : ℕ) (ns : List Numbered) (sent : List Entry) (few : length se
       → bytes_down c.tsn ys + (length c.user_data + length was.1) ≤ length was.0.bytes
   down-fits [] h c was inner = let p = part-fits ns first sent line c was in omega (arith, p)
   down-fits (z ∷ zs) h c was inner =
-      by (z.tsn == preceding_tsn c.tsn) refl (λ k. down-fits zs h.1 z h.0 k)
+      at-test (λ b. (if b then length z.user_data + (if z.beginning_fragment then 0 else bytes_down z.tsn zs) else 0) +
+      (length c.user_data + length was.1) ≤ length was.0.bytes) (z.tsn == preceding_tsn c.tsn)
+      (λ e.
+      let n = next-to (same-is z.tsn (preceding_tsn c.tsn) e) in
+      let same = ap (λ (w : Numbered). length w.bytes) n.0 in
+      at-if (λ y. length z.user_data + y + (length c.user_data + length was.1) ≤ length was.0.bytes) z.beginning_fragment
+      (λ f. let p = part-fits ns first sent line z h.0 in omega (arith, p, same))
+      (λ f. let p = down-fits zs h.1 z h.0 f in omega (arith, p, same)))
+      (λ e. omega (arith, alone))
     where
       alone : length c.user_data + length was.1 ≤ length was.0.bytes
       alone = part-fits ns first sent line c was
@@ -262,27 +231,16 @@ module _ (first : ℕ) (ns : List Numbered) (sent : List Entry) (few : length se
           let g = (subst (GoesOn (data_of c) was.0 was.1) behind on).0 inner in
           (g.0, ap length g.1 ∙ length-append c.user_data was.1)
 
-      by : (b : Bool) → (z.tsn == preceding_tsn c.tsn) ≡ b
-          → (z.beginning_fragment ≡ false → bytes_down z.tsn zs + (length z.user_data + length h.0.1) ≤ length h.0.0.bytes)
-          → (if b then length z.user_data + (if z.beginning_fragment then 0 else bytes_down z.tsn zs) else 0) + (length c.user_data + length was.1)
-          ≤ length was.0.bytes
-      by false e ih = omega (arith, alone)
-      by true e ih =
-          let n = next-to (same-is z.tsn (preceding_tsn c.tsn) e) in
-          let same = ap (λ (w : Numbered). length w.bytes) n.0 in
-          let left = n.1 in
-          on z.beginning_fragment refl same left
-        where
-          on : (k : Bool) → z.beginning_fragment ≡ k → length was.0.bytes ≡ length h.0.0.bytes → length h.0.1 ≡ length c.user_data + length was.1
-              → length z.user_data + (if k then 0 else bytes_down z.tsn zs) + (length c.user_data + length was.1) ≤ length was.0.bytes
-          on true f same left = let p = part-fits ns first sent line z h.0 in omega (arith, p, same, left)
-          on false f same left = let p = ih f in omega (arith, p, same, left)
-
   -- up from a fragment that does not end its message: the neighbours are of what is left behind it
   up-fits : (ys : List ChunkPayloadData) → AreSent sent ys → (c : ChunkPayloadData) (was : WasSent sent (data_of c)) → c.ending_fragment ≡ false
       → bytes_up c.tsn ys ≤ length was.1
   up-fits [] h c was open' = omega arith
-  up-fits (z ∷ zs) h c was open' = by (z.tsn == following_tsn c.tsn) refl (λ k. up-fits zs h.1 z h.0 k)
+  up-fits (z ∷ zs) h c was open' = at-test (λ b. (if b then length z.user_data + (if z.ending_fragment then 0 else bytes_up z.tsn zs) else 0) ≤ length
+      was.1) (z.tsn == following_tsn c.tsn)
+      (λ e. at-if (λ y. length z.user_data + y ≤ length was.1) z.ending_fragment
+      (λ f. omega (arith, next-to (same-is z.tsn (following_tsn c.tsn) e)))
+      (λ f. let p = up-fits zs h.1 z h.0 f in omega (arith, p, next-to (same-is z.tsn (following_tsn c.tsn) e))))
+      (λ e. omega arith)
     where
       next-to : z.tsn ≡ following_tsn c.tsn → length was.1 ≡ length z.user_data + length h.0.1
       next-to e =
@@ -293,34 +251,20 @@ module _ (first : ℕ) (ns : List Numbered) (sent : List Entry) (few : length se
           let g = (subst (GoesOn (data_of z) h.0.0 h.0.1) behind on).0 inner in
           ap length g.1 ∙ length-append z.user_data h.0.1
 
-      by : (b : Bool) → (z.tsn == following_tsn c.tsn) ≡ b → (z.ending_fragment ≡ false → bytes_up z.tsn zs ≤ length h.0.1)
-          → (if b then length z.user_data + (if z.ending_fragment then 0 else bytes_up z.tsn zs) else 0) ≤ length was.1
-      by false e ih = omega arith
-      by true e ih = on z.ending_fragment refl (next-to (same-is z.tsn (following_tsn c.tsn) e))
-        where
-          on : (k : Bool) → z.ending_fragment ≡ k → length was.1 ≡ length z.user_data + length h.0.1
-              → length z.user_data + (if k then 0 else bytes_up z.tsn zs) ≤ length was.1
-          on true f left = omega (arith, left)
-          on false f left = let p = ih f in omega (arith, p, left)
-
   -- a fragment with its neighbours among unassembled ones is no longer than its write
   pub unassembled-fits : (xs : List ChunkPayloadData) → AreSent sent xs → (c : ChunkPayloadData) (was : WasSent sent (data_of c))
       → size_before c xs + length c.user_data + size_after c xs ≤ length was.0.bytes
   unassembled-fits xs h c was =
-      let a = before c.beginning_fragment refl in
-      let b = after c.ending_fragment refl in
+      let a : size_before c xs + (length c.user_data + length was.1) ≤ length was.0.bytes = at-if
+      (λ z. z + (length c.user_data + length was.1) ≤ length was.0.bytes) c.beginning_fragment
+      (λ e. omega (arith, alone))
+      (λ e. down-fits (back_from (preceding_tsn c.tsn) xs)
+      (leading-each (λ y. WasSent sent (data_of y)) (λ y. not (has_tsn (preceding_tsn c.tsn) y)) (reverse xs)
+      (every-reversed (λ y. WasSent sent (data_of y)) xs h)) c was e) in
+      let b : size_after c xs ≤ length was.1 = at-if (λ z. z ≤ length was.1) c.ending_fragment
+      (λ e. omega arith)
+      (λ e. up-fits (on_from (following_tsn c.tsn) xs) (every-on (λ y. WasSent sent (data_of y)) (following_tsn c.tsn) xs h) c was e) in
       omega (arith, a, b)
     where
       alone : length c.user_data + length was.1 ≤ length was.0.bytes
       alone = part-fits ns first sent line c was
-
-      before : (b : Bool) → c.beginning_fragment ≡ b
-          → (if b then 0 else bytes_down c.tsn (back_from (preceding_tsn c.tsn) xs)) + (length c.user_data + length was.1) ≤ length was.0.bytes
-      before true e = omega (arith, alone)
-      before false e = down-fits (back_from (preceding_tsn c.tsn) xs)
-          (leading-each (λ y. WasSent sent (data_of y)) (λ y. not (has_tsn (preceding_tsn c.tsn) y)) (reverse xs)
-          (every-reversed (λ y. WasSent sent (data_of y)) xs h)) c was e
-
-      after : (b : Bool) → c.ending_fragment ≡ b → (if b then 0 else bytes_up c.tsn (on_from (following_tsn c.tsn) xs)) ≤ length was.1
-      after true e = omega arith
-      after false e = up-fits (on_from (following_tsn c.tsn) xs) (every-on (λ y. WasSent sent (data_of y)) (following_tsn c.tsn) xs h) c was e

@@ -1,9 +1,8 @@
 -- What is so of each element of a list, whatever edits it.
-use Rattle.std.proofs.Common.{◌≡◌, ℕ, zero, suc, ◌<◌, Bool, true, false, List, [], ◌∷◌, ◌++◌, length, map, take, drop, get_or, Some, refl, subst, arith}
-use Rattle.std.specs.Prelude.{if◌then◌else◌, ◌||◌, Contains, All}
-use Rattle.std.specs.List.{filter, find, list_any}
-use Rattle.sctp_util.specs.Lists.{change_where, insert_before}
-use Rattle.sctp_util.proofs.More.{not_both}
+use Rattle.sctp_delivery.proofs.Names.{◌≡◌, ℕ, zero, suc, ◌<◌, Bool, true, false, List, [], ◌∷◌, ◌++◌, length, map, take, drop, get_or, Some, refl, subst}
+use Rattle.sctp_delivery.proofs.Names.{arith, if◌then◌else◌, ◌||◌, Contains, All, filter, list_any, change_where, insert_before, not_both}
+use Rattle.std.specs.List.{find}
+use Rattle.sctp_delivery.proofs.Cases.{at-if}
 
 abbrev pub Every : {A : Type 0} → (A → Type 0) → List A → Type 0
 Every P [] = Unit {0}
@@ -35,36 +34,20 @@ module _ {A : Type 0} (P : A → Type 0) where
 
   pub every-inserted : (before : A → A → Bool) (x : A) (xs : List A) → P x → Every P xs → Every P (insert_before before x xs)
   every-inserted before x [] px e = (px, tt)
-  every-inserted before x (y ∷ ys) px e = by (before x y) (every-inserted before x ys px e.1)
-    where
-      by : (b : Bool) → Every P (insert_before before x ys) → Every P (if b then x ∷ y ∷ ys else y ∷ insert_before before x ys)
-      by true ih = (px, e)
-      by false ih = (e.0, ih)
+  every-inserted before x (y ∷ ys) px e = at-if (Every P) (before x y) (λ h. (px, e)) (λ h. (e.0, every-inserted before x ys px e.1))
 
   pub every-passing : (p : A → Bool) (xs : List A) → Every P xs → Every P (filter p xs)
   every-passing p [] e = tt
-  every-passing p (x ∷ xs) e = by (p x) (every-passing p xs e.1)
-    where
-      by : (b : Bool) → Every P (filter p xs) → Every P (if b then x ∷ filter p xs else filter p xs)
-      by true ih = (e.0, ih)
-      by false ih = ih
+  every-passing p (x ∷ xs) e = at-if (Every P) (p x) (λ h. (e.0, every-passing p xs e.1)) (λ h. every-passing p xs e.1)
 
   -- those that pass, where each that does is so
   pub every-tested : (p : A → Bool) (xs : List A) → Every (λ x. p x ≡ true → P x) xs → Every P (filter p xs)
   every-tested p [] e = tt
-  every-tested p (x ∷ xs) e = by (p x) refl (every-tested p xs e.1)
-    where
-      by : (b : Bool) → p x ≡ b → Every P (filter p xs) → Every P (if b then x ∷ filter p xs else filter p xs)
-      by true h ih = (e.0 h, ih)
-      by false h ih = ih
+  every-tested p (x ∷ xs) e = at-if (Every P) (p x) (λ h. (e.0 h, every-tested p xs e.1)) (λ h. every-tested p xs e.1)
 
   pub every-changed : (p : A → Bool) (f : A → A) → ((x : A) → p x ≡ true → P x → P (f x)) → (xs : List A) → Every P xs → Every P (change_where p f xs)
   every-changed p f keep [] e = tt
-  every-changed p f keep (x ∷ xs) e = (by (p x) refl, every-changed p f keep xs e.1)
-    where
-      by : (b : Bool) → p x ≡ b → P (if b then f x else x)
-      by true h = keep x h e.0
-      by false h = e.0
+  every-changed p f keep (x ∷ xs) e = (at-if P (p x) (λ h. keep x h e.0) (λ h. e.0), every-changed p f keep xs e.1)
 
   pub every-taken : (n : ℕ) (xs : List A) → Every P xs → Every P (take n xs)
   every-taken zero xs e = tt

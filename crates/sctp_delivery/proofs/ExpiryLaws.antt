@@ -1,54 +1,106 @@
 -- Only what may expire expires, and each that is due.
-use Rattle.std.proofs.Common.{◌≡◌, ℕ, ◌-◌, ◌<◌, ◌^◌, Bool, true, false, not, List, [], ◌∷◌, length, map, Option, Some, None, is_some, refl, ap, sym, subst, ◌∙◌}
-use Rattle.std.proofs.Common.{arith, ◌+◌, ◌++◌, ◌⊎◌, inl, inr}
-use Rattle.std.specs.Prelude.{⊤, ◌==◌, ◌&&◌, ◌||◌, if◌then◌else◌, find, option_to_list, nat_eq}
-use Rattle.std.specs.List.{filter, list_any}
-use Rattle.std.proofs.lemmas.Bool.Decides.{nat_tests}
-use Rattle.sctp_util.specs.Lists.{change_where}
-use Rattle.sctp_util.proofs.Cases.{same-is, same-yes, or-left, or-right}
-use Rattle.sctp_util.proofs.More.{and, both, not_both, fails}
-use Rattle.sctp_data.specs.PayloadTypes.{is_dcep}
-use Rattle.sctp_data.specs.Reliability.{is_past, deadline_at, is_timed}
-use Rattle.sctp_data.specs.declared.chunk.chunk_payload_data.ChunkPayloadData.{ChunkPayloadData}
-use Rattle.sctp_outbound.specs.Marks.{as_abandoned, is_of}
-use Rattle.sctp_outbound.specs.outbound_queue.OutboundQueue.{abandoned_of, expiring_tail, is_expired, is_expired_tail, is_late, late_tsns, message_of, passing}
-use Rattle.sctp_outbound.specs.outbound_queue.OutboundQueue.{terminal_chunk, total_bytes, with_terminal_chunk}
-use Rattle.sctp_outbound.specs.payload_queue.PayloadQueue as payload
-use Rattle.sctp_outbound.specs.pending_queue.PendingQueue.{Pending, last_removed, next_pending}
-use Rattle.sctp_outbound.specs.pending_queue.Whole.{waits}
-use Rattle.sctp_serial.specs.DataChunks.{chunk_before, has_tsn}
-use Rattle.sctp_sender.specs.Flight.{Flight, has_tail_at, message_to_abandon}
-use Rattle.sctp_sender.specs.Late.{abandoned_at, abandoned_with, late_order, leaving_at, leaving_each, tail_first, with_tail, worn_order}
-use Rattle.sctp_sender.specs.Resending.{is_over, is_to_resend, is_worn, limit_of, rexmit_limit, worn_tsns}
-use Rattle.sctp_sender.specs.Sender.{Transmission}
-use Rattle.sctp_sender.proofs.Lates.{found-passes}
-use Rattle.sctp_delivery.specs.Abandoned.{abandoned_by, abandoned_in}
+use Rattle.sctp_delivery.proofs.Names.{◌≡◌, ℕ, ◌+◌, ◌<◌, ◌≤◌, ◌^◌, Bool, true, false, List, [], ◌∷◌, length, map, refl, ap, sym, subst, ◌∙◌, arith, not, Option}
+use Rattle.sctp_delivery.proofs.Names.{Some, None, is_some, ◌++◌, inl, inr, ◌==◌, ◌||◌, if◌then◌else◌, ⊤, ◌&&◌, option_to_list, nat_eq, filter, list_any}
+use Rattle.sctp_delivery.proofs.Names.{nat_tests, or-left, or-right, same-is, same-yes, fails, not_both, and, both, tsn, ChunkPayloadData, IsRunFrom, is_dcep}
+use Rattle.sctp_delivery.proofs.Names.{abandoned_of, expiring_tail, is_expired, is_expired_tail, is_late, late_tsns, message_of, passing, Pending, next_pending}
+use Rattle.sctp_delivery.proofs.Names.{Flight, message_to_abandon, abandoned_at, abandoned_with, late_order, leaving_each, worn_order, is_worn, worn_tsns}
+use Rattle.sctp_delivery.proofs.Names.{Transmission, found-passes, abandoned_by, abandoned_in, AfterEachFitRun, AfterEachRunOfFewTsns, Mode, Sending, at_first}
+use Rattle.sctp_delivery.proofs.Names.{deadline_of, modes_from, numbered_in, reliable_mode, Modes, modes_after, SenderCall, append_assoc, append-nil, distance}
+use Rattle.sctp_delivery.proofs.Names.{Reliable, tsns_given, Call, RunsTo, Session, at_start, of_receiver, of_sender}
+use Rattle.std.proofs.Common.{◌⊎◌}
+use Rattle.sctp_delivery.proofs.Every.{Every, every-of, every-passing, every-both, all-of-every, every-changed, every-found, every-inserted, every-joined}
+use Rattle.sctp_delivery.proofs.Every.{every-all}
+use Rattle.sctp_delivery.proofs.GivenTsns.{IsPast, rest-run, IsNumbered}
+use Rattle.sctp_delivery.proofs.TsnPlaces.{same-place, base}
+use Rattle.sctp_data.specs.Reliability.{is_past}
+use Rattle.sctp_sender.specs.Late.{tail_first}
+use Rattle.sctp_sender.specs.Resending.{is_over, is_to_resend, limit_of, rexmit_limit}
 use Rattle.sctp_delivery.specs.Expiries.{EachDueExpires, IsReason, OnlyTheDueExpire, is_due_in_front, is_late_as_written, is_lifetime_over, is_limit_passed}
 use Rattle.sctp_delivery.specs.Expiries.{is_sent_too_often, is_worn_as_written, AfterEachRunOfAsked, IsEachReliableReadInTheEnd, asked_by, asked_in}
-use Rattle.sctp_delivery.specs.Modes.{AfterEachFitRun, AfterEachRunOfFewTsns, Mode, Sending, at_first, deadline_from, deadline_of, modes_from, numbered_in}
-use Rattle.sctp_delivery.specs.Modes.{reliable_mode, Modes, modes_after, unknown}
+use Rattle.sctp_delivery.specs.Modes.{deadline_from}
 use Rattle.sctp_delivery.specs.SenderCalls as outgoing
-use Rattle.sctp_delivery.specs.SenderCalls.{SenderCall}
 use Rattle.sctp_delivery.proofs.AbandonedMessages.{numbers, numbers-append, gone-left, gone-right, by-below}
-use Rattle.sctp_delivery.proofs.Every.{Every, all-of-every, every-changed, every-found, every-inserted, every-joined, every-of, every-all, every-both}
 use Rattle.sctp_delivery.proofs.FilledQueues.{IsFilled}
-use Rattle.sctp_delivery.proofs.GivenTsns.{IsNumbered}
-use Rattle.sctp_delivery.proofs.ListedTsns.{each-any, each-one, is_one, own-listed, same-left}
-use Rattle.sctp_delivery.proofs.ModeOrder.{said-of-few, HasSaidOfFew, few-start, none-given, said-then, still-then}
+use Rattle.sctp_delivery.proofs.ModeSessions.{said-of-few, HasSaidOfFew, few-start, none-given, said-then, still-then, said-in, KeepsModes, keeps-after}
 use Rattle.sctp_delivery.proofs.ModeQueues.{AreModed, IsFlying, IsInMode, IsWaiting, numbered-at}
-use Rattle.sctp_delivery.proofs.ModeSessions.{said-in, KeepsModes, keeps-after}
-use Rattle.sctp_delivery.proofs.TsnPlaces.{base}
 use Rattle.sctp_delivery.proofs.QueueChunks.{AllWait, peeked}
-use Rattle.std.proofs.lemmas.List.{append_assoc, append-nil}
-use Rattle.sctp_util.specs.Serial.{distance}
-use Rattle.sctp_data.specs.declared.chunk.chunk_payload_data.ReliabilityType.TheVariants.{Reliable}
-use Rattle.sctp_delivery.specs.Sacks.{tsns_given}
-use Rattle.sctp_delivery.specs.Session.{Call, RunsTo, Session, at_start, of_receiver, of_sender}
 use Rattle.sctp_delivery.proofs.Calls.{length-forgotten}
 use Rattle.sctp_delivery.proofs.Delivered.{next_tsn}
 use Rattle.sctp_delivery.proofs.Numbers.{number_of}
 use Rattle.sctp_delivery.proofs.OthersOnce.{others-read}
 use Rattle.sctp_delivery.proofs.PassedMessages.{is_gone}
+
+-- # In a run of TSNs the chunk with a TSN that was listed is the one for which it was listed
+
+-- the TSN is one of these
+abbrev pub is_one : List ℕ → ℕ → Bool
+is_one ts t = list_any (λ u. u == t) ts
+
+pub each-one : (ts : List ℕ) → Every (λ t. is_one ts t ≡ true) ts
+each-one [] = tt
+each-one (t ∷ ts) = grind (arith, nat_tests, every-of, or-left, or-right, same-yes, each-one ts)
+
+-- each chunk has a place past a
+each-past : (b a n : ℕ) (cs : List ChunkPayloadData) → IsRunFrom (tsn b (a + 1)) cs → a + length cs ≤ n → Every (λ c. IsPast b a n c.tsn) cs
+each-past b a n [] run le = tt
+each-past b a n (c ∷ cs) run le =
+    let r = rest-run b a c cs run in
+    grind (arith, nat_tests, every-of, each-past b (a + 1) n cs r.1 (omega (arith, le)))
+
+-- none of these has another TSN
+others : (b a n t : ℕ) (cs : List ChunkPayloadData) → n < 2 ^ 31 → t ≡ tsn b a → a ≤ n → Every (λ c. IsPast b a n c.tsn) cs
+    → Every (λ (c : ChunkPayloadData). (c.tsn == t) ≡ false) cs
+others b a n t cs few is le h = grind (arith, nat_tests, every-of, same-is, same-place)
+
+none-one : (t : ℕ) (cs : List ChunkPayloadData) → Every (λ (c : ChunkPayloadData). (c.tsn == t) ≡ false) cs
+    → is_one (map (λ (c : ChunkPayloadData). c.tsn) cs) t ≡ false
+none-one t [] h = refl
+none-one t (c ∷ cs) h = ap (λ b. b || is_one (map (λ (x : ChunkPayloadData). x.tsn) cs) t) h.0 ∙ none-one t cs h.1
+
+module _ (p : ChunkPayloadData → Bool) (b n : ℕ) (few : n < 2 ^ 31) where
+  abbrev pub listed : List ChunkPayloadData → List ℕ
+  listed cs = map (λ c. c.tsn) (filter p cs)
+
+  abbrev IsItsOwn : List ℕ → ChunkPayloadData → Type 0
+  IsItsOwn ts c = is_one ts c.tsn ≡ true → p c ≡ true
+
+  pub own-listed : (a : ℕ) (cs : List ChunkPayloadData) → IsRunFrom (tsn b (a + 1)) cs → a + length cs ≤ n → Every (IsItsOwn (listed cs)) cs
+  own-listed a [] run le = tt
+  own-listed a (c ∷ cs) run le = by (p c) refl (own-listed (a + 1) cs r.1 (omega (arith, le)))
+    where
+      r : (c.tsn ≡ tsn b (a + 1)) × IsRunFrom (tsn b (a + 1 + 1)) cs
+      r = rest-run b a c cs run
+
+      apart : Every (λ (x : ChunkPayloadData). (x.tsn == c.tsn) ≡ false) cs
+      apart = others b (a + 1) n c.tsn cs few r.0 (omega (arith, le)) (each-past b (a + 1) n cs r.1 (omega (arith, le)))
+
+      turned : (x : ChunkPayloadData) → (x.tsn == c.tsn) ≡ false → (c.tsn == x.tsn) ≡ false
+      turned x e = fails (c.tsn == x.tsn) (λ h.
+          not_both (sym e ∙ subst (λ t. (t == c.tsn) ≡ true) (same-is c.tsn x.tsn h) (same-yes c.tsn)))
+
+      both-so : (ds : List ChunkPayloadData) → Every (λ (x : ChunkPayloadData). (x.tsn == c.tsn) ≡ false) ds → Every (IsItsOwn (listed cs)) ds
+          → Every (IsItsOwn (c.tsn ∷ listed cs)) ds
+      both-so ds h2 h3 = grind (arith, nat_tests, every-both, turned)
+
+      by : (q : Bool) → p c ≡ q → Every (IsItsOwn (listed cs)) cs
+          → Every (IsItsOwn (map (λ (x : ChunkPayloadData). x.tsn) (if q then c ∷ filter p cs else filter p cs))) (c ∷ cs)
+      by true e ih = (λ h. e, both-so cs apart ih)
+      by false e ih = grind (arith, nat_tests, apart, every-passing, none-one, not_both)
+
+-- ## One of all
+
+-- what is so of a chunk of the list is so of one of the list
+pub each-any : {A : Type 0} (q : A → A → Bool) (xs : List A) → Every (λ x. q x x ≡ true → list_any (q x) xs ≡ true) xs
+each-any q [] = tt
+each-any q (x ∷ xs) = grind (arith, nat_tests, every-of, or-left, or-right, each-any q xs)
+
+-- two tests that agree on each leave the same
+pub same-left : {A : Type 0} (p q : A → Bool) (xs : List A) → Every (λ x. p x ≡ q x) xs → filter p xs ≡ filter q xs
+same-left p q [] h = refl
+same-left p q (x ∷ xs) h =
+    ap (λ b. if b then x ∷ filter p xs else filter p xs) h.0 ∙ ap (λ ys. if q x then x ∷ ys else ys) (same-left p q xs h.1)
+
+-- # Only what may expire expires, and each that is due
 
 -- ## One chunk
 
@@ -60,18 +112,10 @@ never now (Some t) = refl
 -- the mode says what the chunk says
 module _ (now : ℕ) (w : Sending) (c : ChunkPayloadData) (m : IsInMode w.mode c) where
   pub past-is : c.deadline ≡ deadline_of w → (not (is_dcep c.payload_type) && is_past now c.deadline) ≡ is_lifetime_over now w
-  past-is d = by (is_dcep c.payload_type) refl
-    where
-      by : (b : Bool) → is_dcep c.payload_type ≡ b → (not b && is_past now c.deadline) ≡ is_lifetime_over now w
-      by true e = sym (ap (λ (k : Mode). is_past now (deadline_from k w.started)) (m.dcep e) ∙ never now w.started)
-      by false e = ap (is_past now) d
+  past-is d = grind (arith, nat_tests, never)
 
   pub worn-is : (count : ℕ) → (not (is_dcep c.payload_type) && is_over count (rexmit_limit c.reliability)) ≡ is_limit_passed count w
-  worn-is count = by (is_dcep c.payload_type) refl
-    where
-      by : (b : Bool) → is_dcep c.payload_type ≡ b → (not b && is_over count (rexmit_limit c.reliability)) ≡ is_limit_passed count w
-      by true e = sym (ap (λ (k : Mode). is_over count (limit_of k.reliability k.value)) (m.dcep e))
-      by false e = ap (λ r. is_over count (rexmit_limit r)) (m.other e)
+  worn-is count = grind (arith, nat_tests)
 
 -- ## In front
 
@@ -109,12 +153,7 @@ module _ (now : ℕ) (ws : List Sending) (q : Pending) (moded : AllWait (IsWaiti
   -- what goes is over
   of-passing : (p : ChunkPayloadData → Bool) (o : Option ChunkPayloadData) → ((c : ChunkPayloadData) → o ≡ Some c → p c ≡ true → over c ≡ true)
       → Every Over (option_to_list (message_of (passing p o)))
-  of-passing p None h = tt
-  of-passing p (Some c) h = by (p c) refl
-    where
-      by : (b : Bool) → p c ≡ b → Every Over (option_to_list (message_of (if b then Some c else None)))
-      by true e = (h c refl e, tt)
-      by false e = tt
+  of-passing p o h3 = grind (arith, nat_tests)
 
   pub front-over : Every Over (option_to_list (message_of (passing (is_expired now) (next_pending q))))
   front-over = of-passing (is_expired now) (next_pending q) (λ c e x. (both c.beginning_fragment (over c) (sym (first-is c e) ∙ x)).1)
@@ -127,12 +166,7 @@ module _ (now : ℕ) (ws : List Sending) (q : Pending) (moded : AllWait (IsWaiti
 module _ (ws : List Sending) (n : ℕ) where
   -- a chunk that is not abandoned
   late-same : (now : ℕ) (q : Pending) (c : ChunkPayloadData) → IsFlying ws n c → is_late now q c ≡ is_late_as_written now ws q c
-  late-same now q c h = by c.abandoned refl
-    where
-      by : (b : Bool) → c.abandoned ≡ b → (not b && (is_past now c.deadline && (not c.acked || waits c.message_id q)))
-          ≡ (not b && (is_lifetime_over now (numbered_in c.message_id ws) && (not c.acked || waits c.message_id q)))
-      by true e = refl
-      by false e = ap (λ d. is_past now d && (not c.acked || waits c.message_id q)) (h.1 e).1
+  late-same now q c h = grind (arith, nat_tests)
 
   worn-same : (c : ChunkPayloadData) → IsFlying ws n c → is_worn c ≡ is_worn_as_written ws c
   worn-same c h = ap (λ b. is_to_resend c && b) (worn-is 0 (numbered_in c.message_id ws) c h.0.1 c.nsent)
@@ -157,54 +191,22 @@ module _ (R : ℕ → Type 0) (L : List ℕ) where
   IsReady c = c.abandoned ≡ false → is_one L c.tsn ≡ true → R c.message_id
 
   ready-at : (o : Option ℕ) (tsn : ℕ) (f : Flight) → Every IsReady f.queue.inflight.chunks → Every IsReady (abandoned_of o tsn f.queue).inflight.chunks
-  ready-at None tsn f h = h
-  ready-at (Some m) tsn f h = by (last_removed m f.queue.pending)
-    where
-      cs : List ChunkPayloadData
-      cs = change_where (is_of m) as_abandoned f.queue.inflight.chunks
-
-      left : Every IsReady cs
-      left = every-changed IsReady (is_of m) as_abandoned (λ c _ _ e. absurd (not_both (sym e))) f.queue.inflight.chunks h
-
-      by : (o : Option ChunkPayloadData) → Every IsReady (with_terminal_chunk o tsn (payload.with_chunks f.queue.inflight cs)).chunks
-      by None = left
-      by (Some c) = every-inserted IsReady chunk_before (terminal_chunk tsn c) cs (λ e. absurd (not_both (sym e))) left
+  ready-at o tsn f h4 = grind (arith, nat_tests, every-changed, every-inserted, not_both)
 
   one-answered : (tsn bytes : ℕ) (o : Option ChunkPayloadData) → is_one L tsn ≡ true
       → ((c : ChunkPayloadData) → o ≡ Some c → (c.tsn ≡ tsn) × IsReady c) → Every R (numbers (abandoned_with o bytes))
-  one-answered tsn bytes None l h = tt
-  one-answered tsn bytes (Some c) l h = by c.abandoned refl
-    where
-      by : (b : Bool) → c.abandoned ≡ b → Every R (numbers (if b then [] else record {
-        stream = c.stream_identifier;
-        number = c.message_id;
-        bytes = bytes;
-        is_low = false;
-      } ∷ []))
-      by true e = tt
-      by false e = let x = h c refl in (x.1 e (subst (λ t. is_one L t ≡ true) (sym x.0) l), tt)
+  one-answered tsn bytes o h4 h5 = grind (arith, nat_tests)
 
   pub each-answered : (ts : List ℕ) (f : Flight) → Every (λ t. is_one L t ≡ true) ts → Every IsReady f.queue.inflight.chunks
       → Every R (numbers (leaving_each ts f))
   each-answered [] f l h = tt
   each-answered (t ∷ ts) f l h =
-      subst (Every R) (sym (numbers-append (leaving_at t f) (leaving_each ts (abandoned_at t f))))
-      (every-joined R (numbers (leaving_at t f)) (numbers (leaving_each ts (abandoned_at t f)))
-      (one-answered t (total_bytes f.queue - total_bytes (abandoned_at t f).queue) (find (has_tsn t) f.queue.inflight.chunks) l.0
-      (λ c e. (
-        same-is c.tsn t (found-passes (has_tsn t) f.queue.inflight.chunks c e),
-        every-found IsReady (has_tsn t) f.queue.inflight.chunks c e h,
-      )))
-      (each-answered ts (abandoned_at t f) l.1 (ready-at (message_to_abandon t f) f.next_tsn f h)))
+      let ih = each-answered ts (abandoned_at t f) l.1 (ready-at (message_to_abandon t f) f.next_tsn f h) in
+      grind (arith, nat_tests, every-found, every-joined, found-passes, numbers-append, one-answered, ready-at, same-is, ih)
 
   -- with the TSN of the message with a tail in front
   pub order-listed : (f : Flight) → Every (λ t. is_one L t ≡ true) (tail_first L f)
-  order-listed f =
-      every-joined (λ t. is_one L t ≡ true) (option_to_list (with_tail L f)) L (by (with_tail L f) refl) (each-one L)
-    where
-      by : (o : Option ℕ) → find (has_tail_at f) L ≡ o → Every (λ t. is_one L t ≡ true) (option_to_list o)
-      by None e = tt
-      by (Some t) e = (every-found (λ u. is_one L u ≡ true) (has_tail_at f) L t e (each-one L), tt)
+  order-listed f = grind (arith, nat_tests, each-one, every-found, every-joined)
 
 -- what is so of each chunk that passes is so of each that is listed
 ready : (R : ℕ → Type 0) (p : ChunkPayloadData → Bool) (L : List ℕ) (cs : List ChunkPayloadData)
@@ -227,16 +229,7 @@ module _ (b most : ℕ) (few : most < 2 ^ 31) (ws : List Sending) (t : Transmiss
 
   late-over : (now : ℕ) → Every (λ (c : ChunkPayloadData). is_late now t.flight.queue.pending c ≡ true
       → is_lifetime_over now (numbered_in c.message_id ws) ≡ true) cs
-  late-over now = every-of (IsFlying ws t.flight.queue.next_unstarted) (λ c. is_late now t.flight.queue.pending c ≡ true
-      → is_lifetime_over now (numbered_in c.message_id ws) ≡ true) one cs h.inflight
-    where
-      one : (c : ChunkPayloadData) → IsFlying ws t.flight.queue.next_unstarted c → is_late now t.flight.queue.pending c ≡ true
-          → is_lifetime_over now (numbered_in c.message_id ws) ≡ true
-      one c i e =
-          let same = sym (late-same ws t.flight.queue.next_unstarted now t.flight.queue.pending c i) ∙ e in
-          let x = both (not c.abandoned)
-          (is_lifetime_over now (numbered_in c.message_id ws) && (not c.acked || waits c.message_id t.flight.queue.pending)) same in
-          (both (is_lifetime_over now (numbered_in c.message_id ws)) (not c.acked || waits c.message_id t.flight.queue.pending) x.1).0
+  late-over now = grind (arith, nat_tests, both, every-of, late-same)
 
   abbrev Often : ℕ → Type 0
   Often k = is_sent_too_often k (numbered_in k ws) t ≡ true
@@ -246,10 +239,7 @@ module _ (b most : ℕ) (few : most < 2 ^ 31) (ws : List Sending) (t : Transmiss
     where
       one : (c : ChunkPayloadData) → IsFlying ws t.flight.queue.next_unstarted c → is_worn c ≡ true
           → ((c.message_id == c.message_id) && is_limit_passed c.nsent (numbered_in c.message_id ws)) ≡ true
-      one c i e =
-          let same = sym (worn-same ws t.flight.queue.next_unstarted c i) ∙ e in
-          and (c.message_id == c.message_id) (is_limit_passed c.nsent (numbered_in c.message_id ws)) (same-yes c.message_id)
-          (both (is_to_resend c) (is_limit_passed c.nsent (numbered_in c.message_id ws)) same).1
+      one c h2 h3 = grind (arith, nat_tests, and, both, same-yes, worn-same)
 
       by : (ds : List ChunkPayloadData) → Every (IsFlying ws t.flight.queue.next_unstarted) ds
           → Every (λ (c : ChunkPayloadData). ((c.message_id == c.message_id) && is_limit_passed c.nsent (numbered_in c.message_id ws)) ≡ true
@@ -286,28 +276,14 @@ only-due tsn size max most limits cs s small some r few call =
     (each-reason (base tsn) _ few ws s.sending.sender u.said.sender.queue u.said.filled u.unwrapped.spread.step.numbered call)
 
 pub each-due-expires : AfterEachFitRun EachDueExpires
-each-due-expires tsn size max most limits cs s small some r now =
-    let a = said-in tsn size max most limits cs s small some r in
-    let q = s.sending.sender.flight.queue in
-    let ws = (modes_from at_first cs).of_writes in
-    let m = a.said.sender.queue in (
-      (
-        front-goes now ws q.pending (m.ordered, m.unordered) a.said.filled (next_pending q.pending) refl,
-        tail-goes now ws q.pending (m.ordered, m.unordered) a.said.filled (next_pending q.pending) refl,
-      ),
-      (late-are ws q.next_unstarted now q.pending q.inflight.chunks m.inflight, worn-are ws q.next_unstarted q.inflight.chunks m.inflight),
-    )
+each-due-expires tsn size max most limits cs s small some r now = grind (arith, nat_tests, front-goes, late-are, said-in, tail-goes, worn-are)
 
 -- # A reliable write is abandoned by `abandon` alone, so that each other one is read in the end
 
 -- ## A reason is none of what is reliable
 
 never-over : (now : ℕ) (w : Sending) → w.mode.reliability ≡ Reliable → is_lifetime_over now w ≡ false
-never-over now w e = by w.started
-  where
-    by : (o : Option ℕ) → is_past now (deadline_from w.mode o) ≡ false
-    by None = refl
-    by (Some t) = ap (λ r. is_past now (if is_timed r then deadline_at t w.mode.value else None)) e
+never-over now w e = grind (arith, nat_tests)
 
 never-passed : (count : ℕ) (w : Sending) → w.mode.reliability ≡ Reliable → is_limit_passed count w ≡ false
 never-passed count w e = ap (λ r. is_over count (limit_of r w.mode.value)) e
@@ -315,14 +291,7 @@ never-passed count w e = ap (λ r. is_over count (limit_of r w.mode.value)) e
 never-often : (n : ℕ) (w : Sending) (cs : List ChunkPayloadData) → w.mode.reliability ≡ Reliable
     → list_any (λ c. (c.message_id == n) && is_limit_passed c.nsent w) cs ≡ false
 never-often n w [] e = refl
-never-often n w (c ∷ cs) e =
-    ap (λ b. ((c.message_id == n) && b) || list_any (λ d. (d.message_id == n) && is_limit_passed d.nsent w) cs) (never-passed c.nsent w e)
-    ∙ by (c.message_id == n) (never-often n w cs e)
-  where
-    by : (b : Bool) → list_any (λ d. (d.message_id == n) && is_limit_passed d.nsent w) cs ≡ false
-        → ((b && false) || list_any (λ d. (d.message_id == n) && is_limit_passed d.nsent w) cs) ≡ false
-    by true ih = ih
-    by false ih = ih
+never-often n w (c ∷ cs) e = grind (arith, nat_tests, never-passed, never-often n w cs e)
 
 -- a call of `abandon` named the message, or its write is not reliable
 abbrev pub IsAskedOrNot : List Sending → List ℕ → ℕ → Type 0
@@ -331,14 +300,7 @@ IsAskedOrNot ws asked n = (is_gone asked n ≡ true) ⊎ ((n < length ws) × (((
 -- each of a list is one of it
 each-asked : (ws : List Sending) (ns : List ℕ) → Every (IsAskedOrNot ws ns) ns
 each-asked ws [] = tt
-each-asked ws (n ∷ ns) = (
-  inl (or-left (nat_eq n n) (is_gone ns n) (same-yes n)),
-  every-of (IsAskedOrNot ws ns) (IsAskedOrNot ws (n ∷ ns)) more ns (each-asked ws ns),
-)
-  where
-    more : (k : ℕ) → IsAskedOrNot ws ns k → IsAskedOrNot ws (n ∷ ns) k
-    more k (inl e) = inl (or-right (nat_eq k n) (is_gone ns k) e)
-    more k (inr e) = inr e
+each-asked ws (n ∷ ns) = grind (arith, nat_tests, every-of, or-left, or-right, same-yes, each-asked ws ns)
 
 -- those with a reason are not reliable
 unasked : (R : ℕ → Type 0) (ws : List Sending) (asked ns : List ℕ) → ((n : ℕ) → R n → (numbered_in n ws).mode.reliability ≡ Reliable → ⊥) → Every R ns
@@ -347,17 +309,7 @@ unasked R ws asked ns not-so h b = every-both R (λ n. n < length ws) (IsAskedOr
 
 of-reasons : (call : SenderCall) (t : Transmission) (ws : List Sending) → Every (λ n. IsReason call t n (numbered_in n ws)) (abandoned_by call t)
     → Every (λ n. n < length ws) (abandoned_by call t) → Every (IsAskedOrNot ws (asked_by call t)) (abandoned_by call t)
-of-reasons (outgoing.expires now m) t ws h b = unasked (λ n. is_lifetime_over now (numbered_in n ws) ≡ true) ws []
-    (abandoned_by (outgoing.expires now m) t) (λ n e r. not_both (sym (never-over now (numbered_in n ws) r) ∙ e)) h b
-of-reasons (outgoing.expires_tail now m) t ws h b = unasked (λ n. is_lifetime_over now (numbered_in n ws) ≡ true) ws []
-    (abandoned_by (outgoing.expires_tail now m) t) (λ n e r. not_both (sym (never-over now (numbered_in n ws) r) ∙ e)) h b
-of-reasons (outgoing.expires_late now gone) t ws h b = unasked (λ n. is_lifetime_over now (numbered_in n ws) ≡ true) ws []
-    (abandoned_by (outgoing.expires_late now gone) t) (λ n e r. not_both (sym (never-over now (numbered_in n ws) r) ∙ e)) h b
-of-reasons (outgoing.expires_rexmit gone) t ws h b = unasked (λ n. is_sent_too_often n (numbered_in n ws) t ≡ true) ws []
-    (abandoned_by (outgoing.expires_rexmit gone) t)
-    (λ n e r. not_both (sym (never-often n (numbered_in n ws) t.flight.queue.inflight.chunks r) ∙ e)) h b
-of-reasons (outgoing.abandons tsn a) t ws h b = each-asked ws (abandoned_by (outgoing.abandons tsn a) t)
-of-reasons call t ws h b = tt
+of-reasons call t ws h4 h5 = grind (arith, nat_tests, each-asked, never-often, never-over, not_both, unasked)
 
 -- ## Calls
 
@@ -397,12 +349,9 @@ module _ (first : ℕ) where
       (every-of (IsAskedOrNot m.of_writes (asked_by call t)) (IsAskedOrNot k.of_writes xs)
       (askable m.of_writes k.of_writes (asked_by call t) xs keep (gone-right asked (asked_by call t))) (abandoned_by call t)
       (left-by n call old m (omega (arith, few)) h)) in
-      subst (λ ys. Every (IsAskedOrNot (modes_from k cs).of_writes ys) (gone ++ (abandoned_by call t ++ abandoned_in r.0 cs new r.1.1)))
-      (append_assoc asked (asked_by call t) (asked_in r.0 cs new r.1.1))
-      (subst (λ ys. Every (IsAskedOrNot (modes_from k cs).of_writes (xs ++ asked_in r.0 cs new r.1.1)) ys)
-      (append_assoc gone (abandoned_by call t) (abandoned_in r.0 cs new r.1.1))
-      (given-in (n + d) cs r.0 new k r.1.1 (omega (arith, few)) (said-then first n call old r.0 m (omega (arith, few)) r.1.0 h)
-      (gone ++ abandoned_by call t) xs all))
+      let ih = given-in (n + d) cs r.0 new k r.1.1 (omega (arith, few)) (said-then first n call old r.0 m (omega (arith, few)) r.1.0 h)
+      (gone ++ abandoned_by call t) xs all in
+      grind (arith, nat_tests, append_assoc, said-then, ih)
   given-in n (of_receiver call ∷ cs) old new m r few h gone asked e =
       let none = none-given first n call old r.0 m r.1.0 h in
       given-in n cs r.0 new m r.1.1 (omega (arith, few, none)) (still-then first n call old r.0 m (omega (arith, few)) r.1.0 h) gone asked e
@@ -429,15 +378,5 @@ reliable-read tsn size max most limits cs s run small some few exhausted =
     let total = ap length u.unwrapped.spread.holds.writes in
     let long = length-forgotten u.numbered in
     let count = u.said.count in
-    let each = given-in tsn 0 cs start s at_first run (omega (arith, few)) (few-start tsn size max most limits small some) [] [] tt in (
-      o.0,
-      o.1,
-      o.2,
-      λ k lt reliable unasked'.
-          let n = length s.written - (k + 1) in
-          let is = numbered-at ws k n unknown (omega (arith, lt, total, long, count)) in
-          o.3 k lt (fails (is_gone gone n) (λ e. elim (at-gone (IsAskedOrNot ws asked) n gone e each) [
-            | inl a ↦ not_both (sym unasked' ∙ a)
-            | inr r ↦ r.1 (sym (ap (λ (v : Sending). v.mode.reliability) is) ∙ reliable)
-          ])),
-    )
+    let each = given-in tsn 0 cs start s at_first run (omega (arith, few)) (few-start tsn size max most limits small some) [] [] tt in
+    grind (arith, nat_tests, at-gone, not_both, numbered-at)

@@ -1,16 +1,8 @@
 -- Each chunk that waits has some bytes, whatever a sender does.
-use Rattle.std.proofs.Common.{◌≡◌, ℕ, zero, suc, ◌+◌, ◌<◌, ◌≤◌, List, [], ◌∷◌, length, map, drop, refl, sym, subst, arith}
-use Rattle.sctp_util.specs.Kept.{always, numbers_where}
-use Rattle.sctp_util.specs.Lists.{pieces}
-use Rattle.sctp_data.specs.declared.chunk.chunk_payload_data.ChunkPayloadData.{ChunkPayloadData}
-use Rattle.sctp_data.specs.declared.chunk.chunk_payload_data.PayloadProtocolIdentifier.{PayloadProtocolIdentifier}
-use Rattle.sctp_outbound.specs.outbound_queue.OutboundQueue.{Outbound, with_message}
-use Rattle.sctp_stream.specs.declared.stream.StreamState.{StreamState}
-use Rattle.sctp_stream.specs.Stream.{fragment_at, fragments_of, pieces_of}
-use Rattle.sctp_sender.specs.Outgoing.{fragments_with_mode, with_reliability}
-use Rattle.sctp_sender.specs.Sender.{Transmission}
-use Rattle.sctp_sender.specs.SenderRuns.{Makes}
-use Rattle.sctp_delivery.specs.SenderCalls.{IsAccepted, MakesExactly, SenderCall, as_run, writes}
+use Rattle.sctp_delivery.proofs.Names.{◌≡◌, ℕ, zero, suc, ◌+◌, ◌<◌, ◌≤◌, List, [], ◌∷◌, length, map, drop, refl, sym, subst, arith, always, numbers_where}
+use Rattle.sctp_delivery.proofs.Names.{pieces, ChunkPayloadData, PayloadProtocolIdentifier, Outbound, with_message, OutboundStream, fragment_at, fragments_of}
+use Rattle.sctp_delivery.proofs.Names.{pieces_of, fragments_with_mode, with_reliability, Transmission, Makes, IsAccepted, MakesExactly, SenderCall, as_run}
+use Rattle.sctp_delivery.proofs.Names.{writes}
 use Rattle.sctp_delivery.proofs.Every.{Every, every-at, every-mapped, every-all}
 use Rattle.sctp_delivery.proofs.Numbers.{AreSized, size-found}
 use Rattle.sctp_delivery.proofs.Writing.{accepted-stream}
@@ -31,7 +23,7 @@ pieces-filled (suc most) size [] some = tt
 pieces-filled (suc most) zero (x ∷ xs) some = absurd (omega (arith, some))
 pieces-filled (suc most) (suc size) (x ∷ xs) some = (omega arith, pieces-filled most (suc size) (drop (suc size) (x ∷ xs)) some)
 
-module _ (l : StreamState) (ppi : PayloadProtocolIdentifier) (bytes : List ℕ) (some : 0 < l.max_payload_size) where
+module _ (l : OutboundStream) (ppi : PayloadProtocolIdentifier) (bytes : List ℕ) (some : 0 < l.max_payload_size) where
   all-pieces : Every (λ (p : List ℕ). 0 < length p) (pieces_of l bytes)
   all-pieces = pieces-filled (length bytes) l.max_payload_size bytes some
 

@@ -1,33 +1,13 @@
 -- A receiver that is read refuses no FORWARD-TSN that the sender may make now.
-use Rattle.std.proofs.Common.{◌≡◌, ℕ, zero, suc, ◌+◌, ◌-◌, ◌%◌, ◌^◌, ◌<◌, ◌≤◌, Bool, true, false, not, List, [], ◌∷◌, take, Option, Some, None, inl, inr, refl}
-use Rattle.std.proofs.Common.{ap, sym, subst, ◌∙◌, arith}
-use Rattle.std.specs.Prelude.{◌⊎◌, ◌==◌, ◌&&◌, ◌||◌, if◌then◌else◌, is_some, nat_le, nat_lt}
-use Rattle.std.specs.List.{filter, list_all, list_any}
-use Rattle.std.proofs.lemmas.Bool.{cases_lt}
-use Rattle.std.proofs.lemmas.Bool.Decides.{nat_tests}
-use Rattle.sctp_util.specs.Serial.{distance, distance16}
-use Rattle.sctp_util.proofs.Cases.{same-yes}
-use Rattle.sctp_util.proofs.More.{both, not_both}
-use Rattle.sctp_util.proofs.Round.{distance-tsn, tsn}
-use Rattle.sctp_data.specs.declared.chunk.chunk_payload_data.ChunkPayloadData.{ChunkPayloadData}
-use Rattle.sctp_data.specs.declared.chunk.chunk_forward_tsn.ChunkForwardTsnStream.{ChunkForwardTsnStream}
-use Rattle.sctp_data.specs.ForwardTsn.{ForwardTsn}
-use Rattle.sctp_data.specs.PayloadData.{data_of}
-use Rattle.sctp_outbound.specs.pending_queue.PendingQueue.{last_of}
-use Rattle.sctp_serial.specs.DataChunks.{is_on}
-use Rattle.sctp_reassembly.specs.reassembly_queue.ReassemblyQueue.{message_read}
-use Rattle.sctp_receiver.specs.declared.receiver.inbound_streams.InboundStream.{InboundStream}
-use Rattle.sctp_receiver.specs.declared.receiver.refusal.ReceiverRefusal.TheVariants.{NamedSsnTooFar, NamedStreamUnknown, TsnOpposite}
-use Rattle.sctp_receiver.specs.Receiver.{Reception, forward_refusal, is_open, message_of, stream_of}
-use Rattle.sctp_receiver.specs.Skips.{is_ahead, names_too_far, skip_refusal}
-use Rattle.sctp_receiver.specs.Ssns.{is_lowest_complete, is_name_too_far, is_named_too_far, lowest_ssn}
-use Rattle.sctp_sender.specs.Abandonment.{Name, ahead, is_named, is_pair_of, named_up_to, pairs_of}
-use Rattle.sctp_sender.specs.Flight.{Flight}
-use Rattle.sctp_delivery.specs.Abandoned.{abandoned_in}
-use Rattle.sctp_delivery.specs.Messages.{WhileFewTsns}
-use Rattle.sctp_delivery.specs.Refused.{MayMake, NoneMadeIsRefused, is_due_named, reads_nothing_on}
-use Rattle.sctp_delivery.specs.Sacks.{tsns_given}
-use Rattle.sctp_delivery.specs.Session.{Session, at_start}
+use Rattle.sctp_delivery.proofs.Names.{◌≡◌, ℕ, zero, suc, ◌+◌, ◌-◌, ◌%◌, ◌^◌, ◌<◌, ◌≤◌, Bool, true, false, not, List, [], ◌∷◌, take, Option, Some, None, inl}
+use Rattle.sctp_delivery.proofs.Names.{inr, refl, ap, sym, subst, ◌∙◌, arith, ◌⊎◌, ◌==◌, ◌&&◌, ◌||◌, if◌then◌else◌, nat_le, nat_lt, filter, list_all, list_any}
+use Rattle.sctp_delivery.proofs.Names.{cases_lt, nat_tests, distance, same-yes, both, not_both, distance-tsn, tsn, ChunkPayloadData, ChunkForwardTsnStream}
+use Rattle.sctp_delivery.proofs.Names.{ForwardTsn, data_of, last_of, is_on, message_read, InboundStream, NamedSsnTooFar, NamedStreamUnknown, TsnOpposite}
+use Rattle.sctp_delivery.proofs.Names.{Reception, forward_refusal, is_open, stream_of, is_ahead, names_too_far, skip_refusal, is_name_too_far, is_named_too_far}
+use Rattle.sctp_delivery.proofs.Names.{lowest_ssn, Name, ahead, is_named, is_pair_of, named_up_to, pairs_of, Flight, abandoned_in, WhileFewTsns, MayMake}
+use Rattle.sctp_delivery.proofs.Names.{is_due_named, reads_nothing_on, tsns_given, Session, at_start}
+use Rattle.sctp_util.specs.Serial.{distance16}
+use Rattle.sctp_delivery.specs.Refused.{NoneMadeIsRefused}
 use Rattle.sctp_delivery.proofs.KeptOrGone.{HeldWell, IsLate}
 use Rattle.sctp_delivery.proofs.KeptSessions.{HasKept, kept-in}
 use Rattle.sctp_delivery.proofs.NotRefused.{begun-low}
@@ -42,7 +22,6 @@ use Rattle.sctp_delivery.proofs.TakenCalls as answered
 use Rattle.sctp_delivery.proofs.TsnPlaces.{base, same-place}
 use Rattle.sctp_delivery.proofs.UnwrappedHolds.{AreDue, Came, DueOn}
 use Rattle.sctp_delivery.proofs.UnwrappedSessions as sessions
-use Rattle.sctp_delivery.proofs.InTheEnd.{nothing}
 
 -- ## Names
 
@@ -53,13 +32,7 @@ In x (y ∷ ys) = (y ≡ x) ⊎ In x ys
 
 in-those : (q : ChunkForwardTsnStream → Bool) (x : ChunkForwardTsnStream) (ys : List ChunkForwardTsnStream) → q x ≡ true → In x ys → In x (filter q ys)
 in-those q x [] h i = i
-in-those q x (y ∷ ys) h i = by (q y) refl i (in-those q x ys h)
-  where
-    by : (b : Bool) → q y ≡ b → (y ≡ x) ⊎ In x ys → (In x ys → In x (filter q ys)) → In x (if b then y ∷ filter q ys else filter q ys)
-    by true e (inl k) ih = inl k
-    by true e (inr k) ih = inr (ih k)
-    by false e (inl k) ih = absurd (not_both (sym e ∙ ap q k ∙ h))
-    by false e (inr k) ih = ih k
+in-those q x (y ∷ ys) h i = grind (arith, nat_tests, not_both, in-those q x ys h)
 
 all-in : (q : ChunkForwardTsnStream → Bool) (x : ChunkForwardTsnStream) (ys : List ChunkForwardTsnStream) → list_all q ys ≡ true → In x ys → q x ≡ true
 all-in q x [] h i = absurd i
@@ -77,16 +50,7 @@ none-named : (st : ℕ) (sent : List Entry) (a j : ℕ) (cs : List ChunkPayloadD
 none-named st sent a zero cs o none = refl
 none-named st sent a (suc j) [] o none = refl
 none-named st sent a (suc j) (c ∷ cs) o none =
-    by c.abandoned (not c.unordered) (is_on st c) refl (o.0 ∙ none (a + 1) (omega arith) (omega arith))
-    (none-named st sent (a + 1) j cs o.1 (λ k lt le. none k (omega (arith, lt)) (omega (arith, le))))
-  where
-    by : (b u v : Bool) → is_on st c ≡ v → (v && u) ≡ false → filter (is_on st) (filter is_named (take j cs)) ≡ []
-        → filter (is_on st) (if b && u then c ∷ filter is_named (take j cs) else filter is_named (take j cs)) ≡ []
-    by true true true e h ih = absurd (not_both (sym h))
-    by true true false e h ih =
-        ap (λ k. if k then c ∷ filter (is_on st) (filter is_named (take j cs)) else filter (is_on st) (filter is_named (take j cs))) e ∙ ih
-    by true false v e h ih = ih
-    by false u v e h ih = ih
+    grind (arith, nat_tests, not_both, none-named st sent (a + 1) j cs o.1 (λ k lt le. none k (omega (arith, lt)) (omega (arith, le))))
 
 -- ## Numbers
 
@@ -98,15 +62,7 @@ not-between low j a b = elim (cases_lt j low) [ inl lt ↦ inr (omega (arith, lt
 
 not-far : (k : ℕ) → (k < 2 ^ 15 - 1) ⊎ (2 ^ 15 + 2 ^ 14 ≤ k) → (c : Bool)
     → ((nat_le (2 ^ 15) k && nat_lt k (2 ^ 15 + 2 ^ 14)) || ((k == 2 ^ 15 - 1) && c)) ≡ false
-not-far k (inl lt) c =
-    let a : nat_le (2 ^ 15) k ≡ false = grind (arith, nat_tests, lt) in
-    let b : (k == 2 ^ 15 - 1) ≡ false = grind (arith, nat_tests, lt) in
-    ap (λ x. (x && nat_lt k (2 ^ 15 + 2 ^ 14)) || ((k == 2 ^ 15 - 1) && c)) a ∙ ap (λ x. x && c) b
-not-far k (inr ge) c =
-    let a : nat_lt k (2 ^ 15 + 2 ^ 14) ≡ false = grind (arith, nat_tests, ge) in
-    let d : nat_le (2 ^ 15) k ≡ true = grind (arith, nat_tests, ge) in
-    let b : (k == 2 ^ 15 - 1) ≡ false = grind (arith, nat_tests, ge) in
-    ap (λ x. (x && nat_lt k (2 ^ 15 + 2 ^ 14)) || ((k == 2 ^ 15 - 1) && c)) d ∙ ap (λ x. x || ((k == 2 ^ 15 - 1) && c)) a ∙ ap (λ x. x && c) b
+not-far k h2 c = grind (arith, nat_tests)
 
 -- ## A FORWARD-TSN that may be made
 
@@ -242,19 +198,10 @@ module _ (first n : ℕ) (few : n < 2 ^ 31) (gone : List ℕ) (s : Session) (h :
         let close = not-between e.low number-is.0 (omega (arith, from, within, most, tight, all, zm, k)) (omega (arith, k, top, near, least, low)) in
         let same : distance16 (lowest_ssn l.queue.held) x.sequence ≡ distance16 (e.low % 2 ^ 16) (number-is.0 % 2 ^ 16) =
         ap (λ j. distance16 j x.sequence) e.lowest ∙ ap (distance16 (e.low % 2 ^ 16)) number-is.2 in
-        not-far (distance16 (lowest_ssn l.queue.held) x.sequence) (elim close [
-          | inl lt ↦ inl (omega (arith, same, lt))
-          | inr ge ↦ inr (omega (arith, same, ge))
-        ]) (is_lowest_complete l.queue.held)
+        grind (arith, nat_tests, not-far)
 
     not-named-far : is_named_too_far x (stream_of st r) ≡ false
-    not-named-far = by (stream_of st r) refl (all-in (λ y. is_open y.identifier r && reads_nothing_on y.identifier r) x f.streams due in')
-      where
-        by : (o : Option InboundStream) → stream_of st r ≡ o → (is_open st r && reads_nothing_on st r) ≡ true → is_named_too_far x o ≡ false
-        by None there e = refl
-        by (Some l) there e =
-            near-name l there (nothing (message_read l.queue.held)
-            (ap (λ o. not (is_some (message_of o))) (sym there) ∙ (both (is_open st r) (reads_nothing_on st r) e).1))
+    not-named-far = grind (arith, nat_tests, all-in, both, near-name)
 
   open-all : list_any (λ y. not (is_open y.identifier r)) f.streams ≡ false
   open-all = none-in (λ y. not (is_open y.identifier r)) f.streams (λ y i.

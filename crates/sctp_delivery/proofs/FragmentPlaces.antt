@@ -1,9 +1,6 @@
 -- The fragments that a sender gave TSNs to, by their places.
-use Rattle.std.proofs.Common.{◌≡◌, ℕ, suc, ◌<◌, ◌≤◌, false, List, [], ◌∷◌, length, inl, inr, ap, sym, ◌∙◌, arith}
-use Rattle.std.specs.Prelude.{⊤, ◌==◌, if◌then◌else◌}
-use Rattle.std.proofs.lemmas.Bool.Decides.{nat_tests}
-use Rattle.sctp_util.proofs.Cases.{same-yes}
-use Rattle.sctp_data.specs.PayloadData.{Data}
+use Rattle.sctp_delivery.proofs.Names.{◌≡◌, ℕ, suc, ◌<◌, ◌≤◌, false, List, [], ◌∷◌, length, inl, inr, ap, sym, ◌∙◌, arith, ⊤, ◌==◌, if◌then◌else◌, nat_tests}
+use Rattle.sctp_delivery.proofs.Names.{same-yes, Data}
 use Rattle.sctp_delivery.proofs.Sent.{Entry, IsPart, Numbered, fragment, terminal}
 
 -- ## By places, from 1 on

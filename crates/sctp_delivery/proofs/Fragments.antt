@@ -1,21 +1,11 @@
 -- The fragments of a write wait one behind another, and together have its bytes.
-use Rattle.std.proofs.Common.{◌≡◌, ℕ, zero, suc, ◌+◌, ◌<◌, ◌≤◌, true, false, List, [], ◌∷◌, ◌++◌, length, map, take, drop, refl, ap, sym, subst, ◌∙◌, arith}
-use Rattle.std.specs.Prelude.{◌==◌, if◌then◌else◌, slice_index_or}
-use Rattle.std.proofs.lemmas.Bool.Decides.{nat_tests}
-use Rattle.std.proofs.lemmas.List.{append_assoc}
-use Rattle.sctp_util.specs.Kept.{always, numbers_from, numbers_where}
-use Rattle.sctp_util.specs.Lists.{pieces}
-use Rattle.sctp_util.proofs.Cases.{same-is}
+use Rattle.sctp_delivery.proofs.Names.{◌≡◌, ℕ, zero, suc, ◌+◌, ◌<◌, ◌≤◌, true, false, List, [], ◌∷◌, ◌++◌, length, map, take, drop, refl, ap, sym, subst, ◌∙◌}
+use Rattle.sctp_delivery.proofs.Names.{arith, ◌==◌, if◌then◌else◌, slice_index_or, nat_tests, append_assoc, always, numbers_where, pieces, same-is}
+use Rattle.sctp_delivery.proofs.Names.{ChunkPayloadData, PayloadProtocolIdentifier, data_of, with_message_id, fragments_with_mode, OutboundStream, pieces_of}
+use Rattle.sctp_util.specs.Kept.{numbers_from}
 use Rattle.sctp_util.proofs.Getting.{map-twice}
 use Rattle.sctp_util.proofs.Lines.{take-drop}
-use Rattle.sctp_data.specs.declared.chunk.chunk_payload_data.ChunkPayloadData.{ChunkPayloadData}
-use Rattle.sctp_data.specs.declared.chunk.chunk_payload_data.PayloadProtocolIdentifier.{PayloadProtocolIdentifier}
-use Rattle.sctp_data.specs.PayloadData.{data_of}
-use Rattle.sctp_outbound.specs.outbound_queue.OutboundQueue.{with_message_id}
-use Rattle.sctp_sender.specs.Outgoing.{fragments_with_mode}
 use Rattle.sctp_sender.proofs.SenderStreams.{fragments-made, made}
-use Rattle.sctp_stream.specs.declared.stream.StreamState.{StreamState}
-use Rattle.sctp_stream.specs.Stream.{pieces_of}
 use Rattle.sctp_delivery.proofs.Sent.{Fits, Numbered}
 use Rattle.sctp_delivery.proofs.Turns.{Turns, counts, inner-not, number_after}
 use Rattle.sctp_delivery.proofs.Waiting.{Goes, Place, Waits, between, within}
@@ -62,7 +52,7 @@ drop-all (p ∷ ps) (suc j) le = drop-all ps j (omega (arith, le))
 
 -- ## The fragments
 
-module _ (ws : List Numbered) (n : ℕ) (l : StreamState) (ppi : PayloadProtocolIdentifier) (bytes : List ℕ) (some : 0 < l.max_payload_size) where
+module _ (ws : List Numbered) (n : ℕ) (l : OutboundStream) (ppi : PayloadProtocolIdentifier) (bytes : List ℕ) (some : 0 < l.max_payload_size) where
   abbrev write : Numbered
   write = record { stream = l.stream_identifier; payload_type = ppi; bytes = bytes; place = n }
 

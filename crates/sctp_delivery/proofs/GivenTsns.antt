@@ -1,36 +1,19 @@
 -- How many TSNs a sender gave out, and which of them are in flight.
-use Rattle.std.proofs.Common.{◌≡◌, ℕ, zero, suc, ◌+◌, ◌-◌, ◌<◌, ◌≤◌, ◌%◌, ◌^◌, Bool, true, false, List, [], ◌∷◌, ◌++◌, length, length-append, length-drop, drop}
-use Rattle.std.proofs.Common.{Option, Some, None, refl, ap, sym, subst, ◌∙◌, arith, take, inl, inr}
-use Rattle.std.specs.Prelude.{if◌then◌else◌, is_some, nat_lt, nat_le, option_map, unwrap_or}
-use Rattle.std.proofs.lemmas.List.{length-map}
-use Rattle.std.proofs.lemmas.Bool.Decides.{nat_tests}
-use Rattle.sctp_util.specs.Lists.{change_where, insert_before}
-use Rattle.sctp_util.specs.Serial.{distance, comes_before, at_or_before}
-use Rattle.sctp_util.proofs.Edits.{length-change_where}
-use Rattle.sctp_util.proofs.More.{not_both, both}
-use Rattle.sctp_util.proofs.Round.{tsn, distance-tsn}
-use Rattle.sctp_data.specs.declared.chunk.chunk_payload_data.ChunkPayloadData.{ChunkPayloadData}
-use Rattle.sctp_data.specs.SelectiveAck.{Sack}
-use Rattle.sctp_serial.specs.DataChunks.{chunk_before, following_tsn, tsns, has_tsn, preceding_tsn}
-use Rattle.sctp_outbound.specs.Marks.{as_abandoned, as_acknowledged, is_of}
-use Rattle.sctp_outbound.specs.outbound_queue.OutboundQueue.{all_started, as_sent, sent_next, sent_of, terminal_chunk, with_terminal_chunk}
+use Rattle.sctp_delivery.proofs.Names.{◌≡◌, ℕ, zero, suc, ◌+◌, ◌-◌, ◌<◌, ◌≤◌, ◌%◌, ◌^◌, Bool, true, false, List, [], ◌∷◌, ◌++◌, length, length-append}
+use Rattle.sctp_delivery.proofs.Names.{length-drop, drop, Option, Some, None, refl, ap, sym, subst, ◌∙◌, arith, take, if◌then◌else◌, nat_lt, nat_le, option_map}
+use Rattle.sctp_delivery.proofs.Names.{length-map, nat_tests, common_steps, change_where, insert_before, distance, comes_before, at_or_before}
+use Rattle.sctp_delivery.proofs.Names.{length-change_where, not_both, both, tsn, distance-tsn, ChunkPayloadData, Sack, chunk_before, following_tsn, tsns}
+use Rattle.sctp_delivery.proofs.Names.{has_tsn, preceding_tsn, as_acknowledged, sent_next, last_of, ends, no_last, peeked_all_started, Flight}
+use Rattle.sctp_delivery.proofs.Names.{after_abandonment, after_sack, is_outdated, message_to_abandon, next_after_send, reports_anew, take_sack, tsns_from}
+use Rattle.sctp_delivery.proofs.Names.{abandoned_at, abandoned_each, started-inflight, IsRunFrom, changed-run, past-is, filter, cases_lt, none-some, same-is}
+use Rattle.sctp_delivery.proofs.Names.{some-same, advanced_ack_point, ahead, can_skip_to, ends_in, is_end, is_kept, last_end, skip_end, found-passes}
+use Rattle.std.specs.Prelude.{unwrap_or}
 use Rattle.sctp_outbound.specs.payload_queue.PayloadQueue as payload
-use Rattle.sctp_outbound.specs.pending_queue.PendingQueue.{last_removed, next_pending, without, last_of}
-use Rattle.sctp_outbound.specs.pending_queue.Whole.{waits, ends}
-use Rattle.sctp_outbound.proofs.lemmas.outbound_queue.Abandoned.{last_removed_none, no_last}
-use Rattle.sctp_outbound.proofs.lemmas.outbound_queue.Outbounds.{peeked_all_started}
-use Rattle.sctp_sender.specs.Flight.{Flight, after_abandonment, after_sack, is_outdated, message_to_abandon, next_after_send, reports_anew, take_sack}
-use Rattle.sctp_sender.specs.Flight.{tsns_from}
-use Rattle.sctp_sender.specs.Late.{abandoned_at, abandoned_each}
-use Rattle.sctp_sender.proofs.Flights.{put-last, started-inflight}
-use Rattle.sctp_sender.proofs.Runs.{IsRunFrom, changed-run, dropped, past-is}
+use Rattle.sctp_outbound.proofs.lemmas.outbound_queue.Abandoned.{last_removed_none}
+use Rattle.sctp_sender.proofs.Flights.{put-last}
+use Rattle.sctp_sender.proofs.Runs.{dropped}
 use Rattle.sctp_delivery.proofs.TsnPlaces.{before, tsn-small, IsGiven, at-or-before, next-place}
-use Rattle.std.specs.List.{find, filter}
-use Rattle.std.proofs.lemmas.Bool.{cases_lt}
-use Rattle.std.proofs.lemmas.Option.{none-some}
-use Rattle.sctp_util.proofs.Cases.{same-is, some-same}
-use Rattle.sctp_sender.specs.Abandonment.{advanced_ack_point, ahead, can_skip_to, ends_in, is_end, is_kept, last_end, skip_end}
-use Rattle.sctp_sender.proofs.Lates.{found-passes}
+use Rattle.std.specs.List.{find}
 use Rattle.sctp_delivery.proofs.Every.{Every, every-found, every-of, every-passing}
 use Rattle.sctp_delivery.proofs.Sessions.{unnot}
 
@@ -49,22 +32,11 @@ count xs = length-map xs (λ c. c.tsn)
 
 pub same-numbered : (p n : ℕ) (f g : Flight) → tsns g.queue.inflight.chunks ≡ tsns f.queue.inflight.chunks → g.next_tsn ≡ f.next_tsn
     → g.acked_tsn ≡ f.acked_tsn → IsNumbered p n f → IsNumbered p n g
-same-numbered p n f g same next acked h =
-    let long : length g.queue.inflight.chunks ≡ length f.queue.inflight.chunks = sym (count g.queue.inflight.chunks) ∙ ap length same
-    ∙ count f.queue.inflight.chunks in
-    record {
-      acked = h.acked;
-      acked_is = acked ∙ h.acked_is;
-      next_is = next ∙ h.next_is;
-      run = same ∙ h.run ∙ ap (tsns_from (tsn p (h.acked + 1))) (sym long);
-      total = omega (arith, h.total, long);
-    }
+same-numbered p n f g same next acked h = grind (arith, common_steps)
 
 one-more : (t n : ℕ) → t < 2 ^ 32 → tsns_from t n ++ ((t + n) % 2 ^ 32) ∷ [] ≡ tsns_from t (suc n)
 one-more t zero small = ap (λ u. u ∷ []) {x = (t + 0) % 2 ^ 32} {y = t} (omega arith)
-one-more t (suc n) small =
-    let e : (t + suc n) % 2 ^ 32 ≡ (following_tsn t + n) % 2 ^ 32 = omega arith in
-    ap (λ u. t ∷ (tsns_from (following_tsn t) n ++ u ∷ [])) e ∙ ap (λ ts. t ∷ ts) (one-more (following_tsn t) n (omega arith))
+one-more t (suc n) small = grind (arith, nat_tests, one-more (following_tsn t) n (omega arith))
 
 -- a chunk with the next TSN, put behind chunks with the TSNs of those in flight
 pub more-numbered : (p n : ℕ) (f g : Flight) (x : ChunkPayloadData) (cs : List ChunkPayloadData) → tsns cs ≡ tsns f.queue.inflight.chunks → x.tsn ≡ f.next_tsn
@@ -79,15 +51,7 @@ more-numbered p n f g x cs same is put next acked few h =
     (omega (arith, few, h.total, long)) run at in
     let more : length g.queue.inflight.chunks ≡ suc (length cs) = sym (count g.queue.inflight.chunks) ∙ ap length all ∙
     (let a = length-append (tsns cs) (x.tsn ∷ []) in let b = count cs in omega (arith, a, b)) in
-    record {
-      acked = h.acked;
-      acked_is = acked ∙ h.acked_is;
-      next_is = omega (arith, next, h.next_is);
-      run =
-          all ∙ ap (λ ts. ts ++ x.tsn ∷ []) run ∙ ap (λ t. tsns_from first (length cs) ++ t ∷ []) at
-          ∙ one-more first (length cs) (tsn-small p (h.acked + 1)) ∙ ap (tsns_from first) (sym more);
-      total = omega (arith, h.total, more, long);
-    }
+    grind (arith, nat_tests, one-more, tsn-small)
 
 -- ## A call
 
@@ -104,63 +68,20 @@ none-more n = omega arith
 
 pub raises-none : (p most : ℕ) (f g : Flight) → tsns g.queue.inflight.chunks ≡ tsns f.queue.inflight.chunks → g.next_tsn ≡ f.next_tsn
     → g.acked_tsn ≡ f.acked_tsn → Raises p most f g
-raises-none p most f g same next acked = record {
-  count = 0;
-  few = omega arith;
-  acked = acked;
-  next = λ n e. next ∙ e ∙ ap (tsn p) (none-more n);
-  numbered = λ n few h. subst (λ m. IsNumbered p m g) (none-more n) (same-numbered p n f g same next acked h);
-}
+raises-none p most f g same next acked = grind (arith, nat_tests, none-more, same-numbered)
 
 raises-one : (p most : ℕ) (f g : Flight) (x : ChunkPayloadData) (cs : List ChunkPayloadData) → 1 ≤ most → tsns cs ≡ tsns f.queue.inflight.chunks
     → x.tsn ≡ f.next_tsn → g.queue.inflight.chunks ≡ insert_before chunk_before x cs → g.next_tsn ≡ following_tsn f.next_tsn → g.acked_tsn ≡ f.acked_tsn
     → Raises p most f g
-raises-one p most f g x cs some same is put next acked = record {
-  count = 1;
-  few = some;
-  acked = acked;
-  next = λ n e. omega (arith, next, e);
-  numbered = λ n few h. more-numbered p n f g x cs same is put next acked few h;
-}
+raises-one p most f g x cs some same is put next acked = grind (arith, nat_tests, more-numbered)
 
 pub raises-sent : (p most : ℕ) (now : ℕ) (f : Flight) → 1 ≤ most → Raises p most f
     (record f { queue = sent_next f.queue f.next_tsn now; next_tsn = next_after_send f })
-raises-sent p most now f some = by (next_pending (all_started now f.queue).pending) (is_some (next_pending f.queue.pending)) (peeked_all_started now f.queue)
-  where
-    same : tsns (all_started now f.queue).inflight.chunks ≡ tsns f.queue.inflight.chunks
-    same = ap (λ (q : payload.Payload). tsns q.chunks) (started-inflight now f.queue)
-
-    by : (o : Option ChunkPayloadData) (b : Bool) → is_some o ≡ b → Raises p most f
-        (record f { queue = sent_of o (all_started now f.queue) f.next_tsn now; next_tsn = if b then following_tsn f.next_tsn else f.next_tsn })
-    by None true e = absurd (not_both e)
-    by None false e = raises-none p most f (record f { queue = all_started now f.queue; next_tsn = f.next_tsn }) same refl refl
-    by (Some c) false e = absurd (not_both (sym e))
-    by (Some c) true e =
-        raises-one p most f (record f { queue = sent_of (Some c) (all_started now f.queue) f.next_tsn now; next_tsn = following_tsn f.next_tsn })
-        (as_sent f.next_tsn now c) (all_started now f.queue).inflight.chunks some same refl refl refl refl
+raises-sent p most now f some = grind (arith, nat_tests, not_both, peeked_all_started, raises-none, raises-one, started-inflight)
 
 pub raises-abandoned : (p most : ℕ) (o : Option ℕ) (f : Flight) → 1 ≤ most → Raises p most f (after_abandonment o f)
 raises-abandoned p most None f some = raises-none p most f (after_abandonment None f) refl refl refl
-raises-abandoned p most (Some m) f some = by (last_removed m f.queue.pending) (waits m f.queue.pending) refl refl
-  where
-    marked : tsns (change_where (is_of m) as_abandoned f.queue.inflight.chunks) ≡ tsns f.queue.inflight.chunks
-    marked = changed-run (is_of m) as_abandoned (λ c. refl) f.queue.inflight.chunks
-
-    by : (o : Option ChunkPayloadData) (b : Bool) → last_removed m f.queue.pending ≡ o → waits m f.queue.pending ≡ b → Raises p most f
-        (record f {
-          queue = record f.queue {
-            pending = without m f.queue.pending;
-            inflight = with_terminal_chunk o f.next_tsn
-                (payload.with_chunks f.queue.inflight
-                (change_where (is_of m) as_abandoned f.queue.inflight.chunks));
-          };
-          next_tsn = if b then following_tsn f.next_tsn else f.next_tsn;
-        })
-    by None true e w = absurd (no_last m f.queue.pending w e)
-    by None false e w = raises-none p most f _ marked refl refl
-    by (Some c) false e w = let none = last_removed_none m f.queue.pending w in absurd (cc)
-    by (Some c) true e w = raises-one p most f _ (terminal_chunk f.next_tsn c)
-        (change_where (is_of m) as_abandoned f.queue.inflight.chunks) some marked refl refl refl refl
+raises-abandoned p most (Some m) f some = grind (arith, nat_tests, changed-run, last_removed_none, no_last, raises-none, raises-one)
 
 -- one call after another
 raises-both : (p a b : ℕ) (f g h : Flight) → Raises p a f g → Raises p b g h → Raises p (a + b) f h
@@ -186,10 +107,7 @@ raises-each p (t ∷ ts) f =
 
 -- how many were given out is what the next TSN shows
 pub given : (p n most : ℕ) (f g : Flight) → most < 2 ^ 32 → f.next_tsn ≡ tsn p (n + 1) → (r : Raises p most f g) → distance f.next_tsn g.next_tsn ≡ r.count
-given p n most f g short is r =
-    let e = ap (distance f.next_tsn) (r.next (n + 1) is) ∙ ap (λ t. distance t (tsn p (n + 1 + r.count))) is in
-    let d = distance-tsn p (n + 1) (n + 1 + r.count) (omega arith) (omega (arith, short, r.few)) in
-    omega (arith, e, d)
+given p n most f g short is r = grind (arith, nat_tests, distance-tsn)
 
 -- ## A SACK
 
@@ -235,10 +153,7 @@ taken-numbered p n place s f few within is h = by (is_outdated s f) refl
 -- the run behind the first chunk
 pub rest-run : (p a : ℕ) (c : ChunkPayloadData) (cs : List ChunkPayloadData) → IsRunFrom (tsn p (a + 1)) (c ∷ cs) → (c.tsn ≡ tsn p (a + 1)) × IsRunFrom
     (tsn p (a + 1 + 1)) cs
-rest-run p a c cs run =
-    let head : c.tsn ≡ tsn p (a + 1) = cc in
-    let tail : IsRunFrom (following_tsn (tsn p (a + 1))) cs = cc in
-    (head, subst (λ t. IsRunFrom t cs) (next-place p (a + 1)) tail)
+rest-run p a c cs run = grind (arith, nat_tests, next-place)
 
 -- one of the places behind a, up to n
 pub record IsPast (p a n t : ℕ) : Type 0 where
@@ -255,12 +170,8 @@ run-past : (p a j : ℕ) (cs : List ChunkPayloadData) → IsRunFrom (tsn p (a + 
 run-past p a zero cs run = tt
 run-past p a (suc j) [] run = tt
 run-past p a (suc j) (c ∷ cs) run =
-    let r = rest-run p a c cs run in (
-      record { place = a + 1; past = omega arith; within = omega arith; is = r.0 },
-      every-of (λ (d : ChunkPayloadData). IsPast p (a + 1) (a + 1 + j) d.tsn) (λ (d : ChunkPayloadData). IsPast p a (a + suc j) d.tsn)
-          (λ d g. let lt = g.past in let le = g.within in
-          record { place = g.place; past = omega (arith, lt); within = omega (arith, le); is = g.is }) (take j cs) (run-past p (a + 1) j cs r.1),
-    )
+    let r = rest-run p a c cs run in
+    grind (arith, nat_tests, every-of, run-past p (a + 1) j cs r.1)
 
 take-all : {A : Type 0} (xs : List A) → take (length xs) xs ≡ xs
 take-all [] = refl
@@ -286,11 +197,7 @@ lead (c ∷ cs) = if is_kept c then 0 else lead cs + 1
 
 pub lead-within : (cs : List ChunkPayloadData) → lead cs ≤ length cs
 lead-within [] = omega arith
-lead-within (c ∷ cs) = by (is_kept c) (lead-within cs)
-  where
-    by : (b : Bool) → lead cs ≤ length cs → (if b then 0 else lead cs + 1) ≤ length (c ∷ cs)
-    by true ih = omega arith
-    by false ih = omega (arith, ih)
+lead-within (c ∷ cs) = grind (arith, nat_tests, lead-within cs)
 
 preceding : (p k : ℕ) → preceding_tsn (tsn p (k + 1)) ≡ tsn p k
 preceding p k = omega arith
@@ -324,10 +231,7 @@ module _ (p n : ℕ) (f : Flight) (h : IsNumbered p n f) (few : n < 2 ^ 31) wher
       (let e : h.acked + lead cs - h.acked ≡ lead cs = omega arith in e)
 
   can-within : (t : ℕ) → can_skip_to t f ≡ true → ahead f t ≤ lead f.queue.inflight.chunks
-  can-within t can =
-      let b = both (nat_lt 0 (ahead f t)) (nat_le (ahead f t) (ahead f (advanced_ack_point f))) can in
-      let le : ahead f t ≤ ahead f (advanced_ack_point f) = grind (arith, nat_tests, b.1) in
-      omega (arith, le, point-ahead)
+  can-within t can = grind (arith, nat_tests, both, point-ahead)
 
   -- a TSN in flight, with none but abandoned messages up to it
   pub record IsPassable (t : ℕ) : Type 0 where
@@ -336,14 +240,7 @@ module _ (p n : ℕ) (f : Flight) (h : IsNumbered p n f) (few : n < 2 ^ 31) wher
     pub upto : given.place ≤ h.acked + lead f.queue.inflight.chunks
 
   ahead-given : (t : ℕ) (g : IsGiven p n t) → ahead f t ≤ lead f.queue.inflight.chunks → g.place ≤ h.acked + lead f.queue.inflight.chunks
-  ahead-given t g le =
-      let same : ahead f t ≡ distance (tsn p h.acked) (tsn p g.place) = ap (λ u. distance u t) h.acked_is ∙ ap (distance (tsn p h.acked)) g.is in
-      let within = lead-within f.queue.inflight.chunks in
-      let total = h.total in
-      elim (cases_lt g.place h.acked) [
-        | inl lt ↦ omega (arith, lt)
-        | inr ge ↦ let far = distance-tsn p h.acked g.place ge (omega (arith, g.within, few)) in omega (arith, same, far, ge, le)
-      ]
+  ahead-given t g le = grind (arith, nat_tests, cases_lt, distance-tsn, lead-within)
 
   pub passable-end : (t : ℕ) → can_skip_to t f ≡ true → is_end t f ≡ true → IsPassable t
   passable-end t can end = by (find (has_tsn t) f.queue.inflight.chunks) refl
@@ -420,7 +317,4 @@ gone-upto p a m (c ∷ cs) le few run = by (is_kept c) refl le (λ l. gone-upto 
 
 pub passed-gone : (p n : ℕ) (f : Flight) (h : IsNumbered p n f) (few : n < 2 ^ 31) (t : ℕ) → IsPassable p n f h few t → Every
     (IsGoneUpTo t) f.queue.inflight.chunks
-passed-gone p n f h few t g =
-    let total = h.total in
-    subst (λ u. Every (IsGoneUpTo u) f.queue.inflight.chunks) (sym g.given.is)
-    (gone-upto p h.acked g.given.place f.queue.inflight.chunks g.upto (omega (arith, total, few)) h.run)
+passed-gone p n f h few t g = grind (arith, nat_tests, gone-upto)

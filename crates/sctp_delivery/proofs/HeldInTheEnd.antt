@@ -1,50 +1,27 @@
 -- Where nothing waits, nothing is in flight and nothing is to be read, a receiver holds no fragment of a message that is not gone.
-use Rattle.std.proofs.Common.{◌≡◌, ℕ, suc, ◌+◌, ◌^◌, ◌<◌, ◌≤◌, Bool, true, false, List, [], ◌∷◌, length, Option, Some, None, inl, inr, refl, ap, sym}
-use Rattle.std.proofs.Common.{subst, ◌∙◌, arith}
-use Rattle.std.specs.Prelude.{All, ◌⊎◌, ◌==◌, nat_le}
-use Rattle.std.specs.List.{list_all, list_any, sum_by}
-use Rattle.std.proofs.lemmas.Bool.{cases_lt}
-use Rattle.std.proofs.lemmas.Bool.Decides.{nat_tests}
-use Rattle.std.proofs.lemmas.Option.{none-some}
-use Rattle.sctp_util.specs.Serial.{at_or_before}
-use Rattle.sctp_util.proofs.Cases.{or-left, or-split, same-is}
-use Rattle.sctp_util.proofs.More.{not_both}
-use Rattle.sctp_util.proofs.Round.{tsn}
-use Rattle.sctp_data.specs.declared.chunk.chunk_payload_data.ChunkPayloadData.{ChunkPayloadData}
-use Rattle.sctp_data.specs.ChunkSet.{ChunkSet}
-use Rattle.sctp_data.specs.PayloadData.{Data, data_of}
-use Rattle.sctp_reassembly.specs.reassembly_queue.Fragments.{is_complete}
-use Rattle.sctp_reassembly.specs.reassembly_queue.ReassemblyQueue.{Reassembly, message_among, message_read}
-use Rattle.sctp_receiver.specs.declared.receiver.inbound_streams.InboundStream.{InboundStream}
-use Rattle.sctp_receiver.specs.declared.receiver.limits.Limits.{Limits}
-use Rattle.sctp_receiver.specs.Receiver.{Reception, stream_of}
-use Rattle.sctp_receiver.specs.ReceiverRuns.{fragments_read, is_one_message}
-use Rattle.sctp_receiver.proofs.Handed.{held_weight}
-use Rattle.sctp_receiver.proofs.Weights.{set_weight}
-use Rattle.sctp_serial.specs.DataChunks.{has_tsn}
-use Rattle.sctp_delivery.specs.Complete.{reads_nothing}
-use Rattle.sctp_delivery.specs.Sacks.{was_taken}
-use Rattle.sctp_delivery.specs.Session.{Call, RunsTo, Session, at_start}
+use Rattle.sctp_delivery.proofs.Names.{◌≡◌, ℕ, suc, ◌+◌, ◌^◌, ◌<◌, ◌≤◌, true, false, List, [], ◌∷◌, length, Option, Some, None, inl, inr, refl, ap, sym, subst}
+use Rattle.sctp_delivery.proofs.Names.{◌∙◌, arith, All, ◌⊎◌, ◌==◌, list_all, list_any, sum_by, cases_lt, nat_tests, at_or_before, or-left, or-split, same-is}
+use Rattle.sctp_delivery.proofs.Names.{not_both, tsn, ChunkPayloadData, ChunkSet, Data, data_of, is_complete, Reassembly, message_read, InboundStream, Limits}
+use Rattle.sctp_delivery.proofs.Names.{Reception, stream_of, fragments_read, is_one_message, held_weight, set_weight, has_tsn, reads_nothing, was_taken, Call}
+use Rattle.sctp_delivery.proofs.Names.{RunsTo, Session, at_start}
+use Rattle.sctp_delivery.proofs.Cases.{by-test}
 use Rattle.sctp_delivery.proofs.InTheEnd.{any-of, none-selected, unread-of}
-use Rattle.sctp_delivery.proofs.CurrentSets.{IsSome}
+use Rattle.sctp_delivery.proofs.UnwrappedHolds.{IsSome}
 use Rattle.sctp_delivery.proofs.Delivered.{EachSent}
-use Rattle.sctp_delivery.proofs.EachRead.{IsIdle, complete-messages}
+use Rattle.sctp_delivery.proofs.KeptSessions.{IsIdle, complete-messages, IsKeptIn}
 use Rattle.sctp_delivery.proofs.Every.{Every, one-of, every-pair}
-use Rattle.sctp_delivery.proofs.GoneMessages.{IsGone}
+use Rattle.sctp_delivery.proofs.PassingCalls.{IsGone, all-taken-or-gone}
 use Rattle.sctp_delivery.proofs.KeptCalls as calls
 use Rattle.sctp_delivery.proofs.KeptOrGone.{HeldWell, IsHeldWell, IsLate, at-in, place-in}
-use Rattle.sctp_delivery.proofs.KeptSessions.{IsKeptIn}
 use Rattle.sctp_delivery.proofs.NotRefused.{begun-low, front-open, lowest-next}
-use Rattle.sctp_delivery.proofs.MessagePlaces.{IsEntryAt, same-entry}
-use Rattle.sctp_delivery.proofs.MessageSets.{misses-one, place-tsn}
+use Rattle.sctp_delivery.proofs.MessagePlaces.{IsEntryAt, same-entry, misses-one, place-tsn}
 use Rattle.sctp_delivery.proofs.OrderedEntries.{AreJoined, IsOpen}
 use Rattle.sctp_delivery.proofs.PassedMessages.{AreTakenOrGone, EndsMessage, is_gone}
-use Rattle.sctp_delivery.proofs.PassingCalls.{all-taken-or-gone}
 use Rattle.sctp_delivery.proofs.ReadOnce.{one}
 use Rattle.sctp_delivery.proofs.Sent.{Entry, IsLine, IsPart, Numbered, WasSent, fragment, part-itself, part-length, terminal}
 use Rattle.sctp_delivery.proofs.Sessions as made_in
 use Rattle.sctp_delivery.proofs.SpreadEntries.{begun_to, is_at, to-up}
-use Rattle.sctp_delivery.proofs.TsnPlaces.{at-or-before, base, same-place}
+use Rattle.sctp_delivery.proofs.TsnPlaces.{base, same-place, upto-yes}
 use Rattle.sctp_delivery.proofs.UnassembledGone as unassembled
 use Rattle.sctp_delivery.proofs.UnwrappedHolds as holds
 use Rattle.sctp_delivery.proofs.UnwrappedReads as reads
@@ -105,21 +82,14 @@ module _ (first size max most : ℕ) (limits : Option Limits) (cs : List Call) (
 
     -- all that got TSNs has come
     upto : n ≤ answered.arrived.place
-    upto =
-        let empty = ap length idle.inflight in
-        let total = k.unwrapped.spread.step.numbered.total in
-        let x = answered.arrived.least_is in
-        omega (arith, x, total, empty)
+    upto = omega (arith, answered.arrived.least_is, ap length idle.inflight)
 
     all-came : (y : ℕ) → y ≤ n → is_at st y sent ≡ true → Came y
     all-came y le on =
-        let v = answered.arrived.within in
-        let x = upto in
-        let h : y ≤ answered.arrived.place = omega (arith, le, x) in
-        let b : nat_le y answered.arrived.place ≡ true = grind (arith, nat_tests, h) in (
+        let h : y ≤ answered.arrived.place = omega (arith, le, upto) in (
           on,
           or-left (at_or_before (tsn p y) r.cumulative_tsn) (list_any (λ u. u == tsn p y) r.beyond)
-              (ap (at_or_before (tsn p y)) answered.arrived.is ∙ at-or-before p y answered.arrived.place (omega (arith, le, few)) (omega (arith, v, few)) ∙ b),
+              (upto-yes p y answered.arrived.place refl answered.arrived.is (omega (arith, le, few)) (omega (arith, answered.arrived.within, few)) h),
         )
 
     in-set : (i y : ℕ) (cs : List ChunkPayloadData) → y ≤ n → Fits i cs → list_any (has_tsn (tsn p y)) cs ≡ true → begun_to st y sent ≡ i + 1
@@ -136,11 +106,7 @@ module _ (first size max most : ℕ) (limits : Option Limits) (cs : List Call) (
       d = calls.due-on first n few s s ns sent k.unwrapped gone st l found
 
       none-unordered : q.unordered ≡ []
-      none-unordered = by q.unordered refl none
-        where
-          by : (us : List ChunkSet) → q.unordered ≡ us → message_among us q ≡ None → us ≡ []
-          by [] e m = refl
-          by (u ∷ us) e m = absurd (none-some u (sym m))
+      none-unordered = grind (arith, nat_tests)
 
       -- ## Ordered sets
 
@@ -177,16 +143,15 @@ module _ (first size max most : ℕ) (limits : Option Limits) (cs : List Call) (
             let miss = misses-one ns first sent line joined n long few st sets.0 n (omega arith)
             (sent, part-itself sent, long, ends most') least F.chunks sets.1.1 some c in
             let z = sessions.missed st first n s ns sent k.unwrapped.spread few n sets.0 F.chunks (omega arith) sets.1.1 miss in
-            let at = z.3 in
-            elim (is-held z.0 z.1 z.2 (omega (arith, at, ge))) [
+            elim (is-held z.0 z.1 z.2 (omega (arith, ge))) [
               | inl h ↦ not_both (sym z.4 ∙ h)
               | inr h ↦
-                  reads.later-none p n (λ y. begun_to st y sent) Fits Came in-set (sets.0 + 1) answered.reach z.0 rest sets.2 z.1 (omega (arith, at)) h
+                  reads.later-none p n (λ y. begun_to st y sent) Fits Came in-set (sets.0 + 1) answered.reach z.0 rest sets.2 z.1 (omega arith) h
             ]
           where
             some-given : (cs : List ChunkPayloadData) → Fits sets.0 cs → 0 < length cs → 0 < n
             some-given [] h lt = absurd (omega (arith, lt))
-            some-given (c ∷ cs) h lt = let w = h.0.within in omega (arith, w)
+            some-given (c ∷ cs) h lt = omega arith
 
         -- it is of the next message, and no later one was begun
         same : (sets.0 ≡ d.index) × (sets.0 ≡ d.low)
@@ -196,16 +161,14 @@ module _ (first size max most : ℕ) (limits : Option Limits) (cs : List Call) (
             none in
             let u = to-up st n answered.arrived.place sent upto in
             let l = least in
-            let x = sets.1.0.0 in
-            (omega (arith, low, next, u, l, x), omega (arith, low, u, l, x))
+            (omega (arith, low, next, u, l, sets.1.0.0), omega (arith, low, u, l, sets.1.0.0))
 
         no-front : ⊥
-        no-front = by (is_complete F.chunks) refl
-          where
-            by : (b : Bool) → is_complete F.chunks ≡ b → ⊥
-            by true c = front-open st first n few s ns sent k.unwrapped.spread answered q d (IsLate first sent st r.cumulative_tsn r.beyond) well.current none
-                F rest is sets same.1 c
-            by false c = let e = same.0 in not-open c (omega (arith, e))
+        no-front = by-test (is_complete F.chunks)
+            (λ c. front-open st first n few s ns sent k.unwrapped.spread answered q d (IsLate first sent st r.cumulative_tsn r.beyond) well.current
+            none
+            F rest is sets same.1 c)
+            (λ c. let e = same.0 in not-open c (omega (arith, e)))
 
       none-ordered : q.ordered ≡ []
       none-ordered = by q.ordered refl
@@ -231,20 +194,16 @@ module _ (first size max most : ℕ) (limits : Option Limits) (cs : List Call) (
               (unassembled.was-unassembled ns first sent line joined n long few gone k.passed.cut s k.unwrapped.spread.holds.made made
               k.unwrapped.spread.step.taken.apart whole st a (k.kept st) l found) well.tidy.kinds) in
               let is = same-is o.0.tsn (tsn p y) o.1 in
-              let b : nat_le y n ≡ true = grind (arith, nat_tests, le) in
               let g = unassembled.gone-unassembled ns first sent line joined n long few gone k.passed.cut s k.unwrapped.spread.holds.made made
               k.unwrapped.spread.step.taken.apart whole st a (k.kept st) l found sent (part-itself sent) (ends (omega (arith, at, le))) came o.0 o.2.0 o.2.1
               (subst (λ t. 0 < sum_by (one t) q.unassembled) (sym is) more)
-              (ap (λ t. at_or_before t (tsn p (length sent))) is ∙ ap (λ m. at_or_before (tsn p y) (tsn p m)) long
-              ∙ at-or-before p y n (omega (arith, le, few)) few ∙ b) in
+              (upto-yes p y n is (ap (tsn p) long) (omega (arith, le, few)) few le) in
               clash o.0 g is
             where
               clash : (c : ChunkPayloadData) (g : IsGone gone sent c) → c.tsn ≡ tsn p y → ⊥
               clash c g is =
-                  let v = g.2.place in
                   let size' = part-length sent (fragment (data_of c) g.1 g.2.after ∷ g.2.entries) g.2.part in
-                  let l' = long in
-                  let same : g.0 ≡ y = same-place p g.0 y (omega (arith, v, size', l', few)) (omega (arith, le, few))
+                  let same : g.0 ≡ y = same-place p g.0 y (omega (arith, size', long, few)) (omega (arith, le, few))
                   (sym (place-tsn ns first sent line joined n long few g.0 (data_of c) g.1 g.2) ∙ is) in
                   let x = same-entry ns first sent line joined y e (data_of c) w g.1 i (subst (λ z. IsEntryAt sent z (data_of c) g.1) same g.2) in
                   not_both (sym alive ∙ ap (λ (u : Numbered). is_gone gone u.place) x.1 ∙ g.3)
@@ -259,9 +218,7 @@ module _ (first size max most : ℕ) (limits : Option Limits) (cs : List Call) (
         by (Some l) f =
             let m = unread-of st r.streams l unread f in
             let x = ap (λ ss. sum_by (set_weight (one (tsn p y))) ss) (none-ordered l f m) in
-            let u = ap (λ ss. sum_by (set_weight (one (tsn p y))) ss) (none-unordered l f m) in
-            let z = none-unassembled l f m y e w i le alive in
-            omega (arith, x, u, z)
+            omega (arith, x, ap (λ ss. sum_by (set_weight (one (tsn p y))) ss) (none-unordered l f m), none-unassembled l f m y e w i le alive)
 
   -- so each fragment of such a message that was taken was read
   pub taken-read : (d : Data) (w : Numbered) (after : List ℕ) (xs : List Entry) → IsPart (fragment d w after ∷ xs) sent → is_gone gone w.place ≡ false
@@ -270,9 +227,7 @@ module _ (first size max most : ℕ) (limits : Option Limits) (cs : List Call) (
       let st = d.stream_identifier in
       let i : IsEntryAt sent (suc (length xs)) d w = record { after = after; entries = xs; part = part; place = refl } in
       let is = place-tsn ns first sent line joined n long few (suc (length xs)) d w i in
-      let m = part-length sent (fragment d w after ∷ xs) part in
-      let l = long in
-      let le : suc (length xs) ≤ n = omega (arith, m, l) in
+      let le : suc (length xs) ≤ n = omega (arith, part-length sent (fragment d w after ∷ xs) part, long) in
       let law = (k.kept st).weighs (one (tsn p (suc (length xs)))) in
       let held = none-held st (suc (length xs)) d w i le alive in
       let lost = unassembled.none-lost ns first sent line joined n long few gone k.passed.cut s k.unwrapped.spread.holds.made made

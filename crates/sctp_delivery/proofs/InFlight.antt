@@ -1,11 +1,6 @@
 -- What is outstanding was sent: it is in the line of entries, with the same wire fields. And each chunk stands for the entry with its TSN.
-use Rattle.std.proofs.Common.{◌≡◌, ℕ, Bool, true, not, List, ◌∷◌, ◌++◌, take, drop, refl, ap, sym, subst, ◌∙◌}
-use Rattle.sctp_util.specs.Lists.{change_where}
-use Rattle.sctp_util.proofs.More.{both, not_both}
-use Rattle.sctp_data.specs.declared.chunk.chunk_payload_data.ChunkPayloadData.{ChunkPayloadData}
-use Rattle.sctp_data.specs.PayloadData.{data_of}
-use Rattle.sctp_outbound.specs.Marks.{as_abandoned, as_acknowledged, is_outstanding}
-use Rattle.sctp_delivery.proofs.OrderedEntries.{begun_on}
+use Rattle.sctp_delivery.proofs.Names.{◌≡◌, ℕ, Bool, true, not, List, ◌∷◌, ◌++◌, take, drop, refl, ap, sym, ◌∙◌, arith, nat_tests, change_where, both, not_both}
+use Rattle.sctp_delivery.proofs.Names.{ChunkPayloadData, data_of, as_abandoned, as_acknowledged, is_outstanding}
 use Rattle.sctp_delivery.proofs.Sent.{Entry, WasSent, sent-more}
 use Rattle.sctp_delivery.proofs.SpreadEntries.{IsPlaced, for-alike, ordered-alike, placed-more, step-alike}
 use Rattle.sctp_delivery.proofs.Every.{Every, every-changed, every-joined, every-left, every-of, every-taken}
@@ -35,15 +30,7 @@ pub record IsAlike (c d : ChunkPayloadData) : Type 0 where
 
 -- so it stands where the other did
 placed-alike : (first : ℕ) (sent : List Entry) (c d : ChunkPayloadData) → IsAlike c d → IsPlaced first sent c → IsPlaced first sent d
-placed-alike first sent c d a i = record {
-  entry = i.entry;
-  entries = i.entries;
-  part = i.part;
-  number = a.tsn ∙ i.number;
-  step = λ st. step-alike st (begun_on st i.entries) (begun_on st (i.entry ∷ i.entries)) c d a.stream a.kind a.number (i.step st);
-  on = λ st. ordered-alike st c d a.stream a.kind ∙ i.on st;
-  for' = for-alike c d i.entry a.message a.ends i.for';
-}
+placed-alike first sent c d a i = grind (arith, nat_tests, for-alike, ordered-alike, step-alike)
 
 -- a change after which a chunk is outstanding only where it was, with the same wire fields, and is always alike
 abbrev pub KeepsData : (ChunkPayloadData → ChunkPayloadData) → Type 0
@@ -63,10 +50,7 @@ abandoned-keeps c =
 
 known-alike : (first : ℕ) (sent : List Entry) (f : ChunkPayloadData → ChunkPayloadData) → KeepsData f → (c : ChunkPayloadData) → IsKnown first sent c
     → IsKnown first sent (f c)
-known-alike first sent f keeps c k = (
-  λ o. let h = (keeps c).0 o in subst (WasSent sent) (sym h.1) (k.0 h.0),
-  placed-alike first sent c (f c) (keeps c).1 k.1,
-)
+known-alike first sent f keeps c k = grind (arith, nat_tests, placed-alike)
 
 pub known-changed : (first : ℕ) (sent : List Entry) (p : ChunkPayloadData → Bool) (f : ChunkPayloadData → ChunkPayloadData) → KeepsData f
     → (cs : List ChunkPayloadData) → AreKnown first sent cs → AreKnown first sent (change_where p f cs)
@@ -75,6 +59,4 @@ known-changed first sent p f keeps cs k = every-changed (IsKnown first sent) p f
 -- only the first so many are changed
 pub known-part-changed : (first : ℕ) (sent : List Entry) (p : ChunkPayloadData → Bool) (f : ChunkPayloadData → ChunkPayloadData) → KeepsData f
     → (i : ℕ) (cs : List ChunkPayloadData) → AreKnown first sent cs → AreKnown first sent (change_where p f (take i cs) ++ drop i cs)
-known-part-changed first sent p f keeps i cs k =
-    every-joined (IsKnown first sent) (change_where p f (take i cs)) (drop i cs)
-    (known-changed first sent p f keeps (take i cs) (every-taken (IsKnown first sent) i cs k)) (every-left (IsKnown first sent) i cs k)
+known-part-changed first sent p f keeps i cs k = grind (arith, nat_tests, every-joined, every-left, every-taken, known-changed)

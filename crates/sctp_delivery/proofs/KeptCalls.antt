@@ -1,53 +1,140 @@
--- What was taken on a stream is held or was read, but for fragments of messages that are gone: each call of the receiver but a FORWARD-TSN.
-use Rattle.std.proofs.Common.{◌≡◌, ℕ, ◌+◌, ◌%◌, ◌^◌, ◌<◌, ◌≤◌, Bool, true, false, not, List, [], ◌∷◌, Option, Some, None, inl, inr, refl, ap, sym}
-use Rattle.std.proofs.Common.{subst, ◌∙◌, arith}
-use Rattle.std.specs.List.{list_any, sum_by}
-use Rattle.std.proofs.lemmas.Bool.{cases_lt, eq-eqb}
-use Rattle.std.proofs.lemmas.List.Sums.{sum_by-cons}
-use Rattle.sctp_util.proofs.Cases.{or-split, same-is}
-use Rattle.sctp_util.proofs.More.{and, fails, not_both}
-use Rattle.sctp_util.proofs.Round.{tsn}
-use Rattle.sctp_data.specs.declared.chunk.chunk_payload_data.ChunkPayloadData.{ChunkPayloadData}
-use Rattle.sctp_data.specs.ChunkSet.{ChunkSet}
-use Rattle.sctp_data.specs.PayloadData.{data_of}
-use Rattle.sctp_reassembly.specs.reassembly_queue.ReassemblyQueue.{ReassemblyState}
-use Rattle.sctp_receiver.specs.declared.receiver.arrival.Arrival.TheVariants.{New}
-use Rattle.sctp_receiver.specs.declared.receiver.inbound_streams.InboundStream.{InboundStream}
-use Rattle.sctp_receiver.specs.Inbound.{has_number, new_stream, number, stream_read, with_queue}
-use Rattle.sctp_receiver.specs.Receiver.{Accepts, Reception, stream_of}
-use Rattle.sctp_receiver.specs.ReceiverRuns.{Stand}
-use Rattle.sctp_receiver.specs.Ssns.{is_too_far_on}
-use Rattle.sctp_receiver.proofs.Handed.{held_weight}
-use Rattle.sctp_receiver.proofs.Weights.{set_weight, weight}
-use Rattle.sctp_sender.proofs.Lates.{found-passes}
-use Rattle.sctp_sender.specs.Numbers.{is_ordered_on}
-use Rattle.sctp_serial.specs.DataChunks.{has_tsn, is_on}
+-- What a FORWARD-TSN takes out of a queue, weighed, and that what stays is in order.
+use Rattle.sctp_delivery.proofs.Names.{◌≡◌, ℕ, ◌+◌, ◌<◌, ◌≤◌, ◌^◌, Bool, true, false, not, List, [], ◌∷◌, refl, arith, ◌%◌, Option, Some, None, inl, inr, ap}
+use Rattle.sctp_delivery.proofs.Names.{sym, subst, ◌∙◌, ◌++◌, length, map, if◌then◌else◌, All, ◌⊎◌, ◌==◌, ◌&&◌, option_map, slice_index_or, filter, sum_by}
+use Rattle.sctp_delivery.proofs.Names.{list_any, list_all, sum_by-append, sum_by-cons, after_leading, at_or_before, and, both, fails, not_both}
+use Rattle.sctp_delivery.proofs.Names.{ChunkPayloadData, ChunkSet, Reassembly, ReassemblyState, held_after_ordered_skip, held_after_unordered_skip, is_passed}
+use Rattle.sctp_delivery.proofs.Names.{all_complete, is_orderly, held_weight, is_unmixed, set_weight, weight, HasNoRun, fragments_of_sets, cases_lt, eq-eqb}
+use Rattle.sctp_delivery.proofs.Names.{or-split, same-is, or-left, same-yes, tsn, data_of, New, InboundStream, new_stream, number, stream_read, with_queue}
+use Rattle.sctp_delivery.proofs.Names.{skipped_each, ssns_of, Accepts, Reception, stream_of, follow_forward_tsn, is_stale, Stand, fragments_read}
+use Rattle.sctp_delivery.proofs.Names.{is_one_message, is_too_far_on, is_name_too_far, found-passes, is_ordered_on, has_tsn, is_on, ReceiverCall}
+use Rattle.sctp_delivery.proofs.Names.{ReceiverFollows, Session, list_any_at, nat_tests, common_steps, ChunkForwardTsnStream, ForwardTsn, is_complete}
+use Rattle.sctp_delivery.proofs.Names.{cannot_complete, names_closed, names_too_far, without_incomplete, is_pair_of, passes, was_taken, forward_tsn}
+use Rattle.sctp_reassembly.specs.reassembly_queue.ReassemblyQueue.{after_ordered_skip, after_unordered_skip}
+use Rattle.sctp_reassembly.proofs.lemmas.reassembly_queue.UnassembledRuns.{none_after_drop}
+use Rattle.sctp_receiver.proofs.OneMessage.{named-unmixed, unassembled-unmixed}
+use Rattle.sctp_delivery.proofs.Cases.{at-if, by-test}
+use Rattle.sctp_delivery.proofs.Every.{Every, every-joined, every-of, every-passing, one-of, every-contained, every-at, every-of-all}
+use Rattle.sctp_delivery.proofs.Rising.{Ascend, ascend-from}
+use Rattle.sctp_delivery.proofs.KeptSets.{IsTidy, IsTidySet, IsUnordered, sets-those}
+use Rattle.sctp_delivery.proofs.UnwrappedReads.{leading-each, IsDue}
+use Rattle.sctp_receiver.specs.Inbound.{has_number}
 use Rattle.sctp_delivery.specs.ReceiverCalls as incoming
-use Rattle.sctp_delivery.specs.ReceiverCalls.{ReceiverCall}
-use Rattle.sctp_delivery.specs.Session.{ReceiverFollows, Session}
-use Rattle.sctp_delivery.proofs.CurrentSets.{current-less, due-index}
-use Rattle.sctp_delivery.proofs.Every.{one-of}
+use Rattle.sctp_delivery.proofs.UnwrappedHolds.{current-less, IsCurrent}
 use Rattle.sctp_delivery.proofs.InTheEnd.{some-of}
-use Rattle.sctp_delivery.proofs.Kept.{sets-fresh}
+use Rattle.sctp_delivery.proofs.Kept.{sets-fresh, IsOther, IsSo, Puts, accepted-on, after-call, none-held}
 use Rattle.sctp_delivery.proofs.OrderedMessages.{not-far}
-use Rattle.sctp_delivery.proofs.KeptOrGone.{IsComing, HeldWell, IsHeldWell, IsKeptBut, IsLate, pushed-well, read-well}
-use Rattle.sctp_delivery.proofs.MessagePlaces.{IsWanted, wanted-some, within}
-use Rattle.sctp_delivery.proofs.MessageSets.{entry-at}
+use Rattle.sctp_delivery.proofs.KeptOrGone.{IsComing, HeldWell, IsHeldWell, IsKeptBut, IsLate, pushed-well, read-well, IsPassedBy, at-in, place-in}
+use Rattle.sctp_delivery.proofs.MessagePlaces.{IsWanted, wanted-some, within, EndsAt, wanted-after, entry-at, fragment-upto, misses-one}
 use Rattle.sctp_delivery.proofs.OrderedEntries.{AreJoined}
 use Rattle.sctp_delivery.proofs.ReadOnce.{count-none, one}
-use Rattle.sctp_delivery.proofs.Sent.{Entry, IsLine, Numbered, WasSent}
+use Rattle.sctp_delivery.proofs.Sent.{Entry, IsLine, Numbered, WasSent, part-length}
 use Rattle.sctp_delivery.proofs.SpreadEntries.{begun_to, is_at, to-up}
-use Rattle.sctp_delivery.proofs.StaysCome.{stays-come}
-use Rattle.sctp_delivery.proofs.StreamCalls as streams
-use Rattle.sctp_delivery.proofs.StreamCalls.{IsOther, IsSo, Puts, accepted-on, after-call, none-held}
-use Rattle.sctp_delivery.proofs.TakenCalls.{HasCome, fresh-new, not-among}
-use Rattle.sctp_delivery.proofs.TakenTsns.{come}
-use Rattle.sctp_delivery.proofs.TsnPlaces.{base}
-use Rattle.sctp_delivery.proofs.UnwrappedCalls.{window}
+use Rattle.sctp_delivery.proofs.Kept as streams
+use Rattle.sctp_delivery.proofs.TakenCalls.{HasCome, fresh-new, not-among, beyond-given, stays-come}
+use Rattle.sctp_delivery.proofs.TakenTsns.{come, advance-keeps}
+use Rattle.sctp_delivery.proofs.TsnPlaces.{base, IsGiven, same-place, upto-yes}
+use Rattle.sctp_delivery.proofs.UnwrappedCalls.{window, IsNamingTo, Misses, ahead-is, changed, clear-came, close, found-after, gone-begun, gone-held}
+use Rattle.sctp_delivery.proofs.UnwrappedCalls.{name-within, named-by, now-is, stale-same}
 use Rattle.sctp_delivery.proofs.UnwrappedHolds as holds
-use Rattle.sctp_delivery.proofs.UnwrappedReads.{IsDue}
 use Rattle.sctp_delivery.proofs.UnwrappedSessions as sessions
 use Rattle.sctp_delivery.proofs.UnwrappedSessions.{IsUnwrapped}
+use Rattle.sctp_reassembly.specs.reassembly_queue.Skips.{after_incomplete_skip}
+use Rattle.sctp_delivery.proofs.Delivered.{EachSent}
+use Rattle.sctp_delivery.proofs.PassingCalls.{IsGone, resolved}
+use Rattle.sctp_delivery.proofs.PassedMessages.{AreCutGone, IsPassing}
+use Rattle.sctp_delivery.proofs.SackSteps.{known}
+use Rattle.sctp_delivery.proofs.Sessions as made_in
+use Rattle.sctp_delivery.proofs.SpreadFlight.{IsMadeNaming}
+use Rattle.sctp_delivery.proofs.UnassembledGone.{gone-unassembled, was-unassembled}
+
+-- ## Sets
+
+-- those that pass the test and those that fail it
+pub filter-split : (r : ChunkSet → Bool) (w : ChunkPayloadData → ℕ) (ss : List ChunkSet)
+    → sum_by (set_weight w) (filter (λ s. not (r s)) ss) + sum_by w (fragments_of_sets (filter r ss)) ≡ sum_by (set_weight w) ss
+filter-split r w [] = refl
+filter-split r w (s ∷ ss) =
+    grind (arith, nat_tests, common_steps, filter-split r w ss, sum_by-append w s.chunks (fragments_of_sets (filter r ss)), sum_by-cons (set_weight w) s ss)
+
+pub each-dropped : (P : ChunkPayloadData → Type 0) (r : ChunkSet → Bool) (ss : List ChunkSet) → Every (λ s. r s ≡ true → Every P s.chunks) ss
+    → Every P (fragments_of_sets (filter r ss))
+each-dropped P r [] e = tt
+each-dropped P r (s ∷ ss) e = at-if (λ z. Every P (fragments_of_sets z)) (r s)
+    (λ h. every-joined P s.chunks (fragments_of_sets (filter r ss)) (e.0 h) (each-dropped P r ss e.1))
+    (λ h. each-dropped P r ss e.1)
+
+-- ## Unassembled fragments
+
+-- those in front that pass the test
+abbrev pub leading : (ChunkPayloadData → Bool) → List ChunkPayloadData → List ChunkPayloadData
+leading r [] = []
+leading r (x ∷ xs) = if r x then x ∷ leading r xs else []
+
+pub leading-split : (r : ChunkPayloadData → Bool) (w : ChunkPayloadData → ℕ) (xs : List ChunkPayloadData)
+    → sum_by w (after_leading r xs) + sum_by w (leading r xs) ≡ sum_by w xs
+leading-split r w [] = refl
+leading-split r w (x ∷ xs) = grind (arith, nat_tests, leading-split r w xs, sum_by-cons w x (leading r xs), sum_by-cons w x xs)
+
+pub each-leading : (P : ChunkPayloadData → Type 0) (r : ChunkPayloadData → Bool) (xs : List ChunkPayloadData) → Every (λ x. r x ≡ true → P x) xs
+    → Every P (leading r xs)
+each-leading P r [] e = tt
+each-leading P r (x ∷ xs) e = at-if (Every P) (r x) (λ h. (e.0 h, each-leading P r xs e.1)) (λ h. tt)
+
+left-none : (r : ChunkPayloadData → Bool) (xs : List ChunkPayloadData) → HasNoRun xs → HasNoRun (after_leading r xs)
+left-none r [] h = h
+left-none r (x ∷ xs) h = at-if HasNoRun (r x) (λ e. left-none r xs (none_after_drop (x ∷ xs) 1 (omega arith) h)) (λ e. h)
+
+module _ (p n : ℕ) (few : n < 2 ^ 31) where
+  left-ascend : (low : ℕ) (r : ChunkPayloadData → Bool) (xs : List ChunkPayloadData) → Ascend p n low xs → Ascend p n low (after_leading r xs)
+  left-ascend low r [] a = tt
+  left-ascend low r (x ∷ xs) a =
+      at-if (Ascend p n low) (r x)
+      (λ e. left-ascend low r xs (let le = a.1.0 in ascend-from p n few (a.0 + 1) low xs (omega (arith, le)) a.2))
+      (λ e. a)
+
+  pub skipped-tidy : (last : ℕ) (q : Reassembly) → IsTidy p n q → IsTidy p n (held_after_ordered_skip last q)
+  skipped-tidy last q t = record {
+    sets = every-passing (IsTidySet p n) (λ s. not (is_passed last s)) q.ordered t.sets;
+    whole = t.whole;
+    unassembled = t.unassembled;
+    kinds = t.kinds;
+    none = t.none;
+  }
+
+  pub left-tidy : (tsn : ℕ) (q : Reassembly) → IsTidy p n q → IsTidy p n (held_after_unordered_skip tsn q)
+  left-tidy tsn q t = record {
+    sets = t.sets;
+    whole = t.whole;
+    unassembled = left-ascend 0 (λ x. at_or_before x.tsn tsn) q.unassembled t.unassembled;
+    kinds = leading-each IsUnordered (λ x. at_or_before x.tsn tsn) q.unassembled t.kinds;
+    none = left-none (λ x. at_or_before x.tsn tsn) q.unassembled t.none;
+  }
+
+  ascend-more : (m low : ℕ) (cs : List ChunkPayloadData) → n ≤ m → Ascend p n low cs → Ascend p m low cs
+  ascend-more m low [] le a = tt
+  ascend-more m low (c ∷ cs) le a = let h = a.1.1 in (a.0, (a.1.0, omega (arith, h, le), a.1.2), ascend-more m (a.0 + 1) cs le a.2)
+
+  -- more TSNs are given out
+  pub tidy-more : (m : ℕ) (q : Reassembly) → n ≤ m → IsTidy p n q → IsTidy p m q
+  tidy-more m q le t = record {
+    sets = every-of (IsTidySet p n) (IsTidySet p m) (λ s e. (ascend-more m 0 s.chunks le e.0, e.1)) q.ordered t.sets;
+    whole = t.whole;
+    unassembled = ascend-more m 0 q.unassembled le t.unassembled;
+    kinds = t.kinds;
+    none = t.none;
+  }
+
+pub skipped-orderly : (last : ℕ) (q : ReassemblyState) → is_orderly q ≡ true → is_orderly (after_ordered_skip last q) ≡ true
+skipped-orderly last q h =
+    let b = both (all_complete q.held.unordered) (is_unmixed q.si q.held) h in
+    and (all_complete q.held.unordered) (is_unmixed q.si (held_after_ordered_skip last q.held)) b.0 (named-unmixed q.si last q.held b.1)
+
+pub left-orderly : (tsn : ℕ) (q : ReassemblyState) → is_orderly q ≡ true → is_orderly (after_unordered_skip tsn q) ≡ true
+left-orderly tsn q h =
+    let b = both (all_complete q.held.unordered) (is_unmixed q.si q.held) h in
+    and (all_complete q.held.unordered) (is_unmixed q.si (held_after_unordered_skip tsn q.held)) b.0 (unassembled-unmixed q.si tsn q.held b.1)
+
+-- # What was taken on a stream is held or was read, but for fragments of messages that are gone: each call of the receiver.
 
 -- ## A call
 
@@ -116,20 +203,20 @@ module _ (first n : ℕ) (few : n < 2 ^ 31) (old new : Session) (ns : List Numbe
   pub unarrived : come (tsn p (n + 1)) r.cumulative_tsn r.beyond ≡ true → ⊥
   unarrived = holds.none-past p st n B E M few answered.reach a r.cumulative_tsn r.beyond answered.arrived (n + 1) (omega arith) (omega (arith, few))
 
+  wanted-place : (y : ℕ) → IsWanted st sent y → 0 < y
+  wanted-place y (inl h) = (within ns first sent line joined y h.0 h.1 h.2).0
+  wanted-place y (inr h) = omega (arith, h.1)
+
   pub late-less : (call : ReceiverCall) → ReceiverFollows call old new → (y : ℕ) → y ≤ n + 1 → Late new.receiving y → Late old.receiving y
   late-less call f y le l = (
     l.0,
     fails (come (tsn p y) r.cumulative_tsn r.beyond) (λ e. elim (cases_lt n y) [
       | inl over ↦ let it : y ≡ n + 1 = omega (arith, over, le) in unarrived (subst (λ k. come (tsn p k) r.cumulative_tsn r.beyond ≡ true) it e)
       | inr under ↦
-          not_both (sym l.1 ∙ stays-come p n _ old new few i.spread.step.made i.spread.step.arrived (tsn p y)
-          (record { place = y; some = some l.0; within = under; is = refl }) e call f)
+          not_both (sym l.1 ∙ stays-come p n _ old new few i.spread.step.made i.spread.step.arrived call f (tsn p y)
+          (record { place = y; some = wanted-place y l.0; within = under; is = refl }) e)
     ]),
   )
-    where
-      some : IsWanted st sent y → 0 < y
-      some (inl h) = (within ns first sent line joined y h.0 h.1 h.2).0
-      some (inr h) = let e = h.1 in omega (arith, e)
 
   pub well-less : (L M : ℕ → Type 0) → ((y : ℕ) → y ≤ n + 1 → M y → L y) → (o : Option InboundStream) → Well L o → Well M o
   well-less L M less None h = tt
@@ -163,14 +250,11 @@ module _ (first n : ℕ) (few : n < 2 ^ 31) (old new : Session) (ns : List Numbe
   fresh-well : (stream : ℕ) → stream_of st r ≡ None → Well (Late old.receiving) (Some (new_stream stream r.max_message_size))
   fresh-well stream e =
       let d = subst (DueOn Came answered.k answered.reach) e answered.due in
-      let z = d.1 in
-      let c = answered.arrived.covered in
-      let u = up a answered.arrived.place answered.arrived.least_is in
       record {
         current = record {
           index = 0;
           next = omega arith;
-          from = omega (arith, z, c, u);
+          from = omega (arith, answered.arrived.covered, up a answered.arrived.place answered.arrived.least_is);
           upto = omega arith;
           late = λ y le l. wanted-some ns first sent line joined st y l.0;
           whole = tt;
@@ -181,7 +265,7 @@ module _ (first n : ℕ) (few : n < 2 ^ 31) (old new : Session) (ns : List Numbe
           whole = tt;
           unassembled = tt;
           kinds = tt;
-          none = λ g m run. let x = run.some in let y = run.in_range in omega (arith, x, y);
+          none = λ g m run. omega arith;
         };
         orderly = refl;
       }
@@ -189,13 +273,11 @@ module _ (first n : ℕ) (few : n < 2 ^ 31) (old new : Session) (ns : List Numbe
   -- ## What is held came
 
   pub held-came : (t : ℕ) → Keeps old.receiving → 0 < held_weight (one t) (stream_of st r) → come t r.cumulative_tsn r.beyond ≡ true
-  held-came t k lt = by (list_any (has_tsn t) old.receiving.accepted) refl
-    where
-      by : (b : Bool) → list_any (has_tsn t) old.receiving.accepted ≡ b → come t r.cumulative_tsn r.beyond ≡ true
-      by true e =
-          let o = one-of (HasCome p n r) (has_tsn t) old.receiving.accepted e i.spread.step.taken.each in
-          ap (λ u. come u r.cumulative_tsn r.beyond) (sym (same-is o.0.tsn t o.1)) ∙ o.2.1
-      by false e = let z = none-held st (Well (Late old.receiving)) k.lost old.receiving (before k) t e in absurd (omega (arith, z, lt))
+  held-came t k lt = by-test (list_any (has_tsn t) old.receiving.accepted)
+      (λ e.
+      let o = one-of (HasCome p n r) (has_tsn t) old.receiving.accepted e i.spread.step.taken.each in
+      ap (λ u. come u r.cumulative_tsn r.beyond) (sym (same-is o.0.tsn t o.1)) ∙ o.2.1)
+      (λ e. let z = none-held st (Well (Late old.receiving)) k.lost old.receiving (before k) t e in absurd (omega (arith, z, lt)))
 
   sets-came : (t : ℕ) (ss : List ChunkSet) → list_any (λ (s : ChunkSet). list_any (has_tsn t) s.chunks) ss ≡ true → 0 < sum_by (set_weight (one t)) ss
   sets-came t [] e = absurd (not_both e)
@@ -210,10 +292,7 @@ module _ (first n : ℕ) (few : n < 2 ^ 31) (old new : Session) (ns : List Numbe
   pub index-due : (L : ℕ → Type 0) (l : InboundStream) → stream_of st r ≡ Some l → (h : IsHeldWell first sent st n a L l.queue)
       → (d : IsDue p n B Fits Came answered.k answered.reach l.queue.held)
       → h.current.index ≡ d.index
-  index-due L l e h d =
-      let c = answered.arrived.covered in
-      let u = up a answered.arrived.place answered.arrived.least_is in
-      due-index p n B Fits Came (B a) (B n) L l.queue.held h.current answered.k answered.reach d near (omega (arith, c, u)) answered.most
+  index-due L l e h d = grind (arith, nat_tests, answered.arrived.covered, up a answered.arrived.place answered.arrived.least_is)
 
   abbrev Due : ReassemblyState → Type 0
   Due q = IsDue p n B Fits Came answered.k answered.reach q.held
@@ -229,9 +308,7 @@ module _ (first n : ℕ) (few : n < 2 ^ 31) (old new : Session) (ns : List Numbe
       let d = due-on l e in
       read-well ns first sent line joined n i.spread.long few st a (Late old.receiving) l.queue h Came answered.k answered.reach d
       (index-due (Late old.receiving) l e h d) answered.most (λ y l'. l'.0) (λ y there l'.
-      let lt = sets-came (tsn p y) l.queue.held.ordered there in
-      let g = ap (held_weight (one (tsn p y))) e in
-      not_both (sym l'.1 ∙ held-came (tsn p y) k (omega (arith, lt, g))))
+      not_both (sym l'.1 ∙ held-came (tsn p y) k (omega (arith, sets-came (tsn p y) l.queue.held.ordered there, ap (held_weight (one (tsn p y))) e))))
 
   -- ## A chunk is taken
 
@@ -280,10 +357,7 @@ module _ (first n : ℕ) (few : n < 2 ^ 31) (old new : Session) (ns : List Numbe
         near-number o kind =
             let w = window p st n B E M few up a c old.receiving answered g fresh near kind o acc.stream.queue.held dd
             (ap (is_too_far_on c) (sym acc.found) ∙ not-far c r fresh f.accepted.0) in
-            let v = w.1 in
-            let from = dd.from in
-            let same = index-due (Late old.receiving) acc.stream e h dd in
-            omega (arith, v, from, same)
+            omega (arith, dd.from, index-due (Late old.receiving) acc.stream e h dd)
 
         coming : c.unordered ≡ false → IsComing ns first sent line joined n i.spread.long few st a (Late old.receiving) h.current.index c
         coming kind =
@@ -314,3 +388,286 @@ module _ (first n : ℕ) (few : n < 2 ^ 31) (old new : Session) (ns : List Numbe
   pub keeps-other : (call : ReceiverCall) → IsOther call → ReceiverFollows call old new → Answered new → Keeps old.receiving → Keeps new.receiving
   keeps-other call o f after k = after-so call f k
       (after-call st (Well (Late old.receiving)) k.lost old new (before k) call o f fresh-well (λ c said g. put c said g k after) (read k))
+
+  -- ## A FORWARD-TSN comes: what the receiver drops of the stream is of messages that are gone
+
+  module _ (cut : AreCutGone gone sent) (made : list_all (made_in.made_among old.made) old.receiving.accepted ≡ true)
+      (whole : All (λ m. (is_complete m.fragments ≡ true) × (is_one_message m.fragments ≡ true) × EachSent sent m.fragments) old.receiving.read)
+      (g : ForwardTsn) (f : ReceiverFollows (incoming.follows g) old new) (pass : IsPassing (base first) gone old sent g)
+      (k : Keeps old.receiving) where
+    abbrev m : ℕ
+    m = length pass.passed
+
+    least : m ≤ n
+    least = let x = part-length sent pass.passed pass.part in omega (arith, x)
+
+    ends : EndsAt sent m
+    ends = (pass.passed, pass.part, refl, pass.ends)
+
+    abbrev Goes : ChunkPayloadData → Type 0
+    Goes = IsPassedBy gone sent old.made
+
+    -- what it passes
+    passes-it : (c : ChunkPayloadData) → at_or_before c.tsn g.new_cumulative_tsn ≡ true → list_any (passes c.tsn) old.made ≡ true
+    passes-it c e = list_any_at (passes c.tsn) old.made f.handed.0 (forward_tsn g) f.handed.1 (ap (passes c.tsn) f.handed.2 ∙ e)
+
+    abbrev Rises : ℕ → ℕ → List ChunkPayloadData → Type 0
+    Rises = holds.Rises p st n B E M
+
+    accepted : (names_too_far g r ≡ false) × (names_closed g r ≡ false)
+    accepted = sessions.refused st first n old ns sent i.spread few g r f.accepted
+
+    abbrev t : ℕ
+    t = g.new_cumulative_tsn
+
+    -- what it names of the stream
+    naming : IsNamingTo p st n B E M a m g.streams
+    naming =
+        let x = every-contained (IsMadeNaming st p a sent) old.made (forward_tsn g) f.handed (i.spread.names st) in
+        let same : x.place ≡ m = same-place p x.place m (omega (arith, few)) (omega (arith, least, few)) (sym x.is ∙ pass.is) in
+        subst (λ j. IsNamingTo p st n B E M a j g.streams) same x.tells
+
+    missing : Misses p st n B E M few up m
+    missing j cs fits e = sessions.missed st first n old ns sent i.spread few m j cs least fits e
+
+    at : (j y : ℕ) (cs : List ChunkPayloadData) → y ≤ n → Fits j cs → list_any (has_tsn (tsn p y)) cs ≡ true → B y ≡ j + 1
+    at = at-in ns first sent line joined n i.spread.long few st
+
+    place : (j : ℕ) (cs : List ChunkPayloadData) → Fits j cs → 0 < length cs → (y : ℕ) × (y ≤ n) × (list_any (has_tsn (tsn p y)) cs ≡ true)
+    place = place-in ns first sent line joined n i.spread.long few st
+
+    abbrev Now : Reassembly → Type 0
+    Now = IsCurrent p n B (B a) (B n) (Late new.receiving)
+
+    -- what was taken came
+    taken-came : (z : ℕ) → was_taken (tsn p z) old ≡ true → come (tsn p z) r.cumulative_tsn r.beyond ≡ true
+    taken-came z e = grind (arith, nat_tests, common_steps, one-of (HasCome p n r) (has_tsn (tsn p z)) old.receiving.accepted e i.spread.step.taken.each)
+
+    -- the queue after its names, with what goes
+    record IsSkipped (q after : ReassemblyState) : Type 0 where
+      lost : List ChunkPayloadData
+      of-gone : Every Goes lost
+      weighs : (w : ChunkPayloadData → ℕ) → weight w after.held + sum_by w lost ≡ weight w q.held
+      well : IsHeldWell first sent st n a (Late new.receiving) after
+      uncut : Every (λ s. cannot_complete t s ≡ false) after.held.ordered
+      same-unassembled : after.held.unassembled ≡ q.held.unassembled
+
+    module _ (fresh : is_stale g r ≡ false) where
+      now-is' : new.receiving.receiver ≡ without_incomplete t (follow_forward_tsn g r)
+      now-is' = now-is p st n B E M few up g old.receiving new.receiving f.step.receiver fresh
+
+      lt : answered.arrived.place < m
+      lt = ahead-is p st n B E M few up a g m old.receiving answered least pass.is fresh
+
+      -- all up to the place has come then
+      upto-come : (y : ℕ) → 0 < y → y ≤ m → come (tsn p y) new.receiving.receiver.cumulative_tsn new.receiving.receiver.beyond ≡ true
+      upto-come y some le =
+          let given : IsGiven p n (tsn p y) = record { place = y; some = some; within = omega (arith, le, least); is = refl } in
+          subst (λ (q : Reception). come (tsn p y) q.cumulative_tsn q.beyond ≡ true) (sym now-is')
+          (advance-keeps p n t m (filter (λ u. not (at_or_before u t)) r.beyond) few least pass.is
+          (every-passing (IsGiven p n) (λ u. not (at_or_before u t)) r.beyond (beyond-given p n r (known old) few i.spread.step.arrived)) (tsn p y) given
+          (or-left (at_or_before (tsn p y) t) (list_any (λ u. u == tsn p y) (filter (λ u. not (at_or_before u t)) r.beyond))
+          (upto-yes p y m refl pass.is (omega (arith, le, least, few)) (omega (arith, least, few)) le)))
+
+      -- what is still to come is of later messages
+      past-new : (y : ℕ) → y ≤ n + 1 → Late new.receiving y → B m < B y
+      past-new y le l = elim (cases_lt m y) [
+        | inl lt ↦ wanted-after ns first sent line joined st m ends y l.0 lt
+        | inr ge ↦ absurd (not_both (sym l.1 ∙ upto-come y (wanted-place y l.0) ge))
+      ]
+
+      module _ (l : InboundStream) (e : stream_of st r ≡ Some l) (h : IsHeldWell first sent st n a (Late old.receiving) l.queue) where
+        d : IsDue p n B Fits Came answered.k answered.reach l.queue.held
+        d = due-on l e
+
+        same-index : h.current.index ≡ d.index
+        same-index = index-due (Late old.receiving) l e h d
+
+        abbrev later : Now l.queue.held
+        later = holds.current-less p n B (B a) (B n) (Late old.receiving) (Late new.receiving) l.queue.held (late-less (incoming.follows g) f) h.current
+
+        names : ssns_of l.queue.si g.streams ≡ map (λ x. x.sequence) (filter (is_pair_of st) g.streams)
+        names = named-by p st n B E M few up a g m old.receiving answered least pass.is l e
+
+        -- it has no name of the stream
+        unnamed : filter (is_pair_of st) g.streams ≡ [] → ((j : ℕ) → a < j → j ≤ m → E j ≡ false) → IsSkipped l.queue l.queue
+        unnamed none clear = record {
+          lost = [];
+          of-gone = tt;
+          weighs = λ w. omega arith;
+          well = record { current = later; tidy = h.tidy; orderly = h.orderly };
+          uncut =
+              holds.none-cut p n B Fits Came at place t h.current.index d.low answered.reach l.queue.held.ordered d.sets
+              (gone-held p st n B E M few up t m least pass.is Came missing h.current.index d.low answered.reach l.queue.held.ordered d.sets held)
+              h.current.whole h.current.some;
+          same-unassembled = refl;
+        }
+          where
+            held : (z : ℕ) → z ≤ m → E z ≡ true → d.low + 1 ≤ B z → h.current.index + 1 ≤ B z
+                → list_any (λ (s : ChunkSet). list_any (has_tsn (tsn p z)) s.chunks) l.queue.held.ordered ≡ true
+            held z upto on lo from = elim (d.kept z (omega (arith, upto, least))
+                (clear-came p st n B E M few up a g m old.receiving answered least pass.is clear z upto on)) [
+                  | inl x ↦ let s = same-index in absurd (omega (arith, x, from, s))
+                  | inr x ↦ x
+                ]
+
+        -- it names the last message of the stream that was begun up to the place
+        module _ (j : ℕ) (last : j + 1 ≡ B m)
+            (only : filter (is_pair_of st) g.streams ≡ record { identifier = st; sequence = j % 2 ^ 16 } ∷ []) where
+          close' : is_name_too_far (j % 2 ^ 16) l.queue.held ≡ false
+          close' = close p st n B E M few up a g m old.receiving answered least pass.is accepted.0 lt l e (j % 2 ^ 16) only
+
+          near' : (answered.reach ≤ j + 1 + 2 ^ 14) × (j + 1 ≤ answered.reach + 2 ^ 14)
+          near' = name-within p st n B E M few up a g m old.receiving answered least pass.is near lt j last
+
+          skip : (x : Now (held_after_ordered_skip (j % 2 ^ 16) l.queue.held)) × (j + 1 ≤ x.index)
+          skip =
+              let x = up a m (omega (arith, answered.arrived.least_is, lt)) in
+              holds.skip-current p n B Fits Came at place answered.k answered.reach j (j % 2 ^ 16) l.queue.held d refl near'.0 near'.1 close'
+              (B a) (B n) (Late new.receiving) later same-index (omega (arith, up m n least, last)) (omega (arith, x, last))
+              (λ y le l'. let z = past-new y le l' in omega (arith, z, last))
+
+          misses-held : (x : ℕ) (cs : List ChunkPayloadData) → Fits x cs → 0 < length cs → is_complete cs ≡ false → x ≤ j
+              → (z : ℕ) × (z ≤ m) × (E z ≡ true) × (B z ≡ x + 1) × (list_any (has_tsn (tsn p z)) cs ≡ false)
+          misses-held x cs fits some open' le =
+              missing x cs fits (misses-one ns first sent line joined n i.spread.long few st x m least ends (omega (arith, le, last)) cs fits some open')
+
+          -- the fragments of a message up to the place are passed
+          pass-all : (z : ℕ) → z ≤ m → (y low : ℕ) (cs : List ChunkPayloadData) → Rises y low cs → B z ≡ y + 1 → Every (IsGone gone sent) cs
+              → Every Goes cs
+          pass-all z upto y low [] r count e = tt
+          pass-all z upto y low (c ∷ cs) r count e =
+              let o = r.0 in
+              let le = fragment-upto ns first sent line joined n i.spread.long few st y m least ends (omega (arith, up z m upto, count)) c o in
+              let before' = upto-yes p (o.before + 1) m o.is pass.is (omega (arith, le, least, few)) (omega (arith, least, few)) le in
+              ((e.0, passes-it c before'), pass-all z upto y (o.before + 1) cs r.2 count e.1)
+
+          passed-gone : Every (λ s. is_passed (j % 2 ^ 16) s ≡ true → Every Goes s.chunks) l.queue.held.ordered
+          passed-gone =
+              holds.all-passed p n B Fits Came at place answered.k answered.reach j (j % 2 ^ 16) l.queue.held d refl near'.0 near'.1 close'
+              Goes m least E misses-held (B a) (B n) (Late old.receiving) h.current hold
+            where
+              hold : (z : ℕ) → z ≤ m → E z ≡ true → h.current.index + 1 ≤ B z
+                  → (list_any (λ (s : ChunkSet). list_any (has_tsn (tsn p z)) s.chunks) l.queue.held.ordered ≡ true)
+                  ⊎ ((x : ℕ) (cs : List ChunkPayloadData) → Fits x cs → B z ≡ x + 1 → Every Goes cs)
+              hold z upto on from =
+                  elim (resolved ns first sent line joined n i.spread.long few gone cut old pass.passed pass.part pass.came st z on upto) [
+                    | inr x ↦ inr (λ y cs fits count. pass-all z upto y 0 cs fits count (x y cs fits count))
+                    | inl x ↦ elim (d.kept z (omega (arith, upto, least)) (on, taken-came z x)) [
+                      | inl y ↦ let s = same-index in absurd (omega (arith, y, from, s))
+                      | inr y ↦ inl y
+                    ]
+                  ]
+
+          named : IsSkipped l.queue (after_ordered_skip (j % 2 ^ 16) l.queue)
+          named =
+              let x = skip in
+              record {
+                lost = fragments_of_sets (filter (is_passed (j % 2 ^ 16)) l.queue.held.ordered);
+                of-gone = each-dropped Goes (is_passed (j % 2 ^ 16)) l.queue.held.ordered passed-gone;
+                weighs = λ w. let s = filter-split (is_passed (j % 2 ^ 16)) w l.queue.held.ordered in omega (arith, s);
+                well = record {
+                  current = x.0;
+                  tidy = skipped-tidy p n few (j % 2 ^ 16) l.queue.held h.tidy;
+                  orderly = skipped-orderly (j % 2 ^ 16) l.queue h.orderly;
+                };
+                uncut =
+                    let q = held_after_ordered_skip (j % 2 ^ 16) l.queue.held in
+                    let sets = sets-those Fits (λ s. not (is_passed (j % 2 ^ 16) s)) d.low answered.reach l.queue.held.ordered d.sets in
+                    holds.none-cut p n B Fits Came at place t x.0.index d.low answered.reach q.ordered sets
+                    (gone-begun p st n B E M few up t m least pass.is Came missing x.0.index d.low answered.reach q.ordered sets
+                    (omega (arith, last)))
+                    x.0.whole x.0.some;
+                same-unassembled = refl;
+              }
+
+        skipped : IsSkipped l.queue (skipped_each (ssns_of l.queue.si g.streams) l.queue)
+        skipped = elim naming [
+          | inl x ↦
+              subst (λ xs. IsSkipped l.queue (skipped_each xs l.queue)) (sym (names ∙ ap (map (λ (y : ChunkForwardTsnStream). y.sequence)) x.0))
+              (unnamed x.0 x.2)
+          | inr x ↦
+              subst (λ xs. IsSkipped l.queue (skipped_each xs l.queue)) (sym (names ∙ ap (map (λ (y : ChunkForwardTsnStream). y.sequence)) x.2))
+              (named x.0 x.1 x.2)
+        ]
+
+        -- unassembled fragments up to the place
+        unassembled-gone : Every (λ c. at_or_before c.tsn t ≡ true → Goes c) l.queue.held.unassembled
+        unassembled-gone = every-of-all (λ c. at_or_before c.tsn t ≡ true → Goes c) l.queue.held.unassembled (λ x c lt b.
+            let xs = l.queue.held.unassembled in
+            let y = slice_index_or xs x c in (
+              gone-unassembled ns first sent line joined n i.spread.long few gone cut old i.spread.holds.made made i.spread.step.taken.apart whole st a k l e
+                  pass.passed pass.part pass.ends pass.came y
+                  (every-at (λ (z : ChunkPayloadData). WasSent sent (data_of z)) xs x c lt
+                  (was-unassembled ns first sent line joined n i.spread.long few gone cut old i.spread.holds.made made i.spread.step.taken.apart
+                  whole st a k l e))
+                  (every-at IsUnordered xs x c lt h.tidy.kinds) (some-of y.tsn xs (list_any_at (has_tsn y.tsn) xs x c lt (same-yes y.tsn)))
+                  (ap (at_or_before y.tsn) (sym pass.is) ∙ b),
+              passes-it y b,
+            ))
+
+        abbrev after-names : ReassemblyState
+        after-names = skipped_each (ssns_of l.queue.si g.streams) l.queue
+
+        abbrev after-all : ReassemblyState
+        after-all = after_incomplete_skip t (after_unordered_skip t after-names)
+
+        uncut-same : after-all.held ≡ held_after_unordered_skip t after-names.held
+        uncut-same = holds.same-uncut t (held_after_unordered_skip t after-names.held) skipped.uncut
+
+        well-after : IsHeldWell first sent st n a (Late new.receiving) after-all
+        well-after = record {
+          current =
+              subst Now (sym uncut-same) (holds.current-same p n B (B a) (B n) (Late new.receiving) after-names.held
+              (held_after_unordered_skip t after-names.held) refl refl skipped.well.current);
+          tidy = subst (IsTidy p n) (sym uncut-same) (left-tidy p n few t after-names.held skipped.well.tidy);
+          orderly =
+              ap (λ (q : Reassembly). all_complete q.unordered && is_unmixed after-names.si q) uncut-same ∙ left-orderly t after-names skipped.well.orderly;
+        }
+
+        weighs-after : (w : ChunkPayloadData → ℕ)
+            → weight w after-all.held + (sum_by w skipped.lost + sum_by w (leading (λ x. at_or_before x.tsn t) l.queue.held.unassembled))
+            ≡ weight w l.queue.held
+        weighs-after w =
+            let v = leading-split (λ x. at_or_before x.tsn t) w after-names.held.unassembled in
+            let z = ap (λ xs. sum_by w (leading (λ x. at_or_before x.tsn t) xs)) skipped.same-unassembled in
+            omega (arith, skipped.weighs w, ap (weight w) uncut-same, v, z)
+
+      followed : Keeps new.receiving
+      followed = by (stream_of st r) refl (found-after p st n B E M few up g old.receiving new.receiving f.step.receiver fresh) k.holds
+        where
+          weigh : (o : Option InboundStream) → (w : ChunkPayloadData → ℕ) → stream_of st r ≡ o
+              → sum_by w (filter (is_on st) new.receiving.accepted) ≡ sum_by w (fragments_read st new.receiving.read) + held_weight w o + sum_by w k.lost
+          weigh o w e = grind (arith, nat_tests, common_steps, k.weighs w, ap (held_weight w) e)
+
+          by : (o : Option InboundStream) → stream_of st r ≡ o
+              → stream_of st new.receiving.receiver
+              ≡ option_map (changed p st n B E M few up g old.receiving new.receiving f.step.receiver) o
+              → HeldWell first sent st n a (Late old.receiving) o → Keeps new.receiving
+          by None e is h = record {
+            lost = k.lost;
+            of-gone = k.of-gone;
+            weighs = λ w. let x = weigh None w e in let y = ap (held_weight w) is in omega (arith, x, y);
+            holds = subst (HeldWell first sent st n a (Late new.receiving)) (sym is) tt;
+          }
+          by (Some l) e is h =
+              let s = skipped l e h in
+              let front = leading (λ x. at_or_before x.tsn t) l.queue.held.unassembled in
+              record {
+                lost = s.lost ++ (front ++ k.lost);
+                of-gone = every-joined Goes s.lost (front ++ k.lost) s.of-gone
+                    (every-joined Goes front k.lost
+                    (each-leading Goes (λ x. at_or_before x.tsn t) l.queue.held.unassembled (unassembled-gone l e h)) k.of-gone);
+                weighs = λ w.
+                    let y = ap (held_weight w) is in
+                    omega (arith, weigh (Some l) w e, y, weighs-after l e h w, sum_by-append w s.lost (front ++ k.lost), sum_by-append w front k.lost);
+                holds = subst (HeldWell first sent st n a (Late new.receiving)) (sym is) (well-after l e h);
+              }
+
+    pub keeps-followed : Keeps new.receiving
+    keeps-followed = by-test (is_stale g r)
+        (λ e.
+        let same = stale-same p st n B E M few up g old.receiving new.receiving f.step.receiver e in
+        still (incoming.follows g) f f.step.accepted f.step.read
+        (ap (λ (q : Reception). q.streams) same) k)
+        followed

@@ -1,42 +1,23 @@
 -- What was taken on a stream is held or was read, but for fragments of messages that are gone: what holds of the stream after each call.
-use Rattle.std.proofs.Common.{◌≡◌, ℕ, ◌+◌, ◌%◌, ◌^◌, ◌<◌, ◌≤◌, Bool, true, false, List, [], ◌∷◌, length, Option, Some, None, refl, ap, sym, subst, ◌∙◌, arith}
-use Rattle.std.specs.Prelude.{⊤}
-use Rattle.std.specs.List.{filter, list_any, sum_by}
-use Rattle.std.proofs.lemmas.Bool.{eq-eqb}
-use Rattle.sctp_util.proofs.Cases.{or-left}
-use Rattle.sctp_util.proofs.Edits.{sum_by-inserted}
-use Rattle.sctp_util.proofs.More.{and, both}
-use Rattle.sctp_util.proofs.Round.{tsn}
-use Rattle.sctp_util.specs.Lists.{insert_before}
-use Rattle.sctp_data.specs.declared.chunk.chunk_payload_data.ChunkPayloadData.{ChunkPayloadData}
-use Rattle.sctp_data.specs.ChunkSet.{ChunkSet}
-use Rattle.sctp_data.specs.PayloadData.{data_of}
-use Rattle.sctp_reassembly.specs.reassembly_queue.Fragments.{sets_with}
-use Rattle.sctp_reassembly.specs.reassembly_queue.ReassemblyQueue.{BecomesComplete, Reassembly, ReassemblyState, rest_among, rest_read, state_read}
-use Rattle.sctp_receiver.specs.declared.receiver.inbound_streams.InboundStream.{InboundStream}
-use Rattle.sctp_receiver.specs.Inbound.{Pushes, PushesAs}
-use Rattle.sctp_receiver.specs.Receiver.{stream_of}
-use Rattle.sctp_receiver.specs.ReceiverRuns.{Stand, fragments_read}
-use Rattle.sctp_receiver.proofs.CompleteMessages.{all_complete, pushed-complete, rest-complete}
-use Rattle.sctp_receiver.proofs.Handed.{held_weight, is_orderly}
-use Rattle.sctp_receiver.proofs.Inbounds.{pushed-number}
-use Rattle.sctp_receiver.proofs.OneMessage.{is_unmixed, pushed-unmixed, rest-unmixed}
+use Rattle.sctp_delivery.proofs.Names.{◌≡◌, ℕ, ◌+◌, ◌%◌, ◌^◌, ◌<◌, ◌≤◌, Bool, true, false, List, [], ◌∷◌, length, Option, Some, None, refl, ap, sym, subst, ◌∙◌}
+use Rattle.sctp_delivery.proofs.Names.{arith, ⊤, filter, list_any, sum_by, eq-eqb, or-left, sum_by-inserted, and, both, tsn, insert_before, ChunkPayloadData}
+use Rattle.sctp_delivery.proofs.Names.{ChunkSet, data_of, sets_with, BecomesComplete, Reassembly, ReassemblyState, rest_among, rest_read, InboundStream, Pushes}
+use Rattle.sctp_delivery.proofs.Names.{PushesAs, stream_of, Stand, fragments_read, all_complete, held_weight, is_orderly, pushed-number, is_unmixed, weight}
+use Rattle.sctp_delivery.proofs.Names.{chunk_before, has_tsn, is_on, passes, Made}
+use Rattle.sctp_reassembly.specs.reassembly_queue.ReassemblyQueue.{state_read}
+use Rattle.sctp_receiver.proofs.CompleteMessages.{pushed-complete, rest-complete}
+use Rattle.sctp_receiver.proofs.OneMessage.{pushed-unmixed, rest-unmixed}
 use Rattle.sctp_receiver.proofs.Weights as weights
-use Rattle.sctp_receiver.proofs.Weights.{weight}
-use Rattle.sctp_serial.specs.DataChunks.{chunk_before, has_tsn, is_on}
-use Rattle.sctp_delivery.specs.Sacks.{passes}
-use Rattle.sctp_delivery.specs.SenderCalls.{Made}
-use Rattle.sctp_delivery.proofs.CurrentSets.{IsCurrent, current-put, current-same, front-current, put-in}
+use Rattle.sctp_delivery.proofs.Cases.{at-test, by-test}
+use Rattle.sctp_delivery.proofs.UnwrappedHolds.{IsCurrent, current-put, current-same, front-current, put-in}
 use Rattle.sctp_delivery.proofs.Every.{Every}
-use Rattle.sctp_delivery.proofs.GoneMessages.{IsGone}
-use Rattle.sctp_delivery.proofs.KeptSets.{sets-more}
-use Rattle.sctp_delivery.proofs.MessagePlaces.{IsWanted}
-use Rattle.sctp_delivery.proofs.MessageSets.{has-all}
+use Rattle.sctp_delivery.proofs.PassingCalls.{IsGone}
+use Rattle.sctp_delivery.proofs.KeptSets.{sets-more, IsFit, IsTidy, pushed-tidy, read-tidy}
+use Rattle.sctp_delivery.proofs.MessagePlaces.{IsWanted, has-all}
 use Rattle.sctp_delivery.proofs.OrderedEntries.{AreJoined}
 use Rattle.sctp_delivery.proofs.Sent.{Entry, IsLine, Numbered, WasSent}
 use Rattle.sctp_delivery.proofs.SpreadEntries.{begun_to, is_at, to-up}
 use Rattle.sctp_delivery.proofs.TakenTsns.{come}
-use Rattle.sctp_delivery.proofs.Tidy.{IsFit, IsTidy, pushed-tidy, read-tidy}
 use Rattle.sctp_delivery.proofs.TsnPlaces.{base}
 use Rattle.sctp_delivery.proofs.UnwrappedHolds as holds
 use Rattle.sctp_delivery.proofs.UnwrappedReads as reads
@@ -134,44 +115,45 @@ module _ (ws : List Numbered) (first : ℕ) (sent : List Entry) (line : IsLine w
         subst Now (sym held) (current-put p n B Pieces C at-in place-in x (B a) (B n) L old.held h.current e.place low top
             e.within e.is after (subst (λ (q : Reassembly). reads.AreSets p n B Pieces C low top q.ordered) held sets)),
         λ w.
-            let m = sets-more w x old.held.ordered fresh in
-            let is = ap (weight w) held in
-            omega (arith, m, is),
+            omega (arith, sets-more w x old.held.ordered fresh, ap (weight w) held),
       )
         where
           after : h.current.index < begun_to st e.place sent
-          after = h.current.late e.place (let le = e.within in omega (arith, le)) e.late
+          after = h.current.late e.place (omega arith) e.late
 
           held : new.held ≡ record old.held { ordered = sets_with x old.held.ordered }
           held =
               ap (λ (q : ReassemblyState). q.held) (subst (λ b. PushesAs b x answered old new) u pushes).0
               ∙ put-in x h.current.index e.of old.held h.current.next e.number
-              (let b = e.begun in omega (arith, after, b)) e.near
+              (omega (arith, after)) e.near
 
       put-unordered : x.unordered ≡ true → Now new.held × Weighs
-      put-unordered u = (same answered b, weighs)
+      put-unordered u = (
+        at-test (λ k. BecomesComplete (insert_before chunk_before x old.held.unassembled) old.held new.held k → Now new.held)
+            answered
+            (λ e t.
+            current-same p n B (B a) (B n) L old.held new.held
+            (ap (λ (q : Reassembly). q.next_ssn) t.moved) (ap (λ (q : Reassembly). q.ordered) t.moved) h.current)
+            (λ e t.
+            current-same p n B (B a) (B n) L old.held new.held
+            (ap (λ (q : Reassembly). q.next_ssn) t.1) (ap (λ (q : Reassembly). q.ordered) t.1) h.current) b,
+        weighs,
+      )
         where
           b : BecomesComplete (insert_before chunk_before x old.held.unassembled) old.held new.held answered
           b = (subst (λ k. PushesAs k x answered old new) u pushes).0
 
-          same : (k : Bool) → BecomesComplete (insert_before chunk_before x old.held.unassembled) old.held new.held k → Now new.held
-          same true t =
-              current-same p n B (B a) (B n) L old.held new.held
-              (ap (λ (q : Reassembly). q.next_ssn) t.moved) (ap (λ (q : Reassembly). q.ordered) t.moved) h.current
-          same false t =
-              current-same p n B (B a) (B n) L old.held new.held
-              (ap (λ (q : Reassembly). q.next_ssn) t.1) (ap (λ (q : Reassembly). q.ordered) t.1) h.current
-
           weighs : (w : ChunkPayloadData → ℕ) → weight w new.held ≡ w x + weight w old.held
           weighs w =
               let e = weights.becomes w (insert_before chunk_before x old.held.unassembled) old.held new.held answered b in
-              let m = sum_by-inserted w chunk_before x old.held.unassembled in
-              omega (arith, e, m)
+              omega (arith, e, sum_by-inserted w chunk_before x old.held.unassembled)
 
       pub pushed-well : is_on old.si x ≡ true → IsFit p n x → list_any (has_tsn x.tsn) old.held.unassembled ≡ false
           → (x.unordered ≡ false → IsComing h.current.index x × ((low : ℕ) × (top : ℕ) × reads.AreSets p n B Pieces C low top new.held.ordered))
           → Well new × Weighs
-      pushed-well on fit bare ordered = by x.unordered refl
+      pushed-well on fit bare ordered = by-test x.unordered
+          (λ u. build (put-unordered u))
+          (λ u. let e = ordered u in build (put-ordered u e.0 e.1.0 e.1.1 e.1.2))
         where
           build : Now new.held × Weighs → Well new × Weighs
           build r =
@@ -185,10 +167,6 @@ module _ (ws : List Numbered) (first : ℕ) (sent : List Entry) (line : IsLine w
                 },
                 r.1,
               )
-
-          by : (k : Bool) → x.unordered ≡ k → Well new × Weighs
-          by false u = let e = ordered u in build (put-ordered u e.0 e.1.0 e.1.1 e.1.2)
-          by true u = build (put-unordered u)
 
     -- ## A message is read
 

@@ -1,45 +1,499 @@
--- In each session of few TSNs: what was taken is held or was read, but for fragments of messages that were abandoned or have expired.
-use Rattle.std.proofs.Common.{◌≡◌, ℕ, ◌+◌, ◌^◌, ◌<◌, List, [], ◌∷◌, ◌++◌, Option, refl, ap, sym, subst, ◌∙◌, append_assoc, arith}
-use Rattle.std.proofs.lemmas.List.{append-nil}
-use Rattle.sctp_util.specs.Serial.{distance}
-use Rattle.sctp_util.proofs.More.{not_both}
-use Rattle.sctp_receiver.specs.declared.receiver.limits.Limits.{Limits}
-use Rattle.sctp_delivery.specs.Abandoned.{abandoned_by, abandoned_in}
-use Rattle.sctp_delivery.specs.ReceiverCalls as incoming
-use Rattle.sctp_delivery.specs.ReceiverCalls.{ReceiverCall}
-use Rattle.sctp_delivery.specs.Sacks.{passes, tsns_given}
-use Rattle.sctp_delivery.specs.SenderCalls.{SenderCall, forward_tsn, made_after}
-use Rattle.sctp_delivery.specs.Session.{Call, Follows, ReceiverFollows, RunsTo, SenderFollows, Session, at_start, of_receiver, of_sender}
-use Rattle.sctp_delivery.proofs.AbandonedMessages.{gone-left}
-use Rattle.sctp_delivery.proofs.Calls.{numbered_after}
-use Rattle.sctp_delivery.proofs.Delivered.{next_tsn}
-use Rattle.sctp_delivery.proofs.EachRead.{complete-messages}
-use Rattle.sctp_delivery.proofs.Every.{every-contained}
-use Rattle.sctp_delivery.proofs.FollowedCalls.{keeps-followed}
-use Rattle.sctp_delivery.proofs.KeptCalls as calls
-use Rattle.sctp_delivery.proofs.KeptLater.{keeps-more}
-use Rattle.sctp_delivery.proofs.KeptOrGone.{IsKeptBut}
-use Rattle.sctp_delivery.proofs.PassedMessages.{IsMadePassing}
-use Rattle.sctp_delivery.proofs.PassingCalls.{IsPassed, passed-first, receiver-passes, sender-passes}
-use Rattle.sctp_delivery.proofs.SackLaws as sacks
-use Rattle.sctp_delivery.proofs.Sent.{Entry, Numbered, WasSent}
-use Rattle.sctp_delivery.proofs.SpreadEntries.{begun_to, is_at}
-use Rattle.sctp_data.specs.PayloadData.{data_of}
-use Rattle.sctp_delivery.proofs.Sessions as made_in
-use Rattle.sctp_delivery.proofs.SpreadCalls.{sender-spreads}
-use Rattle.sctp_delivery.proofs.SpreadFlight.{are-on, are-steps}
-use Rattle.sctp_delivery.proofs.StreamCalls.{IsOther}
-use Rattle.sctp_delivery.proofs.TightFlight.{IsTight, tight-after, tight-later}
+-- The message that a first fragment is of, among those that were read; and what is so where nothing waits and nothing is held.
+use Rattle.sctp_delivery.proofs.Names.{◌≡◌, ℕ, suc, ◌+◌, ◌<◌, ◌≤◌, ◌^◌, Bool, true, false, List, [], ◌∷◌, ◌++◌, length, Option, Some, inl, inr, refl, ap, sym}
+use Rattle.sctp_delivery.proofs.Names.{subst, ◌∙◌, arith, zero, ◌-◌, None, All, Contains, find, ◌==◌, ◌&&◌, ◌||◌, if◌then◌else◌, slice_index_or, ◌⊎◌, filter}
+use Rattle.sctp_delivery.proofs.Names.{list_all, list_any, sum_by, sum_by-append, sum_by-cons, AllPass-from_list_all, nat_tests, common_steps, or-split}
+use Rattle.sctp_delivery.proofs.Names.{same-is, both, fails, not_both, ChunkPayloadData, Data, data_of, ChunkSet, chunk_count, Pending, held_chunks, Limits}
+use Rattle.sctp_delivery.proofs.Names.{InboundStream, Reception, stream_of, held_weight, set_weight, Message, fragments_read, is_one_message, Stand, completes}
+use Rattle.sctp_delivery.proofs.Names.{is_complete, has_tsn, is_on, fragments_held, holds_nothing, is_all_acknowledged, Call, RunsTo, Session, at_start}
+use Rattle.sctp_delivery.proofs.Names.{ReceiverFollows, SenderFollows, of_receiver, of_sender, Unknown, EachOtherIsReadOnce, abandoned_by, abandoned_in}
+use Rattle.sctp_delivery.proofs.Names.{StandAt, fragments_of_all, are_apart, tsns_given, was_taken, passes, cases_lt, tsn, Made, SenderCall, forward_tsn}
+use Rattle.sctp_delivery.proofs.Names.{made_after, append-nil, distance, ReceiverCall}
+use Rattle.std.proofs.Common.{append_assoc}
+use Rattle.sctp_reassembly.specs.reassembly_queue.Counts.{set_chunks}
+use Rattle.sctp_receiver.specs.Inbound.{has_number}
+use Rattle.sctp_delivery.proofs.Cases.{at-if, at-test, by-test}
+use Rattle.sctp_delivery.proofs.Begun.{AreOnce, was_begun, begins}
+use Rattle.sctp_delivery.proofs.Delivered.{EachSent, IsReadOf, each-sent, follows, inner-of, message-is, next_tsn}
+use Rattle.sctp_delivery.proofs.Every.{Every, every-of, every-contained}
+use Rattle.sctp_delivery.proofs.Kept as kept
+use Rattle.sctp_delivery.proofs.OnceWritten.{EachRead, places, apart, each-read, stand}
+use Rattle.sctp_delivery.proofs.ReadOnce as read_once
+use Rattle.sctp_delivery.proofs.ReadOnce.{one}
+use Rattle.sctp_delivery.proofs.Senders.{AreSent}
+use Rattle.sctp_delivery.proofs.Sent.{Entry, IsLine, IsPart, Numbered, contains-more, fragment, part-length, part-line, same-parts, same-tsn, terminal}
+use Rattle.sctp_delivery.proofs.Sent.{WasSent}
+use Rattle.sctp_delivery.proofs.AbandonedMessages.{flight_of, gone-left}
+use Rattle.sctp_delivery.proofs.AllBegun.{begins_in}
+use Rattle.sctp_delivery.proofs.Calls.{length-forgotten, numbered_after}
+use Rattle.sctp_delivery.proofs.KeptOrGone.{IsKeptBut, IsPassedBy, HeldWell, IsLate}
+use Rattle.sctp_delivery.proofs.OrderedPlaces.{place-at}
+use Rattle.sctp_delivery.proofs.PassedMessages.{AreTakenOrGone, is_gone, IsMadePassing}
+use Rattle.sctp_delivery.proofs.PassingCalls.{IsPassed, all-taken-or-gone, came-at, IsGone, passed-first, receiver-passes, sender-passes}
+use Rattle.sctp_delivery.proofs.SpreadCalls.{IsSpread, sender-spreads}
+use Rattle.sctp_delivery.proofs.SackLaws.{none-of}
+use Rattle.sctp_delivery.proofs.OneRead.{run-then}
+use Rattle.sctp_delivery.proofs.UnwrappedHolds.{IsWholeAt}
+use Rattle.sctp_delivery.proofs.KeptCalls.{tidy-more}
+use Rattle.sctp_delivery.proofs.MessagePlaces.{IsEntryAt, IsWanted, begins-more, is_of_stream, ordered-alike, prior-of}
+use Rattle.sctp_delivery.proofs.OrderedEntries.{AreJoined}
+use Rattle.sctp_delivery.proofs.Queues.{IsOnceMore}
+use Rattle.sctp_delivery.proofs.SpreadEntries.{begun_to, is_at, to-all, to-up}
+use Rattle.sctp_delivery.proofs.TakenTsns.{come}
 use Rattle.sctp_delivery.proofs.TsnPlaces.{base, same-place}
 use Rattle.sctp_delivery.proofs.UnwrappedHolds as holds
+use Rattle.sctp_delivery.proofs.UnwrappedReads as reads
 use Rattle.sctp_delivery.proofs.UnwrappedSessions as sessions
+use Rattle.sctp_delivery.specs.ReceiverCalls as incoming
+use Rattle.sctp_delivery.proofs.KeptCalls as calls
+use Rattle.sctp_delivery.proofs.SackLaws as sacks
+use Rattle.sctp_delivery.proofs.Sessions as made_in
+use Rattle.sctp_delivery.proofs.SpreadFlight.{are-on, are-steps}
+use Rattle.sctp_delivery.proofs.Kept.{IsOther}
+use Rattle.sctp_delivery.proofs.TightFlight.{IsTight, tight-after, tight-later}
 use Rattle.sctp_delivery.proofs.UnwrappedSessions.{IsUnwrapped, receiver-unwrapped, sender-answered, unwrapped-first}
 
--- ## One call more
+-- ## All that was taken was read
 
-pub runs-on : (cs : List Call) (old mid new : Session) (call : Call) → RunsTo old cs mid → Follows call mid new → RunsTo old (cs ++ call ∷ []) new
-runs-on [] old mid new call r f = (new, (subst (λ s. Follows call s new) r f, refl))
-runs-on (c ∷ cs) old mid new call r f = (r.0, (r.1.0, runs-on cs r.0 mid new call r.1.1 f))
+pub some-on : (t : ℕ) (cs : List ChunkPayloadData) → list_any (has_tsn t) cs ≡ true → (st : ℕ) × (0 < sum_by (one t) (filter (is_on st) cs))
+some-on t [] e = absurd (not_both e)
+some-on t (c ∷ cs) e = at-test (λ b. (b || list_any (has_tsn t) cs) ≡ true → (st : ℕ) × (0 < sum_by (one t) (filter (is_on st) (c ∷ cs))))
+    (has_tsn t c)
+    (λ h f. (c.stream_identifier, here h))
+    (λ h f. let r = (some-on t cs) f in (r.0, more r.0 r.1)) e
+  where
+    here : has_tsn t c ≡ true → 0 < sum_by (one t) (filter (is_on c.stream_identifier) (c ∷ cs))
+    here h = grind (arith, nat_tests, sum_by-cons (one t) c (filter (is_on c.stream_identifier) cs))
+
+    more : (st : ℕ) → 0 < sum_by (one t) (filter (is_on st) cs) → 0 < sum_by (one t) (filter (is_on st) (c ∷ cs))
+    more st lt = grind (arith, nat_tests, common_steps)
+
+-- ## Each write was read
+
+module _ (ws : List Numbered) (first : ℕ) (sent : List Entry) (few : length sent < 2 ^ 32) (line : IsLine ws first sent) where
+  -- what has the same TSN is of the same write
+  pub same-write : (d e : Data) (w v : Numbered) (after rest : List ℕ) (xs ys : List Entry) → IsPart (fragment d w after ∷ xs) sent
+      → IsPart (fragment e v rest ∷ ys) sent → d.tsn ≡ e.tsn → w ≡ v
+  same-write d e w v after rest xs ys p q same =
+      let a = part-line ws first sent (fragment d w after ∷ xs) p line in
+      let b = part-line ws first sent (fragment e v rest ∷ ys) q line in
+      let m = part-length sent (fragment d w after ∷ xs) p in
+      let n = part-length sent (fragment e v rest ∷ ys) q in
+      let long : length (fragment d w after ∷ xs) ≡ length (fragment e v rest ∷ ys) = omega (arith, m, n, same, few) in
+      let it : fragment d w after ∷ xs ≡ fragment e v rest ∷ ys = same-parts sent (fragment d w after ∷ xs) (fragment e v rest ∷ ys) p q long in
+      cc
+
+  -- the message of which a first fragment has the TSN is of its write
+  module _ (d : Data) (w : Numbered) (after : List ℕ) (xs : List Entry) (p : IsPart (fragment d w after ∷ xs) sent)
+      (begins : d.beginning_fragment ≡ true) where
+    not-inner : (cs : List ChunkPayloadData) → EachSent sent cs → Every (λ (x : ChunkPayloadData). x.beginning_fragment ≡ false) cs
+        → list_any (has_tsn d.tsn) cs ≡ false
+    not-inner [] s e = refl
+    not-inner (c ∷ cs) s e = at-test (λ b. (b || list_any (has_tsn d.tsn) cs) ≡ false) (has_tsn d.tsn c)
+        (λ h.
+        let it : data_of c ≡ d = same-tsn ws first sent few line (data_of c) d s.0 (w, after, xs, p) (same-is c.tsn d.tsn h) in
+        absurd (not_both (sym e.0 ∙ ap (λ (x : Data). x.beginning_fragment) it ∙ begins)))
+        (λ h. not-inner cs s.1 e.1)
+
+    of-write : (m : Message) (x : IsReadOf ws sent m) → is_complete m.fragments ≡ true → is_one_message m.fragments ≡ true → EachSent sent m.fragments
+        → list_any (has_tsn d.tsn) m.fragments ≡ true → x.numbered ≡ w
+    of-write m x complete alike s e =
+        let c = x.chunk in
+        let cs = x.others in
+        let all : is_complete (c ∷ cs) ≡ true = subst (λ ys. is_complete ys ≡ true) x.fragments complete in
+        let s' : EachSent sent (c ∷ cs) = subst (EachSent sent) x.fragments s in
+        let f = follows ws first sent few line c cs x.numbered x.after x.entries x.part (both c.beginning_fragment (completes c cs) all).1 s'.1
+        (inner-of c cs (subst (λ ys. is_one_message ys ≡ true) x.fragments alike)) in
+        let there : (has_tsn d.tsn c || list_any (has_tsn d.tsn) cs) ≡ true = subst (λ ys. list_any (has_tsn d.tsn) ys ≡ true) x.fragments e in
+        elim (or-split (has_tsn d.tsn c) (list_any (has_tsn d.tsn) cs) there) [
+          | inl h ↦ same-write (data_of c) d x.numbered w x.after after x.entries xs x.part p (same-is c.tsn d.tsn h)
+          | inr h ↦ absurd (not_both (sym (not-inner cs s'.1 f.2) ∙ h))
+        ]
+
+    -- its place is one of those
+    pub found : (once : AreOnce sent) (place : ℕ) → ((v : Numbered) → (c : Contains ws v) → v ≡ w → c.0 ≡ place)
+        → (st : ℕ) (ms : List Message) (e : EachRead ws sent once ms)
+        → All (λ m. (is_complete m.fragments ≡ true) × (is_one_message m.fragments ≡ true) × EachSent sent m.fragments) ms
+        → 0 < sum_by (one d.tsn) (fragments_read st ms) → Contains (places ws sent once ms e) place
+    found once place at st [] e all lt = absurd (omega (arith, lt))
+    found once place at st (m ∷ ms) e all lt = by-test (list_any (has_tsn d.tsn) m.fragments)
+        (λ h.
+        let x = all 0 m (omega arith) in
+        (0, omega arith, at e.0.numbered e.0.written (of-write m e.0 x.0 x.1 x.2 h)))
+        (λ h. contains-more e.0.written.0 (places ws sent once ms e.1) place
+        ((found once place at st ms e.1 (λ k o short. all (suc k) o (omega (arith, short)))) (rest h (m.stream == st) lt)))
+      where
+        rest : list_any (has_tsn d.tsn) m.fragments ≡ false → (b : Bool)
+            → 0 < sum_by (one d.tsn) (if b then m.fragments ++ fragments_read st ms else fragments_read st ms) → 0 < sum_by (one d.tsn) (fragments_read st ms)
+        rest none true more =
+            omega (arith, sum_by-append (one d.tsn) m.fragments (fragments_read st ms), read_once.none-count d.tsn m.fragments none, more)
+        rest none false more = more
+
+-- the first fragment of a write that was begun
+pub begun-part : (m : ℕ) (sent : List Entry) → was_begun m sent ≡ true → (d : Data) × (w : Numbered) × (after : List ℕ) × (xs : List Entry)
+    × IsPart (fragment d w after ∷ xs) sent × (d.beginning_fragment ≡ true) × (w.place ≡ m)
+begun-part m [] e = absurd (not_both e)
+begun-part m (terminal ∷ ys) e = let r = begun-part m ys e in (r.0, r.1, r.2, r.3, inr r.4, r.5, r.6)
+begun-part m (fragment d w after ∷ ys) e = elim (or-split (d.beginning_fragment && (w.place == m)) (was_begun m ys) e) [
+  | inl h ↦ let b = both d.beginning_fragment (w.place == m) h in (d, w, after, ys, inl refl, b.0, same-is w.place m b.1)
+  | inr h ↦ let r = begun-part m ys h in (r.0, r.1, r.2, r.3, inr r.4, r.5, r.6)
+]
+
+-- ## Nothing waits, and nothing is held
+
+pub record IsIdle (s : Session) : Type 0 where
+  pub ordered : s.sending.sender.flight.queue.pending.ordered ≡ []
+  pub unordered : s.sending.sender.flight.queue.pending.unordered ≡ []
+  pub inflight : s.sending.sender.flight.queue.inflight.chunks ≡ []
+
+pub idle-of : (s : Session) → is_all_acknowledged s.sending.sender ≡ true → IsIdle s
+idle-of s e =
+    let q = s.sending.sender.flight.queue in
+    let b = both (chunk_count q.pending == 0) (length q.inflight.chunks == 0) e in
+    let none = same-is (chunk_count q.pending) 0 b.0 in
+    record {
+      ordered = none-of q.pending.ordered (omega (arith, none));
+      unordered = none-of q.pending.unordered (omega (arith, none));
+      inflight = none-of q.inflight.chunks (same-is (length q.inflight.chunks) 0 b.1);
+    }
+
+-- no more have the TSN than there are
+count-length : (t : ℕ) (cs : List ChunkPayloadData) → sum_by (one t) cs ≤ length cs
+count-length t [] = omega arith
+count-length t (c ∷ cs) = grind (arith, nat_tests, common_steps, sum_by-cons (one t) c cs, count-length t cs)
+
+count-sets : (t : ℕ) (ss : List ChunkSet) → sum_by (set_weight (one t)) ss ≤ set_chunks ss
+count-sets t [] = omega arith
+count-sets t (s ∷ ss) = grind (arith, nat_tests, common_steps, sum_by-cons (set_weight (one t)) s ss, count-length t s.chunks, count-sets t ss)
+
+pub none-held : (st t : ℕ) (r : Reception) → holds_nothing r ≡ true → sum_by (one t) (fragments_held st r) ≡ 0
+none-held st t r e = kept.held-weighs (one t) (stream_of st r) ∙ at r.streams e
+  where
+    none : (l : InboundStream) → (held_chunks l.queue.held == 0) ≡ true → held_weight (one t) (Some l) ≡ 0
+    none l h =
+        let q = l.queue.held in
+        omega (arith, same-is (held_chunks q) 0 h, count-sets t q.ordered, count-sets t q.unordered, count-length t q.unassembled)
+
+    at : (ls : List InboundStream) → list_all (λ l. held_chunks l.queue.held == 0) ls ≡ true → held_weight (one t) (find (has_number st) ls) ≡ 0
+    at [] h = refl
+    at (l ∷ ls) h = let b = both (held_chunks l.queue.held == 0) (list_all (λ x. held_chunks x.queue.held == 0) ls) h in at-if
+        (λ z. held_weight (one t) z ≡ 0) (has_number st l)
+        (λ e. none l b.0)
+        (λ e. at ls b.1)
+
+-- ## What was read
+
+-- what was read: complete messages, each of one message, of fragments that got TSNs
+pub complete-messages : (first size max most : ℕ) (limits : Option Limits) (cs : List Call) (s : Session) → RunsTo (at_start first size max most limits) cs s
+    → (sent : List Entry) → AreSent sent s.made
+    → All (λ m. (is_complete m.fragments ≡ true) × (is_one_message m.fragments ≡ true) × EachSent sent m.fragments) s.receiving.read
+complete-messages first size max most limits cs s run sent made = λ k m lt.
+    let it = slice_index_or s.receiving.read k m in
+    let messages = made_in.messages first size max most limits cs s run in (
+      AllPass-from_list_all (λ x. is_complete x.fragments) s.receiving.read messages.0 k m lt,
+      AllPass-from_list_all (λ x. is_one_message x.fragments) s.receiving.read messages.1 k m lt,
+      each-sent sent s.made it.fragments made (made_in.made first size max most limits cs s run k m lt),
+    )
+
+-- # Where messages were abandoned, each other write is read exactly once in the end
+
+slice-itself : {A : Type 0} (xs : List A) (k : ℕ) (a b : A) → k < length xs → slice_index_or xs k a ≡ slice_index_or xs k b
+slice-itself [] k a b lt = absurd (omega (arith, lt))
+slice-itself (x ∷ xs) zero a b lt = refl
+slice-itself (x ∷ xs) (suc k) a b lt = slice-itself xs k a b (omega (arith, lt))
+
+-- where nothing waits and nothing is in flight, and each fragment that was taken of a message that is not gone was read
+module _ (first size max most : ℕ) (limits : Option Limits) (cs : List Call) (s : Session) (run : RunsTo (at_start first size max most limits) cs s)
+    (small : first < 2 ^ 32) (few : tsns_given (at_start first size max most limits) cs s run < 2 ^ 31) (gone : List ℕ) (ns : List Numbered)
+    (sent : List Entry) (i : IsSpread first (tsns_given (at_start first size max most limits) cs s run) s ns sent) (p : IsPassed first gone s ns sent)
+    (idle : IsIdle s) where
+  abbrev pub IsReadWhole : Type 0
+  IsReadWhole =
+      (d : Data) (w : Numbered) (after : List ℕ) (xs : List Entry) → IsPart (fragment d w after ∷ xs) sent → is_gone gone w.place ≡ false
+      → was_taken d.tsn s ≡ true → (st : ℕ) × (0 < sum_by (one d.tsn) (fragments_read st s.receiving.read))
+
+  -- what is lost of messages that are gone has other TSNs
+  none-lost : (d : Data) (w : Numbered) (after : List ℕ) (xs : List Entry) → IsPart (fragment d w after ∷ xs) sent → is_gone gone w.place ≡ false
+      → (lost : List ChunkPayloadData) → Every (IsPassedBy gone sent s.made) lost → sum_by (one d.tsn) lost ≡ 0
+  none-lost d w after xs q off [] e = refl
+  none-lost d w after xs q off (c ∷ lost) e =
+      let m = sum_by-cons (one d.tsn) c lost in
+      let ih = none-lost d w after xs q off lost e.1 in
+      let z : one d.tsn c ≡ 0 =
+      ap (λ b. if b then 1 else 0) (fails (has_tsn d.tsn c) (λ h. not_both (sym off ∙ ap (λ (v : Numbered). is_gone gone v.place) (same h) ∙ e.0.0.3))) in
+      omega (arith, m, ih, z)
+    where
+      short : length sent < 2 ^ 32
+      short = omega (arith, few)
+
+      same : has_tsn d.tsn c ≡ true → w ≡ e.0.0.1
+      same h =
+          let x = e.0.0.2 in
+          same-write ns first sent short i.holds.held.stands.queued.line d (data_of c) w e.0.0.1 after x.after xs x.entries q x.part
+          (sym (same-is c.tsn d.tsn h))
+
+  -- where all that was taken is held, was read, or is lost so, and of a message that is not gone nothing is held
+  pub read-whole : (a : ℕ) → ((st : ℕ) → IsKeptBut first sent st (tsns_given (at_start first size max most limits) cs s run) a gone s.made s.receiving)
+      → ((d : Data) (w : Numbered) (after : List ℕ) (xs : List Entry) → IsPart (fragment d w after ∷ xs) sent → is_gone gone w.place ≡ false
+      → (st : ℕ) → held_weight (one d.tsn) (stream_of st s.receiving.receiver) ≡ 0) → IsReadWhole
+  read-whole a kept none d w after xs q off taken =
+      let on = some-on d.tsn s.receiving.accepted taken in
+      let k = kept on.0 in
+      (on.0, omega (arith, k.weighs (one d.tsn), none d w after xs q off on.0, none-lost d w after xs q off k.lost k.of-gone))
+
+  pub others-once : IsReadWhole → EachOtherIsReadOnce gone s
+  others-once all = (
+    places ns sent once s.receiving.read reads,
+    subst (λ ws. StandAt ws s.receiving.read (places ns sent once s.receiving.read reads)) i.holds.writes (stand ns sent once s.receiving.read reads),
+    apart ns sent once s.receiving.read reads apart',
+    λ k lt other.
+        let same : length s.written ≡ length ns = omega (arith, ap length i.holds.writes, length-forgotten ns) in
+        here k (omega (arith, lt, same)) (subst (λ n. is_gone gone (n - (k + 1)) ≡ false) same other),
+  )
+    where
+      once : AreOnce sent
+      once = i.holds.held.stands.begun'.once
+
+      line : IsLine ns first sent
+      line = i.holds.held.stands.queued.line
+
+      short : length sent < 2 ^ 31
+      short = omega (arith, few)
+
+      apart' : are_apart (fragments_of_all s.receiving.read) ≡ true
+      apart' = read_once.none-twice first size max most limits cs s run small few
+
+      whole : All (λ m. (is_complete m.fragments ≡ true) × (is_one_message m.fragments ≡ true) × EachSent sent m.fragments) s.receiving.read
+      whole = complete-messages first size max most limits cs s run sent i.holds.made
+
+      reads : EachRead ns sent once s.receiving.read
+      reads = each-read ns sent once s.receiving.read (λ k m lt.
+          let w = whole k m lt in
+          message-is ns first sent (omega (arith, short)) line (slice_index_or s.receiving.read k m) w.0 w.1 w.2
+          (AllPass-from_list_all (λ x. list_all (is_on x.stream) x.fragments) s.receiving.read (made_in.read-on first size max most limits cs s run) k m lt))
+
+      came : AreTakenOrGone gone s sent
+      came = all-taken-or-gone first (tsns_given (at_start first size max most limits) cs s run) s ns sent gone i few p.passing idle.inflight
+
+      begun-at : (m : ℕ) → m < length ns → is_gone gone m ≡ false → was_begun m sent ≡ true
+      begun-at m lt other = elim (or-split (was_begun m sent) (begins_in m q) (p.begun' m lt other)) [
+        | inl e ↦ e
+        | inr e ↦ elim (or-split (list_any (begins m) q.ordered) (list_any (begins m) q.unordered) e) [
+          | inl f ↦ absurd (not_both (sym (ap (list_any (begins m)) idle.ordered) ∙ f))
+          | inr f ↦ absurd (not_both (sym (ap (list_any (begins m)) idle.unordered) ∙ f))
+        ]
+      ]
+        where
+          q : Pending
+          q = (flight_of s).queue.pending
+
+      none-written : Numbered
+      none-written = record { stream = 0; payload_type = Unknown; bytes = []; place = 0 }
+
+      here : (k : ℕ) → k < length ns → is_gone gone (length ns - (k + 1)) ≡ false → Contains (places ns sent once s.receiving.read reads) k
+      here k lt other =
+          let w = slice_index_or ns k none-written in
+          let at = place-at ns k w i.holds.placed lt (slice-itself ns k w none-written lt) in
+          let is : w.place ≡ length ns - (k + 1) = omega (arith, at) in
+          let off : is_gone gone w.place ≡ false = ap (is_gone gone) is ∙ other in
+          let b = begun-part w.place sent (begun-at w.place (omega (arith, at)) off) in
+          let off' : is_gone gone b.1.place ≡ false = ap (is_gone gone) b.6 ∙ off in
+          let t : was_taken b.0.tsn s ≡ true = elim (or-split (was_taken b.0.tsn s) (is_gone gone b.1.place) (came-at gone s sent came b.0 b.1 b.2 b.3 b.4)) [
+            | inl e ↦ e
+            | inr e ↦ absurd (not_both (sym off' ∙ e))
+          ] in
+          let on = all b.0 b.1 b.2 b.3 b.4 off' t in
+          found ns first sent (omega (arith, short)) line b.0 b.1 b.2 b.3 b.4 b.5 once k
+          (λ v c same.
+          let p' : v.place ≡ w.place = ap (λ (x : Numbered). x.place) same ∙ b.6 in
+          omega (arith, place-at ns c.0 v i.holds.placed c.1 c.2, p', at)) on.0 s.receiving.read reads whole on.1
+
+-- # What was taken on a stream stays held or read, but for fragments of messages that are gone, where the sender gives out a TSN more.
+
+entry-later : (x : Entry) (sent : List Entry) (y : ℕ) (d : Data) (w : Numbered) → IsEntryAt sent y d w → IsEntryAt (x ∷ sent) y d w
+entry-later x sent y d w i = record { after = i.after; entries = i.entries; part = inr i.part; place = i.place }
+
+-- an entry behind the first n, or one of these
+entry-back : (x : Entry) (sent : List Entry) (y : ℕ) (d : Data) (w : Numbered) → IsEntryAt (x ∷ sent) y d w
+    → (y ≡ length sent + 1) ⊎ IsEntryAt sent y d w
+entry-back x sent y d w i = by i.part
+  where
+    by : IsPart (fragment d w i.after ∷ i.entries) (x ∷ sent) → (y ≡ length sent + 1) ⊎ IsEntryAt sent y d w
+    by (inl e) = let l = ap length e in let at = i.place in inl (omega (arith, l, at))
+    by (inr e) = inr (record { after = i.after; entries = i.entries; part = e; place = i.place })
+
+module _ (ns : List Numbered) (first : ℕ) (sent more : List Entry) (line : IsLine ns first more) (joined : AreJoined more) (once : IsOnceMore sent more)
+    (n m : ℕ) (long : length sent ≡ n) (longer : length more ≡ m) (few : m < 2 ^ 31) (st a b : ℕ) (s : Stand)
+    (answered : holds.AreDue (base first) st n (λ k. begun_to st k sent) (λ k. is_at st k sent) (λ c. WasSent sent (data_of c)) a s)
+    (upto : b ≤ answered.arrived.place) (unarrived : come (tsn (base first) (n + 1)) s.receiver.cumulative_tsn s.receiver.beyond ≡ true → ⊥) where
+  abbrev p : ℕ
+  p = base first
+
+  abbrev Fits : ℕ → List ChunkPayloadData → Type 0
+  Fits = holds.Fits p st n (λ k. begun_to st k sent) (λ k. is_at st k sent) (λ c. WasSent sent (data_of c))
+
+  abbrev Came : ℕ → Type 0
+  Came = holds.Came p st n (λ k. begun_to st k sent) (λ k. is_at st k sent) (λ c. WasSent sent (data_of c)) s.receiver.cumulative_tsn s.receiver.beyond
+
+  abbrev Old : ℕ → Type 0
+  Old = IsLate first sent st s.receiver.cumulative_tsn s.receiver.beyond
+
+  abbrev New : ℕ → Type 0
+  New = IsLate first more st s.receiver.cumulative_tsn s.receiver.beyond
+
+  sizes : (m ≡ n) ⊎ (m ≡ n + 1)
+  sizes = elim once [
+    | inl e ↦ let l = ap length e in inl (omega (arith, l, long, longer))
+    | inr e ↦ let l = ap length e.1 in inr (omega (arith, l, long, longer))
+  ]
+
+  wider : n ≤ m
+  wider = elim sizes [ inl e ↦ omega (arith, e) | inr e ↦ omega (arith, e) ]
+
+  same-to : (k : ℕ) → k ≤ n → begun_to st k more ≡ begun_to st k sent
+  same-to = sessions.same-to st first n sent more long once
+
+  past-all : begun_to st (n + 1) sent ≡ begun_to st n sent
+  past-all = to-all st (n + 1) sent (omega (arith, long)) ∙ sym (to-all st n sent (omega (arith, long)))
+
+  up : (j k : ℕ) → j ≤ k → begun_to st j more ≤ begun_to st k more
+  up j k le = to-up st j k more le
+
+  -- no fewer were begun up to a place
+  not-less : (y : ℕ) → y ≤ n + 1 → begun_to st y sent ≤ begun_to st y more
+  not-less y le = elim (cases_lt n y) [
+    | inr ge ↦ let e = same-to y ge in omega (arith, e)
+    | inl lt ↦
+        let it : y ≡ n + 1 = omega (arith, lt, le) in
+        omega (arith, ap (λ k. begun_to st k sent) it, past-all, same-to n (omega arith), up n y (omega (arith, lt)))
+  ]
+
+  -- what is still to come is past the index
+  module _ (index : ℕ) (top : index ≤ begun_to st n sent) (late : (y : ℕ) → y ≤ n + 1 → Old y → index < begun_to st y sent) where
+    old : (y : ℕ) → y ≤ n + 1 → Old y → index < begun_to st y more
+    old y le l = let x = late y le l in let e = not-less y le in omega (arith, x, e)
+
+    off : (y : ℕ) → y ≡ n + 1 → come (tsn p y) s.receiver.cumulative_tsn s.receiver.beyond ≡ false
+        → come (tsn p (n + 1)) s.receiver.cumulative_tsn s.receiver.beyond ≡ false
+    off y e c = ap (λ k. come (tsn p k) s.receiver.cumulative_tsn s.receiver.beyond) (sym e) ∙ c
+
+    -- a new ordered fragment of the stream
+    fresh-here : (x : Entry) → more ≡ x ∷ sent → (d : Data) (w : Numbered) → IsEntryAt more (n + 1) d w → is_of_stream st d ≡ true
+        → come (tsn p (n + 1)) s.receiver.cumulative_tsn s.receiver.beyond ≡ false → index < begun_to st (n + 1) more
+    fresh-here x e d w i on c = by-test d.beginning_fragment
+        (λ h.
+        let j = begins-more ns first more line joined st n d w (subst (λ y. IsEntryAt more y d w) plus i) on h in
+        omega (arith, j, ap (λ y. begun_to st y more) plus, same-to n (omega arith), top))
+        (λ h.
+        let r = prior-of ns first more line joined (n + 1) d w i h in
+        let z : r.0 ≡ n = (omega arith) in
+        let there = subst (λ y. IsEntryAt more y r.2 w) z r.3 in
+        let back = entry-back x sent n r.2 w (subst (λ ys. IsEntryAt ys n r.2 w) e there) in
+        let prior : IsEntryAt sent n r.2 w = elim back [ inl y ↦ absurd (omega (arith, y, long)) | inr y ↦ y ] in
+        old (n + 1) (omega arith) (inr (n, plus, r.2, w, prior, ordered-alike st d r.2 r.4 ∙ on, r.4.0), c))
+      where
+        plus : n + 1 ≡ suc n
+        plus = omega arith
+
+    late-more : (y : ℕ) → y ≤ m + 1 → New y → index < begun_to st y more
+    late-more y le l = elim once [
+      | inl e ↦
+          old y (omega (arith, le, ap length e, long, longer)) (subst (λ ys. IsWanted st ys y) e l.0, l.1)
+      | inr e ↦ by e.0 e.1 (subst (λ ys. IsWanted st ys y) e.1 l.0)
+    ]
+      where
+        by : (x : Entry) → more ≡ x ∷ sent → IsWanted st (x ∷ sent) y → index < begun_to st y more
+        by x e (inl h) = elim (entry-back x sent y h.0 h.1 h.2) [
+          | inl z ↦
+              let at : y ≡ n + 1 = omega (arith, z, long) in
+              let i = subst (λ k. IsEntryAt more k h.0 h.1) at (subst (λ ys. IsEntryAt ys y h.0 h.1) (sym e) h.2) in
+              omega (arith, fresh-here x e h.0 h.1 i h.3 (off y at l.1), ap (λ k. begun_to st k more) at)
+          | inr i ↦
+              old y (omega (arith, part-length sent (fragment h.0 h.1 i.after ∷ i.entries) i.part, long)) (inl (h.0, h.1, i, h.3), l.1)
+        ]
+        by x e (inr h) = elim (entry-back x sent h.0 h.2 h.3 h.4) [
+          | inl z ↦
+              let at : h.0 ≡ n + 1 = omega (arith, z, long) in
+              let i = subst (λ k. IsEntryAt more k h.2 h.3) at (subst (λ ys. IsEntryAt ys h.0 h.2 h.3) (sym e) h.4) in
+              let none : come (tsn p (n + 1)) s.receiver.cumulative_tsn s.receiver.beyond ≡ false =
+              fails (come (tsn p (n + 1)) s.receiver.cumulative_tsn s.receiver.beyond) unarrived in
+              omega (arith, fresh-here x e h.2 h.3 i h.5 none, up (n + 1) y (omega (arith, at)))
+          | inr i ↦
+              old y (omega (arith, part-length sent (fragment h.2 h.3 i.after ∷ i.entries) i.part, long)) (inr (h.0, h.1, h.2, h.3, i, h.5, h.6), l.1)
+        ]
+
+  -- no chunk of a set has a TSN that was not given out
+  rises-within : (i low : ℕ) (cs : List ChunkPayloadData)
+      → holds.Rises p st n (λ k. begun_to st k sent) (λ k. is_at st k sent) (λ c. WasSent sent (data_of c)) i low cs → (y : ℕ) → y ≤ m
+      → list_any (has_tsn (tsn p y)) cs ≡ true → y ≤ n
+  rises-within i low [] r y le e = absurd (not_both e)
+  rises-within i low (c ∷ cs) r y le e = elim (or-split (has_tsn (tsn p y) c) (list_any (has_tsn (tsn p y)) cs) e) [
+    | inl h ↦
+        let o = r.0 in
+        let same = same-place p (o.before + 1) y (omega (arith, wider, few)) (omega (arith, le, few)) (sym o.is ∙ same-is c.tsn (tsn p y) h) in
+        omega (arith, same)
+    | inr h ↦ rises-within i (r.0.before + 1) cs r.2 y le h
+  ]
+
+  whole-more : (index low top : ℕ) (ss : List ChunkSet)
+      → reads.AreSets p n (λ k. begun_to st k sent)
+      Fits Came low top ss
+      → Every (IsWholeAt p n (λ k. begun_to st k sent) index) ss → Every (IsWholeAt p m (λ k. begun_to st k more) index) ss
+  whole-more index low top [] r e = tt
+  whole-more index low top (x ∷ xs) r e = (
+    λ y le there under.
+        let w = rises-within r.0 0 x.chunks r.1.1 y le there in
+        e.0 y w there (omega (arith, same-to y w, under)),
+    whole-more index (r.0 + 1) top xs r.2 e.1,
+  )
+
+  well-more : (o : Option InboundStream)
+      → holds.DueOn p st n (λ k. begun_to st k sent) (λ k. is_at st k sent) (λ c. WasSent sent (data_of c)) Came answered.k answered.reach o
+      → begun_to st n sent ≤ begun_to st a sent + 2 ^ 14 → HeldWell first sent st n a Old o → HeldWell first more st m b New o
+  well-more None d near h = tt
+  well-more (Some l) d near h = record {
+    current = record {
+      index = h.current.index;
+      next = h.current.next;
+      from =
+          let w = answered.arrived.within in
+          omega (arith, up b answered.arrived.place upto, same-to answered.arrived.place w, same);
+      upto =
+          omega (arith, same-to n (omega arith), up n m wider);
+      late = late-more h.current.index h.current.upto h.current.late;
+      whole = whole-more h.current.index d.low answered.reach l.queue.held.ordered d.sets h.current.whole;
+      some = h.current.some;
+    };
+    tidy = tidy-more p n (let w = wider in omega (arith, w, few)) m l.queue.held wider h.tidy;
+    orderly = h.orderly;
+  }
+    where
+      same : h.current.index ≡ d.index
+      same = grind (arith, nat_tests, answered.arrived.covered, to-up st a answered.arrived.place sent answered.arrived.least_is)
+
+  gone-more : (gone now : List ℕ) → ((k : ℕ) → is_gone gone k ≡ true → is_gone now k ≡ true) → (c : ChunkPayloadData) → IsGone gone sent c
+      → IsGone now more c
+  gone-more gone now among c g = (
+    g.0,
+    g.1,
+    elim once [
+      | inl e ↦ subst (λ ys. IsEntryAt ys g.0 (data_of c) g.1) (sym e) g.2
+      | inr e ↦ subst (λ ys. IsEntryAt ys g.0 (data_of c) g.1) (sym e.1) (entry-later e.0 sent g.0 (data_of c) g.1 g.2)
+    ],
+    among g.1.place g.3,
+  )
+
+  pub keeps-more : (gone now : List ℕ) (ms later : List Made) → ((k : ℕ) → is_gone gone k ≡ true → is_gone now k ≡ true)
+      → ((t : ℕ) → list_any (passes t) ms ≡ true → list_any (passes t) later ≡ true)
+      → begun_to st n sent ≤ begun_to st a sent + 2 ^ 14 → IsKeptBut first sent st n a gone ms s
+      → IsKeptBut first more st m b now later s
+  keeps-more gone now ms later among grows near k = record {
+    lost = k.lost;
+    of-gone = every-of (IsPassedBy gone sent ms) (IsPassedBy now more later) (λ c g. (gone-more gone now among c g.0, grows c.tsn g.1)) k.lost k.of-gone;
+    weighs = k.weighs;
+    holds = well-more (stream_of st s.receiver) answered.due near k.holds;
+  }
+
+-- # In each session of few TSNs: what was taken is held or was read, but for fragments of messages that were abandoned or have expired.
 
 -- what is so of a session in which the messages with these numbers were abandoned. Of each stream few messages are begun past one that has an
 -- ordered chunk in flight
@@ -56,12 +510,7 @@ module _ (first size max most : ℕ) (limits : Option Limits) (n : ℕ) (few : n
   j = receiver-unwrapped first n call old new ns sent few f k.unwrapped
 
   same : k.unwrapped.spread.step.numbered.acked ≡ j.spread.step.numbered.acked
-  same =
-      let total = k.unwrapped.spread.step.numbered.total in
-      let other = j.spread.step.numbered.total in
-      same-place (base first) k.unwrapped.spread.step.numbered.acked j.spread.step.numbered.acked (omega (arith, total, few)) (omega (arith, other, few))
-      (sym k.unwrapped.spread.step.numbered.acked_is ∙ sym (ap (λ (s : Session). s.sending.sender.flight.acked_tsn) f.after)
-      ∙ j.spread.step.numbered.acked_is)
+  same = grind (arith, nat_tests, j.spread.step.numbered.total)
 
   after : (st : ℕ) → calls.Answered first n few old new ns sent k.unwrapped gone st new
   after st = subst (λ a. holds.AreDue (base first) st n (λ m. begun_to st m sent) (λ m. is_at st m sent) (λ c. WasSent sent (data_of c)) a new.receiving)
@@ -74,9 +523,9 @@ module _ (first size max most : ℕ) (limits : Option Limits) (n : ℕ) (few : n
   kept-on : (st : ℕ) (c : ReceiverCall) → ReceiverFollows c old new
       → IsKeptBut first sent st n k.unwrapped.spread.step.numbered.acked gone old.made new.receiving
   kept-on st (incoming.follows g) f' =
-      keeps-followed first n few old new ns sent k.unwrapped gone k.passed.cut (made_in.all-made cs (at_start first size max most limits) old run refl)
+      calls.keeps-followed first n few old new ns sent k.unwrapped gone st k.passed.cut (made_in.all-made cs (at_start first size max most limits) old run refl)
       (complete-messages first size max most limits cs old run sent k.unwrapped.spread.holds.made) g f'
-      (every-contained (IsMadePassing (base first) gone old sent) old.made (forward_tsn g) f'.handed k.passed.passing) st (k.kept st)
+      (every-contained (IsMadePassing (base first) gone old sent) old.made (forward_tsn g) f'.handed k.passed.passing) (k.kept st)
   kept-on st c f' = other st c tt f'
 
   pub receiver-kept : IsKeptIn first n gone new ns sent
@@ -153,13 +602,13 @@ module _ (first size max most : ℕ) (limits : Option Limits) where
       subst (λ m. HasKept first m (gone ++ (answered ++ abandoned_in r.0 cs new r.1.1)) new) sum
       (subst (λ all. HasKept first ((n + d) + tsns_given r.0 cs new r.1.1) all new) (append_assoc gone answered (abandoned_in r.0 cs new r.1.1))
       (kept-after (n + d) (gone ++ answered) (bs ++ of_sender call ∷ []) cs r.0 new
-      (runs-on bs (at_start first size max most limits) old r.0 (of_sender call) run r.1.0) (numbered_after call ns) x.0 r.1.1 (omega (arith, few)) x.1))
+      (run-then bs (of_sender call) (at_start first size max most limits) old r.0 run r.1.0) (numbered_after call ns) x.0 r.1.1 (omega (arith, few)) x.1))
   kept-after n gone bs (of_receiver call ∷ cs) old new run ns sent r few k =
       let d = distance (next_tsn old) (next_tsn r.0) in
       let none : d ≡ 0 = sacks.no-move (base first) n old r.0 (ap (λ (s : Session). s.sending) r.1.0.after) k.unwrapped.spread.step.numbered in
       let sum : n + tsns_given r.0 cs new r.1.1 ≡ n + (d + tsns_given r.0 cs new r.1.1) = omega (arith, none) in
       subst (λ m. HasKept first m (gone ++ abandoned_in r.0 cs new r.1.1) new) sum
-      (kept-after n gone (bs ++ of_receiver call ∷ []) cs r.0 new (runs-on bs (at_start first size max most limits) old r.0 (of_receiver call) run r.1.0) ns
+      (kept-after n gone (bs ++ of_receiver call ∷ []) cs r.0 new (run-then bs (of_receiver call) (at_start first size max most limits) old r.0 run r.1.0) ns
       sent r.1.1 (omega (arith, few)) (receiver-kept first size max most limits n (omega (arith, few)) gone bs call old r.0 run r.1.0 ns sent k))
 
   pub kept-in : (cs : List Call) (s : Session) → first < 2 ^ 32 → 0 < size → (r : RunsTo (at_start first size max most limits) cs s)

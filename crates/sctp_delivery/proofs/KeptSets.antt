@@ -1,26 +1,19 @@
 -- Sets of ordered messages by their indexes, as a fragment comes and as the front message is read. Where no FORWARD-TSN comes none stands before
 -- the next number, so that no fragment is dropped.
-use Rattle.std.proofs.Common.{◌≡◌, ℕ, ◌+◌, ◌%◌, ◌^◌, ◌<◌, ◌≤◌, Bool, true, false, List, [], ◌∷◌, Option, Some, None, inl, inr, refl, ap, sym, subst, ◌∙◌, arith}
-use Rattle.std.specs.Prelude.{⊤, ◌==◌, ◌||◌, if◌then◌else◌, nat_lt, nat_le}
-use Rattle.std.specs.List.{filter, list_any, sum_by}
-use Rattle.std.proofs.lemmas.Bool.{cases_lt}
-use Rattle.std.proofs.lemmas.Bool.Decides.{nat_tests}
-use Rattle.std.proofs.lemmas.List.Sums.{sum_by-cons}
-use Rattle.sctp_util.specs.Lists.{change_first, insert_before}
-use Rattle.sctp_util.specs.Serial.{at_or_before16, comes_before16, distance16}
-use Rattle.sctp_util.proofs.Cases.{same-is, same-yes}
-use Rattle.sctp_util.proofs.Edits.{sum_by-inserted}
-use Rattle.sctp_util.proofs.More.{both, not_both}
-use Rattle.sctp_util.proofs.Wraps.{at_or_before16-index, comes_before16-index, next16}
-use Rattle.sctp_data.specs.declared.chunk.chunk_payload_data.ChunkPayloadData.{ChunkPayloadData}
-use Rattle.sctp_data.specs.ChunkSet.{ChunkSet}
-use Rattle.sctp_reassembly.specs.reassembly_queue.Fragments.{has_ssn, is_complete, new_set, set_before, sets_with, with_chunk}
-use Rattle.sctp_reassembly.specs.reassembly_queue.ReassemblyQueue.{Reassembly, after_read, front_readable, held_after_ordered_push, is_readable, rest_among}
-use Rattle.sctp_reassembly.specs.reassembly_queue.ReassemblyQueue.{rest_read, without_first}
-use Rattle.sctp_receiver.specs.Ssns.{is_ssn_too_far, lowest_among, lowest_ssn}
-use Rattle.sctp_receiver.proofs.Weights.{set_weight}
-use Rattle.sctp_serial.specs.DataChunks.{chunk_before, has_tsn}
-use Rattle.sctp_delivery.proofs.Every.{Every}
+use Rattle.sctp_delivery.proofs.Names.{◌≡◌, ℕ, ◌+◌, ◌%◌, ◌^◌, ◌<◌, ◌≤◌, Bool, true, false, List, [], ◌∷◌, Option, Some, None, inl, inr, refl, ap, sym, subst}
+use Rattle.sctp_delivery.proofs.Names.{◌∙◌, arith, suc, length, take, drop, ⊤, ◌==◌, ◌||◌, if◌then◌else◌, nat_lt, nat_le, filter, list_any, sum_by, cases_lt}
+use Rattle.sctp_delivery.proofs.Names.{nat_tests, sum_by-cons, common_steps, change_first, insert_before, at_or_before16, comes_before16, same-is, same-yes}
+use Rattle.sctp_delivery.proofs.Names.{sum_by-inserted, both, not_both, at_or_before16-index, comes_before16-index, next16, ChunkPayloadData, ChunkSet, has_ssn}
+use Rattle.sctp_delivery.proofs.Names.{is_complete, new_set, set_before, sets_with, Reassembly, after_read, front_readable, held_after_ordered_push}
+use Rattle.sctp_delivery.proofs.Names.{is_readable, rest_among, rest_read, without_first, BecomesComplete, ReassemblyState, set_of_run, is_ssn_too_far}
+use Rattle.sctp_delivery.proofs.Names.{lowest_among, lowest_ssn, set_weight, chunk_before, has_tsn, Pushes, PushesAs, HasNoRun}
+use Rattle.std.specs.Prelude.{remove}
+use Rattle.sctp_util.specs.Serial.{distance16}
+use Rattle.sctp_reassembly.specs.reassembly_queue.Fragments.{with_chunk}
+use Rattle.sctp_delivery.proofs.Cases.{at-if, at-test}
+use Rattle.sctp_delivery.proofs.Every.{Every, every-inserted, every-joined, every-left, every-taken}
+use Rattle.sctp_reassembly.proofs.lemmas.reassembly_queue.TakenRuns.{flag_after_take}
+use Rattle.sctp_delivery.proofs.Rising.{Ascend, IsPlaced, ascend-cut, ascend-inserted, ascend-serial}
 
 -- ## Numbers by their index
 
@@ -51,62 +44,53 @@ module _ (Fits : ℕ → List ChunkPayloadData → Type 0) where
 
   pub sets-those : (p : ChunkSet → Bool) (low top : ℕ) (ss : List ChunkSet) → AreSets low top ss → AreSets low top (filter p ss)
   sets-those p low top [] r = tt
-  sets-those p low top (s ∷ ss) r = by (p s) (sets-those p (r.0 + 1) top ss r.2)
-    where
-      by : (b : Bool) → AreSets (r.0 + 1) top (filter p ss) → AreSets low top (if b then s ∷ filter p ss else filter p ss)
-      by true ih = (r.0, r.1, ih)
-      by false ih = sets-from (r.0 + 1) low top (filter p ss) (let x = r.1.0.0 in omega (arith, x)) ih
+  sets-those p low top (s ∷ ss) r = at-if (AreSets low top) (p s)
+      (λ e. (r.0, r.1, sets-those p (r.0 + 1) top ss r.2))
+      (λ e. sets-from (r.0 + 1) low top (filter p ss) (omega arith) (sets-those p (r.0 + 1) top ss r.2))
 
   module _ (x : ChunkPayloadData) (i : ℕ) (single : Fits i (x ∷ []))
       (put : (cs : List ChunkPayloadData) → list_any (has_tsn x.tsn) cs ≡ false → Fits i cs → Fits i (insert_before chunk_before x cs))
       (is : x.stream_sequence_number ≡ i % 2 ^ 16) where
     with-of : (s : ChunkSet) → Fits i s.chunks → Fits i (with_chunk x s).chunks
-    with-of s h = by (list_any (has_tsn x.tsn) s.chunks) refl
-      where
-        by : (b : Bool) → list_any (has_tsn x.tsn) s.chunks ≡ b → Fits i (if b then s.chunks else insert_before chunk_before x s.chunks)
-        by true e = h
-        by false e = put s.chunks e h
+    with-of s h = at-if (Fits i) (list_any (has_tsn x.tsn) s.chunks) (λ e. h) (λ e. put s.chunks e h)
 
     sets-changed : (base low top : ℕ) (ss : List ChunkSet) → base ≤ low → base ≤ i → i < top → top ≤ base + 2 ^ 15 → AreSets low top ss
         → AreSets low top (change_first (has_ssn x.stream_sequence_number) (with_chunk x) ss)
     sets-changed base low top [] at le lt far r = tt
-    sets-changed base low top (s ∷ ss) at le lt far r = by (s.ssn == x.stream_sequence_number) refl
-        (sets-changed base (r.0 + 1) top ss (let a = r.1.0.0 in omega (arith, a, at)) le lt far r.2)
-      where
-        by : (b : Bool) → (s.ssn == x.stream_sequence_number) ≡ b
-            → AreSets (r.0 + 1) top (change_first (has_ssn x.stream_sequence_number) (with_chunk x) ss)
-            → AreSets low top (if b then with_chunk x s ∷ ss else s ∷ change_first (has_ssn x.stream_sequence_number) (with_chunk x) ss)
-        by true e ih =
-            let n : r.0 % 2 ^ 16 ≡ i % 2 ^ 16 = sym r.1.0.2 ∙ same-is s.ssn x.stream_sequence_number e ∙ is in
-            let a = r.1.0.0 in
-            let b = r.1.0.1 in
-            let same : r.0 ≡ i = omega (arith, n, a, b, at, le, lt, far) in (
-              r.0,
-              (
-                (r.1.0.0, r.1.0.1, r.1.0.2),
-                subst (λ k. Fits k (with_chunk x s).chunks) (sym same)
-                    (with-of s (subst (λ k. Fits k s.chunks) same r.1.1)),
-              ),
-              r.2,
-            )
-        by false e ih = (r.0, r.1, ih)
+    sets-changed base low top (s ∷ ss) at le lt far r = at-if (AreSets low top) (s.ssn == x.stream_sequence_number)
+        (λ e.
+        let n : r.0 % 2 ^ 16 ≡ i % 2 ^ 16 = sym r.1.0.2 ∙ same-is s.ssn x.stream_sequence_number e ∙ is in
+        let same : r.0 ≡ i = omega (arith, n, at, le, lt, far) in (
+          r.0,
+          (
+            (r.1.0.0, r.1.0.1, r.1.0.2),
+            subst (λ k. Fits k (with_chunk x s).chunks) (sym same)
+                (with-of s (subst (λ k. Fits k s.chunks) same r.1.1)),
+          ),
+          r.2,
+        ))
+        (λ e. (r.0, r.1, sets-changed base (r.0 + 1) top ss (omega (arith, at)) le lt far r.2))
 
     sets-inserted : (low top : ℕ) (ss : List ChunkSet) → top ≤ low + 2 ^ 15 → low ≤ i → i < top
         → list_any (has_ssn x.stream_sequence_number) ss ≡ false → AreSets low top ss → AreSets low top (insert_before set_before (new_set x) ss)
     sets-inserted low top [] near le lt none r = (i, ((le, lt, is), single), tt)
-    sets-inserted low top (s ∷ ss) near le lt none r = by (set_before (new_set x) s) refl
-        (λ n a. sets-inserted (r.0 + 1) top ss n a lt
-        (none-after (s.ssn == x.stream_sequence_number) (list_any (has_ssn x.stream_sequence_number) ss) none) r.2)
+    sets-inserted low top (s ∷ ss) near le lt none r = at-if (AreSets low top) (set_before (new_set x) s)
+        (λ e.
+        let less : i < j = grind (arith, nat_tests, sym order ∙ e) in
+        (i, ((le, lt, is), single), (j, ((omega (arith, less), r.1.0.1, r.1.0.2), r.1.1), r.2)))
+        (λ e.
+        let ge : j ≤ i = grind (arith, nat_tests, sym order ∙ e) in (
+          j,
+          r.1,
+          sets-inserted (r.0 + 1) top ss (omega (arith, near)) (omega (arith, strictly j i ge other)) lt
+              (none-after (s.ssn == x.stream_sequence_number) (list_any (has_ssn x.stream_sequence_number) ss) none) r.2,
+        ))
       where
         j : ℕ
         j = r.0
 
         order : set_before (new_set x) s ≡ nat_lt i j
-        order =
-            let c = r.1.0.0 in
-            let d = r.1.0.1 in
-            ap (λ n. comes_before16 n s.ssn) is ∙ ap (comes_before16 (i % 2 ^ 16)) r.1.0.2
-            ∙ comes_before16-index i j (omega (arith, le, lt, c, d, near)) (omega (arith, le, lt, c, d, near))
+        order = cc (is, r.1.0.2, comes_before16-index i j (omega (arith, le, lt, near)) (omega (arith, le, lt, near)))
 
         other : i ≡ j → ⊥
         other e =
@@ -114,27 +98,10 @@ module _ (Fits : ℕ → List ChunkPayloadData → Type 0) where
             not_both (sym none ∙ ap (λ b. b || list_any (has_ssn x.stream_sequence_number) ss)
             (ap (λ n. n == x.stream_sequence_number) same ∙ same-yes x.stream_sequence_number))
 
-        by : (b : Bool) → set_before (new_set x) s ≡ b
-            → (top ≤ r.0 + 1 + 2 ^ 15 → r.0 + 1 ≤ i → AreSets (r.0 + 1) top (insert_before set_before (new_set x) ss))
-            → AreSets low top (if b then new_set x ∷ s ∷ ss else s ∷ insert_before set_before (new_set x) ss)
-        by true e ih =
-            let t : nat_lt i j ≡ true = sym order ∙ e in
-            let less : i < j = grind (arith, nat_tests, t) in
-            (i, ((le, lt, is), single), (j, ((omega (arith, less), r.1.0.1, r.1.0.2), r.1.1), r.2))
-        by false e ih =
-            let t : nat_lt i j ≡ false = sym order ∙ e in
-            let ge : j ≤ i = grind (arith, nat_tests, t) in
-            let up = strictly j i ge other in
-            let c = r.1.0.0 in
-            (j, r.1, ih (omega (arith, near, c)) (omega (arith, up)))
-
     pub put-sets : (low top : ℕ) (ss : List ChunkSet) → low ≤ i → i < top → top ≤ low + 2 ^ 15 → AreSets low top ss → AreSets low top (sets_with x ss)
-    put-sets low top ss le lt far r = by (list_any (has_ssn x.stream_sequence_number) ss) refl
-      where
-        by : (b : Bool) → list_any (has_ssn x.stream_sequence_number) ss ≡ b
-            → AreSets low top (if b then change_first (has_ssn x.stream_sequence_number) (with_chunk x) ss else insert_before set_before (new_set x) ss)
-        by true e = sets-changed low low top ss (omega arith) le lt far r
-        by false e = sets-inserted low top ss far le lt e r
+    put-sets low top ss le lt far r = at-if (AreSets low top) (list_any (has_ssn x.stream_sequence_number) ss)
+        (λ e. sets-changed low low top ss (omega arith) le lt far r)
+        (λ e. sets-inserted low top ss far le lt e r)
 
 -- where nothing is said of the chunks
 abbrev pub Rise : ℕ → ℕ → List ChunkSet → Type 0
@@ -157,21 +124,16 @@ pub record IsNear (i ssn : ℕ) : Type 0 where
 
 lowest-is : (i : ℕ) (ss : List ChunkSet) → Rise i (i + 2 ^ 15) ss → lowest_among (i % 2 ^ 16) ss ≡ i % 2 ^ 16
 lowest-is i [] r = refl
-lowest-is i (s ∷ ss) r = by (at_or_before16 s.ssn (i % 2 ^ 16)) refl
+lowest-is i (s ∷ ss) r = at-if (λ z. z ≡ i % 2 ^ 16) (at_or_before16 s.ssn (i % 2 ^ 16))
+    (λ e.
+    let order : nat_le k i ≡ true = cc (at_or_before16-index k i (omega arith) (omega arith), r.1.0.2, e) in
+    let le : k ≤ i = grind (arith, nat_tests, order) in
+    let same : k ≡ i = omega (arith, le) in
+    r.1.0.2 ∙ ap (λ n. n % 2 ^ 16) same)
+    (λ e. refl)
   where
     k : ℕ
     k = r.0
-
-    by : (b : Bool) → at_or_before16 s.ssn (i % 2 ^ 16) ≡ b → (if b then s.ssn else i % 2 ^ 16) ≡ i % 2 ^ 16
-    by false e = refl
-    by true e =
-        let low = r.1.0.0 in
-        let top = r.1.0.1 in
-        let order : nat_le k i ≡ true = sym (at_or_before16-index k i (omega (arith, top)) (omega (arith, low)))
-        ∙ ap (λ n. at_or_before16 n (i % 2 ^ 16)) (sym r.1.0.2) ∙ e in
-        let le : k ≤ i = grind (arith, nat_tests, order) in
-        let same : k ≡ i = omega (arith, le, low) in
-        r.1.0.2 ∙ ap (λ n. n % 2 ^ 16) same
 
 index-of : (i ssn : ℕ) → ssn < 2 ^ 16 → distance16 (i % 2 ^ 16) ssn < 2 ^ 15 → IsNear i ssn
 unfolding distance16
@@ -187,11 +149,9 @@ near-of ssn q small t e =
 -- it does not come before the next number
 pub not-before : (i ssn next : ℕ) → next ≡ i % 2 ^ 16 → IsNear i ssn → comes_before16 ssn next ≡ false
 not-before i ssn next e n =
-    let low = n.low in
-    let top = n.top in
-    let past : nat_lt n.place i ≡ false = grind (arith, nat_tests, low) in
+    let past : nat_lt n.place i ≡ false = grind (arith, nat_tests, n.low) in
     ap (λ k. comes_before16 k next) n.is ∙ ap (comes_before16 (n.place % 2 ^ 16)) e
-    ∙ comes_before16-index n.place i (omega (arith, top)) (omega (arith, low)) ∙ past
+    ∙ comes_before16-index n.place i (omega arith) (omega arith) ∙ past
 
 -- it is put in
 pub put-in : (x : ChunkPayloadData) (q : Reassembly) (t : IsInTurn q) → IsNear t.index x.stream_sequence_number
@@ -210,10 +170,7 @@ put-in-turn x q t n =
 
 module _ (w : ChunkPayloadData → ℕ) (x : ChunkPayloadData) where
   chunk-more : (s : ChunkSet) → list_any (has_tsn x.tsn) s.chunks ≡ false → set_weight w (with_chunk x s) ≡ set_weight w s + w x
-  chunk-more s e =
-      let m = sum_by-inserted w chunk_before x s.chunks in
-      let is = ap (λ b. sum_by w (if b then s.chunks else insert_before chunk_before x s.chunks)) e in
-      omega (arith, m, is)
+  chunk-more s e = grind (arith, nat_tests, common_steps, sum_by-inserted w chunk_before x s.chunks)
 
   first-more : (p : ChunkSet → Bool) (ss : List ChunkSet) → list_any p ss ≡ true → Every (λ (s : ChunkSet). list_any (has_tsn x.tsn) s.chunks ≡ false) ss
       → sum_by (set_weight w) (change_first p (with_chunk x) ss) ≡ sum_by (set_weight w) ss + w x
@@ -224,28 +181,16 @@ module _ (w : ChunkPayloadData → ℕ) (x : ChunkPayloadData) where
           → sum_by (set_weight w) (change_first p (with_chunk x) ss) ≡ sum_by (set_weight w) ss + w x)
           → sum_by (set_weight w) (if b then with_chunk x s ∷ ss else s ∷ change_first p (with_chunk x) ss) ≡ sum_by (set_weight w) (s ∷ ss) + w x
       by true f ih =
-          let a = sum_by-cons (set_weight w) (with_chunk x s) ss in
-          let b = sum_by-cons (set_weight w) s ss in
-          let m = chunk-more s h.0 in
-          omega (arith, a, b, m)
+          omega (arith, sum_by-cons (set_weight w) (with_chunk x s) ss, sum_by-cons (set_weight w) s ss, chunk-more s h.0)
       by false f ih =
-          let a = sum_by-cons (set_weight w) s (change_first p (with_chunk x) ss) in
-          let b = sum_by-cons (set_weight w) s ss in
-          let m = ih f in
-          omega (arith, a, b, m)
+          grind (arith, nat_tests, common_steps, sum_by-cons (set_weight w) s (change_first p (with_chunk x) ss), sum_by-cons (set_weight w) s ss, ih f)
 
   pub sets-more : (ss : List ChunkSet) → Every (λ (s : ChunkSet). list_any (has_tsn x.tsn) s.chunks ≡ false) ss
       → sum_by (set_weight w) (sets_with x ss) ≡ sum_by (set_weight w) ss + w x
-  sets-more ss h = by (list_any (has_ssn x.stream_sequence_number) ss) refl
-    where
-      by : (b : Bool) → list_any (has_ssn x.stream_sequence_number) ss ≡ b
-          → sum_by (set_weight w) (if b then change_first (has_ssn x.stream_sequence_number) (with_chunk x) ss else insert_before set_before
-          (new_set x) ss) ≡ sum_by (set_weight w) ss + w x
-      by true e = first-more (has_ssn x.stream_sequence_number) ss e h
-      by false e =
-          let m = sum_by-inserted (set_weight w) set_before (new_set x) ss in
-          let one = sum_by-cons w x [] in
-          omega (arith, m, one)
+  sets-more ss h = at-if (λ z. sum_by (set_weight w) z ≡ sum_by (set_weight w) ss + w x) (list_any (has_ssn x.stream_sequence_number) ss)
+      (λ e. first-more (has_ssn x.stream_sequence_number) ss e h)
+      (λ e.
+      omega (arith, sum_by-inserted (set_weight w) set_before (new_set x) ss, sum_by-cons w x []))
 
 -- ## A message is read
 
@@ -263,11 +208,10 @@ module _ (q : Reassembly) where
     where
       by : (os : List ChunkSet) → q.ordered ≡ os → Q (front_readable q.next_ssn os) (after_read (front_readable q.next_ssn os) q)
       by [] is = none
-      by (s ∷ ss) is = at (is_readable q.next_ssn s) refl
-        where
-          at : (b : Bool) → is_readable q.next_ssn s ≡ b → Q (if b then Some s else None) (after_read (if b then Some s else None) q)
-          at false e = none
-          at true e = subst (λ os. Q (Some s) (without_front (s.ssn == q.next_ssn) (without_first os))) (sym is) (read s ss is e (s.ssn == q.next_ssn) refl)
+      by (s ∷ ss) is = at-test (λ b. Q (if b then Some s else None) (after_read (if b then Some s else None) q)) (is_readable q.next_ssn s)
+          (λ e. subst (λ os. Q (Some s) (without_front (s.ssn == q.next_ssn) (without_first os))) (sym is)
+          (read s ss is e (s.ssn == q.next_ssn) refl))
+          (λ e. none)
 
 front-turn : (q : Reassembly) → IsInTurn q → IsInTurn (after_read (front_readable q.next_ssn q.ordered) q)
 front-turn q t = front-read q (λ o r. IsInTurn r) t step
@@ -275,13 +219,11 @@ front-turn q t = front-read q (λ o r. IsInTurn r) t step
     -- the set that is read has the next number
     same : (s : ChunkSet) (ss : List ChunkSet) (r : Rise t.index (t.index + 2 ^ 15) (s ∷ ss)) → is_readable q.next_ssn s ≡ true → r.0 ≡ t.index
     same s ss r f =
-        let low = r.1.0.0 in
-        let top = r.1.0.1 in
-        let order : nat_le r.0 t.index ≡ true = sym (at_or_before16-index r.0 t.index (omega (arith, top)) (omega (arith, low)))
+        let order : nat_le r.0 t.index ≡ true = sym (at_or_before16-index r.0 t.index (omega arith) (omega arith))
         ∙ ap (at_or_before16 (r.0 % 2 ^ 16)) (sym t.next) ∙ ap (λ n. at_or_before16 n q.next_ssn) (sym r.1.0.2)
         ∙ (both (is_complete s.chunks) (at_or_before16 s.ssn q.next_ssn) f).1 in
         let le : r.0 ≤ t.index = grind (arith, nat_tests, order) in
-        omega (arith, le, low)
+        omega (arith, le)
 
     step : (s : ChunkSet) (ss : List ChunkSet) → q.ordered ≡ s ∷ ss → is_readable q.next_ssn s ≡ true → (b : Bool) → (s.ssn == q.next_ssn) ≡ b
         → IsInTurn (without_front q b ss)
@@ -304,3 +246,140 @@ read-in-turn q t = by q.unordered
     by : (us : List ChunkSet) → IsInTurn (rest_among us q)
     by [] = front-turn q t
     by (u ∷ us) = record { index = t.index; next = t.next; rise = t.rise }
+
+-- # What a receiver holds stands in order: ordered fragments by TSNs in each set, and unordered ones, of which no
+-- message is whole.
+
+abbrev pub IsOrdered : ChunkPayloadData → Type 0
+IsOrdered c = c.unordered ≡ false
+
+abbrev pub IsUnordered : ChunkPayloadData → Type 0
+IsUnordered c = c.unordered ≡ true
+
+abbrev pub IsTidySet : ℕ → ℕ → ChunkSet → Type 0
+IsTidySet p n s = Ascend p n 0 s.chunks × Every IsOrdered s.chunks
+
+abbrev IsWhole : ChunkSet → Type 0
+IsWhole s = Every IsUnordered s.chunks
+
+-- a chunk with the TSN of a place
+abbrev pub IsFit : ℕ → ℕ → ChunkPayloadData → Type 0
+IsFit p n c = (k : ℕ) × IsPlaced p n 0 k c
+
+pub record IsTidy (p n : ℕ) (q : Reassembly) : Type 0 where
+  pub sets : Every (IsTidySet p n) q.ordered
+  pub whole : Every IsWhole q.unordered
+  pub unassembled : Ascend p n 0 q.unassembled
+  pub kinds : Every IsUnordered q.unassembled
+  pub none : HasNoRun q.unassembled
+
+-- ## A fragment comes
+
+pub every-first : {A : Type 0} (P : A → Type 0) (p : A → Bool) (f : A → A) (xs : List A) → Every (λ x. P x × (p x ≡ true → P (f x))) xs
+    → Every P (change_first p f xs)
+every-first P p f [] e = tt
+every-first P p f (x ∷ xs) e = at-if (Every P) (p x) (λ h. (e.0.1 h, heads xs e.1)) (λ h. (e.0.0, every-first P p f xs e.1))
+  where
+    heads : (ys : List _) → Every (λ y. P y × (p y ≡ true → P (f y))) ys → Every P ys
+    heads [] h = tt
+    heads (y ∷ ys) h = (h.0.0, heads ys h.1)
+
+module _ (p n : ℕ) (few : n < 2 ^ 31) where
+  module _ (x : ChunkPayloadData) (k : ℕ) (at : IsPlaced p n 0 k x) where
+    put : (s : ChunkSet) → IsOrdered x → list_any (has_tsn x.tsn) s.chunks ≡ false → IsTidySet p n s → IsTidySet p n (with_chunk x s)
+    put s kind fresh t =
+        subst (λ b. let s' : ChunkSet = record s { chunks = if b then s.chunks else insert_before chunk_before x s.chunks } in IsTidySet p n s') (sym fresh) (
+          ascend-inserted p n few 0 k x s.chunks at fresh t.0,
+          every-inserted IsOrdered chunk_before x s.chunks kind t.1,
+        )
+
+    puts : IsOrdered x → (ss : List ChunkSet) → Every (λ (s : ChunkSet). list_any (has_tsn x.tsn) s.chunks ≡ false) ss
+        → Every (IsTidySet p n) ss → Every (λ s. IsTidySet p n s × (has_ssn x.stream_sequence_number s ≡ true → IsTidySet p n (with_chunk x s))) ss
+    puts kind [] fresh t = tt
+    puts kind (s ∷ ss) fresh t = ((t.0, λ h. put s kind fresh.0 t.0), puts kind ss fresh.1 t.1)
+
+    pub sets-tidy : IsOrdered x → (ss : List ChunkSet) → Every (λ (s : ChunkSet). list_any (has_tsn x.tsn) s.chunks ≡ false) ss
+        → Every (IsTidySet p n) ss → Every (IsTidySet p n) (sets_with x ss)
+    sets-tidy kind ss fresh t = at-if (Every (IsTidySet p n)) (list_any (has_ssn x.stream_sequence_number) ss)
+        (λ e. every-first (IsTidySet p n) (has_ssn x.stream_sequence_number) (with_chunk x) ss (puts kind ss fresh t))
+        (λ e. every-inserted (IsTidySet p n) set_before (new_set x) ss ((k, at, tt), (kind, tt)) t)
+
+    -- where it is put in
+    inserted-place : (xs : List ChunkPayloadData) → (i : ℕ) × (i < length (insert_before chunk_before x xs))
+        × (remove (insert_before chunk_before x xs) i ≡ xs)
+    inserted-place [] = (0, omega arith, refl)
+    inserted-place (y ∷ ys) = by (chunk_before x y) (inserted-place ys)
+      where
+        by : (b : Bool) → (i : ℕ) × (i < length (insert_before chunk_before x ys)) × (remove (insert_before chunk_before x ys) i ≡ ys)
+            → (i : ℕ) × (i < length (if b then x ∷ y ∷ ys else y ∷ insert_before chunk_before x ys))
+            × (remove (if b then x ∷ y ∷ ys else y ∷ insert_before chunk_before x ys) i ≡ y ∷ ys)
+        by true ih = (0, omega arith, refl)
+        by false ih = let lt = ih.1 in (suc ih.0, omega (arith, lt), ap (λ zs. y ∷ zs) ih.2)
+
+    run-set : (xs : List ChunkPayloadData) → Every IsUnordered xs → IsWhole (set_of_run xs)
+    run-set [] e = tt
+    run-set (y ∷ ys) e = e
+
+    unassembled-tidy : (old new : Reassembly) (answered : Bool) → x.unordered ≡ true → list_any (has_tsn x.tsn) old.unassembled ≡ false
+        → BecomesComplete (insert_before chunk_before x old.unassembled) old new answered → IsTidy p n old → IsTidy p n new
+    unassembled-tidy old new false u fresh b t = subst (IsTidy p n) (sym b.1) (record {
+      sets = t.sets;
+      whole = t.whole;
+      unassembled = ascend-inserted p n few 0 k x old.unassembled at fresh t.unassembled;
+      kinds = every-inserted IsUnordered chunk_before x old.unassembled u t.kinds;
+      none = b.0;
+    })
+    unassembled-tidy old new true u fresh b t =
+        let xs = insert_before chunk_before x old.unassembled in
+        let i = inserted-place old.unassembled in
+        let up = ascend-inserted p n few 0 k x old.unassembled at fresh t.unassembled in
+        let kinds = every-inserted IsUnordered chunk_before x old.unassembled u t.kinds in
+        subst (IsTidy p n) (sym b.moved) (record {
+          sets = t.sets;
+          whole = every-joined IsWhole old.unordered (set_of_run (take b.count (drop b.first xs)) ∷ []) t.whole
+              (run-set (take b.count (drop b.first xs)) (every-taken IsUnordered b.count (drop b.first xs) (every-left IsUnordered b.first xs kinds)), tt);
+          unassembled = ascend-cut p n few 0 b.first b.count xs up;
+          kinds = every-joined IsUnordered (take b.first xs) (drop (b.first + b.count) xs) (every-taken IsUnordered b.first xs kinds)
+              (every-left IsUnordered (b.first + b.count) xs kinds);
+          none = flag_after_take true true xs i.0 b.first b.count i.1 (subst HasNoRun (sym i.2) t.none) (ascend-serial p n few 0 xs up) b.run.run;
+        })
+
+    pub pushed-tidy : (answered : Bool) (old new : ReassemblyState) → Pushes x answered old new
+        → Every (λ (s : ChunkSet). list_any (has_tsn x.tsn) s.chunks ≡ false) old.held.ordered → list_any (has_tsn x.tsn) old.held.unassembled ≡ false
+        → IsTidy p n old.held → IsTidy p n new.held
+    pushed-tidy answered old new h fresh none y = at-test (λ b. PushesAs b x answered old new → IsTidy p n new.held) x.unordered
+        (λ u e. unassembled-tidy old.held new.held answered u none e.0 y)
+        (λ u e.
+        let held : new.held ≡ held_after_ordered_push x old.held = ap (λ (q : ReassemblyState). q.held) e.0 in
+        subst (IsTidy p n) (sym held) (put-or-not u (comes_before16 x.stream_sequence_number old.held.next_ssn))) h
+      where
+        put-or-not : x.unordered ≡ false → (b : Bool) → IsTidy p n (if b then old.held else record old.held { ordered = sets_with x old.held.ordered })
+        put-or-not u true = y
+        put-or-not u false = record {
+          sets = sets-tidy u old.held.ordered fresh y.sets;
+          whole = y.whole;
+          unassembled = y.unassembled;
+          kinds = y.kinds;
+          none = y.none;
+        }
+
+  -- ## A message is read
+
+  pub read-tidy : (q : Reassembly) → IsTidy p n q → IsTidy p n (rest_read q)
+  read-tidy q t = by q.unordered refl
+    where
+      front : (ss : List ChunkSet) → q.ordered ≡ ss → IsTidy p n (after_read (front_readable q.next_ssn ss) q)
+      front [] e = t
+      front (s ∷ ss) e = at-if (λ z. IsTidy p n (after_read z q)) (is_readable q.next_ssn s)
+          (λ h. record {
+            sets = subst (λ o. Every (IsTidySet p n) (without_first o)) (sym e) (subst (Every (IsTidySet p n)) e t.sets).1;
+            whole = t.whole;
+            unassembled = t.unassembled;
+            kinds = t.kinds;
+            none = t.none;
+          })
+          (λ e. t)
+
+      by : (us : List ChunkSet) → q.unordered ≡ us → IsTidy p n (rest_among us q)
+      by [] e = front q.ordered refl
+      by (u ∷ us) e = record { sets = t.sets; whole = (subst (Every IsWhole) e t.whole).1; unassembled = t.unassembled; kinds = t.kinds; none = t.none }

@@ -1,39 +1,23 @@
 -- How each chunk that waits or is in flight is sent: as its write is, whatever a sender does.
-use Rattle.std.proofs.Common.{◌≡◌, ℕ, zero, suc, ◌+◌, ◌<◌, ◌≤◌, Bool, true, false, List, [], ◌∷◌, length, map, Option, Some, None, is_some, refl, ap, sym}
-use Rattle.std.proofs.Common.{subst, ◌∙◌, inl, inr, arith}
-use Rattle.std.specs.Prelude.{if◌then◌else◌, ◌==◌, ◌&&◌, ◌||◌, not, is_none, nat_le, slice_index_or}
-use Rattle.std.proofs.lemmas.Bool.{cases_lt}
-use Rattle.std.proofs.lemmas.Bool.Decides.{nat_tests}
-use Rattle.std.proofs.lemmas.List.{length-map}
-use Rattle.sctp_util.specs.Lists.{change_where}
-use Rattle.sctp_util.proofs.Cases.{same-is, same-yes}
-use Rattle.sctp_util.proofs.More.{both, fails, not_both}
-use Rattle.sctp_data.specs.PayloadTypes.{is_dcep, is_ordered}
+use Rattle.sctp_delivery.proofs.Names.{◌≡◌, ℕ, zero, suc, ◌+◌, ◌<◌, ◌≤◌, Bool, true, false, List, [], ◌∷◌, length, map, Option, Some, None, is_some, refl, ap}
+use Rattle.sctp_delivery.proofs.Names.{sym, subst, ◌∙◌, arith, if◌then◌else◌, ◌==◌, slice_index_or, cases_lt, nat_tests, length-map, common_steps, change_where}
+use Rattle.sctp_delivery.proofs.Names.{same-is, same-yes, both, not_both, is_dcep, is_ordered, ChunkPayloadData, PayloadProtocolIdentifier, Sack, as_abandoned}
+use Rattle.sctp_delivery.proofs.Names.{as_acknowledged, is_outstanding, with_retransmit, Outbound, abandoned_of, all_started, append_chunks, as_sent}
+use Rattle.sctp_delivery.proofs.Names.{expired_of, sent_next, sent_of, terminal_chunk, with_inflight, with_message, with_message_id, is_to_start, next_pending}
+use Rattle.sctp_delivery.proofs.Names.{one_lower, start_pending, with_deadline, has_tsn, OutboundStream, Flight, after_sack, is_outdated, message_to_abandon}
+use Rattle.sctp_delivery.proofs.Names.{take_sack, abandoned_at, abandoned_each, fragments_with_mode, with_reliability, after_misses, all_marked, count_again}
+use Rattle.sctp_delivery.proofs.Names.{missed, resent_at, sent_again, fragment_at, fragments_of, Mode, Sending, deadline_of, mode_of_write, numbered_in}
+use Rattle.sctp_delivery.proofs.Names.{reliable_mode, starting}
+use Rattle.std.specs.Prelude.{not}
 use Rattle.sctp_data.specs.Reliability.{deadline_at, is_timed}
-use Rattle.sctp_data.specs.declared.chunk.chunk_payload_data.ChunkPayloadData.{ChunkPayloadData}
-use Rattle.sctp_data.specs.declared.chunk.chunk_payload_data.PayloadProtocolIdentifier.{PayloadProtocolIdentifier}
-use Rattle.sctp_data.specs.SelectiveAck.{Sack}
-use Rattle.sctp_outbound.specs.Marks.{as_abandoned, as_acknowledged, is_outstanding, with_retransmit}
-use Rattle.sctp_outbound.specs.outbound_queue.OutboundQueue.{Outbound, abandoned_of, all_started, append_chunks, as_sent, expired_of, sent_next, sent_of}
-use Rattle.sctp_outbound.specs.outbound_queue.OutboundQueue.{terminal_chunk, with_inflight, with_message, with_message_id}
-use Rattle.sctp_outbound.specs.pending_queue.PendingQueue.{has_lifetime, is_to_start, lifetime_of, next_pending, one_lower, start_pending, with_deadline}
-use Rattle.sctp_serial.specs.DataChunks.{has_tsn}
-use Rattle.sctp_stream.specs.declared.stream.StreamState.{StreamState}
-use Rattle.sctp_sender.specs.Flight.{Flight, after_sack, is_outdated, message_to_abandon, take_sack}
-use Rattle.sctp_sender.specs.Late.{abandoned_at, abandoned_each}
-use Rattle.sctp_sender.specs.Outgoing.{fragments_with_mode, with_reliability}
-use Rattle.sctp_sender.specs.Resending.{after_misses, all_marked, count_again, missed, resent_at, sent_again}
-use Rattle.sctp_stream.specs.Stream.{fragment_at, fragments_of}
-use Rattle.sctp_delivery.specs.Modes.{Mode, Sending, deadline_of, mode_of_write, moment, numbered_in, reliable_mode, starting}
+use Rattle.sctp_delivery.specs.Modes.{moment}
 use Rattle.sctp_delivery.proofs.Every.{Every, every-joined, every-mapped, every-of, every-made}
 use Rattle.sctp_delivery.proofs.QueueChunks.{EachIs, abandoned, expired, marked, missed-some, sacked, sent}
 
 -- ## Writes by their numbers
 
 pub numbered-more : (w : Sending) (ws : List Sending) (n : ℕ) → n < length ws → numbered_in n (w ∷ ws) ≡ numbered_in n ws
-numbered-more w ws n lt =
-    let e : (length ws == n) ≡ false = grind (arith, nat_tests, lt) in
-    ap (λ b. if b then w else numbered_in n ws) e
+numbered-more w ws n lt = grind (arith, nat_tests)
 
 pub numbered-last : (w : Sending) (ws : List Sending) → numbered_in (length ws) (w ∷ ws) ≡ w
 numbered-last w ws = ap (λ b. if b then w else numbered_in (length ws) ws) (same-yes (length ws))
@@ -53,21 +37,13 @@ numbered-started now (w ∷ ws) n lt =
 -- the write at the place, counted from the last one
 pub numbered-at : (ws : List Sending) (k n : ℕ) (d : Sending) → k + n + 1 ≡ length ws → slice_index_or ws k d ≡ numbered_in n ws
 numbered-at [] k n d e = absurd (omega (arith, e))
-numbered-at (w ∷ ws) zero n d e =
-    let same : length ws ≡ n = omega (arith, e) in
-    sym (ap (λ j. if length ws == j then w else numbered_in j ws) (sym same) ∙ numbered-last w ws)
+numbered-at (w ∷ ws) zero n d e = grind (arith, nat_tests, numbered-last)
 numbered-at (w ∷ ws) (suc k) n d e =
     numbered-at ws k n d (omega (arith, e)) ∙ sym (numbered-more w ws n (omega (arith, e)))
 
 -- one that was started stays as it is
 pub starting-same : (now : ℕ) (w : Sending) → is_some w.started ≡ true → starting now w ≡ w
-starting-same now w h = by w.started refl h
-  where
-    by : (o : Option ℕ) → w.started ≡ o → is_some o ≡ true → starting now w ≡ w
-    by None e s = absurd (not_both s)
-    by (Some t) e s =
-        ap (λ o. let v : Sending = record { mode = w.mode; started = moment now o } in v) e
-        ∙ ap (λ o. let v : Sending = record { mode = w.mode; started = o } in v) (sym e)
+starting-same now w h = grind (arith, nat_tests, is_some, not_both)
 
 -- ## Chunks
 
@@ -102,18 +78,11 @@ pub record KeepsSending (f : ChunkPayloadData → ChunkPayloadData) : Type 0 whe
 
 pub in-mode-kept : (m : Mode) (c d : ChunkPayloadData) → d.unordered ≡ c.unordered → d.payload_type ≡ c.payload_type → d.reliability ≡ c.reliability
     → IsInMode m c → IsInMode m d
-in-mode-kept m c d k p r i = record {
-  kind = k ∙ i.kind;
-  dcep = λ e. i.dcep (ap is_dcep (sym p) ∙ e);
-  other = λ e. r ∙ i.other (ap is_dcep (sym p) ∙ e);
-}
+in-mode-kept m c d k p r i = grind (arith, nat_tests)
 
 pub has-mode-kept : (ws : List Sending) (c d : ChunkPayloadData) → d.message_id ≡ c.message_id → d.unordered ≡ c.unordered → d.payload_type ≡ c.payload_type
     → d.reliability ≡ c.reliability → HasMode ws c → HasMode ws d
-has-mode-kept ws c d n k p r h = (
-  subst (λ i. i < length ws) (sym n) h.0,
-  subst (λ i. IsInMode (numbered_in i ws).mode d) (sym n) (in-mode-kept (numbered_in c.message_id ws).mode c d k p r h.1),
-)
+has-mode-kept ws c d n k p r h = grind (arith, nat_tests, in-mode-kept)
 
 module _ (f : ChunkPayloadData → ChunkPayloadData) (k : KeepsSending f) (ws : List Sending) where
   abbrev mode-then : (c : ChunkPayloadData) → HasMode ws c → HasMode ws (f c)
@@ -126,10 +95,7 @@ module _ (f : ChunkPayloadData → ChunkPayloadData) (k : KeepsSending f) (ws : 
   waiting-kept c h = (mode-then c h.0, deadline-then c h.1)
 
   pub flying-kept : (n : ℕ) (c : ChunkPayloadData) → IsFlying ws n c → IsFlying ws n (f c)
-  flying-kept n c h = (
-    mode-then c h.0,
-    λ e. let o = h.1 (k.open' c e) in (subst (λ i. i < n) (sym (k.message c)) o.0, deadline-then c o.1),
-  )
+  flying-kept n c h = grind (arith, nat_tests)
 
 -- one write more
 pub mode-more : (w : Sending) (ws : List Sending) (c : ChunkPayloadData) → HasMode ws c → HasMode (w ∷ ws) c
@@ -164,27 +130,12 @@ module _ (ws : List Sending) where
   -- the same numbers, and each chunk so
   with-each : (q r : Outbound) → r.next_message_id ≡ q.next_message_id → r.next_unstarted ≡ q.next_unstarted
       → EachIs (IsWaiting ws) (IsFlying ws q.next_unstarted) r → AreModed ws q → AreModed ws r
-  with-each q r ids n h s = record {
-    ordered = h.ordered;
-    unordered = h.unordered;
-    inflight = subst (λ i. Every (IsFlying ws i) r.inflight.chunks) (sym n) h.inflight;
-    count = ids ∙ s.count;
-    upto = subst (λ i. i ≤ length ws) (sym n) s.upto;
-    begun = λ i lt. s.begun i (subst (λ j. i < j) n lt);
-    unbegun = λ i le lt. s.unbegun i (subst (λ j. j ≤ i) n le) lt;
-  }
+  with-each q r ids n h s = grind (arith, nat_tests)
 
   -- ## Abandonment
 
   marks : KeepsSending as_abandoned
-  marks = record {
-    message = λ c. refl;
-    kind = λ c. refl;
-    of_type = λ c. refl;
-    reliability = λ c. refl;
-    deadline = λ c. refl;
-    open' = λ c e. absurd (not_both (sym e));
-  }
+  marks = grind (arith, nat_tests, not_both)
 
   pub abandoned-moded : (o : Option ℕ) (tsn : ℕ) (q : Outbound) → AreModed ws q → AreModed ws (abandoned_of o tsn q)
   abandoned-moded None tsn q s = s
@@ -266,15 +217,7 @@ module _ (ws : List Sending) where
 -- a chunk in flight, where later messages are started
 pub flying-started : (now n : ℕ) (ws : List Sending) (c : ChunkPayloadData) → ((i : ℕ) → i < n → is_some (numbered_in i ws).started ≡ true)
     → IsFlying ws n c → IsFlying (map (starting now) ws) (length ws) c
-flying-started now n ws c begun h = (
-  (let l = length-map ws (starting now) in omega (arith, l, h.0.0), subst (λ (v : Sending). IsInMode v.mode c) (sym is) h.0.1),
-  λ e.
-      let o = h.1 e in
-      (h.0.0, o.1 ∙ ap deadline_of (sym (is ∙ starting-same now (numbered_in c.message_id ws) (begun c.message_id o.0)))),
-)
-  where
-    is : numbered_in c.message_id (map (starting now) ws) ≡ starting now (numbered_in c.message_id ws)
-    is = numbered-started now ws c.message_id h.0.0
+flying-started now n ws c begun h = grind (arith, nat_tests, length-map, numbered-started, starting-same)
 
 -- a chunk that waits, before and after lifetimes start
 module _ (now first : ℕ) (ws : List Sending) (c : ChunkPayloadData) (h : IsWaiting ws c)
@@ -292,51 +235,17 @@ module _ (now first : ℕ) (ws : List Sending) (c : ChunkPayloadData) (h : IsWai
   in-mode : IsInMode v.mode c
   in-mode = subst (λ (x : Sending). IsInMode x.mode c) (sym started-is) h.0.1
 
-  below : (d : ChunkPayloadData) → d.message_id ≡ c.message_id → d.message_id < length (map (starting now) ws)
-  below d e = let l = length-map ws (starting now) in let lt = h.0.0 in omega (arith, l, lt, e)
-
   -- the deadline of one that starts now
   pub new-deadline : (w.started ≡ None) → deadline_of v ≡ (if is_timed w.mode.reliability then deadline_at now w.mode.value else None)
   new-deadline none = ap deadline_of started-is ∙ ap (λ o. deadline_of (record { mode = w.mode; started = moment now o })) none
 
   -- it is changed where it is to start
   starts : is_to_start first c ≡ true → IsWaiting (map (starting now) ws) (with_deadline now c)
-  starts e =
-      let a = both (nat_le first c.message_id) _ e in
-      let b = both (is_none c.deadline) _ a.1 in
-      let d = both (not (is_dcep c.payload_type)) (has_lifetime c.reliability) b.1 in
-      let plain : is_dcep c.payload_type ≡ false = fails (is_dcep c.payload_type) (λ y. not_both (sym (ap not y) ∙ d.0)) in
-      let rel = h.0.1.other plain in
-      let timed : is_timed w.mode.reliability ≡ true = ap has_lifetime (sym rel) ∙ d.1 in
-      let le : first ≤ c.message_id = (let z = a.0 in grind (arith, nat_tests, z)) in (
-        (below (with_deadline now c) refl, in-mode-kept v.mode c (with_deadline now c) refl refl refl in-mode),
-        ap (λ r. deadline_at now (lifetime_of r)) rel
-            ∙ sym (new-deadline (begun le) ∙ ap (λ b. if b then deadline_at now w.mode.value else None) timed),
-      )
+  starts e = grind (arith, common_steps, both, in-mode, in-mode-kept, new-deadline, not_both)
 
   -- and stays where it is not
   stays : is_to_start first c ≡ false → IsWaiting (map (starting now) ws) c
-  stays e = ((below c refl, in-mode), elim (cases_lt c.message_id first) [ inl lt ↦ early lt | inr le ↦ late le (is_dcep c.payload_type) refl ])
-    where
-      early : c.message_id < first → c.deadline ≡ deadline_of v
-      early lt = h.1 ∙ ap deadline_of (sym (started-is ∙ starting-same now w (other lt)))
-
-      untimed : is_timed w.mode.reliability ≡ false → (w.started ≡ None) → c.deadline ≡ deadline_of v
-      untimed u none =
-          h.1 ∙ ap (λ o. deadline_of (record { mode = w.mode; started = o })) none
-          ∙ sym (new-deadline none ∙ ap (λ b. if b then deadline_at now w.mode.value else None) u)
-
-      late : first ≤ c.message_id → (b : Bool) → is_dcep c.payload_type ≡ b → c.deadline ≡ deadline_of v
-      late le true y = untimed (ap (λ (m : Mode). is_timed m.reliability) (h.0.1.dcep y)) (begun le)
-      late le false y =
-          let none : w.started ≡ None = begun le in
-          let bare : c.deadline ≡ None = h.1 ∙ ap (λ o. deadline_of (record { mode = w.mode; started = o })) none in
-          let rel = h.0.1.other y in
-          let at : nat_le first c.message_id ≡ true = grind (arith, nat_tests, le) in
-          untimed (fails (is_timed w.mode.reliability) (λ t.
-          not_both (sym e ∙ ap (λ b. b && (is_none c.deadline && (not (is_dcep c.payload_type) && has_lifetime c.reliability))) at
-          ∙ ap (λ o. is_none o && (not (is_dcep c.payload_type) && has_lifetime c.reliability)) bare
-          ∙ ap (λ b. not b && has_lifetime c.reliability) y ∙ ap has_lifetime rel ∙ t))) none
+  stays e = grind (arith, common_steps, cases_lt, in-mode, new-deadline, not_both, started-is, starting-same)
 
 pub started-moded : (now : ℕ) (ws : List Sending) (q : Outbound) → AreModed ws q
     → AreModed (map (starting now) ws) (all_started now q) × ((all_started now q).next_unstarted ≡ length (map (starting now) ws))
@@ -349,12 +258,7 @@ started-moded now ws q s = by (q.next_unstarted == q.next_message_id) refl
     first = q.next_unstarted
 
     each : (u : ℕ) → u ≡ length ws → (n : ℕ) → n < u → is_some (numbered_in n (map (starting now) ws)).started ≡ true
-    each u e n lt =
-        ap (λ (v : Sending). is_some v.started) (numbered-started now ws n (omega (arith, e, lt))) ∙ any (numbered_in n ws).started
-      where
-        any : (o : Option ℕ) → is_some (moment now o) ≡ true
-        any None = refl
-        any (Some t) = refl
+    each u h2 n h4 = grind (arith, nat_tests, is_some, numbered-started)
 
     waiting : (cs : List ChunkPayloadData) → Every (IsWaiting ws) cs
         → Every (IsWaiting (map (starting now) ws)) (change_where (is_to_start first) (with_deadline now) cs)
@@ -367,13 +271,7 @@ started-moded now ws q s = by (q.next_unstarted == q.next_message_id) refl
 
     -- where all are started
     same : q.next_unstarted ≡ length ws → (c : ChunkPayloadData) → IsWaiting ws c → IsWaiting (map (starting now) ws) c
-    same e c h =
-        let is = numbered-started now ws c.message_id h.0.0 in
-        let lt = h.0.0 in
-        let stay = starting-same now (numbered_in c.message_id ws) (s.begun c.message_id (omega (arith, e, lt))) in (
-          (omega (arith, long, lt), subst (λ (v : Sending). IsInMode v.mode c) (sym is) h.0.1),
-          h.1 ∙ ap deadline_of (sym (is ∙ stay)),
-        )
+    same h1 c h3 = grind (arith, nat_tests, long, numbered-started, starting-same)
 
     flying : (u : ℕ) → u ≡ length ws → Every (IsFlying (map (starting now) ws) u) q.inflight.chunks
     flying u e =
@@ -386,37 +284,11 @@ started-moded now ws q s = by (q.next_unstarted == q.next_message_id) refl
         else record q { pending = start_pending q.next_unstarted now q.pending; next_unstarted = q.next_message_id })
         × ((if b then q else record q { pending = start_pending q.next_unstarted now q.pending; next_unstarted = q.next_message_id }).next_unstarted
         ≡ length (map (starting now) ws))
-    by true e =
-        let all : q.next_unstarted ≡ length ws = same-is q.next_unstarted q.next_message_id e ∙ s.count in (
-          record {
-            ordered = every-of (IsWaiting ws) (IsWaiting (map (starting now) ws)) (same all) q.pending.ordered s.ordered;
-            unordered = every-of (IsWaiting ws) (IsWaiting (map (starting now) ws)) (same all) q.pending.unordered s.unordered;
-            inflight = flying q.next_unstarted all;
-            count = s.count ∙ sym long;
-            upto = omega (arith, all, long);
-            begun = each q.next_unstarted all;
-            unbegun = λ n le lt. absurd (omega (arith, le, lt, all, long));
-          },
-          all ∙ sym long,
-        )
-    by false e = (
-      record {
-        ordered = waiting q.pending.ordered s.ordered;
-        unordered = waiting q.pending.unordered s.unordered;
-        inflight = flying q.next_message_id s.count;
-        count = s.count ∙ sym long;
-        upto = (let n = s.count in omega (arith, n, long));
-        begun = each q.next_message_id s.count;
-        unbegun = λ n le lt. (let m = s.count in absurd (omega (arith, le, lt, m, long)));
-      },
-      s.count ∙ sym long,
-    )
+    by b h2 = grind (arith, nat_tests, each, every-of, flying, long, same, same-is, waiting)
 
 -- lifetimes start, and the chunk in front is sent
 pub sent-moded : (now tsn : ℕ) (ws : List Sending) (q : Outbound) → AreModed ws q → AreModed (map (starting now) ws) (sent_next q tsn now)
-sent-moded now tsn ws q s =
-    let a = started-moded now ws q s in
-    sent-of-moded (map (starting now) ws) (next_pending (all_started now q).pending) (all_started now q) tsn now refl a.1 a.0
+sent-moded now tsn ws q s = grind (arith, nat_tests, sent-of-moded, started-moded)
 
 -- ## A write
 
@@ -430,16 +302,7 @@ pub message-moded : (w : Sending) (ws : List Sending) (c : ChunkPayloadData) (cs
 message-moded w ws c cs q none new s = by c.unordered
   where
     named : (d : ChunkPayloadData) → IsNew w d → IsWaiting (w ∷ ws) (with_message_id q.next_message_id d)
-    named d h =
-        let is : numbered_in q.next_message_id (w ∷ ws) ≡ w = ap (λ n. numbered_in n (w ∷ ws)) s.count ∙ numbered-last w ws in
-        let n = s.count in (
-          (
-            omega (arith, n),
-            subst (λ (v : Sending). IsInMode v.mode (with_message_id q.next_message_id d)) (sym is)
-                (in-mode-kept w.mode d (with_message_id q.next_message_id d) refl refl refl h.mode),
-          ),
-          h.bare ∙ sym (ap deadline_of is ∙ ap (λ o. deadline_of (record { mode = w.mode; started = o })) none),
-        )
+    named d h2 = grind (arith, nat_tests, in-mode-kept, numbered-last)
 
     news : Every (IsWaiting (w ∷ ws)) (map (with_message_id q.next_message_id) (c ∷ cs))
     news = every-mapped (IsNew w) (IsWaiting (w ∷ ws)) (with_message_id q.next_message_id) named (c ∷ cs) new
@@ -452,10 +315,7 @@ message-moded w ws c cs q none new s = by c.unordered
     last-is n lt le = let e : n ≡ length ws = omega (arith, lt, le) in ap (λ k. numbered_in k (w ∷ ws)) e ∙ numbered-last w ws
 
     unstarted : (n : ℕ) → q.next_unstarted ≤ n → n < length (w ∷ ws) → (numbered_in n (w ∷ ws)).started ≡ None
-    unstarted n le lt = elim (cases_lt n (length ws)) [
-      | inl less ↦ ap (λ (v : Sending). v.started) (numbered-more w ws n less) ∙ s.unbegun n le less
-      | inr last ↦ ap (λ (v : Sending). v.started) (last-is n lt last) ∙ none
-    ]
+    unstarted n h2 h3 = grind (arith, nat_tests, cases_lt, last-is, numbered-more)
 
     by : (b : Bool) → AreModed (w ∷ ws) (record q {
       pending = append_chunks b
@@ -486,40 +346,29 @@ message-moded w ws c cs q none new s = by c.unordered
     }
 
 -- the stream has this mode
-pub record HasModeOf (m : Mode) (l : StreamState) : Type 0 where
+pub record HasModeOf (m : Mode) (l : OutboundStream) : Type 0 where
   pub unordered : l.unordered ≡ m.unordered
   pub reliability : l.reliability_type ≡ m.reliability
   pub value : l.reliability_value ≡ m.value
 
 -- a fragment of a write on it, but for its mode
-record IsBareOf (l : StreamState) (ppi : PayloadProtocolIdentifier) (c : ChunkPayloadData) : Type 0 where
+record IsBareOf (l : OutboundStream) (ppi : PayloadProtocolIdentifier) (c : ChunkPayloadData) : Type 0 where
   kind : c.unordered ≡ not (is_ordered l.unordered ppi)
   of_type : c.payload_type ≡ ppi
   bare : c.deadline ≡ None
 
 -- so have the fragments of a write on it
-pub fragments-new : (m : Mode) (l : StreamState) (ppi : PayloadProtocolIdentifier) (bytes : List ℕ) → HasModeOf m l
+pub fragments-new : (m : Mode) (l : OutboundStream) (ppi : PayloadProtocolIdentifier) (bytes : List ℕ) → HasModeOf m l
     → Every (IsNew (record { mode = mode_of_write ppi m; started = None })) (fragments_with_mode l ppi bytes)
 fragments-new m l ppi bytes has =
     every-moded (fragments_of l ppi bytes) (every-made (IsBareOf l ppi) (fragment_at l ppi bytes) (λ i. record { kind = refl; of_type = refl; bare = refl }) _)
   where
     kinds : (u b : Bool) → is_dcep ppi ≡ b → not (is_ordered u ppi) ≡ (if b then reliable_mode else record m { unordered = u }).unordered
-    kinds u true e = ap (λ d. not (d || not u)) e
-    kinds true false e = ap (λ d. not (d || false)) e
-    kinds false false e = ap (λ d. not (d || true)) e
+    kinds u b h3 = grind (arith, nat_tests)
 
     one : (c : ChunkPayloadData) → IsBareOf l ppi c → (b : Bool) → is_dcep ppi ≡ b
         → IsInMode (if b then reliable_mode else m) (with_reliability l.reliability_type l.reliability_value c)
-    one c h true e = record {
-      kind = h.kind ∙ kinds l.unordered true e;
-      dcep = λ _. refl;
-      other = λ f. absurd (not_both (sym (sym (ap is_dcep h.of_type ∙ e) ∙ f)));
-    }
-    one c h false e = record {
-      kind = h.kind ∙ kinds l.unordered false e ∙ has.unordered;
-      dcep = λ f. absurd (not_both (sym (ap is_dcep h.of_type ∙ e) ∙ f));
-      other = λ _. ap (λ r. Some (r, l.reliability_value)) has.reliability ∙ ap (λ v. Some (m.reliability, v)) has.value;
-    }
+    one c h2 b h4 = grind (arith, nat_tests, kinds, not_both)
 
     every-moded : (cs : List ChunkPayloadData) → Every (IsBareOf l ppi) cs
         → Every (IsNew (record { mode = mode_of_write ppi m; started = None })) (map (with_reliability l.reliability_type l.reliability_value) cs)

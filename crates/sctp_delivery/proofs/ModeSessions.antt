@@ -1,32 +1,218 @@
 -- In each session: each entry of the line is of the kind of its write, and so are the DATA chunks that were made and the messages that were read.
-use Rattle.std.proofs.Common.{◌≡◌, ℕ, suc, ◌^◌, ◌<◌, Bool, List, [], ◌∷◌, length, map, Option, Some, None, inl, inr, refl, ap, sym, subst, ◌∙◌, arith}
-use Rattle.std.specs.Prelude.{⊤, Contains, option_map, slice_index_or}
-use Rattle.std.proofs.lemmas.List.{length-map}
-use Rattle.std.proofs.lemmas.Option.{none-some}
-use Rattle.sctp_util.proofs.Cases.{some-same}
-use Rattle.sctp_data.specs.declared.chunk.chunk_payload_data.ChunkPayloadData.{ChunkPayloadData}
-use Rattle.sctp_data.specs.PayloadData.{Data}
-use Rattle.sctp_outbound.specs.outbound_queue.OutboundQueue.{Outbound, all_started, as_sent}
-use Rattle.sctp_outbound.specs.pending_queue.PendingQueue.{next_pending}
-use Rattle.sctp_receiver.specs.declared.receiver.limits.Limits.{Limits}
-use Rattle.sctp_sender.specs.Sender.{Transmission}
+use Rattle.sctp_delivery.proofs.Names.{◌≡◌, ℕ, ◌+◌, Bool, true, false, List, [], ◌∷◌, map, Option, Some, None, is_some, refl, sym, subst, arith, ◌^◌, ◌<◌}
+use Rattle.sctp_delivery.proofs.Names.{length, inl, inr, ap, ◌∙◌, not, find, if◌then◌else◌, ◌==◌, ⊤, Contains, option_map, slice_index_or, nat_tests, always}
+use Rattle.sctp_delivery.proofs.Names.{numbers_where, change_where, pieces, same-yes, some-same, negated, not_both, and, both, PayloadProtocolIdentifier}
+use Rattle.sctp_delivery.proofs.Names.{expiring_tail, message_of, Outbound, all_started, as_sent, ExpiredMessage, AbandonedMessage, Released}
+use Rattle.sctp_delivery.proofs.Names.{message_to_abandon, after_leaving, late_order, worn_order, after_expiry, after_releases, has_number, less_by, with_mode}
+use Rattle.sctp_delivery.proofs.Names.{with_reliability, with_size, wrote, Transmission, after_expire, written_to, Makes, OutboundStream, fragment_at, Mode}
+use Rattle.sctp_delivery.proofs.Names.{Modes, Sending, at_first, mode_of_write, modes_after, reliable_mode, AfterEachFitRun, modes_from, numbered_in, starting}
+use Rattle.sctp_delivery.proofs.Names.{AfterEachRunOfFewTsns, Expires, ExpiresTail, IsAccepted, MakesExactly, SenderCall, abandons, as_run, expires}
+use Rattle.sctp_delivery.proofs.Names.{expires_late, expires_rexmit, expires_tail, forwards, forwards_within, marks, opens, resends, reserves, sends, sets_low}
+use Rattle.sctp_delivery.proofs.Names.{sets_mode, sets_size, starts, takes_sack, writes, length-map, none-some, ChunkPayloadData, Data, data_of, next_pending}
+use Rattle.sctp_delivery.proofs.Names.{Limits, StandAt, ReceiverCall, Call, ReceiverFollows, RunsTo, SenderFollows, Session, at_start, of_receiver, of_sender}
+use Rattle.sctp_delivery.proofs.Names.{common_steps, distance, Message, tsns_given}
+use Rattle.std.specs.Prelude.{drop}
+use Rattle.sctp_sender.proofs.SenderStreams.{made}
+use Rattle.sctp_stream.specs.Stream.{new_stream}
+use Rattle.sctp_delivery.specs.Modes.{all_starting, with_mode_of}
+use Rattle.sctp_delivery.specs.Modes.{AreSentAsWritten, IsUnorderedAt, AreReadAsWritten, unknown}
+use Rattle.sctp_delivery.specs.Modes.{was_written_ordered}
+use Rattle.sctp_delivery.specs.SenderCalls.{misses}
+use Rattle.sctp_delivery.proofs.Every.{Every, every-changed, every-found, every-joined, every-mapped}
+use Rattle.sctp_delivery.proofs.ModeQueues.{AreModed, HasModeOf, abandoned-moded, each-moded, expired-moded, fragments-new, marked-moded, message-moded}
+use Rattle.sctp_delivery.proofs.ModeQueues.{missed-moded, resent-moded, sack-moded, sent-moded, started-moded, IsWaiting, numbered-at, numbered-more}
+use Rattle.sctp_delivery.proofs.ModeQueues.{numbered-started}
+use Rattle.sctp_delivery.proofs.Numbers.{number-is, AreSized}
+use Rattle.sctp_delivery.proofs.Writing.{accepted-stream}
+use Rattle.sctp_delivery.proofs.Changes.{expired-one}
 use Rattle.sctp_delivery.specs.Messages.{IsPart as IsPartOf}
-use Rattle.sctp_delivery.specs.Modes.{AfterEachFitRun, AreSentAsWritten, IsUnorderedAt, Mode, Modes, Sending, at_first, modes_after, modes_from, numbered_in}
-use Rattle.sctp_delivery.specs.Modes.{starting}
-use Rattle.sctp_delivery.specs.ReceiverCalls.{ReceiverCall}
 use Rattle.sctp_delivery.specs.SenderCalls as outgoing
-use Rattle.sctp_delivery.specs.SenderCalls.{SenderCall}
-use Rattle.sctp_delivery.specs.Session.{Call, ReceiverFollows, RunsTo, SenderFollows, Session, at_start, of_receiver, of_sender}
 use Rattle.sctp_delivery.proofs.Calls.{at-forgotten, forget, length-forgotten, numbered_after, sent_by}
-use Rattle.sctp_delivery.proofs.Delivered.{Holds, at-first, found-sent, receiver-step, sender-step}
+use Rattle.sctp_delivery.proofs.Delivered.{Holds, at-first, found-sent, receiver-step, sender-step, IsReadOf, next_tsn, read-in}
 use Rattle.sctp_delivery.proofs.FilledQueues.{IsFilled, filled-step}
-use Rattle.sctp_delivery.proofs.ModeCalls.{IsModed, moded-first, moded-step}
-use Rattle.sctp_delivery.proofs.ModeQueues.{AreModed, IsWaiting, numbered-at, numbered-more, numbered-started, started-moded}
-use Rattle.sctp_delivery.proofs.Numbers.{AreSized}
 use Rattle.sctp_delivery.proofs.OrderedPlaces.{AreNumbered, place-at}
 use Rattle.sctp_delivery.proofs.Senders.{IsMoreBy}
 use Rattle.sctp_delivery.proofs.Sent.{Entry, IsPart, Numbered, fragment, part-line, terminal}
 use Rattle.sctp_delivery.proofs.QueueChunks.{AllWait, peeked}
+use Rattle.sctp_delivery.proofs.OnceWritten.{apart, each-read, places, stand}
+use Rattle.sctp_delivery.proofs.OrderedMessages.{is_in_order}
+use Rattle.sctp_delivery.proofs.ReadOnce as read_once
+use Rattle.sctp_delivery.proofs.SackLaws as sacks
+use Rattle.sctp_delivery.proofs.SpreadCalls.{sender-spreads}
+use Rattle.sctp_delivery.proofs.TsnPlaces.{base}
+use Rattle.sctp_delivery.proofs.UnwrappedLaw.{in-order-of}
+use Rattle.sctp_delivery.proofs.UnwrappedSessions.{IsUnwrapped, receiver-unwrapped, sender-answered, unwrapped-first}
+
+-- # Each call of a sender, and how each stream and each chunk is sent after it
+
+-- ## Streams
+
+abbrev pub IsInModes : (ℕ → Mode) → OutboundStream → Type 0
+IsInModes f l = HasModeOf (f l.stream_identifier) l
+
+abbrev pub AreInModes : (ℕ → Mode) → List OutboundStream → Type 0
+AreInModes f ls = Every (IsInModes f) ls
+
+-- a change of a stream by which its mode stays
+record KeepsMode (g : OutboundStream → OutboundStream) : Type 0 where
+  number : (l : OutboundStream) → (g l).stream_identifier ≡ l.stream_identifier
+  unordered : (l : OutboundStream) → (g l).unordered ≡ l.unordered
+  reliability : (l : OutboundStream) → (g l).reliability_type ≡ l.reliability_type
+  value : (l : OutboundStream) → (g l).reliability_value ≡ l.reliability_value
+
+in-modes-kept : (f : ℕ → Mode) (g : OutboundStream → OutboundStream) → KeepsMode g → (l : OutboundStream) → IsInModes f l → IsInModes f (g l)
+in-modes-kept f g k l h = grind (arith, nat_tests)
+
+changed-in : (f : ℕ → Mode) (p : OutboundStream → Bool) (g : OutboundStream → OutboundStream) → KeepsMode g → (ls : List OutboundStream) → AreInModes f ls
+    → AreInModes f (change_where p g ls)
+changed-in f p g k ls h = every-changed (IsInModes f) p g (λ l _ i. in-modes-kept f g k l i) ls h
+
+less-keeps : (bytes : ℕ) → KeepsMode (less_by bytes)
+less-keeps bytes = record { number = λ l. refl; unordered = λ l. refl; reliability = λ l. refl; value = λ l. refl }
+
+released-in : (f : ℕ → Mode) (rs : List Released) (ls : List OutboundStream) → AreInModes f ls → AreInModes f (after_releases rs ls)
+released-in f [] ls h = h
+released-in f (r ∷ rs) ls h =
+    released-in f rs (change_where (has_number r.stream) (less_by r.bytes) ls) (changed-in f (has_number r.stream) (less_by r.bytes) (less-keeps r.bytes) ls h)
+
+left-in : (f : ℕ → Mode) (gs : List AbandonedMessage) (ls : List OutboundStream) → AreInModes f ls → AreInModes f (after_leaving gs ls)
+left-in f [] ls h = h
+left-in f (g ∷ gs) ls h =
+    left-in f gs (change_where (has_number g.stream) (less_by g.bytes) ls) (changed-in f (has_number g.stream) (less_by g.bytes) (less-keeps g.bytes) ls h)
+
+expiry-keeps : (unordered : Bool) (bytes : ℕ) → KeepsMode (after_expiry unordered bytes)
+expiry-keeps true bytes = record { number = λ l. refl; unordered = λ l. refl; reliability = λ l. refl; value = λ l. refl }
+expiry-keeps false bytes = record { number = λ l. refl; unordered = λ l. refl; reliability = λ l. refl; value = λ l. refl }
+
+-- the mode of another stream
+elsewhere : (s : ℕ) (mode : Mode) (f : ℕ → Mode) (l : OutboundStream) → (l.stream_identifier == s) ≡ false → IsInModes f l
+    → IsInModes (λ r. if r == s then mode else f r) l
+elsewhere s mode f l e h = subst (λ b. HasModeOf (if b then mode else f l.stream_identifier) l) (sym e) h
+
+-- a stream that was not open
+opened-in : (s : ℕ) (mode : Mode) (f : ℕ → Mode) (ls : List OutboundStream) → is_some (find (has_number s) ls) ≡ false → AreInModes f ls
+    → AreInModes (λ r. if r == s then mode else f r) ls
+opened-in s mode f [] e h = tt
+opened-in s mode f (l ∷ ls) e h = by (l.stream_identifier == s) refl e (λ g. opened-in s mode f ls g h.1)
+  where
+    by : (b : Bool) → (l.stream_identifier == s) ≡ b → is_some (if b then Some l else find (has_number s) ls) ≡ false
+        → (is_some (find (has_number s) ls) ≡ false → AreInModes (λ r. if r == s then mode else f r) ls)
+        → AreInModes (λ r. if r == s then mode else f r) (l ∷ ls)
+    by true i g ih = absurd (not_both (sym g))
+    by false i g ih = (elsewhere s mode f l i h.0, ih g)
+
+-- the stream whose mode is set
+set-in : (s : ℕ) (mode : Mode) (f : ℕ → Mode) (ls : List OutboundStream) → AreInModes f ls
+    → AreInModes (λ r. if r == s then mode else f r) (change_where (has_number s) (with_mode mode.unordered mode.reliability mode.value) ls)
+set-in s mode f [] h = tt
+set-in s mode f (l ∷ ls) h = (by (l.stream_identifier == s) refl, set-in s mode f ls h.1)
+  where
+    by : (b : Bool) → (l.stream_identifier == s) ≡ b
+        → IsInModes (λ r. if r == s then mode else f r) (if b then with_mode mode.unordered mode.reliability mode.value l else l)
+    by b h2 = grind (arith, nat_tests, elsewhere)
+
+-- ## The sender
+
+pub record IsModed (m : Modes) (t : Transmission) : Type 0 where
+  pub streams : AreInModes m.of_streams t.streams
+  pub queue : AreModed m.of_writes t.flight.queue
+
+pub moded-first : (tsn size max : ℕ) → IsModed at_first (Rattle.sctp_sender.specs.Sender.with_nothing tsn size max)
+moded-first tsn size max = grind (arith, nat_tests)
+
+module _ (m : Modes) (t : Transmission) (h : IsModed m t) where
+  -- where the call makes this of it
+  to : (k : Modes) (u v : Transmission) → u ≡ v → IsModed k v → IsModed k u
+  to k u v e i = subst (IsModed k) (sym e) i
+
+  expires-call : (now : ℕ) (x : Option ExpiredMessage) (u : Transmission) → Expires now x t u → IsModed m u
+  expires-call now None u x = to m u t (x.1.1 refl) h
+  expires-call now (Some e) u x =
+      let i = expired-one now e t u x in
+      to m u (after_expire i.0 e.bytes now t) i.2 (record {
+        streams = changed-in m.of_streams (has_number i.0.stream_identifier)
+            (after_expiry i.0.unordered e.bytes) (expiry-keeps i.0.unordered e.bytes) t.streams h.streams;
+        queue = expired-moded m.of_writes (Some i.0) t.flight.queue h.queue;
+      })
+
+  abandons-call : (o : Option ℕ) (stream bytes : ℕ) (u : Transmission) → u ≡ Rattle.sctp_sender.specs.Sender.after_abandon o stream bytes t → IsModed m u
+  abandons-call o stream bytes u e = grind (arith, nat_tests, abandoned-moded, changed-in, less-keeps)
+
+  expires-tail-call : (now : ℕ) (x : Option AbandonedMessage) (u : Transmission) → ExpiresTail now x t u → IsModed m u
+  expires-tail-call now None u x = to m u t (x.1 refl) h
+  expires-tail-call now (Some a) u x = abandons-call (message_of (expiring_tail now t.flight.queue)) a.stream a.bytes u x.0
+
+  abandons-all : (tsns : List ℕ) → IsModed m (Rattle.sctp_sender.specs.Late.after_abandoning tsns t)
+  abandons-all tsns = grind (arith, nat_tests, each-moded, left-in)
+
+  writes-call : (stream : ℕ) (ppi : PayloadProtocolIdentifier) (b : ℕ) (bs : List ℕ) (l : OutboundStream) → find (has_number stream) t.streams ≡ Some l
+      → IsModed (modes_after (writes stream ppi (b ∷ bs)) m) (written_to l stream ppi (b ∷ bs) t)
+  writes-call stream ppi b bs l found = record {
+    streams = changed-in m.of_streams (has_number stream) (wrote ppi (b ∷ bs))
+        (record { number = λ x. refl; unordered = λ x. refl; reliability = λ x. refl; value = λ x. refl }) t.streams h.streams;
+    queue = message-moded w m.of_writes (made l ppi (b ∷ bs) 0)
+        (map (with_reliability l.reliability_type l.reliability_value) (map (fragment_at l ppi (b ∷ bs)) (numbers_where always (0 + 1) later)))
+        t.flight.queue refl (fragments-new (m.of_streams stream) l ppi (b ∷ bs) mode) h.queue;
+  }
+    where
+      w : Sending
+      w = record { mode = mode_of_write ppi (m.of_streams stream); started = None }
+
+      later : ℕ
+      later = length (pieces (length bs) l.max_payload_size (drop l.max_payload_size (b ∷ bs)))
+
+      mode : HasModeOf (m.of_streams stream) l
+      mode = subst (λ s. HasModeOf (m.of_streams s) l) (number-is stream t.streams l found)
+          (every-found (IsInModes m.of_streams) (has_number stream) t.streams l found h.streams)
+
+  pub moded-step : (call : SenderCall) (u : Transmission) → Makes (as_run call) t u → MakesExactly call t u → IsAccepted call t
+      → IsModed (modes_after call m) u
+  moded-step (opens stream) u e x a = to (modes_after (opens stream) m) u _ e (record {
+    streams = every-joined (IsInModes (with_mode_of stream reliable_mode m).of_streams) t.streams
+        (new_stream stream t.fragment_size ∷ []) (opened-in stream reliable_mode m.of_streams t.streams a h.streams)
+        (fresh-mode, tt);
+    queue = h.queue;
+  })
+    where
+      fresh-mode : HasModeOf (if stream == stream then reliable_mode else m.of_streams stream)
+          (new_stream stream t.fragment_size)
+      fresh-mode = subst (λ b. HasModeOf (if b then reliable_mode else m.of_streams stream) (new_stream stream t.fragment_size))
+          (sym (same-yes stream)) (record { unordered = refl; reliability = refl; value = refl })
+  moded-step (sets_mode stream unordered reliability value) u e x a =
+      to (modes_after (sets_mode stream unordered reliability value) m) u _ e (record {
+        streams =
+            set-in stream (record { unordered = unordered; reliability = reliability; value = value }) m.of_streams t.streams h.streams;
+        queue = h.queue;
+      })
+  moded-step (writes stream ppi []) u e x a = to m u t (x.0 refl) h
+  moded-step (writes stream ppi (b ∷ bs)) u e x a =
+      let l = accepted-stream stream (length (b ∷ bs)) t a in
+      to (modes_after (writes stream ppi (b ∷ bs)) m) u (written_to l.0 stream ppi (b ∷ bs) t) (x.1 (omega arith) l.0 l.1) (writes-call stream ppi b bs l.0 l.1)
+  moded-step (starts now) u e x a =
+      to (all_starting now m) u _ e (record { streams = h.streams; queue = (started-moded now m.of_writes t.flight.queue h.queue).0 })
+  moded-step (sends now) u e x a =
+      to (all_starting now m) u _ x (record { streams = h.streams; queue = sent-moded now t.flight.next_tsn m.of_writes t.flight.queue h.queue })
+  moded-step (resends tsn now c) u e x a = to m u _ e (record { streams = h.streams; queue = resent-moded m.of_writes tsn now c t.flight h.queue })
+  moded-step (abandons tsn y) u e x a = abandons-call (message_to_abandon tsn t.flight) y.stream y.bytes u x
+  moded-step (expires now y) u e x a = expires-call now y u x
+  moded-step (expires_tail now y) u e x a = expires-tail-call now y u x
+  moded-step (expires_late now gone) u e x a = to m u _ x (abandons-all (late_order now t.flight))
+  moded-step (expires_rexmit gone) u e x a = to m u _ x (abandons-all (worn_order t.flight))
+  moded-step (forwards tsn f) u e x a = to m u t x h
+  moded-step (forwards_within bytes f) u e x a = to m u t x h
+  moded-step marks u e x a = to m u _ e (record { streams = h.streams; queue = marked-moded m.of_writes t.flight h.queue })
+  moded-step (misses count) u e x a = to m u _ e (record { streams = h.streams; queue = missed-moded m.of_writes count t.flight h.queue })
+  moded-step (sets_size size) u e x a = to m u _ e (record {
+    streams = every-mapped (IsInModes m.of_streams) (IsInModes m.of_streams) (with_size size)
+        (λ l i. in-modes-kept m.of_streams (with_size size)
+        (record { number = λ x. refl; unordered = λ x. refl; reliability = λ x. refl; value = λ x. refl }) l i) t.streams h.streams;
+    queue = h.queue;
+  })
+  moded-step (sets_low stream bytes) u e x a = grind (arith, nat_tests, changed-in)
+  moded-step (reserves count) u e x a = grind (arith, nat_tests)
+  moded-step (takes_sack sack gone) u e x a = grind (arith, nat_tests, released-in, sack-moded)
+
+-- # In each session: each entry of the line is of the kind of its write, and so are the DATA chunks that were made and the messages that were read
 
 -- ## Entries
 
@@ -67,10 +253,7 @@ keeps-more : (w : Sending) (ws : List Sending) → KeepsModes ws (w ∷ ws)
 keeps-more w ws n lt = (omega (arith, lt), ap (λ (v : Sending). v.mode) (numbered-more w ws n lt))
 
 keeps-started : (now : ℕ) (ws : List Sending) → KeepsModes ws (map (starting now) ws)
-keeps-started now ws n lt = (
-  (let l = length-map ws (starting now) in omega (arith, l, lt)),
-  ap (λ (v : Sending). v.mode) (numbered-started now ws n lt),
-)
+keeps-started now ws n lt = grind (arith, nat_tests, length-map, numbered-started)
 
 pub keeps-after : (call : SenderCall) (m : Modes) → KeepsModes m.of_writes (modes_after call m).of_writes
 keeps-after (outgoing.writes stream ppi []) m = keeps-same m.of_writes
@@ -82,11 +265,7 @@ keeps-after call m = keeps-same m.of_writes
 -- as many writes as the session has
 pub counts-after : (call : SenderCall) (m : Modes) (ns : List Numbered) → length m.of_writes ≡ length ns
     → length (modes_after call m).of_writes ≡ length (numbered_after call ns)
-counts-after (outgoing.writes stream ppi []) m ns e = e
-counts-after (outgoing.writes stream ppi (b ∷ bs)) m ns e = ap suc e
-counts-after (outgoing.starts now) m ns e = length-map m.of_writes (starting now) ∙ e
-counts-after (outgoing.sends now) m ns e = length-map m.of_writes (starting now) ∙ e
-counts-after call m ns e = e
+counts-after call m ns h4 = grind (arith, nat_tests, length-map)
 
 -- ## One call
 
@@ -133,21 +312,11 @@ said-after call old new m ns sent more f grown sized h = record {
     kept = kinds-kept m.of_writes vs (keeps-after call m) sent h.kinds
 
     by : (o : Option ChunkPayloadData) → sent_by call old.sending.sender ≡ o → IsMoreBy o sent more → AreOfKinds vs more
-    by None e (inl same) = subst (AreOfKinds vs) (sym same) kept
-    by None e (inr same) = subst (AreOfKinds vs) (sym same) kept
-    by (Some c) e g =
-        let k = sent-kind call m old.sending.sender c e h.sender in
-        subst (AreOfKinds vs) (sym g.2) (subst (λ n. IsKindOf vs n c.unordered) (sym g.3) k, kept)
+    by o h2 h3 = grind (arith, nat_tests, kept, sent-kind, vs)
 
 pub said-still : (call : ReceiverCall) (old new : Session) (m : Modes) (ns : List Numbered) (sent : List Entry) → ReceiverFollows call old new
     → IsAsSaid m old ns sent → IsAsSaid m new ns sent
-said-still call old new m ns sent f h =
-    record {
-      sender = subst (λ (s : Session). IsModed m s.sending.sender) (sym f.after) h.sender;
-      kinds = h.kinds;
-      count = h.count;
-      filled = subst (λ (s : Session). AllWait IsFilled s.sending.sender.flight.queue.pending) (sym f.after) h.filled;
-    }
+said-still call old new m ns sent f h = grind (arith, nat_tests)
 
 pub said-first : (tsn size max most : ℕ) (limits : Option Limits) → IsAsSaid at_first (at_start tsn size max most limits) [] []
 said-first tsn size max most limits = record { sender = moded-first tsn size max; kinds = tt; count = refl; filled = (tt, tt) }
@@ -193,11 +362,7 @@ module _ (m : Modes) (s : Session) (ns : List Numbered) (sent : List Entry) (h :
   -- an entry is of the kind of the write at its place
   pub kind-at : (d : Data) (w : Numbered) (after : List ℕ) (xs : List Entry) (c : Contains ns w) → IsPart (fragment d w after ∷ xs) sent
       → IsUnorderedAt m.of_writes c.0 d.unordered
-  kind-at d w after xs c p v =
-      let at = place-at ns c.0 w placed c.1 c.2 in
-      let n = h.count in
-      ap (λ (x : Sending). x.mode.unordered) (numbered-at m.of_writes c.0 w.place v (omega (arith, at, n)))
-      ∙ sym (kind-of-part m.of_writes sent d w after xs h.kinds p).1
+  kind-at d w after xs c p v = grind (arith, nat_tests, kind-of-part, numbered-at, place-at)
 
 pub sent-as-written : AfterEachFitRun AreSentAsWritten
 sent-as-written tsn size max most limits cs s small some r = (
@@ -220,3 +385,105 @@ sent-as-written tsn size max most limits cs s small some r = (
   where
     h : HasSaid tsn (modes_from at_first cs) s
     h = said-in tsn size max most limits cs s small some r
+
+-- # What was written in ordered mode is read in the order of the writes
+
+-- ## Sessions of few TSNs
+
+-- the writes and entries of a session in which what is read is in turn, where the calls say so of its writes
+pub record HasSaidOfFew (first n : ℕ) (m : Modes) (s : Session) : Type 0 where
+  pub numbered : List Numbered
+  pub sent : List Entry
+  pub unwrapped : IsUnwrapped first n s numbered sent
+  pub said : IsAsSaid m s numbered sent
+
+-- one call more
+pub said-then : (first n : ℕ) (call : SenderCall) (old new : Session) (m : Modes) → n + distance (next_tsn old) (next_tsn new) < 2 ^ 31
+    → SenderFollows call old new → HasSaidOfFew first n m old
+    → HasSaidOfFew first (n + distance (next_tsn old) (next_tsn new)) (modes_after call m) new
+said-then first n call old new m few f h =
+    let i = h.unwrapped in
+    let x = sender-spreads first n call old new h.numbered h.sent i.spread few f in
+    record {
+      numbered = numbered_after call h.numbered;
+      sent = x.more;
+      unwrapped = record {
+        spread = x.spread;
+        answered = λ st. sender-answered st first n call old new h.numbered h.sent i.spread few f x (i.answered st);
+      };
+      said = said-after call old new m h.numbered h.sent x.more f x.grown i.spread.holds.held.sized h.said;
+    }
+
+pub still-then : (first n : ℕ) (call : ReceiverCall) (old new : Session) (m : Modes) → n < 2 ^ 31 → ReceiverFollows call old new
+    → HasSaidOfFew first n m old → HasSaidOfFew first n m new
+still-then first n call old new m few f h = record {
+  numbered = h.numbered;
+  sent = h.sent;
+  unwrapped = receiver-unwrapped first n call old new h.numbered h.sent few f h.unwrapped;
+  said = said-still call old new m h.numbered h.sent f h.said;
+}
+
+-- none is given out by a call of the receiver
+pub none-given : (first n : ℕ) (call : ReceiverCall) (old new : Session) (m : Modes) → ReceiverFollows call old new → HasSaidOfFew first n m old
+    → distance (next_tsn old) (next_tsn new) ≡ 0
+none-given first n call old new m f h =
+    sacks.no-move (base first) n old new (ap (λ (s : Session). s.sending) f.after) h.unwrapped.spread.step.numbered
+
+few-run : (first n : ℕ) (cs : List Call) (old new : Session) (m : Modes) (r : RunsTo old cs new) → n + tsns_given old cs new r < 2 ^ 31
+    → HasSaidOfFew first n m old → HasSaidOfFew first (n + tsns_given old cs new r) (modes_from m cs) new
+few-run first n [] old new m r few h =
+    subst (λ k. HasSaidOfFew first k m new) {x = n} {y = n + 0} (omega arith) (subst (HasSaidOfFew first n m) (sym r) h)
+few-run first n (of_sender call ∷ cs) old new m r few h =
+    let d = distance (next_tsn old) (next_tsn r.0) in
+    let sum : (n + d) + tsns_given r.0 cs new r.1.1 ≡ n + (d + tsns_given r.0 cs new r.1.1) = omega arith in
+    subst (λ k. HasSaidOfFew first k (modes_from (modes_after call m) cs) new) sum
+    (few-run first (n + d) cs r.0 new (modes_after call m) r.1.1 (omega (arith, few)) (said-then first n call old r.0 m (omega (arith, few)) r.1.0 h))
+few-run first n (of_receiver call ∷ cs) old new m r few h =
+    let ih = few-run first n cs r.0 new m r.1.1 (omega (arith, few)) (still-then first n call old r.0 m (omega (arith, few)) r.1.0 h) in
+    grind (arith, common_steps, none-given, still-then, ih)
+
+pub few-start : (tsn size max most : ℕ) (limits : Option Limits) → tsn < 2 ^ 32 → 0 < size
+    → HasSaidOfFew tsn 0 at_first (at_start tsn size max most limits)
+few-start tsn size max most limits small some = record {
+  numbered = [];
+  sent = [];
+  unwrapped = unwrapped-first tsn size max most limits small some;
+  said = said-first tsn size max most limits;
+}
+
+pub said-of-few : (tsn size max most : ℕ) (limits : Option Limits) (cs : List Call) (s : Session) → tsn < 2 ^ 32 → 0 < size
+    → (r : RunsTo (at_start tsn size max most limits) cs s) → tsns_given (at_start tsn size max most limits) cs s r < 2 ^ 31
+    → HasSaidOfFew tsn (tsns_given (at_start tsn size max most limits) cs s r) (modes_from at_first cs) s
+said-of-few tsn size max most limits cs s small some r few =
+    let n = tsns_given (at_start tsn size max most limits) cs s r in
+    subst (λ k. HasSaidOfFew tsn k (modes_from at_first cs) s) {x = 0 + n} {y = n} (omega arith)
+    (few-run tsn 0 cs (at_start tsn size max most limits) s at_first r (omega (arith, few)) (few-start tsn size max most limits small some))
+
+-- ## The law
+
+-- a message whose write is ordered begins with an ordered fragment
+starts-ordered : (m : Modes) (s : Session) (ns : List Numbered) (sent : List Entry) → IsAsSaid m s ns sent → AreNumbered ns → (st : ℕ) (o : Message)
+    (x : IsReadOf ns sent o) → was_written_ordered m.of_writes st o x.written.0 ≡ true → (x.chunk.unordered ≡ false) × (is_in_order st o ≡ true)
+starts-ordered m s ns sent said placed st o x h =
+    let b = both (o.stream == st) (not (slice_index_or m.of_writes x.written.0 unknown).mode.unordered) h in
+    let kind = kind-at m s ns sent said placed (data_of x.chunk) x.numbered x.after x.entries x.written x.part unknown in
+    let ordered : x.chunk.unordered ≡ false = sym kind ∙ negated (slice_index_or m.of_writes x.written.0 unknown).mode.unordered b.1 in
+    grind (arith, nat_tests, and)
+
+pub read-as-written : AfterEachRunOfFewTsns AreReadAsWritten
+read-as-written tsn size max most limits cs s small some r few =
+    let m = modes_from at_first cs in
+    let u = said-of-few tsn size max most limits cs s small some r few in
+    let h = u.unwrapped.spread.holds in
+    let long = u.unwrapped.spread.long in
+    let a = read-in tsn size max most limits cs s r u.numbered u.sent (omega (arith, long, few)) h in
+    let e = each-read a.numbered a.sent a.once s.receiving.read a.each in (
+      places a.numbered a.sent a.once s.receiving.read e,
+      subst (λ ws. StandAt ws s.receiving.read (places a.numbered a.sent a.once s.receiving.read e)) a.writes
+          (stand a.numbered a.sent a.once s.receiving.read e),
+      apart a.numbered a.sent a.once s.receiving.read e (read_once.none-twice tsn size max most limits cs s r small few),
+      λ st.
+          let t = (u.unwrapped.answered st).0 in
+          in-order-of st tsn _ u.numbered u.sent few long h.held.stands.queued.line a.once a.rising a.placed
+          (was_written_ordered m.of_writes st) (starts-ordered m s u.numbered u.sent u.said h.placed st) t.k s.receiving.read e t.turns,
+    )

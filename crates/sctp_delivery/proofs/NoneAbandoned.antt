@@ -1,21 +1,11 @@
 -- In a reliable session no message is abandoned: what is said of the other messages is said of all.
-use Rattle.std.proofs.Common.{◌≡◌, ◌++◌, true, List, [], ◌∷◌, refl, ap₂}
-use Rattle.std.specs.List.{list_all}
-use Rattle.sctp_util.proofs.More.{both, not_both}
-use Rattle.sctp_sender.specs.Sender.{Transmission}
-use Rattle.sctp_delivery.specs.Abandoned.{EachOtherIsReadOnce, abandoned_by, abandoned_in}
-use Rattle.sctp_delivery.specs.Complete.{EachIsReadOnce, is_reliable, is_reliable_at_receiver, is_reliable_at_sender}
-use Rattle.sctp_delivery.specs.SenderCalls as outgoing
-use Rattle.sctp_delivery.specs.SenderCalls.{SenderCall}
-use Rattle.sctp_delivery.specs.Session.{Call, RunsTo, Session, of_receiver, of_sender}
+use Rattle.sctp_delivery.proofs.Names.{◌≡◌, ◌++◌, true, List, [], ◌∷◌, refl, ap₂, arith, list_all, nat_tests, both, not_both, Transmission, EachOtherIsReadOnce}
+use Rattle.sctp_delivery.proofs.Names.{abandoned_by, abandoned_in, is_reliable, is_reliable_at_receiver, is_reliable_at_sender, SenderCall, Call, RunsTo}
+use Rattle.sctp_delivery.proofs.Names.{Session, of_receiver, of_sender}
+use Rattle.sctp_delivery.specs.Complete.{EachIsReadOnce}
 
 none-by : (call : SenderCall) (t : Transmission) → is_reliable_at_sender call ≡ true → abandoned_by call t ≡ []
-none-by (outgoing.abandons tsn a) t r = absurd (not_both r)
-none-by (outgoing.expires now m) t r = absurd (not_both r)
-none-by (outgoing.expires_tail now m) t r = absurd (not_both r)
-none-by (outgoing.expires_late now gone) t r = absurd (not_both r)
-none-by (outgoing.expires_rexmit gone) t r = absurd (not_both r)
-none-by call t r = refl
+none-by call t h3 = grind (arith, nat_tests, not_both)
 
 pub none-in : (cs : List Call) (old new : Session) (run : RunsTo old cs new) → list_all is_reliable cs ≡ true → abandoned_in old cs new run ≡ []
 none-in [] old new run all = refl

@@ -1,36 +1,20 @@
 -- A chunk in flight is not refused where nothing is to be read on its stream.
-use Rattle.std.proofs.Common.{◌≡◌, ℕ, ◌+◌, ◌%◌, ◌^◌, ◌<◌, ◌≤◌, Bool, true, false, not, List, [], ◌∷◌, length, Some, None, inl, inr, refl, ap, sym, subst, ◌∙◌}
-use Rattle.std.proofs.Common.{arith}
-use Rattle.std.specs.Prelude.{◌⊎◌, ◌==◌, ◌&&◌, if◌then◌else◌, nat_le}
-use Rattle.std.specs.List.{list_any}
-use Rattle.std.proofs.lemmas.Bool.{cases_lt}
-use Rattle.std.proofs.lemmas.Bool.Decides.{nat_tests}
-use Rattle.std.proofs.lemmas.Option.{none-some}
-use Rattle.sctp_util.specs.Serial.{at_or_before, at_or_before16, distance16}
-use Rattle.sctp_util.proofs.Cases.{or-left, or-split}
-use Rattle.sctp_util.proofs.More.{and, both, not_both}
-use Rattle.sctp_util.proofs.Round.{tsn}
-use Rattle.sctp_util.proofs.Wraps.{at_or_before16-index}
-use Rattle.sctp_data.specs.declared.chunk.chunk_payload_data.ChunkPayloadData.{ChunkPayloadData}
-use Rattle.sctp_data.specs.ChunkSet.{ChunkSet}
-use Rattle.sctp_data.specs.PayloadData.{data_of}
-use Rattle.sctp_serial.specs.DataChunks.{has_tsn}
-use Rattle.sctp_reassembly.specs.reassembly_queue.Fragments.{is_complete}
-use Rattle.sctp_reassembly.specs.reassembly_queue.ReassemblyQueue.{Reassembly, front_readable, is_readable, message_among, message_read}
-use Rattle.sctp_receiver.specs.Receiver.{Reception}
-use Rattle.sctp_receiver.specs.Ssns.{lowest_among}
-use Rattle.sctp_delivery.specs.Session.{Session}
-use Rattle.sctp_delivery.proofs.CurrentSets.{IsCurrent, IsSome, IsWholeAt, due-index, whole-below}
+use Rattle.sctp_delivery.proofs.Names.{◌≡◌, ℕ, ◌+◌, ◌%◌, ◌^◌, ◌<◌, ◌≤◌, Bool, true, false, not, List, [], ◌∷◌, length, Some, None, inl, inr, refl, ap, sym}
+use Rattle.sctp_delivery.proofs.Names.{subst, ◌∙◌, arith, ◌⊎◌, ◌==◌, ◌&&◌, if◌then◌else◌, nat_le, list_any, cases_lt, nat_tests, none-some, at_or_before}
+use Rattle.sctp_delivery.proofs.Names.{at_or_before16, or-left, or-split, and, both, not_both, tsn, at_or_before16-index, ChunkPayloadData, ChunkSet, data_of}
+use Rattle.sctp_delivery.proofs.Names.{has_tsn, is_complete, Reassembly, front_readable, is_readable, message_read, Reception, lowest_among, Session}
+use Rattle.sctp_util.specs.Serial.{distance16}
+use Rattle.sctp_delivery.proofs.Cases.{by-test}
+use Rattle.sctp_delivery.proofs.UnwrappedHolds.{IsCurrent, IsSome, IsWholeAt, whole-below, AreDue, Came, Fits, IsOf, at-in}
 use Rattle.sctp_delivery.proofs.Every.{Every}
 use Rattle.sctp_delivery.proofs.KeptOrGone as kept
-use Rattle.sctp_delivery.proofs.MessageSets.{misses-in}
+use Rattle.sctp_delivery.proofs.MessagePlaces.{misses-in}
 use Rattle.sctp_delivery.proofs.OrderedEntries.{begins_on, begun_on, one}
 use Rattle.sctp_delivery.proofs.Sent.{Entry, Numbered, WasSent, fragment, terminal}
 use Rattle.sctp_delivery.proofs.SpreadCalls.{IsSpread}
 use Rattle.sctp_delivery.proofs.SpreadEntries.{at-here, at-more, begun_to, is_at, to-all, to-more}
 use Rattle.sctp_delivery.proofs.TakenTsns.{come}
 use Rattle.sctp_delivery.proofs.TsnPlaces.{at-or-before, base}
-use Rattle.sctp_delivery.proofs.UnwrappedHolds.{AreDue, Came, Fits, IsOf, at-in}
 use Rattle.sctp_delivery.proofs.UnwrappedReads.{AreSets, IsDue, has_place, later-none}
 use Rattle.sctp_delivery.proofs.UnwrappedSessions as sessions
 
@@ -42,19 +26,14 @@ pub begin-place : (st k i : ℕ) (sent : List Entry) → i + 1 ≤ begun_to st k
 begin-place st k i [] le = absurd (omega (arith, le))
 begin-place st k i (x ∷ xs) le = elim (cases_lt k (length (x ∷ xs))) [
   | inl lt ↦
-      let e = to-more st k x xs (omega (arith, lt)) in
-      let d = begin-place st k i xs (omega (arith, e, le)) in
-      let h = d.1 in
-      deeper d (omega (arith, h, lt))
+      let d = begin-place st k i xs (omega (arith, to-more st k x xs (omega (arith, lt)), le)) in
+      deeper d (omega (arith, lt))
   | inr ge ↦
-      let e = to-all st k (x ∷ xs) ge in
       elim (cases_lt (begun_on st xs) (i + 1)) [
-        | inl lt ↦ top x (omega (arith, e, le)) lt ge
+        | inl lt ↦ top x (omega (arith, to-all st k (x ∷ xs) ge, le)) lt ge
         | inr more ↦
-            let all = to-all st (length xs) xs (omega arith) in
-            let d = begin-place st (length xs) i xs (omega (arith, all, more)) in
-            let h = d.1 in
-            deeper (d.0, omega (arith, h, ge), d.2, d.3) (omega (arith, h))
+            let d = begin-place st (length xs) i xs (omega (arith, to-all st (length xs) xs (omega arith), more)) in
+            deeper (d.0, omega (arith, ge), d.2, d.3) (omega arith)
       ]
 ]
   where
@@ -65,21 +44,17 @@ begin-place st k i (x ∷ xs) le = elim (cases_lt k (length (x ∷ xs))) [
     top : (y : Entry) → i + 1 ≤ begun_on st (y ∷ xs) → begun_on st xs < i + 1 → length (y ∷ xs) ≤ k
         → (z : ℕ) × (z ≤ k) × (is_at st z (y ∷ xs) ≡ true) × (begun_to st z (y ∷ xs) ≡ i + 1)
     top terminal up lt ge = absurd (omega (arith, up, lt))
-    top (fragment d w after) up lt ge = by (begins_on st d) refl
-      where
-        by : (b : Bool) → begins_on st d ≡ b → (z : ℕ) × (z ≤ k) × (is_at st z (fragment d w after ∷ xs) ≡ true)
-            × (begun_to st z (fragment d w after ∷ xs) ≡ i + 1)
-        by false e = let n = ap one e in absurd (omega (arith, up, lt, n))
-        by true e =
-            let n = ap one e in
-            let c = both (d.stream_identifier == st) (d.beginning_fragment && not d.unordered) e in
-            let f = both d.beginning_fragment (not d.unordered) c.1 in
-            let all = to-all st (length (fragment d w after ∷ xs)) (fragment d w after ∷ xs) (omega arith) in (
-              length (fragment d w after ∷ xs),
-              ge,
-              at-here st (fragment d w after) xs (length (fragment d w after ∷ xs)) refl ∙ and (d.stream_identifier == st) (not d.unordered) c.0 f.1,
-              omega (arith, all, n, up, lt),
-            )
+    top (fragment d w after) up lt ge = by-test (begins_on st d)
+        (λ e.
+        let c = both (d.stream_identifier == st) (d.beginning_fragment && not d.unordered) e in
+        let f = both d.beginning_fragment (not d.unordered) c.1 in
+        let all = to-all st (length (fragment d w after ∷ xs)) (fragment d w after ∷ xs) (omega arith) in (
+          length (fragment d w after ∷ xs),
+          ge,
+          at-here st (fragment d w after) xs (length (fragment d w after ∷ xs)) refl ∙ and (d.stream_identifier == st) (not d.unordered) c.0 f.1,
+          omega (arith, all, ap one e, up, lt),
+        ))
+        (λ e. let n = ap one e in absurd (omega (arith, up, lt, n)))
 
 -- ## Sets
 
@@ -144,19 +119,10 @@ module _ (st first n : ℕ) (few : n < 2 ^ 31) (s : Session) (ns : List Numbered
       place-in = kept.place-in ns first sent i.holds.held.stands.queued.line i.holds.held.stands.queued.joined n i.long few st
 
       pub same-index : c.index ≡ due.index
-      same-index =
-          let near = sessions.near st first n s ns sent i few in
-          let covered = d.arrived.covered in
-          let least = up i.step.numbered.acked d.arrived.place d.arrived.least_is in
-          due-index p n B (Fits p st n B E M) Prior (B i.step.numbered.acked) (B n) L held c d.k d.reach due near
-          (omega (arith, covered, least)) d.most
+      same-index = grind (arith, nat_tests, up i.step.numbered.acked d.arrived.place d.arrived.least_is, sessions.near st first n s ns sent i few)
 
       pub front-none : front_readable held.next_ssn held.ordered ≡ None
-      front-none = by held.unordered none
-        where
-          by : (us : List ChunkSet) → message_among us held ≡ None → front_readable held.next_ssn held.ordered ≡ None
-          by [] e = e
-          by (u ∷ us) e = absurd (none-some u (sym e))
+      front-none = grind (arith, nat_tests)
 
       not-readable : (x : ChunkSet) (xs : List ChunkSet) → held.ordered ≡ x ∷ xs → is_complete x.chunks ≡ true → at_or_before16 x.ssn held.next_ssn ≡ true → ⊥
       not-readable x xs is whole at =
@@ -167,12 +133,10 @@ module _ (st first n : ℕ) (few : n < 2 ^ 31) (s : Session) (ns : List Numbered
       pub front-open : (x : ChunkSet) (xs : List ChunkSet) → held.ordered ≡ x ∷ xs → (a : Sets due.low (x ∷ xs)) → a.0 ≡ due.low
           → is_complete x.chunks ≡ true → ⊥
       front-open x xs is a same whole =
-          let le = due.from in
-          let close = due.near in
-          let order : nat_le a.0 due.index ≡ true = grind (arith, nat_tests, same, le) in
+          let order : nat_le a.0 due.index ≡ true = grind (arith, nat_tests, same, due.from) in
           let at : at_or_before16 x.ssn held.next_ssn ≡ true = ap (λ k. at_or_before16 k held.next_ssn) a.1.0.2
           ∙ ap (at_or_before16 (a.0 % 2 ^ 16)) due.next
-          ∙ at_or_before16-index a.0 due.index (omega (arith, same, le)) (omega (arith, same, close)) ∙ order in
+          ∙ at_or_before16-index a.0 due.index (omega (arith, same)) (omega (arith, same)) ∙ order in
           not-readable x xs is whole at
 
       -- the lowest message is the next one
@@ -183,34 +147,27 @@ module _ (st first n : ℕ) (few : n < 2 ^ 31) (s : Session) (ns : List Numbered
           near' = due.near
 
           alike : held.next_ssn ≡ due.low % 2 ^ 16 → due.low ≡ due.index
-          alike e =
-              let same : due.index % 2 ^ 16 ≡ due.low % 2 ^ 16 = sym due.next ∙ e in
-              let from = due.from in
-              omega (arith, same, from, near')
+          alike e = grind (arith, nat_tests)
 
           by : (ss : List ChunkSet) → held.ordered ≡ ss → due.low ≡ due.index
           by [] is = alike (sym (ap (lowest_among held.next_ssn) is) ∙ due.lowest)
-          by (x ∷ xs) is = at (at_or_before16 x.ssn held.next_ssn) refl
+          by (x ∷ xs) is = by-test (at_or_before16 x.ssn held.next_ssn)
+              (λ f.
+              let number : a.0 % 2 ^ 16 ≡ due.low % 2 ^ 16 =
+              sym a.1.0.2 ∙ sym (ap (lowest_among held.next_ssn) is ∙ ap (λ b. if b then x.ssn else held.next_ssn) f) ∙ due.lowest in
+              let same : a.0 ≡ due.low = omega (arith, number, a.1.0.0, a.1.0.1) in
+              elim (cases_lt due.low due.index) [
+                | inl lt ↦
+                    let whole = whole-below p n B (Fits p st n B E M) Prior (at-in p st n B E M few up) place-in c.index a.0 x a.1.1
+                    (subst (Every IsSome) is c.some).0 (subst (Every (IsWholeAt p n B c.index)) is c.whole).0
+                    (omega (arith, same, lt, same-index)) in
+                    absurd (not-readable x xs is whole f)
+                | inr ge ↦ omega (arith, ge)
+              ])
+              (λ f. alike (sym (ap (lowest_among held.next_ssn) is ∙ ap (λ b. if b then x.ssn else held.next_ssn) f) ∙ due.lowest))
             where
               a : Sets due.low (x ∷ xs)
               a = subst (Sets due.low) is due.sets
-
-              at : (b : Bool) → at_or_before16 x.ssn held.next_ssn ≡ b → due.low ≡ due.index
-              at false f = alike (sym (ap (lowest_among held.next_ssn) is ∙ ap (λ b. if b then x.ssn else held.next_ssn) f) ∙ due.lowest)
-              at true f =
-                  let number : a.0 % 2 ^ 16 ≡ due.low % 2 ^ 16 =
-                  sym a.1.0.2 ∙ sym (ap (lowest_among held.next_ssn) is ∙ ap (λ b. if b then x.ssn else held.next_ssn) f) ∙ due.lowest in
-                  let from = a.1.0.0 in
-                  let top = a.1.0.1 in
-                  let far = due.far in
-                  let same : a.0 ≡ due.low = omega (arith, number, from, top, far) in
-                  elim (cases_lt due.low due.index) [
-                    | inl lt ↦
-                        let whole = whole-below p n B (Fits p st n B E M) Prior (at-in p st n B E M few up) place-in c.index a.0 x a.1.1
-                        (subst (Every IsSome) is c.some).0 (subst (Every (IsWholeAt p n B c.index)) is c.whole).0 (omega (arith, same, lt, same-index)) in
-                        absurd (not-readable x xs is whole f)
-                    | inr ge ↦ let le = due.from in omega (arith, ge, le)
-                  ]
 
       -- a place of the lowest message, up to the cumulative TSN, is of the front set
       in-front : (z : ℕ) → z ≤ d.arrived.place → E z ≡ true → B z ≡ due.low + 1
@@ -252,11 +209,8 @@ module _ (st first n : ℕ) (few : n < 2 ^ 31) (s : Session) (ns : List Numbered
               let z = begin-place st d.arrived.place due.low sent (omega (arith, lt)) in
               let f = in-front z.0 z.1 z.2 z.3 in
               let a = subst (Sets due.low) f.2 due.sets in
-              let w = d.arrived.within in
-              let l = z.1 in
-              let b = at-in p st n B E M few up a.0 z.0 f.0.chunks (omega (arith, l, w)) a.1.1 f.3 in
-              let begun = z.3 in
-              let same : a.0 ≡ due.low = omega (arith, b, begun) in
+              let b = at-in p st n B E M few up a.0 z.0 f.0.chunks (omega arith) a.1.1 f.3 in
+              let same : a.0 ≡ due.low = omega (arith, b) in
               by f.0 f.1 f.2 a same (is_complete f.0.chunks) refl
             where
               by : (x : ChunkSet) (xs : List ChunkSet) → held.ordered ≡ x ∷ xs → (a : Sets due.low (x ∷ xs)) → a.0 ≡ due.low
@@ -270,7 +224,6 @@ module _ (st first n : ℕ) (few : n < 2 ^ 31) (s : Session) (ns : List Numbered
                   (λ c o. let b = before' c o in omega (arith, b)) (λ c o e. let b = before' c o in omega (arith, b)) x.chunks a.1.1
                   (subst (Every IsSome) is c.some).0 open' in
                   let z = sessions.missed st first n s ns sent i few d.arrived.place a.0 x.chunks w a.1.1 e in
-                  let begun = z.3 in
-                  let f = in-front z.0 z.1 z.2 (omega (arith, begun, same)) in
+                  let f = in-front z.0 z.1 z.2 (omega (arith, same)) in
                   let head : f.0 ≡ x = front-same f.0 f.1 x xs (sym f.2 ∙ is) in
                   not_both (sym z.4 ∙ subst (λ (y : ChunkSet). list_any (has_tsn (tsn p z.0)) y.chunks ≡ true) head f.3)

@@ -1,46 +1,30 @@
 -- What chunks in flight say of how often they were sent, reported missing and marked.
-use Rattle.std.proofs.Common.{◌≡◌, ℕ, zero, suc, ◌+◌, ◌-◌, ◌%◌, ◌^◌, ◌<◌, ◌≤◌, Bool, true, false, List, [], ◌∷◌, length, take, drop, refl, ap, sym, subst, ◌∙◌}
-use Rattle.std.proofs.Common.{arith, Option, Some, None}
-use Rattle.std.specs.Prelude.{if◌then◌else◌, ◌==◌, ◌&&◌, ◌||◌, min, nat_lt, slice_get, not, find, option_map}
-use Rattle.std.proofs.lemmas.Bool.{eq-eqb}
-use Rattle.std.proofs.lemmas.Bool.Decides.{nat_tests}
-use Rattle.sctp_util.specs.Lists.{change_where}
+use Rattle.sctp_delivery.proofs.Names.{◌≡◌, ℕ, zero, suc, ◌+◌, ◌-◌, ◌%◌, ◌^◌, ◌<◌, ◌≤◌, Bool, true, false, List, [], ◌∷◌, length, take, drop, refl, ap, sym}
+use Rattle.sctp_delivery.proofs.Names.{subst, ◌∙◌, arith, Option, Some, None, Result, Ok, Err, if◌then◌else◌, ◌==◌, ◌||◌, find, option_map, IfOk, IsOk, min}
+use Rattle.sctp_delivery.proofs.Names.{eq-eqb, nat_tests, change_where, same-is, or-right, fails, not_both, both, ChunkPayloadData, is_outstanding}
+use Rattle.sctp_delivery.proofs.Names.{with_retransmit, as_abandoned, as_sent, Outbound, abandoned_of, all_started, expired_of, sent_next, sent_of}
+use Rattle.sctp_delivery.proofs.Names.{terminal_chunk, with_message, expiring_tail, message_of, following_tsn, tsns, has_tsn, can_miss, count_again, missed}
+use Rattle.sctp_delivery.proofs.Names.{sent_again, after_misses, all_marked, resent_at, IsRunFrom, PayloadProtocolIdentifier, Sack, list_to_pop, next_pending}
+use Rattle.sctp_delivery.proofs.Names.{OutboundStream, Flight, after_sack, can_resend, is_outstanding_in, message_to_abandon, abandoned_each, late_order}
+use Rattle.sctp_delivery.proofs.Names.{worn_order, fragments_with_mode, tsn, Limits, Transmission, started-inflight, tsns_given, SenderCall, Call, RunsTo}
+use Rattle.sctp_delivery.proofs.Names.{SenderFollows, Session, at_start, of_receiver, of_sender, SenderRefusal}
+use Rattle.std.specs.Prelude.{not}
 use Rattle.sctp_util.specs.Serial.{distance}
-use Rattle.sctp_util.proofs.Cases.{same-is, or-right}
-use Rattle.sctp_util.proofs.More.{fails, not_both, both}
-use Rattle.sctp_data.specs.declared.chunk.chunk_payload_data.ChunkPayloadData.{ChunkPayloadData}
-use Rattle.sctp_outbound.specs.Marks.{is_outstanding, with_retransmit, as_abandoned}
-use Rattle.sctp_outbound.specs.outbound_queue.OutboundQueue.{as_sent, Outbound, abandoned_of, all_started, expired_of, sent_next, sent_of, terminal_chunk}
-use Rattle.sctp_outbound.specs.outbound_queue.OutboundQueue.{with_message, expiring_tail, message_of}
-use Rattle.sctp_serial.specs.DataChunks.{following_tsn, tsns, chunk_before, has_tsn}
-use Rattle.sctp_sender.specs.Resending.{can_miss, count_again, missed, sent_again, after_misses, all_marked, resent_at}
-use Rattle.sctp_sender.proofs.Runs.{IsRunFrom}
-use Rattle.sctp_delivery.specs.Retransmission.{Event, IsNoted, is_among, is_due, marked_all, misses_of, missing, moments, sent, sent_more, with_sent}
-use Rattle.sctp_delivery.specs.Retransmission.{AfterEachSessionWithEvents, AreNoted, events_after, events_from}
+use Rattle.sctp_delivery.specs.Retransmission.{Event, IsNoted, is_among, marked_all, missing, sent, sent_more, with_sent, AfterEachSessionWithEvents, AreNoted}
+use Rattle.sctp_delivery.specs.Retransmission.{events_after, events_from, moments}
 use Rattle.sctp_delivery.proofs.Every.{Every, every-found, every-inserted, every-joined, every-left, every-of, every-pair, every-taken, all-of-every}
-use Rattle.sctp_data.specs.declared.chunk.chunk_payload_data.PayloadProtocolIdentifier.{PayloadProtocolIdentifier}
-use Rattle.sctp_data.specs.SelectiveAck.{Sack}
-use Rattle.sctp_outbound.specs.pending_queue.PendingQueue.{list_to_pop, next_pending}
-use Rattle.sctp_stream.specs.declared.stream.StreamState.{StreamState}
-use Rattle.sctp_sender.specs.Flight.{Flight, after_sack, can_resend, is_outstanding_in, message_to_abandon}
-use Rattle.sctp_sender.specs.Late.{abandoned_each, late_order, worn_order}
-use Rattle.sctp_sender.specs.Outgoing.{fragments_with_mode}
+use Rattle.sctp_delivery.proofs.Every.{every-of-all}
 use Rattle.sctp_delivery.proofs.QueueChunks.{EachIs, abandoned, each-abandoned, each-fragment, expired, peeked, pushed, rest, sacked, started}
-use Rattle.sctp_util.proofs.Round.{tsn}
 use Rattle.sctp_outbound.specs.payload_queue.PayloadQueue as payload
-use Rattle.sctp_receiver.specs.declared.receiver.limits.Limits.{Limits}
-use Rattle.sctp_sender.specs.Sender.{Transmission}
-use Rattle.sctp_sender.proofs.Flights.{started-inflight}
-use Rattle.sctp_delivery.specs.Sacks.{tsns_given}
 use Rattle.sctp_delivery.specs.SenderCalls as outgoing
-use Rattle.sctp_delivery.specs.SenderCalls.{SenderCall}
-use Rattle.sctp_delivery.specs.Session.{Call, RunsTo, SenderFollows, Session, at_start, of_receiver, of_sender}
 use Rattle.sctp_delivery.proofs.GivenTsns.{IsNumbered, flight-given}
 use Rattle.sctp_delivery.proofs.SackLaws.{IsInStep, begin, no-move, receiver-step, sender-step}
 use Rattle.sctp_delivery.proofs.SackSteps.{flight_of}
 use Rattle.sctp_delivery.proofs.TsnPlaces.{IsGiven, base, same-place, tsn-small}
 use Rattle.sctp_delivery.proofs.Writing.{accepted-stream}
 use Rattle.sctp_delivery.proofs.Changes.{expired-one}
+
+-- # What chunks in flight say of how often they were sent, reported missing and marked
 
 -- it says so, where it is outstanding
 abbrev pub SaysSo : List Event → ChunkPayloadData → Type 0
@@ -69,65 +53,20 @@ module _ (es : List Event) (t now : ℕ) where
   same = eq-eqb t t refl
 
   pub first-sent : (c : ChunkPayloadData) → IsUnsent c → SaysSo (sent t now ∷ es) (as_sent t now c)
-  first-sent c u = λ open'.
-      let m : moments t (sent t now ∷ es) ≡ now ∷ [] = ap (λ b. if b then now ∷ [] else moments t es) same in
-      let k : misses_of t (sent t now ∷ es) ≡ 0 = ap (λ b. if b then 0 else misses_of t es) same in
-      let d : is_due t (sent t now ∷ es) ≡ false = ap (λ b. if b then false else is_due t es) same in
-      let zero-misses = u.1 in
-      record {
-        count = let e = ap length m in omega (arith, e);
-        since = sym (ap (λ ms. slice_get ms 0) m);
-        missed = omega (arith, zero-misses, k);
-        marked = u.0 ∙ sym d;
-      }
+  first-sent c u = grind (arith, nat_tests, same)
 
   pub others-sent : (c : ChunkPayloadData) → (c.tsn == t) ≡ false → SaysSo es c → SaysSo (sent t now ∷ es) c
-  others-sent c other s = λ open'.
-      let h = s open' in
-      let m : moments c.tsn (sent t now ∷ es) ≡ moments c.tsn es = ap (λ b. if b then now ∷ [] else moments c.tsn es) other in
-      let k : misses_of c.tsn (sent t now ∷ es) ≡ misses_of c.tsn es = ap (λ b. if b then 0 else misses_of c.tsn es) other in
-      let d : is_due c.tsn (sent t now ∷ es) ≡ is_due c.tsn es = ap (λ b. if b then false else is_due c.tsn es) other in
-      record {
-        count = h.count ∙ ap (λ ms. min (length ms) (2 ^ 32 - 1)) (sym m);
-        since = h.since ∙ ap (λ ms. slice_get ms 0) (sym m);
-        missed = h.missed ∙ ap (λ n. min n 3) (sym k);
-        marked = h.marked ∙ sym d;
-      }
+  others-sent c other s = grind (arith, nat_tests)
 
 -- ## Once more
 
 module _ (es : List Event) (t now : ℕ) where
   pub again-sent : (c d : ChunkPayloadData) → c.tsn ≡ t → is_outstanding c ≡ true → SaysSo es c → (d.tsn == t) ≡ true → SaysSo es d
       → SaysSo (sent_more t now ∷ es) (sent_again (count_again c) now d)
-  again-sent c d at open-one s here r = λ open'.
-      let h = s open-one in
-      let g = r open' in
-      let one : c.tsn ≡ d.tsn = at ∙ sym (same-is d.tsn t here) in
-      let m : moments d.tsn (sent_more t now ∷ es) ≡ now ∷ moments d.tsn es =
-      ap (λ b. if b then now ∷ moments d.tsn es else moments d.tsn es) here in
-      let w : is_due d.tsn (sent_more t now ∷ es) ≡ false = ap (λ b. if b then false else is_due d.tsn es) here in
-      let n = ap length m in
-      let before : c.nsent ≡ min (length (moments d.tsn es)) (2 ^ 32 - 1) =
-      h.count ∙ ap (λ u. min (length (moments u es)) (2 ^ 32 - 1)) one in
-      record {
-        count = omega (arith, before, n);
-        since = sym (ap (λ ms. slice_get ms 0) m);
-        missed = g.missed;
-        marked = sym w;
-      }
+  again-sent c d at open-one s here r = grind (arith, nat_tests, same-is)
 
   pub others-again : (d : ChunkPayloadData) → (d.tsn == t) ≡ false → SaysSo es d → SaysSo (sent_more t now ∷ es) d
-  others-again d other s = λ open'.
-      let h = s open' in
-      let m : moments d.tsn (sent_more t now ∷ es) ≡ moments d.tsn es =
-      ap (λ b. if b then now ∷ moments d.tsn es else moments d.tsn es) other in
-      let w : is_due d.tsn (sent_more t now ∷ es) ≡ is_due d.tsn es = ap (λ b. if b then false else is_due d.tsn es) other in
-      record {
-        count = h.count ∙ ap (λ ms. min (length ms) (2 ^ 32 - 1)) (sym m);
-        since = h.since ∙ ap (λ ms. slice_get ms 0) (sym m);
-        missed = h.missed;
-        marked = h.marked ∙ sym w;
-      }
+  others-again d other s = grind (arith, nat_tests)
 
 -- ## Marks
 
@@ -140,56 +79,14 @@ none-so es fs d closed s = λ open'. absurd (not_both (sym closed ∙ open'))
 -- reported missing once more
 module _ (es : List Event) (ts : List ℕ) (d : ChunkPayloadData) where
   pub once-more : is_among d.tsn ts ≡ true → can_miss d ≡ true → SaysSo es d → SaysSo (missing ts ∷ es) (missed d)
-  once-more among can s = λ open'.
-      let h = s open' in
-      let few : nat_lt d.miss_indicator 3 ≡ true = right (is_outstanding d) (nat_lt d.miss_indicator 3) can in
-      let less : d.miss_indicator < 3 = grind (arith, nat_tests, few) in
-      let n = h.missed in
-      let k : misses_of d.tsn (missing ts ∷ es) ≡ 1 + misses_of d.tsn es = ap (λ b. (if b then 1 else 0) + misses_of d.tsn es) among in
-      let is : d.miss_indicator ≡ misses_of d.tsn es = omega (arith, n, less) in
-      record {
-        count = h.count;
-        since = h.since;
-        missed = omega (arith, k, n, less);
-        marked = ap (λ m. (m == 2) || d.retransmit) is ∙ ap (λ b. (misses_of d.tsn es == 2) || b) h.marked
-            ∙ ap (λ b. (b && (misses_of d.tsn es == 2)) || is_due d.tsn es) (sym among);
-      }
-    where
-      right : (a b : Bool) → (a && b) ≡ true → b ≡ true
-      right true b e = e
-      right false b e = absurd (not_both e)
+  once-more among can s = grind (arith, nat_tests, not_both)
 
   -- more often than three times
   pub no-more : is_among d.tsn ts ≡ true → can_miss d ≡ false → SaysSo es d → SaysSo (missing ts ∷ es) d
-  no-more among cannot s = λ open'.
-      let h = s open' in
-      let many : nat_lt d.miss_indicator 3 ≡ false = ap (λ b. b && nat_lt d.miss_indicator 3) (sym open') ∙ cannot in
-      let most : 3 ≤ d.miss_indicator = grind (arith, nat_tests, many) in
-      let n = h.missed in
-      let k : misses_of d.tsn (missing ts ∷ es) ≡ 1 + misses_of d.tsn es = ap (λ b. (if b then 1 else 0) + misses_of d.tsn es) among in
-      let not-two : (misses_of d.tsn es == 2) ≡ false = fails (misses_of d.tsn es == 2)
-      (λ t. let two = same-is (misses_of d.tsn es) 2 t in omega (arith, two, n, most)) in
-      record {
-        count = h.count;
-        since = h.since;
-        missed = omega (arith, k, n, most);
-        marked = h.marked ∙ ap (λ b. b || is_due d.tsn es) (sym (ap (λ b. is_among d.tsn ts && b) not-two ∙ no (is_among d.tsn ts)));
-      }
-    where
-      no : (a : Bool) → (a && false) ≡ false
-      no true = refl
-      no false = refl
+  no-more among cannot s = grind (arith, nat_tests, same-is)
 
   pub not-missing : is_among d.tsn ts ≡ false → SaysSo es d → SaysSo (missing ts ∷ es) d
-  not-missing other s = λ open'.
-      let h = s open' in
-      let k : misses_of d.tsn (missing ts ∷ es) ≡ misses_of d.tsn es = ap (λ b. (if b then 1 else 0) + misses_of d.tsn es) other ∙ omega arith in
-      record {
-        count = h.count;
-        since = h.since;
-        missed = h.missed ∙ ap (λ n. min n 3) (sym k);
-        marked = h.marked ∙ ap (λ b. (b && (misses_of d.tsn es == 2)) || is_due d.tsn es) (sym other);
-      }
+  not-missing other s = grind (arith, nat_tests)
 
 -- ## Which chunks stand in front
 
@@ -245,11 +142,7 @@ module _ (first : ℕ) (small : first < 2 ^ 32) where
 -- each is among their TSNs
 pub among-all : (cs : List ChunkPayloadData) → Every (λ (c : ChunkPayloadData). is_among c.tsn (tsns cs) ≡ true) cs
 among-all [] = tt
-among-all (c ∷ cs) = (
-  ap (λ b. b || is_among c.tsn (tsns cs)) (eq-eqb c.tsn c.tsn refl),
-  every-of (λ x. is_among x.tsn (tsns cs) ≡ true) (λ x. is_among x.tsn (tsns (c ∷ cs)) ≡ true)
-      (λ x e. or-right (x.tsn == c.tsn) (is_among x.tsn (tsns cs)) e) cs (among-all cs),
-)
+among-all (c ∷ cs) = grind (arith, nat_tests, eq-eqb, every-of, or-right, among-all cs)
 
 -- one behind them is not
 pub among-none : (first count t : ℕ) (cs : List ChunkPayloadData) → count ≤ distance first t → Every (IsBelow first count) cs → is_among t (tsns cs) ≡ false
@@ -261,19 +154,14 @@ among-none first count t (c ∷ cs) past e =
 
 -- # What each call of a sender makes of what its chunks say of how often they were sent, reported missing and marked
 
-pub fragments-unsent : (l : StreamState) (ppi : PayloadProtocolIdentifier) (bytes : List ℕ) → Every IsUnsent (fragments_with_mode l ppi bytes)
+pub fragments-unsent : (l : OutboundStream) (ppi : PayloadProtocolIdentifier) (bytes : List ℕ) → Every IsUnsent (fragments_with_mode l ppi bytes)
 fragments-unsent l ppi bytes = each-fragment IsUnsent l ppi bytes (λ i. (refl, refl))
 
 -- ## What is found
 
 pub found-tsn : (t : ℕ) (c : ChunkPayloadData) (cs : List ChunkPayloadData) → find (has_tsn t) cs ≡ Some c → (c.tsn == t) ≡ true
 found-tsn t c [] e = cc
-found-tsn t c (d ∷ ds) e = by (has_tsn t d) refl e (found-tsn t c ds)
-  where
-    by : (b : Bool) → has_tsn t d ≡ b → (if b then Some d else find (has_tsn t) ds) ≡ Some c
-        → (find (has_tsn t) ds ≡ Some c → (c.tsn == t) ≡ true) → (c.tsn == t) ≡ true
-    by true h g rest = let same : d ≡ c = cc in subst (λ x. has_tsn t x ≡ true) same h
-    by false h g rest = rest g
+found-tsn t c (d ∷ ds) e = grind (arith, nat_tests, found-tsn t c ds)
 
 -- ## The calls
 
@@ -301,11 +189,7 @@ module _ (es : List Event) where
       let others = every-of (λ (d : ChunkPayloadData). (d.tsn == t) ≡ false × SaysSo es d) (SaysSo (sent t now ∷ es))
       (λ d h. others-sent es t now d h.0 h.1) q.inflight.chunks
       (every-pair (λ (d : ChunkPayloadData). (d.tsn == t) ≡ false) (SaysSo es) q.inflight.chunks new s.inflight) in
-      record {
-        ordered = left.0;
-        unordered = left.1;
-        inflight = every-inserted (SaysSo (sent t now ∷ es)) chunk_before (as_sent t now c) q.inflight.chunks (first-sent es t now c unsent) others;
-      }
+      grind (arith, nat_tests, every-inserted, first-sent)
 
   pub sent-so : (q : Outbound) (t now : ℕ) → IsUnused t (all_started now q) → AreSo es q
       → AreSo (with_sent now (option_map (as_sent t now) (next_pending (all_started now q).pending)) es) (sent_next q t now)
@@ -386,12 +270,7 @@ module _ (p n : ℕ) (es : List Event) (old new : Session) (few : n < 2 ^ 31) (h
       (flight_of old).queue.inflight.chunks (flight-given p n (flight_of old) h)
     where
       other : (c : ChunkPayloadData) → IsGiven p n c.tsn → (c.tsn == (flight_of old).next_tsn) ≡ false
-      other c g = fails (c.tsn == (flight_of old).next_tsn) (λ t.
-          let within = g.within in
-          let is = h.next_is in
-          let same = same-place p g.place (n + 1) (omega (arith, within, few)) (omega (arith, few))
-          (sym g.is ∙ same-is c.tsn (flight_of old).next_tsn t ∙ is) in
-          omega (arith, within, same))
+      other c h2 = grind (arith, nat_tests, same-is, same-place)
 
   to : (fs : List Event) (t : Transmission) → new.sending.sender ≡ t → AreSo fs t.flight.queue → AreSo fs (flight_of new).queue
   to fs t e a = subst (λ (u : Transmission). AreSo fs u.flight.queue) (sym e) a
@@ -457,3 +336,40 @@ law first size max most limits cs s run small few =
     let so = run-so (base first) 0 [] cs start s run (omega (arith, few)) (begin first size max most limits small)
     (record { ordered = tt; unordered = tt; inflight = tt }) in
     all-of-every (SaysSo (events_from [] start cs s run)) s.sending.sender.flight.queue.inflight.chunks so.inflight
+
+-- # What a chunk that is sent again says of how often it was
+
+-- what the chunk was, and what it answers
+abbrev Answers : ℕ → ℕ → Transmission → ChunkPayloadData → Type 0
+Answers tsn now t again =
+    (c : ChunkPayloadData) → find (has_tsn tsn) t.flight.queue.inflight.chunks ≡ Some c → again ≡ sent_again (count_again c) now c
+
+-- the chunk in flight that is sent again
+record Found (tsn now : ℕ) (t : Transmission) (again : ChunkPayloadData) : Type 0 where
+  chunk : ChunkPayloadData
+  found : find (has_tsn tsn) t.flight.queue.inflight.chunks ≡ Some chunk
+  open' : is_outstanding chunk ≡ true
+  is : again ≡ sent_again (count_again chunk) now chunk
+
+found-one : (t : Transmission) (tsn now : ℕ) (again : ChunkPayloadData) → Answers tsn now t again → can_resend tsn t.flight ≡ true → Found tsn now t again
+found-one t tsn now again a can = grind (arith, nat_tests, not_both)
+
+pub count : (t : Transmission) (tsn now : ℕ) (o : Result ChunkPayloadData SenderRefusal) → IfOk o (Answers tsn now t)
+    → (IsOk o → can_resend tsn t.flight ≡ true) → IfOk o (λ again. AfterEachSessionWithEvents (λ es s. s.sending.sender ≡ t
+    → again.nsent ≡ min (length (moments tsn es) + 1) (2 ^ 32 - 1)))
+count t tsn now (Err e) a can = tt
+count t tsn now (Ok again) a can = λ first size max most limits cs s run small few is.
+    let one = found-one t tsn now again a (can refl) in
+    let es = events first size max most limits cs s run in
+    let found = ap (λ (u : Transmission). find (has_tsn tsn) u.flight.queue.inflight.chunks) is ∙ one.found in
+    let says = every-found (SaysSo es) (has_tsn tsn) s.sending.sender.flight.queue.inflight.chunks one.chunk found
+    (every-of-all (SaysSo es) s.sending.sender.flight.queue.inflight.chunks (law first size max most limits cs s run small few)) one.open' in
+    let at : one.chunk.tsn ≡ tsn = same-is one.chunk.tsn tsn (found-tsn tsn one.chunk s.sending.sender.flight.queue.inflight.chunks found) in
+    let n = says.count ∙ ap (λ u. min (length (moments u es)) (2 ^ 32 - 1)) at in
+    let e = ap (λ (c : ChunkPayloadData). c.nsent) one.is in
+    omega (arith, n, e)
+
+pub since : (t : Transmission) (tsn now : ℕ) (o : Result ChunkPayloadData SenderRefusal) → IfOk o (Answers tsn now t)
+    → (IsOk o → can_resend tsn t.flight ≡ true) → IfOk o (λ again. again.since ≡ Some now)
+since t tsn now (Err e) a can = tt
+since t tsn now (Ok again) a can = ap (λ (c : ChunkPayloadData). c.since) (found-one t tsn now again a (can refl)).is

@@ -1,101 +1,77 @@
 -- The streams of a sender: which are open, what number the next ordered write has, and how long a fragment is.
-use Rattle.std.proofs.Common.{◌≡◌, ℕ, ◌<◌, Bool, true, false, List, [], ◌∷◌, ◌++◌, map, Some, refl, ap, sym, subst, ◌∙◌}
-use Rattle.std.specs.Prelude.{Contains, ◌==◌, ◌||◌, if◌then◌else◌}
-use Rattle.std.specs.List.{find, list_any}
-use Rattle.std.proofs.lemmas.Option.{none-some}
-use Rattle.sctp_util.specs.Lists.{change_where}
-use Rattle.sctp_util.proofs.Cases.{same-is, some-same}
-use Rattle.sctp_util.proofs.More.{fails, not_both}
-use Rattle.sctp_data.specs.declared.chunk.chunk_payload_data.PayloadProtocolIdentifier.{PayloadProtocolIdentifier}
-use Rattle.sctp_sender.specs.declared.sender.flight.Released.{Released}
-use Rattle.sctp_sender.specs.declared.sender.flight.late.AbandonedMessage.{AbandonedMessage}
-use Rattle.sctp_sender.specs.Late.{after_leaving}
-use Rattle.sctp_sender.specs.Outgoing.{after_releases, has_number, less_by, with_size}
-use Rattle.sctp_stream.specs.declared.stream.StreamState.{StreamState}
+use Rattle.sctp_delivery.proofs.Names.{◌≡◌, ℕ, ◌<◌, Bool, true, false, List, [], ◌∷◌, ◌++◌, map, Some, refl, ap, sym, subst, ◌∙◌, arith, Contains, ◌==◌, ◌||◌}
+use Rattle.sctp_delivery.proofs.Names.{if◌then◌else◌, list_any, none-some, nat_tests, change_where, same-is, some-same, not_both, Released, AbandonedMessage}
+use Rattle.sctp_delivery.proofs.Names.{after_leaving, after_releases, has_number, less_by, with_size, OutboundStream}
+use Rattle.std.specs.List.{find}
 use Rattle.sctp_stream.specs.Stream.{new_stream}
 use Rattle.sctp_delivery.proofs.Sent.{Numbered}
 use Rattle.sctp_delivery.proofs.Every.{Every, every-changed, every-contained, every-found, every-joined, every-made, every-of}
 
 -- the number of the next ordered write on a stream; 0 where it is not open
-abbrev pub number_of : ℕ → List StreamState → ℕ
+abbrev pub number_of : ℕ → List OutboundStream → ℕ
 number_of s [] = 0
 number_of s (l ∷ ls) = if l.stream_identifier == s then l.sequence_number else number_of s ls
 
 -- fragments have some bytes on each stream
-abbrev pub IsSized : StreamState → Type 0
+abbrev pub IsSized : OutboundStream → Type 0
 IsSized l = 0 < l.max_payload_size
 
-abbrev pub AreSized : List StreamState → Type 0
+abbrev pub AreSized : List OutboundStream → Type 0
 AreSized ls = Every IsSized ls
 
-abbrev pub is_there : ℕ → List StreamState → Bool
+abbrev pub is_there : ℕ → List OutboundStream → Bool
 is_there s ls = list_any (has_number s) ls
 
 -- each write is on a stream that is open
-abbrev pub AreOpen : List StreamState → List Numbered → Type 0
+abbrev pub AreOpen : List OutboundStream → List Numbered → Type 0
 AreOpen ls ws = Every (λ (w : Numbered). is_there w.stream ls ≡ true) ws
 
 -- a change of streams after which these are as they were
-pub record IsSteady (old new : List StreamState) : Type 0 where
+pub record IsSteady (old new : List OutboundStream) : Type 0 where
   pub numbers : (s : ℕ) → number_of s new ≡ number_of s old
   pub there : (s : ℕ) → is_there s old ≡ true → is_there s new ≡ true
   pub sized : AreSized old → AreSized new
 
-pub all-open : (old new : List StreamState) → ((s : ℕ) → is_there s old ≡ true → is_there s new ≡ true) → (ws : List Numbered) → AreOpen old ws → AreOpen new ws
+pub all-open : (old new : List OutboundStream) → ((s : ℕ) → is_there s old ≡ true → is_there s new ≡ true) → (ws : List Numbered) → AreOpen old ws → AreOpen new ws
 all-open old new more ws o = every-of (λ w. is_there w.stream old ≡ true) (λ w. is_there w.stream new ≡ true) (λ w i. more w.stream i) ws o
 
-pub steady-same : (ls : List StreamState) → IsSteady ls ls
+pub steady-same : (ls : List OutboundStream) → IsSteady ls ls
 steady-same ls = record { numbers = λ s. refl; there = λ s o. o; sized = λ z. z }
 
-pub steady-then : (a b c : List StreamState) → IsSteady a b → IsSteady b c → IsSteady a c
+pub steady-then : (a b c : List OutboundStream) → IsSteady a b → IsSteady b c → IsSteady a c
 steady-then a b c x y = record { numbers = λ s. y.numbers s ∙ x.numbers s; there = λ s o. y.there s (x.there s o); sized = λ z. y.sized (x.sized z) }
 
 -- ## Changes of some streams
 
-pub there-changed : (p : StreamState → Bool) (f : StreamState → StreamState) → ((l : StreamState) → (f l).stream_identifier ≡ l.stream_identifier)
-    → (s : ℕ) (ls : List StreamState) → is_there s (change_where p f ls) ≡ is_there s ls
+pub there-changed : (p : OutboundStream → Bool) (f : OutboundStream → OutboundStream) → ((l : OutboundStream) → (f l).stream_identifier ≡ l.stream_identifier)
+    → (s : ℕ) (ls : List OutboundStream) → is_there s (change_where p f ls) ≡ is_there s ls
 there-changed p f same s [] = refl
-there-changed p f same s (l ∷ ls) = by (p l) (there-changed p f same s ls)
-  where
-    by : (b : Bool) → is_there s (change_where p f ls) ≡ is_there s ls → is_there s ((if b then f l else l) ∷ change_where p f ls) ≡ is_there s (l ∷ ls)
-    by true ih = ap (λ k. (k == s) || is_there s (change_where p f ls)) (same l) ∙ ap (λ b. (l.stream_identifier == s) || b) ih
-    by false ih = ap (λ b. (l.stream_identifier == s) || b) ih
+there-changed p f same s (l ∷ ls) = grind (arith, nat_tests, there-changed p f same s ls)
 
-pub sized-changed : (p : StreamState → Bool) (f : StreamState → StreamState) → ((l : StreamState) → (f l).max_payload_size ≡ l.max_payload_size)
-    → (ls : List StreamState) → AreSized ls → AreSized (change_where p f ls)
+pub sized-changed : (p : OutboundStream → Bool) (f : OutboundStream → OutboundStream) → ((l : OutboundStream) → (f l).max_payload_size ≡ l.max_payload_size)
+    → (ls : List OutboundStream) → AreSized ls → AreSized (change_where p f ls)
 sized-changed p f same ls z = every-changed IsSized p f (λ l _ some. subst (λ n. 0 < n) (sym (same l)) some) ls z
 
-numbers-changed : (p : StreamState → Bool) (f : StreamState → StreamState) → ((l : StreamState) → (f l).stream_identifier ≡ l.stream_identifier)
-    → ((l : StreamState) → (f l).sequence_number ≡ l.sequence_number) → (s : ℕ) (ls : List StreamState) → number_of s (change_where p f ls) ≡ number_of s ls
+numbers-changed : (p : OutboundStream → Bool) (f : OutboundStream → OutboundStream) → ((l : OutboundStream) → (f l).stream_identifier ≡ l.stream_identifier)
+    → ((l : OutboundStream) → (f l).sequence_number ≡ l.sequence_number) → (s : ℕ) (ls : List OutboundStream) → number_of s (change_where p f ls) ≡ number_of s ls
 numbers-changed p f same number s [] = refl
-numbers-changed p f same number s (l ∷ ls) = by (p l) (numbers-changed p f same number s ls)
-  where
-    by : (b : Bool) → number_of s (change_where p f ls) ≡ number_of s ls → number_of s ((if b then f l else l) ∷ change_where p f ls) ≡ number_of s (l ∷ ls)
-    by true ih =
-        ap (λ k. if k == s then (f l).sequence_number else number_of s (change_where p f ls)) (same l)
-        ∙ ap (λ k. if l.stream_identifier == s then k else number_of s (change_where p f ls)) (number l)
-        ∙ ap (λ k. if l.stream_identifier == s then l.sequence_number else k) ih
-    by false ih = ap (λ k. if l.stream_identifier == s then l.sequence_number else k) ih
+numbers-changed p f same number s (l ∷ ls) = grind (arith, nat_tests, numbers-changed p f same number s ls)
 
-pub steady-changed : (p : StreamState → Bool) (f : StreamState → StreamState) → ((l : StreamState) → (f l).stream_identifier ≡ l.stream_identifier)
-    → ((l : StreamState) → (f l).sequence_number ≡ l.sequence_number) → ((l : StreamState) → (f l).max_payload_size ≡ l.max_payload_size)
-    → (ls : List StreamState) → IsSteady ls (change_where p f ls)
-steady-changed p f same number size ls = record {
-  numbers = λ s. numbers-changed p f same number s ls;
-  there = λ s o. there-changed p f same s ls ∙ o;
-  sized = sized-changed p f size ls;
-}
+pub steady-changed : (p : OutboundStream → Bool) (f : OutboundStream → OutboundStream) → ((l : OutboundStream) → (f l).stream_identifier ≡ l.stream_identifier)
+    → ((l : OutboundStream) → (f l).sequence_number ≡ l.sequence_number) → ((l : OutboundStream) → (f l).max_payload_size ≡ l.max_payload_size)
+    → (ls : List OutboundStream) → IsSteady ls (change_where p f ls)
+steady-changed p f same number size ls = grind (arith, nat_tests, numbers-changed, sized-changed, there-changed)
 
-pub steady-less : (s bytes : ℕ) (ls : List StreamState) → IsSteady ls (change_where (has_number s) (less_by bytes) ls)
+pub steady-less : (s bytes : ℕ) (ls : List OutboundStream) → IsSteady ls (change_where (has_number s) (less_by bytes) ls)
 steady-less s bytes ls = steady-changed (has_number s) (less_by bytes) (λ l. refl) (λ l. refl) (λ l. refl) ls
 
-pub steady-released : (rs : List Released) (ls : List StreamState) → IsSteady ls (after_releases rs ls)
+pub steady-released : (rs : List Released) (ls : List OutboundStream) → IsSteady ls (after_releases rs ls)
 steady-released [] ls = steady-same ls
 steady-released (r ∷ rs) ls =
     let next = change_where (has_number r.stream) (less_by r.bytes) ls in
     steady-then ls next (after_releases rs next) (steady-less r.stream r.bytes ls) (steady-released rs next)
 
-pub steady-left : (gs : List AbandonedMessage) (ls : List StreamState) → IsSteady ls (after_leaving gs ls)
+pub steady-left : (gs : List AbandonedMessage) (ls : List OutboundStream) → IsSteady ls (after_leaving gs ls)
 steady-left [] ls = steady-same ls
 steady-left (g ∷ gs) ls =
     let next = change_where (has_number g.stream) (less_by g.bytes) ls in
@@ -103,110 +79,70 @@ steady-left (g ∷ gs) ls =
 
 -- ## Sizes
 
-pub sized-all : (size : ℕ) → 0 < size → (ls : List StreamState) → AreSized (map (with_size size) ls)
+pub sized-all : (size : ℕ) → 0 < size → (ls : List OutboundStream) → AreSized (map (with_size size) ls)
 sized-all size some ls = every-made IsSized (with_size size) (λ l. some) ls
 
-pub numbers-sized : (size s : ℕ) (ls : List StreamState) → number_of s (map (with_size size) ls) ≡ number_of s ls
+pub numbers-sized : (size s : ℕ) (ls : List OutboundStream) → number_of s (map (with_size size) ls) ≡ number_of s ls
 numbers-sized size s [] = refl
 numbers-sized size s (l ∷ ls) = ap (λ k. if l.stream_identifier == s then l.sequence_number else k) (numbers-sized size s ls)
 
-pub there-sized : (size s : ℕ) (ls : List StreamState) → is_there s (map (with_size size) ls) ≡ is_there s ls
+pub there-sized : (size s : ℕ) (ls : List OutboundStream) → is_there s (map (with_size size) ls) ≡ is_there s ls
 there-sized size s [] = refl
 there-sized size s (l ∷ ls) = ap (λ b. (l.stream_identifier == s) || b) (there-sized size s ls)
 
 -- ## A new stream
 
-pub opened : (s size max : ℕ) (ppi : PayloadProtocolIdentifier) → 0 < size → (ls : List StreamState) → IsSteady ls (ls ++ new_stream s size max ppi ∷ [])
-opened s size max ppi some ls =
-    record { numbers = λ r. numbers r ls; there = λ r. there r ls; sized = λ z. every-joined IsSized ls (new_stream s size max ppi ∷ []) z (some, tt) }
+pub opened : (s size : ℕ) → 0 < size → (ls : List OutboundStream) → IsSteady ls (ls ++ new_stream s size ∷ [])
+opened s size some ls =
+    record { numbers = λ r. numbers r ls; there = λ r. there r ls; sized = λ z. every-joined IsSized ls (new_stream s size ∷ []) z (some, tt) }
   where
-    numbers : (r : ℕ) (ls : List StreamState) → number_of r (ls ++ new_stream s size max ppi ∷ []) ≡ number_of r ls
+    numbers : (r : ℕ) (ls : List OutboundStream) → number_of r (ls ++ new_stream s size ∷ []) ≡ number_of r ls
     numbers r [] = elim (s == r) as (λ b. ◌≡◌ {A = ℕ} (if b then 0 else 0) 0) [ true ↦ refl | false ↦ refl ]
     numbers r (l ∷ ls) = ap (λ k. if l.stream_identifier == r then l.sequence_number else k) (numbers r ls)
 
-    there : (r : ℕ) (ls : List StreamState) → is_there r ls ≡ true → is_there r (ls ++ new_stream s size max ppi ∷ []) ≡ true
+    there : (r : ℕ) (ls : List OutboundStream) → is_there r ls ≡ true → is_there r (ls ++ new_stream s size ∷ []) ≡ true
     there r [] o = absurd (not_both o)
-    there r (l ∷ ls) o = by (l.stream_identifier == r) o (there r ls)
-      where
-        by : (b : Bool) → (b || is_there r ls) ≡ true → (is_there r ls ≡ true → is_there r (ls ++ new_stream s size max ppi ∷ []) ≡ true)
-            → (b || is_there r (ls ++ new_stream s size max ppi ∷ [])) ≡ true
-        by true o ih = refl
-        by false o ih = ih o
+    there r (l ∷ ls) o = grind (arith, nat_tests, there r ls)
 
 -- ## One stream
 
-pub number-is : (s : ℕ) (ls : List StreamState) (l : StreamState) → find (has_number s) ls ≡ Some l → l.stream_identifier ≡ s
+pub number-is : (s : ℕ) (ls : List OutboundStream) (l : OutboundStream) → find (has_number s) ls ≡ Some l → l.stream_identifier ≡ s
 number-is s [] l e = absurd (none-some l e)
-number-is s (x ∷ xs) l e = by (x.stream_identifier == s) refl e (number-is s xs l)
-  where
-    by : (b : Bool) → (x.stream_identifier == s) ≡ b → (if b then Some x else find (has_number s) xs) ≡ Some l
-        → (find (has_number s) xs ≡ Some l → l.stream_identifier ≡ s) → l.stream_identifier ≡ s
-    by true h e ih = ap (λ (y : StreamState). y.stream_identifier) (sym (some-same e)) ∙ same-is x.stream_identifier s h
-    by false h e ih = ih e
+number-is s (x ∷ xs) l e = grind (arith, nat_tests, same-is, some-same, number-is s xs l)
 
-pub number-found : (s : ℕ) (ls : List StreamState) (l : StreamState) → find (has_number s) ls ≡ Some l → number_of s ls ≡ l.sequence_number
+pub number-found : (s : ℕ) (ls : List OutboundStream) (l : OutboundStream) → find (has_number s) ls ≡ Some l → number_of s ls ≡ l.sequence_number
 number-found s [] l e = absurd (none-some l e)
-number-found s (x ∷ xs) l e = by (x.stream_identifier == s) e (number-found s xs l)
-  where
-    by : (b : Bool) → (if b then Some x else find (has_number s) xs) ≡ Some l → (find (has_number s) xs ≡ Some l → number_of s xs ≡ l.sequence_number)
-        → (if b then x.sequence_number else number_of s xs) ≡ l.sequence_number
-    by true e ih = ap (λ (y : StreamState). y.sequence_number) (some-same e)
-    by false e ih = ih e
+number-found s (x ∷ xs) l e = grind (arith, nat_tests, some-same, number-found s xs l)
 
-pub size-found : (s : ℕ) (ls : List StreamState) (l : StreamState) → find (has_number s) ls ≡ Some l → AreSized ls → 0 < l.max_payload_size
+pub size-found : (s : ℕ) (ls : List OutboundStream) (l : OutboundStream) → find (has_number s) ls ≡ Some l → AreSized ls → 0 < l.max_payload_size
 size-found s ls l e z = every-found IsSized (has_number s) ls l e z
 
-pub there-found : (s : ℕ) (ls : List StreamState) (l : StreamState) → find (has_number s) ls ≡ Some l → is_there s ls ≡ true
+pub there-found : (s : ℕ) (ls : List OutboundStream) (l : OutboundStream) → find (has_number s) ls ≡ Some l → is_there s ls ≡ true
 there-found s [] l e = absurd (none-some l e)
-there-found s (x ∷ xs) l e = by (x.stream_identifier == s) e (there-found s xs l)
-  where
-    by : (b : Bool) → (if b then Some x else find (has_number s) xs) ≡ Some l → (find (has_number s) xs ≡ Some l → is_there s xs ≡ true)
-        → (b || is_there s xs) ≡ true
-    by true e ih = refl
-    by false e ih = ih e
+there-found s (x ∷ xs) l e = grind (arith, nat_tests, there-found s xs l)
 
-pub found-there : (s : ℕ) (ls : List StreamState) → is_there s ls ≡ true → (l : StreamState) × (find (has_number s) ls ≡ Some l)
+pub found-there : (s : ℕ) (ls : List OutboundStream) → is_there s ls ≡ true → (l : OutboundStream) × (find (has_number s) ls ≡ Some l)
 found-there s [] o = absurd (not_both o)
 found-there s (x ∷ xs) o = by (x.stream_identifier == s) o (found-there s xs)
   where
-    by : (b : Bool) → (b || is_there s xs) ≡ true → (is_there s xs ≡ true → (l : StreamState) × (find (has_number s) xs ≡ Some l))
-        → (l : StreamState) × ((if b then Some x else find (has_number s) xs) ≡ Some l)
+    by : (b : Bool) → (b || is_there s xs) ≡ true → (is_there s xs ≡ true → (l : OutboundStream) × (find (has_number s) xs ≡ Some l))
+        → (l : OutboundStream) × ((if b then Some x else find (has_number s) xs) ≡ Some l)
     by true o ih = (x, refl)
     by false o ih = ih o
 
 -- after a change of it
-pub number-changed : (s : ℕ) (f : StreamState → StreamState) → ((l : StreamState) → (f l).stream_identifier ≡ l.stream_identifier)
-    → (ls : List StreamState) (l : StreamState) → find (has_number s) ls ≡ Some l → number_of s (change_where (has_number s) f ls) ≡ (f l).sequence_number
+pub number-changed : (s : ℕ) (f : OutboundStream → OutboundStream) → ((l : OutboundStream) → (f l).stream_identifier ≡ l.stream_identifier)
+    → (ls : List OutboundStream) (l : OutboundStream) → find (has_number s) ls ≡ Some l → number_of s (change_where (has_number s) f ls) ≡ (f l).sequence_number
 number-changed s f same [] l e = absurd (none-some l e)
-number-changed s f same (x ∷ xs) l e = by (x.stream_identifier == s) refl e (number-changed s f same xs l)
-  where
-    by : (b : Bool) → (x.stream_identifier == s) ≡ b → (if b then Some x else find (has_number s) xs) ≡ Some l
-        → (find (has_number s) xs ≡ Some l → number_of s (change_where (has_number s) f xs) ≡ (f l).sequence_number)
-        → number_of s ((if b then f x else x) ∷ change_where (has_number s) f xs) ≡ (f l).sequence_number
-    by true h e ih =
-        ap (λ k. if k == s then (f x).sequence_number else number_of s (change_where (has_number s) f xs)) (same x)
-        ∙ ap (λ b. if b then (f x).sequence_number else number_of s (change_where (has_number s) f xs)) h
-        ∙ ap (λ y. (f y).sequence_number) (some-same e)
-    by false h e ih = ap (λ b. if b then x.sequence_number else number_of s (change_where (has_number s) f xs)) h ∙ ih e
+number-changed s f same (x ∷ xs) l e = grind (arith, nat_tests, some-same, number-changed s f same xs l)
 
 -- and of another one
-pub number-elsewhere : (r s : ℕ) → (r ≡ s → ⊥) → (f : StreamState → StreamState) → ((l : StreamState) → (f l).stream_identifier ≡ l.stream_identifier)
-    → (ls : List StreamState) → number_of r (change_where (has_number s) f ls) ≡ number_of r ls
+pub number-elsewhere : (r s : ℕ) → (r ≡ s → ⊥) → (f : OutboundStream → OutboundStream) → ((l : OutboundStream) → (f l).stream_identifier ≡ l.stream_identifier)
+    → (ls : List OutboundStream) → number_of r (change_where (has_number s) f ls) ≡ number_of r ls
 number-elsewhere r s differ f same [] = refl
-number-elsewhere r s differ f same (x ∷ xs) = by (x.stream_identifier == s) refl (number-elsewhere r s differ f same xs)
-  where
-    by : (b : Bool) → (x.stream_identifier == s) ≡ b → number_of r (change_where (has_number s) f xs) ≡ number_of r xs
-        → number_of r ((if b then f x else x) ∷ change_where (has_number s) f xs) ≡ number_of r (x ∷ xs)
-    by true h ih =
-        let other : (x.stream_identifier == r) ≡ false = fails (x.stream_identifier == r)
-        (λ e. differ (sym (same-is x.stream_identifier r e) ∙ same-is x.stream_identifier s h)) in
-        ap (λ k. if k == r then (f x).sequence_number else number_of r (change_where (has_number s) f xs)) (same x)
-        ∙ ap (λ b. if b then (f x).sequence_number else number_of r (change_where (has_number s) f xs)) other
-        ∙ ih
-        ∙ ap (λ b. if b then x.sequence_number else number_of r xs) (sym other)
-    by false h ih = ap (λ k. if x.stream_identifier == r then x.sequence_number else k) ih
+number-elsewhere r s differ f same (x ∷ xs) = grind (arith, nat_tests, same-is, number-elsewhere r s differ f same xs)
 
 -- ## A write among the writes
 
-pub open-of : (ls : List StreamState) (ws : List Numbered) (w : Numbered) → Contains ws w → AreOpen ls ws → is_there w.stream ls ≡ true
+pub open-of : (ls : List OutboundStream) (ws : List Numbered) (w : Numbered) → Contains ws w → AreOpen ls ws → is_there w.stream ls ≡ true
 open-of ls ws w c o = every-contained (λ v. is_there v.stream ls ≡ true) ws w c o

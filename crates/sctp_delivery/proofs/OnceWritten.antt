@@ -1,17 +1,9 @@
 -- No write is read twice: each message that was read is a write at a place of its own.
-use Rattle.std.proofs.Common.{◌≡◌, ◌≢◌, ℕ, zero, suc, ◌<◌, true, false, not, List, [], ◌∷◌, ◌++◌, length, inl, inr, ap, sym, subst, ◌∙◌, arith}
-use Rattle.std.specs.Prelude.{All, AllPairs, ◌==◌, ◌&&◌, slice_index_or}
-use Rattle.std.specs.List.{list_any}
-use Rattle.sctp_util.proofs.Cases.{negated, or-left, or-right, same-yes}
-use Rattle.sctp_util.proofs.Edits.{list_any-append, pairs_cons}
-use Rattle.sctp_util.proofs.More.{and, both, not_both}
-use Rattle.sctp_data.specs.declared.chunk.chunk_payload_data.ChunkPayloadData.{ChunkPayloadData}
-use Rattle.sctp_data.specs.PayloadData.{Data, data_of}
-use Rattle.sctp_receiver.specs.ReceiverRuns.{Message}
-use Rattle.sctp_serial.specs.DataChunks.{has_tsn}
-use Rattle.sctp_delivery.specs.Messages.{AreWritesOfTheirOwn, IsWrite, NoneIsReadTwice, StandAt, WhileFewTsns, fragments_of_all}
-use Rattle.sctp_delivery.specs.Sacks.{are_apart}
-use Rattle.sctp_delivery.specs.Session.{Session}
+use Rattle.sctp_delivery.proofs.Names.{◌≡◌, ℕ, zero, suc, ◌<◌, true, false, not, List, [], ◌∷◌, ◌++◌, length, inl, inr, ap, sym, subst, ◌∙◌, arith, All}
+use Rattle.sctp_delivery.proofs.Names.{AllPairs, ◌==◌, ◌&&◌, slice_index_or, list_any, negated, or-left, or-right, same-yes, list_any-append, pairs_cons, and}
+use Rattle.sctp_delivery.proofs.Names.{both, not_both, ChunkPayloadData, Data, data_of, Message, has_tsn, AreWritesOfTheirOwn, IsWrite, NoneIsReadTwice}
+use Rattle.sctp_delivery.proofs.Names.{StandAt, WhileFewTsns, fragments_of_all, are_apart, Session}
+use Rattle.std.proofs.Common.{◌≢◌}
 use Rattle.sctp_delivery.proofs.Begun.{AreOnce, was_begun}
 use Rattle.sctp_delivery.proofs.Calls.{at-forgotten, forgotten, length-forgotten}
 use Rattle.sctp_delivery.proofs.Delivered.{IsReadOf, IsReadSession, read-of}

@@ -1,18 +1,12 @@
 -- A message that is read next is a write: a session goes on by one call.
-use Rattle.std.proofs.Common.{◌≡◌, ℕ, ◌+◌, ◌^◌, ◌<◌, true, List, [], ◌∷◌, ◌++◌, Option, Some, None, refl, ap, sym, subst, ◌∙◌, arith, Result, Ok, Err}
-use Rattle.std.specs.Prelude.{IfOk, IfSome, IsOk, option_map}
+use Rattle.sctp_delivery.proofs.Names.{◌≡◌, ℕ, ◌+◌, ◌^◌, ◌<◌, true, List, [], ◌∷◌, ◌++◌, Option, Some, None, refl, ap, sym, subst, ◌∙◌, arith, Result, Ok, Err}
+use Rattle.sctp_delivery.proofs.Names.{IfOk, IfSome, IsOk, option_map, ChunkPayloadData, ChunkSet, Chunks, ReceiverRefusal, Reception, is_open, message_on}
+use Rattle.sctp_delivery.proofs.Names.{Message, WhileTsnsLast, tsns_given, reads, Call, Follows, ReceiverFollows, RunsTo, Session, at_start, of_receiver}
 use Rattle.sctp_util.specs.Serial.{distance}
-use Rattle.sctp_data.specs.declared.chunk.chunk_payload_data.ChunkPayloadData.{ChunkPayloadData}
-use Rattle.sctp_data.specs.ChunkSet.{ChunkSet}
-use Rattle.sctp_reassembly.specs.declared.reassembly_queue.chunks.Chunks.{Chunks}
 use Rattle.sctp_reassembly.specs.reassembly_queue.ReassemblyQueue.{at_start as start_of}
-use Rattle.sctp_receiver.specs.declared.receiver.refusal.ReceiverRefusal.{ReceiverRefusal}
-use Rattle.sctp_receiver.specs.Receiver.{Reception, after_read, is_open, message_on}
-use Rattle.sctp_receiver.specs.ReceiverRuns.{Message, with_message}
-use Rattle.sctp_delivery.specs.Messages.{IsReadIn, WhileTsnsLast}
-use Rattle.sctp_delivery.specs.Sacks.{tsns_given}
-use Rattle.sctp_delivery.specs.ReceiverCalls.{reads}
-use Rattle.sctp_delivery.specs.Session.{Call, Follows, ReceiverFollows, RunsTo, Session, at_start, of_receiver}
+use Rattle.sctp_receiver.specs.Receiver.{after_read}
+use Rattle.sctp_receiver.specs.ReceiverRuns.{with_message}
+use Rattle.sctp_delivery.specs.Messages.{IsReadIn}
 use Rattle.sctp_delivery.proofs.Delivered as delivered
 use Rattle.sctp_delivery.proofs.Delivered.{next_tsn}
 

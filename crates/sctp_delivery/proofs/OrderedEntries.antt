@@ -1,16 +1,8 @@
 -- The ordered messages of a stream that got TSNs: each has the number after that of the one before it, and they were written in this order.
-use Rattle.std.proofs.Common.{◌≡◌, ℕ, ◌+◌, ◌%◌, ◌^◌, ◌<◌, ◌≤◌, Bool, true, false, not, List, [], ◌∷◌, ◌++◌, length, map, Option, Some, None, inl, inr, refl, ap}
-use Rattle.std.proofs.Common.{sym, subst, ◌∙◌, arith}
-use Rattle.std.specs.Prelude.{⊤, ◌==◌, ◌&&◌, if◌then◌else◌}
-use Rattle.std.specs.List.{filter}
-use Rattle.sctp_util.specs.Lists.{change_where}
-use Rattle.sctp_util.proofs.Cases.{and-none, and-true}
-use Rattle.sctp_util.proofs.More.{not_both}
-use Rattle.sctp_data.specs.declared.chunk.chunk_payload_data.ChunkPayloadData.{ChunkPayloadData}
-use Rattle.sctp_data.specs.PayloadData.{Data}
-use Rattle.sctp_outbound.specs.declared.pending_queue.Selected.{Selected}
-use Rattle.sctp_outbound.specs.outbound_queue.OutboundQueue.{with_message_id}
-use Rattle.sctp_outbound.specs.pending_queue.Whole.{IsMessage}
+use Rattle.sctp_delivery.proofs.Names.{◌≡◌, ℕ, ◌+◌, ◌%◌, ◌^◌, ◌<◌, ◌≤◌, Bool, true, false, not, List, [], ◌∷◌, ◌++◌, length, map, Option, Some, None, inl, inr}
+use Rattle.sctp_delivery.proofs.Names.{refl, ap, sym, subst, ◌∙◌, arith, ⊤, ◌==◌, ◌&&◌, if◌then◌else◌, filter, nat_tests, common_steps, change_where, and-none}
+use Rattle.sctp_delivery.proofs.Names.{and-true, not_both, ChunkPayloadData, Data, Selected, with_message_id, IsMessage}
+use Rattle.sctp_delivery.proofs.Cases.{at-if}
 use Rattle.sctp_delivery.proofs.Sent.{Entry, IsPart, Numbered, fragment, terminal}
 use Rattle.sctp_delivery.proofs.Turns.{counts, inner-not}
 
@@ -66,9 +58,7 @@ begins-ordered s d k =
     ap (λ b. (d.stream_identifier == s) && (d.beginning_fragment && not b)) k ∙ ap (λ b. (d.stream_identifier == s) && b) (and-true d.beginning_fragment)
 
 pub begins-unordered : (s : ℕ) (d : Data) → d.unordered ≡ true → begins_on s d ≡ false
-begins-unordered s d k =
-    ap (λ b. (d.stream_identifier == s) && (d.beginning_fragment && not b)) k ∙ ap (λ b. (d.stream_identifier == s) && b)
-    (and-none d.beginning_fragment) ∙ and-none (d.stream_identifier == s)
+begins-unordered s d k = grind (arith, nat_tests, common_steps)
 
 pub begins-inner : (s : ℕ) (d : Data) → d.beginning_fragment ≡ false → begins_on s d ≡ false
 begins-inner s d k = ap (λ b. (d.stream_identifier == s) && (b && not d.unordered)) k ∙ and-none (d.stream_identifier == s)
@@ -153,7 +143,7 @@ under-more p q (fragment d w after ∷ xs) le u = ((λ k. let h = u.0 k in omega
 
 rises-from : (k m n : ℕ) (cs : List ChunkPayloadData) → k ≤ m → Rises m cs n → Rises k cs n
 rises-from k m n [] le r = omega (arith, le, r)
-rises-from k m n (c ∷ cs) le r = (let h = r.0 in omega (arith, h, le), r.1)
+rises-from k m n (c ∷ cs) le r = (omega (arith, le), r.1)
 
 rises-to : (m n : ℕ) (cs : List ChunkPayloadData) → Rises m cs n → Rises m cs (n + 1)
 rises-to m n [] r = omega (arith, r)
@@ -169,21 +159,16 @@ pub record KeepsPlaces (f : ChunkPayloadData → ChunkPayloadData) : Type 0 wher
 rises-changed : (p : ChunkPayloadData → Bool) (f : ChunkPayloadData → ChunkPayloadData) → KeepsPlaces f → (m n : ℕ) (cs : List ChunkPayloadData)
     → Rises m cs n → Rises m (change_where p f cs) n
 rises-changed p f keeps m n [] r = r
-rises-changed p f keeps m n (c ∷ cs) r = by (p c) (rises-changed p f keeps c.message_id n cs r.1)
-  where
-    by : (b : Bool) → Rises c.message_id (change_where p f cs) n → Rises m ((if b then f c else c) ∷ change_where p f cs) n
-    by true ih = subst (λ k. (m ≤ k) × Rises k (change_where p f cs) n) (sym (keeps.message c)) (r.0, ih)
-    by false ih = (r.0, ih)
+rises-changed p f keeps m n (c ∷ cs) r = at-if (λ z. Rises m (z ∷ change_where p f cs) n) (p c)
+    (λ e. subst (λ k. (m ≤ k) × Rises k (change_where p f cs) n) (sym (keeps.message c)) (r.0, rises-changed p f keeps c.message_id n cs r.1))
+    (λ e. (r.0, rises-changed p f keeps c.message_id n cs r.1))
 
 waiting-changed : (p : ChunkPayloadData → Bool) (f : ChunkPayloadData → ChunkPayloadData) → KeepsPlaces f → (s : ℕ) (cs : List ChunkPayloadData)
     → waiting_on s (change_where p f cs) ≡ waiting_on s cs
 waiting-changed p f keeps s [] = refl
-waiting-changed p f keeps s (c ∷ cs) = by (p c) (waiting-changed p f keeps s cs)
-  where
-    by : (b : Bool) → waiting_on s (change_where p f cs) ≡ waiting_on s cs
-        → waiting_on s ((if b then f c else c) ∷ change_where p f cs) ≡ waiting_on s (c ∷ cs)
-    by true ih = ap (λ b. one b + waiting_on s (change_where p f cs)) (keeps.begins s c) ∙ ap (λ n. one (counts s c) + n) ih
-    by false ih = ap (λ n. one (counts s c) + n) ih
+waiting-changed p f keeps s (c ∷ cs) = at-if (λ z. waiting_on s (z ∷ change_where p f cs) ≡ waiting_on s (c ∷ cs)) (p c)
+    (λ e. ap (λ b. one b + waiting_on s (change_where p f cs)) (keeps.begins s c) ∙ ap (λ n. one (counts s c) + n) (waiting-changed p f keeps s cs))
+    (λ e. ap (λ n. one (counts s c) + n) (waiting-changed p f keeps s cs))
 
 pub ranked-changed : (p : ChunkPayloadData → Bool) (f : ChunkPayloadData → ChunkPayloadData) → KeepsPlaces f
     → (ws : List Numbered) (os : List ChunkPayloadData) (sent : List Entry) → AreRanked ws os sent → AreRanked ws (change_where p f os) sent
@@ -197,19 +182,13 @@ ranked-changed p f keeps ws os sent r = record {
 
 rises-those : (p : ChunkPayloadData → Bool) (m n : ℕ) (cs : List ChunkPayloadData) → Rises m cs n → Rises m (filter p cs) n
 rises-those p m n [] r = r
-rises-those p m n (c ∷ cs) r = by (p c) (rises-those p c.message_id n cs r.1)
-  where
-    by : (b : Bool) → Rises c.message_id (filter p cs) n → Rises m (if b then c ∷ filter p cs else filter p cs) n
-    by true ih = (r.0, ih)
-    by false ih = rises-from m c.message_id n (filter p cs) r.0 ih
+rises-those p m n (c ∷ cs) r = at-if (λ z. Rises m z n) (p c)
+    (λ e. (r.0, rises-those p c.message_id n cs r.1))
+    (λ e. rises-from m c.message_id n (filter p cs) r.0 (rises-those p c.message_id n cs r.1))
 
 waiting-those : (p : ChunkPayloadData → Bool) (s : ℕ) (cs : List ChunkPayloadData) → waiting_on s (filter p cs) ≤ waiting_on s cs
 waiting-those p s [] = omega arith
-waiting-those p s (c ∷ cs) = by (p c) (waiting-those p s cs)
-  where
-    by : (b : Bool) → waiting_on s (filter p cs) ≤ waiting_on s cs → waiting_on s (if b then c ∷ filter p cs else filter p cs) ≤ waiting_on s (c ∷ cs)
-    by true ih = omega (arith, ih)
-    by false ih = omega (arith, ih)
+waiting-those p s (c ∷ cs) = grind (arith, nat_tests, common_steps, waiting-those p s cs)
 
 -- a message is gone
 pub ranked-those : (p : ChunkPayloadData → Bool) (ws : List Numbered) (os : List ChunkPayloadData) (sent : List Entry) → AreRanked ws os sent
@@ -250,9 +229,7 @@ rest-begins-none : (kind : Bool) (s n : ℕ) (cs : List ChunkPayloadData) → Is
 rest-begins-none kind s n [] m = absurd m
 rest-begins-none kind s n (c ∷ []) m = ap (λ b. one b + 0) (inner-not s (with_message_id n c) m.0)
 rest-begins-none kind s n (c ∷ d ∷ ds) m =
-    let ih = rest-begins-none kind s n (d ∷ ds) m.3 in
-    let e = ap one (inner-not s (with_message_id n c) m.0) in
-    omega (arith, ih, e)
+    omega (arith, rest-begins-none kind s n (d ∷ ds) m.3, ap one (inner-not s (with_message_id n c) m.0))
 
 one-first : (a b : Bool) → one (a && b) ≤ one a
 one-first true true = omega arith
@@ -263,9 +240,7 @@ message-begins-one : (kind : Bool) (s n : ℕ) (c : ChunkPayloadData) (cs : List
     → waiting_on s (map (with_message_id n) (c ∷ cs)) ≤ one (c.stream_identifier == s)
 message-begins-one kind s n c [] m = let h = one-first (c.stream_identifier == s) c.beginning_fragment in omega (arith, h)
 message-begins-one kind s n c (d ∷ ds) m =
-    let h = one-first (c.stream_identifier == s) c.beginning_fragment in
-    let z = rest-begins-none kind s n (d ∷ ds) m.3 in
-    omega (arith, h, z)
+    omega (arith, one-first (c.stream_identifier == s) c.beginning_fragment, rest-begins-none kind s n (d ∷ ds) m.3)
 
 pub ranked-written : (w : Numbered) (ws : List Numbered) (os : List ChunkPayloadData) (sent : List Entry) (n : ℕ) (c : ChunkPayloadData)
     (cs : List ChunkPayloadData) (kind : Bool) → n ≡ length ws → c.stream_identifier ≡ w.stream → IsMessage kind false (c ∷ cs) → AreRanked ws os sent
@@ -278,11 +253,8 @@ ranked-written w ws os sent n c cs kind same on message r = record {
       subst (Rises r.top (os ++ map (with_message_id n) (c ∷ cs))) e (rises-behind r.top n os (c ∷ cs) (subst (Rises r.top os) (sym same) r.waiting));
   rising = r.rising;
   few = λ s.
-      let e = waiting-behind s os (map (with_message_id n) (c ∷ cs)) in
-      let m = message-begins-one kind s n c cs message in
-      let k = r.few s in
       let t : one (c.stream_identifier == s) ≡ one (w.stream == s) = ap (λ (j : ℕ). one (j == s)) on in
-      omega (arith, e, m, k, t);
+      omega (arith, waiting-behind s os (map (with_message_id n) (c ∷ cs)), message-begins-one kind s n c cs message, r.few s, t);
 }
 
 -- ## A fragment is sent

@@ -1,16 +1,9 @@
 -- A message that is read next is read in order: a session goes on by one call.
-use Rattle.std.proofs.Common.{◌≡◌, ℕ, true, [], ◌∷◌, ◌++◌, Option, Some, ap, subst, ◌∙◌, arith, Result}
-use Rattle.std.specs.Prelude.{IfOk, IfSome, IsOk, option_map}
-use Rattle.sctp_data.specs.ChunkSet.{ChunkSet}
-use Rattle.sctp_reassembly.specs.declared.reassembly_queue.chunks.Chunks.{Chunks}
+use Rattle.sctp_delivery.proofs.Names.{◌≡◌, ℕ, true, [], ◌∷◌, ◌++◌, Option, Some, ap, subst, ◌∙◌, arith, Result, IfOk, IfSome, IsOk, option_map, ChunkSet}
+use Rattle.sctp_delivery.proofs.Names.{Chunks, ReceiverRefusal, Reception, is_open, message_on, WhileFewTsns, AreReadInOrder, reads, at_start, of_receiver}
 use Rattle.sctp_reassembly.specs.reassembly_queue.ReassemblyQueue.{at_start as start_of}
-use Rattle.sctp_receiver.specs.declared.receiver.refusal.ReceiverRefusal.{ReceiverRefusal}
-use Rattle.sctp_receiver.specs.Receiver.{Reception, is_open, message_on}
 use Rattle.sctp_receiver.specs.ReceiverRuns.{with_message}
-use Rattle.sctp_delivery.specs.Messages.{WhileFewTsns}
-use Rattle.sctp_delivery.specs.Order.{AreReadInOrder, IsNextIn}
-use Rattle.sctp_delivery.specs.ReceiverCalls.{reads}
-use Rattle.sctp_delivery.specs.Session.{at_start, of_receiver}
+use Rattle.sctp_delivery.specs.Order.{IsNextIn}
 use Rattle.sctp_delivery.proofs.Delivered as delivered
 use Rattle.sctp_delivery.proofs.Delivered.{next_tsn}
 use Rattle.sctp_delivery.proofs.OneRead.{answers, given-then, no-way, read_of, reads-on, run-then}

@@ -1,7 +1,5 @@
 -- The place of a write among the writes, from where it stands in their list.
-use Rattle.std.proofs.Common.{◌≡◌, ℕ, zero, suc, ◌+◌, ◌<◌, List, [], ◌∷◌, length, refl, ap, arith}
-use Rattle.std.specs.Prelude.{⊤, slice_index_or}
-use Rattle.sctp_delivery.specs.SenderCalls.{SenderCall, writes}
+use Rattle.sctp_delivery.proofs.Names.{◌≡◌, ℕ, zero, suc, ◌+◌, ◌<◌, List, [], ◌∷◌, length, refl, ap, arith, ⊤, slice_index_or, SenderCall, writes}
 use Rattle.sctp_delivery.proofs.Calls.{numbered_after}
 use Rattle.sctp_delivery.proofs.Sent.{Numbered}
 
@@ -17,5 +15,5 @@ numbered-after call ns h = h
 
 pub place-at : (ns : List Numbered) (k : ℕ) (n : Numbered) → AreNumbered ns → k < length ns → slice_index_or ns k n ≡ n → n.place + k + 1 ≡ length ns
 place-at [] k n h lt e = absurd (omega (arith, lt))
-place-at (w ∷ ws) zero n h lt e = let same = ap (λ (x : Numbered). x.place) e in let p = h.0 in omega (arith, same, p)
+place-at (w ∷ ws) zero n h lt e = let same = ap (λ (x : Numbered). x.place) e in omega (arith, same)
 place-at (w ∷ ws) (suc k) n h lt e = let ih = place-at ws k n h.1 (omega (arith, lt)) e in omega (arith, ih)

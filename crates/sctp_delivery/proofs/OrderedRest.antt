@@ -1,25 +1,15 @@
 -- The rest of a message that is partially sent has the number of what was sent of it.
-use Rattle.std.proofs.Common.{◌≡◌, ℕ, ◌+◌, Bool, true, false, not, List, [], ◌∷◌, ◌++◌, Option, Some, None, ap, sym, subst, ◌∙◌, arith, take}
-use Rattle.std.specs.Prelude.{◌==◌, ◌&&◌, ◌||◌, if◌then◌else◌}
-use Rattle.std.specs.List.{filter, list_any}
-use Rattle.std.proofs.lemmas.Option.{none-some}
-use Rattle.sctp_util.proofs.Cases.{or-left, same-yes, some-same, negated}
-use Rattle.sctp_util.proofs.More.{fails, not_both, both}
-use Rattle.sctp_data.specs.declared.chunk.chunk_payload_data.ChunkPayloadData.{ChunkPayloadData}
-use Rattle.sctp_outbound.specs.declared.pending_queue.Selected.{Selected}
-use Rattle.sctp_outbound.specs.Marks.{is_of}
-use Rattle.sctp_outbound.specs.pending_queue.PendingQueue.{Pending, last_of, last_removed}
-use Rattle.sctp_outbound.specs.pending_queue.Whole.{IsSendable, IsWhole, begun, free, partial_of, partially_sent, stage_of}
-use Rattle.sctp_outbound.proofs.lemmas.pending_queue.CompleteMessages.{none_before}
+use Rattle.sctp_delivery.proofs.Names.{◌≡◌, ℕ, ◌+◌, Bool, true, false, not, List, [], ◌∷◌, ◌++◌, Option, Some, None, ap, sym, subst, ◌∙◌, arith, take, ◌==◌}
+use Rattle.sctp_delivery.proofs.Names.{◌&&◌, ◌||◌, if◌then◌else◌, filter, list_any, none-some, nat_tests, common_steps, or-left, same-yes, some-same, negated}
+use Rattle.sctp_delivery.proofs.Names.{fails, not_both, both, ChunkPayloadData, Selected, is_of, Pending, last_of, last_removed, IsSendable, IsWhole, begun}
+use Rattle.sctp_delivery.proofs.Names.{free, partial_of, partially_sent, stage_of, none_before, ChunkForwardTsnStream, Name, ahead, is_named, is_pair_of}
+use Rattle.sctp_delivery.proofs.Names.{named_up_to, pairs_of, Flight, is_on}
+use Rattle.sctp_delivery.proofs.Cases.{at-test}
 use Rattle.sctp_delivery.proofs.Every.{Every, every-joined, every-of, every-passing, every-taken, every-all, every-both, every-tested}
 use Rattle.sctp_delivery.proofs.OrderedEntries.{AreIndexed, IsLatest, begun_on, ends_on, latest-here, IsNumberOf, number-more}
 use Rattle.sctp_delivery.proofs.Sending.{Queued}
 use Rattle.sctp_delivery.proofs.Sent.{Entry, IsLine, Numbered, fragment, terminal}
 use Rattle.sctp_delivery.proofs.Waiting.{Waits, between, inside, place_of, within}
-use Rattle.sctp_data.specs.declared.chunk.chunk_forward_tsn.ChunkForwardTsnStream.{ChunkForwardTsnStream}
-use Rattle.sctp_sender.specs.Abandonment.{Name, ahead, is_named, is_pair_of, named_up_to, pairs_of}
-use Rattle.sctp_sender.specs.Flight.{Flight}
-use Rattle.sctp_serial.specs.DataChunks.{is_on}
 use Rattle.sctp_delivery.proofs.InFlight.{AreKnown, IsKnown}
 use Rattle.sctp_delivery.proofs.SpreadEntries.{number-of}
 
@@ -36,11 +26,9 @@ last-is P (x ∷ y ∷ ys) c e h = last-is P (y ∷ ys) c e h.1
 
 none-pass : (P : ChunkPayloadData → Type 0) (p : ChunkPayloadData → Bool) (xs : List ChunkPayloadData) → list_any p xs ≡ false → Every P (filter p xs)
 none-pass P p [] e = tt
-none-pass P p (x ∷ xs) e = by (p x) e (none-pass P p xs)
-  where
-    by : (b : Bool) → (b || list_any p xs) ≡ false → (list_any p xs ≡ false → Every P (filter p xs)) → Every P (if b then x ∷ filter p xs else filter p xs)
-    by true h ih = absurd (not_both (sym h))
-    by false h ih = ih h
+none-pass P p (x ∷ xs) e = at-test (λ b. (b || list_any p xs) ≡ false → Every P (if b then x ∷ filter p xs else filter p xs)) (p x)
+    (λ e h. absurd (not_both (sym h)))
+    (λ e h. (none-pass P p xs) h) e
 
 module _ (ws : List Numbered) (kind : Bool) (n m : ℕ) (sent : List Entry) where
   rest-alike : (ssn : ℕ) (like : Bool) (v : Numbered) (left : List ℕ) (cs : List ChunkPayloadData)
@@ -54,8 +42,12 @@ module _ (ws : List Numbered) (kind : Bool) (n m : ℕ) (sent : List Entry) wher
           λ u. subst (λ s. IsLatest (begun_on s sent) c.stream_sequence_number) (sym h.2.0.stream) (own u),
           λ st. ap (λ s. (s == st) && not c.unordered) h.2.0.stream ∙ same st,
         ),
-        later c.ending_fragment w.3 h.2.1.1
-            (rest-alike c.stream_sequence_number c.unordered h.0 h.1 cs own same),
+        at-test (λ b. IsWhole kind n (if b then free (c.message_id + 1) else begun c.message_id) cs → Waits ws cs
+            (if b then between else within c.message_id c.stream_sequence_number c.unordered h.0 h.1) → Every (IsRest sent) (filter (is_of m) cs))
+            c.ending_fragment
+            (λ f x k. none-pass (IsRest sent) (is_of m) cs (none_before kind n m (free (c.message_id + 1)) cs (omega arith) x))
+            (λ e x k. (rest-alike c.stream_sequence_number c.unordered h.0 h.1 cs own same) (subst (λ j. IsWhole kind n (begun j) cs) w.0.1 x)
+            (subst (λ j. Waits ws cs (within j c.stream_sequence_number c.unordered h.0 h.1)) w.0.1 k)) w.3 h.2.1.1,
       )
     where
       own : c.unordered ≡ false → IsLatest (begun_on h.0.stream sent) c.stream_sequence_number
@@ -65,17 +57,7 @@ module _ (ws : List Numbered) (kind : Bool) (n m : ℕ) (sent : List Entry) wher
           (subst (IsLatest (begun_on v.stream sent)) (sym g.same_number) (num (sym g.same_kind ∙ u)))
 
       same : (st : ℕ) → ((h.0.stream == st) && not c.unordered) ≡ ends_on st sent
-      same st =
-          let g = h.2.1.0 in
-          ap (λ (x : Numbered). (x.stream == st) && not c.unordered) g.write ∙ ap (λ b. (v.stream == st) && not b) g.same_kind ∙ on st
-
-      later : (b : Bool) → IsWhole kind n (if b then free (c.message_id + 1) else begun c.message_id) cs
-          → Waits ws cs (if b then between else within c.message_id c.stream_sequence_number c.unordered h.0 h.1)
-          → (IsWhole kind n (begun m) cs → Waits ws cs (within m c.stream_sequence_number c.unordered h.0 h.1) → Every (IsRest sent)
-          (filter (is_of m) cs)) → Every (IsRest sent) (filter (is_of m) cs)
-      later true x k ih = none-pass (IsRest sent) (is_of m) cs (none_before kind n m (free (c.message_id + 1)) cs (let e = w.0.1 in omega (arith, e)) x)
-      later false x k ih = ih (subst (λ j. IsWhole kind n (begun j) cs) w.0.1 x)
-          (subst (λ j. Waits ws cs (within j c.stream_sequence_number c.unordered h.0 h.1)) w.0.1 k)
+      same st = grind (arith, nat_tests, common_steps, h.2.1.0)
 
 rest-from : (ws : List Numbered) (kind : Bool) (first n m : ℕ) (sent : List Entry) (cs : List ChunkPayloadData) → AreIndexed sent → IsLine ws first sent
     → IsWhole kind n (begun m) cs → Waits ws cs (inside m sent) → Every (IsRest sent) (filter (is_of m) cs)
@@ -150,11 +132,10 @@ own-pairs sent (n ∷ ns) h = (here, own-pairs sent ns later)
         (same-yes n.identifier) (h n.identifier)).0
 
     later : (s : ℕ) → AreNamed sent (filter (is_pair_of s) ns)
-    later s = by (is_pair_of s n) (h s)
-      where
-        by : (b : Bool) → AreNamed sent (if b then n ∷ filter (is_pair_of s) ns else filter (is_pair_of s) ns) → AreNamed sent (filter (is_pair_of s) ns)
-        by true k = k.1
-        by false k = k
+    later s = at-test (λ b. AreNamed sent (if b then n ∷ filter (is_pair_of s) ns else filter (is_pair_of s) ns) → AreNamed sent
+        (filter (is_pair_of s) ns)) (is_pair_of s n)
+        (λ e k. k.1)
+        (λ e k. k) (h s)
 
 pub names-known : (first : ℕ) (sent : List Entry) (ns : List ChunkForwardTsnStream) (tsn : ℕ) (f : Flight) → AreKnown first sent f.queue.inflight.chunks
     → Name ns (named_up_to tsn f) → AreNamed sent ns

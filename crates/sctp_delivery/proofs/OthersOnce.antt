@@ -1,22 +1,16 @@
 -- In the end each write is read exactly once, but for those whose messages were abandoned; in a reliable session none was.
-use Rattle.std.proofs.Common.{length, ap, arith, ◌≡◌, ◌<◌, true, subst, sym, ◌∙◌}
-use Rattle.std.specs.Prelude.{All}
-use Rattle.sctp_util.proofs.More.{both}
-use Rattle.sctp_receiver.specs.Receiver.{stream_of}
-use Rattle.sctp_delivery.specs.Abandoned.{AfterEachSessionOfMessages, AreOfWrites, EachOtherIsReadOnce, IsEachOtherReadInTheEnd, IsHeldReadOrPassed}
-use Rattle.sctp_delivery.specs.Abandoned.{OnlyTheirsAreMarked, abandoned_in}
-use Rattle.sctp_delivery.specs.Complete.{AfterEachReliableSession, IsAllReadInTheEnd, IsAllReadWhereSettled, holds_nothing, is_all_acknowledged, reads_nothing}
-use Rattle.sctp_delivery.specs.Messages.{WhileFewTsns}
-use Rattle.sctp_delivery.specs.Sacks.{was_passed}
-use Rattle.sctp_delivery.specs.Session.{at_start}
+use Rattle.sctp_delivery.proofs.Names.{length, ap, arith, ◌≡◌, ◌<◌, true, subst, sym, ◌∙◌, All, both, stream_of, EachOtherIsReadOnce, abandoned_in}
+use Rattle.sctp_delivery.proofs.Names.{AfterEachReliableSession, holds_nothing, is_all_acknowledged, reads_nothing, WhileFewTsns, was_passed, at_start}
+use Rattle.sctp_delivery.specs.Abandoned.{AfterEachSessionOfMessages, AreOfWrites, IsEachOtherReadInTheEnd, IsHeldReadOrPassed}
+use Rattle.sctp_delivery.specs.Abandoned.{OnlyTheirsAreMarked}
+use Rattle.sctp_delivery.specs.Complete.{IsAllReadInTheEnd, IsAllReadWhereSettled}
 use Rattle.sctp_delivery.proofs.AbandonedMessages.{IsMarkedGone}
 use Rattle.sctp_delivery.proofs.Calls.{length-forgotten}
-use Rattle.sctp_delivery.proofs.EachRead.{idle-of, none-held, others-once, read-whole}
+use Rattle.sctp_delivery.proofs.KeptSessions.{idle-of, none-held, others-once, read-whole, kept-in}
 use Rattle.sctp_delivery.proofs.Every.{all-of-every, every-of}
 use Rattle.sctp_delivery.proofs.HeldInTheEnd.{taken-read}
 use Rattle.sctp_delivery.proofs.Kept.{held-weighs}
 use Rattle.sctp_delivery.proofs.KeptOrGone.{IsPassedBy}
-use Rattle.sctp_delivery.proofs.KeptSessions.{kept-in}
 use Rattle.sctp_delivery.proofs.NoneAbandoned.{each-of-others, none-in}
 use Rattle.sctp_delivery.proofs.ReadOnce.{one}
 
@@ -49,9 +43,7 @@ held-read-or-passed first size max most limits cs s small some run few st =
       all-of-every (λ c. was_passed c.tsn s ≡ true) k.lost
           (every-of (IsPassedBy gone h.sent s.made) (λ c. was_passed c.tsn s ≡ true) (λ c g. g.1) k.lost k.of-gone),
       λ w.
-          let law = k.weighs w in
-          let held = held-weighs w (stream_of st s.receiving.receiver) in
-          omega (arith, law, held),
+          omega (arith, k.weighs w, held-weighs w (stream_of st s.receiving.receiver)),
     )
 
 -- where no message was abandoned, each
@@ -71,9 +63,7 @@ all-settled first size max most limits cs s run small few all some settled =
 pub of-writes : AfterEachSessionOfMessages (λ size gone s. 0 < size → AreOfWrites gone s)
 of-writes first size max most limits cs s run small few some =
     let h = kept-in first size max most limits cs s small some run few in
-    let e = ap length h.kept.unwrapped.spread.holds.writes in
-    let f = length-forgotten h.numbered in
-    let same : length h.numbered ≡ length s.written = omega (arith, e, f) in
+    let same : length h.numbered ≡ length s.written = omega (arith, ap length h.kept.unwrapped.spread.holds.writes, length-forgotten h.numbered) in
     subst (λ n. All (λ m. m < n) (abandoned_in (at_start first size max most limits) cs s run)) same
     (all-of-every (λ m. m < length h.numbered) (abandoned_in (at_start first size max most limits) cs s run) h.kept.passed.below)
 

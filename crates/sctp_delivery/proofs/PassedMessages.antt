@@ -1,12 +1,6 @@
 -- Which messages a FORWARD-TSN passes (RFC 3758 3.5): of each message that no call abandoned or let expire, the receiver took the fragments up to it.
-use Rattle.std.proofs.Common.{◌≡◌, ℕ, Bool, true, false, List, [], ◌∷◌, length}
-use Rattle.std.specs.Prelude.{⊤, ◌||◌, nat_eq}
-use Rattle.std.specs.List.{list_any}
-use Rattle.sctp_util.proofs.Round.{tsn}
-use Rattle.sctp_data.specs.ForwardTsn.{ForwardTsn}
-use Rattle.sctp_delivery.specs.Sacks.{was_taken}
-use Rattle.sctp_delivery.specs.SenderCalls.{Made, data_chunk, forward_tsn}
-use Rattle.sctp_delivery.specs.Session.{Session}
+use Rattle.sctp_delivery.proofs.Names.{◌≡◌, ℕ, Bool, true, false, List, [], ◌∷◌, length, ⊤, ◌||◌, nat_eq, list_any, tsn, ForwardTsn, was_taken, Made}
+use Rattle.sctp_delivery.proofs.Names.{data_chunk, forward_tsn, Session}
 use Rattle.sctp_delivery.proofs.Every.{Every}
 use Rattle.sctp_delivery.proofs.Sent.{Entry, IsPart, fragment, terminal}
 

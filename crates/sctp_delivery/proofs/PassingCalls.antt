@@ -1,46 +1,35 @@
 -- In each session of few TSNs: each FORWARD-TSN passes abandoned messages, and what was taken, alone (RFC 3758 3.5).
-use Rattle.std.proofs.Common.{◌≡◌, ℕ, ◌+◌, ◌<◌, ◌≤◌, ◌^◌, Bool, true, false, not, List, [], ◌∷◌, ◌++◌, length, take, Option, Some, None, inl, inr, refl, ap}
-use Rattle.std.proofs.Common.{sym, subst, ◌∙◌, arith}
-use Rattle.std.specs.Prelude.{◌||◌, if◌then◌else◌, nat_le, option_map}
-use Rattle.std.specs.List.{filter, find, list_any}
-use Rattle.std.proofs.lemmas.Bool.{cases_lt}
-use Rattle.std.proofs.lemmas.Bool.Decides.{nat_tests}
-use Rattle.std.proofs.lemmas.Option.{none-some}
-use Rattle.sctp_util.specs.Serial.{at_or_before, distance}
-use Rattle.sctp_util.proofs.Cases.{or-left, or-right, or-split, same-is, some-same}
-use Rattle.sctp_util.proofs.More.{both, not_both}
-use Rattle.sctp_util.proofs.Round.{tsn}
-use Rattle.sctp_data.specs.declared.chunk.chunk_payload_data.ChunkPayloadData.{ChunkPayloadData}
-use Rattle.sctp_data.specs.ForwardTsn.{ForwardTsn}
-use Rattle.sctp_data.specs.PayloadData.{Data}
-use Rattle.sctp_outbound.specs.pending_queue.Whole.{ends}
-use Rattle.sctp_serial.specs.DataChunks.{has_tsn}
-use Rattle.sctp_receiver.specs.declared.receiver.limits.Limits.{Limits}
-use Rattle.sctp_sender.specs.Abandonment.{ahead, can_skip_to, ends_in, is_end, last_end, skip_end}
-use Rattle.sctp_sender.specs.Flight.{Flight}
-use Rattle.sctp_sender.proofs.Lates.{found-passes}
-use Rattle.sctp_sender.proofs.Runs.{IsRunFrom}
-use Rattle.sctp_delivery.specs.Abandoned.{abandoned_by}
-use Rattle.sctp_delivery.specs.ReceiverCalls.{ReceiverCall}
-use Rattle.sctp_delivery.specs.Sacks.{passes, was_passed, was_taken}
+use Rattle.sctp_delivery.proofs.Names.{◌≡◌, ℕ, ◌+◌, ◌<◌, ◌≤◌, ◌^◌, true, not, List, [], ◌∷◌, ◌++◌, length, take, Option, Some, None, inl, inr, refl, ap, sym}
+use Rattle.sctp_delivery.proofs.Names.{subst, ◌∙◌, arith, suc, ◌||◌, if◌then◌else◌, nat_le, option_map, ◌==◌, filter, list_any, cases_lt, nat_tests, none-some}
+use Rattle.sctp_delivery.proofs.Names.{common_steps, at_or_before, distance, or-left, or-right, or-split, same-is, some-same, both, not_both, tsn}
+use Rattle.sctp_delivery.proofs.Names.{ChunkPayloadData, ForwardTsn, Data, data_of, ends, has_tsn, Limits, ahead, can_skip_to, ends_in, is_end, last_end}
+use Rattle.sctp_delivery.proofs.Names.{skip_end, Flight, found-passes, IsRunFrom, abandoned_by, ReceiverCall, passes, was_passed, was_taken, IsAccepted, Made}
+use Rattle.sctp_delivery.proofs.Names.{SenderCall, data_chunk, forward_tsn, made_after, next_chunk, with_chunk, ReceiverFollows, SenderFollows, Session}
+use Rattle.sctp_delivery.proofs.Names.{at_start}
+use Rattle.std.proofs.Common.{◌⊎◌}
+use Rattle.std.specs.List.{find}
 use Rattle.sctp_delivery.specs.SenderCalls as outgoing
-use Rattle.sctp_delivery.specs.SenderCalls.{IsAccepted, Made, SenderCall, data_chunk, forward_tsn, made_after, next_chunk, with_chunk}
-use Rattle.sctp_delivery.specs.Session.{ReceiverFollows, SenderFollows, Session, at_start}
-use Rattle.sctp_delivery.proofs.AbandonedMessages.{AreAmong, AreMarkedGone, cut-later, flight_of, gone-left, gone-right, marked-later, stays-cut, stays-marked}
-use Rattle.sctp_delivery.proofs.AbandonedMessages.{AreBegunOrGone, begun-later, stays-begun-or-gone, AreBelow, below-after, by-below}
+use Rattle.sctp_delivery.proofs.Cases.{at-test, by-test}
+use Rattle.sctp_delivery.proofs.AbandonedMessages.{AreAmong, AreMarkedGone, cut-later, flight_of, gone-left, gone-right, marked-later, stays-cut}
+use Rattle.sctp_delivery.proofs.AbandonedMessages.{stays-marked, AreBegunOrGone, begun-later, stays-begun-or-gone, AreBelow, below-after, by-below}
 use Rattle.sctp_delivery.proofs.Calls.{numbered_after}
 use Rattle.sctp_delivery.proofs.Delivered.{next_tsn}
 use Rattle.sctp_delivery.proofs.Every.{Every, every-joined, every-of, every-taken, one-of, every-found, every-tested}
 use Rattle.sctp_delivery.proofs.InFlight.{AreKnown, IsKnown}
 use Rattle.sctp_delivery.proofs.Numbers.{number_of}
-use Rattle.sctp_delivery.proofs.PassedMessages.{AreCutGone, ArePassing, AreTakenOrGone, EndsMessage, IsMadePassing, IsPassing, is_gone}
+use Rattle.sctp_delivery.proofs.PassedMessages.{AreCutGone, ArePassing, AreTakenOrGone, EndsMessage, IsMadePassing, IsPassing, is_gone, EndsGone}
 use Rattle.sctp_delivery.proofs.GivenTsns.{IsPassable, last-every, lead, passable-end, passable-skip, rest-run}
 use Rattle.sctp_delivery.proofs.Queues.{IsOnceMore}
 use Rattle.sctp_delivery.proofs.SackLaws.{more-accepted}
-use Rattle.sctp_delivery.proofs.Sent.{Entry, IsPart, Numbered, fragment, part-length, part-line, same-parts, terminal}
+use Rattle.sctp_delivery.proofs.Sent.{Entry, IsPart, Numbered, fragment, part-length, part-line, same-parts, terminal, IsLine, WasSent, part-itself}
+use Rattle.sctp_delivery.proofs.Sent.{tail-part}
 use Rattle.sctp_delivery.proofs.SpreadCalls.{IsSpread, Spreads}
-use Rattle.sctp_delivery.proofs.SpreadEntries.{IsFor, IsPlaced}
+use Rattle.sctp_delivery.proofs.SpreadEntries.{IsFor, IsPlaced, begun_to, is_at, to-part}
 use Rattle.sctp_delivery.proofs.TsnPlaces.{at-or-before, base, same-place}
+use Rattle.sctp_delivery.proofs.MessagePlaces.{IsEntryAt, is_of_stream, same-message}
+use Rattle.sctp_delivery.proofs.MessagePlaces as sets
+use Rattle.sctp_delivery.proofs.OrderedEntries.{AreJoined, ends_on}
+use Rattle.sctp_delivery.proofs.UnwrappedHolds as holds
 
 -- ## Parts
 
@@ -115,13 +104,10 @@ module _ (first n : ℕ) (s : Session) (ns : List Numbered) (sent : List Entry) 
   IsHere d w after xs = IsPart (fragment d w after ∷ xs) sent
 
   within : (d : Data) (w : Numbered) (after : List ℕ) (xs : List Entry) → IsHere d w after xs → length xs + 1 ≤ n
-  within d w after xs p = let a = part-length sent (fragment d w after ∷ xs) p in let b = i.long in omega (arith, a, b)
+  within d w after xs p = let a = part-length sent (fragment d w after ∷ xs) p in omega (arith, a)
 
   number : (d : Data) (w : Numbered) (after : List ℕ) (xs : List Entry) → IsHere d w after xs → d.tsn ≡ tsn (base first) (length xs + 1)
-  number d w after xs p =
-      let l = part-line ns first sent (fragment d w after ∷ xs) p i.holds.held.stands.queued.line in
-      let e = l.0.number in
-      omega (arith, e)
+  number d w after xs p = grind (arith, nat_tests, common_steps, part-line ns first sent (fragment d w after ∷ xs) p i.holds.held.stands.queued.line)
 
   -- what a FORWARD-TSN passes was taken, or is gone
   passed-came : (d : Data) (w : Numbered) (after : List ℕ) (xs : List Entry) → IsHere d w after xs → was_passed d.tsn s ≡ true
@@ -134,10 +120,8 @@ module _ (first n : ℕ) (s : Session) (ns : List Numbered) (sent : List Entry) 
       by (data_chunk x) h g = absurd (not_both h)
       by (forward_tsn f) h g =
           let long = part-length sent g.passed g.part in
-          let all = i.long in
-          let here = within d w after xs p in
           let order : nat_le (length xs + 1) (length g.passed) ≡ true =
-          sym (at-or-before (base first) (length xs + 1) (length g.passed) (omega (arith, here, few)) (omega (arith, long, all, few)))
+          sym (at-or-before (base first) (length xs + 1) (length g.passed) (omega (arith, within d w after xs p, few)) (omega (arith, long, few)))
           ∙ ap (λ t. at_or_before t (tsn (base first) (length g.passed))) (sym (number d w after xs p)) ∙ ap (at_or_before d.tsn) (sym g.is) ∙ h in
           let le : length xs + 1 ≤ length g.passed = grind (arith, nat_tests, order) in
           came-at gone s g.passed g.came d w after xs
@@ -149,9 +133,8 @@ module _ (first n : ℕ) (s : Session) (ns : List Numbered) (sent : List Entry) 
   acknowledged-came d w after xs p le =
       let a = i.step.settled in
       let m = i.step.numbered in
-      let total = m.total in
       let far = a.within in
-      let same : a.place ≡ m.acked = same-place (base first) a.place m.acked (omega (arith, far, few)) (omega (arith, total, few)) (sym a.is ∙ m.acked_is) in
+      let same : a.place ≡ m.acked = same-place (base first) a.place m.acked (omega (arith, far, few)) (omega (arith, few)) (sym a.is ∙ m.acked_is) in
       let known = subst (λ t. (was_taken t s || was_passed t s) ≡ true) (sym (number d w after xs p))
       (a.so_far (length xs + 1) (omega arith) (omega (arith, le, same))) in
       elim (or-split (was_taken d.tsn s) (was_passed d.tsn s) known) [
@@ -162,10 +145,7 @@ module _ (first n : ℕ) (s : Session) (ns : List Numbered) (sent : List Entry) 
   -- where nothing is in flight, each fragment
   pub all-taken-or-gone : (flight_of s).queue.inflight.chunks ≡ [] → AreTakenOrGone gone s sent
   all-taken-or-gone none = all-came gone s sent (λ d w after xs p.
-      let total = i.step.numbered.total in
-      let empty = ap length none in
-      let le = within d w after xs p in
-      acknowledged-came d w after xs p (omega (arith, total, empty, le)))
+      acknowledged-came d w after xs p (omega (arith, ap length none, within d w after xs p)))
 
 -- ## A FORWARD-TSN is made
 
@@ -177,9 +157,7 @@ module _ (first n : ℕ) (sent : List Entry) (long : length sent ≡ n) (few : n
   entry-at : (c : ChunkPayloadData) (place : ℕ) (i : IsPlaced first sent c) → c.tsn ≡ tsn (base first) place → 0 < place → place ≤ n → (ys : List Entry)
       → IsPart ys sent → length ys ≡ place → i.entry ∷ i.entries ≡ ys
   entry-at c place i is some le ys p same =
-      let number = i.number in
-      let within = part-length sent (i.entry ∷ i.entries) i.part in
-      same-parts sent (i.entry ∷ i.entries) ys i.part p (omega (arith, number, within, is, some, le, same, long, few))
+      same-parts sent (i.entry ∷ i.entries) ys i.part p (omega (arith, part-length sent (i.entry ∷ i.entries) i.part, is, some, le, same, long, few))
 
   -- what is in flight in front, up to the first that is kept, is gone
   lead-gone : (gone : List ℕ) (a : ℕ) (cs : List ChunkPayloadData) → a + length cs ≤ n → IsRunFrom (tsn (base first) (a + 1)) cs
@@ -187,7 +165,18 @@ module _ (first n : ℕ) (sent : List Entry) (long : length sent ≡ n) (few : n
       → IsPart (fragment d w after ∷ xs) sent → a < length xs + 1 → length xs + 1 ≤ a + lead cs → is_gone gone w.place ≡ true
   lead-gone gone a [] total run placed marked d w after xs p lt le = absurd (omega (arith, lt, le))
   lead-gone gone a (c ∷ cs) total run placed marked d w after xs p lt le =
-      by c.abandoned refl (lead-gone gone (a + 1) cs (omega (arith, total)) r.1 placed.1 marked.1 d w after xs p)
+      by-test c.abandoned
+      (λ e. elim (cases_lt (a + 1) (length xs + 1)) [
+        | inl up ↦
+            let more = ap (λ b. if not b then 0 else lead cs + 1) e in
+            (lead-gone gone (a + 1) cs (omega (arith, total)) r.1 placed.1 marked.1 d w after xs p) up (omega (arith, more, le))
+        | inr ge ↦
+            let i = placed.0 in
+            let same = entry-at c (a + 1) i r.0 (omega arith) (omega (arith, total)) (fragment d w after ∷ xs) p (omega (arith, lt, ge)) in
+            ap (is_gone gone) (own i.entry i.entries i.for' same) ∙ marked.0 e
+      ])
+      (λ e.
+      absurd (omega (arith, ap (λ b. if not b then 0 else lead cs + 1) e, lt, le)))
     where
       r : (c.tsn ≡ tsn (base first) (a + 1)) × IsRunFrom (tsn (base first) (a + 1 + 1)) cs
       r = rest-run (base first) a c cs run
@@ -195,21 +184,6 @@ module _ (first n : ℕ) (sent : List Entry) (long : length sent ≡ n) (few : n
       own : (x : Entry) (ys : List Entry) → IsFor c x → x ∷ ys ≡ fragment d w after ∷ xs → w.place ≡ c.message_id
       own terminal ys f e = cc
       own (fragment e v rest) ys f same = let it : v ≡ w = cc in ap (λ (u : Numbered). u.place) (sym it) ∙ f.0
-
-      by : (b : Bool) → c.abandoned ≡ b → (a + 1 < length xs + 1 → length xs + 1 ≤ a + 1 + lead cs → is_gone gone w.place ≡ true)
-          → is_gone gone w.place ≡ true
-      by false e ih =
-          let none = ap (λ b. if not b then 0 else lead cs + 1) e in
-          absurd (omega (arith, none, lt, le))
-      by true e ih = elim (cases_lt (a + 1) (length xs + 1)) [
-        | inl up ↦
-            let more = ap (λ b. if not b then 0 else lead cs + 1) e in
-            ih up (omega (arith, more, le))
-        | inr ge ↦
-            let i = placed.0 in
-            let same = entry-at c (a + 1) i r.0 (omega arith) (omega (arith, total)) (fragment d w after ∷ xs) p (omega (arith, lt, ge)) in
-            ap (is_gone gone) (own i.entry i.entries i.for' same) ∙ marked.0 e
-      ]
 
 -- a chunk in flight has the TSN, and ends its message
 record EndsThere (first : ℕ) (sent : List Entry) (t : ℕ) : Type 0 where
@@ -233,7 +207,10 @@ ends-end first sent t f e known = by (find (has_tsn t) f.queue.inflight.chunks) 
 
 ends-skip : (first : ℕ) (sent : List Entry) (t u : ℕ) (f : Flight) → Some u ≡ skip_end t f → AreKnown first sent f.queue.inflight.chunks
     → EndsThere first sent u
-ends-skip first sent t u f is known = by (can_skip_to t f) is
+ends-skip first sent t u f is known = at-test (λ b. Some u ≡ (if b then option_map (λ (c : ChunkPayloadData). c.tsn) (last_end t f) else None) →
+    EndsThere first sent u) (can_skip_to t f)
+    (λ e i. found (last_end t f) refl i)
+    (λ e i. absurd (none-some u (sym i))) is
   where
     front : List ChunkPayloadData
     front = take (ahead f t) f.queue.inflight.chunks
@@ -248,10 +225,6 @@ ends-skip first sent t u f is known = by (can_skip_to t f) is
     found (Some c) e i =
         let x = last-every (λ (d : ChunkPayloadData). IsPlaced first sent d × (ends d ≡ true)) (filter ends front) c e each in
         record { chunk = c; is = sym (some-same i); ends' = x.1; placed = x.0 }
-
-    by : (b : Bool) → Some u ≡ (if b then option_map (λ (c : ChunkPayloadData). c.tsn) (last_end t f) else None) → EndsThere first sent u
-    by true i = found (last_end t f) refl i
-    by false i = absurd (none-some u (sym i))
 
 module _ (first n : ℕ) (s : Session) (ns : List Numbered) (sent : List Entry) (gone : List ℕ) (i : IsSpread first n s ns sent) (few : n < 2 ^ 31)
     (passing : ArePassing (base first) gone s sent) (marked : AreMarkedGone gone (flight_of s).queue.inflight.chunks) where
@@ -270,7 +243,7 @@ module _ (first n : ℕ) (s : Session) (ns : List Numbered) (sent : List Entry) 
         is = given.is ∙ ap (tsn (base first)) (sym part.2);
         ends = subst EndsMessage same (at end.chunk end.placed.entry end.placed.entries end.placed.for' end.ends');
         came = all-came gone s part.0 (λ d w after xs p. here d w after xs (in-all part.0 part.1 d w after xs p)
-            (let m = part-length part.0 (fragment d w after ∷ xs) p in let k = part.2 in omega (arith, m, k)));
+            (let m = part-length part.0 (fragment d w after ∷ xs) p in omega (arith, m, part.2)));
       }
     where
       at : (c : ChunkPayloadData) (x : Entry) (xs : List Entry) → IsFor c x → c.ending_fragment ≡ true → EndsMessage (x ∷ xs)
@@ -369,3 +342,107 @@ receiver-passes first gone call old new ns sent f h =
 
 pub passed-first : (tsn size max most : ℕ) (limits : Option Limits) → IsPassed tsn [] (at_start tsn size max most limits) [] []
 passed-first tsn size max most limits = record { marked = tt; cut = tt; begun' = λ m lt e. absurd (omega (arith, lt)); below = tt; passing = tt }
+
+-- # Of an entry up to a place that a FORWARD-TSN goes to: its TSN was taken, or its message is gone, and then so are all fragments of it.
+
+-- the chunk is of a message that is gone
+abbrev pub IsGone : List ℕ → List Entry → ChunkPayloadData → Type 0
+IsGone gone sent c = (y : ℕ) × (w : Numbered) × IsEntryAt sent y (data_of c) w × (is_gone gone w.place ≡ true)
+
+-- what is no longer than one part is a part of it
+taken-part : (gone : List ℕ) (s : Session) (passed : List Entry) (d : Data) (w : Numbered) (after : List ℕ) (xs : List Entry)
+    → IsPart (fragment d w after ∷ xs) passed → AreTakenOrGone gone s passed → (was_taken d.tsn s || is_gone gone w.place) ≡ true
+taken-part gone s [] d w after xs p t = cc
+taken-part gone s (terminal ∷ ys) d w after xs (inl e) t = cc
+taken-part gone s (terminal ∷ ys) d w after xs (inr p) t = taken-part gone s ys d w after xs p t
+taken-part gone s (fragment e v rest ∷ ys) d w after xs (inl q) t = grind (arith, nat_tests)
+taken-part gone s (fragment e v rest ∷ ys) d w after xs (inr p) t = taken-part gone s ys d w after xs p t.1
+
+-- the entry at an ordered place of a stream: a fragment, or the terminal chunk behind one of a message that is gone
+abbrev pub IsFragmentOf : ℕ → List Entry → ℕ → Type 0
+IsFragmentOf st sent z = (d : Data) × (w : Numbered) × IsEntryAt sent z d w × (is_of_stream st d ≡ true)
+
+abbrev pub IsCutOf : List ℕ → ℕ → List Entry → ℕ → Type 0
+IsCutOf gone st sent z =
+    (y : ℕ) × (d : Data) × (w : Numbered) × IsEntryAt sent y d w × (is_of_stream st d ≡ true) × (is_gone gone w.place ≡ true)
+    × (begun_to st y sent ≡ begun_to st z sent)
+
+module _ (gone : List ℕ) (st : ℕ) (sent : List Entry) where
+  at-cut : (z : ℕ) (xs : List Entry) → IsPart (terminal ∷ xs) sent → ends_on st xs ≡ true → EndsGone gone xs → length (terminal ∷ xs) ≡ z
+      → IsCutOf gone st sent z
+  at-cut z [] p e g n = absurd g
+  at-cut z (terminal ∷ zs) p e g n = absurd g
+  at-cut z (fragment d w after ∷ zs) p e g n =
+      let q = tail-part sent (fragment d w after ∷ zs) terminal p in (
+        suc (length zs),
+        d,
+        w,
+        record { after = after; entries = zs; part = q; place = refl },
+        e,
+        g.1,
+        to-part st sent (fragment d w after ∷ zs) q ∙ sym (to-part st sent (terminal ∷ fragment d w after ∷ zs) p)
+            ∙ ap (λ k. begun_to st k sent) n,
+      )
+
+  pub at-entry : (z : ℕ) (ys : List Entry) → IsPart ys sent → is_at st z ys ≡ true → AreCutGone gone ys
+      → IsFragmentOf st sent z ⊎ IsCutOf gone st sent z
+  at-entry z [] p e c = absurd (not_both e)
+  at-entry z (terminal ∷ xs) p e c = at-test (λ b. (if b then ends_on st (terminal ∷ xs) else is_at st z xs) ≡ true → IsFragmentOf st sent z ⊎ IsCutOf
+      gone st sent z) (length (terminal ∷ xs) == z)
+      (λ n f. inr (at-cut z xs p f c.0 (same-is (length (terminal ∷ xs)) z n)))
+      (λ n f. at-entry z xs (tail-part sent xs terminal p) f c.1) e
+  at-entry z (fragment d w after ∷ xs) p e c = at-test (λ b. (if b then ends_on st (fragment d w after ∷ xs) else is_at st z xs) ≡ true → IsFragmentOf
+      st sent z ⊎ IsCutOf gone st sent z) (length (fragment d w after ∷ xs) == z)
+      (λ n f. inl (
+        d,
+        w,
+        record { after = after; entries = xs; part = p; place = sym (same-is (length (fragment d w after ∷ xs)) z n) },
+        f,
+      ))
+      (λ n f. at-entry z xs (tail-part sent xs (fragment d w after) p) f c) e
+
+module _ (ws : List Numbered) (first : ℕ) (sent : List Entry) (line : IsLine ws first sent) (joined : AreJoined sent) (n : ℕ)
+    (long : length sent ≡ n) (few : n < 2 ^ 31) (gone : List ℕ) (cut : AreCutGone gone sent) (s : Session) (passed : List Entry)
+    (part : IsPart passed sent) (came : AreTakenOrGone gone s passed) where
+  abbrev p : ℕ
+  p = base first
+
+  -- a fragment up to the place was taken, or its message is gone
+  pub taken-or-gone : (z : ℕ) (d : Data) (w : Numbered) → IsEntryAt sent z d w → z ≤ length passed
+      → (was_taken (tsn p z) s ≡ true) ⊎ (is_gone gone w.place ≡ true)
+  taken-or-gone z d w i le =
+      let q = shorter-part sent (fragment d w i.after ∷ i.entries) passed i.part part (omega (arith, le)) in
+      let is : d.tsn ≡ tsn p z = omega (arith, (part-line ws first sent (fragment d w i.after ∷ i.entries) i.part line).0.number) in
+      or-split (was_taken (tsn p z) s) (is_gone gone w.place)
+      (subst (λ t. (was_taken t s || is_gone gone w.place) ≡ true) is (taken-part gone s passed d w i.after i.entries q came))
+
+  module _ (st : ℕ) where
+    abbrev Fits : ℕ → List ChunkPayloadData → Type 0
+    Fits = holds.Fits p st n (λ k. begun_to st k sent) (λ k. is_at st k sent) (λ c. WasSent sent (data_of c))
+
+    abbrev Rises : ℕ → ℕ → List ChunkPayloadData → Type 0
+    Rises = holds.Rises p st n (λ k. begun_to st k sent) (λ k. is_at st k sent) (λ c. WasSent sent (data_of c))
+
+    -- where a fragment of the message is of one that is gone, all are
+    all-gone : (z : ℕ) (d : Data) (w : Numbered) → IsEntryAt sent z d w → is_of_stream st d ≡ true → is_gone gone w.place ≡ true
+        → (i low : ℕ) (cs : List ChunkPayloadData) → Rises i low cs → begun_to st z sent ≡ i + 1 → Every (IsGone gone sent) cs
+    all-gone z d w k on dead i low [] r e = tt
+    all-gone z d w k on dead i low (c ∷ cs) r e =
+        let o = r.0 in
+        let x = sets.of-entry ws first sent line joined n long few st i c o in
+        let same : w ≡ x.0 =
+        same-message ws first sent line joined st z (o.before + 1) d (data_of c) w x.0 k x.1 on o.on (e ∙ sym o.begun) in (
+          (o.before + 1, x.0, x.1, subst (λ (v : Numbered). is_gone gone v.place ≡ true) same dead),
+          all-gone z d w k on dead i (o.before + 1) cs r.2 e,
+        )
+
+    pub resolved : (z : ℕ) → is_at st z sent ≡ true → z ≤ length passed
+        → (was_taken (tsn p z) s ≡ true)
+        ⊎ ((i : ℕ) (cs : List ChunkPayloadData) → Fits i cs → begun_to st z sent ≡ i + 1 → Every (IsGone gone sent) cs)
+    resolved z e le = elim (at-entry gone st sent z sent (part-itself sent) e cut) [
+      | inl h ↦ elim (taken-or-gone z h.0 h.1 h.2 le) [
+        | inl t ↦ inl t
+        | inr t ↦ inr (λ i cs fits count. all-gone z h.0 h.1 h.2 h.3 t i 0 cs fits count)
+      ]
+      | inr h ↦ inr (λ i cs fits count. all-gone h.0 h.1 h.2 h.3 h.4 h.5 i 0 cs fits (h.6 ∙ count))
+    ]

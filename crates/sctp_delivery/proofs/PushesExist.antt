@@ -1,21 +1,12 @@
 -- Each chunk that comes makes something of its stream's queue: of fragments there is a run that ends earliest, or there is none.
-use Rattle.std.proofs.Common.{◌≡◌, ℕ, zero, suc, ◌+◌, ◌-◌, ◌%◌, ◌^◌, ◌<◌, ◌≤◌, Bool, true, false, List, [], ◌∷◌, ◌++◌, length, get_or, take, drop, inl, inr}
-use Rattle.std.proofs.Common.{refl, ap, sym, subst, ◌∙◌, arith}
-use Rattle.std.specs.Prelude.{◌⊎◌, ◌==◌, max, ◌||◌, if◌then◌else◌}
-use Rattle.std.proofs.lemmas.Bool.{cases_lt}
-use Rattle.std.proofs.lemmas.Bool.Decides.{nat_tests}
-use Rattle.std.proofs.lemmas.List.{get_or_default}
-use Rattle.sctp_util.specs.Lists.{insert_before}
-use Rattle.sctp_util.proofs.More.{not_both}
-use Rattle.sctp_data.specs.declared.chunk.chunk_payload_data.ChunkPayloadData.{ChunkPayloadData}
-use Rattle.sctp_reassembly.specs.reassembly_queue.ReassemblyQueue.{PushesUnordered, Reassembly, ReassemblyState, count_up, set_of_run}
-use Rattle.sctp_serial.specs.DataChunks.{chunk_before, is_on}
-use Rattle.sctp_serial.specs.Runs.{HasNoRun, IsEarliestRun, IsRun}
-use Rattle.std.specs.List.{filter, list_any}
-use Rattle.sctp_util.proofs.Cases.{same-is}
-use Rattle.sctp_data.specs.declared.chunk.chunk_forward_tsn.ChunkForwardTsnStream.{ChunkForwardTsnStream}
-use Rattle.sctp_outbound.specs.pending_queue.PendingQueue.{last_of}
-use Rattle.sctp_sender.specs.Abandonment.{Name, is_pair_of, pair_of, pairs_of}
+use Rattle.sctp_delivery.proofs.Names.{◌≡◌, ℕ, zero, suc, ◌+◌, ◌-◌, ◌%◌, ◌^◌, ◌<◌, ◌≤◌, Bool, true, false, List, [], ◌∷◌, ◌++◌, length, get_or, take, drop, inl}
+use Rattle.sctp_delivery.proofs.Names.{inr, refl, ap, sym, subst, ◌∙◌, arith, ◌⊎◌, ◌==◌, ◌||◌, if◌then◌else◌, cases_lt, nat_tests, get_or_default}
+use Rattle.sctp_delivery.proofs.Names.{insert_before, not_both, ChunkPayloadData, Reassembly, ReassemblyState, set_of_run, chunk_before, is_on, HasNoRun}
+use Rattle.sctp_delivery.proofs.Names.{IsEarliestRun, IsRun, filter, list_any, same-is, ChunkForwardTsnStream, last_of, Name, is_pair_of, pairs_of}
+use Rattle.std.specs.Prelude.{max}
+use Rattle.sctp_reassembly.specs.reassembly_queue.ReassemblyQueue.{PushesUnordered, count_up}
+use Rattle.sctp_sender.specs.Abandonment.{pair_of}
+use Rattle.sctp_delivery.proofs.Cases.{at-test, by-test}
 
 -- ## Searching
 
@@ -38,11 +29,11 @@ first-below P decide (suc n) = by (first-below P decide n) (decide n)
     by : FirstBelow P n → Decided (P n) → FirstBelow P (suc n)
     by (inl f) d = inl (
       f.0,
-      let lt = f.1 in omega (arith, lt),
+      omega arith,
       f.2,
       λ j lt h. elim (cases_lt j n) [
         | inl less ↦ f.3 j less h
-        | inr ge ↦ let below = f.1 in omega (arith, ge, below)
+        | inr ge ↦ omega (arith, ge)
       ],
     )
     by (inr none) (inl h) = inl (
@@ -78,11 +69,7 @@ either false true = inr (λ e. not_both e)
 either false false = inl refl
 
 equal : (a b : ℕ) → Decided (a ≡ b)
-equal a b = by (a == b) refl
-  where
-    by : (c : Bool) → (a == b) ≡ c → Decided (a ≡ b)
-    by true e = inl (grind (arith, nat_tests, e))
-    by false e = inr (grind (arith, nat_tests, e))
+equal a b = by-test (a == b) (λ e. inl (grind (arith, nat_tests, e))) (λ e. inr (grind (arith, nat_tests, e)))
 
 -- where both are decided
 pair : {P Q : Type 0} → Decided P → Decided Q → Decided (P × Q)
@@ -164,13 +151,13 @@ module _ (xs : List ChunkPayloadData) (x : ChunkPayloadData) where
 
   run-to : (e : ℕ) → Decided (RunTo e)
   run-to e = elim (cases_lt (length xs) e) [
-    | inl long ↦ inr (λ r. let le = r.0 in omega (arith, long, le))
+    | inl long ↦ inr (λ r. omega (arith, long))
     | inr le ↦ by le (first-below (RunOf e) (λ f. decided le f) e)
   ]
     where
       decided : e ≤ length xs → (f : ℕ) → Decided (RunOf e f)
       decided le f = elim (cases_lt f e) [
-        | inr ge ↦ inr (λ r. let lt = r.0 in omega (arith, ge, lt))
+        | inr ge ↦ inr (λ r. omega (arith, ge))
         | inl lt ↦ elim (parts f e) [
           | inl p ↦ inl (lt, run-of-parts f e lt le p)
           | inr none ↦ inr (λ r. none (parts-of-run f e lt le r.1))
@@ -183,10 +170,9 @@ module _ (xs : List ChunkPayloadData) (x : ChunkPayloadData) where
 
   run-ends : (f n : ℕ) → IsRun xs f n → RunTo (f + n)
   run-ends f n r =
-      let some = r.some in
       let range = r.in_range in
       let same : n ≡ f + n - f = omega arith in
-      (range, (f, (omega (arith, some), subst (IsRun xs f) same r)))
+      (range, (f, (omega arith, subst (IsRun xs f) same r)))
 
   -- the run that ends earliest, or there is none
   pub earliest-or-none : ((first : ℕ) × (count : ℕ) × IsEarliestRun xs first count) ⊎ HasNoRun xs
@@ -198,10 +184,7 @@ module _ (xs : List ChunkPayloadData) (x : ChunkPayloadData) where
       record {
         run = e.2.1.1.1;
         earliest = λ f n r.
-            let range = r.in_range in
-            let least = e.3 (f + n) (omega (arith, range)) (run-ends f n r) in
-            let lt = e.2.1.1.0 in
-            omega (arith, least, lt);
+            omega (arith, e.3 (f + n) (omega arith) (run-ends f n r));
       },
     )
   ]
@@ -251,24 +234,20 @@ names (c ∷ cs) = if list_any (is_on c.stream_identifier) cs then names cs else
 
 none-on : (s : ℕ) (cs : List ChunkPayloadData) → list_any (is_on s) cs ≡ false → filter (is_on s) cs ≡ []
 none-on s [] e = refl
-none-on s (c ∷ cs) e = by (is_on s c) e (none-on s cs)
-  where
-    by : (b : Bool) → (b || list_any (is_on s) cs) ≡ false → (list_any (is_on s) cs ≡ false → filter (is_on s) cs ≡ [])
-        → (if b then c ∷ filter (is_on s) cs else filter (is_on s) cs) ≡ []
-    by true f ih = absurd (not_both (sym f))
-    by false f ih = ih f
+none-on s (c ∷ cs) e = at-test (λ b. (b || list_any (is_on s) cs) ≡ false → (if b then c ∷ filter (is_on s) cs else filter (is_on s) cs) ≡ [])
+    (is_on s c)
+    (λ e f. absurd (not_both (sym f)))
+    (λ e f. (none-on s cs) f) e
 
 -- one in front of some changes nothing
 last-same : (s : ℕ) (c : ChunkPayloadData) (cs : List ChunkPayloadData) → list_any (is_on s) cs ≡ true
     → last_of (c ∷ filter (is_on s) cs) ≡ last_of (filter (is_on s) cs)
 last-same s c [] e = absurd (not_both e)
-last-same s c (d ∷ ds) e = by (is_on s d) e (last-same s c ds)
-  where
-    by : (b : Bool) → (b || list_any (is_on s) ds) ≡ true
-        → (list_any (is_on s) ds ≡ true → last_of (c ∷ filter (is_on s) ds) ≡ last_of (filter (is_on s) ds))
-        → last_of (c ∷ (if b then d ∷ filter (is_on s) ds else filter (is_on s) ds)) ≡ last_of (if b then d ∷ filter (is_on s) ds else filter (is_on s) ds)
-    by true f ih = refl
-    by false f ih = ih f
+last-same s c (d ∷ ds) e = at-test (λ b. (b || list_any (is_on s) ds) ≡ true → last_of
+    (c ∷ (if b then d ∷ filter (is_on s) ds else filter (is_on s) ds)) ≡ last_of (if b then d ∷ filter (is_on s) ds else filter (is_on s) ds))
+    (is_on s d)
+    (λ e f. refl)
+    (λ e f. (last-same s c ds) f) e
 
 pub named : (cs : List ChunkPayloadData) → Name (names cs) cs
 named [] s = refl

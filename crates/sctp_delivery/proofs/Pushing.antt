@@ -1,22 +1,11 @@
 -- A write waits behind what waits already, and a message that was not sent leaves.
-use Rattle.std.proofs.Common.{◌≡◌, ℕ, ◌+◌, ◌%◌, ◌^◌, Bool, true, false, List, [], ◌∷◌, map, Option, Some, None, refl, ap, sym, subst, ◌∙◌, arith, not}
-use Rattle.std.specs.Prelude.{◌==◌, ◌&&◌, if◌then◌else◌}
-use Rattle.std.specs.List.{list_any}
-use Rattle.std.proofs.lemmas.Option.{none-some}
-use Rattle.sctp_util.specs.Lists.{change_where}
-use Rattle.sctp_util.proofs.Cases.{by_same, or-left, same-is, same-yes, some-same}
-use Rattle.sctp_util.proofs.More.{fails, not_both}
-use Rattle.sctp_data.specs.declared.chunk.chunk_payload_data.ChunkPayloadData.{ChunkPayloadData}
-use Rattle.sctp_outbound.specs.declared.pending_queue.Selected.{Selected}
-use Rattle.sctp_outbound.specs.Marks.{is_of}
-use Rattle.sctp_outbound.specs.outbound_queue.OutboundQueue.{Outbound, append_chunks, expired_of, with_message, with_message_id}
+use Rattle.sctp_delivery.proofs.Names.{◌≡◌, ℕ, ◌+◌, ◌%◌, ◌^◌, true, false, List, [], ◌∷◌, map, Option, Some, None, refl, ap, sym, subst, ◌∙◌, arith, not, ◌==◌}
+use Rattle.sctp_delivery.proofs.Names.{◌&&◌, if◌then◌else◌, list_any, none-some, change_where, by_same, or-left, same-is, same-yes, some-same, fails, not_both}
+use Rattle.sctp_delivery.proofs.Names.{ChunkPayloadData, Selected, is_of, Outbound, append_chunks, expired_of, with_message, with_message_id, closed_up}
+use Rattle.sctp_delivery.proofs.Names.{next_pending, one_lower, without, without_message, GoesOn, IsMessage, goes_on, made, KeepsMessage, is_on, list_any-those}
 use Rattle.sctp_outbound.specs.payload_queue.PayloadQueue as payload
-use Rattle.sctp_outbound.specs.pending_queue.PendingQueue.{closed_up, next_pending, one_lower, without, without_message}
-use Rattle.sctp_outbound.specs.pending_queue.Whole.{GoesOn, IsMessage}
-use Rattle.sctp_outbound.proofs.lemmas.outbound_queue.Sendable.{goes_on, made, sendable-ordered_changed, sendable-pushed, sendable-without}
-use Rattle.sctp_outbound.proofs.lemmas.pending_queue.CompleteMessages.{KeepsMessage}
-use Rattle.sctp_serial.specs.DataChunks.{is_on}
-use Rattle.sctp_util.proofs.Edits.{list_any-those}
+use Rattle.sctp_outbound.proofs.lemmas.outbound_queue.Sendable.{sendable-ordered_changed, sendable-pushed, sendable-without}
+use Rattle.sctp_delivery.proofs.Cases.{at-test}
 use Rattle.sctp_delivery.proofs.Begun.{begins, begins-changed, begun-less, begun-ordered, begun-unordered}
 use Rattle.sctp_delivery.proofs.OrderedEntries.{begun_on, ranked-changed, ranked-more, ranked-those, ranked-written}
 use Rattle.sctp_delivery.proofs.Queues.{Stands}
@@ -32,15 +21,16 @@ pub pushed : (ws : List Numbered) (first : ℕ) (number number' : ℕ → ℕ) (
     → (c.unordered ≡ true → (r : ℕ) → number' r ≡ number r)
     → (c.unordered ≡ false → (r : ℕ) → Turns r (map (with_message_id q.next_message_id) (c ∷ cs)) (number r) (number' r))
     → Stands (w ∷ ws) first number' (with_message (c ∷ cs) q) next sent
-pushed ws first number number' q next sent s w c cs message stream waits' same turns' = by c.unordered refl message
-  where
-    by : (b : Bool) → c.unordered ≡ b → IsMessage b false (c ∷ cs) → Stands (w ∷ ws) first number'
-        (record q { pending = append_chunks b (map (with_message_id q.next_message_id) (c ∷ cs)) q.pending; next_message_id = q.next_message_id + 1 }) next sent
-    by true e m = record {
+pushed ws first number number' q next sent s w c cs message stream waits' same turns' = at-test
+    (λ b. IsMessage b false (c ∷ cs) → Stands (w ∷ ws) first number'
+    (record q { pending = append_chunks b (map (with_message_id q.next_message_id) (c ∷ cs)) q.pending; next_message_id = q.next_message_id + 1 })
+    next sent) c.unordered
+    (λ e m. record {
       queued = record {
         line = line-more w ws first sent s.queued.line;
         ordered = waits-more w ws q.pending.ordered (place_of false q.pending.selected sent) s.queued.ordered;
-        unordered = waits-behind (w ∷ ws) q.pending.unordered (map (with_message_id q.next_message_id) (c ∷ cs)) (place_of true q.pending.selected sent)
+        unordered = waits-behind (w ∷ ws) q.pending.unordered (map (with_message_id q.next_message_id) (c ∷ cs))
+            (place_of true q.pending.selected sent)
             (waits-more w ws q.pending.unordered (place_of true q.pending.selected sent) s.queued.unordered) waits';
         turns = λ r. let t = s.queued.turns r in (t.0, (subst (Turns r q.pending.ordered t.0) (sym (same e r)) t.1.0, t.1.1, t.1.2));
         indexed = s.queued.indexed;
@@ -48,17 +38,19 @@ pushed ws first number number' q next sent s w c cs message stream waits' same t
         joined = s.queued.joined;
         open' = s.queued.open';
       };
-      sendable = sendable-pushed true q.pending.ordered q.pending.unordered q.pending.selected q.pending.ordered_room q.pending.unordered_room q.inflight.chunks
+      sendable = sendable-pushed true q.pending.ordered q.pending.unordered q.pending.selected q.pending.ordered_room q.pending.unordered_room
+          q.inflight.chunks
           (c ∷ cs) q.next_message_id m s.sendable;
       known = s.known;
       counted = s.counted;
       begun' = begun-unordered q.pending.ordered q.pending.unordered q.next_message_id sent (c ∷ cs) s.begun';
-      ids = let n = s.ids in omega (arith, n);
-    }
-    by false e m = record {
+      ids = omega arith;
+    })
+    (λ e m. record {
       queued = record {
         line = line-more w ws first sent s.queued.line;
-        ordered = waits-behind (w ∷ ws) q.pending.ordered (map (with_message_id q.next_message_id) (c ∷ cs)) (place_of false q.pending.selected sent)
+        ordered = waits-behind (w ∷ ws) q.pending.ordered (map (with_message_id q.next_message_id) (c ∷ cs))
+            (place_of false q.pending.selected sent)
             (waits-more w ws q.pending.ordered (place_of false q.pending.selected sent) s.queued.ordered) waits';
         unordered = waits-more w ws q.pending.unordered (place_of true q.pending.selected sent) s.queued.unordered;
         turns = λ r. let t = s.queued.turns r in (
@@ -80,8 +72,8 @@ pushed ws first number number' q next sent s w c cs message stream waits' same t
       known = s.known;
       counted = s.counted;
       begun' = begun-ordered q.pending.ordered q.pending.unordered q.next_message_id sent (c ∷ cs) s.begun';
-      ids = let n = s.ids in omega (arith, n);
-    }
+      ids = omega arith;
+    }) message
 
 -- ## Expiry
 
@@ -187,7 +179,7 @@ module _ (ws : List Numbered) (first : ℕ) (number number' : ℕ → ℕ) (ro r
               subst (Turns st (lowered o os) (lower ((t.0 + 1) % 2 ^ 16))) (sym lowers.here)
                   (turns-lower st (without_message o.message_id (o ∷ os)) ((t.0 + 1) % 2 ^ 16) (number st) gone),
               after-lower st t.0 sent t.1.1,
-              (let e = t.1.2 in omega (arith, e)),
+              (omega arith),
             ),
           )
 

@@ -1,31 +1,20 @@
 -- What is so of each chunk that waits, and of each in flight, through each change of a sender's queues.
-use Rattle.std.proofs.Common.{◌≡◌, ℕ, ◌+◌, Bool, true, false, List, [], ◌∷◌, map, take, drop, Option, Some, None, refl, subst}
-use Rattle.std.specs.Prelude.{if◌then◌else◌, ◌==◌, not, slice_get}
-use Rattle.std.proofs.lemmas.Option.{none-some}
-use Rattle.sctp_util.specs.Lists.{change_where}
-use Rattle.sctp_util.specs.Serial.{at_or_before}
-use Rattle.sctp_data.specs.declared.chunk.chunk_payload_data.ChunkPayloadData.{ChunkPayloadData}
-use Rattle.sctp_data.specs.declared.chunk.chunk_payload_data.PayloadProtocolIdentifier.{PayloadProtocolIdentifier}
-use Rattle.sctp_data.specs.SelectiveAck.{Sack}
-use Rattle.sctp_outbound.specs.declared.pending_queue.Selected.{Selected}
-use Rattle.sctp_outbound.specs.Marks.{as_abandoned, as_acknowledged, is_of}
-use Rattle.sctp_outbound.specs.outbound_queue.OutboundQueue.{Outbound, abandoned_of, all_started, append_chunks, as_sent, expired_of, sent_of, terminal_chunk}
-use Rattle.sctp_outbound.specs.outbound_queue.OutboundQueue.{with_inflight, with_message, with_message_id, with_terminal_chunk}
+use Rattle.sctp_delivery.proofs.Names.{◌≡◌, ℕ, ◌+◌, Bool, true, false, List, [], ◌∷◌, map, take, drop, Option, Some, None, refl, subst, if◌then◌else◌, ◌==◌}
+use Rattle.sctp_delivery.proofs.Names.{none-some, change_where, at_or_before, ChunkPayloadData, PayloadProtocolIdentifier, Sack, Selected, as_abandoned}
+use Rattle.sctp_delivery.proofs.Names.{as_acknowledged, is_of, Outbound, abandoned_of, all_started, append_chunks, as_sent, expired_of, sent_of, terminal_chunk}
+use Rattle.sctp_delivery.proofs.Names.{with_inflight, with_message, with_message_id, with_terminal_chunk, Pending, closed_up, front_of, is_to_start, last_of}
+use Rattle.sctp_delivery.proofs.Names.{last_removed, list_of, list_to_pop, next_pending, next_pending_of, one_lower, rest_from, with_deadline, without}
+use Rattle.sctp_delivery.proofs.Names.{chunk_before, is_on, OutboundStream, fragment_at, fragments_of, Flight, after_sack, is_outdated, message_to_abandon}
+use Rattle.sctp_delivery.proofs.Names.{reports_anew, abandoned_at, abandoned_each, fragments_with_mode, with_reliability, after_misses, can_miss, missed}
+use Rattle.std.specs.Prelude.{not, slice_get}
 use Rattle.sctp_outbound.specs.payload_queue.PayloadQueue as payload
-use Rattle.sctp_outbound.specs.pending_queue.PendingQueue.{Pending, closed_up, front_of, is_to_start, last_of, last_removed, list_of, list_to_pop, next_pending}
-use Rattle.sctp_outbound.specs.pending_queue.PendingQueue.{next_pending_of, one_lower, rest_from, rest_of, start_pending, with_deadline, without}
-use Rattle.sctp_serial.specs.DataChunks.{chunk_before, is_on}
-use Rattle.sctp_stream.specs.declared.stream.StreamState.{StreamState}
-use Rattle.sctp_stream.specs.Stream.{fragment_at, fragments_of}
-use Rattle.sctp_sender.specs.Flight.{Flight, after_sack, is_outdated, message_to_abandon, reports_anew, take_sack}
-use Rattle.sctp_sender.specs.Late.{abandoned_at, abandoned_each}
-use Rattle.sctp_sender.specs.Outgoing.{fragments_with_mode, with_reliability}
-use Rattle.sctp_sender.specs.Resending.{after_misses, can_miss, missed}
+use Rattle.sctp_outbound.specs.pending_queue.PendingQueue.{rest_of}
+use Rattle.sctp_delivery.proofs.Cases.{at-if, at-test}
 use Rattle.sctp_delivery.proofs.Every.{Every, every-changed, every-inserted, every-joined, every-left, every-made, every-mapped, every-of, every-passing}
 use Rattle.sctp_delivery.proofs.Every.{every-taken}
 
 -- each fragment of a write
-pub each-fragment : (P : ChunkPayloadData → Type 0) (l : StreamState) (ppi : PayloadProtocolIdentifier) (bytes : List ℕ)
+pub each-fragment : (P : ChunkPayloadData → Type 0) (l : OutboundStream) (ppi : PayloadProtocolIdentifier) (bytes : List ℕ)
     → ((i : ℕ) → P (with_reliability l.reliability_type l.reliability_value (fragment_at l ppi bytes i))) → Every P (fragments_with_mode l ppi bytes)
 each-fragment P l ppi bytes h =
     every-mapped (λ c. P (with_reliability l.reliability_type l.reliability_value c)) P (with_reliability l.reliability_type l.reliability_value)
@@ -43,11 +32,9 @@ module _ (P : ChunkPayloadData → Type 0) where
   front (x ∷ xs) c e h = let same : x ≡ c = cc in subst P same h.0
 
   pub peeked : (sel : Option Selected) (q : Pending) (c : ChunkPayloadData) → next_pending_of sel q ≡ Some c → AllWait q → P c
-  peeked (Some s) q c e w = by s.unordered e
-    where
-      by : (b : Bool) → slice_get (list_of b q) 0 ≡ Some c → P c
-      by true h = front q.unordered c h w.1
-      by false h = front q.ordered c h w.0
+  peeked (Some s) q c e w = at-test (λ b. slice_get (list_of b q) 0 ≡ Some c → P c) s.unordered
+      (λ e h. front q.unordered c h w.1)
+      (λ e h. front q.ordered c h w.0) e
   peeked None q c e w = by q.unordered e w.1
     where
       by : (us : List ChunkPayloadData) → front_of us q.ordered ≡ Some c → Every P us → P c
@@ -88,14 +75,12 @@ module _ (P Q : ChunkPayloadData → Type 0) where
     pub inflight : Every Q q.inflight.chunks
 
   pub started : (now : ℕ) → ((c : ChunkPayloadData) → P c → P (with_deadline now c)) → (q : Outbound) → EachIs q → EachIs (all_started now q)
-  started now keep q h = by (q.next_unstarted == q.next_message_id)
+  started now keep q h = at-if EachIs (q.next_unstarted == q.next_message_id)
+      (λ e. h)
+      (λ e. record { ordered = those q.pending.ordered h.ordered; unordered = those q.pending.unordered h.unordered; inflight = h.inflight })
     where
       those : (xs : List ChunkPayloadData) → Every P xs → Every P (change_where (is_to_start q.next_unstarted) (with_deadline now) xs)
       those xs e = every-changed P (is_to_start q.next_unstarted) (with_deadline now) (λ c _ i. keep c i) xs e
-
-      by : (b : Bool) → EachIs (if b then q else record q { pending = start_pending q.next_unstarted now q.pending; next_unstarted = q.next_message_id })
-      by true = h
-      by false = record { ordered = those q.pending.ordered h.ordered; unordered = those q.pending.unordered h.unordered; inflight = h.inflight }
 
   pub sent : (tsn now : ℕ) → ((c : ChunkPayloadData) → P c → Q (as_sent tsn now c)) → (o : Option ChunkPayloadData) (q : Outbound)
       → next_pending q.pending ≡ o → EachIs q → EachIs (sent_of o q tsn now)
@@ -165,17 +150,15 @@ module _ (P Q : ChunkPayloadData → Type 0) where
 
   pub sacked : (k : Sack) → ((c : ChunkPayloadData) → reports_anew k c ≡ true → Q c → Q (as_acknowledged c)) → (f : Flight) → EachIs f.queue
       → EachIs (after_sack k f).queue
-  sacked k keep f h = by (is_outdated k f)
-    where
-      by : (b : Bool) → EachIs (if b then f else take_sack k f).queue
-      by true = h
-      by false = record {
+  sacked k keep f h = at-if (λ (z : Flight). EachIs z.queue) (is_outdated k f)
+      (λ e. h)
+      (λ e. record {
         ordered = h.ordered;
         unordered = h.unordered;
         inflight = every-passing Q (λ c. not (at_or_before c.tsn k.cumulative_tsn_ack))
             (change_where (reports_anew k) as_acknowledged f.queue.inflight.chunks)
             (every-changed Q (reports_anew k) as_acknowledged keep f.queue.inflight.chunks h.inflight);
-      }
+      })
 
 -- a message is written, and what is said may grow
 module _ (P Q P' Q' : ChunkPayloadData → Type 0) (waits : (c : ChunkPayloadData) → P c → P' c) (flies : (c : ChunkPayloadData) → Q c → Q' c) where
@@ -186,22 +169,21 @@ module _ (P Q P' Q' : ChunkPayloadData → Type 0) (waits : (c : ChunkPayloadDat
     unordered = every-of P P' waits q.pending.unordered h.unordered;
     inflight = every-of Q Q' flies q.inflight.chunks h.inflight;
   }
-  pushed (c ∷ cs) q new h = by c.unordered
+  pushed (c ∷ cs) q new h = at-test (λ b. EachIs P' Q' (record q { pending = append_chunks b ms q.pending; next_message_id = q.next_message_id + 1 }))
+      c.unordered
+      (λ e. record {
+        ordered = every-of P P' waits q.pending.ordered h.ordered;
+        unordered = every-joined P' q.pending.unordered ms (every-of P P' waits q.pending.unordered h.unordered) more;
+        inflight = every-of Q Q' flies q.inflight.chunks h.inflight;
+      })
+      (λ e. record {
+        ordered = every-joined P' q.pending.ordered ms (every-of P P' waits q.pending.ordered h.ordered) more;
+        unordered = every-of P P' waits q.pending.unordered h.unordered;
+        inflight = every-of Q Q' flies q.inflight.chunks h.inflight;
+      })
     where
       ms : List ChunkPayloadData
       ms = map (with_message_id q.next_message_id) (c ∷ cs)
 
       more : Every P' ms
       more = every-mapped (λ d. P' (with_message_id q.next_message_id d)) P' (with_message_id q.next_message_id) (λ d i. i) (c ∷ cs) new
-
-      by : (b : Bool) → EachIs P' Q' (record q { pending = append_chunks b ms q.pending; next_message_id = q.next_message_id + 1 })
-      by true = record {
-        ordered = every-of P P' waits q.pending.ordered h.ordered;
-        unordered = every-joined P' q.pending.unordered ms (every-of P P' waits q.pending.unordered h.unordered) more;
-        inflight = every-of Q Q' flies q.inflight.chunks h.inflight;
-      }
-      by false = record {
-        ordered = every-joined P' q.pending.ordered ms (every-of P P' waits q.pending.ordered h.ordered) more;
-        unordered = every-of P P' waits q.pending.unordered h.unordered;
-        inflight = every-of Q Q' flies q.inflight.chunks h.inflight;
-      }

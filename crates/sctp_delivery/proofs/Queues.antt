@@ -1,27 +1,16 @@
 -- The queues of a sender beside all that it gave TSNs to, while chunks come, leave and change.
-use Rattle.std.proofs.Common.{◌≡◌, ℕ, ◌+◌, ◌%◌, ◌^◌, Bool, true, false, List, [], ◌∷◌, length, Option, Some, None, ◌⊎◌, inl, inr, refl, ap, sym, subst, ◌∙◌}
-use Rattle.std.proofs.Common.{arith, not}
-use Rattle.std.specs.Prelude.{◌==◌, if◌then◌else◌}
-use Rattle.std.specs.List.{list_any}
-use Rattle.std.proofs.lemmas.Option.{none-some}
-use Rattle.sctp_util.specs.Lists.{change_where, insert_before}
-use Rattle.sctp_util.proofs.Cases.{or-left, same-yes, some-same}
-use Rattle.sctp_util.proofs.More.{fails, not_both}
-use Rattle.sctp_data.specs.declared.chunk.chunk_payload_data.ChunkPayloadData.{ChunkPayloadData}
-use Rattle.sctp_data.specs.PayloadData.{data_of}
-use Rattle.sctp_outbound.specs.declared.pending_queue.Selected.{Selected}
-use Rattle.sctp_outbound.specs.Marks.{as_abandoned, is_of}
-use Rattle.sctp_outbound.specs.outbound_queue.OutboundQueue.{Outbound, abandon_chunks, abandoned_of, all_started, as_sent, sent_of, terminal_chunk}
-use Rattle.sctp_outbound.specs.outbound_queue.OutboundQueue.{tsn_after_of, with_inflight, with_terminal_chunk}
+use Rattle.sctp_delivery.proofs.Names.{◌≡◌, ℕ, ◌+◌, ◌%◌, ◌^◌, Bool, true, false, List, [], ◌∷◌, length, Option, Some, None, inl, inr, refl, ap, sym, subst, ◌∙◌}
+use Rattle.sctp_delivery.proofs.Names.{arith, not, ◌==◌, if◌then◌else◌, list_any, none-some, nat_tests, change_where, insert_before, or-left, same-yes}
+use Rattle.sctp_delivery.proofs.Names.{some-same, not_both, ChunkPayloadData, data_of, Selected, as_abandoned, is_of, Outbound, abandon_chunks, abandoned_of}
+use Rattle.sctp_delivery.proofs.Names.{all_started, as_sent, sent_of, terminal_chunk, tsn_after_of, with_inflight, with_terminal_chunk, is_to_start}
+use Rattle.sctp_delivery.proofs.Names.{last_removed, next_pending, start_pending, with_deadline, without, without_message, IsSendable, IsWhole, begun, free}
+use Rattle.sctp_delivery.proofs.Names.{partial_of, partially_sent, waits, abandoned_none, last_is_of, no_last, partial_gone, sendable-sent, KeepsMessage}
+use Rattle.sctp_delivery.proofs.Names.{chunk_before, following_tsn, list_any-inserted, list_any-those}
+use Rattle.std.proofs.Common.{◌⊎◌}
 use Rattle.sctp_outbound.specs.payload_queue.PayloadQueue as payload
-use Rattle.sctp_outbound.specs.pending_queue.PendingQueue.{is_to_start, last_removed, next_pending, selected_without, start_pending, with_deadline, without}
-use Rattle.sctp_outbound.specs.pending_queue.PendingQueue.{without_message}
-use Rattle.sctp_outbound.specs.pending_queue.Whole.{IsSendable, IsWhole, begun, free, partial_of, partially_sent, waits}
-use Rattle.sctp_outbound.proofs.lemmas.outbound_queue.Abandoned.{abandoned_none, last_is_of, no_last, sendable-abandoned}
-use Rattle.sctp_outbound.proofs.lemmas.outbound_queue.Sendable.{partial_gone, sendable-changed, sendable-fewer, sendable-marked, sendable-sent}
-use Rattle.sctp_outbound.proofs.lemmas.pending_queue.CompleteMessages.{KeepsMessage}
-use Rattle.sctp_serial.specs.DataChunks.{chunk_before, following_tsn}
-use Rattle.sctp_util.proofs.Edits.{list_any-inserted, list_any-those}
+use Rattle.sctp_outbound.specs.pending_queue.PendingQueue.{selected_without}
+use Rattle.sctp_outbound.proofs.lemmas.outbound_queue.Abandoned.{sendable-abandoned}
+use Rattle.sctp_outbound.proofs.lemmas.outbound_queue.Sendable.{sendable-changed, sendable-fewer, sendable-marked}
 use Rattle.sctp_delivery.proofs.Begun.{IsBegun, begins, begins-changed, begun-ended, begun-less, begun-sent}
 use Rattle.sctp_delivery.proofs.InFlight.{AreKnown, KeepsData, abandoned-keeps, abandoned-not, known-changed, known-more, IsKnown}
 use Rattle.sctp_delivery.proofs.OrderedEntries.{ranked-changed, ranked-ended, ranked-those}
@@ -153,23 +142,7 @@ no-abandons ws first number sent q next s = record { more = sent; stands = s; en
 
 pub abandons-then : (ws : List Numbered) (first : ℕ) (number : ℕ → ℕ) (sent : List Entry) (q r o : Outbound) (next last : ℕ)
     (a : Abandons ws first number sent q r next) → Abandons ws first number a.more r o last → Abandons ws first number sent q o last
-abandons-then ws first number sent q r o next last a b = record {
-  more = b.more;
-  stands = b.stands;
-  ended = ended a.last;
-  last = end a.last b.last;
-  none = λ h. let x = a.none h in let y = b.none x.1 in (y.0 ∙ x.0, y.1);
-}
-  where
-    ended : (a.more ≡ sent) ⊎ (partially_sent r.pending ≡ None) → IsEnded sent b.more
-    ended (inl e) = subst (λ xs. IsEnded xs b.more) e b.ended
-    ended (inr h) = subst (IsEnded sent) (sym (b.none h).0) a.ended
-
-    end : (a.more ≡ sent) ⊎ (partially_sent r.pending ≡ None) → (b.more ≡ a.more) ⊎ (partially_sent o.pending ≡ None)
-        → (b.more ≡ sent) ⊎ (partially_sent o.pending ≡ None)
-    end (inl e) (inl f) = inl (f ∙ e)
-    end (inl e) (inr h) = inr h
-    end (inr h) f = inr (b.none h).1
+abandons-then ws first number sent q r o next last a b = grind (arith, nat_tests)
 
 pub nowhere-none : (ws : List Numbered) (cs : List ChunkPayloadData) → Waits ws cs nowhere → ⊥
 nowhere-none ws [] h = h
@@ -200,14 +173,7 @@ marked ws first number q next sent p f keeps keeps' s = record {
 pub refilled : (ws : List Numbered) (first : ℕ) (number : ℕ → ℕ) (q : Outbound) (next : ℕ) (sent : List Entry) (cs : List ChunkPayloadData)
     → ((m : ℕ) → list_any (is_of m) cs ≡ true → list_any (is_of m) q.inflight.chunks ≡ true) → AreKnown first sent cs → Stands ws first number q next sent
     → Stands ws first number (with_inflight q cs) next sent
-refilled ws first number q next sent cs fewer known s = record {
-  queued = s.queued;
-  sendable = sendable-fewer q.pending q.inflight.chunks cs q.next_message_id fewer s.sendable;
-  known = known;
-  counted = s.counted;
-  begun' = s.begun';
-  ids = s.ids;
-}
+refilled ws first number q next sent cs fewer known s = grind (arith, nat_tests, sendable-fewer)
 
 module _ (ws : List Numbered) (first : ℕ) (number : ℕ → ℕ) (q : Outbound) (next : ℕ) (sent : List Entry) (s : Stands ws first number q next sent) (m : ℕ) where
   abbrev xs : List ChunkPayloadData
@@ -271,10 +237,7 @@ module _ (ws : List Numbered) (first : ℕ) (number : ℕ → ℕ) (q : Outbound
 
       turned : (b : Bool) → IsWhole false n (if b then free 0 else begun t.message_id) os → IsWhole true n (if b then begun t.message_id else free 0) us
           → (st i : ℕ) → Turns st os i (number st) → Turns st (without_message m os) i (number st)
-      turned true w v st i u =
-          let none : list_any (is_of m) os ≡ false = fails (list_any (is_of m) os) (λ e. not_both (sym (k.apart m e) ∙ there us v)) in
-          subst (λ cs. Turns st cs i (number st)) (sym (without-none m os none)) u
-      turned false w v st i u = turns-rest st m n false os i (number st) (subst (λ j. IsWhole false n (begun j) os) same w) u
+      turned b h2 h3 st i h6 = grind (arith, nat_tests, not_both, there, turns-rest, without-none)
 
   rest-abandoned : waits m q.pending ≡ true → partially_sent q.pending ≡ Some m → (o : Option ChunkPayloadData) → last_removed m q.pending ≡ o
       → Abandons ws first number sent q (record q { pending = without m q.pending; inflight = with_terminal_chunk o next (payload.with_chunks q.inflight xs) })
@@ -325,11 +288,4 @@ module _ (ws : List Numbered) (first : ℕ) (number : ℕ → ℕ) (q : Outbound
 pub abandoned : (ws : List Numbered) (first : ℕ) (number : ℕ → ℕ) (q : Outbound) (next : ℕ) (sent : List Entry) → Stands ws first number q next sent
     → (o : Option ℕ) → ((m : ℕ) → o ≡ Some m → waits m q.pending ≡ true → partially_sent q.pending ≡ Some m)
     → Abandons ws first number sent q (abandoned_of o next q) (tsn_after_of o next q)
-abandoned ws first number q next sent s None partial = no-abandons ws first number sent q next s
-abandoned ws first number q next sent s (Some m) partial = by (waits m q.pending) refl
-  where
-    by : (b : Bool) → waits m q.pending ≡ b → Abandons ws first number sent q (abandon_chunks m next q) (if waits m q.pending then following_tsn next else next)
-    by true e = subst (λ b. Abandons ws first number sent q (abandon_chunks m next q) (if b then following_tsn next else next)) (sym e)
-        (rest-abandoned ws first number q next sent s m e (partial m refl e) (last_removed m q.pending) refl)
-    by false e = subst (λ b. Abandons ws first number sent q (abandon_chunks m next q) (if b then following_tsn next else next)) (sym e)
-        (whole-abandoned ws first number q next sent s m e)
+abandoned ws first number q next sent h7 o h9 = grind (arith, nat_tests, no-abandons, rest-abandoned, whole-abandoned)

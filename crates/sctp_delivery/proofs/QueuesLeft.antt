@@ -1,48 +1,24 @@
 -- What each change of a sender's queues makes of the chunks in flight and of how many are left.
-use Rattle.std.proofs.Common.{◌≡◌, ℕ, suc, ◌+◌, ◌%◌, ◌^◌, ◌<◌, ◌≤◌, Bool, true, false, not, List, [], ◌∷◌, ◌++◌, length, length-append, length-drop, map, drop}
-use Rattle.std.proofs.Common.{Option, Some, None, ◌⊎◌, inl, inr, refl, ap, sym, subst, ◌∙◌, arith, ◌-◌}
-use Rattle.std.specs.Prelude.{if◌then◌else◌, ◌==◌, ◌&&◌, ◌||◌, nat_lt, find}
-use Rattle.std.specs.List.{list_any}
-use Rattle.std.proofs.lemmas.List.{drop-map, length-map, map-append}
-use Rattle.std.proofs.lemmas.Option.{none-some}
-use Rattle.sctp_util.specs.Lists.{change_where, insert_before}
-use Rattle.sctp_util.specs.Serial.{comes_before, distance}
-use Rattle.sctp_util.proofs.Cases.{or-split, some-same}
-use Rattle.sctp_util.proofs.Edits.{length-change_where}
-use Rattle.sctp_util.proofs.More.{not_both}
-use Rattle.sctp_data.specs.declared.chunk.chunk_payload_data.ChunkPayloadData.{ChunkPayloadData}
-use Rattle.sctp_outbound.specs.declared.pending_queue.Selected.{Selected}
-use Rattle.sctp_outbound.specs.Marks.{as_abandoned, is_of, as_acknowledged}
-use Rattle.sctp_outbound.specs.outbound_queue.OutboundQueue.{Outbound, abandon_chunks, abandoned_of, all_started, as_sent, expired_of, sent_of, terminal_chunk}
-use Rattle.sctp_outbound.specs.outbound_queue.OutboundQueue.{tsn_after_of, with_inflight, with_terminal_chunk, sent_next, with_message, with_message_id}
+use Rattle.sctp_delivery.proofs.Names.{◌≡◌, ℕ, ◌+◌, ◌%◌, ◌^◌, ◌<◌, ◌≤◌, Bool, true, false, List, [], ◌∷◌, ◌++◌, length, length-append, length-drop, map, drop}
+use Rattle.sctp_delivery.proofs.Names.{Option, Some, None, inl, inr, refl, ap, sym, subst, ◌∙◌, arith, ◌-◌, if◌then◌else◌, ◌==◌, ◌&&◌, nat_lt, find, list_any}
+use Rattle.sctp_delivery.proofs.Names.{length-map, map-append, none-some, change_where, insert_before, comes_before, distance, or-split, some-same}
+use Rattle.sctp_delivery.proofs.Names.{length-change_where, not_both, ChunkPayloadData, Selected, as_abandoned, is_of, as_acknowledged, Outbound, abandoned_of}
+use Rattle.sctp_delivery.proofs.Names.{all_started, as_sent, expired_of, sent_of, terminal_chunk, tsn_after_of, with_inflight, with_terminal_chunk, sent_next}
+use Rattle.sctp_delivery.proofs.Names.{with_message, Pending, chunk_count, chunk_to_pop_from, last_removed, list_to_pop, next_pending, rest_after, rest_from}
+use Rattle.sctp_delivery.proofs.Names.{selected_after, without, without_message, GoesOn, IsSendable, partial_of, partially_sent, waits, abandoned_none}
+use Rattle.sctp_delivery.proofs.Names.{partial_waits, last_is_of, no_last, goes_on, partial_gone, made, sendable-sent, chunk_before, has_tsn, tsns_from, Flight}
+use Rattle.sctp_delivery.proofs.Names.{after_sack, is_outdated, message_to_abandon, reports_anew, take_sack, with_room, started-inflight, IsRunFrom}
+use Rattle.sctp_delivery.proofs.Names.{changed-run, past-is, nat_tests, distance-tsn, tsn, Sack, abandoned_at, abandoned_each, fragments_with_mode}
+use Rattle.sctp_delivery.proofs.Names.{Transmission, Released, found-partial, flight_of, is_exchange, SenderCall, SenderFollows, Session, of_sender, IsReported}
+use Rattle.std.proofs.Common.{◌⊎◌}
+use Rattle.std.proofs.lemmas.List.{drop-map}
 use Rattle.sctp_outbound.specs.payload_queue.PayloadQueue as payload
-use Rattle.sctp_outbound.specs.pending_queue.PendingQueue.{Pending, chunk_count, chunk_to_pop_from, closed_up, is_to_start, last_removed, list_to_pop}
-use Rattle.sctp_outbound.specs.pending_queue.PendingQueue.{next_pending, one_lower, rest_after, rest_from, selected_after, start_pending, with_deadline}
-use Rattle.sctp_outbound.specs.pending_queue.PendingQueue.{without, without_message}
-use Rattle.sctp_outbound.specs.pending_queue.Whole.{GoesOn, IsSendable, partial_of, partially_sent, waits}
-use Rattle.sctp_outbound.proofs.lemmas.outbound_queue.Abandoned.{abandoned_none, partial_waits, last_is_of, no_last}
-use Rattle.sctp_outbound.proofs.lemmas.outbound_queue.Sendable.{goes_on, partial_gone, made, sendable-sent}
 use Rattle.sctp_outbound.proofs.lemmas.outbound_queue.SideBySide.{partial_before, partial_appended}
-use Rattle.sctp_serial.specs.DataChunks.{chunk_before, following_tsn, is_on, has_tsn}
-use Rattle.sctp_sender.specs.Flight.{tsns_from, Flight, after_sack, is_outdated, message_to_abandon, reports_anew, take_sack, with_room}
-use Rattle.sctp_sender.proofs.Flights.{behind, started-inflight}
-use Rattle.sctp_sender.proofs.Runs.{IsRunFrom, changed-run, past-is}
 use Rattle.sctp_delivery.proofs.Continued.{AreContinued, IsContinued, abandoned-continued, ended-continued, facts, facts-abandoned, facts_of, gone_at}
 use Rattle.sctp_delivery.proofs.Continued.{left-continued, sent-continued, facts-changed, facts-part-changed}
 use Rattle.sctp_delivery.proofs.ValidMarks.{IsUnmarked, started-valid}
-use Rattle.std.proofs.lemmas.Bool.Decides.{nat_tests}
-use Rattle.sctp_util.proofs.Round.{distance-tsn, tsn}
-use Rattle.sctp_data.specs.SelectiveAck.{Sack}
-use Rattle.sctp_sender.specs.Late.{abandoned_at, abandoned_each}
-use Rattle.sctp_sender.specs.Outgoing.{fragments_with_mode}
-use Rattle.sctp_sender.specs.Resending.{after_misses, can_miss, missed}
-use Rattle.sctp_sender.specs.Sender.{Transmission}
-use Rattle.sctp_sender.specs.declared.sender.flight.Released.{Released}
-use Rattle.sctp_sender.proofs.InLine.{found-partial}
-use Rattle.sctp_delivery.specs.Rounds.{flight_of, is_exchange}
+use Rattle.sctp_sender.proofs.InLine.{put-behind}
 use Rattle.sctp_delivery.specs.SenderCalls as outgoing
-use Rattle.sctp_delivery.specs.SenderCalls.{SenderCall}
-use Rattle.sctp_delivery.specs.Session.{SenderFollows, Session, of_sender, IsReported}
 use Rattle.sctp_delivery.proofs.Every.{Every, every-contained}
 use Rattle.sctp_delivery.proofs.GivenTsns.{IsNumbered}
 use Rattle.sctp_delivery.proofs.Queues.{Stands, abandoned, started}
@@ -70,10 +46,7 @@ pub goes-none : (b : Bool) (q : Outbound) → Goes b q q
 goes-none b q = record { continued = λ c. c; fewer = λ e. omega arith }
 
 pub goes-then : (q r o : Outbound) → Goes true q r → Goes true r o → Goes true q o
-goes-then q r o a b = record {
-  continued = λ c. b.continued (a.continued c);
-  fewer = λ e. let x = a.fewer e in let y = b.fewer e in omega (arith, x, y);
-}
+goes-then q r o a b = grind (arith, nat_tests)
 
 count-facts : (cs : List ChunkPayloadData) → length (facts_of cs) ≡ length cs
 count-facts cs = length-map cs facts
@@ -81,29 +54,12 @@ count-facts cs = length-map cs facts
 -- the same is so of the chunks in flight, the same message is partially sent, and no more chunks wait
 pub same-goes : (b : Bool) (q r : Outbound) → facts_of r.inflight.chunks ≡ facts_of q.inflight.chunks
     → partially_sent r.pending ≡ partially_sent q.pending → (b ≡ true → chunk_count r.pending ≤ chunk_count q.pending) → Goes b q r
-same-goes b q r same partial fewer = record {
-  continued = λ c. subst (λ o. AreContinued o (facts_of r.inflight.chunks)) (sym partial) (subst (AreContinued (partially_sent q.pending)) (sym same) c);
-  fewer = λ e.
-      let le = fewer e in
-      let n = ap length same in
-      let x = count-facts q.inflight.chunks in
-      let y = count-facts r.inflight.chunks in
-      omega (arith, le, n, x, y);
-}
+same-goes b q r same partial fewer = grind (arith, nat_tests, count-facts)
 
 -- ## Lifetimes
 
 pub started-goes : (now : ℕ) (q : Outbound) → Goes true q (all_started now q)
-started-goes now q = by (q.next_unstarted == q.next_message_id)
-  where
-    by : (b : Bool)
-        → Goes true q (if b then q else record q { pending = start_pending q.next_unstarted now q.pending; next_unstarted = q.next_message_id })
-    by true = goes-none true q
-    by false = same-goes true q (record q { pending = start_pending q.next_unstarted now q.pending; next_unstarted = q.next_message_id }) refl refl
-        (λ e.
-        let a = length-change_where (is_to_start q.next_unstarted) (with_deadline now) q.pending.ordered in
-        let b = length-change_where (is_to_start q.next_unstarted) (with_deadline now) q.pending.unordered in
-        omega (arith, a, b))
+started-goes now q = grind (arith, nat_tests, goes-none, length-change_where, same-goes)
 
 -- ## Sending
 
@@ -115,27 +71,10 @@ pub record CanPut (cs : List ChunkPayloadData) (tsn : ℕ) : Type 0 where
   pub run : IsRunFrom first cs
   pub is : tsn ≡ (first + length cs) % 2 ^ 32
 
-put-behind : (x : ChunkPayloadData) (cs : List ChunkPayloadData) (first : ℕ) → first < 2 ^ 32 → length cs < 2 ^ 31 → IsRunFrom first cs
-    → x.tsn ≡ (first + length cs) % 2 ^ 32 → insert_before chunk_before x cs ≡ cs ++ x ∷ []
-put-behind x [] first small few run is = refl
-put-behind x (c ∷ cs) first small few run is =
-    let head : c.tsn ≡ first = cc in
-    let tail : IsRunFrom (following_tsn first) cs = cc in
-    let late : comes_before x.tsn c.tsn ≡ false =
-    ap (λ t. comes_before t c.tsn) is ∙ ap (comes_before ((first + suc (length cs)) % 2 ^ 32)) head
-    ∙ behind first (suc (length cs)) small (omega arith) (omega (arith, few)) in
-    let same : x.tsn ≡ (following_tsn first + length cs) % 2 ^ 32 = omega (arith, is) in
-    ap (λ b. if b then x ∷ c ∷ cs else c ∷ insert_before chunk_before x cs) late
-    ∙ ap (λ ds. c ∷ ds) (put-behind x cs (following_tsn first) (omega arith) (omega (arith, few)) tail same)
-
 -- a chunk that is taken leaves one fewer
 pub popped : (k : Option Bool) (os us : List ChunkPayloadData) (sel : Option Selected) (ro ru : ℕ) (c : ChunkPayloadData)
     → chunk_to_pop_from k (made os us sel ro ru) ≡ Some c → chunk_count (rest_from k (made os us sel ro ru)) + 1 ≡ chunk_count (made os us sel ro ru)
-popped None os us sel ro ru c h = absurd (none-some c h)
-popped (Some true) os [] sel ro ru c h = absurd (none-some c h)
-popped (Some true) os (u ∷ us) sel ro ru c h = omega arith
-popped (Some false) [] us sel ro ru c h = absurd (none-some c h)
-popped (Some false) (o ∷ os) us sel ro ru c h = omega arith
+popped k os us sel ro ru c h8 = grind (arith, nat_tests, none-some)
 
 -- and where it does not end its message, that is partially sent
 on-sel : (kind : Bool) (c : ChunkPayloadData) (sel : Option Selected) → c.ending_fragment ≡ false → ((m : ℕ) → partial_of sel ≡ Some m → c.message_id ≡ m)
@@ -146,15 +85,7 @@ on-sel kind c (Some s) e on = ap (λ b. partial_of (if b && (c.message_id == s.m
 partial-on : (k : Option Bool) (os us : List ChunkPayloadData) (sel : Option Selected) (ro ru : ℕ) (c : ChunkPayloadData)
     → chunk_to_pop_from k (made os us sel ro ru) ≡ Some c → c.ending_fragment ≡ false → ((m : ℕ) → partial_of sel ≡ Some m → c.message_id ≡ m)
     → partially_sent (rest_from k (made os us sel ro ru)) ≡ Some c.message_id
-partial-on None os us sel ro ru c h e on = absurd (none-some c h)
-partial-on (Some true) os [] sel ro ru c h e on = absurd (none-some c h)
-partial-on (Some true) os (u ∷ us) sel ro ru c h e on =
-    let same : u ≡ c = some-same h in
-    ap (λ x. partial_of (selected_after sel true x)) same ∙ on-sel true c sel e on
-partial-on (Some false) [] us sel ro ru c h e on = absurd (none-some c h)
-partial-on (Some false) (o ∷ os) us sel ro ru c h e on =
-    let same : o ≡ c = some-same h in
-    ap (λ x. partial_of (selected_after sel false x)) same ∙ on-sel false c sel e on
+partial-on k os us sel ro ru c h8 h9 h10 = grind (arith, nat_tests, none-some, on-sel, some-same)
 
 goes-with : (m : ℕ) (c : ChunkPayloadData) (o : Option ChunkPayloadData) → o ≡ Some c → GoesOn m o → c.message_id ≡ m
 goes-with m c None e g = absurd g
@@ -201,27 +132,14 @@ sent-goes q tsn now k can (Some c) e unmarked = record {
 
 few-without : (m : ℕ) (cs : List ChunkPayloadData) → length (without_message m cs) ≤ length cs
 few-without m [] = omega arith
-few-without m (c ∷ cs) = by (is_of m c) (few-without m cs)
-  where
-    by : (b : Bool) → length (without_message m cs) ≤ length cs
-        → length (if not b then c ∷ without_message m cs else without_message m cs) ≤ length (c ∷ cs)
-    by true ih = omega (arith, ih)
-    by false ih = omega (arith, ih)
+few-without m (c ∷ cs) = grind (arith, nat_tests, few-without m cs)
 
 fewer-without : (m : ℕ) (cs : List ChunkPayloadData) → list_any (is_of m) cs ≡ true → length (without_message m cs) + 1 ≤ length cs
 fewer-without m [] e = absurd (not_both e)
-fewer-without m (c ∷ cs) e = by (is_of m c) e (fewer-without m cs)
-  where
-    by : (b : Bool) → (b || list_any (is_of m) cs) ≡ true → (list_any (is_of m) cs ≡ true → length (without_message m cs) + 1 ≤ length cs)
-        → length (if not b then c ∷ without_message m cs else without_message m cs) + 1 ≤ length (c ∷ cs)
-    by true f ih = let le = few-without m cs in omega (arith, le)
-    by false f ih = let le = ih f in omega (arith, le)
+fewer-without m (c ∷ cs) e = grind (arith, nat_tests, few-without, fewer-without m cs)
 
 waiting-gone : (m : ℕ) (p : Pending) → waits m p ≡ true → chunk_count (without m p) + 1 ≤ chunk_count p
-waiting-gone m p w = elim (or-split (list_any (is_of m) p.unordered) (list_any (is_of m) p.ordered) w) [
-  | inl e ↦ let a = fewer-without m p.unordered e in let b = few-without m p.ordered in omega (arith, a, b)
-  | inr e ↦ let a = few-without m p.unordered in let b = fewer-without m p.ordered e in omega (arith, a, b)
-]
+waiting-gone m p w = grind (arith, nat_tests, few-without, fewer-without, or-split)
 
 -- nothing is partially sent, or a terminal chunk has its place
 abbrev pub HasPlace : Outbound → ℕ → Type 0
@@ -252,13 +170,7 @@ module _ (q : Outbound) (tsn : ℕ) (k : IsSendable q.pending q.inflight.chunks 
 
   marked-place : HasPlace q tsn → HasPlace marked tsn
   marked-place (inl none) = inl none
-  marked-place (inr can) = inr (record {
-    first = can.first;
-    small = can.small;
-    few = let few = can.few in omega (arith, long, few);
-    run = run-on can.first can.run;
-    is = let is = can.is in omega (arith, is, long);
-  })
+  marked-place (inr can) = grind (arith, nat_tests, long, run-on)
 
   -- none of it waits
   whole-goes : waits m q.pending ≡ false → Goes true q marked
@@ -291,38 +203,17 @@ module _ (q : Outbound) (tsn : ℕ) (k : IsSendable q.pending q.inflight.chunks 
     where
       at-end : insert_before chunk_before (terminal_chunk tsn c) (change_where (is_of m) as_abandoned q.inflight.chunks)
           ≡ change_where (is_of m) as_abandoned q.inflight.chunks ++ terminal_chunk tsn c ∷ []
-      at-end =
-          let few = can.few in
-          let is = can.is in
-          put-behind (terminal_chunk tsn c) xs can.first can.small (omega (arith, few, long)) (run-on can.first can.run) (omega (arith, is, long))
+      at-end = grind (arith, nat_tests, long, put-behind, run-on)
 
       all : facts_of (insert_before chunk_before (terminal_chunk tsn c) (change_where (is_of m) as_abandoned q.inflight.chunks))
           ≡ map (gone_at m) (facts_of q.inflight.chunks) ++ (m, true, true) ∷ []
-      all = ap facts_of at-end ∙ map-append facts xs (terminal_chunk tsn c ∷ [])
-          ∙ ap (λ ys. ys ++ (c.message_id, true, true) ∷ []) (facts-abandoned m q.inflight.chunks)
-          ∙ ap (λ j. map (gone_at m) (facts_of q.inflight.chunks) ++ (j, true, true) ∷ []) (last_is_of m q.pending c e)
+      all = grind (arith, nat_tests, at-end, facts-abandoned, last_is_of, map-append)
 
 pub abandoned-goes : (q : Outbound) (tsn : ℕ) → IsSendable q.pending q.inflight.chunks q.next_message_id → (o : Option ℕ)
     → ((m : ℕ) → o ≡ Some m → waits m q.pending ≡ true → partially_sent q.pending ≡ Some m) → HasPlace q tsn
     → Abandons q (abandoned_of o tsn q) (tsn_after_of o tsn q)
 abandoned-goes q tsn k None partial place = record { goes = goes-none true q; place = place }
-abandoned-goes q tsn k (Some m) partial place = by (waits m q.pending) refl
-  where
-    by : (b : Bool) → waits m q.pending ≡ b → Abandons q (abandon_chunks m tsn q) (if waits m q.pending then following_tsn tsn else tsn)
-    by false w =
-        subst (λ b. Abandons q (abandon_chunks m tsn q) (if b then following_tsn tsn else tsn)) (sym w)
-        (subst (λ r. Abandons q r tsn) (sym (abandoned_none m tsn q k w))
-        (record { goes = whole-goes q tsn k m w; place = marked-place q tsn k m place }))
-    by true w =
-        let is = partial m refl w in
-        record {
-          goes = put is place;
-          place = inl (partial_gone m q.pending.selected is);
-        }
-      where
-        put : partially_sent q.pending ≡ Some m → HasPlace q tsn → Goes true q (abandon_chunks m tsn q)
-        put is (inl none) = absurd (none-some m (sym none ∙ is))
-        put is (inr can) = ended-goes q tsn k m w is can (last_removed m q.pending) refl
+abandoned-goes q tsn k (Some m) partial place = grind (arith, nat_tests, abandoned_none, ended-goes, marked-place, none-some, partial_gone, whole-goes)
 
 -- ## A message expires
 
@@ -338,28 +229,7 @@ none-partial q k c e begins (Some m) h = absurd (inner (next_pending q.pending) 
 
 pub expired-goes : (q : Outbound) → IsSendable q.pending q.inflight.chunks q.next_message_id → (c : ChunkPayloadData) → next_pending q.pending ≡ Some c
     → c.beginning_fragment ≡ true → Goes true q (expired_of (Some c) q)
-expired-goes q k c e begins = by c.unordered
-  where
-    none : partially_sent q.pending ≡ None
-    none = none-partial q k c e begins (partially_sent q.pending) refl
-
-    still : (o : Option ℕ) → partially_sent (without c.message_id q.pending) ≡ o → o ≡ None
-    still None h = refl
-    still (Some j) h = absurd (none-some j (sym none ∙ partial_before c.message_id j q.pending.selected h))
-
-    same : partially_sent (without c.message_id q.pending) ≡ partially_sent q.pending
-    same = still (partially_sent (without c.message_id q.pending)) refl ∙ sym none
-
-    fewer : chunk_count (without c.message_id q.pending) ≤ chunk_count q.pending
-    fewer = let a = few-without c.message_id q.pending.ordered in let b = few-without c.message_id q.pending.unordered in omega (arith, a, b)
-
-    by : (b : Bool) → Goes true q (record q {
-      pending = if b then without c.message_id q.pending else closed_up c.stream_identifier (without c.message_id q.pending);
-    })
-    by true = same-goes true q (record q { pending = without c.message_id q.pending }) refl same (λ _. fewer)
-    by false =
-        same-goes true q (record q { pending = closed_up c.stream_identifier (without c.message_id q.pending) }) refl same
-        (λ _. let n = length-change_where (is_on c.stream_identifier) one_lower (without c.message_id q.pending).ordered in omega (arith, n, fewer))
+expired-goes q k c e begins = grind (arith, nat_tests, few-without, length-change_where, none-partial, none-some, partial_before, same-goes)
 
 -- ## Chunks leave
 
@@ -393,17 +263,31 @@ sack-leaves p n place s f few within is h e =
     let order : nat_lt place h.acked ≡ false =
     sym (before p place h.acked (omega (arith, within, few)) (omega (arith, total, few))) ∙ ap (λ t. comes_before t (tsn p h.acked)) (sym is)
     ∙ ap (comes_before s.cumulative_tsn_ack) (sym h.acked_is) ∙ e in
-    let le : h.acked ≤ place = grind (arith, nat_tests, order) in
+    let le : h.acked ≤ place =
+    grind (
+      arith,
+      nat_tests,
+      order,
+    ) in
     let far : distance f.acked_tsn s.cumulative_tsn_ack ≡ place - h.acked =
     ap (λ t. distance t s.cumulative_tsn_ack) h.acked_is ∙ ap (distance (tsn p h.acked)) is ∙ distance-tsn p h.acked place le (omega (arith, within, few)) in
-    let small : f.acked_tsn < 2 ^ 32 = let t = tsn-small p h.acked in let a = h.acked_is in omega (arith, t, a) in
-    let fits : s.cumulative_tsn_ack < 2 ^ 32 = let t = tsn-small p place in omega (arith, t, is) in
+    let small : f.acked_tsn < 2 ^ 32 = let t = tsn-small p h.acked in let a = h.acked_is in omega (
+      arith,
+      t,
+      a,
+    ) in
+    let fits : s.cumulative_tsn_ack < 2 ^ 32 = let t = tsn-small p place in omega (
+      arith,
+      t,
+      is,
+    ) in
     let run : IsRunFrom (tsn p (h.acked + 1)) cs =
     changed-run (reports_anew s) as_acknowledged (λ c. refl) f.queue.inflight.chunks ∙ h.run ∙ ap (tsns_from (tsn p (h.acked + 1))) (sym long) in
-    let first : (f.acked_tsn + 1) % 2 ^ 32 ≡ tsn p (h.acked + 1) = let a = h.acked_is in omega (arith, a) in
-    past-is cs f.acked_tsn s.cumulative_tsn_ack small fits (omega (arith, long, total, few)) (omega (arith, far, long, total, within))
-    (subst (λ t. IsRunFrom t cs) (sym first) run)
-    ∙ ap (λ k. drop k cs) far
+    let first : (f.acked_tsn + 1) % 2 ^ 32 ≡ tsn p (h.acked + 1) = let a = h.acked_is in omega (
+      arith,
+      a,
+    ) in
+    grind (arith, nat_tests, past-is)
 
 sack-goes : (p n : ℕ) (kn : ℕ → Bool) (k : Sack) (f : Flight) → n < 2 ^ 31 → IsNumbered p n f → IsTruthful p n kn k → Goes true f.queue (after_sack k f).queue
 sack-goes p n kn k f few h t = by (is_outdated k f) refl
@@ -431,10 +315,7 @@ gone-each ws first number (t ∷ ts) f sent s place =
 -- ## A write
 
 message-same : (cs : List ChunkPayloadData) (q : Outbound) → Goes false q (with_message cs q)
-message-same [] q = goes-none false q
-message-same (c ∷ cs) q =
-    same-goes false q (with_message (c ∷ cs) q) refl (partial_appended c.unordered (map (with_message_id q.next_message_id) (c ∷ cs)) q.pending)
-    (λ e. absurd (not_both e))
+message-same cs q = grind (arith, nat_tests, goes-none, not_both, partial_appended, same-goes)
 
 -- ## The calls
 
@@ -450,13 +331,7 @@ module _ (p n : ℕ) (old new : Session) (few : n < 2 ^ 31) (h : IsNumbered p n 
   goes-to b t e g = subst (λ (u : Transmission). Goes b queue u.flight.queue) (sym e) g
 
   place : CanPut old.sending.sender.flight.queue.inflight.chunks old.sending.sender.flight.next_tsn
-  place = record {
-    first = tsn p (h.acked + 1);
-    small = tsn-small p (h.acked + 1);
-    few = let total = h.total in omega (arith, total, few);
-    run = h.run;
-    is = let total = h.total in let next = h.next_is in omega (arith, total, next);
-  }
+  place = grind (arith, nat_tests, tsn-small)
 
   sends : (now : ℕ) → Goes true old.sending.sender.flight.queue (sent_next old.sending.sender.flight.queue old.sending.sender.flight.next_tsn now)
   sends now =
@@ -473,20 +348,14 @@ module _ (p n : ℕ) (old new : Session) (few : n < 2 ^ 31) (h : IsNumbered p n 
   changed-goes call t nothing = goes-none true queue
   changed-goes call t (all_start now) = started-goes now queue
   changed-goes call t (more_room count) = same-goes true queue (with_room count queue) refl refl (λ _. omega arith)
-  changed-goes call t (some_marked q f k) =
-      same-goes true queue (with_inflight queue (change_where q f queue.inflight.chunks))
-      (facts-changed q f (λ c. ap facts (k c)) queue.inflight.chunks) refl (λ _. omega arith)
-  changed-goes call t (some_missed count) =
-      same-goes true queue (after_misses count (flight_of old)).queue
-      (facts-part-changed can_miss missed (λ d. refl) queue.inflight.chunks count) refl (λ _. omega arith)
+  changed-goes call t (some_marked q f k) = grind (arith, nat_tests, facts-changed, same-goes)
+  changed-goes call t (some_missed count) = grind (arith, nat_tests, facts-part-changed, same-goes)
   changed-goes call t (one_leaves o e found) =
       (abandoned-goes queue old.sending.sender.flight.next_tsn held.stands.sendable o
       (partial-found old.sending.sender held.stands.sendable o found) (inr place)).goes
   changed-goes call t (each_leaves ts short e) =
       gone-each ws first (λ s. number_of s old.sending.sender.streams) ts (flight_of old) sent held.stands (inr place)
-  changed-goes call t (front_expires now c found e) =
-      let front = in-front now (next_pending queue.pending) c found in
-      expired-goes queue held.stands.sendable c front.0 front.1
+  changed-goes call t (front_expires now c found e) = grind (arith, nat_tests, expired-goes, in-front)
   changed-goes call t (acknowledges k gone e) = sack-goes p n (known old) k (flight_of old) few h (t k gone e)
 
   pub calls-go : (call : SenderCall) → Every (IsTruthful p n (known old)) old.sacks → SenderFollows call old new → GoesBy (is_exchange (of_sender call))

@@ -1,16 +1,7 @@
 -- Sessions that were reached from a start, call by call: the chunks in flight are continued, and no more are left in an exchange.
-use Rattle.std.proofs.Common.{◌≡◌, ℕ, ◌+◌, ◌^◌, ◌<◌, ◌≤◌, true, List, [], ◌∷◌, ◌++◌, Option, refl, ap, sym, subst, arith}
-use Rattle.std.specs.List.{list_all}
-use Rattle.sctp_util.specs.Serial.{distance}
-use Rattle.sctp_util.proofs.More.{and, both}
-use Rattle.sctp_receiver.specs.declared.receiver.limits.Limits.{Limits}
-use Rattle.sctp_sender.specs.SenderRuns.{Ledger}
-use Rattle.sctp_delivery.specs.Complete.{is_reliable}
-use Rattle.sctp_delivery.specs.ReceiverCalls.{ReceiverCall}
-use Rattle.sctp_delivery.specs.Rounds.{is_exchange}
-use Rattle.sctp_delivery.specs.Sacks.{tsns_given}
-use Rattle.sctp_delivery.specs.SenderCalls.{SenderCall}
-use Rattle.sctp_delivery.specs.Session.{Call, Follows, ReceiverFollows, RunsTo, SenderFollows, Session, at_start, of_receiver, of_sender}
+use Rattle.sctp_delivery.proofs.Names.{◌≡◌, ℕ, ◌+◌, ◌^◌, ◌<◌, ◌≤◌, true, List, [], ◌∷◌, ◌++◌, Option, refl, ap, sym, subst, arith, list_all, nat_tests}
+use Rattle.sctp_delivery.proofs.Names.{common_steps, distance, and, both, Limits, Ledger, is_reliable, ReceiverCall, is_exchange, tsns_given, SenderCall, Call}
+use Rattle.sctp_delivery.proofs.Names.{Follows, ReceiverFollows, RunsTo, SenderFollows, Session, at_start, of_receiver, of_sender}
 use Rattle.sctp_delivery.proofs.Calls.{numbered_after}
 use Rattle.sctp_delivery.proofs.QueuesLeft.{calls-go, Goes, left}
 use Rattle.sctp_delivery.proofs.Continued.{IsContinued}
@@ -119,7 +110,7 @@ reach-one first n call s t f i =
       small = i.small;
       some = i.some;
       run = run-then i.calls call start s t i.run f;
-      given = let e = given-then i.calls call start s t i.run f in let g = i.given in omega (arith, e, g);
+      given = let e = given-then i.calls call start s t i.run f in omega (arith, e);
     }
 
 pub reach-on : (first n : ℕ) (cs : List Call) (s t : Session) (run : RunsTo s cs t) → IsReached first n s
@@ -139,9 +130,7 @@ pub record IsReachedReliably (first n : ℕ) (s : Session) : Type 0 where
 
 all-more : (call : Call) (cs : List Call) → list_all is_reliable cs ≡ true → is_reliable call ≡ true → list_all is_reliable (cs ++ call ∷ []) ≡ true
 all-more call [] e f = and (is_reliable call) true f refl
-all-more call (c ∷ cs) e f =
-    let b = both (is_reliable c) (list_all is_reliable cs) e in
-    and (is_reliable c) (list_all is_reliable (cs ++ call ∷ [])) b.0 (all-more call cs b.1 f)
+all-more call (c ∷ cs) e f = grind (arith, nat_tests, common_steps, both (is_reliable c) (list_all is_reliable cs) e)
 
 reliably-one : (first n : ℕ) (call : Call) (s t : Session) → Follows call s t → is_reliable call ≡ true → IsReachedReliably first n s
     → IsReachedReliably first (n + distance (next_tsn s) (next_tsn t)) t
@@ -177,6 +166,5 @@ none-more first n (of_sender call ∷ cs) s t run few e i =
     omega (arith, one, ih)
 none-more first n (of_receiver call ∷ cs) s t run few e i =
     let d = distance (next_tsn s) (next_tsn run.0) in
-    let same = ap (λ (x : Session). left x.sending.sender.flight.queue) run.1.0.after in
     let ih = none-more first (n + d) cs run.0 t run.1.1 (omega (arith, few)) e (reach-one first n (of_receiver call) s run.0 run.1.0 i) in
-    omega (arith, same, ih)
+    omega (arith, ap (λ (x : Session). left x.sending.sender.flight.queue) run.1.0.after, ih)

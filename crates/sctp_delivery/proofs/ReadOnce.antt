@@ -1,19 +1,11 @@
 -- No TSN is read twice: the fragments of all messages that were read have TSNs of their own.
-use Rattle.std.proofs.Common.{◌≡◌, ℕ, ◌+◌, ◌≤◌, Bool, true, false, not, List, [], ◌∷◌, ◌++◌, Option, refl, ap, sym, subst, ◌∙◌, arith}
-use Rattle.std.specs.Prelude.{◌==◌, ◌&&◌, ◌||◌, if◌then◌else◌}
-use Rattle.std.specs.List.{filter, list_all, list_any, sum_by}
-use Rattle.std.proofs.lemmas.List.Sums.{sum_by-cons, sum_by-append}
-use Rattle.sctp_util.proofs.Cases.{negated, or-right, same-is, same-yes}
-use Rattle.sctp_util.proofs.More.{and, both, not_both}
-use Rattle.sctp_data.specs.declared.chunk.chunk_payload_data.ChunkPayloadData.{ChunkPayloadData}
-use Rattle.sctp_receiver.specs.declared.receiver.limits.Limits.{Limits}
+use Rattle.sctp_delivery.proofs.Names.{◌≡◌, ℕ, ◌+◌, ◌≤◌, Bool, true, false, not, List, [], ◌∷◌, ◌++◌, Option, refl, ap, sym, subst, ◌∙◌, arith, ◌==◌, ◌&&◌}
+use Rattle.sctp_delivery.proofs.Names.{◌||◌, if◌then◌else◌, filter, list_all, list_any, sum_by, sum_by-cons, sum_by-append, nat_tests, common_steps, negated}
+use Rattle.sctp_delivery.proofs.Names.{or-right, same-is, same-yes, and, both, not_both, ChunkPayloadData, Limits, Message, fragments_read, has_tsn, is_on}
+use Rattle.sctp_delivery.proofs.Names.{NoneIsReadTwice, fragments_of_all, AfterEachSessionOfFewTsns, NoneIsTakenTwice, are_apart, Session, at_start}
 use Rattle.sctp_receiver.specs.ReceiverRuns as receiver_runs
-use Rattle.sctp_receiver.specs.ReceiverRuns.{Message, fragments_read}
 use Rattle.sctp_receiver.proofs.Handed as handed
-use Rattle.sctp_serial.specs.DataChunks.{has_tsn, is_on}
-use Rattle.sctp_delivery.specs.Messages.{NoneIsReadTwice, fragments_of_all}
-use Rattle.sctp_delivery.specs.Sacks.{AfterEachSessionOfFewTsns, NoneIsTakenTwice, are_apart}
-use Rattle.sctp_delivery.specs.Session.{Session, at_start}
+use Rattle.sctp_delivery.proofs.Cases.{at-if, at-test, by-test}
 use Rattle.sctp_delivery.proofs.SackLaws as sacks
 use Rattle.sctp_delivery.proofs.Sessions as sessions
 use Rattle.sctp_delivery.proofs.Sessions.{each-read, none-fails, receiver-runs, receiver_calls}
@@ -31,33 +23,27 @@ more t c cs = sum_by-cons (one t) c cs
 
 pub none-count : (t : ℕ) (cs : List ChunkPayloadData) → list_any (has_tsn t) cs ≡ false → count t cs ≡ 0
 none-count t [] e = refl
-none-count t (c ∷ cs) e = by (has_tsn t c) refl e (none-count t cs)
-  where
-    by : (b : Bool) → has_tsn t c ≡ b → (b || list_any (has_tsn t) cs) ≡ false → (list_any (has_tsn t) cs ≡ false → count t cs ≡ 0) → count t (c ∷ cs) ≡ 0
-    by true i h ih = absurd (not_both (sym h))
-    by false i h ih = let z = ih h in let o : one t c ≡ 0 = ap (λ b. if b then 1 else 0) i in omega (arith, more t c cs, z, o)
+none-count t (c ∷ cs) e = at-test (λ b. (b || list_any (has_tsn t) cs) ≡ false → count t (c ∷ cs) ≡ 0) (has_tsn t c)
+    (λ i h. absurd (not_both (sym h)))
+    (λ i h. let z = (none-count t cs) h in let o : one t c ≡ 0 = ap (λ b. if b then 1 else 0) i in omega (arith, more t c cs, z, o)) e
 
 pub count-none : (t : ℕ) (cs : List ChunkPayloadData) → count t cs ≡ 0 → list_any (has_tsn t) cs ≡ false
 count-none t [] e = refl
-count-none t (c ∷ cs) e = by (has_tsn t c) refl (count-none t cs)
-  where
-    by : (b : Bool) → has_tsn t c ≡ b → (count t cs ≡ 0 → list_any (has_tsn t) cs ≡ false) → (b || list_any (has_tsn t) cs) ≡ false
-    by true i ih = let o : one t c ≡ 1 = ap (λ b. if b then 1 else 0) i in absurd (omega (arith, more t c cs, e, o))
-    by false i ih = ih (omega (arith, more t c cs, e))
+count-none t (c ∷ cs) e = at-test (λ b. (b || list_any (has_tsn t) cs) ≡ false) (has_tsn t c)
+    (λ i. let o : one t c ≡ 1 = ap (λ b. if b then 1 else 0) i in absurd (omega (arith, more t c cs, e, o)))
+    (λ i. (count-none t cs) (omega (arith, more t c cs, e)))
 
 pub once : (t : ℕ) (cs : List ChunkPayloadData) → are_apart cs ≡ true → count t cs ≤ 1
 once t [] e = omega arith
-once t (c ∷ cs) e = by (has_tsn t c) refl (once t cs b.1)
+once t (c ∷ cs) e = by-test (has_tsn t c)
+    (λ i.
+    let z = none-count t cs (subst (λ n. list_any (has_tsn n) cs ≡ false) (same-is c.tsn t i) (negated (list_any (has_tsn c.tsn) cs) b.0)) in
+    let o : one t c ≡ 1 = ap (λ k. if k then 1 else 0) i in
+    omega (arith, more t c cs, z, o))
+    (λ i. let o : one t c ≡ 0 = ap (λ k. if k then 1 else 0) i in omega (arith, more t c cs, once t cs b.1, o))
   where
     b : (not (list_any (has_tsn c.tsn) cs) ≡ true) × (are_apart cs ≡ true)
     b = both (not (list_any (has_tsn c.tsn) cs)) (are_apart cs) e
-
-    by : (k : Bool) → has_tsn t c ≡ k → count t cs ≤ 1 → count t (c ∷ cs) ≤ 1
-    by true i le =
-        let z = none-count t cs (subst (λ n. list_any (has_tsn n) cs ≡ false) (same-is c.tsn t i) (negated (list_any (has_tsn c.tsn) cs) b.0)) in
-        let o : one t c ≡ 1 = ap (λ k. if k then 1 else 0) i in
-        omega (arith, more t c cs, z, o)
-    by false i le = let o : one t c ≡ 0 = ap (λ k. if k then 1 else 0) i in omega (arith, more t c cs, le, o)
 
 apart-where : (cs : List ChunkPayloadData) → ((t : ℕ) → count t cs ≤ 1) → are_apart cs ≡ true
 apart-where [] le = refl
@@ -65,10 +51,8 @@ apart-where (c ∷ cs) le = and (not (list_any (has_tsn c.tsn) cs)) (are_apart c
   where
     here : list_any (has_tsn c.tsn) cs ≡ false
     here =
-        let more = sum_by-cons (one c.tsn) c cs in
         let o : one c.tsn c ≡ 1 = ap (λ k. if k then 1 else 0) (same-yes c.tsn) in
-        let n = le c.tsn in
-        count-none c.tsn cs (omega (arith, more, o, n))
+        count-none c.tsn cs (omega (arith, sum_by-cons (one c.tsn) c cs, o, le c.tsn))
 
     less : (t : ℕ) → count t cs ≤ 1
     less t = let more = sum_by-cons (one t) c cs in let n = le t in omega (arith, more, n)
@@ -86,35 +70,28 @@ is_there t st c = not (has_tsn t c) || is_on st c
 
 none-there : (t st : ℕ) (cs : List ChunkPayloadData) → list_any (has_tsn t) cs ≡ false → list_all (is_there t st) cs ≡ true
 none-there t st [] e = refl
-none-there t st (c ∷ cs) e = by (has_tsn t c) e (none-there t st cs)
-  where
-    by : (b : Bool) → (b || list_any (has_tsn t) cs) ≡ false → (list_any (has_tsn t) cs ≡ false → list_all (is_there t st) cs ≡ true)
-        → ((not b || is_on st c) && list_all (is_there t st) cs) ≡ true
-    by true h ih = absurd (not_both (sym h))
-    by false h ih = ih h
+none-there t st (c ∷ cs) e = at-test (λ b. (b || list_any (has_tsn t) cs) ≡ false → ((not b || is_on st c) && list_all (is_there t st) cs) ≡ true)
+    (has_tsn t c)
+    (λ e h. absurd (not_both (sym h)))
+    (λ e h. (none-there t st cs) h) e
 
 all-there : (t : ℕ) (cs : List ChunkPayloadData) → are_apart cs ≡ true → list_all (is_there t (stream_of t cs)) cs ≡ true
 all-there t [] e = refl
-all-there t (c ∷ cs) e = by (has_tsn t c) refl (all-there t cs b.1)
+all-there t (c ∷ cs) e = at-if (λ z. list_all (is_there t z) (c ∷ cs) ≡ true) (has_tsn t c)
+    (λ i.
+    and (is_there t c.stream_identifier c) (list_all (is_there t c.stream_identifier) cs)
+    (or-right (not (has_tsn t c)) (c.stream_identifier == c.stream_identifier) (same-yes c.stream_identifier))
+    (none-there t c.stream_identifier cs (subst (λ n. list_any (has_tsn n) cs ≡ false) (same-is c.tsn t i)
+    (negated (list_any (has_tsn c.tsn) cs) b.0))))
+    (λ i. and (is_there t (stream_of t cs) c) (list_all (is_there t (stream_of t cs)) cs) (ap (λ k. not k || is_on (stream_of t cs) c) i)
+    (all-there t cs b.1))
   where
     b : (not (list_any (has_tsn c.tsn) cs) ≡ true) × (are_apart cs ≡ true)
     b = both (not (list_any (has_tsn c.tsn) cs)) (are_apart cs) e
 
-    by : (k : Bool) → has_tsn t c ≡ k → list_all (is_there t (stream_of t cs)) cs ≡ true
-        → list_all (is_there t (if k then c.stream_identifier else stream_of t cs)) (c ∷ cs) ≡ true
-    by true i ih =
-        and (is_there t c.stream_identifier c) (list_all (is_there t c.stream_identifier) cs)
-        (or-right (not (has_tsn t c)) (c.stream_identifier == c.stream_identifier) (same-yes c.stream_identifier))
-        (none-there t c.stream_identifier cs (subst (λ n. list_any (has_tsn n) cs ≡ false) (same-is c.tsn t i) (negated (list_any (has_tsn c.tsn) cs) b.0)))
-    by false i ih = and (is_there t (stream_of t cs) c) (list_all (is_there t (stream_of t cs)) cs) (ap (λ k. not k || is_on (stream_of t cs) c) i) ih
-
 pub fewer : (t : ℕ) (p : ChunkPayloadData → Bool) (cs : List ChunkPayloadData) → count t (filter p cs) ≤ count t cs
 fewer t p [] = omega arith
-fewer t p (c ∷ cs) = by (p c) (fewer t p cs)
-  where
-    by : (b : Bool) → count t (filter p cs) ≤ count t cs → count t (if b then c ∷ filter p cs else filter p cs) ≤ count t (c ∷ cs)
-    by true le = let kept = sum_by-cons (one t) c (filter p cs) in omega (arith, more t c cs, kept, le)
-    by false le = omega (arith, more t c cs, le)
+fewer t p (c ∷ cs) = grind (arith, nat_tests, common_steps, more t c cs, fewer t p cs)
 
 -- ## Messages
 
@@ -125,20 +102,19 @@ none-elsewhere t st other differ [] e f = refl
 none-elsewhere t st other differ (c ∷ cs) e f =
     let a = both (is_there t st c) (list_all (is_there t st) cs) e in
     let b = both (is_on other c) (list_all (is_on other) cs) f in
-    let more = sum_by-cons (one t) c cs in
-    let ih = none-elsewhere t st other differ cs a.1 b.1 in
     let off : is_on st c ≡ false = subst (λ n. (n == st) ≡ false) (sym (same-is c.stream_identifier other b.0)) differ in
-    let o : one t c ≡ 0 = ap (λ k. if k then 1 else 0) (by (has_tsn t c) a.0 off) in
-    omega (arith, more, ih, o)
-  where
-    by : (k : Bool) → (not k || is_on st c) ≡ true → is_on st c ≡ false → k ≡ false
-    by true h off = absurd (not_both (sym off ∙ h))
-    by false h off = refl
+    let o : one t c ≡ 0 = ap (λ k. if k then 1 else 0) (at-test (λ k. (not k || is_on st c) ≡ true → k ≡ false) (has_tsn t c)
+    (λ e h. absurd (not_both (sym off ∙ h)))
+    (λ e h. refl) a.0) in
+    omega (arith, sum_by-cons (one t) c cs, none-elsewhere t st other differ cs a.1 b.1, o)
 
 count-all : (t st : ℕ) (ms : List Message) → list_all (λ m. list_all (is_there t st) m.fragments) ms ≡ true
     → list_all (λ m. list_all (is_on m.stream) m.fragments) ms ≡ true → count t (fragments_of_all ms) ≡ count t (fragments_read st ms)
 count-all t st [] e f = refl
-count-all t st (m ∷ ms) e f = by (m.stream == st) refl (count-all t st ms a.1 b.1)
+count-all t st (m ∷ ms) e f = at-test (λ k. count t (m.fragments ++ fragments_of_all ms) ≡ count t
+    (if k then m.fragments ++ fragments_read st ms else fragments_read st ms)) (m.stream == st)
+    (λ i. let s = sum_by-append (one t) m.fragments (fragments_read st ms) in omega (arith, both-sums, s, count-all t st ms a.1 b.1))
+    (λ i. let z = none-elsewhere t st m.stream i m.fragments a.0 b.0 in omega (arith, both-sums, z, count-all t st ms a.1 b.1))
   where
     a : (list_all (is_there t st) m.fragments ≡ true) × (list_all (λ x. list_all (is_there t st) x.fragments) ms ≡ true)
     a = both (list_all (is_there t st) m.fragments) (list_all (λ x. list_all (is_there t st) x.fragments) ms) e
@@ -148,11 +124,6 @@ count-all t st (m ∷ ms) e f = by (m.stream == st) refl (count-all t st ms a.1 
 
     both-sums : count t (m.fragments ++ fragments_of_all ms) ≡ count t m.fragments + count t (fragments_of_all ms)
     both-sums = sum_by-append (one t) m.fragments (fragments_of_all ms)
-
-    by : (k : Bool) → (m.stream == st) ≡ k → count t (fragments_of_all ms) ≡ count t (fragments_read st ms)
-        → count t (m.fragments ++ fragments_of_all ms) ≡ count t (if k then m.fragments ++ fragments_read st ms else fragments_read st ms)
-    by true i ih = let s = sum_by-append (one t) m.fragments (fragments_read st ms) in omega (arith, both-sums, s, ih)
-    by false i ih = let z = none-elsewhere t st m.stream i m.fragments a.0 b.0 in omega (arith, both-sums, z, ih)
 
 -- ## The law
 
@@ -169,10 +140,7 @@ none-twice-so first most limits calls s run apart = apart-where (fragments_of_al
         let z = none-fails (is_there t st) (is_on r) s.receiving.accepted there in omega (arith, w, z)) in
         let f = sessions.read-on-so first most limits calls s run in
         let all = count-all t st s.receiving.read e f in
-        let w = weighs st (one t) in
-        let n = fewer t (is_on st) s.receiving.accepted in
-        let o = once t s.receiving.accepted apart in
-        omega (arith, all, w, n, o)
+        omega (arith, all, weighs st (one t), fewer t (is_on st) s.receiving.accepted, once t s.receiving.accepted apart)
 
 pub none-twice : AfterEachSessionOfFewTsns (λ first given s. NoneIsReadTwice s)
 none-twice first size max most limits cs s run small few =

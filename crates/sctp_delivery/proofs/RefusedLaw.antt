@@ -1,51 +1,34 @@
 -- How long messages may be: in each session what the sender and the streams of the receiver were given stays, and no write is longer.
-use Rattle.std.proofs.Common.{◌≡◌, ℕ, ◌+◌, ◌%◌, ◌^◌, ◌<◌, ◌≤◌, Bool, true, false, not, List, [], ◌∷◌, Option, Some, None, inl, inr, refl, ap, sym, subst, ◌∙◌}
-use Rattle.std.proofs.Common.{arith, length}
-use Rattle.std.specs.Prelude.{◌==◌, ◌&&◌, ◌||◌, Contains, if◌then◌else◌, is_some, nat_le, nat_lt, not}
-use Rattle.std.specs.List.{list_any, find, list_all}
-use Rattle.std.specs.Option.{option_or}
-use Rattle.std.proofs.lemmas.Bool.{cases_lt}
-use Rattle.std.proofs.lemmas.Bool.Decides.{nat_tests}
-use Rattle.std.proofs.lemmas.Option.{none-some}
-use Rattle.sctp_util.specs.Serial.{distance16}
-use Rattle.sctp_util.proofs.Cases.{or-left, or-split, same-is, same-yes, and-none, or-right, some-same}
-use Rattle.sctp_util.proofs.More.{and, not_both, both}
-use Rattle.sctp_util.proofs.Round.{tsn}
-use Rattle.sctp_data.specs.declared.chunk.chunk_payload_data.ChunkPayloadData.{ChunkPayloadData}
-use Rattle.sctp_data.specs.ChunkSet.{ChunkSet}
-use Rattle.sctp_data.specs.PayloadData.{Data, data_of}
-use Rattle.sctp_serial.specs.DataChunks.{has_tsn, bytes_of, chunk_before}
-use Rattle.sctp_reassembly.specs.reassembly_queue.ReassemblyQueue.{message_read, Reassembly, ReassemblyState}
-use Rattle.sctp_receiver.specs.declared.receiver.arrival.Arrival.TheVariants.{New, Repeat}
-use Rattle.sctp_receiver.specs.declared.receiver.inbound_streams.InboundStream.{InboundStream}
-use Rattle.sctp_receiver.specs.declared.receiver.refusal.ReceiverRefusal.TheVariants.{SsnTooFar, TsnOpposite, MessageTooLarge}
-use Rattle.sctp_receiver.specs.declared.receiver.limits.Limits.{Limits}
+use Rattle.sctp_delivery.proofs.Names.{◌≡◌, ℕ, ◌+◌, ◌%◌, ◌^◌, ◌<◌, ◌≤◌, Bool, true, false, not, List, [], ◌∷◌, Option, Some, None, inl, inr, refl, ap, sym}
+use Rattle.sctp_delivery.proofs.Names.{subst, ◌∙◌, arith, length, ◌==◌, ◌&&◌, ◌||◌, Contains, if◌then◌else◌, nat_le, nat_lt, list_any, list_all, option_or}
+use Rattle.sctp_delivery.proofs.Names.{cases_lt, nat_tests, none-some, common_steps, distance16, or-left, or-split, same-is, same-yes, and-none, or-right}
+use Rattle.sctp_delivery.proofs.Names.{some-same, and, not_both, both, tsn, ChunkPayloadData, ChunkSet, Data, data_of, has_tsn, bytes_of, chunk_before}
+use Rattle.sctp_delivery.proofs.Names.{message_read, Reassembly, ReassemblyState, New, Repeat, InboundStream, TsnOpposite, Limits, Reception, arrival_refusal}
+use Rattle.sctp_delivery.proofs.Names.{filter_of, follow_forward_tsn, is_stale, new_refusal, stream_of, is_open, without_incomplete, incomplete_forwarded}
+use Rattle.sctp_delivery.proofs.Names.{is_ssn_too_far, is_too_far_on, lowest_ssn, has_come, is_opposite, reports, is_ordered_on, held_weight, abandoned_in}
+use Rattle.sctp_delivery.proofs.Names.{ReceiverCall, AfterEachUnlimitedSession, IsInFlight, is_takable, is_reported, tsns_given, was_taken, Call}
+use Rattle.sctp_delivery.proofs.Names.{ReceiverFollows, RunsTo, Session, at_start, of_receiver, of_sender, SenderFollows, sum_by-inserted, insert_before}
+use Rattle.sctp_delivery.proofs.Names.{size_after, size_before, Pushes, new_stream, ssns_of, stream_forwarded, stream_read, unassembled_forwarded, with_queue}
+use Rattle.sctp_delivery.proofs.Names.{Write, SenderCall, written_after, reads_nothing, Transmission}
+use Rattle.std.specs.Prelude.{is_some, not}
+use Rattle.std.specs.List.{find}
+use Rattle.sctp_receiver.specs.declared.receiver.refusal.ReceiverRefusal.TheVariants.{SsnTooFar, MessageTooLarge}
 use Rattle.sctp_receiver.specs.Limits.{refusal_by}
-use Rattle.sctp_receiver.specs.Receiver.{Reception, arrival_refusal, filter_of, follow_forward_tsn, is_stale, new_refusal, message_of, stream_of}
-use Rattle.sctp_receiver.specs.Receiver.{stream_refusal, is_open}
-use Rattle.sctp_receiver.specs.Skips.{without_incomplete, incomplete_forwarded}
-use Rattle.sctp_receiver.specs.Ssns.{is_ssn_too_far, is_too_far_on, lowest_ssn}
-use Rattle.sctp_receiver.specs.TsnFilter.{has_come, is_opposite}
-use Rattle.sctp_sender.specs.Flight.{reports}
-use Rattle.sctp_sender.specs.Numbers.{is_ordered_on}
-use Rattle.sctp_receiver.proofs.Handed.{held_weight}
-use Rattle.sctp_delivery.specs.Abandoned.{abandoned_in}
+use Rattle.sctp_receiver.specs.Receiver.{message_of}
+use Rattle.sctp_receiver.specs.Receiver.{stream_refusal}
 use Rattle.sctp_delivery.specs.ReceiverCalls as incoming
-use Rattle.sctp_delivery.specs.ReceiverCalls.{ReceiverCall}
-use Rattle.sctp_delivery.specs.Refused.{AfterEachUnlimitedSession, IsInFlight, NoneInFlightIsRefused, is_due_on, is_takable, IsCopy, NoneIsRefusedWhereRead}
-use Rattle.sctp_delivery.specs.Sacks.{is_reported, tsns_given, was_taken}
-use Rattle.sctp_delivery.specs.Session.{Call, ReceiverFollows, RunsTo, Session, at_start, of_receiver, of_sender, SenderFollows}
+use Rattle.sctp_delivery.specs.Refused.{NoneInFlightIsRefused, is_due_on, IsCopy, NoneIsRefusedWhereRead}
+use Rattle.sctp_delivery.proofs.Cases.{at-if, at-test, by-test}
 use Rattle.sctp_delivery.proofs.Delivered.{found-sent}
 use Rattle.sctp_delivery.proofs.EntryLengths.{unassembled-fits, set-fits, part-fits}
 use Rattle.sctp_delivery.proofs.Every.{Every, every-contained, every-of-all, one-of, every-found}
-use Rattle.sctp_delivery.proofs.CurrentSets.{IsCurrent}
-use Rattle.sctp_delivery.proofs.EachRead.{complete-messages}
+use Rattle.sctp_delivery.proofs.UnwrappedHolds.{IsCurrent, AreDue, Came, DueOn, IsOf, rises-put, Fits}
+use Rattle.sctp_delivery.proofs.KeptSessions.{complete-messages, HasKept, kept-in}
 use Rattle.sctp_delivery.proofs.InFlight.{IsKnown}
 use Rattle.sctp_delivery.proofs.Kept.{sets-fresh}
 use Rattle.sctp_delivery.proofs.KeptCalls as calls
 use Rattle.sctp_delivery.proofs.KeptOrGone.{HeldWell, IsLate}
-use Rattle.sctp_delivery.proofs.KeptSessions.{HasKept, kept-in}
-use Rattle.sctp_delivery.proofs.MessageSets.{entry-at}
+use Rattle.sctp_delivery.proofs.MessagePlaces.{entry-at}
 use Rattle.sctp_delivery.proofs.NotRefused.{begun-low, near-distance, same-index}
 use Rattle.sctp_delivery.proofs.GivenTsns.{flight-given}
 use Rattle.sctp_delivery.proofs.ReadOnce.{one}
@@ -61,20 +44,15 @@ use Rattle.sctp_delivery.proofs.TakenTsns.{come}
 use Rattle.sctp_delivery.proofs.TakenCalls as answered
 use Rattle.sctp_delivery.proofs.TsnPlaces.{IsGiven, base}
 use Rattle.sctp_delivery.proofs.UnassembledGone.{was-unassembled}
-use Rattle.sctp_delivery.proofs.UnwrappedHolds.{AreDue, Came, DueOn, IsOf, rises-put, Fits}
 use Rattle.sctp_delivery.proofs.UnwrappedSessions as sessions
-use Rattle.sctp_util.proofs.Edits.{sum_by-inserted}
-use Rattle.sctp_util.specs.Lists.{insert_before}
 use Rattle.sctp_reassembly.specs.reassembly_queue.Fragments.{chunks_of_ssn}
-use Rattle.sctp_reassembly.specs.reassembly_queue.Sizes.{projected_size, size_after, size_before}
-use Rattle.sctp_receiver.specs.Inbound.{has_number, Pushes, PushesAs, new_stream, ssns_of, stream_forwarded, stream_read, unassembled_forwarded, with_queue}
-use Rattle.sctp_delivery.specs.SenderCalls.{Write, SenderCall, written_after}
+use Rattle.sctp_reassembly.specs.reassembly_queue.Sizes.{projected_size}
+use Rattle.sctp_receiver.specs.Inbound.{has_number}
 use Rattle.sctp_delivery.proofs.Calls.{contains-forgotten, forget}
 use Rattle.sctp_delivery.proofs.UnwrappedReads.{AreSets, IsDue}
-use Rattle.sctp_delivery.specs.Complete.{reads_nothing}
 use Rattle.sctp_receiver.proofs.Forwarded.{followed-mapped, skipped-size}
 use Rattle.sctp_sender.specs.declared.sender.refusal.SenderRefusal.TheVariants.{MessageTooLarge as TooLargeToSend, QueueFull, StreamUnknown}
-use Rattle.sctp_sender.specs.Sender.{Transmission, is_full, is_open as is_open_to_send}
+use Rattle.sctp_sender.specs.Sender.{is_full, is_open as is_open_to_send}
 use Rattle.sctp_delivery.specs.SenderCalls as outgoing
 use Rattle.sctp_delivery.proofs.Writing.{accepted-stream}
 use Rattle.sctp_delivery.proofs.InTheEnd.{nothing}
@@ -131,11 +109,7 @@ pub record AreSized (most : ℕ) (r : Reception) : Type 0 where
   pub each : Every (λ l. l.queue.max_message_size ≡ most) r.streams
 
 pushed-size : (c : ChunkPayloadData) (answered : Bool) (old new : ReassemblyState) → Pushes c answered old new → new.max_message_size ≡ old.max_message_size
-pushed-size c answered old new pushed = by c.unordered pushed
-  where
-    by : (b : Bool) → PushesAs b c answered old new → new.max_message_size ≡ old.max_message_size
-    by false h = ap (λ (s : ReassemblyState). s.max_message_size) h.0
-    by true h = ap (λ (s : ReassemblyState). s.max_message_size) h.1
+pushed-size c answered old new pushed = grind (arith, nat_tests, common_steps)
 
 module _ (most : ℕ) where
   abbrev P : InboundStream → Type 0
@@ -157,21 +131,20 @@ module _ (most : ℕ) where
         own = s.own;
         each = every-changed P (has_number c.stream_identifier) (with_queue acc.queue) (λ l h p. size) r.streams s.each;
       })
-  sized-after (incoming.follows g) old new f s = subst (AreSized most) (sym f.step.receiver) (by (is_stale g old.receiving.receiver))
-    where
-      r : Reception
-      r = old.receiving.receiver
-
-      by : (b : Bool) → AreSized most (if b then old.receiving.receiver else without_incomplete g.new_cumulative_tsn
-          (if b then old.receiving.receiver else follow_forward_tsn g old.receiving.receiver))
-      by true = s
-      by false = record {
+  sized-after (incoming.follows g) old new f s = subst (AreSized most) (sym f.step.receiver)
+      (at-test (λ b. AreSized most (if b then old.receiving.receiver else without_incomplete g.new_cumulative_tsn
+      (if b then old.receiving.receiver else follow_forward_tsn g old.receiving.receiver))) (is_stale g old.receiving.receiver)
+      (λ e. s)
+      (λ e. record {
         own = s.own;
         each = every-mapped P P (incomplete_forwarded g.new_cumulative_tsn) (λ l p. p) (follow_forward_tsn g old.receiving.receiver).streams
             (subst (Every P) (sym (followed-mapped g old.receiving.receiver))
             (every-mapped P P (λ l. unassembled_forwarded g.new_cumulative_tsn (stream_forwarded g.streams l))
             (λ l p. skipped-size (ssns_of l.queue.si g.streams) l.queue ∙ p) old.receiving.receiver.streams s.each));
-      }
+      }))
+    where
+      r : Reception
+      r = old.receiving.receiver
   sized-after (incoming.reads stream) old new f s = subst (AreSized most) (sym f.step.receiver) (record {
     own = s.own;
     each = every-changed P (has_number stream) stream_read (λ l h p. p) old.receiving.receiver.streams s.each;
@@ -221,12 +194,7 @@ limits-after : (call : ReceiverCall) (old new : Session) → ReceiverFollows cal
 limits-after (incoming.opens stream) old new f = ap (λ (r : Reception). r.limits) f.step.receiver.1
 limits-after (incoming.takes c Repeat) old new f = ap (λ (r : Reception). r.limits) f.step.receiver
 limits-after (incoming.takes c (New answered)) old new f = ap (λ (r : Reception). r.limits) f.step.receiver.after
-limits-after (incoming.follows g) old new f = ap (λ (r : Reception). r.limits) f.step.receiver ∙ by (is_stale g old.receiving.receiver)
-  where
-    by : (b : Bool) → (if b then old.receiving.receiver else without_incomplete g.new_cumulative_tsn
-        (if b then old.receiving.receiver else follow_forward_tsn g old.receiving.receiver)).limits ≡ old.receiving.receiver.limits
-    by true = refl
-    by false = refl
+limits-after (incoming.follows g) old new f = grind (arith, nat_tests)
 limits-after call old new f = ap (λ (r : Reception). r.limits) f.step.receiver
 
 pub limits-same : (cs : List Call) (old new : Session) → RunsTo old cs new → new.receiving.receiver.limits ≡ old.receiving.receiver.limits
@@ -270,27 +238,23 @@ module _ (first n : ℕ) (few : n < 2 ^ 31) (gone : List ℕ) (s : Session) (h :
 
   -- what was taken has come
   taken-came : (t : ℕ) → was_taken t s ≡ true → come t r.cumulative_tsn r.beyond ≡ true
-  taken-came t e =
-      let one = one-of (HasCome p n r) (has_tsn t) s.receiving.accepted e spread.step.taken.each in
-      subst (λ u. come u r.cumulative_tsn r.beyond ≡ true) (same-is one.0.tsn t one.1) one.2.1
+  taken-came t e = grind (arith, nat_tests, common_steps, one-of (HasCome p n r) (has_tsn t) s.receiving.accepted e spread.step.taken.each)
 
   -- one that did not come was sent as it is in flight
   was-sent : (c : ChunkPayloadData) → Contains chunks c → c.abandoned ≡ false → come c.tsn r.cumulative_tsn r.beyond ≡ false → WasSent sent (data_of c)
-  was-sent c in' kept fresh = by c.acked refl
+  was-sent c in' kept fresh = by-test c.acked
+      (λ e.
+      let answered' = every-contained (λ (y : ChunkPayloadData). is_reported s y ≡ true → (was_taken y.tsn s || y.abandoned) ≡ true) chunks c in'
+      (every-of-all (λ (y : ChunkPayloadData). is_reported s y ≡ true → (was_taken y.tsn s || y.abandoned) ≡ true) chunks
+      (sacks.came p n s few spread.step)) in
+      absurd (elim (or-split (was_taken c.tsn s) c.abandoned (answered' (or-left c.acked (list_any (λ sack. reports sack c) s.sacks) e))) [
+        | inl t ↦ not_both (sym fresh ∙ taken-came c.tsn t)
+        | inr t ↦ not_both (sym kept ∙ t)
+      ]))
+      (λ e. k.0 (and (not c.acked) (not c.abandoned) (ap not e) (ap not kept)))
     where
       k : IsKnown first sent c
       k = every-contained (IsKnown first sent) chunks c in' spread.holds.held.stands.known
-
-      by : (b : Bool) → c.acked ≡ b → WasSent sent (data_of c)
-      by false e = k.0 (and (not c.acked) (not c.abandoned) (ap not e) (ap not kept))
-      by true e =
-          let answered' = every-contained (λ (y : ChunkPayloadData). is_reported s y ≡ true → (was_taken y.tsn s || y.abandoned) ≡ true) chunks c in'
-          (every-of-all (λ (y : ChunkPayloadData). is_reported s y ≡ true → (was_taken y.tsn s || y.abandoned) ≡ true) chunks
-          (sacks.came p n s few spread.step)) in
-          absurd (elim (or-split (was_taken c.tsn s) c.abandoned (answered' (or-left c.acked (list_any (λ sack. reports sack c) s.sacks) e))) [
-            | inl t ↦ not_both (sym fresh ∙ taken-came c.tsn t)
-            | inr t ↦ not_both (sym kept ∙ t)
-          ])
 
   module _ (x : ChunkPayloadData) (g : IsGiven p n x.tsn) (fresh : has_come x.tsn (filter_of r) ≡ false) (was : WasSent sent (data_of x)) where
     abbrev st : ℕ
@@ -350,9 +314,7 @@ module _ (first n : ℕ) (few : n < 2 ^ 31) (gone : List ℕ) (s : Session) (h :
           let index = number.1 in
           let past = c.late (entry.before + 1) (omega (arith, within, long))
           (inl (data_of x, at.0, at.1, on), ap (λ t. come t r.cumulative_tsn r.beyond) (sym entry.is) ∙ fresh) in
-          let same = same-index st first n few s h.numbered sent spread d held due Late c none in
           let low = begun-low st first n few s h.numbered sent spread d held due Late c none in
-          let near = sessions.near st first n s h.numbered sent spread few in
           let least = sessions.grows st first n s h.numbered sent spread few spread.step.numbered.acked d.arrived.place d.arrived.least_is in
           let top = sessions.grows st first n s h.numbered sent spread few (entry.before + 1) n (omega (arith, within, long)) in
           let from = due.from in
@@ -368,8 +330,8 @@ module _ (first n : ℕ) (few : n < 2 ^ 31) (gone : List ℕ) (s : Session) (h :
               inner = λ e. sym (entry.inner e) ∙ sym index;
             };
             number = number.2;
-            from = omega (arith, past, index, from, same);
-            upto = omega (arith, index, top, near, least, low);
+            from = omega (arith, past, index, from, same-index st first n few s h.numbered sent spread d held due Late c none);
+            upto = omega (arith, index, top, sessions.near st first n s h.numbered sent spread few, least, low);
           }
 
       -- its number is not too far
@@ -387,34 +349,21 @@ module _ (first n : ℕ) (few : n < 2 ^ 31) (gone : List ℕ) (s : Session) (h :
       set-with : (low : ℕ) (ss : List ChunkSet) → due.low ≤ low → AreSets p n B (Fits p st n B E M) Prior low d.reach ss
           → Every (λ (y : ChunkSet). list_any (has_tsn x.tsn) y.chunks ≡ false) ss
           → bytes_of (chunks_of_ssn x.stream_sequence_number ss) + length x.user_data ≤ max
-      set-with low [] le a v =
-          let own = part-fits h.numbered first sent spread.holds.held.stands.queued.line x was in
-          let most = bound x was in
-          omega (arith, own, most)
-      set-with low (y ∷ ys) le a v = by (y.ssn == x.stream_sequence_number) refl
-          (set-with (a.0 + 1) ys (let from = a.1.0.0 in omega (arith, le, from)) a.2 v.1)
-        where
-          by : (b : Bool) → (y.ssn == x.stream_sequence_number) ≡ b
-              → bytes_of (chunks_of_ssn x.stream_sequence_number ys) + length x.user_data ≤ max
-              → bytes_of (if b then y.chunks else chunks_of_ssn x.stream_sequence_number ys) + length x.user_data ≤ max
-          by false e ih = ih
-          by true e ih =
-              let w = windowed in
-              let number : a.0 % 2 ^ 16 ≡ w.index % 2 ^ 16 = sym a.1.0.2 ∙ same-is y.ssn x.stream_sequence_number e ∙ w.number in
-              let from = a.1.0.0 in
-              let top = a.1.0.1 in
-              let far = due.far in
-              let first' = w.from in
-              let last = w.upto in
-              let same : a.0 ≡ w.index = omega (arith, number, from, top, far, first', last, le) in
-              let fits = subst (λ k. Fits p st n B E M k y.chunks) same a.1.1 in
-              let queued = spread.holds.held.stands.queued in
-              let put = rises-put p st n B E M few (sessions.grows st first n s h.numbered sent spread few) w.index 0 x y.chunks w.of (omega arith)
-              v.0 fits in
-              let all = set-fits st first n few h.numbered sent spread.long queued.line queued.joined max bound w.index (insert_before chunk_before x y.chunks)
-              put in
-              let sum = sum_by-inserted (λ (c : ChunkPayloadData). length c.user_data) chunk_before x y.chunks in
-              omega (arith, all, sum)
+      set-with low [] le a v = grind (arith, nat_tests, common_steps, part-fits h.numbered first sent spread.holds.held.stands.queued.line x was, bound x was)
+      set-with low (y ∷ ys) le a v = at-if (λ z. bytes_of z + length x.user_data ≤ max) (y.ssn == x.stream_sequence_number)
+          (λ e.
+          let w = windowed in
+          let number : a.0 % 2 ^ 16 ≡ w.index % 2 ^ 16 = sym a.1.0.2 ∙ same-is y.ssn x.stream_sequence_number e ∙ w.number in
+          let same : a.0 ≡ w.index = omega (arith, number, a.1.0.0, a.1.0.1, le) in
+          let fits = subst (λ k. Fits p st n B E M k y.chunks) same a.1.1 in
+          let queued = spread.holds.held.stands.queued in
+          let put = rises-put p st n B E M few (sessions.grows st first n s h.numbered sent spread few) w.index 0 x y.chunks w.of (omega arith)
+          v.0 fits in
+          let all = set-fits st first n few h.numbered sent spread.long queued.line queued.joined max bound w.index
+          (insert_before chunk_before x y.chunks)
+          put in
+          omega (arith, all, sum_by-inserted (λ (c : ChunkPayloadData). length c.user_data) chunk_before x y.chunks))
+          (λ e. set-with (a.0 + 1) ys (omega (arith, le, a.1.0.0)) a.2 v.1)
 
       ordered-fits : bytes_of (chunks_of_ssn x.stream_sequence_number held.ordered) + length x.user_data ≤ max
       ordered-fits = set-with due.low held.ordered (omega arith) due.sets free
@@ -428,27 +377,20 @@ module _ (first n : ℕ) (few : n < 2 ^ 31) (gone : List ℕ) (s : Session) (h :
         subst (Both x g fresh was) there ((h.kept.unwrapped.answered x.stream_identifier).0.due, (h.kept.kept x.stream_identifier).holds)
 
     near-enough : (not x.unordered && is_ssn_too_far x.stream_sequence_number l.queue.held) ≡ false
-    near-enough = by x.unordered refl
-      where
-        by : (b : Bool) → x.unordered ≡ b → (not x.unordered && is_ssn_too_far x.stream_sequence_number l.queue.held) ≡ false
-        by true e = ap (λ b. not b && is_ssn_too_far x.stream_sequence_number l.queue.held) e
-        by false e = ap (λ b. not b && is_ssn_too_far x.stream_sequence_number l.queue.held) e
-            ∙ not-far x g fresh was e l.queue.held both-of.0 both-of.1.current (absent x g fresh was l there) (unread e)
+    near-enough = by-test x.unordered
+        (ap (λ b. not b && is_ssn_too_far x.stream_sequence_number l.queue.held))
+        (λ e. ap (λ b. not b && is_ssn_too_far x.stream_sequence_number l.queue.held) e
+        ∙ not-far x g fresh was e l.queue.held both-of.0 both-of.1.current (absent x g fresh was l there) (unread e))
 
     projected : projected_size x l.queue.held.ordered l.queue.held.unassembled ≤ max
-    projected = by x.unordered refl
-      where
-        by : (b : Bool) → x.unordered ≡ b
-            → (if b then size_before x l.queue.held.unassembled + length x.user_data + size_after x l.queue.held.unassembled
-            else bytes_of (chunks_of_ssn x.stream_sequence_number l.queue.held.ordered) + length x.user_data) ≤ max
-        by true e =
-            let long = spread.long in
-            let queued = spread.holds.held.stands.queued in
-            let all = unassembled-fits first h.numbered sent (omega (arith, long, few)) queued.line queued.joined l.queue.held.unassembled
-            (unassembled-sent x.stream_identifier l there) x was in
-            let most = bound x was in
-            omega (arith, all, most)
-        by false e = ordered-fits x g fresh was e l.queue.held both-of.0 both-of.1.current (absent x g fresh was l there) (unread e)
+    projected = at-test (λ b. (if b then size_before x l.queue.held.unassembled + length x.user_data + size_after x l.queue.held.unassembled else
+        bytes_of (chunks_of_ssn x.stream_sequence_number l.queue.held.ordered) + length x.user_data) ≤ max) x.unordered
+        (λ e.
+        let queued = spread.holds.held.stands.queued in
+        let all = unassembled-fits first h.numbered sent (omega (arith, spread.long, few)) queued.line queued.joined l.queue.held.unassembled
+        (unassembled-sent x.stream_identifier l there) x was in
+        omega (arith, all, bound x was))
+        (λ e. ordered-fits x g fresh was e l.queue.held both-of.0 both-of.1.current (absent x g fresh was l there) (unread e))
 
     -- the stream takes it
     takes : stream_refusal x (Some l) ≡ None
@@ -468,7 +410,17 @@ module _ (first n : ℕ) (few : n < 2 ^ 31) (gone : List ℕ) (s : Session) (h :
   -- where the limits do not refuse its TSN
   not-refused : (c x : ChunkPayloadData) → Contains chunks c → c.abandoned ≡ false → IsCopy x c s → is_takable x r ≡ true → new_refusal x.tsn r ≡ None
       → arrival_refusal x r ≡ None
-  not-refused c x in' kept same due limits = by (has_come x.tsn (filter_of r)) refl
+  not-refused c x in' kept same due limits = at-test (λ b. (if not b && is_too_far_on x (stream_of x.stream_identifier r) then Some SsnTooFar else
+      (if b then None else (if is_opposite x.tsn (filter_of r) then Some TsnOpposite else option_or (new_refusal x.tsn r)
+      (stream_refusal x (stream_of x.stream_identifier r))))) ≡ None) (has_come x.tsn (filter_of r))
+      (λ e. refl)
+      (λ e.
+      let near = answered.near p n r (known s) few spread.step.arrived spread.step.order x.tsn g in
+      let stream = on e (stream_of x.stream_identifier r) refl in
+      ap (λ b. if b then Some SsnTooFar else (if is_opposite x.tsn (filter_of r) then Some TsnOpposite
+      else option_or (new_refusal x.tsn r) (stream_refusal x (stream_of x.stream_identifier r)))) stream.0
+      ∙ ap (λ b. if b then Some TsnOpposite else option_or (new_refusal x.tsn r) (stream_refusal x (stream_of x.stream_identifier r))) near
+      ∙ ap (λ o. option_or o (stream_refusal x (stream_of x.stream_identifier r))) limits ∙ stream.1)
     where
       at : x.tsn ≡ c.tsn
       at = elim same [ inl e ↦ ap (λ (d : Data). d.tsn) e | inr e ↦ e.0 ]
@@ -496,19 +448,6 @@ module _ (first n : ℕ) (few : n < 2 ^ 31) (gone : List ℕ) (s : Session) (h :
       on fresh (Some l) there =
           let was = sent-too fresh in
           (near-enough x g fresh was l there (unread l there), takes x g fresh was l there (unread l there))
-
-      by : (b : Bool) → has_come x.tsn (filter_of r) ≡ b
-          → (if not b && is_too_far_on x (stream_of x.stream_identifier r) then Some SsnTooFar
-          else (if b then None else (if is_opposite x.tsn (filter_of r) then Some TsnOpposite
-          else option_or (new_refusal x.tsn r) (stream_refusal x (stream_of x.stream_identifier r))))) ≡ None
-      by true e = refl
-      by false e =
-          let near = answered.near p n r (known s) few spread.step.arrived spread.step.order x.tsn g in
-          let stream = on e (stream_of x.stream_identifier r) refl in
-          ap (λ b. if b then Some SsnTooFar else (if is_opposite x.tsn (filter_of r) then Some TsnOpposite
-          else option_or (new_refusal x.tsn r) (stream_refusal x (stream_of x.stream_identifier r)))) stream.0
-          ∙ ap (λ b. if b then Some TsnOpposite else option_or (new_refusal x.tsn r) (stream_refusal x (stream_of x.stream_identifier r))) near
-          ∙ ap (λ o. option_or o (stream_refusal x (stream_of x.stream_identifier r))) limits ∙ stream.1
 
 none-with-room : (tsn size max most : ℕ) (limits : Option Limits) (cs : List Call) (s : Session) → tsn < 2 ^ 32 → 0 < size
     → (run : RunsTo (at_start tsn size max most limits) cs s) → tsns_given (at_start tsn size max most limits) cs s run < 2 ^ 31
@@ -539,11 +478,9 @@ none-in-flight tsn size max most cs s small some run few enough x f t =
 
 found-all : (q p : InboundStream → Bool) (ls : List InboundStream) (l : InboundStream) → list_all q ls ≡ true → find p ls ≡ Some l → q l ≡ true
 found-all q p [] l h e = absurd (none-some l e)
-found-all q p (x ∷ xs) l h e = by (p x) e (found-all q p xs l (both (q x) (list_all q xs) h).1)
-  where
-    by : (b : Bool) → (if b then Some x else find p xs) ≡ Some l → (find p xs ≡ Some l → q l ≡ true) → q l ≡ true
-    by true f ih = ap q (sym (some-same f)) ∙ (both (q x) (list_all q xs) h).0
-    by false f ih = ih f
+found-all q p (x ∷ xs) l h e = at-test (λ b. (if b then Some x else find p xs) ≡ Some l → q l ≡ true) (p x)
+    (λ e f. ap q (sym (some-same f)) ∙ (both (q x) (list_all q xs) h).0)
+    (λ e f. (found-all q p xs l (both (q x) (list_all q xs) h).1) f) e
 
 takable-where-read : (x : ChunkPayloadData) (r : Reception) → reads_nothing r ≡ true → is_open x.stream_identifier r ≡ true → is_takable x r ≡ true
 takable-where-read x r none open' =

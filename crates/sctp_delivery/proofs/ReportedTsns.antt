@@ -1,23 +1,13 @@
 -- What a SACK reports, where none arrived at the filter of which it speaks but those that were given out.
-use Rattle.std.proofs.Common.{◌≡◌, ℕ, zero, suc, ◌+◌, ◌-◌, ◌<◌, ◌≤◌, ◌^◌, Bool, true, false, List, [], ◌∷◌, length, map, take, Some, None, refl, ap, sym, subst}
-use Rattle.std.proofs.Common.{◌∙◌, inl, inr, arith}
-use Rattle.std.specs.Prelude.{if◌then◌else◌, ◌&&◌, ◌||◌, nat_lt, nat_le}
-use Rattle.std.specs.List.{filter, list_all, list_any}
-use Rattle.std.proofs.lemmas.Bool.{cases_lt}
-use Rattle.std.proofs.lemmas.Bool.Decides.{nat_tests}
-use Rattle.sctp_util.specs.Kept.{runs_of}
-use Rattle.sctp_util.specs.Serial.{distance, comes_before, at_or_before}
-use Rattle.sctp_util.proofs.Cases.{or-left, or-right, or-split}
-use Rattle.sctp_util.proofs.More.{and, both, not_both}
-use Rattle.sctp_util.proofs.Round.{tsn, distance-tsn, distance-tsn_back}
+use Rattle.sctp_delivery.proofs.Names.{◌≡◌, ℕ, zero, suc, ◌+◌, ◌-◌, ◌<◌, ◌≤◌, ◌^◌, Bool, true, false, List, [], ◌∷◌, length, map, take, Some, None, refl, ap}
+use Rattle.sctp_delivery.proofs.Names.{◌∙◌, inl, inr, arith, if◌then◌else◌, ◌&&◌, ◌||◌, nat_lt, nat_le, list_all, list_any, cases_lt, nat_tests, distance}
+use Rattle.sctp_delivery.proofs.Names.{or-left, or-right, or-split, and, both, not_both, tsn, distance-tsn, distance-tsn_back, Sack, is_in_blocks, is_offset}
+use Rattle.sctp_delivery.proofs.Names.{Reception, sack_of_entries, Flight, is_outdated, sack_refusal, reports_tsn}
 use Rattle.sctp_data.specs.declared.chunk.chunk_selective_ack.GapAckBlock.{GapAckBlock}
-use Rattle.sctp_data.specs.SelectiveAck.{Sack}
-use Rattle.sctp_outbound.specs.payload_queue.Blocks.{is_in_block, is_in_blocks, is_offset}
-use Rattle.sctp_receiver.specs.Receiver.{Reception, filter_of, sack_of_entries}
-use Rattle.sctp_receiver.specs.TsnFilter.{block_of, gap_ack_blocks, offsets}
+use Rattle.sctp_outbound.specs.payload_queue.Blocks.{is_in_block}
+use Rattle.sctp_receiver.specs.TsnFilter.{block_of}
 use Rattle.sctp_sender.specs.declared.sender.refusal.SenderRefusal.TheVariants.{InflightQueueTsnPop, TsnRequestNotExist}
-use Rattle.sctp_sender.specs.Flight.{Flight, count_acked, is_outdated, is_within, sack_refusal}
-use Rattle.sctp_delivery.specs.Sacks.{reports_tsn}
+use Rattle.sctp_sender.specs.Flight.{count_acked, is_within}
 use Rattle.sctp_delivery.proofs.GivenTsns.{IsNumbered}
 use Rattle.sctp_delivery.proofs.ArrivedTsns.{IsArrived, IsKnownAfter, after-cumulative, in-runs, in_run}
 use Rattle.sctp_delivery.proofs.TsnPlaces.{at-or-before, before}
@@ -51,31 +41,13 @@ offset-is d e = let b = both (nat_lt 0 d) (nat_lt d (2 ^ 16)) e in (grind (arith
 -- with so many blocks and duplicates at most
 pub sack-truthful : (p n : ℕ) (known : ℕ → Bool) (credit entries : ℕ) (r : Reception) → n < 2 ^ 31
     → IsArrived p n known r.cumulative_tsn r.beyond → IsTruthful p n known (sack_of_entries credit entries r)
-sack-truthful p n known credit entries r few h = record {
-  place = h.place;
-  within = h.within;
-  is = h.is;
-  so_far = h.so_far;
-  blocks = λ d e.
-      let bs = gap_ack_blocks (filter_of r) in
-      let ds = filter is_offset (map (distance (tsn p h.place)) r.beyond) in
-      let base : offsets (filter_of r) ≡ ds = ap (λ c. filter is_offset (map (distance c) r.beyond)) h.is in
-      let some = sym (any-run d (runs_of (offsets (filter_of r)))) ∙ any-taken d entries bs e in
-      in-runs (IsKnownAfter p n known h.place) ds d (after-cumulative p n known h.place is_offset few h.within offset-is r.beyond h.each)
-      (subst (λ os. list_any (in_run d) (runs_of os) ≡ true) base some);
-}
+sack-truthful p n known credit entries r few h = grind (arith, nat_tests, after-cumulative, any-run, any-taken, in-runs, offset-is)
 
 -- ## Later
 
 pub later-truthful : (p m n : ℕ) (known known' : ℕ → Bool) (s : Sack) → m ≤ n → ((t : ℕ) → known t ≡ true → known' t ≡ true) → IsTruthful p m known s
     → IsTruthful p n known' s
-later-truthful p m n known known' s le more h = record {
-  place = h.place;
-  within = omega (arith, le, h.within);
-  is = h.is;
-  so_far = λ k pos l. more (tsn p k) (h.so_far k pos l);
-  blocks = λ d e. let b = h.blocks d e in record { some = b.some; within = omega (arith, le, b.within); so = more (tsn p (h.place + d)) b.so };
-}
+later-truthful p m n known known' s le more h = grind (arith, nat_tests)
 
 -- ## It is not refused
 
@@ -104,12 +76,7 @@ pub not-refused : (p n : ℕ) (known : ℕ → Bool) (s : Sack) (f : Flight) →
 not-refused p n known s f few h t = by (is_outdated s f) refl
   where
     current : is_outdated s f ≡ false → h.acked ≤ t.place
-    current e =
-        let total = h.total in
-        let within = t.within in
-        let order : nat_lt t.place h.acked ≡ false = sym (before p t.place h.acked (omega (arith, within, few)) (omega (arith, total, few))) ∙ ap
-        (λ u. comes_before u (tsn p h.acked)) (sym t.is) ∙ ap (comes_before s.cumulative_tsn_ack) (sym h.acked_is) ∙ e in
-        grind (arith, nat_tests, order)
+    current h1 = grind (arith, nat_tests, before)
 
     by : (b : Bool) → is_outdated s f ≡ b → (if b then None else (if nat_lt (length f.queue.inflight.chunks)
         (count_acked s f) then Some InflightQueueTsnPop else (if list_all
@@ -131,23 +98,4 @@ not-refused p n known s f few h t = by (is_outdated s f) refl
 pub answered-known : (p n : ℕ) (known : ℕ → Bool) (s : Sack) (k : ℕ) → n < 2 ^ 31 → 0 < k → k ≤ 2 ^ 31 → IsTruthful p n known s
     → reports_tsn (tsn p k) s ≡ true →
     (known (tsn p k) ≡ true) × (k ≤ n)
-answered-known p n known s k few pos far t e = elim (or-split (at_or_before (tsn p k) s.cumulative_tsn_ack)
-    (is_in_blocks s.gap_ack_blocks (distance s.cumulative_tsn_ack (tsn p k))) e) [
-      | inl a ↦
-          let within = t.within in
-          let order : nat_le k t.place ≡ true = sym (at-or-before p k t.place far (omega (arith, within, few))) ∙ ap (at_or_before (tsn p k)) (sym t.is) ∙ a in
-          let le : k ≤ t.place = grind (arith, nat_tests, order) in
-          (t.so_far k pos le, omega (arith, le, within))
-      | inr a ↦
-          let d = distance s.cumulative_tsn_ack (tsn p k) in
-          let b = t.blocks d a in
-          let within = b.within in
-          let is : d ≡ distance (tsn p t.place) (tsn p k) = ap (λ u. distance u (tsn p k)) t.is in
-          elim (cases_lt k t.place) [
-            | inl lt ↦ let back = distance-tsn_back p k t.place lt (omega (arith, few, t.within)) in absurd (omega (arith, is, back, within, few, t.within))
-            | inr ge ↦
-                let ahead = distance-tsn p t.place k ge (omega (arith, far)) in
-                let at : t.place + d ≡ k = omega (arith, is, ahead, ge) in
-                (subst (λ j. known (tsn p j) ≡ true) at b.so, omega (arith, at, within))
-          ]
-    ]
+answered-known p n known s k few pos far t e = grind (arith, nat_tests, at-or-before, cases_lt, distance-tsn, distance-tsn_back, or-split)

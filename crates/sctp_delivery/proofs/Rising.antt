@@ -1,20 +1,9 @@
 -- Chunks in the order of their places: one more put in, some taken out, and the run of one message among them.
-use Rattle.std.proofs.Common.{◌≡◌, ℕ, zero, suc, ◌+◌, ◌-◌, ◌<◌, ◌≤◌, ◌%◌, ◌^◌, Bool, true, false, List, [], ◌∷◌, ◌++◌, length, take, drop, inl, inr, refl, ap}
-use Rattle.std.proofs.Common.{sym, subst, ◌∙◌, arith}
-use Rattle.std.specs.Prelude.{⊤, IsTrue, All, ◌||◌, if◌then◌else◌, nat_lt, slice_index_or}
-use Rattle.std.specs.List.{list_any}
-use Rattle.std.proofs.lemmas.Bool.{cases_lt, eq-eqb}
-use Rattle.std.proofs.lemmas.Bool.Decides.{nat_tests}
-use Rattle.sctp_util.specs.Lists.{insert_before}
-use Rattle.sctp_util.specs.Serial.{comes_before}
-use Rattle.sctp_util.proofs.Cases.{or-split, same-is}
-use Rattle.sctp_util.proofs.Edits.{pairs_cons}
-use Rattle.sctp_util.proofs.More.{fails, not_both}
-use Rattle.sctp_util.proofs.Round.{tsn}
-use Rattle.sctp_data.specs.declared.chunk.chunk_payload_data.ChunkPayloadData.{ChunkPayloadData}
-use Rattle.sctp_data.specs.PayloadData.{Data, data_of}
-use Rattle.sctp_serial.specs.DataChunks.{chunk_before, has_tsn}
-use Rattle.sctp_serial.specs.Runs.{IsRun}
+use Rattle.sctp_delivery.proofs.Names.{◌≡◌, ℕ, zero, suc, ◌+◌, ◌-◌, ◌<◌, ◌≤◌, ◌%◌, ◌^◌, Bool, true, false, List, [], ◌∷◌, ◌++◌, length, take, drop, inl, inr}
+use Rattle.sctp_delivery.proofs.Names.{refl, ap, sym, subst, ◌∙◌, arith, ⊤, All, ◌||◌, if◌then◌else◌, nat_lt, slice_index_or, list_any, cases_lt, eq-eqb}
+use Rattle.sctp_delivery.proofs.Names.{nat_tests, insert_before, comes_before, or-split, same-is, pairs_cons, fails, not_both, tsn, ChunkPayloadData, Data}
+use Rattle.sctp_delivery.proofs.Names.{data_of, chunk_before, has_tsn, IsRun}
+use Rattle.std.specs.Prelude.{IsTrue}
 use Rattle.sctp_serial.specs.Window.{IsSerial}
 use Rattle.sctp_delivery.proofs.Every.{Every, every-at}
 use Rattle.sctp_delivery.proofs.TsnPlaces.{before, next-place, same-place, tsn-small}
@@ -49,9 +38,7 @@ module _ (p n : ℕ) (few : n < 2 ^ 31) where
 
       order : chunk_before x c ≡ nat_lt k j
       order =
-          let u = at.1 in
-          let v = a.1.1 in
-          ap (λ t. comes_before t c.tsn) at.2 ∙ ap (comes_before (tsn p k)) a.1.2 ∙ before p k j (omega (arith, u, few)) (omega (arith, v, few))
+          ap (λ t. comes_before t c.tsn) at.2 ∙ ap (comes_before (tsn p k)) a.1.2 ∙ before p k j (omega (arith, few)) (omega (arith, few))
 
       other : k ≡ j → ⊥
       other e =
@@ -61,12 +48,10 @@ module _ (p n : ℕ) (few : n < 2 ^ 31) where
       by : (b : Bool) → chunk_before x c ≡ b → (IsPlaced p n (a.0 + 1) k x → Ascend p n (a.0 + 1) (insert_before chunk_before x cs))
           → Ascend p n low (if b then x ∷ c ∷ cs else c ∷ insert_before chunk_before x cs)
       by true e ih =
-          let lt : nat_lt k j ≡ true = sym order ∙ e in
-          let less : k < j = grind (arith, nat_tests, lt) in
+          let less : k < j = grind (arith, nat_tests, sym order ∙ e) in
           (k, at, (j, (omega (arith, less), a.1.1, a.1.2), a.2))
       by false e ih =
-          let ge : nat_lt k j ≡ false = sym order ∙ e in
-          let le : j ≤ k = grind (arith, nat_tests, ge) in
+          let le : j ≤ k = grind (arith, nat_tests, sym order ∙ e) in
           (j, a.1, ih (strictly le, at.1, at.2))
         where
           strictly : j ≤ k → j + 1 ≤ k
@@ -92,11 +77,8 @@ module _ (p n : ℕ) (few : n < 2 ^ 31) where
       → All (λ y. IsTrue (comes_before c.tsn y.tsn)) cs
   later c k le e low [] lt a i d short = absurd (omega (arith, short))
   later c k le e low (y ∷ ys) lt a zero d short =
-      let u = a.1.0 in
-      let v = a.1.1 in
-      let less : nat_lt k a.0 ≡ true = (let m : k < a.0 = omega (arith, lt, u) in grind (arith, nat_tests, m)) in
-      let it : comes_before c.tsn y.tsn ≡ true = ap (λ t. comes_before t y.tsn) e ∙ ap (comes_before (tsn p k)) a.1.2
-      ∙ before p k a.0 (omega (arith, le, few)) (omega (arith, v, few)) ∙ less in
+      let less : nat_lt k a.0 ≡ true = (let m : k < a.0 = omega (arith, lt) in grind (arith, nat_tests, m)) in
+      let it : comes_before c.tsn y.tsn ≡ true = cc (e, a.1.2, before p k a.0 (omega (arith, le, few)) (omega (arith, few)), less) in
       it
   later c k le e low (y ∷ ys) lt a (suc i) d short = let u = a.1.0 in later c k le e (a.0 + 1) ys (omega (arith, lt, u)) a.2 i d (omega (arith, short))
 
@@ -118,17 +100,15 @@ module _ (p n : ℕ) (few : n < 2 ^ 31) where
   none-below : (j low : ℕ) (cs : List ChunkPayloadData) → j < low → Ascend p n low cs → list_any (has_tsn (tsn p j)) cs ≡ false
   none-below j low [] lt a = refl
   none-below j low (c ∷ cs) lt a =
-      let u = a.1.0 in
-      let v = a.1.1 in
       let off : has_tsn (tsn p j) c ≡ false = fails (has_tsn (tsn p j) c) (λ h.
-      let same = same-place p a.0 j (omega (arith, v, few)) (omega (arith, lt, u, v, few)) (sym a.1.2 ∙ same-is c.tsn (tsn p j) h) in
-      omega (arith, same, lt, u)) in
-      ap (λ b. b || list_any (has_tsn (tsn p j)) cs) off ∙ none-below j (a.0 + 1) cs (omega (arith, lt, u)) a.2
+      let same = same-place p a.0 j (omega (arith, few)) (omega (arith, lt, few)) (sym a.1.2 ∙ same-is c.tsn (tsn p j) h) in
+      omega (arith, same, lt)) in
+      ap (λ b. b || list_any (has_tsn (tsn p j)) cs) off ∙ none-below j (a.0 + 1) cs (omega (arith, lt)) a.2
 
   -- where the first of these places is the lowest one, it is that of the first chunk
   head-is : (a b : ℕ) (c : ChunkPayloadData) (cs : List ChunkPayloadData) (x : Ascend p n a (c ∷ cs)) → a ≤ b → Covers p a b (c ∷ cs) → x.0 ≡ a
   head-is a b c cs x le covers = elim (cases_lt a x.0) [
-    | inr ge ↦ let u = x.1.0 in omega (arith, ge, u)
+    | inr ge ↦ omega (arith, ge)
     | inl lt ↦ absurd (not_both (sym (none-below a x.0 (c ∷ cs) lt (x.0, (omega arith, x.1.1, x.1.2), x.2)) ∙ covers a (omega arith) le))
   ]
 
@@ -152,8 +132,7 @@ module _ (p n : ℕ) (few : n < 2 ^ 31) where
       let h = head-is a b c cs x le covers in
       let rest = covers-rest (a + 1) b x.0 c cs x.1.2 (omega (arith, h)) top (λ i from upto. covers i (omega (arith, from)) upto) in
       let ih = side (a + 1) b cs (subst (λ k. Ascend p n (k + 1) cs) h x.2) (omega (arith, to)) top rest j (omega (arith, to)) in
-      let lt = ih.0 in
-      (omega (arith, lt), λ d. ih.1 d ∙ ap (tsn p) {x = a + 1 + j} {y = a + suc j} (omega arith))
+      (omega arith, λ d. ih.1 d ∙ ap (tsn p) {x = a + 1 + j} {y = a + suc j} (omega arith))
 
   -- and begin at some place in the list
   pub record IsSide (a b : ℕ) (cs : List ChunkPayloadData) : Type 0 where

@@ -1,37 +1,328 @@
--- Rounds, one after another, empty the sender.
-use Rattle.std.proofs.Common.{◌≡◌, ℕ, zero, suc, ◌+◌, ◌-◌, ◌^◌, ◌<◌, ◌≤◌, Bool, true, false, List, [], ◌∷◌, length, inl, inr, refl, ap, subst, ◌∙◌, arith, sym}
-use Rattle.std.specs.Prelude.{if◌then◌else◌, ◌==◌}
-use Rattle.std.proofs.lemmas.Bool.{cases_lt}
-use Rattle.std.proofs.lemmas.Bool.Decides.{nat_tests}
-use Rattle.sctp_util.specs.Serial.{distance}
-use Rattle.sctp_util.proofs.More.{and}
-use Rattle.sctp_util.proofs.Round.{distance-tsn}
-use Rattle.sctp_data.specs.SelectiveAck.{Sack}
-use Rattle.sctp_outbound.specs.pending_queue.PendingQueue.{chunk_count}
-use Rattle.sctp_sender.specs.Flight.{Flight, after_sack, is_outdated, take_sack}
-use Rattle.sctp_sender.specs.Sender.{Transmission}
-use Rattle.sctp_delivery.specs.Rounds.{AfterEachFitSessionOfFewTsns, EachRoundTakesOne, IsAnswered, IsRound, RoundsEnd, chunks_left, flight_of, in_flight}
-use Rattle.sctp_delivery.specs.Rounds.{AfterEachFitReliableSession, AllIsReadAfterRounds, AreReliable, Rounds, tsns_in_rounds}
-use Rattle.sctp_delivery.specs.Sacks.{tsns_given}
-use Rattle.sctp_delivery.specs.SenderCalls.{takes_sack}
-use Rattle.sctp_delivery.specs.Session.{Call, RunsTo, Session, of_receiver, of_sender}
-use Rattle.sctp_delivery.proofs.Answered.{leaves-fewer}
-use Rattle.sctp_delivery.proofs.Delivered.{next_tsn}
-use Rattle.sctp_delivery.proofs.GivenTsns.{IsNumbered}
+-- What is lost is sent again, what is abandoned is passed, a SACK leaves fewer: rounds, one after another, empty the sender.
+use Rattle.sctp_delivery.proofs.Names.{◌≡◌, ℕ, true, ◌∷◌, refl, ap, Result, Ok, Err, arith, ◌+◌, ◌^◌, ◌<◌, Bool, false, length, get_or, Some, sym, ◌∙◌, ◌≤◌}
+use Rattle.sctp_delivery.proofs.Names.{List, [], take, None, inl, inr, subst, zero, suc, ◌-◌, ◌&&◌, ◌||◌, find, if◌then◌else◌, nat_le, option_map, All, ◌==◌}
+use Rattle.sctp_delivery.proofs.Names.{nat_tests, not_both, and, Sack, ReceiverRefusal, Reception, max_sack_entries, sack_entries, sack_of_entries}
+use Rattle.sctp_delivery.proofs.Names.{is_reliable_at_receiver, is_all_acknowledged, reads_nothing, ReceiverCall, is_reporting, ReceiverFollows, Session}
+use Rattle.sctp_delivery.proofs.Names.{at_start, Call, RunsTo, of_receiver, of_sender, or-left, or-right, ChunkPayloadData, tsn, distance-tsn, is_outstanding}
+use Rattle.sctp_delivery.proofs.Names.{has_tsn, following_tsn, can_resend, is_outstanding_in, Flight, after_sack, is_outdated, take_sack, tsn-at, IsRunFrom}
+use Rattle.sctp_delivery.proofs.Names.{flight_of, in_flight, IsAnswered, IsCaughtUp, is_first_abandoned, IsRound, chunks_left, Rounds}
+use Rattle.sctp_delivery.proofs.Names.{AfterEachSessionOfFewTsns, AcknowledgedCame, tsns_given, was_taken, resent_at, Transmission, with_flight, SenderMakes}
+use Rattle.sctp_delivery.proofs.Names.{resends, takes_sack, filter, cases_lt, at_or_before, distance, last_of, chunk_count, ends, advanced_ack_point}
+use Rattle.sctp_delivery.proofs.Names.{can_skip_to, last_end, WhileFewTsns}
+use Rattle.std.proofs.Common.{◌⊎◌}
+use Rattle.std.specs.Prelude.{OnOk, not}
+use Rattle.sctp_delivery.specs.ReceiverCalls as incoming
+use Rattle.sctp_delivery.specs.ReceiverCalls.{ReceiverMakes}
+use Rattle.sctp_sender.proofs.Runs.{found-at}
+use Rattle.sctp_delivery.specs.Rounds.{EachCanGoOn, EachAnswerLeavesFewer, LeavesFewer, SkipsToPoint}
+use Rattle.sctp_delivery.specs.Rounds.{AfterEachFitSessionOfFewTsns, EachRoundTakesOne, RoundsEnd}
+use Rattle.sctp_delivery.specs.Rounds.{AfterEachFitReliableSession, AllIsReadAfterRounds, AreReliable, tsns_in_rounds}
+use Rattle.sctp_delivery.proofs.SackLaws.{IsInStep, acknowledged-came, in-step}
+use Rattle.sctp_delivery.proofs.TsnPlaces.{base, tsn-small, at-or-before, before, next-place, same-place}
+use Rattle.sctp_sender.specs.Resending.{next_within}
+use Rattle.sctp_sender.proofs.Skips.{can-go}
+use Rattle.sctp_delivery.proofs.Continued.{lead-ends}
+use Rattle.sctp_delivery.proofs.Every.{Every, every-changed, every-of-all, every-passing}
+use Rattle.sctp_delivery.proofs.GivenTsns.{IsNumbered, taken-numbered, lead, lead-within, point-ahead, point-is, rest-run}
+use Rattle.sctp_delivery.proofs.KeptSessions.{kept-in}
 use Rattle.sctp_delivery.proofs.Reached.{IsReached, kept, none-more, reach-on, IsReachedReliably, reliably-on}
-use Rattle.sctp_delivery.proofs.TsnPlaces.{base}
-use Rattle.sctp_delivery.specs.Complete.{is_all_acknowledged, is_reliable_at_receiver, reads_nothing}
+use Rattle.sctp_delivery.proofs.TakenCalls.{next-untaken}
+use Rattle.sctp_delivery.proofs.SackSteps.{known}
+use Rattle.sctp_delivery.proofs.Delivered.{next_tsn}
 use Rattle.sctp_delivery.proofs.OthersOnce.{all-read}
-use Rattle.sctp_delivery.proofs.SackCalls.{reporting-of}
+
+-- # The calls by which the receiver makes a SACK
+
+-- what each of them makes: a SACK of so many blocks and duplicates at most; what came stays as it is
+pub record IsReporting (call : ReceiverCall) (s t : Session) : Type 0 where
+  pub credit : ℕ
+  pub entries : ℕ
+  pub made : t.sacks ≡ sack_of_entries credit entries s.receiving.receiver ∷ s.sacks
+  pub streams : t.receiving.receiver.streams ≡ s.receiving.receiver.streams
+  pub accepted : t.receiving.accepted ≡ s.receiving.accepted
+  pub reliable : is_reliable_at_receiver call ≡ true
+
+pub reporting-of : (call : ReceiverCall) (s t : Session) → is_reporting call ≡ true → ReceiverFollows call s t → IsReporting call s t
+reporting-of (incoming.reports credit) s t e f = record {
+  credit = credit;
+  entries = max_sack_entries;
+  made = ap (λ (x : Session). x.sacks) f.after;
+  streams = ap (λ (r : Reception). r.streams) f.step.receiver;
+  accepted = f.step.accepted;
+  reliable = refl;
+}
+reporting-of (incoming.reports_within credit bytes) s t e f = record {
+  credit = credit;
+  entries = sack_entries bytes;
+  made = ap (λ (x : Session). x.sacks) f.after;
+  streams = ap (λ (r : Reception). r.streams) f.step.receiver;
+  accepted = f.step.accepted;
+  reliable = refl;
+}
+reporting-of (incoming.makes_sack credit bytes) s t e f = record {
+  credit = credit;
+  entries = sack_entries bytes;
+  made = ap (λ (x : Session). x.sacks) f.after;
+  streams = ap (λ (r : Reception). r.streams) f.step.receiver;
+  accepted = f.step.accepted;
+  reliable = refl;
+}
+reporting-of call s t e f = absurd (not_both e)
+
+-- the SACK has the cumulative TSN of the receiver
+pub cumulative-of : (call : ReceiverCall) (s t : Session) (k : Sack) → is_reporting call ≡ true → ReceiverFollows call s t → t.sacks ≡ k ∷ s.sacks
+    → k.cumulative_tsn_ack ≡ s.receiving.receiver.cumulative_tsn
+cumulative-of call s t k e f made = grind (arith, nat_tests, reporting-of)
+
+-- a SACK of no bytes reports no duplicate, and none is forgotten: where one is only made nothing changes
+pub only-made : {V : Type 0} (a : Result V ReceiverRefusal) (credit bytes : ℕ) (r : Reception) → OnOk a (ReceiverMakes (incoming.makes_sack credit bytes) r r)
+only-made (Ok v) credit bytes r = (refl, tt)
+only-made (Err e) credit bytes r = tt
+
+-- # What is in flight can be sent again, unless it came or is abandoned
+
+-- the chunk at a place is the first with its TSN
+pub found-in : (p n : ℕ) (s : Session) → n < 2 ^ 31 → IsInStep p n s → (k : ℕ) (d : ChunkPayloadData) → k < length (in_flight s)
+    → find (has_tsn (get_or (in_flight s) k d).tsn) (in_flight s) ≡ Some (get_or (in_flight s) k d)
+found-in p n s few i k d lt =
+    let h = i.numbered in
+    let first = tsn p (h.acked + 1) in
+    let small = tsn-small p (h.acked + 1) in
+    let total = h.total in
+    ap (λ u. find (has_tsn u) (in_flight s)) (tsn-at (in_flight s) first k d small h.run lt)
+    ∙ found-at (in_flight s) first k d small h.run (omega (arith, total, few)) lt
+
+module _ (p n : ℕ) (s : Session) (few : n < 2 ^ 31) (i : IsInStep p n s) (came : AcknowledgedCame s) (k : ℕ) (d : ChunkPayloadData)
+    (lt : k < length (in_flight s)) where
+  abbrev c : ChunkPayloadData
+  c = get_or (in_flight s) k d
+
+  found : can_resend c.tsn (flight_of s) ≡ is_outstanding c
+  found = ap is_outstanding_in (found-in p n s few i k d lt)
+
+  done : (a b : Bool) → c.acked ≡ a → c.abandoned ≡ b → (not a && not b) ≡ false → (was_taken c.tsn s || c.abandoned) ≡ true
+  done true b e f g = came k d lt (or-left c.acked _ e)
+  done false true e f g = or-right (was_taken c.tsn s) c.abandoned f
+  done false false e f g = absurd (not_both (sym g))
+
+  goes-on : (b : Bool) → is_outstanding c ≡ b → (can_resend c.tsn (flight_of s) || (was_taken c.tsn s || c.abandoned)) ≡ true
+  goes-on true e = or-left (can_resend c.tsn (flight_of s)) _ (found ∙ e)
+  goes-on false e = or-right (can_resend c.tsn (flight_of s)) _ (done c.acked c.abandoned refl refl e)
+
+pub all-go-on : AfterEachSessionOfFewTsns (λ first count s. EachCanGoOn s)
+all-go-on first size max most limits cs s run small few k d lt =
+    goes-on (base first) (tsns_given (at_start first size max most limits) cs s run) s few (in-step first size max most limits cs s run small few)
+    (acknowledged-came first size max most limits cs s run small few) k d lt (is_outstanding (get_or (in_flight s) k d)) refl
+
+-- # What `resend_next` sends, as the call of a session that sends a chunk again
+
+pub resent : {V E : Type 0} (now room : ℕ) (old new : Transmission) (a : Result V E)
+    → OnOk a ((c : ChunkPayloadData) → next_within room old.flight ≡ Some c → new ≡ with_flight (resent_at c.tsn now c old.flight) old)
+    → ((c : ChunkPayloadData) → next_within room old.flight ≡ Some c
+    → (find (has_tsn c.tsn) old.flight.queue.inflight.chunks ≡ Some c) × (can_resend c.tsn old.flight ≡ true))
+    → OnOk a ((c : ChunkPayloadData) → next_within room old.flight ≡ Some c → SenderMakes (resends c.tsn now c) old new)
+resent now room old new (Ok v) made marked = λ c e. let m = marked c e in (made c e, (tt, ((m.1, m.0), tt)))
+resent now room old new (Err x) made marked = tt
+
+-- # What is abandoned can be passed, and a SACK of a receiver that is caught up leaves fewer chunks in flight
+
+-- ## What a FORWARD-TSN passes
+
+some-lead : (cs : List ChunkPayloadData) → is_first_abandoned cs ≡ true → 0 < lead cs
+some-lead [] e = absurd (not_both e)
+some-lead (c ∷ cs) e = let n : lead (c ∷ cs) ≡ lead cs + 1 = ap (λ b. if not b then 0 else lead cs + 1) e in omega (arith, n)
+
+point : (p n : ℕ) (f : Flight) (h : IsNumbered p n f) → advanced_ack_point f ≡ tsn p (h.acked + lead f.queue.inflight.chunks)
+point p n f h = grind (arith, nat_tests, point-is)
+
+pub skips : (first n : ℕ) (s : Session) → n < 2 ^ 31 → IsReached first n s → SkipsToPoint s
+skips first n s few i e =
+    let k = (kept first n s few i).kept in
+    let f = flight_of s in
+    let cs = in_flight s in
+    let p = base first in
+    let h = k.step.numbered in
+    let some = some-lead cs e in
+    let far = point-ahead p n f h few in
+    let l = lead-ends _ p h.acked cs k.continued h.run e in
+    let can : can_skip_to (advanced_ack_point f) f ≡ true = can-go f (advanced_ack_point f) (omega (arith, far, some)) (omega arith) in
+    ap (λ b. if b then option_map (λ (c : ChunkPayloadData). c.tsn) (last_end (advanced_ack_point f) f) else None) can
+    ∙ ap (λ j. option_map (λ (c : ChunkPayloadData). c.tsn) (last_of (filter ends (take j cs)))) far
+    ∙ ap (option_map (λ (c : ChunkPayloadData). c.tsn)) l.last
+    ∙ ap Some (l.is ∙ sym (point p n f h))
+
+pub all-skip : WhileFewTsns SkipsToPoint
+all-skip first size max most limits cs s small some r few =
+    skips first _ s few (record { size = size; max = max; most = most; limits = limits; calls = cs; small = small; some = some; run = r; given = refl })
+
+-- ## A SACK of a receiver that is caught up
+
+-- no SACK that was taken was ahead of the receiver
+pub ahead-of-sacks : (first n : ℕ) (s : Session) → n < 2 ^ 31 → IsReached first n s → (h : IsInStep (base first) n s) → h.numbered.acked ≤ h.arrived.place
+ahead-of-sacks first n s few i h =
+    let p = base first in
+    let given = i.given in
+    let u = (kept-in first i.size i.max i.most i.limits i.calls s i.small i.some i.run (omega (arith, few, given))).kept.unwrapped in
+    let g = u.spread.step.numbered in
+    let d = (u.answered 0).0.arrived in
+    let total = h.numbered.total in
+    let most = g.total in
+    let within = h.arrived.within in
+    let upto = d.within in
+    let least = d.least_is in
+    let a = same-place p h.numbered.acked g.acked (omega (arith, total, few)) (omega (arith, most, few, given)) (sym h.numbered.acked_is ∙ g.acked_is) in
+    let b = same-place p h.arrived.place d.place (omega (arith, within, few)) (omega (arith, upto, few, given)) (sym h.arrived.is ∙ d.is) in
+    omega (arith, a, b, least)
+
+module _ (first n : ℕ) (s t : Session) (few : n < 2 ^ 31) (i : IsReached first n s) (c : IsCaughtUp s) (a : IsAnswered s t) where
+  step : IsInStep (base first) n s
+  step = (kept first n s few i).kept.step
+
+  abbrev f : Flight
+  f = s.sending.sender.flight
+
+  abbrev acked : ℕ
+  acked = step.numbered.acked
+
+  -- the place of the cumulative TSN of the receiver
+  abbrev q : ℕ
+  q = step.arrived.place
+
+  up : acked ≤ q
+  up = ahead-of-sacks first n s few i step
+
+  within : q ≤ n
+  within = step.arrived.within
+
+  -- the SACK tells of it
+  abbrev k : Sack
+  k = a.sack
+
+  -- it has the cumulative TSN of the receiver
+  cumulative : a.sack.cumulative_tsn_ack ≡ s.receiving.receiver.cumulative_tsn
+  cumulative = cumulative-of a.call s a.reported a.sack a.makes a.reporting a.made
+
+  told : a.sack.cumulative_tsn_ack ≡ tsn (base first) q
+  told = cumulative ∙ step.arrived.is
+
+  flight-after : t.sending.sender.flight ≡ after_sack a.sack s.sending.sender.flight
+  flight-after =
+      ap (λ (u : Transmission). u.flight) a.taking.exact ∙ ap (λ (x : Session). after_sack a.sack x.sending.sender.flight) a.reporting.after
+
+  current : is_outdated a.sack s.sending.sender.flight ≡ false
+  current = grind (arith, nat_tests, before, up, within)
+
+  taken-sack : t.sending.sender.flight ≡ take_sack a.sack s.sending.sender.flight
+  taken-sack = flight-after ∙ ap (λ b. if b then f else take_sack k f) current
+
+  numbered : IsNumbered (base first) n (take_sack a.sack s.sending.sender.flight)
+  numbered =
+      subst (λ b. IsNumbered (base first) n (if b then f else take_sack k f)) current
+      (taken-numbered (base first) n q k f few within told step.numbered)
+
+  there : numbered.acked ≡ q
+  there =
+      let total = numbered.total in
+      same-place (base first) numbered.acked q (omega (arith, total, few)) (omega (arith, within, few)) (sym numbered.acked_is ∙ told)
+
+  -- the TSN behind it was not taken
+  untaken : was_taken (tsn (base first) (q + 1)) s ≡ false
+  untaken =
+      ap (λ u. was_taken u s) (sym (next-place (base first) q)) ∙ ap (λ u. was_taken (following_tsn u) s) (sym step.arrived.is)
+      ∙ next-untaken (base first) n s (known s) few step.arrived step.order step.taken
+
+  -- a chunk that is kept was taken
+  abbrev WasKept : ChunkPayloadData → Type 0
+  WasKept x = x.abandoned ≡ false → was_taken x.tsn s ≡ true
+
+  every : Every WasKept s.sending.sender.flight.queue.inflight.chunks
+  every = every-of-all WasKept (in_flight s) c.taken
+
+  -- the first chunk in flight leaves
+  rises-past : (cs : List ChunkPayloadData) → in_flight s ≡ cs → 0 < length cs → acked < q
+  rises-past [] e lt = absurd (omega (arith, lt))
+  rises-past (x ∷ xs) e lt = by x.abandoned refl
+    where
+      first-is : x.tsn ≡ tsn (base first) (acked + 1)
+      first-is = (rest-run (base first) acked x xs (subst (IsRunFrom (tsn (base first) (acked + 1))) e step.numbered.run)).0
+
+      apart : was_taken x.tsn s ≡ true → acked < q
+      apart h1 = grind (arith, nat_tests, cases_lt, first-is, not_both, untaken, up)
+
+      by : (b : Bool) → x.abandoned ≡ b → acked < q
+      by false g = apart ((subst (Every WasKept) e every).0 g)
+      by true g =
+          let lead-first : is_first_abandoned (in_flight s) ≡ true = ap is_first_abandoned e ∙ g in
+          let some = some-lead (in_flight s) lead-first in
+          let upto = c.followed (advanced_ack_point f) (skips first n s few i lead-first) in
+          let total = step.numbered.total in
+          let most = lead-within (in_flight s) in
+          let order : nat_le (acked + lead (in_flight s)) q ≡ true =
+          sym (at-or-before (base first) (acked + lead (in_flight s)) q (omega (arith, total, most, few)) (omega (arith, within, few)))
+          ∙ ap (λ u. at_or_before u (tsn (base first) q)) (sym (point (base first) n f step.numbered))
+          ∙ ap (at_or_before (advanced_ack_point f)) (sym step.arrived.is) ∙ upto in
+          let le : acked + lead (in_flight s) ≤ q = grind (arith, nat_tests, order) in
+          omega (arith, le, some)
+
+  count-left : length (in_flight t) + q ≡ n
+  count-left = let total = numbered.total in let e = ap (λ (x : Flight). length x.queue.inflight.chunks) taken-sack in omega (arith, total, e, there)
+
+  fewer : 0 < length (in_flight s) → length (in_flight t) < length (in_flight s)
+  fewer lt =
+      let on = rises-past (in_flight s) refl lt in
+      let total = step.numbered.total in
+      let l = count-left in
+      omega (arith, on, total, l)
+
+  -- what is so of a chunk that is kept stays so
+  stays : (P : Bool → ℕ → Type 0) → Every (λ (x : ChunkPayloadData). P x.abandoned x.tsn) (in_flight s)
+      → Every (λ (x : ChunkPayloadData). P x.abandoned x.tsn) (in_flight t)
+  stays P e = grind (arith, nat_tests, every-changed, every-passing, taken-sack)
+
+  run-left : IsRunFrom (tsn (base first) (q + 1)) (in_flight t)
+  run-left =
+      subst (λ (x : Flight). IsRunFrom (tsn (base first) (q + 1)) x.queue.inflight.chunks) (sym taken-sack)
+      (subst (λ j. IsRunFrom (tsn (base first) (j + 1)) (take_sack k f).queue.inflight.chunks) there numbered.run)
+
+  left-first : (cs : List ChunkPayloadData) → in_flight t ≡ cs → (cs ≡ []) ⊎ (is_first_abandoned cs ≡ true)
+  left-first [] e = inl refl
+  left-first (x ∷ xs) e = inr (by x.abandoned refl)
+    where
+      here : x.tsn ≡ tsn (base first) (q + 1)
+      here = (rest-run (base first) q x xs (subst (IsRunFrom (tsn (base first) (q + 1))) e run-left)).0
+
+      by : (b : Bool) → x.abandoned ≡ b → b ≡ true
+      by true g = refl
+      by false g =
+          let was = (subst (Every WasKept) e (stays (λ b u. b ≡ false → was_taken u s ≡ true) every)).0 g in
+          absurd (not_both (sym untaken ∙ ap (λ u. was_taken u s) (sym here) ∙ was))
+
+  none-left : All (λ (x : ChunkPayloadData). x.abandoned ≡ false) (in_flight s) → (cs : List ChunkPayloadData) → in_flight t ≡ cs
+      → (cs ≡ []) ⊎ (is_first_abandoned cs ≡ true) → cs ≡ []
+  none-left all cs e (inl none) = none
+  none-left all [] e (inr first) = refl
+  none-left all (x ∷ xs) e (inr first) =
+      let kept-all = every-of-all (λ (y : ChunkPayloadData). y.abandoned ≡ false) (in_flight s) all in
+      absurd (not_both (sym (subst (Every (λ (y : ChunkPayloadData). y.abandoned ≡ false)) e (stays (λ b u. b ≡ false) kept-all)).0 ∙ first))
+
+  pub leaves-fewer : LeavesFewer s t
+  leaves-fewer = record {
+    fewer = fewer;
+    first = left-first (in_flight t) refl;
+    none = λ all. none-left all (in_flight t) refl (left-first (in_flight t) refl);
+  }
+
+pub all-leave-fewer : WhileFewTsns EachAnswerLeavesFewer
+all-leave-fewer first size max most limits cs s small some r few c t a =
+    leaves-fewer first _ s t few
+    (record { size = size; max = max; most = most; limits = limits; calls = cs; small = small; some = some; run = r; given = refl }) c a
+
+-- # Rounds, one after another, empty the sender
 
 -- ## The SACK gives out no TSN
 
 after-sack : (k : Sack) (f : Flight) → ((after_sack k f).next_tsn ≡ f.next_tsn) × ((after_sack k f).queue.pending ≡ f.queue.pending)
-after-sack k f = by (is_outdated k f)
-  where
-    by : (b : Bool) → ((if b then f else take_sack k f).next_tsn ≡ f.next_tsn) × ((if b then f else take_sack k f).queue.pending ≡ f.queue.pending)
-    by true = (refl, refl)
-    by false = (refl, refl)
+after-sack k f = grind (arith, nat_tests)
 
 module _ (s t : Session) (a : IsAnswered s t) where
   abbrev pub two : List Call
@@ -53,10 +344,7 @@ module _ (s t : Session) (a : IsAnswered s t) where
   same-next = ap (λ (f : Flight). f.next_tsn) after ∙ (after-sack a.sack s.sending.sender.flight).0
 
   still : (p n : ℕ) → IsNumbered p n s.sending.sender.flight → distance (next_tsn s) (next_tsn s) ≡ 0
-  still p n h =
-      let at = h.next_is in
-      ap (λ u. distance u u) at ∙ distance-tsn p (n + 1) (n + 1) (omega arith) (omega arith)
-      ∙ (let z : n + 1 - (n + 1) ≡ 0 = omega arith in z)
+  still p n h = grind (arith, nat_tests, distance-tsn)
 
   pub none-given : (p n : ℕ) → IsNumbered p n s.sending.sender.flight → tsns_given s two t run ≡ 0
   none-given p n h =
@@ -99,10 +387,7 @@ takes-one first n s t r few i =
   where
     none-waits : (0 < chunk_count (flight_of r.reached).queue.pending → 0 < length (in_flight r.reached)) → length (in_flight r.reached) ≡ 0
         → chunk_count (flight_of r.reached).queue.pending ≡ 0
-    none-waits sent empty = elim (cases_lt 0 (chunk_count (flight_of r.reached).queue.pending)) [
-      | inl some ↦ let lt = sent some in absurd (omega (arith, lt, empty))
-      | inr none ↦ omega (arith, none)
-    ]
+    none-waits h1 h2 = grind (arith, nat_tests, cases_lt)
 
 -- ## Rounds
 

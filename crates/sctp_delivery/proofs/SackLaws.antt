@@ -1,29 +1,18 @@
 -- What SACKs and FORWARD-TSNs say after every session in which fewer than 2^31 TSNs are given out.
-use Rattle.std.proofs.Common.{◌≡◌, ℕ, ◌+◌, ◌<◌, ◌≤◌, ◌%◌, ◌^◌, Bool, true, false, List, [], ◌∷◌, length, map, Option, refl, ap, sym, subst, ◌∙◌, inl, inr}
-use Rattle.std.proofs.Common.{arith, None, zero, suc, ◌++◌, take, drop, get_or, Some}
-use Rattle.std.specs.Prelude.{if◌then◌else◌, ◌||◌, not, nat_le, nat_lt, All, Contains}
-use Rattle.std.specs.List.{filter, list_any}
-use Rattle.std.proofs.lemmas.Bool.Decides.{nat_tests}
-use Rattle.sctp_util.specs.Serial.{distance, at_or_before, comes_before}
-use Rattle.sctp_util.proofs.Cases.{or-left, or-right, or-split}
-use Rattle.sctp_util.proofs.More.{both}
-use Rattle.sctp_util.proofs.Round.{tsn}
-use Rattle.sctp_data.specs.declared.chunk.chunk_payload_data.ChunkPayloadData.{ChunkPayloadData}
-use Rattle.sctp_data.specs.SelectiveAck.{Sack}
-use Rattle.sctp_receiver.specs.declared.receiver.arrival.Arrival.TheVariants.{New, Repeat}
-use Rattle.sctp_receiver.specs.declared.receiver.limits.Limits.{Limits}
-use Rattle.sctp_receiver.specs.Receiver.{Reception}
-use Rattle.sctp_receiver.specs.ReceiverRuns.{Stand}
-use Rattle.sctp_serial.specs.DataChunks.{following_tsn, has_tsn, chunk_before}
-use Rattle.sctp_sender.specs.Flight.{Flight, after_sack, is_outdated, is_whole, released_by, released_of, reports, reports_anew, sack_refusal, take_sack}
-use Rattle.sctp_sender.specs.Flight.{message_to_abandon}
-use Rattle.sctp_delivery.specs.ReceiverCalls as incoming
-use Rattle.sctp_delivery.specs.ReceiverCalls.{ReceiverCall}
-use Rattle.sctp_delivery.specs.Sacks.{AcknowledgedCame, AfterEachSessionOfFewTsns, AllReportedLeaves, EachSackTells, LeftCame, NextSackTells, NoneIsRefused}
-use Rattle.sctp_delivery.specs.Sacks.{NoneIsTakenTwice, PassAbandoned, ReleasedCame, ReportWhatCame, is_reported, passes, reports_tsn, tsns_given, was_passed}
-use Rattle.sctp_delivery.specs.Sacks.{was_taken, StaysAcknowledged}
-use Rattle.sctp_delivery.specs.SenderCalls.{SenderCall}
-use Rattle.sctp_delivery.specs.Session.{Call, ReceiverFollows, RunsTo, SenderFollows, Session, at_start, of_receiver, of_sender}
+use Rattle.sctp_delivery.proofs.Names.{◌≡◌, ℕ, ◌+◌, ◌<◌, ◌≤◌, ◌^◌, Bool, true, false, List, [], ◌∷◌, length, map, Option, refl, ap, sym, subst, ◌∙◌, inl, inr}
+use Rattle.sctp_delivery.proofs.Names.{arith, None, zero, suc, ◌++◌, take, drop, get_or, Some, if◌then◌else◌, ◌||◌, nat_le, All, Contains, filter, list_any}
+use Rattle.sctp_delivery.proofs.Names.{nat_tests, or-left, or-right, or-split, both, tsn, ChunkPayloadData, Sack, Limits, Reception, Stand, following_tsn}
+use Rattle.sctp_delivery.proofs.Names.{chunk_before, Flight, after_sack, is_outdated, is_whole, released_by, released_of, reports, reports_anew, sack_refusal}
+use Rattle.sctp_delivery.proofs.Names.{take_sack, message_to_abandon, ReceiverCall, AcknowledgedCame, AfterEachSessionOfFewTsns, AllReportedLeaves}
+use Rattle.sctp_delivery.proofs.Names.{EachSackTells, NextSackTells, NoneIsRefused, NoneIsTakenTwice, PassAbandoned, is_reported, passes, reports_tsn}
+use Rattle.sctp_delivery.proofs.Names.{tsns_given, was_passed, was_taken, StaysAcknowledged, SenderCall, Call, ReceiverFollows, RunsTo, SenderFollows, Session}
+use Rattle.sctp_delivery.proofs.Names.{at_start, of_receiver, of_sender, change_where, as_abandoned, as_acknowledged, is_of, Outbound, abandoned_of, as_sent}
+use Rattle.sctp_delivery.proofs.Names.{sent_next, sent_of, terminal_chunk, with_terminal_chunk, last_removed, abandoned_at, abandoned_each, fragments_with_mode}
+use Rattle.sctp_delivery.proofs.Names.{can_miss, missed, Transmission, started-inflight, tsn-at}
+use Rattle.std.specs.Prelude.{not}
+use Rattle.sctp_util.specs.Serial.{distance, at_or_before}
+use Rattle.sctp_delivery.specs.Sacks.{LeftCame}
+use Rattle.sctp_delivery.specs.Sacks.{ReleasedCame, ReportWhatCame}
 use Rattle.sctp_delivery.proofs.Every.{Every, all-of-every, every-mapped, every-of, one-of, every-changed, every-contained, every-inserted, every-joined}
 use Rattle.sctp_delivery.proofs.Every.{every-left, every-of-all, every-passing, every-taken, every-both, every-tested}
 use Rattle.sctp_delivery.proofs.GivenTsns.{IsNumbered, taken-numbered, flight-given, raises-abandoned}
@@ -36,18 +25,7 @@ use Rattle.sctp_delivery.proofs.SackSteps.{message-inflight}
 use Rattle.sctp_delivery.proofs.Sessions.{more-made}
 use Rattle.sctp_delivery.proofs.ValidMarks.{IsRight, IsValid, came-of, more-taken}
 use Rattle.sctp_delivery.proofs.TsnPlaces.{IsGiven, at-or-before, base, before, first-is, next-place, past-first, same-place, tsn-small}
-use Rattle.sctp_util.specs.Lists.{change_where}
-use Rattle.sctp_outbound.specs.Marks.{as_abandoned, as_acknowledged, is_of}
-use Rattle.sctp_outbound.specs.outbound_queue.OutboundQueue.{Outbound, abandoned_of, all_started, as_sent, sent_next, sent_of, terminal_chunk}
-use Rattle.sctp_outbound.specs.outbound_queue.OutboundQueue.{with_terminal_chunk}
 use Rattle.sctp_outbound.specs.payload_queue.PayloadQueue as payload
-use Rattle.sctp_outbound.specs.pending_queue.PendingQueue.{last_removed, next_pending}
-use Rattle.sctp_sender.specs.Late.{abandoned_at, abandoned_each}
-use Rattle.sctp_sender.specs.Outgoing.{fragments_with_mode}
-use Rattle.sctp_sender.specs.Resending.{can_miss, missed}
-use Rattle.sctp_sender.specs.Sender.{Transmission}
-use Rattle.sctp_sender.proofs.Flights.{started-inflight}
-use Rattle.sctp_sender.proofs.Runs.{tsn-at}
 use Rattle.sctp_delivery.specs.SenderCalls as outgoing
 use Rattle.sctp_delivery.proofs.Changes.{Change, all_start, acknowledges, changes, each_leaves, flight_after, front_expires, more_room, nothing, one_leaves}
 use Rattle.sctp_delivery.proofs.Changes.{some_marked, some_missed}
@@ -89,10 +67,7 @@ begin first size max most limits small = begin-but none_dropped first size max m
 module _ (dropped : ℕ → Bool) (p n : ℕ) (old new : Session) where
   -- what came stays so, where what was taken does
   more-came : ((t : ℕ) → was_taken t old ≡ true → was_taken t new ≡ true) → (t : ℕ) → came_in dropped old t ≡ true → came_in dropped new t ≡ true
-  more-came taken t e = elim (or-split (dropped t) (was_taken t old) e) [
-    | inl d ↦ or-left (dropped t) (was_taken t new) d
-    | inr w ↦ or-right (dropped t) (was_taken t new) (taken t w)
-  ]
+  more-came taken t e = grind (arith, nat_tests, or-left, or-right, or-split)
 
   pub grows-so : ((t : ℕ) → was_taken t old ≡ true → was_taken t new ≡ true) → ((t : ℕ) → was_passed t old ≡ true → was_passed t new ≡ true)
       → (t : ℕ) → known_or dropped old t ≡ true → known_or dropped new t ≡ true
@@ -102,9 +77,7 @@ module _ (dropped : ℕ → Bool) (p n : ℕ) (old new : Session) where
   ]
 
   more-known : (call : SenderCall) → SenderFollows call old new → (t : ℕ) → known_or dropped old t ≡ true → known_or dropped new t ≡ true
-  more-known call f =
-      grows-so (λ t e. ap (was_taken t) f.after ∙ e)
-      (λ t e. ap (was_passed t) f.after ∙ more-made (passes t) call old.sending.sender old.made e)
+  more-known call f = grind (arith, nat_tests, grows-so, more-made)
 
   pub sender-step-but : (call : SenderCall) → n + distance old.sending.sender.flight.next_tsn new.sending.sender.flight.next_tsn < 2 ^ 31
       → SenderFollows call old new → IsInStepBut dropped p n old
@@ -169,9 +142,7 @@ sender-step p n call old new few f i = sender-step-but none_dropped p n old new 
 
 -- what was taken stays so
 pub more-accepted : (call : ReceiverCall) (old new : Session) → ReceiverFollows call old new → (t : ℕ) → was_taken t old ≡ true → was_taken t new ≡ true
-more-accepted (incoming.takes c Repeat) old new f t e = ap (list_any (has_tsn t)) f.step.accepted ∙ e
-more-accepted (incoming.takes c (New answered)) old new f t e = ap (list_any (has_tsn t)) f.step.accepted ∙ or-right (has_tsn t c) (was_taken t old) e
-more-accepted call old new f t e = ap (list_any (has_tsn t)) f.step.accepted ∙ e
+more-accepted call old new h4 t h6 = grind (arith, nat_tests, or-right)
 
 pub receiver-step-but : (dropped : ℕ → Bool) (p n : ℕ) (call : ReceiverCall) (old new : Session) → n < 2 ^ 31 → ReceiverFollows call old new
     → IsInStepBut dropped p n old → IsInStepBut dropped p n new
@@ -198,9 +169,7 @@ same-distance q k = omega arith
 -- the next TSN stays where a receiver is called
 pub no-move : (p n : ℕ) (old new : Session) → new.sending ≡ old.sending → IsNumbered p n old.sending.sender.flight
     → distance old.sending.sender.flight.next_tsn new.sending.sender.flight.next_tsn ≡ 0
-no-move p n old new e h =
-    let at = h.next_is in
-    ap (λ l. distance old.sending.sender.flight.next_tsn l.sender.flight.next_tsn) e ∙ ap (λ t. distance t t) at ∙ same-distance p (n + 1)
+no-move p n old new e h = grind (arith, nat_tests, same-distance)
 
 all-steps : (p n : ℕ) (cs : List Call) (old new : Session) (run : RunsTo old cs new) → n + tsns_given old cs new run < 2 ^ 31 → IsInStep p n old → IsInStep p
     (n + tsns_given old cs new run) new
@@ -317,10 +286,7 @@ came-so dropped p n s few i =
 
     each : (c : ChunkPayloadData) → IsGiven p n c.tsn → IsRight (came_in dropped s) (λ t. was_passed t s) c → is_reported s c ≡ true
         → (came_in dropped s c.tsn || c.abandoned) ≡ true
-    each c g r e = elim (or-split c.acked (list_any (λ k. reports k c) s.sacks) e) [
-      | inl a ↦ r.came a
-      | inr a ↦ came-of (came_in dropped s) (λ t. was_passed t s) c r (answered c g a)
-    ]
+    each c h2 h3 h4 = grind (arith, nat_tests, answered, came-of, or-split)
 
 pub came : (p n : ℕ) (s : Session) → n < 2 ^ 31 → IsInStep p n s → AcknowledgedCame s
 came p n s few i = came-so none_dropped p n s few i
@@ -330,11 +296,7 @@ acknowledged-came first size max most limits cs s run small few = came (base fir
     (in-step first size max most limits cs s run small few)
 
 pub passed-gone : (dropped : ℕ → Bool) (p n : ℕ) (s : Session) → IsInStepBut dropped p n s → PassAbandoned s
-passed-gone dropped p n s i =
-    let chunks = s.sending.sender.flight.queue.inflight.chunks in
-    all-of-every (λ (c : ChunkPayloadData). was_passed c.tsn s ≡ true → c.abandoned ≡ true) chunks
-    (every-of (IsRight (came_in dropped s) (λ t. was_passed t s)) (λ (c : ChunkPayloadData). was_passed c.tsn s ≡ true → c.abandoned ≡ true)
-    (λ c r. r.gone) chunks i.valid.inflight)
+passed-gone dropped p n s i = grind (arith, nat_tests, all-of-every, every-of)
 
 pub pass-abandoned : AfterEachSessionOfFewTsns (λ first count s. PassAbandoned s)
 pass-abandoned first size max most limits cs s run small few =
@@ -418,26 +380,10 @@ leaves-none : (p n : ℕ) (kn : ℕ → Bool) (k : Sack) (f : Flight) → n < 2 
 leaves-none p n kn k f few h t e = by (is_outdated k f) refl (taken-numbered p n t.place k f few t.within t.is h)
   where
     last : t.place ≡ n
-    last =
-        let within = t.within in
-        let same : tsn p (t.place + 1) ≡ tsn p (n + 1) = sym (next-place p t.place) ∙ ap (λ u. (u + 1) % 2 ^ 32) (sym t.is) ∙ e ∙ h.next_is in
-        let one = same-place p (t.place + 1) (n + 1) (omega (arith, within, few)) (omega (arith, few)) same in
-        omega (arith, one)
+    last = grind (arith, nat_tests, next-place, same-place)
 
     by : (b : Bool) → is_outdated k f ≡ b → IsNumbered p n (if b then f else take_sack k f) → (if b then f else take_sack k f).queue.inflight.chunks ≡ []
-    by true o g =
-        let total = h.total in
-        let within = t.within in
-        let order : nat_lt t.place h.acked ≡ true =
-        sym (before p t.place h.acked (omega (arith, within, few)) (omega (arith, total, few))) ∙ ap (λ u. comes_before u (tsn p h.acked)) (sym t.is) ∙ ap
-        (comes_before k.cumulative_tsn_ack) (sym h.acked_is) ∙ o in
-        let lt : t.place < h.acked = grind (arith, nat_tests, order) in
-        absurd (omega (arith, lt, last, total))
-    by false o g =
-        let total = g.total in
-        let within = t.within in
-        let one = same-place p g.acked t.place (omega (arith, total, few)) (omega (arith, within, few)) (sym g.acked_is ∙ t.is) in
-        none-of (take_sack k f).queue.inflight.chunks (omega (arith, total, one, last))
+    by b h2 h3 = grind (arith, nat_tests, before, last, none-of, same-place)
 
 pub reported-leaves : (dropped : ℕ → Bool) (p n : ℕ) (s : Session) → n < 2 ^ 31 → IsInStepBut dropped p n s → AllReportedLeaves s
 reported-leaves dropped p n s few i =
@@ -480,9 +426,7 @@ module _ (xs : List ChunkPayloadData) where
       every-inserted StaysSo chunk_before (as_sent tsn now x) q.inflight.chunks (λ c i e a. absurd (new c i e)) s
 
   sent : (q : Outbound) (tsn now : ℕ) → IsUnused tsn → AllStaySo q → AllStaySo (sent_next q tsn now)
-  sent q tsn now new s =
-      sent-of (next_pending (all_started now q).pending) (all_started now q) tsn now new
-      (subst (λ (w : payload.Payload). Every StaysSo w.chunks) (sym (started-inflight now q)) s)
+  sent q tsn now new s = grind (arith, nat_tests, sent-of, started-inflight)
 
   abandoned : (o : Option ℕ) (tsn : ℕ) (q : Outbound) → IsUnused tsn → AllStaySo q → AllStaySo (abandoned_of o tsn q)
   abandoned None tsn q new s = s

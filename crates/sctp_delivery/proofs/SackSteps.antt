@@ -1,34 +1,17 @@
 -- A session in which few TSNs are given out, call by call of the sender: what is given out, and what is made of it.
-use Rattle.std.proofs.Common.{◌≡◌, ℕ, ◌+◌, ◌-◌, ◌<◌, ◌≤◌, ◌^◌, Bool, true, false, List, [], ◌∷◌, length, Option, Some, None, refl, ap, sym, subst, ◌∙◌, arith}
-use Rattle.std.proofs.Common.{inl, inr}
-use Rattle.std.specs.Prelude.{if◌then◌else◌, ◌||◌, is_some, nat_le, nat_lt, option_map, Contains}
-use Rattle.std.specs.List.{list_any}
-use Rattle.std.proofs.lemmas.Bool.Decides.{nat_tests}
-use Rattle.std.proofs.lemmas.Option.{none-some}
-use Rattle.sctp_util.specs.Serial.{distance, at_or_before, comes_before}
-use Rattle.sctp_util.specs.Lists.{change_where}
-use Rattle.sctp_util.proofs.More.{not_both}
-use Rattle.sctp_util.proofs.Round.{tsn, distance-tsn}
-use Rattle.sctp_data.specs.declared.chunk.chunk_payload_data.ChunkPayloadData.{ChunkPayloadData}
-use Rattle.sctp_data.specs.SelectiveAck.{Sack}
-use Rattle.sctp_outbound.specs.outbound_queue.OutboundQueue.{Outbound, all_started, as_sent, expired_of, sent_next, with_message, with_inflight}
+use Rattle.sctp_delivery.proofs.Names.{◌≡◌, ℕ, ◌+◌, ◌<◌, ◌≤◌, ◌^◌, Bool, true, false, List, [], ◌∷◌, length, Option, Some, None, refl, ap, sym, subst, ◌∙◌}
+use Rattle.sctp_delivery.proofs.Names.{arith, if◌then◌else◌, ◌||◌, nat_le, option_map, Contains, list_any, nat_tests, none-some, common_steps, distance}
+use Rattle.sctp_delivery.proofs.Names.{at_or_before, change_where, not_both, tsn, distance-tsn, ChunkPayloadData, Sack, Outbound, all_started, as_sent}
+use Rattle.sctp_delivery.proofs.Names.{expired_of, sent_next, with_message, with_inflight, next_pending, peeked_all_started, following_tsn, has_tsn, tsns}
+use Rattle.sctp_delivery.proofs.Names.{Released, Flight, after_abandonment, after_sack, is_outdated, next_after_send, take_sack, with_room, reports}
+use Rattle.sctp_delivery.proofs.Names.{abandoned_each, fragments_with_mode, after_misses, can_miss, missed, Transmission, write_refusal, started-inflight}
+use Rattle.sctp_delivery.proofs.Names.{changed-run, passes, was_passed, was_taken, reports_tsn, Made, SenderCall, data_chunk, forward_tsn, made_after}
+use Rattle.sctp_delivery.proofs.Names.{with_chunk, SenderFollows, Session, IsReported, or-left, or-right, or-split, ForwardTsn}
 use Rattle.sctp_outbound.specs.payload_queue.PayloadQueue as payload
-use Rattle.sctp_outbound.specs.pending_queue.PendingQueue.{next_pending}
-use Rattle.sctp_outbound.proofs.lemmas.outbound_queue.Outbounds.{peeked_all_started}
-use Rattle.sctp_serial.specs.DataChunks.{following_tsn, has_tsn, tsns}
-use Rattle.sctp_sender.specs.declared.sender.flight.Released.{Released}
-use Rattle.sctp_sender.specs.Flight.{Flight, after_abandonment, after_sack, is_outdated, next_after_send, take_sack, with_queue, with_room, reports}
-use Rattle.sctp_sender.specs.Late.{abandoned_each}
-use Rattle.sctp_sender.specs.Outgoing.{fragments_with_mode}
-use Rattle.sctp_sender.specs.Resending.{after_misses, can_miss, missed}
-use Rattle.sctp_sender.specs.Sender.{Transmission, write_refusal, stream_of}
-use Rattle.sctp_sender.proofs.Flights.{started-inflight}
+use Rattle.sctp_sender.specs.Flight.{with_queue}
+use Rattle.sctp_sender.specs.Sender.{stream_of}
 use Rattle.sctp_sender.proofs.MarkedRuns.{part-run}
-use Rattle.sctp_sender.proofs.Runs.{changed-run}
-use Rattle.sctp_delivery.specs.Sacks.{passes, was_passed, was_taken, reports_tsn}
 use Rattle.sctp_delivery.specs.SenderCalls as outgoing
-use Rattle.sctp_delivery.specs.SenderCalls.{Made, SenderCall, data_chunk, forward_tsn, made_after, with_chunk}
-use Rattle.sctp_delivery.specs.Session.{SenderFollows, Session, IsReported}
 use Rattle.sctp_delivery.proofs.Every.{Every, every-contained, every-found, every-of}
 use Rattle.sctp_delivery.proofs.GivenTsns.{IsNumbered, Raises, given, raises-abandoned, raises-each, raises-none, raises-sent, taken-numbered, flight-given}
 use Rattle.sctp_delivery.proofs.GivenTsns.{passable-end, passable-skip, IsGoneUpTo, IsPassable, passed-gone}
@@ -38,8 +21,6 @@ use Rattle.sctp_delivery.proofs.TsnPlaces.{IsGiven, at-or-before, before, more-g
 use Rattle.sctp_delivery.proofs.Changes.{Change, all_start, acknowledges, changes, each_leaves, flight_after, front_expires, more_room, nothing, one_leaves}
 use Rattle.sctp_delivery.proofs.Changes.{some_marked, some_missed}
 use Rattle.sctp_delivery.proofs.Writing.{accepted-stream}
-use Rattle.sctp_util.proofs.Cases.{or-left, or-right, or-split}
-use Rattle.sctp_data.specs.ForwardTsn.{ForwardTsn}
 use Rattle.sctp_delivery.proofs.ValidMarks.{IsValid, abandoned-valid, each-valid, expired-valid, fragments-unmarked, marked-valid, message-valid, missed-valid}
 use Rattle.sctp_delivery.proofs.ValidMarks.{more-passed, sack-valid, sent-valid, started-valid}
 
@@ -91,22 +72,12 @@ pub record IsMoved (p n : ℕ) (kn : ℕ → Bool) (f g : Flight) : Type 0 where
 moved : (p n most : ℕ) (kn : ℕ → Bool) (f g : Flight) → most < 2 ^ 32 → IsNumbered p n f → Raises p most f g → IsMoved p n kn f g
 moved p n most kn f g short h r =
     let e = given p n most f g short h.next_is r in
-    record {
-      numbered = λ few. subst (λ k. IsNumbered p (n + k) g) (sym e) (r.numbered n (omega (arith, few, e)) h);
-      settled = λ k. subst
-          (λ t. IsArrived p n kn t []) (sym r.acked) k;
-      rises = λ k is le. (k, omega arith, le, r.acked ∙ is);
-    }
+    grind (arith, nat_tests)
 
 -- where none is given out
 moved-none : (p n : ℕ) (kn : ℕ → Bool) (f g : Flight) → g.next_tsn ≡ f.next_tsn → (IsArrived p n kn f.acked_tsn [] → IsArrived p n kn g.acked_tsn [])
     → ((k : ℕ) → f.acked_tsn ≡ tsn p k → k ≤ n → IsFrom p n k g.acked_tsn) → IsNumbered p n f → IsNumbered p n g → IsMoved p n kn f g
-moved-none p n kn f g same settled rises h k =
-    let at = h.next_is in
-    let e : distance f.next_tsn g.next_tsn ≡ 0 = ap (λ t. distance f.next_tsn t) (same ∙ at) ∙ ap (λ t. distance t (tsn p (n + 1))) at ∙ distance-tsn p
-    (n + 1) (n + 1) (omega arith) (omega arith) ∙ (let z : n + 1 - (n + 1) ≡ 0 = omega arith in z) in
-    let z : n + distance f.next_tsn g.next_tsn ≡ n = omega (arith, e) in
-    record { numbered = λ few. subst (λ k. IsNumbered p k g) (sym z) k; settled = settled; rises = rises }
+moved-none p n kn f g same settled rises h k = grind (arith, common_steps, distance-tsn)
 
 same-moved : (p n : ℕ) (kn : ℕ → Bool) (f g : Flight) → tsns g.queue.inflight.chunks ≡ tsns f.queue.inflight.chunks → g.next_tsn ≡ f.next_tsn
     → g.acked_tsn ≡ f.acked_tsn → IsNumbered p n f → IsMoved p n kn f g
@@ -137,24 +108,14 @@ sack-next k f = elim (is_outdated k f) as (λ b. (if b then f else take_sack k f
 
 sack-settled : (p n : ℕ) (kn : ℕ → Bool) (k : Sack) (f : Flight) → IsTruthful p n kn k → IsArrived p n kn f.acked_tsn [] → IsArrived p n kn
     (after_sack k f).acked_tsn []
-sack-settled p n kn k f t h = by (is_outdated k f)
-  where
-    by : (b : Bool) → IsArrived p n kn (if b then f else take_sack k f).acked_tsn []
-    by true = h
-    by false = record { place = t.place; within = t.within; is = t.is; so_far = t.so_far; each = tt }
+sack-settled p n kn k f t h = grind (arith, nat_tests)
 
 sack-rises : (p n : ℕ) (kn : ℕ → Bool) (s : Sack) (f : Flight) → n < 2 ^ 31 → IsTruthful p n kn s → (k : ℕ) → f.acked_tsn ≡ tsn p k → k ≤ n
     → IsFrom p n k (after_sack s f).acked_tsn
 sack-rises p n kn s f few t k is le = by (is_outdated s f) refl
   where
     by : (b : Bool) → is_outdated s f ≡ b → IsFrom p n k (if b then f else take_sack s f).acked_tsn
-    by true e = (k, omega arith, le, is)
-    by false e =
-        let within = t.within in
-        let order : nat_lt t.place k ≡ false =
-        sym (before p t.place k (omega (arith, within, few)) (omega (arith, le, few))) ∙ ap (λ u. comes_before u (tsn p k)) (sym t.is)
-        ∙ ap (comes_before s.cumulative_tsn_ack) (sym is) ∙ e in
-        (t.place, grind (arith, nat_tests, order), within, t.is)
+    by b h2 = grind (arith, nat_tests, before)
 
 abbrev pub flight_of : Session → Flight
 flight_of s = s.sending.sender.flight
@@ -216,24 +177,10 @@ module _ (p n : ℕ) (old new : Session) (few : n < 2 ^ 31) (h : IsNumbered p n 
   -- the next TSN is given out where something waits
   next-given : (b : Bool) → true ≡ b → (flight_of new).next_tsn ≡ (if b then following_tsn (flight_of old).next_tsn else (flight_of old).next_tsn)
       → IsGiven p after (flight_of old).next_tsn
-  next-given false s e = absurd (not_both (sym s))
-  next-given true s e =
-      let at = h.next_is in
-      let one : distance (flight_of old).next_tsn (flight_of new).next_tsn ≡ 1 = ap (distance (flight_of old).next_tsn)
-      (e ∙ ap following_tsn at ∙ next-place p (n + 1)) ∙ ap (λ t. distance t (tsn p (n + 1 + 1))) at ∙ distance-tsn p (n + 1) (n + 1 + 1) (omega arith)
-      (omega arith) ∙ (let z : n + 1 + 1 - (n + 1) ≡ 1 = omega arith in z) in
-      record { place = n + 1; some = omega arith; within = omega (arith, one); is = at }
+  next-given b h2 h3 = grind (arith, nat_tests, distance-tsn, next-place, not_both)
 
   pub made-given : (call : SenderCall) → Every (IsMadeGiven p n) old.made → SenderFollows call old new → AreGiven (made_after call old.sending.sender old.made)
-  made-given (outgoing.sends now) m f = by (next_pending (all_started now (flight_of old).queue).pending) (peeked_all_started now (flight_of old).queue)
-    where
-      moved-on : (flight_of new).next_tsn ≡ next_after_send (flight_of old)
-      moved-on = ap (λ (u : Transmission). u.flight.next_tsn) f.exact
-
-      by : (o : Option ChunkPayloadData) → is_some o ≡ is_some (next_pending (flight_of old).queue.pending) → AreGiven
-          (with_chunk (option_map (as_sent (flight_of old).next_tsn now) o) old.made)
-      by None s = kept-given old.made m
-      by (Some c) s = (next-given (is_some (next_pending (flight_of old).queue.pending)) s moved-on, kept-given old.made m)
+  made-given (outgoing.sends now) m f = grind (arith, nat_tests, kept-given, next-given, peeked_all_started)
   made-given (outgoing.resends u now c) m f = (
     more-given p n after c.tsn (omega arith) (every-found (λ (d : ChunkPayloadData). IsGiven p n d.tsn) (has_tsn u)
         (flight_of old).queue.inflight.chunks c f.accepted.1 (flight-given p n (flight_of old) h)),
@@ -342,10 +289,7 @@ module _ (dropped : ℕ → Bool) (p n : ℕ) (old new : Session) (few : n < 2 ^
     where
       one : (x : ChunkPayloadData) → IsGoneUpTo c.new_cumulative_tsn x → passed_in (forward_tsn c ∷ old.made) x.tsn ≡ true →
           (passed_in old.made x.tsn || x.abandoned) ≡ true
-      one x g i = elim (or-split (at_or_before x.tsn c.new_cumulative_tsn) (passed_in old.made x.tsn) i) [
-        | inl a ↦ or-right (passed_in old.made x.tsn) x.abandoned (g a)
-        | inr a ↦ or-left (passed_in old.made x.tsn) x.abandoned a
-      ]
+      one x h2 h3 = grind (arith, nat_tests, or-left, or-right, or-split)
 
   pub stays-valid-with : (call : SenderCall) → Every (IsTruthful p n (known_or dropped old)) old.sacks → Every (IsMadeGiven p n) old.made
       → SenderFollows call old new → IsValidWith (made_after call old.sending.sender old.made)

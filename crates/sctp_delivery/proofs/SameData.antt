@@ -1,11 +1,8 @@
 -- DATA chunks with the same wire fields, by a test.
-use Rattle.std.proofs.Common.{◌≡◌, ℕ, Bool, true, false, List, [], ◌∷◌, refl, ap, sym, ◌∙◌}
-use Rattle.std.specs.Prelude.{◌==◌, ◌&&◌}
-use Rattle.sctp_util.proofs.Cases.{same-is, same-yes}
-use Rattle.sctp_util.proofs.More.{and, both}
-use Rattle.sctp_data.specs.declared.chunk.chunk_payload_data.PayloadProtocolIdentifier.{PayloadProtocolIdentifier}
-use Rattle.sctp_data.specs.declared.chunk.chunk_payload_data.PayloadProtocolIdentifier.TheVariants.{Dcep, String, Binary, StringEmpty, BinaryEmpty, Unknown}
-use Rattle.sctp_data.specs.PayloadData.{Data, payload_type_from, payload_type_number}
+use Rattle.sctp_delivery.proofs.Names.{◌≡◌, ℕ, Bool, true, false, List, [], ◌∷◌, refl, ap, sym, ◌∙◌, ◌==◌, ◌&&◌, same-is, same-yes, and, both}
+use Rattle.sctp_delivery.proofs.Names.{PayloadProtocolIdentifier, Binary, Unknown, Data}
+use Rattle.sctp_data.specs.declared.chunk.chunk_payload_data.PayloadProtocolIdentifier.TheVariants.{Dcep, String, StringEmpty, BinaryEmpty}
+use Rattle.sctp_data.specs.PayloadData.{payload_type_from, payload_type_number}
 
 abbrev pub are_same_bytes : List ℕ → List ℕ → Bool
 are_same_bytes [] [] = true

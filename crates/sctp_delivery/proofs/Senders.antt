@@ -1,29 +1,14 @@
 -- What each call of a sender makes of its queues, its streams, and what it gave TSNs to.
-use Rattle.std.proofs.Common.{◌≡◌, ℕ, ◌<◌, Bool, true, false, List, [], ◌∷◌, ◌++◌, take, drop, Option, Some, None, is_some, inl, inr, refl, ap, sym, subst, ◌∙◌}
-use Rattle.std.specs.Prelude.{⊤, ◌||◌, if◌then◌else◌, option_map, find}
-use Rattle.std.specs.List.{list_any}
-use Rattle.std.proofs.lemmas.List.{take-append-drop}
-use Rattle.sctp_util.specs.Lists.{change_where}
-use Rattle.sctp_util.proofs.Edits.{list_any-append, list_any-those}
-use Rattle.sctp_data.specs.declared.chunk.chunk_payload_data.ChunkPayloadData.{ChunkPayloadData}
-use Rattle.sctp_data.specs.PayloadData.{data_of}
-use Rattle.sctp_data.specs.SelectiveAck.{Sack}
-use Rattle.sctp_outbound.specs.Marks.{as_acknowledged, is_of}
-use Rattle.sctp_outbound.specs.outbound_queue.OutboundQueue.{Outbound, all_started, as_sent, sent_next, sent_of, with_inflight}
-use Rattle.sctp_outbound.specs.payload_queue.PayloadQueue.{past}
-use Rattle.sctp_outbound.specs.pending_queue.PendingQueue.{next_pending}
-use Rattle.sctp_outbound.specs.pending_queue.Whole.{partially_sent, waits}
-use Rattle.sctp_outbound.proofs.lemmas.outbound_queue.Outbounds.{peeked_all_started}
-use Rattle.sctp_outbound.proofs.lemmas.pending_queue.CompleteMessages.{KeepsMessage, list_any-change_where}
-use Rattle.sctp_serial.specs.DataChunks.{following_tsn, has_tsn}
-use Rattle.sctp_sender.specs.Flight.{Flight, after_abandonment, is_outdated, message_to_abandon, next_after_send, released_by, reports_anew, take_sack}
-use Rattle.sctp_sender.specs.Late.{abandoned_at, abandoned_each, after_abandoning, after_leaving, leaving_each}
-use Rattle.sctp_sender.specs.Outgoing.{has_number, less_by}
-use Rattle.sctp_sender.specs.Sender.{Transmission, after_abandon, after_acked, with_flight}
-use Rattle.sctp_sender.proofs.InLine.{found-partial}
-use Rattle.sctp_stream.specs.declared.stream.StreamState.{StreamState}
-use Rattle.sctp_delivery.specs.SenderCalls.{Made, data_chunk, forward_tsn, next_chunk, with_chunk}
-use Rattle.sctp_delivery.proofs.InFlight.{KeepsData, acknowledged-keeps, known-changed, known-part-changed, IsKnown}
+use Rattle.sctp_delivery.proofs.Names.{◌≡◌, ℕ, ◌<◌, Bool, true, List, [], ◌∷◌, ◌++◌, take, drop, Option, Some, None, is_some, inl, inr, refl, ap, sym, subst}
+use Rattle.sctp_delivery.proofs.Names.{◌∙◌, arith, ⊤, ◌||◌, if◌then◌else◌, option_map, find, list_any, take-append-drop, nat_tests, change_where}
+use Rattle.sctp_delivery.proofs.Names.{list_any-append, list_any-those, ChunkPayloadData, data_of, Sack, as_acknowledged, is_of, Outbound, all_started, as_sent}
+use Rattle.sctp_delivery.proofs.Names.{sent_next, sent_of, with_inflight, past, next_pending, partially_sent, waits, peeked_all_started, KeepsMessage}
+use Rattle.sctp_delivery.proofs.Names.{following_tsn, has_tsn, Flight, after_abandonment, is_outdated, message_to_abandon, next_after_send, released_by}
+use Rattle.sctp_delivery.proofs.Names.{reports_anew, take_sack, abandoned_at, abandoned_each, after_abandoning, after_leaving, leaving_each, has_number}
+use Rattle.sctp_delivery.proofs.Names.{less_by, Transmission, after_abandon, after_acked, with_flight, found-partial, OutboundStream, Made, data_chunk}
+use Rattle.sctp_delivery.proofs.Names.{forward_tsn, next_chunk, with_chunk}
+use Rattle.sctp_outbound.proofs.lemmas.pending_queue.CompleteMessages.{list_any-change_where}
+use Rattle.sctp_delivery.proofs.InFlight.{KeepsData, acknowledged-keeps, known-changed, known-part-changed}
 use Rattle.sctp_delivery.proofs.Numbers.{AreOpen, AreSized, IsSteady, all-open, number_of, steady-left, steady-less, steady-released, steady-same}
 use Rattle.sctp_delivery.proofs.OrderedRest.{AreNamed, named-more}
 use Rattle.sctp_delivery.proofs.Queues.{sends as sends-one, Abandons, IsEnded, IsOnceMore, Stands, abandoned, abandons-then, marked, no-abandons, once-ended}
@@ -89,7 +74,7 @@ renumbered ws first number number' q next sent same s = record {
 }
 
 -- other streams, as steady, and what stands then
-pub steady : (ws : List Numbered) (first : ℕ) (t : Transmission) (sent : List Entry) (h : IsHeld ws first t sent) (ls : List StreamState)
+pub steady : (ws : List Numbered) (first : ℕ) (t : Transmission) (sent : List Entry) (h : IsHeld ws first t sent) (ls : List OutboundStream)
     → IsSteady t.streams ls → (f : Flight) (more : List Entry) → Stands ws first (λ s. number_of s t.streams) f.queue f.next_tsn more
     → IsHeld ws first (record t { streams = ls; flight = f }) more
 steady ws first t sent h ls st f more s = record {
@@ -153,13 +138,7 @@ acked ws first t sent s h =
 
     stands : (b : Bool) → Stands ws first (λ r. number_of r t.streams)
         (if b then t.flight else take_sack s t.flight).queue (if b then t.flight else take_sack s t.flight).next_tsn sent
-    stands true = h.stands
-    stands false =
-        refilled ws first (λ r. number_of r t.streams) t.flight.queue t.flight.next_tsn sent
-        (past s.cumulative_tsn_ack (change_where (reports_anew s) as_acknowledged t.flight.queue.inflight.chunks)) fewer
-        (every-passing (IsKnown first sent) _ (change_where (reports_anew s) as_acknowledged t.flight.queue.inflight.chunks)
-        (known-changed first sent (reports_anew s) as_acknowledged acknowledged-keeps t.flight.queue.inflight.chunks h.stands.known))
-        h.stands
+    stands b = grind (arith, nat_tests, acknowledged-keeps, every-passing, fewer, known-changed, refilled)
 
 -- ## Messages are abandoned
 
@@ -183,7 +162,7 @@ grown sent more ms (inl e) a = subst (λ xs. AreSent xs ms) (sym e) a
 grown sent more ms (inr x) a = subst (λ xs. AreSent xs ms) (sym x.1) (sent-then x.0 sent ms a)
 
 -- the streams have less, and the flight is what is left
-left : (ws : List Numbered) (first : ℕ) (t : Transmission) (sent : List Entry) (ms : List Made) (ls : List StreamState) (f : Flight) → IsHeld ws first t sent
+left : (ws : List Numbered) (first : ℕ) (t : Transmission) (sent : List Entry) (ms : List Made) (ls : List OutboundStream) (f : Flight) → IsHeld ws first t sent
     → IsSteady t.streams ls → Abandons ws first (λ s. number_of s t.streams) sent t.flight.queue f.queue f.next_tsn
     → Result None ws ws first sent (record t { streams = ls; flight = f }) ms ms
 left ws first t sent ms ls f h st a = record {

@@ -1,17 +1,9 @@
 -- A fragment is sent: it goes on where the last entry ends, and what waits behind it goes on with it.
-use Rattle.std.proofs.Common.{◌≡◌, ℕ, ◌+◌, ◌%◌, ◌^◌, ◌≤◌, Bool, true, false, not, List, [], ◌∷◌, length, Option, Some, None, slice_get, ◌⊎◌, inl, inr, refl, ap}
-use Rattle.std.proofs.Common.{sym, subst, ◌∙◌, arith}
-use Rattle.std.specs.Prelude.{⊤, ◌==◌, ◌&&◌, if◌then◌else◌}
-use Rattle.std.proofs.lemmas.Option.{none-some}
-use Rattle.sctp_util.proofs.Cases.{some-same, same-yes}
-use Rattle.sctp_util.proofs.More.{and, not_both}
-use Rattle.sctp_data.specs.declared.chunk.chunk_payload_data.ChunkPayloadData.{ChunkPayloadData}
-use Rattle.sctp_data.specs.PayloadData.{data_of}
-use Rattle.sctp_outbound.specs.declared.pending_queue.Selected.{Selected}
-use Rattle.sctp_outbound.specs.outbound_queue.OutboundQueue.{as_sent}
-use Rattle.sctp_outbound.specs.pending_queue.PendingQueue.{Pending, list_of, list_to_pop, next_pending, rest_after, rest_from, selected_after}
-use Rattle.sctp_outbound.specs.pending_queue.Whole.{IsSendable, IsWhole, begun, free}
-use Rattle.sctp_outbound.proofs.lemmas.outbound_queue.Sendable.{made}
+use Rattle.sctp_delivery.proofs.Names.{◌≡◌, ℕ, ◌+◌, ◌%◌, ◌^◌, ◌≤◌, Bool, true, false, not, List, [], ◌∷◌, length, Option, Some, None, slice_get, inl, inr, refl}
+use Rattle.sctp_delivery.proofs.Names.{ap, sym, subst, ◌∙◌, arith, ⊤, ◌==◌, if◌then◌else◌, none-some, nat_tests, some-same, same-yes, and, not_both}
+use Rattle.sctp_delivery.proofs.Names.{ChunkPayloadData, data_of, Selected, as_sent, Pending, list_to_pop, next_pending, rest_after, rest_from, selected_after}
+use Rattle.sctp_delivery.proofs.Names.{IsSendable, IsWhole, begun, free, made}
+use Rattle.std.proofs.Common.{◌⊎◌}
 use Rattle.sctp_delivery.proofs.OrderedEntries.{AreIndexed, AreJoined, AreRanked, AreRising, IsIndexed, IsOpen, IsUnder, Joins, begins-inner, begins-ordered}
 use Rattle.sctp_delivery.proofs.OrderedEntries.{begins-unordered, begins_on, begun_on, one, ranked-ordered, ranked-unordered, under-more}
 use Rattle.sctp_delivery.proofs.Sent.{AreApart, Entry, Fits, GoesOn, IsLine, Numbered, fragment, terminal}
@@ -42,19 +34,7 @@ module _ (c : ChunkPayloadData) (tsn now : ℕ) (w : Numbered) (after : List ℕ
 
   ends-or-not : (kind : Bool) (s : Selected) → s.unordered ≡ kind → c.message_id ≡ s.message_id
       → selected_after (Some s) kind c ≡ (if c.ending_fragment then None else Some (record { message_id = c.message_id; unordered = kind }))
-  ends-or-not kind s k same = by c.ending_fragment
-    where
-      it : (c.message_id == s.message_id) ≡ true
-      it = subst (λ j. (c.message_id == j) ≡ true) same (same-yes c.message_id)
-
-      whole : s ≡ record { message_id = c.message_id; unordered = kind }
-      whole = ap (λ b. let r : Selected = record { message_id = s.message_id; unordered = b } in r) k
-          ∙ ap (λ j. let r : Selected = record { message_id = j; unordered = kind } in r) (sym same)
-
-      by : (b : Bool)
-          → (if b && (c.message_id == s.message_id) then None else Some s) ≡ (if b then None else Some (record { message_id = c.message_id; unordered = kind }))
-      by true = ap (λ b. if b then None else Some s) it
-      by false = ap Some whole
+  ends-or-not kind s k same = grind (arith, nat_tests, same-yes)
 
   selects : (kind : Bool) (sel : Option Selected) → OnTurn sel kind c
       → selected_after sel kind c ≡ (if c.ending_fragment then None else Some (record { message_id = c.message_id; unordered = kind }))
@@ -62,38 +42,15 @@ module _ (c : ChunkPayloadData) (tsn now : ℕ) (w : Numbered) (after : List ℕ
   selects kind (Some s) t = ends-or-not kind s t.0 t.1
 
   own-place : (kind : Bool) (sel : Option Selected) → OnTurn sel kind c → place_of kind (selected_after sel kind c) (sent_entry ∷ sent) ≡ place_after c w after
-  own-place true sel t = ap (λ o. place_of true o (sent_entry ∷ sent)) (selects true sel t) ∙ by c.ending_fragment
-    where
-      by : (b : Bool) → place_of true (if b then None else Some (record { message_id = c.message_id; unordered = true }))
-          (sent_entry ∷ sent) ≡ (if b then between else within c.message_id c.stream_sequence_number c.unordered w after)
-      by true = refl
-      by false = refl
-  own-place false sel t = ap (λ o. place_of false o (sent_entry ∷ sent)) (selects false sel t) ∙ by c.ending_fragment
-    where
-      by : (b : Bool) → place_of false (if b then None else Some (record { message_id = c.message_id; unordered = false }))
-          (sent_entry ∷ sent) ≡ (if b then between else within c.message_id c.stream_sequence_number c.unordered w after)
-      by true = refl
-      by false = refl
+  own-place kind sel h3 = grind (arith, nat_tests, between, selects, within)
 
   other-place : (kind : Bool) (sel : Option Selected) (xs : List Entry) → OnTurn sel kind c
       → place_of (not kind) (selected_after sel kind c) xs ≡ place_of (not kind) sel sent
-  other-place kind sel xs t = ap (λ o. place_of (not kind) o xs) (selects kind sel t) ∙ by kind c.ending_fragment ∙ sym (before kind sel t)
-    where
-      by : (k b : Bool) → place_of (not k) (if b then None else Some (record { message_id = c.message_id; unordered = k })) xs ≡ between
-      by k true = refl
-      by true false = refl
-      by false false = refl
-
-      before : (k : Bool) (o : Option Selected) → OnTurn o k c → place_of (not k) o sent ≡ between
-      before k None u = refl
-      before true (Some s) u = ap (λ b. if b then between else inside s.message_id sent) u.0
-      before false (Some s) u = ap (λ b. if b then inside s.message_id sent else between) u.0
+  other-place kind sel xs t = grind (arith, nat_tests, between, selects)
 
   -- the write of a first fragment has the number of its message
   placed : (p : Place) → Goes p c w after → c.beginning_fragment ≡ true → w.place ≡ c.message_id
-  placed between g b = g.1
-  placed (within m ssn kind v left) g b = absurd (not_both (sym g.inner ∙ b))
-  placed nowhere g b = absurd g
+  placed p h2 h3 = grind (arith, nat_tests, between, not_both, nowhere, within)
 
   -- ## The line
 
@@ -112,109 +69,61 @@ module _ (c : ChunkPayloadData) (tsn now : ℕ) (w : Numbered) (after : List ℕ
 
   goes-behind : (xs : List Entry) → (c.beginning_fragment ≡ true → IsNew xs) → (c.beginning_fragment ≡ true) ⊎ ((m : ℕ) × Goes (inside m xs) c w after)
       → GoesOn (data_of (as_sent tsn now c)) w after xs
-  goes-behind [] new s = tt
-  goes-behind (terminal ∷ xs) new s = tt
-  goes-behind (fragment e v rest ∷ xs) new (inl b) = (λ h. absurd (not_both (sym h ∙ b)), new)
-  goes-behind (fragment e v rest ∷ xs) new (inr g) = (λ h. (g.1.write, g.1.bytes), new)
+  goes-behind xs h2 h3 = grind (arith, nat_tests, not_both)
 
   -- a number that is the next one is another one
   new-number : (s n : ℕ) → c.stream_identifier ≡ s → c.stream_sequence_number ≡ n → (xs : List Entry) → IsAfter s n xs → IsNew xs
-  new-number s n on is [] a = tt
-  new-number s n on is (terminal ∷ xs) a = tt
-  new-number s n on is (fragment e v rest ∷ xs) a = λ dk ek same number.
-      let next = a ek (sym same ∙ on) in
-      omega (arith, next, number, is)
+  new-number s n h3 h4 xs h6 = grind (arith, nat_tests)
 
   new-unordered : c.unordered ≡ true → (xs : List Entry) → IsNew xs
-  new-unordered k [] = tt
-  new-unordered k (terminal ∷ xs) = tt
-  new-unordered k (fragment e v rest ∷ xs) = λ dk ek same number. absurd (not_both (sym dk ∙ k))
+  new-unordered h1 xs = grind (arith, nat_tests, not_both)
 
   -- ## Messages
 
   -- nothing is partially sent where it ends its message
   stays-open : (kind : Bool) (sel : Option Selected) → OnTurn sel kind c → w.place ≡ c.message_id → IsOpen (sent_entry ∷ sent) (selected_after sel kind c)
-  stays-open kind sel t own = subst (IsOpen (sent_entry ∷ sent)) (sym (selects kind sel t)) (by c.ending_fragment refl)
-    where
-      by : (b : Bool) → c.ending_fragment ≡ b → IsOpen (sent_entry ∷ sent) (if b then None else Some (record { message_id = c.message_id; unordered = kind }))
-      by true e = e
-      by false e = (e, own)
+  stays-open kind sel t own = grind (arith, nat_tests, selects)
 
   -- its write has the number of its message
   of-inside : (s : Selected) (xs : List Entry) → IsOpen xs (Some s) → Goes (inside s.message_id xs) c w after → w.place ≡ c.message_id
-  of-inside s [] o g = absurd g
-  of-inside s (terminal ∷ xs) o g = absurd g
-  of-inside s (fragment e v rest ∷ xs) o g = ap (λ (x : Numbered). x.place) g.write ∙ o.1 ∙ sym g.message
+  of-inside s xs h3 h4 = grind (arith, nat_tests)
 
   of-message : (kind : Bool) (sel : Option Selected) → OnTurn sel kind c → IsOpen sent sel → Goes (place_of kind sel sent) c w after → w.place ≡ c.message_id
-  of-message kind None t o g = g.1
-  of-message true (Some s) t o g = of-inside s sent o (subst (λ b. Goes (if b then inside s.message_id sent else between) c w after) t.0 g)
-  of-message false (Some s) t o g = of-inside s sent o (subst (λ b. Goes (if b then between else inside s.message_id sent) c w after) t.0 g)
+  of-message kind sel h3 h4 h5 = grind (arith, nat_tests, between, of-inside)
 
   joins-between : (xs : List Entry) → IsOpen xs None → c.beginning_fragment ≡ true → Joins (data_of (as_sent tsn now c)) xs
-  joins-between [] o b = b
-  joins-between (terminal ∷ xs) o b = b
-  joins-between (fragment e v rest ∷ xs) o b = (λ _. o, λ f. absurd (not_both (sym f ∙ b)))
+  joins-between xs h2 h3 = grind (arith, nat_tests, not_both)
 
   joins-inside : (ws : List Numbered) (first m : ℕ) (s : Selected) (xs : List Entry) → Fits ws c.tsn (data_of c) w after → IsLine ws first xs
       → IsOpen xs (Some s) → Goes (inside m xs) c w after → Joins (data_of (as_sent tsn now c)) xs
-  joins-inside ws first m s [] f l o g = absurd g
-  joins-inside ws first m s (terminal ∷ xs) f l o g = absurd g
-  joins-inside ws first m s (fragment e v rest ∷ xs) f l o g = (
-    λ b. absurd (not_both (sym g.inner ∙ b)),
-    λ _. (o.0, sym g.same_kind, l.0.stream ∙ ap (λ (x : Numbered). x.stream) (sym g.write) ∙ sym f.stream),
-  )
+  joins-inside ws first m s xs h6 h7 h8 h9 = grind (arith, nat_tests, not_both)
 
   joins-sent : (ws : List Numbered) (first : ℕ) (kind : Bool) (sel : Option Selected) → OnTurn sel kind c → Fits ws c.tsn (data_of c) w after
       → IsLine ws first sent → IsOpen sent sel → Goes (place_of kind sel sent) c w after → Joins (data_of (as_sent tsn now c)) sent
-  joins-sent ws first kind None t f l o g = joins-between sent o g.0
-  joins-sent ws first true (Some s) t f l o g =
-      joins-inside ws first s.message_id s sent f l o (subst (λ b. Goes (if b then inside s.message_id sent else between) c w after) t.0 g)
-  joins-sent ws first false (Some s) t f l o g =
-      joins-inside ws first s.message_id s sent f l o (subst (λ b. Goes (if b then between else inside s.message_id sent) c w after) t.0 g)
+  joins-sent ws first kind sel h5 h6 h7 h8 h9 = grind (arith, nat_tests, between, joins-between, joins-inside)
 
   -- ## Numbers
 
   -- the number after the chunk, where it begins a message
   after-first : (s n : ℕ) → (counts s c ≡ true → c.stream_sequence_number ≡ n) → c.beginning_fragment ≡ true → c.stream_identifier ≡ s
       → (c.stream_sequence_number + 1) % 2 ^ 16 ≡ number_after (counts s c) n
-  after-first s n is b on =
-      let it : counts s c ≡ true =
-      and (c.stream_identifier == s) c.beginning_fragment (subst (λ j. (c.stream_identifier == j) ≡ true) on (same-yes c.stream_identifier)) b in
-      ap (λ k. (k + 1) % 2 ^ 16) (is it) ∙ ap (λ k. number_after k n) (sym it)
+  after-first s n is b on = grind (arith, nat_tests, and, same-yes)
 
   -- and where it goes on
   after-inner : (ws : List Numbered) (first s n m : ℕ) (xs : List Entry) → Fits ws c.tsn (data_of c) w after → IsLine ws first xs → IsAfter s n xs
       → Goes (inside m xs) c w after → c.unordered ≡ false → c.stream_identifier ≡ s → (c.stream_sequence_number + 1) % 2 ^ 16 ≡ number_after (counts s c) n
-  after-inner ws first s n m [] f l a g k on = absurd g
-  after-inner ws first s n m (terminal ∷ xs) f l a g k on = absurd g
-  after-inner ws first s n m (fragment e v rest ∷ xs) f l a g k on =
-      let same : e.stream_identifier ≡ s = l.0.stream ∙ ap (λ (x : Numbered). x.stream) (sym g.write) ∙ sym f.stream ∙ on in
-      ap (λ j. (j + 1) % 2 ^ 16) g.same_number ∙ a (sym g.same_kind ∙ k) same ∙ ap (λ b. number_after b n) (sym (inner-not s c g.inner))
+  after-inner ws first s n m xs h7 h8 h9 h10 h11 h12 = grind (arith, nat_tests, inner-not)
 
   -- one that goes on has the number of the last entry, and its place
   index-inner : (ws : List Numbered) (first m : ℕ) (xs : List Entry) → Fits ws c.tsn (data_of c) w after → IsLine ws first xs → AreIndexed xs
       → Goes (inside m xs) c w after → IsIndexed (data_of (as_sent tsn now c)) xs
-  index-inner ws first m [] f l i g = absurd g
-  index-inner ws first m (terminal ∷ xs) f l i g = absurd g
-  index-inner ws first m (fragment e v rest ∷ xs) f l i g = λ k.
-      let same : e.stream_identifier ≡ c.stream_identifier = l.0.stream ∙ ap (λ (x : Numbered). x.stream) (sym g.write) ∙ sym f.stream in
-      let n = i.0 (sym g.same_kind ∙ k) in
-      let z = ap one (begins-inner c.stream_identifier (data_of (as_sent tsn now c)) g.inner) in
-      let here = n.1 in
-      let moved = ap (λ s. one (begins_on s e) + begun_on s xs) same in
-      (n.0, omega (arith, here, z, moved), g.same_number ∙ n.2)
+  index-inner ws first m xs h5 h6 h7 h8 = grind (arith, nat_tests, begins-inner)
 
   under-inner : (m : ℕ) (xs : List Entry) → c.unordered ≡ false → AreRising xs → Goes (inside m xs) c w after → IsUnder w.place xs
-  under-inner m [] k r g = absurd g
-  under-inner m (terminal ∷ xs) k r g = absurd g
-  under-inner m (fragment e v rest ∷ xs) k r g =
-      subst (λ p. IsUnder p (fragment e v rest ∷ xs)) (ap (λ (x : Numbered). x.place) (sym g.write)) ((λ ek. omega arith), r.0 (sym g.same_kind ∙ k))
+  under-inner m xs h3 h4 h5 = grind (arith, nat_tests)
 
   place-inner : (m top : ℕ) (xs : List Entry) → c.unordered ≡ false → IsUnder top xs → Goes (inside m xs) c w after → w.place ≤ top
-  place-inner m top [] k u g = absurd g
-  place-inner m top (terminal ∷ xs) k u g = absurd g
-  place-inner m top (fragment e v rest ∷ xs) k u g = subst (λ p. p ≤ top) (ap (λ (x : Numbered). x.place) (sym g.write)) (u.0 (sym g.same_kind ∙ k))
+  place-inner m top xs h4 h5 h6 = grind (arith, nat_tests)
 
   -- so many were begun then
   begun-next : (n m : ℕ) (b : Bool) → n ≡ m % 2 ^ 16 → number_after b n ≡ (one b + m) % 2 ^ 16
@@ -277,9 +186,7 @@ module _ (ws : List Numbered) (first : ℕ) (number : ℕ → ℕ) (sent : List 
       start = starts sel turn q.ordered.2.1.0
 
       begun-so : (s : ℕ) → number_after (counts s c) (q.turns s).0 ≡ (one (begins_on s (data_of (as_sent tsn now c))) + begun_on s sent) % 2 ^ 16
-      begun-so s =
-          begun-next c tsn now q.ordered.0 q.ordered.1 sent (q.turns s).0 (begun_on s sent) (counts s c) (q.turns s).1.2
-          ∙ ap (λ b. (one b + begun_on s sent) % 2 ^ 16) (sym (begins-ordered s (data_of (as_sent tsn now c)) kind))
+      begun-so s = grind (arith, nat_tests, begins-ordered, begun-next)
 
       counted : c.beginning_fragment ≡ true → counts c.stream_identifier c ≡ true
       counted b = and (c.stream_identifier == c.stream_identifier) c.beginning_fragment (same-yes c.stream_identifier) b
@@ -292,17 +199,10 @@ module _ (ws : List Numbered) (first : ℕ) (number : ℕ → ℕ) (sent : List 
       index (inr g) = index-inner c tsn now q.ordered.0 q.ordered.1 sent ws first g.0 sent q.ordered.2.0 q.line q.indexed g.1
 
       at-most : Starts c tsn now q.ordered.0 q.ordered.1 sent → q.ordered.0.place ≤ c.message_id
-      at-most (inl b) = let e = placed c tsn now q.ordered.0 q.ordered.1 sent (place_of false sel sent) q.ordered.2.1.0 b in omega (arith, e)
-      at-most (inr g) =
-          let le = place-inner c tsn now q.ordered.0 q.ordered.1 sent g.0 q.ranked.top sent kind q.ranked.under g.1 in
-          let up = q.ranked.waiting.0 in
-          omega (arith, le, up)
+      at-most h1 = grind (arith, nat_tests, place-inner, placed)
 
       under : Starts c tsn now q.ordered.0 q.ordered.1 sent → IsUnder q.ordered.0.place sent
-      under (inl b) =
-          let e = placed c tsn now q.ordered.0 q.ordered.1 sent (place_of false sel sent) q.ordered.2.1.0 b in
-          subst (λ p. IsUnder p sent) (sym e) (under-more q.ranked.top c.message_id sent q.ranked.waiting.0 q.ranked.under)
-      under (inr g) = under-inner c tsn now q.ordered.0 q.ordered.1 sent g.0 sent kind q.ranked.rising g.1
+      under h1 = grind (arith, nat_tests, placed, under-inner, under-more)
 
       new : c.beginning_fragment ≡ true → IsNew c tsn now q.ordered.0 q.ordered.1 sent sent
       new b =
@@ -313,9 +213,7 @@ module _ (ws : List Numbered) (first : ℕ) (number : ℕ → ℕ) (sent : List 
 
       numbered : (s : ℕ) → c.stream_identifier ≡ s → Starts c tsn now q.ordered.0 q.ordered.1 sent
           → (c.stream_sequence_number + 1) % 2 ^ 16 ≡ number_after (counts s c) (q.turns s).0
-      numbered s on (inl b) = after-first c tsn now q.ordered.0 q.ordered.1 sent s (q.turns s).0 (q.turns s).1.0.0 b on
-      numbered s on (inr g) =
-          after-inner c tsn now q.ordered.0 q.ordered.1 sent ws first s (q.turns s).0 g.0 sent q.ordered.2.0 q.line (q.turns s).1.1 g.1 kind on
+      numbered s h2 h3 = grind (arith, nat_tests, after-first, after-inner)
 
   from-unordered : (sel : Option Selected) (os us : List ChunkPayloadData) → list_to_pop sel c.beginning_fragment c.unordered ≡ Some true → c.unordered ≡ true
       → OnTurn sel true c → Queued ws first number (made os (c ∷ us) sel ro ru) sent → SendsOn ws first number (made os (c ∷ us) sel ro ru) sent c tsn now
@@ -399,10 +297,7 @@ module _ (ws : List Numbered) (first : ℕ) (number : ℕ → ℕ) (sent : List 
           (from-ordered (Some s) os us (ap Some h) whole.1 (h, whole.0.1) (subst (λ y. Queued ws first number (made (y ∷ os) us (Some s) ro ru) sent) same r))
 
       by : (b : Bool) → s.unordered ≡ b → SendsOn ws first number (made os us (Some s) ro ru) sent c tsn now
-      by true h = unordered h us (subst (λ b. IsWhole true n (if b then begun s.message_id else free 0) us) h k.unordered)
-          (subst (λ b. slice_get (list_of b (made os us (Some s) ro ru)) 0 ≡ Some c) h e) q
-      by false h = ordered h os (subst (λ b. IsWhole false n (if b then free 0 else begun s.message_id) os) h k.ordered)
-          (subst (λ b. slice_get (list_of b (made os us (Some s) ro ru)) 0 ≡ Some c) h e) q
+      by b h2 = grind (arith, nat_tests, ordered, slice_get, unordered)
 
 -- ## What is next
 
@@ -416,14 +311,4 @@ first-fits ws (x ∷ xs) p c e h = subst (IsOfWrite ws) (some-same e) (h.0, h.1,
 
 pub next-fits : (ws : List Numbered) (first : ℕ) (number : ℕ → ℕ) (q : Pending) (sent : List Entry) (c : ChunkPayloadData) → next_pending q ≡ Some c
     → Queued ws first number q sent → IsOfWrite ws c
-next-fits ws first number q sent c e h = by q.selected q.unordered e h.ordered h.unordered
-  where
-    by : (sel : Option Selected) (us : List ChunkPayloadData) → next_pending (record q { selected = sel; unordered = us }) ≡ Some c
-        → Waits ws q.ordered (place_of false sel sent) → Waits ws us (place_of true sel sent) → IsOfWrite ws c
-    by None [] f w v = first-fits ws q.ordered between c f w
-    by None (u ∷ us) f w v = first-fits ws (u ∷ us) between c f v
-    by (Some s) us f w v = kind s.unordered f
-      where
-        kind : (k : Bool) → slice_get (list_of k (record q { selected = Some s; unordered = us })) 0 ≡ Some c → IsOfWrite ws c
-        kind true g = first-fits ws us (place_of true (Some s) sent) c g v
-        kind false g = first-fits ws q.ordered (place_of false (Some s) sent) c g w
+next-fits ws first number q sent c e h = grind (arith, nat_tests, between, first-fits, slice_get)

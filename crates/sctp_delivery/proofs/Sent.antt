@@ -1,8 +1,7 @@
 -- What a sender gave TSNs to, one after another: each DATA chunk is a fragment of a write, and goes on where the one before it ends.
-use Rattle.std.proofs.Common.{◌≡◌, ℕ, suc, ◌+◌, ◌%◌, ◌^◌, ◌<◌, ◌≤◌, true, false, List, [], ◌∷◌, ◌++◌, length, ◌⊎◌, inl, inr, refl, ap, sym, subst, ◌∙◌, arith}
-use Rattle.std.specs.Prelude.{⊤, Contains}
-use Rattle.sctp_data.specs.declared.chunk.chunk_payload_data.PayloadProtocolIdentifier.{PayloadProtocolIdentifier}
-use Rattle.sctp_data.specs.PayloadData.{Data}
+use Rattle.sctp_delivery.proofs.Names.{◌≡◌, ℕ, suc, ◌+◌, ◌%◌, ◌^◌, ◌<◌, ◌≤◌, true, false, List, [], ◌∷◌, ◌++◌, length, inl, inr, refl, ap, sym, subst, ◌∙◌}
+use Rattle.sctp_delivery.proofs.Names.{arith, ⊤, Contains, nat_tests, PayloadProtocolIdentifier, Data}
+use Rattle.std.proofs.Common.{◌⊎◌}
 
 -- a write, and its place among the writes: so many were written before
 pub record Numbered : Type 0 where
@@ -51,15 +50,7 @@ pub contains-more : {A : Type 0} (y : A) (xs : List A) (x : A) → Contains xs x
 contains-more y xs x c = (suc c.0, omega (arith, c.1), c.2)
 
 pub fits-more : (v : Numbered) (ws : List Numbered) (tsn : ℕ) (d : Data) (w : Numbered) (after : List ℕ) → Fits ws tsn d w after → Fits (v ∷ ws) tsn d w after
-fits-more v ws tsn d w after f = record {
-  written = contains-more v ws w f.written;
-  number = f.number;
-  stream = f.stream;
-  payload = f.payload;
-  begins = f.begins;
-  ends = f.ends;
-  part = f.part;
-}
+fits-more v ws tsn d w after f = grind (arith, nat_tests, contains-more)
 
 pub line-more : (v : Numbered) (ws : List Numbered) (first : ℕ) (xs : List Entry) → IsLine ws first xs → IsLine (v ∷ ws) first xs
 line-more v ws first [] l = tt
@@ -112,26 +103,9 @@ sent-more x sent d s = (s.0, s.1, s.2, inr s.3)
 pub stands-behind : (ws : List Numbered) (first : ℕ) (sent : List Entry) → length sent < 2 ^ 32 → IsLine ws first sent
     → (d e : Data) (w v : Numbered) (after rest : List ℕ) (xs ys : List Entry) → IsPart (fragment d w after ∷ xs) sent → IsPart (fragment e v rest ∷ ys) sent
     → e.tsn ≡ (d.tsn + 1) % 2 ^ 32 → ys ≡ fragment d w after ∷ xs
-stands-behind ws first sent few line d e w v after rest xs ys p q next =
-    let a = part-line ws first sent (fragment d w after ∷ xs) p line in
-    let b = part-line ws first sent (fragment e v rest ∷ ys) q line in
-    let m = part-length sent (fragment d w after ∷ xs) p in
-    let n = part-length sent (fragment e v rest ∷ ys) q in
-    let i = a.0.number in
-    let j = b.0.number in
-    let same : length ys ≡ suc (length xs) = omega (arith, m, n, i, j, next, few) in
-    same-parts sent ys (fragment d w after ∷ xs) (tail-part sent ys (fragment e v rest) q) p same
+stands-behind ws first sent few line d e w v after rest xs ys p q next = grind (arith, nat_tests, part-length, part-line, same-parts, tail-part)
 
 -- what has the same TSN is the same chunk
 pub same-tsn : (ws : List Numbered) (first : ℕ) (sent : List Entry) → length sent < 2 ^ 32 → IsLine ws first sent → (d e : Data) → WasSent sent d
     → WasSent sent e → d.tsn ≡ e.tsn → d ≡ e
-same-tsn ws first sent few line d e s r same =
-    let a = part-line ws first sent (fragment d s.0 s.1 ∷ s.2) s.3 line in
-    let b = part-line ws first sent (fragment e r.0 r.1 ∷ r.2) r.3 line in
-    let m = part-length sent (fragment d s.0 s.1 ∷ s.2) s.3 in
-    let n = part-length sent (fragment e r.0 r.1 ∷ r.2) r.3 in
-    let i = a.0.number in
-    let j = b.0.number in
-    let long : length (fragment d s.0 s.1 ∷ s.2) ≡ length (fragment e r.0 r.1 ∷ r.2) = omega (arith, m, n, i, j, same, few) in
-    let it : fragment d s.0 s.1 ∷ s.2 ≡ fragment e r.0 r.1 ∷ r.2 = same-parts sent (fragment d s.0 s.1 ∷ s.2) (fragment e r.0 r.1 ∷ r.2) s.3 r.3 long in
-    cc
+same-tsn ws first sent few line d e s r same = grind (arith, nat_tests, part-length, part-line, same-parts)

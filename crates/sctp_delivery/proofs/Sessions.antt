@@ -1,32 +1,22 @@
 -- What holds of every session of two hosts.
-use Rattle.std.proofs.Common.{◌≡◌, ℕ, ◌+◌, Bool, true, false, List, [], ◌∷◌, ◌++◌, length, Option, Some, None, refl, ap, sym, ◌∙◌, arith, subst}
-use Rattle.std.specs.Prelude.{◌==◌, ◌||◌, if◌then◌else◌, All, Contains, slice_index_or, not}
-use Rattle.std.specs.List.{list_all, list_any, sum_by, filter}
-use Rattle.std.proofs.lemmas.List.Folds.{list_any_at, Any-from_list_any}
-use Rattle.std.proofs.lemmas.List.Sums.{sum_by-cons, sum_by-append, AllPass-from_list_all}
-use Rattle.sctp_util.proofs.Cases.{same-yes, or-right}
-use Rattle.sctp_util.proofs.More.{and, both, not_both}
-use Rattle.sctp_data.specs.declared.chunk.chunk_payload_data.ChunkPayloadData.{ChunkPayloadData}
-use Rattle.sctp_data.specs.PayloadData.{Data, data_of}
-use Rattle.sctp_receiver.specs.declared.receiver.arrival.Arrival.TheVariants.{New, Repeat}
-use Rattle.sctp_receiver.specs.declared.receiver.limits.Limits.{Limits}
+use Rattle.sctp_delivery.proofs.Names.{◌≡◌, ℕ, ◌+◌, Bool, true, false, List, [], ◌∷◌, ◌++◌, length, Option, refl, ap, sym, ◌∙◌, arith, subst, ◌==◌, ◌||◌}
+use Rattle.sctp_delivery.proofs.Names.{if◌then◌else◌, All, Contains, slice_index_or, list_all, list_any, sum_by, filter, list_any_at, sum_by-cons}
+use Rattle.sctp_delivery.proofs.Names.{sum_by-append, AllPass-from_list_all, nat_tests, same-yes, or-right, and, both, not_both, ChunkPayloadData, Data}
+use Rattle.sctp_delivery.proofs.Names.{data_of, New, Repeat, Limits, Message, fragments_read, Transmission, taken_back_by, written_by, Drop, is_on}
+use Rattle.sctp_delivery.proofs.Names.{ReceiverCall, Made, SenderCall, Write, data_chunk, forward_tsn, forwards, forwards_within, made_after, resends}
+use Rattle.sctp_delivery.proofs.Names.{sends, writes, written_after, AreMade, AreMessages, Call, IsAccounted, ReceiverFollows, RunsTo, SenderFollows, Session}
+use Rattle.sctp_delivery.proofs.Names.{at_start, bytes_written, of_receiver, of_sender}
+use Rattle.std.specs.Prelude.{not}
+use Rattle.std.proofs.lemmas.List.Folds.{Any-from_list_any}
 use Rattle.sctp_receiver.specs.ReceiverRuns as receiver_runs
-use Rattle.sctp_receiver.specs.ReceiverRuns.{Message, fragments_read}
 use Rattle.sctp_receiver.proofs.Handed as handed
-use Rattle.sctp_sender.specs.Sender.{Transmission}
 use Rattle.sctp_sender.specs.SenderRuns as sender_runs
-use Rattle.sctp_sender.specs.SenderRuns.{taken_back_by, written_by}
 use Rattle.sctp_sender.proofs.Accounts as accounts
-use Rattle.sctp_sender.specs.declared.sender.Reported.TheVariants.{Drop}
-use Rattle.sctp_serial.specs.DataChunks.{is_on}
+use Rattle.sctp_delivery.proofs.Cases.{by-test}
 use Rattle.sctp_delivery.proofs.SameData.{is_same, same-data, same-itself}
 use Rattle.sctp_delivery.specs.ReceiverCalls as incoming
-use Rattle.sctp_delivery.specs.ReceiverCalls.{ReceiverCall}
 use Rattle.sctp_delivery.specs.SenderCalls as outgoing
-use Rattle.sctp_delivery.specs.SenderCalls.{Made, SenderCall, Write, data_chunk, forward_tsn, forwards, forwards_within, made_after, next_chunk, opens, resends}
-use Rattle.sctp_delivery.specs.SenderCalls.{sends, with_chunk, writes, written_after}
-use Rattle.sctp_delivery.specs.Session.{AfterEachSession, AreMade, AreMessages, AreRuns, Call, IsAccounted, ReceiverFollows, RunsTo, SenderFollows, Session}
-use Rattle.sctp_delivery.specs.Session.{at_start, bytes_written, of_receiver, of_sender}
+use Rattle.sctp_delivery.specs.Session.{AfterEachSession, AreRuns}
 
 -- ## Each host by itself
 
@@ -77,13 +67,8 @@ pub record IsCounted (s : Session) : Type 0 where
 
 pub sender-counts : (call : SenderCall) (old new : Session) → SenderFollows call old new → IsCounted old → IsCounted new
 sender-counts call old new f h = record {
-  written =
-      let e = ap bytes_written f.after in
-      let m = written-more call old.written in
-      let n = f.step.written in
-      let o = h.written in
-      omega (arith, e, m, n, o);
-  back = let n = f.step.taken_back in let z = none-back call in let o = h.back in omega (arith, n, z, o);
+  written = omega (arith, ap bytes_written f.after, written-more call old.written);
+  back = let n = f.step.taken_back in let z = none-back call in omega (arith, n, z);
 }
 
 counted : (cs : List Call) (old new : Session) → RunsTo old cs new → IsCounted old → IsCounted new
@@ -91,10 +76,7 @@ counted [] old new r h = subst IsCounted (sym r) h
 counted (of_sender call ∷ cs) old new r h = counted cs r.0 new r.1.1 (sender-counts call old r.0 r.1.0 h)
 counted (of_receiver call ∷ cs) old new r h = counted cs r.0 new r.1.1 (record {
   written =
-      let e = ap bytes_written r.1.0.after in
-      let l = ap (λ (s : Session). s.sending.written) r.1.0.after in
-      let o = h.written in
-      omega (arith, e, l, o);
+      omega (arith, ap bytes_written r.1.0.after, ap (λ (s : Session). s.sending.written) r.1.0.after);
   back = ap (λ (s : Session). s.sending.taken_back) r.1.0.after ∙ h.back;
 })
 
@@ -103,9 +85,7 @@ accounted tsn size max most limits cs s r =
     let start = at_start tsn size max most limits in
     let law = accounts.accounted tsn size max Drop (sender_calls cs) s.sending (sender-runs cs start s r) in
     let c = counted cs start s r (record { written = refl; back = refl }) in
-    let w = c.written in
-    let b = c.back in
-    omega (arith, law, w, b)
+    omega (arith, law)
 
 -- ## Tests of lists
 
@@ -130,22 +110,17 @@ none-fails p q [] e = refl
 none-fails p q (c ∷ cs) e = let b = both (p c) (list_all p cs) e in by (q c) b.0 (none-fails p q cs b.1)
   where
     by : (b : Bool) → p c ≡ true → sum_by (fails p) (filter q cs) ≡ 0 → sum_by (fails p) (if b then c ∷ filter q cs else filter q cs) ≡ 0
-    by true h rest =
-        let more = sum_by-cons (fails p) c (filter q cs) in
-        let one : fails p c ≡ 0 = ap (λ b. if b then 0 else 1) h in
-        omega (arith, more, one, rest)
+    by true h rest = grind (arith, nat_tests, sum_by-cons (fails p) c (filter q cs))
     by false h rest = rest
 
 pub all-pass : (p : ChunkPayloadData → Bool) (cs : List ChunkPayloadData) → sum_by (fails p) cs ≡ 0 → list_all p cs ≡ true
 all-pass p [] e = refl
-all-pass p (c ∷ cs) e = by (p c) refl (all-pass p cs)
+all-pass p (c ∷ cs) e = by-test (p c)
+    (λ h. and (p c) (list_all p cs) h ((all-pass p cs) (omega (arith, e, more))))
+    (λ h. let one : fails p c ≡ 1 = ap (λ b. if b then 0 else 1) h in absurd (omega (arith, e, more, one)))
   where
     more : sum_by (fails p) (c ∷ cs) ≡ fails p c + sum_by (fails p) cs
     more = sum_by-cons (fails p) c cs
-
-    by : (b : Bool) → p c ≡ b → (sum_by (fails p) cs ≡ 0 → list_all p cs ≡ true) → list_all p (c ∷ cs) ≡ true
-    by true h rest = and (p c) (list_all p cs) h (rest (omega (arith, e, more)))
-    by false h rest = let one : fails p c ≡ 1 = ap (λ b. if b then 0 else 1) h in absurd (omega (arith, e, more, one))
 
 -- what every fragment that was read on a stream passes, each message passes
 pub each-read : (p : ℕ → ChunkPayloadData → Bool) (ms : List Message) → ((st : ℕ) → sum_by (fails (p st)) (fragments_read st ms) ≡ 0)
@@ -183,11 +158,7 @@ abbrev pub made_among : List Made → ChunkPayloadData → Bool
 made_among ms c = list_any (is_made_so (data_of c)) ms
 
 pub more-made : (p : Made → Bool) (call : SenderCall) (t : Transmission) (ms : List Made) → list_any p ms ≡ true → list_any p (made_after call t ms) ≡ true
-more-made p (sends now) t ms e = by (next_chunk now t)
-  where
-    by : (o : Option ChunkPayloadData) → list_any p (with_chunk o ms) ≡ true
-    by None = e
-    by (Some c) = or-right (p (data_chunk (data_of c))) (list_any p ms) e
+more-made p (sends now) t ms e = grind (arith, nat_tests)
 more-made p (resends tsn now c) t ms e = or-right _ _ e
 more-made p (forwards tsn f) t ms e = or-right (p (forward_tsn f)) (list_any p ms) e
 more-made p (forwards_within bytes f) t ms e = or-right (p (forward_tsn f)) (list_any p ms) e
@@ -270,15 +241,7 @@ messages tsn size max most limits cs s r =
 
 none-off : (st : ℕ) (cs : List ChunkPayloadData) → sum_by (fails (is_on st)) (filter (is_on st) cs) ≡ 0
 none-off st [] = refl
-none-off st (c ∷ cs) = by (is_on st c) refl (none-off st cs)
-  where
-    by : (b : Bool) → is_on st c ≡ b → sum_by (fails (is_on st)) (filter (is_on st) cs) ≡ 0
-        → sum_by (fails (is_on st)) (if b then c ∷ filter (is_on st) cs else filter (is_on st) cs) ≡ 0
-    by true e ih =
-        let more = sum_by-cons (fails (is_on st)) c (filter (is_on st) cs) in
-        let one : fails (is_on st) c ≡ 0 = ap (λ b. if b then 0 else 1) e in
-        omega (arith, more, one, ih)
-    by false e ih = ih
+none-off st (c ∷ cs) = grind (arith, nat_tests, sum_by-cons (fails (is_on st)) c (filter (is_on st) cs), none-off st cs)
 
 -- the fragments of a message are of the stream that it was read on
 abbrev pub AreOn : Session → Type 0

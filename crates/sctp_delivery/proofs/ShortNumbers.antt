@@ -1,24 +1,12 @@
 -- Stream sequence numbers are numbers of 16 bits, in every reliable session: those of the streams, of what waits, of what is in flight,
 -- and of each DATA chunk that was made.
-use Rattle.std.proofs.Common.{◌≡◌, ℕ, ◌+◌, ◌%◌, ◌^◌, ◌<◌, Bool, true, false, List, [], ◌∷◌, length, Option, Some, None, refl, sym, subst, arith, ap}
-use Rattle.std.specs.Prelude.{⊤, ◌&&◌, if◌then◌else◌, nat_lt, option_map}
-use Rattle.sctp_util.specs.Lists.{change_where}
-use Rattle.sctp_util.proofs.More.{not_both}
-use Rattle.sctp_data.specs.declared.chunk.chunk_payload_data.ChunkPayloadData.{ChunkPayloadData}
-use Rattle.sctp_data.specs.declared.chunk.chunk_payload_data.PayloadProtocolIdentifier.{PayloadProtocolIdentifier}
-use Rattle.sctp_data.specs.PayloadTypes.{is_ordered}
-use Rattle.sctp_outbound.specs.outbound_queue.OutboundQueue.{Outbound, all_started, as_sent}
-use Rattle.sctp_outbound.specs.pending_queue.PendingQueue.{next_pending}
-use Rattle.sctp_serial.specs.DataChunks.{has_tsn}
-use Rattle.sctp_stream.specs.declared.stream.StreamState.{StreamState}
-use Rattle.sctp_sender.specs.declared.sender.flight.Released.{Released}
-use Rattle.sctp_sender.specs.Flight.{released_by}
-use Rattle.sctp_sender.specs.Outgoing.{after_releases, fragments_with_mode, has_number, less_by, with_low, with_mode, with_size, wrote}
-use Rattle.sctp_sender.specs.Sender.{Transmission}
-use Rattle.sctp_sender.specs.SenderRuns.{Makes}
-use Rattle.sctp_delivery.specs.Complete.{is_reliable_at_sender}
+use Rattle.sctp_delivery.proofs.Names.{◌≡◌, ℕ, ◌^◌, ◌<◌, true, false, List, [], ◌∷◌, length, Option, Some, None, refl, sym, subst, arith, ap, ⊤, ◌&&◌, nat_lt}
+use Rattle.sctp_delivery.proofs.Names.{option_map, change_where, not_both, ChunkPayloadData, PayloadProtocolIdentifier, is_ordered, Outbound, all_started}
+use Rattle.sctp_delivery.proofs.Names.{as_sent, next_pending, has_tsn, OutboundStream, Released, released_by, after_releases, fragments_with_mode, has_number}
+use Rattle.sctp_delivery.proofs.Names.{less_by, with_low, with_mode, with_size, wrote, Transmission, Makes, is_reliable_at_sender, IsAccepted, Made}
+use Rattle.sctp_delivery.proofs.Names.{MakesExactly, SenderCall, as_run, data_chunk, forward_tsn, made_after, with_chunk}
 use Rattle.sctp_delivery.specs.SenderCalls as outgoing
-use Rattle.sctp_delivery.specs.SenderCalls.{IsAccepted, Made, MakesExactly, SenderCall, as_run, data_chunk, forward_tsn, made_after, with_chunk}
+use Rattle.sctp_delivery.proofs.Cases.{at-if}
 use Rattle.sctp_delivery.proofs.Every.{Every, every-changed, every-found, every-joined, every-mapped}
 use Rattle.sctp_delivery.proofs.QueueChunks.{EachIs, each-fragment, peeked, pushed, started}
 use Rattle.sctp_delivery.proofs.Writing.{accepted-stream}
@@ -28,7 +16,7 @@ use Rattle.sctp_delivery.proofs.Changes.{Keeps, each-call, is_write}
 abbrev pub IsShort : ChunkPayloadData → Type 0
 IsShort c = c.stream_sequence_number < 2 ^ 16
 
-abbrev pub IsShortOn : StreamState → Type 0
+abbrev pub IsShortOn : OutboundStream → Type 0
 IsShortOn l = l.sequence_number < 2 ^ 16
 
 abbrev pub IsShortMade : Made → Type 0
@@ -53,14 +41,10 @@ next-short now q c e s =
 
 -- ## A write
 
-wrote-short : (ppi : PayloadProtocolIdentifier) (bytes : List ℕ) (l : StreamState) → IsShortOn l → IsShortOn (wrote ppi bytes l)
-wrote-short ppi bytes l s = by (is_ordered l.unordered ppi && nat_lt 0 (length bytes))
-  where
-    by : (b : Bool) → (if b then (l.sequence_number + 1) % 2 ^ 16 else l.sequence_number) < 2 ^ 16
-    by true = omega arith
-    by false = s
+wrote-short : (ppi : PayloadProtocolIdentifier) (bytes : List ℕ) (l : OutboundStream) → IsShortOn l → IsShortOn (wrote ppi bytes l)
+wrote-short ppi bytes l s = at-if (λ z. z < 2 ^ 16) (is_ordered l.unordered ppi && nat_lt 0 (length bytes)) (λ e. omega arith) (λ e. s)
 
-releases-short : (rs : List Released) (ls : List StreamState) → Every IsShortOn ls → Every IsShortOn (after_releases rs ls)
+releases-short : (rs : List Released) (ls : List OutboundStream) → Every IsShortOn ls → Every IsShortOn (after_releases rs ls)
 releases-short [] ls s = s
 releases-short (r ∷ rs) ls s = releases-short rs (change_where (has_number r.stream) (less_by r.bytes) ls)
     (every-changed IsShortOn (has_number r.stream) (less_by r.bytes) (λ l h e. e) ls s)

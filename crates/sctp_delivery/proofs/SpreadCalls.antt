@@ -1,31 +1,16 @@
 -- In each session of few TSNs: how many more ordered messages of a stream were begun than up to the place acknowledged, and what each
 -- FORWARD-TSN names.
-use Rattle.std.proofs.Common.{◌≡◌, ℕ, ◌+◌, ◌-◌, ◌%◌, ◌^◌, ◌<◌, ◌≤◌, Bool, true, false, not, List, [], ◌∷◌, length, inl, inr, Option, Some, None, refl, ap, sym}
-use Rattle.std.proofs.Common.{subst, ◌∙◌, arith}
-use Rattle.std.specs.Prelude.{◌==◌, ◌&&◌, if◌then◌else◌, nat_le}
-use Rattle.std.proofs.lemmas.Option.{none-some}
-use Rattle.sctp_util.specs.Serial.{distance}
-use Rattle.sctp_util.proofs.Cases.{negated, same-is}
-use Rattle.sctp_util.proofs.More.{both}
-use Rattle.sctp_util.proofs.Round.{tsn}
-use Rattle.sctp_data.specs.declared.chunk.chunk_payload_data.ChunkPayloadData.{ChunkPayloadData}
-use Rattle.sctp_data.specs.PayloadData.{data_of}
-use Rattle.sctp_outbound.specs.pending_queue.PendingQueue.{next_pending}
-use Rattle.sctp_receiver.specs.declared.receiver.limits.Limits.{Limits}
-use Rattle.sctp_sender.specs.declared.sender.refusal.SenderRefusal.TheVariants.{SsnsUsedUp, TsnsUsedUp}
-use Rattle.sctp_sender.specs.Flight.{Flight, may_send}
-use Rattle.sctp_sender.specs.Numbers.{begins_ordered, first_ordered, is_too_far, past_number, refusal_of, send_refusal}
-use Rattle.sctp_sender.specs.Sender.{Transmission}
+use Rattle.sctp_delivery.proofs.Names.{◌≡◌, ℕ, ◌+◌, ◌-◌, ◌%◌, ◌^◌, ◌<◌, ◌≤◌, Bool, false, List, [], ◌∷◌, length, inl, inr, Option, Some, None, refl, ap, sym}
+use Rattle.sctp_delivery.proofs.Names.{subst, ◌∙◌, arith, none-some, nat_tests, distance, negated, same-is, both, tsn, ChunkPayloadData, data_of, Limits}
+use Rattle.sctp_delivery.proofs.Names.{Flight, is_too_far, past_number, send_refusal, Transmission, ReceiverCall, IsAccepted, SenderCall, made_after}
+use Rattle.sctp_delivery.proofs.Names.{next_chunk, with_chunk, ReceiverFollows, SenderFollows, Session, at_start}
 use Rattle.sctp_sender.proofs.Sent.{as-noted, none-noted}
-use Rattle.sctp_delivery.specs.ReceiverCalls.{ReceiverCall}
 use Rattle.sctp_delivery.specs.SenderCalls as outgoing
-use Rattle.sctp_delivery.specs.SenderCalls.{IsAccepted, SenderCall, made_after, next_chunk, with_chunk}
-use Rattle.sctp_delivery.specs.Session.{ReceiverFollows, SenderFollows, Session, at_start}
 use Rattle.sctp_delivery.proofs.Calls.{numbered_after, sent_by}
 use Rattle.sctp_delivery.proofs.Delivered as delivered
 use Rattle.sctp_delivery.proofs.Delivered.{Holds, next_tsn}
 use Rattle.sctp_delivery.proofs.Every.{Every, every-of}
-use Rattle.sctp_delivery.proofs.OrderedEntries.{AreIndexed, IsIndexed, begins_on, begun_on, one}
+use Rattle.sctp_delivery.proofs.OrderedEntries.{AreIndexed, IsIndexed, begins_on, begun_on}
 use Rattle.sctp_delivery.proofs.GivenTsns.{passable-end, passable-skip}
 use Rattle.sctp_delivery.proofs.Queues.{IsEnded, IsOnceMore}
 use Rattle.sctp_delivery.proofs.SackLaws as sacks
@@ -58,21 +43,7 @@ same-past (Some x) c d e = ap (λ k. (k + (2 ^ 16 - x.stream_sequence_number)) %
 
 -- it is not too far, as what was found in front was not
 pub not-far : (t : Transmission) (now : ℕ) (c : ChunkPayloadData) → Some c ≡ next_chunk now t → send_refusal t.flight ≡ None → is_too_far t.flight c ≡ false
-not-far t now c is none = by (next_pending t.flight.queue.pending) refl
-  where
-    allowed : (x : ChunkPayloadData) (m far : Bool) → (if not m then Some TsnsUsedUp else (if far then Some SsnsUsedUp else None)) ≡ None → far ≡ false
-    allowed x m false e = refl
-    allowed x true true e = absurd (none-some SsnsUsedUp (sym e))
-    allowed x false true e = absurd (none-some TsnsUsedUp (sym e))
-
-    by : (o : Option ChunkPayloadData) → next_pending t.flight.queue.pending ≡ o → is_too_far t.flight c ≡ false
-    by None e = absurd (none-some c (none-noted t.flight.queue t.flight.next_tsn now (sym e) ∙ sym is))
-    by (Some x) e =
-        let noted : ChunkPayloadData = record x { tsn = t.flight.next_tsn; since = c.since; nsent = c.nsent; deadline = c.deadline } in
-        sym (ap (is_too_far t.flight) (as-noted t.flight.queue t.flight.next_tsn now x c e is))
-        ∙ ap (λ k. begins_ordered x && (nat_le (2 ^ 14) (length t.flight.queue.inflight.chunks) && nat_le (2 ^ 14) k))
-        (same-past (first_ordered x.stream_identifier t.flight) x noted refl)
-        ∙ allowed x (may_send t.flight) (is_too_far t.flight x) (ap (λ o. refusal_of o t.flight) (sym e) ∙ none)
+not-far t now c is none = grind (arith, nat_tests, as-noted, none-noted, none-some, same-past)
 
 calm-near : (st a : ℕ) (sent more : List Entry) → a ≤ length sent → IsEnded sent more → IsNear st a sent → IsNear st a more
 calm-near st a sent more within (inl e) near = subst (IsNear st a) (sym e) near
@@ -91,17 +62,7 @@ sent-near st a n sent f c w after within long total steps index far near = by (b
     all = to-all st n sent (omega (arith, long))
 
     by : (b : Bool) → begins_on st (data_of c) ≡ b → IsNear st a (fragment (data_of c) w after ∷ sent)
-    by false e = let none = ap one e in omega (arith, none, same, near)
-    by true e =
-        let b = both (c.stream_identifier == st) (c.beginning_fragment && not c.unordered) e in
-        let on = same-is c.stream_identifier st b.0 in
-        let kind = negated c.unordered (both c.beginning_fragment (not c.unordered) b.1).1 in
-        let i = subst (λ s. (k : ℕ) × (k + 1 ≡ one (begins_on s (data_of c)) + begun_on s sent) × (c.stream_sequence_number ≡ k % 2 ^ 16)) on (index kind) in
-        let counted = ap one e in
-        let last = i.1 in
-        let k : i.0 ≡ begun_to st n sent = omega (arith, last, counted, all) in
-        let next = near-next st sent f c a n steps total on b.1 (i.2 ∙ ap (λ m. m % 2 ^ 16) k) far (omega (arith, near, all)) in
-        omega (arith, next, counted, same, all)
+    by b h2 = grind (arith, nat_tests, all, both, near-next, negated, same, same-is, steps)
 
 -- ## A call of the sender
 

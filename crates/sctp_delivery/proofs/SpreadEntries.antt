@@ -1,16 +1,9 @@
 -- How many ordered messages of a stream were begun by the entries up to a place; and the entry that each chunk in flight stands for.
-use Rattle.std.proofs.Common.{◌≡◌, ℕ, ◌+◌, ◌%◌, ◌^◌, ◌<◌, ◌≤◌, Bool, true, false, not, List, [], ◌∷◌, length, inl, inr, refl, ap, sym, subst, ◌∙◌, arith}
-use Rattle.std.specs.Prelude.{⊤, ◌==◌, ◌&&◌, if◌then◌else◌, nat_le}
-use Rattle.std.proofs.lemmas.Bool.{cases_lt}
-use Rattle.std.proofs.lemmas.Bool.Decides.{nat_tests}
-use Rattle.sctp_util.proofs.Cases.{negated, same-is, same-yes}
-use Rattle.sctp_util.proofs.More.{and, both, fails, not_both}
-use Rattle.sctp_util.proofs.Round.{tsn}
-use Rattle.sctp_data.specs.declared.chunk.chunk_payload_data.ChunkPayloadData.{ChunkPayloadData}
-use Rattle.sctp_data.specs.PayloadData.{Data, data_of}
-use Rattle.sctp_sender.specs.Numbers.{is_ordered_on}
-use Rattle.sctp_delivery.proofs.OrderedEntries.{AreIndexed, AreJoined, IsIndexed, IsLatest, IsNumberOf, Joins, begins-inner, begins_on, begun_on, ends_on}
-use Rattle.sctp_delivery.proofs.OrderedEntries.{latest-here, one, part-fewer, part-indexed}
+use Rattle.sctp_delivery.proofs.Names.{◌≡◌, ℕ, ◌+◌, ◌%◌, ◌^◌, ◌<◌, ◌≤◌, Bool, true, false, not, List, [], ◌∷◌, length, inl, inr, refl, ap, sym, subst, ◌∙◌}
+use Rattle.sctp_delivery.proofs.Names.{arith, ⊤, ◌==◌, ◌&&◌, if◌then◌else◌, nat_le, cases_lt, nat_tests, negated, same-is, same-yes, and, both, not_both, tsn}
+use Rattle.sctp_delivery.proofs.Names.{ChunkPayloadData, Data, data_of, is_ordered_on}
+use Rattle.sctp_delivery.proofs.OrderedEntries.{AreIndexed, AreJoined, IsIndexed, IsLatest, IsNumberOf, begins-inner, begun_on, ends_on, latest-here, one}
+use Rattle.sctp_delivery.proofs.OrderedEntries.{part-fewer, part-indexed}
 use Rattle.sctp_delivery.proofs.Sent.{Entry, IsLine, IsPart, Numbered, WasSent, fragment, part-itself, part-length, part-line, same-parts, tail-part, terminal}
 use Rattle.sctp_delivery.proofs.TsnPlaces.{base}
 
@@ -44,33 +37,16 @@ one-most true = omega arith
 one-most false = omega arith
 
 pub begins-none : (a b u : Bool) → (a && u) ≡ false → (a && (b && u)) ≡ false
-begins-none true true u e = e
-begins-none true false u e = refl
-begins-none false b u e = refl
+begins-none a b u h4 = grind (arith, nat_tests)
 
 pub step-fragment : (st : ℕ) (t : ChunkPayloadData) (w : Numbered) (after : List ℕ) (xs : List Entry) → IsIndexed (data_of t) xs
     → IsStep st (begun_on st xs) (begun_on st (fragment (data_of t) w after ∷ xs)) t
-step-fragment st t w after xs i = record {
-  up = omega arith;
-  most = let h = one-most (begins_on st (data_of t)) in omega (arith, h);
-  other = λ e. let h = ap one (begins-none (t.stream_identifier == st) t.beginning_fragment (not t.unordered) e) in omega (arith, h);
-  number = λ e.
-      let b = both (t.stream_identifier == st) (not t.unordered) e in
-      subst (λ s. IsLatest (begun_on s (fragment (data_of t) w after ∷ xs)) t.stream_sequence_number) (same-is t.stream_identifier st b.0)
-      (latest-here (data_of t) w after xs (negated t.unordered b.1) i);
-}
+step-fragment st t w after xs i = grind (arith, nat_tests, begins-none, both, latest-here, negated, one-most, same-is)
 
 pub step-terminal : (st : ℕ) (t : ChunkPayloadData) (sent : List Entry)
     → (t.unordered ≡ false → IsLatest (begun_on t.stream_identifier sent) t.stream_sequence_number)
     → IsStep st (begun_on st sent) (begun_on st (terminal ∷ sent)) t
-step-terminal st t sent h = record {
-  up = omega arith;
-  most = omega arith;
-  other = λ e. refl;
-  number = λ e.
-      let b = both (t.stream_identifier == st) (not t.unordered) e in
-      subst (λ s. IsLatest (begun_on s sent) t.stream_sequence_number) (same-is t.stream_identifier st b.0) (h (negated t.unordered b.1));
-}
+step-terminal st t sent h = grind (arith, nat_tests, both, negated, same-is)
 
 pub ordered-alike : (st : ℕ) (c d : ChunkPayloadData) → d.stream_identifier ≡ c.stream_identifier → d.unordered ≡ c.unordered
     → is_ordered_on st d ≡ is_ordered_on st c
@@ -78,14 +54,7 @@ ordered-alike st c d on kind = ap (λ k. (k == st) && not d.unordered) on ∙ ap
 
 pub step-alike : (st before upto : ℕ) (c d : ChunkPayloadData) → d.stream_identifier ≡ c.stream_identifier → d.unordered ≡ c.unordered
     → d.stream_sequence_number ≡ c.stream_sequence_number → IsStep st before upto c → IsStep st before upto d
-step-alike st before upto c d on kind same s =
-    let is = sym (ordered-alike st c d on kind) in
-    record {
-      up = s.up;
-      most = s.most;
-      other = λ e. s.other (is ∙ e);
-      number = λ e. subst (IsLatest upto) (sym same) (s.number (is ∙ e));
-    }
+step-alike st before upto c d on kind same s = grind (arith, nat_tests, ordered-alike)
 
 pub for-alike : (c d : ChunkPayloadData) (x : Entry) → d.message_id ≡ c.message_id → d.ending_fragment ≡ c.ending_fragment → IsFor c x → IsFor d x
 for-alike c d terminal m e f = tt
@@ -117,14 +86,10 @@ step-up st terminal xs = omega arith
 step-up st (fragment d w after) xs = omega arith
 
 to-here : (st k : ℕ) (x : Entry) (xs : List Entry) → length (x ∷ xs) ≤ k → begun_to st k (x ∷ xs) ≡ begun_on st (x ∷ xs)
-to-here st k x xs le =
-    let e : nat_le (length (x ∷ xs)) k ≡ true = grind (arith, nat_tests, le) in
-    ap (λ b. if b then begun_on st (x ∷ xs) else begun_to st k xs) e
+to-here st k x xs le = grind (arith, nat_tests)
 
 pub to-more : (st k : ℕ) (x : Entry) (xs : List Entry) → k ≤ length xs → begun_to st k (x ∷ xs) ≡ begun_to st k xs
-to-more st k x xs le =
-    let e : nat_le (length (x ∷ xs)) k ≡ false = grind (arith, nat_tests, le) in
-    ap (λ b. if b then begun_on st (x ∷ xs) else begun_to st k xs) e
+to-more st k x xs le = grind (arith, nat_tests)
 
 pub to-all : (st k : ℕ) (sent : List Entry) → length sent ≤ k → begun_to st k sent ≡ begun_on st sent
 to-all st k [] le = refl
@@ -132,35 +97,16 @@ to-all st k (x ∷ xs) le = to-here st k x xs le
 
 pub to-most : (st k : ℕ) (sent : List Entry) → begun_to st k sent ≤ begun_on st sent
 to-most st k [] = omega arith
-to-most st k (x ∷ xs) = elim (cases_lt k (length (x ∷ xs))) [
-  | inl lt ↦
-      let e = to-more st k x xs (omega (arith, lt)) in
-      let ih = to-most st k xs in
-      let up = step-up st x xs in
-      omega (arith, e, ih, up)
-  | inr ge ↦ let e = to-here st k x xs ge in omega (arith, e)
-]
+to-most st k (x ∷ xs) = grind (arith, nat_tests, cases_lt, step-up, to-here, to-more, to-most st k xs)
 
 pub to-up : (st j k : ℕ) (sent : List Entry) → j ≤ k → begun_to st j sent ≤ begun_to st k sent
 to-up st j k [] le = omega arith
-to-up st j k (x ∷ xs) le = elim (cases_lt k (length (x ∷ xs))) [
-  | inl lt ↦
-      let a = to-more st j x xs (omega (arith, lt, le)) in
-      let b = to-more st k x xs (omega (arith, lt)) in
-      let ih = to-up st j k xs le in
-      omega (arith, a, b, ih)
-  | inr ge ↦
-      let a = to-most st j (x ∷ xs) in
-      let b = to-here st k x xs ge in
-      omega (arith, a, b)
-]
+to-up st j k (x ∷ xs) le = grind (arith, nat_tests, cases_lt, to-here, to-more, to-most, to-up st j k xs le)
 
 -- of the first entries, as many as those are
 pub to-part : (st : ℕ) (sent ys : List Entry) → IsPart ys sent → begun_to st (length ys) sent ≡ begun_on st ys
 to-part st [] ys p = sym (ap (begun_on st) p)
-to-part st (x ∷ xs) ys (inl e) =
-    let n = ap length e in
-    to-here st (length ys) x xs (omega (arith, n)) ∙ sym (ap (begun_on st) e)
+to-part st (x ∷ xs) ys (inl e) = grind (arith, nat_tests, to-here)
 to-part st (x ∷ xs) ys (inr p) = to-more st (length ys) x xs (part-length xs ys p) ∙ to-part st xs ys p
 
 -- ## At a place
@@ -171,14 +117,10 @@ is_at st k [] = false
 is_at st k (x ∷ xs) = if length (x ∷ xs) == k then ends_on st (x ∷ xs) else is_at st k xs
 
 pub at-more : (st k : ℕ) (x : Entry) (xs : List Entry) → k ≤ length xs → is_at st k (x ∷ xs) ≡ is_at st k xs
-at-more st k x xs le =
-    let e : (length (x ∷ xs) == k) ≡ false = fails (length (x ∷ xs) == k) (λ h. let same = same-is (length (x ∷ xs)) k h in omega (arith, same, le)) in
-    ap (λ b. if b then ends_on st (x ∷ xs) else is_at st k xs) e
+at-more st k x xs le = grind (arith, nat_tests, same-is)
 
 pub at-here : (st : ℕ) (x : Entry) (xs : List Entry) (k : ℕ) → k ≡ length (x ∷ xs) → is_at st k (x ∷ xs) ≡ ends_on st (x ∷ xs)
-at-here st x xs k e =
-    ap (λ m. if length (x ∷ xs) == m then ends_on st (x ∷ xs) else is_at st k xs) e
-    ∙ ap (λ b. if b then ends_on st (x ∷ xs) else is_at st k xs) (same-yes (length (x ∷ xs)))
+at-here st x xs k e = grind (arith, nat_tests, same-yes)
 
 pub at-part : (st : ℕ) (sent ys : List Entry) → IsPart ys sent → is_at st (length ys) sent ≡ ends_on st ys
 at-part st [] ys p = sym (ap (ends_on st) p)
@@ -197,24 +139,11 @@ part-joined (x ∷ xs) ys (inr p) j = part-joined xs ys p (joined-rest x xs j)
 -- behind a fragment that does not end its message goes another one of it, or the terminal one
 ends-next : (st : ℕ) (d : Data) (w : Numbered) (after : List ℕ) (xs : List Entry) (y : Entry) → d.ending_fragment ≡ false
     → AreJoined (y ∷ fragment d w after ∷ xs) → ends_on st (y ∷ fragment d w after ∷ xs) ≡ ends_on st (fragment d w after ∷ xs)
-ends-next st d w after xs terminal e j = refl
-ends-next st d w after xs (fragment c v rest) e j = by c.beginning_fragment refl
-  where
-    by : (b : Bool) → c.beginning_fragment ≡ b
-        → ((c.stream_identifier == st) && not c.unordered) ≡ ((d.stream_identifier == st) && not d.unordered)
-    by true h = absurd (not_both (sym e ∙ j.0.0 h))
-    by false h =
-        let g = j.0.1 h in
-        ap (λ k. (k == st) && not c.unordered) (sym g.2) ∙ ap (λ b. (d.stream_identifier == st) && not b) (sym g.1)
+ends-next st d w after xs y h7 h8 = grind (arith, nat_tests, not_both)
 
 begun-next : (st : ℕ) (d : Data) (w : Numbered) (after : List ℕ) (xs : List Entry) (y : Entry) → d.ending_fragment ≡ false
     → AreJoined (y ∷ fragment d w after ∷ xs) → begun_on st (y ∷ fragment d w after ∷ xs) ≡ begun_on st (fragment d w after ∷ xs)
-begun-next st d w after xs terminal e j = refl
-begun-next st d w after xs (fragment c v rest) e j = by c.beginning_fragment refl
-  where
-    by : (b : Bool) → c.beginning_fragment ≡ b → one (begins_on st c) + begun_on st (fragment d w after ∷ xs) ≡ begun_on st (fragment d w after ∷ xs)
-    by true h = absurd (not_both (sym e ∙ j.0.0 h))
-    by false h = let none = ap one (begins-inner st c h) in omega (arith, none)
+begun-next st d w after xs y h7 h8 = grind (arith, nat_tests, begins-inner, not_both)
 
 pub at-next : (st : ℕ) (sent : List Entry) (d : Data) (w : Numbered) (after : List ℕ) (xs : List Entry) → AreJoined sent
     → IsPart (fragment d w after ∷ xs) sent → d.ending_fragment ≡ false → length (fragment d w after ∷ xs) < length sent
@@ -244,17 +173,7 @@ at-next st (y ∷ ys) d w after xs j (inr p) e lt = elim (cases_lt (length (frag
 pub at-before : (st : ℕ) (sent : List Entry) (d : Data) (w : Numbered) (after : List ℕ) (xs : List Entry) → AreJoined sent
     → IsPart (fragment d w after ∷ xs) sent → d.beginning_fragment ≡ false
     → (0 < length xs) × (is_at st (length xs) sent ≡ ends_on st (fragment d w after ∷ xs))
-at-before st sent d w after xs j p e = by xs (part-joined sent (fragment d w after ∷ xs) p j).0 (at-part st sent xs (tail-part sent xs (fragment d w after) p))
-  where
-    by : (ys : List Entry) → Joins d ys → is_at st (length ys) sent ≡ ends_on st ys
-        → (0 < length ys) × (is_at st (length ys) sent ≡ ((d.stream_identifier == st) && not d.unordered))
-    by [] h a = absurd (not_both (sym e ∙ h))
-    by (terminal ∷ ys) h a = absurd (not_both (sym e ∙ h))
-    by (fragment c v rest ∷ ys) h a =
-        let g = h.1 e in (
-          omega arith,
-          a ∙ ap (λ k. (k == st) && not c.unordered) g.2 ∙ ap (λ b. (d.stream_identifier == st) && not b) g.1,
-        )
+at-before st sent d w after xs j p e = grind (arith, nat_tests, at-part, not_both, part-joined, tail-part)
 
 -- ## What was made
 

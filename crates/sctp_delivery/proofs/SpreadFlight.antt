@@ -1,25 +1,11 @@
 -- What is in flight, place by place: how far the numbers of ordered messages are apart, and which of them a FORWARD-TSN names.
-use Rattle.std.proofs.Common.{◌≡◌, ℕ, zero, suc, ◌+◌, ◌-◌, ◌%◌, ◌^◌, ◌<◌, ◌≤◌, Bool, true, false, not, List, [], ◌∷◌, length, take, ◌⊎◌, inl, inr, Option, Some}
-use Rattle.std.proofs.Common.{None, refl, ap, sym, subst, ◌∙◌, arith}
-use Rattle.std.specs.Prelude.{⊤, ◌&&◌, if◌then◌else◌, nat_le}
-use Rattle.std.specs.List.{filter, find}
-use Rattle.std.proofs.lemmas.Bool.{cases_lt}
-use Rattle.std.proofs.lemmas.Bool.Decides.{nat_tests}
-use Rattle.std.proofs.lemmas.Option.{none-some}
-use Rattle.sctp_util.specs.Serial.{distance}
-use Rattle.sctp_util.proofs.Cases.{same-is, some-same}
-use Rattle.sctp_util.proofs.More.{both}
-use Rattle.sctp_util.proofs.Round.{tsn, distance-tsn}
-use Rattle.sctp_data.specs.declared.chunk.chunk_payload_data.ChunkPayloadData.{ChunkPayloadData}
-use Rattle.sctp_data.specs.declared.chunk.chunk_forward_tsn.ChunkForwardTsnStream.{ChunkForwardTsnStream}
-use Rattle.sctp_data.specs.ForwardTsn.{ForwardTsn}
-use Rattle.sctp_outbound.specs.pending_queue.PendingQueue.{last_of}
-use Rattle.sctp_serial.specs.DataChunks.{is_on}
-use Rattle.sctp_sender.specs.Abandonment.{Name, ahead, is_kept, is_named, is_pair_of, named_up_to, pairs_of}
-use Rattle.sctp_sender.specs.Flight.{Flight}
-use Rattle.sctp_sender.specs.Numbers.{begins_ordered, first_ordered, is_ordered_on, is_too_far, past_number}
-use Rattle.sctp_sender.proofs.Runs.{IsRunFrom}
-use Rattle.sctp_delivery.specs.SenderCalls.{Made, data_chunk, forward_tsn}
+use Rattle.sctp_delivery.proofs.Names.{◌≡◌, ℕ, zero, suc, ◌+◌, ◌-◌, ◌%◌, ◌^◌, ◌<◌, ◌≤◌, Bool, true, false, List, [], ◌∷◌, length, take, inl, Option, Some, None}
+use Rattle.sctp_delivery.proofs.Names.{refl, ap, sym, subst, ◌∙◌, arith, ⊤, ◌&&◌, if◌then◌else◌, nat_le, filter, cases_lt, nat_tests, none-some, same-is}
+use Rattle.sctp_delivery.proofs.Names.{some-same, both, tsn, distance-tsn, ChunkPayloadData, ChunkForwardTsnStream, ForwardTsn, last_of, is_on, Name, ahead}
+use Rattle.sctp_delivery.proofs.Names.{is_kept, is_named, is_pair_of, named_up_to, pairs_of, Flight, begins_ordered, first_ordered, is_ordered_on, is_too_far}
+use Rattle.sctp_delivery.proofs.Names.{past_number, IsRunFrom, Made, data_chunk, forward_tsn}
+use Rattle.std.proofs.Common.{◌⊎◌}
+use Rattle.std.specs.List.{find}
 use Rattle.sctp_delivery.proofs.GivenTsns.{IsNumbered, IsPassable, lead, rest-run}
 use Rattle.sctp_delivery.proofs.InFlight.{AreKnown}
 use Rattle.sctp_delivery.proofs.OrderedEntries.{IsLatest, begun_on}
@@ -88,51 +74,18 @@ record IsFirst (st : ℕ) (sent : List Entry) (a e : ℕ) (d : ChunkPayloadData)
 module _ (st : ℕ) (sent : List Entry) where
   steps-few : (a e : ℕ) (cs : List ChunkPayloadData) → a + length cs ≡ e → AreSteps st sent a cs
       → begun_to st e sent ≤ begun_to st a sent + length cs
-  steps-few a e [] total s =
-      let same : a ≡ e = omega (arith, total) in
-      let q = ap (λ k. begun_to st k sent) same in
-      omega (arith, q)
-  steps-few a e (c ∷ cs) total s =
-      let ih = steps-few (a + 1) e cs (omega (arith, total)) s.1 in
-      let m = s.0.most in
-      omega (arith, ih, m)
+  steps-few a e [] total s = grind (arith, nat_tests)
+  steps-few a e (c ∷ cs) total s = grind (arith, nat_tests, steps-few (a + 1) e cs (omega (arith, total)) s.1)
 
   steps-none : (a e : ℕ) (cs : List ChunkPayloadData) → a + length cs ≡ e → AreSteps st sent a cs → find (is_ordered_on st) cs ≡ None
       → begun_to st e sent ≡ begun_to st a sent
   steps-none a e [] total s f = let same : e ≡ a = omega (arith, total) in ap (λ k. begun_to st k sent) same
-  steps-none a e (c ∷ cs) total s f = by (is_ordered_on st c) refl f (steps-none (a + 1) e cs (omega (arith, total)) s.1)
-    where
-      by : (b : Bool) → is_ordered_on st c ≡ b → (if b then Some c else find (is_ordered_on st) cs) ≡ None
-          → (find (is_ordered_on st) cs ≡ None → begun_to st e sent ≡ begun_to st (a + 1) sent) → begun_to st e sent ≡ begun_to st a sent
-      by true h g ih = absurd (none-some c (sym g))
-      by false h g ih = ih g ∙ s.0.other h
+  steps-none a e (c ∷ cs) total s f = grind (arith, nat_tests, none-some, steps-none (a + 1) e cs (omega (arith, total)) s.1)
 
   steps-first : (a e : ℕ) (cs : List ChunkPayloadData) (d : ChunkPayloadData) → a + length cs ≡ e → AreSteps st sent a cs
       → find (is_ordered_on st) cs ≡ Some d → IsFirst st sent a e d
   steps-first a e [] d total s f = absurd (none-some d f)
-  steps-first a e (c ∷ cs) d total s f = by (is_ordered_on st c) refl f (steps-first (a + 1) e cs d (omega (arith, total)) s.1)
-    where
-      by : (b : Bool) → is_ordered_on st c ≡ b → (if b then Some c else find (is_ordered_on st) cs) ≡ Some d
-          → (find (is_ordered_on st) cs ≡ Some d → IsFirst st sent (a + 1) e d) → IsFirst st sent a e d
-      by true h g ih =
-          let n = s.0.number h in
-          let k = n.1 in
-          let up = s.0.up in
-          let most = s.0.most in
-          let later = to-up st (a + 1) e sent (omega (arith, total)) in
-          subst (IsFirst st sent a e) (some-same g) (record {
-            index = n.0;
-            number = n.2;
-            from = omega (arith, k, up);
-            near = omega (arith, k, most);
-            within = omega (arith, k, later);
-          })
-      by false h g ih =
-          let i = ih g in
-          let same = s.0.other h in
-          let from = i.from in
-          let near = i.near in
-          record { index = i.index; number = i.number; from = omega (arith, from, same); near = omega (arith, near, same); within = i.within }
+  steps-first a e (c ∷ cs) d total s f = grind (arith, nat_tests, some-same, to-up, steps-first (a + 1) e cs d (omega (arith, total)) s.1)
 
   -- an ordered message that is next, and not too far
   pub near-next : (f : Flight) (c : ChunkPayloadData) (a n : ℕ) → AreSteps st sent a f.queue.inflight.chunks
@@ -159,13 +112,7 @@ module _ (st : ℕ) (sent : List Entry) where
       by : (b : Bool) → nat_le (2 ^ 14) (length f.queue.inflight.chunks) ≡ b
           → (b && nat_le (2 ^ 14) (past_number (first_ordered c.stream_identifier f) c)) ≡ false
           → begun_to st n sent + 1 ≤ begun_to st a sent + 2 ^ 14
-      by true h e =
-          from (find (is_ordered_on st) f.queue.inflight.chunks) refl
-          (ap (λ k. nat_le (2 ^ 14) (past_number (find (is_ordered_on k) f.queue.inflight.chunks) c)) (sym on) ∙ e)
-      by false h e =
-          let lt : length f.queue.inflight.chunks < 2 ^ 14 = grind (arith, nat_tests, h) in
-          let few = steps-few a n f.queue.inflight.chunks total s in
-          omega (arith, lt, few)
+      by b h2 h3 = grind (arith, nat_tests, from, steps-few)
 
 -- ## What is named
 
@@ -182,25 +129,14 @@ module _ (st : ℕ) (sent : List Entry) where
   says-first : (a e : ℕ) (c : ChunkPayloadData) (xs : List ChunkPayloadData) → is_ordered_on st c ≡ true
       → IsStep st (begun_to st a sent) (begun_to st (a + 1) sent) c → Says st (begun_to st (a + 1) sent) (begun_to st e sent) (last_of xs)
       → Says st (begun_to st a sent) (begun_to st e sent) (last_of (c ∷ xs))
-  says-first a e c [] h s i = (
-    same-is c.stream_identifier st (both (is_on st c) (not c.unordered) h).0,
-    subst (λ m. IsLatest m c.stream_sequence_number) (sym i) (s.number h),
-  )
+  says-first a e c [] h s i = grind (arith, nat_tests, both, same-is)
   says-first a e c (y ∷ ys) h s i = says-some st (begun_to st (a + 1) sent) (begun_to st a sent) (begun_to st e sent) y ys i
 
   -- of an abandoned chunk and those behind it
   both-tests : (c : ChunkPayloadData) (xs : List ChunkPayloadData) → c.abandoned ≡ true
       → filter (is_on st) (filter is_named (c ∷ xs)) ≡ (if is_ordered_on st c then c ∷ filter (is_on st) (filter is_named xs)
       else filter (is_on st) (filter is_named xs))
-  both-tests c xs gone =
-      ap (λ b. filter (is_on st) (if b && not c.unordered then c ∷ filter is_named xs else filter is_named xs)) gone ∙ by (not c.unordered) (is_on st c) refl
-    where
-      by : (u b : Bool) → is_on st c ≡ b → filter (is_on st) (if u then c ∷ filter is_named xs else filter is_named xs)
-          ≡ (if b && u then c ∷ filter (is_on st) (filter is_named xs) else filter (is_on st) (filter is_named xs))
-      by true true e = ap (λ k. if k then c ∷ filter (is_on st) (filter is_named xs) else filter (is_on st) (filter is_named xs)) e
-      by true false e = ap (λ k. if k then c ∷ filter (is_on st) (filter is_named xs) else filter (is_on st) (filter is_named xs)) e
-      by false true e = refl
-      by false false e = refl
+  both-tests c xs gone = grind (arith, nat_tests)
 
   says-named : (a e j : ℕ) (cs : List ChunkPayloadData) → a + j ≡ e → j ≤ lead cs → AreSteps st sent a cs
       → Says st (begun_to st a sent) (begun_to st e sent) (last_of (filter (is_on st) (filter is_named (take j cs))))
@@ -218,10 +154,7 @@ module _ (st : ℕ) (sent : List Entry) where
       kept : (b : Bool) → is_kept c ≡ b → suc j ≤ (if b then 0 else lead cs + 1)
           → (j ≤ lead cs → Says st (begun_to st (a + 1) sent) (begun_to st e sent) (last_of (filter (is_on st) (filter is_named (take j cs)))))
           → Says st (begun_to st a sent) (begun_to st e sent) (last_of (filter (is_on st) (filter is_named (c ∷ take j cs))))
-      kept true h l ih = absurd (omega (arith, l))
-      kept false h l ih =
-          subst (λ ys. Says st (begun_to st a sent) (begun_to st e sent) (last_of ys)) (sym (both-tests c (take j cs) (unnot c.abandoned h)))
-          (by (is_ordered_on st c) refl (ih (omega (arith, l))))
+      kept b h2 h3 h4 = grind (arith, nat_tests, both-tests, by, unnot)
 
 last-none : (y : ChunkPayloadData) (ys : List ChunkPayloadData) → last_of (y ∷ ys) ≡ None → ⊥
 last-none y [] e = none-some y (sym e)
@@ -235,12 +168,7 @@ none-named st sent a e (suc j) (c ∷ cs) total le o none k lt most =
     kept (is_kept c) refl le (λ l f. none-named st sent (a + 1) e j cs (omega (arith, total)) l o.1 f k)
   where
     split : is_ordered_on st c ≡ false → ((a + 1 < k) → (k ≤ e) → is_at st k sent ≡ false) → is_at st k sent ≡ false
-    split h ih = elim (cases_lt (a + 1) k) [
-      | inl up ↦ ih up most
-      | inr ge ↦
-          let same : k ≡ a + 1 = omega (arith, lt, ge) in
-          ap (λ m. is_at st m sent) same ∙ sym o.0 ∙ h
-    ]
+    split h1 h2 = grind (arith, nat_tests, cases_lt)
 
     by : (b : Bool) → is_ordered_on st c ≡ b
         → last_of (if b then c ∷ filter (is_on st) (filter is_named (take j cs)) else filter (is_on st) (filter is_named (take j cs))) ≡ None
@@ -251,9 +179,7 @@ none-named st sent a e (suc j) (c ∷ cs) total le o none k lt most =
     kept : (b : Bool) → is_kept c ≡ b → suc j ≤ (if b then 0 else lead cs + 1)
         → (j ≤ lead cs → last_of (filter (is_on st) (filter is_named (take j cs))) ≡ None → (a + 1 < k) → (k ≤ e) → is_at st k sent ≡ false)
         → is_at st k sent ≡ false
-    kept true h l ih = absurd (omega (arith, l))
-    kept false h l ih =
-        by (is_ordered_on st c) refl (ap last_of (sym (both-tests st sent c (take j cs) (unnot c.abandoned h))) ∙ none) (ih (omega (arith, l)))
+    kept b h2 h3 h4 = grind (arith, nat_tests, both-tests, by, unnot)
 
 -- these names, up to a place: none of the stream, and no ordered chunk of it behind the place acknowledged; or one, the number of the
 -- last message that was begun up to there
@@ -286,18 +212,10 @@ named st p n sent f h few long s o g i name = record {
 }
   where
     far : ahead f g.new_cumulative_tsn ≡ i.given.place - h.acked
-    far =
-        let past = i.past in
-        let within = i.given.within in
-        ap (λ t. distance t g.new_cumulative_tsn) h.acked_is ∙ ap (distance (tsn p h.acked)) i.given.is
-        ∙ distance-tsn p h.acked i.given.place (omega (arith, past)) (omega (arith, within, few))
+    far = grind (arith, nat_tests, distance-tsn)
 
     says : Says st (begun_to st h.acked sent) (begun_to st i.given.place sent) (last_of (filter (is_on st) (named_up_to g.new_cumulative_tsn f)))
-    says =
-        let past = i.past in
-        let upto = i.upto in
-        says-named st sent h.acked i.given.place (ahead f g.new_cumulative_tsn) f.queue.inflight.chunks (omega (arith, far, past))
-        (omega (arith, far, past, upto)) s
+    says = grind (arith, nat_tests, far, says-named)
 
     by : (q : Option ChunkPayloadData) → last_of (filter (is_on st) (named_up_to g.new_cumulative_tsn f)) ≡ q
         → filter (is_pair_of st) g.streams ≡ pairs_of q → Says st (begun_to st h.acked sent) (begun_to st i.given.place sent) q
@@ -310,35 +228,10 @@ named st p n sent f h few long s o g i name = record {
           none-named st sent h.acked i.given.place (ahead f g.new_cumulative_tsn) f.queue.inflight.chunks (omega (arith, far, past))
           (omega (arith, far, past, upto)) o n,
     )
-    by (Some d) n e y = inr (
-      y.1.0,
-      y.1.1,
-      e ∙ ap (λ k. (let n : ChunkForwardTsnStream = record { identifier = k; sequence = d.stream_sequence_number } in n) ∷ []) y.0
-          ∙ ap (λ k. (let n : ChunkForwardTsnStream = record { identifier = st; sequence = k } in n) ∷ []) y.1.2,
-    )
+    by (Some d) n e y = grind (arith, nat_tests)
 
 -- it tells so still when more is acknowledged, and more got TSNs
 pub naming-later : (st p a b : ℕ) (sent more : List Entry) → a ≤ b → a ≤ length sent → IsOnceMore sent more → (m : Made)
     → IsMadeNaming st p a sent m → IsMadeNaming st p b more m
 naming-later st p a b sent more le within once (data_chunk d) i = tt
-naming-later st p a b sent more le within once (forward_tsn g) i = by once
-  where
-    tells : (ys : List Entry) → ((k : ℕ) → k ≤ i.place → is_at st k ys ≡ is_at st k sent) → begun_to st i.place ys ≡ begun_to st i.place sent
-        → begun_to st a ys ≡ begun_to st a sent → Tells st b i.place ys g.streams
-    tells ys z x y = on i.tells
-      where
-        on : Tells st a i.place sent g.streams → Tells st b i.place ys g.streams
-        on (inl t) = let up = to-up st a b ys le in let w = t.1 in
-            inl (t.0, omega (arith, up, w, x, y), λ k lt most. z k most ∙ t.2 k (omega (arith, lt, le)) most)
-        on (inr t) = let w = t.1 in inr (t.0, omega (arith, w, x), t.2)
-
-    by : IsOnceMore sent more → IsNaming st p b more g
-    by (inl e) =
-        subst (λ ys. IsNaming st p b ys g) (sym e) (record { place = i.place; within = i.within; is = i.is; tells = tells sent (λ k most. refl) refl refl })
-    by (inr x) = subst (λ ys. IsNaming st p b ys g) (sym x.1) (record {
-      place = i.place;
-      within = let w = i.within in omega (arith, w);
-      is = i.is;
-      tells = tells (x.0 ∷ sent) (λ k most. at-more st k x.0 sent (let w = i.within in omega (arith, most, w))) (to-more st i.place x.0 sent i.within)
-          (to-more st a x.0 sent within);
-    })
+naming-later st p a b sent more le within once (forward_tsn g) i = grind (arith, nat_tests, at-more, to-more, to-up)

@@ -1,38 +1,23 @@
 -- What gap ack blocks leave out: nothing of the distances that they are made of.
-use Rattle.std.proofs.Common.{◌≡◌, ℕ, ◌<◌, ◌≤◌, ◌^◌, Bool, true, false, List, ◌∷◌, refl, ap, sym, subst, ◌∙◌, arith, ◌+◌, length, inl, inr, zero, suc, [], map}
-use Rattle.std.proofs.Common.{take}
-use Rattle.std.specs.Prelude.{if◌then◌else◌, ◌==◌, not, nat_le, Contains, ◌||◌, ◌⊎◌, nat_lt}
-use Rattle.std.specs.List.{filter, list_any}
-use Rattle.std.proofs.lemmas.Bool.Decides.{nat_tests}
-use Rattle.sctp_util.specs.Lists.{advance_over, insert_before}
-use Rattle.sctp_util.specs.Serial.{at_or_before, comes_before, distance}
-use Rattle.sctp_util.proofs.Cases.{or-left, or-right, same-is, same-yes, or-split}
-use Rattle.sctp_util.proofs.More.{and, fails, not_both, both}
-use Rattle.sctp_util.proofs.Round.{tsn, distance-tsn, distance-tsn_back}
-use Rattle.sctp_data.specs.declared.chunk.chunk_payload_data.ChunkPayloadData.{ChunkPayloadData}
-use Rattle.sctp_data.specs.ForwardTsn.{ForwardTsn}
-use Rattle.sctp_data.specs.PayloadData.{data_of}
-use Rattle.sctp_receiver.specs.declared.receiver.arrival.Arrival.TheVariants.{New, Repeat}
-use Rattle.sctp_receiver.specs.Receiver.{Reception, filter_of, follow_forward_tsn, is_stale, max_sack_entries, sack_entries, sack_of_entries}
-use Rattle.sctp_receiver.specs.Skips.{after_forward_tsn, without_incomplete}
-use Rattle.sctp_receiver.specs.TsnFilter.{has_come, gap_ack_blocks, is_opposite, offsets, with_tsn}
-use Rattle.sctp_serial.specs.DataChunks.{has_tsn, following_tsn}
+use Rattle.sctp_delivery.proofs.Names.{◌≡◌, ℕ, ◌<◌, ◌≤◌, ◌^◌, Bool, true, false, List, ◌∷◌, refl, ap, sym, subst, ◌∙◌, arith, ◌+◌, length, inl, inr, zero, suc}
+use Rattle.sctp_delivery.proofs.Names.{[], map, take, if◌then◌else◌, ◌==◌, nat_le, Contains, ◌||◌, ◌⊎◌, nat_lt, filter, list_any, nat_tests, advance_over}
+use Rattle.sctp_delivery.proofs.Names.{insert_before, at_or_before, comes_before, distance, or-left, or-right, same-is, same-yes, or-split, and, fails}
+use Rattle.sctp_delivery.proofs.Names.{not_both, both, tsn, distance-tsn, distance-tsn_back, ChunkPayloadData, ForwardTsn, data_of, New, Repeat, Reception}
+use Rattle.sctp_delivery.proofs.Names.{filter_of, follow_forward_tsn, is_stale, max_sack_entries, sack_entries, sack_of_entries, after_forward_tsn}
+use Rattle.sctp_delivery.proofs.Names.{without_incomplete, has_come, is_opposite, with_tsn, has_tsn, following_tsn, ReceiverCall, reports_after, are_apart}
+use Rattle.sctp_delivery.proofs.Names.{passes, was_passed, was_taken, EachSackTells, NextSackTells, reports_tsn, data_chunk, forward_tsn, Made, ReceiverFollows}
+use Rattle.sctp_delivery.proofs.Names.{Session, list_any_at, cases_lt, common_steps, runs_of, put_before_runs, Sack, is_in_blocks, is_offset}
+use Rattle.std.specs.Prelude.{not}
+use Rattle.sctp_receiver.specs.TsnFilter.{gap_ack_blocks, offsets}
 use Rattle.sctp_delivery.specs.ReceiverCalls as incoming
-use Rattle.sctp_delivery.specs.ReceiverCalls.{ReceiverCall, reports_after}
-use Rattle.sctp_delivery.specs.Sacks.{are_apart, passes, was_passed, was_taken, EachSackTells, NextSackTells, TellsWhatCame, reports_tsn}
-use Rattle.sctp_delivery.specs.SenderCalls.{data_chunk, forward_tsn, Made}
-use Rattle.sctp_delivery.specs.Session.{ReceiverFollows, Session}
+use Rattle.sctp_delivery.specs.Sacks.{TellsWhatCame}
+use Rattle.sctp_delivery.proofs.Cases.{at-if, at-test}
 use Rattle.sctp_delivery.proofs.Every.{Every, every-contained, every-inserted, every-of, every-passing, one-of, all-of-every}
 use Rattle.sctp_delivery.proofs.ArrivedTsns.{IsArrived, IsKnown, advanced, in_run}
 use Rattle.sctp_delivery.proofs.SackSteps.{IsMadeGiven}
 use Rattle.sctp_delivery.proofs.TakenTsns.{advance-keeps, any-inserted, come, insert-keeps, skip-keeps}
-use Rattle.sctp_delivery.proofs.TsnPlaces.{IsGiven, at-or-before, more-given, before, tsn-small}
-use Rattle.std.proofs.lemmas.List.Folds.{list_any_at}
+use Rattle.sctp_delivery.proofs.TsnPlaces.{IsGiven, more-given, before, tsn-small, upto-yes, past-is}
 use Rattle.sctp_delivery.proofs.ReportedTsns.{IsTruthful, later-truthful, sack-truthful, any-run}
-use Rattle.std.proofs.lemmas.Bool.{cases_lt}
-use Rattle.sctp_util.specs.Kept.{runs_of, put_before_runs}
-use Rattle.sctp_data.specs.SelectiveAck.{Sack}
-use Rattle.sctp_outbound.specs.payload_queue.Blocks.{is_in_blocks, is_offset}
 use Rattle.sctp_receiver.proofs.GapCounts.{IsAscending, far_in, next-skipped, next-with}
 use Rattle.sctp_receiver.proofs.TsnLists.{expected-absent, expected-after}
 
@@ -41,11 +26,9 @@ IsRun b = b.0 ≤ b.1
 
 put-run : (x : ℕ) (bs : List (ℕ × ℕ)) → Every IsRun bs → Every IsRun (put_before_runs x bs)
 put-run x [] v = (omega arith, tt)
-put-run x (b ∷ bs) v = by (b.0 == x + 1) refl
-  where
-    by : (k : Bool) → (b.0 == x + 1) ≡ k → Every IsRun (if k then (x, b.1) ∷ bs else (x, x) ∷ b ∷ bs)
-    by true e = (let same = same-is b.0 (x + 1) e in let le = v.0 in omega (arith, same, le), v.1)
-    by false e = (omega arith, v)
+put-run x (b ∷ bs) v = at-if (Every IsRun) (b.0 == x + 1)
+    (λ e. (let same = same-is b.0 (x + 1) e in omega (arith, same), v.1))
+    (λ e. (omega arith, v))
 
 runs-run : (ds : List ℕ) → Every IsRun (runs_of ds)
 runs-run [] = tt
@@ -56,16 +39,7 @@ alone x d e = let same = same-is x d e in and (nat_le x d) (nat_le d x) (grind (
 
 put-has : (x d : ℕ) (bs : List (ℕ × ℕ)) → Every IsRun bs → (x == d) ≡ true → list_any (in_run d) (put_before_runs x bs) ≡ true
 put-has x d [] v e = or-left (in_run d (x, x)) false (alone x d e)
-put-has x d (b ∷ bs) v e = by (b.0 == x + 1) refl
-  where
-    by : (k : Bool) → (b.0 == x + 1) ≡ k → list_any (in_run d) (if k then (x, b.1) ∷ bs else (x, x) ∷ b ∷ bs) ≡ true
-    by true f =
-        let next = same-is b.0 (x + 1) f in
-        let same = same-is x d e in
-        let le = v.0 in
-        or-left (in_run d (x, b.1)) (list_any (in_run d) bs) (and (nat_le x d) (nat_le d b.1) (grind (arith, nat_tests, same))
-        (grind (arith, nat_tests, same, next, le)))
-    by false f = or-left (in_run d (x, x)) (list_any (in_run d) (b ∷ bs)) (alone x d e)
+put-has x d (b ∷ bs) v e = grind (arith, nat_tests, same-is x d e, v.0)
 
 put-keeps : (x d : ℕ) (bs : List (ℕ × ℕ)) → list_any (in_run d) bs ≡ true → list_any (in_run d) (put_before_runs x bs) ≡ true
 put-keeps x d [] e = absurd (not_both e)
@@ -73,11 +47,7 @@ put-keeps x d (b ∷ bs) e = by (b.0 == x + 1) refl (or-split (in_run d b) (list
   where
     by : (k : Bool) → (b.0 == x + 1) ≡ k → (in_run d b ≡ true) ⊎ (list_any (in_run d) bs ≡ true) → list_any (in_run d)
         (if k then (x, b.1) ∷ bs else (x, x) ∷ b ∷ bs) ≡ true
-    by true f (inl a) =
-        let next = same-is b.0 (x + 1) f in
-        let h = both (nat_le b.0 d) (nat_le d b.1) a in
-        let first = h.0 in
-        or-left (in_run d (x, b.1)) (list_any (in_run d) bs) (and (nat_le x d) (nat_le d b.1) (grind (arith, nat_tests, next, first)) h.1)
+    by true f (inl a) = grind (arith, nat_tests, same-is b.0 (x + 1) f, both (nat_le b.0 d) (nat_le d b.1) a)
     by true f (inr a) = or-right (in_run d (x, b.1)) (list_any (in_run d) bs) a
     by false f s = or-right (in_run d (x, x)) (list_any (in_run d) (b ∷ bs)) e
 
@@ -112,6 +82,10 @@ whole (suc n) (x ∷ xs) lt = ap (λ ys. x ∷ ys) (whole n xs (omega (arith, lt
 
 -- # A session in which few TSNs are given out, call by call of the receiver: no TSN is taken twice
 
+-- the TSN came
+abbrev pub Knows : ℕ → Reception → Type 0
+Knows t r = come t r.cumulative_tsn r.beyond ≡ true
+
 -- a chunk whose TSN was given out, and came
 abbrev pub HasCome : ℕ → ℕ → Reception → ChunkPayloadData → Type 0
 HasCome p n r c = IsGiven p n c.tsn × (come c.tsn r.cumulative_tsn r.beyond ≡ true)
@@ -136,11 +110,7 @@ not-among p n r cs t fresh h =
 
 pub fresh-new : (t : ℕ) (answered : Bool) (r : Reception) → New answered ≡ (if has_come t (filter_of r) then Repeat else New answered)
     → has_come t (filter_of r) ≡ false
-fresh-new t answered r e = by (has_come t (filter_of r)) e
-  where
-    by : (b : Bool) → New answered ≡ (if b then Repeat else New answered) → b ≡ false
-    by true i = cc
-    by false i = refl
+fresh-new t answered r e = grind (arith, nat_tests, common_steps)
 
 module _ (p n : ℕ) (r : Reception) (kn : ℕ → Bool) (few : n < 2 ^ 31) (h : IsArrived p n kn r.cumulative_tsn r.beyond) where
   pub beyond-given : Every (IsGiven p n) r.beyond
@@ -174,69 +144,64 @@ module _ (p n : ℕ) (r : Reception) (kn : ℕ → Bool) (few : n < 2 ^ 31) (h :
       own = or-right (at_or_before c.tsn r.cumulative_tsn) (list_any (λ u. u == c.tsn) (insert_before comes_before c.tsn r.beyond))
           (any-inserted (λ u. u == c.tsn) comes_before c.tsn r.beyond (or-left (c.tsn == c.tsn) (list_any (λ u. u == c.tsn) r.beyond) (same-yes c.tsn)))
 
-  -- and one that skips
-  pub skip-come : (f : ForwardTsn) (cs : List ChunkPayloadData) → IsGiven p n f.new_cumulative_tsn → AreTaken p n r cs → AreTaken p n (after_forward_tsn f r) cs
-  skip-come f cs g t = by (is_stale f r) refl
-    where
-      on : is_stale f r ≡ false → (u : ℕ) → IsGiven p n u → come u r.cumulative_tsn r.beyond ≡ true → come u
-          (advance_over f.new_cumulative_tsn (filter (λ v. not (at_or_before v f.new_cumulative_tsn)) r.beyond)).cum
-          (advance_over f.new_cumulative_tsn (filter (λ v. not (at_or_before v f.new_cumulative_tsn)) r.beyond)).held ≡ true
-      on stale u k e =
-          let m = f.new_cumulative_tsn in
-          let in' = g.within in
-          let within = h.within in
-          let order : nat_le g.place h.place ≡ false = sym (at-or-before p g.place h.place (omega (arith, in', few)) (omega (arith, within, few))) ∙ ap
-          (λ v. at_or_before v (tsn p h.place)) (sym g.is) ∙ ap (at_or_before m) (sym h.is) ∙ stale in
-          let le : h.place ≤ g.place = grind (arith, nat_tests, order) in
-          let skipped : come u (tsn p g.place) (filter (λ v. not (at_or_before v
-          (tsn p g.place))) r.beyond) ≡ true = skip-keeps p n h.place g.place r.beyond u few le in' k (ap (λ v. come u v r.beyond) (sym h.is) ∙ e) in
-          advance-keeps p n m g.place (filter (λ v. not (at_or_before v m)) r.beyond) few in' g.is
-          (every-passing (IsGiven p n) (λ v. not (at_or_before v m)) r.beyond beyond-given) u k
-          (subst (λ v. come u v (filter (λ w. not (at_or_before w v)) r.beyond) ≡ true) (sym g.is) skipped)
-
-      by : (b : Bool) → is_stale f r ≡ b → AreTaken p n (if b then r else without_incomplete f.new_cumulative_tsn (if b then r else follow_forward_tsn f r)) cs
-      by true e = t
-      by false e = record {
-        each = every-of (HasCome p n r) (HasCome p n (without_incomplete f.new_cumulative_tsn (follow_forward_tsn f r)))
-            (λ x k. (k.0, on e x.tsn k.0 k.1)) cs t.each;
-        apart = t.apart;
-      }
+  -- what came has come after a FORWARD-TSN
+  skip-come : (f : ForwardTsn) → IsGiven p n f.new_cumulative_tsn → (u : ℕ) → IsGiven p n u → come u r.cumulative_tsn r.beyond ≡ true
+      → come u (after_forward_tsn f r).cumulative_tsn (after_forward_tsn f r).beyond ≡ true
+  skip-come f g u k e = at-test (λ b. Knows u (if b then r else without_incomplete f.new_cumulative_tsn (if b then r else follow_forward_tsn f r)))
+      (is_stale f r)
+      (λ stale. e)
+      (λ stale.
+      let m = f.new_cumulative_tsn in
+      let in' = g.within in
+      let le : h.place ≤ g.place =
+      omega (arith, past-is p g.place h.place g.is h.is (omega (arith, in', few)) (omega (arith, few)) stale) in
+      let skipped : come u (tsn p g.place) (filter (λ v. not (at_or_before v (tsn p g.place))) r.beyond) ≡ true =
+      skip-keeps p n h.place g.place r.beyond u few le in' k (ap (λ v. come u v r.beyond) (sym h.is) ∙ e) in
+      advance-keeps p n m g.place (filter (λ v. not (at_or_before v m)) r.beyond) few in' g.is
+      (every-passing (IsGiven p n) (λ v. not (at_or_before v m)) r.beyond beyond-given) u k
+      (subst (λ v. come u v (filter (λ w. not (at_or_before w v)) r.beyond) ≡ true) (sym g.is) skipped))
 
 -- ## The calls
 
 module _ (p n : ℕ) (kn : ℕ → Bool) (old new : Session) (few : n < 2 ^ 31) (m : Every (IsMadeGiven p n) old.made)
-    (h : IsArrived p n kn old.receiving.receiver.cumulative_tsn old.receiving.receiver.beyond)
-    (t : AreTaken p n old.receiving.receiver old.receiving.accepted) where
-  taken-to : (q : Reception) (cs : List ChunkPayloadData) → new.receiving.receiver ≡ q → new.receiving.accepted ≡ cs → AreTaken p n q cs
-      → AreTaken p n new.receiving.receiver new.receiving.accepted
-  taken-to q cs e i k = subst (λ x. AreTaken p n x new.receiving.accepted) (sym e) (subst (AreTaken p n q) (sym i) k)
+    (h : IsArrived p n kn old.receiving.receiver.cumulative_tsn old.receiving.receiver.beyond) where
+  -- a TSN that came has come after each
+  pub stays-come : (call : ReceiverCall) → ReceiverFollows call old new → (t : ℕ) → IsGiven p n t → Knows t old.receiving.receiver
+      → Knows t new.receiving.receiver
+  stays-come (incoming.opens stream) f t g e = subst (Knows t) (sym f.step.receiver.1) e
+  stays-come (incoming.takes c Repeat) f t g e = subst (Knows t) (sym f.step.receiver) e
+  stays-come (incoming.takes c (New answered)) f t g e =
+      let r = old.receiving.receiver in
+      subst (Knows t) (sym f.step.receiver.after)
+      (advances p n r kn few h c.tsn (every-contained (IsMadeGiven p n) old.made (data_chunk (data_of c)) f.handed m) t g
+      (insert-keeps comes_before c.tsn r.cumulative_tsn r.beyond t e))
+  stays-come (incoming.follows c) f t g e =
+      subst (Knows t) (sym f.step.receiver)
+      (skip-come p n old.receiving.receiver kn few h c (every-contained (IsMadeGiven p n) old.made (forward_tsn c) f.handed m) t g e)
+  stays-come call f t g e = subst (Knows t) (sym f.step.receiver) e
 
-  -- the same TSNs
-  kept : (q : Reception) → new.receiving.receiver ≡ q → q.cumulative_tsn ≡ old.receiving.receiver.cumulative_tsn → q.beyond ≡ old.receiving.receiver.beyond
-      → new.receiving.accepted ≡ old.receiving.accepted → AreTaken p n new.receiving.receiver new.receiving.accepted
-  kept q e cum beyond i =
-      taken-to q old.receiving.accepted e i
-      (record {
-        each = every-of (HasCome p n old.receiving.receiver) (HasCome p n q)
-            (λ x k. (
-              k.0,
-              ap (λ c. come x.tsn c q.beyond) cum ∙ ap (come x.tsn old.receiving.receiver.cumulative_tsn) beyond
-                  ∙ k.1,
-            )) old.receiving.accepted t.each;
-        apart = t.apart;
-      })
+  module _ (t : AreTaken p n old.receiving.receiver old.receiving.accepted) where
+    to : (q : Reception) (cs : List ChunkPayloadData) → new.receiving.receiver ≡ q → new.receiving.accepted ≡ cs → AreTaken p n q cs
+        → AreTaken p n new.receiving.receiver new.receiving.accepted
+    to q cs e i k = subst (λ x. AreTaken p n x new.receiving.accepted) (sym e) (subst (AreTaken p n q) (sym i) k)
 
-  pub takes-once : (call : ReceiverCall) → ReceiverFollows call old new → AreTaken p n new.receiving.receiver new.receiving.accepted
-  takes-once (incoming.opens stream) f = kept _ f.step.receiver.1 refl refl f.step.accepted
-  takes-once (incoming.takes c Repeat) f = kept _ f.step.receiver refl refl f.step.accepted
-  takes-once (incoming.takes c (New answered)) f =
-      let g : IsGiven p n c.tsn = every-contained (IsMadeGiven p n) old.made (data_chunk (data_of c)) f.handed m in
-      taken-to _ (c ∷ old.receiving.accepted) f.step.receiver.after f.step.accepted
-      (new-come p n old.receiving.receiver kn few h c _ old.receiving.accepted g (fresh-new c.tsn answered old.receiving.receiver f.accepted.1) refl refl t)
-  takes-once (incoming.follows g) f =
-      taken-to _ old.receiving.accepted f.step.receiver f.step.accepted
-      (skip-come p n old.receiving.receiver kn few h g old.receiving.accepted (every-contained (IsMadeGiven p n) old.made (forward_tsn g) f.handed m) t)
-  takes-once call f = kept _ f.step.receiver refl refl f.step.accepted
+    -- nothing is taken
+    kept : (call : ReceiverCall) → ReceiverFollows call old new → new.receiving.accepted ≡ old.receiving.accepted
+        → AreTaken p n new.receiving.receiver new.receiving.accepted
+    kept call f i = to new.receiving.receiver old.receiving.accepted refl i (record {
+      each = every-of (HasCome p n old.receiving.receiver) (HasCome p n new.receiving.receiver) (λ x k. (k.0, stays-come call f x.tsn k.0 k.1))
+          old.receiving.accepted t.each;
+      apart = t.apart;
+    })
+
+    pub takes-once : (call : ReceiverCall) → ReceiverFollows call old new → AreTaken p n new.receiving.receiver new.receiving.accepted
+    takes-once (incoming.takes c (New answered)) f =
+        let r = old.receiving.receiver in
+        let g : IsGiven p n c.tsn = every-contained (IsMadeGiven p n) old.made (data_chunk (data_of c)) f.handed m in
+        to _ (c ∷ old.receiving.accepted) f.step.receiver.after f.step.accepted
+        (new-come p n r kn few h c _ old.receiving.accepted g (fresh-new c.tsn answered r f.accepted.1) refl refl t)
+    takes-once (incoming.takes c Repeat) f = kept (incoming.takes c Repeat) f f.step.accepted
+    takes-once call f = kept call f f.step.accepted
 
 -- # A session in which few TSNs are given out, call by call of the receiver: what arrived
 
@@ -265,9 +230,7 @@ more-arrived p m n kn kn' cumulative beyond le more h = record {
 passed-upto : (p n : ℕ) (ms : List Made) (f : ForwardTsn) → n < 2 ^ 31 → (g : IsGiven p n f.new_cumulative_tsn) → Contains ms (forward_tsn f) → (k : ℕ)
     → k ≤ g.place → list_any (passes (tsn p k)) ms ≡ true
 passed-upto p n ms f few g in' k le =
-    let within = g.within in
-    let at : at_or_before (tsn p k) f.new_cumulative_tsn ≡ true = ap (at_or_before (tsn p k)) g.is ∙ at-or-before p k g.place (omega (arith, within, few, le))
-    (omega (arith, within, few)) ∙ (let e : nat_le k g.place ≡ true = grind (arith, nat_tests, le) in e) in
+    let at = upto-yes p k g.place refl g.is (omega (arith, few, le)) (omega (arith, few)) le in
     list_any_at (passes (tsn p k)) ms in'.0 (forward_tsn f) in'.1 (ap (passes (tsn p k)) in'.2 ∙ at)
 
 module _ (p n : ℕ) (kn now : ℕ → Bool) (old new : Session) (few : n < 2 ^ 31) (m : Every (IsMadeGiven p n) old.made) where
@@ -311,13 +274,11 @@ module _ (p n : ℕ) (kn now : ℕ → Bool) (old new : Session) (few : n < 2 ^ 
         }
 
     follows-arrived : (f : ForwardTsn) → Contains old.made (forward_tsn f) → Hears (after_forward_tsn f old.receiving.receiver)
-    follows-arrived f in' = by (is_stale f old.receiving.receiver)
-      where
-        by : (b : Bool) → Hears (if b then old.receiving.receiver else without_incomplete f.new_cumulative_tsn
-            (if b then old.receiving.receiver else follow_forward_tsn f old.receiving.receiver))
-        by true = still
-        by false = advanced p n now f.new_cumulative_tsn (filter (λ t. not (at_or_before t f.new_cumulative_tsn)) old.receiving.receiver.beyond) few
-            (hears-upto f in')
+    follows-arrived f in' = at-test (λ b. Hears (if b then old.receiving.receiver else without_incomplete f.new_cumulative_tsn
+        (if b then old.receiving.receiver else follow_forward_tsn f old.receiving.receiver))) (is_stale f old.receiving.receiver)
+        (λ e. still)
+        (λ e. advanced p n now f.new_cumulative_tsn (filter (λ t. not (at_or_before t f.new_cumulative_tsn)) old.receiving.receiver.beyond) few
+        (hears-upto f in'))
 
     pub hears : (call : ReceiverCall) → ReceiverFollows call old new → Hears new.receiving.receiver
     hears (incoming.opens stream) f = hears-to _ f.step.receiver.1 still
@@ -372,30 +333,25 @@ module _ (p n : ℕ) (r : Reception) (kn : ℕ → Bool) (few : n < 2 ^ 31) (h :
       ]
 
   small-of : (t : ℕ) → IsGiven p n t → t < 2 ^ 32
-  small-of t g = let s = tsn-small p g.place in let e = g.is in omega (arith, s, e)
+  small-of t g = let s = tsn-small p g.place in omega (arith, s)
 
   pub order-with : (t : ℕ) → IsGiven p n t → has_come t (filter_of r) ≡ false → IsAscending (with_tsn t (filter_of r))
   order-with t g fresh =
       (next-with (filter_of r) t (distance r.cumulative_tsn t + far_in (filter_of r)) a (small-of t g) fresh (near t g) (omega arith) (omega arith)).ascending
 
   pub order-past : (f : ForwardTsn) → IsGiven p n f.new_cumulative_tsn → IsInOrder (after_forward_tsn f r)
-  order-past f g = by (is_stale f r) refl
+  order-past f g = at-test (λ b. IsInOrder (if b then r else without_incomplete f.new_cumulative_tsn (if b then r else follow_forward_tsn f r)))
+      (is_stale f r)
+      (λ e. a)
+      (λ e. let k = (next-skipped (filter_of r) f.new_cumulative_tsn a (small-of f.new_cumulative_tsn g)
+      (ahead e)).ascending in record { small = k.small; rise = k.rise })
     where
       ahead : is_stale f r ≡ false → comes_before r.cumulative_tsn f.new_cumulative_tsn ≡ true
       ahead stale =
-          let in' = g.within in
-          let within = h.within in
-          let order : nat_le g.place h.place ≡ false =
-          sym (at-or-before p g.place h.place (omega (arith, in', few)) (omega (arith, within, few))) ∙ ap (λ v. at_or_before v (tsn p h.place)) (sym g.is)
-          ∙ ap (at_or_before f.new_cumulative_tsn) (sym h.is) ∙ stale in
+          let past = past-is p g.place h.place g.is h.is (omega (arith, few)) (omega (arith, few)) stale in
+          let e : nat_lt h.place g.place ≡ true = grind (arith, nat_tests, past) in
           ap (λ v. comes_before v f.new_cumulative_tsn) h.is ∙ ap (comes_before (tsn p h.place)) g.is
-          ∙ before p h.place g.place (omega (arith, within, few)) (omega (arith, in', few)) ∙
-          (let e : nat_lt h.place g.place ≡ true = grind (arith, nat_tests, order) in e)
-
-      by : (b : Bool) → is_stale f r ≡ b → IsInOrder (if b then r else without_incomplete f.new_cumulative_tsn (if b then r else follow_forward_tsn f r))
-      by true e = a
-      by false e = let k = (next-skipped (filter_of r) f.new_cumulative_tsn a (small-of f.new_cumulative_tsn g)
-          (ahead e)).ascending in record { small = k.small; rise = k.rise }
+          ∙ before p h.place g.place (omega (arith, few)) (omega (arith, few)) ∙ e
 
 module _ (p n : ℕ) (kn : ℕ → Bool) (old new : Session) (few : n < 2 ^ 31) (m : Every (IsMadeGiven p n) old.made)
     (h : IsArrived p n kn old.receiving.receiver.cumulative_tsn old.receiving.receiver.beyond) (a : IsInOrder old.receiving.receiver) where
@@ -450,16 +406,9 @@ module _ (p n : ℕ) (s : Session) (kn : ℕ → Bool) (few : n < 2 ^ 31) (h : I
       past : at_or_before c.tsn s.receiving.receiver.cumulative_tsn ≡ false → 0 < distance s.receiving.receiver.cumulative_tsn c.tsn
       past e =
           let g = k.0 in
-          let in' = g.within in
-          let within = h.within in
-          let order : nat_le g.place h.place ≡ false =
-          sym (at-or-before p g.place h.place (omega (arith, in', few)) (omega (arith, within, few))) ∙ ap (λ v. at_or_before v (tsn p h.place)) (sym g.is)
-          ∙ ap (at_or_before c.tsn) (sym h.is) ∙ e in
-          let lt : h.place < g.place = grind (arith, nat_tests, order) in
-          let is : distance r.cumulative_tsn c.tsn ≡ distance (tsn p h.place) (tsn p g.place) = ap (λ u. distance u c.tsn) h.is ∙ ap
-          (distance (tsn p h.place)) g.is in
-          let far = distance-tsn p h.place g.place (omega (arith, lt)) (omega (arith, in', few)) in
-          omega (arith, is, far, lt)
+          let lt = past-is p g.place h.place g.is h.is (omega (arith, few)) (omega (arith, few)) e in
+          let is : distance r.cumulative_tsn c.tsn ≡ distance (tsn p h.place) (tsn p g.place) = cc (h.is, g.is) in
+          omega (arith, is, distance-tsn p h.place g.place (omega (arith, lt)) (omega (arith, few)), lt)
 
       beyond-answered : (b : Bool) → nat_le (2 ^ 16) (distance s.receiving.receiver.cumulative_tsn c.tsn) ≡ b
           → 0 < distance s.receiving.receiver.cumulative_tsn c.tsn

@@ -1,15 +1,10 @@
 -- A TSN that arrived at a filter stays one that came.
-use Rattle.std.proofs.Common.{◌≡◌, ℕ, ◌+◌, ◌<◌, ◌≤◌, ◌%◌, ◌^◌, Bool, true, false, List, [], ◌∷◌, refl, ap, sym, ◌∙◌, inl, inr, arith}
-use Rattle.std.specs.Prelude.{if◌then◌else◌, ◌==◌, ◌||◌, ◌⊎◌, not, nat_le}
-use Rattle.std.specs.List.{filter, list_any}
-use Rattle.std.proofs.lemmas.Bool.Decides.{nat_tests}
-use Rattle.sctp_util.specs.Lists.{advance_over, insert_before, Seen}
-use Rattle.sctp_util.specs.Serial.{at_or_before}
-use Rattle.sctp_util.proofs.Cases.{or-left, or-right, or-split, same-is}
-use Rattle.sctp_util.proofs.More.{not_both}
-use Rattle.sctp_util.proofs.Round.{tsn}
+use Rattle.sctp_delivery.proofs.Names.{◌≡◌, ℕ, ◌+◌, ◌<◌, ◌≤◌, ◌%◌, ◌^◌, Bool, true, false, List, [], ◌∷◌, refl, ap, sym, ◌∙◌, inl, inr, arith, if◌then◌else◌}
+use Rattle.sctp_delivery.proofs.Names.{◌==◌, ◌||◌, ◌⊎◌, filter, list_any, nat_tests, advance_over, insert_before, Seen, at_or_before, or-left, or-right}
+use Rattle.sctp_delivery.proofs.Names.{or-split, same-is, not_both, tsn}
+use Rattle.std.specs.Prelude.{not}
 use Rattle.sctp_delivery.proofs.Every.{Every}
-use Rattle.sctp_delivery.proofs.TsnPlaces.{IsGiven, at-or-before, next-place, same-place}
+use Rattle.sctp_delivery.proofs.TsnPlaces.{IsGiven, next-place, upto-yes, upto-is}
 
 -- at or before the cumulative TSN, or one of those beyond
 abbrev pub come : ℕ → ℕ → List ℕ → Bool
@@ -24,10 +19,7 @@ any-inserted q b x (y ∷ ys) e = by (b x y) (λ f. any-inserted q b x ys f) (or
         (if k then x ∷ y ∷ ys else y ∷ insert_before b x ys) ≡ true
     by true ih s = e
     by false ih (inl a) = or-right (q y) (list_any q (insert_before b x ys)) (ih (or-left (q x) (list_any q ys) a))
-    by false ih (inr a) = elim (or-split (q y) (list_any q ys) a) [
-      | inl c ↦ or-left (q y) (list_any q (insert_before b x ys)) c
-      | inr c ↦ or-right (q y) (list_any q (insert_before b x ys)) (ih (or-right (q x) (list_any q ys) c))
-    ]
+    by false ih (inr a) = grind (arith, nat_tests)
 
 any-passing : (q : ℕ → Bool) (t : ℕ) (ts : List ℕ) → q t ≡ true → list_any (λ u. u == t) ts ≡ true → list_any (λ u. u == t) (filter q ts) ≡ true
 any-passing q t [] h e = e
@@ -43,11 +35,8 @@ any-passing q t (x ∷ xs) h e = by (q x) refl (λ f. any-passing q t xs h f) (o
 -- one that came by an earlier cumulative TSN came by a later one
 upto-later : (p n a b : ℕ) (t : ℕ) → n < 2 ^ 31 → a ≤ b → b ≤ n → IsGiven p n t → at_or_before t (tsn p a) ≡ true → at_or_before t (tsn p b) ≡ true
 upto-later p n a b t few le within g e =
-    let in' = g.within in
-    let first : nat_le g.place a ≡ true = sym (at-or-before p g.place a (omega (arith, in', few)) (omega (arith, le, within, few))) ∙ ap
-    (λ u. at_or_before u (tsn p a)) (sym g.is) ∙ e in
-    ap (λ u. at_or_before u (tsn p b)) g.is ∙ at-or-before p g.place b (omega (arith, in', few)) (omega (arith, within, few)) ∙
-    (let f : nat_le g.place b ≡ true = grind (arith, nat_tests, first, le) in f)
+    let first = upto-is p g.place a g.is refl (omega (arith, few)) (omega (arith, le, within, few)) e in
+    upto-yes p g.place b g.is refl (omega (arith, few)) (omega (arith, within, few)) (omega (arith, first, le))
 
 pub advance-keeps : (p n c place : ℕ) (ts : List ℕ) → n < 2 ^ 31 → place ≤ n → c ≡ tsn p place → Every (IsGiven p n) ts → (t : ℕ) → IsGiven p n t
     → come t c ts ≡ true → come t (advance_over c ts).cum (advance_over c ts).held ≡ true
@@ -61,12 +50,10 @@ advance-keeps p n c place (x ∷ xs) few le is each t g h = by (x == (c + 1) % 2
     by true e ih =
         let g' = each.0 in
         let next : x ≡ tsn p (place + 1) = same-is x ((c + 1) % 2 ^ 32) e ∙ ap (λ u. (u + 1) % 2 ^ 32) is ∙ next-place p place in
-        let one : g'.place ≡ place + 1 = same-place p g'.place (place + 1) (let w = g'.within in omega (arith, w, few)) (omega (arith, le, few))
-        (sym g'.is ∙ next) in
-        let l : place + 1 ≤ n = let w = g'.within in omega (arith, w, one) in
-        let here : (x == t) ≡ true → at_or_before t x ≡ true = λ a. ap (at_or_before t) (same-is x t a) ∙ ap (λ u. at_or_before u t) g.is ∙ ap
-        (at_or_before (tsn p g.place)) g.is ∙ at-or-before p g.place g.place (let w = g.within in omega (arith, w, few))
-        (let w = g.within in omega (arith, w, few)) ∙ (let f : nat_le g.place g.place ≡ true = grind (arith, nat_tests) in f) in
+        let one : g'.place ≡ place + 1 = omega (arith, few, le, g'.is, next) in
+        let l : place + 1 ≤ n = omega (arith, one) in
+        let here : (x == t) ≡ true → at_or_before t x ≡ true = λ a. ap (at_or_before t) (same-is x t a)
+        ∙ upto-yes p g.place g.place g.is g.is (omega (arith, few)) (omega (arith, few)) (omega arith) in
         ih l next (elim (or-split (at_or_before t c) (list_any (λ u. u == t) (x ∷ xs)) h) [
           | inl a ↦ or-left (at_or_before t x) (list_any (λ u. u == t) xs)
               (ap (at_or_before t) next ∙ upto-later p n place (place + 1) t few (omega arith) l g (ap (at_or_before t) (sym is) ∙ a))

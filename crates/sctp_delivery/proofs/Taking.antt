@@ -1,34 +1,22 @@
 -- A SACK can be made and taken.
-use Rattle.std.proofs.Common.{◌≡◌, ℕ, ◌+◌, ◌^◌, ◌<◌, Bool, true, List, [], ◌∷◌, refl, arith, suc, length, ap, sym, subst, Result, Ok, Err}
-use Rattle.sctp_util.proofs.More.{not_both}
-use Rattle.sctp_data.specs.declared.chunk.chunk_payload_data.ChunkPayloadData.{ChunkPayloadData}
-use Rattle.sctp_data.specs.SelectiveAck.{Sack}
-use Rattle.sctp_outbound.specs.outbound_queue.OutboundQueue.{total_bytes}
-use Rattle.sctp_receiver.specs.Receiver.{Reception, after_sack_within, max_sack_entries, sack_entries, sack_of_entries, without_duplicates, TakesEach}
-use Rattle.sctp_sender.specs.declared.sender.flight.Released.{Released}
-use Rattle.sctp_sender.specs.Flight.{after_sack, released_by}
-use Rattle.sctp_sender.specs.Sender.{after_acked}
-use Rattle.sctp_sender.specs.Thresholds.{with_lows}
+use Rattle.sctp_delivery.proofs.Names.{◌≡◌, ℕ, ◌+◌, ◌^◌, ◌<◌, Bool, true, List, [], ◌∷◌, refl, arith, suc, length, ap, sym, subst, Result, Ok, Err, not_both}
+use Rattle.sctp_delivery.proofs.Names.{ChunkPayloadData, Sack, total_bytes, Reception, max_sack_entries, sack_entries, sack_of_entries, Released, after_sack}
+use Rattle.sctp_delivery.proofs.Names.{released_by, after_acked, with_lows, ReceiverCall, is_reporting, CanBeAnswered, IsAnswered, AfterEachSessionOfFewTsns}
+use Rattle.sctp_delivery.proofs.Names.{tsns_given, takes_sack, data_chunk, ReceiverFollows, SenderFollows, Session, at_start, IfOk, All, Contains, data_of}
+use Rattle.sctp_delivery.proofs.Names.{Arrival, ReceiverRefusal, accepted_after}
+use Rattle.sctp_receiver.specs.Receiver.{after_sack_within, without_duplicates, TakesEach}
 use Rattle.sctp_sender.specs.Totals.{AreSettled, bytes_in}
 use Rattle.sctp_sender.proofs.Lows.{released-same}
 use Rattle.sctp_sender.proofs.Settled.{sack-bytes}
 use Rattle.sctp_delivery.specs.ReceiverCalls as incoming
-use Rattle.sctp_delivery.specs.ReceiverCalls.{ReceiverCall, is_reporting, ReceiverMakesEach, as_run, takes_each}
-use Rattle.sctp_delivery.specs.Rounds.{CanBeAnswered, IsAnswered}
-use Rattle.sctp_delivery.specs.Sacks.{AfterEachSessionOfFewTsns, tsns_given}
-use Rattle.sctp_delivery.specs.SenderCalls.{takes_sack, data_chunk}
-use Rattle.sctp_delivery.specs.Session.{ReceiverFollows, SenderFollows, Session, at_start, GoesOnTo}
+use Rattle.sctp_delivery.specs.ReceiverCalls.{ReceiverMakesEach, as_run, takes_each}
+use Rattle.sctp_delivery.specs.Session.{GoesOnTo}
 use Rattle.sctp_delivery.proofs.Every.{Every, every-of-all}
 use Rattle.sctp_delivery.proofs.ReportedTsns.{not-refused, sack-truthful}
 use Rattle.sctp_delivery.proofs.SackLaws.{IsInStep, IsInStepBut, in-step}
 use Rattle.sctp_delivery.proofs.SackSteps.{came_in, passed_in, known_or, none_dropped}
 use Rattle.sctp_delivery.proofs.TsnPlaces.{base}
 use Rattle.sctp_delivery.proofs.ValidMarks.{IsRight}
-use Rattle.std.specs.Prelude.{IfOk, All, Contains}
-use Rattle.sctp_data.specs.PayloadData.{data_of}
-use Rattle.sctp_receiver.specs.declared.receiver.arrival.Arrival.{Arrival}
-use Rattle.sctp_receiver.specs.declared.receiver.refusal.ReceiverRefusal.{ReceiverRefusal}
-use Rattle.sctp_receiver.specs.ReceiverRuns.{accepted_after}
 
 -- what is acknowledged has no bytes
 settled : (taken passed : ℕ → Bool) (cs : List ChunkPayloadData) → Every (IsRight taken passed) cs → AreSettled cs

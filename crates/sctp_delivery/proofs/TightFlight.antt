@@ -1,19 +1,10 @@
 -- How many ordered messages of a stream are begun past one that has an ordered chunk in flight: fewer than 2^14.
-use Rattle.std.proofs.Common.{◌≡◌, ℕ, zero, suc, ◌+◌, ◌-◌, ◌%◌, ◌^◌, ◌<◌, ◌≤◌, Bool, true, false, not, List, [], ◌∷◌, length, inl, inr, Option, Some, None}
-use Rattle.std.proofs.Common.{refl, ap, sym, subst, ◌∙◌, arith}
-use Rattle.std.specs.Prelude.{◌⊎◌, ◌==◌, ◌&&◌, if◌then◌else◌, nat_le}
+use Rattle.sctp_delivery.proofs.Names.{◌≡◌, ℕ, zero, suc, ◌+◌, ◌-◌, ◌%◌, ◌^◌, ◌<◌, ◌≤◌, Bool, true, false, not, List, [], ◌∷◌, length, inl, inr, Option, Some}
+use Rattle.sctp_delivery.proofs.Names.{None, refl, ap, sym, subst, ◌∙◌, arith, ◌⊎◌, ◌==◌, ◌&&◌, if◌then◌else◌, nat_le, cases_lt, nat_tests, negated, same-is}
+use Rattle.sctp_delivery.proofs.Names.{both, not_both, ChunkPayloadData, data_of, Flight, begins_ordered, first_ordered, is_ordered_on, is_too_far, past_number}
+use Rattle.sctp_delivery.proofs.Names.{Transmission, IsAccepted, SenderCall, next_chunk}
 use Rattle.std.specs.List.{find}
-use Rattle.std.proofs.lemmas.Bool.{cases_lt}
-use Rattle.std.proofs.lemmas.Bool.Decides.{nat_tests}
-use Rattle.sctp_util.proofs.Cases.{negated, same-is}
-use Rattle.sctp_util.proofs.More.{both, not_both}
-use Rattle.sctp_data.specs.declared.chunk.chunk_payload_data.ChunkPayloadData.{ChunkPayloadData}
-use Rattle.sctp_data.specs.PayloadData.{data_of}
-use Rattle.sctp_sender.specs.Flight.{Flight}
-use Rattle.sctp_sender.specs.Numbers.{begins_ordered, first_ordered, is_ordered_on, is_too_far, past_number}
-use Rattle.sctp_sender.specs.Sender.{Transmission}
 use Rattle.sctp_delivery.specs.SenderCalls as outgoing
-use Rattle.sctp_delivery.specs.SenderCalls.{IsAccepted, SenderCall, next_chunk}
 use Rattle.sctp_delivery.proofs.Calls.{sent_by}
 use Rattle.sctp_delivery.proofs.OrderedEntries.{AreIndexed, IsIndexed, begins_on, begun_on, ends_on, one}
 use Rattle.sctp_delivery.proofs.Queues.{IsEnded}
@@ -114,13 +105,7 @@ tight-later st a b sent le h z lt at = h z (omega (arith, le, lt)) at
 -- with one entry more, by which no message of the stream is begun, or by which there still are so few
 grown-tight : (st a : ℕ) (x : Entry) (sent : List Entry) → IsTight st a sent
     → ((z : ℕ) → a < z → is_at st z sent ≡ true → begun_on st (x ∷ sent) + 1 ≤ begun_to st z sent + 2 ^ 14) → IsTight st a (x ∷ sent)
-grown-tight st a x sent h few z lt at = elim (cases_lt z (length (x ∷ sent))) [
-  | inl less ↦
-      let e = to-more st z x sent (omega (arith, less)) in
-      let k = few z lt (sym (at-more st z x sent (omega (arith, less))) ∙ at) in
-      omega (arith, e, k)
-  | inr ge ↦ let e = to-all st z (x ∷ sent) ge in omega (arith, e)
-]
+grown-tight st a x sent h few z lt at = grind (arith, nat_tests, at-more, cases_lt, to-all, to-more)
 
 ended-tight : (st a : ℕ) (sent more : List Entry) → IsEnded sent more → IsTight st a sent → IsTight st a more
 ended-tight st a sent more (inl e) h = subst (IsTight st a) (sym e) h
@@ -157,26 +142,7 @@ first-at st a z sent (c ∷ cs) s o lt le at = by (is_ordered_on st c) refl (λ 
           begun = k.1;
           number = k.2;
         }
-    by false h ih =
-        let less : a + 1 < z = elim (cases_lt (a + 1) z) [
-          | inl l ↦ l
-          | inr ge ↦
-              let same : z ≡ a + 1 = omega (arith, lt, ge) in
-              absurd (not_both (sym (sym o.0 ∙ h) ∙ ap (λ j. is_at st j sent) (sym same) ∙ at))
-        ] in
-        let f = ih less in
-        let p = f.past in
-        record {
-          chunk = f.chunk;
-          found = ap (λ b. if b then Some c else find (is_ordered_on st) cs) h ∙ f.found;
-          place = f.place;
-          past = omega (arith, p);
-          upto = f.upto;
-          at = f.at;
-          index = f.index;
-          begun = f.begun;
-          number = f.number;
-        }
+    by false h ih = grind (arith, nat_tests, cases_lt, not_both)
 
 -- a message is begun that is not too far
 begun-tight : (st a n : ℕ) (sent : List Entry) (f : Flight) (c : ChunkPayloadData) → length sent ≡ n → a + length f.queue.inflight.chunks ≡ n
@@ -219,21 +185,7 @@ begun-tight st a n sent f c long total steps on same begins number far h z lt at
 sent-tight : (st a n : ℕ) (sent : List Entry) (f : Flight) (c : ChunkPayloadData) (w : Numbered) (after : List ℕ) → length sent ≡ n
     → a + length f.queue.inflight.chunks ≡ n → AreSteps st sent a f.queue.inflight.chunks → AreOn st sent a f.queue.inflight.chunks
     → IsIndexed (data_of c) sent → is_too_far f c ≡ false → IsTight st a sent → IsTight st a (fragment (data_of c) w after ∷ sent)
-sent-tight st a n sent f c w after long total steps on index far h = by (begins_on st (data_of c)) refl
-  where
-    by : (b : Bool) → begins_on st (data_of c) ≡ b → IsTight st a (fragment (data_of c) w after ∷ sent)
-    by false e = grown-tight st a (fragment (data_of c) w after) sent h (λ z lt at. let none = ap one e in let k = h z lt at in omega (arith, none, k))
-    by true e =
-        let b = both (c.stream_identifier == st) (c.beginning_fragment && not c.unordered) e in
-        let same = same-is c.stream_identifier st b.0 in
-        let kind = negated c.unordered (both c.beginning_fragment (not c.unordered) b.1).1 in
-        let i = subst (λ s. (k : ℕ) × (k + 1 ≡ one (begins_on s (data_of c)) + begun_on s sent) × (c.stream_sequence_number ≡ k % 2 ^ 16)) same (index kind) in
-        let counted = ap one e in
-        let last = i.1 in
-        let k : i.0 ≡ begun_on st sent = omega (arith, last, counted) in
-        grown-tight st a (fragment (data_of c) w after) sent h (λ z lt at.
-        let few = begun-tight st a n sent f c long total steps on same b.1 (i.2 ∙ ap (λ m. m % 2 ^ 16) k) far h z lt at in
-        omega (arith, few, counted))
+sent-tight st a n sent f c w after long total steps on index far h = grind (arith, nat_tests, begun-tight, both, grown-tight, negated, same-is)
 
 -- after a call of the sender, by what stood before it
 pub tight-after : (st a n : ℕ) (sent more : List Entry) (t : Transmission) (call : SenderCall) → IsMoreBy (sent_by call t) sent more → IsAccepted call t

@@ -1,10 +1,7 @@
 -- TSNs and their places: place k of a base p is the TSN p + k modulo 2^32, and serial order is that of places below 2^31.
-use Rattle.std.proofs.Common.{◌≡◌, ℕ, ◌+◌, ◌-◌, ◌<◌, ◌≤◌, ◌%◌, ◌^◌, inl, inr, arith}
-use Rattle.std.specs.Prelude.{◌⊎◌, nat_lt, nat_le, ◌&&◌}
-use Rattle.std.proofs.lemmas.Bool.{cases_lt}
-use Rattle.std.proofs.lemmas.Bool.Decides.{nat_tests}
+use Rattle.sctp_delivery.proofs.Names.{◌≡◌, ℕ, ◌+◌, ◌-◌, ◌<◌, ◌≤◌, ◌%◌, ◌^◌, true, false, inl, inr, ap, sym, ◌∙◌, arith, ◌⊎◌, nat_lt, nat_le, ◌&&◌, cases_lt}
+use Rattle.sctp_delivery.proofs.Names.{nat_tests, tsn, distance-tsn, distance-tsn_back}
 use Rattle.sctp_util.specs.Serial.{distance, comes_before, at_or_before}
-use Rattle.sctp_util.proofs.Round.{tsn, distance-tsn, distance-tsn_back}
 
 pub same-place : (p j k : ℕ) → j < 2 ^ 32 → k < 2 ^ 32 → tsn p j ≡ tsn p k → j ≡ k
 same-place p j k a b e = omega (arith, e)
@@ -30,6 +27,20 @@ before p j k a b = step (cases_lt k j)
     step : (k < j) ⊎ (j ≤ k) → (nat_lt 0 (distance (tsn p j) (tsn p k)) && nat_lt (distance (tsn p j) (tsn p k)) (2 ^ 31)) ≡ nat_lt j k
     step (inl lt) = rw (distance-tsn_back p k j lt (omega (arith, a))) (grind (arith, nat_tests))
     step (inr ge) = rw (distance-tsn p j k ge (omega (arith, b))) (grind (arith, nat_tests))
+
+-- two TSNs that stand at these places: the one is at or before the other where it lies no further behind the base
+module _ (p j k : ℕ) {a b : ℕ} (at : a ≡ tsn p j) (to : b ≡ tsn p k) (x : j ≤ 2 ^ 31) (y : k < 2 ^ 31) where
+  order-of : at_or_before a b ≡ nat_le j k
+  order-of = ap (λ u. at_or_before u b) at ∙ ap (at_or_before (tsn p j)) to ∙ at-or-before p j k x y
+
+  pub upto-yes : j ≤ k → at_or_before a b ≡ true
+  upto-yes le = let t : nat_le j k ≡ true = grind (arith, nat_tests, le) in order-of ∙ t
+
+  pub upto-is : at_or_before a b ≡ true → j ≤ k
+  upto-is e = let t : nat_le j k ≡ true = sym order-of ∙ e in grind (arith, nat_tests, t)
+
+  pub past-is : at_or_before a b ≡ false → k < j
+  past-is e = let t : nat_le j k ≡ false = sym order-of ∙ e in grind (arith, nat_tests, t)
 
 -- one of the first n places behind the base
 pub record IsGiven (p n t : ℕ) : Type 0 where

@@ -1,16 +1,8 @@
 -- The numbers of ordered messages that wait: on each stream one higher from message to message, modulo 2^16.
-use Rattle.std.proofs.Common.{◌≡◌, ℕ, ◌+◌, ◌%◌, ◌^◌, ◌<◌, Bool, true, false, not, List, [], ◌∷◌, ◌++◌, refl, ap, sym, subst, ◌∙◌, arith}
-use Rattle.std.specs.Prelude.{⊤, ◌==◌, ◌&&◌, ◌||◌, if◌then◌else◌}
-use Rattle.std.specs.List.{list_any}
-use Rattle.sctp_util.specs.Lists.{change_where}
-use Rattle.sctp_util.proofs.Cases.{same-is, same-yes}
-use Rattle.sctp_util.proofs.More.{both, not_both}
-use Rattle.sctp_data.specs.declared.chunk.chunk_payload_data.ChunkPayloadData.{ChunkPayloadData}
-use Rattle.sctp_outbound.specs.Marks.{is_of}
-use Rattle.sctp_outbound.specs.pending_queue.PendingQueue.{one_lower, with_deadline, without_message}
-use Rattle.sctp_outbound.specs.pending_queue.Whole.{IsWhole, begun, free}
-use Rattle.sctp_outbound.proofs.lemmas.pending_queue.CompleteMessages.{none_before}
-use Rattle.sctp_serial.specs.DataChunks.{is_on}
+use Rattle.sctp_delivery.proofs.Names.{◌≡◌, ℕ, ◌+◌, ◌%◌, ◌^◌, ◌<◌, Bool, true, false, not, List, [], ◌∷◌, ◌++◌, refl, ap, sym, subst, ◌∙◌, arith, ⊤, ◌==◌, ◌&&◌}
+use Rattle.sctp_delivery.proofs.Names.{◌||◌, if◌then◌else◌, list_any, change_where, same-is, same-yes, both, not_both, ChunkPayloadData, is_of, one_lower}
+use Rattle.sctp_delivery.proofs.Names.{with_deadline, without_message, IsWhole, begun, free, none_before, is_on}
+use Rattle.sctp_delivery.proofs.Cases.{at-if, at-test}
 use Rattle.sctp_delivery.proofs.Sent.{Entry, fragment, terminal}
 use Rattle.sctp_delivery.proofs.Waiting.{lower}
 
@@ -39,12 +31,9 @@ turns-behind s (c ∷ cs) ys n m next t u = (t.0, turns-behind s cs ys (number_a
 pub turns-started : (s now : ℕ) (p : ChunkPayloadData → Bool) (cs : List ChunkPayloadData) (n next : ℕ) → Turns s cs n next
     → Turns s (change_where p (with_deadline now) cs) n next
 turns-started s now p [] n next t = t
-turns-started s now p (c ∷ cs) n next t = by (p c) (turns-started s now p cs (number_after (counts s c) n) next t.1)
-  where
-    by : (b : Bool) → Turns s (change_where p (with_deadline now) cs) (number_after (counts s c) n) next
-        → Turns s ((if b then with_deadline now c else c) ∷ change_where p (with_deadline now) cs) n next
-    by true ih = (t.0, ih)
-    by false ih = (t.0, ih)
+turns-started s now p (c ∷ cs) n next t = at-if (λ z. Turns s (z ∷ change_where p (with_deadline now) cs) n next) (p c)
+    (λ e. (t.0, turns-started s now p cs (number_after (counts s c) n) next t.1))
+    (λ e. (t.0, turns-started s now p cs (number_after (counts s c) n) next t.1))
 
 -- chunks that begin no message of the stream
 pub turns-past : (s : ℕ) (c : ChunkPayloadData) (cs : List ChunkPayloadData) (n next : ℕ) → counts s c ≡ false → Turns s (c ∷ cs) n next → Turns s cs n next
@@ -57,12 +46,10 @@ inner-not s c e = elim (c.stream_identifier == s) as (λ b. (b && c.beginning_fr
 
 pub without-none : (m : ℕ) (cs : List ChunkPayloadData) → list_any (is_of m) cs ≡ false → without_message m cs ≡ cs
 without-none m [] e = refl
-without-none m (c ∷ cs) e = by (c.message_id == m) e (without-none m cs)
-  where
-    by : (b : Bool) → (b || list_any (is_of m) cs) ≡ false → (list_any (is_of m) cs ≡ false → without_message m cs ≡ cs)
-        → (if not b then c ∷ without_message m cs else without_message m cs) ≡ c ∷ cs
-    by true h ih = absurd (not_both (sym h))
-    by false h ih = ap (λ ds. c ∷ ds) (ih h)
+without-none m (c ∷ cs) e = at-test (λ b. (b || list_any (is_of m) cs) ≡ false → (if not b then c ∷ without_message m cs else without_message m cs) ≡
+    c ∷ cs) (c.message_id == m)
+    (λ e h. absurd (not_both (sym h)))
+    (λ e h. ap (λ ds. c ∷ ds) ((without-none m cs) h)) e
 
 pub turns-rest : (s m below : ℕ) (kind : Bool) (cs : List ChunkPayloadData) (n next : ℕ) → IsWhole kind below (begun m) cs → Turns s cs n next
     → Turns s (without_message m cs) n next
@@ -85,16 +72,15 @@ pub turns-first : (s below : ℕ) (kind : Bool) (c : ChunkPayloadData) (cs : Lis
     → Turns s (c ∷ cs) n next → Turns s (without_message c.message_id (c ∷ cs)) (number_after (counts s c) n) next
 turns-first s below kind c cs n next w t =
     let here : (c.message_id == c.message_id) ≡ true = same-yes c.message_id in
-    subst (λ b. Turns s (if not b then c ∷ without_message c.message_id cs else without_message c.message_id cs) (number_after (counts s c) n) next) (sym here)
-    (by c.ending_fragment w.3)
-  where
-    by : (b : Bool) → IsWhole kind below (if b then free (c.message_id + 1) else begun c.message_id) cs
-        → Turns s (without_message c.message_id cs) (number_after (counts s c) n) next
-    by true v =
-        let past : c.message_id < c.message_id + 1 = omega arith in
-        subst (λ ds. Turns s ds (number_after (counts s c) n) next)
-        (sym (without-none c.message_id cs (none_before kind below c.message_id (free (c.message_id + 1)) cs past v))) t.1
-    by false v = turns-rest s c.message_id below kind cs (number_after (counts s c) n) next v t.1
+    subst (λ b. Turns s (if not b then c ∷ without_message c.message_id cs else without_message c.message_id cs) (number_after (counts s c) n) next)
+    (sym here)
+    (at-test (λ b. IsWhole kind below (if b then free (c.message_id + 1) else begun c.message_id) cs → Turns s (without_message c.message_id cs)
+    (number_after (counts s c) n) next) c.ending_fragment
+    (λ e v.
+    let past : c.message_id < c.message_id + 1 = omega arith in
+    subst (λ ds. Turns s ds (number_after (counts s c) n) next)
+    (sym (without-none c.message_id cs (none_before kind below c.message_id (free (c.message_id + 1)) cs past v))) t.1)
+    (λ e v. turns-rest s c.message_id below kind cs (number_after (counts s c) n) next v t.1) w.3)
 
 -- ## Numbers one lower
 
@@ -104,7 +90,13 @@ lower-after false n = refl
 
 pub turns-lower : (s : ℕ) (cs : List ChunkPayloadData) (n next : ℕ) → Turns s cs n next → Turns s (change_where (is_on s) one_lower cs) (lower n) (lower next)
 turns-lower s [] n next t = ap lower t
-turns-lower s (c ∷ cs) n next t = by (c.stream_identifier == s) refl (turns-lower s cs (number_after (counts s c) n) next t.1)
+turns-lower s (c ∷ cs) n next t = at-if (λ z. Turns s (z ∷ change_where (is_on s) one_lower cs) (lower n) (lower next)) (c.stream_identifier == s)
+    (λ e. (numbered, moved (turns-lower s cs (number_after (counts s c) n) next t.1)))
+    (λ e. (
+      λ h. absurd (not_both (sym e ∙ (both (c.stream_identifier == s) c.beginning_fragment h).0)),
+      moved
+          (turns-lower s cs (number_after (counts s c) n) next t.1),
+    ))
   where
     numbered : counts s c ≡ true → lower c.stream_sequence_number ≡ lower n
     numbered e = ap lower (t.0 e)
@@ -113,20 +105,13 @@ turns-lower s (c ∷ cs) n next t = by (c.stream_identifier == s) refl (turns-lo
         → Turns s (change_where (is_on s) one_lower cs) (number_after (counts s c) (lower n)) (lower next)
     moved ih = subst (λ k. Turns s (change_where (is_on s) one_lower cs) k (lower next)) (lower-after (counts s c) n) ih
 
-    by : (b : Bool) → (c.stream_identifier == s) ≡ b → Turns s (change_where (is_on s) one_lower cs) (lower (number_after (counts s c) n)) (lower next)
-        → Turns s ((if b then one_lower c else c) ∷ change_where (is_on s) one_lower cs) (lower n) (lower next)
-    by true e ih = (numbered, moved ih)
-    by false e ih = (λ h. absurd (not_both (sym e ∙ (both (c.stream_identifier == s) c.beginning_fragment h).0)), moved ih)
-
 -- those of another stream stay
 pub turns-other : (r s : ℕ) → (r ≡ s → ⊥) → (cs : List ChunkPayloadData) (n next : ℕ) → Turns r cs n next → Turns r (change_where (is_on s) one_lower cs) n next
 turns-other r s differ [] n next t = t
-turns-other r s differ (c ∷ cs) n next t = by (c.stream_identifier == s) refl (turns-other r s differ cs (number_after (counts r c) n) next t.1)
-  where
-    by : (b : Bool) → (c.stream_identifier == s) ≡ b → Turns r (change_where (is_on s) one_lower cs) (number_after (counts r c) n) next
-        → Turns r ((if b then one_lower c else c) ∷ change_where (is_on s) one_lower cs) n next
-    by true e ih = (
-      λ h. absurd (differ (sym (same-is c.stream_identifier r (both (c.stream_identifier == r) c.beginning_fragment h).0) ∙ same-is c.stream_identifier s e)),
-      ih,
-    )
-    by false e ih = (t.0, ih)
+turns-other r s differ (c ∷ cs) n next t = at-if (λ z. Turns r (z ∷ change_where (is_on s) one_lower cs) n next) (c.stream_identifier == s)
+    (λ e. (
+      λ h. absurd (differ (sym (same-is c.stream_identifier r (both (c.stream_identifier == r) c.beginning_fragment h).0) ∙ same-is
+          c.stream_identifier s e)),
+      (turns-other r s differ cs (number_after (counts r c) n) next t.1),
+    ))
+    (λ e. (t.0, turns-other r s differ cs (number_after (counts r c) n) next t.1))

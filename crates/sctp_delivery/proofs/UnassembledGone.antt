@@ -1,40 +1,17 @@
 -- An unordered fragment that stays unassembled, up to a place that a FORWARD-TSN goes to, is of a message that is gone.
-use Rattle.std.proofs.Common.{◌≡◌, ℕ, ◌+◌, ◌<◌, ◌≤◌, ◌^◌, Bool, true, false, List, [], ◌∷◌, ◌++◌, length, Some, inl, inr, refl, ap, sym, subst, ◌∙◌, arith}
-use Rattle.std.specs.Prelude.{All, ◌&&◌, ◌||◌, if◌then◌else◌, nat_le}
-use Rattle.std.specs.List.{filter, list_all, list_any, sum_by}
-use Rattle.std.proofs.lemmas.Bool.{cases_lt, eq-eqb}
-use Rattle.std.proofs.lemmas.Bool.Decides.{nat_tests}
-use Rattle.std.proofs.lemmas.List.Folds.{list_all-append}
-use Rattle.std.proofs.lemmas.List.Sums.{sum_by-cons}
-use Rattle.sctp_util.specs.Serial.{at_or_before}
-use Rattle.sctp_util.proofs.Cases.{or-split, same-is}
-use Rattle.sctp_util.proofs.More.{both, fails, not_both}
-use Rattle.sctp_util.proofs.Round.{tsn}
-use Rattle.sctp_data.specs.declared.chunk.chunk_payload_data.ChunkPayloadData.{ChunkPayloadData}
-use Rattle.sctp_data.specs.ChunkSet.{ChunkSet}
-use Rattle.sctp_data.specs.PayloadData.{Data, data_of}
-use Rattle.sctp_reassembly.specs.reassembly_queue.Fragments.{is_complete}
-use Rattle.sctp_reassembly.specs.reassembly_queue.ReassemblyQueue.{Reassembly}
-use Rattle.sctp_receiver.specs.declared.receiver.inbound_streams.InboundStream.{InboundStream}
-use Rattle.sctp_receiver.specs.Receiver.{stream_of}
-use Rattle.sctp_receiver.specs.ReceiverRuns.{fragments_read, is_one_message}
-use Rattle.sctp_receiver.proofs.CompleteMessages.{all_complete}
-use Rattle.sctp_receiver.proofs.Handed.{held_weight}
-use Rattle.sctp_receiver.proofs.OneMessage.{is_unmixed}
-use Rattle.sctp_receiver.proofs.Weights.{set_weight}
-use Rattle.sctp_serial.specs.DataChunks.{has_tsn, is_on}
-use Rattle.sctp_delivery.specs.Complete.{fragments_of_sets, fragments_on}
-use Rattle.sctp_delivery.specs.Sacks.{are_apart, was_taken}
-use Rattle.sctp_delivery.specs.Session.{Session}
+use Rattle.sctp_delivery.proofs.Names.{◌≡◌, ℕ, ◌+◌, ◌<◌, ◌≤◌, ◌^◌, Bool, true, false, List, [], ◌∷◌, ◌++◌, length, Some, inl, inr, refl, ap, sym, subst, ◌∙◌}
+use Rattle.sctp_delivery.proofs.Names.{arith, All, ◌&&◌, ◌||◌, if◌then◌else◌, filter, list_all, list_any, sum_by, cases_lt, eq-eqb, list_all-append}
+use Rattle.sctp_delivery.proofs.Names.{sum_by-cons, nat_tests, common_steps, at_or_before, or-split, same-is, both, fails, not_both, tsn, ChunkPayloadData}
+use Rattle.sctp_delivery.proofs.Names.{ChunkSet, Data, data_of, is_complete, Reassembly, InboundStream, stream_of, fragments_read, is_one_message, all_complete}
+use Rattle.sctp_delivery.proofs.Names.{held_weight, is_unmixed, set_weight, has_tsn, is_on, fragments_of_sets, fragments_on, are_apart, was_taken, Session}
+use Rattle.sctp_delivery.proofs.Cases.{by-test}
 use Rattle.sctp_delivery.proofs.InTheEnd.{all-every, any-of, in-sets, none-data, sets-all, some-of}
 use Rattle.sctp_delivery.proofs.Delivered.{EachSent, found-sent}
 use Rattle.sctp_delivery.proofs.Every.{Every, every-of, every-both, every-pair}
-use Rattle.sctp_delivery.proofs.GoneMessages.{IsGone, taken-or-gone}
+use Rattle.sctp_delivery.proofs.PassingCalls.{IsGone, taken-or-gone}
 use Rattle.sctp_delivery.proofs.Kept as kept
 use Rattle.sctp_delivery.proofs.KeptOrGone.{HeldWell, IsHeldWell, IsKeptBut, IsLate, IsPassedBy}
-use Rattle.sctp_delivery.proofs.MessagePlaces.{EndsAt, IsEntryAt, same-entry, within}
-use Rattle.sctp_delivery.proofs.MessageSets.{entry-at, entry-of, place-tsn}
-use Rattle.sctp_delivery.proofs.MessageSpans.{IsSpan, shown-at, span-of}
+use Rattle.sctp_delivery.proofs.MessagePlaces.{EndsAt, IsEntryAt, same-entry, within, entry-at, entry-of, place-tsn, IsSpan, shown-at, span-of}
 use Rattle.sctp_delivery.proofs.OrderedEntries.{AreJoined}
 use Rattle.sctp_delivery.proofs.PassedMessages.{AreCutGone, AreTakenOrGone, EndsMessage, is_gone}
 use Rattle.sctp_delivery.proofs.FragmentPlaces.{Shows, at_place, shown}
@@ -44,8 +21,8 @@ use Rattle.sctp_delivery.proofs.Rising.{Covers, IsOf, run-of}
 use Rattle.sctp_delivery.proofs.Senders.{AreSent}
 use Rattle.sctp_delivery.proofs.Sent.{Entry, IsLine, IsPart, Numbered, WasSent, part-length}
 use Rattle.sctp_delivery.proofs.Sessions as sessions
-use Rattle.sctp_delivery.proofs.Tidy.{IsOrdered, IsTidySet}
-use Rattle.sctp_delivery.proofs.TsnPlaces.{at-or-before, base, same-place}
+use Rattle.sctp_delivery.proofs.KeptSets.{IsOrdered, IsTidySet}
+use Rattle.sctp_delivery.proofs.TsnPlaces.{base, same-place, upto-is}
 use Rattle.sctp_delivery.proofs.Whole.{read-whole, whole-of}
 
 module _ (ws : List Numbered) (first : ℕ) (sent : List Entry) (line : IsLine ws first sent) (joined : AreJoined sent) (n : ℕ)
@@ -94,17 +71,12 @@ module _ (ws : List Numbered) (first : ℕ) (sent : List Entry) (line : IsLine w
           let same = (same-entry ws first sent line joined j (data_of c) e r.0 w r.1 i).0 in
           let there : is_on st c ≡ true = eq-eqb c.stream_identifier st (ap (λ (x : Data). x.stream_identifier) same ∙ on) in
           let g = ap (λ b. sum_by (one (tsn p j)) (if b then c ∷ filter (is_on st) xs else filter (is_on st) xs)) there in
-          let m = sum_by-cons (one (tsn p j)) c (filter (is_on st) xs) in
           let b : one (tsn p j) c ≡ 1 = ap (λ b. if b then 1 else 0) h in
-          omega (arith, g, m, b)
+          omega (arith, g, sum_by-cons (one (tsn p j)) c (filter (is_on st) xs), b)
 
       more : (c : ChunkPayloadData) (xs : List ChunkPayloadData) → 0 < sum_by (one (tsn p j)) (filter (is_on st) xs)
           → 0 < sum_by (one (tsn p j)) (filter (is_on st) (c ∷ xs))
-      more c xs lt = by (is_on st c)
-        where
-          by : (b : Bool) → 0 < sum_by (one (tsn p j)) (if b then c ∷ filter (is_on st) xs else filter (is_on st) xs)
-          by true = let m = sum_by-cons (one (tsn p j)) c (filter (is_on st) xs) in omega (arith, m, lt)
-          by false = lt
+      more c xs lt = grind (arith, nat_tests, common_steps)
 
       among : (xs : List ChunkPayloadData) → Every Was xs → list_any (has_tsn (tsn p j)) xs ≡ true → 0 < sum_by (one (tsn p j)) (filter (is_on st) xs)
       among [] e h = absurd (not_both h)
@@ -153,19 +125,15 @@ module _ (ws : List Numbered) (first : ℕ) (sent : List Entry) (line : IsLine w
 
     equation : (t : ℕ) → taken-on t ≡ R t + (S t + U t + A t) + sum_by (one t) k.lost
     equation t =
-        let law = k.weighs (one t) in
-        let is = ap (held_weight (one t)) found in
-        omega (arith, law, is)
+        omega (arith, k.weighs (one t), ap (held_weight (one t)) found)
 
     -- all that is held was made
     held-list : list_all (sessions.made_among s.made) (fragments_of_sets q.ordered ++ (fragments_of_sets q.unordered ++ q.unassembled)) ≡ true
     held-list =
         let t = sessions.made_among s.made in
-        let law = k.weighs (sessions.fails t) in
         let z = sessions.none-fails t (is_on st) s.receiving.accepted made in
         let is = ap (held_weight (sessions.fails t)) found in
-        let w = kept.held-weighs (sessions.fails t) (Some l) in
-        sessions.all-pass t (fragments_on (Some l)) (omega (arith, law, z, is, w))
+        sessions.all-pass t (fragments_on (Some l)) (omega (arith, k.weighs (sessions.fails t), z, is, kept.held-weighs (sessions.fails t) (Some l)))
 
     abbrev Made : List ChunkPayloadData → Type 0
     Made cs = list_all (sessions.made_among s.made) cs ≡ true
@@ -222,29 +190,21 @@ module _ (ws : List Numbered) (first : ℕ) (sent : List Entry) (line : IsLine w
         at : (ss : List ChunkSet) → all_complete ss ≡ true → list_all (λ (x : ChunkSet). is_one_message x.chunks) ss ≡ true
             → Every (λ x. Every Was x.chunks) ss → 0 < sum_by (set_weight (one (tsn p j))) ss → 0 < sum_by (set_weight (one (tsn p y))) ss
         at [] e o w lt = absurd (omega (arith, lt))
-        at (x ∷ xs) e o w lt = by (list_any (has_tsn (tsn p j)) x.chunks) refl (at xs ec.1 oc.1 w.1)
+        at (x ∷ xs) e o w lt = by-test (list_any (has_tsn (tsn p j)) x.chunks)
+            (λ h.
+            let there = whole-of ws first sent (omega (arith, long, few)) line f show b j y begins upto inner le to open' x.chunks ec.0 oc.0
+            w.0 h in
+            omega (arith, some-of (tsn p y) x.chunks there, sum_by-cons (set_weight (one (tsn p y))) x xs))
+            (λ h.
+            let z = none-count (tsn p j) x.chunks h in
+            let m = sum_by-cons (set_weight (one (tsn p j))) x xs in
+            omega (arith, sum_by-cons (set_weight (one (tsn p y))) x xs, (at xs ec.1 oc.1 w.1) (omega (arith, z, m, lt))))
           where
             ec : (is_complete x.chunks ≡ true) × (all_complete xs ≡ true)
             ec = both (is_complete x.chunks) (all_complete xs) e
 
             oc : (is_one_message x.chunks ≡ true) × (list_all (λ (x : ChunkSet). is_one_message x.chunks) xs ≡ true)
             oc = both (is_one_message x.chunks) (list_all (λ (x : ChunkSet). is_one_message x.chunks) xs) o
-
-            by : (b : Bool) → list_any (has_tsn (tsn p j)) x.chunks ≡ b
-                → (0 < sum_by (set_weight (one (tsn p j))) xs → 0 < sum_by (set_weight (one (tsn p y))) xs)
-                → 0 < sum_by (set_weight (one (tsn p y))) (x ∷ xs)
-            by true h ih =
-                let there = whole-of ws first sent (omega (arith, long, few)) line f show b j y begins upto inner le to open' x.chunks ec.0 oc.0
-                w.0 h in
-                let c = some-of (tsn p y) x.chunks there in
-                let m = sum_by-cons (set_weight (one (tsn p y))) x xs in
-                omega (arith, c, m)
-            by false h ih =
-                let z = none-count (tsn p j) x.chunks h in
-                let m = sum_by-cons (set_weight (one (tsn p j))) x xs in
-                let v = sum_by-cons (set_weight (one (tsn p y))) x xs in
-                let r = ih (omega (arith, z, m, lt)) in
-                omega (arith, v, r)
 
     -- ## Up to a place
 
@@ -285,32 +245,25 @@ module _ (ws : List Numbered) (first : ℕ) (sent : List Entry) (line : IsLine w
                     let r = entry-at ws first sent line joined n long few c e.0 y most (same-is c.tsn (tsn p y) v) in
                     let same = (same-entry ws first sent line joined y (data_of c) d r.0 w r.1 i).0 in
                     ap (λ (z : Data). z.stream_identifier) (sym same) ∙ same-is c.stream_identifier st x
-                by true x false v lt' ih =
-                    let z : one (tsn p y) c ≡ 0 = ap (λ b. if b then 1 else 0) v in
-                    let u = sum_by-cons (one (tsn p y)) c (filter (is_on st) cs) in
-                    ih (omega (arith, z, u, lt'))
+                by true x false v lt' ih = grind (arith, nat_tests, common_steps, sum_by-cons (one (tsn p y)) c (filter (is_on st) cs))
 
         covers : Covers p g.start g.finish q.unassembled
         covers j from to =
             let one' = g.each j from to in
-            let below = g.below in
             let kind : (f j).unordered ≡ true = one'.1.0 ∙ unordered in
-            let upto-m : j ≤ m = omega (arith, to, below) in
+            let upto-m : j ≤ m = omega (arith, to, g.below) in
             let t : was_taken (tsn p j) s ≡ true =
             elim (taken-or-gone ws first sent line joined n long few gone cut s passed part came j (f j) w one'.0 upto-m) [
               | inl x ↦ x
               | inr x ↦ absurd (not_both (sym alive ∙ x))
             ] in
             let took = taken-there j (f j) w one'.0 (one'.1.1 ∙ on) t in
-            let e = equation (tsn p j) in
             let v = equation (tsn p y) in
             let z = one-each (tsn p y) in
-            let none = none-lost j (f j) w one'.0 alive in
             let start = g.upto in
-            let within' : j ≤ length sent = omega (arith, to, below, least) in
+            let within' : j ≤ length sent = omega (arith, to, g.below, least) in
             let inner : (l' : ℕ) → g.start < l' → l' ≤ j → (f l').beginning_fragment ≡ false = λ l' lt le. g.inner l' lt (omega (arith, le, to)) in
-            let over = g.from in
-            let open' : (l' : ℕ) → g.start ≤ l' → l' < y → (f l').ending_fragment ≡ false = λ l' ge lt. g.open' l' ge (omega (arith, lt, over)) in
+            let open' : (l' : ℕ) → g.start ≤ l' → l' < y → (f l').ending_fragment ≡ false = λ l' ge lt. g.open' l' ge (omega (arith, lt, g.from)) in
             any-of (tsn p j) q.unassembled (elim (cases_lt 0 (R (tsn p j))) [
               | inl read ↦
                   let x = read-whole ws first sent (omega (arith, long, few)) line f show g.start j y g.begins from inner within' start open' st
@@ -320,7 +273,7 @@ module _ (ws : List Numbered) (first : ℕ) (sent : List Entry) (line : IsLine w
                 | inl set ↦ absurd (not_both (sym (set-kind j (omega (arith, within', long)) set) ∙ kind))
                 | inr no-set ↦ elim (cases_lt 0 (U (tsn p j))) [
                   | inl full ↦ let x = set-whole g.start j y g.begins from inner within' start open' full in absurd (omega (arith, x, v, z, here))
-                  | inr no-full ↦ omega (arith, e, took, none, no-read, no-set, no-full)
+                  | inr no-full ↦ omega (arith, equation (tsn p j), took, none-lost j (f j) w one'.0 alive, no-read, no-set, no-full)
                 ]
               ]
             ])
@@ -338,10 +291,7 @@ module _ (ws : List Numbered) (first : ℕ) (sent : List Entry) (line : IsLine w
       pub gone-unassembled : (c : ChunkPayloadData) → Was c → c.unordered ≡ true → 0 < A c.tsn → at_or_before c.tsn (tsn p m) ≡ true → IsGone gone sent c
       gone-unassembled c w' kind here before =
           let r = entry-of ws first sent line joined n long few c w' in
-          let most = r.3 in
-          let t : nat_le r.0 m ≡ true =
-          sym (at-or-before p r.0 m (omega (arith, most, few)) (omega (arith, least, long, few))) ∙ ap (λ u. at_or_before u (tsn p m)) (sym r.4) ∙ before in
-          let upto : r.0 ≤ m = grind (arith, nat_tests, t) in
+          let upto = upto-is p r.0 m r.4 refl (omega (arith, few)) (omega (arith, least, long, few)) before in
           by r.0 r.1 r.2 upto (subst (λ u. 0 < A u) r.4 here) (is_gone gone r.1.place) refl
         where
           by : (y : ℕ) (w : Numbered) → IsEntryAt sent y (data_of c) w → y ≤ m → 0 < A (tsn p y) → (b : Bool) → is_gone gone w.place ≡ b → IsGone gone sent c

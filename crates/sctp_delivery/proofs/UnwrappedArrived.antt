@@ -1,20 +1,12 @@
 -- The fragments of a set by their places: where the set misses a TSN, a place of its message is missing.
-use Rattle.std.proofs.Common.{◌≡◌, ℕ, ◌+◌, ◌-◌, ◌^◌, ◌<◌, ◌≤◌, Bool, true, false, not, List, [], ◌∷◌, length, inl, inr, refl, ap, sym, ◌∙◌, arith}
-use Rattle.std.specs.Prelude.{⊤, ◌==◌, ◌&&◌, ◌||◌, if◌then◌else◌, nat_le}
-use Rattle.std.specs.List.{list_any}
-use Rattle.std.proofs.lemmas.Bool.{cases_lt}
-use Rattle.std.proofs.lemmas.Bool.Decides.{nat_tests}
-use Rattle.sctp_util.specs.Serial.{at_or_before}
-use Rattle.sctp_util.proofs.Cases.{negated, or-split, same-is, same-yes}
-use Rattle.sctp_util.proofs.More.{both, fails, not_both}
-use Rattle.sctp_util.proofs.Round.{tsn}
-use Rattle.sctp_data.specs.declared.chunk.chunk_payload_data.ChunkPayloadData.{ChunkPayloadData}
-use Rattle.sctp_reassembly.specs.reassembly_queue.Skips.{misses, misses_behind}
-use Rattle.sctp_serial.specs.DataChunks.{following_tsn, has_tsn, preceding_tsn}
+use Rattle.sctp_delivery.proofs.Names.{◌≡◌, ℕ, ◌+◌, ◌-◌, ◌^◌, ◌<◌, ◌≤◌, Bool, true, false, not, List, [], ◌∷◌, length, inl, inr, refl, ap, sym, ◌∙◌, arith, ⊤}
+use Rattle.sctp_delivery.proofs.Names.{◌==◌, ◌&&◌, ◌||◌, if◌then◌else◌, list_any, cases_lt, nat_tests, common_steps, at_or_before, negated, or-split, same-is}
+use Rattle.sctp_delivery.proofs.Names.{same-yes, both, fails, not_both, tsn, ChunkPayloadData, misses, misses_behind, following_tsn, has_tsn, preceding_tsn}
+use Rattle.sctp_delivery.proofs.Cases.{at-test}
 use Rattle.sctp_delivery.proofs.OrderedEntries.{AreJoined, Joins, begins_on, begun_on, ends_on, one}
 use Rattle.sctp_delivery.proofs.Sent.{Entry, fragment, part-itself, terminal}
 use Rattle.sctp_delivery.proofs.SpreadEntries.{at-here, at-more, at-part, begun_to, is_at, joined-rest, step-up, to-all, to-most, to-more}
-use Rattle.sctp_delivery.proofs.TsnPlaces.{at-or-before, next-place, same-place}
+use Rattle.sctp_delivery.proofs.TsnPlaces.{next-place, same-place, upto-is}
 
 -- n TSNs behind the base p. Q z: the place z is one of the message; all between two of these are
 module _ (p n : ℕ) (few : n < 2 ^ 31) (Q : ℕ → Type 0) (among : (j k l : ℕ) → Q j → Q k → j ≤ l → l ≤ k → Q l) where
@@ -41,12 +33,10 @@ module _ (p n : ℕ) (few : n < 2 ^ 31) (Q : ℕ → Type 0) (among : (j k l : �
   pub none-upto : (j k : ℕ) (cs : List ChunkPayloadData) → j ≤ k → j ≤ n → Rising k cs → list_any (has_tsn (tsn p j)) cs ≡ false
   none-upto j k [] le most r = refl
   none-upto j k (c ∷ cs) le most r =
-      let lt = r.0.past in
-      let w = r.0.within in
       let off : (c.tsn == tsn p j) ≡ false = fails (c.tsn == tsn p j) (λ e.
-      let same = same-place p r.0.place j (omega (arith, w, few)) (omega (arith, most, few)) (sym r.0.is ∙ same-is c.tsn (tsn p j) e) in
-      omega (arith, same, lt, le)) in
-      ap (λ b. b || list_any (has_tsn (tsn p j)) cs) off ∙ none-upto j r.0.place cs (omega (arith, lt, le)) most r.1
+      let same = same-place p r.0.place j (omega (arith, few)) (omega (arith, most, few)) (sym r.0.is ∙ same-is c.tsn (tsn p j) e) in
+      omega (arith, same, le)) in
+      ap (λ b. b || list_any (has_tsn (tsn p j)) cs) off ∙ none-upto j r.0.place cs (omega (arith, le)) most r.1
 
   -- a place of the message, at most m, whose TSN no chunk has
   pub record IsMissing (least m : ℕ) (cs : List ChunkPayloadData) : Type 0 where
@@ -60,18 +50,12 @@ module _ (p n : ℕ) (few : n < 2 ^ 31) (Q : ℕ → Type 0) (among : (j k l : �
     -- the place behind a chunk
     behind : (k : ℕ) (x : ChunkPayloadData) (b : IsBehind k x) → at_or_before (following_tsn x.tsn) (tsn p m) ≡ true → b.place + 1 ≤ m
     behind k x b e =
-        let w = b.within in
         let next : following_tsn x.tsn ≡ tsn p (b.place + 1) = ap following_tsn b.is ∙ next-place p b.place in
-        let t : nat_le (b.place + 1) m ≡ true = sym (at-or-before p (b.place + 1) m (omega (arith, w, few)) (omega (arith, le, few)))
-        ∙ ap (λ u. at_or_before u (tsn p m)) (sym next) ∙ e in
-        grind (arith, nat_tests, t)
+        upto-is p (b.place + 1) m next refl (omega (arith, few)) (omega (arith, le, few)) e
 
     -- the chunk itself stands elsewhere
     off : (k j : ℕ) (x : ChunkPayloadData) (b : IsBehind k x) → b.place < j → j ≤ n → (x.tsn == tsn p j) ≡ false
-    off k j x b lt most = fails (x.tsn == tsn p j) (λ e.
-        let w = b.within in
-        let same = same-place p b.place j (omega (arith, w, few)) (omega (arith, most, few)) (sym b.is ∙ same-is x.tsn (tsn p j) e) in
-        omega (arith, same, lt))
+    off k j x b lt most = grind (arith, nat_tests, common_steps)
 
     missing-behind : (k : ℕ) (x : ChunkPayloadData) (xs : List ChunkPayloadData) (b : IsBehind k x) → Rising b.place xs
         → misses_behind (tsn p m) x xs ≡ true → IsMissing (b.place + 1) m (x ∷ xs)
@@ -110,13 +94,12 @@ module _ (p n : ℕ) (few : n < 2 ^ 31) (Q : ℕ → Type 0) (among : (j k l : �
               let i = missing-behind b.place y ys r.0 r.1 a in
               let from = i.from in
               let upto = i.upto in
-              let past = r.0.past in
               record {
                 place = i.place;
-                from = omega (arith, from, past);
+                from = omega (arith, from);
                 upto = i.upto;
                 absent =
-                    ap (λ t. t || list_any (has_tsn (tsn p i.place)) (y ∷ ys)) (off k i.place x b (omega (arith, from, past)) (omega (arith, upto, le)))
+                    ap (λ t. t || list_any (has_tsn (tsn p i.place)) (y ∷ ys)) (off k i.place x b (omega (arith, from)) (omega (arith, upto, le)))
                     ∙ i.absent;
                 of = i.of;
               }
@@ -134,9 +117,7 @@ module _ (p n : ℕ) (few : n < 2 ^ 31) (Q : ℕ → Type 0) (among : (j k l : �
               let f = both (not x.beginning_fragment) (at_or_before (preceding_tsn x.tsn) (tsn p m)) a in
               let at : x.tsn ≡ tsn p (b.place - 1 + 1) = b.is ∙ ap (tsn p) {x = b.place} {y = b.place - 1 + 1} (omega (arith, past)) in
               let prior : preceding_tsn (tsn p (b.place - 1 + 1)) ≡ tsn p (b.place - 1) = omega arith in
-              let t : nat_le (b.place - 1) m ≡ true = sym (at-or-before p (b.place - 1) m (omega (arith, w, few)) (omega (arith, le, few)))
-              ∙ ap (λ u. at_or_before u (tsn p m)) (sym (ap preceding_tsn at ∙ prior)) ∙ f.1 in
-              let up : b.place - 1 ≤ m = grind (arith, nat_tests, t) in
+              let up = upto-is p (b.place - 1) m (ap preceding_tsn at ∙ prior) refl (omega (arith, w, few)) (omega (arith, le, few)) f.1 in
               record {
                 place = b.place - 1;
                 from = omega arith;
@@ -154,12 +135,9 @@ module _ (p n : ℕ) (few : n < 2 ^ 31) (Q : ℕ → Type 0) (among : (j k l : �
 
 pub at-within : (st k : ℕ) (sent : List Entry) → is_at st k sent ≡ true → k ≤ length sent
 at-within st k [] e = absurd (not_both e)
-at-within st k (x ∷ xs) e = by (length (x ∷ xs) == k) refl e (at-within st k xs)
-  where
-    by : (b : Bool) → (length (x ∷ xs) == k) ≡ b → (if b then ends_on st (x ∷ xs) else is_at st k xs) ≡ true
-        → (is_at st k xs ≡ true → k ≤ length xs) → k ≤ length (x ∷ xs)
-    by true h f ih = let same = same-is (length (x ∷ xs)) k h in omega (arith, same)
-    by false h f ih = let le = ih f in omega (arith, le)
+at-within st k (x ∷ xs) e = at-test (λ b. (if b then ends_on st (x ∷ xs) else is_at st k xs) ≡ true → k ≤ length (x ∷ xs)) (length (x ∷ xs) == k)
+    (λ h f. let same = same-is (length (x ∷ xs)) k h in omega (arith, same))
+    (λ h f. let le = (at-within st k xs) f in omega (arith, le)) e
 
 -- the last entry goes on with one of its message, where it begins none
 ends-before : (st : ℕ) (y : Entry) (ys : List Entry) → AreJoined (y ∷ ys) → ends_on st (y ∷ ys) ≡ true → begun_on st (y ∷ ys) ≡ begun_on st ys
@@ -174,9 +152,7 @@ ends-before st (fragment c w after) ys j e same = by c.beginning_fragment refl y
     by true h zs g = let n = ap one (counted h) in absurd (omega (arith, n, same))
     by false h [] g = absurd (not_both (sym h ∙ g))
     by false h (terminal ∷ zs) g = absurd (not_both (sym h ∙ g))
-    by false h (fragment d v rest ∷ zs) g =
-        let a = g.1 h in
-        ap (λ k. (k == st) && not d.unordered) a.2 ∙ ap (λ b. (c.stream_identifier == st) && not b) a.1 ∙ e
+    by false h (fragment d v rest ∷ zs) g = grind (arith, nat_tests, common_steps, g.1 h)
 
 -- between two entries of one message all are of it
 pub between : (st : ℕ) (sent : List Entry) → AreJoined sent → (j k l : ℕ) → is_at st j sent ≡ true → is_at st k sent ≡ true → j ≤ l → l ≤ k
@@ -189,16 +165,13 @@ between st (y ∷ ys) joined j k l a b le most same = elim (cases_lt k (length (
       (sym (at-more st k y ys (omega (arith, lt))) ∙ b) le most
       (sym (to-more st j y ys (omega (arith, lt, le, most))) ∙ same ∙ to-more st k y ys (omega (arith, lt)))
   | inr ge ↦
-      let within = at-within st k (y ∷ ys) b in
-      let last : k ≡ length (y ∷ ys) = omega (arith, ge, within) in
+      let last : k ≡ length (y ∷ ys) = omega (arith, ge, at-within st k (y ∷ ys) b) in
       elim (cases_lt l k) [
         | inr up ↦ let it : l ≡ k = omega (arith, up, most) in ap (λ m. is_at st m (y ∷ ys)) it ∙ b
         | inl less ↦
             let here = to-more st j y ys (omega (arith, last, less, le)) in
             let all = to-all st k (y ∷ ys) ge in
-            let few = to-most st j ys in
-            let up = step-up st y ys in
-            let none : begun_on st (y ∷ ys) ≡ begun_on st ys = omega (arith, here, all, few, up, same) in
+            let none : begun_on st (y ∷ ys) ≡ begun_on st ys = omega (arith, here, all, to-most st j ys, step-up st y ys, same) in
             let ends : ends_on st (y ∷ ys) ≡ true = sym (at-here st y ys k last) ∙ b in
             let prior = ends-before st y ys joined ends none in
             at-more st l y ys (omega (arith, last, less))

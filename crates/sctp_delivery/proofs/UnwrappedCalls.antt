@@ -1,43 +1,27 @@
 -- In each session the indexes of the ordered messages that are read on a stream rise: a call of the receiver.
-use Rattle.std.proofs.Common.{◌≡◌, ℕ, ◌+◌, ◌%◌, ◌^◌, ◌<◌, ◌≤◌, Bool, true, false, not, List, [], ◌∷◌, ◌++◌, map, Option, Some, None, inl, inr, refl, ap, sym}
-use Rattle.std.proofs.Common.{subst, ◌∙◌, arith}
-use Rattle.std.specs.Prelude.{◌⊎◌, ◌==◌, ◌&&◌, if◌then◌else◌, find, is_some, nat_le, nat_lt, option_map}
-use Rattle.std.specs.List.{filter, list_any}
-use Rattle.std.specs.Option.{option_or}
-use Rattle.std.proofs.lemmas.Bool.{cases_lt, eq-eqb}
-use Rattle.std.proofs.lemmas.Bool.Decides.{nat_tests}
-use Rattle.std.proofs.lemmas.List.Folds.{find-append}
-use Rattle.sctp_util.specs.Lists.{change_where, insert_before}
-use Rattle.sctp_util.specs.Serial.{at_or_before, comes_before}
-use Rattle.sctp_util.proofs.Cases.{negated, or-left, or-right, or-split, same-is}
-use Rattle.sctp_util.proofs.Edits.{list_any-inserted, list_any-those}
-use Rattle.sctp_util.proofs.More.{both, fails, not_both, same_test}
-use Rattle.sctp_util.proofs.Round.{tsn}
-use Rattle.sctp_data.specs.declared.chunk.chunk_payload_data.ChunkPayloadData.{ChunkPayloadData}
-use Rattle.sctp_data.specs.declared.chunk.chunk_forward_tsn.ChunkForwardTsnStream.{ChunkForwardTsnStream}
-use Rattle.sctp_data.specs.ChunkSet.{ChunkSet}
-use Rattle.sctp_data.specs.ForwardTsn.{ForwardTsn}
-use Rattle.sctp_serial.specs.DataChunks.{has_tsn, is_on}
-use Rattle.sctp_reassembly.specs.reassembly_queue.Fragments.{is_complete}
-use Rattle.sctp_reassembly.specs.reassembly_queue.ReassemblyQueue.{Reassembly, held_after_ordered_skip, held_after_unordered_skip, message_read}
-use Rattle.sctp_reassembly.specs.reassembly_queue.Skips.{cannot_complete, misses}
-use Rattle.sctp_receiver.specs.declared.receiver.inbound_streams.InboundStream.{InboundStream}
-use Rattle.sctp_receiver.specs.Inbound.{has_number, new_stream, number, skipped_each, ssns_of, stream_forwarded, stream_read, unassembled_forwarded, with_queue}
-use Rattle.sctp_receiver.specs.Receiver.{Accepts, Reception, filter_of, follow_forward_tsn, is_open, is_stale, message_of, message_on, stream_of}
-use Rattle.sctp_receiver.specs.ReceiverRuns.{Message, Stand, with_message}
-use Rattle.sctp_receiver.specs.Skips.{after_forward_tsn, incomplete_forwarded, is_ahead, names_closed, names_too_far, without_incomplete}
-use Rattle.sctp_receiver.specs.Ssns.{is_name_too_far, is_named_too_far, is_ssn_too_far, is_too_far_on}
-use Rattle.sctp_receiver.specs.TsnFilter.{has_come}
+use Rattle.sctp_delivery.proofs.Names.{◌≡◌, ℕ, ◌+◌, ◌%◌, ◌^◌, ◌<◌, ◌≤◌, Bool, true, false, not, List, [], ◌∷◌, ◌++◌, map, Option, Some, None, inl, inr, refl}
+use Rattle.sctp_delivery.proofs.Names.{ap, sym, subst, ◌∙◌, arith, ◌⊎◌, ◌==◌, ◌&&◌, if◌then◌else◌, find, nat_lt, option_map, filter, list_any, option_or}
+use Rattle.sctp_delivery.proofs.Names.{cases_lt, eq-eqb, nat_tests, find-append, change_where, insert_before, at_or_before, comes_before, negated, or-left}
+use Rattle.sctp_delivery.proofs.Names.{or-right, or-split, same-is, list_any-inserted, list_any-those, both, fails, not_both, tsn, ChunkPayloadData}
+use Rattle.sctp_delivery.proofs.Names.{ChunkForwardTsnStream, ChunkSet, ForwardTsn, has_tsn, is_on, is_complete, Reassembly, held_after_ordered_skip}
+use Rattle.sctp_delivery.proofs.Names.{held_after_unordered_skip, message_read, cannot_complete, misses, InboundStream, new_stream, number, skipped_each}
+use Rattle.sctp_delivery.proofs.Names.{ssns_of, stream_forwarded, stream_read, unassembled_forwarded, with_queue, Accepts, Reception, filter_of}
+use Rattle.sctp_delivery.proofs.Names.{follow_forward_tsn, is_open, is_stale, message_on, stream_of, Message, Stand, after_forward_tsn, incomplete_forwarded}
+use Rattle.sctp_delivery.proofs.Names.{is_ahead, names_closed, names_too_far, without_incomplete, is_name_too_far, is_named_too_far, is_ssn_too_far}
+use Rattle.sctp_delivery.proofs.Names.{is_too_far_on, has_come, is_pair_of, is_ordered_on, found-passes}
+use Rattle.std.specs.Prelude.{is_some}
+use Rattle.sctp_receiver.specs.Inbound.{has_number}
+use Rattle.sctp_receiver.specs.Receiver.{message_of}
+use Rattle.sctp_receiver.specs.ReceiverRuns.{with_message}
 use Rattle.sctp_receiver.proofs.Forwarded.{found-followed, found-mapped}
-use Rattle.sctp_sender.specs.Abandonment.{is_pair_of}
-use Rattle.sctp_sender.specs.Numbers.{is_ordered_on}
-use Rattle.sctp_sender.proofs.Lates.{found-passes}
+use Rattle.sctp_delivery.proofs.Cases.{by-test}
 use Rattle.sctp_delivery.proofs.Every.{Every, every-inserted, every-of, every-passing}
-use Rattle.sctp_delivery.proofs.StreamCalls.{accepted-on, changed-elsewhere, changed-here}
+use Rattle.sctp_delivery.proofs.Kept.{accepted-on, changed-elsewhere, changed-here}
 use Rattle.sctp_delivery.proofs.TakenTsns.{come}
-use Rattle.sctp_delivery.proofs.TsnPlaces.{at-or-before, before, same-place}
+use Rattle.sctp_delivery.proofs.TsnPlaces.{before, same-place, upto-yes, upto-is, past-is}
 use Rattle.sctp_delivery.proofs.UnwrappedReads.{AreSets, Gone, IsDue, IsKeptAt, has_place, in-window, incomplete-due, name-due, push-ordered, push-unordered}
-use Rattle.sctp_delivery.proofs.UnwrappedReads.{later-none, neither, read-due, recame, unassembled-due, unnot}
+use Rattle.sctp_delivery.proofs.UnwrappedReads.{later-none, read-due, recame, unassembled-due}
+use Rattle.sctp_delivery.proofs.Sessions.{neither, unnot}
 use Rattle.sctp_delivery.proofs.UnwrappedHolds as holds
 use Rattle.sctp_delivery.proofs.UnwrappedHolds.{Where, advance-back, advanced, at-in, beyond-more, on-of, rises-put, turn-more}
 use Rattle.sctp_delivery.proofs.OrderedMessages.{starts_ordered}
@@ -85,14 +69,13 @@ module _ (p st n : ℕ) (B : ℕ → ℕ) (E : ℕ → Bool) (M : ChunkPayloadDa
       where
         by : (o : Option InboundStream) (b : Bool) → DueOn C k reach o → DueOn C k reach (option_or o (if b then Some (new_stream s max) else None))
         by None true d =
-            let x = d.0 in
             let y = d.1 in
             record {
               index = 0;
               low = 0;
               next = omega arith;
               lowest = omega arith;
-              due = omega (arith, x);
+              due = omega arith;
               from = omega arith;
               near = omega arith;
               within = omega arith;
@@ -140,13 +123,8 @@ module _ (p st n : ℕ) (B : ℕ → ℕ) (E : ℕ → Bool) (M : ChunkPayloadDa
       past : d.arrived.place < g.before + 1
       past =
           let h = d.arrived in
-          let w = g.within in
-          let v = h.within in
           let e = (neither (at_or_before c.tsn old.receiver.cumulative_tsn) (list_any (λ t. t == c.tsn) old.receiver.beyond) fresh).0 in
-          let t : nat_le (g.before + 1) h.place ≡ false =
-          sym (at-or-before p (g.before + 1) h.place (omega (arith, w, few)) (omega (arith, v, few))) ∙ ap (λ u. at_or_before u (tsn p h.place)) (sym g.is)
-          ∙ ap (at_or_before c.tsn) (sym h.is) ∙ e in
-          grind (arith, nat_tests, t)
+          past-is p (g.before + 1) h.place g.is h.is (omega (arith, few)) (omega (arith, few)) e
 
       -- an ordered one that is not too far on is of an index less than half the circle past the lowest one
       pub window : B n ≤ B a + 2 ^ 14 → c.unordered ≡ false → (o : (i : ℕ) × (B (g.before + 1) ≡ i + 1) × (c.stream_sequence_number ≡ i % 2 ^ 16))
@@ -178,13 +156,12 @@ module _ (p st n : ℕ) (B : ℕ → ℕ) (E : ℕ → Bool) (M : ChunkPayloadDa
             → Covers more d.arrived.place old.receiver.cumulative_tsn (insert_before comes_before c.tsn old.receiver.beyond)
         inserted more le so =
             let h = d.arrived in
-            let v = h.covered in
             record {
               place = h.place;
               least_is = omega arith;
               within = h.within;
               is = h.is;
-              covered = omega (arith, v, le);
+              covered = omega (arith, le);
               each = every-inserted (IsBeyond more) comes_before c.tsn old.receiver.beyond
                   (record { before = g.before; within = g.within; is = g.is; so = so })
                   (every-of (IsBeyond d.reach) (IsBeyond more) (λ t. beyond-more p st n B E M few up d.reach more t le) old.receiver.beyond h.each);
@@ -232,7 +209,7 @@ module _ (p st n : ℕ) (B : ℕ → ℕ) (E : ℕ → Bool) (M : ChunkPayloadDa
 
         ordered : is_ordered_on st c ≡ true → AreDue d.arrived.place new
         ordered e = elim (cases_lt d.reach (i + 1)) [
-          | inl lt ↦ put (i + 1) (omega (arith, lt)) (omega arith) (let w = wide.1 in omega (arith, w)) (omega (arith, top, o.1))
+          | inl lt ↦ put (i + 1) (omega (arith, lt)) (omega arith) (omega (arith, wide.1)) (omega (arith, top, o.1))
           | inr ge ↦ put d.reach (omega arith) (omega (arith, ge)) dd.far d.most
         ]
           where
@@ -286,11 +263,7 @@ module _ (p st n : ℕ) (B : ℕ → ℕ) (E : ℕ → Bool) (M : ChunkPayloadDa
             less y le h = elim (back y le h) [ inl z ↦ z | inr z ↦ absurd (not_both (sym (ap E z.0 ∙ g.on ∙ e) ∙ z.1)) ]
 
         pub taken-due : AreDue d.arrived.place new
-        taken-due = by (is_ordered_on st c) refl
-          where
-            by : (b : Bool) → is_ordered_on st c ≡ b → AreDue d.arrived.place new
-            by true e = ordered e
-            by false e = other e
+        taken-due = by-test (is_ordered_on st c) ordered other
 
     -- a message is read
     module _ (a stream : ℕ) (old new : Stand) (d : AreDue a old)
@@ -347,28 +320,13 @@ module _ (p st n : ℕ) (B : ℕ → ℕ) (E : ℕ → Bool) (M : ChunkPayloadDa
               (AreInTurn d.k old.read)) (sym differ) d.turns
 
       pub read-on-due : AreDue d.arrived.place new
-      read-on-due = by (stream == st) refl
-        where
-          by : (b : Bool) → (stream == st) ≡ b → AreDue d.arrived.place new
-          by true e = here e (stream_of st old.receiver) refl
-          by false e = elsewhere e
+      read-on-due = by-test (stream == st) (λ e. here e (stream_of st old.receiver) refl) elsewhere
 
     -- ## A FORWARD-TSN
 
-    flip : (x y : ℕ) → (x == y) ≡ (y == x)
-    flip x y = same_test (x == y) (y == x) (λ e. eq-eqb y x (sym (same-is x y e))) (λ e. eq-eqb x y (sym (same-is y x e)))
-
     pub own-names : (ns : List ChunkForwardTsnStream) → ssns_of st ns ≡ map (λ x. x.sequence) (filter (is_pair_of st) ns)
     own-names [] = refl
-    own-names (x ∷ xs) =
-        ap (λ b. map (λ (y : ChunkForwardTsnStream). y.sequence) (if b then x ∷ filter (λ y. st == y.identifier) xs else filter (λ y. st == y.identifier) xs))
-        (flip st x.identifier) ∙ by (x.identifier == st) (own-names xs)
-      where
-        by : (b : Bool) → ssns_of st xs ≡ map (λ y. y.sequence) (filter (is_pair_of st) xs)
-            → map (λ (y : ChunkForwardTsnStream). y.sequence) (if b then x ∷ filter (λ y. st == y.identifier) xs else filter (λ y. st == y.identifier) xs)
-            ≡ map (λ (y : ChunkForwardTsnStream). y.sequence) (if b then x ∷ filter (is_pair_of st) xs else filter (is_pair_of st) xs)
-        by true ih = ap (λ ys. x.sequence ∷ ys) ih
-        by false ih = ih
+    own-names (x ∷ xs) = grind (arith, nat_tests)
 
     -- what misses a TSN up to that of a place misses a chunk of its message
     abbrev pub Misses : ℕ → Type 0
@@ -410,8 +368,7 @@ module _ (p st n : ℕ) (B : ℕ → ℕ) (E : ℕ → Bool) (M : ChunkPayloadDa
               ]
         ],
         gone-held missing index (r.0 + 1) top ss r.2 (λ z upto a lo from.
-            let x = r.1.0.0 in
-            elim (or-split (has z s) (list_any (has z) ss) (hold z upto a (omega (arith, lo, x)) from)) [
+            elim (or-split (has z s) (list_any (has z) ss) (hold z upto a (omega (arith, lo)) from)) [
               | inl h ↦ let b = (at-in p st n B E M few up) r.0 z s.chunks (omega (arith, upto, le)) r.1.1 h in absurd (omega (arith, b, lo))
               | inr h ↦ h
             ]),
@@ -430,11 +387,7 @@ module _ (p st n : ℕ) (B : ℕ → ℕ) (E : ℕ → Bool) (M : ChunkPayloadDa
       pub ahead-is : is_stale f old.receiver ≡ false → d.arrived.place < m
       ahead-is e =
           let h = d.arrived in
-          let v = h.within in
-          let t : nat_le m h.place ≡ false =
-          sym (at-or-before p m h.place (omega (arith, le, few)) (omega (arith, v, few))) ∙ ap (λ u. at_or_before u (tsn p h.place)) (sym is)
-          ∙ ap (at_or_before f.new_cumulative_tsn) (sym h.is) ∙ e in
-          grind (arith, nat_tests, t)
+          past-is p m h.place is h.is (omega (arith, le, few)) (omega (arith, few)) e
 
       -- of the one name of the stream what is refused of any does not hold
       pub none-among : (q : ChunkForwardTsnStream → Bool) → (is_ahead f old.receiver && list_any q f.streams) ≡ false → d.arrived.place < m
@@ -443,9 +396,7 @@ module _ (p st n : ℕ) (B : ℕ → ℕ) (E : ℕ → Bool) (M : ChunkPayloadDa
           let h = d.arrived in
           let v = h.within in
           let t : nat_lt h.place m ≡ true = grind (arith, nat_tests, lt) in
-          let lead : is_ahead f old.receiver ≡ true =
-          ap (λ u. comes_before u f.new_cumulative_tsn) h.is ∙ ap (comes_before (tsn p h.place)) is
-          ∙ before p h.place m (omega (arith, v, few)) (omega (arith, le, few)) ∙ t in
+          let lead : is_ahead f old.receiver ≡ true = cc (h.is, is, before p h.place m (omega (arith, v, few)) (omega (arith, le, few)), t) in
           let any : list_any q f.streams ≡ false = ap (λ b. b && list_any q f.streams) (sym lead) ∙ e in
           let those : list_any q (filter (is_pair_of st) f.streams) ≡ false = fails (list_any q (filter (is_pair_of st) f.streams))
           (λ h. not_both (sym any ∙ list_any-those q (is_pair_of st) f.streams h)) in
@@ -461,23 +412,18 @@ module _ (p st n : ℕ) (B : ℕ → ℕ) (E : ℕ → Bool) (M : ChunkPayloadDa
       pub name-within : B n ≤ B a + 2 ^ 14 → d.arrived.place < m → (j : ℕ) → j + 1 ≡ B m → (d.reach ≤ j + 1 + 2 ^ 14) × (j + 1 ≤ d.reach + 2 ^ 14)
       name-within near lt j last =
           let h = d.arrived in
-          let x = up h.place m (omega (arith, lt)) in
           let y = up a h.place h.least_is in
-          let z = h.covered in
-          let w = d.most in
-          let top = up m n le in
-          (omega (arith, w, near, y, x, last), omega (arith, top, near, y, z, last))
+          (omega (arith, near, y, up h.place m (omega (arith, lt)), last), omega (arith, up m n le, near, y, last))
 
       -- where it passes nothing of the stream, all up to it came
       pub clear-came : ((k : ℕ) → a < k → k ≤ m → E k ≡ false) → (y : ℕ) → y ≤ m → E y ≡ true → Came old.receiver.cumulative_tsn old.receiver.beyond y
       clear-came clear y upto on = elim (cases_lt d.arrived.place y) [
         | inl lt ↦ let x = d.arrived.least_is in absurd (not_both (sym (clear y (omega (arith, x, lt)) upto) ∙ on))
         | inr ge ↦
-            let v = d.arrived.within in
-            let t : nat_le y d.arrived.place ≡ true = grind (arith, nat_tests, ge) in (
+            let v = d.arrived.within in (
               on,
               or-left (at_or_before (tsn p y) old.receiver.cumulative_tsn) (list_any (λ u. u == tsn p y) old.receiver.beyond)
-                  (ap (at_or_before (tsn p y)) d.arrived.is ∙ at-or-before p y d.arrived.place (omega (arith, upto, le, few)) (omega (arith, v, few)) ∙ t),
+                  (upto-yes p y d.arrived.place refl d.arrived.is (omega (arith, upto, le, few)) (omega (arith, v, few)) ge),
             )
       ]
 
@@ -534,10 +480,9 @@ module _ (p st n : ℕ) (B : ℕ → ℕ) (E : ℕ → Bool) (M : ChunkPayloadDa
 
       arrived-upto : is_stale f old.receiver ≡ false → (more : ℕ) → d.reach ≤ more → B m ≤ more → Covers more d.arrived.place t rest
       arrived-upto e more up' covered =
-          let lt = ahead-is a f m old d le is e in
           record {
             place = m;
-            least_is = omega (arith, lt);
+            least_is = omega (arith, ahead-is a f m old d le is e);
             within = le;
             is = is;
             covered = covered;
@@ -552,9 +497,7 @@ module _ (p st n : ℕ) (B : ℕ → ℕ) (E : ℕ → Bool) (M : ChunkPayloadDa
           (subst (λ (r : Reception). come (tsn p y) r.cumulative_tsn r.beyond ≡ true) (now-is f old new after e) h.1) in
           elim (or-split (at_or_before (tsn p y) t) (list_any (λ u. u == tsn p y) rest) k) [
             | inl z ↦
-                let u : nat_le y m ≡ true = sym (at-or-before p y m (omega (arith, most, few)) (omega (arith, le, few)))
-                ∙ ap (at_or_before (tsn p y)) (sym is) ∙ z in
-                inl (grind (arith, nat_tests, u))
+                inl (upto-is p y m refl is (omega (arith, most, few)) (omega (arith, le, few)) z)
             | inr z ↦ inr (
               h.0,
               or-right (at_or_before (tsn p y) old.receiver.cumulative_tsn) (list_any (λ u. u == tsn p y) old.receiver.beyond)
@@ -585,7 +528,7 @@ module _ (p st n : ℕ) (B : ℕ → ℕ) (E : ℕ → Bool) (M : ChunkPayloadDa
       unnamed e none most clear = leads-to e d.reach (omega arith) d.most covered (by (stream_of st old.receiver) refl)
         where
           covered : B m ≤ d.reach
-          covered = let h = d.arrived in let y = up a h.place h.least_is in let z = h.covered in omega (arith, most, y, z)
+          covered = let h = d.arrived in let y = up a h.place h.least_is in omega (arith, most, y)
 
           came : (y : ℕ) → y ≤ m → E y ≡ true → Prior y
           came = clear-came a f m old d le is clear
@@ -623,30 +566,24 @@ module _ (p st n : ℕ) (B : ℕ → ℕ) (E : ℕ → Bool) (M : ChunkPayloadDa
           by (Some l) g =
               let held = subst (DueOn Prior d.k d.reach) g d.due in
               let w = name-within a f m old d le is near lt j last in
-              let top = up m n le in
               let s = name-due p n B Fits Prior (at-in p st n B E M few up) d.k d.reach j (j % 2 ^ 16) (B n) l.queue.held held refl w.0 w.1 d.most
-              (omega (arith, top, last)) (close a f m old d le is answered lt l g (j % 2 ^ 16) only) in
+              (omega (arith, up m n le, last)) (close a f m old d le is answered lt l g (j % 2 ^ 16) only) in
               let q = held_after_ordered_skip (j % 2 ^ 16) l.queue.held in
-              let v = s.passed in
               let now = recame p n B Fits Prior New d.k s.more q s.due (λ y within h. elim (came-by e y within h) [
-                | inl z ↦ inr (inl (let b = up y m z in omega (arith, b, v, last)))
+                | inl z ↦ inr (inl (let b = up y m z in omega (arith, b, last)))
                 | inr z ↦ inl z
               ]) in
               let u = unassembled-due p n B Fits New (at-in p st n B E M few up) d.k s.more t q now in
-              let past = gone-begun t m le is Prior missing s.due.index s.due.low s.more q.ordered s.due.sets (omega (arith, v, last)) in
-              let names : ssns_of l.queue.si f.streams ≡ j % 2 ^ 16 ∷ [] =
-              named-by a f m old d le is l g ∙ ap (map (λ (x : ChunkForwardTsnStream). x.sequence)) only in
-              let upto = s.upto in
-              leads-to e s.more s.up s.within (omega (arith, upto, last)) (subst (λ o. DueOn New d.k s.more (option_map change o)) (sym g)
+              let past = gone-begun t m le is Prior missing s.due.index s.due.low s.more q.ordered s.due.sets (omega (arith, last)) in
+              let names : ssns_of l.queue.si f.streams ≡ j % 2 ^ 16 ∷ [] = cc (named-by a f m old d le is l g, only) in
+              leads-to e s.more s.up s.within (omega (arith, last)) (subst (λ o. DueOn New d.k s.more (option_map change o)) (sym g)
               (subst (λ ssns. IsDue p n B Fits New d.k s.more (with-names ssns l).queue.held) (sym names)
               (incomplete-due p n B Fits New (at-in p st n B E M few up) d.k s.more t (held_after_unordered_skip t q) u past)))
 
       pub followed-due : AreDue d.arrived.place new
-      followed-due = by (is_stale f old.receiver) refl
-        where
-          by : (b : Bool) → is_stale f old.receiver ≡ b → AreDue d.arrived.place new
-          by true e =
-              let same = stale-same f old new after e in
-              quiet a old new d read (subst (λ (r : Reception). DueOn Prior d.k d.reach (stream_of st r)) (sym same) d.due)
-              (ap (λ (r : Reception). r.cumulative_tsn) same) (ap (λ (r : Reception). r.beyond) same)
-          by false e = elim naming [ inl x ↦ unnamed e x.0 x.1 x.2 | inr x ↦ named e x.0 x.1 x.2 ]
+      followed-due = by-test (is_stale f old.receiver)
+          (λ e.
+          let same = stale-same f old new after e in
+          quiet a old new d read (subst (λ (r : Reception). DueOn Prior d.k d.reach (stream_of st r)) (sym same) d.due)
+          (ap (λ (r : Reception). r.cumulative_tsn) same) (ap (λ (r : Reception). r.beyond) same))
+          (λ e. elim naming [ inl x ↦ unnamed e x.0 x.1 x.2 | inr x ↦ named e x.0 x.1 x.2 ])

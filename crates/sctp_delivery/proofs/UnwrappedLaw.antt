@@ -1,26 +1,87 @@
 -- The ordered messages of a stream are read in the order of their writes.
-use Rattle.std.proofs.Common.{◌≡◌, ℕ, ◌+◌, ◌^◌, ◌<◌, ◌≤◌, Bool, true, false, List, [], ◌∷◌, length, refl, ap, sym, subst, ◌∙◌, arith}
-use Rattle.std.specs.Prelude.{All, AllPairs, if◌then◌else◌}
-use Rattle.sctp_util.proofs.Edits.{pairs_cons}
-use Rattle.sctp_util.proofs.More.{not_both}
-use Rattle.sctp_data.specs.declared.chunk.chunk_payload_data.ChunkPayloadData.{ChunkPayloadData}
-use Rattle.sctp_data.specs.PayloadData.{Data, data_of}
-use Rattle.sctp_receiver.specs.ReceiverRuns.{Message}
-use Rattle.sctp_delivery.specs.Messages.{StandAt, WhileFewTsns}
-use Rattle.sctp_delivery.specs.Order.{AreReadInOrder, is_ordered_on, places_where}
+use Rattle.sctp_delivery.proofs.Names.{◌≡◌, ℕ, zero, suc, ◌<◌, ◌≤◌, true, false, not, List, [], ◌∷◌, inl, inr, ap, sym, subst, ◌∙◌, arith, ◌+◌, ◌^◌, Bool}
+use Rattle.sctp_delivery.proofs.Names.{length, refl, All, ◌==◌, AllPairs, if◌then◌else◌, list_all, negated, same-is, and, both, not_both, ChunkPayloadData}
+use Rattle.sctp_delivery.proofs.Names.{data_of, Data, Message, AreReadInOrder, pairs_cons, StandAt, WhileFewTsns}
+use Rattle.std.proofs.Common.{◌⊎◌}
+use Rattle.sctp_delivery.specs.Order.{is_ordered_on, places_where}
 use Rattle.sctp_delivery.proofs.Begun.{AreOnce}
 use Rattle.sctp_delivery.proofs.Delivered.{IsReadOf, read-in}
+use Rattle.sctp_delivery.proofs.OnceWritten.{one-first, EachRead, apart, each-read, places, stand}
+use Rattle.sctp_delivery.proofs.OrderedEntries.{AreRising, IsUnder, begun_on, part-fewer}
+use Rattle.sctp_delivery.proofs.OrderedPlaces.{AreNumbered, place-at}
+use Rattle.sctp_delivery.proofs.Sent.{Entry, IsPart, Numbered, fragment, part-itself, terminal, IsLine, WasSent, part-length, part-line}
+use Rattle.sctp_delivery.proofs.OrderedMessages.{is_in_order, starts_ordered}
 use Rattle.sctp_delivery.proofs.KeptSessions.{kept-in}
-use Rattle.sctp_delivery.proofs.OnceWritten.{EachRead, apart, each-read, places, stand}
-use Rattle.sctp_delivery.proofs.OrderedEntries.{AreRising, begun_on}
-use Rattle.sctp_delivery.proofs.OrderedLaw.{all-cons, before, starts, up_to}
-use Rattle.sctp_delivery.proofs.OrderedPlaces.{AreNumbered}
 use Rattle.sctp_delivery.proofs.ReadOnce as read_once
-use Rattle.sctp_delivery.proofs.Sent.{Entry, IsLine, Numbered, WasSent, part-length, part-line}
 use Rattle.sctp_delivery.proofs.SpreadEntries.{begun_to, is_at, to-part}
 use Rattle.sctp_delivery.proofs.TsnPlaces.{base}
 use Rattle.sctp_delivery.proofs.UnwrappedHolds.{AreInTurn, Fits, Where}
-use Rattle.sctp_delivery.proofs.OrderedMessages.{is_in_order}
+
+-- ## Parts of the line
+
+part-rising : (xs ys : List Entry) → IsPart ys xs → AreRising xs → AreRising ys
+part-rising [] ys p r = subst AreRising (sym p) r
+part-rising (x ∷ xs) ys (inl e) r = subst AreRising (sym e) r
+part-rising (terminal ∷ xs) ys (inr p) r = part-rising xs ys p r
+part-rising (fragment d w after ∷ xs) ys (inr p) r = part-rising xs ys p r.1
+
+part-under : (n : ℕ) (xs ys : List Entry) → IsPart ys xs → IsUnder n xs → IsUnder n ys
+part-under n [] ys p u = subst (IsUnder n) (sym p) u
+part-under n (x ∷ xs) ys (inl e) u = subst (IsUnder n) (sym e) u
+part-under n (terminal ∷ xs) ys (inr p) u = part-under n xs ys p u
+part-under n (fragment d w after ∷ xs) ys (inr p) u = part-under n xs ys p u.1
+
+-- one of two parts is a part of the other
+parts-meet : (sent ys zs : List Entry) → IsPart ys sent → IsPart zs sent → IsPart ys zs ⊎ IsPart zs ys
+parts-meet [] ys zs p q = inl (subst (λ t. IsPart t zs) (q ∙ sym p) (part-itself zs))
+parts-meet (x ∷ xs) ys zs (inl p) (inl q) = inl (subst (λ t. IsPart t zs) (q ∙ sym p) (part-itself zs))
+parts-meet (x ∷ xs) ys zs (inl p) (inr q) = inr (subst (IsPart zs) (sym p) (inr q))
+parts-meet (x ∷ xs) ys zs (inr p) (inl q) = inl (subst (IsPart ys) (sym q) (inr p))
+parts-meet (x ∷ xs) ys zs (inr p) (inr q) = parts-meet xs ys zs p q
+
+-- ## Messages
+
+pub all-cons : (P : ℕ → Type 0) (x : ℕ) (xs : List ℕ) → P x → All P xs → All P (x ∷ xs)
+all-cons P x xs h a zero d lt = h
+all-cons P x xs h a (suc k) d lt = a k d (omega (arith, lt))
+
+-- an ordered message begins with an ordered chunk
+pub starts : (st : ℕ) (m : Message) (c : ChunkPayloadData) (cs : List ChunkPayloadData) → m.fragments ≡ c ∷ cs → is_ordered_on st m ≡ true
+    → (m.stream ≡ st) × (c.unordered ≡ false) × (is_in_order st m ≡ true)
+starts st m c cs is e =
+    let b = both (m.stream == st) (list_all (λ x. not x.unordered) m.fragments) e in
+    let f = both (not c.unordered) (list_all (λ x. not x.unordered) cs) (subst (λ xs. list_all (λ x. not x.unordered) xs ≡ true) is b.1) in
+    (same-is m.stream st b.0, negated c.unordered f.0, and (m.stream == st) (starts_ordered m.fragments) b.0 (ap starts_ordered is ∙ f.0))
+
+-- the line up to the first chunk of a message
+abbrev pub up_to : (ns : List Numbered) (sent : List Entry) (m : Message) → IsReadOf ns sent m → List Entry
+up_to ns sent m x = fragment (data_of x.chunk) x.numbered x.after ∷ x.entries
+
+-- of two ordered messages the one with the greater index was written later
+module _ (ns : List Numbered) (sent : List Entry) (once : AreOnce sent) (rising : AreRising sent) (numbered : AreNumbered ns) (st : ℕ) (m o : Message)
+    (x : IsReadOf ns sent m) (y : IsReadOf ns sent o) (kx : x.chunk.unordered ≡ false) (ky : y.chunk.unordered ≡ false)
+    (more : begun_on st (up_to ns sent o y) < begun_on st (up_to ns sent m x)) (other : data_of x.chunk ≡ data_of y.chunk → ⊥) where
+  behind : IsPart (up_to ns sent o y) (up_to ns sent m x) → y.numbered.place ≤ x.numbered.place
+  behind (inl e) = absurd (let f = ap (begun_on st) e in let g = more in omega (arith, f, g))
+  behind (inr q) =
+      (part-under x.numbered.place x.entries (up_to ns sent o y) q ((part-rising sent (up_to ns sent m x) x.part rising).0 kx)).0 ky
+
+  either : IsPart (up_to ns sent m x) (up_to ns sent o y) ⊎ IsPart (up_to ns sent o y) (up_to ns sent m x) → y.numbered.place ≤ x.numbered.place
+  either (inl p) = absurd (let f = part-fewer st (up_to ns sent o y) (up_to ns sent m x) p in let g = more in omega (arith, f, g))
+  either (inr p) = behind p
+
+  differ : x.numbered.place ≡ y.numbered.place → ⊥
+  differ same =
+      other (one-first sent once (data_of x.chunk)
+      (data_of y.chunk) x.numbered y.numbered x.after y.after x.entries y.entries x.begins y.begins same x.part y.part)
+
+  pub before : x.written.0 < y.written.0
+  before =
+      let i = place-at ns x.written.0 x.numbered numbered x.written.1 x.written.2 in
+      let j = place-at ns y.written.0 y.numbered numbered y.written.1 y.written.2 in
+      omega (arith, i, j, either (parts-meet sent (up_to ns sent m x) (up_to ns sent o y) x.part y.part), differ)
+
+-- # The ordered messages of a stream are read in the order of their writes.
 
 module _ (st first n : ℕ) (ns : List Numbered) (sent : List Entry) (few : n < 2 ^ 31) (long : length sent ≡ n) (line : IsLine ns first sent)
     (once : AreOnce sent) (rising : AreRising sent) (numbered : AreNumbered ns) (T : Message → ℕ → Bool)
@@ -36,31 +97,19 @@ module _ (st first n : ℕ) (ns : List Numbered) (sent : List Entry) (few : n < 
   index-is m x i h =
       let o = (subst (Piece i) x.fragments h).0 in
       let number = (part-line ns first sent (up_to ns sent m x) x.part line).0.number in
-      let most = part-length sent (up_to ns sent m x) x.part in
-      let is = o.is in
-      let w = o.within in
-      let same : length (up_to ns sent m x) ≡ o.before + 1 = omega (arith, number, most, is, w, long, few) in
+      let same : length (up_to ns sent m x) ≡ o.before + 1 = omega (arith, number, part-length sent (up_to ns sent m x) x.part, long, few) in
       sym (to-part st sent (up_to ns sent m x) x.part) ∙ ap (λ k. begun_to st k sent) same ∙ o.begun
 
   -- the later index
   by-index : (m o : Message) (x : IsReadOf ns sent m) (y : IsReadOf ns sent o) (i j : ℕ) → Piece i m.fragments → Piece j o.fragments → j < i
       → x.chunk.unordered ≡ false → y.chunk.unordered ≡ false → x.written.0 < y.written.0
   by-index m o x y i j h g lt kx ky =
-      let a = index-is m x i h in
-      let b = index-is o y j g in
-      before ns sent once rising numbered st m o x y kx ky (omega (arith, a, b, lt)) (λ it.
+      before ns sent once rising numbered st m o x y kx ky (omega (arith, index-is m x i h, index-is o y j g, lt)) (λ it.
       (let t = ap (λ (d : Data). d.tsn) it in
       let p = (subst (Piece i) x.fragments h).0 in
       let q = (subst (Piece j) y.fragments g).0 in
-      let u = p.is in
-      let v = q.is in
-      let c = p.within in
-      let d = q.within in
-      let same : p.before + 1 ≡ q.before + 1 = omega (arith, t, u, v, c, d, few) in
-      let e = ap (λ k. begun_to st k sent) same in
-      let k = p.begun in
-      let l = q.begun in
-      omega (arith, e, k, l, lt)))
+      let same : p.before + 1 ≡ q.before + 1 = omega (arith, t, few) in
+      omega (arith, ap (λ k. begun_to st k sent) same, lt)))
 
   -- an ordered message, and those that were read before it
   module _ (m : Message) (x : IsReadOf ns sent m) (i : ℕ) (h : Piece i m.fragments) (kx : x.chunk.unordered ≡ false) where
@@ -77,9 +126,8 @@ module _ (st first n : ℕ) (ns : List Numbered) (sent : List Entry) (few : n < 
         by true f false g u ih = absurd (not_both (sym g ∙ (starts' o e.0 f).1))
         by true f true g u ih =
             let s = starts' o e.0 f in
-            let l = u.1 in
             all-cons (λ q. x.written.0 < q) e.0.written.0 (places_where T os (places ns sent once os e.1))
-            (by-index m o x e.0 i u.0 h u.2 (omega (arith, l, le)) kx s.0) (ih u.0 (omega (arith, l, le)) u.3)
+            (by-index m o x e.0 i u.0 h u.2 (omega (arith, le)) kx s.0) (ih u.0 (omega (arith, le)) u.3)
         by false f true g u ih = let l = u.1 in ih u.0 (omega (arith, l, le)) u.3
         by false f false g u ih = ih k le u
 

@@ -1,50 +1,31 @@
 -- What a stream holds of ordered messages, each by its index: so many were begun before it. Its number is the index modulo 2^16, and all
 -- that is held lies less than half the circle past the lowest message that is still to be read.
-use Rattle.std.proofs.Common.{◌≡◌, ℕ, ◌+◌, ◌-◌, ◌%◌, ◌^◌, ◌<◌, ◌≤◌, Bool, true, false, not, List, [], ◌∷◌, ◌++◌, take, drop, Option, Some, None, inl, inr, refl}
-use Rattle.std.proofs.Common.{ap, sym, subst, ◌∙◌, arith}
-use Rattle.std.specs.Prelude.{⊤, ◌⊎◌, ◌==◌, ◌&&◌, ◌||◌, if◌then◌else◌, is_some, nat_le, nat_lt}
-use Rattle.std.specs.List.{filter, list_any}
-use Rattle.std.proofs.lemmas.Bool.{cases_lt}
-use Rattle.std.proofs.lemmas.Bool.Decides.{nat_tests}
-use Rattle.std.proofs.lemmas.Option.{none-some}
-use Rattle.sctp_util.specs.Lists.{after_leading, change_first, insert_before}
-use Rattle.sctp_util.specs.Serial.{at_or_before, at_or_before16, comes_before16, distance16}
-use Rattle.sctp_util.proofs.Cases.{or-left, or-right, or-split, same-is, same-yes, some-same}
-use Rattle.sctp_util.proofs.More.{and, both, not_both}
-use Rattle.sctp_util.proofs.Round.{tsn}
-use Rattle.sctp_util.proofs.Wraps.{at_or_before16-index, comes_before16-index, next16}
-use Rattle.sctp_data.specs.declared.chunk.chunk_payload_data.ChunkPayloadData.{ChunkPayloadData}
-use Rattle.sctp_data.specs.ChunkSet.{ChunkSet}
-use Rattle.sctp_serial.specs.DataChunks.{chunk_before, has_tsn}
-use Rattle.sctp_reassembly.specs.reassembly_queue.Fragments.{has_ssn, is_complete, new_set, set_before, sets_with, with_chunk}
-use Rattle.sctp_reassembly.specs.reassembly_queue.ReassemblyQueue.{BecomesComplete, Reassembly, ReassemblyState, TakesRun, after_read, front_readable}
-use Rattle.sctp_reassembly.specs.reassembly_queue.ReassemblyQueue.{held_after_ordered_skip, held_after_unordered_skip, is_passed, is_readable, message_among}
-use Rattle.sctp_reassembly.specs.reassembly_queue.ReassemblyQueue.{message_read, rest_among, rest_read, set_of_run}
-use Rattle.sctp_reassembly.specs.reassembly_queue.Skips.{cannot_complete, held_after_incomplete_skip, ssn_past_sets}
-use Rattle.sctp_receiver.specs.Inbound.{Pushes, PushesAs}
-use Rattle.sctp_receiver.specs.Ssns.{is_name_too_far, is_ssn_too_far, lowest_among, lowest_ssn}
+use Rattle.sctp_delivery.proofs.Names.{◌≡◌, ℕ, ◌+◌, ◌-◌, ◌%◌, ◌^◌, ◌<◌, ◌≤◌, Bool, true, false, not, List, [], ◌∷◌, ◌++◌, take, drop, Option, Some, None, inl}
+use Rattle.sctp_delivery.proofs.Names.{inr, refl, ap, sym, subst, ◌∙◌, arith, ⊤, ◌⊎◌, ◌==◌, ◌&&◌, ◌||◌, if◌then◌else◌, nat_le, nat_lt, filter, list_any}
+use Rattle.sctp_delivery.proofs.Names.{cases_lt, nat_tests, none-some, after_leading, change_first, insert_before, at_or_before, at_or_before16, comes_before16}
+use Rattle.sctp_delivery.proofs.Names.{or-left, or-right, or-split, same-is, same-yes, some-same, both, not_both, tsn, at_or_before16-index}
+use Rattle.sctp_delivery.proofs.Names.{comes_before16-index, next16, ChunkPayloadData, ChunkSet, chunk_before, has_tsn, has_ssn, is_complete, new_set}
+use Rattle.sctp_delivery.proofs.Names.{set_before, sets_with, BecomesComplete, Reassembly, ReassemblyState, after_read, front_readable, held_after_ordered_skip}
+use Rattle.sctp_delivery.proofs.Names.{held_after_unordered_skip, is_passed, is_readable, message_read, rest_among, rest_read, set_of_run, cannot_complete}
+use Rattle.sctp_delivery.proofs.Names.{held_after_incomplete_skip, Pushes, PushesAs, is_name_too_far, is_ssn_too_far, lowest_among, lowest_ssn}
+use Rattle.std.specs.Prelude.{is_some}
+use Rattle.sctp_util.specs.Serial.{distance16}
+use Rattle.sctp_reassembly.specs.reassembly_queue.Fragments.{with_chunk}
+use Rattle.sctp_reassembly.specs.reassembly_queue.ReassemblyQueue.{TakesRun}
+use Rattle.sctp_reassembly.specs.reassembly_queue.ReassemblyQueue.{message_among}
+use Rattle.sctp_reassembly.specs.reassembly_queue.Skips.{ssn_past_sets}
+use Rattle.sctp_delivery.proofs.Cases.{at-if, at-test, by-test}
 use Rattle.sctp_delivery.proofs.Every.{Every, every-inserted, every-joined, every-left, every-taken}
 use Rattle.sctp_delivery.proofs.KeptSets as sets
 use Rattle.sctp_delivery.proofs.KeptSets.{front-read, put-sets, sets-those, sets-to, strictly, without_front}
 use Rattle.sctp_delivery.proofs.TakenTsns.{any-inserted}
+use Rattle.sctp_delivery.proofs.Sessions.{neither, unnot}
 use Rattle.sctp_delivery.proofs.OrderedMessages.{IsUnorderedSet, starts_ordered}
-
-pub neither : (a b : Bool) → (a || b) ≡ false → (a ≡ false) × (b ≡ false)
-neither true b e = absurd (not_both (sym e))
-neither false b e = (refl, e)
-
-pub unnot : (b : Bool) → not b ≡ false → b ≡ true
-unnot true e = refl
-unnot false e = absurd (not_both (sym e))
 
 -- what is so of all is so of those that are left behind the first ones
 pub leading-each : (P : ChunkPayloadData → Type 0) (p : ChunkPayloadData → Bool) (xs : List ChunkPayloadData) → Every P xs → Every P (after_leading p xs)
 leading-each P p [] h = tt
-leading-each P p (x ∷ xs) h = by (p x) (leading-each P p xs h.1)
-  where
-    by : (b : Bool) → Every P (after_leading p xs) → Every P (if b then after_leading p xs else x ∷ xs)
-    by true ih = ih
-    by false ih = h
+leading-each P p (x ∷ xs) h = at-if (Every P) (p x) (λ e. leading-each P p xs h.1) (λ e. h)
 
 -- a number less than half the circle past another one, by their indexes
 window : (low j : ℕ) → low ≤ j + 2 ^ 15 → j < low + 2 ^ 16 → distance16 (low % 2 ^ 16) (j % 2 ^ 16) < 2 ^ 15 → (low ≤ j) × (j < low + 2 ^ 15)
@@ -144,28 +125,21 @@ module _ (p n : ℕ) (B : ℕ → ℕ) (Fits : ℕ → List ChunkPayloadData →
 
         by : (ss : List ChunkSet) → q.ordered ≡ ss → AreSets low reach ss → (d : IsDue k reach q) × (d.index ≡ index)
         by [] e a = build index (ap (lowest_among q.next_ssn) e ∙ next) from (omega arith) (subst (AreSets index reach) (sym e) tt)
-        by (s ∷ ss) e a = at (at_or_before16 s.ssn q.next_ssn) refl
+        by (s ∷ ss) e a = by-test (at_or_before16 s.ssn q.next_ssn)
+            (λ f.
+            let t : nat_le i index ≡ true = sym order ∙ f in
+            build i (ap (lowest_among q.next_ssn) e ∙ ap (λ b. if b then s.ssn else q.next_ssn) f ∙ a.1.0.2) a.1.0.0 (grind (arith, nat_tests, t))
+            (subst (AreSets i reach) (sym e) (i, ((omega arith, a.1.0.1, a.1.0.2), a.1.1), a.2)))
+            (λ f.
+            let lt : index < i = grind (arith, nat_tests, sym order ∙ f) in
+            build index (ap (lowest_among q.next_ssn) e ∙ ap (λ b. if b then s.ssn else q.next_ssn) f ∙ next) from (omega arith)
+            (subst (AreSets index reach) (sym e) (i, ((omega (arith, lt), a.1.0.1, a.1.0.2), a.1.1), a.2)))
           where
             i : ℕ
             i = a.0
 
             order : at_or_before16 s.ssn q.next_ssn ≡ nat_le i index
-            order =
-                let x = a.1.0.0 in
-                let y = a.1.0.1 in
-                ap (λ n. at_or_before16 n q.next_ssn) a.1.0.2 ∙ ap (at_or_before16 (i % 2 ^ 16)) next
-                ∙ at_or_before16-index i index (omega (arith, y, far, from)) (omega (arith, x, near))
-
-            at : (b : Bool) → at_or_before16 s.ssn q.next_ssn ≡ b → (d : IsDue k reach q) × (d.index ≡ index)
-            at true f =
-                let t : nat_le i index ≡ true = sym order ∙ f in
-                build i (ap (lowest_among q.next_ssn) e ∙ ap (λ b. if b then s.ssn else q.next_ssn) f ∙ a.1.0.2) a.1.0.0 (grind (arith, nat_tests, t))
-                (subst (AreSets i reach) (sym e) (i, ((omega arith, a.1.0.1, a.1.0.2), a.1.1), a.2))
-            at false f =
-                let t : nat_le i index ≡ false = sym order ∙ f in
-                let lt : index < i = grind (arith, nat_tests, t) in
-                build index (ap (lowest_among q.next_ssn) e ∙ ap (λ b. if b then s.ssn else q.next_ssn) f ∙ next) from (omega arith)
-                (subst (AreSets index reach) (sym e) (i, ((omega (arith, lt), a.1.0.1, a.1.0.2), a.1.1), a.2))
+            order = cc (a.1.0.2, next, at_or_before16-index i index (omega (arith, far, from)) (omega (arith, near)))
 
     -- ## A fragment comes
 
@@ -174,10 +148,7 @@ module _ (p n : ℕ) (B : ℕ → ℕ) (Fits : ℕ → List ChunkPayloadData →
         → is_ssn_too_far ssn q ≡ false → (d.low ≤ i) × (i < d.low + 2 ^ 15)
     in-window k reach i ssn q d is a b e =
         let near : distance16 (lowest_ssn q) ssn < 2 ^ 15 = grind (arith, nat_tests, e) in
-        let c = d.from in
-        let f = d.within in
-        let g = d.far in
-        window d.low i (omega (arith, a, c, f)) (omega (arith, b, g))
+        window d.low i (omega (arith, a)) (omega (arith, b))
         (subst (λ n. distance16 n (i % 2 ^ 16) < 2 ^ 15) d.lowest (subst (λ n. distance16 (lowest_ssn q) n < 2 ^ 15) is near))
 
     run-each : (P : ChunkPayloadData → Type 0) (xs : List ChunkPayloadData) → Every P xs → Every P (set_of_run xs).chunks
@@ -217,15 +188,15 @@ module _ (p n : ℕ) (B : ℕ → ℕ) (Fits : ℕ → List ChunkPayloadData →
     -- an unordered one
     pub push-unordered : (k reach : ℕ) (c : ChunkPayloadData) (answered : Bool) (old new : ReassemblyState) → c.unordered ≡ true → Pushes c answered old new
         → IsDue k reach old.held → IsDue k reach new.held
-    push-unordered k reach c answered old new u p d = by answered (subst (λ b. PushesAs b c answered old new) u p).0
+    push-unordered k reach c answered old new u p d = at-test
+        (λ b. BecomesComplete (insert_before chunk_before c old.held.unassembled) old.held new.held b → IsDue k reach new.held) answered
+        (λ e t. taken-due k reach (insert_before chunk_before c old.held.unassembled) old.held new.held t all d)
+        (λ e t. subst (IsDue k reach) (sym t.1)
+        (unordered-due k reach old.held (record old.held { unassembled = insert_before chunk_before c old.held.unassembled }) refl refl
+        d.unordered all d)) (subst (λ b. PushesAs b c answered old new) u p).0
       where
         all : Every (λ x. x.unordered ≡ true) (insert_before chunk_before c old.held.unassembled)
         all = every-inserted (λ x. x.unordered ≡ true) chunk_before c old.held.unassembled u d.unassembled
-
-        by : (b : Bool) → BecomesComplete (insert_before chunk_before c old.held.unassembled) old.held new.held b → IsDue k reach new.held
-        by true t = taken-due k reach (insert_before chunk_before c old.held.unassembled) old.held new.held t all d
-        by false t = subst (IsDue k reach) (sym t.1)
-            (unordered-due k reach old.held (record old.held { unassembled = insert_before chunk_before c old.held.unassembled }) refl refl d.unordered all d)
 
     abbrev wider : (k reach more : ℕ) (q : Reassembly) (d : IsDue k reach q) → reach ≤ more → more ≤ d.low + 2 ^ 15 → IsDue k more q
     wider k reach more q d le far = record {
@@ -236,7 +207,7 @@ module _ (p n : ℕ) (B : ℕ → ℕ) (Fits : ℕ → List ChunkPayloadData →
       due = d.due;
       from = d.from;
       near = d.near;
-      within = let h = d.within in omega (arith, h, le);
+      within = omega (arith, le);
       far = far;
       sets = sets-to Fits d.low reach more q.ordered le d.sets;
       kept = d.kept;
@@ -301,33 +272,28 @@ module _ (p n : ℕ) (B : ℕ → ℕ) (Fits : ℕ → List ChunkPayloadData →
         → more ≤ d.low + 2 ^ 15 → Pushes c answered old new → (e : IsDue k more new.held) × IsKeptAt e.index new.held.ordered y
     push-ordered k reach more i y c answered old new d u single put is at begun low top le top' far p' =
         subst (λ (s : ReassemblyState). (e : IsDue k more s.held) × IsKeptAt e.index s.held.ordered y)
-        (sym (subst (λ b. PushesAs b c answered old new) u p').0) (by (comes_before16 c.stream_sequence_number old.held.next_ssn) refl)
+        (sym (subst (λ b. PushesAs b c answered old new) u p').0)
+        (at-test (λ b. (e : IsDue k more (if b then old.held else record old.held { ordered = sets_with c old.held.ordered })) × IsKeptAt e.index
+        (if b then old.held else record old.held { ordered = sets_with c old.held.ordered }).ordered y)
+        (comes_before16 c.stream_sequence_number old.held.next_ssn)
+        (λ h.
+        let lt : i < d.index = grind (arith, nat_tests, sym order ∙ h) in
+        (wider k reach more old.held d le far, inl (omega (arith, begun, lt))))
+        (λ h.
+        let kept : IsKept d.index (sets_with c old.held.ordered) = λ z most came. elim (d.kept z most came) [
+          | inl g ↦ inl g
+          | inr g ↦ inr (put-place c z old.held.ordered (inr g))
+        ] in
+        let s = settled k d.low d.index more (record old.held { ordered = sets_with c old.held.ordered }) d.next d.due d.from d.near e.within
+        far
+        (put-sets Fits c i single put is d.low more old.held.ordered low top' far e.sets) kept d.unordered d.unassembled in
+        (s.0, inr (put-place c y old.held.ordered (inl at)))))
       where
         e : IsDue k more old.held
         e = wider k reach more old.held d le far
 
         order : comes_before16 c.stream_sequence_number old.held.next_ssn ≡ nat_lt i d.index
-        order =
-            let f = d.from in
-            let n' = d.near in
-            ap (λ m. comes_before16 m old.held.next_ssn) is ∙ ap (comes_before16 (i % 2 ^ 16)) d.next
-            ∙ comes_before16-index i d.index (omega (arith, top, f)) (omega (arith, n', low))
-
-        by : (b : Bool) → comes_before16 c.stream_sequence_number old.held.next_ssn ≡ b
-            → (e : IsDue k more (if b then old.held else record old.held { ordered = sets_with c old.held.ordered }))
-            × IsKeptAt e.index (if b then old.held else record old.held { ordered = sets_with c old.held.ordered }).ordered y
-        by true h =
-            let t : nat_lt i d.index ≡ true = sym order ∙ h in
-            let lt : i < d.index = grind (arith, nat_tests, t) in
-            (wider k reach more old.held d le far, inl (omega (arith, begun, lt)))
-        by false h =
-            let kept : IsKept d.index (sets_with c old.held.ordered) = λ z most came. elim (d.kept z most came) [
-              | inl g ↦ inl g
-              | inr g ↦ inr (put-place c z old.held.ordered (inr g))
-            ] in
-            let s = settled k d.low d.index more (record old.held { ordered = sets_with c old.held.ordered }) d.next d.due d.from d.near e.within far
-            (put-sets Fits c i single put is d.low more old.held.ordered low top' far e.sets) kept d.unordered d.unassembled in
-            (s.0, inr (put-place c y old.held.ordered (inl at)))
+        order = cc (is, d.next, comes_before16-index i d.index (omega (arith, top)) (omega (arith, low)))
 
     -- ## A message is read
 
@@ -347,13 +313,7 @@ module _ (p n : ℕ) (B : ℕ → ℕ) (Fits : ℕ → List ChunkPayloadData →
           up = a.1.0.1
 
           order : nat_le i d.index ≡ true
-          order =
-              let f = d.far in
-              let g = d.from in
-              let n = d.near in
-              sym (ap (λ n. at_or_before16 n q.next_ssn) a.1.0.2 ∙ ap (at_or_before16 (i % 2 ^ 16)) d.next
-              ∙ at_or_before16-index i d.index (omega (arith, up, f, g)) (omega (arith, low, n)))
-              ∙ (both (is_complete s.chunks) (at_or_before16 s.ssn q.next_ssn) e).1
+          order = grind (arith, nat_tests, d.near)
 
           kept : (m : ℕ) → i + 1 ≤ m → d.index ≤ m → IsKept m ss
           kept m from at y le came = elim (d.kept y le came) [
@@ -367,26 +327,22 @@ module _ (p n : ℕ) (B : ℕ → ℕ) (Fits : ℕ → List ChunkPayloadData →
           build : (n next : ℕ) → next ≡ n % 2 ^ 16 → i + 1 ≤ n → d.index ≤ n → n ≤ d.index + 1 → n ≤ reach
               → IsDue (i + 1) reach (record q { ordered = ss; next_ssn = next })
           build n next e from at most within =
-              let f = d.far in
-              let g = d.near in
-              (settled (i + 1) (i + 1) n reach (record q { ordered = ss; next_ssn = next }) e (omega arith) from (omega (arith, most, g, low)) within
-              (omega (arith, f, low)) a.2 (kept n from at) d.unordered d.unassembled).0
+              (settled (i + 1) (i + 1) n reach (record q { ordered = ss; next_ssn = next }) e (omega arith) from (omega (arith, most, low)) within
+              (omega (arith, low)) a.2 (kept n from at) d.unordered d.unassembled).0
 
           by : (b : Bool) → (s.ssn == q.next_ssn) ≡ b → IsDue (i + 1) reach (without_front q b ss)
           by true f =
               let n : i % 2 ^ 16 ≡ d.index % 2 ^ 16 = sym a.1.0.2 ∙ same-is s.ssn q.next_ssn f ∙ d.next in
               let le : i ≤ d.index = grind (arith, nat_tests, order) in
-              let near = d.near in
-              let same : i ≡ d.index = omega (arith, n, le, near, low) in
+              let same : i ≡ d.index = omega (arith, n, le, low) in
               build (d.index + 1) ((q.next_ssn + 1) % 2 ^ 16) (ap (λ m. (m + 1) % 2 ^ 16) d.next ∙ next16 d.index) (omega (arith, same)) (omega arith)
               (omega arith) (omega (arith, same, up))
           by false f =
               let le : i ≤ d.index = grind (arith, nat_tests, order) in
               let differ : i ≡ d.index → ⊥ = λ same. not_both (sym f ∙ ap (λ m. m == q.next_ssn) (a.1.0.2 ∙ ap (λ m. m % 2 ^ 16) same ∙ sym d.next)
               ∙ same-yes q.next_ssn) in
-              let lt = strictly i d.index le (λ same. differ (sym same)) in
               let w = d.within in
-              build d.index q.next_ssn d.next (omega (arith, lt)) (omega arith) (omega arith) w
+              build d.index q.next_ssn d.next (omega (arith, strictly i d.index le (λ same. differ (sym same)))) (omega arith) (omega arith) w
 
       at-front : (after : ℕ) × ((k ≤ after) × IsDue after reach (after_read (front_readable q.next_ssn q.ordered) q))
           × ((set : ChunkSet) → front_readable q.next_ssn q.ordered ≡ Some set → (i : ℕ) × ((k ≤ i) × (i < after)) × Fits i set.chunks)
@@ -395,9 +351,7 @@ module _ (p n : ℕ) (B : ℕ → ℕ) (Fits : ℕ → List ChunkPayloadData →
           × ((set : ChunkSet) → o ≡ Some set → (i : ℕ) × ((k ≤ i) × (i < after)) × Fits i set.chunks))
           (k, (omega arith, d), λ set e. absurd (none-some set e)) (λ s ss is e b f.
           let a : AreSets d.low reach (s ∷ ss) = subst (AreSets d.low reach) is d.sets in
-          let x = a.1.0.0 in
-          let y = d.due in
-          let up : k ≤ a.0 = omega (arith, x, y) in (
+          let up : k ≤ a.0 = omega arith in (
             a.0 + 1,
             (omega (arith, up), front-due s ss is a e b f),
             λ set g. (a.0, (up, omega arith), subst (λ (z : ChunkSet). Fits a.0 z.chunks) (some-same g) a.1.1),
@@ -461,7 +415,7 @@ module _ (p n : ℕ) (B : ℕ → ℕ) (Fits : ℕ → List ChunkPayloadData →
     without-lowest low top j index next last [] e f a b c g none r = tt
     without-lowest low top j index next last (s ∷ ss) e f a b c g none r = elim (cases_lt low r.0) [
       | inl lt ↦ sets-those Fits (λ set. not (is_passed last set)) (low + 1) top (s ∷ ss) (r.0, ((omega (arith, lt), r.1.0.1, r.1.0.2), r.1.1), r.2)
-      | inr ge ↦ here (let x = r.1.0.0 in omega (arith, ge, x)) (is_complete s.chunks) refl
+      | inr ge ↦ here (omega (arith, ge)) (is_complete s.chunks) refl
     ]
       where
         here : r.0 ≡ low → (b : Bool) → is_complete s.chunks ≡ b → AreSets (low + 1) top (filter (λ set. not (is_passed last set)) (s ∷ ss))
@@ -485,10 +439,9 @@ module _ (p n : ℕ) (B : ℕ → ℕ) (Fits : ℕ → List ChunkPayloadData →
       -- it lies past the lowest index, as far as the numbers say, or before it
       name-side : ((d.low ≤ j) × (d.low + distance16 (lowest_ssn q) last ≡ j)) ⊎ (j < d.low)
       name-side =
-          let same : distance16 (lowest_ssn q) last ≡ distance16 (d.low % 2 ^ 16) (j % 2 ^ 16) =
-          ap (λ n. distance16 n last) d.lowest ∙ ap (distance16 (d.low % 2 ^ 16)) is in
-          elim (sides d.low j (let a = d.from in let b = d.within in omega (arith, a, b, back)) (let c = d.far in omega (arith, c, ahead))) [
-            | inl x ↦ inl (x.0, (let at = x.1 in omega (arith, same, at)))
+          let same : distance16 (lowest_ssn q) last ≡ distance16 (d.low % 2 ^ 16) (j % 2 ^ 16) = cc (d.lowest, is) in
+          elim (sides d.low j (omega (arith, back)) (omega (arith, ahead))) [
+            | inl x ↦ inl (x.0, omega (arith, same))
             | inr x ↦ inr x.0
           ]
 
@@ -497,21 +450,12 @@ module _ (p n : ℕ) (B : ℕ → ℕ) (Fits : ℕ → List ChunkPayloadData →
       name-near e = by name-side
         where
           close : (a : ℕ) → (nat_le (2 ^ 15) a && nat_lt a (2 ^ 15 + 2 ^ 14)) ≡ false → a < 2 ^ 15 + 2 ^ 14 → a < 2 ^ 15
-          close a f g = elim (cases_lt a (2 ^ 15)) [
-            | inl lt ↦ lt
-            | inr ge ↦
-                let s : nat_le (2 ^ 15) a ≡ true = grind (arith, nat_tests, ge) in
-                let t : nat_lt a (2 ^ 15 + 2 ^ 14) ≡ true = grind (arith, nat_tests, g) in
-                absurd (not_both (sym f ∙ and (nat_le (2 ^ 15) a) (nat_lt a (2 ^ 15 + 2 ^ 14)) s t))
-          ]
+          close a f g = grind (arith, nat_tests)
 
           by : ((d.low ≤ j) × (d.low + distance16 (lowest_ssn q) last ≡ j)) ⊎ (j < d.low) → j < d.low + 2 ^ 15
           by (inr lt) = omega (arith, lt)
           by (inl x) =
-              let at = x.1 in
-              let c = d.far in
-              let near = close (distance16 (lowest_ssn q) last) (neither _ _ e).0 (omega (arith, at, c, ahead)) in
-              omega (arith, at, near)
+              omega (arith, close (distance16 (lowest_ssn q) last) (neither _ _ e).0 (omega (arith, ahead)))
 
     none-of : {A : Type 0} (o : Option A) → is_some o ≡ false → o ≡ None
     none-of None e = refl
@@ -531,15 +475,11 @@ module _ (p n : ℕ) (B : ℕ → ℕ) (Fits : ℕ → List ChunkPayloadData →
       passed-gone low top [] r far near = tt
       passed-gone low top (s ∷ ss) r far near = (
         λ e.
-            let x = r.1.0.0 in
-            let y = r.1.0.1 in
             let at = (both (at_or_before16 s.ssn last) (not (is_complete s.chunks)) (unnot (is_passed last s) e)).0 in
-            let t : nat_le r.0 j ≡ true =
-            sym (ap (λ m. at_or_before16 m last) r.1.0.2 ∙ ap (at_or_before16 (r.0 % 2 ^ 16)) is
-            ∙ at_or_before16-index r.0 j (omega (arith, y, far)) (omega (arith, near, x))) ∙ at in
+            let t : nat_le r.0 j ≡ true = cc (r.1.0.2, is, at_or_before16-index r.0 j (omega (arith, far)) (omega (arith, near)), at) in
             let le : r.0 ≤ j = grind (arith, nat_tests, t) in
             omega (arith, le),
-        passed-gone (r.0 + 1) top ss r.2 far (let x = r.1.0.0 in omega (arith, near, x)),
+        passed-gone (r.0 + 1) top ss r.2 far (omega (arith, near)),
       )
 
       skip-kept : j < d.low + 2 ^ 15 → (m : ℕ) → d.index ≤ m → j < m → IsKept m left
@@ -559,35 +499,28 @@ module _ (p n : ℕ) (B : ℕ → ℕ) (Fits : ℕ → List ChunkPayloadData →
           (near : d.index < low + 2 ^ 15) (top : d.index ≤ j → j + 1 < low + 2 ^ 15) (up : reach ≤ more) (upto : j + 1 ≤ more) (within : more ≤ most)
           (far : more ≤ low + 2 ^ 15) (sets : AreSets low more left) where
         skips : IsSkipped k reach j most (held_after_ordered_skip last q)
-        skips = by (at_or_before16 q.next_ssn last) refl
+        skips = at-if (λ z. IsSkipped k reach j most (record q { ordered = left; next_ssn = z })) (at_or_before16 q.next_ssn last)
+            (λ e.
+            let upto' : d.index ≤ j = grind (arith, nat_tests, sym (next-order a b) ∙ e) in
+            build (j + 1) ((last + 1) % 2 ^ 16) (ap (λ m. (m + 1) % 2 ^ 16) is ∙ next16 j) (omega (arith, upto')) (on upto')
+            (top upto') upto (omega arith))
+            (λ e.
+            let past : j < d.index = grind (arith, nat_tests, sym (next-order a b) ∙ e) in
+            build d.index q.next_ssn d.next (omega arith) (from past) near (omega (arith, up)) past)
           where
             build : (n next : ℕ) → next ≡ n % 2 ^ 16 → d.index ≤ n → low ≤ n → n < low + 2 ^ 15 → n ≤ more → j < n
                 → IsSkipped k reach j most (record q { ordered = left; next_ssn = next })
             build n next e at f g h i =
                 let s = settled k low n more (record q { ordered = left; next_ssn = next }) e due f g h far sets (skip-kept wide n at i) d.unordered
                 d.unassembled in
-                record { more = more; up = up; upto = upto; within = within; due = s.0; passed = let x = s.1 in omega (arith, x, i) }
-
-            by : (b : Bool) → at_or_before16 q.next_ssn last ≡ b
-                → IsSkipped k reach j most (record q { ordered = left; next_ssn = (if b then (last + 1) % 2 ^ 16 else q.next_ssn) })
-            by true e =
-                let t : nat_le d.index j ≡ true = sym (next-order a b) ∙ e in
-                let upto' : d.index ≤ j = grind (arith, nat_tests, t) in
-                build (j + 1) ((last + 1) % 2 ^ 16) (ap (λ m. (m + 1) % 2 ^ 16) is ∙ next16 j) (omega (arith, upto')) (on upto')
-                (top upto') upto (omega arith)
-            by false e =
-                let t : nat_le d.index j ≡ false = sym (next-order a b) ∙ e in
-                let past : j < d.index = grind (arith, nat_tests, t) in
-                let w = d.within in
-                build d.index q.next_ssn d.next (omega arith) (from past) near (omega (arith, w, up)) past
+                record { more = more; up = up; upto = upto; within = within; due = s.0; passed = omega (arith, i) }
 
       -- the name is an old one
       old-name : j < d.low → IsSkipped k reach j most (held_after_ordered_skip last q)
       old-name x =
           let f = d.from in
-          let w = d.within in
-          skips (omega (arith, x)) d.low reach (omega (arith, w, back)) (omega (arith, x, f)) d.due (λ z. f) (λ z. omega (arith, f, z)) d.near
-          (λ y. absurd (omega (arith, x, f, y))) (omega arith) (omega (arith, x, f, w)) le d.far
+          skips (omega (arith, x)) d.low reach (omega (arith, back)) (omega (arith, x, f)) d.due (λ z. f) (λ z. omega (arith, f, z)) d.near
+          (λ y. absurd (omega (arith, x, f, y))) (omega arith) (omega (arith, x, f)) le d.far
           (sets-those Fits (λ set. not (is_passed last set)) d.low reach q.ordered d.sets)
 
       -- or lies in the window
@@ -618,11 +551,10 @@ module _ (p n : ℕ) (B : ℕ → ℕ) (Fits : ℕ → List ChunkPayloadData →
           by : ((d.low ≤ j) × (d.low + distance16 (lowest_ssn q) last ≡ j)) ⊎ (j < d.low) → IsSkipped k reach j most (held_after_ordered_skip last q)
           by (inr x) = old-name x
           by (inl x) =
-              let at = x.1 in
               let c = d.far in
               let top = name-near k reach j last q d is back ahead e in
               let none : j + 1 ≡ d.low + 2 ^ 15 → front_readable q.next_ssn q.ordered ≡ None = λ f. none-of (front_readable q.next_ssn q.ordered)
-              (unread (distance16 (lowest_ssn q) last) (is_some (front_readable q.next_ssn q.ordered)) (neither _ _ e).1 (omega (arith, at, f))) in
+              (unread (distance16 (lowest_ssn q) last) (is_some (front_readable q.next_ssn q.ordered)) (neither _ _ e).1 (omega (arith, f))) in
               elim (cases_lt reach (j + 1)) [
                 | inl less ↦ new-name x.0 top none (j + 1) (omega (arith, less)) (omega arith) lt (omega (arith, top))
                 | inr ge ↦ new-name x.0 top none reach (omega arith) ge le c
@@ -650,17 +582,16 @@ module _ (p n : ℕ) (B : ℕ → ℕ) (Fits : ℕ → List ChunkPayloadData →
         → base ≤ low → Gone (λ set. not (cannot_complete t set)) index low top ss r → ssn_past_sets next (filter (cannot_complete t) ss) ≡ next
     past-sets base low top t index next [] r e f g h = refl
     past-sets base low top t index next (s ∷ ss) r e f g h =
-        by (cannot_complete t s) refl (past-sets base (r.0 + 1) top t index next ss r.2 e f (let x = r.1.0.0 in omega (arith, g, x)) h.1)
+        by (cannot_complete t s) refl (past-sets base (r.0 + 1) top t index next ss r.2 e f (omega (arith, g)) h.1)
       where
         by : (b : Bool) → cannot_complete t s ≡ b → ssn_past_sets next (filter (cannot_complete t) ss) ≡ next
             → ssn_past_sets next (if b then s ∷ filter (cannot_complete t) ss else filter (cannot_complete t) ss) ≡ next
         by false c ih = ih
         by true c ih =
             let lt = h.0 (ap not c) in
-            let x = r.1.0.0 in
             let order : nat_le index r.0 ≡ false = grind (arith, nat_tests, lt) in
             let past : at_or_before16 next s.ssn ≡ false = ap (λ m. at_or_before16 m s.ssn) e ∙ ap (at_or_before16 (index % 2 ^ 16)) r.1.0.2
-            ∙ at_or_before16-index index r.0 (omega (arith, f, g, x)) (omega (arith, lt)) ∙ order in
+            ∙ at_or_before16-index index r.0 (omega (arith, f, g)) (omega (arith, lt)) ∙ order in
             ap (λ b. ssn_past_sets (if b then (s.ssn + 1) % 2 ^ 16 else next) (filter (cannot_complete t) ss)) past ∙ ih
 
     pub incomplete-due : (k reach t : ℕ) (q : Reassembly) (d : IsDue k reach q)

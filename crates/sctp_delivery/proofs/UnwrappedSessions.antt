@@ -1,44 +1,22 @@
 -- In each session in which every FORWARD-TSN names a stream, the indexes of the ordered messages that are read on it rise.
-use Rattle.std.proofs.Common.{◌≡◌, ℕ, ◌+◌, ◌-◌, ◌^◌, ◌<◌, ◌≤◌, Bool, true, false, List, [], ◌∷◌, length, Option, Some, None, inl, inr, refl, ap, sym}
-use Rattle.std.proofs.Common.{subst, ◌∙◌, arith}
-use Rattle.std.specs.Prelude.{Contains, IfSome, find, if◌then◌else◌, is_some, ◌⊎◌}
-use Rattle.std.specs.List.{list_any}
-use Rattle.std.proofs.lemmas.Option.{none-some}
-use Rattle.sctp_util.specs.Serial.{distance}
-use Rattle.sctp_util.proofs.More.{not_both}
-use Rattle.sctp_util.proofs.Round.{tsn}
-use Rattle.sctp_data.specs.declared.chunk.chunk_payload_data.ChunkPayloadData.{ChunkPayloadData}
-use Rattle.sctp_data.specs.ChunkSet.{ChunkSet}
-use Rattle.sctp_data.specs.PayloadData.{data_of}
-use Rattle.sctp_data.specs.SelectiveAck.{Sack}
-use Rattle.sctp_outbound.specs.outbound_queue.OutboundQueue.{expiring, expiring_tail, message_of}
-use Rattle.sctp_reassembly.specs.reassembly_queue.ReassemblyQueue.{Reassembly}
-use Rattle.sctp_receiver.specs.declared.receiver.arrival.Arrival.TheVariants.{New}
-use Rattle.sctp_receiver.specs.declared.receiver.inbound_streams.InboundStream.{InboundStream}
-use Rattle.sctp_receiver.specs.declared.receiver.limits.Limits.{Limits}
-use Rattle.sctp_receiver.specs.declared.receiver.refusal.ReceiverRefusal.TheVariants.{NamedSsnTooFar, NamedStreamUnknown}
+use Rattle.sctp_delivery.proofs.Names.{◌≡◌, ℕ, ◌+◌, ◌-◌, ◌^◌, ◌<◌, ◌≤◌, Bool, true, false, List, [], ◌∷◌, length, Option, Some, None, inl, inr, refl, ap, sym}
+use Rattle.sctp_delivery.proofs.Names.{subst, ◌∙◌, arith, Contains, IfSome, find, if◌then◌else◌, ◌⊎◌, list_any, none-some, distance, not_both, tsn}
+use Rattle.sctp_delivery.proofs.Names.{ChunkPayloadData, ChunkSet, data_of, Sack, expiring, expiring_tail, message_of, Reassembly, New, InboundStream, Limits}
+use Rattle.sctp_delivery.proofs.Names.{NamedSsnTooFar, NamedStreamUnknown, Reception, forward_refusal, stream_of, Message, Stand, names_closed, names_too_far}
+use Rattle.sctp_delivery.proofs.Names.{skip_refusal, after_sack, is_outdated, message_to_abandon, take_sack, late_order, worn_order, Transmission, after_expire}
+use Rattle.sctp_delivery.proofs.Names.{OutboundStream, ReceiverCall, reports_after, SenderCall, data_chunk, forward_tsn, ReceiverFollows, SenderFollows}
+use Rattle.sctp_delivery.proofs.Names.{Session, at_start, misses, has_tsn, cases_lt}
+use Rattle.std.specs.Prelude.{is_some}
 use Rattle.sctp_receiver.specs.Inbound.{has_number}
-use Rattle.sctp_receiver.specs.Receiver.{Reception, forward_refusal, stream_of}
-use Rattle.sctp_receiver.specs.ReceiverRuns.{Message, Stand}
-use Rattle.sctp_receiver.specs.Skips.{names_closed, names_too_far, skip_refusal}
-use Rattle.sctp_sender.specs.Flight.{after_sack, is_outdated, message_to_abandon, take_sack}
-use Rattle.sctp_sender.specs.Late.{late_order, worn_order}
-use Rattle.sctp_sender.specs.Sender.{Transmission, after_expire, stream_of as sender_stream}
-use Rattle.sctp_stream.specs.declared.stream.StreamState.{StreamState}
+use Rattle.sctp_sender.specs.Sender.{stream_of as sender_stream}
 use Rattle.sctp_delivery.specs.ReceiverCalls as incoming
-use Rattle.sctp_delivery.specs.ReceiverCalls.{ReceiverCall, reports_after}
 use Rattle.sctp_delivery.specs.SenderCalls as outgoing
-use Rattle.sctp_delivery.specs.SenderCalls.{SenderCall, data_chunk, forward_tsn}
-use Rattle.sctp_delivery.specs.Session.{ReceiverFollows, SenderFollows, Session, at_start}
+use Rattle.sctp_delivery.proofs.Cases.{by-test}
 use Rattle.sctp_delivery.proofs.Delivered.{found-sent, next_tsn}
 use Rattle.sctp_delivery.proofs.UnwrappedArrived.{Rising, between, missing}
-use Rattle.sctp_reassembly.specs.reassembly_queue.Skips.{misses}
-use Rattle.sctp_serial.specs.DataChunks.{has_tsn}
-use Rattle.std.proofs.lemmas.Bool.{cases_lt}
 use Rattle.sctp_delivery.proofs.Every.{Every, every-contained, every-of}
 use Rattle.sctp_delivery.proofs.GivenTsns.{raises-abandoned, raises-each}
 use Rattle.sctp_delivery.proofs.Queues.{IsOnceMore}
-use Rattle.sctp_delivery.proofs.SackLaws as sacks
 use Rattle.sctp_delivery.proofs.SackSteps.{flight_of, written-open}
 use Rattle.sctp_delivery.proofs.Sent.{Entry, Numbered, WasSent, sent-more}
 use Rattle.sctp_delivery.proofs.SpreadCalls.{IsSpread, Spreads, receiver-spreads, spread-first}
@@ -57,15 +35,14 @@ module _ (p st n m : ℕ) (B C : ℕ → ℕ) (E F : ℕ → Bool) (M N : ChunkP
     (same : (k : ℕ) → k ≤ n → C k ≡ B k) (up : C n ≤ C m) (alike : (k : ℕ) → k ≤ n → F k ≡ E k) (made : (c : ChunkPayloadData) → M c → N c) where
   abbrev of-more : (i : ℕ) (c : ChunkPayloadData) → IsOf p st n B E M i c → IsOf p st m C F N i c
   of-more i c o =
-      let w = o.within in
       record {
         before = o.before;
-        within = omega (arith, w, le);
+        within = omega (arith, le);
         is = o.is;
         begun = same (o.before + 1) o.within ∙ o.begun;
         made = made c o.made;
         on = o.on;
-        inner = λ f. same o.before (omega (arith, w)) ∙ o.inner f;
+        inner = λ f. same o.before (omega arith) ∙ o.inner f;
       }
 
   rises-more : (i low : ℕ) (cs : List ChunkPayloadData) → Rises p st n B E M i low cs → Rises p st m C F N i low cs
@@ -116,13 +93,12 @@ module _ (p st n m : ℕ) (B C : ℕ → ℕ) (E F : ℕ → Bool) (M N : ChunkP
   beyond-more : (reach t : ℕ) → IsBeyond p st n B E M reach t → IsBeyond p st m C F N reach t
   beyond-more reach t b =
       let w = b.within in
-      let x = same b.before (omega (arith, w)) in
       let y = same (b.before + 1) w in
       record {
         before = b.before;
         within = omega (arith, w, le);
         is = b.is;
-        so = elim b.so [ inl z ↦ inl (omega (arith, x, y, z)) | inr z ↦ inr (omega (arith, y, z)) ];
+        so = elim b.so [ inl z ↦ inl (omega (arith, same b.before (omega (arith, w)), y, z)) | inr z ↦ inr (omega (arith, y, z)) ];
       }
 
   came-more : (a : ℕ) (s : Stand) (d : AreDue p st n B E M a s) (y : ℕ) → y ≤ m → Came p st m C F N s.receiver.cumulative_tsn s.receiver.beyond y
@@ -138,9 +114,6 @@ module _ (p st n m : ℕ) (B C : ℕ → ℕ) (E F : ℕ → Bool) (M N : ChunkP
   are-more a b s d least =
       let h = d.arrived in
       let w = h.within in
-      let x = same h.place w in
-      let y = h.covered in
-      let z = same n (omega arith) in
       let most = d.most in
       record {
         k = d.k;
@@ -148,13 +121,13 @@ module _ (p st n m : ℕ) (B C : ℕ → ℕ) (E F : ℕ → Bool) (M N : ChunkP
         due = on-more (Came p st n B E M s.receiver.cumulative_tsn s.receiver.beyond) (Came p st m C F N s.receiver.cumulative_tsn s.receiver.beyond)
             (came-more a s d) d.k d.reach (stream_of st s.receiver) d.due;
         turns = turns-more d.k s.read d.turns;
-        most = omega (arith, most, z, up);
+        most = omega (arith, most, same n (omega arith), up);
         arrived = record {
           place = h.place;
           least_is = least;
           within = omega (arith, w, le);
           is = h.is;
-          covered = omega (arith, x, y);
+          covered = omega (arith, same h.place w);
           each = every-of (IsBeyond p st n B E M d.reach) (IsBeyond p st m C F N d.reach) (beyond-more d.reach) s.receiver.beyond h.each;
         };
       }
@@ -175,7 +148,7 @@ acked-by (outgoing.forwards_within bytes c) old new f = inl (ap (λ (u : Transmi
 acked-by (outgoing.writes stream ppi []) old new f = inl (ap (λ (u : Transmission). u.flight.acked_tsn) (f.exact.0 refl))
 acked-by (outgoing.writes stream ppi (b ∷ bs)) old new f = by (sender_stream stream old.sending.sender) refl
   where
-    by : (o : Option StreamState) → sender_stream stream old.sending.sender ≡ o → IsAckedBy old new
+    by : (o : Option OutboundStream) → sender_stream stream old.sending.sender ≡ o → IsAckedBy old new
     by None e = absurd (written-open stream (length (b ∷ bs)) old.sending.sender f.accepted e)
     by (Some l) e = inl (ap (λ (u : Transmission). u.flight.acked_tsn) (f.exact.1 (omega arith) l e))
 acked-by (outgoing.abandons u a) old new f =
@@ -196,14 +169,12 @@ acked-by (outgoing.expires_late now gone) old new f =
     inl (ap (λ (u : Transmission). u.flight.acked_tsn) f.exact ∙ (raises-each 0 (late_order now (flight_of old)) (flight_of old)).acked)
 acked-by (outgoing.expires_rexmit gone) old new f =
     inl (ap (λ (u : Transmission). u.flight.acked_tsn) f.exact ∙ (raises-each 0 (worn_order (flight_of old)) (flight_of old)).acked)
-acked-by (outgoing.takes_sack k gone) old new f = by (is_outdated k (flight_of old)) refl
+acked-by (outgoing.takes_sack k gone) old new f = by-test (is_outdated k (flight_of old))
+    (λ e. inl (now ∙ ap (λ b. (if b then flight_of old else take_sack k (flight_of old)).acked_tsn) e))
+    (λ e. inr (k, f.handed, now ∙ ap (λ b. (if b then flight_of old else take_sack k (flight_of old)).acked_tsn) e))
   where
     now : (flight_of new).acked_tsn ≡ (after_sack k (flight_of old)).acked_tsn
     now = ap (λ (u : Transmission). u.flight.acked_tsn) f.exact
-
-    by : (b : Bool) → is_outdated k (flight_of old) ≡ b → IsAckedBy old new
-    by true e = inl (now ∙ ap (λ b. (if b then flight_of old else take_sack k (flight_of old)).acked_tsn) e)
-    by false e = inr (k, f.handed, now ∙ ap (λ b. (if b then flight_of old else take_sack k (flight_of old)).acked_tsn) e)
 acked-by call old new f = inl (ap (λ (u : Transmission). u.flight.acked_tsn) f.step.sender)
 
 -- ## A session
@@ -249,20 +220,15 @@ module _ (st first : ℕ) where
       let d = t.0 in
       let m = n + distance (next_tsn old) (next_tsn new) in
       let b = x.spread.step.numbered.acked in
-      let total = x.spread.step.numbered.total in
       let is = x.spread.step.numbered.acked_is in
-      let w = d.arrived.within in
-      let low = d.arrived.least_is in
       let least : b ≤ d.arrived.place = elim (acked-by call old new f) [
         | inl e ↦
-            let same = same-place (base first) b i.step.numbered.acked (omega (arith, total, few)) (omega (arith, low, w, few))
-            (sym is ∙ e ∙ i.step.numbered.acked_is) in
-            omega (arith, same, low)
+            let same : b ≡ i.step.numbered.acked = omega (arith, few, is, e, i.step.numbered.acked_is) in
+            omega (arith, same)
         | inr k ↦
             let u = every-contained (IsUpTo d.arrived.place) old.sacks k.0 k.1 t.1 in
-            let le = u.2 in
-            let same = same-place (base first) b u.0 (omega (arith, total, few)) (omega (arith, le, w, few)) (sym is ∙ k.2 ∙ u.1) in
-            omega (arith, same, le)
+            let same = same-place (base first) b u.0 (omega (arith, few)) (omega (arith, few)) (sym is ∙ k.2 ∙ u.1) in
+            omega (arith, same)
       ] in
       subst (IsAnswered m x.more b) (sym f.after) (
         are-more (base first) st n m (to sent) (to x.more) (at sent) (at x.more) (Was sent) (Was x.more) few (omega arith)
@@ -293,11 +259,9 @@ module _ (st first : ℕ) where
     step-of c in' =
         let w = found-sent sent old.made (data_of c) i.holds.made in' in
         let e = entry-of c w in
-        let long = i.long in
-        let most = e.within in
         record {
           before = e.before;
-          within = omega (arith, most, long);
+          within = omega arith;
           is = e.is;
           made = w;
           on = e.on;
@@ -313,33 +277,27 @@ module _ (st first : ℕ) where
     all-in : (j k l m : ℕ) → IsIn j k → IsIn j l → k ≤ m → m ≤ l → IsIn j m
     all-in j k l m a b le most =
         let up = to-up st k m sent le in
-        let down = to-up st m l sent most in
         let x = a.1 in
         let y = b.1 in
-        (between st sent i.holds.held.stands.queued.joined k l m a.0 b.0 le most (x ∙ sym y), omega (arith, up, down, x, y))
+        (between st sent i.holds.held.stands.queued.joined k l m a.0 b.0 le most (x ∙ sym y), omega (arith, up, to-up st m l sent most, x, y))
 
     rising-of : (j low : ℕ) (cs : List ChunkPayloadData) → Rises (base first) st n (to sent) (at sent) (Was sent) j low cs
         → Rising (base first) n few (IsIn j) (all-in j) low cs
     rising-of j low [] r = tt
     rising-of j low (c ∷ cs) r =
         let o = r.0 in
-        let le = r.1 in
         let e = entry-of c o.made in
-        let w = e.within in
-        let v = o.within in
-        let long = i.long in
-        let same : e.before + 1 ≡ o.before + 1 =
-        same-place (base first) (e.before + 1) (o.before + 1) (omega (arith, w, long, few)) (omega (arith, v, few)) (sym e.is ∙ o.is) in
+        let same : e.before + 1 ≡ o.before + 1 = omega (arith, few, e.is, o.is) in
         let back : e.before ≡ o.before + 1 - 1 = omega (arith, same) in
         let begun = ap (to sent) same ∙ o.begun in (
           record {
             place = o.before + 1;
-            past = omega (arith, le);
+            past = omega arith;
             within = o.within;
             is = o.is;
             of = (ap (at sent) (sym same) ∙ e.on ∙ o.on, o.begun);
             next = λ open' most.
-                let x = e.next open' (omega (arith, same, most, long)) in
+                let x = e.next open' (omega (arith, same, most)) in
                 (ap (λ k. at sent (k + 1)) (sym same) ∙ x.0 ∙ o.on, ap (λ k. to sent (k + 1)) (sym same) ∙ x.1 ∙ begun);
             prior = λ open'.
                 let x = e.prior open' in
@@ -394,12 +352,10 @@ module _ (st first : ℕ) where
       due-after (incoming.follows g) f =
           let x = every-contained (IsMadeNaming st (base first) acked sent) old.made (forward_tsn g) f.handed (i.names st) in
           let r = refused g old.receiving.receiver f.accepted in
-          let w = x.within in
-          let long = i.long in
           followed-due (base first) st n (to sent) (at sent)
-          (Was sent) few grows acked near g x.place old.receiving new.receiving d (omega (arith, w, long)) x.is f.step.receiver
+          (Was sent) few grows acked near g x.place old.receiving new.receiving d (omega arith) x.is f.step.receiver
           f.step.read x.tells r.0 r.1
-          (λ j cs fits e. missed x.place j cs (omega (arith, w, long)) fits e)
+          (λ j cs fits e. missed x.place j cs (omega arith) fits e)
       due-after (incoming.reads stream) f =
           read-on-due (base first) st n (to sent) (at sent)
           (Was sent) few grows acked stream old.receiving new.receiving d (ap (λ (r : Reception). r.streams) f.step.receiver)
@@ -424,15 +380,12 @@ module _ (st first : ℕ) where
       let e = due-after n old ns sent i few new d call f in
       let a = i.step.numbered.acked in
       let b = spread.step.numbered.acked in
-      let total = i.step.numbered.total in
-      let most = spread.step.numbered.total in
-      let same : b ≡ a = same-place (base first) b a (omega (arith, most, few)) (omega (arith, total, few))
+      let same : b ≡ a = same-place (base first) b a (omega (arith, spread.step.numbered.total, few)) (omega (arith, few))
       (sym spread.step.numbered.acked_is ∙ ap (λ (s : Session). s.sending.sender.flight.acked_tsn) f.after ∙ i.step.numbered.acked_is) in
-      let low = d.arrived.least_is in
       let up = e.arrived.least_is in (
         are-more (base first) st n n (to sent) (to sent) (at sent) (at sent) (Was sent) (Was sent) few (omega arith) (λ k le. refl) (omega arith)
             (λ k le. refl) (λ c w. w) d.arrived.place b new.receiving e
-            (omega (arith, same, low, up)),
+            (omega (arith, same, up)),
         subst (Every (IsUpTo e.arrived.place)) (sym (ap (λ (s : Session). s.sacks) f.after))
             (answered-after d.arrived.place e.arrived.place old call d.arrived.is up t.1),
       )
@@ -457,7 +410,6 @@ pub unwrapped-first : (first size max most : ℕ) (limits : Option Limits) → f
     → IsUnwrapped first 0 (at_start first size max most limits) [] []
 unwrapped-first first size max most limits small some =
     let start = spread-first first size max most limits small some in
-    let total = start.step.numbered.total in
     record {
       spread = start;
       answered = λ st. (
@@ -467,7 +419,7 @@ unwrapped-first first size max most limits small some =
           due = (refl, refl, λ y le h. absurd (let z : y ≡ 0 = omega (arith, le) in not_both h.0));
           turns = tt;
           most = omega arith;
-          arrived = record { place = 0; least_is = omega (arith, total); within = omega arith; is = omega arith; covered = omega arith; each = tt };
+          arrived = record { place = 0; least_is = omega arith; within = omega arith; is = omega arith; covered = omega arith; each = tt };
         },
         tt,
       );

@@ -1,21 +1,8 @@
 -- What is so of the chunks that wait and of those in flight, whatever a sender does: only what was taken is acknowledged.
-use Rattle.std.proofs.Common.{◌≡◌, ℕ, Bool, true, false, List, length, Option, refl, ap, sym, ◌∙◌, inl, inr}
-use Rattle.std.specs.Prelude.{◌||◌, not}
-use Rattle.sctp_util.proofs.Cases.{or-left, or-right, or-split}
-use Rattle.sctp_util.proofs.More.{both, not_both}
-use Rattle.sctp_util.specs.Lists.{change_where}
-use Rattle.sctp_data.specs.declared.chunk.chunk_payload_data.ChunkPayloadData.{ChunkPayloadData}
-use Rattle.sctp_data.specs.declared.chunk.chunk_payload_data.PayloadProtocolIdentifier.{PayloadProtocolIdentifier}
-use Rattle.sctp_data.specs.SelectiveAck.{Sack}
-use Rattle.sctp_outbound.specs.Marks.{as_abandoned, as_acknowledged}
-use Rattle.sctp_outbound.specs.outbound_queue.OutboundQueue.{Outbound, abandoned_of, all_started, expired_of, sent_next, terminal_chunk, with_message}
-use Rattle.sctp_outbound.specs.outbound_queue.OutboundQueue.{with_inflight}
-use Rattle.sctp_outbound.specs.pending_queue.PendingQueue.{next_pending}
-use Rattle.sctp_stream.specs.declared.stream.StreamState.{StreamState}
-use Rattle.sctp_sender.specs.Flight.{Flight, after_sack, reports, reports_anew}
-use Rattle.sctp_sender.specs.Late.{abandoned_each}
-use Rattle.sctp_sender.specs.Outgoing.{fragments_with_mode}
-use Rattle.sctp_sender.specs.Resending.{after_misses, missed}
+use Rattle.sctp_delivery.proofs.Names.{◌≡◌, ℕ, Bool, true, false, List, length, Option, refl, ap, sym, ◌∙◌, arith, ◌||◌, nat_tests, or-left, or-right, or-split}
+use Rattle.sctp_delivery.proofs.Names.{both, not_both, change_where, ChunkPayloadData, PayloadProtocolIdentifier, Sack, as_abandoned, as_acknowledged, Outbound}
+use Rattle.sctp_delivery.proofs.Names.{abandoned_of, all_started, expired_of, sent_next, terminal_chunk, with_message, with_inflight, next_pending}
+use Rattle.sctp_delivery.proofs.Names.{OutboundStream, Flight, after_sack, reports, reports_anew, abandoned_each, fragments_with_mode, after_misses, missed}
 use Rattle.sctp_delivery.proofs.Every.{Every, every-of, every-pair}
 use Rattle.sctp_delivery.proofs.QueueChunks.{EachIs, abandoned, each-abandoned, each-fragment, expired, marked, missed-some, pushed, sacked, sent, started}
 use Rattle.sctp_delivery.proofs.Changes.{IsMark}
@@ -36,7 +23,7 @@ pub record IsRight (taken passed : ℕ → Bool) (c : ChunkPayloadData) : Type 0
 abbrev pub IsValid : (ℕ → Bool) → (ℕ → Bool) → Outbound → Type 0
 IsValid taken passed q = EachIs IsUnmarked (IsRight taken passed) q
 
-pub fragments-unmarked : (l : StreamState) (ppi : PayloadProtocolIdentifier) (bytes : List ℕ) → Every IsUnmarked (fragments_with_mode l ppi bytes)
+pub fragments-unmarked : (l : OutboundStream) (ppi : PayloadProtocolIdentifier) (bytes : List ℕ) → Every IsUnmarked (fragments_with_mode l ppi bytes)
 fragments-unmarked l ppi bytes = each-fragment IsUnmarked l ppi bytes (λ i. (refl, refl))
 
 -- ## The calls
@@ -50,12 +37,7 @@ module _ (taken passed : ℕ → Bool) where
 
   -- where the acknowledgement, the TSN and the abandonment stay
   right-same : (c d : ChunkPayloadData) → d.acked ≡ c.acked → d.tsn ≡ c.tsn → d.abandoned ≡ c.abandoned → d.user_data ≡ c.user_data → Right c → Right d
-  right-same c d a t b u r = record {
-    came = λ e. ap (λ u. taken u || d.abandoned) t ∙ ap (λ u. taken c.tsn || u) b ∙ r.came (sym a ∙ e);
-    gone = λ e. b ∙ r.gone (ap passed (sym t) ∙ e);
-    bare = λ e. ap length u ∙ r.bare (sym b ∙ e);
-    settled = λ e. ap length u ∙ r.settled (sym a ∙ e);
-  }
+  right-same c d a t b u r = grind (arith, nat_tests)
 
   pub message-valid : (cs : List ChunkPayloadData) (q : Outbound) → Every IsUnmarked cs → Valid q → Valid (with_message cs q)
   message-valid cs q h s = pushed IsUnmarked Right IsUnmarked Right (λ c i. i) (λ c i. i) cs q h s
@@ -103,11 +85,7 @@ module _ (taken passed : ℕ → Bool) where
   IsAnswered k c = reports k c ≡ true → (taken c.tsn || passed c.tsn) ≡ true
 
   pub came-of : (c : ChunkPayloadData) → Right c → (taken c.tsn || passed c.tsn) ≡ true → (taken c.tsn || c.abandoned) ≡ true
-  came-of c r e = elim (or-split (taken c.tsn) (passed c.tsn) e) [
-    | inl a ↦ or-left (taken c.tsn) c.abandoned a
-    | inr a ↦ or-right (taken c.tsn) c.abandoned
-        (r.gone a)
-  ]
+  came-of c r e = grind (arith, nat_tests, or-left, or-right, or-split)
 
   pub sack-valid : (k : Sack) (f : Flight) → Every (IsAnswered k) f.queue.inflight.chunks → Valid f.queue → Valid (after_sack k f).queue
   sack-valid k f answered s = record {
@@ -117,15 +95,7 @@ module _ (taken passed : ℕ → Bool) where
   }
     where
       acknowledged : (c : ChunkPayloadData) → reports_anew k c ≡ true → Right c × IsAnswered k c → Right (as_acknowledged c) × IsAnswered k (as_acknowledged c)
-      acknowledged c e h = (
-        record {
-          came = λ a. came-of c h.0 (h.1 (both (not c.acked) (reports k c) e).1);
-          gone = h.0.gone;
-          bare = λ a. refl;
-          settled = λ a. refl;
-        },
-        h.1,
-      )
+      acknowledged c h2 h3 = grind (arith, nat_tests, both, came-of)
 
       after : EachIs IsUnmarked (λ c. Right c × IsAnswered k c) (after_sack k f).queue
       after = sacked IsUnmarked (λ c. Right c × IsAnswered k c) k acknowledged f (record {
@@ -138,19 +108,7 @@ module _ (taken passed : ℕ → Bool) where
 
 pub more-taken : (taken taken' passed : ℕ → Bool) (q : Outbound) → ((t : ℕ) → taken t ≡ true → taken' t ≡ true) → IsValid taken passed q
     → IsValid taken' passed q
-more-taken taken taken' passed q more s = record {
-  ordered = s.ordered;
-  unordered = s.unordered;
-  inflight = every-of (IsRight taken passed) (IsRight taken' passed)
-      (λ c r. record { came = λ e. wider c (r.came e); gone = r.gone; bare = r.bare; settled = r.settled }) q.inflight.chunks s.inflight;
-}
-  where
-    wider : (c : ChunkPayloadData) → (taken c.tsn || c.abandoned) ≡ true → (taken' c.tsn || c.abandoned) ≡ true
-    wider c e = elim (or-split (taken c.tsn) c.abandoned e) [
-      | inl a ↦ or-left (taken' c.tsn) c.abandoned (more c.tsn a)
-      | inr a ↦ or-right
-          (taken' c.tsn) c.abandoned a
-    ]
+more-taken taken taken' passed q more s = grind (arith, nat_tests, every-of, or-left, or-right, or-split)
 
 pub more-passed : (taken passed passed' : ℕ → Bool) (q : Outbound) → Every
     (λ (c : ChunkPayloadData). passed' c.tsn ≡ true → (passed c.tsn || c.abandoned) ≡ true) q.inflight.chunks → IsValid taken passed q
@@ -163,9 +121,4 @@ more-passed taken passed passed' q more s = record {
 }
   where
     one : (c : ChunkPayloadData) → IsRight taken passed c × (passed' c.tsn ≡ true → (passed c.tsn || c.abandoned) ≡ true) → IsRight taken passed' c
-    one c h = record {
-      came = h.0.came;
-      gone = λ e. elim (or-split (passed c.tsn) c.abandoned (h.1 e)) [ inl a ↦ h.0.gone a | inr a ↦ a ];
-      bare = h.0.bare;
-      settled = h.0.settled;
-    }
+    one c h2 = grind (arith, nat_tests, or-split)

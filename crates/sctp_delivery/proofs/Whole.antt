@@ -1,19 +1,10 @@
 -- A message that was read has the whole range of places of each of its fragments.
-use Rattle.std.proofs.Common.{◌≡◌, ℕ, suc, ◌+◌, ◌<◌, ◌≤◌, ◌%◌, ◌^◌, Bool, true, false, List, [], ◌∷◌, ◌++◌, length, inl, inr, refl, ap, sym, subst, ◌∙◌, arith}
-use Rattle.std.specs.Prelude.{All, ◌==◌, if◌then◌else◌}
-use Rattle.std.specs.List.{list_any, sum_by}
-use Rattle.std.proofs.lemmas.Bool.{cases_lt, eq-eqb}
-use Rattle.std.proofs.lemmas.List.Sums.{sum_by-append}
-use Rattle.sctp_util.proofs.Cases.{or-left, or-right, or-split, same-is}
-use Rattle.sctp_util.proofs.More.{both, not_both}
-use Rattle.sctp_util.proofs.Round.{tsn}
-use Rattle.sctp_data.specs.declared.chunk.chunk_payload_data.ChunkPayloadData.{ChunkPayloadData}
-use Rattle.sctp_data.specs.PayloadData.{Data, data_of}
-use Rattle.sctp_reassembly.specs.reassembly_queue.Fragments.{completes, is_complete}
-use Rattle.sctp_receiver.specs.ReceiverRuns.{Message, fragments_read, is_one_message}
-use Rattle.sctp_serial.specs.DataChunks.{has_tsn}
-use Rattle.sctp_delivery.proofs.Delivered.{EachSent, inner-of}
-use Rattle.sctp_delivery.proofs.EachRead.{none-begins}
+use Rattle.sctp_delivery.proofs.Names.{◌≡◌, ℕ, suc, ◌+◌, ◌<◌, ◌≤◌, ◌%◌, ◌^◌, true, false, List, [], ◌∷◌, ◌++◌, length, inl, inr, ap, sym, subst, ◌∙◌, arith}
+use Rattle.sctp_delivery.proofs.Names.{All, ◌==◌, if◌then◌else◌, list_any, sum_by, cases_lt, eq-eqb, sum_by-append, nat_tests, or-left, or-right, or-split}
+use Rattle.sctp_delivery.proofs.Names.{same-is, both, not_both, tsn, ChunkPayloadData, Data, data_of, completes, is_complete, Message, fragments_read}
+use Rattle.sctp_delivery.proofs.Names.{is_one_message, has_tsn}
+use Rattle.sctp_delivery.proofs.Cases.{at-test, by-test}
+use Rattle.sctp_delivery.proofs.Delivered.{EachSent, follows, inner-of}
 use Rattle.sctp_delivery.proofs.Every.{Every}
 use Rattle.sctp_delivery.proofs.FragmentPlaces.{Shows, part-place}
 use Rattle.sctp_delivery.proofs.InTheEnd.{some-of}
@@ -39,13 +30,12 @@ module _ (ws : List Numbered) (first : ℕ) (sent : List Entry) (few : length se
   pub place-of : (c : ChunkPayloadData) → WasSent sent (data_of c) → (j : ℕ) × IsOn p n f c j
   place-of c s =
       let l = part-line ws first sent (fragment (data_of c) s.0 s.1 ∷ s.2) s.3 line in
-      let number = l.0.number in
       let long = part-length sent (fragment (data_of c) s.0 s.1 ∷ s.2) s.3 in (
         suc (length s.2),
         record {
           some = omega arith;
           within = omega (arith, long);
-          is = omega (arith, number);
+          is = omega arith;
           data' =
               sym (part-place f sent agr (data_of c) s.0 s.1 s.2 s.3);
         },
@@ -55,10 +45,7 @@ module _ (ws : List Numbered) (first : ℕ) (sent : List Entry) (few : length se
   next-on : (c y : ChunkPayloadData) (j : ℕ) → IsOn p n f c j → WasSent sent (data_of y) → y.tsn ≡ (c.tsn + 1) % 2 ^ 32 → IsOn p n f y (j + 1)
   next-on c y j h s e =
       let k = place-of y s in
-      let u = h.within in
-      let v = k.1.within in
-      let same : k.0 ≡ j + 1 = same-place p k.0 (j + 1) (omega (arith, v, few)) (omega (arith, u, few))
-      (sym k.1.is ∙ e ∙ ap (λ t. (t + 1) % 2 ^ 32) h.is ∙ next-place p j) in
+      let same : k.0 ≡ j + 1 = omega (arith, few, k.1.is, e, ap (λ t. (t + 1) % 2 ^ 32) h.is, next-place p j) in
       subst (IsOn p n f y) same k.1
 
   same-on : (c : ChunkPayloadData) (j i : ℕ) → IsOn p n f c j → i ≤ n → has_tsn (tsn p i) c ≡ true → j ≡ i
@@ -91,10 +78,7 @@ module _ (ws : List Numbered) (first : ℕ) (sent : List Entry) (few : length se
 
   forth : (c : ChunkPayloadData) (cs : List ChunkPayloadData) (j : ℕ) → IsOn p n f c j → completes c cs ≡ true → EachSent sent cs → (i : ℕ) → j ≤ i
       → ((l : ℕ) → j ≤ l → l < i → (f l).ending_fragment ≡ false) → list_any (has_tsn (tsn p i)) (c ∷ cs) ≡ true
-  forth c [] j h e s i le open' = elim (cases_lt j i) [
-    | inl lt ↦ absurd (not_both (sym (open' j (omega arith) lt) ∙ ap (λ (d : Data). d.ending_fragment) (sym h.data') ∙ e))
-    | inr ge ↦ let same : j ≡ i = omega (arith, le, ge) in or-left (has_tsn (tsn p i) c) false (eq-eqb c.tsn (tsn p i) (h.is ∙ ap (tsn p) same))
-  ]
+  forth c [] j h e s i le open' = grind (arith, nat_tests)
   forth c (y ∷ ys) j h e s i le open' = elim (cases_lt j i) [
     | inl lt ↦
         let b = both (y.tsn == (c.tsn + 1) % 2 ^ 32) (completes y ys) e in
@@ -115,7 +99,7 @@ module _ (ws : List Numbered) (first : ℕ) (sent : List Entry) (few : length se
     whole-of (c ∷ cs) e o s there =
         let b = both c.beginning_fragment (completes c cs) e in
         let h = place-of c s.0 in
-        let none = none-begins ws first sent (omega (arith, few)) line c cs s.0.0 s.0.1 s.0.2 s.0.3 b.1 s.1 (inner-of c cs o) in
+        let none = (follows ws first sent (omega (arith, few)) line c cs s.0.0 s.0.1 s.0.2 s.0.3 b.1 s.1 (inner-of c cs o)).2 in
         let r = back c cs h.0 h.1 b.1 s.1 none j within there in
         let first' : (f h.0).beginning_fragment ≡ true = ap (λ (d : Data). d.beginning_fragment) (sym h.1.data') ∙ b.0 in
         let same : h.0 ≡ a = elim (cases_lt h.0 a) [
@@ -132,27 +116,17 @@ module _ (ws : List Numbered) (first : ℕ) (sent : List Entry) (few : length se
         × EachSent sent m.fragments) ms
         → 0 < sum_by (one (tsn p j)) (fragments_read st ms) → 0 < sum_by (one (tsn p k)) (fragments_read st ms)
     read-whole st [] all lt = absurd (omega (arith, lt))
-    read-whole st (m ∷ ms) all lt = by (m.stream == st) lt (read-whole st ms (λ i d short. all (suc i) d (omega (arith, short))))
+    read-whole st (m ∷ ms) all lt = at-test (λ b. 0 < sum_by (one (tsn p j)) (if b then m.fragments ++ fragments_read st ms else fragments_read st ms)
+        → 0 < sum_by (one (tsn p k)) (if b then m.fragments ++ fragments_read st ms else fragments_read st ms)) (m.stream == st)
+        (λ e more.
+        let x = sum_by-append (one (tsn p j)) m.fragments (fragments_read st ms) in
+        let y = sum_by-append (one (tsn p k)) m.fragments (fragments_read st ms) in
+        by-test (list_any (has_tsn (tsn p j)) m.fragments)
+        (λ h. let w = some-of (tsn p k) m.fragments (whole-of m.fragments facts.0 facts.1 facts.2 h) in omega (arith, y, w))
+        (λ h.
+        let w = (read-whole st ms (λ i d short. all (suc i) d (omega (arith, short)))) (omega (arith, x, none-count (tsn p j) m.fragments h, more)) in
+        omega (arith, y, w)))
+        (λ e more. (read-whole st ms (λ i d short. all (suc i) d (omega (arith, short)))) more) lt
       where
         facts : (is_complete m.fragments ≡ true) × (is_one_message m.fragments ≡ true) × EachSent sent m.fragments
         facts = all 0 m (omega arith)
-
-        by : (b : Bool) → 0 < sum_by (one (tsn p j)) (if b then m.fragments ++ fragments_read st ms else fragments_read st ms)
-            → (0 < sum_by (one (tsn p j)) (fragments_read st ms) → 0 < sum_by (one (tsn p k)) (fragments_read st ms))
-            → 0 < sum_by (one (tsn p k)) (if b then m.fragments ++ fragments_read st ms else fragments_read st ms)
-        by false more ih = ih more
-        by true more ih =
-            let x = sum_by-append (one (tsn p j)) m.fragments (fragments_read st ms) in
-            let y = sum_by-append (one (tsn p k)) m.fragments (fragments_read st ms) in
-            at (list_any (has_tsn (tsn p j)) m.fragments) refl x y
-          where
-            at : (b : Bool) → list_any (has_tsn (tsn p j)) m.fragments ≡ b
-                → sum_by (one (tsn p j)) (m.fragments ++ fragments_read st ms) ≡ sum_by (one (tsn p j)) m.fragments + sum_by (one (tsn p j))
-                (fragments_read st ms)
-                → sum_by (one (tsn p k)) (m.fragments ++ fragments_read st ms) ≡ sum_by (one (tsn p k)) m.fragments + sum_by (one (tsn p k))
-                (fragments_read st ms) → 0 < sum_by (one (tsn p k)) (m.fragments ++ fragments_read st ms)
-            at true h x y = let w = some-of (tsn p k) m.fragments (whole-of m.fragments facts.0 facts.1 facts.2 h) in omega (arith, y, w)
-            at false h x y =
-                let z = none-count (tsn p j) m.fragments h in
-                let w = ih (omega (arith, x, z, more)) in
-                omega (arith, y, w)

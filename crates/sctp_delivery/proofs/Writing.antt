@@ -1,24 +1,11 @@
 -- A write, and a message that expires: what the calls make of the queues and the streams.
-use Rattle.std.proofs.Common.{◌≡◌, ℕ, ◌+◌, ◌%◌, ◌^◌, ◌<◌, Bool, true, false, not, List, ◌∷◌, length, map, drop, Option, Some, None, refl, ap, sym, subst, ◌∙◌}
-use Rattle.std.proofs.Common.{arith}
-use Rattle.std.specs.Prelude.{◌==◌, ◌&&◌, if◌then◌else◌, nat_lt}
-use Rattle.std.proofs.lemmas.Bool.Decides.{nat_tests}
-use Rattle.std.proofs.lemmas.Option.{none-some}
-use Rattle.sctp_util.specs.Kept.{always, numbers_where}
-use Rattle.sctp_util.specs.Lists.{change_where, pieces}
-use Rattle.sctp_util.proofs.Cases.{by_same, negated, same-is, same-yes, some-same}
-use Rattle.sctp_util.proofs.More.{both, fails}
-use Rattle.sctp_data.specs.declared.chunk.chunk_payload_data.ChunkPayloadData.{ChunkPayloadData}
-use Rattle.sctp_data.specs.declared.chunk.chunk_payload_data.PayloadProtocolIdentifier.{PayloadProtocolIdentifier}
-use Rattle.sctp_data.specs.PayloadTypes.{is_ordered}
-use Rattle.sctp_outbound.specs.outbound_queue.OutboundQueue.{expiring, is_expired, passing, with_message_id}
-use Rattle.sctp_outbound.specs.pending_queue.PendingQueue.{next_pending}
-use Rattle.sctp_sender.specs.Outgoing.{after_expiry, fragments_with_mode, has_number, with_reliability, wrote}
-use Rattle.sctp_sender.specs.Sender.{Transmission, after_expire, stream_of, write_refusal, written_to}
+use Rattle.sctp_delivery.proofs.Names.{◌≡◌, ℕ, ◌+◌, ◌%◌, ◌^◌, ◌<◌, Bool, true, false, not, List, ◌∷◌, length, map, drop, Option, Some, None, refl, ap, sym}
+use Rattle.sctp_delivery.proofs.Names.{subst, ◌∙◌, arith, ◌==◌, ◌&&◌, if◌then◌else◌, nat_lt, nat_tests, none-some, always, numbers_where, change_where, pieces}
+use Rattle.sctp_delivery.proofs.Names.{by_same, negated, same-is, same-yes, some-same, both, ChunkPayloadData, PayloadProtocolIdentifier, is_ordered, expiring}
+use Rattle.sctp_delivery.proofs.Names.{is_expired, passing, with_message_id, next_pending, after_expiry, fragments_with_mode, has_number, with_reliability}
+use Rattle.sctp_delivery.proofs.Names.{wrote, Transmission, after_expire, write_refusal, written_to, OutboundStream, fragment_at, Made}
+use Rattle.sctp_sender.specs.Sender.{stream_of}
 use Rattle.sctp_sender.proofs.SenderStreams.{made, one-message, unknown}
-use Rattle.sctp_stream.specs.declared.stream.StreamState.{StreamState}
-use Rattle.sctp_stream.specs.Stream.{fragment_at}
-use Rattle.sctp_delivery.specs.SenderCalls.{Made}
 use Rattle.sctp_delivery.proofs.Fragments.{fragments-turn, fragments-wait, nth}
 use Rattle.sctp_delivery.proofs.Numbers.{all-open, found-there, is_there, number-changed, number-elsewhere, number-found, number-is, number_of, open-of}
 use Rattle.sctp_delivery.proofs.Numbers.{size-found, steady-changed, sized-changed, there-changed, there-found}
@@ -33,7 +20,7 @@ use Rattle.sctp_delivery.proofs.Sessions.{unnot}
 -- ## A write
 
 module _ (ws : List Numbered) (first : ℕ) (t : Transmission) (sent : List Entry) (ms : List Made) (h : IsHeld ws first t sent) (stream : ℕ)
-    (ppi : PayloadProtocolIdentifier) (b : ℕ) (bs : List ℕ) (l : StreamState) (found : stream_of stream t ≡ Some l) where
+    (ppi : PayloadProtocolIdentifier) (b : ℕ) (bs : List ℕ) (l : OutboundStream) (found : stream_of stream t ≡ Some l) where
   abbrev next_id : ℕ
   next_id = t.flight.queue.next_message_id
 
@@ -46,7 +33,7 @@ module _ (ws : List Numbered) (first : ℕ) (t : Transmission) (sent : List Entr
   abbrev later : ℕ
   later = length (pieces (length bs) l.max_payload_size (drop l.max_payload_size (b ∷ bs)))
 
-  abbrev after : List StreamState
+  abbrev after : List OutboundStream
   after = change_where (has_number stream) (wrote ppi (b ∷ bs)) t.streams
 
   is-stream : l.stream_identifier ≡ stream
@@ -66,11 +53,7 @@ module _ (ws : List Numbered) (first : ℕ) (t : Transmission) (sent : List Entr
       (fragments-wait ws next_id l ppi (b ∷ bs) some later refl)
 
   unordered-same : not (is_ordered l.unordered ppi) ≡ true → (r : ℕ) → number_of r after ≡ number_of r t.streams
-  unordered-same e r = by_same r stream
-      (λ same. subst (λ k. number_of k after ≡ number_of k t.streams) (sym same)
-      (numbers-after ∙ ap (λ k. if k && nat_lt 0 (length (b ∷ bs)) then (l.sequence_number + 1) % 2 ^ 16
-      else l.sequence_number) (negated (is_ordered l.unordered ppi) e) ∙ sym (number-found stream t.streams l found)))
-      (λ differ _. number-elsewhere r stream differ (wrote ppi (b ∷ bs)) (λ x. refl) t.streams)
+  unordered-same e r = grind (arith, nat_tests, by_same, negated, number-elsewhere, number-found, numbers-after)
 
   counts-are : (r : ℕ) (k : Bool) → (l.stream_identifier == r) ≡ k → counts r (nth ws next_id l ppi (b ∷ bs) some 0) ≡ k
   counts-are r true e = ap (λ k. k && (0 == 0)) e
@@ -85,27 +68,13 @@ module _ (ws : List Numbered) (first : ℕ) (t : Transmission) (sent : List Entr
       there r same = subst (λ k. (l.stream_identifier == k) ≡ true) (is-stream ∙ sym same) (same-yes l.stream_identifier)
 
       first-number : counts r (nth ws next_id l ppi (b ∷ bs) some 0) ≡ true → l.sequence_number ≡ number_of r t.streams
-      first-number c =
-          let on = same-is l.stream_identifier r (both (l.stream_identifier == r) (0 == 0) c).0 in
-          sym (number-found stream t.streams l found) ∙ ap (λ k. number_of k t.streams) (sym is-stream ∙ on)
+      first-number h1 = grind (arith, nat_tests, both, is-stream, number-found, same-is)
 
       rises : number_of stream after ≡ (l.sequence_number + 1) % 2 ^ 16
-      rises =
-          let longer : nat_lt 0 (length (b ∷ bs)) ≡ true = grind (arith, nat_tests) in
-          numbers-after
-          ∙ ap (λ k. if k && nat_lt 0 (length (b ∷ bs)) then (l.sequence_number + 1) % 2 ^ 16 else l.sequence_number)
-          (unnot (is_ordered l.unordered ppi) e) ∙ ap (λ k. if k then (l.sequence_number + 1) % 2 ^ 16 else l.sequence_number) longer
+      rises = grind (arith, nat_tests, numbers-after, unnot)
 
       next : number_of r after ≡ number_after (counts r (nth ws next_id l ppi (b ∷ bs) some 0)) (number_of r t.streams)
-      next = by_same r stream
-          (λ same.
-          let it : counts r (nth ws next_id l ppi (b ∷ bs) some 0) ≡ true = counts-are r true (there r same) in
-          ap (λ k. number_of k after) same ∙ rises ∙ ap (λ k. (k + 1) % 2 ^ 16) (first-number it) ∙ ap (λ k. number_after k (number_of r t.streams)) (sym it))
-          (λ differ _.
-          let off : (l.stream_identifier == r) ≡ false = fails (l.stream_identifier == r)
-          (λ c. differ (sym (sym is-stream ∙ same-is l.stream_identifier r c))) in
-          number-elsewhere r stream differ (wrote ppi (b ∷ bs)) (λ x. refl) t.streams
-          ∙ ap (λ k. number_after k (number_of r t.streams)) (sym (counts-are r false off)))
+      next = grind (arith, nat_tests, by_same, counts-are, first-number, is-stream, number-elsewhere, rises, same-is, there)
 
   pub writes-some : Result None ws (write ∷ ws) first sent (written_to l stream ppi (b ∷ bs) t) ms ms
   writes-some = calm ws (write ∷ ws) first sent (written_to l stream ppi (b ∷ bs) t) ms (record {
@@ -122,24 +91,15 @@ module _ (ws : List Numbered) (first : ℕ) (t : Transmission) (sent : List Entr
   })
 
 -- the stream of a write that is not refused
-pub accepted-stream : (stream len : ℕ) (t : Transmission) → write_refusal stream len t ≡ None → (l : StreamState) × (stream_of stream t ≡ Some l)
-accepted-stream stream len t e = by (stream_of stream t) refl
-  where
-    by : (o : Option StreamState) → stream_of stream t ≡ o → (l : StreamState) × (o ≡ Some l)
-    by None h = let u = unknown stream len t h in absurd (cc)
-    by (Some l) h = (l, refl)
+pub accepted-stream : (stream len : ℕ) (t : Transmission) → write_refusal stream len t ≡ None → (l : OutboundStream) × (stream_of stream t ≡ Some l)
+accepted-stream stream len t e = grind (arith, nat_tests, unknown)
 
 -- ## A message expires
 
 -- an unsent message in front, past its deadline
 pub in-front : (now : ℕ) (o : Option ChunkPayloadData) (c : ChunkPayloadData) → passing (is_expired now) o ≡ Some c
     → (o ≡ Some c) × (c.beginning_fragment ≡ true)
-in-front now None c e = absurd (none-some c e)
-in-front now (Some x) c e = by (is_expired now x) refl e
-  where
-    by : (b : Bool) → is_expired now x ≡ b → (if b then Some x else None) ≡ Some c → (Some x ≡ Some c) × (c.beginning_fragment ≡ true)
-    by true h f = (f, subst (λ (y : ChunkPayloadData). y.beginning_fragment ≡ true) (some-same f) (both x.beginning_fragment _ h).0)
-    by false h f = absurd (none-some c f)
+in-front now o c h4 = grind (arith, nat_tests, both, none-some, some-same)
 
 pub expires-one : (ws : List Numbered) (first : ℕ) (t : Transmission) (sent : List Entry) (ms : List Made) → IsHeld ws first t sent
     → (now : ℕ) (c : ChunkPayloadData) (bytes : ℕ) → expiring now t.flight.queue ≡ Some c → Result None ws ws first sent (after_expire c bytes now t) ms ms
@@ -150,16 +110,16 @@ expires-one ws first t sent ms h now c bytes e = calm ws ws first sent (after_ex
   size = h.size;
 })
   where
-    after : List StreamState
+    after : List OutboundStream
     after = change_where (has_number c.stream_identifier) (after_expiry c.unordered bytes) t.streams
 
     front : (next_pending t.flight.queue.pending ≡ Some c) × (c.beginning_fragment ≡ true)
     front = in-front now (next_pending t.flight.queue.pending) c e
 
-    keeps : (l : StreamState) → (after_expiry c.unordered bytes l).stream_identifier ≡ l.stream_identifier
+    keeps : (l : OutboundStream) → (after_expiry c.unordered bytes l).stream_identifier ≡ l.stream_identifier
     keeps l = elim c.unordered as (λ b. (after_expiry b bytes l).stream_identifier ≡ l.stream_identifier) [ true ↦ refl | false ↦ refl ]
 
-    sizes : (l : StreamState) → (after_expiry c.unordered bytes l).max_payload_size ≡ l.max_payload_size
+    sizes : (l : OutboundStream) → (after_expiry c.unordered bytes l).max_payload_size ≡ l.max_payload_size
     sizes l = elim c.unordered as (λ b. (after_expiry b bytes l).max_payload_size ≡ l.max_payload_size) [ true ↦ refl | false ↦ refl ]
 
     same : c.unordered ≡ true → (r : ℕ) → number_of r after ≡ number_of r t.streams

@@ -2,7 +2,7 @@
 use Rattle.std.specs.Prelude.{◌≡◌, ℕ, ◌-◌, ◌^◌, ◌==◌, ◌&&◌, All, if◌then◌else◌, length, min}
 use Rattle.std.specs.List.{sum_by}
 use Rattle.sctp_data.specs.PayloadTypes.{has_bytes, is_counted}
-use Rattle.sctp_stream.specs.declared.stream.StreamState.{StreamState}
+use Rattle.sctp_stream.specs.declared.outbound_stream.OutboundStream.{OutboundStream}
 use Rattle.sctp_delivery.specs.SenderCalls.{Write}
 use Rattle.sctp_delivery.specs.Session.{Session}
 
@@ -16,7 +16,7 @@ bytes_on stream w =
     if (w.stream == stream) && has_bytes w.payload_type then length w.bytes else 0
 
 -- the counters are these sums, up to the greatest number of 64 bits
-pub record HasSums (s : Session) (l : StreamState) : Type 0 where
+pub record HasSums (s : Session) (l : OutboundStream) : Type 0 where
   pub messages : l.stats.messages_sent
       ≡ min (sum_by (messages_on l.stream_identifier) s.written) (2 ^ 64 - 1)
   pub bytes : l.stats.bytes_sent

@@ -11,7 +11,7 @@ use Rattle.sctp_data.specs.SelectiveAck.{Sack}
 use Rattle.sctp_outbound.specs.outbound_queue.OutboundQueue.{all_started, as_sent, expiring, expiring_tail, message_of, sent_next}
 use Rattle.sctp_outbound.specs.pending_queue.PendingQueue.{next_pending}
 use Rattle.sctp_serial.specs.DataChunks.{has_tsn}
-use Rattle.sctp_stream.specs.declared.stream.StreamState.{StreamState}
+use Rattle.sctp_stream.specs.declared.outbound_stream.OutboundStream.{OutboundStream}
 use Rattle.sctp_sender.specs.declared.sender.ExpiredMessage.{ExpiredMessage}
 use Rattle.sctp_sender.specs.declared.sender.flight.late.AbandonedMessage.{AbandonedMessage}
 use Rattle.sctp_sender.specs.declared.sender.flight.Released.{Released}
@@ -118,7 +118,7 @@ IsAccepted (takes_sack sack gone) t = sack_refusal sack t.flight ≡ None
 abbrev pub Writes : ℕ → PayloadProtocolIdentifier → List ℕ → Transmission → Transmission → Type 0
 Writes stream ppi bytes old new =
     (length bytes ≡ 0 → new ≡ old)
-    × (0 < length bytes → (l : StreamState) → stream_of stream old ≡ Some l
+    × (0 < length bytes → (l : OutboundStream) → stream_of stream old ≡ Some l
     → new ≡ written_to l stream ppi bytes old)
 
 -- the message in front leaves, where it is past its deadline and unsent

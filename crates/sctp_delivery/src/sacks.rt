@@ -8,6 +8,7 @@ ghost use Rattle.sctp_delivery.specs.SenderCalls.{SenderMakes, takes_sack};
 ghost use Rattle.sctp_delivery.specs.Sacks.{AfterEachSessionOfFewTsns, AcknowledgedCame, AllReportedLeaves, EachSackTells, LeftCame, NextSackTells, NoneIsRefused, NoneIsTakenTwice, PassAbandoned, ReleasedCame, ReportWhatCame, StaysAcknowledged, was_taken};
 
 use sctp_data::chunk::chunk_selective_ack::ChunkSelectiveAck;
+use sctp_sender::replay;
 use sctp_sender::sender::Sender;
 use sctp_sender::sender::flight::Released;
 use sctp_sender::sender::refusal::SenderRefusal;
@@ -75,5 +76,5 @@ pub fn take_sack(
 {
     no_sack_is_refused();
     what_is_acknowledged_came_or_was_abandoned();
-    sender.acked(sack)
+    replay::acked(sender, sack)
 }

@@ -1,6 +1,6 @@
 //! Each call of a sender makes the step that sessions have of it (RFC 4960 6.1, 6.2.1; RFC 3758 3.5): here it is called and nothing else.
 //!
-//! Left out are `close`, `reset`, `take_back` and `replay::count_resend`, which are no calls of a session.
+//! Left out are `close`, `reset`, `replay::take_back` and `replay::count_resend`, which are no calls of a session.
 
 ghost use Rattle.std.specs.Prelude.{◌≡◌, ◌<◌, ◌≤◌, Some, None, OnOk, IfOk, IfSome, find};
 ghost use Rattle.sctp_data.specs.declared.chunk.chunk_payload_data.ChunkPayloadData.{ChunkPayloadData};
@@ -18,10 +18,9 @@ use sctp_data::chunk::chunk_payload_data::{
     ChunkPayloadData, PayloadProtocolIdentifier, ReliabilityType,
 };
 use sctp_data::chunk::chunk_selective_ack::ChunkSelectiveAck;
-use sctp_sender::sender::flight::Released;
 use sctp_sender::sender::flight::late::AbandonedMessage;
 use sctp_sender::sender::refusal::SenderRefusal;
-use sctp_sender::sender::{Dropped, ExpiredMessage, Sender};
+use sctp_sender::sender::{Acked, Dropped, ExpiredMessage, Sender};
 use sctp_sender::{costs, replay};
 use sctp_serial::turns::Turns;
 
@@ -165,10 +164,10 @@ pub fn forward_tsn_to(sender: &Sender, tsn: u32) -> Result<Option<ChunkForwardTs
     replay::forward_tsn_to(sender, tsn)
 }
 
-/// Takes a SACK.
-pub fn acked(sender: &mut Sender, sack: &ChunkSelectiveAck) -> Result<Vec<Released>, SenderRefusal>
-    ensures { IfOk result
-        (λ gone. SenderMakes (takes_sack (sack_of sack.now) gone.items) sender.old sender.new) }
+/// Takes a SACK, where the sender keeps nothing of what is reported, as in each session.
+pub fn acked(sender: &mut Sender, sack: &ChunkSelectiveAck) -> Result<Acked, SenderRefusal>
+    ensures { sender.old.kept ≡ None → IfOk result (λ r.
+        SenderMakes (takes_sack (sack_of sack.now) r.released.items) sender.old sender.new) }
 {
     sender.acked(sack)
 }
@@ -229,9 +228,9 @@ pub fn acked_counted(
     sender: &mut Sender,
     sack: &ChunkSelectiveAck,
     turns: &mut Turns,
-) -> Result<Vec<Released>, SenderRefusal>
-    ensures { IfOk result
-        (λ gone. SenderMakes (takes_sack (sack_of sack.now) gone.items) sender.old sender.new) }
+) -> Result<Acked, SenderRefusal>
+    ensures { sender.old.kept ≡ None → IfOk result (λ r.
+        SenderMakes (takes_sack (sack_of sack.now) r.released.items) sender.old sender.new) }
 {
     costs::acked(sender, sack, turns)
 }

@@ -57,7 +57,7 @@ pub use Rattle.sctp_reassembly.specs.reassembly_queue.ReassemblyQueue.{after_ord
 pub use Rattle.sctp_reassembly.specs.reassembly_queue.ReassemblyQueue.{held_after_unordered_skip}
 pub use Rattle.sctp_reassembly.specs.reassembly_queue.Fragments.{is_complete}
 pub use Rattle.sctp_stream.proofs.StreamPlaces.{map-set_same, taken-back}
-pub use Rattle.sctp_stream.specs.declared.stream.StreamState.{StreamState}
+pub use Rattle.sctp_stream.specs.declared.outbound_stream.OutboundStream.{OutboundStream}
 pub use Rattle.sctp_stream.specs.declared.stream.DataChannelStats.{DataChannelStats}
 pub use Rattle.sctp_sender.specs.Flight.{reports, reports_anew, Flight, is_within, sack_refusal, take_sack, after_sack, is_whole, released_of, released_by}
 pub use Rattle.sctp_sender.specs.Flight.{message_to_abandon, after_abandonment, has_tail_at, may_send, with_queue, with_room}

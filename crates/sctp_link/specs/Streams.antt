@@ -8,7 +8,7 @@ use Rattle.sctp_data.specs.declared.chunk.chunk_payload_data.PayloadProtocolIden
 use Rattle.sctp_data.specs.declared.chunk.chunk_forward_tsn.ChunkForwardTsnStream.{ChunkForwardTsnStream}
 use Rattle.sctp_reassembly.specs.reassembly_queue.ReassemblyQueue.{PushesUnordered, after_ordered_push, after_unordered_skip}
 use Rattle.sctp_stream.specs.declared.stream.DataChannelStats.{DataChannelStats}
-use Rattle.sctp_stream.specs.declared.stream.StreamState.{StreamState}
+use Rattle.sctp_stream.specs.declared.outbound_stream.OutboundStream.{OutboundStream}
 use Rattle.sctp_stream.specs.Stream.{new_stream}
 use Rattle.sctp_receiver.specs.declared.receiver.inbound_streams.InboundStream.{InboundStream}
 use Rattle.sctp_sender.specs.declared.sender.flight.Released.{Released}
@@ -20,7 +20,7 @@ use Rattle.sctp_link.specs.declared.record.Written.{Written}
 
 pub record OpenStream : Type 0 where
   -- how its writes are cut, and what was sent
-  pub state : StreamState
+  pub state : OutboundStream
   -- what came on it and was not read, and what was read
   pub inbound : InboundStream
   -- the unordered messages that are complete and not read, by their numbers, in the order in which they became complete
@@ -44,7 +44,7 @@ abbrev pub stream_numbers : List OpenStream → List ℕ
 stream_numbers ls = map number ls
 
 -- what the sender has of a stream, what the receiver has, and its progress
-abbrev pub join : StreamState → InboundStream → Standing → OpenStream
+abbrev pub join : OutboundStream → InboundStream → Standing → OpenStream
 join s i p =
     record {
       state = s;
@@ -57,7 +57,7 @@ join s i p =
     }
 
 -- so of each stream
-abbrev pub join_each : List StreamState → List InboundStream → List Standing → List OpenStream
+abbrev pub join_each : List OutboundStream → List InboundStream → List Standing → List OpenStream
 join_each (s ∷ ss) (i ∷ is) (p ∷ ps) = join s i p ∷ join_each ss is ps
 join_each [] is ps = []
 join_each (s ∷ ss) [] ps = []
@@ -67,7 +67,7 @@ join_each (s ∷ ss) (i ∷ is) [] = []
 abbrev pub new_open_stream : ℕ → ℕ → ℕ → OpenStream
 new_open_stream s size largest =
     record {
-      state = new_stream s size largest Unknown;
+      state = new_stream s size;
       inbound = Inbound.new_stream s largest;
       complete = [];
       ordered = 0;
@@ -79,7 +79,7 @@ new_open_stream s size largest =
 -- ## The sending side
 
 -- its state changes
-abbrev pub on_state : (StreamState → StreamState) → OpenStream → OpenStream
+abbrev pub on_state : (OutboundStream → OutboundStream) → OpenStream → OpenStream
 on_state f l = record l { state = f l.state }
 
 -- what is recorded of a write

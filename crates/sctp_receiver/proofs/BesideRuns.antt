@@ -1,8 +1,6 @@
 -- What stays so in each run of calls of a receiver beside which something is kept.
-use Rattle.std.proofs.Common.{List, [], ◌∷◌, subst, sym}
+use Rattle.sctp_receiver.proofs.Names.{List, [], ◌∷◌, subst, sym, Reception, Call, Makes, Stand}
 use Rattle.sctp_receiver.specs.Beside.{RunsBeside}
-use Rattle.sctp_receiver.specs.Receiver.{Reception}
-use Rattle.sctp_receiver.specs.ReceiverRuns.{Call, Makes, Stand}
 
 module _ {A : Type 0} (after : Call → Reception → A → A) (P : Reception → A → Type 0)
     (step : (c : Call) (old new : Reception) (x : A) → Makes c old new → P old x → P new (after c old x)) where

@@ -1,16 +1,8 @@
 -- A new TSN that is taken has come.
-use Rattle.std.proofs.Common.{◌≡◌, ℕ, ◌-◌, ◌<◌, ◌^◌, Bool, true, false, List, [], ◌∷◌, refl, sym, subst, arith}
-use Rattle.std.specs.Prelude.{if◌then◌else◌, ◌==◌, ◌||◌}
-use Rattle.std.specs.List.{list_any}
-use Rattle.std.proofs.lemmas.Bool.Decides.{nat_tests}
-use Rattle.sctp_util.specs.Lists.{insert_before, advance_over, Seen}
-use Rattle.sctp_util.specs.Serial.{distance, comes_before, at_or_before}
-use Rattle.sctp_util.proofs.Cases.{same-yes, same-is}
-use Rattle.sctp_serial.proofs.lemmas.AscendingEdits.{distance_self}
-use Rattle.sctp_serial.proofs.lemmas.ListEdits.{neither}
-use Rattle.sctp_serial.specs.DataChunks.{following_tsn}
-use Rattle.sctp_reassembly.proofs.lemmas.reassembly_queue.SerialPlaces.{after_one}
-use Rattle.sctp_receiver.specs.TsnFilter.{Filter, has_come, is_opposite, with_tsn, rise_beyond}
+use Rattle.sctp_receiver.proofs.Names.{◌≡◌, ℕ, ◌-◌, ◌<◌, ◌^◌, Bool, true, false, List, [], ◌∷◌, refl, sym, subst, arith, if◌then◌else◌, ◌==◌, ◌||◌, list_any}
+use Rattle.sctp_receiver.proofs.Names.{nat_tests, insert_before, advance_over, Seen, distance, comes_before, same-yes, same-is, distance_self, neither}
+use Rattle.sctp_receiver.proofs.Names.{following_tsn, after_one, Filter, has_come, is_opposite, with_tsn, rise_beyond}
+use Rattle.sctp_util.specs.Serial.{at_or_before}
 use Rattle.sctp_receiver.proofs.TsnLists.{IsStep, step-of, rebased, rise-inserted, stays, moves, beyond}
 
 or-left : (a b : Bool) → a ≡ true → (a || b) ≡ true

@@ -1,24 +1,12 @@
 -- Messages that are kept as complete, and messages that are read.
-use Rattle.std.proofs.Common.{◌≡◌, ℕ, zero, suc, ◌+◌, ◌-◌, ◌<◌, ◌≤◌, Bool, true, false, List, [], ◌∷◌, length, take, drop, Option, Some, None, refl, ap, sym}
-use Rattle.std.proofs.Common.{◌∙◌, arith, get_or}
-use Rattle.std.specs.Prelude.{if◌then◌else◌}
-use Rattle.std.specs.List.{list_all, filter}
-use Rattle.std.proofs.lemmas.Bool.{eq-eqb}
-use Rattle.std.proofs.lemmas.List.{get_or-drop, length-drop}
-use Rattle.std.proofs.lemmas.List.Folds.{list_all-append}
-use Rattle.sctp_util.specs.Lists.{insert_before}
-use Rattle.sctp_util.specs.Serial.{at_or_before, comes_before16, at_or_before16}
-use Rattle.sctp_util.proofs.More.{and, both}
-use Rattle.sctp_data.specs.declared.chunk.chunk_payload_data.ChunkPayloadData.{ChunkPayloadData}
-use Rattle.sctp_data.specs.ChunkSet.{ChunkSet}
-use Rattle.sctp_serial.specs.DataChunks.{chunk_before, following_tsn}
+use Rattle.sctp_receiver.proofs.Names.{◌≡◌, ℕ, zero, suc, ◌+◌, ◌-◌, ◌<◌, ◌≤◌, Bool, true, false, List, [], ◌∷◌, length, take, drop, Option, Some, None, refl}
+use Rattle.sctp_receiver.proofs.Names.{ap, sym, ◌∙◌, arith, get_or, if◌then◌else◌, list_all, filter, eq-eqb, get_or-drop, length-drop, list_all-append}
+use Rattle.sctp_receiver.proofs.Names.{insert_before, at_or_before, comes_before16, at_or_before16, and, both, ChunkPayloadData, ChunkSet, chunk_before}
+use Rattle.sctp_receiver.proofs.Names.{following_tsn, is_complete, sets_with, Reassembly, ReassemblyState, set_of_run, TakesRun, BecomesComplete, is_readable}
+use Rattle.sctp_receiver.proofs.Names.{front_readable, after_read, message_among, message_read, rest_among, rest_read, is_old_message, held_after_reset}
+use Rattle.sctp_receiver.proofs.Names.{placeholder, Pushes, PushesAs}
 use Rattle.sctp_serial.specs.Runs.{IsRun}
-use Rattle.sctp_reassembly.specs.reassembly_queue.Fragments.{is_complete, completes, sets_with}
-use Rattle.sctp_reassembly.specs.reassembly_queue.ReassemblyQueue.{Reassembly, ReassemblyState, set_of_run, TakesRun, BecomesComplete, is_readable}
-use Rattle.sctp_reassembly.specs.reassembly_queue.ReassemblyQueue.{front_readable, after_read, message_among, message_read, rest_among, rest_read}
-use Rattle.sctp_reassembly.specs.reassembly_queue.Resets.{is_old_message, held_after_reset}
-use Rattle.sctp_receiver.specs.TsnFilter.{placeholder}
-use Rattle.sctp_receiver.specs.Inbound.{Pushes, PushesAs}
+use Rattle.sctp_reassembly.specs.reassembly_queue.Fragments.{completes}
 
 -- ## Runs are complete
 

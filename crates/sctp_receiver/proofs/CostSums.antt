@@ -1,11 +1,8 @@
 -- The sum of what the streams of a receiver hold, each up to the greatest usize.
-use Rattle.std.proofs.Common.{◌≡◌, ℕ, ◌+◌, ◌-◌, ◌<◌, ◌≤◌, ◌^◌, List, [], ◌∷◌, ◌++◌, length, refl, ap, sym, ◌∙◌, arith, length-set}
-use Rattle.std.specs.Prelude.{min, slice_index_or, slice_set, All}
-use Rattle.std.specs.List.{sum_by, remove}
-use Rattle.std.proofs.lemmas.List.Sums.{sum_by-cons, sum_by-append, sum_by-le, sum_by-set, sum_by-remove, get_or-le-sum_by}
-use Rattle.sctp_receiver.specs.declared.receiver.inbound_streams.InboundStream.{InboundStream}
-use Rattle.sctp_receiver.specs.Inbound.{new_stream}
-use Rattle.sctp_receiver.specs.Limits.{cost_of, cost_within, held_cost}
+use Rattle.sctp_receiver.proofs.Names.{◌≡◌, ℕ, ◌+◌, ◌-◌, ◌<◌, ◌≤◌, ◌^◌, List, [], ◌∷◌, ◌++◌, length, refl, ap, sym, ◌∙◌, arith, length-set, min, slice_index_or}
+use Rattle.sctp_receiver.proofs.Names.{slice_set, All, sum_by, remove, sum_by-cons, sum_by-append, sum_by-set, InboundStream, new_stream, cost_of, cost_within}
+use Rattle.sctp_receiver.proofs.Names.{held_cost}
+use Rattle.std.proofs.lemmas.List.Sums.{sum_by-le, sum_by-remove, get_or-le-sum_by}
 
 capped : (m a b c : ℕ) → min b m ≡ min c m → min (a + b) m ≡ min (min a m + c) m
 capped m a b c e = omega arith

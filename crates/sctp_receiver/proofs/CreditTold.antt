@@ -1,32 +1,19 @@
 -- What is held after each run of calls, and what a SACK tells of it.
-use Rattle.std.proofs.Common.{◌≡◌, ℕ, ◌+◌, ◌*◌, ◌<◌, ◌≤◌, ◌^◌, Bool, true, false, List, [], ◌∷◌, ◌++◌, map, length, Option, Some, None, refl, ap, sym, ◌∙◌}
-use Rattle.std.proofs.Common.{arith, subst}
-use Rattle.std.specs.Prelude.{if◌then◌else◌, find, ⊤}
-use Rattle.std.specs.List.{sum_by, filter}
-use Rattle.std.proofs.lemmas.List.Sums.{sum_by-cons}
-use Rattle.sctp_util.specs.Lists.{change_where}
-use Rattle.sctp_data.specs.declared.chunk.chunk_payload_data.ChunkPayloadData.{ChunkPayloadData}
-use Rattle.sctp_data.specs.declared.chunk.chunk_forward_tsn.ChunkForwardTsnStream.{ChunkForwardTsnStream}
-use Rattle.sctp_data.specs.ChunkSet.{ChunkSet}
-use Rattle.sctp_data.specs.ForwardTsn.{ForwardTsn}
-use Rattle.sctp_reassembly.specs.reassembly_queue.Counts.{set_chunks}
-use Rattle.sctp_reassembly.specs.reassembly_queue.ReassemblyQueue.{ReassemblyState, IsCounted, held_bytes, set_bytes, bytes_read, message_read}
+use Rattle.sctp_receiver.proofs.Names.{◌≡◌, ℕ, ◌+◌, ◌*◌, ◌<◌, ◌≤◌, ◌^◌, Bool, true, false, List, [], ◌∷◌, ◌++◌, map, length, Option, Some, None, refl, ap, sym}
+use Rattle.sctp_receiver.proofs.Names.{◌∙◌, arith, subst, if◌then◌else◌, find, ⊤, sum_by, filter, sum_by-cons, change_where, ChunkPayloadData}
+use Rattle.sctp_receiver.proofs.Names.{ChunkForwardTsnStream, ChunkSet, ForwardTsn, set_chunks, ReassemblyState, message_read, New, Repeat, InboundStream}
+use Rattle.sctp_receiver.proofs.Names.{Limits, number, numbers_of, has_number, new_stream, with_queue, Pushes, PushesAs, stream_read, ssn_forwarded}
+use Rattle.sctp_receiver.proofs.Names.{named_forwarded, unassembled_forwarded, chunk_cost, cost_of, Reception, Accepts, filter_of, with_filter, repeat_tsn}
+use Rattle.sctp_receiver.proofs.Names.{after_discard, message_of, message_on, is_stale, follow_forward_tsn, after_forward, Call, opens, closes, takes, discards}
+use Rattle.sctp_receiver.proofs.Names.{reports, reports_within, reads, resets, forwards, forwards_by_names, Message, Stand, Makes, accepted_after, with_message}
+use Rattle.sctp_receiver.proofs.Names.{Follows, RunsTo, at_start, stream_reset, incomplete_forwarded, without_incomplete, after_forward_tsn, has_come, with_tsn}
+use Rattle.sctp_receiver.proofs.Names.{AfterEachLimitedRun, bytes_of}
+use Rattle.sctp_reassembly.specs.reassembly_queue.ReassemblyQueue.{IsCounted, held_bytes, set_bytes, bytes_read}
 use Rattle.sctp_reassembly.proofs.lemmas.reassembly_queue.ByteCounts.{ordered_counted, unordered_counted, skip_counted, drop_counted, incomplete_counted}
 use Rattle.sctp_reassembly.proofs.lemmas.reassembly_queue.Resets.{reset_counted}
-use Rattle.sctp_receiver.specs.declared.receiver.arrival.Arrival.TheVariants.{New, Repeat}
-use Rattle.sctp_receiver.specs.declared.receiver.inbound_streams.InboundStream.{InboundStream}
-use Rattle.sctp_receiver.specs.declared.receiver.limits.Limits.{Limits}
-use Rattle.sctp_receiver.specs.Inbound.{number, numbers_of, has_number, new_stream, with_queue, Pushes, PushesAs, stream_read, ssn_forwarded, named_forwarded}
-use Rattle.sctp_receiver.specs.Inbound.{unassembled_forwarded}
-use Rattle.sctp_receiver.specs.Limits.{chunk_cost, cost_of, window_left}
-use Rattle.sctp_receiver.specs.Receiver.{Reception, Accepts, filter_of, with_filter, repeat_tsn, after_discard, message_of, message_on, is_stale}
-use Rattle.sctp_receiver.specs.Receiver.{follow_forward_tsn, after_forward}
-use Rattle.sctp_receiver.specs.ReceiverRuns.{Call, opens, closes, takes, discards, reports, reports_within, reads, resets, forwards, forwards_by_names, Message}
-use Rattle.sctp_receiver.specs.ReceiverRuns.{Stand, Makes, accepted_after, with_message, messages_after, Follows, RunsTo, at_start}
-use Rattle.sctp_receiver.specs.Resets.{stream_reset}
-use Rattle.sctp_receiver.specs.Skips.{incomplete_forwarded, without_incomplete, after_forward_tsn}
-use Rattle.sctp_receiver.specs.TsnFilter.{has_come, with_tsn}
-use Rattle.sctp_receiver.specs.Credit.{cost_of_chunks, cost_held_on, AfterEachLimitedRun, AfterEachUnlimitedRun, TellsWhatIsLeft}
+use Rattle.sctp_receiver.specs.Limits.{window_left}
+use Rattle.sctp_receiver.specs.ReceiverRuns.{messages_after}
+use Rattle.sctp_receiver.specs.Credit.{cost_of_chunks, cost_held_on, AfterEachUnlimitedRun, TellsWhatIsLeft}
 use Rattle.sctp_receiver.specs.Credit.{OpensByReads, TellsTheMost}
 use Rattle.sctp_receiver.proofs.DataEach.{takes-keeps}
 use Rattle.sctp_receiver.proofs.Forwarded.{followed-numbers}
@@ -35,7 +22,6 @@ use Rattle.sctp_receiver.proofs.Receptions.{read-numbers}
 use Rattle.sctp_receiver.proofs.StreamCosts.{are_apart, changed-cost, mapped-cost, named-cost, kept-cost, opened-cost, one-changed, kept-apart, more-apart}
 use Rattle.sctp_receiver.proofs.Weights as weights
 use Rattle.sctp_receiver.proofs.Weights.{weight, message_weight}
-use Rattle.sctp_serial.specs.DataChunks.{bytes_of}
 
 -- ## Streams that count the bytes which they hold
 

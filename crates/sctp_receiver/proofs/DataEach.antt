@@ -1,17 +1,10 @@
 -- Several DATA chunks, one after another.
-use Rattle.std.proofs.Common.{◌≡◌, ℕ, List, [], ◌∷◌, ◌++◌, take, Option, Some, refl, ap, sym, ◌∙◌, subst, arith, true, false, Bool, inl, inr}
-use Rattle.std.specs.Prelude.{slice_get, ◌⊎◌, ◌==◌, find, if◌then◌else◌}
-use Rattle.std.proofs.lemmas.Bool.Decides.{nat_tests}
-use Rattle.sctp_util.specs.Lists.{change_where}
-use Rattle.sctp_data.specs.declared.chunk.chunk_payload_data.ChunkPayloadData.{ChunkPayloadData}
-use Rattle.sctp_reassembly.specs.reassembly_queue.ReassemblyQueue.{ReassemblyState}
-use Rattle.sctp_receiver.specs.declared.receiver.arrival.Arrival.{Arrival}
-use Rattle.sctp_receiver.specs.declared.receiver.arrival.Arrival.TheVariants.{New, Repeat}
-use Rattle.sctp_receiver.specs.declared.receiver.refusal.ReceiverRefusal.{ReceiverRefusal}
-use Rattle.sctp_receiver.specs.declared.receiver.refusal.ReceiverRefusal.TheVariants.{OutOfMemory}
-use Rattle.sctp_receiver.specs.declared.receiver.inbound_streams.InboundStream.{InboundStream}
-use Rattle.sctp_receiver.specs.Inbound.{numbers_of, number, has_number, with_queue}
-use Rattle.sctp_receiver.specs.Receiver.{Reception, Takes, TakesFirstBy, TakesEachBy, StopsAtBy, IsRefusedFor}
+use Rattle.sctp_receiver.proofs.Names.{◌≡◌, ℕ, List, [], ◌∷◌, ◌++◌, take, Option, Some, refl, ap, sym, ◌∙◌, subst, arith, true, false, Bool, inl, inr}
+use Rattle.sctp_receiver.proofs.Names.{slice_get, ◌==◌, find, if◌then◌else◌, nat_tests, change_where, ChunkPayloadData, ReassemblyState, Arrival, New, Repeat}
+use Rattle.sctp_receiver.proofs.Names.{ReceiverRefusal, OutOfMemory, InboundStream, numbers_of, number, has_number, with_queue, Reception, Takes, TakesFirstBy}
+use Rattle.sctp_receiver.proofs.Names.{TakesEachBy, IsRefusedFor}
+use Rattle.std.specs.Prelude.{◌⊎◌}
+use Rattle.sctp_receiver.specs.Receiver.{StopsAtBy}
 use Rattle.sctp_receiver.proofs.Inbounds.{pushed-number}
 
 -- why a chunk is refused

@@ -1,16 +1,10 @@
 -- What the DATA chunks of one datagram cost together.
-use Rattle.std.proofs.Common.{◌≡◌, ℕ, suc, ◌+◌, ◌*◌, ◌-◌, ◌≤◌, List, [], ◌∷◌, length, refl, ap, arith}
+use Rattle.sctp_receiver.proofs.Names.{◌≡◌, ℕ, suc, ◌+◌, ◌*◌, ◌-◌, ◌≤◌, List, [], ◌∷◌, length, refl, ap, arith, insert_before, comes_before, ChunkPayloadData}
+use Rattle.sctp_receiver.proofs.Names.{digits, Arrival, New, Repeat, Reception, Takes}
 use Rattle.std.proofs.Math.Nat.{suc-mul, mul-le-mul_left}
-use Rattle.sctp_util.specs.Lists.{insert_before}
-use Rattle.sctp_util.specs.Serial.{comes_before}
-use Rattle.sctp_data.specs.declared.chunk.chunk_payload_data.ChunkPayloadData.{ChunkPayloadData}
-use Rattle.sctp_reassembly.specs.reassembly_queue.Orders.{digits}
 use Rattle.sctp_reassembly.proofs.lemmas.reassembly_queue.Digits.{digits_within}
-use Rattle.sctp_receiver.specs.declared.receiver.arrival.Arrival.{Arrival}
-use Rattle.sctp_receiver.specs.declared.receiver.arrival.Arrival.TheVariants.{New, Repeat}
 use Rattle.sctp_receiver.specs.Costs.{IsWithinEach}
 use Rattle.sctp_receiver.specs.Datagrams.{datagram_looks, IsWithinDatagram}
-use Rattle.sctp_receiver.specs.Receiver.{Reception, Takes}
 use Rattle.sctp_receiver.proofs.Retracts.{advance-short, length-put}
 use Rattle.sctp_receiver.proofs.UndoCosts.{few-digits}
 

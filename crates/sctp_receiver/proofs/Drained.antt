@@ -1,16 +1,11 @@
 -- What reading a stream until no message is left gives.
-use Rattle.std.proofs.Common.{◌≡◌, ℕ, ◌+◌, ◌%◌, ◌^◌, Bool, true, false, List, [], ◌∷◌, ◌++◌, drop, Option, Some, None, Result, Ok, Err, refl, ap, sym, ◌∙◌}
-use Rattle.std.specs.Prelude.{if◌then◌else◌, ◌==◌, IfOk, OnOk, option_map, slice_get}
-use Rattle.std.proofs.lemmas.Bool.{eq-eqb}
-use Rattle.sctp_data.specs.declared.chunk.chunk_payload_data.ChunkPayloadData.{ChunkPayloadData}
-use Rattle.sctp_data.specs.ChunkSet.{ChunkSet}
-use Rattle.sctp_reassembly.specs.reassembly_queue.ReassemblyQueue.{Reassembly, after_read, is_readable, message_among, rest_among}
+use Rattle.sctp_receiver.proofs.Names.{◌≡◌, ℕ, ◌+◌, ◌%◌, ◌^◌, Bool, true, false, List, [], ◌∷◌, ◌++◌, drop, Option, Some, None, Result, Ok, Err, refl, ap, sym}
+use Rattle.sctp_receiver.proofs.Names.{◌∙◌, if◌then◌else◌, ◌==◌, IfOk, OnOk, option_map, slice_get, eq-eqb, ChunkPayloadData, ChunkSet, Reassembly, after_read}
+use Rattle.sctp_receiver.proofs.Names.{is_readable, message_among, rest_among, InboundStream, ReceiverRefusal, has_number, number, stream_read, Reception}
+use Rattle.sctp_receiver.proofs.Names.{message_of, message_on, stream_of}
 use Rattle.sctp_reassembly.specs.declared.reassembly_queue.chunks.Chunks.{Chunks}
 use Rattle.sctp_reassembly.specs.reassembly_queue.ReassemblyQueue.{at_start as start_of}
-use Rattle.sctp_receiver.specs.declared.receiver.inbound_streams.InboundStream.{InboundStream}
-use Rattle.sctp_receiver.specs.declared.receiver.refusal.ReceiverRefusal.{ReceiverRefusal}
-use Rattle.sctp_receiver.specs.Inbound.{has_number, number, stream_read}
-use Rattle.sctp_receiver.specs.Receiver.{Reception, after_read as read_on, message_of, message_on, stream_of}
+use Rattle.sctp_receiver.specs.Receiver.{after_read as read_on}
 use Rattle.sctp_receiver.specs.Drains.{Drains, DrainsGiveWhatIsDue, WhatIsDueDrains, due_from, due_on}
 use Rattle.sctp_receiver.proofs.Handed.{found-changed}
 use Rattle.sctp_receiver.proofs.ReadsCounted.{found-number}

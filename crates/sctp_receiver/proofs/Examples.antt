@@ -1,24 +1,16 @@
 -- Worked examples, by computation.
-use Rattle.std.proofs.Common.{◌≡◌, ℕ, Bool, true, false, List, [], ◌∷◌, ◌++◌, length, Some, None, refl, ap}
-use Rattle.std.specs.Prelude.{nat_le, if◌then◌else◌}
+use Rattle.sctp_receiver.proofs.Names.{◌≡◌, ℕ, Bool, true, false, List, [], ◌∷◌, ◌++◌, length, Some, None, refl, ap, nat_le, if◌then◌else◌, ForwardTsn}
+use Rattle.sctp_receiver.proofs.Names.{ChunkPayloadData, Limits, StreamUnknown, MessageTooLarge, TsnTooFar, WindowFull, SsnTooFar, NamedStreamUnknown}
+use Rattle.sctp_receiver.proofs.Names.{NamedSsnTooFar, New, Repeat, new_stream, has_number, with_queue, Reception, open_stream, data_refusal, arrival_refusal}
+use Rattle.sctp_receiver.proofs.Names.{filter_of, with_filter, repeat_tsn, noted_by, discard_refusal, window, change_where, Reassembly, ReassemblyState}
+use Rattle.sctp_receiver.proofs.Names.{after_ordered_push, lowest_ssn, is_ssn_too_far, skip_refusal, past_closed_refusal, undo_of, retracted, Filter, with_tsn}
+use Rattle.sctp_receiver.proofs.Names.{skipped_to, gap_ack_blocks, has_come, is_opposite}
 use Rattle.sctp_data.specs.ChunkSet.{fresh}
-use Rattle.sctp_data.specs.ForwardTsn.{ForwardTsn}
 use Rattle.sctp_data.specs.declared.chunk.chunk_payload_data.PayloadProtocolIdentifier.TheVariants as identifiers
-use Rattle.sctp_data.specs.declared.chunk.chunk_payload_data.ChunkPayloadData.{ChunkPayloadData}
 use Rattle.sctp_util.specs.Serial.{distance, comes_before, at_or_before, comes_before16, at_or_before16, distance16}
-use Rattle.sctp_receiver.specs.declared.receiver.limits.Limits.{Limits}
-use Rattle.sctp_receiver.specs.declared.receiver.refusal.ReceiverRefusal.TheVariants.{StreamUnknown, MessageTooLarge, TsnTooFar, WindowFull, SsnTooFar}
-use Rattle.sctp_receiver.specs.declared.receiver.refusal.ReceiverRefusal.TheVariants.{NamedStreamUnknown, NamedSsnTooFar}
-use Rattle.sctp_receiver.specs.declared.receiver.arrival.Arrival.TheVariants.{New, Repeat}
-use Rattle.sctp_receiver.specs.Inbound.{new_stream, has_number, with_queue}
-use Rattle.sctp_receiver.specs.Receiver.{Reception, at_first, open_stream, data_refusal, arrival_refusal, filter_of, with_filter, repeat_tsn, noted_by}
-use Rattle.sctp_receiver.specs.Receiver.{TakesEach, discard_refusal, window}
-use Rattle.sctp_util.specs.Lists.{change_where}
-use Rattle.sctp_reassembly.specs.reassembly_queue.ReassemblyQueue.{Reassembly, ReassemblyState, after_ordered_push}
-use Rattle.sctp_receiver.specs.Ssns.{lowest_ssn, is_ssn_too_far, is_name_too_far}
-use Rattle.sctp_receiver.specs.Skips.{skip_refusal, past_closed_refusal}
-use Rattle.sctp_receiver.specs.Undo.{undo_of, retracted}
-use Rattle.sctp_receiver.specs.TsnFilter.{Filter, with_tsn, skipped_to, gap_ack_blocks, has_come, is_opposite}
+use Rattle.sctp_receiver.specs.Receiver.{at_first}
+use Rattle.sctp_receiver.specs.Receiver.{TakesEach}
+use Rattle.sctp_receiver.specs.Ssns.{is_name_too_far}
 
 -- TSNs 15, 14 and 17 came beyond 12: so RFC 4960 3.3.4 shows its blocks
 abbrev twelve : Filter

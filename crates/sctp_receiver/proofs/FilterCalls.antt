@@ -1,18 +1,7 @@
 -- The calls of a filter of TSNs.
-use Rattle.std.proofs.Common.{◌≡◌, ℕ, suc, ◌<◌, ◌^◌, true, false, List, [], ◌∷◌, ◌++◌, length, refl, ap, sym, ◌∙◌, arith}
-use Rattle.std.specs.Prelude.{◌==◌, ◌||◌}
-use Rattle.std.specs.List.{list_any}
-use Rattle.std.proofs.lemmas.Bool.Decides.{nat_tests}
-use Rattle.sctp_util.proofs.Cases.{same-is}
-use Rattle.sctp_util.proofs.More.{fails}
-use Rattle.sctp_serial.proofs.lemmas.ListEdits.{neither}
-use Rattle.sctp_util.specs.Lists.{insert_before, advance_over, Seen}
-use Rattle.sctp_util.specs.Serial.{distance, comes_before, at_or_before}
-use Rattle.sctp_serial.specs.DataChunks.{following_tsn}
-use Rattle.sctp_reassembly.proofs.lemmas.reassembly_queue.SerialPlaces.{after_one}
-use Rattle.sctp_receiver.specs.declared.receiver.tsn_filter.runs.Run.{Run}
-use Rattle.sctp_receiver.specs.TsnFilter.{Filter, rise_beyond, has_come, is_opposite, with_tsn}
-use Rattle.sctp_receiver.specs.TsnRuns.{AreRuns, tsns_from, tsns_of}
+use Rattle.sctp_receiver.proofs.Names.{◌≡◌, ℕ, suc, ◌<◌, ◌^◌, true, false, List, [], ◌∷◌, ◌++◌, length, refl, ap, sym, ◌∙◌, arith, ◌==◌, ◌||◌, list_any}
+use Rattle.sctp_receiver.proofs.Names.{nat_tests, same-is, fails, neither, insert_before, advance_over, Seen, distance, comes_before, at_or_before}
+use Rattle.sctp_receiver.proofs.Names.{following_tsn, after_one, Run, Filter, rise_beyond, has_come, is_opposite, with_tsn, AreRuns, tsns_from, tsns_of}
 use Rattle.sctp_receiver.proofs.RunMoves.{past, all-past}
 use Rattle.sctp_receiver.proofs.TsnLists.{IsStep, beyond, expected-absent, expected-after, stays, moves}
 use Rattle.sctp_receiver.proofs.TsnRuns.{runs-rise}

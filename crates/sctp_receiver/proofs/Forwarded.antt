@@ -1,15 +1,10 @@
 -- What a FORWARD-TSN makes of each stream of a receiver: one map over them.
-use Rattle.std.proofs.Common.{◌≡◌, refl, ap, ◌∙◌, ℕ, Bool, true, false, List, [], ◌∷◌, map, Some}
-use Rattle.std.specs.Prelude.{◌==◌, if◌then◌else◌, find, option_map}
-use Rattle.std.specs.List.{filter}
-use Rattle.sctp_util.specs.Lists.{change_where}
-use Rattle.sctp_data.specs.declared.chunk.chunk_forward_tsn.ChunkForwardTsnStream.{ChunkForwardTsnStream}
-use Rattle.sctp_data.specs.ForwardTsn.{ForwardTsn}
-use Rattle.sctp_reassembly.specs.reassembly_queue.ReassemblyQueue.{ReassemblyState, after_ordered_skip}
-use Rattle.sctp_receiver.specs.declared.receiver.inbound_streams.InboundStream.{InboundStream}
-use Rattle.sctp_receiver.specs.Inbound.{number, numbers_of, has_number, with_queue, ssn_forwarded, named_forwarded, unassembled_forwarded, ssns_of}
+use Rattle.sctp_receiver.proofs.Names.{◌≡◌, refl, ap, ◌∙◌, ℕ, Bool, true, false, List, [], ◌∷◌, map, Some, ◌==◌, if◌then◌else◌, find, option_map, filter}
+use Rattle.sctp_receiver.proofs.Names.{change_where, ChunkForwardTsnStream, ForwardTsn, ReassemblyState, after_ordered_skip, InboundStream, number, numbers_of}
+use Rattle.sctp_receiver.proofs.Names.{has_number, with_queue, ssn_forwarded, named_forwarded, unassembled_forwarded, Reception, stream_of, follow_forward_tsn}
+use Rattle.sctp_receiver.proofs.Names.{after_forward, is_stale}
+use Rattle.sctp_receiver.specs.Inbound.{ssns_of}
 use Rattle.sctp_receiver.specs.Inbound.{skipped_each, stream_forwarded}
-use Rattle.sctp_receiver.specs.Receiver.{Reception, stream_of, follow_forward_tsn, after_forward, is_stale}
 use Rattle.sctp_receiver.proofs.Inbounds.{stays-mapped}
 use Rattle.sctp_util.proofs.Getting.{map-twice}
 

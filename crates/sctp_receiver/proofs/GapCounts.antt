@@ -1,17 +1,9 @@
 -- How many TSNs are missing below the highest one that came: how far that lies past the cumulative one, less how many came beyond it.
-use Rattle.std.proofs.Common.{◌≡◌, ℕ, zero, suc, ◌+◌, ◌-◌, ◌<◌, ◌≤◌, ◌^◌, Bool, true, false, List, [], ◌∷◌, length, Some, refl, ap, sym, subst, ◌∙◌, inl, inr}
-use Rattle.std.proofs.Common.{arith}
-use Rattle.std.specs.Prelude.{if◌then◌else◌, ◌==◌, not, slice_get, unwrap_or}
-use Rattle.std.specs.List.{list_any, filter}
-use Rattle.std.proofs.lemmas.Bool.{cases_lt}
+use Rattle.sctp_receiver.proofs.Names.{◌≡◌, ℕ, zero, suc, ◌+◌, ◌-◌, ◌<◌, ◌≤◌, ◌^◌, Bool, true, false, List, [], ◌∷◌, length, Some, refl, ap, sym, subst, ◌∙◌}
+use Rattle.sctp_receiver.proofs.Names.{inl, inr, arith, if◌then◌else◌, ◌==◌, not, slice_get, unwrap_or, list_any, filter, cases_lt, insert_before, advance_over}
+use Rattle.sctp_receiver.proofs.Names.{Seen, distance, comes_before, at_or_before, before_is, following_tsn, distance_self, distance_rest, before_farther}
+use Rattle.sctp_receiver.proofs.Names.{neither, Filter, rise_beyond, has_come, is_opposite, highest_tsn, with_tsn, skipped_to}
 use Rattle.std.proofs.lemmas.List.Sums.{length-filter, count_by-le-length}
-use Rattle.sctp_util.specs.Lists.{insert_before, advance_over, Seen}
-use Rattle.sctp_util.specs.Serial.{distance, comes_before, at_or_before}
-use Rattle.sctp_util.proofs.Distances.{before_is}
-use Rattle.sctp_serial.specs.DataChunks.{following_tsn}
-use Rattle.sctp_serial.proofs.lemmas.AscendingEdits.{distance_self, distance_rest, before_farther}
-use Rattle.sctp_serial.proofs.lemmas.ListEdits.{neither}
-use Rattle.sctp_receiver.specs.TsnFilter.{Filter, rise_beyond, has_come, is_opposite, highest_tsn, with_tsn, skipped_to}
 use Rattle.sctp_receiver.proofs.TsnLists.{IsStep, step-of, nearer, rebased, rise-inserted, rise-past, moved, behind-it, before-it}
 use Rattle.sctp_receiver.proofs.Receptions.{after}
 use Rattle.sctp_receiver.proofs.Retracts.{advance-short}

@@ -1,32 +1,16 @@
 -- What a receiver hands out, in every run of calls.
-use Rattle.std.proofs.Common.{◌≡◌, ℕ, ◌+◌, ◌≤◌, Bool, true, false, List, [], ◌∷◌, ◌++◌, Option, Some, None, refl, ap, sym, ◌∙◌, arith, subst}
-use Rattle.std.specs.Prelude.{◌==◌, ◌&&◌, if◌then◌else◌, find, not, option_map}
-use Rattle.std.specs.Option.{option_or}
-use Rattle.std.specs.List.{list_all, sum_by, filter}
-use Rattle.std.proofs.lemmas.Bool.{eq-eqb}
-use Rattle.std.proofs.lemmas.List.Folds.{find-append}
-use Rattle.std.proofs.lemmas.List.Sums.{sum_by-cons, sum_by-append}
-use Rattle.sctp_util.specs.Lists.{change_where}
-use Rattle.sctp_util.proofs.Cases.{same-is}
-use Rattle.sctp_util.proofs.More.{and, both, fails, not_both}
-use Rattle.sctp_data.specs.declared.chunk.chunk_payload_data.ChunkPayloadData.{ChunkPayloadData}
-use Rattle.sctp_data.specs.declared.chunk.chunk_forward_tsn.ChunkForwardTsnStream.{ChunkForwardTsnStream}
-use Rattle.sctp_data.specs.ChunkSet.{ChunkSet}
-use Rattle.sctp_data.specs.ForwardTsn.{ForwardTsn}
-use Rattle.sctp_reassembly.specs.reassembly_queue.Fragments.{is_complete}
-use Rattle.sctp_reassembly.specs.reassembly_queue.ReassemblyQueue.{ReassemblyState, message_read}
-use Rattle.sctp_receiver.specs.declared.receiver.arrival.Arrival.TheVariants.{New, Repeat}
-use Rattle.sctp_receiver.specs.declared.receiver.limits.Limits.{Limits}
-use Rattle.sctp_receiver.specs.declared.receiver.inbound_streams.InboundStream.{InboundStream}
-use Rattle.sctp_receiver.specs.Inbound.{number, has_number, new_stream, with_queue, Pushes, stream_read, ssn_forwarded, named_forwarded, unassembled_forwarded}
-use Rattle.sctp_receiver.specs.Receiver.{Reception, filter_of, with_filter, stream_of, Accepts, repeat_tsn, after_discard, message_of, message_on, after_read}
-use Rattle.sctp_receiver.specs.Receiver.{is_stale, follow_forward_tsn, after_forward}
-use Rattle.sctp_receiver.specs.Resets.{stream_reset}
-use Rattle.sctp_receiver.specs.Skips.{incomplete_forwarded, without_incomplete, after_forward_tsn}
-use Rattle.sctp_receiver.specs.TsnFilter.{has_come, with_tsn}
-use Rattle.sctp_receiver.specs.ReceiverRuns.{Call, opens, closes, takes, discards, reports, reports_within, reads, resets, forwards, forwards_by_names, Message}
-use Rattle.sctp_receiver.specs.ReceiverRuns.{Stand, with_message, Follows, RunsTo, at_start, AfterEachRun, AreComplete, AreOfOneMessage, WereAccepted}
-use Rattle.sctp_receiver.specs.ReceiverRuns.{is_one_message, fragments_read}
+use Rattle.sctp_receiver.proofs.Names.{◌≡◌, ℕ, ◌+◌, ◌≤◌, Bool, true, false, List, [], ◌∷◌, ◌++◌, Option, Some, None, refl, ap, sym, ◌∙◌, arith, subst, ◌==◌}
+use Rattle.sctp_receiver.proofs.Names.{◌&&◌, if◌then◌else◌, find, not, option_map, option_or, list_all, sum_by, filter, eq-eqb, find-append, sum_by-cons}
+use Rattle.sctp_receiver.proofs.Names.{sum_by-append, change_where, same-is, and, both, fails, not_both, ChunkPayloadData, ChunkForwardTsnStream, ChunkSet}
+use Rattle.sctp_receiver.proofs.Names.{ForwardTsn, is_complete, ReassemblyState, message_read, New, Repeat, Limits, InboundStream, number, has_number}
+use Rattle.sctp_receiver.proofs.Names.{new_stream, with_queue, Pushes, stream_read, ssn_forwarded, named_forwarded, unassembled_forwarded, Reception, filter_of}
+use Rattle.sctp_receiver.proofs.Names.{with_filter, stream_of, Accepts, repeat_tsn, after_discard, message_of, message_on, is_stale, follow_forward_tsn}
+use Rattle.sctp_receiver.proofs.Names.{after_forward, stream_reset, incomplete_forwarded, without_incomplete, after_forward_tsn, has_come, with_tsn, Call}
+use Rattle.sctp_receiver.proofs.Names.{opens, closes, takes, discards, reports, reports_within, reads, resets, forwards, forwards_by_names, Message, Stand}
+use Rattle.sctp_receiver.proofs.Names.{with_message, Follows, RunsTo, at_start, is_one_message, is_on}
+use Rattle.sctp_receiver.specs.Receiver.{after_read}
+use Rattle.sctp_receiver.specs.ReceiverRuns.{AfterEachRun, AreComplete, AreOfOneMessage, WereAccepted}
+use Rattle.sctp_receiver.specs.ReceiverRuns.{fragments_read}
 use Rattle.sctp_receiver.proofs.Inbounds.{pushed-number}
 use Rattle.sctp_receiver.proofs.Weights as weights
 use Rattle.sctp_receiver.proofs.Weights.{weight, message_weight}
@@ -34,7 +18,6 @@ use Rattle.sctp_receiver.proofs.CompleteMessages.{all_complete, message_complete
 use Rattle.sctp_receiver.proofs.OneMessage.{is_unmixed, message_one, pushed-unmixed, read-one, rest-unmixed, named-unmixed, unassembled-unmixed}
 use Rattle.sctp_receiver.proofs.OneMessage.{incomplete-unmixed, reset-unmixed}
 use Rattle.sctp_receiver.proofs.Forwarded.{found-mapped}
-use Rattle.sctp_serial.specs.DataChunks.{is_on}
 
 -- ## A stream, by its number
 

@@ -1,36 +1,22 @@
 -- What a receiver with limits holds, in every run of calls of which none is refused.
-use Rattle.std.proofs.Common.{◌≡◌, ℕ, suc, ◌+◌, ◌*◌, ◌<◌, ◌≤◌, ◌^◌, Bool, true, false, List, [], ◌∷◌, ◌++◌, map, length, Option, Some, None, refl, ap, sym, ◌∙◌}
-use Rattle.std.proofs.Common.{inl, inr, arith, subst}
+use Rattle.sctp_receiver.proofs.Names.{◌≡◌, ℕ, suc, ◌+◌, ◌*◌, ◌<◌, ◌≤◌, ◌^◌, Bool, true, false, List, [], ◌∷◌, ◌++◌, map, length, Option, Some, None, refl, ap}
+use Rattle.sctp_receiver.proofs.Names.{sym, ◌∙◌, inl, inr, arith, subst, if◌then◌else◌, not, ⊤, ◌&&◌, nat_lt, nat_le, All, sum_by, filter, option_or, cases_lt}
+use Rattle.sctp_receiver.proofs.Names.{nat_tests, length-append, length-drop, sum_by-cons, change_where, distance, comes_before, ChunkPayloadData, ForwardTsn}
+use Rattle.sctp_receiver.proofs.Names.{held_chunks, New, Repeat, InboundStream, Limits, ReceiverRefusal, TsnOpposite, TsnTooFar, WindowFull, number, numbers_of}
+use Rattle.sctp_receiver.proofs.Names.{has_number, new_stream, with_queue, stream_read, named_forwarded, unassembled_forwarded, chunk_cost, cost_of, held_cost}
+use Rattle.sctp_receiver.proofs.Names.{refusal_by, Reception, filter_of, with_filter, Accepts, noted_by, repeat_tsn, new_refusal, stream_of, stream_refusal}
+use Rattle.sctp_receiver.proofs.Names.{data_refusal, discard_refusal, forward_refusal, after_discard, max_sack_entries, duplicates_answered, sack_entries}
+use Rattle.sctp_receiver.proofs.Names.{after_sack_within, is_stale, follow_forward_tsn, after_forward, Call, opens, closes, takes, discards, reports}
+use Rattle.sctp_receiver.proofs.Names.{reports_within, reads, resets, forwards, forwards_by_names, Stand, Makes, accepted_after, Follows, at_start}
+use Rattle.sctp_receiver.proofs.Names.{stream_reset, incomplete_forwarded, without_incomplete, after_forward_tsn, Filter, has_come, is_opposite, highest_tsn}
+use Rattle.sctp_receiver.proofs.Names.{with_tsn, skipped_to}
 use Rattle.std.proofs.Math.Nat.{mul-le-mul_right, add-mul}
-use Rattle.std.specs.Prelude.{if◌then◌else◌, not, ⊤, ◌&&◌, nat_lt, nat_le, All}
-use Rattle.std.specs.List.{sum_by, filter}
-use Rattle.std.specs.Option.{option_or}
-use Rattle.std.proofs.lemmas.Bool.{cases_lt}
-use Rattle.std.proofs.lemmas.Bool.Decides.{nat_tests}
-use Rattle.std.proofs.lemmas.List.{length-append, length-drop}
-use Rattle.std.proofs.lemmas.List.Sums.{sum_by-cons, sum_by-le-sum_by}
-use Rattle.sctp_util.specs.Lists.{change_where}
-use Rattle.sctp_util.specs.Serial.{distance, comes_before}
-use Rattle.sctp_data.specs.declared.chunk.chunk_payload_data.ChunkPayloadData.{ChunkPayloadData}
-use Rattle.sctp_data.specs.ForwardTsn.{ForwardTsn}
-use Rattle.sctp_reassembly.specs.reassembly_queue.ReassemblyQueue.{held_chunks}
-use Rattle.sctp_receiver.specs.declared.receiver.arrival.Arrival.TheVariants.{New, Repeat}
-use Rattle.sctp_receiver.specs.declared.receiver.inbound_streams.InboundStream.{InboundStream}
-use Rattle.sctp_receiver.specs.declared.receiver.limits.Limits.{Limits}
-use Rattle.sctp_receiver.specs.declared.receiver.refusal.ReceiverRefusal.{ReceiverRefusal}
-use Rattle.sctp_receiver.specs.declared.receiver.refusal.ReceiverRefusal.TheVariants.{TsnOpposite, TsnTooFar, WindowFull}
-use Rattle.sctp_receiver.specs.Inbound.{number, numbers_of, has_number, new_stream, with_queue, stream_read, named_forwarded, unassembled_forwarded}
-use Rattle.sctp_receiver.specs.Limits.{chunk_cost, cost_of, held_cost, refusal_within, refusal_by}
-use Rattle.sctp_receiver.specs.Receiver.{Reception, filter_of, with_filter, Accepts, noted_by, repeat_tsn, new_refusal, stream_of, stream_refusal, data_refusal}
-use Rattle.sctp_receiver.specs.Receiver.{discard_refusal, forward_refusal, arrival_of, after_discard, max_sack_entries, duplicates_answered, sack_entries}
-use Rattle.sctp_receiver.specs.Receiver.{after_sack_within, is_stale, follow_forward_tsn, after_forward}
-use Rattle.sctp_receiver.specs.ReceiverRuns.{Call, opens, closes, takes, discards, reports, reports_within, reads, resets, forwards, forwards_by_names, Stand}
-use Rattle.sctp_receiver.specs.ReceiverRuns.{Makes, accepted_after, Follows, at_start, IsAnswered, IsUnrefused, RunsUnrefused, AfterEachRunWithin}
+use Rattle.std.proofs.lemmas.List.Sums.{sum_by-le-sum_by}
+use Rattle.sctp_receiver.specs.Limits.{refusal_within}
+use Rattle.sctp_receiver.specs.Receiver.{arrival_of}
+use Rattle.sctp_receiver.specs.ReceiverRuns.{IsAnswered, IsUnrefused, RunsUnrefused, AfterEachRunWithin}
 use Rattle.sctp_receiver.specs.ReceiverRuns.{HoldsFewChunks, CostsLittle, NotesFewDuplicates, KeepsFewTsns}
-use Rattle.sctp_receiver.specs.Resets.{stream_reset}
-use Rattle.sctp_receiver.specs.Skips.{incomplete_forwarded, without_incomplete, after_forward_tsn}
 use Rattle.sctp_receiver.proofs.Inbounds.{stays-mapped, stays-changed}
-use Rattle.sctp_receiver.specs.TsnFilter.{Filter, has_come, is_opposite, highest_tsn, with_tsn, skipped_to}
 use Rattle.sctp_receiver.proofs.DataEach.{takes-keeps}
 use Rattle.sctp_receiver.proofs.Forwarded.{followed-numbers}
 use Rattle.sctp_receiver.proofs.GapCounts.{IsAscending, far_in, few-beyond, past-highest, lies-beyond, next-with, next-skipped, reached-with, reached-skipped}

@@ -1,16 +1,7 @@
 -- What the skips of a FORWARD-TSN look at, by what is held.
-use Rattle.std.proofs.Common.{ℕ, ◌+◌, ◌*◌, ◌≤◌, Bool, true, false, List, [], ◌∷◌, length, Some, arith}
-use Rattle.std.specs.Prelude.{if◌then◌else◌}
-use Rattle.std.specs.List.{sum_by}
-use Rattle.std.proofs.lemmas.List.Sums.{sum_by-cons}
-use Rattle.sctp_data.specs.ForwardTsn.{ForwardTsn}
-use Rattle.sctp_reassembly.specs.reassembly_queue.Counts.{set_chunks}
-use Rattle.sctp_receiver.specs.declared.receiver.inbound_streams.InboundStream.{InboundStream}
-use Rattle.sctp_receiver.specs.Inbound.{number}
-use Rattle.sctp_receiver.specs.Noted.{is_named}
-use Rattle.sctp_receiver.specs.Receiver.{Reception}
-use Rattle.sctp_receiver.specs.SkipCosts.{unordered_skips_walk, incomplete_skips_walk, skips_walk, held_messages, held_fragments}
-use Rattle.sctp_receiver.specs.Visited.{holds_any, to_visit}
+use Rattle.sctp_receiver.proofs.Names.{ℕ, ◌+◌, ◌*◌, ◌≤◌, Bool, true, false, List, [], ◌∷◌, length, Some, arith, if◌then◌else◌, sum_by, sum_by-cons, ForwardTsn}
+use Rattle.sctp_receiver.proofs.Names.{set_chunks, InboundStream, number, is_named, Reception, unordered_skips_walk, incomplete_skips_walk, holds_any, to_visit}
+use Rattle.sctp_receiver.specs.SkipCosts.{skips_walk, held_messages, held_fragments}
 use Rattle.sctp_receiver.proofs.SkipCosts.{ordered_walk, incomplete_walk, unordered_walk, messages}
 use Rattle.sctp_receiver.proofs.StreamCosts.{kept-cost}
 

@@ -1,17 +1,9 @@
 -- What a fragment and a FORWARD-TSN make of the streams of a receiver.
-use Rattle.std.proofs.Common.{◌≡◌, sym, ap, ◌∙◌, refl, ℕ, List, [], ◌∷◌, map, Bool, true, false, Some, None, inl, inr, Result, Ok, Err, subst}
-use Rattle.std.specs.Prelude.{if◌then◌else◌, find, slice_index_or, slice_set, OnErr, IfOk, IfErr}
-use Rattle.sctp_util.specs.Lists.{change_where}
-use Rattle.sctp_data.specs.declared.chunk.chunk_payload_data.ChunkPayloadData.{ChunkPayloadData}
-use Rattle.sctp_reassembly.specs.reassembly_queue.ReassemblyQueue.{ReassemblyState, is_too_large}
-use Rattle.sctp_reassembly.specs.declared.reassembly_queue.undo.PushUndo.{PushUndo}
-use Rattle.sctp_stream.specs.Numbers.{IsOnlyPlace}
-use Rattle.sctp_receiver.specs.declared.receiver.inbound_streams.InboundStream.{InboundStream}
-use Rattle.sctp_receiver.specs.declared.receiver.refusal.ReceiverRefusal.{ReceiverRefusal}
-use Rattle.sctp_receiver.specs.declared.receiver.refusal.ReceiverRefusal.TheVariants.{MessageTooLarge, OutOfMemory}
-use Rattle.sctp_receiver.specs.Inbound.{number, numbers_of, has_number, with_queue, Pushes, PushesAs, PushesOn}
-use Rattle.sctp_receiver.specs.Receiver.{stream_refusal, IsRefusedFor}
-use Rattle.sctp_stream.proofs.StreamPlaces.{found, changed}
+use Rattle.sctp_receiver.proofs.Names.{◌≡◌, sym, ap, ◌∙◌, refl, ℕ, List, [], ◌∷◌, map, Bool, true, false, Some, None, inl, inr, Result, Ok, Err, subst}
+use Rattle.sctp_receiver.proofs.Names.{if◌then◌else◌, find, slice_index_or, slice_set, OnErr, IfOk, IfErr, change_where, ChunkPayloadData, ReassemblyState}
+use Rattle.sctp_receiver.proofs.Names.{is_too_large, PushUndo, IsOnlyPlace, InboundStream, ReceiverRefusal, MessageTooLarge, OutOfMemory, number, numbers_of}
+use Rattle.sctp_receiver.proofs.Names.{has_number, with_queue, Pushes, PushesAs, stream_refusal, IsRefusedFor, found, changed}
+use Rattle.sctp_receiver.specs.Inbound.{PushesOn}
 
 pub pushed-number : (c : ChunkPayloadData) (complete : Bool) (old new : ReassemblyState) → Pushes c complete old new → new.si ≡ old.si
 pushed-number c complete old new p = by c.unordered p

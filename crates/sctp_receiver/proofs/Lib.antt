@@ -1,3 +1,4 @@
+pub mod Names
 pub mod TsnLists
 pub mod TsnRuns
 pub mod RunBlocks

@@ -1,11 +1,8 @@
 -- The streams that a FORWARD-TSN visits, as calls change them.
-use Rattle.std.proofs.Common.{◌≡◌, ℕ, ◌+◌, ◌<◌, Bool, true, false, List, [], ◌∷◌, ◌++◌, length, length-append, ap, sym, ◌∙◌, arith}
-use Rattle.std.specs.Prelude.{◌==◌, ◌&&◌, ◌||◌, slice_get, slice_index_or, slice_set}
-use Rattle.std.proofs.lemmas.Option.{slice_get_past}
-use Rattle.sctp_util.proofs.Cases.{by_same, some-same}
-use Rattle.sctp_util.proofs.More.{not_both}
-use Rattle.sctp_receiver.specs.declared.receiver.inbound_streams.InboundStream.{InboundStream}
-use Rattle.sctp_receiver.specs.Visited.{VisitOrder, is_spot_before, is_visited, holds_any, holds_incomplete, IsListing}
+use Rattle.sctp_receiver.proofs.Names.{◌≡◌, ℕ, ◌+◌, ◌<◌, Bool, true, false, List, [], ◌∷◌, ◌++◌, length, ap, sym, ◌∙◌, arith, ◌==◌, ◌&&◌, ◌||◌, slice_get}
+use Rattle.sctp_receiver.proofs.Names.{slice_index_or, slice_set, slice_get_past, by_same, some-same, not_both, InboundStream, VisitOrder, is_spot_before}
+use Rattle.sctp_receiver.proofs.Names.{is_visited, holds_any, holds_incomplete, IsListing}
+use Rattle.std.proofs.Common.{length-append}
 use Rattle.sctp_receiver.proofs.Settled.{none-incomplete}
 use Rattle.sctp_receiver.proofs.VisitOrders.{end-here, end-there}
 use Rattle.sctp_receiver.proofs.Visiting.{others-renewed, visited-renewed}

@@ -1,21 +1,11 @@
 -- What a FORWARD-TSN names on each stream, noted first and then made at once.
-use Rattle.std.proofs.Common.{◌≡◌, ℕ, zero, suc, ◌+◌, ◌<◌, ◌≤◌, ◌||◌, Bool, true, false, List, [], ◌∷◌, length, get_or, Option, Some, None, refl, sym, ap, ap₂}
-use Rattle.std.proofs.Common.{◌∙◌, arith}
-use Rattle.std.specs.Prelude.{◌==◌, if◌then◌else◌, slice_get, slice_index_or, slice_set}
-use Rattle.std.specs.List.{list_any, sum_by}
-use Rattle.std.proofs.lemmas.Bool.{true≢false, eq-eqb, ne_eqb}
-use Rattle.std.proofs.lemmas.List.Sums.{sum_by-cons}
-use Rattle.sctp_util.specs.Lists.{change_where}
-use Rattle.sctp_util.proofs.Cases.{by_same, some-same}
-use Rattle.sctp_data.specs.declared.chunk.chunk_forward_tsn.ChunkForwardTsnStream.{ChunkForwardTsnStream}
-use Rattle.sctp_reassembly.specs.declared.reassembly_queue.ordered_skips.OrderedSkips.{OrderedSkips}
-use Rattle.sctp_reassembly.specs.reassembly_queue.OrderedSkips.{after_noted}
-use Rattle.sctp_reassembly.specs.reassembly_queue.ReassemblyQueue.{after_ordered_skip}
-use Rattle.sctp_stream.specs.Numbers.{IsOnlyPlace}
-use Rattle.sctp_stream.proofs.StreamPlaces.{changed, inside}
-use Rattle.sctp_receiver.specs.declared.receiver.inbound_streams.InboundStream.{InboundStream}
-use Rattle.sctp_receiver.specs.Inbound.{number, numbers_of, has_number, ssn_forwarded}
-use Rattle.sctp_receiver.specs.Noted.{noted_made, each_made, AreNone, is_named, AreNamed}
+use Rattle.sctp_receiver.proofs.Names.{◌≡◌, ℕ, zero, suc, ◌+◌, ◌<◌, ◌≤◌, Bool, true, false, List, [], ◌∷◌, length, get_or, Option, Some, None, refl, sym, ap}
+use Rattle.sctp_receiver.proofs.Names.{ap₂, ◌∙◌, arith, ◌==◌, if◌then◌else◌, slice_get, slice_index_or, slice_set, list_any, sum_by, eq-eqb, ne_eqb}
+use Rattle.sctp_receiver.proofs.Names.{sum_by-cons, change_where, by_same, some-same, ChunkForwardTsnStream, OrderedSkips, after_noted, after_ordered_skip}
+use Rattle.sctp_receiver.proofs.Names.{IsOnlyPlace, changed, inside, InboundStream, number, numbers_of, has_number, ssn_forwarded, noted_made, each_made}
+use Rattle.sctp_receiver.proofs.Names.{AreNone, is_named, AreNamed}
+use Rattle.std.proofs.Common.{◌||◌}
+use Rattle.std.proofs.lemmas.Bool.{true≢false}
 use Rattle.sctp_receiver.specs.SkipCosts.{named_streams}
 use Rattle.sctp_receiver.proofs.SkipCosts.{ordered_walk}
 use Rattle.sctp_receiver.proofs.VisitOrders.{set-there}

@@ -1,28 +1,18 @@
 -- The fragments that are held as one message are of one message.
-use Rattle.std.proofs.Common.{◌≡◌, ℕ, zero, suc, ◌+◌, ◌-◌, ◌<◌, ◌≤◌, Bool, true, false, List, [], ◌∷◌, ◌++◌, map, length, take, drop, Option, Some, None, refl}
-use Rattle.std.proofs.Common.{ap, sym, ◌∙◌, arith, get_or}
-use Rattle.std.specs.Prelude.{if◌then◌else◌, not, ◌&&◌, ◌==◌}
-use Rattle.std.specs.List.{list_all, list_any, filter}
-use Rattle.std.proofs.lemmas.Bool.{eq-eqb}
-use Rattle.std.proofs.lemmas.List.{get_or-drop, get_or-take, get_or_default, length-drop, length-take}
-use Rattle.std.proofs.lemmas.List.Folds.{list_all-append}
-use Rattle.sctp_util.specs.Lists.{insert_before, change_first, after_leading}
-use Rattle.sctp_util.specs.Serial.{at_or_before, comes_before16}
-use Rattle.sctp_util.proofs.Cases.{same-is, same-yes, negated}
-use Rattle.sctp_util.proofs.More.{and, both, fails}
-use Rattle.sctp_data.specs.declared.chunk.chunk_payload_data.ChunkPayloadData.{ChunkPayloadData}
-use Rattle.sctp_data.specs.ChunkSet.{ChunkSet}
-use Rattle.sctp_serial.specs.DataChunks.{chunk_before, has_tsn, is_on}
+use Rattle.sctp_receiver.proofs.Names.{◌≡◌, ℕ, zero, suc, ◌+◌, ◌-◌, ◌<◌, ◌≤◌, Bool, true, false, List, [], ◌∷◌, ◌++◌, map, length, take, drop, Option, Some}
+use Rattle.sctp_receiver.proofs.Names.{None, refl, ap, sym, ◌∙◌, arith, get_or, if◌then◌else◌, not, ◌&&◌, ◌==◌, list_all, list_any, filter, eq-eqb, get_or-drop}
+use Rattle.sctp_receiver.proofs.Names.{get_or_default, length-drop, length-take, list_all-append, insert_before, change_first, after_leading, at_or_before}
+use Rattle.sctp_receiver.proofs.Names.{comes_before16, same-is, same-yes, and, both, fails, ChunkPayloadData, ChunkSet, chunk_before, has_tsn, is_on, has_ssn}
+use Rattle.sctp_receiver.proofs.Names.{with_chunk, new_set, sets_with, set_before, Reassembly, ReassemblyState, set_of_run, TakesRun, BecomesComplete}
+use Rattle.sctp_receiver.proofs.Names.{is_readable, front_readable, without_first, after_read, message_among, message_read, rest_among, rest_read, is_passed}
+use Rattle.sctp_receiver.proofs.Names.{is_old_message, held_after_reset, cannot_complete, placeholder, Pushes, PushesAs, is_one_message}
+use Rattle.std.proofs.lemmas.List.{get_or-take}
+use Rattle.sctp_util.proofs.Cases.{negated}
 use Rattle.sctp_serial.specs.Runs.{IsRun, IsEarliestRun}
-use Rattle.sctp_reassembly.specs.reassembly_queue.Fragments.{has_ssn, with_chunk, new_set, sets_with, set_before}
-use Rattle.sctp_reassembly.specs.reassembly_queue.ReassemblyQueue.{Reassembly, ReassemblyState, set_of_run, TakesRun, BecomesComplete, is_readable}
-use Rattle.sctp_reassembly.specs.reassembly_queue.ReassemblyQueue.{front_readable, without_first, after_read, message_among, message_read, rest_among}
-use Rattle.sctp_reassembly.specs.reassembly_queue.ReassemblyQueue.{rest_read, is_passed, held_after_ordered_skip, held_after_unordered_skip}
-use Rattle.sctp_reassembly.specs.reassembly_queue.Resets.{is_old_message, rest_past, is_some_left, of_new_use, held_after_reset}
-use Rattle.sctp_reassembly.specs.reassembly_queue.Skips.{cannot_complete, held_after_incomplete_skip}
-use Rattle.sctp_receiver.specs.TsnFilter.{placeholder}
-use Rattle.sctp_receiver.specs.Inbound.{Pushes, PushesAs}
-use Rattle.sctp_receiver.specs.ReceiverRuns.{is_like, none_ends_before, is_one_message}
+use Rattle.sctp_reassembly.specs.reassembly_queue.ReassemblyQueue.{held_after_ordered_skip, held_after_unordered_skip}
+use Rattle.sctp_reassembly.specs.reassembly_queue.Resets.{rest_past, is_some_left, of_new_use}
+use Rattle.sctp_reassembly.specs.reassembly_queue.Skips.{held_after_incomplete_skip}
+use Rattle.sctp_receiver.specs.ReceiverRuns.{is_like, none_ends_before}
 
 -- ## Tests of all elements
 

@@ -1,13 +1,10 @@
 -- What a DATA chunk looks at.
-use Rattle.std.proofs.Common.{◌≡◌, length, ℕ, ◌+◌, ◌-◌, ◌≤◌, true, false, Option, Some, None, refl, arith}
-use Rattle.sctp_data.specs.declared.chunk.chunk_payload_data.ChunkPayloadData.{ChunkPayloadData}
+use Rattle.sctp_receiver.proofs.Names.{◌≡◌, length, ℕ, ◌+◌, ◌-◌, ◌≤◌, true, false, Option, Some, None, refl, arith, ChunkPayloadData, digits, IsOrderly}
+use Rattle.sctp_receiver.proofs.Names.{ReassemblyState, held_after_ordered_push, InboundStream, IsWithinPush, IsWithinPushOn, IsWithinData, Reception}
+use Rattle.sctp_receiver.proofs.Names.{stream_of}
 use Rattle.sctp_reassembly.specs.reassembly_queue.Costs.{ordered_push_looks, ordered_push_walk, FitsInOrder, Joins, JoinsAtEnd, unordered_push_looks}
 use Rattle.sctp_reassembly.specs.reassembly_queue.Costs.{unordered_push_walk}
-use Rattle.sctp_reassembly.specs.reassembly_queue.Orders.{digits, IsOrderly}
-use Rattle.sctp_reassembly.specs.reassembly_queue.ReassemblyQueue.{ReassemblyState, held_after_ordered_push}
-use Rattle.sctp_receiver.specs.declared.receiver.inbound_streams.InboundStream.{InboundStream}
-use Rattle.sctp_receiver.specs.Costs.{IsWithinPush, IsWithinPushOn, IsWithinData, filter_looks}
-use Rattle.sctp_receiver.specs.Receiver.{Reception, stream_of}
+use Rattle.sctp_receiver.specs.Costs.{filter_looks}
 
 -- a push whose turns are bounded by what it leaves
 pub push-within : (x : ChunkPayloadData) (q new : ReassemblyState) (before after : ℕ)

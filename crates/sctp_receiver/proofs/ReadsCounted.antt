@@ -1,40 +1,23 @@
 -- What the counters of a receiver's streams say.
-use Rattle.std.proofs.Common.{◌≡◌, ℕ, ◌+◌, Bool, true, false, List, [], ◌∷◌, ◌++◌, map, length, Option, Some, None, refl, ap, sym, ◌∙◌, arith, subst}
-use Rattle.std.specs.Prelude.{if◌then◌else◌, find, not, ◌==◌, is_some, option_map, IfSome}
-use Rattle.std.specs.Option.{option_or}
-use Rattle.std.specs.List.{filter, sum_by}
-use Rattle.std.proofs.lemmas.Bool.{eq-eqb}
-use Rattle.std.proofs.lemmas.List.Folds.{find-append}
-use Rattle.std.proofs.lemmas.List.Sums.{sum_by-cons}
-use Rattle.sctp_util.specs.Lists.{change_where}
-use Rattle.sctp_util.proofs.Cases.{same-is}
-use Rattle.sctp_util.proofs.More.{fails, not_both}
+use Rattle.sctp_receiver.proofs.Names.{◌≡◌, ℕ, ◌+◌, Bool, true, false, List, [], ◌∷◌, ◌++◌, map, length, Option, Some, None, refl, ap, sym, ◌∙◌, arith, subst}
+use Rattle.sctp_receiver.proofs.Names.{if◌then◌else◌, find, not, ◌==◌, is_some, option_map, IfSome, option_or, filter, sum_by, eq-eqb, find-append, sum_by-cons}
+use Rattle.sctp_receiver.proofs.Names.{change_where, same-is, fails, not_both, ChunkPayloadData, ChunkForwardTsnStream, ChunkSet, ForwardTsn, message_read, New}
+use Rattle.sctp_receiver.proofs.Names.{Repeat, InboundStream, number, has_number, new_stream, with_queue, stream_read, ssn_forwarded, named_forwarded}
+use Rattle.sctp_receiver.proofs.Names.{unassembled_forwarded, Reception, Accepts, filter_of, with_filter, repeat_tsn, after_discard, message_of, message_on}
+use Rattle.sctp_receiver.proofs.Names.{is_stale, stream_of, follow_forward_tsn, after_forward, Call, opens, closes, takes, discards, reports, reports_within}
+use Rattle.sctp_receiver.proofs.Names.{reads, resets, forwards, forwards_by_names, Makes, stream_reset, incomplete_forwarded, without_incomplete}
+use Rattle.sctp_receiver.proofs.Names.{after_forward_tsn, has_come, with_tsn, bytes_of}
 use Rattle.sctp_data.specs.PayloadTypes.{counted_as}
-use Rattle.sctp_data.specs.declared.chunk.chunk_payload_data.ChunkPayloadData.{ChunkPayloadData}
 use Rattle.sctp_data.specs.declared.chunk.chunk_payload_data.PayloadProtocolIdentifier.{PayloadProtocolIdentifier}
 use Rattle.sctp_data.specs.declared.chunk.chunk_payload_data.PayloadProtocolIdentifier.TheVariants.{Dcep, String, Binary, StringEmpty, BinaryEmpty, Unknown}
-use Rattle.sctp_data.specs.declared.chunk.chunk_forward_tsn.ChunkForwardTsnStream.{ChunkForwardTsnStream}
-use Rattle.sctp_data.specs.ChunkSet.{ChunkSet}
-use Rattle.sctp_data.specs.ForwardTsn.{ForwardTsn}
-use Rattle.sctp_reassembly.specs.reassembly_queue.ReassemblyQueue.{message_read}
 use Rattle.sctp_stream.specs.declared.stream.DataChannelStats.{DataChannelStats}
 use Rattle.sctp_stream.specs.Stats.{with_received}
-use Rattle.sctp_receiver.specs.declared.receiver.arrival.Arrival.TheVariants.{New, Repeat}
-use Rattle.sctp_receiver.specs.declared.receiver.inbound_streams.InboundStream.{InboundStream}
-use Rattle.sctp_receiver.specs.Inbound.{number, has_number, new_stream, with_queue, count_read, stream_read, ssn_forwarded, named_forwarded}
-use Rattle.sctp_receiver.specs.Inbound.{unassembled_forwarded}
-use Rattle.sctp_receiver.specs.Receiver.{Reception, Accepts, filter_of, with_filter, repeat_tsn, after_discard, message_of, message_on, is_stale, stream_of}
-use Rattle.sctp_receiver.specs.Receiver.{follow_forward_tsn, after_forward}
-use Rattle.sctp_receiver.specs.ReceiverRuns.{Call, opens, closes, takes, discards, reports, reports_within, reads, resets, forwards, forwards_by_names, Makes}
-use Rattle.sctp_receiver.specs.Resets.{stream_reset}
-use Rattle.sctp_receiver.specs.Skips.{incomplete_forwarded, without_incomplete, after_forward_tsn}
-use Rattle.sctp_receiver.specs.TsnFilter.{has_come, with_tsn}
+use Rattle.sctp_receiver.specs.Inbound.{count_read}
 use Rattle.sctp_receiver.specs.Counters.{is_of_channel, channel_bytes, with_read, read_since, stats_on, Count, CountersAreSums}
 use Rattle.sctp_receiver.proofs.BesideRuns.{kept}
 use Rattle.sctp_receiver.proofs.Forwarded.{found-mapped}
 use Rattle.sctp_receiver.proofs.Handed.{found-changed}
 use Rattle.sctp_receiver.proofs.Inbounds.{pushed-number}
-use Rattle.sctp_serial.specs.DataChunks.{bytes_of}
 
 -- ## One message
 

@@ -1,23 +1,14 @@
 -- What a receiver refuses, by the places of its streams and by its TSNs.
-use Rattle.std.proofs.Common.{◌≡◌, ℕ, ◌<◌, ◌≤◌, ◌^◌, true, false, List, Option, Some, None, refl, ap, sym, ◌∙◌, inl, inr, arith}
-use Rattle.std.specs.Prelude.{◌==◌, if◌then◌else◌, is_some, MatchOption, slice_index_or}
-use Rattle.std.specs.Option.{option_or}
-use Rattle.std.proofs.lemmas.Bool.Decides.{nat_tests}
-use Rattle.std.proofs.lemmas.List.{get_or_default}
-use Rattle.sctp_util.specs.Serial.{distance, comes_before, at_or_before}
-use Rattle.sctp_util.proofs.More.{not_both}
-use Rattle.sctp_util.proofs.Distances.{comes_before_from, distance_cases}
-use Rattle.sctp_data.specs.declared.chunk.chunk_payload_data.ChunkPayloadData.{ChunkPayloadData}
-use Rattle.sctp_receiver.specs.declared.receiver.inbound_streams.InboundStream.{InboundStream}
-use Rattle.sctp_receiver.specs.declared.receiver.limits.Limits.{Limits}
-use Rattle.sctp_receiver.specs.declared.receiver.refusal.ReceiverRefusal.TheVariants.{StreamUnknown, TsnOpposite}
-use Rattle.sctp_stream.specs.Numbers.{IsOnlyPlace, IsAbsent}
-use Rattle.sctp_receiver.specs.Inbound.{number, numbers_of, has_number, new_stream, stream_read}
-use Rattle.sctp_receiver.specs.TsnFilter.{Filter, has_come, is_opposite}
-use Rattle.sctp_receiver.specs.Limits.{refusal_by}
-use Rattle.sctp_receiver.specs.Receiver.{Reception, stream_of, is_open, filter_of, data_refusal, new_refusal, stream_refusal, after_read}
+use Rattle.sctp_receiver.proofs.Names.{◌≡◌, ℕ, ◌<◌, ◌≤◌, ◌^◌, true, false, List, Option, Some, None, refl, ap, sym, ◌∙◌, inl, inr, arith, ◌==◌, if◌then◌else◌}
+use Rattle.sctp_receiver.proofs.Names.{is_some, slice_index_or, option_or, nat_tests, get_or_default, distance, comes_before, not_both, comes_before_from}
+use Rattle.sctp_receiver.proofs.Names.{distance_cases, ChunkPayloadData, InboundStream, Limits, StreamUnknown, TsnOpposite, IsOnlyPlace, number, numbers_of}
+use Rattle.sctp_receiver.proofs.Names.{has_number, new_stream, stream_read, Filter, has_come, is_opposite, refusal_by, Reception, stream_of, is_open, filter_of}
+use Rattle.sctp_receiver.proofs.Names.{data_refusal, new_refusal, stream_refusal, absent-find, inside, found}
+use Rattle.std.specs.Prelude.{MatchOption}
+use Rattle.sctp_util.specs.Serial.{at_or_before}
+use Rattle.sctp_stream.specs.Numbers.{IsAbsent}
+use Rattle.sctp_receiver.specs.Receiver.{after_read}
 use Rattle.sctp_receiver.proofs.Inbounds.{stays-changed}
-use Rattle.sctp_stream.proofs.StreamPlaces.{absent-find, inside, found}
 
 -- a receiver as its parts say
 abbrev pub reception_in : List InboundStream → Filter → ℕ → Option Limits → Reception

@@ -1,18 +1,12 @@
 -- TSNs that came again are told once for each time.
-use Rattle.std.proofs.Common.{◌≡◌, ℕ, Bool, true, false, List, [], ◌∷◌, ◌++◌, take, drop, length, Option, Some, None, refl, ap, sym, ◌∙◌}
-use Rattle.std.proofs.Common.{arith, append_assoc}
-use Rattle.std.specs.Prelude.{if◌then◌else◌, not}
-use Rattle.std.proofs.lemmas.Bool.Decides.{nat_tests}
-use Rattle.std.proofs.lemmas.List.{append-nil, length-append, length-take, take-append-drop}
-use Rattle.sctp_data.specs.declared.chunk.chunk_payload_data.ChunkPayloadData.{ChunkPayloadData}
-use Rattle.sctp_receiver.specs.declared.receiver.arrival.Arrival.TheVariants.{New, Repeat}
-use Rattle.sctp_receiver.specs.declared.receiver.limits.Limits.{Limits}
-use Rattle.sctp_receiver.specs.Receiver.{Reception, Accepts, filter_of, with_filter, is_full_by, noted_by, repeat_tsn}
-use Rattle.sctp_receiver.specs.Receiver.{duplicates_answered, sack_entries, is_stale, follow_forward_tsn, after_forward}
-use Rattle.sctp_receiver.specs.ReceiverRuns.{Call, opens, closes, takes, discards, reports, reports_within, reads, resets, forwards, forwards_by_names, Makes}
-use Rattle.sctp_receiver.specs.Skips.{without_incomplete, after_forward_tsn}
-use Rattle.sctp_receiver.specs.TsnFilter.{has_come, with_tsn}
-use Rattle.sctp_receiver.specs.Duplicates.{Repeats, waiting, is_place, noted, repeats_after, none_again, AfterEachRunWithRepeats, AreToldOnce}
+use Rattle.sctp_receiver.proofs.Names.{◌≡◌, ℕ, Bool, true, false, List, [], ◌∷◌, ◌++◌, take, drop, length, Option, Some, None, refl, ap, sym, ◌∙◌, arith}
+use Rattle.sctp_receiver.proofs.Names.{if◌then◌else◌, not, nat_tests, append-nil, length-append, length-take, take-append-drop, ChunkPayloadData, New, Repeat}
+use Rattle.sctp_receiver.proofs.Names.{Limits, Reception, Accepts, filter_of, with_filter, noted_by, repeat_tsn, duplicates_answered, sack_entries, is_stale}
+use Rattle.sctp_receiver.proofs.Names.{follow_forward_tsn, after_forward, Call, opens, closes, takes, discards, reports, reports_within, reads, resets}
+use Rattle.sctp_receiver.proofs.Names.{forwards, forwards_by_names, Makes, without_incomplete, after_forward_tsn, has_come, with_tsn, AfterEachRunWithRepeats}
+use Rattle.std.proofs.Common.{append_assoc}
+use Rattle.sctp_receiver.specs.Receiver.{is_full_by}
+use Rattle.sctp_receiver.specs.Duplicates.{Repeats, waiting, is_place, noted, repeats_after, none_again, AreToldOnce}
 use Rattle.sctp_receiver.specs.Duplicates.{FillTheSack}
 use Rattle.sctp_receiver.proofs.BesideRuns.{kept}
 

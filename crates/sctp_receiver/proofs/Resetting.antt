@@ -1,19 +1,9 @@
 -- A reset of the stream at a place, and streams of which none has what a skip discards without a name.
-use Rattle.std.proofs.Common.{◌≡◌, ℕ, true, false, List, [], ◌∷◌, map, Some, refl, ap, ap₂, sym, ◌∙◌, Result, Ok, Err}
-use Rattle.std.specs.Prelude.{find, if◌then◌else◌, is_some, slice_index_or, slice_set, OnOk, OnErr, IfErr}
-use Rattle.std.specs.List.{list_any}
-use Rattle.sctp_util.specs.Lists.{change_where}
-use Rattle.sctp_serial.proofs.lemmas.ListEdits.{neither}
-use Rattle.sctp_reassembly.specs.reassembly_queue.Skips.{cannot_complete}
-use Rattle.sctp_reassembly.proofs.lemmas.reassembly_queue.ByteCounts.{incomplete_agrees}
-use Rattle.sctp_stream.specs.Numbers.{IsOnlyPlace}
-use Rattle.sctp_stream.proofs.StreamPlaces.{found, changed}
-use Rattle.sctp_receiver.specs.declared.receiver.inbound_streams.InboundStream.{InboundStream}
-use Rattle.sctp_receiver.specs.declared.receiver.refusal.ReceiverRefusal.{ReceiverRefusal}
-use Rattle.sctp_receiver.specs.declared.receiver.refusal.ReceiverRefusal.TheVariants.{StreamUnknown, OutOfMemory}
-use Rattle.sctp_receiver.specs.Inbound.{number, numbers_of, has_number, with_queue}
-use Rattle.sctp_receiver.specs.Resets.{stream_reset, keeps_message}
-use Rattle.sctp_receiver.specs.Skips.{incomplete_forwarded, has_incomplete}
+use Rattle.sctp_receiver.proofs.Names.{◌≡◌, ℕ, true, false, List, [], ◌∷◌, map, Some, refl, ap, ap₂, sym, ◌∙◌, Result, Ok, Err, find, if◌then◌else◌, is_some}
+use Rattle.sctp_receiver.proofs.Names.{slice_index_or, slice_set, OnOk, OnErr, IfErr, list_any, change_where, neither, cannot_complete, incomplete_agrees}
+use Rattle.sctp_receiver.proofs.Names.{IsOnlyPlace, found, changed, InboundStream, ReceiverRefusal, StreamUnknown, OutOfMemory, number, numbers_of, has_number}
+use Rattle.sctp_receiver.proofs.Names.{with_queue, stream_reset, incomplete_forwarded, has_incomplete}
+use Rattle.sctp_receiver.specs.Resets.{keeps_message}
 
 pub number-kept : (last : ℕ) (x y : InboundStream) {T E : Type 0} (r : Result T E) → OnOk r (y ≡ stream_reset last x) → OnErr r (y ≡ x) → number y ≡ number x
 number-kept last x y (Ok v) ok err = ap number ok

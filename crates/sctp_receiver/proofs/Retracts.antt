@@ -1,22 +1,12 @@
 -- A TSN that came is taken back.
-use Rattle.std.proofs.Common.{◌≡◌, ℕ, zero, suc, ◌+◌, ◌-◌, ◌<◌, ◌≤◌, ◌%◌, ◌^◌, Bool, true, false, List, [], ◌∷◌, ◌++◌, length, take, drop, Some, refl, ap, sym, subst, ◌∙◌}
-use Rattle.std.proofs.Common.{arith}
-use Rattle.std.specs.Prelude.{if◌then◌else◌, ◌==◌, not, slice_get, unwrap_or}
-use Rattle.std.specs.List.{list_any, filter}
-use Rattle.std.proofs.lemmas.List.{length-append, append_assoc, append-nil, drop_all}
-use Rattle.sctp_util.specs.Lists.{insert_before, advance_over, Seen}
-use Rattle.sctp_util.specs.Serial.{distance, comes_before, at_or_before}
-use Rattle.sctp_util.proofs.Cases.{same-yes, same-is}
-use Rattle.sctp_serial.specs.DataChunks.{following_tsn}
-use Rattle.sctp_serial.proofs.lemmas.AscendingEdits.{distance_rest, distance_sum}
-use Rattle.sctp_serial.proofs.lemmas.ListEdits.{neither}
-use Rattle.sctp_reassembly.proofs.lemmas.reassembly_queue.SerialPlaces.{after_one}
+use Rattle.sctp_receiver.proofs.Names.{◌≡◌, ℕ, zero, suc, ◌+◌, ◌-◌, ◌<◌, ◌≤◌, ◌%◌, ◌^◌, Bool, true, false, List, [], ◌∷◌, ◌++◌, length, take, drop, Some, refl}
+use Rattle.sctp_receiver.proofs.Names.{ap, sym, subst, ◌∙◌, arith, if◌then◌else◌, ◌==◌, not, slice_get, unwrap_or, list_any, filter, length-append}
+use Rattle.sctp_receiver.proofs.Names.{append_assoc, append-nil, drop_all, insert_before, advance_over, Seen, comes_before, at_or_before, same-yes, same-is}
+use Rattle.sctp_receiver.proofs.Names.{following_tsn, distance_rest, neither, after_one, Beyond, Next, Filter, rise_beyond, has_come, is_opposite, with_tsn}
+use Rattle.sctp_receiver.proofs.Names.{Run, tsns_from, tsns_of, AreRuns, count_of_runs, passed, undo_of, retracted, CanRetract}
+use Rattle.sctp_util.specs.Serial.{distance}
+use Rattle.sctp_serial.proofs.lemmas.AscendingEdits.{distance_sum}
 use Rattle.sctp_receiver.specs.declared.receiver.tsn_filter.undo.FilterUndo.{FilterUndo}
-use Rattle.sctp_receiver.specs.declared.receiver.tsn_filter.undo.FilterUndo.TheVariants.{Beyond, Next}
-use Rattle.sctp_receiver.specs.TsnFilter.{Filter, rise_beyond, has_come, is_opposite, with_tsn}
-use Rattle.sctp_receiver.specs.declared.receiver.tsn_filter.runs.Run.{Run}
-use Rattle.sctp_receiver.specs.TsnRuns.{tsns_from, tsns_of, AreRuns, count_of_runs}
-use Rattle.sctp_receiver.specs.Undo.{passed, undo_of, retracted, CanRetract}
 use Rattle.sctp_receiver.proofs.RunBlocks.{run-count}
 use Rattle.sctp_receiver.proofs.TsnRuns.{next-far, rest-is, span, split-at, got-within, runs-split, runs-nearer, tsns-append}
 use Rattle.sctp_receiver.proofs.TsnLists.{IsStep, step-of, beyond, moves, stays, rise-inserted}

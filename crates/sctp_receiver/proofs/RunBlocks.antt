@@ -1,20 +1,12 @@
 -- The gap ack blocks of runs, and how many runs there are.
-use Rattle.std.proofs.Common.{◌≡◌, ℕ, zero, suc, ◌+◌, ◌-◌, ◌<◌, ◌≤◌, ◌^◌, Bool, true, false, List, [], ◌∷◌, ◌++◌, length, map, take, drop, Some, refl, ap, sym, subst, ◌∙◌, inl, inr, arith}
-use Rattle.std.specs.Prelude.{if◌then◌else◌, ◌==◌, ◌&&◌, nat_lt, min, slice_get}
-use Rattle.std.specs.List.{filter}
-use Rattle.std.proofs.lemmas.Bool.{cases_lt}
-use Rattle.std.proofs.lemmas.List.{append-nil, take_at, take_all, drop_all}
-use Rattle.std.proofs.lemmas.Bool.Decides.{nat_tests}
+use Rattle.sctp_receiver.proofs.Names.{◌≡◌, ℕ, zero, suc, ◌+◌, ◌-◌, ◌<◌, ◌≤◌, ◌^◌, Bool, true, false, List, [], ◌∷◌, ◌++◌, length, map, take, drop, Some, refl}
+use Rattle.sctp_receiver.proofs.Names.{ap, sym, subst, ◌∙◌, inl, inr, arith, if◌then◌else◌, ◌==◌, ◌&&◌, nat_lt, min, slice_get, filter, cases_lt, append-nil}
+use Rattle.sctp_receiver.proofs.Names.{drop_all, nat_tests, distance, same-yes, same-is, fails, and, following_tsn, Run, rise_beyond, block_of, tsns_from}
+use Rattle.sctp_receiver.proofs.Names.{tsns_of, AreRuns, count_of_runs}
+use Rattle.std.proofs.lemmas.List.{take_at, take_all}
 use Rattle.sctp_util.specs.Kept.{runs_of, put_before_runs}
-use Rattle.sctp_util.specs.Serial.{distance}
-use Rattle.sctp_util.proofs.Cases.{same-yes, same-is}
-use Rattle.sctp_util.proofs.More.{fails, and}
 use Rattle.sctp_data.specs.declared.chunk.chunk_selective_ack.GapAckBlock.{GapAckBlock}
 use Rattle.sctp_outbound.specs.payload_queue.Blocks.{is_offset}
-use Rattle.sctp_serial.specs.DataChunks.{following_tsn}
-use Rattle.sctp_receiver.specs.declared.receiver.tsn_filter.runs.Run.{Run}
-use Rattle.sctp_receiver.specs.TsnFilter.{rise_beyond, block_of}
-use Rattle.sctp_receiver.specs.TsnRuns.{tsns_from, tsns_of, AreRuns, count_of_runs}
 use Rattle.sctp_receiver.proofs.TsnLists.{step-of, nearer}
 use Rattle.sctp_receiver.proofs.TsnRuns.{next-far, run-rises, span, runs-rise, drop-from}
 

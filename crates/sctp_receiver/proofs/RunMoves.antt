@@ -1,18 +1,8 @@
 -- The cumulative TSN moves over runs.
-use Rattle.std.proofs.Common.{◌≡◌, ℕ, zero, suc, ◌+◌, ◌-◌, ◌<◌, ◌≤◌, ◌^◌, true, false, List, [], ◌∷◌, ◌++◌, length, drop, Some, refl, ap, sym, subst, ◌∙◌, inl, inr, arith}
-use Rattle.std.specs.Prelude.{if◌then◌else◌, ◌==◌, not, nat_lt, slice_get}
-use Rattle.std.specs.List.{filter}
-use Rattle.std.proofs.lemmas.Bool.{cases_lt}
-use Rattle.std.proofs.lemmas.Bool.Decides.{nat_tests}
-use Rattle.std.proofs.lemmas.List.{length-append}
-use Rattle.sctp_util.specs.Lists.{advance_over, Seen}
-use Rattle.sctp_util.specs.Serial.{distance, at_or_before}
-use Rattle.sctp_util.proofs.Cases.{same-yes}
-use Rattle.sctp_serial.proofs.lemmas.AscendingEdits.{distance_rest, same_distance}
-use Rattle.sctp_serial.specs.DataChunks.{following_tsn}
-use Rattle.sctp_receiver.specs.declared.receiver.tsn_filter.runs.Run.{Run}
-use Rattle.sctp_receiver.specs.TsnFilter.{rise_beyond}
-use Rattle.sctp_receiver.specs.TsnRuns.{tsns_from, tsns_of, IsRun, AreRuns, later}
+use Rattle.sctp_receiver.proofs.Names.{◌≡◌, ℕ, zero, suc, ◌+◌, ◌-◌, ◌<◌, ◌≤◌, ◌^◌, true, false, List, [], ◌∷◌, ◌++◌, length, drop, Some, refl, ap, sym, subst}
+use Rattle.sctp_receiver.proofs.Names.{◌∙◌, inl, inr, arith, if◌then◌else◌, ◌==◌, not, nat_lt, slice_get, filter, cases_lt, nat_tests, length-append}
+use Rattle.sctp_receiver.proofs.Names.{advance_over, Seen, distance, at_or_before, same-yes, distance_rest, same_distance, following_tsn, Run, rise_beyond}
+use Rattle.sctp_receiver.proofs.Names.{tsns_from, tsns_of, IsRun, AreRuns, later}
 use Rattle.sctp_receiver.proofs.TsnLists.{step-of, nearer, before-it, behind-it, stays}
 use Rattle.sctp_receiver.proofs.TsnRuns.{next-far, run-rises, runs-rise, runs-nearer, span, split-at}
 

@@ -1,13 +1,9 @@
 -- What the SACK of a receiver tells, after whatever run of calls it stands so.
-use Rattle.std.proofs.Common.{◌≡◌, ℕ, ◌++◌, drop, Result, Ok, Err, ap, sym, ◌∙◌}
-use Rattle.std.specs.Prelude.{IfOk, OnOk}
-use Rattle.std.proofs.lemmas.List.{take-append-drop}
+use Rattle.sctp_receiver.proofs.Names.{◌≡◌, ℕ, ◌++◌, drop, Result, Ok, Err, ap, sym, ◌∙◌, IfOk, OnOk, take-append-drop, Sack, sack_of, ReceiverRefusal}
+use Rattle.sctp_receiver.proofs.Names.{AfterEachLimitedRun, AfterEachRunWithRepeats, Reception, after_sack_within, duplicates_answered, sack_entries, window}
 use Rattle.sctp_data.specs.declared.chunk.chunk_selective_ack.ChunkSelectiveAck.{ChunkSelectiveAck}
-use Rattle.sctp_data.specs.SelectiveAck.{Sack, sack_of}
-use Rattle.sctp_receiver.specs.declared.receiver.refusal.ReceiverRefusal.{ReceiverRefusal}
-use Rattle.sctp_receiver.specs.Credit.{AfterEachLimitedRun, cost_held, credit_within, left_of}
-use Rattle.sctp_receiver.specs.Duplicates.{AfterEachRunWithRepeats}
-use Rattle.sctp_receiver.specs.Receiver.{Reception, after_sack_within, duplicates_answered, sack_entries, sack_within, window}
+use Rattle.sctp_receiver.specs.Credit.{cost_held, credit_within, left_of}
+use Rattle.sctp_receiver.specs.Receiver.{sack_within}
 use Rattle.sctp_receiver.proofs.CreditTold as credits
 use Rattle.sctp_receiver.proofs.RepeatsTold as repeats
 

@@ -1,30 +1,15 @@
 -- Streams that hold nothing incomplete: no skip without a name changes them, and no read or name leaves them with more.
-use Rattle.std.proofs.Common.{◌≡◌, ℕ, ◌-◌, ◌≤◌, map, Bool, true, false, List, [], ◌∷◌, length, refl, ap, ap₂, sym, ◌∙◌, arith, Option, Some, None}
-use Rattle.std.specs.Prelude.{◌==◌, ◌&&◌, ◌||◌, not, if◌then◌else◌}
-use Rattle.std.specs.List.{list_any, filter}
-use Rattle.std.proofs.lemmas.Bool.{ne_eqb}
-use Rattle.sctp_util.specs.Lists.{after_leading, change_where}
-use Rattle.sctp_util.specs.Serial.{at_or_before}
+use Rattle.sctp_receiver.proofs.Names.{◌≡◌, ℕ, ◌-◌, ◌≤◌, map, Bool, true, false, List, [], ◌∷◌, length, refl, ap, ap₂, sym, ◌∙◌, arith, Option, Some, None}
+use Rattle.sctp_receiver.proofs.Names.{◌==◌, ◌&&◌, ◌||◌, not, if◌then◌else◌, list_any, filter, ne_eqb, after_leading, change_where, at_or_before, fails}
+use Rattle.sctp_receiver.proofs.Names.{not_both, ChunkSet, ForwardTsn, ChunkForwardTsnStream, is_complete, Reassembly, ReassemblyState, after_unordered_skip}
+use Rattle.sctp_receiver.proofs.Names.{after_read, front_readable, rest_among, without_first, is_passed, OrderedSkips, cannot_complete, incomplete_agrees}
+use Rattle.sctp_receiver.proofs.Names.{neither, bytes_of, InboundStream, Skip, Unassembled, Incomplete, with_queue, has_number, stream_read, ssn_forwarded}
+use Rattle.sctp_receiver.proofs.Names.{named_forwarded, unassembled_forwarded, Reception, after_forward, follow_forward_tsn, is_stale, skip_forwarded}
+use Rattle.sctp_receiver.proofs.Names.{holds_any, holds_incomplete, to_visit}
 use Rattle.sctp_util.proofs.Edits.{list_any-those}
-use Rattle.sctp_util.proofs.More.{fails, not_both}
-use Rattle.sctp_data.specs.ChunkSet.{ChunkSet}
-use Rattle.sctp_data.specs.ForwardTsn.{ForwardTsn}
-use Rattle.sctp_data.specs.declared.chunk.chunk_forward_tsn.ChunkForwardTsnStream.{ChunkForwardTsnStream}
-use Rattle.sctp_reassembly.specs.reassembly_queue.Fragments.{is_complete}
-use Rattle.sctp_reassembly.specs.reassembly_queue.ReassemblyQueue.{Reassembly, ReassemblyState, after_unordered_skip, leading_upto}
-use Rattle.sctp_reassembly.specs.reassembly_queue.ReassemblyQueue.{after_read, front_readable, rest_among, without_first, is_passed}
-use Rattle.sctp_reassembly.specs.declared.reassembly_queue.ordered_skips.OrderedSkips.{OrderedSkips}
+use Rattle.sctp_reassembly.specs.reassembly_queue.ReassemblyQueue.{leading_upto}
 use Rattle.sctp_reassembly.specs.reassembly_queue.OrderedSkips.{is_skipped, after_noted_skips}
-use Rattle.sctp_reassembly.specs.reassembly_queue.Skips.{cannot_complete, misses}
-use Rattle.sctp_reassembly.proofs.lemmas.reassembly_queue.ByteCounts.{incomplete_agrees}
-use Rattle.sctp_serial.proofs.lemmas.ListEdits.{neither}
-use Rattle.sctp_serial.specs.DataChunks.{bytes_of}
-use Rattle.sctp_receiver.specs.declared.receiver.inbound_streams.InboundStream.{InboundStream}
-use Rattle.sctp_receiver.specs.declared.receiver.visit.Skip.{Skip}
-use Rattle.sctp_receiver.specs.declared.receiver.visit.Skip.TheVariants.{Unassembled, Incomplete}
-use Rattle.sctp_receiver.specs.Inbound.{with_queue, has_number, stream_read, ssn_forwarded, named_forwarded, unassembled_forwarded}
-use Rattle.sctp_receiver.specs.Receiver.{Reception, after_forward, follow_forward_tsn, is_stale}
-use Rattle.sctp_receiver.specs.Visited.{skip_forwarded, holds_any, holds_incomplete, to_visit}
+use Rattle.sctp_reassembly.specs.reassembly_queue.Skips.{misses}
 
 pub is-empty : {A : Type 0} (xs : List A) → not (length xs == 0) ≡ false → xs ≡ []
 is-empty [] h = refl

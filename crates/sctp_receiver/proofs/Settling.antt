@@ -1,35 +1,24 @@
 -- Following the advice at a refusal settles the next chunk to come.
-use Rattle.std.proofs.Common.{◌≡◌, ℕ, ◌<◌, ◌≤◌, ◌^◌, Bool, true, false, List, [], ◌∷◌, ◌++◌, Option, Some, None, refl, ap, sym, ◌∙◌, subst, arith}
-use Rattle.std.specs.Prelude.{⊤, if◌then◌else◌, ◌==◌, ◌&&◌, ◌||◌, not, nat_lt, nat_le, find, is_some}
-use Rattle.std.specs.List.{list_any, filter}
-use Rattle.std.specs.Option.{option_or}
-use Rattle.std.proofs.lemmas.Bool.Decides.{nat_tests}
-use Rattle.sctp_util.specs.Serial.{distance, comes_before}
-use Rattle.sctp_util.proofs.Cases.{same-yes, same-is}
-use Rattle.sctp_util.proofs.More.{both, not_both}
-use Rattle.sctp_data.specs.declared.chunk.chunk_payload_data.ChunkPayloadData.{ChunkPayloadData}
-use Rattle.sctp_data.specs.ForwardTsn.{ForwardTsn}
-use Rattle.sctp_reassembly.specs.reassembly_queue.ReassemblyQueue.{is_too_large, message_read}
-use Rattle.sctp_reassembly.proofs.lemmas.reassembly_queue.SerialPlaces.{after_one}
-use Rattle.sctp_serial.specs.DataChunks.{following_tsn}
+use Rattle.sctp_receiver.proofs.Names.{◌≡◌, ℕ, ◌<◌, ◌≤◌, ◌^◌, Bool, true, false, List, [], ◌∷◌, ◌++◌, Option, Some, None, refl, ap, sym, ◌∙◌, subst, arith, ⊤}
+use Rattle.sctp_receiver.proofs.Names.{if◌then◌else◌, ◌==◌, ◌&&◌, ◌||◌, not, nat_lt, nat_le, find, is_some, list_any, filter, option_or, nat_tests, distance}
+use Rattle.sctp_receiver.proofs.Names.{same-yes, same-is, both, not_both, ChunkPayloadData, ForwardTsn, is_too_large, message_read, after_one, following_tsn}
+use Rattle.sctp_receiver.proofs.Names.{InboundStream, Limits, ReceiverRefusal, StreamUnknown, TsnOpposite, MessageTooLarge, TsnTooFar, WindowFull, SsnTooFar}
+use Rattle.sctp_receiver.proofs.Names.{NamedStreamUnknown, NamedSsnTooFar, has_number, new_stream, cost_of, held_cost, refusal_by, Reception, filter_of}
+use Rattle.sctp_receiver.proofs.Names.{stream_of, open_stream, new_refusal, stream_refusal, data_refusal, arrival_refusal, forward_refusal, past_closed_refusal}
+use Rattle.sctp_receiver.proofs.Names.{skip_refusal, Filter, has_come, is_opposite, highest_tsn}
+use Rattle.sctp_util.specs.Serial.{comes_before}
 use Rattle.sctp_receiver.specs.declared.advice.AbortCause.{AbortCause}
 use Rattle.sctp_receiver.specs.declared.advice.AbortCause.TheVariants.{OutOfResource, ProtocolViolation}
 use Rattle.sctp_receiver.specs.declared.advice.Advice.TheVariants as advice
 use Rattle.sctp_receiver.specs.declared.advice.SkipAdvice.TheVariants as skip
-use Rattle.sctp_receiver.specs.declared.receiver.inbound_streams.InboundStream.{InboundStream}
-use Rattle.sctp_receiver.specs.declared.receiver.limits.Limits.{Limits}
-use Rattle.sctp_receiver.specs.declared.receiver.refusal.ReceiverRefusal.{ReceiverRefusal}
-use Rattle.sctp_receiver.specs.declared.receiver.refusal.ReceiverRefusal.TheVariants.{StreamUnknown, TsnOpposite, MessageTooLarge, TsnTooFar}
-use Rattle.sctp_receiver.specs.declared.receiver.refusal.ReceiverRefusal.TheVariants.{WindowFull, SsnTooFar, NamedStreamUnknown, NamedSsnTooFar}
-use Rattle.sctp_receiver.specs.Advice.{is_any_readable, is_next_to_come, drop_or_abort, advice_for, skip_advice_for, IsDiscarded, IsDropped, SettlesAtOnce, IsSettledBy}
+use Rattle.sctp_receiver.specs.Advice.{is_any_readable, is_next_to_come, drop_or_abort, advice_for, skip_advice_for, IsDiscarded, IsDropped, SettlesAtOnce}
+use Rattle.sctp_receiver.specs.Advice.{IsSettledBy}
 use Rattle.sctp_receiver.specs.Advice.{IsSettled, Settles, AdviceSettles, SettlesSkip, SkipAdviceSettles}
-use Rattle.sctp_receiver.specs.Inbound.{has_number, new_stream}
-use Rattle.sctp_receiver.specs.Limits.{cost_of, held_cost, is_beyond_window, refusal_by}
-use Rattle.sctp_receiver.specs.Receiver.{Reception, filter_of, stream_of, open_stream, close_stream, new_refusal, stream_refusal, data_refusal, arrival_refusal}
-use Rattle.sctp_receiver.specs.Receiver.{is_duplicates_full, forward_refusal}
-use Rattle.sctp_receiver.specs.Skips.{is_ahead, names_closed, names_too_far, past_closed_refusal, skip_refusal}
+use Rattle.sctp_receiver.specs.Limits.{is_beyond_window}
+use Rattle.sctp_receiver.specs.Receiver.{close_stream}
+use Rattle.sctp_receiver.specs.Receiver.{is_duplicates_full}
+use Rattle.sctp_receiver.specs.Skips.{is_ahead, names_closed, names_too_far}
 use Rattle.sctp_receiver.specs.Ssns.{is_too_far_on}
-use Rattle.sctp_receiver.specs.TsnFilter.{Filter, has_come, is_opposite, highest_tsn}
 use Rattle.sctp_receiver.proofs.StreamCosts.{kept-cost}
 
 -- ## Streams

@@ -1,28 +1,11 @@
 -- What the skips of a FORWARD-TSN look at within streams.
-use Rattle.std.proofs.Common.{◌≡◌, ℕ, zero, suc, ◌+◌, ◌<◌, ◌≤◌, Bool, true, false, List, [], ◌∷◌, length, map, Option}
-use Rattle.std.proofs.Common.{Some, None, refl, ap, sym, ◌∙◌}
-use Rattle.std.proofs.Common.{arith}
-use Rattle.std.specs.Prelude.{not, if◌then◌else◌, slice_get, slice_set}
-use Rattle.std.specs.List.{sum_by, filter}
-use Rattle.std.proofs.lemmas.Bool.{le-ltb}
-use Rattle.std.proofs.lemmas.List.Sums.{sum_by-cons, sum_by-set}
-use Rattle.std.proofs.lemmas.Option.{slice_get_within, get_or_from_slice_get}
-use Rattle.sctp_util.proofs.Cases.{some-same}
-use Rattle.sctp_util.proofs.More.{not_both}
-use Rattle.sctp_data.specs.ChunkSet.{ChunkSet}
-use Rattle.sctp_data.specs.ForwardTsn.{ForwardTsn}
-use Rattle.sctp_data.specs.declared.chunk.chunk_forward_tsn.ChunkForwardTsnStream.{ChunkForwardTsnStream}
+use Rattle.sctp_receiver.proofs.Names.{◌≡◌, ℕ, zero, suc, ◌+◌, ◌<◌, ◌≤◌, Bool, true, false, List, [], ◌∷◌, length, map, Option, Some, None, refl, ap, sym, ◌∙◌}
+use Rattle.sctp_receiver.proofs.Names.{arith, not, if◌then◌else◌, slice_get, slice_set, sum_by, filter, le-ltb, sum_by-cons, sum_by-set, slice_get_within}
+use Rattle.sctp_receiver.proofs.Names.{get_or_from_slice_get, some-same, not_both, ChunkSet, ForwardTsn, ChunkForwardTsnStream, set_chunks, is_passed}
+use Rattle.sctp_receiver.proofs.Names.{cannot_complete, InboundStream, Skip, Unassembled, Incomplete, ssn_forwarded, named_forwarded, unassembled_forwarded}
+use Rattle.sctp_receiver.proofs.Names.{Reception, after_forward, follow_forward_tsn, is_stale, settle_walk, unordered_skips_walk, incomplete_skips_walk}
+use Rattle.sctp_receiver.proofs.Names.{AreInverse, is_spot_before, holds_any, skip_forwarded, to_visit}
 use Rattle.sctp_reassembly.specs.reassembly_queue.Costs.{ordered_skip_walk, incomplete_skip_walk, unordered_skip_walk}
-use Rattle.sctp_reassembly.specs.reassembly_queue.Counts.{set_chunks}
-use Rattle.sctp_reassembly.specs.reassembly_queue.ReassemblyQueue.{is_passed}
-use Rattle.sctp_reassembly.specs.reassembly_queue.Skips.{cannot_complete}
-use Rattle.sctp_receiver.specs.declared.receiver.inbound_streams.InboundStream.{InboundStream}
-use Rattle.sctp_receiver.specs.declared.receiver.visit.Skip.{Skip}
-use Rattle.sctp_receiver.specs.declared.receiver.visit.Skip.TheVariants.{Unassembled, Incomplete}
-use Rattle.sctp_receiver.specs.Inbound.{ssn_forwarded, named_forwarded, unassembled_forwarded}
-use Rattle.sctp_receiver.specs.Receiver.{Reception, after_forward, follow_forward_tsn, is_stale}
-use Rattle.sctp_receiver.specs.SkipCosts.{settle_walk, unordered_skips_walk, incomplete_skips_walk}
-use Rattle.sctp_receiver.specs.Visited.{AreInverse, is_spot_before, holds_any, skip_forwarded, to_visit}
 use Rattle.sctp_receiver.proofs.Settled.{named-any, unassembled-any}
 use Rattle.sctp_receiver.proofs.StreamCosts.{mapped-cost, named-cost}
 use Rattle.sctp_receiver.proofs.VisitOrders.{set-there}

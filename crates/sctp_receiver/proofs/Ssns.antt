@@ -1,13 +1,10 @@
 -- A stream sequence number that is not too far past the lowest one: a chunk of it is kept, or a FORWARD-TSN went past its message.
-use Rattle.std.proofs.Common.{◌≡◌, ℕ, ◌+◌, ◌-◌, ◌^◌, ◌<◌, ◌≤◌, ◌⊎◌, true, false, Bool, List, [], ◌∷◌, refl, ◌∙◌, inl, inr, mod-eq_of_lt, arith}
+use Rattle.sctp_receiver.proofs.Names.{◌≡◌, ℕ, ◌+◌, ◌-◌, ◌^◌, ◌<◌, ◌≤◌, ◌⊎◌, true, false, Bool, List, [], ◌∷◌, refl, ◌∙◌, inl, inr, arith, not, ◌||◌, nat_lt}
+use Rattle.sctp_receiver.proofs.Names.{if◌then◌else◌, cases_lt, nat_tests, ChunkSet, Reassembly, lowest_ssn, is_ssn_too_far}
+use Rattle.std.proofs.Common.{mod-eq_of_lt}
 use native.Mathlib.Nat.{mod-eq-sub-mod}
-use Rattle.std.specs.Prelude.{not, ◌||◌, nat_lt, if◌then◌else◌}
-use Rattle.std.proofs.lemmas.Bool.{cases_lt}
-use Rattle.std.proofs.lemmas.Bool.Decides.{nat_tests}
 use Rattle.sctp_util.specs.Serial.{distance16, comes_before16, at_or_before16}
-use Rattle.sctp_data.specs.ChunkSet.{ChunkSet}
-use Rattle.sctp_reassembly.specs.reassembly_queue.ReassemblyQueue.{Reassembly}
-use Rattle.sctp_receiver.specs.Ssns.{lowest_among, lowest_ssn, ssn_distance, is_ssn_too_far, is_kept_or_passed}
+use Rattle.sctp_receiver.specs.Ssns.{lowest_among, ssn_distance, is_kept_or_passed}
 
 -- a distance, with no remainder in it
 distance16_cases : (a b : ℕ) → a < 2 ^ 16 → b < 2 ^ 16 → ((a ≤ b) × (distance16 a b + a ≡ b)) ⊎ ((b < a) × (distance16 a b + a ≡ b + 2 ^ 16))

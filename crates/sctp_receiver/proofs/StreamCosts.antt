@@ -1,24 +1,11 @@
 -- What the streams of a receiver cost, and what the calls make of that.
-use Rattle.std.proofs.Common.{◌≡◌, ℕ, ◌+◌, ◌*◌, ◌≤◌, Bool, true, false, List, [], ◌∷◌, ◌++◌, length, map, Some, refl, ap, sym, ◌∙◌, arith, subst}
-use Rattle.std.specs.Prelude.{if◌then◌else◌, find, not, ⊤, ◌==◌, ◌&&◌, ◌||◌, is_some}
-use Rattle.std.specs.List.{list_any, sum_by, filter}
-use Rattle.std.proofs.lemmas.List.Sums.{sum_by-cons, sum_by-append}
-use Rattle.std.proofs.lemmas.Bool.{eq-eqb}
-use Rattle.sctp_util.specs.Lists.{change_where}
-use Rattle.sctp_util.proofs.Cases.{same-is}
-use Rattle.sctp_util.proofs.More.{and, both, fails, not_both}
-use Rattle.sctp_data.specs.declared.chunk.chunk_payload_data.ChunkPayloadData.{ChunkPayloadData}
-use Rattle.sctp_data.specs.declared.chunk.chunk_forward_tsn.ChunkForwardTsnStream.{ChunkForwardTsnStream}
-use Rattle.sctp_data.specs.ChunkSet.{ChunkSet}
-use Rattle.sctp_reassembly.specs.reassembly_queue.Counts.{set_chunks}
-use Rattle.sctp_reassembly.specs.reassembly_queue.ReassemblyQueue.{Reassembly, ReassemblyState, held_chunks, is_kept, count_up}
-use Rattle.sctp_serial.proofs.lemmas.ListEdits.{neither}
-use Rattle.sctp_receiver.specs.declared.receiver.inbound_streams.InboundStream.{InboundStream}
-use Rattle.sctp_receiver.specs.Inbound.{number, numbers_of, has_number, new_stream, with_queue, Pushes, PushesAs, stream_read, ssn_forwarded, named_forwarded}
-use Rattle.sctp_receiver.specs.Inbound.{unassembled_forwarded}
-use Rattle.sctp_receiver.specs.Limits.{chunk_cost, cost_of}
-use Rattle.sctp_receiver.specs.Resets.{stream_reset}
-use Rattle.sctp_receiver.specs.Skips.{incomplete_forwarded}
+use Rattle.sctp_receiver.proofs.Names.{◌≡◌, ℕ, ◌+◌, ◌*◌, ◌≤◌, Bool, true, false, List, [], ◌∷◌, ◌++◌, length, map, Some, refl, ap, sym, ◌∙◌, arith, subst}
+use Rattle.sctp_receiver.proofs.Names.{if◌then◌else◌, find, not, ⊤, ◌==◌, ◌&&◌, ◌||◌, is_some, list_any, sum_by, filter, sum_by-cons, sum_by-append, eq-eqb}
+use Rattle.sctp_receiver.proofs.Names.{change_where, same-is, and, both, fails, not_both, ChunkPayloadData, ChunkForwardTsnStream, ChunkSet, set_chunks}
+use Rattle.sctp_receiver.proofs.Names.{Reassembly, ReassemblyState, held_chunks, neither, InboundStream, number, numbers_of, has_number, new_stream, with_queue}
+use Rattle.sctp_receiver.proofs.Names.{Pushes, PushesAs, stream_read, ssn_forwarded, named_forwarded, unassembled_forwarded, chunk_cost, cost_of, stream_reset}
+use Rattle.sctp_receiver.proofs.Names.{incomplete_forwarded}
+use Rattle.sctp_reassembly.specs.reassembly_queue.ReassemblyQueue.{is_kept, count_up}
 use Rattle.sctp_receiver.proofs.Weights as weights
 use Rattle.sctp_receiver.proofs.Weights.{weight}
 

@@ -1,18 +1,10 @@
 -- TSNs beyond a cumulative one: what is put in, what is skipped, and how the cumulative one moves.
-use Rattle.std.proofs.Common.{◌≡◌, ℕ, ◌+◌, ◌-◌, ◌<◌, ◌≤◌, ◌%◌, ◌^◌, Bool, true, false, List, [], ◌∷◌, refl, ap, sym, subst, ◌∙◌, inl, inr, arith}
-use Rattle.std.specs.Prelude.{if◌then◌else◌, ◌==◌, ◌&&◌, ◌||◌, not, nat_lt}
-use Rattle.std.specs.List.{list_any, filter}
-use Rattle.std.proofs.lemmas.Bool.{cases_lt}
-use Rattle.std.proofs.lemmas.Bool.Decides.{nat_tests}
-use Rattle.sctp_util.specs.Lists.{insert_before, advance_over, Seen}
-use Rattle.sctp_util.specs.Serial.{distance, comes_before, at_or_before}
-use Rattle.sctp_util.proofs.Cases.{same-yes, same-is}
-use Rattle.sctp_util.proofs.More.{fails, not_both, both, and}
-use Rattle.sctp_util.proofs.Distances.{distance_cases}
-use Rattle.sctp_serial.proofs.lemmas.AscendingEdits.{distance_rest, distance_back, same_distance, before_farther, not_before_nearer}
-use Rattle.sctp_receiver.specs.TsnFilter.{rise_beyond}
-use Rattle.sctp_serial.specs.DataChunks.{following_tsn}
-use Rattle.sctp_reassembly.proofs.lemmas.reassembly_queue.SerialPlaces.{after_one}
+use Rattle.sctp_receiver.proofs.Names.{◌≡◌, ℕ, ◌+◌, ◌-◌, ◌<◌, ◌≤◌, ◌%◌, ◌^◌, Bool, true, false, List, [], ◌∷◌, refl, ap, sym, subst, ◌∙◌, inl, inr, arith}
+use Rattle.sctp_receiver.proofs.Names.{if◌then◌else◌, ◌==◌, ◌&&◌, ◌||◌, not, nat_lt, list_any, filter, cases_lt, nat_tests, insert_before, advance_over, Seen}
+use Rattle.sctp_receiver.proofs.Names.{comes_before, same-yes, same-is, fails, not_both, both, and, distance_cases, distance_rest, same_distance}
+use Rattle.sctp_receiver.proofs.Names.{before_farther, not_before_nearer, rise_beyond, following_tsn, after_one}
+use Rattle.sctp_util.specs.Serial.{distance, at_or_before}
+use Rattle.sctp_serial.proofs.lemmas.AscendingEdits.{distance_back}
 
 -- ## Distances
 

@@ -1,22 +1,17 @@
 -- TSNs as runs.
-use Rattle.std.proofs.Common.{◌≡◌, ℕ, zero, suc, ◌+◌, ◌-◌, ◌<◌, ◌≤◌, ◌^◌, ◌⊎◌, Bool, true, false, List, [], ◌∷◌, ◌++◌, length, take, drop, get_or, Option, Some, None, refl, ap, sym, subst, ◌∙◌}
-use Rattle.std.proofs.Common.{inl, inr, arith}
-use Rattle.std.specs.Prelude.{if◌then◌else◌, ◌==◌, ◌||◌, not, slice_get, IfSome, slice_set}
-use Rattle.std.specs.List.{list_any, filter, remove}
-use Rattle.std.proofs.lemmas.List.{append_assoc, take-append-drop, length-append, length-take, length-drop, append-nil, set_split}
+use Rattle.sctp_receiver.proofs.Names.{◌≡◌, ℕ, zero, suc, ◌+◌, ◌-◌, ◌<◌, ◌≤◌, ◌^◌, ◌⊎◌, Bool, true, false, List, [], ◌∷◌, ◌++◌, length, take, drop, get_or}
+use Rattle.sctp_receiver.proofs.Names.{Option, Some, None, refl, ap, sym, subst, ◌∙◌, inl, inr, arith, if◌then◌else◌, ◌==◌, ◌||◌, not, slice_get, IfSome}
+use Rattle.sctp_receiver.proofs.Names.{slice_set, list_any, filter, remove, append_assoc, take-append-drop, length-append, length-take, length-drop, append-nil}
+use Rattle.sctp_receiver.proofs.Names.{nat_tests, slice_get_read, insert_before, comes_before, same-yes, same-is, fails, not_both, distance_rest, same_distance}
+use Rattle.sctp_receiver.proofs.Names.{before_farther, not_before_nearer, following_tsn, Run, rise_beyond, tsns_from, tsns_of, IsRun, AreRuns, run_before}
+use Rattle.sctp_receiver.proofs.Names.{reaches, pieces}
+use Rattle.std.proofs.lemmas.List.{set_split}
 use Rattle.std.proofs.lemmas.List.Folds.{list_any-append}
-use Rattle.std.proofs.lemmas.Bool.Decides.{nat_tests}
-use Rattle.std.proofs.lemmas.Option.{none-some, same_Some, slice_get_read}
-use Rattle.sctp_util.specs.Lists.{insert_before}
-use Rattle.sctp_util.specs.Serial.{distance, comes_before}
-use Rattle.sctp_util.proofs.Cases.{same-yes, same-is}
-use Rattle.sctp_util.proofs.More.{fails, not_both}
-use Rattle.sctp_serial.proofs.lemmas.AscendingEdits.{distance_rest, same_distance, before_farther, not_before_nearer}
-use Rattle.sctp_serial.specs.DataChunks.{following_tsn, preceding_tsn}
-use Rattle.sctp_receiver.specs.declared.receiver.tsn_filter.runs.Run.{Run}
+use Rattle.std.proofs.lemmas.Option.{none-some, same_Some}
+use Rattle.sctp_util.specs.Serial.{distance}
+use Rattle.sctp_serial.specs.DataChunks.{preceding_tsn}
 use Rattle.sctp_receiver.specs.declared.receiver.tsn_filter.runs.Spot.{Spot}
-use Rattle.sctp_receiver.specs.TsnFilter.{rise_beyond}
-use Rattle.sctp_receiver.specs.TsnRuns.{tsns_from, tsns_of, IsRun, AreRuns, IsSpot, run_before, reaches, left_piece, right_piece, pieces, left_end_of, right_end_of}
+use Rattle.sctp_receiver.specs.TsnRuns.{IsSpot, left_piece, right_piece, left_end_of, right_end_of}
 use Rattle.sctp_receiver.proofs.TsnLists.{IsStep, step-of, of-step, nearer}
 
 -- ## One run

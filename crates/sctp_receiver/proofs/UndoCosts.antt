@@ -1,16 +1,8 @@
 -- What it looks at to take chunks back.
-use Rattle.std.proofs.Common.{◌≡◌, ℕ, ◌+◌, ◌-◌, ◌*◌, ◌^◌, ◌≤◌, List, [], ◌∷◌, ◌++◌, take, Option, Some, None, refl, ap, sym, subst, arith}
-use Rattle.std.proofs.Common.{Result, Ok, Err}
-use Rattle.std.specs.Prelude.{slice_get, OnErr}
-use Rattle.sctp_data.specs.declared.chunk.chunk_payload_data.ChunkPayloadData.{ChunkPayloadData}
-use Rattle.sctp_reassembly.specs.reassembly_queue.Orders.{digits}
-use Rattle.sctp_reassembly.proofs.lemmas.reassembly_queue.Digits.{within_digits}
-use Rattle.sctp_receiver.specs.declared.receiver.refusal.ReceiverRefusal.{ReceiverRefusal}
-use Rattle.sctp_receiver.specs.declared.receiver.intake.ChunkUndo.{ChunkUndo}
-use Rattle.sctp_receiver.specs.Costs.{IsWithinData, IsWithinNext, IsWithinRefusedBy, IsWithinUndone, TakesWithin, TakesEachWithin, Counts, counts_of, counts_in}
-use Rattle.sctp_receiver.specs.Costs.{undo_looks, undo_each_looks}
-use Rattle.sctp_receiver.specs.Receiver.{Reception}
-use Rattle.sctp_receiver.specs.Undo.{Parts, chunk_undone, chunks_undone}
+use Rattle.sctp_receiver.proofs.Names.{◌≡◌, ℕ, ◌+◌, ◌-◌, ◌*◌, ◌^◌, ◌≤◌, List, [], ◌∷◌, ◌++◌, take, Option, Some, None, refl, ap, sym, subst, arith, Result, Ok}
+use Rattle.sctp_receiver.proofs.Names.{Err, slice_get, OnErr, ChunkPayloadData, digits, within_digits, ReceiverRefusal, ChunkUndo, IsWithinData, IsWithinUndone}
+use Rattle.sctp_receiver.proofs.Names.{TakesEachWithin, counts_in, undo_looks, undo_each_looks, Reception, Parts, chunk_undone, chunks_undone}
+use Rattle.sctp_receiver.specs.Costs.{IsWithinNext, IsWithinRefusedBy, TakesWithin, Counts, counts_of}
 use Rattle.sctp_receiver.proofs.PushCosts.{data-less, data-none}
 use Rattle.sctp_receiver.proofs.Undone.{undone-last}
 

@@ -1,18 +1,14 @@
 -- Fragments and chunks taken back.
-use Rattle.std.proofs.Common.{◌≡◌, ℕ, zero, suc, ◌<◌, Bool, List, [], ◌∷◌, ◌++◌, length, length-set, refl, ap, sym, subst, ◌∙◌, Some, Result, Ok, Err, arith}
-use Rattle.std.specs.Prelude.{slice_get, slice_index_or, slice_set, IfOk, IsSomeAnd}
+use Rattle.sctp_receiver.proofs.Names.{◌≡◌, ℕ, zero, suc, ◌<◌, Bool, List, [], ◌∷◌, ◌++◌, length, length-set, refl, ap, sym, subst, ◌∙◌, Some, Result, Ok, Err}
+use Rattle.sctp_receiver.proofs.Names.{arith, slice_get, slice_index_or, slice_set, IfOk, slice_get_read, PushUndo, InboundStream, ReceiverRefusal, number}
+use Rattle.sctp_receiver.proofs.Names.{ChunkUndo, stream_undone, CanUndoAt, Parts, chunk_undone, chunks_undone, CanUndoChunks}
+use Rattle.std.specs.Prelude.{IsSomeAnd}
 use Rattle.std.proofs.lemmas.List.{get_or-set_same}
-use Rattle.std.proofs.lemmas.Option.{slice_get_read}
-use Rattle.sctp_reassembly.specs.declared.reassembly_queue.undo.PushUndo.{PushUndo}
 use Rattle.sctp_reassembly.specs.declared.reassembly_queue.undo.PushChange.{PushChange}
 use Rattle.sctp_reassembly.specs.declared.reassembly_queue.undo.PushChange.TheVariants.{NotKept}
 use Rattle.sctp_reassembly.specs.reassembly_queue.Undo.{change_undone, CanUndo}
 use Rattle.sctp_reassembly.proofs.lemmas.reassembly_queue.Undone.{changed-back}
-use Rattle.sctp_receiver.specs.declared.receiver.inbound_streams.InboundStream.{InboundStream}
-use Rattle.sctp_receiver.specs.declared.receiver.refusal.ReceiverRefusal.{ReceiverRefusal}
-use Rattle.sctp_receiver.specs.Inbound.{number}
-use Rattle.sctp_receiver.specs.declared.receiver.intake.ChunkUndo.{ChunkUndo}
-use Rattle.sctp_receiver.specs.Undo.{stream_undone, undone_at, CanUndoAt, Parts, chunk_undone, chunks_undone, CanUndoChunk, CanUndoChunks}
+use Rattle.sctp_receiver.specs.Undo.{undone_at, CanUndoChunk}
 
 -- ## A fragment
 

@@ -1,12 +1,8 @@
 -- The order of the places that a FORWARD-TSN visits.
-use Rattle.std.proofs.Common.{◌≡◌, ℕ, zero, suc, ◌+◌, ◌<◌, ◌≤◌, true, false, List, [], ◌∷◌, ◌++◌, length, length-set, Some, None, refl, ap, sym, ◌∙◌}
-use Rattle.std.proofs.Common.{arith}
-use Rattle.std.specs.Prelude.{◌==◌, Option, nat_lt, if◌then◌else◌, slice_get, slice_index_or, slice_set, option_map}
-use Rattle.std.proofs.lemmas.Bool.{lt-ltb, le-ltb}
-use Rattle.std.proofs.lemmas.Bool.Decides.{nat_tests}
-use Rattle.std.proofs.lemmas.Option.{slice_get_within, slice_get_past, slice_get_read}
-use Rattle.sctp_util.proofs.Cases.{by_same, same-yes, some-same}
-use Rattle.sctp_receiver.specs.Visited.{AreInverse, is_spot_before, swapped}
+use Rattle.sctp_receiver.proofs.Names.{◌≡◌, ℕ, zero, suc, ◌+◌, ◌<◌, ◌≤◌, true, false, List, [], ◌∷◌, ◌++◌, length, length-set, Some, None, refl, ap, sym, ◌∙◌}
+use Rattle.sctp_receiver.proofs.Names.{arith, ◌==◌, nat_lt, if◌then◌else◌, slice_get, slice_index_or, slice_set, option_map, lt-ltb, le-ltb, nat_tests}
+use Rattle.sctp_receiver.proofs.Names.{slice_get_within, slice_get_past, slice_get_read, by_same, same-yes, some-same, AreInverse, is_spot_before, swapped}
+use Rattle.std.specs.Prelude.{Option}
 
 -- ## What stands at a place of a list
 

@@ -1,14 +1,11 @@
 -- What a FORWARD-TSN makes of the streams that it visits, and of those that it does not.
-use Rattle.std.proofs.Common.{◌≡◌, ℕ, zero, suc, ◌+◌, ◌<◌, ◌≤◌, Bool, true, false, List, [], ◌∷◌, length, map, Some, None, refl, ap}
-use Rattle.std.proofs.Common.{sym, ◌∙◌, arith}
-use Rattle.std.specs.Prelude.{◌==◌, ◌&&◌, ◌||◌, Option, nat_lt, if◌then◌else◌, slice_get, slice_index_or, slice_set}
-use Rattle.std.specs.List.{sum_by, filter}
-use Rattle.std.proofs.lemmas.Bool.{lt-ltb, le-ltb, ltb-true}
-use Rattle.std.proofs.lemmas.Bool.Decides.{nat_tests}
-use Rattle.std.proofs.lemmas.List.Sums.{sum_by-cons, sum_by-set}
-use Rattle.std.proofs.lemmas.Option.{slice_get_within, slice_get-get_or, get_or_from_slice_get}
-use Rattle.sctp_util.proofs.Cases.{by_same, same-yes, some-same}
-use Rattle.sctp_receiver.specs.Visited.{AreInverse, VisitOrder, is_spot_before, is_visited, swapped}
+use Rattle.sctp_receiver.proofs.Names.{◌≡◌, ℕ, zero, suc, ◌+◌, ◌<◌, ◌≤◌, Bool, true, false, List, [], ◌∷◌, length, map, Some, None, refl, ap, sym, ◌∙◌, arith}
+use Rattle.sctp_receiver.proofs.Names.{◌==◌, ◌&&◌, ◌||◌, nat_lt, if◌then◌else◌, slice_get, slice_index_or, slice_set, sum_by, filter, lt-ltb, le-ltb, nat_tests}
+use Rattle.sctp_receiver.proofs.Names.{sum_by-cons, sum_by-set, slice_get_within, get_or_from_slice_get, by_same, same-yes, some-same, AreInverse, VisitOrder}
+use Rattle.sctp_receiver.proofs.Names.{is_spot_before, is_visited, swapped}
+use Rattle.std.specs.Prelude.{Option}
+use Rattle.std.proofs.lemmas.Bool.{ltb-true}
+use Rattle.std.proofs.lemmas.Option.{slice_get-get_or}
 use Rattle.sctp_receiver.proofs.VisitOrders.{set-here, set-there, first-swapped, other-swapped}
 
 -- ## Each is visited

@@ -1,23 +1,14 @@
 -- What the fragments of a reassembly queue weigh, and what its calls make of that.
-use Rattle.std.proofs.Common.{◌≡◌, ℕ, zero, suc, ◌+◌, ◌≤◌, Bool, true, false, List, [], ◌∷◌, take, drop, Option, Some, None, refl, ap, sym, ◌∙◌, arith}
-use Rattle.std.specs.Prelude.{not, if◌then◌else◌}
-use Rattle.std.specs.List.{list_any, sum_by, filter}
-use Rattle.std.proofs.lemmas.List.Sums.{sum_by-cons, sum_by-append}
-use Rattle.std.proofs.lemmas.List.{take-append-drop}
-use Rattle.sctp_util.specs.Lists.{insert_before, change_first, after_leading}
-use Rattle.sctp_util.specs.Serial.{at_or_before, comes_before16}
+use Rattle.sctp_receiver.proofs.Names.{◌≡◌, ℕ, zero, suc, ◌+◌, ◌≤◌, Bool, true, false, List, [], ◌∷◌, take, drop, Option, Some, None, refl, ap, sym, ◌∙◌, arith}
+use Rattle.sctp_receiver.proofs.Names.{not, if◌then◌else◌, list_any, sum_by, filter, sum_by-cons, sum_by-append, take-append-drop, insert_before, change_first}
+use Rattle.sctp_receiver.proofs.Names.{after_leading, at_or_before, comes_before16, ChunkPayloadData, ChunkSet, has_tsn, chunk_before, has_ssn, with_chunk}
+use Rattle.sctp_receiver.proofs.Names.{new_set, sets_with, set_before, Reassembly, ReassemblyState, held_after_ordered_push, set_of_run, TakesRun}
+use Rattle.sctp_receiver.proofs.Names.{BecomesComplete, is_readable, front_readable, without_first, after_read, message_among, message_read, rest_among}
+use Rattle.sctp_receiver.proofs.Names.{rest_read, is_passed, after_ordered_skip, after_unordered_skip, is_old_message, cannot_complete, Pushes, PushesAs}
 use Rattle.sctp_util.proofs.Edits.{sum_by-inserted}
-use Rattle.sctp_data.specs.declared.chunk.chunk_payload_data.ChunkPayloadData.{ChunkPayloadData}
-use Rattle.sctp_data.specs.ChunkSet.{ChunkSet}
-use Rattle.sctp_serial.specs.DataChunks.{has_tsn, chunk_before}
-use Rattle.sctp_reassembly.specs.reassembly_queue.Fragments.{has_ssn, with_chunk, new_set, sets_with, set_before}
-use Rattle.sctp_reassembly.specs.reassembly_queue.ReassemblyQueue.{Reassembly, ReassemblyState, held_after_ordered_push, set_of_run, TakesRun, BecomesComplete}
-use Rattle.sctp_reassembly.specs.reassembly_queue.ReassemblyQueue.{is_readable, front_readable, without_first, after_read, message_among, message_read}
-use Rattle.sctp_reassembly.specs.reassembly_queue.ReassemblyQueue.{rest_among, rest_read, is_passed, after_ordered_skip, after_unordered_skip}
-use Rattle.sctp_reassembly.specs.reassembly_queue.Resets.{is_old_message, after_reset}
-use Rattle.sctp_reassembly.specs.reassembly_queue.Skips.{cannot_complete, after_incomplete_skip}
+use Rattle.sctp_reassembly.specs.reassembly_queue.Resets.{after_reset}
+use Rattle.sctp_reassembly.specs.reassembly_queue.Skips.{after_incomplete_skip}
 use Rattle.sctp_reassembly.proofs.lemmas.reassembly_queue.Resets.{reset_weight}
-use Rattle.sctp_receiver.specs.Inbound.{Pushes, PushesAs}
 
 module _ (w : ChunkPayloadData → ℕ) where
   abbrev pub set_weight : ChunkSet → ℕ

@@ -6,4 +6,3 @@ pub mod costs;
 pub mod laws;
 pub mod receiver;
 pub mod replay;
-pub mod told;

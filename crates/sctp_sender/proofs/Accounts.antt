@@ -1,17 +1,10 @@
 -- A sender accounts for each byte that was written.
-use Rattle.std.proofs.Common.{◌≡◌, ◌+◌, ◌-◌, ◌^◌, List, [], ◌∷◌, true, length, take, drop, refl, ap, sym, subst, ◌∙◌, arith}
-use Rattle.std.specs.Prelude.{min}
-use Rattle.std.proofs.lemmas.List.{take-append-drop}
-use Rattle.std.proofs.lemmas.List.Sums.{sum_by-append}
-use Rattle.sctp_util.specs.Lists.{change_where}
-use Rattle.sctp_data.specs.declared.chunk.chunk_payload_data.ChunkPayloadData.{ChunkPayloadData}
-use Rattle.sctp_outbound.specs.Marks.{is_outstanding, with_nsent, with_retransmit}
-use Rattle.sctp_outbound.proofs.lemmas.pending_queue.Waiting.{bytes_of-change_where}
-use Rattle.sctp_serial.specs.DataChunks.{bytes_of, has_tsn}
+use Rattle.sctp_sender.proofs.Names.{◌≡◌, ◌+◌, ◌-◌, ◌^◌, List, [], ◌∷◌, true, length, take, drop, refl, ap, sym, subst, ◌∙◌, arith, min, take-append-drop}
+use Rattle.sctp_sender.proofs.Names.{sum_by-append, change_where, ChunkPayloadData, is_outstanding, with_nsent, with_retransmit, bytes_of-change_where}
+use Rattle.sctp_sender.proofs.Names.{bytes_of, has_tsn, can_miss, missed, sent_again, Transmission}
 use Rattle.sctp_sender.specs.declared.sender.Reported.{Reported}
 use Rattle.sctp_sender.specs.declared.sender.Reported.TheVariants.{Drop, Keep}
-use Rattle.sctp_sender.specs.Resending.{can_miss, missed, sent_again}
-use Rattle.sctp_sender.specs.Sender.{Transmission, with_nothing, with_reported}
+use Rattle.sctp_sender.specs.Sender.{with_nothing, with_reported}
 use Rattle.sctp_sender.specs.SenderRuns.{AfterEachRun, Call, Follows, IsAccounted, Ledger, Makes, RunsTo, held_by_sender, abandons, abandons_late}
 use Rattle.sctp_sender.specs.SenderRuns.{closes, marks, misses, opens, released_by, resends, resends_at, reserves, resets, sends, sets_low}
 use Rattle.sctp_sender.specs.SenderRuns.{sets_mode, sets_size, starts, taken_back_by, takes_back, takes_sack, with_no_bytes, writes, written_by}

@@ -1,18 +1,11 @@
 -- The bytes of what waits and of what is in flight.
-use Rattle.std.proofs.Common.{◌≡◌, ℕ, ◌+◌, true, false, Bool, List, [], ◌∷◌, length, map, Option, Some, None, refl, ◌∙◌, arith}
-use Rattle.std.specs.Prelude.{if◌then◌else◌, ◌==◌}
-use Rattle.std.proofs.lemmas.List.Sums.{sum_by-cons, sum_by-append}
-use Rattle.sctp_data.specs.declared.chunk.chunk_payload_data.ChunkPayloadData.{ChunkPayloadData}
-use Rattle.sctp_outbound.specs.outbound_queue.OutboundQueue.{Outbound, all_started, append_chunks, as_sent, sent_next, sent_of, total_bytes, with_message}
-use Rattle.sctp_outbound.specs.outbound_queue.OutboundQueue.{with_message_id}
+use Rattle.sctp_sender.proofs.Names.{◌≡◌, ℕ, ◌+◌, true, false, Bool, List, [], ◌∷◌, length, map, Option, Some, None, refl, ◌∙◌, arith, if◌then◌else◌, ◌==◌}
+use Rattle.sctp_sender.proofs.Names.{sum_by-cons, sum_by-append, ChunkPayloadData, Outbound, all_started, append_chunks, as_sent, sent_next, sent_of}
+use Rattle.sctp_sender.proofs.Names.{total_bytes, with_message, with_message_id, Pending, is_to_start, next_pending, start_pending, with_deadline, IsSendable}
+use Rattle.sctp_sender.proofs.Names.{sendable-changed, sendable-sent, bytes_of-change_where, KeepsMessage, bytes_of, chunk_before}
 use Rattle.sctp_outbound.specs.pending_queue.PendingQueue as pending
-use Rattle.sctp_outbound.specs.pending_queue.PendingQueue.{Pending, is_to_start, next_pending, start_pending, with_deadline}
-use Rattle.sctp_outbound.specs.pending_queue.Whole.{IsSendable}
-use Rattle.sctp_outbound.proofs.lemmas.outbound_queue.Sendable.{popped_bytes, sendable-changed, sendable-sent}
-use Rattle.sctp_outbound.proofs.lemmas.pending_queue.Waiting.{bytes_of-change_where}
-use Rattle.sctp_outbound.proofs.lemmas.pending_queue.CompleteMessages.{KeepsMessage}
+use Rattle.sctp_outbound.proofs.lemmas.outbound_queue.Sendable.{popped_bytes}
 use Rattle.sctp_util.proofs.Edits.{sum_by-inserted}
-use Rattle.sctp_serial.specs.DataChunks.{bytes_of, chunk_before}
 
 abbrev size : ChunkPayloadData → ℕ
 size c = length c.user_data

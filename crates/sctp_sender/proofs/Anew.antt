@@ -1,20 +1,9 @@
 -- What is told place by place of what a SACK reports anew.
-use Rattle.std.proofs.Common.{◌≡◌, ℕ, zero, suc, ◌+◌, ◌-◌, ◌<◌, ◌≤◌, Bool, true, false, List, [], ◌∷◌, ◌++◌, length, map, take, get_or, refl, ap, sym, subst}
-use Rattle.std.proofs.Common.{◌∙◌, inl, inr, arith}
-use Rattle.std.specs.Prelude.{if◌then◌else◌, ◌&&◌, ◌||◌, not, nat_le, nat_lt}
-use Rattle.std.specs.List.{filter, list_all, list_any}
-use Rattle.std.proofs.lemmas.Bool.{cases_lt, false≢true}
-use Rattle.std.proofs.lemmas.Bool.Decides.{nat_tests}
-use Rattle.std.proofs.lemmas.List.{append-nil, get_or-map}
-use Rattle.sctp_util.proofs.Cases.{and-none, and-true, or-left, or-none, or-right}
-use Rattle.sctp_util.proofs.Edits.{list_any-append, those-more}
-use Rattle.sctp_data.specs.declared.chunk.chunk_payload_data.ChunkPayloadData.{ChunkPayloadData}
-use Rattle.sctp_data.specs.declared.chunk.chunk_selective_ack.GapAckBlock.{GapAckBlock}
-use Rattle.sctp_outbound.specs.payload_queue.Blocks.{is_in_block, is_in_blocks}
-use Rattle.sctp_sender.specs.declared.sender.flight.Released.{Released}
-use Rattle.sctp_sender.specs.Flight.{released_of}
-use Rattle.sctp_sender.specs.Reporting.{AreKnown, ascends_from}
-use Rattle.sctp_sender.specs.Telling.{PicksAnew, PicksOpen, no_message}
+use Rattle.sctp_sender.proofs.Names.{◌≡◌, ℕ, zero, suc, ◌+◌, ◌-◌, ◌<◌, ◌≤◌, Bool, true, false, List, [], ◌∷◌, ◌++◌, length, map, take, get_or, refl, ap, sym}
+use Rattle.sctp_sender.proofs.Names.{subst, ◌∙◌, inl, inr, arith, if◌then◌else◌, ◌&&◌, ◌||◌, not, nat_le, nat_lt, filter, list_all, list_any, cases_lt}
+use Rattle.sctp_sender.proofs.Names.{false≢true, nat_tests, append-nil, get_or-map, and-none, and-true, or-left, or-none, or-right, list_any-append, those-more}
+use Rattle.sctp_sender.proofs.Names.{ChunkPayloadData, GapAckBlock, is_in_block, is_in_blocks, Released, released_of, AreKnown, ascends_from, PicksAnew}
+use Rattle.sctp_sender.proofs.Names.{PicksOpen, no_message}
 use Rattle.sctp_sender.proofs.MarkedPlaces.{all-answered}
 
 -- ## Tests on lists

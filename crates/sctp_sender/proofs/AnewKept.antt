@@ -1,24 +1,12 @@
 -- What is kept of what a SACK reports anew.
-use Rattle.std.proofs.Common.{◌≡◌, ℕ, zero, suc, ◌+◌, ◌<◌, ◌≤◌, Bool, true, false, List, [], ◌∷◌, ◌++◌, length, drop, get_or, set}
-use Rattle.std.proofs.Common.{Option, Some, None, inl, inr, refl, ap, sym, subst, ◌∙◌, arith}
-use Rattle.std.specs.Prelude.{◌⊎◌, ◌==◌, ◌||◌, IfSome, if◌then◌else◌}
+use Rattle.sctp_sender.proofs.Names.{◌≡◌, ℕ, zero, suc, ◌+◌, ◌<◌, ◌≤◌, Bool, true, false, List, [], ◌∷◌, ◌++◌, length, drop, get_or, set, Option, Some, None}
+use Rattle.sctp_sender.proofs.Names.{inl, inr, refl, ap, sym, subst, ◌∙◌, arith, ◌⊎◌, ◌==◌, ◌||◌, IfSome, if◌then◌else◌, All, list_any, cases_lt, false≢true}
+use Rattle.sctp_sender.proofs.Names.{get_or-drop, get_or_past, none-some, or-none, same-is, same-yes, some-same, list_any-append, ChunkPayloadData, GapAckBlock}
+use Rattle.sctp_sender.proofs.Names.{Sack, Pending, Kept, Anew, PlacedData, Flight, after_sack, count_acked, is_outdated, reports_anew, take_sack, Cover}
+use Rattle.sctp_sender.proofs.Names.{IsCovered, IsOwn, blocks_after, data_after, filled, is_at, keep, keep_each, kept_after, kept_from, put_all, trimmed}
 use Rattle.std.specs.Option.{option_map}
-use Rattle.std.specs.List.{All, list_any}
-use Rattle.std.proofs.lemmas.Bool.{cases_lt, false≢true}
-use Rattle.std.proofs.lemmas.List.{get_or-drop, get_or_past}
-use Rattle.std.proofs.lemmas.Option.{none-some}
-use Rattle.sctp_util.proofs.Cases.{or-none, same-is, same-yes, some-same}
-use Rattle.sctp_util.proofs.Edits.{list_any-append}
-use Rattle.sctp_data.specs.declared.chunk.chunk_payload_data.ChunkPayloadData.{ChunkPayloadData}
-use Rattle.sctp_data.specs.declared.chunk.chunk_selective_ack.GapAckBlock.{GapAckBlock}
-use Rattle.sctp_data.specs.SelectiveAck.{Sack}
-use Rattle.sctp_outbound.specs.pending_queue.PendingQueue.{Pending}
-use Rattle.sctp_sender.specs.declared.sender.flight.kept.Kept.{Kept}
-use Rattle.sctp_sender.specs.declared.sender.flight.anew.Anew.{Anew}
-use Rattle.sctp_sender.specs.declared.sender.flight.returns.PlacedData.{PlacedData}
-use Rattle.sctp_sender.specs.Flight.{Flight, after_sack, count_acked, is_outdated, reports_anew, take_sack}
-use Rattle.sctp_sender.specs.Keeping.{AreAnew, Cover, IsCovered, IsOwn, blocks_after, data_after, filled, is_at, keep, keep_each, kept_after, kept_from}
-use Rattle.sctp_sender.specs.Keeping.{kept_with, put_all, trimmed}
+use Rattle.sctp_sender.specs.Keeping.{AreAnew}
+use Rattle.sctp_sender.specs.Keeping.{kept_with}
 use Rattle.sctp_sender.proofs.Covers.{neither}
 use Rattle.sctp_sender.proofs.Keepings.{kept-at, length-keep_each, nothing}
 use Rattle.sctp_sender.proofs.Runs.{any_chunk}

@@ -1,22 +1,12 @@
 -- What was told is acknowledged, and says which messages are acknowledged whole.
-use Rattle.std.proofs.Common.{◌≡◌, ℕ, suc, ◌+◌, ◌<◌, ◌%◌, ◌^◌, Bool, true, false, List, [], ◌∷◌, ◌++◌, length, map, take, drop, get_or}
-use Rattle.std.proofs.Common.{None, set, refl, ap, sym, subst, ◌∙◌, inl, inr, arith}
-use Rattle.std.specs.Prelude.{if◌then◌else◌, ◌&&◌, ◌||◌, not, nat_eq}
-use Rattle.std.specs.List.{filter, list_all, list_any}
-use Rattle.std.proofs.lemmas.Bool.{cases_eq}
-use Rattle.std.proofs.lemmas.Bool.Decides.{nat_tests}
-use Rattle.std.proofs.lemmas.List.{drop_more, get_or_default, take_more}
-use Rattle.sctp_util.specs.Lists.{change_where}
-use Rattle.sctp_util.specs.Serial.{distance}
-use Rattle.sctp_util.proofs.Cases.{or-left, or-none, or-right, same-is}
-use Rattle.sctp_util.proofs.Edits.{OnlyAt, change_where-none, change_where-only, list_any-append, length-change_where}
-use Rattle.sctp_data.specs.declared.chunk.chunk_payload_data.ChunkPayloadData.{ChunkPayloadData}
-use Rattle.sctp_data.specs.SelectiveAck.{Sack}
-use Rattle.sctp_outbound.specs.Marks.{as_acknowledged}
-use Rattle.sctp_serial.specs.DataChunks.{following_tsn, has_tsn}
-use Rattle.sctp_sender.specs.declared.sender.flight.Released.{Released}
-use Rattle.sctp_sender.specs.Flight.{leaves_open, open_messages, released_of, reports, reports_anew, tsns_from}
-use Rattle.sctp_sender.specs.Telling.{AreInFlight, is_of_chunk, is_open_of, is_answered, is_answered_as}
+use Rattle.sctp_sender.proofs.Names.{◌≡◌, ℕ, suc, ◌+◌, ◌<◌, ◌%◌, ◌^◌, Bool, true, false, List, [], ◌∷◌, ◌++◌, length, map, take, drop, get_or, None, set, refl}
+use Rattle.sctp_sender.proofs.Names.{ap, sym, subst, ◌∙◌, inl, inr, arith, if◌then◌else◌, ◌&&◌, ◌||◌, not, nat_eq, filter, list_all, list_any, cases_eq}
+use Rattle.sctp_sender.proofs.Names.{nat_tests, drop_more, get_or_default, take_more, change_where, distance, or-left, or-none, or-right, same-is, OnlyAt}
+use Rattle.sctp_sender.proofs.Names.{change_where-only, list_any-append, length-change_where, ChunkPayloadData, Sack, as_acknowledged, following_tsn, has_tsn}
+use Rattle.sctp_sender.proofs.Names.{Released, released_of, reports, reports_anew, tsns_from, AreInFlight, is_of_chunk, is_open_of, is_answered}
+use Rattle.sctp_util.proofs.Edits.{change_where-none}
+use Rattle.sctp_sender.specs.Flight.{leaves_open, open_messages}
+use Rattle.sctp_sender.specs.Telling.{is_answered_as}
 use Rattle.sctp_sender.proofs.Anew.{any-at, any-place, both}
 use Rattle.sctp_sender.proofs.Places.{away}
 use Rattle.sctp_sender.proofs.Runs.{IsRunFrom, changed-run, only-at, tsn-at}

@@ -1,12 +1,6 @@
 -- Where a message ends.
-use Rattle.std.proofs.Common.{◌≡◌, ◌≢◌, ℕ, zero, suc, ◌<◌, ◌≤◌, Bool, true, List, [], ◌∷◌, length, get_or, sym, ◌∙◌}
-use Rattle.std.proofs.Common.{arith}
-use Rattle.std.specs.List.{list_any}
-use Rattle.std.proofs.lemmas.Bool.Decides.{nat_tests}
-use Rattle.std.proofs.lemmas.List.{get_or-map, length-map}
-use Rattle.sctp_util.proofs.Cases.{or-left, or-right}
-use Rattle.sctp_data.specs.declared.chunk.chunk_payload_data.ChunkPayloadData.{ChunkPayloadData}
-use Rattle.sctp_sender.specs.SideBySide.{StandSideBySide, IsApartAt, is_number, messages_of}
+use Rattle.sctp_sender.proofs.Names.{◌≡◌, ◌≢◌, ℕ, zero, suc, ◌<◌, ◌≤◌, Bool, true, List, [], ◌∷◌, length, get_or, sym, ◌∙◌, arith, list_any, nat_tests}
+use Rattle.sctp_sender.proofs.Names.{get_or-map, length-map, or-left, or-right, ChunkPayloadData, StandSideBySide, IsApartAt, is_number, messages_of}
 
 any-at : (p : ℕ → Bool) (ms : List ℕ) (i d : ℕ) → i < length ms → p (get_or ms i d) ≡ true → list_any p ms ≡ true
 any-at p [] i d lt h = absurd (omega (arith, lt))

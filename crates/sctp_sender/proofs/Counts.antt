@@ -1,24 +1,12 @@
 -- Counts of places and of messages, for the turns of a SACK.
-use Rattle.std.proofs.Common.{◌≡◌, ◌≢◌, ℕ, zero, suc, ◌+◌, ◌*◌, ◌-◌, ◌<◌, ◌≤◌, Bool, true, false, List, [], ◌∷◌, ◌++◌, length, map, take, drop, get_or, Option}
-use Rattle.std.proofs.Common.{Some, None, refl, ap, sym, subst, ◌∙◌, inl, inr, arith}
-use Rattle.std.specs.Prelude.{cond, ◌||◌, IfSome, if◌then◌else◌}
-use Rattle.std.specs.List.{count_by, filter, list_any}
-use Rattle.std.proofs.lemmas.Bool.{cases_eq, cases_lt, false≢true}
-use Rattle.std.proofs.lemmas.Bool.Decides.{nat_tests}
-use Rattle.std.proofs.lemmas.List.{get_or-map, get_or-take, get_or_past, length-map, length-take-le, map-append, take-append-drop, take_more}
-use Rattle.std.proofs.lemmas.List.Sums.{count_by_more_yes, sum_by-cons, sum_by-drop_more, sum_by-le-sum_by, sum_by-take-drop, sum_by-take-le}
-use Rattle.sctp_util.proofs.Cases.{or-left, or-none, or-right}
-use Rattle.sctp_util.proofs.Edits.{list_any-append}
-use Rattle.sctp_util.proofs.Getting.{map-twice}
-use Rattle.sctp_data.specs.declared.chunk.chunk_payload_data.ChunkPayloadData.{ChunkPayloadData}
-use Rattle.sctp_data.specs.declared.chunk.chunk_selective_ack.GapAckBlock.{GapAckBlock}
-use Rattle.sctp_outbound.specs.payload_queue.Blocks.{is_in_block, is_in_blocks}
-use Rattle.sctp_sender.specs.declared.sender.flight.Released.{Released}
-use Rattle.sctp_sender.specs.Costs.{distances_in}
-use Rattle.sctp_sender.specs.Flight.{released_of}
-use Rattle.sctp_sender.specs.Reporting.{AreKnown, ascends_from}
-use Rattle.sctp_sender.specs.SideBySide.{StandSideBySide, is_number, messages_of}
-use Rattle.sctp_sender.specs.Telling.{judged}
+use Rattle.sctp_sender.proofs.Names.{◌≡◌, ◌≢◌, ℕ, zero, suc, ◌+◌, ◌*◌, ◌-◌, ◌<◌, ◌≤◌, Bool, true, false, List, [], ◌∷◌, ◌++◌, length, map, take, drop, get_or}
+use Rattle.sctp_sender.proofs.Names.{Option, Some, None, refl, ap, sym, subst, ◌∙◌, inl, inr, arith, cond, ◌||◌, IfSome, if◌then◌else◌, count_by, filter}
+use Rattle.sctp_sender.proofs.Names.{list_any, cases_eq, cases_lt, false≢true, nat_tests, get_or-map, get_or_past, length-map, length-take-le, map-append}
+use Rattle.sctp_sender.proofs.Names.{take-append-drop, take_more, count_by_more_yes, sum_by-cons, or-left, or-none, or-right, list_any-append, map-twice}
+use Rattle.sctp_sender.proofs.Names.{ChunkPayloadData, GapAckBlock, is_in_block, is_in_blocks, Released, distances_in, released_of, AreKnown, ascends_from}
+use Rattle.sctp_sender.proofs.Names.{StandSideBySide, is_number, messages_of, judged}
+use Rattle.std.proofs.lemmas.List.{get_or-take}
+use Rattle.std.proofs.lemmas.List.Sums.{sum_by-drop_more, sum_by-le-sum_by, sum_by-take-drop, sum_by-take-le}
 use Rattle.sctp_sender.proofs.Anew.{ahead, any-place, in-block}
 use Rattle.sctp_sender.proofs.CompleteMessages.{cut}
 

@@ -1,27 +1,11 @@
 -- What a SACK takes back of what is covered, and what covers it afterwards.
-use Rattle.std.proofs.Common.{◌≡◌, ℕ, zero, suc, ◌+◌, ◌-◌, ◌<◌, ◌≤◌, Bool, true, false, List, [], ◌∷◌, length, length-drop, map, drop, get_or, Option}
-use Rattle.std.proofs.Common.{Result, Ok, Err, Some, None, inl, inr, refl, ap, sym, ◌∙◌, arith}
-use Rattle.std.specs.Prelude.{IfOk, if◌then◌else◌, ◌&&◌, ◌||◌, not, nat_lt}
-use Rattle.std.specs.List.{list_any}
-use Rattle.std.proofs.lemmas.Bool.{cases_lt, false≢true}
-use Rattle.std.proofs.lemmas.Bool.Decides.{nat_tests}
-use Rattle.std.proofs.lemmas.List.{get_or-drop, get_or-map, get_or_past, length-map}
-use Rattle.std.proofs.lemmas.List.Folds.{list_any_none}
-use Rattle.sctp_util.specs.Lists.{change_where}
-use Rattle.sctp_util.specs.Serial.{distance}
-use Rattle.sctp_util.proofs.Cases.{and-none, or-left, or-right}
-use Rattle.sctp_util.proofs.More.{not_both}
-use Rattle.sctp_data.specs.declared.chunk.chunk_payload_data.ChunkPayloadData.{ChunkPayloadData}
-use Rattle.sctp_data.specs.declared.chunk.chunk_selective_ack.GapAckBlock.{GapAckBlock}
-use Rattle.sctp_data.specs.SelectiveAck.{Sack}
-use Rattle.sctp_outbound.specs.Marks.{as_acknowledged}
-use Rattle.sctp_outbound.specs.payload_queue.Blocks.{is_in_blocks}
-use Rattle.sctp_serial.specs.DataChunks.{following_tsn}
-use Rattle.sctp_sender.specs.Flight.{Flight, IsContiguous, after_sack, reports, reports_anew, take_sack}
-use Rattle.sctp_sender.specs.Keeping.{Cover, back_each, back_of, can_at, can_come_back, is_uncovered, keep_each, kept_after, return_at, returns_at, takes_back}
-use Rattle.sctp_sender.specs.Keeping.{kept_from, tells_of, trimmed}
-use Rattle.sctp_sender.specs.Reporting.{AreKnown, ascends_from}
-use Rattle.sctp_sender.specs.Telling.{is_reached}
+use Rattle.sctp_sender.proofs.Names.{◌≡◌, ℕ, zero, suc, ◌+◌, ◌-◌, ◌<◌, ◌≤◌, Bool, true, false, List, [], ◌∷◌, length, length-drop, map, drop, get_or, Option}
+use Rattle.sctp_sender.proofs.Names.{Result, Ok, Err, Some, None, inl, inr, refl, ap, sym, ◌∙◌, arith, IfOk, if◌then◌else◌, ◌&&◌, ◌||◌, not, nat_lt, list_any}
+use Rattle.sctp_sender.proofs.Names.{cases_lt, false≢true, nat_tests, get_or-drop, get_or-map, get_or_past, length-map, list_any_none, change_where, distance}
+use Rattle.sctp_sender.proofs.Names.{and-none, or-left, or-right, not_both, ChunkPayloadData, GapAckBlock, Sack, as_acknowledged, is_in_blocks, following_tsn}
+use Rattle.sctp_sender.proofs.Names.{Flight, IsContiguous, after_sack, reports, reports_anew, take_sack, Cover, back_each, can_at, can_come_back, is_uncovered}
+use Rattle.sctp_sender.proofs.Names.{keep_each, kept_after, return_at, returns_at, takes_back, kept_from, tells_of, trimmed, AreKnown, ascends_from, is_reached}
+use Rattle.sctp_sender.specs.Keeping.{back_of}
 use Rattle.sctp_sender.proofs.Covers.{neither}
 use Rattle.sctp_sender.proofs.Keepings.{length-keep_each, taken-within}
 use Rattle.sctp_sender.proofs.Known.{known-at}

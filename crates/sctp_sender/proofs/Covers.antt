@@ -1,39 +1,19 @@
 -- What can come back stays covered.
-use Rattle.std.proofs.Common.{◌≡◌, ℕ, ◌+◌, ◌≤◌, Bool, true, false, List, [], ◌∷◌, ◌++◌, length, length-append, map, take, drop, Option}
-use Rattle.std.proofs.Common.{Some}
-use Rattle.std.proofs.Common.{None, Result, Ok, Err, refl, ap, sym, subst, ◌∙◌, arith}
-use Rattle.std.specs.Prelude.{IfSome, IsOk, OnErr, OnOk, if◌then◌else◌, ◌==◌, ◌&&◌, ◌||◌, not, find, slice_get}
-use Rattle.std.specs.List.{filter, list_any}
-use Rattle.sctp_util.specs.Kept.{numbers_from}
-use Rattle.std.proofs.lemmas.Bool.{false≢true}
-use Rattle.std.proofs.lemmas.List.{take-append-drop}
-use Rattle.std.proofs.lemmas.Option.{none-some}
-use Rattle.sctp_util.specs.Lists.{change_where, insert_before}
-use Rattle.sctp_util.specs.Serial.{distance}
-use Rattle.sctp_util.proofs.Cases.{and-none}
-use Rattle.sctp_util.proofs.Edits.{length-change_where, list_any-append, list_any-inserted, list_any-those}
-use Rattle.sctp_util.proofs.More.{fails, not_both}
-use Rattle.sctp_data.specs.declared.chunk.chunk_payload_data.ChunkPayloadData.{ChunkPayloadData}
-use Rattle.sctp_data.specs.declared.chunk.chunk_payload_data.PayloadProtocolIdentifier.{PayloadProtocolIdentifier}
-use Rattle.sctp_data.specs.declared.chunk.chunk_selective_ack.GapAckBlock.{GapAckBlock}
-use Rattle.sctp_outbound.specs.Marks.{as_abandoned, is_of, is_outstanding, with_retransmit}
-use Rattle.sctp_outbound.specs.outbound_queue.OutboundQueue.{Outbound, abandoned_of, all_started, append_chunks, terminal_chunk, expired_of, as_sent, sent_next}
-use Rattle.sctp_outbound.specs.outbound_queue.OutboundQueue.{sent_of, with_terminal_chunk, with_message, with_message_id}
-use Rattle.sctp_outbound.specs.payload_queue.Blocks.{is_in_blocks}
+use Rattle.sctp_sender.proofs.Names.{◌≡◌, ℕ, ◌+◌, ◌≤◌, Bool, true, false, List, [], ◌∷◌, ◌++◌, length, length-append, map, take, drop, Option, Some, None}
+use Rattle.sctp_sender.proofs.Names.{Result, Ok, Err, refl, ap, sym, subst, ◌∙◌, arith, IfSome, IsOk, OnErr, OnOk, if◌then◌else◌, ◌==◌, ◌&&◌, ◌||◌, not, find}
+use Rattle.sctp_sender.proofs.Names.{filter, list_any, numbers_from, false≢true, take-append-drop, none-some, change_where, insert_before, distance, and-none}
+use Rattle.sctp_sender.proofs.Names.{length-change_where, list_any-append, list_any-those, fails, not_both, ChunkPayloadData, PayloadProtocolIdentifier}
+use Rattle.sctp_sender.proofs.Names.{GapAckBlock, as_abandoned, is_of, is_outstanding, with_retransmit, Outbound, abandoned_of, all_started, append_chunks}
+use Rattle.sctp_sender.proofs.Names.{terminal_chunk, expired_of, as_sent, sent_next, sent_of, with_terminal_chunk, with_message, with_message_id, is_in_blocks}
+use Rattle.sctp_sender.proofs.Names.{Pending, closed_up, front_of, is_to_start, last_removed, list_of, list_to_pop, one_lower, next_pending, next_pending_of}
+use Rattle.sctp_sender.proofs.Names.{rest_from, rest_of, start_pending, with_deadline, without, chunk_before, has_tsn, is_on, OutboundStream, fragment_at}
+use Rattle.sctp_sender.proofs.Names.{fragments_of, pieces_of, Kept, SenderRefusal, Flight, after_abandonment, can_resend, is_outstanding_in, message_to_abandon}
+use Rattle.sctp_sender.proofs.Names.{resent, with_queue, Cover, IsCovered, is_uncovered, restored, with_restored, abandoned_at, abandoned_each}
+use Rattle.sctp_sender.proofs.Names.{fragments_with_mode, with_reliability, after_misses, all_marked, can_miss, missed, resent_at}
+use Rattle.std.specs.Prelude.{slice_get}
+use Rattle.sctp_util.proofs.Edits.{list_any-inserted}
 use Rattle.sctp_outbound.specs.payload_queue.PayloadQueue as payload
-use Rattle.sctp_outbound.specs.pending_queue.PendingQueue.{Pending, closed_up, front_of, is_to_start, last_removed, list_of, list_to_pop, one_lower}
-use Rattle.sctp_outbound.specs.pending_queue.PendingQueue.{next_pending, next_pending_of, rest_from, rest_of, start_pending, with_deadline, without}
-use Rattle.sctp_serial.specs.DataChunks.{chunk_before, has_tsn, is_on}
-use Rattle.sctp_stream.specs.declared.stream.StreamState.{StreamState}
-use Rattle.sctp_stream.specs.Stream.{fragment_at, fragments_of, pieces_of}
-use Rattle.sctp_sender.specs.declared.sender.flight.kept.Kept.{Kept}
-use Rattle.sctp_sender.specs.declared.sender.refusal.SenderRefusal.{SenderRefusal}
-use Rattle.sctp_sender.specs.Flight.{Flight, after_abandonment, can_resend, is_outstanding_in, message_to_abandon, resent, with_queue}
-use Rattle.sctp_sender.specs.Keeping.{Cover, IsCovered, is_uncovered, restored, with_restored}
 use Rattle.sctp_sender.proofs.Keepings.{length-restored}
-use Rattle.sctp_sender.specs.Late.{abandoned_at, abandoned_each}
-use Rattle.sctp_sender.specs.Outgoing.{fragments_with_mode, with_reliability}
-use Rattle.sctp_sender.specs.Resending.{after_misses, all_marked, can_miss, missed, resent_at}
 
 -- ## No element passes a test
 
@@ -171,7 +151,7 @@ message-covered o (c ∷ cs) f s v = by c.unordered
       cover = carried o f _ (λ bs e. e) (omega arith) v.cover;
     }
 
-pub fragments-unacked : (l : StreamState) (ppi : PayloadProtocolIdentifier) (bytes : List ℕ) → list_any (λ c. c.acked) (fragments_with_mode l ppi bytes) ≡ false
+pub fragments-unacked : (l : OutboundStream) (ppi : PayloadProtocolIdentifier) (bytes : List ℕ) → list_any (λ c. c.acked) (fragments_with_mode l ppi bytes) ≡ false
 fragments-unacked l ppi bytes =
     moded (fragments_of l ppi bytes) (none-mapped (λ c. c.acked) (fragment_at l ppi bytes) (λ i. refl) (numbers_from 0 (length (pieces_of l bytes))))
   where

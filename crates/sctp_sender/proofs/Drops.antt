@@ -1,14 +1,9 @@
 -- What expired is dropped group by group.
-use Rattle.std.proofs.Common.{◌≡◌, ℕ, zero, suc, ◌<◌, Bool, true, false, [], ◌∷◌, Option, Some, None, refl, ap, sym, arith}
-use Rattle.std.specs.Prelude.{◌||◌, is_some}
-use Rattle.std.specs.List.{list_any}
-use Rattle.std.proofs.lemmas.Option.{none-some}
-use Rattle.sctp_util.proofs.More.{not_both}
-use Rattle.sctp_data.specs.declared.chunk.chunk_payload_data.ChunkPayloadData.{ChunkPayloadData}
-use Rattle.sctp_outbound.specs.outbound_queue.OutboundQueue.{AreExpiredOf, Outbound, expiring, stream_and_kind}
-use Rattle.sctp_sender.specs.declared.sender.flight.late.AbandonedMessage.{AbandonedMessage}
-use Rattle.sctp_sender.specs.Sender.{Transmission, after_abandon}
-use Rattle.sctp_sender.specs.Thresholds.{falls_on, fell, tells_message_low}
+use Rattle.sctp_sender.proofs.Names.{◌≡◌, ℕ, zero, suc, ◌<◌, Bool, true, false, [], ◌∷◌, Option, Some, None, refl, ap, sym, arith, ◌||◌, is_some, list_any}
+use Rattle.sctp_sender.proofs.Names.{none-some, not_both, ChunkPayloadData, Outbound, expiring, AbandonedMessage, Transmission, after_abandon, falls_on}
+use Rattle.sctp_sender.proofs.Names.{tells_message_low}
+use Rattle.sctp_outbound.specs.outbound_queue.OutboundQueue.{AreExpiredOf, stream_and_kind}
+use Rattle.sctp_sender.specs.Thresholds.{fell}
 use Rattle.sctp_sender.proofs.Lows.{messages-tell}
 
 pub at-first : (a x : Bool) → true ≡ a → true ≡ (a || x)

@@ -1,21 +1,13 @@
 -- How far a FORWARD-TSN goes that ends with a message.
-use Rattle.std.proofs.Common.{◌≡◌, ℕ, zero, suc, ◌+◌, ◌-◌, ◌/◌, ◌<◌, ◌≤◌, ◌%◌, ◌^◌, ◌⊎◌, Bool, true, false, List, [], ◌∷◌, ◌++◌, length, length-append}
-use Rattle.std.proofs.Common.{length-set, take, get_or, set, Option, Some, None, inl, inr, refl, ap, sym, subst, ◌∙◌, arith}
-use Rattle.std.specs.Prelude.{if◌then◌else◌, ◌&&◌, find, nat_le, nat_lt, option_map}
-use Rattle.std.specs.List.{filter}
-use Rattle.std.proofs.lemmas.Bool.{cases_lt, false≢true}
-use Rattle.std.proofs.lemmas.Bool.Decides.{nat_tests}
-use Rattle.std.proofs.lemmas.List.{append-nil}
-use Rattle.sctp_util.proofs.Edits.{those-more}
-use Rattle.sctp_data.specs.declared.chunk.chunk_payload_data.ChunkPayloadData.{ChunkPayloadData}
-use Rattle.sctp_data.specs.declared.chunk.chunk_forward_tsn.ChunkForwardTsnStream.{ChunkForwardTsnStream}
-use Rattle.sctp_outbound.specs.pending_queue.PendingQueue.{last_of}
-use Rattle.sctp_outbound.specs.pending_queue.Whole.{ends}
-use Rattle.sctp_serial.specs.DataChunks.{following_tsn, has_tsn}
-use Rattle.sctp_sender.specs.Flight.{Flight, IsContiguous}
-use Rattle.sctp_sender.specs.Abandonment.{Fit, IsFirstPair, IsLastEnd, IsMore, IsNoPair, IsTooLong, Name, advanced_ack_point, ahead, can_skip_to, ends_in, is_end}
-use Rattle.sctp_sender.specs.Abandonment.{is_named, is_pair_of, last_end, pair_of, skip_end}
-use Rattle.sctp_sender.proofs.Names.{added, last-push, renamed}
+use Rattle.sctp_sender.proofs.Names.{◌≡◌, ℕ, zero, suc, ◌+◌, ◌-◌, ◌/◌, ◌<◌, ◌≤◌, ◌%◌, ◌^◌, Bool, true, false, List, [], ◌∷◌, ◌++◌, length, length-append}
+use Rattle.sctp_sender.proofs.Names.{length-set, take, get_or, set, Option, Some, None, inl, inr, refl, ap, sym, subst, ◌∙◌, arith, if◌then◌else◌, ◌&&◌, find}
+use Rattle.sctp_sender.proofs.Names.{nat_le, nat_lt, option_map, filter, cases_lt, false≢true, nat_tests, append-nil, those-more, ChunkPayloadData}
+use Rattle.sctp_sender.proofs.Names.{ChunkForwardTsnStream, last_of, ends, following_tsn, has_tsn, Flight, IsContiguous, IsFirstPair, IsLastEnd, IsMore}
+use Rattle.sctp_sender.proofs.Names.{IsNoPair, Name, advanced_ack_point, ahead, can_skip_to, is_named, is_pair_of, pair_of}
+use Rattle.std.proofs.Common.{◌⊎◌}
+use Rattle.sctp_sender.specs.Abandonment.{Fit, IsTooLong, ends_in, is_end}
+use Rattle.sctp_sender.specs.Abandonment.{last_end, skip_end}
+use Rattle.sctp_sender.proofs.NamedStreams.{added, last-push, renamed}
 use Rattle.sctp_sender.proofs.Places.{place-is}
 use Rattle.sctp_sender.proofs.Runs.{any_chunk, found-at, tsn-at}
 use Rattle.sctp_sender.proofs.Skips.{can-go}

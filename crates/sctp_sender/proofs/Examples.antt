@@ -1,31 +1,17 @@
 -- Worked examples, by computation.
-use Rattle.std.proofs.Common.{◌≡◌, ℕ, zero, suc, ◌+◌, Bool, true, false, List, [], ◌∷◌, map, option_map, find, Option, Some, None, refl, ap, sym}
+use Rattle.sctp_sender.proofs.Names.{◌≡◌, ℕ, zero, suc, ◌+◌, Bool, true, false, List, [], ◌∷◌, map, Option, Some, None, refl, ap, sym, fresh, ChunkPayloadData}
+use Rattle.sctp_sender.proofs.Names.{PayloadProtocolIdentifier, as_acknowledged, as_abandoned, ◌==◌, ◌&&◌, not, list_any, false≢true, GapAckBlock, after_blocks}
+use Rattle.sctp_sender.proofs.Names.{goes_from_to, StandSideBySide, Flight, Sack, advanced_ack_point, kept_after, answered_back, with_restored, late_order}
+use Rattle.sctp_sender.proofs.Names.{leaving_each, after_misses, all_marked, is_to_resend, resent_at, worn_tsns, Released, TakenBack, with_lows, OutboundStream}
+use Rattle.sctp_sender.proofs.Names.{new_stream}
+use Rattle.std.proofs.Common.{option_map, find}
 use Rattle.sctp_util.specs.Serial.{at_or_before, comes_before, distance}
-use Rattle.sctp_data.specs.ChunkSet.{fresh}
 use Rattle.sctp_data.specs.declared.chunk.chunk_payload_data.PayloadProtocolIdentifier.TheVariants as identifiers
-use Rattle.sctp_data.specs.declared.chunk.chunk_payload_data.ChunkPayloadData.{ChunkPayloadData}
-use Rattle.sctp_data.specs.declared.chunk.chunk_payload_data.PayloadProtocolIdentifier.{PayloadProtocolIdentifier}
 use Rattle.sctp_data.specs.declared.chunk.chunk_payload_data.ReliabilityType.TheVariants.{Rexmit}
-use Rattle.sctp_outbound.specs.Marks.{as_acknowledged, as_abandoned}
-use Rattle.std.specs.Prelude.{◌==◌, ◌&&◌, not}
-use Rattle.std.specs.List.{list_any}
-use Rattle.std.proofs.lemmas.Bool.{false≢true}
-use Rattle.sctp_data.specs.declared.chunk.chunk_selective_ack.GapAckBlock.{GapAckBlock}
-use Rattle.sctp_sender.specs.Reporting.{after_blocks, goes_from_to}
-use Rattle.sctp_sender.specs.SideBySide.{StandSideBySide}
 use Rattle.sctp_sender.specs.Flight as flight
-use Rattle.sctp_sender.specs.Flight.{Flight}
-use Rattle.sctp_data.specs.SelectiveAck.{Sack}
-use Rattle.sctp_sender.specs.Abandonment.{advanced_ack_point}
-use Rattle.sctp_sender.specs.Keeping.{coming_back, kept_after, answered_back, with_restored}
-use Rattle.sctp_sender.specs.Late.{late_order, leaving_each}
+use Rattle.sctp_sender.specs.Keeping.{coming_back}
 use Rattle.sctp_outbound.specs.Outstanding.{outstanding_of}
-use Rattle.sctp_sender.specs.Resending.{after_misses, all_marked, is_to_resend, resent_at, thirds, worn_tsns}
-use Rattle.sctp_sender.specs.declared.sender.flight.Released.{Released}
-use Rattle.sctp_sender.specs.declared.sender.flight.kept.TakenBack.{TakenBack}
-use Rattle.sctp_sender.specs.Thresholds.{with_lows}
-use Rattle.sctp_stream.specs.declared.stream.StreamState.{StreamState}
-use Rattle.sctp_stream.specs.Stream.{new_stream}
+use Rattle.sctp_sender.specs.Resending.{thirds}
 
 abbrev fragment : ℕ → Bool → Bool → List ℕ → ChunkPayloadData
 fragment tsn begins ends bytes = fresh (record {
@@ -130,9 +116,9 @@ gone_both = refl
 -- ## Thresholds
 
 -- a stream with ten bytes and a threshold of five, and one with ten bytes and none
-abbrev amounts : List StreamState
-amounts = record (new_stream 1 1200 100 identifiers.Unknown) { buffered_amount = 10; buffered_amount_low = 5 }
-    ∷ record (new_stream 2 1200 100 identifiers.Unknown) { buffered_amount = 10 } ∷ []
+abbrev amounts : List OutboundStream
+amounts = record (new_stream 1 1200) { buffered_amount = 10; buffered_amount_low = 5 }
+    ∷ record (new_stream 2 1200) { buffered_amount = 10 } ∷ []
 
 abbrev gone : ℕ → ℕ → Released
 gone stream bytes = record { tsn = 7; stream = stream; bytes = bytes; nsent = 1; since = Some 0; message = 0; is_message_acked = false; is_low = false }

@@ -1,15 +1,9 @@
 -- What stands once several messages expired, one after another.
-use Rattle.std.proofs.Common.{◌≡◌, ℕ, zero, suc, List, Option, Some, None, refl, sym, subst, ◌∙◌}
-use Rattle.std.specs.Prelude.{IfNone, IfSome}
-use Rattle.sctp_data.specs.declared.chunk.chunk_selective_ack.GapAckBlock.{GapAckBlock}
-use Rattle.sctp_data.specs.declared.chunk.chunk_payload_data.ChunkPayloadData.{ChunkPayloadData}
+use Rattle.sctp_sender.proofs.Names.{◌≡◌, ℕ, zero, suc, List, Option, Some, None, refl, sym, subst, ◌∙◌, IfSome, GapAckBlock, ChunkPayloadData, Outbound}
+use Rattle.sctp_sender.proofs.Names.{expired_of, expiring, Kept, Flight, with_queue, AreReported, IsCovered, AreKnown, IsAllSettled}
+use Rattle.std.specs.Prelude.{IfNone}
 use Rattle.sctp_outbound.specs.declared.outbound_queue.expiry.ExpiredRun.{ExpiredRun}
-use Rattle.sctp_outbound.specs.outbound_queue.OutboundQueue.{Outbound, expired_of, expired_times, expiring}
-use Rattle.sctp_sender.specs.declared.sender.flight.kept.Kept.{Kept}
-use Rattle.sctp_sender.specs.Flight.{Flight, with_queue}
-use Rattle.sctp_sender.specs.Keeping.{AreReported, IsCovered}
-use Rattle.sctp_sender.specs.Reporting.{AreKnown}
-use Rattle.sctp_sender.specs.Totals.{IsAllSettled}
+use Rattle.sctp_outbound.specs.outbound_queue.OutboundQueue.{expired_times}
 use Rattle.sctp_sender.proofs.Covers.{expired-covered}
 use Rattle.sctp_sender.proofs.InLine.{IsInLine, expired-in-line}
 use Rattle.sctp_sender.proofs.Listed.{expired-reported}

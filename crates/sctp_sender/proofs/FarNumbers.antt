@@ -1,11 +1,8 @@
 -- A number that is far past the first in flight has many chunks before it.
-use Rattle.std.proofs.Common.{◌≡◌, ℕ, ◌+◌, ◌-◌, ◌<◌, ◌≤◌, ◌%◌, ◌^◌, Bool, true, false, List, [], ◌∷◌, ◌++◌, length, Option, Some, None, inl, inr}
-use Rattle.std.proofs.Common.{refl, ap, ◌∙◌, arith}
-use Rattle.std.specs.Prelude.{if◌then◌else◌, ◌&&◌, nat_le}
-use Rattle.std.specs.List.{filter, find}
-use Rattle.std.proofs.lemmas.Bool.Decides.{nat_tests}
-use Rattle.sctp_data.specs.declared.chunk.chunk_payload_data.ChunkPayloadData.{ChunkPayloadData}
-use Rattle.sctp_sender.specs.Numbers.{NumbersTell, Step, StepFrom, first_ordered, is_ordered_on, past_number}
+use Rattle.sctp_sender.proofs.Names.{◌≡◌, ℕ, ◌+◌, ◌-◌, ◌<◌, ◌≤◌, ◌%◌, ◌^◌, Bool, true, false, List, [], ◌∷◌, ◌++◌, length, Option, Some, None, inl, inr, refl}
+use Rattle.sctp_sender.proofs.Names.{ap, ◌∙◌, arith, if◌then◌else◌, ◌&&◌, nat_le, filter, nat_tests, ChunkPayloadData, is_ordered_on}
+use Rattle.std.specs.List.{find}
+use Rattle.sctp_sender.specs.Numbers.{NumbersTell, Step, StepFrom, first_ordered, past_number}
 
 step : (n m c far : ℕ) → n < 2 ^ 16 → m ≡ (n + 1) % 2 ^ 16 → (c + (2 ^ 16 - m)) % 2 ^ 16 ≤ far → (c + (2 ^ 16 - n)) % 2 ^ 16 ≤ far + 1
 step n m c far small is le = omega arith

@@ -1,28 +1,17 @@
 -- TSNs in flight follow one another, whatever is sent, abandoned or marked.
-use Rattle.std.proofs.Common.{◌≡◌, ℕ, zero, suc, ◌+◌, ◌<◌, ◌%◌, ◌^◌, Bool, true, false, List, [], ◌∷◌, ◌++◌, length, length-append, get_or, Option, Some, None}
-use Rattle.std.proofs.Common.{refl, ap, sym, ◌∙◌, arith}
-use Rattle.std.specs.Prelude.{if◌then◌else◌, ◌==◌, is_some}
-use Rattle.std.proofs.lemmas.List.{length-map}
-use Rattle.std.proofs.lemmas.Bool.{ne_eqb}
-use Rattle.std.proofs.lemmas.Bool.Decides.{nat_tests}
-use Rattle.sctp_util.specs.Lists.{change_where, insert_before}
-use Rattle.sctp_util.specs.Serial.{distance, comes_before}
+use Rattle.sctp_sender.proofs.Names.{◌≡◌, ℕ, zero, suc, ◌+◌, ◌<◌, ◌%◌, ◌^◌, Bool, true, false, List, [], ◌∷◌, ◌++◌, length, length-append, get_or, Option, Some}
+use Rattle.sctp_sender.proofs.Names.{None, refl, ap, sym, ◌∙◌, arith, if◌then◌else◌, ◌==◌, is_some, length-map, ne_eqb, nat_tests, change_where, insert_before}
+use Rattle.sctp_sender.proofs.Names.{comes_before, fails, ChunkPayloadData, has_tsn, chunk_before, following_tsn, tsns, as_abandoned, is_of, Outbound}
+use Rattle.sctp_sender.proofs.Names.{all_started, sent_of, sent_next, as_sent, abandoned_of, has_tail, message_of, with_terminal_chunk, terminal_chunk}
+use Rattle.sctp_sender.proofs.Names.{next_pending, start_pending, last_removed, without, waits, peeked_all_started, last_removed_none, Flight, IsContiguous}
+use Rattle.sctp_sender.proofs.Names.{tsns_from, may_send, StandSideBySide, messages_in_line}
+use Rattle.sctp_util.specs.Serial.{distance}
 use Rattle.sctp_util.proofs.Edits.{find-none}
-use Rattle.sctp_util.proofs.More.{fails}
 use Rattle.sctp_util.proofs.Distances.{not_before_from}
-use Rattle.sctp_data.specs.declared.chunk.chunk_payload_data.ChunkPayloadData.{ChunkPayloadData}
-use Rattle.sctp_serial.specs.DataChunks.{has_tsn, chunk_before, following_tsn, tsns}
 use Rattle.sctp_serial.specs.Window.{IsWindow, is_held}
-use Rattle.sctp_outbound.specs.Marks.{as_abandoned, is_of}
-use Rattle.sctp_outbound.specs.outbound_queue.OutboundQueue.{Outbound, all_started, sent_of, sent_next, as_sent, abandoned_of, tsn_after_of, has_tail}
-use Rattle.sctp_outbound.specs.outbound_queue.OutboundQueue.{message_of, with_terminal_chunk, terminal_chunk}
+use Rattle.sctp_outbound.specs.outbound_queue.OutboundQueue.{tsn_after_of}
 use Rattle.sctp_outbound.specs.payload_queue.PayloadQueue as payload
-use Rattle.sctp_outbound.specs.pending_queue.PendingQueue.{next_pending, start_pending, last_removed, without}
-use Rattle.sctp_outbound.specs.pending_queue.Whole.{waits}
-use Rattle.sctp_outbound.proofs.lemmas.outbound_queue.Outbounds.{peeked_all_started}
-use Rattle.sctp_outbound.proofs.lemmas.outbound_queue.Abandoned.{no_last, last_removed_none}
-use Rattle.sctp_sender.specs.Flight.{Flight, IsContiguous, tsns_from, may_send}
-use Rattle.sctp_sender.specs.SideBySide.{StandSideBySide, messages_in_line}
+use Rattle.sctp_outbound.proofs.lemmas.outbound_queue.Abandoned.{no_last}
 use Rattle.sctp_sender.proofs.Runs.{IsRunFrom, tsn-at, changed-run}
 
 -- ## The next TSN

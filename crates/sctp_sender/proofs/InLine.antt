@@ -1,32 +1,23 @@
 -- The chunks of each message stand side by side in flight, whatever is sent, abandoned, marked or taken out.
-use Rattle.std.proofs.Common.{◌≡◌, ℕ, zero, suc, ◌+◌, ◌<◌, ◌≤◌, ◌%◌, ◌^◌, Bool, true, false, not, List, [], ◌∷◌, ◌++◌, length, take, drop, Option, Some}
-use Rattle.std.proofs.Common.{None, inl, inr, refl, ap, ap₂, sym, subst, ◌∙◌, arith}
-use Rattle.std.specs.Prelude.{if◌then◌else◌, ◌&&◌, ◌||◌, ◌==◌, find}
-use Rattle.std.specs.List.{list_any}
-use Rattle.std.proofs.lemmas.Bool.{false≢true}
-use Rattle.std.proofs.lemmas.Bool.Decides.{nat_tests}
-use Rattle.std.proofs.lemmas.List.{append-nil, append_assoc, map-append, take-append-drop, length-map, drop-append-le, drop-map}
-use Rattle.std.proofs.lemmas.Option.{none-some}
-use Rattle.sctp_util.specs.Lists.{change_where, insert_before}
-use Rattle.sctp_util.specs.Serial.{comes_before}
-use Rattle.sctp_util.proofs.Cases.{or-left, or-split}
-use Rattle.sctp_util.proofs.Edits.{length-change_where, list_any-append}
-use Rattle.sctp_data.specs.declared.chunk.chunk_payload_data.ChunkPayloadData.{ChunkPayloadData}
-use Rattle.sctp_serial.specs.DataChunks.{has_tsn, chunk_before, following_tsn, tsns}
-use Rattle.sctp_outbound.specs.Marks.{as_abandoned, is_of}
-use Rattle.sctp_outbound.specs.outbound_queue.OutboundQueue.{Outbound, abandoned_of, all_started, as_sent, expired_of, is_expired_tail, message_of, passing}
-use Rattle.sctp_outbound.specs.outbound_queue.OutboundQueue.{sent_of, sent_next, terminal_chunk, to_abandon, with_inflight}
-use Rattle.sctp_outbound.specs.outbound_queue.OutboundQueue.{with_terminal_chunk}
+use Rattle.sctp_sender.proofs.Names.{◌≡◌, ℕ, zero, suc, ◌+◌, ◌<◌, ◌≤◌, ◌%◌, ◌^◌, Bool, true, false, List, [], ◌∷◌, ◌++◌, length, take, drop, Option, Some, None}
+use Rattle.sctp_sender.proofs.Names.{inl, inr, refl, ap, sym, subst, ◌∙◌, arith, if◌then◌else◌, ◌&&◌, ◌||◌, ◌==◌, find, list_any, false≢true, nat_tests}
+use Rattle.sctp_sender.proofs.Names.{append-nil, map-append, take-append-drop, length-map, none-some, change_where, insert_before, comes_before, or-left}
+use Rattle.sctp_sender.proofs.Names.{or-split, length-change_where, list_any-append, ChunkPayloadData, has_tsn, chunk_before, following_tsn, tsns, as_abandoned}
+use Rattle.sctp_sender.proofs.Names.{is_of, Outbound, abandoned_of, all_started, as_sent, expired_of, message_of, sent_of, sent_next, terminal_chunk}
+use Rattle.sctp_sender.proofs.Names.{to_abandon, with_inflight, with_terminal_chunk, closed_up, is_to_start, last_removed, list_to_pop, next_pending}
+use Rattle.sctp_sender.proofs.Names.{start_pending, with_deadline, without, IsSendable, partially_sent, waits, last_removed_none, found_in, partial_gone}
+use Rattle.sctp_sender.proofs.Names.{partial_in_front, sendable-changed, sendable-sent, KeepsMessage, tsns_from, StandSideBySide, is_number, messages_in_line}
+use Rattle.sctp_sender.proofs.Names.{messages_of, number_of_half}
+use Rattle.std.proofs.Common.{not}
+use Rattle.std.proofs.Common.{ap₂}
+use Rattle.std.proofs.lemmas.List.{append_assoc, drop-append-le, drop-map}
+use Rattle.sctp_outbound.specs.outbound_queue.OutboundQueue.{is_expired_tail, passing}
 use Rattle.sctp_outbound.specs.payload_queue.PayloadQueue as payload
-use Rattle.sctp_outbound.specs.pending_queue.PendingQueue.{closed_up, is_to_start, last_removed, list_to_pop, next_pending, rest_after, start_pending}
-use Rattle.sctp_outbound.specs.pending_queue.PendingQueue.{with_deadline, without}
-use Rattle.sctp_outbound.specs.pending_queue.Whole.{GoesOn, IsSendable, partial_of, partially_sent, waits}
-use Rattle.sctp_outbound.proofs.lemmas.outbound_queue.Abandoned.{last_is_of, last_removed_none}
-use Rattle.sctp_outbound.proofs.lemmas.outbound_queue.Sendable.{found_in, goes_on, partial_gone, partial_in_front, sendable-changed, sendable-sent}
+use Rattle.sctp_outbound.specs.pending_queue.PendingQueue.{rest_after}
+use Rattle.sctp_outbound.specs.pending_queue.Whole.{GoesOn, partial_of}
+use Rattle.sctp_outbound.proofs.lemmas.outbound_queue.Abandoned.{last_is_of}
+use Rattle.sctp_outbound.proofs.lemmas.outbound_queue.Sendable.{goes_on}
 use Rattle.sctp_outbound.proofs.lemmas.outbound_queue.SideBySide.{partial_before, partial_rest, peeked_waits, some_is}
-use Rattle.sctp_outbound.proofs.lemmas.pending_queue.CompleteMessages.{KeepsMessage}
-use Rattle.sctp_sender.specs.Flight.{tsns_from}
-use Rattle.sctp_sender.specs.SideBySide.{StandSideBySide, is_number, messages_in_line, messages_of, number_of_half}
 use Rattle.sctp_sender.proofs.Runs.{IsRunFrom, changed-run}
 use Rattle.sctp_sender.proofs.Flights.{behind, started-inflight}
 

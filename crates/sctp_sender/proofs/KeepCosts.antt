@@ -1,18 +1,9 @@
 -- What keeping costs, beside taking the SACK.
-use Rattle.std.proofs.Common.{◌≡◌, ℕ, ◌+◌, ◌≤◌, true, false, Bool, List, length, drop, Option, Some, None, inl, inr, refl, ap, sym, ◌∙◌, arith}
-use Rattle.std.specs.Prelude.{◌⊎◌, IfSome, is_some}
+use Rattle.sctp_sender.proofs.Names.{◌≡◌, ℕ, ◌+◌, ◌≤◌, true, false, Bool, List, length, drop, Option, Some, None, inl, inr, refl, ap, sym, ◌∙◌, arith, ◌⊎◌}
+use Rattle.sctp_sender.proofs.Names.{IfSome, is_some, count_by, false≢true, none-some, some-same, ChunkPayloadData, Sack, Anew, Kept, anew_turns, keeping_turns}
+use Rattle.sctp_sender.proofs.Names.{sack_turns, Flight, count_acked, is_outdated, reports, reports_anew, sack_refusal, data_after, kept_after, places_kept}
+use Rattle.sctp_sender.proofs.Names.{put_all}
 use Rattle.std.specs.Option.{option_map}
-use Rattle.std.specs.List.{count_by}
-use Rattle.std.proofs.lemmas.Bool.{false≢true}
-use Rattle.std.proofs.lemmas.Option.{none-some}
-use Rattle.sctp_util.proofs.Cases.{some-same}
-use Rattle.sctp_data.specs.declared.chunk.chunk_payload_data.ChunkPayloadData.{ChunkPayloadData}
-use Rattle.sctp_data.specs.SelectiveAck.{Sack}
-use Rattle.sctp_sender.specs.declared.sender.flight.anew.Anew.{Anew}
-use Rattle.sctp_sender.specs.declared.sender.flight.kept.Kept.{Kept}
-use Rattle.sctp_sender.specs.Costs.{anew_turns, keeping_turns, sack_turns}
-use Rattle.sctp_sender.specs.Flight.{Flight, count_acked, is_outdated, reports, reports_anew, sack_refusal}
-use Rattle.sctp_sender.specs.Keeping.{data_after, kept_after, places_kept, put_all}
 
 abbrev pub data-of : Option Kept → Option (List (Option (List ℕ)))
 data-of o = option_map (λ k. k.user_data.items) o

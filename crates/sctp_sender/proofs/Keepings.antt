@@ -1,27 +1,11 @@
 -- What is kept place by place, and what comes back.
-use Rattle.std.proofs.Common.{◌≡◌, ℕ, zero, suc, ◌+◌, ◌-◌, ◌<◌, ◌≤◌, ◌%◌, ◌^◌, Bool, true, false, List, [], ◌∷◌, ◌++◌, length, map}
-use Rattle.std.proofs.Common.{get_or, Option, Some, None, refl, ap, sym, subst, ◌∙◌, arith}
-use Rattle.std.specs.Prelude.{if◌then◌else◌, ◌&&◌, not, nat_lt}
-use Rattle.std.specs.List.{list_all, sum_by}
-use Rattle.std.proofs.lemmas.Bool.{false≢true}
-use Rattle.std.proofs.lemmas.Bool.Decides.{nat_tests}
-use Rattle.std.proofs.lemmas.List.Sums.{sum_by-cons}
-use Rattle.std.proofs.lemmas.Option.{none-some}
-use Rattle.sctp_data.specs.declared.chunk.chunk_payload_data.ChunkPayloadData.{ChunkPayloadData}
-use Rattle.sctp_util.specs.Serial.{distance}
-use Rattle.sctp_data.specs.SelectiveAck.{Sack}
-use Rattle.sctp_outbound.specs.Marks.{as_taken_back}
-use Rattle.sctp_outbound.specs.pending_queue.Whole.{partially_sent}
-use Rattle.sctp_serial.specs.DataChunks.{bytes_of, following_tsn}
-use Rattle.sctp_sender.specs.declared.sender.flight.kept.TakenBack.{TakenBack}
-use Rattle.sctp_sender.specs.declared.sender.refusal.SenderRefusal.{SenderRefusal}
-use Rattle.sctp_sender.specs.declared.sender.refusal.SenderRefusal.TheVariants.{InflightQueueTsnPop, TsnRequestNotExist}
-use Rattle.sctp_sender.specs.Flight.{Flight, IsContiguous, count_acked, is_outdated, is_within, reports, sack_refusal, tsns_from}
-use Rattle.sctp_sender.specs.Keeping.{back_each, bytes_back, keep, keep_each, kept_from, restored, restored_with, answered_back}
+use Rattle.sctp_sender.proofs.Names.{◌≡◌, ℕ, zero, suc, ◌+◌, ◌-◌, ◌<◌, ◌≤◌, ◌%◌, ◌^◌, Bool, true, false, List, [], ◌∷◌, ◌++◌, length, map, get_or, Option, Some}
+use Rattle.sctp_sender.proofs.Names.{None, refl, ap, sym, subst, ◌∙◌, arith, if◌then◌else◌, ◌&&◌, not, nat_lt, list_all, sum_by, false≢true, nat_tests}
+use Rattle.sctp_sender.proofs.Names.{sum_by-cons, none-some, ChunkPayloadData, distance, Sack, as_taken_back, partially_sent, bytes_of, following_tsn}
+use Rattle.sctp_sender.proofs.Names.{TakenBack, SenderRefusal, InflightQueueTsnPop, TsnRequestNotExist, Flight, IsContiguous, count_acked, is_outdated}
+use Rattle.sctp_sender.proofs.Names.{is_within, reports, sack_refusal, tsns_from, back_each, bytes_back, keep, keep_each, kept_from, restored, restored_with}
+use Rattle.sctp_sender.proofs.Names.{answered_back, tells_of, trimmed, with_restored, StandSideBySide, number_of_half, AreSettled, IsAllSettled}
 use Rattle.sctp_sender.specs.Keeping.{answered_of}
-use Rattle.sctp_sender.specs.Keeping.{tells_of, trimmed, with_restored}
-use Rattle.sctp_sender.specs.SideBySide.{StandSideBySide, number_of_half}
-use Rattle.sctp_sender.specs.Totals.{AreSettled, IsAllSettled}
 
 -- ## As far as something is kept
 

@@ -1,22 +1,10 @@
 -- What is known to be acknowledged stays so.
-use Rattle.std.proofs.Common.{◌≡◌, ℕ, suc, ◌<◌, Bool, true, false, List, [], ◌∷◌, ◌++◌, length, map, take, drop, get_or, Option, Some, None, refl, ap}
-use Rattle.std.proofs.Common.{sym, ◌∙◌, subst, inl, inr, arith}
-use Rattle.std.specs.Prelude.{if◌then◌else◌}
-use Rattle.std.proofs.lemmas.Bool.{cases_lt, false≢true}
-use Rattle.std.proofs.lemmas.List.{get_or-map, get_or_append_left, get_or_past, length-map, map-append, take-append-drop}
-use Rattle.sctp_util.specs.Lists.{change_where}
-use Rattle.sctp_util.proofs.Edits.{length-change_where}
-use Rattle.sctp_data.specs.declared.chunk.chunk_payload_data.ChunkPayloadData.{ChunkPayloadData}
-use Rattle.sctp_data.specs.declared.chunk.chunk_selective_ack.GapAckBlock.{GapAckBlock}
-use Rattle.sctp_outbound.specs.Marks.{as_abandoned, is_of}
-use Rattle.sctp_outbound.specs.outbound_queue.OutboundQueue.{Outbound, abandoned_of, all_started, as_sent, expired_of, sent_next, sent_of, terminal_chunk}
-use Rattle.sctp_outbound.specs.outbound_queue.OutboundQueue.{with_terminal_chunk}
-use Rattle.sctp_outbound.specs.payload_queue.Blocks.{is_in_blocks}
+use Rattle.sctp_sender.proofs.Names.{◌≡◌, ℕ, suc, ◌<◌, Bool, true, false, List, [], ◌∷◌, ◌++◌, length, map, take, drop, get_or, Option, Some, None, refl, ap}
+use Rattle.sctp_sender.proofs.Names.{sym, ◌∙◌, subst, inl, inr, arith, if◌then◌else◌, cases_lt, false≢true, get_or-map, get_or_append_left, get_or_past}
+use Rattle.sctp_sender.proofs.Names.{length-map, map-append, take-append-drop, change_where, length-change_where, ChunkPayloadData, GapAckBlock, as_abandoned}
+use Rattle.sctp_sender.proofs.Names.{is_of, Outbound, abandoned_of, all_started, as_sent, expired_of, sent_next, sent_of, terminal_chunk, with_terminal_chunk}
+use Rattle.sctp_sender.proofs.Names.{is_in_blocks, last_removed, next_pending, following_tsn, Flight, IsContiguous, tsns_from, AreKnown}
 use Rattle.sctp_outbound.specs.payload_queue.PayloadQueue as payload
-use Rattle.sctp_outbound.specs.pending_queue.PendingQueue.{last_removed, next_pending}
-use Rattle.sctp_serial.specs.DataChunks.{following_tsn}
-use Rattle.sctp_sender.specs.Flight.{Flight, IsContiguous, tsns_from}
-use Rattle.sctp_sender.specs.Reporting.{AreKnown}
 use Rattle.sctp_sender.proofs.Flights.{started-inflight}
 use Rattle.sctp_sender.proofs.InLine.{put-behind}
 use Rattle.sctp_sender.proofs.Runs.{IsRunFrom, changed-run}

@@ -1,12 +1,6 @@
 -- Places that known blocks report, and those that they do not.
-use Rattle.std.proofs.Common.{◌≡◌, ℕ, zero, suc, ◌+◌, ◌-◌, ◌<◌, ◌≤◌, Bool, true, false, List, [], ◌∷◌, length, get_or, refl, ap, ◌∙◌, inl, inr, arith}
-use Rattle.std.specs.Prelude.{if◌then◌else◌, nat_le}
-use Rattle.std.proofs.lemmas.Bool.{cases_lt}
-use Rattle.std.proofs.lemmas.Bool.Decides.{nat_tests}
-use Rattle.sctp_data.specs.declared.chunk.chunk_selective_ack.GapAckBlock.{GapAckBlock}
-use Rattle.sctp_outbound.specs.payload_queue.Blocks.{is_in_block, is_in_blocks}
-use Rattle.sctp_sender.specs.Costs.{unknown_from}
-use Rattle.sctp_sender.specs.Reporting.{ascends_from}
+use Rattle.sctp_sender.proofs.Names.{◌≡◌, ℕ, zero, suc, ◌+◌, ◌-◌, ◌<◌, ◌≤◌, Bool, true, false, List, [], ◌∷◌, length, get_or, refl, ap, ◌∙◌, inl, inr, arith}
+use Rattle.sctp_sender.proofs.Names.{if◌then◌else◌, nat_le, cases_lt, nat_tests, GapAckBlock, is_in_block, is_in_blocks, unknown_from, ascends_from}
 use Rattle.sctp_sender.proofs.Anew.{ahead, any-place, both}
 
 abbrev pub any_block : GapAckBlock

@@ -1,24 +1,11 @@
 -- Messages that are abandoned one after another.
-use Rattle.std.proofs.Common.{◌≡◌, ℕ, zero, suc, ◌+◌, ◌<◌, ◌≤◌, Bool, true, false, List, [], ◌∷◌, length, drop, get_or, Option, Some, None, refl, ap, sym}
-use Rattle.std.proofs.Common.{subst, ◌∙◌, inl, inr, arith}
-use Rattle.std.specs.Prelude.{if◌then◌else◌, find, not, option_map, option_to_list}
-use Rattle.std.specs.List.{list_all, list_any}
-use Rattle.std.proofs.lemmas.Option.{none-some}
-use Rattle.sctp_util.specs.Lists.{change_where}
-use Rattle.sctp_util.proofs.Cases.{negated, or-left, or-right, or-split, same-yes}
-use Rattle.sctp_util.proofs.Edits.{list_any-those}
-use Rattle.sctp_util.proofs.More.{and, both, fails, not_both}
-use Rattle.sctp_data.specs.declared.chunk.chunk_payload_data.ChunkPayloadData.{ChunkPayloadData}
-use Rattle.sctp_outbound.specs.Marks.{as_abandoned, is_of}
-use Rattle.sctp_outbound.specs.outbound_queue.OutboundQueue.{Outbound, abandoned_of, has_tail, to_abandon, with_terminal_chunk}
+use Rattle.sctp_sender.proofs.Names.{◌≡◌, ℕ, zero, suc, ◌+◌, ◌<◌, ◌≤◌, Bool, true, false, List, [], ◌∷◌, length, drop, get_or, Option, Some, None, refl, ap}
+use Rattle.sctp_sender.proofs.Names.{sym, subst, ◌∙◌, inl, inr, arith, if◌then◌else◌, find, not, option_map, option_to_list, list_all, list_any, none-some}
+use Rattle.sctp_sender.proofs.Names.{change_where, negated, or-left, or-right, or-split, same-yes, list_any-those, and, both, fails, not_both, ChunkPayloadData}
+use Rattle.sctp_sender.proofs.Names.{as_abandoned, is_of, Outbound, abandoned_of, has_tail, to_abandon, with_terminal_chunk, Pending, without, IsSendable}
+use Rattle.sctp_sender.proofs.Names.{partially_sent, waits, last_removed_none, has_tsn, Flight, has_tail_at, message_to_abandon, abandoned_at, with_tail}
+use Rattle.sctp_sender.proofs.Names.{partial_gone}
 use Rattle.sctp_outbound.specs.payload_queue.PayloadQueue as payload
-use Rattle.sctp_outbound.specs.pending_queue.PendingQueue.{Pending, without}
-use Rattle.sctp_outbound.specs.pending_queue.Whole.{IsSendable, partially_sent, waits}
-use Rattle.sctp_outbound.proofs.lemmas.outbound_queue.Abandoned.{last_removed_none}
-use Rattle.sctp_serial.specs.DataChunks.{has_tsn}
-use Rattle.sctp_sender.specs.Flight.{Flight, has_tail_at, message_to_abandon}
-use Rattle.sctp_sender.specs.Late.{abandoned_at, with_tail}
-use Rattle.sctp_outbound.proofs.lemmas.outbound_queue.Sendable.{partial_gone}
 
 -- ## Lists
 

@@ -1,20 +1,9 @@
 -- Blocks that are left of what was reported, once something came back.
-use Rattle.std.proofs.Common.{◌≡◌, ℕ, suc, ◌+◌, ◌<◌, ◌≤◌, Bool, true, false, List, length, get_or, Option, Some, None, refl, ap, sym, subst, ◌∙◌, arith}
-use Rattle.std.specs.Prelude.{◌&&◌, not, IfSome, is_some}
-use Rattle.std.specs.List.{list_any}
-use Rattle.std.proofs.lemmas.Bool.{false≢true}
-use Rattle.std.proofs.lemmas.List.{get_or-map}
-use Rattle.std.proofs.lemmas.List.Folds.{list_any_none}
-use Rattle.sctp_util.specs.Serial.{distance}
-use Rattle.sctp_util.proofs.Cases.{and-true}
-use Rattle.sctp_data.specs.declared.chunk.chunk_payload_data.ChunkPayloadData.{ChunkPayloadData}
-use Rattle.sctp_data.specs.declared.chunk.chunk_selective_ack.GapAckBlock.{GapAckBlock}
-use Rattle.sctp_outbound.specs.payload_queue.Blocks.{is_in_blocks}
+use Rattle.sctp_sender.proofs.Names.{◌≡◌, ℕ, suc, ◌+◌, ◌<◌, ◌≤◌, Bool, true, false, List, length, get_or, Option, Some, None, refl, ap, sym, subst, ◌∙◌, arith}
+use Rattle.sctp_sender.proofs.Names.{◌&&◌, not, IfSome, is_some, list_any, false≢true, get_or-map, list_any_none, distance, and-true, ChunkPayloadData}
+use Rattle.sctp_sender.proofs.Names.{GapAckBlock, is_in_blocks, PlacedData, Flight, IsContiguous, Cover, blocks_left, can_come_back, is_at, is_uncovered}
+use Rattle.sctp_sender.proofs.Names.{placed, restored, with_restored, AreKnown, ascends_from}
 use Rattle.sctp_sender.specs.declared.sender.flight.runs.Left.{Left}
-use Rattle.sctp_sender.specs.declared.sender.flight.returns.PlacedData.{PlacedData}
-use Rattle.sctp_sender.specs.Flight.{Flight, IsContiguous}
-use Rattle.sctp_sender.specs.Keeping.{Cover, blocks_left, can_come_back, is_at, is_uncovered, placed, restored, with_restored}
-use Rattle.sctp_sender.specs.Reporting.{AreKnown, ascends_from}
 use Rattle.sctp_sender.proofs.Anew.{both}
 use Rattle.sctp_sender.proofs.Covering.{can-here, covered-at, far-at}
 use Rattle.sctp_sender.proofs.Keepings.{length-restored}

@@ -1,3 +1,4 @@
+pub mod Names
 pub mod Seen
 pub mod Runs
 pub mod MarkedRuns
@@ -15,7 +16,7 @@ pub mod Sacks
 pub mod Flights
 pub mod SenderStreams
 pub mod Amounts
-pub mod Names
+pub mod NamedStreams
 pub mod Pairs
 pub mod Points
 pub mod Skips
@@ -45,6 +46,8 @@ pub mod Tells
 pub mod Covering
 pub mod AnewKept
 pub mod LeftReported
+pub mod Undone
+pub mod TakenSacks
 pub mod Expiries
 pub mod KeepCosts
 pub mod Lows

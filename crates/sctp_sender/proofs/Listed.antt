@@ -1,23 +1,10 @@
 -- What a sender notes as reported stays acknowledged.
-use Rattle.std.proofs.Common.{◌≡◌, ℕ, true, List, [], ◌∷◌, Option, Some, None, Result, Ok, Err, inl, inr, refl, ap, sym, subst, ◌∙◌}
-use Rattle.std.specs.Prelude.{◌⊎◌, IfSome, IsOk, OnErr, OnOk, find, if◌then◌else◌}
+use Rattle.sctp_sender.proofs.Names.{◌≡◌, ℕ, true, List, [], ◌∷◌, Option, Some, None, Result, Ok, Err, inl, inr, refl, ap, sym, subst, ◌∙◌, ◌⊎◌, IfSome, IsOk}
+use Rattle.sctp_sender.proofs.Names.{OnErr, OnOk, find, if◌then◌else◌, none-some, some-same, not_both, ChunkPayloadData, GapAckBlock, Sack, is_outstanding}
+use Rattle.sctp_sender.proofs.Names.{with_retransmit, all_started, expired_of, with_message, has_tsn, Anew, Kept, SenderRefusal, Flight, after_sack, can_resend}
+use Rattle.sctp_sender.proofs.Names.{is_outdated, is_outstanding_in, resent, take_sack, with_queue, AreReported, Cover, blocks_after, AreKnown, after_misses}
+use Rattle.sctp_sender.proofs.Names.{all_marked, can_miss, missed, resent_at}
 use Rattle.std.specs.Option.{option_map}
-use Rattle.std.proofs.lemmas.Option.{none-some}
-use Rattle.sctp_util.proofs.Cases.{some-same}
-use Rattle.sctp_util.proofs.More.{not_both}
-use Rattle.sctp_data.specs.declared.chunk.chunk_payload_data.ChunkPayloadData.{ChunkPayloadData}
-use Rattle.sctp_data.specs.declared.chunk.chunk_selective_ack.GapAckBlock.{GapAckBlock}
-use Rattle.sctp_data.specs.SelectiveAck.{Sack}
-use Rattle.sctp_outbound.specs.Marks.{is_outstanding, with_retransmit}
-use Rattle.sctp_outbound.specs.outbound_queue.OutboundQueue.{all_started, expired_of, with_message}
-use Rattle.sctp_serial.specs.DataChunks.{has_tsn}
-use Rattle.sctp_sender.specs.declared.sender.flight.anew.Anew.{Anew}
-use Rattle.sctp_sender.specs.declared.sender.flight.kept.Kept.{Kept}
-use Rattle.sctp_sender.specs.declared.sender.refusal.SenderRefusal.{SenderRefusal}
-use Rattle.sctp_sender.specs.Flight.{Flight, after_sack, can_resend, is_outdated, is_outstanding_in, resent, take_sack, with_queue}
-use Rattle.sctp_sender.specs.Keeping.{AreReported, Cover, blocks_after}
-use Rattle.sctp_sender.specs.Reporting.{AreKnown}
-use Rattle.sctp_sender.specs.Resending.{after_misses, all_marked, can_miss, missed, resent_at}
 use Rattle.sctp_sender.proofs.Known.{changed-known, part-changed-known, started-known}
 
 pub reported-on : (o : Option Kept) (f g : Flight)

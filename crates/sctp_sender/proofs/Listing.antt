@@ -1,18 +1,8 @@
 -- Blocks that a walk puts one behind another: those that are left, or those of two lists.
-use Rattle.std.proofs.Common.{◌≡◌, ℕ, zero, suc, ◌+◌, ◌-◌, ◌<◌, ◌≤◌, Bool, true, false, List, [], ◌∷◌, length, take, get_or, refl, ap, sym, ◌∙◌}
-use Rattle.std.proofs.Common.{inl, inr, arith}
-use Rattle.std.specs.Prelude.{◌==◌, ◌&&◌, ◌||◌, not, nat_le, nat_lt}
-use Rattle.std.specs.List.{list_any}
-use Rattle.std.proofs.lemmas.Bool.{cases_lt}
-use Rattle.std.proofs.lemmas.Bool.Decides.{nat_tests}
-use Rattle.std.proofs.lemmas.List.{get_or_default, take_more}
-use Rattle.sctp_util.proofs.Cases.{and-none, and-true, or-left, or-none, or-right}
-use Rattle.sctp_util.proofs.Edits.{list_any-append}
-use Rattle.sctp_data.specs.declared.chunk.chunk_selective_ack.GapAckBlock.{GapAckBlock}
-use Rattle.sctp_outbound.specs.payload_queue.Blocks.{is_in_block, is_in_blocks}
-use Rattle.sctp_sender.specs.declared.sender.flight.returns.PlacedData.{PlacedData}
-use Rattle.sctp_sender.specs.Keeping.{is_at, rises_from}
-use Rattle.sctp_sender.specs.Reporting.{ascends_from}
+use Rattle.sctp_sender.proofs.Names.{◌≡◌, ℕ, zero, suc, ◌+◌, ◌-◌, ◌<◌, ◌≤◌, Bool, true, false, List, [], ◌∷◌, length, take, get_or, refl, ap, sym, ◌∙◌, inl}
+use Rattle.sctp_sender.proofs.Names.{inr, arith, ◌==◌, ◌&&◌, ◌||◌, not, nat_le, nat_lt, list_any, cases_lt, nat_tests, get_or_default, take_more, and-none}
+use Rattle.sctp_sender.proofs.Names.{and-true, or-left, or-none, or-right, list_any-append, GapAckBlock, is_in_block, is_in_blocks, PlacedData, is_at}
+use Rattle.sctp_sender.proofs.Names.{rises_from, ascends_from}
 use Rattle.sctp_sender.proofs.Anew.{any-at, both, in-block}
 use Rattle.sctp_sender.proofs.Covers.{neither}
 use Rattle.sctp_sender.proofs.Returns.{between, no_block, one-passed, passed-on}

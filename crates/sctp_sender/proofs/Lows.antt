@@ -1,25 +1,17 @@
 -- Streams whose buffered amount falls to its low threshold.
-use Rattle.std.proofs.Common.{◌≡◌, ℕ, zero, suc, ◌+◌, ◌-◌, ◌<◌, ◌≤◌, Bool, true, false, List, [], ◌∷◌, ◌++◌, length, set, take, drop, get_or, append_assoc}
-use Rattle.std.proofs.Common.{Option, Some, None, refl, ap, sym, subst, ◌∙◌, arith}
-use Rattle.std.specs.Prelude.{if◌then◌else◌, ◌==◌, ◌&&◌, ◌||◌, not, nat_lt, nat_le, option_map, find, slice_get}
-use Rattle.std.specs.List.{count_by, list_any, sum_by}
-use Rattle.std.proofs.lemmas.Bool.Decides.{nat_tests}
-use Rattle.std.proofs.lemmas.List.{drop_more, drop-set-lt, take_more_set}
-use Rattle.std.proofs.lemmas.List.Sums.{sum_by-cons}
-use Rattle.sctp_util.specs.Lists.{change_where}
-use Rattle.sctp_util.proofs.Cases.{same-is}
-use Rattle.sctp_util.proofs.More.{not_both}
-use Rattle.sctp_stream.specs.declared.stream.StreamState.{StreamState}
-use Rattle.sctp_sender.specs.declared.sender.flight.Released.{Released}
-use Rattle.sctp_sender.specs.declared.sender.flight.late.AbandonedMessage.{AbandonedMessage}
-use Rattle.sctp_sender.specs.Late.{after_leaving}
-use Rattle.sctp_sender.specs.Outgoing.{after_expiries, after_releases, has_number, less_by, number}
-use Rattle.sctp_sender.specs.Thresholds.{falls_in, falls_on, is_above, tells_low, tells_message_low, with_lows, with_message_lows}
+use Rattle.sctp_sender.proofs.Names.{◌≡◌, ℕ, zero, suc, ◌+◌, ◌-◌, ◌<◌, ◌≤◌, Bool, true, false, List, [], ◌∷◌, ◌++◌, length, set, take, drop, get_or}
+use Rattle.sctp_sender.proofs.Names.{append_assoc, Option, Some, None, refl, ap, sym, subst, ◌∙◌, arith, if◌then◌else◌, ◌==◌, ◌&&◌, ◌||◌, not, nat_lt, nat_le}
+use Rattle.sctp_sender.proofs.Names.{option_map, find, count_by, list_any, sum_by, nat_tests, drop_more, sum_by-cons, change_where, same-is, not_both}
+use Rattle.sctp_sender.proofs.Names.{OutboundStream, Released, AbandonedMessage, after_leaving, after_expiries, after_releases, has_number, less_by, number}
+use Rattle.sctp_sender.proofs.Names.{falls_in, falls_on, tells_message_low, with_lows, with_message_lows}
+use Rattle.std.specs.Prelude.{slice_get}
+use Rattle.std.proofs.lemmas.List.{drop-set-lt, take_more_set}
+use Rattle.sctp_sender.specs.Thresholds.{is_above, tells_low}
 
 -- ## The stream that is found after a change
 
-module _ (f : StreamState → StreamState) (keeps : (l : StreamState) → number (f l) ≡ number l) (s : ℕ) where
-  found-same : (ls : List StreamState) → find (has_number s) (change_where (has_number s) f ls) ≡ option_map f (find (has_number s) ls)
+module _ (f : OutboundStream → OutboundStream) (keeps : (l : OutboundStream) → number (f l) ≡ number l) (s : ℕ) where
+  found-same : (ls : List OutboundStream) → find (has_number s) (change_where (has_number s) f ls) ≡ option_map f (find (has_number s) ls)
   found-same [] = refl
   found-same (l ∷ ls) = by (has_number s l) refl (found-same ls)
     where
@@ -28,7 +20,7 @@ module _ (f : StreamState → StreamState) (keeps : (l : StreamState) → number
       by true e ih = ap (λ b. if b then Some (f l) else find (has_number s) (change_where (has_number s) f ls)) (ap (λ n. n == s) (keeps l) ∙ e)
       by false e ih = ap (λ b. if b then Some l else find (has_number s) (change_where (has_number s) f ls)) e ∙ ih
 
-  found-other : (t : ℕ) → (t == s) ≡ false → (ls : List StreamState) → find (has_number s) (change_where (has_number t) f ls) ≡ find (has_number s) ls
+  found-other : (t : ℕ) → (t == s) ≡ false → (ls : List OutboundStream) → find (has_number s) (change_where (has_number t) f ls) ≡ find (has_number s) ls
   found-other t ne [] = refl
   found-other t ne (l ∷ ls) = by (has_number t l) refl (found-other t ne ls)
     where
@@ -45,34 +37,34 @@ module _ (f : StreamState → StreamState) (keeps : (l : StreamState) → number
 falls : (low a n : ℕ) → (nat_lt 0 n && (nat_lt low a && nat_le (a - n) low)) ≡ (nat_lt low a && not (nat_lt low (a - n)))
 falls low a n = grind (arith, nat_tests)
 
-falls-above : (o : Option StreamState) (n : ℕ) → falls_in o n ≡ (is_above o && not (is_above (option_map (less_by n) o)))
+falls-above : (o : Option OutboundStream) (n : ℕ) → falls_in o n ≡ (is_above o && not (is_above (option_map (less_by n) o)))
 falls-above None n = refl
 falls-above (Some l) n = falls l.buffered_amount_low l.buffered_amount n
 
 lower : (low a n : ℕ) → nat_lt low (a - n) ≡ true → nat_lt low a ≡ true
 lower low a n e = grind (arith, nat_tests)
 
-above-before : (o : Option StreamState) (n : ℕ) → is_above (option_map (less_by n) o) ≡ true → is_above o ≡ true
+above-before : (o : Option OutboundStream) (n : ℕ) → is_above (option_map (less_by n) o) ≡ true → is_above o ≡ true
 above-before None n e = e
 above-before (Some l) n e = lower l.buffered_amount_low l.buffered_amount n e
 
-expiry-above : (b : Bool) (m n : ℕ) (o : Option StreamState) → is_above (option_map (after_expiries b m n) o) ≡ is_above (option_map (less_by n) o)
+expiry-above : (b : Bool) (m n : ℕ) (o : Option OutboundStream) → is_above (option_map (after_expiries b m n) o) ≡ is_above (option_map (less_by n) o)
 expiry-above b m n None = refl
 expiry-above true m n (Some l) = refl
 expiry-above false m n (Some l) = refl
 
-pub expiry-number : (b : Bool) (m n : ℕ) (l : StreamState) → number (after_expiries b m n l) ≡ number l
+pub expiry-number : (b : Bool) (m n : ℕ) (l : OutboundStream) → number (after_expiries b m n l) ≡ number l
 expiry-number true m n l = refl
 expiry-number false m n l = refl
 
 -- what a release of one stream tells
-pub release-falls : (s n : ℕ) (ls : List StreamState)
+pub release-falls : (s n : ℕ) (ls : List OutboundStream)
     → falls_on s n ls ≡ (is_above (find (has_number s) ls) && not (is_above (find (has_number s) (change_where (has_number s) (less_by n) ls))))
 release-falls s n ls =
     falls-above (find (has_number s) ls) n
     ∙ ap (λ o. is_above (find (has_number s) ls) && not (is_above o)) (sym (found-same (less_by n) (λ l. refl) s ls))
 
-pub expiry-falls : (s : ℕ) (b : Bool) (m n : ℕ) (ls : List StreamState)
+pub expiry-falls : (s : ℕ) (b : Bool) (m n : ℕ) (ls : List OutboundStream)
     → falls_on s n ls ≡ (is_above (find (has_number s) ls) && not (is_above (find (has_number s) (change_where (has_number s) (after_expiries b m n) ls))))
 expiry-falls s b m n ls =
     falls-above (find (has_number s) ls) n
@@ -84,14 +76,14 @@ expiry-falls s b m n ls =
 abbrev one_if : Bool → ℕ
 one_if b = if b then 1 else 0
 
-abbrev one_less : ℕ → ℕ → List StreamState → List StreamState
+abbrev one_less : ℕ → ℕ → List OutboundStream → List OutboundStream
 one_less t n ls = change_where (has_number t) (less_by n) ls
 
 module _ (s : ℕ) where
-  abbrev above : List StreamState → Bool
+  abbrev above : List OutboundStream → Bool
   above ls = is_above (find (has_number s) ls)
 
-  still-above : (t n : ℕ) (ls : List StreamState) → above (one_less t n ls) ≡ true → above ls ≡ true
+  still-above : (t n : ℕ) (ls : List OutboundStream) → above (one_less t n ls) ≡ true → above ls ≡ true
   still-above t n ls = by (t == s) refl
     where
       by : (b : Bool) → (t == s) ≡ b → above (one_less t n ls) ≡ true → above ls ≡ true
@@ -103,7 +95,7 @@ module _ (s : ℕ) where
   none true = refl
   none false = refl
 
-  answered : (t n : ℕ) (ls : List StreamState) → one_if (t == s && falls_on t n ls) ≡ one_if (above ls && not (above (one_less t n ls)))
+  answered : (t n : ℕ) (ls : List OutboundStream) → one_if (t == s && falls_on t n ls) ≡ one_if (above ls && not (above (one_less t n ls)))
   answered t n ls = by (t == s) refl
     where
       by : (b : Bool) → (t == s) ≡ b → one_if (b && falls_on t n ls) ≡ one_if (above ls && not (above (one_less t n ls)))
@@ -122,11 +114,11 @@ module _ (s : ℕ) where
 
   -- ## Chunks
 
-  releases-above : (rs : List Released) (ls : List StreamState) → above (after_releases rs ls) ≡ true → above ls ≡ true
+  releases-above : (rs : List Released) (ls : List OutboundStream) → above (after_releases rs ls) ≡ true → above ls ≡ true
   releases-above [] ls e = e
   releases-above (r ∷ rs) ls e = still-above r.stream r.bytes ls (releases-above rs (one_less r.stream r.bytes ls) e)
 
-  pub count-lows : (rs : List Released) (ls : List StreamState)
+  pub count-lows : (rs : List Released) (ls : List OutboundStream)
       → count_by (tells_low s) (with_lows rs ls) ≡ one_if (above ls && not (above (after_releases rs ls)))
   count-lows [] ls = none (above ls)
   count-lows (r ∷ rs) ls =
@@ -138,11 +130,11 @@ module _ (s : ℕ) where
 
   -- ## Messages
 
-  leaving-above : (gs : List AbandonedMessage) (ls : List StreamState) → above (after_leaving gs ls) ≡ true → above ls ≡ true
+  leaving-above : (gs : List AbandonedMessage) (ls : List OutboundStream) → above (after_leaving gs ls) ≡ true → above ls ≡ true
   leaving-above [] ls e = e
   leaving-above (g ∷ gs) ls e = still-above g.stream g.bytes ls (leaving-above gs (one_less g.stream g.bytes ls) e)
 
-  pub count-message-lows : (gs : List AbandonedMessage) (ls : List StreamState)
+  pub count-message-lows : (gs : List AbandonedMessage) (ls : List OutboundStream)
       → count_by (tells_message_low s) (with_message_lows gs ls) ≡ one_if (above ls && not (above (after_leaving gs ls)))
   count-message-lows [] ls = none (above ls)
   count-message-lows (g ∷ gs) ls =
@@ -179,7 +171,7 @@ module _ {A : Type 0} (p : A → Bool) where
 
 -- ## What the calls tell
 
-module _ (s : ℕ) (ls ms : List StreamState) where
+module _ (s : ℕ) (ls ms : List OutboundStream) where
   abbrev fallen : Bool
   fallen = above s ls && not (above s ms)
 
@@ -211,7 +203,7 @@ module _ (s : ℕ) (ls ms : List StreamState) where
 
 -- ## One place more of an answer
 
-module _ (i : ℕ) (ls : List StreamState) where
+module _ (i : ℕ) (ls : List OutboundStream) where
   -- what stands before a place, and what is told from there on
   pub next-low : (rs : List Released) (r : Released) (b : Bool) → i < length rs → r ≡ get_or rs i r → b ≡ falls_on r.stream r.bytes ls
       → let x : Released = record r { is_low = b } in
@@ -257,19 +249,19 @@ module _ (i : ℕ) (ls : List StreamState) where
 
 -- ## The bytes stay
 
-lows-bytes : (rs : List Released) (ls : List StreamState) → sum_by (λ r. r.bytes) (with_lows rs ls) ≡ sum_by (λ r. r.bytes) rs
+lows-bytes : (rs : List Released) (ls : List OutboundStream) → sum_by (λ r. r.bytes) (with_lows rs ls) ≡ sum_by (λ r. r.bytes) rs
 lows-bytes [] ls = refl
 lows-bytes (r ∷ rs) ls =
     sum_by-cons (λ (x : Released). x.bytes) (record r { is_low = falls_on r.stream r.bytes ls }) (with_lows rs (one_less r.stream r.bytes ls))
     ∙ ap (λ n. r.bytes + n) (lows-bytes rs (one_less r.stream r.bytes ls)) ∙ sym (sum_by-cons (λ (x : Released). x.bytes) r rs)
 
-message-lows-bytes : (gs : List AbandonedMessage) (ls : List StreamState) → sum_by (λ g. g.bytes) (with_message_lows gs ls) ≡ sum_by (λ g. g.bytes) gs
+message-lows-bytes : (gs : List AbandonedMessage) (ls : List OutboundStream) → sum_by (λ g. g.bytes) (with_message_lows gs ls) ≡ sum_by (λ g. g.bytes) gs
 message-lows-bytes [] ls = refl
 message-lows-bytes (g ∷ gs) ls =
     sum_by-cons (λ (x : AbandonedMessage). x.bytes) (record g { is_low = falls_on g.stream g.bytes ls }) (with_message_lows gs (one_less g.stream g.bytes ls))
     ∙ ap (λ n. g.bytes + n) (message-lows-bytes gs (one_less g.stream g.bytes ls)) ∙ sym (sum_by-cons (λ (x : AbandonedMessage). x.bytes) g gs)
 
-module _ (old new : ℕ) (ls : List StreamState) where
+module _ (old new : ℕ) (ls : List OutboundStream) where
   pub released-same : (rs xs : List Released) → xs ≡ with_lows rs ls → new + sum_by (λ r. r.bytes) rs ≡ old → new + sum_by (λ r. r.bytes) xs ≡ old
   released-same rs xs lows e = ap (λ (ys : List Released). new + sum_by (λ r. r.bytes) ys) lows ∙ ap (λ n. new + n) (lows-bytes rs ls) ∙ e
 
@@ -280,17 +272,17 @@ module _ (old new : ℕ) (ls : List StreamState) where
 
 -- ## The TSNs stay
 
-length-lows : (rs : List Released) (ls : List StreamState) → length (with_lows rs ls) ≡ length rs
+length-lows : (rs : List Released) (ls : List OutboundStream) → length (with_lows rs ls) ≡ length rs
 length-lows [] ls = refl
 length-lows (r ∷ rs) ls = ap (λ n. suc n) (length-lows rs (one_less r.stream r.bytes ls))
 
-tsn-at : (rs : List Released) (ls : List StreamState) (k : ℕ)
+tsn-at : (rs : List Released) (ls : List OutboundStream) (k : ℕ)
     → option_map (λ (r : Released). r.tsn) (slice_get (with_lows rs ls) k) ≡ option_map (λ (r : Released). r.tsn) (slice_get rs k)
 tsn-at [] ls k = refl
 tsn-at (r ∷ rs) ls zero = refl
 tsn-at (r ∷ rs) ls (suc k) = tsn-at rs (one_less r.stream r.bytes ls) k
 
 -- the last TSN of an answer
-pub last-tsn : (rs : List Released) (ls : List StreamState) → option_map (λ (r : Released). r.tsn)
+pub last-tsn : (rs : List Released) (ls : List OutboundStream) → option_map (λ (r : Released). r.tsn)
     (slice_get (with_lows rs ls) (length (with_lows rs ls) - 1)) ≡ option_map (λ (r : Released). r.tsn) (slice_get rs (length rs - 1))
 last-tsn rs ls = ap (λ n. option_map (λ (r : Released). r.tsn) (slice_get (with_lows rs ls) (n - 1))) (length-lows rs ls) ∙ tsn-at rs ls (length rs - 1)

@@ -1,10 +1,7 @@
 -- A walk over the first places of a list that changes some of what stands there.
-use Rattle.std.proofs.Common.{◌≡◌, ℕ, suc, ◌+◌, ◌<◌, ◌≤◌, Bool, false, List, [], ◌∷◌, ◌++◌, length, take, drop, get_or}
-use Rattle.std.proofs.Common.{refl, ap, sym, ◌∙◌, arith}
-use Rattle.std.specs.Prelude.{if◌then◌else◌}
-use Rattle.std.specs.List.{All, filter}
-use Rattle.std.proofs.lemmas.List.{append-nil, length-drop, take-append-drop, get_or-drop}
-use Rattle.sctp_util.proofs.Edits.{those-append}
+use Rattle.sctp_sender.proofs.Names.{◌≡◌, ℕ, suc, ◌+◌, ◌<◌, ◌≤◌, Bool, false, List, [], ◌∷◌, ◌++◌, length, take, drop, get_or, refl, ap, sym, ◌∙◌, arith}
+use Rattle.sctp_sender.proofs.Names.{if◌then◌else◌, All, filter, append-nil, take-append-drop, get_or-drop, those-append}
+use Rattle.std.proofs.lemmas.List.{length-drop}
 
 -- ## Nothing passes behind the first so many
 

@@ -1,16 +1,10 @@
 -- A walk over a run of chunks that changes some of them.
-use Rattle.std.proofs.Common.{◌≡◌, ℕ, zero, suc, ◌+◌, ◌<◌, ◌≤◌, ◌%◌, ◌^◌, Bool, true, false, List, [], ◌∷◌, ◌++◌, length, length-append, take, drop, ◌-◌}
-use Rattle.std.proofs.Common.{get_or, set}
-use Rattle.std.proofs.Common.{slice_get, Some, refl, ap, sym, ◌∙◌, arith}
-use Rattle.std.specs.Prelude.{if◌then◌else◌, find}
-use Rattle.std.proofs.lemmas.List.{length-map, length-take-le, take-append-drop, get_or-append_right, get_or-drop}
-use Rattle.std.specs.List.{filter}
-use Rattle.std.proofs.lemmas.Option.{slice_get-get_or}
-use Rattle.sctp_util.specs.Lists.{change_where}
-use Rattle.sctp_util.proofs.Edits.{change_where-only, changed_step, unchanged_step, those-more, length-change_where}
-use Rattle.sctp_data.specs.declared.chunk.chunk_payload_data.ChunkPayloadData.{ChunkPayloadData}
-use Rattle.sctp_serial.specs.DataChunks.{has_tsn, tsns}
-use Rattle.sctp_sender.specs.Flight.{tsns_from}
+use Rattle.sctp_sender.proofs.Names.{◌≡◌, ℕ, zero, suc, ◌+◌, ◌<◌, ◌≤◌, ◌%◌, ◌^◌, Bool, true, false, List, [], ◌∷◌, ◌++◌, length, length-append, take, drop, ◌-◌}
+use Rattle.sctp_sender.proofs.Names.{get_or, set, slice_get, Some, refl, ap, sym, ◌∙◌, arith, if◌then◌else◌, find, length-map, length-take-le, take-append-drop}
+use Rattle.sctp_sender.proofs.Names.{get_or-drop, filter, slice_get-get_or, change_where, change_where-only, those-more, length-change_where, ChunkPayloadData}
+use Rattle.sctp_sender.proofs.Names.{has_tsn, tsns, tsns_from}
+use Rattle.std.proofs.lemmas.List.{get_or-append_right}
+use Rattle.sctp_util.proofs.Edits.{changed_step, unchanged_step}
 use Rattle.sctp_sender.proofs.Runs.{IsRunFrom, found-at, only-at, changed-run}
 
 tsns-append : (xs ys : List ChunkPayloadData) → tsns (xs ++ ys) ≡ tsns xs ++ tsns ys

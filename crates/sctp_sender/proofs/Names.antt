@@ -1,107 +1,84 @@
--- The pairs of a FORWARD-TSN.
-use Rattle.std.proofs.Common.{◌≡◌, ℕ, zero, suc, ◌<◌, Bool, true, false, List, [], ◌∷◌, ◌++◌, length, set, get_or, Option, Some, None, refl, ap, sym, subst}
-use Rattle.std.proofs.Common.{◌∙◌, arith}
-use Rattle.std.specs.Prelude.{if◌then◌else◌, ◌==◌}
-use Rattle.std.proofs.lemmas.List.{append-nil}
-use Rattle.std.specs.List.{filter}
-use Rattle.sctp_util.proofs.Cases.{same-is}
-use Rattle.sctp_util.proofs.Edits.{those-append}
-use Rattle.sctp_data.specs.declared.chunk.chunk_payload_data.ChunkPayloadData.{ChunkPayloadData}
-use Rattle.sctp_data.specs.declared.chunk.chunk_forward_tsn.ChunkForwardTsnStream.{ChunkForwardTsnStream}
-use Rattle.sctp_outbound.specs.pending_queue.PendingQueue.{last_of}
-use Rattle.sctp_sender.specs.Abandonment.{IsFirstPair, IsNoPair, Name, is_pair_of, pair_of, pairs_of}
-use Rattle.sctp_serial.specs.DataChunks.{is_on}
-
--- ## A list with one element changed
-
-those-yes : {A : Type 0} (p : A → Bool) (y : A) (ys : List A) → p y ≡ true → filter p (y ∷ ys) ≡ y ∷ filter p ys
-those-yes p y ys e = ap (λ b. if b then y ∷ filter p ys else filter p ys) e
-
-those-no : {A : Type 0} (p : A → Bool) (y : A) (ys : List A) → p y ≡ false → filter p (y ∷ ys) ≡ filter p ys
-those-no p y ys e = ap (λ b. if b then y ∷ filter p ys else filter p ys) e
-
-none-left : {A : Type 0} (xs : List A) → length xs < 1 → xs ≡ []
-none-left [] lt = refl
-none-left (x ∷ xs) lt = absurd (omega (arith, lt))
-
-module _ {A : Type 0} (p : A → Bool) (x : A) where
-  those-set-only : (ys : List A) (k : ℕ) → p x ≡ true → k < length ys → ((j : ℕ) (d : A) → j < k → p (get_or ys j d) ≡ false)
-      → ((d : A) → p (get_or ys k d) ≡ true) → length (filter p ys) < 2 → filter p (set ys k x) ≡ x ∷ []
-  those-set-only [] k passes lt before here few = absurd (omega (arith, lt))
-  those-set-only (y ∷ ys) zero passes lt before here few =
-      let n = ap length (those-yes p y ys (here y)) in
-      those-yes p x ys passes ∙ ap (λ zs. x ∷ zs) (none-left (filter p ys) (omega (arith, n, few)))
-  those-set-only (y ∷ ys) (suc k) passes lt before here few =
-      let fails = before zero y (omega arith) in
-      let n = ap length (those-no p y ys fails) in
-      those-no p y (set ys k x) fails
-      ∙ those-set-only ys k passes (omega (arith, lt)) (λ j d less. before (suc j) d (omega (arith, less))) here (omega (arith, n, few))
-
-  those-set-other : (ys : List A) (k : ℕ) → p x ≡ false → k < length ys → ((d : A) → p (get_or ys k d) ≡ false) → filter p (set ys k x) ≡ filter p ys
-  those-set-other [] k fails lt here = absurd (omega (arith, lt))
-  those-set-other (y ∷ ys) zero fails lt here = those-no p x ys fails ∙ sym (those-no p y ys (here y))
-  those-set-other (y ∷ ys) (suc k) fails lt here = by (p y) (those-set-other ys k fails (omega (arith, lt)) here)
-    where
-      by : (b : Bool) → filter p (set ys k x) ≡ filter p ys
-          → (if b then y ∷ filter p (set ys k x) else filter p (set ys k x)) ≡ (if b then y ∷ filter p ys else filter p ys)
-      by true e = ap (λ zs. y ∷ zs) e
-      by false e = e
-
-  those-absent : (ys : List A) → ((k : ℕ) (d : A) → k < length ys → p (get_or ys k d) ≡ false) → filter p ys ≡ []
-  those-absent [] none = refl
-  those-absent (y ∷ ys) none = those-no p y ys (none zero y (omega arith)) ∙ those-absent ys (λ k d lt. none (suc k) d (omega (arith, lt)))
-
--- ## One chunk more
-
-pub last-push : (xs : List ChunkPayloadData) (c : ChunkPayloadData) → last_of (xs ++ c ∷ []) ≡ Some c
-last-push [] c = refl
-last-push (x ∷ []) c = refl
-last-push (x ∷ y ∷ ys) c = last-push (y ∷ ys) c
-
-at-most-one : (o : Option ChunkPayloadData) → length (pairs_of o) < 2
-at-most-one None = omega arith
-at-most-one (Some c) = omega arith
-
-module _ (cs : List ChunkPayloadData) (c : ChunkPayloadData) (s : ℕ) where
-  same-stream : is_on s c ≡ true → pairs_of (last_of (filter (is_on s) (cs ++ c ∷ []))) ≡ pair_of c ∷ []
-  same-stream e =
-      ap (λ xs. pairs_of (last_of xs)) (those-append (is_on s) cs (c ∷ []) ∙ ap (λ xs. filter (is_on s) cs ++ xs) (those-yes (is_on s) c [] e))
-      ∙ ap pairs_of (last-push (filter (is_on s) cs) c)
-
-  other-stream : is_on s c ≡ false → pairs_of (last_of (filter (is_on s) (cs ++ c ∷ []))) ≡ pairs_of (last_of (filter (is_on s) cs))
-  other-stream e = ap (λ xs. pairs_of (last_of xs))
-      (those-append (is_on s) cs (c ∷ []) ∙ ap (λ xs. filter (is_on s) cs ++ xs) (those-no (is_on s) c [] e) ∙ append-nil (filter (is_on s) cs))
-
-pub renamed : (ps : List ChunkForwardTsnStream) (cs : List ChunkPayloadData) (c : ChunkPayloadData) (k : ℕ) → IsFirstPair c.stream_identifier ps k → Name ps cs
-    → Name (set ps k (pair_of c)) (cs ++ c ∷ [])
-renamed ps cs c k first names s = by (is_on s c) refl
-  where
-    by : (b : Bool) → is_on s c ≡ b → filter (is_pair_of s) (set ps k (pair_of c)) ≡ pairs_of (last_of (filter (is_on s) (cs ++ c ∷ [])))
-    by true e =
-        let same = same-is c.stream_identifier s e in
-        let f = subst (λ t. IsFirstPair t ps k) same first in
-        those-set-only (is_pair_of s) (pair_of c) ps k e f.inside f.before f.here
-        (subst (λ xs. length xs < 2) (sym (names s)) (at-most-one (last_of (filter (is_on s) cs)))) ∙ sym (same-stream cs c s e)
-    by false e =
-        those-set-other (is_pair_of s) (pair_of c) ps k e first.inside (λ d. let h = same-is (get_or ps k d).identifier c.stream_identifier (first.here d) in
-        ap (λ n. n == s) h ∙ e) ∙ names s ∙ sym (other-stream cs c s e)
-
-pub added : (ps : List ChunkForwardTsnStream) (cs : List ChunkPayloadData) (c : ChunkPayloadData) → IsNoPair c.stream_identifier ps (length ps) → Name ps cs
-    → Name (ps ++ pair_of c ∷ []) (cs ++ c ∷ [])
-added ps cs c none names s = by (is_on s c) refl
-  where
-    by : (b : Bool) → is_on s c ≡ b → filter (is_pair_of s) (ps ++ pair_of c ∷ []) ≡ pairs_of (last_of (filter (is_on s) (cs ++ c ∷ [])))
-    by true e =
-        let same = same-is c.stream_identifier s e in
-        let f = subst (λ t. IsNoPair t ps (length ps)) same none in
-        those-append (is_pair_of s) ps (pair_of c ∷ []) ∙ ap (λ xs. xs ++ filter (is_pair_of s) (pair_of c ∷ [])) (those-absent (is_pair_of s) (pair_of c) ps f)
-        ∙ those-yes (is_pair_of s) (pair_of c) [] e ∙ sym (same-stream cs c s e)
-    by false e =
-        those-append (is_pair_of s) ps (pair_of c ∷ []) ∙ ap (λ xs. filter (is_pair_of s) ps ++ xs) (those-no (is_pair_of s) (pair_of c) [] e)
-        ∙ append-nil (filter (is_pair_of s) ps) ∙ names s ∙ sym (other-stream cs c s e)
-
--- inside a list the default does not matter
-pub any-default : {A : Type 0} (xs : List A) (k : ℕ) (d e : A) → k < length xs → get_or xs k d ≡ get_or xs k e
-any-default [] k d e lt = absurd (omega (arith, lt))
-any-default (x ∷ xs) zero d e lt = refl
-any-default (x ∷ xs) (suc k) d e lt = any-default xs k d e (omega (arith, lt))
+-- The names that most of these proofs cite, passed on from one place. Declares nothing.
+pub use Rattle.std.proofs.Common.{◌≡◌, sym, ◌∙◌, ap, length, ◌+◌, arith, List, ℕ, subst, ◌≤◌, ◌<◌, true, get_or, false, refl, [], ◌∷◌, take, suc, Some, None}
+pub use Rattle.std.proofs.Common.{drop, Bool, ◌++◌, ◌-◌, Option, zero, map, inr, inl, ◌^◌, rules, ◌%◌, set, ◌*◌, length-append, Result, slice_get, Ok, Err, ◌≢◌}
+pub use Rattle.std.proofs.Common.{length-drop, append_assoc, length-set, ◌/◌}
+pub use Rattle.sctp_data.specs.declared.chunk.chunk_payload_data.ChunkPayloadData.{ChunkPayloadData}
+pub use Rattle.sctp_sender.specs.Flight.{Flight, IsContiguous, is_outdated, sack_refusal, tsns_from, released_of, reports, reports_anew, can_resend}
+pub use Rattle.sctp_sender.specs.Flight.{count_acked, with_queue, after_sack, is_outstanding_in, take_sack, may_send, has_tail_at, released_by, is_within}
+pub use Rattle.sctp_sender.specs.Flight.{after_abandonment, message_to_abandon, resent, is_whole, is_half}
+pub use Rattle.std.specs.Prelude.{if◌then◌else◌, ◌&&◌, not, find, ◌||◌, nat_lt, is_some, ◌==◌, IfSome, nat_le, option_map, slice_index_or, OnOk, ◌⊎◌}
+pub use Rattle.std.specs.Prelude.{vec_capacity, IsOk, OnErr, IfOk, min, max, option_to_list, MatchOption, nat_eq, cond, IfErr}
+pub use Rattle.sctp_data.specs.declared.chunk.chunk_selective_ack.GapAckBlock.{GapAckBlock}
+pub use Rattle.std.specs.List.{list_any, filter, All, count_by, list_all, sum_by}
+pub use Rattle.sctp_outbound.specs.outbound_queue.OutboundQueue.{Outbound, with_inflight, total_bytes, all_started, as_sent, sent_next, sent_of}
+pub use Rattle.sctp_outbound.specs.outbound_queue.OutboundQueue.{with_terminal_chunk, abandoned_of, terminal_chunk, expired_of, to_abandon, expiring}
+pub use Rattle.sctp_outbound.specs.outbound_queue.OutboundQueue.{message_of, with_message, has_tail, append_chunks, with_message_id, expiring_tail, is_late}
+pub use Rattle.std.proofs.lemmas.Bool.Decides.{nat_tests}
+pub use Rattle.sctp_serial.specs.DataChunks.{has_tsn, following_tsn, tsns, chunk_before, bytes_of, is_on}
+pub use Rattle.sctp_util.specs.Lists.{change_where, insert_before, change_at}
+pub use Rattle.sctp_outbound.specs.payload_queue.Blocks.{is_in_blocks, is_in_block}
+pub use Rattle.std.proofs.lemmas.Option.{none-some, slice_get-get_or}
+pub use Rattle.std.proofs.lemmas.Bool.{false≢true, cases_lt, eq-eqb, ne_eqb, cases_eq}
+pub use Rattle.sctp_sender.specs.Reporting.{AreKnown, ascends_from, AreSorted, after_blocks, after_block, goes_from_to, HasEnds}
+pub use Rattle.sctp_data.specs.SelectiveAck.{Sack, sack_of}
+pub use Rattle.sctp_sender.specs.Totals.{IsAllSettled, AreSettled, bytes_in}
+pub use Rattle.std.proofs.lemmas.List.{get_or_default, length-map, take-append-drop, get_or-map, take_more, append-nil, drop_more, get_or-drop, get_or_past}
+pub use Rattle.std.proofs.lemmas.List.{map-append, length_push, get_or_append_left, length-take-le, take_all, drop_all}
+pub use Rattle.sctp_sender.specs.Keeping.{IsCovered, AreReported, with_restored, Cover, restored, back_each, is_at, placed, answered_back, bytes_back, tells_of}
+pub use Rattle.sctp_sender.specs.Keeping.{answered_of_placed, return_at, after_returns, kept_after, put_all, bytes_coming, put_back, IsOwn, with_reported_again}
+pub use Rattle.sctp_sender.specs.Keeping.{blocks_left, is_uncovered, restored_with, places_kept, returns_at, rises_from, filled, keep_each, kept_from, trimmed}
+pub use Rattle.sctp_sender.specs.Keeping.{reported_again, can_come_back, takes_back, data_after, ArePassed, can_at, blocks_after, keep, HaveOwnTsns}
+pub use Rattle.sctp_sender.specs.Keeping.{as_reported}
+pub use Rattle.sctp_sender.specs.Sender.{Transmission, take_back_refusal, taken_back_by, with_streams, back_by, after_take_back, is_open, after_acked}
+pub use Rattle.sctp_sender.specs.Sender.{with_flight, or_full, write_refusal, after_abandon}
+pub use Rattle.sctp_sender.specs.declared.sender.flight.Released.{Released}
+pub use Rattle.sctp_sender.specs.declared.sender.flight.returns.PlacedData.{PlacedData}
+pub use Rattle.sctp_util.specs.Serial.{distance, comes_before, at_or_before}
+pub use Rattle.sctp_stream.specs.declared.outbound_stream.OutboundStream.{OutboundStream}
+pub use Rattle.sctp_util.proofs.Cases.{or-left, or-right, or-none, same-is, and-none, same-yes, and-true, some-same, negated, by_last, or-split}
+pub use Rattle.sctp_sender.specs.SideBySide.{messages_of, StandSideBySide, is_number, number_of_half, IsApartAt, messages_in_line}
+pub use Rattle.sctp_outbound.specs.Marks.{as_acknowledged, as_abandoned, is_of, with_retransmit, is_outstanding, as_taken_back, with_nsent, IsBetween}
+pub use Rattle.sctp_sender.specs.Outgoing.{number, with_reliability, after_releases, fragments_with_mode, has_number, numbers_of, with_size, after_expiries}
+pub use Rattle.sctp_sender.specs.Outgoing.{less_by}
+pub use Rattle.sctp_outbound.specs.pending_queue.PendingQueue.{next_pending, last_removed, Pending, start_pending, is_to_start, with_deadline, without}
+pub use Rattle.sctp_outbound.specs.pending_queue.PendingQueue.{closed_up, list_to_pop, last_of, front_of, list_of, one_lower, next_pending_of, rest_from}
+pub use Rattle.sctp_outbound.specs.pending_queue.PendingQueue.{rest_of}
+pub use Rattle.sctp_util.proofs.Edits.{list_any-append, length-change_where, those-more, change_where-only, those-append, list_any-those, OnlyAt}
+pub use Rattle.sctp_util.proofs.More.{not_both, fails, and, both, length-changed}
+pub use Rattle.sctp_sender.specs.declared.sender.flight.kept.TakenBack.{TakenBack}
+pub use Rattle.sctp_stream.proofs.StreamPlaces.{inside, absent-change, changed, numbers-stay, absent-find, found}
+pub use Rattle.sctp_sender.specs.Abandonment.{Name, is_named, advanced_ack_point, ahead, IsFirstPair, IsNoPair, IsLastEnd, is_pair_of, pair_of, IsMore}
+pub use Rattle.sctp_sender.specs.Abandonment.{can_skip_to, is_kept}
+pub use Rattle.sctp_sender.specs.declared.sender.refusal.SenderRefusal.{SenderRefusal}
+pub use Rattle.sctp_data.specs.declared.chunk.chunk_forward_tsn.ChunkForwardTsnStream.{ChunkForwardTsnStream}
+pub use Rattle.sctp_sender.specs.Resending.{can_miss, missed, AreUnmarked, is_worn, is_to_resend, resent_at, after_misses, all_marked, are_listed, worn_tsns}
+pub use Rattle.sctp_sender.specs.Resending.{is_third, sent_again}
+pub use Rattle.std.proofs.lemmas.List.Sums.{sum_by-cons, sum_by-append, length-filter, count_by_more_yes}
+pub use Rattle.sctp_sender.specs.Telling.{no_message, is_answered, is_open_of, is_reached, AreInFlight, PicksAnew, judged, is_of_chunk, PicksOpen, is_closed}
+pub use Rattle.sctp_outbound.specs.pending_queue.Whole.{partially_sent, IsSendable, ends, waits, IsMessageOrNone}
+pub use Rattle.sctp_sender.specs.declared.sender.flight.kept.Kept.{Kept}
+pub use Rattle.sctp_sender.specs.declared.sender.flight.late.AbandonedMessage.{AbandonedMessage}
+pub use Rattle.sctp_sender.specs.Costs.{PicksLeftOut, to_sort, sack_turns, is_left_out, take_back_turns, unknown_from, keeping_turns, distances_in, anew_turns}
+pub use Rattle.sctp_sender.specs.Costs.{chunks_of}
+pub use Rattle.sctp_sender.specs.Thresholds.{with_lows, with_message_lows, falls_in, falls_on, tells_message_low}
+pub use Rattle.sctp_sender.specs.Late.{abandoned_at, leaving_each, abandoned_each, after_leaving, with_tail, late_order, tail_first}
+pub use Rattle.sctp_data.specs.declared.chunk.chunk_payload_data.PayloadProtocolIdentifier.{PayloadProtocolIdentifier}
+pub use Rattle.sctp_stream.specs.Stream.{fragment_at, fragments_of, pieces_of, new_stream}
+pub use Rattle.sctp_stream.specs.Numbers.{IsAbsent, IsOnlyPlace}
+pub use Rattle.sctp_sender.specs.declared.sender.refusal.SenderRefusal.TheVariants.{QueueFull, InflightQueueTsnPop, TsnRequestNotExist, OutOfMemory}
+pub use Rattle.sctp_sender.specs.declared.sender.flight.anew.Anew.{Anew}
+pub use Rattle.sctp_outbound.proofs.lemmas.outbound_queue.Abandoned.{last_removed_none}
+pub use Rattle.sctp_util.proofs.Getting.{map-twice}
+pub use Rattle.sctp_sender.specs.Numbers.{is_ordered_on}
+pub use Rattle.std.proofs.lemmas.Grind.{common_steps}
+pub use Rattle.std.specs.VecDeque.{deque_capacity}
+pub use Rattle.std.proofs.lemmas.List.Folds.{list_any_none}
+pub use Rattle.sctp_util.specs.Kept.{numbers_from}
+pub use Rattle.sctp_outbound.specs.payload_queue.PayloadQueue.{without_front, past}
+pub use Rattle.sctp_data.specs.ChunkSet.{fresh}
+pub use Rattle.sctp_outbound.proofs.lemmas.outbound_queue.Sendable.{sendable-changed, sendable-sent, found_in, partial_gone, partial_in_front}
+pub use Rattle.sctp_outbound.proofs.lemmas.pending_queue.Waiting.{bytes_of-change_where}
+pub use Rattle.sctp_outbound.proofs.lemmas.pending_queue.CompleteMessages.{KeepsMessage}
+pub use Rattle.sctp_outbound.proofs.lemmas.outbound_queue.Outbounds.{peeked_all_started}
+pub use Rattle.sctp_sender.specs.Settings.{is_drained}
+pub use Rattle.std.proofs.lemmas.List.Edits.{map_over_more}

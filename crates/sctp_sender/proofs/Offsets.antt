@@ -1,12 +1,8 @@
 -- The distances that gap ack blocks report, marked one by one.
-use Rattle.std.proofs.Common.{◌≡◌, ℕ, zero, suc, ◌+◌, ◌<◌, ◌≤◌, Bool, true, false, List, [], ◌∷◌, length, get_or, refl, ap, sym, ◌∙◌, arith}
-use Rattle.std.specs.Prelude.{if◌then◌else◌, ◌&&◌, ◌||◌, nat_lt, nat_le, max}
-use Rattle.std.specs.List.{list_any}
+use Rattle.sctp_sender.proofs.Names.{◌≡◌, ℕ, zero, suc, ◌+◌, ◌<◌, ◌≤◌, Bool, true, false, List, [], ◌∷◌, length, get_or, refl, ap, sym, ◌∙◌, arith}
+use Rattle.sctp_sender.proofs.Names.{if◌then◌else◌, ◌&&◌, ◌||◌, nat_lt, nat_le, max, list_any, nat_tests, GapAckBlock, is_in_block, is_in_blocks, after_block}
+use Rattle.sctp_sender.proofs.Names.{after_blocks, goes_from_to, HasEnds}
 use Rattle.std.specs.Ordering.{nat_cmp, ord_max}
-use Rattle.std.proofs.lemmas.Bool.Decides.{nat_tests}
-use Rattle.sctp_data.specs.declared.chunk.chunk_selective_ack.GapAckBlock.{GapAckBlock}
-use Rattle.sctp_outbound.specs.payload_queue.Blocks.{is_in_block, is_in_blocks}
-use Rattle.sctp_sender.specs.Reporting.{after_block, after_blocks, goes_from_to, HasEnds}
 
 -- ## One more than the greatest distance
 

@@ -1,16 +1,8 @@
 -- Whether a chunk of a message is open, found by the chunks that stand beside one of it.
-use Rattle.std.proofs.Common.{◌≡◌, ◌≢◌, ℕ, zero, suc, ◌+◌, ◌-◌, ◌<◌, ◌≤◌, Bool, true, false, List, [], ◌∷◌, length, take, drop, get_or, ap, sym, ◌∙◌}
-use Rattle.std.proofs.Common.{subst, inl, inr, arith}
-use Rattle.std.specs.Prelude.{◌&&◌, ◌||◌, nat_eq}
-use Rattle.std.specs.List.{list_any}
-use Rattle.std.proofs.lemmas.Bool.{cases_lt, ne_eqb}
-use Rattle.std.proofs.lemmas.Bool.Decides.{nat_tests}
-use Rattle.std.proofs.lemmas.List.{take-append-drop}
-use Rattle.sctp_util.proofs.Cases.{or-left, or-right}
-use Rattle.sctp_util.proofs.Edits.{list_any-append}
-use Rattle.sctp_data.specs.declared.chunk.chunk_payload_data.ChunkPayloadData.{ChunkPayloadData}
-use Rattle.sctp_sender.specs.SideBySide.{IsApartAt, StandSideBySide, messages_of}
-use Rattle.sctp_sender.specs.Telling.{is_open, is_open_of}
+use Rattle.sctp_sender.proofs.Names.{◌≡◌, ◌≢◌, ℕ, zero, suc, ◌+◌, ◌-◌, ◌<◌, ◌≤◌, Bool, true, false, List, [], ◌∷◌, length, take, drop, get_or, ap, sym, ◌∙◌}
+use Rattle.sctp_sender.proofs.Names.{subst, inl, inr, arith, ◌&&◌, ◌||◌, nat_eq, list_any, cases_lt, ne_eqb, nat_tests, take-append-drop, or-left, or-right}
+use Rattle.sctp_sender.proofs.Names.{list_any-append, ChunkPayloadData, IsApartAt, StandSideBySide, messages_of, is_open_of}
+use Rattle.sctp_sender.specs.Telling.{is_open}
 use Rattle.sctp_sender.proofs.CompleteMessages.{cut-at}
 use Rattle.sctp_sender.proofs.Places.{none-dropped, none-taken}
 

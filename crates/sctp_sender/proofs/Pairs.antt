@@ -1,14 +1,8 @@
 -- Where the pair of a stream stands.
-use Rattle.std.proofs.Common.{◌≡◌, ℕ, zero, suc, ◌<◌, true, List, [], ◌∷◌, length, set, get_or, slice_get, Option, Some, None, ap, sym}
-use Rattle.std.proofs.Common.{subst, ◌∙◌, arith}
-use Rattle.std.specs.Prelude.{IfSome, MatchOption}
-use Rattle.std.proofs.lemmas.Bool.{eq-eqb, false≢true}
-use Rattle.std.proofs.lemmas.Option.{none-some}
-use Rattle.sctp_util.proofs.Cases.{same-is}
-use Rattle.sctp_util.proofs.More.{fails}
-use Rattle.sctp_data.specs.declared.chunk.chunk_forward_tsn.ChunkForwardTsnStream.{ChunkForwardTsnStream}
-use Rattle.sctp_stream.specs.Numbers.{IsAbsent, IsOnlyPlace}
-use Rattle.sctp_sender.specs.Abandonment.{IsFirstPair, IsNoPair, is_pair_of, streams_of}
+use Rattle.sctp_sender.proofs.Names.{◌≡◌, ℕ, zero, suc, ◌<◌, true, List, [], ◌∷◌, length, set, get_or, slice_get, Option, Some, None, ap, sym, subst, ◌∙◌}
+use Rattle.sctp_sender.proofs.Names.{arith, IfSome, MatchOption, eq-eqb, false≢true, none-some, same-is, fails, ChunkForwardTsnStream, IsAbsent, IsOnlyPlace}
+use Rattle.sctp_sender.proofs.Names.{IsFirstPair, IsNoPair, is_pair_of}
+use Rattle.sctp_sender.specs.Abandonment.{streams_of}
 
 any_pair : ChunkForwardTsnStream
 any_pair = record { identifier = 0; sequence = 0 }

@@ -1,27 +1,11 @@
 -- What comes back, with its place.
-use Rattle.std.proofs.Common.{◌≡◌, ℕ, zero, suc, ◌+◌, ◌<◌, ◌≤◌, ◌%◌, ◌^◌, List, [], ◌∷◌, ◌++◌, length, map, take, drop}
-use Rattle.std.proofs.Common.{true, false, get_or, set}
-use Rattle.std.proofs.Common.{Option, Some, None, refl, ap, sym, subst, ◌∙◌, arith}
-use Rattle.std.specs.List.{All, list_any}
-use Rattle.std.specs.Prelude.{◌==◌, ◌&&◌, ◌||◌, is_some, nat_le}
-use Rattle.std.proofs.lemmas.Bool.Decides.{nat_tests}
-use Rattle.std.proofs.lemmas.List.{append_assoc, drop_more, length-take-le, take_more, take-append-drop}
-use Rattle.std.proofs.lemmas.List.Sums.{sum_by-append, sum_by-cons}
-use Rattle.std.proofs.lemmas.Option.{none-some}
-use Rattle.sctp_util.specs.Lists.{change_at}
-use Rattle.sctp_util.proofs.More.{length-changed}
-use Rattle.sctp_data.specs.declared.chunk.chunk_payload_data.ChunkPayloadData.{ChunkPayloadData}
-use Rattle.sctp_data.specs.SelectiveAck.{Sack}
-use Rattle.sctp_outbound.specs.Marks.{as_taken_back}
-use Rattle.sctp_sender.specs.declared.sender.flight.kept.TakenBack.{TakenBack}
-use Rattle.sctp_sender.specs.declared.sender.flight.returns.PlacedData.{PlacedData}
-use Rattle.sctp_sender.specs.Keeping.{answered_back, back_each, bytes_back, bytes_coming, placed, put_back, restored, answered_of_placed}
-use Rattle.sctp_sender.specs.Keeping.{is_at, rises_from, with_restored}
-use Rattle.sctp_outbound.specs.outbound_queue.OutboundQueue.{with_inflight}
-use Rattle.sctp_outbound.specs.pending_queue.Whole.{partially_sent}
-use Rattle.sctp_serial.specs.DataChunks.{following_tsn}
-use Rattle.sctp_sender.specs.Flight.{Flight, IsContiguous, tsns_from, with_queue}
-use Rattle.sctp_sender.specs.SideBySide.{StandSideBySide, number_of_half}
+use Rattle.sctp_sender.proofs.Names.{◌≡◌, ℕ, zero, suc, ◌+◌, ◌<◌, ◌≤◌, ◌%◌, ◌^◌, List, [], ◌∷◌, ◌++◌, length, map, take, drop, true, false, get_or, set, Option}
+use Rattle.sctp_sender.proofs.Names.{Some, None, refl, ap, sym, subst, ◌∙◌, arith, All, list_any, ◌==◌, ◌&&◌, ◌||◌, is_some, nat_le, nat_tests, drop_more}
+use Rattle.sctp_sender.proofs.Names.{length-take-le, take_more, take-append-drop, sum_by-append, sum_by-cons, none-some, change_at, length-changed}
+use Rattle.sctp_sender.proofs.Names.{ChunkPayloadData, Sack, as_taken_back, TakenBack, PlacedData, answered_back, back_each, bytes_back, bytes_coming, placed}
+use Rattle.sctp_sender.proofs.Names.{put_back, restored, answered_of_placed, is_at, rises_from, with_restored, with_inflight, partially_sent, following_tsn}
+use Rattle.sctp_sender.proofs.Names.{Flight, IsContiguous, tsns_from, with_queue, StandSideBySide, number_of_half}
+use Rattle.std.proofs.lemmas.List.{append_assoc}
 use Rattle.sctp_sender.proofs.Runs.{any_chunk}
 
 abbrev Data : Type 0
@@ -137,7 +121,7 @@ set-change f [] i d lt = absurd (omega (arith, lt))
 set-change f (x ∷ xs) zero d lt = refl
 set-change f (x ∷ xs) (suc i) d lt = ap (λ ys. x ∷ ys) (set-change f xs i d (omega (arith, lt)))
 
-changed-seam : {A : Type 0} (f : A → A) (n : ℕ) (xs : List A) (x : A) (ys : List A) → length xs ≡ n → change_at f n (xs ++ x ∷ ys) ≡ xs ++ f x ∷ ys
+pub changed-seam : {A : Type 0} (f : A → A) (n : ℕ) (xs : List A) (x : A) (ys : List A) → length xs ≡ n → change_at f n (xs ++ x ∷ ys) ≡ xs ++ f x ∷ ys
 changed-seam f zero [] x ys e = refl
 changed-seam f (suc n) [] x ys e = absurd (omega (arith, e))
 changed-seam f zero (z ∷ xs) x ys e = absurd (omega (arith, e))

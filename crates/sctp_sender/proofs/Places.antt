@@ -1,17 +1,8 @@
 -- Where the chunks of a message stand in flight.
-use Rattle.std.proofs.Common.{◌≡◌, ℕ, zero, suc, ◌+◌, ◌<◌, ◌≤◌, ◌%◌, ◌^◌, Bool, true, false, List, [], ◌∷◌, length, take, drop, get_or, Some, refl}
-use Rattle.std.proofs.Common.{ap, sym, ◌∙◌, arith}
-use Rattle.std.specs.Prelude.{◌||◌, find}
-use Rattle.std.specs.List.{list_any}
-use Rattle.std.proofs.lemmas.Bool.{ne_eqb}
-use Rattle.std.proofs.lemmas.Bool.Decides.{nat_tests}
-use Rattle.std.proofs.lemmas.List.{get_or_default}
+use Rattle.sctp_sender.proofs.Names.{◌≡◌, ℕ, zero, suc, ◌+◌, ◌<◌, ◌≤◌, ◌%◌, ◌^◌, Bool, true, false, List, [], ◌∷◌, length, take, drop, get_or, Some, refl, ap}
+use Rattle.sctp_sender.proofs.Names.{sym, ◌∙◌, arith, ◌||◌, find, list_any, ne_eqb, nat_tests, get_or_default, ChunkPayloadData, IsBetween, is_of}
+use Rattle.sctp_sender.proofs.Names.{following_tsn, has_tsn, Flight, IsContiguous, IsApartAt}
 use Rattle.sctp_util.specs.Serial.{distance}
-use Rattle.sctp_data.specs.declared.chunk.chunk_payload_data.ChunkPayloadData.{ChunkPayloadData}
-use Rattle.sctp_outbound.specs.Marks.{IsBetween, is_of}
-use Rattle.sctp_serial.specs.DataChunks.{following_tsn, has_tsn}
-use Rattle.sctp_sender.specs.Flight.{Flight, IsContiguous}
-use Rattle.sctp_sender.specs.SideBySide.{IsApartAt}
 use Rattle.sctp_sender.proofs.Lates.{found-passes}
 use Rattle.sctp_sender.proofs.Points.{found-place}
 use Rattle.sctp_sender.proofs.Runs.{tsn-at}

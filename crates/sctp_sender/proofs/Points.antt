@@ -1,14 +1,10 @@
 -- How far a FORWARD-TSN can go.
-use Rattle.std.proofs.Common.{◌≡◌, ℕ, zero, suc, ◌+◌, ◌<◌, ◌≤◌, ◌%◌, ◌^◌, Bool, true, false, List, [], ◌∷◌, ◌++◌, length, take, get_or, slice_get, Option, Some}
-use Rattle.std.proofs.Common.{None, refl, ap, sym, ◌∙◌, arith}
-use Rattle.std.specs.Prelude.{if◌then◌else◌, find, option_map, unwrap_or}
-use Rattle.std.specs.List.{filter}
+use Rattle.sctp_sender.proofs.Names.{◌≡◌, ℕ, zero, suc, ◌+◌, ◌<◌, ◌≤◌, ◌%◌, ◌^◌, Bool, true, false, List, [], ◌∷◌, ◌++◌, length, take, get_or, slice_get}
+use Rattle.sctp_sender.proofs.Names.{Option, Some, None, refl, ap, sym, ◌∙◌, arith, if◌then◌else◌, find, option_map, filter, those-more, ChunkPayloadData}
+use Rattle.sctp_sender.proofs.Names.{following_tsn, Flight, IsContiguous, advanced_ack_point, ahead, is_kept, is_named}
+use Rattle.std.specs.Prelude.{unwrap_or}
 use Rattle.sctp_util.specs.Serial.{distance}
-use Rattle.sctp_util.proofs.Edits.{those-more}
-use Rattle.sctp_data.specs.declared.chunk.chunk_payload_data.ChunkPayloadData.{ChunkPayloadData}
-use Rattle.sctp_serial.specs.DataChunks.{following_tsn, preceding_tsn}
-use Rattle.sctp_sender.specs.Flight.{Flight, IsContiguous}
-use Rattle.sctp_sender.specs.Abandonment.{advanced_ack_point, ahead, is_kept, is_named}
+use Rattle.sctp_serial.specs.DataChunks.{preceding_tsn}
 use Rattle.sctp_sender.proofs.Runs.{tsn-at}
 use Rattle.sctp_sender.proofs.Walks.{read-of}
 

@@ -1,30 +1,12 @@
 -- Which places in flight a SACK reports.
-use Rattle.std.proofs.Common.{◌≡◌, ℕ, zero, suc, ◌+◌, ◌-◌, ◌<◌, ◌≤◌, ◌%◌, ◌^◌, Bool, true, false, List, [], ◌∷◌, length, length-drop, map, drop, get_or, Option}
-use Rattle.std.proofs.Common.{Some}
-use Rattle.std.proofs.Common.{None, refl, ap, sym, ◌∙◌, inl, inr, arith}
-use Rattle.std.specs.Prelude.{if◌then◌else◌, ◌&&◌, ◌||◌, not, nat_le, nat_lt}
-use Rattle.std.specs.List.{filter, list_all, list_any}
-use Rattle.std.proofs.lemmas.Bool.{cases_lt}
-use Rattle.std.proofs.lemmas.Bool.Decides.{nat_tests}
-use Rattle.std.proofs.lemmas.List.{get_or-drop, get_or-map}
-use Rattle.std.proofs.lemmas.Option.{none-some}
-use Rattle.sctp_util.specs.Lists.{change_where}
-use Rattle.sctp_util.specs.Serial.{distance, at_or_before}
-use Rattle.sctp_util.proofs.Edits.{length-change_where}
-use Rattle.sctp_data.specs.declared.chunk.chunk_payload_data.ChunkPayloadData.{ChunkPayloadData}
-use Rattle.sctp_data.specs.declared.chunk.chunk_selective_ack.GapAckBlock.{GapAckBlock}
-use Rattle.sctp_data.specs.SelectiveAck.{Sack}
-use Rattle.sctp_outbound.specs.Marks.{as_acknowledged}
-use Rattle.sctp_outbound.specs.payload_queue.Blocks.{is_in_block, is_in_blocks}
-use Rattle.sctp_outbound.specs.pending_queue.Whole.{partially_sent}
-use Rattle.sctp_serial.specs.DataChunks.{following_tsn}
-use Rattle.sctp_sender.specs.declared.sender.flight.Released.{Released}
-use Rattle.sctp_sender.specs.declared.sender.refusal.SenderRefusal.{SenderRefusal}
-use Rattle.sctp_sender.specs.declared.sender.refusal.SenderRefusal.TheVariants.{InflightQueueTsnPop, TsnRequestNotExist}
-use Rattle.sctp_sender.specs.Flight.{Flight, IsContiguous, count_acked, is_half, is_outdated, is_whole, is_within, released_of, reports, reports_anew}
-use Rattle.sctp_sender.specs.Flight.{sack_refusal}
-use Rattle.sctp_sender.specs.Reporting.{AreKnown, AreSorted}
-use Rattle.sctp_sender.specs.Telling.{PicksAnew, is_closed, is_open_of, is_reached, judged, no_message}
+use Rattle.sctp_sender.proofs.Names.{◌≡◌, ℕ, zero, suc, ◌+◌, ◌-◌, ◌<◌, ◌≤◌, ◌%◌, ◌^◌, Bool, true, false, List, [], ◌∷◌, length, length-drop, map, drop, get_or}
+use Rattle.sctp_sender.proofs.Names.{Option, Some, None, refl, ap, sym, ◌∙◌, inl, inr, arith, if◌then◌else◌, ◌&&◌, ◌||◌, not, nat_le, nat_lt, filter, list_all}
+use Rattle.sctp_sender.proofs.Names.{list_any, cases_lt, nat_tests, get_or-drop, get_or-map, none-some, change_where, at_or_before, length-change_where}
+use Rattle.sctp_sender.proofs.Names.{ChunkPayloadData, GapAckBlock, Sack, as_acknowledged, is_in_block, is_in_blocks, partially_sent, following_tsn, Released}
+use Rattle.sctp_sender.proofs.Names.{SenderRefusal, InflightQueueTsnPop, TsnRequestNotExist, Flight, IsContiguous, count_acked, is_half, is_outdated, is_whole}
+use Rattle.sctp_sender.proofs.Names.{is_within, released_of, reports, reports_anew, sack_refusal, AreKnown, AreSorted, PicksAnew, is_closed, is_open_of}
+use Rattle.sctp_sender.proofs.Names.{is_reached, judged, no_message}
+use Rattle.sctp_util.specs.Serial.{distance}
 use Rattle.sctp_sender.proofs.Anew.{all-at, any-place, both}
 use Rattle.sctp_sender.proofs.Keepings.{taken-within}
 use Rattle.sctp_sender.proofs.Runs.{any_chunk, back, later, tsn-at}

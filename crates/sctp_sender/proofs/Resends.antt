@@ -1,22 +1,12 @@
 -- The first chunk in flight that is marked for retransmission, and what leaves with messages that are abandoned.
-use Rattle.std.proofs.Common.{◌≡◌, ℕ, Bool, true, false, List, [], ◌∷◌, ◌++◌, map, Option, Some, None, Result, Ok, Err, Vec, Global, refl, ap, sym, subst, ◌∙◌}
-use Rattle.std.proofs.Common.{arith}
-use Rattle.std.specs.Prelude.{IfOk, not, find, if◌then◌else◌, option_map, option_to_list}
-use Rattle.std.specs.List.{filter}
-use Rattle.std.proofs.lemmas.Option.{none-some}
-use Rattle.sctp_util.proofs.Cases.{negated}
-use Rattle.sctp_util.proofs.More.{both, not_both}
-use Rattle.sctp_data.specs.declared.chunk.chunk_payload_data.ChunkPayloadData.{ChunkPayloadData}
-use Rattle.sctp_outbound.specs.Marks.{is_outstanding}
-use Rattle.sctp_outbound.specs.outbound_queue.OutboundQueue.{has_tail, is_late, to_abandon}
-use Rattle.sctp_outbound.specs.pending_queue.PendingQueue.{Pending}
-use Rattle.sctp_serial.specs.DataChunks.{following_tsn, has_tsn}
-use Rattle.sctp_sender.specs.declared.sender.flight.late.AbandonedMessage.{AbandonedMessage}
-use Rattle.sctp_sender.specs.Flight.{Flight, IsContiguous, can_resend, has_tail_at, is_outstanding_in}
-use Rattle.sctp_sender.specs.Late.{abandoned_with, leaving_each, tail_first, with_tail}
-use Rattle.sctp_sender.specs.Resending.{count_again, fits, if_it_fits, is_to_resend, is_worn, sent_again}
-use Rattle.sctp_sender.specs.Thresholds.{with_message_lows}
-use Rattle.sctp_stream.specs.declared.stream.StreamState.{StreamState}
+use Rattle.sctp_sender.proofs.Names.{◌≡◌, ℕ, Bool, true, false, List, [], ◌∷◌, ◌++◌, map, Option, Some, None, Result, Ok, Err, refl, ap, sym, subst, ◌∙◌, arith}
+use Rattle.sctp_sender.proofs.Names.{IfOk, not, find, if◌then◌else◌, option_map, option_to_list, filter, none-some, negated, both, not_both, ChunkPayloadData}
+use Rattle.sctp_sender.proofs.Names.{is_outstanding, has_tail, is_late, to_abandon, Pending, following_tsn, has_tsn, AbandonedMessage, Flight, IsContiguous}
+use Rattle.sctp_sender.proofs.Names.{can_resend, has_tail_at, is_outstanding_in, leaving_each, tail_first, with_tail, is_to_resend, is_worn, sent_again}
+use Rattle.sctp_sender.proofs.Names.{with_message_lows, OutboundStream}
+use Rattle.std.proofs.Common.{Vec, Global}
+use Rattle.sctp_sender.specs.Late.{abandoned_with}
+use Rattle.sctp_sender.specs.Resending.{count_again, fits, if_it_fits}
 use Rattle.sctp_sender.proofs.Lates.{found-passes}
 use Rattle.sctp_sender.proofs.Points.{found-place}
 use Rattle.sctp_sender.proofs.Runs.{found-at, tsn-at}
@@ -104,7 +94,7 @@ pub none-on : {E : Type 0} (r : Result (Vec AbandonedMessage Global) E) (f : Fli
 none-on (Ok v) f us ts e h k = λ none. k (ap (λ ws. leaving_each (tail_first ws f) f) (sym e) ∙ sym h ∙ none)
 none-on (Err x) f us ts e h k = tt
 
-pub lows-none : (gs : List AbandonedMessage) (ls : List StreamState) → with_message_lows gs ls ≡ [] → gs ≡ []
+pub lows-none : (gs : List AbandonedMessage) (ls : List OutboundStream) → with_message_lows gs ls ≡ [] → gs ≡ []
 lows-none [] ls e = refl
 lows-none (g ∷ gs) ls e = cc
 

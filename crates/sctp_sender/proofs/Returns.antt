@@ -1,21 +1,10 @@
 -- A walk over the places where something can come back, and over the blocks of a SACK.
-use Rattle.std.proofs.Common.{◌≡◌, ℕ, zero, suc, ◌+◌, ◌-◌, ◌<◌, ◌≤◌, true, false, List, [], ◌∷◌, length, take, drop, get_or, refl, ap, sym}
-use Rattle.std.proofs.Common.{subst}
-use Rattle.std.proofs.Common.{◌∙◌, inl, inr, slice_get, None, arith}
-use Rattle.std.specs.Prelude.{Option, if◌then◌else◌, ◌&&◌, ◌||◌, not, nat_lt}
-use Rattle.std.proofs.lemmas.Bool.{cases_lt, false≢true}
-use Rattle.std.proofs.lemmas.Bool.Decides.{nat_tests}
-use Rattle.std.proofs.lemmas.List.{drop_more, get_or_default, take_more, take-append-drop}
-use Rattle.std.proofs.lemmas.Option.{none-some}
-use Rattle.sctp_util.proofs.Cases.{and-none, and-true, or-none, or-right}
-use Rattle.sctp_util.proofs.Edits.{list_any-append}
-use Rattle.sctp_util.proofs.More.{fails}
-use Rattle.sctp_data.specs.declared.chunk.chunk_payload_data.ChunkPayloadData.{ChunkPayloadData}
-use Rattle.sctp_data.specs.declared.chunk.chunk_selective_ack.GapAckBlock.{GapAckBlock}
-use Rattle.sctp_outbound.specs.payload_queue.Blocks.{is_in_block, is_in_blocks}
-use Rattle.sctp_sender.specs.Keeping.{ArePassed, can_at, return_at, returns_at, tells_of}
-use Rattle.sctp_sender.specs.Reporting.{ascends_from}
-use Rattle.sctp_sender.specs.Telling.{is_reached}
+use Rattle.sctp_sender.proofs.Names.{◌≡◌, ℕ, zero, suc, ◌+◌, ◌-◌, ◌<◌, ◌≤◌, true, false, List, [], ◌∷◌, length, take, drop, get_or, refl, ap, sym, subst, ◌∙◌}
+use Rattle.sctp_sender.proofs.Names.{inl, inr, slice_get, None, arith, if◌then◌else◌, ◌&&◌, ◌||◌, not, nat_lt, cases_lt, false≢true, nat_tests, drop_more}
+use Rattle.sctp_sender.proofs.Names.{get_or_default, take_more, take-append-drop, none-some, and-none, and-true, or-none, or-right, list_any-append, fails}
+use Rattle.sctp_sender.proofs.Names.{ChunkPayloadData, GapAckBlock, is_in_block, is_in_blocks, ArePassed, can_at, return_at, returns_at, tells_of, ascends_from}
+use Rattle.sctp_sender.proofs.Names.{is_reached}
+use Rattle.std.specs.Prelude.{Option}
 use Rattle.sctp_sender.proofs.Anew.{any-at, both, in-block, none-up-to}
 
 abbrev pub no_block : GapAckBlock

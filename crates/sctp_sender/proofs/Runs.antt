@@ -1,18 +1,9 @@
 -- Chunks whose TSNs follow one another.
-use Rattle.std.proofs.Common.{◌≡◌, ℕ, zero, suc, ◌+◌, ◌-◌, ◌<◌, ◌≤◌, ◌%◌, ◌^◌, Bool, true, false, List, [], ◌∷◌, length, drop, get_or, Some, refl, ap, sym}
-use Rattle.std.proofs.Common.{subst, ◌∙◌, arith}
-use Rattle.std.specs.Prelude.{if◌then◌else◌, ◌==◌, not, find}
-use Rattle.std.proofs.lemmas.Bool.{eq-eqb, ne_eqb}
-use Rattle.std.proofs.lemmas.Bool.Decides.{nat_tests}
-use Rattle.sctp_util.specs.Lists.{change_where}
+use Rattle.sctp_sender.proofs.Names.{◌≡◌, ℕ, zero, suc, ◌+◌, ◌-◌, ◌<◌, ◌≤◌, ◌%◌, ◌^◌, Bool, true, false, List, [], ◌∷◌, length, drop, get_or, Some, refl, ap}
+use Rattle.sctp_sender.proofs.Names.{sym, subst, ◌∙◌, arith, if◌then◌else◌, ◌==◌, not, find, eq-eqb, ne_eqb, nat_tests, change_where, OnlyAt, ChunkPayloadData}
+use Rattle.sctp_sender.proofs.Names.{has_tsn, following_tsn, tsns, without_front, past, tsns_from, fresh}
 use Rattle.sctp_util.specs.Serial.{distance, at_or_before}
-use Rattle.sctp_util.proofs.Edits.{OnlyAt}
-use Rattle.sctp_data.specs.declared.chunk.chunk_payload_data.ChunkPayloadData.{ChunkPayloadData}
-use Rattle.sctp_serial.specs.DataChunks.{has_tsn, following_tsn, tsns}
-use Rattle.sctp_outbound.specs.payload_queue.PayloadQueue.{without_front, past}
-use Rattle.sctp_sender.specs.Flight.{tsns_from}
 use Rattle.sctp_stream.proofs.StreamPlaces.{find-first}
-use Rattle.sctp_data.specs.ChunkSet.{fresh}
 use Rattle.sctp_data.specs.declared.chunk.chunk_payload_data.PayloadProtocolIdentifier.TheVariants.{Unknown}
 
 -- any chunk, where a look-up asks for one to fall back on

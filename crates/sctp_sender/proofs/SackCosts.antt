@@ -1,25 +1,11 @@
 -- How much a SACK reports, and of which messages.
-use Rattle.std.proofs.Common.{◌≡◌, ℕ, suc, ◌+◌, ◌-◌, ◌≤◌, true, false, List, length, map, take, get_or, Option, Some, None, refl, ap, ◌∙◌, arith, []}
-use Rattle.std.proofs.Common.{◌∷◌, ◌*◌, sym, Bool}
-use Rattle.std.specs.Prelude.{nat_lt, cond, not, ◌&&◌}
-use Rattle.std.specs.List.{count_by, filter}
-use Rattle.std.proofs.lemmas.Bool.Decides.{nat_tests}
-use Rattle.std.proofs.lemmas.List.Sums.{length-filter, sum_by-cons}
-use Rattle.sctp_util.specs.Lists.{change_where}
-use Rattle.sctp_util.specs.Serial.{distance}
-use Rattle.sctp_util.proofs.Cases.{or-left, or-right}
-use Rattle.sctp_data.specs.declared.chunk.chunk_payload_data.ChunkPayloadData.{ChunkPayloadData}
-use Rattle.sctp_data.specs.declared.chunk.chunk_selective_ack.GapAckBlock.{GapAckBlock}
-use Rattle.sctp_data.specs.SelectiveAck.{Sack}
-use Rattle.sctp_outbound.specs.Marks.{as_acknowledged, as_taken_back}
-use Rattle.sctp_outbound.specs.payload_queue.Blocks.{is_in_blocks}
-use Rattle.sctp_sender.specs.declared.sender.flight.Released.{Released}
-use Rattle.sctp_sender.specs.Costs.{PicksLeftOut, chunks_of, distances_in, is_left_out, keeping_turns, messages_anew, sack_turns, take_back_turns, to_sort}
-use Rattle.sctp_sender.specs.Flight.{Flight, released_of, reports, reports_anew}
-use Rattle.sctp_sender.specs.Keeping.{answered_back, places_kept, restored, restored_with, with_restored}
-use Rattle.sctp_sender.specs.Reporting.{AreKnown, ascends_from}
-use Rattle.sctp_sender.specs.SideBySide.{messages_of}
-use Rattle.sctp_sender.specs.Telling.{no_message}
+use Rattle.sctp_sender.proofs.Names.{◌≡◌, ℕ, suc, ◌+◌, ◌-◌, ◌≤◌, true, false, List, length, map, take, get_or, Option, Some, None, refl, ap, ◌∙◌, arith, []}
+use Rattle.sctp_sender.proofs.Names.{◌∷◌, ◌*◌, sym, Bool, nat_lt, cond, not, ◌&&◌, count_by, filter, nat_tests, length-filter, sum_by-cons, change_where}
+use Rattle.sctp_sender.proofs.Names.{distance, or-left, or-right, ChunkPayloadData, GapAckBlock, Sack, as_acknowledged, as_taken_back, is_in_blocks, Released}
+use Rattle.sctp_sender.proofs.Names.{PicksLeftOut, chunks_of, distances_in, is_left_out, keeping_turns, sack_turns, take_back_turns, to_sort, Flight}
+use Rattle.sctp_sender.proofs.Names.{released_of, reports, reports_anew, answered_back, places_kept, restored, restored_with, with_restored, AreKnown}
+use Rattle.sctp_sender.proofs.Names.{ascends_from, messages_of, no_message}
+use Rattle.sctp_sender.specs.Costs.{messages_anew}
 use Rattle.sctp_sender.proofs.Counts.{among, count-blocks, count-run, known-few, numbers-of-those, numbers_of}
 use Rattle.sctp_sender.proofs.InLine.{messages-changed}
 use Rattle.sctp_sender.proofs.Known.{known-at}

@@ -1,17 +1,10 @@
 -- What a SACK makes of what is in flight.
-use Rattle.std.proofs.Common.{◌≡◌, ℕ, ◌+◌, ◌-◌, ◌<◌, ◌≤◌, ◌%◌, ◌^◌, false, List, length, length-drop, drop, refl, ap, sym, subst, ◌∙◌, arith}
-use Rattle.std.specs.Prelude.{if◌then◌else◌}
-use Rattle.sctp_util.specs.Lists.{change_where}
+use Rattle.sctp_sender.proofs.Names.{◌≡◌, ℕ, ◌+◌, ◌-◌, ◌<◌, ◌≤◌, ◌%◌, ◌^◌, false, List, length, length-drop, drop, refl, ap, sym, subst, ◌∙◌, arith}
+use Rattle.sctp_sender.proofs.Names.{if◌then◌else◌, change_where, length-change_where, ChunkPayloadData, Sack, as_acknowledged, Outbound, with_inflight, Flight}
+use Rattle.sctp_sender.proofs.Names.{IsContiguous, tsns_from, reports_anew, is_outdated, take_sack, after_sack, following_tsn}
 use Rattle.sctp_util.specs.Serial.{distance}
-use Rattle.sctp_util.proofs.Edits.{length-change_where}
-use Rattle.sctp_data.specs.declared.chunk.chunk_payload_data.ChunkPayloadData.{ChunkPayloadData}
-use Rattle.sctp_data.specs.SelectiveAck.{Sack}
-use Rattle.sctp_outbound.specs.Marks.{as_acknowledged}
-use Rattle.sctp_outbound.specs.outbound_queue.OutboundQueue.{Outbound, with_inflight}
-use Rattle.sctp_sender.specs.Flight.{Flight, IsContiguous, tsns_from, reports_anew, is_outdated, take_sack, after_sack}
 use Rattle.sctp_sender.proofs.Runs.{IsRunFrom, changed-run, dropped, past-is}
 use Rattle.sctp_sender.proofs.InLine.{IsInLine, marked-in-line, rest-in-line}
-use Rattle.sctp_serial.specs.DataChunks.{following_tsn}
 
 pub cum-is : (acked cum : ℕ) → acked < 2 ^ 32 → cum < 2 ^ 32 → cum ≡ (acked + distance acked cum) % 2 ^ 32
 unfolding distance

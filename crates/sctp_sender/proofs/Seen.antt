@@ -1,9 +1,8 @@
 -- What is in flight, and a sender, as callers see them: of what they consist.
+use Rattle.sctp_sender.proofs.Names.{Flight, Transmission}
 use Rattle.std.specs.Option.{option_map}
 use Rattle.sctp_sender.specs.declared.sender.Sender.TheInside as sender
 use Rattle.sctp_sender.specs.declared.sender.flight.InFlight.TheInside as flight
-use Rattle.sctp_sender.specs.Flight.{Flight}
-use Rattle.sctp_sender.specs.Sender.{Transmission}
 
 abbrev pub flight_in : flight.Inside → Flight
 flight_in a = record { queue = a.queue; next_tsn = a.next_tsn; acked_tsn = a.acked_tsn }

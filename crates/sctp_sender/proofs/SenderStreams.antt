@@ -1,40 +1,28 @@
 -- Which streams of a sender are open, and the fragments of a write.
-use Rattle.std.proofs.Common.{◌≡◌, ℕ, zero, suc, ◌+◌, ◌<◌, ◌≤◌, Bool, true, false, List, [], ◌∷◌, length, length-append, map, drop, Option, Some, None, refl}
-use Rattle.std.proofs.Common.{ap, sym, ◌∙◌, arith, subst}
-use Rattle.std.specs.Prelude.{◌==◌, if◌then◌else◌, nat_lt, not, find, is_some, MatchOption, slice_index_or}
-use Rattle.std.proofs.lemmas.Bool.Decides.{nat_tests}
-use Rattle.std.proofs.lemmas.List.{get_or_default}
-use Rattle.std.proofs.lemmas.List.Sums.{sum_by-cons}
+use Rattle.sctp_sender.proofs.Names.{◌≡◌, ℕ, zero, suc, ◌+◌, ◌<◌, ◌≤◌, Bool, true, false, List, [], ◌∷◌, length, length-append, map, drop, Option, Some, None}
+use Rattle.sctp_sender.proofs.Names.{refl, ap, sym, ◌∙◌, arith, subst, ◌==◌, if◌then◌else◌, nat_lt, not, find, is_some, MatchOption, slice_index_or, nat_tests}
+use Rattle.sctp_sender.proofs.Names.{get_or_default, sum_by-cons, numbers_from, same-yes, ChunkPayloadData, PayloadProtocolIdentifier, IsMessageOrNone}
+use Rattle.sctp_sender.proofs.Names.{bytes_of, OutboundStream, SenderRefusal, QueueFull, Transmission, is_open, write_refusal, is_drained, IsOnlyPlace}
+use Rattle.sctp_sender.proofs.Names.{IsAbsent, number, numbers_of, has_number, with_reliability, fragments_with_mode, fragment_at, pieces_of, new_stream}
+use Rattle.sctp_sender.proofs.Names.{absent-find, inside, found, map-twice}
 use Rattle.sctp_data.specs.PayloadTypes.{is_ordered}
-use Rattle.sctp_util.specs.Kept.{numbers_where, always, numbers_from}
+use Rattle.sctp_util.specs.Kept.{numbers_where, always}
 use Rattle.sctp_util.specs.Lists.{pieces}
-use Rattle.sctp_util.proofs.Cases.{same-yes}
-use Rattle.sctp_data.specs.declared.chunk.chunk_payload_data.ChunkPayloadData.{ChunkPayloadData}
-use Rattle.sctp_data.specs.declared.chunk.chunk_payload_data.PayloadProtocolIdentifier.{PayloadProtocolIdentifier}
-use Rattle.sctp_data.specs.declared.chunk.chunk_payload_data.PayloadProtocolIdentifier.TheVariants.{Unknown}
 use Rattle.sctp_data.specs.declared.chunk.chunk_payload_data.ReliabilityType.{ReliabilityType}
-use Rattle.sctp_outbound.specs.pending_queue.Whole.{IsMessage, IsMessageOrNone}
+use Rattle.sctp_outbound.specs.pending_queue.Whole.{IsMessage}
 use Rattle.sctp_reassembly.specs.reassembly_queue.Fragments.{payload_of}
-use Rattle.sctp_serial.specs.DataChunks.{bytes_of}
-use Rattle.sctp_stream.specs.declared.stream.StreamState.{StreamState}
-use Rattle.sctp_sender.specs.declared.sender.refusal.SenderRefusal.{SenderRefusal}
-use Rattle.sctp_sender.specs.declared.sender.refusal.SenderRefusal.TheVariants.{StreamUnknown, StreamBusy, MessageTooLarge, QueueFull}
-use Rattle.sctp_sender.specs.Sender.{Transmission, is_open, is_full, write_refusal}
-use Rattle.sctp_sender.specs.Settings.{is_drained, reset_refusal}
-use Rattle.sctp_stream.specs.Numbers.{IsOnlyPlace, IsAbsent}
-use Rattle.sctp_sender.specs.Outgoing.{number, numbers_of, has_number, with_reliability, fragments_with_mode}
-use Rattle.sctp_stream.specs.Stream.{fragment_at, pieces_of, new_stream}
-use Rattle.sctp_stream.proofs.StreamPlaces.{absent-find, inside, found}
-use Rattle.sctp_util.proofs.Getting.{map-twice}
+use Rattle.sctp_sender.specs.declared.sender.refusal.SenderRefusal.TheVariants.{StreamUnknown, StreamBusy, MessageTooLarge}
+use Rattle.sctp_sender.specs.Sender.{is_full}
+use Rattle.sctp_sender.specs.Settings.{reset_refusal}
 
-module _ (ls : List StreamState) (s : ℕ) where
+module _ (ls : List OutboundStream) (s : ℕ) where
   pub closed : IsAbsent s (numbers_of ls) → find (has_number s) ls ≡ None
   closed absent = absent-find number ls (numbers_of ls) refl s absent
 
   pub open-at : (k : ℕ) → IsOnlyPlace s (numbers_of ls) k → is_some (find (has_number s) ls) ≡ true
   open-at k p =
-      let x = slice_index_or ls k (new_stream 0 0 0 Unknown) in
-      ap is_some (found number ls (numbers_of ls) refl s k p x (get_or_default ls k (new_stream 0 0 0 Unknown) x (inside number ls (numbers_of ls) refl s k p)))
+      let x = slice_index_or ls k (new_stream 0 0) in
+      ap is_some (found number ls (numbers_of ls) refl s k p x (get_or_default ls k (new_stream 0 0) x (inside number ls (numbers_of ls) refl s k p)))
 
   pub open-is : (o : Option ℕ) → MatchOption o (IsAbsent s (numbers_of ls)) (IsOnlyPlace s (numbers_of ls)) → is_some (find (has_number s) ls) ≡ is_some o
   open-is None absent = ap is_some (closed absent)
@@ -64,10 +52,10 @@ module _ (s len : ℕ) (t : Transmission) where
 
 -- ## The fragments of a write are one message
 
-abbrev pub made : StreamState → PayloadProtocolIdentifier → List ℕ → ℕ → ChunkPayloadData
+abbrev pub made : OutboundStream → PayloadProtocolIdentifier → List ℕ → ℕ → ChunkPayloadData
 made s ppi bytes i = with_reliability s.reliability_type s.reliability_value (fragment_at s ppi bytes i)
 
-pub fragments-made : (s : StreamState) (ppi : PayloadProtocolIdentifier) (bytes : List ℕ)
+pub fragments-made : (s : OutboundStream) (ppi : PayloadProtocolIdentifier) (bytes : List ℕ)
     → fragments_with_mode s ppi bytes ≡ map (made s ppi bytes) (numbers_from 0 (length (pieces_of s bytes)))
 fragments-made s ppi bytes =
     map-twice (with_reliability s.reliability_type s.reliability_value) (fragment_at s ppi bytes) (numbers_from 0 (length (pieces_of s bytes)))
@@ -92,7 +80,7 @@ none-or kind [] m = tt
 none-or kind (c ∷ []) m = (m.0, m.1, refl)
 none-or kind (c ∷ d ∷ ds) m = let same : c.unordered ≡ kind = m.2 in subst (λ k. IsMessage k false (c ∷ d ∷ ds)) (sym same) m
 
-pub one-message : (s : StreamState) (ppi : PayloadProtocolIdentifier) (bytes : List ℕ) → 0 < length bytes → IsMessageOrNone (fragments_with_mode s ppi bytes)
+pub one-message : (s : OutboundStream) (ppi : PayloadProtocolIdentifier) (bytes : List ℕ) → 0 < length bytes → IsMessageOrNone (fragments_with_mode s ppi bytes)
 one-message s ppi bytes some =
     let k = count-some s.max_payload_size bytes some in
     let kind = not (is_ordered s.unordered ppi) in

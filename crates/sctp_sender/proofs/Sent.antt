@@ -1,17 +1,10 @@
 -- A chunk that is sent, as it is noted in flight.
-use Rattle.std.proofs.Common.{◌≡◌, ℕ, Bool, true, false, List, [], ◌∷◌, Option, Some, None, refl, ap, sym, ◌∙◌}
-use Rattle.std.specs.Prelude.{if◌then◌else◌, ◌==◌, find, is_some, option_map}
-use Rattle.std.proofs.lemmas.Option.{none-some}
-use Rattle.sctp_data.specs.declared.chunk.chunk_payload_data.ChunkPayloadData.{ChunkPayloadData}
-use Rattle.sctp_util.proofs.Cases.{same-yes}
+use Rattle.sctp_sender.proofs.Names.{◌≡◌, ℕ, Bool, true, false, List, [], ◌∷◌, Option, Some, None, refl, ap, sym, ◌∙◌, if◌then◌else◌, ◌==◌, find, is_some}
+use Rattle.sctp_sender.proofs.Names.{option_map, none-some, ChunkPayloadData, same-yes, Outbound, all_started, as_sent, sent_next, sent_of, is_to_start}
+use Rattle.sctp_sender.proofs.Names.{next_pending, start_pending, with_deadline, peeked_all_started, chunk_before, has_tsn, Flight, IsContiguous, may_send}
 use Rattle.sctp_outbound.specs.declared.pending_queue.Selected.{Selected}
-use Rattle.sctp_outbound.specs.outbound_queue.OutboundQueue.{Outbound, all_started, as_sent, sent_next, sent_of}
 use Rattle.sctp_outbound.specs.payload_queue.PayloadQueue as payload
-use Rattle.sctp_outbound.specs.pending_queue.PendingQueue.{is_to_start, next_pending, start_pending, with_deadline}
-use Rattle.sctp_outbound.proofs.lemmas.outbound_queue.Outbounds.{peeked_all_started}
-use Rattle.sctp_serial.specs.DataChunks.{chunk_before, has_tsn}
 use Rattle.sctp_sender.specs.declared.sender.refusal.SenderRefusal.TheVariants.{TsnsUsedUp}
-use Rattle.sctp_sender.specs.Flight.{Flight, IsContiguous, may_send}
 use Rattle.sctp_sender.specs.Numbers.{refusal_of, send_refusal, tsn_refusal}
 use Rattle.sctp_sender.proofs.Flights.{fresh, started-inflight}
 use Rattle.sctp_sender.proofs.Walks.{find-inserted, none-of}

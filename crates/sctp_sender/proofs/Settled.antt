@@ -1,35 +1,18 @@
 -- What was acknowledged has no bytes, and stays so.
-use Rattle.std.proofs.Common.{◌≡◌, ℕ, zero, suc, ◌+◌, Bool, true, false, List, [], ◌∷◌, ◌++◌, length, map, Option, Some, None, refl, ap, sym, subst, ◌∙◌, arith}
-use Rattle.std.proofs.Common.{Result, Ok, Err}
-use Rattle.std.specs.Prelude.{IsOk, OnErr, OnOk, drop, take, if◌then◌else◌, ◌==◌, ◌&&◌, ◌||◌, not, find, slice_get}
-use Rattle.std.proofs.lemmas.List.Sums.{sum_by-cons}
-use Rattle.std.proofs.lemmas.Option.{none-some}
-use Rattle.std.specs.List.{filter}
-use Rattle.sctp_util.specs.Lists.{change_where, insert_before}
-use Rattle.sctp_util.specs.Serial.{at_or_before, distance}
-use Rattle.sctp_util.proofs.More.{not_both}
-use Rattle.sctp_data.specs.declared.chunk.chunk_payload_data.ChunkPayloadData.{ChunkPayloadData}
-use Rattle.sctp_data.specs.declared.chunk.chunk_payload_data.PayloadProtocolIdentifier.{PayloadProtocolIdentifier}
-use Rattle.sctp_data.specs.SelectiveAck.{Sack}
-use Rattle.sctp_outbound.specs.Marks.{as_acknowledged, as_abandoned, is_of, is_outstanding, with_retransmit}
-use Rattle.sctp_outbound.specs.outbound_queue.OutboundQueue.{Outbound, abandoned_of, all_started, append_chunks, terminal_chunk, expired_of, as_sent, sent_next}
-use Rattle.sctp_outbound.specs.outbound_queue.OutboundQueue.{sent_of, total_bytes, with_terminal_chunk, with_message, with_message_id}
-use Rattle.sctp_outbound.specs.payload_queue.Blocks.{is_in_blocks}
+use Rattle.sctp_sender.proofs.Names.{◌≡◌, ℕ, zero, suc, ◌+◌, Bool, true, false, List, [], ◌∷◌, ◌++◌, length, map, Option, Some, None, refl, ap, sym, subst, ◌∙◌}
+use Rattle.sctp_sender.proofs.Names.{arith, Result, Ok, Err, IsOk, OnErr, OnOk, if◌then◌else◌, ◌==◌, ◌&&◌, ◌||◌, not, find, sum_by-cons, none-some, filter}
+use Rattle.sctp_sender.proofs.Names.{change_where, insert_before, at_or_before, distance, not_both, ChunkPayloadData, PayloadProtocolIdentifier, Sack}
+use Rattle.sctp_sender.proofs.Names.{as_acknowledged, as_abandoned, is_of, is_outstanding, with_retransmit, Outbound, abandoned_of, all_started, append_chunks}
+use Rattle.sctp_sender.proofs.Names.{terminal_chunk, expired_of, as_sent, sent_next, sent_of, total_bytes, with_terminal_chunk, with_message, with_message_id}
+use Rattle.sctp_sender.proofs.Names.{is_in_blocks, past, Pending, closed_up, front_of, is_to_start, last_removed, list_of, list_to_pop, one_lower, next_pending}
+use Rattle.sctp_sender.proofs.Names.{next_pending_of, rest_from, rest_of, start_pending, with_deadline, without, bytes_of, chunk_before, has_tsn, is_on}
+use Rattle.sctp_sender.proofs.Names.{Released, SenderRefusal, OutboundStream, Flight, after_sack, can_resend, is_outdated, is_outstanding_in, is_whole}
+use Rattle.sctp_sender.proofs.Names.{released_by, released_of, reports_anew, resent, take_sack, message_to_abandon, abandoned_at, abandoned_each}
+use Rattle.sctp_sender.proofs.Names.{fragments_with_mode, with_reliability, after_misses, all_marked, can_miss, missed, resent_at, fragment_at, fragments_of}
+use Rattle.sctp_sender.proofs.Names.{AreSettled, IsAllSettled, bytes_in}
+use Rattle.std.specs.Prelude.{drop, take, slice_get}
 use Rattle.sctp_outbound.specs.payload_queue.PayloadQueue as payload
-use Rattle.sctp_outbound.specs.payload_queue.PayloadQueue.{past}
-use Rattle.sctp_outbound.specs.pending_queue.PendingQueue.{Pending, closed_up, front_of, is_to_start, last_removed, list_of, list_to_pop, one_lower}
-use Rattle.sctp_outbound.specs.pending_queue.PendingQueue.{next_pending, next_pending_of, rest_from, rest_of, start_pending, with_deadline, without}
-use Rattle.sctp_serial.specs.DataChunks.{bytes_of, chunk_before, has_tsn, is_on}
-use Rattle.sctp_sender.specs.declared.sender.flight.Released.{Released}
-use Rattle.sctp_sender.specs.declared.sender.refusal.SenderRefusal.{SenderRefusal}
-use Rattle.sctp_stream.specs.declared.stream.StreamState.{StreamState}
-use Rattle.sctp_sender.specs.Flight.{Flight, after_sack, can_resend, is_outdated, is_outstanding_in, is_whole, released_by, released_of, reports_anew, resent}
-use Rattle.sctp_sender.specs.Flight.{take_sack, message_to_abandon}
-use Rattle.sctp_sender.specs.Late.{abandoned_at, abandoned_each}
-use Rattle.sctp_sender.specs.Outgoing.{fragments_with_mode, with_reliability}
-use Rattle.sctp_sender.specs.Resending.{after_misses, all_marked, can_miss, missed, resent_at}
-use Rattle.sctp_stream.specs.Stream.{fragment_at, fragments_of}
-use Rattle.sctp_sender.specs.Totals.{AreSettled, IsAllSettled, IsSettled, bytes_in}
+use Rattle.sctp_sender.specs.Totals.{IsSettled}
 
 -- ## Lists
 
@@ -134,7 +117,7 @@ message-settled (c ∷ cs) q s a = by c.unordered
       inflight = a.inflight;
     }
 
-pub fragments-settled : (l : StreamState) (ppi : PayloadProtocolIdentifier) (bytes : List ℕ) → AreSettled (fragments_with_mode l ppi bytes)
+pub fragments-settled : (l : OutboundStream) (ppi : PayloadProtocolIdentifier) (bytes : List ℕ) → AreSettled (fragments_with_mode l ppi bytes)
 fragments-settled l ppi bytes = moded (fragments_of l ppi bytes) (mapped-settled (fragment_at l ppi bytes) (λ i e. absurd (not_both e)) _)
   where
     moded : (xs : List ChunkPayloadData) → AreSettled xs → AreSettled (map (with_reliability l.reliability_type l.reliability_value) xs)

@@ -1,14 +1,8 @@
 -- How far a FORWARD-TSN of so many chunks goes.
-use Rattle.std.proofs.Common.{◌≡◌, ℕ, ◌+◌, ◌<◌, ◌≤◌, ◌%◌, ◌^◌, true, List, take, ap, sym, subst, ◌∙◌, arith}
-use Rattle.std.specs.Prelude.{◌&&◌, nat_le, nat_lt}
-use Rattle.std.specs.List.{filter}
-use Rattle.std.proofs.lemmas.Bool.Decides.{nat_tests}
+use Rattle.sctp_sender.proofs.Names.{◌≡◌, ℕ, ◌+◌, ◌<◌, ◌≤◌, ◌%◌, ◌^◌, true, List, take, ap, sym, subst, ◌∙◌, arith, ◌&&◌, nat_le, nat_lt, filter, nat_tests}
+use Rattle.sctp_sender.proofs.Names.{and, ChunkPayloadData, ChunkForwardTsnStream, Flight, Name, advanced_ack_point, ahead, can_skip_to, is_named}
 use Rattle.sctp_util.specs.Serial.{distance}
-use Rattle.sctp_util.proofs.More.{and}
-use Rattle.sctp_data.specs.declared.chunk.chunk_payload_data.ChunkPayloadData.{ChunkPayloadData}
-use Rattle.sctp_data.specs.declared.chunk.chunk_forward_tsn.ChunkForwardTsnStream.{ChunkForwardTsnStream}
-use Rattle.sctp_sender.specs.Flight.{Flight}
-use Rattle.sctp_sender.specs.Abandonment.{Name, advanced_ack_point, ahead, can_skip_to, is_named, named_up_to}
+use Rattle.sctp_sender.specs.Abandonment.{named_up_to}
 
 ahead-is : (acked k : ℕ) → acked < 2 ^ 32 → k < 2 ^ 32 → distance acked ((acked + k) % 2 ^ 32) ≡ k
 unfolding distance

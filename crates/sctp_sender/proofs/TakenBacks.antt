@@ -1,24 +1,10 @@
 -- What was taken back can be sent again.
-use Rattle.std.proofs.Common.{◌≡◌, ℕ, zero, suc, ◌<◌, Bool, true, false, ◌+◌, ◌^◌, List, [], ◌∷◌, length, map, get_or, Option, Some, None, refl, ap, sym, ◌∙◌}
-use Rattle.std.proofs.Common.{arith}
-use Rattle.std.specs.Prelude.{◌&&◌, not, find, if◌then◌else◌, is_some, nat_lt}
-use Rattle.std.specs.List.{All}
-use Rattle.std.proofs.lemmas.Bool.{false≢true}
-use Rattle.std.proofs.lemmas.List.{length-map}
-use Rattle.std.proofs.lemmas.Option.{none-some}
-use Rattle.sctp_data.specs.declared.chunk.chunk_payload_data.ChunkPayloadData.{ChunkPayloadData}
-use Rattle.sctp_data.specs.SelectiveAck.{Sack}
-use Rattle.sctp_util.specs.Serial.{distance}
-use Rattle.sctp_outbound.specs.Marks.{as_taken_back}
-use Rattle.sctp_serial.specs.DataChunks.{following_tsn, has_tsn}
-use Rattle.sctp_sender.specs.declared.sender.flight.kept.TakenBack.{TakenBack}
-use Rattle.sctp_sender.specs.Flight.{Flight, IsContiguous, can_resend, is_outdated, is_outstanding_in, reports, sack_refusal}
-use Rattle.sctp_sender.specs.Keeping.{back_each, bytes_back, placed, restored, restored_with, takes_back, tells_of, answered_of_placed, answered_back, with_restored}
-use Rattle.sctp_outbound.specs.outbound_queue.OutboundQueue.{total_bytes}
-use Rattle.sctp_sender.specs.declared.sender.flight.returns.PlacedData.{PlacedData}
-use Rattle.sctp_sender.specs.declared.sender.refusal.SenderRefusal.{SenderRefusal}
-use Rattle.sctp_sender.specs.declared.sender.refusal.SenderRefusal.TheVariants.{QueueFull}
-use Rattle.sctp_sender.specs.Sender.{Transmission, back_by, or_full, take_back_refusal, taken_back_by}
+use Rattle.sctp_sender.proofs.Names.{◌≡◌, ℕ, zero, suc, ◌<◌, Bool, true, false, ◌+◌, ◌^◌, List, [], ◌∷◌, length, map, get_or, Option, Some, None, refl, ap, sym}
+use Rattle.sctp_sender.proofs.Names.{◌∙◌, arith, ◌&&◌, not, find, if◌then◌else◌, is_some, nat_lt, All, false≢true, length-map, none-some, ChunkPayloadData}
+use Rattle.sctp_sender.proofs.Names.{Sack, distance, as_taken_back, following_tsn, has_tsn, TakenBack, Flight, IsContiguous, can_resend, is_outdated}
+use Rattle.sctp_sender.proofs.Names.{is_outstanding_in, reports, sack_refusal, back_each, bytes_back, placed, restored, restored_with, takes_back, tells_of}
+use Rattle.sctp_sender.proofs.Names.{answered_of_placed, answered_back, with_restored, total_bytes, PlacedData, SenderRefusal, QueueFull, Transmission, back_by}
+use Rattle.sctp_sender.proofs.Names.{or_full, take_back_refusal, taken_back_by}
 use Rattle.sctp_sender.proofs.Placed.{back-length, placed-answer}
 use Rattle.sctp_sender.proofs.Keepings.{length-restored, restored-contiguous}
 use Rattle.sctp_sender.proofs.Runs.{any_chunk, found-at, tsn-at}

@@ -1,15 +1,9 @@
 -- The greatest distance that gap ack blocks report, and of which distances they tell.
-use Rattle.std.proofs.Common.{◌≡◌, ℕ, zero, suc, ◌+◌, ◌-◌, ◌<◌, ◌≤◌, Bool, true, false, List, [], ◌∷◌, length, get_or, slice_get, Some, None, inl, inr, refl, ap, sym}
-use Rattle.std.proofs.Common.{◌∙◌, arith}
-use Rattle.std.specs.Prelude.{if◌then◌else◌, ◌==◌, ◌||◌, nat_lt}
-use Rattle.std.proofs.lemmas.Bool.{cases_lt, false≢true}
-use Rattle.std.proofs.lemmas.Bool.Decides.{nat_tests}
-use Rattle.std.proofs.lemmas.Option.{none-some, same_Some, slice_get-get_or}
-use Rattle.sctp_util.proofs.Cases.{or-left, or-right}
-use Rattle.sctp_data.specs.declared.chunk.chunk_selective_ack.GapAckBlock.{GapAckBlock}
-use Rattle.sctp_outbound.specs.payload_queue.Blocks.{is_in_block, is_in_blocks}
-use Rattle.sctp_sender.specs.Keeping.{greatest_distance, tells_of}
-use Rattle.sctp_sender.specs.Reporting.{AreSorted, after_block, after_blocks, ascends_from}
+use Rattle.sctp_sender.proofs.Names.{◌≡◌, ℕ, zero, suc, ◌+◌, ◌-◌, ◌<◌, ◌≤◌, Bool, true, false, List, [], ◌∷◌, length, get_or, slice_get, Some, None, inl, inr}
+use Rattle.sctp_sender.proofs.Names.{refl, ap, sym, ◌∙◌, arith, if◌then◌else◌, ◌==◌, ◌||◌, nat_lt, cases_lt, false≢true, nat_tests, none-some, slice_get-get_or}
+use Rattle.sctp_sender.proofs.Names.{or-left, or-right, GapAckBlock, is_in_block, is_in_blocks, tells_of, AreSorted, after_block, after_blocks, ascends_from}
+use Rattle.std.proofs.lemmas.Option.{same_Some}
+use Rattle.sctp_sender.specs.Keeping.{greatest_distance}
 use Rattle.sctp_sender.proofs.Anew.{ahead}
 use Rattle.sctp_sender.proofs.Covers.{neither}
 use Rattle.sctp_sender.proofs.Offsets.{none-behind}

@@ -1,25 +1,13 @@
 -- The chunks in flight, from the first one on, that are not marked for retransmission.
-use Rattle.std.proofs.Common.{◌≡◌, ℕ, zero, suc, ◌+◌, ◌-◌, ◌<◌, ◌≤◌, Bool, true, false, List, [], ◌∷◌, ◌++◌, length, length-append, map, take, drop, get_or}
-use Rattle.std.proofs.Common.{slice_get, Option, Some, None, inl, inr, refl, ap, sym, subst, ◌∙◌, arith}
-use Rattle.std.specs.Prelude.{◌&&◌, ◌||◌, ◌==◌, min, not, if◌then◌else◌}
-use Rattle.std.specs.List.{filter, find, list_any}
-use Rattle.std.proofs.lemmas.Bool.{cases_lt}
-use Rattle.std.proofs.lemmas.List.{length-drop, take_more}
-use Rattle.sctp_util.specs.Lists.{change_where}
-use Rattle.sctp_util.proofs.Cases.{or-none}
-use Rattle.sctp_util.proofs.Edits.{length-change_where, list_any-append}
-use Rattle.sctp_util.proofs.More.{not_both}
-use Rattle.sctp_data.specs.declared.chunk.chunk_payload_data.ChunkPayloadData.{ChunkPayloadData}
-use Rattle.sctp_outbound.specs.Marks.{as_abandoned, is_of, is_outstanding}
-use Rattle.sctp_outbound.specs.outbound_queue.OutboundQueue.{Outbound, abandoned_of, all_started, as_sent, expired_of, sent_next, sent_of, terminal_chunk}
-use Rattle.sctp_outbound.specs.outbound_queue.OutboundQueue.{with_inflight, with_terminal_chunk}
+use Rattle.sctp_sender.proofs.Names.{◌≡◌, ℕ, zero, suc, ◌+◌, ◌-◌, ◌<◌, ◌≤◌, Bool, true, false, List, [], ◌∷◌, ◌++◌, length, length-append, map, take, drop}
+use Rattle.sctp_sender.proofs.Names.{get_or, slice_get, Option, Some, None, inl, inr, refl, ap, sym, subst, ◌∙◌, arith, ◌&&◌, ◌||◌, ◌==◌, min, not}
+use Rattle.sctp_sender.proofs.Names.{if◌then◌else◌, filter, list_any, cases_lt, take_more, change_where, or-none, length-change_where, list_any-append}
+use Rattle.sctp_sender.proofs.Names.{not_both, ChunkPayloadData, as_abandoned, is_of, is_outstanding, Outbound, abandoned_of, all_started, as_sent, expired_of}
+use Rattle.sctp_sender.proofs.Names.{sent_next, sent_of, terminal_chunk, with_inflight, with_terminal_chunk, last_removed, next_pending, PlacedData}
+use Rattle.sctp_sender.proofs.Names.{following_tsn, Flight, IsContiguous, tsns_from, put_back, AreUnmarked, can_miss, is_third, is_to_resend, is_worn, missed}
+use Rattle.std.specs.List.{find}
+use Rattle.std.proofs.lemmas.List.{length-drop}
 use Rattle.sctp_outbound.specs.payload_queue.PayloadQueue as payload
-use Rattle.sctp_outbound.specs.pending_queue.PendingQueue.{last_removed, next_pending}
-use Rattle.sctp_sender.specs.declared.sender.flight.returns.PlacedData.{PlacedData}
-use Rattle.sctp_serial.specs.DataChunks.{following_tsn}
-use Rattle.sctp_sender.specs.Flight.{Flight, IsContiguous, tsns_from}
-use Rattle.sctp_sender.specs.Keeping.{put_back}
-use Rattle.sctp_sender.specs.Resending.{AreUnmarked, can_miss, is_third, is_to_resend, is_worn, missed}
 use Rattle.sctp_sender.proofs.Flights.{started-inflight}
 use Rattle.sctp_sender.proofs.InLine.{put-behind}
 use Rattle.sctp_sender.proofs.Placed.{put-length, put-map}
@@ -119,7 +107,7 @@ left-over n k m cs is u = elim (cases_lt k n) [
 ]
 
 -- where some are outstanding again
-flagged : (n : ℕ) (cs : List ChunkPayloadData) → list_any is_marked (take n cs) ≡ list_any (λ b. b) (take n (map is_marked cs))
+pub flagged : (n : ℕ) (cs : List ChunkPayloadData) → list_any is_marked (take n cs) ≡ list_any (λ b. b) (take n (map is_marked cs))
 flagged zero cs = refl
 flagged (suc n) [] = refl
 flagged (suc n) (c ∷ cs) = ap (λ b. c.retransmit || b) (flagged n cs)

@@ -1,12 +1,6 @@
 -- What the walk over the places where something can come back costs.
-use Rattle.std.proofs.Common.{◌≡◌, ℕ, suc, ◌+◌, ◌*◌, ◌<◌, ◌≤◌, Bool, true, false, List, length, take, get_or, arith}
-use Rattle.std.specs.List.{count_by}
-use Rattle.std.proofs.lemmas.List.Sums.{count_by_more_yes}
-use Rattle.sctp_data.specs.declared.chunk.chunk_payload_data.ChunkPayloadData.{ChunkPayloadData}
-use Rattle.sctp_data.specs.declared.chunk.chunk_selective_ack.GapAckBlock.{GapAckBlock}
-use Rattle.sctp_outbound.specs.payload_queue.Blocks.{is_in_blocks}
-use Rattle.sctp_sender.specs.Costs.{PicksLeftOut}
-use Rattle.sctp_sender.specs.Telling.{is_reached}
+use Rattle.sctp_sender.proofs.Names.{◌≡◌, ℕ, suc, ◌+◌, ◌*◌, ◌<◌, ◌≤◌, Bool, true, false, List, length, take, get_or, arith, count_by, count_by_more_yes}
+use Rattle.sctp_sender.proofs.Names.{ChunkPayloadData, GapAckBlock, is_in_blocks, PicksLeftOut, is_reached}
 use Rattle.sctp_sender.proofs.Counts.{count-up}
 use Rattle.sctp_sender.proofs.Returns.{no_block}
 use Rattle.sctp_sender.proofs.Runs.{any_chunk}

@@ -1,23 +1,13 @@
 -- Once the messages of what is worn out are abandoned, no chunk in flight is worn out.
-use Rattle.std.proofs.Common.{◌≡◌, ℕ, zero, suc, ◌+◌, ◌<◌, ◌%◌, ◌^◌, Bool, true, false, List, [], ◌∷◌, length, map, get_or, Option, Some, None, Result, Ok, Err}
-use Rattle.std.proofs.Common.{refl, ap, sym, subst, ◌∙◌, arith}
-use Rattle.std.specs.Prelude.{OnOk, if◌then◌else◌, ◌==◌, ◌&&◌, ◌||◌, not, find}
-use Rattle.std.specs.List.{filter, list_all, list_any}
-use Rattle.std.proofs.lemmas.Bool.{eq-eqb}
-use Rattle.sctp_util.specs.Lists.{change_where, insert_before}
-use Rattle.sctp_util.proofs.Cases.{same-is, same-yes}
-use Rattle.sctp_util.proofs.More.{and, both, not_both}
-use Rattle.sctp_data.specs.declared.chunk.chunk_payload_data.ChunkPayloadData.{ChunkPayloadData}
-use Rattle.sctp_outbound.specs.Marks.{as_abandoned, is_of}
-use Rattle.sctp_outbound.specs.outbound_queue.OutboundQueue.{terminal_chunk, to_abandon, with_terminal_chunk}
+use Rattle.sctp_sender.proofs.Names.{◌≡◌, ℕ, zero, suc, ◌+◌, ◌<◌, ◌%◌, ◌^◌, Bool, true, false, List, [], ◌∷◌, length, map, get_or, Option, Some, None, Result}
+use Rattle.sctp_sender.proofs.Names.{Ok, Err, refl, ap, sym, subst, ◌∙◌, arith, OnOk, if◌then◌else◌, ◌==◌, ◌&&◌, ◌||◌, not, find, filter, list_all, list_any}
+use Rattle.sctp_sender.proofs.Names.{eq-eqb, change_where, insert_before, same-is, same-yes, and, both, not_both, ChunkPayloadData, as_abandoned, is_of}
+use Rattle.sctp_sender.proofs.Names.{terminal_chunk, to_abandon, with_terminal_chunk, last_removed, chunk_before, following_tsn, has_tsn, Flight, IsContiguous}
+use Rattle.sctp_sender.proofs.Names.{after_abandonment, abandoned_at, are_listed, is_worn, worn_tsns}
 use Rattle.sctp_outbound.specs.payload_queue.PayloadQueue as payload
-use Rattle.sctp_outbound.specs.pending_queue.PendingQueue.{last_removed}
-use Rattle.sctp_serial.specs.DataChunks.{chunk_before, following_tsn, has_tsn}
-use Rattle.sctp_sender.specs.Flight.{Flight, IsContiguous, after_abandonment}
-use Rattle.sctp_sender.specs.Late.{abandoned_at}
-use Rattle.sctp_sender.specs.Resending.{are_listed, is_listed, is_worn, worn_tsns}
+use Rattle.sctp_sender.specs.Resending.{is_listed}
 use Rattle.sctp_sender.proofs.Lates.{all-of, found-passes, none-passes}
-use Rattle.sctp_sender.proofs.Names.{any-default}
+use Rattle.sctp_sender.proofs.NamedStreams.{any-default}
 use Rattle.sctp_sender.proofs.Points.{found-place}
 use Rattle.sctp_sender.proofs.Runs.{IsRunFrom, only-at, tsn-at}
 

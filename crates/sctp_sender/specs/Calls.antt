@@ -8,32 +8,81 @@ use Rattle.sctp_data.specs.SelectiveAck.{Sack}
 use Rattle.sctp_outbound.specs.outbound_queue.OutboundQueue.{all_started, as_sent, expiring, expiring_tail, message_of, total_bytes}
 use Rattle.sctp_outbound.specs.pending_queue.PendingQueue.{next_pending}
 use Rattle.sctp_serial.specs.DataChunks.{has_tsn}
+use Rattle.sctp_sender.specs.declared.sender.Acked.{Acked}
 use Rattle.sctp_sender.specs.declared.sender.ExpiredMessage.{ExpiredMessage}
 use Rattle.sctp_sender.specs.declared.sender.flight.Released.{Released}
 use Rattle.sctp_sender.specs.declared.sender.flight.anew.Anew.{Anew}
+use Rattle.sctp_sender.specs.declared.sender.kept.Back.{Back}
 use Rattle.sctp_sender.specs.declared.sender.flight.kept.TakenBack.{TakenBack}
 use Rattle.sctp_sender.specs.declared.sender.flight.late.AbandonedMessage.{AbandonedMessage}
 use Rattle.sctp_sender.specs.declared.sender.refusal.SenderRefusal.{SenderRefusal}
 use Rattle.sctp_sender.specs.declared.sender.refusal.SenderRefusal.TheVariants.{OutOfMemory, TsnsUsedUp}
 use Rattle.sctp_sender.specs.Costs.{keeping_turns, sack_turns, take_back_turns}
 use Rattle.sctp_sender.specs.Flight.{after_sack, can_resend, count_acked, is_outdated, may_send, released_by, reports, reports_anew, sack_refusal}
-use Rattle.sctp_sender.specs.Keeping.{AreAnew, Cover, bytes_back, kept_after, places_kept}
+use Rattle.sctp_sender.specs.Keeping.{AreAnew, Cover, bytes_back, kept_after, places_kept, with_reported_again}
 use Rattle.sctp_sender.specs.Reporting.{AreKnown}
 use Rattle.sctp_sender.specs.Late.{after_abandoning, leaving_each, tail_first, with_tail}
 use Rattle.sctp_sender.specs.Resending.{after_misses, count_before, thirds}
-use Rattle.sctp_sender.specs.Sender.{Transmission, after_abandon, after_acked, after_expire, after_send, after_take_back, take_back_refusal, taken_back_by, with_flight}
+use Rattle.sctp_sender.specs.Sender.{Transmission, after_abandon, after_acked, after_expire, after_send, after_take_back, take_back_refusal, taken_back_by, with_flight, with_streams}
 use Rattle.sctp_sender.specs.Thresholds.{falls_on, fell, tells_low, tells_message_low, with_lows, with_message_lows}
 use Rattle.sctp_sender.specs.Totals.{bytes_in}
 
 -- ## A SACK (RFC 4960 6.2.1)
 
--- a SACK is taken, or refused, and nothing changes then
+-- a SACK is taken: what it no longer reports comes back, and then leaves what it reports anew; or it is refused, and nothing changes
+pub record Acknowledges (s : Sack) (old new : Transmission) (result : Result Acked SenderRefusal)
+    : Type 0 where
+  pub back : IfOk result (λ r. r.taken_back.items ≡ taken_back_by s old)
+  pub outstanding : IfOk result
+      (λ r. All (λ b. can_resend b.tsn (after_take_back s old).flight ≡ true) r.taken_back.items)
+  pub answer : IfOk result (λ r. r.released.items ≡ with_lows
+      (released_by s (after_take_back s old).flight) (after_take_back s old).streams)
+  pub low : IfOk result (λ r. (n : ℕ)
+      → list_any (tells_low n) r.released.items ≡ fell n (after_take_back s old) new)
+  pub once : IfOk result (λ r. (n : ℕ) → count_by (tells_low n) r.released.items ≤ 1)
+  pub ok : OnOk result (new ≡ after_acked s (after_take_back s old))
+  pub bytes : IfOk result (λ r. total_bytes new.flight.queue + bytes_in r.released.items
+      ≡ total_bytes old.flight.queue + bytes_back r.taken_back.items)
+  pub accepted : IsOk result
+      → (sack_refusal s old.flight ≡ None) × (take_back_refusal s old ≡ None)
+  pub refused : IfErr result (λ e. ((e ≡ OutOfMemory) × (sack_refusal s old.flight ≡ None))
+      ⊎ ((sack_refusal s old.flight ≡ Some e) ⊎ (take_back_refusal s old ≡ Some e)))
+  pub outdated : is_outdated s old.flight ≡ true → IsOk result
+  pub err : OnErr result (new ≡ old)
+
+-- so many turns are taken for that
+pub record CountsSack (s : Sack) (old : Transmission) (turns turns_after : ℕ) : Type 0 where
+  pub not_back : turns ≤ turns_after
+  pub cost : old.kept ≡ None → turns_after ≤ turns + sack_turns s old.flight
+  pub cost_keeping : IfSome old.kept (λ ks. turns_after ≤ turns
+      + take_back_turns s old.flight (length (taken_back_by s old))
+      + (sack_turns s (after_take_back s old).flight
+      + keeping_turns s (after_take_back s old).flight
+      (places_kept s (after_take_back s old).flight ks)))
+  pub stale : is_outdated s old.flight ≡ true → turns_after ≡ turns
+  pub forged : is_some (sack_refusal s old.flight) ≡ true
+      → turns_after ≤ turns + length s.gap_ack_blocks
+
+-- of a SACK by which nothing is taken back: it is taken, or refused, and nothing changes then
 pub record Acks (s : Sack) (old new : Transmission)
     (result : Result (Vec Released Global) SenderRefusal) : Type 0 where
   pub answer : IfOk result (λ r. r.items ≡ with_lows (released_by s old.flight) old.streams)
   pub low : IfOk result (λ r. (n : ℕ) → list_any (tells_low n) r.items ≡ fell n old new)
   pub once : IfOk result (λ r. (n : ℕ) → count_by (tells_low n) r.items ≤ 1)
   pub ok : OnOk result (new ≡ after_acked s old)
+  pub released : IfOk result (λ r. total_bytes new.flight.queue + bytes_in r.items
+      ≡ total_bytes old.flight.queue)
+  pub accepted : IsOk result → sack_refusal s old.flight ≡ None
+  pub refused : IfErr result (λ e. ((e ≡ OutOfMemory) × (sack_refusal s old.flight ≡ None))
+      ⊎ (sack_refusal s old.flight ≡ Some e))
+  pub outdated : is_outdated s old.flight ≡ true → IsOk result
+  pub err : OnErr result (new ≡ old)
+
+-- the same, but the streams stay as they are, and no chunk tells of them
+pub record AcksInFlight (s : Sack) (old new : Transmission)
+    (result : Result (Vec Released Global) SenderRefusal) : Type 0 where
+  pub answer : IfOk result (λ r. r.items ≡ released_by s old.flight)
+  pub ok : OnOk result (new ≡ with_streams old.streams (after_acked s old))
   pub released : IfOk result (λ r. total_bytes new.flight.queue + bytes_in r.items
       ≡ total_bytes old.flight.queue)
   pub accepted : IsOk result → sack_refusal s old.flight ≡ None
@@ -83,6 +132,31 @@ pub record TakesBack (s : Sack) (old new : Transmission)
   pub idle : old.kept ≡ None → IsOk result
   pub outdated : is_outdated s old.flight ≡ true → IsOk result
   pub err : OnErr result (new ≡ old)
+
+-- what a SACK no longer reports is in flight again, or that is refused, and nothing changes then; the streams stay as they are
+pub record Restores (s : Sack) (old new : Transmission) (result : Result Back SenderRefusal)
+    : Type 0 where
+  pub answer : IfOk result (λ r. r.told.answered.items ≡ taken_back_by s old)
+  pub ok : OnOk result (new ≡ with_streams old.streams (after_take_back s old))
+  pub outstanding : IfOk result
+      (λ r. All (λ b. can_resend b.tsn new.flight ≡ true) r.told.answered.items)
+  pub bytes : IfOk result (λ r. total_bytes new.flight.queue
+      ≡ total_bytes old.flight.queue + bytes_back r.told.answered.items)
+  pub accepted : IsOk result → take_back_refusal s old ≡ None
+  pub refused : IfErr result (λ e. ((e ≡ OutOfMemory) × (sack_refusal s old.flight ≡ None))
+      ⊎ (take_back_refusal s old ≡ Some e))
+  pub idle : old.kept ≡ None → IsOk result
+  pub outdated : is_outdated s old.flight ≡ true → IsOk result
+  pub err : OnErr result (new ≡ old)
+
+-- what was noted is as it was, once these places are acknowledged again
+pub record CanUndo (b : Back) (old new : Transmission) : Type 0 where
+  pub within : All (λ k. k < length new.flight.queue.inflight.chunks) b.told.places.items
+  pub same : with_reported_again b.told.places.items new.flight ≡ old.flight
+  pub few : length b.told.places.items ≡ length b.told.answered.items
+  pub cover : IfSome b.before (λ bs. IfSome old.kept (λ ks. Cover bs.items ks old.flight))
+  pub known : IfSome b.before (λ bs. AreKnown bs.items old.flight.queue.inflight.chunks)
+  pub none : b.before ≡ None → b.told.places.items ≡ []
 
 -- so many turns are taken for that, where so many chunks come back
 pub record CountsBack (s : Sack) (old : Transmission) (back turns turns_after : ℕ) : Type 0 where

@@ -13,7 +13,7 @@ use Rattle.sctp_outbound.specs.Marks.{as_taken_back}
 use Rattle.sctp_outbound.specs.outbound_queue.OutboundQueue.{with_inflight}
 use Rattle.sctp_outbound.specs.payload_queue.Blocks.{is_in_blocks}
 use Rattle.sctp_stream.specs.Stats.{count_up}
-use Rattle.sctp_stream.specs.declared.stream.StreamState.{StreamState}
+use Rattle.sctp_stream.specs.declared.outbound_stream.OutboundStream.{OutboundStream}
 use Rattle.sctp_sender.specs.declared.sender.flight.anew.Anew.{Anew}
 use Rattle.sctp_sender.specs.declared.sender.flight.kept.Kept.{Kept}
 use Rattle.sctp_sender.specs.declared.sender.flight.kept.TakenBack.{TakenBack}
@@ -101,6 +101,27 @@ abbrev pub with_restored : List (Option (List ℕ)) → Flight → Flight
 with_restored bs f =
     with_queue f (with_inflight f.queue (restored bs f.queue.inflight.chunks))
 
+-- ## Undone, where the rest of a call is refused
+
+-- the chunk is acknowledged again, and what came back of it is gone
+abbrev pub as_reported : ChunkPayloadData → ChunkPayloadData
+as_reported c = record c { acked = true; user_data = [] }
+
+-- so is that at each of these places
+abbrev pub reported_again : List ℕ → List ChunkPayloadData → List ChunkPayloadData
+reported_again [] cs = cs
+reported_again (k ∷ ks) cs = reported_again ks (change_at as_reported k cs)
+
+abbrev pub with_reported_again : List ℕ → Flight → Flight
+with_reported_again ks f =
+    with_queue f (with_inflight f.queue (reported_again ks f.queue.inflight.chunks))
+
+-- no two chunks have one TSN
+abbrev pub HaveOwnTsns : List ChunkPayloadData → Type 0
+HaveOwnTsns cs =
+    (i k : ℕ) (d : ChunkPayloadData) → i < length cs → k < length cs
+    → (slice_index_or cs i d).tsn ≡ (slice_index_or cs k d).tsn → i ≡ k
+
 -- ## What is told of it
 
 abbrev pub answered_of : Option (List ℕ) → ChunkPayloadData → List TakenBack
@@ -123,11 +144,11 @@ abbrev pub bytes_back : List TakenBack → ℕ
 bytes_back rs = sum_by (λ r. r.bytes) rs
 
 -- so many bytes wait and are in flight again, up to the greatest usize
-abbrev pub more_by : ℕ → StreamState → StreamState
+abbrev pub more_by : ℕ → OutboundStream → OutboundStream
 more_by bytes l = record l { buffered_amount = count_up l.buffered_amount bytes }
 
 -- each stream has more by what came back of it, one chunk after another
-abbrev pub after_returns : List TakenBack → List StreamState → List StreamState
+abbrev pub after_returns : List TakenBack → List OutboundStream → List OutboundStream
 after_returns [] ls = ls
 after_returns (r ∷ rs) ls =
     after_returns rs (change_where (has_number r.stream) (more_by r.bytes) ls)

@@ -6,7 +6,7 @@ use Rattle.sctp_util.specs.Lists.{change_where}
 use Rattle.sctp_outbound.specs.outbound_queue.OutboundQueue.{late_tsns, total_bytes}
 use Rattle.sctp_serial.specs.DataChunks.{has_tsn}
 use Rattle.sctp_sender.specs.declared.sender.flight.late.AbandonedMessage.{AbandonedMessage}
-use Rattle.sctp_stream.specs.declared.stream.StreamState.{StreamState}
+use Rattle.sctp_stream.specs.declared.outbound_stream.OutboundStream.{OutboundStream}
 use Rattle.sctp_sender.specs.Flight.{Flight, after_abandonment, has_tail_at, message_to_abandon}
 use Rattle.sctp_sender.specs.Outgoing.{has_number, less_by}
 use Rattle.sctp_sender.specs.Resending.{worn_tsns}
@@ -63,7 +63,7 @@ worn_order f = tail_first (worn_tsns f) f
 -- ## The streams
 
 -- each stream has less by what left of it, one message after another
-abbrev pub after_leaving : List AbandonedMessage → List StreamState → List StreamState
+abbrev pub after_leaving : List AbandonedMessage → List OutboundStream → List OutboundStream
 after_leaving [] ls = ls
 after_leaving (g ∷ gs) ls =
     after_leaving gs (change_where (has_number g.stream) (less_by g.bytes) ls)

@@ -5,11 +5,10 @@ use Rattle.std.specs.List.{find, filter}
 use Rattle.sctp_util.specs.Lists.{change_where}
 use Rattle.sctp_data.specs.declared.chunk.chunk_payload_data.ChunkPayloadData.{ChunkPayloadData}
 use Rattle.sctp_data.specs.declared.chunk.chunk_payload_data.PayloadProtocolIdentifier.{PayloadProtocolIdentifier}
-use Rattle.sctp_data.specs.declared.chunk.chunk_payload_data.PayloadProtocolIdentifier.TheVariants.{Unknown}
 use Rattle.sctp_data.specs.declared.chunk.chunk_payload_data.ReliabilityType.{ReliabilityType}
 use Rattle.sctp_data.specs.SelectiveAck.{Sack}
 use Rattle.sctp_outbound.specs.outbound_queue.OutboundQueue.{Outbound, with_message, total_bytes, expired_of, expired_times, sent_next}
-use Rattle.sctp_stream.specs.declared.stream.StreamState.{StreamState}
+use Rattle.sctp_stream.specs.declared.outbound_stream.OutboundStream.{OutboundStream}
 use Rattle.sctp_sender.specs.declared.sender.Reported.{Reported}
 use Rattle.sctp_sender.specs.declared.sender.Reported.TheVariants.{Drop, Keep}
 use Rattle.sctp_sender.specs.declared.sender.flight.kept.TakenBack.{TakenBack}
@@ -23,7 +22,7 @@ use Rattle.sctp_stream.specs.Stream.{new_stream}
 -- the open streams in the order in which they were opened; what waits and what is in flight; how long a fragment is, and how
 -- long a message may be; and what is kept of the chunks in flight that gap ack blocks reported, where the sender keeps them
 pub record Transmission : Type 0 where
-  pub streams : List StreamState
+  pub streams : List OutboundStream
   pub flight : Flight
   pub fragment_size : ℕ
   pub max_message_size : ℕ
@@ -44,13 +43,13 @@ abbrev pub with_reported : Reported → Transmission → Transmission
 with_reported Drop t = t
 with_reported Keep t = record t { kept = Some [] }
 
-abbrev pub stream_of : ℕ → Transmission → Option StreamState
+abbrev pub stream_of : ℕ → Transmission → Option OutboundStream
 stream_of s t = find (has_number s) t.streams
 
 abbrev pub is_open : ℕ → Transmission → Bool
 is_open s t = is_some (stream_of s t)
 
-abbrev pub with_streams : List StreamState → Transmission → Transmission
+abbrev pub with_streams : List OutboundStream → Transmission → Transmission
 with_streams ls t = record t { streams = ls }
 
 abbrev pub with_flight : Flight → Transmission → Transmission
@@ -58,7 +57,7 @@ with_flight f t = record t { flight = f }
 
 abbrev pub open_stream : ℕ → Transmission → Transmission
 open_stream s t =
-    with_streams (t.streams ++ new_stream s t.fragment_size t.max_message_size Unknown ∷ []) t
+    with_streams (t.streams ++ new_stream s t.fragment_size ∷ []) t
 
 -- the stream is open no more; what waits and is in flight stays
 abbrev pub close_stream : ℕ → Transmission → Transmission
@@ -85,7 +84,7 @@ write_refusal s len t =
     else (if is_full len t then Some QueueFull else None))
 
 -- the fragments of a write wait; one of no bytes changes nothing
-abbrev pub written_to : StreamState → ℕ → PayloadProtocolIdentifier → List ℕ → Transmission
+abbrev pub written_to : OutboundStream → ℕ → PayloadProtocolIdentifier → List ℕ → Transmission
     → Transmission
 written_to l s ppi bytes t = record t {
   streams = change_where (has_number s) (wrote ppi bytes) t.streams;

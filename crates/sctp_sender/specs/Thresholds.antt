@@ -2,7 +2,7 @@
 use Rattle.std.specs.Prelude.{ℕ, Bool, false, not, ◌&&◌, ◌==◌, nat_lt, List, [], ◌∷◌, Option, Some, None}
 use Rattle.std.specs.List.{find}
 use Rattle.sctp_util.specs.Lists.{change_where}
-use Rattle.sctp_stream.specs.declared.stream.StreamState.{StreamState}
+use Rattle.sctp_stream.specs.declared.outbound_stream.OutboundStream.{OutboundStream}
 use Rattle.sctp_stream.specs.Stream.{falls_low}
 use Rattle.sctp_sender.specs.declared.sender.flight.Released.{Released}
 use Rattle.sctp_sender.specs.declared.sender.flight.late.AbandonedMessage.{AbandonedMessage}
@@ -12,24 +12,24 @@ use Rattle.sctp_sender.specs.Sender.{Transmission, stream_of}
 -- ## One release
 
 -- so many bytes less take the amount from above the threshold to at most it; false where the stream is not open
-abbrev pub falls_in : Option StreamState → ℕ → Bool
+abbrev pub falls_in : Option OutboundStream → ℕ → Bool
 falls_in None bytes = false
 falls_in (Some l) bytes = falls_low l bytes
 
-abbrev pub falls_on : ℕ → ℕ → List StreamState → Bool
+abbrev pub falls_on : ℕ → ℕ → List OutboundStream → Bool
 falls_on s bytes ls = falls_in (find (has_number s) ls) bytes
 
 -- ## An answer
 
 -- each chunk says whether the amount of its stream falls with it, after those before it
-abbrev pub with_lows : List Released → List StreamState → List Released
+abbrev pub with_lows : List Released → List OutboundStream → List Released
 with_lows [] ls = []
 with_lows (r ∷ rs) ls =
     record r { is_low = falls_on r.stream r.bytes ls }
     ∷ with_lows rs (change_where (has_number r.stream) (less_by r.bytes) ls)
 
 -- and each message
-abbrev pub with_message_lows : List AbandonedMessage → List StreamState → List AbandonedMessage
+abbrev pub with_message_lows : List AbandonedMessage → List OutboundStream → List AbandonedMessage
 with_message_lows [] ls = []
 with_message_lows (g ∷ gs) ls =
     record g { is_low = falls_on g.stream g.bytes ls }
@@ -38,7 +38,7 @@ with_message_lows (g ∷ gs) ls =
 -- ## What a call tells
 
 -- the amount is above the threshold; false where the stream is not open
-abbrev pub is_above : Option StreamState → Bool
+abbrev pub is_above : Option OutboundStream → Bool
 is_above None = false
 is_above (Some l) = nat_lt l.buffered_amount_low l.buffered_amount
 

@@ -3,32 +3,31 @@
 
 ghost use Rattle.std.specs.Prelude.{◌+◌, ◌*◌, ◌≤◌, length};
 ghost use Rattle.sctp_data.specs.SelectiveAck.{sack_of};
-ghost use Rattle.sctp_sender.specs.Calls.{Acks, CountsAcked, CountsBack, Misses, TakesBack};
+ghost use Rattle.sctp_sender.specs.Calls.{Acknowledges, CountsBack, CountsSack, Misses, TakesBack};
 ghost use Rattle.sctp_sender.specs.Resending.{count_before};
 ghost use Rattle.sctp_sender.specs.Sender.{taken_back_by};
 
-use crate::sender::Sender;
-use crate::sender::flight::Released;
 use crate::sender::flight::kept::TakenBack;
 use crate::sender::refusal::SenderRefusal;
+use crate::sender::{Acked, Sender};
 use sctp_data::chunk::chunk_selective_ack::ChunkSelectiveAck;
 use sctp_serial::turns::Turns;
 
 /// `Sender::acked`, and its turns are added: at most `sack_turns`, where the sender keeps nothing that is reported, and at most
-/// `keeping_turns` more, where it does; none where the SACK is out of date, and at most one for each gap ack block where it is refused for
-/// what it claims.
+/// `take_back_turns` and `keeping_turns` more, where it does; none where the SACK is out of date, and at most one for each gap ack block
+/// where it is refused for what it claims.
 pub fn acked(
     sender: &mut Sender,
     sack: &ChunkSelectiveAck,
     turns: &mut Turns,
-) -> Result<Vec<Released>, SenderRefusal>
-    ensures acks { Acks (sack_of sack.now) sender.old sender.new result }
-    ensures turns { CountsAcked (sack_of sack.now) sender.old turns.old turns.new }
+) -> Result<Acked, SenderRefusal>
+    ensures acks { Acknowledges (sack_of sack.now) sender.old sender.new result }
+    ensures turns { CountsSack (sack_of sack.now) sender.old turns.old turns.new }
 {
     sender.acked_counted(sack, turns)
 }
 
-/// `Sender::take_back`, and its turns are added: at most `take_back_turns`; none where nothing is kept or the SACK is out of date, and at
+/// `replay::take_back`, and its turns are added: at most `take_back_turns`; none where nothing is kept or the SACK is out of date, and at
 /// most one for each gap ack block where it is refused for what it claims. What else is in flight costs nothing.
 pub fn take_back(
     sender: &mut Sender,
@@ -39,7 +38,7 @@ pub fn take_back(
     ensures turns { CountsBack (sack_of sack.now) sender.old
         (length (taken_back_by (sack_of sack.now) sender.old)) turns.old turns.new }
 {
-    sender.take_back_counted(sack, turns)
+    sender.take_back_alone(sack, turns)
 }
 
 /// `Sender::add_miss_indications`, and its turns are added: at most two for each chunk in flight whose TSN is before this one.

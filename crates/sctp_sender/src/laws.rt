@@ -22,7 +22,7 @@ pub fn a_sack_costs_by_what_is_new()
     ensures { CostsByWhatIsNew }
 {}
 
-/// What `take_back` and then `acked` with the same SACK cost together, where what was reported is kept: 20 turns for each block, and 13 for
+/// What `acked` costs, where what was reported is kept: 20 turns for each block, and 13 for
 /// each distance that has to be sorted; 14 for each chunk in flight that was acknowledged before; 12 for each that the SACK reports anew,
 /// and one for each chunk in flight of their messages; five for each that comes back; and one for each place at which something is kept for the first time.
 pub fn a_report_that_is_taken_back_costs_by_what_comes_back()

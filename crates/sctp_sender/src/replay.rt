@@ -2,23 +2,28 @@
 //! needs of a `Sender` beside its calls.
 
 ghost use Rattle.std.specs.Prelude.{◌≡◌, ◌<◌, ◌≤◌, [], None, Some, OnOk, IfOk, IfErr, IfSome, IsOk, find, option_copied, option_map, slice_get};
+ghost use Rattle.sctp_data.specs.SelectiveAck.{sack_of};
 ghost use Rattle.sctp_data.specs.declared.chunk.chunk_payload_data.ChunkPayloadData.{ChunkPayloadData};
 ghost use Rattle.sctp_outbound.specs.outbound_queue.OutboundQueue.{all_started, late_tsns};
 ghost use Rattle.sctp_sender.specs.declared.sender.refusal.SenderRefusal.TheVariants.{OutOfMemory};
 ghost use Rattle.sctp_sender.specs.Abandonment.{Name, advanced_ack_point, named_up_to, skip_end};
-ghost use Rattle.sctp_sender.specs.Calls.{AbandonsEach, Expires, ExpiresTail, SendsTsn};
+ghost use Rattle.sctp_sender.specs.Calls.{Acks, AbandonsEach, Expires, ExpiresTail, SendsTsn, TakesBack};
 ghost use Rattle.sctp_sender.specs.Flight.{resent, with_queue};
 ghost use Rattle.sctp_sender.specs.Numbers.{send_refusal, tsn_refusal};
 ghost use Rattle.sctp_sender.specs.Resending.{is_to_resend, worn_tsns};
 ghost use Rattle.sctp_sender.specs.Sender.{with_flight};
 ghost use Rattle.sctp_serial.specs.DataChunks.{has_tsn};
 
+use crate::sender::flight::Released;
+use crate::sender::flight::kept::TakenBack;
 use crate::sender::flight::late::AbandonedMessage;
 use crate::sender::refusal::SenderRefusal;
 use crate::sender::{ExpiredMessage, Sender};
 use sctp_data::chunk::chunk_forward_tsn::ChunkForwardTsn;
 use sctp_data::chunk::chunk_payload_data::ChunkPayloadData;
-use sctp_stream::stream::StreamState;
+use sctp_data::chunk::chunk_selective_ack::ChunkSelectiveAck;
+use sctp_serial::turns::Turns;
+use sctp_stream::outbound_stream::OutboundStream;
 
 /// Starts the lifetimes of the messages written since the last time; `now` is in nanoseconds. It takes no memory.
 pub fn start(sender: &mut Sender, now: u64)
@@ -26,6 +31,24 @@ pub fn start(sender: &mut Sender, now: u64)
         (with_queue sender.old.flight (all_started now sender.old.flight.queue)) sender.old }
 {
     sender.start(now);
+}
+
+/// Takes a SACK as `Sender::acked` does, but nothing comes back by it, whatever it does not report: so is taken what a SHUTDOWN reports,
+/// which tells of no gaps (RFC 9260 3.3.8), and any SACK by a sender that keeps nothing.
+pub fn acked(sender: &mut Sender, sack: &ChunkSelectiveAck) -> Result<Vec<Released>, SenderRefusal>
+    ensures { Acks (sack_of sack.now) sender.old sender.new result }
+{
+    sender.acked_alone(sack)
+}
+
+/// Takes back what a SACK no longer reports, as `Sender::acked` does before it takes the SACK. Answers it in order of TSNs.
+pub fn take_back(
+    sender: &mut Sender,
+    sack: &ChunkSelectiveAck,
+) -> Result<Vec<TakenBack>, SenderRefusal>
+    ensures { TakesBack (sack_of sack.now) sender.old sender.new result }
+{
+    sender.take_back_alone(sack, &mut Turns::new())
 }
 
 /// Removes the message in front, where it is past its deadline and wholly unsent, and answers it (RFC 3758 4.1). `now` is in
@@ -130,7 +153,7 @@ pub fn advanced_ack_point(sender: &Sender) -> u32
 }
 
 /// The open streams, in the order in which they were opened.
-pub fn open_streams(sender: &Sender) -> &[StreamState]
+pub fn open_streams(sender: &Sender) -> &[OutboundStream]
     ensures { result.now ≡ sender.now.streams }
 {
     sender.open_streams()

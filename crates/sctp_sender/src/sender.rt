@@ -16,9 +16,10 @@ mod retransmission;
 mod settings;
 
 use self::flight::anew::{keep_anew, make_room};
-use self::flight::kept::Kept;
+use self::flight::kept::{Kept, TakenBack};
 use self::flight::late::AbandonedMessage;
 use self::flight::{InFlight, Released};
+use self::kept::return_each;
 use self::outbound_streams::{OutboundStreams, fragments_of};
 use self::refusal::SenderRefusal;
 use bytes::Bytes;
@@ -28,7 +29,7 @@ use sctp_data::chunk::chunk_payload_data::{
 use sctp_data::chunk::chunk_selective_ack::ChunkSelectiveAck;
 use sctp_outbound::outbound_queue::OutboundQueue;
 use sctp_serial::turns::Turns;
-use sctp_stream::stream::StreamState;
+use sctp_stream::outbound_stream::OutboundStream;
 use std::alloc::Global;
 use std::collections::VecDeque;
 use std::marker::Model;
@@ -68,12 +69,24 @@ pub enum Dropped {
     Abandoned(Vec<AbandonedMessage>),
 }
 
+/// What a SACK does.
+#[derive(Drop)]
+pub struct Acked {
+    /// The chunks that it reports anew, each with its stream and its bytes: each stream has so much less, and where its amount so fell to
+    /// its low threshold one chunk says that.
+    pub released: Vec<Released>,
+    /// The chunks that it no longer reports (RFC 4960 6.2.1 D iv), in order of TSNs: each is outstanding again, and its stream had so
+    /// much more before the others left. None of an abandoned message, none past the last block, if there is one: a SACK may be cut
+    /// (6.7). None where the sender keeps nothing.
+    pub taken_back: Vec<TakenBack>,
+}
+
 /// What becomes of the user data of a chunk that a gap ack block reports (RFC 4960 6.2.1 D iv).
 #[derive(Clone, Copy, Debug, PartialEq, Eq)]
 pub enum Reported {
     /// It goes with the report: the chunk can't be sent again.
     Drop,
-    /// It is kept, shared, until the cumulative TSN passes the chunk, so that `Sender::take_back` can give it back.
+    /// It is kept, shared, until the cumulative TSN passes the chunk: a SACK that no longer reports the chunk gives it back.
     Keep,
 }
 
@@ -115,13 +128,13 @@ impl Model for Sender {
 impl Sender {
     ghost use Rattle.sctp_data.specs.SelectiveAck.{sack_of};
     ghost use Rattle.sctp_outbound.specs.outbound_queue.OutboundQueue.{all_started, as_sent, AreExpiredOf, expiring, stream_and_kind, total_bytes};
-    ghost use Rattle.sctp_stream.specs.declared.stream.StreamState.{StreamState};
+    ghost use Rattle.sctp_stream.specs.declared.outbound_stream.OutboundStream.{OutboundStream};
     ghost use Rattle.sctp_outbound.specs.pending_queue.PendingQueue.{next_pending};
     ghost use Rattle.sctp_serial.specs.DataChunks.{has_tsn};
     ghost use Rattle.sctp_serial.specs.Window.{is_held};
     ghost use Rattle.sctp_sender.specs.Flight.{with_queue, with_room, resent, message_to_abandon, has_tail_at};
     ghost use Rattle.sctp_sender.specs.Abandonment.{abandon_refusal};
-    ghost use Rattle.sctp_sender.specs.Calls.{Acks, CountsAcked, Expires, ExpiresTail, SendsTsn};
+    ghost use Rattle.sctp_sender.specs.Calls.{Acknowledges, Acks, AcksInFlight, CountsAcked, CountsSack, Expires, ExpiresTail, SendsTsn};
     ghost use Rattle.sctp_sender.specs.Numbers.{send_refusal, tsn_refusal};
     ghost use Rattle.sctp_sender.specs.Outgoing.{fragments_with_mode};
     ghost use Rattle.sctp_sender.specs.Sender.{with_nothing, with_reported, stream_of, is_open, open_stream, close_stream, with_mode_on, with_flight, write_refusal, written_to, after_send, after_abandon, after_expire_run};
@@ -170,12 +183,7 @@ impl Sender {
         if self.streams.place_of(stream).is_some() {
             return Err(SenderRefusal::StreamOpen);
         }
-        self.streams.open(
-            self.alloc,
-            stream,
-            self.fragment_size,
-            self.max_message_size,
-        )
+        self.streams.open(stream, self.fragment_size)
     }
 
     /// Closes a stream, where it is open: its state, its amount and its counters go. What waits and is in flight of it stays, and
@@ -232,11 +240,11 @@ impl Sender {
     ) -> Result<(Option<u64>, usize), SenderRefusal>
         ensures empty { length bytes.now ≡ 0 → OnOk result (self.new ≡ self.old) }
         ensures ok { 0 < length bytes.now
-            → OnOk result ((l : StreamState) → stream_of stream self.old ≡ Some l
+            → OnOk result ((l : OutboundStream) → stream_of stream self.old ≡ Some l
             → self.new ≡ written_to l stream ppi bytes.now self.old) }
         ensures number { IfOk result (λ r. r.0 ≡ (if length bytes.now == 0 then None
             else Some self.old.flight.queue.next_message_id)) }
-        ensures count { IfOk result (λ r. (l : StreamState) → stream_of stream self.old ≡ Some l
+        ensures count { IfOk result (λ r. (l : OutboundStream) → stream_of stream self.old ≡ Some l
             → 0 < length bytes.now → r.1 ≡ length (fragments_with_mode l ppi bytes.now)) }
         ensures none { length bytes.now ≡ 0 → IfOk result (λ r. r.1 ≡ 0) }
         ensures bytes { OnOk result (total_bytes self.new.flight.queue
@@ -510,32 +518,68 @@ impl Sender {
         self.flight.count_resend(tsn);
     }
 
-    /// Takes a SACK, whatever a peer claims (RFC 4960 6.2.1). Answers the chunks that it reports anew, each with its stream and its
-    /// bytes, which are all that leave; each stream has so much less, and where its amount so fell to its low threshold one chunk
-    /// says that. One whose cumulative TSN is before the last one changes nothing. Refuses with `InflightQueueTsnPop` or
-    /// `TsnRequestNotExist`, or for memory.
-    pub fn acked(&mut self, sack: &ChunkSelectiveAck) -> Result<Vec<Released>, SenderRefusal>
-        ensures { Acks (sack_of sack.now) self.old self.new result }
+    /// Takes a SACK, whatever a peer claims (RFC 4960 6.2.1): answers what it reports anew, with all bytes that leave, and what comes
+    /// back (`Reported`). One that is out of date changes nothing. Refuses with `InflightQueueTsnPop` or `TsnRequestNotExist`; for memory;
+    /// with `QueueFull`, where with what comes back all bytes exceed a usize. All is as it was then.
+    pub fn acked(&mut self, sack: &ChunkSelectiveAck) -> Result<Acked, SenderRefusal>
+        ensures { Acknowledges (sack_of sack.now) self.old self.new result }
     {
         self.acked_counted(sack, &mut Turns::new())
     }
 
-    /// The same, and its turns are added: where the sender does not keep what is reported, at most `sack_turns`, as
-    /// `InFlight::acked_counted` says, and where it does, at most `keeping_turns` more; none where the SACK is out of date, and at most
-    /// one for each block where it is refused for what it claims. The amounts of the streams take none.
+    /// The same, and its turns are added: at most `sack_turns`, as `InFlight::acked_counted` says, and where the sender keeps what is
+    /// reported at most `take_back_turns` and `keeping_turns` more; none where the SACK is out of date, and at most one for each block
+    /// where it is refused for what it claims. The amounts of the streams take one for each chunk that comes back.
     pub(crate) fn acked_counted(
         &mut self,
         sack: &ChunkSelectiveAck,
         turns: &mut Turns,
+    ) -> Result<Acked, SenderRefusal>
+        ensures acks { Acknowledges (sack_of sack.now) self.old self.new result }
+        ensures turns { CountsSack (sack_of sack.now) self.old turns.old turns.new }
+    {
+        let back = self.bring_back_counted(sack, turns)?;
+        let mut released = match self.acked_in_flight_counted(sack, turns) {
+            Ok(released) => released,
+            Err(refusal) => {
+                self.undo_back(back, turns);
+                return Err(refusal);
+            }
+        };
+        return_each(&mut self.streams, &back.told.answered, turns);
+        release_each(&mut self.streams, &mut released);
+        Ok(Acked {
+            released,
+            taken_back: back.told.answered,
+        })
+    }
+
+    /// Takes a SACK by which nothing comes back, whatever it does not report. It does what `acked` does of a sender that keeps nothing.
+    pub(crate) fn acked_alone(
+        &mut self,
+        sack: &ChunkSelectiveAck,
     ) -> Result<Vec<Released>, SenderRefusal>
-        ensures acks { Acks (sack_of sack.now) self.old self.new result }
+        ensures { Acks (sack_of sack.now) self.old self.new result }
+    {
+        let mut released = self.acked_in_flight_counted(sack, &mut Turns::new())?;
+        release_each(&mut self.streams, &mut released);
+        Ok(released)
+    }
+
+    // The same, but the streams stay as they are. Its turns are added: where the sender does not keep what is reported, at most
+    // `sack_turns`, and where it does, at most `keeping_turns` more.
+    fn acked_in_flight_counted(
+        &mut self,
+        sack: &ChunkSelectiveAck,
+        turns: &mut Turns,
+    ) -> Result<Vec<Released>, SenderRefusal>
+        ensures acks { AcksInFlight (sack_of sack.now) self.old self.new result }
         ensures turns { CountsAcked (sack_of sack.now) self.old turns.old turns.new }
     {
         let anew = self.anew_by(sack, turns)?;
         make_room(&mut self.kept, &anew, turns)?;
-        let mut released = self.flight.acked_counted(self.alloc, sack, turns)?;
+        let released = self.flight.acked_counted(self.alloc, sack, turns)?;
         keep_anew(&mut self.kept, anew, turns);
-        release_each(&mut self.streams, &mut released);
         Ok(released)
     }
 
@@ -585,7 +629,7 @@ impl Sender {
 
     /// The state of a stream: its mode, its number for the next ordered message, its amount and its counters; None where it is
     /// not open.
-    pub fn stream(&self, stream: u16) -> Option<&StreamState>
+    pub fn stream(&self, stream: u16) -> Option<&OutboundStream>
         ensures { option_copied result ≡ stream_of stream self.now }
     {
         self.streams.find(stream)

@@ -83,11 +83,10 @@ fn goes(alloc: Global, sender: &mut Sender, tsn: u32, blocks: &[(u16, u16)], due
     let Some(sack) = sack(alloc, tsn, blocks) else {
         return false;
     };
-    let well = match sender.take_back(&sack) {
-        Ok(answered) => are_taken_back(&answered, due),
+    match sender.acked(&sack) {
+        Ok(acked) => are_taken_back(&acked.taken_back, due),
         Err(_) => false,
-    };
-    well && sender.acked(&sack).is_ok()
+    }
 }
 
 fn ten_are_sent(sender: &mut Sender, byte: &Bytes) -> bool {

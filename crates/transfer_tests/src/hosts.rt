@@ -144,7 +144,7 @@ fn acknowledges_anew(
         sender.acked(sack)
     };
     match (answer, due) {
-        (Ok(released), Ok(due)) => released.as_slice() == *due,
+        (Ok(acked), Ok(due)) => acked.released.as_slice() == *due,
         (Err(e), Err(due)) => e == *due,
         _ => false,
     }
@@ -168,19 +168,17 @@ fn take_back(
 }
 
 // Whether the SACK takes back these chunks.
-fn takes_back(
-    sender: &mut Sender,
-    sack: &ChunkSelectiveAck,
-    due: &[TakenBack],
-    counted: bool,
-) -> bool {
-    let answer = if counted {
-        take_back(sender, sack, &mut Turns::new())
-    } else {
-        sender.take_back(sack)
-    };
-    match answer {
+fn takes_back(sender: &mut Sender, sack: &ChunkSelectiveAck, due: &[TakenBack]) -> bool {
+    match take_back(sender, sack, &mut Turns::new()) {
         Ok(back) => back.as_slice() == due,
+        Err(_) => false,
+    }
+}
+
+// Whether the SACK is taken, and takes back these chunks.
+fn is_taken(sender: &mut Sender, sack: &ChunkSelectiveAck, due: &[TakenBack]) -> bool {
+    match sender.acked(sack) {
+        Ok(acked) => acked.taken_back.as_slice() == due,
         Err(_) => false,
     }
 }
@@ -200,9 +198,9 @@ fn sack_goes(sender: &mut Sender, sack: &ChunkSelectiveAck, step: &Step, counted
     match step {
         Acked(_, _, due) => acknowledges_anew(sender, sack, due, counted),
         TakeBack(_, _, due, before, after) => {
-            takes_back(sender, sack, due, counted)
-                && has_bytes(sender, *before)
-                && sender.acked(sack).is_ok()
+            let due_then: &[TakenBack] = if counted { &[] } else { due };
+            (!counted || takes_back(sender, sack, due) && has_bytes(sender, *before))
+                && is_taken(sender, sack, due_then)
                 && has_bytes(sender, *after)
         }
         MissBlock(_, marked) => match highest_acked(sender, sack) {

@@ -1,15 +1,23 @@
 //! A caller of a receiver.
 
-ghost use Rattle.std.specs.Prelude.{◌≡◌, ◌+◌, ◌-◌, ◌*◌, ◌≤◌, true, Some, None, OnOk, OnErr, IfOk, IfErr, length};
+ghost use Rattle.std.specs.Prelude.{◌≡◌, ◌++◌, ◌+◌, ◌-◌, ◌*◌, ◌≤◌, true, Some, None, OnOk, OnErr, IfOk, IfErr, drop, length, option_map, slice_get};
 ghost use Rattle.sctp_data.specs.SelectiveAck.{sack_of};
+ghost use Rattle.sctp_reassembly.specs.reassembly_queue.ReassemblyQueue.{at_start};
 ghost use Rattle.sctp_receiver.specs.declared.receiver.refusal.ReceiverRefusal.TheVariants.{OutOfMemory, StreamUnknown};
 ghost use Rattle.sctp_receiver.specs.Advice.{is_next_to_come};
-ghost use Rattle.sctp_receiver.specs.Receiver.{Takes, after_discard, after_sack_within, arrival_of, arrival_refusal, filter_of, sack_within, window};
+ghost use Rattle.sctp_receiver.specs.Credit.{AfterEachLimitedRun, cost_held, left_of};
+ghost use Rattle.sctp_receiver.specs.Drains.{due_on};
+ghost use Rattle.sctp_receiver.specs.Duplicates.{AfterEachRunWithRepeats};
+ghost use Rattle.sctp_receiver.specs.Receiver.{Takes, after_discard, after_sack_within, arrival_of, arrival_refusal, filter_of, sack_within, stream_of, window};
 ghost use Rattle.sctp_receiver.specs.TsnFilter.{has_come};
 
 use sctp_chunks::chunk::chunk_payload_data::ChunkPayloadData;
 use sctp_chunks::chunk::chunk_selective_ack::ChunkSelectiveAck;
+use sctp_reassembly::chunks::Chunks;
 use sctp_receiver::advice::{AbortCause, Advice, advise};
+use sctp_receiver::laws::credit::credit_is_what_is_left;
+use sctp_receiver::laws::drains::a_drain_gives_what_is_due;
+use sctp_receiver::laws::duplicates::repeats_are_told_once;
 use sctp_receiver::laws::no_chunk_waits_for_ever;
 use sctp_receiver::receiver::Receiver;
 use sctp_receiver::receiver::arrival::Arrival;
@@ -109,4 +117,32 @@ pub fn acknowledge(
     ensures memory { IfErr result (λ e. e ≡ OutOfMemory) }
 {
     receiver.sack(packet - 12)
+}
+
+/// Makes the SACK that `Receiver::sack` makes. After whatever calls the receiver stands so: the credit is what the window leaves over what
+/// is held, and the duplicates are the next ones of the TSNs that came again, of which the receiver notes the others still.
+pub fn sack_as_told(
+    receiver: &mut Receiver,
+    room: usize,
+) -> Result<ChunkSelectiveAck, ReceiverRefusal>
+    ensures credit { IfOk result (λ s. AfterEachLimitedRun (λ l t. t.receiver ≡ receiver.old
+        → s.advertised_receiver_window_credit ≡ left_of l.window (cost_held receiver.old))) }
+    ensures duplicates { IfOk result (λ s. AfterEachRunWithRepeats
+        (λ t d. t.receiver ≡ receiver.old
+        → d.again ≡ d.told ++ (s.duplicate_tsn.items ++ receiver.new.duplicates))) }
+{
+    credit_is_what_is_left();
+    repeats_are_told_once();
+    receiver.sack(room)
+}
+
+/// Reads a message as `Receiver::read` does: the first of those that are due on the stream. The others stay due.
+pub fn read_due(receiver: &mut Receiver, stream: u16) -> Result<Option<Chunks>, ReceiverRefusal>
+    ensures first { IfOk result (λ message. message
+        ≡ option_map at_start (slice_get (due_on (stream_of stream receiver.old)) 0)) }
+    ensures rest { OnOk result (due_on (stream_of stream receiver.new)
+        ≡ drop 1 (due_on (stream_of stream receiver.old))) }
+{
+    a_drain_gives_what_is_due();
+    receiver.read(stream)
 }

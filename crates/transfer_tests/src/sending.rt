@@ -9,7 +9,7 @@ ghost use Rattle.sctp_sender.specs.Flight.{released_by, sack_refusal};
 ghost use Rattle.sctp_sender.specs.Abandonment.{advanced_ack_point, skip_end};
 ghost use Rattle.sctp_sender.specs.Late.{after_late};
 ghost use Rattle.sctp_sender.specs.Resending.{is_to_resend};
-ghost use Rattle.sctp_sender.specs.Sender.{after_acked, after_take_back, taken_back_by};
+ghost use Rattle.sctp_sender.specs.Sender.{after_acked, after_take_back, take_back_refusal, taken_back_by};
 ghost use Rattle.sctp_sender.specs.Thresholds.{fell, tells_low};
 ghost use Rattle.std.specs.List.{list_any};
 ghost use Rattle.sctp_serial.specs.DataChunks.{has_tsn};
@@ -26,7 +26,8 @@ use sctp_sender::sender::refusal::SenderRefusal;
 /// Gives a SACK to a sender. One that claims what can't be is dropped, and nothing changes. Fails only where memory ran out.
 pub fn take_sack(sender: &mut Sender, sack: &ChunkSelectiveAck) -> Result<(), SenderRefusal>
     ensures taken { sack_refusal (sack_of sack.now) sender.old.flight ≡ None
-        → OnOk result (sender.new ≡ after_acked (sack_of sack.now) sender.old) }
+        → take_back_refusal (sack_of sack.now) sender.old ≡ None → OnOk result (sender.new
+        ≡ after_acked (sack_of sack.now) (after_take_back (sack_of sack.now) sender.old)) }
     ensures forged { (e : SenderRefusal)
         → sack_refusal (sack_of sack.now) sender.old.flight ≡ Some e → sender.new ≡ sender.old }
     ensures err { OnErr result (sender.new ≡ sender.old) }
@@ -40,7 +41,7 @@ pub fn take_sack(sender: &mut Sender, sack: &ChunkSelectiveAck) -> Result<(), Se
 }
 
 /// Gives a SACK to a sender that keeps what was reported (RFC 4960 6.2.1 D iv): what it no longer reports is outstanding again, and
-/// answered; then what it reports is acknowledged. Where that is refused for memory, what came back stays so.
+/// answered; then what it reports is acknowledged. Where that is refused, all is as it was.
 pub fn take_back_and_acknowledge(
     sender: &mut Sender,
     sack: &ChunkSelectiveAck,
@@ -48,12 +49,10 @@ pub fn take_back_and_acknowledge(
     ensures back { IfOk result (λ back. back.items ≡ taken_back_by (sack_of sack.now) sender.old) }
     ensures taken { OnOk result (sender.new
         ≡ after_acked (sack_of sack.now) (after_take_back (sack_of sack.now) sender.old)) }
-    ensures err { OnErr result ((sender.new ≡ sender.old)
-        ⊎ (sender.new ≡ after_take_back (sack_of sack.now) sender.old)) }
+    ensures err { OnErr result (sender.new ≡ sender.old) }
 {
-    let back = sender.take_back(sack)?;
-    sender.acked(sack)?;
-    Ok(back)
+    let acked = sender.acked(sack)?;
+    Ok(acked.taken_back)
 }
 
 /// Abandons what is late, and answers the FORWARD-TSN that the peer is to be sent then, if there is one, whatever its length is.
@@ -79,7 +78,7 @@ pub fn highest_acked(
         (length (released_by (sack_of sack.now) sender.old.flight) - 1))) }
     ensures err { OnErr result (sender.new ≡ sender.old) }
 {
-    let released = sender.acked(sack)?;
+    let released = replay::acked(sender, sack)?;
     match released.last() {
         Some(one) => Ok(Some(one.tsn)),
         None => Ok(None),
@@ -97,7 +96,7 @@ pub fn is_low_after(
     ensures low { IfOk result (λ low. low ≡ fell stream sender.old sender.new) }
     ensures err { OnErr result (sender.new ≡ sender.old) }
 {
-    let released = sender.acked(sack)?;
+    let released = replay::acked(sender, sack)?;
     Ok(tell_low(&released, stream))
 }
 

@@ -132,7 +132,7 @@ impl Association {
             return Ok(());
         }
         let flight = self.flight();
-        let released = self.sender.acked(sack)?;
+        let released = self.sender.acked(sack)?.released;
         self.peer_window = sack.advertised_receiver_window_credit as usize;
         self.is_skip_due = true;
         self.measure(&released, now);

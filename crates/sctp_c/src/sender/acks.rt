@@ -15,6 +15,7 @@ use super::queries::moment_of;
 use crate::code::{SCTPR_OK, SCTPR_SHORT_BUFFER, SCTPR_STALE, of_error, of_sender};
 use crate::in_place::read_sack;
 use sctp_chunks::chunk::chunk_selective_ack::ChunkSelectiveAck;
+use sctp_sender::replay;
 use sctp_sender::sender::Sender;
 use sctp_sender::sender::flight::Released;
 use sctp_sender::sender::flight::kept::TakenBack;
@@ -138,7 +139,7 @@ fn take_sack(
         *count = 0;
         return SCTPR_STALE;
     }
-    match own.acked(sack) {
+    match replay::acked(own, sack) {
         Ok(released) => {
             fill_acked(rows, &released);
             *count = released.len();
@@ -263,7 +264,7 @@ pub extern "C" fn sctpr_sender_take_back(
         *count = 0;
         return SCTPR_STALE;
     }
-    match own.take_back(&sack) {
+    match replay::take_back(own, &sack) {
         Ok(answered) => {
             fill_taken_back(rows, &answered);
             *count = answered.len();

@@ -7,7 +7,7 @@ use Rattle.sctp_link.proofs.Names.{at_start, StreamUnknown, LinkRecord, StreamRe
 use Rattle.sctp_link.proofs.Names.{next_read, read_of, after_reading, mark_read, without_first, filter_of, handed_out, IsSpan, refusal_of, reply_to, after}
 use Rattle.sctp_link.proofs.Names.{read_reply, unless, shape, slot-sent, reassembly_of, counters_on, received_more, Begins, counters-read, counters-nothing}
 use Rattle.sctp_link.proofs.Names.{OpenStream, both_ways, has_number, on_inbound, read_recorded, stats_in, stream_numbers, Message, count_read, stream_read}
-use Rattle.sctp_link.proofs.Names.{DataChannelStats, StreamState, State, IsLinked, IsOpenStream, stats_of, message_record, stream_record, progress_of, IsApart}
+use Rattle.sctp_link.proofs.Names.{DataChannelStats, OutboundStream, State, IsLinked, IsOpenStream, stats_of, message_record, stream_record, progress_of, IsApart}
 use Rattle.sctp_link.proofs.Names.{map-set_same, chunk_at, Inside, Slot, record_in, sides_in, state_in, map-set, with_received, set-set, filter-read}
 use Rattle.sctp_link.proofs.Names.{joined-length, ppi-handed, HandsOut, hands-out, none-mapped, some-mapped, unless-holds, is_open}
 use Rattle.sctp_model.specs.Log.{joined_bytes}
@@ -256,7 +256,7 @@ module _ {sum : List ℕ → ℕ} {x : State} (l : IsLinked sum x) (s at : ℕ) 
       open_stream-is : IsOpenStream v z
       open_stream-is = stream-read z refl refl refl refl refl refl refl next-is stats-are
 
-      abbrev shown : ℕ → StreamState → List ℕ → StreamRecord
+      abbrev shown : ℕ → OutboundStream → List ℕ → StreamRecord
       shown named t complete = record {
         stream = t.stream_identifier;
         unordered = t.unordered;

@@ -4,7 +4,7 @@ use Rattle.sctp_link.proofs.Names.{◌&&◌, not, nat_le, if◌then◌else◌, f
 use Rattle.sctp_link.proofs.Names.{change_at, change_where, insert_before, and-none, and-true, ChunkPayloadData, chunk_before, Reassembly, ReassemblyState}
 use Rattle.sctp_link.proofs.Names.{is_too_large, held_after_ordered_push, BecomesComplete, LinkRecord, StreamRecord, message_at, message_of, slots_of}
 use Rattle.sctp_link.proofs.Names.{index_of, tsn_of, is_new, has_arrived, receive_slot, becomes_complete, with_complete, note_completion, stream_changed}
-use Rattle.sctp_link.proofs.Names.{mark_arrived, chunk_at, IsSpan, reassembly_of, with_arrived, StreamState, Arrival, New, Repeat, ReceiverRefusal}
+use Rattle.sctp_link.proofs.Names.{mark_arrived, chunk_at, IsSpan, reassembly_of, with_arrived, OutboundStream, Arrival, New, Repeat, ReceiverRefusal}
 use Rattle.sctp_link.proofs.Names.{TsnOpposite, MessageTooLarge, stream_refusal, data_refusal, arrival_of, Filter, has_come, is_opposite, with_tsn}
 use Rattle.sctp_link.proofs.Names.{with_duplicate, Keeps, OpenStream, has_number, stream_numbers, Sides, reception_of, with_filter_of, on_stream, Accepts}
 use Rattle.sctp_link.proofs.Names.{Takes, repeat_tsn, stream_record, HoldsQueue, IsReceiver, Comes, is_first, IsApart, map-set_same}
@@ -21,7 +21,7 @@ use Rattle.sctp_link.proofs.upkeep.StreamPlaces.{placed, changed-found, apart-se
 use Rattle.sctp_link.proofs.receiver.Came.{come-is, near-is, filter-new, filter-again}
 
 -- a stream with these complete messages
-abbrev pub shown : ℕ → StreamState → List ℕ → StreamRecord
+abbrev pub shown : ℕ → OutboundStream → List ℕ → StreamRecord
 shown named s complete = record {
   stream = s.stream_identifier;
   unordered = s.unordered;
@@ -215,7 +215,7 @@ module _ {w : LinkRecord} {x : Sides} (r : IsReceiver w x) (p : ℕ) (c : ChunkP
         holds = holds-by (message_at w n).ordered refl
 
         same-id : z.state.stream_identifier ≡ y.state.stream_identifier
-        same-id = ap (λ (t : StreamState). t.stream_identifier) state-is
+        same-id = ap (λ (t : OutboundStream). t.stream_identifier) state-is
 
         streams-apart : IsApart (stream_numbers x.streams)
         streams-apart = r.apart
@@ -223,7 +223,7 @@ module _ {w : LinkRecord} {x : Sides} (r : IsReceiver w x) (p : ℕ) (c : ChunkP
         shown-is : (b : Bool) → becomes_complete (with_arrived w p) n ≡ b
             → stream_record z ≡ shown y.named y.state (if b then y.complete ++ n ∷ [] else y.complete)
         shown-is b h =
-            ap (λ (t : StreamState). shown z.named t z.complete) state-is ∙ ap (λ n. shown n y.state z.complete) (ap (λ (l : OpenStream). l.named) keeps.rest)
+            ap (λ (t : OutboundStream). shown z.named t z.complete) state-is ∙ ap (λ n. shown n y.state z.complete) (ap (λ (l : OpenStream). l.named) keeps.rest)
             ∙ ap (shown y.named y.state) (ap (λ (l : OpenStream). l.complete) keeps.rest ∙ ap (λ c. if c then y.complete ++ number ∷ []
             else y.complete) (holds.noted ∙ h) ∙ ap (λ i. if b then y.complete ++ i ∷ [] else y.complete) number_is)
 

@@ -1,7 +1,7 @@
 -- A message is begun: what its stream counts then, and the index that it takes.
 use Rattle.sctp_link.proofs.Names.{◌≡◌, ℕ, zero, suc, ◌+◌, ◌<◌, Bool, true, false, List, [], ◌∷◌, length, map, Option, Some, None, refl, ap, sym, ◌∙◌, arith}
 use Rattle.sctp_link.proofs.Names.{if◌then◌else◌, ◌==◌, ◌&&◌, find, option_map, slice_index_or, subst, change_where, some-same, shape, Indexed, same-turned}
-use Rattle.sctp_link.proofs.Names.{StreamState, InboundStream, Standing, Message, begins, begun_of, begun_by, OpenStream, join_each, has_number}
+use Rattle.sctp_link.proofs.Names.{OutboundStream, InboundStream, Standing, Message, begins, begun_of, begun_by, OpenStream, join_each, has_number}
 use Rattle.sctp_link.proofs.Names.{stream_numbers, State, IsLinked, stream_record}
 use Rattle.sctp_link.specs.Progress as Progress
 use Rattle.sctp_link.proofs.sides.Joined.{Alike, found-progress, progress-changed}
@@ -69,7 +69,7 @@ abbrev pub begun_in : Option OpenStream → ℕ
 begun_in None = 0
 begun_in (Some l) = l.begun
 
-module _ (states : List StreamState) (inbounds : List InboundStream) (ps : List Standing) (a : Alike states inbounds ps) where
+module _ (states : List OutboundStream) (inbounds : List InboundStream) (ps : List Standing) (a : Alike states inbounds ps) where
   pub begun-joined : (t : ℕ) → begun_of t ps ≡ begun_in (find (has_number t) (join_each states inbounds ps))
   begun-joined t = by (find (has_number t) (join_each states inbounds ps)) (find (Progress.has_number t) ps)
       (found-progress (λ (l : OpenStream). l.begun) (λ (p : Standing). p.begun) (λ s i p. refl) t states inbounds ps a)

@@ -5,7 +5,7 @@ use Rattle.sctp_link.proofs.Names.{map-append, change_at, length-mapped, length-
 use Rattle.sctp_link.proofs.Names.{ChunkPayloadData, next_pending, Outbound, all_started, sent_peeked, sent_next, LinkRecord, front, message_at, no_message}
 use Rattle.sctp_link.proofs.Names.{tsn_of, after_start, start_lifetime, with_slot, send_fragment, send_fragment_of, shape, slotted, front-takes, sent-slotted}
 use Rattle.sctp_link.proofs.Names.{waiting_at, RefinesOutbound, begun_on, is_begun_on, Indexed, indexed-taken, after_fragments, after-next, next-tsn, shown}
-use Rattle.sctp_link.proofs.Names.{all-begun, refines-fragment, going-started, refines-started, StreamState, InboundStream, OpenStream, join_each, has_number}
+use Rattle.sctp_link.proofs.Names.{all-begun, refines-fragment, going-started, refines-started, OutboundStream, InboundStream, OpenStream, join_each, has_number}
 use Rattle.sctp_link.proofs.Names.{stream_numbers, Message, State, IsLinked, start_from, fragment_slot, begins, begun_of, with_fragment, message_record}
 use Rattle.sctp_link.proofs.Names.{progress_of, slot_record, stream_record, Outgoing, CanSend, Leaves, Leave, map-set_same, following_tsn, get_or-map}
 use Rattle.sctp_link.proofs.Names.{messages-few, map-set, none-start, next-unstarted, one-more-fits}
@@ -34,7 +34,7 @@ abbrev pub counted : ℕ → OpenStream → OpenStream
 counted n l = record l { begun = n }
 
 -- the sender's side of a link x, once lifetimes have started and the slots of v are given out
-pub record Between (states : List StreamState) (inbounds : List InboundStream) (x : State) (now : ℕ) (v : LinkRecord) (s : Outgoing) : Type 0 where
+pub record Between (states : List OutboundStream) (inbounds : List InboundStream) (x : State) (now : ℕ) (v : LinkRecord) (s : Outgoing) : Type 0 where
   pub alike : Alike states inbounds s.progress
   pub going : Going x.recorded.setup v
   pub only : v ≡ record (after_start x.recorded now) { slots = v.slots }
@@ -53,7 +53,7 @@ pub record Between (states : List StreamState) (inbounds : List InboundStream) (
 
 -- ## Before the first one
 
-module _ (states : List StreamState) (inbounds : List InboundStream) {sum : List ℕ → ℕ} {x : State} (l : IsLinked sum x) (now : ℕ) (ms : List Message)
+module _ (states : List OutboundStream) (inbounds : List InboundStream) {sum : List ℕ → ℕ} {x : State} (l : IsLinked sum x) (now : ℕ) (ms : List Message)
     (em : x.recorded.messages ≡ map message_record ms) (es : x.progress ≡ map progress_of ms) where
   pub between-none : (s : Outgoing) {q : Outbound} → RefinesOutbound x.recorded q → s.outbound ≡ all_started now q → s.messages ≡ start_from x.unstarted now ms
       → Alike states inbounds s.progress → (join_each states inbounds s.progress) ≡ x.open_streams → x.recorded.streams ≡ map stream_record x.open_streams
@@ -83,7 +83,7 @@ module _ (states : List StreamState) (inbounds : List InboundStream) {sum : List
 
 -- ## One more
 
-module _ (states : List StreamState) (inbounds : List InboundStream) (x : State) (now : ℕ) (v : LinkRecord) (s : Outgoing)
+module _ (states : List OutboundStream) (inbounds : List InboundStream) (x : State) (now : ℕ) (v : LinkRecord) (s : Outgoing)
     (b : Between states inbounds x now v s) where
   few : length v.slots < 2 ^ 31
   few = Few.few x.recorded.setup v b.going.consistent
@@ -315,7 +315,7 @@ module _ (states : List StreamState) (inbounds : List InboundStream) (x : State)
       }
 
 -- where there is a next fragment, and it leaves
-pub between-more : (states : List StreamState) (inbounds : List InboundStream) (x : State) (now : ℕ) (v : LinkRecord) (s t : Outgoing)
+pub between-more : (states : List OutboundStream) (inbounds : List InboundStream) (x : State) (now : ℕ) (v : LinkRecord) (s t : Outgoing)
     → Between states inbounds x now v s → is_some (front v) ≡ true → Leaves now s t → Between states inbounds x now (send_fragment v) t
 between-more states inbounds x now v s t b some f = by (front v) refl some
   where
@@ -323,7 +323,7 @@ between-more states inbounds x now v s t b some f = by (front v) refl some
     by None e h = cc
     by (Some n) e h = between-one states inbounds x now v s b n e t f
 
-pub between-can : (states : List StreamState) (inbounds : List InboundStream) (x : State) (now : ℕ) (v : LinkRecord) (s : Outgoing)
+pub between-can : (states : List OutboundStream) (inbounds : List InboundStream) (x : State) (now : ℕ) (v : LinkRecord) (s : Outgoing)
     → Between states inbounds x now v s → is_some (front v) ≡ true → CanSend s
 between-can states inbounds x now v s b some = by (front v) refl some
   where
@@ -333,7 +333,7 @@ between-can states inbounds x now v s b some = by (front v) refl some
 
 -- ## So many
 
-pub between-after : (states : List StreamState) (inbounds : List InboundStream) (x : State) (now : ℕ) (u : LinkRecord) (s : Outgoing)
+pub between-after : (states : List OutboundStream) (inbounds : List InboundStream) (x : State) (now : ℕ) (u : LinkRecord) (s : Outgoing)
     → Between states inbounds x now u s → (count : ℕ) → ((i : ℕ) → i < count → is_some (front (after_fragments i u)) ≡ true) → (i : ℕ) → i ≤ count
     → (t : Outgoing) → Leave now i s t → Between states inbounds x now (after_fragments i u) t
 between-after states inbounds x now u s b count some zero le t f = subst (Between states inbounds x now u) (sym f) b
@@ -342,7 +342,7 @@ between-after states inbounds x now u s b count some (suc i) le t f =
     (between-more states inbounds x now (after_fragments i u) f.0 t (between-after states inbounds x now u s b count some i (omega (arith, le)) f.0 f.1.0)
     (some i (omega (arith, le))) f.1.1)
 
-pub each-can : (states : List StreamState) (inbounds : List InboundStream) (x : State) (now : ℕ) (u : LinkRecord) (s : Outgoing)
+pub each-can : (states : List OutboundStream) (inbounds : List InboundStream) (x : State) (now : ℕ) (u : LinkRecord) (s : Outgoing)
     → Between states inbounds x now u s → (count : ℕ) → ((i : ℕ) → i < count → is_some (front (after_fragments i u)) ≡ true) → (i : ℕ) (t : Outgoing)
     → i < count → Leave now i s t → CanSend t
 each-can states inbounds x now u s b count some i t lt f =

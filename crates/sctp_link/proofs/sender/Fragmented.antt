@@ -2,12 +2,12 @@
 use Rattle.sctp_link.proofs.Names.{◌≡◌, ℕ, ◌+◌, ◌-◌, ◌<◌, ◌%◌, ◌^◌, List, [], ◌∷◌, ◌++◌, length, map, ap, sym, ◌∙◌, arith}
 use Rattle.sctp_link.proofs.Names.{numbers_from, pieces, PayloadProtocolIdentifier, with_message_id}
 use Rattle.sctp_link.proofs.Names.{fragments_with_mode, LinkRecord, StreamRecord, message_of, fragment_count, ordered_before, message_on, waiting_at}
-use Rattle.sctp_link.proofs.Names.{waiting_of, StreamState, map-twice, pieces_of, map-all}
+use Rattle.sctp_link.proofs.Names.{waiting_of, OutboundStream, map-twice, pieces_of, map-all}
 use Rattle.sctp_model.proofs.refinement.sending.Waiting
 use Rattle.sctp_model.proofs.refinement.sending.Written
 use Rattle.sctp_sender.proofs.SenderStreams.{made, fragments-made}
 
-module _ (w : LinkRecord) (s : StreamState) (r : StreamRecord) (ppi : PayloadProtocolIdentifier) (bytes : List ℕ) (number : r.stream ≡ s.stream_identifier)
+module _ (w : LinkRecord) (s : OutboundStream) (r : StreamRecord) (ppi : PayloadProtocolIdentifier) (bytes : List ℕ) (number : r.stream ≡ s.stream_identifier)
     (mode : r.unordered ≡ s.unordered) (reliability : r.reliability ≡ s.reliability_type) (value : r.value ≡ s.reliability_value)
     (size : s.max_payload_size ≡ w.setup.size) (ssn : s.sequence_number ≡ ordered_before w r.stream (length w.messages) % 2 ^ 16) where
   abbrev pub v : LinkRecord

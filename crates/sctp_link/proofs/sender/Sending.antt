@@ -6,7 +6,7 @@ use Rattle.sctp_link.proofs.Names.{chunk_at, contents_of, filter_of, in_all, wri
 use Rattle.sctp_link.proofs.Names.{send_fragments, IsRight, StandsFor, reply_to, fragments_accepted, shape, Quiet, chunks_taken, begun_on}
 use Rattle.sctp_link.proofs.Names.{RefinesOutbound, Indexed, Fills, fill-sent, fill-started, sent-started, only-slots, before-started, outbound-same}
 use Rattle.sctp_link.proofs.Names.{same-self, OpenStream, join_each, IsApart, IsDatagram, packet_with, wire_data, State, IsLinked, IsOpenStream, progress_of}
-use Rattle.sctp_link.proofs.Names.{StreamState, InboundStream, Outgoing, stands-then, piece-short, SameStream, stream-quiet, filter-kept, fragments-same}
+use Rattle.sctp_link.proofs.Names.{OutboundStream, InboundStream, Outgoing, stands-then, piece-short, SameStream, stream-quiet, filter-kept, fragments-same}
 use Rattle.sctp_link.proofs.Names.{written-kept}
 use Rattle.sctp_chunks.specs.declared.chunk.chunk_kind.ChunkKind.TheVariants as C
 use Rattle.sctp_model.specs.declared.event.Event.TheVariants as E
@@ -123,7 +123,7 @@ module _ {sum : List ℕ → ℕ} {x : State} (l : IsLinked sum x) (now n : ℕ)
       → ns ≡ w.network ++ W.Data places ∷ [] → record w { streams = rs; messages = ms; slots = ss; network = ns } ≡ v
   recorded-is rs ms ss ns r a b c = cc (r, a, b, c)
 
-  module _ (states : List StreamState) (inbounds : List InboundStream) (s : Outgoing)
+  module _ (states : List OutboundStream) (inbounds : List InboundStream) (s : Outgoing)
       (b : Between states inbounds x now (send_fragments (after_start x.recorded now)) s) (bytes : List ℕ)
       (encoding : IsDatagram sum (contents_of v (W.Data places)) bytes) (count : length x.datagrams ≡ length x.recorded.network) where
     shape-same : shape (send_fragments (after_start x.recorded now)) ≡ shape v

@@ -2,7 +2,7 @@
 use Rattle.sctp_link.proofs.Names.{◌≡◌, ℕ, ◌<◌, List, [], ◌∷◌, ◌++◌, length, map, Some, ap, sym, ◌∙◌, arith, AllByRecursion, subst, numbers_from}
 use Rattle.sctp_link.proofs.Names.{length-mapped, ChunkKind, ChunkPayloadData, wire_of, HasEncoding, Canonical, ReadsPacket, packet_encoding, next_pending}
 use Rattle.sctp_link.proofs.Names.{Outbound, all_started, after_start, send_fragments, IsRight, chunks_taken, Fills, Message, Slot, Datagram, Kind}
-use Rattle.sctp_link.proofs.Names.{message_record, progress_of, slot_record, kind_record, datagram_record, stream_record, start_from, StreamState}
+use Rattle.sctp_link.proofs.Names.{message_record, progress_of, slot_record, kind_record, datagram_record, stream_record, start_from, OutboundStream}
 use Rattle.sctp_link.proofs.Names.{InboundStream, join_each, Outgoing, CanSend, Leave, packet_with, State, IsLinked, LinkRecord, refines-room, Next, next-is}
 use Rattle.sctp_chunks.specs.declared.chunk.chunk_kind.ChunkKind.TheVariants as C
 use Rattle.sctp_model.specs.declared.event.Event.TheVariants as E
@@ -41,7 +41,7 @@ module _ {sum : List ℕ → ℕ} {x : State} (l : IsLinked sum x) (now : ℕ) (
 
   module _ (ms : List Message) (slots : List Slot) (streams : x.recorded.streams ≡ map stream_record x.open_streams)
       (em : x.recorded.messages ≡ map message_record ms) (es : x.progress ≡ map progress_of ms) (ew : x.recorded.slots ≡ map slot_record slots)
-      (states : List StreamState) (inbounds : List InboundStream) (s : Outgoing) (same : Alike states inbounds s.progress) (q : Outbound) (room : ℕ)
+      (states : List OutboundStream) (inbounds : List InboundStream) (s : Outgoing) (same : Alike states inbounds s.progress) (q : Outbound) (room : ℕ)
       (eq : q ≡ record x.outbound { inflight = record x.outbound.inflight { room = room } }) (out : s.outbound ≡ all_started now q)
       (is : s.messages ≡ start_from x.unstarted now ms) (opened : join_each states inbounds s.progress ≡ x.open_streams) (given : s.slots ≡ slots)
       (tsn : s.next_tsn ≡ x.next_tsn) where

@@ -2,7 +2,7 @@
 use Rattle.sctp_link.proofs.Names.{◌≡◌, ℕ, ◌+◌, ◌-◌, ◌<◌, List, [], ◌∷◌, length, set, Bool, true, false, Option, Some, None, Result, Ok, Err, inl, inr, refl}
 use Rattle.sctp_link.proofs.Names.{ap, sym, ◌∙◌, subst, ◌⊎◌, slice_index_or, find, if◌then◌else◌, option_map, is_some, OnOk, OnErr, IfErr, IfSome}
 use Rattle.sctp_link.proofs.Names.{change_where, some-same, is_ordered, Sack, ChunkPayloadData, PayloadProtocolIdentifier, ReliabilityType, with_message}
-use Rattle.sctp_link.proofs.Names.{expired_of, DataChannelStats, StreamState, InboundStream, Reception, Released, OutOfMemory, Flight, with_queue, after_sack}
+use Rattle.sctp_link.proofs.Names.{expired_of, DataChannelStats, OutboundStream, InboundStream, Reception, Released, OutOfMemory, Flight, with_queue, after_sack}
 use Rattle.sctp_link.proofs.Names.{released_by, fragments_with_mode, Transmission, Standing, Written, IsApart, OpenStream, join_each, number, has_number}
 use Rattle.sctp_link.proofs.Names.{stream_numbers, on_state, after_releases, stats_in, both_ways, written_of, wrote_to, read_recorded, Sides, IsAligned}
 use Rattle.sctp_link.proofs.Names.{stream_in, on_stream, sack_taken, written_on, expired_unsent, sides, none-changed, twice, same-at}
@@ -27,8 +27,8 @@ only-memory e o none (inr h) = let no : None ≡ Some e = sym none ∙ h in absu
 pub some-of : {T : Type 0} (Q : T → Type 0) (o : Option T) (x : T) → o ≡ Some x → IfSome o Q → Q x
 some-of Q o x e h = subst (λ p. IfSome p Q) e h
 
-module _ (f : StreamState → StreamState) (same : (s : StreamState) → (f s).stream_identifier ≡ s.stream_identifier) (p : StreamState → Bool) where
-  pub stays : (ss : List StreamState) → Outgoing.numbers_of (change_where p f ss) ≡ Outgoing.numbers_of ss
+module _ (f : OutboundStream → OutboundStream) (same : (s : OutboundStream) → (f s).stream_identifier ≡ s.stream_identifier) (p : OutboundStream → Bool) where
+  pub stays : (ss : List OutboundStream) → Outgoing.numbers_of (change_where p f ss) ≡ Outgoing.numbers_of ss
   stays [] = refl
   stays (s ∷ ss) = ap (λ n. n ∷ Outgoing.numbers_of (change_where p f ss)) (by (p s)) ∙ ap (λ ns. s.stream_identifier ∷ ns) (stays ss)
     where
@@ -36,7 +36,7 @@ module _ (f : StreamState → StreamState) (same : (s : StreamState) → (f s).s
       by true = same s
       by false = refl
 
-pub released-stays : (rs : List Released) (ss : List StreamState) → Outgoing.numbers_of (Outgoing.after_releases rs ss) ≡ Outgoing.numbers_of ss
+pub released-stays : (rs : List Released) (ss : List OutboundStream) → Outgoing.numbers_of (Outgoing.after_releases rs ss) ≡ Outgoing.numbers_of ss
 released-stays [] ss = refl
 released-stays (r ∷ rs) ss = released-stays rs (change_where (Outgoing.has_number r.stream) (Outgoing.less_by r.bytes) ss)
     ∙ stays (Outgoing.less_by r.bytes) (λ s. refl) (Outgoing.has_number r.stream) ss
@@ -49,14 +49,14 @@ mode-set (Err e) s unordered reliability value old new ok refused err =
     err ∙ ap (λ ss. let x : Transmission = record old { streams = ss } in x)
     (sym (none-changed (Outgoing.has_number s) (Outgoing.with_mode unordered reliability value) old.streams refused.1))
 
-pub released-joined : (rs : List Released) (ss : List StreamState) (is : List InboundStream) (ps : List Standing)
+pub released-joined : (rs : List Released) (ss : List OutboundStream) (is : List InboundStream) (ps : List Standing)
     → join_each (Outgoing.after_releases rs ss) is ps ≡ after_releases rs (join_each ss is ps)
 released-joined [] ss is ps = refl
 released-joined (r ∷ rs) ss is ps = released-joined rs (change_where (Outgoing.has_number r.stream) (Outgoing.less_by r.bytes) ss) is ps
     ∙ ap (after_releases rs) (state-changed r.stream (Outgoing.less_by r.bytes) ss is ps)
 
 -- what is told of the state in what is found
-pub of-state : {B : Type 0} (g : StreamState → B) (o : Option OpenStream) → option_map g (option_map (λ l. l.state) o) ≡ option_map (λ l. g l.state) o
+pub of-state : {B : Type 0} (g : OutboundStream → B) (o : Option OpenStream) → option_map g (option_map (λ l. l.state) o) ≡ option_map (λ l. g l.state) o
 of-state g None = refl
 of-state g (Some l) = refl
 
@@ -87,12 +87,12 @@ same-found s ls l apart found f g same =
     sym (changed-found s ls apart f p.0 l p.1.0 num) ∙ ap (set ls p.0) (ap f here ∙ same ∙ sym (ap g here)) ∙ changed-found s ls apart g p.0 l p.1.0 num
 
 -- what is recorded of a write, by its parts
-pub recorded : (w : Written) (s : StreamState) (ppi : PayloadProtocolIdentifier) (before : ℕ) (l : OpenStream) → w.ordered ≡ is_ordered s.unordered ppi
+pub recorded : (w : Written) (s : OutboundStream) (ppi : PayloadProtocolIdentifier) (before : ℕ) (l : OpenStream) → w.ordered ≡ is_ordered s.unordered ppi
     → w.reliability ≡ s.reliability_type → w.value ≡ s.reliability_value → w.before ≡ before → s ≡ l.state → before ≡ l.ordered → w ≡ written_of l ppi
 recorded w s ppi before l o r v b state count =
-    let kind : w.ordered ≡ is_ordered l.state.unordered ppi = o ∙ ap (λ (z : StreamState). is_ordered z.unordered ppi) state in
-    let mode : w.reliability ≡ l.state.reliability_type = r ∙ ap (λ (z : StreamState). z.reliability_type) state in
-    let value : w.value ≡ l.state.reliability_value = v ∙ ap (λ (z : StreamState). z.reliability_value) state in
+    let kind : w.ordered ≡ is_ordered l.state.unordered ppi = o ∙ ap (λ (z : OutboundStream). is_ordered z.unordered ppi) state in
+    let mode : w.reliability ≡ l.state.reliability_type = r ∙ ap (λ (z : OutboundStream). z.reliability_type) state in
+    let value : w.value ≡ l.state.reliability_value = v ∙ ap (λ (z : OutboundStream). z.reliability_value) state in
     let parts : (w.ordered, (w.reliability, (w.value, w.before)))
     ≡ (is_ordered l.state.unordered ppi, (l.state.reliability_type, (l.state.reliability_value, l.ordered))) = cc in
     ap (λ (p : Bool × (ReliabilityType × (ℕ × ℕ))). let z : Written = record { ordered = p.0; reliability = p.1.0; value = p.1.1.0; before = p.1.1.1 } in
@@ -105,16 +105,16 @@ more ordered l = record l { ordered = if ordered then l.ordered + 1 else l.order
 abbrev fewer : Bool → OpenStream → OpenStream
 fewer unordered l = record l { ordered = if unordered then l.ordered else l.ordered - 1 }
 
-expired-keeps : (unordered : Bool) (bytes : ℕ) (l : StreamState) → (Outgoing.after_expiry unordered bytes l).stream_identifier ≡ l.stream_identifier
+expired-keeps : (unordered : Bool) (bytes : ℕ) (l : OutboundStream) → (Outgoing.after_expiry unordered bytes l).stream_identifier ≡ l.stream_identifier
 expired-keeps true bytes l = refl
 expired-keeps false bytes l = refl
 
 module _ {t : Transmission} {r : Reception} {ps : List Standing} (a : IsAligned t r ps) where
   -- ## The sender changes
 
-  module _ (n : ℕ) (f : StreamState → StreamState) (g : Flight) (x : Transmission)
+  module _ (n : ℕ) (f : OutboundStream → OutboundStream) (g : Flight) (x : Transmission)
       (e : x ≡ (let y : Transmission = record t { streams = change_where (Outgoing.has_number n) f t.streams; flight = g } in y)) where
-    pub on-aligned : ((s : StreamState) → (f s).stream_identifier ≡ s.stream_identifier) → IsAligned x r ps
+    pub on-aligned : ((s : OutboundStream) → (f s).stream_identifier ≡ s.stream_identifier) → IsAligned x r ps
     on-aligned same = with-sender a x (ap (λ (y : Transmission). Outgoing.numbers_of y.streams) e ∙ stays f same (Outgoing.has_number n) t.streams)
         (ap (λ (y : Transmission). y.max_message_size) e) (ap (λ (y : Transmission). y.kept) e)
 
@@ -139,7 +139,7 @@ module _ {t : Transmission} {r : Reception} {ps : List Standing} (a : IsAligned 
   -- ## The progress changes
 
   pub progress-sides : (f : Standing → Standing) (g : OpenStream → OpenStream)
-      → ((s : StreamState) (i : InboundStream) (p : Standing) → s.stream_identifier ≡ p.number → (let l : OpenStream =
+      → ((s : OutboundStream) (i : InboundStream) (p : Standing) → s.stream_identifier ≡ p.number → (let l : OpenStream =
       record { state = s; inbound = i; complete = (f p).complete; ordered = (f p).ordered; begun = (f p).begun; next = (f p).next; named = (f p).named } in l)
       ≡ g (record { state = s; inbound = i; complete = p.complete; ordered = p.ordered; begun = p.begun; next = p.next; named = p.named })) → (s : ℕ)
       → sides t r (change_where (Progress.has_number s) f ps) ≡ on_stream s g (sides t r ps)
@@ -151,7 +151,7 @@ module _ {t : Transmission} {r : Reception} {ps : List Standing} (a : IsAligned 
 
   -- ## A stream by its number
 
-  pub state-answered : {B : Type 0} (g : StreamState → B) (s : ℕ) (o : Option B) → o ≡ option_map g (S.stream_of s t)
+  pub state-answered : {B : Type 0} (g : OutboundStream → B) (s : ℕ) (o : Option B) → o ≡ option_map g (S.stream_of s t)
       → o ≡ option_map (λ l. g l.state) (stream_in s (sides t r ps))
   state-answered g s o e = e ∙ ap (option_map g) (sym (state-in a s)) ∙ of-state g (stream_in s (sides t r ps))
 
@@ -191,7 +191,7 @@ module _ {t : Transmission} {r : Reception} {ps : List Standing} (a : IsAligned 
     pub sender-has : S.stream_of s t ≡ Some l.state
     sender-has = sym (state-in a s) ∙ ap (option_map (λ (z : OpenStream). z.state)) is
 
-    pub state-is : (z : StreamState) → Some z ≡ S.stream_of s t → z ≡ l.state
+    pub state-is : (z : OutboundStream) → Some z ≡ S.stream_of s t → z ≡ l.state
     state-is z e = some-same (e ∙ sender-has)
 
     module _ (ppi : PayloadProtocolIdentifier) (bytes : List ℕ) (x : Transmission) (e : x ≡ S.written_to l.state s ppi bytes t) where

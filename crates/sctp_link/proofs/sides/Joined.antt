@@ -1,6 +1,6 @@
 -- What the sender has of each stream, what the receiver has, and its progress, joined: changes of a part are changes of the whole.
 use Rattle.sctp_link.proofs.Names.{◌≡◌, ℕ, suc, Bool, true, false, List, [], ◌∷◌, ◌++◌, length, map, Some, refl, ap, sym, ◌∙◌, ◌==◌, if◌then◌else◌, option_map}
-use Rattle.sctp_link.proofs.Names.{change_where, StreamState, InboundStream, Standing, OpenStream, join, join_each, has_number, stream_numbers, on_state}
+use Rattle.sctp_link.proofs.Names.{change_where, OutboundStream, InboundStream, Standing, OpenStream, join, join_each, has_number, stream_numbers, on_state}
 use Rattle.sctp_link.proofs.Names.{on_inbound}
 use Rattle.std.specs.List.{find}
 use Rattle.sctp_receiver.specs.Inbound as Inbound
@@ -8,7 +8,7 @@ use Rattle.sctp_sender.specs.Outgoing as Outgoing
 use Rattle.sctp_link.specs.Progress as Progress
 
 -- one list for each part, with the same streams in the same order
-pub record Alike (ss : List StreamState) (is : List InboundStream) (ps : List Standing) : Type 0 where
+pub record Alike (ss : List OutboundStream) (is : List InboundStream) (ps : List Standing) : Type 0 where
   pub numbers : Outgoing.numbers_of ss ≡ Inbound.numbers_of is
   pub progresses : Outgoing.numbers_of ss ≡ Progress.numbers_of ps
 
@@ -18,33 +18,33 @@ head-same e = cc
 tail-same : {a b : ℕ} {xs ys : List ℕ} → a ∷ xs ≡ b ∷ ys → xs ≡ ys
 tail-same e = cc
 
-rest : (s : StreamState) (i : InboundStream) (p : Standing) (ss : List StreamState) (is : List InboundStream) (ps : List Standing)
+rest : (s : OutboundStream) (i : InboundStream) (p : Standing) (ss : List OutboundStream) (is : List InboundStream) (ps : List Standing)
     → Alike (s ∷ ss) (i ∷ is) (p ∷ ps) → Alike ss is ps
 rest s i p ss is ps a = record { numbers = tail-same a.numbers; progresses = tail-same a.progresses }
 
 -- ## The parts again
 
-pub states-joined : (ss : List StreamState) (is : List InboundStream) (ps : List Standing) → Alike ss is ps → map (λ l. l.state) (join_each ss is ps) ≡ ss
+pub states-joined : (ss : List OutboundStream) (is : List InboundStream) (ps : List Standing) → Alike ss is ps → map (λ l. l.state) (join_each ss is ps) ≡ ss
 states-joined [] is ps a = refl
 states-joined (s ∷ ss) [] ps a = let e = a.numbers in cc
 states-joined (s ∷ ss) (i ∷ is) [] a = (let e = a.progresses in cc)
 states-joined (s ∷ ss) (i ∷ is) (p ∷ ps) a = ap (λ xs. s ∷ xs) (states-joined ss is ps (rest s i p ss is ps a))
 
-pub inbounds-joined : (ss : List StreamState) (is : List InboundStream) (ps : List Standing) → Alike ss is ps → map (λ l. l.inbound) (join_each ss is ps) ≡ is
+pub inbounds-joined : (ss : List OutboundStream) (is : List InboundStream) (ps : List Standing) → Alike ss is ps → map (λ l. l.inbound) (join_each ss is ps) ≡ is
 inbounds-joined [] [] ps a = refl
 inbounds-joined [] (i ∷ is) ps a = let e = a.numbers in cc
 inbounds-joined (s ∷ ss) [] ps a = let e = a.numbers in cc
 inbounds-joined (s ∷ ss) (i ∷ is) [] a = (let e = a.progresses in cc)
 inbounds-joined (s ∷ ss) (i ∷ is) (p ∷ ps) a = ap (λ xs. i ∷ xs) (inbounds-joined ss is ps (rest s i p ss is ps a))
 
-pub length-joined : (ss : List StreamState) (is : List InboundStream) (ps : List Standing) → Alike ss is ps → length (join_each ss is ps) ≡ length ps
+pub length-joined : (ss : List OutboundStream) (is : List InboundStream) (ps : List Standing) → Alike ss is ps → length (join_each ss is ps) ≡ length ps
 length-joined [] is [] a = refl
 length-joined [] is (p ∷ ps) a = (let e = a.progresses in cc)
 length-joined (s ∷ ss) [] ps a = let e = a.numbers in cc
 length-joined (s ∷ ss) (i ∷ is) [] a = (let e = a.progresses in cc)
 length-joined (s ∷ ss) (i ∷ is) (p ∷ ps) a = ap suc (length-joined ss is ps (rest s i p ss is ps a))
 
-pub numbers-joined : (ss : List StreamState) (is : List InboundStream) (ps : List Standing) → Alike ss is ps
+pub numbers-joined : (ss : List OutboundStream) (is : List InboundStream) (ps : List Standing) → Alike ss is ps
     → stream_numbers (join_each ss is ps) ≡ Outgoing.numbers_of ss
 numbers-joined [] is ps a = refl
 numbers-joined (s ∷ ss) [] ps a = let e = a.numbers in cc
@@ -53,7 +53,7 @@ numbers-joined (s ∷ ss) (i ∷ is) (p ∷ ps) a = ap (λ ns. s.stream_identifi
 
 -- ## One that is found
 
-pub found-state : (n : ℕ) (ss : List StreamState) (is : List InboundStream) (ps : List Standing) → Alike ss is ps
+pub found-state : (n : ℕ) (ss : List OutboundStream) (is : List InboundStream) (ps : List Standing) → Alike ss is ps
     → option_map (λ l. l.state) (find (has_number n) (join_each ss is ps)) ≡ find (Outgoing.has_number n) ss
 found-state n [] is ps a = refl
 found-state n (s ∷ ss) [] ps a = let e = a.numbers in cc
@@ -66,7 +66,7 @@ found-state n (s ∷ ss) (i ∷ is) (p ∷ ps) a = step (s.stream_identifier == 
     step true h = refl
     step false h = h
 
-pub found-inbound : (n : ℕ) (ss : List StreamState) (is : List InboundStream) (ps : List Standing) → Alike ss is ps
+pub found-inbound : (n : ℕ) (ss : List OutboundStream) (is : List InboundStream) (ps : List Standing) → Alike ss is ps
     → option_map (λ l. l.inbound) (find (has_number n) (join_each ss is ps)) ≡ find (Inbound.has_number n) is
 found-inbound n [] [] ps a = refl
 found-inbound n [] (i ∷ is) ps a = let e = a.numbers in cc
@@ -84,7 +84,7 @@ found-inbound n (s ∷ ss) (i ∷ is) (p ∷ ps) a =
 
 -- ## A change of a part
 
-pub state-changed : (n : ℕ) (f : StreamState → StreamState) (ss : List StreamState) (is : List InboundStream) (ps : List Standing)
+pub state-changed : (n : ℕ) (f : OutboundStream → OutboundStream) (ss : List OutboundStream) (is : List InboundStream) (ps : List Standing)
     → join_each (change_where (Outgoing.has_number n) f ss) is ps ≡ change_where (has_number n) (on_state f) (join_each ss is ps)
 state-changed n f [] is ps = refl
 state-changed n f (s ∷ ss) [] ps = refl
@@ -96,7 +96,7 @@ state-changed n f (s ∷ ss) (i ∷ is) (p ∷ ps) = ap (λ xs. join (if s.strea
     step true = refl
     step false = refl
 
-pub inbound-changed : (n : ℕ) (f : InboundStream → InboundStream) (ss : List StreamState) (is : List InboundStream) (ps : List Standing)
+pub inbound-changed : (n : ℕ) (f : InboundStream → InboundStream) (ss : List OutboundStream) (is : List InboundStream) (ps : List Standing)
     → Outgoing.numbers_of ss ≡ Inbound.numbers_of is
     → join_each ss (change_where (Inbound.has_number n) f is) ps ≡ change_where (has_number n) (on_inbound f) (join_each ss is ps)
 inbound-changed n f [] is ps a = refl
@@ -111,7 +111,7 @@ inbound-changed n f (s ∷ ss) (i ∷ is) (p ∷ ps) a =
     step true = refl
     step false = refl
 
-pub inbound-mapped : (f : InboundStream → InboundStream) (ss : List StreamState) (is : List InboundStream) (ps : List Standing)
+pub inbound-mapped : (f : InboundStream → InboundStream) (ss : List OutboundStream) (is : List InboundStream) (ps : List Standing)
     → join_each ss (map f is) ps ≡ map (on_inbound f) (join_each ss is ps)
 inbound-mapped f [] is ps = refl
 inbound-mapped f (s ∷ ss) [] ps = refl
@@ -120,8 +120,8 @@ inbound-mapped f (s ∷ ss) (i ∷ is) (p ∷ ps) = ap (λ xs. on_inbound f (joi
 
 -- so it is of the progress, where it keeps the number
 module _ (f : Standing → Standing) (g : OpenStream → OpenStream)
-    (made : (s : StreamState) (i : InboundStream) (p : Standing) → s.stream_identifier ≡ p.number → join s i (f p) ≡ g (join s i p)) where
-  pub progress-changed : (n : ℕ) (ss : List StreamState) (is : List InboundStream) (ps : List Standing) → Outgoing.numbers_of ss ≡ Progress.numbers_of ps
+    (made : (s : OutboundStream) (i : InboundStream) (p : Standing) → s.stream_identifier ≡ p.number → join s i (f p) ≡ g (join s i p)) where
+  pub progress-changed : (n : ℕ) (ss : List OutboundStream) (is : List InboundStream) (ps : List Standing) → Outgoing.numbers_of ss ≡ Progress.numbers_of ps
       → join_each ss is (change_where (Progress.has_number n) f ps) ≡ change_where (has_number n) g (join_each ss is ps)
   progress-changed n [] is ps a = refl
   progress-changed n (s ∷ ss) [] ps a = refl
@@ -135,7 +135,7 @@ module _ (f : Standing → Standing) (g : OpenStream → OpenStream)
       step true = made s i p (head-same a)
       step false = refl
 
-  pub progress-mapped : (ss : List StreamState) (is : List InboundStream) (ps : List Standing) → Outgoing.numbers_of ss ≡ Progress.numbers_of ps
+  pub progress-mapped : (ss : List OutboundStream) (is : List InboundStream) (ps : List Standing) → Outgoing.numbers_of ss ≡ Progress.numbers_of ps
       → join_each ss is (map f ps) ≡ map g (join_each ss is ps)
   progress-mapped [] is ps a = refl
   progress-mapped (s ∷ ss) [] ps a = refl
@@ -143,8 +143,8 @@ module _ (f : Standing → Standing) (g : OpenStream → OpenStream)
   progress-mapped (s ∷ ss) (i ∷ is) (p ∷ ps) a = cc (progress-mapped ss is ps (tail-same a), made s i p (head-same a))
 
 -- what is told of the progress of the stream with a number
-pub found-progress : {B : Type 0} (h : OpenStream → B) (k : Standing → B) → ((s : StreamState) (i : InboundStream) (p : Standing) → h (join s i p) ≡ k p)
-    → (n : ℕ) (ss : List StreamState) (is : List InboundStream) (ps : List Standing) → Alike ss is ps
+pub found-progress : {B : Type 0} (h : OpenStream → B) (k : Standing → B) → ((s : OutboundStream) (i : InboundStream) (p : Standing) → h (join s i p) ≡ k p)
+    → (n : ℕ) (ss : List OutboundStream) (is : List InboundStream) (ps : List Standing) → Alike ss is ps
     → option_map h (find (has_number n) (join_each ss is ps)) ≡ option_map k (find (Progress.has_number n) ps)
 found-progress h k same n [] is [] a = refl
 found-progress h k same n [] is (p ∷ ps) a = let e = a.progresses in cc
@@ -159,7 +159,7 @@ found-progress h k same n (s ∷ ss) (i ∷ is) (p ∷ ps) a =
     step true e = ap Some (same s i p)
     step false e = e
 
-pub joined-more : (s : StreamState) (i : InboundStream) (p : Standing) (ss : List StreamState) (is : List InboundStream) (ps : List Standing) → Alike ss is ps
+pub joined-more : (s : OutboundStream) (i : InboundStream) (p : Standing) (ss : List OutboundStream) (is : List InboundStream) (ps : List Standing) → Alike ss is ps
     → join_each (ss ++ s ∷ []) (is ++ i ∷ []) (ps ++ p ∷ []) ≡ join_each ss is ps ++ join s i p ∷ []
 joined-more s i p [] [] [] a = refl
 joined-more s i p [] (j ∷ is) ps a = let e = a.numbers in cc

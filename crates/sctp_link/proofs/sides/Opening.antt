@@ -24,7 +24,7 @@ module _ {t : Transmission} {r : Reception} {ps : List Standing} (a : IsAligned 
   pub sender-undone : (x : Transmission) → x ≡ S.close_stream s (S.open_stream s t) → x ≡ t
   sender-undone x e =
       e ∙ ap (λ ss. let y : Transmission = record t { streams = ss } in y)
-      (taken-back (Outgoing.has_number s) t.streams (new_stream s t.fragment_size t.max_message_size Unknown) (same-yes s) no-state)
+      (taken-back (Outgoing.has_number s) t.streams (new_stream s t.fragment_size) (same-yes s) no-state)
 
   pub receiver-undone : (x : Reception) → x ≡ R.close_stream s (R.open_stream s r) → x ≡ r
   receiver-undone x e =
@@ -38,9 +38,9 @@ module _ {t : Transmission} {r : Reception} {ps : List Standing} (a : IsAligned 
     pub opened-sides : sides x y qs ≡ opened_on s (sides t r ps)
     opened-sides =
         ap (λ z. sides z y qs) sent ∙ ap (λ z. sides (S.open_stream s t) z qs) received ∙ ap (sides (S.open_stream s t) (R.open_stream s r)) put
-        ∙ ap (λ ls. let z : Sides = record (sides t r ps) { streams = ls } in z) (joined-more (new_stream s t.fragment_size t.max_message_size Unknown)
+        ∙ ap (λ ls. let z : Sides = record (sides t r ps) { streams = ls } in z) (joined-more (new_stream s t.fragment_size)
         (Inbound.new_stream s r.max_message_size) (Progress.fresh s) t.streams r.streams ps (alike a)
-        ∙ ap (λ m. let z : OpenStream = record (new_open_stream s t.fragment_size m) { state = new_stream s t.fragment_size t.max_message_size Unknown } in
+        ∙ ap (λ m. let z : OpenStream = record (new_open_stream s t.fragment_size m) { state = new_stream s t.fragment_size } in
         join_each t.streams r.streams ps ++ z ∷ []) a.size)
 
     pub opened-aligned : IsAligned x y qs

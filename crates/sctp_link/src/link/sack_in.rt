@@ -12,6 +12,7 @@ use crate::datagram::read_sack;
 use crate::event::{LinkRefusal, Reply};
 use crate::record::{Kind, Slot};
 use sctp_chunks::chunk::chunk_selective_ack::{ChunkSelectiveAck, GapAckBlock};
+use sctp_sender::replay;
 use sctp_util::error::Result;
 use sctp_util::util::Checksum;
 
@@ -54,7 +55,7 @@ impl<C: Checksum + Drop> Link<C> {
         let upto = self.first_tsn.wrapping_sub(1).wrapping_add(taken as u32);
         rebase(&mut sack, upto, taken - cumulative);
         let before = self.sender.outbound().inflight_bytes();
-        match self.sender.acked(&sack) {
+        match replay::acked(&mut self.sender, &sack) {
             Ok(_) => {}
             Err(refusal) => return Err(memory(refusal)),
         }

@@ -13,7 +13,7 @@ use crate::record::{Message, Written};
 use bytes::Bytes;
 use sctp_chunks::chunk::chunk_payload_data::{PayloadProtocolIdentifier, ReliabilityType};
 use sctp_sender::replay;
-use sctp_stream::stream::StreamState;
+use sctp_stream::outbound_stream::OutboundStream;
 use sctp_util::error::{Error, Result};
 use sctp_util::util::Checksum;
 
@@ -146,7 +146,7 @@ impl<C: Checksum + Drop> Link<C> {
 }
 
 /// What is recorded of a write to a stream on which so many ordered messages were written before.
-fn written_of(state: &StreamState, ppi: PayloadProtocolIdentifier, before: u64) -> Written
+fn written_of(state: &OutboundStream, ppi: PayloadProtocolIdentifier, before: u64) -> Written
     ensures ordered { result.ordered ≡ is_ordered state.now.unordered ppi }
     ensures reliability { result.reliability ≡ state.now.reliability_type }
     ensures value { result.value ≡ state.now.reliability_value }

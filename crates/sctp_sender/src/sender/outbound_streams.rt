@@ -17,7 +17,7 @@ use bytes::Bytes;
 use sctp_data::chunk::chunk_payload_data::{
     ChunkPayloadData, PayloadProtocolIdentifier, ReliabilityType,
 };
-use sctp_stream::stream::StreamState;
+use sctp_stream::outbound_stream::OutboundStream;
 use sctp_stream::stream_numbers::{StreamNumbers, put};
 use sctp_util::error::Result;
 use std::alloc::Global;
@@ -27,15 +27,15 @@ use std::marker::Model;
 #[derive(Drop)]
 pub struct OutboundStreams {
     numbers: StreamNumbers,
-    items: Vec<StreamState>,
+    items: Vec<OutboundStream>,
 }
 
 impl Model for OutboundStreams {
     ghost use Rattle.std.specs.Prelude.{◌≡◌, List};
-    ghost use Rattle.sctp_stream.specs.declared.stream.StreamState.{StreamState};
+    ghost use Rattle.sctp_stream.specs.declared.outbound_stream.OutboundStream.{OutboundStream};
     ghost use Rattle.sctp_sender.specs.Outgoing.{numbers_of};
 
-    ghost Value = { List StreamState };
+    ghost Value = { List OutboundStream };
 
     ghost view = { λ s. s.items.items };
 
@@ -66,7 +66,7 @@ impl OutboundStreams {
     }
 
     /// The stream with a number, None where it is not open.
-    pub(crate) fn find(&self, stream: u16) -> Option<&StreamState>
+    pub(crate) fn find(&self, stream: u16) -> Option<&OutboundStream>
         ensures { option_copied result ≡ find (has_number stream) self.now }
     {
         let Some(place) = self.numbers.place_of(stream) else {
@@ -79,25 +79,17 @@ impl OutboundStreams {
     /// Precondition: it is not open, and `fragment_size` is 1 to 65,519.
     pub(crate) fn open(
         &mut self,
-        alloc: Global,
         stream: u16,
         fragment_size: u32,
-        max_message_size: u32,
     ) -> std::result::Result<(), SenderRefusal>
         requires closed { IsAbsent stream (numbers_of self.old) }
         requires size { (0 < fragment_size) × (fragment_size ≤ 65519) }
         ensures ok { OnOk result (self.new
-            ≡ self.old ++ new_stream stream fragment_size max_message_size Unknown ∷ []) }
+            ≡ self.old ++ new_stream stream fragment_size ∷ []) }
         ensures err { OnErr result (self.new ≡ self.old) }
         ensures memory { IfErr result (λ e. e ≡ OutOfMemory) }
     {
-        let opened = StreamState::new(
-            alloc,
-            stream,
-            fragment_size,
-            max_message_size,
-            PayloadProtocolIdentifier::Unknown,
-        );
+        let opened = OutboundStream::new(stream, fragment_size);
         if self.items.reserve(1).is_err() {
             return Err(SenderRefusal::OutOfMemory);
         }
@@ -158,7 +150,7 @@ impl OutboundStreams {
     }
 
     /// The streams.
-    pub(crate) fn all(&self) -> &[StreamState]
+    pub(crate) fn all(&self) -> &[OutboundStream]
         ensures { result.now ≡ self.now }
     {
         &self.items
@@ -220,7 +212,7 @@ impl OutboundStreams {
 /// The fragments of a write to a stream, with its mode. Refuses only for memory.
 pub(crate) fn fragments_of(
     alloc: Global,
-    state: &StreamState,
+    state: &OutboundStream,
     ppi: PayloadProtocolIdentifier,
     bytes: &Bytes,
 ) -> Result<Vec<ChunkPayloadData>>
@@ -239,7 +231,7 @@ pub(crate) fn fragments_of(
 }
 
 // Takes bytes off the amount of a stream, and says whether it fell from above the low threshold to at most it.
-fn lower(state: &mut StreamState, bytes: usize) -> bool
+fn lower(state: &mut OutboundStream, bytes: usize) -> bool
     ensures low { result ≡ falls_low state.old bytes }
     ensures less { state.new ≡ less_by bytes state.old }
 {
@@ -250,14 +242,14 @@ fn lower(state: &mut StreamState, bytes: usize) -> bool
 }
 
 // Adds bytes to the amount of a stream.
-fn raise(state: &mut StreamState, bytes: usize)
+fn raise(state: &mut OutboundStream, bytes: usize)
     ensures { state.new ≡ more_by bytes state.old }
 {
     state.raise_buffered(bytes);
 }
 
 // Counts a write that was accepted.
-fn count_write(state: &mut StreamState, ppi: PayloadProtocolIdentifier, len: usize)
+fn count_write(state: &mut OutboundStream, ppi: PayloadProtocolIdentifier, len: usize)
     ensures rest { (bytes : List ℕ) → len ≡ length bytes → state.new ≡ wrote ppi bytes state.old }
     ensures number { state.new.stream_identifier ≡ state.old.stream_identifier }
 {
@@ -269,7 +261,7 @@ fn count_write(state: &mut StreamState, ppi: PayloadProtocolIdentifier, len: usi
 
 // Takes so many messages that were not sent off their stream, and says whether the amount fell from above the low threshold to at most
 // it.
-fn expire_messages(state: &mut StreamState, unordered: bool, messages: u16, bytes: usize) -> bool
+fn expire_messages(state: &mut OutboundStream, unordered: bool, messages: u16, bytes: usize) -> bool
     ensures low { result ≡ falls_low state.old bytes }
     ensures less { state.new ≡ after_expiries unordered messages bytes state.old }
 {
@@ -282,7 +274,7 @@ fn expire_messages(state: &mut StreamState, unordered: bool, messages: u16, byte
 }
 
 // Each stream cuts later writes into fragments of this size.
-fn set_sizes(streams: &mut Vec<StreamState>, size: u32)
+fn set_sizes(streams: &mut Vec<OutboundStream>, size: u32)
     requires { (0 < size) × (size ≤ 65519) }
     ensures { streams.new.items ≡ map (with_size size) streams.old.items }
 {

@@ -5,7 +5,7 @@ ghost use Rattle.sctp_sender.specs.declared.sender.refusal.SenderRefusal.TheVari
 
 use super::Sender;
 use crate::sender::refusal::SenderRefusal;
-use sctp_stream::stream::StreamState;
+use sctp_stream::outbound_stream::OutboundStream;
 
 impl Sender {
     ghost use Rattle.sctp_sender.specs.Sender.{is_open};
@@ -69,7 +69,7 @@ impl Sender {
     }
 
     /// The open streams, in the order in which they were opened.
-    pub(crate) fn open_streams(&self) -> &[StreamState]
+    pub(crate) fn open_streams(&self) -> &[OutboundStream]
         ensures { result.now ≡ self.now.streams }
     {
         self.streams.all()

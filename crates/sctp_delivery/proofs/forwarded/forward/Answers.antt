@@ -1,12 +1,7 @@
-use Rattle.std.proofs.Common.{◌≡◌, ℕ, true, Option, Some, subst, ◌∙◌, Result, Ok, Err}
-use Rattle.std.specs.Prelude.{IfOk, option_map}
+use Rattle.sctp_delivery.proofs.Names.{◌≡◌, ℕ, true, Option, Some, subst, ◌∙◌, Result, Ok, Err, IfOk, option_map, advanced_ack_point, skip_end, Transmission}
+use Rattle.sctp_delivery.proofs.Names.{SenderRefusal, WhileFewTsns, in_flight, is_first_abandoned}
 use Rattle.sctp_data.specs.declared.chunk.chunk_forward_tsn.ChunkForwardTsn.{ChunkForwardTsn}
-use Rattle.sctp_sender.specs.Abandonment.{advanced_ack_point, skip_end}
-use Rattle.sctp_sender.specs.Sender.{Transmission}
-use Rattle.sctp_sender.specs.declared.sender.refusal.SenderRefusal.{SenderRefusal}
-use Rattle.sctp_delivery.specs.Messages.{WhileFewTsns}
-use Rattle.sctp_delivery.specs.Rounds.{in_flight, is_first_abandoned}
-use Rattle.sctp_delivery.proofs.Answered.{all-skip}
+use Rattle.sctp_delivery.proofs.RoundsEnd.{all-skip}
 use Rattle.sctp_delivery.proofs.forwarded.forward.Goals as goal
 
 goes-there : (t : Transmission) (r : Result (Option ChunkForwardTsn) SenderRefusal)

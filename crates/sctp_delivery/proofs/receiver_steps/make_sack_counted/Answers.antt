@@ -1,5 +1,5 @@
 use Rattle.sctp_receiver.specs.Receiver.{window}
-use Rattle.sctp_delivery.proofs.SackCalls.{only-made}
+use Rattle.sctp_delivery.proofs.RoundsEnd.{only-made}
 use Rattle.sctp_delivery.proofs.receiver_steps.make_sack_counted.Goals as goal
 
 pub returns-clause-step : goal.returns-clause-step

@@ -1,4 +1,4 @@
-use Rattle.sctp_delivery.proofs.SackCalls.{only-made}
+use Rattle.sctp_delivery.proofs.RoundsEnd.{only-made}
 use Rattle.sctp_delivery.proofs.receiver_steps.make_sack_with.Goals as goal
 
 pub returns-clause-step : goal.returns-clause-step

@@ -1,12 +1,6 @@
-use Rattle.std.proofs.Common.{◌≡◌, Result, Ok, Err, None, Some, true, sym, subst, ◌∙◌}
-use Rattle.std.specs.Prelude.{IfErr, IsOk}
-use Rattle.std.proofs.lemmas.Option.{none-some}
-use Rattle.sctp_data.specs.ForwardTsn.{ForwardTsn, forward_tsn_of}
-use Rattle.sctp_receiver.specs.declared.receiver.refusal.ReceiverRefusal.{ReceiverRefusal}
-use Rattle.sctp_receiver.specs.Receiver.{Reception}
-use Rattle.sctp_receiver.specs.Skips.{skip_refusal}
-use Rattle.sctp_delivery.specs.Messages.{WhileFewTsns}
-use Rattle.sctp_delivery.specs.Refused.{MayMake, is_due_named}
+use Rattle.sctp_delivery.proofs.Names.{◌≡◌, Result, Ok, Err, None, Some, true, sym, subst, ◌∙◌, IfErr, IsOk, none-some, ForwardTsn, ReceiverRefusal, Reception}
+use Rattle.sctp_delivery.proofs.Names.{skip_refusal, WhileFewTsns, MayMake, is_due_named}
+use Rattle.sctp_data.specs.ForwardTsn.{forward_tsn_of}
 use Rattle.sctp_delivery.proofs.ForwardLaw as law
 use Rattle.sctp_delivery.proofs.refusals.follow.Goals as goal
 

@@ -1,11 +1,7 @@
-use Rattle.std.proofs.Common.{◌≡◌, ◌≤◌, true, Result, Ok, Err, None, sym, subst, ◌∙◌, inl, inr}
-use Rattle.std.specs.Prelude.{IfErr}
-use Rattle.std.proofs.lemmas.Option.{none-some}
-use Rattle.sctp_data.specs.declared.chunk.chunk_payload_data.ChunkPayloadData.{ChunkPayloadData}
-use Rattle.sctp_receiver.specs.declared.receiver.refusal.ReceiverRefusal.{ReceiverRefusal}
+use Rattle.sctp_delivery.proofs.Names.{◌≡◌, ◌≤◌, true, Result, Ok, Err, None, sym, subst, ◌∙◌, inl, inr, IfErr, none-some, ChunkPayloadData, ReceiverRefusal}
+use Rattle.sctp_delivery.proofs.Names.{Reception, arrival_refusal, AfterEachUnlimitedSession, IsInFlight, is_takable}
 use Rattle.sctp_receiver.specs.declared.receiver.refusal.ReceiverRefusal.TheVariants.{OutOfMemory}
-use Rattle.sctp_receiver.specs.Receiver.{IsRefusedFor, Reception, arrival_refusal}
-use Rattle.sctp_delivery.specs.Refused.{AfterEachUnlimitedSession, IsInFlight, is_takable}
+use Rattle.sctp_receiver.specs.Receiver.{IsRefusedFor}
 use Rattle.sctp_delivery.proofs.RefusedLaw as law
 use Rattle.sctp_delivery.proofs.refusals.take_chunk.Goals as goal
 

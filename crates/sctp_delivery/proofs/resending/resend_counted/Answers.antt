@@ -1,4 +1,4 @@
-use Rattle.sctp_delivery.proofs.ResentCounts as counts
+use Rattle.sctp_delivery.proofs.NotedChunks as counts
 use Rattle.sctp_delivery.proofs.resending.resend_counted.Goals as goal
 
 pub returns : goal.returns

@@ -1,16 +1,6 @@
-use Rattle.std.proofs.Common.{◌≡◌, ◌<◌, true, List, [], ◌∷◌, sym, subst, Result, Ok, Err}
-use Rattle.std.specs.Prelude.{IfOk, All, Contains}
-use Rattle.sctp_data.specs.SelectiveAck.{Sack, sack_of}
-use Rattle.sctp_sender.specs.Flight.{released_by}
-use Rattle.sctp_sender.specs.Outgoing.{has_number, less_by}
-use Rattle.sctp_sender.specs.Sender.{Transmission}
-use Rattle.sctp_sender.specs.Thresholds.{with_lows}
-use Rattle.sctp_sender.specs.declared.sender.flight.Released.{Released}
-use Rattle.sctp_sender.specs.declared.sender.refusal.SenderRefusal.{SenderRefusal}
-use Rattle.sctp_stream.specs.declared.stream.StreamState.{StreamState}
-use Rattle.sctp_util.specs.Lists.{change_where}
-use Rattle.sctp_delivery.specs.Sacks.{AfterEachSessionOfFewTsns, was_taken}
-use Rattle.sctp_delivery.specs.Session.{Session}
+use Rattle.sctp_delivery.proofs.Names.{◌≡◌, ◌<◌, true, List, [], ◌∷◌, sym, subst, Result, Ok, Err, IfOk, All, Contains, Sack, sack_of, released_by, has_number}
+use Rattle.sctp_delivery.proofs.Names.{less_by, Transmission, with_lows, Released, SenderRefusal, OutboundStream, change_where, AfterEachSessionOfFewTsns}
+use Rattle.sctp_delivery.proofs.Names.{was_taken, Session}
 use Rattle.sctp_delivery.proofs.Every.{Every, all-of-every, every-of-all}
 use Rattle.sctp_delivery.proofs.SackLaws.{all-released-came}
 use Rattle.sctp_delivery.proofs.sacks.take_sack.Goals as goal
@@ -19,7 +9,7 @@ abbrev IsTaken : Session → Released → Type 0
 IsTaken s r = 0 < r.bytes → was_taken r.tsn s ≡ true
 
 -- whatever is told of low thresholds
-lows-taken : (s : Session) (rs : List Released) (ls : List StreamState) → Every (IsTaken s) rs → Every (IsTaken s) (with_lows rs ls)
+lows-taken : (s : Session) (rs : List Released) (ls : List OutboundStream) → Every (IsTaken s) rs → Every (IsTaken s) (with_lows rs ls)
 lows-taken s [] ls e = tt
 lows-taken s (r ∷ rs) ls e = (e.0, lows-taken s rs (change_where (has_number r.stream) (less_by r.bytes) ls) e.1)
 

@@ -1,4 +1,4 @@
-use Rattle.sctp_delivery.proofs.SentAgain.{resent}
+use Rattle.sctp_delivery.proofs.RoundsEnd.{resent}
 use Rattle.sctp_delivery.proofs.sender_steps.resend_next.Goals as goal
 
 pub returns-clause-step : goal.returns-clause-step

@@ -1,8 +1,4 @@
-use Rattle.std.proofs.Common.{◌≡◌, drop}
-use Rattle.std.specs.Prelude.{◌==◌}
-use Rattle.std.specs.List.{list_all}
-use Rattle.sctp_reassembly.specs.reassembly_queue.ReassemblyQueue.{held_chunks}
-use Rattle.sctp_delivery.specs.Complete.{holds_nothing}
+use Rattle.sctp_delivery.proofs.Names.{◌≡◌, drop, ◌==◌, list_all, held_chunks, holds_nothing}
 use Rattle.sctp_delivery.proofs.settled.is_nothing_held.Given as goal
 
 -- nothing was found so far

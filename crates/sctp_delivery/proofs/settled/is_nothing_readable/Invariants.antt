@@ -1,8 +1,5 @@
-use Rattle.std.proofs.Common.{◌≡◌, drop, is_some}
+use Rattle.sctp_delivery.proofs.Names.{◌≡◌, drop, is_some, list_all, message_read, reads_nothing}
 use Rattle.std.specs.Prelude.{not}
-use Rattle.std.specs.List.{list_all}
-use Rattle.sctp_reassembly.specs.reassembly_queue.ReassemblyQueue.{message_read}
-use Rattle.sctp_delivery.specs.Complete.{reads_nothing}
 use Rattle.sctp_delivery.proofs.settled.is_nothing_readable.Given as goal
 
 -- nothing was found so far

@@ -1,9 +1,5 @@
-use Rattle.std.proofs.Common.{◌≡◌, ◌<◌, ◌++◌, ◌+◌, false, List, length, set, take, drop, get_or, None, ap, sym, ◌∙◌, arith}
-use Rattle.std.proofs.lemmas.List.{get_or_default}
-use Rattle.sctp_stream.specs.declared.stream.StreamState.{StreamState}
-use Rattle.sctp_sender.specs.declared.sender.flight.Released.{Released}
-use Rattle.sctp_sender.specs.Outgoing.{after_releases}
-use Rattle.sctp_sender.specs.Thresholds.{with_lows}
+use Rattle.sctp_sender.proofs.Names.{◌≡◌, ◌<◌, ◌++◌, ◌+◌, false, List, length, set, take, drop, get_or, None, ap, sym, ◌∙◌, arith, get_or_default}
+use Rattle.sctp_sender.proofs.Names.{OutboundStream, Released, after_releases, with_lows}
 use Rattle.sctp_sender.proofs.Lows.{next-less, next-low}
 use Rattle.sctp_sender.proofs.sender.release_each.Goals as goal
 
@@ -21,8 +17,8 @@ loop-one-preserved c =
     let x : Released = record r { is_low = c.release-one.result } in
     record {
       less = c.loop-one.invariant.less ∙ next-less i c.loop-one.streams rs r c.release-one.result lt is
-          ∙ ap (λ (ls : List StreamState). after_releases (drop (i + 1) (set rs i x)) ls) (sym c.release-one.ensures.less);
+          ∙ ap (λ (ls : List OutboundStream). after_releases (drop (i + 1) (set rs i x)) ls) (sym c.release-one.ensures.less);
       lows =
           c.loop-one.invariant.lows ∙ next-low i c.loop-one.streams rs r c.release-one.result lt is c.release-one.ensures.low
-          ∙ ap (λ (ls : List StreamState). take (i + 1) (set rs i x) ++ with_lows (drop (i + 1) (set rs i x)) ls) (sym c.release-one.ensures.less);
+          ∙ ap (λ (ls : List OutboundStream). take (i + 1) (set rs i x) ++ with_lows (drop (i + 1) (set rs i x)) ls) (sym c.release-one.ensures.less);
     }

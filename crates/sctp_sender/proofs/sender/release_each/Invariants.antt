@@ -1,6 +1,4 @@
-use Rattle.std.proofs.Common.{◌≡◌, ◌++◌, take, drop}
-use Rattle.sctp_sender.specs.Outgoing.{after_releases}
-use Rattle.sctp_sender.specs.Thresholds.{with_lows}
+use Rattle.sctp_sender.proofs.Names.{◌≡◌, ◌++◌, take, drop, after_releases, with_lows}
 use Rattle.sctp_sender.proofs.sender.release_each.Given as goal
 
 abbrev pub invariant-loop-one : goal.invariant-loop-one

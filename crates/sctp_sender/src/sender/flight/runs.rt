@@ -40,6 +40,7 @@ pub(super) fn without(
         → is_in_blocks (blocks_left left blocks.now) (suc k)
         ≡ (is_in_blocks blocks.now (suc k) && not (list_any (is_at k) backs.now))) }
     ensures twice { IfOk result (λ left. IfSome left (λ l. l.known.items ≡ l.reported.items)) }
+    ensures none { IfOk result (λ left. left ≡ None → backs.now ≡ []) }
     ensures memory { IfErr result (λ e. e ≡ OutOfMemory) }
     ensures not_back { turns.old ≤ turns.new }
     ensures cost { turns.new ≤ turns.old + length blocks.now + length backs.now }

@@ -1,4 +1,4 @@
-use Rattle.sctp_delivery.proofs.ModeOrder as mode_order
+use Rattle.sctp_delivery.proofs.ModeSessions as mode_order
 use Rattle.sctp_delivery.proofs.laws.modes.what_is_written_ordered_is_read_in_order.Goals as goal
 
 pub returns : goal.returns

@@ -1,4 +1,4 @@
-use Rattle.sctp_delivery.proofs.Answered.{all-skip}
+use Rattle.sctp_delivery.proofs.RoundsEnd.{all-skip}
 use Rattle.sctp_delivery.proofs.laws.rounds.what_is_abandoned_can_be_passed.Goals as goal
 
 pub returns : goal.returns

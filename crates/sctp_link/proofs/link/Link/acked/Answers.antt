@@ -122,10 +122,10 @@ acknowledge_blocks-requires-clause-within g c = λ p any.
 
 pub invariant_of-self-2 : goal.invariant_of-self-2
 invariant_of-self-2 g c = (
-  acked-aligned c.self.invariant.0 (sack_of c.rebase.new.sack) c.acked.new.self c.in-Ok.ensures.ok,
+  acked-aligned c.self.invariant.0 (sack_of c.rebase.new.sack) c.acked.new.sender c.in-Ok.ensures.ok,
   subst (λ (y : Sides). IsLinked (g.C.Checksum.sum c.self.inside.checksum) (state_from y (record c.self.inside
       { slots = with_items (with_items c.self.inside.slots c.acknowledge_run.new.slots) c.acknowledge_blocks.new.slots; taken = c.max-taken.result })))
-      (sym (acked-sides c.self.invariant.0 (sack_of c.rebase.new.sack) c.acked.new.self c.in-Ok.ensures.ok))
+      (sym (acked-sides c.self.invariant.0 (sack_of c.rebase.new.sack) c.acked.new.sender c.in-Ok.ensures.ok))
       (let p = goal.at.invariant_of-self-2 g c in taken g p.After-acknowledge_blocks (answered g p.After-rebase (counted g p.After-max-taken))).linked,
 )
 
@@ -141,5 +141,5 @@ returns-clause-ok g c =
           ∙ ap (λ (u : Transmission). bytes_of u.flight.queue.inflight.chunks) c.in-Ok.ensures.ok) ∙ t.bytes);
       moves = ap (λ (y : Sides). record_from y (record c.self.inside
           { slots = with_items (with_items c.self.inside.slots c.acknowledge_run.new.slots) c.acknowledge_blocks.new.slots; taken = c.max-taken.result }))
-          (acked-sides c.self.invariant.0 (sack_of c.rebase.new.sack) c.acked.new.self c.in-Ok.ensures.ok) ∙ t.moves;
+          (acked-sides c.self.invariant.0 (sack_of c.rebase.new.sack) c.acked.new.sender c.in-Ok.ensures.ok) ∙ t.moves;
     })

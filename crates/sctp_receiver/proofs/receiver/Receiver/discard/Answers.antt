@@ -1,5 +1,4 @@
-use Rattle.std.proofs.Common.{◌≡◌, true, sym, ◌∙◌, subst}
-use Rattle.sctp_receiver.specs.TsnFilter.{Filter, has_come}
+use Rattle.sctp_receiver.proofs.Names.{◌≡◌, true, sym, ◌∙◌, subst, Filter, has_come}
 use Rattle.sctp_receiver.proofs.Came.{taken-came}
 use Rattle.sctp_receiver.proofs.receiver.Receiver.discard.Goals as goal
 

@@ -1,10 +1,7 @@
-use Rattle.std.proofs.Common.{◌≡◌, ap, sym, ◌∙◌, false, length, arith}
-use Rattle.sctp_util.specs.Serial.{at_or_before}
-use Rattle.sctp_receiver.specs.TsnFilter.{Filter}
-use Rattle.sctp_receiver.specs.Visited.{to_visit}
+use Rattle.sctp_receiver.proofs.Names.{◌≡◌, ap, sym, ◌∙◌, false, length, arith, at_or_before, Filter, to_visit, unordered_skips_walk}
 use Rattle.sctp_receiver.proofs.Receptions.{after}
 use Rattle.sctp_receiver.proofs.Settled.{fewer-named}
-use Rattle.sctp_receiver.specs.SkipCosts.{named_walk, unordered_skips_walk}
+use Rattle.sctp_receiver.specs.SkipCosts.{named_walk}
 use Rattle.sctp_receiver.proofs.SkipCosts.{none-settled, unordered-after-names}
 use Rattle.sctp_receiver.proofs.receiver.Receiver.follow_names.Goals as goal
 

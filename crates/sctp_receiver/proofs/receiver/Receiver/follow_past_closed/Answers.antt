@@ -1,12 +1,8 @@
-use Rattle.std.proofs.Common.{◌≡◌, ap, ◌∙◌, length, rules, arith}
+use Rattle.sctp_receiver.proofs.Names.{◌≡◌, ap, ◌∙◌, length, rules, arith, Reception, after_forward, has_incomplete, to_visit, incomplete_skips_walk}
 use Rattle.sctp_data.specs.ForwardTsn.{forward_tsn_of}
-use Rattle.sctp_receiver.specs.Receiver.{Reception, after_forward}
-use Rattle.sctp_receiver.specs.Skips.{has_incomplete}
 use Rattle.sctp_receiver.proofs.Receptions.{reception_in}
-use Rattle.sctp_receiver.specs.Visited.{to_visit}
 use Rattle.sctp_receiver.proofs.Settled.{fewer-after}
 use Rattle.sctp_receiver.proofs.Resetting.{none-incomplete}
-use Rattle.sctp_receiver.specs.SkipCosts.{incomplete_skips_walk}
 use Rattle.sctp_receiver.proofs.SkipCosts.{incomplete-after}
 use Rattle.sctp_receiver.proofs.receiver.Receiver.follow_past_closed.Goals as goal
 

@@ -1,6 +1,4 @@
-use Rattle.std.proofs.Common.{◌≡◌, ◌+◌, ◌≤◌, drop}
-use Rattle.std.specs.List.{list_any}
-use Rattle.sctp_receiver.specs.Receiver.{stream_of}
+use Rattle.sctp_receiver.proofs.Names.{◌≡◌, ◌+◌, ◌≤◌, drop, list_any, stream_of}
 use Rattle.sctp_receiver.specs.Ssns.{is_named_too_far}
 use Rattle.sctp_receiver.proofs.receiver.Receiver.is_any_too_far.Given as goal
 

@@ -1,8 +1,5 @@
-use Rattle.std.proofs.Common.{◌≡◌, ap, sym, ◌∙◌, false, subst, Result, Bool}
-use Rattle.std.specs.Prelude.{if◌then◌else◌, IfErr}
-use Rattle.sctp_receiver.specs.declared.receiver.refusal.ReceiverRefusal.{ReceiverRefusal}
-use Rattle.sctp_receiver.specs.declared.receiver.refusal.ReceiverRefusal.TheVariants.{StreamOpen, OutOfMemory}
-use Rattle.sctp_receiver.specs.Receiver.{is_open}
+use Rattle.sctp_receiver.proofs.Names.{◌≡◌, ap, sym, ◌∙◌, false, subst, Result, Bool, if◌then◌else◌, IfErr, ReceiverRefusal, OutOfMemory, is_open}
+use Rattle.sctp_receiver.specs.declared.receiver.refusal.ReceiverRefusal.TheVariants.{StreamOpen}
 use Rattle.sctp_receiver.proofs.Receptions.{reception_in, open-is}
 use Rattle.sctp_receiver.proofs.receiver.Receiver.open.Goals as goal
 

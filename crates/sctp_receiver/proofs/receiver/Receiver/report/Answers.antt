@@ -1,9 +1,6 @@
-use Rattle.std.proofs.Common.{◌≡◌, length, take, drop, ap, ◌∙◌, rules, arith}
+use Rattle.sctp_receiver.proofs.Names.{◌≡◌, length, take, drop, ap, ◌∙◌, rules, arith, length-take, Sack, Filter, Reception, sack_entries, duplicates_answered}
 use Rattle.std.proofs.lemmas.Grind.{common_steps}
-use Rattle.std.proofs.lemmas.List.{drop_min, length-take}
-use Rattle.sctp_data.specs.SelectiveAck.{Sack}
-use Rattle.sctp_receiver.specs.TsnFilter.{Filter}
-use Rattle.sctp_receiver.specs.Receiver.{Reception, sack_entries, duplicates_answered}
+use Rattle.std.proofs.lemmas.List.{drop_min}
 use Rattle.sctp_receiver.proofs.Receptions.{reception_in}
 use Rattle.sctp_receiver.proofs.receiver.Receiver.report.Goals as goal
 

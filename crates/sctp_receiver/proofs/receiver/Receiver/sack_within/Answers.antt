@@ -1,9 +1,6 @@
-use Rattle.std.proofs.Common.{◌≡◌, ◌-◌, ◌≤◌, length, take, subst, rules, arith}
-use Rattle.std.specs.Prelude.{IfOk}
-use Rattle.sctp_data.specs.SelectiveAck.{sack_of}
+use Rattle.sctp_receiver.proofs.Names.{◌≡◌, ◌-◌, ◌≤◌, length, take, subst, rules, arith, IfOk, sack_of, filter_of, max_sack_entries, gap_ack_blocks}
 use Rattle.sctp_receiver.specs.Costs.{IsWithinBlocks}
-use Rattle.sctp_receiver.specs.Receiver.{filter_of, max_sack_entries, sack, sack_of_entries}
-use Rattle.sctp_receiver.specs.TsnFilter.{gap_ack_blocks}
+use Rattle.sctp_receiver.specs.Receiver.{sack, sack_of_entries}
 use Rattle.sctp_receiver.proofs.receiver.Receiver.sack_within.Goals as goal
 
 entries-are : (c : goal.After-sack_of_entries) → 65532 ≤ c.args.room → c.min-entries.result ≡ max_sack_entries

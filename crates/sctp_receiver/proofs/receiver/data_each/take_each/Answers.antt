@@ -1,13 +1,8 @@
-use Rattle.std.proofs.Common.{rules, ◌≡◌, ◌<◌, ◌+◌, ◌-◌, ◌∙◌, ap, sym, subst, arith, None, Some, refl, List, ◌∷◌, [], ◌++◌, length, take, get_or}
-use Rattle.std.specs.Prelude.{slice_get}
-use Rattle.std.proofs.lemmas.List.{take_more, length-append}
-use Rattle.std.proofs.lemmas.Option.{slice_get_read}
-use Rattle.sctp_data.specs.declared.chunk.chunk_payload_data.ChunkPayloadData.{ChunkPayloadData}
-use Rattle.sctp_receiver.specs.declared.receiver.arrival.Arrival.{Arrival}
-use Rattle.sctp_receiver.specs.declared.receiver.intake.ChunkUndo.{ChunkUndo}
-use Rattle.sctp_receiver.specs.Costs.{IsWithinData, IsWithinUndone, TakesEachWithin, counts_in, undo_looks, undo_each_looks}
-use Rattle.sctp_receiver.specs.Receiver.{Reception, TakesEachBy, TakesFirstBy, refusal_for}
-use Rattle.sctp_receiver.specs.Undo.{Parts, parts, reception_of, chunks_undone, CanUndoChunks}
+use Rattle.sctp_receiver.proofs.Names.{rules, ◌≡◌, ◌<◌, ◌+◌, ◌-◌, ◌∙◌, ap, sym, subst, arith, None, Some, refl, List, ◌∷◌, [], ◌++◌, length, take, get_or}
+use Rattle.sctp_receiver.proofs.Names.{slice_get, length-append, slice_get_read, ChunkPayloadData, Arrival, ChunkUndo, IsWithinData, IsWithinUndone}
+use Rattle.sctp_receiver.proofs.Names.{TakesEachWithin, counts_in, undo_looks, undo_each_looks, Reception, TakesEachBy, TakesFirstBy, refusal_for, Parts, parts}
+use Rattle.sctp_receiver.proofs.Names.{reception_of, chunks_undone, CanUndoChunks}
+use Rattle.std.proofs.lemmas.List.{take_more}
 use Rattle.sctp_receiver.proofs.DataEach.{takes-more, stops}
 use Rattle.sctp_receiver.proofs.UndoCosts.{more-within, undone-within, looks-last, none-refused, one-refused}
 use Rattle.sctp_receiver.proofs.Undone.{undone-last, last-can}

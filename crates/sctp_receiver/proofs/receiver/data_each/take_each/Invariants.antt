@@ -1,8 +1,7 @@
-use Rattle.std.proofs.Common.{◌≡◌, ◌+◌, ◌-◌, ◌≤◌, length, take}
+use Rattle.sctp_receiver.proofs.Names.{◌≡◌, ◌+◌, ◌-◌, ◌≤◌, length, take, TakesEachWithin, IsWithinUndone, undo_each_looks, TakesEachBy, refusal_for, parts}
+use Rattle.sctp_receiver.proofs.Names.{reception_of, chunks_undone, CanUndoChunks}
 use Rattle.std.specs.Vec.{vec_capacity}
-use Rattle.sctp_receiver.specs.Costs.{IsWithinEachBy, TakesEachWithin, IsWithinUndone, undo_each_looks}
-use Rattle.sctp_receiver.specs.Receiver.{TakesEachBy, refusal_for}
-use Rattle.sctp_receiver.specs.Undo.{parts, reception_of, chunks_undone, CanUndoChunks}
+use Rattle.sctp_receiver.specs.Costs.{IsWithinEachBy}
 use Rattle.sctp_receiver.proofs.receiver.data_each.take_each.Given as goal
 
 abbrev pub invariant-loop-chunk : goal.invariant-loop-chunk

@@ -1,11 +1,7 @@
-use Rattle.std.proofs.Common.{◌≡◌, ◌-◌, ◌≤◌, length, sym, ◌∙◌, subst, inr, None, true, arith}
-use Rattle.sctp_reassembly.specs.reassembly_queue.Orders.{digits}
-use Rattle.sctp_reassembly.proofs.lemmas.reassembly_queue.Digits.{within_digits}
+use Rattle.sctp_receiver.proofs.Names.{◌≡◌, ◌-◌, ◌≤◌, length, sym, ◌∙◌, subst, inr, None, true, arith, digits, within_digits, new_refusal, parts, reception_of}
+use Rattle.sctp_receiver.proofs.Names.{Filter, has_come}
 use Rattle.sctp_receiver.proofs.PushCosts.{data-none}
-use Rattle.sctp_receiver.specs.Receiver.{new_refusal}
-use Rattle.sctp_receiver.specs.Undo.{parts, reception_of}
 use Rattle.sctp_receiver.proofs.Receptions.{closed, unknown, any-room}
-use Rattle.sctp_receiver.specs.TsnFilter.{Filter, has_come}
 use Rattle.sctp_receiver.proofs.Came.{taken-came}
 use Rattle.sctp_receiver.proofs.receiver.intake.take_any_ssn.Goals.{After-has_come_counted}
 use Rattle.sctp_receiver.proofs.receiver.intake.take_any_ssn.Goals as goal

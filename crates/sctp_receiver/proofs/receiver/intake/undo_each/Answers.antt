@@ -1,6 +1,5 @@
-use Rattle.std.proofs.Common.{◌≡◌, ◌++◌, ◌∷◌, [], ap, sym, subst, ◌∙◌, arith}
-use Rattle.sctp_receiver.specs.Costs.{counts_in, undo_looks, undo_each_looks}
-use Rattle.sctp_receiver.specs.Undo.{Parts, parts, chunks_undone, CanUndoChunks}
+use Rattle.sctp_receiver.proofs.Names.{◌≡◌, ◌++◌, ◌∷◌, [], ap, sym, subst, ◌∙◌, arith, counts_in, undo_looks, undo_each_looks, Parts, parts, chunks_undone}
+use Rattle.sctp_receiver.proofs.Names.{CanUndoChunks}
 use Rattle.sctp_receiver.proofs.UndoCosts.{looks-last}
 use Rattle.sctp_receiver.proofs.Undone.{undone-last, can-last}
 use Rattle.sctp_receiver.proofs.receiver.intake.undo_each.Goals as goal

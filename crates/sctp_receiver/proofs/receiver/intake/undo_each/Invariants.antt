@@ -1,6 +1,4 @@
-use Rattle.std.proofs.Common.{◌≡◌, ◌+◌, ◌≤◌}
-use Rattle.sctp_receiver.specs.Costs.{undo_each_looks}
-use Rattle.sctp_receiver.specs.Undo.{parts, chunks_undone, CanUndoChunks}
+use Rattle.sctp_receiver.proofs.Names.{◌≡◌, ◌+◌, ◌≤◌, undo_each_looks, parts, chunks_undone, CanUndoChunks}
 use Rattle.sctp_receiver.proofs.receiver.intake.undo_each.Given as goal
 
 abbrev pub invariant-loop-undo : goal.invariant-loop-undo

@@ -1,7 +1,4 @@
-use Rattle.std.proofs.Common.{rules, ap, ◌∙◌, arith, ◌<◌, ◌^◌, length, length-set}
-use Rattle.sctp_receiver.specs.Visited.{holds_incomplete}
-use Rattle.sctp_reassembly.specs.reassembly_queue.ReassemblyQueue.{ReassemblyState}
-use Rattle.sctp_receiver.specs.declared.receiver.inbound_streams.InboundStream.{InboundStream}
+use Rattle.sctp_receiver.proofs.Names.{rules, ap, ◌∙◌, arith, ◌<◌, ◌^◌, length, length-set, holds_incomplete, ReassemblyState, InboundStream}
 use Rattle.sctp_receiver.proofs.CostSums.{is-part, changed-fits, changed-sum}
 use Rattle.sctp_receiver.proofs.Listing.{renewed-less}
 use Rattle.sctp_receiver.proofs.Settled.{noted-none}

@@ -1,11 +1,8 @@
-use Rattle.std.proofs.Common.{rules, ◌+◌, ◌<◌, length, length-set, drop, drop-cons, get_or, add-one, refl, ap, ap₂, sym, subst, ◌∙◌, None, Some, arith}
-use Rattle.std.specs.Prelude.{slice_index_or}
+use Rattle.sctp_receiver.proofs.Names.{rules, ◌+◌, ◌<◌, length, length-set, drop, drop-cons, get_or, add-one, refl, ap, ap₂, sym, subst, ◌∙◌, None, Some, arith}
+use Rattle.sctp_receiver.proofs.Names.{slice_index_or, ChunkForwardTsnStream, number, numbers_of, new_stream, each_made, noted_made, AreNamed, inside}
+use Rattle.sctp_receiver.proofs.Names.{map-set_same}
 use Rattle.std.proofs.lemmas.List.{at_drop_all}
-use Rattle.sctp_data.specs.declared.chunk.chunk_forward_tsn.ChunkForwardTsnStream.{ChunkForwardTsnStream}
-use Rattle.sctp_receiver.specs.Inbound.{number, numbers_of, new_stream}
-use Rattle.sctp_receiver.specs.Noted.{each_made, noted_made, AreNamed}
 use Rattle.sctp_receiver.proofs.NotedNames.{made-now, made-number, taken-named, other-named, none-made, none-named, pending, pending-less, pending-named}
-use Rattle.sctp_stream.proofs.StreamPlaces.{inside, map-set_same}
 use Rattle.sctp_receiver.proofs.receiver.names.make_each.Goals as goal
 
 pub make_at-cost-requires-clause-place : goal.make_at-cost-requires-clause-place

@@ -1,9 +1,4 @@
-use Rattle.std.proofs.Common.{◌≡◌, ◌+◌, ◌≤◌, length, drop}
-use Rattle.std.specs.List.{sum_by}
-use Rattle.sctp_receiver.specs.Inbound.{numbers_of}
-use Rattle.sctp_receiver.specs.Limits.{cost_within}
-use Rattle.sctp_receiver.specs.Noted.{each_made, AreNamed}
-use Rattle.sctp_receiver.specs.Visited.{IsListing}
+use Rattle.sctp_receiver.proofs.Names.{◌≡◌, ◌+◌, ◌≤◌, length, drop, sum_by, numbers_of, cost_within, each_made, AreNamed, IsListing}
 use Rattle.sctp_receiver.proofs.NotedNames.{pending}
 use Rattle.sctp_receiver.proofs.receiver.names.make_each.Given as goal
 

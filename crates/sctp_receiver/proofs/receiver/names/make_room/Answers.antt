@@ -1,8 +1,5 @@
-use Rattle.std.proofs.Common.{◌≡◌, List, [], ◌∷◌, ◌++◌, length, Option, None, Some, ap, sym, subst, ◌∙◌}
-use Rattle.std.specs.Prelude.{slice_get}
-use Rattle.sctp_util.proofs.Cases.{by_same, some-same}
-use Rattle.sctp_reassembly.specs.declared.reassembly_queue.ordered_skips.OrderedSkips.{OrderedSkips}
-use Rattle.sctp_receiver.specs.Noted.{AreNone}
+use Rattle.sctp_receiver.proofs.Names.{◌≡◌, List, [], ◌∷◌, ◌++◌, length, Option, None, Some, ap, sym, subst, ◌∙◌, slice_get, by_same, some-same, OrderedSkips}
+use Rattle.sctp_receiver.proofs.Names.{AreNone}
 use Rattle.sctp_receiver.proofs.VisitOrders.{end-here, end-there}
 use Rattle.sctp_receiver.proofs.receiver.names.make_room.Goals as goal
 

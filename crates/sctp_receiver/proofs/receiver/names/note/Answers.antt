@@ -1,11 +1,5 @@
-use Rattle.std.proofs.Common.{◌≡◌, ◌<◌, length, Some, inl, inr, ap, sym, ◌∙◌, arith}
-use Rattle.std.specs.Prelude.{slice_get}
-use Rattle.std.proofs.lemmas.Option.{slice_get_within}
-use Rattle.sctp_util.proofs.Cases.{by_same}
-use Rattle.sctp_reassembly.specs.reassembly_queue.OrderedSkips.{after_noted}
-use Rattle.sctp_reassembly.specs.reassembly_queue.ReassemblyQueue.{after_ordered_skip}
-use Rattle.sctp_receiver.specs.Inbound.{number, ssn_forwarded}
-use Rattle.sctp_receiver.specs.Noted.{each_made}
+use Rattle.sctp_receiver.proofs.Names.{◌≡◌, ◌<◌, length, Some, inl, inr, ap, sym, ◌∙◌, arith, slice_get, slice_get_within, by_same, after_noted}
+use Rattle.sctp_receiver.proofs.Names.{after_ordered_skip, number, ssn_forwarded, each_made}
 use Rattle.sctp_receiver.proofs.NotedNames.{made-numbers, noted-name}
 use Rattle.sctp_receiver.proofs.VisitOrders.{read-at, set-there}
 use Rattle.sctp_stream.proofs.StreamPlaces.{absent-change}

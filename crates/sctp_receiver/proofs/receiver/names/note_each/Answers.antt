@@ -1,7 +1,5 @@
-use Rattle.std.proofs.Common.{rules, ◌≡◌, suc, ◌+◌, ◌<◌, length, drop, drop-cons, add-one, refl, ap, sym, ◌∙◌, inl, inr, arith}
-use Rattle.sctp_data.specs.declared.chunk.chunk_forward_tsn.ChunkForwardTsnStream.{ChunkForwardTsnStream}
-use Rattle.sctp_receiver.specs.Inbound.{named_forwarded}
-use Rattle.sctp_receiver.specs.Noted.{each_made, is_named}
+use Rattle.sctp_receiver.proofs.Names.{rules, ◌≡◌, suc, ◌+◌, ◌<◌, length, drop, drop-cons, add-one, refl, ap, sym, ◌∙◌, inl, inr, arith, ChunkForwardTsnStream}
+use Rattle.sctp_receiver.proofs.Names.{named_forwarded, each_made, is_named}
 use Rattle.sctp_receiver.proofs.NotedNames.{name-there, none-made}
 use Rattle.sctp_receiver.proofs.receiver.names.note_each.Goals as goal
 

@@ -1,6 +1,4 @@
-use Rattle.std.proofs.Common.{◌≡◌, ◌+◌, length, drop}
-use Rattle.sctp_receiver.specs.Inbound.{named_forwarded}
-use Rattle.sctp_receiver.specs.Noted.{each_made, AreNamed}
+use Rattle.sctp_receiver.proofs.Names.{◌≡◌, ◌+◌, length, drop, named_forwarded, each_made, AreNamed}
 use Rattle.sctp_receiver.proofs.receiver.names.note_each.Given as goal
 
 abbrev pub invariant-loop-place : goal.invariant-loop-place

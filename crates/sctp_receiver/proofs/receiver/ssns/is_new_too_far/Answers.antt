@@ -1,5 +1,4 @@
-use Rattle.std.proofs.Common.{◌-◌, length, arith}
-use Rattle.sctp_reassembly.proofs.lemmas.reassembly_queue.Digits.{within_digits}
+use Rattle.sctp_receiver.proofs.Names.{◌-◌, length, arith, within_digits}
 use Rattle.sctp_receiver.proofs.receiver.ssns.is_new_too_far.Goals as goal
 
 pub returns-clause-cost : goal.returns-clause-cost

@@ -1,7 +1,4 @@
-use Rattle.std.proofs.Common.{◌≡◌, ◌^◌, false, ap, sym, ◌∙◌}
-use Rattle.std.specs.Prelude.{nat_le}
-use Rattle.sctp_receiver.specs.Ssns.{is_ssn_too_far}
-use Rattle.sctp_util.specs.Serial.{distance16}
+use Rattle.sctp_receiver.proofs.Names.{◌≡◌, ◌^◌, false, ap, sym, ◌∙◌, nat_le, is_ssn_too_far, distance16}
 use Rattle.sctp_receiver.proofs.Ssns.{kept-or-passed}
 use Rattle.sctp_receiver.proofs.receiver.ssns.is_ssn_too_far.Goals as goal
 

@@ -1,11 +1,6 @@
-use Rattle.std.proofs.Common.{rules, arith, ◌≡◌, ◌<◌, Bool, map, length, length-set, add-one, Some, ap, sym, subst, ◌∙◌, refl}
-use Rattle.std.specs.Prelude.{slice_get, slice_index_or, if◌then◌else◌}
-use Rattle.std.proofs.lemmas.Bool.{lt-ltb}
-use Rattle.std.proofs.lemmas.Option.{slice_get_within, get_or_from_slice_get}
-use Rattle.sctp_util.proofs.Cases.{some-same}
-use Rattle.sctp_receiver.specs.declared.receiver.inbound_streams.InboundStream.{InboundStream}
-use Rattle.sctp_receiver.specs.SkipCosts.{visit_walk}
-use Rattle.sctp_receiver.specs.Visited.{skip_forwarded, is_spot_before}
+use Rattle.sctp_receiver.proofs.Names.{rules, arith, ◌≡◌, ◌<◌, Bool, map, length, length-set, add-one, Some, ap, sym, subst, ◌∙◌, refl, slice_get}
+use Rattle.sctp_receiver.proofs.Names.{slice_index_or, if◌then◌else◌, lt-ltb, slice_get_within, get_or_from_slice_get, some-same, InboundStream, visit_walk}
+use Rattle.sctp_receiver.proofs.Names.{skip_forwarded, is_spot_before}
 use Rattle.sctp_receiver.proofs.SkipCosts.{if_visited, not-yet, spent-more, spent-within, at-map, total-map, visited-sum}
 use Rattle.sctp_receiver.proofs.Settled.{skip-stays}
 use Rattle.sctp_receiver.proofs.Listing.{any, incomplete}

@@ -1,9 +1,5 @@
-use Rattle.std.proofs.Common.{◌≡◌, ◌+◌, ◌≤◌, length, map}
-use Rattle.std.specs.List.{sum_by}
-use Rattle.sctp_receiver.specs.Limits.{cost_within}
-use Rattle.sctp_receiver.specs.SkipCosts.{visit_walk}
+use Rattle.sctp_receiver.proofs.Names.{◌≡◌, ◌+◌, ◌≤◌, length, map, sum_by, cost_within, visit_walk, skip_forwarded}
 use Rattle.sctp_receiver.proofs.SkipCosts.{if_visited, spent}
-use Rattle.sctp_receiver.specs.Visited.{skip_forwarded}
 use Rattle.sctp_receiver.proofs.Visiting.{ChangedBefore}
 use Rattle.sctp_receiver.proofs.receiver.visit.forward_each.Given as goal
 

@@ -1,6 +1,5 @@
-use Rattle.std.proofs.Common.{◌≡◌, ◌+◌, not, drop}
-use Rattle.std.specs.List.{list_any}
-use Rattle.sctp_reassembly.specs.reassembly_queue.Fragments.{is_complete}
+use Rattle.sctp_receiver.proofs.Names.{◌≡◌, ◌+◌, drop, list_any, is_complete}
+use Rattle.std.proofs.Common.{not}
 use Rattle.sctp_receiver.proofs.receiver.visit.is_any_incomplete.Given as goal
 
 abbrev pub invariant-loop-place : goal.invariant-loop-place

@@ -1,7 +1,4 @@
-use Rattle.std.proofs.Common.{arith, ◌≡◌, suc, ◌+◌, ◌<◌, map, Some, true, false, ap, subst, ◌∙◌, ◌-◌}
-use Rattle.std.specs.Prelude.{slice_get}
-use Rattle.sctp_receiver.specs.declared.receiver.inbound_streams.InboundStream.{InboundStream}
-use Rattle.sctp_receiver.specs.SkipCosts.{settle_walk}
+use Rattle.sctp_receiver.proofs.Names.{arith, ◌≡◌, suc, ◌+◌, ◌<◌, map, Some, true, false, ap, subst, ◌∙◌, ◌-◌, slice_get, InboundStream, settle_walk}
 use Rattle.sctp_receiver.proofs.SkipCosts.{spent, spent-same, spent-more, spent-within, at-map, total-map}
 use Rattle.sctp_receiver.proofs.Listing.{any, incomplete}
 use Rattle.sctp_receiver.proofs.VisitOrders.{read-at, other-swapped}

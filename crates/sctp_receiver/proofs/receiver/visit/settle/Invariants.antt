@@ -1,6 +1,5 @@
-use Rattle.std.proofs.Common.{◌+◌, ◌≤◌, map}
-use Rattle.sctp_receiver.specs.Visited.{AreInverse, IsListed}
-use Rattle.sctp_receiver.specs.SkipCosts.{settle_walk}
+use Rattle.sctp_receiver.proofs.Names.{◌+◌, ◌≤◌, map, AreInverse, settle_walk}
+use Rattle.sctp_receiver.specs.Visited.{IsListed}
 use Rattle.sctp_receiver.proofs.SkipCosts.{spent, total}
 use Rattle.sctp_receiver.proofs.Listing.{any, incomplete}
 use Rattle.sctp_receiver.proofs.Visiting.{BehindHoldAny}

@@ -1,5 +1,4 @@
-use Rattle.std.proofs.Common.{◌≡◌, ◌≤◌, ℕ, false, length}
-use Rattle.sctp_receiver.specs.Visited.{is_visited}
+use Rattle.sctp_receiver.proofs.Names.{◌≡◌, ◌≤◌, ℕ, false, length, is_visited}
 use Rattle.sctp_receiver.proofs.Listing.{any, incomplete}
 use Rattle.sctp_receiver.proofs.Visiting.{FirstAsTheyHold}
 use Rattle.sctp_receiver.proofs.receiver.visit.visit_all.Given as goal

@@ -1,5 +1,4 @@
-use Rattle.std.proofs.Common.{◌≡◌, ℕ, ◌<◌, length, Some}
-use Rattle.std.specs.Prelude.{slice_get}
+use Rattle.sctp_receiver.proofs.Names.{◌≡◌, ℕ, ◌<◌, length, Some, slice_get}
 use Rattle.sctp_receiver.proofs.receiver.visits.count_up.Given as goal
 
 abbrev pub invariant-loop-i : goal.invariant-loop-i

@@ -1,5 +1,4 @@
-use Rattle.std.proofs.Common.{rules}
-use Rattle.std.proofs.lemmas.Option.{slice_get_within}
+use Rattle.sctp_receiver.proofs.Names.{rules, slice_get_within}
 use Rattle.sctp_receiver.proofs.VisitOrders.{read-at, swapped-order, swapped-spots}
 use Rattle.sctp_receiver.proofs.receiver.visits.swap.Goals as goal
 

@@ -1,12 +1,6 @@
-use Rattle.std.proofs.Common.{sym, subst}
-use Rattle.std.specs.Prelude.{find}
-use Rattle.sctp_outbound.specs.outbound_queue.OutboundQueue.{to_abandon}
-use Rattle.sctp_serial.specs.DataChunks.{has_tsn}
-use Rattle.sctp_sender.specs.Flight.{Flight}
-use Rattle.sctp_sender.specs.Totals.{IsAllSettled}
+use Rattle.sctp_sender.proofs.Names.{sym, subst, find, to_abandon, has_tsn, Flight, IsAllSettled, IsCovered}
 use Rattle.sctp_sender.proofs.Settled.{abandoned-settled}
 use Rattle.sctp_sender.proofs.Lows.{release-answered}
-use Rattle.sctp_sender.specs.Keeping.{IsCovered}
 use Rattle.sctp_sender.proofs.Covers.{after-abandonment-covered}
 use Rattle.sctp_sender.proofs.Listed.{reported-on}
 use Rattle.sctp_sender.proofs.sender.Sender.abandon.Goals as goal

@@ -1,215 +1,164 @@
-use Rattle.std.proofs.Common.{◌≡◌, ◌+◌, ◌≤◌, true, ℕ, List, length, arith, rules, Option, None, inl, refl, ap, sym, subst, ◌∙◌}
-use Rattle.std.specs.Option.{option_map}
-use Rattle.std.proofs.lemmas.Bool.{false≢true}
-use Rattle.std.specs.Prelude.{◌⊎◌, IfErr, Some, is_some}
-use Rattle.std.proofs.lemmas.Result.{err_from_is_err_and}
-use Rattle.sctp_sender.specs.declared.sender.refusal.SenderRefusal.TheVariants.{OutOfMemory}
-use Rattle.sctp_data.specs.SelectiveAck.{Sack, sack_of}
-use Rattle.sctp_sender.specs.Costs.{anew_turns, sack_turns}
-use Rattle.sctp_sender.specs.Flight.{Flight, after_sack, is_outdated, released_by, sack_refusal}
-use Rattle.sctp_sender.specs.Keeping.{AreReported}
-use Rattle.sctp_sender.specs.Sender.{Transmission, after_acked}
-use Rattle.sctp_sender.specs.Outgoing.{after_releases}
-use Rattle.sctp_stream.specs.declared.stream.StreamState.{StreamState}
-use Rattle.sctp_sender.proofs.AnewKept.{acked-covered, data-then, from-some}
-use Rattle.sctp_sender.specs.Calls.{IsAnew}
-use Rattle.sctp_sender.specs.Totals.{IsAllSettled}
-use Rattle.sctp_sender.proofs.KeepCosts.{forged-cost, if-some, keep-cost, none-kept, none-when, refused-cost, some-first}
-use Rattle.sctp_sender.proofs.Seen.{sender_in}
-use Rattle.sctp_sender.proofs.Settled.{sack-settled}
+use Rattle.sctp_sender.proofs.Names.{◌≡◌, ◌+◌, ◌≤◌, true, rules, arith, ℕ, List, Option, Some, None, length, inl, inr, refl, ap, sym, subst, ◌∙◌, IfSome}
+use Rattle.sctp_sender.proofs.Names.{is_some, All, false≢true, Sack, sack_of, total_bytes, OutboundStream, Released, TakenBack, keeping_turns, sack_turns}
+use Rattle.sctp_sender.proofs.Names.{take_back_turns, Flight, can_resend, is_outdated, released_by, sack_refusal, after_returns, places_kept}
+use Rattle.sctp_sender.proofs.Names.{with_reported_again, after_releases, Transmission, after_acked, after_take_back, back_by, take_back_refusal, taken_back_by}
+use Rattle.sctp_sender.proofs.Names.{with_flight, with_streams, with_lows, bytes_in}
 use Rattle.sctp_sender.proofs.Lows.{chunks-tell, one-chunk-tells, released-same}
-use Rattle.sctp_sender.proofs.Listed.{after-reported}
-use Rattle.sctp_sender.proofs.sender.Sender.acked_counted.Goals.{After-acked_counted, After-anew_by, In_err-make_room, In_ok-anew}
+use Rattle.sctp_sender.proofs.Seen.{sender_in}
+use Rattle.sctp_sender.proofs.TakenSacks.{claim-refused, if-each, none-old, none-told, nothing-kept, same-refusal}
 use Rattle.sctp_sender.proofs.sender.Sender.acked_counted.Goals as goal
 
-anew : (c : In_ok-anew) → IsAnew (sack_of c.args.sack.now) (sender_in c.self.inside) c.in_ok-anew.anew
-anew c = subst (λ (t : Transmission). IsAnew (sack_of c.args.sack.now) t c.in_ok-anew.anew) (sym c.self.view_is) c.in_ok-anew.ensures.anew
+-- the sender once something came back, its streams as before
+abbrev Mid : Sack → Transmission → Transmission
+Mid s t = with_streams t.streams (after_take_back s t)
 
-first : (c : After-anew_by) → c.anew_by.new.turns
-    ≤ c.args.turns.now + length (sack_of c.args.sack.now).gap_ack_blocks + anew_turns (sack_of c.args.sack.now) c.self.inside.flight
-first c =
-    let s = sack_of c.args.sack.now in
-    subst (λ (t : Transmission). c.anew_by.new.turns ≤ c.args.turns.now + length s.gap_ack_blocks + anew_turns s t.flight) (sym c.self.view_is)
-    c.anew_by.ensures.cost
+-- it is refused for the same claims then
+same : (s : Sack) (t u : Transmission) → u ≡ Mid s t → sack_refusal s u.flight ≡ sack_refusal s t.flight
+same s t u e = ap (λ (x : Transmission). sack_refusal s x.flight) e ∙ same-refusal s (back_by s t.flight t.kept) t.flight
 
--- Room is refused only where something is kept anew.
-some : (c : In_err-make_room) → c.in_ok-anew.anew ≡ None → ⊥
-some c e = false≢true (c.in_err-make_room.ensures.idle e)
+-- what keeping costs, from one sum to the other
+keeping : (s : Sack) (t u : Transmission) (t0 t1 t2 t3 n : ℕ) → u ≡ Mid s t → t1 + n ≤ t0 + take_back_turns s t.flight n
+    → n ≡ length (taken_back_by s t) → t3 ≡ t2 + n
+    → IfSome u.kept (λ ks. t2 ≤ t1 + sack_turns s u.flight + keeping_turns s u.flight (places_kept s u.flight ks))
+    → IfSome t.kept (λ ks. t3 ≤ t0 + take_back_turns s t.flight (length (taken_back_by s t))
+    + (sack_turns s (after_take_back s t).flight + keeping_turns s (after_take_back s t).flight (places_kept s (after_take_back s t).flight ks)))
+keeping s t u t0 t1 t2 t3 n is room many last cost =
+    let own : IfSome t.kept (λ ks. t2 ≤ t1 + sack_turns s (after_take_back s t).flight
+    + keeping_turns s (after_take_back s t).flight (places_kept s (after_take_back s t).flight ks)) =
+    subst (λ (x : Transmission). IfSome x.kept (λ ks. t2 ≤ t1 + sack_turns s x.flight + keeping_turns s x.flight (places_kept s x.flight ks))) is cost in
+    let all = subst (λ k. t1 + n ≤ t0 + take_back_turns s t.flight k) many room in
+    if-each t.kept (λ ks h. omega (arith, h, all, last)) own
 
-fresh : (c : In_err-make_room) {A : Type 0} → is_outdated (sack_of c.args.sack.now) c.args.self.now.flight ≡ true → A
-fresh c old = absurd (false≢true (sym (from-some c.in_ok-anew.anew (some c) c.in_ok-anew.ensures.anew.current) ∙ old))
+plain : (s : Sack) (t u : Transmission) → u ≡ Mid s t → t.kept ≡ None → sack_turns s u.flight ≡ sack_turns s t.flight
+plain s t u is e = ap (λ (x : Transmission). sack_turns s x.flight) is ∙ ap (λ (x : Transmission). sack_turns s x.flight) (nothing-kept s t e)
 
-right : (c : In_err-make_room) {A : Type 0} → is_some (sack_refusal (sack_of c.args.sack.now) c.args.self.now.flight) ≡ true → A
-right c claimed = absurd (false≢true (ap is_some (sym (from-some c.in_ok-anew.anew (some c) c.in_ok-anew.ensures.anew.taken)) ∙ claimed))
+-- where it is refused for what it claims
+forged-cost : (s : Sack) (t u : Transmission) (t0 t1 t2 t3 n : ℕ) → u ≡ Mid s t → (o : Option (List (Option (List ℕ)))) → t.kept ≡ o
+    → take_back_refusal s t ≡ None → (t.kept ≡ None → t1 ≡ t0)
+    → (is_some (sack_refusal s u.flight) ≡ true → t2 ≤ t1 + length s.gap_ack_blocks) → (t.kept ≡ None → n ≡ 0) → t3 ≡ t2 + n
+    → is_some (sack_refusal s t.flight) ≡ true → t3 ≤ t0 + length s.gap_ack_blocks
+forged-cost s t u t0 t1 t2 t3 n is None kept taken idle cost none last e =
+    let x = idle kept in
+    let y = cost (ap is_some (same s t u is) ∙ e) in
+    let z = none kept in omega (arith, x, y, z, last)
+forged-cost s t u t0 t1 t2 t3 n is (Some ks) kept taken idle cost none last e = claim-refused s t ks kept e taken
 
--- ## The turns, once what is in flight has taken the SACK
+-- ## Where it is refused once something came back
 
--- none where it is out of date
-old-cost : (c : After-acked_counted) → is_outdated (sack_of c.args.sack.now) c.args.self.now.flight ≡ true
-    → (c.in_ok-anew.anew ≡ None) × (c.acked_counted.new.turns ≡ c.args.turns.now)
-old-cost c old =
+pub returns-in-Err-clause-acks : goal.returns-in-Err-clause-acks
+returns-in-Err-clause-acks c =
     let s : Sack = sack_of c.args.sack.now in
-    let none = none-when c.in_ok-anew.anew (is_outdated s c.args.self.now.flight) c.in_ok-anew.ensures.anew.current old in
-    let acked = (subst (λ (t : Transmission). is_outdated s t.flight ≡ true → c.acked_counted.new.turns ≡ c.make_room.new.turns) c.self.view_is
-    c.acked_counted.ensures.stale) old in
-    (none, omega (arith, acked, c.anew_by.ensures.stale old, c.make_room.ensures.none none))
+    let old : Transmission = c.args.self.now in
+    let mid : Transmission = c.bring_back_counted.new.self in
+    let b = c.in_ok-back.ensures.restores in
+    let ks : List ℕ = c.in_ok-back.back.told.places.items in
+    let r = same s old mid b.ok in
+    record {
+      back = search rules;
+      outstanding = search rules;
+      answer = search rules;
+      low = search rules;
+      once = search rules;
+      ok = search rules;
+      bytes = search rules;
+      accepted = search rules;
+      refused = elim c.in-Err.ensures.acks.refused [
+        | inl p ↦ inl (p.0, sym r ∙ p.1)
+        | inr e ↦ inr (inl (sym r ∙ e))
+      ];
+      outdated = λ e. c.in-Err.ensures.acks.outdated (ap (λ (x : Transmission). is_outdated s x.flight) b.ok ∙ e);
+      err = c.undo_back.ensures.undone ∙ ap (λ (x : Transmission). with_flight (with_reported_again ks x.flight) x) c.in-Err.ensures.acks.err
+          ∙ ap (λ (g : Flight). with_flight g mid) c.in_ok-back.ensures.undo.same ∙ ap (with_flight old.flight) b.ok;
+    }
 
--- one for each block where it is refused for what it claims
-claim-cost : (c : After-acked_counted) (last : ℕ) → (c.in_ok-anew.anew ≡ None → last ≡ c.acked_counted.new.turns)
-    → is_some (sack_refusal (sack_of c.args.sack.now) c.args.self.now.flight) ≡ true
-    → last ≤ c.args.turns.now + length (sack_of c.args.sack.now).gap_ack_blocks
-claim-cost c last no-more claimed =
+pub returns-in-Err-clause-turns : goal.returns-in-Err-clause-turns
+returns-in-Err-clause-turns c =
     let s : Sack = sack_of c.args.sack.now in
-    let acked = (subst (λ (t : Transmission). is_some (sack_refusal s t.flight) ≡ true → c.acked_counted.new.turns
-    ≤ c.make_room.new.turns + length s.gap_ack_blocks) c.self.view_is c.acked_counted.ensures.forged) claimed in
-    forged-cost s c.args.self.now.flight c.args.turns.now c.anew_by.new.turns c.make_room.new.turns c.acked_counted.new.turns last
-    c.args.self.now.kept c.in_ok-anew.anew claimed c.in_ok-anew.ensures.anew.taken c.in_ok-anew.ensures.anew.same c.anew_by.ensures.nothing_kept
-    c.anew_by.ensures.stale c.make_room.ensures.none acked no-more
+    let old : Transmission = c.args.self.now in
+    let mid : Transmission = c.bring_back_counted.new.self in
+    let b = c.in_ok-back.ensures.restores in
+    let first = c.in_ok-back.ensures.turns in
+    let second = c.in-Err.ensures.turns in
+    let few = c.in_ok-back.ensures.undo.few in
+    let many = ap length b.answer in
+    let none : old.kept ≡ None → length c.in_ok-back.back.told.places.items ≡ 0 = λ e. few ∙ many ∙ ap length (none-told s old e) in
+    record {
+      not_back = let x = first.not_back in let y = second.not_back in omega (arith, x, y, c.undo_back.ensures.cost);
+      cost = λ e.
+          let x = first.nothing_kept e in
+          let y = second.cost (ap (λ (u : Transmission). u.kept) b.ok ∙ e) in
+          let z = plain s old mid b.ok e in
+          let w = none e in
+          omega (arith, x, y, z, w, c.undo_back.ensures.cost);
+      cost_keeping = keeping s old mid c.args.turns.now c.bring_back_counted.new.turns c.acked_in_flight_counted.new.turns c.undo_back.new.turns
+          (length c.in_ok-back.back.told.answered.items) b.ok c.in_ok-back.ensures.room many (let x = c.undo_back.ensures.cost in omega (arith, x, few))
+          second.cost_keeping;
+      stale = λ e. absurd (false≢true (c.in-Err.ensures.acks.outdated (ap (λ (x : Transmission). is_outdated s x.flight) b.ok ∙ e)));
+      forged = λ e. forged-cost s old mid c.args.turns.now c.bring_back_counted.new.turns c.acked_in_flight_counted.new.turns c.undo_back.new.turns
+          (length c.in_ok-back.back.told.places.items) b.ok old.kept refl (b.accepted refl) first.nothing_kept second.forged none
+          c.undo_back.ensures.cost e;
+    }
 
--- those of what is in flight where nothing is kept
-plain-cost : (c : After-acked_counted) → c.args.self.now.kept ≡ None
-    → (c.in_ok-anew.anew ≡ None) × (c.acked_counted.new.turns ≤ c.args.turns.now + sack_turns (sack_of c.args.sack.now) c.args.self.now.flight)
-plain-cost c e =
-    let s : Sack = sack_of c.args.sack.now in
-    let none = none-kept c.in_ok-anew.anew c.args.self.now.kept c.in_ok-anew.ensures.anew.keeps e in
-    let acked = subst (λ (t : Transmission). c.acked_counted.new.turns ≤ c.make_room.new.turns + sack_turns s t.flight) c.self.view_is
-    c.acked_counted.ensures.cost in
-    (none, omega (arith, acked, c.anew_by.ensures.nothing_kept e, c.make_room.ensures.none none))
-
--- ## What holds of the sender then
-
-pub invariant_of-self-2 : goal.invariant_of-self-2
-invariant_of-self-2 c =
-    let f : Flight = c.self.inside.flight in
-    let s : Sack = sack_of c.args.sack.now in
-    let a = anew (goal.at.invariant_of-self-2 c).In_ok-anew in (
-      c.self.invariant.0,
-      c.self.invariant.1,
-      subst (λ (g : Flight). IsAllSettled g.queue) (sym c.in_ok-released.ensures.ok) (sack-settled s f c.self.invariant.2),
-      acked-covered s f c.self.inside.kept c.make_room.new.kept c.keep_anew.new.kept c.in_ok-anew.anew c.acked_counted.new.self c.in_ok-released.ensures.ok
-          a.are a.current a.same a.covered c.self.invariant.3 c.make_room.ensures.same c.make_room.ensures.covered c.keep_anew.ensures.items
-          c.keep_anew.ensures.covered,
-      subst (AreReported c.keep_anew.new.kept) (sym c.in_ok-released.ensures.ok) (after-reported s f c.self.inside.kept c.make_room.new.kept
-          c.keep_anew.new.kept c.in_ok-anew.anew a.same a.known c.make_room.ensures.covered c.keep_anew.ensures.covered c.self.invariant.4),
-    )
+-- ## Where it is taken
 
 pub returns-clause-acks : goal.returns-clause-acks
 returns-clause-acks c =
-    let f : Flight = c.self.inside.flight in
     let s : Sack = sack_of c.args.sack.now in
-    let t : Transmission = sender_in c.self.inside in
-    let a = anew (goal.at.returns-clause-acks c).In_ok-anew in
-    let kept = data-then s f c.self.inside.kept c.make_room.new.kept c.keep_anew.new.kept c.in_ok-anew.anew a.are a.current a.same c.self.invariant.3
-    c.make_room.ensures.same c.keep_anew.ensures.items in
-    let streams = c.release_each.ensures.less ∙ ap (λ rs. after_releases rs t.streams) c.in_ok-released.ensures.answer in
+    let old : Transmission = c.args.self.now in
+    let mid : Transmission = after_take_back s old in
+    let rs : List Released = c.in-Ok.released.items in
+    let b = c.in_ok-back.ensures.restores in
+    let a = c.in-Ok.ensures.acks in
+    let r = same s old c.bring_back_counted.new.self b.ok in
+    let v : sender_in c.self.inside ≡ with_streams old.streams (after_acked s mid) = c.self.view_is ∙ a.ok
+    ∙ ap (λ (u : Transmission). with_streams u.streams (after_acked s u)) b.ok in
+    let told : rs ≡ released_by s mid.flight = a.answer ∙ ap (λ (u : Transmission). released_by s u.flight) b.ok in
+    let ls : c.return_each.new.streams ≡ mid.streams = c.return_each.ensures.value
+    ∙ ap (λ xs. after_returns xs c.self.inside.streams) (c.deref.ensures.value ∙ b.answer)
+    ∙ ap (λ (u : Transmission). after_returns (taken_back_by s old) u.streams) v in
+    let less : c.release_each.new.streams ≡ after_releases rs mid.streams = c.release_each.ensures.less ∙ ap (after_releases rs) ls in
+    let lows : c.release_each.new.gone.items ≡ with_lows rs mid.streams = c.release_each.ensures.lows ∙ ap (with_lows rs) ls in
     record {
-      answer = search rules;
-      low = λ n. rw (← c.self.view_is) (chunks-tell n _ _ _ _ c.release_each.ensures.lows c.release_each.ensures.less);
-      once = λ n. one-chunk-tells n _ _ _ _ c.release_each.ensures.lows c.release_each.ensures.less;
-      ok = ap (λ (ls : List StreamState). let u : Transmission = record t {
-        streams = ls;
-        flight = c.acked_counted.new.self;
-        kept = option_map (λ k. k.user_data.items) c.keep_anew.new.kept;
-      } in u) streams
-          ∙ ap (λ (g : Flight). let u : Transmission = record t {
-            streams = after_releases (released_by s f) t.streams;
-            flight = g;
-            kept = option_map (λ k. k.user_data.items) c.keep_anew.new.kept;
-          } in u) c.in_ok-released.ensures.ok
-          ∙ ap (λ (o : Option (List (Option (List ℕ)))). let u : Transmission = record t {
-            streams = after_releases (released_by s f) t.streams;
-            flight = after_sack s f;
-            kept = o;
-          } in u) kept ∙ ap (after_acked s) c.self.view_is;
-      released = rw (← c.self.view_is)
-          (released-same _ _ _ _ _ c.release_each.ensures.lows (c.in_ok-released.ensures.released c.self.invariant.2.inflight));
-      accepted = search rules;
+      back = b.answer;
+      outstanding = subst (λ (u : Transmission). All (λ (k : TakenBack). can_resend k.tsn u.flight ≡ true) c.in_ok-back.back.told.answered.items) b.ok
+          b.outstanding;
+      answer = lows ∙ ap (λ xs. with_lows xs mid.streams) told;
+      low = λ n. chunks-tell n _ _ _ _ lows less;
+      once = λ n. one-chunk-tells n _ _ _ _ lows less;
+      ok = ap (λ (xs : List OutboundStream). with_streams xs (sender_in c.self.inside)) (less ∙ ap (λ xs. after_releases xs mid.streams) told)
+          ∙ ap (λ (u : Transmission). with_streams (after_releases (released_by s mid.flight) mid.streams) u) v;
+      bytes = released-same _ _ _ _ _ lows (ap (λ (u : Transmission). total_bytes u.flight.queue + bytes_in rs) c.self.view_is ∙ a.released) ∙ b.bytes;
+      accepted = λ e. (sym r ∙ a.accepted refl, b.accepted refl);
       refused = search rules;
       outdated = search rules;
       err = search rules;
     }
 
--- ## For each way out
-
-pub returns-in_err-make_room-clause-acks : goal.returns-in_err-make_room-clause-acks
-returns-in_err-make_room-clause-acks c =
-    let p = (goal.at.returns-in_err-make_room-clause-acks c).In_err-make_room in
-    let none = from-some c.in_ok-anew.anew (some p) c.in_ok-anew.ensures.anew.taken in
-    let m = c.in_err-make_room.ensures.memory in
-    let r = err_from_is_err_and c.from_residual-in_err-make_room.result c.from_residual-in_err-make_room.ensures.1 in
-    let q = r.2 in
-    let is : r.0 ≡ OutOfMemory = cc in
-    record {
-      answer = search rules;
-      low = search rules;
-      once = search rules;
-      ok = search rules;
-      released = search rules;
-      accepted = search rules;
-      refused = subst (λ r. IfErr r (λ e. ((e ≡ OutOfMemory) × (sack_refusal (sack_of c.args.sack.now) c.args.self.now.flight ≡ None))
-          ⊎ (sack_refusal (sack_of c.args.sack.now) c.args.self.now.flight ≡ Some e))) (sym r.1) (inl (is, none));
-      outdated = fresh p;
-      err = search rules;
-    }
-
-pub returns-in_err-anew-clause-turns : goal.returns-in_err-anew-clause-turns
-returns-in_err-anew-clause-turns c =
-    let first = c.anew_by.ensures.cost in
-    record {
-      not_back = c.anew_by.ensures.not_back;
-      cost = λ e. let h = c.anew_by.ensures.nothing_kept e in omega (arith, h);
-      cost_keeping = if-some c.args.self.now.kept (λ ks. omega (arith, first));
-      stale = c.anew_by.ensures.stale;
-      forged = c.anew_by.ensures.forged;
-    }
-
-pub returns-in_err-make_room-clause-turns : goal.returns-in_err-make_room-clause-turns
-returns-in_err-make_room-clause-turns c =
-    let p = goal.at.returns-in_err-make_room-clause-turns c in
-    record {
-      not_back = omega arith;
-      cost = λ e. absurd (some p.In_err-make_room (none-kept c.in_ok-anew.anew c.args.self.now.kept c.in_ok-anew.ensures.anew.keeps e));
-      cost_keeping = rw (← c.self.view_is) (refused-cost (sack_of c.args.sack.now) c.self.inside.flight c.args.turns.now c.anew_by.new.turns
-          c.make_room.new.turns c.make_room.new.turns (first p.After-anew_by) (omega arith) (sender_in c.self.inside).kept c.in_ok-anew.anew
-          c.make_room.ensures.none c.make_room.ensures.cost (anew p.In_ok-anew).few);
-      stale = fresh p.In_err-make_room;
-      forged = right p.In_err-make_room;
-    }
-
-pub returns-in_err-released-clause-turns : goal.returns-in_err-released-clause-turns
-returns-in_err-released-clause-turns c =
-    let p = goal.at.returns-in_err-released-clause-turns c in
-    record {
-      not_back = omega arith;
-      cost = λ e. (plain-cost p.After-acked_counted e).1;
-      cost_keeping = rw (← c.self.view_is) (refused-cost (sack_of c.args.sack.now) c.self.inside.flight c.args.turns.now c.anew_by.new.turns
-          c.make_room.new.turns c.acked_counted.new.turns (first p.After-anew_by) c.acked_counted.ensures.cost (sender_in c.self.inside).kept
-          c.in_ok-anew.anew c.make_room.ensures.none c.make_room.ensures.cost (anew p.In_ok-anew).few);
-      stale = λ old. (old-cost p.After-acked_counted old).1;
-      forged = claim-cost p.After-acked_counted c.acked_counted.new.turns (λ e. refl);
-    }
-
 pub returns-clause-turns : goal.returns-clause-turns
 returns-clause-turns c =
-    let p = goal.at.returns-clause-turns c in
-    let a = anew p.In_ok-anew in
-    let f : Flight = c.self.inside.flight in
     let s : Sack = sack_of c.args.sack.now in
-    let kept = data-then s f c.self.inside.kept c.make_room.new.kept c.keep_anew.new.kept c.in_ok-anew.anew a.are a.current a.same c.self.invariant.3
-    c.make_room.ensures.same c.keep_anew.ensures.items in
+    let old : Transmission = c.args.self.now in
+    let mid : Transmission = c.bring_back_counted.new.self in
+    let b = c.in_ok-back.ensures.restores in
+    let first = c.in_ok-back.ensures.turns in
+    let second = c.in-Ok.ensures.turns in
+    let told = ap length c.deref.ensures.value in
+    let many = ap length b.answer in
     record {
-      not_back = omega arith;
+      not_back = let x = first.not_back in let y = second.not_back in omega (arith, x, y, c.return_each.ensures.cost);
       cost = λ e.
-          let h = plain-cost p.After-acked_counted e in
-          let after = c.keep_anew.ensures.none h.0 in
-          omega (arith, h.1, after);
-      cost_keeping = rw (← c.self.view_is) (keep-cost s f c.args.turns.now c.anew_by.new.turns c.make_room.new.turns c.acked_counted.new.turns
-          c.keep_anew.new.turns (first p.After-anew_by) c.acked_counted.ensures.cost c.self.inside.kept c.make_room.new.kept c.keep_anew.new.kept
-          c.in_ok-anew.anew c.make_room.ensures.none c.make_room.ensures.cost c.keep_anew.ensures.none c.keep_anew.ensures.cost a.few a.passed
-          (some-first c.in_ok-anew.anew _ _ a.are) c.make_room.ensures.same c.keep_anew.ensures.items kept);
-      stale = λ old.
-          let h = old-cost p.After-acked_counted old in
-          let after = c.keep_anew.ensures.none h.0 in
-          omega (arith, h.1, after);
-      forged = claim-cost p.After-acked_counted c.keep_anew.new.turns c.keep_anew.ensures.none;
+          let x = first.nothing_kept e in
+          let y = second.cost (ap (λ (u : Transmission). u.kept) b.ok ∙ e) in
+          let z = plain s old mid b.ok e in
+          let w = ap length (none-told s old e) in
+          omega (arith, x, y, z, w, told, many, c.return_each.ensures.cost);
+      cost_keeping = keeping s old mid c.args.turns.now c.bring_back_counted.new.turns c.acked_in_flight_counted.new.turns c.return_each.new.turns
+          (length c.in_ok-back.back.told.answered.items) b.ok c.in_ok-back.ensures.room many
+          (let x = c.return_each.ensures.cost in omega (arith, x, told)) second.cost_keeping;
+      stale = λ e.
+          let x = first.stale e in
+          let y = second.stale (ap (λ (u : Transmission). is_outdated s u.flight) b.ok ∙ e) in
+          let w = ap length (none-old s old e) in
+          omega (arith, x, y, w, told, many, c.return_each.ensures.cost);
+      forged = λ e. absurd (false≢true (ap is_some (sym (sym (same s old mid b.ok) ∙ c.in-Ok.ensures.acks.accepted refl)) ∙ e));
     }

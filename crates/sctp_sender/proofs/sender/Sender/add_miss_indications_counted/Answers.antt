@@ -1,9 +1,6 @@
-use Rattle.std.proofs.Common.{sym, subst}
-use Rattle.sctp_sender.specs.Flight.{Flight}
+use Rattle.sctp_sender.proofs.Names.{sym, subst, Flight, IsAllSettled, AreReported, IsCovered}
 use Rattle.sctp_sender.specs.Resending.{count_before}
-use Rattle.sctp_sender.specs.Totals.{IsAllSettled}
 use Rattle.sctp_sender.proofs.Settled.{misses-settled}
-use Rattle.sctp_sender.specs.Keeping.{AreReported, IsCovered}
 use Rattle.sctp_sender.proofs.Covers.{misses-covered}
 use Rattle.sctp_sender.proofs.Listed.{misses-reported}
 use Rattle.sctp_sender.proofs.sender.Sender.add_miss_indications_counted.Goals as goal

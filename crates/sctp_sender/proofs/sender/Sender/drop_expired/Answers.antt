@@ -1,8 +1,5 @@
-use Rattle.std.proofs.Common.{◌≡◌, true, ap, ◌∙◌, arith}
-use Rattle.std.specs.Prelude.{is_some}
-use Rattle.sctp_outbound.specs.outbound_queue.OutboundQueue.{expiring, total_bytes}
+use Rattle.sctp_sender.proofs.Names.{◌≡◌, true, ap, ◌∙◌, arith, is_some, expiring, total_bytes, Transmission}
 use Rattle.sctp_sender.specs.Drops.{is_begun_due}
-use Rattle.sctp_sender.specs.Sender.{Transmission}
 use Rattle.sctp_sender.proofs.Amounts.{started-bytes}
 use Rattle.sctp_sender.proofs.Drops.{at-first, front-expires}
 use Rattle.sctp_sender.proofs.sender.Sender.drop_expired.Goals.{In-Some}

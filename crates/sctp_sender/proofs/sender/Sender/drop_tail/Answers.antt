@@ -1,10 +1,5 @@
-use Rattle.std.proofs.Common.{◌≡◌, List, [], ◌∷◌, ◌++◌, ap, subst, ◌∙◌}
-use Rattle.std.specs.Prelude.{IfSome}
-use Rattle.std.specs.List.{list_any}
-use Rattle.sctp_outbound.specs.outbound_queue.OutboundQueue.{expiring_tail, message_of}
-use Rattle.sctp_sender.specs.declared.sender.flight.late.AbandonedMessage.{AbandonedMessage}
-use Rattle.sctp_sender.specs.Sender.{after_abandon}
-use Rattle.sctp_sender.specs.Thresholds.{falls_on, tells_message_low}
+use Rattle.sctp_sender.proofs.Names.{◌≡◌, List, [], ◌∷◌, ◌++◌, ap, subst, ◌∙◌, IfSome, list_any, expiring_tail, message_of, AbandonedMessage, after_abandon}
+use Rattle.sctp_sender.proofs.Names.{falls_on, tells_message_low}
 use Rattle.sctp_sender.proofs.Drops.{one-tells}
 use Rattle.sctp_sender.proofs.sender.Sender.drop_tail.Goals as goal
 

@@ -1,10 +1,6 @@
-use Rattle.std.proofs.Common.{sym, subst, rules}
-use Rattle.sctp_sender.specs.Flight.{Flight}
-use Rattle.sctp_outbound.specs.outbound_queue.OutboundQueue.{expiring}
-use Rattle.sctp_sender.specs.Totals.{IsAllSettled}
+use Rattle.sctp_sender.proofs.Names.{sym, subst, rules, Flight, expiring, IsAllSettled, AreReported, IsCovered}
 use Rattle.sctp_sender.proofs.Settled.{expired-settled}
 use Rattle.sctp_sender.proofs.Lows.{expiry-answered}
-use Rattle.sctp_sender.specs.Keeping.{AreReported, IsCovered}
 use Rattle.sctp_sender.proofs.Covers.{expired-covered}
 use Rattle.sctp_sender.proofs.Listed.{expired-reported}
 use Rattle.sctp_sender.proofs.sender.Sender.expire.Goals as goal

@@ -1,10 +1,7 @@
-use Rattle.std.proofs.Common.{sym, subst, ◌∙◌, rules}
-use Rattle.sctp_sender.specs.Flight.{Flight}
+use Rattle.sctp_sender.proofs.Names.{sym, subst, ◌∙◌, rules, Flight, IsAllSettled, IsCovered}
 use Rattle.sctp_sender.specs.Late.{worn_order}
-use Rattle.sctp_sender.specs.Totals.{IsAllSettled}
 use Rattle.sctp_sender.proofs.Settled.{each-settled}
 use Rattle.sctp_sender.proofs.Lows.{messages-released-same, messages-tell, one-message-tells}
-use Rattle.sctp_sender.specs.Keeping.{IsCovered}
 use Rattle.sctp_sender.proofs.Covers.{each-covered}
 use Rattle.sctp_sender.proofs.Listed.{reported-on}
 use Rattle.sctp_sender.proofs.Resends.{lows-none}

@@ -1,10 +1,6 @@
-use Rattle.std.proofs.Common.{sym, subst, rules}
-use Rattle.sctp_outbound.specs.outbound_queue.OutboundQueue.{expiring_tail, message_of}
-use Rattle.sctp_sender.specs.Flight.{Flight}
-use Rattle.sctp_sender.specs.Totals.{IsAllSettled}
+use Rattle.sctp_sender.proofs.Names.{sym, subst, rules, expiring_tail, message_of, Flight, IsAllSettled, IsCovered}
 use Rattle.sctp_sender.proofs.Settled.{abandoned-settled}
 use Rattle.sctp_sender.proofs.Lows.{release-answered}
-use Rattle.sctp_sender.specs.Keeping.{IsCovered}
 use Rattle.sctp_sender.proofs.Covers.{after-abandonment-covered}
 use Rattle.sctp_sender.proofs.Listed.{reported-on}
 use Rattle.sctp_sender.proofs.sender.Sender.expire_tail.Goals as goal

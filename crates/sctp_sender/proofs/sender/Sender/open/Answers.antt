@@ -1,8 +1,5 @@
-use Rattle.std.proofs.Common.{◌≡◌, ap, sym, ◌∙◌, false, subst, Result, Bool}
-use Rattle.std.specs.Prelude.{if◌then◌else◌, IfErr, find, is_some}
-use Rattle.sctp_sender.specs.declared.sender.refusal.SenderRefusal.{SenderRefusal}
-use Rattle.sctp_sender.specs.declared.sender.refusal.SenderRefusal.TheVariants.{StreamOpen, OutOfMemory}
-use Rattle.sctp_sender.specs.Outgoing.{has_number}
+use Rattle.sctp_sender.proofs.Names.{◌≡◌, ap, sym, ◌∙◌, false, subst, Result, Bool, if◌then◌else◌, IfErr, find, is_some, SenderRefusal, OutOfMemory, has_number}
+use Rattle.sctp_sender.specs.declared.sender.refusal.SenderRefusal.TheVariants.{StreamOpen}
 use Rattle.sctp_sender.proofs.SenderStreams.{open-is}
 use Rattle.sctp_sender.proofs.sender.Sender.open.Goals as goal
 

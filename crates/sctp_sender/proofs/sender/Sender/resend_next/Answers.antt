@@ -1,9 +1,5 @@
-use Rattle.std.proofs.Common.{◌≡◌, ℕ, Some, sym, ap, ◌∙◌}
-use Rattle.std.specs.Prelude.{find, option_map}
-use Rattle.sctp_data.specs.declared.chunk.chunk_payload_data.ChunkPayloadData.{ChunkPayloadData}
-use Rattle.sctp_serial.specs.DataChunks.{has_tsn}
-use Rattle.sctp_sender.specs.Resending.{next_within, resent_at}
-use Rattle.sctp_sender.specs.Sender.{Transmission, with_flight}
+use Rattle.sctp_sender.proofs.Names.{◌≡◌, ℕ, Some, sym, ap, ◌∙◌, find, option_map, ChunkPayloadData, has_tsn, resent_at, Transmission, with_flight}
+use Rattle.sctp_sender.specs.Resending.{next_within}
 use Rattle.sctp_sender.proofs.Resends.{any-marked, next-answer, next-tsn, same-tsn}
 use Rattle.sctp_sender.proofs.sender.Sender.resend_next.Goals.{In-Some}
 use Rattle.sctp_sender.proofs.sender.Sender.resend_next.Goals as goal

@@ -1,7 +1,4 @@
-use Rattle.std.proofs.Common.{◌≡◌, ap, true, false, sym, ◌∙◌}
-use Rattle.std.specs.Prelude.{is_some}
-use Rattle.sctp_sender.specs.Sender.{Transmission, is_open}
-use Rattle.sctp_sender.specs.Settings.{is_drained}
+use Rattle.sctp_sender.proofs.Names.{◌≡◌, ap, true, false, sym, ◌∙◌, is_some, Transmission, is_open, is_drained}
 use Rattle.sctp_sender.proofs.SenderStreams.{reset-busy, reset-fine, reset-unknown}
 use Rattle.sctp_sender.proofs.Seen.{sender_in}
 use Rattle.sctp_sender.proofs.sender.Sender.reset.Goals as goal

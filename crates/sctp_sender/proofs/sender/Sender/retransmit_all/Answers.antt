@@ -1,8 +1,5 @@
-use Rattle.std.proofs.Common.{sym, subst}
-use Rattle.sctp_sender.specs.Flight.{Flight}
-use Rattle.sctp_sender.specs.Totals.{IsAllSettled}
+use Rattle.sctp_sender.proofs.Names.{sym, subst, Flight, IsAllSettled, AreReported, IsCovered}
 use Rattle.sctp_sender.proofs.Settled.{all-marked-settled}
-use Rattle.sctp_sender.specs.Keeping.{AreReported, IsCovered}
 use Rattle.sctp_sender.proofs.Covers.{all-marked-covered}
 use Rattle.sctp_sender.proofs.Listed.{all-marked-reported}
 use Rattle.sctp_sender.proofs.sender.Sender.retransmit_all.Goals as goal

@@ -1,11 +1,5 @@
-use Rattle.std.proofs.Common.{◌≡◌, ℕ, Some, ap, sym, ◌∙◌}
-use Rattle.std.specs.Prelude.{find, option_map}
-use Rattle.std.proofs.lemmas.Option.{none-some}
-use Rattle.sctp_data.specs.declared.chunk.chunk_payload_data.ChunkPayloadData.{ChunkPayloadData}
-use Rattle.sctp_outbound.specs.outbound_queue.OutboundQueue.{Outbound, all_started, as_sent}
-use Rattle.sctp_outbound.specs.pending_queue.PendingQueue.{next_pending}
-use Rattle.sctp_serial.specs.DataChunks.{has_tsn}
-use Rattle.sctp_sender.specs.Sender.{Transmission}
+use Rattle.sctp_sender.proofs.Names.{◌≡◌, ℕ, Some, ap, sym, ◌∙◌, find, option_map, none-some, ChunkPayloadData, Outbound, all_started, as_sent, next_pending}
+use Rattle.sctp_sender.proofs.Names.{has_tsn, Transmission}
 use Rattle.sctp_sender.proofs.Sent.{as-noted, none-noted, some-noted}
 use Rattle.sctp_sender.proofs.sender.Sender.send_next.Goals.{After-get}
 use Rattle.sctp_sender.proofs.sender.Sender.send_next.Goals as goal

@@ -1,20 +1,13 @@
-use Rattle.std.proofs.Common.{◌≡◌, ap, subst, sym, ◌∙◌, ℕ, None, rules}
-use Rattle.std.specs.Prelude.{if◌then◌else◌, is_some}
-use Rattle.sctp_outbound.specs.outbound_queue.OutboundQueue.{Outbound, sent_next, total_bytes}
-use Rattle.sctp_outbound.specs.pending_queue.PendingQueue.{next_pending}
-use Rattle.sctp_outbound.specs.pending_queue.Whole.{IsSendable}
+use Rattle.sctp_sender.proofs.Names.{◌≡◌, ap, subst, sym, ◌∙◌, ℕ, None, rules, if◌then◌else◌, is_some, Outbound, sent_next, total_bytes, next_pending}
+use Rattle.sctp_sender.proofs.Names.{IsSendable, Flight, with_queue, Transmission, with_flight, IsAllSettled, AreReported, IsCovered, following_tsn}
 use Rattle.sctp_outbound.proofs.lemmas.outbound_queue.Outbounds.{sent_none}
-use Rattle.sctp_sender.specs.Flight.{Flight, next_after_send, with_queue}
-use Rattle.sctp_sender.specs.Sender.{Transmission, with_flight}
+use Rattle.sctp_sender.specs.Flight.{next_after_send}
 use Rattle.sctp_sender.proofs.Amounts.{sent-bytes, started-bytes}
-use Rattle.sctp_sender.specs.Totals.{IsAllSettled}
 use Rattle.sctp_sender.proofs.Settled.{started-settled, sent-settled}
-use Rattle.sctp_sender.specs.Keeping.{AreReported, IsCovered}
 use Rattle.sctp_sender.proofs.Covers.{sent-covered, started-covered}
 use Rattle.sctp_sender.proofs.Listed.{reported-on, started-reported}
 use Rattle.sctp_sender.proofs.Seen.{sender_in}
 use Rattle.sctp_sender.proofs.sender.Sender.send_next_tsn_unbounded.Goals as goal
-use Rattle.sctp_serial.specs.DataChunks.{following_tsn}
 
 pub returns-in_default : goal.returns-in_default
 returns-in_default c =

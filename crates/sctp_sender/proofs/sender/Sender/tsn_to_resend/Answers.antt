@@ -1,7 +1,4 @@
-use Rattle.std.proofs.Common.{sym, subst}
-use Rattle.sctp_sender.specs.Flight.{Flight}
-use Rattle.sctp_sender.specs.Keeping.{AreReported, IsCovered}
-use Rattle.sctp_sender.specs.Totals.{IsAllSettled}
+use Rattle.sctp_sender.proofs.Names.{sym, subst, Flight, AreReported, IsCovered, IsAllSettled}
 use Rattle.sctp_sender.proofs.sender.Sender.tsn_to_resend.Goals as goal
 
 pub invariant_of-self : goal.invariant_of-self

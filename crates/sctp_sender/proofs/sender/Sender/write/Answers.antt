@@ -1,18 +1,11 @@
-use Rattle.std.proofs.Common.{◌≡◌, ◌+◌, ◌<◌, ap, sym, ◌∙◌, true, false, subst, inr, None, rules, arith, length}
-use Rattle.std.specs.Prelude.{Some, if◌then◌else◌, is_some}
-use Rattle.std.specs.List.{list_any}
-use Rattle.std.proofs.Common.{List}
-use Rattle.sctp_data.specs.declared.chunk.chunk_payload_data.ChunkPayloadData.{ChunkPayloadData}
-use Rattle.sctp_outbound.specs.pending_queue.Whole.{IsMessageOrNone}
-use Rattle.sctp_outbound.specs.outbound_queue.OutboundQueue.{total_bytes}
-use Rattle.sctp_sender.specs.declared.sender.refusal.SenderRefusal.TheVariants.{QueueFull}
-use Rattle.sctp_sender.specs.Flight.{Flight}
+use Rattle.sctp_sender.proofs.Names.{◌≡◌, ◌+◌, ◌<◌, ap, sym, ◌∙◌, true, false, subst, inr, None, rules, arith, length, if◌then◌else◌, is_some, list_any, List}
+use Rattle.sctp_sender.proofs.Names.{ChunkPayloadData, IsMessageOrNone, total_bytes, QueueFull, Flight, Transmission, is_open, write_refusal, AreSettled}
+use Rattle.sctp_sender.proofs.Names.{IsAllSettled, AreReported, IsCovered}
+use Rattle.std.specs.Prelude.{Some}
 use Rattle.sctp_sender.proofs.Amounts.{message-bytes}
-use Rattle.sctp_sender.specs.Sender.{Transmission, is_open, is_full_of, write_refusal}
+use Rattle.sctp_sender.specs.Sender.{is_full_of}
 use Rattle.sctp_sender.proofs.SenderStreams.{unknown, too-large, by-room, one-message, refused-not}
-use Rattle.sctp_sender.specs.Totals.{AreSettled, IsAllSettled}
 use Rattle.sctp_sender.proofs.Settled.{fragments-settled, message-settled}
-use Rattle.sctp_sender.specs.Keeping.{AreReported, IsCovered}
 use Rattle.sctp_sender.proofs.Seen.{sender_in}
 use Rattle.sctp_sender.proofs.Covers.{fragments-unacked, message-covered}
 use Rattle.sctp_sender.proofs.Listed.{message-reported}

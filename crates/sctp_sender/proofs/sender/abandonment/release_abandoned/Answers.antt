@@ -1,9 +1,5 @@
-use Rattle.std.proofs.Common.{◌≡◌, ◌<◌, ◌++◌, ◌+◌, false, List, length, set, take, drop, get_or, ap, sym, ◌∙◌, arith}
-use Rattle.std.proofs.lemmas.List.{get_or_default}
-use Rattle.sctp_stream.specs.declared.stream.StreamState.{StreamState}
-use Rattle.sctp_sender.specs.declared.sender.flight.late.AbandonedMessage.{AbandonedMessage}
-use Rattle.sctp_sender.specs.Late.{after_leaving}
-use Rattle.sctp_sender.specs.Thresholds.{with_message_lows}
+use Rattle.sctp_sender.proofs.Names.{◌≡◌, ◌<◌, ◌++◌, ◌+◌, false, List, length, set, take, drop, get_or, ap, sym, ◌∙◌, arith, get_or_default, OutboundStream}
+use Rattle.sctp_sender.proofs.Names.{AbandonedMessage, after_leaving, with_message_lows}
 use Rattle.sctp_sender.proofs.Lows.{next-message-less, next-message-low}
 use Rattle.sctp_sender.proofs.sender.abandonment.release_abandoned.Goals as goal
 
@@ -21,8 +17,8 @@ loop-one-preserved c =
     let x : AbandonedMessage = record g { is_low = c.release-one.result } in
     record {
       less = c.loop-one.invariant.less ∙ next-message-less i c.loop-one.streams gs g c.release-one.result lt is
-          ∙ ap (λ (ls : List StreamState). after_leaving (drop (i + 1) (set gs i x)) ls) (sym c.release-one.ensures.less);
+          ∙ ap (λ (ls : List OutboundStream). after_leaving (drop (i + 1) (set gs i x)) ls) (sym c.release-one.ensures.less);
       lows =
           c.loop-one.invariant.lows ∙ next-message-low i c.loop-one.streams gs g c.release-one.result lt is c.release-one.ensures.low
-          ∙ ap (λ (ls : List StreamState). take (i + 1) (set gs i x) ++ with_message_lows (drop (i + 1) (set gs i x)) ls) (sym c.release-one.ensures.less);
+          ∙ ap (λ (ls : List OutboundStream). take (i + 1) (set gs i x) ++ with_message_lows (drop (i + 1) (set gs i x)) ls) (sym c.release-one.ensures.less);
     }

@@ -1,6 +1,4 @@
-use Rattle.std.proofs.Common.{◌≡◌, ◌++◌, take, drop}
-use Rattle.sctp_sender.specs.Late.{after_leaving}
-use Rattle.sctp_sender.specs.Thresholds.{with_message_lows}
+use Rattle.sctp_sender.proofs.Names.{◌≡◌, ◌++◌, take, drop, after_leaving, with_message_lows}
 use Rattle.sctp_sender.proofs.sender.abandonment.release_abandoned.Given as goal
 
 abbrev pub invariant-loop-one : goal.invariant-loop-one

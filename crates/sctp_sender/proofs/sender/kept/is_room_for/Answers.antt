@@ -1,7 +1,4 @@
-use Rattle.std.proofs.Common.{ap, arith}
-use Rattle.std.proofs.lemmas.Bool.Decides.{nat_tests}
-use Rattle.std.proofs.lemmas.List.{take_all}
-use Rattle.sctp_sender.specs.Keeping.{bytes_back}
+use Rattle.sctp_sender.proofs.Names.{ap, arith, nat_tests, take_all, bytes_back}
 use Rattle.sctp_sender.proofs.sender.kept.is_room_for.Goals as goal
 
 pub returns-clause-value : goal.returns-clause-value

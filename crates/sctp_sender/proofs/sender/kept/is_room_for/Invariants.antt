@@ -1,6 +1,4 @@
-use Rattle.std.proofs.Common.{◌≡◌, ◌+◌, ◌^◌, ◌<◌, ◌≤◌, length, take}
-use Rattle.sctp_outbound.specs.outbound_queue.OutboundQueue.{total_bytes}
-use Rattle.sctp_sender.specs.Keeping.{bytes_back}
+use Rattle.sctp_sender.proofs.Names.{◌≡◌, ◌+◌, ◌^◌, ◌<◌, ◌≤◌, length, take, total_bytes, bytes_back}
 use Rattle.sctp_sender.proofs.sender.kept.is_room_for.Given as goal
 
 abbrev pub invariant-loop-one : goal.invariant-loop-one

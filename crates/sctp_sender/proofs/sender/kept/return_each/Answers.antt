@@ -1,8 +1,5 @@
-use Rattle.std.proofs.Common.{◌+◌, List, drop, ap, sym, ◌∙◌, arith}
-use Rattle.std.proofs.lemmas.List.{at_drop_more, drop_all}
-use Rattle.sctp_stream.specs.declared.stream.StreamState.{StreamState}
-use Rattle.sctp_sender.specs.declared.sender.flight.kept.TakenBack.{TakenBack}
-use Rattle.sctp_sender.specs.Keeping.{after_returns}
+use Rattle.sctp_sender.proofs.Names.{◌+◌, List, drop, ap, sym, ◌∙◌, arith, drop_all, OutboundStream, TakenBack, after_returns}
+use Rattle.std.proofs.lemmas.List.{at_drop_more}
 use Rattle.sctp_sender.proofs.sender.kept.return_each.Goals as goal
 
 -- any chunk, where a look-up asks for one to fall back on
@@ -16,7 +13,7 @@ loop-one-preserved c =
     let inv = c.loop-one.invariant in
     record {
       value = inv.value ∙ at_drop_more (λ ts. after_returns ts c.loop-one.streams) rs i any_one c.loop-one-test.true
-          ∙ ap (λ (ls : List StreamState). after_returns (drop (i + 1) rs) ls) (sym c.raise.ensures);
+          ∙ ap (λ (ls : List OutboundStream). after_returns (drop (i + 1) rs) ls) (sym c.raise.ensures);
       top = omega (arith, c.loop-one-test.true);
       turns = omega (arith, c.tick.ensures, inv.turns);
     }

@@ -1,5 +1,4 @@
-use Rattle.std.proofs.Common.{◌≡◌, ◌+◌, ◌≤◌, length, drop}
-use Rattle.sctp_sender.specs.Keeping.{after_returns}
+use Rattle.sctp_sender.proofs.Names.{◌≡◌, ◌+◌, ◌≤◌, length, drop, after_returns}
 use Rattle.sctp_sender.proofs.sender.kept.return_each.Given as goal
 
 abbrev pub invariant-loop-one : goal.invariant-loop-one

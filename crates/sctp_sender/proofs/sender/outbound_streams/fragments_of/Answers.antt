@@ -1,6 +1,4 @@
-use Rattle.std.proofs.Common.{ap, ◌∙◌, map, length}
-use Rattle.sctp_sender.specs.Outgoing.{with_reliability}
-use Rattle.sctp_serial.specs.DataChunks.{bytes_of}
+use Rattle.sctp_sender.proofs.Names.{ap, ◌∙◌, map, length, with_reliability, bytes_of}
 use Rattle.sctp_sender.proofs.SenderStreams.{bytes-are}
 use Rattle.sctp_sender.proofs.sender.outbound_streams.fragments_of.Goals as goal
 

@@ -1,6 +1,4 @@
-use Rattle.std.proofs.Common.{◌<◌, ◌∙◌, length, length-set, rules}
-use Rattle.std.proofs.lemmas.List.Edits.{map_over_more}
-use Rattle.sctp_sender.specs.Outgoing.{with_reliability}
+use Rattle.sctp_sender.proofs.Names.{◌<◌, ◌∙◌, length, length-set, rules, map_over_more, with_reliability}
 use Rattle.sctp_sender.proofs.sender.outbound_streams.set_reliability.Goals as goal
 
 pub loop-place-preserved : goal.loop-place-preserved

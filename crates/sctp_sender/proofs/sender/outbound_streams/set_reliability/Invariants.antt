@@ -1,5 +1,4 @@
-use Rattle.std.proofs.Common.{◌≡◌, ◌++◌, take, drop, map, length}
-use Rattle.sctp_sender.specs.Outgoing.{with_reliability}
+use Rattle.sctp_sender.proofs.Names.{◌≡◌, ◌++◌, take, drop, map, length, with_reliability}
 use Rattle.sctp_sender.proofs.sender.outbound_streams.set_reliability.Given as goal
 
 abbrev pub invariant-loop-place : goal.invariant-loop-place

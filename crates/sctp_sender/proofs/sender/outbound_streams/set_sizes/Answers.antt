@@ -1,6 +1,4 @@
-use Rattle.std.proofs.Common.{◌<◌, ◌∙◌, ap, length, length-set, rules, set}
-use Rattle.std.proofs.lemmas.List.Edits.{map_over_more}
-use Rattle.sctp_sender.specs.Outgoing.{with_size}
+use Rattle.sctp_sender.proofs.Names.{◌<◌, ◌∙◌, ap, length, length-set, rules, set, map_over_more, with_size}
 use Rattle.sctp_sender.proofs.sender.outbound_streams.set_sizes.Goals as goal
 
 pub loop-place-preserved : goal.loop-place-preserved

@@ -1,5 +1,4 @@
-use Rattle.std.proofs.Common.{◌≡◌, ◌++◌, take, drop, map, length}
-use Rattle.sctp_sender.specs.Outgoing.{with_size}
+use Rattle.sctp_sender.proofs.Names.{◌≡◌, ◌++◌, take, drop, map, length, with_size}
 use Rattle.sctp_sender.proofs.sender.outbound_streams.set_sizes.Given as goal
 
 abbrev pub invariant-loop-place : goal.invariant-loop-place

@@ -1,11 +1,7 @@
-use Rattle.std.proofs.Common.{◌≡◌, ◌-◌, Bool, true, false, refl, sym, ap, ◌∙◌, subst}
-use Rattle.sctp_reassembly.specs.reassembly_queue.Orders.{IsOrderly}
-use Rattle.sctp_receiver.specs.Costs.{IsWithinPush}
+use Rattle.sctp_receiver.proofs.Names.{◌≡◌, ◌-◌, Bool, true, false, refl, sym, ap, ◌∙◌, subst, IsOrderly, IsWithinPush, ◌==◌, ChunkPayloadData, ReassemblyState}
+use Rattle.sctp_receiver.proofs.Names.{after_ordered_push, Pushes, PushesAs}
 use Rattle.sctp_receiver.proofs.PushCosts.{push-within}
-use Rattle.std.specs.Prelude.{◌==◌}
-use Rattle.sctp_data.specs.declared.chunk.chunk_payload_data.ChunkPayloadData.{ChunkPayloadData}
-use Rattle.sctp_reassembly.specs.reassembly_queue.ReassemblyQueue.{ReassemblyState, PushesUnordered, after_ordered_push, is_complete_with}
-use Rattle.sctp_receiver.specs.Inbound.{Pushes, PushesAs}
+use Rattle.sctp_reassembly.specs.reassembly_queue.ReassemblyQueue.{PushesUnordered, is_complete_with}
 use Rattle.sctp_receiver.proofs.receiver.inbound_streams.InboundStream.push_undoable_counted.Goals as goal
 
 either : (c : ChunkPayloadData) (complete : Bool) (old new : ReassemblyState) → (c.unordered ≡ false → (new ≡ after_ordered_push c old)

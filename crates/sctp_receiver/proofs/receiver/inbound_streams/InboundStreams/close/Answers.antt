@@ -1,13 +1,9 @@
-use Rattle.std.proofs.Common.{rules, length, ◌≡◌, ap, ◌∙◌, sym, subst, arith}
-use Rattle.std.specs.Prelude.{slice_index_or}
-use Rattle.std.specs.List.{sum_by}
-use Rattle.sctp_receiver.specs.Limits.{cost_within}
-use Rattle.sctp_receiver.specs.Visited.{IsListing}
+use Rattle.sctp_receiver.proofs.Names.{rules, length, ◌≡◌, ap, ◌∙◌, sym, subst, arith, slice_index_or, sum_by, cost_within, IsListing, number, numbers_of}
+use Rattle.sctp_receiver.proofs.Names.{inside}
 use Rattle.sctp_receiver.proofs.CostSums.{removed-sum}
 use Rattle.sctp_receiver.proofs.SkipCosts.{fewer-length}
 use Rattle.sctp_stream.specs.Numbers.{is_other}
-use Rattle.sctp_receiver.specs.Inbound.{number, numbers_of}
-use Rattle.sctp_stream.proofs.StreamPlaces.{absent-those, inside, without, numbers-without}
+use Rattle.sctp_stream.proofs.StreamPlaces.{absent-those, without, numbers-without}
 use Rattle.sctp_receiver.proofs.receiver.inbound_streams.InboundStreams.close.Goals as goal
 
 pub returns-in_default : goal.returns-in_default

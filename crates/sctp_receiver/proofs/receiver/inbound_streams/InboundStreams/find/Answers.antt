@@ -1,6 +1,4 @@
-use Rattle.std.proofs.Common.{rules, sym}
-use Rattle.sctp_receiver.specs.Inbound.{number}
-use Rattle.sctp_stream.proofs.StreamPlaces.{absent-find, inside, found}
+use Rattle.sctp_receiver.proofs.Names.{rules, sym, number, absent-find, inside, found}
 use Rattle.sctp_receiver.proofs.receiver.inbound_streams.InboundStreams.find.Goals as goal
 
 pub returns-in_default : goal.returns-in_default

@@ -1,12 +1,5 @@
-use Rattle.std.proofs.Common.{◌≡◌, List, ap, sym, subst, ◌∙◌, refl, arith}
-use Rattle.std.specs.List.{sum_by}
-use Rattle.sctp_receiver.specs.declared.receiver.inbound_streams.InboundStream.{InboundStream}
-use Rattle.sctp_receiver.specs.declared.receiver.visit.Skip.{Skip}
-use Rattle.sctp_receiver.specs.declared.receiver.visit.Skip.TheVariants.{Unassembled, Incomplete}
-use Rattle.std.proofs.Common.{ℕ}
-use Rattle.sctp_receiver.specs.Inbound.{number, numbers_of}
-use Rattle.sctp_receiver.specs.SkipCosts.{visit_walk, settle_walk}
-use Rattle.sctp_receiver.specs.Visited.{IsListing, skip_forwarded, to_visit}
+use Rattle.sctp_receiver.proofs.Names.{◌≡◌, List, ap, sym, subst, ◌∙◌, refl, arith, sum_by, InboundStream, Skip, Unassembled, Incomplete, ℕ, number, numbers_of}
+use Rattle.sctp_receiver.proofs.Names.{visit_walk, settle_walk, IsListing, skip_forwarded, to_visit}
 use Rattle.sctp_receiver.proofs.SkipCosts.{settle-less}
 use Rattle.sctp_receiver.proofs.StreamCosts.{mapped-cost}
 use Rattle.sctp_receiver.proofs.Inbounds.{stays-mapped}

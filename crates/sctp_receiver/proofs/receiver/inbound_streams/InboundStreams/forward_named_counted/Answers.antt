@@ -1,6 +1,4 @@
-use Rattle.std.proofs.Common.{ap, sym, ◌∙◌, arith}
-use Rattle.sctp_receiver.specs.Inbound.{named_forwarded}
-use Rattle.sctp_receiver.specs.Noted.{each_made}
+use Rattle.sctp_receiver.proofs.Names.{ap, sym, ◌∙◌, arith, named_forwarded, each_made}
 use Rattle.sctp_receiver.proofs.receiver.inbound_streams.InboundStreams.forward_named_counted.Goals as goal
 
 pub invariant_of-self : goal.invariant_of-self

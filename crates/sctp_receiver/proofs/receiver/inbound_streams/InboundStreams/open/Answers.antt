@@ -1,9 +1,7 @@
-use Rattle.std.proofs.Common.{rules, arith, ◌≡◌, ◌+◌, ◌++◌, ◌∷◌, [], length, length-append, ap, ap₂, sym, subst, ◌∙◌, refl}
-use Rattle.std.specs.List.{sum_by}
+use Rattle.sctp_receiver.proofs.Names.{rules, arith, ◌≡◌, ◌+◌, ◌++◌, ◌∷◌, [], length, ap, ap₂, sym, subst, ◌∙◌, refl, sum_by, number, numbers_of, new_stream}
+use Rattle.sctp_receiver.proofs.Names.{cost_within, VisitOrder, IsListing, is_visited}
+use Rattle.std.proofs.Common.{length-append}
 use Rattle.std.proofs.lemmas.List.{map-append}
-use Rattle.sctp_receiver.specs.Inbound.{number, numbers_of, new_stream}
-use Rattle.sctp_receiver.specs.Limits.{cost_within}
-use Rattle.sctp_receiver.specs.Visited.{VisitOrder, IsListing, is_visited}
 use Rattle.sctp_receiver.proofs.CostSums.{opened-sum}
 use Rattle.sctp_util.proofs.Getting.{length-mapped}
 use Rattle.sctp_receiver.proofs.Listing.{one-opened}

@@ -1,10 +1,5 @@
-use Rattle.std.proofs.Common.{rules, ◌<◌, ◌-◌, ◌^◌, ◌∙◌, refl, sym, subst, length, length-set, arith}
-use Rattle.std.proofs.lemmas.Bool.{eq-eqb}
-use Rattle.sctp_util.proofs.Cases.{some-same}
-use Rattle.sctp_receiver.specs.Costs.{IsWithinPushOn}
-use Rattle.sctp_stream.specs.Numbers.{IsOnlyPlace}
-use Rattle.sctp_receiver.specs.Inbound.{number, numbers_of}
-use Rattle.sctp_stream.proofs.StreamPlaces.{inside, numbers-stay}
+use Rattle.sctp_receiver.proofs.Names.{rules, ◌<◌, ◌-◌, ◌^◌, ◌∙◌, refl, sym, subst, length, length-set, arith, eq-eqb, some-same, IsWithinPushOn, IsOnlyPlace}
+use Rattle.sctp_receiver.proofs.Names.{number, numbers_of, inside, numbers-stay}
 use Rattle.sctp_receiver.proofs.Listing.{renewed-more}
 use Rattle.sctp_receiver.proofs.SkipCosts.{at-map}
 use Rattle.sctp_receiver.proofs.VisitOrders.{read-at}

@@ -1,13 +1,9 @@
-use Rattle.std.proofs.Common.{rules, ◌<◌, ◌^◌, sym, ap, ◌∙◌, refl, length, length-set, arith}
-use Rattle.std.specs.Prelude.{is_some, option_map}
+use Rattle.sctp_receiver.proofs.Names.{rules, ◌<◌, ◌^◌, sym, ap, ◌∙◌, refl, length, length-set, arith, is_some, option_map, number, stream_read, message_of}
+use Rattle.sctp_receiver.proofs.Names.{holds_incomplete, absent-find, inside, found, changed, numbers-stay}
 use Rattle.sctp_reassembly.specs.reassembly_queue.ReassemblyQueue.{at_start}
-use Rattle.sctp_receiver.specs.Inbound.{number, stream_read}
-use Rattle.sctp_receiver.specs.Receiver.{message_of}
-use Rattle.sctp_receiver.specs.Visited.{holds_incomplete}
 use Rattle.sctp_receiver.proofs.Settled.{read-none}
 use Rattle.sctp_receiver.proofs.Listing.{renewed-less}
 use Rattle.sctp_receiver.proofs.CostSums.{is-part, changed-fits, changed-sum}
-use Rattle.sctp_stream.proofs.StreamPlaces.{absent-find, inside, found, changed, numbers-stay}
 use Rattle.sctp_receiver.proofs.receiver.inbound_streams.InboundStreams.read.Goals as goal
 
 pub returns-in_default-clause-refused : goal.returns-in_default-clause-refused

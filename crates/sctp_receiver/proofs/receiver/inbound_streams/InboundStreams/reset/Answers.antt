@@ -1,10 +1,7 @@
-use Rattle.std.proofs.Common.{rules, ◌<◌, ◌^◌, sym, ap, length, length-set, arith}
-use Rattle.std.specs.Prelude.{if◌then◌else◌, is_some}
-use Rattle.sctp_receiver.specs.declared.receiver.refusal.ReceiverRefusal.TheVariants.{StreamUnknown, OutOfMemory}
-use Rattle.sctp_receiver.specs.Inbound.{number}
+use Rattle.sctp_receiver.proofs.Names.{rules, ◌<◌, ◌^◌, sym, ap, length, length-set, arith, if◌then◌else◌, is_some, StreamUnknown, OutOfMemory, number}
+use Rattle.sctp_receiver.proofs.Names.{absent-find, found, inside, numbers-stay}
 use Rattle.sctp_receiver.proofs.Listing.{renewed-more}
 use Rattle.sctp_receiver.proofs.CostSums.{is-part, changed-fits, changed-sum}
-use Rattle.sctp_stream.proofs.StreamPlaces.{absent-find, found, inside, numbers-stay}
 use Rattle.sctp_receiver.proofs.Resetting.{number-kept, refused, resets, wanted}
 use Rattle.sctp_receiver.proofs.receiver.inbound_streams.InboundStreams.reset.Goals as goal
 

@@ -1,13 +1,8 @@
-use Rattle.std.proofs.Common.{rules, ◌<◌, ◌^◌, ap, sym, ◌∙◌, length, length-set, arith}
-use Rattle.std.specs.Prelude.{slice_set}
-use Rattle.std.proofs.lemmas.List.Sums.{sum_by-set}
+use Rattle.sctp_receiver.proofs.Names.{rules, ◌<◌, ◌^◌, ap, sym, ◌∙◌, length, length-set, arith, slice_set, sum_by-set, InboundStream, number, stream_undone}
+use Rattle.sctp_receiver.proofs.Names.{CanUndoAt, map-set_same}
 use Rattle.sctp_reassembly.proofs.lemmas.reassembly_queue.Undone.{changed-set}
-use Rattle.sctp_receiver.specs.declared.receiver.inbound_streams.InboundStream.{InboundStream}
-use Rattle.sctp_receiver.specs.Inbound.{number}
-use Rattle.sctp_receiver.specs.Undo.{stream_undone, CanUndoAt}
 use Rattle.sctp_receiver.proofs.Listing.{renewed-more}
 use Rattle.sctp_receiver.proofs.CostSums.{is-part, changed-fits, changed-sum}
-use Rattle.sctp_stream.proofs.StreamPlaces.{map-set_same}
 use Rattle.sctp_receiver.proofs.Undone.{undone-number, can-here, can-inside}
 use Rattle.sctp_receiver.proofs.receiver.inbound_streams.InboundStreams.undo_push_at_counted.Goals as goal
 

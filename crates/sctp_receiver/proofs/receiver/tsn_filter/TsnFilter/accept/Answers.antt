@@ -1,10 +1,4 @@
-use Rattle.std.proofs.Common.{◌-◌, length, ap, ◌∙◌, arith}
-use Rattle.sctp_util.specs.Lists.{insert_before}
-use Rattle.sctp_util.specs.Serial.{comes_before}
-use Rattle.sctp_util.proofs.Distances.{comes_before_from}
-use Rattle.sctp_serial.specs.DataChunks.{following_tsn}
-use Rattle.sctp_reassembly.proofs.lemmas.reassembly_queue.SerialPlaces.{after_one}
-use Rattle.sctp_receiver.specs.TsnRuns.{tsns_of}
+use Rattle.sctp_receiver.proofs.Names.{◌-◌, length, ap, ◌∙◌, arith, insert_before, comes_before, comes_before_from, following_tsn, after_one, tsns_of}
 use Rattle.sctp_receiver.proofs.FilterCalls.{lies-beyond, next-is, put-beyond}
 use Rattle.sctp_receiver.proofs.RunBlocks.{run-count}
 use Rattle.sctp_receiver.proofs.TsnRuns.{fewer-runs, runs-rise}

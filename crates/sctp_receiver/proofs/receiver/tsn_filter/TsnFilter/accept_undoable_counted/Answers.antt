@@ -1,5 +1,4 @@
-use Rattle.std.proofs.Common.{ap, ◌∙◌}
-use Rattle.sctp_receiver.specs.Undo.{undo_of, retracted}
+use Rattle.sctp_receiver.proofs.Names.{ap, ◌∙◌, undo_of, retracted}
 use Rattle.sctp_receiver.proofs.Retracts.{taken-back, can-retract}
 use Rattle.sctp_receiver.proofs.receiver.tsn_filter.TsnFilter.accept_undoable_counted.Goals as goal
 

@@ -1,5 +1,4 @@
-use Rattle.std.proofs.Common.{length, ap, sym, arith}
-use Rattle.sctp_receiver.specs.TsnFilter.{Filter}
+use Rattle.sctp_receiver.proofs.Names.{length, ap, sym, arith, Filter}
 use Rattle.sctp_receiver.proofs.FilterCalls.{come-expected}
 use Rattle.sctp_receiver.proofs.TsnRuns.{fewer-runs}
 use Rattle.sctp_receiver.proofs.receiver.tsn_filter.TsnFilter.has_come_counted.Goals as goal

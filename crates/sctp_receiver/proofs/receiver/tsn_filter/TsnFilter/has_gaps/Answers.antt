@@ -1,6 +1,4 @@
-use Rattle.std.proofs.Common.{◌≡◌, length, ap, ◌∙◌, rules}
-use Rattle.std.specs.Prelude.{◌==◌, not}
-use Rattle.std.specs.VecDeque.{deque_len}
+use Rattle.sctp_receiver.proofs.Names.{◌≡◌, length, ap, ◌∙◌, rules, ◌==◌, not, deque_len}
 use Rattle.sctp_receiver.proofs.FilterCalls.{same-empty}
 use Rattle.sctp_receiver.proofs.receiver.tsn_filter.TsnFilter.has_gaps.Goals as goal
 

@@ -1,5 +1,4 @@
-use Rattle.std.proofs.Common.{◌≡◌, ◌<◌, ◌-◌, length, sym, ap, ◌∙◌, get_or, arith, rules}
-use Rattle.std.specs.VecDeque.{deque_len}
+use Rattle.sctp_receiver.proofs.Names.{◌≡◌, ◌<◌, ◌-◌, length, sym, ap, ◌∙◌, get_or, arith, rules, deque_len}
 use Rattle.sctp_receiver.proofs.Retracts.{highest-is}
 use Rattle.sctp_receiver.proofs.TsnRuns.{read-run}
 use Rattle.sctp_receiver.proofs.receiver.tsn_filter.TsnFilter.highest_tsn.Goals as goal

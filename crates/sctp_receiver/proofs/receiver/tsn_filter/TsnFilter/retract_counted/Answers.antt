@@ -1,10 +1,5 @@
-use Rattle.std.proofs.Common.{◌≤◌, ◌-◌, ◌++◌, length, ap, sym, subst, arith}
-use Rattle.std.specs.Prelude.{◌==◌, not}
-use Rattle.std.specs.List.{filter}
-use Rattle.sctp_receiver.specs.declared.receiver.tsn_filter.undo.FilterUndo.TheVariants.{Beyond, Next}
-use Rattle.sctp_receiver.specs.TsnFilter.{Filter}
-use Rattle.sctp_receiver.specs.TsnRuns.{tsns_of, count_of_runs}
-use Rattle.sctp_receiver.specs.Undo.{CanRetract, passed}
+use Rattle.sctp_receiver.proofs.Names.{◌≤◌, ◌-◌, ◌++◌, length, ap, sym, subst, arith, ◌==◌, not, filter, Beyond, Next, Filter, tsns_of, count_of_runs}
+use Rattle.sctp_receiver.proofs.Names.{CanRetract, passed}
 use Rattle.sctp_receiver.proofs.RunBlocks.{run-count}
 use Rattle.sctp_receiver.proofs.TsnRuns.{fewer-runs}
 use Rattle.sctp_receiver.proofs.UndoCosts.{few-digits}

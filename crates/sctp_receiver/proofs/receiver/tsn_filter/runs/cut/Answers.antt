@@ -1,6 +1,4 @@
-use Rattle.std.proofs.Common.{◌≡◌, ◌+◌, ◌++◌, suc, take, drop, ap, sym, ◌∙◌, arith}
-use Rattle.sctp_serial.specs.DataChunks.{following_tsn}
-use Rattle.sctp_receiver.specs.declared.receiver.tsn_filter.runs.Run.{Run}
+use Rattle.sctp_receiver.proofs.Names.{◌≡◌, ◌+◌, ◌++◌, suc, take, drop, ap, sym, ◌∙◌, arith, following_tsn, Run}
 use Rattle.sctp_receiver.proofs.TsnRuns.{set-here, no-piece, one-piece}
 use Rattle.sctp_receiver.proofs.receiver.tsn_filter.runs.cut.Goals as goal
 use Rattle.sctp_receiver.proofs.receiver.tsn_filter.runs.cut.Goals.{then-run-tsn, else-run-tsn}

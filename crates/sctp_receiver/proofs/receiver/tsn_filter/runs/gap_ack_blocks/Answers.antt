@@ -1,6 +1,5 @@
-use Rattle.std.proofs.Common.{◌≡◌, ◌≤◌, map, length, ap, ◌∙◌, arith, rules, drop}
+use Rattle.sctp_receiver.proofs.Names.{◌≡◌, ◌≤◌, map, length, ap, ◌∙◌, arith, rules, drop, block_of}
 use Rattle.std.specs.Prelude.{take}
-use Rattle.sctp_receiver.specs.TsnFilter.{block_of}
 use Rattle.sctp_receiver.proofs.RunBlocks.{spans, first-blocks, blocks-end, blocks-all, blocks-are}
 use Rattle.sctp_receiver.proofs.TsnRuns.{read-run}
 use Rattle.sctp_receiver.proofs.receiver.tsn_filter.runs.gap_ack_blocks.Goals as goal

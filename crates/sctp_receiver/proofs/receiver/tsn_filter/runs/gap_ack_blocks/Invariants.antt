@@ -1,6 +1,5 @@
-use Rattle.std.proofs.Common.{◌≡◌, ◌+◌, ◌≤◌, ◌++◌, length, map, drop}
-use Rattle.std.specs.Prelude.{min, vec_capacity}
-use Rattle.sctp_receiver.specs.TsnFilter.{block_of}
+use Rattle.sctp_receiver.proofs.Names.{◌≡◌, ◌+◌, ◌≤◌, ◌++◌, length, map, drop, min, block_of}
+use Rattle.std.specs.Prelude.{vec_capacity}
 use Rattle.sctp_receiver.proofs.RunBlocks.{spans}
 use Rattle.sctp_receiver.proofs.receiver.tsn_filter.runs.gap_ack_blocks.Given as goal
 

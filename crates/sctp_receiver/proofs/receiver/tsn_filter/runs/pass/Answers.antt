@@ -1,8 +1,5 @@
-use Rattle.std.proofs.Common.{◌≡◌, ◌+◌, ◌<◌, ◌≤◌, Some, length, drop, refl, ap, sym, subst, ◌∙◌, arith, rules}
-use Rattle.std.specs.Prelude.{slice_get}
-use Rattle.sctp_util.specs.Serial.{distance}
-use Rattle.sctp_util.proofs.Distances.{before_is}
-use Rattle.sctp_receiver.specs.TsnRuns.{AreRuns, tsns_of, later}
+use Rattle.sctp_receiver.proofs.Names.{◌≡◌, ◌+◌, ◌<◌, ◌≤◌, Some, length, drop, refl, ap, sym, subst, ◌∙◌, arith, rules, slice_get, distance, before_is, AreRuns}
+use Rattle.sctp_receiver.proofs.Names.{tsns_of, later}
 use Rattle.sctp_receiver.proofs.RunMoves.{IsLater, later-is, over-first, rest-runs, left-runs, fewer-tsns, stands-off, seen-from, no-move, moved_to}
 use Rattle.sctp_receiver.proofs.TsnRuns.{read-run}
 use Rattle.sctp_receiver.proofs.receiver.tsn_filter.runs.pass.Goals as goal

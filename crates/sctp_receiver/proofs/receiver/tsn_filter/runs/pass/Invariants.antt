@@ -1,7 +1,4 @@
-use Rattle.std.proofs.Common.{◌≡◌, ◌+◌, ◌<◌, ◌≤◌, ◌^◌, length}
-use Rattle.std.specs.VecDeque.{deque_capacity}
-use Rattle.sctp_util.specs.Serial.{distance}
-use Rattle.sctp_receiver.specs.TsnRuns.{AreRuns, tsns_of}
+use Rattle.sctp_receiver.proofs.Names.{◌≡◌, ◌+◌, ◌<◌, ◌≤◌, ◌^◌, length, deque_capacity, distance, AreRuns, tsns_of}
 use Rattle.sctp_receiver.proofs.RunMoves.{moved_to}
 use Rattle.sctp_receiver.proofs.receiver.tsn_filter.runs.pass.Given as goal
 

@@ -1,5 +1,4 @@
-use Rattle.std.proofs.Common.{◌≡◌, sym, subst, ℕ, false}
-use Rattle.sctp_receiver.specs.TsnRuns.{reaches}
+use Rattle.sctp_receiver.proofs.Names.{◌≡◌, sym, subst, ℕ, false, reaches}
 use Rattle.sctp_receiver.proofs.TsnRuns.{not-reached, left-is, right-is, put-is, IsLeftEnd, IsRightEnd, IsPut}
 use Rattle.sctp_receiver.proofs.receiver.tsn_filter.runs.put.Goals as goal
 

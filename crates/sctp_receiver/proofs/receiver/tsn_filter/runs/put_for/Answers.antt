@@ -1,5 +1,4 @@
-use Rattle.std.proofs.Common.{◌≡◌, ◌+◌, ◌∷◌, ◌++◌, take, drop, ap, ◌∙◌, arith}
-use Rattle.std.specs.Prelude.{slice_set}
+use Rattle.sctp_receiver.proofs.Names.{◌≡◌, ◌+◌, ◌∷◌, ◌++◌, take, drop, ap, ◌∙◌, arith, slice_set}
 use Rattle.sctp_receiver.proofs.TsnRuns.{set-removed, set-here}
 use Rattle.sctp_receiver.proofs.receiver.tsn_filter.runs.put_for.Goals as goal
 use Rattle.sctp_receiver.proofs.receiver.tsn_filter.runs.put_for.Goals.{then-from-to-2, else-from-to-2}

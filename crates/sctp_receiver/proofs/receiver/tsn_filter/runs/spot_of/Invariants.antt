@@ -1,7 +1,4 @@
-use Rattle.std.proofs.Common.{◌≡◌, ◌-◌, ◌+◌, ◌*◌, ◌<◌, ◌^◌, ◌≤◌, length}
-use Rattle.std.specs.Prelude.{slice_get, IfSome}
-use Rattle.sctp_util.specs.Serial.{distance}
-use Rattle.sctp_receiver.specs.TsnRuns.{run_before}
+use Rattle.sctp_receiver.proofs.Names.{◌≡◌, ◌-◌, ◌+◌, ◌*◌, ◌<◌, ◌^◌, ◌≤◌, length, slice_get, IfSome, distance, run_before}
 use Rattle.sctp_receiver.proofs.receiver.tsn_filter.runs.spot_of.Given as goal
 
 abbrev pub invariant-loop-low : goal.invariant-loop-low

@@ -1,6 +1,5 @@
-use Rattle.std.proofs.Common.{◌≡◌, ◌+◌, ◌-◌, ◌++◌, suc, take, drop, ap, sym, subst, ◌∙◌, arith}
-use Rattle.std.proofs.lemmas.List.{length-append, length-take, length-drop}
-use Rattle.sctp_receiver.specs.TsnRuns.{AreRuns, count_of_runs, pieces, tsns_of}
+use Rattle.sctp_receiver.proofs.Names.{◌≡◌, ◌+◌, ◌-◌, ◌++◌, suc, take, drop, ap, sym, subst, ◌∙◌, arith, length-append, length-take, length-drop, AreRuns}
+use Rattle.sctp_receiver.proofs.Names.{count_of_runs, pieces, tsns_of}
 use Rattle.sctp_receiver.proofs.RunBlocks.{run-count}
 use Rattle.sctp_receiver.proofs.TsnRuns.{absent, cut-is, cut-runs, got-within, held-before, rest-is}
 use Rattle.sctp_receiver.proofs.receiver.tsn_filter.runs.take_tsn.Goals as goal

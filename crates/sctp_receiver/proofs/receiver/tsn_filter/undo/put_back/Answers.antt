@@ -1,6 +1,4 @@
-use Rattle.std.proofs.Common.{◌≡◌, length, sym, subst, ap, ◌∙◌, arith, rules}
-use Rattle.std.specs.VecDeque.{deque_capacity, deque_len}
-use Rattle.sctp_receiver.specs.TsnRuns.{AreRuns, tsns_of}
+use Rattle.sctp_receiver.proofs.Names.{◌≡◌, length, sym, subst, ap, ◌∙◌, arith, rules, deque_capacity, deque_len, AreRuns, tsns_of}
 use Rattle.sctp_receiver.proofs.Retracts.{none-back, back-tsns, back-runs, back-room}
 use Rattle.sctp_receiver.proofs.receiver.tsn_filter.undo.put_back.Goals as goal
 

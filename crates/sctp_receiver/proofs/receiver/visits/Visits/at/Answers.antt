@@ -1,5 +1,4 @@
-use Rattle.std.proofs.Common.{arith, ◌<◌}
-use Rattle.std.proofs.lemmas.Option.{slice_get_within}
+use Rattle.sctp_receiver.proofs.Names.{arith, ◌<◌, slice_get_within}
 use Rattle.sctp_receiver.proofs.VisitOrders.{read-at}
 use Rattle.sctp_receiver.proofs.receiver.visits.Visits.at.Goals as goal
 

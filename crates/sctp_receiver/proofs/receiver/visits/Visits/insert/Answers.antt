@@ -1,6 +1,4 @@
-use Rattle.std.proofs.Common.{arith, ◌≡◌, ◌+◌, ◌<◌, Some, ap, ◌∙◌, length}
-use Rattle.std.specs.Prelude.{slice_get}
-use Rattle.sctp_receiver.specs.Visited.{is_spot_before}
+use Rattle.sctp_receiver.proofs.Names.{arith, ◌≡◌, ◌+◌, ◌<◌, Some, ap, ◌∙◌, length, slice_get, is_spot_before}
 use Rattle.sctp_receiver.proofs.VisitOrders.{swapped-inverse, inserted}
 use Rattle.sctp_receiver.proofs.receiver.visits.Visits.insert.Goals as goal
 

@@ -1,6 +1,5 @@
-use Rattle.std.proofs.Common.{rules, arith, ◌≡◌, ◌++◌, ◌∷◌, [], List, ap, subst, sym, ◌∙◌, length, ℕ, length-append}
-use Rattle.std.specs.Prelude.{slice_get}
-use Rattle.sctp_receiver.specs.Visited.{AreInverse, is_spot_before}
+use Rattle.sctp_receiver.proofs.Names.{rules, arith, ◌≡◌, ◌++◌, ◌∷◌, [], List, ap, subst, sym, ◌∙◌, length, ℕ, slice_get, AreInverse, is_spot_before}
+use Rattle.std.proofs.Common.{length-append}
 use Rattle.sctp_receiver.proofs.VisitOrders.{one-more, more-visited}
 use Rattle.sctp_receiver.proofs.receiver.visits.Visits.push.Goals as goal
 

@@ -1,7 +1,4 @@
-use Rattle.std.proofs.Common.{arith, ◌≡◌, ◌+◌, ◌-◌, Some, ap, sym, ◌∙◌, false}
-use Rattle.std.specs.Prelude.{slice_get, ◌==◌, if◌then◌else◌}
-use Rattle.sctp_util.proofs.Cases.{some-same}
-use Rattle.sctp_receiver.specs.Visited.{is_spot_before}
+use Rattle.sctp_receiver.proofs.Names.{arith, ◌≡◌, ◌+◌, ◌-◌, Some, ap, sym, ◌∙◌, false, slice_get, ◌==◌, if◌then◌else◌, some-same, is_spot_before}
 use Rattle.sctp_receiver.proofs.VisitOrders.{removed}
 use Rattle.sctp_receiver.proofs.receiver.visits.Visits.remove.Goals as goal
 

@@ -1,10 +1,5 @@
-use Rattle.std.proofs.Common.{◌≡◌, true, Some, refl, sym, subst, arith}
-use Rattle.std.specs.Prelude.{find}
-use Rattle.sctp_data.specs.declared.chunk.chunk_payload_data.ChunkPayloadData.{ChunkPayloadData}
-use Rattle.sctp_outbound.specs.Marks.{IsBetween}
-use Rattle.sctp_serial.specs.DataChunks.{has_tsn, following_tsn}
-use Rattle.sctp_outbound.specs.outbound_queue.OutboundQueue.{has_tail, to_abandon}
-use Rattle.sctp_sender.specs.Flight.{Flight, may_send}
+use Rattle.sctp_sender.proofs.Names.{◌≡◌, true, Some, refl, sym, subst, arith, find, ChunkPayloadData, IsBetween, has_tsn, following_tsn, has_tail, to_abandon}
+use Rattle.sctp_sender.proofs.Names.{Flight, may_send}
 use Rattle.sctp_sender.proofs.InLine.{abandoned-in-line, found-partial}
 use Rattle.sctp_sender.proofs.Flights.{fresh, window, after-abandoning}
 use Rattle.sctp_sender.proofs.Known.{abandoned-known}

@@ -1,11 +1,7 @@
-use Rattle.std.proofs.Common.{◌≡◌, ◌+◌, ◌++◌, ◌∷◌, length, length-append, drop, get_or, ap, sym, subst, ◌∙◌, append_assoc, arith}
-use Rattle.sctp_sender.specs.Flight.{has_tail_at}
-use Rattle.std.specs.Prelude.{not, true, option_to_list}
-use Rattle.std.specs.List.{list_all, sum_by}
-use Rattle.std.proofs.lemmas.List.Sums.{sum_by-append}
-use Rattle.sctp_sender.specs.declared.sender.flight.late.AbandonedMessage.{AbandonedMessage}
-use Rattle.sctp_sender.specs.Resending.{are_listed}
-use Rattle.sctp_sender.specs.Late.{abandoned_at, abandoned_each, leaving_at, leaving_each}
+use Rattle.sctp_sender.proofs.Names.{◌≡◌, ◌+◌, ◌++◌, ◌∷◌, length, length-append, drop, get_or, ap, sym, subst, ◌∙◌, append_assoc, arith, has_tail_at, not}
+use Rattle.sctp_sender.proofs.Names.{option_to_list, list_all, sum_by, sum_by-append, AbandonedMessage, are_listed, abandoned_at, abandoned_each, leaving_each}
+use Rattle.std.specs.Prelude.{true}
+use Rattle.sctp_sender.specs.Late.{leaving_at}
 use Rattle.sctp_sender.proofs.Lates.{at-most-one, next-of, rest-with-no-tail}
 use Rattle.sctp_sender.proofs.sender.flight.InFlight.abandon_each.Goals as goal
 

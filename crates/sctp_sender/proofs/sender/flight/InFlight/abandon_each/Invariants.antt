@@ -1,13 +1,5 @@
-use Rattle.std.proofs.Common.{◌≡◌, ◌+◌, ◌≤◌, ◌++◌, List, true, drop, length}
-use Rattle.sctp_sender.specs.Flight.{has_tail_at}
-use Rattle.std.specs.Prelude.{not, vec_capacity}
-use Rattle.std.specs.List.{list_all, sum_by}
-use Rattle.sctp_outbound.specs.outbound_queue.OutboundQueue.{total_bytes}
-use Rattle.sctp_sender.specs.declared.sender.flight.late.AbandonedMessage.{AbandonedMessage}
-use Rattle.sctp_data.specs.declared.chunk.chunk_selective_ack.GapAckBlock.{GapAckBlock}
-use Rattle.sctp_sender.specs.Reporting.{AreKnown}
-use Rattle.sctp_sender.specs.Resending.{are_listed}
-use Rattle.sctp_sender.specs.Late.{abandoned_each, leaving_each}
+use Rattle.sctp_sender.proofs.Names.{◌≡◌, ◌+◌, ◌≤◌, ◌++◌, List, true, drop, length, has_tail_at, not, vec_capacity, list_all, sum_by, total_bytes}
+use Rattle.sctp_sender.proofs.Names.{AbandonedMessage, GapAckBlock, AreKnown, are_listed, abandoned_each, leaving_each}
 use Rattle.sctp_sender.proofs.sender.flight.InFlight.abandon_each.Given as goal
 
 abbrev pub invariant-loop-tsn : goal.invariant-loop-tsn

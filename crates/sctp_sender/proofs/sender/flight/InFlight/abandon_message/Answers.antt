@@ -1,7 +1,4 @@
-use Rattle.std.proofs.Common.{Some, None, ap, sym, subst, ◌∙◌}
-use Rattle.std.specs.Prelude.{if◌then◌else◌}
-use Rattle.sctp_outbound.specs.outbound_queue.OutboundQueue.{to_abandon}
-use Rattle.sctp_sender.specs.Flight.{Flight, IsContiguous, after_abandonment}
+use Rattle.sctp_sender.proofs.Names.{Some, None, ap, sym, subst, ◌∙◌, if◌then◌else◌, to_abandon, Flight, IsContiguous, after_abandonment}
 use Rattle.sctp_sender.proofs.Worn.{listed-same}
 use Rattle.sctp_sender.proofs.Seen.{flight_in}
 use Rattle.sctp_sender.proofs.sender.flight.InFlight.abandon_message.Goals as goal

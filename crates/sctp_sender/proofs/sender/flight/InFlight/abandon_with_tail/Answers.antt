@@ -1,6 +1,4 @@
-use Rattle.std.proofs.Common.{sym, subst}
-use Rattle.sctp_outbound.specs.pending_queue.Whole.{IsSendable}
-use Rattle.sctp_sender.specs.Flight.{Flight, has_tail_at}
+use Rattle.sctp_sender.proofs.Names.{sym, subst, IsSendable, Flight, has_tail_at}
 use Rattle.sctp_sender.proofs.Lates.{none-left, none-passes}
 use Rattle.sctp_sender.proofs.Worn.{listed-more}
 use Rattle.sctp_sender.proofs.sender.flight.InFlight.abandon_with_tail.Goals as goal

@@ -1,24 +1,8 @@
-use Rattle.std.proofs.Common.{◌≡◌, ◌+◌, ◌*◌, ◌≤◌, List, [], length, map, drop, refl, ap, sym, subst, ◌∙◌, arith}
-use Rattle.std.specs.Prelude.{if◌then◌else◌}
-use Rattle.std.specs.List.{count_by, filter}
-use Rattle.std.proofs.lemmas.List.{length-map}
-use Rattle.std.proofs.lemmas.List.Sums.{length-filter}
-use Rattle.sctp_util.specs.Lists.{change_where}
-use Rattle.sctp_util.specs.Serial.{distance}
-use Rattle.sctp_util.proofs.Cases.{negated}
-use Rattle.sctp_data.specs.SelectiveAck.{Sack, sack_of}
-use Rattle.sctp_data.specs.declared.chunk.chunk_payload_data.ChunkPayloadData.{ChunkPayloadData}
-use Rattle.sctp_data.specs.declared.chunk.chunk_selective_ack.GapAckBlock.{GapAckBlock}
-use Rattle.sctp_outbound.specs.Marks.{as_acknowledged}
-use Rattle.sctp_outbound.specs.outbound_queue.OutboundQueue.{Outbound, with_inflight}
-use Rattle.sctp_outbound.specs.pending_queue.Whole.{partially_sent}
-use Rattle.sctp_serial.specs.DataChunks.{following_tsn}
-use Rattle.sctp_sender.specs.declared.sender.flight.Released.{Released}
-use Rattle.sctp_sender.specs.Costs.{to_sort}
-use Rattle.sctp_sender.specs.Flight.{Flight, is_outdated, is_whole, sack_refusal, released_of, reports, reports_anew}
-use Rattle.sctp_sender.specs.Reporting.{AreKnown, AreSorted}
-use Rattle.sctp_sender.specs.SideBySide.{StandSideBySide, messages_of, number_of_half}
-use Rattle.sctp_sender.specs.Telling.{AreInFlight, PicksAnew, is_answered, judged, no_message}
+use Rattle.sctp_sender.proofs.Names.{◌≡◌, ◌+◌, ◌*◌, ◌≤◌, List, [], length, map, drop, refl, ap, sym, subst, ◌∙◌, arith, if◌then◌else◌, count_by, filter}
+use Rattle.sctp_sender.proofs.Names.{length-map, length-filter, change_where, distance, negated, Sack, sack_of, ChunkPayloadData, GapAckBlock, as_acknowledged}
+use Rattle.sctp_sender.proofs.Names.{Outbound, with_inflight, partially_sent, following_tsn, Released, to_sort, Flight, is_outdated, is_whole, sack_refusal}
+use Rattle.sctp_sender.proofs.Names.{released_of, reports, reports_anew, AreKnown, AreSorted, StandSideBySide, messages_of, number_of_half, AreInFlight}
+use Rattle.sctp_sender.proofs.Names.{PicksAnew, is_answered, judged, no_message, AreUnmarked}
 use Rattle.sctp_sender.proofs.Counts.{numbers-of-those, numbers_of, picked-beside}
 use Rattle.sctp_sender.proofs.InLine.{messages-changed, shorter}
 use Rattle.sctp_sender.proofs.Keepings.{taken-within}
@@ -29,7 +13,6 @@ use Rattle.sctp_sender.proofs.Sacks.{contiguous, count, run, taken-is}
 use Rattle.sctp_sender.proofs.Seen.{flight_in}
 use Rattle.sctp_sender.proofs.Settled.{after-bytes}
 use Rattle.sctp_sender.proofs.Answered.{of-changed, answered-are, answered-in-flight}
-use Rattle.sctp_sender.specs.Resending.{AreUnmarked}
 use Rattle.sctp_sender.proofs.Unmarked.{changed-on, left-over}
 use Rattle.sctp_sender.proofs.sender.flight.InFlight.acked_counted.Goals.{After-acknowledge_answered, After-deref-3, After-judge_each, After-pop_run}
 use Rattle.sctp_sender.proofs.sender.flight.InFlight.acked_counted.Goals.{After-tell_anew, In_ok-tell_anew}

@@ -1,15 +1,9 @@
-use Rattle.std.proofs.Common.{ap, refl, ◌∙◌, subst, sym}
-use Rattle.sctp_outbound.specs.outbound_queue.OutboundQueue.{Outbound}
-use Rattle.sctp_serial.specs.DataChunks.{tsns}
-use Rattle.sctp_sender.specs.Flight.{Flight}
-use Rattle.sctp_sender.specs.Resending.{can_miss, missed}
+use Rattle.sctp_sender.proofs.Names.{ap, refl, ◌∙◌, subst, sym, Outbound, tsns, Flight, can_miss, missed, AreKnown, AreUnmarked}
 use Rattle.sctp_sender.proofs.MarkedRuns.{part-run}
 use Rattle.sctp_sender.proofs.InLine.{part-marked-in-line}
 use Rattle.sctp_sender.proofs.Flights.{kept}
-use Rattle.sctp_sender.specs.Reporting.{AreKnown}
 use Rattle.sctp_sender.proofs.Known.{part-changed-known}
 use Rattle.sctp_sender.proofs.Seen.{flight_in}
-use Rattle.sctp_sender.specs.Resending.{AreUnmarked}
 use Rattle.sctp_sender.proofs.Unmarked.{counted-unmarked}
 use Rattle.sctp_sender.proofs.sender.flight.InFlight.add_miss_indications_counted.Goals as goal
 

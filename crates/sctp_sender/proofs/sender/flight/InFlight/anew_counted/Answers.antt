@@ -1,8 +1,4 @@
-use Rattle.std.proofs.Common.{length, ap, subst, ◌∙◌, arith}
-use Rattle.sctp_data.specs.SelectiveAck.{Sack, sack_of}
-use Rattle.sctp_sender.specs.Costs.{to_sort}
-use Rattle.sctp_sender.specs.Flight.{is_outdated, sack_refusal}
-use Rattle.sctp_sender.specs.Reporting.{AreSorted}
+use Rattle.sctp_sender.proofs.Names.{length, ap, subst, ◌∙◌, arith, Sack, sack_of, to_sort, is_outdated, sack_refusal, AreSorted}
 use Rattle.sctp_sender.proofs.Reported.{IsTaken}
 use Rattle.sctp_sender.proofs.SackCosts.{all-reported}
 use Rattle.sctp_sender.proofs.Seen.{flight_in}

@@ -1,10 +1,5 @@
-use Rattle.std.proofs.Common.{◌≡◌, ℕ, List, None, length, get_or, refl, ap, sym, subst, ◌∙◌, arith}
-use Rattle.sctp_data.specs.SelectiveAck.{sack_of}
-use Rattle.sctp_data.specs.declared.chunk.chunk_selective_ack.GapAckBlock.{GapAckBlock}
-use Rattle.sctp_sender.specs.Costs.{PicksLeftOut, is_left_out, to_sort}
-use Rattle.sctp_sender.specs.Flight.{is_outdated, sack_refusal}
-use Rattle.sctp_sender.specs.Keeping.{Cover, back_each, return_at}
-use Rattle.sctp_sender.specs.Reporting.{AreKnown, AreSorted, ascends_from}
+use Rattle.sctp_sender.proofs.Names.{◌≡◌, ℕ, List, None, length, get_or, refl, ap, sym, subst, ◌∙◌, arith, sack_of, GapAckBlock, PicksLeftOut, is_left_out}
+use Rattle.sctp_sender.proofs.Names.{to_sort, is_outdated, sack_refusal, Cover, back_each, return_at, AreKnown, AreSorted, ascends_from}
 use Rattle.sctp_sender.proofs.Covering.{back-is, covered-at}
 use Rattle.sctp_sender.proofs.Reported.{IsTaken}
 use Rattle.sctp_sender.proofs.SackCosts.{few-known, left-out}

@@ -1,12 +1,7 @@
-use Rattle.std.proofs.Common.{ap, refl, ◌∙◌, subst, sym}
-use Rattle.sctp_outbound.specs.Marks.{with_nsent}
-use Rattle.sctp_outbound.specs.outbound_queue.OutboundQueue.{Outbound}
-use Rattle.sctp_serial.specs.DataChunks.{has_tsn, tsns}
-use Rattle.sctp_sender.specs.Flight.{Flight}
+use Rattle.sctp_sender.proofs.Names.{ap, refl, ◌∙◌, subst, sym, with_nsent, Outbound, has_tsn, tsns, Flight, AreKnown}
 use Rattle.sctp_sender.proofs.Runs.{changed-run}
 use Rattle.sctp_sender.proofs.InLine.{marked-in-line}
 use Rattle.sctp_sender.proofs.Flights.{kept}
-use Rattle.sctp_sender.specs.Reporting.{AreKnown}
 use Rattle.sctp_sender.proofs.Known.{changed-known}
 use Rattle.sctp_sender.proofs.Seen.{flight_in}
 use Rattle.sctp_sender.proofs.Unmarked.{changed-on}

@@ -1,6 +1,4 @@
-use Rattle.std.proofs.Common.{refl}
-use Rattle.sctp_outbound.specs.outbound_queue.OutboundQueue.{expiring}
-use Rattle.sctp_sender.specs.Flight.{Flight}
+use Rattle.sctp_sender.proofs.Names.{refl, expiring, Flight}
 use Rattle.sctp_sender.proofs.Flights.{kept}
 use Rattle.sctp_sender.proofs.InLine.{expired-chunks, expired-in-line}
 use Rattle.sctp_sender.proofs.Known.{expired-known}

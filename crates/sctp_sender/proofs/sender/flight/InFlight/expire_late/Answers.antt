@@ -1,7 +1,5 @@
-use Rattle.std.proofs.Common.{◌≡◌, List, ℕ, ap, sym, subst, ◌∙◌}
-use Rattle.sctp_outbound.specs.outbound_queue.OutboundQueue.{is_late, late_tsns}
-use Rattle.sctp_sender.specs.Flight.{Flight, IsContiguous}
-use Rattle.sctp_sender.specs.Late.{leaving_each, tail_first}
+use Rattle.sctp_sender.proofs.Names.{◌≡◌, List, ℕ, ap, sym, subst, ◌∙◌, is_late, Flight, IsContiguous, leaving_each, tail_first}
+use Rattle.sctp_outbound.specs.outbound_queue.OutboundQueue.{late_tsns}
 use Rattle.sctp_sender.proofs.Resends.{late-open, none-of-them}
 use Rattle.sctp_sender.proofs.sender.flight.InFlight.expire_late.Goals as goal
 

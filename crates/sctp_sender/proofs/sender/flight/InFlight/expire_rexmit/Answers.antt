@@ -1,7 +1,4 @@
-use Rattle.std.proofs.Common.{◌≡◌, [], sym, ◌∙◌, subst}
-use Rattle.std.specs.Prelude.{IfOk}
-use Rattle.sctp_sender.specs.Flight.{Flight, IsContiguous}
-use Rattle.sctp_sender.specs.Resending.{is_worn, worn_tsns}
+use Rattle.sctp_sender.proofs.Names.{◌≡◌, [], sym, ◌∙◌, subst, IfOk, Flight, IsContiguous, is_worn, worn_tsns}
 use Rattle.sctp_sender.proofs.Resends.{none-of-them, none-on, worn-open}
 use Rattle.sctp_sender.proofs.Worn.{none-left-on}
 use Rattle.sctp_sender.proofs.sender.flight.InFlight.expire_rexmit.Goals as goal

@@ -1,13 +1,8 @@
-use Rattle.std.proofs.Common.{refl, ap, subst, sym, ◌∙◌}
-use Rattle.sctp_outbound.specs.outbound_queue.OutboundQueue.{Outbound}
-use Rattle.sctp_serial.specs.DataChunks.{tsns}
-use Rattle.sctp_sender.specs.Flight.{Flight}
-use Rattle.sctp_sender.specs.Reporting.{AreKnown}
+use Rattle.sctp_sender.proofs.Names.{refl, ap, subst, sym, ◌∙◌, Outbound, tsns, Flight, AreKnown, AreUnmarked}
 use Rattle.sctp_sender.proofs.Expiries.{so-many, times-chunks, times-in-line, times-known}
 use Rattle.sctp_sender.proofs.Flights.{kept}
 use Rattle.sctp_sender.proofs.InLine.{IsInLine}
 use Rattle.sctp_sender.proofs.Seen.{flight_in}
-use Rattle.sctp_sender.specs.Resending.{AreUnmarked}
 use Rattle.sctp_sender.proofs.sender.flight.InFlight.expire_run.Goals as goal
 
 pub invariant_of-self : goal.invariant_of-self

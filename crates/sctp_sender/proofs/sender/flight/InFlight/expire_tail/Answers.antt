@@ -1,9 +1,4 @@
-use Rattle.std.proofs.Common.{◌≡◌, true, refl, arith}
-use Rattle.std.specs.Prelude.{is_some}
-use Rattle.sctp_outbound.specs.outbound_queue.OutboundQueue.{expiring_tail, message_of}
-use Rattle.sctp_outbound.specs.pending_queue.PendingQueue.{next_pending}
-use Rattle.sctp_serial.specs.DataChunks.{following_tsn}
-use Rattle.sctp_sender.specs.Flight.{Flight, may_send}
+use Rattle.sctp_sender.proofs.Names.{◌≡◌, true, refl, arith, is_some, expiring_tail, message_of, next_pending, following_tsn, Flight, may_send}
 use Rattle.sctp_sender.proofs.InLine.{abandoned-in-line, tail-partial}
 use Rattle.sctp_sender.proofs.Flights.{fresh, window, after-abandoning, tail-there}
 use Rattle.sctp_sender.proofs.Known.{abandoned-known}

@@ -1,5 +1,4 @@
-use Rattle.std.proofs.Common.{true, false, sym, ◌∙◌}
-use Rattle.sctp_sender.specs.Resending.{is_to_resend}
+use Rattle.sctp_sender.proofs.Names.{true, false, sym, ◌∙◌, is_to_resend}
 use Rattle.sctp_sender.proofs.Unmarked.{find-behind}
 use Rattle.sctp_sender.proofs.Walks.{find-step}
 use Rattle.sctp_sender.proofs.sender.flight.InFlight.first_to_resend.Goals as goal

@@ -1,6 +1,4 @@
-use Rattle.std.proofs.Common.{◌≡◌, drop}
-use Rattle.std.specs.Prelude.{find}
-use Rattle.sctp_sender.specs.Resending.{is_to_resend}
+use Rattle.sctp_sender.proofs.Names.{◌≡◌, drop, find, is_to_resend}
 use Rattle.sctp_sender.proofs.sender.flight.InFlight.first_to_resend.Given as goal
 
 abbrev pub invariant-loop-place : goal.invariant-loop-place

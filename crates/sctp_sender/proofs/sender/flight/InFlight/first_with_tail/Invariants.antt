@@ -1,5 +1,4 @@
-use Rattle.std.proofs.Common.{◌≡◌, drop}
-use Rattle.sctp_sender.specs.Late.{with_tail}
+use Rattle.sctp_sender.proofs.Names.{◌≡◌, drop, with_tail}
 use Rattle.sctp_sender.proofs.sender.flight.InFlight.first_with_tail.Given as goal
 
 abbrev pub invariant-loop-tsn : goal.invariant-loop-tsn

@@ -1,8 +1,5 @@
-use Rattle.std.proofs.Common.{◌≡◌, ℕ, ◌≤◌, ◌<◌, ◌^◌, true, length, ap, sym, subst, ◌∙◌, arith}
-use Rattle.std.proofs.lemmas.Option.{none-some}
-use Rattle.sctp_util.specs.Serial.{distance}
-use Rattle.sctp_sender.specs.Flight.{Flight}
-use Rattle.sctp_sender.specs.Abandonment.{IsLastEnd, ahead, advanced_ack_point, can_skip_to}
+use Rattle.sctp_sender.proofs.Names.{◌≡◌, ℕ, ◌≤◌, ◌<◌, ◌^◌, true, length, ap, sym, subst, ◌∙◌, arith, none-some, distance, Flight, IsLastEnd, ahead}
+use Rattle.sctp_sender.proofs.Names.{advanced_ack_point, can_skip_to}
 use Rattle.sctp_sender.proofs.Ends.{ends-at, none-ends}
 use Rattle.sctp_sender.proofs.Points.{point-within}
 use Rattle.sctp_sender.proofs.Runs.{any_chunk}

@@ -1,9 +1,5 @@
-use Rattle.std.proofs.Common.{◌≡◌, ℕ, ◌-◌, ◌/◌, ◌<◌, ◌≤◌, ◌%◌, ◌+◌, ◌^◌, Some, inl, inr, length, refl, ap, sym, ◌∙◌, arith}
-use Rattle.std.proofs.lemmas.Bool.{cases_lt, false≢true}
-use Rattle.std.proofs.lemmas.Option.{none-some}
-use Rattle.sctp_util.specs.Serial.{distance}
-use Rattle.sctp_sender.specs.Flight.{Flight}
-use Rattle.sctp_sender.specs.Abandonment.{IsLastEnd, ahead, advanced_ack_point}
+use Rattle.sctp_sender.proofs.Names.{◌≡◌, ℕ, ◌-◌, ◌/◌, ◌<◌, ◌≤◌, ◌%◌, ◌+◌, ◌^◌, Some, inl, inr, length, refl, ap, sym, ◌∙◌, arith, cases_lt, false≢true}
+use Rattle.sctp_sender.proofs.Names.{none-some, distance, Flight, IsLastEnd, ahead, advanced_ack_point}
 use Rattle.sctp_sender.proofs.Ends.{all-long, all-there, farther, is-end-at, later-long, none-fit, nowhere, short-of, somewhere}
 use Rattle.sctp_sender.proofs.Points.{point-within}
 use Rattle.sctp_sender.proofs.Runs.{any_chunk}

@@ -1,5 +1,4 @@
-use Rattle.std.proofs.Common.{sym}
-use Rattle.sctp_outbound.proofs.lemmas.outbound_queue.Sendable.{found_in}
+use Rattle.sctp_sender.proofs.Names.{sym, found_in}
 use Rattle.sctp_sender.proofs.sender.flight.InFlight.has_tail_at.Goals as goal
 
 pub rest_waits-requires : goal.rest_waits-requires

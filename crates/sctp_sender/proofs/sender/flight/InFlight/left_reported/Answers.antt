@@ -1,11 +1,5 @@
-use Rattle.std.proofs.Common.{suc, List, ap, sym, subst, ◌∙◌}
-use Rattle.std.specs.Prelude.{◌&&◌, not}
-use Rattle.std.specs.List.{list_any}
-use Rattle.sctp_data.specs.declared.chunk.chunk_selective_ack.GapAckBlock.{GapAckBlock}
-use Rattle.sctp_outbound.specs.payload_queue.Blocks.{is_in_blocks}
-use Rattle.sctp_sender.specs.Flight.{Flight}
-use Rattle.sctp_sender.specs.Keeping.{Cover, blocks_left, is_at, restored, with_restored}
-use Rattle.sctp_sender.specs.Reporting.{AreKnown}
+use Rattle.sctp_sender.proofs.Names.{suc, List, ap, sym, subst, ◌∙◌, ◌&&◌, not, list_any, GapAckBlock, is_in_blocks, Flight, Cover, blocks_left, is_at}
+use Rattle.sctp_sender.proofs.Names.{restored, with_restored, AreKnown}
 use Rattle.sctp_sender.proofs.Covering.{both-ok}
 use Rattle.sctp_sender.proofs.LeftReported.{left-covers, left-known}
 use Rattle.sctp_sender.proofs.Seen.{flight_in}

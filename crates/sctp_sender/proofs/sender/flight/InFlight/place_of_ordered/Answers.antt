@@ -1,5 +1,4 @@
-use Rattle.std.proofs.Common.{true, false, sym, ◌∙◌}
-use Rattle.sctp_sender.specs.Numbers.{is_ordered_on}
+use Rattle.sctp_sender.proofs.Names.{true, false, sym, ◌∙◌, is_ordered_on}
 use Rattle.sctp_sender.proofs.Walks.{find-step}
 use Rattle.sctp_sender.proofs.sender.flight.InFlight.place_of_ordered.Goals as goal
 

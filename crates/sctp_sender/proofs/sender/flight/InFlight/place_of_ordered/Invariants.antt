@@ -1,6 +1,4 @@
-use Rattle.std.proofs.Common.{◌≡◌, drop}
-use Rattle.std.specs.Prelude.{find}
-use Rattle.sctp_sender.specs.Numbers.{is_ordered_on}
+use Rattle.sctp_sender.proofs.Names.{◌≡◌, drop, find, is_ordered_on}
 use Rattle.sctp_sender.proofs.sender.flight.InFlight.place_of_ordered.Given as goal
 
 abbrev pub invariant-loop-place : goal.invariant-loop-place

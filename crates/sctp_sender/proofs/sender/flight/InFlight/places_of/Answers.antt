@@ -1,7 +1,4 @@
-use Rattle.std.proofs.Common.{◌≡◌, suc, ◌∙◌, arith}
-use Rattle.sctp_outbound.specs.pending_queue.Whole.{partially_sent}
-use Rattle.sctp_sender.specs.Flight.{Flight}
-use Rattle.sctp_sender.specs.SideBySide.{messages_of, number_of_half}
+use Rattle.sctp_sender.proofs.Names.{◌≡◌, suc, ◌∙◌, arith, partially_sent, Flight, messages_of, number_of_half}
 use Rattle.sctp_sender.proofs.InLine.{shorter}
 use Rattle.sctp_sender.proofs.Places.{between, place-is}
 use Rattle.sctp_sender.proofs.Seen.{flight_in}

@@ -1,17 +1,6 @@
-use Rattle.std.proofs.Common.{◌≡◌, ◌+◌, ◌*◌, ◌≤◌, true, false, ℕ, List, length, suc, ap, sym, subst, ◌∙◌, arith}
-use Rattle.std.specs.Prelude.{◌||◌}
-use Rattle.std.specs.List.{count_by}
-use Rattle.std.proofs.lemmas.Bool.{false≢true}
-use Rattle.sctp_util.specs.Serial.{distance}
-use Rattle.sctp_data.specs.SelectiveAck.{sack_of}
-use Rattle.sctp_data.specs.declared.chunk.chunk_payload_data.ChunkPayloadData.{ChunkPayloadData}
-use Rattle.sctp_data.specs.declared.chunk.chunk_selective_ack.GapAckBlock.{GapAckBlock}
-use Rattle.sctp_outbound.specs.payload_queue.Blocks.{is_in_blocks}
-use Rattle.sctp_util.proofs.Cases.{or-left, or-right}
-use Rattle.sctp_sender.specs.Costs.{PicksLeftOut, is_left_out}
-use Rattle.sctp_sender.specs.Flight.{Flight, count_acked, is_outdated, sack_refusal}
-use Rattle.sctp_sender.specs.Keeping.{Cover, returns_at}
-use Rattle.sctp_sender.specs.Reporting.{AreKnown}
+use Rattle.sctp_sender.proofs.Names.{◌≡◌, ◌+◌, ◌*◌, ◌≤◌, true, false, ℕ, List, length, suc, ap, sym, subst, ◌∙◌, arith, ◌||◌, count_by, false≢true, distance}
+use Rattle.sctp_sender.proofs.Names.{sack_of, ChunkPayloadData, GapAckBlock, is_in_blocks, or-left, or-right, PicksLeftOut, is_left_out, Flight, count_acked}
+use Rattle.sctp_sender.proofs.Names.{is_outdated, sack_refusal, Cover, returns_at, AreKnown}
 use Rattle.sctp_sender.proofs.Counts.{count-in}
 use Rattle.sctp_sender.proofs.Covering.{after-covered, after-known, both-ok, covered-at, each-ok}
 use Rattle.sctp_sender.proofs.Reported.{IsTaken}

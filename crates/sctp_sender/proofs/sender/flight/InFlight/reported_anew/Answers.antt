@@ -1,14 +1,6 @@
-use Rattle.std.proofs.Common.{◌≡◌, ◌+◌, ◌*◌, ◌≤◌, List, length, map, get_or, ap, sym, subst, ◌∙◌, arith}
-use Rattle.std.specs.List.{All, count_by, filter}
-use Rattle.std.proofs.lemmas.List.{length-map}
-use Rattle.std.proofs.lemmas.List.Sums.{length-filter}
-use Rattle.sctp_data.specs.SelectiveAck.{sack_of}
-use Rattle.sctp_data.specs.declared.chunk.chunk_payload_data.ChunkPayloadData.{ChunkPayloadData}
-use Rattle.sctp_serial.specs.DataChunks.{following_tsn}
-use Rattle.sctp_sender.specs.declared.sender.flight.Released.{Released}
-use Rattle.sctp_sender.specs.Flight.{Flight, count_acked, is_outdated, sack_refusal, released_of, reports, reports_anew}
-use Rattle.sctp_sender.specs.Keeping.{IsOwn}
-use Rattle.sctp_sender.specs.Telling.{AreInFlight, PicksAnew, is_answered, no_message}
+use Rattle.sctp_sender.proofs.Names.{◌≡◌, ◌+◌, ◌*◌, ◌≤◌, List, length, map, get_or, ap, sym, subst, ◌∙◌, arith, All, count_by, filter, length-map}
+use Rattle.sctp_sender.proofs.Names.{length-filter, sack_of, ChunkPayloadData, following_tsn, Released, Flight, count_acked, is_outdated, sack_refusal}
+use Rattle.sctp_sender.proofs.Names.{released_of, reports, reports_anew, IsOwn, AreInFlight, PicksAnew, is_answered, no_message}
 use Rattle.sctp_sender.proofs.Answered.{answered-at, answered-in-flight}
 use Rattle.sctp_sender.proofs.Covering.{both-ok, each-ok}
 use Rattle.sctp_sender.proofs.SackCosts.{all-reported, few-known}

@@ -1,15 +1,8 @@
-use Rattle.std.proofs.Common.{ap, refl, sym, ◌∙◌, Some, subst}
-use Rattle.std.specs.Prelude.{find}
-use Rattle.sctp_data.specs.declared.chunk.chunk_payload_data.ChunkPayloadData.{ChunkPayloadData}
+use Rattle.sctp_sender.proofs.Names.{ap, refl, sym, ◌∙◌, Some, subst, find, ChunkPayloadData, Outbound, has_tsn, tsns, Flight, sent_again, AreKnown}
 use Rattle.sctp_sender.proofs.Walks.{found-changed}
-use Rattle.sctp_outbound.specs.outbound_queue.OutboundQueue.{Outbound}
-use Rattle.sctp_serial.specs.DataChunks.{has_tsn, tsns}
-use Rattle.sctp_sender.specs.Flight.{Flight}
-use Rattle.sctp_sender.specs.Resending.{sent_again}
 use Rattle.sctp_sender.proofs.Runs.{changed-run}
 use Rattle.sctp_sender.proofs.InLine.{marked-in-line}
 use Rattle.sctp_sender.proofs.Flights.{kept}
-use Rattle.sctp_sender.specs.Reporting.{AreKnown}
 use Rattle.sctp_sender.proofs.Known.{changed-known}
 use Rattle.sctp_sender.proofs.Seen.{flight_in}
 use Rattle.sctp_sender.proofs.Unmarked.{changed-on}

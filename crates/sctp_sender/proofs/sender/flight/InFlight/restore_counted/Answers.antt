@@ -1,18 +1,11 @@
-use Rattle.std.proofs.Common.{◌≡◌, ◌≤◌, length, map, get_or, true, List, [], refl, ap, sym, subst, ◌∙◌, arith}
-use Rattle.std.specs.List.{All}
-use Rattle.sctp_data.specs.declared.chunk.chunk_selective_ack.GapAckBlock.{GapAckBlock}
-use Rattle.sctp_outbound.specs.outbound_queue.OutboundQueue.{Outbound}
-use Rattle.sctp_sender.specs.Flight.{Flight, IsContiguous, can_resend}
-use Rattle.sctp_sender.specs.Keeping.{back_each, answered_back, placed, answered_of_placed, with_restored}
-use Rattle.sctp_sender.specs.declared.sender.flight.kept.TakenBack.{TakenBack}
+use Rattle.sctp_sender.proofs.Names.{◌≡◌, ◌≤◌, length, map, get_or, true, List, [], refl, ap, sym, subst, ◌∙◌, arith, All, GapAckBlock, Outbound, Flight}
+use Rattle.sctp_sender.proofs.Names.{IsContiguous, can_resend, back_each, answered_back, placed, answered_of_placed, with_restored, TakenBack, same-is}
+use Rattle.sctp_sender.proofs.Names.{AreKnown, ascends_from, AreUnmarked}
 use Rattle.sctp_sender.proofs.Placed.{back-length, nil-of, placed-answer, put-contiguous, put-restored}
 use Rattle.sctp_sender.proofs.Runs.{any_chunk}
-use Rattle.sctp_util.proofs.Cases.{same-is}
 use Rattle.sctp_sender.proofs.TakenBacks.{outstanding}
-use Rattle.sctp_sender.specs.Reporting.{AreKnown, ascends_from}
 use Rattle.sctp_sender.proofs.Known.{none-known}
 use Rattle.sctp_sender.proofs.Seen.{flight_in}
-use Rattle.sctp_sender.specs.Resending.{AreUnmarked}
 use Rattle.sctp_sender.proofs.Unmarked.{put-unmarked}
 use Rattle.sctp_sender.proofs.sender.flight.InFlight.restore_counted.Goals as goal
 

@@ -1,12 +1,7 @@
-use Rattle.std.proofs.Common.{ap, refl, ◌∙◌, true, subst, sym}
-use Rattle.sctp_outbound.specs.Marks.{is_outstanding, with_retransmit}
-use Rattle.sctp_outbound.specs.outbound_queue.OutboundQueue.{Outbound}
-use Rattle.sctp_serial.specs.DataChunks.{tsns}
-use Rattle.sctp_sender.specs.Flight.{Flight}
+use Rattle.sctp_sender.proofs.Names.{ap, refl, ◌∙◌, true, subst, sym, is_outstanding, with_retransmit, Outbound, tsns, Flight, AreKnown}
 use Rattle.sctp_sender.proofs.Runs.{changed-run}
 use Rattle.sctp_sender.proofs.InLine.{marked-in-line}
 use Rattle.sctp_sender.proofs.Flights.{kept}
-use Rattle.sctp_sender.specs.Reporting.{AreKnown}
 use Rattle.sctp_sender.proofs.Known.{changed-known}
 use Rattle.sctp_sender.proofs.Seen.{flight_in}
 use Rattle.sctp_sender.proofs.Unmarked.{none-passed}

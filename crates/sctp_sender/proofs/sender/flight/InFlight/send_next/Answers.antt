@@ -1,8 +1,4 @@
-use Rattle.std.proofs.Common.{◌≡◌, true, ap, ◌∙◌, arith}
-use Rattle.std.specs.Prelude.{find}
-use Rattle.sctp_outbound.specs.outbound_queue.OutboundQueue.{Outbound}
-use Rattle.sctp_serial.specs.DataChunks.{has_tsn, following_tsn}
-use Rattle.sctp_sender.specs.Flight.{Flight, may_send}
+use Rattle.sctp_sender.proofs.Names.{◌≡◌, true, ap, ◌∙◌, arith, find, Outbound, has_tsn, following_tsn, Flight, may_send}
 use Rattle.sctp_sender.proofs.InLine.{sent-in-line}
 use Rattle.sctp_sender.proofs.Flights.{fresh, window, sent}
 use Rattle.sctp_sender.proofs.Sent.{noted-next}

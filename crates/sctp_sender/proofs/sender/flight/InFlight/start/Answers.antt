@@ -1,5 +1,4 @@
-use Rattle.std.proofs.Common.{refl}
-use Rattle.sctp_sender.specs.Flight.{Flight}
+use Rattle.sctp_sender.proofs.Names.{refl, Flight}
 use Rattle.sctp_sender.proofs.Flights.{kept}
 use Rattle.sctp_sender.proofs.InLine.{started-chunks, started-in-line}
 use Rattle.sctp_sender.proofs.Known.{started-known}

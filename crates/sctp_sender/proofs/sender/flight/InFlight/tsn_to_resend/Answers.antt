@@ -1,6 +1,4 @@
-use Rattle.std.specs.Prelude.{find}
-use Rattle.sctp_sender.specs.Flight.{Flight}
-use Rattle.sctp_sender.specs.Resending.{is_to_resend}
+use Rattle.sctp_sender.proofs.Names.{find, Flight, is_to_resend}
 use Rattle.sctp_sender.proofs.Resends.{again, own, within-is}
 use Rattle.sctp_sender.proofs.Seen.{flight_in}
 use Rattle.sctp_sender.proofs.sender.flight.InFlight.tsn_to_resend.Goals as goal

@@ -1,7 +1,6 @@
-use Rattle.std.proofs.Common.{ℕ, List, ◌++◌, ◌∷◌, [], true, false, map, append-nil, sym, ap, ◌∙◌}
+use Rattle.sctp_sender.proofs.Names.{ℕ, List, ◌++◌, ◌∷◌, [], true, false, map, sym, ap, ◌∙◌, is_worn, ChunkPayloadData}
+use Rattle.std.proofs.Common.{append-nil}
 use Rattle.sctp_outbound.proofs.lemmas.outbound_queue.Outbounds.{tsns_more, none_listed}
-use Rattle.sctp_sender.specs.Resending.{is_worn}
-use Rattle.sctp_data.specs.declared.chunk.chunk_payload_data.ChunkPayloadData.{ChunkPayloadData}
 use Rattle.sctp_sender.proofs.Unmarked.{none-worn}
 use Rattle.sctp_sender.proofs.Walks.{read-of}
 use Rattle.sctp_sender.proofs.sender.flight.InFlight.worn_tsns.Goals as goal

@@ -1,6 +1,4 @@
-use Rattle.std.proofs.Common.{◌≡◌, map, take}
-use Rattle.std.specs.List.{filter}
-use Rattle.sctp_sender.specs.Resending.{is_worn}
+use Rattle.sctp_sender.proofs.Names.{◌≡◌, map, take, filter, is_worn}
 use Rattle.sctp_sender.proofs.sender.flight.InFlight.worn_tsns.Given as goal
 
 abbrev pub invariant-loop-place : goal.invariant-loop-place

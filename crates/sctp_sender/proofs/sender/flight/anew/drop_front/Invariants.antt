@@ -1,5 +1,4 @@
-use Rattle.std.proofs.Common.{◌≡◌, ◌+◌, drop}
-use Rattle.std.specs.VecDeque.{deque_capacity}
+use Rattle.sctp_sender.proofs.Names.{◌≡◌, ◌+◌, drop, deque_capacity}
 use Rattle.sctp_sender.proofs.sender.flight.anew.drop_front.Given as goal
 
 abbrev pub invariant-loop-left : goal.invariant-loop-left

@@ -1,6 +1,4 @@
-use Rattle.std.proofs.Common.{◌<◌, ◌≤◌, length, None, ap, sym, ◌∙◌, arith}
-use Rattle.std.proofs.lemmas.List.{length_push}
-use Rattle.sctp_sender.specs.Keeping.{filled}
+use Rattle.sctp_sender.proofs.Names.{◌<◌, ◌≤◌, length, None, ap, sym, ◌∙◌, arith, length_push, filled}
 use Rattle.sctp_sender.proofs.AnewKept.{filled-done, filled-more}
 use Rattle.sctp_sender.proofs.sender.flight.anew.fill.Goals as goal
 

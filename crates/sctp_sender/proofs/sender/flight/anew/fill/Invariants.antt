@@ -1,6 +1,5 @@
-use Rattle.std.proofs.Common.{◌≡◌, ◌+◌, ◌-◌, length}
-use Rattle.std.specs.VecDeque.{deque_capacity, deque_len}
-use Rattle.sctp_sender.specs.Keeping.{filled}
+use Rattle.sctp_sender.proofs.Names.{◌≡◌, ◌+◌, ◌-◌, length, deque_capacity, filled}
+use Rattle.std.specs.VecDeque.{deque_len}
 use Rattle.sctp_sender.proofs.sender.flight.anew.fill.Given as goal
 
 abbrev pub invariant-loop-turns : goal.invariant-loop-turns

@@ -1,7 +1,4 @@
-use Rattle.std.proofs.Common.{◌≡◌, ◌<◌, length, get_or, inl, inr, ap, sym, ◌∙◌, arith}
-use Rattle.std.proofs.lemmas.Bool.{cases_lt}
-use Rattle.std.proofs.lemmas.List.{get_or_default}
-use Rattle.sctp_sender.specs.declared.sender.flight.returns.PlacedData.{PlacedData}
+use Rattle.sctp_sender.proofs.Names.{◌≡◌, ◌<◌, length, get_or, inl, inr, ap, sym, ◌∙◌, arith, cases_lt, get_or_default, PlacedData}
 use Rattle.sctp_sender.proofs.sender.flight.anew.places_of.Goals as goal
 
 pub loop-one-preserved : goal.loop-one-preserved

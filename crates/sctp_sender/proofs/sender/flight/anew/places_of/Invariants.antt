@@ -1,6 +1,4 @@
-use Rattle.std.proofs.Common.{◌≡◌, ◌+◌, ◌<◌, ◌≤◌, ◌^◌, ℕ, length}
-use Rattle.std.specs.Prelude.{slice_index_or}
-use Rattle.sctp_sender.specs.declared.sender.flight.returns.PlacedData.{PlacedData}
+use Rattle.sctp_sender.proofs.Names.{◌≡◌, ◌+◌, ◌<◌, ◌≤◌, ◌^◌, ℕ, length, slice_index_or, PlacedData}
 use Rattle.sctp_sender.proofs.sender.flight.anew.places_of.Given as goal
 
 abbrev pub invariant-loop-one : goal.invariant-loop-one

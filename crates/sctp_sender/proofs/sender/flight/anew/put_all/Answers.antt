@@ -1,7 +1,4 @@
-use Rattle.std.proofs.Common.{◌≡◌, ◌++◌, ◌∷◌, [], List, length, length-append, get_or, ap, sym, ◌∙◌, arith}
-use Rattle.std.proofs.lemmas.List.{get_or_append_left}
-use Rattle.sctp_sender.specs.declared.sender.flight.returns.PlacedData.{PlacedData}
-use Rattle.sctp_sender.specs.Keeping.{put_all}
+use Rattle.sctp_sender.proofs.Names.{◌≡◌, ◌++◌, ◌∷◌, [], List, length, length-append, get_or, ap, sym, ◌∙◌, arith, get_or_append_left, PlacedData, put_all}
 use Rattle.sctp_sender.proofs.AnewKept.{put-last}
 use Rattle.sctp_sender.proofs.sender.flight.anew.put_all.Goals as goal
 

@@ -1,7 +1,4 @@
-use Rattle.std.proofs.Common.{◌≡◌, ◌+◌, ◌<◌, ◌≤◌, length}
-use Rattle.std.specs.List.{All}
-use Rattle.std.specs.VecDeque.{deque_capacity}
-use Rattle.sctp_sender.specs.Keeping.{put_all}
+use Rattle.sctp_sender.proofs.Names.{◌≡◌, ◌+◌, ◌<◌, ◌≤◌, length, All, deque_capacity, put_all}
 use Rattle.sctp_sender.proofs.sender.flight.anew.put_all.Given as goal
 
 abbrev pub invariant-loop-one : goal.invariant-loop-one

@@ -1,5 +1,4 @@
-use Rattle.std.proofs.Common.{◌<◌, ◌≤◌, length, Some, ap, sym, ◌∙◌, arith}
-use Rattle.std.proofs.lemmas.List.{length_push}
+use Rattle.sctp_sender.proofs.Names.{◌<◌, ◌≤◌, length, Some, ap, sym, ◌∙◌, arith, length_push}
 use Rattle.sctp_sender.proofs.AnewKept.{filled-length, put-filled, with-set}
 use Rattle.sctp_sender.proofs.sender.flight.anew.put_at.Goals as goal
 

@@ -1,15 +1,6 @@
-use Rattle.std.proofs.Common.{◌≡◌, ◌+◌, ◌-◌, ◌<◌, ◌≤◌, ◌++◌, ◌∷◌, [], ℕ, suc, false, length, take, get_or, ap, sym, subst, ◌∙◌, arith}
-use Rattle.std.specs.Prelude.{◌==◌, ◌||◌}
-use Rattle.std.specs.List.{All, list_any}
-use Rattle.std.proofs.lemmas.Bool.Decides.{nat_tests}
-use Rattle.std.proofs.lemmas.List.{get_or_default, length_push}
-use Rattle.std.proofs.lemmas.Option.{slice_get-get_or}
-use Rattle.sctp_util.proofs.Cases.{or-none}
-use Rattle.sctp_data.specs.declared.chunk.chunk_payload_data.ChunkPayloadData.{ChunkPayloadData}
-use Rattle.sctp_serial.specs.DataChunks.{following_tsn}
-use Rattle.sctp_sender.specs.declared.sender.flight.returns.PlacedData.{PlacedData}
-use Rattle.sctp_sender.specs.Keeping.{IsOwn, is_at}
-use Rattle.sctp_sender.specs.Telling.{is_answered, is_of_chunk}
+use Rattle.sctp_sender.proofs.Names.{◌≡◌, ◌+◌, ◌-◌, ◌<◌, ◌≤◌, ◌++◌, ◌∷◌, [], ℕ, suc, false, length, take, get_or, ap, sym, subst, ◌∙◌, arith, ◌==◌, ◌||◌, All}
+use Rattle.sctp_sender.proofs.Names.{list_any, nat_tests, get_or_default, length_push, slice_get-get_or, or-none, ChunkPayloadData, following_tsn, PlacedData}
+use Rattle.sctp_sender.proofs.Names.{IsOwn, is_at, is_answered, is_of_chunk}
 use Rattle.sctp_sender.proofs.Anew.{all-at}
 use Rattle.sctp_sender.proofs.AnewKept.{one-more-at, own-more}
 use Rattle.sctp_sender.proofs.Answered.{StandsAt, answered-more, any_answered, stands-at, answer-here}

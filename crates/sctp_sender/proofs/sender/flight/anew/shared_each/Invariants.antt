@@ -1,9 +1,4 @@
-use Rattle.std.proofs.Common.{◌≡◌, ◌+◌, ◌<◌, ◌≤◌, ℕ, length, take}
-use Rattle.std.specs.Prelude.{slice_index_or}
-use Rattle.std.specs.List.{All, list_any}
-use Rattle.sctp_data.specs.declared.chunk.chunk_payload_data.ChunkPayloadData.{ChunkPayloadData}
-use Rattle.sctp_sender.specs.Keeping.{IsOwn, is_at}
-use Rattle.sctp_sender.specs.Telling.{is_answered}
+use Rattle.sctp_sender.proofs.Names.{◌≡◌, ◌+◌, ◌<◌, ◌≤◌, ℕ, length, take, slice_index_or, All, list_any, ChunkPayloadData, IsOwn, is_at, is_answered}
 use Rattle.sctp_sender.proofs.sender.flight.anew.shared_each.Given as goal
 
 abbrev pub invariant-loop-one : goal.invariant-loop-one

@@ -1,13 +1,5 @@
-use Rattle.std.proofs.Common.{rules, ◌≡◌, ◌+◌, ◌-◌, ◌<◌, length, set, take, get_or, ap, sym, ◌∙◌, arith}
-use Rattle.std.specs.List.{list_any}
-use Rattle.std.proofs.lemmas.List.{get_or_default}
-use Rattle.sctp_util.specs.Lists.{change_where}
-use Rattle.sctp_util.proofs.Edits.{length-change_where}
-use Rattle.sctp_outbound.specs.Marks.{as_acknowledged}
-use Rattle.sctp_outbound.specs.outbound_queue.OutboundQueue.{with_inflight}
-use Rattle.sctp_outbound.specs.outbound_queue.OutboundQueue.{Outbound}
-use Rattle.sctp_serial.specs.DataChunks.{following_tsn}
-use Rattle.sctp_sender.specs.Telling.{is_of_chunk, is_answered}
+use Rattle.sctp_sender.proofs.Names.{rules, ◌≡◌, ◌+◌, ◌-◌, ◌<◌, length, set, take, get_or, ap, sym, ◌∙◌, arith, list_any, get_or_default, change_where}
+use Rattle.sctp_sender.proofs.Names.{length-change_where, as_acknowledged, with_inflight, Outbound, following_tsn, is_of_chunk, is_answered}
 use Rattle.sctp_sender.proofs.Anew.{all-at}
 use Rattle.sctp_sender.proofs.Runs.{any_chunk}
 use Rattle.sctp_sender.proofs.Answered.{any_answered, none-acknowledged, one-acknowledged, stands-at}

@@ -1,8 +1,4 @@
-use Rattle.std.proofs.Common.{◌≡◌, ◌+◌, take}
-use Rattle.sctp_util.specs.Lists.{change_where}
-use Rattle.sctp_outbound.specs.Marks.{as_acknowledged}
-use Rattle.sctp_outbound.specs.outbound_queue.OutboundQueue.{with_inflight}
-use Rattle.sctp_sender.specs.Telling.{is_answered}
+use Rattle.sctp_sender.proofs.Names.{◌≡◌, ◌+◌, take, change_where, as_acknowledged, with_inflight, is_answered}
 use Rattle.sctp_sender.proofs.sender.flight.answers.acknowledge_answered.Given as goal
 
 abbrev pub invariant-loop-one : goal.invariant-loop-one

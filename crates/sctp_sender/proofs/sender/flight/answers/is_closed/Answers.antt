@@ -1,9 +1,4 @@
-use Rattle.std.proofs.Common.{rules, arith, ◌≡◌, false, drop, ap, sym, ◌∙◌}
-use Rattle.std.specs.Prelude.{◌&&◌, ◌||◌, not}
-use Rattle.std.specs.List.{list_any}
-use Rattle.sctp_sender.specs.Flight.{is_half}
-use Rattle.sctp_sender.specs.SideBySide.{is_number, messages_of}
-use Rattle.sctp_sender.specs.Telling.{is_open_of}
+use Rattle.sctp_sender.proofs.Names.{rules, arith, ◌≡◌, false, drop, ap, sym, ◌∙◌, ◌&&◌, ◌||◌, not, list_any, is_half, is_number, messages_of, is_open_of}
 use Rattle.sctp_sender.proofs.Counts.{count-split}
 use Rattle.sctp_sender.proofs.Opened.{both-sides}
 use Rattle.sctp_sender.proofs.sender.flight.answers.is_closed.Goals as goal

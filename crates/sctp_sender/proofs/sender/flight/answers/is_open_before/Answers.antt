@@ -1,8 +1,5 @@
-use Rattle.std.proofs.Common.{◌≡◌, ◌+◌, ◌-◌, ◌<◌, get_or, take, ap, sym, subst, ◌∙◌, arith}
-use Rattle.std.specs.List.{count_by}
-use Rattle.std.proofs.lemmas.List.{get_or_default}
-use Rattle.sctp_data.specs.declared.chunk.chunk_payload_data.ChunkPayloadData.{ChunkPayloadData}
-use Rattle.sctp_sender.specs.SideBySide.{is_number, messages_of}
+use Rattle.sctp_sender.proofs.Names.{◌≡◌, ◌+◌, ◌-◌, ◌<◌, get_or, take, ap, sym, subst, ◌∙◌, arith, count_by, get_or_default, ChunkPayloadData, is_number}
+use Rattle.sctp_sender.proofs.Names.{messages_of}
 use Rattle.sctp_sender.proofs.Counts.{one-taken}
 use Rattle.sctp_sender.proofs.Opened.{IsClosedBack, farther-back, none-back, open-back, other-back}
 use Rattle.sctp_sender.proofs.Walks.{read-of}

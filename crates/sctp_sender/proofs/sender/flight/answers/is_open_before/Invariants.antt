@@ -1,6 +1,4 @@
-use Rattle.std.proofs.Common.{◌+◌, ◌≤◌, take}
-use Rattle.std.specs.List.{count_by}
-use Rattle.sctp_sender.specs.SideBySide.{is_number, messages_of}
+use Rattle.sctp_sender.proofs.Names.{◌+◌, ◌≤◌, take, count_by, is_number, messages_of}
 use Rattle.sctp_sender.proofs.Opened.{IsClosedBack}
 use Rattle.sctp_sender.proofs.sender.flight.answers.is_open_before.Given as goal
 

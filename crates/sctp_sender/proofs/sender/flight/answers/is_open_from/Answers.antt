@@ -1,7 +1,4 @@
-use Rattle.std.proofs.Common.{◌≡◌, ◌<◌, get_or, inl, inr, ap, sym, ◌∙◌, arith}
-use Rattle.std.proofs.lemmas.Bool.{cases_lt}
-use Rattle.std.proofs.lemmas.List.{get_or_default}
-use Rattle.sctp_data.specs.declared.chunk.chunk_payload_data.ChunkPayloadData.{ChunkPayloadData}
+use Rattle.sctp_sender.proofs.Names.{◌≡◌, ◌<◌, get_or, inl, inr, ap, sym, ◌∙◌, arith, cases_lt, get_or_default, ChunkPayloadData}
 use Rattle.sctp_sender.proofs.Counts.{one-dropped}
 use Rattle.sctp_sender.proofs.Opened.{farther-on, none-on, open-on, other-on}
 use Rattle.sctp_sender.proofs.Walks.{read-of}

@@ -1,6 +1,4 @@
-use Rattle.std.proofs.Common.{◌+◌, ◌≤◌, drop}
-use Rattle.std.specs.List.{count_by}
-use Rattle.sctp_sender.specs.SideBySide.{is_number, messages_of}
+use Rattle.sctp_sender.proofs.Names.{◌+◌, ◌≤◌, drop, count_by, is_number, messages_of}
 use Rattle.sctp_sender.proofs.Opened.{IsClosedOn}
 use Rattle.sctp_sender.proofs.sender.flight.answers.is_open_from.Given as goal
 

@@ -1,9 +1,5 @@
-use Rattle.std.proofs.Common.{rules, ◌≡◌, ℕ, suc, ◌+◌, ◌-◌, ◌<◌, List, length, get_or, ap, sym, ◌∙◌, arith}
-use Rattle.std.proofs.lemmas.Grind.{common_steps}
-use Rattle.std.proofs.lemmas.List.{get_or-map, length-map}
-use Rattle.std.proofs.lemmas.Option.{none-some}
-use Rattle.sctp_sender.specs.declared.sender.flight.Released.{Released}
-use Rattle.sctp_sender.specs.SideBySide.{messages_of}
+use Rattle.sctp_sender.proofs.Names.{rules, ◌≡◌, ℕ, suc, ◌+◌, ◌-◌, ◌<◌, List, length, get_or, ap, sym, ◌∙◌, arith, common_steps, get_or-map, length-map}
+use Rattle.sctp_sender.proofs.Names.{none-some, Released, messages_of}
 use Rattle.sctp_sender.proofs.Counts.{numbers-stay, numbers_of, one-judged}
 use Rattle.sctp_sender.proofs.Runs.{any_chunk}
 use Rattle.sctp_sender.proofs.Answered.{StandsAt, any_answered, next-in-flight, stands-at}

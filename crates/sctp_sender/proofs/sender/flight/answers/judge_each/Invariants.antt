@@ -1,7 +1,4 @@
-use Rattle.std.proofs.Common.{◌≡◌, ◌+◌, ◌*◌, ◌-◌, ◌<◌, ◌≤◌, ◌++◌, None, get_or, map, take, drop}
-use Rattle.std.specs.Prelude.{IfSome}
-use Rattle.sctp_sender.specs.Costs.{chunks_of}
-use Rattle.sctp_sender.specs.Telling.{AreInFlight, is_closed, judged}
+use Rattle.sctp_sender.proofs.Names.{◌≡◌, ◌+◌, ◌*◌, ◌-◌, ◌<◌, ◌≤◌, ◌++◌, None, get_or, map, take, drop, IfSome, chunks_of, AreInFlight, is_closed, judged}
 use Rattle.sctp_sender.proofs.Counts.{numbers_of}
 use Rattle.sctp_sender.proofs.sender.flight.answers.judge_each.Given as goal
 

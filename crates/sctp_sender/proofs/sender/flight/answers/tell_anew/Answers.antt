@@ -1,9 +1,6 @@
-use Rattle.std.proofs.Common.{◌≡◌, ◌+◌, ◌-◌, [], ◌∷◌, drop, get_or, refl, subst, arith, suc, ap}
-use Rattle.std.proofs.lemmas.Grind.{common_steps}
-use Rattle.std.proofs.lemmas.List.{drop_all, drop_more, get_or_default}
+use Rattle.sctp_sender.proofs.Names.{◌≡◌, ◌+◌, ◌-◌, [], ◌∷◌, drop, get_or, refl, subst, arith, suc, ap, common_steps, drop_all, drop_more, get_or_default}
+use Rattle.sctp_sender.proofs.Names.{GapAckBlock, unknown_from}
 use Rattle.std.proofs.lemmas.List.Sums.{sum_by_more, sum_by_more_le}
-use Rattle.sctp_data.specs.declared.chunk.chunk_selective_ack.GapAckBlock.{GapAckBlock}
-use Rattle.sctp_sender.specs.Costs.{unknown_from}
 use Rattle.sctp_sender.proofs.Anew.{IsAnsweredTo, behind-last, block-within, next-block, answered-all}
 use Rattle.sctp_sender.proofs.KnownPlaces.{any_block, first-behind, next-behind}
 use Rattle.sctp_sender.proofs.sender.flight.answers.tell_anew.Goals as goal

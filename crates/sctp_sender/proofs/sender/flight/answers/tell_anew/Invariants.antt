@@ -1,6 +1,5 @@
-use Rattle.std.proofs.Common.{ℕ, ◌+◌, ◌*◌, ◌<◌, ◌≤◌, get_or, length, drop, take}
-use Rattle.sctp_data.specs.declared.chunk.chunk_selective_ack.GapAckBlock.{GapAckBlock}
-use Rattle.sctp_sender.specs.Costs.{distances_in, unknown_in}
+use Rattle.sctp_sender.proofs.Names.{ℕ, ◌+◌, ◌*◌, ◌<◌, ◌≤◌, get_or, length, drop, take, GapAckBlock, distances_in}
+use Rattle.sctp_sender.specs.Costs.{unknown_in}
 use Rattle.sctp_sender.proofs.Anew.{IsAnsweredTo}
 use Rattle.sctp_sender.proofs.KnownPlaces.{any_block}
 use Rattle.sctp_sender.proofs.sender.flight.answers.tell_anew.Given as goal

@@ -1,11 +1,5 @@
-use Rattle.std.proofs.Common.{List, [], ◌∷◌, ◌++◌, map, take, ap, sym, ◌∙◌, arith}
-use Rattle.std.specs.Prelude.{not}
-use Rattle.std.specs.List.{filter}
-use Rattle.std.proofs.lemmas.List.{map-append}
-use Rattle.sctp_data.specs.declared.chunk.chunk_payload_data.ChunkPayloadData.{ChunkPayloadData}
-use Rattle.sctp_sender.specs.declared.sender.flight.Released.{Released}
-use Rattle.sctp_sender.specs.Flight.{released_of}
-use Rattle.sctp_sender.specs.Telling.{no_message}
+use Rattle.sctp_sender.proofs.Names.{List, [], ◌∷◌, ◌++◌, map, take, ap, sym, ◌∙◌, arith, not, filter, map-append, ChunkPayloadData, Released, released_of}
+use Rattle.sctp_sender.proofs.Names.{no_message}
 use Rattle.sctp_sender.proofs.Anew.{none-answered, one-answered}
 use Rattle.sctp_sender.proofs.Walks.{read-of}
 use Rattle.sctp_sender.proofs.sender.flight.answers.tell_at.Goals as goal

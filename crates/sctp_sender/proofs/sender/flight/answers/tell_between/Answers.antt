@@ -1,12 +1,5 @@
-use Rattle.std.proofs.Common.{◌≡◌, suc, ◌+◌, ◌*◌, ◌-◌, ◌<◌, ◌≤◌, false, length, map, get_or, ap, sym, ◌∙◌, arith}
-use Rattle.std.proofs.lemmas.Grind.{common_steps}
-use Rattle.std.proofs.lemmas.List.{get_or_default}
-use Rattle.sctp_util.proofs.Cases.{by_last}
-use Rattle.sctp_data.specs.declared.chunk.chunk_selective_ack.GapAckBlock.{GapAckBlock}
-use Rattle.sctp_outbound.specs.payload_queue.Blocks.{is_in_blocks}
-use Rattle.sctp_sender.specs.Costs.{unknown_from}
-use Rattle.sctp_sender.specs.Flight.{released_of}
-use Rattle.sctp_sender.specs.Telling.{no_message}
+use Rattle.sctp_sender.proofs.Names.{◌≡◌, suc, ◌+◌, ◌*◌, ◌-◌, ◌<◌, ◌≤◌, false, length, map, get_or, ap, sym, ◌∙◌, arith, common_steps, get_or_default, by_last}
+use Rattle.sctp_sender.proofs.Names.{GapAckBlock, is_in_blocks, unknown_from, released_of, no_message}
 use Rattle.sctp_sender.proofs.Anew.{jumped}
 use Rattle.sctp_sender.proofs.KnownPlaces.{not-known, one-unknown, unknown-up}
 use Rattle.sctp_sender.proofs.sender.flight.answers.tell_between.Goals as goal

@@ -1,10 +1,5 @@
-use Rattle.std.proofs.Common.{◌≡◌, ℕ, ◌+◌, ◌*◌, ◌-◌, ◌<◌, ◌≤◌, Bool, get_or, length, map, take}
-use Rattle.std.specs.List.{filter}
-use Rattle.sctp_data.specs.declared.chunk.chunk_payload_data.ChunkPayloadData.{ChunkPayloadData}
-use Rattle.sctp_data.specs.declared.chunk.chunk_selective_ack.GapAckBlock.{GapAckBlock}
-use Rattle.sctp_sender.specs.Costs.{unknown_from}
-use Rattle.sctp_sender.specs.Flight.{released_of}
-use Rattle.sctp_sender.specs.Telling.{PicksOpen, no_message}
+use Rattle.sctp_sender.proofs.Names.{◌≡◌, ℕ, ◌+◌, ◌*◌, ◌-◌, ◌<◌, ◌≤◌, Bool, get_or, length, map, take, filter, ChunkPayloadData, GapAckBlock, unknown_from}
+use Rattle.sctp_sender.proofs.Names.{released_of, PicksOpen, no_message}
 use Rattle.sctp_sender.proofs.KnownPlaces.{any_block}
 use Rattle.sctp_sender.proofs.sender.flight.answers.tell_between.Given as goal
 

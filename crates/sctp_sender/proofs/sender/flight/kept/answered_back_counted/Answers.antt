@@ -1,8 +1,5 @@
-use Rattle.std.proofs.Common.{◌≡◌, ◌+◌, ◌<◌, ◌≤◌, ◌++◌, ◌∷◌, [], List, length, length-append, map, take, get_or, ap, sym, ◌∙◌, arith}
-use Rattle.std.proofs.lemmas.List.{get_or_default, map-append, take_more, take_all}
-use Rattle.sctp_sender.specs.declared.sender.flight.kept.TakenBack.{TakenBack}
-use Rattle.sctp_sender.specs.declared.sender.flight.returns.PlacedData.{PlacedData}
-use Rattle.sctp_sender.specs.Keeping.{answered_of_placed}
+use Rattle.sctp_sender.proofs.Names.{◌≡◌, ◌+◌, ◌<◌, ◌≤◌, ◌++◌, ◌∷◌, [], List, length, length-append, map, take, get_or, ap, sym, ◌∙◌, arith, get_or_default}
+use Rattle.sctp_sender.proofs.Names.{map-append, take_more, take_all, TakenBack, PlacedData, answered_of_placed}
 use Rattle.sctp_sender.proofs.Walks.{read-of}
 use Rattle.sctp_sender.proofs.sender.flight.kept.answered_back_counted.Goals as goal
 
@@ -18,6 +15,8 @@ loop-back-preserved c =
     let lt : i < length bs = c.loop-back-test.true in
     let n = length-append c.loop-back.answered.items (c.taken_back.result ∷ []) in
     let put = ap length c.put.ensures.items in
+    let m = length-append c.loop-back.places.items (b.place ∷ []) in
+    let put-place = ap length c.put-in-loop-back.ensures.items in
     let next : take (i + 1) bs ≡ take i bs ++ b ∷ [] = take_more bs i b lt ∙ ap (λ y. take i bs ++ y ∷ []) (sym c.back-item.is) in
     record {
       answered = λ d.
@@ -29,6 +28,11 @@ loop-back-preserved c =
       top = omega (arith, lt);
       turns = omega (arith, c.tick.ensures, inv.turns);
       room = omega (arith, c.put.ensures.capacity, inv.room);
+      places =
+          c.put-in-loop-back.ensures.items ∙ ap (λ ks. ks ++ b.place ∷ []) inv.places ∙ sym (map-append (λ (y : PlacedData). y.place) (take i bs) (b ∷ []))
+          ∙ ap (map (λ (y : PlacedData). y.place)) (sym next);
+      places_count = omega (arith, put-place, m, inv.places_count);
+      places_room = omega (arith, c.put-in-loop-back.ensures.capacity, inv.places_room);
     }
 
 pub returns-clause-ok : goal.returns-clause-ok
@@ -38,3 +42,9 @@ returns-clause-ok c = λ d.
     let f : PlacedData → TakenBack = λ y. answered_of_placed y (get_or cs y.place d) in
     let all : length bs ≤ c.loop-back.back-index = c.loop-back-test.false in
     c.loop-back.invariant.answered d ∙ ap (map f) (take_all c.loop-back.back-index bs all)
+
+pub returns-clause-places : goal.returns-clause-places
+returns-clause-places c =
+    let bs = c.args.backs.now in
+    let all : length bs ≤ c.loop-back.back-index = c.loop-back-test.false in
+    c.loop-back.invariant.places ∙ ap (map (λ (y : PlacedData). y.place)) (take_all c.loop-back.back-index bs all)

@@ -1,7 +1,4 @@
-use Rattle.std.proofs.Common.{◌≡◌, ◌+◌, ◌≤◌, length, map, take}
-use Rattle.std.specs.Prelude.{slice_index_or, vec_capacity}
-use Rattle.sctp_data.specs.declared.chunk.chunk_payload_data.ChunkPayloadData.{ChunkPayloadData}
-use Rattle.sctp_sender.specs.Keeping.{answered_of_placed}
+use Rattle.sctp_sender.proofs.Names.{◌≡◌, ◌+◌, ◌≤◌, length, map, take, slice_index_or, vec_capacity, ChunkPayloadData, answered_of_placed}
 use Rattle.sctp_sender.proofs.sender.flight.kept.answered_back_counted.Given as goal
 
 abbrev pub invariant-loop-back : goal.invariant-loop-back
@@ -12,4 +9,7 @@ invariant-loop-back l = record {
   top : l.back-index ≤ length l.backs;
   turns : l.turns ≡ l.initial.turns + l.back-index;
   room : length l.backs ≤ vec_capacity l.answered;
+  places : l.places.items ≡ map (λ b. b.place) (take l.back-index l.backs);
+  places_count : length l.places.items ≡ l.back-index;
+  places_room : length l.backs ≤ vec_capacity l.places;
 }

@@ -1,11 +1,5 @@
-use Rattle.std.proofs.Common.{◌≡◌, ◌<◌, ◌++◌, ◌∷◌, [], List, length, length-append, get_or, ap, sym, ◌∙◌, arith}
-use Rattle.std.proofs.lemmas.List.{get_or_append_left}
-use Rattle.sctp_util.specs.Lists.{change_at}
-use Rattle.sctp_util.proofs.More.{length-changed}
-use Rattle.sctp_outbound.specs.Marks.{as_taken_back}
-use Rattle.sctp_outbound.specs.outbound_queue.OutboundQueue.{Outbound, with_inflight}
-use Rattle.sctp_sender.specs.declared.sender.flight.returns.PlacedData.{PlacedData}
-use Rattle.sctp_sender.specs.Keeping.{bytes_coming, put_back}
+use Rattle.sctp_sender.proofs.Names.{◌≡◌, ◌<◌, ◌++◌, ◌∷◌, [], List, length, length-append, get_or, ap, sym, ◌∙◌, arith, get_or_append_left, change_at}
+use Rattle.sctp_sender.proofs.Names.{length-changed, as_taken_back, Outbound, with_inflight, PlacedData, bytes_coming, put_back}
 use Rattle.sctp_sender.proofs.Placed.{coming-last, last-is, put-last, set-change}
 use Rattle.sctp_sender.proofs.Runs.{any_chunk}
 use Rattle.sctp_sender.proofs.sender.flight.kept.restore_each.Goals as goal

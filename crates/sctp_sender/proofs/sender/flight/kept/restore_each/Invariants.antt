@@ -1,7 +1,4 @@
-use Rattle.std.proofs.Common.{◌≡◌, ◌+◌, ◌<◌, ◌^◌, length}
-use Rattle.std.specs.List.{All}
-use Rattle.sctp_outbound.specs.outbound_queue.OutboundQueue.{total_bytes, with_inflight}
-use Rattle.sctp_sender.specs.Keeping.{bytes_coming, put_back}
+use Rattle.sctp_sender.proofs.Names.{◌≡◌, ◌+◌, ◌<◌, ◌^◌, length, All, total_bytes, with_inflight, bytes_coming, put_back}
 use Rattle.sctp_sender.proofs.sender.flight.kept.restore_each.Given as goal
 
 abbrev pub invariant-loop-back : goal.invariant-loop-back

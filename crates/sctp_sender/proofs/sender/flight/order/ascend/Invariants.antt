@@ -1,5 +1,4 @@
-use Rattle.std.proofs.Common.{◌≡◌, ◌+◌, drop}
-use Rattle.sctp_sender.specs.Reporting.{ascends_from}
+use Rattle.sctp_sender.proofs.Names.{◌≡◌, ◌+◌, drop, ascends_from}
 use Rattle.sctp_sender.proofs.sender.flight.order.ascend.Given as goal
 
 abbrev pub invariant-loop-block : goal.invariant-loop-block

@@ -1,5 +1,4 @@
-use Rattle.std.proofs.Common.{◌≡◌, ◌+◌, ◌≤◌, length, take}
-use Rattle.std.specs.Prelude.{vec_capacity}
+use Rattle.sctp_sender.proofs.Names.{◌≡◌, ◌+◌, ◌≤◌, length, take, vec_capacity}
 use Rattle.sctp_sender.proofs.sender.flight.order.copied.Given as goal
 
 abbrev pub invariant-loop-block : goal.invariant-loop-block

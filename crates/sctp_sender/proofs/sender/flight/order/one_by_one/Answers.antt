@@ -1,11 +1,5 @@
-use Rattle.std.proofs.Common.{rules, ◌≡◌, ℕ, List, [], ◌∷◌, ◌++◌, ◌<◌, ◌≤◌, true, false, length, get_or, ap, ◌∙◌, inl, inr, arith}
-use Rattle.std.specs.Prelude.{◌&&◌, ◌||◌, nat_le, nat_lt}
-use Rattle.std.proofs.lemmas.Bool.{cases_eq}
-use Rattle.std.proofs.lemmas.Bool.Decides.{nat_tests}
-use Rattle.std.proofs.lemmas.List.{length_push}
-use Rattle.sctp_data.specs.declared.chunk.chunk_selective_ack.GapAckBlock.{GapAckBlock}
-use Rattle.sctp_outbound.specs.payload_queue.Blocks.{is_in_blocks}
-use Rattle.sctp_sender.specs.Reporting.{ascends_from}
+use Rattle.sctp_sender.proofs.Names.{rules, ◌≡◌, ℕ, List, [], ◌∷◌, ◌++◌, ◌<◌, ◌≤◌, true, false, length, get_or, ap, ◌∙◌, inl, inr, arith, ◌&&◌, ◌||◌, nat_le}
+use Rattle.sctp_sender.proofs.Names.{nat_lt, cases_eq, nat_tests, length_push, GapAckBlock, is_in_blocks, ascends_from}
 use Rattle.sctp_sender.proofs.Anew.{in-more, one-more-block}
 use Rattle.sctp_sender.proofs.sender.flight.order.one_by_one.Goals as goal
 

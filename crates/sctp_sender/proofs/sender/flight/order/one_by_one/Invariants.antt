@@ -1,7 +1,4 @@
-use Rattle.std.proofs.Common.{◌≡◌, ℕ, ◌+◌, ◌<◌, ◌≤◌, true, false, length, get_or}
-use Rattle.std.specs.Prelude.{◌&&◌, nat_lt}
-use Rattle.sctp_outbound.specs.payload_queue.Blocks.{is_in_blocks}
-use Rattle.sctp_sender.specs.Reporting.{ascends_from}
+use Rattle.sctp_sender.proofs.Names.{◌≡◌, ℕ, ◌+◌, ◌<◌, ◌≤◌, true, false, length, get_or, ◌&&◌, nat_lt, is_in_blocks, ascends_from}
 use Rattle.sctp_sender.proofs.sender.flight.order.one_by_one.Given as goal
 
 abbrev pub invariant-loop-offset : goal.invariant-loop-offset

@@ -1,5 +1,4 @@
-use Rattle.std.proofs.Common.{◌≡◌, ◌≢◌, ◌-◌, suc, get_or, sym, subst, arith}
-use Rattle.sctp_sender.specs.SideBySide.{IsApartAt}
+use Rattle.sctp_sender.proofs.Names.{◌≡◌, ◌≢◌, ◌-◌, suc, get_or, sym, subst, arith, IsApartAt}
 use Rattle.sctp_sender.proofs.CompleteMessages.{cut-at}
 use Rattle.sctp_sender.proofs.sender.flight.places.message_start.Goals as goal
 

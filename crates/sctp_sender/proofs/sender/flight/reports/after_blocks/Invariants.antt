@@ -1,6 +1,4 @@
-use Rattle.std.proofs.Common.{◌≡◌, ◌+◌, ◌≤◌, ◌^◌, drop}
-use Rattle.std.specs.Prelude.{max}
-use Rattle.sctp_sender.specs.Reporting.{after_blocks}
+use Rattle.sctp_sender.proofs.Names.{◌≡◌, ◌+◌, ◌≤◌, ◌^◌, drop, max, after_blocks}
 use Rattle.sctp_sender.proofs.sender.flight.reports.after_blocks.Given as goal
 
 abbrev pub invariant-loop-block : goal.invariant-loop-block

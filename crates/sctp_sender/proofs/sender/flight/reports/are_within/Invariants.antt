@@ -1,6 +1,4 @@
-use Rattle.std.proofs.Common.{◌≡◌, ◌+◌, drop}
-use Rattle.std.specs.List.{list_all}
-use Rattle.sctp_sender.specs.Flight.{is_within}
+use Rattle.sctp_sender.proofs.Names.{◌≡◌, ◌+◌, drop, list_all, is_within}
 use Rattle.sctp_sender.proofs.sender.flight.reports.are_within.Given as goal
 
 abbrev pub invariant-loop-block : goal.invariant-loop-block

@@ -1,5 +1,4 @@
-use Rattle.std.proofs.Common.{◌≡◌, ◌+◌, ◌≤◌, ◌^◌, length, take}
-use Rattle.sctp_sender.specs.Reporting.{after_blocks, HasEnds}
+use Rattle.sctp_sender.proofs.Names.{◌≡◌, ◌+◌, ◌≤◌, ◌^◌, length, take, after_blocks, HasEnds}
 use Rattle.sctp_sender.proofs.sender.flight.reports.ends_of.Given as goal
 
 abbrev pub invariant-loop-block : goal.invariant-loop-block

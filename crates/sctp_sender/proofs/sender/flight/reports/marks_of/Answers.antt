@@ -1,11 +1,6 @@
-use Rattle.std.proofs.Common.{◌≡◌, ℕ, ◌+◌, ◌<◌, ◌≤◌, false, [], ◌∷◌, length, get_or, ap, sym, ◌∙◌, inl, inr, arith, rules}
-use Rattle.std.specs.Prelude.{nat_lt, max}
-use Rattle.std.specs.List.{list_any}
-use Rattle.std.proofs.lemmas.Bool.{cases_lt}
-use Rattle.std.proofs.lemmas.Bool.Decides.{nat_tests}
-use Rattle.std.proofs.lemmas.List.{get_or_append_left, get_or_default, get_or_past, get_or_push, length_push}
-use Rattle.sctp_util.proofs.Cases.{by_last}
-use Rattle.sctp_outbound.specs.payload_queue.Blocks.{is_in_blocks}
+use Rattle.sctp_sender.proofs.Names.{◌≡◌, ℕ, ◌+◌, ◌<◌, ◌≤◌, false, [], ◌∷◌, length, get_or, ap, sym, ◌∙◌, inl, inr, arith, rules, nat_lt, max, list_any}
+use Rattle.sctp_sender.proofs.Names.{cases_lt, nat_tests, get_or_append_left, get_or_default, get_or_past, length_push, by_last, is_in_blocks}
+use Rattle.std.proofs.lemmas.List.{get_or_push}
 use Rattle.sctp_sender.proofs.Offsets.{end-more, goes_past, max-is, none-before, none-behind, past-is-in}
 use Rattle.sctp_sender.proofs.sender.flight.reports.marks_of.Goals as goal
 

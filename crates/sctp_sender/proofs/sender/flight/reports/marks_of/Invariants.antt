@@ -1,7 +1,4 @@
-use Rattle.std.proofs.Common.{◌≡◌, ◌+◌, ◌<◌, ◌≤◌, ℕ, length, false, get_or}
-use Rattle.std.specs.Prelude.{nat_lt, vec_capacity}
-use Rattle.std.specs.List.{list_any}
-use Rattle.sctp_outbound.specs.payload_queue.Blocks.{is_in_blocks}
+use Rattle.sctp_sender.proofs.Names.{◌≡◌, ◌+◌, ◌<◌, ◌≤◌, ℕ, length, false, get_or, nat_lt, vec_capacity, list_any, is_in_blocks}
 use Rattle.sctp_sender.proofs.Offsets.{goes_past}
 use Rattle.sctp_sender.proofs.sender.flight.reports.marks_of.Given as goal
 

@@ -1,5 +1,4 @@
-use Rattle.std.proofs.Common.{sym}
-use Rattle.sctp_outbound.proofs.lemmas.outbound_queue.Sendable.{partial_in_front}
+use Rattle.sctp_sender.proofs.Names.{sym, partial_in_front}
 use Rattle.sctp_sender.proofs.sender.flight.reports.partial_of.Goals as goal
 
 pub returns : goal.returns

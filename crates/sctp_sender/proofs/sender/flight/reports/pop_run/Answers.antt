@@ -1,6 +1,4 @@
-use Rattle.std.proofs.Common.{◌<◌, length, ap, ◌∙◌, arith, ◌+◌, ◌%◌, ◌^◌}
-use Rattle.sctp_outbound.specs.outbound_queue.OutboundQueue.{Outbound, with_inflight}
-use Rattle.sctp_outbound.specs.payload_queue.PayloadQueue.{without_front}
+use Rattle.sctp_sender.proofs.Names.{◌<◌, length, ap, ◌∙◌, arith, ◌+◌, ◌%◌, ◌^◌, Outbound, with_inflight, without_front}
 use Rattle.sctp_sender.proofs.Runs.{front-dropped}
 use Rattle.sctp_sender.proofs.sender.flight.reports.pop_run.Goals as goal
 

@@ -1,5 +1,4 @@
-use Rattle.std.proofs.Common.{◌≡◌, ◌+◌, drop}
-use Rattle.sctp_outbound.specs.outbound_queue.OutboundQueue.{with_inflight}
+use Rattle.sctp_sender.proofs.Names.{◌≡◌, ◌+◌, drop, with_inflight}
 use Rattle.sctp_sender.proofs.sender.flight.reports.pop_run.Given as goal
 
 abbrev pub invariant-loop-place : goal.invariant-loop-place

@@ -1,18 +1,8 @@
-use Rattle.std.proofs.Common.{◌≡◌, ℕ, suc, ◌+◌, ◌<◌, ◌≤◌, ◌%◌, ◌^◌, Bool, true, false, List, ◌++◌, length, take, drop, get_or, Some, inl, inr, refl, ap, sym}
-use Rattle.std.proofs.Common.{◌∙◌}
-use Rattle.std.proofs.Common.{arith}
-use Rattle.std.specs.Prelude.{if◌then◌else◌, ◌&&◌, ◌==◌, min, not, nat_lt, find}
-use Rattle.std.proofs.lemmas.Bool.{cases_lt}
-use Rattle.std.proofs.lemmas.List.{get_or_default}
-use Rattle.sctp_util.proofs.Cases.{by_last}
-use Rattle.sctp_data.specs.declared.chunk.chunk_payload_data.ChunkPayloadData.{ChunkPayloadData}
-use Rattle.sctp_data.specs.declared.chunk.chunk_selective_ack.GapAckBlock.{GapAckBlock}
-use Rattle.sctp_outbound.specs.payload_queue.Blocks.{is_in_block}
+use Rattle.sctp_sender.proofs.Names.{◌≡◌, ℕ, suc, ◌+◌, ◌<◌, ◌≤◌, ◌%◌, ◌^◌, Bool, true, false, List, ◌++◌, length, take, drop, get_or, Some, inl, inr, refl, ap}
+use Rattle.sctp_sender.proofs.Names.{sym, ◌∙◌, arith, if◌then◌else◌, ◌&&◌, ◌==◌, min, not, nat_lt, find, cases_lt, get_or_default, by_last, ChunkPayloadData}
+use Rattle.sctp_sender.proofs.Names.{GapAckBlock, is_in_block, change_where, has_tsn, Outbound, with_inflight, can_miss, is_third, missed}
 use Rattle.sctp_sender.proofs.Anew.{any-at, in-block, known-acked, none-between}
-use Rattle.sctp_util.specs.Lists.{change_where}
-use Rattle.sctp_serial.specs.DataChunks.{has_tsn}
-use Rattle.sctp_outbound.specs.outbound_queue.OutboundQueue.{Outbound, with_inflight}
-use Rattle.sctp_sender.specs.Resending.{can_miss, is_third, missed, missed_after}
+use Rattle.sctp_sender.specs.Resending.{missed_after}
 use Rattle.sctp_sender.proofs.Runs.{any_chunk}
 use Rattle.sctp_sender.proofs.KnownPlaces.{end-past}
 use Rattle.sctp_sender.proofs.Unmarked.{none-in-front}

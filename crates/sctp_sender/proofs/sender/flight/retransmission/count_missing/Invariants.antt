@@ -1,10 +1,5 @@
-use Rattle.std.proofs.Common.{◌≡◌, ℕ, ◌+◌, ◌-◌, ◌<◌, ◌≤◌, ◌++◌, false, length, take, drop}
-use Rattle.std.specs.Prelude.{slice_index_or}
-use Rattle.std.specs.List.{filter}
-use Rattle.sctp_util.specs.Lists.{change_where}
-use Rattle.sctp_data.specs.declared.chunk.chunk_payload_data.ChunkPayloadData.{ChunkPayloadData}
-use Rattle.sctp_outbound.specs.outbound_queue.OutboundQueue.{with_inflight}
-use Rattle.sctp_sender.specs.Resending.{can_miss, is_third, missed}
+use Rattle.sctp_sender.proofs.Names.{◌≡◌, ℕ, ◌+◌, ◌-◌, ◌<◌, ◌≤◌, ◌++◌, false, length, take, drop, slice_index_or, filter, change_where, ChunkPayloadData}
+use Rattle.sctp_sender.proofs.Names.{with_inflight, can_miss, is_third, missed}
 use Rattle.sctp_sender.proofs.sender.flight.retransmission.count_missing.Given as goal
 
 abbrev pub invariant-loop-place : goal.invariant-loop-place

@@ -1,5 +1,4 @@
-use Rattle.std.proofs.Common.{◌≡◌, ◌+◌, ◌-◌, length}
-use Rattle.sctp_sender.specs.Resending.{AreUnmarked}
+use Rattle.sctp_sender.proofs.Names.{◌≡◌, ◌+◌, ◌-◌, length, AreUnmarked}
 use Rattle.sctp_sender.proofs.sender.flight.retransmission.first_marked.Given as goal
 
 abbrev pub invariant-loop-place : goal.invariant-loop-place

@@ -1,11 +1,7 @@
-use Rattle.std.proofs.Common.{◌≡◌, ◌+◌, ◌==◌, true, ap, ◌∙◌, refl, sym, arith}
-use Rattle.std.specs.Prelude.{◌||◌}
-use Rattle.std.proofs.lemmas.Bool.{eq-eqb}
-use Rattle.sctp_util.specs.Lists.{change_where}
-use Rattle.sctp_data.specs.declared.chunk.chunk_payload_data.ChunkPayloadData.{ChunkPayloadData}
-use Rattle.sctp_outbound.specs.Marks.{with_miss_indicator, with_retransmit}
-use Rattle.sctp_outbound.specs.outbound_queue.OutboundQueue.{Outbound, with_inflight}
-use Rattle.sctp_serial.specs.DataChunks.{has_tsn}
+use Rattle.sctp_sender.proofs.Names.{◌≡◌, ◌+◌, true, ap, ◌∙◌, refl, sym, arith, ◌||◌, eq-eqb, change_where, ChunkPayloadData, with_retransmit, Outbound}
+use Rattle.sctp_sender.proofs.Names.{with_inflight, has_tsn}
+use Rattle.std.proofs.Common.{◌==◌}
+use Rattle.sctp_outbound.specs.Marks.{with_miss_indicator}
 use Rattle.sctp_sender.proofs.Walks.{changed-twice}
 use Rattle.sctp_sender.proofs.sender.flight.retransmission.note_missing.Goals as goal
 

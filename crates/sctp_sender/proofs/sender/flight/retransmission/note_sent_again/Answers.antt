@@ -1,9 +1,5 @@
-use Rattle.std.proofs.Common.{ap, ◌∙◌, refl, Some, false}
-use Rattle.sctp_util.specs.Lists.{change_where}
-use Rattle.sctp_data.specs.declared.chunk.chunk_payload_data.ChunkPayloadData.{ChunkPayloadData}
-use Rattle.sctp_outbound.specs.Marks.{with_nsent, with_retransmit, with_since}
-use Rattle.sctp_outbound.specs.outbound_queue.OutboundQueue.{Outbound, with_inflight}
-use Rattle.sctp_serial.specs.DataChunks.{has_tsn}
+use Rattle.sctp_sender.proofs.Names.{ap, ◌∙◌, refl, Some, false, change_where, ChunkPayloadData, with_nsent, with_retransmit, Outbound, with_inflight, has_tsn}
+use Rattle.sctp_outbound.specs.Marks.{with_since}
 use Rattle.sctp_sender.proofs.Walks.{changed-twice}
 use Rattle.sctp_sender.proofs.sender.flight.retransmission.note_sent_again.Goals as goal
 

@@ -1,6 +1,4 @@
-use Rattle.std.proofs.Common.{◌≡◌, ℕ, ◌+◌, ◌<◌, List, length, get_or, ap, sym, ◌∙◌, arith}
-use Rattle.std.proofs.lemmas.List.{get_or_default}
-use Rattle.sctp_data.specs.declared.chunk.chunk_selective_ack.GapAckBlock.{GapAckBlock}
+use Rattle.sctp_sender.proofs.Names.{◌≡◌, ℕ, ◌+◌, ◌<◌, List, length, get_or, ap, sym, ◌∙◌, arith, get_or_default, GapAckBlock}
 use Rattle.sctp_sender.proofs.Returns.{AreListed, IsAtRun, at-run, block-at, ended, looked-at, no_block, one-on, past-block, past-run, to-end, unreached}
 use Rattle.sctp_sender.proofs.WalkCosts.{block-paid, end-paid, look-cost, look-paid, none-paid, one-picked, run-paid}
 use Rattle.sctp_sender.proofs.sender.flight.returns.next_return.Goals.{then-at-blocks+else-count-block+else-count-block-2, else-at-blocks}

@@ -1,13 +1,7 @@
-use Rattle.std.proofs.Common.{length, ◌≡◌, ℕ, suc, ◌+◌, ◌-◌, ◌*◌, ◌≤◌, ◌++◌, Bool, List, [], Option, take, get_or, Some, None, inl, inr, refl, ap, sym, subst, ◌∙◌, arith}
+use Rattle.sctp_sender.proofs.Names.{length, ◌≡◌, ℕ, suc, ◌+◌, ◌-◌, ◌*◌, ◌≤◌, ◌++◌, Bool, List, [], Option, take, get_or, Some, None, inl, inr, refl, ap, sym}
+use Rattle.sctp_sender.proofs.Names.{subst, ◌∙◌, arith, count_by, cases_lt, ChunkPayloadData, GapAckBlock, is_in_blocks, PlacedData, PicksLeftOut, placed}
+use Rattle.sctp_sender.proofs.Names.{return_at}
 use Rattle.std.specs.Prelude.{false}
-use Rattle.std.specs.List.{count_by}
-use Rattle.std.proofs.lemmas.Bool.{cases_lt}
-use Rattle.sctp_data.specs.declared.chunk.chunk_payload_data.ChunkPayloadData.{ChunkPayloadData}
-use Rattle.sctp_data.specs.declared.chunk.chunk_selective_ack.GapAckBlock.{GapAckBlock}
-use Rattle.sctp_outbound.specs.payload_queue.Blocks.{is_in_blocks}
-use Rattle.sctp_sender.specs.declared.sender.flight.returns.PlacedData.{PlacedData}
-use Rattle.sctp_sender.specs.Costs.{PicksLeftOut}
-use Rattle.sctp_sender.specs.Keeping.{placed, return_at}
 use Rattle.sctp_sender.proofs.Counts.{count-in}
 use Rattle.sctp_sender.proofs.Placed.{one, placed-end, placed-more, placed-same, placed-some}
 use Rattle.sctp_sender.proofs.Tells.{untold-on}

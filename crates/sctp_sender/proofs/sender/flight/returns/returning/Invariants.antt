@@ -1,9 +1,6 @@
-use Rattle.std.proofs.Common.{◌≡◌, ◌≤◌, ◌+◌, ◌*◌, ◌-◌, ◌^◌, ℕ, Bool, List, length, take}
-use Rattle.std.specs.Prelude.{Option, None, slice_index_or}
-use Rattle.std.specs.List.{count_by}
-use Rattle.sctp_data.specs.declared.chunk.chunk_payload_data.ChunkPayloadData.{ChunkPayloadData}
-use Rattle.sctp_sender.specs.Costs.{PicksLeftOut}
-use Rattle.sctp_sender.specs.Keeping.{ArePassed, placed, return_at}
+use Rattle.sctp_sender.proofs.Names.{◌≡◌, ◌≤◌, ◌+◌, ◌*◌, ◌-◌, ◌^◌, ℕ, Bool, List, length, take, slice_index_or, count_by, ChunkPayloadData, PicksLeftOut}
+use Rattle.sctp_sender.proofs.Names.{ArePassed, placed, return_at}
+use Rattle.std.specs.Prelude.{Option, None}
 use Rattle.sctp_sender.proofs.sender.flight.returns.returning.Given as goal
 
 abbrev pub invariant-loop-at : goal.invariant-loop-at

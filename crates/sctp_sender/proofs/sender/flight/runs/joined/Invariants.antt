@@ -1,6 +1,4 @@
-use Rattle.std.proofs.Common.{suc, ◌+◌, ◌-◌, ◌≤◌, length}
-use Rattle.std.specs.Prelude.{◌||◌}
-use Rattle.sctp_outbound.specs.payload_queue.Blocks.{is_in_blocks}
+use Rattle.sctp_sender.proofs.Names.{suc, ◌+◌, ◌-◌, ◌≤◌, length, ◌||◌, is_in_blocks}
 use Rattle.sctp_sender.proofs.Listing.{NoneFrom, Swept}
 use Rattle.sctp_sender.proofs.sender.flight.runs.joined.Given as goal
 

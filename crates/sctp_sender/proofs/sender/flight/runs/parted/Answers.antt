@@ -1,5 +1,4 @@
-use Rattle.std.proofs.Common.{◌<◌, ◌≤◌, length, get_or, inl, inr, arith}
-use Rattle.std.proofs.lemmas.Bool.{cases_lt}
+use Rattle.sctp_sender.proofs.Names.{◌<◌, ◌≤◌, length, get_or, inl, inr, arith, cases_lt}
 use Rattle.sctp_sender.proofs.Listing.{IsStart, any_place, behind, left-to-end, left-to-place, none-on, none-past, swept-on, there-taken}
 use Rattle.sctp_sender.proofs.Returns.{no_block}
 use Rattle.sctp_sender.proofs.sender.flight.runs.parted.Goals as goal

@@ -1,8 +1,4 @@
-use Rattle.std.proofs.Common.{◌≡◌, ℕ, suc, ◌+◌, ◌-◌, ◌≤◌, false, length, take}
-use Rattle.std.specs.Prelude.{◌&&◌, not}
-use Rattle.std.specs.List.{list_any}
-use Rattle.sctp_outbound.specs.payload_queue.Blocks.{is_in_blocks}
-use Rattle.sctp_sender.specs.Keeping.{is_at}
+use Rattle.sctp_sender.proofs.Names.{◌≡◌, ℕ, suc, ◌+◌, ◌-◌, ◌≤◌, false, length, take, ◌&&◌, not, list_any, is_in_blocks, is_at}
 use Rattle.sctp_sender.proofs.Listing.{NoneFrom, Swept}
 use Rattle.sctp_sender.proofs.sender.flight.runs.parted.Given as goal
 

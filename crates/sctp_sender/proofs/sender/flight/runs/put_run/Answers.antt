@@ -1,7 +1,4 @@
-use Rattle.std.proofs.Common.{◌++◌, ◌∷◌, [], List, ap, ◌∙◌, arith}
-use Rattle.sctp_data.specs.declared.chunk.chunk_selective_ack.GapAckBlock.{GapAckBlock}
-use Rattle.sctp_outbound.specs.payload_queue.Blocks.{is_in_blocks}
-use Rattle.sctp_sender.specs.Reporting.{ascends_from}
+use Rattle.sctp_sender.proofs.Names.{◌++◌, ◌∷◌, [], List, ap, ◌∙◌, arith, GapAckBlock, is_in_blocks, ascends_from}
 use Rattle.sctp_sender.proofs.Anew.{in-more, one-more-block}
 use Rattle.sctp_sender.proofs.sender.flight.runs.put_run.Goals as goal
 

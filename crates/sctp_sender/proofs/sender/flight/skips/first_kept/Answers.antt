@@ -1,7 +1,4 @@
-use Rattle.std.proofs.Common.{true, false, ap, sym, ◌∙◌}
-use Rattle.std.specs.Prelude.{not, option_map}
-use Rattle.sctp_data.specs.declared.chunk.chunk_payload_data.ChunkPayloadData.{ChunkPayloadData}
-use Rattle.sctp_sender.specs.Abandonment.{is_kept}
+use Rattle.sctp_sender.proofs.Names.{true, false, ap, sym, ◌∙◌, not, option_map, ChunkPayloadData, is_kept}
 use Rattle.sctp_sender.proofs.Walks.{find-step}
 use Rattle.sctp_sender.proofs.sender.flight.skips.first_kept.Goals as goal
 

@@ -1,6 +1,4 @@
-use Rattle.std.proofs.Common.{◌≡◌, drop}
-use Rattle.std.specs.Prelude.{find}
-use Rattle.sctp_sender.specs.Abandonment.{is_kept}
+use Rattle.sctp_sender.proofs.Names.{◌≡◌, drop, find, is_kept}
 use Rattle.sctp_sender.proofs.sender.flight.skips.first_kept.Given as goal
 
 abbrev pub invariant-loop-place : goal.invariant-loop-place

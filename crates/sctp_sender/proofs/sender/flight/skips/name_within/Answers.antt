@@ -1,7 +1,5 @@
-use Rattle.std.proofs.Common.{◌++◌, ◌∷◌, [], List, subst, sym, refl}
-use Rattle.sctp_data.specs.declared.chunk.chunk_forward_tsn.ChunkForwardTsnStream.{ChunkForwardTsnStream}
-use Rattle.sctp_sender.specs.Abandonment.{Name}
-use Rattle.sctp_sender.proofs.Names.{renamed, added}
+use Rattle.sctp_sender.proofs.Names.{◌++◌, ◌∷◌, [], List, subst, sym, refl, ChunkForwardTsnStream, Name}
+use Rattle.sctp_sender.proofs.NamedStreams.{renamed, added}
 use Rattle.sctp_sender.proofs.sender.flight.skips.name_within.Goals as goal
 
 pub returns-in-Some-clause-named : goal.returns-in-Some-clause-named

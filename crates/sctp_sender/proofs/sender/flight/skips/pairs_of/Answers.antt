@@ -1,8 +1,4 @@
-use Rattle.std.proofs.Common.{◌≡◌, true, false, List, take, sym, subst, ◌∙◌}
-use Rattle.std.proofs.lemmas.List.{append-nil}
-use Rattle.std.specs.List.{filter}
-use Rattle.sctp_data.specs.declared.chunk.chunk_payload_data.ChunkPayloadData.{ChunkPayloadData}
-use Rattle.sctp_sender.specs.Abandonment.{Name, is_named}
+use Rattle.sctp_sender.proofs.Names.{◌≡◌, true, false, List, take, sym, subst, ◌∙◌, append-nil, filter, ChunkPayloadData, Name, is_named}
 use Rattle.sctp_sender.proofs.Points.{more-named}
 use Rattle.sctp_sender.proofs.sender.flight.skips.pairs_of.Goals as goal
 

@@ -1,9 +1,6 @@
-use Rattle.std.proofs.Common.{◌≡◌, ℕ, ◌+◌, ◌-◌, ◌<◌, ◌≤◌, ◌⊎◌, true, List, length, get_or, take, inl, inr, subst, sym, ◌∙◌, arith}
-use Rattle.std.specs.List.{filter}
-use Rattle.std.proofs.lemmas.Bool.{cases_lt, false≢true}
-use Rattle.sctp_data.specs.declared.chunk.chunk_payload_data.ChunkPayloadData.{ChunkPayloadData}
-use Rattle.sctp_outbound.specs.pending_queue.Whole.{ends}
-use Rattle.sctp_sender.specs.Abandonment.{IsLastEnd, IsMore, is_named}
+use Rattle.sctp_sender.proofs.Names.{◌≡◌, ℕ, ◌+◌, ◌-◌, ◌<◌, ◌≤◌, true, List, length, get_or, take, inl, inr, subst, sym, ◌∙◌, arith, filter, cases_lt}
+use Rattle.sctp_sender.proofs.Names.{false≢true, ChunkPayloadData, ends, IsLastEnd, IsMore, is_named}
+use Rattle.std.proofs.Common.{◌⊎◌}
 use Rattle.sctp_sender.proofs.Ends.{is-more}
 use Rattle.sctp_sender.proofs.sender.flight.skips.pairs_to_end.Goals as goal
 

@@ -1,8 +1,4 @@
-use Rattle.std.proofs.Common.{◌≡◌, ℕ, ◌-◌, ◌<◌, ◌≤◌, true, get_or, take}
-use Rattle.std.specs.List.{filter}
-use Rattle.sctp_data.specs.declared.chunk.chunk_payload_data.ChunkPayloadData.{ChunkPayloadData}
-use Rattle.sctp_outbound.specs.pending_queue.Whole.{ends}
-use Rattle.sctp_sender.specs.Abandonment.{IsMore, is_named}
+use Rattle.sctp_sender.proofs.Names.{◌≡◌, ℕ, ◌-◌, ◌<◌, ◌≤◌, true, get_or, take, filter, ChunkPayloadData, ends, IsMore, is_named}
 use Rattle.sctp_sender.proofs.sender.flight.skips.pairs_to_end.Given as goal
 
 abbrev pub invariant-loop-count : goal.invariant-loop-count

@@ -1,9 +1,6 @@
-use Rattle.std.proofs.Common.{◌≡◌, ◌++◌, ◌∷◌, [], true, false, List, length-append, take, inr, sym, subst, ◌∙◌, arith}
-use Rattle.std.proofs.lemmas.List.{append-nil}
-use Rattle.std.specs.List.{filter}
-use Rattle.sctp_data.specs.declared.chunk.chunk_payload_data.ChunkPayloadData.{ChunkPayloadData}
-use Rattle.sctp_sender.specs.Abandonment.{Name, is_named, pair_of}
-use Rattle.sctp_sender.proofs.Names.{added}
+use Rattle.sctp_sender.proofs.Names.{◌≡◌, ◌++◌, ◌∷◌, [], true, false, List, length-append, take, inr, sym, subst, ◌∙◌, arith, append-nil, filter}
+use Rattle.sctp_sender.proofs.Names.{ChunkPayloadData, Name, is_named, pair_of}
+use Rattle.sctp_sender.proofs.NamedStreams.{added}
 use Rattle.sctp_sender.proofs.Points.{more-named}
 use Rattle.sctp_sender.proofs.sender.flight.skips.pairs_within.Goals as goal
 

@@ -1,6 +1,4 @@
-use Rattle.std.proofs.Common.{◌≤◌, length, take}
-use Rattle.std.specs.List.{filter}
-use Rattle.sctp_sender.specs.Abandonment.{Name, is_named}
+use Rattle.sctp_sender.proofs.Names.{◌≤◌, length, take, filter, Name, is_named}
 use Rattle.sctp_sender.proofs.sender.flight.skips.pairs_within.Given as goal
 
 abbrev pub invariant-loop-place : goal.invariant-loop-place

@@ -1,7 +1,5 @@
-use Rattle.std.proofs.Common.{◌≡◌, ◌-◌, get_or, inl, inr, ap, sym, ◌∙◌, arith}
-use Rattle.std.proofs.lemmas.Bool.{cases_lt}
-use Rattle.sctp_outbound.specs.pending_queue.Whole.{ends}
-use Rattle.sctp_sender.proofs.Names.{any-default}
+use Rattle.sctp_sender.proofs.Names.{◌≡◌, ◌-◌, get_or, inl, inr, ap, sym, ◌∙◌, arith, cases_lt, ends}
+use Rattle.sctp_sender.proofs.NamedStreams.{any-default}
 use Rattle.sctp_sender.proofs.Walks.{read-of}
 use Rattle.sctp_sender.proofs.sender.flight.skips.up_to_end.Goals as goal
 

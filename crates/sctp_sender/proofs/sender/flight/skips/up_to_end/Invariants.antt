@@ -1,6 +1,4 @@
-use Rattle.std.proofs.Common.{◌≡◌, ℕ, ◌-◌, ◌<◌, ◌≤◌, false, get_or}
-use Rattle.sctp_data.specs.declared.chunk.chunk_payload_data.ChunkPayloadData.{ChunkPayloadData}
-use Rattle.sctp_outbound.specs.pending_queue.Whole.{ends}
+use Rattle.sctp_sender.proofs.Names.{◌≡◌, ℕ, ◌-◌, ◌<◌, ◌≤◌, false, get_or, ChunkPayloadData, ends}
 use Rattle.sctp_sender.proofs.sender.flight.skips.up_to_end.Given as goal
 
 abbrev pub invariant-loop-end : goal.invariant-loop-end

@@ -1,6 +1,5 @@
-use Rattle.std.proofs.Common.{rules, ap, ◌∙◌, sym}
-use Rattle.sctp_sender.specs.Outgoing.{number, numbers_of}
-use Rattle.sctp_stream.proofs.StreamPlaces.{absent-those, inside, without, numbers-without}
+use Rattle.sctp_sender.proofs.Names.{rules, ap, ◌∙◌, sym, number, numbers_of, inside}
+use Rattle.sctp_stream.proofs.StreamPlaces.{absent-those, without, numbers-without}
 use Rattle.sctp_sender.proofs.sender.outbound_streams.OutboundStreams.close.Goals as goal
 
 pub returns-in_default : goal.returns-in_default

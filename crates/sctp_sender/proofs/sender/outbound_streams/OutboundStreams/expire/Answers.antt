@@ -1,7 +1,4 @@
-use Rattle.std.proofs.Common.{rules, ap, sym, ◌∙◌}
-use Rattle.sctp_sender.specs.Outgoing.{number, after_expiries}
-use Rattle.sctp_sender.specs.Thresholds.{falls_in}
-use Rattle.sctp_stream.proofs.StreamPlaces.{absent-change, absent-find, inside, changed, found, numbers-stay}
+use Rattle.sctp_sender.proofs.Names.{rules, ap, sym, ◌∙◌, number, after_expiries, falls_in, absent-change, absent-find, inside, changed, found, numbers-stay}
 use Rattle.sctp_sender.proofs.Lows.{expiry-number}
 use Rattle.sctp_sender.proofs.sender.outbound_streams.OutboundStreams.expire.Goals as goal
 

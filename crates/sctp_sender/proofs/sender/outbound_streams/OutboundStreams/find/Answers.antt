@@ -1,6 +1,4 @@
-use Rattle.std.proofs.Common.{rules, sym}
-use Rattle.sctp_sender.specs.Outgoing.{number}
-use Rattle.sctp_stream.proofs.StreamPlaces.{absent-find, inside, found}
+use Rattle.sctp_sender.proofs.Names.{rules, sym, number, absent-find, inside, found}
 use Rattle.sctp_sender.proofs.sender.outbound_streams.OutboundStreams.find.Goals as goal
 
 pub returns-in_default : goal.returns-in_default

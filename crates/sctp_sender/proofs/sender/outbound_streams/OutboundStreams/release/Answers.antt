@@ -1,7 +1,4 @@
-use Rattle.std.proofs.Common.{rules, ap, sym, ◌∙◌}
-use Rattle.sctp_sender.specs.Outgoing.{number, less_by}
-use Rattle.sctp_sender.specs.Thresholds.{falls_in}
-use Rattle.sctp_stream.proofs.StreamPlaces.{absent-change, absent-find, inside, changed, found, numbers-stay}
+use Rattle.sctp_sender.proofs.Names.{rules, ap, sym, ◌∙◌, number, less_by, falls_in, absent-change, absent-find, inside, changed, found, numbers-stay}
 use Rattle.sctp_sender.proofs.sender.outbound_streams.OutboundStreams.release.Goals as goal
 
 pub returns-in_default-clause-low : goal.returns-in_default-clause-low

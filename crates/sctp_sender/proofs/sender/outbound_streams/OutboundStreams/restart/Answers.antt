@@ -1,6 +1,5 @@
-use Rattle.std.proofs.Common.{rules, ap}
-use Rattle.sctp_sender.specs.Outgoing.{number, from_first}
-use Rattle.sctp_stream.proofs.StreamPlaces.{absent-change, changed, inside, numbers-stay}
+use Rattle.sctp_sender.proofs.Names.{rules, ap, number, absent-change, changed, inside, numbers-stay}
+use Rattle.sctp_sender.specs.Outgoing.{from_first}
 use Rattle.sctp_sender.proofs.sender.outbound_streams.OutboundStreams.restart.Goals as goal
 
 pub returns-in_default : goal.returns-in_default

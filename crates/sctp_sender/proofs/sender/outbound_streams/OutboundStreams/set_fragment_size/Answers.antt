@@ -1,6 +1,4 @@
-use Rattle.std.proofs.Common.{ap, sym, ◌∙◌}
-use Rattle.sctp_util.proofs.Getting.{map-twice}
-use Rattle.sctp_sender.specs.Outgoing.{number, numbers_of, with_size}
+use Rattle.sctp_sender.proofs.Names.{ap, sym, ◌∙◌, map-twice, number, numbers_of, with_size}
 use Rattle.sctp_sender.proofs.sender.outbound_streams.OutboundStreams.set_fragment_size.Goals as goal
 
 pub invariant_of-self : goal.invariant_of-self

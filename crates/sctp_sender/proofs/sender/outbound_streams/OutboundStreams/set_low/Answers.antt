@@ -1,6 +1,5 @@
-use Rattle.std.proofs.Common.{rules, ap}
-use Rattle.sctp_sender.specs.Outgoing.{number, with_low}
-use Rattle.sctp_stream.proofs.StreamPlaces.{absent-change, changed, inside, numbers-stay}
+use Rattle.sctp_sender.proofs.Names.{rules, ap, number, absent-change, changed, inside, numbers-stay}
+use Rattle.sctp_sender.specs.Outgoing.{with_low}
 use Rattle.sctp_sender.proofs.sender.outbound_streams.OutboundStreams.set_low.Goals as goal
 
 pub returns-in_default : goal.returns-in_default

@@ -1,6 +1,5 @@
-use Rattle.std.proofs.Common.{rules}
-use Rattle.sctp_sender.specs.Outgoing.{number, wrote}
-use Rattle.sctp_stream.proofs.StreamPlaces.{absent-change, changed, inside, numbers-stay}
+use Rattle.sctp_sender.proofs.Names.{rules, number, absent-change, changed, inside, numbers-stay}
+use Rattle.sctp_sender.specs.Outgoing.{wrote}
 use Rattle.sctp_sender.proofs.sender.outbound_streams.OutboundStreams.wrote.Goals as goal
 
 pub returns-in_default : goal.returns-in_default

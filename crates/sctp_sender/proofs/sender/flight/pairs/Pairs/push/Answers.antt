@@ -1,7 +1,4 @@
-use Rattle.std.proofs.Common.{List, sym, subst, length}
-use Rattle.sctp_data.specs.declared.chunk.chunk_forward_tsn.ChunkForwardTsnStream.{ChunkForwardTsnStream}
-use Rattle.sctp_stream.specs.Numbers.{IsAbsent}
-use Rattle.sctp_sender.specs.Abandonment.{IsNoPair}
+use Rattle.sctp_sender.proofs.Names.{List, sym, subst, length, ChunkForwardTsnStream, IsAbsent, IsNoPair}
 use Rattle.sctp_sender.proofs.Pairs.{absent}
 use Rattle.sctp_sender.proofs.sender.flight.pairs.Pairs.push.Goals as goal
 

@@ -1,6 +1,4 @@
-use Rattle.std.proofs.Common.{List, sym, subst, ◌∙◌}
-use Rattle.sctp_data.specs.declared.chunk.chunk_forward_tsn.ChunkForwardTsnStream.{ChunkForwardTsnStream}
-use Rattle.sctp_sender.specs.Abandonment.{IsFirstPair}
+use Rattle.sctp_sender.proofs.Names.{List, sym, subst, ◌∙◌, ChunkForwardTsnStream, IsFirstPair}
 use Rattle.sctp_sender.proofs.Pairs.{same-streams}
 use Rattle.sctp_sender.proofs.sender.flight.pairs.Pairs.set.Goals as goal
 
