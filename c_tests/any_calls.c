@@ -176,11 +176,14 @@ static void read_reconfig(const uint8_t *bytes, size_t length) {
     size_t count = 7, room = any(5);
     struct sctpr_reset reset;
     struct sctpr_response response;
+    struct sctpr_add_streams add;
     uint32_t number = 7;
     uint16_t *streams = lend(room * sizeof *streams);
     int is_request = sctpr_read_request(bytes, length, &number) == SCTPR_OK;
     int is_reset = sctpr_read_reset(bytes, length, &reset, streams, room, &count) == SCTPR_OK;
     int is_response = sctpr_read_response(bytes, length, &response) == SCTPR_OK;
+    int is_added = sctpr_read_add_streams(bytes, length, &add) == SCTPR_OK;
+    HOLDS(!is_added || (is_request && !is_reset && add.request == number && add.is_incoming <= 1));
     HOLDS(is_request ? length >= 8 && !is_response : number == 7);
     HOLDS(is_reset ? is_request && reset.request == number && 16 + 2 * count <= length : count == 7);
     take_back(streams, (!is_reset ? 0 : count < room ? count : room) * sizeof *streams, room * sizeof *streams);

@@ -114,6 +114,15 @@ void reconfig() {
     CHECK(reset && reset->request == 1 && reset->response == 2 && reset->last_tsn == 3 && count == 1 && streams[0] == 4);
     auto number = sctpr::read_request(bytes_of("\0\x11\0\x0c\0\0\0\7\0\1\0\0", 12));
     CHECK(number && *number == 7);
+    const std::array<std::uint16_t, 1> five{ 5 };
+    CHECK(*sctpr::write_incoming_reset(7, five, out) == 12 && out[1] == 14 && out[3] == 10 && out[9] == 5);
+    auto asked = sctpr::read_incoming_reset(sctpr::bytes(out).first(12), streams, count);
+    CHECK(asked && *asked == 7 && count == 1 && streams[0] == 5);
+    CHECK(*sctpr::write_add_streams({ 8, 3, 1 }, out) == 12 && out[1] == 18);
+    auto add = sctpr::read_add_streams(sctpr::bytes(out).first(12));
+    CHECK(add && add->request == 8 && add->count == 3 && add->is_incoming == 1);
+    CHECK(*sctpr::write_ssn_tsn_reset(9, out) == 8 && out[1] == 15 && out[7] == 9);
+    CHECK(is_refused(sctpr::write_reset({ 1, 2, 3 }, five, out), sctpr::code::short_buffer));
     auto param = sctpr::read_any_param(bytes_of("\0\5\0\x08\xc0\0\2\1", 8));
     CHECK(param && param->type == 5 && param->length == 4 && param->next == 8);
     CHECK(is_refused(sctpr::write_chunk(SCTPR_COOKIE_ACK, bytes_of("a", 1), out), sctpr::code::not_as_given));

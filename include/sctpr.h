@@ -188,7 +188,8 @@ enum {
     SCTPR_ERR_PARAM_TYPE_UNEXPECTED = 83,
     /* The value of an Outgoing SSN Reset Request has under 12 bytes (RFC 6525 4.1), or that of a request has no number. */
     SCTPR_ERR_SSN_RESET_REQUEST_PARAM_TOO_SHORT = 84,
-    /* The value of an Outgoing SSN Reset Request has 12 bytes or more, an odd number of them (RFC 6525 4.1). */
+    /* The value of an Outgoing SSN Reset Request has 12 bytes or more, an odd number of them (RFC 6525 4.1), or that of another request
+     * has another length than its type gives it (4.2, 4.3, 4.5, 4.6). */
     SCTPR_ERR_SSN_RESET_REQUEST_PARAM_INVALID_LENGTH = 85,
     /* The value of a Re-configuration Response has under eight bytes (RFC 6525 4.4). */
     SCTPR_ERR_RECONFIG_RESP_PARAM_TOO_SHORT = 86,
@@ -412,6 +413,19 @@ struct sctpr_reset {
 };
 sctpr_code sctpr_read_reset(const uint8_t *bytes, size_t length, struct sctpr_reset *reset, uint16_t *streams, size_t room, size_t *count);
 
+/* An Incoming SSN Reset Request, by which its sender asks for a reset of streams that come to it: `number` becomes its number. Streams are
+ * as above (4.2). An SSN/TSN Reset Request (4.3) has a number alone: sctpr_read_request. */
+sctpr_code sctpr_read_incoming_reset(const uint8_t *bytes, size_t length, uint32_t *number, uint16_t *streams, size_t room, size_t *count);
+
+/* An Add Outgoing Streams Request, or where `is_incoming` is not 0 an Add Incoming Streams Request: its number, and how many new streams
+ * its sender wants to send on, or to receive on (4.5, 4.6). */
+struct sctpr_add_streams {
+    uint32_t request;
+    uint16_t count;
+    uint8_t is_incoming;
+};
+sctpr_code sctpr_read_add_streams(const uint8_t *bytes, size_t length, struct sctpr_add_streams *add);
+
 /* A Re-configuration Response: the number of the request that it answers, and the result (4.4). */
 enum {
     SCTPR_RESULT_NOTHING_TO_DO = 0,
@@ -447,7 +461,9 @@ sctpr_code sctpr_read_cause(const uint8_t *bytes, size_t length, struct sctpr_ca
 /* A chunk of a type and a value, its flags 0, of any type that is read (RFC 4960 3.2, 3.3). It is read before it is written, so that no
  * chunk comes out that a reader refuses: else the reader's error. SCTPR_NOT_AS_GIVEN, where what is read has another value: bytes behind
  * its end, a payload type or a result of a RE-CONFIG that has no name here. The padding of the last item may stand in the value; the
- * chunk's length does not count it. SCTPR_LENGTH_TOO_LARGE of more than 65,531 bytes. SCTPR_NO_MEMORY. */
+ * chunk's length does not count it. A RE-CONFIG with a request of the types 14, 15, 17 and 18 is written, though sctpr_read_packet refuses
+ * it: with one of them, with 13 before 14, or with 17 before 18 (RFC 6525 3.1). SCTPR_LENGTH_TOO_LARGE of more than 65,531 bytes.
+ * SCTPR_NO_MEMORY. */
 sctpr_code sctpr_write_chunk(uint8_t type, const uint8_t *value, size_t length, uint8_t *out, size_t room, size_t *written);
 
 /* The same with flags, as they are given: SCTPR_FLAG_T, and those of DATA (3.3.1). */
@@ -458,8 +474,18 @@ sctpr_code sctpr_write_chunk_with_flags(uint8_t type, uint8_t flags, const uint8
 sctpr_code sctpr_write_init(const struct sctpr_init *init, const uint8_t *params, size_t length, uint8_t *out, size_t room,
                             size_t *written);
 
-/* A parameter (RFC 4960 3.2.1). Refuses as sctpr_write_chunk. */
+/* A parameter (RFC 4960 3.2.1). Refuses as sctpr_write_chunk; a request of the types 14, 15, 17 and 18 whose value has another length than
+ * RFC 6525 4 gives it with SCTPR_ERR_SSN_RESET_REQUEST_PARAM_INVALID_LENGTH. */
 sctpr_code sctpr_write_param(uint16_t type, const uint8_t *value, size_t length, uint8_t *out, size_t room, size_t *written);
+
+/* The requests of a RE-CONFIG from their words, with their padding: each is a parameter, which sctpr_write_chunk takes (RFC 6525 4.1, 4.2,
+ * 4.3, 4.5, 4.6). With no stream a reset is one of all. SCTPR_LENGTH_TOO_LARGE of more than 32,759 streams, of the second call 32,763;
+ * SCTPR_NO_MEMORY. The last two take no memory, and write 8 and 12 bytes. */
+sctpr_code sctpr_write_reset(const struct sctpr_reset *reset, const uint16_t *streams, size_t count, uint8_t *out, size_t room,
+                             size_t *written);
+sctpr_code sctpr_write_incoming_reset(uint32_t request, const uint16_t *streams, size_t count, uint8_t *out, size_t room, size_t *written);
+sctpr_code sctpr_write_ssn_tsn_reset(uint32_t request, uint8_t *out, size_t room, size_t *written);
+sctpr_code sctpr_write_add_streams(const struct sctpr_add_streams *add, uint8_t *out, size_t room, size_t *written);
 
 /* A Re-configuration Response with no TSNs (RFC 6525 4.4): 12 bytes, a parameter of a RE-CONFIG. It takes no memory. */
 sctpr_code sctpr_write_response(const struct sctpr_response *response, uint8_t *out, size_t room, size_t *written);

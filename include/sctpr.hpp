@@ -167,7 +167,7 @@ enum class code : sctpr_code {
     err_param_type_unexpected = SCTPR_ERR_PARAM_TYPE_UNEXPECTED,
     /** The value of an Outgoing SSN Reset Request has under 12 bytes (RFC 6525 4.1), or that of a request has no number. */
     err_ssn_reset_request_param_too_short = SCTPR_ERR_SSN_RESET_REQUEST_PARAM_TOO_SHORT,
-    /** The value of an Outgoing SSN Reset Request has 12 bytes or more, an odd number of them (RFC 6525 4.1). */
+    /** The value of an Outgoing SSN Reset Request has 12 bytes or more, an odd number of them (RFC 6525 4.1), or that of another request has another length than its type gives it (4.2, 4.3, 4.5, 4.6). */
     err_ssn_reset_request_param_invalid_length = SCTPR_ERR_SSN_RESET_REQUEST_PARAM_INVALID_LENGTH,
     /** The value of a Re-configuration Response has under eight bytes (RFC 6525 4.4). */
     err_reconfig_resp_param_too_short = SCTPR_ERR_RECONFIG_RESP_PARAM_TOO_SHORT,
@@ -248,6 +248,7 @@ using param = sctpr_param;
 using cause = sctpr_cause;
 using reset = sctpr_reset;
 using response = sctpr_response;
+using add_streams = sctpr_add_streams;
 using in_flight = sctpr_in_flight;
 using outstanding_row = sctpr_outstanding;
 using acked = sctpr_acked;
@@ -413,6 +414,19 @@ inline result<reset> read_reset(bytes all, std::span<std::uint16_t> streams, std
     return detail::value_of(sctpr_read_reset(all.data(), all.size(), &r, streams.data(), streams.size(), &count), r);
 }
 
+/** The number of an Incoming SSN Reset Request; streams are as above. */
+inline result<std::uint32_t> read_incoming_reset(bytes all, std::span<std::uint16_t> streams, std::size_t &count) {
+    std::uint32_t number = 0;
+    sctpr_code c = sctpr_read_incoming_reset(all.data(), all.size(), &number, streams.data(), streams.size(), &count);
+    return detail::value_of(c, number);
+}
+
+/** A request to add outgoing or incoming streams. */
+inline result<add_streams> read_add_streams(bytes all) {
+    add_streams a{};
+    return detail::value_of(sctpr_read_add_streams(all.data(), all.size(), &a), a);
+}
+
 /** A Re-configuration Response. */
 inline result<response> read_response(bytes all) {
     response r{};
@@ -443,6 +457,27 @@ inline result<std::size_t> write_param(std::uint16_t type, bytes value, buffer o
     return detail::value_of(c, n, n);
 }
 
+/** The requests of a RE-CONFIG; with no stream a reset is one of all. */
+inline result<std::size_t> write_reset(const reset &r, std::span<const std::uint16_t> streams, buffer out) {
+    std::size_t n = 0;
+    sctpr_code c = sctpr_write_reset(&r, streams.data(), streams.size(), out.data(), out.size(), &n);
+    return detail::value_of(c, n, n);
+}
+inline result<std::size_t> write_incoming_reset(std::uint32_t request, std::span<const std::uint16_t> streams, buffer out) {
+    std::size_t n = 0;
+    sctpr_code c = sctpr_write_incoming_reset(request, streams.data(), streams.size(), out.data(), out.size(), &n);
+    return detail::value_of(c, n, n);
+}
+inline result<std::size_t> write_ssn_tsn_reset(std::uint32_t request, buffer out) {
+    std::size_t n = 0;
+    sctpr_code c = sctpr_write_ssn_tsn_reset(request, out.data(), out.size(), &n);
+    return detail::value_of(c, n, n);
+}
+inline result<std::size_t> write_add_streams(const add_streams &a, buffer out) {
+    std::size_t n = 0;
+    sctpr_code c = sctpr_write_add_streams(&a, out.data(), out.size(), &n);
+    return detail::value_of(c, n, n);
+}
 inline result<std::size_t> write_response(const response &r, buffer out) {
     std::size_t n = 0;
     sctpr_code c = sctpr_write_response(&r, out.data(), out.size(), &n);

@@ -1,5 +1,5 @@
 /* usrsctp and an endpoint over sctpr.h reset streams and add some (RFC 6525), each side of its own accord and where the other asks for it, over
- * a network in memory that loses, repeats, delays and damages datagrams.
+ * a network in memory that loses, repeats, delays and damages datagrams. Requests that the endpoint does not follow are denied.
  *
  *     reconfig [seed]
  *
@@ -72,7 +72,7 @@ static void set_up_usrsctp(void) {
     struct sockaddr_conn address = { .sconn_family = AF_CONN, .sconn_port = htons(5000), .sconn_addr = &network };
     struct sockaddr_conn peer = { .sconn_family = AF_CONN, .sconn_port = htons(5001), .sconn_addr = &network };
     struct sctp_initmsg init = { .sinit_num_ostreams = STREAMS, .sinit_max_instreams = 100 };
-    struct sctp_assoc_value resets = { SCTP_FUTURE_ASSOC, SCTP_ENABLE_RESET_STREAM_REQ | SCTP_ENABLE_CHANGE_ASSOC_REQ };
+    struct sctp_assoc_value resets = { SCTP_FUTURE_ASSOC, SCTP_ENABLE_RESET_STREAM_REQ | SCTP_ENABLE_RESET_ASSOC_REQ | SCTP_ENABLE_CHANGE_ASSOC_REQ };
     int on = 1;
     usrsctp_init_nothreads(0, their_output, NULL);
     usrsctp_sysctl_set_sctp_ecn_enable(0);
@@ -209,10 +209,40 @@ static void they_add(uint16_t count) {
     if (endpoint.incoming != STREAMS + (uint32_t)count) fault("streams that usrsctp adds");
 }
 
+/* What usrsctp asked for is denied, and not asked for any more. */
+static void await_denial(uint64_t before) {
+    uint64_t denied = before;
+    for (int i = 0; i < 500; i++) {
+        if (i == 400) denied = endpoint.counts.requests_denied;
+        one_tick();
+    }
+    if (denied == before || endpoint.peer.last_result != SCTPR_RESULT_DENIED) fault("a request of usrsctp is not denied");
+    if (denied != endpoint.counts.requests_denied) fault("usrsctp repeats a request that was denied");
+}
+
+/* Streams of ours (4.6). */
+static void they_want_streams(uint16_t count) {
+    struct sctp_add_streams add = { .sas_instrms = count };
+    uint64_t before = endpoint.counts.requests_denied;
+    uint32_t outgoing = endpoint.outgoing;
+    must(usrsctp_setsockopt(theirs, IPPROTO_SCTP, SCTP_ADD_STREAMS, &add, sizeof add), "SCTP_ADD_STREAMS of ours");
+    await_denial(before);
+    if (endpoint.outgoing != outgoing) fault("streams of ours that usrsctp adds");
+}
+
+/* A reset of all TSNs (4.3). */
+static void they_reset_all(void) {
+    sctp_assoc_t all = 0;
+    uint64_t before = endpoint.counts.requests_denied;
+    must(usrsctp_setsockopt(theirs, IPPROTO_SCTP, SCTP_RESET_ASSOC, &all, sizeof all), "SCTP_RESET_ASSOC");
+    await_denial(before);
+}
+
 static void reconfigure(void) {
     static const uint16_t one = 1, two = 2;
     for (uint16_t i = 0; i < 2; i++) we_say(1, i);
     for (uint16_t i = 0; i < 2; i++) they_say(2, i);
+    they_want_streams(2);
     await_answer(endpoint_reset(&endpoint, &one, 1));
     we_say(1, 0);
     they_reset(2, SCTP_STREAM_RESET_OUTGOING);
@@ -225,6 +255,9 @@ static void reconfigure(void) {
     they_say(LAST, 0);
     await_answer(endpoint_add_streams(&endpoint, 2));
     we_say(LAST, 0);
+    they_reset_all();
+    we_say(3, 0);
+    they_say(3, 0);
 }
 
 int main(int argc, char **argv) {

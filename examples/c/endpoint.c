@@ -331,48 +331,31 @@ static uint32_t reset_streams(struct endpoint *e, const uint8_t *request, size_t
 
 /* ---- Our requests (RFC 6525) ----------------------------------------------------------------------------------------------- */
 
-static void put16(uint8_t *at, uint32_t value) {
-    at[0] = (uint8_t)(value >> 8);
-    at[1] = (uint8_t)value;
-}
-
-static void put32(uint8_t *at, uint32_t value) {
-    put16(at, value >> 16);
-    put16(at + 2, value & 0xffff);
-}
-
-/* Sends our request, at first and again when it has no answer. It is written by hand: sctpr_write_chunk takes a request of type 13 alone. */
+/* Sends our request, at first and again when it has no answer. */
 static void send_request(struct endpoint *e) {
-    size_t length = e->request.length, padded = (length + 3) / 4 * 4;
-    make_place(e, 4 + padded);
-    end_of(e)[0] = SCTPR_RECONFIG;
-    end_of(e)[1] = 0;
-    put16(end_of(e) + 2, (uint32_t)(4 + length));
-    memcpy(end_of(e) + 4, e->request.param, padded);
-    e->length += 4 + padded;
+    put_chunk(e, SCTPR_RECONFIG, e->request.param, e->request.length);
     e->request.due = e->now + e->rto;
     e->counts.requests_sent++;
 }
 
-/* Makes a request of a value, whose number has its place in front, and of the streams that follow it. */
-static sctpr_code ask(struct endpoint *e, uint16_t type, const uint8_t *value, size_t length, const uint16_t *streams, uint16_t count) {
+/* A new request of a type and of these streams, whose parameter is to be written; NULL, where none may be made: one waits at a time. */
+static struct endpoint_request *begin_request(struct endpoint *e, uint16_t type, const uint16_t *streams, uint16_t count) {
     struct endpoint_request *r = &e->request;
-    if (e->state != ENDPOINT_ESTABLISHED || r->length > 0 || count > ENDPOINT_REQUEST_STREAMS) return SCTPR_INVALID;
+    if (e->state != ENDPOINT_ESTABLISHED || r->length > 0 || count > ENDPOINT_REQUEST_STREAMS) return NULL;
     memset(r, 0, sizeof *r);
-    r->length = 4 + length + 2 * (size_t)count;
     r->type = type;
-    r->number = e->next_request++;
+    r->number = e->next_request;
     r->count = count;
-    put16(r->param, type);
-    put16(r->param + 2, (uint32_t)r->length);
-    memcpy(r->param + 4, value, length);
-    put32(r->param + 4, r->number);
-    for (uint16_t i = 0; i < count; i++) {
-        r->streams[i] = streams[i];
-        put16(r->param + 4 + length + 2 * i, streams[i]);
-    }
+    for (uint16_t i = 0; i < count; i++) r->streams[i] = streams[i];
+    return r;
+}
+
+/* Sends a new request, where its parameter could be written. */
+static sctpr_code send_new_request(struct endpoint *e, sctpr_code code) {
+    if (code != SCTPR_OK) return code;
+    e->next_request++;
     send_request(e);
-    return SCTPR_OK;
+    return code;
 }
 
 /* Whether a stream is one of those of a request. */
@@ -384,13 +367,13 @@ static int names(const struct endpoint_request *r, uint16_t stream) {
 
 /* Asks the peer to follow a reset of ours, of our own accord or because it asked for it: the number of its request stands in it (4.1). */
 static sctpr_code ask_reset(struct endpoint *e, const uint16_t *streams, uint16_t count, uint32_t response) {
-    uint8_t value[12] = { 0 };
+    struct endpoint_request *r;
     if (e->state != ENDPOINT_ESTABLISHED || count == 0) return SCTPR_INVALID;
     for (uint16_t i = 0; i < count; i++)
         if (!sctpr_sender_is_drained(&e->sender, streams[i])) return SCTPR_STREAM_BUSY;
-    put32(value + 4, response);
-    put32(value + 8, sctpr_sender_next_tsn(&e->sender) - 1);
-    return ask(e, SCTPR_PARAM_OUTGOING_RESET, value, 12, streams, count);
+    if (!(r = begin_request(e, SCTPR_PARAM_OUTGOING_RESET, streams, count))) return SCTPR_INVALID;
+    struct sctpr_reset reset = { r->number, response, sctpr_sender_next_tsn(&e->sender) - 1 };
+    return send_new_request(e, sctpr_write_reset(&reset, streams, count, r->param, sizeof r->param, &r->length));
 }
 
 sctpr_code endpoint_reset(struct endpoint *e, const uint16_t *streams, uint16_t count) {
@@ -398,17 +381,18 @@ sctpr_code endpoint_reset(struct endpoint *e, const uint16_t *streams, uint16_t 
 }
 
 sctpr_code endpoint_reset_incoming(struct endpoint *e, const uint16_t *streams, uint16_t count) {
-    const uint8_t value[4] = { 0 };
-    return ask(e, SCTPR_PARAM_INCOMING_RESET, value, 4, streams, count);
+    struct endpoint_request *r = begin_request(e, SCTPR_PARAM_INCOMING_RESET, streams, count);
+    if (!r) return SCTPR_INVALID;
+    return send_new_request(e, sctpr_write_incoming_reset(r->number, streams, count, r->param, sizeof r->param, &r->length));
 }
 
 sctpr_code endpoint_add_streams(struct endpoint *e, uint16_t count) {
-    uint8_t value[8] = { 0 };
+    struct endpoint_request *r;
     if (count == 0 || e->outgoing + count > 65535) return SCTPR_INVALID;
-    put16(value + 4, count);
-    sctpr_code code = ask(e, SCTPR_PARAM_ADD_OUTGOING_STREAMS, value, sizeof value, NULL, 0);
-    if (code == SCTPR_OK) e->request.added = count;
-    return code;
+    if (!(r = begin_request(e, SCTPR_PARAM_ADD_OUTGOING_STREAMS, NULL, 0))) return SCTPR_INVALID;
+    struct sctpr_add_streams add = { r->number, count, 0 };
+    r->added = count;
+    return send_new_request(e, sctpr_write_add_streams(&add, r->param, sizeof r->param, &r->length));
 }
 
 /* Our request has its answer: what it asked for is done (5.2.7). */
@@ -441,40 +425,42 @@ static void poll_requests(struct endpoint *e) {
 enum { NO_ANSWER = 0xffff };
 
 /* The peer asks for a reset of ours: the request to follow it is the answer (5.2.3). One that names no stream, or too many, is denied. */
-static uint32_t want_reset(struct endpoint *e, uint32_t number, const uint8_t *value, size_t length) {
+static uint32_t want_reset(struct endpoint *e, const uint8_t *request, size_t length) {
     struct endpoint_request *w = &e->wanted;
-    if (length < 6 || (length - 4) / 2 > ENDPOINT_REQUEST_STREAMS || w->length > 0) return SCTPR_RESULT_DENIED;
-    w->number = number;
-    w->count = (uint16_t)((length - 4) / 2);
-    for (uint16_t i = 0; i < w->count; i++) {
-        w->streams[i] = (uint16_t)(value[4 + 2 * i] << 8 | value[5 + 2 * i]);
+    size_t count = 0;
+    if (w->length > 0) return SCTPR_RESULT_DENIED;
+    sctpr_code code = sctpr_read_incoming_reset(request, length, &w->number, w->streams, ENDPOINT_REQUEST_STREAMS, &count);
+    if (code != SCTPR_OK || count == 0 || count > ENDPOINT_REQUEST_STREAMS) return SCTPR_RESULT_DENIED;
+    for (size_t i = 0; i < count; i++)
         if (w->streams[i] >= e->outgoing) return SCTPR_RESULT_WRONG_SSN;
-    }
+    w->count = (uint16_t)count;
     w->length = 1;
     return NO_ANSWER;
 }
 
 /* The peer has so many outgoing streams more (5.2.5). */
-static uint32_t add_streams(struct endpoint *e, const uint8_t *value, size_t length) {
-    uint32_t count = length < 8 ? 0 : (uint32_t)(value[4] << 8 | value[5]);
-    if (count == 0 || e->incoming + count > (uint32_t)e->config.streams + ENDPOINT_ADDED_STREAMS) return SCTPR_RESULT_DENIED;
-    for (; count > 0; count--, e->incoming++)
+static uint32_t add_streams(struct endpoint *e, const uint8_t *request, size_t length) {
+    struct sctpr_add_streams add;
+    if (sctpr_read_add_streams(request, length, &add) != SCTPR_OK || add.count == 0) return SCTPR_RESULT_DENIED;
+    if (e->incoming + add.count > (uint32_t)e->config.streams + ENDPOINT_ADDED_STREAMS) return SCTPR_RESULT_DENIED;
+    for (; add.count > 0; add.count--, e->incoming++)
         if (sctpr_receiver_open(&e->receiver, (uint16_t)e->incoming) != SCTPR_OK) return SCTPR_RESULT_DENIED;
     return SCTPR_RESULT_PERFORMED;
 }
 
-/* Follows a request of the peer, and answers its result. A reset may be the answer to our own request (4.1). */
-static uint32_t on_request(struct endpoint *e, uint32_t number, const uint8_t *bytes, size_t length, const struct sctpr_param *param) {
+/* Follows a request of the peer, and answers its result. A reset may be the answer to our own request (4.1). One to reset all TSNs, and one
+ * to add streams of ours, are denied (4.3, 4.6). */
+static uint32_t on_request(struct endpoint *e, uint16_t type, const uint8_t *bytes, size_t length) {
     struct sctpr_reset reset;
     size_t count;
-    switch (param->type) {
+    switch (type) {
     case SCTPR_PARAM_OUTGOING_RESET:
         if (sctpr_read_reset(bytes, length, &reset, NULL, 0, &count) == SCTPR_OK && e->request.type == SCTPR_PARAM_INCOMING_RESET
             && e->request.length > 0 && reset.response == e->request.number)
             finish_request(e, SCTPR_RESULT_PERFORMED);
         return reset_streams(e, bytes, length);
-    case SCTPR_PARAM_INCOMING_RESET: return want_reset(e, number, bytes + 4, param->length);
-    case SCTPR_PARAM_ADD_OUTGOING_STREAMS: return add_streams(e, bytes + 4, param->length);
+    case SCTPR_PARAM_INCOMING_RESET: return want_reset(e, bytes, length);
+    case SCTPR_PARAM_ADD_OUTGOING_STREAMS: return add_streams(e, bytes, length);
     default: return SCTPR_RESULT_DENIED;
     }
 }
@@ -492,10 +478,11 @@ static void on_reconfig(struct endpoint *e, const uint8_t *chunk, size_t length)
         int is_again = number == e->peer.next_request - 1 && e->peer.last_result != SCTPR_RESULT_IN_PROGRESS;
         struct sctpr_response response = { number, is_again ? e->peer.last_result : SCTPR_RESULT_BAD_SEQUENCE_NUMBER };
         if (number == e->peer.next_request || (number == e->peer.next_request - 1 && !is_again)) {
-            response.result = on_request(e, number, chunk + at, length - at, &param);
+            response.result = on_request(e, param.type, chunk + at, length - at);
             e->peer.next_request = number + 1;
             e->peer.last_result = response.result;
         }
+        e->counts.requests_denied += response.result == SCTPR_RESULT_DENIED;
         if (response.result == NO_ANSWER) continue;
         if (sctpr_write_response(&response, answer, sizeof answer, &written) == SCTPR_OK) put_chunk(e, SCTPR_RECONFIG, answer, written);
         e->counts.requests_answered++;

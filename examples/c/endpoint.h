@@ -60,7 +60,8 @@ struct endpoint_request {
 struct endpoint_counts {
     uint64_t packets[SCTPR_NOT_AS_GIVEN + 1], chunks[SCTPR_NOT_AS_GIVEN + 1], wrong_tag;
     uint64_t packets_sent, data_sent, data_sent_again, timeouts, fast_retransmissions;
-    uint64_t abandoned, expired, taken_back, forward_tsns_sent, heartbeats_sent, heartbeats_answered, requests_answered, requests_sent;
+    uint64_t abandoned, expired, taken_back, forward_tsns_sent, heartbeats_sent, heartbeats_answered;
+    uint64_t requests_answered, requests_denied, requests_sent;
 };
 
 struct endpoint {

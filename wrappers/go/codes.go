@@ -151,7 +151,7 @@ const (
 	CodeErrParamTypeUnexpected Code = 83
 	// The value of an Outgoing SSN Reset Request has under 12 bytes (RFC 6525 4.1), or that of a request has no number.
 	CodeErrSsnResetRequestParamTooShort Code = 84
-	// The value of an Outgoing SSN Reset Request has 12 bytes or more, an odd number of them (RFC 6525 4.1).
+	// The value of an Outgoing SSN Reset Request has 12 bytes or more, an odd number of them (RFC 6525 4.1), or that of another request has another length than its type gives it (4.2, 4.3, 4.5, 4.6).
 	CodeErrSsnResetRequestParamInvalidLength Code = 85
 	// The value of a Re-configuration Response has under eight bytes (RFC 6525 4.4).
 	CodeErrReconfigRespParamTooShort Code = 86
@@ -312,7 +312,7 @@ func (c Code) text() string {
 	case CodeErrSsnResetRequestParamTooShort:
 		return "The value of an Outgoing SSN Reset Request has under 12 bytes (RFC 6525 4.1), or that of a request has no number."
 	case CodeErrSsnResetRequestParamInvalidLength:
-		return "The value of an Outgoing SSN Reset Request has 12 bytes or more, an odd number of them (RFC 6525 4.1)."
+		return "The value of an Outgoing SSN Reset Request has 12 bytes or more, an odd number of them (RFC 6525 4.1), or that of another request has another length than its type gives it (4.2, 4.3, 4.5, 4.6)."
 	case CodeErrReconfigRespParamTooShort:
 		return "The value of a Re-configuration Response has under eight bytes (RFC 6525 4.4)."
 	case CodeErrInvalidAlgorithmType:

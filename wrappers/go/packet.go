@@ -262,14 +262,79 @@ func ReadReset(bytes []byte) (reset Reset, err error) {
 	var r C.struct_sctpr_reset
 	var count C.size_t
 	streams := make([]uint16, len(bytes)/2)
-	var to *C.uint16_t
-	if len(streams) > 0 {
-		to = (*C.uint16_t)(unsafe.Pointer(&streams[0]))
-	}
-	if err := errorOf(C.sctpr_read_reset(at, length, &r, to, C.size_t(len(streams)), &count), 0); err != nil {
+	to, room := streamsOf(streams)
+	if err := errorOf(C.sctpr_read_reset(at, length, &r, to, room, &count), 0); err != nil {
 		return Reset{}, err
 	}
 	return Reset{uint32(r.request), uint32(r.response), uint32(r.last_tsn), streams[:count]}, nil
+}
+
+// WriteReset writes an Outgoing SSN Reset Request with its padding.
+func WriteReset(reset Reset, out []byte) (int, error) {
+	to, room := bytesOf(out)
+	from, count := streamsOf(reset.Streams)
+	r := C.struct_sctpr_reset{
+		request: C.uint32_t(reset.Request), response: C.uint32_t(reset.Response), last_tsn: C.uint32_t(reset.LastTSN),
+	}
+	var n C.size_t
+	err := errorOf(C.sctpr_write_reset(&r, from, count, to, room, &n), n)
+	return written(n, err)
+}
+
+// ReadIncomingReset reads the Incoming SSN Reset Request that the bytes begin with (RFC 6525 4.2). No stream means all.
+func ReadIncomingReset(bytes []byte) (number uint32, streams []uint16, err error) {
+	at, length := bytesOf(bytes)
+	var n C.uint32_t
+	var count C.size_t
+	streams = make([]uint16, len(bytes)/2)
+	to, room := streamsOf(streams)
+	if err := errorOf(C.sctpr_read_incoming_reset(at, length, &n, to, room, &count), 0); err != nil {
+		return 0, nil, err
+	}
+	return uint32(n), streams[:count], nil
+}
+
+// WriteIncomingReset writes an Incoming SSN Reset Request with its padding.
+func WriteIncomingReset(number uint32, streams []uint16, out []byte) (int, error) {
+	to, room := bytesOf(out)
+	from, count := streamsOf(streams)
+	var n C.size_t
+	err := errorOf(C.sctpr_write_incoming_reset(C.uint32_t(number), from, count, to, room, &n), n)
+	return written(n, err)
+}
+
+// WriteSSNTSNReset writes an SSN/TSN Reset Request (RFC 6525 4.3).
+func WriteSSNTSNReset(number uint32, out []byte) (int, error) {
+	to, room := bytesOf(out)
+	var n C.size_t
+	err := errorOf(C.sctpr_write_ssn_tsn_reset(C.uint32_t(number), to, room, &n), n)
+	return written(n, err)
+}
+
+// An AddStreams is a request to add outgoing streams of its sender's, or where IsIncoming is set incoming ones (RFC 6525 4.5, 4.6).
+type AddStreams struct {
+	Request    uint32
+	Count      uint16
+	IsIncoming bool
+}
+
+// ReadAddStreams reads the request to add streams that the bytes begin with.
+func ReadAddStreams(bytes []byte) (add AddStreams, err error) {
+	at, length := bytesOf(bytes)
+	var a C.struct_sctpr_add_streams
+	if err := errorOf(C.sctpr_read_add_streams(at, length, &a), 0); err != nil {
+		return AddStreams{}, err
+	}
+	return AddStreams{uint32(a.request), uint16(a.count), a.is_incoming != 0}, nil
+}
+
+// WriteAddStreams writes a request to add streams.
+func WriteAddStreams(add AddStreams, out []byte) (int, error) {
+	to, room := bytesOf(out)
+	a := C.struct_sctpr_add_streams{request: C.uint32_t(add.Request), count: C.uint16_t(add.Count), is_incoming: flag(add.IsIncoming)}
+	var n C.size_t
+	err := errorOf(C.sctpr_write_add_streams(&a, to, room, &n), n)
+	return written(n, err)
 }
 
 // A Response is a Re-configuration Response (RFC 6525 4.4).
@@ -367,6 +432,13 @@ func WriteHead(head Head, packet []byte) error {
 func StoreSum(sum uint32, packet []byte) error {
 	at, length := bytesOf(packet)
 	return errorOf(C.sctpr_store_sum(C.uint32_t(sum), at, length), 12)
+}
+
+func streamsOf(streams []uint16) (*C.uint16_t, C.size_t) {
+	if len(streams) == 0 {
+		return nil, 0
+	}
+	return (*C.uint16_t)(unsafe.Pointer(&streams[0])), C.size_t(len(streams))
 }
 
 func written(n C.size_t, err error) (int, error) {

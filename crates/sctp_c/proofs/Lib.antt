@@ -9,6 +9,7 @@ pub mod Leaving
 pub mod Messages
 pub mod Places
 pub mod ReceiverBox
+pub mod OwnParams
 pub mod Resets
 pub mod Rows
 pub mod Sacks

@@ -1,14 +1,17 @@
 -- Chunks that are written.
-use Rattle.std.proofs.Common.{◌≡◌, ℕ, ◌+◌, ◌-◌, ◌≤◌, List, [], ◌∷◌, ◌++◌, length, take, drop, sym, subst, ap, ◌∙◌, arith, length-append}
-use Rattle.std.proofs.lemmas.List.{take_all, drop_at, length-drop}
-use Rattle.std.specs.Prelude.{Result, Ok, Err, IfOk}
+use Rattle.std.proofs.Common.{◌≡◌, ℕ, ◌+◌, ◌-◌, ◌≤◌, List, [], ◌∷◌, ◌++◌, length, take, drop, refl, sym, subst, ap, ◌∙◌, arith, length-append}
+use Rattle.std.proofs.Common.{inl, inr}
+use Rattle.std.proofs.lemmas.List.{take_all, drop_at, length-drop, length-take-le}
+use Rattle.std.specs.Prelude.{◌≢◌, ◌⊎◌, ◌<◌, Result, Ok, Err, IfOk}
 use Rattle.sctp_util.specs.Field.{be16}
 use Rattle.sctp_util.proofs.Fields.{length_be16}
 use Rattle.sctp_util.specs.declared.error.Error.{Error}
 use Rattle.sctp_chunks.specs.Framing.{chunk_encoding}
 use Rattle.sctp_chunks.specs.Wire.{Wire, ReadsChunk, type_of, value_of}
 use Rattle.sctp_c.specs.Out.{padded}
-use Rattle.sctp_c.specs.Written.{IsAsGiven, IsChanged, IsEncoded, IsFlaggedChunk}
+use Rattle.sctp_c.specs.Refusal.{IsRefusal}
+use Rattle.sctp_c.specs.Written.{FlaggedChunkFault, IsAsGiven, IsChanged, IsEncoded, IsReadChunk}
+use Rattle.sctp_util.specs.declared.error.Error.TheVariants.{ErrLengthTooLarge, ErrOutOfMemory}
 
 -- the encoding of a chunk that was read is that of its type and value, under the flags
 pub is_encoded : (r : Result (List ℕ) Error) (typ flags : ℕ) (value : List ℕ) (w : Wire) → ReadsChunk (chunk_encoding typ flags value) w
@@ -44,10 +47,20 @@ module _ (typ flags : ℕ) (value bytes : List ℕ) where
   pub is_changed : IsEncoded typ flags value bytes → (IsAsGiven value (behind bytes) → ⊥) → IsChanged typ flags value
   is_changed e different = record { chunk = e.chunk; reads = e.reads; other = not_given e.chunk e.encoding different }
 
-  pub is_flagged : IsEncoded typ flags value bytes → IsAsGiven value (behind bytes) → IsFlaggedChunk typ flags value (padded bytes)
-  is_flagged e given = record {
+  pub is_read_chunk : IsEncoded typ flags value bytes → IsAsGiven value (behind bytes) → IsReadChunk typ flags value (padded bytes)
+  is_read_chunk e given = record {
     chunk = e.chunk;
     reads = e.reads;
     encoding = ap padded e.encoding;
     as_given = subst (λ v. IsAsGiven value v) (value_in e.chunk e.encoding) given;
   }
+
+-- what is not written as it is, is so for its length or for memory
+pub framed_refusal : (typ flags : ℕ) (value : List ℕ) (end code : ℕ) → end ≤ length value → (code ≡ 0) ⊎ ((code ≡ 16) ⊎ ((code ≡ 17) ⊎ (code ≡ 19))) → code ≢ 0 → code ≢ 17
+    → (code ≡ 19 → 65531 < length (take end value)) → IsRefusal (FlaggedChunkFault typ flags value) code
+framed_refusal typ flags value end code within (inl done) some long large = absurd (some done)
+framed_refusal typ flags value end code within (inr (inl memory)) some long large = record { error = ErrOutOfMemory; number = memory; fault = inl refl }
+framed_refusal typ flags value end code within (inr (inr (inl short))) some long large = absurd (long short)
+framed_refusal typ flags value end code within (inr (inr (inr is))) some long large =
+    let most : 65531 < length value = omega (arith, large is, length-take-le end value within) in
+    record { error = ErrLengthTooLarge; number = is; fault = inr (inl (refl, most)) }

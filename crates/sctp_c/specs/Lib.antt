@@ -15,6 +15,7 @@ pub mod OwnedSender
 pub mod Receiving
 pub mod Reconfig
 pub mod Refusal
+pub mod Requests
 pub mod Rows
 pub mod Sending
 pub mod Answered

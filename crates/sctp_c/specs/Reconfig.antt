@@ -1,12 +1,14 @@
 -- The parameters of a RE-CONFIG as a caller in C reads and writes them (RFC 6525 4).
-use Rattle.std.specs.Prelude.{◌≡◌, ◌≢◌, ◌⊎◌, ℕ, ◌%◌, ◌<◌, ◌≤◌, Bool, true, false, ◌||◌, ◌==◌, List, ◌++◌, length}
+use Rattle.std.specs.Prelude.{◌≡◌, ◌≢◌, ◌⊎◌, ℕ, ◌+◌, ◌*◌, ◌-◌, ◌/◌, ◌%◌, ◌<◌, ◌≤◌, Bool, true, false, ◌||◌, ◌==◌, if◌then◌else◌, List, ◌++◌, length}
 use Rattle.sctp_util.specs.declared.error.Error.{Error}
 use Rattle.sctp_util.specs.declared.error.Error.TheVariants.{ErrParamHeaderTooShort, ErrParamTypeUnexpected, ErrSsnResetRequestParamTooShort}
 use Rattle.sctp_util.specs.declared.error.Error.TheVariants.{ErrSsnResetRequestParamInvalidLength, ErrReconfigRespParamTooShort}
-use Rattle.sctp_util.specs.Field.{be32, u32_at}
+use Rattle.sctp_util.specs.Each.{each}
+use Rattle.sctp_util.specs.Field.{be32, u16_at, u32_at}
 use Rattle.sctp_params.specs.ParamFraming.{IsParam, param_framed, param_type_at, param_value_at}
 use Rattle.sctp_params.specs.ResetRequest.{ResetRequest, reset_request_in}
 use Rattle.sctp_c.specs.Out.{filled}
+use Rattle.sctp_c.specs.declared.reconfig.SctpAddStreams.{SctpAddStreams}
 use Rattle.sctp_c.specs.declared.reconfig.SctpReset.{SctpReset}
 use Rattle.sctp_c.specs.declared.reconfig.SctpResponse.{SctpResponse}
 
@@ -42,6 +44,33 @@ pub record IsReset (bytes : List ℕ) (t : SctpReset) (count : ℕ) (old rows : 
   pub streams : count ≡ length (reset_request_in (param_value_at bytes)).stream_identifiers
   pub named : rows ≡ filled (reset_request_in (param_value_at bytes)).stream_identifiers old
 
+-- the streams in the value of an Incoming SSN Reset Request (RFC 6525 4.2)
+abbrev pub streams_asked : List ℕ → List ℕ
+streams_asked value = each ((length value - 4) / 2) (λ i. u16_at value (4 + 2 * i))
+
+-- the bytes begin with such a request of this number and so many streams; as many of them as there is room for stand in the rows
+pub record IsIncomingReset (bytes : List ℕ) (number count : ℕ) (old rows : List ℕ) : Type 0 where
+  pub is_param : IsParam bytes
+  pub typ : param_type_at bytes ≡ 14
+  pub long : 4 ≤ length (param_value_at bytes)
+  pub even : IsEven (length (param_value_at bytes))
+  pub request : number ≡ u32_at (param_value_at bytes) 0
+  pub streams : count ≡ length (streams_asked (param_value_at bytes))
+  pub named : rows ≡ filled (streams_asked (param_value_at bytes)) old
+
+-- the type of a request to add outgoing or incoming streams (RFC 6525 4.5, 4.6)
+abbrev pub add_streams_type : SctpAddStreams → ℕ
+add_streams_type t = if t.is_incoming == 0 then 17 else 18
+
+-- the bytes begin with such a request of this number, which adds so many streams
+pub record IsAddStreams (bytes : List ℕ) (t : SctpAddStreams) : Type 0 where
+  pub is_param : IsParam bytes
+  pub typ : param_type_at bytes ≡ add_streams_type t
+  pub flag : t.is_incoming ≤ 1
+  pub long : length (param_value_at bytes) ≡ 8
+  pub request : t.request ≡ u32_at (param_value_at bytes) 0
+  pub new_streams : t.count ≡ u16_at (param_value_at bytes) 4
+
 -- the bytes begin with a Re-configuration Response of these numbers
 pub record IsResponse (bytes : List ℕ) (t : SctpResponse) : Type 0 where
   pub is_param : IsParam bytes
@@ -72,6 +101,20 @@ ResetFault e bytes =
     ⊎ ((e ≡ ErrParamTypeUnexpected) × (param_type_at bytes ≢ 13))
     ⊎ ((e ≡ ErrSsnResetRequestParamTooShort) × (length (param_value_at bytes) < 12))
     ⊎ ((e ≡ ErrSsnResetRequestParamInvalidLength) × (IsEven (length (param_value_at bytes)) → ⊥))
+
+abbrev pub IncomingResetFault : Error → List ℕ → Type 0
+IncomingResetFault e bytes =
+    NoParamFault e bytes
+    ⊎ ((e ≡ ErrParamTypeUnexpected) × (param_type_at bytes ≢ 14))
+    ⊎ ((e ≡ ErrSsnResetRequestParamTooShort) × (length (param_value_at bytes) < 4))
+    ⊎ ((e ≡ ErrSsnResetRequestParamInvalidLength) × (IsEven (length (param_value_at bytes)) → ⊥))
+
+abbrev pub AddStreamsFault : Error → List ℕ → Type 0
+AddStreamsFault e bytes =
+    NoParamFault e bytes
+    ⊎ ((e ≡ ErrParamTypeUnexpected)
+    × ((param_type_at bytes ≢ 17) × (param_type_at bytes ≢ 18)))
+    ⊎ ((e ≡ ErrSsnResetRequestParamInvalidLength) × (length (param_value_at bytes) ≢ 8))
 
 abbrev pub ResponseFault : Error → List ℕ → Type 0
 ResponseFault e bytes =

@@ -16,6 +16,7 @@ mod parts;
 pub mod reading;
 pub mod receiver;
 pub mod reconfig;
+pub mod requests;
 pub mod sender;
 pub mod writing;
 

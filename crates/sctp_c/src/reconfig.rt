@@ -1,6 +1,6 @@
-//! The parameters of a RE-CONFIG: its requests, and its response (RFC 6525 4).
+//! The parameters of a RE-CONFIG as numbers: its requests, and its response (RFC 6525 4).
 
-ghost use Rattle.std.specs.Prelude.{◌≡◌, ◌≢◌, ◌+◌, ◌*◌, ◌-◌, ◌/◌, ◌^◌, ◌<◌, ◌≤◌, ◌++◌, length, IfOk, IfErr, OnOk, IsOkUnless};
+ghost use Rattle.std.specs.Prelude.{◌≡◌, ◌≢◌, ◌+◌, ◌*◌, ◌-◌, ◌/◌, ◌^◌, ◌<◌, ◌≤◌, ◌++◌, ◌⊎◌, length, IfOk, IfErr, OnOk, IsOkUnless};
 ghost use Rattle.sctp_util.specs.Each.{each};
 ghost use Rattle.sctp_util.specs.Field.{u16_at};
 ghost use Rattle.sctp_util.specs.Outcome.{OrMemory};
@@ -8,7 +8,8 @@ ghost use Rattle.sctp_util.specs.declared.error.Error.TheVariants.{ErrLengthTooL
 ghost use Rattle.sctp_params.specs.ParamFraming.{IsParam, param_framed, param_type_at, param_value_at};
 ghost use Rattle.sctp_c.specs.Out.{at_front, filled};
 ghost use Rattle.sctp_c.specs.Reconfig as words;
-ghost use Rattle.sctp_c.specs.Reconfig.{IsRequest, IsReset, IsResponse, NoParamFault, RequestFault, ResetFault, ResponseFault, response_bytes};
+ghost use Rattle.sctp_c.specs.Reconfig.{IsAddStreams, IsIncomingReset, IsRequest, IsReset, IsResponse, response_bytes};
+ghost use Rattle.sctp_c.specs.Reconfig.{AddStreamsFault, IncomingResetFault, NoParamFault, RequestFault, ResetFault, ResponseFault};
 ghost use Rattle.sctp_c.specs.Refusal.{IsFaultCode};
 
 use crate::code::{SCTPR_OK, SCTPR_SHORT_BUFFER, of_error};
@@ -25,6 +26,18 @@ pub struct SctpReset {
     pub response: u32,
     /// The Sender's Last Assigned TSN.
     pub last_tsn: u32,
+}
+
+/// An Add Outgoing Streams Request, or where `is_incoming` is not 0 an Add Incoming Streams Request (RFC 6525 4.5, 4.6).
+#[repr(C)]
+#[derive(Clone, Copy)]
+pub struct SctpAddStreams {
+    /// The Re-configuration Request Sequence Number.
+    pub request: u32,
+    /// The number of new streams.
+    pub count: u16,
+    /// Whose they are: 0, the sender's of the request; else the receiver's.
+    pub is_incoming: u8,
 }
 
 /// A Re-configuration Response, but for the TSNs that it may have (RFC 6525 4.4).
@@ -149,6 +162,92 @@ pub extern "C" fn sctpr_read_reset(
             };
             *count = (value.len() - 12) / 2;
             fill_shorts(streams, value, 12, (value.len() - 12) / 2);
+            SCTPR_OK
+        }
+        Err(e) => of_error(e),
+    }
+}
+
+// The value of an Incoming SSN Reset Request.
+fn incoming_reset_value(raw: &[u8]) -> Result<&[u8]>
+    ensures value { IfOk result (λ v. v.now ≡ param_value_at raw.now) }
+    ensures is { OnOk result (IsParam raw.now × (param_type_at raw.now ≡ 14)) }
+    ensures long { IfOk result (λ v. 4 ≤ length v.now) }
+    ensures even { IfOk result (λ v. words.IsEven (length v.now)) }
+    ensures fault { IfErr result (λ e. IncomingResetFault e raw.now) }
+{
+    let value = param_value(raw)?;
+    if read_u16(raw, 0) != 14 {
+        return Err(Error::ErrParamTypeUnexpected);
+    }
+    if value.len() < 4 {
+        return Err(Error::ErrSsnResetRequestParamTooShort);
+    }
+    if value.len() % 2 != 0 {
+        return Err(Error::ErrSsnResetRequestParamInvalidLength);
+    }
+    Ok(value)
+}
+
+/// Reads the Incoming SSN Reset Request that the bytes begin with (RFC 6525 4.2): `number` becomes its number, `count` how many streams it
+/// names, none where it means all, and as many as there is room for stand in `streams`. It takes no memory.
+#[unsafe(no_mangle)]
+pub extern "C" fn sctpr_read_incoming_reset(
+    raw: &[u8],
+    number: &mut u32,
+    streams: &mut [u16],
+    count: &mut usize,
+) -> u32
+    ensures read { result ≡ 0
+        → IsIncomingReset raw.now number.new count.new streams.old streams.new }
+    ensures refused { result ≢ 0 → IsFaultCode (λ e. IncomingResetFault e raw.now) result }
+    ensures kept { result ≢ 0 → (number.new ≡ number.old) × (count.new ≡ count.old)
+        × (streams.new ≡ streams.old) }
+{
+    match incoming_reset_value(raw) {
+        Ok(value) => {
+            *number = read_u32(value, 0);
+            *count = (value.len() - 4) / 2;
+            fill_shorts(streams, value, 4, (value.len() - 4) / 2);
+            SCTPR_OK
+        }
+        Err(e) => of_error(e),
+    }
+}
+
+// The value of a request to add streams.
+fn add_streams_value(raw: &[u8]) -> Result<&[u8]>
+    ensures value { IfOk result (λ v. v.now ≡ param_value_at raw.now) }
+    ensures is { OnOk result (IsParam raw.now
+        × ((param_type_at raw.now ≡ 17) ⊎ (param_type_at raw.now ≡ 18))) }
+    ensures long { IfOk result (λ v. length v.now ≡ 8) }
+    ensures fault { IfErr result (λ e. AddStreamsFault e raw.now) }
+{
+    let value = param_value(raw)?;
+    let typ = read_u16(raw, 0);
+    if typ != 17 && typ != 18 {
+        return Err(Error::ErrParamTypeUnexpected);
+    }
+    if value.len() != 8 {
+        return Err(Error::ErrSsnResetRequestParamInvalidLength);
+    }
+    Ok(value)
+}
+
+/// Reads the Add Outgoing Streams Request or Add Incoming Streams Request that the bytes begin with (RFC 6525 4.5, 4.6). It takes no memory.
+#[unsafe(no_mangle)]
+pub extern "C" fn sctpr_read_add_streams(raw: &[u8], add: &mut SctpAddStreams) -> u32
+    ensures read { result ≡ 0 → IsAddStreams raw.now add.new }
+    ensures refused { result ≢ 0 → IsFaultCode (λ e. AddStreamsFault e raw.now) result }
+    ensures kept { result ≢ 0 → add.new ≡ add.old }
+{
+    match add_streams_value(raw) {
+        Ok(value) => {
+            *add = SctpAddStreams {
+                request: read_u32(value, 0),
+                count: read_u16(value, 4),
+                is_incoming: if read_u16(raw, 0) == 17 { 0 } else { 1 },
+            };
             SCTPR_OK
         }
         Err(e) => of_error(e),

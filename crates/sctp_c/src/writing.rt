@@ -1,22 +1,25 @@
 //! Chunks and parameters that go out, into a caller's buffer.
 
-ghost use Rattle.std.specs.Prelude.{◌≡◌, ◌≢◌, ◌+◌, ◌^◌, ◌<◌, true, false, length, All, IfOk, IfErr, IsOkUnless};
+ghost use Rattle.std.specs.Prelude.{◌≡◌, ◌≢◌, ◌⊎◌, ◌+◌, ◌^◌, ◌<◌, ◌≤◌, ℕ, None, true, false, length, All, IfOk, IfErr, IfSome, IsOkUnless};
 ghost use Rattle.sctp_util.specs.declared.error.Error.TheVariants.{ErrLengthTooLarge, ErrOutOfMemory};
 ghost use Rattle.sctp_util.specs.Outcome.{GivesUnlessMemory, OrMemory};
 ghost use Rattle.sctp_params.specs.Param.{Parameter};
 ghost use Rattle.sctp_params.specs.ParamFraming.{param_framed};
-ghost use Rattle.sctp_params.specs.ParamKind.{ReadsParam};
+ghost use Rattle.sctp_params.specs.ParamKind.{ParamFault, ReadsParam};
 ghost use Rattle.sctp_chunks.specs.Framing.{chunk_encoding};
 ghost use Rattle.sctp_chunks.specs.Kind.{wire_of};
 ghost use Rattle.sctp_chunks.specs.Wire.{Wire, ReadsChunk, HasEncoding, type_of, value_of};
 ghost use Rattle.sctp_c.specs.Out.{padded, IsWritten, IsTooShort};
 ghost use Rattle.sctp_c.specs.Refusal.{IsRefusal};
-ghost use Rattle.sctp_c.specs.Written.{IsAsGiven, IsChanged, IsChunk, IsEncoded, IsFlaggedChunk, IsParam};
+ghost use Rattle.sctp_c.specs.Requests as words;
+ghost use Rattle.sctp_c.specs.Written.{AreRequests, IsAsGiven, IsChanged, IsChunk, IsEncoded, IsFlaggedChunk, IsFramedChunk, IsReadChunk};
+ghost use Rattle.sctp_c.specs.Written.{IsOwnParam, IsOwnRequest, IsParam, IsReadParam};
 ghost use Rattle.sctp_c.specs.Written.{ChunkFault, FlaggedChunkFault, ParameterFault, init_type, init_bytes};
 
 use crate::bytes_out::put_padded;
 use crate::code::{SCTPR_NOT_AS_GIVEN, of_error};
 use crate::reading::SctpInit;
+use crate::requests::{has_length_of, is_own, requests_end};
 use bytes::{Bytes, BytesMut};
 use sctp_chunks::chunk::chunk_header::{CHUNK_HEADER_SIZE, put_header};
 use sctp_chunks::chunk::chunk_kind::ChunkKind;
@@ -96,8 +99,8 @@ fn is_as_given(given: &[u8], read: &[u8]) -> bool
     is_same(front, read) && is_zeros(rest)
 }
 
-// Writes the chunk of a type, flags and a value with its padding.
-fn write_under(
+// Writes the chunk of a type, flags and a value with its padding, where it is read so.
+fn write_read(
     alloc: Global,
     typ: u8,
     flags: u8,
@@ -106,9 +109,9 @@ fn write_under(
     written: &mut usize,
 ) -> u32
     ensures done { result ≡ 0
-        → IsWritten (IsFlaggedChunk typ flags value.now) out.old out.new written.new }
+        → IsWritten (IsReadChunk typ flags value.now) out.old out.new written.new }
     ensures short { result ≡ 17
-        → IsTooShort (IsFlaggedChunk typ flags value.now) out.old out.new written.new }
+        → IsTooShort (IsReadChunk typ flags value.now) out.old out.new written.new }
     ensures changed { result ≡ 90 → IsChanged typ flags value.now }
     ensures only { (w : Wire) → ReadsChunk (chunk_encoding typ flags value.now) w
         → IsAsGiven value.now (value_of w) → 4 + length value.now < 2 ^ 16
@@ -128,9 +131,76 @@ fn write_under(
     put_padded(out, written, &bytes)
 }
 
-/// Writes a chunk of a type and a value with its padding, its flags 0: of any type that is read (RFC 4960 3.2, 3.3). `written` becomes how
-/// many bytes that is, also where it refuses with `SCTPR_SHORT_BUFFER`. Refuses with `SCTPR_NOT_AS_GIVEN`, where other bytes would be
-/// written, and with `SCTPR_LENGTH_TOO_LARGE` a value of more than 65,531 bytes.
+// Writes a header, and the value behind it, with its padding.
+fn write_framed(
+    alloc: Global,
+    typ: u8,
+    flags: u8,
+    value: &[u8],
+    out: &mut [u8],
+    written: &mut usize,
+) -> u32
+    ensures codes { (result ≡ 0) ⊎ ((result ≡ 16) ⊎ ((result ≡ 17) ⊎ (result ≡ 19))) }
+    ensures done { result ≡ 0
+        → IsWritten (IsFramedChunk typ flags value.now) out.old out.new written.new }
+    ensures short { result ≡ 17
+        → IsTooShort (IsFramedChunk typ flags value.now) out.old out.new written.new }
+    ensures large { result ≡ 19 → 65531 < length value.now }
+    ensures kept { result ≢ 0 → result ≢ 17
+        → (out.new ≡ out.old) × (written.new ≡ written.old) }
+{
+    match framed(alloc, typ, flags, value) {
+        Ok(bytes) => put_padded(out, written, &bytes),
+        Err(e) => of_error(e),
+    }
+}
+
+// Where the requests end that are the value of a RE-CONFIG, as it is given.
+fn given_end(typ: u8, value: &[u8]) -> Option<usize>
+    ensures found { IfSome result (λ end. AreRequests typ value.now end) }
+    ensures within { IfSome result (λ end. end ≤ length value.now) }
+    ensures none { result ≡ None → (end : ℕ) → AreRequests typ value.now end → ⊥ }
+{
+    let end = requests_end(value);
+    if typ != 130 || end == 0 || !is_as_given(value, &value[..end]) {
+        return None;
+    }
+    Some(end)
+}
+
+// Writes the chunk of a type, flags and a value with its padding.
+fn write_under(
+    alloc: Global,
+    typ: u8,
+    flags: u8,
+    value: &[u8],
+    out: &mut [u8],
+    written: &mut usize,
+) -> u32
+    ensures done { result ≡ 0
+        → IsWritten (IsFlaggedChunk typ flags value.now) out.old out.new written.new }
+    ensures short { result ≡ 17
+        → IsTooShort (IsFlaggedChunk typ flags value.now) out.old out.new written.new }
+    ensures changed { result ≡ 90 → IsChanged typ flags value.now }
+    ensures only { (w : Wire) → ReadsChunk (chunk_encoding typ flags value.now) w
+        → IsAsGiven value.now (value_of w) → 4 + length value.now < 2 ^ 16
+        → result ≢ 0 → result ≢ 17 → result ≡ 16 }
+    ensures requests { (end : ℕ) → AreRequests typ value.now end
+        → 4 + length value.now < 2 ^ 16 → result ≢ 0 → result ≢ 17 → result ≡ 16 }
+    ensures refused { result ≢ 0 → result ≢ 17 → result ≢ 90
+        → IsRefusal (FlaggedChunkFault typ flags value.now) result }
+    ensures kept { result ≢ 0 → result ≢ 17
+        → (out.new ≡ out.old) × (written.new ≡ written.old) }
+{
+    match given_end(typ, value) {
+        Some(end) => write_framed(alloc, typ, flags, &value[..end], out, written),
+        None => write_read(alloc, typ, flags, value, out, written),
+    }
+}
+
+/// Writes a chunk of a type and a value with its padding, its flags 0: of any type that is read (RFC 4960 3.2, 3.3), and a RE-CONFIG of any
+/// requests (RFC 6525 3.1). `written` becomes how many bytes that is, also where it refuses with `SCTPR_SHORT_BUFFER`. Refuses with
+/// `SCTPR_NOT_AS_GIVEN`, where other bytes would be written, and with `SCTPR_LENGTH_TOO_LARGE` a value of more than 65,531 bytes.
 #[unsafe(no_mangle)]
 pub extern "C" fn sctpr_write_chunk(
     alloc: Global,
@@ -147,6 +217,8 @@ pub extern "C" fn sctpr_write_chunk(
     ensures only { (w : Wire) → ReadsChunk (chunk_encoding typ 0 value.now) w
         → IsAsGiven value.now (value_of w) → 4 + length value.now < 2 ^ 16
         → result ≢ 0 → result ≢ 17 → result ≡ 16 }
+    ensures requests { (end : ℕ) → AreRequests typ value.now end
+        → 4 + length value.now < 2 ^ 16 → result ≢ 0 → result ≢ 17 → result ≡ 16 }
     ensures refused { result ≢ 0 → result ≢ 17 → result ≢ 90
         → IsRefusal (ChunkFault typ value.now) result }
     ensures kept { result ≢ 0 → result ≢ 17
@@ -175,6 +247,8 @@ pub extern "C" fn sctpr_write_chunk_with_flags(
     ensures only { (w : Wire) → ReadsChunk (chunk_encoding typ flags value.now) w
         → IsAsGiven value.now (value_of w) → 4 + length value.now < 2 ^ 16
         → result ≢ 0 → result ≢ 17 → result ≡ 16 }
+    ensures requests { (end : ℕ) → AreRequests typ value.now end
+        → 4 + length value.now < 2 ^ 16 → result ≢ 0 → result ≢ 17 → result ≡ 16 }
     ensures refused { result ≢ 0 → result ≢ 17 → result ≢ 90
         → IsRefusal (FlaggedChunkFault typ flags value.now) result }
     ensures kept { result ≢ 0 → result ≢ 17
@@ -254,20 +328,52 @@ fn framed_param(alloc: Global, typ: u16, value: &[u8]) -> Result<Bytes>
 }
 
 // A parameter of a type and a value, where a reader takes it.
-fn param_of(alloc: Global, typ: u16, value: &[u8]) -> Result<Bytes>
-    ensures ok { IfOk result (λ b. IsParam typ value.now (padded b)) }
+fn read_param(alloc: Global, typ: u16, value: &[u8]) -> Result<Bytes>
+    ensures ok { IfOk result (λ b. IsReadParam typ value.now (padded b)) }
     ensures only { (p : Parameter) → ReadsParam (param_framed typ value.now) p
         → 4 + length value.now < 2 ^ 16 → IsOkUnless result ErrOutOfMemory }
-    ensures fault { IfErr result (λ e. OrMemory e (ParameterFault typ value.now e)) }
+    ensures fault { IfErr result (λ e. OrMemory e
+        (((e ≡ ErrLengthTooLarge) × (65531 < length value.now))
+        ⊎ ParamFault e (param_framed typ value.now))) }
 {
     let raw = framed_param(alloc, typ, value)?;
     build_param(alloc, &raw)?;
     Ok(raw)
 }
 
+// A request that no reader of a whole packet takes.
+fn own_param(alloc: Global, typ: u16, value: &[u8]) -> Result<Bytes>
+    requires { words.is_own typ ≡ true }
+    ensures ok { IfOk result (λ b. IsOwnParam typ value.now (padded b)) }
+    ensures only { words.has_length_of typ (length value.now) ≡ true
+        → 4 + length value.now < 2 ^ 16 → IsOkUnless result ErrOutOfMemory }
+    ensures fault { IfErr result (λ e. OrMemory e (ParameterFault typ value.now e)) }
+{
+    if !has_length_of(typ, value.len()) {
+        return Err(Error::ErrSsnResetRequestParamInvalidLength);
+    }
+    framed_param(alloc, typ, value)
+}
+
+// A parameter of a type and a value.
+fn param_of(alloc: Global, typ: u16, value: &[u8]) -> Result<Bytes>
+    ensures ok { IfOk result (λ b. IsParam typ value.now (padded b)) }
+    ensures only { (p : Parameter) → ReadsParam (param_framed typ value.now) p
+        → 4 + length value.now < 2 ^ 16 → IsOkUnless result ErrOutOfMemory }
+    ensures own { IsOwnRequest typ value.now
+        → 4 + length value.now < 2 ^ 16 → IsOkUnless result ErrOutOfMemory }
+    ensures fault { IfErr result (λ e. OrMemory e (ParameterFault typ value.now e)) }
+{
+    if is_own(typ) {
+        own_param(alloc, typ, value)
+    } else {
+        read_param(alloc, typ, value)
+    }
+}
+
 /// Writes a parameter with its padding (RFC 4960 3.2.1). `written` becomes how many bytes that is, also where it refuses with
 /// `SCTPR_SHORT_BUFFER`. Refuses with `SCTPR_LENGTH_TOO_LARGE` a value of more than 65,531 bytes, and with the reader's error where no reader
-/// takes that value for that type; then it changes nothing.
+/// takes that value for that type. A request of the types 14, 15, 17 and 18 is written, where it has the length of its type (RFC 6525 4).
 #[unsafe(no_mangle)]
 pub extern "C" fn sctpr_write_param(
     alloc: Global,
@@ -280,6 +386,8 @@ pub extern "C" fn sctpr_write_param(
     ensures short { result ≡ 17
         → IsTooShort (IsParam typ value.now) out.old out.new written.new }
     ensures only { (p : Parameter) → ReadsParam (param_framed typ value.now) p
+        → 4 + length value.now < 2 ^ 16 → result ≢ 0 → result ≢ 17 → result ≡ 16 }
+    ensures own { IsOwnRequest typ value.now
         → 4 + length value.now < 2 ^ 16 → result ≢ 0 → result ≢ 17 → result ≡ 16 }
     ensures refused { result ≢ 0 → result ≢ 17 → IsRefusal (ParameterFault typ value.now) result }
     ensures kept { result ≢ 0 → result ≢ 17

@@ -152,7 +152,7 @@ pub const SCTPR_ERR_PARAM_TYPE_UNHANDLED: sctpr_code = 82;
 pub const SCTPR_ERR_PARAM_TYPE_UNEXPECTED: sctpr_code = 83;
 /// The value of an Outgoing SSN Reset Request has under 12 bytes (RFC 6525 4.1), or that of a request has no number.
 pub const SCTPR_ERR_SSN_RESET_REQUEST_PARAM_TOO_SHORT: sctpr_code = 84;
-/// The value of an Outgoing SSN Reset Request has 12 bytes or more, an odd number of them (RFC 6525 4.1).
+/// The value of an Outgoing SSN Reset Request has 12 bytes or more, an odd number of them (RFC 6525 4.1), or that of another request has another length than its type gives it (4.2, 4.3, 4.5, 4.6).
 pub const SCTPR_ERR_SSN_RESET_REQUEST_PARAM_INVALID_LENGTH: sctpr_code = 85;
 /// The value of a Re-configuration Response has under eight bytes (RFC 6525 4.4).
 pub const SCTPR_ERR_RECONFIG_RESP_PARAM_TOO_SHORT: sctpr_code = 86;
@@ -328,6 +328,16 @@ pub struct sctpr_reset {
     pub last_tsn: u32,
 }
 
+/// An Add Outgoing Streams Request, or where `is_incoming` is not 0 an Add Incoming Streams Request: its number, and how many new streams
+/// its sender wants to send on, or to receive on (4.5, 4.6).
+#[derive(Clone, Copy, Debug, Default, PartialEq, Eq)]
+#[repr(C)]
+pub struct sctpr_add_streams {
+    pub request: u32,
+    pub count: u16,
+    pub is_incoming: u8,
+}
+
 #[derive(Clone, Copy, Debug, Default, PartialEq, Eq)]
 #[repr(C)]
 pub struct sctpr_response {
@@ -494,6 +504,12 @@ extern "C" {
 
     pub fn sctpr_read_reset(bytes: *const u8, length: usize, reset: *mut sctpr_reset, streams: *mut u16, room: usize, count: *mut usize) -> sctpr_code;
 
+    /// An Incoming SSN Reset Request, by which its sender asks for a reset of streams that come to it: `number` becomes its number. Streams are
+    /// as above (4.2). An SSN/TSN Reset Request (4.3) has a number alone: sctpr_read_request.
+    pub fn sctpr_read_incoming_reset(bytes: *const u8, length: usize, number: *mut u32, streams: *mut u16, room: usize, count: *mut usize) -> sctpr_code;
+
+    pub fn sctpr_read_add_streams(bytes: *const u8, length: usize, add: *mut sctpr_add_streams) -> sctpr_code;
+
     pub fn sctpr_read_response(bytes: *const u8, length: usize, response: *mut sctpr_response) -> sctpr_code;
 
     pub fn sctpr_read_cause(bytes: *const u8, length: usize, cause: *mut sctpr_cause) -> sctpr_code;
@@ -501,7 +517,9 @@ extern "C" {
     /// A chunk of a type and a value, its flags 0, of any type that is read (RFC 4960 3.2, 3.3). It is read before it is written, so that no
     /// chunk comes out that a reader refuses: else the reader's error. SCTPR_NOT_AS_GIVEN, where what is read has another value: bytes behind
     /// its end, a payload type or a result of a RE-CONFIG that has no name here. The padding of the last item may stand in the value; the
-    /// chunk's length does not count it. SCTPR_LENGTH_TOO_LARGE of more than 65,531 bytes. SCTPR_NO_MEMORY.
+    /// chunk's length does not count it. A RE-CONFIG with a request of the types 14, 15, 17 and 18 is written, though sctpr_read_packet refuses
+    /// it: with one of them, with 13 before 14, or with 17 before 18 (RFC 6525 3.1). SCTPR_LENGTH_TOO_LARGE of more than 65,531 bytes.
+    /// SCTPR_NO_MEMORY.
     pub fn sctpr_write_chunk(type_: u8, value: *const u8, length: usize, out: *mut u8, room: usize, written: *mut usize) -> sctpr_code;
 
     /// The same with flags, as they are given: SCTPR_FLAG_T, and those of DATA (3.3.1).
@@ -510,8 +528,20 @@ extern "C" {
     /// An INIT or INIT-ACK. `params` are its parameters, as sctpr_write_param writes them one behind the other. Refuses as sctpr_write_chunk.
     pub fn sctpr_write_init(init: *const sctpr_init, params: *const u8, length: usize, out: *mut u8, room: usize, written: *mut usize) -> sctpr_code;
 
-    /// A parameter (RFC 4960 3.2.1). Refuses as sctpr_write_chunk.
+    /// A parameter (RFC 4960 3.2.1). Refuses as sctpr_write_chunk; a request of the types 14, 15, 17 and 18 whose value has another length than
+    /// RFC 6525 4 gives it with SCTPR_ERR_SSN_RESET_REQUEST_PARAM_INVALID_LENGTH.
     pub fn sctpr_write_param(type_: u16, value: *const u8, length: usize, out: *mut u8, room: usize, written: *mut usize) -> sctpr_code;
+
+    /// The requests of a RE-CONFIG from their words, with their padding: each is a parameter, which sctpr_write_chunk takes (RFC 6525 4.1, 4.2,
+    /// 4.3, 4.5, 4.6). With no stream a reset is one of all. SCTPR_LENGTH_TOO_LARGE of more than 32,759 streams, of the second call 32,763;
+    /// SCTPR_NO_MEMORY. The last two take no memory, and write 8 and 12 bytes.
+    pub fn sctpr_write_reset(reset: *const sctpr_reset, streams: *const u16, count: usize, out: *mut u8, room: usize, written: *mut usize) -> sctpr_code;
+
+    pub fn sctpr_write_incoming_reset(request: u32, streams: *const u16, count: usize, out: *mut u8, room: usize, written: *mut usize) -> sctpr_code;
+
+    pub fn sctpr_write_ssn_tsn_reset(request: u32, out: *mut u8, room: usize, written: *mut usize) -> sctpr_code;
+
+    pub fn sctpr_write_add_streams(add: *const sctpr_add_streams, out: *mut u8, room: usize, written: *mut usize) -> sctpr_code;
 
     /// A Re-configuration Response with no TSNs (RFC 6525 4.4): 12 bytes, a parameter of a RE-CONFIG. It takes no memory.
     pub fn sctpr_write_response(response: *const sctpr_response, out: *mut u8, room: usize, written: *mut usize) -> sctpr_code;

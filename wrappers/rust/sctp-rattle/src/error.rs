@@ -145,7 +145,7 @@ pub enum Error {
     ErrParamTypeUnexpected,
     /// The value of an Outgoing SSN Reset Request has under 12 bytes (RFC 6525 4.1), or that of a request has no number.
     ErrSsnResetRequestParamTooShort,
-    /// The value of an Outgoing SSN Reset Request has 12 bytes or more, an odd number of them (RFC 6525 4.1).
+    /// The value of an Outgoing SSN Reset Request has 12 bytes or more, an odd number of them (RFC 6525 4.1), or that of another request has another length than its type gives it (4.2, 4.3, 4.5, 4.6).
     ErrSsnResetRequestParamInvalidLength,
     /// The value of a Re-configuration Response has under eight bytes (RFC 6525 4.4).
     ErrReconfigRespParamTooShort,
@@ -394,7 +394,7 @@ impl Error {
             Error::ErrParamTypeUnhandled => "A parameter of type typ is of no kind, and the type's highest bit is not set: reading is to stop (RFC 4960 3.2.1).",
             Error::ErrParamTypeUnexpected => "A parameter is of another type than the call reads (RFC 6525 4).",
             Error::ErrSsnResetRequestParamTooShort => "The value of an Outgoing SSN Reset Request has under 12 bytes (RFC 6525 4.1), or that of a request has no number.",
-            Error::ErrSsnResetRequestParamInvalidLength => "The value of an Outgoing SSN Reset Request has 12 bytes or more, an odd number of them (RFC 6525 4.1).",
+            Error::ErrSsnResetRequestParamInvalidLength => "The value of an Outgoing SSN Reset Request has 12 bytes or more, an odd number of them (RFC 6525 4.1), or that of another request has another length than its type gives it (4.2, 4.3, 4.5, 4.6).",
             Error::ErrReconfigRespParamTooShort => "The value of a Re-configuration Response has under eight bytes (RFC 6525 4.4).",
             Error::ErrInvalidAlgorithmType => "A Requested HMAC Algorithm names another number than 1 or 3 (RFC 4895 3.3).",
             Error::ErrSupportedAddressTypesParamInvalidLength => "The value of a Supported Address Types has an odd number of bytes (RFC 4960 3.3.2.1).",

@@ -413,6 +413,71 @@ pub fn read_reset(bytes: &[u8], streams: &mut [u16]) -> Result<Reset> {
     Ok(Reset { request: r.request, response: r.response, last_tsn: r.last_tsn, count: n })
 }
 
+/// Writes an Outgoing SSN Reset Request of these streams with its padding; no stream means all, and `count` is not looked at.
+pub fn write_reset(reset: &Reset, streams: &[u16], out: &mut [u8]) -> Result<usize> {
+    let mut n = 0;
+    let r = sys::sctpr_reset { request: reset.request, response: reset.response, last_tsn: reset.last_tsn };
+    // SAFETY: as in `write_chunk`, and r is a value of this function.
+    let code = unsafe { sys::sctpr_write_reset(&r, streams.as_ptr(), streams.len(), out.as_mut_ptr(), out.len(), &mut n) };
+    done(code, n, n)
+}
+
+/// The number of the Incoming SSN Reset Request that the bytes begin with (RFC 6525 4.2), and how many streams it names, none where it means
+/// all: as many as there is room for stand in `streams`.
+pub fn read_incoming_reset(bytes: &[u8], streams: &mut [u16]) -> Result<(u32, usize)> {
+    let (mut number, mut n) = (0, 0);
+    // SAFETY: as in `read_reset`.
+    let code =
+        unsafe { sys::sctpr_read_incoming_reset(bytes.as_ptr(), bytes.len(), &mut number, streams.as_mut_ptr(), streams.len(), &mut n) };
+    done(code, (), 0)?;
+    Ok((number, n))
+}
+
+/// Writes an Incoming SSN Reset Request with its padding.
+pub fn write_incoming_reset(number: u32, streams: &[u16], out: &mut [u8]) -> Result<usize> {
+    let mut n = 0;
+    // SAFETY: as in `write_chunk`.
+    let code =
+        unsafe { sys::sctpr_write_incoming_reset(number, streams.as_ptr(), streams.len(), out.as_mut_ptr(), out.len(), &mut n) };
+    done(code, n, n)
+}
+
+/// Writes an SSN/TSN Reset Request (RFC 6525 4.3).
+pub fn write_ssn_tsn_reset(number: u32, out: &mut [u8]) -> Result<usize> {
+    let mut n = 0;
+    // SAFETY: as in `write_chunk`.
+    let code = unsafe { sys::sctpr_write_ssn_tsn_reset(number, out.as_mut_ptr(), out.len(), &mut n) };
+    done(code, n, n)
+}
+
+/// A request to add streams (RFC 6525 4.5, 4.6).
+#[derive(Clone, Copy, Debug, PartialEq, Eq)]
+pub struct AddStreams {
+    /// Its number.
+    pub request: u32,
+    /// How many new streams.
+    pub count: u16,
+    /// Whether they come to its sender.
+    pub is_incoming: bool,
+}
+
+/// Reads the request to add streams that the bytes begin with.
+pub fn read_add_streams(bytes: &[u8]) -> Result<AddStreams> {
+    let mut a = sys::sctpr_add_streams::default();
+    // SAFETY: pointer and length are those of a slice, and a is a value of this function.
+    done(unsafe { sys::sctpr_read_add_streams(bytes.as_ptr(), bytes.len(), &mut a) }, (), 0)?;
+    Ok(AddStreams { request: a.request, count: a.count, is_incoming: a.is_incoming != 0 })
+}
+
+/// Writes a request to add streams.
+pub fn write_add_streams(add: &AddStreams, out: &mut [u8]) -> Result<usize> {
+    let mut n = 0;
+    let a = sys::sctpr_add_streams { request: add.request, count: add.count, is_incoming: add.is_incoming as u8 };
+    // SAFETY: as in `write_chunk`, and a is a value of this function.
+    let code = unsafe { sys::sctpr_write_add_streams(&a, out.as_mut_ptr(), out.len(), &mut n) };
+    done(code, n, n)
+}
+
 /// A Re-configuration Response (RFC 6525 4.4).
 #[derive(Clone, Copy, Debug, PartialEq, Eq)]
 pub struct Response {

@@ -95,6 +95,12 @@ fn words_of_a_reconfig() {
     let reset = read_reset(b"\0\x0d\0\x12\0\0\0\x01\0\0\0\x02\0\0\0\x03\0\x04", &mut streams);
     assert_eq!((reset, streams[0]), (Ok(Reset { request: 1, response: 2, last_tsn: 3, count: 1 }), 4));
     assert_eq!(read_request(b"\0\x11\0\x0c\0\0\0\x07\0\x01\0\0"), Ok(7));
+    assert_eq!(write_incoming_reset(7, &[5], &mut out), Ok(12));
+    assert_eq!((&out[..12], read_incoming_reset(&out[..12], &mut streams)), (&b"\0\x0e\0\x0a\0\0\0\x07\0\x05\0\0"[..], Ok((7, 1))));
+    let add = AddStreams { request: 8, count: 3, is_incoming: true };
+    assert_eq!((write_add_streams(&add, &mut out), read_add_streams(&out[..12]), out[1]), (Ok(12), Ok(add), 18));
+    assert_eq!((write_ssn_tsn_reset(9, &mut out), out[1], out[7]), (Ok(8), 15, 9));
+    assert_eq!(write_reset(&reset.unwrap(), &[5], &mut out), Err(Error::ShortBuffer { wanted: 20 }));
     let address = b"\0\x05\0\x08\xc0\0\x02\x01";
     assert_eq!(Params::any(address).next(), Some(Ok(Param { kind: 5, value: &address[4..] })));
     assert_eq!(Params::new(address).next(), Some(Err(Error::ErrParamTypeUnhandled)));
