@@ -1,14 +1,16 @@
 -- Messages that are abandoned or expire, as a caller in C is told of them.
-use Rattle.std.specs.Prelude.{◌≡◌, ℕ, ◌+◌, List, length, map, Some, None, option_map}
+use Rattle.std.specs.Prelude.{◌≡◌, ℕ, ◌+◌, if◌then◌else◌, List, length, map, Option, Some, None, is_some, option_map}
 use Rattle.std.specs.List.{find}
 use Rattle.sctp_data.specs.declared.chunk.chunk_payload_data.ChunkPayloadData.{ChunkPayloadData}
 use Rattle.sctp_outbound.specs.outbound_queue.OutboundQueue.{expiring, expiring_tail, total_bytes}
 use Rattle.sctp_sender.specs.declared.sender.flight.late.AbandonedMessage.{AbandonedMessage}
 use Rattle.sctp_sender.specs.Abandonment.{abandon_refusal}
-use Rattle.sctp_sender.specs.Flight.{message_to_abandon}
-use Rattle.sctp_sender.specs.Late.{leaving_each}
+use Rattle.sctp_sender.specs.Flight.{Flight, may_send, message_to_abandon}
+use Rattle.sctp_sender.specs.Late.{leaving_each, with_tail}
 use Rattle.sctp_sender.specs.Sender.{Transmission, after_abandon, after_expire}
 use Rattle.sctp_sender.specs.Thresholds.{fell, with_message_lows}
+use Rattle.sctp_sender.specs.declared.sender.refusal.SenderRefusal.{SenderRefusal}
+use Rattle.sctp_sender.specs.declared.sender.refusal.SenderRefusal.TheVariants.{TsnsUsedUp}
 use Rattle.sctp_serial.specs.DataChunks.{has_tsn}
 use Rattle.sctp_c.specs.declared.sender.abandoning.SctpAbandoned.{SctpAbandoned}
 use Rattle.sctp_c.specs.declared.sender.abandoning.SctpExpired.{SctpExpired}
@@ -55,3 +57,9 @@ pub record AbandonsEach (tsns : List ℕ) (rows_old rows_new : List SctpAbandone
     (old : Transmission) : Type 0 where
   pub rows : rows_new ≡ filled (map abandoned_row (leaving_to tsns old)) rows_old
   pub size : count ≡ length (leaving_to tsns old)
+
+-- why the messages of these TSNs do not leave: some of one waits, and no TSN is left for its terminal chunk
+abbrev pub leaving_refusal : List ℕ → Flight → Option SenderRefusal
+leaving_refusal tsns f =
+    if may_send f then None
+    else (if is_some (with_tail tsns f) then Some TsnsUsedUp else None)

@@ -104,10 +104,9 @@ impl SctpNewSender {
     }
 }
 
-/// Makes a sender with no stream, whose first chunk gets `first_tsn`. A chunk has `fragment_size` bytes of user data at most, 1 to
-/// 65,519, a message `max_message_size`. If `keeps_reported` is not 0, it keeps what gap ack blocks report, for `sctpr_sender_take_back`
-/// (RFC 4960 6.2.1 D iv). `out` becomes its handle. Refuses with `SCTPR_INVALID`, where the fragment size is not in that range, and with
-/// `SCTPR_NO_MEMORY`; `out` stays then.
+/// Makes a sender with no stream, whose first chunk gets `first_tsn`: `out` becomes its handle. A chunk has `fragment_size` bytes of user data
+/// at most, a message `max_message_size`. If `keeps_reported` is not 0, it keeps what gap ack blocks report, for `sctpr_sender_take_back` (RFC
+/// 4960 6.2.1 D iv). `out` stays with `SCTPR_INVALID`, where the size is not 1 to 65,519, and with `SCTPR_NO_MEMORY`.
 #[unsafe(no_mangle)]
 pub extern "C" fn sctpr_sender_new(
     alloc: Global,

@@ -1,15 +1,16 @@
 //! Messages that are given no more time or no more sendings (RFC 3758 3.5, 4.1; RFC 7496 3.1).
 
-ghost use Rattle.std.specs.Prelude.{◌≡◌, ◌≢◌, ◌<◌, ◌≤◌, ◌⊎◌, None, length, map, if◌then◌else◌};
-ghost use Rattle.sctp_c.specs.Abandoning.{Abandons, AbandonsEach, Expires, ExpiresTail};
+ghost use Rattle.std.specs.Prelude.{◌≡◌, ◌≢◌, ◌<◌, ◌≤◌, ◌⊎◌, None, [], length, map, if◌then◌else◌};
+ghost use Rattle.sctp_c.specs.Abandoning.{Abandons, AbandonsEach, Expires, ExpiresTail, leaving_refusal};
 ghost use Rattle.sctp_c.specs.Codes.{sender_code};
 ghost use Rattle.sctp_c.specs.Out.{filled};
 ghost use Rattle.sctp_c.specs.Rows.{abandoned_row};
-ghost use Rattle.sctp_c.specs.Sending.{sender_code_for};
-ghost use Rattle.sctp_outbound.specs.outbound_queue.OutboundQueue.{expiring, expiring_tail};
+ghost use Rattle.sctp_c.specs.Sending.{IsSenderCode, sender_code_for};
+ghost use Rattle.sctp_outbound.specs.outbound_queue.OutboundQueue.{expiring, expiring_tail, late_tsns};
 ghost use Rattle.sctp_sender.specs.Abandonment.{abandon_refusal};
 ghost use Rattle.sctp_sender.specs.Flight.{may_send};
 ghost use Rattle.sctp_sender.specs.Late.{after_late, after_worn, late_order, worn_order};
+ghost use Rattle.sctp_sender.specs.Resending.{worn_tsns};
 ghost use Rattle.sctp_sender.specs.declared.sender.refusal.SenderRefusal.TheVariants.{OutOfMemory, TsnsUsedUp};
 
 use super::SctpSender;
@@ -142,9 +143,8 @@ pub extern "C" fn sctpr_sender_expire_tail(
 }
 
 /// Abandons each message in flight that is past its deadline (RFC 3758 3.5, 4.1): `count` becomes how many, and the first so many `rows`
-/// tell of them; where there are no rows at all, none is told. Refuses with `SCTPR_SHORT_BUFFER`, where there are rows, but not more than
-/// chunks in flight, so that no row is lost: `count` becomes how many are in flight; and, only where some of such a message still waits,
-/// with `SCTPR_TSNS_USED_UP`; and with `SCTPR_NO_MEMORY`. `rows` stay then, and `count` too but for the first.
+/// tell of them. `SCTPR_SHORT_BUFFER`, where there are rows, but not more than chunks in flight: `count` becomes how many these are.
+/// `SCTPR_TSNS_USED_UP`, only where 2^31 - 1 are in flight and some of such a message waits; `SCTPR_NO_MEMORY`, only where one is late.
 #[unsafe(no_mangle)]
 pub extern "C" fn sctpr_sender_expire_late(
     sender: &mut SctpSender,
@@ -159,7 +159,15 @@ pub extern "C" fn sctpr_sender_expire_late(
     ensures whole { result ≡ 0 → (length rows.old ≡ 0) ⊎ (count.new ≤ length rows.old) }
     ensures short { result ≡ 17 → (0 < length rows.old) × ((length rows.old ≤ count.new)
         × (count.new ≡ length sender.old.value.flight.queue.inflight.chunks)) }
-    ensures codes_refused { 16 ≤ result → (result ≡ 16) ⊎ ((result ≡ 17) ⊎ (result ≡ 26)) }
+    ensures must { 0 < length rows.old
+        → length rows.old ≤ length sender.old.value.flight.queue.inflight.chunks
+        → result ≡ 17 }
+    ensures accepted { result ≡ 0
+        → leaving_refusal (late_tsns now sender.old.value.flight.queue) sender.old.value.flight ≡ None }
+    ensures codes_refused { 16 ≤ result → result ≢ 17
+        → IsSenderCode (leaving_refusal (late_tsns now sender.old.value.flight.queue)
+        sender.old.value.flight) result }
+    ensures idle { late_tsns now sender.old.value.flight.queue ≡ [] → result ≢ 17 → result ≡ 0 }
     ensures refused { result ≢ 0 → (sender.new.value ≡ sender.old.value) × (rows.new ≡ rows.old) }
     ensures kept { 16 ≤ result → result ≢ 17 → count.new ≡ count.old }
 {
@@ -195,7 +203,15 @@ pub extern "C" fn sctpr_sender_expire_rexmit(
     ensures whole { result ≡ 0 → (length rows.old ≡ 0) ⊎ (count.new ≤ length rows.old) }
     ensures short { result ≡ 17 → (0 < length rows.old) × ((length rows.old ≤ count.new)
         × (count.new ≡ length sender.old.value.flight.queue.inflight.chunks)) }
-    ensures codes_refused { 16 ≤ result → (result ≡ 16) ⊎ ((result ≡ 17) ⊎ (result ≡ 26)) }
+    ensures must { 0 < length rows.old
+        → length rows.old ≤ length sender.old.value.flight.queue.inflight.chunks
+        → result ≡ 17 }
+    ensures accepted { result ≡ 0
+        → leaving_refusal (worn_tsns sender.old.value.flight) sender.old.value.flight ≡ None }
+    ensures codes_refused { 16 ≤ result → result ≢ 17
+        → IsSenderCode (leaving_refusal (worn_tsns sender.old.value.flight)
+        sender.old.value.flight) result }
+    ensures idle { worn_tsns sender.old.value.flight ≡ [] → result ≢ 17 → result ≡ 0 }
     ensures refused { result ≢ 0 → (sender.new.value ≡ sender.old.value) × (rows.new ≡ rows.old) }
     ensures kept { 16 ≤ result → result ≢ 17 → count.new ≡ count.old }
 {
