@@ -173,16 +173,18 @@ static void take_back_written(struct host *h, sctpr_code code, uint8_t *out, siz
 
 /* The readers of parameters of a RE-CONFIG, of which one at most takes them as what they are, but for a reset, which is a request too. */
 static void read_reconfig(const uint8_t *bytes, size_t length) {
-    size_t count = 7, room = any(5);
+    size_t count = 7, named = 7, room = any(5);
     struct sctpr_reset reset;
     struct sctpr_response response;
     struct sctpr_add_streams add;
-    uint32_t number = 7;
+    uint32_t number = 7, asked = 7;
     uint16_t *streams = lend(room * sizeof *streams);
     int is_request = sctpr_read_request(bytes, length, &number) == SCTPR_OK;
     int is_reset = sctpr_read_reset(bytes, length, &reset, streams, room, &count) == SCTPR_OK;
     int is_response = sctpr_read_response(bytes, length, &response) == SCTPR_OK;
     int is_added = sctpr_read_add_streams(bytes, length, &add) == SCTPR_OK;
+    int is_asked = sctpr_read_incoming_reset(bytes, length, &asked, NULL, 0, &named) == SCTPR_OK;
+    HOLDS(is_asked ? is_request && !is_reset && asked == number && 8 + 2 * named <= length : asked == 7 && named == 7);
     HOLDS(!is_added || (is_request && !is_reset && add.request == number && add.is_incoming <= 1));
     HOLDS(is_request ? length >= 8 && !is_response : number == 7);
     HOLDS(is_reset ? is_request && reset.request == number && 16 + 2 * count <= length : count == 7);
@@ -238,6 +240,25 @@ static sctpr_code write_chunk(struct host *h) {
     if (code == SCTPR_SHORT_BUFFER) HOLDS(written > room);
     take_back_written(h, code, out, room, written);
     take_back_chunk(value, length);
+    return code;
+}
+
+/* A request of a RE-CONFIG of any words. */
+static sctpr_code write_request(struct host *h) {
+    size_t count = any(5), room = a_room(), written = 7;
+    uint16_t *streams = lend(count * sizeof *streams);
+    uint8_t *out = lend(room);
+    struct sctpr_reset reset = { any(9), any(9), a_tsn(h) };
+    struct sctpr_add_streams add = { any(9), (uint16_t)any(65536), (uint8_t)any(3) };
+    sctpr_code code;
+    if (any(2)) code = sctpr_write_reset(&reset, streams, count, out, room, &written);
+    else if (any(2)) code = sctpr_write_incoming_reset(any(9), streams, count, out, room, &written);
+    else if (any(2)) code = sctpr_write_ssn_tsn_reset(any(9), out, room, &written);
+    else code = sctpr_write_add_streams(&add, out, room, &written);
+    ONE_OF(code, 1, SCTPR_OK, SCTPR_SHORT_BUFFER);
+    if (code == SCTPR_SHORT_BUFFER) HOLDS(written > room);
+    take_back_written(h, code, out, room, written);
+    take_back(streams, 0, count * sizeof *streams);
     return code;
 }
 
@@ -568,7 +589,7 @@ static sctpr_code sender_forward_tsn(struct host *h) {
 /* ---- The run --------------------------------------------------------------------------------------------------------------- */
 
 static sctpr_code (*const calls[])(struct host *) = {
-    read_chunks, write_chunk, write_init, seal_and_read, read_any, code_name, receiver_open, receiver_close, receiver_reset, receiver_data,
+    read_chunks, write_chunk, write_request, write_init, seal_and_read, read_any, code_name, receiver_open, receiver_close, receiver_reset, receiver_data,
     receiver_data, receiver_data, receiver_discard, receiver_forward_tsn, receiver_read, receiver_readable, receiver_sack, receiver_sack,
     sender_open, sender_close, sender_set, sender_write, sender_write, sender_send, sender_send, sender_send, sender_resend, sender_mark,
     sender_in_flight, sender_acked, sender_acked, sender_take_back, sender_abandon, sender_expire, sender_forward_tsn

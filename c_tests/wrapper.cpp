@@ -122,7 +122,7 @@ void reconfig() {
     auto add = sctpr::read_add_streams(sctpr::bytes(out).first(12));
     CHECK(add && add->request == 8 && add->count == 3 && add->is_incoming == 1);
     CHECK(*sctpr::write_ssn_tsn_reset(9, out) == 8 && out[1] == 15 && out[7] == 9);
-    CHECK(is_refused(sctpr::write_reset({ 1, 2, 3 }, five, out), sctpr::code::short_buffer));
+    CHECK(is_refused(sctpr::write_reset({ 1, 2, 3 }, five, out), sctpr::code::short_buffer, 20));
     auto param = sctpr::read_any_param(bytes_of("\0\5\0\x08\xc0\0\2\1", 8));
     CHECK(param && param->type == 5 && param->length == 4 && param->next == 8);
     CHECK(is_refused(sctpr::write_chunk(SCTPR_COOKIE_ACK, bytes_of("a", 1), out), sctpr::code::not_as_given));

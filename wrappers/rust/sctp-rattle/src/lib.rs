@@ -22,8 +22,9 @@ mod sender;
 
 pub use error::Error;
 pub use packet::{
-    read_data, read_forward_tsn, read_init, read_request, read_reset, read_response, read_sack, read_shutdown, seal_packet, store_sum,
-    write_cause, write_chunk, write_chunk_with_flags, write_head, write_init, write_param, write_response, AnyChunk, AnyChunkRow,
+    read_add_streams, read_data, read_forward_tsn, read_incoming_reset, read_init, read_request, read_reset, read_response, read_sack,
+    read_shutdown, seal_packet, store_sum, write_add_streams, write_cause, write_chunk, write_chunk_with_flags, write_head,
+    write_incoming_reset, write_init, write_param, write_reset, write_response, write_ssn_tsn_reset, AddStreams, AnyChunk, AnyChunkRow,
     AnyPacket, Cause, Causes, Chunk, ChunkRow, Chunks, Data, ForwardTsn, Gap, Head, Init, Packet, Param, Params, Reset, Response, Sack,
     Skip,
 };

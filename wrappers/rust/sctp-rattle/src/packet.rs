@@ -437,8 +437,7 @@ pub fn read_incoming_reset(bytes: &[u8], streams: &mut [u16]) -> Result<(u32, us
 pub fn write_incoming_reset(number: u32, streams: &[u16], out: &mut [u8]) -> Result<usize> {
     let mut n = 0;
     // SAFETY: as in `write_chunk`.
-    let code =
-        unsafe { sys::sctpr_write_incoming_reset(number, streams.as_ptr(), streams.len(), out.as_mut_ptr(), out.len(), &mut n) };
+    let code = unsafe { sys::sctpr_write_incoming_reset(number, streams.as_ptr(), streams.len(), out.as_mut_ptr(), out.len(), &mut n) };
     done(code, n, n)
 }
 
