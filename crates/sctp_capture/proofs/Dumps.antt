@@ -93,33 +93,35 @@ says_full digits k at number line le = rw (none_left k digits le) refl
 
 -- ---- bytes
 
-bytes_stop : (n at : ℕ) (line : List ℕ) → is_byte_at line at ≡ false → bytes_at (suc n) line at ≡ []
+bytes_stop : (j : Bool) (k n at : ℕ) (line : List ℕ) → is_byte_at j line at ≡ false → bytes_at j k (suc n) line at ≡ []
 unfolding bytes_at
-bytes_stop n at line e = rw e refl
+bytes_stop j k n at line e = rw e refl
 
-bytes_step : (n at : ℕ) (line : List ℕ) → is_byte_at line at ≡ true → bytes_at (suc n) line at ≡ byte_at line at ∷ bytes_at n line (next_at n line at)
+bytes_step : (j : Bool) (k n at : ℕ) (line : List ℕ) → is_byte_at j line at ≡ true
+    → bytes_at j k (suc n) line at ≡ byte_at line at ∷ bytes_at j (k + 1) n line (next_at j (k + 1) line at)
 unfolding bytes_at
-bytes_step n at line e = rw e refl
+bytes_step j k n at line e = rw e refl
 
 -- the bytes end here
-pub bytes_end : (n k at : ℕ) (line all said : List ℕ) → k < n → is_byte_at line at ≡ false → all ≡ said ++ bytes_at (n - k) line at → said ≡ all
-bytes_end n k at line all said lt e so =
+pub bytes_end : (j : Bool) (n k at : ℕ) (line all said : List ℕ) → k < n → is_byte_at j line at ≡ false → all ≡ said ++ bytes_at j k (n - k) line at
+    → said ≡ all
+bytes_end j n k at line all said lt e so =
     let is : n - k ≡ suc (n - (k + 1)) = omega arith in
-    let none : bytes_at (n - k) line at ≡ [] = rw is (bytes_stop (n - (k + 1)) at line e) in
+    let none : bytes_at j k (n - k) line at ≡ [] = rw is (bytes_stop j k (n - (k + 1)) at line e) in
     sym (so ∙ ap (λ l. said ++ l) none ∙ append-nil said)
 
 -- one byte more
-pub bytes_go : (n k at : ℕ) (line all said : List ℕ) → k < n → is_byte_at line at ≡ true → all ≡ said ++ bytes_at (n - k) line at
-    → all ≡ (said ++ byte_at line at ∷ []) ++ bytes_at (n - (k + 1)) line (next_at (n - (k + 1)) line at)
-bytes_go n k at line all said lt e so =
+pub bytes_go : (j : Bool) (n k at : ℕ) (line all said : List ℕ) → k < n → is_byte_at j line at ≡ true → all ≡ said ++ bytes_at j k (n - k) line at
+    → all ≡ (said ++ byte_at line at ∷ []) ++ bytes_at j (k + 1) (n - (k + 1)) line (next_at j (k + 1) line at)
+bytes_go j n k at line all said lt e so =
     let is : n - k ≡ suc (n - (k + 1)) = omega arith in
-    let more : bytes_at (n - k) line at ≡ byte_at line at ∷ bytes_at (n - (k + 1)) line (next_at (n - (k + 1)) line at) =
-    rw is (bytes_step (n - (k + 1)) at line e) in
-    so ∙ ap (λ l. said ++ l) more ∙ sym (append_assoc said (byte_at line at ∷ []) (bytes_at (n - (k + 1)) line (next_at (n - (k + 1)) line at)))
+    let rest : List ℕ = bytes_at j (k + 1) (n - (k + 1)) line (next_at j (k + 1) line at) in
+    let more : bytes_at j k (n - k) line at ≡ byte_at line at ∷ rest = rw is (bytes_step j k (n - (k + 1)) at line e) in
+    so ∙ ap (λ l. said ++ l) more ∙ sym (append_assoc said (byte_at line at ∷ []) rest)
 
 -- no more are looked for
-pub bytes_full : (n k at : ℕ) (line all said : List ℕ) → n ≤ k → all ≡ said ++ bytes_at (n - k) line at → said ≡ all
+pub bytes_full : (j : Bool) (n k at : ℕ) (line all said : List ℕ) → n ≤ k → all ≡ said ++ bytes_at j k (n - k) line at → said ≡ all
 unfolding bytes_at
-bytes_full n k at line all said le so =
-    let none : bytes_at (n - k) line at ≡ [] = rw (none_left k n le) refl in
+bytes_full j n k at line all said le so =
+    let none : bytes_at j k (n - k) line at ≡ [] = rw (none_left k n le) refl in
     sym (so ∙ ap (λ l. said ++ l) none ∙ append-nil said)

@@ -89,7 +89,7 @@ abbrev pub IsRun : Option (List ℕ) → Option (List ℕ) → ℕ → ℕ → L
 IsRun a now n width said right =
     IfSome a (λ xs. IsAt xs n width said right × (0 < n → goes_on (line_in (after_lines n xs)) ≡ true) × Keeps (Some (after_lines n xs)) now)
 
-at_first : (xs : List ℕ) → IsAt xs 0 16 [] true
+at_first : (xs : List ℕ) → IsAt xs 0 256 [] true
 unfolding width_by said_by are_right
 at_first xs = record { goes = λ k some lt. absurd (omega (arith, lt)); room = λ k lt. absurd (omega (arith, lt)); wide = refl; says = refl; has = refl }
 
@@ -97,7 +97,7 @@ keeps_first : (xs : List ℕ) → Keeps (Some (after_lines 0 xs)) (Some xs)
 unfolding after_lines
 keeps_first xs = refl
 
-pub run_first : (a : Option (List ℕ)) → IsRun a a 0 16 [] true
+pub run_first : (a : Option (List ℕ)) → IsRun a a 0 256 [] true
 run_first None = tt
 run_first (Some xs) = (at_first xs, λ none. absurd (omega (arith, none)), keeps_first xs)
 
@@ -115,25 +115,25 @@ lines_more n xs = rw add-one refl
 
 -- the first line says how many are looked for
 width_first : (xs said more line : List ℕ) (width also : ℕ) → said ≡ said_by 0 xs → width ≡ width_by 0 xs → line_in (after_lines 0 xs) ≡ line
-    → more ≡ said ++ bytes_in width line → also ≡ min (length more) 16 → also ≡ width_by 1 xs
+    → more ≡ said ++ bytes_in width line → also ≡ min (length more) 256 → also ≡ width_by 1 xs
 unfolding width_by said_by after_lines
 width_first xs said more line width also says wide is bytes first =
-    let all : more ≡ bytes_in 16 (line_in xs) = bytes ∙ rw (says, wide, is) refl in
-    first ∙ ap (λ l. min (length l) 16) all
+    let all : more ≡ bytes_in 256 (line_in xs) = bytes ∙ rw (says, wide, is) refl in
+    first ∙ ap (λ l. min (length l) 256) all
 
 width_later : (m : ℕ) (xs : List ℕ) → width_by (suc m) xs ≡ width_by (suc (suc m)) xs
 unfolding width_by
 width_later m xs = refl
 
 width_next : (n : ℕ) (xs said more line : List ℕ) (width also : ℕ) → said ≡ said_by n xs → width ≡ width_by n xs → line_in (after_lines n xs) ≡ line
-    → more ≡ said ++ bytes_in width line → (n ≡ 0 → also ≡ min (length more) 16) → (0 < n → also ≡ width) → also ≡ width_by (n + 1) xs
+    → more ≡ said ++ bytes_in width line → (n ≡ 0 → also ≡ min (length more) 256) → (0 < n → also ≡ width) → also ≡ width_by (n + 1) xs
 width_next zero xs said more line width also says wide is bytes first later = width_first xs said more line width also says wide is bytes (first refl)
 width_next (suc m) xs said more line width also says wide is bytes first later = rw add-one (later (omega arith) ∙ wide ∙ width_later m xs)
 
 -- one line more
 at_next : (xs : List ℕ) (n width wider : ℕ) (said more line : List ℕ) (right also : Bool) → IsAt xs n width said right
     → (0 < n → goes_on (line_in (after_lines n xs)) ≡ true) → length said ≤ 262144 → line_in (after_lines n xs) ≡ line → more ≡ said ++ bytes_in width line
-    → also ≡ (says_offset line (length said) && right) → (n ≡ 0 → wider ≡ min (length more) 16) → (0 < n → wider ≡ width) → IsAt xs (n + 1) wider more also
+    → also ≡ (says_offset line (length said) && right) → (n ≡ 0 → wider ≡ min (length more) 256) → (0 < n → wider ≡ width) → IsAt xs (n + 1) wider more also
 at_next xs n width wider said more line right also at front room is bytes offset first later = record {
   goes = λ k some lt. elim (cases_lt k n) [
     | inl before ↦ at.goes k some before
@@ -157,7 +157,7 @@ keep_on p (Some zs) (Some ys) kept keeps = keeps ∙ kept
 -- the line that is held is taken, and more is held
 pub run_next : (a b c e : Option (List ℕ)) (held : List ℕ) (n width wider : ℕ) (said more : List ℕ) (right also : Bool)
     → IsRun a (prepend_known held b) n width said right → HoldsLine held ⊎ IsAtEnd b → length (line_in held) ≤ 524288 → length said ≤ 262144
-    → more ≡ said ++ bytes_in width (line_in held) → also ≡ (says_offset (line_in held) (length said) && right) → (n ≡ 0 → wider ≡ min (length more) 16)
+    → more ≡ said ++ bytes_in width (line_in held) → also ≡ (says_offset (line_in held) (length said) && right) → (n ≡ 0 → wider ≡ min (length more) 256)
     → (0 < n → wider ≡ width) → IfSome (prepend_known held b) (λ ys. Keeps (Some (after_line ys)) c) → Keeps c e → IsBehind a e (n + 1) wider more also
 run_next None b c e held n width wider said more right also run holds short room bytes offset first later left keeps = tt
 run_next (Some xs) None c e held n width wider said more right also run holds short room bytes offset first later left keeps = absurd run.2

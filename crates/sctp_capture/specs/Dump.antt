@@ -1,4 +1,4 @@
--- Dumps of several lines a packet, as text2pcap reads them.
+-- Dumps of several lines a packet, as text2pcap and xxd write them.
 use Rattle.std.specs.Prelude.{ℕ, zero, suc, ◌+◌, ◌-◌, ◌*◌, ◌/◌, ◌%◌, Bool, true, false, ◌==◌, ◌||◌, ◌&&◌, not, ltb, leb, if◌then◌else◌, List, [], ◌∷◌, length}
 use Rattle.std.specs.Prelude.{slice_index}
 use Rattle.sctp_capture.specs.declared.dump.Layout.{Layout}
@@ -21,23 +21,30 @@ ends_word x = x == 10 || is_blank x
 
 -- ---- bytes
 
--- a byte is a word of two hex digits
-abbrev pub is_byte_at : List ℕ → ℕ → Bool
-is_byte_at line at = is_digit (char_at line at)
-    && (is_digit (char_at line (at + 1)) && ends_word (char_at line (at + 2)))
+-- a byte is two hex digits; its word ends behind them, or, where words are joined bytes, a digit of the next one stands there
+abbrev pub is_byte_at : Bool → List ℕ → ℕ → Bool
+is_byte_at is_joined line at = is_digit (char_at line at)
+    && (is_digit (char_at line (at + 1)) && (ends_word (char_at line (at + 2))
+    || (is_joined && is_digit (char_at line (at + 2)))))
 
 abbrev pub byte_at : List ℕ → ℕ → ℕ
 byte_at line at = value_of (char_at line at) * 16 + value_of (char_at line (at + 1))
 
--- behind it stands one blank, but two may stand behind the eighth byte, when eight are left
-abbrev pub next_at : ℕ → List ℕ → ℕ → ℕ
-next_at left line at = if left == 8 && is_blank (char_at line (at + 3)) then at + 4 else at + 3
+-- the next byte stands behind a word that goes on, or one blank; where words are single bytes, two blanks may stand behind the eighth one
+abbrev pub next_at : Bool → ℕ → List ℕ → ℕ → ℕ
+next_at is_joined taken line at =
+    if is_joined then (if is_digit (char_at line (at + 2)) then at + 2 else at + 3)
+    else if taken == 8 && is_blank (char_at line (at + 3)) then at + 4
+    else at + 3
 
--- the bytes from a place on, up to what is none, but not more than so many
-unfoldable pub bytes_at : ℕ → List ℕ → ℕ → List ℕ
-bytes_at zero line at = []
-bytes_at (suc left) line at =
-    if is_byte_at line at then byte_at line at ∷ bytes_at left line (next_at left line at) else []
+-- the bytes from a place on, behind so many of the line, up to what is none, but not more than so many
+unfoldable pub bytes_at : Bool → ℕ → ℕ → List ℕ → ℕ → List ℕ
+bytes_at is_joined taken zero line at = []
+bytes_at is_joined taken (suc left) line at =
+    if is_byte_at is_joined line at
+    then byte_at line at
+    ∷ bytes_at is_joined (taken + 1) left line (next_at is_joined (taken + 1) line at)
+    else []
 
 -- ---- offsets
 
@@ -87,12 +94,17 @@ has_offset line = is_offset_size (layout_of line).digits
 abbrev pub says_offset : List ℕ → ℕ → Bool
 says_offset line number = says (layout_of line).digits line (layout_of line).start number
 
+-- words are joined bytes, as xxd writes them: a colon stands behind the offset, and a third digit in the first word
+abbrev pub is_joined : List ℕ → Bool
+is_joined line = char_at line ((layout_of line).start + (layout_of line).digits) == 58
+    && is_digit (char_at line ((layout_of line).text + 2))
+
 abbrev pub has_bytes : List ℕ → Bool
-has_bytes line = is_byte_at line (layout_of line).text
+has_bytes line = is_byte_at (is_joined line) line (layout_of line).text
 
 -- the bytes of a line, at most so many
 abbrev pub bytes_in : ℕ → List ℕ → List ℕ
-bytes_in width line = bytes_at width line (layout_of line).text
+bytes_in width line = bytes_at (is_joined line) 0 width line (layout_of line).text
 
 -- ---- lines
 

@@ -1,5 +1,5 @@
 -- What logs write before the hex text of a packet: usrsctp, browsers, and what text2pcap reads.
-use Rattle.std.specs.Prelude.{ℕ, ◌+◌, ◌-◌, ◌*◌, Bool, true, false, ◌==◌, ◌||◌, ◌&&◌, leb, if◌then◌else◌, List, [], ◌∷◌, length, slice_index, slice_range, codes}
+use Rattle.std.specs.Prelude.{ℕ, zero, suc, ◌+◌, ◌-◌, ◌*◌, Bool, true, false, ◌==◌, ◌||◌, ◌&&◌, leb, if◌then◌else◌, List, [], ◌∷◌, length, slice_index, slice_range, codes}
 use Rattle.std.specs.Prelude.{Some, None}
 use Rattle.sctp_capture.specs.declared.record.Direction.{Direction}
 use Rattle.sctp_capture.specs.declared.record.Direction.TheVariants.{In, Out}
@@ -55,7 +55,56 @@ marked_lead line =
 abbrev pub no_lead : Lead
 no_lead = record { length = 0; direction = None; time = None }
 
--- The lead of a line: a mark, a time of day in micro- or milliseconds, if there is one, and the offset 0. Other lines have none.
+-- ---- other text before hex text
+
+-- a blank, and a hex digit or a blank
+abbrev pub is_space : ℕ → Bool
+is_space x = x == 32 || (x == 9 || x == 13)
+
+abbrev pub is_hex : ℕ → Bool
+is_hex x =
+    ((leb 48 x && leb x 57) || ((leb 65 x && leb x 70) || (leb 97 x && leb x 102))) || is_space x
+
+-- the place behind the last byte that is neither, of so many from a place on, up to a comment; where none is so, the place that was found before
+unfoldable pub behind_text : ℕ → List ℕ → ℕ → ℕ → ℕ
+behind_text zero line at found = found
+behind_text (suc left) line at found =
+    if slice_index line at == 35 then found
+    else behind_text left line (at + 1) (if is_hex (slice_index line at) then found else at + 1)
+
+-- the place of the first blank, of so many bytes from a place on, or the one behind them
+unfoldable pub word_end : ℕ → List ℕ → ℕ → ℕ
+word_end zero line at = at
+word_end (suc left) line at =
+    if is_space (slice_index line at) then at else word_end left line (at + 1)
+
+-- how many are no blanks, of so many from a place on, up to a comment, besides those before it
+unfoldable pub count_from : ℕ → List ℕ → ℕ → ℕ → ℕ
+count_from zero line at count = count
+count_from (suc left) line at count =
+    if slice_index line at == 35 then count
+    else count_from left line (at + 1) (if is_space (slice_index line at) then count else count + 1)
+
+-- so many digits as a common header has stand from a place on
+abbrev pub has_header : List ℕ → ℕ → Bool
+has_header line at = leb 24 (count_from (length line - at) line at 0)
+
+-- Hex text may begin behind the last byte that is none. It begins behind the word in which that stands, where enough is there.
+abbrev pub prefix_by : List ℕ → ℕ → ℕ
+prefix_by line at =
+    if at == 0 then 0
+    else if has_header line (word_end (length line - at) line at)
+    then word_end (length line - at) line at
+    else if has_header line at then at
+    else 0
+
+abbrev pub prefix_of : List ℕ → ℕ
+prefix_of line = prefix_by line (behind_text (length line) line 0 0)
+
+abbrev pub prefixed_lead : List ℕ → Lead
+prefixed_lead line = record { length = prefix_of line; direction = None; time = None }
+
+-- The lead of a line: a mark, a time of day in micro- or milliseconds, if there is one, and the offset 0; or other text.
 abbrev pub lead_of : List ℕ → Lead
 lead_of line =
     if begins_so (codes "M dd:dd:dd.dddddd 0000 ") line
@@ -63,7 +112,7 @@ lead_of line =
     else if begins_so (codes "M dd:dd:dd.ddd 0000 ") line
     then timed_lead line 20 (three_at line 11 * 1000)
     else if begins_so (codes "M 0000 ") line then marked_lead line
-    else no_lead
+    else prefixed_lead line
 
 -- what a line says behind its lead
 abbrev pub said_in : List ℕ → List ℕ

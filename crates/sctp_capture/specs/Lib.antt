@@ -10,3 +10,4 @@ pub mod Frame
 pub mod Exported
 pub mod Kind
 pub mod Input
+pub mod Write

@@ -18,10 +18,10 @@ unfoldable pub after_lines : ℕ → List ℕ → List ℕ
 after_lines zero text = text
 after_lines (suc n) text = after_line (after_lines n text)
 
--- how many bytes are looked for in a line behind so many: as many as the first one has, and in that one sixteen
+-- how many bytes are looked for in a line behind so many: as many as the first one has, and in that one 256
 unfoldable pub width_by : ℕ → List ℕ → ℕ
-width_by zero text = 16
-width_by (suc n) text = min (length (bytes_in 16 (line_in text))) 16
+width_by zero text = 256
+width_by (suc n) text = min (length (bytes_in 256 (line_in text))) 256
 
 -- the bytes of so many lines
 unfoldable pub said_by : ℕ → List ℕ → List ℕ

@@ -1,4 +1,4 @@
-//! Dumps of several lines a packet, as text2pcap reads them: a line has the offset of its first byte, and at most sixteen bytes.
+//! Dumps of several lines a packet, as text2pcap and xxd write them: a line has the offset of its first byte, and at most 256 bytes.
 
 ghost use Rattle.std.specs.Prelude.{◌≡◌, ◌≤◌, ◌<◌, ◌+◌, ◌++◌, ◌↔◌, OnOk, IsTrue, length};
 ghost use Rattle.sctp_capture.specs.Dump as dumps;
@@ -7,7 +7,7 @@ use crate::record::{MAX_LINE, is_blank};
 use std::alloc::AllocError;
 
 /// The most bytes of a dump's line.
-pub const WIDTH: usize = 16;
+pub const WIDTH: usize = 256;
 
 /// The most digits of an offset, and one more.
 const MANY_DIGITS: usize = 9;
@@ -26,7 +26,7 @@ fn char_at(line: &[u8], at: usize) -> u8
 }
 
 /// Whether a byte is a hex digit.
-fn is_digit(byte: u8) -> bool
+pub fn is_digit(byte: u8) -> bool
     ensures { result ≡ dumps.is_digit byte }
 {
     (byte >= b'0' && byte <= b'9')
@@ -55,48 +55,64 @@ fn ends_word(byte: u8) -> bool
     byte == b'\n' || is_blank(byte)
 }
 
-/// Whether a byte stands here: a word of two hex digits.
-fn is_byte_at(line: &[u8], at: usize) -> bool
-    requires { at < 1000 }
-    ensures { result ≡ dumps.is_byte_at line.now at }
+/// Whether a byte stands here: two hex digits, behind which the word ends, or, where words have several bytes, may go on.
+fn is_byte_at(is_joined: bool, line: &[u8], at: usize) -> bool
+    requires { at < 5000 }
+    ensures { result ≡ dumps.is_byte_at is_joined line.now at }
 {
+    let next = char_at(line, at + 2);
     is_digit(char_at(line, at))
         && is_digit(char_at(line, at + 1))
-        && ends_word(char_at(line, at + 2))
+        && (ends_word(next) || (is_joined && is_digit(next)))
 }
 
 /// The byte that stands here.
 fn byte_at(line: &[u8], at: usize) -> u8
-    requires { at < 1000 }
+    requires { at < 5000 }
     ensures { result ≡ dumps.byte_at line.now at }
 {
     value_of(char_at(line, at)) * 16 + value_of(char_at(line, at + 1))
 }
 
-/// Where the next byte stands: behind one blank, or, behind eight bytes, of which so many are left, also behind two.
-fn next_at(line: &[u8], at: usize, left: usize) -> usize
-    requires { at < 1000 }
-    ensures is { result ≡ dumps.next_at left line.now at }
+/// Where the next byte stands, behind so many: at once in a word that goes on, else behind one blank. Where words have one byte, it may also
+/// stand behind two blanks, behind eight bytes.
+fn next_at(is_joined: bool, taken: usize, line: &[u8], at: usize) -> usize
+    requires { at < 5000 }
+    ensures is { result ≡ dumps.next_at is_joined taken line.now at }
     ensures few { result ≤ at + 4 }
 {
-    if left == 8 && is_blank(char_at(line, at + 3)) {
+    if is_joined {
+        return if is_digit(char_at(line, at + 2)) {
+            at + 2
+        } else {
+            at + 3
+        };
+    }
+    if taken == 8 && is_blank(char_at(line, at + 3)) {
         return at + 4;
     }
     at + 3
 }
 
 /// Appends the bytes that stand from here on, at most so many.
-fn push_bytes(line: &[u8], at: usize, width: usize, said: &mut Vec<u8>) -> Result<(), AllocError>
-    requires { (at < 100) × (width ≤ 16) }
-    ensures { OnOk result (said.new.items ≡ said.old.items ++ dumps.bytes_at width line.now at) }
+fn push_bytes(
+    is_joined: bool,
+    line: &[u8],
+    at: usize,
+    width: usize,
+    said: &mut Vec<u8>,
+) -> Result<(), AllocError>
+    requires { (at < 100) × (width ≤ 256) }
+    ensures { OnOk result
+        (said.new.items ≡ said.old.items ++ dumps.bytes_at is_joined 0 width line.now at) }
 {
     let mut place = at;
     for taken in 0..width {
-        if !is_byte_at(line, place) {
+        if !is_byte_at(is_joined, line, place) {
             return Ok(());
         }
         said.push(byte_at(line, place))?;
-        place = next_at(line, place, width - (taken + 1));
+        place = next_at(is_joined, taken + 1, line, place);
     }
     Ok(())
 }
@@ -204,11 +220,19 @@ fn has_offset(line: &[u8]) -> bool
     is_offset_size(layout.digits) && ends_offset(char_at(line, layout.start + layout.digits))
 }
 
+/// Whether the words of a line have several bytes: a colon stands behind its offset, and a third digit in the first word.
+fn is_joined(line: &[u8]) -> bool
+    ensures { result ≡ dumps.is_joined line.now }
+{
+    let layout = layout_of(line);
+    char_at(line, layout.start + layout.digits) == b':' && is_digit(char_at(line, layout.text + 2))
+}
+
 /// Whether a byte stands behind a line's offset.
 fn has_bytes(line: &[u8]) -> bool
     ensures { result ≡ dumps.has_bytes line.now }
 {
-    is_byte_at(line, layout_of(line).text)
+    is_byte_at(is_joined(line), line, layout_of(line).text)
 }
 
 /// Whether the offset of a line is this number.
@@ -238,8 +262,8 @@ pub fn goes_on(line: &[u8]) -> bool
 
 /// Appends the bytes of a line, at most so many.
 pub fn push_line(line: &[u8], width: usize, said: &mut Vec<u8>) -> Result<(), AllocError>
-    requires { width ≤ 16 }
+    requires { width ≤ 256 }
     ensures { OnOk result (said.new.items ≡ said.old.items ++ dumps.bytes_in width line.now) }
 {
-    push_bytes(line, layout_of(line).text, width, said)
+    push_bytes(is_joined(line), line, layout_of(line).text, width, said)
 }

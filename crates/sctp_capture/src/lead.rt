@@ -1,9 +1,10 @@
 //! What logs write before the hex text of a packet: usrsctp, browsers, and what text2pcap reads.
 
-ghost use Rattle.std.specs.Prelude.{◌≡◌, ◌≤◌, ◌<◌, ◌+◌, length, slice_index, IsTrue};
+ghost use Rattle.std.specs.Prelude.{◌≡◌, ◌≤◌, ◌<◌, ◌+◌, ◌-◌, length, slice_index, IsTrue};
 ghost use Rattle.sctp_capture.specs.Lead as leads;
 
-use crate::record::{Direction, Time};
+use crate::dump::is_digit;
+use crate::record::{Direction, Time, is_blank};
 
 /// A mark, a time of day in microseconds, and the offset 0: the lead of usrsctp and Firefox.
 const LONG: &str = "M dd:dd:dd.dddddd 0000 ";
@@ -13,6 +14,9 @@ const SHORT: &str = "M dd:dd:dd.ddd 0000 ";
 
 /// A mark and the offset 0.
 const MARK: &str = "M 0000 ";
+
+/// The fewest digits that are read behind other text: those of a common header.
+const LEAST_DIGITS: usize = 24;
 
 /// What stands before the hex text of a line.
 #[derive(Clone, Copy, Debug, PartialEq, Eq)]
@@ -110,7 +114,85 @@ fn timed_lead(line: &[u8], span: usize, microseconds: u64) -> Lead
     }
 }
 
-/// The lead of a line: a mark, a time of day in micro- or milliseconds, if there is one, and the offset 0. Other lines have none.
+/// Whether a byte may stand in hex text.
+fn is_hex(byte: u8) -> bool
+    ensures { result ≡ leads.is_hex byte }
+{
+    is_digit(byte) || is_blank(byte)
+}
+
+/// The place behind the last byte of a line that is not of hex text, up to a comment; 0 where there is none.
+#[tactic(auto, using(crate::proofs::Leads::text_ends, crate::proofs::Leads::text_goes, crate::proofs::Leads::text_passes, crate::proofs::Leads::text_full))]
+fn behind_text(line: &[u8]) -> usize
+    ensures is { result ≡ leads.behind_text (length line.now) line.now 0 0 }
+    ensures within { result ≤ length line.now }
+{
+    let mut found = 0;
+    for at in 0..line.len() {
+        if line[at] == b'#' {
+            return found;
+        }
+        if !is_hex(line[at]) {
+            found = at + 1;
+        }
+    }
+    found
+}
+
+/// The place of the first blank from here on, or the end.
+#[tactic(auto, using(crate::proofs::Leads::word_ends, crate::proofs::Leads::word_goes, crate::proofs::Leads::word_full))]
+fn word_end(line: &[u8], from: usize) -> usize
+    requires { from ≤ length line.now }
+    ensures is { result ≡ leads.word_end (length line.now - from) line.now from }
+    ensures within { result ≤ length line.now }
+{
+    for passed in 0..line.len() - from {
+        if is_blank(line[from + passed]) {
+            return from + passed;
+        }
+    }
+    line.len()
+}
+
+/// How many bytes stand from here on that are no blanks, up to a comment.
+#[tactic(auto, using(crate::proofs::Leads::count_ends, crate::proofs::Leads::count_goes, crate::proofs::Leads::count_passes, crate::proofs::Leads::count_full))]
+fn count_from(line: &[u8], from: usize) -> usize
+    requires { from ≤ length line.now }
+    ensures { result ≡ leads.count_from (length line.now - from) line.now from 0 }
+{
+    let mut count = 0;
+    for passed in 0..line.len() - from {
+        if line[from + passed] == b'#' {
+            return count;
+        }
+        if !is_blank(line[from + passed]) {
+            count += 1;
+        }
+    }
+    count
+}
+
+/// How many bytes of a line stand before its hex text, where that has as many digits as a common header, and other text is before it. A word
+/// that begins with other text is none of it, where enough stands behind that word.
+fn prefix_of(line: &[u8]) -> usize
+    ensures is { result ≡ leads.prefix_of line.now }
+    ensures within { result ≤ length line.now }
+{
+    let from = behind_text(line);
+    let end = word_end(line, from);
+    if from == 0 {
+        return 0;
+    }
+    if count_from(line, end) >= LEAST_DIGITS {
+        return end;
+    }
+    if count_from(line, from) >= LEAST_DIGITS {
+        return from;
+    }
+    0
+}
+
+/// The lead of a line: a mark, a time of day in micro- or milliseconds, if there is one, and the offset 0; or other text.
 pub fn lead_of(line: &[u8]) -> Lead
     ensures is { result ≡ leads.lead_of line.now }
     ensures within { result.length ≤ length line.now }
@@ -124,7 +206,11 @@ pub fn lead_of(line: &[u8]) -> Lead
     }
     let is_marked = begins_so(MARK.as_bytes(), line);
     Lead {
-        length: if is_marked { MARK.len() } else { 0 },
+        length: if is_marked {
+            MARK.len()
+        } else {
+            prefix_of(line)
+        },
         direction: if is_marked {
             Some(direction_of(line[0]))
         } else {

@@ -12,3 +12,4 @@ pub mod preamble;
 pub mod record;
 pub mod text;
 pub mod window;
+pub mod write;

@@ -53,7 +53,7 @@ fn take_line<R: Read + Drop>(
     dump: &mut Dump,
     width: usize,
 ) -> Result<(), ReadFault>
-    requires { width ≤ 16 }
+    requires { width ≤ 256 }
     ensures said { OnOk result (dump.new.said.items ≡ dump.old.said.items
         ++ dumps.bytes_in width (line_in window.old.held.items)) }
     ensures right { OnOk result (dump.new.is_right
@@ -86,10 +86,10 @@ fn dump_record(lead: Lead, dump: Dump) -> Result<Record, AllocError>
 
 /// How many bytes are looked for in the next line behind so many and one more, which has as many.
 fn next_width(before: u64, said: usize, width: usize) -> usize
-    requires { width ≤ 16 }
-    ensures first { before ≡ 0 → result ≡ min said 16 }
+    requires { width ≤ 256 }
+    ensures first { before ≡ 0 → result ≡ min said 256 }
     ensures later { 0 < before → result ≡ width }
-    ensures few { result ≤ 16 }
+    ensures few { result ≤ 256 }
 {
     if before == 0 {
         return said.min(WIDTH);

@@ -8,7 +8,7 @@ use Rattle.sctp_capture.proofs.text.take_dump.Goals as goal
 pub returns-then-is_ended : goal.returns-then-is_ended
 returns-then-is_ended g c =
     let at = c.loop-taken.invariant in
-    let first : c.loop-taken.taken ≡ 0 → c.next_width-width.result ≡ min (length c.take_line.new.dump.said.items) 16 =
+    let first : c.loop-taken.taken ≡ 0 → c.next_width-width.result ≡ min (length c.take_line.new.dump.said.items) 256 =
     λ none. grind (arith, common_steps, c.next_width-width.ensures.first none) in
     let behind = run_next _ (g.R.Read.remaining c.loop-taken.window.reader) _ _ c.loop-taken.window.held.items c.loop-taken.taken c.loop-taken.width
     c.next_width-width.result c.loop-taken.dump.said.items _ c.loop-taken.dump.is_right _
@@ -22,7 +22,7 @@ returns-then-is_ended g c =
 pub loop-taken-preserved : goal.loop-taken-preserved
 loop-taken-preserved g c =
     let at = c.loop-taken.invariant in
-    let first : c.loop-taken.taken ≡ 0 → c.next_width-width.result ≡ min (length c.take_line.new.dump.said.items) 16 =
+    let first : c.loop-taken.taken ≡ 0 → c.next_width-width.result ≡ min (length c.take_line.new.dump.said.items) 256 =
     λ none. grind (arith, common_steps, c.next_width-width.ensures.first none) in
     let behind = run_next _ (g.R.Read.remaining c.loop-taken.window.reader) _ _ c.loop-taken.window.held.items c.loop-taken.taken c.loop-taken.width
     c.next_width-width.result c.loop-taken.dump.said.items _ c.loop-taken.dump.is_right _

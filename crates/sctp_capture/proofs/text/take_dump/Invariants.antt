@@ -12,6 +12,6 @@ invariant-loop-taken g l = record {
       l.taken l.width l.dump.said.items l.dump.is_right;
   holds : HoldsLine l.window.held.items ⊎ IsAtEnd (g.R.Read.remaining l.window.reader);
   short : length (line_in l.window.held.items) ≤ 524288;
-  few : l.width ≤ 16;
+  few : l.width ≤ 256;
   room : length l.dump.said.items ≤ 262144;
 }
