@@ -11,6 +11,7 @@ use sctp_capture::record::{Record, Time};
 use sctp_capture::window::Window;
 use sctp_show::checksum::{Sum, sum_for};
 use sctp_show::run::{Counts, RunFault, send_off, write_text};
+use sctp_show::scene::scene_of;
 use sctp_show::text::{Options, shown_in};
 use sctp_show::zero::ZeroTags;
 use std::alloc::{AllocError, Global};
@@ -42,6 +43,7 @@ fn take_record<T: Take, W: Write>(
     options: &Options,
     number: u64,
     record: &Record,
+    start: &Option<Time>,
     zero_tags: &mut ZeroTags,
     taker: &mut T,
     output: &mut W,
@@ -83,7 +85,14 @@ fn take_record<T: Take, W: Write>(
         missing: datagram.missing,
         is_wrong,
     };
-    let is_shown = options.filter.passes(&seen, datagram.missing, is_wrong);
+    let scene = scene_of(
+        datagram.missing,
+        is_wrong,
+        datagram.ends,
+        start,
+        &record.time,
+    );
+    let is_shown = options.filter.passes(&seen, &scene);
     let text = taker.take(alloc, &packet, is_shown)?;
     write_text(output, &text)?;
     Ok(if is_shown { 1 } else { 0 })
@@ -116,6 +125,7 @@ pub fn summarize<R: Read + Drop, T: Take, W: Write>(
     let format = open_input(&mut window)?;
     let mut section = Section::new(alloc);
     let mut zero_tags = ZeroTags::new(alloc);
+    let mut start: Option<Time> = None;
     let (mut records, mut unread, mut shown) = (0u64, 0u64, 0u64);
     'pieces: for turn in 0..u64::MAX {
         let _turn = turn;
@@ -133,11 +143,13 @@ pub fn summarize<R: Read + Drop, T: Take, W: Write>(
             Taken::Record(record) => {
                 records += 1;
                 unread += unread_of(&record);
+                start = start.or(record.time);
                 shown += take_record(
                     alloc,
                     options,
                     records,
                     &record,
+                    &start,
                     &mut zero_tags,
                     taker,
                     output,

@@ -4,12 +4,15 @@ use Rattle.sctp_capture.specs.declared.record.Record.{Record}
 use Rattle.sctp_capture.specs.declared.record.Fault.{Fault}
 use Rattle.sctp_show.specs.declared.text.Options.{Options}
 use Rattle.sctp_dissect.specs.declared.dissection.Dissection.{Dissection}
-use Rattle.std.specs.Prelude.{Bool}
+use Rattle.std.specs.Prelude.{Bool, Option}
+use Rattle.std.specs.declared.net.ip_addr.IpAddr.{IpAddr}
+use Rattle.sctp_capture.specs.declared.record.Time.{Time}
+use Rattle.sctp_show.specs.Scene.{scene_of}
 use Rattle.sctp_show.specs.Sum.{sum_of, sum_for, is_wrong}
 use Rattle.sctp_dissect.specs.declared.dissection.Fault.TheVariants.{ShortPacket}
 use Rattle.sctp_show.specs.Cut.{WithCut}
 use Rattle.sctp_show.specs.Choice.{passes}
-use Rattle.sctp_show.specs.Text.{Holds, IsShown, IsPacketText, IsText, IsFrameText, numbered_text, fault_line}
+use Rattle.sctp_show.specs.Text.{Holds, AreEndsIn, IsShown, IsPacketText, IsText, IsFrameText, numbered_text, fault_line}
 
 -- nothing is cut off where there is no header
 pub short_is_kept : (missing : ℕ) (d : Dissection) → d.fault ≡ Some ShortPacket → WithCut missing d d
@@ -19,36 +22,37 @@ short_is_kept missing d e = record {
   cut = λ yes. absurd (grind (arith, rw e at yes));
 }
 
-pub packet_is : {T E : Type 0} (bytes_of : T → List ℕ) (result : Result T E) (o : Options) (number : ℕ) (datagram : List ℕ) (missing : ℕ) (seen : Dissection)
-    (zero : Bool) → IsShown (sum_of (sum_for o.sum missing)) datagram missing seen
-    → IfOk result (λ t. passes o.filter missing (is_wrong (sum_for o.sum missing) zero seen.header) seen ≡ true
+pub packet_is : {T E : Type 0} (bytes_of : T → List ℕ) (result : Result T E) (o : Options) (number : ℕ) (datagram : List ℕ) (missing : ℕ)
+    (ends : Option (IpAddr × IpAddr)) (time : Option Time) (seen : Dissection) (zero : Bool) (start : Option Time) → IsShown (sum_of (sum_for o.sum missing)) datagram missing seen
+    → IfOk result (λ t. passes o.filter (scene_of missing (is_wrong (sum_for o.sum missing) zero seen.header) ends start time) seen ≡ true
     → (shown : List ℕ) × (bytes_of t ≡ numbered_text o.form number shown))
-    → IfOk result (λ t. passes o.filter missing (is_wrong (sum_for o.sum missing) zero seen.header) seen ≡ false → bytes_of t ≡ [])
-    → IfOk result (λ t. IsPacketText o number datagram missing (bytes_of t))
-packet_is bytes_of (Ok t) o number datagram missing seen zero is shown hidden = record {
+    → IfOk result (λ t. passes o.filter (scene_of missing (is_wrong (sum_for o.sum missing) zero seen.header) ends start time) seen ≡ false → bytes_of t ≡ [])
+    → IfOk result (λ t. IsPacketText o number datagram missing ends time (bytes_of t))
+packet_is bytes_of (Ok t) o number datagram missing ends time seen zero start is shown hidden = record {
   seen = seen;
   is_shown = is;
   accepts_zero = zero;
+  start = start;
   shown = shown;
   hidden = hidden;
 }
-packet_is bytes_of (Err e) o number datagram missing seen zero is shown hidden = tt
+packet_is bytes_of (Err e) o number datagram missing ends time seen zero start is shown hidden = tt
 
-pub frame_some : {T E : Type 0} (bytes_of : T → List ℕ) (result : Result T E) (o : Options) (number link_type : ℕ) (frame : List ℕ) (lost : ℕ)
-    (datagram : List ℕ)
-    (missing : ℕ) → Holds link_type o.port frame lost datagram missing → IfOk result (λ t. IsPacketText o number datagram missing (bytes_of t))
-    → IfOk result (λ t. IsFrameText o number link_type frame lost (bytes_of t))
-frame_some bytes_of (Ok t) o number link_type frame lost datagram missing holds is = inl (datagram, missing, holds, is)
-frame_some bytes_of (Err e) o number link_type frame lost datagram missing holds is = tt
+pub frame_some : {T E : Type 0} (bytes_of : T → List ℕ) (result : Result T E) (o : Options) (number : ℕ) (time : Option Time) (link_type : ℕ) (frame : List ℕ)
+    (lost : ℕ) (datagram : List ℕ) (missing : ℕ) (ends : Option (IpAddr × IpAddr)) → Holds link_type o.port frame lost datagram missing
+    → AreEndsIn link_type frame lost ends → IfOk result (λ t. IsPacketText o number datagram missing ends time (bytes_of t))
+    → IfOk result (λ t. IsFrameText o number time link_type frame lost (bytes_of t))
+frame_some bytes_of (Ok t) o number time link_type frame lost datagram missing ends holds are is = inl (datagram, missing, holds, (ends, are, is))
+frame_some bytes_of (Err e) o number time link_type frame lost datagram missing ends holds are is = tt
 
-pub frame_none : {T E : Type 0} (bytes_of : T → List ℕ) (result : Result T E) (o : Options) (number link_type : ℕ) (frame : List ℕ) (lost : ℕ) (fault : Fault)
+pub frame_none : {T E : Type 0} (bytes_of : T → List ℕ) (result : Result T E) (o : Options) (number : ℕ) (time : Option Time) (link_type : ℕ) (frame : List ℕ) (lost : ℕ) (fault : Fault)
     → ((datagram : List ℕ) → (missing : ℕ) → Holds link_type o.port frame lost datagram missing → ⊥) → IfOk result (λ t. bytes_of t ≡ fault_line o number fault)
-    → IfOk result (λ t. IsFrameText o number link_type frame lost (bytes_of t))
-frame_none bytes_of (Ok t) o number link_type frame lost fault none is = inr (none, (fault, is))
-frame_none bytes_of (Err e) o number link_type frame lost fault none is = tt
+    → IfOk result (λ t. IsFrameText o number time link_type frame lost (bytes_of t))
+frame_none bytes_of (Ok t) o number time link_type frame lost fault none is = inr (none, (fault, is))
+frame_none bytes_of (Err e) o number time link_type frame lost fault none is = tt
 
 pub text_shown : {T E : Type 0} (bytes_of : T → List ℕ) (result : Result T E) (o : Options) (number : ℕ) (r : Record) (frame : List ℕ) → r.frame ≡ Ok frame
-    → IfOk result (λ t. IsFrameText o number r.link_type frame r.lost (bytes_of t)) → IfOk result (λ t. IsText o number r (bytes_of t))
+    → IfOk result (λ t. IsFrameText o number r.time r.link_type frame r.lost (bytes_of t)) → IfOk result (λ t. IsText o number r (bytes_of t))
 text_shown bytes_of (Ok t) o number r frame has is = rw has is
 text_shown bytes_of (Err e) o number r frame has is = tt
 

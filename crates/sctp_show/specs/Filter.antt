@@ -15,6 +15,8 @@ use Rattle.sctp_show.specs.Cut.{missing_of}
 use Rattle.sctp_show.specs.Rules.{breaks_rule}
 use Rattle.sctp_show.specs.declared.filter.TsnRange.{TsnRange}
 use Rattle.sctp_show.specs.declared.filter.Filter.{Filter}
+use Rattle.sctp_show.specs.declared.scene.Scene.{Scene}
+use Rattle.sctp_show.specs.Scene.{is_span_asked}
 
 -- ---- what a chunk says, by its bytes
 
@@ -102,18 +104,30 @@ is_left_over missing (Some LengthPastEnd) = true
 abbrev pub is_refused : ℕ → Dissection → Bool
 is_refused missing d = is_left_over missing d.fault || list_any (is_bad missing) d.items.items
 
--- A packet, of which so many bytes are missing, and whose checksum is wrong or not, passes where its header is asked for, one of its chunks meets all that is
--- asked of a chunk, it is
--- refused, if only those are asked for, and its checksum is wrong, if only those are.
-abbrev pub passes : Filter → ℕ → Bool → Dissection → Bool
-passes f missing is_wrong d =
+-- it went between addresses that are asked for, of either end, of the source and of the destination, at a time that is
+abbrev pub has_asked_scene : Filter → Scene → Bool
+has_asked_scene f s =
+    (is_span_asked f.addresses.items s.source || is_span_asked f.addresses.items s.destination)
+    && is_span_asked f.sources.items s.source && is_span_asked f.destinations.items s.destination
+    && is_span_asked f.times.items s.since
+
+abbrev pub asks_no_scene : Filter → Bool
+asks_no_scene f =
+    (length f.addresses.items == 0) && (length f.sources.items == 0)
+    && (length f.destinations.items == 0) && (length f.times.items == 0)
+
+-- A packet passes where its header is asked for, one of its chunks meets all that is asked of a chunk, it is refused, if only those are asked for,
+-- its checksum is wrong, if only those are, and where and when it was captured is asked for.
+abbrev pub passes : Filter → Scene → Dissection → Bool
+passes f s d =
     has_asked_header f d.header
     && (asks_no_chunk f || list_any (meets f) d.items.items)
-    && (not f.only_refused || is_refused missing d)
-    && (not f.only_wrong || is_wrong)
+    && (not f.only_refused || is_refused s.missing d)
+    && (not f.only_wrong || s.is_wrong)
+    && has_asked_scene f s
 
 -- Any packet passes. Only then is a record shown that has no packet.
 abbrev pub asks_nothing : Filter → Bool
 asks_nothing f =
     (length f.ports.items == 0) && (length f.tags.items == 0) && asks_no_chunk f
-    && not f.only_refused && not f.only_wrong
+    && not f.only_refused && not f.only_wrong && asks_no_scene f

@@ -5,9 +5,10 @@ pub mod ChunkText
 pub mod Sum
 pub mod Cut
 pub mod Rules
+pub mod Time
+pub mod Scene
 pub mod Filter
 pub mod Choice
-pub mod Time
 pub mod Text
 pub mod Run
 pub mod Mark

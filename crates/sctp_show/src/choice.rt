@@ -5,6 +5,7 @@ ghost use Rattle.std.specs.List.{list_any, list_all};
 ghost use Rattle.sctp_show.specs.Choice as choices;
 
 use crate::filter::Filter;
+use crate::scene::Scene;
 use sctp_dissect::dissection::Dissection;
 use std::alloc::{AllocError, Global};
 
@@ -48,22 +49,20 @@ impl Term {
         Ok(true)
     }
 
-    /// Whether a packet, of which so many bytes are missing, and whose checksum is wrong or not, meets the term.
-    fn is_met_by(&self, seen: &Dissection, missing: usize, is_wrong: bool) -> bool
-        ensures { result ≡ choices.is_met_by missing is_wrong seen.now self.now }
+    /// Whether a packet that was captured so meets the term.
+    fn is_met_by(&self, seen: &Dissection, scene: &Scene) -> bool
+        ensures { result ≡ choices.is_met_by scene.now seen.now self.now }
     {
-        self.filter.passes(seen, missing, is_wrong) != self.is_not
+        self.filter.passes(seen, scene) != self.is_not
     }
 }
 
 impl Either {
     /// Whether a packet meets one of the terms.
-    fn is_met_by(&self, seen: &Dissection, missing: usize, is_wrong: bool) -> bool
-        ensures { result ≡ choices.has_one missing is_wrong seen.now self.now }
+    fn is_met_by(&self, seen: &Dissection, scene: &Scene) -> bool
+        ensures { result ≡ choices.has_one scene.now seen.now self.now }
     {
-        self.terms
-            .iter()
-            .any(|term| term.is_met_by(seen, missing, is_wrong))
+        self.terms.iter().any(|term| term.is_met_by(seen, scene))
     }
 
     /// Whether a checksum has to be computed to know it.
@@ -115,19 +114,17 @@ impl Choice {
     }
 
     /// Whether each of the others has a term that a packet meets.
-    fn is_met_by(&self, seen: &Dissection, missing: usize, is_wrong: bool) -> bool
-        ensures { result ≡ list_all (choices.has_one missing is_wrong seen.now) self.now.any.items }
+    fn is_met_by(&self, seen: &Dissection, scene: &Scene) -> bool
+        ensures { result ≡ list_all (choices.has_one scene.now seen.now) self.now.any.items }
     {
-        self.any
-            .iter()
-            .all(|either| either.is_met_by(seen, missing, is_wrong))
+        self.any.iter().all(|either| either.is_met_by(seen, scene))
     }
 
-    /// Whether a packet, of which so many bytes are missing, and whose checksum is wrong or not, has what is asked for. It takes no memory.
-    pub fn passes(&self, seen: &Dissection, missing: usize, is_wrong: bool) -> bool
-        ensures { result ≡ choices.passes self.now missing is_wrong seen.now }
+    /// Whether a packet that was captured so has what is asked for. It takes no memory.
+    pub fn passes(&self, seen: &Dissection, scene: &Scene) -> bool
+        ensures { result ≡ choices.passes self.now scene.now seen.now }
     {
-        self.all.passes(seen, missing, is_wrong) && self.is_met_by(seen, missing, is_wrong)
+        self.all.passes(seen, scene) && self.is_met_by(seen, scene)
     }
 
     /// Whether nothing is asked for.

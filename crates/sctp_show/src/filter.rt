@@ -8,6 +8,7 @@ use crate::chunk_text::type_of;
 use crate::cut::missing_of;
 use crate::names::ChunkName;
 use crate::rules::breaks_rule;
+use crate::scene::{Scene, Span, ask_addresses, ask_times, is_span_asked};
 use sctp_dissect::dissection::{Dissection, Fault, Header, Item, Reading};
 use sctp_serial::serial::distance;
 use sctp_util::field::{read_u16, read_u32};
@@ -35,6 +36,12 @@ pub struct Filter {
     pub tsns: Vec<TsnRange>,
     /// Payload protocol identifiers of DATA and I-DATA.
     pub payload_types: Vec<u32>,
+    /// Addresses, of either end, of the source, and of the destination.
+    pub addresses: Vec<Span>,
+    pub sources: Vec<Span>,
+    pub destinations: Vec<Span>,
+    /// Times, in nanoseconds since the first record.
+    pub times: Vec<Span>,
     /// Whether only packets are asked for that have a refused chunk or bytes left over.
     pub only_refused: bool,
     /// Whether only packets are asked for whose checksum is wrong.
@@ -245,13 +252,17 @@ impl Filter {
             streams: Vec::new(alloc),
             tsns: Vec::new(alloc),
             payload_types: Vec::new(alloc),
+            addresses: Vec::new(alloc),
+            sources: Vec::new(alloc),
+            destinations: Vec::new(alloc),
+            times: Vec::new(alloc),
             only_refused: false,
             only_wrong: false,
         }
     }
 
-    /// Asks for what a word says: `refused`, `refused=checksum`, or one of `port`, `tag`, `type`, `stream`, `tsn` and `ppid`, `=`, and values
-    /// with commas between them. Answers whether it says that.
+    /// Asks for what a word says: `refused`, `refused=checksum`, or one of `port`, `tag`, `type`, `stream`, `tsn`, `ppid`, `addr`, `src`, `dst`
+    /// and `time`, `=`, and values with commas between them. Answers whether it says that.
     pub fn ask(&mut self, word: &str) -> Result<bool, AllocError> {
         if word == "refused" {
             self.only_refused = true;
@@ -277,6 +288,10 @@ impl Filter {
             "stream" => ask_short(&mut self.streams, value),
             "tsn" => ask_range(&mut self.tsns, value),
             "ppid" => ask_word(&mut self.payload_types, value),
+            "addr" => ask_addresses(&mut self.addresses, value),
+            "src" => ask_addresses(&mut self.sources, value),
+            "dst" => ask_addresses(&mut self.destinations, value),
+            "time" => ask_times(&mut self.times, value),
             "refused" => Ok(self.ask_refused(value)),
             _ => Ok(false),
         }
@@ -332,14 +347,36 @@ impl Filter {
         items.iter().any(|item| self.meets(item))
     }
 
-    /// Whether a packet, of which so many bytes are missing, and whose checksum is wrong or not, has what is asked for. It takes no memory.
-    pub fn passes(&self, seen: &Dissection, missing: usize, is_wrong: bool) -> bool
-        ensures { result ≡ filters.passes self.now missing is_wrong seen.now }
+    /// Whether a scene has the addresses and the time that are asked for.
+    fn has_asked_scene(&self, scene: &Scene) -> bool
+        ensures { result ≡ filters.has_asked_scene self.now scene.now }
+    {
+        (is_span_asked(&self.addresses, scene.source)
+            || is_span_asked(&self.addresses, scene.destination))
+            && is_span_asked(&self.sources, scene.source)
+            && is_span_asked(&self.destinations, scene.destination)
+            && is_span_asked(&self.times, scene.since)
+    }
+
+    /// Whether nothing is asked of scenes.
+    fn asks_no_scene(&self) -> bool
+        ensures { result ≡ filters.asks_no_scene self.now }
+    {
+        self.addresses.is_empty()
+            && self.sources.is_empty()
+            && self.destinations.is_empty()
+            && self.times.is_empty()
+    }
+
+    /// Whether a packet that was captured so has what is asked for. It takes no memory.
+    pub fn passes(&self, seen: &Dissection, scene: &Scene) -> bool
+        ensures { result ≡ filters.passes self.now scene.now seen.now }
     {
         self.has_asked_header(&seen.header)
             && (self.asks_no_chunk() || self.is_met_by(&seen.items))
-            && (!self.only_refused || is_refused(missing, seen))
-            && (!self.only_wrong || is_wrong)
+            && (!self.only_refused || is_refused(scene.missing, seen))
+            && (!self.only_wrong || scene.is_wrong)
+            && self.has_asked_scene(scene)
     }
 
     /// Whether nothing is asked for.
@@ -351,5 +388,6 @@ impl Filter {
             && self.asks_no_chunk()
             && !self.only_refused
             && !self.only_wrong
+            && self.asks_no_scene()
     }
 }

@@ -15,6 +15,7 @@ pub mod names;
 pub mod page;
 pub mod rules;
 pub mod run;
+pub mod scene;
 pub mod summary;
 pub mod text;
 pub mod time;

@@ -5,6 +5,7 @@ ghost use Rattle.std.specs.String.{string_bytes};
 ghost use Rattle.sctp_show.specs.Text.{IsSeen, IsShown, IsPacketText, IsText, IsFrameText, numbered_text, refused_text, fault_line};
 ghost use Rattle.sctp_show.specs.Sum.{sum_of, sum_for, is_wrong};
 ghost use Rattle.sctp_show.specs.Choice.{passes};
+ghost use Rattle.sctp_show.specs.Scene as scenes;
 
 use crate::brief::put_brief;
 use crate::checksum::{Sum, is_wrong, sum_for};
@@ -16,6 +17,7 @@ use crate::follow::{Bases, Follow, Known, bases_for};
 use crate::mark::{mark_of, put_marked};
 use crate::page::{Form, Page, put_all, put_quoted};
 use crate::rules::rule_of_rest;
+use crate::scene::scene_of;
 use crate::summary::Summary;
 use crate::time::time_since;
 use bytes::Bytes;
@@ -362,17 +364,27 @@ fn passed_text(
     summary: &mut Summary,
 ) -> Result<String, AllocError>
     ensures shown { IfOk result (λ text. passes options.now.filter
-        datagram.now.missing (is_wrong (sum_for options.now.sum datagram.now.missing)
-        known.accepts_zero seen.now.header) seen.now ≡ true → (shown : List ℕ)
+        (scenes.scene_of datagram.now.missing
+        (is_wrong (sum_for options.now.sum datagram.now.missing) known.accepts_zero seen.now.header)
+        datagram.now.ends summary.old.start «record».now.time) seen.now ≡ true → (shown : List ℕ)
         × (string_bytes text ≡ numbered_text options.now.form number shown)) }
     ensures hidden { IfOk result (λ text. passes options.now.filter
-        datagram.now.missing (is_wrong (sum_for options.now.sum datagram.now.missing)
-        known.accepts_zero seen.now.header) seen.now ≡ false → string_bytes text ≡ []) }
+        (scenes.scene_of datagram.now.missing
+        (is_wrong (sum_for options.now.sum datagram.now.missing) known.accepts_zero seen.now.header)
+        datagram.now.ends summary.old.start «record».now.time) seen.now ≡ false
+        → string_bytes text ≡ []) }
 {
     let missing = datagram.missing;
     let sum = sum_for(options.sum, missing);
     let is_wrong = is_wrong(sum, known.accepts_zero, &seen.header);
-    if !options.filter.passes(seen, missing, is_wrong) {
+    let scene = scene_of(
+        missing,
+        is_wrong,
+        datagram.ends,
+        &summary.start,
+        &record.time,
+    );
+    if !options.filter.passes(seen, &scene) {
         summary.count_other();
         return Ok(String::new(alloc));
     }
@@ -401,7 +413,7 @@ fn packet_text<F: Follow>(
     summary: &mut Summary,
 ) -> Result<String, AllocError>
     ensures { IfOk result (λ text. IsPacketText options.now number datagram.now.bytes.now
-        datagram.now.missing (string_bytes text)) }
+        datagram.now.missing datagram.now.ends «record».now.time (string_bytes text)) }
 {
     let sum = sum_for(options.sum, datagram.missing);
     let seen = shown_in(alloc, sum, datagram.bytes, datagram.missing)?;
@@ -459,8 +471,8 @@ fn frame_text<F: Follow>(
     follower: &mut F,
     summary: &mut Summary,
 ) -> Result<String, AllocError>
-    ensures { IfOk result (λ text. IsFrameText options.now number «record».now.link_type frame.now
-        «record».now.lost (string_bytes text)) }
+    ensures { IfOk result (λ text. IsFrameText options.now number «record».now.time
+        «record».now.link_type frame.now «record».now.lost (string_bytes text)) }
 {
     match datagram_in(
         record.link_type,

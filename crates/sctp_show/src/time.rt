@@ -18,7 +18,7 @@ pub struct Elapsed {
 }
 
 /// The nanoseconds of a time.
-fn total_of(time: &Time) -> u128
+pub fn total_of(time: &Time) -> u128
     ensures { result ≡ total_of time.now }
 {
     let unit: u128 = if time.nanoseconds { 1 } else { 1_000 };

@@ -4,13 +4,16 @@ use Rattle.sctp_show.proofs.text.frame_text.Goals as goal
 
 pub returns-in-Ok : goal.returns-in-Ok
 returns-in-Ok g c =
-    frame_some string_bytes c.packet_text.result c.args.options.now c.args.number c.args.record.now.link_type c.args.frame.now c.args.record.now.lost _ _
+    frame_some string_bytes c.packet_text.result c.args.options.now c.args.number c.args.record.now.time c.args.record.now.link_type c.args.frame.now c.args.record.now.lost _ _ _
     (record {
       alone = λ e. (rw c.as_slice.ensures at (c.in-Ok.ensures.alone e).1, (c.in-Ok.ensures.alone e).2);
       carried = λ n. rw c.as_slice.ensures at (c.in-Ok.ensures.carried n);
+    }) (record {
+      alone = λ e. (c.in-Ok.ensures.alone e).0;
+      carried = λ n. rw c.as_slice.ensures at (c.in-Ok.ensures.ends n);
     }) c.packet_text.ensures
 
 pub returns-in-Err : goal.returns-in-Err
 returns-in-Err g c =
-    frame_none string_bytes c.fault_line.result c.args.options.now c.args.number c.args.record.now.link_type c.args.frame.now c.args.record.now.lost _
+    frame_none string_bytes c.fault_line.result c.args.options.now c.args.number c.args.record.now.time c.args.record.now.link_type c.args.frame.now c.args.record.now.lost _
     (λ d missing h. (rw c.as_slice.ensures at c.in-Err.ensures.refused) d missing (h.carried (λ e. c.in-Err.ensures.alone e))) c.fault_line.ensures

@@ -6,4 +6,4 @@ use Rattle.sctp_show.proofs.choice.Either.is_met_by.Goals as goal
 
 pub returns : goal.returns
 returns c =
-    any_from_yields_List (is_met_by c.args.missing c.args.is_wrong c.args.seen.now) _ _ _ c.any.ensures.ran (YieldsList-from_slice c.args.self.now.terms.items cc) (λ x b q k. search (rules, tests))
+    any_from_yields_List (is_met_by c.args.scene.now c.args.seen.now) _ _ _ c.any.ensures.ran (YieldsList-from_slice c.args.self.now.terms.items cc) (λ x b q k. search (rules, tests))
