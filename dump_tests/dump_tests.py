@@ -6,6 +6,7 @@
 PROGRAM is crates/sctpdump/out/sctpdump unless told otherwise: `rt ci` leaves it there, and `rt run` in crates/sctpdump makes it. The frames hold one
 datagram behind the headers that the RFCs named below give, or none; with --tshark, tshark has to find the datagram in the same ones, between the same
 addresses. The lines of JSON of each capture have to be what docs/sctpdump.schema.json says. Two large captures have to be shown within bounds. The
+records that are chosen with -w have to be in the capture that is written, whose blocks are read here; with --tshark, tshark has to read it, too. The
 runs are those of dump_tests/runs.txt: a line '$ sctpdump ..', run in crates/sctpdump/data and examples, and the lines that it prints.
 The last line is 'N passed, M failed'; the status is 0 where nothing failed.
 """
@@ -270,6 +271,96 @@ def write_datagrams(path, datagrams):
             out.write(struct.pack("<IIII", at // 1000, at % 1000 * 1000, len(frame), len(frame)) + frame)
 
 
+def blocks_of(capture):
+    """Returns type and body of each block of a capture in the newer format, whose numbers have their lowest byte first (draft-ietf-opsawg-pcapng 3.1)."""
+    found, at = [], 0
+    while at < len(capture):
+        typ, length = struct.unpack_from("<II", capture, at)
+        if length % 4 or length < 12 or struct.unpack_from("<I", capture, at + length - 4)[0] != length:
+            return [*found, (typ, b"no block")]
+        found.append((typ, capture[at + 8:at + length - 4]))
+        at += length
+    return found
+
+
+def packets_of(capture):
+    """Returns link type, nanoseconds, original length and bytes of each packet, where the blocks are a section, interfaces and enhanced packets."""
+    blocks, link_types, found = blocks_of(capture), [], []
+    if blocks[:1] != [(0x0A0D0D0A, struct.pack("<IHHq", 0x1A2B3C4D, 1, 0, -1))]:
+        return blocks
+    for typ, body in blocks[1:]:
+        if typ == 1:
+            link_type, _, limit = struct.unpack_from("<HHI", body)
+            link_types.append(link_type)
+            if limit or body[8:] != struct.pack("<HHB3xHH", 9, 1, 9, 0, 0):
+                return body
+        elif typ == 6:
+            interface, high, low, kept, whole = struct.unpack_from("<IIIII", body)
+            found.append((link_types[interface], high << 32 | low, whole, body[20:20 + kept]))
+            if any(body[20 + kept:]) or len(body) - 20 - kept > 3:
+                return body
+        else:
+            return typ
+    return found
+
+
+# Link type, seconds, nanoseconds, how many bytes were lost, and the frame, of records that are written as one capture: two of them have no SCTP.
+KEPT = [
+    (ETHERNET, 1_700_000_000, 123_456_789, 0, ethernet(0x0800, V4)),
+    (ETHERNET, 1_700_000_001, 5, 0, ethernet(0x0806, bytes(46))),
+    (RAW, 4_294_967_295, 999_999_999, 4, ipv4(DATAGRAM)[:-4]),
+    (ETHERNET, 0, 1, 0, ethernet(0x86DD, V6)),
+    (ETHERNET, 7, 0, 0, b""),
+    (EXPORTED, 1_700_000_002, 0, 0, exported([NAME])),
+]
+
+
+def write_captures(room):
+    """Writes each of KEPT as a capture with nanoseconds, and a line of hex text; returns their paths."""
+    paths = []
+    for at, (link_type, seconds, part, lost, frame) in enumerate(KEPT):
+        paths.append(f"{room}/{at}.pcap")
+        with open(paths[-1], "wb") as out:
+            out.write(struct.pack(">IHHiIII", 0xA1B23C4D, 2, 4, 0, 0, 262144, link_type))
+            out.write(struct.pack(">IIII", seconds, part, len(frame), len(frame) + lost) + frame)
+    paths.append(f"{room}/line.hex")
+    with open(paths[-1], "w", encoding="ascii") as out:
+        out.write(DATAGRAM.hex() + "\n")
+    return paths
+
+
+def told_by_tshark(path):
+    """Returns time, original length and captured length of each packet, and whether it finds SCTP."""
+    fields = ["frame.time_epoch", "frame.len", "frame.cap_len", "sctp.srcport"]
+    ran = subprocess.run(["tshark", "-r", path, "-T", "fields", *(it for field in fields for it in ("-e", field))], capture_output=True, text=True)
+    return [line.split("\t") for line in ran.stdout.splitlines()]
+
+
+def save_tests(program, has_tshark):
+    """Returns how many captures are written with what their inputs have, and are read again, and how many are not."""
+    wanted = [(kind, s * 10**9 + part, len(frame) + lost, frame) for kind, s, part, lost, frame in KEPT if frame and frame[12:14] != b"\x08\x06"]
+    wanted.append((248, 0, len(DATAGRAM), DATAGRAM))
+    counts = [0, 0]
+    with tempfile.TemporaryDirectory() as room:
+        saved, again = f"{room}/saved.pcapng", f"{room}/again.pcapng"
+        subprocess.run([program, "-w", saved, *write_captures(room)], check=True)
+        with open(again, "wb") as out:
+            subprocess.run([program, "-w", "-", saved], stdout=out, check=True)
+        for path in (saved, again):
+            with open(path, "rb") as capture:
+                told = packets_of(capture.read())
+            if told != wanted:
+                print(f"-w: {told}, not {wanted}")
+            counts[told != wanted] += 1
+        if has_tshark:
+            theirs = [[f"{ns // 10**9}.{ns % 10**9:09}", str(whole), str(len(frame)), "5000"] for _, ns, whole, frame in wanted]
+            told = told_by_tshark(saved)
+            if told != theirs:
+                print(f"-w: tshark says {told}, not {theirs}")
+            counts[told != theirs] += 1
+    return counts
+
+
 def bound_tests(program):
     """Returns how many views of large captures keep their bounds, and how many do not: 300,000 associations take each view four seconds of processor
     time at most, and a picture of 300 SACKs with 16,000 gap ack blocks each has 5 MB at most."""
@@ -302,7 +393,7 @@ def main(words):
     words = [word for word in words if word != "--tshark"]
     program = os.path.abspath(words[0] if words else f"{ROOT}/crates/sctpdump/out/sctpdump")
     runs = run_tests(program, f"{ROOT}/dump_tests/runs.txt")
-    passed, failed = (sum(counts) for counts in zip(frame_tests(program, has_tshark), runs, json_tests(program), bound_tests(program)))
+    passed, failed = (sum(counts) for counts in zip(frame_tests(program, has_tshark), runs, save_tests(program, has_tshark), json_tests(program), bound_tests(program)))
     if tells_version(program):
         passed += 1
     else:

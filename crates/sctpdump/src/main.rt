@@ -8,12 +8,14 @@ mod channels;
 mod messages;
 mod pending;
 mod reading;
+mod save;
 mod text;
 mod way;
 
 use crate::acks::Acks;
 use crate::channels::Channels;
 use crate::messages::Messages;
+use crate::save::{Saved, save};
 use clap::{Arg, ArgAction, ArgMatches, Command};
 use sctp_follow::ladder::{Ladders, Style};
 use sctp_follow::summarize::summarize;
@@ -43,7 +45,7 @@ const AT_ONCE: usize = 65_536;
 
 /// What a filter may say.
 const FILTER_WORDS: &str =
-    "a filter is port, tag, type, stream, tsn or ppid, = and values (tsn=5-9 is a range), refused or refused=checksum; or several with and, or, not";
+    "a filter is port, tag, type, stream, tsn, ppid, addr, src, dst or time, = and values (tsn=5-9 is a range), refused or refused=checksum; or several with and, or, not";
 
 /// What is printed in place of packets.
 const VIEW_WORDS: &str =
@@ -57,7 +59,7 @@ const NUMBER_WORDS: &str = "the port is a number up to 65535, and the count a nu
 const PICTURE_WORDS: &str = "--svg has one input, and its FILE is - or ends in .svg";
 
 const FILTER_HELP: &str =
-    "Show only packets with one of these: port, tag, type, stream, tsn (also FROM-TO), ppid; `refused`, `refused=checksum`; with ` or `, ` and ` between them, or `not ` before one";
+    "Show only packets with one of these: port, tag, type, stream, tsn (also FROM-TO), ppid; addr, src, dst (also ADDRESS/BITS); time=FROM-TO in seconds since the first record; `refused`, `refused=checksum`; with ` or `, ` and ` between them, or `not ` before one";
 
 const FULL_HELP: &str = "Print all that each chunk says, as lines";
 
@@ -87,6 +89,13 @@ const CHANNELS_HELP: &str =
 
 const SVG_HELP: &str =
     "Draw the TSNs of each association over time into FILE, whose name ends in .svg; - for standard output";
+
+const WRITE_HELP: &str =
+    "Print nothing, but write the records of the packets into FILE, as pcapng; - for standard output";
+
+/// With what `-w` does not go together.
+const WRITE_WORDS: &str =
+    "-w does not go with another view, -V or --json, and its FILE is none of those that are read";
 
 const COUNT_HELP: &str = "End after COUNT records are shown";
 
@@ -251,6 +260,8 @@ struct Task<'a> {
     is_relative: bool,
     /// The file that pictures are written to.
     picture: Option<&'a str>,
+    /// The file that records are written to.
+    saved: Option<&'a str>,
 }
 
 impl<'a> Task<'a> {
@@ -347,6 +358,95 @@ fn run_each(rt: &HostRuntime, task: &Task<'_>, files: &[&str]) -> anyhow::Result
         is_all = run_file(rt, task, file)? && is_all;
     }
     Ok(is_all)
+}
+
+/// Says why a run that writes records to a file ended early.
+fn report_save(rt: &HostRuntime, path: &str, name: &str, fault: RunFault) -> anyhow::Result<bool> {
+    match fault {
+        RunFault::Output(code) if path != "-" => report_error(rt, path, system_error(code)),
+        _ => report_fault(rt, name, fault),
+    }
+}
+
+/// Writes the chosen records of an input.
+fn save_input<R: Read + Drop, W: Write>(
+    rt: &HostRuntime,
+    task: &Task<'_>,
+    path: &str,
+    name: &str,
+    input: R,
+    saved: &mut Saved,
+    output: &mut W,
+) -> anyhow::Result<bool> {
+    match save(rt.alloc(), &task.options, input, saved, output) {
+        Ok(counts) => report_counts(rt, name, counts),
+        Err(fault) => {
+            saved.is_broken = matches!(fault, RunFault::Output(_));
+            report_save(rt, path, name, fault)
+        }
+    }
+}
+
+/// Writes the chosen records of a file.
+fn save_file<W: Write>(
+    rt: &HostRuntime,
+    task: &Task<'_>,
+    path: &str,
+    file: &str,
+    saved: &mut Saved,
+    output: &mut W,
+) -> anyhow::Result<bool> {
+    if file == "-" {
+        return save_input(rt, task, path, STANDARD_INPUT, rt.reader(), saved, output);
+    }
+    match fs::open(rt, file) {
+        Ok(input) => save_input(rt, task, path, file, input, saved, output),
+        Err(error) => report_error(rt, file, error),
+    }
+}
+
+/// Writes the chosen records of each file as one capture.
+fn save_each<W: Write + Drop>(
+    rt: &HostRuntime,
+    task: &Task<'_>,
+    path: &str,
+    files: &[&str],
+    writer: W,
+) -> anyhow::Result<bool> {
+    let mut output = BufWriter::with_capacity(rt.alloc(), AT_ONCE, writer)?;
+    let mut saved = Saved::new(rt.alloc())?;
+    if let Err(fault) = saved.send(&mut output) {
+        return report_save(rt, path, path, fault);
+    }
+    let mut is_all = true;
+    for file in files {
+        is_all = save_file(rt, task, path, file, &mut saved, &mut output)? && is_all;
+        if saved.is_broken {
+            return Ok(is_all);
+        }
+    }
+    match output.flush() {
+        Ok(()) => Ok(is_all),
+        Err(error) if path == "-" => report_output(rt, error),
+        Err(error) => report_error(rt, path, error),
+    }
+}
+
+/// Writes the chosen records of the files, or of the standard input, where there is none, to a file, or to the standard output.
+fn save_files(
+    rt: &HostRuntime,
+    task: &Task<'_>,
+    path: &str,
+    files: &[&str],
+) -> anyhow::Result<bool> {
+    let files: &[&str] = if files.is_empty() { &["-"] } else { files };
+    if path == "-" {
+        return save_each(rt, task, path, files, io::writer(rt));
+    }
+    match fs::create(rt, path) {
+        Ok(file) => save_each(rt, task, path, files, file),
+        Err(error) => report_error(rt, path, error),
+    }
 }
 
 /// The port that a word says, or 9899 where there is no word.
@@ -446,7 +546,8 @@ fn with_choice<'a>(alloc: Global, command: Command<'a>) -> Result<Command<'a>, A
         .short('f')
         .action(ArgAction::Append);
     let count = valued(alloc, "count", "COUNT", COUNT_HELP).short('c');
-    command.arg(filter)?.arg(count)
+    let write = valued(alloc, "write", "FILE", WRITE_HELP).short('w');
+    command.arg(filter)?.arg(count)?.arg(write)
 }
 
 /// Adds the words that say how records are read.
@@ -527,6 +628,17 @@ fn is_picture(picture: Option<&str>, inputs: usize) -> bool {
     }
 }
 
+/// Whether records may be written to this file: it is none of those that are read, and nothing else is printed.
+fn is_saved(saved: Option<&str>, view: View, options: &Options, files: &[&str]) -> bool {
+    let Some(path) = saved else {
+        return true;
+    };
+    view == View::Records
+        && !options.is_full
+        && options.form == Form::Text
+        && (path == "-" || !files.contains(&path))
+}
+
 /// How records are to be looked at, if the port and the count are numbers that can be.
 fn options_in(matches: &ArgMatches<'_>, filter: Choice, is_colored: bool) -> Option<Options> {
     let port = port_of(matches.get_str("port"))?;
@@ -555,10 +667,11 @@ fn options_in(matches: &ArgMatches<'_>, filter: Choice, is_colored: bool) -> Opt
 
 /// Prints the files of the command line, each under its name where there are more than one.
 fn run_files(rt: &HostRuntime, task: &Task<'_>, files: &[&str]) -> anyhow::Result<ExitCode> {
-    let is_all = match files {
-        [] => run_file(rt, task, "-")?,
-        [file] => run_file(rt, task, file)?,
-        _ => run_each(rt, task, files)?,
+    let is_all = match (task.saved, files) {
+        (Some(path), _) => save_files(rt, task, path, files)?,
+        (None, []) => run_file(rt, task, "-")?,
+        (None, [file]) => run_file(rt, task, file)?,
+        (None, _) => run_each(rt, task, files)?,
     };
     if is_all {
         return Ok(ExitCode::SUCCESS);
@@ -572,11 +685,11 @@ fn refuse<'a>(rt: &HostRuntime, why: &str) -> anyhow::Result<Option<Task<'a>>> {
     Ok(None)
 }
 
-/// What the command line asks for, of so many inputs. Where it cannot be followed it says why.
+/// What the command line asks for, of these inputs. Where it cannot be followed it says why.
 fn task_in<'a>(
     rt: &HostRuntime,
     matches: &ArgMatches<'a>,
-    inputs: usize,
+    files: &[&str],
 ) -> anyhow::Result<Option<Task<'a>>> {
     let filter = match filter_in(rt.alloc(), matches)? {
         Ok(filter) => filter,
@@ -595,14 +708,19 @@ fn task_in<'a>(
         return refuse(rt, VIEW_WORDS);
     };
     let picture = matches.get_str("svg");
-    if !is_picture(picture, inputs) {
+    if !is_picture(picture, files.len()) {
         return refuse(rt, PICTURE_WORDS);
+    }
+    let saved = matches.get_str("write");
+    if !is_saved(saved, view, &options, files) {
+        return refuse(rt, WRITE_WORDS);
     }
     Ok(Some(Task {
         options,
         view,
         is_relative: matches.get_flag("relative"),
         picture,
+        saved,
     }))
 }
 
@@ -621,7 +739,7 @@ fn main(rt: HostRuntime) -> anyhow::Result<ExitCode> {
         }
     };
     let files = files_in(alloc, &matches)?;
-    match task_in(&rt, &matches, files.len())? {
+    match task_in(&rt, &matches, &files)? {
         Some(task) => run_files(&rt, &task, &files),
         None => Ok(ExitCode::from(2)),
     }

@@ -1,0 +1,190 @@
+//! The chosen records of an input, written as a capture in the newer format (pcapng).
+
+ghost use Rattle.std.specs.Prelude.{◌≡◌, ◌≤◌, IfOk, OnOk};
+ghost use Rattle.std.specs.Io.KnownBytes.{Appends};
+ghost use Rattle.sctp_capture.specs.Write as written;
+
+use sctp_capture::blocks::{Section, Taken};
+use sctp_capture::frame::datagram_in;
+use sctp_capture::input::{holds_piece, next_piece, open_input, unread_of};
+use sctp_capture::record::{MAX_RECORD, Record, Time};
+use sctp_capture::window::Window;
+use sctp_capture::write::{put_interface, put_packet, put_section};
+use sctp_show::checksum::{Sum, sum_for};
+use sctp_show::run::{Counts, RunFault, send_off};
+use sctp_show::scene::scene_of;
+use sctp_show::text::{Options, shown_in};
+use sctp_show::zero::ZeroTags;
+use std::alloc::{AllocError, Global};
+use std::io::{Read, Write};
+
+/// What is known of a capture that is written.
+#[derive(Drop)]
+pub struct Saved {
+    /// The blocks that are to be written next.
+    blocks: Vec<u8>,
+    /// The link types of its interfaces, in order.
+    link_types: Vec<u32>,
+    /// Whether writing failed, so that nothing more is written.
+    pub is_broken: bool,
+}
+
+/// What is known of an input before a record.
+#[derive(Drop)]
+struct Past {
+    zero_tags: ZeroTags,
+    /// The first time that a record had.
+    start: Option<Time>,
+}
+
+impl Saved {
+    /// A capture of which nothing is written: its header comes next. Refuses only for memory.
+    pub fn new(alloc: Global) -> Result<Self, AllocError>
+        ensures { IfOk result (λ saved. saved.blocks.items ≡ written.section) }
+    {
+        let mut blocks = Vec::new(alloc);
+        put_section(&mut blocks)?;
+        Ok(Saved {
+            blocks,
+            link_types: Vec::new(alloc),
+            is_broken: false,
+        })
+    }
+
+    /// The number of the interface with this link type. Where there is none, its description comes next.
+    fn interface_of(&mut self, link_type: u32) -> Result<u32, AllocError> {
+        if let Some(place) = self.link_types.iter().position(|it| *it == link_type) {
+            return Ok(place as u32);
+        }
+        let place = self.link_types.len() as u32;
+        self.link_types.push(link_type)?;
+        put_interface(&mut self.blocks, link_type)?;
+        Ok(place)
+    }
+
+    /// Adds the block of a packet, with its interface, where that is new.
+    fn add(&mut self, record: &Record, frame: &[u8]) -> Result<(), AllocError> {
+        if frame.len() > MAX_RECORD {
+            return Ok(());
+        }
+        let interface = self.interface_of(record.link_type)?;
+        put_packet(
+            &mut self.blocks,
+            interface,
+            &record.time,
+            frame,
+            record.lost,
+        )
+    }
+
+    /// Writes the blocks that come next.
+    pub fn send<W: Write>(&mut self, output: &mut W) -> Result<(), RunFault>
+        ensures { OnOk result (Appends (W.contents output.old) (W.contents output.new)
+            self.old.blocks.items) }
+    {
+        let written = output.write_all(&self.blocks);
+        self.blocks.clear();
+        match written {
+            Ok(()) => Ok(()),
+            Err(e) => Err(RunFault::Output(e.raw_os_error())),
+        }
+    }
+}
+
+/// Whether the frame of a record holds a packet that has what is asked for.
+fn is_chosen(
+    alloc: Global,
+    options: &Options,
+    past: &mut Past,
+    record: &Record,
+    frame: &[u8],
+) -> Result<bool, AllocError> {
+    let Ok(datagram) = datagram_in(record.link_type, frame, record.lost, options.port) else {
+        return Ok(false);
+    };
+    let sum = if options.filter.needs_checksum() {
+        sum_for(options.sum, datagram.missing)
+    } else {
+        Sum::Unchecked
+    };
+    let seen = shown_in(alloc, sum, datagram.bytes, datagram.missing)?;
+    if sum == Sum::Crc32c {
+        past.zero_tags.note(alloc, &seen)?;
+    }
+    let is_wrong = past.zero_tags.is_wrong(sum, &seen);
+    let scene = scene_of(
+        datagram.missing,
+        is_wrong,
+        datagram.ends,
+        &past.start,
+        &record.time,
+    );
+    Ok(options.filter.passes(&seen, &scene))
+}
+
+/// Writes a record, if it is chosen. Answers how many were written, 0 or 1.
+fn save_record<W: Write>(
+    alloc: Global,
+    options: &Options,
+    past: &mut Past,
+    record: &Record,
+    saved: &mut Saved,
+    output: &mut W,
+) -> Result<u64, RunFault>
+    ensures { IfOk result (λ shown. shown ≤ 1) }
+{
+    past.start = past.start.or(record.time);
+    let Ok(frame) = &record.frame else {
+        return Ok(0);
+    };
+    let frame = frame.as_slice();
+    if !is_chosen(alloc, options, past, record, frame)? {
+        return Ok(0);
+    }
+    saved.add(record, frame)?;
+    saved.send(output)?;
+    Ok(1)
+}
+
+/// Writes each record of an input whose packet has what is asked for, until as many are written as are to be shown at most. What was written
+/// is sent off before more of the input is waited for. Answers how many records were read, how many have no frame, and how many are written.
+pub fn save<R: Read + Drop, W: Write>(
+    alloc: Global,
+    options: &Options,
+    input: R,
+    saved: &mut Saved,
+    output: &mut W,
+) -> Result<Counts, RunFault>
+    ensures { IfOk result (λ counts. counts.shown ≤ options.now.limit) }
+{
+    let mut window = Window::new(alloc, input)?;
+    let format = open_input(&mut window)?;
+    let mut section = Section::new(alloc);
+    let mut past = Past {
+        zero_tags: ZeroTags::new(alloc),
+        start: None,
+    };
+    let (mut records, mut unread, mut shown) = (0u64, 0u64, 0u64);
+    'pieces: for turn in 0..u64::MAX {
+        let _turn = turn;
+        let counts = Counts {
+            records,
+            unread,
+            shown,
+        };
+        if shown >= options.limit {
+            return Ok(counts);
+        }
+        send_off(output, holds_piece(format, &section, window.held()))?;
+        match next_piece(alloc, &mut window, &mut section, format)? {
+            Taken::Record(record) => {
+                records += 1;
+                unread += unread_of(&record);
+                shown += save_record(alloc, options, &mut past, &record, saved, output)?;
+            }
+            Taken::Nothing => {}
+            Taken::End => return Ok(counts),
+        }
+    }
+    Err(RunFault::Input(None))
+}
