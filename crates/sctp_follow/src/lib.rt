@@ -2,12 +2,15 @@
 #![tactic(auto)]
 
 pub mod associations;
+pub mod blocks;
 pub mod flow;
 pub mod index;
+pub mod interleave;
 pub mod ladder;
 pub mod outstanding;
 pub mod packet;
 pub mod plot;
+pub mod sack;
 pub mod stall;
 pub mod summarize;
 pub mod sums;

@@ -4,8 +4,10 @@ ghost use Rattle.std.specs.Prelude.{◌≡◌, ◌<◌, None, Some, map, filter,
 ghost use Rattle.std.specs.BTreeMap as trees;
 ghost use Rattle.std.specs.List.{list_any};
 ghost use Rattle.std.specs.Ordering.{nat_cmp};
+ghost use Rattle.sctp_follow.specs.Blocks.{AreFor};
 ghost use Rattle.sctp_follow.specs.Outstanding as acks;
 
+use crate::blocks::{ascend, ascending, is_in_some};
 use crate::flow::counted;
 use crate::packet::Arrived;
 use sctp_capture::record::Time;
@@ -82,33 +84,21 @@ pub struct Outstanding {
     pub passed: Option<Passed>,
 }
 
-/// Whether a TSN that lies so far behind the cumulative TSN of a SACK is in a gap ack block.
-fn is_in_block(offset: u32, block: &GapAckBlock) -> bool
-    ensures { result ≡ acks.is_in_block offset block.now }
-{
-    block.start as u32 <= offset && offset <= block.end as u32
-}
-
-/// Whether a TSN that lies so far behind the cumulative TSN of a SACK is in one of the gap ack blocks.
-fn is_in_some(blocks: &[GapAckBlock], offset: u32) -> bool
-    ensures { result ≡ list_any (acks.is_in_block offset) blocks.now }
-{
-    blocks.iter().any(|block| is_in_block(offset, block))
-}
-
 /// Whether a SACK acknowledges a TSN: by its cumulative TSN, or by a gap ack block (RFC 9260 3.3.4).
-pub fn acknowledges(sack: &ChunkSelectiveAck, tsn: u32) -> bool
+fn acknowledges(sack: &ChunkSelectiveAck, blocks: &[GapAckBlock], tsn: u32) -> bool
+    requires { AreFor sack.now blocks.now }
     ensures { result ≡ acks.acknowledges sack.now tsn }
 {
     sna32lte(tsn, sack.cumulative_tsn_ack)
-        || is_in_some(&sack.gap_ack_blocks, distance(sack.cumulative_tsn_ack, tsn))
+        || is_in_some(blocks, distance(sack.cumulative_tsn_ack, tsn))
 }
 
 /// Whether a SACK is the first one that acknowledges a chunk.
-fn is_newly(sack: &ChunkSelectiveAck, sent: &Sent) -> bool
+fn is_newly(sack: &ChunkSelectiveAck, blocks: &[GapAckBlock], sent: &Sent) -> bool
+    requires { AreFor sack.now blocks.now }
     ensures { result ≡ acks.is_newly sack.now sent.now }
 {
-    acknowledges(sack, sent.tsn) && sent.acknowledged.is_none()
+    sent.acknowledged.is_none() && acknowledges(sack, blocks, sent.tsn)
 }
 
 /// Whether another chunk has a later TSN, and was sent behind this one.
@@ -126,10 +116,16 @@ fn has_behind(sent: &Sent, others: &[Sent]) -> bool
 }
 
 /// Whether a SACK that is the first one to acknowledge these chunks reports another one missing (RFC 9260 7.2.4).
-fn reports_missing(sack: &ChunkSelectiveAck, newly: &[Sent], sent: &Sent) -> bool
+fn reports_missing(
+    sack: &ChunkSelectiveAck,
+    blocks: &[GapAckBlock],
+    newly: &[Sent],
+    sent: &Sent,
+) -> bool
+    requires { AreFor sack.now blocks.now }
     ensures { result ≡ acks.reports_missing sack.now newly.now sent.now }
 {
-    !acknowledges(sack, sent.tsn) && has_behind(sent, newly)
+    !newly.is_empty() && !acknowledges(sack, blocks, sent.tsn) && has_behind(sent, newly)
 }
 
 impl Sent {
@@ -166,14 +162,21 @@ impl Sent {
     }
 
     /// The chunk as it is known behind a SACK of a record, which is the first one to acknowledge these chunks.
-    fn after_sack(&self, sack: &ChunkSelectiveAck, newly: &[Sent], arrived: Arrived) -> Sent
+    fn after_sack(
+        &self,
+        sack: &ChunkSelectiveAck,
+        blocks: &[GapAckBlock],
+        newly: &[Sent],
+        arrived: Arrived,
+    ) -> Sent
+        requires { AreFor sack.now blocks.now }
         ensures { result ≡ acks.after_sack sack.now newly.now arrived self.now }
     {
         let mut after = *self;
-        if reports_missing(sack, newly, self) {
+        if reports_missing(sack, blocks, newly, self) {
             after.reports = counted(self.reports, 1);
         }
-        if is_newly(sack, self) {
+        if is_newly(sack, blocks, self) {
             after.acknowledged = Some(arrived);
         }
         after
@@ -278,14 +281,20 @@ impl Outstanding {
     }
 
     /// The chunks that a SACK is the first one to acknowledge. Refuses only for memory.
-    fn newly(&self, alloc: Global, sack: &ChunkSelectiveAck) -> Result<Vec<Sent>, AllocError>
+    fn newly(
+        &self,
+        alloc: Global,
+        sack: &ChunkSelectiveAck,
+        blocks: &[GapAckBlock],
+    ) -> Result<Vec<Sent>, AllocError>
+        requires { AreFor sack.now blocks.now }
         ensures { IfOk result (λ newly. newly.items
             ≡ filter (acks.is_newly sack.now) (trees.values self.now.chunks)) }
     {
         self.chunks
             .values()
             .copied()
-            .filter(|sent| is_newly(sack, sent))
+            .filter(|sent| is_newly(sack, blocks, sent))
             .collect(alloc)
     }
 
@@ -299,15 +308,46 @@ impl Outstanding {
     }
 
     /// Notes for each chunk what a SACK of a record says of it, which is the first one to acknowledge these chunks.
-    fn note_each(&mut self, sack: &ChunkSelectiveAck, newly: &[Sent], arrived: Arrived)
+    fn note_each(
+        &mut self,
+        sack: &ChunkSelectiveAck,
+        blocks: &[GapAckBlock],
+        newly: &[Sent],
+        arrived: Arrived,
+    )
+        requires { AreFor sack.now blocks.now }
         ensures passed { self.new.passed ≡ self.old.passed }
         ensures noted { self.new.chunks.entries
             ≡ map (λ e. (e.0, acks.after_sack sack.now newly.now arrived e.1)) self.old.chunks.entries }
     {
         self.chunks.retain(|_tsn, sent| {
-            *sent = sent.after_sack(sack, newly, arrived);
+            *sent = sent.after_sack(sack, blocks, newly, arrived);
             true
         });
+    }
+
+    /// Takes a SACK, of which these are the blocks, as `take_sack` does.
+    fn take_ascending(
+        &mut self,
+        alloc: Global,
+        sack: &ChunkSelectiveAck,
+        blocks: &[GapAckBlock],
+        arrived: Arrived,
+    ) -> Result<Vec<Sent>, AllocError>
+        requires { AreFor sack.now blocks.now }
+        ensures newly { IfOk result (λ newly. newly.items
+            ≡ filter (acks.is_newly sack.now) (trees.values self.old.chunks)) }
+        ensures left { IfOk result (λ newly. self.new.chunks.entries
+            ≡ acks.left_by sack.now newly.items arrived self.old.chunks.entries) }
+        ensures passed { OnOk result (self.new.passed
+            ≡ acks.passed_after self.old.passed sack.now.cumulative_tsn_ack arrived) }
+        ensures err { OnErr result (self.new ≡ self.old) }
+    {
+        let newly = self.newly(alloc, sack, blocks)?;
+        self.pass(sack.cumulative_tsn_ack);
+        self.note_each(sack, blocks, &newly, arrived);
+        self.passed = passed_after(&self.passed, sack.cumulative_tsn_ack, arrived);
+        Ok(newly)
     }
 
     /// Takes a SACK of a record: answers the chunks that it is the first one to acknowledge, lets those go that it acknowledges
@@ -326,11 +366,11 @@ impl Outstanding {
             ≡ acks.passed_after self.old.passed sack.now.cumulative_tsn_ack arrived) }
         ensures err { OnErr result (self.new ≡ self.old) }
     {
-        let newly = self.newly(alloc, sack)?;
-        self.pass(sack.cumulative_tsn_ack);
-        self.note_each(sack, &newly, arrived);
-        self.passed = passed_after(&self.passed, sack.cumulative_tsn_ack, arrived);
-        Ok(newly)
+        if ascend(&sack.gap_ack_blocks) {
+            return self.take_ascending(alloc, sack, &sack.gap_ack_blocks, arrived);
+        }
+        let blocks = ascending(alloc, &sack.gap_ack_blocks)?;
+        self.take_ascending(alloc, sack, &blocks, arrived)
     }
 
     /// The chunks up to a TSN that no SACK acknowledged. Refuses only for memory.

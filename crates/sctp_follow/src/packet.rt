@@ -1,9 +1,18 @@
 //! A packet of a record.
 
 use crate::flow::Extent;
+use crate::sack::read_sack;
 use sctp_capture::record::Time;
-use sctp_dissect::dissection::Dissection;
+use sctp_data::chunk::chunk_selective_ack::ChunkSelectiveAck;
+use sctp_dissect::dissection::{Dissection, Item, Reading};
+use sctp_util::error::Error;
+use std::alloc::{AllocError, Global};
 use std::net::IpAddr;
+
+/// The types of chunks that acknowledge others: SACK (RFC 9260 3.3.4) and NR-SACK (draft-natarajan-tsvwg-sctp-nrsack).
+const SACK: u8 = 3;
+
+const NR_SACK: u8 = 16;
 
 /// With which record a chunk came, and when.
 #[derive(Clone, Copy)]
@@ -26,4 +35,18 @@ pub struct Packet<'a> {
     pub missing: usize,
     /// Whether its checksum was computed, and is wrong.
     pub is_wrong: bool,
+}
+
+/// What a chunk acknowledges that the reader of packets refuses: a SACK that is cut off, or an NR-SACK. Another SACK that it refuses breaks a
+/// rule, and acknowledges nothing. Refuses only for memory.
+pub fn refused_sack(alloc: Global, item: &Item) -> Result<Option<ChunkSelectiveAck>, AllocError> {
+    let Reading::Raw(raw) = &item.reading else {
+        return Ok(None);
+    };
+    match (raw.typ.0, raw.refusal) {
+        (SACK, Error::ErrChunkHeaderNotEnoughSpace) | (NR_SACK, _) => {
+            read_sack(alloc, item.bytes.as_slice())
+        }
+        _ => Ok(None),
+    }
 }

@@ -2,7 +2,7 @@
 
 use crate::associations::{Associations, Way};
 use crate::outstanding::{Outstanding, forward_of};
-use crate::packet::{Arrived, Packet};
+use crate::packet::{Arrived, Packet, refused_sack};
 use crate::summarize::Take;
 use crate::text::{Style, put_association, put_end};
 use crate::trips::Trips;
@@ -101,11 +101,12 @@ impl Pair {
         item: &Item,
         arrived: Arrived,
     ) -> Result<(), AllocError> {
-        match &item.reading {
-            Reading::Strict(ChunkKind::SelectiveAck(sack)) => {
-                self.side(way.other()).take_sack(alloc, sack, arrived)
-            }
-            _ => self
+        if let Reading::Strict(ChunkKind::SelectiveAck(sack)) = &item.reading {
+            return self.side(way.other()).take_sack(alloc, sack, arrived);
+        }
+        match refused_sack(alloc, item)? {
+            Some(sack) => self.side(way.other()).take_sack(alloc, &sack, arrived),
+            None => self
                 .side(way)
                 .take_bytes(alloc, item.bytes.as_slice(), arrived),
         }
