@@ -11,7 +11,7 @@ use sctp_dissect::dissection::{Item, Reading};
 use sctp_follow::associations::{Associations, Way};
 use sctp_follow::flow::counted;
 use sctp_follow::outstanding::{Cause, Outstanding, Passed, Sending, Sent, forward_of};
-use sctp_follow::packet::{Arrived, Packet};
+use sctp_follow::packet::{Arrived, Packet, refused_sack};
 use sctp_follow::stall::{NO_WAIT, Report, Stall, Wait};
 use sctp_follow::summarize::Take;
 use sctp_follow::track::known_of;
@@ -309,7 +309,23 @@ impl Acks {
         Ok(())
     }
 
-    /// Takes a chunk of a packet that goes this way: a SACK is about what went the other way.
+    /// Takes a SACK of a packet that goes this way: it is about what went the other way.
+    fn take_report(
+        &mut self,
+        alloc: Global,
+        text: &mut String,
+        at: usize,
+        way: Way,
+        packet: &Packet<'_>,
+        sack: &ChunkSelectiveAck,
+    ) -> Result<(), AllocError> {
+        match self.moment_of(at, way.other(), packet) {
+            Some(moment) => self.take_sack(alloc, text, at, &moment, sack),
+            None => Ok(()),
+        }
+    }
+
+    /// Takes a chunk of a packet that goes this way.
     fn take_item(
         &mut self,
         alloc: Global,
@@ -320,10 +336,10 @@ impl Acks {
         item: &Item,
     ) -> Result<(), AllocError> {
         if let Reading::Strict(ChunkKind::SelectiveAck(sack)) = &item.reading {
-            return match self.moment_of(at, way.other(), packet) {
-                Some(moment) => self.take_sack(alloc, text, at, &moment, sack),
-                None => Ok(()),
-            };
+            return self.take_report(alloc, text, at, way, packet, sack);
+        }
+        if let Some(sack) = refused_sack(alloc, item)? {
+            return self.take_report(alloc, text, at, way, packet, &sack);
         }
         let Some(moment) = self.moment_of(at, way, packet) else {
             return Ok(());

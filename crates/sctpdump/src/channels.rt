@@ -10,7 +10,7 @@ use sctp_dissect::dissection::{Item, Reading};
 use sctp_follow::associations::{Associations, Way};
 use sctp_follow::flow::{counted, payload_length};
 use sctp_follow::outstanding::{Outstanding, Sending, forward_of};
-use sctp_follow::packet::{Arrived, Packet};
+use sctp_follow::packet::{Arrived, Packet, refused_sack};
 use sctp_follow::summarize::Take;
 use sctp_follow::text::put_end;
 use sctp_params::param::param_kind::ParamKind;
@@ -357,6 +357,9 @@ impl Pair {
                 return Ok(());
             }
             _ => {}
+        }
+        if let Some(sack) = refused_sack(alloc, item)? {
+            return self.take_sack(alloc, way.other(), &sack, arrived);
         }
         let bytes = item.bytes.as_slice();
         match forward_of(bytes) {

@@ -11,7 +11,7 @@ use sctp_chunks::chunk::chunk_kind::ChunkKind;
 use sctp_dissect::dissection::{Item, Reading};
 use sctp_follow::associations::{Associations, Way};
 use sctp_follow::flow::{Flow, counted};
-use sctp_follow::packet::{Arrived, Packet};
+use sctp_follow::packet::{Arrived, Packet, refused_sack};
 use sctp_follow::summarize::Take;
 use sctp_follow::track::known_of;
 use sctp_show::page::Form;
@@ -251,10 +251,10 @@ impl Messages {
         outcome: &Outcome,
     ) -> Result<(), AllocError> {
         for message in &outcome.messages {
-            let moment = read_at(moment, message.origin.arrived);
-            let bytes = put_read(alloc, text, self.style, &moment, message)?;
+            let moment = read_at(moment, message.arrived);
+            put_read(alloc, text, self.style, &moment, message)?;
             self.messages = counted(self.messages, 1);
-            self.bytes = counted(self.bytes, bytes as u64);
+            self.bytes = counted(self.bytes, message.bytes.len() as u64);
         }
         Ok(())
     }
@@ -370,7 +370,22 @@ impl Messages {
         })
     }
 
-    /// Takes a chunk of a packet that goes this way: a SACK is about what went the other way.
+    /// Takes the cumulative TSN of a SACK of a packet that goes this way: it is about what went the other way.
+    fn take_report(
+        &mut self,
+        at: usize,
+        way: Way,
+        packet: &Packet<'_>,
+        tsn: u32,
+        is_shown: bool,
+    ) -> Result<(), AllocError> {
+        match self.moment_of(at, way.other(), packet) {
+            Some(moment) => self.keep_sack(at, tsn, &moment, is_shown),
+            None => Ok(()),
+        }
+    }
+
+    /// Takes a chunk of a packet that goes this way.
     fn take_chunk(
         &mut self,
         alloc: Global,
@@ -382,10 +397,10 @@ impl Messages {
         is_shown: bool,
     ) -> Result<(), AllocError> {
         if let Reading::Strict(ChunkKind::SelectiveAck(sack)) = &item.reading {
-            return match self.moment_of(at, way.other(), packet) {
-                Some(moment) => { self.keep_sack(at, sack.cumulative_tsn_ack, &moment, is_shown) }
-                None => Ok(()),
-            };
+            return self.take_report(at, way, packet, sack.cumulative_tsn_ack, is_shown);
+        }
+        if let Some(sack) = refused_sack(alloc, item)? {
+            return self.take_report(at, way, packet, sack.cumulative_tsn_ack, is_shown);
         }
         let arrived = Arrived {
             number: packet.number,
@@ -492,12 +507,18 @@ impl Messages {
     }
 
     /// What is held of both ways and was not read.
-    fn put_pair(&self, text: &mut String, number: usize, pair: &Pair) -> Result<(), AllocError> {
+    fn put_pair(
+        &self,
+        alloc: Global,
+        text: &mut String,
+        number: usize,
+        pair: &Pair,
+    ) -> Result<(), AllocError> {
         if let Some(reader) = &pair.forth.reader {
-            put_held(text, self.style.form, number, Way::Forth, reader)?;
+            put_held(alloc, text, self.style.form, number, Way::Forth, reader)?;
         }
         if let Some(reader) = &pair.back.reader {
-            put_held(text, self.style.form, number, Way::Back, reader)?;
+            put_held(alloc, text, self.style.form, number, Way::Back, reader)?;
         }
         Ok(())
     }
@@ -505,10 +526,10 @@ impl Messages {
 
 impl Messages {
     /// What is held of each association and was not read.
-    fn put_each(&self, text: &mut String) -> Result<(), AllocError> {
+    fn put_each(&self, alloc: Global, text: &mut String) -> Result<(), AllocError> {
         let mut number = 1usize;
         for pair in &self.pairs {
-            self.put_pair(text, number, pair)?;
+            self.put_pair(alloc, text, number, pair)?;
             number = number.saturating_add(1);
         }
         Ok(())
@@ -548,7 +569,7 @@ impl Take for Messages {
             self.settle(alloc, &mut text, at, Way::Forth, u64::MAX)?;
             self.settle(alloc, &mut text, at, Way::Back, u64::MAX)?;
         }
-        self.put_each(&mut text)?;
+        self.put_each(alloc, &mut text)?;
         self.put_counts(&mut text, counts)?;
         Ok(text)
     }

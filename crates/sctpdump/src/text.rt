@@ -1,13 +1,11 @@
 //! A message as it is printed, as text or as JSON.
 
-use crate::reading::bytes_of;
 use crate::way::{Dropped, Message, Missed, Unread, WayReader};
 use itoa::Buffer;
 use sctp_capture::record::Time;
 use sctp_dissect::dissection::Item;
 use sctp_follow::associations::{Association, Way};
 use sctp_follow::text::put_ends;
-use sctp_receiver::replay::open_streams;
 use sctp_show::brief::{DCEP, put_brief, put_payload_type, put_tsn};
 use sctp_show::dcep::{put_brief_message, put_message};
 use sctp_show::follow::Bases;
@@ -116,27 +114,10 @@ fn is_text(bytes: &[u8]) -> bool {
     }
 }
 
-/// The first and the last TSN of a message, where it has any.
-fn tsns_of(message: &Message) -> (u32, u32) {
-    match message.chunks.fragments() {
-        [] => (0, 0),
-        [one] => (one.tsn, one.tsn),
-        [one, .., last] => (one.tsn, last.tsn),
-    }
-}
-
-/// Whether a message is unordered.
-fn is_unordered(message: &Message) -> bool {
-    match message.chunks.fragments().first() {
-        Some(fragment) => fragment.unordered,
-        None => false,
-    }
-}
-
 /// The stream, and the number of an ordered message.
 fn put_stream(text: &mut String, message: &Message) -> Result<(), AllocError> {
-    let (stream, number) = (message.stream, message.origin.sequence);
-    if is_unordered(message) {
+    let (stream, number) = (message.stream, message.number);
+    if message.unordered {
         return write!(text, " s{stream} unordered");
     }
     write!(text, " s{stream}/{number}")
@@ -158,17 +139,17 @@ fn put_line(
     text: &mut String,
     bases: Bases,
     message: &Message,
-    bytes: &[u8],
 ) -> Result<(), AllocError> {
+    let bytes = message.bytes.as_slice();
     put_stream(text, message)?;
-    put_payload_type(text, message.origin.identifier)?;
-    let (first, last) = tsns_of(message);
+    put_payload_type(text, message.identifier)?;
+    let (first, last) = (message.first_tsn, message.last_tsn);
     put_tsn(text, " TSN ", bases.own, first)?;
     if first != last {
         put_tsn(text, "-", bases.own, last)?;
     }
     put_all(text, &[" ", Buffer::new().format(bytes.len()), " bytes"])?;
-    if message.origin.identifier == DCEP {
+    if message.identifier == DCEP {
         put_brief_message(text, bytes)?;
     } else {
         put_bytes(alloc, text, bytes)?;
@@ -178,33 +159,28 @@ fn put_line(
 
 /// The members that say which message it is.
 fn put_members(page: &mut Page, message: &Message) -> Result<(), AllocError> {
-    let unordered = is_unordered(message);
-    let (first, last) = tsns_of(message);
     page.number("Stream", "stream", message.stream as u32)?;
-    if !unordered {
-        page.number("Number", "ssn", message.origin.sequence as u32)?;
+    let key = if message.is_interleaved { "mid" } else { "ssn" };
+    if !message.unordered {
+        page.number("Number", key, message.number)?;
     }
-    page.number("Type", "ppid", message.origin.identifier)?;
-    let name = payload_name(message.origin.identifier);
+    page.number("Type", "ppid", message.identifier)?;
+    let name = payload_name(message.identifier);
     if !name.is_empty() {
         page.words("Name", "payload_type", name)?;
     }
-    page.truth("Unordered", "unordered", unordered)?;
-    page.number("First TSN", "first_tsn", first)?;
-    page.number("Last TSN", "last_tsn", last)
+    page.truth("Unordered", "unordered", message.unordered)?;
+    page.number("First TSN", "first_tsn", message.first_tsn)?;
+    page.number("Last TSN", "last_tsn", message.last_tsn)
 }
 
 /// A message as JSON.
-fn put_object(
-    alloc: Global,
-    text: &mut String,
-    message: &Message,
-    bytes: &[u8],
-) -> Result<(), AllocError> {
+fn put_object(alloc: Global, text: &mut String, message: &Message) -> Result<(), AllocError> {
+    let bytes = message.bytes.as_slice();
     let mut page = Page::new(alloc, Form::Json);
     put_members(&mut page, message)?;
     page.bytes(alloc, "Data", "data", bytes)?;
-    if message.origin.identifier == DCEP {
+    if message.identifier == DCEP {
         put_message(&mut page, bytes)?;
     } else if is_text(bytes) {
         page.text.push_str(",\"text\":")?;
@@ -214,21 +190,19 @@ fn put_object(
     text.push_str("}\n")
 }
 
-/// Appends a message, and answers how many bytes it has.
+/// Appends a message.
 pub fn put_read(
     alloc: Global,
     text: &mut String,
     style: Style,
     moment: &Moment,
     message: &Message,
-) -> Result<usize, AllocError> {
-    let bytes = bytes_of(alloc, &message.chunks)?;
+) -> Result<(), AllocError> {
     put_lead(text, style, moment)?;
     match style.form {
-        Form::Text => put_line(alloc, text, moment.bases, message, &bytes)?,
-        Form::Json => put_object(alloc, text, message, &bytes)?,
+        Form::Text => put_line(alloc, text, moment.bases, message),
+        Form::Json => put_object(alloc, text, message),
     }
-    Ok(bytes.len())
 }
 
 /// Why a chunk is not read, in words.
@@ -237,7 +211,7 @@ fn put_why(text: &mut String, why: Unread) -> Result<(), AllocError> {
         Unread::Refused(refusal) => write!(text, "{refusal:?}"),
         Unread::Early => text.push_str("TSN before the first one"),
         Unread::NoBeginning => text.push_str("beginning not captured"),
-        Unread::Interleaved => text.push_str("I-DATA"),
+        Unread::Passed => text.push_str("captured after its message was passed"),
         Unread::Malformed => text.push_str("malformed"),
         Unread::CutOff => text.push_str("cut off in the capture"),
         Unread::NoUserData => text.push_str("no user data (RFC 9260 6.2)"),
@@ -335,32 +309,45 @@ pub fn put_wrong_checksum(
     }
 }
 
-/// Appends what is held of one way and was not read, stream by stream.
+/// Appends that so much is held of a stream and was not read.
+fn put_amount(
+    text: &mut String,
+    form: Form,
+    association: usize,
+    way: Way,
+    held: Dropped,
+) -> Result<(), AllocError> {
+    let (stream, chunks, bytes) = (held.stream, held.chunks, held.bytes);
+    text.push_str(if form == Form::Text { "" } else { "{" })?;
+    put_way(text, form, association, way)?;
+    match form {
+        Form::Text => write!(
+            text,
+            " s{stream} not complete: {chunks} chunks, {bytes} bytes\n"
+        ),
+        Form::Json => write!(
+            text,
+            ",\"stream\":{stream},\"held_chunks\":{chunks},\"held_bytes\":{bytes}}}\n"
+        ),
+    }
+}
+
+/// Appends what is held of one way and was not read, stream by stream: of DATA, and then of I-DATA.
 pub fn put_held(
+    alloc: Global,
     text: &mut String,
     form: Form,
     association: usize,
     way: Way,
     reader: &WayReader,
 ) -> Result<(), AllocError> {
-    for inbound in open_streams(&reader.receiver) {
-        let (chunks, bytes) = (inbound.queue.chunk_count(), inbound.queue.get_num_bytes());
-        if chunks == 0 {
-            continue;
+    for held in &reader.held(alloc)? {
+        if held.chunks > 0 {
+            put_amount(text, form, association, way, *held)?;
         }
-        let stream = inbound.queue.si();
-        text.push_str(if form == Form::Text { "" } else { "{" })?;
-        put_way(text, form, association, way)?;
-        match form {
-            Form::Text => write!(
-                text,
-                " s{stream} not complete: {chunks} chunks, {bytes} bytes\n"
-            )?,
-            Form::Json => write!(
-                text,
-                ",\"stream\":{stream},\"held_chunks\":{chunks},\"held_bytes\":{bytes}}}\n"
-            )?,
-        }
+    }
+    for held in &reader.held_interleaved(alloc)? {
+        put_amount(text, form, association, way, *held)?;
     }
     Ok(())
 }

@@ -1,11 +1,15 @@
 //! The messages that go one way in an association.
 
-use crate::reading::{read_all, take_chunk};
+use crate::reading::{bytes_of, read_all, take_chunk};
 use sctp_chunks::chunk::chunk_kind::ChunkKind;
 use sctp_chunks::chunk::chunk_reconfig::ChunkReconfig;
 use sctp_data::chunk::chunk_forward_tsn::{ChunkForwardTsn, ChunkForwardTsnStream};
 use sctp_data::chunk::chunk_payload_data::ChunkPayloadData;
 use sctp_dissect::dissection::{Item, Reading};
+use sctp_follow::interleave::{
+    Fragment, Interleaved, Passing, Whole, fragment_of, is_i_data, name_of, names_in,
+};
+use sctp_follow::outstanding::forward_of;
 use sctp_follow::packet::Arrived;
 use sctp_params::param::param_kind::ParamKind;
 use sctp_params::param::param_outgoing_reset_request::ParamOutgoingResetRequest;
@@ -34,13 +38,22 @@ pub struct Origin {
     pub arrived: Arrived,
 }
 
-/// A message that a receiver read.
+/// A message that is read.
 #[derive(Drop)]
 pub struct Message {
     pub stream: u16,
-    pub chunks: Chunks,
-    /// What its first fragment says, and with which record the last one of them came.
-    pub origin: Origin,
+    pub unordered: bool,
+    /// Whether it is of I-DATA (RFC 8260).
+    pub is_interleaved: bool,
+    /// Its number in its stream: of DATA the stream sequence number, of I-DATA the message identifier.
+    pub number: u32,
+    /// What its first fragment says.
+    pub identifier: u32,
+    pub first_tsn: u32,
+    pub last_tsn: u32,
+    /// With which record the last one of its fragments came.
+    pub arrived: Arrived,
+    pub bytes: Vec<u8>,
 }
 
 /// Why a chunk is not read.
@@ -52,8 +65,8 @@ pub enum Unread {
     Early,
     /// The beginning of its message was not captured.
     NoBeginning,
-    /// It is I-DATA (RFC 8260).
-    Interleaved,
+    /// Its message was read, or was passed.
+    Passed,
     /// It is refused by the reader of packets.
     Malformed,
     /// Its end was not captured.
@@ -104,6 +117,8 @@ pub struct WayReader {
     firsts: BTreeMap<u16, u16>,
     /// What the fragments of messages say that are not read yet, by TSN.
     origins: BTreeMap<u32, Origin>,
+    /// The messages of I-DATA.
+    pub interleaved: Interleaved,
     /// The number of the last request to reset streams that was followed.
     reset: Option<u32>,
 }
@@ -148,6 +163,26 @@ impl Outcome {
         }
     }
 
+    /// Adds messages of I-DATA.
+    fn add_interleaved(&mut self, alloc: Global, messages: &[Whole]) -> Result<(), AllocError> {
+        for message in messages {
+            self.messages.push(interleaved(alloc, message)?)?;
+        }
+        Ok(())
+    }
+
+    /// Adds what is gained of I-DATA where numbers or TSNs are passed.
+    fn add_passing(&mut self, alloc: Global, passing: &Passing) -> Result<(), AllocError> {
+        for amount in &passing.dropped {
+            self.dropped.push(Dropped {
+                stream: amount.stream,
+                chunks: amount.chunks,
+                bytes: amount.bytes,
+            })?;
+        }
+        self.add_interleaved(alloc, &passing.messages)
+    }
+
     /// Whether there is nothing to be printed.
     pub fn is_empty(&self) -> bool {
         self.messages.is_empty()
@@ -155,6 +190,63 @@ impl Outcome {
             && self.missed.is_none()
             && self.dropped.is_empty()
     }
+}
+
+/// The first and the last TSN of a message, where it has any.
+fn tsns_of(message: &Chunks) -> (u32, u32) {
+    match message.fragments() {
+        [] => (0, 0),
+        [one] => (one.tsn, one.tsn),
+        [one, .., last] => (one.tsn, last.tsn),
+    }
+}
+
+/// Whether a message is unordered.
+fn is_unordered(message: &Chunks) -> bool {
+    match message.fragments().first() {
+        Some(fragment) => fragment.unordered,
+        None => false,
+    }
+}
+
+/// What the last one of the fragments of a message came with.
+fn last_arrived(first: Arrived, fragments: &[Fragment]) -> Arrived {
+    let mut last = first;
+    for fragment in fragments {
+        if fragment.arrived.number > last.number {
+            last = fragment.arrived;
+        }
+    }
+    last
+}
+
+/// A message of I-DATA.
+fn interleaved(alloc: Global, message: &Whole) -> Result<Message, AllocError> {
+    let fragments = message.fragments.as_slice();
+    let (identifier, first_tsn, last_tsn, arrived) = match fragments {
+        [] => (
+            0,
+            0,
+            0,
+            Arrived {
+                number: 0,
+                time: None,
+            },
+        ),
+        [one] => (one.identifier, one.tsn, one.tsn, one.arrived),
+        [one, .., last] => (one.identifier, one.tsn, last.tsn, one.arrived),
+    };
+    Ok(Message {
+        stream: message.name.stream,
+        unordered: message.name.unordered,
+        is_interleaved: true,
+        number: message.name.number,
+        identifier,
+        first_tsn,
+        last_tsn,
+        arrived: last_arrived(arrived, fragments),
+        bytes: message.payload(alloc)?,
+    })
 }
 
 /// A chunk whose sequence number is counted from another one.
@@ -177,6 +269,7 @@ impl WayReader {
             is_whole,
             firsts: BTreeMap::new(alloc),
             origins: BTreeMap::new(alloc),
+            interleaved: Interleaved::new(alloc, is_whole),
             reset: None,
         }
     }
@@ -284,23 +377,37 @@ impl WayReader {
     }
 
     /// A message that the receiver read, with what its fragments said.
-    fn message_of(&mut self, stream: u16, chunks: Chunks) -> Message {
-        Message {
+    fn message_of(
+        &mut self,
+        alloc: Global,
+        stream: u16,
+        chunks: Chunks,
+    ) -> Result<Message, AllocError> {
+        let origin = self.origin_of(&chunks);
+        let (first_tsn, last_tsn) = tsns_of(&chunks);
+        Ok(Message {
             stream,
-            origin: self.origin_of(&chunks),
-            chunks,
-        }
+            unordered: is_unordered(&chunks),
+            is_interleaved: false,
+            number: origin.sequence as u32,
+            identifier: origin.identifier,
+            first_tsn,
+            last_tsn,
+            arrived: origin.arrived,
+            bytes: bytes_of(alloc, &chunks)?,
+        })
     }
 
     /// Adds messages that the receiver read of a stream.
     fn add_each(
         &mut self,
+        alloc: Global,
         outcome: &mut Outcome,
         stream: u16,
         messages: Vec<Chunks>,
     ) -> Result<(), AllocError> {
         for chunks in messages {
-            let message = self.message_of(stream, chunks);
+            let message = self.message_of(alloc, stream, chunks)?;
             outcome.messages.push(message)?;
         }
         Ok(())
@@ -312,7 +419,7 @@ impl WayReader {
         for stream in &streams {
             let mut messages = Vec::new(alloc);
             read_all(&mut self.receiver, *stream, &mut messages)?;
-            self.add_each(outcome, *stream, messages)?;
+            self.add_each(alloc, outcome, *stream, messages)?;
         }
         Ok(())
     }
@@ -361,16 +468,88 @@ impl WayReader {
         alloc: Global,
         bytes: &[u8],
         refusal: Error,
+        arrived: Arrived,
+        is_new: bool,
     ) -> Result<Outcome, AllocError> {
+        let is_cut = match refusal {
+            Error::ErrChunkHeaderNotEnoughSpace => true,
+            _ => false,
+        };
         if !is_data(bytes) {
             return Ok(Outcome::none(alloc));
         }
-        let why = match (bytes.first(), refusal) {
-            (_, Error::ErrChunkHeaderNotEnoughSpace) => Unread::CutOff,
-            (Some(&I_DATA), _) => Unread::Interleaved,
-            _ => Unread::Malformed,
+        if is_cut {
+            return self.pass_unread(alloc, read_u32(bytes, 4), Unread::CutOff);
+        }
+        if is_i_data(bytes) {
+            return self.take_i_data(alloc, bytes, arrived, is_new);
+        }
+        let has_none = bytes[0] == I_DATA && read_u16(bytes, 2) == 20;
+        let why = if has_none {
+            Unread::NoUserData
+        } else {
+            Unread::Malformed
         };
         self.pass_unread(alloc, read_u32(bytes, 4), why)
+    }
+
+    /// Takes I-DATA: the receiver notes its TSN, and its fragment goes to its message.
+    fn take_i_data(
+        &mut self,
+        alloc: Global,
+        bytes: &[u8],
+        arrived: Arrived,
+        is_new: bool,
+    ) -> Result<Outcome, AllocError> {
+        if bytes.len() < 20 {
+            return Ok(Outcome::none(alloc));
+        }
+        let tsn = read_u32(bytes, 4);
+        if self.is_early(tsn) {
+            return Ok(Outcome::unread(alloc, Unread::Early));
+        }
+        match self.receiver.discard(tsn) {
+            Ok(Arrival::Repeat) => {
+                self.receiver.sack_sent();
+                return Ok(repeated(alloc, is_new));
+            }
+            Ok(Arrival::New { .. }) => {}
+            Err(ReceiverRefusal::OutOfMemory) => return Err(AllocError),
+            Err(refusal) => return Ok(Outcome::unread(alloc, Unread::Refused(refusal))),
+        }
+        let fragment = fragment_of(alloc, bytes, arrived)?;
+        let is_first = fragment.place == 0;
+        let Some(messages) = self.interleaved.take(alloc, name_of(bytes), fragment)? else {
+            let why = if is_first {
+                Unread::Passed
+            } else {
+                Unread::NoBeginning
+            };
+            return Ok(Outcome::unread(alloc, why));
+        };
+        let mut outcome = Outcome::none(alloc);
+        outcome.add_interleaved(alloc, &messages)?;
+        Ok(outcome)
+    }
+
+    /// Takes an I-FORWARD-TSN (RFC 8260 2.3.1).
+    fn take_i_forward(&mut self, alloc: Global, bytes: &[u8]) -> Result<Outcome, AllocError> {
+        let Some(new_cumulative_tsn) = forward_of(bytes) else {
+            return Ok(Outcome::none(alloc));
+        };
+        let passed = ChunkForwardTsn {
+            new_cumulative_tsn,
+            streams: Vec::new(alloc),
+        };
+        if let Err(refusal) = self.receiver.forward_tsn(&passed, Closed::PassOver) {
+            return Ok(Outcome::unread(alloc, Unread::Refused(refusal)));
+        }
+        let mut outcome = Outcome::none(alloc);
+        for name in &names_in(alloc, bytes)? {
+            let passing = self.interleaved.skip(alloc, *name)?;
+            outcome.add_passing(alloc, &passing)?;
+        }
+        Ok(outcome)
     }
 
     /// Takes a DATA chunk, of which these are the bytes.
@@ -403,7 +582,7 @@ impl WayReader {
         }
         self.note_origin(chunk, bytes, arrived)?;
         let mut outcome = Outcome::none(alloc);
-        self.add_each(&mut outcome, chunk.stream_identifier, messages)?;
+        self.add_each(alloc, &mut outcome, chunk.stream_identifier, messages)?;
         Ok(outcome)
     }
 
@@ -417,10 +596,23 @@ impl WayReader {
     }
 
     /// How much is held of each open stream.
-    fn held(&self, alloc: Global) -> Result<Vec<Dropped>, AllocError> {
+    pub fn held(&self, alloc: Global) -> Result<Vec<Dropped>, AllocError> {
         let mut held = Vec::new(alloc);
         for inbound in open_streams(&self.receiver) {
             held.push(held_of(&inbound.queue))?;
+        }
+        Ok(held)
+    }
+
+    /// How much is held of the streams of I-DATA.
+    pub fn held_interleaved(&self, alloc: Global) -> Result<Vec<Dropped>, AllocError> {
+        let mut held = Vec::new(alloc);
+        for amount in &self.interleaved.held(alloc)? {
+            held.push(Dropped {
+                stream: amount.stream,
+                chunks: amount.chunks,
+                bytes: amount.bytes,
+            })?;
         }
         Ok(held)
     }
@@ -520,7 +712,8 @@ impl WayReader {
         if !sna32lt(stood, acknowledged) {
             return Ok(outcome);
         }
-        let passed = self.passed_by(alloc, self.last_missing(acknowledged))?;
+        let missing = self.last_missing(acknowledged);
+        let passed = self.passed_by(alloc, missing)?;
         let held = self.held(alloc)?;
         if let Err(refusal) = self.receiver.forward_tsn(&passed, Closed::PassOver) {
             return Ok(Outcome::unread(alloc, Unread::Refused(refusal)));
@@ -531,6 +724,8 @@ impl WayReader {
         });
         self.add_dropped(&mut outcome, &held)?;
         self.add_readable(alloc, &mut outcome)?;
+        let passing = self.interleaved.pass(alloc, missing)?;
+        outcome.add_passing(alloc, &passing)?;
         Ok(outcome)
     }
 
@@ -541,6 +736,7 @@ impl WayReader {
             Err(ReceiverRefusal::OutOfMemory) => return Err(AllocError),
             Err(_) => return Ok(false),
         }
+        self.interleaved.reset(stream);
         match self.firsts.insert(stream, 0) {
             Ok(_) => Ok(true),
             Err(_) => Err(AllocError),
@@ -615,9 +811,10 @@ impl WayReader {
                 self.take_data(alloc, chunk, bytes, arrived, is_new)
             }
             Reading::Strict(ChunkKind::ForwardTsn(chunk)) => self.take_forward(alloc, chunk),
+            Reading::Strict(ChunkKind::IForwardTsn(_)) => self.take_i_forward(alloc, bytes),
             Reading::Strict(ChunkKind::Reconfig(chunk)) => self.take_reconfig(alloc, chunk),
             Reading::Strict(_) => Ok(Outcome::none(alloc)),
-            Reading::Raw(raw) => self.take_raw(alloc, bytes, raw.refusal),
+            Reading::Raw(raw) => self.take_raw(alloc, bytes, raw.refusal, arrived, is_new),
         }
     }
 }
