@@ -405,6 +405,25 @@ fn save_file<W: Write>(
     }
 }
 
+/// Writes the chosen records of each file, until writing fails.
+fn save_all<W: Write>(
+    rt: &HostRuntime,
+    task: &Task<'_>,
+    path: &str,
+    files: &[&str],
+    saved: &mut Saved,
+    output: &mut W,
+) -> anyhow::Result<bool> {
+    let mut is_all = true;
+    for file in files {
+        is_all = save_file(rt, task, path, file, saved, output)? && is_all;
+        if saved.is_broken {
+            return Ok(is_all);
+        }
+    }
+    Ok(is_all)
+}
+
 /// Writes the chosen records of each file as one capture.
 fn save_each<W: Write + Drop>(
     rt: &HostRuntime,
@@ -418,12 +437,9 @@ fn save_each<W: Write + Drop>(
     if let Err(fault) = saved.send(&mut output) {
         return report_save(rt, path, path, fault);
     }
-    let mut is_all = true;
-    for file in files {
-        is_all = save_file(rt, task, path, file, &mut saved, &mut output)? && is_all;
-        if saved.is_broken {
-            return Ok(is_all);
-        }
+    let is_all = save_all(rt, task, path, files, &mut saved, &mut output)?;
+    if saved.is_broken {
+        return Ok(is_all);
     }
     match output.flush() {
         Ok(()) => Ok(is_all),

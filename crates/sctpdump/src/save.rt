@@ -18,6 +18,9 @@ use sctp_show::zero::ZeroTags;
 use std::alloc::{AllocError, Global};
 use std::io::{Read, Write};
 
+/// How many link types there are, so that each one's place is less.
+const LINK_TYPES: usize = 4_294_967_296;
+
 /// What is known of a capture that is written.
 #[derive(Drop)]
 pub struct Saved {
@@ -54,9 +57,9 @@ impl Saved {
     /// The number of the interface with this link type. Where there is none, its description comes next.
     fn interface_of(&mut self, link_type: u32) -> Result<u32, AllocError> {
         if let Some(place) = self.link_types.iter().position(|it| *it == link_type) {
-            return Ok(place as u32);
+            return Ok((place % LINK_TYPES) as u32);
         }
-        let place = self.link_types.len() as u32;
+        let place = (self.link_types.len() % LINK_TYPES) as u32;
         self.link_types.push(link_type)?;
         put_interface(&mut self.blocks, link_type)?;
         Ok(place)

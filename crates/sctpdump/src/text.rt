@@ -332,6 +332,22 @@ fn put_amount(
     }
 }
 
+/// Appends how much is held of each stream and was not read.
+fn put_amounts(
+    text: &mut String,
+    form: Form,
+    association: usize,
+    way: Way,
+    amounts: &[Dropped],
+) -> Result<(), AllocError> {
+    for held in amounts {
+        if held.chunks > 0 {
+            put_amount(text, form, association, way, *held)?;
+        }
+    }
+    Ok(())
+}
+
 /// Appends what is held of one way and was not read, stream by stream: of DATA, and then of I-DATA.
 pub fn put_held(
     alloc: Global,
@@ -341,13 +357,8 @@ pub fn put_held(
     way: Way,
     reader: &WayReader,
 ) -> Result<(), AllocError> {
-    for held in &reader.held(alloc)? {
-        if held.chunks > 0 {
-            put_amount(text, form, association, way, *held)?;
-        }
-    }
-    for held in &reader.held_interleaved(alloc)? {
-        put_amount(text, form, association, way, *held)?;
-    }
-    Ok(())
+    let held = reader.held(alloc)?;
+    put_amounts(text, form, association, way, &held)?;
+    let held = reader.held_interleaved(alloc)?;
+    put_amounts(text, form, association, way, &held)
 }

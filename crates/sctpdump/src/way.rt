@@ -1,15 +1,14 @@
 //! The messages that go one way in an association.
 
+mod interleaved;
+
 use crate::reading::{bytes_of, read_all, take_chunk};
 use sctp_chunks::chunk::chunk_kind::ChunkKind;
 use sctp_chunks::chunk::chunk_reconfig::ChunkReconfig;
 use sctp_data::chunk::chunk_forward_tsn::{ChunkForwardTsn, ChunkForwardTsnStream};
 use sctp_data::chunk::chunk_payload_data::ChunkPayloadData;
 use sctp_dissect::dissection::{Item, Reading};
-use sctp_follow::interleave::{
-    Fragment, Interleaved, Passing, Whole, fragment_of, is_i_data, name_of, names_in,
-};
-use sctp_follow::outstanding::forward_of;
+use sctp_follow::interleave::{Interleaved, is_i_data};
 use sctp_follow::packet::Arrived;
 use sctp_params::param::param_kind::ParamKind;
 use sctp_params::param::param_outgoing_reset_request::ParamOutgoingResetRequest;
@@ -163,26 +162,6 @@ impl Outcome {
         }
     }
 
-    /// Adds messages of I-DATA.
-    fn add_interleaved(&mut self, alloc: Global, messages: &[Whole]) -> Result<(), AllocError> {
-        for message in messages {
-            self.messages.push(interleaved(alloc, message)?)?;
-        }
-        Ok(())
-    }
-
-    /// Adds what is gained of I-DATA where numbers or TSNs are passed.
-    fn add_passing(&mut self, alloc: Global, passing: &Passing) -> Result<(), AllocError> {
-        for amount in &passing.dropped {
-            self.dropped.push(Dropped {
-                stream: amount.stream,
-                chunks: amount.chunks,
-                bytes: amount.bytes,
-            })?;
-        }
-        self.add_interleaved(alloc, &passing.messages)
-    }
-
     /// Whether there is nothing to be printed.
     pub fn is_empty(&self) -> bool {
         self.messages.is_empty()
@@ -207,46 +186,6 @@ fn is_unordered(message: &Chunks) -> bool {
         Some(fragment) => fragment.unordered,
         None => false,
     }
-}
-
-/// What the last one of the fragments of a message came with.
-fn last_arrived(first: Arrived, fragments: &[Fragment]) -> Arrived {
-    let mut last = first;
-    for fragment in fragments {
-        if fragment.arrived.number > last.number {
-            last = fragment.arrived;
-        }
-    }
-    last
-}
-
-/// A message of I-DATA.
-fn interleaved(alloc: Global, message: &Whole) -> Result<Message, AllocError> {
-    let fragments = message.fragments.as_slice();
-    let (identifier, first_tsn, last_tsn, arrived) = match fragments {
-        [] => (
-            0,
-            0,
-            0,
-            Arrived {
-                number: 0,
-                time: None,
-            },
-        ),
-        [one] => (one.identifier, one.tsn, one.tsn, one.arrived),
-        [one, .., last] => (one.identifier, one.tsn, last.tsn, one.arrived),
-    };
-    Ok(Message {
-        stream: message.name.stream,
-        unordered: message.name.unordered,
-        is_interleaved: true,
-        number: message.name.number,
-        identifier,
-        first_tsn,
-        last_tsn,
-        arrived: last_arrived(arrived, fragments),
-        bytes: message.payload(alloc)?,
-    })
 }
 
 /// A chunk whose sequence number is counted from another one.
@@ -493,65 +432,6 @@ impl WayReader {
         self.pass_unread(alloc, read_u32(bytes, 4), why)
     }
 
-    /// Takes I-DATA: the receiver notes its TSN, and its fragment goes to its message.
-    fn take_i_data(
-        &mut self,
-        alloc: Global,
-        bytes: &[u8],
-        arrived: Arrived,
-        is_new: bool,
-    ) -> Result<Outcome, AllocError> {
-        if bytes.len() < 20 {
-            return Ok(Outcome::none(alloc));
-        }
-        let tsn = read_u32(bytes, 4);
-        if self.is_early(tsn) {
-            return Ok(Outcome::unread(alloc, Unread::Early));
-        }
-        match self.receiver.discard(tsn) {
-            Ok(Arrival::Repeat) => {
-                self.receiver.sack_sent();
-                return Ok(repeated(alloc, is_new));
-            }
-            Ok(Arrival::New { .. }) => {}
-            Err(ReceiverRefusal::OutOfMemory) => return Err(AllocError),
-            Err(refusal) => return Ok(Outcome::unread(alloc, Unread::Refused(refusal))),
-        }
-        let fragment = fragment_of(alloc, bytes, arrived)?;
-        let is_first = fragment.place == 0;
-        let Some(messages) = self.interleaved.take(alloc, name_of(bytes), fragment)? else {
-            let why = if is_first {
-                Unread::Passed
-            } else {
-                Unread::NoBeginning
-            };
-            return Ok(Outcome::unread(alloc, why));
-        };
-        let mut outcome = Outcome::none(alloc);
-        outcome.add_interleaved(alloc, &messages)?;
-        Ok(outcome)
-    }
-
-    /// Takes an I-FORWARD-TSN (RFC 8260 2.3.1).
-    fn take_i_forward(&mut self, alloc: Global, bytes: &[u8]) -> Result<Outcome, AllocError> {
-        let Some(new_cumulative_tsn) = forward_of(bytes) else {
-            return Ok(Outcome::none(alloc));
-        };
-        let passed = ChunkForwardTsn {
-            new_cumulative_tsn,
-            streams: Vec::new(alloc),
-        };
-        if let Err(refusal) = self.receiver.forward_tsn(&passed, Closed::PassOver) {
-            return Ok(Outcome::unread(alloc, Unread::Refused(refusal)));
-        }
-        let mut outcome = Outcome::none(alloc);
-        for name in &names_in(alloc, bytes)? {
-            let passing = self.interleaved.skip(alloc, *name)?;
-            outcome.add_passing(alloc, &passing)?;
-        }
-        Ok(outcome)
-    }
-
     /// Takes a DATA chunk, of which these are the bytes.
     fn take_data(
         &mut self,
@@ -600,19 +480,6 @@ impl WayReader {
         let mut held = Vec::new(alloc);
         for inbound in open_streams(&self.receiver) {
             held.push(held_of(&inbound.queue))?;
-        }
-        Ok(held)
-    }
-
-    /// How much is held of the streams of I-DATA.
-    pub fn held_interleaved(&self, alloc: Global) -> Result<Vec<Dropped>, AllocError> {
-        let mut held = Vec::new(alloc);
-        for amount in &self.interleaved.held(alloc)? {
-            held.push(Dropped {
-                stream: amount.stream,
-                chunks: amount.chunks,
-                bytes: amount.bytes,
-            })?;
         }
         Ok(held)
     }
