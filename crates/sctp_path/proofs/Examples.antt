@@ -1,0 +1,1 @@
+-- Definitions of specs/ at numbers: a reader can check them against the text of RFC 9260.

@@ -1,0 +1,4 @@
+pub mod Rto
+pub mod Congestion
+pub mod Timers
+pub mod Heartbeats
