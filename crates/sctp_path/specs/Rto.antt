@@ -1,5 +1,5 @@
 -- The retransmission timeout (RFC 9260 6.3.1, 6.3.3). Times are whole nanoseconds, and a quotient is rounded down.
-use Rattle.std.specs.Prelude.{ℕ, ◌+◌, ◌*◌, ◌/◌, min, max, Option, Some, None}
+use Rattle.std.specs.Prelude.{◌≡◌, ℕ, zero, suc, ◌≤◌, ◌^◌, ◌+◌, ◌*◌, ◌/◌, min, max, Option, Some, None}
 use Rattle.std.specs.Int.{abs_diff}
 use Rattle.sctp_path.specs.declared.rto.RoundTrips.{RoundTrips}
 
@@ -66,3 +66,14 @@ after_back_off t = record t { rto = min (2 * t.rto) t.limits.most }
 abbrev pub smoothed_of : Option RoundTrips → Option ℕ
 smoothed_of None = None
 smoothed_of (Some t) = Some t.smoothed
+
+-- ## Back-offs in a row
+
+abbrev pub after_back_offs : ℕ → Timeout → Timeout
+after_back_offs zero t = t
+after_back_offs (suc n) t = after_back_off (after_back_offs n t)
+
+abbrev pub DoublingEndsAtMost : Type 0
+DoublingEndsAtMost =
+    (n : ℕ) (t : Timeout) → t.rto ≤ t.limits.most
+    → after_back_offs n t ≡ record t { rto = min (2 ^ n * t.rto) t.limits.most }

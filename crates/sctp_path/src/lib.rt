@@ -5,6 +5,7 @@ pub mod ack_delay;
 pub mod congestion;
 pub mod failures;
 pub mod heartbeat;
+pub mod laws;
 pub mod rto;
 pub mod timer;
 
