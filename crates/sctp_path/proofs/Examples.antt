@@ -1,5 +1,5 @@
 -- Definitions of specs/ at numbers that a reader can check against RFC 9260.
-use Rattle.std.specs.Prelude.{ℕ, ◌≡◌, ◌*◌, true, false, Option, Some, None, refl}
+use Rattle.std.specs.Prelude.{ℕ, ◌≡◌, ◌-◌, ◌*◌, ◌^◌, true, false, Option, Some, None, refl}
 use Rattle.sctp_path.specs.Rto.{Timeout, usual, limits_of, first as first_timeout, next_trip, after_trip, after_back_off}
 use Rattle.sctp_path.specs.Congestion.{Control, pmdcs_of, first, after_sack, after_loss, after_timeout, after_idling, with_mtu, may_send, burst_limit}
 use Rattle.sctp_path.specs.declared.congestion.Acknowledged.{Acknowledged}
@@ -115,6 +115,11 @@ slow-start-gaps : after_sack (record (sack 1 2376 4404) { advances = false }) (f
 unfolding at sack
 slow-start-gaps = refl
 
+-- a window never passes the greatest number
+slow-start-most : after_sack (sack 1 1188 (2 ^ 64 - 1)) (at (2 ^ 64 - 10) (2 ^ 64 - 1) 0 None) ≡ at (2 ^ 64 - 1) (2 ^ 64 - 1) 0 None
+unfolding at sack
+slow-start-most = refl
+
 -- congestion avoidance: a packet more for cwnd bytes, the rest is kept (2); at most cwnd where fewer were outstanding (1)
 avoidance-grows : after_sack (sack 1 1188 4752) (at 4752 4000 4000 None) ≡ at 5940 4000 436 None
 unfolding at sack
@@ -215,6 +220,9 @@ burst-in-window = refl
 
 started-once : started 30 5 (started 10 5 None) ≡ Some 15
 started-once = refl
+
+started-late : started (2 ^ 64 - 2) 5 None ≡ Some (2 ^ 64 - 1)
+started-late = refl
 
 due-at : is_due 15 (Some 15) ≡ true
 due-at = refl

@@ -14,15 +14,15 @@ pub record Control : Type 0 where
   pub single : Bool
   pub idle : Bool
 
--- PMDCS: what a packet has room for after its header of 12 bytes, in whole words (2.3, 3). A length of IP has 16 bits.
+-- PMDCS: what a packet has room for after its header of 12 bytes, in whole words (RFC 9260 2.3, 3). A length of IP has 16 bits.
 abbrev pub pmdcs_of : ℕ → ℕ
 pmdcs_of mtu = max 4 ((min mtu 65535 - 12) / 4 * 4)
 
--- the first window (7.2.1)
+-- the first window (RFC 9260 7.2.1)
 abbrev pub first_window : ℕ → ℕ
 first_window p = min (4 * p) (max (2 * p) 4404)
 
--- a path of which nothing is known: ssthresh is the peer's window (7.2.1)
+-- a path of which nothing is known: ssthresh is the peer's window (RFC 9260 7.2.1)
 abbrev pub first : ℕ → ℕ → Control
 first mtu peer_window = record {
   pmdcs = pmdcs_of mtu;
@@ -48,12 +48,12 @@ wider by c = record c { window = min (c.window + by) most }
 abbrev pub is_used : ℕ → Control → Bool
 is_used flight c = nat_lt c.window (flight + c.pmdcs)
 
--- slow start (7.2.1): by what was acknowledged, at most PMDCS, where the cumulative TSN advanced and cwnd was fully used
+-- slow start (RFC 9260 7.2.1): by what was acknowledged, at most PMDCS, where the cumulative TSN advanced and cwnd was fully used
 abbrev pub after_slow_start : Acknowledged → Control → Control
 after_slow_start a c =
     if a.advances && is_used a.flight c then wider (min a.bytes c.pmdcs) c else c
 
--- congestion avoidance (7.2.2), of partial_bytes_acked with what was acknowledged. Where cwnd bytes were outstanding and it is at
+-- congestion avoidance (RFC 9260 7.2.2), of partial_bytes_acked with what was acknowledged. Where cwnd bytes were outstanding and it is at
 -- least cwnd, cwnd leaves it and grows by PMDCS (2); where fewer were, it is at most cwnd (1)
 abbrev pub avoided : ℕ → ℕ → Control → Control
 avoided acked flight c =
@@ -64,18 +64,18 @@ avoided acked flight c =
 abbrev pub after_avoidance : Acknowledged → Control → Control
 after_avoidance a c = avoided (min (c.acked + a.bytes) most) a.flight c
 
--- a SACK that acknowledges all up to the exit point ends Fast Recovery (7.2.4)
+-- a SACK that acknowledges all up to the exit point ends Fast Recovery (RFC 9260 7.2.4)
 abbrev pub left : ℕ → ℕ → Option ℕ
 left exit cumulative = if at_or_before exit cumulative then None else Some exit
 
--- nothing grows by a SACK that comes in Fast Recovery (7.2.1), also the one that ends it
+-- nothing grows by a SACK that comes in Fast Recovery (RFC 9260 7.2.1), also the one that ends it
 abbrev pub after_growth : Option ℕ → Acknowledged → Control → Control
 after_growth (Some exit) a c = record c { exit = left exit a.cumulative_tsn }
 after_growth None a c =
     if nat_le c.window c.threshold then after_slow_start a c else after_avoidance a c
 
--- partial_bytes_acked is 0 once all data is acknowledged (7.2.2, 4); with any data acknowledged, more than one packet may be sent
--- (7.2.3), and the path was not idle
+-- partial_bytes_acked is 0 once all data is acknowledged (RFC 9260 7.2.2, 4); with any data acknowledged, more than one packet may be sent
+-- (RFC 9260 7.2.3), and the path was not idle
 abbrev pub settled : Acknowledged → Control → Control
 settled a c = record c {
   acked = if a.all then 0 else c.acked;
@@ -88,18 +88,18 @@ after_sack a c = settled a (after_growth c.exit a c)
 
 -- ## Losses
 
--- half of cwnd, and at least four packets (7.2.3)
+-- half of cwnd, and at least four packets (RFC 9260 7.2.3)
 abbrev pub halved : Control → ℕ
 halved c = max (c.window / 2) (4 * c.pmdcs)
 
--- SACKs reported a chunk missing: Fast Recovery begins, with the highest outstanding TSN as its exit point (7.2.3, 7.2.4).
+-- SACKs reported a chunk missing: Fast Recovery begins, with the highest outstanding TSN as its exit point (RFC 9260 7.2.3, 7.2.4).
 -- Nothing changes in Fast Recovery
 abbrev pub after_loss : ℕ → Option ℕ → Control → Control
 after_loss highest None c =
     record c { window = halved c; threshold = halved c; acked = 0; exit = Some highest; idle = false }
 after_loss highest (Some exit) c = c
 
--- T3-rtx expired: slow start begins with one packet (7.2.3), and a Fast Recovery ends
+-- T3-rtx expired: slow start begins with one packet (RFC 9260 7.2.3), and a Fast Recovery ends
 abbrev pub after_timeout : Control → Control
 after_timeout c = record c {
   window = c.pmdcs;
@@ -112,24 +112,24 @@ after_timeout c = record c {
 
 -- ## Idle paths
 
--- no DATA was sent for an RTO: half of cwnd, and at least four packets; before the first of these ssthresh becomes cwnd (7.2.1)
+-- no DATA was sent for an RTO: half of cwnd, and at least four packets; before the first of these ssthresh becomes cwnd (RFC 9260 7.2.1)
 abbrev pub after_idling : Control → Control
 after_idling c =
     record c { window = halved c; threshold = if c.idle then c.threshold else c.window; idle = true }
 
 -- ## The path MTU
 
--- another PMDCS (7.3); cwnd stays, but is at least a packet
+-- another PMDCS (RFC 9260 7.3); cwnd stays, but is at least a packet
 abbrev pub with_mtu : ℕ → Control → Control
 with_mtu mtu c = record c { pmdcs = pmdcs_of mtu; window = max c.window (pmdcs_of mtu) }
 
 -- ## What may be sent
 
--- another packet may be sent while less than cwnd is outstanding, and may breach it (6.1 B); after T3-rtx expired, no packet beside
--- another until something is acknowledged (7.2.3)
+-- another packet may be sent while less than cwnd is outstanding, and may breach it (RFC 9260 6.1 B); after T3-rtx expired, no packet beside
+-- another until something is acknowledged (RFC 9260 7.2.3)
 abbrev pub may_send : ℕ → Control → Bool
 may_send flight c = if c.single then flight == 0 else nat_lt flight c.window
 
--- what may be outstanding after one burst: Max.Burst is four packets, within cwnd (6.1 D)
+-- what may be outstanding after one burst: Max.Burst is four packets, within cwnd (RFC 9260 6.1 D)
 abbrev pub burst_limit : ℕ → Control → ℕ
 burst_limit flight c = min c.window (flight + 4 * c.pmdcs)

@@ -3,7 +3,7 @@ use Rattle.std.specs.Prelude.{◌≡◌, ℕ, zero, suc, ◌≤◌, ◌^◌, ◌
 use Rattle.std.specs.Int.{abs_diff}
 use Rattle.sctp_path.specs.declared.rto.RoundTrips.{RoundTrips}
 
--- what a host chose: RTO.Initial, RTO.Min, RTO.Max (16), and G, the granularity of its clock
+-- what a host chose: RTO.Initial, RTO.Min, RTO.Max (RFC 9260 16), and G, the granularity of its clock
 pub record Limits : Type 0 where
   pub initial : ℕ
   pub least : ℕ
@@ -19,7 +19,8 @@ pub record Timeout : Type 0 where
 -- RTO.Max is at least RTO.Min, and RTO.Initial lies between them
 abbrev pub limits_of : ℕ → ℕ → ℕ → ℕ → Limits
 limits_of initial least most granularity =
-    record { initial = min (max initial least) (max most least); least = least; most = max most least; granularity = granularity }
+    let top = max most least in
+    record { initial = min (max initial least) top; least = least; most = top; granularity = granularity }
 
 -- WebRTC: 1 s, 200 ms and 60 s; a clock that counts milliseconds
 abbrev pub usual : Limits
@@ -33,7 +34,8 @@ within l time = min (max time l.least) l.most
 abbrev pub first : Limits → Timeout
 first l = record { limits = l; trips = None; rto = within l l.initial }
 
--- the first round trip R (C2): SRTT is R, RTTVAR is R/2; RTTVAR is at least G (G1)
+-- the first round trip R (C2): SRTT is R, RTTVAR is R/2. RTTVAR is at least G: G1 says so where it is 0, and to a clock of that
+-- granularity less is 0
 abbrev pub first_trip : ℕ → ℕ → RoundTrips
 first_trip granularity r = record { smoothed = r; variation = max (r / 2) granularity }
 
@@ -52,7 +54,7 @@ trips_after granularity r (Some t) = next_trip granularity r t
 abbrev pub timeout_of : RoundTrips → ℕ
 timeout_of t = t.smoothed + 4 * t.variation
 
--- a round trip was measured: earlier back-off is forgotten (6.3.3)
+-- a round trip was measured: earlier back-off is forgotten (RFC 9260 6.3.3)
 abbrev pub after_trip : ℕ → Timeout → Timeout
 after_trip r t =
     let trips = trips_after t.limits.granularity r t.trips in

@@ -13,8 +13,7 @@ pub struct Acknowledged {
     pub cumulative_tsn: u32,
     /// Whether that advances the Cumulative TSN Ack Point.
     pub advances: bool,
-    /// The bytes of all DATA chunks that it acknowledges anew, also by gap ack blocks, with chunk headers and padding. RFC 9260 7.2.2
-    /// adds those of the chunks that it reports as duplicates.
+    /// The bytes of all DATA chunks that it acknowledges anew, also by gap ack blocks, with chunk headers and padding.
     pub bytes: usize,
     /// How many bytes were outstanding before it arrived.
     pub flight: usize,

@@ -48,7 +48,7 @@ impl Heartbeat {
     pub fn sent(&mut self, now: u64, nonce: u64)
         ensures { self.new ≡ after_asking now nonce self.old }
     {
-        self.used = now;
+        self.used(now);
         self.asked = Some(Asked { nonce, at: now });
     }
 
