@@ -1,6 +1,5 @@
 -- Timers, delayed acknowledgements and the count of failures. A moment is a number of nanoseconds; a timer that is stopped has none.
 use Rattle.std.specs.Prelude.{ℕ, ◌+◌, ◌-◌, ◌^◌, Bool, true, false, nat_lt, nat_le, min, Option, Some, None}
-use Rattle.sctp_path.specs.declared.ack_delay.AckDelay.{AckDelay}
 use Rattle.sctp_path.specs.declared.failures.Failures.{Failures}
 
 -- the moment that comes so much later; the greatest one stands for all past it
@@ -25,9 +24,17 @@ earliest (Some a) (Some b) = Some (min a b)
 
 -- ## When a SACK is due (RFC 9260 6.2)
 
+-- SACK.Delay, and when a SACK is due, where a packet waits for one
+pub record Delay : Type 0 where
+  pub delay : ℕ
+  pub due : Option ℕ
+
 -- SACK.Delay is at most 500 ms
-abbrev pub new_delay : ℕ → AckDelay
-new_delay delay = record { delay = min delay 500_000_000; due = None }
+abbrev pub most_delay : ℕ
+most_delay = 500_000_000
+
+abbrev pub new_delay : ℕ → Delay
+new_delay delay = record { delay = min delay most_delay; due = None }
 
 -- a packet with DATA came: where none waits for a SACK, one is due after the delay, or now; where one waits, a SACK is due now, and
 -- no later than it was
@@ -36,7 +43,7 @@ due_after now true delay None = now
 due_after now false delay None = later now delay
 due_after now at_once delay (Some at) = min at now
 
-abbrev pub after_packet : ℕ → Bool → AckDelay → AckDelay
+abbrev pub after_packet : ℕ → Bool → Delay → Delay
 after_packet now at_once a = record a { due = Some (due_after now at_once a.delay a.due) }
 
 -- ## Endpoint failure (RFC 9260 8.1)

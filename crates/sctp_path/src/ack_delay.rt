@@ -1,15 +1,29 @@
 //! When a SACK is due (RFC 9260 6.2).
 
-ghost use Rattle.std.specs.Prelude.{◌≡◌, None};
-ghost use Rattle.sctp_path.specs.Timers.{new_delay, after_packet, is_due};
+ghost use Rattle.std.specs.Prelude.{◌≡◌, ◌+◌, ◌≤◌, None, IfSome};
+ghost use Rattle.sctp_path.specs.Timers.{most_delay, new_delay, after_packet, is_due};
 
 use crate::timer;
+use std::marker::Model;
 
 /// When the next SACK is due. Moments are in nanoseconds.
 #[derive(Clone, Copy, Debug, PartialEq, Eq)]
 pub struct AckDelay {
     delay: u64,
     due: Option<u64>,
+}
+
+impl Model for AckDelay {
+    ghost use Rattle.std.specs.Prelude.{◌≤◌};
+    ghost use Rattle.sctp_path.specs.Timers.{Delay, most_delay};
+
+    ghost Value = { Delay };
+
+    ghost view = { λ a. record { delay = a.delay; due = a.due } };
+
+    ghost inverse = { λ a. record { delay = a.delay; due = a.due } };
+
+    ghost invariant = { λ a. a.delay ≤ most_delay };
 }
 
 impl AckDelay {
@@ -25,7 +39,8 @@ impl AckDelay {
 
     /// A packet with DATA came. `at_once`: a gap or a repeat is to be reported, a chunk had the I bit (RFC 7053), or the window opened.
     pub fn packet_came(&mut self, now: u64, at_once: bool)
-        ensures { self.new ≡ after_packet now at_once self.old }
+        ensures after { self.new ≡ after_packet now at_once self.old }
+        ensures soon { IfSome self.new.due (λ at. at ≤ now + most_delay) }
     {
         let due = match self.due {
             Some(at) => at.min(now),

@@ -1,6 +1,6 @@
 //! The congestion window (RFC 9260 7.2): how many bytes may be outstanding. All amounts are in bytes.
 
-ghost use Rattle.std.specs.Prelude.{◌≡◌, ◌+◌, ◌<◌, ◌≤◌, is_some};
+ghost use Rattle.std.specs.Prelude.{◌≡◌, ◌+◌, ◌<◌, ◌≤◌, IsTrue, is_some};
 ghost use Rattle.sctp_path.specs.Congestion.{pmdcs_of, first, after_sack, after_slow_start, after_avoidance, halved, after_loss, after_timeout, after_idling, with_mtu, may_send, burst_limit};
 
 use sctp_util::util::sna32lte;
@@ -213,7 +213,8 @@ impl Congestion {
 
     /// Whether another packet may be sent while so many bytes are outstanding. It may breach cwnd (RFC 9260 6.1 B).
     pub fn may_send(&self, flight: usize) -> bool
-        ensures { result ≡ may_send flight self.now }
+        ensures value { result ≡ may_send flight self.now }
+        ensures one { flight ≡ 0 → IsTrue result }
     {
         if self.single {
             flight == 0
@@ -224,7 +225,8 @@ impl Congestion {
 
     /// How many bytes may be outstanding after one burst that begins while so many are: Max.Burst is four packets.
     pub fn burst_limit(&self, flight: usize) -> usize
-        ensures { result ≡ burst_limit flight self.now }
+        ensures value { result ≡ burst_limit flight self.now }
+        ensures room { flight < self.now.window → flight < result }
     {
         self.window.min(flight.saturating_add(4 * self.pmdcs))
     }
