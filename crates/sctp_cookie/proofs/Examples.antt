@@ -18,7 +18,8 @@ unfolding hmac_sha256 first_words schedule rounds compress hash_after digest_byt
 for_nothing = refl
 
 -- zeros behind a key change nothing, up to a block (RFC 2104 2)
-filled_key : hmac_sha256 (codes "Jefe" ++ replicate 28 0) (codes "what do ya want for nothing?") ≡ hmac_sha256 (codes "Jefe") (codes "what do ya want for nothing?")
+filled_key : hmac_sha256 (codes "Jefe" ++ replicate 28 0) (codes "what do ya want for nothing?")
+    ≡ hmac_sha256 (codes "Jefe") (codes "what do ya want for nothing?")
 unfolding hmac_sha256
 filled_key = refl
 

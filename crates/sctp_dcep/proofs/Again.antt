@@ -1,5 +1,6 @@
 -- What is written is read again.
-use Rattle.std.proofs.Common.{◌≡◌, ℕ, ◌+◌, ◌-◌, ◌%◌, ◌<◌, ◌^◌, Bool, true, false, List, [], ◌∷◌, ◌++◌, length, take, drop, refl, ap, ◌∙◌, arith, append_assoc, length-append, Ok}
+use Rattle.std.proofs.Common.{◌≡◌, ℕ, ◌+◌, ◌-◌, ◌%◌, ◌<◌, ◌^◌, Bool, true, false, List, [], ◌∷◌, ◌++◌, length, take, drop, refl, ap, ◌∙◌, arith, append_assoc}
+use Rattle.std.proofs.Common.{length-append, Ok}
 use Rattle.std.specs.Prelude.{nat_lt, nat_le, ◌==◌, slice_index, slice_range}
 use Rattle.std.proofs.lemmas.List.{take_at, drop_at, take_all}
 use Rattle.std.proofs.lemmas.Bool.Decides.{nat_tests}
@@ -10,7 +11,8 @@ use Rattle.sctp_data.specs.declared.chunk.chunk_payload_data.ReliabilityType.{Re
 use Rattle.sctp_data.specs.declared.chunk.chunk_payload_data.ReliabilityType.TheVariants.{Reliable, Rexmit, Timed}
 use Rattle.sctp_dcep.specs.declared.message.Open.{Open}
 use Rattle.sctp_dcep.specs.declared.message.Message.TheVariants as messages
-use Rattle.sctp_dcep.specs.Message.{FitsFields, as_read, channel_type, is_channel_type, label_end, open_encoding, open_in, opened, parameter_of, read_of, read_open_of, reliability_in}
+use Rattle.sctp_dcep.specs.Message.{FitsFields, as_read, channel_type, is_channel_type, label_end, open_encoding, open_in, opened, parameter_of, read_of}
+use Rattle.sctp_dcep.specs.Message.{read_open_of, reliability_in}
 
 known_type : (u : Bool) (r : ReliabilityType) → is_channel_type (channel_type u r) ≡ true
 known_type false Reliable = refl

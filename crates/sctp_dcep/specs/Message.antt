@@ -1,11 +1,13 @@
 -- The messages of the Data Channel Establishment Protocol (RFC 8832 5).
-use Rattle.std.specs.Prelude.{ℕ, ◌+◌, ◌%◌, ◌^◌, ◌<◌, ◌==◌, nat_lt, nat_le, Bool, true, false, not, if◌then◌else◌, List, [], ◌∷◌, ◌++◌, length, slice_index, slice_range, Option, Some, None, Result, Ok, Err}
+use Rattle.std.specs.Prelude.{ℕ, ◌+◌, ◌%◌, ◌^◌, ◌<◌, ◌==◌, nat_lt, nat_le, Bool, true, false, not, if◌then◌else◌, List, [], ◌∷◌, ◌++◌, length, slice_index}
+use Rattle.std.specs.Prelude.{slice_range, Option, Some, None, Result, Ok, Err}
 use Rattle.sctp_util.specs.Field.{be16, be32, u16_at, u32_at}
 use Rattle.sctp_data.specs.Reliability.{reliability_from}
 use Rattle.sctp_data.specs.declared.chunk.chunk_payload_data.ReliabilityType.{ReliabilityType}
 use Rattle.sctp_data.specs.declared.chunk.chunk_payload_data.ReliabilityType.TheVariants.{Reliable, Rexmit, Timed}
 use Rattle.sctp_dcep.specs.declared.fault.Fault.{Fault}
-use Rattle.sctp_dcep.specs.declared.fault.Fault.TheVariants.{Empty, UnknownMessageType, TooShort, UnknownChannelType, WrongLength, LabelTooLong, ProtocolTooLong}
+use Rattle.sctp_dcep.specs.declared.fault.Fault.TheVariants.{Empty, UnknownMessageType, TooShort, UnknownChannelType, WrongLength, LabelTooLong}
+use Rattle.sctp_dcep.specs.declared.fault.Fault.TheVariants.{ProtocolTooLong}
 use Rattle.sctp_dcep.specs.declared.message.Open.{Open}
 use Rattle.sctp_dcep.specs.declared.message.Message.{Message}
 use Rattle.sctp_dcep.specs.declared.message.Message.TheVariants as messages

@@ -9,7 +9,8 @@ use Rattle.sctp_dcep.proofs.Again.{read_of-encoding}
 use Rattle.sctp_dcep.proofs.message.Message.write.Goals as goal
 
 read_again : (m : Message) (o : Open) (r : Result (List ℕ) Fault) → m ≡ messages.Open o
-    → IfOk r (λ bytes. (write_refusal (messages.Open o) ≡ None) × (bytes ≡ open_encoding o)) → OnOk r (FitsFields o) → IfOk r (λ bytes. read_of bytes ≡ Ok (as_read m))
+    → IfOk r (λ bytes. (write_refusal (messages.Open o) ≡ None) × (bytes ≡ open_encoding o)) → OnOk r (FitsFields o)
+    → IfOk r (λ bytes. read_of bytes ≡ Ok (as_read m))
 read_again m o (Ok bytes) is written fits = ap read_of written.1 ∙ read_of-encoding o fits ∙ ap (λ x. Ok (as_read x)) (sym is)
 read_again m o (Err fault) is written fits = written
 
