@@ -200,7 +200,7 @@ RULES = [
         ("a DCEP message is ordered and reliable in any mode", "8832 6", ["sctp_stream::OutboundStream::is_ordered", "sctp_sender::Sender::drop_expired worn"],
          ["sctp_data PayloadTypes.is_ordered", "sctp_sender Resending.is_worn"], ["link_tests::channel_messages_are_ordered_always"]),
         ("DATA_CHANNEL_OPEN and DATA_CHANNEL_ACK are read and written exactly; of an acknowledgement bytes behind its type are passed over",
-         "8832 5.1, 5.2", ["sctp_dcep::Message::read exact memory", "sctp_dcep::Message::write ok again refused"],
+         "8832 5.1, 5.2", ["sctp_dcep::Message::read exact memory again", "sctp_dcep::Message::write ok again refused"],
          ["sctp_dcep Message.read_of", "sctp_dcep Message.encoding"], ["sctp_dcep::requests", "sctp_dcep::refusals", "sctp_dcep::lengths"]),
         ("a DATA_CHANNEL_ACK answers a DATA_CHANNEL_OPEN; both have payload type 50", "8832 6, 8.1", "the caller sends them", [], [], []),
         ("the DTLS client opens channels on streams with even numbers, the server on odd ones", "8832 6; 8831 6.5",

@@ -38,7 +38,7 @@ reliability_again true Rexmit = refl
 reliability_again false Timed = refl
 reliability_again true Timed = refl
 
-parameter_again : (r : ReliabilityType) (v : ℕ) → parameter_of r (parameter_of r v) ≡ parameter_of r v
+pub parameter_again : (r : ReliabilityType) (v : ℕ) → parameter_of r (parameter_of r v) ≡ parameter_of r v
 parameter_again Reliable v = refl
 parameter_again Rexmit v = refl
 parameter_again Timed v = refl

@@ -59,6 +59,8 @@ impl Message {
         ensures exact { (result ≡ read_of raw.now) ⊎ (result ≡ Err OutOfMemory) }
         ensures memory { result ≡ Err OutOfMemory
             → (o : Open) × (read_of raw.now ≡ Ok (Message.Open o)) }
+        // It can be written, and is read again as it is.
+        ensures again { IfOk result (λ m. (write_refusal m ≡ None) × (as_read m ≡ m)) }
     {
         let bytes = raw.as_slice();
         if bytes.is_empty() {
