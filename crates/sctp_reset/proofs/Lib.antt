@@ -1,1 +1,4 @@
 pub mod Splits
+pub mod Exchanges
+pub mod OwnRuns
+pub mod PeerRuns

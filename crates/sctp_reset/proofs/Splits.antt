@@ -70,6 +70,7 @@ module _ (drained : ℕ → Bool) (most : ℕ) (all : List ℕ) where
       → (streams ≡ picked drained most all) × (left ≡ unpicked drained most all)
   ended streams left i end split =
       let room = most - length streams in
-      let rest_is : drop i all ≡ [] = drop_all i all end in
-      ( sym (split.picks ∙ ap (λ ys. streams ++ ys) (rw rest_is (take-nil room)) ∙ append-nil streams)
-      , sym (split.leaves ∙ ap (λ ys. left ++ ys) (rw rest_is (unpicked-nil drained room)) ∙ append-nil left) )
+      let rest_is : drop i all ≡ [] = drop_all i all end in (
+        sym (split.picks ∙ ap (λ ys. streams ++ ys) (rw rest_is (take-nil room)) ∙ append-nil streams),
+        sym (split.leaves ∙ ap (λ ys. left ++ ys) (rw rest_is (unpicked-nil drained room)) ∙ append-nil left),
+      )

@@ -1,3 +1,4 @@
 pub mod Requests
 pub mod Own
 pub mod Peer
+pub mod Runs

@@ -1,5 +1,5 @@
 -- What this side asked for, as plain records (RFC 6525 4.1).
-use Rattle.std.specs.Prelude.{◌≡◌, ℕ, List, [], Option, Some, None}
+use Rattle.std.specs.Prelude.{ℕ, ◌<◌, List, [], length, Option, Some, None}
 
 -- a request: its number, the last TSN assigned, its streams, when it is to be sent next, and how many sendings
 -- nothing answered since the last answer
@@ -22,4 +22,5 @@ streams_of (Some r) = r.streams
 
 -- a request under way lists a stream: a request without any would be for all (RFC 6525 4.1)
 abbrev pub ListsStreams : Option Request → Type 0
-ListsStreams under_way = streams_of under_way ≡ [] → under_way ≡ None
+ListsStreams None = Unit {0}
+ListsStreams (Some r) = 0 < length r.streams

@@ -1,6 +1,6 @@
 //! The requests of this side to reset its outgoing streams (RFC 6525 5.1.1, 5.1.2, 5.2.7).
 
-ghost use Rattle.std.specs.Prelude.{◌≡◌, ◌<◌, ℕ, Bool, false, [], OnOk, OnErr, IfOk, IsOkUnless, length, ◌≤◌};
+ghost use Rattle.std.specs.Prelude.{◌≡◌, ◌<◌, ℕ, Bool, false, OnOk, OnErr, IfOk, IfSome, IsOkUnless, length};
 ghost use Rattle.std.specs.List.{list_any};
 ghost use Rattle.std.specs.Option.{is_some, option_copied, option_map};
 ghost use Rattle.sctp_reset.specs.Own.{Tells, is_stream, picked, unpicked};
@@ -76,8 +76,7 @@ impl Model for OwnRequests {
 }
 
 impl OwnRequests {
-    ghost use Rattle.sctp_reset.specs.Requests.{ListsStreams};
-    ghost use Rattle.sctp_reset.specs.Own.{start, is_asked, is_idle, after_ask, Tells, after_begin, due_at, time_of, after_sent, answer_to, after_response};
+    ghost use Rattle.sctp_reset.specs.Own.{start, is_asked, is_none_of, is_idle, after_ask, Tells, after_begin, due_at, time_of, after_sent, answer_to, after_response};
 
     /// Nothing is asked for. The first request has the number of the own first TSN (RFC 6525 4.1). It takes no memory.
     pub fn new(alloc: Global, first_tsn: u32) -> Self
@@ -138,7 +137,8 @@ impl OwnRequests {
             → OnOk result (self.new ≡ after_begin drained most last_tsn now self.old) }
         ensures err { OnErr result (self.new ≡ self.old) }
         ensures memory { IsOkUnless result ErrOutOfMemory }
-        ensures wants { OnErr result (is_some self.old.under_way ≡ false) }
+        ensures wants { OnErr result ((is_some self.old.under_way ≡ false)
+            × (is_none_of self.old.waiting ≡ false)) }
     {
         if self.under_way.is_some() {
             return Ok(());
@@ -161,7 +161,7 @@ impl OwnRequests {
     /// The request that is to be sent, for the first time or again (RFC 6525 5.1.1).
     pub fn due(&self, now: u64) -> Option<&ResetRequest>
         ensures due { option_copied result ≡ due_at now self.now.under_way }
-        ensures lists { ListsStreams self.now.under_way }
+        ensures lists { IfSome result (λ r. 0 < length r.now.streams) }
     {
         match &self.under_way {
             Some(request) if request.at <= now => Some(request),
@@ -237,6 +237,7 @@ fn split<F: Fn(u16) -> bool>(
         → IfOk result (λ r. (r.0.items ≡ picked drained most waiting.now)
         × (r.1.items ≡ unpicked drained most waiting.now)) }
     ensures memory { IsOkUnless result ErrOutOfMemory }
+    ensures wants { OnErr result (0 < length waiting.now) }
 {
     let mut streams = Vec::with_capacity(alloc, most.min(waiting.len()))?;
     let mut left = Vec::with_capacity(alloc, waiting.len())?;

@@ -17,7 +17,7 @@ pub enum Due {
 
 /// The peer's requests to reconfigure streams, of any kind, and the responses that are due. It takes no memory: it keeps the results
 /// of the last two requests, and at most two responses, as many as a RE-CONFIG chunk has parameters (RFC 6525 3.1).
-#[derive(Clone, Copy, Debug, PartialEq, Eq)]
+#[derive(Debug, Drop)]
 pub struct PeerRequests {
     expected: u32,
     // Whether the expected request came, and has no answer yet but "In progress".
