@@ -61,14 +61,14 @@ due_again = refl
 
 -- ## A reset that is performed (RFC 6525 5.2.2 E3 to E6, 5.2.7)
 
-abbrev heard : PeerRequests
-heard = after_request 100 (expects 100)
+abbrev arrived : PeerRequests
+arrived = after_request 100 (expects 100)
 
 to_perform : due_for 100 (expects 100) ≡ Perform
 to_perform = refl
 
 abbrev performed : PeerRequests
-performed = after_answer SuccessPerformed heard
+performed = after_answer SuccessPerformed arrived
 
 performed_is_due : first_due performed ≡ Some (response 100 SuccessPerformed)
 performed_is_due = refl
@@ -120,7 +120,7 @@ other_changes_nothing = refl
 -- ## Chunks up to the last TSN are missing: in progress, then performed (RFC 6525 5.2.2 E2, 5.2.7)
 
 abbrev deferred : PeerRequests
-deferred = after_answer InProgress heard
+deferred = after_answer InProgress arrived
 
 progress_is_due : first_due deferred ≡ Some (response 100 InProgress)
 progress_is_due = refl
@@ -157,7 +157,7 @@ performed_unasked = refl
 
 -- ## A reset that is refused (RFC 6525 4.4, 5.2.1)
 
-denied_again : due_for 100 (after_answer Denied heard) ≡ Again Denied
+denied_again : due_for 100 (after_answer Denied arrived) ≡ Again Denied
 denied_again = refl
 
 streams_refused : answer_to 100 Denied sent_once.under_way ≡ Refused (record first_request { at = 1500; unanswered = 1 }) Denied
@@ -205,8 +205,8 @@ both_again = refl
 abbrev other_sent : Requests
 other_sent = after_sent 1000 500 (after_begin all_drained 20 950 1000 (after_ask 3 (start 900)))
 
-abbrev other_heard : PeerRequests
-other_heard = after_answer SuccessPerformed (after_request 900 (expects 900))
+abbrev other_arrived : PeerRequests
+other_arrived = after_answer SuccessPerformed (after_request 900 (expects 900))
 
 -- what each side asked is performed by the other, and no number of one is a number of the other
 other_ends : is_idle (after_response 900 SuccessPerformed 1040 500 other_sent) ≡ true
@@ -216,7 +216,7 @@ crossing_changes_nothing : after_response 100 SuccessPerformed 1040 500 other_se
 crossing_changes_nothing = refl
 
 -- a request that follows names the last one of the other side (RFC 6525 4.1)
-names_last : last_number other_heard ≡ 900
+names_last : last_number other_arrived ≡ 900
 names_last = refl
 
 names_none : last_number (expects 900) ≡ 899

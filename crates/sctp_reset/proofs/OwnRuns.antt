@@ -13,7 +13,7 @@ use Rattle.sctp_util.proofs.Cases.{by_same, same-yes}
 use Rattle.sctp_reset.specs.declared.own_requests.Answer.TheVariants.{NotUnderWay}
 use Rattle.sctp_reset.specs.Requests.{Request, Requests, streams_of}
 use Rattle.sctp_reset.specs.Own.{start, is_stream, is_asked, after_ask, picked, unpicked, begin_with, after_begin, sent_at, after_sent, answer_of, answer_to, left_after, left_of, after_response}
-use Rattle.sctp_reset.specs.Runs.{OwnCall, asks, begins, sends, hears, after_call, after_calls, streams_asked, streams_ended, IsEachOnce, AsksEachOnce, StaysAsked, AddsNothing, HoldsAfterEachRun}
+use Rattle.sctp_reset.specs.Runs.{OwnCall, asks, begins, sends, learns, after_call, after_calls, streams_asked, streams_ended, IsEachOnce, AsksEachOnce, StaysAsked, AddsNothing, HoldsAfterEachRun}
 
 -- ## A split keeps the streams
 
@@ -78,16 +78,16 @@ sent-streams now rto (Some r) = refl
 sent-asked : (s now rto : ℕ) (o : Requests) → is_asked s (after_sent now rto o) ≡ is_asked s o
 sent-asked s now rto o = ap (λ ss. list_any (is_stream s) ss || list_any (is_stream s) o.waiting) (sent-streams now rto o.under_way)
 
-heard-asked : (t : ℕ → Bool) (waits : Bool) (result : ReconfigResult) (now rto : ℕ) (r : Request) → (list_any t r.streams || waits) ≡ true
+result-asked : (t : ℕ → Bool) (waits : Bool) (result : ReconfigResult) (now rto : ℕ) (r : Request) → (list_any t r.streams || waits) ≡ true
     → list_any t (streams_ended (answer_of result r)) ≡ false → (list_any t (streams_of (left_after result now rto r)) || waits) ≡ true
-heard-asked t waits SuccessNop now rto r asked other = or-other (list_any t r.streams) waits asked other
-heard-asked t waits SuccessPerformed now rto r asked other = or-other (list_any t r.streams) waits asked other
-heard-asked t waits Denied now rto r asked other = or-other (list_any t r.streams) waits asked other
-heard-asked t waits ErrorWrongSsn now rto r asked other = or-other (list_any t r.streams) waits asked other
-heard-asked t waits ErrorRequestAlreadyInProgress now rto r asked other = or-other (list_any t r.streams) waits asked other
-heard-asked t waits ErrorBadSequenceNumber now rto r asked other = or-other (list_any t r.streams) waits asked other
-heard-asked t waits InProgress now rto r asked other = asked
-heard-asked t waits Unknown now rto r asked other = or-other (list_any t r.streams) waits asked other
+result-asked t waits SuccessNop now rto r asked other = or-other (list_any t r.streams) waits asked other
+result-asked t waits SuccessPerformed now rto r asked other = or-other (list_any t r.streams) waits asked other
+result-asked t waits Denied now rto r asked other = or-other (list_any t r.streams) waits asked other
+result-asked t waits ErrorWrongSsn now rto r asked other = or-other (list_any t r.streams) waits asked other
+result-asked t waits ErrorRequestAlreadyInProgress now rto r asked other = or-other (list_any t r.streams) waits asked other
+result-asked t waits ErrorBadSequenceNumber now rto r asked other = or-other (list_any t r.streams) waits asked other
+result-asked t waits InProgress now rto r asked other = asked
+result-asked t waits Unknown now rto r asked other = or-other (list_any t r.streams) waits asked other
 
 response-asked : (s number now rto : ℕ) (result : ReconfigResult) (u : Option Request) (waits : Bool)
     → (list_any (is_stream s) (streams_of u) || waits) ≡ true → list_any (is_stream s) (streams_ended (answer_to number result u)) ≡ false
@@ -97,14 +97,14 @@ response-asked s number now rto result (Some r) waits asked other = step (r.numb
   where
     step : (b : Bool) → list_any (is_stream s) (streams_ended (if b then answer_of result r else NotUnderWay)) ≡ false
         → (list_any (is_stream s) (streams_of (if b then left_after result now rto r else Some r)) || waits) ≡ true
-    step true o = heard-asked (is_stream s) waits result now rto r asked o
+    step true o = result-asked (is_stream s) waits result now rto r asked o
     step false o = asked
 
 pub stays-asked : StaysAsked
 stays-asked s (asks stream) o asked other = ask-asked s stream o asked
 stays-asked s (begins drained most last_tsn now) o asked other = begin-asked s drained most last_tsn now o ∙ asked
 stays-asked s (sends now rto) o asked other = sent-asked s now rto o ∙ asked
-stays-asked s (hears number result now rto) o asked other =
+stays-asked s (learns number result now rto) o asked other =
     response-asked s number now rto result o.under_way (list_any (is_stream s) o.waiting) asked other
 
 -- ## A response leaves the streams of the request, or none of them
@@ -114,22 +114,22 @@ data LeavesOf (old : Option Request) : Option Request → Type 0 where
   all : (u : Option Request) → streams_of u ≡ streams_of old → LeavesOf old u
   none : LeavesOf old None
 
-heard-leaves : (result : ReconfigResult) (now rto : ℕ) (r : Request) → LeavesOf (Some r) (left_after result now rto r)
-heard-leaves SuccessNop now rto r = none
-heard-leaves SuccessPerformed now rto r = none
-heard-leaves Denied now rto r = none
-heard-leaves ErrorWrongSsn now rto r = none
-heard-leaves ErrorRequestAlreadyInProgress now rto r = none
-heard-leaves ErrorBadSequenceNumber now rto r = none
-heard-leaves InProgress now rto r = all _ refl
-heard-leaves Unknown now rto r = none
+result-leaves : (result : ReconfigResult) (now rto : ℕ) (r : Request) → LeavesOf (Some r) (left_after result now rto r)
+result-leaves SuccessNop now rto r = none
+result-leaves SuccessPerformed now rto r = none
+result-leaves Denied now rto r = none
+result-leaves ErrorWrongSsn now rto r = none
+result-leaves ErrorRequestAlreadyInProgress now rto r = none
+result-leaves ErrorBadSequenceNumber now rto r = none
+result-leaves InProgress now rto r = all _ refl
+result-leaves Unknown now rto r = none
 
 response-leaves : (number now rto : ℕ) (result : ReconfigResult) (u : Option Request) → LeavesOf u (left_of number result now rto u)
 response-leaves number now rto result None = none
 response-leaves number now rto result (Some r) = step (r.number == number)
   where
     step : (b : Bool) → LeavesOf (Some r) (if b then left_after result now rto r else Some r)
-    step true = heard-leaves result now rto r
+    step true = result-leaves result now rto r
     step false = all (Some r) refl
 
 pub adds-nothing : AddsNothing
@@ -217,7 +217,7 @@ call-once : (call : OwnCall) (o : Requests) → AsksEachOnce o → AsksEachOnce 
 call-once (asks s) o once = ask-once s o once
 call-once (begins drained most last_tsn now) o once = begin-once drained most last_tsn now o once
 call-once (sends now rto) o once = rw (sent-streams now rto o.under_way) once
-call-once (hears number result now rto) o once = response-once number now rto result o once
+call-once (learns number result now rto) o once = response-once number now rto result o once
 
 calls-once : (calls : List OwnCall) (o : Requests) → AsksEachOnce o → AsksEachOnce (after_calls calls o)
 calls-once [] o once = once

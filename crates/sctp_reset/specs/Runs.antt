@@ -17,13 +17,13 @@ pub data OwnCall : Type 0 where
   asks : ℕ → OwnCall
   begins : (ℕ → Bool) → ℕ → ℕ → ℕ → OwnCall
   sends : ℕ → ℕ → OwnCall
-  hears : ℕ → ReconfigResult → ℕ → ℕ → OwnCall
+  learns : ℕ → ReconfigResult → ℕ → ℕ → OwnCall
 
 abbrev pub after_call : OwnCall → Requests → Requests
 after_call (asks s) o = after_ask s o
 after_call (begins drained most last_tsn now) o = after_begin drained most last_tsn now o
 after_call (sends now rto) o = after_sent now rto o
-after_call (hears number result now rto) o = after_response number result now rto o
+after_call (learns number result now rto) o = after_response number result now rto o
 
 abbrev pub after_calls : List OwnCall → Requests → Requests
 after_calls [] o = o
@@ -56,7 +56,7 @@ abbrev pub streams_ended_by : OwnCall → Requests → List ℕ
 streams_ended_by (asks s) o = []
 streams_ended_by (begins drained most last_tsn now) o = []
 streams_ended_by (sends now rto) o = []
-streams_ended_by (hears number result now rto) o = streams_ended (answer_to number result o.under_way)
+streams_ended_by (learns number result now rto) o = streams_ended (answer_to number result o.under_way)
 
 -- a stream stays asked for until a response ends its request
 abbrev pub StaysAsked : Type 0

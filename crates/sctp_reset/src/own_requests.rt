@@ -198,9 +198,8 @@ impl OwnRequests {
     {
         match self.under_way.take() {
             Some(request) if request.number == number => match outcome {
-                ReconfigResult::SuccessNop | ReconfigResult::SuccessPerformed => Answer::Performed(
-                    request,
-                ),
+                ReconfigResult::SuccessNop => Answer::Performed(request),
+                ReconfigResult::SuccessPerformed => Answer::Performed(request),
                 ReconfigResult::InProgress => {
                     let mut request = request;
                     request.at = now.saturating_add(rto);
