@@ -1,12 +1,14 @@
 -- Exchanges of RFC 6525 5.1 and 5.2, worked by hand. The side that asks has the first TSN 100, and its last TSN is 120. Times are in
 -- milliseconds, with an RTO of 500.
 use Rattle.std.specs.Prelude.{◌≡◌, ℕ, Bool, true, ◌==◌, not, [], ◌∷◌, Some, None, refl}
+use Rattle.std.proofs.Common.{List, inl, inr, lit<}
 use Rattle.sctp_params.specs.declared.param.param_reconfig_response.ReconfigResult.TheVariants.{SuccessPerformed, Denied, ErrorBadSequenceNumber, InProgress}
 use Rattle.sctp_reset.specs.declared.own_requests.Answer.TheVariants.{Performed, Refused, Wait, NotUnderWay}
 use Rattle.sctp_reset.specs.declared.peer_requests.Due.TheVariants.{Perform, Again, Bad}
 use Rattle.sctp_reset.specs.declared.peer_requests.PeerRequests.{PeerRequests}
 use Rattle.sctp_reset.specs.Requests.{Request, Requests}
 use Rattle.sctp_reset.specs.Own.{start, is_asked, is_idle, after_ask, after_begin, due_at, after_sent, answer_to, after_response}
+use Rattle.sctp_reset.specs.Agreement.{Event, asked, began, sent, came, answered, returned, opened, MayAllHappen, after_events}
 use Rattle.sctp_reset.specs.Peer.{expects, last_number, response, first_due, without_first, due_for, after_request, after_answer}
 
 abbrev all_drained : ℕ → Bool
@@ -18,15 +20,15 @@ all_but_7 s = not (s == 7)
 -- ## The side that asks
 
 -- streams 5, 7 and 9 are to be reset, and 5 once more
-abbrev asked : Requests
-asked = after_ask 5 (after_ask 9 (after_ask 7 (after_ask 5 (start 100))))
+abbrev all_asked : Requests
+all_asked = after_ask 5 (after_ask 9 (after_ask 7 (after_ask 5 (start 100))))
 
-each_waits_once : asked ≡ record { waiting = 5 ∷ 7 ∷ 9 ∷ []; under_way = None; next_number = 100 }
+each_waits_once : all_asked ≡ record { waiting = 5 ∷ 7 ∷ 9 ∷ []; under_way = None; next_number = 100 }
 each_waits_once = refl
 
 -- those that are drained go into one request, in order; 7 waits on
 abbrev begun : Requests
-begun = after_begin all_but_7 20 120 1000 asked
+begun = after_begin all_but_7 20 120 1000 all_asked
 
 abbrev first_request : Request
 first_request = record { number = 100; last_tsn = 120; streams = 5 ∷ 9 ∷ []; at = 1000; unanswered = 0 }
@@ -35,7 +37,7 @@ drained_streams_go_together : begun ≡ record { waiting = 7 ∷ []; under_way =
 drained_streams_go_together = refl
 
 -- where one stream fits, the first one goes
-one_fits : (after_begin all_drained 1 120 1000 asked).waiting ≡ 7 ∷ 9 ∷ []
+one_fits : (after_begin all_drained 1 120 1000 all_asked).waiting ≡ 7 ∷ 9 ∷ []
 one_fits = refl
 
 -- while a request is under way no other begins, though 7 is drained by then (RFC 6525 5.1.1)
@@ -83,7 +85,8 @@ only_7_waits : settled ≡ record { waiting = 7 ∷ []; under_way = None; next_n
 only_7_waits = refl
 
 -- the next request has the next number on both sides
-next_begins : (after_begin all_drained 20 130 1100 settled).under_way ≡ Some (record { number = 101; last_tsn = 130; streams = 7 ∷ []; at = 1100; unanswered = 0 })
+next_begins : (after_begin all_drained 20 130 1100 settled).under_way
+    ≡ Some (record { number = 101; last_tsn = 130; streams = 7 ∷ []; at = 1100; unanswered = 0 })
 next_begins = refl
 
 next_expected : due_for 101 performed ≡ Perform
@@ -229,3 +232,23 @@ wraps = refl
 
 wraps_too : due_for 4294967295 (after_answer SuccessPerformed (after_request 4294967295 (expects 4294967295))) ≡ Again SuccessPerformed
 wraps_too = refl
+
+-- ## A network that repeats and delays: the request comes twice, and the response to the first comes last
+
+abbrev delayed : List Event
+delayed =
+    asked 5 ∷ began all_drained 20 120 1000 ∷ sent 1000 500 ∷ came 0 ∷ answered InProgress ∷ came 0 ∷ answered SuccessPerformed
+    ∷ returned (response 100 SuccessPerformed) 1040 500 ∷ returned (response 100 InProgress) 1050 500 ∷ came 0
+    ∷ returned (response 100 SuccessPerformed) 1060 500 ∷ []
+
+all_may_happen : MayAllHappen 100 delayed (opened 100)
+all_may_happen = (tt, (tt, (tt, (lit< tt, (refl, (lit< tt, (refl, (inl refl, (inr (inl refl), (lit< tt, (inl refl, tt)))))))))))
+
+said_once : (after_events 100 delayed (opened 100)).words ≡ SuccessPerformed ∷ []
+said_once = refl
+
+ended_once : (after_events 100 delayed (opened 100)).ends ≡ SuccessPerformed ∷ []
+ended_once = refl
+
+idle_in_the_end : is_idle (after_events 100 delayed (opened 100)).own ≡ true
+idle_in_the_end = refl

@@ -2,3 +2,4 @@ pub mod Splits
 pub mod Exchanges
 pub mod OwnRuns
 pub mod PeerRuns
+pub mod Agreement

@@ -1,5 +1,6 @@
 -- What a run of calls leaves of the streams asked for.
-use Rattle.std.proofs.Common.{◌≡◌, ℕ, zero, suc, ◌≤◌, Bool, true, false, List, [], ◌∷◌, ◌++◌, length, Option, Some, None, refl, ap, ◌∙◌, arith, length-append, append_assoc}
+use Rattle.std.proofs.Common.{◌≡◌, ℕ, zero, suc, ◌≤◌, Bool, true, false, List, [], ◌∷◌, ◌++◌, length, Option, Some, None, refl, ap, ◌∙◌, arith, length-append}
+use Rattle.std.proofs.Common.{append_assoc}
 use Rattle.std.specs.Prelude.{◌==◌, ◌||◌, if◌then◌else◌}
 use Rattle.std.specs.List.{list_any}
 use Rattle.std.specs.Option.{option_map}
@@ -12,8 +13,10 @@ use Rattle.sctp_params.specs.declared.param.param_reconfig_response.ReconfigResu
 use Rattle.sctp_util.proofs.Cases.{by_same, same-yes}
 use Rattle.sctp_reset.specs.declared.own_requests.Answer.TheVariants.{NotUnderWay}
 use Rattle.sctp_reset.specs.Requests.{Request, Requests, streams_of}
-use Rattle.sctp_reset.specs.Own.{start, is_stream, is_asked, after_ask, picked, unpicked, begin_with, after_begin, sent_at, after_sent, answer_of, answer_to, left_after, left_of, after_response}
-use Rattle.sctp_reset.specs.Runs.{OwnCall, asks, begins, sends, learns, after_call, after_calls, streams_asked, streams_ended, IsEachOnce, AsksEachOnce, StaysAsked, AddsNothing, HoldsAfterEachRun}
+use Rattle.sctp_reset.specs.Own.{start, is_stream, is_asked, after_ask, picked, unpicked, begin_with, after_begin, sent_at, after_sent, answer_of, answer_to}
+use Rattle.sctp_reset.specs.Own.{left_after, left_of, after_response}
+use Rattle.sctp_reset.specs.Runs.{OwnCall, asks, begins, sends, learns, after_call, after_calls, streams_asked, streams_ended, IsEachOnce, AsksEachOnce}
+use Rattle.sctp_reset.specs.Runs.{StaysAsked, AddsNothing, HoldsAfterEachRun}
 
 -- ## A split keeps the streams
 

@@ -6,12 +6,14 @@ use Rattle.sctp_params.specs.declared.param.param_reconfig_response.ReconfigResu
 use Rattle.sctp_util.proofs.Cases.{by_same, same-yes}
 use Rattle.sctp_reset.specs.declared.peer_requests.Due.TheVariants.{Perform, Again}
 use Rattle.sctp_reset.specs.declared.peer_requests.PeerRequests.{PeerRequests}
-use Rattle.sctp_reset.specs.Peer.{expects, next_number, response, is_for, respond, kept_result, due_of, due_for, result_of, is_in_progress, moved_on, after_request, after_answer, without_first}
-use Rattle.sctp_reset.specs.Runs.{PeerCall, comes, answers, responds, after_peer_call, after_peer_calls, last_word, last_words, PerformsOnce, AnswersAlike, RespondsOnceEach, HoldsAfterEachPeerRun}
+use Rattle.sctp_reset.specs.Peer.{expects, next_number, response, is_for, respond, kept_result, due_of, due_for, result_of, is_in_progress, moved_on}
+use Rattle.sctp_reset.specs.Peer.{after_request, after_answer, without_first}
+use Rattle.sctp_reset.specs.Runs.{PeerCall, comes, answers, responds, after_peer_call, after_peer_calls, last_word, last_words, PerformsOnce, AnswersAlike}
+use Rattle.sctp_reset.specs.Runs.{RespondsOnceEach, HoldsAfterEachPeerRun}
 
 -- ## What responses leave as it is
 
-record IsSame (old new : PeerRequests) : Type 0 where
+pub record IsSame (old new : PeerRequests) : Type 0 where
   pub expected : new.expected ≡ old.expected
   pub last : new.last ≡ old.last
   pub earlier : new.earlier ≡ old.earlier
@@ -19,11 +21,12 @@ record IsSame (old new : PeerRequests) : Type 0 where
 same-respond : (number : ℕ) (result : ReconfigResult) (p : PeerRequests) → IsSame p (respond number result p)
 same-respond number result p = step (is_for number p.newer)
   where
-    step : (b : Bool) → IsSame p (if b then record p { newer = Some (response number result) } else record p { older = p.newer; newer = Some (response number result) })
+    step : (b : Bool)
+        → IsSame p (if b then record p { newer = Some (response number result) } else record p { older = p.newer; newer = Some (response number result) })
     step true = record { expected = refl; last = refl; earlier = refl }
     step false = record { expected = refl; last = refl; earlier = refl }
 
-same-request : (number : ℕ) (p : PeerRequests) → IsSame p (after_request number p)
+pub same-request : (number : ℕ) (p : PeerRequests) → IsSame p (after_request number p)
 same-request number p = step (number == p.expected)
   where
     step : (b : Bool) → IsSame p (if b then record p { is_awaited = true } else respond number (result_of (kept_result number p)) p)
@@ -38,10 +41,10 @@ same-without p = step (is_some p.older)
     step false = record { expected = refl; last = refl; earlier = refl }
 
 -- what an answer makes of it, in progress or not
-answered-same : (result : ReconfigResult) (p : PeerRequests) → is_in_progress result ≡ true → IsSame p (after_answer result p)
+pub answered-same : (result : ReconfigResult) (p : PeerRequests) → is_in_progress result ≡ true → IsSame p (after_answer result p)
 answered-same result p e = rw e (same-respond p.expected result p)
 
-answered-moved : (result : ReconfigResult) (p : PeerRequests) → is_in_progress result ≡ false → IsSame (moved_on result p) (after_answer result p)
+pub answered-moved : (result : ReconfigResult) (p : PeerRequests) → is_in_progress result ≡ false → IsSame (moved_on result p) (after_answer result p)
 answered-moved result p e = rw e (same-respond p.expected result (moved_on result p))
 
 -- ## The expected number
@@ -55,7 +58,8 @@ expected-call (answers result) p below = step (is_in_progress result) refl
     step false e = (answered-moved result p e).expected
 expected-call responds p below = (same-without p).expected ∙ omega arith
 
-expected-calls : (calls : List PeerCall) (p : PeerRequests) → p.expected < 2 ^ 32 → (after_peer_calls calls p).expected ≡ (p.expected + last_words calls) % 2 ^ 32
+expected-calls : (calls : List PeerCall) (p : PeerRequests) → p.expected < 2 ^ 32
+    → (after_peer_calls calls p).expected ≡ (p.expected + last_words calls) % 2 ^ 32
 expected-calls [] p below = omega arith
 expected-calls (call ∷ calls) p below =
     let first = expected-call call p below in
@@ -151,7 +155,8 @@ respond-once : (number : ℕ) (result : ReconfigResult) (p : PeerRequests) → R
 respond-once number result p once = step (is_for number p.newer) refl
   where
     step : (b : Bool) → is_for number p.newer ≡ b
-        → RespondsOnceEach (if b then record p { newer = Some (response number result) } else record p { older = p.newer; newer = Some (response number result) })
+        → RespondsOnceEach (if b then record p { newer = Some (response number result) }
+        else record p { older = p.newer; newer = Some (response number result) })
     step true e = λ n h. by_same number n (λ same. let h' = rw (← same) at h in let o = once number h' in cc) (λ _ other. other)
     step false e = λ n h. by_same number n (λ same. let h' = rw (← same) at h in cc) (λ _ other. other)
 

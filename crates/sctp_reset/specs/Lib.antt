@@ -2,3 +2,4 @@ pub mod Requests
 pub mod Own
 pub mod Peer
 pub mod Runs
+pub mod Agreement

@@ -1,7 +1,8 @@
 use Rattle.std.proofs.Common.{◌≡◌, ◌<◌, true, false, length, get_or, sym, arith}
 use Rattle.sctp_reset.proofs.Splits.{took, passed, ended}
 use Rattle.sctp_reset.proofs.own_requests.split.Goals as goal
-use Rattle.sctp_reset.proofs.own_requests.split.Goals.{then-len-most+then-is_drained+in_ok-push, else-len-most+in_ok-push-2, else-len-most-via-then-len-most+else-is_drained, else-len-most-via-else-len-most}
+use Rattle.sctp_reset.proofs.own_requests.split.Goals.{then-len-most+then-is_drained+in_ok-push, else-len-most+in_ok-push-2}
+use Rattle.sctp_reset.proofs.own_requests.split.Goals.{else-len-most-via-then-len-most+else-is_drained, else-len-most-via-else-len-most}
 
 pub loop-stream-preserved : goal.loop-stream-preserved
 loop-stream-preserved g c = (
