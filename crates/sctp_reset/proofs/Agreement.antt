@@ -18,7 +18,7 @@ use Rattle.sctp_reset.specs.Own.{left_of}
 use Rattle.sctp_reset.specs.Peer.{next_number, response, is_for, respond, kept_result, result_of, is_in_progress, moved_on, after_request}
 use Rattle.sctp_reset.specs.Peer.{after_answer}
 use Rattle.sctp_reset.specs.Agreement.{Talk, opened, Event, asked, began, sent, came, answered, returned, number_of, begun_after, ends_after}
-use Rattle.sctp_reset.specs.Agreement.{after_event, IsSaid, MayHappen, after_events, MayAllHappen, Agrees, BothAgree}
+use Rattle.sctp_reset.specs.Agreement.{after_event, IsSaid, MayHappen, after_events, MayAllHappen, Agrees, BothAgree, EachCanEnd}
 use Rattle.sctp_reset.proofs.PeerRuns.{IsSame, same-request, answered-same, answered-moved}
 
 -- ## The last word on a request
@@ -53,15 +53,15 @@ data Means (i : ℕ) (result : ReconfigResult) (words : List ReconfigResult) : T
   last-word : word_at i words ≡ Some result → Means i result words
   past : i + 1 < length words → Means i result words
 
-record IsSound (first : ℕ) (words : List ReconfigResult) (begun : ℕ) (r : ParamReconfigResponse) : Type 0 where
+record IsValid (first : ℕ) (words : List ReconfigResult) (begun : ℕ) (r : ParamReconfigResponse) : Type 0 where
   pub request : ℕ
   pub began : request < begun
   pub number : r.reconfig_response_sequence_number ≡ number_of first request
   pub means : Means request r.result words
 
-abbrev AllSound : ℕ → List ReconfigResult → ℕ → List ParamReconfigResponse → Type 0
-AllSound first words begun [] = Unit {0}
-AllSound first words begun (r ∷ said) = IsSound first words begun r × AllSound first words begun said
+abbrev AllValid : ℕ → List ReconfigResult → ℕ → List ParamReconfigResponse → Type 0
+AllValid first words begun [] = Unit {0}
+AllValid first words begun (r ∷ said) = IsValid first words begun r × AllValid first words begun said
 
 -- the request under way is the one after those that ended
 abbrev IsNext : ℕ → ℕ → ℕ → Option Request → Type 0
@@ -70,7 +70,7 @@ IsNext first begun ended (Some r) = (begun ≡ ended + 1) × (r.number ≡ numbe
 
 abbrev IsKept : Option ReconfigResult → List ReconfigResult → Type 0
 IsKept last [] = Unit {0}
-IsKept last (word ∷ words) = last ≡ Some word
+IsKept last (word ∷ words) = (last ≡ Some word) × (is_in_progress word ≡ false)
 
 record IsInStep (first : ℕ) (t : Talk) : Type 0 where
   pub next : t.own.next_number ≡ number_of first t.begun
@@ -80,34 +80,34 @@ record IsInStep (first : ℕ) (t : Talk) : Type 0 where
   pub within : length t.words ≤ t.begun
   pub kept : IsKept t.peer.last t.words
   pub agrees : Agrees t.words t.ends
-  pub sound : AllSound first t.words t.begun t.said
+  pub valid : AllValid first t.words t.begun t.said
 
--- ## Soundness lasts
+-- ## What responses say lasts
 
 means-more : (i : ℕ) (result word : ReconfigResult) (words : List ReconfigResult) → Means i result words → Means i result (word ∷ words)
 means-more i result word words (progress e) = progress e
 means-more i result word words (last-word e) = last-word (word-kept i word words result e)
 means-more i result word words (past lt) = past (omega arith)
 
-sound-words : (first begun : ℕ) (word : ReconfigResult) (words : List ReconfigResult) (said : List ParamReconfigResponse)
-    → AllSound first words begun said → AllSound first (word ∷ words) begun said
-sound-words first begun word words [] all = tt
-sound-words first begun word words (r ∷ said) (s, all) = (
+valid-words : (first begun : ℕ) (word : ReconfigResult) (words : List ReconfigResult) (said : List ParamReconfigResponse)
+    → AllValid first words begun said → AllValid first (word ∷ words) begun said
+valid-words first begun word words [] all = tt
+valid-words first begun word words (r ∷ said) (s, all) = (
   record { request = s.request; began = s.began; number = s.number; means = means-more s.request r.result word words s.means },
-  sound-words first begun word words said all,
+  valid-words first begun word words said all,
 )
 
-sound-begun : (first begun more : ℕ) (words : List ReconfigResult) (said : List ParamReconfigResponse) → begun ≤ more
-    → AllSound first words begun said → AllSound first words more said
-sound-begun first begun more words [] le all = tt
-sound-begun first begun more words (r ∷ said) le (s, all) =
-    (record { request = s.request; began = omega (arith, s.began); number = s.number; means = s.means }, sound-begun first begun more words said le all)
+valid-begun : (first begun more : ℕ) (words : List ReconfigResult) (said : List ParamReconfigResponse) → begun ≤ more
+    → AllValid first words begun said → AllValid first words more said
+valid-begun first begun more words [] le all = tt
+valid-begun first begun more words (r ∷ said) le (s, all) =
+    (record { request = s.request; began = omega (arith, s.began); number = s.number; means = s.means }, valid-begun first begun more words said le all)
 
-said-sound : (first begun : ℕ) (words : List ReconfigResult) (said : List ParamReconfigResponse) (r : ParamReconfigResponse)
-    → IsSaid r said → AllSound first words begun said → IsSound first words begun r
-said-sound first begun words [] r none all = absurd none
-said-sound first begun words (s ∷ said) r (inl e) all = rw e all.0
-said-sound first begun words (s ∷ said) r (inr among) all = said-sound first begun words said r among all.1
+said-valid : (first begun : ℕ) (words : List ReconfigResult) (said : List ParamReconfigResponse) (r : ParamReconfigResponse)
+    → IsSaid r said → AllValid first words begun said → IsValid first words begun r
+said-valid first begun words [] r none all = absurd none
+said-valid first begun words (s ∷ said) r (inl e) all = rw e all.0
+said-valid first begun words (s ∷ said) r (inr among) all = said-valid first begun words said r among all.1
 
 -- ## Lengths
 
@@ -145,7 +145,7 @@ means-kept first i p (word ∷ words) expected kept e =
     let near : (next_number (number_of first i) == p.expected) ≡ true
     = rw (expected, number-next first i (length (word ∷ words)) e) (same-yes (number_of first (length (word ∷ words)))) in
     let place : i ≡ length words = omega arith in
-    rw (near, kept) (last-word (rw place (word-newest word words)))
+    rw (near, kept.0) (last-word (rw place (word-newest word words)))
 
 came-step : (first i : ℕ) (t : Talk) → IsInStep first t → i < t.begun → t.begun < 2 ^ 32 → IsInStep first (after_event first (came i) t)
 came-step first i t h lt few = record {
@@ -158,7 +158,7 @@ came-step first i t h lt few = record {
   within = h.within;
   kept = rw same.last h.kept;
   agrees = h.agrees;
-  sound = step (number == t.peer.expected) refl;
+  valid = step (number == t.peer.expected) refl;
 }
   where
     number : ℕ
@@ -183,8 +183,8 @@ came-step first i t h lt few = record {
         means-kept first i t.peer t.words h.expected h.kept (omega (arith, bounds.1))
 
     step : (b : Bool) → (number == t.peer.expected) ≡ b
-        → AllSound first t.words t.begun (if b then t.said else response number (result_of (kept_result number t.peer)) ∷ t.said)
-    step true e = h.sound
+        → AllValid first t.words t.begun (if b then t.said else response number (result_of (kept_result number t.peer)) ∷ t.said)
+    step true e = h.valid
     step false e = (
       record {
         request = i;
@@ -193,7 +193,7 @@ came-step first i t h lt few = record {
         means = means (λ z. both_ways (number == t.peer.expected) e (rw z (same-yes t.peer.expected))) (one-more t.words t.ends h.agrees)
             (cases_lt (i + 1) (length t.words));
       },
-      h.sound,
+      h.valid,
     )
 
 -- ## A request is answered
@@ -226,7 +226,7 @@ answered-step first result t h awaited = step (is_in_progress result) refl (one-
           within = h.within;
           kept = rw same.last h.kept;
           agrees = h.agrees;
-          sound = (record { request = length t.words; began = open-now; number = h.expected; means = progress e }, h.sound);
+          valid = (record { request = length t.words; began = open-now; number = h.expected; means = progress e }, h.valid);
         }
     step false e lengths (inr w) = absurd (omega (arith, bounds.1, ap length w.1))
     step false e lengths (inl same-words) =
@@ -236,11 +236,11 @@ answered-step first result t h awaited = step (is_in_progress result) refl (one-
           expected = (moved e).expected ∙ ap next_number h.expected ∙ number-next first (length t.words) (length (result ∷ t.words)) (omega arith);
           awaited = λ a. absurd (both_ways _ (not-awaited e) a);
           within = omega (arith, open-now);
-          kept = (moved e).last;
+          kept = ((moved e).last, e);
           agrees = inr (result, ap (λ ws. result ∷ ws) same-words);
-          sound = (
+          valid = (
             record { request = length t.words; began = open-now; number = h.expected; means = last-word (word-newest result t.words) },
-            sound-words first t.begun result t.words t.said h.sound,
+            valid-words first t.begun result t.words t.said h.valid,
           );
         }
 
@@ -336,7 +336,7 @@ response-leaves first begun number now rto result words ends (Some r) i few lt i
 returned-step : (first now rto : ℕ) (r : ParamReconfigResponse) (t : Talk) → IsInStep first t → IsSaid r t.said → t.begun < 2 ^ 32
     → IsInStep first (after_event first (returned r now rto) t)
 returned-step first now rto r t h said few =
-    let s = said-sound first t.begun t.words t.said r said h.sound in
+    let s = said-valid first t.begun t.words t.said r said h.valid in
     let leaves = response-leaves first t.begun r.reconfig_response_sequence_number now rto r.result t.words t.ends t.own.under_way s.request
     few s.began s.number h.within s.means h.agrees h.under_way in
     record {
@@ -347,7 +347,7 @@ returned-step first now rto r t h said few =
       within = h.within;
       kept = h.kept;
       agrees = leaves.agrees;
-      sound = h.sound;
+      valid = h.valid;
     }
 
 -- ## Calls of the side that asks
@@ -365,7 +365,7 @@ asked-step first s t h = step (is_asked s t.own)
       within = h.within;
       kept = h.kept;
       agrees = h.agrees;
-      sound = h.sound;
+      valid = h.valid;
     }
 
 sent-next : (first begun ended now rto : ℕ) (u : Option Request) → IsNext first begun ended u → IsNext first begun ended (option_map (sent_at now rto) u)
@@ -381,7 +381,7 @@ sent-step first now rto t h = record {
   within = h.within;
   kept = h.kept;
   agrees = h.agrees;
-  sound = h.sound;
+  valid = h.valid;
 }
 
 -- what a beginning makes of the numbers
@@ -420,7 +420,7 @@ began-step first drained most last_tsn now t h =
       within = omega (arith, h.within, b.more);
       kept = h.kept;
       agrees = h.agrees;
-      sound = sound-begun first t.begun _ t.words t.said b.more h.sound;
+      valid = valid-begun first t.begun _ t.words t.said b.more h.valid;
     }
 
 -- ## All events
@@ -470,8 +470,77 @@ at-first first lt = record {
   within = omega arith;
   kept = tt;
   agrees = inl refl;
-  sound = tt;
+  valid = tt;
 }
 
 pub both-agree : BothAgree
 both-agree first_tsn events lt may few = (all-steps first_tsn events (opened first_tsn) (at-first first_tsn lt) may few).agrees
+
+-- ## The request under way can end
+
+-- the last word on a request that came before is kept, and is not "in progress"
+kept-final : (first i : ℕ) (p : PeerRequests) (words : List ReconfigResult) → p.expected ≡ number_of first (length words) → IsKept p.last words
+    → i + 1 ≡ length words → is_in_progress (result_of (kept_result (number_of first i) p)) ≡ false
+kept-final first i p [] expected kept e = absurd (omega arith)
+kept-final first i p (word ∷ words) expected kept e =
+    let near : (next_number (number_of first i) == p.expected) ≡ true
+    = rw (expected, number-next first i (length (word ∷ words)) e) (same-yes (number_of first (length (word ∷ words)))) in
+    rw (near, kept.0) kept.1
+
+-- the events that end it
+record CanEnd (first : ℕ) (t : Talk) : Type 0 where
+  pub more : List Event
+  pub may : MayAllHappen first more t
+  pub ends : (after_events first more t).own.under_way ≡ None
+
+left-none : (number : ℕ) (result : ReconfigResult) (r : Request) → r.number ≡ number → is_in_progress result ≡ false → left_of number result 0 0 (Some r) ≡ None
+left-none number result r e final = let is : (r.number == number) ≡ true = rw e (same-yes number) in rw is (left-final result 0 0 r final)
+
+-- the other side did not say its last word: it does
+end-anew : (first : ℕ) (t : Talk) (r : Request) → IsInStep first t → t.own.under_way ≡ Some r → length t.ends < t.begun → r.number ≡ t.peer.expected
+    → r.number ≡ number_of first (length t.ends) → CanEnd first t
+end-anew first t r h is lt next number =
+    let came-first = after_event first (came (length t.ends)) t in
+    let expected : (number_of first (length t.ends) == t.peer.expected) ≡ true = rw (← number, next) (same-yes t.peer.expected) in
+    let awaited : (after_request (number_of first (length t.ends)) t.peer).is_awaited ≡ true = rw expected refl in
+    let same : r.number ≡ came-first.peer.expected = next ∙ sym (same-request (number_of first (length t.ends)) t.peer).expected in
+    record {
+      more = came (length t.ends) ∷ answered SuccessPerformed ∷ returned (response came-first.peer.expected SuccessPerformed) 0 0 ∷ [];
+      may = (lt, (awaited, (inl refl, tt)));
+      ends = rw is (left-none came-first.peer.expected SuccessPerformed r same refl);
+    }
+
+-- it did: it answers alike
+end-again : (first : ℕ) (t : Talk) (r : Request) → IsInStep first t → t.own.under_way ≡ Some r → length t.ends < t.begun → t.begun < 2 ^ 32
+    → length t.words ≡ length t.ends + 1 → r.number ≡ number_of first (length t.ends) → CanEnd first t
+end-again first t r h is lt few lengths number =
+    let n = number_of first (length t.ends) in
+    let result = result_of (kept_result n t.peer) in
+    let far : (n == t.peer.expected) ≡ false = by_same n t.peer.expected
+    (λ e. absurd (let z = number-once first (length t.ends) (length t.words) (omega arith) (omega (arith, h.within)) (e ∙ h.expected) in omega arith))
+    (λ _ f. f) in
+    let final = kept-final first (length t.ends) t.peer t.words h.expected h.kept (omega arith) in
+    record {
+      more = came (length t.ends) ∷ returned (response n result) 0 0 ∷ [];
+      may = (lt, (rw far (inl refl), tt));
+      ends = rw is (left-none n result r number final);
+    }
+
+can-end : (first : ℕ) (t : Talk) → IsInStep first t → t.begun < 2 ^ 32 → CanEnd first t
+can-end first t h few = step t.own.under_way refl h.under_way
+  where
+    by-words : (r : Request) → t.own.under_way ≡ Some r → IsNext first t.begun (length t.ends) (Some r)
+        → (length t.words ≡ length t.ends) ⊎ (length t.words ≡ length t.ends + 1) → CanEnd first t
+    by-words r is next (inl lengths) =
+        end-anew first t r h is (omega (arith, next.0)) (next.1 ∙ ap (number_of first) (sym lengths) ∙ sym h.expected) next.1
+    by-words r is next (inr lengths) = end-again first t r h is (omega (arith, next.0)) few lengths next.1
+
+    step : (u : Option Request) → t.own.under_way ≡ u → IsNext first t.begun (length t.ends) u → CanEnd first t
+    step None is next = record { more = []; may = tt; ends = is }
+    step (Some r) is next = by-words r is next (one-more t.words t.ends h.agrees)
+
+pub each-can-end : EachCanEnd
+each-can-end first_tsn events lt may few =
+    let end = can-end first_tsn (after_events first_tsn events (opened first_tsn))
+    (all-steps first_tsn events (opened first_tsn) (at-first first_tsn lt) may few) few in
+    (end.more, end.may, end.ends)

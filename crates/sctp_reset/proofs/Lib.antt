@@ -1,5 +1,5 @@
 pub mod Splits
-pub mod Exchanges
+pub mod ExchangeExamples
 pub mod OwnRuns
 pub mod PeerRuns
 pub mod Agreement

@@ -1,5 +1,5 @@
 -- Two sides, and a network between them that loses, repeats and reorders, and forges nothing.
-use Rattle.std.specs.Prelude.{◌≡◌, ◌⊎◌, ℕ, ◌+◌, ◌%◌, ◌^◌, ◌<◌, ◌==◌, Bool, true, if◌then◌else◌, List, [], ◌∷◌}
+use Rattle.std.specs.Prelude.{◌≡◌, ◌⊎◌, ℕ, ◌+◌, ◌%◌, ◌^◌, ◌<◌, ◌==◌, Bool, true, if◌then◌else◌, List, [], ◌∷◌, None}
 use Rattle.std.specs.Option.{is_some}
 use Rattle.sctp_params.specs.declared.param.param_reconfig_response.ReconfigResult.{ReconfigResult}
 use Rattle.sctp_params.specs.declared.param.param_reconfig_response.ParamReconfigResponse.{ParamReconfigResponse}
@@ -121,3 +121,12 @@ BothAgree = (first_tsn : ℕ) (events : List Event) → first_tsn < 2 ^ 32
     → (after_events first_tsn events (opened first_tsn)).begun < 2 ^ 32
     → Agrees (after_events first_tsn events (opened first_tsn)).words
     (after_events first_tsn events (opened first_tsn)).ends
+
+-- wherever events led, further ones can end the request that is under way
+abbrev pub EachCanEnd : Type 0
+EachCanEnd = (first_tsn : ℕ) (events : List Event) → first_tsn < 2 ^ 32
+    → MayAllHappen first_tsn events (opened first_tsn)
+    → (after_events first_tsn events (opened first_tsn)).begun < 2 ^ 32
+    → (more : List Event) × MayAllHappen first_tsn more (after_events first_tsn events (opened first_tsn))
+    × ((after_events first_tsn more (after_events first_tsn events (opened first_tsn))).own.under_way
+    ≡ None)

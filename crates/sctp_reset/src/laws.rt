@@ -1,6 +1,6 @@
 //! What holds after every run of calls: a law, the contract of a function that does nothing.
 
-ghost use Rattle.sctp_reset.specs.Agreement.{BothAgree};
+ghost use Rattle.sctp_reset.specs.Agreement.{BothAgree, EachCanEnd};
 ghost use Rattle.sctp_reset.specs.Runs.{AddsNothing, AnswersAlike, AsksEachOnce, HoldsAfterEachPeerRun, HoldsAfterEachRun, PerformsOnce, RespondsOnceEach, StaysAsked};
 
 /// A stream is asked for once at most, in the request under way or among those that wait. It stays asked for until a response ends its
@@ -25,7 +25,9 @@ pub fn a_request_is_performed_once()
 {}
 
 /// Two sides agree over a network that loses, repeats and reorders, and forges nothing: the requests of the one side ended with the last
-/// words that the other said, in order, and at most one word is still to come back. So it is while fewer than 2^32 requests begin.
+/// words that the other said, in order, and at most one word is still to come back. Wherever events led, the request under way can end: it
+/// comes, it is answered, and the response comes back. So it is while fewer than 2^32 requests begin.
 pub fn both_sides_agree()
-    ensures { BothAgree }
+    ensures agree { BothAgree }
+    ensures end { EachCanEnd }
 {}
