@@ -1,7 +1,6 @@
 -- How the streams that wait are split, one after another.
 use Rattle.std.proofs.Common.{◌≡◌, ℕ, zero, suc, ◌+◌, ◌-◌, ◌<◌, ◌≤◌, Bool, true, false, List, [], ◌∷◌, ◌++◌, length, drop, refl, ap, sym, ◌∙◌, arith, get_or}
 use Rattle.std.proofs.Common.{append_assoc, length-append, add-one}
-use Rattle.std.proofs.Math.Nat.{sub-zero}
 use Rattle.std.proofs.Math.Seq.{drop-cons, take-nil}
 use Rattle.std.proofs.lemmas.List.{drop_all, append-nil}
 use Rattle.sctp_reset.specs.Own.{picked, unpicked}
@@ -38,9 +37,6 @@ pub record IsSplit (drained : ℕ → Bool) (most : ℕ) (all streams left : Lis
   pub leaves : unpicked drained most all ≡ left ++ unpicked drained (most - length streams) (drop i all)
 
 module _ (drained : ℕ → Bool) (most : ℕ) (all : List ℕ) where
-  pub begun : IsSplit drained most all [] [] 0
-  begun = record { picks = rw sub-zero refl; leaves = rw sub-zero refl }
-
   pub took : (streams left : List ℕ) (i : ℕ) → i < length all → length streams < most → drained (get_or all i 0) ≡ true
       → IsSplit drained most all streams left i → IsSplit drained most all (streams ++ get_or all i 0 ∷ []) left (i + 1)
   took streams left i within room is split =
