@@ -13,7 +13,7 @@ static void causes(void) {
     CHECK(sctpr_write_cause(SCTPR_CAUSE_USER_INITIATED_ABORT, NULL, 0, out + n, 3, &m) == SCTPR_SHORT_BUFFER && m == 4 && out[12] == 'x');
     CHECK(sctpr_write_cause(SCTPR_CAUSE_USER_INITIATED_ABORT, NULL, 0, out + n, 4, &m) == SCTPR_OK && m == 4);
     CHECK(memcmp(out + 12, "\0\x0c\0\4x", 5) == 0);
-    REFUSE_EACH(sctpr_read_cause(out, n + m, &cause), SCTPR_OK, cause.length == 9 && cause.next == 9 && cause.code == 9);
+    WITHOUT_MEMORY(sctpr_read_cause(out, n + m, &cause), SCTPR_OK);
     CHECK(cause.code == SCTPR_CAUSE_UNRECOGNIZED_CHUNK_TYPE && cause.length == 5 && cause.next == 12);
     CHECK(sctpr_read_cause(out + 12, 4, &cause) == SCTPR_OK && cause.code == 12 && cause.length == 0 && cause.next == 4);
     CHECK(sctpr_read_cause(out, 9, &cause) == SCTPR_OK && cause.length == 5 && cause.next == 9);

@@ -14,28 +14,13 @@ use Rattle.sctp_chunks.specs.Wire.{Wire, ReadsChunk, data_chunk, sack_chunk}
 use Rattle.sctp_data.specs.PayloadData.{Data, data_in}
 use Rattle.sctp_data.specs.SelectiveAck.{block_at, sack_in, blocks_in, duplicates_in}
 use Rattle.sctp_data.specs.declared.chunk.chunk_selective_ack.GapAckBlock.{GapAckBlock}
+use Rattle.sctp_datagram.proofs.InPlace.{sack_reads}
+use Rattle.sctp_datagram.specs.InPlace.{IsInPlace}
 use Rattle.sctp_c.specs.Answered.{IsSack, gap_answered}
-use Rattle.sctp_c.specs.Head.{IsInPlace}
 use Rattle.sctp_c.specs.Out.{filled}
 use Rattle.sctp_packets.specs.Packet.{Steps, after}
 use Rattle.sctp_c.specs.declared.reading.SctpGap.{SctpGap}
 use Rattle.sctp_c.specs.declared.reading.SctpSack.{SctpSack}
-
-pub data_reads : (bytes value : List ℕ) (d : Data) → IsChunk 0 bytes → value ≡ value_at bytes → 12 ≤ length value → d ≡ data_in (flags_at bytes) value
-    → ReadsChunk bytes (data_chunk d)
-data_reads bytes value d chunk is long fields = record {
-  is_framed = chunk.0;
-  typ = chunk.1;
-  value = record { long = rw is at long; fields = fields ∙ ap (data_in (flags_at bytes)) is };
-}
-
-pub sack_reads : (bytes value : List ℕ) → IsChunk 3 bytes → value ≡ value_at bytes → 12 ≤ length value
-    → 12 + 4 * blocks_in value + 4 * duplicates_in value ≤ length value → ReadsChunk bytes (sack_chunk (sack_in value))
-sack_reads bytes value chunk is headed long = record {
-  is_framed = chunk.0;
-  typ = chunk.1;
-  value = record { headed = rw is at headed; long = rw is at long; fields = ap sack_in is };
-}
 
 -- of a SACK with so many blocks and duplicates, as many as there is room for
 pub is_sack : (bytes value : List ℕ) (t : SctpSack) (old_blocks blocks : List SctpGap) (old_duplicates duplicates : List ℕ) → IsChunk 3 bytes
@@ -57,38 +42,6 @@ is_sack bytes value t old_blocks blocks old_duplicates duplicates chunk is heade
       gaps = rw many at gaps;
       repeats = rw (many, repeats) at numbers;
     }
-
--- the same by its fields
-pub sack_made : (bytes value : List ℕ) (tsn credit blocks duplicates : ℕ) (gaps : List GapAckBlock) (numbers : List ℕ) → IsChunk 3 bytes
-    → value ≡ value_at bytes → 12 ≤ length value → 12 + 4 * blocks_in value + 4 * duplicates_in value ≤ length value → tsn ≡ u32_at value 0
-    → credit ≡ u32_at value 4 → blocks ≡ blocks_in value → duplicates ≡ duplicates_in value → gaps ≡ each blocks (λ i. block_at value (12 + 4 * i))
-    → numbers ≡ each duplicates (λ i. u32_at value (12 + 4 * blocks + 4 * i))
-    → ReadsChunk bytes (sack_chunk (record {
-      cumulative_tsn_ack = tsn;
-      advertised_receiver_window_credit = credit;
-      gap_ack_blocks = gaps;
-      duplicate_tsn = numbers;
-    }))
-sack_made bytes value tsn credit blocks duplicates gaps numbers chunk is headed long at_tsn at_credit many repeats at_gaps at_numbers =
-    let own : record {
-      cumulative_tsn_ack = tsn;
-      advertised_receiver_window_credit = credit;
-      gap_ack_blocks = gaps;
-      duplicate_tsn = numbers;
-    } ≡ sack_in value = rw (at_tsn, at_credit, at_gaps, at_numbers, many, repeats) refl in
-    record {
-      is_framed = chunk.0;
-      typ = chunk.1;
-      value = record { headed = rw is at headed; long = rw is at long; fields = own ∙ ap sack_in is };
-    }
-
-pub data_kind : (e : Error) (bytes : List ℕ) → type_at bytes ≡ 0 → DataFault e bytes → KindFault e bytes
-unfolding KindFault
-data_kind e bytes typ fault = inr (inr (inl (typ, fault)))
-
-pub sack_kind : (e : Error) (bytes : List ℕ) → type_at bytes ≡ 3 → SackFault e bytes → KindFault e bytes
-unfolding KindFault
-sack_kind e bytes typ fault = inr (inr (inr (inr (inl (typ, fault)))))
 
 -- ## Chunks that are read in place
 

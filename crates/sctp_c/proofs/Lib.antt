@@ -1,5 +1,4 @@
-pub mod Alone
-pub mod AnyWalk
+pub mod AnyRows
 mod DataOut
 mod DataSent
 pub mod Filling
@@ -14,7 +13,6 @@ pub mod Resets
 pub mod Rows
 pub mod Sacks
 pub mod SenderBox
-pub mod Strict
 pub mod Tails
 pub mod Writes
 pub mod Written

@@ -9,14 +9,11 @@ use Rattle.sctp_util.proofs.Walks.{walks_none, walks_next}
 use Rattle.sctp_chunks.specs.Framing.{declared_length}
 use Rattle.sctp_chunks.specs.Wire.{Wire}
 use Rattle.sctp_packets.specs.Packet.{IsHeaded, Steps, after}
-use Rattle.sctp_c.specs.Head.{HaveChunks, HeadsPacket, IsPacket, Lie, chunks_from, rows_from}
+use Rattle.sctp_datagram.specs.Places.{behind, rows_from}
+use Rattle.sctp_c.specs.Head.{HaveChunks, HeadsPacket, IsPacket, Lie, chunks_from}
 use Rattle.sctp_c.specs.Out.{filled}
 use Rattle.sctp_c.specs.declared.packet.SctpChunk.{SctpChunk}
 use Rattle.sctp_c.specs.declared.packet.SctpHead.{SctpHead}
-
--- where the chunk behind the one at a place begins
-abbrev pub behind : List ℕ → ℕ → ℕ
-behind packet at = at + padded_length (declared_length (drop at packet))
 
 pub length-rows_from : {T : Type 0} (row : List ℕ → ℕ → T) (n : ℕ) (packet : List ℕ) (at : ℕ) → length (rows_from row packet at n) ≡ n
 length-rows_from row zero packet at = refl

@@ -15,6 +15,7 @@ use Rattle.sctp_data.specs.SelectiveAck.{Sack}
 use Rattle.sctp_data.specs.ForwardTsn.{ForwardTsn}
 use Rattle.sctp_data.specs.declared.chunk.chunk_selective_ack.GapAckBlock.{GapAckBlock}
 use Rattle.sctp_data.specs.declared.chunk.chunk_forward_tsn.ChunkForwardTsnStream.{ChunkForwardTsnStream}
+use Rattle.sctp_datagram.specs.InPlace.{HasInit}
 use Rattle.sctp_c.specs.Out.{filled}
 use Rattle.sctp_c.specs.declared.reading.SctpData.{SctpData}
 use Rattle.sctp_c.specs.declared.reading.SctpSack.{SctpSack}
@@ -83,22 +84,10 @@ pub record IsForwardTsn (bytes : List ℕ) (tsn count : ℕ) (old rows : List Sc
   pub streams : count ≡ length forward.streams
   pub skips : rows ≡ filled (map skip_answered forward.streams) old
 
--- the bytes begin with an INIT or INIT-ACK that has its numbers. Its flags and its parameters may be any (RFC 9260 3.3.2, 3.3.3)
-pub record HasInit (bytes : List ℕ) : Type 0 where
-  pub is_init : IsInitChunk bytes
-  pub long : 16 ≤ length (value_at bytes)
-
--- the numbers are these
+-- the bytes begin with an INIT or INIT-ACK of these numbers
 pub record IsInit (bytes : List ℕ) (t : SctpInit) : Type 0 where
   pub has : HasInit bytes
   pub answered : t ≡ init_answered (init_in (type_at bytes == 2) (value_at bytes) [])
-
--- why bytes have none
-abbrev pub NoInitFault : Error → List ℕ → Type 0
-NoInitFault e bytes =
-    HeaderFault e bytes
-    ⊎ ((e ≡ ErrChunkTypeNotTypeInit) × (4 ≤ length bytes) × (type_at bytes ≢ 1) × (type_at bytes ≢ 2))
-    ⊎ ((e ≡ ErrChunkValueNotLongEnough) × IsInitChunk bytes × (length (value_at bytes) < 16))
 
 -- the bytes begin with a parameter of any type, of this type and length; the next one begins behind its padding, or at the end of the bytes
 pub record IsAnyParameter (bytes : List ℕ) (t : SctpParam) : Type 0 where

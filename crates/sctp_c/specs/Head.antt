@@ -5,8 +5,9 @@ use Rattle.sctp_util.specs.Field.{le32, u16_at, u32_at}
 use Rattle.sctp_util.specs.Padding.{padded_length, four_zeroes}
 use Rattle.sctp_util.specs.Walk.{Walks}
 use Rattle.sctp_chunks.specs.Framing.{type_at, flags_at, declared_length}
-use Rattle.sctp_chunks.specs.Wire.{Wire, data_chunk, sack_chunk}
+use Rattle.sctp_chunks.specs.Wire.{Wire}
 use Rattle.sctp_packets.specs.Packet.{Parts, ReadsPacket, Steps, after, head_encoding}
+use Rattle.sctp_datagram.specs.Places.{rows_from}
 use Rattle.sctp_c.specs.Out.{filled}
 use Rattle.sctp_c.specs.declared.packet.SctpHead.{SctpHead}
 use Rattle.sctp_c.specs.declared.packet.SctpChunk.{SctpChunk}
@@ -32,13 +33,6 @@ chunk_at packet at = record {
   flags = flags_at (drop at packet);
 }
 
--- so many rows, of chunks one behind the padding of the other, the first at a place; what a row says is handed in
-abbrev pub rows_from : {T : Type 0} → (List ℕ → ℕ → T) → List ℕ → ℕ → ℕ → List T
-rows_from row packet at zero = []
-rows_from row packet at (suc n) =
-    row packet at
-    ∷ rows_from row packet (at + padded_length (declared_length (drop at packet))) n
-
 -- so many chunks, one behind the padding of the other, the first at a place
 abbrev pub chunks_from : List ℕ → ℕ → ℕ → List SctpChunk
 chunks_from = rows_from chunk_at
@@ -50,12 +44,6 @@ Lie packet at (suc n) =
     (at + 4 ≤ length packet)
     × (at + padded_length (declared_length (drop at packet)) ≤ length packet)
     × Lie packet (at + padded_length (declared_length (drop at packet))) n
-
--- a chunk that is read with no memory
-abbrev pub IsInPlace : Wire → Type 0
-IsInPlace (data_chunk d) = Unit {0}
-IsInPlace (sack_chunk s) = Unit {0}
-IsInPlace _ = ⊥
 
 -- the bytes are so many chunks, one behind the padding of the other
 pub record HaveChunks (bytes : List ℕ) (n : ℕ) : Type 0 where

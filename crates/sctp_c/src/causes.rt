@@ -1,9 +1,9 @@
 //! Error causes, which ABORT and ERROR carry (RFC 4960 3.3.10).
 
-ghost use Rattle.std.specs.Prelude.{◌≡◌, ◌≢◌, ◌⊎◌, ◌<◌, IfOk, IfErr, IsOkUnless, length};
+ghost use Rattle.std.specs.Prelude.{◌≡◌, ◌≢◌, ◌⊎◌, ◌<◌, IfOk, IfErr, length};
 ghost use Rattle.sctp_util.specs.Outcome.{OrMemory};
-ghost use Rattle.sctp_util.specs.declared.error.Error.TheVariants.{ErrErrorCauseTooSmall, ErrLengthTooLarge, ErrOutOfMemory};
-ghost use Rattle.sctp_chunks.specs.ErrorCause.{IsCause, ReadsCause};
+ghost use Rattle.sctp_util.specs.declared.error.Error.TheVariants.{ErrLengthTooLarge};
+ghost use Rattle.sctp_chunks.specs.ErrorCause.{IsCause};
 ghost use Rattle.sctp_c.specs.Causes.{IsPaddedCause, TellsCause};
 ghost use Rattle.sctp_c.specs.Out.{padded, IsWritten, IsTooShort};
 
@@ -11,9 +11,8 @@ use crate::bytes_out::put_padded;
 use crate::code::{SCTPR_OK, of_error};
 use bytes::Bytes;
 use sctp_chunks::chunk::error_cause::{ErrorCause, ErrorCauseCode};
+use sctp_datagram::causes::cause_at;
 use sctp_util::error::Result;
-use sctp_util::field::read_u16;
-use sctp_util::util::get_padding_size;
 use std::alloc::Global;
 
 /// A cause: its value is `length` bytes from byte 4 on, and the next one begins at byte `next` (RFC 4960 3.3.10).
@@ -25,33 +24,23 @@ pub struct SctpCause {
     pub code: u16,
 }
 
-// Reads the cause that the bytes begin with.
-fn cause_in(alloc: Global, raw: &[u8]) -> Result<ErrorCause>
-    ensures found { IfOk result (λ c. ReadsCause raw.now c) }
-    ensures fault { IfErr result
-        (λ e. OrMemory e ((e ≡ ErrErrorCauseTooSmall) × (IsCause raw.now → ⊥))) }
-{
-    let bytes = Bytes::copy_from_slice(alloc, raw)?;
-    ErrorCause::unmarshal(&bytes)
-}
-
 /// Reads the error cause that the bytes begin with, as the value of an ABORT or ERROR does. Refuses with the code of
-/// `ErrErrorCauseTooSmall`, exactly where they begin with none, and with `SCTPR_NO_MEMORY`; `cause` stays then.
+/// `ErrErrorCauseTooSmall`, exactly where they begin with none, and `cause` stays then.
 #[unsafe(no_mangle)]
-pub extern "C" fn sctpr_read_cause(alloc: Global, raw: &[u8], cause: &mut SctpCause) -> u32
+pub extern "C" fn sctpr_read_cause(_alloc: Global, raw: &[u8], cause: &mut SctpCause) -> u32
     ensures codes { (result ≡ 0) ⊎ ((result ≡ 16) ⊎ (result ≡ 80)) }
     ensures read { result ≡ 0 → TellsCause raw.now cause.new }
     ensures fault { result ≡ 80 → IsCause raw.now → ⊥ }
+    // It takes no memory.
+    ensures granted { result ≢ 16 }
     ensures kept { result ≢ 0 → cause.new ≡ cause.old }
 {
-    match cause_in(alloc, raw) {
-        Ok(_) => {
-            let length = read_u16(raw, 2) as usize;
-            let next = length + get_padding_size(length);
+    match cause_at(raw, 0) {
+        Ok(place) => {
             *cause = SctpCause {
-                length: length - 4,
-                next: next.min(raw.len()),
-                code: read_u16(raw, 0),
+                length: place.length,
+                next: place.next,
+                code: place.code,
             };
             SCTPR_OK
         }

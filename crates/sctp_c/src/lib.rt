@@ -9,7 +9,6 @@ pub mod causes;
 pub mod code;
 mod data_out;
 mod fills;
-mod in_place;
 pub mod names;
 pub mod packet;
 mod parts;

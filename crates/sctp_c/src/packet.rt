@@ -10,22 +10,24 @@ ghost use Rattle.sctp_util.specs.Walk.{Walks};
 ghost use Rattle.sctp_util.specs.declared.error.Error.TheVariants.{ErrOutOfMemory};
 ghost use Rattle.sctp_chunks.specs.Framing.{declared_length};
 ghost use Rattle.sctp_chunks.specs.Wire.{Wire};
-ghost use Rattle.sctp_packets.specs.Fault.{HeadFault, PacketFault, PlaceFault, WalkFault};
+ghost use Rattle.sctp_packets.specs.Fault.{PacketFault, PlaceFault, WalkFault};
 ghost use Rattle.sctp_packets.specs.Packet.{IsHeaded, Parts, ReadsPacket, Steps, after, body_of, packet_encoding};
+ghost use Rattle.sctp_datagram.specs.InPlace.{IsInPlace};
 ghost use Rattle.sctp_c.specs.Head as heads;
-ghost use Rattle.sctp_c.specs.Head.{HaveChunks, HeadsPacket, IsInPlace, IsPacket, Lie, chunks_from, head_bytes, sealed, parts_under};
+ghost use Rattle.sctp_c.specs.Head.{HaveChunks, HeadsPacket, IsPacket, Lie, chunks_from, head_bytes, sealed, parts_under};
 ghost use Rattle.sctp_c.specs.Out.{filled};
 ghost use Rattle.sctp_c.specs.Refusal.{IsRefusal};
 
 pub mod any;
 
 use crate::code::{SCTPR_OK, SCTPR_SHORT_BUFFER, of_error};
-use crate::in_place::{padded_span, read_length};
 use sctp_chunks::chunk::chunk_header::CHUNK_HEADER_SIZE;
+use sctp_datagram::datagram::check_head;
+use sctp_datagram::in_place::{padded_span, read_length};
 use sctp_packets::checksum::Crc32c;
 use sctp_packets::packet::PACKET_HEADER_SIZE;
 use sctp_util::error::{Error, Result};
-use sctp_util::field::{read_u16, read_u32, read_u32_le, u32_le_bytes};
+use sctp_util::field::{read_u16, read_u32, u32_le_bytes};
 use sctp_util::util::{Checksum, get_padding_size};
 use std::alloc::Global;
 
@@ -74,22 +76,6 @@ fn fill(rows: &mut [SctpChunk], packet: &[u8], count: usize)
         rows[i] = chunk;
         at += chunk.length + get_padding_size(chunk.length);
     }
-}
-
-// Tests the header's length, and the checksum.
-fn check_head<C: Checksum>(raw: &[u8], checksum: &C) -> Result<()>
-    ensures headed { OnOk result (IsHeaded (C.sum checksum.now) raw.now) }
-    ensures only { IsHeaded (C.sum checksum.now) raw.now → IsOk result }
-    ensures fault { IfErr result (λ e. HeadFault (C.sum checksum.now) e raw.now) }
-{
-    if raw.len() < PACKET_HEADER_SIZE {
-        return Err(Error::ErrPacketRawTooSmall);
-    }
-    let ours = checksum.checksum(&raw[..8], &raw[PACKET_HEADER_SIZE..]);
-    if read_u32_le(raw, 8) != ours {
-        return Err(Error::ErrChecksumMismatch);
-    }
-    Ok(())
 }
 
 fn head_at(raw: &[u8]) -> SctpHead

@@ -13,13 +13,14 @@ ghost use Rattle.sctp_chunks.specs.Wire.{Wire, ReadsChunk, data_chunk, sack_chun
 ghost use Rattle.sctp_data.specs.PayloadData.{Data, data_in, weight};
 ghost use Rattle.sctp_data.specs.SelectiveAck.{Sack, block_at};
 ghost use Rattle.sctp_data.specs.ForwardTsn.{ForwardTsn};
+ghost use Rattle.sctp_datagram.specs.InPlace.{HasInit, NoInitFault};
 ghost use Rattle.sctp_c.specs.Out.{filled};
 ghost use Rattle.sctp_c.specs.Refusal.{IsFaultCode, IsRefusal};
-ghost use Rattle.sctp_c.specs.Answered.{HasInit, IsAnyParameter, IsData, IsSack, IsForwardTsn, IsInit, IsParameter, NoInitFault};
+ghost use Rattle.sctp_c.specs.Answered.{IsAnyParameter, IsData, IsSack, IsForwardTsn, IsInit, IsParameter};
 ghost use Rattle.sctp_c.specs.Answered.{data_answered, gap_answered, init_answered, skip_answered};
 
 use crate::code::{SCTPR_OK, of_error};
-use crate::in_place::{data_value, init_value, sack_value};
+use sctp_datagram::in_place::{data_value, init_value, sack_value};
 use bytes::Bytes;
 use sctp_chunks::chunk::Chunk;
 use sctp_chunks::chunk::chunk_forward_tsn::{ChunkForwardTsn, ChunkForwardTsnStream};
@@ -30,8 +31,9 @@ use sctp_chunks::chunk::chunk_payload_data::{
 };
 use sctp_chunks::chunk::chunk_selective_ack::SELECTIVE_ACK_HEADER_SIZE;
 use sctp_chunks::chunk::chunk_shutdown::ChunkShutdown;
+use sctp_datagram::params::param_at;
 use sctp_params::param::param_kind::{ParamKind, build_param};
-use sctp_util::error::{Error, Result};
+use sctp_util::error::Result;
 use sctp_util::field::{read_u16, read_u32};
 use sctp_util::util::get_padding_size;
 use std::alloc::Global;
@@ -348,19 +350,15 @@ pub extern "C" fn sctpr_read_any_param(raw: &[u8], param: &mut SctpParam) -> u32
     ensures fault { result ≡ 81 → IsParam raw.now → ⊥ }
     ensures kept { result ≢ 0 → param.new ≡ param.old }
 {
-    let length = if raw.len() < 4 {
-        0
-    } else {
-        read_u16(raw, 2) as usize
-    };
-    if length < 4 || raw.len() < length {
-        return of_error(Error::ErrParamHeaderTooShort);
+    match param_at(raw, 0) {
+        Ok(place) => {
+            *param = SctpParam {
+                length: place.length,
+                next: place.next,
+                typ: place.typ,
+            };
+            SCTPR_OK
+        }
+        Err(e) => of_error(e),
     }
-    let next = length + get_padding_size(length);
-    *param = SctpParam {
-        length: length - 4,
-        next: next.min(raw.len()),
-        typ: read_u16(raw, 0),
-    };
-    SCTPR_OK
 }

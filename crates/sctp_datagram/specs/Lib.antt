@@ -1,1 +1,7 @@
+pub mod Causes
+pub mod Datagram
+pub mod Fault
+pub mod InPlace
 pub mod Params
+pub mod Places
+pub mod Types

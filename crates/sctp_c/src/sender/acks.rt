@@ -13,7 +13,7 @@ ghost use Rattle.sctp_c.specs.Sending.{sender_code_for};
 use super::SctpSender;
 use super::queries::moment_of;
 use crate::code::{SCTPR_OK, SCTPR_SHORT_BUFFER, SCTPR_STALE, of_error, of_sender};
-use crate::in_place::read_sack;
+use sctp_datagram::in_place::read_sack;
 use sctp_chunks::chunk::chunk_selective_ack::ChunkSelectiveAck;
 use sctp_sender::replay;
 use sctp_sender::sender::Sender;

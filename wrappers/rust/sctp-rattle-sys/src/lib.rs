@@ -347,7 +347,7 @@ pub struct sctpr_response {
 
 /// The error cause that the bytes begin with, as those from byte 4 of an ABORT or ERROR on do (RFC 4960 3.3.10): its value is `length` bytes
 /// from byte 4 on, and the next one begins at byte `next`, or there is none where that is all of the bytes.
-/// SCTPR_ERR_ERROR_CAUSE_TOO_SMALL, where they begin with none; SCTPR_NO_MEMORY.
+/// SCTPR_ERR_ERROR_CAUSE_TOO_SMALL, where they begin with none. It takes no memory.
 #[derive(Clone, Copy, Debug, Default, PartialEq, Eq)]
 #[repr(C)]
 pub struct sctpr_cause {

@@ -1,38 +1,27 @@
-use Rattle.std.proofs.Common.{◌≡◌, length, add-one, arith}
-use Rattle.sctp_c.specs.AnyChunks.{any_chunk_at, any_chunks_from}
-use Rattle.sctp_c.proofs.Places.{lie-next, later-rows, length-rows_from}
-use Rattle.sctp_c.proofs.Rows.{drop-tail, filled-step, filled-done}
+use Rattle.std.proofs.Common.{◌≡◌, ◌<◌, ◌∷◌, [], List, length, drop, map, add-one, ap, sym, ◌∙◌, arith}
+use Rattle.std.proofs.lemmas.List.{length-drop}
+use Rattle.sctp_datagram.specs.declared.datagram.ChunkPlace.{ChunkPlace}
+use Rattle.sctp_c.specs.AnyChunks.{any_row}
+use Rattle.sctp_c.proofs.Rows.{drop-tail, filled-step, map-next}
 use Rattle.sctp_c.proofs.packet.any.fill.Goals as goal
-
-pub row_at-row-requires : goal.row_at-row-requires
-row_at-row-requires c =
-    let next = lie-next c.args.packet.now c.loop-i.at c.loop-i.i c.args.count (omega (arith, c.min-filled.ensures)) c.loop-i.invariant.lie in
-    next.headed
-
-pub overflow_add-at : goal.overflow_add-at
-overflow_add-at c =
-    let next = lie-next c.args.packet.now c.loop-i.at c.loop-i.i c.args.count (omega (arith, c.min-filled.ensures)) c.loop-i.invariant.lie in
-    rw (c.get_padding_size.ensures, c.row_at-row.ensures) (omega (arith, next.whole))
-
-pub overflow_add-at-in-loop-i : goal.overflow_add-at-in-loop-i
-overflow_add-at-in-loop-i c =
-    let next = lie-next c.args.packet.now c.loop-i.at c.loop-i.i c.args.count (omega (arith, c.min-filled.ensures)) c.loop-i.invariant.lie in
-    rw (c.get_padding_size.ensures, c.row_at-row.ensures) (omega (arith, next.whole))
+use Rattle.sctp_c.proofs.packet.any.fill.Goals.{in-Some, in_default}
 
 pub loop-i-preserved : goal.loop-i-preserved
 loop-i-preserved c =
-    let packet = c.args.packet.now in
-    let next = lie-next packet c.loop-i.at c.loop-i.i c.args.count (omega (arith, c.min-filled.ensures)) c.loop-i.invariant.lie in
-    let all = any_chunks_from packet c.args.count in
-    let later = later-rows any_chunk_at packet c.loop-i.at c.loop-i.i c.args.count all (omega (arith, c.min-filled.ensures)) c.loop-i.invariant.places in
-    rw (c.get_padding_size.ensures, c.row_at-row.ensures) (record {
-      lie = rw add-one next.later;
-      rows = rw (c.loop-i.invariant.rows, add-one) (filled-step c.loop-i.i all c.args.rows.now _ _ later (omega (arith, c.min-filled.ensures)));
-      places = rw add-one (drop-tail c.loop-i.i all _ _ later);
-    })
-
-pub returns : goal.returns
-returns c =
-    let all = any_chunks_from c.args.packet.now c.args.count in
-    let many : length all ≡ c.args.count = length-rows_from any_chunk_at c.args.count c.args.packet.now 12 in
-    rw c.loop-i.invariant.rows (filled-done c.loop-i.i all c.args.rows.now (omega (arith, many, c.min-filled.ensures)))
+    let all = c.args.datagram.now.left in
+    let rest = c.next.new.self.left in
+    elim c.match-next.branch [
+      | in-Some w ↦
+          let place = w.in-Some.place in
+          let next : drop c.loop-i.i all ≡ place ∷ rest = sym c.loop-i.invariant.left ∙ w.in-Some.ensures.place in
+          let room : c.loop-i.i < length c.args.rows.now = omega (arith, c.min-filled.ensures, c.loop-i-test.true) in
+          let more = map-next any_row c.loop-i.i all place rest next in
+          let step = filled-step c.loop-i.i (map any_row all) c.args.rows.now (any_row place) (map any_row rest) more room in
+          rw add-one (record {
+            left = sym (drop-tail c.loop-i.i all place rest next);
+            rows = w.rows-is ∙ rw (w.row_of.ensures, c.loop-i.invariant.rows) step;
+          })
+      | in_default w ↦
+          let none : length (drop c.loop-i.i all) ≡ 0 = ap (λ (l : List ChunkPlace). length l) (sym c.loop-i.invariant.left ∙ w.in_default.ensures.end) in
+          absurd (omega (arith, none, length-drop c.loop-i.i all, c.min-filled.ensures, c.left.ensures, c.loop-i-test.true))
+    ]

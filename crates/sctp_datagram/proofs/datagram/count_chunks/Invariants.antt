@@ -1,6 +1,6 @@
 use Rattle.std.proofs.Common.{◌≤◌, ◌-◌, length}
-use Rattle.sctp_c.proofs.AnyWalk.{PassedTo}
-use Rattle.sctp_c.proofs.packet.any.count_chunks.Given as goal
+use Rattle.sctp_datagram.proofs.Walk.{PassedTo}
+use Rattle.sctp_datagram.proofs.datagram.count_chunks.Given as goal
 
 abbrev pub invariant-walk : goal.invariant-walk
 invariant-walk l = record {

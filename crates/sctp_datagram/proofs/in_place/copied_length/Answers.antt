@@ -1,8 +1,8 @@
 use Rattle.std.proofs.Common.{inl, inr, rules}
 use Rattle.std.proofs.lemmas.Result.{err_from_is_err_and}
 use Rattle.sctp_chunks.specs.Kind.{KindFault, wire_of}
-use Rattle.sctp_c.proofs.Alone.{reads_of_cut, cut_reads, fault_of_cut}
-use Rattle.sctp_c.proofs.in_place.copied_length.Goals as goal
+use Rattle.sctp_datagram.proofs.Alone.{reads_of_cut, cut_reads, fault_of_cut}
+use Rattle.sctp_datagram.proofs.in_place.copied_length.Goals as goal
 
 pub returns-in_err-length-clause-fault : goal.returns-in_err-length-clause-fault
 unfolding KindFault

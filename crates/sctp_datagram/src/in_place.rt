@@ -1,6 +1,6 @@
-//! Chunks read where they lie (RFC 4960 3.2): DATA and SACK without a copy, another kind over a copy of its chunk alone.
+//! Chunks read where they lie (RFC 9260 3.2): DATA and SACK without a copy, another kind over a copy of its chunk alone.
 
-ghost use Rattle.std.specs.Prelude.{◌≡◌, ◌+◌, ◌*◌, ◌≤◌, ◌<◌, length, IfOk, IfErr, OnOk, IsOk, IsOkUnless};
+ghost use Rattle.std.specs.Prelude.{◌≡◌, ◌+◌, ◌*◌, ◌≤◌, ◌<◌, drop, length, IfOk, IfErr, OnOk, IsOk, IsOkUnless};
 ghost use Rattle.sctp_util.specs.Each.{each};
 ghost use Rattle.sctp_util.specs.Field.{u32_at};
 ghost use Rattle.sctp_util.specs.Outcome.{OrMemory};
@@ -11,12 +11,14 @@ ghost use Rattle.sctp_chunks.specs.Framing.{IsFramed, declared_length, value_at}
 ghost use Rattle.sctp_chunks.specs.Kind.{KindFault};
 ghost use Rattle.sctp_chunks.specs.Wire.{Wire, ReadsChunk, data_chunk, sack_chunk};
 ghost use Rattle.sctp_data.specs.ChunkSet.{IsFreshData};
+ghost use Rattle.sctp_data.specs.PayloadData as payload;
 ghost use Rattle.sctp_data.specs.PayloadData.{data_of};
-ghost use Rattle.sctp_c.specs.Answered.{NoInitFault};
-ghost use Rattle.sctp_c.specs.AnyChunks as any;
-ghost use Rattle.sctp_c.specs.Head.{IsInPlace};
 ghost use Rattle.sctp_data.specs.SelectiveAck.{block_at, blocks_in, duplicates_in, sack_of};
+ghost use Rattle.sctp_datagram.specs.InPlace.{IsInPlace, NoInitFault};
+ghost use Rattle.sctp_datagram.specs.Places.{IsPlace};
+ghost use Rattle.sctp_datagram.specs.Types as types;
 
+use crate::datagram::ChunkPlace;
 use bytes::Bytes;
 use sctp_chunks::chunk::Chunk;
 use sctp_chunks::chunk::chunk_header::CHUNK_HEADER_SIZE;
@@ -35,14 +37,14 @@ use std::alloc::Global;
 
 /// Whether a chunk of a type is read.
 pub fn is_read_type(typ: u8) -> bool
-    ensures { result ≡ any.is_read_type typ }
+    ensures { result ≡ types.is_read_type typ }
 {
     typ <= 11 || typ == 14 || typ == 130 || typ == 192 || typ == 194
 }
 
 /// Whether a chunk of a type is read whole with its packet: all that are read, but for those whose value is a list of parameters or causes.
 pub fn is_whole_type(typ: u8) -> bool
-    ensures { result ≡ any.is_whole_type typ }
+    ensures { result ≡ types.is_whole_type typ }
 {
     is_read_type(typ) && !(typ == 1 || typ == 2 || typ == 6 || typ == 9 || typ == 130)
 }
@@ -143,16 +145,14 @@ pub fn init_value(bytes: &[u8]) -> Result<&[u8]>
     Ok(&bytes[CHUNK_HEADER_SIZE..length])
 }
 
-/// Reads a DATA chunk: its user data alone are copied. Refuses as `ChunkPayloadData::unmarshal` does, or for memory.
-pub fn read_data(alloc: Global, bytes: &[u8]) -> Result<ChunkPayloadData>
-    ensures found { IfOk result (λ c. ReadsChunk bytes.now (data_chunk (data_of c))) }
-    ensures fresh { IfOk result (λ c. IsFreshData c) }
-    ensures fault { IfErr result (λ e. OrMemory e (DataFault e bytes.now)) }
+// The DATA chunk of these flags and this value, which ends with these user data.
+fn data_made(flags: u8, value: &[u8], user_data: Bytes) -> ChunkPayloadData
+    requires long { 12 ≤ length value.now }
+    requires end { user_data ≡ drop 12 value.now }
+    ensures fields { data_of result ≡ payload.data_in flags value.now }
+    ensures fresh { IsFreshData result }
 {
-    let value = data_value(bytes)?;
-    let user_data = Bytes::copy_from_slice(alloc, &value[PAYLOAD_DATA_HEADER_SIZE..])?;
-    let flags = bytes[1];
-    Ok(ChunkPayloadData {
+    ChunkPayloadData {
         unordered: flags & PAYLOAD_DATA_UNORDERED_BITMASK != 0,
         beginning_fragment: flags & PAYLOAD_DATA_BEGINING_FRAGMENT_BITMASK != 0,
         ending_fragment: flags & PAYLOAD_DATA_ENDING_FRAGMENT_BITMASK != 0,
@@ -171,7 +171,36 @@ pub fn read_data(alloc: Global, bytes: &[u8]) -> Result<ChunkPayloadData>
         deadline: None,
         nsent: 0,
         retransmit: false,
-    })
+    }
+}
+
+/// Reads a DATA chunk: its user data alone are copied. Refuses as `ChunkPayloadData::unmarshal` does, or for memory.
+pub fn read_data(alloc: Global, bytes: &[u8]) -> Result<ChunkPayloadData>
+    ensures found { IfOk result (λ c. ReadsChunk bytes.now (data_chunk (data_of c))) }
+    ensures fresh { IfOk result (λ c. IsFreshData c) }
+    ensures fault { IfErr result (λ e. OrMemory e (DataFault e bytes.now)) }
+{
+    let value = data_value(bytes)?;
+    let user_data = Bytes::copy_from_slice(alloc, &value[PAYLOAD_DATA_HEADER_SIZE..])?;
+    Ok(data_made(bytes[1], value, user_data))
+}
+
+/// Reads a DATA chunk of a datagram. Its user data share the datagram's bytes, and it takes no memory: it refuses with `ErrOutOfMemory`,
+/// and only where the count of those who share them is full.
+/// Precondition: the place is that of a DATA chunk.
+pub fn data_in(raw: &Bytes, place: ChunkPlace) -> Result<ChunkPayloadData>
+    requires place { IsPlace raw.now place }
+    requires typ { place.typ ≡ 0 }
+    ensures found { IfOk result
+        (λ c. ReadsChunk (drop place.at raw.now) (data_chunk (data_of c))) }
+    ensures fresh { IfOk result (λ c. IsFreshData c) }
+    ensures memory { IsOkUnless result ErrOutOfMemory }
+{
+    let chunk = &raw.as_slice()[place.at..];
+    let value = &chunk[CHUNK_HEADER_SIZE..place.length];
+    let first = place.at + CHUNK_HEADER_SIZE + PAYLOAD_DATA_HEADER_SIZE;
+    let user_data = raw.slice(first..place.at + place.length)?;
+    Ok(data_made(place.flags, value, user_data))
 }
 
 // The gap ack blocks in the value of a SACK that has so many. Refuses only for memory.

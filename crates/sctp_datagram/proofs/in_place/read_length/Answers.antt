@@ -3,10 +3,10 @@ use Rattle.std.proofs.lemmas.Result.{err_from_is_err_and}
 use Rattle.sctp_chunks.specs.Framing.{flags_at, type_at}
 use Rattle.sctp_chunks.specs.Wire.{data_chunk}
 use Rattle.sctp_data.specs.PayloadData.{Data, data_in}
-use Rattle.sctp_c.specs.AnyChunks.{is_read_type}
-use Rattle.sctp_c.proofs.Strict.{other_type}
-use Rattle.sctp_c.proofs.InPlace.{data_reads, sack_reads, data_kind, sack_kind}
-use Rattle.sctp_c.proofs.in_place.read_length.Goals as goal
+use Rattle.sctp_datagram.specs.Types.{is_read_type}
+use Rattle.sctp_datagram.proofs.Strict.{other_type}
+use Rattle.sctp_datagram.proofs.InPlace.{data_reads, sack_reads, data_kind, sack_kind}
+use Rattle.sctp_datagram.proofs.in_place.read_length.Goals as goal
 
 pub returns-in_err-data_value-in-CT_PAYLOAD_DATA-clause-fault : goal.returns-in_err-data_value-in-CT_PAYLOAD_DATA-clause-fault
 returns-in_err-data_value-in-CT_PAYLOAD_DATA-clause-fault c =

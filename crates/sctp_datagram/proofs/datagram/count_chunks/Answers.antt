@@ -4,9 +4,9 @@ use Rattle.std.proofs.lemmas.Grind.{common_steps}
 use Rattle.std.proofs.lemmas.List.{take_rest}
 use Rattle.std.proofs.lemmas.Result.{err_from_is_err_and}
 use Rattle.sctp_chunks.specs.Framing.{type_at}
-use Rattle.sctp_c.specs.AnyChunks.{is_stopping}
-use Rattle.sctp_c.proofs.AnyWalk.{all-there, in_place_passed, passed-none, passed-next, passed-stop}
-use Rattle.sctp_c.proofs.packet.any.count_chunks.Goals as goal
+use Rattle.sctp_datagram.specs.Types.{is_stopping}
+use Rattle.sctp_datagram.proofs.Walk.{all-there, in_place_passed, passed-none, passed-next, passed-stop}
+use Rattle.sctp_datagram.proofs.datagram.count_chunks.Goals as goal
 
 pub walk-init : goal.walk-init
 walk-init c = record { counted = passed-none c.args.raw.now; within = c.requires; few = omega arith }

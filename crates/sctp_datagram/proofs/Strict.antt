@@ -14,8 +14,8 @@ use Rattle.sctp_chunks.specs.Wire.{Wire, data_chunk, init_chunk, sack_chunk, hea
 use Rattle.sctp_chunks.specs.Wire.{shutdown_ack_chunk, error_chunk, cookie_echo_chunk, cookie_ack_chunk, shutdown_complete_chunk, reconfig_chunk}
 use Rattle.sctp_chunks.specs.Wire.{forward_tsn_chunk, i_forward_tsn_chunk, type_of}
 use Rattle.sctp_packets.specs.Packet.{Steps, after}
-use Rattle.sctp_c.specs.AnyChunks.{IsThere, Passes, TellsAll, any_chunk_at, is_read_type, is_stopping}
-use Rattle.sctp_c.specs.declared.packet.any.SctpAnyChunk.{SctpAnyChunk}
+use Rattle.sctp_datagram.specs.Places.{IsThere, Passes, TellsAll}
+use Rattle.sctp_datagram.specs.Types.{is_read_type, is_stopping}
 
 ack-read : (b : Bool) → is_read_type (ack_type b) ≡ true
 ack-read true = refl
@@ -51,18 +51,19 @@ goes-on-behind bytes w step =
     let known : is_read_type (type_at bytes) ≡ true = subst (λ (t : ℕ). is_read_type t ≡ true) (sym step.chunk.typ) (read-type w) in
     ap (λ (b : Bool). not b && nat_lt (type_at bytes) 128) known
 
-pub strict-passes : (packet : List ℕ) (at : ℕ) (ws : List Wire) → Walks Steps after (drop at packet) ws []
-    → (rows : List SctpAnyChunk) × (end : ℕ) × Passes packet at rows end × (drop end packet ≡ [])
+pub strict-passes : {T : Type 0} (row : List ℕ → ℕ → T) (packet : List ℕ) (at : ℕ) (ws : List Wire) → Walks Steps after (drop at packet) ws []
+    → (rows : List T) × (end : ℕ) × Passes row packet at rows end × (drop end packet ≡ [])
 unfolding Walks after
-strict-passes packet at [] walk = ([], at, refl, walk)
-strict-passes packet at (w ∷ ws) walk =
+strict-passes row packet at [] walk = ([], at, refl, walk)
+strict-passes row packet at (w ∷ ws) walk =
     let next = at + padded_length (declared_length (drop at packet)) in
     let there : IsThere (drop at packet) = record { is_framed = walk.0.chunk.is_framed; whole = walk.0.whole; reads = λ _. (w, walk.0.chunk) } in
-    let later = strict-passes packet next ws
+    let later = strict-passes row packet next ws
     (subst (λ (b : List ℕ). Walks Steps after b ws []) (drop-drop (padded_length (declared_length (drop at packet))) at packet) walk.1) in
-    (any_chunk_at packet at ∷ later.0, later.1, (refl, there, goes-on-behind (drop at packet) w walk.0, later.2), later.3)
+    (row packet at ∷ later.0, later.1, (refl, there, goes-on-behind (drop at packet) w walk.0, later.2), later.3)
 
-pub strict-answered : (packet : List ℕ) (ws : List Wire) → Walks Steps after (drop 12 packet) ws [] → (rows : List SctpAnyChunk) × TellsAll packet rows
-strict-answered packet ws walk =
-    let all = strict-passes packet 12 ws walk in
+pub strict_told : {T : Type 0} (row : List ℕ → ℕ → T) (packet : List ℕ) (ws : List Wire) → Walks Steps after (drop 12 packet) ws []
+    → (rows : List T) × TellsAll row packet rows
+strict_told row packet ws walk =
+    let all = strict-passes row packet 12 ws walk in
     (all.0, record { passed = all.0; end = all.1; passes = all.2; ended = inl (all.3, refl) })

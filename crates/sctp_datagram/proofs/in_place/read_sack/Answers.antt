@@ -1,5 +1,5 @@
-use Rattle.sctp_c.proofs.InPlace.{sack_made}
-use Rattle.sctp_c.proofs.in_place.read_sack.Goals as goal
+use Rattle.sctp_datagram.proofs.InPlace.{sack_made}
+use Rattle.sctp_datagram.proofs.in_place.read_sack.Goals as goal
 
 pub returns-clause-found : goal.returns-clause-found
 returns-clause-found c =

@@ -1,0 +1,4 @@
+pub mod Alone
+pub mod InPlace
+pub mod Strict
+pub mod Walk
