@@ -1,17 +1,14 @@
 -- What the bytes of a DATA chunk and of a SACK say, by their type alone.
-use Rattle.std.proofs.Common.{◌≡◌, ℕ, ◌+◌, ◌<◌, ◌≤◌, List, [], ◌∷◌, length, refl, sym, subst, ap, ◌∙◌, inl, inr, arith}
+use Rattle.std.proofs.Common.{◌≡◌, ℕ, ◌+◌, ◌<◌, ◌≤◌, List, [], ◌∷◌, length, refl, sym, subst, ap, ◌∙◌, arith}
 use Rattle.std.specs.Prelude.{◌*◌, map}
 use Rattle.std.specs.List.{AllByRecursion}
 use Rattle.sctp_util.specs.Walk.{Walks}
 use Rattle.sctp_util.proofs.EachAt.{length_each}
 use Rattle.sctp_util.specs.Each.{each}
 use Rattle.sctp_util.specs.Field.{u32_at}
-use Rattle.sctp_util.specs.declared.error.Error.{Error}
-use Rattle.sctp_chunks.specs.Fault.{IsChunk, DataFault, SackFault}
-use Rattle.sctp_chunks.specs.Framing.{type_at, flags_at, value_at}
-use Rattle.sctp_chunks.specs.Kind.{KindFault}
-use Rattle.sctp_chunks.specs.Wire.{Wire, ReadsChunk, data_chunk, sack_chunk}
-use Rattle.sctp_data.specs.PayloadData.{Data, data_in}
+use Rattle.sctp_chunks.specs.Fault.{IsChunk}
+use Rattle.sctp_chunks.specs.Framing.{value_at}
+use Rattle.sctp_chunks.specs.Wire.{Wire}
 use Rattle.sctp_data.specs.SelectiveAck.{block_at, sack_in, blocks_in, duplicates_in}
 use Rattle.sctp_data.specs.declared.chunk.chunk_selective_ack.GapAckBlock.{GapAckBlock}
 use Rattle.sctp_datagram.proofs.InPlace.{sack_reads}

@@ -1,12 +1,9 @@
 -- What a caller in C is told of chunks and parameters: their fields as plain numbers, and lists by their lengths.
-use Rattle.std.specs.Prelude.{◌≡◌, ◌≢◌, ◌⊎◌, ℕ, ◌-◌, ◌<◌, ◌≤◌, ◌==◌, min, List, [], length, map}
-use Rattle.sctp_util.specs.declared.error.Error.{Error}
-use Rattle.sctp_util.specs.declared.error.Error.TheVariants.{ErrChunkTypeNotTypeInit, ErrChunkValueNotLongEnough}
+use Rattle.std.specs.Prelude.{◌≡◌, ℕ, ◌-◌, ◌==◌, min, List, [], length, map}
 use Rattle.sctp_util.specs.Padding.{padded_length}
 use Rattle.sctp_params.specs.Param.{Parameter, param_number_of}
 use Rattle.sctp_params.specs.ParamFraming.{IsParam, param_declared_length, param_type_at}
 use Rattle.sctp_params.specs.ParamKind.{ReadsParam}
-use Rattle.sctp_chunks.specs.Fault.{HeaderFault, IsInitChunk}
 use Rattle.sctp_chunks.specs.Framing.{type_at, value_at}
 use Rattle.sctp_chunks.specs.Init.{Init, init_in}
 use Rattle.sctp_chunks.specs.Wire.{ReadsChunk, data_chunk, sack_chunk, forward_tsn_chunk}

@@ -1,5 +1,5 @@
 -- Packets as a caller in C sees them: a header, and where the chunks lie.
-use Rattle.std.specs.Prelude.{◌≡◌, ℕ, zero, suc, ◌+◌, ◌≤◌, List, [], ◌∷◌, ◌++◌, length, drop}
+use Rattle.std.specs.Prelude.{◌≡◌, ℕ, zero, suc, ◌+◌, ◌≤◌, List, [], ◌++◌, length, drop}
 use Rattle.crc32c.specs.Castagnoli.{crc32c_of}
 use Rattle.sctp_util.specs.Field.{le32, u16_at, u32_at}
 use Rattle.sctp_util.specs.Padding.{padded_length, four_zeroes}

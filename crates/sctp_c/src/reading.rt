@@ -20,7 +20,6 @@ ghost use Rattle.sctp_c.specs.Answered.{IsAnyParameter, IsData, IsSack, IsForwar
 ghost use Rattle.sctp_c.specs.Answered.{data_answered, gap_answered, init_answered, skip_answered};
 
 use crate::code::{SCTPR_OK, of_error};
-use sctp_datagram::in_place::{data_value, init_value, sack_value};
 use bytes::Bytes;
 use sctp_chunks::chunk::Chunk;
 use sctp_chunks::chunk::chunk_forward_tsn::{ChunkForwardTsn, ChunkForwardTsnStream};
@@ -31,6 +30,7 @@ use sctp_chunks::chunk::chunk_payload_data::{
 };
 use sctp_chunks::chunk::chunk_selective_ack::SELECTIVE_ACK_HEADER_SIZE;
 use sctp_chunks::chunk::chunk_shutdown::ChunkShutdown;
+use sctp_datagram::in_place::{data_value, init_value, sack_value};
 use sctp_datagram::params::param_at;
 use sctp_params::param::param_kind::{ParamKind, build_param};
 use sctp_util::error::Result;

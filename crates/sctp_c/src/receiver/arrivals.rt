@@ -14,10 +14,10 @@ ghost use Rattle.sctp_receiver.specs.declared.receiver.arrival.Arrival.TheVarian
 
 use super::SctpReceiver;
 use crate::code::{SCTPR_OK, SCTPR_REPEAT, SCTPR_STALE, of_error, of_receiver};
-use sctp_datagram::in_place::read_data;
 use bytes::Bytes;
 use sctp_chunks::chunk::Chunk;
 use sctp_chunks::chunk::chunk_forward_tsn::ChunkForwardTsn;
+use sctp_datagram::in_place::read_data;
 use sctp_receiver::receiver::arrival::{Arrival, Closed, Forwarded};
 use sctp_util::error::Error;
 use std::alloc::Global;

@@ -1,4 +1,4 @@
-use Rattle.std.proofs.Common.{◌≡◌, ◌<◌, ◌∷◌, [], List, length, drop, map, add-one, ap, sym, ◌∙◌, arith}
+use Rattle.std.proofs.Common.{◌≡◌, ◌<◌, ◌∷◌, List, length, drop, map, add-one, ap, sym, ◌∙◌, arith}
 use Rattle.std.proofs.lemmas.List.{length-drop}
 use Rattle.sctp_datagram.specs.declared.datagram.ChunkPlace.{ChunkPlace}
 use Rattle.sctp_c.specs.AnyChunks.{any_row}
