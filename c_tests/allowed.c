@@ -129,13 +129,26 @@ static void init(void) {
     CHECK(sctpr_read_any_param(NULL, 0, &param) == SCTPR_ERR_PARAM_HEADER_TOO_SHORT && param.type == 9);
 }
 
+/* DATA is written and read with any payload type: 99, TSN 5, stream 1; and the greatest one (RFC 9260 3.3.1). */
+static void payload_types(void) {
+    static const uint8_t value[] = "\0\0\0\5\0\1\0\0\0\0\0\x63!";
+    uint8_t out[20];
+    size_t n = 5;
+    struct sctpr_data data;
+    CHECK(sctpr_write_chunk_with_flags(SCTPR_DATA, 3, value, 13, out, 19, &n) == SCTPR_SHORT_BUFFER && n == 20);
+    TRY(sctpr_write_chunk_with_flags(SCTPR_DATA, 3, value, 13, out, 20, &n), SCTPR_OK, 1);
+    CHECK(n == 20 && memcmp(out, "\0\3\0\x11", 4) == 0 && memcmp(out + 4, value, 13) == 0 && out[17] == 0 && out[19] == 0);
+    CHECK(sctpr_read_data(out, 20, &data) == SCTPR_OK && data.payload_type == 99 && data.tsn == 5 && data.length == 1);
+    memset(out + 12, 0xff, 4);
+    CHECK(sctpr_read_data(out, 20, &data) == SCTPR_OK && data.payload_type == 0xffffffffu);
+    CHECK(sctpr_write_chunk(SCTPR_DATA, value, 11, out, 20, &n) == SCTPR_ERR_CHUNK_PAYLOAD_SMALL && n == 20);
+}
+
 /* A chunk that the library would write otherwise is refused, and nothing is written. */
 static void as_given(void) {
     uint8_t out[40];
     size_t n = 5;
     memset(out, 'x', sizeof out);
-    /* DATA with the payload type 99, TSN 5, stream 1 */
-    CHECK(sctpr_write_chunk_with_flags(SCTPR_DATA, 3, (const uint8_t *)"\0\0\0\5\0\1\0\0\0\0\0\x63!", 13, out, 40, &n) == SCTPR_NOT_AS_GIVEN);
     /* a response with the result 9 (RFC 6525 4.4) */
     CHECK(sctpr_write_chunk(SCTPR_RECONFIG, (const uint8_t *)"\0\x10\0\x0c\0\0\0\1\0\0\0\x09", 12, out, 40, &n) == SCTPR_NOT_AS_GIVEN);
     CHECK(sctpr_write_chunk(SCTPR_COOKIE_ACK, (const uint8_t *)"a", 1, out, 40, &n) == SCTPR_NOT_AS_GIVEN);
@@ -154,6 +167,7 @@ int main(void) {
     reset();
     padded_cause();
     init();
+    payload_types();
     as_given();
     return report("allowed");
 }

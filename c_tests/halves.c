@@ -143,6 +143,27 @@ static void goes_over(void) {
     free_both();
 }
 
+/* A message that comes with a payload type without a name is read with it, of two fragments with that of the first, which came last; one
+ * that is unordered, too. */
+static void any_payload_type(void) {
+    uint8_t last[] = { 0, 1, 0, 17, 0, 0, 3, 0xe9, 0, 3, 0, 0, 0, 0, 0, 46, 'b' };
+    uint8_t first[] = { 0, 2, 0, 17, 0, 0, 3, 0xe8, 0, 3, 0, 0, 0xff, 0xff, 0xff, 0xfe, 'a' };
+    uint8_t unordered[] = { 0, 7, 0, 17, 0, 0, 3, 0xea, 0, 3, 0, 0, 0, 0, 0, 0, 'c' };
+    uint8_t out[2], complete = 7;
+    size_t size = 9;
+    uint32_t type = 9;
+    open_both(1000, 1000);
+    TRY(sctpr_receiver_data(&receiver, last, sizeof last, &complete), SCTPR_OK, sctpr_receiver_held_bytes(&receiver) == 0);
+    CHECK(complete == 0 && sctpr_receiver_next_length(&receiver, 3, &size, &type) == SCTPR_NOTHING && size == 9 && type == 9);
+    TRY(sctpr_receiver_data(&receiver, first, sizeof first, &complete), SCTPR_OK, complete == 0);
+    CHECK(sctpr_receiver_next_length(&receiver, 3, &size, &type) == SCTPR_OK && size == 2 && type == 0xfffffffeu);
+    CHECK(sctpr_receiver_read(&receiver, 3, out, 1, &size, &type) == SCTPR_SHORT_BUFFER && size == 2 && type == 0xfffffffeu);
+    TRY(sctpr_receiver_data(&receiver, unordered, sizeof unordered, &complete), SCTPR_OK, 1);
+    CHECK(sctpr_receiver_read(&receiver, 3, out, 2, &size, &type) == SCTPR_OK && size == 1 && type == 0 && out[0] == 'c');
+    CHECK(sctpr_receiver_read(&receiver, 3, out, 2, &size, &type) == SCTPR_OK && size == 2 && type == 0xfffffffeu && memcmp(out, "ab", 2) == 0);
+    free_both();
+}
+
 /* A message runs out of sendings; a FORWARD-TSN takes the receiver past it. */
 static void abandoned(void) {
     uint8_t chunk[64], forward[64], complete = 7;
@@ -201,6 +222,7 @@ int main(void) {
     traps();
     refused();
     goes_over();
+    any_payload_type();
     abandoned();
     expired();
     return report("halves");

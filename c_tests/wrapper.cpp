@@ -79,6 +79,8 @@ void chunks() {
     auto data = sctpr::read_data(bytes_of("\0\3\0\22\0\0\0\1\0\2\0\3\0\0\0\63hi", 18));
     CHECK(data && data->tsn == 1 && data->stream == 2 && data->payload_type == SCTPR_PPID_STRING && data->length == 2);
     CHECK(sctpr::user_data(bytes_of("\0\3\0\22\0\0\0\1\0\2\0\3\0\0\0\63hi", 18), *data)[1] == 'i');
+    auto other = sctpr::read_data(bytes_of("\0\3\0\22\0\0\0\1\0\2\0\3\0\0\0\56hi", 18));
+    CHECK(other && other->payload_type == 46);
     CHECK(is_refused(sctpr::read_data(bytes_of("\3\0\0\4", 4)), sctpr::code::err_chunk_type_not_payload_data));
     auto abort = sctpr::write_chunk_with_flags(SCTPR_ABORT, SCTPR_FLAG_T, {}, out);
     CHECK(abort && *abort == 4 && out[1] == 1);

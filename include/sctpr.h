@@ -199,7 +199,7 @@ enum {
     SCTPR_ERR_SUPPORTED_ADDRESS_TYPES_PARAM_INVALID_LENGTH = 88,
     /* Not answered by a call of this library: the message is longer than the buffer, which is filled with the message's beginning. */
     SCTPR_ERR_SHORT_BUFFER = 89,
-    /* It can't be written as it was given: a chunk whose value is read as another one, or a payload type that has no name here. */
+    /* It can't be written as it was given: a chunk whose value is read as another one, or a message whose payload type has no name here. */
     SCTPR_NOT_AS_GIVEN = 90
 };
 
@@ -262,8 +262,8 @@ enum {
  * peer gave (RFC 4960 3.3.7, 3.3.13, 8.5.1). */
 enum { SCTPR_FLAG_T = 1 };
 
-/* What the user data are (RFC 8831 8). Any other number that comes is read as SCTPR_PPID_OTHER; to be sent it is refused with
- * SCTPR_NOT_AS_GIVEN, since a message can't carry it yet. */
+/* What the user data are (RFC 8831 8). Any number that comes is read as it came, and sctpr_write_chunk writes any (RFC 9260 3.3.1). A
+ * sender's message has one of these: sctpr_sender_write refuses another one with SCTPR_NOT_AS_GIVEN. */
 enum {
     SCTPR_PPID_DCEP = 50,
     SCTPR_PPID_STRING = 51,
@@ -331,7 +331,8 @@ sctpr_code sctpr_read_any_packet_with_sum(const uint8_t *packet, size_t length, 
 /* The readers below take the bytes of a chunk. They refuse with an error of the header or of that kind, or with SCTPR_NO_MEMORY, and have
  * written nothing then. Those of DATA and of a SACK take no memory. */
 
-/* A DATA chunk (RFC 4960 3.3.1); its user data are `length` bytes from byte 16 of the chunk on. Flags are 0 or 1. */
+/* A DATA chunk (RFC 4960 3.3.1); its user data are `length` bytes from byte 16 of the chunk on, its payload type is any number, as it came.
+ * Flags are 0 or 1. */
 struct sctpr_data {
     size_t length;
     uint32_t tsn;
@@ -460,10 +461,10 @@ sctpr_code sctpr_read_cause(const uint8_t *bytes, size_t length, struct sctpr_ca
 
 /* A chunk of a type and a value, its flags 0, of any type that is read (RFC 4960 3.2, 3.3). It is read before it is written, so that no
  * chunk comes out that a reader refuses: else the reader's error. SCTPR_NOT_AS_GIVEN, where what is read has another value: bytes behind
- * its end, a payload type or a result of a RE-CONFIG that has no name here. The padding of the last item may stand in the value; the
- * chunk's length does not count it. A RE-CONFIG with a request of the types 14, 15, 17 and 18 is written, though sctpr_read_packet refuses
- * it: with one of them, with 13 before 14, or with 17 before 18 (RFC 6525 3.1). SCTPR_LENGTH_TOO_LARGE of more than 65,531 bytes.
- * SCTPR_NO_MEMORY. */
+ * its end, or a result of a RE-CONFIG that has no name here. A DATA chunk is written with any payload type. The padding of the last item
+ * may stand in the value; the chunk's length does not count it. A RE-CONFIG with a request of the types 14, 15, 17 and 18 is written,
+ * though sctpr_read_packet refuses it: with one of them, with 13 before 14, or with 17 before 18 (RFC 6525 3.1). SCTPR_LENGTH_TOO_LARGE of
+ * more than 65,531 bytes. SCTPR_NO_MEMORY. */
 sctpr_code sctpr_write_chunk(uint8_t type, const uint8_t *value, size_t length, uint8_t *out, size_t room, size_t *written);
 
 /* The same with flags, as they are given: SCTPR_FLAG_T, and those of DATA (3.3.1). */
@@ -563,8 +564,8 @@ sctpr_code sctpr_receiver_forward_tsn(sctpr_receiver *receiver, const uint8_t *c
 /* The same, but what it names on a stream that is not open is passed over, as is right of one that was closed on purpose. */
 sctpr_code sctpr_receiver_forward_tsn_past_closed(sctpr_receiver *receiver, const uint8_t *chunk, size_t length);
 
-/* Tells the next message of a stream, and takes nothing out: `size` becomes its length in bytes, `payload_type` its payload type.
- * SCTPR_NOTHING: there is none. SCTPR_STREAM_UNKNOWN. Both stay, but with SCTPR_OK. */
+/* Tells the next message of a stream, and takes nothing out: `size` becomes its length in bytes, `payload_type` its payload type, any
+ * number, as it came with its first fragment. SCTPR_NOTHING: there is none. SCTPR_STREAM_UNKNOWN. Both stay, but with SCTPR_OK. */
 sctpr_code sctpr_receiver_next_length(const sctpr_receiver *receiver, uint16_t stream, size_t *size, uint32_t *payload_type);
 
 /* Takes the next message of a stream out and copies it to the front of the buffer: an unordered one, else the ordered one that is due.

@@ -92,6 +92,8 @@ func TestChunks(t *testing.T) {
 	data, err := ReadData([]byte("\x00\x03\x00\x12\x00\x00\x00\x01\x00\x02\x00\x03\x00\x00\x00\x33hi"))
 	must(t, err)
 	check(t, "DATA", reflect.DeepEqual(data, Data{1, PPIDString, 2, 3, false, true, true, false, []byte("hi")}))
+	data, err = ReadData([]byte("\x00\x03\x00\x12\x00\x00\x00\x01\x00\x02\x00\x03\x00\x00\x00\x2ehi"))
+	check(t, "any payload type", err == nil && data.PayloadType == 46)
 	_, err = ReadData([]byte("\x03\x00\x00\x04"))
 	is(t, err, CodeErrChunkTypeNotPayloadData)
 	tsn, err = ReadShutdown([]byte("\x07\x00\x00\x08\x00\x00\x03\xe8"))

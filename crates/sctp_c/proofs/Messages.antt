@@ -1,18 +1,18 @@
 -- What is told of the next message of a stream.
-use Rattle.std.proofs.Common.{◌≡◌, ℕ, ◌-◌, ◌^◌, List, [], ◌∷◌, length, Option, Some, None, ◌<◌, refl, sym, ap, ◌∙◌, arith, length-append}
-use Rattle.std.specs.Prelude.{min, option_map}
+use Rattle.std.proofs.Common.{◌≡◌, ℕ, ◌-◌, ◌^◌, List, [], ◌∷◌, length, Option, Some, None, ◌<◌, refl, sym, subst, ap, ◌∙◌, arith, length-append}
+use Rattle.std.specs.Prelude.{min, option_map, IfSome}
 use Rattle.std.proofs.lemmas.List.Sums.{sum_by-cons}
 use Rattle.std.proofs.lemmas.Option.{none-some, same_Some}
 use Rattle.sctp_data.specs.ChunkSet.{ChunkSet}
 use Rattle.sctp_data.specs.declared.chunk.chunk_payload_data.ChunkPayloadData.{ChunkPayloadData}
 use Rattle.sctp_data.specs.declared.chunk.chunk_payload_data.PayloadProtocolIdentifier.{PayloadProtocolIdentifier}
-use Rattle.sctp_data.specs.PayloadData.{payload_type_number}
 use Rattle.sctp_reassembly.specs.reassembly_queue.Fragments.{payload_of}
-use Rattle.sctp_reassembly.specs.reassembly_queue.ReassemblyQueue.{at_start}
+use Rattle.sctp_reassembly.specs.reassembly_queue.ReassemblyQueue.{ReassemblyState, at_start, message_read}
 use Rattle.sctp_reassembly.specs.declared.reassembly_queue.chunks.Chunks.{Chunks}
-use Rattle.sctp_receiver.specs.Receiver.{Reception, message_on}
+use Rattle.sctp_receiver.specs.Receiver.{Reception, message_of, message_on}
+use Rattle.sctp_receiver.specs.declared.receiver.inbound_streams.InboundStream.{InboundStream}
 use Rattle.sctp_serial.specs.DataChunks.{bytes_of}
-use Rattle.sctp_c.specs.Receiving.{TellsNext}
+use Rattle.sctp_c.specs.Receiving.{TellsNext, payload_type_of}
 
 -- what a function makes of an option is there: so is what it is made of
 pub made-of : {A B : Type 0} (f : A → B) (o : Option A) (b : B) → Some b ≡ option_map f o → (a : A) × ((o ≡ Some a) × (b ≡ f a))
@@ -27,18 +27,36 @@ payload-size (c ∷ cs) =
     let d = length-append c.user_data (payload_of cs) in
     omega arith
 
+-- the number is the payload type of the message, if there is one
+abbrev pub IsTypeOf : ℕ → Option ChunkSet → Type 0
+IsTypeOf n o = IfSome o (λ (m : ChunkSet). n ≡ payload_type_of m.chunks)
+
+-- of an open stream's next message
+pub type-on : (n : ℕ) (q : ReassemblyState) (o : Option InboundStream) → Some q ≡ option_map (λ (l : InboundStream). l.queue) o
+    → IsTypeOf n (message_read q.held) → IsTypeOf n (message_of o)
+type-on n q None h is = tt
+type-on n q (Some l) h is = subst (λ (x : ReassemblyState). IsTypeOf n (message_read x.held)) (same_Some q l.queue h) is
+
+-- a stream that is not open has none
+pub type-closed : (n : ℕ) (o : Option InboundStream) → None ≡ option_map (λ (l : InboundStream). l.queue) o → IsTypeOf n (message_of o)
+type-closed n None h = tt
+type-closed n (Some l) h = absurd (none-some l.queue h)
+
+pub type-is : (n : ℕ) (o : Option ChunkSet) (m : ChunkSet) → o ≡ Some m → IsTypeOf n o → n ≡ payload_type_of m.chunks
+type-is n o m is typed = subst (IsTypeOf n) is typed
+
 abbrev pub answered : ChunkSet → ℕ × PayloadProtocolIdentifier
 answered s = (min (bytes_of s.chunks) (2 ^ 64 - 1), s.ppi)
 
 pub tells-next : (stream size number : ℕ) (ppi : PayloadProtocolIdentifier) (r : Reception) (o : Option (ℕ × PayloadProtocolIdentifier)) → o ≡ Some (size, ppi)
-    → o ≡ option_map answered (message_on stream r) → number ≡ payload_type_number ppi → TellsNext stream size number r
-tells-next stream size number ppi r o is e n =
+    → o ≡ option_map answered (message_on stream r) → IsTypeOf number (message_on stream r) → TellsNext stream size number r
+tells-next stream size number ppi r o is e typed =
     let found = made-of answered (message_on stream r) (size, ppi) (grind (arith, is, e)) in
     record {
       message = found.0;
       next = found.1.0;
       size = ap (λ x. x.0) found.1.1;
-      typ = grind (arith, n, ap (λ (x : ℕ × PayloadProtocolIdentifier). x.1) found.1.1);
+      typ = type-is number (message_on stream r) found.0 found.1.0 typed;
     }
 
 -- a buffer that is no shorter than what is told is no shorter than the message

@@ -1,5 +1,6 @@
 -- What a caller in C is told of chunks and parameters: their fields as plain numbers, and lists by their lengths.
 use Rattle.std.specs.Prelude.{◌≡◌, ℕ, ◌-◌, ◌==◌, min, List, [], length, map}
+use Rattle.sctp_util.specs.Field.{u32_at}
 use Rattle.sctp_util.specs.Padding.{padded_length}
 use Rattle.sctp_params.specs.Param.{Parameter, param_number_of}
 use Rattle.sctp_params.specs.ParamFraming.{IsParam, param_declared_length, param_type_at}
@@ -7,7 +8,7 @@ use Rattle.sctp_params.specs.ParamKind.{ReadsParam}
 use Rattle.sctp_chunks.specs.Framing.{type_at, value_at}
 use Rattle.sctp_chunks.specs.Init.{Init, init_in}
 use Rattle.sctp_chunks.specs.Wire.{ReadsChunk, data_chunk, sack_chunk, forward_tsn_chunk}
-use Rattle.sctp_data.specs.PayloadData.{Data, payload_type_number, weight}
+use Rattle.sctp_data.specs.PayloadData.{Data, weight}
 use Rattle.sctp_data.specs.SelectiveAck.{Sack}
 use Rattle.sctp_data.specs.ForwardTsn.{ForwardTsn}
 use Rattle.sctp_data.specs.declared.chunk.chunk_selective_ack.GapAckBlock.{GapAckBlock}
@@ -21,11 +22,15 @@ use Rattle.sctp_c.specs.declared.reading.SctpSkip.{SctpSkip}
 use Rattle.sctp_c.specs.declared.reading.SctpInit.{SctpInit}
 use Rattle.sctp_c.specs.declared.reading.SctpParam.{SctpParam}
 
-abbrev pub data_answered : Data → SctpData
-data_answered d = record {
+-- the payload type of the DATA chunk that the bytes begin with, as it came (RFC 9260 3.3.1)
+abbrev pub payload_type_at : List ℕ → ℕ
+payload_type_at bytes = u32_at (value_at bytes) 8
+
+abbrev pub data_answered : ℕ → Data → SctpData
+data_answered payload_type d = record {
   length = length d.user_data;
   tsn = d.tsn;
-  payload_type = payload_type_number d.payload_type;
+  payload_type = payload_type;
   stream = d.stream_identifier;
   sequence = d.stream_sequence_number;
   is_unordered = weight d.unordered 1;
@@ -62,7 +67,7 @@ init_answered i = record {
 pub record IsData (bytes : List ℕ) (t : SctpData) : Type 0 where
   pub fields : Data
   pub reads : ReadsChunk bytes (data_chunk fields)
-  pub answered : t ≡ data_answered fields
+  pub answered : t ≡ data_answered (payload_type_at bytes) fields
 
 -- the bytes begin with a SACK of these fields; as many blocks and duplicates as there is room for stand in the rows
 pub record IsSack (bytes : List ℕ) (t : SctpSack) (old_blocks blocks : List SctpGap)

@@ -1,9 +1,10 @@
 -- What the calls of a receiver answer a caller in C.
-use Rattle.std.specs.Prelude.{◌≡◌, ℕ, Bool, ◌^◌, ◌+◌, ◌-◌, ◌*◌, ◌/◌, List, length, min, Option, Some, None}
+use Rattle.std.specs.Prelude.{◌≡◌, ℕ, Bool, ◌^◌, ◌+◌, ◌-◌, ◌*◌, ◌/◌, ◌%◌, List, [], ◌∷◌, length, min, Option, Some, None}
 use Rattle.sctp_chunks.specs.Wire.{ReadsChunk, encoding_of, data_chunk, forward_tsn_chunk, sack_chunk}
 use Rattle.sctp_data.specs.ChunkSet.{ChunkSet, fresh}
 use Rattle.sctp_data.specs.ForwardTsn.{ForwardTsn}
-use Rattle.sctp_data.specs.PayloadData.{Data, payload_type_number}
+use Rattle.sctp_data.specs.PayloadData.{Data}
+use Rattle.sctp_data.specs.declared.chunk.chunk_payload_data.ChunkPayloadData.{ChunkPayloadData}
 use Rattle.sctp_reassembly.specs.reassembly_queue.Fragments.{payload_of}
 use Rattle.sctp_receiver.specs.declared.receiver.arrival.Arrival.{Arrival}
 use Rattle.sctp_receiver.specs.declared.receiver.arrival.Arrival.TheVariants.{New}
@@ -13,6 +14,7 @@ use Rattle.sctp_receiver.specs.declared.receiver.refusal.ReceiverRefusal.{Receiv
 use Rattle.sctp_receiver.specs.Receiver.{Reception, TakesFirstBy, arrival_refusal, forwarded_of, message_on, sack_within, after_sack_within, window}
 use Rattle.sctp_receiver.specs.Skips.{after_forward_tsn}
 use Rattle.sctp_serial.specs.DataChunks.{bytes_of}
+use Rattle.sctp_c.specs.Answered.{payload_type_at}
 use Rattle.sctp_c.specs.Flags.{flag}
 use Rattle.sctp_c.specs.Out.{at_front}
 use Rattle.sctp_c.specs.Codes.{receiver_code}
@@ -22,13 +24,24 @@ abbrev pub receiver_code_for : Option ReceiverRefusal → ℕ
 receiver_code_for None = 16
 receiver_code_for (Some e) = receiver_code e
 
+-- ## Payload types, of which any number may come (RFC 9260 3.3.1)
+
+-- a DATA chunk as it is kept: its payload type stands where a sender keeps the number of the message
+abbrev pub kept_with : ℕ → Data → ChunkPayloadData
+kept_with payload_type d = record (fresh d) { message_id = payload_type }
+
+-- the payload type of a message: as it came with its first fragment
+abbrev pub payload_type_of : List ChunkPayloadData → ℕ
+payload_type_of [] = 0
+payload_type_of (c ∷ cs) = c.message_id % 2 ^ 32
+
 -- ## Bytes that are handed in
 
 -- they are a DATA chunk, which is taken with this answer
 pub record TakesData (bytes : List ℕ) (a : Arrival) (old new : Reception) : Type 0 where
   pub wire : Data
   pub reads : ReadsChunk bytes (data_chunk wire)
-  pub taken : TakesFirstBy arrival_refusal (fresh wire) a old new
+  pub taken : TakesFirstBy arrival_refusal (kept_with (payload_type_at bytes) wire) a old new
 
 -- the same, where its TSN is new: 1 is told where a message of its stream became complete with it, else 0
 abbrev pub TakesNew : List ℕ → ℕ → Reception → Reception → Type 0
@@ -39,7 +52,8 @@ TakesNew bytes answered old new =
 pub record RefusesData (bytes : List ℕ) (code : ℕ) (old : Reception) : Type 0 where
   pub wire : Data
   pub reads : ReadsChunk bytes (data_chunk wire)
-  pub number : code ≡ receiver_code_for (arrival_refusal (fresh wire) old)
+  pub number : code
+      ≡ receiver_code_for (arrival_refusal (kept_with (payload_type_at bytes) wire) old)
 
 abbrev pub forwarded_code : Forwarded → ℕ
 forwarded_code Skipped = 0
@@ -86,7 +100,7 @@ pub record TellsNext (stream answered_size payload_type : ℕ) (r : Reception) :
   pub message : ChunkSet
   pub next : message_on stream r ≡ Some message
   pub size : answered_size ≡ min (bytes_of message.chunks) (2 ^ 64 - 1)
-  pub typ : payload_type ≡ payload_type_number message.ppi
+  pub typ : payload_type ≡ payload_type_of message.chunks
 
 -- and its bytes stand at the front of the buffer, as many as are told
 pub record ReadsNext (stream : ℕ) (out_old out_new : List ℕ) (answered_size payload_type : ℕ)
@@ -95,4 +109,4 @@ pub record ReadsNext (stream : ℕ) (out_old out_new : List ℕ) (answered_size 
   pub next : message_on stream r ≡ Some message
   pub bytes : out_new ≡ at_front (payload_of message.chunks) out_old
   pub size : answered_size ≡ length (payload_of message.chunks)
-  pub typ : payload_type ≡ payload_type_number message.ppi
+  pub typ : payload_type ≡ payload_type_of message.chunks

@@ -1,5 +1,5 @@
 -- What is written for a caller in C, and why it is not.
-use Rattle.std.specs.Prelude.{◌≡◌, ◌≢◌, ℕ, ◌<◌, ◌⊎◌, ◌==◌, true, false, if◌then◌else◌, List, ◌++◌, length, take, drop, All}
+use Rattle.std.specs.Prelude.{◌≡◌, ◌≢◌, ℕ, ◌<◌, ◌≤◌, ◌⊎◌, ◌==◌, true, false, if◌then◌else◌, List, ◌++◌, length, take, drop, All}
 use Rattle.sctp_util.specs.declared.error.Error.{Error}
 use Rattle.sctp_util.specs.declared.error.Error.TheVariants.{ErrLengthTooLarge, ErrSsnResetRequestParamInvalidLength}
 use Rattle.sctp_util.specs.Field.{be16, be32}
@@ -52,10 +52,21 @@ pub record IsRequestsChunk (typ flags : ℕ) (value bytes : List ℕ) : Type 0 w
   pub requests : AreRequests typ value end
   pub encoding : IsFramedChunk typ flags (take end value) bytes
 
+-- a value is that of a DATA chunk, whose payload type may be any (RFC 9260 3.3.1)
+pub record IsDataValue (typ : ℕ) (value : List ℕ) : Type 0 where
+  pub is_data : typ ≡ 0
+  pub long : 12 ≤ length value
+
+-- the DATA chunk of such a value as it is, and its padding
+pub record IsDataChunk (typ flags : ℕ) (value bytes : List ℕ) : Type 0 where
+  pub typed : IsDataValue typ value
+  pub encoding : IsFramedChunk typ flags value bytes
+
 -- a chunk that is written as it was given
 abbrev pub IsFlaggedChunk : ℕ → ℕ → List ℕ → List ℕ → Type 0
 IsFlaggedChunk typ flags value bytes =
     IsReadChunk typ flags value bytes ⊎ IsRequestsChunk typ flags value bytes
+    ⊎ IsDataChunk typ flags value bytes
 
 -- with flags 0
 abbrev pub IsChunk : ℕ → List ℕ → List ℕ → Type 0

@@ -26,7 +26,6 @@ use sctp_chunks::chunk::chunk_forward_tsn::{ChunkForwardTsn, ChunkForwardTsnStre
 use sctp_chunks::chunk::chunk_payload_data::{
     PAYLOAD_DATA_BEGINING_FRAGMENT_BITMASK, PAYLOAD_DATA_ENDING_FRAGMENT_BITMASK,
     PAYLOAD_DATA_HEADER_SIZE, PAYLOAD_DATA_IMMEDIATE_SACK, PAYLOAD_DATA_UNORDERED_BITMASK,
-    PayloadProtocolIdentifier,
 };
 use sctp_chunks::chunk::chunk_selective_ack::SELECTIVE_ACK_HEADER_SIZE;
 use sctp_chunks::chunk::chunk_shutdown::ChunkShutdown;
@@ -44,7 +43,7 @@ use std::alloc::Global;
 pub struct SctpData {
     pub length: usize,
     pub tsn: u32,
-    /// 50, 51, 53, 56 or 57; of any other that came, 58.
+    /// As it came.
     pub payload_type: u32,
     pub stream: u16,
     pub sequence: u16,
@@ -122,12 +121,12 @@ fn flag(set: bool) -> u8
 // The numbers of a DATA chunk with these flags and this value.
 fn answered(flags: u8, value: &[u8]) -> SctpData
     requires { 12 ≤ length value.now }
-    ensures { result ≡ data_answered (data_in flags value.now) }
+    ensures { result ≡ data_answered (u32_at value.now 8) (data_in flags value.now) }
 {
     SctpData {
         length: value.len() - PAYLOAD_DATA_HEADER_SIZE,
         tsn: read_u32(value, 0),
-        payload_type: PayloadProtocolIdentifier::from(read_u32(value, 8)).number(),
+        payload_type: read_u32(value, 8),
         stream: read_u16(value, 4),
         sequence: read_u16(value, 6),
         is_unordered: flag(flags & PAYLOAD_DATA_UNORDERED_BITMASK != 0),

@@ -113,10 +113,9 @@ fn hand_out(alloc: Global, receiver: Receiver, out: &mut SctpNewReceiver) -> u32
     }
 }
 
-/// Makes a receiver with no stream, to which nothing came: `first_tsn`, the peer's initial TSN, is expected next, and a message may have
-/// `max_message_size` bytes. It holds about `window` bytes at most, each chunk counted as 400 more than its user data, and no TSN farther
-/// than `reach` past the cumulative one (RFC 4960 6.2). `out` becomes its handle. Refuses with `SCTPR_INVALID`, where the window can't hold a
-/// message in the largest chunks, or window or reach is 0, so that nothing could come; and with `SCTPR_NO_MEMORY`. `out` stays then.
+/// Makes a receiver with no stream, to which nothing came; `first_tsn` is expected next. It holds about `window` bytes at most, each chunk
+/// counted as 400 more than its user data, and no TSN farther than `reach` past the cumulative one (RFC 4960 6.2). `SCTPR_INVALID`, where
+/// nothing could come: the window can't hold a message in the largest chunks, or window or reach is 0. Or `SCTPR_NO_MEMORY`.
 #[unsafe(no_mangle)]
 pub extern "C" fn sctpr_receiver_new(
     alloc: Global,

@@ -185,9 +185,9 @@ fn reliability_from(number: u32) -> Option<ReliabilityType>
     }
 }
 
-/// Sets the mode of later writes to a stream; a DCEP message is ordered and reliable in any mode (RFC 8832 6). `unordered` is 0 for ordered. `reliability` is 0:
-/// reliable, and `value` means nothing; 1: `value` counts the sendings of a chunk after the first; 2: `value` is a lifetime in
-/// milliseconds (RFC 3758 4.1, RFC 7496 3.1). Refuses with `SCTPR_INVALID`, where it is another number, and with `SCTPR_STREAM_UNKNOWN`.
+/// Sets the mode of later writes to a stream; a DCEP message is ordered and reliable in any mode (RFC 8832 6). `unordered` is 0 for
+/// ordered. `reliability` is 0: reliable; 1: `value` counts the sendings of a chunk after the first; 2: `value` is a lifetime in
+/// milliseconds (RFC 3758 4.1, RFC 7496 3.1). Refuses another one with `SCTPR_INVALID`, and with `SCTPR_STREAM_UNKNOWN`.
 #[unsafe(no_mangle)]
 pub extern "C" fn sctpr_sender_set_mode(
     sender: &mut SctpSender,

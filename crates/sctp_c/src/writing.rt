@@ -12,7 +12,7 @@ ghost use Rattle.sctp_chunks.specs.Wire.{Wire, ReadsChunk, HasEncoding, type_of,
 ghost use Rattle.sctp_c.specs.Out.{padded, IsWritten, IsTooShort};
 ghost use Rattle.sctp_c.specs.Refusal.{IsRefusal};
 ghost use Rattle.sctp_c.specs.Requests as words;
-ghost use Rattle.sctp_c.specs.Written.{AreRequests, IsAsGiven, IsChanged, IsChunk, IsEncoded, IsFlaggedChunk, IsFramedChunk, IsReadChunk};
+ghost use Rattle.sctp_c.specs.Written.{AreRequests, IsAsGiven, IsChanged, IsChunk, IsDataValue, IsEncoded, IsFlaggedChunk, IsFramedChunk, IsReadChunk};
 ghost use Rattle.sctp_c.specs.Written.{IsOwnParam, IsOwnRequest, IsParam, IsReadParam};
 ghost use Rattle.sctp_c.specs.Written.{ChunkFault, FlaggedChunkFault, ParameterFault, init_type, init_bytes};
 
@@ -23,6 +23,7 @@ use crate::requests::{has_length_of, is_own, requests_end};
 use bytes::{Bytes, BytesMut};
 use sctp_chunks::chunk::chunk_header::{CHUNK_HEADER_SIZE, put_header};
 use sctp_chunks::chunk::chunk_kind::ChunkKind;
+use sctp_chunks::chunk::chunk_payload_data::PAYLOAD_DATA_HEADER_SIZE;
 use sctp_chunks::chunk::{Chunk, ChunkType};
 use sctp_params::param::param_kind::build_param;
 use sctp_util::error::{Error, Result};
@@ -187,20 +188,25 @@ fn write_under(
         → result ≢ 0 → result ≢ 17 → result ≡ 16 }
     ensures requests { (end : ℕ) → AreRequests typ value.now end
         → 4 + length value.now < 2 ^ 16 → result ≢ 0 → result ≢ 17 → result ≡ 16 }
+    ensures payload { IsDataValue typ value.now
+        → 4 + length value.now < 2 ^ 16 → result ≢ 0 → result ≢ 17 → result ≡ 16 }
     ensures refused { result ≢ 0 → result ≢ 17 → result ≢ 90
         → IsRefusal (FlaggedChunkFault typ flags value.now) result }
     ensures kept { result ≢ 0 → result ≢ 17
         → (out.new ≡ out.old) × (written.new ≡ written.old) }
 {
+    if typ == 0 && value.len() >= PAYLOAD_DATA_HEADER_SIZE {
+        return write_framed(alloc, typ, flags, value, out, written);
+    }
     match given_end(typ, value) {
         Some(end) => write_framed(alloc, typ, flags, &value[..end], out, written),
         None => write_read(alloc, typ, flags, value, out, written),
     }
 }
 
-/// Writes a chunk of a type and a value with its padding, its flags 0: of any type that is read (RFC 4960 3.2, 3.3), and a RE-CONFIG of any
-/// requests (RFC 6525 3.1). `written` becomes how many bytes that is, also where it refuses with `SCTPR_SHORT_BUFFER`. Refuses with
-/// `SCTPR_NOT_AS_GIVEN`, where other bytes would be written, and with `SCTPR_LENGTH_TOO_LARGE` a value of more than 65,531 bytes.
+/// Writes a chunk of a type and a value with its padding, its flags 0: of any type that is read (RFC 4960 3.2, 3.3), a RE-CONFIG of any
+/// requests (RFC 6525 3.1), and DATA of any payload type (RFC 9260 3.3.1). `written` becomes how many bytes that is, or with
+/// `SCTPR_SHORT_BUFFER` would be. Refuses with `SCTPR_NOT_AS_GIVEN`, where other bytes would be written, and with `SCTPR_LENGTH_TOO_LARGE`.
 #[unsafe(no_mangle)]
 pub extern "C" fn sctpr_write_chunk(
     alloc: Global,
@@ -218,6 +224,8 @@ pub extern "C" fn sctpr_write_chunk(
         → IsAsGiven value.now (value_of w) → 4 + length value.now < 2 ^ 16
         → result ≢ 0 → result ≢ 17 → result ≡ 16 }
     ensures requests { (end : ℕ) → AreRequests typ value.now end
+        → 4 + length value.now < 2 ^ 16 → result ≢ 0 → result ≢ 17 → result ≡ 16 }
+    ensures payload { IsDataValue typ value.now
         → 4 + length value.now < 2 ^ 16 → result ≢ 0 → result ≢ 17 → result ≡ 16 }
     ensures refused { result ≢ 0 → result ≢ 17 → result ≢ 90
         → IsRefusal (ChunkFault typ value.now) result }
@@ -248,6 +256,8 @@ pub extern "C" fn sctpr_write_chunk_with_flags(
         → IsAsGiven value.now (value_of w) → 4 + length value.now < 2 ^ 16
         → result ≢ 0 → result ≢ 17 → result ≡ 16 }
     ensures requests { (end : ℕ) → AreRequests typ value.now end
+        → 4 + length value.now < 2 ^ 16 → result ≢ 0 → result ≢ 17 → result ≡ 16 }
+    ensures payload { IsDataValue typ value.now
         → 4 + length value.now < 2 ^ 16 → result ≢ 0 → result ≢ 17 → result ≡ 16 }
     ensures refused { result ≢ 0 → result ≢ 17 → result ≢ 90
         → IsRefusal (FlaggedChunkFault typ flags value.now) result }

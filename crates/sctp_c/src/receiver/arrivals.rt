@@ -3,10 +3,12 @@
 ghost use Rattle.std.specs.Prelude.{◌≡◌, ◌≢◌, ◌≤◌, ◌⊎◌, false, true, IfOk, IfErr};
 ghost use Rattle.sctp_util.specs.Outcome.{OrMemory};
 ghost use Rattle.sctp_chunks.specs.Fault.{DataFault, ForwardTsnFault};
-ghost use Rattle.sctp_chunks.specs.Wire.{ReadsChunk, forward_tsn_chunk};
+ghost use Rattle.sctp_chunks.specs.Wire.{ReadsChunk, data_chunk, forward_tsn_chunk};
 ghost use Rattle.sctp_data.specs.ForwardTsn.{forward_tsn_of};
+ghost use Rattle.sctp_data.specs.PayloadData.{data_of};
+ghost use Rattle.sctp_c.specs.Answered.{payload_type_at};
 ghost use Rattle.sctp_c.specs.Refusal.{IsRefusal};
-ghost use Rattle.sctp_c.specs.Receiving.{receiver_code_for, TakesData, TakesNew, RefusesData, TakesForwardTsn, RefusesForwardTsn};
+ghost use Rattle.sctp_c.specs.Receiving.{kept_with, receiver_code_for, TakesData, TakesNew, RefusesData, TakesForwardTsn, RefusesForwardTsn};
 ghost use Rattle.sctp_receiver.specs.Receiver.{after_discard, discard_refusal, filter_of};
 ghost use Rattle.sctp_receiver.specs.Skips.{skip_refusal, past_closed_refusal};
 ghost use Rattle.sctp_receiver.specs.TsnFilter.{has_come};
@@ -17,10 +19,24 @@ use crate::code::{SCTPR_OK, SCTPR_REPEAT, SCTPR_STALE, of_error, of_receiver};
 use bytes::Bytes;
 use sctp_chunks::chunk::Chunk;
 use sctp_chunks::chunk::chunk_forward_tsn::ChunkForwardTsn;
-use sctp_datagram::in_place::read_data;
+use sctp_chunks::chunk::chunk_payload_data::ChunkPayloadData;
+use sctp_datagram::in_place::{data_value, read_data};
 use sctp_receiver::receiver::arrival::{Arrival, Closed, Forwarded};
 use sctp_util::error::Error;
+use sctp_util::field::read_u32;
 use std::alloc::Global;
+
+// Reads bytes as a DATA chunk, with its payload type as it came.
+fn data_in(alloc: Global, chunk: &[u8]) -> Result<ChunkPayloadData, Error>
+    ensures found { IfOk result (λ c. ReadsChunk chunk.now (data_chunk (data_of c))) }
+    ensures kept { IfOk result (λ c. c ≡ kept_with (payload_type_at chunk.now) (data_of c)) }
+    ensures fault { IfErr result (λ e. OrMemory e (DataFault e chunk.now)) }
+{
+    let payload_type = read_u32(data_value(chunk)?, 8);
+    let mut data = read_data(alloc, chunk)?;
+    data.message_id = payload_type as u64;
+    Ok(data)
+}
 
 // Reads bytes as a FORWARD-TSN.
 fn forward_tsn_in(alloc: Global, chunk: &[u8]) -> Result<ChunkForwardTsn, Error>
@@ -33,9 +49,8 @@ fn forward_tsn_in(alloc: Global, chunk: &[u8]) -> Result<ChunkForwardTsn, Error>
 }
 
 /// Takes the bytes of a DATA chunk (RFC 4960 6.2). `SCTPR_OK`: its TSN is new, and `complete` becomes 1 where a message of its stream
-/// became complete with it, else 0. `SCTPR_REPEAT`: its TSN came before; the next SACK reports it as a duplicate. Refuses with the codes of bytes
-/// that are no DATA chunk, and with `SCTPR_SSN_TOO_FAR`, `SCTPR_TSN_OPPOSITE`, `SCTPR_TSN_TOO_FAR`, `SCTPR_WINDOW_FULL`,
-/// `SCTPR_STREAM_UNKNOWN`, `SCTPR_MESSAGE_TOO_LARGE` and `SCTPR_NO_MEMORY`. `complete` stays, but with `SCTPR_OK`.
+/// became complete with it, else 0. `SCTPR_REPEAT`: its TSN came before; the next SACK reports it as a duplicate. Its payload type is kept
+/// as it came (RFC 9260 3.3.1). Refuses bytes that are no DATA chunk, and as `Receiver::data` does.
 #[unsafe(no_mangle)]
 pub extern "C" fn sctpr_receiver_data(
     alloc: Global,
@@ -53,7 +68,7 @@ pub extern "C" fn sctpr_receiver_data(
     ensures reason { 16 ≤ result → IsRefusal (λ e. DataFault e chunk.now) result
         ⊎ RefusesData chunk.now result receiver.old.value }
 {
-    let data = match read_data(alloc, chunk) {
+    let data = match data_in(alloc, chunk) {
         Ok(data) => data,
         Err(e) => return of_error(e),
     };

@@ -1,8 +1,9 @@
 //! Messages that are to be read (RFC 4960 6.6, 6.9).
 
-ghost use Rattle.std.specs.Prelude.{◌≡◌, ◌≢◌, ◌<◌, ◌⊎◌, false, true, None, length};
+ghost use Rattle.std.specs.Prelude.{◌≡◌, ◌≢◌, ◌<◌, ◌⊎◌, false, true, None, length, IfSome};
 ghost use Rattle.sctp_c.specs.Out.{at_front};
-ghost use Rattle.sctp_c.specs.Receiving.{TellsNext, ReadsNext};
+ghost use Rattle.sctp_c.specs.Receiving.{payload_type_of, TellsNext, ReadsNext};
+ghost use Rattle.sctp_reassembly.specs.reassembly_queue.ReassemblyQueue.{message_read};
 ghost use Rattle.sctp_receiver.specs.Receiver.{is_open, message_on, after_read, readable_streams};
 
 use super::SctpReceiver;
@@ -10,7 +11,10 @@ use crate::code::{
     SCTPR_NO_MEMORY, SCTPR_NOTHING, SCTPR_OK, SCTPR_SHORT_BUFFER, SCTPR_STREAM_UNKNOWN,
 };
 use crate::fills::put_numbers;
+use sctp_reassembly::reassembly_queue::ReassemblyQueue;
+use sctp_reassembly::reassembly_queue::fragment::Fragment;
 use sctp_receiver::receiver::Receiver;
+use sctp_receiver::replay;
 
 // The code where a stream has no message to read.
 fn of_none(receiver: &Receiver, stream: u16) -> u32
@@ -21,6 +25,40 @@ fn of_none(receiver: &Receiver, stream: u16) -> u32
         SCTPR_NOTHING
     } else {
         SCTPR_STREAM_UNKNOWN
+    }
+}
+
+// The payload type of a message of these fragments.
+fn type_of(fragments: &[Fragment]) -> u32
+    ensures { result ≡ payload_type_of fragments.now }
+{
+    match fragments.first() {
+        Some(first) => (first.message_id % (1 << 32)) as u32,
+        None => 0,
+    }
+}
+
+// The payload type of the message that is read next of what came on a stream.
+fn type_in(queue: &ReassemblyQueue) -> u32
+    ensures { IfSome (message_read queue.now.held) (λ m. result ≡ payload_type_of m.chunks) }
+{
+    if let Some(set) = queue.unordered().front() {
+        return type_of(set.fragments());
+    }
+    match queue.ordered().front() {
+        Some(set) => type_of(set.fragments()),
+        None => 0,
+    }
+}
+
+// The payload type of the next message of a stream.
+fn type_on(receiver: &Receiver, stream: u16) -> u32
+    ensures { IfSome (message_on stream receiver.now)
+        (λ m. result ≡ payload_type_of m.chunks) }
+{
+    match replay::reassembly(receiver, stream) {
+        Some(queue) => type_in(queue),
+        None => 0,
     }
 }
 
@@ -43,9 +81,9 @@ pub extern "C" fn sctpr_receiver_next_length(
 {
     let held = receiver.get_mut();
     match held.next_len(stream) {
-        Some((len, ppi)) => {
+        Some((len, _)) => {
             *size = len;
-            *payload_type = ppi.number();
+            *payload_type = type_on(held, stream);
             SCTPR_OK
         }
         None => of_none(held, stream),
@@ -77,11 +115,11 @@ pub extern "C" fn sctpr_receiver_read(
         → (size.new ≡ size.old) × (payload_type.new ≡ payload_type.old) }
 {
     let held = receiver.get_mut();
-    let Some((len, ppi)) = held.next_len(stream) else {
+    let Some((len, _)) = held.next_len(stream) else {
         return of_none(held, stream);
     };
     *size = len;
-    *payload_type = ppi.number();
+    *payload_type = type_on(held, stream);
     if out.len() < len {
         return SCTPR_SHORT_BUFFER;
     }

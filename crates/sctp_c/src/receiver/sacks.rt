@@ -17,9 +17,8 @@ pub const MIN_SACK_SIZE: usize = 16;
 pub const MAX_SACK_SIZE: usize = 65_532;
 
 /// Writes the SACK of what came to the front of the buffer, with the window as its credit: first as many gap ack blocks as there is room
-/// for, then as many duplicates, which are forgotten; the other duplicates are kept for the next SACK. `written` becomes its length, a
-/// multiple of four, 16 to 65,532. Refuses with `SCTPR_SHORT_BUFFER` under 16 bytes, and with `SCTPR_NO_MEMORY`; `out` and `written`
-/// stay then.
+/// for, then as many duplicates, which are forgotten; the others are kept for the next SACK. `written` becomes its length, a multiple of
+/// four, 16 to 65,532. Refuses with `SCTPR_SHORT_BUFFER` under 16 bytes, and with `SCTPR_NO_MEMORY`.
 #[unsafe(no_mangle)]
 pub extern "C" fn sctpr_receiver_sack(
     alloc: Global,

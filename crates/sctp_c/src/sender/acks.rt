@@ -149,12 +149,9 @@ fn take_sack(
     }
 }
 
-/// Takes the bytes of a SACK chunk (RFC 4960 6.2.1). `SCTPR_OK`: `count` becomes how many chunks it reports anew, and the first so many
-/// `rows` tell of them, in the order of their TSNs; where there are no rows at all, none is told. `SCTPR_STALE`: its cumulative TSN is
-/// before the last one that was acknowledged; `count` becomes 0, and nothing else changed. Refuses with `SCTPR_SHORT_BUFFER`, where there
-/// are rows, but fewer than chunks in flight, so that no row is lost: `count` becomes how many are wanted; with the codes of bytes that
-/// are no SACK; with `SCTPR_SACK_BEYOND_SENT` and `SCTPR_SACK_BAD_GAP`, where it reports what is not in flight; and with
-/// `SCTPR_NO_MEMORY`. `rows` stay then, and `count` too but for the first.
+/// Takes a SACK, of which these are the bytes. `SCTPR_OK`: `count` becomes how many chunks it reports anew, and the first so many `rows`
+/// tell of them. `SCTPR_STALE`: it is out of date; `count` becomes 0. `SCTPR_SHORT_BUFFER`: there are rows, but fewer than chunks in
+/// flight, which `count` becomes. Or a code of bytes that are no SACK, `SCTPR_SACK_BEYOND_SENT`, `SCTPR_SACK_BAD_GAP`, `SCTPR_NO_MEMORY`.
 #[unsafe(no_mangle)]
 pub extern "C" fn sctpr_sender_acked(
     alloc: Global,
@@ -225,11 +222,9 @@ pub extern "C" fn sctpr_sender_acked_up_to(
     take_sack(own, &sack, rows, count)
 }
 
-/// Takes back what a SACK, of which these are the bytes, no longer reports (RFC 4960 6.2.1 D iv), and nothing past its last gap ack
-/// block (6.7): such a chunk is outstanding again, with its bytes. Call it before `sctpr_sender_acked` with the same SACK. `SCTPR_OK`:
-/// `count` becomes how many chunks come back, and the first so many `rows` tell of them, in the order of their TSNs; none, where the
-/// sender does not keep what is reported. `SCTPR_STALE` and the refusals are those of `sctpr_sender_acked`; and `SCTPR_QUEUE_FULL`,
-/// where all bytes would be more than the greatest `size_t`.
+/// Takes back what a SACK no longer reports (RFC 4960 6.2.1 D iv), up to its last gap ack block (6.7): such a chunk is outstanding again.
+/// Call it before `sctpr_sender_acked` with the same SACK. `count` becomes how many chunks come back, and the first so many `rows` tell of
+/// them. Codes are those of `sctpr_sender_acked`; and `SCTPR_QUEUE_FULL`, where all bytes would be more than the greatest `size_t`.
 #[unsafe(no_mangle)]
 pub extern "C" fn sctpr_sender_take_back(
     alloc: Global,

@@ -38,9 +38,8 @@ fn want_forward_tsn(own: &Sender, written: &mut usize) -> u32
 }
 
 /// Writes the FORWARD-TSN that is to be sent to the front of the buffer (RFC 3758 3.5 C3, C4): up to the advanced ack point, or as far as
-/// its names fit the buffer. `written` becomes its length, a multiple of four. `SCTPR_NOTHING`: there is nothing to tell. Refuses with
-/// `SCTPR_SHORT_BUFFER`, where nothing of it fits: `written` becomes the length of all of it then, or the greatest one that a chunk may
-/// have; and with `SCTPR_NO_MEMORY`. `out` stays, but with `SCTPR_OK`.
+/// its names fit. `SCTPR_NOTHING`: there is nothing to tell. Refuses with `SCTPR_SHORT_BUFFER`, where nothing of it fits: `written` becomes
+/// the length of all of it, or the greatest one that a chunk may have; and with `SCTPR_NO_MEMORY`.
 #[unsafe(no_mangle)]
 pub extern "C" fn sctpr_sender_forward_tsn(
     alloc: Global,
@@ -77,10 +76,9 @@ pub extern "C" fn sctpr_sender_forward_tsn(
     }
 }
 
-/// Writes the FORWARD-TSN up to a TSN, or to the last TSN before it at which a message ends, to the front of the buffer (RFC 3758 3.5
-/// C4). `SCTPR_NOTHING`: no message ends up to there, or the TSN is not past what is acknowledged, or is beyond the advanced ack point.
-/// Refuses with `SCTPR_SHORT_BUFFER`, where the buffer is shorter: `written` is what is wanted then; with `SCTPR_LENGTH_TOO_LARGE`, where
-/// it names more than 16,381 streams, and with `SCTPR_NO_MEMORY`. `out` stays, but with `SCTPR_OK`.
+/// Writes the FORWARD-TSN up to a TSN, or to the last TSN before it at which a message ends (RFC 3758 3.5 C4). `SCTPR_NOTHING`: no message
+/// ends up to there, or the TSN is not past what is acknowledged, or is beyond the advanced ack point. Refuses with `SCTPR_SHORT_BUFFER`:
+/// `written` is what is wanted; with `SCTPR_LENGTH_TOO_LARGE` more than 16,381 streams; and with `SCTPR_NO_MEMORY`.
 #[unsafe(no_mangle)]
 pub extern "C" fn sctpr_sender_forward_tsn_to(
     alloc: Global,

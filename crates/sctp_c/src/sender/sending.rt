@@ -72,9 +72,7 @@ fn next_chunk(sender: &Sender) -> Result<Option<ChunkPayloadData>>
 
 /// Puts the fragment that is next in flight under the next TSN, which `tsn` becomes, and writes its DATA chunk with its padding to the
 /// front of the buffer; lifetimes start. `written` becomes how many bytes that are. `SCTPR_NOTHING`: nothing waits. Refuses with
-/// `SCTPR_SHORT_BUFFER`, where the buffer is shorter: `written` is what is wanted then; with `SCTPR_TSNS_USED_UP`, where 2^31 - 1 chunks
-/// are in flight, with `SCTPR_SSNS_USED_UP`, where the number of the ordered message is 2^14 past that of the first one of its stream in
-/// flight, and with `SCTPR_NO_MEMORY`. `out` and `tsn` stay, but with `SCTPR_OK`.
+/// `SCTPR_SHORT_BUFFER`: `written` is what is wanted; with `SCTPR_TSNS_USED_UP`, `SCTPR_SSNS_USED_UP` and `SCTPR_NO_MEMORY`.
 #[unsafe(no_mangle)]
 #[tactic(auto, using(crate::proofs::DataSent::sends))]
 pub extern "C" fn sctpr_sender_send_next(
@@ -126,9 +124,8 @@ pub extern "C" fn sctpr_sender_send_next(
 }
 
 /// Sends the chunk in flight with a TSN again: writes it with its padding to the front of the buffer, counts that, notes `now`, and takes
-/// its mark. `written` becomes how many bytes that are. Refuses with `SCTPR_SHORT_BUFFER`, where the buffer is shorter: `written` is what
-/// is wanted then; with `SCTPR_NOT_IN_FLIGHT`, where none is, or it is acknowledged or abandoned; and with `SCTPR_NO_MEMORY`. `out` stays,
-/// but with `SCTPR_OK`.
+/// its mark. `written` becomes how many bytes that are. Refuses with `SCTPR_SHORT_BUFFER`: `written` is what is wanted; with
+/// `SCTPR_NOT_IN_FLIGHT`, where none is, or it is acknowledged or abandoned; and with `SCTPR_NO_MEMORY`.
 #[unsafe(no_mangle)]
 pub extern "C" fn sctpr_sender_resend(
     sender: &mut SctpSender,

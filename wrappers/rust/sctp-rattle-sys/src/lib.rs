@@ -162,7 +162,7 @@ pub const SCTPR_ERR_INVALID_ALGORITHM_TYPE: sctpr_code = 87;
 pub const SCTPR_ERR_SUPPORTED_ADDRESS_TYPES_PARAM_INVALID_LENGTH: sctpr_code = 88;
 /// Not answered by a call of this library: the message is longer than the buffer, which is filled with the message's beginning.
 pub const SCTPR_ERR_SHORT_BUFFER: sctpr_code = 89;
-/// It can't be written as it was given: a chunk whose value is read as another one, or a payload type that has no name here.
+/// It can't be written as it was given: a chunk whose value is read as another one, or a message whose payload type has no name here.
 pub const SCTPR_NOT_AS_GIVEN: sctpr_code = 90;
 pub const SCTPR_DATA: u32 = 0;
 pub const SCTPR_INIT: u32 = 1;
@@ -254,7 +254,8 @@ pub struct sctpr_any_chunk {
     pub is_reported: u8,
 }
 
-/// A DATA chunk (RFC 4960 3.3.1); its user data are `length` bytes from byte 16 of the chunk on. Flags are 0 or 1.
+/// A DATA chunk (RFC 4960 3.3.1); its user data are `length` bytes from byte 16 of the chunk on, its payload type is any number, as it came.
+/// Flags are 0 or 1.
 #[derive(Clone, Copy, Debug, Default, PartialEq, Eq)]
 #[repr(C)]
 pub struct sctpr_data {
@@ -516,10 +517,10 @@ extern "C" {
 
     /// A chunk of a type and a value, its flags 0, of any type that is read (RFC 4960 3.2, 3.3). It is read before it is written, so that no
     /// chunk comes out that a reader refuses: else the reader's error. SCTPR_NOT_AS_GIVEN, where what is read has another value: bytes behind
-    /// its end, a payload type or a result of a RE-CONFIG that has no name here. The padding of the last item may stand in the value; the
-    /// chunk's length does not count it. A RE-CONFIG with a request of the types 14, 15, 17 and 18 is written, though sctpr_read_packet refuses
-    /// it: with one of them, with 13 before 14, or with 17 before 18 (RFC 6525 3.1). SCTPR_LENGTH_TOO_LARGE of more than 65,531 bytes.
-    /// SCTPR_NO_MEMORY.
+    /// its end, or a result of a RE-CONFIG that has no name here. A DATA chunk is written with any payload type. The padding of the last item
+    /// may stand in the value; the chunk's length does not count it. A RE-CONFIG with a request of the types 14, 15, 17 and 18 is written,
+    /// though sctpr_read_packet refuses it: with one of them, with 13 before 14, or with 17 before 18 (RFC 6525 3.1). SCTPR_LENGTH_TOO_LARGE of
+    /// more than 65,531 bytes. SCTPR_NO_MEMORY.
     pub fn sctpr_write_chunk(type_: u8, value: *const u8, length: usize, out: *mut u8, room: usize, written: *mut usize) -> sctpr_code;
 
     /// The same with flags, as they are given: SCTPR_FLAG_T, and those of DATA (3.3.1).
@@ -606,8 +607,8 @@ extern "C" {
     /// The same, but what it names on a stream that is not open is passed over, as is right of one that was closed on purpose.
     pub fn sctpr_receiver_forward_tsn_past_closed(receiver: *mut sctpr_receiver, chunk: *const u8, length: usize) -> sctpr_code;
 
-    /// Tells the next message of a stream, and takes nothing out: `size` becomes its length in bytes, `payload_type` its payload type.
-    /// SCTPR_NOTHING: there is none. SCTPR_STREAM_UNKNOWN. Both stay, but with SCTPR_OK.
+    /// Tells the next message of a stream, and takes nothing out: `size` becomes its length in bytes, `payload_type` its payload type, any
+    /// number, as it came with its first fragment. SCTPR_NOTHING: there is none. SCTPR_STREAM_UNKNOWN. Both stay, but with SCTPR_OK.
     pub fn sctpr_receiver_next_length(receiver: *const sctpr_receiver, stream: u16, size: *mut usize, payload_type: *mut u32) -> sctpr_code;
 
     /// Takes the next message of a stream out and copies it to the front of the buffer: an unordered one, else the ordered one that is due.

@@ -64,6 +64,7 @@ fn chunks_are_read() {
     let data = read_data(b"\0\x03\0\x12\0\0\0\x01\0\x02\0\x03\0\0\0\x33hi").unwrap();
     assert_eq!((data.tsn, data.stream, data.sequence, data.payload_type), (1, 2, 3, ppid::STRING));
     assert!(data.begins && data.ends && !data.is_unordered && !data.wants_sack && data.user_data == b"hi");
+    assert_eq!(read_data(b"\0\x03\0\x12\0\0\0\x01\0\x02\0\x03\0\0\0\x2ehi").unwrap().payload_type, 46);
     assert_eq!(read_data(b"\x03\0\0\x04"), Err(Error::ErrChunkTypeNotPayloadData));
     assert_eq!((read_shutdown(b"\x07\0\0\x08\0\0\x03\xe8"), read_shutdown(b"")), (Ok(1000), Err(Error::ErrChunkHeaderTooSmall)));
     let (mut params, mut chunk) = ([0; 12], [0; 64]);
