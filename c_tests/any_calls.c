@@ -440,7 +440,7 @@ static sctpr_code sender_set(struct host *h) {
     case 0: code = sctpr_sender_set_fragment_size(&h->sender, any(8) ? any(1200) : any(70000)); break;
     case 1: code = sctpr_sender_set_low_threshold(&h->sender, a_stream(), any(2000)); break;
     case 2: code = sctpr_sender_reset(&h->sender, a_stream()); break;
-    default: code = sctpr_sender_set_mode(&h->sender, a_stream(), (uint8_t)any(3), any(4), any(40)); break;
+    default: code = sctpr_sender_set_mode(&h->sender, a_stream(), (uint8_t)any(3), any(4), any(2) ? any(40) : 59 + any(5)); break;
     }
     ONE_OF(code, 0, SCTPR_OK, SCTPR_INVALID, SCTPR_STREAM_UNKNOWN, SCTPR_STREAM_BUSY);
     return code;
@@ -451,13 +451,13 @@ static sctpr_code sender_write(struct host *h) {
     uint64_t number = 7;
     static const uint32_t types[] = { SCTPR_PPID_DCEP, SCTPR_PPID_STRING, SCTPR_PPID_BINARY, SCTPR_PPID_STRING_EMPTY, SCTPR_PPID_BINARY_EMPTY,
                                       SCTPR_PPID_OTHER };
-    uint32_t type = any(8) ? types[any(6)] : 59 + any(1000);
+    uint32_t type = any(8) ? types[any(6)] : 59 + any(5);
     if (sctpr_sender_pending(&h->sender) > 4000) return SCTPR_OK;
     uint8_t *message = lend(length);
     sctpr_code code = sctpr_sender_write(&h->sender, a_stream(), type, message, length, &number, &fragments);
     ONE_OF(code, 0, SCTPR_OK, SCTPR_NOTHING, SCTPR_STREAM_UNKNOWN, SCTPR_NOT_AS_GIVEN, SCTPR_MESSAGE_TOO_LARGE, SCTPR_QUEUE_FULL,
            SCTPR_NO_MEMORY);
-    HOLDS(code != SCTPR_NOT_AS_GIVEN || type > SCTPR_PPID_OTHER);
+    HOLDS(code != SCTPR_NOT_AS_GIVEN || type >= SCTPR_PPID_OTHER);
     HOLDS(code == SCTPR_OK ? fragments >= 1 : number == 7 && fragments == 7);
     take_back(message, 0, length);
     return code;

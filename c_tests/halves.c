@@ -46,8 +46,8 @@ static void freed(void) {
     CHECK(sender.at == NULL && receiver.at == NULL);
 }
 
-/* What would be a trap is refused: a window in which a message of 65,536 bytes, two chunks, never fits; a payload type that no message can
- * carry; and a write to a stream that is not open, before memory is asked for. */
+/* What would be a trap is refused: a window in which a message of 65,536 bytes, two chunks, never fits; a payload type that the mode of the
+ * stream does not name; and a write to a stream that is not open, before memory is asked for. */
 static void traps(void) {
     size_t fragments = 5;
     uint64_t number = 5;
@@ -59,6 +59,9 @@ static void traps(void) {
     sctpr_receiver_free(&receiver);
     open_both(1000, 1000);
     WITHOUT_MEMORY(sctpr_sender_write(&sender, 4, SCTPR_PPID_BINARY, (const uint8_t *)"a", 1, &number, &fragments), SCTPR_STREAM_UNKNOWN);
+    WITHOUT_MEMORY(sctpr_sender_write(&sender, 3, 99, (const uint8_t *)"a", 1, &number, &fragments), SCTPR_NOT_AS_GIVEN);
+    WITHOUT_MEMORY(sctpr_sender_write(&sender, 3, SCTPR_PPID_OTHER, (const uint8_t *)"a", 1, &number, &fragments), SCTPR_NOT_AS_GIVEN);
+    CHECK(sctpr_sender_set_mode(&sender, 3, 0, SCTPR_REXMIT, 99) == SCTPR_OK);
     WITHOUT_MEMORY(sctpr_sender_write(&sender, 3, 99, (const uint8_t *)"a", 1, &number, &fragments), SCTPR_NOT_AS_GIVEN);
     CHECK(number == 5 && fragments == 5 && sctpr_sender_pending(&sender) == 0);
     TRY(sctpr_sender_write(&sender, 3, SCTPR_PPID_OTHER, (const uint8_t *)"a", 1, &number, &fragments), SCTPR_OK, number == 5);
@@ -164,6 +167,32 @@ static void any_payload_type(void) {
     free_both();
 }
 
+/* Messages are sent, and sent again, with the payload type that the mode of their stream named when they were written; 0 at first. */
+static void sends_any_payload_type(void) {
+    static const uint32_t types[] = { 0, 46, 0xffffffffu, SCTPR_PPID_OTHER, SCTPR_PPID_STRING };
+    uint8_t chunk[64];
+    size_t i, n = 0, fragments = 0;
+    uint32_t tsn = 0;
+    uint64_t number = 0;
+    struct sctpr_data data;
+    struct sctpr_in_flight row;
+    open_both(1000, 1000);
+    for (i = 0; i < 5; i++) {
+        if (i > 0) CHECK(sctpr_sender_set_mode(&sender, 3, 0, SCTPR_RELIABLE, types[i]) == SCTPR_OK);
+        TRY(sctpr_sender_write(&sender, 3, types[i], (const uint8_t *)"a", 1, &number, &fragments), SCTPR_OK, fragments == (i > 0));
+    }
+    for (i = 0; i < 5; i++) {
+        TRY(sctpr_sender_send_next(&sender, 5, chunk, sizeof chunk, &n, &tsn), SCTPR_OK, 1);
+        CHECK(n == 20 && sctpr_read_data(chunk, n, &data) == SCTPR_OK && data.payload_type == types[i] && data.tsn == 1000 + i);
+    }
+    for (i = 0; i < 5; i++) {
+        TRY(sctpr_sender_resend(&sender, 1000 + (uint32_t)i, 9, chunk, sizeof chunk, &n), SCTPR_OK, 1);
+        CHECK(sctpr_read_data(chunk, n, &data) == SCTPR_OK && data.payload_type == types[i]);
+        CHECK(sctpr_sender_in_flight(&sender, 1000 + (uint32_t)i, &row) == SCTPR_OK && row.payload_type == types[i]);
+    }
+    free_both();
+}
+
 /* A message runs out of sendings; a FORWARD-TSN takes the receiver past it. */
 static void abandoned(void) {
     uint8_t chunk[64], forward[64], complete = 7;
@@ -223,6 +252,7 @@ int main(void) {
     refused();
     goes_over();
     any_payload_type();
+    sends_any_payload_type();
     abandoned();
     expired();
     return report("halves");

@@ -131,6 +131,9 @@ void reconfig() {
     CHECK(is_refused(sctpr::receiver::make(1, 65536, 66335, 9), sctpr::code::invalid));
     auto s = *sctpr::sender::make(1, 10, 100);
     CHECK(s.open(3) && is_refused(s.write(3, 99, bytes_of("a", 1)), sctpr::code::not_as_given));
+    std::array<std::uint8_t, 20> chunk{};
+    CHECK(s.set_mode(3, false, sctpr::reliability::reliable, 99) && s.write(3, 99, bytes_of("a", 1)) && s.send_next(1, chunk));
+    CHECK(sctpr::read_data(chunk)->payload_type == 99 && s.in_flight(1)->payload_type == 99);
 }
 
 /** A message of three chunks goes over, its middle one late. */

@@ -177,7 +177,7 @@ enum class code : sctpr_code {
     err_supported_address_types_param_invalid_length = SCTPR_ERR_SUPPORTED_ADDRESS_TYPES_PARAM_INVALID_LENGTH,
     /** Not answered by a call of this library: the message is longer than the buffer, which is filled with the message's beginning. */
     err_short_buffer = SCTPR_ERR_SHORT_BUFFER,
-    /** It can't be written as it was given: a chunk whose value is read as another one, or a message whose payload type has no name here. */
+    /** It can't be written as it was given: a chunk whose value is read as another one, or a message whose payload type its stream can't have. */
     not_as_given = SCTPR_NOT_AS_GIVEN,
 };
 

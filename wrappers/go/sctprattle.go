@@ -105,7 +105,8 @@ const (
 // FlagT is the flag T of an ABORT or SHUTDOWN-COMPLETE (RFC 4960 3.3.7, 3.3.13, 8.5.1).
 const FlagT = uint8(C.SCTPR_FLAG_T)
 
-// What user data are (RFC 8831 8). Any number is read as it came (RFC 9260 3.3.1); a Sender's message has one of these.
+// What user data are (RFC 8831 8). Any number is read as it came (RFC 9260 3.3.1). A Sender sends the first five, and on a reliable stream the
+// number that its mode names.
 const (
 	PPIDDCEP        = uint32(C.SCTPR_PPID_DCEP)
 	PPIDString      = uint32(C.SCTPR_PPID_STRING)

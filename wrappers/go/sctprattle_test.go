@@ -159,6 +159,14 @@ func TestReconfig(t *testing.T) {
 	must(t, s.Open(3))
 	_, _, err = s.Write(3, 99, []byte("a"))
 	is(t, err, CodeNotAsGiven)
+	must(t, s.SetMode(3, false, Reliable, 99))
+	_, _, err = s.Write(3, 99, []byte("a"))
+	must(t, err)
+	chunk := make([]byte, 20)
+	_, _, err = s.SendNext(1, chunk)
+	must(t, err)
+	data, err := ReadData(chunk)
+	check(t, "any payload type", err == nil && data.PayloadType == 99)
 }
 
 func halves(t *testing.T) (*Sender, *Receiver) {

@@ -116,7 +116,8 @@ func (s *Sender) CloseStream(stream uint16) error {
 	return nil
 }
 
-// SetMode sets the mode of later writes to a stream. Value counts sendings or milliseconds.
+// SetMode sets the mode of later writes to a stream. Value counts sendings or milliseconds; of a reliable one it is the payload type that
+// messages may have beside the five (RFC 9260 3.3.1).
 func (s *Sender) SetMode(stream uint16, unordered bool, reliability Reliability, value uint32) error {
 	if !s.isOpen() {
 		return ErrClosed

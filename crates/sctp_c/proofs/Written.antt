@@ -64,3 +64,10 @@ framed_refusal typ flags value end code within (inr (inr (inl short))) some long
 framed_refusal typ flags value end code within (inr (inr (inr is))) some long large =
     let most : 65531 < length value = omega (arith, large is, length-take-le end value within) in
     record { error = ErrLengthTooLarge; number = is; fault = inr (inl (refl, most)) }
+
+-- the same of a whole value
+pub whole_refusal : (typ flags : ℕ) (value : List ℕ) (code : ℕ) → (code ≡ 0) ⊎ ((code ≡ 16) ⊎ ((code ≡ 17) ⊎ (code ≡ 19))) → code ≢ 0 → code ≢ 17
+    → (code ≡ 19 → 65531 < length value) → IsRefusal (FlaggedChunkFault typ flags value) code
+whole_refusal typ flags value code codes some long large =
+    framed_refusal typ flags value (length value) code (omega arith) codes some long
+    (λ is. omega (arith, large is, length-take-le (length value) value (omega arith)))

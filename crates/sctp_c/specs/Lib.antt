@@ -12,6 +12,7 @@ pub mod Names
 pub mod Out
 pub mod OwnedReceiver
 pub mod OwnedSender
+pub mod PayloadTypes
 pub mod Receiving
 pub mod Reconfig
 pub mod Refusal

@@ -1,7 +1,6 @@
 -- What a caller in C is told of chunks and messages: a row for each.
 use Rattle.std.specs.Prelude.{length, is_some}
 use Rattle.sctp_data.specs.declared.chunk.chunk_payload_data.ChunkPayloadData.{ChunkPayloadData}
-use Rattle.sctp_data.specs.PayloadData.{payload_type_number}
 use Rattle.sctp_outbound.specs.declared.payload_queue.outstanding.Outstanding.{Outstanding}
 use Rattle.sctp_sender.specs.declared.sender.flight.Released.{Released}
 use Rattle.sctp_sender.specs.declared.sender.flight.kept.TakenBack.{TakenBack}
@@ -12,6 +11,7 @@ use Rattle.sctp_c.specs.declared.sender.acks.SctpTakenBack.{SctpTakenBack}
 use Rattle.sctp_c.specs.declared.sender.queries.SctpInFlight.{SctpInFlight}
 use Rattle.sctp_c.specs.declared.sender.queries.SctpOutstanding.{SctpOutstanding}
 use Rattle.sctp_c.specs.Flags.{flag, moment}
+use Rattle.sctp_c.specs.PayloadTypes.{type_sent}
 
 -- of what is outstanding
 abbrev pub outstanding_row : Outstanding → SctpOutstanding
@@ -57,7 +57,7 @@ in_flight_row c = record {
   sent_at = moment c.since;
   tsn = c.tsn;
   sent = c.nsent;
-  payload_type = payload_type_number c.payload_type;
+  payload_type = type_sent c;
   stream = c.stream_identifier;
   sequence = c.stream_sequence_number;
   is_unordered = flag c.unordered;

@@ -1,11 +1,10 @@
 -- What the calls of a sender answer a caller in C.
-use Rattle.std.specs.Prelude.{◌≡◌, ◌⊎◌, ℕ, ◌==◌, true, if◌then◌else◌, List, length, Option, Some, None, option_map}
+use Rattle.std.specs.Prelude.{◌≡◌, ◌⊎◌, ℕ, ◌==◌, true, if◌then◌else◌, List, length, All, Option, Some, None, option_map}
 use Rattle.std.specs.List.{find}
-use Rattle.sctp_chunks.specs.Wire.{encoding_of, data_chunk}
 use Rattle.sctp_data.specs.declared.chunk.chunk_payload_data.ChunkPayloadData.{ChunkPayloadData}
 use Rattle.sctp_data.specs.declared.chunk.chunk_payload_data.ReliabilityType.{ReliabilityType}
 use Rattle.sctp_data.specs.declared.chunk.chunk_payload_data.ReliabilityType.TheVariants.{Reliable, Rexmit, Timed}
-use Rattle.sctp_data.specs.PayloadData.{Data, data_of, payload_type_from, payload_type_number}
+use Rattle.sctp_data.specs.PayloadData.{payload_type_from}
 use Rattle.sctp_outbound.specs.outbound_queue.OutboundQueue.{sent_next}
 use Rattle.sctp_outbound.specs.pending_queue.PendingQueue.{next_pending}
 use Rattle.sctp_sender.specs.declared.sender.refusal.SenderRefusal.{SenderRefusal}
@@ -18,6 +17,7 @@ use Rattle.sctp_serial.specs.DataChunks.{has_tsn}
 use Rattle.sctp_stream.specs.declared.outbound_stream.OutboundStream.{OutboundStream}
 use Rattle.sctp_c.specs.Out.{at_front, padded}
 use Rattle.sctp_c.specs.Codes.{sender_code}
+use Rattle.sctp_c.specs.PayloadTypes.{as_sent, sent_type, type_sent}
 
 -- the code of a refusal for a reason, or for want of memory where there is none
 abbrev pub sender_code_for : Option SenderRefusal → ℕ
@@ -36,15 +36,17 @@ reliability_named n =
 
 -- ## Writing
 
--- the payload type that a message has, of which this number was given
-abbrev pub carries : ℕ → ℕ
-carries n = payload_type_number (payload_type_from n)
+-- the payload type that a message of a stream is sent with, of which this number was given
+abbrev pub carries : ℕ → OutboundStream → ℕ
+carries n l = sent_type (payload_type_from n) (Some (l.reliability_type, l.reliability_value))
 
--- the fragments of the message wait; its number, and how many they are, are told
+-- the fragments of the message wait, each with the payload type that was given; its number, and how many they are, are told
 pub record Writes (stream payload_type : ℕ) (bytes : List ℕ) (number fragments : ℕ)
     (old new : Transmission) : Type 0 where
   pub state : OutboundStream
   pub found : stream_of stream old ≡ Some state
+  pub typed : All (λ c. type_sent c ≡ payload_type)
+      (fragments_with_mode state (payload_type_from payload_type) bytes)
   pub after : new ≡ written_to state stream (payload_type_from payload_type) bytes old
   pub message : number ≡ old.flight.queue.next_message_id
   pub count : fragments
@@ -52,12 +54,12 @@ pub record Writes (stream payload_type : ℕ) (bytes : List ℕ) (number fragmen
 
 -- ## Sending
 
--- the chunk with a TSN, and as it is written so
-abbrev pub with_tsn : ℕ → ChunkPayloadData → Data
-with_tsn tsn c = record (data_of c) { tsn = tsn }
+-- the chunk with a TSN, and as it is sent so
+abbrev pub with_tsn : ℕ → ChunkPayloadData → ChunkPayloadData
+with_tsn tsn c = record c { tsn = tsn }
 
-abbrev pub encoding_with : ℕ → ChunkPayloadData → List ℕ
-encoding_with tsn c = encoding_of (data_chunk (with_tsn tsn c))
+abbrev pub sent_with : ℕ → ChunkPayloadData → List ℕ
+sent_with tsn c = as_sent (with_tsn tsn c)
 
 -- the fragment that is next is in flight under the next TSN, and lifetimes start
 abbrev pub after_send : ℕ → Transmission → Transmission
@@ -73,8 +75,8 @@ pub record Sends (now : ℕ) (out_old out_new : List ℕ) (written tsn : ℕ)
   pub next : next_pending old.flight.queue.pending ≡ Some chunk
   pub accepted : send_refusal old.flight ≡ None
   pub number : tsn ≡ old.flight.next_tsn
-  pub bytes : out_new ≡ at_front (padded (encoding_with tsn chunk)) out_old
-  pub size : written ≡ length (padded (encoding_with tsn chunk))
+  pub bytes : out_new ≡ at_front (padded (sent_with tsn chunk)) out_old
+  pub size : written ≡ length (padded (sent_with tsn chunk))
   pub after : new ≡ after_send now old
 
 -- the chunk in flight with a TSN is sent again: it stands at the front of the buffer
@@ -83,6 +85,6 @@ pub record Resends (tsn now : ℕ) (out_old out_new : List ℕ) (written : ℕ)
   pub chunk : ChunkPayloadData
   pub held : find (has_tsn tsn) old.flight.queue.inflight.chunks ≡ Some chunk
   pub outstanding : can_resend tsn old.flight ≡ true
-  pub bytes : out_new ≡ at_front (padded (encoding_of (data_chunk (data_of chunk)))) out_old
-  pub size : written ≡ length (padded (encoding_of (data_chunk (data_of chunk))))
+  pub bytes : out_new ≡ at_front (padded (as_sent chunk)) out_old
+  pub size : written ≡ length (padded (as_sent chunk))
   pub after : new ≡ with_flight (resent_at tsn now chunk old.flight) old

@@ -3,20 +3,43 @@
 ghost use Rattle.std.specs.Prelude.{◌≡◌, ◌+◌, ◌≤◌, ◌<◌, ◌++◌, ◌∷◌, [], length, replicate, Some, None, IfSome};
 ghost use Rattle.sctp_util.specs.Field.{be16, be32};
 ghost use Rattle.sctp_c.specs.Out.{padded, at_front};
-ghost use Rattle.sctp_chunks.specs.Wire.{data_chunk, encoding_of};
-ghost use Rattle.sctp_data.specs.PayloadData.{data_flags, data_of, payload_type_number};
+ghost use Rattle.sctp_c.specs.PayloadTypes.{as_sent, sent_type, type_sent};
+ghost use Rattle.sctp_data.specs.PayloadData.{data_flags, data_of};
 
 use sctp_chunks::chunk::Chunk;
-use sctp_data::chunk::chunk_payload_data::ChunkPayloadData;
+use sctp_data::chunk::chunk_payload_data::{
+    ChunkPayloadData, PayloadProtocolIdentifier, ReliabilityType,
+};
 use sctp_util::util::get_padding_size;
 
 // The header of a DATA chunk and the numbers before its user data.
 const HEAD: usize = 16;
 
+/// The number that a payload type is sent with: one without a name is the value of a reliable mode (RFC 9260 3.3.1).
+pub fn sent_type(ppi: PayloadProtocolIdentifier, mode: Option<(ReliabilityType, u32)>) -> u32
+    ensures { result ≡ sent_type ppi mode }
+{
+    let number = ppi.number();
+    if number != 58 {
+        return number;
+    }
+    match mode {
+        Some((ReliabilityType::Reliable, value)) => value,
+        _ => 58,
+    }
+}
+
+/// The payload type that a chunk is sent with.
+pub fn type_sent(chunk: &ChunkPayloadData) -> u32
+    ensures { result ≡ type_sent chunk.now }
+{
+    sent_type(chunk.payload_type, chunk.reliability)
+}
+
 /// How many bytes a DATA chunk takes with its padding; None where its length is past 65,535.
-#[tactic(auto, unfolding(crate::specs::Out::padded, sctp_data::specs::PayloadData::data_value, sctp_util::specs::Field::be16, sctp_util::specs::Field::be32))]
+#[tactic(auto, unfolding(crate::specs::Out::padded, sctp_util::specs::Field::be16, sctp_util::specs::Field::be32))]
 pub fn data_size(chunk: &ChunkPayloadData) -> Option<usize>
-    ensures some { IfSome result (λ n. n ≡ length (padded (encoding_of (data_chunk (data_of chunk.now))))) }
+    ensures some { IfSome result (λ n. n ≡ length (padded (as_sent chunk.now))) }
     ensures short { IfSome result (λ _. length chunk.now.user_data ≤ 65519) }
     ensures none { result ≡ None → 65519 < length chunk.now.user_data }
 {
@@ -34,7 +57,7 @@ fn put_head(place: &mut [u8], chunk: &ChunkPayloadData)
     requires short { length chunk.now.user_data ≤ 65519 }
     ensures { place.new ≡ (0 ∷ data_flags (data_of chunk.now) ∷ []) ++ be16 (16 + length chunk.now.user_data)
         ++ be32 chunk.now.tsn ++ be16 chunk.now.stream_identifier
-        ++ be16 chunk.now.stream_sequence_number ++ be32 (payload_type_number chunk.now.payload_type) }
+        ++ be16 chunk.now.stream_sequence_number ++ be32 (type_sent chunk.now) }
 {
     let length = (HEAD + chunk.user_data.len()) as u16;
     let (kind, rest) = place.split_at_mut(2);
@@ -47,7 +70,7 @@ fn put_head(place: &mut [u8], chunk: &ChunkPayloadData)
     tsn.copy_from_slice(&u32::to_be_bytes(chunk.tsn));
     stream.copy_from_slice(&u16::to_be_bytes(chunk.stream_identifier));
     number.copy_from_slice(&u16::to_be_bytes(chunk.stream_sequence_number));
-    payload_type.copy_from_slice(&u32::to_be_bytes(chunk.payload_type.number()));
+    payload_type.copy_from_slice(&u32::to_be_bytes(type_sent(chunk)));
 }
 
 // Writes bytes at the front of the place, and so many zeros behind them.
@@ -62,13 +85,10 @@ fn put_behind(place: &mut [u8], bytes: &[u8], zeros: usize)
 
 /// Writes a DATA chunk at the front of the buffer, and zeros behind it up to a multiple of four. It takes no memory.
 /// Precondition: its length has 16 bits, and the buffer has room; `data_size` tells.
-#[tactic(auto, using(crate::proofs::DataOut::room, crate::proofs::DataOut::joined))]
 pub fn put_data(out: &mut [u8], chunk: &ChunkPayloadData)
     requires short { length chunk.now.user_data ≤ 65519 }
-    requires room { length (padded (encoding_of (data_chunk (data_of chunk.now))))
-        ≤ length out.old }
-    ensures { out.new
-        ≡ at_front (padded (encoding_of (data_chunk (data_of chunk.now)))) out.old }
+    requires room { length (padded (as_sent chunk.now)) ≤ length out.old }
+    ensures { out.new ≡ at_front (padded (as_sent chunk.now)) out.old }
 {
     let padding = get_padding_size(HEAD + chunk.user_data.len());
     let (head, rest) = out.split_at_mut(HEAD);

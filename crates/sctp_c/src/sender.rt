@@ -3,12 +3,13 @@
 //! A handle is one pointer. Each call says what it makes of the value behind it, which is a `Sender`, in that type's own words. A code of
 //! 16 or more is a refusal: the sender is as it was then. `now` is in nanoseconds from any one moment.
 
-ghost use Rattle.std.specs.Prelude.{◌≡◌, ◌≢◌, ◌<◌, ◌≤◌, ◌⊎◌, ◌==◌, not, false, Option, None, Some, length, option_map, if◌then◌else◌};
+ghost use Rattle.std.specs.Prelude.{◌≡◌, ◌≢◌, ◌<◌, ◌≤◌, ◌⊎◌, ◌==◌, not, false, true, Option, None, Some, length, option_map, IfSome, if◌then◌else◌};
 ghost use Rattle.std.specs.Borrow.{sem};
 ghost use Rattle.sctp_c.specs.OwnedSender.{sender_owns, sender_coded, new_sender_owns, new_sender_coded};
 ghost use Rattle.sctp_c.specs.Codes.{sender_code};
+ghost use Rattle.sctp_c.specs.PayloadTypes.{sent_type};
 ghost use Rattle.sctp_c.specs.Sending.{IsSenderCode, Writes, carries, reliability_named};
-ghost use Rattle.sctp_sender.specs.Sender.{Transmission, with_nothing, with_reported, is_open, open_stream, close_stream, with_mode_on, write_refusal};
+ghost use Rattle.sctp_sender.specs.Sender.{Transmission, with_nothing, with_reported, is_open, open_stream, close_stream, stream_of, with_mode_on, write_refusal};
 ghost use Rattle.sctp_sender.specs.Settings.{reset_on, reset_refusal, with_fragment_size, with_low_on};
 ghost use Rattle.sctp_sender.specs.declared.sender.Reported.TheVariants.{Drop, Keep};
 ghost use Rattle.sctp_sender.specs.declared.sender.refusal.SenderRefusal.TheVariants.{StreamOpen, OutOfMemory};
@@ -23,6 +24,7 @@ use crate::code::{
     SCTPR_INVALID, SCTPR_NO_MEMORY, SCTPR_NOT_AS_GIVEN, SCTPR_NOTHING, SCTPR_OK,
     SCTPR_STREAM_UNKNOWN, of_sender,
 };
+use crate::data_out::sent_type;
 use crate::parts::Parts;
 use bytes::Bytes;
 use sctp_data::chunk::chunk_payload_data::{PayloadProtocolIdentifier, ReliabilityType};
@@ -186,8 +188,8 @@ fn reliability_from(number: u32) -> Option<ReliabilityType>
 }
 
 /// Sets the mode of later writes to a stream; a DCEP message is ordered and reliable in any mode (RFC 8832 6). `unordered` is 0 for
-/// ordered. `reliability` is 0: reliable; 1: `value` counts the sendings of a chunk after the first; 2: `value` is a lifetime in
-/// milliseconds (RFC 3758 4.1, RFC 7496 3.1). Refuses another one with `SCTPR_INVALID`, and with `SCTPR_STREAM_UNKNOWN`.
+/// ordered. `reliability` is 0: reliable, `value` is a further payload type; 1: `value` counts the sendings of a chunk after the first; 2:
+/// it is a lifetime in milliseconds (RFC 3758 4.1, RFC 7496 3.1). Refuses another with `SCTPR_INVALID`, and with `SCTPR_STREAM_UNKNOWN`.
 #[unsafe(no_mangle)]
 pub extern "C" fn sctpr_sender_set_mode(
     sender: &mut SctpSender,
@@ -269,6 +271,20 @@ pub extern "C" fn sctpr_sender_reset(sender: &mut SctpSender, stream: u16) -> u3
     }
 }
 
+// The number that a message of a stream is sent with, if it is open.
+fn type_on(sender: &mut SctpSender, stream: u16, ppi: PayloadProtocolIdentifier) -> Option<u32>
+    ensures number { result ≡ option_map
+        (λ l. sent_type ppi (Some (l.reliability_type, l.reliability_value)))
+        (stream_of stream sender.old.value) }
+    ensures open { IfSome result (λ _. is_open stream sender.old.value ≡ true) }
+    ensures closed { result ≡ None → is_open stream sender.old.value ≡ false }
+    ensures same { sender.new.value ≡ sender.old.value }
+{
+    let state = sender.get_mut().stream(stream)?;
+    let mode = (state.reliability_type(), state.reliability_value());
+    Some(sent_type(ppi, Some(mode)))
+}
+
 /// Takes a copy of a message of one byte or more: its fragments wait. `number` becomes its number, `fragments` how many chunks it has.
 /// `SCTPR_NOTHING`: the message has no bytes, and nothing changed (RFC 8831 6.6 sends one byte in their place). Refuses with
 /// `SCTPR_STREAM_UNKNOWN`, before it takes memory, `SCTPR_NOT_AS_GIVEN`, `SCTPR_MESSAGE_TOO_LARGE`, `SCTPR_QUEUE_FULL` and `SCTPR_NO_MEMORY`.
@@ -289,18 +305,18 @@ pub extern "C" fn sctpr_sender_write(
     ensures codes { (result ≡ 0) ⊎ ((result ≡ 3) ⊎ (16 ≤ result)) }
     // It takes no memory then.
     ensures unknown { is_open stream sender.old.value ≡ false → result ≡ 23 }
-    ensures carried { result ≡ 0 → carries payload_type ≡ payload_type }
-    ensures changed { result ≡ 90 → carries payload_type ≢ payload_type }
+    ensures changed { result ≡ 90 → IfSome (stream_of stream sender.old.value)
+        (λ l. carries payload_type l ≢ payload_type) }
     ensures refused { 16 ≤ result → result ≢ 90 → IsSenderCode
         (write_refusal stream (length message.now) sender.old.value) result }
     ensures kept { result ≢ 0 → (sender.new.value ≡ sender.old.value)
         × ((number.new ≡ number.old) × (fragments.new ≡ fragments.old)) }
 {
-    if sender.get_mut().stream(stream).is_none() {
-        return SCTPR_STREAM_UNKNOWN;
-    }
     let ppi = PayloadProtocolIdentifier::from(payload_type);
-    if ppi.number() != payload_type {
+    let Some(carried) = type_on(sender, stream, ppi) else {
+        return SCTPR_STREAM_UNKNOWN;
+    };
+    if carried != payload_type {
         return SCTPR_NOT_AS_GIVEN;
     }
     let Ok(bytes) = Bytes::copy_from_slice(alloc, message) else {

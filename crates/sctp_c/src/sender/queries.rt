@@ -14,6 +14,7 @@ ghost use Rattle.sctp_serial.specs.DataChunks.{bytes_of, has_tsn};
 
 use super::SctpSender;
 use crate::code::{SCTPR_NOT_IN_FLIGHT, SCTPR_NOTHING, SCTPR_OK, SCTPR_STREAM_UNKNOWN};
+use crate::data_out::type_sent;
 use sctp_data::chunk::chunk_payload_data::ChunkPayloadData;
 use sctp_sender::replay;
 
@@ -31,7 +32,7 @@ pub struct SctpInFlight {
     pub tsn: u32,
     /// How often it was sent.
     pub sent: u32,
-    /// Its payload type.
+    /// The payload type that it is sent with.
     pub payload_type: u32,
     /// Its stream.
     pub stream: u16,
@@ -79,7 +80,7 @@ fn row_of(chunk: &ChunkPayloadData) -> SctpInFlight
         sent_at: moment_of(chunk.since),
         tsn: chunk.tsn,
         sent: chunk.nsent,
-        payload_type: chunk.payload_type.number(),
+        payload_type: type_sent(chunk),
         stream: chunk.stream_identifier,
         sequence: chunk.stream_sequence_number,
         is_unordered: chunk.unordered as u8,

@@ -3,9 +3,8 @@
 ghost use Rattle.std.specs.Prelude.{◌≡◌, ◌≢◌, ◌<◌, ◌≤◌, ◌⊎◌, ◌+◌, false, None, Some, find, length, option_map, if◌then◌else◌, IfOk, IsOkUnless};
 ghost use Rattle.sctp_util.specs.declared.error.Error.TheVariants.{ErrLengthTooLarge, ErrOutOfMemory};
 ghost use Rattle.sctp_c.specs.Out.{padded};
-ghost use Rattle.sctp_c.specs.Sending.{IsSenderCode, Sends, Resends, after_send, encoding_with, with_tsn};
-ghost use Rattle.sctp_chunks.specs.Wire.{data_chunk, encoding_of};
-ghost use Rattle.sctp_data.specs.PayloadData.{data_of};
+ghost use Rattle.sctp_c.specs.PayloadTypes.{as_sent};
+ghost use Rattle.sctp_c.specs.Sending.{IsSenderCode, Sends, Resends, after_send, sent_with, with_tsn};
 ghost use Rattle.sctp_outbound.specs.outbound_queue.OutboundQueue.{all_started};
 ghost use Rattle.sctp_outbound.specs.pending_queue.PendingQueue.{next_pending};
 ghost use Rattle.sctp_sender.specs.Flight.{can_resend, with_queue};
@@ -57,8 +56,7 @@ pub extern "C" fn sctpr_sender_add_miss_indications(sender: &mut SctpSender, bef
 
 // The fragment that is next, as it is written once it has the next TSN; None where nothing waits.
 fn next_chunk(sender: &Sender) -> Result<Option<ChunkPayloadData>>
-    ensures ok { IfOk result (λ r. option_map data_of r
-        ≡ option_map (with_tsn sender.now.flight.next_tsn)
+    ensures ok { IfOk result (λ r. r ≡ option_map (with_tsn sender.now.flight.next_tsn)
         (next_pending sender.now.flight.queue.pending)) }
     ensures memory { IsOkUnless result ErrOutOfMemory }
 {
@@ -91,7 +89,7 @@ pub extern "C" fn sctpr_sender_send_next(
     ensures reason { 16 ≤ result → result ≢ 17
         → (result ≡ 19) ⊎ IsSenderCode (send_refusal sender.old.value.flight) result }
     ensures short { result ≡ 17 → (length out.old < written.new) × (Some written.new ≡ option_map
-        (λ c. length (padded (encoding_with sender.old.value.flight.next_tsn c)))
+        (λ c. length (padded (sent_with sender.old.value.flight.next_tsn c)))
         (next_pending sender.old.value.flight.queue.pending)) }
     ensures kept { result ≢ 0 → (out.new ≡ out.old) × (tsn.new ≡ tsn.old) }
 {
@@ -141,7 +139,7 @@ pub extern "C" fn sctpr_sender_resend(
     ensures reason { 16 ≤ result → (result ≡ 16)
         ⊎ ((result ≡ 17) ⊎ ((result ≡ 19) ⊎ (result ≡ 27))) }
     ensures short { result ≡ 17 → (length out.old < written.new) × (Some written.new ≡ option_map
-        (λ c. length (padded (encoding_of (data_chunk (data_of c)))))
+        (λ c. length (padded (as_sent c)))
         (find (has_tsn tsn) sender.old.value.flight.queue.inflight.chunks)) }
     ensures kept { result ≢ 0 → (sender.new.value ≡ sender.old.value) × (out.new ≡ out.old) }
 {

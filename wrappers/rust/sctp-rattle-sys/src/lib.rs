@@ -162,7 +162,7 @@ pub const SCTPR_ERR_INVALID_ALGORITHM_TYPE: sctpr_code = 87;
 pub const SCTPR_ERR_SUPPORTED_ADDRESS_TYPES_PARAM_INVALID_LENGTH: sctpr_code = 88;
 /// Not answered by a call of this library: the message is longer than the buffer, which is filled with the message's beginning.
 pub const SCTPR_ERR_SHORT_BUFFER: sctpr_code = 89;
-/// It can't be written as it was given: a chunk whose value is read as another one, or a message whose payload type has no name here.
+/// It can't be written as it was given: a chunk whose value is read as another one, or a message whose payload type its stream can't have.
 pub const SCTPR_NOT_AS_GIVEN: sctpr_code = 90;
 pub const SCTPR_DATA: u32 = 0;
 pub const SCTPR_INIT: u32 = 1;
@@ -667,7 +667,7 @@ extern "C" {
 
     /// Takes a copy of a message of one byte or more: its fragments wait. `number` becomes its number, `fragments` how many chunks it has.
     /// SCTPR_NOTHING: the message has no bytes, and nothing changed (RFC 8831 6.6 sends one byte in their place). SCTPR_STREAM_UNKNOWN, before
-    /// it takes memory; SCTPR_NOT_AS_GIVEN of a payload type that is none of SCTPR_PPID_..; SCTPR_MESSAGE_TOO_LARGE, SCTPR_QUEUE_FULL,
+    /// it takes memory; SCTPR_NOT_AS_GIVEN of a payload type that the stream's mode does not name; SCTPR_MESSAGE_TOO_LARGE, SCTPR_QUEUE_FULL,
     /// SCTPR_NO_MEMORY. Both stay, but with SCTPR_OK.
     pub fn sctpr_sender_write(sender: *mut sctpr_sender, stream: u16, payload_type: u32, message: *const u8, length: usize, number: *mut u64, fragments: *mut usize) -> sctpr_code;
 

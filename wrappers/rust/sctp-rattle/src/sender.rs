@@ -18,6 +18,8 @@ unsafe impl Send for Sender {}
 pub enum Mode {
     /// Until it is acknowledged.
     Reliable,
+    /// As `Reliable`, and messages may have this payload type too (RFC 9260 3.3.1).
+    ReliableWith(u32),
     /// So often after the first sending.
     Rexmit(u32),
     /// So many milliseconds.
@@ -239,6 +241,7 @@ impl Sender {
     pub fn set_mode(&mut self, stream: u16, is_unordered: bool, mode: Mode) -> Result<()> {
         let (kind, value) = match mode {
             Mode::Reliable => (sys::SCTPR_RELIABLE, 0),
+            Mode::ReliableWith(payload_type) => (sys::SCTPR_RELIABLE, payload_type),
             Mode::Rexmit(times) => (sys::SCTPR_REXMIT, times),
             Mode::Timed(milliseconds) => (sys::SCTPR_TIMED, milliseconds),
         };

@@ -110,6 +110,11 @@ fn words_of_a_reconfig() {
     let mut s = Sender::new(1, 10, 100, false).unwrap();
     s.open(3).unwrap();
     assert_eq!(s.write(3, 99, b"a"), Err(Error::NotAsGiven));
+    s.set_mode(3, false, Mode::ReliableWith(99)).unwrap();
+    s.write(3, 99, b"a").unwrap();
+    let mut chunk = [0; 20];
+    s.send_next(1, &mut chunk).unwrap();
+    assert_eq!((read_data(&chunk).unwrap().payload_type, s.in_flight(1).unwrap().payload_type), (99, 99));
 }
 
 /// A message of three chunks goes over, its middle one late.
