@@ -1,5 +1,5 @@
 -- What the calls of a receiver answer a caller in C.
-use Rattle.std.specs.Prelude.{◌≡◌, ℕ, Bool, ◌^◌, ◌+◌, ◌-◌, ◌*◌, ◌/◌, ◌%◌, List, [], ◌∷◌, length, min, Option, Some, None}
+use Rattle.std.specs.Prelude.{◌≡◌, ℕ, Bool, ◌^◌, ◌-◌, ◌%◌, List, [], ◌∷◌, length, min, Option, Some, None}
 use Rattle.sctp_chunks.specs.Wire.{ReadsChunk, encoding_of, data_chunk, forward_tsn_chunk, sack_chunk}
 use Rattle.sctp_data.specs.ChunkSet.{ChunkSet, fresh}
 use Rattle.sctp_data.specs.ForwardTsn.{ForwardTsn}

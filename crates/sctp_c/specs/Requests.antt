@@ -1,5 +1,5 @@
 -- The requests of a RE-CONFIG as they are written (RFC 6525 3.1, 4.1, 4.2, 4.3, 4.5, 4.6).
-use Rattle.std.specs.Prelude.{◌≡◌, ℕ, ◌+◌, ◌-◌, ◌%◌, ◌<◌, Bool, true, ◌&&◌, ◌||◌, ◌==◌, nat_le, if◌then◌else◌, List, ◌++◌, length, take, drop}
+use Rattle.std.specs.Prelude.{ℕ, ◌+◌, ◌-◌, ◌%◌, Bool, ◌&&◌, ◌||◌, ◌==◌, nat_le, if◌then◌else◌, List, ◌++◌, length, drop}
 use Rattle.std.specs.List.{flat_map}
 use Rattle.sctp_util.specs.Field.{be16, be32}
 use Rattle.sctp_util.specs.Padding.{padded_length}
