@@ -1,0 +1,89 @@
+-- How an association begins: INIT and INIT ACK (RFC 9260 5.1, 5.2).
+use Rattle.std.specs.Prelude.{min, Option, Some, None}
+use Rattle.sctp_handshake.specs.declared.answer.AbortCause.TheVariants.{InvalidMandatoryParameter}
+use Rattle.sctp_handshake.specs.declared.answer.Reply.{Reply}
+use Rattle.sctp_handshake.specs.declared.answer.Reply.TheVariants as reply
+use Rattle.sctp_handshake.specs.declared.answer.Told.TheVariants as told
+use Rattle.sctp_handshake.specs.declared.machine.Fresh.{Fresh}
+use Rattle.sctp_handshake.specs.declared.machine.Machine.{Machine}
+use Rattle.sctp_handshake.specs.declared.offer.Offer.{Offer}
+use Rattle.sctp_handshake.specs.declared.offer.OfferFault.{OfferFault}
+use Rattle.sctp_handshake.specs.declared.offer.OfferFault.TheVariants.{NoTag, NoStreams, SmallWindow}
+use Rattle.sctp_handshake.specs.declared.state.State.{State}
+use Rattle.sctp_handshake.specs.declared.state.State.TheVariants.{Closed, CookieWait, CookieEchoed, Established}
+use Rattle.sctp_handshake.specs.declared.state.State.TheVariants.{ShutdownPending, ShutdownSent, ShutdownReceived, ShutdownAckSent}
+use Rattle.sctp_handshake.specs.declared.ticket.Ties.{Ties}
+use Rattle.sctp_handshake.specs.Answers.{replied, noticed, both}
+use Rattle.sctp_handshake.specs.Machines.{Step, dropped, answered, into, closed, ties_of}
+use Rattle.sctp_handshake.specs.Offers.{offer_fault}
+
+-- ## `connect` (RFC 9260 5.1 A)
+
+abbrev pub on_connect : Machine → Step
+on_connect m = record { machine = into CookieWait m; answer = replied reply.Init }
+
+-- ## `init`: it never changes anything
+
+-- the offer with a new tag and a new first TSN
+abbrev pub renewed : Fresh → Offer → Offer
+renewed fresh own = record own { tag = fresh.tag; first_tsn = fresh.first_tsn }
+
+-- the offer to one who takes fewer streams (RFC 9260 3.3.3: not more than the MIS of the INIT)
+abbrev pub fitted : Offer → Offer → Offer
+fitted peer own =
+    record own { outbound_streams = min own.outbound_streams peer.inbound_streams }
+
+abbrev pub init_ack_of : Offer → Offer → Option Ties → Option Reply
+init_ack_of own peer ties =
+    Some (reply.InitAck (record { own = fitted peer own; peer = peer; ties = ties }))
+
+-- Where an association stands, its tags tie the new one to it (RFC 9260 5.2.2); one that is being set up keeps its tag (5.2.1).
+abbrev pub init_row : State → Offer → Fresh → Machine → Option Reply
+init_row Closed peer fresh m = init_ack_of (renewed fresh m.own) peer None
+init_row CookieWait peer fresh m = init_ack_of m.own peer None
+init_row CookieEchoed peer fresh m = init_ack_of m.own peer (ties_of m)
+init_row Established peer fresh m = init_ack_of (renewed fresh m.own) peer (ties_of m)
+init_row ShutdownPending peer fresh m = init_ack_of (renewed fresh m.own) peer (ties_of m)
+init_row ShutdownSent peer fresh m = init_ack_of (renewed fresh m.own) peer (ties_of m)
+init_row ShutdownReceived peer fresh m = init_ack_of (renewed fresh m.own) peer (ties_of m)
+-- (RFC 9260 9.2)
+init_row ShutdownAckSent peer fresh m = Some reply.ShutdownAck
+
+-- an offer without a tag is dropped, another that can't stand is answered by an ABORT (RFC 9260 3.3.2)
+abbrev pub init_checked : Option OfferFault → Offer → Fresh → Machine → Option Reply
+init_checked None peer fresh m = init_row m.state peer fresh m
+init_checked (Some NoTag) peer fresh m = None
+init_checked (Some NoStreams) peer fresh m = Some (reply.Abort InvalidMandatoryParameter)
+init_checked (Some SmallWindow) peer fresh m = Some (reply.Abort InvalidMandatoryParameter)
+
+abbrev pub init_reply : Offer → Fresh → Machine → Option Reply
+init_reply peer fresh m = init_checked (offer_fault peer) peer fresh m
+
+-- ## `init_ack` (RFC 9260 5.1 C)
+
+-- the association is given up where the offer has no tag or no streams; a small window leaves it as it is (RFC 9260 3.3.3)
+abbrev pub init_ack_checked : Option OfferFault → Offer → Machine → Step
+init_ack_checked None peer m = record {
+  machine = record (into CookieEchoed m) { peer = Some peer };
+  answer = replied reply.CookieEcho;
+}
+init_ack_checked (Some NoTag) peer m = record { machine = closed m; answer = noticed told.Failed }
+init_ack_checked (Some NoStreams) peer m = record {
+  machine = closed m;
+  answer = both (reply.Abort InvalidMandatoryParameter) told.Failed;
+}
+init_ack_checked (Some SmallWindow) peer m = answered (reply.Abort InvalidMandatoryParameter) m
+
+-- it is expected in one state only (RFC 9260 5.2.3)
+abbrev pub init_ack_row : State → Offer → Machine → Step
+init_ack_row Closed peer m = dropped m
+init_ack_row CookieWait peer m = init_ack_checked (offer_fault peer) peer m
+init_ack_row CookieEchoed peer m = dropped m
+init_ack_row Established peer m = dropped m
+init_ack_row ShutdownPending peer m = dropped m
+init_ack_row ShutdownSent peer m = dropped m
+init_ack_row ShutdownReceived peer m = dropped m
+init_ack_row ShutdownAckSent peer m = dropped m
+
+abbrev pub on_init_ack : Offer → Machine → Step
+on_init_ack peer m = init_ack_row m.state peer m
