@@ -13,8 +13,8 @@ use Rattle.sctp_handshake.specs.declared.state.State.{State}
 use Rattle.sctp_handshake.specs.declared.state.State.TheVariants.{Closed, CookieWait, CookieEchoed, Established}
 use Rattle.sctp_handshake.specs.declared.state.State.TheVariants.{ShutdownPending, ShutdownSent, ShutdownReceived, ShutdownAckSent}
 use Rattle.sctp_handshake.specs.declared.ticket.Ties.{Ties}
-use Rattle.sctp_handshake.specs.Answers.{replied, noticed, both}
-use Rattle.sctp_handshake.specs.Machines.{Step, dropped, answered, into, closed, ties_of}
+use Rattle.sctp_handshake.specs.Answers.{replied, both}
+use Rattle.sctp_handshake.specs.Machines.{Step, dropped, answered, failed, into, closed, ties_of}
 use Rattle.sctp_handshake.specs.Offers.{offer_fault}
 
 -- ## `connect` (RFC 9260 5.1 A)
@@ -67,7 +67,7 @@ init_ack_checked None peer m = record {
   machine = record (into CookieEchoed m) { peer = Some peer };
   answer = replied reply.CookieEcho;
 }
-init_ack_checked (Some NoTag) peer m = record { machine = closed m; answer = noticed told.Failed }
+init_ack_checked (Some NoTag) peer m = failed m
 init_ack_checked (Some NoStreams) peer m = record {
   machine = closed m;
   answer = both (reply.Abort InvalidMandatoryParameter) told.Failed;

@@ -13,7 +13,7 @@ use Rattle.sctp_handshake.specs.declared.state.State.TheVariants.{ShutdownPendin
 use Rattle.sctp_handshake.specs.declared.ticket.Ticket.{Ticket}
 use Rattle.sctp_handshake.specs.declared.ticket.Ties.{Ties}
 use Rattle.sctp_handshake.specs.Answers.{replied, noticed, both}
-use Rattle.sctp_handshake.specs.Machines.{Step, dropped, answered, closed, ties_of}
+use Rattle.sctp_handshake.specs.Machines.{Step, dropped, answered, failed, ties_of}
 
 -- ## The table of RFC 9260 5.2.4
 
@@ -119,14 +119,15 @@ on_cookie_ack m = cookie_ack_row m.state m
 
 -- ## `stale_cookie` (RFC 9260 5.2.6)
 
+abbrev pub begun_again : Machine → Step
+begun_again m = record {
+  machine = record m { state = CookieWait; peer = None; attempts = 0; stale = m.stale + 1 };
+  answer = replied reply.Init;
+}
+
 -- the handshake begins again, as often as an INIT may be sent again
 abbrev pub retried : Machine → Step
-retried m =
-    if nat_lt m.stale m.limits.max_init_retransmits then
-    record {
-      machine = record m { state = CookieWait; peer = None; attempts = 0; stale = m.stale + 1 };
-      answer = replied reply.Init;
-    } else record { machine = closed m; answer = noticed told.Failed }
+retried m = if nat_lt m.stale m.limits.max_init_retransmits then begun_again m else failed m
 
 abbrev pub stale_cookie_row : State → Machine → Step
 stale_cookie_row Closed m = dropped m

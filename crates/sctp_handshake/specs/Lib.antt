@@ -6,3 +6,6 @@ pub mod Beginnings
 pub mod Cookies
 pub mod Endings
 pub mod Timeouts
+pub mod Histories
+pub mod Tickets
+pub mod Laws

@@ -2,6 +2,7 @@
 use Rattle.std.specs.Prelude.{◌≡◌, min, Bool, true, false, ◌&&◌, is_some, Option, Some, None}
 use Rattle.sctp_handshake.specs.declared.answer.Answer.{Answer}
 use Rattle.sctp_handshake.specs.declared.answer.Reply.{Reply}
+use Rattle.sctp_handshake.specs.declared.answer.Told.TheVariants as told
 use Rattle.sctp_handshake.specs.declared.machine.Agreed.{Agreed}
 use Rattle.sctp_handshake.specs.declared.machine.Limits.{Limits}
 use Rattle.sctp_handshake.specs.declared.machine.Machine.{Machine}
@@ -10,7 +11,7 @@ use Rattle.sctp_handshake.specs.declared.state.State.{State}
 use Rattle.sctp_handshake.specs.declared.state.State.TheVariants.{Closed, CookieWait, CookieEchoed, Established}
 use Rattle.sctp_handshake.specs.declared.state.State.TheVariants.{ShutdownPending, ShutdownSent, ShutdownReceived, ShutdownAckSent}
 use Rattle.sctp_handshake.specs.declared.ticket.Ties.{Ties}
-use Rattle.sctp_handshake.specs.Answers.{silent, replied}
+use Rattle.sctp_handshake.specs.Answers.{silent, replied, noticed}
 
 abbrev pub new_machine : Offer → Limits → Machine
 new_machine own limits =
@@ -75,6 +76,10 @@ dropped m = record { machine = m; answer = silent }
 -- it is answered, and nothing changes
 abbrev pub answered : Reply → Machine → Step
 answered r m = record { machine = m; answer = replied r }
+
+-- it ends the association, and the application is told that it failed
+abbrev pub failed : Machine → Step
+failed m = record { machine = closed m; answer = noticed told.Failed }
 
 -- a call took a step
 pub record Takes (s : Step) (new : Machine) (result : Answer) : Type 0 where

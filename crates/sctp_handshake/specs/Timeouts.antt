@@ -3,22 +3,22 @@ use Rattle.std.specs.Prelude.{ℕ, ◌+◌, Bool, true, false, nat_lt, if◌then
 use Rattle.sctp_handshake.specs.declared.answer.Answer.{Answer}
 use Rattle.sctp_handshake.specs.declared.answer.Reply.{Reply}
 use Rattle.sctp_handshake.specs.declared.answer.Reply.TheVariants as reply
-use Rattle.sctp_handshake.specs.declared.answer.Told.TheVariants as told
 use Rattle.sctp_handshake.specs.declared.machine.Machine.{Machine}
 use Rattle.sctp_handshake.specs.declared.state.State.{State}
 use Rattle.sctp_handshake.specs.declared.state.State.TheVariants.{Closed, CookieWait, CookieEchoed, Established}
 use Rattle.sctp_handshake.specs.declared.state.State.TheVariants.{ShutdownPending, ShutdownSent, ShutdownReceived, ShutdownAckSent}
-use Rattle.sctp_handshake.specs.Answers.{silent, replied, noticed}
-use Rattle.sctp_handshake.specs.Machines.{Step, dropped, closed}
+use Rattle.sctp_handshake.specs.Answers.{silent, replied}
+use Rattle.sctp_handshake.specs.Machines.{Step, dropped, failed}
 
 -- ## `timed_out`: the timer of the state ran out
 
+abbrev pub sent_again : Reply → Machine → Step
+sent_again r m =
+    record { machine = record m { attempts = m.attempts + 1 }; answer = replied r }
+
 -- it is sent again, at most so many times; then the association fails
 abbrev pub again : ℕ → Reply → Machine → Step
-again most r m =
-    if nat_lt m.attempts most then
-    record { machine = record m { attempts = m.attempts + 1 }; answer = replied r }
-    else record { machine = closed m; answer = noticed told.Failed }
+again most r m = if nat_lt m.attempts most then sent_again r m else failed m
 
 abbrev pub timed_out_row : State → Machine → Step
 timed_out_row Closed m = dropped m

@@ -2,6 +2,7 @@
 #![tactic(auto)]
 
 pub mod answer;
+pub mod laws;
 pub mod machine;
 pub mod offer;
 pub mod state;
@@ -11,4 +12,4 @@ pub use answer::{AbortCause, Answer, Reply, Told};
 pub use machine::{Agreed, ConnectError, Fresh, Limits, Machine};
 pub use offer::{Offer, OfferFault};
 pub use state::{State, Timer};
-pub use ticket::{Ticket, Ties};
+pub use ticket::{TICKET_LENGTH, Ticket, TicketFault, Ties};

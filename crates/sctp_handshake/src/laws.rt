@@ -1,0 +1,31 @@
+//! What holds of tickets, and of any inputs one after another: laws, each the contract of a function that does nothing.
+
+ghost use Rattle.std.specs.Prelude.{◌≡◌, IfOk};
+ghost use Rattle.sctp_handshake.specs.declared.ticket.Ticket.{Ticket};
+ghost use Rattle.sctp_handshake.specs.Laws.{NeedsCookie, OffersStay, PeerIsKnown};
+ghost use Rattle.sctp_handshake.specs.Tickets.{TicketFits, ticket_bytes, ticket_in};
+
+/// A ticket is read from its bytes as it was.
+pub fn a_ticket_is_read_as_it_was()
+    ensures { (t : Ticket) → TicketFits t → ticket_in (ticket_bytes t) ≡ Ok t }
+{}
+
+/// A ticket is read from no other bytes.
+pub fn a_ticket_is_read_from_its_bytes(bytes: &[u8])
+    ensures { IfOk (ticket_in bytes.now) (λ t. ticket_bytes t ≡ bytes.now) }
+{}
+
+/// After any inputs the peer's offer is known in each state but `Closed` and `CookieWait`, and only there.
+pub fn the_peer_is_known()
+    ensures { PeerIsKnown }
+{}
+
+/// Whatever comes, without a COOKIE ECHO or a COOKIE ACK no association stands (RFC 9260 5.1).
+pub fn only_a_cookie_makes_an_association()
+    ensures { NeedsCookie }
+{}
+
+/// Where an association stands, both offers and so both tags stay, but in rows A and B of the table of RFC 9260 5.2.4; or it ends.
+pub fn offers_stay()
+    ensures { OffersStay }
+{}
