@@ -1,3 +1,5 @@
 pub mod Exchanges
 pub mod Steps
 pub mod TicketBytes
+pub mod InitSteps
+pub mod InitExamples

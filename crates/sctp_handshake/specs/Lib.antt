@@ -9,3 +9,5 @@ pub mod Timeouts
 pub mod Histories
 pub mod Tickets
 pub mod Laws
+pub mod ParamTypes
+pub mod InitValues

@@ -2,6 +2,7 @@
 #![tactic(auto)]
 
 pub mod answer;
+pub mod init_value;
 pub mod laws;
 pub mod machine;
 pub mod offer;
@@ -9,6 +10,7 @@ pub mod state;
 pub mod ticket;
 
 pub use answer::{AbortCause, Answer, Reply, Told};
+pub use init_value::{InitFault, Reported, Said};
 pub use machine::{Agreed, ConnectError, Fresh, Limits, Machine};
 pub use offer::{Offer, OfferFault};
 pub use state::{State, Timer};
