@@ -11,11 +11,11 @@ use Rattle.sctp_handshake.specs.declared.state.State.{State}
 use Rattle.sctp_handshake.specs.declared.state.State.TheVariants.{Closed, CookieWait, CookieEchoed, Established}
 use Rattle.sctp_handshake.specs.declared.state.State.TheVariants.{ShutdownPending, ShutdownSent, ShutdownReceived, ShutdownAckSent}
 use Rattle.sctp_handshake.specs.declared.ticket.Ticket.{Ticket}
-use Rattle.sctp_handshake.specs.declared.ticket.Ties.{Ties}
+use Rattle.sctp_handshake.specs.declared.ticket.TieTags.{TieTags}
 use Rattle.sctp_handshake.specs.Answers.{silent, replied, noticed, both}
 use Rattle.sctp_handshake.specs.Beginnings.{init_reply}
 use Rattle.sctp_handshake.specs.Histories.{Input, connect, init_ack, cookie_echo, cookie_ack, stale_cookie, shutdown_asked, drained, shutdown, shutdown_ack}
-use Rattle.sctp_handshake.specs.Histories.{shutdown_complete, abort, abort_asked, timed_out, heard, after, answers_to}
+use Rattle.sctp_handshake.specs.Histories.{shutdown_complete, abort, abort_asked, timed_out, packet_arrived, after, answers_to}
 use Rattle.sctp_handshake.specs.Machines.{new_machine}
 
 -- ## Two endpoints
@@ -48,12 +48,12 @@ z = endpoint 22 200
 abbrev fresh : Fresh
 fresh = record { tag = 33; first_tsn = 300 }
 
-abbrev tie : ℕ → ℕ → Option Ties
+abbrev tie : ℕ → ℕ → Option TieTags
 tie own peer = Some (record { own = own; peer = peer })
 
 -- Z has no association yet, and answers the INIT of A
 abbrev ticket : Ticket
-ticket = record { own = fitted_offer 33 300; peer = offer 11 100; ties = None }
+ticket = record { own = fitted_offer 33 300; peer = offer 11 100; tie_tags = None }
 
 -- ## 5.1.6: an example of normal establishment
 
@@ -115,7 +115,7 @@ a_waits = after (connect ∷ []) a
 
 -- each answers the INIT of the other with the tag of its own INIT
 abbrev ticket_a : Ticket
-ticket_a = record { own = fitted_offer 11 100; peer = offer 22 200; ties = None }
+ticket_a = record { own = fitted_offer 11 100; peer = offer 22 200; tie_tags = None }
 
 both_init : init_reply (offer 22 200) fresh a_waits ≡ Some (reply.InitAck ticket_a)
 both_init = refl
@@ -132,14 +132,14 @@ own_cookie_first = refl
 
 -- an INIT that comes in COOKIE-ECHOED: the own tag stays, and both tags tie
 echoed_init : init_reply (offer 44 400) fresh (after (init_ack (fitted_offer 22 200) ∷ []) a_waits)
-    ≡ Some (reply.InitAck (record { own = fitted_offer 11 100; peer = offer 44 400; ties = tie 11 22 }))
+    ≡ Some (reply.InitAck (record { own = fitted_offer 11 100; peer = offer 44 400; tie_tags = tie 11 22 }))
 echoed_init = refl
 
 -- ## 5.2.4: a cookie for an association that stands
 
--- row A: Z began anew, with tag 44; the INIT ACK of A has a fresh tag, and ties to the tags of the association
+-- row A: Z began anew, with tag 44; the INIT ACK of A has a fresh tag, and the tags of the association as tie-tags
 abbrev restart_ticket : Ticket
-restart_ticket = record { own = fitted_offer 33 300; peer = offer 44 400; ties = tie 11 22 }
+restart_ticket = record { own = fitted_offer 33 300; peer = offer 44 400; tie_tags = tie 11 22 }
 
 abbrev a_of_22 : Machine
 a_of_22 = after (init_ack (fitted_offer 22 200) ∷ cookie_ack ∷ []) a_waits
@@ -159,8 +159,8 @@ restart_stale : answers_to (cookie_echo restart_ticket true ∷ []) a_of_22 ≡ 
 restart_stale = refl
 
 -- not row A: the tie-tags are of an association that has ended
-restart_untied : answers_to (cookie_echo (record restart_ticket { ties = tie 11 55 }) false ∷ []) a_of_22 ≡ silent ∷ []
-restart_untied = refl
+restart_not_matched : answers_to (cookie_echo (record restart_ticket { tie_tags = tie 11 55 }) false ∷ []) a_of_22 ≡ silent ∷ []
+restart_not_matched = refl
 
 -- row B: the peer sent another INIT since
 collision : answers_to (cookie_echo ticket_a false ∷ []) (after (init_ack (fitted_offer 44 400) ∷ []) a_waits)
@@ -224,7 +224,7 @@ asked_first : answers_to (shutdown_asked ∷ shutdown ∷ drained ∷ shutdown_c
 asked_first = refl
 
 -- DATA in SHUTDOWN-SENT is answered by a SHUTDOWN at once, and the count begins anew
-data_in_shutdown : answers_to (shutdown_asked ∷ drained ∷ timed_out ∷ timed_out ∷ heard true ∷ timed_out ∷ timed_out ∷ timed_out ∷ []) a_up
+data_in_shutdown : answers_to (shutdown_asked ∷ drained ∷ timed_out ∷ timed_out ∷ packet_arrived true ∷ timed_out ∷ timed_out ∷ timed_out ∷ []) a_up
     ≡ silent ∷ replied reply.Shutdown ∷ replied reply.Shutdown ∷ replied reply.Shutdown ∷ replied reply.Shutdown ∷ replied reply.Shutdown ∷ replied reply.Shutdown
     ∷ noticed told.Failed ∷ []
 data_in_shutdown = refl
@@ -243,7 +243,7 @@ lost_complete_end : (after (shutdown_complete ∷ []) z_ends).state ≡ Closed
 lost_complete_end = refl
 
 -- a cookie from before it (5.2.4 A in SHUTDOWN-ACK-SENT)
-cookie_while_shutting_down : answers_to (cookie_echo (record { own = offer 66 600; peer = offer 44 400; ties = tie 33 11 }) false ∷ []) z_ends
+cookie_while_shutting_down : answers_to (cookie_echo (record { own = offer 66 600; peer = offer 44 400; tie_tags = tie 33 11 }) false ∷ []) z_ends
     ≡ replied reply.CookieWhileShuttingDown ∷ []
 cookie_while_shutting_down = refl
 

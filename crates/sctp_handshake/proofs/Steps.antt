@@ -16,11 +16,11 @@ use Rattle.sctp_handshake.specs.Beginnings.{init_ack_checked, init_ack_row}
 use Rattle.sctp_handshake.specs.Cookies.{row_of, renewal_row, repeat_row, unless_stale, cookie_step, cookie_ack_row, begun_again, stale_cookie_row}
 use Rattle.sctp_handshake.specs.Endings.{shutdown_asked_row, drained_row, shutdown_row, shutdown_ack_row, shutdown_complete_row, abort_row, abort_asked_row}
 use Rattle.sctp_handshake.specs.Histories.{Input, connect, init_ack, cookie_echo, cookie_ack, stale_cookie, shutdown_asked, drained, shutdown, shutdown_ack}
-use Rattle.sctp_handshake.specs.Histories.{shutdown_complete, abort, abort_asked, timed_out, heard, connect_row, on, after}
+use Rattle.sctp_handshake.specs.Histories.{shutdown_complete, abort, abort_asked, timed_out, packet_arrived, connect_row, on, after}
 use Rattle.sctp_handshake.specs.Laws.{IsNoCookie, AreNoCookies}
-use Rattle.sctp_handshake.specs.Machines.{Step, failed, IsSound, knows_peer}
+use Rattle.sctp_handshake.specs.Machines.{Step, failed, KnowsPeer, knows_peer}
 use Rattle.sctp_handshake.specs.Offers.{offer_fault}
-use Rattle.sctp_handshake.specs.Timeouts.{sent_again, again, timed_out_row, heard_row}
+use Rattle.sctp_handshake.specs.Timeouts.{sent_again, again, timed_out_row, packet_arrived_row}
 
 -- either step of a choice
 choice : (P : Machine → Type 0) (b : Bool) (s t : Step) → P s.machine → P t.machine → P (if b then s else t).machine
@@ -33,112 +33,112 @@ unless P false m s h g = g
 
 -- ## The peer is known
 
-module _ (m : Machine) (h : IsSound m) where
-  again_sound : (most : ℕ) (r : Reply) → IsSound (again most r m).machine
-  again_sound most r = choice IsSound (nat_lt m.attempts most) (sent_again r m) (failed m) h refl
+module _ (m : Machine) (h : KnowsPeer m) where
+  again_valid : (most : ℕ) (r : Reply) → KnowsPeer (again most r m).machine
+  again_valid most r = choice KnowsPeer (nat_lt m.attempts most) (sent_again r m) (failed m) h refl
 
-  connect_sound : (s : State) → is_some m.peer ≡ knows_peer s → IsSound (connect_row s m).machine
-  connect_sound Closed e = e
-  connect_sound _ e = h
+  connect_valid : (s : State) → is_some m.peer ≡ knows_peer s → KnowsPeer (connect_row s m).machine
+  connect_valid Closed e = e
+  connect_valid _ e = h
 
-  init_ack_checked_sound : (f : Option OfferFault) (peer : Offer) → IsSound (init_ack_checked f peer m).machine
-  init_ack_checked_sound None peer = refl
-  init_ack_checked_sound (Some NoTag) peer = refl
-  init_ack_checked_sound (Some NoStreams) peer = refl
-  init_ack_checked_sound (Some SmallWindow) peer = h
+  init_ack_checked_valid : (f : Option OfferFault) (peer : Offer) → KnowsPeer (init_ack_checked f peer m).machine
+  init_ack_checked_valid None peer = refl
+  init_ack_checked_valid (Some NoTag) peer = refl
+  init_ack_checked_valid (Some NoStreams) peer = refl
+  init_ack_checked_valid (Some SmallWindow) peer = h
 
-  init_ack_sound : (s : State) (peer : Offer) → IsSound (init_ack_row s peer m).machine
-  init_ack_sound CookieWait peer = init_ack_checked_sound (offer_fault peer) peer
-  init_ack_sound _ peer = h
+  init_ack_valid : (s : State) (peer : Offer) → KnowsPeer (init_ack_row s peer m).machine
+  init_ack_valid CookieWait peer = init_ack_checked_valid (offer_fault peer) peer
+  init_ack_valid _ peer = h
 
-  renewal_sound : (s : State) (t : Ticket) → IsSound (renewal_row s t m).machine
-  renewal_sound ShutdownAckSent t = h
-  renewal_sound _ t = refl
+  renewal_valid : (s : State) (t : Ticket) → KnowsPeer (renewal_row s t m).machine
+  renewal_valid ShutdownAckSent t = h
+  renewal_valid _ t = refl
 
-  repeat_sound : (s : State) → is_some m.peer ≡ knows_peer s → IsSound (repeat_row s m).machine
-  repeat_sound CookieEchoed e = e
-  repeat_sound _ e = h
+  repeat_valid : (s : State) → is_some m.peer ≡ knows_peer s → KnowsPeer (repeat_row s m).machine
+  repeat_valid CookieEchoed e = e
+  repeat_valid _ e = h
 
-  cookie_sound : (r : CookieRow) (t : Ticket) (stale : Bool) → IsSound (cookie_step r t stale m).machine
-  cookie_sound First t stale = unless IsSound stale m _ h (renewal_sound m.state t)
-  cookie_sound Restart t stale = unless IsSound stale m _ h (renewal_sound m.state t)
-  cookie_sound Collision t stale = unless IsSound stale m _ h (renewal_sound m.state t)
-  cookie_sound Late t stale = unless IsSound stale m _ h h
-  cookie_sound Repeat t stale = repeat_sound m.state h
-  cookie_sound Unlisted t stale = unless IsSound stale m _ h h
+  cookie_valid : (r : CookieRow) (t : Ticket) (stale : Bool) → KnowsPeer (cookie_step r t stale m).machine
+  cookie_valid First t stale = unless KnowsPeer stale m _ h (renewal_valid m.state t)
+  cookie_valid Restart t stale = unless KnowsPeer stale m _ h (renewal_valid m.state t)
+  cookie_valid Collision t stale = unless KnowsPeer stale m _ h (renewal_valid m.state t)
+  cookie_valid Late t stale = unless KnowsPeer stale m _ h h
+  cookie_valid Repeat t stale = repeat_valid m.state h
+  cookie_valid Unlisted t stale = unless KnowsPeer stale m _ h h
 
-  cookie_ack_sound : (s : State) → is_some m.peer ≡ knows_peer s → IsSound (cookie_ack_row s m).machine
-  cookie_ack_sound CookieEchoed e = e
-  cookie_ack_sound _ e = h
+  cookie_ack_valid : (s : State) → is_some m.peer ≡ knows_peer s → KnowsPeer (cookie_ack_row s m).machine
+  cookie_ack_valid CookieEchoed e = e
+  cookie_ack_valid _ e = h
 
-  stale_cookie_sound : (s : State) → IsSound (stale_cookie_row s m).machine
-  stale_cookie_sound CookieEchoed = choice IsSound (nat_lt m.stale m.limits.max_init_retransmits) (begun_again m) (failed m) refl refl
-  stale_cookie_sound _ = h
+  stale_cookie_valid : (s : State) → KnowsPeer (stale_cookie_row s m).machine
+  stale_cookie_valid CookieEchoed = choice KnowsPeer (nat_lt m.stale m.limits.max_init_retransmits) (begun_again m) (failed m) refl refl
+  stale_cookie_valid _ = h
 
-  shutdown_asked_sound : (s : State) → is_some m.peer ≡ knows_peer s → IsSound (shutdown_asked_row s m).machine
-  shutdown_asked_sound CookieWait e = refl
-  shutdown_asked_sound CookieEchoed e = e
-  shutdown_asked_sound Established e = e
-  shutdown_asked_sound _ e = h
+  shutdown_asked_valid : (s : State) → is_some m.peer ≡ knows_peer s → KnowsPeer (shutdown_asked_row s m).machine
+  shutdown_asked_valid CookieWait e = refl
+  shutdown_asked_valid CookieEchoed e = e
+  shutdown_asked_valid Established e = e
+  shutdown_asked_valid _ e = h
 
-  drained_sound : (s : State) → is_some m.peer ≡ knows_peer s → IsSound (drained_row s m).machine
-  drained_sound ShutdownPending e = e
-  drained_sound ShutdownReceived e = e
-  drained_sound _ e = h
+  drained_valid : (s : State) → is_some m.peer ≡ knows_peer s → KnowsPeer (drained_row s m).machine
+  drained_valid ShutdownPending e = e
+  drained_valid ShutdownReceived e = e
+  drained_valid _ e = h
 
-  shutdown_sound : (s : State) → is_some m.peer ≡ knows_peer s → IsSound (shutdown_row s m).machine
-  shutdown_sound Established e = e
-  shutdown_sound ShutdownPending e = e
-  shutdown_sound ShutdownSent e = e
-  shutdown_sound _ e = h
+  shutdown_valid : (s : State) → is_some m.peer ≡ knows_peer s → KnowsPeer (shutdown_row s m).machine
+  shutdown_valid Established e = e
+  shutdown_valid ShutdownPending e = e
+  shutdown_valid ShutdownSent e = e
+  shutdown_valid _ e = h
 
-  shutdown_ack_sound : (s : State) → IsSound (shutdown_ack_row s m).machine
-  shutdown_ack_sound ShutdownSent = refl
-  shutdown_ack_sound ShutdownAckSent = refl
-  shutdown_ack_sound _ = h
+  shutdown_ack_valid : (s : State) → KnowsPeer (shutdown_ack_row s m).machine
+  shutdown_ack_valid ShutdownSent = refl
+  shutdown_ack_valid ShutdownAckSent = refl
+  shutdown_ack_valid _ = h
 
-  shutdown_complete_sound : (s : State) → IsSound (shutdown_complete_row s m).machine
-  shutdown_complete_sound ShutdownAckSent = refl
-  shutdown_complete_sound _ = h
+  shutdown_complete_valid : (s : State) → KnowsPeer (shutdown_complete_row s m).machine
+  shutdown_complete_valid ShutdownAckSent = refl
+  shutdown_complete_valid _ = h
 
-  abort_sound : (s : State) → IsSound (abort_row s m).machine
-  abort_sound Closed = h
-  abort_sound _ = refl
+  abort_valid : (s : State) → KnowsPeer (abort_row s m).machine
+  abort_valid Closed = h
+  abort_valid _ = refl
 
-  abort_asked_sound : (s : State) → IsSound (abort_asked_row s m).machine
-  abort_asked_sound Closed = h
-  abort_asked_sound _ = refl
+  abort_asked_valid : (s : State) → KnowsPeer (abort_asked_row s m).machine
+  abort_asked_valid Closed = h
+  abort_asked_valid _ = refl
 
-  timed_out_sound : (s : State) → IsSound (timed_out_row s m).machine
-  timed_out_sound CookieWait = again_sound _ _
-  timed_out_sound CookieEchoed = again_sound _ _
-  timed_out_sound ShutdownSent = again_sound _ _
-  timed_out_sound ShutdownAckSent = again_sound _ _
-  timed_out_sound _ = h
+  timed_out_valid : (s : State) → KnowsPeer (timed_out_row s m).machine
+  timed_out_valid CookieWait = again_valid _ _
+  timed_out_valid CookieEchoed = again_valid _ _
+  timed_out_valid ShutdownSent = again_valid _ _
+  timed_out_valid ShutdownAckSent = again_valid _ _
+  timed_out_valid _ = h
 
-  heard_sound : (s : State) (has_data : Bool) → IsSound (heard_row s has_data m).machine
-  heard_sound ShutdownSent has_data = h
-  heard_sound _ has_data = h
+  packet_arrived_valid : (s : State) (has_data : Bool) → KnowsPeer (packet_arrived_row s has_data m).machine
+  packet_arrived_valid ShutdownSent has_data = h
+  packet_arrived_valid _ has_data = h
 
-  on_sound : (i : Input) → IsSound (on i m).machine
-  on_sound connect = connect_sound m.state h
-  on_sound (init_ack peer) = init_ack_sound m.state peer
-  on_sound (cookie_echo t stale) = cookie_sound (row_of t m) t stale
-  on_sound cookie_ack = cookie_ack_sound m.state h
-  on_sound stale_cookie = stale_cookie_sound m.state
-  on_sound shutdown_asked = shutdown_asked_sound m.state h
-  on_sound drained = drained_sound m.state h
-  on_sound shutdown = shutdown_sound m.state h
-  on_sound shutdown_ack = shutdown_ack_sound m.state
-  on_sound shutdown_complete = shutdown_complete_sound m.state
-  on_sound abort = abort_sound m.state
-  on_sound abort_asked = abort_asked_sound m.state
-  on_sound timed_out = timed_out_sound m.state
-  on_sound (heard has_data) = heard_sound m.state has_data
+  on_valid : (i : Input) → KnowsPeer (on i m).machine
+  on_valid connect = connect_valid m.state h
+  on_valid (init_ack peer) = init_ack_valid m.state peer
+  on_valid (cookie_echo t stale) = cookie_valid (row_of t m) t stale
+  on_valid cookie_ack = cookie_ack_valid m.state h
+  on_valid stale_cookie = stale_cookie_valid m.state
+  on_valid shutdown_asked = shutdown_asked_valid m.state h
+  on_valid drained = drained_valid m.state h
+  on_valid shutdown = shutdown_valid m.state h
+  on_valid shutdown_ack = shutdown_ack_valid m.state
+  on_valid shutdown_complete = shutdown_complete_valid m.state
+  on_valid abort = abort_valid m.state
+  on_valid abort_asked = abort_asked_valid m.state
+  on_valid timed_out = timed_out_valid m.state
+  on_valid (packet_arrived has_data) = packet_arrived_valid m.state has_data
 
-pub after_sound : (is : List Input) (m : Machine) → IsSound m → IsSound (after is m)
-after_sound [] m h = h
-after_sound (i ∷ is) m h = after_sound is (on i m).machine (on_sound m h i)
+pub after_valid : (is : List Input) (m : Machine) → KnowsPeer m → KnowsPeer (after is m)
+after_valid [] m h = h
+after_valid (i ∷ is) m h = after_valid is (on i m).machine (on_valid m h i)
 
 -- ## Only a cookie makes an association stand
 
@@ -208,9 +208,9 @@ module _ (m : Machine) (h : IsDown m) where
   timed_out_down ShutdownAckSent = again_down _ _
   timed_out_down _ = h
 
-  heard_down : (s : State) (has_data : Bool) → IsDown (heard_row s has_data m).machine
-  heard_down ShutdownSent has_data = h
-  heard_down _ has_data = h
+  packet_arrived_down : (s : State) (has_data : Bool) → IsDown (packet_arrived_row s has_data m).machine
+  packet_arrived_down ShutdownSent has_data = h
+  packet_arrived_down _ has_data = h
 
   on_down : (i : Input) → IsNoCookie i → IsDown (on i m).machine
   on_down connect n = connect_down m.state
@@ -226,7 +226,7 @@ module _ (m : Machine) (h : IsDown m) where
   on_down abort n = abort_down m.state
   on_down abort_asked n = abort_asked_down m.state
   on_down timed_out n = timed_out_down m.state
-  on_down (heard has_data) n = heard_down m.state has_data
+  on_down (packet_arrived has_data) n = packet_arrived_down m.state has_data
 
 pub after_down : (is : List Input) (m : Machine) → AreNoCookies is → IsDown m → IsDown (after is m)
 after_down [] m n h = h

@@ -10,9 +10,9 @@ use Rattle.sctp_util.specs.Field.{AreBytes, be16, be32, u16_at, u32_at}
 use Rattle.sctp_util.proofs.Bytes.{be16_u16, be32_u32}
 use Rattle.sctp_handshake.specs.declared.offer.Offer.{Offer}
 use Rattle.sctp_handshake.specs.declared.ticket.Ticket.{Ticket}
-use Rattle.sctp_handshake.specs.declared.ticket.TicketFault.TheVariants.{WrongLength, NoFlag, LooseTies}
-use Rattle.sctp_handshake.specs.declared.ticket.Ties.{Ties}
-use Rattle.sctp_handshake.specs.Tickets.{OfferFits, TiesFit, TicketFits, flag, offer_bytes, ties_bytes, ticket_bytes, is_flag, are_flags, flag_at, offer_at, ties_at, are_loose, has_flags, ticket_at, ticket_in}
+use Rattle.sctp_handshake.specs.declared.ticket.TicketFault.TheVariants.{WrongLength, NoFlag, StrayTieTags}
+use Rattle.sctp_handshake.specs.declared.ticket.TieTags.{TieTags}
+use Rattle.sctp_handshake.specs.Tickets.{OfferFits, TieTagsFit, TicketFits, flag, offer_bytes, tie_tags_bytes, ticket_bytes, is_flag, are_flags, flag_at, offer_at, tie_tags_at, are_stray, has_flags, ticket_at, ticket_in}
 
 -- ## Read as it was written
 
@@ -30,8 +30,8 @@ u32_again = from_be_bytes-to_be_bytes_4
 u16_again : (n : ℕ) → n < 2 ^ 16 → from_be_bytes w16 (to_be_bytes w16 n) ≡ n
 u16_again = from_be_bytes-to_be_bytes_2
 
-parts : (own peer : Offer) (ties : Option Ties) → OfferFits own → OfferFits peer → TiesFit ties
-    → ticket_in (ticket_bytes (record { own = own; peer = peer; ties = ties })) ≡ Ok (record { own = own; peer = peer; ties = ties })
+parts : (own peer : Offer) (tie_tags : Option TieTags) → OfferFits own → OfferFits peer → TieTagsFit tie_tags
+    → ticket_in (ticket_bytes (record { own = own; peer = peer; tie_tags = tie_tags })) ≡ Ok (record { own = own; peer = peer; tie_tags = tie_tags })
 unfolding be16 be32 u16_at u32_at
 parts own peer None f g h =
     rw (
@@ -58,7 +58,7 @@ parts own peer None f g h =
       u16_again peer.inbound_streams g.inbound_streams,
       u32_again peer.first_tsn g.first_tsn,
     ) refl
-parts own peer (Some ties) f g h =
+parts own peer (Some tie_tags) f g h =
     rw (
       flag_small own.forward_tsn,
       flag_small own.reconfig,
@@ -82,12 +82,12 @@ parts own peer (Some ties) f g h =
       u16_again peer.outbound_streams g.outbound_streams,
       u16_again peer.inbound_streams g.inbound_streams,
       u32_again peer.first_tsn g.first_tsn,
-      u32_again ties.own h.0,
-      u32_again ties.peer h.1,
+      u32_again tie_tags.own h.0,
+      u32_again tie_tags.peer h.1,
     ) refl
 
 pub again : (t : Ticket) → TicketFits t → ticket_in (ticket_bytes t) ≡ Ok t
-again t fits = parts t.own t.peer t.ties fits.own fits.peer fits.ties
+again t fits = parts t.own t.peer t.tie_tags fits.own fits.peer fits.tie_tags
 
 -- ## Written as it was read
 
@@ -145,32 +145,32 @@ module _ (bytes : List ℕ) (h : AreBytes bytes) where
       )
       (ap (λ (x : List ℕ). take 16 (drop at bytes) ++ x) (rw (places.0, places.1, e) at flags) ∙ joins bytes at 16 3)
 
-  tied_written : 47 ≤ length bytes → (n : ℕ) → n ≡ get_or bytes 38 0 → n ∷ [] ++ be32 (u32_at bytes 39) ++ be32 (u32_at bytes 43) ≡ take 9 (drop 38 bytes)
-  tied_written le n e =
+  tags_written : 47 ≤ length bytes → (n : ℕ) → n ≡ get_or bytes 38 0 → n ∷ [] ++ be32 (u32_at bytes 39) ++ be32 (u32_at bytes 43) ≡ take 9 (drop 38 bytes)
+  tags_written le n e =
       ap (λ m. m ∷ [] ++ be32 (u32_at bytes 39) ++ be32 (u32_at bytes 43)) e
       ∙ ap (λ (x : List ℕ). x ++ be32 (u32_at bytes 39) ++ be32 (u32_at bytes 43)) (one bytes 38 (omega arith))
       ∙ rw (be32_u32 bytes 39 h (omega arith), joins bytes 38 1 4, be32_u32 bytes 43 h (omega arith), joins bytes 38 5 4) refl
 
-  ties_written : 47 ≤ length bytes → is_flag bytes 38 ≡ true → are_loose bytes ≡ false → ties_bytes (ties_at bytes) ≡ take 9 (drop 38 bytes)
-  ties_written le small tight = tied (flag_at bytes 38) refl
+  tie_tags_written : 47 ≤ length bytes → is_flag bytes 38 ≡ true → are_stray bytes ≡ false → tie_tags_bytes (tie_tags_at bytes) ≡ take 9 (drop 38 bytes)
+  tie_tags_written le small tight = matched (flag_at bytes 38) refl
     where
-      tied : (b : Bool) → flag_at bytes 38 ≡ b
-          → ties_bytes (if b then Some (record { own = u32_at bytes 39; peer = u32_at bytes 43 }) else None) ≡ take 9 (drop 38 bytes)
-      tied true e = tied_written le 1 (grind (arith, nat_tests))
-      tied false e =
+      matched : (b : Bool) → flag_at bytes 38 ≡ b
+          → tie_tags_bytes (if b then Some (record { own = u32_at bytes 39; peer = u32_at bytes 43 }) else None) ≡ take 9 (drop 38 bytes)
+      matched true e = tags_written le 1 (grind (arith, nat_tests))
+      matched false e =
           let here : 0 ≡ get_or bytes 38 0 = grind (arith, nat_tests) in
           let own : 0 ≡ u32_at bytes 39 = grind (arith, nat_tests) in
           let peer : 0 ≡ u32_at bytes 43 = grind (arith, nat_tests) in
-          ap (λ n. 0 ∷ [] ++ be32 n ++ be32 0) own ∙ ap (λ n. 0 ∷ [] ++ be32 (u32_at bytes 39) ++ be32 n) peer ∙ tied_written le 0 here
+          ap (λ n. 0 ∷ [] ++ be32 n ++ be32 0) own ∙ ap (λ n. 0 ∷ [] ++ be32 (u32_at bytes 39) ++ be32 n) peer ∙ tags_written le 0 here
 
-  ticket_written : 47 ≡ length bytes → has_flags bytes ≡ true → are_loose bytes ≡ false → ticket_bytes (ticket_at bytes) ≡ bytes
+  ticket_written : 47 ≡ length bytes → has_flags bytes ≡ true → are_stray bytes ≡ false → ticket_bytes (ticket_at bytes) ≡ bytes
   ticket_written e flags tight =
       let both = and_true (are_flags bytes 16 && are_flags bytes 35) (is_flag bytes 38) flags in
       let two = and_true (are_flags bytes 16) (are_flags bytes 35) both.0 in
       rw (
         offer_written 0 16 refl (omega arith) two.0,
         offer_written 19 35 refl (omega arith) two.1,
-        ties_written (omega arith) both.1 tight,
+        tie_tags_written (omega arith) both.1 tight,
         joins bytes 0 19 19,
         joins bytes 0 38 9,
       ) (take_all 47 bytes (omega arith))
@@ -178,18 +178,18 @@ module _ (bytes : List ℕ) (h : AreBytes bytes) where
   pub written : IfOk (ticket_in bytes) (λ t. ticket_bytes t ≡ bytes)
   written = by_length (length bytes == 47) refl
     where
-      by_loose : (b : Bool) → are_loose bytes ≡ b → 47 ≡ length bytes → has_flags bytes ≡ true
-          → IfOk (if b then Err LooseTies else Ok (ticket_at bytes)) (λ t. ticket_bytes t ≡ bytes)
-      by_loose true tight e flags = tt
-      by_loose false tight e flags = ticket_written e flags tight
+      by_stray : (b : Bool) → are_stray bytes ≡ b → 47 ≡ length bytes → has_flags bytes ≡ true
+          → IfOk (if b then Err StrayTieTags else Ok (ticket_at bytes)) (λ t. ticket_bytes t ≡ bytes)
+      by_stray true tight e flags = tt
+      by_stray false tight e flags = ticket_written e flags tight
 
       by_flags : (b : Bool) → has_flags bytes ≡ b → 47 ≡ length bytes
-          → IfOk (if not b then Err NoFlag else (if are_loose bytes then Err LooseTies else Ok (ticket_at bytes))) (λ t. ticket_bytes t ≡ bytes)
-      by_flags true flags e = by_loose (are_loose bytes) refl e flags
+          → IfOk (if not b then Err NoFlag else (if are_stray bytes then Err StrayTieTags else Ok (ticket_at bytes))) (λ t. ticket_bytes t ≡ bytes)
+      by_flags true flags e = by_stray (are_stray bytes) refl e flags
       by_flags false flags e = tt
 
       by_length : (b : Bool) → (length bytes == 47) ≡ b
-          → IfOk (if not b then Err WrongLength else (if not (has_flags bytes) then Err NoFlag else (if are_loose bytes then Err LooseTies else Ok (ticket_at bytes))))
+          → IfOk (if not b then Err WrongLength else (if not (has_flags bytes) then Err NoFlag else (if are_stray bytes then Err StrayTieTags else Ok (ticket_at bytes))))
           (λ t. ticket_bytes t ≡ bytes)
       by_length true e = by_flags (has_flags bytes) refl (grind (arith, nat_tests))
       by_length false e = tt

@@ -12,9 +12,9 @@ use Rattle.sctp_handshake.specs.declared.offer.OfferFault.TheVariants.{NoTag, No
 use Rattle.sctp_handshake.specs.declared.state.State.{State}
 use Rattle.sctp_handshake.specs.declared.state.State.TheVariants.{Closed, CookieWait, CookieEchoed, Established}
 use Rattle.sctp_handshake.specs.declared.state.State.TheVariants.{ShutdownPending, ShutdownSent, ShutdownReceived, ShutdownAckSent}
-use Rattle.sctp_handshake.specs.declared.ticket.Ties.{Ties}
+use Rattle.sctp_handshake.specs.declared.ticket.TieTags.{TieTags}
 use Rattle.sctp_handshake.specs.Answers.{replied, both}
-use Rattle.sctp_handshake.specs.Machines.{Step, dropped, answered, failed, into, closed, ties_of}
+use Rattle.sctp_handshake.specs.Machines.{Step, dropped, answered, failed, into, closed, tie_tags_of}
 use Rattle.sctp_handshake.specs.Offers.{offer_fault}
 
 -- ## `connect` (RFC 9260 5.1 A)
@@ -33,19 +33,19 @@ abbrev pub fitted : Offer → Offer → Offer
 fitted peer own =
     record own { outbound_streams = min own.outbound_streams peer.inbound_streams }
 
-abbrev pub init_ack_of : Offer → Offer → Option Ties → Option Reply
-init_ack_of own peer ties =
-    Some (reply.InitAck (record { own = fitted peer own; peer = peer; ties = ties }))
+abbrev pub init_ack_of : Offer → Offer → Option TieTags → Option Reply
+init_ack_of own peer tie_tags =
+    Some (reply.InitAck (record { own = fitted peer own; peer = peer; tie_tags = tie_tags }))
 
 -- Where an association stands, its tags tie the new one to it (RFC 9260 5.2.2); one that is being set up keeps its tag (5.2.1).
 abbrev pub init_row : State → Offer → Fresh → Machine → Option Reply
 init_row Closed peer fresh m = init_ack_of (renewed fresh m.own) peer None
 init_row CookieWait peer fresh m = init_ack_of m.own peer None
-init_row CookieEchoed peer fresh m = init_ack_of m.own peer (ties_of m)
-init_row Established peer fresh m = init_ack_of (renewed fresh m.own) peer (ties_of m)
-init_row ShutdownPending peer fresh m = init_ack_of (renewed fresh m.own) peer (ties_of m)
-init_row ShutdownSent peer fresh m = init_ack_of (renewed fresh m.own) peer (ties_of m)
-init_row ShutdownReceived peer fresh m = init_ack_of (renewed fresh m.own) peer (ties_of m)
+init_row CookieEchoed peer fresh m = init_ack_of m.own peer (tie_tags_of m)
+init_row Established peer fresh m = init_ack_of (renewed fresh m.own) peer (tie_tags_of m)
+init_row ShutdownPending peer fresh m = init_ack_of (renewed fresh m.own) peer (tie_tags_of m)
+init_row ShutdownSent peer fresh m = init_ack_of (renewed fresh m.own) peer (tie_tags_of m)
+init_row ShutdownReceived peer fresh m = init_ack_of (renewed fresh m.own) peer (tie_tags_of m)
 -- (RFC 9260 9.2)
 init_row ShutdownAckSent peer fresh m = Some reply.ShutdownAck
 
@@ -61,7 +61,7 @@ init_reply peer fresh m = init_checked (offer_fault peer) peer fresh m
 
 -- ## `init_ack` (RFC 9260 5.1 C)
 
--- the association is given up where the offer has no tag or no streams; a small window leaves it as it is (RFC 9260 3.3.3)
+-- the association is ended where the offer has no tag or no streams; a small window leaves it as it is (RFC 9260 3.3.3)
 abbrev pub init_ack_checked : Option OfferFault → Offer → Machine → Step
 init_ack_checked None peer m = record {
   machine = record (into CookieEchoed m) { peer = Some peer };

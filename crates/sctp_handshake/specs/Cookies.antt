@@ -11,9 +11,9 @@ use Rattle.sctp_handshake.specs.declared.state.State.{State}
 use Rattle.sctp_handshake.specs.declared.state.State.TheVariants.{Closed, CookieWait, CookieEchoed, Established}
 use Rattle.sctp_handshake.specs.declared.state.State.TheVariants.{ShutdownPending, ShutdownSent, ShutdownReceived, ShutdownAckSent}
 use Rattle.sctp_handshake.specs.declared.ticket.Ticket.{Ticket}
-use Rattle.sctp_handshake.specs.declared.ticket.Ties.{Ties}
+use Rattle.sctp_handshake.specs.declared.ticket.TieTags.{TieTags}
 use Rattle.sctp_handshake.specs.Answers.{replied, noticed, both}
-use Rattle.sctp_handshake.specs.Machines.{Step, dropped, answered, failed, ties_of}
+use Rattle.sctp_handshake.specs.Machines.{Step, dropped, answered, failed, tie_tags_of}
 
 -- ## The table of RFC 9260 5.2.4
 
@@ -22,24 +22,24 @@ has_tag tag None = false
 has_tag tag (Some o) = tag == o.tag
 
 -- both tie-tags are known, and match
-abbrev pub are_tied : Option Ties → Option Ties → Bool
-are_tied None b = false
-are_tied (Some a) None = false
-are_tied (Some a) (Some b) = (a.own == b.own) && (a.peer == b.peer)
+abbrev pub are_tie_tags : Option TieTags → Option TieTags → Bool
+are_tie_tags None b = false
+are_tie_tags (Some a) None = false
+are_tie_tags (Some a) (Some b) = (a.own == b.own) && (a.peer == b.peer)
 
 -- the row by which tags match (M), or do not match or are not known (X, 0): Local Tag, Peer's Tag, and then the tie-tags
 abbrev pub row_by : Bool → Bool → Bool → Bool → CookieRow
-row_by true true tied untied = Repeat
-row_by true false tied untied = Collision
-row_by false true tied true = Late
-row_by false true tied false = Unlisted
-row_by false false true untied = Restart
-row_by false false false untied = Unlisted
+row_by true true matched absent = Repeat
+row_by true false matched absent = Collision
+row_by false true matched true = Late
+row_by false true matched false = Unlisted
+row_by false false true absent = Restart
+row_by false false false absent = Unlisted
 
 abbrev pub row_in : State → Ticket → Machine → CookieRow
 row_in Closed t m = First
 row_in _ t m = row_by (t.own.tag == m.own.tag) (has_tag t.peer.tag m.peer)
-    (are_tied t.ties (ties_of m)) (is_none t.ties)
+    (are_tie_tags t.tie_tags (tie_tags_of m)) (is_none t.tie_tags)
 
 abbrev pub row_of : Ticket → Machine → CookieRow
 row_of t m = row_in m.state t m

@@ -12,7 +12,7 @@ use Rattle.sctp_handshake.specs.Cookies.{on_cookie_echo, on_cookie_ack, on_stale
 use Rattle.sctp_handshake.specs.Endings.{on_shutdown_asked, on_drained, on_shutdown, on_shutdown_ack, on_shutdown_complete}
 use Rattle.sctp_handshake.specs.Endings.{on_abort, on_abort_asked}
 use Rattle.sctp_handshake.specs.Machines.{Step, dropped}
-use Rattle.sctp_handshake.specs.Timeouts.{on_timed_out, on_heard}
+use Rattle.sctp_handshake.specs.Timeouts.{on_timed_out, on_packet_arrived}
 
 -- each input that may change a machine; an INIT changes none
 pub data Input : Type 0 where
@@ -29,7 +29,7 @@ pub data Input : Type 0 where
   abort : Input
   abort_asked : Input
   timed_out : Input
-  heard : Bool → Input
+  packet_arrived : Bool → Input
 
 -- `connect` is refused in each state but one
 abbrev pub connect_row : State → Machine → Step
@@ -56,7 +56,7 @@ on shutdown_complete m = on_shutdown_complete m
 on abort m = on_abort m
 on abort_asked m = on_abort_asked m
 on timed_out m = on_timed_out m
-on (heard has_data) m = on_heard has_data m
+on (packet_arrived has_data) m = on_packet_arrived has_data m
 
 -- the machine after some inputs
 abbrev pub after : List Input → Machine → Machine

@@ -7,11 +7,11 @@ use Rattle.sctp_handshake.specs.declared.state.State.TheVariants.{Closed, Establ
 use Rattle.sctp_handshake.specs.Cookies.{row_of}
 use Rattle.sctp_handshake.specs.Histories.{Input, cookie_echo, cookie_ack}
 use Rattle.sctp_handshake.specs.Histories.{on, after}
-use Rattle.sctp_handshake.specs.Machines.{IsSound}
+use Rattle.sctp_handshake.specs.Machines.{KnowsPeer}
 
 -- the peer's offer stays known exactly in the states in which it is to be
 abbrev pub PeerIsKnown : Type 0
-PeerIsKnown = (is : List Input) (m : Machine) → IsSound m → IsSound (after is m)
+PeerIsKnown = (is : List Input) (m : Machine) → KnowsPeer m → KnowsPeer (after is m)
 
 -- ## Only a cookie of its own, or the answer to the peer's, makes an association stand (RFC 9260 5.1)
 

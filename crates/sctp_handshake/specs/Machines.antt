@@ -10,7 +10,7 @@ use Rattle.sctp_handshake.specs.declared.offer.Offer.{Offer}
 use Rattle.sctp_handshake.specs.declared.state.State.{State}
 use Rattle.sctp_handshake.specs.declared.state.State.TheVariants.{Closed, CookieWait, CookieEchoed, Established}
 use Rattle.sctp_handshake.specs.declared.state.State.TheVariants.{ShutdownPending, ShutdownSent, ShutdownReceived, ShutdownAckSent}
-use Rattle.sctp_handshake.specs.declared.ticket.Ties.{Ties}
+use Rattle.sctp_handshake.specs.declared.ticket.TieTags.{TieTags}
 use Rattle.sctp_handshake.specs.Answers.{silent, replied, noticed}
 
 abbrev pub new_machine : Offer → Limits → Machine
@@ -28,8 +28,8 @@ knows_peer ShutdownSent = true
 knows_peer ShutdownReceived = true
 knows_peer ShutdownAckSent = true
 
-abbrev pub IsSound : Machine → Type 0
-IsSound m = is_some m.peer ≡ knows_peer m.state
+abbrev pub KnowsPeer : Machine → Type 0
+KnowsPeer m = is_some m.peer ≡ knows_peer m.state
 
 -- each side may send on as many streams as it wants and the other takes (RFC 9260 5.1.1)
 abbrev pub agreed_with : Offer → Offer → Agreed
@@ -48,12 +48,12 @@ abbrev pub agreed : Machine → Option Agreed
 agreed m = agreed_by m.own m.peer
 
 -- the tie-tags of an association: its own tags, where both are known (RFC 9260 5.2.2)
-abbrev pub ties_by : Offer → Option Offer → Option Ties
-ties_by own None = None
-ties_by own (Some peer) = Some (record { own = own.tag; peer = peer.tag })
+abbrev pub tie_tags_by : Offer → Option Offer → Option TieTags
+tie_tags_by own None = None
+tie_tags_by own (Some peer) = Some (record { own = own.tag; peer = peer.tag })
 
-abbrev pub ties_of : Machine → Option Ties
-ties_of m = ties_by m.own m.peer
+abbrev pub tie_tags_of : Machine → Option TieTags
+tie_tags_of m = tie_tags_by m.own m.peer
 
 -- a state is entered, and its timer begins
 abbrev pub into : State → Machine → Machine

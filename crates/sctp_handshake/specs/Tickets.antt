@@ -5,8 +5,8 @@ use Rattle.sctp_util.specs.Field.{be16, be32, u16_at, u32_at}
 use Rattle.sctp_handshake.specs.declared.offer.Offer.{Offer}
 use Rattle.sctp_handshake.specs.declared.ticket.Ticket.{Ticket}
 use Rattle.sctp_handshake.specs.declared.ticket.TicketFault.{TicketFault}
-use Rattle.sctp_handshake.specs.declared.ticket.TicketFault.TheVariants.{WrongLength, NoFlag, LooseTies}
-use Rattle.sctp_handshake.specs.declared.ticket.Ties.{Ties}
+use Rattle.sctp_handshake.specs.declared.ticket.TicketFault.TheVariants.{WrongLength, NoFlag, StrayTieTags}
+use Rattle.sctp_handshake.specs.declared.ticket.TieTags.{TieTags}
 
 -- ## Written
 
@@ -19,12 +19,12 @@ offer_bytes o =
     be32 o.tag ++ be32 o.window ++ be16 o.outbound_streams ++ be16 o.inbound_streams
     ++ be32 o.first_tsn ++ flag o.forward_tsn ∷ flag o.reconfig ∷ flag o.zero_checksum ∷ []
 
-abbrev pub ties_bytes : Option Ties → List ℕ
-ties_bytes None = 0 ∷ [] ++ be32 0 ++ be32 0
-ties_bytes (Some t) = 1 ∷ [] ++ be32 t.own ++ be32 t.peer
+abbrev pub tie_tags_bytes : Option TieTags → List ℕ
+tie_tags_bytes None = 0 ∷ [] ++ be32 0 ++ be32 0
+tie_tags_bytes (Some t) = 1 ∷ [] ++ be32 t.own ++ be32 t.peer
 
 abbrev pub ticket_bytes : Ticket → List ℕ
-ticket_bytes t = offer_bytes t.own ++ offer_bytes t.peer ++ ties_bytes t.ties
+ticket_bytes t = offer_bytes t.own ++ offer_bytes t.peer ++ tie_tags_bytes t.tie_tags
 
 -- ## Each number fits its width
 
@@ -35,14 +35,14 @@ pub record OfferFits (o : Offer) : Type 0 where
   pub inbound_streams : o.inbound_streams < 2 ^ 16
   pub first_tsn : o.first_tsn < 2 ^ 32
 
-abbrev pub TiesFit : Option Ties → Type 0
-TiesFit None = Unit {0}
-TiesFit (Some t) = (t.own < 2 ^ 32) × (t.peer < 2 ^ 32)
+abbrev pub TieTagsFit : Option TieTags → Type 0
+TieTagsFit None = Unit {0}
+TieTagsFit (Some t) = (t.own < 2 ^ 32) × (t.peer < 2 ^ 32)
 
 pub record TicketFits (t : Ticket) : Type 0 where
   pub own : OfferFits t.own
   pub peer : OfferFits t.peer
-  pub ties : TiesFit t.ties
+  pub tie_tags : TieTagsFit t.tie_tags
 
 -- ## Read
 
@@ -67,14 +67,14 @@ offer_at bytes at = record {
   zero_checksum = flag_at bytes (at + 18);
 }
 
-abbrev pub ties_at : List ℕ → Option Ties
-ties_at bytes =
+abbrev pub tie_tags_at : List ℕ → Option TieTags
+tie_tags_at bytes =
     if flag_at bytes 38 then Some (record { own = u32_at bytes 39; peer = u32_at bytes 43 })
     else None
 
 -- tie-tags stand there, and are said not to
-abbrev pub are_loose : List ℕ → Bool
-are_loose bytes =
+abbrev pub are_stray : List ℕ → Bool
+are_stray bytes =
     (slice_index bytes 38 == 0) && (not (u32_at bytes 39 == 0) || not (u32_at bytes 43 == 0))
 
 abbrev pub has_flags : List ℕ → Bool
@@ -82,10 +82,10 @@ has_flags bytes = are_flags bytes 16 && are_flags bytes 35 && is_flag bytes 38
 
 abbrev pub ticket_at : List ℕ → Ticket
 ticket_at bytes =
-    record { own = offer_at bytes 0; peer = offer_at bytes 19; ties = ties_at bytes }
+    record { own = offer_at bytes 0; peer = offer_at bytes 19; tie_tags = tie_tags_at bytes }
 
 -- the ticket that bytes are, or the first fault
 abbrev pub ticket_in : List ℕ → Result Ticket TicketFault
 ticket_in bytes =
     if not (length bytes == 47) then Err WrongLength else (if not (has_flags bytes) then Err NoFlag
-    else (if are_loose bytes then Err LooseTies else Ok (ticket_at bytes)))
+    else (if are_stray bytes then Err StrayTieTags else Ok (ticket_at bytes)))

@@ -33,22 +33,22 @@ timed_out_row ShutdownAckSent m = again m.limits.association_max_retrans reply.S
 abbrev pub on_timed_out : Machine → Step
 on_timed_out m = timed_out_row m.state m
 
--- ## `heard`: a packet of the peer came while a SHUTDOWN waits for its answer (RFC 9260 9.2)
+-- ## `packet_arrived`: a packet of the peer came while a SHUTDOWN waits for its answer (RFC 9260 9.2)
 
 abbrev pub shutdown_for : Bool → Answer
 shutdown_for true = replied reply.Shutdown
 shutdown_for false = silent
 
-abbrev pub heard_row : State → Bool → Machine → Step
-heard_row Closed has_data m = dropped m
-heard_row CookieWait has_data m = dropped m
-heard_row CookieEchoed has_data m = dropped m
-heard_row Established has_data m = dropped m
-heard_row ShutdownPending has_data m = dropped m
-heard_row ShutdownSent has_data m =
+abbrev pub packet_arrived_row : State → Bool → Machine → Step
+packet_arrived_row Closed has_data m = dropped m
+packet_arrived_row CookieWait has_data m = dropped m
+packet_arrived_row CookieEchoed has_data m = dropped m
+packet_arrived_row Established has_data m = dropped m
+packet_arrived_row ShutdownPending has_data m = dropped m
+packet_arrived_row ShutdownSent has_data m =
     record { machine = record m { attempts = 0 }; answer = shutdown_for has_data }
-heard_row ShutdownReceived has_data m = dropped m
-heard_row ShutdownAckSent has_data m = dropped m
+packet_arrived_row ShutdownReceived has_data m = dropped m
+packet_arrived_row ShutdownAckSent has_data m = dropped m
 
-abbrev pub on_heard : Bool → Machine → Step
-on_heard has_data m = heard_row m.state has_data m
+abbrev pub on_packet_arrived : Bool → Machine → Step
+on_packet_arrived has_data m = packet_arrived_row m.state has_data m

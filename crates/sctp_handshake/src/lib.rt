@@ -14,4 +14,4 @@ pub use init_value::{InitFault, Reported, Said};
 pub use machine::{Agreed, ConnectError, Fresh, Limits, Machine};
 pub use offer::{Offer, OfferFault};
 pub use state::{State, Timer};
-pub use ticket::{TICKET_LENGTH, Ticket, TicketFault, Ties};
+pub use ticket::{TICKET_LENGTH, Ticket, TicketFault, TieTags};

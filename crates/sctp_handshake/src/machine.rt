@@ -9,7 +9,7 @@ ghost use Rattle.std.specs.Prelude.{◌≡◌};
 
 use crate::offer::Offer;
 use crate::state::State;
-use crate::ticket::Ties;
+use crate::ticket::TieTags;
 pub use begins::ConnectError;
 
 /// How often something is sent again before the association fails (RFC 9260 16).
@@ -60,7 +60,7 @@ pub struct Machine {
 }
 
 impl Machine {
-    ghost use Rattle.sctp_handshake.specs.Machines.{new_machine, agreed, into, closed, ties_of};
+    ghost use Rattle.sctp_handshake.specs.Machines.{new_machine, agreed, into, closed, tie_tags_of};
 
     /// No association yet, and what this side will offer.
     pub fn new(own: Offer, limits: Limits) -> Machine
@@ -129,11 +129,11 @@ impl Machine {
     }
 
     // The tags of the association, where both are known.
-    fn ties(&self) -> Option<Ties>
-        ensures { result ≡ ties_of self.now }
+    fn tie_tags(&self) -> Option<TieTags>
+        ensures { result ≡ tie_tags_of self.now }
     {
         let peer = self.peer?;
-        Some(Ties {
+        Some(TieTags {
             own: self.own.tag,
             peer: peer.tag,
         })

@@ -14,7 +14,7 @@ const OFFER_LENGTH: usize = 19;
 
 /// The tags of the association that stood when an INIT came (RFC 9260 5.2.2).
 #[derive(Clone, Copy, Debug, PartialEq, Eq)]
-pub struct Ties {
+pub struct TieTags {
     /// The Local Tie-Tag.
     pub own: u32,
     /// The Peer's Tie-Tag.
@@ -30,7 +30,7 @@ pub struct Ticket {
     /// What the INIT said.
     pub peer: Offer,
     /// The tie-tags; None stands for tags of 0.
-    pub ties: Option<Ties>,
+    pub tie_tags: Option<TieTags>,
 }
 
 /// Why bytes are no ticket.
@@ -41,11 +41,11 @@ pub enum TicketFault {
     /// A byte that says yes or no is neither 0 nor 1.
     NoFlag,
     /// There are tie-tags, and the byte before them says that there are none.
-    LooseTies,
+    StrayTieTags,
 }
 
 impl Ticket {
-    ghost use Rattle.sctp_handshake.specs.Tickets.{offer_bytes, ties_bytes, ticket_bytes, are_flags, offer_at, ties_at, ticket_in};
+    ghost use Rattle.sctp_handshake.specs.Tickets.{offer_bytes, tie_tags_bytes, ticket_bytes, are_flags, offer_at, tie_tags_at, ticket_in};
 
     /// Appends the bytes of a ticket. It takes no memory.
     /// Precondition: the buffer has room for them.
@@ -56,10 +56,10 @@ impl Ticket {
     {
         Self::put_offer(&self.own, buf);
         Self::put_offer(&self.peer, buf);
-        let ties = self.ties.unwrap_or(Ties { own: 0, peer: 0 });
-        buf.extend_reserved(&[u8::from(self.ties.is_some())]);
-        put_u32(buf, ties.own);
-        put_u32(buf, ties.peer);
+        let tie_tags = self.tie_tags.unwrap_or(TieTags { own: 0, peer: 0 });
+        buf.extend_reserved(&[u8::from(self.tie_tags.is_some())]);
+        put_u32(buf, tie_tags.own);
+        put_u32(buf, tie_tags.peer);
     }
 
     // Appends the bytes of an offer.
@@ -87,21 +87,21 @@ impl Ticket {
         if bytes.len() != TICKET_LENGTH {
             return Err(TicketFault::WrongLength);
         }
-        let is_tied = bytes[2 * OFFER_LENGTH];
-        if !Self::are_flags(bytes, 16) || !Self::are_flags(bytes, 35) || is_tied > 1 {
+        let has_tie_tags = bytes[2 * OFFER_LENGTH];
+        if !Self::are_flags(bytes, 16) || !Self::are_flags(bytes, 35) || has_tie_tags > 1 {
             return Err(TicketFault::NoFlag);
         }
-        let tags = Ties {
+        let tags = TieTags {
             own: read_u32(bytes, 39),
             peer: read_u32(bytes, 43),
         };
-        if is_tied == 0 && (tags.own != 0 || tags.peer != 0) {
-            return Err(TicketFault::LooseTies);
+        if has_tie_tags == 0 && (tags.own != 0 || tags.peer != 0) {
+            return Err(TicketFault::StrayTieTags);
         }
         Ok(Ticket {
             own: Self::offer_at(bytes, 0),
             peer: Self::offer_at(bytes, OFFER_LENGTH),
-            ties: (is_tied == 1).then_some(tags),
+            tie_tags: (has_tie_tags == 1).then_some(tags),
         })
     }
 

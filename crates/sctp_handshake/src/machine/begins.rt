@@ -8,7 +8,7 @@ use super::{Fresh, Machine};
 use crate::answer::{AbortCause, Answer, Reply, Told};
 use crate::offer::{Offer, OfferFault};
 use crate::state::State;
-use crate::ticket::{Ticket, Ties};
+use crate::ticket::{Ticket, TieTags};
 
 /// Why no INIT is sent.
 #[derive(Clone, Copy, Debug, PartialEq, Eq)]
@@ -57,11 +57,15 @@ impl Machine {
             }
         }
         own.outbound_streams = own.outbound_streams.min(peer.inbound_streams);
-        let ties = match self.state {
+        let tie_tags = match self.state {
             State::Closed | State::CookieWait => None,
-            _ => self.ties(),
+            _ => self.tie_tags(),
         };
-        Some(Reply::InitAck(Ticket { own, peer, ties }))
+        Some(Reply::InitAck(Ticket {
+            own,
+            peer,
+            tie_tags,
+        }))
     }
 
     /// An INIT ACK came (RFC 9260 5.1 C, 5.2.3): the cookie in it is to be echoed. In each state but `CookieWait` it is dropped. An ABORT

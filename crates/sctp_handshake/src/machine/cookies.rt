@@ -5,14 +5,14 @@ ghost use Rattle.std.specs.Prelude.{◌≡◌};
 use super::Machine;
 use crate::answer::{Answer, Reply, Told};
 use crate::state::State;
-use crate::ticket::{Ticket, Ties};
+use crate::ticket::{Ticket, TieTags};
 
 /// Which row of the table of RFC 9260 5.2.4 a ticket matches.
 #[derive(Clone, Copy, Debug, PartialEq, Eq)]
 pub enum CookieRow {
     /// There is no association (RFC 9260 5.1 D).
     First,
-    /// Row A: the peer began anew, and its ticket ties it to this association.
+    /// Row A: the peer began again, and its ticket has the tie-tags of this association.
     Restart,
     /// Row B: both sides began at once, and the peer has another tag now.
     Collision,
@@ -25,15 +25,15 @@ pub enum CookieRow {
 }
 
 impl Machine {
-    ghost use Rattle.sctp_handshake.specs.Cookies.{are_tied, row_of, established_by, established, renewal_row, repeat_row, on_cookie_echo, on_cookie_ack, on_stale_cookie};
-    ghost use Rattle.sctp_handshake.specs.Machines.{Takes, ties_of};
+    ghost use Rattle.sctp_handshake.specs.Cookies.{are_tie_tags, row_of, established_by, established, renewal_row, repeat_row, on_cookie_echo, on_cookie_ack, on_stale_cookie};
+    ghost use Rattle.sctp_handshake.specs.Machines.{Takes, tie_tags_of};
 
     // Whether these are the tags of the association.
-    fn is_tied(&self, ties: Option<Ties>) -> bool
-        ensures { result ≡ are_tied ties (ties_of self.now) }
+    fn has_tie_tags(&self, tie_tags: Option<TieTags>) -> bool
+        ensures { result ≡ are_tie_tags tie_tags (tie_tags_of self.now) }
     {
-        match (ties, self.ties()) {
-            (Some(ties), Some(own)) => ties.own == own.own && ties.peer == own.peer,
+        match (tie_tags, self.tie_tags()) {
+            (Some(tie_tags), Some(own)) => tie_tags.own == own.own && tie_tags.peer == own.peer,
             _ => false,
         }
     }
@@ -53,14 +53,14 @@ impl Machine {
             (true, true) => CookieRow::Repeat,
             (true, false) => CookieRow::Collision,
             (false, true) => {
-                if ticket.ties.is_none() {
+                if ticket.tie_tags.is_none() {
                     CookieRow::Late
                 } else {
                     CookieRow::Unlisted
                 }
             }
             (false, false) => {
-                if self.is_tied(ticket.ties) {
+                if self.has_tie_tags(ticket.tie_tags) {
                     CookieRow::Restart
                 } else {
                     CookieRow::Unlisted

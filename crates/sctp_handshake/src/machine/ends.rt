@@ -10,7 +10,7 @@ impl Machine {
     ghost use Rattle.sctp_handshake.specs.Endings.{on_shutdown_asked, on_drained, on_shutdown, on_shutdown_ack, on_shutdown_complete, on_abort, on_abort_asked};
     ghost use Rattle.sctp_handshake.specs.Machines.{Takes};
 
-    /// The application asks for a shutdown (RFC 9260 9.2): what waits is still sent. In `CookieWait` the attempt is given up; where a
+    /// The application asks for a shutdown (RFC 9260 9.2): what waits is still sent. In `CookieWait` the attempt is ended; where a
     /// shutdown is under way the call does nothing. Call `drained` as soon as nothing waits or is in flight.
     pub fn shutdown_asked(&mut self) -> Answer
         ensures { Takes (on_shutdown_asked self.old) self.new result }

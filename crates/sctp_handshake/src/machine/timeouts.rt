@@ -7,7 +7,7 @@ use crate::answer::{Answer, Reply, Told};
 use crate::state::State;
 
 impl Machine {
-    ghost use Rattle.sctp_handshake.specs.Timeouts.{again, on_timed_out, on_heard};
+    ghost use Rattle.sctp_handshake.specs.Timeouts.{again, on_timed_out, on_packet_arrived};
     ghost use Rattle.sctp_handshake.specs.Machines.{Takes};
 
     // Sends something again, at most so many times.
@@ -42,8 +42,8 @@ impl Machine {
 
     /// A packet of the peer came. In `ShutdownSent` T2-shutdown begins anew, and DATA in the packet is answered by a SHUTDOWN at once
     /// (RFC 9260 9.2). In other states the call does nothing.
-    pub fn heard(&mut self, has_data: bool) -> Answer
-        ensures { Takes (on_heard has_data self.old) self.new result }
+    pub fn packet_arrived(&mut self, has_data: bool) -> Answer
+        ensures { Takes (on_packet_arrived has_data self.old) self.new result }
     {
         if self.state != State::ShutdownSent {
             return Answer::silent();
