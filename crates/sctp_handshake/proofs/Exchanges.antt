@@ -186,7 +186,8 @@ retry : answers_to (stale_cookie ∷ init_ack (fitted_offer 22 200) ∷ cookie_a
     ≡ replied reply.Init ∷ replied reply.CookieEcho ∷ noticed told.Connected ∷ []
 retry = refl
 
-stale_for_ever : answers_to (init_ack (offer 22 200) ∷ stale_cookie ∷ init_ack (offer 22 200) ∷ stale_cookie ∷ init_ack (offer 22 200) ∷ stale_cookie ∷ []) a_waits
+stale_for_ever : answers_to (init_ack (offer 22 200) ∷ stale_cookie ∷ init_ack (offer 22 200) ∷ stale_cookie ∷ init_ack (offer 22 200) ∷ stale_cookie ∷ [])
+    a_waits
     ≡ replied reply.CookieEcho ∷ replied reply.Init ∷ replied reply.CookieEcho ∷ replied reply.Init ∷ replied reply.CookieEcho ∷ noticed told.Failed ∷ []
 stale_for_ever = refl
 
@@ -225,7 +226,8 @@ asked_first = refl
 
 -- DATA in SHUTDOWN-SENT is answered by a SHUTDOWN at once, and the count begins anew
 data_in_shutdown : answers_to (shutdown_asked ∷ drained ∷ timed_out ∷ timed_out ∷ packet_arrived true ∷ timed_out ∷ timed_out ∷ timed_out ∷ []) a_up
-    ≡ silent ∷ replied reply.Shutdown ∷ replied reply.Shutdown ∷ replied reply.Shutdown ∷ replied reply.Shutdown ∷ replied reply.Shutdown ∷ replied reply.Shutdown
+    ≡ silent ∷ replied reply.Shutdown ∷ replied reply.Shutdown ∷ replied reply.Shutdown ∷ replied reply.Shutdown ∷ replied reply.Shutdown ∷ replied
+    reply.Shutdown
     ∷ noticed told.Failed ∷ []
 data_in_shutdown = refl
 

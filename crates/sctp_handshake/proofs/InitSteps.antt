@@ -55,7 +55,8 @@ module _ (value : List ℕ) (at : ℕ) where
   told_broken (suc n) broken = rw broken refl
 
   -- the parameter is one that is told of
-  pub told_here : (n : ℕ) → 0 < n → is_param value at ≡ true → is_told (place value at).typ ≡ true → told_from n value at ≡ Some (report value at (place value at))
+  pub told_here : (n : ℕ) → 0 < n → is_param value at ≡ true → is_told (place value at).typ ≡ true → told_from n value at ≡ Some (report value at (place
+      value at))
   told_here zero lt param told = absurd (omega arith)
   told_here (suc n) lt param told = rw (param, told) refl
 
@@ -108,8 +109,10 @@ made tag window outbound_streams inbound_streams first_tsn forward_tsn reconfig 
 -- the parameters behind any 16 bytes
 module _ (b0 b1 b2 b3 b4 b5 b6 b7 b8 b9 b10 b11 b12 b13 b14 b15 : ℕ) where
   flags : (f r z : Bool)
-      → init_in (b0 ∷ b1 ∷ b2 ∷ b3 ∷ b4 ∷ b5 ∷ b6 ∷ b7 ∷ b8 ∷ b9 ∷ b10 ∷ b11 ∷ b12 ∷ b13 ∷ b14 ∷ b15 ∷ (param_if f 0xC000 [] ++ param_if z 0x8001 (0 ∷ 0 ∷ 0 ∷ 1 ∷ []) ++ param_if (r || f) 0x8008 (extensions_of r f)))
-      ≡ Ok (made (from_be_bytes w32 (b0 ∷ b1 ∷ b2 ∷ b3 ∷ [])) (from_be_bytes w32 (b4 ∷ b5 ∷ b6 ∷ b7 ∷ [])) (from_be_bytes w16 (b8 ∷ b9 ∷ [])) (from_be_bytes w16 (b10 ∷ b11 ∷ []))
+      → init_in (b0 ∷ b1 ∷ b2 ∷ b3 ∷ b4 ∷ b5 ∷ b6 ∷ b7 ∷ b8 ∷ b9 ∷ b10 ∷ b11 ∷ b12 ∷ b13 ∷ b14 ∷ b15 ∷ (param_if f 0xC000 [] ++ param_if z 0x8001 (0 ∷ 0 ∷
+      0 ∷ 1 ∷ []) ++ param_if (r || f) 0x8008 (extensions_of r f)))
+      ≡ Ok (made (from_be_bytes w32 (b0 ∷ b1 ∷ b2 ∷ b3 ∷ [])) (from_be_bytes w32 (b4 ∷ b5 ∷ b6 ∷ b7 ∷ [])) (from_be_bytes w16 (b8 ∷ b9 ∷ []))
+      (from_be_bytes w16 (b10 ∷ b11 ∷ []))
       (from_be_bytes w32 (b12 ∷ b13 ∷ b14 ∷ b15 ∷ [])) f r z)
   unfolding be16 u16_at u32_at made
   flags false false false = refl
@@ -129,4 +132,5 @@ unfolding be16 be32 made
 offer_again o w =
     flags _ _ _ _ _ _ _ _ _ _ _ _ _ _ _ _ o.forward_tsn o.reconfig o.zero_checksum
     ∙ ap Ok (same _ _ _ _ _ o.tag o.window o.outbound_streams o.inbound_streams o.first_tsn o.forward_tsn o.reconfig o.zero_checksum (u32_again o.tag w.tag)
-    (u32_again o.window w.window) (u16_again o.outbound_streams w.outbound_streams) (u16_again o.inbound_streams w.inbound_streams) (u32_again o.first_tsn w.first_tsn))
+    (u32_again o.window w.window) (u16_again o.outbound_streams w.outbound_streams) (u16_again o.inbound_streams w.inbound_streams) (u32_again o.first_tsn
+    w.first_tsn))

@@ -127,7 +127,8 @@ module _ (bytes : List ℕ) (h : AreBytes bytes) where
       (flag_written bytes (at + 2) (omega arith) both.1)
       (ap (λ (x : List ℕ). x ++ take 1 (drop (at + 2) bytes)) (joins bytes at 1 1) ∙ joins bytes at 2 1)
 
-  offer_written : (at marks : ℕ) → marks ≡ at + 16 → at + 19 ≤ length bytes → are_flags bytes marks ≡ true → offer_bytes (offer_at bytes at) ≡ take 19 (drop at bytes)
+  offer_written : (at marks : ℕ) → marks ≡ at + 16 → at + 19 ≤ length bytes → are_flags bytes marks ≡ true → offer_bytes (offer_at bytes at) ≡ take 19
+      (drop at bytes)
   offer_written at marks e le small =
       let first : be32 (u32_at bytes at) ≡ take 4 (drop at bytes) = be32_u32 bytes at h (omega arith) in
       let flags = flags_written marks (omega arith) small in
@@ -189,7 +190,8 @@ module _ (bytes : List ℕ) (h : AreBytes bytes) where
       by_flags false flags e = tt
 
       by_length : (b : Bool) → (length bytes == 47) ≡ b
-          → IfOk (if not b then Err WrongLength else (if not (has_flags bytes) then Err NoFlag else (if are_stray bytes then Err StrayTieTags else Ok (ticket_at bytes))))
+          → IfOk (if not b then Err WrongLength else (if not (has_flags bytes) then Err NoFlag else (if are_stray bytes then Err StrayTieTags else Ok
+          (ticket_at bytes))))
           (λ t. ticket_bytes t ≡ bytes)
       by_length true e = by_flags (has_flags bytes) refl (grind (arith, nat_tests))
       by_length false e = tt

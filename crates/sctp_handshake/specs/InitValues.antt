@@ -88,7 +88,8 @@ noted value p s =
 abbrev pub said_from : ℕ → List ℕ → ℕ → Said → Result Said InitFault
 said_from zero value at s = Ok s
 said_from (suc most) value at s =
-    if nat_lt (length value) (at + 4) then Ok s else (if not (is_param value at) then Err BrokenParameter
+    if nat_lt (length value) (at + 4) then Ok s
+    else (if not (is_param value at) then Err BrokenParameter
     else (if ends_at (place value at).typ then Ok s
     else said_from most value (place value at).next (noted value (place value at) s)))
 

@@ -262,7 +262,8 @@ fn put_param(buf: &mut BytesMut, is_offered: bool, typ: u16, value: &[u8])
     requires room { 4 + length value.now ≤ buf.old.spare }
     requires short { length value.now ≤ 4 }
     ensures items { buf.new.items ≡ buf.old.items ++ init.param_if is_offered typ value.now }
-    ensures spare { buf.new.spare + length (init.param_if is_offered typ value.now) ≡ buf.old.spare }
+    ensures spare { buf.new.spare + length (init.param_if is_offered typ value.now)
+        ≡ buf.old.spare }
     ensures most { buf.old.spare ≤ buf.new.spare + 4 + length value.now }
 {
     if is_offered {

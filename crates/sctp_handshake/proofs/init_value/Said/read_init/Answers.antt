@@ -9,7 +9,8 @@ pub returns-in_err-param : goal.returns-in_err-param
 returns-in_err-param c =
     let p = err_from_is_err_and c.from_residual.result c.from_residual.ensures.1 in
     let value = c.args.value.now in
-    let broken = said_broken value c.loop-seen.at c.loop-seen.said (length value - c.loop-seen._seen) (omega arith) (omega arith) c.in_err-param.ensures.param.0 in
+    let broken = said_broken value c.loop-seen.at c.loop-seen.said (length value - c.loop-seen._seen) (omega arith) (omega arith)
+    c.in_err-param.ensures.param.0 in
     let rest = init_of_long value (omega arith) in
     rw (p.1, p.2) (ap Err c.in_err-param.ensures.param.1 ∙ sym broken ∙ c.loop-seen.invariant.same ∙ sym rest)
 
