@@ -3,3 +3,4 @@ pub mod Steps
 pub mod TicketBytes
 pub mod InitSteps
 pub mod InitExamples
+pub mod Silence

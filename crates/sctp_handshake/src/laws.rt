@@ -4,7 +4,7 @@ ghost use Rattle.std.specs.Prelude.{◌≡◌, IfOk};
 ghost use Rattle.sctp_handshake.specs.declared.offer.Offer.{Offer};
 ghost use Rattle.sctp_handshake.specs.declared.ticket.Ticket.{Ticket};
 ghost use Rattle.sctp_handshake.specs.InitValues.{init_bytes, init_in};
-ghost use Rattle.sctp_handshake.specs.Laws.{NeedsCookie, OffersStay, PeerIsKnown};
+ghost use Rattle.sctp_handshake.specs.Laws.{NeedsCookie, OffersStay, PeerIsKnown, SilenceEnds};
 ghost use Rattle.sctp_handshake.specs.Tickets.{OfferFits, TicketFits, ticket_bytes, ticket_in};
 
 /// A ticket is read from its bytes as it was.
@@ -31,6 +31,11 @@ pub fn the_peer_is_known()
 /// Whatever comes, without a COOKIE ECHO or a COOKIE ACK no association stands (RFC 9260 5.1).
 pub fn only_a_cookie_makes_an_association()
     ensures { NeedsCookie }
+{}
+
+/// Where a timer runs and no answer comes, the association ends once the timer has run out more often than its limit (RFC 9260 4, 9.2).
+pub fn silence_ends_it()
+    ensures { SilenceEnds }
 {}
 
 /// Where an association stands, both offers and so both tags stay, but in rows A and B of the table of RFC 9260 5.2.4; or it ends.
