@@ -6,7 +6,7 @@ use Rattle.sctp_delivery.proofs.Names.{length-change_where, fails, not_both, and
 use Rattle.sctp_delivery.proofs.Names.{distance, data_of, ChunkPayloadData, ReassemblyState, after_ordered_push, Pushes, PushesAs, with_queue, Reception}
 use Rattle.sctp_delivery.proofs.Names.{arrival_refusal, filter_of, is_open, stream_of, with_filter, follow_forward_tsn, is_stale, window, has_come, with_tsn}
 use Rattle.sctp_delivery.proofs.Names.{New, InboundStream, has_tsn, Flight, can_resend, after_sack, count_again, resent_at, sent_again, with_flight}
-use Rattle.sctp_delivery.proofs.Names.{Transmission, Ledger, reads_nothing, takes, follows, flight_of, in_flight, IsCaughtUp, chunks_left, passes, tsns_given}
+use Rattle.sctp_delivery.proofs.Names.{Transmission, Ledger, reads_nothing, takes, follows, flight_of, in_flight, IsCaughtUp, passes, tsns_given}
 use Rattle.sctp_delivery.proofs.Names.{was_passed, was_taken, Made, data_chunk, resends, forward_tsn, forwards, takes_sack, ReceiverFollows, SenderFollows}
 use Rattle.sctp_delivery.proofs.Names.{Session, of_receiver, of_sender, none-some, ForwardTsn, Sack, ChunkForwardTsnStream, as_acknowledged, cost_of, Stand}
 use Rattle.sctp_delivery.proofs.Names.{after_forward_tsn, without_incomplete, advanced_ack_point, named_up_to, skip_end, chunks_waiting, reads_nothing_on}
@@ -16,7 +16,7 @@ use Rattle.sctp_delivery.specs.ReceiverCalls.{reports}
 use Rattle.sctp_delivery.proofs.RoundsEnd.{ahead-of-sacks, leaves-fewer, all-go-on, found-in, same-next, same-pending, reporting-of}
 use Rattle.sctp_delivery.proofs.ArrivedTsns.{IsArrived, IsKnown}
 use Rattle.sctp_delivery.proofs.EndSteps.{Rests, ends-open, ends-read, rests-same, rests-then, due, is_due, less-due, none-refused, price, same-due, spent}
-use Rattle.sctp_delivery.proofs.EndSteps.{taken-cost, due_by, followed-cost, sack-due, waiting_cost, At, Ends, Setting, apart-at, at-same, kept-at, long-enough}
+use Rattle.sctp_delivery.proofs.EndSteps.{taken-cost, due_by, followed-cost, rest_of, sack-due, At, Ends, Setting, apart-at, at-same, kept-at, long-enough}
 use Rattle.sctp_delivery.proofs.EndSteps.{no-distance, reached, receiver-before, sender-before, start}
 use Rattle.sctp_delivery.proofs.Every.{Every, all-of-every, every-at, every-of-all, one-of, every-passing}
 use Rattle.sctp_delivery.proofs.GivenTsns.{IsNumbered, flight-given, passable-skip}
@@ -134,7 +134,7 @@ come-known : (p n : ℕ) (kn : ℕ → Bool) (r : Reception) → n < 2 ^ 31 → 
     → has_come t (filter_of r) ≡ true → kn t ≡ true
 come-known p n kn r few h t g e = grind (arith, nat_tests, at-or-before, one-of, or-split, same-is)
 
-some-of : {A : Type 0} (o : Option A) → is_some o ≡ true → (x : A) × (o ≡ Some x)
+pub some-of : {A : Type 0} (o : Option A) → is_some o ≡ true → (x : A) × (o ≡ Some x)
 some-of None e = absurd (not_both e)
 some-of (Some x) e = (x, refl)
 
@@ -185,12 +185,13 @@ module _ (b : Setting) where
         let most = step.arrived.within in
         grind (arith, nat_tests, at-or-before, cases_lt, distance-tsn, fresh, not_both, or-left)
 
-    unrefused : reads_nothing s.receiving.receiver ≡ true → is_open c.stream_identifier s.receiving.receiver ≡ true
-        → arrival_refusal c s.receiving.receiver ≡ None
-    unrefused none there =
+    unrefused : reads_nothing s.receiving.receiver ≡ true → is_due s.receiving.accepted c ≡ true
+        → is_open c.stream_identifier s.receiving.receiver ≡ true → arrival_refusal c s.receiving.receiver ≡ None
+    unrefused none e there =
+        let less = less-due price c s.receiving.accepted (in_flight s) e f.found in
         none-read-with-room b.first b.size b.max b.most b.limits i.calls s b.small b.some i.run (few-given n s i) (long-enough b n s i) none c
         (record { chunk = c; sent = f.sent; kept = d.kept; same = inl refl }) there
-        (none-refused b.limits s c.tsn i.room (limits-same i.calls (start b) s i.run) near)
+        (none-refused b.limits s c.tsn i.room (limits-same i.calls (start b) s i.run) near (omega (arith, less)))
 
   -- the chunk is sent again, and taken
   deliver-open : (n : ℕ) (s : Session) → At b n s → reads_nothing s.receiving.receiver ≡ true → (c : ChunkPayloadData) → IsFoundIn s c
@@ -203,15 +204,19 @@ module _ (b : Setting) where
       let again = resends-one b.now c s (can-again s c f d) f.found in
       let long = length-change_where (has_tsn c.tsn) (sent_again (count_again c) b.now) (in_flight s) in
       let price-same = same-due price (λ k m x. refl) s.receiving.accepted (has_tsn c.tsn) (count_again c) b.now (in_flight s) in
-      let j = at-same b n (of_sender (resends c.tsn b.now c)) s u again (same-yes b.now) refl (omega (arith, long)) (omega (arith, price-same)) i in
+      let j = at-same b n (of_sender (resends c.tsn b.now c)) s u again (same-yes b.now) refl refl (omega (arith, long)) (omega (arith, price-same))
+      (omega (arith, price-same)) i in
       let t = after_takes c u l.0 l.1 in
-      let taking = takes-one c u l.0 l.1 (0, omega arith, refl) (unrefused n s i c f d none there) (fresh n s i c f d) in
+      let taking = takes-one c u l.0 l.1 (0, omega arith, refl) (unrefused n s i c f d none e there) (fresh n s i c f d) in
       let zero' = no-distance b n s i in
       let ones = same-due (λ x. 1) (λ k m x. refl) (c ∷ s.receiving.accepted) (has_tsn c.tsn) (count_again c) b.now (in_flight s) in
       let lt = less-due (λ x. 1) c s.receiving.accepted (in_flight s) e f.found in
       sender-before b (resends c.tsn b.now c) s u again (same-yes b.now) (omega (arith, zero'))
       (receiver-before b n (takes c (New (queued c (l.0).queue).complete)) u t j taking
-      (next t (at-same b n (of_receiver (takes c (New (queued c (l.0).queue).complete))) u t taking refl refl (omega arith)
+      (next t (at-same b n (of_receiver (takes c (New (queued c (l.0).queue).complete))) u t taking refl refl refl (omega arith)
+      (let before = same-due price (λ k m x. refl) (c ∷ s.receiving.accepted) (has_tsn c.tsn) (count_again c) b.now (in_flight s) in
+      let less = less-due price c s.receiving.accepted (in_flight s) e f.found in
+      omega (arith, before, less, price-same))
       (let more = taken-cost c (queued c (l.0).queue).complete l.0 (queued c (l.0).queue).queue s.receiving.receiver.streams (apart-at b n s i) l.1
       (queued c (l.0).queue).pushed in
       let before = same-due price (λ k m x. refl) (c ∷ s.receiving.accepted) (has_tsn c.tsn) (count_again c) b.now (in_flight s) in
@@ -362,12 +367,12 @@ module _ (b : Setting) (n : ℕ) (s : Session) (i : At b n s) (p : ℕ)
       → length t.made ≡ length s.made + 1 → at_or_before p t.receiving.receiver.cumulative_tsn ≡ true → Ends b t) → Ends b s
   forward-one none all next =
       let point = advanced_ack_point (flight_of s) in
-      let j = at-same b n (of_sender (forwards point g)) s made-one making refl refl (omega arith) (omega arith) i in
+      let j = at-same b n (of_sender (forwards point g)) s made-one making refl refl refl (omega arith) (omega arith) (omega arith) i in
       let f = following none all in
       let zero' = no-distance b n s i in
       sender-before b (forwards point g) s made-one making refl (omega (arith, zero'))
       (receiver-before b n (follows g) made-one followed-one j f
-      (next followed-one (at-same b n (of_receiver (follows g)) made-one followed-one f refl refl (omega arith)
+      (next followed-one (at-same b n (of_receiver (follows g)) made-one followed-one f refl refl refl (omega arith) (omega arith)
       (let less = followed-cost g s.receiving.receiver in omega (arith, less)) j) refl refl refl (omega arith) gets-there))
 
 -- ## Caught up
@@ -467,15 +472,17 @@ module _ (b : Setting) where
       let same-there = reporting-of a.call s u a.makes a.reporting in
       let streams = same-there.streams in
       let came = same-there.accepted in
-      let left = ap (λ (l : Ledger). chunks_left l.sender) sender in
+      let left = ap (λ (l : Ledger). length l.sender.flight.queue.inflight.chunks) sender in
       let held = ap (sum_by cost_of) streams in
       let due-there = due-still price s u sender came in
-      let waiting = ap (λ (l : Ledger). waiting_cost l.sender.flight.queue.pending) sender in
-      let j = at-same b n (of_receiver a.call) s u a.reporting refl first (omega (arith, left)) (omega (arith, held, due-there, waiting)) i in
+      let pending = ap (λ (l : Ledger). l.sender.flight.queue.pending) sender in
+      let waiting = ap rest_of pending in
+      let j = at-same b n (of_receiver a.call) s u a.reporting refl first pending (omega (arith, left)) (omega (arith, due-there, waiting))
+      (omega (arith, held, due-there, waiting)) i in
       let second : next_tsn t ≡ next_tsn u = same-next s t a ∙ sym first in
       let less = (leaves-fewer b.first n s t i.few (reached b n s i) caught a).fewer some in
       let waits = ap (λ p. length p.ordered + length p.unordered) (same-pending s t a) in
-      let still = ap waiting_cost (same-pending s t a) in
+      let still = ap rest_of (same-pending s t a) in
       let same = ap (λ (x : Session). x.receiving) a.taking.after in
       let held' = ap (λ (x : Stand). sum_by cost_of x.receiver.streams) same in
       let due-after = ap (λ (x : Stand). due_by price x.accepted (in_flight t)) same
@@ -486,7 +493,8 @@ module _ (b : Setting) where
       let due-first = due-still (λ c. 1) s u sender came in
       let due-less = after-due (λ x. 1) (λ x. omega arith) a.sack u.receiving.accepted u.sending.sender.flight in
       let sent-same = ap length (ap (λ (x : Session). x.made) a.taking.after ∙ ap (λ (x : Session). x.made) a.reporting.after) in
-      let k = at-same b n (of_sender (takes_sack a.sack a.gone)) u t a.taking refl second (omega (arith, less, waits, left))
+      let k = at-same b n (of_sender (takes_sack a.sack a.gone)) u t a.taking refl second (same-pending s t a ∙ sym pending) (omega (arith, less, left))
+      (omega (arith, due-after, fewer-due, still, waiting))
       (omega (arith, held', due-after, fewer-due, still, waiting)) j in
       let none : distance (next_tsn u) (next_tsn t) ≡ 0 = ap (distance (next_tsn u)) second ∙ no-distance b n u j in
       let waited = ap (λ (l : Ledger). chunks_waiting l.sender) sender in

@@ -1,23 +1,21 @@
 -- Each session can end: round after round leaves fewer chunks, and then all that is to be read is read.
 use Rattle.sctp_delivery.proofs.Names.{◌≡◌, ℕ, zero, suc, ◌+◌, ◌-◌, ◌%◌, ◌^◌, ◌<◌, ◌≤◌, Bool, true, false, List, [], ◌∷◌, length, Option, Some, None, is_some}
-use Rattle.sctp_delivery.proofs.Names.{inl, inr, refl, ap, subst, ◌∙◌, arith, ◌==◌, if◌then◌else◌, nat_le, cases_lt, nat_tests, sum_by-cons, common_steps}
-use Rattle.sctp_delivery.proofs.Names.{and-none, same-yes, length-change_where, and, both, not_both, distance-tsn, change_where, insert_before, distance}
+use Rattle.sctp_delivery.proofs.Names.{inl, inr, refl, ap, subst, ◌∙◌, arith, ◌==◌, if◌then◌else◌, nat_le, cases_lt, nat_tests}
+use Rattle.sctp_delivery.proofs.Names.{and-none, same-yes, length-change_where, and, not_both, distance-tsn, insert_before, distance}
 use Rattle.sctp_delivery.proofs.Names.{ChunkPayloadData, peeked_all_started, sendable-sent, Selected, Outbound, all_started, as_sent, sent_next, sent_of}
-use Rattle.sctp_delivery.proofs.Names.{Pending, chunk_count, front_of, list_of, list_to_pop, next_pending, next_pending_of, with_deadline, IsSendable, IsWhole}
-use Rattle.sctp_delivery.proofs.Names.{begun, free, stage_of, Limits, bytes_of, chunk_before, following_tsn, started-inflight, Flight, next_after_send}
+use Rattle.sctp_delivery.proofs.Names.{Pending, chunk_count, front_of, list_of, list_to_pop, next_pending, next_pending_of, IsSendable, IsWhole}
+use Rattle.sctp_delivery.proofs.Names.{begun, free, stage_of, Limits, chunk_before, following_tsn, started-inflight, Flight, next_after_send}
 use Rattle.sctp_delivery.proofs.Names.{send_refusal, with_flight, Ledger, EachOtherIsReadOnce, abandoned_in, is_all_acknowledged, reads_nothing, chunks_waiting}
-use Rattle.sctp_delivery.proofs.Names.{has_room, takes_all_of, chunks_left, in_flight, tsns_given, Made, made_after, next_chunk, sends, with_chunk, Call}
+use Rattle.sctp_delivery.proofs.Names.{chunks_left, in_flight, tsns_given, Made, made_after, next_chunk, sends, with_chunk, Call}
 use Rattle.sctp_delivery.proofs.Names.{RunsTo, SenderFollows, Session, at_start, of_sender}
 use Rattle.std.specs.Prelude.{◌*◌, slice_get}
-use Rattle.sctp_outbound.proofs.lemmas.outbound_queue.Sendable.{popped_bytes}
 use Rattle.sctp_sender.proofs.Amounts.{sent-bytes}
-use Rattle.sctp_delivery.specs.Ending.{AfterEachSessionWithTsnsLeft, EndsWhereTaken, EndsWithAllRead}
+use Rattle.sctp_delivery.specs.Ending.{CanEnd}
 use Rattle.sctp_delivery.proofs.Delivered.{next_tsn}
 use Rattle.sctp_delivery.proofs.EndDelivers.{ends-delivered, few-given, ends-answered, ends-caught-up}
-use Rattle.sctp_delivery.proofs.EndSteps.{ends-read, RoomIn, cost, due_by, few-spent, price, put-due, room-of, spent, waiting_cost, At, Ends, Setting, at-next}
+use Rattle.sctp_delivery.proofs.EndSteps.{ends-read, RoomIn, few-spent, spent, At, Ends, Setting, at-next}
 use Rattle.sctp_delivery.proofs.EndSteps.{kept-at, numbered-at, sender-before}
-use Rattle.sctp_delivery.proofs.RefusedLaw.{fit-session, limits-same}
-use Rattle.sctp_delivery.proofs.NoneAbandoned.{each-of-others}
+use Rattle.sctp_delivery.proofs.RefusedLaw.{fit-session}
 use Rattle.sctp_delivery.proofs.Numbers.{number_of}
 use Rattle.sctp_delivery.proofs.OthersOnce.{others-read}
 use Rattle.sctp_delivery.proofs.Queues.{started}
@@ -53,23 +51,13 @@ put-length : (x : ChunkPayloadData) (cs : List ChunkPayloadData) → length (ins
 put-length x [] = omega arith
 put-length x (c ∷ cs) = grind (arith, nat_tests, put-length x cs)
 
--- a deadline costs nothing
-bytes-same : (p : ChunkPayloadData → Bool) (now : ℕ) (cs : List ChunkPayloadData) → bytes_of (change_where p (with_deadline now) cs) ≡ bytes_of cs
-bytes-same p now [] = refl
-bytes-same p now (c ∷ cs) = grind (arith, common_steps, sum_by-cons, bytes-same p now cs)
-
 started-count : (now : ℕ) (q : Outbound) → chunk_count (all_started now q).pending ≡ chunk_count q.pending
 started-count now q = grind (arith, nat_tests, length-change_where)
 
-started-waiting : (now : ℕ) (q : Outbound) → waiting_cost (all_started now q).pending ≡ waiting_cost q.pending
-started-waiting now q = grind (arith, nat_tests, bytes-same, length-change_where)
-
--- it waits no more, and is in flight, for its price
+-- it waits no more, and is in flight
 record IsMoved (q r : Outbound) : Type 0 where
   waiting : chunk_count r.pending + 1 ≡ chunk_count q.pending
   flying : length r.inflight.chunks ≡ length q.inflight.chunks + 1
-  dear : (accepted : List ChunkPayloadData) → due_by price accepted r.inflight.chunks + waiting_cost r.pending
-      ≤ due_by price accepted q.inflight.chunks + waiting_cost q.pending
 
 moved : (q : Outbound) (tsn now : ℕ) → IsSendable q.pending q.inflight.chunks q.next_message_id → (o : Option ChunkPayloadData)
     → next_pending q.pending ≡ o → is_some o ≡ true → IsMoved q (sent_of o q tsn now)
@@ -79,13 +67,6 @@ moved q tsn now s (Some c) e some = record {
       popped (list_to_pop q.pending.selected c.beginning_fragment c.unordered) q.pending.ordered q.pending.unordered q.pending.selected q.pending.ordered_room
       q.pending.unordered_room c (sendable-sent q.pending q.inflight.chunks q.next_message_id c (as_sent tsn now c) refl s e).taken;
   flying = put-length (as_sent tsn now c) q.inflight.chunks;
-  dear = λ accepted.
-      let on = (sendable-sent q.pending q.inflight.chunks q.next_message_id c (as_sent tsn now c) refl s e).taken in
-      let count = popped (list_to_pop q.pending.selected c.beginning_fragment c.unordered) q.pending.ordered q.pending.unordered q.pending.selected
-      q.pending.ordered_room q.pending.unordered_room c on in
-      let bytes = popped_bytes c.beginning_fragment c.unordered q.pending c on in
-      let put = put-due price accepted (as_sent tsn now c) q.inflight.chunks in
-      omega (arith, count, bytes, put);
 }
 
 -- with nothing in flight none is refused
@@ -97,7 +78,7 @@ few-made : (o : Option ChunkPayloadData) (ms : List Made) → length (with_chunk
 few-made None ms = omega arith
 few-made (Some c) ms = omega arith
 
-abbrev after_sends : ℕ → Session → Session
+abbrev pub after_sends : ℕ → Session → Session
 after_sends now s =
     record s {
       sending = record s.sending {
@@ -110,10 +91,9 @@ after_sends now s =
     }
 
 -- one chunk waits less, and is in flight
-record Sent (s t : Session) : Type 0 where
+pub record Sent (s t : Session) : Type 0 where
   waiting : chunks_waiting t.sending.sender + 1 ≡ chunks_waiting s.sending.sender
-  flying : length (in_flight t) ≡ length (in_flight s) + 1
-  dear : cost t ≤ cost s
+  pub flying : length (in_flight t) ≡ length (in_flight s) + 1
   few : spent t ≤ spent s + 2
   sacks : t.sacks ≡ s.sacks
 
@@ -128,28 +108,32 @@ module _ (b : Setting) (n : ℕ) (s : Session) (i : At b n s) (none : length (in
   sendable : IsSendable s.sending.sender.flight.queue.pending s.sending.sender.flight.queue.inflight.chunks s.sending.sender.flight.queue.next_message_id
   sendable = (kept-at b n s i).kept.holds.held.stands.sendable
 
-  there : is_some (next_pending s.sending.sender.flight.queue.pending) ≡ true
+  pub there : is_some (next_pending s.sending.sender.flight.queue.pending) ≡ true
   there = next-there q.pending q.inflight.chunks q.next_message_id sendable some
 
   sending : SenderFollows (sends b.now) s (after_sends b.now s)
   sending = grind (arith, nat_tests, sendable, sent-bytes, unrefused)
 
-  sent : Sent s (after_sends b.now s)
-  sent =
+  -- the queues stand with lifetimes that start
+  pub stands-started : IsSendable (all_started b.now q).pending (all_started b.now q).inflight.chunks (all_started b.now q).next_message_id
+  stands-started =
       let k = kept-at b n s i in
-      let st = started k.numbered b.first (λ st. number_of st s.sending.sender.streams) b.now q next k.sent k.kept.holds.held.stands in
-      let m = moved (all_started b.now q) next b.now st.sendable (next_pending (all_started b.now q).pending) refl (peeked_all_started b.now q ∙ there) in
+      (started k.numbered b.first (λ st. number_of st s.sending.sender.streams) b.now q next k.sent k.kept.holds.held.stands).sendable
+
+  taken : IsMoved (all_started b.now q) (sent_next q next b.now)
+  taken =
+      moved (all_started b.now q) next b.now stands-started (next_pending (all_started b.now q).pending) refl (peeked_all_started b.now q ∙ there)
+
+  pub sent : Sent s (after_sends b.now s)
+  sent =
+      let m = taken in
       let waits = m.waiting in
       let flies = m.flying in
       let count = started-count b.now q in
       let same = ap (λ p. length p.chunks) (started-inflight b.now q) in
-      let dear = m.dear s.receiving.accepted in
-      let flying-same = ap (λ p. due_by price s.receiving.accepted p.chunks) (started-inflight b.now q) in
-      let waiting-same = started-waiting b.now q in
       record {
         waiting = omega (arith, waits, count);
         flying = omega (arith, flies, same);
-        dear = omega (arith, dear, flying-same, waiting-same);
         few =
             let most = few-spent (after_sends b.now s) in
             let made = few-made (next_chunk b.now s.sending.sender) s.made in
@@ -166,15 +150,13 @@ module _ (b : Setting) (n : ℕ) (s : Session) (i : At b n s) (none : length (in
       ap (distance next) (up ∙ ap following_tsn at ∙ next-place p (n + 1)) ∙ ap (λ u. distance u ((p + (n + 1 + 1)) % 2 ^ 32)) at
       ∙ distance-tsn p (n + 1) (n + 1 + 1) (omega arith) (omega arith) ∙ (let z : n + 1 + 1 - (n + 1) ≡ 1 = omega arith in z)
 
-  ends-sent : ((t : Session) → At b (n + 1) t → Sent s t → Ends b t) → Ends b s
-  ends-sent next-ends =
+  ends-sent : RoomIn b.limits (after_sends b.now s) → ((t : Session) → At b (n + 1) t → Sent s t → Ends b t) → Ends b s
+  ends-sent room next-ends =
       let t = after_sends b.now s in
       let one = one-tsn in
       let x = sent in
       let waits = x.waiting in
-      let flies = x.flying in
-      let dear = x.dear in
-      let j = at-next b n (of_sender (sends b.now)) s t sending (same-yes b.now) (omega (arith, one, few)) (omega (arith, waits, flies)) dear i in
+      let j = at-next b n (of_sender (sends b.now)) s t sending (same-yes b.now) (omega (arith, one, few)) room i in
       sender-before b (sends b.now) s t sending (same-yes b.now) (omega (arith, one, waits))
       (next-ends t (subst (λ k. At b k t) {x = n + distance (next_tsn s) (next_tsn t)} {y = n + 1} (omega (arith, one)) j) x)
 
@@ -234,21 +216,34 @@ module _ (b : Setting) where
             (others-read b.first b.size b.max b.most b.limits j.calls t j.run b.small (few-given b n t j) b.some exhausted);
       })
 
-  ends-from : (m n : ℕ) (s : Session) → At b n s → n + chunks_waiting s.sending.sender < 2 ^ 31
+  -- where nothing is in flight and nothing is to be read, there is room when the next chunk is sent
+  abbrev pub Grows : Type 0
+  Grows =
+      (n : ℕ) (s : Session) → At b n s → length (in_flight s) ≡ 0 → reads_nothing s.receiving.receiver ≡ true → 0 < chunks_waiting s.sending.sender
+      → n + 1 < 2 ^ 31 → RoomIn b.limits (after_sends b.now s)
+
+  pub ends-from : Grows → (m n : ℕ) (s : Session) → At b n s → n + chunks_waiting s.sending.sender < 2 ^ 31
       → length s.sacks + chunks_left s.sending.sender ≤ b.sacks → spent s + chunks_left s.sending.sender + 2 * chunks_waiting s.sending.sender ≤ b.made
       → chunks_left s.sending.sender ≤ m → Ends b s
-  ends-from zero n s i few sacks made le = finish n s i (omega (arith, le)) (omega (arith, sacks)) (omega (arith, made))
-  ends-from (suc m) n s i few sacks made le = elim (cases_lt 0 (length (in_flight s))) [
+  ends-from grows zero n s i few sacks made le = finish n s i (omega (arith, le)) (omega (arith, sacks)) (omega (arith, made))
+  ends-from grows (suc m) n s i few sacks made le = elim (cases_lt 0 (length (in_flight s))) [
     | inl some ↦ ends-rounded n s i some (λ t j r.
         let waits = r.waiting in
         let fewer = r.fewer in
         let reported = r.sacks in
         let spent' = r.few in
-        ends-from m n t j (omega (arith, few, waits)) (omega (arith, sacks, waits, fewer, reported)) (omega (arith, made, spent', waits, fewer))
+        ends-from grows m n t j (omega (arith, few, waits)) (omega (arith, sacks, waits, fewer, reported)) (omega (arith, made, spent', waits, fewer))
         (omega (arith, le, waits, fewer)))
     | inr none ↦ elim (cases_lt 0 (chunks_waiting s.sending.sender)) [
       | inr empty ↦ finish n s i (omega (arith, none, empty)) (omega (arith, sacks)) (omega (arith, made))
-      | inl more ↦ ends-sent b n s i (omega (arith, none)) more (omega (arith, few, more)) (λ u k x.
+      | inl more ↦ ends-read b n s i (λ v l y unread.
+          let here = ap (λ (l : Ledger). chunks_waiting l.sender) y.sending in
+          let flying = ap (λ (l : Ledger). length l.sender.flight.queue.inflight.chunks) y.sending in
+          let told = ap length y.sacks in
+          let sent-so = ap length y.made in
+          let most = few-spent v in
+          ends-sent b n v l (omega (arith, flying, none)) (omega (arith, here, more)) (omega (arith, few, more))
+          (grows n v l (omega (arith, flying, none)) unread (omega (arith, here, more)) (omega (arith, few, more))) (λ u k x.
           let gone = x.waiting in
           let flies = x.flying in
           let before = ap length x.sacks in
@@ -258,8 +253,10 @@ module _ (b : Setting) where
           let reported = r.sacks in
           let spent' = r.few in
           let sent' = x.few in
-          ends-from m (n + 1) t j (omega (arith, few, waits, gone)) (omega (arith, sacks, waits, fewer, reported, gone, flies, before))
-          (omega (arith, made, spent', sent', waits, fewer, gone, flies)) (omega (arith, le, waits, fewer, gone, flies))))
+          ends-from grows m (n + 1) t j (omega (arith, few, waits, gone, here))
+          (omega (arith, sacks, waits, fewer, reported, gone, flies, before, here, flying, told, none))
+          (omega (arith, made, spent', sent', waits, fewer, gone, flies, here, flying, sent-so, most, none))
+          (omega (arith, le, waits, fewer, gone, flies, here, flying, none)))))
     ]
   ]
 
@@ -267,48 +264,40 @@ module _ (b : Setting) where
 
 module _ (tsn size max most : ℕ) (limits : Option Limits) (cs : List Call) (s : Session) (small : tsn < 2 ^ 32) (some : 0 < size)
     (run : RunsTo (at_start tsn size max most limits) cs s)
-    (few : tsns_given (at_start tsn size max most limits) cs s run + chunks_waiting s.sending.sender < 2 ^ 31)
-    (takes : takes_all_of s.sending.sender s.receiving.receiver ≡ true) (now : ℕ) where
-  parts : (has_room s.receiving.receiver.limits s.sending.sender s.receiving.receiver ≡ true)
-      × (nat_le s.sending.sender.max_message_size s.receiving.receiver.max_message_size ≡ true)
-  parts = both (has_room s.receiving.receiver.limits s.sending.sender s.receiving.receiver)
-      (nat_le s.sending.sender.max_message_size s.receiving.receiver.max_message_size) takes
+    (few : tsns_given (at_start tsn size max most limits) cs s run + chunks_waiting s.sending.sender < 2 ^ 31) where
+  longer : nat_le s.sending.sender.max_message_size s.receiving.receiver.max_message_size ≡ true → max ≤ most
+  longer e = grind (arith, nat_tests, fit-session)
 
-  longer : max ≤ most
-  longer = grind (arith, nat_tests, fit-session)
-
-  abbrev setting : Setting
-  setting = record {
-    first = tsn;
-    size = size;
-    max = max;
-    most = most;
-    limits = limits;
-    small = small;
-    some = some;
-    enough = longer;
-    gone = abandoned_in (at_start tsn size max most limits) cs s run;
-    sacks = length s.sacks + chunks_left s.sending.sender;
-    made = length s.made + 3 * chunks_left s.sending.sender;
-    now = now;
-  }
-
-  room : RoomIn limits s
-  room =
-      room-of limits s (subst (λ o. has_room o s.sending.sender s.receiving.receiver ≡ true)
-      (limits-same cs (at_start tsn size max most limits) s run) parts.0)
-
-  ends : Ends setting s
-  ends = ends-from setting (chunks_left s.sending.sender) (tsns_given (at_start tsn size max most limits) cs s run) s
+  -- so the session ends, where there is room
+  pub ends-in : nat_le s.sending.sender.max_message_size s.receiving.receiver.max_message_size ≡ true → ((b : Setting) → Grows b) → RoomIn limits s → (now : ℕ)
+      → CanEnd now (abandoned_in (at_start tsn size max most limits) cs s run) s
+  ends-in enough grows room now =
+      let b : Setting = record {
+        first = tsn;
+        size = size;
+        max = max;
+        most = most;
+        limits = limits;
+        small = small;
+        some = some;
+        enough = longer enough;
+        gone = abandoned_in (at_start tsn size max most limits) cs s run;
+        sacks = length s.sacks + chunks_left s.sending.sender;
+        made = length s.made + 3 * chunks_left s.sending.sender;
+        now = now;
+      } in
+      let e = ends-from b (grows b) (chunks_left s.sending.sender) (tsns_given (at_start tsn size max most limits) cs s run) s
       (record { calls = cs; run = run; given = refl; gone = refl; few = omega (arith, few); room = room }) few (omega arith)
-      (let most = few-spent s in omega (arith, most)) (omega arith)
-
-pub all-end : AfterEachSessionWithTsnsLeft EndsWhereTaken
-all-end tsn size max most limits cs s small some run few takes now =
-    let e = ends tsn size max most limits cs s small some run few takes now in
-    grind (arith, nat_tests)
-
-pub all-read : AfterEachSessionWithTsnsLeft EndsWithAllRead
-all-read tsn size max most limits cs s small some run few none takes now =
-    let e = all-end tsn size max most limits cs s small some run few takes now in
-    (e, each-of-others e.ended (subst (λ gone. EachOtherIsReadOnce gone e.ended) none e.read))
+      (let most' = few-spent s in omega (arith, most')) (omega arith) in
+      record {
+        calls = e.calls;
+        ended = e.ended;
+        run = e.run;
+        delivery = e.delivery;
+        given = e.given;
+        written = e.written;
+        sacks = e.sacks;
+        made = e.made;
+        exhausted = e.exhausted;
+        read = e.read;
+      }

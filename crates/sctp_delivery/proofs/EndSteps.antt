@@ -1,16 +1,14 @@
 -- Sessions that can end: what is due, a call in front of others that end one, reads, and streams that are opened.
 use Rattle.sctp_delivery.proofs.Names.{◌≡◌, ℕ, ◌+◌, ◌<◌, ◌≤◌, Bool, true, false, not, List, [], ◌∷◌, ◌++◌, length, Option, Some, None, refl, ap, ◌∙◌, arith}
 use Rattle.sctp_delivery.proofs.Names.{◌-◌, ◌^◌, subst, zero, suc, is_some, sym, ◌||◌, find, if◌then◌else◌, ◌&&◌, list_any, sum_by, list_all, nat_tests}
-use Rattle.sctp_delivery.proofs.Names.{sum_by-cons, none-some, common_steps, and-none, same-yes, some-same, sum_by-inserted, both, and, not_both, change_where}
+use Rattle.sctp_delivery.proofs.Names.{sum_by-cons, none-some, common_steps, and-none, same-yes, some-same, sum_by-inserted, and, not_both, change_where}
 use Rattle.sctp_delivery.proofs.Names.{insert_before, distance, ForwardTsn, ChunkPayloadData, as_acknowledged, past, Pending, chunk_count, ReassemblyState}
 use Rattle.sctp_delivery.proofs.Names.{Reassembly, front_readable, message_read, rest_read, without_first, Pushes, new_stream, stream_read}
 use Rattle.sctp_delivery.proofs.Names.{unassembled_forwarded, with_queue, cost_of, Reception, follow_forward_tsn, is_stale, new_refusal, is_open}
-use Rattle.sctp_delivery.proofs.Names.{after_forward_tsn, incomplete_forwarded, without_incomplete, InboundStream, Limits, bytes_of, chunk_before, has_tsn}
-use Rattle.sctp_delivery.proofs.Names.{sent_again, has_room, chunks_waiting, ReceiverCall, reads, chunks_left, in_flight, Call, ReceiverFollows, RunsTo}
+use Rattle.sctp_delivery.proofs.Names.{after_forward_tsn, incomplete_forwarded, without_incomplete, InboundStream, Limits, chunk_before, has_tsn}
+use Rattle.sctp_delivery.proofs.Names.{sent_again, chunks_waiting, ReceiverCall, reads, in_flight, Call, ReceiverFollows, RunsTo}
 use Rattle.sctp_delivery.proofs.Names.{Session, of_receiver, of_sender, Follows, SenderFollows, at_start, distance-tsn, EachOtherIsReadOnce, abandoned_by}
 use Rattle.sctp_delivery.proofs.Names.{abandoned_in, is_exhausted, reads_nothing, tsns_given, SenderCall, Write, written_after, list_all-append, ChunkSet}
-use Rattle.std.proofs.Common.{◌*◌}
-use Rattle.sctp_outbound.specs.pending_queue.PendingQueue as pending
 use Rattle.sctp_receiver.proofs.DataEach.{takes-keeps}
 use Rattle.sctp_receiver.proofs.Forwarded.{followed-numbers}
 use Rattle.sctp_receiver.proofs.Inbounds.{stays-mapped}
@@ -19,10 +17,11 @@ use Rattle.sctp_receiver.proofs.StreamCosts.{all-cost, are_apart, changed-cost, 
 use Rattle.sctp_receiver.specs.Inbound.{has_number, named_forwarded, numbers_of}
 use Rattle.sctp_receiver.specs.Limits.{chunk_cost}
 use Rattle.sctp_receiver.specs.Receiver.{open_stream}
-use Rattle.sctp_delivery.specs.Ending.{is_delivery}
+use Rattle.sctp_delivery.specs.Ending.{is_delivery, rest_cost, waiting_cost}
 use Rattle.sctp_delivery.specs.ReceiverCalls as incoming
 use Rattle.sctp_delivery.specs.ReceiverCalls.{opens}
 use Rattle.sctp_delivery.proofs.Delivered.{next_tsn}
+use Rattle.sctp_delivery.proofs.Every.{Every}
 use Rattle.sctp_delivery.proofs.GivenTsns.{IsNumbered}
 use Rattle.sctp_delivery.proofs.RefusedLaw.{fit-session}
 use Rattle.sctp_delivery.proofs.Reached.{HasKept, IsReached, kept}
@@ -97,40 +96,71 @@ module _ (w : ChunkPayloadData → ℕ) where
 abbrev pub price : ChunkPayloadData → ℕ
 price c = length c.user_data + chunk_cost
 
--- what waits
-abbrev pub waiting_cost : Pending → ℕ
-waiting_cost q = pending.total_bytes q + chunk_cost * chunk_count q
+-- where the session began, with the messages that were abandoned before it is ended, how many SACKs and chunks may have been made then, and
+-- when that is
+pub record Setting : Type 0 where
+  pub first : ℕ
+  pub size : ℕ
+  pub max : ℕ
+  pub most : ℕ
+  pub limits : Option Limits
+  pub small : first < 2 ^ 32
+  pub some : 0 < size
+  pub enough : max ≤ most
+  pub gone : List ℕ
+  pub sacks : ℕ
+  pub made : ℕ
+  pub now : ℕ
 
--- what the receiver holds, what is due in flight, and what waits
+abbrev pub pending_of : Session → Pending
+pending_of s = s.sending.sender.flight.queue.pending
+
+-- what waits of the partially sent message, and of each message that waits no more than this
+abbrev pub rest_of : Pending → ℕ
+rest_of q = rest_cost q.selected q
+
+abbrev pub FitEach : ℕ → Pending → Type 0
+FitEach w q =
+    Every (λ c. waiting_cost c.message_id q ≤ w) q.ordered × Every (λ c. waiting_cost c.message_id q ≤ w) q.unordered
+
+-- what is due in flight, and what waits of the partially sent message; and what the receiver holds with it
+abbrev pub load : Session → ℕ
+load s = due_by price s.receiving.accepted (in_flight s) + rest_of (pending_of s)
+
 abbrev pub cost : Session → ℕ
-cost s =
-    sum_by cost_of s.receiving.receiver.streams
-    + (due_by price s.receiving.accepted s.sending.sender.flight.queue.inflight.chunks + waiting_cost s.sending.sender.flight.queue.pending)
+cost s = sum_by cost_of s.receiving.receiver.streams + load s
 
--- where there are limits, the receiver has room for all that
+-- where there are limits, the receiver has room for all that, if any of it is to come, and then for one message after another
 abbrev pub RoomIn : Option Limits → Session → Type 0
 RoomIn None s = Unit {0}
-RoomIn (Some l) s = (chunks_left s.sending.sender ≤ l.reach) × (cost s < l.window)
+RoomIn (Some l) s =
+    (length (in_flight s) ≤ l.reach) × (0 < chunks_waiting s.sending.sender → 0 < l.reach) × (0 < load s → cost s ≤ l.window)
+    × FitEach l.window (pending_of s)
 
-pub room-still : (o : Option Limits) (s t : Session) → chunks_left t.sending.sender ≤ chunks_left s.sending.sender → cost t ≤ cost s → RoomIn o s → RoomIn o t
-room-still None s t left less r = tt
-room-still (Some l) s t left less r = let a = r.0 in let b = r.1 in (omega (arith, left, a), omega (arith, less, b))
+-- there still is, where the same chunks wait
+room-still : (o : Option Limits) (s t : Session) → pending_of t ≡ pending_of s → length (in_flight t) ≤ length (in_flight s)
+    → load t ≤ load s → cost t ≤ cost s → RoomIn o s → RoomIn o t
+room-still None s t same left lighter less r = tt
+room-still (Some l) s t same left lighter less r = (
+  let h = r.0 in omega (arith, left, h),
+  λ some. r.1 (subst (λ q. 0 < chunk_count q) same some),
+  λ some. let h = r.2 (omega (arith, some, lighter)) in omega (arith, less, h),
+  subst (FitEach l.window) (sym same) r.3,
+)
 
-all-price : (cs : List ChunkPayloadData) → sum_by price cs ≡ bytes_of cs + chunk_cost * length cs
-all-price [] = omega arith
-all-price (c ∷ cs) =
-    let n = sum_by-cons price c cs in
-    let m = sum_by-cons (λ (d : ChunkPayloadData). length d.user_data) c cs in
-    let ih = all-price cs in
-    omega (arith, n, m, ih)
-
-pub room-of : (o : Option Limits) (s : Session) → has_room o s.sending.sender s.receiving.receiver ≡ true → RoomIn o s
-room-of o s h3 = grind (arith, nat_tests, all-due, all-price, both)
-
--- so no TSN in flight is refused for the limits
+-- so no TSN in flight is refused for the limits, while something is due
 pub none-refused : (o : Option Limits) (s : Session) (tsn : ℕ) → RoomIn o s → s.receiving.receiver.limits ≡ o
-    → distance s.receiving.receiver.cumulative_tsn tsn ≤ length (in_flight s) → new_refusal tsn s.receiving.receiver ≡ None
-none-refused o s tsn room is near = grind (arith, nat_tests, and-none)
+    → distance s.receiving.receiver.cumulative_tsn tsn ≤ length (in_flight s) → 0 < due_by price s.receiving.accepted (in_flight s)
+    → new_refusal tsn s.receiving.receiver ≡ None
+none-refused o s tsn room is near some = by o room is
+  where
+    by : (o : Option Limits) → RoomIn o s → s.receiving.receiver.limits ≡ o → new_refusal tsn s.receiving.receiver ≡ None
+    by None r e = grind (arith, nat_tests)
+    by (Some l) r e =
+        let reach = r.0 in
+        let within = r.2 (omega (arith, some)) in
+        let left : sum_by cost_of s.receiving.receiver.streams < l.window = omega (arith, within, some) in
+        grind (arith, nat_tests, and-none)
 
 -- ## What a call makes of it
 
@@ -228,22 +258,6 @@ module _ (now : ℕ) (call : Call) (s t : Session) (f : Follows call s t) (deliv
 
 -- ## From a start
 
--- where the session began, with the messages that were abandoned before it is ended, how many SACKs and chunks may have been made then, and
--- when that is
-pub record Setting : Type 0 where
-  pub first : ℕ
-  pub size : ℕ
-  pub max : ℕ
-  pub most : ℕ
-  pub limits : Option Limits
-  pub small : first < 2 ^ 32
-  pub some : 0 < size
-  pub enough : max ≤ most
-  pub gone : List ℕ
-  pub sacks : ℕ
-  pub made : ℕ
-  pub now : ℕ
-
 abbrev pub start : Setting → Session
 start b = at_start b.first b.size b.max b.most b.limits
 
@@ -296,20 +310,20 @@ module _ (b : Setting) where
   -- ## Behind one more call
 
   pub at-next : (n : ℕ) (call : Call) (s t : Session) → Follows call s t → is_delivery b.now call ≡ true
-      → n + distance (next_tsn s) (next_tsn t) < 2 ^ 31 → chunks_left t.sending.sender ≤ chunks_left s.sending.sender → cost t ≤ cost s → At b n s
-      → At b (n + distance (next_tsn s) (next_tsn t)) t
-  at-next n call s t f d few left less i =
+      → n + distance (next_tsn s) (next_tsn t) < 2 ^ 31 → RoomIn b.limits t → At b n s → At b (n + distance (next_tsn s) (next_tsn t)) t
+  at-next n call s t f d few room i =
       let l = longer b.now call s t f d i.calls (start b) i.run in
-      grind (arith, nat_tests, room-still)
+      grind (arith, nat_tests)
 
-  -- where no TSN is given out
+  -- where no TSN is given out, and the same chunks wait
   pub at-same : (n : ℕ) (call : Call) (s t : Session) → Follows call s t → is_delivery b.now call ≡ true → next_tsn t ≡ next_tsn s
-      → chunks_left t.sending.sender ≤ chunks_left s.sending.sender → cost t ≤ cost s → At b n s → At b n t
-  at-same n call s t f d same left less i =
+      → pending_of t ≡ pending_of s → length (in_flight t) ≤ length (in_flight s) → load t ≤ load s → cost t ≤ cost s → At b n s
+      → At b n t
+  at-same n call s t f d same waits left lighter less i =
       let none : distance (next_tsn s) (next_tsn t) ≡ 0 = ap (distance (next_tsn s)) same ∙ no-distance n s i in
       let few = i.few in
       subst (λ k. At b k t) {x = n + distance (next_tsn s) (next_tsn t)} {y = n} (omega (arith, none))
-      (at-next n call s t f d (omega (arith, none, few)) left less i)
+      (at-next n call s t f d (omega (arith, none, few)) (room-still b.limits s t waits left lighter less i.room) i)
 
   -- ## In front of calls that end it
 
@@ -461,7 +475,7 @@ module _ (b : Setting) where
       let f = reads-on r.number s r.there in
       let lt = r.fewer in
       receiver-before b n (reads r.number) s t i f
-      (read-all m n t (at-same b n (of_receiver (reads r.number)) s t f refl refl (omega arith) (let less = read-cost r.number s.receiving.receiver.streams in
+      (read-all m n t (at-same b n (of_receiver (reads r.number)) s t f refl refl refl (omega arith) (omega arith) (let less = read-cost r.number s.receiving.receiver.streams in
       omega (arith, less)) i) (omega (arith, le, lt)) (λ u j x none.
       next u j (rests-then s t u (record { sending = refl; accepted = refl; cumulative = refl; made = refl; sacks = refl }) x) none)))
 
@@ -504,5 +518,5 @@ module _ (b : Setting) where
           let t = after_opens stream s in
           let f = opens-one stream s e in
           receiver-before b n (opens stream) s t i f
-          (next t (at-same b n (of_receiver (opens stream)) s t f refl refl (omega arith)
+          (next t (at-same b n (of_receiver (opens stream)) s t f refl refl refl (omega arith) (omega arith)
           (let same = open-cost stream s.receiving.receiver.max_message_size s.receiving.receiver.streams in omega (arith, same)) i) (opened stream s))

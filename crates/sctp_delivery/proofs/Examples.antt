@@ -5,7 +5,7 @@ use Rattle.sctp_delivery.proofs.Names.{ChunkPayloadData, Binary, Reliable, Data,
 use Rattle.sctp_delivery.proofs.Names.{after_ordered_push, released_by, next_after_send, message_to_abandon, Transmission, after_acked, with_flight, written_to}
 use Rattle.sctp_delivery.proofs.Names.{after_abandon, held_by_sender, taken_back_by, written_by, with_lows, OutboundStream, Message, accepted_after}
 use Rattle.sctp_delivery.proofs.Names.{fragments_held, holds_nothing, is_exhausted, is_reliable, reads_nothing, is_all_acknowledged, chunks_waiting}
-use Rattle.sctp_delivery.proofs.Names.{takes_all_of, reads, takes, ReceiverCall, reports_after, follows, IsInFlight, is_takable, MayMake, is_due_named}
+use Rattle.sctp_delivery.proofs.Names.{takes_each_of, reads, takes, ReceiverCall, reports_after, follows, IsInFlight, is_takable, MayMake, is_due_named}
 use Rattle.sctp_delivery.proofs.Names.{is_reported, reports_tsn, tsns_given, was_passed, was_taken, data_chunk, made_after, sends, takes_sack, writes}
 use Rattle.sctp_delivery.proofs.Names.{written_after, Answers, MakesExactly, SenderCall, abandons, forwards, Call, ReceiverFollows, RunsTo, SenderFollows}
 use Rattle.sctp_delivery.proofs.Names.{Session, at_start, of_receiver, of_sender, IsReported, none-some, not_both, ForwardTsn, after_forward_tsn, skip_refusal}
@@ -33,7 +33,7 @@ use Rattle.sctp_delivery.proofs.Every.{all-of-every}
 use Rattle.sctp_sender.specs.SenderRuns as sender_runs
 use Rattle.sctp_receiver.specs.ReceiverRuns as receiver_runs
 use Rattle.sctp_delivery.specs.Rounds as rounds
-use Rattle.sctp_delivery.proofs.EndSessions.{all-end}
+use Rattle.sctp_delivery.proofs.EndWindows.{all-end}
 
 -- ## Calls
 
@@ -607,7 +607,7 @@ given-one = refl
 one-waits : (chunks_waiting first_gone.sending.sender ≡ 1) × (abandoned_in start first_calls first_gone first-run ≡ 0 ∷ [])
 one-waits = (refl, refl)
 
-takes-all : takes_all_of first_gone.sending.sender first_gone.receiving.receiver ≡ true
+takes-all : takes_each_of first_gone.sending.sender first_gone.receiving.receiver ≡ true
 takes-all = refl
 
 -- the law leads to its end

@@ -1,24 +1,25 @@
--- Where nothing waits, nothing is in flight and nothing is to be read, a receiver holds no fragment of a message that is not gone.
+-- Where nothing is in flight, no message is partially sent and nothing is to be read, a receiver holds no fragment of a message that is not gone.
 use Rattle.sctp_delivery.proofs.Names.{◌≡◌, ℕ, suc, ◌+◌, ◌^◌, ◌<◌, ◌≤◌, true, false, List, [], ◌∷◌, length, Option, Some, None, inl, inr, refl, ap, sym, subst}
 use Rattle.sctp_delivery.proofs.Names.{◌∙◌, arith, All, ◌⊎◌, ◌==◌, list_all, list_any, sum_by, cases_lt, nat_tests, at_or_before, or-left, or-split, same-is}
-use Rattle.sctp_delivery.proofs.Names.{not_both, tsn, ChunkPayloadData, ChunkSet, Data, data_of, is_complete, Reassembly, message_read, InboundStream, Limits}
+use Rattle.sctp_delivery.proofs.Names.{nat_le, fails, same-yes, not_both, tsn, ChunkPayloadData, ChunkSet, Data, data_of, is_complete, Reassembly, message_read, InboundStream, Limits}
 use Rattle.sctp_delivery.proofs.Names.{Reception, stream_of, fragments_read, is_one_message, held_weight, set_weight, has_tsn, reads_nothing, was_taken, Call}
 use Rattle.sctp_delivery.proofs.Names.{RunsTo, Session, at_start}
 use Rattle.sctp_delivery.proofs.Cases.{by-test}
-use Rattle.sctp_delivery.proofs.InTheEnd.{any-of, none-selected, unread-of}
+use Rattle.sctp_delivery.proofs.InTheEnd.{any-of, none-data, some-of, unread-of}
 use Rattle.sctp_delivery.proofs.UnwrappedHolds.{IsSome}
 use Rattle.sctp_delivery.proofs.Delivered.{EachSent}
-use Rattle.sctp_delivery.proofs.KeptSessions.{IsIdle, complete-messages, IsKeptIn}
+use Rattle.sctp_delivery.proofs.KeptSessions.{complete-messages, IsKeptIn}
 use Rattle.sctp_delivery.proofs.Every.{Every, one-of, every-pair}
 use Rattle.sctp_delivery.proofs.PassingCalls.{IsGone, all-taken-or-gone}
 use Rattle.sctp_delivery.proofs.KeptCalls as calls
-use Rattle.sctp_delivery.proofs.KeptOrGone.{HeldWell, IsHeldWell, IsLate, at-in, place-in}
+use Rattle.sctp_delivery.proofs.KeptOrGone.{IsPassedTo, IsPast, is_upto, upto-place, HeldWell, IsHeldWell, IsLate, at-in, place-in}
 use Rattle.sctp_delivery.proofs.NotRefused.{begun-low, front-open, lowest-next}
-use Rattle.sctp_delivery.proofs.MessagePlaces.{IsEntryAt, same-entry, misses-one, place-tsn}
+use Rattle.sctp_delivery.proofs.FragmentPlaces.{at_place, shown}
+use Rattle.sctp_delivery.proofs.MessagePlaces.{IsEntryAt, IsSpan, ends-own, entry-at, entry-of, next-of, span-of, same-entry, misses-one, place-tsn}
 use Rattle.sctp_delivery.proofs.OrderedEntries.{AreJoined, IsOpen}
 use Rattle.sctp_delivery.proofs.PassedMessages.{AreTakenOrGone, EndsMessage, is_gone}
-use Rattle.sctp_delivery.proofs.ReadOnce.{one}
-use Rattle.sctp_delivery.proofs.Sent.{Entry, IsLine, IsPart, Numbered, WasSent, fragment, part-itself, part-length, terminal}
+use Rattle.sctp_delivery.proofs.ReadOnce.{none-count, one}
+use Rattle.sctp_delivery.proofs.Sent.{Entry, IsLine, IsPart, Numbered, WasSent, fragment, part-itself, part-length, same-parts, terminal}
 use Rattle.sctp_delivery.proofs.Sessions as made_in
 use Rattle.sctp_delivery.proofs.SpreadEntries.{begun_to, is_at, to-up}
 use Rattle.sctp_delivery.proofs.TsnPlaces.{base, same-place, upto-yes}
@@ -28,8 +29,15 @@ use Rattle.sctp_delivery.proofs.UnwrappedReads as reads
 use Rattle.sctp_delivery.proofs.UnwrappedReads.{IsDue}
 use Rattle.sctp_delivery.proofs.UnwrappedSessions as sessions
 
+-- nothing is held
+pub record IsBare (q : Reassembly) : Type 0 where
+  pub ordered : q.ordered ≡ []
+  pub unordered : q.unordered ≡ []
+  pub unassembled : q.unassembled ≡ []
+
 module _ (first size max most : ℕ) (limits : Option Limits) (cs : List Call) (s : Session) (run : RunsTo (at_start first size max most limits) cs s)
-    (n : ℕ) (few : n < 2 ^ 31) (gone : List ℕ) (ns : List Numbered) (sent : List Entry) (k : IsKeptIn first n gone s ns sent) (idle : IsIdle s)
+    (n : ℕ) (few : n < 2 ^ 31) (gone : List ℕ) (ns : List Numbered) (sent : List Entry) (k : IsKeptIn first n gone s ns sent)
+    (landed : s.sending.sender.flight.queue.inflight.chunks ≡ []) (unbegun : s.sending.sender.flight.queue.pending.selected ≡ None)
     (unread : reads_nothing s.receiving.receiver ≡ true) where
   abbrev p : ℕ
   p = base first
@@ -56,12 +64,11 @@ module _ (first size max most : ℕ) (limits : Option Limits) (cs : List Call) (
   whole = complete-messages first size max most limits cs s run sent k.unwrapped.spread.holds.made
 
   came : AreTakenOrGone gone s sent
-  came = all-taken-or-gone first n s ns sent gone k.unwrapped.spread few k.passed.passing idle.inflight
+  came = all-taken-or-gone first n s ns sent gone k.unwrapped.spread few k.passed.passing landed
 
   -- the last message was sent whole, or cut short
   ends : 0 < n → EndsMessage sent
-  ends some = by sent long
-      (none-selected ns first _ s.sending.sender.flight.queue.pending sent k.unwrapped.spread.holds.held.stands.queued idle.ordered idle.unordered)
+  ends some = by sent long unbegun
       k.unwrapped.spread.holds.held.stands.queued.open'
     where
       by : (xs : List Entry) → length xs ≡ n → s.sending.sender.flight.queue.pending.selected ≡ None → IsOpen xs s.sending.sender.flight.queue.pending.selected
@@ -82,7 +89,7 @@ module _ (first size max most : ℕ) (limits : Option Limits) (cs : List Call) (
 
     -- all that got TSNs has come
     upto : n ≤ answered.arrived.place
-    upto = omega (arith, answered.arrived.least_is, ap length idle.inflight)
+    upto = omega (arith, answered.arrived.least_is, ap length landed)
 
     all-came : (y : ℕ) → y ≤ n → is_at st y sent ≡ true → Came y
     all-came y le on =
@@ -207,6 +214,94 @@ module _ (first size max most : ℕ) (limits : Option Limits) (cs : List Call) (
                   (sym (place-tsn ns first sent line joined n long few g.0 (data_of c) g.1 g.2) ∙ is) in
                   let x = same-entry ns first sent line joined y e (data_of c) w g.1 i (subst (λ z. IsEntryAt sent z (data_of c) g.1) same g.2) in
                   not_both (sym alive ∙ ap (λ (u : Numbered). is_gone gone u.place) x.1 ∙ g.3)
+
+      -- ## Nothing is unassembled: what stands past the place up to which FORWARD-TSNs went was taken
+
+      to : IsPassedTo first sent st n (k.kept st).lost s.receiving
+      to = (k.kept st).floor
+
+      taken-past : (y : ℕ) → to.floor < y → y ≤ n → was_taken (tsn p y) s ≡ true
+      taken-past y over le =
+          let at = to.arrived in
+          let within' = at.within in
+          let most = answered.arrived.within in
+          let same : at.place ≡ answered.arrived.place = same-place p at.place answered.arrived.place (omega (arith, within', few))
+          (omega (arith, most, few)) (sym at.is ∙ answered.arrived.is) in
+          elim (or-split (was_taken (tsn p y) s) (is_upto p to.floor (tsn p y)) (at.so_far y (omega (arith, over)) (omega (arith, le, upto, same)))) [
+            | inl e ↦ e
+            | inr e ↦ absurd (not_both (sym (upto-place p to.floor y (tsn p y) refl (omega (arith, le, few))
+                ∙ (let t : nat_le y to.floor ≡ false = grind (arith, nat_tests, over) in t)) ∙ e))
+          ]
+
+      -- no terminal chunk stands there
+      uncut : (y : ℕ) (d : Data) (w : Numbered) (i : IsEntryAt sent y d w) → to.floor < suc y → suc y ≤ n
+          → IsPart (terminal ∷ fragment d w i.after ∷ i.entries) sent → ⊥
+      uncut y d w i over le part =
+          let c = one-of (λ c. WasSent sent (data_of c)) (has_tsn (tsn p (suc y))) s.receiving.accepted (taken-past (suc y) over le)
+          (unassembled.was-taken ns first sent line joined n long few gone k.passed.cut s k.unwrapped.spread.holds.made made
+          k.unwrapped.spread.step.taken.apart whole st a (k.kept st)) in
+          let e = entry-at ns first sent line joined n long few c.0 c.2 (suc y) le (same-is c.0.tsn (tsn p (suc y)) c.1) in
+          let same : terminal ∷ fragment d w i.after ∷ i.entries ≡ fragment (data_of c.0) e.0 e.1.after ∷ e.1.entries =
+          same-parts sent (terminal ∷ fragment d w i.after ∷ i.entries) (fragment (data_of c.0) e.0 e.1.after ∷ e.1.entries) part e.1.part
+          (omega (arith, i.place, e.1.place)) in
+          cc
+
+      none-lost-past : (j : ℕ) → to.floor < j → j ≤ n → sum_by (one (tsn p j)) (k.kept st).lost ≡ 0
+      none-lost-past j over le = none-count (tsn p j) (k.kept st).lost (fails (list_any (has_tsn (tsn p j)) (k.kept st).lost) (λ e.
+          let c = one-of (λ c. is_upto p to.floor c.tsn ≡ true) (has_tsn (tsn p j)) (k.kept st).lost e to.gone-to in
+          not_both (sym (upto-place p to.floor j c.0.tsn (same-is c.0.tsn (tsn p j) c.1) (omega (arith, le, few))
+          ∙ (let t : nat_le j to.floor ≡ false = grind (arith, nat_tests, over) in t)) ∙ c.2)))
+
+      -- a message that was begun past it was taken whole
+      none-past : (c : ChunkPayloadData) → WasSent sent (data_of c) → c.unordered ≡ true → is_upto p to.floor c.tsn ≡ false
+          → 0 < sum_by (one c.tsn) q.unassembled → ⊥
+      none-past c was kind later some =
+          let r = entry-of ns first sent line joined n long few c was in
+          let y = r.0 in
+          let i = r.2 in
+          let le = r.3 in
+          let at = r.4 in
+          let show = shown none-data sent in
+          let f = at_place none-data sent in
+          let over' : nat_le y to.floor ≡ false = sym (upto-place p to.floor y c.tsn at (omega (arith, le, few))) ∙ later in
+          let over : to.floor < y = grind (arith, nat_tests, over') in
+          let g = span-of ns first sent line joined f show n (omega (arith, long)) (sent, part-itself sent, long, ends (omega (arith, over, le)))
+          (λ v z. to.floor < z) (λ v z h. omega (arith, h)) (λ z e v o b lt h. next-of ns first sent line joined z e v o b (omega (arith, lt, long))
+          (uncut z e v o (omega (arith, h)) (omega (arith, lt)))) y (data_of c) r.1 le i over in
+          let start : to.floor < g.start = past-start g over in
+          let below = g.below in
+          unassembled.none-stays ns first sent line joined n long few gone k.passed.cut s k.unwrapped.spread.holds.made made
+          k.unwrapped.spread.step.taken.apart whole st a (k.kept st) l found n (omega (arith, long)) y (data_of c) r.1 i kind
+          (subst (λ t. 0 < sum_by (one t) q.unassembled) at some) g (λ j from upto'. taken-past j (omega (arith, start, from)) (omega (arith, upto', below)))
+          (λ j from upto'. none-lost-past j (omega (arith, start, from)) (omega (arith, upto', below)))
+        where
+          past-start : {y : ℕ} {w : Numbered} (g : IsSpan (at_place none-data sent) sent n w (data_of c) y) → to.floor < y → to.floor < g.start
+          past-start g over = elim (cases_lt to.floor g.start) [
+            | inl lt ↦ lt
+            | inr ge ↦ elim to.ends [
+              | inl zero' ↦ let some' = g.some in absurd (omega (arith, ge, zero', some'))
+              | inr e ↦
+                  let from = g.from in
+                  let upto' = g.upto in
+                  absurd (not_both (sym (g.open' to.floor ge (omega (arith, over, from)))
+                  ∙ ends-own ns first sent line joined to.floor (at_place none-data sent to.floor) _ (g.each to.floor ge (omega (arith, over, from))).0 e))
+            ]
+          ]
+
+      all-assembled : q.unassembled ≡ []
+      all-assembled = by q.unassembled refl
+          (unassembled.was-unassembled ns first sent line joined n long few gone k.passed.cut s k.unwrapped.spread.holds.made made
+          k.unwrapped.spread.step.taken.apart whole st a (k.kept st) l found) well.tidy.kinds (subst (IsPast first sent st to.floor) found to.past)
+        where
+          by : (cs : List ChunkPayloadData) → q.unassembled ≡ cs → Every (λ c. WasSent sent (data_of c)) cs → Every (λ c. c.unordered ≡ true) cs
+              → Every (λ c. is_upto p to.floor c.tsn ≡ false) cs → cs ≡ []
+          by [] e w u h = refl
+          by (c ∷ cs) e w u h =
+              let some = some-of c.tsn (c ∷ cs) (or-left (has_tsn c.tsn c) (list_any (has_tsn c.tsn) cs) (same-yes c.tsn)) in
+              absurd (none-past c w.0 u.0 h.0 (omega (arith, some, ap (sum_by (one c.tsn)) e)))
+
+      pub none-there : IsBare l.queue.held
+      none-there = record { ordered = none-ordered; unordered = none-unordered; unassembled = all-assembled }
 
     -- of a message that is not gone nothing is held
     pub none-held : (y : ℕ) (e : Data) (w : Numbered) → IsEntryAt sent y e w → y ≤ n → is_gone gone w.place ≡ false

@@ -1,21 +1,19 @@
 -- What a FORWARD-TSN takes out of a queue, weighed, and that what stays is in order.
 use Rattle.sctp_delivery.proofs.Names.{◌≡◌, ℕ, ◌+◌, ◌<◌, ◌≤◌, ◌^◌, Bool, true, false, not, List, [], ◌∷◌, refl, arith, ◌%◌, Option, Some, None, inl, inr, ap}
-use Rattle.sctp_delivery.proofs.Names.{sym, subst, ◌∙◌, ◌++◌, length, map, if◌then◌else◌, All, ◌⊎◌, ◌==◌, ◌&&◌, option_map, slice_index_or, filter, sum_by}
-use Rattle.sctp_delivery.proofs.Names.{list_any, list_all, sum_by-append, sum_by-cons, after_leading, at_or_before, and, both, fails, not_both}
+use Rattle.sctp_delivery.proofs.Names.{sym, subst, ◌∙◌, ◌++◌, length, map, All, ◌⊎◌, ◌==◌, ◌&&◌, option_map, slice_index_or, filter, sum_by}
+use Rattle.sctp_delivery.proofs.Names.{list_any, list_all, sum_by-append, sum_by-cons, after_leading, at_or_before, and, fails, not_both}
 use Rattle.sctp_delivery.proofs.Names.{ChunkPayloadData, ChunkSet, Reassembly, ReassemblyState, held_after_ordered_skip, held_after_unordered_skip, is_passed}
-use Rattle.sctp_delivery.proofs.Names.{all_complete, is_orderly, held_weight, is_unmixed, set_weight, weight, HasNoRun, fragments_of_sets, cases_lt, eq-eqb}
+use Rattle.sctp_delivery.proofs.Names.{all_complete, held_weight, is_unmixed, set_weight, weight, fragments_of_sets, cases_lt, eq-eqb}
 use Rattle.sctp_delivery.proofs.Names.{or-split, same-is, or-left, same-yes, tsn, data_of, New, InboundStream, new_stream, number, stream_read, with_queue}
 use Rattle.sctp_delivery.proofs.Names.{skipped_each, ssns_of, Accepts, Reception, stream_of, follow_forward_tsn, is_stale, Stand, fragments_read}
 use Rattle.sctp_delivery.proofs.Names.{is_one_message, is_too_far_on, is_name_too_far, found-passes, is_ordered_on, has_tsn, is_on, ReceiverCall}
 use Rattle.sctp_delivery.proofs.Names.{ReceiverFollows, Session, list_any_at, nat_tests, common_steps, ChunkForwardTsnStream, ForwardTsn, is_complete}
 use Rattle.sctp_delivery.proofs.Names.{cannot_complete, names_closed, names_too_far, without_incomplete, is_pair_of, passes, was_taken, forward_tsn}
+use Rattle.sctp_delivery.proofs.Names.{nat_le, or-right}
 use Rattle.sctp_reassembly.specs.reassembly_queue.ReassemblyQueue.{after_ordered_skip, after_unordered_skip}
-use Rattle.sctp_reassembly.proofs.lemmas.reassembly_queue.UnassembledRuns.{none_after_drop}
-use Rattle.sctp_receiver.proofs.OneMessage.{named-unmixed, unassembled-unmixed}
 use Rattle.sctp_delivery.proofs.Cases.{at-if, by-test}
 use Rattle.sctp_delivery.proofs.Every.{Every, every-joined, every-of, every-passing, one-of, every-contained, every-at, every-of-all}
-use Rattle.sctp_delivery.proofs.Rising.{Ascend, ascend-from}
-use Rattle.sctp_delivery.proofs.KeptSets.{IsTidy, IsTidySet, IsUnordered, sets-those}
+use Rattle.sctp_delivery.proofs.KeptSets.{IsTidy, IsUnordered, sets-those}
 use Rattle.sctp_delivery.proofs.UnwrappedReads.{leading-each, IsDue}
 use Rattle.sctp_receiver.specs.Inbound.{has_number}
 use Rattle.sctp_delivery.specs.ReceiverCalls as incoming
@@ -23,16 +21,21 @@ use Rattle.sctp_delivery.proofs.UnwrappedHolds.{current-less, IsCurrent}
 use Rattle.sctp_delivery.proofs.InTheEnd.{some-of}
 use Rattle.sctp_delivery.proofs.Kept.{sets-fresh, IsOther, IsSo, Puts, accepted-on, after-call, none-held}
 use Rattle.sctp_delivery.proofs.OrderedMessages.{not-far}
+use Rattle.sctp_delivery.proofs.ArrivedTsns.{IsArrived}
+use Rattle.sctp_delivery.proofs.SackLaws.{more-accepted}
+use Rattle.sctp_delivery.proofs.KeptOrGone.{IsPassedTo, IsPast, is_upto, known_past, upto-place}
 use Rattle.sctp_delivery.proofs.KeptOrGone.{IsComing, HeldWell, IsHeldWell, IsKeptBut, IsLate, pushed-well, read-well, IsPassedBy, at-in, place-in}
-use Rattle.sctp_delivery.proofs.MessagePlaces.{IsWanted, wanted-some, within, EndsAt, wanted-after, entry-at, fragment-upto, misses-one}
+use Rattle.sctp_delivery.proofs.MessagePlaces.{IsWanted, entry-of, wanted-some, within, EndsAt, wanted-after, entry-at, fragment-upto, misses-one}
 use Rattle.sctp_delivery.proofs.OrderedEntries.{AreJoined}
 use Rattle.sctp_delivery.proofs.ReadOnce.{count-none, one}
 use Rattle.sctp_delivery.proofs.Sent.{Entry, IsLine, Numbered, WasSent, part-length}
 use Rattle.sctp_delivery.proofs.SpreadEntries.{begun_to, is_at, to-up}
 use Rattle.sctp_delivery.proofs.Kept as streams
-use Rattle.sctp_delivery.proofs.TakenCalls.{HasCome, fresh-new, not-among, beyond-given, stays-come}
+use Rattle.sctp_delivery.proofs.TakenCalls.{hears, more-arrived, HasCome, fresh-new, not-among, beyond-given, stays-come}
 use Rattle.sctp_delivery.proofs.TakenTsns.{come, advance-keeps}
-use Rattle.sctp_delivery.proofs.TsnPlaces.{base, IsGiven, same-place, upto-yes}
+use Rattle.sctp_delivery.proofs.TsnPlaces.{base, IsGiven, same-place, upto-is, upto-yes}
+use Rattle.sctp_delivery.proofs.Unassembled.{each-leading, leading, leading-split, left-orderly, left-tidy, past-left, pushed-each, read-unassembled}
+use Rattle.sctp_delivery.proofs.Unassembled.{skipped-orderly, skipped-tidy}
 use Rattle.sctp_delivery.proofs.UnwrappedCalls.{window, IsNamingTo, Misses, ahead-is, changed, clear-came, close, found-after, gone-begun, gone-held}
 use Rattle.sctp_delivery.proofs.UnwrappedCalls.{name-within, named-by, now-is, stale-same}
 use Rattle.sctp_delivery.proofs.UnwrappedHolds as holds
@@ -62,77 +65,6 @@ each-dropped P r [] e = tt
 each-dropped P r (s ∷ ss) e = at-if (λ z. Every P (fragments_of_sets z)) (r s)
     (λ h. every-joined P s.chunks (fragments_of_sets (filter r ss)) (e.0 h) (each-dropped P r ss e.1))
     (λ h. each-dropped P r ss e.1)
-
--- ## Unassembled fragments
-
--- those in front that pass the test
-abbrev pub leading : (ChunkPayloadData → Bool) → List ChunkPayloadData → List ChunkPayloadData
-leading r [] = []
-leading r (x ∷ xs) = if r x then x ∷ leading r xs else []
-
-pub leading-split : (r : ChunkPayloadData → Bool) (w : ChunkPayloadData → ℕ) (xs : List ChunkPayloadData)
-    → sum_by w (after_leading r xs) + sum_by w (leading r xs) ≡ sum_by w xs
-leading-split r w [] = refl
-leading-split r w (x ∷ xs) = grind (arith, nat_tests, leading-split r w xs, sum_by-cons w x (leading r xs), sum_by-cons w x xs)
-
-pub each-leading : (P : ChunkPayloadData → Type 0) (r : ChunkPayloadData → Bool) (xs : List ChunkPayloadData) → Every (λ x. r x ≡ true → P x) xs
-    → Every P (leading r xs)
-each-leading P r [] e = tt
-each-leading P r (x ∷ xs) e = at-if (Every P) (r x) (λ h. (e.0 h, each-leading P r xs e.1)) (λ h. tt)
-
-left-none : (r : ChunkPayloadData → Bool) (xs : List ChunkPayloadData) → HasNoRun xs → HasNoRun (after_leading r xs)
-left-none r [] h = h
-left-none r (x ∷ xs) h = at-if HasNoRun (r x) (λ e. left-none r xs (none_after_drop (x ∷ xs) 1 (omega arith) h)) (λ e. h)
-
-module _ (p n : ℕ) (few : n < 2 ^ 31) where
-  left-ascend : (low : ℕ) (r : ChunkPayloadData → Bool) (xs : List ChunkPayloadData) → Ascend p n low xs → Ascend p n low (after_leading r xs)
-  left-ascend low r [] a = tt
-  left-ascend low r (x ∷ xs) a =
-      at-if (Ascend p n low) (r x)
-      (λ e. left-ascend low r xs (let le = a.1.0 in ascend-from p n few (a.0 + 1) low xs (omega (arith, le)) a.2))
-      (λ e. a)
-
-  pub skipped-tidy : (last : ℕ) (q : Reassembly) → IsTidy p n q → IsTidy p n (held_after_ordered_skip last q)
-  skipped-tidy last q t = record {
-    sets = every-passing (IsTidySet p n) (λ s. not (is_passed last s)) q.ordered t.sets;
-    whole = t.whole;
-    unassembled = t.unassembled;
-    kinds = t.kinds;
-    none = t.none;
-  }
-
-  pub left-tidy : (tsn : ℕ) (q : Reassembly) → IsTidy p n q → IsTidy p n (held_after_unordered_skip tsn q)
-  left-tidy tsn q t = record {
-    sets = t.sets;
-    whole = t.whole;
-    unassembled = left-ascend 0 (λ x. at_or_before x.tsn tsn) q.unassembled t.unassembled;
-    kinds = leading-each IsUnordered (λ x. at_or_before x.tsn tsn) q.unassembled t.kinds;
-    none = left-none (λ x. at_or_before x.tsn tsn) q.unassembled t.none;
-  }
-
-  ascend-more : (m low : ℕ) (cs : List ChunkPayloadData) → n ≤ m → Ascend p n low cs → Ascend p m low cs
-  ascend-more m low [] le a = tt
-  ascend-more m low (c ∷ cs) le a = let h = a.1.1 in (a.0, (a.1.0, omega (arith, h, le), a.1.2), ascend-more m (a.0 + 1) cs le a.2)
-
-  -- more TSNs are given out
-  pub tidy-more : (m : ℕ) (q : Reassembly) → n ≤ m → IsTidy p n q → IsTidy p m q
-  tidy-more m q le t = record {
-    sets = every-of (IsTidySet p n) (IsTidySet p m) (λ s e. (ascend-more m 0 s.chunks le e.0, e.1)) q.ordered t.sets;
-    whole = t.whole;
-    unassembled = ascend-more m 0 q.unassembled le t.unassembled;
-    kinds = t.kinds;
-    none = t.none;
-  }
-
-pub skipped-orderly : (last : ℕ) (q : ReassemblyState) → is_orderly q ≡ true → is_orderly (after_ordered_skip last q) ≡ true
-skipped-orderly last q h =
-    let b = both (all_complete q.held.unordered) (is_unmixed q.si q.held) h in
-    and (all_complete q.held.unordered) (is_unmixed q.si (held_after_ordered_skip last q.held)) b.0 (named-unmixed q.si last q.held b.1)
-
-pub left-orderly : (tsn : ℕ) (q : ReassemblyState) → is_orderly q ≡ true → is_orderly (after_unordered_skip tsn q) ≡ true
-left-orderly tsn q h =
-    let b = both (all_complete q.held.unordered) (is_unmixed q.si q.held) h in
-    and (all_complete q.held.unordered) (is_unmixed q.si (held_after_unordered_skip tsn q.held)) b.0 (unassembled-unmixed q.si tsn q.held b.1)
 
 -- # What was taken on a stream is held or was read, but for fragments of messages that are gone: each call of the receiver.
 
@@ -233,17 +165,68 @@ module _ (first n : ℕ) (few : n < 2 ^ 31) (old new : Session) (ns : List Numbe
   before : (k : Keeps old.receiving) → So k.lost old.receiving
   before k = record { weighs = k.weighs; holds = k.holds }
 
-  after-so : (call : ReceiverCall) → ReceiverFollows call old new → (k : Keeps old.receiving) → So k.lost new.receiving → Keeps new.receiving
-  after-so call f k s = record {
+  abbrev Passed : List ChunkPayloadData → Stand → Type 0
+  Passed = IsPassedTo first sent st n
+
+  after-so : (call : ReceiverCall) → ReceiverFollows call old new → (k : Keeps old.receiving) → So k.lost new.receiving → Passed k.lost new.receiving
+      → Keeps new.receiving
+  after-so call f k s to = record {
     lost = k.lost;
     of-gone = k.of-gone;
     weighs = s.weighs;
     holds = well-less (Late old.receiving) (Late new.receiving) (late-less call f) (stream_of st new.receiving.receiver) s.holds;
+    floor = to;
   }
 
+  -- what is known by one place is known by a later one
+  known-more : (call : ReceiverCall) → ReceiverFollows call old new → (j m : ℕ) → j ≤ m → (t : ℕ) → known_past first sent st j old.receiving t ≡ true
+      → known_past first sent st m new.receiving t ≡ true
+  known-more call f j m le t e = elim (or-split (list_any (has_tsn t) old.receiving.accepted) (is_upto (base first) j t) e) [
+    | inl x ↦ or-left (list_any (has_tsn t) new.receiving.accepted) (is_upto (base first) m t) (more-accepted call old new f t x)
+    | inr x ↦ or-right (list_any (has_tsn t) new.receiving.accepted) (is_upto (base first) m t) (grind (arith, nat_tests, x, le))
+  ]
+
+  known-taken : (m t : ℕ) → was_taken t new ≡ true → known_past first sent st m new.receiving t ≡ true
+  known-taken m t e = or-left (list_any (has_tsn t) new.receiving.accepted) (is_upto (base first) m t) e
+
+  -- what came up to a place has come after the call
+  below-still : (call : ReceiverCall) → ReceiverFollows call old new → (k : Keeps old.receiving) → (y : ℕ) → 0 < y → y ≤ k.floor.floor
+      → come (tsn p y) new.receiving.receiver.cumulative_tsn new.receiving.receiver.beyond ≡ true
+  below-still call f k y pos le =
+      let within = k.floor.within in
+      stays-come p n (known old) old new few i.spread.step.made i.spread.step.arrived call f (tsn p y)
+      (record { place = y; some = pos; within = omega (arith, le, within); is = refl }) (k.floor.below y pos le)
+
+  -- no FORWARD-TSN is followed
+  passed-other : (call : ReceiverCall) → IsOther call → ReceiverFollows call old new → (k : Keeps old.receiving)
+      → IsPast first sent st k.floor.floor (stream_of st new.receiving.receiver) → Passed k.lost new.receiving
+  passed-other call o f k past = record {
+    floor = k.floor.floor;
+    within = k.floor.within;
+    ends = k.floor.ends;
+    below = below-still call f k;
+    gone-to = k.floor.gone-to;
+    past = past;
+    arrived = hears p n (known_past first sent st k.floor.floor old.receiving) (known_past first sent st k.floor.floor new.receiving) old new few
+        i.spread.step.made (known-more call f k.floor.floor k.floor.floor (omega arith)) (known-taken k.floor.floor) k.floor.arrived call f
+        (λ g in' same. absurd (subst IsOther same o));
+  }
+
+  -- or nothing changes
   pub still : (call : ReceiverCall) → ReceiverFollows call old new → new.receiving.accepted ≡ old.receiving.accepted
-      → new.receiving.read ≡ old.receiving.read → new.receiving.receiver.streams ≡ r.streams → Keeps old.receiving → Keeps new.receiving
-  still call f e g same k = after-so call f k (streams.still st (Well (Late old.receiving)) k.lost old new (before k) e g same)
+      → new.receiving.read ≡ old.receiving.read → new.receiving.receiver ≡ r → Keeps old.receiving → Keeps new.receiving
+  still call f e g same k =
+      after-so call f k (streams.still st (Well (Late old.receiving)) k.lost old new (before k) e g (ap (λ (q : Reception). q.streams) same)) (record {
+        floor = k.floor.floor;
+        within = k.floor.within;
+        ends = k.floor.ends;
+        below = below-still call f k;
+        gone-to = k.floor.gone-to;
+        past = subst (λ (q : Reception). IsPast first sent st k.floor.floor (stream_of st q)) (sym same) k.floor.past;
+        arrived = subst (λ (q : Reception). IsArrived p n (known_past first sent st k.floor.floor new.receiving) q.cumulative_tsn q.beyond) (sym same)
+            (more-arrived p n n (known_past first sent st k.floor.floor old.receiving) (known_past first sent st k.floor.floor new.receiving) r.cumulative_tsn
+            r.beyond (omega arith) (known-more call f k.floor.floor k.floor.floor (omega arith)) k.floor.arrived);
+      })
 
   -- ## A stream is opened
 
@@ -385,9 +368,44 @@ module _ (first n : ℕ) (few : n < 2 ^ 31) (old new : Session) (ns : List Numbe
             (count-none c.tsn acc.stream.queue.held.unassembled (let z = zero' in omega (arith, z)))
             (λ kind. (coming kind, (D.low, after.reach, D.sets)))
 
+  -- ## Nothing unassembled stands up to the place
+
+  module _ (k : Keeps old.receiving) (after : Answered new) where
+    abbrev Past : Option InboundStream → Type 0
+    Past = IsPast first sent st k.floor.floor
+
+    abbrev Later : ChunkPayloadData → Type 0
+    Later c = is_upto (base first) k.floor.floor c.tsn ≡ false
+
+    -- one that did not come stands past it
+    fresh-later : (c : ChunkPayloadData) (said : Bool) → ReceiverFollows (incoming.takes c (New said)) old new → Later c
+    fresh-later c said f = fails (is_upto (base first) k.floor.floor c.tsn) (λ e.
+        let g = sessions.step-of st first n old ns sent i.spread few c f.handed in
+        let within = g.within in
+        let is = upto-place p k.floor.floor (g.before + 1) c.tsn g.is (omega (arith, within, few)) in
+        let test = sym is ∙ e in
+        let le : g.before + 1 ≤ k.floor.floor = grind (arith, nat_tests, test) in
+        not_both (sym (fresh-new c.tsn said r f.accepted.1) ∙ ap (λ t. come t r.cumulative_tsn r.beyond) g.is
+        ∙ k.floor.below (g.before + 1) (omega arith) le))
+
+    put-past : (c : ChunkPayloadData) (said : Bool) (f : ReceiverFollows (incoming.takes c (New said)) old new)
+        → Puts st Past k.lost old new (record { weighs = k.weighs; holds = k.floor.past }) c said f
+    put-past c said f on e = record {
+      weighs = (put c said f k after on e).weighs;
+      holds =
+          let a = f.step.receiver in
+          pushed-each Later c said a.stream.queue a.queue a.pushed (fresh-later c said f) (subst Past e k.floor.past);
+    }
+
+    pub passed-by : (call : ReceiverCall) → IsOther call → ReceiverFollows call old new → Passed k.lost new.receiving
+    passed-by call o f =
+        passed-other call o f k (after-call st Past k.lost old new (record { weighs = k.weighs; holds = k.floor.past }) call o f (λ stream e. tt) put-past
+        (λ l e. subst (Every Later) (sym (read-unassembled l.queue.held)) (subst Past e k.floor.past))).holds
+
   pub keeps-other : (call : ReceiverCall) → IsOther call → ReceiverFollows call old new → Answered new → Keeps old.receiving → Keeps new.receiving
   keeps-other call o f after k = after-so call f k
       (after-call st (Well (Late old.receiving)) k.lost old new (before k) call o f fresh-well (λ c said g. put c said g k after) (read k))
+      (passed-by k after call o f)
 
   -- ## A FORWARD-TSN comes: what the receiver drops of the stream is of messages that are gone
 
@@ -405,7 +423,11 @@ module _ (first n : ℕ) (few : n < 2 ^ 31) (old new : Session) (ns : List Numbe
     ends = (pass.passed, pass.part, refl, pass.ends)
 
     abbrev Goes : ChunkPayloadData → Type 0
-    Goes = IsPassedBy gone sent old.made
+    Goes c = IsPassedBy gone sent old.made c × (is_upto p m c.tsn ≡ true)
+
+    -- a place up to it
+    upto-m : (y t : ℕ) → t ≡ tsn p y → y ≤ m → is_upto p m t ≡ true
+    upto-m y t is le = upto-place p m y t is (omega (arith, le, least, few)) ∙ (let e : nat_le y m ≡ true = grind (arith, nat_tests, le) in e)
 
     -- what it passes
     passes-it : (c : ChunkPayloadData) → at_or_before c.tsn g.new_cumulative_tsn ≡ true → list_any (passes c.tsn) old.made ≡ true
@@ -540,7 +562,7 @@ module _ (first n : ℕ) (few : n < 2 ^ 31) (old new : Session) (ns : List Numbe
               let o = r.0 in
               let le = fragment-upto ns first sent line joined n i.spread.long few st y m least ends (omega (arith, up z m upto, count)) c o in
               let before' = upto-yes p (o.before + 1) m o.is pass.is (omega (arith, le, least, few)) (omega (arith, least, few)) le in
-              ((e.0, passes-it c before'), pass-all z upto y (o.before + 1) cs r.2 count e.1)
+              (((e.0, passes-it c before'), upto-m (o.before + 1) c.tsn o.is le), pass-all z upto y (o.before + 1) cs r.2 count e.1)
 
           passed-gone : Every (λ s. is_passed (j % 2 ^ 16) s ≡ true → Every Goes s.chunks) l.queue.held.ordered
           passed-gone =
@@ -595,15 +617,21 @@ module _ (first n : ℕ) (few : n < 2 ^ 31) (old new : Session) (ns : List Numbe
         unassembled-gone : Every (λ c. at_or_before c.tsn t ≡ true → Goes c) l.queue.held.unassembled
         unassembled-gone = every-of-all (λ c. at_or_before c.tsn t ≡ true → Goes c) l.queue.held.unassembled (λ x c lt b.
             let xs = l.queue.held.unassembled in
-            let y = slice_index_or xs x c in (
-              gone-unassembled ns first sent line joined n i.spread.long few gone cut old i.spread.holds.made made i.spread.step.taken.apart whole st a k l e
-                  pass.passed pass.part pass.ends pass.came y
-                  (every-at (λ (z : ChunkPayloadData). WasSent sent (data_of z)) xs x c lt
-                  (was-unassembled ns first sent line joined n i.spread.long few gone cut old i.spread.holds.made made i.spread.step.taken.apart
-                  whole st a k l e))
-                  (every-at IsUnordered xs x c lt h.tidy.kinds) (some-of y.tsn xs (list_any_at (has_tsn y.tsn) xs x c lt (same-yes y.tsn)))
-                  (ap (at_or_before y.tsn) (sym pass.is) ∙ b),
-              passes-it y b,
+            let y = slice_index_or xs x c in
+            let sent' = every-at (λ (z : ChunkPayloadData). WasSent sent (data_of z)) xs x c lt
+            (was-unassembled ns first sent line joined n i.spread.long few gone cut old i.spread.holds.made made i.spread.step.taken.apart
+            whole st a k l e) in
+            let place' = entry-of ns first sent line joined n i.spread.long few y sent' in
+            let within' = place'.3 in (
+              (
+                gone-unassembled ns first sent line joined n i.spread.long few gone cut old i.spread.holds.made made i.spread.step.taken.apart whole st a k l e
+                    pass.passed pass.part pass.ends pass.came y sent'
+                    (every-at IsUnordered xs x c lt h.tidy.kinds) (some-of y.tsn xs (list_any_at (has_tsn y.tsn) xs x c lt (same-yes y.tsn)))
+                    (ap (at_or_before y.tsn) (sym pass.is) ∙ b),
+                passes-it y b,
+              ),
+              upto-m place'.0 y.tsn place'.4
+                  (upto-is p place'.0 m place'.4 pass.is (omega (arith, within', few)) (omega (arith, least, few)) b),
             ))
 
         abbrev after-names : ReassemblyState
@@ -633,6 +661,51 @@ module _ (first n : ℕ) (few : n < 2 ^ 31) (old new : Session) (ns : List Numbe
             let z = ap (λ xs. sum_by w (leading (λ x. at_or_before x.tsn t) xs)) skipped.same-unassembled in
             omega (arith, skipped.weighs w, ap (weight w) uncut-same, v, z)
 
+      -- what is lost stands up to the later of the two places, and what is unassembled past it
+      passed-to : (lost : List ChunkPayloadData) → Every (λ c. is_upto p m c.tsn ≡ true) lost
+          → IsPast first sent st m (stream_of st new.receiving.receiver) → IsPast first sent st k.floor.floor (stream_of st new.receiving.receiver)
+          → Passed (lost ++ k.lost) new.receiving
+      passed-to lost upto past-m past-old = elim (cases_lt k.floor.floor m) [
+        | inl under ↦ record {
+          floor = m;
+          within = least;
+          ends = inr ends;
+          below = upto-come;
+          gone-to = every-joined (λ c. is_upto p m c.tsn ≡ true) lost k.lost upto
+              (every-of (λ c. is_upto p k.floor.floor c.tsn ≡ true) (λ c. is_upto p m c.tsn ≡ true) (λ c e. grind (arith, nat_tests, e, under)) k.lost
+              k.floor.gone-to);
+          past = past-m;
+          arrived = comes m (omega (arith, under)) (omega arith);
+        }
+        | inr over ↦ record {
+          floor = k.floor.floor;
+          within = k.floor.within;
+          ends = k.floor.ends;
+          below = below-still (incoming.follows g) f k;
+          gone-to = every-joined (λ c. is_upto p k.floor.floor c.tsn ≡ true) lost k.lost
+              (every-of (λ c. is_upto p m c.tsn ≡ true) (λ c. is_upto p k.floor.floor c.tsn ≡ true) (λ c e. grind (arith, nat_tests, e, over)) lost upto)
+              k.floor.gone-to;
+          past = past-old;
+          arrived = comes k.floor.floor (omega arith) over;
+        }
+      ]
+        where
+          comes : (to : ℕ) → k.floor.floor ≤ to → m ≤ to
+              → IsArrived p n (known_past first sent st to new.receiving) new.receiving.receiver.cumulative_tsn new.receiving.receiver.beyond
+          comes to from over =
+              hears p n (known_past first sent st k.floor.floor old.receiving) (known_past first sent st to new.receiving) old new few i.spread.step.made
+              (known-more (incoming.follows g) f k.floor.floor to from) (known-taken to) k.floor.arrived (incoming.follows g) f (λ h in' same v y le.
+              let it : g.new_cumulative_tsn ≡ h.new_cumulative_tsn = ap new_tsn same in
+              let within' = v.within in
+              let at : v.place ≡ m = same-place p v.place m (omega (arith, within', few)) (omega (arith, least, few)) (sym v.is ∙ sym it ∙ pass.is) in
+              or-right (list_any (has_tsn (tsn p y)) new.receiving.accepted) (is_upto p to (tsn p y))
+              (upto-place p to y (tsn p y) refl (omega (arith, le, at, least, few))
+              ∙ (let e : nat_le y to ≡ true = grind (arith, nat_tests, le, at, over) in e)))
+            where
+              new_tsn : ReceiverCall → ℕ
+              new_tsn (incoming.follows h) = h.new_cumulative_tsn
+              new_tsn call = 0
+
       followed : Keeps new.receiving
       followed = by (stream_of st r) refl (found-after p st n B E M few up g old.receiving new.receiving f.step.receiver fresh) k.holds
         where
@@ -649,25 +722,35 @@ module _ (first n : ℕ) (few : n < 2 ^ 31) (old new : Session) (ns : List Numbe
             of-gone = k.of-gone;
             weighs = λ w. let x = weigh None w e in let y = ap (held_weight w) is in omega (arith, x, y);
             holds = subst (HeldWell first sent st n a (Late new.receiving)) (sym is) tt;
+            floor = passed-to [] tt (subst (IsPast first sent st m) (sym is) tt) (subst (IsPast first sent st k.floor.floor) (sym is) tt);
           }
           by (Some l) e is h =
               let s = skipped l e h in
               let front = leading (λ x. at_or_before x.tsn t) l.queue.held.unassembled in
+              let all = every-joined Goes s.lost front s.of-gone
+              (each-leading Goes (λ x. at_or_before x.tsn t) l.queue.held.unassembled (unassembled-gone l e h)) in
+              let left : (after-all l e h).held.unassembled ≡ after_leading (λ x. at_or_before x.tsn t) l.queue.held.unassembled =
+              ap (λ (q : Reassembly). q.unassembled) (uncut-same l e h) ∙ ap (after_leading (λ x. at_or_before x.tsn t)) s.same-unassembled in
               record {
-                lost = s.lost ++ (front ++ k.lost);
-                of-gone = every-joined Goes s.lost (front ++ k.lost) s.of-gone
-                    (every-joined Goes front k.lost
-                    (each-leading Goes (λ x. at_or_before x.tsn t) l.queue.held.unassembled (unassembled-gone l e h)) k.of-gone);
+                lost = (s.lost ++ front) ++ k.lost;
+                of-gone = every-joined (IsPassedBy gone sent old.made) (s.lost ++ front) k.lost
+                    (every-of Goes (IsPassedBy gone sent old.made) (λ c g. g.0) (s.lost ++ front) all) k.of-gone;
                 weighs = λ w.
                     let y = ap (held_weight w) is in
-                    omega (arith, weigh (Some l) w e, y, weighs-after l e h w, sum_by-append w s.lost (front ++ k.lost), sum_by-append w front k.lost);
+                    omega (arith, weigh (Some l) w e, y, weighs-after l e h w, sum_by-append w (s.lost ++ front) k.lost, sum_by-append w s.lost front);
                 holds = subst (HeldWell first sent st n a (Late new.receiving)) (sym is) (well-after l e h);
+                floor = passed-to (s.lost ++ front) (every-of Goes (λ c. is_upto p m c.tsn ≡ true) (λ c g. g.1) (s.lost ++ front) all)
+                    (subst (IsPast first sent st m) (sym is) (subst (Every (λ c. is_upto p m c.tsn ≡ false)) (sym left)
+                    (subst (λ u. Every (λ c. is_upto p m c.tsn ≡ false) (after_leading (λ x. at_or_before x.tsn u) l.queue.held.unassembled)) (sym pass.is)
+                    (past-left p n few m least 0 l.queue.held.unassembled h.tidy.unassembled))))
+                    (subst (IsPast first sent st k.floor.floor) (sym is) (subst (Every (λ c. is_upto p k.floor.floor c.tsn ≡ false)) (sym left)
+                    (leading-each (λ c. is_upto p k.floor.floor c.tsn ≡ false) (λ x. at_or_before x.tsn t) l.queue.held.unassembled
+                    (subst (IsPast first sent st k.floor.floor) e k.floor.past))));
               }
 
     pub keeps-followed : Keeps new.receiving
     keeps-followed = by-test (is_stale g r)
         (λ e.
         let same = stale-same p st n B E M few up g old.receiving new.receiving f.step.receiver e in
-        still (incoming.follows g) f f.step.accepted f.step.read
-        (ap (λ (q : Reception). q.streams) same) k)
+        still (incoming.follows g) f f.step.accepted f.step.read same k)
         followed

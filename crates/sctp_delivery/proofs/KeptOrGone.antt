@@ -1,5 +1,6 @@
 -- What was taken on a stream is held or was read, but for fragments of messages that are gone: what holds of the stream after each call.
 use Rattle.sctp_delivery.proofs.Names.{◌≡◌, ℕ, ◌+◌, ◌%◌, ◌^◌, ◌<◌, ◌≤◌, Bool, true, false, List, [], ◌∷◌, length, Option, Some, None, refl, ap, sym, subst, ◌∙◌}
+use Rattle.sctp_delivery.proofs.Names.{◌-◌, ◌⊎◌, ◌||◌, distance, distance-tsn, nat_le}
 use Rattle.sctp_delivery.proofs.Names.{arith, ⊤, filter, list_any, sum_by, eq-eqb, or-left, sum_by-inserted, and, both, tsn, insert_before, ChunkPayloadData}
 use Rattle.sctp_delivery.proofs.Names.{ChunkSet, data_of, sets_with, BecomesComplete, Reassembly, ReassemblyState, rest_among, rest_read, InboundStream, Pushes}
 use Rattle.sctp_delivery.proofs.Names.{PushesAs, stream_of, Stand, fragments_read, all_complete, held_weight, is_orderly, pushed-number, is_unmixed, weight}
@@ -13,7 +14,8 @@ use Rattle.sctp_delivery.proofs.UnwrappedHolds.{IsCurrent, current-put, current-
 use Rattle.sctp_delivery.proofs.Every.{Every}
 use Rattle.sctp_delivery.proofs.PassingCalls.{IsGone}
 use Rattle.sctp_delivery.proofs.KeptSets.{sets-more, IsFit, IsTidy, pushed-tidy, read-tidy}
-use Rattle.sctp_delivery.proofs.MessagePlaces.{IsWanted, has-all}
+use Rattle.sctp_delivery.proofs.ArrivedTsns.{IsArrived}
+use Rattle.sctp_delivery.proofs.MessagePlaces.{EndsAt, IsWanted, has-all}
 use Rattle.sctp_delivery.proofs.OrderedEntries.{AreJoined}
 use Rattle.sctp_delivery.proofs.Sent.{Entry, IsLine, Numbered, WasSent}
 use Rattle.sctp_delivery.proofs.SpreadEntries.{begun_to, is_at, to-up}
@@ -26,6 +28,15 @@ use Rattle.sctp_delivery.proofs.UnwrappedReads.{IsDue}
 -- the chunk is of a message that is gone, and a FORWARD-TSN that was made passes it
 abbrev pub IsPassedBy : List ℕ → List Entry → List Made → ChunkPayloadData → Type 0
 IsPassedBy gone sent made c = IsGone gone sent c × (list_any (passes c.tsn) made ≡ true)
+
+-- a TSN stands up to the place
+abbrev pub is_upto : ℕ → ℕ → ℕ → Bool
+is_upto p m t = nat_le (distance (tsn p 0) t) m
+
+pub upto-place : (p m y t : ℕ) → t ≡ tsn p y → y < 2 ^ 32 → is_upto p m t ≡ nat_le y m
+upto-place p m y t is few =
+    let d : distance (tsn p 0) t ≡ y = ap (distance (tsn p 0)) is ∙ distance-tsn p 0 y (omega arith) (omega (arith, few)) ∙ (let e : y - 0 ≡ y = omega arith in e) in
+    ap (λ k. nat_le k m) d
 
 module _ (first : ℕ) (sent : List Entry) (st : ℕ) where
   -- an ordered fragment of the stream at the place is still to come
@@ -42,6 +53,26 @@ module _ (first : ℕ) (sent : List Entry) (st : ℕ) where
   HeldWell n a L None = ⊤
   HeldWell n a L (Some l) = IsHeldWell n a L l.queue
 
+  -- nothing unassembled of the stream stands up to the place
+  abbrev pub IsPast : ℕ → Option InboundStream → Type 0
+  IsPast floor None = ⊤
+  IsPast floor (Some l) = Every (λ c. is_upto (base first) floor c.tsn ≡ false) l.queue.held.unassembled
+
+  -- a TSN was taken, or stands up to the place
+  abbrev pub known_past : ℕ → Stand → ℕ → Bool
+  known_past floor s t = list_any (has_tsn t) s.accepted || is_upto (base first) floor t
+
+  -- FORWARD-TSNs that were followed went to a place at most: a message ends there, all up to it has come, what is lost stands up to it, what is
+  -- unassembled past it, and what came past it was taken
+  pub record IsPassedTo (n : ℕ) (lost : List ChunkPayloadData) (s : Stand) : Type 0 where
+    pub floor : ℕ
+    pub within : floor ≤ n
+    pub ends : (floor ≡ 0) ⊎ EndsAt sent floor
+    pub below : (y : ℕ) → 0 < y → y ≤ floor → come (tsn (base first) y) s.receiver.cumulative_tsn s.receiver.beyond ≡ true
+    pub gone-to : Every (λ c. is_upto (base first) floor c.tsn ≡ true) lost
+    pub past : IsPast floor (stream_of st s.receiver)
+    pub arrived : IsArrived (base first) n (known_past floor s) s.receiver.cumulative_tsn s.receiver.beyond
+
   -- however chunks are weighed: those that were taken on the stream weigh as much as the fragments that were read there, those that are held
   -- there, and some that FORWARD-TSNs pass, of messages that are gone
   pub record IsKeptBut (n a : ℕ) (gone : List ℕ) (made : List Made) (s : Stand) : Type 0 where
@@ -50,6 +81,7 @@ module _ (first : ℕ) (sent : List Entry) (st : ℕ) where
     pub weighs : (w : ChunkPayloadData → ℕ) → sum_by w (filter (is_on st) s.accepted)
         ≡ sum_by w (fragments_read st s.read) + held_weight w (stream_of st s.receiver) + sum_by w lost
     pub holds : HeldWell n a (IsLate s.receiver.cumulative_tsn s.receiver.beyond) (stream_of st s.receiver)
+    pub floor : IsPassedTo n lost s
 
 module _ (ws : List Numbered) (first : ℕ) (sent : List Entry) (line : IsLine ws first sent) (joined : AreJoined sent) (n : ℕ)
     (long : length sent ≡ n) (few : n < 2 ^ 31) (st : ℕ) where

@@ -25,7 +25,8 @@ use Rattle.sctp_delivery.proofs.Sent.{WasSent}
 use Rattle.sctp_delivery.proofs.AbandonedMessages.{flight_of, gone-left}
 use Rattle.sctp_delivery.proofs.AllBegun.{begins_in}
 use Rattle.sctp_delivery.proofs.Calls.{length-forgotten, numbered_after}
-use Rattle.sctp_delivery.proofs.KeptOrGone.{IsKeptBut, IsPassedBy, HeldWell, IsLate}
+use Rattle.sctp_delivery.proofs.TakenCalls.{more-arrived}
+use Rattle.sctp_delivery.proofs.KeptOrGone.{known_past, IsKeptBut, IsPassedBy, HeldWell, IsLate}
 use Rattle.sctp_delivery.proofs.OrderedPlaces.{place-at}
 use Rattle.sctp_delivery.proofs.PassedMessages.{AreTakenOrGone, is_gone, IsMadePassing}
 use Rattle.sctp_delivery.proofs.PassingCalls.{IsPassed, all-taken-or-gone, came-at, IsGone, passed-first, receiver-passes, sender-passes}
@@ -33,7 +34,7 @@ use Rattle.sctp_delivery.proofs.SpreadCalls.{IsSpread, sender-spreads}
 use Rattle.sctp_delivery.proofs.SackLaws.{none-of}
 use Rattle.sctp_delivery.proofs.OneRead.{run-then}
 use Rattle.sctp_delivery.proofs.UnwrappedHolds.{IsWholeAt}
-use Rattle.sctp_delivery.proofs.KeptCalls.{tidy-more}
+use Rattle.sctp_delivery.proofs.Unassembled.{tidy-more}
 use Rattle.sctp_delivery.proofs.MessagePlaces.{IsEntryAt, IsWanted, begins-more, is_of_stream, ordered-alike, prior-of}
 use Rattle.sctp_delivery.proofs.OrderedEntries.{AreJoined}
 use Rattle.sctp_delivery.proofs.Queues.{IsOnceMore}
@@ -491,7 +492,20 @@ module _ (ns : List Numbered) (first : ℕ) (sent more : List Entry) (line : IsL
     of-gone = every-of (IsPassedBy gone sent ms) (IsPassedBy now more later) (λ c g. (gone-more gone now among c g.0, grows c.tsn g.1)) k.lost k.of-gone;
     weighs = k.weighs;
     holds = well-more (stream_of st s.receiver) answered.due near k.holds;
+    floor = record {
+      floor = k.floor.floor;
+      within = let a = k.floor.within in let b = wider in omega (arith, a, b);
+      ends = elim k.floor.ends [ inl z ↦ inl z | inr e ↦ inr (e.0, part-more e.0 e.1, e.2, e.3) ];
+      below = k.floor.below;
+      gone-to = k.floor.gone-to;
+      past = k.floor.past;
+      arrived = more-arrived p n m (known_past first sent st k.floor.floor s) (known_past first more st k.floor.floor s) s.receiver.cumulative_tsn
+          s.receiver.beyond wider (λ t e. e) k.floor.arrived;
+    };
   }
+    where
+      part-more : (ys : List Entry) → IsPart ys sent → IsPart ys more
+      part-more ys x = elim once [ inl e ↦ subst (IsPart ys) (sym e) x | inr e ↦ subst (IsPart ys) (sym e.1) (inr x) ]
 
 -- # In each session of few TSNs: what was taken is held or was read, but for fragments of messages that were abandoned or have expired.
 
@@ -621,6 +635,28 @@ module _ (first size max most : ℕ) (limits : Option Limits) where
       (kept-after 0 [] [] cs (at_start first size max most limits) s refl [] [] r (omega (arith, few)) (record {
         unwrapped = start;
         passed = passed-first first size max most limits;
-        kept = λ st. record { lost = []; of-gone = tt; weighs = λ w. refl; holds = tt };
+        kept = λ st. record {
+          lost = [];
+          of-gone = tt;
+          weighs = λ w. refl;
+          holds = tt;
+          floor = record {
+            floor = 0;
+            within = omega arith;
+            ends = inl refl;
+            below = λ y pos le. absurd (omega (arith, pos, le));
+            gone-to = tt;
+            past = tt;
+            arrived =
+                let x = start.spread.step.arrived in
+                record {
+                  place = x.place;
+                  within = x.within;
+                  is = x.is;
+                  so_far = λ y pos le. let a = x.within in absurd (omega (arith, pos, le, a));
+                  each = tt;
+                };
+          };
+        };
         tight = λ st z lt at. absurd (not_both at);
       }))

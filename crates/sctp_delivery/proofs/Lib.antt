@@ -65,6 +65,7 @@ pub mod UnwrappedArrived
 pub mod MessagePlaces
 pub mod KeptOrGone
 pub mod UnassembledGone
+pub mod Unassembled
 pub mod KeptCalls
 pub mod KeptSessions
 pub mod HeldInTheEnd
@@ -83,6 +84,7 @@ pub mod PushesExist
 pub mod EndSteps
 pub mod EndDelivers
 pub mod EndSessions
+pub mod EndWindows
 pub mod OneStep
 pub mod NotedChunks
 pub mod ModeQueues

@@ -7,7 +7,7 @@ use Rattle.sctp_delivery.proofs.Names.{following_tsn, has_tsn, preceding_tsn}
 use Rattle.std.proofs.Common.{◌⊎◌}
 use Rattle.sctp_delivery.proofs.Cases.{by-test}
 use Rattle.sctp_delivery.proofs.OrderedEntries.{AreJoined, Joins, begins_on, one}
-use Rattle.sctp_delivery.proofs.PassedMessages.{AreCutGone, EndsGone, EndsMessage, is_gone}
+use Rattle.sctp_delivery.proofs.PassedMessages.{AreCutGone, EndsGone, EndsMessage}
 use Rattle.sctp_delivery.proofs.Sent.{Entry, GoesOn, IsLine, IsPart, Numbered, fragment, part-itself, part-length, part-line, same-parts, tail-part, terminal}
 use Rattle.sctp_delivery.proofs.Sent.{WasSent}
 use Rattle.sctp_delivery.proofs.SpreadEntries.{begun_to, part-joined, to-part, to-up, is_at}
@@ -76,14 +76,14 @@ abbrev pub IsOne : (ℕ → Data) → List Entry → Numbered → Data → ℕ �
 IsOne f sent w d j = IsEntryAt sent j (f j) w × IsKin (f j) d
 
 -- from the first fragment to the place
-record IsBack (f : ℕ → Data) (sent : List Entry) (w : Numbered) (d : Data) (y : ℕ) : Type 0 where
-  start : ℕ
-  some : 0 < start
-  upto : start ≤ y
-  begins : (f start).beginning_fragment ≡ true
-  inner : (j : ℕ) → start < j → j ≤ y → (f j).beginning_fragment ≡ false
-  open' : (j : ℕ) → start ≤ j → j < y → (f j).ending_fragment ≡ false
-  each : (j : ℕ) → start ≤ j → j ≤ y → IsOne f sent w d j
+pub record IsBack (f : ℕ → Data) (sent : List Entry) (w : Numbered) (d : Data) (y : ℕ) : Type 0 where
+  pub start : ℕ
+  pub some : 0 < start
+  pub upto : start ≤ y
+  pub begins : (f start).beginning_fragment ≡ true
+  pub inner : (j : ℕ) → start < j → j ≤ y → (f j).beginning_fragment ≡ false
+  pub open' : (j : ℕ) → start ≤ j → j < y → (f j).ending_fragment ≡ false
+  pub each : (j : ℕ) → start ≤ j → j ≤ y → IsOne f sent w d j
 
 -- from the place to the last fragment
 record IsForth (f : ℕ → Data) (sent : List Entry) (m : ℕ) (w : Numbered) (d : Data) (y : ℕ) : Type 0 where
@@ -154,17 +154,17 @@ module _ (ws : List Numbered) (first : ℕ) (sent : List Entry) (line : IsLine w
             j.1 b,
           )
 
-  -- behind a fragment that does not end its message stands one of it, or the message is gone
-  pub next-of : (gone : List ℕ) → AreCutGone gone sent → (y : ℕ) (d : Data) (w : Numbered) → IsEntryAt sent y d w → d.ending_fragment ≡ false
-      → y < length sent → is_gone gone w.place ≡ false
+  -- behind a fragment that does not end its message stands one of it, or a terminal chunk
+  pub next-of : (y : ℕ) (d : Data) (w : Numbered) (i : IsEntryAt sent y d w) → d.ending_fragment ≡ false → y < length sent
+      → (IsPart (terminal ∷ fragment d w i.after ∷ i.entries) sent → ⊥)
       → (e : Data) × IsEntryAt sent (suc y) e w × (e.beginning_fragment ≡ false) × IsBeforeIn d e
-  next-of gone cut y d w i open' lt alive =
+  next-of y d w i open' lt uncut =
       let n = next-part sent (fragment d w i.after ∷ i.entries) i.part (omega (arith, lt)) in
       by n.0 n.1
     where
       by : (x : Entry) → IsPart (x ∷ fragment d w i.after ∷ i.entries) sent
           → (e : Data) × IsEntryAt sent (suc y) e w × (e.beginning_fragment ≡ false) × IsBeforeIn d e
-      by terminal p = absurd (not_both (sym alive ∙ (cut-part gone sent (fragment d w i.after ∷ i.entries) p cut).1))
+      by terminal p = absurd (uncut p)
       by (fragment e v rest) p = by-test e.beginning_fragment
           (λ h. absurd (not_both (sym open' ∙ j.0 h)))
           (λ h. (
@@ -430,7 +430,7 @@ module _ (ws : List Numbered) (first : ℕ) (sent : List Entry) (line : IsLine w
     one-kin : (j : ℕ) (w : Numbered) (d e : Data) → IsKin e d → IsOne f sent w e j → IsOne f sent w d j
     one-kin j w d e k o = (o.0, kin-then (f j) e d o.1 k)
 
-    back : (y : ℕ) (d : Data) (w : Numbered) → IsEntryAt sent y d w → IsBack f sent w d y
+    pub back : (y : ℕ) (d : Data) (w : Numbered) → IsEntryAt sent y d w → IsBack f sent w d y
     back zero d w i = let p = i.place in absurd (omega (arith, p))
     back (suc z) d w i = by d.beginning_fragment refl (λ e k. back z e w k)
       where
@@ -480,7 +480,10 @@ module _ (ws : List Numbered) (first : ℕ) (sent : List Entry) (line : IsLine w
               ];
             }
 
-    module _ (gone : List ℕ) (cut : AreCutGone gone sent) (m : ℕ) (le : m ≤ length sent) (ends : EndsAt sent m) where
+    -- where it does not end its message, the next entry is of it; so it is of a message of which this is so, at the one place and then at the other
+    module _ (m : ℕ) (le : m ≤ length sent) (ends : EndsAt sent m) (Q : Numbered → ℕ → Type 0) (on : (w : Numbered) (y : ℕ) → Q w y → Q w (suc y))
+        (goes : (y : ℕ) (d : Data) (w : Numbered) → IsEntryAt sent y d w → d.ending_fragment ≡ false → y < m → Q w y
+        → (e : Data) × IsEntryAt sent (suc y) e w × (e.beginning_fragment ≡ false) × IsBeforeIn d e) where
       ended : (y : ℕ) (d : Data) (w : Numbered) → y ≤ m → IsEntryAt sent y d w → d.ending_fragment ≡ true → IsForth f sent m w d y
       ended y d w below i b = record {
         finish = y;
@@ -494,15 +497,15 @@ module _ (ws : List Numbered) (first : ℕ) (sent : List Entry) (line : IsLine w
             subst (IsOne f sent w d) it (one-at y d d w i (refl, refl));
       }
 
-      forth : (gap y : ℕ) (d : Data) (w : Numbered) → y + gap ≡ m → IsEntryAt sent y d w → is_gone gone w.place ≡ false → IsForth f sent m w d y
+      forth : (gap y : ℕ) (d : Data) (w : Numbered) → y + gap ≡ m → IsEntryAt sent y d w → Q w y → IsForth f sent m w d y
       forth zero y d w total i alive =
           let it : m ≡ y = omega (arith, total) in
           ended y d w (omega (arith, total)) i (ends-own y d w i (subst (EndsAt sent) it ends))
       forth (suc k) y d w total i alive = by-test d.ending_fragment
           (λ b. ended y d w (omega (arith, total)) i b)
           (λ b.
-          let r = next-of gone cut y d w i b (omega (arith, total, le)) alive in
-          let h = (forth k (suc y) r.0 w (omega (arith, total)) r.1 alive) in
+          let r = goes y d w i b (omega (arith, total)) alive in
+          let h = (forth k (suc y) r.0 w (omega (arith, total)) r.1 (on w y alive)) in
           let from = h.from in
           let kin : IsKin r.0 d = (sym r.3.1, sym r.3.2) in
           let next = shown-at (suc y) r.0 w r.1 in
@@ -532,7 +535,7 @@ module _ (ws : List Numbered) (first : ℕ) (sent : List Entry) (line : IsLine w
             ];
           })
 
-      pub span-of : (y : ℕ) (d : Data) (w : Numbered) → y ≤ m → IsEntryAt sent y d w → is_gone gone w.place ≡ false → IsSpan f sent m w d y
+      pub span-of : (y : ℕ) (d : Data) (w : Numbered) → y ≤ m → IsEntryAt sent y d w → Q w y → IsSpan f sent m w d y
       span-of y d w upto i alive =
           let a = back y d w i in
           let b = forth (m - y) y d w (omega (arith, upto)) i alive in

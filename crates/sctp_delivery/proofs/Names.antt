@@ -100,7 +100,7 @@ pub use Rattle.sctp_util.specs.Kept.{always, numbers_where, runs_of, put_before_
 pub use Rattle.std.proofs.lemmas.List.{length-map, take-append-drop, append-nil, map-append, get_or_default, append_assoc}
 pub use Rattle.std.proofs.lemmas.List.Folds.{list_all-append, list_any_at, find-append}
 pub use Rattle.sctp_outbound.specs.payload_queue.PayloadQueue.{past}
-pub use Rattle.sctp_delivery.specs.Ending.{chunks_waiting, has_room, takes_all_of}
+pub use Rattle.sctp_delivery.specs.Ending.{chunks_waiting, has_room, takes_each_of}
 pub use Rattle.sctp_reassembly.specs.reassembly_queue.Skips.{misses, cannot_complete, misses_behind, held_after_incomplete_skip}
 pub use Rattle.sctp_util.proofs.Wraps.{at_or_before16-index, comes_before16-index, next16}
 pub use Rattle.sctp_data.specs.PayloadTypes.{is_ordered, is_dcep}

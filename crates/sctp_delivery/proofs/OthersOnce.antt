@@ -9,6 +9,7 @@ use Rattle.sctp_delivery.proofs.Calls.{length-forgotten}
 use Rattle.sctp_delivery.proofs.KeptSessions.{idle-of, none-held, others-once, read-whole, kept-in}
 use Rattle.sctp_delivery.proofs.Every.{all-of-every, every-of}
 use Rattle.sctp_delivery.proofs.HeldInTheEnd.{taken-read}
+use Rattle.sctp_delivery.proofs.InTheEnd.{none-selected}
 use Rattle.sctp_delivery.proofs.Kept.{held-weighs}
 use Rattle.sctp_delivery.proofs.KeptOrGone.{IsPassedBy}
 use Rattle.sctp_delivery.proofs.NoneAbandoned.{each-of-others, none-in}
@@ -20,7 +21,9 @@ others-read first size max most limits cs s run small few some exhausted =
     let h = kept-in first size max most limits cs s small some run few in
     let idle = idle-of s b.0 in
     others-once first size max most limits cs s run small few _ h.numbered h.sent h.kept.unwrapped.spread h.kept.passed idle
-    (taken-read first size max most limits cs s run _ few _ h.numbered h.sent h.kept idle b.1)
+    (taken-read first size max most limits cs s run _ few _ h.numbered h.sent h.kept idle.inflight
+    (none-selected h.numbered first _ s.sending.sender.flight.queue.pending h.sent h.kept.unwrapped.spread.holds.held.stands.queued idle.ordered
+    idle.unordered) b.1)
 
 -- and where nothing is held
 others-settled : AfterEachSessionOfMessages (λ size gone s. 0 < size → is_all_acknowledged s.sending.sender ≡ true

@@ -87,7 +87,7 @@ partial-on : (k : Option Bool) (os us : List ChunkPayloadData) (sel : Option Sel
     → partially_sent (rest_from k (made os us sel ro ru)) ≡ Some c.message_id
 partial-on k os us sel ro ru c h8 h9 h10 = grind (arith, nat_tests, none-some, on-sel, some-same)
 
-goes-with : (m : ℕ) (c : ChunkPayloadData) (o : Option ChunkPayloadData) → o ≡ Some c → GoesOn m o → c.message_id ≡ m
+pub goes-with : (m : ℕ) (c : ChunkPayloadData) (o : Option ChunkPayloadData) → o ≡ Some c → GoesOn m o → c.message_id ≡ m
 goes-with m c None e g = absurd g
 goes-with m c (Some d) e g = ap (λ (x : ChunkPayloadData). x.message_id) (sym (some-same e)) ∙ g.0
 

@@ -16,7 +16,7 @@ use Rattle.sctp_delivery.specs.Sacks.{ReleasedCame, ReportWhatCame}
 use Rattle.sctp_delivery.proofs.Every.{Every, all-of-every, every-mapped, every-of, one-of, every-changed, every-contained, every-inserted, every-joined}
 use Rattle.sctp_delivery.proofs.Every.{every-left, every-of-all, every-passing, every-taken, every-both, every-tested}
 use Rattle.sctp_delivery.proofs.GivenTsns.{IsNumbered, taken-numbered, flight-given, raises-abandoned}
-use Rattle.sctp_delivery.proofs.TakenCalls.{hears, more-arrived, tells, AreTaken, more-come, takes-once, IsInOrder, each-sack-tells, keeps-order}
+use Rattle.sctp_delivery.proofs.TakenCalls.{hears, passed-upto, more-arrived, tells, AreTaken, more-come, takes-once, IsInOrder, each-sack-tells, keeps-order}
 use Rattle.sctp_delivery.proofs.TakenCalls.{next-sack-tells}
 use Rattle.sctp_delivery.proofs.ArrivedTsns.{IsArrived}
 use Rattle.sctp_delivery.proofs.ReportedTsns.{IsTruthful, later-truthful, not-refused, answered-known}
@@ -152,8 +152,9 @@ receiver-step-but dropped p n call old new few f i =
     let grows = grows-so dropped p n old new taken (λ t e. ap (list_any (passes t)) made ∙ e) in
     beside dropped p n old new few made (ap (λ (s : Session). s.sending) f.after) taken
     (hears p n (known_or dropped old) (known_or dropped new) old new few i.made grows
-    (λ t e. or-left (came_in dropped new t) (was_passed t new) (or-right (dropped t) (was_taken t new) e))
-    (λ t e. or-right (came_in dropped new t) (was_passed t new) (ap (list_any (passes t)) made ∙ e)) i.arrived call f)
+    (λ t e. or-left (came_in dropped new t) (was_passed t new) (or-right (dropped t) (was_taken t new) e)) i.arrived call f
+    (λ g in' same h k le. or-right (came_in dropped new (tsn p k)) (was_passed (tsn p k) new)
+    (ap (list_any (passes (tsn p k))) made ∙ passed-upto p n old.made g few h in' k le)))
     (subst (Every (IsTruthful p n (known_or dropped new))) (sym (ap (λ (s : Session). s.sacks) f.after))
     (tells p n (known_or dropped old) (known_or dropped new) old call few grows i.arrived i.sacks))
     (takes-once p n (known_or dropped old) old new few i.made i.arrived i.taken call f)

@@ -5,7 +5,7 @@ use Rattle.sctp_delivery.proofs.Names.{insert_before, at_or_before, comes_before
 use Rattle.sctp_delivery.proofs.Names.{not_both, both, tsn, distance-tsn, distance-tsn_back, ChunkPayloadData, ForwardTsn, data_of, New, Repeat, Reception}
 use Rattle.sctp_delivery.proofs.Names.{filter_of, follow_forward_tsn, is_stale, max_sack_entries, sack_entries, sack_of_entries, after_forward_tsn}
 use Rattle.sctp_delivery.proofs.Names.{without_incomplete, has_come, is_opposite, with_tsn, has_tsn, following_tsn, ReceiverCall, reports_after, are_apart}
-use Rattle.sctp_delivery.proofs.Names.{passes, was_passed, was_taken, EachSackTells, NextSackTells, reports_tsn, data_chunk, forward_tsn, Made, ReceiverFollows}
+use Rattle.sctp_delivery.proofs.Names.{passes, was_taken, EachSackTells, NextSackTells, reports_tsn, data_chunk, forward_tsn, Made, ReceiverFollows}
 use Rattle.sctp_delivery.proofs.Names.{Session, list_any_at, cases_lt, common_steps, runs_of, put_before_runs, Sack, is_in_blocks, is_offset}
 use Rattle.std.specs.Prelude.{not}
 use Rattle.sctp_receiver.specs.TsnFilter.{gap_ack_blocks, offsets}
@@ -227,7 +227,7 @@ more-arrived p m n kn kn' cumulative beyond le more h = record {
 -- ## A TSN comes
 
 -- what is passed up to a FORWARD-TSN that was made
-passed-upto : (p n : ℕ) (ms : List Made) (f : ForwardTsn) → n < 2 ^ 31 → (g : IsGiven p n f.new_cumulative_tsn) → Contains ms (forward_tsn f) → (k : ℕ)
+pub passed-upto : (p n : ℕ) (ms : List Made) (f : ForwardTsn) → n < 2 ^ 31 → (g : IsGiven p n f.new_cumulative_tsn) → Contains ms (forward_tsn f) → (k : ℕ)
     → k ≤ g.place → list_any (passes (tsn p k)) ms ≡ true
 passed-upto p n ms f few g in' k le =
     let at = upto-yes p k g.place refl g.is (omega (arith, few, le)) (omega (arith, few)) le in
@@ -238,9 +238,8 @@ module _ (p n : ℕ) (kn now : ℕ → Bool) (old new : Session) (few : n < 2 ^ 
   abbrev Hears : Reception → Type 0
   Hears r = IsArrived p n now r.cumulative_tsn r.beyond
 
-  -- what is known stays so; and known is what was taken, and what is passed
+  -- what is known stays so, and known is what was taken
   module _ (grows : (t : ℕ) → kn t ≡ true → now t ≡ true) (taken : (t : ℕ) → was_taken t new ≡ true → now t ≡ true)
-      (passed : (t : ℕ) → was_passed t old ≡ true → now t ≡ true)
       (h : IsArrived p n kn old.receiving.receiver.cumulative_tsn old.receiving.receiver.beyond) where
     still : Hears old.receiving.receiver
     still = more-arrived p n n kn now old.receiving.receiver.cumulative_tsn old.receiving.receiver.beyond (omega arith) grows h
@@ -260,38 +259,43 @@ module _ (p n : ℕ) (kn now : ℕ → Bool) (old new : Session) (few : n < 2 ^ 
           (record { place = g.place; some = g.some; within = g.within; is = g.is; so = so }) still.each;
     }
 
+    -- known is what it passes
+    abbrev IsKnownUpTo : ForwardTsn → Type 0
+    IsKnownUpTo f = (g : IsGiven p n f.new_cumulative_tsn) (k : ℕ) → k ≤ g.place → now (tsn p k) ≡ true
+
     -- with all up to a FORWARD-TSN
-    hears-upto : (f : ForwardTsn) → Contains old.made (forward_tsn f) → IsArrived p n now f.new_cumulative_tsn
+    hears-upto : (f : ForwardTsn) → Contains old.made (forward_tsn f) → IsKnownUpTo f → IsArrived p n now f.new_cumulative_tsn
         (filter (λ t. not (at_or_before t f.new_cumulative_tsn)) old.receiving.receiver.beyond)
-    hears-upto f in' =
+    hears-upto f in' passed =
         let g : IsGiven p n f.new_cumulative_tsn = every-contained (IsMadeGiven p n) old.made (forward_tsn f) in' m in
         record {
           place = g.place;
           within = g.within;
           is = g.is;
-          so_far = λ k pos le. passed (tsn p k) (passed-upto p n old.made f few g in' k le);
+          so_far = λ k pos le. passed g k le;
           each = every-passing (IsKnown p n now) (λ t. not (at_or_before t f.new_cumulative_tsn)) old.receiving.receiver.beyond still.each;
         }
 
-    follows-arrived : (f : ForwardTsn) → Contains old.made (forward_tsn f) → Hears (after_forward_tsn f old.receiving.receiver)
-    follows-arrived f in' = at-test (λ b. Hears (if b then old.receiving.receiver else without_incomplete f.new_cumulative_tsn
+    follows-arrived : (f : ForwardTsn) → Contains old.made (forward_tsn f) → IsKnownUpTo f → Hears (after_forward_tsn f old.receiving.receiver)
+    follows-arrived f in' passed = at-test (λ b. Hears (if b then old.receiving.receiver else without_incomplete f.new_cumulative_tsn
         (if b then old.receiving.receiver else follow_forward_tsn f old.receiving.receiver))) (is_stale f old.receiving.receiver)
         (λ e. still)
         (λ e. advanced p n now f.new_cumulative_tsn (filter (λ t. not (at_or_before t f.new_cumulative_tsn)) old.receiving.receiver.beyond) few
-        (hears-upto f in'))
+        (hears-upto f in' passed))
 
-    pub hears : (call : ReceiverCall) → ReceiverFollows call old new → Hears new.receiving.receiver
-    hears (incoming.opens stream) f = hears-to _ f.step.receiver.1 still
-    hears (incoming.takes c Repeat) f = hears-to _ f.step.receiver still
-    hears (incoming.takes c (New answered)) f =
+    pub hears : (call : ReceiverCall) → ReceiverFollows call old new
+        → ((f : ForwardTsn) → Contains old.made (forward_tsn f) → call ≡ incoming.follows f → IsKnownUpTo f) → Hears new.receiving.receiver
+    hears (incoming.opens stream) f passed = hears-to _ f.step.receiver.1 still
+    hears (incoming.takes c Repeat) f passed = hears-to _ f.step.receiver still
+    hears (incoming.takes c (New answered)) f passed =
         let given : IsGiven p n c.tsn = every-contained (IsMadeGiven p n) old.made (data_chunk (data_of c)) f.handed m in
         let here : was_taken c.tsn new ≡ true = ap (list_any (has_tsn c.tsn)) f.step.accepted ∙ or-left (has_tsn c.tsn c)
         (list_any (has_tsn c.tsn) old.receiving.accepted) (same-yes c.tsn) in
         hears-to _ f.step.receiver.after
         (advanced p n now old.receiving.receiver.cumulative_tsn (insert_before comes_before c.tsn old.receiving.receiver.beyond) few
         (hears-one c.tsn given (taken c.tsn here)))
-    hears (incoming.follows g) f = hears-to _ f.step.receiver (follows-arrived g f.handed)
-    hears call f = hears-to _ f.step.receiver still
+    hears (incoming.follows g) f passed = hears-to _ f.step.receiver (follows-arrived g f.handed (passed g f.handed refl))
+    hears call f passed = hears-to _ f.step.receiver still
 
 -- ## What SACKs say
 

@@ -11,7 +11,7 @@ use Rattle.sctp_delivery.proofs.Every.{Every, every-of, every-both, every-pair}
 use Rattle.sctp_delivery.proofs.PassingCalls.{IsGone, taken-or-gone}
 use Rattle.sctp_delivery.proofs.Kept as kept
 use Rattle.sctp_delivery.proofs.KeptOrGone.{HeldWell, IsHeldWell, IsKeptBut, IsLate, IsPassedBy}
-use Rattle.sctp_delivery.proofs.MessagePlaces.{EndsAt, IsEntryAt, same-entry, within, entry-at, entry-of, place-tsn, IsSpan, shown-at, span-of}
+use Rattle.sctp_delivery.proofs.MessagePlaces.{EndsAt, IsEntryAt, cut-part, next-of, same-entry, within, entry-at, entry-of, place-tsn, IsSpan, shown-at, span-of}
 use Rattle.sctp_delivery.proofs.OrderedEntries.{AreJoined}
 use Rattle.sctp_delivery.proofs.PassedMessages.{AreCutGone, AreTakenOrGone, EndsMessage, is_gone}
 use Rattle.sctp_delivery.proofs.FragmentPlaces.{Shows, at_place, shown}
@@ -19,7 +19,7 @@ use Rattle.sctp_delivery.proofs.ReadOnce as read_once
 use Rattle.sctp_delivery.proofs.ReadOnce.{none-count, one}
 use Rattle.sctp_delivery.proofs.Rising.{Covers, IsOf, run-of}
 use Rattle.sctp_delivery.proofs.Senders.{AreSent}
-use Rattle.sctp_delivery.proofs.Sent.{Entry, IsLine, IsPart, Numbered, WasSent, part-length}
+use Rattle.sctp_delivery.proofs.Sent.{Entry, IsLine, IsPart, Numbered, WasSent, fragment, part-length}
 use Rattle.sctp_delivery.proofs.Sessions as sessions
 use Rattle.sctp_delivery.proofs.KeptSets.{IsOrdered, IsTidySet}
 use Rattle.sctp_delivery.proofs.TsnPlaces.{base, same-place, upto-is}
@@ -55,7 +55,7 @@ module _ (ws : List Numbered) (first : ℕ) (sent : List Entry) (line : IsLine w
   one-each t = let x = read_once.fewer t (is_on st) s.receiving.accepted in let y = read_once.once t s.receiving.accepted apart in omega (arith, x, y)
 
   -- each chunk that was taken was made
-  was-taken : Every Was s.receiving.accepted
+  pub was-taken : Every Was s.receiving.accepted
   was-taken = all-every (sessions.made_among s.made) Was was s.receiving.accepted made
 
   -- a place whose TSN was taken is on the stream of its fragment
@@ -208,6 +208,68 @@ module _ (ws : List Numbered) (first : ℕ) (sent : List Entry) (line : IsLine w
 
     -- ## Up to a place
 
+    of-all : Every (IsOf p n few f) q.unassembled
+    of-all = every-of Was (IsOf p n few f) (λ c w i pos le e. its-data c i w le (eq-eqb c.tsn (tsn p i) e)) q.unassembled was-unassembled
+
+    -- a fragment of an unordered message of which all were taken, and none is lost, is not unassembled
+    module _ (m : ℕ) (least : m ≤ length sent) (y : ℕ) (d : Data) (w : Numbered) (i : IsEntryAt sent y d w) (unordered : d.unordered ≡ true)
+        (here : 0 < A (tsn p y)) (g : IsSpan f sent m w d y) (takes : (j : ℕ) → g.start ≤ j → j ≤ g.finish → was_taken (tsn p j) s ≡ true)
+        (unlost : (j : ℕ) → g.start ≤ j → j ≤ g.finish → sum_by (one (tsn p j)) k.lost ≡ 0) where
+      -- it is on the stream
+      on : d.stream_identifier ≡ st
+      on = among s.receiving.accepted was-taken (let e = equation (tsn p y) in omega (arith, e, here))
+        where
+          most : y ≤ n
+          most = let a = g.from in let b = g.below in omega (arith, a, b, least, long)
+
+          among : (xs : List ChunkPayloadData) → Every Was xs → 0 < sum_by (one (tsn p y)) (filter (is_on st) xs) → d.stream_identifier ≡ st
+          among [] e lt = absurd (omega (arith, lt))
+          among (c ∷ cs) e lt = by (is_on st c) refl (has_tsn (tsn p y) c) refl lt (among cs e.1)
+            where
+              by : (b : Bool) → is_on st c ≡ b → (h : Bool) → has_tsn (tsn p y) c ≡ h
+                  → 0 < sum_by (one (tsn p y)) (if b then c ∷ filter (is_on st) cs else filter (is_on st) cs)
+                  → (0 < sum_by (one (tsn p y)) (filter (is_on st) cs) → d.stream_identifier ≡ st) → d.stream_identifier ≡ st
+              by false x h v lt' ih = ih lt'
+              by true x true v lt' ih =
+                  let r = entry-at ws first sent line joined n long few c e.0 y most (same-is c.tsn (tsn p y) v) in
+                  let same = (same-entry ws first sent line joined y (data_of c) d r.0 w r.1 i).0 in
+                  ap (λ (z : Data). z.stream_identifier) (sym same) ∙ same-is c.stream_identifier st x
+              by true x false v lt' ih = grind (arith, nat_tests, common_steps, sum_by-cons (one (tsn p y)) c (filter (is_on st) cs))
+
+      covers : Covers p g.start g.finish q.unassembled
+      covers j from to =
+          let one' = g.each j from to in
+          let kind : (f j).unordered ≡ true = one'.1.0 ∙ unordered in
+          let took = taken-there j (f j) w one'.0 (one'.1.1 ∙ on) (takes j from to) in
+          let v = equation (tsn p y) in
+          let z = one-each (tsn p y) in
+          let start = g.upto in
+          let within' : j ≤ length sent = omega (arith, to, g.below, least) in
+          let inner : (l' : ℕ) → g.start < l' → l' ≤ j → (f l').beginning_fragment ≡ false = λ l' lt le. g.inner l' lt (omega (arith, le, to)) in
+          let open' : (l' : ℕ) → g.start ≤ l' → l' < y → (f l').ending_fragment ≡ false = λ l' ge lt. g.open' l' ge (omega (arith, lt, g.from)) in
+          any-of (tsn p j) q.unassembled (elim (cases_lt 0 (R (tsn p j))) [
+            | inl read ↦
+                let x = read-whole ws first sent (omega (arith, long, few)) line f show g.start j y g.begins from inner within' start open' st
+                s.receiving.read whole read in
+                absurd (omega (arith, x, v, z, here))
+            | inr no-read ↦ elim (cases_lt 0 (S (tsn p j))) [
+              | inl set ↦ absurd (not_both (sym (set-kind j (omega (arith, within', long)) set) ∙ kind))
+              | inr no-set ↦ elim (cases_lt 0 (U (tsn p j))) [
+                | inl full ↦ let x = set-whole g.start j y g.begins from inner within' start open' full in absurd (omega (arith, x, v, z, here))
+                | inr no-full ↦ omega (arith, equation (tsn p j), took, unlost j from to, no-read, no-set, no-full)
+              ]
+            ]
+          ])
+
+      pub none-stays : ⊥
+      none-stays =
+          let below = g.below in
+          let from = g.from in
+          let upto' = g.upto in
+          let run = run-of p n few f g.start g.finish g.some (omega (arith, from, upto')) (omega (arith, below, least, long)) g.begins g.ends g.inner 0
+          q.unassembled well.tidy.unassembled covers of-all in
+          well.tidy.none run.0 run.1 run.2
+
     module _ (passed : List Entry) (part : IsPart passed sent) (ends : EndsMessage passed) (came : AreTakenOrGone gone s passed) where
       abbrev m : ℕ
       m = length passed
@@ -218,74 +280,17 @@ module _ (ws : List Numbered) (first : ℕ) (sent : List Entry) (line : IsLine w
       end : EndsAt sent m
       end = (passed, part, refl, ends)
 
-      of-all : Every (IsOf p n few f) q.unassembled
-      of-all = every-of Was (IsOf p n few f) (λ c w i pos le e. its-data c i w le (eq-eqb c.tsn (tsn p i) e)) q.unassembled was-unassembled
-
-      module _ (y : ℕ) (d : Data) (w : Numbered) (i : IsEntryAt sent y d w) (upto : y ≤ m) (unordered : d.unordered ≡ true)
-          (alive : is_gone gone w.place ≡ false) (here : 0 < A (tsn p y)) where
-        g : IsSpan f sent m w d y
-        g = span-of ws first sent line joined f show gone cut m least end y d w upto i alive
-
-        -- it is on the stream
-        on : d.stream_identifier ≡ st
-        on = among s.receiving.accepted was-taken (let e = equation (tsn p y) in omega (arith, e, here))
-          where
-            most : y ≤ n
-            most = omega (arith, upto, least, long)
-
-            among : (xs : List ChunkPayloadData) → Every Was xs → 0 < sum_by (one (tsn p y)) (filter (is_on st) xs) → d.stream_identifier ≡ st
-            among [] e lt = absurd (omega (arith, lt))
-            among (c ∷ cs) e lt = by (is_on st c) refl (has_tsn (tsn p y) c) refl lt (among cs e.1)
-              where
-                by : (b : Bool) → is_on st c ≡ b → (h : Bool) → has_tsn (tsn p y) c ≡ h
-                    → 0 < sum_by (one (tsn p y)) (if b then c ∷ filter (is_on st) cs else filter (is_on st) cs)
-                    → (0 < sum_by (one (tsn p y)) (filter (is_on st) cs) → d.stream_identifier ≡ st) → d.stream_identifier ≡ st
-                by false x h v lt' ih = ih lt'
-                by true x true v lt' ih =
-                    let r = entry-at ws first sent line joined n long few c e.0 y most (same-is c.tsn (tsn p y) v) in
-                    let same = (same-entry ws first sent line joined y (data_of c) d r.0 w r.1 i).0 in
-                    ap (λ (z : Data). z.stream_identifier) (sym same) ∙ same-is c.stream_identifier st x
-                by true x false v lt' ih = grind (arith, nat_tests, common_steps, sum_by-cons (one (tsn p y)) c (filter (is_on st) cs))
-
-        covers : Covers p g.start g.finish q.unassembled
-        covers j from to =
-            let one' = g.each j from to in
-            let kind : (f j).unordered ≡ true = one'.1.0 ∙ unordered in
-            let upto-m : j ≤ m = omega (arith, to, g.below) in
-            let t : was_taken (tsn p j) s ≡ true =
-            elim (taken-or-gone ws first sent line joined n long few gone cut s passed part came j (f j) w one'.0 upto-m) [
-              | inl x ↦ x
-              | inr x ↦ absurd (not_both (sym alive ∙ x))
-            ] in
-            let took = taken-there j (f j) w one'.0 (one'.1.1 ∙ on) t in
-            let v = equation (tsn p y) in
-            let z = one-each (tsn p y) in
-            let start = g.upto in
-            let within' : j ≤ length sent = omega (arith, to, g.below, least) in
-            let inner : (l' : ℕ) → g.start < l' → l' ≤ j → (f l').beginning_fragment ≡ false = λ l' lt le. g.inner l' lt (omega (arith, le, to)) in
-            let open' : (l' : ℕ) → g.start ≤ l' → l' < y → (f l').ending_fragment ≡ false = λ l' ge lt. g.open' l' ge (omega (arith, lt, g.from)) in
-            any-of (tsn p j) q.unassembled (elim (cases_lt 0 (R (tsn p j))) [
-              | inl read ↦
-                  let x = read-whole ws first sent (omega (arith, long, few)) line f show g.start j y g.begins from inner within' start open' st
-                  s.receiving.read whole read in
-                  absurd (omega (arith, x, v, z, here))
-              | inr no-read ↦ elim (cases_lt 0 (S (tsn p j))) [
-                | inl set ↦ absurd (not_both (sym (set-kind j (omega (arith, within', long)) set) ∙ kind))
-                | inr no-set ↦ elim (cases_lt 0 (U (tsn p j))) [
-                  | inl full ↦ let x = set-whole g.start j y g.begins from inner within' start open' full in absurd (omega (arith, x, v, z, here))
-                  | inr no-full ↦ omega (arith, equation (tsn p j), took, none-lost j (f j) w one'.0 alive, no-read, no-set, no-full)
-                ]
-              ]
-            ])
-
-        pub none-stays : ⊥
-        none-stays =
-            let below = g.below in
-            let from = g.from in
-            let upto' = g.upto in
-            let run = run-of p n few f g.start g.finish g.some (omega (arith, from, upto')) (omega (arith, below, least, long)) g.begins g.ends g.inner 0
-            q.unassembled well.tidy.unassembled covers of-all in
-            well.tidy.none run.0 run.1 run.2
+      none-alive : (y : ℕ) (d : Data) (w : Numbered) → IsEntryAt sent y d w → y ≤ m → d.unordered ≡ true → is_gone gone w.place ≡ false → 0 < A (tsn p y) → ⊥
+      none-alive y d w i upto unordered alive here =
+          let g = span-of ws first sent line joined f show m least end (λ v z. is_gone gone v.place ≡ false) (λ v z h. h)
+          (λ z e v o b lt h. next-of ws first sent line joined z e v o b (omega (arith, lt, least))
+          (λ t. not_both (sym h ∙ (cut-part gone sent (fragment e v o.after ∷ o.entries) t cut).1))) y d w upto i alive in
+          none-stays m least y d w i unordered here g (λ j from to.
+          let below = g.below in
+          elim (taken-or-gone ws first sent line joined n long few gone cut s passed part came j (f j) w (g.each j from to).0 (omega (arith, to, below))) [
+            | inl x ↦ x
+            | inr x ↦ absurd (not_both (sym alive ∙ x))
+          ]) (λ j from to. none-lost j (f j) w (g.each j from to).0 alive)
 
       -- so it is of a message that is gone
       pub gone-unassembled : (c : ChunkPayloadData) → Was c → c.unordered ≡ true → 0 < A c.tsn → at_or_before c.tsn (tsn p m) ≡ true → IsGone gone sent c
@@ -296,4 +301,4 @@ module _ (ws : List Numbered) (first : ℕ) (sent : List Entry) (line : IsLine w
         where
           by : (y : ℕ) (w : Numbered) → IsEntryAt sent y (data_of c) w → y ≤ m → 0 < A (tsn p y) → (b : Bool) → is_gone gone w.place ≡ b → IsGone gone sent c
           by y w i upto some true dead = (y, w, i, dead)
-          by y w i upto some false alive = absurd (none-stays y (data_of c) w i upto kind alive some)
+          by y w i upto some false alive = absurd (none-alive y (data_of c) w i upto kind alive some)

@@ -1,11 +1,15 @@
 -- Calls that end a session exist (RFC 4960 6.2, 6.3.3; RFC 3758 3.5, 3.6).
 use Rattle.std.specs.Prelude.{◌≡◌, ℕ, ◌+◌, ◌*◌, ◌^◌, ◌<◌, ◌≤◌, Bool, true, false, ◌==◌, ◌&&◌, nat_le, nat_lt, List, [], length, Option, Some, None}
-use Rattle.std.specs.List.{list_all, sum_by}
-use Rattle.sctp_outbound.specs.pending_queue.PendingQueue.{chunk_count}
+use Rattle.std.specs.Prelude.{◌||◌, max, min}
+use Rattle.std.specs.List.{filter, list_all, sum_by}
+use Rattle.sctp_outbound.specs.declared.pending_queue.Selected.{Selected}
+use Rattle.sctp_outbound.specs.Marks.{is_of}
+use Rattle.sctp_outbound.specs.pending_queue.PendingQueue.{Pending, chunk_count}
 use Rattle.sctp_data.specs.declared.chunk.chunk_payload_data.ChunkPayloadData.{ChunkPayloadData}
 use Rattle.sctp_data.specs.SelectiveAck.{Sack}
 use Rattle.sctp_receiver.specs.declared.receiver.arrival.Arrival.{Arrival}
 use Rattle.sctp_receiver.specs.declared.receiver.limits.Limits.{Limits}
+use Rattle.sctp_receiver.specs.Credit.{cost_of_chunks}
 use Rattle.sctp_receiver.specs.Limits.{chunk_cost, cost_of}
 use Rattle.sctp_receiver.specs.Receiver.{Reception}
 use Rattle.sctp_sender.specs.declared.sender.flight.Released.{Released}
@@ -47,9 +51,43 @@ has_room (Some l) t r =
     nat_le (chunks_left t) l.reach
     && nat_lt (sum_by cost_of r.streams + cost_left t) l.window
 
+-- ## A window for one message after another
+
+-- what the chunks of a message that wait count for
+abbrev pub waiting_cost : ℕ → Pending → ℕ
+waiting_cost message q =
+    cost_of_chunks (filter (is_of message) q.ordered)
+    + cost_of_chunks (filter (is_of message) q.unordered)
+
+-- of the partially sent message, where there is one
+abbrev pub rest_cost : Option Selected → Pending → ℕ
+rest_cost None q = 0
+rest_cost (Some s) q = waiting_cost s.message_id q
+
+-- what waits of each message counts for no more than that
+abbrev pub each_within : ℕ → Pending → Bool
+each_within most q =
+    list_all (λ c. nat_le (waiting_cost c.message_id q) most) q.ordered
+    && list_all (λ c. nat_le (waiting_cost c.message_id q) most) q.unordered
+
+-- what has to come before another message is begun: what is in flight, and what waits of the partially sent message
+abbrev pub begun_cost : Transmission → ℕ
+begun_cost t =
+    cost_of_chunks t.flight.queue.inflight.chunks
+    + rest_cost t.flight.queue.pending.selected t.flight.queue.pending
+
+-- there are no limits; or the reach is no less than the chunks in flight, nor than one where any waits; and the window is no less than what
+-- is held and what has to come first count for together, if any has to, nor than what waits of each message. All that waits may be more
+abbrev pub has_window : Option Limits → Transmission → Reception → Bool
+has_window None t r = true
+has_window (Some l) t r =
+    nat_le (max (length t.flight.queue.inflight.chunks) (min 1 (chunks_waiting t))) l.reach
+    && ((begun_cost t == 0 || nat_le (sum_by cost_of r.streams + begun_cost t) l.window)
+    && each_within l.window t.flight.queue.pending)
+
 -- so it is of the receiver, and it takes messages as long as the sender writes
-abbrev pub takes_all_of : Transmission → Reception → Bool
-takes_all_of t r = has_room r.limits t r && nat_le t.max_message_size r.max_message_size
+abbrev pub takes_each_of : Transmission → Reception → Bool
+takes_each_of t r = has_window r.limits t r && nat_le t.max_message_size r.max_message_size
 
 -- ## The end
 
@@ -78,15 +116,15 @@ pub record CanEnd (now : ℕ) (gone : List ℕ) (s : Session) : Type 0 where
   pub exhausted : is_exhausted ended.sending.sender ended.receiving.receiver ≡ true
   pub read : EachOtherIsReadOnce gone ended
 
--- so a session ends, at whatever moment, where the receiver takes what the sender writes
+-- so a session ends, at whatever moment, where the receiver takes one message after another
 abbrev pub EndsWhereTaken : List ℕ → Session → Type 0
 EndsWhereTaken gone s =
-    takes_all_of s.sending.sender s.receiving.receiver ≡ true → (now : ℕ) → CanEnd now gone s
+    takes_each_of s.sending.sender s.receiving.receiver ≡ true → (now : ℕ) → CanEnd now gone s
 
 -- and where no message had been abandoned, each write was read exactly once then
 abbrev pub EndsWithAllRead : List ℕ → Session → Type 0
 EndsWithAllRead gone s =
-    gone ≡ [] → takes_all_of s.sending.sender s.receiving.receiver ≡ true
+    gone ≡ [] → takes_each_of s.sending.sender s.receiving.receiver ≡ true
     → (now : ℕ) → (e : CanEnd now gone s) × EachIsReadOnce e.ended
 
 -- ## What a call makes

@@ -12,7 +12,7 @@ use sctp_sender::sender::Sender;
 
 /// Whether something waits, is in flight, or is to be read still. In whatever session of fewer than 2^31 TSNs the two stand: where it is
 /// not so, each write was read exactly once whose message no call abandoned; and where it is, calls exist that end the session, if the
-/// receiver has room for all that is left, takes messages as long as the sender writes, and a TSN is left for each chunk that waits.
+/// receiver has room for one message after another, takes messages as long as the sender writes, and a TSN is left for each chunk that waits.
 pub fn is_unfinished(sender: &Sender, receiver: &Receiver) -> bool
     ensures exact { result ≡ not (is_exhausted sender.now receiver.now) }
     ensures over { result ≡ false → AfterEachSessionOfMessages (λ size gone s. 0 < size

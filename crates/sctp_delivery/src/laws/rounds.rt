@@ -45,11 +45,11 @@ pub fn all_is_read_after_rounds()
     ensures { AfterEachFitReliableSession AllIsReadAfterRounds }
 {}
 
-/// Each session can be ended: where the receiver has no limits, or room within them for all that is left, and takes messages as long as
-/// the sender writes, calls exist, at whatever moment, none of which is refused for a reason, behind which nothing waits, nothing is in
-/// flight, and nothing is to be read. None of them writes, abandons a message, or lets one expire; and each write whose message had not
-/// been abandoned was read exactly once then: each, where none had been. So it is in sessions that give out fewer than 2^31 TSNs, with
-/// one for each chunk that waits.
+/// Each session can be ended, however much waits: where the receiver has no limits, or room within them for what is in flight and begun,
+/// and then for one message after another, and takes messages as long as the sender writes, calls exist, at whatever moment, none of which
+/// is refused for a reason, behind which nothing waits, nothing is in flight, and nothing is to be read. None of them writes, abandons a
+/// message, or lets one expire; and each write whose message had not been abandoned was read exactly once then: each, where none had been.
+/// So it is in sessions that give out fewer than 2^31 TSNs, with one for each chunk that waits.
 pub fn every_session_can_end()
     ensures ends { AfterEachSessionWithTsnsLeft EndsWhereTaken }
     ensures all { AfterEachSessionWithTsnsLeft EndsWithAllRead }

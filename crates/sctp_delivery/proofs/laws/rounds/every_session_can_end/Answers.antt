@@ -1,4 +1,4 @@
-use Rattle.sctp_delivery.proofs.EndSessions.{all-end, all-read}
+use Rattle.sctp_delivery.proofs.EndWindows.{all-end, all-read}
 use Rattle.sctp_delivery.proofs.laws.rounds.every_session_can_end.Goals as goal
 
 pub returns : goal.returns
