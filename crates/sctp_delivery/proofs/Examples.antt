@@ -22,7 +22,7 @@ use Rattle.sctp_sender.specs.SenderRuns.{released_by as bytes_released}
 use Rattle.sctp_stream.specs.Stream.{new_stream}
 use Rattle.sctp_receiver.specs.ReceiverRuns.{messages_after}
 use Rattle.sctp_delivery.specs.Complete.{is_settled}
-use Rattle.sctp_delivery.specs.Ending.{CanEnd}
+use Rattle.sctp_delivery.specs.Ending.{CanEnd, has_room, has_window}
 use Rattle.sctp_delivery.specs.Order.{ordered_places}
 use Rattle.sctp_delivery.specs.ReceiverCalls as incoming
 use Rattle.sctp_delivery.specs.ReceiverCalls.{reports}
@@ -299,6 +299,31 @@ ends = record {
     λ k lt e. (0, omega arith, omega (arith, lt)),
   );
 }
+
+-- ## A window
+
+-- a message of three fragments of one byte waits: it costs 1,203, and of a lesser window, or of no reach, the law says nothing
+abbrev three_wait : Transmission
+three_wait =
+    with_flight (record waiting.flight {
+      queue = record waiting.flight.queue { pending = record waiting.flight.queue.pending { ordered = chunk ∷ chunk ∷ chunk ∷ [] } };
+    }) waiting
+
+windows : (has_window (Some (record { window = 1203; reach = 1 })) three_wait start.receiving.receiver ≡ true)
+    × (has_window (Some (record { window = 1202; reach = 3 })) three_wait start.receiving.receiver ≡ false)
+    × (has_window (Some (record { window = 1203; reach = 0 })) three_wait start.receiving.receiver ≡ false)
+windows = (refl, refl, refl)
+
+-- two such messages wait: one after another fits, and both together do not
+abbrev two_wait : Transmission
+two_wait =
+    with_flight (record waiting.flight {
+      queue = record waiting.flight.queue { pending = record waiting.flight.queue.pending { ordered = chunk ∷ record chunk { message_id = 1 } ∷ [] } };
+    }) waiting
+
+one-by-one : (has_window (Some (record { window = 401; reach = 1 })) two_wait start.receiving.receiver ≡ true)
+    × (has_room (Some (record { window = 401; reach = 1 })) two_wait start.receiving.receiver ≡ false)
+one-by-one = (refl, refl)
 
 -- # Worked rounds, of which one passes a message that is abandoned
 

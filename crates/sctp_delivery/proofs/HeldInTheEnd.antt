@@ -1,23 +1,22 @@
--- Where nothing is in flight, no message is partially sent and nothing is to be read, a receiver holds no fragment of a message that is not gone.
+-- Where nothing is in flight, no message is partially sent and nothing is to be read, a receiver holds nothing.
 use Rattle.sctp_delivery.proofs.Names.{◌≡◌, ℕ, suc, ◌+◌, ◌^◌, ◌<◌, ◌≤◌, true, false, List, [], ◌∷◌, length, Option, Some, None, inl, inr, refl, ap, sym, subst}
 use Rattle.sctp_delivery.proofs.Names.{◌∙◌, arith, All, ◌⊎◌, ◌==◌, list_all, list_any, sum_by, cases_lt, nat_tests, at_or_before, or-left, or-split, same-is}
 use Rattle.sctp_delivery.proofs.Names.{nat_le, fails, same-yes, not_both, tsn, ChunkPayloadData, ChunkSet, Data, data_of, is_complete, Reassembly, message_read, InboundStream, Limits}
 use Rattle.sctp_delivery.proofs.Names.{Reception, stream_of, fragments_read, is_one_message, held_weight, set_weight, has_tsn, reads_nothing, was_taken, Call}
 use Rattle.sctp_delivery.proofs.Names.{RunsTo, Session, at_start}
 use Rattle.sctp_delivery.proofs.Cases.{by-test}
-use Rattle.sctp_delivery.proofs.InTheEnd.{any-of, none-data, some-of, unread-of}
+use Rattle.sctp_delivery.proofs.InTheEnd.{none-data, some-of, unread-of}
 use Rattle.sctp_delivery.proofs.UnwrappedHolds.{IsSome}
 use Rattle.sctp_delivery.proofs.Delivered.{EachSent}
 use Rattle.sctp_delivery.proofs.KeptSessions.{complete-messages, IsKeptIn}
-use Rattle.sctp_delivery.proofs.Every.{Every, one-of, every-pair}
-use Rattle.sctp_delivery.proofs.PassingCalls.{IsGone, all-taken-or-gone}
+use Rattle.sctp_delivery.proofs.Every.{Every, one-of}
 use Rattle.sctp_delivery.proofs.KeptCalls as calls
 use Rattle.sctp_delivery.proofs.KeptOrGone.{IsPassedTo, IsPast, is_upto, upto-place, HeldWell, IsHeldWell, IsLate, at-in, place-in}
 use Rattle.sctp_delivery.proofs.NotRefused.{begun-low, front-open, lowest-next}
 use Rattle.sctp_delivery.proofs.FragmentPlaces.{at_place, shown}
-use Rattle.sctp_delivery.proofs.MessagePlaces.{IsEntryAt, IsSpan, ends-own, entry-at, entry-of, next-of, span-of, same-entry, misses-one, place-tsn}
+use Rattle.sctp_delivery.proofs.MessagePlaces.{IsEntryAt, IsSpan, ends-own, entry-at, entry-of, next-of, span-of, misses-one, place-tsn}
 use Rattle.sctp_delivery.proofs.OrderedEntries.{AreJoined, IsOpen}
-use Rattle.sctp_delivery.proofs.PassedMessages.{AreTakenOrGone, EndsMessage, is_gone}
+use Rattle.sctp_delivery.proofs.PassedMessages.{EndsMessage, is_gone}
 use Rattle.sctp_delivery.proofs.ReadOnce.{none-count, one}
 use Rattle.sctp_delivery.proofs.Sent.{Entry, IsLine, IsPart, Numbered, WasSent, fragment, part-itself, part-length, same-parts, terminal}
 use Rattle.sctp_delivery.proofs.Sessions as made_in
@@ -62,9 +61,6 @@ module _ (first size max most : ℕ) (limits : Option Limits) (cs : List Call) (
 
   whole : All (λ m. (is_complete m.fragments ≡ true) × (is_one_message m.fragments ≡ true) × EachSent sent m.fragments) s.receiving.read
   whole = complete-messages first size max most limits cs s run sent k.unwrapped.spread.holds.made
-
-  came : AreTakenOrGone gone s sent
-  came = all-taken-or-gone first n s ns sent gone k.unwrapped.spread few k.passed.passing landed
 
   -- the last message was sent whole, or cut short
   ends : 0 < n → EndsMessage sent
@@ -184,37 +180,6 @@ module _ (first size max most : ℕ) (limits : Option Limits) (cs : List Call) (
           by [] e = refl
           by (F ∷ rest) e = absurd (no-front F rest e)
 
-      -- ## Unassembled fragments
-
-      none-unassembled : (y : ℕ) (e : Data) (w : Numbered) → IsEntryAt sent y e w → y ≤ n → is_gone gone w.place ≡ false
-          → sum_by (one (tsn p y)) q.unassembled ≡ 0
-      none-unassembled y e w i le alive = elim (cases_lt 0 (sum_by (one (tsn p y)) q.unassembled)) [
-        | inr none' ↦ omega (arith, none')
-        | inl more ↦ absurd (held more)
-      ]
-        where
-          held : 0 < sum_by (one (tsn p y)) q.unassembled → ⊥
-          held more =
-              let at = i.place in
-              let o = one-of (λ c. WasSent sent (data_of c) × (c.unordered ≡ true)) (has_tsn (tsn p y)) q.unassembled (any-of (tsn p y) q.unassembled more)
-              (every-pair (λ c. WasSent sent (data_of c)) (λ c. c.unordered ≡ true) q.unassembled
-              (unassembled.was-unassembled ns first sent line joined n long few gone k.passed.cut s k.unwrapped.spread.holds.made made
-              k.unwrapped.spread.step.taken.apart whole st a (k.kept st) l found) well.tidy.kinds) in
-              let is = same-is o.0.tsn (tsn p y) o.1 in
-              let g = unassembled.gone-unassembled ns first sent line joined n long few gone k.passed.cut s k.unwrapped.spread.holds.made made
-              k.unwrapped.spread.step.taken.apart whole st a (k.kept st) l found sent (part-itself sent) (ends (omega (arith, at, le))) came o.0 o.2.0 o.2.1
-              (subst (λ t. 0 < sum_by (one t) q.unassembled) (sym is) more)
-              (upto-yes p y n is (ap (tsn p) long) (omega (arith, le, few)) few le) in
-              clash o.0 g is
-            where
-              clash : (c : ChunkPayloadData) (g : IsGone gone sent c) → c.tsn ≡ tsn p y → ⊥
-              clash c g is =
-                  let size' = part-length sent (fragment (data_of c) g.1 g.2.after ∷ g.2.entries) g.2.part in
-                  let same : g.0 ≡ y = same-place p g.0 y (omega (arith, size', long, few)) (omega (arith, le, few))
-                  (sym (place-tsn ns first sent line joined n long few g.0 (data_of c) g.1 g.2) ∙ is) in
-                  let x = same-entry ns first sent line joined y e (data_of c) w g.1 i (subst (λ z. IsEntryAt sent z (data_of c) g.1) same g.2) in
-                  not_both (sym alive ∙ ap (λ (u : Numbered). is_gone gone u.place) x.1 ∙ g.3)
-
       -- ## Nothing is unassembled: what stands past the place up to which FORWARD-TSNs went was taken
 
       to : IsPassedTo first sent st n (k.kept st).lost s.receiving
@@ -303,19 +268,21 @@ module _ (first size max most : ℕ) (limits : Option Limits) (cs : List Call) (
       pub none-there : IsBare l.queue.held
       none-there = record { ordered = none-ordered; unordered = none-unordered; unassembled = all-assembled }
 
-    -- of a message that is not gone nothing is held
-    pub none-held : (y : ℕ) (e : Data) (w : Numbered) → IsEntryAt sent y e w → y ≤ n → is_gone gone w.place ≡ false
-        → held_weight (one (tsn p y)) (stream_of st r) ≡ 0
-    none-held y e w i le alive = by (stream_of st r) refl
+    pub none-held : (t : ℕ) → held_weight (one t) (stream_of st r) ≡ 0
+    none-held t = by (stream_of st r) refl
       where
-        by : (o : Option InboundStream) → stream_of st r ≡ o → held_weight (one (tsn p y)) o ≡ 0
+        by : (o : Option InboundStream) → stream_of st r ≡ o → held_weight (one t) o ≡ 0
         by None f = refl
         by (Some l) f =
             let m = unread-of st r.streams l unread f in
-            let x = ap (λ ss. sum_by (set_weight (one (tsn p y))) ss) (none-ordered l f m) in
-            omega (arith, x, ap (λ ss. sum_by (set_weight (one (tsn p y))) ss) (none-unordered l f m), none-unassembled l f m y e w i le alive)
+            omega (
+              arith,
+              ap (λ ss. sum_by (set_weight (one t)) ss) (none-ordered l f m),
+              ap (λ ss. sum_by (set_weight (one t)) ss) (none-unordered l f m),
+              ap (sum_by (one t)) (all-assembled l f m),
+            )
 
-  -- so each fragment of such a message that was taken was read
+  -- so each fragment that was taken of a message that is not gone was read
   pub taken-read : (d : Data) (w : Numbered) (after : List ℕ) (xs : List Entry) → IsPart (fragment d w after ∷ xs) sent → is_gone gone w.place ≡ false
       → was_taken d.tsn s ≡ true → (st : ℕ) × (0 < sum_by (one d.tsn) (fragments_read st s.receiving.read))
   taken-read d w after xs part alive taken =
@@ -324,7 +291,7 @@ module _ (first size max most : ℕ) (limits : Option Limits) (cs : List Call) (
       let is = place-tsn ns first sent line joined n long few (suc (length xs)) d w i in
       let le : suc (length xs) ≤ n = omega (arith, part-length sent (fragment d w after ∷ xs) part, long) in
       let law = (k.kept st).weighs (one (tsn p (suc (length xs)))) in
-      let held = none-held st (suc (length xs)) d w i le alive in
+      let held = none-held st (tsn p (suc (length xs))) in
       let lost = unassembled.none-lost ns first sent line joined n long few gone k.passed.cut s k.unwrapped.spread.holds.made made
       k.unwrapped.spread.step.taken.apart whole st a (k.kept st) (suc (length xs)) d w i alive in
       let on = unassembled.taken-there ns first sent line joined n long few gone k.passed.cut s k.unwrapped.spread.holds.made made
