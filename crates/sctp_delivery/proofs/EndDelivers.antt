@@ -8,16 +8,18 @@ use Rattle.sctp_delivery.proofs.Names.{arrival_refusal, filter_of, is_open, stre
 use Rattle.sctp_delivery.proofs.Names.{New, InboundStream, has_tsn, Flight, can_resend, after_sack, count_again, resent_at, sent_again, with_flight}
 use Rattle.sctp_delivery.proofs.Names.{Transmission, Ledger, reads_nothing, takes, follows, flight_of, in_flight, IsCaughtUp, passes, tsns_given}
 use Rattle.sctp_delivery.proofs.Names.{was_passed, was_taken, Made, data_chunk, resends, forward_tsn, forwards, takes_sack, ReceiverFollows, SenderFollows}
-use Rattle.sctp_delivery.proofs.Names.{Session, of_receiver, of_sender, none-some, ForwardTsn, Sack, ChunkForwardTsnStream, as_acknowledged, cost_of, Stand}
+use Rattle.sctp_delivery.proofs.Names.{Session, of_receiver, of_sender, none-some, ForwardTsn, Sack, ChunkForwardTsnStream, as_acknowledged, Stand}
 use Rattle.sctp_delivery.proofs.Names.{after_forward_tsn, without_incomplete, advanced_ack_point, named_up_to, skip_end, chunks_waiting, reads_nothing_on}
 use Rattle.sctp_reassembly.specs.reassembly_queue.ReassemblyQueue.{is_complete_with}
 use Rattle.sctp_receiver.specs.Inbound.{has_number}
+use Rattle.sctp_delivery.specs.Ending.{left_on}
 use Rattle.sctp_delivery.specs.ReceiverCalls.{reports}
+use Rattle.sctp_delivery.proofs.HeldCosts.{lefts-le}
 use Rattle.sctp_delivery.proofs.RoundsEnd.{ahead-of-sacks, leaves-fewer, all-go-on, found-in, same-next, same-pending, reporting-of}
 use Rattle.sctp_delivery.proofs.ArrivedTsns.{IsArrived, IsKnown}
 use Rattle.sctp_delivery.proofs.EndSteps.{Rests, ends-open, ends-read, rests-same, rests-then, due, is_due, less-due, none-refused, price, same-due, spent}
 use Rattle.sctp_delivery.proofs.EndSteps.{taken-cost, due_by, followed-cost, rest_of, sack-due, At, Ends, Setting, apart-at, at-same, kept-at, long-enough}
-use Rattle.sctp_delivery.proofs.EndSteps.{no-distance, reached, receiver-before, sender-before, start}
+use Rattle.sctp_delivery.proofs.EndSteps.{all-left, no-distance, reached, receiver-before, sender-before, start}
 use Rattle.sctp_delivery.proofs.Every.{Every, all-of-every, every-at, every-of-all, one-of, every-passing}
 use Rattle.sctp_delivery.proofs.GivenTsns.{IsNumbered, flight-given, passable-skip}
 use Rattle.sctp_delivery.proofs.PushesExist.{unordered-pushed, named, names}
@@ -191,7 +193,7 @@ module _ (b : Setting) where
         let less = less-due price c s.receiving.accepted (in_flight s) e f.found in
         none-read-with-room b.first b.size b.max b.most b.limits i.calls s b.small b.some i.run (few-given n s i) (long-enough b n s i) none c
         (record { chunk = c; sent = f.sent; kept = d.kept; same = inl refl }) there
-        (none-refused b.limits s c.tsn i.room (limits-same i.calls (start b) s i.run) near (omega (arith, less)))
+        (none-refused b.limits s c.tsn i.room (limits-same i.calls (start b) s i.run) near (omega (arith, less)) (all-left b n s i none))
 
   -- the chunk is sent again, and taken
   deliver-open : (n : ℕ) (s : Session) → At b n s → reads_nothing s.receiving.receiver ≡ true → (c : ChunkPayloadData) → IsFoundIn s c
@@ -221,7 +223,9 @@ module _ (b : Setting) where
       (queued c (l.0).queue).pushed in
       let before = same-due price (λ k m x. refl) (c ∷ s.receiving.accepted) (has_tsn c.tsn) (count_again c) b.now (in_flight s) in
       let less = less-due price c s.receiving.accepted (in_flight s) e f.found in
-      omega (arith, more, before, less, price-same)) j) (record {
+      let left-before = all-left b n s i none in
+      let left-after = lefts-le (change_where (has_number c.stream_identifier) (with_queue (queued c (l.0).queue).queue) s.receiving.receiver.streams) in
+      omega (arith, more, before, less, price-same, left-before, left-after)) j) (record {
         pending = refl;
         as_many = long;
         sacks = refl;
@@ -373,7 +377,10 @@ module _ (b : Setting) (n : ℕ) (s : Session) (i : At b n s) (p : ℕ)
       sender-before b (forwards point g) s made-one making refl (omega (arith, zero'))
       (receiver-before b n (follows g) made-one followed-one j f
       (next followed-one (at-same b n (of_receiver (follows g)) made-one followed-one f refl refl refl (omega arith) (omega arith)
-      (let less = followed-cost g s.receiving.receiver in omega (arith, less)) j) refl refl refl (omega arith) gets-there))
+      (let less = followed-cost g s.receiving.receiver in
+      let left-before = all-left b n s i none in
+      let left-after = lefts-le (after_forward_tsn g s.receiving.receiver).streams in
+      omega (arith, less, left-before, left-after)) j) refl refl refl (omega arith) gets-there))
 
 -- ## Caught up
 
@@ -473,7 +480,7 @@ module _ (b : Setting) where
       let streams = same-there.streams in
       let came = same-there.accepted in
       let left = ap (λ (l : Ledger). length l.sender.flight.queue.inflight.chunks) sender in
-      let held = ap (sum_by cost_of) streams in
+      let held = ap (sum_by left_on) streams in
       let due-there = due-still price s u sender came in
       let pending = ap (λ (l : Ledger). l.sender.flight.queue.pending) sender in
       let waiting = ap rest_of pending in
@@ -484,7 +491,7 @@ module _ (b : Setting) where
       let waits = ap (λ p. length p.ordered + length p.unordered) (same-pending s t a) in
       let still = ap rest_of (same-pending s t a) in
       let same = ap (λ (x : Session). x.receiving) a.taking.after in
-      let held' = ap (λ (x : Stand). sum_by cost_of x.receiver.streams) same in
+      let held' = ap (λ (x : Stand). sum_by left_on x.receiver.streams) same in
       let due-after = ap (λ (x : Stand). due_by price x.accepted (in_flight t)) same
       ∙ ap (λ (x : Transmission). due_by price u.receiving.accepted x.flight.queue.inflight.chunks) a.taking.exact in
       let fewer-due = after-due price (λ x. omega arith) a.sack u.receiving.accepted u.sending.sender.flight in

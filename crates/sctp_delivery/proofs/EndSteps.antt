@@ -17,12 +17,13 @@ use Rattle.sctp_receiver.proofs.StreamCosts.{all-cost, are_apart, changed-cost, 
 use Rattle.sctp_receiver.specs.Inbound.{has_number, named_forwarded, numbers_of}
 use Rattle.sctp_receiver.specs.Limits.{chunk_cost}
 use Rattle.sctp_receiver.specs.Receiver.{open_stream}
-use Rattle.sctp_delivery.specs.Ending.{is_delivery, rest_cost, waiting_cost}
+use Rattle.sctp_delivery.specs.Ending.{is_delivery, left_on, rest_cost, waiting_cost}
 use Rattle.sctp_delivery.specs.ReceiverCalls as incoming
 use Rattle.sctp_delivery.specs.ReceiverCalls.{opens}
 use Rattle.sctp_delivery.proofs.Delivered.{next_tsn}
 use Rattle.sctp_delivery.proofs.Every.{Every}
 use Rattle.sctp_delivery.proofs.GivenTsns.{IsNumbered}
+use Rattle.sctp_delivery.proofs.HeldCosts.{left-read, lefts-unread, under-in}
 use Rattle.sctp_delivery.proofs.RefusedLaw.{fit-session}
 use Rattle.sctp_delivery.proofs.Reached.{HasKept, IsReached, kept}
 use Rattle.sctp_delivery.proofs.TsnPlaces.{base}
@@ -123,12 +124,12 @@ abbrev pub FitEach : ℕ → Pending → Type 0
 FitEach w q =
     Every (λ c. waiting_cost c.message_id q ≤ w) q.ordered × Every (λ c. waiting_cost c.message_id q ≤ w) q.unordered
 
--- what is due in flight, and what waits of the partially sent message; and what the receiver holds with it
+-- what is due in flight, and what waits of the partially sent message; and with it what the receiver holds and is not to be read
 abbrev pub load : Session → ℕ
 load s = due_by price s.receiving.accepted (in_flight s) + rest_of (pending_of s)
 
 abbrev pub cost : Session → ℕ
-cost s = sum_by cost_of s.receiving.receiver.streams + load s
+cost s = sum_by left_on s.receiving.receiver.streams + load s
 
 -- where there are limits, the receiver has room for all that, if any of it is to come, and then for one message after another
 abbrev pub RoomIn : Option Limits → Session → Type 0
@@ -151,24 +152,24 @@ room-still (Some l) s t same left lighter less r = (
 -- so no TSN in flight is refused for the limits, while something is due
 pub none-refused : (o : Option Limits) (s : Session) (tsn : ℕ) → RoomIn o s → s.receiving.receiver.limits ≡ o
     → distance s.receiving.receiver.cumulative_tsn tsn ≤ length (in_flight s) → 0 < due_by price s.receiving.accepted (in_flight s)
-    → new_refusal tsn s.receiving.receiver ≡ None
-none-refused o s tsn room is near some = by o room is
+    → sum_by left_on s.receiving.receiver.streams ≡ sum_by cost_of s.receiving.receiver.streams → new_refusal tsn s.receiving.receiver ≡ None
+none-refused o s tsn room is near some unread = by o room is
   where
     by : (o : Option Limits) → RoomIn o s → s.receiving.receiver.limits ≡ o → new_refusal tsn s.receiving.receiver ≡ None
     by None r e = grind (arith, nat_tests)
     by (Some l) r e =
         let reach = r.0 in
         let within = r.2 (omega (arith, some)) in
-        let left : sum_by cost_of s.receiving.receiver.streams < l.window = omega (arith, within, some) in
+        let left : sum_by cost_of s.receiving.receiver.streams < l.window = omega (arith, within, some, unread) in
         grind (arith, nat_tests, and-none)
 
 -- ## What a call makes of it
 
-pub read-cost : (stream : ℕ) (ls : List InboundStream) → sum_by cost_of (change_where (has_number stream) stream_read ls) ≤ sum_by cost_of ls
-read-cost stream ls = changed-cost cost_of (has_number stream) stream_read (all-cost 0).read ls
+pub read-cost : (stream : ℕ) (ls : List InboundStream) → sum_by left_on (change_where (has_number stream) stream_read ls) ≤ sum_by left_on ls
+read-cost stream ls = changed-cost left_on (has_number stream) stream_read left-read ls
 
-pub open-cost : (stream max : ℕ) (ls : List InboundStream) → sum_by cost_of (ls ++ new_stream stream max ∷ []) ≡ sum_by cost_of ls
-open-cost stream max ls = opened-cost cost_of ls (new_stream stream max) ((all-cost 0).fresh stream max)
+pub open-cost : (stream max : ℕ) (ls : List InboundStream) → sum_by left_on (ls ++ new_stream stream max ∷ []) ≡ sum_by left_on ls
+open-cost stream max ls = opened-cost left_on ls (new_stream stream max) refl
 
 pub followed-cost : (g : ForwardTsn) (r : Reception) → sum_by cost_of (after_forward_tsn g r).streams ≤ sum_by cost_of r.streams
 followed-cost g r = by (is_stale g r)
@@ -292,6 +293,11 @@ module _ (b : Setting) where
 
   pub numbered-at : (n : ℕ) (s : Session) → At b n s → IsNumbered (base b.first) n s.sending.sender.flight
   numbered-at n s i = (kept-at n s i).kept.step.numbered
+
+  -- where nothing is to be read, all that is held is left
+  pub all-left : (n : ℕ) (s : Session) → At b n s → reads_nothing s.receiving.receiver ≡ true
+      → sum_by left_on s.receiving.receiver.streams ≡ sum_by cost_of s.receiving.receiver.streams
+  all-left n s i unread = lefts-unread s.receiving.receiver.streams (under-in i.calls (start b) s i.run tt) unread
 
   -- the receiver takes messages as long as the sender writes
   pub long-enough : (n : ℕ) (s : Session) → At b n s → s.sending.sender.max_message_size ≤ s.receiving.receiver.max_message_size

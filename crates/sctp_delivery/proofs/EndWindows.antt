@@ -1,34 +1,30 @@
 -- Each session can end by a window for one message after another: at rest the receiver holds nothing.
 use Rattle.sctp_delivery.proofs.Names.{◌≡◌, ℕ, ◌+◌, ◌≤◌, ◌==◌, ◌&&◌, ◌||◌, Bool, true, false, not, List, [], ◌∷◌, length, Option, Some, None, refl, ap, sym, subst}
-use Rattle.sctp_delivery.proofs.Names.{◌∙◌, arith, if◌then◌else◌, nat_le, find, filter, list_all, list_any, sum_by, sum_by-cons, sum_by-inserted, none-some}
-use Rattle.sctp_delivery.proofs.Names.{nat_tests, same-is, same-yes, some-same, negated, both, fails, not_both, change_where, insert_before, comes_before16}
-use Rattle.sctp_delivery.proofs.Names.{ChunkPayloadData, ChunkForwardTsnStream, ChunkSet, ForwardTsn, Limits, InboundStream, ReassemblyState, message_read}
-use Rattle.sctp_delivery.proofs.Names.{is_passed, after_ordered_push, sets_with, Pushes, PushesAs, with_queue, new_stream, stream_read, unassembled_forwarded}
-use Rattle.sctp_delivery.proofs.Names.{number, without_incomplete, after_forward_tsn, incomplete_forwarded, follow_forward_tsn, is_stale, Reception}
-use Rattle.sctp_delivery.proofs.Names.{cannot_complete, cost_of, Selected, Pending, Outbound, IsSendable, is_of, partial_of, selected_after}
+use Rattle.sctp_delivery.proofs.Names.{◌∙◌, arith, if◌then◌else◌, nat_le, find, filter, list_all, list_any, sum_by, sum_by-cons, none-some}
+use Rattle.sctp_delivery.proofs.Names.{nat_tests, same-is, same-yes, some-same, negated, both, fails, not_both, change_where}
+use Rattle.sctp_delivery.proofs.Names.{ChunkPayloadData, Limits, InboundStream}
+use Rattle.sctp_delivery.proofs.Names.{number, Reception}
+use Rattle.sctp_delivery.proofs.Names.{cost_of, Selected, Pending, Outbound, IsSendable, is_of, partial_of, selected_after}
 use Rattle.sctp_delivery.proofs.Names.{chunk_to_pop_from, list_to_pop, rest_from, rest_after, next_pending, with_deadline, is_to_start, start_pending}
 use Rattle.sctp_delivery.proofs.Names.{all_started, as_sent, sent_of, made, sendable-sent, goes_on, peeked_all_started, started-inflight, bytes_of}
-use Rattle.sctp_delivery.proofs.Names.{chunk_before, has_tsn, Session, Call, RunsTo, ReceiverFollows, of_receiver, of_sender, at_start, ReceiverCall, New}
-use Rattle.sctp_delivery.proofs.Names.{Repeat, reads_nothing, chunks_waiting, in_flight}
+use Rattle.sctp_delivery.proofs.Names.{Session, at_start}
+use Rattle.sctp_delivery.proofs.Names.{reads_nothing, chunks_waiting, in_flight}
 use Rattle.sctp_delivery.proofs.Names.{and, chunks_left, EachOtherIsReadOnce, has_room, or-right, Transmission}
-use Rattle.std.specs.Prelude.{◌*◌, ◌<◌, ◌^◌, max, min, nat_lt}
+use Rattle.std.specs.Prelude.{◌<◌, ◌^◌, max, min, nat_lt}
 use Rattle.sctp_reassembly.specs.reassembly_queue.Counts.{set_chunks}
-use Rattle.sctp_reassembly.specs.reassembly_queue.Fragments.{chunks_of_ssn}
-use Rattle.sctp_reassembly.specs.reassembly_queue.ReassemblyQueue.{bytes_read, count_up, held_bytes, set_bytes}
-use Rattle.sctp_reassembly.proofs.lemmas.reassembly_queue.ByteCounts.{bytes_with, dropped, skipped, whole_bytes}
+use Rattle.sctp_reassembly.specs.reassembly_queue.ReassemblyQueue.{set_bytes}
 use Rattle.sctp_receiver.proofs.StreamCosts.{are_apart}
 use Rattle.sctp_receiver.proofs.Weights as weights
 use Rattle.sctp_receiver.proofs.Weights.{message_weight}
 use Rattle.sctp_receiver.specs.Credit.{cost_of_chunks}
-use Rattle.sctp_receiver.specs.Inbound.{has_number, named_forwarded, numbers_of, ssn_forwarded}
-use Rattle.sctp_receiver.specs.Limits.{chunk_cost}
+use Rattle.sctp_receiver.specs.Inbound.{has_number, numbers_of}
 use Rattle.sctp_delivery.specs.Ending.{AfterEachSessionWithTsnsLeft, EndsWhereTaken, EndsWithAllRead, begun_cost, cost_left, each_within, has_window}
-use Rattle.sctp_delivery.specs.Ending.{CanEnd, rest_cost, takes_each_of, waiting_cost}
-use Rattle.sctp_delivery.specs.ReceiverCalls as incoming
+use Rattle.sctp_delivery.specs.Ending.{CanEnd, left_on, rest_cost, takes_each_of, waiting_cost}
 use Rattle.sctp_delivery.proofs.EndDelivers.{few-given, some-of}
 use Rattle.sctp_delivery.proofs.EndSessions.{after_sends, ends-in, sent, stands-started, there}
 use Rattle.sctp_delivery.proofs.EndSteps.{At, FitEach, RoomIn, Setting, all-due, apart-at, cost, due_by, pending_of, price, put-due, rest_of, start}
-use Rattle.sctp_delivery.proofs.Every.{Every, every-both, every-changed, every-found, every-joined, every-mapped, every-of}
+use Rattle.sctp_delivery.proofs.Every.{Every, every-both, every-changed, every-of}
+use Rattle.sctp_delivery.proofs.HeldCosts.{IsUnder, lefts-le, prices, under-in}
 use Rattle.sctp_delivery.proofs.HeldInTheEnd.{IsBare, none-there}
 use Rattle.sctp_delivery.proofs.InTheEnd.{all-every, unread-of}
 use Rattle.sctp_delivery.proofs.KeptSessions.{kept-in}
@@ -36,90 +32,6 @@ use Rattle.sctp_delivery.proofs.NoneAbandoned.{each-of-others}
 use Rattle.sctp_delivery.proofs.QueuesLeft.{goes-with}
 use Rattle.sctp_delivery.proofs.RefusedLaw.{limits-same}
 use Rattle.sctp_delivery.proofs.SackLaws.{none-of}
-
--- ## A queue counts no more bytes than it holds
-
-abbrev IsUnder : InboundStream → Type 0
-IsUnder l = l.queue.bytes ≤ held_bytes l.queue.held
-
-under-ordered : (x : ChunkPayloadData) (q : ReassemblyState) → q.bytes ≤ held_bytes q.held
-    → (after_ordered_push x q).bytes ≤ held_bytes (after_ordered_push x q).held
-under-ordered x q h = at (comes_before16 x.stream_sequence_number q.held.next_ssn)
-    (list_any (has_tsn x.tsn) (chunks_of_ssn x.stream_sequence_number q.held.ordered)) (bytes_with x q.held.ordered)
-  where
-    at : (late known : Bool) → set_bytes (sets_with x q.held.ordered) ≡ set_bytes q.held.ordered + (if known then 0 else length x.user_data)
-        → (if not late && not known then count_up q.bytes (length x.user_data) else q.bytes)
-        ≤ held_bytes (if late then q.held else record q.held { ordered = sets_with x q.held.ordered })
-    at true known more = h
-    at false true more = omega (arith, h, more)
-    at false false more = omega (arith, h, more)
-
-under-pushed : (c : ChunkPayloadData) (complete : Bool) (old new : ReassemblyState) → Pushes c complete old new → old.bytes ≤ held_bytes old.held
-    → new.bytes ≤ held_bytes new.held
-under-pushed c complete old new p h = by c.unordered p
-  where
-    by : (b : Bool) → PushesAs b c complete old new → new.bytes ≤ held_bytes new.held
-    by false e = subst (λ (q : ReassemblyState). q.bytes ≤ held_bytes q.held) (sym e.0) (under-ordered c old h)
-    by true e =
-        let all = whole_bytes (insert_before chunk_before c old.held.unassembled) old.held new.held complete e.0 in
-        let more = sum_by-inserted (λ (x : ChunkPayloadData). length x.user_data) chunk_before c old.held.unassembled in
-        let is = ap (λ (q : ReassemblyState). q.bytes) e.1 in
-        omega (arith, h, all, more, is)
-
-under-read : (l : InboundStream) → IsUnder l → IsUnder (stream_read l)
-under-read l h =
-    let out = weights.read (λ c. length c.user_data) l.queue.held in
-    let same = of (message_read l.queue.held) in
-    omega (arith, h, out, same)
-  where
-    of : (o : Option ChunkSet) → bytes_read o ≡ message_weight (λ c. length c.user_data) o
-    of None = refl
-    of (Some set) = refl
-
-under-named : (ns : List ChunkForwardTsnStream) (ls : List InboundStream) → Every IsUnder ls → Every IsUnder (named_forwarded ns ls)
-under-named [] ls e = e
-under-named (n ∷ ns) ls e =
-    under-named ns (change_where (has_number n.identifier) (ssn_forwarded n.sequence) ls)
-    (every-changed IsUnder (has_number n.identifier) (ssn_forwarded n.sequence) (λ l h u. let x = skipped (is_passed n.sequence) l.queue.held.ordered in
-    omega (arith, u, x)) ls e)
-
-under-followed : (g : ForwardTsn) (r : Reception) → Every IsUnder r.streams → Every IsUnder (after_forward_tsn g r).streams
-under-followed g r e = by (is_stale g r)
-  where
-    by : (b : Bool) → Every IsUnder (if b then r else without_incomplete g.new_cumulative_tsn (if b then r else follow_forward_tsn g r)).streams
-    by true = e
-    by false =
-        every-mapped IsUnder IsUnder (incomplete_forwarded g.new_cumulative_tsn)
-        (λ l u. let x = skipped (cannot_complete g.new_cumulative_tsn) l.queue.held.ordered in omega (arith, u, x))
-        (follow_forward_tsn g r).streams
-        (every-mapped IsUnder IsUnder (unassembled_forwarded g.new_cumulative_tsn)
-        (λ l u. let x = dropped g.new_cumulative_tsn l.queue.held.unassembled in omega (arith, u, x)) (named_forwarded g.streams r.streams)
-        (under-named g.streams r.streams e))
-
-under-after : (call : ReceiverCall) (old new : Session) → ReceiverFollows call old new → Every IsUnder old.receiving.receiver.streams
-    → Every IsUnder new.receiving.receiver.streams
-under-after (incoming.opens stream) old new f e =
-    subst (λ (r : Reception). Every IsUnder r.streams) (sym f.step.receiver.1)
-    (every-joined IsUnder old.receiving.receiver.streams (new_stream stream old.receiving.receiver.max_message_size ∷ []) e (omega arith, tt))
-under-after (incoming.takes c (New complete)) old new f e =
-    let a = f.step.receiver in
-    subst (λ (r : Reception). Every IsUnder r.streams) (sym a.after)
-    (every-changed IsUnder (has_number c.stream_identifier) (with_queue a.queue) (λ l h u. under-pushed c complete a.stream.queue a.queue a.pushed
-    (every-found IsUnder (has_number c.stream_identifier) old.receiving.receiver.streams a.stream a.found e)) old.receiving.receiver.streams e)
-under-after (incoming.takes c Repeat) old new f e = subst (λ (r : Reception). Every IsUnder r.streams) (sym f.step.receiver) e
-under-after (incoming.follows g) old new f e =
-    subst (λ (r : Reception). Every IsUnder r.streams) (sym f.step.receiver) (under-followed g old.receiving.receiver e)
-under-after (incoming.reads stream) old new f e =
-    subst (λ (r : Reception). Every IsUnder r.streams) (sym f.step.receiver)
-    (every-changed IsUnder (has_number stream) stream_read (λ l h u. under-read l u) old.receiving.receiver.streams e)
-under-after call old new f e = subst (λ (r : Reception). Every IsUnder r.streams) (sym f.step.receiver) e
-
-under-in : (cs : List Call) (old new : Session) → RunsTo old cs new → Every IsUnder old.receiving.receiver.streams
-    → Every IsUnder new.receiving.receiver.streams
-under-in [] old new r e = subst (λ (s : Session). Every IsUnder s.receiving.receiver.streams) (sym r) e
-under-in (of_sender call ∷ cs) old new r e =
-    under-in cs r.0 new r.1.1 (subst (λ (s : Session). Every IsUnder s.receiving.receiver.streams) (sym r.1.0.after) e)
-under-in (of_receiver call ∷ cs) old new r e = under-in cs r.0 new r.1.1 (under-after call old r.0 r.1.0 e)
 
 -- ## At rest
 
@@ -354,11 +266,12 @@ module _ (b : Setting) (n : ℕ) (s : Session) (i : At b n s) (none : length (in
               omega (arith, put, is, same, empty)
 
           held : (sel : Option Selected) → q.pending.selected ≡ sel
-              → sum_by cost_of s.receiving.receiver.streams + waiting_cost next.0.message_id p.pending ≤ l.window
+              → sum_by left_on s.receiving.receiver.streams + waiting_cost next.0.message_id p.pending ≤ l.window
           held None e =
               let free = at-rest b n s i none e unread in
               let own = (out l.window).own fit in
-              omega (arith, free, own)
+              let less = lefts-le s.receiving.receiver.streams in
+              omega (arith, free, own, less)
           held (Some x) e =
               let own = partial x.message_id (ap partial_of (like.selected ∙ e)) in
               let same = ap (λ m. waiting_cost m p.pending) own in
@@ -383,7 +296,7 @@ room-each None s h = tt
 room-each (Some l) s h =
     let q = pending_of s in
     let begun = begun_cost s.sending.sender in
-    let held = sum_by cost_of s.receiving.receiver.streams + begun in
+    let held = sum_by left_on s.receiving.receiver.streams + begun in
     let far = max (length (in_flight s)) (min 1 (chunks_waiting s.sending.sender)) in
     let a = both (nat_le far l.reach) ((begun == 0 || nat_le held l.window) && each_within l.window q) h in
     let c = both (begun == 0 || nat_le held l.window) (each_within l.window q) a.1 in
@@ -421,14 +334,6 @@ all-read tsn size max most limits cs s small some run few none takes now =
 
 -- ## Room for all that is left is room for one message after another
 
-prices : (cs : List ChunkPayloadData) → cost_of_chunks cs ≡ bytes_of cs + chunk_cost * length cs
-prices [] = omega arith
-prices (c ∷ cs) =
-    let n = sum_by-cons price c cs in
-    let m = sum_by-cons (λ (d : ChunkPayloadData). length d.user_data) c cs in
-    let ih = prices cs in
-    omega (arith, n, m, ih)
-
 pub room-window : (o : Option Limits) (t : Transmission) (r : Reception) → has_room o t r ≡ true → has_window o t r ≡ true
 room-window None t r h = refl
 room-window (Some l) t r h =
@@ -443,11 +348,11 @@ room-window (Some l) t r h =
     let each : (c : ChunkPayloadData) → nat_le (waiting_cost c.message_id q) l.window ≡ true = λ c.
     yes (waiting_cost c.message_id q) l.window (let x = some c.message_id in omega (arith, x, window, os, us)) in
     and (nat_le (max (length t.flight.queue.inflight.chunks) (min 1 (chunks_waiting t))) l.reach)
-    ((begun_cost t == 0 || nat_le (sum_by cost_of r.streams + begun_cost t) l.window) && each_within l.window q)
+    ((begun_cost t == 0 || nat_le (sum_by left_on r.streams + begun_cost t) l.window) && each_within l.window q)
     (yes (max (length t.flight.queue.inflight.chunks) (min 1 (chunks_waiting t))) l.reach (omega (arith, reach)))
-    (and (begun_cost t == 0 || nat_le (sum_by cost_of r.streams + begun_cost t) l.window) (each_within l.window q)
-    (or-right (begun_cost t == 0) (nat_le (sum_by cost_of r.streams + begun_cost t) l.window)
-    (yes (sum_by cost_of r.streams + begun_cost t) l.window (let x = rest q.selected some in omega (arith, x, window, flying, os, us))))
+    (and (begun_cost t == 0 || nat_le (sum_by left_on r.streams + begun_cost t) l.window) (each_within l.window q)
+    (or-right (begun_cost t == 0) (nat_le (sum_by left_on r.streams + begun_cost t) l.window)
+    (yes (sum_by left_on r.streams + begun_cost t) l.window (let x = rest q.selected some in let y = lefts-le r.streams in omega (arith, x, y, window, flying, os, us))))
     (and (list_all (λ c. nat_le (waiting_cost c.message_id q) l.window) q.ordered) (list_all (λ c. nat_le (waiting_cost c.message_id q) l.window) q.unordered)
     (all (λ c. nat_le (waiting_cost c.message_id q) l.window) each q.ordered) (all (λ c. nat_le (waiting_cost c.message_id q) l.window) each q.unordered)))
   where

@@ -81,6 +81,7 @@ pub mod ForwardLaw
 pub mod Taking
 pub mod RoundsEnd
 pub mod PushesExist
+pub mod HeldCosts
 pub mod EndSteps
 pub mod EndDelivers
 pub mod EndSessions

@@ -1,6 +1,6 @@
 -- Calls that end a session exist (RFC 4960 6.2, 6.3.3; RFC 3758 3.5, 3.6).
 use Rattle.std.specs.Prelude.{◌≡◌, ℕ, ◌+◌, ◌*◌, ◌^◌, ◌<◌, ◌≤◌, Bool, true, false, ◌==◌, ◌&&◌, nat_le, nat_lt, List, [], length, Option, Some, None}
-use Rattle.std.specs.Prelude.{◌||◌, max, min}
+use Rattle.std.specs.Prelude.{◌-◌, ◌||◌, max, min}
 use Rattle.std.specs.List.{filter, list_all, sum_by}
 use Rattle.sctp_outbound.specs.declared.pending_queue.Selected.{Selected}
 use Rattle.sctp_outbound.specs.Marks.{is_of}
@@ -9,7 +9,9 @@ use Rattle.sctp_data.specs.declared.chunk.chunk_payload_data.ChunkPayloadData.{C
 use Rattle.sctp_data.specs.SelectiveAck.{Sack}
 use Rattle.sctp_receiver.specs.declared.receiver.arrival.Arrival.{Arrival}
 use Rattle.sctp_receiver.specs.declared.receiver.limits.Limits.{Limits}
-use Rattle.sctp_receiver.specs.Credit.{cost_of_chunks}
+use Rattle.sctp_receiver.specs.declared.receiver.inbound_streams.InboundStream.{InboundStream}
+use Rattle.sctp_receiver.specs.Credit.{cost_held_on, cost_of_chunks}
+use Rattle.sctp_receiver.specs.Drains.{due_on}
 use Rattle.sctp_receiver.specs.Limits.{chunk_cost, cost_of}
 use Rattle.sctp_receiver.specs.Receiver.{Reception}
 use Rattle.sctp_sender.specs.declared.sender.flight.Released.{Released}
@@ -76,13 +78,20 @@ begun_cost t =
     cost_of_chunks t.flight.queue.inflight.chunks
     + rest_cost t.flight.queue.pending.selected t.flight.queue.pending
 
+-- what a stream holds counts for without the messages that are to be read now, and no more than it counts
+abbrev pub left_on : InboundStream → ℕ
+left_on l =
+    min (cost_of l)
+    (cost_held_on l - sum_by (λ set. cost_of_chunks set.chunks) (due_on (Some l)))
+
 -- there are no limits; or the reach is no less than the chunks in flight, nor than one where any waits; and the window is no less than what
--- is held and what has to come first count for together, if any has to, nor than what waits of each message. All that waits may be more
+-- is held, and is not to be read, and what has to come first count for together, if any has to, nor than what waits of each message. All that
+-- waits may be more
 abbrev pub has_window : Option Limits → Transmission → Reception → Bool
 has_window None t r = true
 has_window (Some l) t r =
     nat_le (max (length t.flight.queue.inflight.chunks) (min 1 (chunks_waiting t))) l.reach
-    && ((begun_cost t == 0 || nat_le (sum_by cost_of r.streams + begun_cost t) l.window)
+    && ((begun_cost t == 0 || nat_le (sum_by left_on r.streams + begun_cost t) l.window)
     && each_within l.window t.flight.queue.pending)
 
 -- so it is of the receiver, and it takes messages as long as the sender writes

@@ -1,0 +1,204 @@
+-- What a stream holds counts for: no less than its count says; and without the messages that are to be read.
+use Rattle.sctp_delivery.proofs.Names.{◌≡◌, ℕ, ◌+◌, ◌≤◌, ◌%◌, ◌^◌, ◌==◌, ◌&&◌, Bool, true, false, not, List, [], ◌∷◌, ◌++◌, length, Option, Some, None, refl}
+use Rattle.sctp_delivery.proofs.Names.{ap, sym, subst, ◌∙◌, arith, if◌then◌else◌, is_some, list_all, list_any, sum_by, sum_by-cons, sum_by-inserted}
+use Rattle.sctp_delivery.proofs.Names.{both, negated, not_both, bytes_of, change_where, insert_before, comes_before16, ChunkPayloadData, ChunkForwardTsnStream}
+use Rattle.sctp_delivery.proofs.Names.{ChunkSet, ForwardTsn, InboundStream, Reassembly, ReassemblyState, message_read, is_readable, is_passed, after_ordered_push}
+use Rattle.sctp_delivery.proofs.Names.{sets_with, rest_read, Pushes, PushesAs, with_queue, new_stream, stream_read, unassembled_forwarded, chunk_before}
+use Rattle.sctp_delivery.proofs.Names.{without_incomplete, after_forward_tsn, incomplete_forwarded, follow_forward_tsn, is_stale, Reception, cannot_complete, cost_of}
+use Rattle.sctp_delivery.proofs.Names.{has_tsn, Session, Call, RunsTo, ReceiverFollows, of_receiver, of_sender, ReceiverCall, New, Repeat}
+use Rattle.std.specs.Prelude.{◌*◌}
+use Rattle.std.proofs.lemmas.List.Sums.{sum_by-le-sum_by}
+use Rattle.sctp_reassembly.specs.reassembly_queue.Counts.{set_chunks}
+use Rattle.sctp_reassembly.specs.reassembly_queue.Fragments.{chunks_of_ssn}
+use Rattle.sctp_reassembly.specs.reassembly_queue.ReassemblyQueue.{after_read, bytes_read, count_up, held_bytes, set_bytes}
+use Rattle.sctp_reassembly.proofs.lemmas.reassembly_queue.ByteCounts.{bytes_with, dropped, skipped, whole_bytes}
+use Rattle.sctp_receiver.proofs.StreamCosts.{all-cost}
+use Rattle.sctp_receiver.proofs.Weights as weights
+use Rattle.sctp_receiver.proofs.Weights.{message_weight}
+use Rattle.sctp_receiver.specs.Credit.{cost_held_on, cost_of_chunks}
+use Rattle.sctp_receiver.specs.Drains.{due_from, due_on}
+use Rattle.sctp_receiver.specs.Inbound.{has_number, named_forwarded, ssn_forwarded}
+use Rattle.sctp_receiver.specs.Limits.{chunk_cost}
+use Rattle.sctp_delivery.specs.Ending.{left_on}
+use Rattle.sctp_delivery.specs.ReceiverCalls as incoming
+use Rattle.sctp_delivery.proofs.Every.{Every, every-changed, every-found, every-joined, every-mapped}
+
+-- ## A queue counts no more bytes than it holds
+
+abbrev pub IsUnder : InboundStream → Type 0
+IsUnder l = l.queue.bytes ≤ held_bytes l.queue.held
+
+under-ordered : (x : ChunkPayloadData) (q : ReassemblyState) → q.bytes ≤ held_bytes q.held
+    → (after_ordered_push x q).bytes ≤ held_bytes (after_ordered_push x q).held
+under-ordered x q h = at (comes_before16 x.stream_sequence_number q.held.next_ssn)
+    (list_any (has_tsn x.tsn) (chunks_of_ssn x.stream_sequence_number q.held.ordered)) (bytes_with x q.held.ordered)
+  where
+    at : (late known : Bool) → set_bytes (sets_with x q.held.ordered) ≡ set_bytes q.held.ordered + (if known then 0 else length x.user_data)
+        → (if not late && not known then count_up q.bytes (length x.user_data) else q.bytes)
+        ≤ held_bytes (if late then q.held else record q.held { ordered = sets_with x q.held.ordered })
+    at true known more = h
+    at false true more = omega (arith, h, more)
+    at false false more = omega (arith, h, more)
+
+under-pushed : (c : ChunkPayloadData) (complete : Bool) (old new : ReassemblyState) → Pushes c complete old new → old.bytes ≤ held_bytes old.held
+    → new.bytes ≤ held_bytes new.held
+under-pushed c complete old new p h = by c.unordered p
+  where
+    by : (b : Bool) → PushesAs b c complete old new → new.bytes ≤ held_bytes new.held
+    by false e = subst (λ (q : ReassemblyState). q.bytes ≤ held_bytes q.held) (sym e.0) (under-ordered c old h)
+    by true e =
+        let all = whole_bytes (insert_before chunk_before c old.held.unassembled) old.held new.held complete e.0 in
+        let more = sum_by-inserted (λ (x : ChunkPayloadData). length x.user_data) chunk_before c old.held.unassembled in
+        let is = ap (λ (q : ReassemblyState). q.bytes) e.1 in
+        omega (arith, h, all, more, is)
+
+under-read : (l : InboundStream) → IsUnder l → IsUnder (stream_read l)
+under-read l h =
+    let out = weights.read (λ c. length c.user_data) l.queue.held in
+    let same = of (message_read l.queue.held) in
+    omega (arith, h, out, same)
+  where
+    of : (o : Option ChunkSet) → bytes_read o ≡ message_weight (λ c. length c.user_data) o
+    of None = refl
+    of (Some set) = refl
+
+under-named : (ns : List ChunkForwardTsnStream) (ls : List InboundStream) → Every IsUnder ls → Every IsUnder (named_forwarded ns ls)
+under-named [] ls e = e
+under-named (n ∷ ns) ls e =
+    under-named ns (change_where (has_number n.identifier) (ssn_forwarded n.sequence) ls)
+    (every-changed IsUnder (has_number n.identifier) (ssn_forwarded n.sequence) (λ l h u. let x = skipped (is_passed n.sequence) l.queue.held.ordered in
+    omega (arith, u, x)) ls e)
+
+under-followed : (g : ForwardTsn) (r : Reception) → Every IsUnder r.streams → Every IsUnder (after_forward_tsn g r).streams
+under-followed g r e = by (is_stale g r)
+  where
+    by : (b : Bool) → Every IsUnder (if b then r else without_incomplete g.new_cumulative_tsn (if b then r else follow_forward_tsn g r)).streams
+    by true = e
+    by false =
+        every-mapped IsUnder IsUnder (incomplete_forwarded g.new_cumulative_tsn)
+        (λ l u. let x = skipped (cannot_complete g.new_cumulative_tsn) l.queue.held.ordered in omega (arith, u, x))
+        (follow_forward_tsn g r).streams
+        (every-mapped IsUnder IsUnder (unassembled_forwarded g.new_cumulative_tsn)
+        (λ l u. let x = dropped g.new_cumulative_tsn l.queue.held.unassembled in omega (arith, u, x)) (named_forwarded g.streams r.streams)
+        (under-named g.streams r.streams e))
+
+under-after : (call : ReceiverCall) (old new : Session) → ReceiverFollows call old new → Every IsUnder old.receiving.receiver.streams
+    → Every IsUnder new.receiving.receiver.streams
+under-after (incoming.opens stream) old new f e =
+    subst (λ (r : Reception). Every IsUnder r.streams) (sym f.step.receiver.1)
+    (every-joined IsUnder old.receiving.receiver.streams (new_stream stream old.receiving.receiver.max_message_size ∷ []) e (omega arith, tt))
+under-after (incoming.takes c (New complete)) old new f e =
+    let a = f.step.receiver in
+    subst (λ (r : Reception). Every IsUnder r.streams) (sym a.after)
+    (every-changed IsUnder (has_number c.stream_identifier) (with_queue a.queue) (λ l h u. under-pushed c complete a.stream.queue a.queue a.pushed
+    (every-found IsUnder (has_number c.stream_identifier) old.receiving.receiver.streams a.stream a.found e)) old.receiving.receiver.streams e)
+under-after (incoming.takes c Repeat) old new f e = subst (λ (r : Reception). Every IsUnder r.streams) (sym f.step.receiver) e
+under-after (incoming.follows g) old new f e =
+    subst (λ (r : Reception). Every IsUnder r.streams) (sym f.step.receiver) (under-followed g old.receiving.receiver e)
+under-after (incoming.reads stream) old new f e =
+    subst (λ (r : Reception). Every IsUnder r.streams) (sym f.step.receiver)
+    (every-changed IsUnder (has_number stream) stream_read (λ l h u. under-read l u) old.receiving.receiver.streams e)
+under-after call old new f e = subst (λ (r : Reception). Every IsUnder r.streams) (sym f.step.receiver) e
+
+pub under-in : (cs : List Call) (old new : Session) → RunsTo old cs new → Every IsUnder old.receiving.receiver.streams
+    → Every IsUnder new.receiving.receiver.streams
+under-in [] old new r e = subst (λ (s : Session). Every IsUnder s.receiving.receiver.streams) (sym r) e
+under-in (of_sender call ∷ cs) old new r e =
+    under-in cs r.0 new r.1.1 (subst (λ (s : Session). Every IsUnder s.receiving.receiver.streams) (sym r.1.0.after) e)
+under-in (of_receiver call ∷ cs) old new r e = under-in cs r.0 new r.1.1 (under-after call old r.0 r.1.0 e)
+
+-- ## What is to be read
+
+-- what chunks, and what sets of them, count for
+pub prices : (cs : List ChunkPayloadData) → cost_of_chunks cs ≡ bytes_of cs + chunk_cost * length cs
+prices [] = omega arith
+prices (c ∷ cs) =
+    let n = sum_by-cons (λ (d : ChunkPayloadData). length d.user_data + chunk_cost) c cs in
+    let m = sum_by-cons (λ (d : ChunkPayloadData). length d.user_data) c cs in
+    let ih = prices cs in
+    omega (arith, n, m, ih)
+
+set-prices : (ss : List ChunkSet) → sum_by (λ set. cost_of_chunks set.chunks) ss ≡ set_bytes ss + chunk_cost * set_chunks ss
+set-prices [] = omega arith
+set-prices (s ∷ ss) =
+    let a = sum_by-cons (λ (set : ChunkSet). cost_of_chunks set.chunks) s ss in
+    let b = sum_by-cons (λ (set : ChunkSet). bytes_of set.chunks) s ss in
+    let c = sum_by-cons (λ (set : ChunkSet). length set.chunks) s ss in
+    let p = prices s.chunks in
+    let ih = set-prices ss in
+    omega (arith, a, b, c, p, ih)
+
+-- it counts no more than it holds
+counts-less : (l : InboundStream) → IsUnder l → cost_of l ≤ cost_held_on l
+counts-less l u =
+    let os = set-prices l.queue.held.ordered in
+    let us = set-prices l.queue.held.unordered in
+    let cs = prices l.queue.held.unassembled in
+    omega (arith, u, os, us, cs)
+
+abbrev due_cost : Reassembly → ℕ
+due_cost q = sum_by (λ set. cost_of_chunks set.chunks) (q.unordered ++ due_from q.next_ssn q.ordered)
+
+abbrev price : ChunkPayloadData → ℕ
+price c = length c.user_data + chunk_cost
+
+abbrev held : ℕ → List ChunkSet → List ChunkSet → List ChunkPayloadData → Reassembly
+held next os us un = record { next_ssn = next; ordered = os; unordered = us; unassembled = un }
+
+-- the message that is read is the first that is due
+due-first : (next : ℕ) (os us : List ChunkSet) (un : List ChunkPayloadData)
+    → due_cost (held next os us un) ≡ message_weight price (message_read (held next os us un)) + due_cost (rest_read (held next os us un))
+due-first next os (u ∷ us) un = sum_by-cons (λ (set : ChunkSet). cost_of_chunks set.chunks) u (us ++ due_from next os)
+due-first next [] [] un = refl
+due-first next (s ∷ ss) [] un = by (is_readable next s) refl
+  where
+    by : (b : Bool) → is_readable next s ≡ b → due_cost (held next (s ∷ ss) [] un)
+        ≡ message_weight price (if b then Some s else None) + due_cost (after_read (if b then Some s else None) (held next (s ∷ ss) [] un))
+    by true e =
+        let behind = due_from (if s.ssn == next then (next + 1) % 2 ^ 16 else next) ss in
+        ap (λ c. sum_by (λ (set : ChunkSet). cost_of_chunks set.chunks) (if c then s ∷ behind else [])) e
+        ∙ sum_by-cons (λ (set : ChunkSet). cost_of_chunks set.chunks) s behind
+    by false e = omega arith
+
+due-none : (next : ℕ) (os us : List ChunkSet) (un : List ChunkPayloadData) → is_some (message_read (held next os us un)) ≡ false
+    → due_cost (held next os us un) ≡ 0
+due-none next os (u ∷ us) un e = absurd (not_both (sym e))
+due-none next [] [] un e = refl
+due-none next (s ∷ ss) [] un e = by (is_readable next s) e
+  where
+    by : (b : Bool) → is_some (if b then Some s else None) ≡ false
+        → sum_by (λ set. cost_of_chunks set.chunks) (if b then s ∷ due_from (if s.ssn == next then (next + 1) % 2 ^ 16 else next) ss else []) ≡ 0
+    by true h = absurd (not_both (sym h))
+    by false h = refl
+
+-- a read leaves no more, and where nothing is to be read, all is left
+pub left-read : (l : InboundStream) → left_on (stream_read l) ≤ left_on l
+left-read l =
+    let q = l.queue.held in
+    let counted = (all-cost 0).read l in
+    let due : sum_by (λ set. cost_of_chunks set.chunks) (due_on (Some l))
+    ≡ message_weight price (message_read q) + sum_by (λ set. cost_of_chunks set.chunks) (due_on (Some (stream_read l))) =
+    due-first q.next_ssn q.ordered q.unordered q.unassembled in
+    let held' : message_weight price (message_read q) + cost_held_on (stream_read l) ≡ cost_held_on l = weights.read price q in
+    omega (arith, counted, due, held')
+
+left-unread : (l : InboundStream) → IsUnder l → is_some (message_read l.queue.held) ≡ false → left_on l ≡ cost_of l
+left-unread l u e =
+    let q = l.queue.held in
+    let due : sum_by (λ set. cost_of_chunks set.chunks) (due_on (Some l)) ≡ 0 = due-none q.next_ssn q.ordered q.unordered q.unassembled e in
+    let less = counts-less l u in
+    omega (arith, due, less)
+
+pub lefts-unread : (ls : List InboundStream) → Every IsUnder ls → list_all (λ l. not (is_some (message_read l.queue.held))) ls ≡ true
+    → sum_by left_on ls ≡ sum_by cost_of ls
+lefts-unread [] u e = refl
+lefts-unread (l ∷ ls) u e =
+    let b = both (not (is_some (message_read l.queue.held))) (list_all (λ x. not (is_some (message_read x.queue.held))) ls) e in
+    let m = sum_by-cons left_on l ls in
+    let n = sum_by-cons cost_of l ls in
+    let here = left-unread l u.0 (negated (is_some (message_read l.queue.held)) b.0) in
+    let ih = lefts-unread ls u.1 b.1 in
+    omega (arith, m, n, here, ih)
+
+pub lefts-le : (ls : List InboundStream) → sum_by left_on ls ≤ sum_by cost_of ls
+lefts-le ls = sum_by-le-sum_by left_on cost_of ls (λ l. omega arith)
