@@ -9,7 +9,7 @@ use Rattle.sctp_delivery.proofs.Names.{chunk_to_pop_from, list_to_pop, rest_from
 use Rattle.sctp_delivery.proofs.Names.{all_started, as_sent, sent_of, made, sendable-sent, goes_on, peeked_all_started, started-inflight, bytes_of}
 use Rattle.sctp_delivery.proofs.Names.{Session, at_start}
 use Rattle.sctp_delivery.proofs.Names.{reads_nothing, chunks_waiting, in_flight}
-use Rattle.sctp_delivery.proofs.Names.{and, chunks_left, EachOtherIsReadOnce, has_room, or-right, Transmission}
+use Rattle.sctp_delivery.proofs.Names.{common_steps, and, chunks_left, EachOtherIsReadOnce, has_room, Transmission}
 use Rattle.std.specs.Prelude.{◌<◌, ◌^◌, max, min, nat_lt}
 use Rattle.sctp_reassembly.specs.reassembly_queue.Counts.{set_chunks}
 use Rattle.sctp_reassembly.specs.reassembly_queue.ReassemblyQueue.{set_bytes}
@@ -53,7 +53,7 @@ each-found P (x ∷ xs) apart h =
 
 none-cost : (ls : List InboundStream) → Every (λ l. cost_of l ≡ 0) ls → sum_by cost_of ls ≡ 0
 none-cost [] e = refl
-none-cost (l ∷ ls) e = let a = sum_by-cons cost_of l ls in let ih = none-cost ls e.1 in let h = e.0 in omega (arith, a, ih, h)
+none-cost (l ∷ ls) e = let h = e.0 in omega (arith, sum_by-cons cost_of l ls, none-cost ls e.1, h)
 
 -- where nothing is in flight, no message is partially sent and nothing is to be read, the receiver holds nothing
 at-rest : (b : Setting) (n : ℕ) (s : Session) → At b n s → length (in_flight s) ≡ 0 → (pending_of s).selected ≡ None
@@ -87,12 +87,7 @@ price_in m c = if is_of m c then price c else 0
 
 cost-cons : (m : ℕ) (x : ChunkPayloadData) (xs : List ChunkPayloadData)
     → cost_of_chunks (filter (is_of m) (x ∷ xs)) ≡ price_in m x + cost_of_chunks (filter (is_of m) xs)
-cost-cons m x xs = by (is_of m x)
-  where
-    by : (b : Bool) → cost_of_chunks (if b then x ∷ filter (is_of m) xs else filter (is_of m) xs)
-        ≡ (if b then price x else 0) + cost_of_chunks (filter (is_of m) xs)
-    by true = sum_by-cons price x (filter (is_of m) xs)
-    by false = omega arith
+cost-cons m x xs = grind (arith, nat_tests, common_steps, sum_by-cons)
 
 -- what is taken leaves so much less, and the rest of its message is partially sent, if any is
 record IsTakenOut (w : ℕ) (c : ChunkPayloadData) (q r : Pending) : Type 0 where
@@ -103,16 +98,8 @@ record IsTakenOut (w : ℕ) (c : ChunkPayloadData) (q r : Pending) : Type 0 wher
 
 rest-own : (sel : Option Selected) (kind : Bool) (c : ChunkPayloadData) (r : Pending) → ((m : ℕ) → partial_of sel ≡ Some m → c.message_id ≡ m)
     → rest_cost (selected_after sel kind c) r ≤ waiting_cost c.message_id r
-rest-own None kind c r partial = by c.ending_fragment
-  where
-    by : (b : Bool) → rest_cost (if b then None else Some (record { message_id = c.message_id; unordered = kind })) r ≤ waiting_cost c.message_id r
-    by true = omega arith
-    by false = omega arith
-rest-own (Some s) kind c r partial = by (c.ending_fragment && (c.message_id == s.message_id))
-  where
-    by : (b : Bool) → rest_cost (if b then None else Some s) r ≤ waiting_cost c.message_id r
-    by true = omega arith
-    by false = let same = ap (λ m. waiting_cost m r) (partial s.message_id refl) in omega (arith, same)
+rest-own None kind c r partial = grind (arith, nat_tests)
+rest-own (Some s) kind c r partial = let same = ap (λ m. waiting_cost m r) (partial s.message_id refl) in grind (arith, nat_tests, same)
 
 fewer-fit : (w : ℕ) (c : ChunkPayloadData) (q r : Pending) → ((m : ℕ) → waiting_cost m r + price_in m c ≡ waiting_cost m q) → (xs : List ChunkPayloadData)
     → Every (λ x. waiting_cost x.message_id q ≤ w) xs → Every (λ x. waiting_cost x.message_id r ≤ w) xs
@@ -151,19 +138,7 @@ taken-out w (Some false) (o ∷ os) us sel ro ru c h partial =
 cost-started : (m : ℕ) (p : ChunkPayloadData → Bool) (now : ℕ) (cs : List ChunkPayloadData)
     → cost_of_chunks (filter (is_of m) (change_where p (with_deadline now) cs)) ≡ cost_of_chunks (filter (is_of m) cs)
 cost-started m p now [] = refl
-cost-started m p now (c ∷ cs) = by (p c) (cost-started m p now cs)
-  where
-    by : (b : Bool) → cost_of_chunks (filter (is_of m) (change_where p (with_deadline now) cs)) ≡ cost_of_chunks (filter (is_of m) cs)
-        → cost_of_chunks (filter (is_of m) ((if b then with_deadline now c else c) ∷ change_where p (with_deadline now) cs))
-        ≡ cost_of_chunks (filter (is_of m) (c ∷ cs))
-    by true ih =
-        let x = cost-cons m (with_deadline now c) (change_where p (with_deadline now) cs) in
-        let y = cost-cons m c cs in
-        omega (arith, x, y, ih)
-    by false ih =
-        let x = cost-cons m c (change_where p (with_deadline now) cs) in
-        let y = cost-cons m c cs in
-        omega (arith, x, y, ih)
+cost-started m p now (c ∷ cs) = grind (arith, nat_tests, common_steps, cost-cons, cost-started m p now cs)
 
 -- the same message is partially sent, each counts for as much, and each fits
 record IsAlike (w : ℕ) (q r : Pending) : Type 0 where
@@ -338,23 +313,19 @@ pub room-window : (o : Option Limits) (t : Transmission) (r : Reception) → has
 room-window None t r h = refl
 room-window (Some l) t r h =
     let p = both (nat_le (chunks_left t) l.reach) (nat_lt (sum_by cost_of r.streams + cost_left t) l.window) h in
-    let reach : chunks_left t ≤ l.reach = grind (arith, nat_tests, p.0) in
     let window : sum_by cost_of r.streams + cost_left t < l.window = grind (arith, nat_tests, p.1) in
     let flying = prices t.flight.queue.inflight.chunks in
     let os = prices q.ordered in
     let us = prices q.unordered in
+    let less = lefts-le r.streams in
     let some : (m : ℕ) → waiting_cost m q ≤ cost_of_chunks q.ordered + cost_of_chunks q.unordered = λ m.
     (let a = weights.fewer (λ c. 0) price (is_of m) q.ordered in let b = weights.fewer (λ c. 0) price (is_of m) q.unordered in omega (arith, a, b)) in
+    let begun = rest q.selected some in
     let each : (c : ChunkPayloadData) → nat_le (waiting_cost c.message_id q) l.window ≡ true = λ c.
     yes (waiting_cost c.message_id q) l.window (let x = some c.message_id in omega (arith, x, window, os, us)) in
-    and (nat_le (max (length t.flight.queue.inflight.chunks) (min 1 (chunks_waiting t))) l.reach)
-    ((begun_cost t == 0 || nat_le (sum_by left_on r.streams + begun_cost t) l.window) && each_within l.window q)
-    (yes (max (length t.flight.queue.inflight.chunks) (min 1 (chunks_waiting t))) l.reach (omega (arith, reach)))
-    (and (begun_cost t == 0 || nat_le (sum_by left_on r.streams + begun_cost t) l.window) (each_within l.window q)
-    (or-right (begun_cost t == 0) (nat_le (sum_by left_on r.streams + begun_cost t) l.window)
-    (yes (sum_by left_on r.streams + begun_cost t) l.window (let x = rest q.selected some in let y = lefts-le r.streams in omega (arith, x, y, window, flying, os, us))))
-    (and (list_all (λ c. nat_le (waiting_cost c.message_id q) l.window) q.ordered) (list_all (λ c. nat_le (waiting_cost c.message_id q) l.window) q.unordered)
-    (all (λ c. nat_le (waiting_cost c.message_id q) l.window) each q.ordered) (all (λ c. nat_le (waiting_cost c.message_id q) l.window) each q.unordered)))
+    let ordered = all (λ c. nat_le (waiting_cost c.message_id q) l.window) each q.ordered in
+    let unordered = all (λ c. nat_le (waiting_cost c.message_id q) l.window) each q.unordered in
+    grind (arith, nat_tests, p.0, window, flying, os, us, less, begun, ordered, unordered)
   where
     q : Pending
     q = t.flight.queue.pending

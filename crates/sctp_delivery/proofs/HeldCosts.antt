@@ -1,16 +1,15 @@
 -- What a stream holds counts for: no less than its count says; and without the messages that are to be read.
-use Rattle.sctp_delivery.proofs.Names.{◌≡◌, ℕ, ◌+◌, ◌≤◌, ◌%◌, ◌^◌, ◌==◌, ◌&&◌, Bool, true, false, not, List, [], ◌∷◌, ◌++◌, length, Option, Some, None, refl}
-use Rattle.sctp_delivery.proofs.Names.{ap, sym, subst, ◌∙◌, arith, if◌then◌else◌, is_some, list_all, list_any, sum_by, sum_by-cons, sum_by-inserted}
-use Rattle.sctp_delivery.proofs.Names.{both, negated, not_both, bytes_of, change_where, insert_before, comes_before16, ChunkPayloadData, ChunkForwardTsnStream}
-use Rattle.sctp_delivery.proofs.Names.{ChunkSet, ForwardTsn, InboundStream, Reassembly, ReassemblyState, message_read, is_readable, is_passed, after_ordered_push}
-use Rattle.sctp_delivery.proofs.Names.{sets_with, rest_read, Pushes, PushesAs, with_queue, new_stream, stream_read, unassembled_forwarded, chunk_before}
+use Rattle.sctp_delivery.proofs.Names.{◌≡◌, ℕ, ◌+◌, ◌≤◌, Bool, true, false, not, List, [], ◌∷◌, ◌++◌, length, Option, Some, None, refl}
+use Rattle.sctp_delivery.proofs.Names.{ap, sym, subst, arith, if◌then◌else◌, is_some, list_all, sum_by, sum_by-cons, sum_by-inserted}
+use Rattle.sctp_delivery.proofs.Names.{common_steps, nat_tests, both, negated, bytes_of, change_where, insert_before, ChunkPayloadData, ChunkForwardTsnStream}
+use Rattle.sctp_delivery.proofs.Names.{ChunkSet, ForwardTsn, InboundStream, Reassembly, ReassemblyState, message_read, is_passed, after_ordered_push}
+use Rattle.sctp_delivery.proofs.Names.{rest_read, Pushes, PushesAs, with_queue, new_stream, stream_read, unassembled_forwarded, chunk_before}
 use Rattle.sctp_delivery.proofs.Names.{without_incomplete, after_forward_tsn, incomplete_forwarded, follow_forward_tsn, is_stale, Reception, cannot_complete, cost_of}
-use Rattle.sctp_delivery.proofs.Names.{has_tsn, Session, Call, RunsTo, ReceiverFollows, of_receiver, of_sender, ReceiverCall, New, Repeat}
+use Rattle.sctp_delivery.proofs.Names.{Session, Call, RunsTo, ReceiverFollows, of_receiver, of_sender, ReceiverCall, New, Repeat}
 use Rattle.std.specs.Prelude.{◌*◌}
 use Rattle.std.proofs.lemmas.List.Sums.{sum_by-le-sum_by}
 use Rattle.sctp_reassembly.specs.reassembly_queue.Counts.{set_chunks}
-use Rattle.sctp_reassembly.specs.reassembly_queue.Fragments.{chunks_of_ssn}
-use Rattle.sctp_reassembly.specs.reassembly_queue.ReassemblyQueue.{after_read, bytes_read, count_up, held_bytes, set_bytes}
+use Rattle.sctp_reassembly.specs.reassembly_queue.ReassemblyQueue.{bytes_read, held_bytes, set_bytes}
 use Rattle.sctp_reassembly.proofs.lemmas.reassembly_queue.ByteCounts.{bytes_with, dropped, skipped, whole_bytes}
 use Rattle.sctp_receiver.proofs.StreamCosts.{all-cost}
 use Rattle.sctp_receiver.proofs.Weights as weights
@@ -30,15 +29,7 @@ IsUnder l = l.queue.bytes ≤ held_bytes l.queue.held
 
 under-ordered : (x : ChunkPayloadData) (q : ReassemblyState) → q.bytes ≤ held_bytes q.held
     → (after_ordered_push x q).bytes ≤ held_bytes (after_ordered_push x q).held
-under-ordered x q h = at (comes_before16 x.stream_sequence_number q.held.next_ssn)
-    (list_any (has_tsn x.tsn) (chunks_of_ssn x.stream_sequence_number q.held.ordered)) (bytes_with x q.held.ordered)
-  where
-    at : (late known : Bool) → set_bytes (sets_with x q.held.ordered) ≡ set_bytes q.held.ordered + (if known then 0 else length x.user_data)
-        → (if not late && not known then count_up q.bytes (length x.user_data) else q.bytes)
-        ≤ held_bytes (if late then q.held else record q.held { ordered = sets_with x q.held.ordered })
-    at true known more = h
-    at false true more = omega (arith, h, more)
-    at false false more = omega (arith, h, more)
+under-ordered x q h = grind (arith, nat_tests, bytes_with)
 
 under-pushed : (c : ChunkPayloadData) (complete : Bool) (old new : ReassemblyState) → Pushes c complete old new → old.bytes ≤ held_bytes old.held
     → new.bytes ≤ held_bytes new.held
@@ -112,21 +103,11 @@ under-in (of_receiver call ∷ cs) old new r e = under-in cs r.0 new r.1.1 (unde
 -- what chunks, and what sets of them, count for
 pub prices : (cs : List ChunkPayloadData) → cost_of_chunks cs ≡ bytes_of cs + chunk_cost * length cs
 prices [] = omega arith
-prices (c ∷ cs) =
-    let n = sum_by-cons (λ (d : ChunkPayloadData). length d.user_data + chunk_cost) c cs in
-    let m = sum_by-cons (λ (d : ChunkPayloadData). length d.user_data) c cs in
-    let ih = prices cs in
-    omega (arith, n, m, ih)
+prices (c ∷ cs) = grind (arith, common_steps, sum_by-cons, prices cs)
 
 set-prices : (ss : List ChunkSet) → sum_by (λ set. cost_of_chunks set.chunks) ss ≡ set_bytes ss + chunk_cost * set_chunks ss
 set-prices [] = omega arith
-set-prices (s ∷ ss) =
-    let a = sum_by-cons (λ (set : ChunkSet). cost_of_chunks set.chunks) s ss in
-    let b = sum_by-cons (λ (set : ChunkSet). bytes_of set.chunks) s ss in
-    let c = sum_by-cons (λ (set : ChunkSet). length set.chunks) s ss in
-    let p = prices s.chunks in
-    let ih = set-prices ss in
-    omega (arith, a, b, c, p, ih)
+set-prices (s ∷ ss) = grind (arith, common_steps, prices, sum_by-cons, set-prices ss)
 
 -- it counts no more than it holds
 counts-less : (l : InboundStream) → IsUnder l → cost_of l ≤ cost_held_on l
@@ -150,26 +131,11 @@ due-first : (next : ℕ) (os us : List ChunkSet) (un : List ChunkPayloadData)
     → due_cost (held next os us un) ≡ message_weight price (message_read (held next os us un)) + due_cost (rest_read (held next os us un))
 due-first next os (u ∷ us) un = sum_by-cons (λ (set : ChunkSet). cost_of_chunks set.chunks) u (us ++ due_from next os)
 due-first next [] [] un = refl
-due-first next (s ∷ ss) [] un = by (is_readable next s) refl
-  where
-    by : (b : Bool) → is_readable next s ≡ b → due_cost (held next (s ∷ ss) [] un)
-        ≡ message_weight price (if b then Some s else None) + due_cost (after_read (if b then Some s else None) (held next (s ∷ ss) [] un))
-    by true e =
-        let behind = due_from (if s.ssn == next then (next + 1) % 2 ^ 16 else next) ss in
-        ap (λ c. sum_by (λ (set : ChunkSet). cost_of_chunks set.chunks) (if c then s ∷ behind else [])) e
-        ∙ sum_by-cons (λ (set : ChunkSet). cost_of_chunks set.chunks) s behind
-    by false e = omega arith
+due-first next (s ∷ ss) [] un = grind (arith, nat_tests, common_steps, sum_by-cons)
 
 due-none : (next : ℕ) (os us : List ChunkSet) (un : List ChunkPayloadData) → is_some (message_read (held next os us un)) ≡ false
     → due_cost (held next os us un) ≡ 0
-due-none next os (u ∷ us) un e = absurd (not_both (sym e))
-due-none next [] [] un e = refl
-due-none next (s ∷ ss) [] un e = by (is_readable next s) e
-  where
-    by : (b : Bool) → is_some (if b then Some s else None) ≡ false
-        → sum_by (λ set. cost_of_chunks set.chunks) (if b then s ∷ due_from (if s.ssn == next then (next + 1) % 2 ^ 16 else next) ss else []) ≡ 0
-    by true h = absurd (not_both (sym h))
-    by false h = refl
+due-none next os us un e = grind (arith, nat_tests, is_some)
 
 -- a read leaves no more, and where nothing is to be read, all is left
 pub left-read : (l : InboundStream) → left_on (stream_read l) ≤ left_on l
@@ -192,13 +158,7 @@ left-unread l u e =
 pub lefts-unread : (ls : List InboundStream) → Every IsUnder ls → list_all (λ l. not (is_some (message_read l.queue.held))) ls ≡ true
     → sum_by left_on ls ≡ sum_by cost_of ls
 lefts-unread [] u e = refl
-lefts-unread (l ∷ ls) u e =
-    let b = both (not (is_some (message_read l.queue.held))) (list_all (λ x. not (is_some (message_read x.queue.held))) ls) e in
-    let m = sum_by-cons left_on l ls in
-    let n = sum_by-cons cost_of l ls in
-    let here = left-unread l u.0 (negated (is_some (message_read l.queue.held)) b.0) in
-    let ih = lefts-unread ls u.1 b.1 in
-    omega (arith, m, n, here, ih)
+lefts-unread (l ∷ ls) u e = grind (arith, nat_tests, common_steps, both, left-unread, negated, sum_by-cons, lefts-unread ls u.1)
 
 pub lefts-le : (ls : List InboundStream) → sum_by left_on ls ≤ sum_by cost_of ls
 lefts-le ls = sum_by-le-sum_by left_on cost_of ls (λ l. omega arith)

@@ -197,36 +197,30 @@ module _ (first n : ℕ) (few : n < 2 ^ 31) (old new : Session) (ns : List Numbe
       stays-come p n (known old) old new few i.spread.step.made i.spread.step.arrived call f (tsn p y)
       (record { place = y; some = pos; within = omega (arith, le, within); is = refl }) (k.floor.below y pos le)
 
-  -- no FORWARD-TSN is followed
-  passed-other : (call : ReceiverCall) → IsOther call → ReceiverFollows call old new → (k : Keeps old.receiving)
-      → IsPast first sent st k.floor.floor (stream_of st new.receiving.receiver) → Passed k.lost new.receiving
-  passed-other call o f k past = record {
+  -- the place stays
+  passed-still : (call : ReceiverCall) → ReceiverFollows call old new → (k : Keeps old.receiving)
+      → IsPast first sent st k.floor.floor (stream_of st new.receiving.receiver)
+      → IsArrived p n (known_past first sent st k.floor.floor new.receiving) new.receiving.receiver.cumulative_tsn new.receiving.receiver.beyond
+      → Passed k.lost new.receiving
+  passed-still call f k past came = record {
     floor = k.floor.floor;
     within = k.floor.within;
     ends = k.floor.ends;
     below = below-still call f k;
     gone-to = k.floor.gone-to;
     past = past;
-    arrived = hears p n (known_past first sent st k.floor.floor old.receiving) (known_past first sent st k.floor.floor new.receiving) old new few
-        i.spread.step.made (known-more call f k.floor.floor k.floor.floor (omega arith)) (known-taken k.floor.floor) k.floor.arrived call f
-        (λ g in' same. absurd (subst IsOther same o));
+    arrived = came;
   }
 
-  -- or nothing changes
+  -- where nothing changes
   pub still : (call : ReceiverCall) → ReceiverFollows call old new → new.receiving.accepted ≡ old.receiving.accepted
       → new.receiving.read ≡ old.receiving.read → new.receiving.receiver ≡ r → Keeps old.receiving → Keeps new.receiving
   still call f e g same k =
-      after-so call f k (streams.still st (Well (Late old.receiving)) k.lost old new (before k) e g (ap (λ (q : Reception). q.streams) same)) (record {
-        floor = k.floor.floor;
-        within = k.floor.within;
-        ends = k.floor.ends;
-        below = below-still call f k;
-        gone-to = k.floor.gone-to;
-        past = subst (λ (q : Reception). IsPast first sent st k.floor.floor (stream_of st q)) (sym same) k.floor.past;
-        arrived = subst (λ (q : Reception). IsArrived p n (known_past first sent st k.floor.floor new.receiving) q.cumulative_tsn q.beyond) (sym same)
-            (more-arrived p n n (known_past first sent st k.floor.floor old.receiving) (known_past first sent st k.floor.floor new.receiving) r.cumulative_tsn
-            r.beyond (omega arith) (known-more call f k.floor.floor k.floor.floor (omega arith)) k.floor.arrived);
-      })
+      after-so call f k (streams.still st (Well (Late old.receiving)) k.lost old new (before k) e g (ap (λ (q : Reception). q.streams) same))
+      (passed-still call f k (subst (λ (q : Reception). IsPast first sent st k.floor.floor (stream_of st q)) (sym same) k.floor.past)
+      (subst (λ (q : Reception). IsArrived p n (known_past first sent st k.floor.floor new.receiving) q.cumulative_tsn q.beyond) (sym same)
+      (more-arrived p n n (known_past first sent st k.floor.floor old.receiving) (known_past first sent st k.floor.floor new.receiving) r.cumulative_tsn
+      r.beyond (omega arith) (known-more call f k.floor.floor k.floor.floor (omega arith)) k.floor.arrived)))
 
   -- ## A stream is opened
 
@@ -397,10 +391,14 @@ module _ (first n : ℕ) (few : n < 2 ^ 31) (old new : Session) (ns : List Numbe
           pushed-each Later c said a.stream.queue a.queue a.pushed (fresh-later c said f) (subst Past e k.floor.past);
     }
 
-    pub passed-by : (call : ReceiverCall) → IsOther call → ReceiverFollows call old new → Passed k.lost new.receiving
+    -- no FORWARD-TSN is followed
+    passed-by : (call : ReceiverCall) → IsOther call → ReceiverFollows call old new → Passed k.lost new.receiving
     passed-by call o f =
-        passed-other call o f k (after-call st Past k.lost old new (record { weighs = k.weighs; holds = k.floor.past }) call o f (λ stream e. tt) put-past
+        let floor = k.floor.floor in
+        passed-still call f k (after-call st Past k.lost old new (record { weighs = k.weighs; holds = k.floor.past }) call o f (λ stream e. tt) put-past
         (λ l e. subst (Every Later) (sym (read-unassembled l.queue.held)) (subst Past e k.floor.past))).holds
+        (hears p n (known_past first sent st floor old.receiving) (known_past first sent st floor new.receiving) old new few i.spread.step.made
+        (known-more call f floor floor (omega arith)) (known-taken floor) k.floor.arrived call f (λ g in' same. absurd (subst IsOther same o)))
 
   pub keeps-other : (call : ReceiverCall) → IsOther call → ReceiverFollows call old new → Answered new → Keeps old.receiving → Keeps new.receiving
   keeps-other call o f after k = after-so call f k
