@@ -12,7 +12,8 @@ use Rattle.sctp_delivery.proofs.Names.{Session, of_receiver, of_sender, none-som
 use Rattle.sctp_delivery.proofs.Names.{after_forward_tsn, without_incomplete, advanced_ack_point, named_up_to, skip_end, chunks_waiting, reads_nothing_on}
 use Rattle.sctp_reassembly.specs.reassembly_queue.ReassemblyQueue.{is_complete_with}
 use Rattle.sctp_receiver.specs.Inbound.{has_number}
-use Rattle.sctp_delivery.specs.Ending.{left_on}
+use Rattle.sctp_delivery.proofs.Names.{Call, Limits, RunsTo, ap₂, at_start, common_steps, sum_by-cons}
+use Rattle.sctp_delivery.specs.Ending.{is_to_come, left_on}
 use Rattle.sctp_delivery.specs.ReceiverCalls.{reports}
 use Rattle.sctp_delivery.proofs.HeldCosts.{lefts-le}
 use Rattle.sctp_delivery.proofs.RoundsEnd.{ahead-of-sacks, leaves-fewer, all-go-on, found-in, same-next, same-pending, reporting-of}
@@ -24,7 +25,7 @@ use Rattle.sctp_delivery.proofs.Every.{Every, all-of-every, every-at, every-of-a
 use Rattle.sctp_delivery.proofs.GivenTsns.{IsNumbered, flight-given, passable-skip}
 use Rattle.sctp_delivery.proofs.PushesExist.{unordered-pushed, named, names}
 use Rattle.sctp_delivery.proofs.RefusedLaw.{limits-same, none-read-with-room}
-use Rattle.sctp_delivery.proofs.SackLaws.{pass-abandoned}
+use Rattle.sctp_delivery.proofs.SackLaws.{IsInStep, in-step, pass-abandoned}
 use Rattle.sctp_delivery.proofs.SackSteps.{known}
 use Rattle.sctp_delivery.proofs.TsnPlaces.{IsGiven, at-or-before, base, next-place, same-place}
 use Rattle.sctp_delivery.proofs.Delivered.{next_tsn}
@@ -135,6 +136,35 @@ can-again s c f d = grind (arith, nat_tests, not_both, or-split)
 come-known : (p n : ℕ) (kn : ℕ → Bool) (r : Reception) → n < 2 ^ 31 → IsArrived p n kn r.cumulative_tsn r.beyond → (t : ℕ) → IsGiven p n t
     → has_come t (filter_of r) ≡ true → kn t ≡ true
 come-known p n kn r few h t g e = grind (arith, nat_tests, at-or-before, one-of, or-split, same-is)
+
+-- no more is due than the chunks in flight count for that are to come
+module _ (first size max most : ℕ) (limits : Option Limits) (cs : List Call) (s : Session) (small : first < 2 ^ 32) (some : 0 < size)
+    (run : RunsTo (at_start first size max most limits) cs s) (few : tsns_given (at_start first size max most limits) cs s run < 2 ^ 31) where
+  abbrev n : ℕ
+  n = tsns_given (at_start first size max most limits) cs s run
+
+  step : IsInStep (base first) (tsns_given (at_start first size max most limits) cs s run) s
+  step = in-step first size max most limits cs s run small few
+
+  each-to-come : Every (λ c. is_due s.receiving.accepted c ≡ true → is_to_come s.receiving.receiver c ≡ true) (in_flight s)
+  each-to-come = every-of-all (λ c. is_due s.receiving.accepted c ≡ true → is_to_come s.receiving.receiver c ≡ true) (in_flight s) (λ k d lt e.
+      let c = get_or (in_flight s) k d in
+      let parts = due-parts s.receiving.accepted c e in
+      let g = every-at (λ (x : ChunkPayloadData). IsGiven (base first) n x.tsn) (in_flight s) k d lt (flight-given (base first) n (flight_of s) step.numbered) in
+      let fresh = fails (has_come c.tsn (filter_of s.receiving.receiver)) (λ h. elim (or-split (was_taken c.tsn s) (was_passed c.tsn s)
+      (come-known (base first) n (known s) s.receiving.receiver few step.arrived c.tsn g h)) [
+        | inl t ↦ not_both (sym parts.untaken ∙ t)
+        | inr t ↦ not_both (sym parts.kept ∙ pass-abandoned first size max most limits cs s run small few k d lt t)
+      ]) in
+      ap₂ (λ a b. not (a || b)) parts.kept fresh)
+
+  few-to-come : (xs : List ChunkPayloadData) → Every (λ c. is_due s.receiving.accepted c ≡ true → is_to_come s.receiving.receiver c ≡ true) xs
+      → due_by price s.receiving.accepted xs ≤ sum_by price (filter (is_to_come s.receiving.receiver) xs)
+  few-to-come [] e = omega arith
+  few-to-come (c ∷ cs') e = grind (arith, nat_tests, common_steps, sum_by-cons, few-to-come cs' e.1)
+
+  pub due-to-come : due_by price s.receiving.accepted (in_flight s) ≤ sum_by price (filter (is_to_come s.receiving.receiver) (in_flight s))
+  due-to-come = few-to-come (in_flight s) each-to-come
 
 pub some-of : {A : Type 0} (o : Option A) → is_some o ≡ true → (x : A) × (o ≡ Some x)
 some-of None e = absurd (not_both e)

@@ -19,10 +19,10 @@ use Rattle.sctp_receiver.proofs.Weights.{message_weight}
 use Rattle.sctp_receiver.specs.Credit.{cost_of_chunks}
 use Rattle.sctp_receiver.specs.Inbound.{has_number, numbers_of}
 use Rattle.sctp_delivery.specs.Ending.{AfterEachSessionWithTsnsLeft, EndsWhereTaken, EndsWithAllRead, begun_cost, cost_left, each_within, has_window}
-use Rattle.sctp_delivery.specs.Ending.{CanEnd, left_on, rest_cost, takes_each_of, waiting_cost}
-use Rattle.sctp_delivery.proofs.EndDelivers.{few-given, some-of}
+use Rattle.sctp_delivery.specs.Ending.{CanEnd, is_to_come, left_on, rest_cost, takes_each_of, waiting_cost}
+use Rattle.sctp_delivery.proofs.EndDelivers.{due-to-come, few-given, some-of}
 use Rattle.sctp_delivery.proofs.EndSessions.{after_sends, ends-in, sent, stands-started, there}
-use Rattle.sctp_delivery.proofs.EndSteps.{At, FitEach, RoomIn, Setting, all-due, apart-at, cost, due_by, pending_of, price, put-due, rest_of, start}
+use Rattle.sctp_delivery.proofs.EndSteps.{At, FitEach, RoomIn, Setting, apart-at, cost, due_by, pending_of, price, put-due, rest_of, start}
 use Rattle.sctp_delivery.proofs.Every.{Every, every-both, every-changed, every-of}
 use Rattle.sctp_delivery.proofs.HeldCosts.{IsUnder, lefts-le, prices, under-in}
 use Rattle.sctp_delivery.proofs.HeldInTheEnd.{IsBare, none-there}
@@ -266,11 +266,12 @@ module _ (b : Setting) (n : ℕ) (s : Session) (i : At b n s) (none : length (in
 
 -- ## The law
 
-room-each : (o : Option Limits) (s : Session) → has_window o s.sending.sender s.receiving.receiver ≡ true → RoomIn o s
-room-each None s h = tt
-room-each (Some l) s h =
+room-each : (o : Option Limits) (s : Session)
+    → due_by price s.receiving.accepted (in_flight s) ≤ sum_by price (filter (is_to_come s.receiving.receiver) (in_flight s)) → has_window o s.sending.sender s.receiving.receiver ≡ true → RoomIn o s
+room-each None s due-all h = tt
+room-each (Some l) s due-all h =
     let q = pending_of s in
-    let begun = begun_cost s.sending.sender in
+    let begun = begun_cost s.sending.sender s.receiving.receiver in
     let held = sum_by left_on s.receiving.receiver.streams + begun in
     let far = max (length (in_flight s)) (min 1 (chunks_waiting s.sending.sender)) in
     let a = both (nat_le far l.reach) ((begun == 0 || nat_le held l.window) && each_within l.window q) h in
@@ -278,7 +279,6 @@ room-each (Some l) s h =
     let d = both (list_all (λ c. nat_le (waiting_cost c.message_id q) l.window) q.ordered)
     (list_all (λ c. nat_le (waiting_cost c.message_id q) l.window) q.unordered) c.1 in
     let reach : far ≤ l.reach = le-of far l.reach a.0 in
-    let due-all = all-due price s.receiving.accepted (in_flight s) in
     let one = λ (x : ChunkPayloadData) (t : nat_le (waiting_cost x.message_id q) l.window ≡ true). le-of (waiting_cost x.message_id q) l.window t in (
       omega (arith, reach),
       λ some. omega (arith, reach, some),
@@ -299,7 +299,8 @@ pub all-end : AfterEachSessionWithTsnsLeft EndsWhereTaken
 all-end tsn size max most limits cs s small some run few takes now =
     let p = both (has_window s.receiving.receiver.limits s.sending.sender s.receiving.receiver)
     (nat_le s.sending.sender.max_message_size s.receiving.receiver.max_message_size) takes in
-    ends-in tsn size max most limits cs s small some run few p.1 grows-each (room-each limits s
+    ends-in tsn size max most limits cs s small some run few p.1 grows-each
+    (room-each limits s (due-to-come tsn size max most limits cs s small some run (omega (arith, few)))
     (subst (λ o. has_window o s.sending.sender s.receiving.receiver ≡ true) (limits-same cs (at_start tsn size max most limits) s run) p.0)) now
 
 pub all-read : AfterEachSessionWithTsnsLeft EndsWithAllRead
@@ -318,6 +319,7 @@ room-window (Some l) t r h =
     let os = prices q.ordered in
     let us = prices q.unordered in
     let less = lefts-le r.streams in
+    let fewer = weights.fewer (λ c. 0) price (is_to_come r) t.flight.queue.inflight.chunks in
     let some : (m : ℕ) → waiting_cost m q ≤ cost_of_chunks q.ordered + cost_of_chunks q.unordered = λ m.
     (let a = weights.fewer (λ c. 0) price (is_of m) q.ordered in let b = weights.fewer (λ c. 0) price (is_of m) q.unordered in omega (arith, a, b)) in
     let begun = rest q.selected some in
@@ -325,7 +327,7 @@ room-window (Some l) t r h =
     yes (waiting_cost c.message_id q) l.window (let x = some c.message_id in omega (arith, x, window, os, us)) in
     let ordered = all (λ c. nat_le (waiting_cost c.message_id q) l.window) each q.ordered in
     let unordered = all (λ c. nat_le (waiting_cost c.message_id q) l.window) each q.unordered in
-    grind (arith, nat_tests, p.0, window, flying, os, us, less, begun, ordered, unordered)
+    grind (arith, nat_tests, p.0, window, flying, fewer, os, us, less, begun, ordered, unordered)
   where
     q : Pending
     q = t.flight.queue.pending

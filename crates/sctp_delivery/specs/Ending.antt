@@ -1,6 +1,6 @@
 -- Calls that end a session exist (RFC 4960 6.2, 6.3.3; RFC 3758 3.5, 3.6).
 use Rattle.std.specs.Prelude.{◌≡◌, ℕ, ◌+◌, ◌*◌, ◌^◌, ◌<◌, ◌≤◌, Bool, true, false, ◌==◌, ◌&&◌, nat_le, nat_lt, List, [], length, Option, Some, None}
-use Rattle.std.specs.Prelude.{◌-◌, ◌||◌, max, min}
+use Rattle.std.specs.Prelude.{◌-◌, ◌||◌, max, min, not}
 use Rattle.std.specs.List.{filter, list_all, sum_by}
 use Rattle.sctp_outbound.specs.declared.pending_queue.Selected.{Selected}
 use Rattle.sctp_outbound.specs.Marks.{is_of}
@@ -13,7 +13,8 @@ use Rattle.sctp_receiver.specs.declared.receiver.inbound_streams.InboundStream.{
 use Rattle.sctp_receiver.specs.Credit.{cost_held_on, cost_of_chunks}
 use Rattle.sctp_receiver.specs.Drains.{due_on}
 use Rattle.sctp_receiver.specs.Limits.{chunk_cost, cost_of}
-use Rattle.sctp_receiver.specs.Receiver.{Reception}
+use Rattle.sctp_receiver.specs.Receiver.{Reception, filter_of}
+use Rattle.sctp_receiver.specs.TsnFilter.{has_come}
 use Rattle.sctp_sender.specs.declared.sender.flight.Released.{Released}
 use Rattle.sctp_sender.specs.Sender.{Transmission}
 use Rattle.sctp_sender.specs.SenderRuns.{held_by_sender}
@@ -72,10 +73,14 @@ each_within most q =
     list_all (λ c. nat_le (waiting_cost c.message_id q) most) q.ordered
     && list_all (λ c. nat_le (waiting_cost c.message_id q) most) q.unordered
 
--- what has to come before another message is begun: what is in flight, and what waits of the partially sent message
-abbrev pub begun_cost : Transmission → ℕ
-begun_cost t =
-    cost_of_chunks t.flight.queue.inflight.chunks
+-- it is in flight, did not come, and is of no message that is abandoned
+abbrev pub is_to_come : Reception → ChunkPayloadData → Bool
+is_to_come r c = not (c.abandoned || has_come c.tsn (filter_of r))
+
+-- what has to come before another message is begun: such chunks, and what waits of the partially sent message
+abbrev pub begun_cost : Transmission → Reception → ℕ
+begun_cost t r =
+    cost_of_chunks (filter (is_to_come r) t.flight.queue.inflight.chunks)
     + rest_cost t.flight.queue.pending.selected t.flight.queue.pending
 
 -- what a stream holds counts for without the messages that are to be read now, and no more than it counts
@@ -91,7 +96,7 @@ abbrev pub has_window : Option Limits → Transmission → Reception → Bool
 has_window None t r = true
 has_window (Some l) t r =
     nat_le (max (length t.flight.queue.inflight.chunks) (min 1 (chunks_waiting t))) l.reach
-    && ((begun_cost t == 0 || nat_le (sum_by left_on r.streams + begun_cost t) l.window)
+    && ((begun_cost t r == 0 || nat_le (sum_by left_on r.streams + begun_cost t r) l.window)
     && each_within l.window t.flight.queue.pending)
 
 -- so it is of the receiver, and it takes messages as long as the sender writes
