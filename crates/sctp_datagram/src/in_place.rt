@@ -36,14 +36,14 @@ use sctp_util::util::{CT_PAYLOAD_DATA, CT_SACK, ChunkType, get_padding_size};
 use std::alloc::Global;
 
 /// Whether a chunk of a type is read.
-pub fn is_read_type(typ: u8) -> bool
+pub(crate) fn is_read_type(typ: u8) -> bool
     ensures { result ≡ types.is_read_type typ }
 {
     typ <= 11 || typ == 14 || typ == 130 || typ == 192 || typ == 194
 }
 
 /// Whether a chunk of a type is read whole with its packet: all that are read, but for those whose value is a list of parameters or causes.
-pub fn is_whole_type(typ: u8) -> bool
+pub(crate) fn is_whole_type(typ: u8) -> bool
     ensures { result ≡ types.is_whole_type typ }
 {
     is_read_type(typ) && !(typ == 1 || typ == 2 || typ == 6 || typ == 9 || typ == 130)
@@ -51,7 +51,7 @@ pub fn is_whole_type(typ: u8) -> bool
 
 /// The length that the chunk declares that the bytes begin with, its header with it. They are all that follow from the chunk on, as with
 /// `ChunkHeader::unmarshal`, which refuses the same.
-pub fn chunk_length(bytes: &[u8]) -> Result<usize>
+pub(crate) fn chunk_length(bytes: &[u8]) -> Result<usize>
     ensures framed { OnOk result (IsFramed bytes.now) }
     ensures length { IfOk result (λ n. n ≡ declared_length bytes.now) }
     ensures fault { IfErr result (λ e. HeaderFault e bytes.now) }
