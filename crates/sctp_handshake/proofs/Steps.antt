@@ -77,7 +77,6 @@ module _ (m : Machine) (h : KnowsPeer m) where
 
   shutdown_asked_valid : (s : State) → is_some m.peer ≡ knows_peer s → KnowsPeer (shutdown_asked_row s m).machine
   shutdown_asked_valid CookieWait e = refl
-  shutdown_asked_valid CookieEchoed e = e
   shutdown_asked_valid Established e = e
   shutdown_asked_valid _ e = h
 
@@ -169,7 +168,6 @@ module _ (m : Machine) (h : IsDown m) where
 
   shutdown_asked_down : (s : State) → IsDown (shutdown_asked_row s m).machine
   shutdown_asked_down CookieWait = λ e. cc
-  shutdown_asked_down CookieEchoed = λ e. cc
   shutdown_asked_down Established = λ e. cc
   shutdown_asked_down _ = h
 

@@ -23,7 +23,7 @@ enters s a m = record { machine = into s m; answer = a }
 abbrev pub shutdown_asked_row : State → Machine → Step
 shutdown_asked_row Closed m = dropped m
 shutdown_asked_row CookieWait m = ends (noticed told.Closed) m
-shutdown_asked_row CookieEchoed m = enters ShutdownPending silent m
+shutdown_asked_row CookieEchoed m = dropped m
 shutdown_asked_row Established m = enters ShutdownPending silent m
 shutdown_asked_row ShutdownPending m = dropped m
 shutdown_asked_row ShutdownSent m = dropped m

@@ -18,6 +18,7 @@ pub enum ConnectError {
 }
 
 impl Machine {
+    ghost use Rattle.sctp_handshake.specs.Answers.{silent};
     ghost use Rattle.sctp_handshake.specs.Beginnings.{on_connect, init_reply, on_init_ack, init_ack_checked};
     ghost use Rattle.sctp_handshake.specs.Offers.{offer_fault};
     ghost use Rattle.sctp_handshake.specs.Machines.{Takes};
@@ -71,7 +72,9 @@ impl Machine {
     /// An INIT ACK came (RFC 9260 5.1 C, 5.2.3): the cookie in it is to be echoed. In each state but `CookieWait` it is dropped. An ABORT
     /// has its tag.
     pub fn init_ack(&mut self, peer: Offer) -> Answer
-        ensures { Takes (on_init_ack peer self.old) self.new result }
+        ensures takes { Takes (on_init_ack peer self.old) self.new result }
+        // What is not answered changes nothing.
+        ensures dropped { result ≡ silent → self.new ≡ self.old }
     {
         if self.state != State::CookieWait {
             return Answer::silent();

@@ -25,6 +25,7 @@ pub enum CookieRow {
 }
 
 impl Machine {
+    ghost use Rattle.sctp_handshake.specs.Answers.{silent};
     ghost use Rattle.sctp_handshake.specs.Cookies.{are_tie_tags, row_of, established_by, established, renewal_row, repeat_row, on_cookie_echo, on_cookie_ack, on_stale_cookie};
     ghost use Rattle.sctp_handshake.specs.Machines.{Takes, tie_tags_of};
 
@@ -106,7 +107,9 @@ impl Machine {
     /// A COOKIE ECHO came, whose cookie this side made, with this ticket (RFC 9260 5.1 D, 5.2.4). `is_stale` says that the life of the
     /// cookie is over. `StaleCookie` and `CookieWhileShuttingDown` go to the tag of the ticket's peer.
     pub fn cookie_echo(&mut self, ticket: Ticket, is_stale: bool) -> Answer
-        ensures { Takes (on_cookie_echo ticket is_stale self.old) self.new result }
+        ensures takes { Takes (on_cookie_echo ticket is_stale self.old) self.new result }
+        // What is not answered changes nothing.
+        ensures dropped { result ≡ silent → self.new ≡ self.old }
     {
         match self.row(&ticket) {
             CookieRow::Repeat => self.repeat(),
@@ -118,7 +121,9 @@ impl Machine {
 
     /// A COOKIE ACK came (RFC 9260 5.1 E). In each state but `CookieEchoed` it is dropped (5.2.5).
     pub fn cookie_ack(&mut self) -> Answer
-        ensures { Takes (on_cookie_ack self.old) self.new result }
+        ensures takes { Takes (on_cookie_ack self.old) self.new result }
+        // What is not answered changes nothing.
+        ensures dropped { result ≡ silent → self.new ≡ self.old }
     {
         if self.state != State::CookieEchoed {
             return Answer::silent();
@@ -130,7 +135,9 @@ impl Machine {
     /// An ERROR with the cause Stale Cookie came (RFC 9260 5.2.6). In `CookieEchoed` the handshake begins again with the same INIT, at most
     /// Max.Init.Retransmits times (as usrsctp counts them); in other states it is dropped.
     pub fn stale_cookie(&mut self) -> Answer
-        ensures { Takes (on_stale_cookie self.old) self.new result }
+        ensures takes { Takes (on_stale_cookie self.old) self.new result }
+        // What is not answered changes nothing.
+        ensures dropped { result ≡ silent → self.new ≡ self.old }
     {
         if self.state != State::CookieEchoed {
             return Answer::silent();

@@ -7,11 +7,13 @@ use crate::answer::{AbortCause, Answer, Reply, Told};
 use crate::state::State;
 
 impl Machine {
+    ghost use Rattle.sctp_handshake.specs.Answers.{silent};
     ghost use Rattle.sctp_handshake.specs.Endings.{on_shutdown_asked, on_drained, on_shutdown, on_shutdown_ack, on_shutdown_complete, on_abort, on_abort_asked};
     ghost use Rattle.sctp_handshake.specs.Machines.{Takes};
 
-    /// The application asks for a shutdown (RFC 9260 9.2): what waits is still sent. In `CookieWait` the attempt is ended; where a
-    /// shutdown is under way the call does nothing. Call `drained` as soon as nothing waits or is in flight.
+    /// The application asks for a shutdown (RFC 9260 9.2): what waits is still sent. In `CookieWait` the attempt is ended. In
+    /// `CookieEchoed` nothing happens: ask again once the association stands, since a lost COOKIE ECHO is sent again in that state alone.
+    /// Call `drained` as soon as nothing waits or is in flight.
     pub fn shutdown_asked(&mut self) -> Answer
         ensures { Takes (on_shutdown_asked self.old) self.new result }
     {
@@ -20,7 +22,7 @@ impl Machine {
                 self.close();
                 Answer::noticed(Told::Closed)
             }
-            State::CookieEchoed | State::Established => {
+            State::Established => {
                 self.enter(State::ShutdownPending);
                 Answer::silent()
             }
@@ -48,7 +50,9 @@ impl Machine {
 
     /// A SHUTDOWN came (RFC 9260 9.2). Its cumulative TSN is for the caller, and then `drained` where it leaves nothing in flight.
     pub fn shutdown(&mut self) -> Answer
-        ensures { Takes (on_shutdown self.old) self.new result }
+        ensures takes { Takes (on_shutdown self.old) self.new result }
+        // What is not answered changes nothing.
+        ensures dropped { result ≡ silent → self.new ≡ self.old }
     {
         match self.state {
             State::Established | State::ShutdownPending => {
@@ -66,7 +70,9 @@ impl Machine {
 
     /// A SHUTDOWN ACK came (RFC 9260 9.2). In `Closed`, `CookieWait` and `CookieEchoed` it is out of the blue (8.4, 8.5.1 E).
     pub fn shutdown_ack(&mut self) -> Answer
-        ensures { Takes (on_shutdown_ack self.old) self.new result }
+        ensures takes { Takes (on_shutdown_ack self.old) self.new result }
+        // What is not answered changes nothing.
+        ensures dropped { result ≡ silent → self.new ≡ self.old }
     {
         match self.state {
             State::Closed | State::CookieWait | State::CookieEchoed => {
@@ -85,7 +91,9 @@ impl Machine {
 
     /// A SHUTDOWN COMPLETE came (RFC 9260 9.2). In each state but `ShutdownAckSent` it is dropped (8.5.1 C).
     pub fn shutdown_complete(&mut self) -> Answer
-        ensures { Takes (on_shutdown_complete self.old) self.new result }
+        ensures takes { Takes (on_shutdown_complete self.old) self.new result }
+        // What is not answered changes nothing.
+        ensures dropped { result ≡ silent → self.new ≡ self.old }
     {
         if self.state != State::ShutdownAckSent {
             return Answer::silent();
@@ -96,7 +104,9 @@ impl Machine {
 
     /// An ABORT came (RFC 9260 9.1).
     pub fn abort(&mut self) -> Answer
-        ensures { Takes (on_abort self.old) self.new result }
+        ensures takes { Takes (on_abort self.old) self.new result }
+        // What is not answered changes nothing.
+        ensures dropped { result ≡ silent → self.new ≡ self.old }
     {
         if self.state == State::Closed {
             return Answer::silent();
