@@ -1,1 +1,4 @@
 pub mod Halving
+pub mod Reading
+pub mod Rounding
+pub mod Walk

@@ -60,10 +60,15 @@ name_at bytes at =
 abbrev pub fits : Fragment → ℕ → ℕ → Bool
 fits f place count = (f.place == place) && (if place + 1 == count then f.is_last else not f.is_last)
 
+abbrev pub FitEach : List Fragment → Type 0
+FitEach fragments =
+    (k : ℕ) (d : Fragment) → k < length fragments
+    → fits (slice_index_or fragments k d) k (length fragments) ≡ true
+
 -- from the first fragment to the one that ends it, none is missing
 pub record IsMessage (fragments : List Fragment) : Type 0 where
   pub some : 0 < length fragments
-  pub fitting : (k : ℕ) (d : Fragment) → k < length fragments → fits (slice_index_or fragments k d) k (length fragments) ≡ true
+  pub fitting : FitEach fragments
 
 -- the bytes of a message: those of its fragments, one behind the other
 abbrev pub payload_of : List Fragment → List ℕ

@@ -1,8 +1,11 @@
 pub mod Flow
 pub mod Outstanding
 pub mod Blocks
+pub mod Channels
 pub mod Interleave
+pub mod Lanes
 pub mod Ladder
 pub mod Sack
 pub mod Plot
 pub mod Stall
+pub mod Trips

@@ -18,7 +18,15 @@ first_block bytes = if type_at bytes == 3 then 16 else 20
 abbrev pub said_blocks : List ℕ → ℕ
 said_blocks bytes = u16_at bytes 12 + (if type_at bytes == 3 then 0 else u16_at bytes 14)
 
--- how many of these are there
+-- how many duplicate TSNs it says
+abbrev pub said_duplicates : List ℕ → ℕ
+said_duplicates bytes = u16_at bytes (if type_at bytes == 3 then 14 else 16)
+
+-- all that stands before its blocks is there
+abbrev pub has_counts : List ℕ → Bool
+has_counts bytes = is_sack bytes && leb (first_block bytes) (length bytes)
+
+-- how many of its blocks are there
 abbrev pub block_count : List ℕ → ℕ
 block_count bytes = min (said_blocks bytes) ((length bytes - first_block bytes) / 4)
 

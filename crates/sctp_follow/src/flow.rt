@@ -8,7 +8,9 @@ ghost use Rattle.sctp_util.specs.Field.{u32_at};
 ghost use Rattle.sctp_chunks.specs.Framing.{type_at};
 ghost use Rattle.sctp_follow.specs.Flow as flows;
 ghost use Rattle.sctp_follow.specs.Flow.{counted, base_after};
+ghost use Rattle.sctp_follow.specs.Sack as sacks;
 
+use crate::sack::said_of;
 use sctp_capture::record::Time;
 use sctp_dissect::dissection::Item;
 use sctp_serial::serial::distance;
@@ -232,17 +234,24 @@ impl Flow {
         Ok(())
     }
 
-    /// Notes what a SACK reports (RFC 4960 3.3.4), or to where a FORWARD-TSN skips (RFC 3758 3.2, RFC 8260 2.3.1).
+    /// Notes what a SACK or an NR-SACK reports (RFC 9260 3.3.4), or to where a FORWARD-TSN skips (RFC 3758 3.2, RFC 8260 2.3.1).
     fn note_report(&mut self, typ: u8, bytes: &[u8])
+        ensures gaps { sacks.has_counts bytes.now ≡ true → self.new.gap_blocks
+            ≡ counted self.old.gap_blocks (sacks.said_blocks bytes.now) }
+        ensures twice { sacks.has_counts bytes.now ≡ true → self.new.duplicates
+            ≡ counted self.old.duplicates (sacks.said_duplicates bytes.now) }
+        ensures silent { sacks.has_counts bytes.now ≡ false
+            → (self.new.gap_blocks ≡ self.old.gap_blocks)
+            × (self.new.duplicates ≡ self.old.duplicates) }
         ensures chunks { self.new.data_chunks ≡ self.old.data_chunks }
         ensures bytes { self.new.data_bytes ≡ self.old.data_bytes }
         ensures repeated { self.new.repeated ≡ self.old.repeated }
         ensures tsns { self.new.tsns ≡ self.old.tsns }
         ensures kinds { self.new.kinds ≡ self.old.kinds }
     {
-        if typ == 3 && bytes.len() >= 16 {
-            self.gap_blocks = counted(self.gap_blocks, read_u16(bytes, 12) as u64);
-            self.duplicates = counted(self.duplicates, read_u16(bytes, 14) as u64);
+        if let Some(said) = said_of(bytes) {
+            self.gap_blocks = counted(self.gap_blocks, said.blocks as u64);
+            self.duplicates = counted(self.duplicates, said.duplicates as u64);
         }
         if (typ == 192 || typ == 194) && bytes.len() >= 8 {
             self.skipped_to = Some(read_u32(bytes, 4));

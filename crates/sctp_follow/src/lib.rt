@@ -3,10 +3,12 @@
 
 pub mod associations;
 pub mod blocks;
+pub mod channels;
 pub mod flow;
 pub mod index;
 pub mod interleave;
 pub mod ladder;
+pub mod lanes;
 pub mod outstanding;
 pub mod packet;
 pub mod plot;

@@ -1,18 +1,13 @@
 //! A packet of a record.
 
 use crate::flow::Extent;
-use crate::sack::read_sack;
+use crate::sack::{NR_SACK, SACK, read_sack};
 use sctp_capture::record::Time;
 use sctp_data::chunk::chunk_selective_ack::ChunkSelectiveAck;
 use sctp_dissect::dissection::{Dissection, Item, Reading};
 use sctp_util::error::Error;
 use std::alloc::{AllocError, Global};
 use std::net::IpAddr;
-
-/// The types of chunks that acknowledge others: SACK (RFC 9260 3.3.4) and NR-SACK (draft-natarajan-tsvwg-sctp-nrsack).
-const SACK: u8 = 3;
-
-const NR_SACK: u8 = 16;
 
 /// With which record a chunk came, and when.
 #[derive(Clone, Copy)]

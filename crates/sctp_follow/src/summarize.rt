@@ -98,21 +98,9 @@ fn take_record<T: Take, W: Write>(
     Ok(if is_shown { 1 } else { 0 })
 }
 
-/// Writes what is written at the end.
-fn finish<T: Take, W: Write>(
-    alloc: Global,
-    counts: Counts,
-    taker: &mut T,
-    output: &mut W,
-) -> Result<(), RunFault> {
-    let text = taker.end(alloc, counts)?;
-    write_text(output, &text)
-}
-
 /// Reads each record of an input, has its packet taken, and writes what is written of it, until as many as are to be shown at most have
-/// what is asked for. What was written is sent off before more of the input is waited for. Answers how many records were read, how many
-/// have no frame, and how many packets are shown. An input of a kind that is known, but not read, is refused.
-pub fn summarize<R: Read + Drop, T: Take, W: Write>(
+/// what is asked for. What was written is sent off before more of the input is waited for.
+fn take_each<R: Read + Drop, T: Take, W: Write>(
     alloc: Global,
     options: &Options,
     input: R,
@@ -126,28 +114,25 @@ pub fn summarize<R: Read + Drop, T: Take, W: Write>(
     let mut section = Section::new(alloc);
     let mut zero_tags = ZeroTags::new(alloc);
     let mut start: Option<Time> = None;
-    let (mut records, mut unread, mut shown) = (0u64, 0u64, 0u64);
-    'pieces: for turn in 0..u64::MAX {
-        let _turn = turn;
-        let counts = Counts {
-            records,
-            unread,
-            shown,
-        };
-        if shown >= options.limit {
-            finish(alloc, counts, taker, output)?;
+    let mut counts = Counts {
+        records: 0,
+        unread: 0,
+        shown: 0,
+    };
+    'pieces: for _piece in 0..u64::MAX {
+        if counts.shown >= options.limit {
             return Ok(counts);
         }
         send_off(output, holds_piece(format, &section, window.held()))?;
         match next_piece(alloc, &mut window, &mut section, format)? {
             Taken::Record(record) => {
-                records += 1;
-                unread += unread_of(&record);
+                counts.records += 1;
+                counts.unread += unread_of(&record);
                 start = start.or(record.time);
-                shown += take_record(
+                counts.shown += take_record(
                     alloc,
                     options,
-                    records,
+                    counts.records,
                     &record,
                     &start,
                     &mut zero_tags,
@@ -156,11 +141,25 @@ pub fn summarize<R: Read + Drop, T: Take, W: Write>(
                 )?;
             }
             Taken::Nothing => {}
-            Taken::End => {
-                finish(alloc, counts, taker, output)?;
-                return Ok(counts);
-            }
+            Taken::End => return Ok(counts),
         }
     }
     Err(RunFault::Input(None))
+}
+
+/// Has the packets of an input taken, as `take_each` does, and writes what is written at the end. Answers how many records were read, how many
+/// have no frame, and how many packets are shown. An input of a kind that is known, but not read, is refused.
+pub fn summarize<R: Read + Drop, T: Take, W: Write>(
+    alloc: Global,
+    options: &Options,
+    input: R,
+    taker: &mut T,
+    output: &mut W,
+) -> Result<Counts, RunFault>
+    ensures { IfOk result (λ counts. counts.shown ≤ options.now.limit) }
+{
+    let counts = take_each(alloc, options, input, taker, output)?;
+    let text = taker.end(alloc, counts)?;
+    write_text(output, &text)?;
+    Ok(counts)
 }

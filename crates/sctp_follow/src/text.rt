@@ -2,6 +2,7 @@
 
 use crate::associations::{Association, Associations};
 use crate::flow::Flow;
+use crate::sack::{NR_SACK, SACK};
 use crate::trips::Spread;
 use itoa::Buffer;
 use sctp_capture::record::Time;
@@ -153,9 +154,9 @@ fn put_data(text: &mut String, form: Form, flow: &Flow) -> Result<(), AllocError
     put_streams(text, form, flow)
 }
 
-/// What SACKs and FORWARD-TSNs say, if there are any.
+/// What SACKs, NR-SACKs and FORWARD-TSNs say, if there are any.
 fn put_reports(text: &mut String, form: Form, flow: &Flow) -> Result<(), AllocError> {
-    if flow.count_of(3) > 0 {
+    if flow.count_of(SACK) > 0 || flow.count_of(NR_SACK) > 0 {
         put_count(text, form, "Gap ack blocks", "gap_blocks", flow.gap_blocks)?;
         put_count(text, form, "Duplicate TSNs", "duplicates", flow.duplicates)?;
     }

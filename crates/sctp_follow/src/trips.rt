@@ -1,6 +1,8 @@
 //! The round trips of a way: the least, the median and the most.
 
-ghost use Rattle.std.specs.Prelude.{◌≤◌, ◌<◌};
+ghost use Rattle.std.specs.Prelude.{◌≡◌, nat_lt, min, is_some, IfSome, OnOk, OnErr};
+ghost use Rattle.std.specs.BTreeMap as trees;
+ghost use Rattle.sctp_follow.specs.Trips as trips;
 
 use crate::flow::counted;
 use sctp_show::time::Elapsed;
@@ -30,31 +32,34 @@ pub struct Spread {
     pub most: Elapsed,
 }
 
-/// The unit of the third digit of a number, as a power of ten.
-fn unit_of(number: u64) -> u64
-    ensures { 0 < result }
+/// A number rounded down to three digits: 20 is as many digits as a `u64` has.
+fn rounded(number: u64) -> u64
+    ensures { result ≡ trips.rounded 20 number }
 {
     let (mut unit, mut rest) = (1u64, number);
-    'digits: for digit in 0..20u8 {
-        let _digit = digit;
+    'digits: for _digit in 0..20u8 {
         if rest >= DIGITS {
             rest = rest / 10;
-            unit = unit.saturating_mul(10);
+            unit = unit * 10;
         }
     }
-    unit
+    unit * rest
 }
 
-/// A number rounded down to three digits.
-fn rounded(number: u64) -> u64
-    ensures { result ≤ number }
+/// A number, or the greatest `u64` in place of a greater one.
+fn capped(number: u128) -> u64
+    ensures { result ≡ min number u64.MAX }
 {
-    let unit = unit_of(number);
-    number - number % unit
+    if number > u64::MAX as u128 {
+        return u64::MAX;
+    }
+    number as u64
 }
 
 /// A time of so many nanoseconds.
-fn elapsed(nanoseconds: u64, is_fine: bool) -> Elapsed {
+fn elapsed(nanoseconds: u64, is_fine: bool) -> Elapsed
+    ensures { result.nanoseconds ≡ nanoseconds }
+{
     Elapsed {
         is_before: false,
         nanoseconds: nanoseconds as u128,
@@ -64,7 +69,9 @@ fn elapsed(nanoseconds: u64, is_fine: bool) -> Elapsed {
 
 impl Trips {
     /// None yet.
-    pub fn new(alloc: Global) -> Self {
+    pub fn new(alloc: Global) -> Self
+        ensures { trips.IsEmpty result }
+    {
         Trips {
             counts: BTreeMap::new(alloc),
             total: 0,
@@ -75,8 +82,12 @@ impl Trips {
     }
 
     /// Counts a round trip. Refuses only for memory.
-    pub fn note(&mut self, trip: &Elapsed) -> Result<(), AllocError> {
-        let nanoseconds = u64::try_from(trip.nanoseconds).unwrap_or(u64::MAX);
+    pub fn note(&mut self, trip: &Elapsed) -> Result<(), AllocError>
+        ensures ok { OnOk result (trips.IsNoted (min trip.now.nanoseconds u64.MAX) self.old self.new) }
+        ensures err { OnErr result (self.new.total ≡ self.old.total) }
+        ensures err_counts { OnErr result (trees.IsUnchanged self.old.counts self.new.counts) }
+    {
+        let nanoseconds = capped(trip.nanoseconds);
         let key = rounded(nanoseconds);
         let count = self.counts.get(&key).copied().unwrap_or(0);
         if self.counts.insert(key, counted(count, 1)).is_err() {
@@ -102,7 +113,11 @@ impl Trips {
     }
 
     /// What there is to say of them, if there are any.
-    pub fn spread(&self) -> Option<Spread> {
+    pub fn spread(&self) -> Option<Spread>
+        ensures which { is_some result ≡ nat_lt 0 self.now.total }
+        ensures least { IfSome result (λ spread. spread.least.nanoseconds ≡ self.now.least) }
+        ensures most { IfSome result (λ spread. spread.most.nanoseconds ≡ self.now.most) }
+    {
         if self.total == 0 {
             return None;
         }

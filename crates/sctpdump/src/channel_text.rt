@@ -1,14 +1,23 @@
 //! A data channel as it is printed: as text or as JSON.
 
-use crate::channels::{Carried, Channel, Closing, Opening};
 use crate::text::Style;
 use sctp_capture::record::Time;
 use sctp_follow::associations::Way;
+use sctp_follow::channels::{Carried, Channel, Closing, Opening, Stream};
 use sctp_follow::packet::Arrived;
 use sctp_show::dcep::channel_name;
 use sctp_show::page::{Form, put_quoted};
 use sctp_show::time::time_since;
 use std::alloc::AllocError;
+
+/// How channels are printed, and of which association they are.
+#[derive(Clone, Copy)]
+pub struct Place {
+    pub style: Style,
+    /// The first time that a record had.
+    pub start: Option<Time>,
+    pub association: usize,
+}
 
 /// With which record something came, and when.
 fn put_arrived(
@@ -93,14 +102,13 @@ fn put_carried(text: &mut String, way: Way, carried: &Carried) -> Result<(), All
 /// A channel as a line.
 fn put_line(
     text: &mut String,
-    style: Style,
-    start: &Option<Time>,
+    place: &Place,
+    stream: u16,
     channel: &Channel,
 ) -> Result<(), AllocError> {
-    let stream = channel.stream;
     write!(text, "s{stream}")?;
-    put_opening(text, style, start, &channel.opening)?;
-    put_closing(text, style, start, &channel.closing)?;
+    put_opening(text, place.style, &place.start, &channel.opening)?;
+    put_closing(text, place.style, &place.start, &channel.closing)?;
     put_carried(text, Way::Forth, &channel.forth)?;
     put_carried(text, Way::Back, &channel.back)?;
     text.push_str("\n")
@@ -147,8 +155,12 @@ fn put_carried_object(text: &mut String, key: &str, carried: &Carried) -> Result
 }
 
 /// A channel as JSON.
-fn put_object(text: &mut String, association: usize, channel: &Channel) -> Result<(), AllocError> {
-    let stream = channel.stream;
+fn put_object(
+    text: &mut String,
+    association: usize,
+    stream: u16,
+    channel: &Channel,
+) -> Result<(), AllocError> {
     write!(text, "{{\"association\":{association},\"stream\":{stream}")?;
     if let Some(opening) = &channel.opening {
         put_opening_members(text, opening)?;
@@ -161,16 +173,28 @@ fn put_object(text: &mut String, association: usize, channel: &Channel) -> Resul
     text.push_str("}\n")
 }
 
-/// Appends a channel of an association.
-pub fn put_channel(
+/// Appends a channel.
+fn put_channel(
     text: &mut String,
-    style: Style,
-    start: &Option<Time>,
-    association: usize,
+    place: &Place,
+    stream: u16,
     channel: &Channel,
 ) -> Result<(), AllocError> {
-    match style.form {
-        Form::Text => put_line(text, style, start, channel),
-        Form::Json => put_object(text, association, channel),
+    match place.style.form {
+        Form::Text => put_line(text, place, stream, channel),
+        Form::Json => put_object(text, place.association, stream, channel),
     }
+}
+
+/// Appends the channels of a stream, in the order in which they were opened.
+pub fn put_channels(
+    text: &mut String,
+    place: &Place,
+    stream: u16,
+    channels: &Stream,
+) -> Result<(), AllocError> {
+    for channel in &channels.earlier {
+        put_channel(text, place, stream, channel)?;
+    }
+    put_channel(text, place, stream, &channels.last)
 }

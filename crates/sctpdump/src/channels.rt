@@ -1,6 +1,9 @@
 //! The data channels of an input (RFC 8831): what was opened, what each carried, and who closed it.
 
-use crate::channel_text::put_channel;
+ghost use Rattle.std.specs.Prelude.{◌≡◌, true};
+ghost use Rattle.sctp_show.specs.Filter as filters;
+
+use crate::channel_text::{Place, put_channels};
 use crate::text::{Style, put_name};
 use sctp_capture::record::Time;
 use sctp_chunks::chunk::chunk_kind::ChunkKind;
@@ -8,75 +11,25 @@ use sctp_chunks::chunk::chunk_reconfig::ChunkReconfig;
 use sctp_data::chunk::chunk_selective_ack::ChunkSelectiveAck;
 use sctp_dissect::dissection::{Item, Reading};
 use sctp_follow::associations::{Associations, Way};
-use sctp_follow::flow::{counted, payload_length};
+use sctp_follow::channels::{Channels as Rows, Closing, Event, first_of, opening_of};
 use sctp_follow::outstanding::{Outstanding, Sending, forward_of};
 use sctp_follow::packet::{Arrived, Packet, refused_sack};
 use sctp_follow::summarize::Take;
 use sctp_follow::text::put_end;
 use sctp_params::param::param_kind::ParamKind;
 use sctp_show::brief::DCEP;
-use sctp_show::dcep::{Message, Open, read_message};
+use sctp_show::dcep::{Message, read_message};
 use sctp_show::filter::{is_data, payload_type_of};
 use sctp_show::run::Counts;
 use sctp_util::field::{read_u16, read_u32};
 use std::alloc::{AllocError, Global};
-use std::collections::BTreeMap;
 
-/// The payload protocol identifiers of empty messages, which one byte stands for (RFC 8831 6.6).
-const STRING_EMPTY: u32 = 56;
-
-const BINARY_EMPTY: u32 = 57;
-
-/// What a DATA_CHANNEL_OPEN says (RFC 8832 5.1).
-#[derive(Drop)]
-pub struct Opening {
-    pub way: Way,
-    pub arrived: Arrived,
-    pub channel_type: u8,
-    pub priority: u16,
-    pub reliability: u32,
-    pub label: Vec<u8>,
-    pub protocol: Vec<u8>,
-}
-
-/// With which record the first request came that resets the channel's stream (RFC 8831 6.7), and which way.
-#[derive(Clone, Copy)]
-pub struct Closing {
-    pub way: Way,
-    pub arrived: Arrived,
-}
-
-/// What went one way on a channel.
-#[derive(Clone, Copy)]
-pub struct Carried {
-    /// Messages of which the last chunk was sent, but for those of DCEP.
-    pub messages: u64,
-    /// The bytes of messages in chunks, each chunk counted once.
-    pub bytes: u64,
-    /// How often chunks were sent again.
-    pub again: u64,
-    /// How many chunks a FORWARD-TSN abandoned.
-    pub abandoned: u64,
-}
-
-/// A data channel, or a stream of which no DATA_CHANNEL_OPEN was captured.
-#[derive(Drop)]
-pub struct Channel {
-    pub stream: u16,
-    pub opening: Option<Opening>,
-    pub closing: Option<Closing>,
-    pub forth: Carried,
-    pub back: Carried,
-}
-
-/// The channels of an association.
+/// The chunks of an association that are outstanding, and its channels.
 #[derive(Drop)]
 struct Pair {
     forth: Outstanding,
     back: Outstanding,
-    channels: Vec<Channel>,
-    /// Where the last channel of each stream stands.
-    places: BTreeMap<u16, usize>,
+    rows: Rows,
 }
 
 /// The channels of an input.
@@ -85,32 +38,6 @@ pub struct Channels {
     style: Style,
     associations: Associations,
     pairs: Vec<Pair>,
-}
-
-/// Nothing went yet.
-const NOTHING: Carried = Carried {
-    messages: 0,
-    bytes: 0,
-    again: 0,
-    abandoned: 0,
-};
-
-/// Keeps what a DATA_CHANNEL_OPEN says.
-fn opening_of(
-    alloc: Global,
-    open: &Open<'_>,
-    way: Way,
-    arrived: Arrived,
-) -> Result<Opening, AllocError> {
-    Ok(Opening {
-        way,
-        arrived,
-        channel_type: open.channel_type,
-        priority: open.priority,
-        reliability: open.reliability,
-        label: Vec::from_slice(alloc, open.label)?,
-        protocol: Vec::from_slice(alloc, open.protocol)?,
-    })
 }
 
 /// The bytes of a message that DATA or I-DATA has, as far as they are there.
@@ -126,51 +53,13 @@ fn user_data(bytes: &[u8]) -> &[u8] {
     b""
 }
 
-impl Carried {
-    /// Counts DATA or I-DATA that is sent for the first time, and is none of DCEP.
-    fn note(&mut self, bytes: &[u8], payload_type: Option<u32>) {
-        if !is_data(bytes) {
-            return;
-        }
-        if bytes[1] % 2 == 1 {
-            self.messages = counted(self.messages, 1);
-        }
-        match payload_type {
-            Some(STRING_EMPTY) | Some(BINARY_EMPTY) => {}
-            _ => self.bytes = counted(self.bytes, payload_length(bytes)),
-        }
-    }
-}
-
-impl Channel {
-    /// Nothing is known of it but its stream.
-    fn new(stream: u16) -> Self {
-        Channel {
-            stream,
-            opening: None,
-            closing: None,
-            forth: NOTHING,
-            back: NOTHING,
-        }
-    }
-
-    /// What went this way.
-    fn carried(&mut self, way: Way) -> &mut Carried {
-        match way {
-            Way::Forth => &mut self.forth,
-            Way::Back => &mut self.back,
-        }
-    }
-}
-
 impl Pair {
     /// Nothing came yet.
     fn new(alloc: Global) -> Self {
         Pair {
             forth: Outstanding::new(alloc),
             back: Outstanding::new(alloc),
-            channels: Vec::new(alloc),
-            places: BTreeMap::new(alloc),
+            rows: Rows::new(alloc),
         }
     }
 
@@ -182,81 +71,28 @@ impl Pair {
         }
     }
 
-    /// Adds a channel of this stream.
-    fn add(&mut self, stream: u16) -> Result<usize, AllocError> {
-        let at = self.channels.len();
-        self.channels.push(Channel::new(stream))?;
-        match self.places.insert(stream, at) {
-            Ok(_) => Ok(at),
-            Err(_) => Err(AllocError),
-        }
-    }
-
-    /// Where the last channel of a stream stands, or a new one.
-    fn place_of(&mut self, stream: u16) -> Result<usize, AllocError> {
-        match self.places.get(&stream) {
-            Some(at) => Ok(*at),
-            None => self.add(stream),
-        }
-    }
-
-    /// Keeps what a DATA_CHANNEL_OPEN says: of a channel that is known only by its data, or of a new one.
-    fn note_open(&mut self, stream: u16, opening: Opening) -> Result<(), AllocError> {
-        let mut at = self.place_of(stream)?;
-        if let Some(channel) = self.channels.get(at)
-            && (channel.opening.is_some() || channel.closing.is_some())
-        {
-            at = self.add(stream)?;
-        }
-        if let Some(channel) = self.channels.get_mut(at) {
-            channel.opening = Some(opening);
-        }
-        Ok(())
-    }
-
-    /// Notes DATA or I-DATA of a stream that is sent for the first time.
-    fn note_first(
+    /// Takes DATA or I-DATA of a stream that is sent for the first time: of DCEP only a DATA_CHANNEL_OPEN counts.
+    /// Precondition: it is one of them.
+    fn take_first(
         &mut self,
         alloc: Global,
         way: Way,
         stream: u16,
         bytes: &[u8],
         arrived: Arrived,
-    ) -> Result<(), AllocError> {
-        let payload_type = payload_type_of(bytes);
-        if payload_type == Some(DCEP) {
-            return match read_message(user_data(bytes)) {
-                Some(Message::Open(open)) => {
-                    self.note_open(stream, opening_of(alloc, &open, way, arrived)?)
-                }
-                _ => Ok(()),
-            };
+    ) -> Result<(), AllocError>
+        requires { filters.is_data bytes.now ≡ true }
+    {
+        if payload_type_of(bytes) != Some(DCEP) {
+            return self.rows.note(alloc, way, stream, first_of(bytes));
         }
-        let at = self.place_of(stream)?;
-        if let Some(channel) = self.channels.get_mut(at) {
-            channel.carried(way).note(bytes, payload_type);
+        match read_message(user_data(bytes)) {
+            Some(Message::Open(open)) => {
+                let opening = opening_of(alloc, &open, way, arrived)?;
+                self.rows.open(alloc, stream, opening)
+            }
+            _ => Ok(()),
         }
-        Ok(())
-    }
-
-    /// Counts a chunk of a stream that is sent again.
-    fn note_again(&mut self, way: Way, stream: u16) -> Result<(), AllocError> {
-        let at = self.place_of(stream)?;
-        if let Some(channel) = self.channels.get_mut(at) {
-            let carried = channel.carried(way);
-            carried.again = counted(carried.again, 1);
-        }
-        Ok(())
-    }
-
-    /// Counts a chunk of a stream that a FORWARD-TSN abandons.
-    fn note_abandoned(&mut self, way: Way, stream: u16) -> Result<(), AllocError> {
-        let at = self.place_of(stream)?;
-        if let Some(channel) = self.channels.get_mut(at) {
-            let carried = channel.carried(way);
-            carried.abandoned = counted(carried.abandoned, 1);
-        }
-        Ok(())
     }
 
     /// Takes DATA or I-DATA that goes this way.
@@ -274,8 +110,10 @@ impl Pair {
         let side = self.side(way);
         side.make_room();
         match side.send(tsn, stream, arrived)? {
-            Sending::First => self.note_first(alloc, way, stream, bytes, arrived),
-            Sending::Again(_) | Sending::Late(_) => self.note_again(way, stream),
+            Sending::First => self.take_first(alloc, way, stream, bytes, arrived),
+            Sending::Again(_) | Sending::Late(_) => {
+                self.rows.note(alloc, way, stream, Event::Again)
+            }
         }
     }
 
@@ -295,30 +133,9 @@ impl Pair {
     fn take_forward(&mut self, alloc: Global, way: Way, tsn: u32) -> Result<(), AllocError> {
         let abandoned = self.side(way).take_forward(alloc, tsn)?;
         for sent in &abandoned {
-            self.note_abandoned(way, sent.stream)?;
+            self.rows.note(alloc, way, sent.stream, Event::Abandoned)?;
         }
         Ok(())
-    }
-
-    /// Notes that a channel is closed, unless it is.
-    fn note_close(&mut self, stream: u16, closing: Closing) {
-        let Some(at) = self.places.get(&stream).copied() else {
-            return;
-        };
-        if let Some(channel) = self.channels.get_mut(at)
-            && channel.closing.is_none()
-        {
-            channel.closing = Some(closing);
-        }
-    }
-
-    /// Notes that all channels are closed.
-    fn close_all(&mut self, closing: Closing) {
-        for channel in self.channels.iter_mut() {
-            if channel.closing.is_none() {
-                channel.closing = Some(closing);
-            }
-        }
     }
 
     /// Takes a parameter of a RE-CONFIG: a request to reset outgoing streams (RFC 6525 4.1), all of them where it names none.
@@ -327,10 +144,10 @@ impl Pair {
             return;
         };
         if request.stream_identifiers.is_empty() {
-            self.close_all(closing);
+            self.rows.close_all(closing);
         }
         for stream in &request.stream_identifiers {
-            self.note_close(*stream, closing);
+            self.rows.close(*stream, closing);
         }
     }
 
@@ -413,12 +230,17 @@ impl Channels {
     fn put_pair(&self, text: &mut String, at: usize, pair: &Pair) -> Result<(), AllocError> {
         let number = at.saturating_add(1);
         if let Some(association) = self.associations.items.get(at)
-            && !pair.channels.is_empty()
+            && !pair.rows.streams.is_empty()
         {
             put_name(text, self.style.form, number, association)?;
         }
-        for channel in &pair.channels {
-            put_channel(text, self.style, &self.associations.start, number, channel)?;
+        let place = Place {
+            style: self.style,
+            start: self.associations.start,
+            association: number,
+        };
+        for (stream, channels) in &pair.rows.streams {
+            put_channels(text, &place, *stream, channels)?;
         }
         Ok(())
     }

@@ -34,8 +34,7 @@ pub fn read_all(
     ensures left { OnErr result (IsSome (message_on stream receiver.new)) }
     ensures full { OnErr result (vec_capacity messages.new ≤ vec_len messages.new) }
 {
-    'reading: for turn in 0..usize::MAX {
-        let _turn = turn;
+    'reading: for _message in 0..usize::MAX {
         if !receiver.is_readable(stream) {
             return Ok(());
         }

@@ -2,7 +2,8 @@
 
 use crate::way::{Dropped, Message, Outcome, Unread, WayReader, repeated};
 use sctp_data::chunk::chunk_forward_tsn::ChunkForwardTsn;
-use sctp_follow::interleave::{Fragment, Name, Passing, Whole, fragment_of, name_of, names_in};
+use sctp_follow::interleave::{Name, Whole, fragment_of, name_of, names_in};
+use sctp_follow::lanes::Passing;
 use sctp_follow::outstanding::forward_of;
 use sctp_follow::packet::Arrived;
 use sctp_receiver::receiver::arrival::{Arrival, Closed};
@@ -10,10 +11,16 @@ use sctp_receiver::receiver::refusal::ReceiverRefusal;
 use sctp_util::field::read_u32;
 use std::alloc::{AllocError, Global};
 
+/// With no record.
+const NEVER: Arrived = Arrived {
+    number: 0,
+    time: None,
+};
+
 /// What the last one of the fragments of a message came with.
-fn last_arrived(first: Arrived, fragments: &[Fragment]) -> Arrived {
+fn last_arrived(first: Arrived, message: &Whole) -> Arrived {
     let mut last = first;
-    for fragment in fragments {
+    for fragment in message.fragments.values() {
         if fragment.arrived.number > last.number {
             last = fragment.arrived;
         }
@@ -23,19 +30,13 @@ fn last_arrived(first: Arrived, fragments: &[Fragment]) -> Arrived {
 
 /// A message of I-DATA.
 fn interleaved(alloc: Global, message: &Whole) -> Result<Message, AllocError> {
-    let fragments = message.fragments.as_slice();
-    let (identifier, first_tsn, last_tsn, arrived) = match fragments {
-        [] => (
-            0,
-            0,
-            0,
-            Arrived {
-                number: 0,
-                time: None,
-            },
-        ),
-        [one] => (one.identifier, one.tsn, one.tsn, one.arrived),
-        [one, .., last] => (one.identifier, one.tsn, last.tsn, one.arrived),
+    let (identifier, first_tsn, arrived) = match message.fragments.first_key_value() {
+        Some((_, first)) => (first.identifier, first.tsn, first.arrived),
+        None => (0, 0, NEVER),
+    };
+    let last_tsn = match message.fragments.last_key_value() {
+        Some((_, last)) => last.tsn,
+        None => 0,
     };
     Ok(Message {
         stream: message.name.stream,
@@ -45,7 +46,7 @@ fn interleaved(alloc: Global, message: &Whole) -> Result<Message, AllocError> {
         identifier,
         first_tsn,
         last_tsn,
-        arrived: last_arrived(arrived, fragments),
+        arrived: last_arrived(arrived, message),
         bytes: message.payload(alloc)?,
     })
 }

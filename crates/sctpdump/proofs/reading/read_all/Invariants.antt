@@ -5,5 +5,5 @@ use Rattle.sctpdump.proofs.reading.read_all.Given as goal
 abbrev pub invariant-reading : goal.invariant-reading
 invariant-reading l = record {
   reads : ReadsOnto l.stream l.initial.messages.items l.messages.items l.initial.receiver l.receiver;
-  count : l.turn ≤ vec_len l.messages;
+  count : l._message ≤ vec_len l.messages;
 }

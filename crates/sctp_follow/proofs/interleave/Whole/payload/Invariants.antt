@@ -1,7 +1,7 @@
-use Rattle.std.proofs.Common.{◌≡◌, take}
-use Rattle.std.specs.List.{flat_map}
-use Rattle.sctp_follow.specs.declared.interleave.Fragment.{Fragment}
+use Rattle.std.proofs.Common.{◌≡◌, ◌++◌}
+use Rattle.std.specs.BTreeMap.{values}
+use Rattle.sctp_follow.specs.Interleave.{payload_of}
 use Rattle.sctp_follow.proofs.interleave.Whole.payload.Given as goal
 
 abbrev pub invariant-loop-fragment : goal.invariant-loop-fragment
-invariant-loop-fragment l = l.bytes.items ≡ flat_map (λ (f : Fragment). f.bytes.items) (take l.fragment-index l.fragment-items)
+invariant-loop-fragment l = l.bytes.items ++ payload_of l.fragment-iterator ≡ payload_of (values l.self.fragments)
