@@ -233,7 +233,8 @@ impl Channels {
 
     /// Adds the first channel of a stream.
     fn add(&mut self, alloc: Global, stream: u16, last: Channel) -> Result<(), AllocError>
-        ensures ok { OnOk result (rows.Become stream (last ∷ []) self.old.streams self.new.streams) }
+        ensures ok { OnOk result
+            (rows.Become stream (last ∷ []) self.old.streams self.new.streams) }
         ensures err { OnErr result (trees.IsUnchanged self.old.streams self.new.streams) }
     {
         let earlier = Vec::new(alloc);

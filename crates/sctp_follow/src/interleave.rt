@@ -121,7 +121,8 @@ pub(crate) fn fits(fragment: &Fragment, place: usize, count: usize) -> bool
 impl Whole {
     /// The bytes of the message. Refuses only for memory.
     pub fn payload(&self, alloc: Global) -> Result<Vec<u8>, AllocError>
-        ensures { IfOk result (λ bytes. bytes.items ≡ payload_of (trees.values self.now.fragments)) }
+        ensures { IfOk result (λ bytes.
+            bytes.items ≡ payload_of (trees.values self.now.fragments)) }
     {
         let mut bytes = Vec::new(alloc);
         for fragment in self.fragments.values() {

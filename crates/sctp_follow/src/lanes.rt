@@ -158,7 +158,8 @@ impl Lane {
     /// Keeps a fragment of a message. Refuses only for memory.
     fn add(&mut self, alloc: Global, number: u32, fragment: Fragment) -> Result<(), AllocError>
         ensures ok { OnOk result (lanes.Comes number fragment self.old self.new) }
-        ensures err { OnErr result ((n : ℕ) → lanes.held_at self.new n ≡ lanes.held_at self.old n) }
+        ensures err { OnErr result
+            ((n : ℕ) → lanes.held_at self.new n ≡ lanes.held_at self.old n) }
         ensures next { self.new.next ≡ self.old.next }
     {
         if let Some(part) = self.parts.get_mut(&number) {
@@ -188,7 +189,8 @@ impl Lane {
         ensures none { IfNone result (IsMessage (lanes.came self.old name.number) → ⊥) }
         ensures stays { IfNone result (self.new ≡ self.old) }
         ensures next { self.new.next ≡ self.old.next }
-        ensures fewer { OnSome result (trees.btree_map_len self.new.parts < trees.btree_map_len self.old.parts) }
+        ensures fewer { OnSome result
+            (trees.btree_map_len self.new.parts < trees.btree_map_len self.old.parts) }
     {
         if !self.has_whole(name.number) {
             return None;
@@ -202,7 +204,8 @@ impl Lane {
 
     /// Takes the ordered messages out that are complete, from the next one on. Refuses only for memory.
     fn read_each(&mut self, alloc: Global, stream: u16) -> Result<Vec<Whole>, AllocError>
-        ensures read { IfOk result (λ messages. lanes.Reads stream messages.items self.old self.new) }
+        ensures read { IfOk result (λ messages.
+            lanes.Reads stream messages.items self.old self.new) }
         ensures all { OnOk result (lanes.NoneNext self.new) }
     {
         let mut messages = Vec::new(alloc);

@@ -69,7 +69,8 @@ pub(crate) struct Said {
 pub(crate) fn said_of(bytes: &[u8]) -> Option<Said>
     ensures which { is_some result ≡ sacks.has_counts bytes.now }
     ensures blocks { IfSome result (λ said. said.blocks ≡ sacks.said_blocks bytes.now) }
-    ensures duplicates { IfSome result (λ said. said.duplicates ≡ sacks.said_duplicates bytes.now) }
+    ensures duplicates { IfSome result (λ said.
+        said.duplicates ≡ sacks.said_duplicates bytes.now) }
 {
     if !is_sack(bytes) || bytes.len() < first_block(bytes) {
         return None;

@@ -83,7 +83,8 @@ impl Trips {
 
     /// Counts a round trip. Refuses only for memory.
     pub fn note(&mut self, trip: &Elapsed) -> Result<(), AllocError>
-        ensures ok { OnOk result (trips.IsNoted (min trip.now.nanoseconds u64.MAX) self.old self.new) }
+        ensures ok { OnOk result
+            (trips.IsNoted (min trip.now.nanoseconds u64.MAX) self.old self.new) }
         ensures err { OnErr result (self.new.total ≡ self.old.total) }
         ensures err_counts { OnErr result (trees.IsUnchanged self.old.counts self.new.counts) }
     {
