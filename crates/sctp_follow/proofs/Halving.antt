@@ -1,17 +1,17 @@
 -- Gap ack blocks that are looked through by halving.
-use Rattle.std.proofs.Common.{◌⊎◌, inl, inr, ◌≡◌, ℕ, ◌<◌, ◌≤◌, ◌-◌, ◌+◌, ◌&&◌, ◌||◌, Bool, true, false, leb, max, List, [], ◌∷◌, ◌++◌, length, get_or, take, arith, refl, ap, sym, subst, ◌∙◌}
-use Rattle.std.specs.List.{list_any, All}
+use Rattle.std.proofs.Common.{inl, inr, ◌≡◌, ℕ, ◌<◌, ◌≤◌, ◌-◌, ◌+◌, ◌&&◌, ◌||◌, Bool, true, false, leb, max, List, [], ◌∷◌, ◌++◌, length, get_or, take, arith, refl, ap, sym, subst, ◌∙◌}
+use Rattle.std.specs.List.{list_any}
 use Rattle.std.specs.List.Sorted.{IsNonDecreasingBy, IsPartitionPoint}
 use Rattle.std.proofs.lemmas.Bool.{leb-false, lt-leb, cases_lt}
 use Rattle.std.proofs.Math.Bool.{or-false}
 use Rattle.std.proofs.lemmas.Bool.Decides.{nat_tests}
-use Rattle.std.proofs.lemmas.Grind.{common_steps, elements}
+use Rattle.std.proofs.lemmas.Grind.{common_steps}
 use Rattle.std.proofs.lemmas.List.{get_or_default, length_push}
 use Rattle.std.proofs.lemmas.List.Folds.{list_any_none, list_any-append, list_any_more, list_any_at}
 use Rattle.std.proofs.lemmas.List.Sorted.{IsNonDecreasingBy-push, IsNonDecreasingBy-short}
 use Rattle.sctp_data.specs.declared.chunk.chunk_selective_ack.GapAckBlock.{GapAckBlock}
 use Rattle.sctp_follow.specs.Outstanding.{is_in_block}
-use Rattle.sctp_follow.specs.Blocks.{Ascend, HaveTheSame}
+use Rattle.sctp_follow.specs.Blocks.{Ascend}
 
 by_test : (b x : Bool) → (b ≡ true → x ≡ true) → (b ≡ false → x ≡ false) → b ≡ x
 by_test true x f g = sym (f refl)

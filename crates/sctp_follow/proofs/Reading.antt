@@ -1,5 +1,5 @@
 -- Ordered messages of I-DATA are read one after the other.
-use Rattle.std.proofs.Common.{◌≡◌, ℕ, List, [], ◌∷◌, ◌++◌, refl, subst, sym}
+use Rattle.std.proofs.Common.{ℕ, List, [], ◌∷◌, ◌++◌, refl, subst}
 use Rattle.sctp_follow.specs.Lanes.{Reads, IsNext}
 use Rattle.sctp_follow.specs.declared.interleave.Whole.{Whole}
 use Rattle.sctp_follow.specs.declared.lanes.Lane.{Lane}

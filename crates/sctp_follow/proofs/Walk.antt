@@ -1,5 +1,5 @@
 -- A list is walked through.
-use Rattle.std.proofs.Common.{◌≡◌, ℕ, ◌+◌, ◌<◌, ◌≤◌, List, ◌∷◌, length, drop, get_or, arith, sym, ap, ◌∙◌, add-zero}
+use Rattle.std.proofs.Common.{◌≡◌, ℕ, ◌+◌, ◌<◌, List, ◌∷◌, length, drop, get_or, arith, sym, ap, ◌∙◌, add-zero}
 use Rattle.std.proofs.lemmas.List.{length-drop, get_or-drop, drop_more}
 
 -- what is first of the rest of a list stands at its place, and the others are the rest behind it

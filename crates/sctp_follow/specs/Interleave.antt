@@ -1,5 +1,5 @@
 -- Messages of I-DATA chunks (RFC 8260).
-use Rattle.std.specs.Prelude.{◌≡◌, ℕ, ◌+◌, ◌-◌, ◌/◌, ◌%◌, ◌<◌, ◌≤◌, Bool, true, ◌&&◌, ◌||◌, not, leb, nat_lt, if◌then◌else◌, List, length, ◌==◌, min, max, slice_index, slice_range, slice_index_or}
+use Rattle.std.specs.Prelude.{◌≡◌, ℕ, ◌+◌, ◌-◌, ◌/◌, ◌%◌, ◌<◌, Bool, true, ◌&&◌, ◌||◌, not, leb, nat_lt, if◌then◌else◌, List, length, ◌==◌, min, max, slice_range, slice_index_or}
 use Rattle.std.specs.List.{flat_map}
 use Rattle.sctp_util.specs.Field.{u16_at, u32_at}
 use Rattle.sctp_chunks.specs.Framing.{type_at, flags_at, declared_length}

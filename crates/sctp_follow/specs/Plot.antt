@@ -1,5 +1,5 @@
 -- Where the marks of a picture stand.
-use Rattle.std.specs.Prelude.{◌≡◌, ℕ, ◌+◌, ◌-◌, ◌*◌, ◌/◌, ◌%◌, ◌^◌, min, max, List, [], ◌∷◌, ◌++◌, leb, if◌then◌else◌}
+use Rattle.std.specs.Prelude.{◌≡◌, ℕ, ◌+◌, ◌-◌, ◌*◌, ◌/◌, ◌%◌, min, max, List, [], ◌∷◌, ◌++◌, leb, if◌then◌else◌}
 use Rattle.sctp_util.specs.Serial.{distance}
 use Rattle.sctp_follow.specs.declared.plot.Mark.{Mark}
 

@@ -1,5 +1,5 @@
 -- The round trips of a way: the least, the median and the most.
-use Rattle.std.specs.Prelude.{◌≡◌, ℕ, zero, suc, ◌*◌, ◌/◌, nat_lt, if◌then◌else◌, min, max, Option, unwrap_or, Some}
+use Rattle.std.specs.Prelude.{◌≡◌, ℕ, zero, suc, ◌*◌, ◌/◌, nat_lt, if◌then◌else◌, min, max, unwrap_or, Some}
 use Rattle.std.specs.BTreeMap as trees
 use Rattle.std.specs.Ordering.{nat_cmp}
 use Rattle.sctp_follow.specs.Flow.{counted}

@@ -1,10 +1,9 @@
-use Rattle.std.proofs.Common.{◌≡◌, List, rules, sym, subst, ◌∙◌}
+use Rattle.std.proofs.Common.{List, rules, sym, subst, ◌∙◌}
 use Rattle.std.specs.List.Sorted.{IsNonDecreasingBy, IsPermutation}
 use Rattle.std.proofs.lemmas.List.Sorted.{IsNonDecreasingBy-from_sort_by_key, list_any-IsPermutation}
 use Rattle.std.proofs.lemmas.Result.{IfOk-weaker}
 use Rattle.sctp_data.specs.declared.chunk.chunk_selective_ack.GapAckBlock.{GapAckBlock}
 use Rattle.sctp_follow.specs.Outstanding.{is_in_block}
-use Rattle.sctp_follow.specs.Blocks.{HaveTheSame}
 use Rattle.sctp_follow.proofs.blocks.ascending.Goals as goal
 
 pub reaching-requires : goal.reaching-requires

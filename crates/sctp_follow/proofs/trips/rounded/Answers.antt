@@ -1,4 +1,4 @@
-use Rattle.std.proofs.Common.{◌≡◌, ℕ, ◌+◌, ◌-◌, ◌*◌, ◌≤◌, arith, ap, ◌∙◌}
+use Rattle.std.proofs.Common.{◌≡◌, ℕ, ◌+◌, ◌-◌, arith}
 use Rattle.sctp_follow.specs.Trips.{rounded}
 use Rattle.sctp_follow.proofs.Rounding.{step_short, step_long, fits_long, rounded_end}
 use Rattle.sctp_follow.proofs.trips.rounded.Goals as goal
