@@ -36,8 +36,8 @@ CALLERS = {
     "sctp_receiver::InboundStreams::close": {"sctp_receiver/receiver close"},
     "sctp_sender::OutboundStreams::close": {"sctp_sender/sender close"},
     "sctp_receiver::InboundStreams::held_bytes": {"sctp_receiver/receiver/limits held_bytes", "sctp_receiver/receiver/limits refusal_within"},
-    "sctp_reassembly::ReassemblyQueue::next_len": {"sctp_receiver/receiver next_len"},
-    "sctp_receiver::Receiver::held_bytes": {"sctp_receiver/receiver/limits left_of", "transfer_tests/receivers is_seen", "association/exchange is_served",
+    "sctp_reassembly::ReassemblyQueue::next_len": {"sctp_receiver/receiver next_len", "sctp_association/association next_len"},
+    "sctp_receiver::Receiver::held_bytes": {"sctp_receiver/receiver/limits left_of", "transfer_tests/receivers is_seen",
                                               "sctp_c/receiver sctpr_receiver_held_bytes", "sctp_delivery/room is_room_left"},
     "sctp_c::sctpr_sender_open": {"sctp_c/callers first_chunk"},
     "crc32c::Crc::update": {"bench/packet sum", "crc32c/lib crc32c", "sctp_packets/checksum checksum", "sctp_show/checksum checksum",
@@ -60,7 +60,8 @@ CALLS_BEHIND = {
 }
 # which functions a name has
 CANDIDATES = {
-    "set_mode": {"sctp_sender::OutboundStreams::set_mode", "sctp_sender::Sender::set_mode", "sctp_delivery::set_mode"},
+    "set_mode": {"sctp_sender::OutboundStreams::set_mode", "sctp_sender::Sender::set_mode", "sctp_delivery::set_mode",
+                 "sctp_association::Association::set_mode", "sctp_association::Outbound::set_mode"},
     "Sender::set_mode": {"sctp_sender::Sender::set_mode"},
     "sctp_receiver::cumulative_tsn": {"sctp_receiver::Receiver::cumulative_tsn", "sctp_receiver::TsnFilter::cumulative_tsn"},
 }

@@ -1,7 +1,7 @@
 //! What is written, and what is read of it.
 
 use bytes::Bytes;
-use sctp::{Chunks, ReliabilityType};
+use sctp_association::{Chunks, ReliabilityType};
 use std::alloc::{AllocError, Global};
 
 /// How many messages are written to each stream.

@@ -1,0 +1,2 @@
+pub mod StreamSet
+pub mod Tags

@@ -1,0 +1,303 @@
+//! The association: its calls, and what a user hands in and takes out.
+
+mod arrivals;
+mod control;
+mod opening;
+mod packets;
+mod resets;
+mod timeouts;
+
+use crate::config::{Config, Secrets};
+use crate::draft::Draft;
+use crate::due::Due;
+use crate::event::{Ending, Event, Events};
+use crate::fault::Fault;
+use crate::inbound::Inbound;
+use crate::outbound::{Outbound, OutboundConfig};
+use bytes::Bytes;
+use sctp_data::chunk::chunk_payload_data::{PayloadProtocolIdentifier, ReliabilityType};
+use sctp_handshake::{Machine, Offer, State};
+use sctp_path::{Heartbeat, Timer};
+use sctp_reassembly::Chunks;
+use sctp_reset::{OwnRequests, PeerRequests};
+use std::alloc::Global;
+
+/// What became of a datagram.
+#[derive(Clone, Copy, Debug, PartialEq, Eq)]
+pub enum Taken {
+    /// It is for this association, and its chunks were taken.
+    Accepted,
+    /// It is dropped, and changed nothing.
+    Dropped(Reason),
+}
+
+/// Why a datagram is dropped.
+#[derive(Clone, Copy, Debug, PartialEq, Eq)]
+pub enum Reason {
+    /// It is no SCTP packet (RFC 9260 3).
+    NoPacket,
+    /// Its checksum is wrong (RFC 9260 6.8).
+    Checksum,
+    /// It has other ports.
+    Ports,
+    /// Its verification tag is not that of this association (RFC 9260 8.5).
+    Tag,
+    /// Its first chunk is not expected in this state (RFC 9260 5.2, 8.4).
+    Unexpected,
+}
+
+/// An association with one peer. After `handle_datagram`, `handle_timeout`, `write`, `read` and the like call `poll_transmit` until there is
+/// no datagram, and `poll` until there is no event. Moments are in nanoseconds.
+#[derive(Drop)]
+pub struct Association {
+    alloc: Global,
+    config: Config,
+    key: [u8; 32],
+    machine: Machine,
+    // Whether it ended: nothing begins again.
+    is_over: bool,
+    // The peer's tag, where it ended by a SHUTDOWN-COMPLETE of this side: that may be lost.
+    completed: Option<u32>,
+    // Whether it is to be shut down as soon as it stands.
+    wants_shutdown: bool,
+    outbound: Outbound,
+    inbound: Option<Inbound>,
+    requests: OwnRequests,
+    peer_requests: Option<PeerRequests>,
+    // T1-init, T1-cookie or T2-shutdown, by the state.
+    control: Timer,
+    heartbeat: Option<Heartbeat>,
+    // The cookie that is echoed.
+    cookie: Option<Bytes>,
+    due: Due,
+    events: Events,
+    draft: Draft,
+}
+
+// What this side offers.
+fn offer_of(config: &Config, secrets: &Secrets) -> Offer {
+    Offer {
+        tag: secrets.tag,
+        window: u32::try_from(config.window).unwrap_or(u32::MAX),
+        outbound_streams: config.outbound_streams,
+        inbound_streams: config.inbound_streams,
+        first_tsn: secrets.first_tsn,
+        forward_tsn: true,
+        reconfig: true,
+        zero_checksum: config.zero_checksum,
+    }
+}
+
+// How the sending half is set up.
+fn outbound_config(config: &Config, first_tsn: u32) -> OutboundConfig {
+    OutboundConfig {
+        first_tsn,
+        mtu: config.mtu,
+        max_message_size: config.max_message_size,
+        most_waiting: config.most_waiting,
+        max_retrans: config.max_retrans,
+        rto: config.rto,
+    }
+}
+
+impl Association {
+    /// No association yet: it waits for a peer's INIT, or for `connect`. Refuses with `BadConfig`, or for memory.
+    pub fn new(alloc: Global, config: Config, secrets: Secrets) -> Result<Association, Fault> {
+        if secrets.tag == 0 || !config.is_usable() {
+            return Err(Fault::BadConfig);
+        }
+        let limits = sctp_handshake::Limits {
+            max_init_retransmits: config.max_init_retrans,
+            association_max_retrans: config.max_retrans,
+        };
+        let draft = Draft::new(alloc, config.mtu)?;
+        let machine = Machine::new(offer_of(&config, &secrets), limits);
+        let outbound = Outbound::new(alloc, outbound_config(&config, secrets.first_tsn));
+        Ok(Association {
+            alloc,
+            config,
+            key: secrets.cookie_key,
+            machine,
+            is_over: false,
+            completed: None,
+            wants_shutdown: false,
+            outbound,
+            inbound: None,
+            requests: OwnRequests::new(alloc, secrets.first_tsn),
+            peer_requests: None,
+            control: Timer::new(),
+            heartbeat: None,
+            cookie: None,
+            due: Due::new(),
+            events: Events::new(alloc),
+            draft,
+        })
+    }
+
+    /// Asks the peer for an association (RFC 9260 5.1 A): an INIT is due. Both sides may (5.2.1). Refuses with `WrongState`, where one is
+    /// there, or was.
+    pub fn connect(&mut self, now: u64) -> Result<(), Fault> {
+        if self.is_over {
+            return Err(Fault::WrongState);
+        }
+        let before = self.machine.state();
+        match self.machine.connect() {
+            Ok(answer) => {
+                self.follow(before, answer, 0, now);
+                Ok(())
+            }
+            Err(_) => Err(Fault::WrongState),
+        }
+    }
+
+    /// The state (RFC 9260 4).
+    pub fn state(&self) -> State {
+        self.machine.state()
+    }
+
+    /// The next event, if there is one.
+    pub fn poll(&mut self) -> Option<Event> {
+        self.events.pop()
+    }
+
+    // Whether the application may write to a stream.
+    fn write_refusal(&self, stream: u16) -> Option<Fault> {
+        let is_waiting = self.machine.state() == State::Closed && !self.is_over;
+        if !is_waiting && !self.machine.state().accepts_writes() {
+            return Some(Fault::WrongState);
+        }
+        let streams = match self.machine.agreed() {
+            Some(agreed) => agreed.outbound_streams,
+            None => self.config.outbound_streams,
+        };
+        if stream >= streams {
+            return Some(Fault::NoSuchStream);
+        }
+        None
+    }
+
+    /// Takes a message for a stream: it waits until it may be sent, before the association stands too. A stream opens by its first
+    /// message. Its lifetime begins with the next `poll_transmit`. Refuses by `Fault`, and takes nothing then.
+    pub fn write(
+        &mut self,
+        stream: u16,
+        ppi: PayloadProtocolIdentifier,
+        bytes: &Bytes,
+    ) -> Result<(), Fault> {
+        if let Some(fault) = self.write_refusal(stream) {
+            return Err(fault);
+        }
+        if self.requests.is_asked(stream) {
+            return Err(Fault::Resetting);
+        }
+        self.events.reserve_outbound(stream)?;
+        self.outbound.write(stream, ppi, bytes)
+    }
+
+    /// Sets how what is written to a stream from now on is sent: `value` counts retransmissions (`Rexmit`), or is a lifetime in
+    /// milliseconds (`Timed`). Where the peer does not know FORWARD-TSN every message is reliable.
+    pub fn set_mode(
+        &mut self,
+        stream: u16,
+        unordered: bool,
+        reliability: ReliabilityType,
+        value: u32,
+    ) -> Result<(), Fault> {
+        if let Some(fault) = self.write_refusal(stream) {
+            return Err(fault);
+        }
+        self.events.reserve_outbound(stream)?;
+        self.outbound
+            .set_mode(stream, unordered, reliability, value)
+    }
+
+    /// At which buffered amount `BufferedAmountLow` is told of a stream: where the amount falls from above it to at most it.
+    pub fn set_buffered_amount_low_threshold(
+        &mut self,
+        stream: u16,
+        threshold: usize,
+    ) -> Result<(), Fault> {
+        if let Some(fault) = self.write_refusal(stream) {
+            return Err(fault);
+        }
+        self.events.reserve_outbound(stream)?;
+        self.outbound.open(stream)?;
+        self.outbound
+            .sender
+            .set_buffered_amount_low_threshold(stream, threshold)?;
+        Ok(())
+    }
+
+    /// How many bytes were written to a stream that the peer did not acknowledge, and that were not given up.
+    pub fn buffered_amount(&self, stream: u16) -> usize {
+        match self.outbound.sender.stream(stream) {
+            Some(state) => state.buffered_amount(),
+            None => 0,
+        }
+    }
+
+    /// The next message of a stream, if one is there: the first complete unordered one, else the ordered one that is due.
+    pub fn read(&mut self, stream: u16, now: u64) -> Result<Option<Chunks>, Fault> {
+        match &mut self.inbound {
+            Some(inbound) => inbound.read(stream, now),
+            None => Ok(None),
+        }
+    }
+
+    /// The length and the payload type of the message that `read` would give.
+    pub fn next_len(&self, stream: u16) -> Option<(usize, PayloadProtocolIdentifier)> {
+        match &self.inbound {
+            Some(inbound) => inbound.receiver.next_len(stream),
+            None => None,
+        }
+    }
+
+    /// Ends the association once all that was written is acknowledged (RFC 9260 9.2). Refuses with `WrongState`, where none stands.
+    pub fn shutdown(&mut self, now: u64) -> Result<(), Fault> {
+        let before = self.machine.state();
+        match before {
+            State::Closed => return Err(Fault::WrongState),
+            // It begins once the association stands.
+            State::CookieWait | State::CookieEchoed => {
+                self.wants_shutdown = true;
+                return Ok(());
+            }
+            _ => {}
+        }
+        let answer = self.machine.shutdown_asked();
+        self.follow(before, answer, 0, now);
+        self.settle(now);
+        Ok(())
+    }
+
+    /// Ends the association at once: an ABORT with the cause 12 is due (RFC 9260 9.1). Refuses with `WrongState`, where there is none.
+    pub fn abort(&mut self) -> Result<(), Fault> {
+        if self.is_over {
+            return Err(Fault::WrongState);
+        }
+        self.end_with(12);
+        Ok(())
+    }
+
+    /// The round trip time, smoothed (RFC 9260 6.3.1).
+    pub fn rtt(&self) -> Option<u64> {
+        self.outbound.rto.smoothed()
+    }
+
+    /// The congestion window in bytes (RFC 9260 7.2).
+    pub fn congestion_window(&self) -> usize {
+        self.outbound.congestion.window()
+    }
+
+    /// The window that the peer told last.
+    pub fn peer_window(&self) -> usize {
+        self.outbound.peer_window
+    }
+
+    // The association ended.
+    fn end(&mut self, ending: Ending) {
+        self.is_over = true;
+        self.control.stop();
+        self.events.closed = Some(ending);
+    }
+}

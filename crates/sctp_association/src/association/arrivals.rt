@@ -1,0 +1,427 @@
+//! What comes in a datagram (RFC 9260 5, 6, 8.5, 9).
+
+ghost use Rattle.std.specs.Prelude.{◌≡◌, Ok, true, false, length};
+ghost use Rattle.sctp_association.specs.declared.association.Reason.{Reason};
+ghost use Rattle.sctp_association.specs.Tags.{AdmitsFirst, IsFor, is_admitted};
+ghost use Rattle.sctp_association.specs.declared.association.Reason.TheVariants.{Tag};
+ghost use Rattle.sctp_association.specs.declared.association.Taken.TheVariants.{Accepted, Dropped};
+ghost use Rattle.sctp_datagram.specs.Places.{IsPlace};
+ghost use Rattle.sctp_util.specs.Field.{u32_at};
+ghost use Rattle.sctp_association.specs.declared.association.arrivals.Step.TheVariants as step;
+ghost use Rattle.sctp_handshake.specs.Answers.{silent};
+
+use super::{Association, Reason, Taken};
+use crate::due::AloneKind;
+use crate::event::Ending;
+use crate::fault::Fault;
+use crate::inbound::Followed;
+use crate::outbound::SackTaken;
+use bytes::Bytes;
+use sctp_chunks::chunk::Chunk;
+use sctp_chunks::{ChunkForwardTsn, ChunkHeartbeat, ChunkHeartbeatAck, ChunkShutdown};
+use sctp_datagram::in_place::{data_in, read_sack};
+use sctp_datagram::{ChunkPlace, Datagram, ZeroChecksum};
+use sctp_handshake::{Answer, State};
+use sctp_packets::Crc32c;
+use sctp_params::ParamKind;
+use sctp_receiver::advice::AbortCause;
+use sctp_util::error::Error;
+use sctp_util::field::read_u16;
+
+// What became of a chunk.
+pub(super) enum Step {
+    // It was taken, or is passed over.
+    Next,
+    // Nothing more of the datagram is looked at.
+    Stop,
+    // It is not for this association, or not expected.
+    Refused(Reason),
+}
+
+// The T bit of ABORT and SHUTDOWN-COMPLETE (RFC 9260 3.3.7, 3.3.13).
+const T_BIT: u8 = 1;
+
+// The bytes of a datagram from a chunk on.
+pub(super) fn bytes_of(datagram: &Bytes, chunk: ChunkPlace) -> &[u8] {
+    datagram.as_slice().get(chunk.at..).unwrap_or(&[])
+}
+
+impl Association {
+    /// Takes a datagram of the peer. One that is dropped changes nothing. Where memory is wanting, the chunks before are taken, and those
+    /// from the refused one on count as lost: the peer sends them again.
+    pub fn handle_datagram(&mut self, datagram: &Bytes, now: u64) -> Result<Taken, Fault>
+        ensures dropped { (r : Reason) → result ≡ Ok (Dropped r) → self.new ≡ self.old }
+        // Whose packet it is not changes nothing (RFC 9260 8.5).
+        ensures accepted { result ≡ Ok Accepted → IsFor datagram.now self.old.machine }
+    {
+        let zero = if self.config.zero_checksum {
+            ZeroChecksum::Allowed
+        } else {
+            ZeroChecksum::Refused
+        };
+        let chunks = match Datagram::open(self.alloc, datagram.as_slice(), &Crc32c, zero) {
+            Ok(chunks) => chunks,
+            Err(Error::ErrOutOfMemory) => return Err(Fault::OutOfMemory),
+            Err(Error::ErrChecksumMismatch) => return Ok(Taken::Dropped(Reason::Checksum)),
+            Err(_) => return Ok(Taken::Dropped(Reason::NoPacket)),
+        };
+        let header = chunks.header();
+        if header.source_port != self.config.destination_port
+            || header.destination_port != self.config.source_port
+        {
+            return Ok(Taken::Dropped(Reason::Ports));
+        }
+        if self.is_over {
+            return Ok(self.take_after_end(chunks));
+        }
+        self.take_chunks(datagram, chunks, now)
+    }
+
+    // Takes a datagram after the end: a SHUTDOWN-ACK that comes again is answered again (RFC 9260 8.4, 5).
+    fn take_after_end(&mut self, chunks: Datagram) -> Taken
+        ensures dropped { (r : Reason) → result ≡ Dropped r → self.new ≡ self.old }
+        ensures accepted { result ≡ Accepted
+            → AdmitsFirst chunks.entry.left (u32_at chunks.entry.bytes 4) self.old.machine }
+    {
+        let mut chunks = chunks;
+        let tag = chunks.header().verification_tag;
+        let is_again = match chunks.next() {
+            Some(chunk) => chunk.typ == 8 && tag == self.machine.own().tag,
+            None => false,
+        };
+        match self.completed {
+            Some(tag) if is_again => {
+                self.owe_alone(tag, AloneKind::ShutdownComplete);
+                Taken::Accepted
+            }
+            _ => Taken::Dropped(Reason::Unexpected),
+        }
+    }
+
+    // Takes the chunks of a datagram in their order, up to one that is refused.
+    fn take_chunks(&mut self, datagram: &Bytes, chunks: Datagram, now: u64) -> Result<Taken, Fault>
+        requires whole { chunks.bytes ≡ datagram.now }
+        ensures dropped { (r : Reason) → result ≡ Ok (Dropped r) → self.new ≡ self.old }
+        ensures accepted { result ≡ Ok Accepted
+            → AdmitsFirst chunks.entry.left (u32_at chunks.entry.bytes 4) self.old.machine }
+    {
+        let tag = chunks.header().verification_tag;
+        let count = chunks.left();
+        if count == 0 {
+            return Ok(Taken::Dropped(Reason::NoPacket));
+        }
+        let mut chunks = chunks;
+        for place in 0..count {
+            let Some(chunk) = chunks.next() else {
+                break;
+            };
+            match self.take_chunk(datagram, chunk, tag, count, now)? {
+                Step::Next => {}
+                Step::Stop => break,
+                Step::Refused(reason) => {
+                    if place == 0 {
+                        return Ok(Taken::Dropped(reason));
+                    }
+                    break;
+                }
+            }
+        }
+        self.settle(now);
+        Ok(Taken::Accepted)
+    }
+
+    // Whether a chunk may stand in a packet with this tag, of so many chunks (RFC 9260 8.5, 8.5.1). The tag of a COOKIE-ECHO is looked at with
+    // its cookie.
+    fn admits(&self, chunk: ChunkPlace, tag: u32, count: usize) -> bool
+        ensures { result ≡ is_admitted chunk tag count self.now.machine }
+    {
+        if chunk.typ == 1 {
+            return tag == 0 && count == 1;
+        }
+        if chunk.typ == 10 {
+            return true;
+        }
+        if (chunk.typ == 6 || chunk.typ == 14) && chunk.flags & T_BIT != 0 {
+            return match self.machine.peer() {
+                Some(peer) => tag == peer.tag,
+                None => false,
+            };
+        }
+        tag == self.machine.own().tag
+    }
+
+    // Takes a chunk.
+    fn take_chunk(
+        &mut self,
+        datagram: &Bytes,
+        chunk: ChunkPlace,
+        tag: u32,
+        count: usize,
+        now: u64,
+    ) -> Result<Step, Fault>
+        requires place { IsPlace datagram.now chunk }
+        ensures refused { (r : Reason) → result ≡ Ok (step.Refused r) → self.new ≡ self.old }
+        ensures foreign { is_admitted chunk tag count self.old.machine ≡ false
+            → result ≡ Ok (step.Refused Tag) }
+    {
+        if !self.admits(chunk, tag, count) {
+            return Ok(Step::Refused(Reason::Tag));
+        }
+        match chunk.typ {
+            0 => self.take_data(datagram, chunk, now),
+            1 => self.take_init(datagram, chunk, now),
+            2 => self.take_init_ack(datagram, chunk, now),
+            3 => self.take_sack(datagram, chunk, now),
+            10 => self.take_cookie(datagram, chunk, tag, now),
+            130 => self.take_reconfig(datagram, chunk, now),
+            192 => self.take_skip(datagram, chunk, now),
+            _ => self.take_control(datagram, chunk, now),
+        }
+    }
+
+    // Takes a DATA chunk, where DATA is taken in this state (RFC 9260 6).
+    fn take_data(&mut self, datagram: &Bytes, chunk: ChunkPlace, now: u64) -> Result<Step, Fault>
+        requires place { IsPlace datagram.now chunk }
+        requires typ { chunk.typ ≡ 0 }
+        ensures refused { (r : Reason) → result ≡ Ok (step.Refused r) → self.new ≡ self.old }
+    {
+        if !self.machine.state().takes_data() {
+            return Ok(Step::Refused(Reason::Unexpected));
+        }
+        let Ok(data) = data_in(datagram, chunk) else {
+            return Err(Fault::OutOfMemory);
+        };
+        let Some(inbound) = &mut self.inbound else {
+            return Ok(Step::Refused(Reason::Unexpected));
+        };
+        let followed = inbound.take_data(&data, &mut self.events, now)?;
+        let before = self.machine.state();
+        let answer = self.machine.packet_arrived(true);
+        self.follow(before, answer, 0, now);
+        Ok(self.end_by(followed))
+    }
+
+    // Takes a FORWARD-TSN.
+    fn take_skip(&mut self, datagram: &Bytes, chunk: ChunkPlace, now: u64) -> Result<Step, Fault>
+        ensures refused { (r : Reason) → result ≡ Ok (step.Refused r) → self.new ≡ self.old }
+    {
+        if !self.machine.state().takes_data() {
+            return Ok(Step::Refused(Reason::Unexpected));
+        }
+        let Some(skip) = self.read_chunk::<ChunkForwardTsn>(datagram, chunk)? else {
+            return Ok(Step::Refused(Reason::NoPacket));
+        };
+        let Some(inbound) = &mut self.inbound else {
+            return Ok(Step::Refused(Reason::Unexpected));
+        };
+        let followed = inbound.take_skip(&skip, &mut self.events, now)?;
+        Ok(self.end_by(followed))
+    }
+
+    // Ends the association, where what came asks for that.
+    fn end_by(&mut self, followed: Followed) -> Step
+        ensures never { (r : Reason) → result ≡ step.Refused r → ⊥ }
+    {
+        let cause = match followed {
+            Followed::Done => return Step::Next,
+            Followed::NoUserData => 9,
+            Followed::Abort(AbortCause::OutOfResource) => 4,
+            Followed::Abort(AbortCause::ProtocolViolation) => 13,
+        };
+        self.end_with(cause);
+        Step::Stop
+    }
+
+    // Takes a SACK, where SACKs are taken in this state (RFC 9260 6).
+    fn take_sack(&mut self, datagram: &Bytes, chunk: ChunkPlace, now: u64) -> Result<Step, Fault>
+        ensures refused { (r : Reason) → result ≡ Ok (step.Refused r) → self.new ≡ self.old }
+    {
+        if !self.machine.state().takes_sacks() {
+            return Ok(Step::Refused(Reason::Unexpected));
+        }
+        let sack = match read_sack(self.alloc, bytes_of(datagram, chunk)) {
+            Ok(sack) => sack,
+            Err(Error::ErrOutOfMemory) => return Err(Fault::OutOfMemory),
+            Err(_) => return Ok(Step::Refused(Reason::NoPacket)),
+        };
+        match self.outbound.take_sack(&sack, &mut self.events.low, now)? {
+            SackTaken::Taken => Ok(Step::Next),
+            SackTaken::Forged => {
+                self.end_with(13);
+                Ok(Step::Stop)
+            }
+        }
+    }
+
+    // Reads a chunk of a kind; None where it is none.
+    fn read_chunk<C: Chunk>(
+        &self,
+        datagram: &Bytes,
+        chunk: ChunkPlace,
+    ) -> Result<Option<C>, Fault> {
+        let end = chunk.at.saturating_add(chunk.length);
+        if end > datagram.len() || chunk.at > end {
+            return Ok(None);
+        }
+        let raw = datagram.slice(chunk.at..end)?;
+        match C::unmarshal(self.alloc, &raw) {
+            Ok(read) => Ok(Some(read)),
+            Err(Error::ErrOutOfMemory) => Err(Fault::OutOfMemory),
+            Err(_) => Ok(None),
+        }
+    }
+
+    // Takes a chunk of a peer that is no user data.
+    fn take_control(&mut self, datagram: &Bytes, chunk: ChunkPlace, now: u64) -> Result<Step, Fault>
+        ensures refused { (r : Reason) → result ≡ Ok (step.Refused r) → self.new ≡ self.old }
+    {
+        match chunk.typ {
+            4 => self.take_heartbeat(datagram, chunk),
+            5 => self.take_heartbeat_ack(datagram, chunk, now),
+            6 => Ok(self.take_abort()),
+            7 => self.take_shutdown(datagram, chunk, now),
+            8 => {
+                let tag = self.peer_tag();
+                let before = self.machine.state();
+                let answer = self.machine.shutdown_ack();
+                Ok(self.take_answer(before, answer, tag, now))
+            }
+            9 => Ok(self.take_error(datagram, chunk, now)),
+            11 => {
+                let before = self.machine.state();
+                let answer = self.machine.cookie_ack();
+                Ok(self.take_answer(before, answer, 0, now))
+            }
+            14 => {
+                let before = self.machine.state();
+                let answer = self.machine.shutdown_complete();
+                Ok(self.take_answer(before, answer, 0, now))
+            }
+            _ => Ok(Step::Next),
+        }
+    }
+
+    // The tag of the peer's packets' receiver; 0 where it is not known.
+    fn peer_tag(&self) -> u32 {
+        match self.machine.peer() {
+            Some(peer) => peer.tag,
+            None => 0,
+        }
+    }
+
+    // Follows what the machine answered a chunk; where that is nothing the chunk is not expected.
+    fn take_answer(&mut self, before: State, answer: Answer, tag: u32, now: u64) -> Step
+        ensures refused { (r : Reason) → result ≡ step.Refused r
+            → (answer ≡ silent) × (self.new ≡ self.old) }
+    {
+        if answer.reply.is_none() && answer.told.is_none() {
+            return Step::Refused(Reason::Unexpected);
+        }
+        self.follow(before, answer, tag, now);
+        Step::Next
+    }
+
+    // An ABORT came (RFC 9260 9.1).
+    fn take_abort(&mut self) -> Step
+        ensures refused { (r : Reason) → result ≡ step.Refused r → self.new ≡ self.old }
+    {
+        let answer = self.machine.abort();
+        if answer.told.is_none() {
+            return Step::Refused(Reason::Unexpected);
+        }
+        self.end(Ending::AbortedByPeer);
+        Step::Stop
+    }
+
+    // A SHUTDOWN came (RFC 9260 9.2): it acknowledges as a SACK without blocks does.
+    fn take_shutdown(
+        &mut self,
+        datagram: &Bytes,
+        chunk: ChunkPlace,
+        now: u64,
+    ) -> Result<Step, Fault>
+        ensures refused { (r : Reason) → result ≡ Ok (step.Refused r) → self.new ≡ self.old }
+    {
+        let Some(shutdown) = self.read_chunk::<ChunkShutdown>(datagram, chunk)? else {
+            return Ok(Step::Refused(Reason::NoPacket));
+        };
+        let before = self.machine.state();
+        let answer = self.machine.shutdown();
+        if answer.reply.is_none() && answer.told.is_none() {
+            return Ok(Step::Refused(Reason::Unexpected));
+        }
+        self.follow(before, answer, 0, now);
+        let tsn = shutdown.cumulative_tsn_ack;
+        let taken = self
+            .outbound
+            .take_shutdown(self.alloc, tsn, &mut self.events.low, now)?;
+        match taken {
+            SackTaken::Taken => Ok(Step::Next),
+            SackTaken::Forged => {
+                self.end_with(13);
+                Ok(Step::Stop)
+            }
+        }
+    }
+
+    // A HEARTBEAT came: its information goes back (RFC 9260 8.3).
+    fn take_heartbeat(&mut self, datagram: &Bytes, chunk: ChunkPlace) -> Result<Step, Fault>
+        ensures refused { (r : Reason) → result ≡ Ok (step.Refused r) → self.new ≡ self.old }
+    {
+        let Some(heartbeat) = self.read_chunk::<ChunkHeartbeat>(datagram, chunk)? else {
+            return Ok(Step::Refused(Reason::NoPacket));
+        };
+        for param in heartbeat.params {
+            if let ParamKind::HeartbeatInfo(info) = param {
+                self.due.heartbeat = Some(info.heartbeat_information);
+            }
+        }
+        Ok(Step::Next)
+    }
+
+    // A HEARTBEAT ACK came: it tells a round trip, and that the peer is there (RFC 9260 8.3).
+    fn take_heartbeat_ack(
+        &mut self,
+        datagram: &Bytes,
+        chunk: ChunkPlace,
+        now: u64,
+    ) -> Result<Step, Fault>
+        ensures refused { (r : Reason) → result ≡ Ok (step.Refused r) → self.new ≡ self.old }
+    {
+        let Some(ack) = self.read_chunk::<ChunkHeartbeatAck>(datagram, chunk)? else {
+            return Ok(Step::Refused(Reason::NoPacket));
+        };
+        let Some(heartbeat) = &mut self.heartbeat else {
+            return Ok(Step::Refused(Reason::Unexpected));
+        };
+        for param in ack.params {
+            if let ParamKind::HeartbeatInfo(info) = param {
+                let Some(nonce) = info.heartbeat_information.first_chunk::<8>() else {
+                    continue;
+                };
+                if let Some(trip) = heartbeat.answered(now, u64::from_be_bytes(*nonce)) {
+                    self.outbound.heard(trip);
+                }
+            }
+        }
+        Ok(Step::Next)
+    }
+
+    // An ERROR came: its first cause is told; a stale cookie begins the handshake again (RFC 9260 5.2.6, 3.3.10).
+    fn take_error(&mut self, datagram: &Bytes, chunk: ChunkPlace, now: u64) -> Step
+        ensures refused { (r : Reason) → result ≡ step.Refused r → self.new ≡ self.old }
+    {
+        let end = chunk.at.saturating_add(chunk.length);
+        if end > datagram.len() || chunk.at.saturating_add(8) > end {
+            return Step::Next;
+        }
+        let code = read_u16(&datagram[chunk.at..end], 4);
+        if code == 3 {
+            let before = self.machine.state();
+            let answer = self.machine.stale_cookie();
+            self.follow(before, answer, 0, now);
+        }
+        self.events.peer_error = Some(code);
+        Step::Next
+    }
+}

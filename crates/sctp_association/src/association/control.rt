@@ -1,0 +1,176 @@
+//! What the state machine is answered and tells.
+
+ghost use Rattle.std.specs.Prelude.{◌+◌, ◌≤◌};
+
+use super::{Association, outbound_config};
+use crate::due::{Alone, AloneKind};
+use crate::event::Ending;
+use crate::inbound::{Inbound, InboundConfig};
+use crate::outbound::Outbound;
+use sctp_cookie::{HmacSha256, Mac};
+use sctp_handshake::{AbortCause, Answer, Fresh, Offer, Reply, State, Told};
+use sctp_path::Heartbeat;
+use sctp_receiver::receiver::limits::Limits;
+use sctp_reset::{OwnRequests, PeerRequests};
+
+// The code of a cause (RFC 9260 3.3.10).
+fn code_of(cause: AbortCause) -> u16 {
+    match cause {
+        AbortCause::InvalidMandatoryParameter => 7,
+        AbortCause::UserInitiatedAbort => 12,
+    }
+}
+
+// Four bytes as a number.
+fn number_at(code: &[u8; 32], at: usize) -> u32
+    requires { at + 4 ≤ 32 }
+{
+    u32::from_be_bytes([code[at], code[at + 1], code[at + 2], code[at + 3]])
+}
+
+impl Association {
+    /// What follows from an input to the machine, which was in the state `before`: its timer, a reply to `tag`, and what is told.
+    pub(super) fn follow(&mut self, before: State, answer: Answer, tag: u32, now: u64) {
+        let state = self.machine.state();
+        if state != before {
+            self.run_control(now);
+        }
+        if let Some(reply) = answer.reply {
+            self.owe(reply, tag);
+        }
+        if let Some(told) = answer.told {
+            self.tell(told, now);
+        }
+    }
+
+    /// The timer of the state runs from now on, if it has one.
+    pub(super) fn run_control(&mut self, now: u64) {
+        match self.machine.state().timer() {
+            Some(_) => self.control.restart(now, self.outbound.rto.get()),
+            None => self.control.stop(),
+        }
+    }
+
+    /// A packet of one reply is due.
+    pub(super) fn owe_alone(&mut self, tag: u32, kind: AloneKind) {
+        self.due.alone = Some(Alone { tag, kind });
+    }
+
+    /// A reply is due. `tag` is that of whom it answers, where it is not the association's peer.
+    pub(super) fn owe(&mut self, reply: Reply, tag: u32) {
+        match reply {
+            Reply::Init => self.owe_alone(0, AloneKind::Init),
+            Reply::InitAck(ticket) => self.owe_alone(tag, AloneKind::InitAck(ticket)),
+            Reply::CookieEcho => self.due.cookie_echo = true,
+            Reply::CookieAck => self.due.cookie_ack = true,
+            Reply::StaleCookie => self.owe_alone(tag, AloneKind::StaleCookie(0)),
+            Reply::CookieWhileShuttingDown => self.owe_alone(tag, AloneKind::ShuttingDown),
+            Reply::Shutdown => self.due.shutdown = true,
+            Reply::ShutdownAck => self.due.shutdown_ack = true,
+            // One with the T bit answers a packet of no association: it is left out, as RFC 9260 8.4 lets a receiver.
+            Reply::ShutdownComplete { is_reflected } => {
+                if !is_reflected {
+                    self.completed = Some(tag);
+                    self.owe_alone(tag, AloneKind::ShutdownComplete);
+                }
+            }
+            Reply::Abort(cause) => self.owe_alone(tag, AloneKind::Abort(code_of(cause))),
+        }
+    }
+
+    // What the application is told.
+    fn tell(&mut self, told: Told, now: u64) {
+        match told {
+            Told::Connected => {
+                self.begin(now);
+                self.events.connected = true;
+            }
+            Told::Restarted => {
+                let first_tsn = self.machine.own().first_tsn;
+                self.outbound = Outbound::new(self.alloc, outbound_config(&self.config, first_tsn));
+                self.requests = OwnRequests::new(self.alloc, first_tsn);
+                self.begin(now);
+                self.events.restarted = true;
+            }
+            Told::ShutdownBegun => self.events.shutdown = true,
+            Told::Closed => self.end(Ending::Shutdown),
+            Told::Failed => self.end(Ending::Unanswered),
+        }
+    }
+
+    // The association stands, by what both sides offered.
+    fn begin(&mut self, now: u64) {
+        let (Some(peer), Some(agreed)) = (self.machine.peer(), self.machine.agreed()) else {
+            return;
+        };
+        self.outbound
+            .connected(peer.window as usize, agreed.forward_tsn);
+        self.inbound = Some(Inbound::new(
+            self.alloc,
+            InboundConfig {
+                first_tsn: peer.first_tsn,
+                streams: agreed.inbound_streams,
+                max_message_size: self.config.max_message_size,
+                limits: Limits {
+                    window: self.config.window,
+                    reach: self.config.reach,
+                },
+                sack_delay: self.config.sack_delay,
+            },
+        ));
+        self.peer_requests = Some(PeerRequests::new(peer.first_tsn));
+        self.heartbeat = Some(Heartbeat::new(now, self.config.heartbeat));
+        self.cookie = None;
+        self.due.cookie_echo = false;
+    }
+
+    /// Begins the shutdown that was asked for before the association stood, and goes on with one where nothing waits or is in flight (RFC
+    /// 9260 9.2).
+    pub(super) fn settle(&mut self, now: u64) {
+        if self.wants_shutdown && self.machine.state() == State::Established {
+            self.wants_shutdown = false;
+            let _answer = self.machine.shutdown_asked();
+        }
+        self.note_drained(now);
+    }
+
+    // Tells the machine that nothing waits or is in flight, if that is so (RFC 9260 9.2).
+    fn note_drained(&mut self, now: u64) {
+        if !self.outbound.is_drained() {
+            return;
+        }
+        let before = self.machine.state();
+        let answer = self.machine.drained();
+        self.follow(before, answer, 0, now);
+    }
+
+    /// The association ends with an ABORT of this cause code.
+    pub(super) fn end_with(&mut self, cause: u16) {
+        if let Some(peer) = self.machine.peer() {
+            self.owe_alone(peer.tag, AloneKind::Abort(cause));
+        } else {
+            self.due.alone = None;
+        }
+        let _answer = self.machine.abort();
+        self.end(Ending::Aborted);
+    }
+
+    /// A tag and a first TSN for one INIT (RFC 9260 5.3.1): nobody without the key can guess them. While no association stands the first TSN
+    /// is the own one, since what was written already has it.
+    pub(super) fn fresh(&self, peer: Offer, now: u64) -> Fresh {
+        let mut message = [0u8; 16];
+        message[..8].copy_from_slice(&now.to_be_bytes());
+        message[8..12].copy_from_slice(&peer.tag.to_be_bytes());
+        message[12..].copy_from_slice(&peer.first_tsn.to_be_bytes());
+        let code = HmacSha256.code(&self.key, &message);
+        let first_tsn = if self.machine.state() == State::Closed {
+            self.machine.own().first_tsn
+        } else {
+            number_at(&code, 4)
+        };
+        Fresh {
+            tag: number_at(&code, 0).max(1),
+            first_tsn,
+        }
+    }
+}

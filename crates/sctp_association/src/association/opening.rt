@@ -1,0 +1,107 @@
+//! INIT, INIT ACK and the cookie (RFC 9260 5).
+
+ghost use Rattle.std.specs.Prelude.{◌≡◌, Ok, OnErr};
+ghost use Rattle.sctp_association.specs.declared.association.Reason.{Reason};
+ghost use Rattle.sctp_association.specs.declared.association.arrivals.Step.TheVariants as step;
+
+use super::arrivals::{Step, bytes_of};
+use super::{Association, Reason};
+use crate::fault::Fault;
+use bytes::Bytes;
+use sctp_cookie::{HmacSha256, is_stale, open};
+use sctp_datagram::ChunkPlace;
+use sctp_datagram::in_place::init_value;
+use sctp_handshake::{Said, Ticket};
+
+impl Association {
+    /// Takes an INIT (RFC 9260 5.1 B, 5.2.1, 5.2.2): nothing changes but the one reply that is due.
+    pub(super) fn take_init(
+        &mut self,
+        datagram: &Bytes,
+        chunk: ChunkPlace,
+        now: u64,
+    ) -> Result<Step, Fault>
+        ensures refused { (r : Reason) → result ≡ Ok (step.Refused r) → self.new ≡ self.old }
+        ensures err { OnErr result (self.new ≡ self.old) }
+    {
+        let Ok(value) = init_value(bytes_of(datagram, chunk)) else {
+            return Ok(Step::Refused(Reason::NoPacket));
+        };
+        let Ok(said) = Said::read_init(value) else {
+            return Ok(Step::Refused(Reason::NoPacket));
+        };
+        let fresh = self.fresh(said.offer, now);
+        match self.machine.init(said.offer, fresh) {
+            Some(reply) => {
+                self.owe(reply, said.offer.tag);
+                Ok(Step::Stop)
+            }
+            None => Ok(Step::Refused(Reason::Unexpected)),
+        }
+    }
+
+    /// Takes an INIT ACK (RFC 9260 5.1 C, 5.2.3): its cookie is kept, to be echoed.
+    pub(super) fn take_init_ack(
+        &mut self,
+        datagram: &Bytes,
+        chunk: ChunkPlace,
+        now: u64,
+    ) -> Result<Step, Fault>
+        ensures refused { (r : Reason) → result ≡ Ok (step.Refused r) → self.new ≡ self.old }
+        ensures err { OnErr result (self.new ≡ self.old) }
+    {
+        let Ok(value) = init_value(bytes_of(datagram, chunk)) else {
+            return Ok(Step::Refused(Reason::NoPacket));
+        };
+        let Ok((offer, place)) = Said::read_init_ack(value) else {
+            return Ok(Step::Refused(Reason::NoPacket));
+        };
+        let end = place.at.saturating_add(place.length);
+        let Some(cookie) = value.get(place.at..end) else {
+            return Ok(Step::Refused(Reason::NoPacket));
+        };
+        let cookie = Bytes::copy_from_slice(self.alloc, cookie)?;
+        let before = self.machine.state();
+        let answer = self.machine.init_ack(offer);
+        if answer.reply.is_none() && answer.told.is_none() {
+            return Ok(Step::Refused(Reason::Unexpected));
+        }
+        self.cookie = Some(cookie);
+        self.follow(before, answer, offer.tag, now);
+        Ok(Step::Next)
+    }
+
+    /// Takes a COOKIE ECHO (RFC 9260 5.1 D, 5.1.5, 5.2.4): only one that this side sealed, in a packet with the tag that it holds.
+    pub(super) fn take_cookie(
+        &mut self,
+        datagram: &Bytes,
+        chunk: ChunkPlace,
+        tag: u32,
+        now: u64,
+    ) -> Result<Step, Fault>
+        ensures refused { (r : Reason) → result ≡ Ok (step.Refused r) → self.new ≡ self.old }
+        ensures err { OnErr result (self.new ≡ self.old) }
+    {
+        let raw = bytes_of(datagram, chunk);
+        if chunk.length > raw.len() || chunk.length < 4 {
+            return Ok(Step::Refused(Reason::NoPacket));
+        }
+        let Some((moment, payload)) = open(&HmacSha256, &self.key, &raw[4..chunk.length]) else {
+            return Ok(Step::Refused(Reason::Tag));
+        };
+        let Ok(ticket) = Ticket::read(payload) else {
+            return Ok(Step::Refused(Reason::Tag));
+        };
+        if ticket.own.tag != tag {
+            return Ok(Step::Refused(Reason::Tag));
+        }
+        let is_old = is_stale(moment, now, self.config.cookie_life);
+        let before = self.machine.state();
+        let answer = self.machine.cookie_echo(ticket, is_old);
+        if answer.reply.is_none() && answer.told.is_none() {
+            return Ok(Step::Refused(Reason::Unexpected));
+        }
+        self.follow(before, answer, ticket.peer.tag, now);
+        Ok(Step::Next)
+    }
+}

@@ -1,0 +1,263 @@
+//! What goes into a datagram (RFC 9260 6.10, 8.5).
+
+use super::Association;
+use crate::due::{Alone, AloneKind};
+use crate::fault::Fault;
+use bytes::{Bytes, BytesMut};
+use sctp_chunks::{
+    ChunkAbort, ChunkCookieAck, ChunkCookieEcho, ChunkError, ChunkHeartbeat, ChunkHeartbeatAck,
+    ChunkInit, ChunkShutdown, ChunkShutdownAck, ChunkShutdownComplete, ErrorCause, ErrorCauseCode,
+};
+use sctp_cookie::{HmacSha256, seal};
+use sctp_handshake::ticket::TICKET_LENGTH;
+use sctp_handshake::{Offer, State, Ticket};
+use sctp_packets::CommonHeader;
+use sctp_params::{
+    ParamForwardTsnSupported, ParamHeartbeatInfo, ParamKind, ParamStateCookie, ParamUnknown,
+};
+
+// The type of the parameter Zero Checksum Acceptable (RFC 9653 4.1).
+const ZERO_CHECKSUM_ACCEPTABLE: u16 = 0x8001;
+
+// Its value: the error detection method is DTLS.
+const DTLS: [u8; 4] = [0, 0, 0, 1];
+
+impl Association {
+    /// Writes the next datagram that is due, of at most `Config::mtu` bytes, and answers whether there is one: `datagram` lends it. Call it
+    /// until there is none. Refuses only for memory, where nothing else can be sent.
+    pub fn poll_transmit(&mut self, now: u64) -> Result<bool, Fault> {
+        if let Some(alone) = self.due.alone {
+            self.put_alone(alone, now)?;
+            self.due.alone = None;
+            return Ok(true);
+        }
+        if self.is_over {
+            return Ok(false);
+        }
+        self.outbound.abandon(now)?;
+        self.settle(now);
+        let Some(peer) = self.machine.peer() else {
+            return Ok(false);
+        };
+        let is_zero = peer.zero_checksum && self.config.zero_checksum && !self.due.cookie_echo;
+        let header = self.header(peer.tag);
+        self.draft.begin(header);
+        let filled = self.fill(now);
+        if self.draft.is_empty() {
+            filled?;
+            return Ok(false);
+        }
+        self.draft.seal(is_zero);
+        Ok(true)
+    }
+
+    /// The datagram that `poll_transmit` wrote last.
+    pub fn datagram(&self) -> &[u8] {
+        self.draft.bytes()
+    }
+
+    // The header of a packet with a verification tag.
+    fn header(&self, tag: u32) -> CommonHeader {
+        CommonHeader {
+            source_port: self.config.source_port,
+            destination_port: self.config.destination_port,
+            verification_tag: tag,
+        }
+    }
+
+    // Writes a packet of one reply.
+    fn put_alone(&mut self, alone: Alone, now: u64) -> Result<(), Fault> {
+        let header = self.header(alone.tag);
+        self.draft.begin(header);
+        match alone.kind {
+            AloneKind::Init => {
+                let init = self.init_of(self.machine.own(), None)?;
+                self.draft.put(&init);
+            }
+            AloneKind::InitAck(ticket) => {
+                let cookie = self.cookie_of(&ticket, now)?;
+                let init = self.init_of(ticket.own, Some(cookie))?;
+                self.draft.put(&init);
+            }
+            AloneKind::StaleCookie(by) => self.put_error(3, &by.to_be_bytes())?,
+            AloneKind::ShuttingDown => {
+                self.draft.put(&ChunkShutdownAck);
+                self.put_error(10, &[])?;
+            }
+            AloneKind::ShutdownComplete => {
+                self.draft.put(&ChunkShutdownComplete);
+            }
+            AloneKind::Abort(cause) => self.put_abort(cause)?,
+        }
+        self.draft.seal(false);
+        Ok(())
+    }
+
+    // An INIT, or with a cookie an INIT ACK, with an offer.
+    fn init_of(&self, own: Offer, cookie: Option<Bytes>) -> Result<ChunkInit, Fault> {
+        let mut init = ChunkInit {
+            is_ack: cookie.is_some(),
+            initiate_tag: own.tag,
+            advertised_receiver_window_credit: own.window,
+            num_outbound_streams: own.outbound_streams,
+            num_inbound_streams: own.inbound_streams,
+            initial_tsn: own.first_tsn,
+            params: Vec::new(self.alloc),
+        };
+        if let Some(cookie) = cookie {
+            init.params
+                .push(ParamKind::StateCookie(ParamStateCookie { cookie }))?;
+        }
+        init.params
+            .push(ParamKind::ForwardTsnSupported(ParamForwardTsnSupported))?;
+        if init.set_supported_extensions(self.alloc).is_err() {
+            return Err(Fault::OutOfMemory);
+        }
+        if own.zero_checksum {
+            let value = Bytes::copy_from_slice(self.alloc, &DTLS)?;
+            init.params.push(ParamKind::Unknown(ParamUnknown {
+                typ: ZERO_CHECKSUM_ACCEPTABLE,
+                value,
+            }))?;
+        }
+        Ok(init)
+    }
+
+    // The cookie that holds a ticket (RFC 9260 5.1.3).
+    fn cookie_of(&self, ticket: &Ticket, now: u64) -> Result<Bytes, Fault> {
+        let mut payload = BytesMut::with_capacity(self.alloc, TICKET_LENGTH)?;
+        ticket.put(&mut payload);
+        match seal(self.alloc, &HmacSha256, &self.key, now, payload.as_slice()) {
+            Ok(cookie) => Ok(cookie),
+            Err(_) => Err(Fault::OutOfMemory),
+        }
+    }
+
+    // Puts an ERROR with one cause.
+    fn put_error(&mut self, code: u16, info: &[u8]) -> Result<(), Fault> {
+        let error = ChunkError {
+            error_causes: self.causes(code, info)?,
+        };
+        self.draft.put(&error);
+        Ok(())
+    }
+
+    // Puts an ABORT with one cause.
+    fn put_abort(&mut self, code: u16) -> Result<(), Fault> {
+        let abort = ChunkAbort {
+            error_causes: self.causes(code, &[])?,
+        };
+        self.draft.put(&abort);
+        Ok(())
+    }
+
+    // One cause.
+    fn causes(&self, code: u16, info: &[u8]) -> Result<Vec<ErrorCause>, Fault> {
+        let raw = Bytes::copy_from_slice(self.alloc, info)?;
+        let mut causes = Vec::new(self.alloc);
+        causes.push(ErrorCause {
+            code: ErrorCauseCode(code),
+            raw,
+        })?;
+        Ok(causes)
+    }
+
+    // Puts what is due into a packet: control chunks first (RFC 9260 6.10).
+    fn fill(&mut self, now: u64) -> Result<(), Fault> {
+        self.put_cookies();
+        if self.machine.state() == State::CookieEchoed {
+            return Ok(());
+        }
+        self.put_sack(now)?;
+        self.put_shutdown();
+        self.put_heartbeats(now)?;
+        self.put_unknown_stream()?;
+        self.put_resets(now)?;
+        if self.machine.state().sends_data() {
+            self.outbound.put(&mut self.draft, now)?;
+        }
+        Ok(())
+    }
+
+    // Puts COOKIE-ECHO or COOKIE-ACK.
+    fn put_cookies(&mut self) {
+        if self.due.cookie_echo {
+            if let Some(cookie) = self.cookie.take() {
+                let echo = ChunkCookieEcho { cookie };
+                if self.draft.put(&echo) {
+                    self.due.cookie_echo = false;
+                }
+                self.cookie = Some(echo.cookie);
+            }
+        }
+        if self.due.cookie_ack && self.draft.put(&ChunkCookieAck) {
+            self.due.cookie_ack = false;
+        }
+    }
+
+    // Puts the SACK that is due, or one that waits where DATA goes with it (RFC 9260 6.1).
+    fn put_sack(&mut self, now: u64) -> Result<(), Fault> {
+        let has_data = self.outbound.has_data() && self.machine.state().sends_data();
+        match &mut self.inbound {
+            Some(inbound) => inbound.put_sack(&mut self.draft, has_data, now),
+            None => Ok(()),
+        }
+    }
+
+    // Puts SHUTDOWN or SHUTDOWN-ACK (RFC 9260 9.2).
+    fn put_shutdown(&mut self) {
+        if self.due.shutdown {
+            if let Some(inbound) = &self.inbound {
+                let shutdown = ChunkShutdown {
+                    cumulative_tsn_ack: inbound.receiver.cumulative_tsn(),
+                };
+                if self.draft.put(&shutdown) {
+                    self.due.shutdown = false;
+                }
+            }
+        }
+        if self.due.shutdown_ack && self.draft.put(&ChunkShutdownAck) {
+            self.due.shutdown_ack = false;
+        }
+    }
+
+    // Puts the answer to a HEARTBEAT, and a HEARTBEAT of an idle path (RFC 9260 8.3).
+    fn put_heartbeats(&mut self, now: u64) -> Result<(), Fault> {
+        if let Some(info) = self.due.heartbeat.take() {
+            let mut params = Vec::new(self.alloc);
+            params.push(ParamKind::HeartbeatInfo(ParamHeartbeatInfo {
+                heartbeat_information: info,
+            }))?;
+            self.draft.put(&ChunkHeartbeatAck { params });
+        }
+        let rto = self.outbound.rto.get();
+        let Some(heartbeat) = &mut self.heartbeat else {
+            return Ok(());
+        };
+        if self.machine.state() != State::Established || heartbeat.at(rto) > now {
+            return Ok(());
+        }
+        let info = Bytes::copy_from_slice(self.alloc, &now.to_be_bytes())?;
+        let mut params = Vec::new(self.alloc);
+        params.push(ParamKind::HeartbeatInfo(ParamHeartbeatInfo {
+            heartbeat_information: info,
+        }))?;
+        if self.draft.put(&ChunkHeartbeat { params }) {
+            heartbeat.sent(now, now);
+        }
+        Ok(())
+    }
+
+    // Puts the ERROR about a chunk of no such stream (RFC 9260 6.5, 3.3.10.1).
+    fn put_unknown_stream(&mut self) -> Result<(), Fault> {
+        let Some(inbound) = &mut self.inbound else {
+            return Ok(());
+        };
+        let Some(stream) = inbound.unknown_stream else {
+            return Ok(());
+        };
+        inbound.unknown_stream = None;
+        let number = stream.to_be_bytes();
+        self.put_error(1, &[number[0], number[1], 0, 0])
+    }
+}

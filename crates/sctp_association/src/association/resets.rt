@@ -1,0 +1,260 @@
+//! Streams that are reset (RFC 6525; RFC 8831 6.7).
+
+ghost use Rattle.std.specs.Prelude.{◌≡◌, Ok};
+ghost use Rattle.sctp_association.specs.declared.association.Reason.{Reason};
+ghost use Rattle.sctp_association.specs.declared.association.arrivals.Step.TheVariants as step;
+
+use super::arrivals::Step;
+use super::{Association, Reason};
+use crate::fault::Fault;
+use bytes::Bytes;
+use sctp_chunks::ChunkReconfig;
+use sctp_datagram::ChunkPlace;
+use sctp_datagram::params::param_at;
+use sctp_params::{
+    ParamKind, ParamOutgoingResetRequest, ParamReconfigResponse, ReconfigResult, build_param,
+};
+use sctp_receiver::receiver::refusal::ReceiverRefusal;
+use sctp_reset::{Answer, Due};
+use sctp_util::error::Error;
+
+// The most streams of a request: it then fits into the least packet.
+const MOST_STREAMS: usize = 64;
+
+// The most parameters of a RE-CONFIG chunk (RFC 6525 3.1).
+const MOST_PARAMS: usize = 2;
+
+// A RE-CONFIG chunk with one parameter.
+fn reconfig(param: ParamKind) -> ChunkReconfig {
+    ChunkReconfig {
+        param_a: Some(param),
+        param_b: None,
+    }
+}
+
+impl Association {
+    /// Resets a stream in our direction, once the peer has acknowledged all that was written to it (RFC 8831 6.7): an event tells when. Refuses
+    /// with `NoSuchStream`, where the peer takes no resets too, or for memory.
+    pub fn reset_stream(&mut self, stream: u16) -> Result<(), Fault> {
+        let is_known = match self.machine.agreed() {
+            Some(agreed) => agreed.reconfig && stream < agreed.outbound_streams,
+            None => false,
+        };
+        if !is_known {
+            return Err(Fault::NoSuchStream);
+        }
+        self.events.reserve_outbound(stream)?;
+        if self.requests.ask(stream).is_err() {
+            return Err(Fault::OutOfMemory);
+        }
+        Ok(())
+    }
+
+    /// Puts the RE-CONFIG chunks that are due (RFC 6525 5.1, 5.2).
+    pub(super) fn put_resets(&mut self, now: u64) -> Result<(), Fault> {
+        if let Some(peer) = &mut self.peer_requests {
+            if let Some(response) = peer.take_response() {
+                self.draft
+                    .put(&reconfig(ParamKind::ReconfigResponse(response)));
+            }
+        }
+        self.begin_request(now)?;
+        self.put_request(now)
+    }
+
+    // Begins the next request, where none is under way.
+    fn begin_request(&mut self, now: u64) -> Result<(), Fault> {
+        let sender = &self.outbound.sender;
+        let last_tsn = sender.next_tsn().wrapping_sub(1);
+        let begun = self.requests.begin(
+            self.alloc,
+            |stream| sender.is_drained(stream),
+            MOST_STREAMS,
+            last_tsn,
+            now,
+        );
+        match begun {
+            Ok(()) => Ok(()),
+            Err(_) => Err(Fault::OutOfMemory),
+        }
+    }
+
+    // Puts the request that is due, for the first time or again.
+    fn put_request(&mut self, now: u64) -> Result<(), Fault> {
+        let Some(request) = self.requests.due(now) else {
+            return Ok(());
+        };
+        let mut streams = Vec::with_capacity(self.alloc, request.streams.len())?;
+        streams.extend_from_slice(&request.streams)?;
+        let last_number = match &self.peer_requests {
+            Some(peer) => peer.last_number(),
+            None => 0,
+        };
+        let param = ParamOutgoingResetRequest {
+            reconfig_request_sequence_number: request.number,
+            reconfig_response_sequence_number: last_number,
+            sender_last_tsn: request.last_tsn,
+            stream_identifiers: streams,
+        };
+        if self
+            .draft
+            .put(&reconfig(ParamKind::OutgoingResetRequest(param)))
+        {
+            self.requests.sent(now, self.outbound.rto.get());
+        }
+        Ok(())
+    }
+
+    /// Takes a RE-CONFIG chunk: of its parameters those that are requests or responses (RFC 6525 3.1).
+    pub(super) fn take_reconfig(
+        &mut self,
+        datagram: &Bytes,
+        chunk: ChunkPlace,
+        now: u64,
+    ) -> Result<Step, Fault>
+        ensures refused { (r : Reason) → result ≡ Ok (step.Refused r) → self.new ≡ self.old }
+    {
+        if !self.machine.state().takes_data() && !self.machine.state().takes_sacks() {
+            return Ok(Step::Refused(Reason::Unexpected));
+        }
+        let end = chunk.at.saturating_add(chunk.length);
+        if end > datagram.len() || chunk.at > end {
+            return Ok(Step::Refused(Reason::NoPacket));
+        }
+        let mut at = 4;
+        for _ in 0..MOST_PARAMS {
+            let raw = datagram.slice(chunk.at..end)?;
+            if at >= raw.len() {
+                break;
+            }
+            let Ok(place) = param_at(raw.as_slice(), at) else {
+                break;
+            };
+            self.take_param(&raw, at, place.typ, now)?;
+            at = place.next;
+        }
+        Ok(Step::Next)
+    }
+
+    // Takes a parameter.
+    fn take_param(&mut self, raw: &Bytes, at: usize, typ: u16, now: u64) -> Result<(), Fault> {
+        match typ {
+            13 | 16 => {}
+            14 | 15 | 17 | 18 => return Ok(self.deny(raw, at)),
+            _ => return Ok(()),
+        }
+        if at > raw.len() {
+            return Ok(());
+        }
+        let rest = raw.slice(at..)?;
+        match build_param(self.alloc, &rest) {
+            Ok(ParamKind::OutgoingResetRequest(request)) => self.take_request(&request),
+            Ok(ParamKind::ReconfigResponse(response)) => self.take_response(&response, now),
+            Ok(_) => Ok(()),
+            Err(Error::ErrOutOfMemory) => Err(Fault::OutOfMemory),
+            Err(_) => Ok(()),
+        }
+    }
+
+    // Denies a request that is not performed here (RFC 6525 4.2, 4.3, 4.5, 4.6).
+    fn deny(&mut self, raw: &Bytes, at: usize) {
+        let Some(peer) = &mut self.peer_requests else {
+            return;
+        };
+        let start = at.saturating_add(4);
+        if start.saturating_add(4) > raw.len() {
+            return;
+        }
+        let number = sctp_util::field::read_u32(&raw[start..], 0);
+        if let Due::Perform = peer.request(number) {
+            peer.answered(ReconfigResult::Denied);
+        }
+    }
+
+    // Takes a request of the peer (RFC 6525 5.2.2): one that comes again has the same answer as before.
+    fn take_request(&mut self, request: &ParamOutgoingResetRequest) -> Result<(), Fault> {
+        let Some(peer) = &mut self.peer_requests else {
+            return Ok(());
+        };
+        let Due::Perform = peer.request(request.reconfig_request_sequence_number) else {
+            return Ok(());
+        };
+        let outcome = self.perform(request)?;
+        if let Some(peer) = &mut self.peer_requests {
+            if peer.is_awaited() {
+                peer.answered(outcome);
+            }
+        }
+        Ok(())
+    }
+
+    // Resets the streams that a request lists, or all where it lists none (RFC 6525 4.1).
+    fn perform(&mut self, request: &ParamOutgoingResetRequest) -> Result<ReconfigResult, Fault> {
+        if request.stream_identifiers.is_empty() {
+            return self.perform_all(request.sender_last_tsn);
+        }
+        let mut outcome = ReconfigResult::SuccessPerformed;
+        for stream in &request.stream_identifiers {
+            match self.perform_one(*stream, request.sender_last_tsn)? {
+                ReconfigResult::SuccessPerformed => {}
+                ReconfigResult::InProgress => return Ok(ReconfigResult::InProgress),
+                wrong => outcome = wrong,
+            }
+        }
+        Ok(outcome)
+    }
+
+    // Resets all open streams.
+    fn perform_all(&mut self, last_tsn: u32) -> Result<ReconfigResult, Fault> {
+        let streams = match self.machine.agreed() {
+            Some(agreed) => agreed.inbound_streams,
+            None => 0,
+        };
+        for stream in 0..streams {
+            if self.perform_one(stream, last_tsn)? == ReconfigResult::InProgress {
+                return Ok(ReconfigResult::InProgress);
+            }
+        }
+        Ok(ReconfigResult::SuccessPerformed)
+    }
+
+    // Resets a stream. One of which nothing came has nothing to reset.
+    fn perform_one(&mut self, stream: u16, last_tsn: u32) -> Result<ReconfigResult, Fault> {
+        let Some(inbound) = &mut self.inbound else {
+            return Ok(ReconfigResult::ErrorWrongSsn);
+        };
+        if let Some(wrong) = inbound.wrong_stream(stream) {
+            return Ok(wrong);
+        }
+        match inbound.receiver.reset(stream, last_tsn) {
+            Ok(()) => {
+                self.events.reset_by_peer.insert(stream);
+                Ok(ReconfigResult::SuccessPerformed)
+            }
+            Err(ReceiverRefusal::ResetInProgress) => Ok(ReconfigResult::InProgress),
+            Err(ReceiverRefusal::StreamUnknown) => Ok(ReconfigResult::SuccessPerformed),
+            Err(e) => Err(Fault::from(e)),
+        }
+    }
+
+    // Takes the response to the request that is under way (RFC 6525 5.2.7): the streams begin at SSN 0 again.
+    fn take_response(&mut self, response: &ParamReconfigResponse, now: u64) -> Result<(), Fault> {
+        let rto = self.outbound.rto.get();
+        let number = response.reconfig_response_sequence_number;
+        match self.requests.response(number, response.result, now, rto) {
+            Answer::Performed(request) => {
+                for stream in &request.streams {
+                    self.outbound.sender.reset(*stream)?;
+                    self.events.reset_by_us.insert(*stream);
+                }
+            }
+            Answer::Refused(request, _) => {
+                for stream in &request.streams {
+                    self.events.reset_refused.insert(*stream);
+                }
+            }
+            Answer::Wait | Answer::NotUnderWay => {}
+        }
+        Ok(())
+    }
+}

@@ -1,0 +1,51 @@
+//! What is to be sent beside user data and SACKs.
+
+use bytes::Bytes;
+use sctp_handshake::Ticket;
+
+/// A packet of one reply, to whom has this tag.
+#[derive(Clone, Copy)]
+pub(crate) struct Alone {
+    pub(crate) tag: u32,
+    pub(crate) kind: AloneKind,
+}
+
+/// What such a packet has.
+#[derive(Clone, Copy)]
+pub(crate) enum AloneKind {
+    Init,
+    InitAck(Ticket),
+    /// An ERROR with cause 3: by how many microseconds the cookie was too old (RFC 9260 3.3.10.3).
+    StaleCookie(u32),
+    /// A SHUTDOWN-ACK, and an ERROR with cause 10 (RFC 9260 5.2.4 A).
+    ShuttingDown,
+    ShutdownComplete,
+    /// An ABORT with this cause code (RFC 9260 3.3.7).
+    Abort(u16),
+}
+
+/// What is due, each at most once: a later one of its kind takes the place of an earlier one.
+#[derive(Drop)]
+pub(crate) struct Due {
+    pub(crate) alone: Option<Alone>,
+    pub(crate) cookie_echo: bool,
+    pub(crate) cookie_ack: bool,
+    pub(crate) shutdown: bool,
+    pub(crate) shutdown_ack: bool,
+    /// The HEARTBEAT whose information is to be sent back (RFC 9260 8.3).
+    pub(crate) heartbeat: Option<Bytes>,
+}
+
+impl Due {
+    /// Nothing.
+    pub(crate) fn new() -> Due {
+        Due {
+            alone: None,
+            cookie_echo: false,
+            cookie_ack: false,
+            shutdown: false,
+            shutdown_ack: false,
+            heartbeat: None,
+        }
+    }
+}

@@ -1,0 +1,147 @@
+//! What an association tells its user.
+
+use crate::stream_set::StreamSet;
+use std::alloc::{AllocError, Global};
+
+/// What happened. Each waits until `Association::poll` gives it: of one kind, of one stream, at most one waits.
+#[derive(Clone, Copy, Debug, PartialEq, Eq)]
+pub enum Event {
+    /// The association is established.
+    Connected,
+    /// The peer has begun anew (RFC 9260 5.2.4.1): what was written and not acknowledged is gone, and so is what was not read.
+    Restarted,
+    /// A message can be read of the stream.
+    Readable(u16),
+    /// The buffered amount of the stream fell from above its low threshold to at most it.
+    BufferedAmountLow(u16),
+    /// The peer has reset the stream in our direction, as we asked (RFC 6525 5.2.2).
+    ResetByUs(u16),
+    /// The peer did not reset the stream (RFC 6525 4.4).
+    ResetRefused(u16),
+    /// The peer has reset the stream in its direction: what it writes next on it is a new use (RFC 8831 6.7).
+    ResetByPeer(u16),
+    /// The peer told an error with this cause code (RFC 9260 3.3.10).
+    PeerError(u16),
+    /// The peer shuts the association down: it takes no further messages (RFC 9260 9.2).
+    Shutdown,
+    /// The association is over.
+    Closed(Ending),
+}
+
+/// How an association ended.
+#[derive(Clone, Copy, Debug, PartialEq, Eq)]
+pub enum Ending {
+    /// By SHUTDOWN: all that was written came (RFC 9260 9.2).
+    Shutdown,
+    /// The peer sent an ABORT (RFC 9260 9.1).
+    AbortedByPeer,
+    /// We sent an ABORT.
+    Aborted,
+    /// The peer answered nothing any more (RFC 9260 8.1), or no INIT or COOKIE-ECHO (RFC 9260 4 note 2).
+    Unanswered,
+}
+
+/// The events that wait.
+#[derive(Drop)]
+pub(crate) struct Events {
+    pub(crate) connected: bool,
+    pub(crate) restarted: bool,
+    pub(crate) shutdown: bool,
+    pub(crate) closed: Option<Ending>,
+    pub(crate) peer_error: Option<u16>,
+    pub(crate) readable: StreamSet,
+    pub(crate) low: StreamSet,
+    pub(crate) reset_by_us: StreamSet,
+    pub(crate) reset_refused: StreamSet,
+    pub(crate) reset_by_peer: StreamSet,
+}
+
+impl Events {
+    /// None. It takes no memory.
+    pub(crate) fn new(alloc: Global) -> Events {
+        Events {
+            connected: false,
+            restarted: false,
+            shutdown: false,
+            closed: None,
+            peer_error: None,
+            readable: StreamSet::new(alloc),
+            low: StreamSet::new(alloc),
+            reset_by_us: StreamSet::new(alloc),
+            reset_refused: StreamSet::new(alloc),
+            reset_by_peer: StreamSet::new(alloc),
+        }
+    }
+
+    /// Makes room for the events of a stream on which we write.
+    pub(crate) fn reserve_outbound(&mut self, stream: u16) -> Result<(), AllocError> {
+        self.low.reserve(stream)?;
+        self.reset_by_us.reserve(stream)?;
+        self.reset_refused.reserve(stream)
+    }
+
+    /// Makes room for the events of a stream on which the peer writes.
+    pub(crate) fn reserve_inbound(&mut self, stream: u16) -> Result<(), AllocError> {
+        self.readable.reserve(stream)?;
+        self.reset_by_peer.reserve(stream)
+    }
+
+    // Takes out an event of the whole association, if one waits, but the last one.
+    fn pop_whole(&mut self) -> Option<Event> {
+        if self.connected {
+            self.connected = false;
+            return Some(Event::Connected);
+        }
+        if self.restarted {
+            self.restarted = false;
+            return Some(Event::Restarted);
+        }
+        if let Some(cause) = self.peer_error {
+            self.peer_error = None;
+            return Some(Event::PeerError(cause));
+        }
+        None
+    }
+
+    // Takes out an event of a stream, if one waits.
+    fn pop_of_stream(&mut self) -> Option<Event> {
+        if let Some(stream) = self.reset_by_us.pop() {
+            return Some(Event::ResetByUs(stream));
+        }
+        if let Some(stream) = self.reset_refused.pop() {
+            return Some(Event::ResetRefused(stream));
+        }
+        if let Some(stream) = self.readable.pop() {
+            return Some(Event::Readable(stream));
+        }
+        if let Some(stream) = self.reset_by_peer.pop() {
+            return Some(Event::ResetByPeer(stream));
+        }
+        if let Some(stream) = self.low.pop() {
+            return Some(Event::BufferedAmountLow(stream));
+        }
+        None
+    }
+
+    // Takes out how the association ends, if that is to be told.
+    fn pop_end(&mut self) -> Option<Event> {
+        if self.shutdown {
+            self.shutdown = false;
+            return Some(Event::Shutdown);
+        }
+        let ending = self.closed?;
+        self.closed = None;
+        Some(Event::Closed(ending))
+    }
+
+    /// Takes the next event out: those of the whole association first, the end last.
+    pub(crate) fn pop(&mut self) -> Option<Event> {
+        if let Some(event) = self.pop_whole() {
+            return Some(event);
+        }
+        if let Some(event) = self.pop_of_stream() {
+            return Some(event);
+        }
+        self.pop_end()
+    }
+}

@@ -1,0 +1,22 @@
+//! An SCTP association for WebRTC data channels (RFC 9260, 3758, 6525, 8831): from an application to datagrams and back. It has no clock,
+//! socket or random source: moments, datagrams and secrets are handed in.
+#![tactic(auto)]
+
+mod association;
+mod config;
+mod draft;
+mod due;
+mod event;
+mod fault;
+mod inbound;
+mod outbound;
+mod stream_set;
+
+pub use association::{Association, Reason, Taken};
+pub use config::{Config, Secrets};
+pub use event::{Ending, Event};
+pub use fault::Fault;
+pub use sctp_data::chunk::chunk_payload_data::{PayloadProtocolIdentifier, ReliabilityType};
+pub use sctp_handshake::State;
+pub use sctp_path::RtoLimits;
+pub use sctp_reassembly::Chunks;

@@ -1,0 +1,150 @@
+//! What a SACK acknowledges (RFC 9260 6.2.1, 6.3, 7.2).
+
+use super::Outbound;
+use crate::fault::Fault;
+use crate::stream_set::StreamSet;
+use sctp_data::chunk::chunk_selective_ack::ChunkSelectiveAck;
+use sctp_path::Acknowledged;
+use sctp_sender::sender::flight::Released;
+use sctp_sender::sender::refusal::SenderRefusal;
+use sctp_util::util::sna32lt;
+use std::alloc::Global;
+
+/// What became of a SACK.
+#[derive(Clone, Copy, Debug, PartialEq, Eq)]
+pub(crate) enum SackTaken {
+    /// It was taken, or is out of date.
+    Taken,
+    /// It claims what can't be: an ABORT is due (RFC 9260 3.3.10.13).
+    Forged,
+}
+
+// How many bytes were acknowledged, with the headers of their chunks (RFC 9260 7.2.2).
+fn bytes_of(released: &[Released]) -> usize {
+    let mut sum = 0usize;
+    for one in released {
+        sum = sum
+            .saturating_add(one.bytes)
+            .saturating_add(super::DATA_HEADER);
+    }
+    sum
+}
+
+// When the last chunk was sent that is acknowledged now and was sent once (RFC 9260 6.3.1 C4, C5).
+fn sent_once(released: &[Released]) -> Option<u64> {
+    let mut sent = None;
+    for one in released {
+        if one.nsent == 1 {
+            sent = one.since;
+        }
+    }
+    sent
+}
+
+// Notes the streams whose buffered amount fell to the low threshold.
+fn note_low(low: &mut StreamSet, released: &[Released]) {
+    for one in released {
+        if one.is_low {
+            low.insert(one.stream);
+        }
+    }
+}
+
+impl Outbound {
+    /// Takes the cumulative TSN of a SHUTDOWN as a SACK without blocks, which leaves the window as it is (RFC 9260 9.2).
+    pub(crate) fn take_shutdown(
+        &mut self,
+        alloc: Global,
+        tsn: u32,
+        low: &mut StreamSet,
+        now: u64,
+    ) -> Result<SackTaken, Fault> {
+        let window = u32::try_from(self.peer_window).unwrap_or(u32::MAX);
+        let sack = ChunkSelectiveAck {
+            cumulative_tsn_ack: tsn,
+            advertised_receiver_window_credit: window,
+            gap_ack_blocks: Vec::new(alloc),
+            duplicate_tsn: Vec::new(alloc),
+        };
+        self.take_sack(&sack, low, now)
+    }
+
+    /// Takes a SACK, unless it is out of date. Refuses only for memory, and nothing has changed then.
+    pub(crate) fn take_sack(
+        &mut self,
+        sack: &ChunkSelectiveAck,
+        low: &mut StreamSet,
+        now: u64,
+    ) -> Result<SackTaken, Fault> {
+        let before = self.sender.acked_tsn();
+        if sna32lt(sack.cumulative_tsn_ack, before) {
+            return Ok(SackTaken::Taken);
+        }
+        let flight = self.flight();
+        let released = match self.sender.acked(sack) {
+            Ok(acked) => acked.released,
+            Err(SenderRefusal::OutOfMemory) => return Err(Fault::OutOfMemory),
+            Err(_) => return Ok(SackTaken::Forged),
+        };
+        note_low(low, &released);
+        self.peer_window = sack.advertised_receiver_window_credit as usize;
+        self.is_skip_due = true;
+        self.burst = None;
+        self.follow(sack, &released, before, flight, now);
+        Ok(SackTaken::Taken)
+    }
+
+    // Follows what a SACK acknowledged: timer, round trip, congestion window, what is missing.
+    fn follow(
+        &mut self,
+        sack: &ChunkSelectiveAck,
+        released: &[Released],
+        before: u32,
+        flight: usize,
+        now: u64,
+    ) {
+        if !released.is_empty() {
+            self.failures.clear();
+        }
+        if let Some(since) = sent_once(released) {
+            self.rto.measured(now.saturating_sub(since));
+        }
+        let has_advanced = self.sender.acked_tsn() != before;
+        if has_advanced {
+            self.timer.stop();
+        }
+        if has_advanced || !released.is_empty() {
+            self.congestion.acked(Acknowledged {
+                cumulative_tsn: self.sender.acked_tsn(),
+                advances: has_advanced,
+                bytes: bytes_of(released),
+                flight,
+                all: self.sender.outbound().inflight_len() == 0,
+            });
+        }
+        self.count_missing(sack, released, has_advanced);
+        self.run_timer(now);
+    }
+
+    // Counts what is missing before the highest TSN that is acknowledged now; in fast recovery, where the cumulative TSN moved,
+    // before the highest that the SACK reports (RFC 9260 7.2.4).
+    fn count_missing(
+        &mut self,
+        sack: &ChunkSelectiveAck,
+        released: &[Released],
+        has_advanced: bool,
+    ) {
+        let (Some(block), Some(one)) = (sack.gap_ack_blocks.last(), released.last()) else {
+            return;
+        };
+        let mut before = one.tsn;
+        if has_advanced && self.congestion.is_recovering() {
+            before = sack.cumulative_tsn_ack.wrapping_add(u32::from(block.end));
+        }
+        if self.sender.add_miss_indications(before) > 0 {
+            self.congestion.lost(self.sender.next_tsn().wrapping_sub(1));
+            self.is_fast = true;
+            self.has_lost = true;
+        }
+    }
+}
