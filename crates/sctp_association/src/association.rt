@@ -228,7 +228,7 @@ impl Association {
         Ok(())
     }
 
-    /// How many bytes were written to a stream that the peer did not acknowledge, and that were not given up.
+    /// How many bytes were written to a stream that the peer did not acknowledge, and that neither expired nor were abandoned.
     pub fn buffered_amount(&self, stream: u16) -> usize {
         match self.outbound.sender.stream(stream) {
             Some(state) => state.buffered_amount(),

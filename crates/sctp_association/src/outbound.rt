@@ -149,7 +149,7 @@ impl Outbound {
     }
 
     /// A HEARTBEAT was answered after this time (RFC 9260 8.3).
-    pub(crate) fn heard(&mut self, trip: u64) {
+    pub(crate) fn trip_measured(&mut self, trip: u64) {
         self.rto.measured(trip);
         self.failures.clear();
     }

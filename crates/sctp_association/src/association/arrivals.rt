@@ -400,7 +400,7 @@ impl Association {
                     continue;
                 };
                 if let Some(trip) = heartbeat.answered(now, u64::from_be_bytes(*nonce)) {
-                    self.outbound.heard(trip);
+                    self.outbound.trip_measured(trip);
                 }
             }
         }
