@@ -3,6 +3,7 @@ use Rattle.sctp_sender.proofs.Names.{◌≡◌, ℕ, Bool, true, false, List, []
 use Rattle.sctp_sender.proofs.Names.{◌&&◌, nat_lt, list_all, false≢true, Sack, total_bytes, SenderRefusal, InflightQueueTsnPop, TsnRequestNotExist, Flight}
 use Rattle.sctp_sender.proofs.Names.{count_acked, is_outdated, is_within, sack_refusal, after_returns, answered_back, back_each, bytes_back, with_restored}
 use Rattle.sctp_sender.proofs.Names.{Transmission, after_take_back, back_by, or_full, take_back_refusal, taken_back_by}
+use Rattle.std.specs.Option.{option_map}
 use Rattle.std.specs.Prelude.{◌-◌, ◌+◌, ◌^◌}
 use Rattle.sctp_sender.proofs.Keepings.{length-restored}
 
@@ -59,3 +60,14 @@ claim-refused {A} s t ks kept claimed none = by (is_outdated s t.flight) refl
             else Some TsnRequestNotExist)
     by false e = absurd (false≢true (ap is_some (sym none ∙ ap (λ o. if is_some o && not (is_outdated s t.flight) then all else None) kept
         ∙ ap (λ c. if not c then all else None) e) ∙ full (sack_refusal s t.flight) claimed))
+
+-- where nothing is kept, it is as if nothing came back
+pub none-listed : {X Y : Type 0} (o : Option X) (f : X → Y) → is_some o ≡ false → option_map f o ≡ None
+none-listed None f e = refl
+none-listed (Some x) f e = absurd (false≢true (sym e))
+
+pub none-refused : (s : Sack) (t : Transmission) → t.kept ≡ None → take_back_refusal s t ≡ None
+none-refused s t e = ap (λ o. if is_some o && not (is_outdated s t.flight) then refusal else None) e
+  where
+    refusal : Option SenderRefusal
+    refusal = or_full (sack_refusal s t.flight) (nat_lt (total_bytes t.flight.queue + bytes_back (taken_back_by s t)) (2 ^ 64))

@@ -19,7 +19,6 @@ use self::flight::anew::{keep_anew, make_room};
 use self::flight::kept::{Kept, TakenBack};
 use self::flight::late::AbandonedMessage;
 use self::flight::{InFlight, Released};
-use self::kept::return_each;
 use self::outbound_streams::{OutboundStreams, fragments_of};
 use self::refusal::SenderRefusal;
 use bytes::Bytes;
@@ -538,20 +537,29 @@ impl Sender {
         ensures acks { Acknowledges (sack_of sack.now) self.old self.new result }
         ensures turns { CountsSack (sack_of sack.now) self.old turns.old turns.new }
     {
-        let back = self.bring_back_counted(sack, turns)?;
-        let mut released = match self.acked_in_flight_counted(sack, turns) {
-            Ok(released) => released,
-            Err(refusal) => {
-                self.undo_back(back, turns);
-                return Err(refusal);
-            }
-        };
-        return_each(&mut self.streams, &back.told.answered, turns);
+        if self.kept.is_some() {
+            return self.acked_keeping(sack, turns);
+        }
+        let mut released = self.acked_dropping(sack, turns)?;
         release_each(&mut self.streams, &mut released);
         Ok(Acked {
             released,
-            taken_back: back.told.answered,
+            taken_back: Vec::new(self.alloc),
         })
+    }
+
+    // What `acked` does of what is in flight, where nothing is kept: it makes no list but the answer. The streams stay as they are.
+    fn acked_dropping(
+        &mut self,
+        sack: &ChunkSelectiveAck,
+        turns: &mut Turns,
+    ) -> Result<Vec<Released>, SenderRefusal>
+        requires { self.old.kept ≡ None }
+        ensures acks { AcksInFlight (sack_of sack.now) self.old self.new result }
+        ensures turns { CountsAcked (sack_of sack.now) self.old turns.old turns.new }
+    {
+        let gone = self.flight.acked_counted(self.alloc, sack, turns)?;
+        Ok(gone)
     }
 
     /// Takes a SACK by which nothing comes back, whatever it does not report. It does what `acked` does of a sender that keeps nothing.

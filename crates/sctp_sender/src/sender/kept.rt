@@ -2,15 +2,15 @@
 
 ghost use Rattle.std.specs.Prelude.{◌≡◌, [], ◌+◌, ◌^◌, ◌≤◌, ◌⊎◌, is_some, true, nat_lt, None, Some, IfOk, IfErr, IsOk, length};
 ghost use Rattle.sctp_outbound.specs.outbound_queue.OutboundQueue.{total_bytes};
-ghost use Rattle.sctp_sender.specs.Calls.{CanUndo, CountsBack, IsAnew, Restores, TakesBack};
+ghost use Rattle.sctp_sender.specs.Calls.{Acknowledges, CanUndo, CountsBack, CountsSack, IsAnew, Restores, TakesBack};
 ghost use Rattle.sctp_sender.specs.Costs.{anew_turns, take_back_turns};
 ghost use Rattle.sctp_sender.specs.Keeping.{after_returns, bytes_back, with_reported_again};
 ghost use Rattle.sctp_sender.specs.declared.sender.refusal.SenderRefusal.TheVariants.{OutOfMemory};
 
-use super::Sender;
 use super::flight::anew::Anew;
 use super::flight::kept::{TakenBack, Told, answered_back_counted, set_left, set_reported};
 use super::outbound_streams::OutboundStreams;
+use super::{Acked, Sender, release_each};
 use crate::sender::refusal::SenderRefusal;
 use sctp_data::chunk::chunk_selective_ack::{ChunkSelectiveAck, GapAckBlock};
 use sctp_outbound::outbound_queue::OutboundQueue;
@@ -30,6 +30,31 @@ impl Sender {
     ghost use Rattle.sctp_data.specs.SelectiveAck.{sack_of};
     ghost use Rattle.sctp_sender.specs.Flight.{is_outdated, sack_refusal};
     ghost use Rattle.sctp_sender.specs.Sender.{Transmission, taken_back_by, with_flight};
+
+    /// `acked`, where what is reported is kept.
+    pub(super) fn acked_keeping(
+        &mut self,
+        sack: &ChunkSelectiveAck,
+        turns: &mut Turns,
+    ) -> Result<Acked, SenderRefusal>
+        ensures acks { Acknowledges (sack_of sack.now) self.old self.new result }
+        ensures turns { CountsSack (sack_of sack.now) self.old turns.old turns.new }
+    {
+        let back = self.bring_back_counted(sack, turns)?;
+        let mut released = match self.acked_in_flight_counted(sack, turns) {
+            Ok(released) => released,
+            Err(refusal) => {
+                self.undo_back(back, turns);
+                return Err(refusal);
+            }
+        };
+        return_each(&mut self.streams, &back.told.answered, turns);
+        release_each(&mut self.streams, &mut released);
+        Ok(Acked {
+            released,
+            taken_back: back.told.answered,
+        })
+    }
 
     // Takes back what a SACK no longer reports (RFC 4960 6.2.1 D iv): each kept chunk of no abandoned message is in flight again, with
     // its bytes; past the last block, if any, none: a SACK may be cut (6.7). What is told of them is in order of TSNs; the streams stay.
@@ -160,7 +185,7 @@ fn is_room_for(queue: &OutboundQueue, answered: &[TakenBack], turns: &mut Turns)
 }
 
 // Adds to each stream what came back of it, a turn for each chunk.
-pub(super) fn return_each(streams: &mut OutboundStreams, answered: &[TakenBack], turns: &mut Turns)
+fn return_each(streams: &mut OutboundStreams, answered: &[TakenBack], turns: &mut Turns)
     ensures value { streams.new ≡ after_returns answered.now streams.old }
     ensures cost { turns.new ≡ turns.old + length answered.now }
 {
