@@ -318,7 +318,10 @@ class Sources:
             return inside(kind)
         if step.startswith("["):
             return kind if ".." in step else inside(kind)
-        name = re.match(r"\w+", step)[0]
+        named = re.match(r"\w+", step)
+        if not named:
+            return None
+        name = named[0]
         if "(" not in step:
             return self.fields.get((nominal(kind), name))
         own = self.returns.get((nominal(kind), name))
