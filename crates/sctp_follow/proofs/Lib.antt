@@ -1,4 +1,6 @@
+pub mod Counting
 pub mod Halving
+pub mod Nearest
 pub mod Reading
 pub mod Rounding
 pub mod Walk

@@ -1,8 +1,8 @@
 -- Which messages are read of the fragments that came (RFC 8260 2.2.3).
-use Rattle.std.specs.Prelude.{◌≡◌, ℕ, ◌+◌, ◌*◌, ◌%◌, Bool, true, false, if◌then◌else◌, List, [], ◌∷◌, map, ◌==◌, Option, Some, None}
+use Rattle.std.specs.Prelude.{◌≡◌, ℕ, ◌<◌, ◌+◌, ◌*◌, ◌%◌, Bool, true, false, if◌then◌else◌, List, [], ◌∷◌, map, ◌==◌, Option, Some, None}
 use Rattle.std.specs.BTreeMap as trees
 use Rattle.std.specs.Ordering.{nat_cmp}
-use Rattle.sctp_util.specs.Serial.{comes_before}
+use Rattle.sctp_util.specs.Serial.{comes_before, at_or_before}
 use Rattle.sctp_follow.specs.Interleave.{IsMessage}
 use Rattle.sctp_follow.specs.declared.interleave.Fragment.{Fragment}
 use Rattle.sctp_follow.specs.declared.interleave.Name.{Name}
@@ -73,6 +73,22 @@ pub record Takes (name : Name) (f : Fragment) (messages : List Whole) (old new :
   pub comes : Comes name.number f old mid
   pub read : ReadsAll name messages mid new
 
+-- where the messages up to a number are passed, the number behind it is next, unless a later one was
+abbrev pub passed_next : Option ℕ → ℕ → Option ℕ
+passed_next None number = None
+passed_next (Some next) number =
+    Some (if at_or_before next number then (number + 1) % 4294967296 else next)
+
+-- the messages up to one are passed: what is held of them is dropped, of others it stays, and then the ordered ones from the next on are read that are
+-- complete
+pub record Skips (name : Name) (messages : List Whole) (old new : Lane) : Type 0 where
+  pub mid : Lane
+  pub gone : (n : ℕ) → n < 4294967296
+      → held_at mid n ≡ (if at_or_before n name.number then [] else held_at old n)
+  pub next : mid.next ≡ passed_next old.next name.number
+  pub read : Reads name.stream messages mid new
+  pub none : NoneNext new
+
 -- ---- whose messages these are
 
 -- the key of the ordered messages of a stream, or of its unordered ones
@@ -103,4 +119,13 @@ pub record Answers (is_whole : Bool) (name : Name) (f : Fragment) (answer : Opti
   pub after : Lane
   pub known : Knows (first_next is_whole name f.place) old before
   pub becomes : Becomes name f answer before after
+  pub is : new ≡ Some after
+
+-- the messages of a stream up to one are passed, which an I-FORWARD-TSN names
+pub record IsSkipped (is_whole : Bool) (name : Name) (messages : List Whole) (old new : Option Lane)
+    : Type 0 where
+  pub before : Lane
+  pub after : Lane
+  pub known : Knows (first_next is_whole name 1) old before
+  pub skips : Skips name messages before after
   pub is : new ≡ Some after

@@ -1,13 +1,14 @@
 //! The messages of one way that are put together from fragments (RFC 8260): stream by stream, ordered and unordered ones apart.
 
-ghost use Rattle.std.specs.Prelude.{◌≡◌, ℕ, ◌+◌, ◌*◌, ◌<◌, ◌↔◌, false, if◌then◌else◌, length, nat_eq, option_map, IsTrue, IfOk, IfSome, IfNone, OnOk, OnErr, OnSome};
+ghost use Rattle.std.specs.Prelude.{◌≡◌, ℕ, ◌+◌, ◌*◌, ◌<◌, ◌≤◌, ◌⊎◌, ◌==◌, ◌↔◌, None, true, false, if◌then◌else◌, [], length, nat_eq, option_map, IsTrue, IsSome, IfOk, IfSome, IfNone, OnOk, OnErr, OnSome};
 ghost use Rattle.std.specs.BTreeMap as trees;
 ghost use Rattle.std.specs.Ordering.{nat_cmp};
+ghost use Rattle.sctp_util.specs.Serial.{at_or_before};
 ghost use Rattle.sctp_follow.specs.Interleave.{FitEach, IsMessage};
 ghost use Rattle.sctp_follow.specs.Lanes as lanes;
 
 use crate::interleave::{Fragment, Name, Whole, fits};
-use sctp_serial::serial::distance;
+use crate::spots::{Spot, Spots};
 use sctp_util::util::{sna32lt, sna32lte};
 use std::alloc::{AllocError, Global};
 use std::collections::BTreeMap;
@@ -45,6 +46,7 @@ struct Lane {
 #[derive(Drop)]
 pub struct Interleaved {
     lanes: BTreeMap<u32, Lane>,
+    spots: Spots,
     /// Whether the way was captured from its initial TSN on: then the first number of each stream is 0 (RFC 8260 2.1).
     is_whole: bool,
 }
@@ -101,26 +103,6 @@ impl Part {
         ensures { IsTrue result ↔ IsMessage (trees.values self.now.fragments) }
     {
         self.is_full() && self.fits_each()
-    }
-
-    /// Whether a fragment cannot come any more where all TSNs up to this one are passed: one that comes later has a TSN behind it.
-    fn is_lost(&self, tsn: u32) -> bool {
-        let mut next = 0u32;
-        for (place, fragment) in &self.fragments {
-            if *place != next && sna32lte(fragment.tsn, tsn.wrapping_add(1)) {
-                return true;
-            }
-            next = place.saturating_add(1);
-        }
-        false
-    }
-
-    /// Whether the first one of the fragments that came lies no later than right behind a TSN.
-    fn has_begun(&self, tsn: u32) -> bool {
-        match self.fragments.first_key_value() {
-            Some((_, fragment)) => sna32lte(fragment.tsn, tsn.wrapping_add(1)),
-            None => false,
-        }
     }
 
     /// How many bytes of the message came.
@@ -254,19 +236,50 @@ impl Lane {
     }
 
     /// Drops what is held of a message, and answers how many chunks and bytes that are.
-    fn lose(&mut self, number: u32) -> (usize, usize) {
+    fn lose(&mut self, number: u32, spots: &mut Spots) -> (usize, usize)
+        ensures held { (n : ℕ) → lanes.held_at self.new n
+            ≡ (if n == number then [] else lanes.held_at self.old n) }
+        ensures chunks { result.0 ≡ length (lanes.held_at self.old number) }
+        ensures next { self.new.next ≡ self.old.next }
+        ensures fewer { IsSome (trees.get nat_cmp self.old.parts number)
+            → trees.btree_map_len self.new.parts < trees.btree_map_len self.old.parts }
+    {
         match self.parts.remove(&number) {
-            Some(part) => (part.fragments.len(), part.byte_count()),
+            Some(part) => {
+                spots.forget_all(&part.fragments);
+                (part.fragments.len(), part.byte_count())
+            }
             None => (0, 0),
         }
     }
 
-    /// The last message that is held up to a number, if there is one: the nearest before it, or else the last one of all.
-    fn last_up_to(&self, number: u32) -> Option<u32> {
-        let nearest = match self.parts.range(..=number).next_back() {
-            Some((nearest, _)) => *nearest,
-            None => *self.parts.last_key_value()?.0,
-        };
+    /// The nearest message that is held before a number or at it, or else the last one of all.
+    fn nearest(&self, number: u32) -> Option<u32>
+        ensures some { IfSome result (λ k. IsSome (trees.get nat_cmp self.now.parts k)) }
+        ensures below { IfSome result (λ k. (n : ℕ) → IsSome (trees.get nat_cmp self.now.parts n)
+            → n ≤ number → (n ≤ k) × (k ≤ number)) }
+        ensures above { IfSome result (λ k. (n : ℕ) → IsSome (trees.get nat_cmp self.now.parts n)
+            → number < n → (k ≤ number) ⊎ (n ≤ k)) }
+        ensures few { IfSome result (λ k. k < 4294967296) }
+        ensures none { IfNone result ((n : ℕ) → trees.get nat_cmp self.now.parts n ≡ None) }
+    {
+        if let Some((nearest, _)) = self.parts.range(..=number).next_back() {
+            return Some(*nearest);
+        }
+        match self.parts.last_key_value() {
+            Some((last, _)) => Some(*last),
+            None => None,
+        }
+    }
+
+    /// The last message that is held up to a number, if there is one.
+    fn last_up_to(&self, number: u32) -> Option<u32>
+        ensures some { IfSome result (λ n. IsSome (trees.get nat_cmp self.now.parts n)) }
+        ensures up_to { IfSome result (λ n. at_or_before n number ≡ true) }
+        ensures none { IfNone result ((n : ℕ) → n < 4294967296
+            → IsSome (trees.get nat_cmp self.now.parts n) → at_or_before n number ≡ false) }
+    {
+        let nearest = self.nearest(number)?;
         if sna32lte(nearest, number) {
             Some(nearest)
         } else {
@@ -275,39 +288,119 @@ impl Lane {
     }
 
     /// Drops what is held of a message and of those before it. Each step drops one.
-    fn lose_each(&mut self, name: Name) -> Amount {
+    fn lose_each(&mut self, name: Name, spots: &mut Spots) -> Amount
+        ensures gone { (n : ℕ) → n < 4294967296 → lanes.held_at self.new n
+            ≡ (if at_or_before n name.number then [] else lanes.held_at self.old n) }
+        ensures next { self.new.next ≡ self.old.next }
+    {
         let mut dropped = Amount::none(name.stream);
-        for _held in 0..self.parts.len() {
-            let Some(number) = self.last_up_to(name.number) else {
-                return dropped;
-            };
-            dropped.add(self.lose(number));
+        'losing: while let Some(number) = self.last_up_to(name.number) {
+            dropped.add(self.lose(number, spots));
         }
         dropped
     }
 
-    /// The numbers of the messages that are held, from the next one on.
-    fn numbers(&self, alloc: Global) -> Result<Vec<u32>, AllocError> {
-        let mut numbers = Vec::new(alloc);
-        for number in self.parts.keys() {
-            numbers.push(*number)?;
-        }
-        let next = self.next.unwrap_or(0);
-        numbers.sort_by_key(|number| distance(next, *number))?;
-        Ok(numbers)
+    /// Passes the messages up to one: what is held of them is dropped, and the ordered ones behind it are read that are complete. Refuses only
+    /// for memory.
+    fn skip(&mut self, alloc: Global, name: Name, spots: &mut Spots) -> Result<Passing, AllocError>
+        ensures { IfOk result (λ passing.
+            lanes.Skips name passing.messages.items self.old self.new) }
+    {
+        let dropped = self.lose_each(name, spots);
+        self.next = passed_next(self.next, name.number);
+        let messages = self.read_each(alloc, name.stream)?;
+        Ok(Passing {
+            messages,
+            dropped: dropped.listed(alloc)?,
+        })
     }
 
-    /// The last ordered message that is held and begins no later than right behind a TSN: those before it end no later than there.
-    fn last_begun(&self, numbers: &[u32], tsn: u32) -> Option<u32> {
-        let mut last = None;
-        for number in numbers {
-            if let Some(part) = self.parts.get(number)
-                && part.has_begun(tsn)
-            {
-                last = Some(*number);
+    /// The first ordered message that is held from the next one on, if it comes before a number.
+    fn first_before(&self, number: u32) -> Option<u32>
+        ensures { IfSome result (λ n. IsSome (trees.get nat_cmp self.now.parts n)) }
+    {
+        let next = self.next?;
+        let first = match self.parts.range(next..).next() {
+            Some((first, _)) => *first,
+            None => *self.parts.first_key_value()?.0,
+        };
+        if sna32lt(first, number) {
+            Some(first)
+        } else {
+            None
+        }
+    }
+
+    /// Takes an ordered message out: it is read if it is complete, or else dropped.
+    fn end(
+        &mut self,
+        name: Name,
+        spots: &mut Spots,
+        messages: &mut Vec<Whole>,
+        dropped: &mut Amount,
+    ) -> Result<(), AllocError>
+        ensures { IsSome (trees.get nat_cmp self.old.parts name.number)
+            → trees.btree_map_len self.new.parts < trees.btree_map_len self.old.parts }
+    {
+        match self.read(name) {
+            Some(message) => {
+                messages.push(message)?;
+                Ok(())
+            }
+            None => {
+                dropped.add(self.lose(name.number, spots));
+                Ok(())
             }
         }
-        last
+    }
+
+    /// Ends each ordered message before this one, the first one first.
+    fn end_each(
+        &mut self,
+        name: Name,
+        spots: &mut Spots,
+        messages: &mut Vec<Whole>,
+        dropped: &mut Amount,
+    ) -> Result<(), AllocError> {
+        'ending: while let Some(number) = self.first_before(name.number) {
+            self.end(ordered(name.stream, number), spots, messages, dropped)?;
+        }
+        self.next = passed_next(self.next, name.number.wrapping_sub(1));
+        Ok(())
+    }
+
+    /// Whether the fragment before a place did not come, of a message that is held.
+    fn lacks_before(&self, number: u32, place: u32) -> bool {
+        match self.parts.get(&number) {
+            Some(part) => place > 0 && !part.fragments.contains_key(&(place - 1)),
+            None => false,
+        }
+    }
+
+    /// Looks at a fragment where no TSN before its own one will come. Ordered messages before its message are over. So is that one, if the fragment
+    /// before it did not come. The messages that waited for them are read. Refuses only for memory.
+    fn see(
+        &mut self,
+        alloc: Global,
+        spot: &Spot,
+        spots: &mut Spots,
+        messages: &mut Vec<Whole>,
+    ) -> Result<Amount, AllocError> {
+        let name = spot.name;
+        let mut dropped = Amount::none(name.stream);
+        if !self.parts.contains_key(&name.number) {
+            return Ok(dropped);
+        }
+        if !name.unordered {
+            self.end_each(name, spots, messages, &mut dropped)?;
+        }
+        if self.lacks_before(name.number, spot.place) {
+            dropped.add(self.lose(name.number, spots));
+            self.next = passed_next(self.next, name.number);
+        }
+        let mut read = self.read_each(alloc, name.stream)?;
+        messages.append(&mut read)?;
+        Ok(dropped)
     }
 
     /// How much is held.
@@ -323,68 +416,16 @@ impl Lane {
             bytes,
         }
     }
+}
 
-    /// Whether a message that is held cannot become complete: a fragment of it is passed, or a later ordered one has begun.
-    fn is_over(&self, number: u32, last: Option<u32>, tsn: u32) -> bool {
-        match (self.parts.get(&number), self.next, last) {
-            (Some(part), Some(_), Some(last)) => part.is_lost(tsn) || sna32lt(number, last),
-            (Some(part), _, _) => part.is_lost(tsn),
-            (None, _, _) => false,
-        }
-    }
-
-    /// Passes what cannot become complete where no TSN up to this one will come; complete messages that waited for it are read.
-    fn pass(
-        &mut self,
-        alloc: Global,
-        stream: u16,
-        tsn: u32,
-        passing: &mut Passing,
-    ) -> Result<(), AllocError> {
-        let numbers = self.numbers(alloc)?;
-        let last = self.last_begun(&numbers, tsn);
-        let mut dropped = Amount::none(stream);
-        for number in &numbers {
-            self.pass_one(alloc, stream, *number, last, tsn, passing, &mut dropped)?;
-        }
-        if dropped.chunks > 0 {
-            passing.dropped.push(dropped)?;
-        }
-        let mut messages = self.read_each(alloc, stream)?;
-        passing.messages.append(&mut messages)
-    }
-
-    /// The same for one message: it is read if it is complete and no later than the last one that has begun, or dropped.
-    fn pass_one(
-        &mut self,
-        alloc: Global,
-        stream: u16,
-        number: u32,
-        last: Option<u32>,
-        tsn: u32,
-        passing: &mut Passing,
-        dropped: &mut Amount,
-    ) -> Result<(), AllocError> {
-        let is_due = match last {
-            Some(last) => self.next.is_some() && sna32lte(number, last),
-            None => false,
-        };
-        if is_due && let Some(message) = self.read(ordered(stream, number)) {
-            passing.messages.push(message)?;
-            self.next = Some(number.wrapping_add(1));
-            return Ok(());
-        }
-        if self.is_over(number, last, tsn) {
-            dropped.add(self.lose(number));
-            if is_due {
-                self.next = Some(number.wrapping_add(1));
-            }
-            return Ok(());
-        }
-        if is_due {
-            self.next = Some(number);
-        }
-        Ok(())
+/// The number of the next ordered message, where those up to a number are passed.
+fn passed_next(next: Option<u32>, number: u32) -> Option<u32>
+    ensures { result ≡ lanes.passed_next next number }
+{
+    match next {
+        Some(next) if !sna32lte(next, number) => Some(next),
+        Some(_) => Some(number.wrapping_add(1)),
+        None => None,
     }
 }
 
@@ -425,27 +466,39 @@ impl Interleaved {
     pub fn new(alloc: Global, is_whole: bool) -> Self {
         Interleaved {
             lanes: BTreeMap::new(alloc),
+            spots: Spots::new(alloc),
             is_whole,
-        }
-    }
-
-    /// Begins a lane with the first message of which the beginning may come, unless there is one.
-    fn open(&mut self, alloc: Global, name: Name, first: u32) -> Result<u32, AllocError> {
-        let key = key_of(name.stream, name.unordered);
-        if self.lanes.contains_key(&key) {
-            return Ok(key);
-        }
-        let next = if self.is_whole { 0 } else { first };
-        let next = if name.unordered { None } else { Some(next) };
-        match self.lanes.insert(key, Lane::new(alloc, next)) {
-            Ok(_) => Ok(key),
-            Err(_) => Err(AllocError),
         }
     }
 
     /// Takes a fragment of a message whose TSN is new, and answers the messages that can be read: an unordered one once it is complete, ordered
     /// ones in the order of their numbers. Of a message that was passed there is no answer. Refuses only for memory.
     pub fn take(
+        &mut self,
+        alloc: Global,
+        name: Name,
+        fragment: Fragment,
+    ) -> Result<Option<Vec<Whole>>, AllocError>
+        ensures answers { IfOk result (λ answer. lanes.Answers self.old.is_whole name fragment
+            (option_map (λ messages. messages.items) answer)
+            (trees.get nat_cmp self.old.lanes (lanes.key_of name))
+            (trees.get nat_cmp self.new.lanes (lanes.key_of name))) }
+        ensures others { OnOk result ((k : ℕ) → nat_eq k (lanes.key_of name) ≡ false
+            → trees.get nat_cmp self.new.lanes k ≡ trees.get nat_cmp self.old.lanes k) }
+        ensures whole { self.new.is_whole ≡ self.old.is_whole }
+    {
+        let tsn = fragment.tsn;
+        self.spots.add(name, &fragment)?;
+        let answer = self.take_in(alloc, name, fragment);
+        match &answer {
+            Ok(Some(messages)) => self.spots.forget_read(messages),
+            Ok(None) | Err(_) => self.spots.forget(tsn),
+        }
+        answer
+    }
+
+    /// The same, on the lane of the message.
+    fn take_in(
         &mut self,
         alloc: Global,
         name: Name,
@@ -471,40 +524,96 @@ impl Interleaved {
         }
     }
 
-    /// Passes the messages up to one that an I-FORWARD-TSN names (RFC 8260 2.3.1). Refuses only for memory.
-    pub fn skip(&mut self, alloc: Global, name: Name) -> Result<Passing, AllocError> {
-        let key = self.open(alloc, name, name.number.wrapping_add(1))?;
-        let mut passing = Passing::none(alloc);
-        let Some(lane) = self.lanes.get_mut(&key) else {
-            return Ok(passing);
-        };
-        let dropped = lane.lose_each(name);
-        if let Some(next) = lane.next
-            && sna32lte(next, name.number)
-        {
-            lane.next = Some(name.number.wrapping_add(1));
-        }
-        if dropped.chunks > 0 {
-            passing.dropped.push(dropped)?;
-        }
-        passing.messages = lane.read_each(alloc, name.stream)?;
+    /// Passes the messages up to one that an I-FORWARD-TSN names (RFC 8260 2.3.1): what is held of them is dropped, and the ordered ones behind it
+    /// are read that are complete. Refuses only for memory.
+    pub fn skip(&mut self, alloc: Global, name: Name) -> Result<Passing, AllocError>
+        ensures answers { IfOk result (λ passing.
+            lanes.IsSkipped self.old.is_whole name passing.messages.items
+            (trees.get nat_cmp self.old.lanes (lanes.key_of name))
+            (trees.get nat_cmp self.new.lanes (lanes.key_of name))) }
+        ensures others { OnOk result ((k : ℕ) → nat_eq k (lanes.key_of name) ≡ false
+            → trees.get nat_cmp self.new.lanes k ≡ trees.get nat_cmp self.old.lanes k) }
+        ensures whole { self.new.is_whole ≡ self.old.is_whole }
+    {
+        let passing = self.skip_in(alloc, name)?;
+        self.spots.forget_read(&passing.messages);
         Ok(passing)
     }
 
-    /// Passes what cannot become complete any more where no TSN up to this one will come. Refuses only for memory.
-    pub fn pass(&mut self, alloc: Global, tsn: u32) -> Result<Passing, AllocError> {
-        let mut passing = Passing::none(alloc);
-        for (key, lane) in self.lanes.iter_mut() {
-            let stream = u16::try_from(*key / 2).unwrap_or(0);
-            lane.pass(alloc, stream, tsn, &mut passing)?;
+    /// The same, on the lane of the message.
+    fn skip_in(&mut self, alloc: Global, name: Name) -> Result<Passing, AllocError>
+        ensures answers { IfOk result (λ passing.
+            lanes.IsSkipped self.old.is_whole name passing.messages.items
+            (trees.get nat_cmp self.old.lanes (lanes.key_of name))
+            (trees.get nat_cmp self.new.lanes (lanes.key_of name))) }
+        ensures others { OnOk result ((k : ℕ) → nat_eq k (lanes.key_of name) ≡ false
+            → trees.get nat_cmp self.new.lanes k ≡ trees.get nat_cmp self.old.lanes k) }
+        ensures whole { self.new.is_whole ≡ self.old.is_whole }
+    {
+        let key = key_of(name.stream, name.unordered);
+        if let Some(lane) = self.lanes.get_mut(&key) {
+            return lane.skip(alloc, name, &mut self.spots);
         }
-        Ok(passing)
+        let mut opened = Lane::new(alloc, first_next(self.is_whole, name, 1));
+        let passing = opened.skip(alloc, name, &mut self.spots)?;
+        match self.lanes.insert(key, opened) {
+            Ok(_) => Ok(passing),
+            Err(_) => Err(AllocError),
+        }
+    }
+
+    /// Looks at a fragment as `Lane::see` does, and adds what is dropped to what was dropped of its lane.
+    fn see(
+        &mut self,
+        alloc: Global,
+        spot: &Spot,
+        messages: &mut Vec<Whole>,
+        amounts: &mut BTreeMap<u32, Amount>,
+    ) -> Result<(), AllocError> {
+        let key = key_of(spot.name.stream, spot.name.unordered);
+        let Some(lane) = self.lanes.get_mut(&key) else {
+            return Ok(());
+        };
+        let mut dropped = lane.see(alloc, spot, &mut self.spots, messages)?;
+        if let Some(before) = amounts.get(&key) {
+            dropped.add((before.chunks, before.bytes));
+        }
+        match amounts.insert(key, dropped) {
+            Ok(_) => Ok(()),
+            Err(_) => Err(AllocError),
+        }
+    }
+
+    /// Passes what cannot become complete any more where no TSN up to this one will come: each fragment up to right behind it is looked at, once.
+    /// Refuses only for memory.
+    pub fn pass(&mut self, alloc: Global, tsn: u32) -> Result<Passing, AllocError> {
+        let mut messages = Vec::new(alloc);
+        let mut amounts = BTreeMap::new(alloc);
+        let due = self.spots.pop_each(alloc, tsn.wrapping_add(1))?;
+        for spot in due.iter().rev() {
+            self.see(alloc, spot, &mut messages, &mut amounts)?;
+        }
+        self.spots.forget_read(&messages);
+        Ok(Passing {
+            messages,
+            dropped: listed(alloc, &amounts)?,
+        })
+    }
+
+    /// Begins the numbers of a lane anew.
+    fn reset_lane(&mut self, key: u32) {
+        let Some(lane) = self.lanes.remove(&key) else {
+            return;
+        };
+        for part in lane.parts.values() {
+            self.spots.forget_all(&part.fragments);
+        }
     }
 
     /// Begins the numbers of a stream anew (RFC 8260 2.3.1, RFC 6525 5.2.2).
     pub fn reset(&mut self, stream: u16) {
-        let _ordered = self.lanes.remove(&key_of(stream, false));
-        let _unordered = self.lanes.remove(&key_of(stream, true));
+        self.reset_lane(key_of(stream, false));
+        self.reset_lane(key_of(stream, true));
     }
 
     /// How much is held of each stream. Refuses only for memory.
@@ -535,14 +644,24 @@ impl Amount {
         self.chunks = self.chunks.saturating_add(more.0);
         self.bytes = self.bytes.saturating_add(more.1);
     }
+
+    /// A list of it, or of nothing. Refuses only for memory.
+    fn listed(&self, alloc: Global) -> Result<Vec<Amount>, AllocError> {
+        let mut list = Vec::new(alloc);
+        if self.chunks > 0 {
+            list.push(*self)?;
+        }
+        Ok(list)
+    }
 }
 
-impl Passing {
-    /// Nothing is gained.
-    fn none(alloc: Global) -> Self {
-        Passing {
-            messages: Vec::new(alloc),
-            dropped: Vec::new(alloc),
+/// What is dropped of each lane of which anything is. Refuses only for memory.
+fn listed(alloc: Global, amounts: &BTreeMap<u32, Amount>) -> Result<Vec<Amount>, AllocError> {
+    let mut list = Vec::new(alloc);
+    for amount in amounts.values() {
+        if amount.chunks > 0 {
+            list.push(*amount)?;
         }
     }
+    Ok(list)
 }

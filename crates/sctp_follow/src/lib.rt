@@ -13,6 +13,7 @@ pub mod outstanding;
 pub mod packet;
 pub mod plot;
 pub mod sack;
+mod spots;
 pub mod stall;
 pub mod summarize;
 pub mod sums;

@@ -1,6 +1,6 @@
 //! The round trips of a way: the least, the median and the most.
 
-ghost use Rattle.std.specs.Prelude.{◌≡◌, nat_lt, min, is_some, IfSome, OnOk, OnErr};
+ghost use Rattle.std.specs.Prelude.{◌≡◌, ◌<◌, nat_lt, min, is_some, IfSome, OnOk, OnErr};
 ghost use Rattle.std.specs.BTreeMap as trees;
 ghost use Rattle.sctp_follow.specs.Trips as trips;
 
@@ -85,14 +85,16 @@ impl Trips {
     pub fn note(&mut self, trip: &Elapsed) -> Result<(), AllocError>
         ensures ok { OnOk result
             (trips.IsNoted (min trip.now.nanoseconds u64.MAX) self.old self.new) }
+        ensures counted { OnOk result (trips.AreCounted self.old → trips.AreCounted self.new) }
         ensures err { OnErr result (self.new.total ≡ self.old.total) }
         ensures err_counts { OnErr result (trees.IsUnchanged self.old.counts self.new.counts) }
     {
         let nanoseconds = capped(trip.nanoseconds);
         let key = rounded(nanoseconds);
         let count = self.counts.get(&key).copied().unwrap_or(0);
-        if self.counts.insert(key, counted(count, 1)).is_err() {
-            return Err(AllocError);
+        match self.counts.insert(key, counted(count, 1)) {
+            Ok(_) => {}
+            Err(_) => return Err(AllocError),
         }
         self.total = counted(self.total, 1);
         self.least = self.least.min(nanoseconds);
@@ -101,8 +103,11 @@ impl Trips {
         Ok(())
     }
 
-    /// The length up to which at least half of the round trips are.
-    fn median(&self) -> u64 {
+    /// The least length that is kept up to which at least half of the round trips are.
+    fn median(&self) -> u64
+        ensures { 0 < self.now.total → trips.AreCounted self.now
+            → trips.IsMedian self.now.total self.now.counts.entries result }
+    {
         let (half, mut passed) = (self.total / 2 + self.total % 2, 0u64);
         for (length, count) in &self.counts {
             passed = counted(passed, *count);
@@ -118,6 +123,8 @@ impl Trips {
         ensures which { is_some result ≡ nat_lt 0 self.now.total }
         ensures least { IfSome result (λ spread. spread.least.nanoseconds ≡ self.now.least) }
         ensures most { IfSome result (λ spread. spread.most.nanoseconds ≡ self.now.most) }
+        ensures median { IfSome result (λ spread. trips.AreCounted self.now
+            → trips.IsMedian self.now.total self.now.counts.entries spread.median.nanoseconds) }
     {
         if self.total == 0 {
             return None;
