@@ -1,7 +1,10 @@
 //! The data channels of an input (RFC 8831): what was opened, what each carried, and who closed it.
 
-ghost use Rattle.std.specs.Prelude.{◌≡◌, true};
+ghost use Rattle.std.specs.Prelude.{◌≡◌, true, Some, OnOk};
+ghost use Rattle.std.specs.BTreeMap as trees;
+ghost use Rattle.std.specs.Ordering.{nat_cmp};
 ghost use Rattle.sctp_show.specs.Filter as filters;
+ghost use Rattle.sctp_follow.specs.Channels as rows;
 
 use crate::channel_text::{Place, put_channels};
 use crate::text::{Style, put_name};
@@ -82,6 +85,10 @@ impl Pair {
         arrived: Arrived,
     ) -> Result<(), AllocError>
         requires { filters.is_data bytes.now ≡ true }
+        ensures counted { OnOk result ((filters.payload_type_of bytes.now ≡ Some 50 → ⊥)
+            → rows.Become stream (rows.noted way (rows.first_of bytes.now)
+            (rows.channels_of (trees.get nat_cmp self.old.rows.streams stream)))
+            self.old.rows.streams self.new.rows.streams) }
     {
         if payload_type_of(bytes) != Some(DCEP) {
             return self.rows.note(alloc, way, stream, first_of(bytes));

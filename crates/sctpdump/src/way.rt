@@ -688,31 +688,34 @@ impl WayReader {
 }
 
 /// The number of the last ordered message that is held and begins no later than right behind a TSN, if there is one: those before it end no
-/// later than at the TSN.
+/// later than at the TSN. None is looked at behind the first one that begins later.
 fn last_begun(queue: &ReassemblyQueue, tsn: u32) -> Option<u16> {
     let mut number = None;
     for set in queue.ordered() {
-        if let Some(first) = set.fragments().first()
-            && !sna32lt(tsn.wrapping_add(1), first.tsn)
-        {
+        if let Some(first) = set.fragments().first() {
+            if sna32lt(tsn.wrapping_add(1), first.tsn) {
+                return number;
+            }
             number = Some(set.ssn());
         }
     }
     number
 }
 
-/// The last number up to a named one that comes before each message that is held with all its TSNs behind this one.
+/// The last number up to a named one that comes before each message that is held with all its TSNs behind this one. Messages are held in the order
+/// of their numbers, so none is looked at behind the first one that has them.
 fn last_before(queue: &ReassemblyQueue, named: u16, tsn: u32) -> u16 {
-    let mut number = named;
     for set in queue.ordered() {
+        if !sna16lte(set.ssn(), named) {
+            return named;
+        }
         if let Some(first) = set.fragments().first()
             && sna32lt(tsn, first.tsn)
-            && sna16lte(set.ssn(), number)
         {
-            number = set.ssn().wrapping_sub(1);
+            return set.ssn().wrapping_sub(1);
         }
     }
-    number
+    named
 }
 
 /// How much a queue holds.
