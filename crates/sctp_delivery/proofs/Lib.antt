@@ -95,3 +95,7 @@ pub mod ExpiryLaws
 pub mod CounterLaws
 pub mod StreamBytes
 pub mod AmountLaws
+pub mod Stands
+pub mod InOrder
+pub mod PassedOn
+pub mod BothWays

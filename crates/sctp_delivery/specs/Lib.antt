@@ -15,3 +15,7 @@ pub mod Modes
 pub mod Expiries
 pub mod Counters
 pub mod Amounts
+pub mod InOrder
+pub mod Stand
+pub mod Delivering
+pub mod BothWays

@@ -1,5 +1,5 @@
 -- What a call of a sender makes, and what it sends.
-use Rattle.std.specs.Prelude.{◌≡◌, ⊤, ℕ, ◌<◌, ◌≤◌, ◌==◌, Bool, true, false, List, [], ◌∷◌, length, find, option_map, option_to_list, Option, Some, None}
+use Rattle.std.specs.Prelude.{◌≡◌, ⊤, ℕ, ◌+◌, ◌<◌, ◌≤◌, ◌==◌, Bool, true, false, List, [], ◌∷◌, length, find, option_map, option_to_list, Option, Some, None}
 use Rattle.std.specs.Prelude.{is_some}
 use Rattle.std.specs.Prelude.{IfSome}
 use Rattle.sctp_data.specs.declared.chunk.chunk_payload_data.ChunkPayloadData.{ChunkPayloadData}
@@ -15,13 +15,16 @@ use Rattle.sctp_stream.specs.declared.outbound_stream.OutboundStream.{OutboundSt
 use Rattle.sctp_sender.specs.declared.sender.ExpiredMessage.{ExpiredMessage}
 use Rattle.sctp_sender.specs.declared.sender.flight.late.AbandonedMessage.{AbandonedMessage}
 use Rattle.sctp_sender.specs.declared.sender.flight.Released.{Released}
+use Rattle.sctp_sender.specs.declared.sender.flight.kept.TakenBack.{TakenBack}
 use Rattle.sctp_sender.specs.Abandonment.{Name, abandon_refusal, can_skip_to, is_end, named_up_to, skip_end}
 use Rattle.sctp_sender.specs.Flight.{can_resend, message_to_abandon, next_after_send, released_by, sack_refusal}
+use Rattle.sctp_sender.specs.Keeping.{bytes_back}
 use Rattle.sctp_sender.specs.Late.{after_late, after_worn, late_order, leaving_each, worn_order}
 use Rattle.sctp_sender.specs.Numbers.{send_refusal}
 use Rattle.sctp_sender.specs.Resending.{count_again, sent_again}
-use Rattle.sctp_sender.specs.Sender.{Transmission, after_abandon, after_acked, after_expire, is_open, stream_of, with_flight, write_refusal, written_to}
+use Rattle.sctp_sender.specs.Sender.{Transmission, after_abandon, after_acked, after_expire, after_take_back, is_open, stream_of, taken_back_by, with_flight, write_refusal, written_to}
 use Rattle.sctp_sender.specs.Thresholds.{with_lows, with_message_lows}
+use Rattle.sctp_sender.specs.Totals.{bytes_in}
 use Rattle.sctp_sender.specs.SenderRuns as runs
 use Rattle.sctp_sender.specs.SenderRuns.{Makes}
 
@@ -190,6 +193,17 @@ abbrev pub SenderMakes : SenderCall → Transmission → Transmission → Type 0
 SenderMakes call old new =
     Makes (as_run call) old new
     × (MakesExactly call old new × (IsAccepted call old × Answers call old))
+
+-- what `acked` makes: what the SACK no longer reports comes back first, where the sender keeps it (`replay::take_back`), and then the SACK is
+-- taken (`replay::acked`). Where nothing is kept, that is one call of a session
+pub record TakesBackAndSack (sack : Sack) (back : List TakenBack) (gone : List Released)
+    (old new : Transmission) : Type 0 where
+  pub returned : back ≡ taken_back_by sack old
+  pub exact : MakesExactly (takes_sack sack gone) (after_take_back sack old) new
+  pub accepted : IsAccepted (takes_sack sack gone) (after_take_back sack old)
+  pub answered : Answers (takes_sack sack gone) (after_take_back sack old)
+  pub bytes : runs.held_by_sender new + bytes_in gone ≡ runs.held_by_sender old + bytes_back back
+  pub whole : old.kept ≡ None → SenderMakes (takes_sack sack gone) old new
 
 -- calls one after another
 abbrev pub SenderMakesEach : List SenderCall → Transmission → Transmission → Type 0

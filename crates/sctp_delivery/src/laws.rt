@@ -1,6 +1,7 @@
 //! What holds of every session of two hosts: laws, each the contract of a function that does nothing.
 
 pub mod amounts;
+pub mod both_ways;
 pub mod complete;
 pub mod counters;
 pub mod discards;
@@ -10,6 +11,7 @@ pub mod modes;
 pub mod progress;
 pub mod retransmission;
 pub mod rounds;
+pub mod stands;
 
 ghost use Rattle.sctp_delivery.specs.Session.{AfterEachSession, AreMade, AreMessages, AreRuns, IsAccounted};
 

@@ -3,6 +3,7 @@
 
 pub mod amounts;
 pub mod arrived;
+pub mod delivering;
 pub mod drained;
 pub mod emptied;
 pub mod ended;

@@ -3,7 +3,7 @@
 //! Left out are `close` and `reset`, which are no calls of a session, and the calls that test less: `forward_tsn` where it passes over
 //! names of closed streams, and of `replay` `data_each_with_any_ssn` and `forward_tsn_by_names`.
 
-ghost use Rattle.std.specs.Prelude.{◌≡◌, OnOk, IfOk, All, Contains, length, option_map};
+ghost use Rattle.std.specs.Prelude.{◌≡◌, OnErr, OnOk, IfOk, All, Contains, length, option_map};
 ghost use Rattle.sctp_data.specs.PayloadData.{data_of};
 ghost use Rattle.sctp_data.specs.ForwardTsn.{forward_tsn_of};
 ghost use Rattle.sctp_data.specs.SelectiveAck.{sack_of};
@@ -26,15 +26,17 @@ use sctp_serial::turns::Turns;
 
 /// Opens a stream.
 pub fn open(receiver: &mut Receiver, stream: u16) -> Result<(), ReceiverRefusal>
-    ensures { OnOk result (ReceiverMakes (opens stream) receiver.old receiver.new) }
+    ensures step { OnOk result (ReceiverMakes (opens stream) receiver.old receiver.new) }
+    ensures err { OnErr result (receiver.new ≡ receiver.old) }
 {
     receiver.open(stream)
 }
 
 /// Takes a DATA chunk.
 pub fn data(receiver: &mut Receiver, chunk: &ChunkPayloadData) -> Result<Arrival, ReceiverRefusal>
-    ensures { IfOk result
+    ensures step { IfOk result
         (λ arrival. ReceiverMakes (takes chunk.now arrival) receiver.old receiver.new) }
+    ensures err { OnErr result (receiver.new ≡ receiver.old) }
 {
     receiver.data(chunk)
 }
@@ -52,13 +54,15 @@ pub fn data_each(
         → s.receiving.receiver ≡ receiver.old
         → All (λ c. Contains s.made (data_chunk (data_of c))) chunks.now
         → GoesOnTo (takes_each chunks.now arrivals.items) s receiver.new) }
+    ensures err { OnErr result (receiver.new ≡ receiver.old) }
 {
     receiver.data_each(chunks)
 }
 
 /// Drops a DATA chunk, and takes its TSN: a step of the sessions of `laws::discards` alone.
 pub fn discard(receiver: &mut Receiver, tsn: u32) -> Result<Arrival, ReceiverRefusal>
-    ensures { OnOk result (ReceiverDiscards tsn receiver.old receiver.new) }
+    ensures step { OnOk result (ReceiverDiscards tsn receiver.old receiver.new) }
+    ensures err { OnErr result (receiver.new ≡ receiver.old) }
 {
     receiver.discard(tsn)
 }
@@ -68,8 +72,9 @@ pub fn forward_tsn(
     receiver: &mut Receiver,
     chunk: &ChunkForwardTsn,
 ) -> Result<Forwarded, ReceiverRefusal>
-    ensures { OnOk result
+    ensures step { OnOk result
         (ReceiverMakes (follows (forward_tsn_of chunk.now)) receiver.old receiver.new) }
+    ensures err { OnErr result (receiver.new ≡ receiver.old) }
 {
     receiver.forward_tsn(chunk, Closed::Refuse)
 }
@@ -80,6 +85,7 @@ pub fn send_sack(receiver: &mut Receiver, room: usize) -> Result<ChunkSelectiveA
         (ReceiverMakes (reports_within (window receiver.old) room) receiver.old receiver.new) }
     ensures sack { IfOk result
         (λ s. sack_of s ≡ sack_within (window receiver.old) room receiver.old) }
+    ensures err { OnErr result (receiver.new ≡ receiver.old) }
 {
     receiver.sack(room)
 }
@@ -91,6 +97,7 @@ pub fn send_sack_with(
 ) -> Result<ChunkSelectiveAck, ReceiverRefusal>
     ensures step { OnOk result (ReceiverMakes (reports credit) receiver.old receiver.new) }
     ensures sack { IfOk result (λ s. sack_of s ≡ sack credit receiver.old) }
+    ensures err { OnErr result (receiver.new ≡ receiver.old) }
 {
     let sack = replay::make_sack(receiver, credit)?;
     Receiver::sack_sent(receiver);
@@ -131,6 +138,7 @@ pub fn read(receiver: &mut Receiver, stream: u16) -> Result<Option<Chunks>, Rece
     ensures step { OnOk result (ReceiverMakes (reads stream) receiver.old receiver.new) }
     ensures message { IfOk result (λ message. message
         ≡ option_map at_start (message_on stream receiver.old)) }
+    ensures err { OnErr result (receiver.new ≡ receiver.old) }
 {
     receiver.read(stream)
 }
@@ -143,8 +151,9 @@ pub fn data_counted(
     chunk: &ChunkPayloadData,
     turns: &mut Turns,
 ) -> Result<Arrival, ReceiverRefusal>
-    ensures { IfOk result
+    ensures step { IfOk result
         (λ arrival. ReceiverMakes (takes chunk.now arrival) receiver.old receiver.new) }
+    ensures err { OnErr result (receiver.new ≡ receiver.old) }
 {
     costs::data(receiver, chunk, turns)
 }
@@ -162,6 +171,7 @@ pub fn data_each_counted(
         → s.receiving.receiver ≡ receiver.old
         → All (λ c. Contains s.made (data_chunk (data_of c))) chunks.now
         → GoesOnTo (takes_each chunks.now arrivals.items) s receiver.new) }
+    ensures err { OnErr result (receiver.new ≡ receiver.old) }
 {
     costs::data_each(receiver, chunks, turns)
 }
@@ -173,8 +183,9 @@ pub fn forward_tsn_counted(
     turns: &mut Turns,
     skips: &mut Turns,
 ) -> Result<Forwarded, ReceiverRefusal>
-    ensures { OnOk result
+    ensures step { OnOk result
         (ReceiverMakes (follows (forward_tsn_of chunk.now)) receiver.old receiver.new) }
+    ensures err { OnErr result (receiver.new ≡ receiver.old) }
 {
     costs::forward_tsn(receiver, chunk, Closed::Refuse, turns, skips)
 }
@@ -189,6 +200,7 @@ pub fn send_sack_counted(
         (ReceiverMakes (reports_within (window receiver.old) room) receiver.old receiver.new) }
     ensures sack { IfOk result
         (λ s. sack_of s ≡ sack_within (window receiver.old) room receiver.old) }
+    ensures err { OnErr result (receiver.new ≡ receiver.old) }
 {
     costs::sack(receiver, room, turns)
 }

@@ -2,7 +2,7 @@
 //!
 //! Left out are `close`, `reset`, `replay::take_back` and `replay::count_resend`, which are no calls of a session.
 
-ghost use Rattle.std.specs.Prelude.{◌≡◌, ◌<◌, ◌≤◌, Some, None, OnOk, IfOk, IfSome, find};
+ghost use Rattle.std.specs.Prelude.{◌≡◌, ◌<◌, ◌≤◌, Some, None, OnErr, OnOk, IfOk, IfSome, find};
 ghost use Rattle.sctp_data.specs.declared.chunk.chunk_payload_data.ChunkPayloadData.{ChunkPayloadData};
 ghost use Rattle.sctp_data.specs.ForwardTsn.{forward_tsn_of};
 ghost use Rattle.sctp_data.specs.SelectiveAck.{sack_of};
@@ -10,7 +10,7 @@ ghost use Rattle.sctp_sender.specs.Numbers.{send_refusal};
 ghost use Rattle.sctp_sender.specs.Resending.{count_before, next_within};
 ghost use Rattle.sctp_serial.specs.DataChunks.{has_tsn};
 ghost use Rattle.sctp_delivery.specs.Amounts.{Drops};
-ghost use Rattle.sctp_delivery.specs.SenderCalls.{SenderMakes, abandons, expires, expires_late, expires_rexmit, expires_tail, forwards, forwards_within, marks, misses, next_chunk, opens, resends, reserves, sends, sets_low, sets_mode, sets_size, starts, takes_sack, writes};
+ghost use Rattle.sctp_delivery.specs.SenderCalls.{SenderMakes, TakesBackAndSack, abandons, expires, expires_late, expires_rexmit, expires_tail, forwards, forwards_within, marks, misses, next_chunk, opens, resends, reserves, sends, sets_low, sets_mode, sets_size, starts, writes};
 
 use bytes::Bytes;
 use sctp_data::chunk::chunk_forward_tsn::ChunkForwardTsn;
@@ -26,7 +26,8 @@ use sctp_serial::turns::Turns;
 
 /// Opens a stream.
 pub fn open(sender: &mut Sender, stream: u16) -> Result<(), SenderRefusal>
-    ensures { OnOk result (SenderMakes (opens stream) sender.old sender.new) }
+    ensures step { OnOk result (SenderMakes (opens stream) sender.old sender.new) }
+    ensures err { OnErr result (sender.new ≡ sender.old) }
 {
     sender.open(stream)
 }
@@ -39,8 +40,9 @@ pub fn set_mode(
     reliability: ReliabilityType,
     value: u32,
 ) -> Result<(), SenderRefusal>
-    ensures { OnOk result
+    ensures step { OnOk result
         (SenderMakes (sets_mode stream unordered reliability value) sender.old sender.new) }
+    ensures err { OnErr result (sender.new ≡ sender.old) }
 {
     sender.set_mode(stream, unordered, reliability, value)
 }
@@ -52,7 +54,8 @@ pub fn write(
     ppi: PayloadProtocolIdentifier,
     bytes: &Bytes,
 ) -> Result<(Option<u64>, usize), SenderRefusal>
-    ensures { OnOk result (SenderMakes (writes stream ppi bytes.now) sender.old sender.new) }
+    ensures step { OnOk result (SenderMakes (writes stream ppi bytes.now) sender.old sender.new) }
+    ensures err { OnErr result (sender.new ≡ sender.old) }
 {
     sender.write(stream, ppi, bytes)
 }
@@ -68,13 +71,15 @@ pub fn start(sender: &mut Sender, now: u64)
 pub fn send_next(sender: &mut Sender, now: u64) -> Result<Option<ChunkPayloadData>, SenderRefusal>
     ensures step { OnOk result (SenderMakes (sends now) sender.old sender.new) }
     ensures chunk { IfOk result (λ sent. sent ≡ next_chunk now sender.old) }
+    ensures err { OnErr result (sender.new ≡ sender.old) }
 {
     sender.send_next(now)
 }
 
 /// Sends the fragment that is next, and answers its TSN, if there is one.
 pub fn send_next_tsn(sender: &mut Sender, now: u64) -> Result<Option<u32>, SenderRefusal>
-    ensures { OnOk result (SenderMakes (sends now) sender.old sender.new) }
+    ensures step { OnOk result (SenderMakes (sends now) sender.old sender.new) }
+    ensures err { OnErr result (sender.new ≡ sender.old) }
 {
     replay::send_next_tsn(sender, now)
 }
@@ -82,17 +87,19 @@ pub fn send_next_tsn(sender: &mut Sender, now: u64) -> Result<Option<u32>, Sende
 /// Sends the fragment that is next, however far its stream sequence number goes, and answers its TSN, if there is one: where it does not
 /// go too far, which the caller sees to, that is the same.
 pub fn send_next_tsn_unbounded(sender: &mut Sender, now: u64) -> Result<Option<u32>, SenderRefusal>
-    ensures { OnOk result (send_refusal sender.old.flight ≡ None
+    ensures step { OnOk result (send_refusal sender.old.flight ≡ None
         → SenderMakes (sends now) sender.old sender.new) }
+    ensures err { OnErr result (sender.new ≡ sender.old) }
 {
     replay::send_next_tsn_unbounded(sender, now)
 }
 
 /// Sends a chunk again.
 pub fn resend(sender: &mut Sender, tsn: u32, now: u64) -> Result<ChunkPayloadData, SenderRefusal>
-    ensures { OnOk result ((c : ChunkPayloadData)
+    ensures step { OnOk result ((c : ChunkPayloadData)
         → find (has_tsn tsn) sender.old.flight.queue.inflight.chunks ≡ Some c
         → SenderMakes (resends tsn now c) sender.old sender.new) }
+    ensures err { OnErr result (sender.new ≡ sender.old) }
 {
     sender.resend(tsn, now)
 }
@@ -108,13 +115,15 @@ pub fn resend_next(
         → SenderMakes (resends c.tsn now c) sender.old sender.new) }
     ensures none { OnOk result (next_within room sender.old.flight ≡ None
         → sender.new ≡ sender.old) }
+    ensures err { OnErr result (sender.new ≡ sender.old) }
 {
     sender.resend_next(now, room)
 }
 
 /// Abandons the message of a chunk.
 pub fn abandon(sender: &mut Sender, tsn: u32) -> Result<AbandonedMessage, SenderRefusal>
-    ensures { IfOk result (λ a. SenderMakes (abandons tsn a) sender.old sender.new) }
+    ensures step { IfOk result (λ a. SenderMakes (abandons tsn a) sender.old sender.new) }
+    ensures err { OnErr result (sender.new ≡ sender.old) }
 {
     sender.abandon(tsn)
 }
@@ -128,22 +137,26 @@ pub fn expire(sender: &mut Sender, now: u64) -> Option<ExpiredMessage>
 
 /// Abandons the rest of the message in front, where it is past its deadline and partially sent.
 pub fn expire_tail(sender: &mut Sender, now: u64) -> Result<Option<AbandonedMessage>, SenderRefusal>
-    ensures { IfOk result (λ gone. SenderMakes (expires_tail now gone) sender.old sender.new) }
+    ensures step { IfOk result (λ gone. SenderMakes (expires_tail now gone) sender.old sender.new) }
+    ensures err { OnErr result (sender.new ≡ sender.old) }
 {
     replay::expire_tail(sender, now)
 }
 
 /// Abandons each late message in flight.
 pub fn expire_late(sender: &mut Sender, now: u64) -> Result<Vec<AbandonedMessage>, SenderRefusal>
-    ensures { IfOk result
+    ensures step { IfOk result
         (λ gone. SenderMakes (expires_late now gone.items) sender.old sender.new) }
+    ensures err { OnErr result (sender.new ≡ sender.old) }
 {
     replay::expire_late(sender, now)
 }
 
 /// Abandons each message in flight that was sent again as often as it may be.
 pub fn expire_rexmit(sender: &mut Sender) -> Result<Vec<AbandonedMessage>, SenderRefusal>
-    ensures { IfOk result (λ gone. SenderMakes (expires_rexmit gone.items) sender.old sender.new) }
+    ensures step { IfOk result
+        (λ gone. SenderMakes (expires_rexmit gone.items) sender.old sender.new) }
+    ensures err { OnErr result (sender.new ≡ sender.old) }
 {
     replay::expire_rexmit(sender)
 }
@@ -151,7 +164,8 @@ pub fn expire_rexmit(sender: &mut Sender) -> Result<Vec<AbandonedMessage>, Sende
 /// Drops the next group of messages that have expired: the calls of a session by which each of them goes at this moment, and no other;
 /// where none has, lifetimes start. Their answers tell the bytes of each stream that its answer tells.
 pub fn drop_expired(sender: &mut Sender, now: u64) -> Result<Option<Dropped>, SenderRefusal>
-    ensures { IfOk result (λ dropped. Drops dropped now sender.old sender.new) }
+    ensures step { IfOk result (λ dropped. Drops dropped now sender.old sender.new) }
+    ensures err { OnErr result (sender.new ≡ sender.old) }
 {
     sender.drop_expired(now)
 }
@@ -164,10 +178,12 @@ pub fn forward_tsn_to(sender: &Sender, tsn: u32) -> Result<Option<ChunkForwardTs
     replay::forward_tsn_to(sender, tsn)
 }
 
-/// Takes a SACK, where the sender keeps nothing of what is reported, as in each session.
+/// Takes a SACK: by itself where the sender keeps nothing of what is reported, as in each session; else what it no longer reports comes back
+/// first.
 pub fn acked(sender: &mut Sender, sack: &ChunkSelectiveAck) -> Result<Acked, SenderRefusal>
-    ensures { sender.old.kept ≡ None → IfOk result (λ r.
-        SenderMakes (takes_sack (sack_of sack.now) r.released.items) sender.old sender.new) }
+    ensures step { IfOk result (λ r. TakesBackAndSack (sack_of sack.now) r.taken_back.items
+        r.released.items sender.old sender.new) }
+    ensures err { OnErr result (sender.new ≡ sender.old) }
 {
     sender.acked(sack)
 }
@@ -209,14 +225,16 @@ pub fn set_buffered_amount_low_threshold(
     stream: u16,
     bytes: usize,
 ) -> Result<(), SenderRefusal>
-    ensures { OnOk result (SenderMakes (sets_low stream bytes) sender.old sender.new) }
+    ensures step { OnOk result (SenderMakes (sets_low stream bytes) sender.old sender.new) }
+    ensures err { OnErr result (sender.new ≡ sender.old) }
 {
     sender.set_buffered_amount_low_threshold(stream, bytes)
 }
 
 /// Makes room for so many sends.
 pub fn reserve(sender: &mut Sender, sends: usize) -> Result<(), SenderRefusal>
-    ensures { OnOk result (SenderMakes (reserves sends) sender.old sender.new) }
+    ensures step { OnOk result (SenderMakes (reserves sends) sender.old sender.new) }
+    ensures err { OnErr result (sender.new ≡ sender.old) }
 {
     sender.reserve(sends)
 }
@@ -229,8 +247,9 @@ pub fn acked_counted(
     sack: &ChunkSelectiveAck,
     turns: &mut Turns,
 ) -> Result<Acked, SenderRefusal>
-    ensures { sender.old.kept ≡ None → IfOk result (λ r.
-        SenderMakes (takes_sack (sack_of sack.now) r.released.items) sender.old sender.new) }
+    ensures step { IfOk result (λ r. TakesBackAndSack (sack_of sack.now) r.taken_back.items
+        r.released.items sender.old sender.new) }
+    ensures err { OnErr result (sender.new ≡ sender.old) }
 {
     costs::acked(sender, sack, turns)
 }

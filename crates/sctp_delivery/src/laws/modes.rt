@@ -1,5 +1,6 @@
 //! Each message is sent as it was written: ordered or not, by the mode that the calls gave its stream before the write (RFC 8832 5.1, 6).
 
+ghost use Rattle.sctp_delivery.specs.InOrder.{AreReadInTurn};
 ghost use Rattle.sctp_delivery.specs.Modes.{AfterEachFitRun, AfterEachRunOfFewTsns, AreReadAsWritten, AreSentAsWritten};
 
 /// Each DATA chunk that a sender makes, for the first time or again, is a part of a write. It says that it is unordered exactly where its
@@ -12,4 +13,10 @@ pub fn each_chunk_is_sent_as_it_was_written()
 /// of its own, whatever is skipped. So it is in sessions that give out fewer than 2^31 TSNs.
 pub fn what_is_written_ordered_is_read_in_order()
     ensures { AfterEachRunOfFewTsns AreReadAsWritten }
+{}
+
+/// What was read of a stream that no call made unordered is what was written to it, message by message and in the same order, but for
+/// writes that are left out: none where as many were read. So it is in sessions that give out fewer than 2^31 TSNs.
+pub fn what_is_read_of_an_ordered_stream_is_what_was_written()
+    ensures { AfterEachRunOfFewTsns AreReadInTurn }
 {}

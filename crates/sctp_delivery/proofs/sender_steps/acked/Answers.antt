@@ -2,5 +2,5 @@ use Rattle.sctp_data.specs.SelectiveAck.{sack_of}
 use Rattle.sctp_delivery.proofs.WholeSacks.{makes}
 use Rattle.sctp_delivery.proofs.sender_steps.acked.Goals as goal
 
-pub returns : goal.returns
-returns c = makes (sack_of c.args.sack.now) c.args.sender.now c.acked.new.self c.acked.result c.acked.ensures
+pub returns-clause-step : goal.returns-clause-step
+returns-clause-step c = makes (sack_of c.args.sack.now) c.args.sender.now c.acked.new.self c.acked.result c.acked.ensures

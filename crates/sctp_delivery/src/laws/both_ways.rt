@@ -1,0 +1,11 @@
+//! Two hosts that both send: each has a sender and a receiver.
+
+ghost use Rattle.sctp_delivery.specs.BothWays.{AreReadBothWays, EachWayIsASession};
+
+/// However the calls of two hosts that both send follow one another: those of the sender of one host and of the receiver of the other are a
+/// session, each way, so each law of sessions holds both ways. What is read both ways is what was written, and what was written ordered is
+/// read in the order of the writes, where each way gives out fewer than 2^31 TSNs.
+pub fn each_way_is_a_session()
+    ensures session { EachWayIsASession }
+    ensures read { AreReadBothWays }
+{}

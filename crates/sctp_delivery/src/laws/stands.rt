@@ -1,0 +1,21 @@
+//! In which session two hosts stand, and to which one each call leads: what a caller composes the other laws with.
+
+ghost use Rattle.sctp_delivery.specs.Stand.{EachKeepsNothing, EachReceiverCallSteps, EachSenderCallSteps, EachTwoBegin};
+
+/// A new sender and a new receiver that begin with the same TSN stand in a session.
+pub fn two_hosts_begin_a_session()
+    ensures { EachTwoBegin }
+{}
+
+/// From a session in which two hosts stand, what a call of `sender_steps` or `receiver_steps` makes leads to one in which they stand then.
+/// A call of the sender gives out one TSN at most. A SACK or a chunk is one that the other host made; what was made can be handed over
+/// ever after. A call that is refused changes nothing, so the hosts stand where they stood.
+pub fn each_call_leads_to_a_session()
+    ensures sender { EachSenderCallSteps }
+    ensures receiver { EachReceiverCallSteps }
+{}
+
+/// The sender of a session keeps nothing of what is reported: so each SACK that it takes is a step.
+pub fn a_sender_keeps_nothing()
+    ensures { EachKeepsNothing }
+{}
