@@ -451,13 +451,11 @@ static sctpr_code sender_write(struct host *h) {
     uint64_t number = 7;
     static const uint32_t types[] = { SCTPR_PPID_DCEP, SCTPR_PPID_STRING, SCTPR_PPID_BINARY, SCTPR_PPID_STRING_EMPTY, SCTPR_PPID_BINARY_EMPTY,
                                       SCTPR_PPID_OTHER };
-    uint32_t type = any(8) ? types[any(6)] : 59 + any(5);
+    uint32_t type = any(4) ? types[any(6)] : any(2) ? 59 + any(5) : (uint32_t)any(1 << 30) << 2;
     if (sctpr_sender_pending(&h->sender) > 4000) return SCTPR_OK;
     uint8_t *message = lend(length);
     sctpr_code code = sctpr_sender_write(&h->sender, a_stream(), type, message, length, &number, &fragments);
-    ONE_OF(code, 0, SCTPR_OK, SCTPR_NOTHING, SCTPR_STREAM_UNKNOWN, SCTPR_NOT_AS_GIVEN, SCTPR_MESSAGE_TOO_LARGE, SCTPR_QUEUE_FULL,
-           SCTPR_NO_MEMORY);
-    HOLDS(code != SCTPR_NOT_AS_GIVEN || type >= SCTPR_PPID_OTHER);
+    ONE_OF(code, 0, SCTPR_OK, SCTPR_NOTHING, SCTPR_STREAM_UNKNOWN, SCTPR_MESSAGE_TOO_LARGE, SCTPR_QUEUE_FULL, SCTPR_NO_MEMORY);
     HOLDS(code == SCTPR_OK ? fragments >= 1 : number == 7 && fragments == 7);
     take_back(message, 0, length);
     return code;
@@ -497,6 +495,7 @@ static sctpr_code sender_mark(struct host *h) {
 static sctpr_code sender_in_flight(struct host *h) {
     struct sctpr_in_flight row;
     uint32_t tsn = a_tsn(h), earliest = 7;
+    uint64_t moment;
     size_t place = any(40), amount;
     sctpr_code code = sctpr_sender_in_flight(&h->sender, tsn, &row);
     ONE_OF(code, 0, SCTPR_OK, SCTPR_NOT_IN_FLIGHT);
@@ -507,6 +506,7 @@ static sctpr_code sender_in_flight(struct host *h) {
     code = sctpr_sender_earliest_outstanding(&h->sender, &earliest);
     ONE_OF(code, 0, SCTPR_OK, SCTPR_NOTHING);
     if (code == SCTPR_OK) HOLDS(sctpr_sender_in_flight(&h->sender, earliest, &row) == SCTPR_OK && !row.is_acked && !row.is_abandoned);
+    ONE_OF(sctpr_sender_next_timeout(&h->sender, &moment), 0, SCTPR_OK, SCTPR_NOTHING);
     ONE_OF(sctpr_sender_buffered_amount(&h->sender, a_stream(), &amount), 0, SCTPR_OK, SCTPR_STREAM_UNKNOWN);
     return SCTPR_OK;
 }

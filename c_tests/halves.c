@@ -46,8 +46,8 @@ static void freed(void) {
     CHECK(sender.at == NULL && receiver.at == NULL);
 }
 
-/* What would be a trap is refused: a window in which a message of 65,536 bytes, two chunks, never fits; a payload type that the mode of the
- * stream does not name; and a write to a stream that is not open, before memory is asked for. */
+/* What would be a trap is refused: a window in which a message of 65,536 bytes, two chunks, never fits; and a write to a stream that is not
+ * open, before memory is asked for. */
 static void traps(void) {
     size_t fragments = 5;
     uint64_t number = 5;
@@ -59,12 +59,8 @@ static void traps(void) {
     sctpr_receiver_free(&receiver);
     open_both(1000, 1000);
     WITHOUT_MEMORY(sctpr_sender_write(&sender, 4, SCTPR_PPID_BINARY, (const uint8_t *)"a", 1, &number, &fragments), SCTPR_STREAM_UNKNOWN);
-    WITHOUT_MEMORY(sctpr_sender_write(&sender, 3, 99, (const uint8_t *)"a", 1, &number, &fragments), SCTPR_NOT_AS_GIVEN);
-    WITHOUT_MEMORY(sctpr_sender_write(&sender, 3, SCTPR_PPID_OTHER, (const uint8_t *)"a", 1, &number, &fragments), SCTPR_NOT_AS_GIVEN);
-    CHECK(sctpr_sender_set_mode(&sender, 3, 0, SCTPR_REXMIT, 99) == SCTPR_OK);
-    WITHOUT_MEMORY(sctpr_sender_write(&sender, 3, 99, (const uint8_t *)"a", 1, &number, &fragments), SCTPR_NOT_AS_GIVEN);
+    WITHOUT_MEMORY(sctpr_sender_write(&sender, 4, 99, (const uint8_t *)"a", 1, &number, &fragments), SCTPR_STREAM_UNKNOWN);
     CHECK(number == 5 && fragments == 5 && sctpr_sender_pending(&sender) == 0);
-    TRY(sctpr_sender_write(&sender, 3, SCTPR_PPID_OTHER, (const uint8_t *)"a", 1, &number, &fragments), SCTPR_OK, number == 5);
     free_both();
 }
 
@@ -167,29 +163,65 @@ static void any_payload_type(void) {
     free_both();
 }
 
-/* Messages are sent, and sent again, with the payload type that the mode of their stream named when they were written; 0 at first. */
+/* Messages are sent, and sent again, with the payload type that each was written with, in any mode of their stream. One that is refused, for
+ * its length or for memory, leaves nothing behind. */
 static void sends_any_payload_type(void) {
-    static const uint32_t types[] = { 0, 46, 0xffffffffu, SCTPR_PPID_OTHER, SCTPR_PPID_STRING };
+    static const uint32_t types[] = { 0, 46, 0xffffffffu, SCTPR_PPID_OTHER, SCTPR_PPID_STRING, 59, SCTPR_PPID_DCEP, 60 };
+    enum { MODES = 6, TYPES = 8 };
+    static uint8_t in[65537];
     uint8_t chunk[64];
     size_t i, n = 0, fragments = 0;
     uint32_t tsn = 0;
     uint64_t number = 0;
     struct sctpr_data data;
     struct sctpr_in_flight row;
+    for (uint32_t mode = 0; mode < MODES; mode++) {
+        open_both(1000, 4);
+        number = fragments = 0;
+        CHECK(sctpr_sender_set_mode(&sender, 3, (uint8_t)(mode % 2), mode / 2, 7) == SCTPR_OK);
+        for (i = 0; i < TYPES; i++) {
+            TRY(sctpr_sender_write(&sender, 3, types[i], in, 5, &number, &fragments), SCTPR_OK, fragments == 2 * (i > 0) && number + 1 == i + (i == 0));
+            TRY(sctpr_sender_write(&sender, 3, types[i] + 7, in, sizeof in, &number, &fragments), SCTPR_MESSAGE_TOO_LARGE, number == i);
+        }
+        for (i = 0; i < 2 * TYPES; i++) {
+            TRY(sctpr_sender_send_next(&sender, 5, chunk, sizeof chunk, &n, &tsn), SCTPR_OK, 1);
+            CHECK(n == 20 && sctpr_read_data(chunk, n, &data) == SCTPR_OK && data.tsn == 1000 + i);
+            CHECK(sctpr_sender_in_flight(&sender, tsn, &row) == SCTPR_OK && data.payload_type == types[row.message]);
+            CHECK(row.payload_type == data.payload_type);
+        }
+        for (i = 0; i < 2 * TYPES; i++) {
+            TRY(sctpr_sender_resend(&sender, 1000 + (uint32_t)i, 9, chunk, sizeof chunk, &n), SCTPR_OK, 1);
+            CHECK(sctpr_sender_in_flight(&sender, 1000 + (uint32_t)i, &row) == SCTPR_OK && row.payload_type == types[row.message]);
+            CHECK(sctpr_read_data(chunk, n, &data) == SCTPR_OK && data.payload_type == types[row.message]);
+        }
+        free_both();
+    }
+}
+
+/* Of 100,000 messages with types without names one, the first, stays in flight: the types of the others are forgotten, and its own is kept. */
+static void forgets_payload_types(void) {
+    uint8_t chunk[64], sack[16] = { 3, 0, 0, 16, 0, 0, 0, 0, 0, 0, 0xff, 0xff, 0, 0, 0, 0 };
+    size_t n = 0, fragments = 0, count = 0, most = 0, early = 0;
+    uint32_t tsn = 0, first = 0;
+    uint64_t number = 0;
+    struct sctpr_data data;
+    struct sctpr_acked rows[4];
     open_both(1000, 1000);
-    for (i = 0; i < 5; i++) {
-        if (i > 0) CHECK(sctpr_sender_set_mode(&sender, 3, 0, SCTPR_RELIABLE, types[i]) == SCTPR_OK);
-        TRY(sctpr_sender_write(&sender, 3, types[i], (const uint8_t *)"a", 1, &number, &fragments), SCTPR_OK, fragments == (i > 0));
+    CHECK(sctpr_sender_open(&sender, 4) == SCTPR_OK && sctpr_sender_set_mode(&sender, 4, 1, SCTPR_RELIABLE, 0) == SCTPR_OK);
+    CHECK(sctpr_sender_write(&sender, 3, 12345, (const uint8_t *)"a", 1, &number, &fragments) == SCTPR_OK);
+    for (uint32_t i = 0; i < 100000; i++) {
+        CHECK(sctpr_sender_write(&sender, 4, 70000 + i, (const uint8_t *)"b", 1, &number, &fragments) == SCTPR_OK);
+        CHECK(sctpr_sender_send_next(&sender, 5, chunk, sizeof chunk, &n, &tsn) == SCTPR_OK);
+        CHECK(sctpr_read_data(chunk, n, &data) == SCTPR_OK && data.payload_type == 70000 + i && data.stream == 4);
+        if (i == 0) first = tsn;
+        for (int j = 0; j < 4; j++) sack[4 + j] = (uint8_t)(tsn >> (24 - 8 * j));
+        CHECK(sctpr_sender_acked(&sender, sack, sizeof sack, rows, 4, &count) == SCTPR_OK && count == 1);
+        if (i == 100) early = in_use;
+        if (in_use > most) most = in_use;
     }
-    for (i = 0; i < 5; i++) {
-        TRY(sctpr_sender_send_next(&sender, 5, chunk, sizeof chunk, &n, &tsn), SCTPR_OK, 1);
-        CHECK(n == 20 && sctpr_read_data(chunk, n, &data) == SCTPR_OK && data.payload_type == types[i] && data.tsn == 1000 + i);
-    }
-    for (i = 0; i < 5; i++) {
-        TRY(sctpr_sender_resend(&sender, 1000 + (uint32_t)i, 9, chunk, sizeof chunk, &n), SCTPR_OK, 1);
-        CHECK(sctpr_read_data(chunk, n, &data) == SCTPR_OK && data.payload_type == types[i]);
-        CHECK(sctpr_sender_in_flight(&sender, 1000 + (uint32_t)i, &row) == SCTPR_OK && row.payload_type == types[i]);
-    }
+    CHECK(tsn == first + 99999 && most <= early + 1000);
+    CHECK(sctpr_sender_send_next(&sender, 5, chunk, sizeof chunk, &n, &tsn) == SCTPR_OK);
+    CHECK(sctpr_read_data(chunk, n, &data) == SCTPR_OK && data.payload_type == 12345 && data.stream == 3);
     free_both();
 }
 
@@ -221,6 +253,13 @@ static void abandoned(void) {
     free_both();
 }
 
+/* Whether the next lifetime ends then; 0: none runs. */
+static int ends_next(uint64_t moment) {
+    uint64_t at = 7;
+    sctpr_code code = sctpr_sender_next_timeout(&sender, &at);
+    return moment == 0 ? code == SCTPR_NOTHING && at == 7 : code == SCTPR_OK && at == moment;
+}
+
 /* Messages past their deadlines, unsent and in flight. */
 static void expired(void) {
     uint8_t chunk[64];
@@ -233,16 +272,22 @@ static void expired(void) {
     CHECK(sctpr_sender_set_mode(&sender, 3, 1, SCTPR_TIMED, 1) == SCTPR_OK);
     for (int i = 0; i < 3; i++)
         CHECK(sctpr_sender_write(&sender, 3, SCTPR_PPID_BINARY, (const uint8_t *)"fifteen bytes..", 15, &number, &fragments) == SCTPR_OK);
+    CHECK(ends_next(0));
     sctpr_sender_start(&sender, 0);
+    CHECK(ends_next(1000000));
     for (int i = 0; i < 3; i++) CHECK(sctpr_sender_send_next(&sender, 0, chunk, 64, &n, &tsn) == SCTPR_OK);
-    CHECK(sctpr_sender_expire(&sender, 2000000, &gone) == SCTPR_NOTHING);
+    CHECK(sctpr_sender_expire(&sender, 2000000, &gone) == SCTPR_NOTHING && ends_next(1000000));
     TRY(sctpr_sender_expire_tail(&sender, 2000000, &row), SCTPR_OK, sctpr_sender_pending(&sender) == 3);
     CHECK(row.stream == 3 && row.bytes == 15);
     CHECK(sctpr_sender_expire(&sender, 2000000, &gone) == SCTPR_OK && gone.bytes == 15 && gone.stream == 3);
     CHECK(sctpr_sender_expire(&sender, 2000000, &gone) == SCTPR_NOTHING && sctpr_sender_pending(&sender) == 0);
     TRY(sctpr_sender_expire_late(&sender, 2000000, rows, 4, &count), SCTPR_SHORT_BUFFER, 1);
     CHECK(count == 4);
-    CHECK(sctpr_sender_expire_late(&sender, 2000000, NULL, 0, &count) == SCTPR_OK && count == 1);
+    CHECK(ends_next(1000000));
+    CHECK(sctpr_sender_expire_late(&sender, 2000000, NULL, 0, &count) == SCTPR_OK && count == 1 && ends_next(0));
+    CHECK(sctpr_sender_write(&sender, 3, SCTPR_PPID_DCEP, (const uint8_t *)"open", 4, &number, &fragments) == SCTPR_OK);
+    sctpr_sender_start(&sender, 5000000);
+    CHECK(ends_next(0));
     free_both();
 }
 
@@ -253,6 +298,7 @@ int main(void) {
     goes_over();
     any_payload_type();
     sends_any_payload_type();
+    forgets_payload_types();
     abandoned();
     expired();
     return report("halves");

@@ -1,5 +1,8 @@
 /* What the worst packets of 1,400 bytes cost: processor time of a packet that is read and followed, the least of three runs.
  *
+ * Of several FORWARD-TSNs and of several SACKs in a packet the first one is followed (docs/C.md). A row that begins with `all:` is what a
+ * caller pays who follows all of them.
+ *
  * The aim is a millisecond for a packet, and 50 ms to send 65,534 chunks again. A row that misses it is printed with `over`, and stands in
  * SECURITY.md. Of the other rows eight times the aim is asserted, since machines differ. */
 #define _POSIX_C_SOURCE 199309L
@@ -86,14 +89,21 @@ static void follow(const uint8_t *bytes, size_t size, uint8_t type) {
     }
 }
 
-/* Reads the packet, and hands each chunk on. */
-static void take_packet(void) {
+/* Reads the packet, and hands each chunk on; but of FORWARD-TSNs and of SACKs the first one alone, where not all are wanted. */
+static void take_chunks(int wants_all) {
     static struct sctpr_any_chunk chunks[PACKET / 4];
     struct sctpr_head got;
-    size_t count = 0;
+    size_t count = 0, forwards = 0, sacks = 0;
     must(sctpr_read_any_packet(packet, length, &got, chunks, PACKET / 4, &count), SCTPR_OK);
-    for (size_t i = 0; i < count; i++) follow(packet + chunks[i].at, chunks[i].length, chunks[i].type);
+    for (size_t i = 0; i < count; i++) {
+        if (chunks[i].type == SCTPR_FORWARD_TSN && forwards++ > 0 && !wants_all) continue;
+        if (chunks[i].type == SCTPR_SACK && sacks++ > 0 && !wants_all) continue;
+        follow(packet + chunks[i].at, chunks[i].length, chunks[i].type);
+    }
 }
+
+static void take_packet(void) { take_chunks(0); }
+static void take_all(void) { take_chunks(1); }
 
 /* ---- Receivers ------------------------------------------------------------------------------------------------------------- */
 
@@ -216,6 +226,15 @@ static void reports_in_turn(void) {
     for (int i = 0; i < 68; i++) CHECK(add_sack(0, i % 2 == 0));
 }
 
+/* A SACK of no block, where all but the first chunk are reported. */
+static void reports_taken_back(void) {
+    size_t count = 0;
+    begin_sender();
+    blocks[0].start = 2, blocks[0].end = 65535;
+    must(sctpr_sender_acked(&sender, chunk, put_sack(chunk, 0, blocks, 1), rows, ALL, &count), SCTPR_OK);
+    CHECK(count == IN_FLIGHT - 1 && add_sack(0, 0));
+}
+
 /* Two SACKs of 170 blocks, each of which reports what the other does not. */
 static void many_blocks(void) {
     begin_sender();
@@ -261,11 +280,11 @@ static const struct row {
     double aim;
     int is_within;
 } all[] = {
-    { "170 FORWARD-TSNs by one, 4,975 incomplete messages of a stream", skips_on_one, take_packet, 1000, 0 },
+    { "a FORWARD-TSN by one, 4,975 incomplete messages of a stream", skips_on_one, take_packet, 1000, 0 },
     { "the same, one on each of 1,024 streams", skips_on_some, take_packet, 1000, 0 },
     { "the same, each on a stream of its own", skips_on_as_many, take_packet, 1000, 0 },
     { "the same, on each of 65,535 streams", skips_on_all, take_packet, 1000, 0 },
-    { "115 FORWARD-TSNs with a name, 4,975 messages of a stream", named_skips_on_one, take_packet, 1000, 0 },
+    { "a FORWARD-TSN with a name, 4,975 messages of a stream", named_skips_on_one, take_packet, 1000, 0 },
     { "the same, on each of 65,535 streams", named_skips_on_all, take_packet, 1000, 0 },
     { "a FORWARD-TSN of 345 names past 65,535 TSNs and streams", many_names, take_packet, 1000, 0 },
     { "DATA in the gap before 100,000 TSNs", one_gap, take_packet, 1000, 1 },
@@ -277,10 +296,20 @@ static const struct row {
     { "the same of 65,536 streams", resets_of_all, take_packet, 1000, 0 },
     { "receiver_readable_streams, 65,536 open", all_open, readable, 1000, 0 },
     { "receiver_sack, 100,000 runs of a TSN", gaps_between_runs, sack_out, 1000, 1 },
-    { "68 SACKs in turn of 2..65,535 and of nothing, reports kept", reports_in_turn, take_packet, 1000, 0 },
-    { "two SACKs in turn of 167 blocks of 191, reports kept", many_blocks, take_packet, 1000, 0 },
-    { "68 SACKs that report one chunk more each, 65,535 in flight", one_more_each, take_packet, 1000, 0 },
+    { "a SACK of 2..65,535, reports kept", reports_in_turn, take_packet, 1000, 0 },
+    { "a SACK of none behind it, which takes that back", reports_taken_back, take_packet, 1000, 0 },
+    { "a SACK of 167 blocks of 191, reports kept", many_blocks, take_packet, 1000, 0 },
+    { "a SACK that reports one chunk, 65,535 in flight", one_more_each, take_packet, 1000, 0 },
     { "65,535 marked chunks are sent again", marked, sent_again, 50000, 1 },
+    { "all: 170 FORWARD-TSNs by one, 4,975 incomplete messages of a stream", skips_on_one, take_all, 1000, 0 },
+    { "all: the same, one on each of 1,024 streams", skips_on_some, take_all, 1000, 0 },
+    { "all: the same, each on a stream of its own", skips_on_as_many, take_all, 1000, 0 },
+    { "all: the same, on each of 65,535 streams", skips_on_all, take_all, 1000, 0 },
+    { "all: 115 FORWARD-TSNs with a name, 4,975 messages of a stream", named_skips_on_one, take_all, 1000, 0 },
+    { "all: the same, on each of 65,535 streams", named_skips_on_all, take_all, 1000, 0 },
+    { "all: 68 SACKs in turn of 2..65,535 and of nothing, reports kept", reports_in_turn, take_all, 1000, 0 },
+    { "all: two SACKs in turn of 167 blocks of 191, reports kept", many_blocks, take_all, 1000, 0 },
+    { "all: 68 SACKs that report one chunk more each, 65,535 in flight", one_more_each, take_all, 1000, 0 },
 };
 
 static double least_time(const struct row *row) {
@@ -303,7 +332,7 @@ static double least_time(const struct row *row) {
 int main(void) {
     for (size_t i = 0; i < sizeof all / sizeof *all; i++) {
         double took = least_time(&all[i]);
-        printf("hostile: %-66s %9.0f us%s\n", all[i].name, took, took > all[i].aim ? "  over" : "");
+        printf("hostile: %-70s %9.0f us%s\n", all[i].name, took, took > all[i].aim ? "  over" : "");
         CHECK(!all[i].is_within || took <= 8 * all[i].aim);
         fflush(stdout);
     }

@@ -130,9 +130,8 @@ void reconfig() {
     CHECK(is_refused(sctpr::write_chunk(SCTPR_COOKIE_ACK, bytes_of("a", 1), out), sctpr::code::not_as_given));
     CHECK(is_refused(sctpr::receiver::make(1, 65536, 66335, 9), sctpr::code::invalid));
     auto s = *sctpr::sender::make(1, 10, 100);
-    CHECK(s.open(3) && is_refused(s.write(3, 99, bytes_of("a", 1)), sctpr::code::not_as_given));
     std::array<std::uint8_t, 20> chunk{};
-    CHECK(s.set_mode(3, false, sctpr::reliability::reliable, 99) && s.write(3, 99, bytes_of("a", 1)) && s.send_next(1, chunk));
+    CHECK(s.open(3) && s.set_mode(3, true, sctpr::reliability::rexmit, 1) && s.write(3, 99, bytes_of("a", 1)) && s.send_next(1, chunk));
     CHECK(sctpr::read_data(chunk)->payload_type == 99 && s.in_flight(1)->payload_type == 99);
 }
 
@@ -219,7 +218,9 @@ void abandoned() {
     CHECK(s.take_back(bytes_of("\3\0\0\20\0\0\3\347\0\0\1\0\0\0\0\0", 16), back).has_value());
     CHECK(s.set_mode(3, true, sctpr::reliability::timed, 1) && s.write(3, SCTPR_PPID_BINARY, bytes_of("fifteen bytes..", 15)));
     CHECK(s.write(3, SCTPR_PPID_BINARY, bytes_of("late", 4)));
+    CHECK(!s.next_timeout());
     s.start(0);
+    CHECK(s.next_timeout() == std::optional<std::uint64_t>(1000000));
     CHECK(s.send_next(0, out) && !s.expire(2000000) && !*s.expire_tail(0));
     CHECK((*s.expire_tail(2000000))->bytes == 15 && s.expire(2000000)->bytes == 4 && !s.expire(2000000));
 }

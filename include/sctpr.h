@@ -199,7 +199,7 @@ enum {
     SCTPR_ERR_SUPPORTED_ADDRESS_TYPES_PARAM_INVALID_LENGTH = 88,
     /* Not answered by a call of this library: the message is longer than the buffer, which is filled with the message's beginning. */
     SCTPR_ERR_SHORT_BUFFER = 89,
-    /* It can't be written as it was given: a chunk whose value is read as another one, or a message whose payload type its stream can't have. */
+    /* It can't be written as it was given: a chunk whose value is read as another one. */
     SCTPR_NOT_AS_GIVEN = 90
 };
 
@@ -262,9 +262,8 @@ enum {
  * peer gave (RFC 4960 3.3.7, 3.3.13, 8.5.1). */
 enum { SCTPR_FLAG_T = 1 };
 
-/* What the user data are (RFC 8831 8). Any number that comes is read as it came, and sctpr_write_chunk writes any (RFC 9260 3.3.1). On a
- * reliable stream a sender sends any: the first five at once, another one where the mode of the stream names it (sctpr_sender_set_mode). On
- * a stream that is not reliable it sends these six. */
+/* What the user data are (RFC 8831 8). A payload type is any number: what comes is read as it came, and sctpr_write_chunk and a sender write
+ * what they are given (RFC 9260 3.3.1). These have names. */
 enum {
     SCTPR_PPID_DCEP = 50,
     SCTPR_PPID_STRING = 51,
@@ -624,9 +623,8 @@ sctpr_code sctpr_sender_open(sctpr_sender *sender, uint16_t stream);
 void sctpr_sender_close(sctpr_sender *sender, uint16_t stream);
 
 /* Sets the mode of later writes to a stream; a DCEP message is ordered and reliable in any mode (RFC 8832 6). `unordered` is 0 for
- * ordered. With SCTPR_RELIABLE `value` is the payload type that messages can have beside the first five of SCTPR_PPID_.., at first 0; with
- * SCTPR_REXMIT it counts the sendings of a chunk after the first (RFC 7496 3.1); with SCTPR_TIMED it is a lifetime in milliseconds (RFC
- * 3758 4.1). SCTPR_INVALID of another `reliability`, SCTPR_STREAM_UNKNOWN. */
+ * ordered. With SCTPR_RELIABLE `value` means nothing; with SCTPR_REXMIT it counts the sendings of a chunk after the first (RFC 7496 3.1);
+ * with SCTPR_TIMED it is a lifetime in milliseconds (RFC 3758 4.1). SCTPR_INVALID of another `reliability`, SCTPR_STREAM_UNKNOWN. */
 enum { SCTPR_RELIABLE = 0, SCTPR_REXMIT = 1, SCTPR_TIMED = 2 };
 sctpr_code sctpr_sender_set_mode(sctpr_sender *sender, uint16_t stream, uint8_t unordered, uint32_t reliability, uint32_t value);
 
@@ -641,10 +639,11 @@ sctpr_code sctpr_sender_set_low_threshold(sctpr_sender *sender, uint16_t stream,
  * it waits or is in flight. */
 sctpr_code sctpr_sender_reset(sctpr_sender *sender, uint16_t stream);
 
-/* Takes a copy of a message of one byte or more: its fragments wait. `number` becomes its number, `fragments` how many chunks it has.
- * SCTPR_NOTHING: the message has no bytes, and nothing changed (RFC 8831 6.6 sends one byte in their place). SCTPR_STREAM_UNKNOWN, before
- * it takes memory; SCTPR_NOT_AS_GIVEN of a payload type that the stream's mode does not name; SCTPR_MESSAGE_TOO_LARGE, SCTPR_QUEUE_FULL,
- * SCTPR_NO_MEMORY. Both stay, but with SCTPR_OK. */
+/* Takes a copy of a message of one byte or more: its fragments wait. Each of its chunks is sent with the payload type that is given, any
+ * number. `number` becomes its number, `fragments` how many chunks it has. SCTPR_NOTHING: the message has no bytes, and nothing changed (RFC
+ * 8831 6.6 sends one byte in their place). SCTPR_STREAM_UNKNOWN, before it takes memory; SCTPR_MESSAGE_TOO_LARGE, SCTPR_QUEUE_FULL,
+ * SCTPR_NO_MEMORY. Both stay, but with SCTPR_OK. Payload types that are none of the first five of SCTPR_PPID_.. are kept until nothing of
+ * their messages waits or is in flight, in at most 100 bytes for each of the most chunks that waited or were in flight at once. */
 sctpr_code sctpr_sender_write(sctpr_sender *sender, uint16_t stream, uint32_t payload_type, const uint8_t *message, size_t length,
                               uint64_t *number, size_t *fragments);
 
@@ -807,6 +806,11 @@ void sctpr_sender_outstanding(const sctpr_sender *sender, struct sctpr_outstandi
 size_t sctpr_sender_chunks_in_flight(const sctpr_sender *sender);
 /* The first TSN in flight that is neither acknowledged nor abandoned (RFC 4960 6.3.3). SCTPR_NOTHING: there is none, and `tsn` stays. */
 sctpr_code sctpr_sender_earliest_outstanding(const sctpr_sender *sender, uint32_t *tsn);
+/* The next moment at which a lifetime ends, in nanoseconds, once lifetimes are started (RFC 3758 4.1): of the message that is next to be
+ * sent, and of each in flight that is neither acknowledged nor abandoned; never of a DCEP message that waits. From then on
+ * sctpr_sender_expire, .._expire_tail or .._expire_late finds something. SCTPR_NOTHING: no such lifetime runs, and `at` stays. It looks at each
+ * chunk in flight. */
+sctpr_code sctpr_sender_next_timeout(const sctpr_sender *sender, uint64_t *at);
 /* How many fragments wait. */
 size_t sctpr_sender_pending(const sctpr_sender *sender);
 /* How many bytes of user data of a stream wait or are in flight. SCTPR_STREAM_UNKNOWN, and `amount` stays. */

@@ -177,7 +177,7 @@ enum class code : sctpr_code {
     err_supported_address_types_param_invalid_length = SCTPR_ERR_SUPPORTED_ADDRESS_TYPES_PARAM_INVALID_LENGTH,
     /** Not answered by a call of this library: the message is longer than the buffer, which is filled with the message's beginning. */
     err_short_buffer = SCTPR_ERR_SHORT_BUFFER,
-    /** It can't be written as it was given: a chunk whose value is read as another one, or a message whose payload type its stream can't have. */
+    /** It can't be written as it was given: a chunk whose value is read as another one. */
     not_as_given = SCTPR_NOT_AS_GIVEN,
 };
 
@@ -775,6 +775,10 @@ public:
     std::optional<std::uint32_t> earliest_outstanding() {
         std::uint32_t tsn = 0;
         return sctpr_sender_earliest_outstanding(&handle_, &tsn) == SCTPR_OK ? std::optional(tsn) : std::nullopt;
+    }
+    std::optional<std::uint64_t> next_timeout() {
+        std::uint64_t at = 0;
+        return sctpr_sender_next_timeout(&handle_, &at) == SCTPR_OK ? std::optional(at) : std::nullopt;
     }
     std::size_t pending() { return sctpr_sender_pending(&handle_); }
     result<std::size_t> buffered_amount(std::uint16_t stream) {

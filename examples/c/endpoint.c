@@ -553,6 +553,15 @@ static void send_sack_if_due(struct endpoint *e) {
     if (is_answer) send_shutdown(e);
 }
 
+/* Whether a chunk before this one is of its type too: of SACKs and of FORWARD-TSNs a peer sends one in a packet (RFC 9260 6.2, RFC 3758 3.5),
+ * and each costs a walk over what is held. Further ones count as lost. */
+static int is_further(const struct sctpr_any_chunk *rows, size_t at) {
+    if (rows[at].type != SCTPR_SACK && rows[at].type != SCTPR_FORWARD_TSN) return 0;
+    for (size_t i = 0; i < at; i++)
+        if (rows[i].type == rows[at].type) return 1;
+    return 0;
+}
+
 void endpoint_receive(struct endpoint *e, const uint8_t *packet, size_t length, uint64_t now) {
     struct sctpr_head head;
     struct sctpr_any_chunk rows[CHUNK_ROWS];
@@ -569,7 +578,7 @@ void endpoint_receive(struct endpoint *e, const uint8_t *packet, size_t length, 
     if (e->unacknowledged == 0) e->sack_due = now + SACK_DELAY;
     for (size_t i = 0; i < count && i < CHUNK_ROWS; i++) {
         const uint8_t *chunk = packet + rows[i].at;
-        if (rows[i].is_known) on_chunk(e, chunk, rows[i].length);
+        if (rows[i].is_known && !is_further(rows, i)) on_chunk(e, chunk, rows[i].length);
         if (rows[i].is_reported) put_cause(e, SCTPR_ERROR, SCTPR_CAUSE_UNRECOGNIZED_CHUNK_TYPE, chunk, rows[i].length);
         has_data |= rows[i].type == SCTPR_DATA;
     }

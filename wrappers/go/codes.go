@@ -161,7 +161,7 @@ const (
 	CodeErrSupportedAddressTypesParamInvalidLength Code = 88
 	// Not answered by a call of this library: the message is longer than the buffer, which is filled with the message's beginning.
 	CodeErrShortBuffer Code = 89
-	// It can't be written as it was given: a chunk whose value is read as another one, or a message whose payload type its stream can't have.
+	// It can't be written as it was given: a chunk whose value is read as another one.
 	CodeNotAsGiven Code = 90
 )
 
@@ -322,7 +322,7 @@ func (c Code) text() string {
 	case CodeErrShortBuffer:
 		return "Not answered by a call of this library: the message is longer than the buffer, which is filled with the message's beginning."
 	case CodeNotAsGiven:
-		return "It can't be written as it was given: a chunk whose value is read as another one, or a message whose payload type its stream can't have."
+		return "It can't be written as it was given: a chunk whose value is read as another one."
 	}
 	return "A code that this version doesn't know."
 }

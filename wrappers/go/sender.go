@@ -116,8 +116,7 @@ func (s *Sender) CloseStream(stream uint16) error {
 	return nil
 }
 
-// SetMode sets the mode of later writes to a stream. Value counts sendings or milliseconds; of a reliable one it is the payload type that
-// messages may have beside the five (RFC 9260 3.3.1).
+// SetMode sets the mode of later writes to a stream. Value counts sendings or milliseconds, and means nothing of a reliable one.
 func (s *Sender) SetMode(stream uint16, unordered bool, reliability Reliability, value uint32) error {
 	if !s.isOpen() {
 		return ErrClosed
@@ -448,6 +447,15 @@ func (s *Sender) EarliestOutstanding() (tsn uint32, ok bool) {
 		return 0, false
 	}
 	return uint32(t), true
+}
+
+// NextTimeout is the next moment at which a lifetime ends; ok is false where none runs.
+func (s *Sender) NextTimeout() (at uint64, ok bool) {
+	var t C.uint64_t
+	if !s.isOpen() || C.sctpr_sender_next_timeout(&s.handle, &t) != C.SCTPR_OK {
+		return 0, false
+	}
+	return uint64(t), true
 }
 
 // Pending is how many fragments wait.

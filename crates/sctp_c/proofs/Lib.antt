@@ -1,5 +1,6 @@
 pub mod AnyRows
 mod DataOut
+pub mod Deadlines
 mod DataSent
 pub mod Filling
 pub mod Forwards
@@ -12,6 +13,7 @@ pub mod OwnParams
 pub mod Resets
 pub mod Rows
 pub mod Sacks
+pub mod Noted
 pub mod SenderBox
 pub mod Tails
 pub mod Writes

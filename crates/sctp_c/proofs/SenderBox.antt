@@ -6,8 +6,8 @@ use Rattle.std_alloc.proofs.BoxSteps.Form.{Bx}
 use Rattle.std_heap.specs.contracts.Global as Heap
 use Rattle.std_heap.specs.contracts.GlobalAllocator.TheImpl.{ghosts, dict}
 use Rattle.std_heap.proofs.Global.TheLaws as heap
-use Rattle.sctp_sender.specs.contracts.sender.Sender as Value
-use Rattle.sctp_sender.proofs.sender.Sender.TheLaws as value
+use Rattle.sctp_c.specs.contracts.sender.typed.TypedSender as Value
+use Rattle.sctp_c.proofs.sender.typed.TypedSender.TheLaws as value
 use Rattle.sctp_c.specs.contracts.sender.SctpSender as Handle
 use Rattle.sctp_c.specs.contracts.sender.SctpNewSender as New
 use Rattle.sctp_c.specs.contracts.parts.Parts as Parts

@@ -2,7 +2,7 @@
 use Rattle.std.specs.Borrow.{Lends, MutBor, Fml}
 use Rattle.sctp_c.specs.declared.sender.SctpSender.{SctpSender}
 use Rattle.sctp_c.specs.contracts.sender.SctpSender.{the_row}
-use Rattle.sctp_sender.specs.contracts.sender.Sender as Value
+use Rattle.sctp_c.specs.contracts.sender.typed.TypedSender as Value
 
 -- the handle once its value is w
 abbrev pub with_value : SctpSender → Value.the_row.Denot → SctpSender

@@ -3,6 +3,7 @@ pub mod Acks
 pub mod AnyChunks
 pub mod Causes
 pub mod Codes
+pub mod Deadlines
 pub mod Flags
 pub mod Forwards
 pub mod Head
@@ -20,4 +21,5 @@ pub mod Requests
 pub mod Rows
 pub mod Sending
 pub mod Answered
+pub mod Types
 pub mod Written

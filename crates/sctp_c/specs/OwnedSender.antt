@@ -7,7 +7,7 @@ use Rattle.std.specs.Coded.{coded_option}
 use Rattle.std.specs.Box.Ownership.{box_owns}
 use Rattle.std.specs.Global.{Global}
 use Rattle.std_heap.specs.contracts.GlobalAllocator.TheImpl.{ghosts}
-use Rattle.sctp_sender.specs.contracts.sender.Sender.{the_row}
+use Rattle.sctp_c.specs.contracts.sender.typed.TypedSender.{the_row}
 
 abbrev pub sender_owns : Global → Ptr → the_row.Denot → Fml
 sender_owns alloc = box_owns (ghosts.dealloc_token alloc) the_row

@@ -1,5 +1,5 @@
 -- What a caller in C is told of chunks and messages: a row for each.
-use Rattle.std.specs.Prelude.{length, is_some}
+use Rattle.std.specs.Prelude.{List, length, is_some}
 use Rattle.sctp_data.specs.declared.chunk.chunk_payload_data.ChunkPayloadData.{ChunkPayloadData}
 use Rattle.sctp_outbound.specs.declared.payload_queue.outstanding.Outstanding.{Outstanding}
 use Rattle.sctp_sender.specs.declared.sender.flight.Released.{Released}
@@ -11,7 +11,8 @@ use Rattle.sctp_c.specs.declared.sender.acks.SctpTakenBack.{SctpTakenBack}
 use Rattle.sctp_c.specs.declared.sender.queries.SctpInFlight.{SctpInFlight}
 use Rattle.sctp_c.specs.declared.sender.queries.SctpOutstanding.{SctpOutstanding}
 use Rattle.sctp_c.specs.Flags.{flag, moment}
-use Rattle.sctp_c.specs.PayloadTypes.{type_sent}
+use Rattle.sctp_c.specs.declared.sender.types.Noted.{Noted}
+use Rattle.sctp_c.specs.Types.{type_sent}
 
 -- of what is outstanding
 abbrev pub outstanding_row : Outstanding → SctpOutstanding
@@ -50,14 +51,14 @@ abandoned_row a = record {
 }
 
 -- of a chunk in flight
-abbrev pub in_flight_row : ChunkPayloadData → SctpInFlight
-in_flight_row c = record {
+abbrev pub in_flight_row : List Noted → ChunkPayloadData → SctpInFlight
+in_flight_row rs c = record {
   size = length c.user_data;
   message = c.message_id;
   sent_at = moment c.since;
   tsn = c.tsn;
   sent = c.nsent;
-  payload_type = type_sent c;
+  payload_type = type_sent rs c;
   stream = c.stream_identifier;
   sequence = c.stream_sequence_number;
   is_unordered = flag c.unordered;

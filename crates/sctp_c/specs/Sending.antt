@@ -1,11 +1,11 @@
 -- What the calls of a sender answer a caller in C.
-use Rattle.std.specs.Prelude.{◌≡◌, ◌⊎◌, ℕ, ◌==◌, true, if◌then◌else◌, List, length, All, Option, Some, None, option_map}
+use Rattle.std.specs.Prelude.{◌≡◌, ◌⊎◌, ℕ, ◌==◌, true, if◌then◌else◌, List, [], ◌∷◌, length, map, All, Option, Some, None, option_map}
 use Rattle.std.specs.List.{find}
 use Rattle.sctp_data.specs.declared.chunk.chunk_payload_data.ChunkPayloadData.{ChunkPayloadData}
 use Rattle.sctp_data.specs.declared.chunk.chunk_payload_data.ReliabilityType.{ReliabilityType}
 use Rattle.sctp_data.specs.declared.chunk.chunk_payload_data.ReliabilityType.TheVariants.{Reliable, Rexmit, Timed}
 use Rattle.sctp_data.specs.PayloadData.{payload_type_from}
-use Rattle.sctp_outbound.specs.outbound_queue.OutboundQueue.{sent_next}
+use Rattle.sctp_outbound.specs.outbound_queue.OutboundQueue.{sent_next, with_message_id}
 use Rattle.sctp_outbound.specs.pending_queue.PendingQueue.{next_pending}
 use Rattle.sctp_sender.specs.declared.sender.refusal.SenderRefusal.{SenderRefusal}
 use Rattle.sctp_sender.specs.Flight.{can_resend, next_after_send}
@@ -17,7 +17,10 @@ use Rattle.sctp_serial.specs.DataChunks.{has_tsn}
 use Rattle.sctp_stream.specs.declared.outbound_stream.OutboundStream.{OutboundStream}
 use Rattle.sctp_c.specs.Out.{at_front, padded}
 use Rattle.sctp_c.specs.Codes.{sender_code}
-use Rattle.sctp_c.specs.PayloadTypes.{as_sent, sent_type, type_sent}
+use Rattle.sctp_c.specs.PayloadTypes.{as_sent}
+use Rattle.sctp_c.specs.Types.{KeepsTypes, noted, type_sent}
+use Rattle.sctp_c.specs.declared.sender.typed.TypedSender.{TypedSender}
+use Rattle.sctp_c.specs.declared.sender.types.Noted.{Noted}
 
 -- the code of a refusal for a reason, or for want of memory where there is none
 abbrev pub sender_code_for : Option SenderRefusal → ℕ
@@ -36,19 +39,23 @@ reliability_named n =
 
 -- ## Writing
 
--- the payload type that a message of a stream is sent with, of which this number was given
-abbrev pub carries : ℕ → OutboundStream → ℕ
-carries n l = sent_type (payload_type_from n) (Some (l.reliability_type, l.reliability_value))
+-- a sender to which nothing was written
+abbrev pub new_sender : Transmission → TypedSender
+new_sender t = record { own = t; types = [] }
 
--- the fragments of the message wait, each with the payload type that was given; its number, and how many they are, are told
+-- the fragments of the message wait, each with the payload type that was given, and each other chunk keeps its own; the message's
+-- number, and how many fragments it has, are told
 pub record Writes (stream payload_type : ℕ) (bytes : List ℕ) (number fragments : ℕ)
-    (old new : Transmission) : Type 0 where
+    (old new : TypedSender) : Type 0 where
   pub state : OutboundStream
-  pub found : stream_of stream old ≡ Some state
-  pub typed : All (λ c. type_sent c ≡ payload_type)
-      (fragments_with_mode state (payload_type_from payload_type) bytes)
-  pub after : new ≡ written_to state stream (payload_type_from payload_type) bytes old
-  pub message : number ≡ old.flight.queue.next_message_id
+  pub found : stream_of stream old.own ≡ Some state
+  pub typed : All (λ c. type_sent new.types c ≡ payload_type)
+      (map (with_message_id number)
+      (fragments_with_mode state (payload_type_from payload_type) bytes))
+  pub others : (new.types ≡ old.types) ⊎ KeepsTypes (noted number payload_type ∷ old.types)
+      new.types new.own.flight.queue
+  pub after : new.own ≡ written_to state stream (payload_type_from payload_type) bytes old.own
+  pub message : number ≡ old.own.flight.queue.next_message_id
   pub count : fragments
       ≡ length (fragments_with_mode state (payload_type_from payload_type) bytes)
 
@@ -58,8 +65,8 @@ pub record Writes (stream payload_type : ℕ) (bytes : List ℕ) (number fragmen
 abbrev pub with_tsn : ℕ → ChunkPayloadData → ChunkPayloadData
 with_tsn tsn c = record c { tsn = tsn }
 
-abbrev pub sent_with : ℕ → ChunkPayloadData → List ℕ
-sent_with tsn c = as_sent (with_tsn tsn c)
+abbrev pub sent_with : List Noted → ℕ → ChunkPayloadData → List ℕ
+sent_with rs tsn c = as_sent rs (with_tsn tsn c)
 
 -- the fragment that is next is in flight under the next TSN, and lifetimes start
 abbrev pub after_send : ℕ → Transmission → Transmission
@@ -70,21 +77,21 @@ after_send now t = with_flight (record t.flight {
 
 -- it is sent: its DATA chunk stands at the front of the buffer
 pub record Sends (now : ℕ) (out_old out_new : List ℕ) (written tsn : ℕ)
-    (old new : Transmission) : Type 0 where
+    (old new : TypedSender) : Type 0 where
   pub chunk : ChunkPayloadData
-  pub next : next_pending old.flight.queue.pending ≡ Some chunk
-  pub accepted : send_refusal old.flight ≡ None
-  pub number : tsn ≡ old.flight.next_tsn
-  pub bytes : out_new ≡ at_front (padded (sent_with tsn chunk)) out_old
-  pub size : written ≡ length (padded (sent_with tsn chunk))
-  pub after : new ≡ after_send now old
+  pub next : next_pending old.own.flight.queue.pending ≡ Some chunk
+  pub accepted : send_refusal old.own.flight ≡ None
+  pub number : tsn ≡ old.own.flight.next_tsn
+  pub bytes : out_new ≡ at_front (padded (sent_with old.types tsn chunk)) out_old
+  pub size : written ≡ length (padded (sent_with old.types tsn chunk))
+  pub after : new.own ≡ after_send now old.own
 
 -- the chunk in flight with a TSN is sent again: it stands at the front of the buffer
 pub record Resends (tsn now : ℕ) (out_old out_new : List ℕ) (written : ℕ)
-    (old new : Transmission) : Type 0 where
+    (old new : TypedSender) : Type 0 where
   pub chunk : ChunkPayloadData
-  pub held : find (has_tsn tsn) old.flight.queue.inflight.chunks ≡ Some chunk
-  pub outstanding : can_resend tsn old.flight ≡ true
-  pub bytes : out_new ≡ at_front (padded (as_sent chunk)) out_old
-  pub size : written ≡ length (padded (as_sent chunk))
-  pub after : new ≡ with_flight (resent_at tsn now chunk old.flight) old
+  pub held : find (has_tsn tsn) old.own.flight.queue.inflight.chunks ≡ Some chunk
+  pub outstanding : can_resend tsn old.own.flight ≡ true
+  pub bytes : out_new ≡ at_front (padded (as_sent old.types chunk)) out_old
+  pub size : written ≡ length (padded (as_sent old.types chunk))
+  pub after : new.own ≡ with_flight (resent_at tsn now chunk old.own.flight) old.own

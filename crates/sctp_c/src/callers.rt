@@ -24,8 +24,8 @@ fn send_first(
     message: &[u8],
     packet: &mut [u8],
 ) -> Option<(u64, u32)>
-    ensures { IfSome result (λ r. (r.0 ≡ sender.old.value.flight.queue.next_message_id)
-        × (r.1 ≡ sender.old.value.flight.next_tsn)) }
+    ensures { IfSome result (λ r. (r.0 ≡ sender.old.value.own.flight.queue.next_message_id)
+        × (r.1 ≡ sender.old.value.own.flight.next_tsn)) }
 {
     let (mut number, mut fragments) = (0, 0);
     let code = sctpr_sender_write(alloc, sender, 1, 53, message, &mut number, &mut fragments);

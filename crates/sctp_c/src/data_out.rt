@@ -1,45 +1,36 @@
 //! DATA chunks that go out into a caller's buffer (RFC 4960 3.3.1), each byte of user data copied once.
 
-ghost use Rattle.std.specs.Prelude.{◌≡◌, ◌+◌, ◌≤◌, ◌<◌, ◌++◌, ◌∷◌, [], length, replicate, Some, None, IfSome};
+ghost use Rattle.std.specs.Prelude.{ℕ, ◌≡◌, ◌+◌, ◌≤◌, ◌<◌, ◌++◌, ◌∷◌, [], length, replicate, None, IfSome};
 ghost use Rattle.sctp_util.specs.Field.{be16, be32};
 ghost use Rattle.sctp_c.specs.Out.{padded, at_front};
-ghost use Rattle.sctp_c.specs.PayloadTypes.{as_sent, sent_type, type_sent};
+ghost use Rattle.sctp_c.specs.PayloadTypes.{encoding_with};
+ghost use Rattle.sctp_c.specs.Types.{type_sent};
 ghost use Rattle.sctp_data.specs.PayloadData.{data_flags, data_of};
 
+use crate::sender::types::Types;
 use sctp_chunks::chunk::Chunk;
-use sctp_data::chunk::chunk_payload_data::{
-    ChunkPayloadData, PayloadProtocolIdentifier, ReliabilityType,
-};
+use sctp_data::chunk::chunk_payload_data::ChunkPayloadData;
 use sctp_util::util::get_padding_size;
 
 // The header of a DATA chunk and the numbers before its user data.
 const HEAD: usize = 16;
 
-/// The number that a payload type is sent with: one without a name is the value of a reliable mode (RFC 9260 3.3.1).
-pub fn sent_type(ppi: PayloadProtocolIdentifier, mode: Option<(ReliabilityType, u32)>) -> u32
-    ensures { result ≡ sent_type ppi mode }
+/// The payload type that a chunk is sent with: one without a name is that which is noted of its message (RFC 9260 3.3.1).
+pub fn type_sent(chunk: &ChunkPayloadData, types: &Types) -> u32
+    ensures { result ≡ type_sent types.now chunk.now }
 {
-    let number = ppi.number();
-    if number != 58 {
-        return number;
+    let number = chunk.payload_type.number();
+    if number == 58 {
+        return types.get(chunk.message_id);
     }
-    match mode {
-        Some((ReliabilityType::Reliable, value)) => value,
-        _ => 58,
-    }
-}
-
-/// The payload type that a chunk is sent with.
-pub fn type_sent(chunk: &ChunkPayloadData) -> u32
-    ensures { result ≡ type_sent chunk.now }
-{
-    sent_type(chunk.payload_type, chunk.reliability)
+    number
 }
 
 /// How many bytes a DATA chunk takes with its padding; None where its length is past 65,535.
 #[tactic(auto, unfolding(crate::specs::Out::padded, sctp_util::specs::Field::be16, sctp_util::specs::Field::be32))]
 pub fn data_size(chunk: &ChunkPayloadData) -> Option<usize>
-    ensures some { IfSome result (λ n. n ≡ length (padded (as_sent chunk.now))) }
+    ensures some { IfSome result (λ n. (payload_type : ℕ)
+        → n ≡ length (padded (encoding_with payload_type (data_of chunk.now)))) }
     ensures short { IfSome result (λ _. length chunk.now.user_data ≤ 65519) }
     ensures none { result ≡ None → 65519 < length chunk.now.user_data }
 {
@@ -52,25 +43,25 @@ pub fn data_size(chunk: &ChunkPayloadData) -> Option<usize>
 
 // What stands before the user data.
 #[tactic(auto, unfolding(sctp_util::specs::Field::be16, sctp_util::specs::Field::be32))]
-fn put_head(place: &mut [u8], chunk: &ChunkPayloadData)
+fn put_head(place: &mut [u8], chunk: &ChunkPayloadData, payload_type: u32)
     requires place { length place.old ≡ 16 }
     requires short { length chunk.now.user_data ≤ 65519 }
     ensures { place.new ≡ (0 ∷ data_flags (data_of chunk.now) ∷ []) ++ be16 (16 + length chunk.now.user_data)
         ++ be32 chunk.now.tsn ++ be16 chunk.now.stream_identifier
-        ++ be16 chunk.now.stream_sequence_number ++ be32 (type_sent chunk.now) }
+        ++ be16 chunk.now.stream_sequence_number ++ be32 payload_type }
 {
     let length = (HEAD + chunk.user_data.len()) as u16;
     let (kind, rest) = place.split_at_mut(2);
     let (size, rest) = rest.split_at_mut(2);
     let (tsn, rest) = rest.split_at_mut(4);
     let (stream, rest) = rest.split_at_mut(2);
-    let (number, payload_type) = rest.split_at_mut(2);
+    let (number, kept_type) = rest.split_at_mut(2);
     kind.copy_from_slice(&[0, chunk.flags()]);
     size.copy_from_slice(&u16::to_be_bytes(length));
     tsn.copy_from_slice(&u32::to_be_bytes(chunk.tsn));
     stream.copy_from_slice(&u16::to_be_bytes(chunk.stream_identifier));
     number.copy_from_slice(&u16::to_be_bytes(chunk.stream_sequence_number));
-    payload_type.copy_from_slice(&u32::to_be_bytes(type_sent(chunk)));
+    kept_type.copy_from_slice(&u32::to_be_bytes(payload_type));
 }
 
 // Writes bytes at the front of the place, and so many zeros behind them.
@@ -83,15 +74,16 @@ fn put_behind(place: &mut [u8], bytes: &[u8], zeros: usize)
     place[bytes.len()..end].fill(0);
 }
 
-/// Writes a DATA chunk at the front of the buffer, and zeros behind it up to a multiple of four. It takes no memory.
+/// Writes a DATA chunk with a payload type at the front of the buffer, and zeros behind it up to a multiple of four. It takes no memory.
 /// Precondition: its length has 16 bits, and the buffer has room; `data_size` tells.
-pub fn put_data(out: &mut [u8], chunk: &ChunkPayloadData)
+pub fn put_data(out: &mut [u8], chunk: &ChunkPayloadData, payload_type: u32)
     requires short { length chunk.now.user_data ≤ 65519 }
-    requires room { length (padded (as_sent chunk.now)) ≤ length out.old }
-    ensures { out.new ≡ at_front (padded (as_sent chunk.now)) out.old }
+    requires room { length (padded (encoding_with payload_type (data_of chunk.now)))
+        ≤ length out.old }
+    ensures { out.new ≡ at_front (padded (encoding_with payload_type (data_of chunk.now))) out.old }
 {
     let padding = get_padding_size(HEAD + chunk.user_data.len());
     let (head, rest) = out.split_at_mut(HEAD);
-    put_head(head, chunk);
+    put_head(head, chunk, payload_type);
     put_behind(rest, &chunk.user_data, padding);
 }

@@ -1,33 +1,36 @@
 //! The sending half of a link behind a handle (RFC 4960 6.1, 6.2.1, 6.9; RFC 3758 3.5; RFC 6525 5.1.2).
 //!
-//! A handle is one pointer. Each call says what it makes of the value behind it, which is a `Sender`, in that type's own words. A code of
-//! 16 or more is a refusal: the sender is as it was then. `now` is in nanoseconds from any one moment.
+//! A handle is one pointer. Each call says what it makes of the value behind it: a `Sender`, in that type's own words, and the payload types
+//! of messages that have no name in it. A code of 16 or more is a refusal: both are as they were then. `now` is in nanoseconds from any one
+//! moment.
 
 ghost use Rattle.std.specs.Prelude.{◌≡◌, ◌≢◌, ◌<◌, ◌≤◌, ◌⊎◌, ◌==◌, not, false, true, Option, None, Some, length, option_map, IfSome, if◌then◌else◌};
 ghost use Rattle.std.specs.Borrow.{sem};
 ghost use Rattle.sctp_c.specs.OwnedSender.{sender_owns, sender_coded, new_sender_owns, new_sender_coded};
 ghost use Rattle.sctp_c.specs.Codes.{sender_code};
-ghost use Rattle.sctp_c.specs.PayloadTypes.{sent_type};
-ghost use Rattle.sctp_c.specs.Sending.{IsSenderCode, Writes, carries, reliability_named};
-ghost use Rattle.sctp_sender.specs.Sender.{Transmission, with_nothing, with_reported, is_open, open_stream, close_stream, stream_of, with_mode_on, write_refusal};
+ghost use Rattle.sctp_c.specs.Sending.{IsSenderCode, Writes, new_sender, reliability_named};
+ghost use Rattle.sctp_c.specs.declared.sender.typed.TypedSender.{TypedSender};
+ghost use Rattle.sctp_sender.specs.Sender.{with_nothing, with_reported, is_open, open_stream, close_stream, with_mode_on, write_refusal};
 ghost use Rattle.sctp_sender.specs.Settings.{reset_on, reset_refusal, with_fragment_size, with_low_on};
 ghost use Rattle.sctp_sender.specs.declared.sender.Reported.TheVariants.{Drop, Keep};
 ghost use Rattle.sctp_sender.specs.declared.sender.refusal.SenderRefusal.TheVariants.{StreamOpen, OutOfMemory};
 
 pub mod abandoning;
 pub mod acks;
+pub mod deadlines;
 pub mod forwards;
 pub mod queries;
 pub mod sending;
+pub mod typed;
+pub mod types;
 
+use self::typed::TypedSender;
 use crate::code::{
-    SCTPR_INVALID, SCTPR_NO_MEMORY, SCTPR_NOT_AS_GIVEN, SCTPR_NOTHING, SCTPR_OK,
-    SCTPR_STREAM_UNKNOWN, of_sender,
+    SCTPR_INVALID, SCTPR_NO_MEMORY, SCTPR_NOTHING, SCTPR_OK, SCTPR_STREAM_UNKNOWN, of_sender,
 };
-use crate::data_out::sent_type;
 use crate::parts::Parts;
 use bytes::Bytes;
-use sctp_data::chunk::chunk_payload_data::{PayloadProtocolIdentifier, ReliabilityType};
+use sctp_data::chunk::chunk_payload_data::ReliabilityType;
 use sctp_sender::sender::{Reported, Sender};
 use std::alloc::Global;
 use std::marker::Model;
@@ -43,7 +46,7 @@ pub struct SenderMemory {
 pub struct SctpSender {
     at: *mut SenderMemory,
     alloc: Global,
-    pub ghost value: { Transmission } by { sender_coded },
+    pub ghost value: { TypedSender } by { sender_coded },
 }
 
 impl Model for SctpSender {
@@ -54,20 +57,20 @@ impl SctpSender {
     ghost use Rattle.sctp_c.specs.LentSender.{lends_sender};
 
     // The sender behind the handle, lent.
-    fn get_mut(&mut self) -> &mut Sender
+    fn get_mut(&mut self) -> &mut TypedSender
         ensures* writes_back { sem 𝓛 (lends_sender self.entry result) }
         ensures value { result.now ≡ self.old.value }
     {
-        unsafe { &mut *(self.at as *mut Sender) }
+        unsafe { &mut *(self.at as *mut TypedSender) }
     }
 
     // The parts of the box that the handle came of.
-    fn into_parts(self) -> Parts<Sender, Global>
+    fn into_parts(self) -> Parts<TypedSender, Global>
         ensures { result.value ≡ self.value }
     {
         let SctpSender { at, alloc } = self;
         Parts {
-            ptr: at as *mut Sender,
+            ptr: at as *mut TypedSender,
             alloc,
         }
     }
@@ -80,7 +83,7 @@ impl SctpSender {
 pub struct SctpNewSender {
     at: *mut SenderMemory,
     alloc: Global,
-    pub ghost value: { Option Transmission } by { new_sender_coded },
+    pub ghost value: { Option TypedSender } by { new_sender_coded },
 }
 
 impl Model for SctpNewSender {
@@ -89,7 +92,7 @@ impl Model for SctpNewSender {
 
 impl SctpNewSender {
     // Writes the handle of what the parts own.
-    fn hold(&mut self, parts: Parts<Sender, Global>)
+    fn hold(&mut self, parts: Parts<TypedSender, Global>)
         ensures { self.new.value ≡ Some parts.value }
     {
         let Parts { ptr, alloc: _ } = parts;
@@ -120,8 +123,8 @@ pub extern "C" fn sctpr_sender_new(
 ) -> u32
     ensures codes { (result ≡ 0) ⊎ ((result ≡ 16) ⊎ (result ≡ 18)) }
     ensures ok { result ≡ 0
-        → out.new.value ≡ Some (with_reported (if keeps_reported == 0 then Drop else Keep)
-        (with_nothing first_tsn fragment_size max_message_size)) }
+        → out.new.value ≡ Some (new_sender (with_reported (if keeps_reported == 0 then Drop else Keep)
+        (with_nothing first_tsn fragment_size max_message_size))) }
     ensures valid { result ≢ 18 → (0 < fragment_size) × (fragment_size ≤ 65519) }
     ensures invalid { result ≡ 18 → (fragment_size ≡ 0) ⊎ (65519 < fragment_size) }
     ensures refused { result ≢ 0 → out.new ≡ out.old }
@@ -135,7 +138,7 @@ pub extern "C" fn sctpr_sender_new(
         Reported::Keep
     };
     let sender = Sender::new(alloc, first_tsn, fragment_size, max_message_size, reported);
-    match Box::new(alloc, sender) {
+    match Box::new(alloc, TypedSender::new(alloc, sender)) {
         Ok(held) => {
             out.hold(Parts::of(held));
             SCTPR_OK
@@ -155,13 +158,14 @@ pub extern "C" fn sctpr_sender_free_handle(sender: SctpSender) {
 /// Opens a stream, ordered and reliable. Refuses with `SCTPR_STREAM_OPEN` and `SCTPR_NO_MEMORY`.
 #[unsafe(no_mangle)]
 pub extern "C" fn sctpr_sender_open(sender: &mut SctpSender, stream: u16) -> u32
-    ensures ok { result ≡ 0 → (is_open stream sender.old.value ≡ false)
-        × (sender.new.value ≡ open_stream stream sender.old.value) }
+    ensures ok { result ≡ 0 → (is_open stream sender.old.value.own ≡ false)
+        × (sender.new.value.own ≡ open_stream stream sender.old.value.own) }
     ensures refused { result ≢ 0 → (result ≡ sender_code
-        (if is_open stream sender.old.value then StreamOpen else OutOfMemory))
+        (if is_open stream sender.old.value.own then StreamOpen else OutOfMemory))
         × (sender.new.value ≡ sender.old.value) }
+    ensures types { sender.new.value.types ≡ sender.old.value.types }
 {
-    match sender.get_mut().open(stream) {
+    match sender.get_mut().own.open(stream) {
         Ok(()) => SCTPR_OK,
         Err(e) => of_sender(e),
     }
@@ -170,9 +174,10 @@ pub extern "C" fn sctpr_sender_open(sender: &mut SctpSender, stream: u16) -> u32
 /// Closes a stream, where it is open. What waits and is in flight of it goes on. It takes no memory.
 #[unsafe(no_mangle)]
 pub extern "C" fn sctpr_sender_close(sender: &mut SctpSender, stream: u16)
-    ensures { sender.new.value ≡ close_stream stream sender.old.value }
+    ensures value { sender.new.value.own ≡ close_stream stream sender.old.value.own }
+    ensures types { sender.new.value.types ≡ sender.old.value.types }
 {
-    sender.get_mut().close(stream);
+    sender.get_mut().own.close(stream);
 }
 
 // The reliability that a number names.
@@ -199,18 +204,20 @@ pub extern "C" fn sctpr_sender_set_mode(
     value: u32,
 ) -> u32
     ensures codes { (result ≡ 0) ⊎ ((result ≡ 18) ⊎ (result ≡ 23)) }
-    ensures ok { result ≡ 0 → Some sender.new.value ≡ option_map
-        (λ r. with_mode_on stream (not (unordered == 0)) r value sender.old.value)
+    ensures ok { result ≡ 0 → Some sender.new.value.own ≡ option_map
+        (λ r. with_mode_on stream (not (unordered == 0)) r value sender.old.value.own)
         (reliability_named reliability) }
     ensures invalid { result ≡ 18 → reliability_named reliability ≡ None }
-    ensures unknown { result ≡ 23 → is_open stream sender.old.value ≡ false }
+    ensures unknown { result ≡ 23 → is_open stream sender.old.value.own ≡ false }
     ensures refused { result ≢ 0 → sender.new.value ≡ sender.old.value }
+    ensures types { sender.new.value.types ≡ sender.old.value.types }
 {
     let Some(reliability) = reliability_from(reliability) else {
         return SCTPR_INVALID;
     };
     match sender
         .get_mut()
+        .own
         .set_mode(stream, unordered != 0, reliability, value)
     {
         Ok(()) => SCTPR_OK,
@@ -223,14 +230,15 @@ pub extern "C" fn sctpr_sender_set_mode(
 #[unsafe(no_mangle)]
 pub extern "C" fn sctpr_sender_set_fragment_size(sender: &mut SctpSender, size: u32) -> u32
     ensures codes { (result ≡ 0) ⊎ (result ≡ 18) }
-    ensures ok { result ≡ 0 → sender.new.value ≡ with_fragment_size size sender.old.value }
+    ensures ok { result ≡ 0 → sender.new.value.own ≡ with_fragment_size size sender.old.value.own }
     ensures invalid { result ≡ 18 → ((size ≡ 0) ⊎ (65519 < size))
         × (sender.new.value ≡ sender.old.value) }
+    ensures types { sender.new.value.types ≡ sender.old.value.types }
 {
     if size == 0 || size > 65_519 {
         return SCTPR_INVALID;
     }
-    sender.get_mut().set_fragment_size(size);
+    sender.get_mut().own.set_fragment_size(size);
     SCTPR_OK
 }
 
@@ -242,12 +250,14 @@ pub extern "C" fn sctpr_sender_set_low_threshold(
     bytes: usize,
 ) -> u32
     ensures codes { (result ≡ 0) ⊎ (result ≡ 23) }
-    ensures ok { result ≡ 0 → sender.new.value ≡ with_low_on stream bytes sender.old.value }
-    ensures unknown { result ≡ 23 → (is_open stream sender.old.value ≡ false)
+    ensures ok { result ≡ 0 → sender.new.value.own ≡ with_low_on stream bytes sender.old.value.own }
+    ensures unknown { result ≡ 23 → (is_open stream sender.old.value.own ≡ false)
         × (sender.new.value ≡ sender.old.value) }
+    ensures types { sender.new.value.types ≡ sender.old.value.types }
 {
     match sender
         .get_mut()
+        .own
         .set_buffered_amount_low_threshold(stream, bytes)
     {
         Ok(()) => SCTPR_OK,
@@ -259,35 +269,22 @@ pub extern "C" fn sctpr_sender_set_low_threshold(
 /// `SCTPR_STREAM_BUSY`, where something of it waits or is in flight. It takes no memory.
 #[unsafe(no_mangle)]
 pub extern "C" fn sctpr_sender_reset(sender: &mut SctpSender, stream: u16) -> u32
-    ensures ok { result ≡ 0 → (reset_refusal stream sender.old.value ≡ None)
-        × (sender.new.value ≡ reset_on stream sender.old.value) }
+    ensures ok { result ≡ 0 → (reset_refusal stream sender.old.value.own ≡ None)
+        × (sender.new.value.own ≡ reset_on stream sender.old.value.own) }
     ensures refused { result ≢ 0
-        → (option_map sender_code (reset_refusal stream sender.old.value) ≡ Some result)
+        → (option_map sender_code (reset_refusal stream sender.old.value.own) ≡ Some result)
         × (sender.new.value ≡ sender.old.value) }
+    ensures types { sender.new.value.types ≡ sender.old.value.types }
 {
-    match sender.get_mut().reset(stream) {
+    match sender.get_mut().own.reset(stream) {
         Ok(()) => SCTPR_OK,
         Err(e) => of_sender(e),
     }
 }
 
-// The number that a message of a stream is sent with, if it is open.
-fn type_on(sender: &mut SctpSender, stream: u16, ppi: PayloadProtocolIdentifier) -> Option<u32>
-    ensures number { result ≡ option_map
-        (λ l. sent_type ppi (Some (l.reliability_type, l.reliability_value)))
-        (stream_of stream sender.old.value) }
-    ensures open { IfSome result (λ _. is_open stream sender.old.value ≡ true) }
-    ensures closed { result ≡ None → is_open stream sender.old.value ≡ false }
-    ensures same { sender.new.value ≡ sender.old.value }
-{
-    let state = sender.get_mut().stream(stream)?;
-    let mode = (state.reliability_type(), state.reliability_value());
-    Some(sent_type(ppi, Some(mode)))
-}
-
-/// Takes a copy of a message of one byte or more: its fragments wait. `number` becomes its number, `fragments` how many chunks it has.
-/// `SCTPR_NOTHING`: the message has no bytes, and nothing changed (RFC 8831 6.6 sends one byte in their place). Refuses with
-/// `SCTPR_STREAM_UNKNOWN`, before it takes memory, `SCTPR_NOT_AS_GIVEN`, `SCTPR_MESSAGE_TOO_LARGE`, `SCTPR_QUEUE_FULL` and `SCTPR_NO_MEMORY`.
+/// Takes a copy of a message of one byte or more: its fragments wait, and are sent with the payload type that is given, any number. `number`
+/// becomes its number, `fragments` how many chunks it has. `SCTPR_NOTHING`: it has no bytes, and nothing changed (RFC 8831 6.6 sends one
+/// byte). Refuses with `SCTPR_STREAM_UNKNOWN`, before it takes memory, `SCTPR_MESSAGE_TOO_LARGE`, `SCTPR_QUEUE_FULL`, `SCTPR_NO_MEMORY`.
 #[unsafe(no_mangle)]
 pub extern "C" fn sctpr_sender_write(
     alloc: Global,
@@ -304,25 +301,20 @@ pub extern "C" fn sctpr_sender_write(
     ensures nothing { result ≡ 3 → length message.now ≡ 0 }
     ensures codes { (result ≡ 0) ⊎ ((result ≡ 3) ⊎ (16 ≤ result)) }
     // It takes no memory then.
-    ensures unknown { is_open stream sender.old.value ≡ false → result ≡ 23 }
-    ensures changed { result ≡ 90 → IfSome (stream_of stream sender.old.value)
-        (λ l. carries payload_type l ≢ payload_type) }
-    ensures refused { 16 ≤ result → result ≢ 90 → IsSenderCode
-        (write_refusal stream (length message.now) sender.old.value) result }
+    ensures unknown { is_open stream sender.old.value.own ≡ false → result ≡ 23 }
+    ensures refused { 16 ≤ result → IsSenderCode
+        (write_refusal stream (length message.now) sender.old.value.own) result }
     ensures kept { result ≢ 0 → (sender.new.value ≡ sender.old.value)
         × ((number.new ≡ number.old) × (fragments.new ≡ fragments.old)) }
 {
-    let ppi = PayloadProtocolIdentifier::from(payload_type);
-    let Some(carried) = type_on(sender, stream, ppi) else {
+    let held = sender.get_mut();
+    if held.own.stream(stream).is_none() {
         return SCTPR_STREAM_UNKNOWN;
-    };
-    if carried != payload_type {
-        return SCTPR_NOT_AS_GIVEN;
     }
     let Ok(bytes) = Bytes::copy_from_slice(alloc, message) else {
         return SCTPR_NO_MEMORY;
     };
-    match sender.get_mut().write(stream, ppi, &bytes) {
+    match held.write(stream, payload_type, &bytes) {
         Ok((Some(n), count)) => {
             *number = n;
             *fragments = count;

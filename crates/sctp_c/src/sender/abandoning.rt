@@ -76,12 +76,13 @@ pub extern "C" fn sctpr_sender_abandon(
     row: &mut SctpAbandoned,
 ) -> u32
     ensures codes { (result ≡ 0) ⊎ (16 ≤ result) }
-    ensures ok { result ≡ 0 → Abandons tsn row.new sender.old.value sender.new.value }
+    ensures ok { result ≡ 0 → Abandons tsn row.new sender.old.value.own sender.new.value.own }
     ensures refused { 16 ≤ result
-        → (result ≡ sender_code_for (abandon_refusal tsn sender.old.value.flight))
+        → (result ≡ sender_code_for (abandon_refusal tsn sender.old.value.own.flight))
         × ((sender.new.value ≡ sender.old.value) × (row.new ≡ row.old)) }
+    ensures types { sender.new.value.types ≡ sender.old.value.types }
 {
-    match sender.get_mut().abandon(tsn) {
+    match sender.get_mut().own.abandon(tsn) {
         Ok(gone) => {
             *row = abandoned_row(&gone);
             SCTPR_OK
@@ -99,11 +100,12 @@ pub extern "C" fn sctpr_sender_expire(
     row: &mut SctpExpired,
 ) -> u32
     ensures codes { (result ≡ 0) ⊎ (result ≡ 3) }
-    ensures ok { result ≡ 0 → Expires now row.new sender.old.value sender.new.value }
-    ensures nothing { result ≡ 3 → (expiring now sender.old.value.flight.queue ≡ None)
+    ensures ok { result ≡ 0 → Expires now row.new sender.old.value.own sender.new.value.own }
+    ensures nothing { result ≡ 3 → (expiring now sender.old.value.own.flight.queue ≡ None)
         × ((sender.new.value ≡ sender.old.value) × (row.new ≡ row.old)) }
+    ensures types { sender.new.value.types ≡ sender.old.value.types }
 {
-    match replay::expire(sender.get_mut(), now) {
+    match replay::expire(&mut sender.get_mut().own, now) {
         Some(gone) => {
             *row = SctpExpired {
                 bytes: gone.bytes,
@@ -126,13 +128,14 @@ pub extern "C" fn sctpr_sender_expire_tail(
     row: &mut SctpAbandoned,
 ) -> u32
     ensures codes { (result ≡ 0) ⊎ ((result ≡ 3) ⊎ (16 ≤ result)) }
-    ensures ok { result ≡ 0 → ExpiresTail now row.new sender.old.value sender.new.value }
-    ensures nothing { result ≡ 3 → expiring_tail now sender.old.value.flight.queue ≡ None }
+    ensures ok { result ≡ 0 → ExpiresTail now row.new sender.old.value.own sender.new.value.own }
+    ensures nothing { result ≡ 3 → expiring_tail now sender.old.value.own.flight.queue ≡ None }
     ensures refused { 16 ≤ result → result ≡ sender_code
-        (if may_send sender.old.value.flight then OutOfMemory else TsnsUsedUp) }
+        (if may_send sender.old.value.own.flight then OutOfMemory else TsnsUsedUp) }
     ensures kept { result ≢ 0 → (sender.new.value ≡ sender.old.value) × (row.new ≡ row.old) }
+    ensures types { sender.new.value.types ≡ sender.old.value.types }
 {
-    match replay::expire_tail(sender.get_mut(), now) {
+    match replay::expire_tail(&mut sender.get_mut().own, now) {
         Ok(Some(gone)) => {
             *row = abandoned_row(&gone);
             SCTPR_OK
@@ -153,25 +156,26 @@ pub extern "C" fn sctpr_sender_expire_late(
     count: &mut usize,
 ) -> u32
     ensures codes { (result ≡ 0) ⊎ (16 ≤ result) }
-    ensures ok { result ≡ 0 → (sender.new.value ≡ after_late now sender.old.value)
-        × AbandonsEach (late_order now sender.old.value.flight) rows.old rows.new count.new
-        sender.old.value }
+    ensures ok { result ≡ 0 → (sender.new.value.own ≡ after_late now sender.old.value.own)
+        × AbandonsEach (late_order now sender.old.value.own.flight) rows.old rows.new count.new
+        sender.old.value.own }
     ensures whole { result ≡ 0 → (length rows.old ≡ 0) ⊎ (count.new ≤ length rows.old) }
     ensures short { result ≡ 17 → (0 < length rows.old) × ((length rows.old ≤ count.new)
-        × (count.new ≡ length sender.old.value.flight.queue.inflight.chunks)) }
+        × (count.new ≡ length sender.old.value.own.flight.queue.inflight.chunks)) }
     ensures must { 0 < length rows.old
-        → length rows.old ≤ length sender.old.value.flight.queue.inflight.chunks
+        → length rows.old ≤ length sender.old.value.own.flight.queue.inflight.chunks
         → result ≡ 17 }
     ensures accepted { result ≡ 0
-        → leaving_refusal (late_tsns now sender.old.value.flight.queue) sender.old.value.flight ≡ None }
+        → leaving_refusal (late_tsns now sender.old.value.own.flight.queue) sender.old.value.own.flight ≡ None }
     ensures codes_refused { 16 ≤ result → result ≢ 17
-        → IsSenderCode (leaving_refusal (late_tsns now sender.old.value.flight.queue)
-        sender.old.value.flight) result }
-    ensures idle { late_tsns now sender.old.value.flight.queue ≡ [] → result ≢ 17 → result ≡ 0 }
+        → IsSenderCode (leaving_refusal (late_tsns now sender.old.value.own.flight.queue)
+        sender.old.value.own.flight) result }
+    ensures idle { late_tsns now sender.old.value.own.flight.queue ≡ [] → result ≢ 17 → result ≡ 0 }
     ensures refused { result ≢ 0 → (sender.new.value ≡ sender.old.value) × (rows.new ≡ rows.old) }
     ensures kept { 16 ≤ result → result ≢ 17 → count.new ≡ count.old }
+    ensures types { sender.new.value.types ≡ sender.old.value.types }
 {
-    let own = sender.get_mut();
+    let own = &mut sender.get_mut().own;
     let in_flight = own.outbound().inflight_len();
     if !rows.is_empty() && rows.len() <= in_flight {
         *count = in_flight;
@@ -197,25 +201,26 @@ pub extern "C" fn sctpr_sender_expire_rexmit(
     count: &mut usize,
 ) -> u32
     ensures codes { (result ≡ 0) ⊎ (16 ≤ result) }
-    ensures ok { result ≡ 0 → (sender.new.value ≡ after_worn sender.old.value)
-        × AbandonsEach (worn_order sender.old.value.flight) rows.old rows.new count.new
-        sender.old.value }
+    ensures ok { result ≡ 0 → (sender.new.value.own ≡ after_worn sender.old.value.own)
+        × AbandonsEach (worn_order sender.old.value.own.flight) rows.old rows.new count.new
+        sender.old.value.own }
     ensures whole { result ≡ 0 → (length rows.old ≡ 0) ⊎ (count.new ≤ length rows.old) }
     ensures short { result ≡ 17 → (0 < length rows.old) × ((length rows.old ≤ count.new)
-        × (count.new ≡ length sender.old.value.flight.queue.inflight.chunks)) }
+        × (count.new ≡ length sender.old.value.own.flight.queue.inflight.chunks)) }
     ensures must { 0 < length rows.old
-        → length rows.old ≤ length sender.old.value.flight.queue.inflight.chunks
+        → length rows.old ≤ length sender.old.value.own.flight.queue.inflight.chunks
         → result ≡ 17 }
     ensures accepted { result ≡ 0
-        → leaving_refusal (worn_tsns sender.old.value.flight) sender.old.value.flight ≡ None }
+        → leaving_refusal (worn_tsns sender.old.value.own.flight) sender.old.value.own.flight ≡ None }
     ensures codes_refused { 16 ≤ result → result ≢ 17
-        → IsSenderCode (leaving_refusal (worn_tsns sender.old.value.flight)
-        sender.old.value.flight) result }
-    ensures idle { worn_tsns sender.old.value.flight ≡ [] → result ≢ 17 → result ≡ 0 }
+        → IsSenderCode (leaving_refusal (worn_tsns sender.old.value.own.flight)
+        sender.old.value.own.flight) result }
+    ensures idle { worn_tsns sender.old.value.own.flight ≡ [] → result ≢ 17 → result ≡ 0 }
     ensures refused { result ≢ 0 → (sender.new.value ≡ sender.old.value) × (rows.new ≡ rows.old) }
     ensures kept { 16 ≤ result → result ≢ 17 → count.new ≡ count.old }
+    ensures types { sender.new.value.types ≡ sender.old.value.types }
 {
-    let own = sender.get_mut();
+    let own = &mut sender.get_mut().own;
     let in_flight = own.outbound().inflight_len();
     if !rows.is_empty() && rows.len() <= in_flight {
         *count = in_flight;

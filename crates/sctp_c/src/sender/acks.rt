@@ -162,17 +162,18 @@ pub extern "C" fn sctpr_sender_acked(
 ) -> u32
     ensures codes { (result ≡ 0) ⊎ ((result ≡ 2) ⊎ (16 ≤ result)) }
     ensures ok { result ≡ 0 → TakesSack chunk.now rows.old rows.new count.new
-        sender.old.value sender.new.value }
-    ensures stale { result ≡ 2 → IsStale chunk.now sender.old.value × (count.new ≡ 0) }
+        sender.old.value.own sender.new.value.own }
+    ensures stale { result ≡ 2 → IsStale chunk.now sender.old.value.own × (count.new ≡ 0) }
     ensures whole { result ≡ 0 → (length rows.old ≡ 0) ⊎ (count.new ≤ length rows.old) }
     ensures short { result ≡ 17 → (0 < length rows.old) × ((length rows.old < count.new)
-        × (count.new ≡ length sender.old.value.flight.queue.inflight.chunks)) }
+        × (count.new ≡ length sender.old.value.own.flight.queue.inflight.chunks)) }
     ensures refused { result ≢ 0 → (sender.new.value ≡ sender.old.value) × (rows.new ≡ rows.old) }
     ensures reason { 16 ≤ result → result ≢ 17 → IsRefusal (λ e. SackFault e chunk.now) result
-        ⊎ RefusesSack chunk.now result sender.old.value }
+        ⊎ RefusesSack chunk.now result sender.old.value.own }
     ensures kept { 16 ≤ result → result ≢ 17 → count.new ≡ count.old }
+    ensures types { sender.new.value.types ≡ sender.old.value.types }
 {
-    let own = sender.get_mut();
+    let own = &mut sender.get_mut().own;
     let most = own.outbound().inflight_len();
     if !rows.is_empty() && rows.len() < most {
         *count = most;
@@ -196,18 +197,19 @@ pub extern "C" fn sctpr_sender_acked_up_to(
 ) -> u32
     ensures codes { (result ≡ 0) ⊎ ((result ≡ 2) ⊎ (16 ≤ result)) }
     ensures ok { result ≡ 0 → Takes (up_to tsn) rows.old rows.new count.new
-        sender.old.value sender.new.value }
-    ensures stale { result ≡ 2 → (is_outdated (up_to tsn) sender.old.value.flight ≡ true)
+        sender.old.value.own sender.new.value.own }
+    ensures stale { result ≡ 2 → (is_outdated (up_to tsn) sender.old.value.own.flight ≡ true)
         × (count.new ≡ 0) }
     ensures whole { result ≡ 0 → (length rows.old ≡ 0) ⊎ (count.new ≤ length rows.old) }
     ensures short { result ≡ 17 → (0 < length rows.old) × ((length rows.old < count.new)
-        × (count.new ≡ length sender.old.value.flight.queue.inflight.chunks)) }
+        × (count.new ≡ length sender.old.value.own.flight.queue.inflight.chunks)) }
     ensures refused { result ≢ 0 → (sender.new.value ≡ sender.old.value) × (rows.new ≡ rows.old) }
     ensures reason { 16 ≤ result → result ≢ 17
-        → result ≡ sender_code_for (sack_refusal (up_to tsn) sender.old.value.flight) }
+        → result ≡ sender_code_for (sack_refusal (up_to tsn) sender.old.value.own.flight) }
     ensures kept { 16 ≤ result → result ≢ 17 → count.new ≡ count.old }
+    ensures types { sender.new.value.types ≡ sender.old.value.types }
 {
-    let own = sender.get_mut();
+    let own = &mut sender.get_mut().own;
     let most = own.outbound().inflight_len();
     if !rows.is_empty() && rows.len() < most {
         *count = most;
@@ -235,17 +237,18 @@ pub extern "C" fn sctpr_sender_take_back(
 ) -> u32
     ensures codes { (result ≡ 0) ⊎ ((result ≡ 2) ⊎ (16 ≤ result)) }
     ensures ok { result ≡ 0 → TakesBack chunk.now rows.old rows.new count.new
-        sender.old.value sender.new.value }
-    ensures stale { result ≡ 2 → IsStale chunk.now sender.old.value × (count.new ≡ 0) }
+        sender.old.value.own sender.new.value.own }
+    ensures stale { result ≡ 2 → IsStale chunk.now sender.old.value.own × (count.new ≡ 0) }
     ensures whole { result ≡ 0 → (length rows.old ≡ 0) ⊎ (count.new ≤ length rows.old) }
     ensures short { result ≡ 17 → (0 < length rows.old) × ((length rows.old < count.new)
-        × (count.new ≡ length sender.old.value.flight.queue.inflight.chunks)) }
+        × (count.new ≡ length sender.old.value.own.flight.queue.inflight.chunks)) }
     ensures refused { result ≢ 0 → (sender.new.value ≡ sender.old.value) × (rows.new ≡ rows.old) }
     ensures reason { 16 ≤ result → result ≢ 17 → IsRefusal (λ e. SackFault e chunk.now) result
-        ⊎ RefusesTakeBack chunk.now result sender.old.value }
+        ⊎ RefusesTakeBack chunk.now result sender.old.value.own }
     ensures kept { 16 ≤ result → result ≢ 17 → count.new ≡ count.old }
+    ensures types { sender.new.value.types ≡ sender.old.value.types }
 {
-    let own = sender.get_mut();
+    let own = &mut sender.get_mut().own;
     let most = own.outbound().inflight_len();
     if !rows.is_empty() && rows.len() < most {
         *count = most;

@@ -49,17 +49,17 @@ pub extern "C" fn sctpr_sender_forward_tsn(
 ) -> u32
     ensures codes { (result ≡ 0) ⊎ ((result ≡ 3) ⊎ (16 ≤ result)) }
     ensures ok { result ≡ 0 → WritesForwardTsn out.old out.new written.new
-        sender.old.value.flight }
+        sender.old.value.own.flight }
     ensures nothing { result ≡ 3
-        → skip_end (advanced_ack_point sender.old.value.flight) sender.old.value.flight ≡ None }
+        → skip_end (advanced_ack_point sender.old.value.own.flight) sender.old.value.own.flight ≡ None }
     ensures short { result ≡ 17
-        → WantsForwardTsn out.old written.new sender.old.value.flight }
+        → WantsForwardTsn out.old written.new sender.old.value.own.flight }
     ensures reason { 16 ≤ result → (result ≡ 16) ⊎ (result ≡ 17) }
     ensures same { sender.new.value ≡ sender.old.value }
     ensures kept { result ≢ 0 → out.new ≡ out.old }
     ensures unanswered { result ≢ 0 → result ≢ 17 → written.new ≡ written.old }
 {
-    let own = sender.get_mut();
+    let own = &mut sender.get_mut().own;
     let room = out.len().min(MAX_FORWARD_TSN_SIZE);
     let chunk = match own.forward_tsn(room) {
         Ok(Some(chunk)) => chunk,
@@ -89,16 +89,16 @@ pub extern "C" fn sctpr_sender_forward_tsn_to(
 ) -> u32
     ensures codes { (result ≡ 0) ⊎ ((result ≡ 3) ⊎ (16 ≤ result)) }
     ensures ok { result ≡ 0 → WritesForwardTo tsn out.old out.new written.new
-        sender.old.value.flight }
-    ensures nothing { result ≡ 3 → skip_end tsn sender.old.value.flight ≡ None }
+        sender.old.value.own.flight }
+    ensures nothing { result ≡ 3 → skip_end tsn sender.old.value.own.flight ≡ None }
     ensures short { result ≡ 17
-        → WantsForwardTo tsn out.old written.new sender.old.value.flight }
+        → WantsForwardTo tsn out.old written.new sender.old.value.own.flight }
     ensures reason { 16 ≤ result → (result ≡ 16) ⊎ ((result ≡ 17) ⊎ (result ≡ 19)) }
     ensures same { sender.new.value ≡ sender.old.value }
     ensures kept { result ≢ 0 → out.new ≡ out.old }
     ensures unanswered { result ≢ 0 → result ≢ 17 → written.new ≡ written.old }
 {
-    let chunk = match replay::forward_tsn_to(sender.get_mut(), tsn) {
+    let chunk = match replay::forward_tsn_to(&sender.get_mut().own, tsn) {
         Ok(Some(chunk)) => chunk,
         Ok(None) => return SCTPR_NOTHING,
         Err(e) => return of_sender(e),

@@ -13,6 +13,7 @@ ghost use Rattle.sctp_sender.specs.Settings.{is_drained};
 ghost use Rattle.sctp_serial.specs.DataChunks.{bytes_of, has_tsn};
 
 use super::SctpSender;
+use super::types::Types;
 use crate::code::{SCTPR_NOT_IN_FLIGHT, SCTPR_NOTHING, SCTPR_OK, SCTPR_STREAM_UNKNOWN};
 use crate::data_out::type_sent;
 use sctp_data::chunk::chunk_payload_data::ChunkPayloadData;
@@ -71,8 +72,8 @@ pub(super) fn moment_of(since: Option<u64>) -> u64
 }
 
 // What is told of a chunk in flight.
-fn row_of(chunk: &ChunkPayloadData) -> SctpInFlight
-    ensures { result ≡ in_flight_row chunk.now }
+fn row_of(chunk: &ChunkPayloadData, types: &Types) -> SctpInFlight
+    ensures { result ≡ in_flight_row types.now chunk.now }
 {
     SctpInFlight {
         size: chunk.user_data.len(),
@@ -80,7 +81,7 @@ fn row_of(chunk: &ChunkPayloadData) -> SctpInFlight
         sent_at: moment_of(chunk.since),
         tsn: chunk.tsn,
         sent: chunk.nsent,
-        payload_type: type_sent(chunk),
+        payload_type: type_sent(chunk, types),
         stream: chunk.stream_identifier,
         sequence: chunk.stream_sequence_number,
         is_unordered: chunk.unordered as u8,
@@ -98,15 +99,16 @@ pub extern "C" fn sctpr_sender_in_flight(
     row: &mut SctpInFlight,
 ) -> u32
     ensures codes { (result ≡ 0) ⊎ (result ≡ 27) }
-    ensures ok { result ≡ 0 → Some row.new ≡ option_map in_flight_row
-        (find (has_tsn tsn) sender.old.value.flight.queue.inflight.chunks) }
+    ensures ok { result ≡ 0 → Some row.new ≡ option_map (in_flight_row sender.old.value.types)
+        (find (has_tsn tsn) sender.old.value.own.flight.queue.inflight.chunks) }
     ensures missing { result ≡ 27 → (row.new ≡ row.old)
-        × (find (has_tsn tsn) sender.old.value.flight.queue.inflight.chunks ≡ None) }
+        × (find (has_tsn tsn) sender.old.value.own.flight.queue.inflight.chunks ≡ None) }
     ensures same { sender.new.value ≡ sender.old.value }
 {
-    match sender.get_mut().outbound().get(tsn) {
+    let held = sender.get_mut();
+    match held.own.outbound().get(tsn) {
         Some(chunk) => {
-            *row = row_of(chunk);
+            *row = row_of(chunk, &held.types);
             SCTPR_OK
         }
         None => SCTPR_NOT_IN_FLIGHT,
@@ -122,15 +124,16 @@ pub extern "C" fn sctpr_sender_in_flight_at(
     row: &mut SctpInFlight,
 ) -> u32
     ensures codes { (result ≡ 0) ⊎ (result ≡ 3) }
-    ensures ok { result ≡ 0 → Some row.new ≡ option_map in_flight_row
-        (slice_get sender.old.value.flight.queue.inflight.chunks place) }
+    ensures ok { result ≡ 0 → Some row.new ≡ option_map (in_flight_row sender.old.value.types)
+        (slice_get sender.old.value.own.flight.queue.inflight.chunks place) }
     ensures none { result ≡ 3 → (row.new ≡ row.old)
-        × (slice_get sender.old.value.flight.queue.inflight.chunks place ≡ None) }
+        × (slice_get sender.old.value.own.flight.queue.inflight.chunks place ≡ None) }
     ensures same { sender.new.value ≡ sender.old.value }
 {
-    match replay::in_flight_at(sender.get_mut(), place) {
+    let held = sender.get_mut();
+    match replay::in_flight_at(&held.own, place) {
         Some(chunk) => {
-            *row = row_of(chunk);
+            *row = row_of(chunk, &held.types);
             SCTPR_OK
         }
         None => SCTPR_NOTHING,
@@ -145,15 +148,16 @@ pub extern "C" fn sctpr_sender_next_to_retransmit(
     row: &mut SctpInFlight,
 ) -> u32
     ensures codes { (result ≡ 0) ⊎ (result ≡ 3) }
-    ensures ok { result ≡ 0 → Some row.new ≡ option_map in_flight_row
-        (find is_to_resend sender.old.value.flight.queue.inflight.chunks) }
+    ensures ok { result ≡ 0 → Some row.new ≡ option_map (in_flight_row sender.old.value.types)
+        (find is_to_resend sender.old.value.own.flight.queue.inflight.chunks) }
     ensures none { result ≡ 3 → (row.new ≡ row.old)
-        × (find is_to_resend sender.old.value.flight.queue.inflight.chunks ≡ None) }
+        × (find is_to_resend sender.old.value.own.flight.queue.inflight.chunks ≡ None) }
     ensures same { sender.new.value ≡ sender.old.value }
 {
-    match replay::next_to_retransmit(sender.get_mut()) {
+    let held = sender.get_mut();
+    match replay::next_to_retransmit(&held.own) {
         Some(chunk) => {
-            *row = row_of(chunk);
+            *row = row_of(chunk, &held.types);
             SCTPR_OK
         }
         None => SCTPR_NOTHING,
@@ -170,12 +174,12 @@ pub extern "C" fn sctpr_sender_buffered_amount(
 ) -> u32
     ensures codes { (result ≡ 0) ⊎ (result ≡ 23) }
     ensures ok { result ≡ 0 → Some amount.new
-        ≡ option_map (λ l. l.buffered_amount) (stream_of stream sender.old.value) }
+        ≡ option_map (λ l. l.buffered_amount) (stream_of stream sender.old.value.own) }
     ensures unknown { result ≡ 23 → (amount.new ≡ amount.old)
-        × (stream_of stream sender.old.value ≡ None) }
+        × (stream_of stream sender.old.value.own ≡ None) }
     ensures same { sender.new.value ≡ sender.old.value }
 {
-    match sender.get_mut().stream(stream) {
+    match sender.get_mut().own.stream(stream) {
         Some(state) => {
             *amount = state.buffered_amount();
             SCTPR_OK
@@ -187,55 +191,55 @@ pub extern "C" fn sctpr_sender_buffered_amount(
 /// 1 where nothing of a stream waits or is in flight, so that it can be reset (RFC 6525 5.1.2), else 0.
 #[unsafe(no_mangle)]
 pub extern "C" fn sctpr_sender_is_drained(sender: &mut SctpSender, stream: u16) -> u8
-    ensures value { result ≡ flag (is_drained stream sender.old.value) }
+    ensures value { result ≡ flag (is_drained stream sender.old.value.own) }
     ensures same { sender.new.value ≡ sender.old.value }
 {
-    sender.get_mut().is_drained(stream) as u8
+    sender.get_mut().own.is_drained(stream) as u8
 }
 
 /// The TSN that the next chunk gets (RFC 4960 6.1).
 #[unsafe(no_mangle)]
 pub extern "C" fn sctpr_sender_next_tsn(sender: &mut SctpSender) -> u32
-    ensures value { result ≡ sender.old.value.flight.next_tsn }
+    ensures value { result ≡ sender.old.value.own.flight.next_tsn }
     ensures same { sender.new.value ≡ sender.old.value }
 {
-    sender.get_mut().next_tsn()
+    sender.get_mut().own.next_tsn()
 }
 
 /// The TSN up to which all was acknowledged (RFC 4960 6.2.1).
 #[unsafe(no_mangle)]
 pub extern "C" fn sctpr_sender_acked_tsn(sender: &mut SctpSender) -> u32
-    ensures value { result ≡ sender.old.value.flight.acked_tsn }
+    ensures value { result ≡ sender.old.value.own.flight.acked_tsn }
     ensures same { sender.new.value ≡ sender.old.value }
 {
-    sender.get_mut().acked_tsn()
+    sender.get_mut().own.acked_tsn()
 }
 
 /// The Advanced.Peer.Ack.Point (RFC 3758 3.5 C2).
 #[unsafe(no_mangle)]
 pub extern "C" fn sctpr_sender_advanced_ack_point(sender: &mut SctpSender) -> u32
-    ensures value { result ≡ advanced_ack_point sender.old.value.flight }
+    ensures value { result ≡ advanced_ack_point sender.old.value.own.flight }
     ensures same { sender.new.value ≡ sender.old.value }
 {
-    replay::advanced_ack_point(sender.get_mut())
+    replay::advanced_ack_point(&sender.get_mut().own)
 }
 
 /// How many bytes of user data are in flight (RFC 4960 7.2): what is acknowledged or abandoned counts no more.
 #[unsafe(no_mangle)]
 pub extern "C" fn sctpr_sender_bytes_in_flight(sender: &mut SctpSender) -> usize
-    ensures value { result ≡ bytes_of sender.old.value.flight.queue.inflight.chunks }
+    ensures value { result ≡ bytes_of sender.old.value.own.flight.queue.inflight.chunks }
     ensures same { sender.new.value ≡ sender.old.value }
 {
-    sender.get_mut().outbound().inflight_bytes()
+    sender.get_mut().own.outbound().inflight_bytes()
 }
 
 /// How many chunks are in flight: each TSN past `sctpr_sender_acked_tsn` and before `sctpr_sender_next_tsn` has one.
 #[unsafe(no_mangle)]
 pub extern "C" fn sctpr_sender_chunks_in_flight(sender: &mut SctpSender) -> usize
-    ensures value { result ≡ length sender.old.value.flight.queue.inflight.chunks }
+    ensures value { result ≡ length sender.old.value.own.flight.queue.inflight.chunks }
     ensures same { sender.new.value ≡ sender.old.value }
 {
-    sender.get_mut().outbound().inflight_len()
+    sender.get_mut().own.outbound().inflight_len()
 }
 
 /// What is outstanding: `row` tells of it. A chunk that is marked for retransmission has no part in the flight size until it is sent again
@@ -243,10 +247,10 @@ pub extern "C" fn sctpr_sender_chunks_in_flight(sender: &mut SctpSender) -> usiz
 #[unsafe(no_mangle)]
 pub extern "C" fn sctpr_sender_outstanding(sender: &mut SctpSender, row: &mut SctpOutstanding)
     ensures row { row.new
-        ≡ outstanding_row (outstanding_of sender.old.value.flight.queue.inflight.chunks) }
+        ≡ outstanding_row (outstanding_of sender.old.value.own.flight.queue.inflight.chunks) }
     ensures same { sender.new.value ≡ sender.old.value }
 {
-    let told = sender.get_mut().outstanding();
+    let told = sender.get_mut().own.outstanding();
     *row = SctpOutstanding {
         bytes: told.bytes,
         chunks: told.chunks,
@@ -260,12 +264,12 @@ pub extern "C" fn sctpr_sender_outstanding(sender: &mut SctpSender, row: &mut Sc
 pub extern "C" fn sctpr_sender_earliest_outstanding(sender: &mut SctpSender, tsn: &mut u32) -> u32
     ensures codes { (result ≡ 0) ⊎ (result ≡ 3) }
     ensures ok { result ≡ 0 → Some tsn.new ≡ option_map (λ c. c.tsn)
-        (find is_outstanding sender.old.value.flight.queue.inflight.chunks) }
+        (find is_outstanding sender.old.value.own.flight.queue.inflight.chunks) }
     ensures none { result ≡ 3 → (tsn.new ≡ tsn.old)
-        × (find is_outstanding sender.old.value.flight.queue.inflight.chunks ≡ None) }
+        × (find is_outstanding sender.old.value.own.flight.queue.inflight.chunks ≡ None) }
     ensures same { sender.new.value ≡ sender.old.value }
 {
-    match sender.get_mut().outbound().earliest_outstanding_tsn() {
+    match sender.get_mut().own.outbound().earliest_outstanding_tsn() {
         Some(first) => {
             *tsn = first;
             SCTPR_OK
@@ -277,8 +281,8 @@ pub extern "C" fn sctpr_sender_earliest_outstanding(sender: &mut SctpSender, tsn
 /// How many fragments wait.
 #[unsafe(no_mangle)]
 pub extern "C" fn sctpr_sender_pending(sender: &mut SctpSender) -> usize
-    ensures value { result ≡ chunk_count sender.old.value.flight.queue.pending }
+    ensures value { result ≡ chunk_count sender.old.value.own.flight.queue.pending }
     ensures same { sender.new.value ≡ sender.old.value }
 {
-    sender.get_mut().outbound().pending_len()
+    sender.get_mut().own.outbound().pending_len()
 }

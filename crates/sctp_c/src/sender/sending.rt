@@ -17,7 +17,7 @@ use super::SctpSender;
 use crate::code::{
     SCTPR_NOT_IN_FLIGHT, SCTPR_NOTHING, SCTPR_OK, SCTPR_SHORT_BUFFER, of_error, of_sender,
 };
-use crate::data_out::{data_size, put_data};
+use crate::data_out::{data_size, put_data, type_sent};
 use sctp_data::chunk::chunk_payload_data::ChunkPayloadData;
 use sctp_sender::replay;
 use sctp_sender::sender::Sender;
@@ -26,32 +26,35 @@ use sctp_util::error::{Error, Result};
 /// Starts the lifetimes of the messages written since the last time. `sctpr_sender_send_next` does so too. It takes no memory.
 #[unsafe(no_mangle)]
 pub extern "C" fn sctpr_sender_start(sender: &mut SctpSender, now: u64)
-    ensures { sender.new.value ≡ with_flight (with_queue sender.old.value.flight
-        (all_started now sender.old.value.flight.queue)) sender.old.value }
+    ensures value { sender.new.value.own ≡ with_flight (with_queue sender.old.value.own.flight
+        (all_started now sender.old.value.own.flight.queue)) sender.old.value.own }
+    ensures types { sender.new.value.types ≡ sender.old.value.types }
 {
-    replay::start(sender.get_mut(), now);
+    replay::start(&mut sender.get_mut().own, now);
 }
 
 /// Marks each chunk in flight that is neither acknowledged nor abandoned for retransmission, as where the timer T3-rtx runs out (RFC
 /// 4960 6.3.3 E3). It takes no memory.
 #[unsafe(no_mangle)]
 pub extern "C" fn sctpr_sender_retransmit_all(sender: &mut SctpSender)
-    ensures { sender.new.value
-        ≡ with_flight (all_marked sender.old.value.flight) sender.old.value }
+    ensures value { sender.new.value.own
+        ≡ with_flight (all_marked sender.old.value.own.flight) sender.old.value.own }
+    ensures types { sender.new.value.types ≡ sender.old.value.types }
 {
-    sender.get_mut().retransmit_all();
+    sender.get_mut().own.retransmit_all();
 }
 
 /// Counts each chunk in flight whose TSN is before this one, and that is neither acknowledged nor abandoned, as missing once more, and
 /// marks for retransmission what is missing for the third time (RFC 4960 7.2.4). Answers how many are marked now. It takes no memory.
 #[unsafe(no_mangle)]
 pub extern "C" fn sctpr_sender_add_miss_indications(sender: &mut SctpSender, before: u32) -> usize
-    ensures missed { sender.new.value ≡ with_flight (after_misses
-        (count_before before sender.old.value.flight) sender.old.value.flight) sender.old.value }
+    ensures missed { sender.new.value.own ≡ with_flight (after_misses
+        (count_before before sender.old.value.own.flight) sender.old.value.own.flight) sender.old.value.own }
     ensures thirds { result ≡ length (thirds
-        (count_before before sender.old.value.flight) sender.old.value.flight) }
+        (count_before before sender.old.value.own.flight) sender.old.value.own.flight) }
+    ensures types { sender.new.value.types ≡ sender.old.value.types }
 {
-    sender.get_mut().add_miss_indications(before)
+    sender.get_mut().own.add_miss_indications(before)
 }
 
 // The fragment that is next, as it is written once it has the next TSN; None where nothing waits.
@@ -83,17 +86,20 @@ pub extern "C" fn sctpr_sender_send_next(
     ensures codes { (result ≡ 0) ⊎ ((result ≡ 3) ⊎ (16 ≤ result)) }
     ensures ok { result ≡ 0 → Sends now out.old out.new written.new tsn.new
         sender.old.value sender.new.value }
-    ensures nothing { result ≡ 3 → (next_pending sender.old.value.flight.queue.pending ≡ None)
-        × (sender.new.value ≡ after_send now sender.old.value) }
+    ensures nothing { result ≡ 3 → (next_pending sender.old.value.own.flight.queue.pending ≡ None)
+        × (sender.new.value.own ≡ after_send now sender.old.value.own) }
     ensures refused { 16 ≤ result → sender.new.value ≡ sender.old.value }
     ensures reason { 16 ≤ result → result ≢ 17
-        → (result ≡ 19) ⊎ IsSenderCode (send_refusal sender.old.value.flight) result }
+        → (result ≡ 19) ⊎ IsSenderCode (send_refusal sender.old.value.own.flight) result }
     ensures short { result ≡ 17 → (length out.old < written.new) × (Some written.new ≡ option_map
-        (λ c. length (padded (sent_with sender.old.value.flight.next_tsn c)))
-        (next_pending sender.old.value.flight.queue.pending)) }
+        (λ c. length (padded (sent_with sender.old.value.types
+        sender.old.value.own.flight.next_tsn c)))
+        (next_pending sender.old.value.own.flight.queue.pending)) }
     ensures kept { result ≢ 0 → (out.new ≡ out.old) × (tsn.new ≡ tsn.old) }
+    ensures types { sender.new.value.types ≡ sender.old.value.types }
 {
-    let own = sender.get_mut();
+    let held = sender.get_mut();
+    let own = &mut held.own;
     let chunk = match next_chunk(own) {
         Ok(Some(chunk)) => chunk,
         Ok(None) => {
@@ -113,7 +119,7 @@ pub extern "C" fn sctpr_sender_send_next(
         Ok(Some(sent)) => {
             *tsn = sent;
             *written = size;
-            put_data(out, &chunk);
+            put_data(out, &chunk, type_sent(&chunk, &held.types));
             SCTPR_OK
         }
         Ok(None) => SCTPR_NOTHING,
@@ -135,19 +141,21 @@ pub extern "C" fn sctpr_sender_resend(
     ensures codes { (result ≡ 0) ⊎ (16 ≤ result) }
     ensures ok { result ≡ 0 → Resends tsn now out.old out.new written.new
         sender.old.value sender.new.value }
-    ensures missing { result ≡ 27 → can_resend tsn sender.old.value.flight ≡ false }
+    ensures missing { result ≡ 27 → can_resend tsn sender.old.value.own.flight ≡ false }
     ensures reason { 16 ≤ result → (result ≡ 16)
         ⊎ ((result ≡ 17) ⊎ ((result ≡ 19) ⊎ (result ≡ 27))) }
     ensures short { result ≡ 17 → (length out.old < written.new) × (Some written.new ≡ option_map
-        (λ c. length (padded (as_sent c)))
-        (find (has_tsn tsn) sender.old.value.flight.queue.inflight.chunks)) }
+        (λ c. length (padded (as_sent sender.old.value.types c)))
+        (find (has_tsn tsn) sender.old.value.own.flight.queue.inflight.chunks)) }
     ensures kept { result ≢ 0 → (sender.new.value ≡ sender.old.value) × (out.new ≡ out.old) }
+    ensures types { sender.new.value.types ≡ sender.old.value.types }
 {
-    let own = sender.get_mut();
-    let Some(held) = own.outbound().get(tsn) else {
+    let held = sender.get_mut();
+    let own = &mut held.own;
+    let Some(sent) = own.outbound().get(tsn) else {
         return SCTPR_NOT_IN_FLIGHT;
     };
-    let chunk = match held.try_clone() {
+    let chunk = match sent.try_clone() {
         Ok(chunk) => chunk,
         Err(e) => return of_error(e),
     };
@@ -161,7 +169,7 @@ pub extern "C" fn sctpr_sender_resend(
     match own.resend(tsn, now) {
         Ok(_) => {
             *written = size;
-            put_data(out, &chunk);
+            put_data(out, &chunk, type_sent(&chunk, &held.types));
             SCTPR_OK
         }
         Err(e) => of_sender(e),

@@ -162,7 +162,7 @@ pub const SCTPR_ERR_INVALID_ALGORITHM_TYPE: sctpr_code = 87;
 pub const SCTPR_ERR_SUPPORTED_ADDRESS_TYPES_PARAM_INVALID_LENGTH: sctpr_code = 88;
 /// Not answered by a call of this library: the message is longer than the buffer, which is filled with the message's beginning.
 pub const SCTPR_ERR_SHORT_BUFFER: sctpr_code = 89;
-/// It can't be written as it was given: a chunk whose value is read as another one, or a message whose payload type its stream can't have.
+/// It can't be written as it was given: a chunk whose value is read as another one.
 pub const SCTPR_NOT_AS_GIVEN: sctpr_code = 90;
 pub const SCTPR_DATA: u32 = 0;
 pub const SCTPR_INIT: u32 = 1;
@@ -665,10 +665,11 @@ extern "C" {
     /// it waits or is in flight.
     pub fn sctpr_sender_reset(sender: *mut sctpr_sender, stream: u16) -> sctpr_code;
 
-    /// Takes a copy of a message of one byte or more: its fragments wait. `number` becomes its number, `fragments` how many chunks it has.
-    /// SCTPR_NOTHING: the message has no bytes, and nothing changed (RFC 8831 6.6 sends one byte in their place). SCTPR_STREAM_UNKNOWN, before
-    /// it takes memory; SCTPR_NOT_AS_GIVEN of a payload type that the stream's mode does not name; SCTPR_MESSAGE_TOO_LARGE, SCTPR_QUEUE_FULL,
-    /// SCTPR_NO_MEMORY. Both stay, but with SCTPR_OK.
+    /// Takes a copy of a message of one byte or more: its fragments wait. Each of its chunks is sent with the payload type that is given, any
+    /// number. `number` becomes its number, `fragments` how many chunks it has. SCTPR_NOTHING: the message has no bytes, and nothing changed (RFC
+    /// 8831 6.6 sends one byte in their place). SCTPR_STREAM_UNKNOWN, before it takes memory; SCTPR_MESSAGE_TOO_LARGE, SCTPR_QUEUE_FULL,
+    /// SCTPR_NO_MEMORY. Both stay, but with SCTPR_OK. Payload types that are none of the first five of SCTPR_PPID_.. are kept until nothing of
+    /// their messages waits or is in flight, in at most 100 bytes for each of the most chunks that waited or were in flight at once.
     pub fn sctpr_sender_write(sender: *mut sctpr_sender, stream: u16, payload_type: u32, message: *const u8, length: usize, number: *mut u64, fragments: *mut usize) -> sctpr_code;
 
     /// Starts the lifetimes of the messages written since the last time. sctpr_sender_send_next does so too.
@@ -773,6 +774,12 @@ extern "C" {
 
     /// The first TSN in flight that is neither acknowledged nor abandoned (RFC 4960 6.3.3). SCTPR_NOTHING: there is none, and `tsn` stays.
     pub fn sctpr_sender_earliest_outstanding(sender: *const sctpr_sender, tsn: *mut u32) -> sctpr_code;
+
+    /// The next moment at which a lifetime ends, in nanoseconds, once lifetimes are started (RFC 3758 4.1): of the message that is next to be
+    /// sent, and of each in flight that is neither acknowledged nor abandoned; never of a DCEP message that waits. From then on
+    /// sctpr_sender_expire, .._expire_tail or .._expire_late finds something. SCTPR_NOTHING: no such lifetime runs, and `at` stays. It looks at each
+    /// chunk in flight.
+    pub fn sctpr_sender_next_timeout(sender: *const sctpr_sender, at: *mut u64) -> sctpr_code;
 
     /// How many fragments wait.
     pub fn sctpr_sender_pending(sender: *const sctpr_sender) -> usize;

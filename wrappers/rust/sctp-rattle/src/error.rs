@@ -155,7 +155,7 @@ pub enum Error {
     ErrSupportedAddressTypesParamInvalidLength,
     /// Not answered by a call of this library: the message is longer than the buffer, which is filled with the message's beginning.
     ErrShortBuffer,
-    /// It can't be written as it was given: a chunk whose value is read as another one, or a message whose payload type its stream can't have.
+    /// It can't be written as it was given: a chunk whose value is read as another one.
     NotAsGiven,
     /// A code that this version doesn't know.
     Unknown(u32),
@@ -399,7 +399,7 @@ impl Error {
             Error::ErrInvalidAlgorithmType => "A Requested HMAC Algorithm names another number than 1 or 3 (RFC 4895 3.3).",
             Error::ErrSupportedAddressTypesParamInvalidLength => "The value of a Supported Address Types has an odd number of bytes (RFC 4960 3.3.2.1).",
             Error::ErrShortBuffer => "Not answered by a call of this library: the message is longer than the buffer, which is filled with the message's beginning.",
-            Error::NotAsGiven => "It can't be written as it was given: a chunk whose value is read as another one, or a message whose payload type its stream can't have.",
+            Error::NotAsGiven => "It can't be written as it was given: a chunk whose value is read as another one.",
             Error::Unknown(_) => "A code that this version doesn't know.",
         }
     }

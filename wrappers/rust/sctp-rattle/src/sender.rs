@@ -18,8 +18,6 @@ unsafe impl Send for Sender {}
 pub enum Mode {
     /// Until it is acknowledged.
     Reliable,
-    /// As `Reliable`, and messages may have this payload type too (RFC 9260 3.3.1).
-    ReliableWith(u32),
     /// So often after the first sending.
     Rexmit(u32),
     /// So many milliseconds.
@@ -241,7 +239,6 @@ impl Sender {
     pub fn set_mode(&mut self, stream: u16, is_unordered: bool, mode: Mode) -> Result<()> {
         let (kind, value) = match mode {
             Mode::Reliable => (sys::SCTPR_RELIABLE, 0),
-            Mode::ReliableWith(payload_type) => (sys::SCTPR_RELIABLE, payload_type),
             Mode::Rexmit(times) => (sys::SCTPR_REXMIT, times),
             Mode::Timed(milliseconds) => (sys::SCTPR_TIMED, milliseconds),
         };
@@ -477,6 +474,14 @@ impl Sender {
         // SAFETY: as in `next_tsn`; tsn is a value of this function.
         let code = unsafe { sys::sctpr_sender_earliest_outstanding(self.handle.get(), &mut tsn) };
         (code == sys::SCTPR_OK).then_some(tsn)
+    }
+
+    /// The next moment at which a lifetime ends, if one runs.
+    pub fn next_timeout(&self) -> Option<u64> {
+        let mut at = 0;
+        // SAFETY: as in `next_tsn`; at is a value of this function.
+        let code = unsafe { sys::sctpr_sender_next_timeout(self.handle.get(), &mut at) };
+        (code == sys::SCTPR_OK).then_some(at)
     }
 
     /// How many fragments wait.

@@ -109,8 +109,7 @@ fn words_of_a_reconfig() {
     assert_eq!(Receiver::new(1, 65536, 66335, 9).err(), Some(Error::Invalid));
     let mut s = Sender::new(1, 10, 100, false).unwrap();
     s.open(3).unwrap();
-    assert_eq!(s.write(3, 99, b"a"), Err(Error::NotAsGiven));
-    s.set_mode(3, false, Mode::ReliableWith(99)).unwrap();
+    s.set_mode(3, true, Mode::Rexmit(1)).unwrap();
     s.write(3, 99, b"a").unwrap();
     let mut chunk = [0; 20];
     s.send_next(1, &mut chunk).unwrap();
@@ -210,7 +209,9 @@ fn messages_are_abandoned() {
     s.set_mode(3, true, Mode::Timed(1)).unwrap();
     s.write(3, ppid::BINARY, b"fifteen bytes..").unwrap();
     s.write(3, ppid::BINARY, b"late").unwrap();
+    assert_eq!(s.next_timeout(), None);
     s.start(0);
+    assert_eq!(s.next_timeout(), Some(1_000_000));
     s.send_next(0, &mut out).unwrap();
     assert_eq!((s.expire(2_000_000), s.expire_tail(0)), (None, Ok(None)));
     assert_eq!(s.expire_tail(2_000_000).unwrap().unwrap().bytes, 15);

@@ -32,7 +32,7 @@ use Rattle.std_alloc.proofs.BoxSteps.Steps.{box_out, box_in}
 use Rattle.sctp_c.specs.LentSender.{with_value}
 use Rattle.sctp_c.specs.declared.sender.SctpSender.{SctpSender}
 use Rattle.sctp_c.specs.contracts.sender.SctpSender as Row
-use Rattle.sctp_sender.specs.contracts.sender.Sender as Value
+use Rattle.sctp_c.specs.contracts.sender.typed.TypedSender as Value
 use Rattle.sctp_c.proofs.SenderBox.{E}
 use Rattle.sctp_c.specs.contracts.sender.SctpSender.get_mut as F
 use Rattle.sctp_c.proofs.sender.SctpSender.get_mut.Statement as stated

@@ -7,7 +7,7 @@ use Rattle.sctp_c.proofs.sender.abandoning.sctpr_sender_expire_rexmit.Goals as g
 
 pub returns-in-Ok-clause-whole : goal.returns-in-Ok-clause-whole
 returns-in-Ok-clause-whole c _ =
-    let few = worn-few c.get_mut-own.result.now in
+    let few = worn-few c.get_mut.result.now.own in
     let told = ap length c.in-Ok.ensures.abandons.answer in
     elim c.else-not-is_empty.branch [
       | else-not-is_empty-via-then-not-is_empty+else-rows-in_flight w ↦ inr (grind (arith, common_steps, few, told, w.if-rows-in_flight.false))

@@ -8,7 +8,7 @@ use Rattle.sctp_c.proofs.sender.acks.sctpr_sender_take_back.Goals as goal
 
 pub returns-in-Ok-take_back-clause-whole : goal.returns-in-Ok-take_back-clause-whole
 returns-in-Ok-take_back-clause-whole c _ =
-    let few = taken-few (sack_of c.in-Ok.sack) c.get_mut-own.result.now in
+    let few = taken-few (sack_of c.in-Ok.sack) c.get_mut.result.now.own in
     let told = ap length c.in-Ok-take_back.ensures.answer in
     elim c.else-not-is_empty.branch [
       | else-not-is_empty-via-then-not-is_empty+else-rows-most w ↦ inr (grind (arith, common_steps, few, told, w.if-rows-most.false))

@@ -1,9 +1,10 @@
-use Rattle.std.proofs.Common.{rules, ◌+◌, ◌*◌, ◌≤◌, length, inl, subst}
+use Rattle.std.proofs.Common.{rules, ◌+◌, ◌*◌, ◌≤◌, length, inl, ap, subst}
 use Rattle.std.specs.Prelude.{IfSome}
 use Rattle.sctp_data.specs.declared.chunk.chunk_forward_tsn.ChunkForwardTsn.{ChunkForwardTsn}
 use Rattle.sctp_data.specs.ForwardTsn.{forward_tsn_of}
 use Rattle.sctp_sender.specs.Sender.{Transmission}
 use Rattle.sctp_c.specs.Forwards.{WritesForwardTsn}
+use Rattle.sctp_c.specs.declared.sender.typed.TypedSender.{TypedSender}
 use Rattle.sctp_c.proofs.Forwards.{forward-fits, forward-memory, written-front}
 use Rattle.sctp_c.proofs.sender.forwards.sctpr_sender_forward_tsn.Goals as goal
 
@@ -25,7 +26,7 @@ returns-clause-reason c _ =
 pub returns-in-Ok-clause-ok : goal.returns-in-Ok-clause-ok
 returns-in-Ok-clause-ok c _ =
     let e = c.in-Ok-Some.ensures in
-    subst (λ (t : Transmission). WritesForwardTsn c.args.out.now c.put_bytes.new.out c.len.result t.flight) c.get_mut-own.ensures.value
-    (written-front c.in-Ok-Some.field-0 c.in-Ok-Some.chunk c.get_mut-own.result.now.flight c.min-room.result c.len.result
+    subst (λ (t : Transmission). WritesForwardTsn c.args.out.now c.put_bytes.new.out c.len.result t.flight) (ap (λ (h : TypedSender). h.own) c.get_mut.ensures.value)
+    (written-front c.in-Ok-Some.field-0 c.in-Ok-Some.chunk c.get_mut.result.now.own.flight c.min-room.result c.len.result
     c.args.out.now c.put_bytes.new.out c.in-Ok.bytes c.deref.result.now
     c.in-Ok-Some.field-0-is c.min-room.ensures e.ended e.names e.furthest c.in-Ok.ensures.ok.1 c.deref.ensures c.put_bytes.ensures (search rules))
