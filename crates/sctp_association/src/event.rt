@@ -20,6 +20,9 @@ pub enum Event {
     ResetRefused(u16),
     /// The peer has reset the stream in its direction: what it writes next on it is a new use (RFC 8831 6.7).
     ResetByPeer(u16),
+    /// A message of the peer on the stream is longer than `Config::max_message_size`. What was not read of the stream is dropped, and so is
+    /// what comes on it until the peer resets it (RFC 6525 5.2.2): `reset_stream` asks for that (RFC 8831 6.7).
+    TooLong(u16),
     /// The peer told an error with this cause code (RFC 9260 3.3.10).
     PeerError(u16),
     /// The peer shuts the association down: it takes no further messages (RFC 9260 9.2).
@@ -54,6 +57,7 @@ pub(crate) struct Events {
     pub(crate) reset_by_us: StreamSet,
     pub(crate) reset_refused: StreamSet,
     pub(crate) reset_by_peer: StreamSet,
+    pub(crate) too_long: StreamSet,
 }
 
 impl Events {
@@ -70,6 +74,7 @@ impl Events {
             reset_by_us: StreamSet::new(alloc),
             reset_refused: StreamSet::new(alloc),
             reset_by_peer: StreamSet::new(alloc),
+            too_long: StreamSet::new(alloc),
         }
     }
 
@@ -83,6 +88,7 @@ impl Events {
     /// Makes room for the events of a stream on which the peer writes.
     pub(crate) fn reserve_inbound(&mut self, stream: u16) -> Result<(), AllocError> {
         self.readable.reserve(stream)?;
+        self.too_long.reserve(stream)?;
         self.reset_by_peer.reserve(stream)
     }
 
@@ -113,6 +119,9 @@ impl Events {
         }
         if let Some(stream) = self.readable.pop() {
             return Some(Event::Readable(stream));
+        }
+        if let Some(stream) = self.too_long.pop() {
+            return Some(Event::TooLong(stream));
         }
         if let Some(stream) = self.reset_by_peer.pop() {
             return Some(Event::ResetByPeer(stream));

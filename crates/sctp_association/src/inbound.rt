@@ -1,8 +1,15 @@
 //! What comes of the peer's messages, and when it is acknowledged (RFC 9260 6.2, 6.5; RFC 3758 3.6).
 
+ghost use Rattle.std.specs.Prelude.{◌≡◌, ◌==◌, ◌<◌, ℕ, Ok, OnOk, length, true, false};
+ghost use Rattle.sctp_association.specs.StreamSet.{is_in};
+ghost use Rattle.sctp_params.specs.declared.param.param_reconfig_response.ReconfigResult.TheVariants.{SuccessPerformed};
+ghost use Rattle.sctp_receiver.specs.declared.receiver.refusal.ReceiverRefusal.TheVariants.{MessageTooLarge};
+ghost use Rattle.sctp_util.specs.Serial.{comes_before};
+
 use crate::draft::Draft;
 use crate::event::Events;
 use crate::fault::Fault;
+use crate::stream_set::StreamSet;
 use sctp_data::chunk::chunk_forward_tsn::ChunkForwardTsn;
 use sctp_data::chunk::chunk_payload_data::ChunkPayloadData;
 use sctp_params::ReconfigResult;
@@ -13,6 +20,7 @@ use sctp_receiver::receiver::Receiver;
 use sctp_receiver::receiver::arrival::{Arrival, Closed, Forwarded};
 use sctp_receiver::receiver::limits::Limits;
 use sctp_receiver::receiver::refusal::ReceiverRefusal;
+use sctp_util::util::sna32lt;
 use std::alloc::Global;
 
 /// How the receiving half is set up.
@@ -42,6 +50,8 @@ pub(crate) struct Inbound {
     pub(crate) receiver: Receiver,
     pub(crate) delay: AckDelay,
     streams: u16,
+    // The streams on which a message was too long: data opens none of them until the peer has reset it.
+    discarded: StreamSet,
     // The stream of the last chunk that was dropped since there is no such stream: an ERROR is due.
     pub(crate) unknown_stream: Option<u16>,
 }
@@ -58,6 +68,7 @@ impl Inbound {
             ),
             delay: AckDelay::new(config.sack_delay),
             streams: config.streams,
+            discarded: StreamSet::new(alloc),
             unknown_stream: None,
         }
     }
@@ -88,16 +99,21 @@ impl Inbound {
                 Ok(Followed::Done)
             }
             Err(ReceiverRefusal::OutOfMemory) => Err(Fault::OutOfMemory),
-            Err(refusal) => self.follow(refusal, chunk, now),
+            Err(refusal) => self.follow(refusal, chunk, events, now),
         }
     }
 
-    // Opens a stream, if it is one of those that were agreed, and not open.
-    fn open(&mut self, stream: u16, events: &mut Events) -> Result<(), Fault> {
-        if stream >= self.streams || self.receiver.stats(stream).is_some() {
+    // Opens a stream, if it is one of those that were agreed, and not open, and the peer's messages on it were not too long.
+    fn open(&mut self, stream: u16, events: &mut Events) -> Result<(), Fault>
+        ensures shut { is_in stream self.old.discarded ≡ true → self.new ≡ self.old }
+        ensures same { (n : ℕ) → is_in n self.new.discarded ≡ is_in n self.old.discarded }
+    {
+        let is_open = self.receiver.stats(stream).is_some();
+        if stream >= self.streams || is_open || self.discarded.contains(stream) {
             return Ok(());
         }
         events.reserve_inbound(stream)?;
+        self.discarded.reserve(stream)?;
         self.receiver.open(stream)?;
         Ok(())
     }
@@ -107,17 +123,34 @@ impl Inbound {
         &mut self,
         refusal: ReceiverRefusal,
         chunk: &ChunkPayloadData,
+        events: &mut Events,
         now: u64,
-    ) -> Result<Followed, Fault> {
+    ) -> Result<Followed, Fault>
+        // Where a message is too long its stream opens no more, and that is told.
+        ensures shut { refusal ≡ MessageTooLarge → OnOk result
+            (chunk.now.stream_identifier < length self.old.discarded
+                → is_in chunk.now.stream_identifier self.new.discarded ≡ true) }
+        ensures told { refusal ≡ MessageTooLarge → OnOk result
+            (chunk.now.stream_identifier < length events.old.too_long
+                → is_in chunk.now.stream_identifier events.new.too_long ≡ true) }
+        ensures kept { (n : ℕ) → is_in n self.old.discarded ≡ true
+            → is_in n self.new.discarded ≡ true }
+    {
+        let stream = chunk.stream_identifier;
         match advise(refusal, chunk, &self.receiver) {
             Advice::Drop => {}
             Advice::OpenOrDiscard => {
                 self.receiver.discard(chunk.tsn)?;
-                self.unknown_stream = Some(chunk.stream_identifier);
+                if !self.discarded.contains(stream) {
+                    self.unknown_stream = Some(stream);
+                }
             }
             Advice::CloseAndDiscard => {
-                self.receiver.close(chunk.stream_identifier);
                 self.receiver.discard(chunk.tsn)?;
+                self.receiver.close(stream);
+                self.discarded.insert(stream);
+                events.readable.remove(stream);
+                events.too_long.insert(stream);
             }
             Advice::Abort(cause) => return Ok(Followed::Abort(cause)),
         }
@@ -169,12 +202,38 @@ impl Inbound {
         Ok(message)
     }
 
-    /// Why a stream can't be reset: there is no such stream, or nothing came on it.
-    pub(crate) fn wrong_stream(&self, stream: u16) -> Option<ReconfigResult> {
+    /// Resets a stream, as the peer asked (RFC 6525 5.2.2): it may open again. While a TSN up to its last one is missing that is in progress:
+    /// a chunk of the old use may still come, also on a stream that is not open. Nothing is told of a stream on which nothing came.
+    pub(crate) fn reset(
+        &mut self,
+        stream: u16,
+        last_tsn: u32,
+        events: &mut Events,
+    ) -> Result<ReconfigResult, Fault>
+        ensures performed { result ≡ Ok SuccessPerformed → is_in stream self.new.discarded ≡ false }
+        // No chunk of the old use is under way.
+        ensures none_left { result ≡ Ok SuccessPerformed
+            → comes_before self.old.receiver.cumulative_tsn last_tsn ≡ false }
+        ensures others { (n : ℕ) → (n == stream) ≡ false
+            → is_in n self.new.discarded ≡ is_in n self.old.discarded }
+    {
         if stream >= self.streams {
-            return Some(ReconfigResult::ErrorWrongSsn);
+            return Ok(ReconfigResult::ErrorWrongSsn);
         }
-        None
+        if sna32lt(self.receiver.cumulative_tsn(), last_tsn) {
+            return Ok(ReconfigResult::InProgress);
+        }
+        let is_told = match self.receiver.reset(stream, last_tsn) {
+            Ok(()) => true,
+            Err(ReceiverRefusal::StreamUnknown) => self.discarded.contains(stream),
+            Err(ReceiverRefusal::ResetInProgress) => return Ok(ReconfigResult::InProgress),
+            Err(e) => return Err(Fault::from(e)),
+        };
+        self.discarded.remove(stream);
+        if is_told {
+            events.reset_by_peer.insert(stream);
+        }
+        Ok(ReconfigResult::SuccessPerformed)
     }
 
     /// Puts the SACK that is due, or one that waits where DATA goes with it.

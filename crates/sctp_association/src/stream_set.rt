@@ -66,6 +66,28 @@ impl StreamSet {
         }
     }
 
+    /// Whether a number is in it.
+    pub(crate) fn contains(&self, stream: u16) -> bool
+        ensures { result ≡ is_in stream self.now }
+    {
+        match self.flags.get(stream as usize) {
+            Some(flag) => *flag,
+            None => false,
+        }
+    }
+
+    /// Takes a number out, if it is there. Its room stays.
+    pub(crate) fn remove(&mut self, stream: u16)
+        ensures value { (n : ℕ) → is_in n self.new
+            ≡ (if n == stream then false else is_in n self.old) }
+        ensures room { length self.new ≡ length self.old }
+    {
+        let place = stream as usize;
+        if place < self.flags.len() {
+            self.flags[place] = false;
+        }
+    }
+
     /// Takes the least number out, if there is one. It looks at each number below it.
     pub(crate) fn pop(&mut self) -> Option<u16>
         ensures least { IfSome result (λ s. IsLeastIn s self.old) }

@@ -14,7 +14,6 @@ use sctp_datagram::params::param_at;
 use sctp_params::{
     ParamKind, ParamOutgoingResetRequest, ParamReconfigResponse, ReconfigResult, build_param,
 };
-use sctp_receiver::receiver::refusal::ReceiverRefusal;
 use sctp_reset::{Answer, Due};
 use sctp_util::error::Error;
 
@@ -218,22 +217,11 @@ impl Association {
         Ok(ReconfigResult::SuccessPerformed)
     }
 
-    // Resets a stream. One of which nothing came has nothing to reset.
+    // Resets a stream.
     fn perform_one(&mut self, stream: u16, last_tsn: u32) -> Result<ReconfigResult, Fault> {
-        let Some(inbound) = &mut self.inbound else {
-            return Ok(ReconfigResult::ErrorWrongSsn);
-        };
-        if let Some(wrong) = inbound.wrong_stream(stream) {
-            return Ok(wrong);
-        }
-        match inbound.receiver.reset(stream, last_tsn) {
-            Ok(()) => {
-                self.events.reset_by_peer.insert(stream);
-                Ok(ReconfigResult::SuccessPerformed)
-            }
-            Err(ReceiverRefusal::ResetInProgress) => Ok(ReconfigResult::InProgress),
-            Err(ReceiverRefusal::StreamUnknown) => Ok(ReconfigResult::SuccessPerformed),
-            Err(e) => Err(Fault::from(e)),
+        match &mut self.inbound {
+            Some(inbound) => inbound.reset(stream, last_tsn, &mut self.events),
+            None => Ok(ReconfigResult::ErrorWrongSsn),
         }
     }
 
