@@ -1,2 +1,5 @@
+pub mod Cookies
+pub mod Once
+pub mod Steps
 pub mod StreamSet
 pub mod Tags

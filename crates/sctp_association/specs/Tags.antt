@@ -1,5 +1,7 @@
 -- Whose packet it is (RFC 9260 8.5, 8.5.1).
-use Rattle.std.specs.Prelude.{◌≡◌, ℕ, ◌==◌, ◌&&◌, ◌||◌, bit_and, not, Bool, true, false, if◌then◌else◌, List, ◌∷◌, length, Option, Some, None}
+use Rattle.std.specs.Prelude.{◌≡◌, ℕ, ◌==◌, ◌&&◌, ◌||◌, bit_and, not, Bool, true, false, if◌then◌else◌, List, [], ◌∷◌, length, drop, Option, Some, None}
+use Rattle.sctp_association.specs.Cookies.{cookie_in, IsAlive, IsSealed}
+use Rattle.sctp_chunks.specs.Framing.{type_at}
 use Rattle.sctp_util.specs.Field.{u32_at}
 use Rattle.sctp_datagram.specs.Places.{TellsAll, place_at}
 use Rattle.sctp_datagram.specs.declared.datagram.ChunkPlace.{ChunkPlace}
@@ -22,15 +24,45 @@ is_admitted c tag count m =
     else (if c.typ == 10 then true
     else (if is_reflected c then has_tag tag m.peer else tag == m.own.tag))
 
--- the first of the chunks is one that may stand there
-pub record AdmitsFirst (chunks : List ChunkPlace) (tag : ℕ) (m : Machine) : Type 0 where
+-- INIT, ABORT, ERROR, COOKIE-ECHO, COOKIE-ACK and SHUTDOWN-COMPLETE begin a packet that is not answered behind the end (8.4, 2 to 7)
+abbrev pub is_ending : ℕ → Bool
+is_ending t = t == 1 || (t == 6 || (t == 9 || (t == 10 || (t == 11 || t == 14))))
+
+-- A datagram of these chunks is for the association with this key: the first of them may stand there, and where that is a COOKIE-ECHO, this
+-- side sealed the cookie, with the tag of the packet.
+pub record AdmitsFirst (datagram : List ℕ) (chunks : List ChunkPlace) (key : List ℕ) (m : Machine) : Type 0 where
   pub first : ChunkPlace
   pub rest : List ChunkPlace
   pub are : chunks ≡ first ∷ rest
-  pub admitted : is_admitted first tag (length chunks) m ≡ true
+  pub admitted : is_admitted first (u32_at datagram 4) (length chunks) m ≡ true
+  pub cookie : first.typ ≡ 10 → IsSealed key (u32_at datagram 4) (cookie_in datagram first)
 
 -- so of a datagram
-pub record IsFor (datagram : List ℕ) (m : Machine) : Type 0 where
+pub record IsFor (datagram : List ℕ) (key : List ℕ) (m : Machine) : Type 0 where
   pub chunks : List ChunkPlace
   pub tells : TellsAll place_at datagram chunks
-  pub admits : AdmitsFirst chunks (u32_at datagram 4) m
+  pub admits : AdmitsFirst datagram chunks key m
+
+-- the first one, if there is one, is of this type
+abbrev pub FirstIs : ℕ → List ChunkPlace → Type 0
+FirstIs typ [] = Unit {0}
+FirstIs typ (first ∷ rest) = first.typ ≡ typ
+
+-- the first one is a COOKIE-ECHO whose cookie this side sealed, with the tag of the packet, and not longer than its life ago
+pub record FirstIsAlive (datagram : List ℕ) (chunks : List ChunkPlace) (key : List ℕ) (now life : ℕ) : Type 0 where
+  pub first : ChunkPlace
+  pub rest : List ChunkPlace
+  pub are : chunks ≡ first ∷ rest
+  pub typ : first.typ ≡ 10
+  pub cookie : IsAlive now life key (u32_at datagram 4) (cookie_in datagram first)
+
+-- ## Of a datagram, without its chunks
+
+-- the type of its first chunk
+abbrev pub first_type : List ℕ → ℕ
+first_type datagram = type_at (drop 12 datagram)
+
+-- it begins with a COOKIE-ECHO whose cookie this side sealed, with the tag of the packet, and not longer than its life ago
+pub record BeginsByCookie (datagram : List ℕ) (key : List ℕ) (now life : ℕ) : Type 0 where
+  pub typ : first_type datagram ≡ 10
+  pub cookie : IsAlive now life key (u32_at datagram 4) (cookie_in datagram (place_at datagram 12))

@@ -7,6 +7,8 @@ mod packets;
 mod resets;
 mod timeouts;
 
+ghost use Rattle.std.specs.Prelude.{◌≡◌};
+
 use crate::config::{Config, Secrets};
 use crate::draft::Draft;
 use crate::due::Due;
@@ -56,8 +58,6 @@ pub struct Association {
     machine: Machine,
     // Whether it ended: nothing begins again.
     is_over: bool,
-    // The peer's tag, where it ended by a SHUTDOWN-COMPLETE of this side: that may be lost.
-    completed: Option<u32>,
     // Whether it is to be shut down as soon as it stands.
     wants_shutdown: bool,
     outbound: Outbound,
@@ -119,7 +119,6 @@ impl Association {
             key: secrets.cookie_key,
             machine,
             is_over: false,
-            completed: None,
             wants_shutdown: false,
             outbound,
             inbound: None,
@@ -295,7 +294,9 @@ impl Association {
     }
 
     // The association ended.
-    fn end(&mut self, ending: Ending) {
+    fn end(&mut self, ending: Ending)
+        ensures { self.new.machine ≡ self.old.machine }
+    {
         self.is_over = true;
         self.control.stop();
         self.events.closed = Some(ending);

@@ -1,5 +1,8 @@
 //! What is to be sent beside user data and SACKs.
 
+ghost use Rattle.std.specs.Prelude.{◌≡◌, true, false};
+ghost use Rattle.sctp_association.specs.Tags.{is_ending};
+
 use bytes::Bytes;
 use sctp_handshake::Ticket;
 
@@ -24,6 +27,20 @@ pub(crate) enum AloneKind {
     Abort(u16),
 }
 
+impl Alone {
+    /// Whether this, by which an association ended, answers a packet that begins with a chunk of a type and comes behind the end: a
+    /// SHUTDOWN-COMPLETE answers a SHUTDOWN-ACK (RFC 9260 8.4, 5), an ABORT what is not itself an end, an ERROR or a COOKIE-ACK (8.4, 8).
+    pub(crate) fn answers(&self, typ: u8) -> bool
+        ensures { result ≡ true → is_ending typ ≡ false }
+    {
+        match typ {
+            1 | 6 | 9 | 10 | 11 | 14 => false,
+            8 => true,
+            _ => matches!(self.kind, AloneKind::Abort(_)),
+        }
+    }
+}
+
 /// What is due, each at most once: a later one of its kind takes the place of an earlier one.
 #[derive(Drop)]
 pub(crate) struct Due {
@@ -34,6 +51,8 @@ pub(crate) struct Due {
     pub(crate) shutdown_ack: bool,
     /// The HEARTBEAT whose information is to be sent back (RFC 9260 8.3).
     pub(crate) heartbeat: Option<Bytes>,
+    /// The ABORT or SHUTDOWN-COMPLETE by which this side ended the association: it may be lost, and then a packet of the peer comes again.
+    pub(crate) farewell: Option<Alone>,
 }
 
 impl Due {
@@ -46,6 +65,7 @@ impl Due {
             shutdown: false,
             shutdown_ack: false,
             heartbeat: None,
+            farewell: None,
         }
     }
 }

@@ -129,10 +129,10 @@ impl Inbound {
         // Where a message is too long its stream opens no more, and that is told.
         ensures shut { refusal ≡ MessageTooLarge → OnOk result
             (chunk.now.stream_identifier < length self.old.discarded
-                → is_in chunk.now.stream_identifier self.new.discarded ≡ true) }
+            → is_in chunk.now.stream_identifier self.new.discarded ≡ true) }
         ensures told { refusal ≡ MessageTooLarge → OnOk result
             (chunk.now.stream_identifier < length events.old.too_long
-                → is_in chunk.now.stream_identifier events.new.too_long ≡ true) }
+            → is_in chunk.now.stream_identifier events.new.too_long ≡ true) }
         ensures kept { (n : ℕ) → is_in n self.old.discarded ≡ true
             → is_in n self.new.discarded ≡ true }
     {

@@ -82,9 +82,9 @@ impl StreamSet {
             ≡ (if n == stream then false else is_in n self.old) }
         ensures room { length self.new ≡ length self.old }
     {
-        let place = stream as usize;
-        if place < self.flags.len() {
-            self.flags[place] = false;
+        let at = stream as usize;
+        if at < self.flags.len() {
+            self.flags[at] = false;
         }
     }
 

@@ -1,20 +1,22 @@
 //! What comes in a datagram (RFC 9260 5, 6, 8.5, 9).
 
-ghost use Rattle.std.specs.Prelude.{◌≡◌, Ok, true, false, length};
+ghost use Rattle.std.specs.Prelude.{◌≡◌, Ok, IfOk, OnErr, true, false, drop, length};
+ghost use Rattle.sctp_association.specs.Cookies.{IsAlive, IsSealed, cookie_in};
+ghost use Rattle.sctp_association.specs.Steps.{is_taken};
+ghost use Rattle.sctp_association.specs.Tags.{AdmitsFirst, BeginsByCookie, FirstIs, FirstIsAlive, IsFor, first_type, is_admitted};
 ghost use Rattle.sctp_association.specs.declared.association.Reason.{Reason};
-ghost use Rattle.sctp_association.specs.Tags.{AdmitsFirst, IsFor, is_admitted};
 ghost use Rattle.sctp_association.specs.declared.association.Reason.TheVariants.{Tag};
 ghost use Rattle.sctp_association.specs.declared.association.Taken.TheVariants.{Accepted, Dropped};
-ghost use Rattle.sctp_datagram.specs.Places.{IsPlace};
-ghost use Rattle.sctp_util.specs.Field.{u32_at};
 ghost use Rattle.sctp_association.specs.declared.association.arrivals.Step.TheVariants as step;
+ghost use Rattle.sctp_datagram.specs.Places.{IsPlace};
 ghost use Rattle.sctp_handshake.specs.Answers.{silent};
+ghost use Rattle.sctp_handshake.specs.declared.state.State.TheVariants.{Closed};
 
 use super::{Association, Reason, Taken};
-use crate::due::AloneKind;
 use crate::event::Ending;
 use crate::fault::Fault;
 use crate::inbound::Followed;
+use crate::once::Once;
 use crate::outbound::SackTaken;
 use bytes::Bytes;
 use sctp_chunks::chunk::Chunk;
@@ -42,17 +44,29 @@ pub(super) enum Step {
 const T_BIT: u8 = 1;
 
 // The bytes of a datagram from a chunk on.
-pub(super) fn bytes_of(datagram: &Bytes, chunk: ChunkPlace) -> &[u8] {
+pub(super) fn bytes_of(datagram: &Bytes, chunk: ChunkPlace) -> &[u8]
+    ensures { result.now ≡ drop chunk.at datagram.now }
+{
     datagram.as_slice().get(chunk.at..).unwrap_or(&[])
 }
 
 impl Association {
     /// Takes a datagram of the peer. One that is dropped changes nothing. Where memory is wanting, the chunks before are taken, and those
-    /// from the refused one on count as lost: the peer sends them again.
+    /// from the refused one on count as lost: the peer sends them again. Of SACK, SHUTDOWN, RE-CONFIG and FORWARD-TSN the first one in the
+    /// datagram counts, of COOKIE-ECHO one that stands first; others are passed over.
     pub fn handle_datagram(&mut self, datagram: &Bytes, now: u64) -> Result<Taken, Fault>
         ensures dropped { (r : Reason) → result ≡ Ok (Dropped r) → self.new ≡ self.old }
-        // Whose packet it is not changes nothing (RFC 9260 8.5).
-        ensures accepted { result ≡ Ok Accepted → IsFor datagram.now self.old.machine }
+        // Whose packet it is not is not accepted, and changes nothing (RFC 9260 8.5, 5.1.5).
+        ensures accepted { result ≡ Ok Accepted
+            → IsFor datagram.now self.old.key self.old.machine }
+        ensures foreign { (IsFor datagram.now self.old.key self.old.machine → ⊥)
+            → self.new ≡ self.old }
+        // An INIT changes nothing but what is due: the one reply (RFC 9260 5.1 B).
+        ensures init { first_type datagram.now ≡ 1
+            → self.new ≡ record self.old { due = self.new.due } }
+        // Where no association stands one begins only by a cookie of this side that is not too old (RFC 9260 5.1 D, 5.1.5).
+        ensures begun { self.old.machine.state ≡ Closed → (self.new.machine.state ≡ Closed → ⊥)
+            → BeginsByCookie datagram.now self.old.key now self.old.config.cookie_life }
     {
         let zero = if self.config.zero_checksum {
             ZeroChecksum::Allowed
@@ -77,21 +91,25 @@ impl Association {
         self.take_chunks(datagram, chunks, now)
     }
 
-    // Takes a datagram after the end: a SHUTDOWN-ACK that comes again is answered again (RFC 9260 8.4, 5).
+    // Takes a datagram after the end: one of the peer is answered as the association ended, where this side ended it (RFC 9260 8.4).
     fn take_after_end(&mut self, chunks: Datagram) -> Taken
         ensures dropped { (r : Reason) → result ≡ Dropped r → self.new ≡ self.old }
-        ensures accepted { result ≡ Accepted
-            → AdmitsFirst chunks.entry.left (u32_at chunks.entry.bytes 4) self.old.machine }
+        ensures accepted { result ≡ Accepted → AdmitsFirst
+            chunks.entry.bytes chunks.entry.left self.old.key self.old.machine }
+        ensures rest { self.new ≡ record self.old { due = self.new.due } }
     {
         let mut chunks = chunks;
         let tag = chunks.header().verification_tag;
-        let is_again = match chunks.next() {
-            Some(chunk) => chunk.typ == 8 && tag == self.machine.own().tag,
-            None => false,
+        let Some(first) = chunks.next() else {
+            return Taken::Dropped(Reason::NoPacket);
         };
-        match self.completed {
-            Some(tag) if is_again => {
-                self.owe_alone(tag, AloneKind::ShutdownComplete);
+        if tag != self.machine.own().tag {
+            return Taken::Dropped(Reason::Tag);
+        }
+        let farewell = self.due.farewell;
+        match farewell {
+            Some(farewell) if farewell.answers(first.typ) => {
+                self.due.alone = Some(farewell);
                 Taken::Accepted
             }
             _ => Taken::Dropped(Reason::Unexpected),
@@ -103,31 +121,57 @@ impl Association {
         requires whole { chunks.bytes ≡ datagram.now }
         ensures dropped { (r : Reason) → result ≡ Ok (Dropped r) → self.new ≡ self.old }
         ensures accepted { result ≡ Ok Accepted
-            → AdmitsFirst chunks.entry.left (u32_at chunks.entry.bytes 4) self.old.machine }
+            → AdmitsFirst datagram.now chunks.entry.left self.old.key self.old.machine }
+        ensures foreign { (AdmitsFirst datagram.now chunks.entry.left self.old.key self.old.machine → ⊥)
+            → self.new ≡ self.old }
+        ensures init { FirstIs 1 chunks.entry.left
+            → self.new ≡ record self.old { due = self.new.due } }
+        ensures begun { self.old.machine.state ≡ Closed → (self.new.machine.state ≡ Closed → ⊥)
+            → FirstIsAlive datagram.now chunks.entry.left
+            self.old.key now self.old.config.cookie_life }
     {
+        let mut chunks = chunks;
         let tag = chunks.header().verification_tag;
         let count = chunks.left();
-        if count == 0 {
+        let Some(first) = chunks.next() else {
             return Ok(Taken::Dropped(Reason::NoPacket));
+        };
+        match self.take_chunk(datagram, first, tag, count, now)? {
+            Step::Refused(reason) => return Ok(Taken::Dropped(reason)),
+            Step::Stop => return Ok(Taken::Accepted),
+            Step::Next => {}
         }
+        self.take_others(datagram, chunks, first.typ, now)?;
+        self.settle(now);
+        Ok(Taken::Accepted)
+    }
+
+    // Takes the chunks behind the first one, up to one that is refused. No INIT is among them, which stands alone.
+    fn take_others(
+        &mut self,
+        datagram: &Bytes,
+        chunks: Datagram,
+        first: u8,
+        now: u64,
+    ) -> Result<(), Fault>
+        requires whole { chunks.bytes ≡ datagram.now }
+    {
         let mut chunks = chunks;
-        for place in 0..count {
+        let tag = chunks.header().verification_tag;
+        let mut once = Once::behind(first);
+        for _ in 0..chunks.left() {
             let Some(chunk) = chunks.next() else {
                 break;
             };
-            match self.take_chunk(datagram, chunk, tag, count, now)? {
+            if !once.counts(chunk.typ) {
+                continue;
+            }
+            match self.take_chunk(datagram, chunk, tag, 2, now)? {
                 Step::Next => {}
-                Step::Stop => break,
-                Step::Refused(reason) => {
-                    if place == 0 {
-                        return Ok(Taken::Dropped(reason));
-                    }
-                    break;
-                }
+                Step::Stop | Step::Refused(_) => break,
             }
         }
-        self.settle(now);
-        Ok(Taken::Accepted)
+        Ok(())
     }
 
     // Whether a chunk may stand in a packet with this tag, of so many chunks (RFC 9260 8.5, 8.5.1). The tag of a COOKIE-ECHO is looked at with
@@ -163,9 +207,23 @@ impl Association {
         ensures refused { (r : Reason) → result ≡ Ok (step.Refused r) → self.new ≡ self.old }
         ensures foreign { is_admitted chunk tag count self.old.machine ≡ false
             → result ≡ Ok (step.Refused Tag) }
+        ensures init { chunk.typ ≡ 1 → self.new ≡ record self.old { due = self.new.due } }
+        ensures init_stops { chunk.typ ≡ 1 → result ≡ Ok step.Next → ⊥ }
+        ensures cookie { chunk.typ ≡ 10 → IfOk result (λ s. is_taken s ≡ true
+            → IsSealed self.old.key tag (cookie_in datagram.now chunk)) }
+        ensures cookie_err { chunk.typ ≡ 10 → OnErr result (self.new ≡ self.old) }
+        ensures closed_next { self.old.machine.state ≡ Closed → result ≡ Ok step.Next
+            → (chunk.typ ≡ 10) × IsAlive now self.old.config.cookie_life
+            self.old.key tag (cookie_in datagram.now chunk) }
+        ensures closed_else { self.old.machine.state ≡ Closed → (result ≡ Ok step.Next → ⊥)
+            → self.new.machine ≡ self.old.machine }
     {
         if !self.admits(chunk, tag, count) {
             return Ok(Step::Refused(Reason::Tag));
+        }
+        let is_beginning = chunk.typ == 1 || chunk.typ == 10;
+        if self.machine.state() == State::Closed && !is_beginning {
+            return Ok(Step::Refused(Reason::Unexpected));
         }
         match chunk.typ {
             0 => self.take_data(datagram, chunk, now),

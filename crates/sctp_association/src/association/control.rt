@@ -1,6 +1,6 @@
 //! What the state machine is answered and tells.
 
-ghost use Rattle.std.specs.Prelude.{◌+◌, ◌≤◌};
+ghost use Rattle.std.specs.Prelude.{◌≡◌, ◌+◌, ◌≤◌};
 
 use super::{Association, outbound_config};
 use crate::due::{Alone, AloneKind};
@@ -30,7 +30,9 @@ fn number_at(code: &[u8; 32], at: usize) -> u32
 
 impl Association {
     /// What follows from an input to the machine, which was in the state `before`: its timer, a reply to `tag`, and what is told.
-    pub(super) fn follow(&mut self, before: State, answer: Answer, tag: u32, now: u64) {
+    pub(super) fn follow(&mut self, before: State, answer: Answer, tag: u32, now: u64)
+        ensures { self.new.machine ≡ self.old.machine }
+    {
         let state = self.machine.state();
         if state != before {
             self.run_control(now);
@@ -44,7 +46,9 @@ impl Association {
     }
 
     /// The timer of the state runs from now on, if it has one.
-    pub(super) fn run_control(&mut self, now: u64) {
+    pub(super) fn run_control(&mut self, now: u64)
+        ensures { self.new.machine ≡ self.old.machine }
+    {
         match self.machine.state().timer() {
             Some(_) => self.control.restart(now, self.outbound.rto.get()),
             None => self.control.stop(),
@@ -52,12 +56,24 @@ impl Association {
     }
 
     /// A packet of one reply is due.
-    pub(super) fn owe_alone(&mut self, tag: u32, kind: AloneKind) {
+    pub(super) fn owe_alone(&mut self, tag: u32, kind: AloneKind)
+        ensures { self.new ≡ record self.old { due = self.new.due } }
+    {
         self.due.alone = Some(Alone { tag, kind });
     }
 
+    // The packet of one reply is due by which the association ends, and again where it is lost.
+    fn owe_farewell(&mut self, tag: u32, kind: AloneKind)
+        ensures { self.new ≡ record self.old { due = self.new.due } }
+    {
+        self.owe_alone(tag, kind);
+        self.due.farewell = self.due.alone;
+    }
+
     /// A reply is due. `tag` is that of whom it answers, where it is not the association's peer.
-    pub(super) fn owe(&mut self, reply: Reply, tag: u32) {
+    pub(super) fn owe(&mut self, reply: Reply, tag: u32)
+        ensures { self.new ≡ record self.old { due = self.new.due } }
+    {
         match reply {
             Reply::Init => self.owe_alone(0, AloneKind::Init),
             Reply::InitAck(ticket) => self.owe_alone(tag, AloneKind::InitAck(ticket)),
@@ -70,8 +86,7 @@ impl Association {
             // One with the T bit answers a packet of no association: it is left out, as RFC 9260 8.4 lets a receiver.
             Reply::ShutdownComplete { is_reflected } => {
                 if !is_reflected {
-                    self.completed = Some(tag);
-                    self.owe_alone(tag, AloneKind::ShutdownComplete);
+                    self.owe_farewell(tag, AloneKind::ShutdownComplete);
                 }
             }
             Reply::Abort(cause) => self.owe_alone(tag, AloneKind::Abort(code_of(cause))),
@@ -79,7 +94,9 @@ impl Association {
     }
 
     // What the application is told.
-    fn tell(&mut self, told: Told, now: u64) {
+    fn tell(&mut self, told: Told, now: u64)
+        ensures { self.new.machine ≡ self.old.machine }
+    {
         match told {
             Told::Connected => {
                 self.begin(now);
@@ -99,7 +116,9 @@ impl Association {
     }
 
     // The association stands, by what both sides offered.
-    fn begin(&mut self, now: u64) {
+    fn begin(&mut self, now: u64)
+        ensures { self.new.machine ≡ self.old.machine }
+    {
         let (Some(peer), Some(agreed)) = (self.machine.peer(), self.machine.agreed()) else {
             return;
         };
@@ -147,7 +166,7 @@ impl Association {
     /// The association ends with an ABORT of this cause code.
     pub(super) fn end_with(&mut self, cause: u16) {
         if let Some(peer) = self.machine.peer() {
-            self.owe_alone(peer.tag, AloneKind::Abort(cause));
+            self.owe_farewell(peer.tag, AloneKind::Abort(cause));
         } else {
             self.due.alone = None;
         }

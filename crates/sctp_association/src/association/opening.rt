@@ -1,8 +1,11 @@
 //! INIT, INIT ACK and the cookie (RFC 9260 5).
 
-ghost use Rattle.std.specs.Prelude.{◌≡◌, Ok, OnErr};
+ghost use Rattle.std.specs.Prelude.{◌≡◌, Ok, IfOk, OnErr, true};
+ghost use Rattle.sctp_association.specs.Cookies.{IsAlive, IsSealed, cookie_in};
+ghost use Rattle.sctp_association.specs.Steps.{is_taken};
 ghost use Rattle.sctp_association.specs.declared.association.Reason.{Reason};
 ghost use Rattle.sctp_association.specs.declared.association.arrivals.Step.TheVariants as step;
+ghost use Rattle.sctp_handshake.specs.declared.state.State.TheVariants.{Closed};
 
 use super::arrivals::{Step, bytes_of};
 use super::{Association, Reason};
@@ -11,7 +14,7 @@ use bytes::Bytes;
 use sctp_cookie::{HmacSha256, is_stale, open};
 use sctp_datagram::ChunkPlace;
 use sctp_datagram::in_place::init_value;
-use sctp_handshake::{Said, Ticket};
+use sctp_handshake::{Reply, Said, Ticket};
 
 impl Association {
     /// Takes an INIT (RFC 9260 5.1 B, 5.2.1, 5.2.2): nothing changes but the one reply that is due.
@@ -23,6 +26,8 @@ impl Association {
     ) -> Result<Step, Fault>
         ensures refused { (r : Reason) → result ≡ Ok (step.Refused r) → self.new ≡ self.old }
         ensures err { OnErr result (self.new ≡ self.old) }
+        ensures due { self.new ≡ record self.old { due = self.new.due } }
+        ensures stops { result ≡ Ok step.Next → ⊥ }
     {
         let Ok(value) = init_value(bytes_of(datagram, chunk)) else {
             return Ok(Step::Refused(Reason::NoPacket));
@@ -71,7 +76,8 @@ impl Association {
         Ok(Step::Next)
     }
 
-    /// Takes a COOKIE ECHO (RFC 9260 5.1 D, 5.1.5, 5.2.4): only one that this side sealed, in a packet with the tag that it holds.
+    /// Takes a COOKIE ECHO (RFC 9260 5.1 D, 5.1.5, 5.2.4): only one that this side sealed, in a packet with the tag that it holds. Behind one
+    /// that is too old nothing of the packet is looked at (5.1.5).
     pub(super) fn take_cookie(
         &mut self,
         datagram: &Bytes,
@@ -81,6 +87,13 @@ impl Association {
     ) -> Result<Step, Fault>
         ensures refused { (r : Reason) → result ≡ Ok (step.Refused r) → self.new ≡ self.old }
         ensures err { OnErr result (self.new ≡ self.old) }
+        ensures sealed { IfOk result (λ s. is_taken s ≡ true
+            → IsSealed self.old.key tag (cookie_in datagram.now chunk)) }
+        ensures alive { self.old.machine.state ≡ Closed → result ≡ Ok step.Next
+            → IsAlive now self.old.config.cookie_life
+            self.old.key tag (cookie_in datagram.now chunk) }
+        // A cookie that is too old begins nothing (RFC 9260 5.1.5).
+        ensures stale { result ≡ Ok step.Stop → self.new.machine ≡ self.old.machine }
     {
         let raw = bytes_of(datagram, chunk);
         if chunk.length > raw.len() || chunk.length < 4 {
@@ -102,6 +115,9 @@ impl Association {
             return Ok(Step::Refused(Reason::Unexpected));
         }
         self.follow(before, answer, ticket.peer.tag, now);
-        Ok(Step::Next)
+        match answer.reply {
+            Some(Reply::StaleCookie) => Ok(Step::Stop),
+            _ => Ok(Step::Next),
+        }
     }
 }

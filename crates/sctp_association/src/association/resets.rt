@@ -23,12 +23,27 @@ const MOST_STREAMS: usize = 64;
 // The most parameters of a RE-CONFIG chunk (RFC 6525 3.1).
 const MOST_PARAMS: usize = 2;
 
-// A RE-CONFIG chunk with one parameter.
-fn reconfig(param: ParamKind) -> ChunkReconfig {
-    ChunkReconfig {
-        param_a: Some(param),
-        param_b: None,
-    }
+// The most bytes of a RE-CONFIG chunk of this side: a response, and a request of so many streams.
+const MOST_BYTES: usize = 4 + 12 + 16 + 2 * MOST_STREAMS;
+
+// A RE-CONFIG chunk with a response, a request, or both in this order (RFC 6525 3.1).
+fn reconfig(
+    response: Option<ParamReconfigResponse>,
+    request: Option<ParamOutgoingResetRequest>,
+) -> Option<ChunkReconfig> {
+    let (param_a, param_b) = match (response, request) {
+        (Some(response), Some(request)) => (
+            ParamKind::ReconfigResponse(response),
+            Some(ParamKind::OutgoingResetRequest(request)),
+        ),
+        (Some(response), None) => (ParamKind::ReconfigResponse(response), None),
+        (None, Some(request)) => (ParamKind::OutgoingResetRequest(request), None),
+        (None, None) => return None,
+    };
+    Some(ChunkReconfig {
+        param_a: Some(param_a),
+        param_b,
+    })
 }
 
 impl Association {
@@ -49,16 +64,25 @@ impl Association {
         Ok(())
     }
 
-    /// Puts the RE-CONFIG chunks that are due (RFC 6525 5.1, 5.2).
+    /// Puts the RE-CONFIG chunk that is due, where there is room for it (RFC 6525 5.1, 5.2): a packet has one.
     pub(super) fn put_resets(&mut self, now: u64) -> Result<(), Fault> {
-        if let Some(peer) = &mut self.peer_requests {
-            if let Some(response) = peer.take_response() {
-                self.draft
-                    .put(&reconfig(ParamKind::ReconfigResponse(response)));
-            }
+        if self.draft.room() < MOST_BYTES {
+            return Ok(());
         }
         self.begin_request(now)?;
-        self.put_request(now)
+        let request = self.request_due(now)?;
+        let is_asking = request.is_some();
+        let response = match &mut self.peer_requests {
+            Some(peer) => peer.take_response(),
+            None => None,
+        };
+        let Some(chunk) = reconfig(response, request) else {
+            return Ok(());
+        };
+        if self.draft.put(&chunk) && is_asking {
+            self.requests.sent(now, self.outbound.rto.get());
+        }
+        Ok(())
     }
 
     // Begins the next request, where none is under way.
@@ -78,10 +102,10 @@ impl Association {
         }
     }
 
-    // Puts the request that is due, for the first time or again.
-    fn put_request(&mut self, now: u64) -> Result<(), Fault> {
+    // The request that is due, for the first time or again.
+    fn request_due(&mut self, now: u64) -> Result<Option<ParamOutgoingResetRequest>, Fault> {
         let Some(request) = self.requests.due(now) else {
-            return Ok(());
+            return Ok(None);
         };
         let mut streams = Vec::with_capacity(self.alloc, request.streams.len())?;
         streams.extend_from_slice(&request.streams)?;
@@ -89,22 +113,16 @@ impl Association {
             Some(peer) => peer.last_number(),
             None => 0,
         };
-        let param = ParamOutgoingResetRequest {
+        Ok(Some(ParamOutgoingResetRequest {
             reconfig_request_sequence_number: request.number,
             reconfig_response_sequence_number: last_number,
             sender_last_tsn: request.last_tsn,
             stream_identifiers: streams,
-        };
-        if self
-            .draft
-            .put(&reconfig(ParamKind::OutgoingResetRequest(param)))
-        {
-            self.requests.sent(now, self.outbound.rto.get());
-        }
-        Ok(())
+        }))
     }
 
-    /// Takes a RE-CONFIG chunk: of its parameters those that are requests or responses (RFC 6525 3.1).
+    /// Takes a RE-CONFIG chunk: of its parameters those that are requests or responses, and of requests to reset streams the first (RFC 6525
+    /// 3.1). So a chunk resets each of the agreed streams at most once, or those that it lists.
     pub(super) fn take_reconfig(
         &mut self,
         datagram: &Bytes,
@@ -121,6 +139,7 @@ impl Association {
             return Ok(Step::Refused(Reason::NoPacket));
         }
         let mut at = 4;
+        let mut has_request = false;
         for _ in 0..MOST_PARAMS {
             let raw = datagram.slice(chunk.at..end)?;
             if at >= raw.len() {
@@ -129,6 +148,11 @@ impl Association {
             let Ok(place) = param_at(raw.as_slice(), at) else {
                 break;
             };
+            let is_request = place.typ == 13;
+            if is_request && has_request {
+                break;
+            }
+            has_request = has_request || is_request;
             self.take_param(&raw, at, place.typ, now)?;
             at = place.next;
         }

@@ -1,0 +1,40 @@
+-- The first chunk of a datagram begins behind the header.
+use Rattle.std.proofs.Common.{◌≡◌, ◌⊎◌, ℕ, List, [], ◌∷◌, ◌++◌, drop, true, ap, subst, sym, ◌∙◌, inl, inr}
+use Rattle.sctp_association.specs.Cookies.{cookie_in, IsAlive}
+use Rattle.sctp_association.specs.Tags.{BeginsByCookie, FirstIs, FirstIsAlive, first_type}
+use Rattle.sctp_datagram.specs.declared.datagram.ChunkPlace.{ChunkPlace}
+use Rattle.sctp_datagram.specs.Places.{IsThere, Passes, TellsAll, place_at}
+use Rattle.sctp_util.specs.Field.{u32_at}
+use Rattle.sctp_datagram.specs.Types.{is_stopping}
+use Rattle.sctp_chunks.specs.Framing.{type_at}
+
+-- the chunks are none, or the first is that one
+abbrev pub IsFirst : List ℕ → List ChunkPlace → Type 0
+IsFirst d [] = Unit {0}
+IsFirst d (c ∷ cs) = c ≡ place_at d 12
+
+first_in : (d : List ℕ) (rows passed : List ChunkPlace) (end : ℕ) → Passes place_at d 12 passed end
+    → ((drop end d ≡ []) × (rows ≡ passed))
+    ⊎ (IsThere (drop end d) × (is_stopping (type_at (drop end d)) ≡ true) × (rows ≡ passed ++ place_at d end ∷ []))
+    → IsFirst d rows
+first_in d rows [] end passes (inl e) = rw e.1 tt
+first_in d rows [] end passes (inr e) = rw e.2 (ap (place_at d) (sym passes))
+first_in d rows (r ∷ passed) end passes (inl e) = rw e.1 passes.0
+first_in d rows (r ∷ passed) end passes (inr e) = rw e.2 passes.0
+
+pub first_place : (d : List ℕ) (rows : List ChunkPlace) → TellsAll place_at d rows → IsFirst d rows
+first_place d rows t = first_in d rows t.passed t.end t.passes t.ended
+
+pub first_is : (d : List ℕ) (rows : List ChunkPlace) → TellsAll place_at d rows → (n : ℕ) → first_type d ≡ n → FirstIs n rows
+first_is d [] t n e = tt
+first_is d (c ∷ cs) t n e = ap (λ p. p.typ) (first_place d (c ∷ cs) t) ∙ e
+
+pub begins : (d : List ℕ) (rows : List ChunkPlace) (key : List ℕ) (now life : ℕ) → TellsAll place_at d rows
+    → FirstIsAlive d rows key now life → BeginsByCookie d key now life
+begins d rows key now life t f = record {
+  typ = sym (ap (λ p. p.typ) place) ∙ f.typ;
+  cookie = subst (λ p. IsAlive now life key (u32_at d 4) (cookie_in d p)) place f.cookie;
+}
+  where
+    place : f.first ≡ place_at d 12
+    place = first_place d (f.first ∷ f.rest) (rw (sym f.are) t)

@@ -1,0 +1,14 @@
+use Rattle.std.proofs.Common.{rules}
+use Rattle.sctp_association.proofs.First.{begins, first_is}
+use Rattle.sctp_association.proofs.association.Association.handle_datagram.Goals as goal
+use Rattle.sctp_datagram.specs.Places.{TellsAll, place_at}
+
+pub returns-clause-init : goal.returns-clause-init
+returns-clause-init c begun =
+    let all : TellsAll place_at c.args.datagram.now c.in-Ok.chunks.left = search rules in
+    c.take_chunks.ensures.init (first_is c.args.datagram.now c.in-Ok.chunks.left all 1 begun)
+
+pub returns-clause-begun : goal.returns-clause-begun
+returns-clause-begun c closed stands =
+    let all : TellsAll place_at c.args.datagram.now c.in-Ok.chunks.left = search rules in
+    begins c.args.datagram.now c.in-Ok.chunks.left _ _ _ all (c.take_chunks.ensures.begun closed stands)

@@ -1,0 +1,12 @@
+use Rattle.std.proofs.Common.{rules, ◌≡◌, ap, sym, ◌∙◌}
+use Rattle.std.specs.Prelude.{Some}
+use Rattle.sctp_association.proofs.Stale.{stale_keeps}
+use Rattle.sctp_association.proofs.association.Association.take_cookie.Goals as goal
+use Rattle.sctp_handshake.specs.declared.answer.Reply.TheVariants as reply
+
+-- what is answered by a stale cookie changed nothing
+pub returns-in-Some-StaleCookie-clause-stale : goal.returns-in-Some-StaleCookie-clause-stale
+returns-in-Some-StaleCookie-clause-stale c _ =
+    let takes = c.cookie_echo-answer.ensures.takes in
+    let found : c.cookie_echo-answer.result.reply ≡ Some reply.StaleCookie = search rules in
+    c.follow.ensures ∙ takes.machine ∙ stale_keeps _ _ _ (sym (ap (λ a. a.reply) takes.answer) ∙ found)
