@@ -1,4 +1,5 @@
 pub mod Cookies
+pub mod Events
 pub mod Once
 pub mod Steps
 pub mod StreamSet

@@ -7,7 +7,8 @@ mod packets;
 mod resets;
 mod timeouts;
 
-ghost use Rattle.std.specs.Prelude.{◌≡◌};
+ghost use Rattle.std.specs.Prelude.{◌≡◌, IfSome, None};
+ghost use Rattle.sctp_association.specs.Events.{IsTold};
 
 use crate::config::{Config, Secrets};
 use crate::draft::Draft;
@@ -154,8 +155,12 @@ impl Association {
         self.machine.state()
     }
 
-    /// The next event, if there is one.
-    pub fn poll(&mut self) -> Option<Event> {
+    /// The next event, if there is one: it waited, and is told once.
+    pub fn poll(&mut self) -> Option<Event>
+        ensures told { IfSome result (IsTold self.old.events self.new.events) }
+        ensures rest { self.new ≡ record self.old { events = self.new.events } }
+        ensures none { result ≡ None → self.new ≡ self.old }
+    {
         self.events.pop()
     }
 

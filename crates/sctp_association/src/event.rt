@@ -1,5 +1,8 @@
 //! What an association tells its user.
 
+ghost use Rattle.std.specs.Prelude.{◌≡◌, IfSome, None};
+ghost use Rattle.sctp_association.specs.Events.{IsTold};
+
 use crate::stream_set::StreamSet;
 use std::alloc::{AllocError, Global};
 
@@ -93,7 +96,10 @@ impl Events {
     }
 
     // Takes out an event of the whole association, if one waits, but the last one.
-    fn pop_whole(&mut self) -> Option<Event> {
+    fn pop_whole(&mut self) -> Option<Event>
+        ensures told { IfSome result (IsTold self.old self.new) }
+        ensures none { result ≡ None → self.new ≡ self.old }
+    {
         if self.connected {
             self.connected = false;
             return Some(Event::Connected);
@@ -110,7 +116,10 @@ impl Events {
     }
 
     // Takes out an event of a stream, if one waits.
-    fn pop_of_stream(&mut self) -> Option<Event> {
+    fn pop_of_stream(&mut self) -> Option<Event>
+        ensures told { IfSome result (IsTold self.old self.new) }
+        ensures none { result ≡ None → self.new ≡ self.old }
+    {
         if let Some(stream) = self.reset_by_us.pop() {
             return Some(Event::ResetByUs(stream));
         }
@@ -133,7 +142,10 @@ impl Events {
     }
 
     // Takes out how the association ends, if that is to be told.
-    fn pop_end(&mut self) -> Option<Event> {
+    fn pop_end(&mut self) -> Option<Event>
+        ensures told { IfSome result (IsTold self.old self.new) }
+        ensures none { result ≡ None → self.new ≡ self.old }
+    {
         if self.shutdown {
             self.shutdown = false;
             return Some(Event::Shutdown);
@@ -144,7 +156,10 @@ impl Events {
     }
 
     /// Takes the next event out: those of the whole association first, the end last.
-    pub(crate) fn pop(&mut self) -> Option<Event> {
+    pub(crate) fn pop(&mut self) -> Option<Event>
+        ensures told { IfSome result (IsTold self.old self.new) }
+        ensures none { result ≡ None → self.new ≡ self.old }
+    {
         if let Some(event) = self.pop_whole() {
             return Some(event);
         }

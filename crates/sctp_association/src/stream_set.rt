@@ -94,6 +94,7 @@ impl StreamSet {
         ensures value { IfSome result (λ s. (n : ℕ) → is_in n self.new
             ≡ (if n == s then false else is_in n self.old)) }
         ensures none { result ≡ None → IsEmpty self.old }
+        ensures kept { result ≡ None → self.new ≡ self.old }
         ensures room { length self.new ≡ length self.old }
     {
         if !self.is_any {

@@ -1,0 +1,25 @@
+-- What an association tells its user, once.
+use Rattle.std.specs.Prelude.{◌≡◌, true, Some}
+use Rattle.sctp_association.specs.declared.event.Event.{Event}
+use Rattle.sctp_association.specs.declared.event.Event.TheVariants as event
+use Rattle.sctp_association.specs.declared.event.Events.{Events}
+use Rattle.sctp_association.specs.StreamSet.{is_in}
+
+-- the event waits
+abbrev pub Waits : Event → Events → Type 0
+Waits event.Connected e = e.connected ≡ true
+Waits event.Restarted e = e.restarted ≡ true
+Waits (event.Readable s) e = is_in s e.readable ≡ true
+Waits (event.BufferedAmountLow s) e = is_in s e.low ≡ true
+Waits (event.ResetByUs s) e = is_in s e.reset_by_us ≡ true
+Waits (event.ResetRefused s) e = is_in s e.reset_refused ≡ true
+Waits (event.ResetByPeer s) e = is_in s e.reset_by_peer ≡ true
+Waits (event.TooLong s) e = is_in s e.too_long ≡ true
+Waits (event.PeerError c) e = e.peer_error ≡ Some c
+Waits event.Shutdown e = e.shutdown ≡ true
+Waits (event.Closed x) e = e.closed ≡ Some x
+
+-- it waited, and waits no more
+pub record IsTold (old new : Events) (v : Event) : Type 0 where
+  pub waited : Waits v old
+  pub told : Waits v new → ⊥
