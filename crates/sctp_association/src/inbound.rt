@@ -203,11 +203,13 @@ impl Inbound {
     }
 
     /// Resets a stream, as the peer asked (RFC 6525 5.2.2): it may open again. While a TSN up to its last one is missing that is in progress:
-    /// a chunk of the old use may still come, also on a stream that is not open. Nothing is told of a stream on which nothing came.
+    /// a chunk of the old use may still come, also on a stream that is not open. It is told of a stream that the request names, or on
+    /// which something came.
     pub(crate) fn reset(
         &mut self,
         stream: u16,
         last_tsn: u32,
+        is_named: bool,
         events: &mut Events,
     ) -> Result<ReconfigResult, Fault>
         ensures performed { result ≡ Ok SuccessPerformed → is_in stream self.new.discarded ≡ false }
@@ -223,9 +225,12 @@ impl Inbound {
         if sna32lt(self.receiver.cumulative_tsn(), last_tsn) {
             return Ok(ReconfigResult::InProgress);
         }
+        if is_named {
+            events.reset_by_peer.reserve(stream)?;
+        }
         let is_told = match self.receiver.reset(stream, last_tsn) {
             Ok(()) => true,
-            Err(ReceiverRefusal::StreamUnknown) => self.discarded.contains(stream),
+            Err(ReceiverRefusal::StreamUnknown) => is_named || self.discarded.contains(stream),
             Err(ReceiverRefusal::ResetInProgress) => return Ok(ReconfigResult::InProgress),
             Err(e) => return Err(Fault::from(e)),
         };

@@ -15,6 +15,7 @@ use sctp_params::{
     ParamKind, ParamOutgoingResetRequest, ParamReconfigResponse, ReconfigResult, build_param,
 };
 use sctp_reset::{Answer, Due};
+use sctp_sender::sender::refusal::SenderRefusal;
 use sctp_util::error::Error;
 
 // The most streams of a request: it then fits into the least packet.
@@ -218,7 +219,7 @@ impl Association {
         }
         let mut outcome = ReconfigResult::SuccessPerformed;
         for stream in &request.stream_identifiers {
-            match self.perform_one(*stream, request.sender_last_tsn)? {
+            match self.perform_one(*stream, request.sender_last_tsn, true)? {
                 ReconfigResult::SuccessPerformed => {}
                 ReconfigResult::InProgress => return Ok(ReconfigResult::InProgress),
                 wrong => outcome = wrong,
@@ -234,17 +235,22 @@ impl Association {
             None => 0,
         };
         for stream in 0..streams {
-            if self.perform_one(stream, last_tsn)? == ReconfigResult::InProgress {
+            if self.perform_one(stream, last_tsn, false)? == ReconfigResult::InProgress {
                 return Ok(ReconfigResult::InProgress);
             }
         }
         Ok(ReconfigResult::SuccessPerformed)
     }
 
-    // Resets a stream.
-    fn perform_one(&mut self, stream: u16, last_tsn: u32) -> Result<ReconfigResult, Fault> {
+    // Resets a stream, which the request names, or with it all.
+    fn perform_one(
+        &mut self,
+        stream: u16,
+        last_tsn: u32,
+        is_named: bool,
+    ) -> Result<ReconfigResult, Fault> {
         match &mut self.inbound {
-            Some(inbound) => inbound.reset(stream, last_tsn, &mut self.events),
+            Some(inbound) => inbound.reset(stream, last_tsn, is_named, &mut self.events),
             None => Ok(ReconfigResult::ErrorWrongSsn),
         }
     }
@@ -256,7 +262,11 @@ impl Association {
         match self.requests.response(number, response.result, now, rto) {
             Answer::Performed(request) => {
                 for stream in &request.streams {
-                    self.outbound.sender.reset(*stream)?;
+                    match self.outbound.sender.reset(*stream) {
+                        // Nothing was written on it.
+                        Ok(()) | Err(SenderRefusal::StreamUnknown) => {}
+                        Err(e) => return Err(Fault::from(e)),
+                    }
                     self.events.reset_by_us.insert(*stream);
                 }
             }
