@@ -1,2 +1,4 @@
 pub mod First
 pub mod Stale
+pub mod Opened
+pub mod Drafting

@@ -1,6 +1,13 @@
+pub mod Calls
 pub mod Cookies
+pub mod Drafts
 pub mod Events
+pub mod Failing
 pub mod Once
+pub mod Rooms
+pub mod Sending
 pub mod Steps
+pub mod Still
 pub mod StreamSet
 pub mod Tags
+pub mod Waiting

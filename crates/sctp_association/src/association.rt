@@ -1,14 +1,20 @@
 //! The association: its calls, and what a user hands in and takes out.
 
 mod arrivals;
+mod calls;
 mod control;
 mod opening;
 mod packets;
 mod resets;
 mod timeouts;
 
-ghost use Rattle.std.specs.Prelude.{◌≡◌, IfSome, None};
+ghost use Rattle.std.specs.Prelude.{◌≡◌, IfSome, None, ◌≢◌, ◌≤◌, true, false, IfErr, IfOk, IsOk, OnErr};
 ghost use Rattle.sctp_association.specs.Events.{IsTold};
+ghost use Rattle.sctp_association.specs.declared.fault.Fault.TheVariants.{BadConfig, WrongState};
+ghost use Rattle.sctp_association.specs.Waiting.{amount_on};
+ghost use Rattle.sctp_handshake.specs.declared.state.State.TheVariants.{Closed};
+ghost use Rattle.sctp_path.specs.Rto.{smoothed_of};
+ghost use Rattle.sctp_sender.specs.Sender.{stream_of};
 
 use crate::config::{Config, Secrets};
 use crate::draft::Draft;
@@ -18,7 +24,7 @@ use crate::fault::Fault;
 use crate::inbound::Inbound;
 use crate::outbound::{Outbound, OutboundConfig};
 use bytes::Bytes;
-use sctp_data::chunk::chunk_payload_data::{PayloadProtocolIdentifier, ReliabilityType};
+use sctp_data::chunk::chunk_payload_data::PayloadProtocolIdentifier;
 use sctp_handshake::{Machine, Offer, State};
 use sctp_path::{Heartbeat, Timer};
 use sctp_reassembly::Chunks;
@@ -96,14 +102,18 @@ fn outbound_config(config: &Config, first_tsn: u32) -> OutboundConfig {
         mtu: config.mtu,
         max_message_size: config.max_message_size,
         most_waiting: config.most_waiting,
+        most_in_flight: config.most_in_flight,
         max_retrans: config.max_retrans,
         rto: config.rto,
     }
 }
 
 impl Association {
-    /// No association yet: it waits for a peer's INIT, or for `connect`. Refuses with `BadConfig`, or for memory.
-    pub fn new(alloc: Global, config: Config, secrets: Secrets) -> Result<Association, Fault> {
+    /// No association yet: it waits for a peer's INIT, or for `connect`. Refuses with `BadConfig`. It takes no memory.
+    pub fn new(alloc: Global, config: Config, secrets: Secrets) -> Result<Association, Fault>
+        ensures mtu { IfOk result (λ a. a.draft.limit ≡ config.mtu) }
+        ensures refused { IfErr result (λ e. e ≡ BadConfig) }
+    {
         if secrets.tag == 0 || !config.is_usable() {
             return Err(Fault::BadConfig);
         }
@@ -111,7 +121,7 @@ impl Association {
             max_init_retransmits: config.max_init_retrans,
             association_max_retrans: config.max_retrans,
         };
-        let draft = Draft::new(alloc, config.mtu)?;
+        let draft = Draft::new(alloc, config.mtu);
         let machine = Machine::new(offer_of(&config, &secrets), limits);
         let outbound = Outbound::new(alloc, outbound_config(&config, secrets.first_tsn));
         Ok(Association {
@@ -136,7 +146,12 @@ impl Association {
 
     /// Asks the peer for an association (RFC 9260 5.1 A): an INIT is due. Both sides may (5.2.1). Refuses with `WrongState`, where one is
     /// there, or was.
-    pub fn connect(&mut self, now: u64) -> Result<(), Fault> {
+    pub fn connect(&mut self, now: u64) -> Result<(), Fault>
+        ensures accepted { IsOk result
+            → (self.old.is_over ≡ false) × (self.old.machine.state ≡ Closed) }
+        ensures refused { IfErr result (λ e. e ≡ WrongState) }
+        ensures err { OnErr result (self.new ≡ self.old) }
+    {
         if self.is_over {
             return Err(Fault::WrongState);
         }
@@ -151,7 +166,9 @@ impl Association {
     }
 
     /// The state (RFC 9260 4).
-    pub fn state(&self) -> State {
+    pub fn state(&self) -> State
+        ensures { result ≡ self.now.machine.state }
+    {
         self.machine.state()
     }
 
@@ -164,76 +181,10 @@ impl Association {
         self.events.pop()
     }
 
-    // Whether the application may write to a stream.
-    fn write_refusal(&self, stream: u16) -> Option<Fault> {
-        let is_waiting = self.machine.state() == State::Closed && !self.is_over;
-        if !is_waiting && !self.machine.state().accepts_writes() {
-            return Some(Fault::WrongState);
-        }
-        let streams = match self.machine.agreed() {
-            Some(agreed) => agreed.outbound_streams,
-            None => self.config.outbound_streams,
-        };
-        if stream >= streams {
-            return Some(Fault::NoSuchStream);
-        }
-        None
-    }
-
-    /// Takes a message for a stream: it waits until it may be sent, before the association stands too. A stream opens by its first
-    /// message. Its lifetime begins with the next `poll_transmit`. Refuses by `Fault`, and takes nothing then.
-    pub fn write(
-        &mut self,
-        stream: u16,
-        ppi: PayloadProtocolIdentifier,
-        bytes: &Bytes,
-    ) -> Result<(), Fault> {
-        if let Some(fault) = self.write_refusal(stream) {
-            return Err(fault);
-        }
-        if self.requests.is_asked(stream) {
-            return Err(Fault::Resetting);
-        }
-        self.events.reserve_outbound(stream)?;
-        self.outbound.write(stream, ppi, bytes)
-    }
-
-    /// Sets how what is written to a stream from now on is sent: `value` counts retransmissions (`Rexmit`), or is a lifetime in
-    /// milliseconds (`Timed`). Where the peer does not know FORWARD-TSN every message is reliable.
-    pub fn set_mode(
-        &mut self,
-        stream: u16,
-        unordered: bool,
-        reliability: ReliabilityType,
-        value: u32,
-    ) -> Result<(), Fault> {
-        if let Some(fault) = self.write_refusal(stream) {
-            return Err(fault);
-        }
-        self.events.reserve_outbound(stream)?;
-        self.outbound
-            .set_mode(stream, unordered, reliability, value)
-    }
-
-    /// At which buffered amount `BufferedAmountLow` is told of a stream: where the amount falls from above it to at most it.
-    pub fn set_buffered_amount_low_threshold(
-        &mut self,
-        stream: u16,
-        threshold: usize,
-    ) -> Result<(), Fault> {
-        if let Some(fault) = self.write_refusal(stream) {
-            return Err(fault);
-        }
-        self.events.reserve_outbound(stream)?;
-        self.outbound.open(stream)?;
-        self.outbound
-            .sender
-            .set_buffered_amount_low_threshold(stream, threshold)?;
-        Ok(())
-    }
-
     /// How many bytes were written to a stream that the peer did not acknowledge, and that neither expired nor were abandoned.
-    pub fn buffered_amount(&self, stream: u16) -> usize {
+    pub fn buffered_amount(&self, stream: u16) -> usize
+        ensures { result ≡ amount_on (stream_of stream self.now.outbound.sender) }
+    {
         match self.outbound.sender.stream(stream) {
             Some(state) => state.buffered_amount(),
             None => 0,
@@ -257,7 +208,11 @@ impl Association {
     }
 
     /// Ends the association once all that was written is acknowledged (RFC 9260 9.2). Refuses with `WrongState`, where none stands.
-    pub fn shutdown(&mut self, now: u64) -> Result<(), Fault> {
+    pub fn shutdown(&mut self, now: u64) -> Result<(), Fault>
+        ensures accepted { IsOk result → self.old.machine.state ≢ Closed }
+        ensures refused { IfErr result (λ e. e ≡ WrongState) }
+        ensures err { OnErr result (self.new ≡ self.old) }
+    {
         let before = self.machine.state();
         match before {
             State::Closed => return Err(Fault::WrongState),
@@ -275,7 +230,11 @@ impl Association {
     }
 
     /// Ends the association at once: an ABORT with the cause 12 is due (RFC 9260 9.1). Refuses with `WrongState`, where there is none.
-    pub fn abort(&mut self) -> Result<(), Fault> {
+    pub fn abort(&mut self) -> Result<(), Fault>
+        ensures accepted { IsOk result → self.old.is_over ≡ false }
+        ensures refused { IfErr result (λ e. e ≡ WrongState) }
+        ensures err { OnErr result (self.new ≡ self.old) }
+    {
         if self.is_over {
             return Err(Fault::WrongState);
         }
@@ -284,23 +243,32 @@ impl Association {
     }
 
     /// The round trip time, smoothed (RFC 9260 6.3.1).
-    pub fn rtt(&self) -> Option<u64> {
+    pub fn rtt(&self) -> Option<u64>
+        ensures { result ≡ smoothed_of self.now.outbound.rto.trips }
+    {
         self.outbound.rto.smoothed()
     }
 
     /// The congestion window in bytes (RFC 9260 7.2).
-    pub fn congestion_window(&self) -> usize {
+    pub fn congestion_window(&self) -> usize
+        ensures value { result ≡ self.now.outbound.congestion.window }
+        ensures a_packet { self.now.outbound.congestion.pmdcs ≤ result }
+    {
         self.outbound.congestion.window()
     }
 
     /// The window that the peer told last.
-    pub fn peer_window(&self) -> usize {
+    pub fn peer_window(&self) -> usize
+        ensures { result ≡ self.now.outbound.peer_window }
+    {
         self.outbound.peer_window
     }
 
     // The association ended.
     fn end(&mut self, ending: Ending)
-        ensures { self.new.machine ≡ self.old.machine }
+        ensures over { self.new.is_over ≡ true }
+        ensures rest { (self.new.outbound ≡ self.old.outbound)
+            × (self.new.machine ≡ self.old.machine) }
     {
         self.is_over = true;
         self.control.stop();

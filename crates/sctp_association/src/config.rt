@@ -1,5 +1,7 @@
 //! What an association is told by its user.
 
+ghost use Rattle.std.specs.Prelude.{◌≡◌, ◌≤◌, true};
+
 use sctp_path::RtoLimits;
 
 /// The choices of a user. Times are in nanoseconds.
@@ -23,6 +25,8 @@ pub struct Config {
     pub inbound_streams: u16,
     /// The most bytes that may wait before they are sent first.
     pub most_waiting: usize,
+    /// The most chunks in flight, at least 1: what a SACK may cost is bounded by it.
+    pub most_in_flight: usize,
     /// How often in a row what is sent may stay unanswered (Association.Max.Retrans).
     pub max_retrans: u32,
     /// How often an INIT or a COOKIE-ECHO is sent again (Max.Init.Retransmits).
@@ -65,6 +69,7 @@ impl Default for Config {
             outbound_streams: 1024,
             inbound_streams: 1024,
             most_waiting: 16 << 20,
+            most_in_flight: 4096,
             max_retrans: 10,
             max_init_retrans: 8,
             heartbeat: 30 * SECOND,
@@ -78,11 +83,14 @@ impl Default for Config {
 impl Config {
     /// Whether an association can have these numbers: a packet takes any control chunk, and the window tells at least what an INIT may (RFC
     /// 9260 3.3.2).
-    pub(crate) fn is_usable(&self) -> bool {
+    pub(crate) fn is_usable(&self) -> bool
+        ensures { result ≡ true → 512 ≤ self.now.mtu }
+    {
         self.mtu >= 512
             && self.mtu <= 65_535
             && self.window >= 1500
             && self.reach >= 1
+            && self.most_in_flight >= 1
             && self.outbound_streams >= 1
             && self.inbound_streams >= 1
             && self.source_port != 0

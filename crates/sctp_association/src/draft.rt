@@ -1,11 +1,14 @@
 //! The packet that is being written.
 
+ghost use Rattle.std.specs.Prelude.{◌≡◌, ◌≤◌, max, false, OnErr, [], length};
+
 use sctp_chunks::chunk::Chunk;
 use sctp_packets::PacketWriter;
 use sctp_packets::checksum::Crc32c;
 use sctp_packets::packet::{CommonHeader, PACKET_HEADER_SIZE};
 use sctp_util::util::Checksum;
 use std::alloc::{AllocError, Global};
+use std::marker::Model;
 
 /// The checksum 0 of a path whose lower layer detects damage (RFC 9653 5.2).
 #[derive(Clone, Copy)]
@@ -19,56 +22,103 @@ impl Checksum for NoSum {
     }
 }
 
-/// A packet that is filled, of at most so many bytes.
+/// A packet that is filled, of at most so many bytes. Its buffer is allocated with the first packet.
 #[derive(Drop)]
 pub(crate) struct Draft {
-    writer: PacketWriter,
+    alloc: Global,
     limit: usize,
+    writer: Option<PacketWriter>,
+}
+
+impl Model for Draft {
+    ghost use Rattle.std.specs.Prelude.{◌≡◌, ◌≤◌, length};
+    ghost use Rattle.sctp_association.specs.Drafts.{bytes_in, limit_in};
+    ghost use Rattle.sctp_packets.specs.Draft as draft;
+
+    ghost Value = { draft.Draft };
+
+    ghost view = { λ d. record { bytes = bytes_in d.writer; limit = d.limit } };
+
+    ghost invariant = { λ d. (12 ≤ d.limit) × (limit_in d.limit d.writer ≡ d.limit)
+        × (length (bytes_in d.writer) ≤ d.limit) };
 }
 
 impl Draft {
-    /// No packet. Refuses only for memory; no other call takes any.
-    pub(crate) fn new(alloc: Global, limit: usize) -> Result<Draft, AllocError> {
-        match PacketWriter::new(alloc, limit) {
-            Ok(writer) => Ok(Draft { writer, limit }),
-            Err(_) => Err(AllocError),
+    /// No packet. It takes no memory.
+    pub(crate) fn new(alloc: Global, limit: usize) -> Draft
+        ensures { result ≡ record { bytes = []; limit = max 12 limit } }
+    {
+        Draft {
+            alloc,
+            limit: limit.max(PACKET_HEADER_SIZE),
+            writer: None,
         }
     }
 
-    /// Begins a packet.
-    pub(crate) fn begin(&mut self, header: CommonHeader) {
-        self.writer.begin(header);
+    /// Begins a packet. Refuses only for memory; no other call takes any.
+    #[tactic(auto, using(crate::proofs::Drafting::headed_within))]
+    pub(crate) fn begin(&mut self, header: CommonHeader) -> Result<(), AllocError>
+        ensures limit { self.new.limit ≡ self.old.limit }
+        ensures err { OnErr result (self.new ≡ self.old) }
+    {
+        if self.writer.is_none() {
+            match PacketWriter::new(self.alloc, self.limit) {
+                Ok(writer) => self.writer = Some(writer),
+                Err(_) => return Err(AllocError),
+            }
+        }
+        if let Some(writer) = &mut self.writer {
+            writer.begin(header);
+        }
+        Ok(())
     }
 
     /// How many bytes the packet has room for.
     pub(crate) fn room(&self) -> usize {
-        self.limit.saturating_sub(self.writer.bytes().len())
+        self.limit.saturating_sub(self.bytes().len())
     }
 
-    /// Puts a chunk behind the others, if it fits, and answers whether it did.
-    pub(crate) fn put<K: Chunk>(&mut self, chunk: &K) -> bool {
-        match self.writer.put(chunk) {
-            Ok(put) => put,
-            Err(_) => false,
+    /// Puts a chunk behind the others, if it fits, and answers whether it did. It changes nothing where the answer is no.
+    pub(crate) fn put<K: Chunk>(&mut self, chunk: &K) -> bool
+        ensures limit { self.new.limit ≡ self.old.limit }
+        ensures full { result ≡ false → self.new ≡ self.old }
+    {
+        match &mut self.writer {
+            Some(writer) => match writer.put(chunk) {
+                Ok(put) => put,
+                Err(_) => false,
+            },
+            None => false,
         }
     }
 
     /// Whether it has no chunk.
     pub(crate) fn is_empty(&self) -> bool {
-        self.writer.bytes().len() <= PACKET_HEADER_SIZE
+        self.bytes().len() <= PACKET_HEADER_SIZE
     }
 
     /// Writes the checksum, or 0 in its place.
-    pub(crate) fn seal(&mut self, is_zero: bool) {
+    pub(crate) fn seal(&mut self, is_zero: bool)
+        ensures limit { self.new.limit ≡ self.old.limit }
+    {
+        let Some(writer) = &mut self.writer else {
+            return;
+        };
         if is_zero {
-            self.writer.seal(&NoSum);
-        } else {
-            self.writer.seal(&Crc32c);
+            writer.seal(&NoSum);
+            return;
         }
+        writer.seal(&Crc32c);
     }
 
-    /// The bytes of the packet.
-    pub(crate) fn bytes(&self) -> &[u8] {
-        self.writer.bytes()
+    /// The bytes of the packet: none before the first.
+    pub(crate) fn bytes(&self) -> &[u8]
+        ensures value { result.now ≡ self.now.bytes }
+        ensures within { length result.now ≤ self.now.limit }
+    {
+        match &self.writer {
+            Some(writer) => writer.bytes(),
+            None => &[],
+        }
     }
 }

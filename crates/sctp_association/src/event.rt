@@ -1,6 +1,6 @@
 //! What an association tells its user.
 
-ghost use Rattle.std.specs.Prelude.{◌≡◌, IfSome, None};
+ghost use Rattle.std.specs.Prelude.{◌≡◌, IfSome, None, IfOk, OnErr, length, take};
 ghost use Rattle.sctp_association.specs.Events.{IsTold};
 
 use crate::stream_set::StreamSet;
@@ -47,6 +47,14 @@ pub enum Ending {
     Unanswered,
 }
 
+/// For how many streams on which we write there is room in each set of events.
+#[derive(Clone, Copy)]
+pub(crate) struct Rooms {
+    low: usize,
+    reset_by_us: usize,
+    reset_refused: usize,
+}
+
 /// The events that wait.
 #[derive(Drop)]
 pub(crate) struct Events {
@@ -64,6 +72,8 @@ pub(crate) struct Events {
 }
 
 impl Events {
+    ghost use Rattle.sctp_association.specs.Rooms.{without};
+
     /// None. It takes no memory.
     pub(crate) fn new(alloc: Global) -> Events {
         Events {
@@ -81,11 +91,51 @@ impl Events {
         }
     }
 
-    /// Makes room for the events of a stream on which we write.
-    pub(crate) fn reserve_outbound(&mut self, stream: u16) -> Result<(), AllocError> {
+    /// Makes room for the events of a stream on which we write, and answers what room there was. Refuses only for memory, and nothing has
+    /// changed then.
+    pub(crate) fn reserve_outbound(&mut self, stream: u16) -> Result<Rooms, AllocError>
+        ensures undo { IfOk result (λ rooms. without rooms self.new ≡ self.old) }
+        ensures err { OnErr result (self.new ≡ self.old) }
+    {
+        let rooms = Rooms {
+            low: self.low.room(),
+            reset_by_us: self.reset_by_us.room(),
+            reset_refused: self.reset_refused.room(),
+        };
+        match self.reserve_each(stream) {
+            Ok(()) => Ok(rooms),
+            Err(e) => {
+                self.shrink_outbound(rooms);
+                Err(e)
+            }
+        }
+    }
+
+    // The same, but after a refusal there may be more room than before.
+    fn reserve_each(&mut self, stream: u16) -> Result<(), AllocError>
+        ensures rest { self.new ≡ record self.old {
+          low = self.new.low;
+          reset_by_us = self.new.reset_by_us;
+          reset_refused = self.new.reset_refused;
+        } }
+        ensures low { take (length self.old.low) self.new.low ≡ self.old.low }
+        ensures by_us { take (length self.old.reset_by_us) self.new.reset_by_us
+            ≡ self.old.reset_by_us }
+        ensures refused { take (length self.old.reset_refused) self.new.reset_refused
+            ≡ self.old.reset_refused }
+    {
         self.low.reserve(stream)?;
         self.reset_by_us.reserve(stream)?;
         self.reset_refused.reserve(stream)
+    }
+
+    /// Gives up the room that was made past these rooms.
+    pub(crate) fn shrink_outbound(&mut self, rooms: Rooms)
+        ensures { self.new ≡ without rooms self.old }
+    {
+        self.low.shrink(rooms.low);
+        self.reset_by_us.shrink(rooms.reset_by_us);
+        self.reset_refused.shrink(rooms.reset_refused);
     }
 
     /// Makes room for the events of a stream on which the peer writes.

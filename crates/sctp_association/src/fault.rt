@@ -1,5 +1,7 @@
 //! Why a call of an association is refused.
 
+ghost use Rattle.std.specs.Prelude.{◌≡◌};
+
 use sctp_receiver::receiver::refusal::ReceiverRefusal;
 use sctp_sender::sender::refusal::SenderRefusal;
 use std::alloc::{AllocError, AllocFailed};
@@ -24,6 +26,10 @@ pub enum Fault {
 }
 
 impl From<AllocError> for Fault {
+    ghost use Rattle.sctp_association.specs.declared.fault.Fault.TheVariants.{OutOfMemory};
+
+    ghost from_gives = { λ _ r. r ≡ OutOfMemory };
+
     fn from(_e: AllocError) -> Fault {
         Fault::OutOfMemory
     }

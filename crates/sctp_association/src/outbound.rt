@@ -1,6 +1,18 @@
 //! What is sent, and when (RFC 9260 6.1, 6.3, 7.2; RFC 3758 3.5; RFC 7496 3.1).
 
-ghost use Rattle.std.specs.Prelude.{◌<◌, ◌≤◌};
+ghost use Rattle.std.specs.Prelude.{◌≡◌, ◌<◌, ◌≤◌, ◌==◌, not, true, false, None, Some, OnOk, OnErr, IfOk, IfErr, IsOk, length};
+ghost use Rattle.sctp_association.specs.declared.fault.Fault.TheVariants.{OutOfMemory};
+ghost use Rattle.sctp_association.specs.Waiting.{IsRefusal, closed_where, fault_of, opened, waiting_fault};
+ghost use Rattle.sctp_sender.specs.Settings.{with_low_on};
+ghost use Rattle.sctp_stream.specs.declared.outbound_stream.OutboundStream.{OutboundStream};
+ghost use Rattle.sctp_association.specs.Sending.{EndsWithin, IsTimed, is_none_of, t3_after, t3_time};
+ghost use Rattle.sctp_outbound.specs.Outstanding.{outstanding_of};
+ghost use Rattle.sctp_outbound.specs.pending_queue.PendingQueue.{chunk_count};
+ghost use Rattle.sctp_path.specs.Congestion.{after_timeout};
+ghost use Rattle.sctp_path.specs.Rto.{after_back_off};
+ghost use Rattle.sctp_path.specs.Timers.{is_due, is_passed, one_more};
+ghost use Rattle.sctp_sender.specs.Resending.{all_marked};
+ghost use Rattle.sctp_sender.specs.Sender.{is_open, stream_of, with_flight, with_mode_on, written_to};
 
 mod acks;
 mod sending;
@@ -10,6 +22,7 @@ use crate::fault::Fault;
 use bytes::Bytes;
 use sctp_data::chunk::chunk_payload_data::{PayloadProtocolIdentifier, ReliabilityType};
 use sctp_path::{Congestion, Failures, Rto, RtoLimits, Timer};
+use sctp_sender::sender::refusal::SenderRefusal;
 use sctp_sender::sender::{Dropped, Reported, Sender};
 use std::alloc::Global;
 
@@ -26,6 +39,7 @@ pub(crate) struct OutboundConfig {
     pub(crate) mtu: usize,
     pub(crate) max_message_size: u32,
     pub(crate) most_waiting: usize,
+    pub(crate) most_in_flight: usize,
     pub(crate) max_retrans: u32,
     pub(crate) rto: RtoLimits,
 }
@@ -40,6 +54,10 @@ pub(crate) struct Outbound {
     failures: Failures,
     mtu: usize,
     most_waiting: usize,
+    // The most chunks in flight beside the last ones of abandoned messages.
+    most_in_flight: usize,
+    // When DATA left last, or the congestion window was lowered for idle time.
+    used: u64,
     // The credit of the last SACK, or of the handshake.
     pub(crate) peer_window: usize,
     // How many bytes were outstanding when the burst began that is under way.
@@ -62,6 +80,17 @@ fn fragment_of(pmdcs: usize) -> u32
     pmdcs.saturating_sub(DATA_HEADER).min(65_519).max(1) as u32
 }
 
+// What an application is told, where its message is not taken.
+fn fault_of(refusal: SenderRefusal) -> Fault
+    ensures { result ≡ fault_of refusal }
+{
+    match refusal {
+        SenderRefusal::MessageTooLarge => Fault::MessageTooLarge,
+        SenderRefusal::QueueFull => Fault::Full,
+        _ => Fault::OutOfMemory,
+    }
+}
+
 impl Outbound {
     /// Nothing is written. It takes no memory.
     pub(crate) fn new(alloc: Global, config: OutboundConfig) -> Outbound {
@@ -80,6 +109,8 @@ impl Outbound {
             timer: Timer::new(),
             failures: Failures::new(config.max_retrans),
             most_waiting: config.most_waiting,
+            most_in_flight: config.most_in_flight,
+            used: 0,
             peer_window: 0,
             burst: None,
             is_partial: false,
@@ -96,56 +127,150 @@ impl Outbound {
         self.is_partial = is_partial;
     }
 
-    /// Takes a message, on a stream that opens by that. Where a refusal is for memory the stream may be open.
+    /// Takes a message, on a stream that opens by that. Nothing has changed after a refusal.
+    #[tactic(auto, using(crate::proofs::Opened::restored))]
     pub(crate) fn write(
         &mut self,
         stream: u16,
         ppi: PayloadProtocolIdentifier,
         bytes: &Bytes,
-    ) -> Result<(), Fault> {
+    ) -> Result<(), Fault>
+        ensures ok { 0 < length bytes.now → OnOk result ((l : OutboundStream)
+            → stream_of stream (opened stream self.old.sender) ≡ Some l
+            → self.new ≡ record self.old {
+              sender = written_to l stream ppi bytes.now
+                  (opened stream self.old.sender);
+            }) }
+        ensures accepted { IsOk result → waiting_fault stream (length bytes.now)
+            self.old.most_waiting self.old.sender ≡ None }
+        ensures refused { IfErr result (λ e. IsRefusal e (waiting_fault stream (length bytes.now)
+            self.old.most_waiting self.old.sender)) }
+        ensures err { OnErr result (self.new ≡ self.old) }
+    {
         let waiting = self.sender.outbound().pending_bytes();
-        if waiting.saturating_add(bytes.len()) > self.most_waiting {
+        if bytes.len() > self.most_waiting.saturating_sub(waiting) {
             return Err(Fault::Full);
         }
-        self.open(stream)?;
-        self.sender.write(stream, ppi, bytes)?;
-        Ok(())
-    }
-
-    /// Opens a stream, unless it is open.
-    pub(crate) fn open(&mut self, stream: u16) -> Result<(), Fault> {
-        if self.sender.stream(stream).is_none() {
-            self.sender.open(stream)?;
+        let is_new = self.open(stream)?;
+        match self.sender.write(stream, ppi, bytes) {
+            Ok(_) => Ok(()),
+            Err(refusal) => {
+                self.close_again(stream, is_new);
+                Err(fault_of(refusal))
+            }
         }
-        Ok(())
     }
 
-    /// Sets the mode of what is written to a stream from now on; the stream opens by that.
+    /// Opens a stream, unless it is open, and answers whether it did. Refuses only for memory, and nothing has changed then.
+    pub(crate) fn open(&mut self, stream: u16) -> Result<bool, Fault>
+        ensures ok { OnOk result (self.new
+            ≡ record self.old { sender = opened stream self.old.sender }) }
+        ensures did { IfOk result (λ did. did ≡ not (is_open stream self.old.sender)) }
+        ensures memory { IfErr result (λ e. e ≡ OutOfMemory) }
+        ensures err { OnErr result (self.new ≡ self.old) }
+    {
+        if self.sender.stream(stream).is_some() {
+            return Ok(false);
+        }
+        match self.sender.open(stream) {
+            Ok(()) => Ok(true),
+            Err(_) => Err(Fault::OutOfMemory),
+        }
+    }
+
+    // Closes a stream again, where a call opened it.
+    fn close_again(&mut self, stream: u16, was_opened: bool)
+        ensures { self.new ≡ record self.old {
+          sender = closed_where was_opened stream self.old.sender;
+        } }
+    {
+        if was_opened {
+            self.sender.close(stream);
+        }
+    }
+
+    /// Sets the mode of what is written to a stream from now on; the stream opens by that. Refuses only for memory, and nothing has
+    /// changed then.
+    #[tactic(auto, using(crate::proofs::Opened::opened_is))]
     pub(crate) fn set_mode(
         &mut self,
         stream: u16,
         unordered: bool,
         reliability: ReliabilityType,
         value: u32,
-    ) -> Result<(), Fault> {
+    ) -> Result<(), Fault>
+        ensures ok { OnOk result (self.new ≡ record self.old {
+          sender = with_mode_on stream
+              unordered reliability value (opened stream self.old.sender);
+        }) }
+        ensures memory { IfErr result (λ e. e ≡ OutOfMemory) }
+        ensures err { OnErr result (self.new ≡ self.old) }
+    {
         self.open(stream)?;
-        self.sender.set_mode(stream, unordered, reliability, value)?;
-        Ok(())
+        match self.sender.set_mode(stream, unordered, reliability, value) {
+            Ok(()) => Ok(()),
+            Err(_) => unreachable!(),
+        }
     }
 
-    /// When T3-rtx runs out.
-    pub(crate) fn next_time(&self) -> Option<u64> {
+    /// Sets the amount of a stream down to which a fall is told; the stream opens by that. Refuses only for memory, and nothing has changed
+    /// then.
+    #[tactic(auto, using(crate::proofs::Opened::opened_is))]
+    pub(crate) fn set_low(&mut self, stream: u16, bytes: usize) -> Result<(), Fault>
+        ensures ok { OnOk result (self.new ≡ record self.old {
+          sender = with_low_on stream bytes (opened stream self.old.sender);
+        }) }
+        ensures memory { IfErr result (λ e. e ≡ OutOfMemory) }
+        ensures err { OnErr result (self.new ≡ self.old) }
+    {
+        self.open(stream)?;
+        match self.sender.set_buffered_amount_low_threshold(stream, bytes) {
+            Ok(()) => Ok(()),
+            Err(_) => unreachable!(),
+        }
+    }
+
+    /// Packets have at most so many bytes from now on, and what is written is cut to that (RFC 9260 7.3). Call it where nothing waits or is in
+    /// flight, or with more bytes than before.
+    pub(crate) fn set_mtu(&mut self, mtu: usize) {
+        self.mtu = mtu;
+        self.congestion.set_mtu(mtu);
+        self.sender
+            .set_fragment_size(fragment_of(self.congestion.pmdcs()));
+    }
+
+    /// When T3-rtx runs out. Where it does not run though something is in flight, it is to be started at once.
+    pub(crate) fn next_time(&self) -> Option<u64>
+        ensures { result ≡ t3_time self.now.sender.flight.queue.inflight.chunks self.now.timer.at }
+    {
+        if self.timer.at().is_none() && self.sender.outbound().inflight_len() > 0 {
+            return Some(0);
+        }
         self.timer.at()
+    }
+
+    /// Whether a chunk is in flight.
+    pub(crate) fn is_in_flight(&self) -> bool
+        ensures { result ≡ not (is_none_of self.now.sender.flight.queue.inflight.chunks) }
+    {
+        self.sender.outbound().inflight_len() > 0
+    }
+
+    /// Whether a chunk waits.
+    pub(crate) fn is_waiting(&self) -> bool
+        ensures { result ≡ not (chunk_count self.now.sender.flight.queue.pending == 0) }
+    {
+        self.sender.outbound().pending_len() > 0
     }
 
     /// Whether nothing waits and nothing is in flight.
     pub(crate) fn is_drained(&self) -> bool {
-        self.sender.outbound().inflight_len() == 0 && self.sender.outbound().pending_len() == 0
+        !self.is_in_flight() && !self.is_waiting()
     }
 
     /// Whether something waits, or is to be sent again.
     pub(crate) fn has_data(&self) -> bool {
-        self.has_lost || self.sender.outbound().pending_len() > 0
+        self.has_lost || self.is_waiting()
     }
 
     /// A HEARTBEAT was answered after this time (RFC 9260 8.3).
@@ -155,19 +280,43 @@ impl Outbound {
     }
 
     /// A HEARTBEAT was not answered. Answers whether it was so once too often (RFC 9260 8.1).
-    pub(crate) fn count_failure(&mut self) -> bool {
+    pub(crate) fn count_failure(&mut self) -> bool
+        ensures counted { self.new.failures ≡ one_more self.old.failures }
+        ensures passed { result ≡ is_passed self.new.failures }
+        ensures rest { self.new ≡ record self.old {
+          rto = self.new.rto;
+          failures = self.new.failures;
+        } }
+    {
         self.rto.backed_off();
         self.failures.count()
     }
 
     // How many bytes are under way: sent, and neither acknowledged nor abandoned nor taken for lost (RFC 9260 7.2).
-    fn flight(&self) -> usize {
+    fn flight(&self) -> usize
+        ensures { result ≡ (outstanding_of self.now.sender.flight.queue.inflight.chunks).bytes }
+    {
         self.sender.outstanding().bytes
     }
 
-    /// T3-rtx ran out, if it did (RFC 9260 6.3.3). Answers whether it did so once too often (8.1).
-    pub(crate) fn time_out(&mut self, now: u64) -> bool {
+    /// T3-rtx ran out, if it did (RFC 9260 6.3.3). Answers whether it did so once too often (8.1). It runs then while something is in flight.
+    pub(crate) fn time_out(&mut self, now: u64) -> bool
+        ensures waits { is_due now self.old.timer.at ≡ false → (result ≡ false)
+            × (self.new ≡ record self.old { timer = self.new.timer }) }
+        ensures counted { is_due now self.old.timer.at ≡ true
+            → (self.new.failures ≡ one_more self.old.failures)
+            × (result ≡ is_passed self.new.failures) }
+        ensures backed_off { is_due now self.old.timer.at ≡ true
+            → (self.new.rto ≡ after_back_off self.old.rto)
+            × (self.new.congestion ≡ after_timeout self.old.congestion) }
+        ensures marked { is_due now self.old.timer.at ≡ true → self.new.sender
+            ≡ with_flight (all_marked self.old.sender.flight) self.old.sender }
+        ensures timed { IsTimed self.new.sender.flight.queue.inflight.chunks self.new.timer.at }
+        ensures soon { EndsWithin now self.new.rto.limits.most self.old.timer.at
+            self.new.timer.at }
+    {
         if !self.timer.is_due(now) {
+            self.run_timer(now);
             return false;
         }
         self.timer.stop();
@@ -182,7 +331,14 @@ impl Outbound {
     }
 
     // The timer runs while a chunk is in flight; an abandoned one is until a SACK passes it (RFC 9260 6.3.2; RFC 3758 3.5).
-    fn run_timer(&mut self, now: u64) {
+    fn run_timer(&mut self, now: u64)
+        ensures at { self.new.timer.at ≡ t3_after now self.old.rto.rto
+            self.old.sender.flight.queue.inflight.chunks self.old.timer.at }
+        ensures rest { self.new ≡ record self.old { timer = self.new.timer } }
+        ensures timed { IsTimed self.new.sender.flight.queue.inflight.chunks self.new.timer.at }
+        ensures soon { EndsWithin now self.new.rto.limits.most self.old.timer.at
+            self.new.timer.at }
+    {
         if self.sender.outbound().inflight_len() == 0 {
             self.timer.stop();
         } else {

@@ -1,6 +1,6 @@
 //! Sets of stream numbers.
 
-ghost use Rattle.std.specs.Prelude.{◌≡◌, ◌==◌, ◌<◌, ◌≤◌, ℕ, [], true, false, Some, IfSome, OnOk, OnErr, get_or, length, if◌then◌else◌};
+ghost use Rattle.std.specs.Prelude.{◌≡◌, ◌==◌, ◌<◌, ◌≤◌, ℕ, [], true, false, Some, IfSome, OnOk, OnErr, get_or, length, take, if◌then◌else◌};
 ghost use Rattle.sctp_association.specs.StreamSet.{IsLeastIn, IsEmpty, is_in};
 
 use std::alloc::{AllocError, Global};
@@ -44,12 +44,29 @@ impl StreamSet {
         ensures same { (n : ℕ) → is_in n self.new ≡ is_in n self.old }
         ensures room { OnOk result (stream < length self.new) }
         ensures kept { length self.old ≤ length self.new }
+        ensures begins { take (length self.old) self.new ≡ self.old }
+        ensures err { OnErr result (self.new ≡ self.old) }
     {
         let wanted = stream as usize + 1;
         if self.flags.len() < wanted {
             self.flags.resize(wanted, false)?;
         }
         Ok(())
+    }
+
+    /// For how many numbers there is room: those below this one.
+    pub(crate) fn room(&self) -> usize
+        ensures { result ≡ length self.now }
+    {
+        self.flags.len()
+    }
+
+    /// Gives up the room past so many numbers. It takes no memory.
+    pub(crate) fn shrink(&mut self, room: usize)
+        ensures { self.new ≡ take room self.old }
+    {
+        self.flags.truncate(room);
+        self.is_any = true;
     }
 
     /// Puts a number into it, if there is room for it (`reserve`). It takes no memory.

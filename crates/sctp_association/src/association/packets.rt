@@ -1,5 +1,7 @@
 //! What goes into a datagram (RFC 9260 6.10, 8.5).
 
+ghost use Rattle.std.specs.Prelude.{◌≡◌, ◌≤◌, None, Ok, true, false, length};
+
 use super::Association;
 use crate::due::{Alone, AloneKind};
 use crate::fault::Fault;
@@ -25,7 +27,10 @@ const DTLS: [u8; 4] = [0, 0, 0, 1];
 impl Association {
     /// Writes the next datagram that is due, of at most `Config::mtu` bytes, and answers whether there is one: `datagram` lends it. Call it
     /// until there is none. Refuses only for memory, where nothing else can be sent.
-    pub fn poll_transmit(&mut self, now: u64) -> Result<bool, Fault> {
+    pub fn poll_transmit(&mut self, now: u64) -> Result<bool, Fault>
+        ensures over { self.old.is_over ≡ true → self.old.due.alone ≡ None
+            → (result ≡ Ok false) × (self.new ≡ self.old) }
+    {
         if let Some(alone) = self.due.alone {
             self.put_alone(alone, now)?;
             self.due.alone = None;
@@ -41,7 +46,7 @@ impl Association {
         };
         let is_zero = peer.zero_checksum && self.config.zero_checksum && !self.due.cookie_echo;
         let header = self.header(peer.tag);
-        self.draft.begin(header);
+        self.draft.begin(header)?;
         let filled = self.fill(now);
         if self.draft.is_empty() {
             filled?;
@@ -52,7 +57,10 @@ impl Association {
     }
 
     /// The datagram that `poll_transmit` wrote last.
-    pub fn datagram(&self) -> &[u8] {
+    pub fn datagram(&self) -> &[u8]
+        ensures value { result.now ≡ self.now.draft.bytes }
+        ensures fits { length result.now ≤ self.now.draft.limit }
+    {
         self.draft.bytes()
     }
 
@@ -68,7 +76,7 @@ impl Association {
     // Writes a packet of one reply.
     fn put_alone(&mut self, alone: Alone, now: u64) -> Result<(), Fault> {
         let header = self.header(alone.tag);
-        self.draft.begin(header);
+        self.draft.begin(header)?;
         match alone.kind {
             AloneKind::Init => {
                 let init = self.init_of(self.machine.own(), None)?;

@@ -58,8 +58,9 @@ impl Association {
         if !is_known {
             return Err(Fault::NoSuchStream);
         }
-        self.events.reserve_outbound(stream)?;
+        let rooms = self.events.reserve_outbound(stream)?;
         if self.requests.ask(stream).is_err() {
+            self.events.shrink_outbound(rooms);
             return Err(Fault::OutOfMemory);
         }
         Ok(())

@@ -1,15 +1,52 @@
 //! When something is to be done though nothing came (RFC 9260 6.3.3, 8.1, 8.3, 9.2).
 
+ghost use Rattle.std.specs.Prelude.{◌≡◌, ◌⊎◌, None, true, false, option_map};
+ghost use Rattle.sctp_association.specs.Sending.{IsTimed, t3_time};
+ghost use Rattle.sctp_path.specs.Timers.{is_due, is_passed, one_more};
+ghost use Rattle.sctp_reset.specs.Own.{time_of};
+
 use super::Association;
+use crate::due::{Alone, AloneKind, Due};
 use crate::event::Ending;
-use sctp_handshake::State;
+use sctp_handshake::{Reply, State};
 use sctp_path::earliest;
 
+// What is sent again is due, to the peer, or with tag 0 where that is an INIT (RFC 9260 8.5.1).
+fn owe_again(due: &mut Due, reply: Reply) {
+    match reply {
+        Reply::Init => {
+            due.alone = Some(Alone {
+                tag: 0,
+                kind: AloneKind::Init,
+            });
+        }
+        Reply::CookieEcho => due.cookie_echo = true,
+        Reply::Shutdown => due.shutdown = true,
+        Reply::ShutdownAck => due.shutdown_ack = true,
+        _ => {}
+    }
+}
+
 impl Association {
-    /// The earliest moment at which `handle_timeout` and `poll_transmit` have something to do, though nothing comes; None where there is none.
-    pub fn poll_timeout(&self) -> Option<u64> {
+    ghost use Rattle.sctp_association.specs.Still.{IsBy, IsStill, is_behind};
+    ghost use Rattle.sctp_association.specs.Failing.{IsCounted, IsTimedOut};
+
+    /// The earliest moment at which `handle_timeout` and `poll_transmit` have something to do, though nothing comes; 0 where they have it now.
+    /// None only where nothing waits, nothing is in flight, and no handshake, shutdown or reset is under way.
+    pub fn poll_timeout(&self) -> Option<u64>
+        ensures still { result ≡ None → IsStill self.now }
+        ensures control { self.now.is_over ≡ false → IsBy self.now.control.at result }
+        ensures t3 { self.now.is_over ≡ false → IsBy (t3_time
+            self.now.outbound.sender.flight.queue.inflight.chunks self.now.outbound.timer.at)
+            result }
+        ensures request { self.now.is_over ≡ false
+            → IsBy (option_map time_of self.now.requests.under_way) result }
+    {
         if self.is_over {
             return None;
+        }
+        if self.is_behind() {
+            return Some(0);
         }
         let mut at = earliest(self.control.at(), self.outbound.next_time());
         at = earliest(at, self.requests.next_time());
@@ -17,6 +54,21 @@ impl Association {
             at = earliest(at, inbound.delay.at());
         }
         earliest(at, self.next_heartbeat())
+    }
+
+    // Whether something is to be done for which no timer runs: the timer of the state is to begin, or nothing is in flight and what waits can go.
+    fn is_behind(&self) -> bool
+        ensures { result ≡ is_behind self.now }
+    {
+        let state = self.machine.state();
+        if state.timer().is_some() {
+            return self.control.at().is_none();
+        }
+        if state == State::Closed || self.outbound.is_in_flight() {
+            return false;
+        }
+        let has_request = self.requests.next_time().is_none() && !self.requests.is_idle();
+        self.outbound.is_waiting() || has_request
     }
 
     // When the next HEARTBEAT is due.
@@ -30,30 +82,65 @@ impl Association {
         }
     }
 
-    /// Does what is due by now: timers that ran out, and what failed too often.
-    pub fn handle_timeout(&mut self, now: u64) {
+    /// Does what is due by now: timers that ran out, and what failed too often. Each expiry of T3-rtx is counted (RFC 9260 8.1), and each of T1 and
+    /// T2 (4, 9.2): past its limit the association is over.
+    pub fn handle_timeout(&mut self, now: u64)
+        ensures over { self.old.is_over ≡ true → self.new ≡ self.old }
+        ensures t3 { self.old.is_over ≡ false → is_due now self.old.outbound.timer.at ≡ true
+            → (self.new.is_over ≡ true) ⊎ IsCounted self.old.outbound.failures
+            self.new.outbound.failures }
+        ensures control { self.old.is_over ≡ false → is_due now self.old.control.at ≡ true
+            → (self.new.is_over ≡ true) ⊎ IsTimedOut self.old.machine self.new.machine }
+        ensures timed { (self.new.is_over ≡ true)
+            ⊎ IsTimed self.new.outbound.sender.flight.queue.inflight.chunks
+            self.new.outbound.timer.at }
+    {
         if self.is_over {
             return;
         }
-        if self.control.is_due(now) {
-            self.time_out_control(now);
-        }
+        self.time_out_control(now);
         if self.outbound.time_out(now) || self.has_failed(now) {
             self.fail();
         }
     }
 
-    // T1 or T2 ran out (RFC 9260 5.1, 9.2).
-    fn time_out_control(&mut self, now: u64) {
-        self.outbound.rto.backed_off();
-        let before = self.machine.state();
-        let answer = self.machine.timed_out();
-        self.follow(before, answer, 0, now);
-        self.run_control(now);
+    // T1 or T2 ran out (RFC 9260 5.1, 9.2). Where the state has a timer, it runs then.
+    fn time_out_control(&mut self, now: u64)
+        ensures control { is_due now self.old.control.at ≡ true
+            → (self.new.is_over ≡ true) ⊎ IsTimedOut self.old.machine self.new.machine }
+        ensures outbound { self.new.outbound
+            ≡ record self.old.outbound { rto = self.new.outbound.rto } }
+    {
+        if self.control.is_due(now) {
+            self.outbound.rto.backed_off();
+            let answer = self.machine.timed_out();
+            if let Some(reply) = answer.reply {
+                owe_again(&mut self.due, reply);
+            }
+            self.control.stop();
+            if answer.told.is_some() {
+                self.end(Ending::Unanswered);
+            }
+        }
+        match self.machine.state().timer() {
+            Some(_) => self.control.start(now, self.outbound.rto.get()),
+            None => self.control.stop(),
+        }
     }
 
     // Whether a HEARTBEAT or a request to reset was not answered once too often (RFC 9260 8.1, 8.3; RFC 6525 5.1.1).
-    fn has_failed(&mut self, now: u64) -> bool {
+    fn has_failed(&mut self, now: u64) -> bool
+        ensures rest { self.new ≡ record self.old {
+          outbound = record self.old.outbound {
+            rto = self.new.outbound.rto;
+            failures = self.new.outbound.failures;
+          };
+        } }
+        ensures counted { self.new.outbound.failures ≡ self.old.outbound.failures
+            ⊎ self.new.outbound.failures ≡ one_more self.old.outbound.failures }
+        ensures passed { result ≡ false → is_passed self.old.outbound.failures ≡ false
+            → is_passed self.new.outbound.failures ≡ false }
+    {
         let is_asked = match self.requests.due(now) {
             Some(request) => request.unanswered > self.config.max_retrans,
             None => false,
@@ -73,7 +160,9 @@ impl Association {
     }
 
     // The peer answers nothing any more (RFC 9260 8.1).
-    fn fail(&mut self) {
+    fn fail(&mut self)
+        ensures { self.new.is_over ≡ true }
+    {
         let _answer = self.machine.abort();
         self.end(Ending::Unanswered);
     }

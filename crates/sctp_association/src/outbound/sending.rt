@@ -1,5 +1,10 @@
 //! What goes into a packet (RFC 9260 6.1, 6.10).
 
+ghost use Rattle.std.specs.Prelude.{◌≡◌, ◌<◌, ◌≤◌, true, false, IfOk, IfSome, OnErr, length};
+ghost use Rattle.sctp_association.specs.Sending.{IsTimed, idle_times, lowered_times, lowered, may_send_again, may_send_next};
+ghost use Rattle.sctp_outbound.specs.Outstanding.{outstanding_of};
+ghost use Rattle.sctp_outbound.specs.pending_queue.PendingQueue.{next_pending};
+
 use super::{DATA_HEADER, Outbound};
 use crate::draft::Draft;
 use crate::fault::Fault;
@@ -8,23 +13,40 @@ use sctp_sender::sender::refusal::SenderRefusal;
 // More chunks than a packet has room for.
 const MOST_CHUNKS: usize = 4096;
 
+// After so many RTOs the congestion window is at its least.
+const MOST_HALVINGS: u64 = 64;
+
 // How long a DATA chunk with so many bytes of user data is, with its padding.
 fn data_length(bytes: usize) -> usize {
     DATA_HEADER.saturating_add(bytes.saturating_add(3) & !3)
 }
 
 impl Outbound {
-    /// Puts the FORWARD-TSN that is due, what is to be sent again, and what waits, as far as they fit and may be sent.
-    pub(crate) fn put(&mut self, packet: &mut Draft, now: u64) -> Result<(), Fault> {
+    /// Puts the FORWARD-TSN that is due, what is to be sent again, and what waits, as far as they fit and may be sent. T3-rtx runs then, after
+    /// a refusal too, while something is in flight.
+    pub(crate) fn put(&mut self, packet: &mut Draft, now: u64) -> Result<(), Fault>
+        ensures timed { IsTimed self.new.sender.flight.queue.inflight.chunks self.new.timer.at }
+        ensures limit { packet.new.limit ≡ packet.old.limit }
+    {
+        let filled = self.put_all(packet, now);
+        self.run_timer(now);
+        filled
+    }
+
+    // The same, but the timer stays as it is.
+    fn put_all(&mut self, packet: &mut Draft, now: u64) -> Result<(), Fault>
+        ensures limit { packet.new.limit ≡ packet.old.limit }
+    {
         self.put_skip(packet)?;
         self.put_lost(packet, now)?;
-        self.put_new(packet, now)?;
-        self.run_timer(now);
-        Ok(())
+        self.put_new(packet, now)
     }
 
     // Puts the FORWARD-TSN that is due (RFC 3758 3.5 C3, F2), before any DATA.
-    fn put_skip(&mut self, packet: &mut Draft) -> Result<(), Fault> {
+    fn put_skip(&mut self, packet: &mut Draft) -> Result<(), Fault>
+        ensures limit { packet.new.limit ≡ packet.old.limit }
+        ensures err { OnErr result (self.new ≡ self.old) }
+    {
         if !self.is_skip_due {
             return Ok(());
         }
@@ -36,67 +58,147 @@ impl Outbound {
     }
 
     // Puts what is to be sent again, from the first on (RFC 9260 6.1 C, 6.3.3 E3, 7.2.4).
-    fn put_lost(&mut self, packet: &mut Draft, now: u64) -> Result<(), Fault> {
+    fn put_lost(&mut self, packet: &mut Draft, now: u64) -> Result<(), Fault>
+        ensures limit { packet.new.limit ≡ packet.old.limit }
+    {
         let is_fast = self.is_fast;
         for _ in 0..MOST_CHUNKS {
-            let flight = self.flight();
-            if !is_fast && flight > 0 && !self.congestion.may_send(flight) {
+            if !self.put_again(packet, is_fast, now)? {
                 break;
             }
-            let Some(chunk) = self.sender.resend_next(now, packet.room())? else {
-                // Where none is marked, what waits may go.
-                if self.sender.outstanding().marked == 0 {
-                    self.has_lost = false;
-                }
-                break;
-            };
-            self.is_fast = false;
-            packet.put(&chunk);
         }
         Ok(())
     }
 
-    // How many bytes may be outstanding in the burst that is under way (RFC 9260 6.1 D).
-    fn burst_limit(&mut self, flight: usize) -> usize {
+    // Sends the first chunk again that is marked, where it may go and fits, and answers whether it did.
+    fn put_again(&mut self, packet: &mut Draft, is_fast: bool, now: u64) -> Result<bool, Fault>
+        ensures sent { IfOk result (λ sent. sent ≡ true → may_send_again is_fast
+            (outstanding_of self.old.sender.flight.queue.inflight.chunks).bytes
+            self.old.congestion ≡ true) }
+        ensures held { IfOk result (λ sent. sent ≡ false
+            → (self.new.sender ≡ self.old.sender) × (packet.new ≡ packet.old)) }
+        ensures err { OnErr result ((self.new ≡ self.old) × (packet.new ≡ packet.old)) }
+        ensures limit { packet.new.limit ≡ packet.old.limit }
+    {
+        if !is_fast && !self.congestion.may_send(self.flight()) {
+            return Ok(false);
+        }
+        let Some(chunk) = self.sender.resend_next(now, packet.room())? else {
+            // Where none is marked, what waits may go.
+            if self.sender.outstanding().marked == 0 {
+                self.has_lost = false;
+            }
+            return Ok(false);
+        };
+        self.is_fast = false;
+        self.used = now;
+        packet.put(&chunk);
+        Ok(true)
+    }
+
+    // Puts what waits, where nothing is left to be sent again (RFC 9260 6.1 C). While nothing is in flight the congestion window falls.
+    fn put_new(&mut self, packet: &mut Draft, now: u64) -> Result<(), Fault>
+        ensures limit { packet.new.limit ≡ packet.old.limit }
+    {
+        if self.has_lost || self.sender.outbound().pending_len() == 0 {
+            return Ok(());
+        }
+        if self.sender.outbound().inflight_len() == 0 {
+            self.note_idle(now);
+        }
+        for _ in 0..MOST_CHUNKS {
+            if !self.put_next(packet, now)? {
+                break;
+            }
+        }
+        Ok(())
+    }
+
+    // Lowers the congestion window for an idle RTO, where it is more than four packets.
+    fn lower(&mut self)
+        ensures { self.new ≡ record self.old { congestion = lowered self.old.congestion } }
+    {
+        if self.congestion.window() / 4 > self.congestion.pmdcs() {
+            self.congestion.idled();
+        }
+    }
+
+    // Lowers the congestion window once for each RTO since DATA left last (RFC 9260 7.2.1).
+    fn note_idle(&mut self, now: u64)
+        ensures idled { self.new.congestion ≡ lowered_times
+            (idle_times now self.old.used self.old.rto.rto) self.old.congestion }
+        ensures rest { self.new ≡ record self.old {
+          congestion = self.new.congestion;
+          used = self.new.used;
+        } }
+    {
+        let rto = self.rto.get().max(1);
+        let times = (now.saturating_sub(self.used) / rto).min(MOST_HALVINGS);
+        for _step in 0..times {
+            self.lower();
+        }
+        if times > 0 {
+            self.used = now;
+        }
+    }
+
+    // Whether so many bytes more may be sent, by both windows, the burst and the most chunks in flight (RFC 9260 6.1 A, B, D).
+    fn may_send(&self, bytes: usize) -> bool
+        ensures { result ≡ may_send_next bytes self.now.most_in_flight self.now.peer_window
+            self.now.burst self.now.congestion self.now.sender.flight.queue.inflight.chunks }
+    {
+        if self.sender.outbound().inflight_len() >= self.most_in_flight {
+            return false;
+        }
+        let flight = self.flight();
+        if flight == 0 {
+            return true;
+        }
+        if flight as u128 + bytes as u128 > self.peer_window as u128 {
+            return false;
+        }
+        if !self.congestion.may_send(flight) {
+            return false;
+        }
         let base = match self.burst {
             Some(base) => base,
             None => flight,
         };
-        self.burst = Some(base);
-        self.congestion.burst_limit(base)
+        flight < self.congestion.burst_limit(base)
     }
 
-    // Whether so many bytes more may be sent (RFC 9260 6.1 A, B, D): one chunk may, where nothing is outstanding.
-    fn may_send(&mut self, bytes: usize, flight: usize) -> bool {
-        if flight == 0 {
-            self.burst = None;
-            return true;
+    // Sends the first chunk that waits, where it may go and fits, and answers whether it did (RFC 9260 6.1).
+    fn put_next(&mut self, packet: &mut Draft, now: u64) -> Result<bool, Fault>
+        ensures sent { IfOk result (λ sent. sent ≡ true
+            → IfSome (next_pending self.old.sender.flight.queue.pending) (λ c. may_send_next
+            (length c.user_data) self.old.most_in_flight self.old.peer_window self.old.burst
+            self.old.congestion self.old.sender.flight.queue.inflight.chunks ≡ true)) }
+        ensures held { IfOk result (λ sent. sent ≡ false
+            → (self.new ≡ self.old) × (packet.new ≡ packet.old)) }
+        ensures err { OnErr result ((self.new ≡ self.old) × (packet.new ≡ packet.old)) }
+        ensures limit { packet.new.limit ≡ packet.old.limit }
+    {
+        let Some(chunk) = self.sender.outbound().peek_pending() else {
+            return Ok(false);
+        };
+        let bytes = chunk.user_data.len();
+        if data_length(bytes) > packet.room() || !self.may_send(bytes) {
+            return Ok(false);
         }
-        flight.saturating_add(bytes) <= self.peer_window && flight < self.burst_limit(flight)
-    }
-
-    // Puts what waits, where nothing is left to be sent again and the peer has room (RFC 9260 6.1).
-    fn put_new(&mut self, packet: &mut Draft, now: u64) -> Result<(), Fault> {
-        if self.has_lost {
-            return Ok(());
+        let flight = self.flight();
+        let sent = match self.sender.send_next(now) {
+            Ok(sent) => sent,
+            Err(SenderRefusal::SsnsUsedUp) => return Ok(false),
+            Err(e) => return Err(Fault::from(e)),
+        };
+        self.burst = Some(match self.burst {
+            Some(base) if flight > 0 => base,
+            _ => flight,
+        });
+        self.used = now;
+        if let Some(chunk) = sent {
+            packet.put(&chunk);
         }
-        for _ in 0..MOST_CHUNKS {
-            let Some(chunk) = self.sender.outbound().peek_pending() else {
-                break;
-            };
-            let bytes = chunk.user_data.len();
-            let flight = self.flight();
-            if data_length(bytes) > packet.room() || !self.may_send(bytes, flight) {
-                break;
-            }
-            match self.sender.send_next(now) {
-                Ok(Some(chunk)) => {
-                    packet.put(&chunk);
-                }
-                Ok(None) | Err(SenderRefusal::SsnsUsedUp) => break,
-                Err(e) => return Err(Fault::from(e)),
-            }
-        }
-        Ok(())
+        Ok(true)
     }
 }

@@ -1,0 +1,17 @@
+-- What is counted until an association is over (RFC 9260 4, 8.1, 9.2).
+use Rattle.std.specs.Prelude.{◌≡◌, ◌≤◌, false, is_some}
+use Rattle.sctp_handshake.specs.declared.machine.Machine.{Machine}
+use Rattle.sctp_handshake.specs.Timeouts.{on_timed_out}
+use Rattle.sctp_path.specs.declared.failures.Failures.{Failures}
+use Rattle.sctp_path.specs.Timers.{is_passed, one_more}
+
+-- one failure more at least is counted, and the limit is not passed
+pub record IsCounted (old new : Failures) : Type 0 where
+  pub more : (one_more old).count ≤ new.count
+  pub within : is_passed new ≡ false
+  pub limit : new.most ≡ old.most
+
+-- what waits for its answer is sent again, and that is counted
+pub record IsTimedOut (old new : Machine) : Type 0 where
+  pub machine : new ≡ (on_timed_out old).machine
+  pub goes_on : is_some (on_timed_out old).answer.told ≡ false

@@ -1,0 +1,71 @@
+-- When DATA leaves, and when T3-rtx runs (RFC 9260 6.1, 6.3.2, 7.2). Amounts are bytes, moments nanoseconds.
+use Rattle.std.specs.Prelude.{◌≡◌, ℕ, zero, suc, ◌+◌, ◌-◌, ◌/◌, ◌≤◌, ◌==◌, Bool, true, false, ◌&&◌, ◌||◌, nat_le, nat_lt, min, max, if◌then◌else◌, List, [], ◌∷◌, Option, Some, None, IfSome, is_some, ◌⊎◌, length}
+use Rattle.sctp_data.specs.declared.chunk.chunk_payload_data.ChunkPayloadData.{ChunkPayloadData}
+use Rattle.sctp_outbound.specs.Outstanding.{outstanding_of}
+use Rattle.sctp_path.specs.Congestion.{Control, after_idling, burst_limit, may_send}
+use Rattle.sctp_path.specs.Timers.{started}
+
+-- ## What may be sent
+
+-- New DATA of so many bytes may leave: one chunk where nothing is outstanding, which probes a window of 0 (6.1 A); else where the peer's
+-- window has room for it (A), and less than cwnd (B, 7.2.3) and than a burst from its beginning allows (D) is outstanding.
+abbrev pub may_send_data : (bytes flight peer_window base : ℕ) → Control → Bool
+may_send_data bytes flight peer_window base c =
+    flight == 0 || (nat_le (flight + bytes) peer_window
+    && (may_send flight c && nat_lt flight (burst_limit base c)))
+
+-- the bytes that were outstanding when the burst began that is under way
+abbrev pub base_of : ℕ → Option ℕ → ℕ
+base_of flight None = flight
+base_of flight (Some base) = base
+
+-- so of what is in flight, which are fewer chunks than at most may be
+abbrev pub may_send_next : (bytes most peer_window : ℕ) → Option ℕ → Control
+    → List ChunkPayloadData → Bool
+may_send_next bytes most peer_window burst c chunks =
+    let flight = (outstanding_of chunks).bytes in
+    nat_lt (length chunks) most
+    && may_send_data bytes flight peer_window (base_of flight burst) c
+
+-- DATA may be sent again: one packet of it whatever is outstanding, where fast retransmission begins (7.2.4)
+abbrev pub may_send_again : Bool → ℕ → Control → Bool
+may_send_again is_fast flight c = is_fast || may_send flight c
+
+-- ## Idle paths (7.2.1)
+
+-- how many RTOs have passed; more than 64 halve no further
+abbrev pub idle_times : ℕ → ℕ → ℕ → ℕ
+idle_times now since rto = min ((now - since) / max rto 1) 64
+
+-- a window of more than four packets is halved, down to four
+abbrev pub lowered : Control → Control
+lowered c = if nat_lt c.pmdcs (c.window / 4) then after_idling c else c
+
+abbrev pub lowered_times : ℕ → Control → Control
+lowered_times zero c = c
+lowered_times (suc n) c = lowered (lowered_times n c)
+
+-- ## T3-rtx
+
+abbrev pub is_none_of : List ChunkPayloadData → Bool
+is_none_of [] = true
+is_none_of (c ∷ cs) = false
+
+-- it runs while something is in flight, and not else
+abbrev pub t3_after : ℕ → ℕ → List ChunkPayloadData → Option ℕ → Option ℕ
+t3_after now rto [] at = None
+t3_after now rto (c ∷ cs) at = started now rto at
+
+-- where it does not run though something is in flight, it is to be started at once
+abbrev pub t3_time : List ChunkPayloadData → Option ℕ → Option ℕ
+t3_time [] None = None
+t3_time (c ∷ cs) None = Some 0
+t3_time cs (Some at) = Some at
+
+-- it runs where something is in flight
+abbrev pub IsTimed : List ChunkPayloadData → Option ℕ → Type 0
+IsTimed cs at = cs ≡ [] ⊎ is_some at ≡ true
+
+-- as it was, or it began now, and runs out after the greatest RTO at the latest
+abbrev pub EndsWithin : (now most : ℕ) → (old new : Option ℕ) → Type 0
+EndsWithin now most old new = new ≡ old ⊎ IfSome new (λ at. at ≤ now + most)
