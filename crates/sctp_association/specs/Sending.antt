@@ -27,7 +27,8 @@ may_send_next bytes most peer_window burst c chunks =
     nat_lt (length chunks) most
     && may_send_data bytes flight peer_window (base_of flight burst) c
 
--- DATA may be sent again: one packet of it whatever is outstanding, where fast retransmission begins (7.2.4)
+-- DATA may be sent again: one packet of it whatever is outstanding, where fast retransmission begins (7.2.4); else a packet, while less than
+-- cwnd was outstanding when it began (6.3.3 E3)
 abbrev pub may_send_again : Bool → ℕ → Control → Bool
 may_send_again is_fast flight c = is_fast || may_send flight c
 

@@ -18,7 +18,7 @@ ghost use Rattle.sctp_sender.specs.Sender.{stream_of};
 
 use crate::config::{Config, Secrets};
 use crate::draft::Draft;
-use crate::due::Due;
+use crate::due::{AloneKind, Due};
 use crate::event::{Ending, Event, Events};
 use crate::fault::Fault;
 use crate::inbound::Inbound;
@@ -238,7 +238,7 @@ impl Association {
         if self.is_over {
             return Err(Fault::WrongState);
         }
-        self.end_with(12);
+        self.end_with(AloneKind::Abort(12));
         Ok(())
     }
 

@@ -41,7 +41,7 @@ pub(crate) enum Followed {
     /// The association is to end with this cause.
     Abort(AbortCause),
     /// It has no user data: the association is to end with cause 9 (RFC 9260 6.2, 3.3.10.9).
-    NoUserData,
+    NoUserData(u32),
 }
 
 /// The receiving half.
@@ -50,6 +50,8 @@ pub(crate) struct Inbound {
     pub(crate) receiver: Receiver,
     pub(crate) delay: AckDelay,
     streams: u16,
+    // Whether DATA came in this datagram that is to be acknowledged at once; None where no DATA came.
+    came: Option<bool>,
     // The streams on which a message was too long: data opens none of them until the peer has reset it.
     discarded: StreamSet,
     // The stream of the last chunk that was dropped since there is no such stream: an ERROR is due.
@@ -68,6 +70,7 @@ impl Inbound {
             ),
             delay: AckDelay::new(config.sack_delay),
             streams: config.streams,
+            came: None,
             discarded: StreamSet::new(alloc),
             unknown_stream: None,
         }
@@ -81,25 +84,40 @@ impl Inbound {
         now: u64,
     ) -> Result<Followed, Fault> {
         if chunk.user_data.is_empty() {
-            return Ok(Followed::NoUserData);
+            return Ok(Followed::NoUserData(chunk.tsn));
         }
         self.open(chunk.stream_identifier, events)?;
         let had_gap = self.receiver.has_gaps();
         match self.receiver.data(chunk) {
             Ok(Arrival::New { complete }) => {
                 let at_once = chunk.immediate_sack || had_gap || self.receiver.has_gaps();
-                self.delay.packet_came(now, at_once);
+                self.note_data(at_once);
                 if complete && self.receiver.is_readable(chunk.stream_identifier) {
                     events.readable.insert(chunk.stream_identifier);
                 }
                 Ok(Followed::Done)
             }
             Ok(Arrival::Repeat) => {
-                self.delay.packet_came(now, true);
+                self.note_data(true);
                 Ok(Followed::Done)
             }
             Err(ReceiverRefusal::OutOfMemory) => Err(Fault::OutOfMemory),
             Err(refusal) => self.follow(refusal, chunk, events, now),
+        }
+    }
+
+    // DATA came in this datagram.
+    fn note_data(&mut self, at_once: bool)
+        ensures { self.new ≡ record self.old { came = self.new.came } }
+    {
+        self.came = Some(at_once || self.came == Some(true));
+    }
+
+    /// The datagram has ended: every second one with DATA is acknowledged (RFC 9260 6.2).
+    pub(crate) fn datagram_ended(&mut self, now: u64) {
+        if let Some(at_once) = self.came {
+            self.delay.packet_came(now, at_once);
+            self.came = None;
         }
     }
 

@@ -58,6 +58,9 @@ pub(crate) struct Outbound {
     most_in_flight: usize,
     // When DATA left last, or the congestion window was lowered for idle time.
     used: u64,
+    // When a round trip was measured last, and when T3-rtx ran out last.
+    measured: u64,
+    timed_out: u64,
     // The credit of the last SACK, or of the handshake.
     pub(crate) peer_window: usize,
     // How many bytes were outstanding when the burst began that is under way.
@@ -101,7 +104,7 @@ impl Outbound {
                 config.first_tsn,
                 fragment_of(congestion.pmdcs()),
                 config.max_message_size,
-                Reported::Drop,
+                Reported::Keep,
             ),
             congestion,
             mtu: config.mtu,
@@ -111,6 +114,8 @@ impl Outbound {
             most_waiting: config.most_waiting,
             most_in_flight: config.most_in_flight,
             used: 0,
+            measured: 0,
+            timed_out: 0,
             peer_window: 0,
             burst: None,
             is_partial: false,
@@ -249,6 +254,11 @@ impl Outbound {
         self.timer.at()
     }
 
+    /// Whether DATA left at this moment.
+    pub(crate) fn was_used(&self, now: u64) -> bool {
+        self.used == now && self.is_in_flight()
+    }
+
     /// Whether a chunk is in flight.
     pub(crate) fn is_in_flight(&self) -> bool
         ensures { result ≡ not (is_none_of self.now.sender.flight.queue.inflight.chunks) }
@@ -320,6 +330,7 @@ impl Outbound {
             return false;
         }
         self.timer.stop();
+        self.timed_out = now;
         self.rto.backed_off();
         self.congestion.timed_out();
         self.sender.retransmit_all();

@@ -151,16 +151,16 @@ loss-again : after_loss 9 (Some 7) (at 10000 10000 0 (Some 7)) ≡ at 10000 1000
 unfolding at
 loss-again = refl
 
--- in Fast Recovery nothing grows. TSN 7 ends it, also where TSNs wrap
+-- in Fast Recovery nothing grows. TSN 7 ends it, also where TSNs wrap, and counts as any other SACK
 recovery-lasts : after_sack (sack 6 2376 10000) (at 10000 10000 0 (Some 7)) ≡ at 10000 10000 0 (Some 7)
 unfolding at sack at_or_before distance
 recovery-lasts = refl
 
-recovery-ends : after_sack (sack 7 2376 10000) (at 10000 10000 0 (Some 7)) ≡ at 10000 10000 0 None
+recovery-ends : after_sack (sack 7 2376 10000) (at 10000 10000 0 (Some 7)) ≡ at 11188 10000 0 None
 unfolding at sack at_or_before distance
 recovery-ends = refl
 
-recovery-ends-over-zero : after_sack (sack 2 2376 10000) (at 10000 10000 0 (Some 4294967290)) ≡ at 10000 10000 0 None
+recovery-ends-over-zero : after_sack (sack 2 2376 10000) (at 10000 10000 0 (Some 4294967290)) ≡ at 11188 10000 0 None
 unfolding at sack at_or_before distance
 recovery-ends-over-zero = refl
 

@@ -65,12 +65,13 @@ abbrev pub after_avoidance : Acknowledged → Control → Control
 after_avoidance a c = avoided (min (c.acked + a.bytes) most) a.flight c
 
 -- a SACK that acknowledges all up to the exit point ends Fast Recovery (RFC 9260 7.2.4)
-abbrev pub left : ℕ → ℕ → Option ℕ
-left exit cumulative = if at_or_before exit cumulative then None else Some exit
+abbrev pub left : Option ℕ → ℕ → Option ℕ
+left None cumulative = None
+left (Some exit) cumulative = if at_or_before exit cumulative then None else Some exit
 
--- nothing grows by a SACK that comes in Fast Recovery (RFC 9260 7.2.1), also the one that ends it
+-- nothing grows by a SACK that leaves Fast Recovery standing (RFC 9260 7.2.1); the one that ends it counts as any other
 abbrev pub after_growth : Option ℕ → Acknowledged → Control → Control
-after_growth (Some exit) a c = record c { exit = left exit a.cumulative_tsn }
+after_growth (Some exit) a c = c
 after_growth None a c =
     if nat_le c.window c.threshold then after_slow_start a c else after_avoidance a c
 
@@ -84,7 +85,9 @@ settled a c = record c {
 }
 
 abbrev pub after_sack : Acknowledged → Control → Control
-after_sack a c = settled a (after_growth c.exit a c)
+after_sack a c =
+    let exit = left c.exit a.cumulative_tsn in
+    settled a (after_growth exit a (record c { exit = exit }))
 
 -- ## Losses
 

@@ -90,6 +90,9 @@ impl Congestion {
             if sna32lte(exit, sack.cumulative_tsn) {
                 self.exit = None;
             }
+        }
+        if self.exit.is_some() {
+            // Nothing grows in Fast Recovery.
         } else if self.window <= self.threshold {
             self.start_slowly(sack);
         } else {

@@ -66,6 +66,15 @@ impl Heartbeat {
         }
     }
 
+    /// The last HEARTBEAT counts as a failure (8.1). It does so once: nothing waits for its answer any more.
+    pub fn failed(&mut self)
+        ensures { self.new ≡ record self.old { asked = None } }
+    {
+        if self.asked.is_some() {
+            self.asked = None;
+        }
+    }
+
     /// Whether the last HEARTBEAT was not answered. Where that is so as the next one is due, it counts as a failure (8.1), and the
     /// RTO backs off.
     pub fn is_unanswered(&self) -> bool

@@ -13,6 +13,7 @@ ghost use Rattle.sctp_handshake.specs.Answers.{silent};
 ghost use Rattle.sctp_handshake.specs.declared.state.State.TheVariants.{Closed};
 
 use super::{Association, Reason, Taken};
+use crate::due::AloneKind;
 use crate::event::Ending;
 use crate::fault::Fault;
 use crate::inbound::Followed;
@@ -141,7 +142,11 @@ impl Association {
             Step::Stop => return Ok(Taken::Accepted),
             Step::Next => {}
         }
-        self.take_others(datagram, chunks, first.typ, now)?;
+        let taken = self.take_others(datagram, chunks, first.typ, now);
+        if let Some(inbound) = &mut self.inbound {
+            inbound.datagram_ended(now);
+        }
+        taken?;
         self.settle(now);
         Ok(Taken::Accepted)
     }
@@ -255,6 +260,10 @@ impl Association {
         let followed = inbound.take_data(&data, &mut self.events, now)?;
         let before = self.machine.state();
         let answer = self.machine.packet_arrived(true);
+        if answer.reply.is_some() {
+            // T2-shutdown begins again (RFC 9260 9.2).
+            self.run_control(now);
+        }
         self.follow(before, answer, 0, now);
         Ok(self.end_by(followed))
     }
@@ -280,13 +289,13 @@ impl Association {
     fn end_by(&mut self, followed: Followed) -> Step
         ensures never { (r : Reason) → result ≡ step.Refused r → ⊥ }
     {
-        let cause = match followed {
+        let kind = match followed {
             Followed::Done => return Step::Next,
-            Followed::NoUserData => 9,
-            Followed::Abort(AbortCause::OutOfResource) => 4,
-            Followed::Abort(AbortCause::ProtocolViolation) => 13,
+            Followed::NoUserData(tsn) => AloneKind::NoUserData(tsn),
+            Followed::Abort(AbortCause::OutOfResource) => AloneKind::Abort(4),
+            Followed::Abort(AbortCause::ProtocolViolation) => AloneKind::Abort(13),
         };
-        self.end_with(cause);
+        self.end_with(kind);
         Step::Stop
     }
 
@@ -305,7 +314,7 @@ impl Association {
         match self.outbound.take_sack(&sack, &mut self.events.low, now)? {
             SackTaken::Taken => Ok(Step::Next),
             SackTaken::Forged => {
-                self.end_with(13);
+                self.end_with(AloneKind::Abort(13));
                 Ok(Step::Stop)
             }
         }
@@ -410,16 +419,11 @@ impl Association {
         }
         self.follow(before, answer, 0, now);
         let tsn = shutdown.cumulative_tsn_ack;
-        let taken = self
+        // One that acknowledges what was not sent acknowledges nothing: peers are known to write a TSN of their own there.
+        let _taken = self
             .outbound
             .take_shutdown(self.alloc, tsn, &mut self.events.low, now)?;
-        match taken {
-            SackTaken::Taken => Ok(Step::Next),
-            SackTaken::Forged => {
-                self.end_with(13);
-                Ok(Step::Stop)
-            }
-        }
+        Ok(Step::Next)
     }
 
     // A HEARTBEAT came: its information goes back (RFC 9260 8.3).

@@ -163,10 +163,10 @@ impl Association {
         self.follow(before, answer, 0, now);
     }
 
-    /// The association ends with an ABORT of this cause code.
-    pub(super) fn end_with(&mut self, cause: u16) {
+    /// The association ends with this ABORT.
+    pub(super) fn end_with(&mut self, kind: AloneKind) {
         if let Some(peer) = self.machine.peer() {
-            self.owe_farewell(peer.tag, AloneKind::Abort(cause));
+            self.owe_farewell(peer.tag, kind);
         } else {
             self.due.alone = None;
         }

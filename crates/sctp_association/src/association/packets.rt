@@ -95,7 +95,8 @@ impl Association {
             AloneKind::ShutdownComplete => {
                 self.draft.put(&ChunkShutdownComplete);
             }
-            AloneKind::Abort(cause) => self.put_abort(cause)?,
+            AloneKind::Abort(cause) => self.put_abort(cause, &[])?,
+            AloneKind::NoUserData(tsn) => self.put_abort(9, &tsn.to_be_bytes())?,
         }
         self.draft.seal(false);
         Ok(())
@@ -151,9 +152,9 @@ impl Association {
     }
 
     // Puts an ABORT with one cause.
-    fn put_abort(&mut self, code: u16) -> Result<(), Fault> {
+    fn put_abort(&mut self, code: u16, info: &[u8]) -> Result<(), Fault> {
         let abort = ChunkAbort {
-            error_causes: self.causes(code, &[])?,
+            error_causes: self.causes(code, info)?,
         };
         self.draft.put(&abort);
         Ok(())
@@ -183,8 +184,18 @@ impl Association {
         self.put_resets(now)?;
         if self.machine.state().sends_data() {
             self.outbound.put(&mut self.draft, now)?;
+            self.note_use(now);
         }
         Ok(())
+    }
+
+    // A path on which DATA left is not idle (RFC 9260 8.3).
+    fn note_use(&mut self, now: u64) {
+        if let Some(heartbeat) = &mut self.heartbeat {
+            if self.outbound.was_used(now) {
+                heartbeat.used(now);
+            }
+        }
     }
 
     // Puts COOKIE-ECHO or COOKIE-ACK.

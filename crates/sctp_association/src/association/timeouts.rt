@@ -135,6 +135,7 @@ impl Association {
             rto = self.new.outbound.rto;
             failures = self.new.outbound.failures;
           };
+          heartbeat = self.new.heartbeat;
         } }
         ensures counted { self.new.outbound.failures ≡ self.old.outbound.failures
             ⊎ self.new.outbound.failures ≡ one_more self.old.outbound.failures }
@@ -152,11 +153,14 @@ impl Association {
             Some(at) => at <= now,
             None => false,
         };
-        let is_unanswered = match &self.heartbeat {
-            Some(heartbeat) => heartbeat.is_unanswered(),
-            None => false,
+        let Some(heartbeat) = &mut self.heartbeat else {
+            return false;
         };
-        is_late && is_unanswered && self.outbound.count_failure()
+        if !is_late || !heartbeat.is_unanswered() {
+            return false;
+        }
+        heartbeat.failed();
+        self.outbound.count_failure()
     }
 
     // The peer answers nothing any more (RFC 9260 8.1).

@@ -30,11 +30,12 @@ fn bytes_of(released: &[Released]) -> usize {
     sum
 }
 
-// When the last chunk was sent that is acknowledged now and was sent once (RFC 9260 6.3.1 C4, C5).
+// When the last chunk was sent that is acknowledged now and was sent once (RFC 9260 6.3.1 C4, C5). An abandoned one may not have come: it has
+// no bytes (RFC 3758 3.5).
 fn sent_once(released: &[Released]) -> Option<u64> {
     let mut sent = None;
     for one in released {
-        if one.nsent == 1 {
+        if one.nsent == 1 && one.bytes > 0 {
             sent = one.since;
         }
     }
@@ -103,12 +104,11 @@ impl Outbound {
         flight: usize,
         now: u64,
     ) {
-        if !released.is_empty() {
+        // A probe of a window of 0 that is answered is no failure (RFC 9260 6.1 A).
+        if !released.is_empty() || self.peer_window == 0 {
             self.failures.clear();
         }
-        if let Some(since) = sent_once(released) {
-            self.rto.measured(now.saturating_sub(since));
-        }
+        self.measure(released, now);
         let has_advanced = self.sender.acked_tsn() != before;
         if has_advanced {
             self.timer.stop();
@@ -126,6 +126,17 @@ impl Outbound {
         self.run_timer(now);
     }
 
+    // Measures a round trip, once in each (RFC 9260 6.3.1 C4).
+    fn measure(&mut self, released: &[Released], now: u64) {
+        let Some(since) = sent_once(released) else {
+            return;
+        };
+        if since >= self.measured {
+            self.rto.measured(now.saturating_sub(since));
+            self.measured = now;
+        }
+    }
+
     // Counts what is missing before the highest TSN that is acknowledged now; in fast recovery, where the cumulative TSN moved,
     // before the highest that the SACK reports (RFC 9260 7.2.4).
     fn count_missing(
@@ -137,6 +148,10 @@ impl Outbound {
         let (Some(block), Some(one)) = (sack.gap_ack_blocks.last(), released.last()) else {
             return;
         };
+        // What was sent before T3-rtx ran out says nothing of what was sent again since.
+        if one.since.unwrap_or(0) < self.timed_out {
+            return;
+        }
         let mut before = one.tsn;
         if has_advanced && self.congestion.is_recovering() {
             before = sack.cumulative_tsn_ack.wrapping_add(u32::from(block.end));

@@ -2,7 +2,6 @@
 
 ghost use Rattle.std.specs.Prelude.{◌≡◌, ◌<◌, ◌≤◌, true, false, IfOk, IfSome, OnErr, length};
 ghost use Rattle.sctp_association.specs.Sending.{IsTimed, idle_times, lowered_times, lowered, may_send_again, may_send_next};
-ghost use Rattle.sctp_outbound.specs.Outstanding.{outstanding_of};
 ghost use Rattle.sctp_outbound.specs.pending_queue.PendingQueue.{next_pending};
 
 use super::{DATA_HEADER, Outbound};
@@ -61,26 +60,45 @@ impl Outbound {
     fn put_lost(&mut self, packet: &mut Draft, now: u64) -> Result<(), Fault>
         ensures limit { packet.new.limit ≡ packet.old.limit }
     {
-        let is_fast = self.is_fast;
+        let flight = self.flight();
+        self.put_marked(packet, self.is_fast, flight, now)
+    }
+
+    // The same; `is_fast` and `flight` are as they were when the packet began.
+    fn put_marked(
+        &mut self,
+        packet: &mut Draft,
+        is_fast: bool,
+        flight: usize,
+        now: u64,
+    ) -> Result<(), Fault>
+        ensures limit { packet.new.limit ≡ packet.old.limit }
+    {
         for _ in 0..MOST_CHUNKS {
-            if !self.put_again(packet, is_fast, now)? {
+            if !self.put_again(packet, is_fast, flight, now)? {
                 break;
             }
         }
         Ok(())
     }
 
-    // Sends the first chunk again that is marked, where it may go and fits, and answers whether it did.
-    fn put_again(&mut self, packet: &mut Draft, is_fast: bool, now: u64) -> Result<bool, Fault>
-        ensures sent { IfOk result (λ sent. sent ≡ true → may_send_again is_fast
-            (outstanding_of self.old.sender.flight.queue.inflight.chunks).bytes
-            self.old.congestion ≡ true) }
+    // Sends the first chunk again that is marked, where it may go and fits, and answers whether it did. `flight` is what was outstanding when the
+    // packet began. T3-rtx begins again with the first chunk that is in flight (RFC 9260 7.2.4).
+    fn put_again(
+        &mut self,
+        packet: &mut Draft,
+        is_fast: bool,
+        flight: usize,
+        now: u64,
+    ) -> Result<bool, Fault>
+        ensures sent { IfOk result (λ sent. sent ≡ true
+            → may_send_again is_fast flight self.old.congestion ≡ true) }
         ensures held { IfOk result (λ sent. sent ≡ false
             → (self.new.sender ≡ self.old.sender) × (packet.new ≡ packet.old)) }
         ensures err { OnErr result ((self.new ≡ self.old) × (packet.new ≡ packet.old)) }
         ensures limit { packet.new.limit ≡ packet.old.limit }
     {
-        if !is_fast && !self.congestion.may_send(self.flight()) {
+        if !is_fast && !self.congestion.may_send(flight) {
             return Ok(false);
         }
         let Some(chunk) = self.sender.resend_next(now, packet.room())? else {
@@ -92,6 +110,9 @@ impl Outbound {
         };
         self.is_fast = false;
         self.used = now;
+        if chunk.tsn == self.sender.acked_tsn().wrapping_add(1) {
+            self.timer.stop();
+        }
         packet.put(&chunk);
         Ok(true)
     }
