@@ -42,8 +42,8 @@ def size_of(stream):
 
 Cell = collections.namedtuple("Cell", "mbit delay_ms jitter_ms reorders loss seconds")
 # of the last but one datagrams overtake each other, by up to 4 packets
-PATHS = [(0.1, 50, 5, 0, 240), (1, 20, 5, 0, 60), (1, 300, 30, 0, 120), (10, 1, 0, 0, 30), (10, 20, 5, 0, 30), (10, 100, 20, 0, 40), (10, 20, 4, 1, 30),
-         (100, 10, 1, 0, 10)]
+PATHS = [(0.1, 50, 5, 0, 240), (1, 20, 5, 0, 40), (1, 300, 30, 0, 120), (10, 1, 0, 0, 10), (10, 20, 5, 0, 15), (10, 100, 20, 0, 20), (10, 20, 4, 1, 15),
+         (100, 10, 1, 0, 4)]
 LOSSES = [0, 1, 5, 20, 40]
 
 
@@ -126,12 +126,10 @@ class Flow:
         self.sender, self.reader, self.greedy = sender, reader, greedy
         self.most_waiting, self.waits, self.turn = min(max(cell.mbit * SECOND / 16, 20_000), 256_000), 0, 0
         self.waiting = [collections.deque() for _ in range(STREAMS)]
+        kinds = [MODES[it % len(MODES)][1] for it in range(STREAMS)]
+        self.timed = [(it, int(kind[6:]) * 1000) for it, kind in enumerate(kinds) if kind.startswith("timed")]
         self.sent, self.again, self.packets, self.sacks, self.came = set(), 0, 0, 0, 0
         self.bytes, self.by_stream, self.first, self.last, self.stall, self.stalled_at = 0, [0] * STREAMS, None, None, 0, 0
-
-    def lifetime(self, stream):
-        kind = MODES[stream % len(MODES)][1]
-        return int(kind[6:]) * 1000 if kind.startswith("timed") else None
 
     def note_sent(self, datagram):
         """Counts the DATA chunks of a datagram of the sender."""
@@ -163,9 +161,9 @@ class Flow:
         """Writes a message to each stream in turn until so many bytes wait; with `greedy` until so many wait on each."""
         if not self.sender.is_up or self.sender.closed:
             return
-        for stream, waiting in enumerate(self.waiting):
-            lifetime = self.lifetime(stream)
-            while lifetime and waiting and waiting[0] + lifetime <= now:
+        for stream, lifetime in self.timed:
+            waiting = self.waiting[stream]
+            while waiting and waiting[0] + lifetime <= now:
                 waiting.popleft()
                 self.waits -= size_of(stream)
         if self.greedy:
@@ -398,7 +396,7 @@ def main():
             losses = [float(it) for it in args.losses.split(",") if it] or LOSSES
             rates = [float(it) for it in args.rates.split(",") if it] or [it[0] for it in PATHS]
             # where most time passes in time-outs, a run is longer
-            cells = [Cell(m, d, j, r, l, s if l < 20 else 300) for m, d, j, r, s in PATHS for l in losses if m in rates]
+            cells = [Cell(*map(float, (m, d, j, r, l, s if l < 20 else 300))) for m, d, j, r, s in PATHS for l in losses if m in rates]
         with open(args.trace or os.devnull, "w") as trace:
             for cell in cells:
                 print_cell(args, commands, cell, trace if args.trace else None)
