@@ -4,7 +4,7 @@
 #     peers, the heap against its bound, and the worst packets by the clock
 #   - the endpoints of examples/c: with one another, and with usrsctp
 #   - the wrappers for C++, Rust and Go: their tests, and the echo, which prints the same in each
-# and on the program sctpdump, where rt ci or rt run has built it, what dump_tests/dump_tests.py tests.
+# and on the programs sctpdump and assocrun, where rt ci or rt run has built them, what dump_tests/dump_tests.py and c_tests/assoc_tests.py test.
 # The last line is 'N passed, M failed'; the status is 0 where nothing failed. It needs the kit's command rt, gcc and g++, or the CC and CXX
 # given. What else it asks for are Debian's packages libusrsctp-dev, libsctp-dev, valgrind, golang-go, make and pkgconf: as root it installs
 # those that are missing, unless C_TESTS_INSTALL=no. Where one can't be had, and where there is no cargo, a line that begins with
@@ -85,6 +85,12 @@ fi
 if [ -x crates/sctpdump/out/sctpdump ]; then
     python3 dump_tests/dump_tests.py >"$BUILD/dump_tests.log" 2>&1 &
     dump_tests=$!
+fi
+if [ -x crates/assocrun/out/assocrun ]; then
+    command -v tshark >/dev/null && with_tshark=--tshark || with_tshark=
+    # shellcheck disable=SC2086
+    python3 c_tests/assoc_tests.py $with_tshark >"$BUILD/assoc_tests.log" 2>&1 &
+    assoc_tests=$!
 fi
 
 # The header is C++ too, and the kit's memory calls serve.
@@ -251,6 +257,15 @@ if [ -x crates/sctpdump/out/sctpdump ]; then
     count sctpdump
 else
     leave_out "the runs of sctpdump" "rt ci has not built it"
+fi
+
+# Exchanges with an association, on the program that rt ci has built.
+if [ -x crates/assocrun/out/assocrun ]; then
+    wait "$assoc_tests" || true
+    sed '$s/^/assocrun: /' "$BUILD/assoc_tests.log" >"$BUILD/assocrun.log"
+    count assocrun
+else
+    leave_out "the scripts of assocrun" "rt ci has not built it"
 fi
 
 # ---- valgrind, usrsctp -------------------------------------------------------------------------------------------------------
