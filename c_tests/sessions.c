@@ -1,5 +1,5 @@
 /* Sessions drawn by a seed: a peer that sends what it likes, or a lawful one over a network that loses, and a caller that follows the page
- * "At a refusal" (docs/TUTORIAL.md).
+ * "At a refusal" (docs/HALVES.md).
  *
  *     sessions [first seed] [last seed]
  *

@@ -1,87 +1,114 @@
-//! An echo over two hosts and a network that loses every third datagram (docs/TUTORIAL.md).
+//! An echo over two associations, and a network in memory that loses every third datagram (docs/TUTORIAL.md).
 #![tactic(auto)]
 
-mod host;
+mod server;
 
-use crate::host::Host;
+use bytes::Bytes;
+use sctp_association::{Association, Config, Fault, PayloadProtocolIdentifier, Secrets, State};
 use std::alloc::Global;
 use std::process::ExitCode;
 
 /// What the client writes.
 const WORDS: [&str; 4] = ["one", "two", "three", "four"];
 
-/// More turns, datagrams of a turn and messages of a turn than there are.
-const MOST: u64 = 100;
+/// How long the line is that comes back.
+const LINE: usize = 19;
 
-// Hands over one host's datagrams, as long as there are any. Every third one is lost.
-fn carry(from: &mut Host, to: &mut Host, sent: &mut u32, now: u64) -> Option<()> {
+/// More turns, and more datagrams and messages of a turn, than there are.
+const MOST: u32 = 1000;
+
+// A host. A program draws its secrets from a random generator.
+fn host(alloc: Global, tag: u32) -> Result<Association, Fault> {
+    let secrets = Secrets {
+        tag,
+        first_tsn: tag,
+        cookie_key: [7; 32],
+    };
+    Association::new(alloc, Config::default(), secrets)
+}
+
+// Hands over the datagrams that are due. Every third one is lost.
+fn carry(
+    alloc: Global,
+    from: &mut Association,
+    to: &mut Association,
+    sent: &mut u32,
+    now: u64,
+) -> Result<(), Fault> {
     for _ in 0..MOST {
-        let Some(datagram) = from.datagram(now) else {
+        if !from.poll_transmit(now)? {
             break;
-        };
+        }
         *sent = sent.wrapping_add(1);
         if *sent % 3 != 0 {
-            to.take(&datagram)?;
+            let datagram = Bytes::copy_from_slice(alloc, from.datagram())?;
+            to.handle_datagram(&datagram, now)?;
         }
     }
-    Some(())
+    Ok(())
 }
 
-// Writes back what comes.
-fn echo(server: &mut Host) -> Option<()> {
-    for _ in 0..MOST {
-        let Some(text) = server.read() else {
-            break;
-        };
-        server.write(&text)?;
-    }
-    Some(())
-}
-
-// Adds what came back to the line.
-fn collect(client: &mut Host, line: &mut String) -> Option<()> {
-    for _ in 0..MOST {
-        let Some(text) = client.read() else {
-            break;
-        };
-        line.push_str(str::from_utf8(&text).ok()?).ok()?;
-        line.push('.').ok()?;
-    }
-    Some(())
-}
-
-// Has the words echoed, as `run` says. A turn takes as long as the retransmission timer.
-fn exchange(client: &mut Host, server: &mut Host, line: &mut String) -> Option<()> {
-    client.open()?;
-    server.open()?;
+// Asks for an association, and writes the words.
+fn begin(alloc: Global, client: &mut Association) -> Result<(), Fault> {
+    client.connect(0)?;
     for word in WORDS {
-        client.write(word.as_bytes())?;
+        let bytes = Bytes::copy_from_slice(alloc, word.as_bytes())?;
+        client.write(0, PayloadProtocolIdentifier::String, &bytes)?;
     }
-    let mut sent = 0u32;
-    for now in 0..MOST {
-        carry(client, server, &mut sent, now)?;
-        echo(server)?;
-        carry(server, client, &mut sent, now)?;
-        collect(client, line)?;
-        if client.is_done() && server.is_done() {
-            break;
-        }
-        client.time_out();
-        server.time_out();
-    }
-    Some(())
+    Ok(())
 }
 
-// Has the words echoed by two hosts, and adds what came back to the line.
-fn run(alloc: Global, line: &mut String) -> Option<()> {
-    let mut client = Host::new(alloc, 4_294_967_294, 7, 1);
-    let mut server = Host::new(alloc, 7, 4_294_967_294, 2);
-    exchange(&mut client, &mut server, line)
+// Adds what came back to the line, and shuts down after the last word.
+fn collect(client: &mut Association, line: &mut String, now: u64) -> Result<(), Fault> {
+    for _ in 0..MOST {
+        let Some(message) = client.read(0, now)? else {
+            break;
+        };
+        let mut text = [0u8; 64];
+        let length = message.read(&mut text).unwrap_or(0);
+        line.push_str(str::from_utf8(text.get(..length).unwrap_or(&[])).unwrap_or("?"))?;
+        line.push('.')?;
+    }
+    if line.len() == LINE && client.state() == State::Established {
+        client.shutdown(now)?;
+    }
+    Ok(())
+}
+
+// The earlier of two moments, None where there is neither.
+fn earlier(a: Option<u64>, b: Option<u64>) -> Option<u64> {
+    match (a, b) {
+        (Some(a), Some(b)) => Some(a.min(b)),
+        (a, None) => a,
+        (None, b) => b,
+    }
+}
+
+// Has the words echoed, and adds them to the line.
+fn run(alloc: Global, line: &mut String) -> Result<(), Fault> {
+    let mut client = host(alloc, 1)?;
+    let mut server = host(alloc, 2)?;
+    begin(alloc, &mut client)?;
+    let mut sent = 0u32;
+    let mut now = 0u64;
+    for _ in 0..MOST {
+        carry(alloc, &mut client, &mut server, &mut sent, now)?;
+        server::follow(alloc, &mut server, now)?;
+        carry(alloc, &mut server, &mut client, &mut sent, now)?;
+        collect(&mut client, line, now)?;
+        let Some(next) = earlier(client.poll_timeout(), server.poll_timeout()) else {
+            break;
+        };
+        now = next;
+        client.handle_timeout(now);
+        server.handle_timeout(now);
+    }
+    Ok(())
 }
 
 fn main(rt: HostRuntime) -> anyhow::Result<ExitCode> {
     let mut line = String::new(rt.alloc());
-    if run(rt.alloc(), &mut line).is_none() {
+    if run(rt.alloc(), &mut line).is_err() {
         return Ok(ExitCode::FAILURE);
     }
     println!(rt; "{line}")?;
