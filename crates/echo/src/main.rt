@@ -1,10 +1,12 @@
-//! An echo over two associations, and a network in memory that loses every third datagram (docs/TUTORIAL.md).
+//! An echo over a data channel of two associations, and a network in memory that loses every third datagram (docs/TUTORIAL.md).
 #![tactic(auto)]
 
 mod server;
 
+use crate::server::Host;
 use bytes::Bytes;
-use sctp_association::{Association, Config, Fault, PayloadProtocolIdentifier, Secrets, State};
+use sctp_association::{Association, Config, ReliabilityType, Secrets, State};
+use sctp_channels::{Channels, News, Open, Refusal, Side};
 use std::alloc::Global;
 use std::process::ExitCode;
 
@@ -14,17 +16,20 @@ const WORDS: [&str; 4] = ["one", "two", "three", "four"];
 /// How long the line is that comes back.
 const LINE: usize = 19;
 
-/// More turns, and more datagrams and messages of a turn, than there are.
+/// More turns, and more datagrams, news and messages of a turn, than there are.
 const MOST: u32 = 1000;
 
 // A host. A program draws its secrets from a random generator.
-fn host(alloc: Global, tag: u32) -> Result<Association, Fault> {
+fn host(alloc: Global, tag: u32, side: Side) -> Result<Host, Refusal> {
     let secrets = Secrets {
         tag,
         first_tsn: tag,
         cookie_key: [7; 32],
     };
-    Association::new(alloc, Config::default(), secrets)
+    Ok(Host {
+        association: Association::new(alloc, Config::default(), secrets)?,
+        channels: Channels::new(alloc, side, 64),
+    })
 }
 
 // Hands over the datagrams that are due. Every third one is lost.
@@ -34,7 +39,7 @@ fn carry(
     to: &mut Association,
     sent: &mut u32,
     now: u64,
-) -> Result<(), Fault> {
+) -> Result<(), Refusal> {
     for _ in 0..MOST {
         if !from.poll_transmit(now)? {
             break;
@@ -48,20 +53,32 @@ fn carry(
     Ok(())
 }
 
-// Asks for an association, and writes the words.
-fn begin(alloc: Global, client: &mut Association) -> Result<(), Fault> {
-    client.connect(0)?;
+// Asks for an association, opens a channel, and writes the words to it.
+fn begin(alloc: Global, client: &mut Host) -> Result<(), Refusal> {
+    client.association.connect(0)?;
+    let open = Open {
+        unordered: false,
+        reliability: ReliabilityType::Reliable,
+        value: 0,
+        priority: 0,
+        label: Bytes::copy_from_slice(alloc, b"words")?,
+        protocol: Bytes::new(),
+    };
+    let stream = client.channels.open(&mut client.association, open)?;
     for word in WORDS {
         let bytes = Bytes::copy_from_slice(alloc, word.as_bytes())?;
-        client.write(0, PayloadProtocolIdentifier::String, &bytes)?;
+        client
+            .channels
+            .write(&mut client.association, stream, true, &bytes)?;
     }
     Ok(())
 }
 
-// Adds what came back to the line, and shuts down after the last word.
-fn collect(client: &mut Association, line: &mut String, now: u64) -> Result<(), Fault> {
+// Adds the messages of a channel to the line.
+fn collect(client: &mut Host, stream: u16, line: &mut String, now: u64) -> Result<(), Refusal> {
     for _ in 0..MOST {
-        let Some(message) = client.read(0, now)? else {
+        let read = client.channels.read(&mut client.association, stream, now)?;
+        let Some(message) = read else {
             break;
         };
         let mut text = [0u8; 64];
@@ -69,8 +86,20 @@ fn collect(client: &mut Association, line: &mut String, now: u64) -> Result<(), 
         line.push_str(str::from_utf8(text.get(..length).unwrap_or(&[])).unwrap_or("?"))?;
         line.push('.')?;
     }
-    if line.len() == LINE && client.state() == State::Established {
-        client.shutdown(now)?;
+    Ok(())
+}
+
+// Follows what happened to the client, and shuts down after the last word.
+fn follow(client: &mut Host, line: &mut String, now: u64) -> Result<(), Refusal> {
+    for _ in 0..MOST {
+        match client.channels.poll(&mut client.association, now)? {
+            Some(News::Readable(stream)) => collect(client, stream, line, now)?,
+            Some(_) => {}
+            None => break,
+        }
+    }
+    if line.len() == LINE && client.association.state() == State::Established {
+        client.association.shutdown(now)?;
     }
     Ok(())
 }
@@ -85,23 +114,26 @@ fn earlier(a: Option<u64>, b: Option<u64>) -> Option<u64> {
 }
 
 // Has the words echoed, and adds them to the line.
-fn run(alloc: Global, line: &mut String) -> Result<(), Fault> {
-    let mut client = host(alloc, 1)?;
-    let mut server = host(alloc, 2)?;
+fn run(alloc: Global, line: &mut String) -> Result<(), Refusal> {
+    let mut client = host(alloc, 1, Side::Client)?;
+    let mut server = host(alloc, 2, Side::Server)?;
     begin(alloc, &mut client)?;
     let mut sent = 0u32;
     let mut now = 0u64;
     for _ in 0..MOST {
-        carry(alloc, &mut client, &mut server, &mut sent, now)?;
-        server::follow(alloc, &mut server, now)?;
-        carry(alloc, &mut server, &mut client, &mut sent, now)?;
-        collect(&mut client, line, now)?;
-        let Some(next) = earlier(client.poll_timeout(), server.poll_timeout()) else {
+        let (one, two) = (&mut client.association, &mut server.association);
+        carry(alloc, one, two, &mut sent, now)?;
+        server.echo_all(alloc, now)?;
+        let (one, two) = (&mut client.association, &mut server.association);
+        carry(alloc, two, one, &mut sent, now)?;
+        follow(&mut client, line, now)?;
+        let (one, two) = (&mut client.association, &mut server.association);
+        let Some(next) = earlier(one.poll_timeout(), two.poll_timeout()) else {
             break;
         };
         now = next;
-        client.handle_timeout(now);
-        server.handle_timeout(now);
+        one.handle_timeout(now);
+        two.handle_timeout(now);
     }
     Ok(())
 }

@@ -62,7 +62,7 @@ pub(crate) struct Held {
     pub(crate) raw: Vec<u8>,
 }
 
-/// The channels of one association, which each call is given. A call looks at each channel at most a few times.
+/// The channels of one association, which each call is given. A call reads each channel at most a few times.
 #[derive(Drop)]
 pub struct Channels {
     pub(crate) alloc: Global,
@@ -235,10 +235,10 @@ impl Channels {
 
     // What is to be told, if anything is.
     fn next_news(&mut self) -> Option<News> {
-        let place = self
-            .channels
-            .iter()
-            .position(|c| c.is_new || c.is_acknowledged || c.is_readable || c.is_closed())?;
+        let place = self.channels.iter().position(|c| c.is_new
+            || c.is_acknowledged
+            || c.is_readable
+            || c.is_closed())?;
         if place >= self.channels.len() {
             return None;
         }

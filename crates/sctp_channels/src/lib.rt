@@ -7,8 +7,6 @@ mod closing;
 mod control;
 mod news;
 mod received;
-#[cfg(test)]
-mod tests;
 
 pub use channel::{Channel, Stage};
 pub use channels::{Channels, Refusal};

@@ -31,7 +31,11 @@ impl Received {
 
     /// How many bytes it has.
     pub fn len(&self) -> usize {
-        if self.is_empty() { 0 } else { self.chunks.len() }
+        if self.is_empty() {
+            0
+        } else {
+            self.chunks.len()
+        }
     }
 
     /// Copies its bytes into the front of a buffer, and answers how many there are; None where the buffer is too short.
