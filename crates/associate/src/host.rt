@@ -32,8 +32,11 @@ impl Host {
             first_tsn,
             cookie_key: [(tag & 255) as u8; 32],
         };
+        // At 40 % of loss eleven expiries in a row are no rare thing.
+        let mut config = Config::default();
+        config.max_retrans = 40;
         Ok(Host {
-            association: Association::new(alloc, Config::default(), secrets)?,
+            association: Association::new(alloc, config, secrets)?,
             inboxes: Vec::new(alloc),
             resets: 0,
             ending: None,
