@@ -6,7 +6,7 @@ mod server;
 use crate::server::Host;
 use bytes::Bytes;
 use sctp_association::{Association, Config, ReliabilityType, Secrets, State};
-use sctp_channels::{Channels, News, Open, Refusal, Side};
+use sctp_channels::{ChannelEvent, Channels, Open, Refusal, Side};
 use std::alloc::Global;
 use std::process::ExitCode;
 
@@ -16,7 +16,7 @@ const WORDS: [&str; 4] = ["one", "two", "three", "four"];
 /// How long the line is that comes back.
 const LINE: usize = 19;
 
-/// More turns, and more datagrams, news and messages of a turn, than there are.
+/// More turns, and more datagrams, events and messages of a turn, than there are.
 const MOST: u32 = 1000;
 
 // A host. A program draws its secrets from a random generator.
@@ -93,7 +93,7 @@ fn collect(client: &mut Host, stream: u16, line: &mut String, now: u64) -> Resul
 fn follow(client: &mut Host, line: &mut String, now: u64) -> Result<(), Refusal> {
     for _ in 0..MOST {
         match client.channels.poll(&mut client.association, now)? {
-            Some(News::Readable(stream)) => collect(client, stream, line, now)?,
+            Some(ChannelEvent::Readable(stream)) => collect(client, stream, line, now)?,
             Some(_) => {}
             None => break,
         }

@@ -2,10 +2,10 @@
 
 use bytes::Bytes;
 use sctp_association::Association;
-use sctp_channels::{Channels, News, Refusal};
+use sctp_channels::{ChannelEvent, Channels, Refusal};
 use std::alloc::Global;
 
-/// More news, and more messages of a channel, than wait at once.
+/// More events, and more messages of a channel, than wait at once.
 const MOST: u32 = 1000;
 
 /// A host: its association, and the channels of that.
@@ -20,7 +20,7 @@ impl Host {
     pub(crate) fn echo_all(&mut self, alloc: Global, now: u64) -> Result<(), Refusal> {
         for _ in 0..MOST {
             match self.channels.poll(&mut self.association, now)? {
-                Some(News::Readable(stream)) => self.echo(alloc, stream, now)?,
+                Some(ChannelEvent::Readable(stream)) => self.echo(alloc, stream, now)?,
                 Some(_) => {}
                 None => break,
             }

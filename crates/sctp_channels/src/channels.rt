@@ -1,14 +1,14 @@
 //! The channels of an association: they are opened, written to, read and listed.
 
 use crate::channel::{Channel, Stage};
-use crate::news::News;
+use crate::event::ChannelEvent;
 use crate::received::Received;
 use bytes::Bytes;
 use sctp_association::{Association, Event, Fault, PayloadProtocolIdentifier};
 use sctp_dcep::{Message, Open, Side};
 use std::alloc::{AllocError, AllocFailed, Global};
 
-/// Why a call is refused. It has changed nothing then.
+/// Why a call is refused. The list of channels is as it was then, but where a call says otherwise.
 #[derive(Clone, Copy, Debug, PartialEq, Eq)]
 pub enum Refusal {
     /// Memory ran out.
@@ -121,7 +121,7 @@ impl Channels {
     }
 
     /// Opens a channel on the next free stream of this side, and answers the number: DATA_CHANNEL_OPEN is written (RFC 8832 6). Messages may be
-    /// written at once.
+    /// written at once. Where the association refuses the message, the stream's mode may be the one asked for.
     pub fn open(&mut self, association: &mut Association, open: Open) -> Result<u16, Refusal> {
         let Some(stream) = self.free_stream() else {
             return Err(Refusal::NoStream);
@@ -209,11 +209,11 @@ impl Channels {
         &mut self,
         association: &mut Association,
         now: u64,
-    ) -> Result<Option<News>, Refusal> {
+    ) -> Result<Option<ChannelEvent>, Refusal> {
         for _ in 0..MOST {
             self.settle(association, now)?;
-            if let Some(news) = self.next_news() {
-                return Ok(Some(news));
+            if let Some(event) = self.next_event() {
+                return Ok(Some(event));
             }
             match association.poll() {
                 None => return Ok(None),
@@ -226,7 +226,7 @@ impl Channels {
                     if matches!(event, Event::Closed(_) | Event::Restarted) {
                         self.channels.clear();
                     }
-                    return Ok(Some(News::Association(event)));
+                    return Ok(Some(ChannelEvent::Association(event)));
                 }
             }
         }
@@ -234,7 +234,7 @@ impl Channels {
     }
 
     // What is to be told, if anything is.
-    fn next_news(&mut self) -> Option<News> {
+    fn next_event(&mut self) -> Option<ChannelEvent> {
         let place = self.channels.iter().position(|c| c.is_new
             || c.is_acknowledged
             || c.is_readable
@@ -244,9 +244,9 @@ impl Channels {
         }
         if self.channels[place].is_closed() {
             let channel = self.channels.remove(place);
-            return Some(News::Closed(channel.stream));
+            return Some(ChannelEvent::Closed(channel.stream));
         }
         let channel = &mut self.channels[place];
-        Some(channel.take_news())
+        Some(channel.take_event())
     }
 }

@@ -2,7 +2,7 @@
 
 use crate::channel::{Channel, Stage};
 use crate::channels::{Channels, Refusal};
-use crate::news::News;
+use crate::event::ChannelEvent;
 use sctp_association::{Association, Fault};
 
 impl Channel {
@@ -12,22 +12,22 @@ impl Channel {
     }
 
     // What is to be told of a channel that is not closed; it is told then.
-    pub(crate) fn take_news(&mut self) -> News {
+    pub(crate) fn take_event(&mut self) -> ChannelEvent {
         if self.is_new {
             self.is_new = false;
-            return News::Opened(self.stream);
+            return ChannelEvent::Opened(self.stream);
         }
         if self.is_acknowledged {
             self.is_acknowledged = false;
-            return News::Acknowledged(self.stream);
+            return ChannelEvent::Acknowledged(self.stream);
         }
         self.is_readable = false;
-        News::Readable(self.stream)
+        ChannelEvent::Readable(self.stream)
     }
 }
 
 impl Channels {
-    /// Closes a channel: once what was written is acknowledged, our direction of the stream is reset, and the peer resets the other. `News::Closed`
+    /// Closes a channel: once what was written is acknowledged, our direction of the stream is reset, and the peer resets the other. `ChannelEvent::Closed`
     /// tells when both are.
     pub fn close(&mut self, association: &mut Association, stream: u16) -> Result<(), Refusal> {
         let Some(place) = self.place_of(stream) else {

@@ -5,11 +5,11 @@ mod channel;
 mod channels;
 mod closing;
 mod control;
-mod news;
+mod event;
 mod received;
 
 pub use channel::{Channel, Stage};
 pub use channels::{Channels, Refusal};
-pub use news::News;
+pub use event::ChannelEvent;
 pub use received::Received;
 pub use sctp_dcep::{Open, Side};

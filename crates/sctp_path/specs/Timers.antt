@@ -6,7 +6,7 @@ use Rattle.sctp_path.specs.declared.failures.Failures.{Failures}
 abbrev pub later : ℕ → ℕ → ℕ
 later now after = min (now + after) (2 ^ 64 - 1)
 
--- a timer that runs is left alone (RFC 9260 6.3.2, R1, R4)
+-- a timer that runs is left alone: DATA that is sent, or a report taken back, starts only a stopped one (RFC 9260 6.3.2)
 abbrev pub started : ℕ → ℕ → Option ℕ → Option ℕ
 started now after None = Some (later now after)
 started now after (Some at) = Some at

@@ -17,7 +17,7 @@ impl Timer {
         Timer { at: None }
     }
 
-    /// Starts it where it is stopped: DATA was sent (R1), or a SACK took back what an earlier one reported (R4).
+    /// Starts it where it is stopped: DATA was sent, or a SACK took back what an earlier one reported (RFC 9260 6.3.2).
     pub fn start(&mut self, now: u64, after: u64)
         ensures { self.new.at ≡ started now after self.old.at }
     {
@@ -26,14 +26,14 @@ impl Timer {
         }
     }
 
-    /// Starts it anew: the earliest outstanding TSN was acknowledged, and more is outstanding (R3).
+    /// Starts it anew: the earliest outstanding TSN was acknowledged, and more is outstanding (RFC 9260 6.3.2).
     pub fn restart(&mut self, now: u64, after: u64)
         ensures { self.new.at ≡ Some (later now after) }
     {
         self.at = Some(now.saturating_add(after));
     }
 
-    /// Stops it: nothing is outstanding (R2), or it expired.
+    /// Stops it: nothing is outstanding, or it expired (RFC 9260 6.3.2).
     pub fn stop(&mut self)
         ensures { self.new.at ≡ None }
     {

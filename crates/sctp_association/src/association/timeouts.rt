@@ -82,8 +82,8 @@ impl Association {
         }
     }
 
-    /// Does what is due by now: timers that ran out, and what failed too often. Each expiry of T3-rtx is counted (RFC 9260 8.1), and each of T1 and
-    /// T2 (4, 9.2): past its limit the association is over.
+    /// Does what is due by now: timers that ran out, and what failed too often. Each expiry of T3-rtx is counted (RFC 9260 8.1), and each of T1-init,
+    /// T1-cookie and T2-shutdown (4, 9.2): past its limit the association is over.
     pub fn handle_timeout(&mut self, now: u64)
         ensures over { self.old.is_over ≡ true → self.new ≡ self.old }
         ensures t3 { self.old.is_over ≡ false → is_due now self.old.outbound.timer.at ≡ true
@@ -104,7 +104,7 @@ impl Association {
         }
     }
 
-    // T1 or T2 ran out (RFC 9260 5.1, 9.2). Where the state has a timer, it runs then.
+    // T1-init, T1-cookie or T2-shutdown ran out (RFC 9260 5.1, 9.2). Where the state has a timer, it runs then.
     fn time_out_control(&mut self, now: u64)
         ensures control { is_due now self.old.control.at ≡ true
             → (self.new.is_over ≡ true) ⊎ IsTimedOut self.old.machine self.new.machine }

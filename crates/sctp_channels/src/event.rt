@@ -4,7 +4,7 @@ use sctp_association::Event;
 
 /// What happened.
 #[derive(Clone, Copy, Debug, PartialEq, Eq)]
-pub enum News {
+pub enum ChannelEvent {
     /// The peer opened a channel on this stream.
     Opened(u16),
     /// The peer knows the channel that we opened on this stream (RFC 8832 5.2).
