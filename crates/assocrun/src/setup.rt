@@ -80,6 +80,7 @@ impl Setup {
             "window" => self.config.window = number(value)? as usize,
             "reach" => self.config.reach = number(value)?,
             "waiting" => self.config.most_waiting = number(value)? as usize,
+            "in_flight" => self.config.most_in_flight = number(value)? as usize,
             "max" => self.config.max_message_size = number(value)?,
             _ => return self.set_other(key, value),
         }
@@ -119,6 +120,7 @@ impl Setup {
             "heartbeat" => self.config.heartbeat = time,
             "sack_delay" => self.config.sack_delay = time,
             "cookie_life" => self.config.cookie_life = time,
+            "shutdown_guard" => self.config.shutdown_guard = time,
             _ => return None,
         }
         Some(())

@@ -1,6 +1,8 @@
 -- What is counted until an association is over (RFC 9260 4, 8.1, 9.2).
-use Rattle.std.specs.Prelude.{◌≡◌, ◌≤◌, false, is_some}
+use Rattle.std.specs.Prelude.{◌≡◌, ◌≤◌, false, true, is_some}
+use Rattle.sctp_association.specs.declared.association.Association.{Association}
 use Rattle.sctp_handshake.specs.declared.machine.Machine.{Machine}
+use Rattle.sctp_handshake.specs.declared.state.State.TheVariants.{ShutdownSent}
 use Rattle.sctp_handshake.specs.Timeouts.{on_timed_out}
 use Rattle.sctp_path.specs.declared.failures.Failures.{Failures}
 use Rattle.sctp_path.specs.Timers.{is_passed, one_more}
@@ -15,3 +17,7 @@ pub record IsCounted (old new : Failures) : Type 0 where
 pub record IsTimedOut (old new : Machine) : Type 0 where
   pub machine : new ≡ (on_timed_out old).machine
   pub goes_on : is_some (on_timed_out old).answer.told ≡ false
+
+-- while the SHUTDOWN of this side is not answered T5-shutdown-guard runs
+abbrev pub IsGuarded : Association → Type 0
+IsGuarded a = a.machine.state ≡ ShutdownSent → is_some a.guard.at ≡ true

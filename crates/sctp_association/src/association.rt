@@ -73,6 +73,8 @@ pub struct Association {
     peer_requests: Option<PeerRequests>,
     // T1-init, T1-cookie or T2-shutdown, by the state.
     control: Timer,
+    // T5-shutdown-guard: until when the shutdown of this side may last.
+    guard: Timer,
     heartbeat: Option<Heartbeat>,
     // The cookie that is echoed.
     cookie: Option<Bytes>,
@@ -136,6 +138,7 @@ impl Association {
             requests: OwnRequests::new(alloc, secrets.first_tsn),
             peer_requests: None,
             control: Timer::new(),
+            guard: Timer::new(),
             heartbeat: None,
             cookie: None,
             due: Due::new(),
@@ -272,6 +275,7 @@ impl Association {
     {
         self.is_over = true;
         self.control.stop();
+        self.guard.stop();
         self.events.closed = Some(ending);
     }
 }

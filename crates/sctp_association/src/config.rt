@@ -35,6 +35,8 @@ pub struct Config {
     pub heartbeat: u64,
     /// How long a SACK may wait for a second packet (SACK.Delay).
     pub sack_delay: u64,
+    /// How long a shutdown of this side may last, from its first SHUTDOWN on (T5-shutdown-guard): five RTO.Max by RFC 9260 9.2.
+    pub shutdown_guard: u64,
     /// How long a cookie is valid (Valid.Cookie.Life).
     pub cookie_life: u64,
     /// Whether the layer below detects damage, as DTLS does, so that checksums may be 0 (RFC 9653).
@@ -74,6 +76,7 @@ impl Default for Config {
             max_init_retrans: 8,
             heartbeat: 30 * SECOND,
             sack_delay: SECOND / 5,
+            shutdown_guard: 300 * SECOND,
             cookie_life: 60 * SECOND,
             zero_checksum: false,
         }

@@ -61,6 +61,8 @@ pub(crate) struct Outbound {
     // When a round trip was measured last, and when T3-rtx ran out last.
     measured: u64,
     timed_out: u64,
+    // How many chunks SACKs took back, less those that the cumulative TSN passed since.
+    came_back: usize,
     // The credit of the last SACK, or of the handshake.
     pub(crate) peer_window: usize,
     // How many bytes were outstanding when the burst began that is under way.
@@ -116,6 +118,7 @@ impl Outbound {
             used: 0,
             measured: 0,
             timed_out: 0,
+            came_back: 0,
             peer_window: 0,
             burst: None,
             is_partial: false,

@@ -306,12 +306,15 @@ impl Association {
         if !self.machine.state().takes_sacks() {
             return Ok(Step::Refused(Reason::Unexpected));
         }
-        let sack = match read_sack(self.alloc, bytes_of(datagram, chunk)) {
+        let mut sack = match read_sack(self.alloc, bytes_of(datagram, chunk)) {
             Ok(sack) => sack,
             Err(Error::ErrOutOfMemory) => return Err(Fault::OutOfMemory),
             Err(_) => return Ok(Step::Refused(Reason::NoPacket)),
         };
-        match self.outbound.take_sack(&sack, &mut self.events.low, now)? {
+        match self
+            .outbound
+            .take_sack(&mut sack, &mut self.events.low, now)?
+        {
             SackTaken::Taken => Ok(Step::Next),
             SackTaken::Forged => {
                 self.end_with(AloneKind::Abort(13));

@@ -1,6 +1,7 @@
 //! What the state machine is answered and tells.
 
-ghost use Rattle.std.specs.Prelude.{◌≡◌, ◌+◌, ◌≤◌};
+ghost use Rattle.std.specs.Prelude.{◌≡◌, ◌+◌, ◌≤◌, true};
+ghost use Rattle.sctp_association.specs.Failing.{IsGuarded};
 
 use super::{Association, outbound_config};
 use crate::due::{Alone, AloneKind};
@@ -52,6 +53,17 @@ impl Association {
         match self.machine.state().timer() {
             Some(_) => self.control.restart(now, self.outbound.rto.get()),
             None => self.control.stop(),
+        }
+        self.run_guard(now);
+    }
+
+    /// T5-shutdown-guard runs from the first SHUTDOWN of this side on (RFC 9260 9.2).
+    pub(super) fn run_guard(&mut self, now: u64)
+        ensures runs { IsGuarded self.new }
+        ensures rest { self.new ≡ record self.old { guard = self.new.guard } }
+    {
+        if self.machine.state() == State::ShutdownSent {
+            self.guard.start(now, self.config.shutdown_guard);
         }
     }
 
@@ -106,6 +118,7 @@ impl Association {
                 let first_tsn = self.machine.own().first_tsn;
                 self.outbound = Outbound::new(self.alloc, outbound_config(&self.config, first_tsn));
                 self.requests = OwnRequests::new(self.alloc, first_tsn);
+                self.guard.stop();
                 self.begin(now);
                 self.events.restarted = true;
             }
@@ -164,7 +177,9 @@ impl Association {
     }
 
     /// The association ends with this ABORT.
-    pub(super) fn end_with(&mut self, kind: AloneKind) {
+    pub(super) fn end_with(&mut self, kind: AloneKind)
+        ensures over { self.new.is_over ≡ true }
+    {
         if let Some(peer) = self.machine.peer() {
             self.owe_farewell(peer.tag, kind);
         } else {

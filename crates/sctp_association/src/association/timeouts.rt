@@ -29,7 +29,7 @@ fn owe_again(due: &mut Due, reply: Reply) {
 
 impl Association {
     ghost use Rattle.sctp_association.specs.Still.{IsBy, IsStill, is_behind};
-    ghost use Rattle.sctp_association.specs.Failing.{IsCounted, IsTimedOut};
+    ghost use Rattle.sctp_association.specs.Failing.{IsCounted, IsGuarded, IsTimedOut};
 
     /// The earliest moment at which `handle_timeout` and `poll_transmit` have something to do, though nothing comes; 0 where they have it now.
     /// None only where nothing waits, nothing is in flight, and no handshake, shutdown or reset is under way.
@@ -41,6 +41,7 @@ impl Association {
             result }
         ensures request { self.now.is_over ≡ false
             → IsBy (option_map time_of self.now.requests.under_way) result }
+        ensures guard { self.now.is_over ≡ false → IsBy self.now.guard.at result }
     {
         if self.is_over {
             return None;
@@ -49,6 +50,7 @@ impl Association {
             return Some(0);
         }
         let mut at = earliest(self.control.at(), self.outbound.next_time());
+        at = earliest(at, self.guard.at());
         at = earliest(at, self.requests.next_time());
         if let Some(inbound) = &self.inbound {
             at = earliest(at, inbound.delay.at());
@@ -83,7 +85,7 @@ impl Association {
     }
 
     /// Does what is due by now: timers that ran out, and what failed too often. Each expiry of T3-rtx is counted (RFC 9260 8.1), and each of T1-init,
-    /// T1-cookie and T2-shutdown (4, 9.2): past its limit the association is over.
+    /// T1-cookie and T2-shutdown (4, 9.2): past its limit the association is over. Where T5-shutdown-guard expires an ABORT is due (9.2).
     pub fn handle_timeout(&mut self, now: u64)
         ensures over { self.old.is_over ≡ true → self.new ≡ self.old }
         ensures t3 { self.old.is_over ≡ false → is_due now self.old.outbound.timer.at ≡ true
@@ -94,8 +96,15 @@ impl Association {
         ensures timed { (self.new.is_over ≡ true)
             ⊎ IsTimed self.new.outbound.sender.flight.queue.inflight.chunks
             self.new.outbound.timer.at }
+        // A shutdown ends: it lasts until T5-shutdown-guard expires at most.
+        ensures guard { is_due now self.old.guard.at ≡ true → self.new.is_over ≡ true }
+        ensures guarded { (self.new.is_over ≡ true) ⊎ IsGuarded self.new }
     {
         if self.is_over {
+            return;
+        }
+        if self.guard.is_due(now) {
+            self.end_with(AloneKind::Abort(12));
             return;
         }
         self.time_out_control(now);
@@ -110,6 +119,7 @@ impl Association {
             → (self.new.is_over ≡ true) ⊎ IsTimedOut self.old.machine self.new.machine }
         ensures outbound { self.new.outbound
             ≡ record self.old.outbound { rto = self.new.outbound.rto } }
+        ensures guarded { (self.new.is_over ≡ true) ⊎ IsGuarded self.new }
     {
         if self.control.is_due(now) {
             self.outbound.rto.backed_off();
@@ -126,6 +136,7 @@ impl Association {
             Some(_) => self.control.start(now, self.outbound.rto.get()),
             None => self.control.stop(),
         }
+        self.run_guard(now);
     }
 
     // Whether a HEARTBEAT or a request to reset was not answered once too often (RFC 9260 8.1, 8.3; RFC 6525 5.1.1).

@@ -1,5 +1,7 @@
 //! What a SACK acknowledges (RFC 9260 6.2.1, 6.3, 7.2).
 
+ghost use Rattle.std.specs.Prelude.{◌≡◌};
+
 use super::Outbound;
 use crate::fault::Fault;
 use crate::stream_set::StreamSet;
@@ -61,19 +63,20 @@ impl Outbound {
         now: u64,
     ) -> Result<SackTaken, Fault> {
         let window = u32::try_from(self.peer_window).unwrap_or(u32::MAX);
-        let sack = ChunkSelectiveAck {
+        let mut sack = ChunkSelectiveAck {
             cumulative_tsn_ack: tsn,
             advertised_receiver_window_credit: window,
             gap_ack_blocks: Vec::new(alloc),
             duplicate_tsn: Vec::new(alloc),
         };
-        self.take_sack(&sack, low, now)
+        self.take_sack(&mut sack, low, now)
     }
 
-    /// Takes a SACK, unless it is out of date. Refuses only for memory, and nothing has changed then.
+    /// Takes a SACK, unless it is out of date. Refuses only for memory, and nothing has changed then. A peer that takes back again and again
+    /// what it reported has its blocks passed over: else each such SACK costs as much as is in flight.
     pub(crate) fn take_sack(
         &mut self,
-        sack: &ChunkSelectiveAck,
+        sack: &mut ChunkSelectiveAck,
         low: &mut StreamSet,
         now: u64,
     ) -> Result<SackTaken, Fault> {
@@ -81,9 +84,15 @@ impl Outbound {
         if sna32lt(sack.cumulative_tsn_ack, before) {
             return Ok(SackTaken::Taken);
         }
+        if self.came_back >= self.most_in_flight {
+            sack.gap_ack_blocks.clear();
+        }
         let flight = self.flight();
         let released = match self.sender.acked(sack) {
-            Ok(acked) => acked.released,
+            Ok(acked) => {
+                self.note_back(before, acked.taken_back.len());
+                acked.released
+            }
             Err(SenderRefusal::OutOfMemory) => return Err(Fault::OutOfMemory),
             Err(_) => return Ok(SackTaken::Forged),
         };
@@ -93,6 +102,14 @@ impl Outbound {
         self.burst = None;
         self.follow(sack, &released, before, flight, now);
         Ok(SackTaken::Taken)
+    }
+
+    // Counts what a SACK took back, against what the cumulative TSN passed.
+    fn note_back(&mut self, before: u32, back: usize)
+        ensures { self.new ≡ record self.old { came_back = self.new.came_back } }
+    {
+        let passed = self.sender.acked_tsn().wrapping_sub(before) as usize;
+        self.came_back = self.came_back.saturating_sub(passed).saturating_add(back);
     }
 
     // Follows what a SACK acknowledged: timer, round trip, congestion window, what is missing.
