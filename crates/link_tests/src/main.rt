@@ -1,4 +1,4 @@
-//! Tests of streams, of the link, of its scripts, and of packets under CRC-32C; the program refuses a link memory.
+//! Tests of the link, of its scripts, and of packets under CRC-32C; the program refuses a link memory.
 #![tactic(auto)]
 
 #[cfg(test)]
@@ -17,8 +17,6 @@ mod packets;
 #[cfg(test)]
 mod play;
 mod refusals;
-#[cfg(test)]
-mod streams;
 
 use self::refusals::turn::{Refused, State};
 use self::refusals::{play_scripts, print, take_memory};
