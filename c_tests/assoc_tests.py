@@ -209,8 +209,14 @@ def check_by_tshark(sent):
     for datagram, line in zip(sent, lines):
         types, status, malformed = line.split("\t")
         head, chunks = wire.decode(datagram)
-        want = [str(wire.TYPES.get(name, name[4:])) for name, _ in chunks]
-        if malformed or types.split(",") != want or (head["sum"] == "good" and status not in ("1", "Good")):
+        want, is_cut = [], False
+        for name, fields in chunks:
+            want.append(str(wire.TYPES.get(name, name[4:])))
+            for told in [bytes.fromhex(text[2:]) for key, text in fields if key == "cause" and text.startswith("6:")]:
+                # tshark shows the chunk that a cause 6 has too, and finds one that is cut to a packet malformed.
+                want.append(str(told[0]))
+                is_cut = is_cut or int.from_bytes(told[2:4], "big") > len(told)
+        if (malformed and not is_cut) or types.split(",") != want or (head["sum"] == "good" and status not in ("1", "Good")):
             raise Wrong(f"tshark: {line!r} of {datagram.hex()}")
 
 

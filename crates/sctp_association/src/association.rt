@@ -7,6 +7,7 @@ mod opening;
 mod packets;
 mod resets;
 mod timeouts;
+mod unknown;
 
 ghost use Rattle.std.specs.Prelude.{◌≡◌, IfSome, None, ◌≢◌, ◌≤◌, true, false, IfErr, IfOk, IsOk, OnErr};
 ghost use Rattle.sctp_association.specs.Events.{IsTold};

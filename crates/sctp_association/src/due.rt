@@ -43,7 +43,14 @@ impl Alone {
     }
 }
 
-/// What is due, each at most once: a later one of its kind takes the place of an earlier one.
+/// What the peer sent and this side does not know: an ERROR with this cause tells it (RFC 9260 3.3.10.6, 3.3.10.8).
+#[derive(Drop)]
+pub(crate) struct Report {
+    pub(crate) code: u16,
+    pub(crate) raw: Bytes,
+}
+
+/// What is due, each at most once: a later one of its kind takes the place of an earlier one, but a report waits until it is sent.
 #[derive(Drop)]
 pub(crate) struct Due {
     pub(crate) alone: Option<Alone>,
@@ -53,6 +60,9 @@ pub(crate) struct Due {
     pub(crate) shutdown_ack: bool,
     /// The HEARTBEAT whose information is to be sent back (RFC 9260 8.3).
     pub(crate) heartbeat: Option<Bytes>,
+    pub(crate) report: Option<Report>,
+    /// The parameters of the last INIT that its INIT ACK reports, with padding between them (RFC 9260 3.2.2).
+    pub(crate) unknown_params: Option<Bytes>,
     /// The ABORT or SHUTDOWN-COMPLETE by which this side ended the association: it may be lost, and then a packet of the peer comes again.
     pub(crate) farewell: Option<Alone>,
 }
@@ -67,6 +77,8 @@ impl Due {
             shutdown: false,
             shutdown_ack: false,
             heartbeat: None,
+            report: None,
+            unknown_params: None,
             farewell: None,
         }
     }

@@ -367,7 +367,7 @@ impl Association {
                 let answer = self.machine.shutdown_complete();
                 Ok(self.take_answer(before, answer, 0, now))
             }
-            _ => Ok(Step::Next),
+            _ => self.note_unknown(datagram, chunk),
         }
     }
 

@@ -9,6 +9,7 @@ ghost use Rattle.sctp_handshake.specs.declared.state.State.TheVariants.{Closed};
 
 use super::arrivals::{Step, bytes_of};
 use super::{Association, Reason};
+use crate::due::Report;
 use crate::fault::Fault;
 use bytes::Bytes;
 use sctp_cookie::{HmacSha256, is_stale, open};
@@ -38,6 +39,7 @@ impl Association {
         let fresh = self.fresh(said.offer, now);
         match self.machine.init(said.offer, fresh) {
             Some(reply) => {
+                self.due.unknown_params = self.reported_in(value)?;
                 self.owe(reply, said.offer.tag);
                 Ok(Step::Stop)
             }
@@ -66,12 +68,17 @@ impl Association {
             return Ok(Step::Refused(Reason::NoPacket));
         };
         let cookie = Bytes::copy_from_slice(self.alloc, cookie)?;
+        let reported = self.reported_in(value)?;
         let before = self.machine.state();
         let answer = self.machine.init_ack(offer);
         if answer.reply.is_none() && answer.told.is_none() {
             return Ok(Step::Refused(Reason::Unexpected));
         }
         self.cookie = Some(cookie);
+        if let Some(raw) = reported {
+            // Cause 8: unrecognized parameters (RFC 9260 3.3.10.8).
+            self.due.report = Some(Report { code: 8, raw });
+        }
         self.follow(before, answer, offer.tag, now);
         Ok(Step::Next)
     }

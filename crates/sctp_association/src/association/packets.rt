@@ -86,6 +86,7 @@ impl Association {
                 let cookie = self.cookie_of(&ticket, now)?;
                 let init = self.init_of(ticket.own, Some(cookie))?;
                 self.draft.put(&init);
+                self.due.unknown_params = None;
             }
             AloneKind::StaleCookie(by) => self.put_error(3, &by.to_be_bytes())?,
             AloneKind::ShuttingDown => {
@@ -102,7 +103,7 @@ impl Association {
         Ok(())
     }
 
-    // An INIT, or with a cookie an INIT ACK, with an offer.
+    // An INIT, or with a cookie an INIT ACK, with an offer. An INIT ACK has what it reports before what it offers.
     fn init_of(&self, own: Offer, cookie: Option<Bytes>) -> Result<ChunkInit, Fault> {
         let mut init = ChunkInit {
             is_ack: cookie.is_some(),
@@ -116,6 +117,7 @@ impl Association {
         if let Some(cookie) = cookie {
             init.params
                 .push(ParamKind::StateCookie(ParamStateCookie { cookie }))?;
+            self.push_reported(&mut init)?;
         }
         init.params
             .push(ParamKind::ForwardTsnSupported(ParamForwardTsnSupported))?;
@@ -160,8 +162,8 @@ impl Association {
         Ok(())
     }
 
-    // One cause.
-    fn causes(&self, code: u16, info: &[u8]) -> Result<Vec<ErrorCause>, Fault> {
+    /// One cause.
+    pub(super) fn causes(&self, code: u16, info: &[u8]) -> Result<Vec<ErrorCause>, Fault> {
         let raw = Bytes::copy_from_slice(self.alloc, info)?;
         let mut causes = Vec::new(self.alloc);
         causes.push(ErrorCause {
@@ -175,12 +177,18 @@ impl Association {
     fn fill(&mut self, now: u64) -> Result<(), Fault> {
         self.put_cookies();
         if self.machine.state() == State::CookieEchoed {
-            return Ok(());
+            // With the cookie goes what is told of its INIT ACK (RFC 9260 3.2.2), and nothing else does (5.1 C).
+            return if self.draft.is_empty() {
+                Ok(())
+            } else {
+                self.put_report()
+            };
         }
         self.put_sack(now)?;
         self.put_shutdown();
         self.put_heartbeats(now)?;
         self.put_unknown_stream()?;
+        self.put_report()?;
         self.put_resets(now)?;
         if self.machine.state().sends_data() {
             self.outbound.put(&mut self.draft, now)?;

@@ -1,0 +1,132 @@
+//! What the peer sent and this side does not know (RFC 9260 3.2, 3.2.1, 3.2.2).
+
+ghost use Rattle.std.specs.Prelude.{◌≡◌, ◌≤◌, Ok, IfOk, IfSome, OnErr, length};
+ghost use Rattle.sctp_association.specs.declared.association.Reason.{Reason};
+ghost use Rattle.sctp_association.specs.declared.association.arrivals.Step.TheVariants as step;
+
+use super::arrivals::{Step, bytes_of};
+use super::{Association, Reason};
+use crate::due::Report;
+use crate::fault::Fault;
+use bytes::{Bytes, BytesMut};
+use sctp_chunks::{ChunkError, ChunkInit};
+use sctp_datagram::ChunkPlace;
+use sctp_datagram::params::param_at;
+use sctp_handshake::Reported;
+use sctp_handshake::init_value::INIT_LENGTH;
+use sctp_params::{ParamKind, ParamUnknown};
+use sctp_util::util::get_padding_size;
+
+// The type of a FORWARD-TSN of interleaved messages, which is read over, but not offered (RFC 8260 2.3.1).
+const I_FORWARD_TSN: u8 = 194;
+
+// The type of the parameter Unrecognized Parameter (RFC 9260 3.3.3).
+const UNRECOGNIZED_PARAMETER: u16 = 8;
+
+// The bytes of a packet before what an ERROR with one cause tells: the headers of the packet, of the chunk, and of the cause.
+const BEFORE_CAUSE: usize = 12 + 4 + 4;
+
+// The most bytes of an INIT ACK of this side beside what it reports: header, numbers, cookie, and what it offers.
+const MOST_INIT_ACK: usize = 4 + 16 + 92 + 4 + 8 + 8;
+
+impl Association {
+    // How many bytes an ERROR with one cause tells at most, so that it fits into a packet.
+    fn most_reported(&self) -> usize
+        ensures { result ≤ self.now.config.mtu }
+    {
+        self.config.mtu.saturating_sub(BEFORE_CAUSE) & !3
+    }
+
+    /// Notes a chunk of a type that this side does not know, where its sender is to be told of it (RFC 9260 3.2, 3.3.10.6): as much as fits
+    /// into a packet. While one waits no other is noted, so a datagram has one answer at most.
+    pub(super) fn note_unknown(
+        &mut self,
+        datagram: &Bytes,
+        chunk: ChunkPlace,
+    ) -> Result<Step, Fault>
+        ensures refused { (r : Reason) → result ≡ Ok (step.Refused r) → self.new ≡ self.old }
+        ensures rest { self.new ≡ record self.old { due = self.new.due } }
+        ensures err { OnErr result (self.new ≡ self.old) }
+    {
+        let is_reported = chunk.is_reported || chunk.typ == I_FORWARD_TSN;
+        if !is_reported || self.due.report.is_some() || self.machine.peer().is_none() {
+            return Ok(Step::Next);
+        }
+        let bytes = bytes_of(datagram, chunk);
+        let length = chunk.length.min(self.most_reported());
+        let told = bytes.get(..length).unwrap_or(bytes);
+        let raw = Bytes::copy_from_slice(self.alloc, told)?;
+        self.due.report = Some(Report { code: 6, raw });
+        Ok(Step::Next)
+    }
+
+    /// The parameters in the value of an INIT or an INIT ACK that their sender is told of, with padding between them, as many as fit into a
+    /// packet (RFC 9260 3.2.2). Where there is none it takes no memory.
+    pub(super) fn reported_in(&self, value: &[u8]) -> Result<Option<Bytes>, Fault>
+        ensures { IfOk result (λ o. IfSome o (λ raw. length raw ≤ self.now.config.mtu)) }
+    {
+        let most = self.most_reported();
+        let mut raw = BytesMut::new(self.alloc);
+        let mut from = INIT_LENGTH;
+        for _seen in 0..value.len() {
+            let Some(one) = Reported::first_from(value, from) else {
+                break;
+            };
+            let param = value.get(one.from..one.to).unwrap_or(&[]);
+            let padding = get_padding_size(raw.len());
+            if param.len() + padding > most - raw.len() {
+                break;
+            }
+            raw.extend_from_slice(&[0u8; 3][..padding])?;
+            raw.extend_from_slice(param)?;
+            from = one.next;
+        }
+        if raw.is_empty() {
+            return Ok(None);
+        }
+        Ok(Some(raw.freeze()?))
+    }
+
+    /// Adds an Unrecognized Parameter to an INIT ACK for each parameter that is reported of the INIT, as many as fit (RFC 9260 3.2.2).
+    pub(super) fn push_reported(&self, init: &mut ChunkInit) -> Result<(), Fault> {
+        let Some(raw) = &self.due.unknown_params else {
+            return Ok(());
+        };
+        let mut left = self.draft.room().saturating_sub(MOST_INIT_ACK);
+        let mut at = 0;
+        for _seen in 0..raw.len() {
+            let Ok(place) = param_at(raw.as_slice(), at) else {
+                break;
+            };
+            // With its header and its padding.
+            let takes = (place.next - at).saturating_add(4 + 3) & !3;
+            let to = place.at.saturating_add(place.length);
+            if takes > left || to > raw.len() || at > to {
+                break;
+            }
+            left -= takes;
+            let value = raw.slice(at..to)?;
+            init.params.push(ParamKind::Unknown(ParamUnknown {
+                typ: UNRECOGNIZED_PARAMETER,
+                value,
+            }))?;
+            at = place.next;
+        }
+        Ok(())
+    }
+
+    /// Puts the ERROR about what this side does not know, if it fits; it always fits into an empty packet.
+    pub(super) fn put_report(&mut self) -> Result<(), Fault> {
+        let Some(report) = &self.due.report else {
+            return Ok(());
+        };
+        let error = ChunkError {
+            error_causes: self.causes(report.code, report.raw.as_slice())?,
+        };
+        let is_put = self.draft.put(&error);
+        if is_put || self.draft.is_empty() {
+            self.due.report = None;
+        }
+        Ok(())
+    }
+}
