@@ -1,7 +1,9 @@
 //! What is printed.
 
 use crate::command::Refusal;
-use sctp_association::{Chunks, Ending, Event, Fault, Reason, State, Taken};
+use sctp_association::{
+    Chunks, DataChannelStats, Ending, Event, Fault, Reason, State, Stats, Taken,
+};
 use std::io::{self, Write};
 
 /// What a command answers.
@@ -27,6 +29,8 @@ pub(crate) enum Answer {
         cwnd: usize,
         peer_window: usize,
     },
+    Stats(Stats),
+    StreamStats(DataChannelStats),
 }
 
 // How many bytes are written as hex text at once.
@@ -91,6 +95,27 @@ fn print_look<W: Write>(
     write!(output, "cwnd {cwnd} peer_window {peer_window}\n")
 }
 
+// Prints the counts of the association.
+fn print_stats<W: Write>(stats: &Stats, output: &mut W) -> io::Result<()> {
+    let Stats {
+        waiting,
+        outstanding,
+        resent,
+        timeouts,
+        held,
+    } = *stats;
+    write!(output, "waiting {waiting} outstanding {outstanding} ")?;
+    write!(output, "resent {resent} timeouts {timeouts} held {held}\n")
+}
+
+// Prints the counts of a stream.
+fn print_stream_stats<W: Write>(stats: &DataChannelStats, output: &mut W) -> io::Result<()> {
+    let (messages, bytes) = (stats.messages_sent, stats.bytes_sent);
+    write!(output, "written {messages} {bytes} ")?;
+    let (messages, bytes) = (stats.messages_received, stats.bytes_received);
+    write!(output, "read {messages} {bytes}\n")
+}
+
 /// Prints an answer.
 pub(crate) fn print_answer<W: Write>(answer: &Answer, output: &mut W) -> io::Result<()> {
     match answer {
@@ -112,6 +137,8 @@ pub(crate) fn print_answer<W: Write>(answer: &Answer, output: &mut W) -> io::Res
             cwnd,
             peer_window,
         } => print_look(*rtt, *cwnd, *peer_window, output),
+        Answer::Stats(stats) => print_stats(stats, output),
+        Answer::StreamStats(stats) => print_stream_stats(stats, output),
     }
 }
 

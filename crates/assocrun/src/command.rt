@@ -66,6 +66,8 @@ pub(crate) enum Command {
     Mode(Mode),
     State,
     Look,
+    Stats,
+    StreamStats(u16),
     /// One that has a moment.
     At(u64, Timed),
 }
@@ -99,6 +101,8 @@ pub(crate) fn read_command(alloc: Global, line: &str) -> Result<Option<Command>,
         "mode" => Command::Mode(read_mode(&mut words).ok_or(Refusal::BadField)?),
         "state" => Command::State,
         "look" => Command::Look,
+        "stats" => Command::Stats,
+        "streamstats" => Command::StreamStats(words.stream().ok_or(Refusal::BadField)?),
         _ => read_timed(alloc, word, &mut words)?,
     };
     if !words.is_empty() {

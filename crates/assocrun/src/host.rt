@@ -95,6 +95,13 @@ fn answer(association: &mut Association, command: &Command) -> Result<Answer, Re
                 peer_window: association.peer_window(),
             });
         }
+        Command::Stats => return Ok(Answer::Stats(association.stats())),
+        Command::StreamStats(stream) => {
+            return Ok(match association.stream_stats(*stream) {
+                Some(stats) => Answer::StreamStats(stats),
+                None => Answer::Nothing,
+            });
+        }
         Command::State => return Ok(Answer::State(association.state())),
         Command::New(_) => {}
     }

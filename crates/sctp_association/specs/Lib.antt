@@ -1,5 +1,6 @@
 pub mod Calls
 pub mod Cookies
+pub mod Counts
 pub mod Drafts
 pub mod Events
 pub mod Failing

@@ -6,6 +6,7 @@ mod control;
 mod opening;
 mod packets;
 mod resets;
+mod stats;
 mod timeouts;
 mod unknown;
 
@@ -17,6 +18,7 @@ ghost use Rattle.sctp_handshake.specs.declared.state.State.TheVariants.{Closed};
 ghost use Rattle.sctp_path.specs.Rto.{smoothed_of};
 ghost use Rattle.sctp_sender.specs.Sender.{stream_of};
 
+pub use self::stats::Stats;
 use crate::config::{Config, Secrets};
 use crate::draft::Draft;
 use crate::due::{AloneKind, Due};

@@ -13,7 +13,7 @@ mod once;
 mod outbound;
 mod stream_set;
 
-pub use association::{Association, Reason, Taken};
+pub use association::{Association, Reason, Stats, Taken};
 pub use config::{Config, Secrets};
 pub use event::{Ending, Event};
 pub use fault::Fault;
@@ -21,3 +21,4 @@ pub use sctp_data::chunk::chunk_payload_data::{PayloadProtocolIdentifier, Reliab
 pub use sctp_handshake::State;
 pub use sctp_path::RtoLimits;
 pub use sctp_reassembly::Chunks;
+pub use sctp_stream::DataChannelStats;

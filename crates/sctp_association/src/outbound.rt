@@ -4,6 +4,7 @@ ghost use Rattle.std.specs.Prelude.{◌≡◌, ◌<◌, ◌≤◌, ◌==◌, not
 ghost use Rattle.sctp_association.specs.declared.fault.Fault.TheVariants.{OutOfMemory};
 ghost use Rattle.sctp_association.specs.Waiting.{IsRefusal, closed_where, fault_of, opened, waiting_fault};
 ghost use Rattle.sctp_sender.specs.Settings.{with_low_on};
+ghost use Rattle.sctp_stream.specs.Stats.{count_up};
 ghost use Rattle.sctp_stream.specs.declared.outbound_stream.OutboundStream.{OutboundStream};
 ghost use Rattle.sctp_association.specs.Sending.{EndsWithin, IsTimed, is_none_of, t3_after, t3_time};
 ghost use Rattle.sctp_outbound.specs.Outstanding.{outstanding_of};
@@ -67,6 +68,9 @@ pub(crate) struct Outbound {
     pub(crate) peer_window: usize,
     // How many bytes were outstanding when the burst began that is under way.
     burst: Option<usize>,
+    // How often a DATA chunk was sent again, and T3-rtx ran out.
+    pub(crate) resent: u64,
+    pub(crate) timeouts: u64,
     // Whether the peer takes FORWARD-TSN: else every message is reliable.
     is_partial: bool,
     // Whether a FORWARD-TSN is due, if there is something to tell by one.
@@ -121,6 +125,8 @@ impl Outbound {
             came_back: 0,
             peer_window: 0,
             burst: None,
+            resent: 0,
+            timeouts: 0,
             is_partial: false,
             is_skip_due: false,
             is_fast: false,
@@ -324,6 +330,8 @@ impl Outbound {
             × (self.new.congestion ≡ after_timeout self.old.congestion) }
         ensures marked { is_due now self.old.timer.at ≡ true → self.new.sender
             ≡ with_flight (all_marked self.old.sender.flight) self.old.sender }
+        ensures told { is_due now self.old.timer.at ≡ true
+            → self.new.timeouts ≡ count_up self.old.timeouts 1 }
         ensures timed { IsTimed self.new.sender.flight.queue.inflight.chunks self.new.timer.at }
         ensures soon { EndsWithin now self.new.rto.limits.most self.old.timer.at
             self.new.timer.at }
@@ -334,6 +342,7 @@ impl Outbound {
         }
         self.timer.stop();
         self.timed_out = now;
+        self.timeouts = self.timeouts.saturating_add(1);
         self.rto.backed_off();
         self.congestion.timed_out();
         self.sender.retransmit_all();

@@ -3,6 +3,7 @@
 ghost use Rattle.std.specs.Prelude.{◌≡◌, ◌<◌, ◌≤◌, true, false, IfOk, IfSome, OnErr, length};
 ghost use Rattle.sctp_association.specs.Sending.{IsTimed, idle_times, lowered_times, lowered, may_send_again, may_send_next};
 ghost use Rattle.sctp_outbound.specs.pending_queue.PendingQueue.{next_pending};
+ghost use Rattle.sctp_stream.specs.Stats.{count_up};
 
 use super::{DATA_HEADER, Outbound};
 use crate::draft::Draft;
@@ -93,6 +94,8 @@ impl Outbound {
     ) -> Result<bool, Fault>
         ensures sent { IfOk result (λ sent. sent ≡ true
             → may_send_again is_fast flight self.old.congestion ≡ true) }
+        ensures counted { IfOk result (λ sent. sent ≡ true
+            → self.new.resent ≡ count_up self.old.resent 1) }
         ensures held { IfOk result (λ sent. sent ≡ false
             → (self.new.sender ≡ self.old.sender) × (packet.new ≡ packet.old)) }
         ensures err { OnErr result ((self.new ≡ self.old) × (packet.new ≡ packet.old)) }
@@ -109,6 +112,7 @@ impl Outbound {
             return Ok(false);
         };
         self.is_fast = false;
+        self.resent = self.resent.saturating_add(1);
         self.used = now;
         if chunk.tsn == self.sender.acked_tsn().wrapping_add(1) {
             self.timer.stop();

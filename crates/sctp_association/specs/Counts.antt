@@ -1,0 +1,45 @@
+-- What an association and its streams count.
+use Rattle.std.specs.Prelude.{ℕ, Option, Some, None}
+use Rattle.std.specs.Option.{option_map}
+use Rattle.sctp_association.specs.declared.association.Association.{Association}
+use Rattle.sctp_association.specs.declared.association.stats.Stats.{Stats}
+use Rattle.sctp_association.specs.declared.inbound.Inbound.{Inbound}
+use Rattle.sctp_outbound.specs.Outstanding.{outstanding_of}
+use Rattle.sctp_outbound.specs.pending_queue.PendingQueue.{total_bytes}
+use Rattle.sctp_receiver.specs.Counters.{stats_on}
+use Rattle.sctp_receiver.specs.Limits.{held_cost}
+use Rattle.sctp_sender.specs.Sender.{stream_of}
+use Rattle.sctp_stream.specs.declared.stream.DataChannelStats.{DataChannelStats}
+
+-- nothing is held before the association stands
+abbrev pub held_in : Option Inbound → ℕ
+held_in None = 0
+held_in (Some i) = held_cost i.receiver.streams
+
+abbrev pub stats_of : Association → Stats
+stats_of a = record {
+  waiting = total_bytes a.outbound.sender.flight.queue.pending;
+  outstanding = (outstanding_of a.outbound.sender.flight.queue.inflight.chunks).bytes;
+  resent = a.outbound.resent;
+  timeouts = a.outbound.timeouts;
+  held = held_in a.inbound;
+}
+
+-- ## A stream
+
+abbrev pub read_on : ℕ → Option Inbound → Option DataChannelStats
+read_on stream None = None
+read_on stream (Some i) = stats_on stream i.receiver
+
+-- what was sent is of the one side, what was read of the other; of a side on which it is not open there is nothing
+abbrev pub both_ways : Option DataChannelStats → Option DataChannelStats → Option DataChannelStats
+both_ways None read = read
+both_ways (Some sent) None = Some sent
+both_ways (Some sent) (Some read) = Some (record sent {
+  messages_received = read.messages_received;
+  bytes_received = read.bytes_received;
+})
+
+abbrev pub stream_stats_of : ℕ → Association → Option DataChannelStats
+stream_stats_of stream a =
+    both_ways (option_map (λ l. l.stats) (stream_of stream a.outbound.sender)) (read_on stream a.inbound)
