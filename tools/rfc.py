@@ -363,6 +363,8 @@ RULES = [
         ("an INIT is sent, and its INIT ACK answered by a COOKIE ECHO", "5.1 A, C; 5.2.3",
          ["sctp_handshake::Machine::connect ok refused", "sctp_handshake::Machine::init_ack"],
          ["sctp_handshake Beginnings.on_connect", "sctp_handshake Beginnings.init_ack_row"], []),
+        ("an INIT ACK without a State Cookie ends the attempt, by an ABORT with cause 2", "5.1, 3.3.10.2",
+         ["sctp_association::Association::end_without_cookie refused"], [], ["c_tests/assoc/out_of_blue.script"]),
         ("an INIT is answered by an INIT ACK, and changes nothing: all is in the cookie", "5.1 B, 5.2.1, 5.2.2", ["sctp_handshake::Machine::init"],
          ["sctp_handshake Beginnings.init_row"], []),
         ("an offer without a tag, streams or a window of 1,500 bytes is refused", "3.3.2, 3.3.3",

@@ -25,6 +25,8 @@ pub(crate) enum AloneKind {
     ShutdownComplete,
     /// An ABORT with this cause code (RFC 9260 3.3.7).
     Abort(u16),
+    /// An ABORT with the cause 2, about an INIT ACK that has no State Cookie (RFC 9260 3.3.10.2).
+    NoCookie,
     /// An ABORT with the cause 9, about the chunk with this TSN (RFC 9260 3.3.10.9).
     NoUserData(u32),
 }
@@ -38,7 +40,10 @@ impl Alone {
         match typ {
             1 | 6 | 9 | 10 | 11 | 14 => false,
             8 => true,
-            _ => matches!(self.kind, AloneKind::Abort(_) | AloneKind::NoUserData(_)),
+            _ => matches!(
+                self.kind,
+                AloneKind::Abort(_) | AloneKind::NoCookie | AloneKind::NoUserData(_)
+            ),
         }
     }
 }

@@ -433,6 +433,10 @@ impl Association {
     fn take_heartbeat(&mut self, datagram: &Bytes, chunk: ChunkPlace) -> Result<Step, Fault>
         ensures refused { (r : Reason) → result ≡ Ok (step.Refused r) → self.new ≡ self.old }
     {
+        // Who asks answers from COOKIE-ECHOED on, who is asked once the association stands (RFC 9260 8.3).
+        if self.machine.peer().is_none() {
+            return Ok(Step::Refused(Reason::Unexpected));
+        }
         let Some(heartbeat) = self.read_chunk::<ChunkHeartbeat>(datagram, chunk)? else {
             return Ok(Step::Refused(Reason::NoPacket));
         };

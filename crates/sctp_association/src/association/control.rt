@@ -74,8 +74,8 @@ impl Association {
         self.due.alone = Some(Alone { tag, kind });
     }
 
-    // The packet of one reply is due by which the association ends, and again where it is lost.
-    fn owe_farewell(&mut self, tag: u32, kind: AloneKind)
+    /// The packet of one reply is due by which the association ends, and again where it is lost.
+    pub(super) fn owe_farewell(&mut self, tag: u32, kind: AloneKind)
         ensures { self.new ≡ record self.old { due = self.new.due } }
     {
         self.owe_alone(tag, kind);

@@ -9,13 +9,14 @@ ghost use Rattle.sctp_handshake.specs.declared.state.State.TheVariants.{Closed};
 
 use super::arrivals::{Step, bytes_of};
 use super::{Association, Reason};
-use crate::due::Report;
+use crate::due::{AloneKind, Report};
+use crate::event::Ending;
 use crate::fault::Fault;
 use bytes::Bytes;
 use sctp_cookie::{HmacSha256, is_stale, open};
 use sctp_datagram::ChunkPlace;
 use sctp_datagram::in_place::init_value;
-use sctp_handshake::{Reply, Said, Ticket};
+use sctp_handshake::{InitFault, Reply, Said, State, Ticket};
 
 impl Association {
     /// Takes an INIT (RFC 9260 5.1 B, 5.2.1, 5.2.2): nothing changes but the one reply that is due.
@@ -60,8 +61,10 @@ impl Association {
         let Ok(value) = init_value(bytes_of(datagram, chunk)) else {
             return Ok(Step::Refused(Reason::NoPacket));
         };
-        let Ok((offer, place)) = Said::read_init_ack(value) else {
-            return Ok(Step::Refused(Reason::NoPacket));
+        let (offer, place) = match Said::read_init_ack(value) {
+            Ok(read) => read,
+            Err(InitFault::MissingCookie) => return Ok(self.end_without_cookie(value)),
+            Err(_) => return Ok(Step::Refused(Reason::NoPacket)),
         };
         let end = place.at.saturating_add(place.length);
         let Some(cookie) = value.get(place.at..end) else {
@@ -81,6 +84,25 @@ impl Association {
         }
         self.follow(before, answer, offer.tag, now);
         Ok(Step::Next)
+    }
+
+    // An INIT ACK has no State Cookie: what was begun ends by an ABORT with its tag (RFC 9260 5.1, 3.3.10.2).
+    fn end_without_cookie(&mut self, value: &[u8]) -> Step
+        ensures refused { (r : Reason) → result ≡ step.Refused r → self.new ≡ self.old }
+    {
+        let Ok(said) = Said::read_init(value) else {
+            return Step::Refused(Reason::NoPacket);
+        };
+        if self.machine.state() != State::CookieWait {
+            return Step::Refused(Reason::Unexpected);
+        }
+        if said.offer.tag == 0 {
+            return Step::Refused(Reason::NoPacket);
+        }
+        let _answer = self.machine.abort();
+        self.owe_farewell(said.offer.tag, AloneKind::NoCookie);
+        self.end(Ending::Aborted);
+        Step::Stop
     }
 
     /// Takes a COOKIE ECHO (RFC 9260 5.1 D, 5.1.5, 5.2.4): only one that this side sealed, in a packet with the tag that it holds. Behind one

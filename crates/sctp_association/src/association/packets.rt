@@ -24,6 +24,9 @@ const ZERO_CHECKSUM_ACCEPTABLE: u16 = 0x8001;
 // Its value: the error detection method is DTLS.
 const DTLS: [u8; 4] = [0, 0, 0, 1];
 
+// What the cause 2 tells of an INIT ACK: one parameter is missing, the State Cookie (RFC 9260 3.3.10.2).
+const NO_COOKIE: [u8; 6] = [0, 0, 0, 1, 0, 7];
+
 impl Association {
     /// Writes the next datagram that is due, of at most `Config::mtu` bytes, and answers whether there is one: `datagram` lends it. Call it
     /// until there is none. Refuses only for memory, where nothing else can be sent.
@@ -97,6 +100,7 @@ impl Association {
                 self.draft.put(&ChunkShutdownComplete);
             }
             AloneKind::Abort(cause) => self.put_abort(cause, &[])?,
+            AloneKind::NoCookie => self.put_abort(2, &NO_COOKIE)?,
             AloneKind::NoUserData(tsn) => self.put_abort(9, &tsn.to_be_bytes())?,
         }
         self.draft.seal(false);
