@@ -39,7 +39,7 @@ TEXTS = {"source": ["ip.src", "ipv6.src"], "destination": ["ip.dst", "ipv6.dst"]
 def of_tshark(capture):
     """Returns a dictionary of fields for each frame."""
     fields = ["frame.number"] + [f for fs in list(NUMBERS.values()) + list(TEXTS.values()) for f in fs]
-    words = ["tshark", "-r", capture, "-o", "sctp.checksum:TRUE", "-o", "sctp.relative_tsns:FALSE", "-d", "udp.port==9899,sctp", "-d", "udp.port==9900,sctp",
+    words = ["tshark", "-r", capture, "-o", "sctp.checksum:CRC 32c", "-o", "sctp.relative_tsns:FALSE", "-d", "udp.port==9899,sctp", "-d", "udp.port==9900,sctp",
              "-T", "fields", "-E", "separator=|", "-E", "aggregator=,"] + [w for f in fields for w in ("-e", f)]
     lines = subprocess.run(words, capture_output=True, text=True).stdout.splitlines()
     found = []
