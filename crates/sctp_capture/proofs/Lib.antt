@@ -3,6 +3,7 @@ pub mod Entries
 pub mod Lines
 pub mod Digits
 pub mod Leads
+pub mod Seconds
 pub mod Dumps
 pub mod Texts
 pub mod Heads

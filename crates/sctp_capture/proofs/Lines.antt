@@ -12,8 +12,9 @@ use lib.Seq.{drop-append-le}
 use Rattle.std.proofs.Math.Seq.{drop-append_seam}
 use Rattle.sctp_capture.specs.declared.record.Record.{Record}
 use Rattle.sctp_capture.specs.Window.{Drops}
-use Rattle.sctp_capture.specs.Lead.{lead_of, said_in}
-use Rattle.sctp_capture.specs.Record.{line_in, after_line, digits_in, HoldsLine, IsLine, IsBlankLine, IsLineFound}
+use Rattle.std.specs.declared.net.ip_addr.IpAddr.{IpAddr}
+use Rattle.sctp_capture.specs.Fields.{fields_of, line_lead, said_in, AreEnds, tags_of, link_by}
+use Rattle.sctp_capture.specs.Record.{line_in, after_line, digits_in, HoldsLine, IsLine, IsSaid, IsBlankLine, IsLineFound}
 
 line_feed : (x : ℕ) (xs : List ℕ) → x ≡ 10 → line_in (x ∷ xs) ≡ []
 line_feed x xs e = let it : (x == 10) ≡ true = grind (arith, nat_tests) in rw it refl
@@ -51,6 +52,10 @@ pub line_front : (bytes : List ℕ) → IsFront bytes
 line_front [] = (omega arith, refl)
 line_front (x ∷ xs) = front_by (x == 10) x xs refl (line_front xs)
 
+-- a list that is empty has no length
+pub none_when : (n m : ℕ) (b : Bool) → b ≡ (n == 0) → b ≡ true → n ≡ m → m ≡ 0
+none_when n m b says empty same = grind (arith, nat_tests)
+
 -- a line without digits says nothing
 pub blank_front : (bytes digits : List ℕ) (n : ℕ) → n ≡ length (line_in bytes) → digits ≡ digits_in (said_in (take n bytes)) → length digits ≡ 0
     → digits_in (said_in (line_in bytes)) ≡ []
@@ -59,20 +64,22 @@ blank_front bytes digits n is says none =
     ap (λ l. digits_in (said_in l)) front ∙ sym says ∙ nil_from_length digits none
 
 -- a line with digits is the record that they and its lead say
-pub line_is : (bytes digits : List ℕ) (n : ℕ) (r : Record) → n ≡ length (line_in bytes) → n ≤ 524288 → digits ≡ digits_in (said_in (take n bytes))
-    → 0 < length digits → r.link_type ≡ 248 → r.lost ≡ 0 → r.time ≡ (lead_of (take n bytes)).time → r.direction ≡ (lead_of (take n bytes)).direction
-    → MatchResult (decode_of digits) (λ frame. r.frame ≡ Ok frame) (λ _. r.frame ≡ Err NotHex) → IsLine bytes r
-line_is bytes digits n r is short says some link_type lost time direction text =
+pub line_is : (bytes digits : List ℕ) (n : ℕ) (r : Record) (ends : Option (IpAddr × IpAddr)) → n ≡ length (line_in bytes) → n ≤ 524288
+    → digits ≡ digits_in (said_in (take n bytes)) → 0 < length digits → r.lost ≡ 0
+    → r.time ≡ (line_lead (take n bytes)).time → r.direction ≡ (line_lead (take n bytes)).direction → AreEnds (take n bytes) (fields_of (take n bytes)) ends
+    → r.link_type ≡ link_by ends → MatchResult (decode_of digits) (λ frame. r.frame ≡ Ok (tags_of ends ++ frame)) (λ _. r.frame ≡ Err NotHex)
+    → IsLine bytes r
+line_is bytes digits n r ends is short says some lost time direction are link_type text =
     let front : line_in bytes ≡ take n bytes = (line_front bytes).1 ∙ ap (λ k. take k bytes) (sym is) in
     let same : digits ≡ digits_in (said_in (line_in bytes)) = says ∙ ap (λ l. digits_in (said_in l)) (sym front) in
+    let said : IsSaid (take n bytes) digits r = (ends, are, link_type, text) in
     record {
-      link_type = link_type;
       lost = lost;
       too_long = λ long. absurd (omega (arith, long, short, is));
       time = λ _. rw front time;
       direction = λ _. rw front direction;
       some = λ _. rw (← same) some;
-      text = λ _. rw (← same) text;
+      text = λ _. rw (← same, front) said;
     }
 
 -- ---- more bytes behind
@@ -106,7 +113,6 @@ cut_is_line : (held more : List ℕ) (r : Record) → IsLine held r → length (
 cut_is_line held more r is lt =
     let same = (line_cut held more lt).0 in
     record {
-      link_type = is.link_type;
       lost = is.lost;
       too_long = rw same is.too_long;
       time = rw same is.time;
@@ -124,7 +130,6 @@ more_line held more r is (inr long) = elim (cases_lt (length (line_in held)) (le
       let same : line_in (held ++ more) ≡ held ++ line_in more = (line_joined held more le).0 in
       let far : 524288 < length (line_in (held ++ more)) = rw (same, length-append) (omega (arith, long)) in
       record {
-        link_type = is.link_type;
         lost = is.lost;
         too_long = λ _. is.too_long (omega (arith, long, le));
         time = λ short. absurd (omega (arith, far, short));

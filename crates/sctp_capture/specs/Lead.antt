@@ -1,5 +1,5 @@
 -- What logs write before the hex text of a packet: usrsctp, browsers, and what text2pcap reads.
-use Rattle.std.specs.Prelude.{ℕ, zero, suc, ◌+◌, ◌-◌, ◌*◌, Bool, true, false, ◌==◌, ◌||◌, ◌&&◌, leb, if◌then◌else◌, List, [], ◌∷◌, length, slice_index, slice_range, codes}
+use Rattle.std.specs.Prelude.{ℕ, zero, suc, ◌+◌, ◌-◌, ◌*◌, Bool, true, false, ◌==◌, ◌||◌, ◌&&◌, leb, if◌then◌else◌, List, [], ◌∷◌, length, slice_index, codes}
 use Rattle.std.specs.Prelude.{Some, None}
 use Rattle.sctp_capture.specs.declared.record.Direction.{Direction}
 use Rattle.sctp_capture.specs.declared.record.Direction.TheVariants.{In, Out}
@@ -113,7 +113,3 @@ lead_of line =
     then timed_lead line 20 (three_at line 11 * 1000)
     else if begins_so (codes "M 0000 ") line then marked_lead line
     else prefixed_lead line
-
--- what a line says behind its lead
-abbrev pub said_in : List ℕ → List ℕ
-said_in line = slice_range line (lead_of line).length (length line)

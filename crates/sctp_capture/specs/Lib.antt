@@ -4,6 +4,7 @@ pub mod Fault
 pub mod Lead
 pub mod Dump
 pub mod Preamble
+pub mod Fields
 pub mod Text
 pub mod Blocks
 pub mod Frame

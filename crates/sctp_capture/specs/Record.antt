@@ -1,5 +1,5 @@
 -- The records that an input holds, by its bytes.
-use Rattle.std.specs.Prelude.{◌≡◌, ℕ, ◌+◌, ◌-◌, ◌%◌, ◌<◌, ◌≤◌, ◌⊎◌, Bool, true, false, ◌==◌, ◌||◌, if◌then◌else◌, List, [], ◌∷◌, length, drop, slice_range}
+use Rattle.std.specs.Prelude.{◌≡◌, ℕ, ◌+◌, ◌-◌, ◌%◌, ◌<◌, ◌≤◌, ◌⊎◌, Bool, true, false, ◌==◌, ◌||◌, if◌then◌else◌, List, [], ◌∷◌, ◌++◌, length, drop, slice_range}
 use Rattle.std.specs.Prelude.{Option}
 use Rattle.std.specs.Prelude.{Some, None, Ok, Err, MatchResult}
 use Rattle.std.specs.Io.KnownBytes.{Keeps}
@@ -12,7 +12,8 @@ use Rattle.sctp_capture.specs.declared.record.Head.{Head}
 use Rattle.sctp_capture.specs.declared.record.Time.{Time}
 use Rattle.sctp_capture.specs.declared.record.Fault.TheVariants.{NotHex, CutOff, TooLong}
 use Rattle.sctp_capture.specs.declared.record.Record.{Record}
-use Rattle.sctp_capture.specs.Lead.{lead_of, said_in}
+use Rattle.std.specs.declared.net.ip_addr.IpAddr.{IpAddr}
+use Rattle.sctp_capture.specs.Fields.{fields_of, line_lead, said_in, AreEnds, tags_of, link_by}
 
 -- the number that stands in the four bytes from a place on
 abbrev pub number_at : Order → List ℕ → ℕ → ℕ
@@ -87,19 +88,25 @@ digits_in [] = []
 digits_in (x ∷ xs) =
     if x == 35 then [] else if is_blank x then digits_in xs else x ∷ digits_in xs
 
+-- the frame of a line with these digits: what they say, behind the addresses that the line says, or refused
+abbrev pub IsSaid : List ℕ → List ℕ → Record → Type 0
+IsSaid line digits r =
+    (ends : Option (IpAddr × IpAddr)) × AreEnds line (fields_of line) ends
+    × (r.link_type ≡ link_by ends)
+    × MatchResult (decode_of digits) (λ frame. r.frame ≡ Ok (tags_of ends ++ frame))
+    (λ _. r.frame ≡ Err NotHex)
+
 -- the line that the bytes begin with: its frame is what its hex text says, or refused; when and whither it went is what its lead says
 pub record IsLine (bytes : List ℕ) (r : Record) : Type 0 where
-  pub link_type : r.link_type ≡ 248
   pub lost : r.lost ≡ 0
   pub too_long : 524288 < length (line_in bytes)
-      → (r.time ≡ None) × (r.direction ≡ None) × (r.frame ≡ Err TooLong)
-  pub time : length (line_in bytes) ≤ 524288 → r.time ≡ (lead_of (line_in bytes)).time
+      → (r.link_type ≡ 248) × (r.time ≡ None) × (r.direction ≡ None) × (r.frame ≡ Err TooLong)
+  pub time : length (line_in bytes) ≤ 524288 → r.time ≡ (line_lead (line_in bytes)).time
   pub direction : length (line_in bytes) ≤ 524288
-      → r.direction ≡ (lead_of (line_in bytes)).direction
+      → r.direction ≡ (line_lead (line_in bytes)).direction
   pub some : length (line_in bytes) ≤ 524288 → 0 < length (digits_in (said_in (line_in bytes)))
   pub text : length (line_in bytes) ≤ 524288
-      → MatchResult (decode_of (digits_in (said_in (line_in bytes))))
-      (λ frame. r.frame ≡ Ok frame) (λ _. r.frame ≡ Err NotHex)
+      → IsSaid (line_in bytes) (digits_in (said_in (line_in bytes))) r
 
 -- the line says nothing: behind its lead it is empty, or blanks and a comment
 abbrev pub IsBlankLine : List ℕ → Type 0

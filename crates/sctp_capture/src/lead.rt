@@ -16,7 +16,7 @@ const SHORT: &str = "M dd:dd:dd.ddd 0000 ";
 const MARK: &str = "M 0000 ";
 
 /// The fewest digits that are read behind other text: those of a common header.
-const LEAST_DIGITS: usize = 24;
+pub(crate) const LEAST_DIGITS: usize = 24;
 
 /// What stands before the hex text of a line.
 #[derive(Clone, Copy, Debug, PartialEq, Eq)]
@@ -123,7 +123,7 @@ fn is_hex(byte: u8) -> bool
 
 /// The place behind the last byte of a line that is not of hex text, up to a comment; 0 where there is none.
 #[tactic(auto, using(crate::proofs::Leads::text_ends, crate::proofs::Leads::text_goes, crate::proofs::Leads::text_passes, crate::proofs::Leads::text_full))]
-fn behind_text(line: &[u8]) -> usize
+pub(crate) fn behind_text(line: &[u8]) -> usize
     ensures is { result ≡ leads.behind_text (length line.now) line.now 0 0 }
     ensures within { result ≤ length line.now }
 {
@@ -141,9 +141,10 @@ fn behind_text(line: &[u8]) -> usize
 
 /// The place of the first blank from here on, or the end.
 #[tactic(auto, using(crate::proofs::Leads::word_ends, crate::proofs::Leads::word_goes, crate::proofs::Leads::word_full))]
-fn word_end(line: &[u8], from: usize) -> usize
+pub(crate) fn word_end(line: &[u8], from: usize) -> usize
     requires { from ≤ length line.now }
     ensures is { result ≡ leads.word_end (length line.now - from) line.now from }
+    ensures behind { from ≤ result }
     ensures within { result ≤ length line.now }
 {
     for passed in 0..line.len() - from {

@@ -4,6 +4,7 @@
 pub mod blocks;
 pub mod dump;
 pub mod exported;
+pub mod fields;
 pub mod frame;
 pub mod input;
 pub mod kind;

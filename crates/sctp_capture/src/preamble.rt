@@ -139,7 +139,7 @@ fn six_at(line: &[u8], at: usize) -> u64
 }
 
 /// A time with its fraction, if one stands behind it: three, six or nine digits.
-fn with_fraction(line: &[u8], moment: Moment) -> Moment
+pub(crate) fn with_fraction(line: &[u8], moment: Moment) -> Moment
     requires { moment.end ≤ length line.now }
     ensures is { result ≡ preambles.with_fraction line.now moment }
     ensures within { result.end ≤ length line.now }

@@ -1,16 +1,17 @@
 //! The records of an input: the entries of a capture, or lines of hex text.
 
-ghost use Rattle.std.specs.Prelude.{◌≡◌, ◌≤◌, ◌<◌, ◌+◌, ℕ, Option, None, Some, length, drop, ◌⊎◌, Ok, Err, ◌≢◌, Bool, MatchResult, IfOk, OnOk, IfSome, IfNone, IsTrue, ◌↔◌};
+ghost use Rattle.std.specs.Prelude.{◌≡◌, ◌≤◌, ◌<◌, ◌+◌, ℕ, Option, None, Some, length, drop, ◌++◌, ◌⊎◌, Ok, Err, ◌≢◌, Bool, MatchResult, IfOk, OnOk, IfSome, IfNone, IsTrue, ◌↔◌};
 ghost use Rattle.std.specs.Io.KnownBytes.{Keeps, IsAtEnd, prepend_known};
 ghost use Rattle.hex.specs.Hex.{decode_of};
 ghost use Rattle.sctp_capture.specs.declared.record.Fault.TheVariants.{NotHex};
 ghost use Rattle.sctp_capture.specs.Fault.{fault_text};
-ghost use Rattle.sctp_capture.specs.Lead as leads;
-ghost use Rattle.sctp_capture.specs.Lead.{said_in};
-ghost use Rattle.sctp_capture.specs.Record.{IsHead, magic_of, number_at, IsEntry, entry_span, after_entry, line_in, HoldsLine, is_blank, digits_in, IsLineFound, after_line, IsNext};
+ghost use Rattle.sctp_capture.specs.Fields as said;
+ghost use Rattle.sctp_capture.specs.Fields.{said_in};
+ghost use Rattle.sctp_capture.specs.Record.{IsHead, magic_of, number_at, IsEntry, entry_span, time_at, after_entry, line_in, HoldsLine, is_blank, digits_in, IsLineFound, after_line, IsNext};
 
+use crate::fields::{ends_in, fields_of, lead_by, put_tags};
 use crate::input::ReadFault;
-use crate::lead::{Lead, lead_of};
+use crate::lead::Lead;
 use crate::window::Window;
 use bytes::Bytes;
 use hex::FromHexError;
@@ -18,6 +19,7 @@ use sctp_util::field::{read_u32, read_u32_le};
 use std::alloc::{AllocError, Global};
 use std::fmt;
 use std::io::Read;
+use std::net::IpAddr;
 
 /// The bytes of a capture's header, and those of the header of one of its entries.
 pub const CAPTURE_HEADER: usize = 24;
@@ -32,6 +34,9 @@ pub const MAX_LINE: usize = 524_288;
 
 /// The link type of a line: a datagram alone.
 const LINE_LINK: u32 = 248;
+
+/// The link type of a line with addresses: an exported PDU.
+const EXPORTED_LINK: u32 = 252;
 
 const MICROSECONDS: u32 = 0xa1b2_c3d4;
 
@@ -198,51 +203,54 @@ fn wanted_in(head: &Head, held: &[u8]) -> usize
     ENTRY_HEADER + length
 }
 
+/// The record of an entry with this frame, which lost so many bytes.
+fn entry_record(head: &Head, time: Option<Time>, lost: u32, frame: Result<Bytes, Fault>) -> Record
+    ensures link_type { result.link_type ≡ head.now.link_type }
+    ensures direction { result.direction ≡ None }
+    ensures lost { result.lost ≡ lost }
+    ensures time { result.time ≡ time }
+    ensures frame { result.frame ≡ frame }
+{
+    Record {
+        time,
+        direction: None,
+        link_type: head.link_type,
+        lost,
+        frame,
+    }
+}
+
+/// When the entry that the bytes begin with was captured.
+/// Precondition: its header is there.
+fn entry_time(head: &Head, held: &[u8]) -> Time
+    requires { 16 ≤ length held.now }
+    ensures { result ≡ time_at head.now held.now }
+{
+    Time {
+        seconds: read_number(head.order, held, 0) as u64,
+        fraction: read_number(head.order, held, 4) as u64,
+        nanoseconds: head.nanoseconds,
+    }
+}
+
 /// Reads the entry that the bytes begin with.
 fn read_entry(alloc: Global, head: &Head, held: &[u8]) -> Result<Record, AllocError>
     ensures { IfOk result (IsEntry head.now held.now) }
 {
     if held.len() < ENTRY_HEADER {
-        return Ok(Record {
-            time: None,
-            direction: None,
-            link_type: head.link_type,
-            lost: 0,
-            frame: Err(Fault::CutOff),
-        });
+        return Ok(entry_record(head, None, 0, Err(Fault::CutOff)));
     }
-    let time = Some(Time {
-        seconds: read_number(head.order, held, 0) as u64,
-        fraction: read_number(head.order, held, 4) as u64,
-        nanoseconds: head.nanoseconds,
-    });
+    let time = Some(entry_time(head, held));
     let length = read_number(head.order, held, 8) as usize;
     if length > MAX_RECORD {
-        return Ok(Record {
-            time,
-            direction: None,
-            link_type: head.link_type,
-            lost: 0,
-            frame: Err(Fault::TooLong),
-        });
+        return Ok(entry_record(head, time, 0, Err(Fault::TooLong)));
     }
     if held.len() < ENTRY_HEADER + length {
-        return Ok(Record {
-            time,
-            direction: None,
-            link_type: head.link_type,
-            lost: 0,
-            frame: Err(Fault::CutOff),
-        });
+        return Ok(entry_record(head, time, 0, Err(Fault::CutOff)));
     }
     let frame = Bytes::copy_from_slice(alloc, &held[ENTRY_HEADER..ENTRY_HEADER + length])?;
-    Ok(Record {
-        time,
-        direction: None,
-        link_type: head.link_type,
-        lost: read_number(head.order, held, 12).saturating_sub(read_number(head.order, held, 8)),
-        frame: Ok(frame),
-    })
+    let lost = read_number(head.order, held, 12).saturating_sub(read_number(head.order, held, 8));
+    Ok(entry_record(head, time, lost, Ok(frame)))
 }
 
 /// How many bytes the entry at the front takes, if all of it is there.
@@ -369,7 +377,7 @@ fn digits_of(alloc: Global, line: &[u8]) -> Result<Vec<u8>, AllocError>
 
 /// The digits of a line behind its lead.
 fn line_digits(alloc: Global, line: &[u8], lead: &Lead) -> Result<Vec<u8>, AllocError>
-    requires { (lead.now ≡ leads.lead_of line.now) × (lead.now.length ≤ length line.now) }
+    requires { (lead.now ≡ said.line_lead line.now) × (lead.now.length ≤ length line.now) }
     ensures { IfOk result (λ digits. digits.items ≡ digits_in (said_in line.now)) }
 {
     digits_of(alloc, &line[lead.length..])
@@ -384,13 +392,50 @@ pub fn read_line(alloc: Global, held: &[u8]) -> Result<Option<Record>, AllocErro
         return Ok(Some(line_record(None, None, Err(Fault::TooLong))));
     }
     let line = &held[..length];
-    let lead = lead_of(line);
+    let fields = fields_of(line);
+    let lead = lead_by(line, &fields);
     let digits = line_digits(alloc, line, &lead)?;
     if digits.is_empty() {
         return Ok(None);
     }
-    let frame = read_hex(alloc, &digits)?;
-    Ok(Some(line_record(lead.time, lead.direction, frame)))
+    let ends = ends_in(line, &fields);
+    Ok(Some(said_record(alloc, &lead, ends, &digits)?))
+}
+
+/// The record of a line with this lead that says these digits, of a datagram that went between these addresses.
+fn said_record(
+    alloc: Global,
+    lead: &Lead,
+    ends: Option<(IpAddr, IpAddr)>,
+    digits: &[u8],
+) -> Result<Record, AllocError>
+    ensures lost { IfOk result (λ r. r.lost ≡ 0) }
+    ensures time { IfOk result (λ r. r.time ≡ lead.now.time) }
+    ensures direction { IfOk result (λ r. r.direction ≡ lead.now.direction) }
+    ensures link_type { IfOk result (λ r. r.link_type ≡ said.link_by ends) }
+    ensures frame { IfOk result (λ r. MatchResult (decode_of digits.now)
+        (λ bytes. r.frame ≡ Ok (said.tags_of ends ++ bytes)) (λ _. r.frame ≡ Err NotHex)) }
+{
+    let frame = read_hex(alloc, digits)?;
+    let mut record = line_record(lead.time, lead.direction, frame);
+    let Some(ends) = ends else {
+        return Ok(record);
+    };
+    record.link_type = EXPORTED_LINK;
+    if let Ok(bytes) = &record.frame {
+        record.frame = Ok(tagged(alloc, ends, bytes)?);
+    }
+    Ok(record)
+}
+
+/// A datagram behind the tags of the addresses between which it went.
+fn tagged(alloc: Global, ends: (IpAddr, IpAddr), bytes: &[u8]) -> Result<Bytes, AllocError>
+    ensures { IfOk result (λ frame. frame ≡ said.tags_of (Some ends) ++ bytes.now) }
+{
+    let mut frame = Vec::new(alloc);
+    put_tags(&mut frame, ends)?;
+    frame.extend_from_slice(bytes)?;
+    Ok(Bytes::from_vec(frame)?)
 }
 
 /// The bytes that hex text says.
