@@ -11,5 +11,6 @@ pub mod Uppers
 pub mod Frames
 pub mod Tunnels
 pub mod Tags
+pub mod OptionSteps
 pub mod BlockPieces
 pub mod Pieces

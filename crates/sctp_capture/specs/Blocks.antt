@@ -13,6 +13,7 @@ use Rattle.sctp_capture.specs.declared.blocks.Interface.{Interface}
 use Rattle.sctp_capture.specs.declared.blocks.Section.{Section}
 use Rattle.sctp_capture.specs.declared.blocks.BlockHead.{BlockHead}
 use Rattle.sctp_capture.specs.Record.{number_at}
+use Rattle.sctp_capture.specs.Options.{first_half, padded, direction_in}
 
 -- what is known of the section that is read: the order of its numbers, its interfaces, and whether the next block cannot be found
 pub record Known : Type 0 where
@@ -52,11 +53,6 @@ pub record IsBlockHead (before : Order) (bytes : List ℕ) (h : BlockHead) : Typ
 
 -- ---- what a block says
 
--- the number that the first two of four bytes are, by the number that all four are
-abbrev pub first_half : Order → ℕ → ℕ
-first_half Big number = number / 65536
-first_half Little number = number % 65536
-
 -- The interface that a block describes. Of its unit of time nothing is said here.
 pub record IsInterface (order : Order) (block : List ℕ) (i : Interface) : Type 0 where
   pub short : length block < 20 → i.link_type ≡ 65535
@@ -88,10 +84,11 @@ interface_number h block =
 abbrev pub ticks_at : Order → List ℕ → ℕ
 ticks_at order block = number_at order block 12 * 4294967296 + number_at order block 16
 
--- a packet with an interface, a time, and lengths of its own: the captured one, and the one that it had
+-- A packet with an interface, a time, and lengths of its own: the captured one, and the one that it had. Its flags may say whether it came in. They are
+-- an option behind the frame.
 pub record IsEnhanced (interfaces : List Interface) (h : BlockHead) (block : List ℕ)
     (r : Record) : Type 0 where
-  pub direction : r.direction ≡ None
+  pub refused : (fault : Fault) → r.frame ≡ Err fault → r.direction ≡ None
   pub short : length block < 32 → r.frame ≡ Err BadBlock
   pub unknown : 32 ≤ length block → length interfaces ≤ interface_number h block → r.frame
       ≡ Err NoInterface
@@ -102,6 +99,7 @@ pub record IsEnhanced (interfaces : List Interface) (h : BlockHead) (block : Lis
       → (r.time ≡ time_of i.units (ticks_at h.order block)) × (r.link_type ≡ i.link_type)
       × (r.frame ≡ Ok (slice_range block 28 (28 + number_at h.order block 20)))
       × (r.lost ≡ number_at h.order block 24 - number_at h.order block 20)
+      × (r.direction ≡ direction_in h.order block (28 + padded (number_at h.order block 20)))
 
 -- how many bytes there are of the frame in a block that says only how long it was
 abbrev pub simple_length : Order → Interface → List ℕ → ℕ → ℕ

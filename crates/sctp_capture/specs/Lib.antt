@@ -6,6 +6,7 @@ pub mod Dump
 pub mod Preamble
 pub mod Fields
 pub mod Text
+pub mod Options
 pub mod Blocks
 pub mod Frame
 pub mod Exported

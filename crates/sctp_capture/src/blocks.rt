@@ -10,6 +10,7 @@ ghost use Rattle.sctp_capture.specs.declared.input.Format.TheVariants.{Blocks};
 ghost use Rattle.sctp_capture.specs.Input.{Takes};
 
 use crate::input::ReadFault;
+use crate::options::{MAX_OPTIONS, direction_in, first_half, last_half, padded};
 use crate::record::{Fault, MAX_RECORD, Order, Record, Time, read_number};
 use crate::window::Window;
 use bytes::Bytes;
@@ -36,9 +37,6 @@ const BYTE_ORDER: u32 = 0x1a2b_3c4d;
 
 /// How many interfaces of a section are kept.
 const MAX_INTERFACES: usize = 4_096;
-
-/// How many options of an interface are looked at.
-const MAX_OPTIONS: usize = 64;
 
 /// An interface that frames were captured at.
 #[derive(Clone, Copy)]
@@ -157,24 +155,6 @@ pub fn holds_block(order: Order, held: &[u8]) -> bool {
     }
 }
 
-/// The number that the first two of four bytes are, by the number that all four are.
-fn first_half(order: Order, number: u32) -> u32
-    ensures { result ≡ blocks.first_half order number }
-{
-    match order {
-        Order::Big => number / 65_536,
-        Order::Little => number % 65_536,
-    }
-}
-
-/// The number that the last two are.
-fn last_half(order: Order, number: u32) -> u32 {
-    match order {
-        Order::Big => number % 65_536,
-        Order::Little => number / 65_536,
-    }
-}
-
 /// How many units make a second, by the byte that says so: a power of ten, or of two. 0 where the
 /// unit is finer than any that is shown.
 fn units_by(byte: u8) -> u64 {
@@ -201,7 +181,7 @@ fn units_in(order: Order, options: &[u8]) -> u64 {
             9 if length == 1 => return units_by(rest[4]),
             _ => {}
         }
-        let span = 4 + length.div_ceil(4) * 4;
+        let span = 4 + padded(length);
         rest = rest.get(span..).unwrap_or(b"");
     }
     1_000_000
@@ -284,7 +264,7 @@ fn read_enhanced(
     let low = read_number(order, block, 16) as u64;
     Ok(Record {
         time: time_of(interface.units, high * 4_294_967_296 + low),
-        direction: None,
+        direction: direction_in(order, block, 28 + padded(length)),
         link_type: interface.link_type,
         lost: read_number(order, block, 24).saturating_sub(read_number(order, block, 20)),
         frame: Ok(Bytes::copy_from_slice(alloc, &block[28..28 + length])?),

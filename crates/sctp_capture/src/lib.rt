@@ -9,6 +9,7 @@ pub mod frame;
 pub mod input;
 pub mod kind;
 pub mod lead;
+mod options;
 pub mod preamble;
 pub mod record;
 pub mod text;

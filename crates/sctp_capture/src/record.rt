@@ -133,7 +133,7 @@ pub enum Direction {
 #[derive(Debug, Drop)]
 pub struct Record {
     pub time: Option<Time>,
-    /// As a log says it.
+    /// As a log says it, or a capture in the newer format.
     pub direction: Option<Direction>,
     pub link_type: u32,
     /// How many bytes the frame had behind those that were captured.
