@@ -17,7 +17,7 @@ use sctp_show::mark::{Mark, mark_of, put_marked};
 use sctp_show::page::Form;
 use sctp_show::run::Counts;
 use sctp_show::text::{Options, put_tail};
-use sctp_show::time::time_since;
+use sctp_show::time::{Clock, put_clock};
 use std::alloc::{AllocError, Global};
 use std::net::IpAddr;
 
@@ -43,8 +43,7 @@ pub enum Rung {
 /// How ladders are drawn.
 #[derive(Clone, Copy)]
 pub struct Style {
-    /// Whether times are as they were captured, and not since the first record.
-    pub is_absolute: bool,
+    pub clock: Clock,
     /// Whether TSNs are printed relative to those that they are counted from.
     pub is_relative: bool,
     /// Whether packets that are refused, or repeat a TSN, are colored.
@@ -116,23 +115,25 @@ fn put_words(
     text.push_str("\n")
 }
 
+/// How many columns a time has.
+fn room_of(clock: Clock) -> usize {
+    match clock {
+        Clock::Elapsed | Clock::Seconds => 17,
+        Clock::Dates => 30,
+    }
+}
+
 /// When a packet was captured, and a blank.
 fn put_when(
     alloc: Global,
     text: &mut String,
-    is_absolute: bool,
+    clock: Clock,
     start: &Option<Time>,
     time: &Option<Time>,
 ) -> Result<(), AllocError> {
-    let words = match (start, time) {
-        (_, None) => String::from_str(alloc, "-")?,
-        (Some(start), Some(time)) if !is_absolute => {
-            let elapsed = time_since(start, time);
-            format!(in alloc; "{elapsed}")?
-        }
-        (_, Some(time)) => format!(in alloc; "{time}")?,
-    };
-    put_right(text, &words, 17)?;
+    let mut words = String::new(alloc);
+    put_clock(&mut words, clock, start, time)?;
+    put_right(text, &words, room_of(clock))?;
     text.push_str(" ")
 }
 
@@ -172,11 +173,11 @@ fn put_packet(
 ) -> Result<(), AllocError> {
     let is_refused = is_refused(packet.missing, packet.seen);
     let mark = mark_of(style.is_colored, is_refused, known.is_repeated);
-    put_when(alloc, text, style.is_absolute, start, &packet.time)?;
+    put_when(alloc, text, style.clock, start, &packet.time)?;
     let mut rung = rung_of(way);
     for words in &words_of(alloc, packet, known)? {
         if rung == Rung::Below {
-            put_right(text, " ", 18)?;
+            put_right(text, " ", room_of(style.clock) + 1)?;
         }
         put_words(alloc, text, mark, rung, words.trim_start())?;
         rung = Rung::Below;
@@ -254,7 +255,7 @@ impl Take for Ladders {
         let mut at = 0usize;
         for association in &self.associations.items {
             if let Some(rungs) = self.texts.get(at) {
-                put_ladder(alloc, &mut text, at, association, rungs)?;
+                put_ladder(alloc, &mut text, self.style.clock, at, association, rungs)?;
             }
             at = at.saturating_add(1);
         }
@@ -275,6 +276,7 @@ fn end_of(alloc: Global, address: Option<IpAddr>, port: u16) -> Result<String, A
 fn put_ladder(
     alloc: Global,
     text: &mut String,
+    clock: Clock,
     at: usize,
     association: &Association,
     rungs: &str,
@@ -292,7 +294,7 @@ fn put_ladder(
     let number = at.saturating_add(1);
     write!(text, "Association {number}:")?;
     put_ends(text, Form::Text, association)?;
-    put_right(text, " ", 18)?;
+    put_right(text, " ", room_of(clock) + 1)?;
     text.push_str(&left)?;
     put_right(text, &right, 82usize.saturating_sub(left.len()))?;
     text.push_str("\n")?;

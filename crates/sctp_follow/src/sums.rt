@@ -13,6 +13,7 @@ use sctp_dissect::dissection::{Item, Reading};
 use sctp_show::filter::is_data;
 use sctp_show::page::Form;
 use sctp_show::run::Counts;
+use sctp_show::time::Clock;
 use sctp_util::field::{read_u16, read_u32};
 use std::alloc::{AllocError, Global};
 
@@ -120,18 +121,17 @@ pub struct Sums {
     /// What was sent in each association.
     pairs: Vec<Pair>,
     form: Form,
-    /// Whether times are as they were captured, and not since the first record.
-    is_absolute: bool,
+    clock: Clock,
 }
 
 impl Sums {
     /// Nothing is summed up yet.
-    pub fn new(alloc: Global, form: Form, is_absolute: bool) -> Self {
+    pub fn new(alloc: Global, form: Form, clock: Clock) -> Self {
         Sums {
             associations: Associations::new(alloc),
             pairs: Vec::new(alloc),
             form,
-            is_absolute,
+            clock,
         }
     }
 
@@ -190,10 +190,10 @@ impl Take for Sums {
 
     /// Each association, and the last line.
     fn end(&mut self, alloc: Global, counts: Counts) -> Result<String, AllocError> {
-        let start = self.associations.start;
         let style = Style {
             form: self.form,
-            start: if self.is_absolute { None } else { start },
+            clock: self.clock,
+            start: self.associations.start,
         };
         let mut text = String::new(alloc);
         let mut number = 1u64;

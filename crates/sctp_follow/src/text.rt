@@ -9,14 +9,15 @@ use sctp_capture::record::Time;
 use sctp_show::names::ChunkName;
 use sctp_show::page::Form;
 use sctp_show::run::Counts;
-use sctp_show::time::time_since;
+use sctp_show::time::{Clock, put_clock};
 use std::alloc::AllocError;
 
 /// How a summary is printed.
 #[derive(Clone, Copy)]
 pub struct Style {
     pub form: Form,
-    /// The time since which times are printed, if they are not printed as they were captured.
+    pub clock: Clock,
+    /// The first time of the input.
     pub start: Option<Time>,
 }
 
@@ -67,13 +68,13 @@ fn put_time(
     key: &str,
     time: &Option<Time>,
 ) -> Result<(), AllocError> {
-    match (style.form, &style.start, time) {
-        (_, _, None) => Ok(()),
-        (Form::Json, _, Some(time)) => write!(text, ",\"{key}\":\"{time}\""),
-        (Form::Text, None, Some(time)) => write!(text, "        {label}: {time}\n"),
-        (Form::Text, Some(start), Some(time)) => {
-            let elapsed = time_since(start, time);
-            write!(text, "        {label}: {elapsed}\n")
+    match (style.form, time) {
+        (_, None) => Ok(()),
+        (Form::Json, Some(time)) => write!(text, ",\"{key}\":\"{time}\""),
+        (Form::Text, Some(_)) => {
+            write!(text, "        {label}: ")?;
+            put_clock(text, style.clock, &style.start, time)?;
+            text.push_str("\n")
         }
     }
 }

@@ -19,7 +19,7 @@ use crate::page::{Form, Page, put_all, put_quoted};
 use crate::rules::rule_of_rest;
 use crate::scene::scene_of;
 use crate::summary::Summary;
-use crate::time::time_since;
+use crate::time::{Clock, put_clock};
 use bytes::Bytes;
 use itoa::Buffer;
 use sctp_capture::frame::{Datagram, datagram_in};
@@ -36,8 +36,8 @@ pub struct Options {
     pub form: Form,
     /// Whether what each chunk says stands below the line of its packet, where records are printed as text. JSON has it in any case.
     pub is_full: bool,
-    /// Whether times are as they were captured, and not since the first record, where records are printed as text. JSON has them so in any case.
-    pub is_absolute: bool,
+    /// How times are printed, where records are printed as text. JSON has them as they were captured in any case.
+    pub clock: Clock,
     /// Whether lines of packets that are refused, or repeat a TSN, are colored, where records are printed as text.
     pub is_colored: bool,
     /// Which packets are shown.
@@ -46,22 +46,17 @@ pub struct Options {
     pub limit: u64,
 }
 
-/// When a record was captured: as it was, or since the first record, or `-` where that is not known.
+/// When a record was captured, or `-` where that is not known.
 fn put_time(
     page: &mut Page,
     options: &Options,
     start: &Option<Time>,
     time: &Option<Time>,
 ) -> Result<(), AllocError> {
-    match (page.form, start, time) {
-        (Form::Text, _, None) => page.text.push_str("-"),
-        (Form::Text, Some(start), Some(time)) if !options.is_absolute => {
-            let elapsed = time_since(start, time);
-            write!(page.text, "{elapsed}")
-        }
-        (Form::Text, _, Some(time)) => write!(page.text, "{time}"),
-        (Form::Json, _, None) => Ok(()),
-        (Form::Json, _, Some(time)) => write!(page.text, ",\"time\":\"{time}\""),
+    match (page.form, time) {
+        (Form::Text, _) => put_clock(&mut page.text, options.clock, start, time),
+        (Form::Json, None) => Ok(()),
+        (Form::Json, Some(time)) => write!(page.text, ",\"time\":\"{time}\""),
     }
 }
 

@@ -7,7 +7,7 @@ use sctp_follow::channels::{Carried, Channel, Closing, Opening, Stream};
 use sctp_follow::packet::Arrived;
 use sctp_show::dcep::channel_name;
 use sctp_show::page::{Form, put_quoted};
-use sctp_show::time::time_since;
+use sctp_show::time::put_clock;
 use std::alloc::AllocError;
 
 /// How channels are printed, and of which association they are.
@@ -28,14 +28,11 @@ fn put_arrived(
 ) -> Result<(), AllocError> {
     let number = arrived.number;
     write!(text, "in {number}")?;
-    match (start, &arrived.time) {
-        (_, None) => Ok(()),
-        (Some(start), Some(time)) if !style.is_absolute => {
-            let elapsed = time_since(start, time);
-            write!(text, " at {elapsed}")
-        }
-        (_, Some(time)) => write!(text, " at {time}"),
+    if arrived.time.is_none() {
+        return Ok(());
     }
+    text.push_str(" at ")?;
+    put_clock(text, style.clock, start, &arrived.time)
 }
 
 /// How reliable a channel is: the name of its type, and how often a message is sent again, or for how many milliseconds.

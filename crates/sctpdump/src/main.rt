@@ -28,6 +28,7 @@ use sctp_show::follow::Alone;
 use sctp_show::page::Form;
 use sctp_show::run::{Counts, RunFault, run};
 use sctp_show::text::{Options, heading};
+use sctp_show::time::Clock;
 use std::alloc::{AllocError, Global};
 use std::fmt::Display;
 use std::io::{self, BufWriter, ErrorKind, IsTerminal, Read, Write};
@@ -54,6 +55,8 @@ const VIEW_WORDS: &str =
 /// What the color, the numbers and the picture may be.
 const COLOR_WORDS: &str = "--color is auto, always or never";
 
+const TIME_WORDS: &str = "-t is r, e or ad";
+
 const NUMBER_WORDS: &str = "the port is a number up to 65535, and the count a number";
 
 const PICTURE_WORDS: &str = "--svg has one input, and its FILE is - or ends in .svg";
@@ -63,7 +66,8 @@ const FILTER_HELP: &str =
 
 const FULL_HELP: &str = "Print all that each chunk says, as lines";
 
-const ABSOLUTE_HELP: &str = "Print times as they were captured, not since the first record";
+const TIMES_HELP: &str =
+    "Print times as seconds since the first record (r), since 1970 (e), or as dates in UTC (ad)";
 
 const RELATIVE_HELP: &str =
     "Print TSNs relative to the initial one of their way, or the first one seen; not in JSON";
@@ -169,7 +173,7 @@ fn run_summary<R: Read + Drop, W: Write>(
     input: R,
     output: &mut W,
 ) -> Result<Counts, RunFault> {
-    let mut sums = Sums::new(alloc, options.form, options.is_absolute);
+    let mut sums = Sums::new(alloc, options.form, options.clock);
     summarize(alloc, options, input, &mut sums, output)
 }
 
@@ -181,7 +185,7 @@ fn run_ladders<R: Read + Drop, W: Write>(
     output: &mut W,
 ) -> Result<Counts, RunFault> {
     let style = Style {
-        is_absolute: task.options.is_absolute,
+        clock: task.options.clock,
         is_relative: task.is_relative,
         is_colored: task.options.is_colored,
     };
@@ -269,7 +273,7 @@ impl<'a> Task<'a> {
     fn style(&self) -> text::Style {
         text::Style {
             form: self.options.form,
-            is_absolute: self.options.is_absolute,
+            clock: self.options.clock,
             is_relative: self.is_relative,
         }
     }
@@ -481,6 +485,16 @@ fn count_of(word: Option<&str>) -> Option<u64> {
     }
 }
 
+/// How times are printed, by a word: as seconds since the first record where there is no word, or `r`.
+fn clock_of(word: Option<&str>) -> Option<Clock> {
+    match word {
+        None | Some("r") => Some(Clock::Elapsed),
+        Some("e") => Some(Clock::Seconds),
+        Some("ad") => Some(Clock::Dates),
+        Some(_) => None,
+    }
+}
+
 /// Whether the environment asks for no color (no-color.org).
 fn refuses_color(rt: &HostRuntime) -> bool {
     match env::var(rt, "NO_COLOR") {
@@ -544,7 +558,7 @@ fn bare<'a>(alloc: Global) -> Command<'a> {
 fn with_forms<'a>(alloc: Global, command: Command<'a>) -> Result<Command<'a>, AllocError> {
     command
         .arg(flag(alloc, "full", FULL_HELP).short('V'))?
-        .arg(flag(alloc, "absolute", ABSOLUTE_HELP).short('t'))?
+        .arg(valued(alloc, "times", "FORMAT", TIMES_HELP).short('t'))?
         .arg(flag(alloc, "relative", RELATIVE_HELP))?
         .arg(valued(alloc, "color", "WHEN", COLOR_HELP))?
         .arg(flag(alloc, "json", JSON_HELP))?
@@ -656,7 +670,12 @@ fn is_saved(saved: Option<&str>, view: View, options: &Options, files: &[&str]) 
 }
 
 /// How records are to be looked at, if the port and the count are numbers that can be.
-fn options_in(matches: &ArgMatches<'_>, filter: Choice, is_colored: bool) -> Option<Options> {
+fn options_in(
+    matches: &ArgMatches<'_>,
+    filter: Choice,
+    is_colored: bool,
+    clock: Clock,
+) -> Option<Options> {
     let port = port_of(matches.get_str("port"))?;
     let limit = count_of(matches.get_str("count"))?;
     let sum = if matches.get_flag("no-checksum") {
@@ -674,7 +693,7 @@ fn options_in(matches: &ArgMatches<'_>, filter: Choice, is_colored: bool) -> Opt
         port,
         form,
         is_full: matches.get_flag("full"),
-        is_absolute: matches.get_flag("absolute"),
+        clock,
         is_colored: is_colored && form == Form::Text,
         filter,
         limit,
@@ -717,7 +736,10 @@ fn task_in<'a>(
     let Some(is_colored) = is_colored_by(rt, matches.get_str("color")) else {
         return refuse(rt, COLOR_WORDS);
     };
-    let Some(options) = options_in(matches, filter, is_colored) else {
+    let Some(clock) = clock_of(matches.get_str("times")) else {
+        return refuse(rt, TIME_WORDS);
+    };
+    let Some(options) = options_in(matches, filter, is_colored, clock) else {
         return refuse(rt, NUMBER_WORDS);
     };
     let Some(view) = view_in(matches) else {

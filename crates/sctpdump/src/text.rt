@@ -11,7 +11,7 @@ use sctp_show::dcep::{put_brief_message, put_message};
 use sctp_show::follow::Bases;
 use sctp_show::names::payload_name;
 use sctp_show::page::{Form, Page, put_all, put_quoted};
-use sctp_show::time::time_since;
+use sctp_show::time::{Clock, put_clock};
 use std::alloc::{AllocError, Global};
 use std::str;
 
@@ -19,8 +19,8 @@ use std::str;
 #[derive(Clone, Copy)]
 pub struct Style {
     pub form: Form,
-    /// Whether times are as they were captured, and not since the first record, where messages are printed as text.
-    pub is_absolute: bool,
+    /// How times are printed, where messages are printed as text.
+    pub clock: Clock,
     /// Whether TSNs are printed relative to those that they are counted from, likewise.
     pub is_relative: bool,
 }
@@ -66,15 +66,13 @@ fn put_when(
     start: &Option<Time>,
     time: &Option<Time>,
 ) -> Result<(), AllocError> {
-    match (style.form, start, time) {
-        (Form::Text, _, None) => text.push_str(" -"),
-        (Form::Text, Some(start), Some(time)) if !style.is_absolute => {
-            let elapsed = time_since(start, time);
-            write!(text, " {elapsed}")
+    match (style.form, time) {
+        (Form::Text, _) => {
+            text.push_str(" ")?;
+            put_clock(text, style.clock, start, time)
         }
-        (Form::Text, _, Some(time)) => write!(text, " {time}"),
-        (Form::Json, _, None) => Ok(()),
-        (Form::Json, _, Some(time)) => write!(text, ",\"time\":\"{time}\""),
+        (Form::Json, None) => Ok(()),
+        (Form::Json, Some(time)) => write!(text, ",\"time\":\"{time}\""),
     }
 }
 
