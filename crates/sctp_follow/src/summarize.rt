@@ -5,10 +5,11 @@ ghost use Rattle.std.specs.Prelude.{◌≡◌, ◌≤◌, IfOk};
 use crate::flow::Extent;
 use crate::packet::Packet;
 use sctp_capture::blocks::{Section, Taken};
-use sctp_capture::frame::datagram_in;
+use sctp_capture::frame::{Datagram, datagram_in};
 use sctp_capture::input::{holds_piece, next_piece, open_input, unread_of};
 use sctp_capture::record::{Record, Time};
 use sctp_capture::window::Window;
+use sctp_dissect::dissection::Dissection;
 use sctp_show::checksum::{Sum, sum_for};
 use sctp_show::run::{Counts, RunFault, send_off, write_text};
 use sctp_show::scene::scene_of;
@@ -16,6 +17,7 @@ use sctp_show::text::{Options, shown_in};
 use sctp_show::zero::ZeroTags;
 use std::alloc::{AllocError, Global};
 use std::io::{Read, Write};
+use std::net::IpAddr;
 
 /// Takes the packets of an input, one after the other, and says what is written of them.
 pub trait Take {
@@ -37,65 +39,121 @@ pub trait Take {
     fn end(&mut self, alloc: Global, counts: Counts) -> Result<String, AllocError>;
 }
 
+/// What is known of an input before a record.
+#[derive(Drop)]
+pub struct Past {
+    zero_tags: ZeroTags,
+    /// The first time that a record had.
+    start: Option<Time>,
+}
+
+/// What is seen of the packet in a record.
+#[derive(Drop)]
+pub struct Look {
+    seen: Dissection,
+    ends: Option<(IpAddr, IpAddr)>,
+    extent: Extent,
+    missing: usize,
+    is_wrong: bool,
+    /// Whether it has what is asked for.
+    pub is_shown: bool,
+}
+
+impl Past {
+    /// Nothing came yet.
+    pub fn new(alloc: Global) -> Self {
+        Past {
+            zero_tags: ZeroTags::new(alloc),
+            start: None,
+        }
+    }
+
+    /// Looks at a record. There is nothing to be seen where no packet is in it. Its checksum is computed where a filter asks for it, or this does.
+    /// Refuses only for memory.
+    pub fn look(
+        &mut self,
+        alloc: Global,
+        options: &Options,
+        record: &Record,
+        tests_checksums: bool,
+    ) -> Result<Option<Look>, AllocError> {
+        self.start = self.start.or(record.time);
+        let Ok(frame) = &record.frame else {
+            return Ok(None);
+        };
+        let frame = frame.as_slice();
+        match datagram_in(record.link_type, frame, record.lost, options.port) {
+            Ok(datagram) => {
+                let tests = tests_checksums || options.filter.needs_checksum();
+                Ok(Some(self.look_at(alloc, options, record, datagram, tests)?))
+            }
+            Err(_) => Ok(None),
+        }
+    }
+
+    /// The same, of the datagram in it.
+    fn look_at(
+        &mut self,
+        alloc: Global,
+        options: &Options,
+        record: &Record,
+        datagram: Datagram<'_>,
+        tests: bool,
+    ) -> Result<Look, AllocError> {
+        let (missing, ends) = (datagram.missing, datagram.ends);
+        let sum = if tests {
+            sum_for(options.sum, missing)
+        } else {
+            Sum::Unchecked
+        };
+        let seen = shown_in(alloc, sum, datagram.bytes, missing)?;
+        if sum == Sum::Crc32c {
+            self.zero_tags.note(alloc, &seen)?;
+        }
+        let is_wrong = self.zero_tags.is_wrong(sum, &seen);
+        let scene = scene_of(missing, is_wrong, ends, &self.start, &record.time);
+        Ok(Look {
+            is_shown: options.filter.passes(&seen, &scene),
+            extent: Extent {
+                length: (datagram.bytes.len() as u64).saturating_add(missing as u64),
+                is_cut: missing > 0,
+            },
+            seen,
+            ends,
+            missing,
+            is_wrong,
+        })
+    }
+}
+
 /// Takes the packet of a record, if it has one, and writes what is written of it. Answers how many are shown, 0 or 1.
 fn take_record<T: Take, W: Write>(
     alloc: Global,
     options: &Options,
     number: u64,
     record: &Record,
-    start: &Option<Time>,
-    zero_tags: &mut ZeroTags,
+    past: &mut Past,
     taker: &mut T,
     output: &mut W,
 ) -> Result<u64, RunFault>
     ensures { IfOk result (λ shown. shown ≤ 1) }
 {
     taker.see_time(&record.time);
-    let Ok(frame) = &record.frame else {
+    let Some(look) = past.look(alloc, options, record, taker.tests_checksums())? else {
         return Ok(0);
-    };
-    let Ok(datagram) = datagram_in(
-        record.link_type,
-        frame.as_slice(),
-        record.lost,
-        options.port,
-    ) else {
-        return Ok(0);
-    };
-    let sum = if taker.tests_checksums() || options.filter.needs_checksum() {
-        sum_for(options.sum, datagram.missing)
-    } else {
-        Sum::Unchecked
-    };
-    let seen = shown_in(alloc, sum, datagram.bytes, datagram.missing)?;
-    if sum == Sum::Crc32c {
-        zero_tags.note(alloc, &seen)?;
-    }
-    let is_wrong = zero_tags.is_wrong(sum, &seen);
-    let extent = Extent {
-        length: (datagram.bytes.len() as u64).saturating_add(datagram.missing as u64),
-        is_cut: datagram.missing > 0,
     };
     let packet = Packet {
         number,
-        seen: &seen,
-        ends: datagram.ends,
+        seen: &look.seen,
+        ends: look.ends,
         time: record.time,
-        extent,
-        missing: datagram.missing,
-        is_wrong,
+        extent: look.extent,
+        missing: look.missing,
+        is_wrong: look.is_wrong,
     };
-    let scene = scene_of(
-        datagram.missing,
-        is_wrong,
-        datagram.ends,
-        start,
-        &record.time,
-    );
-    let is_shown = options.filter.passes(&seen, &scene);
-    let text = taker.take(alloc, &packet, is_shown)?;
+    let text = taker.take(alloc, &packet, look.is_shown)?;
     write_text(output, &text)?;
-    Ok(if is_shown { 1 } else { 0 })
+    Ok(if look.is_shown { 1 } else { 0 })
 }
 
 /// Reads each record of an input, has its packet taken, and writes what is written of it, until as many as are to be shown at most have
@@ -112,8 +170,7 @@ fn take_each<R: Read + Drop, T: Take, W: Write>(
     let mut window = Window::new(alloc, input)?;
     let format = open_input(&mut window)?;
     let mut section = Section::new(alloc);
-    let mut zero_tags = ZeroTags::new(alloc);
-    let mut start: Option<Time> = None;
+    let mut past = Past::new(alloc);
     let mut counts = Counts {
         records: 0,
         unread: 0,
@@ -128,14 +185,12 @@ fn take_each<R: Read + Drop, T: Take, W: Write>(
             Taken::Record(record) => {
                 counts.records += 1;
                 counts.unread += unread_of(&record);
-                start = start.or(record.time);
                 counts.shown += take_record(
                     alloc,
                     options,
                     counts.records,
                     &record,
-                    &start,
-                    &mut zero_tags,
+                    &mut past,
                     taker,
                     output,
                 )?;

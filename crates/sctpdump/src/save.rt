@@ -5,16 +5,13 @@ ghost use Rattle.std.specs.Io.KnownBytes.{Appends};
 ghost use Rattle.sctp_capture.specs.Write as written;
 
 use sctp_capture::blocks::{Section, Taken};
-use sctp_capture::frame::datagram_in;
 use sctp_capture::input::{holds_piece, next_piece, open_input, unread_of};
-use sctp_capture::record::{MAX_RECORD, Record, Time};
+use sctp_capture::record::{MAX_RECORD, Record};
 use sctp_capture::window::Window;
 use sctp_capture::write::{put_interface, put_packet, put_section};
-use sctp_show::checksum::{Sum, sum_for};
+use sctp_follow::summarize::Past;
 use sctp_show::run::{Counts, RunFault, send_off};
-use sctp_show::scene::scene_of;
-use sctp_show::text::{Options, shown_in};
-use sctp_show::zero::ZeroTags;
+use sctp_show::text::Options;
 use std::alloc::{AllocError, Global};
 use std::io::{Read, Write};
 
@@ -30,14 +27,6 @@ pub struct Saved {
     link_types: Vec<u32>,
     /// Whether writing failed, so that nothing more is written.
     pub is_broken: bool,
-}
-
-/// What is known of an input before a record.
-#[derive(Drop)]
-struct Past {
-    zero_tags: ZeroTags,
-    /// The first time that a record had.
-    start: Option<Time>,
 }
 
 impl Saved {
@@ -94,37 +83,6 @@ impl Saved {
     }
 }
 
-/// Whether the frame of a record holds a packet that has what is asked for.
-fn is_chosen(
-    alloc: Global,
-    options: &Options,
-    past: &mut Past,
-    record: &Record,
-    frame: &[u8],
-) -> Result<bool, AllocError> {
-    let Ok(datagram) = datagram_in(record.link_type, frame, record.lost, options.port) else {
-        return Ok(false);
-    };
-    let sum = if options.filter.needs_checksum() {
-        sum_for(options.sum, datagram.missing)
-    } else {
-        Sum::Unchecked
-    };
-    let seen = shown_in(alloc, sum, datagram.bytes, datagram.missing)?;
-    if sum == Sum::Crc32c {
-        past.zero_tags.note(alloc, &seen)?;
-    }
-    let is_wrong = past.zero_tags.is_wrong(sum, &seen);
-    let scene = scene_of(
-        datagram.missing,
-        is_wrong,
-        datagram.ends,
-        &past.start,
-        &record.time,
-    );
-    Ok(options.filter.passes(&seen, &scene))
-}
-
 /// Writes a record, if it is chosen. Answers how many were written, 0 or 1.
 fn save_record<W: Write>(
     alloc: Global,
@@ -136,17 +94,15 @@ fn save_record<W: Write>(
 ) -> Result<u64, RunFault>
     ensures { IfOk result (λ shown. shown ≤ 1) }
 {
-    past.start = past.start.or(record.time);
-    let Ok(frame) = &record.frame else {
-        return Ok(0);
-    };
-    let frame = frame.as_slice();
-    if !is_chosen(alloc, options, past, record, frame)? {
-        return Ok(0);
+    let look = past.look(alloc, options, record, false)?;
+    match (look, &record.frame) {
+        (Some(look), Ok(frame)) if look.is_shown => {
+            saved.add(record, frame)?;
+            saved.send(output)?;
+            Ok(1)
+        }
+        _ => Ok(0),
     }
-    saved.add(record, frame)?;
-    saved.send(output)?;
-    Ok(1)
 }
 
 /// Writes each record of an input whose packet has what is asked for, until as many are written as are to be shown at most. What was written
@@ -163,10 +119,7 @@ pub fn save<R: Read + Drop, W: Write>(
     let mut window = Window::new(alloc, input)?;
     let format = open_input(&mut window)?;
     let mut section = Section::new(alloc);
-    let mut past = Past {
-        zero_tags: ZeroTags::new(alloc),
-        start: None,
-    };
+    let mut past = Past::new(alloc);
     let (mut records, mut unread, mut shown) = (0u64, 0u64, 0u64);
     'pieces: for turn in 0..u64::MAX {
         let _turn = turn;
