@@ -140,8 +140,7 @@ pub fn run<R: Read + Drop, F: Follow, W: Write>(
     let mut section = Section::new(alloc);
     let mut summary = Summary::new(alloc)?;
     let (mut records, mut unread, mut shown) = (0u64, 0u64, 0u64);
-    'pieces: for turn in 0..u64::MAX {
-        let _turn = turn;
+    'pieces: for _turn in 0..u64::MAX {
         let counts = Counts {
             records,
             unread,

@@ -121,8 +121,7 @@ pub fn save<R: Read + Drop, W: Write>(
     let mut section = Section::new(alloc);
     let mut past = Past::new(alloc);
     let (mut records, mut unread, mut shown) = (0u64, 0u64, 0u64);
-    'pieces: for turn in 0..u64::MAX {
-        let _turn = turn;
+    'pieces: for _turn in 0..u64::MAX {
         let counts = Counts {
             records,
             unread,
