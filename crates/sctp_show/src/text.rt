@@ -60,32 +60,32 @@ fn put_time(
     }
 }
 
-/// Whither a datagram went, where its addresses are not known.
-fn put_direction(page: &mut Page, direction: Option<Direction>) -> Result<(), AllocError> {
-    let (line, member) = match direction {
+/// Whether a datagram came in or went out, in a line without addresses, and in JSON.
+fn direction_words(direction: Option<Direction>) -> (&'static str, &'static str) {
+    match direction {
         None => (" - > -", ""),
         Some(Direction::In) => (" peer > here", ",\"direction\":\"in\""),
         Some(Direction::Out) => (" here > peer", ",\"direction\":\"out\""),
-    };
-    page.in_text(line)?;
-    page.in_json(member)
+    }
 }
 
-/// Between which addresses a datagram went.
+/// Between which addresses a datagram went, or whither, where these are not known. JSON has both.
 fn put_ends(
     page: &mut Page,
     direction: Option<Direction>,
     datagram: &Datagram<'_>,
 ) -> Result<(), AllocError> {
+    let (line, member) = direction_words(direction);
     let Some((source, destination)) = &datagram.ends else {
-        return put_direction(page, direction);
+        page.in_text(line)?;
+        return page.in_json(member);
     };
     if page.is_text() {
         return write!(page.text, " {source} > {destination}");
     }
     write!(
         page.text,
-        ",\"source\":\"{source}\",\"destination\":\"{destination}\""
+        ",\"source\":\"{source}\",\"destination\":\"{destination}\"{member}"
     )
 }
 
