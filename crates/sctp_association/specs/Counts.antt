@@ -4,17 +4,12 @@ use Rattle.std.specs.Option.{option_map}
 use Rattle.sctp_association.specs.declared.association.Association.{Association}
 use Rattle.sctp_association.specs.declared.association.stats.Stats.{Stats}
 use Rattle.sctp_association.specs.declared.inbound.Inbound.{Inbound}
+use Rattle.sctp_association.specs.Held.{held_by}
 use Rattle.sctp_outbound.specs.Outstanding.{outstanding_of}
 use Rattle.sctp_outbound.specs.pending_queue.PendingQueue.{total_bytes}
 use Rattle.sctp_receiver.specs.Counters.{stats_on}
-use Rattle.sctp_receiver.specs.Limits.{held_cost}
 use Rattle.sctp_sender.specs.Sender.{stream_of}
 use Rattle.sctp_stream.specs.declared.stream.DataChannelStats.{DataChannelStats}
-
--- nothing is held before the association stands
-abbrev pub held_in : Option Inbound → ℕ
-held_in None = 0
-held_in (Some i) = held_cost i.receiver.streams
 
 abbrev pub stats_of : Association → Stats
 stats_of a = record {
@@ -22,7 +17,7 @@ stats_of a = record {
   outstanding = (outstanding_of a.outbound.sender.flight.queue.inflight.chunks).bytes;
   resent = a.outbound.resent;
   timeouts = a.outbound.timeouts;
-  held = held_in a.inbound;
+  held = held_by a.inbound;
 }
 
 -- ## A stream

@@ -4,7 +4,9 @@ pub mod Counts
 pub mod Drafts
 pub mod Events
 pub mod Failing
+pub mod Held
 pub mod Once
+pub mod Reached
 pub mod Rooms
 pub mod Sending
 pub mod Steps

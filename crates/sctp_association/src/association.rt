@@ -10,12 +10,15 @@ mod stats;
 mod timeouts;
 mod unknown;
 
-ghost use Rattle.std.specs.Prelude.{◌≡◌, IfSome, None, ◌≢◌, ◌≤◌, true, false, IfErr, IfOk, IsOk, OnErr};
+ghost use Rattle.std.specs.Prelude.{◌≡◌, IfSome, None, Some, ◌≢◌, ◌≤◌, ◌+◌, ◌*◌, true, false, IfErr, IfOk, IsOk, OnErr};
+ghost use Rattle.std.proofs.Props.{props};
 ghost use Rattle.sctp_association.specs.Events.{IsTold};
 ghost use Rattle.sctp_association.specs.declared.fault.Fault.TheVariants.{BadConfig, WrongState};
+ghost use Rattle.sctp_association.specs.Reached.{limits_of, most_user_data};
 ghost use Rattle.sctp_association.specs.Waiting.{amount_on};
 ghost use Rattle.sctp_handshake.specs.declared.state.State.TheVariants.{Closed};
 ghost use Rattle.sctp_path.specs.Rto.{smoothed_of};
+ghost use Rattle.sctp_receiver.specs.Limits.{chunk_cost};
 ghost use Rattle.sctp_sender.specs.Sender.{stream_of};
 
 pub use self::stats::Stats;
@@ -25,6 +28,7 @@ use crate::due::{AloneKind, Due};
 use crate::event::{Ending, Event, Events};
 use crate::fault::Fault;
 use crate::inbound::Inbound;
+use crate::laws::what_is_held_is_bounded;
 use crate::outbound::{Outbound, OutboundConfig};
 use bytes::Bytes;
 use sctp_data::chunk::chunk_payload_data::PayloadProtocolIdentifier;
@@ -84,6 +88,9 @@ pub struct Association {
     due: Due,
     events: Events,
     draft: Draft,
+    // The receiver has the limits of the config.
+    ghost limited: { IfSome inbound (λ i. (i.receiver.limits ≡ Some (limits_of config))
+        × (i.streams ≤ config.inbound_streams)) } by { Prim.hlevel props },
 }
 
 // What this side offers.
@@ -114,6 +121,8 @@ fn outbound_config(config: &Config, first_tsn: u32) -> OutboundConfig {
 }
 
 impl Association {
+    ghost use Rattle.sctp_association.specs.Held.{HoldsFewChunks, OfReceiver, OpensFewStreams, held_by};
+
     /// No association yet: it waits for a peer's INIT, or for `connect`. Refuses with `BadConfig`. It takes no memory.
     pub fn new(alloc: Global, config: Config, secrets: Secrets) -> Result<Association, Fault>
         ensures mtu { IfOk result (λ a. a.draft.limit ≡ config.mtu) }
@@ -210,6 +219,22 @@ impl Association {
         match &self.inbound {
             Some(inbound) => inbound.receiver.next_len(stream),
             None => None,
+        }
+    }
+
+    /// What is held of the peer's messages and was not read: its bytes, and 400 for each chunk. Whatever the peer sends, it is within what
+    /// the `Config` says (`laws::what_is_held_is_bounded`).
+    pub fn held_bytes(&self) -> usize
+        ensures value { result ≡ held_by self.now.inbound }
+        ensures within { result ≤ self.now.config.window
+            + self.now.config.reach * (most_user_data + chunk_cost) }
+        ensures chunks { OfReceiver HoldsFewChunks self.now }
+        ensures streams { OfReceiver OpensFewStreams self.now }
+    {
+        what_is_held_is_bounded();
+        match &self.inbound {
+            Some(inbound) => inbound.receiver.held_bytes(),
+            None => 0,
         }
     }
 

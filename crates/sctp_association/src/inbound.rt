@@ -1,6 +1,7 @@
 //! What comes of the peer's messages, and when it is acknowledged (RFC 9260 6.2, 6.5; RFC 3758 3.6).
 
-ghost use Rattle.std.specs.Prelude.{◌≡◌, ◌==◌, ◌<◌, ℕ, Ok, OnOk, length, true, false};
+ghost use Rattle.std.specs.Prelude.{◌≡◌, ◌==◌, ◌<◌, ◌≤◌, ℕ, Ok, OnOk, Some, length, true, false};
+ghost use Rattle.sctp_association.specs.Reached.{IsLimited, most_user_data};
 ghost use Rattle.sctp_association.specs.StreamSet.{is_in};
 ghost use Rattle.sctp_params.specs.declared.param.param_reconfig_response.ReconfigResult.TheVariants.{SuccessPerformed};
 ghost use Rattle.sctp_receiver.specs.declared.receiver.refusal.ReceiverRefusal.TheVariants.{MessageTooLarge};
@@ -56,11 +57,18 @@ pub(crate) struct Inbound {
     discarded: StreamSet,
     // The stream of the last chunk that was dropped since there is no such stream: an ERROR is due.
     pub(crate) unknown_stream: Option<u16>,
+    // Calls of which none was refused led to the receiver, and it has limits: so what it holds is bounded.
+    ghost limited: { ∥ IsLimited streams receiver ∥₁ },
 }
 
 impl Inbound {
     /// Nothing came. It takes no memory.
-    pub(crate) fn new(alloc: Global, config: InboundConfig) -> Inbound {
+    #[tactic(auto, using(crate::proofs::Reaching::begun))]
+    pub(crate) fn new(alloc: Global, config: &InboundConfig) -> Inbound
+        ensures limits { (result.receiver.limits ≡ Some config.now.limits)
+            × (result.streams ≡ config.now.streams) }
+    {
+        let _window = config.limits.window;
         Inbound {
             receiver: Receiver::new(
                 alloc,
@@ -77,14 +85,20 @@ impl Inbound {
     }
 
     /// Takes a DATA chunk. What repeats, fills a gap or leaves one is acknowledged at once (RFC 9260 6.2, 6.7).
+    #[tactic(auto, using(crate::proofs::Reaching::data_led, crate::proofs::Reaching::taken_limits))]
     pub(crate) fn take_data(
         &mut self,
         chunk: &ChunkPayloadData,
         events: &mut Events,
         now: u64,
-    ) -> Result<Followed, Fault> {
+    ) -> Result<Followed, Fault>
+        requires short { length chunk.now.user_data ≤ most_user_data }
+        ensures limits { (self.new.receiver.limits ≡ self.old.receiver.limits)
+            × (self.new.streams ≡ self.old.streams) }
+    {
+        let tsn = chunk.tsn;
         if chunk.user_data.is_empty() {
-            return Ok(Followed::NoUserData(chunk.tsn));
+            return Ok(Followed::NoUserData(tsn));
         }
         self.open(chunk.stream_identifier, events)?;
         let had_gap = self.receiver.has_gaps();
@@ -114,7 +128,10 @@ impl Inbound {
     }
 
     /// The datagram has ended: every second one with DATA is acknowledged (RFC 9260 6.2).
-    pub(crate) fn datagram_ended(&mut self, now: u64) {
+    pub(crate) fn datagram_ended(&mut self, now: u64)
+        ensures limits { (self.new.receiver.limits ≡ self.old.receiver.limits)
+            × (self.new.streams ≡ self.old.streams) }
+    {
         if let Some(at_once) = self.came {
             self.delay.packet_came(now, at_once);
             self.came = None;
@@ -122,7 +139,10 @@ impl Inbound {
     }
 
     // Opens a stream, if it is one of those that were agreed, and not open, and the peer's messages on it were not too long.
+    #[tactic(auto, using(crate::proofs::Reaching::opened))]
     fn open(&mut self, stream: u16, events: &mut Events) -> Result<(), Fault>
+        ensures limits { (self.new.receiver.limits ≡ self.old.receiver.limits)
+            × (self.new.streams ≡ self.old.streams) }
         ensures shut { is_in stream self.old.discarded ≡ true → self.new ≡ self.old }
         ensures same { (n : ℕ) → is_in n self.new.discarded ≡ is_in n self.old.discarded }
     {
@@ -137,6 +157,7 @@ impl Inbound {
     }
 
     // Does what is advised at a refusal. The SACK of what is dropped says that there is no room for it (RFC 9260 6.2).
+    #[tactic(auto, using(crate::proofs::Reaching::dropped, crate::proofs::Reaching::dropped_limits, crate::proofs::Reaching::closed))]
     fn follow(
         &mut self,
         refusal: ReceiverRefusal,
@@ -151,6 +172,8 @@ impl Inbound {
         ensures told { refusal ≡ MessageTooLarge → OnOk result
             (chunk.now.stream_identifier < length events.old.too_long
             → is_in chunk.now.stream_identifier events.new.too_long ≡ true) }
+        ensures limits { (self.new.receiver.limits ≡ self.old.receiver.limits)
+            × (self.new.streams ≡ self.old.streams) }
         ensures kept { (n : ℕ) → is_in n self.old.discarded ≡ true
             → is_in n self.new.discarded ≡ true }
     {
@@ -178,12 +201,17 @@ impl Inbound {
 
     /// Takes a FORWARD-TSN, which is acknowledged at once (RFC 3758 3.6). As chunks of streams that are not open are dropped, so are
     /// names of these. One that names too far ahead comes again, while something can be read.
+    #[tactic(auto, using(crate::proofs::Reaching::skip_led, crate::proofs::Reaching::skipped_limits))]
     pub(crate) fn take_skip(
         &mut self,
         skip: &ChunkForwardTsn,
         events: &mut Events,
         now: u64,
-    ) -> Result<Followed, Fault> {
+    ) -> Result<Followed, Fault>
+        ensures limits { (self.new.receiver.limits ≡ self.old.receiver.limits)
+            × (self.new.streams ≡ self.old.streams) }
+    {
+        let _tsn = skip.new_cumulative_tsn;
         match self.receiver.forward_tsn(skip, Closed::PassOver) {
             Ok(Forwarded::Skipped) => self.note_readable(events),
             Ok(Forwarded::Stale) => {}
@@ -208,7 +236,11 @@ impl Inbound {
     }
 
     /// Reads the next message of a stream, if one is there. Where the window was used up, the peer is told that it is not.
-    pub(crate) fn read(&mut self, stream: u16, now: u64) -> Result<Option<Chunks>, Fault> {
+    #[tactic(auto, using(crate::proofs::Reaching::was_read))]
+    pub(crate) fn read(&mut self, stream: u16, now: u64) -> Result<Option<Chunks>, Fault>
+        ensures limits { (self.new.receiver.limits ≡ self.old.receiver.limits)
+            × (self.new.streams ≡ self.old.streams) }
+    {
         if self.receiver.stats(stream).is_none() {
             return Ok(None);
         }
@@ -223,6 +255,7 @@ impl Inbound {
     /// Resets a stream, as the peer asked (RFC 6525 5.2.2): it may open again. While a TSN up to its last one is missing that is in progress:
     /// a chunk of the old use may still come, also on a stream that is not open. It is told of a stream that the request names, or on
     /// which something came.
+    #[tactic(auto, using(crate::proofs::Reaching::was_reset))]
     pub(crate) fn reset(
         &mut self,
         stream: u16,
@@ -230,6 +263,8 @@ impl Inbound {
         is_named: bool,
         events: &mut Events,
     ) -> Result<ReconfigResult, Fault>
+        ensures limits { (self.new.receiver.limits ≡ self.old.receiver.limits)
+            × (self.new.streams ≡ self.old.streams) }
         ensures performed { result ≡ Ok SuccessPerformed → is_in stream self.new.discarded ≡ false }
         // No chunk of the old use is under way.
         ensures none_left { result ≡ Ok SuccessPerformed
@@ -260,12 +295,16 @@ impl Inbound {
     }
 
     /// Puts the SACK that is due, or one that waits where DATA goes with it.
+    #[tactic(auto, using(crate::proofs::Reaching::reported))]
     pub(crate) fn put_sack(
         &mut self,
         packet: &mut Draft,
         has_data: bool,
         now: u64,
-    ) -> Result<(), Fault> {
+    ) -> Result<(), Fault>
+        ensures limits { (self.new.receiver.limits ≡ self.old.receiver.limits)
+            × (self.new.streams ≡ self.old.streams) }
+    {
         let is_waiting = has_data && self.delay.at().is_some();
         if !is_waiting && !self.delay.is_due(now) {
             return Ok(());

@@ -9,6 +9,7 @@ mod due;
 mod event;
 mod fault;
 mod inbound;
+pub mod laws;
 mod once;
 mod outbound;
 mod stream_set;

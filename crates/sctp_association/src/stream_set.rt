@@ -1,6 +1,6 @@
 //! Sets of stream numbers.
 
-ghost use Rattle.std.specs.Prelude.{◌≡◌, ◌==◌, ◌<◌, ◌≤◌, ℕ, [], true, false, Some, IfSome, OnOk, OnErr, get_or, length, take, if◌then◌else◌};
+ghost use Rattle.std.specs.Prelude.{◌≡◌, ◌==◌, ◌<◌, ◌≤◌, ◌^◌, ℕ, [], true, false, Some, IfSome, OnOk, OnErr, get_or, length, take, if◌then◌else◌};
 ghost use Rattle.sctp_association.specs.StreamSet.{IsLeastIn, IsEmpty, is_in};
 
 use std::alloc::{AllocError, Global};
@@ -54,9 +54,10 @@ impl StreamSet {
         Ok(())
     }
 
-    /// For how many numbers there is room: those below this one.
+    /// For how many numbers there is room: those below this one. Each number takes a byte.
     pub(crate) fn room(&self) -> usize
-        ensures { result ≡ length self.now }
+        ensures value { result ≡ length self.now }
+        ensures few { result ≤ 2 ^ 16 }
     {
         self.flags.len()
     }

@@ -1,7 +1,8 @@
 //! What comes in a datagram (RFC 9260 5, 6, 8.5, 9).
 
-ghost use Rattle.std.specs.Prelude.{◌≡◌, Ok, IfOk, OnErr, true, false, drop, length};
+ghost use Rattle.std.specs.Prelude.{◌≡◌, ◌≤◌, Ok, IfOk, OnErr, true, false, drop, length};
 ghost use Rattle.sctp_association.specs.Cookies.{IsAlive, IsSealed, cookie_in};
+ghost use Rattle.sctp_association.specs.Reached.{most_user_data};
 ghost use Rattle.sctp_association.specs.Steps.{is_taken};
 ghost use Rattle.sctp_association.specs.Tags.{AdmitsFirst, BeginsByCookie, FirstIs, FirstIsAlive, IsFor, first_type, is_admitted};
 ghost use Rattle.sctp_association.specs.declared.association.Reason.{Reason};
@@ -22,6 +23,7 @@ use crate::outbound::SackTaken;
 use bytes::Bytes;
 use sctp_chunks::chunk::Chunk;
 use sctp_chunks::{ChunkForwardTsn, ChunkHeartbeat, ChunkHeartbeatAck, ChunkShutdown};
+use sctp_data::chunk::chunk_payload_data::ChunkPayloadData;
 use sctp_datagram::in_place::{data_in, read_sack};
 use sctp_datagram::{ChunkPlace, Datagram, ZeroChecksum};
 use sctp_handshake::{Answer, State};
@@ -49,6 +51,17 @@ pub(super) fn bytes_of(datagram: &Bytes, chunk: ChunkPlace) -> &[u8]
     ensures { result.now ≡ drop chunk.at datagram.now }
 {
     datagram.as_slice().get(chunk.at..).unwrap_or(&[])
+}
+
+// Reads a DATA chunk. What it refuses is want of memory.
+fn read_data(datagram: &Bytes, chunk: ChunkPlace) -> sctp_util::error::Result<ChunkPayloadData>
+    requires place { IsPlace datagram.now chunk }
+    requires typ { chunk.typ ≡ 0 }
+    ensures { IfOk result (λ c. length c.user_data ≤ most_user_data) }
+{
+    // Its length is a u16.
+    read_u16(bytes_of(datagram, chunk), 2);
+    data_in(datagram, chunk)
 }
 
 impl Association {
@@ -251,7 +264,7 @@ impl Association {
         if !self.machine.state().takes_data() {
             return Ok(Step::Refused(Reason::Unexpected));
         }
-        let Ok(data) = data_in(datagram, chunk) else {
+        let Ok(data) = read_data(datagram, chunk) else {
             return Err(Fault::OutOfMemory);
         };
         let Some(inbound) = &mut self.inbound else {

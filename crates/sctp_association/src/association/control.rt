@@ -139,9 +139,9 @@ impl Association {
             .connected(peer.window as usize, agreed.forward_tsn);
         self.inbound = Some(Inbound::new(
             self.alloc,
-            InboundConfig {
+            &InboundConfig {
                 first_tsn: peer.first_tsn,
-                streams: agreed.inbound_streams,
+                streams: agreed.inbound_streams.min(self.config.inbound_streams),
                 max_message_size: self.config.max_message_size,
                 limits: Limits {
                     window: self.config.window,

@@ -35,10 +35,7 @@ impl Association {
             outstanding: outbound.sender.outstanding().bytes,
             resent: outbound.resent,
             timeouts: outbound.timeouts,
-            held: match &self.inbound {
-                Some(inbound) => inbound.receiver.held_bytes(),
-                None => 0,
-            },
+            held: self.held_bytes(),
         }
     }
 

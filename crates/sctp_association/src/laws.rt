@@ -1,0 +1,15 @@
+//! What holds of every association: a law, the contract of a function that does nothing.
+
+ghost use Rattle.sctp_association.specs.Held.{CostsLittle, HoldsFewChunks, KeepsFewTsns, NotesFewDuplicates, OfEach, OpensFewStreams};
+
+/// Whatever a peer sends, and whatever calls an association had, what it holds of the peer's messages is within its `Config`. By 400 a
+/// chunk, the chunks count for no more than `window` and one chunk for each TSN within `reach`; with their bytes, for no more than
+/// `window` and one longest chunk for each. No more TSNs stand beyond the cumulative one than within `reach`, no more duplicates are
+/// noted than one SACK can report, and no more streams are open than `inbound_streams`.
+pub fn what_is_held_is_bounded()
+    ensures chunks { OfEach HoldsFewChunks }
+    ensures bytes { OfEach CostsLittle }
+    ensures beyond { OfEach KeepsFewTsns }
+    ensures duplicates { OfEach NotesFewDuplicates }
+    ensures streams { OfEach OpensFewStreams }
+{}
