@@ -6,3 +6,4 @@ pub mod Few
 pub mod Reaching
 pub mod ReachedBounds
 pub mod UserData
+pub mod Kept

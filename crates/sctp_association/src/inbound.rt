@@ -96,12 +96,12 @@ impl Inbound {
         ensures limits { (self.new.receiver.limits ≡ self.old.receiver.limits)
             × (self.new.streams ≡ self.old.streams) }
     {
-        let tsn = chunk.tsn;
         if chunk.user_data.is_empty() {
-            return Ok(Followed::NoUserData(tsn));
+            return Ok(Followed::NoUserData(chunk.tsn));
         }
         self.open(chunk.stream_identifier, events)?;
         let had_gap = self.receiver.has_gaps();
+        let _tsn = chunk.tsn;
         match self.receiver.data(chunk) {
             Ok(Arrival::New { complete }) => {
                 let at_once = chunk.immediate_sack || had_gap || self.receiver.has_gaps();

@@ -53,15 +53,18 @@ pub(super) fn bytes_of(datagram: &Bytes, chunk: ChunkPlace) -> &[u8]
     datagram.as_slice().get(chunk.at..).unwrap_or(&[])
 }
 
-// Reads a DATA chunk. What it refuses is want of memory.
-fn read_data(datagram: &Bytes, chunk: ChunkPlace) -> sctp_util::error::Result<ChunkPayloadData>
+// Reads a DATA chunk. Refuses only for memory.
+fn read_data(datagram: &Bytes, chunk: ChunkPlace) -> Result<ChunkPayloadData, Fault>
     requires place { IsPlace datagram.now chunk }
     requires typ { chunk.typ ≡ 0 }
     ensures { IfOk result (λ c. length c.user_data ≤ most_user_data) }
 {
     // Its length is a u16.
     read_u16(bytes_of(datagram, chunk), 2);
-    data_in(datagram, chunk)
+    match data_in(datagram, chunk) {
+        Ok(data) => Ok(data),
+        Err(_) => Err(Fault::OutOfMemory),
+    }
 }
 
 impl Association {
@@ -264,9 +267,7 @@ impl Association {
         if !self.machine.state().takes_data() {
             return Ok(Step::Refused(Reason::Unexpected));
         }
-        let Ok(data) = read_data(datagram, chunk) else {
-            return Err(Fault::OutOfMemory);
-        };
+        let data = read_data(datagram, chunk)?;
         let Some(inbound) = &mut self.inbound else {
             return Ok(Step::Refused(Reason::Unexpected));
         };
