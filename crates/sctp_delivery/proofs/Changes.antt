@@ -79,7 +79,7 @@ fewer : {A : Type 0} (q : A → Bool) (xs : List A) → length (filter q xs) ≤
 fewer q [] = omega arith
 fewer q (x ∷ xs) = at-if (λ z. length z ≤ length (x ∷ xs)) (q x) (λ e. omega (arith, fewer q xs)) (λ e. omega (arith, fewer q xs))
 
-order-short : (q : ChunkPayloadData → Bool) (f : Flight) (o : Option ℕ) → length
+pub order-short : (q : ChunkPayloadData → Bool) (f : Flight) (o : Option ℕ) → length
     (option_to_list o ++ map (λ (c : ChunkPayloadData). c.tsn) (filter q f.queue.inflight.chunks)) ≤ 1 + length f.queue.inflight.chunks
 order-short q f o = grind (arith, nat_tests, common_steps, at-most-one o, fewer q f.queue.inflight.chunks)
 

@@ -99,3 +99,10 @@ pub mod Stands
 pub mod InOrder
 pub mod PassedOn
 pub mod BothWays
+pub mod Plain
+pub mod PlainStreams
+pub mod PlainFlights
+pub mod PlainSessions
+pub mod PlainCalls
+pub mod PlainRuns
+pub mod PlainLaws

@@ -11,7 +11,7 @@ use Rattle.sctp_delivery.proofs.Delivered as delivered
 use Rattle.sctp_delivery.proofs.Delivered.{next_tsn}
 
 -- one call more
-pub run-then : (cs : List Call) (c : Call) (old mid new : Session) → RunsTo old cs mid → Follows c mid new → RunsTo old (cs ++ c ∷ []) new
+unfoldable pub run-then : (cs : List Call) (c : Call) (old mid new : Session) → RunsTo old cs mid → Follows c mid new → RunsTo old (cs ++ c ∷ []) new
 run-then [] c old mid new r f = (new, (subst (λ s. Follows c s new) r f, refl))
 run-then (d ∷ cs) c old mid new r f = (r.0, (r.1.0, run-then cs c r.0 mid new r.1.1 f))
 

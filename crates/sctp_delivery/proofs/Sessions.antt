@@ -49,7 +49,7 @@ runs tsn size max most limits cs s r =
 
 -- ## Bytes
 
-written-more : (call : SenderCall) (ws : List Write)
+pub written-more : (call : SenderCall) (ws : List Write)
     → sum_by (λ (w : Write). length w.bytes) (written_after call ws) ≡ sum_by (λ (w : Write). length w.bytes) ws + written_by (outgoing.as_run call)
 written-more (writes stream ppi []) ws = omega arith
 written-more (writes stream ppi (b ∷ bs)) ws =

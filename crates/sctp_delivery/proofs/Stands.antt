@@ -36,7 +36,7 @@ sender_after call s new = record s {
   written = written_after call s.written;
 }
 
-sender-follows : (call : SenderCall) (s : Session) (new : Transmission) → SenderMakes call s.sending.sender new → IsReported call s
+pub sender-follows : (call : SenderCall) (s : Session) (new : Transmission) → SenderMakes call s.sending.sender new → IsReported call s
     → SenderFollows call s (sender_after call s new)
 sender-follows call s new m h = record {
   handed = h;
@@ -64,7 +64,7 @@ receiver-follows call s new m h =
 
 -- ## What was made stays made
 
-contains-more : {A : Type 0} (x y : A) (xs : List A) → Contains xs x → Contains (y ∷ xs) x
+pub contains-more : {A : Type 0} (x y : A) (xs : List A) → Contains xs x → Contains (y ∷ xs) x
 contains-more x y xs c = (suc c.0, (let lt = c.1 in omega (arith, lt)), c.2)
 
 more-made : (call : SenderCall) (t : Transmission) (ms : List Made) (m : Made) → Contains ms m → Contains (made_after call t ms) m
@@ -78,7 +78,7 @@ more-made (outgoing.forwards tsn f) t ms m c = contains-more m _ ms c
 more-made (outgoing.forwards_within bytes f) t ms m c = contains-more m _ ms c
 more-made call t ms m c = c
 
-more-reported : (call : ReceiverCall) (r : Reception) (ks : List Sack) (k : Sack) → Contains ks k → Contains (reports_after call r ks) k
+pub more-reported : (call : ReceiverCall) (r : Reception) (ks : List Sack) (k : Sack) → Contains ks k → Contains (reports_after call r ks) k
 more-reported (incoming.reports credit) r ks k c = contains-more k _ ks c
 more-reported (incoming.reports_within credit bytes) r ks k c = contains-more k _ ks c
 more-reported (incoming.makes_sack credit bytes) r ks k c = contains-more k _ ks c

@@ -10,6 +10,7 @@ pub mod Rounds
 pub mod Refused
 pub mod Ending
 pub mod Discards
+pub mod Returns
 pub mod Retransmission
 pub mod Modes
 pub mod Expiries

@@ -10,6 +10,7 @@ pub mod messages;
 pub mod modes;
 pub mod progress;
 pub mod retransmission;
+pub mod returns;
 pub mod rounds;
 pub mod stands;
 

@@ -1,0 +1,287 @@
+-- Chunks in flight of a sender that keeps what is reported, beside those that it would have if no gap ack block were taken.
+use Rattle.sctp_delivery.proofs.Names.{◌≡◌, ℕ, zero, suc, ◌<◌, ◌+◌, ◌%◌, ◌^◌, Bool, true, false, not, List, [], ◌∷◌, ◌++◌, length, map, take, drop, refl, ap}
+use Rattle.sctp_delivery.proofs.Names.{ap₂, sym, subst, ◌∙◌, arith, Option, Some, None, option_map, if◌then◌else◌, ◌&&◌, ◌||◌, filter, find, change_where}
+use Rattle.sctp_delivery.proofs.Names.{insert_before, negated, both, not_both, some-same, length-map, ChunkPayloadData, Sack, as_abandoned}
+use Rattle.sctp_delivery.proofs.Names.{as_acknowledged, reports, reports_anew, chunk_before, tsns, following_tsn, comes_before}
+use Rattle.sctp_delivery.proofs.Names.{at_or_before, distance, last_of, is_in_blocks, IsRunFrom}
+use Rattle.sctp_sender.specs.Keeping.{back_each, back_of, keep, keep_each, kept_from, restored, restored_with, takes_back, tells_of, trimmed}
+use Rattle.sctp_sender.proofs.Flights.{behind}
+use Rattle.sctp_delivery.proofs.Cases.{at-if, at-test}
+use Rattle.sctp_delivery.proofs.Every.{Every}
+
+-- ## One chunk
+
+-- without what SACKs change, and its user data
+abbrev pub plain : ChunkPayloadData → ChunkPayloadData
+plain c = record c { acked = false; retransmit = false; miss_indicator = 0; user_data = [] }
+
+-- the second is the first as it would be: it is not acknowledged, and has its bytes. The first has them too, or they are kept
+pub record IsLike (k : Option (List ℕ)) (c d : ChunkPayloadData) : Type 0 where
+  pub same : plain c ≡ plain d
+  pub open' : d.acked ≡ false
+  pub whole : c.acked ≡ false → c.user_data ≡ d.user_data
+  pub kept : c.acked ≡ true → c.abandoned ≡ false → (bytes : List ℕ) → k ≡ Some bytes → bytes ≡ d.user_data
+  pub settled : c.acked ≡ true → length c.user_data ≡ 0
+
+-- a chunk that is not acknowledged is like itself, whatever is kept
+pub like-itself : (k : Option (List ℕ)) (c : ChunkPayloadData) → c.acked ≡ false → IsLike k c c
+like-itself k c e = record {
+  same = refl;
+  open' = e;
+  whole = λ _. refl;
+  kept = λ a. absurd (not_both (sym e ∙ a));
+  settled = λ a. absurd (not_both (sym e ∙ a));
+}
+
+pub like-abandoned : (k : Option (List ℕ)) (c d : ChunkPayloadData) → IsLike k c d → IsLike k (as_abandoned c) (as_abandoned d)
+like-abandoned k c d i = record {
+  same = ap as_abandoned i.same;
+  open' = i.open';
+  whole = λ _. refl;
+  kept = λ a b. absurd (not_both (sym b));
+  settled = λ _. refl;
+}
+
+-- ## All chunks, place by place
+
+abbrev pub first_of : List (Option (List ℕ)) → Option (List ℕ)
+first_of [] = None
+first_of (k ∷ ks) = k
+
+abbrev pub rest_of : List (Option (List ℕ)) → List (Option (List ℕ))
+rest_of [] = []
+rest_of (k ∷ ks) = ks
+
+abbrev pub Relation : Type 1
+Relation = Option (List ℕ) → ChunkPayloadData → ChunkPayloadData → Type 0
+
+abbrev pub Are : Relation → List (Option (List ℕ)) → List ChunkPayloadData → List ChunkPayloadData → Type 0
+Are R ks [] [] = Unit {0}
+Are R ks [] (d ∷ ds) = ⊥
+Are R ks (c ∷ cs) [] = ⊥
+Are R ks (c ∷ cs) (d ∷ ds) = R (first_of ks) c d × Are R (rest_of ks) cs ds
+
+module _ (R : Relation) where
+  pub are-mapped : {B : Type 0} (f g : ChunkPayloadData → B) → ((k : Option (List ℕ)) (c d : ChunkPayloadData) → R k c d → f c ≡ g d)
+      → (ks : List (Option (List ℕ))) (cs ds : List ChunkPayloadData) → Are R ks cs ds → map f cs ≡ map g ds
+  are-mapped f g h ks [] [] a = refl
+  are-mapped f g h ks [] (d ∷ ds) a = absurd a
+  are-mapped f g h ks (c ∷ cs) [] a = absurd a
+  are-mapped f g h ks (c ∷ cs) (d ∷ ds) a = ap₂ (λ x xs. x ∷ xs) (h (first_of ks) c d a.0) (are-mapped f g h (rest_of ks) cs ds a.1)
+
+  pub are-behind : (x y : ChunkPayloadData) → ((k : Option (List ℕ)) → R k x y) → (ks : List (Option (List ℕ))) (cs ds : List ChunkPayloadData) → Are R ks cs ds
+      → Are R ks (cs ++ x ∷ []) (ds ++ y ∷ [])
+  are-behind x y h ks [] [] a = (h (first_of ks), tt)
+  are-behind x y h ks [] (d ∷ ds) a = absurd a
+  are-behind x y h ks (c ∷ cs) [] a = absurd a
+  are-behind x y h ks (c ∷ cs) (d ∷ ds) a = (a.0, are-behind x y h (rest_of ks) cs ds a.1)
+
+  pub are-changed : (p q : ChunkPayloadData → Bool) (f g : ChunkPayloadData → ChunkPayloadData)
+      → ((k : Option (List ℕ)) (c d : ChunkPayloadData) → R k c d → q d ≡ p c) → ((k : Option (List ℕ)) (c d : ChunkPayloadData) → R k c d → R k (f c) (g d))
+      → (ks : List (Option (List ℕ))) (cs ds : List ChunkPayloadData) → Are R ks cs ds → Are R ks (change_where p f cs) (change_where q g ds)
+  are-changed p q f g same h ks [] [] a = tt
+  are-changed p q f g same h ks [] (d ∷ ds) a = absurd a
+  are-changed p q f g same h ks (c ∷ cs) [] a = absurd a
+  are-changed p q f g same h ks (c ∷ cs) (d ∷ ds) a = (
+    subst (λ b. R (first_of ks) (if p c then f c else c) (if b then g d else d)) (sym (same (first_of ks) c d a.0))
+        (at-test (λ b. R (first_of ks) (if b then f c else c) (if b then g d else d)) (p c) (λ _. h (first_of ks) c d a.0) (λ _. a.0)),
+    are-changed p q f g same h (rest_of ks) cs ds a.1,
+  )
+
+  -- where the others stay
+  pub are-marked : (p : ChunkPayloadData → Bool) (f : ChunkPayloadData → ChunkPayloadData) → ((k : Option (List ℕ)) (c d : ChunkPayloadData) → R k c d
+      → R k (f c) d) → (ks : List (Option (List ℕ))) (cs ds : List ChunkPayloadData) → Are R ks cs ds → Are R ks (change_where p f cs) ds
+  are-marked p f h ks [] [] a = tt
+  are-marked p f h ks [] (d ∷ ds) a = absurd a
+  are-marked p f h ks (c ∷ cs) [] a = absurd a
+  are-marked p f h ks (c ∷ cs) (d ∷ ds) a =
+      (at-if (λ x. R (first_of ks) x d) (p c) (λ _. h (first_of ks) c d a.0) (λ _. a.0), are-marked p f h (rest_of ks) cs ds a.1)
+
+  pub are-part-marked : (p : ChunkPayloadData → Bool) (f : ChunkPayloadData → ChunkPayloadData)
+      → ((k : Option (List ℕ)) (c d : ChunkPayloadData) → R k c d → R k (f c) d) → (n : ℕ) (ks : List (Option (List ℕ))) (cs ds : List ChunkPayloadData)
+      → Are R ks cs ds → Are R ks (change_where p f (take n cs) ++ drop n cs) ds
+  are-part-marked p f h zero ks cs ds a = a
+  are-part-marked p f h (suc n) ks [] [] a = tt
+  are-part-marked p f h (suc n) ks [] (d ∷ ds) a = absurd a
+  are-part-marked p f h (suc n) ks (c ∷ cs) [] a = absurd a
+  are-part-marked p f h (suc n) ks (c ∷ cs) (d ∷ ds) a =
+      (at-if (λ x. R (first_of ks) x d) (p c) (λ _. h (first_of ks) c d a.0) (λ _. a.0), are-part-marked p f h n (rest_of ks) cs ds a.1)
+
+  pub are-left : (n : ℕ) (ks : List (Option (List ℕ))) (cs ds : List ChunkPayloadData) → Are R ks cs ds → Are R (drop n ks) (drop n cs) (drop n ds)
+  are-left zero ks cs ds a = a
+  are-left (suc n) ks [] [] a = tt
+  are-left (suc n) ks [] (d ∷ ds) a = absurd a
+  are-left (suc n) ks (c ∷ cs) [] a = absurd a
+  are-left (suc n) ks (c ∷ cs) (d ∷ ds) a = subst (λ js. Are R js (drop n cs) (drop n ds)) (rest n ks) (are-left n (rest_of ks) cs ds a.1)
+    where
+      rest : (n : ℕ) (ks : List (Option (List ℕ))) → drop n (rest_of ks) ≡ drop (suc n) ks
+      rest zero [] = refl
+      rest (suc n) [] = refl
+      rest n (k ∷ ks) = refl
+
+  pub are-trimmed : (ks : List (Option (List ℕ))) (cs ds : List ChunkPayloadData) → Are R ks cs ds → Are R (trimmed ks) cs ds
+  are-trimmed [] cs ds a = a
+  are-trimmed (k ∷ ks) [] [] a = tt
+  are-trimmed (k ∷ ks) [] (d ∷ ds) a = absurd a
+  are-trimmed (k ∷ ks) (c ∷ cs) [] a = absurd a
+  are-trimmed (k ∷ ks) (c ∷ cs) (d ∷ ds) a = by k (trimmed ks) a.0 (are-trimmed ks cs ds a.1)
+    where
+      by : (k : Option (List ℕ)) (js : List (Option (List ℕ))) → R k c d → Are R js cs ds → Are R (kept_from k js) (c ∷ cs) (d ∷ ds)
+      by None [] i a = (i, a)
+      by None (j ∷ js) i a = (i, a)
+      by (Some bytes) js i a = (i, a)
+
+  -- where each of the others is so
+  pub are-so : (S : Relation) (Q : ChunkPayloadData → Type 0) → ((k : Option (List ℕ)) (c d : ChunkPayloadData) → R k c d → Q d → S k c d)
+      → (ks : List (Option (List ℕ))) (cs ds : List ChunkPayloadData) → Are R ks cs ds → Every Q ds → Are S ks cs ds
+  are-so S Q h ks [] [] a e = tt
+  are-so S Q h ks [] (d ∷ ds) a e = absurd a
+  are-so S Q h ks (c ∷ cs) [] a e = absurd a
+  are-so S Q h ks (c ∷ cs) (d ∷ ds) a e = (h (first_of ks) c d a.0 e.0, are-so S Q h (rest_of ks) cs ds a.1 e.1)
+
+abbrev pub AreLike : List (Option (List ℕ)) → List ChunkPayloadData → List ChunkPayloadData → Type 0
+AreLike ks cs ds = Are IsLike ks cs ds
+
+pub are-plain : (ks : List (Option (List ℕ))) (cs ds : List ChunkPayloadData) → AreLike ks cs ds → map plain cs ≡ map plain ds
+are-plain ks cs ds a = are-mapped IsLike plain plain (λ k c d i. i.same) ks cs ds a
+
+pub are-tsns : (ks : List (Option (List ℕ))) (cs ds : List ChunkPayloadData) → AreLike ks cs ds → tsns cs ≡ tsns ds
+are-tsns ks cs ds a = are-mapped IsLike (λ c. c.tsn) (λ c. c.tsn) (λ k c d i. ap (λ (x : ChunkPayloadData). x.tsn) i.same) ks cs ds a
+
+pub are-long : (ks : List (Option (List ℕ))) (cs ds : List ChunkPayloadData) → AreLike ks cs ds → length cs ≡ length ds
+are-long ks cs ds a = sym (length-map cs plain) ∙ ap length (are-plain ks cs ds a) ∙ length-map ds plain
+
+-- ## What is found among chunks that are alike but for what SACKs change
+
+module _ (p : ChunkPayloadData → Bool) (blind : (c : ChunkPayloadData) → p (plain c) ≡ p c) where
+  find-plain : (cs : List ChunkPayloadData) → find p (map plain cs) ≡ option_map plain (find p cs)
+  find-plain [] = refl
+  find-plain (c ∷ cs) = ap (λ b. if b then Some (plain c) else find p (map plain cs)) (blind c)
+      ∙ at-test (λ b. (if b then Some (plain c) else find p (map plain cs)) ≡ option_map plain (if b then Some c else find p cs)) (p c) (λ _. refl)
+      (λ _. find-plain cs)
+
+  pub filter-plain : (cs : List ChunkPayloadData) → filter p (map plain cs) ≡ map plain (filter p cs)
+  filter-plain [] = refl
+  filter-plain (c ∷ cs) = ap (λ b. if b then plain c ∷ filter p (map plain cs) else filter p (map plain cs)) (blind c)
+      ∙ at-test (λ b. (if b then plain c ∷ filter p (map plain cs) else filter p (map plain cs)) ≡ map plain (if b then c ∷ filter p cs else filter p cs)) (p c)
+      (λ _. ap (λ xs. plain c ∷ xs) (filter-plain cs)) (λ _. filter-plain cs)
+
+  pub found-plain : (cs ds : List ChunkPayloadData) → map plain cs ≡ map plain ds → option_map plain (find p cs) ≡ option_map plain (find p ds)
+  found-plain cs ds e = sym (find-plain cs) ∙ ap (find p) e ∙ find-plain ds
+
+  pub passing-plain : (cs ds : List ChunkPayloadData) → map plain cs ≡ map plain ds → map plain (filter p cs) ≡ map plain (filter p ds)
+  passing-plain cs ds e = sym (filter-plain cs) ∙ ap (filter p) e ∙ filter-plain ds
+
+pub last-plain : (cs ds : List ChunkPayloadData) → map plain cs ≡ map plain ds → option_map plain (last_of cs) ≡ option_map plain (last_of ds)
+last-plain cs ds e = sym (one cs) ∙ ap last_of e ∙ one ds
+  where
+    one : (xs : List ChunkPayloadData) → last_of (map plain xs) ≡ option_map plain (last_of xs)
+    one [] = refl
+    one (x ∷ []) = refl
+    one (x ∷ y ∷ ys) = one (y ∷ ys)
+
+pub take-plain : (n : ℕ) (cs ds : List ChunkPayloadData) → map plain cs ≡ map plain ds → map plain (take n cs) ≡ map plain (take n ds)
+take-plain n cs ds e = sym (one n cs) ∙ ap (take n) e ∙ one n ds
+  where
+    one : (n : ℕ) (xs : List ChunkPayloadData) → take n (map plain xs) ≡ map plain (take n xs)
+    one zero xs = refl
+    one (suc n) [] = refl
+    one (suc n) (x ∷ xs) = ap (λ ys. plain x ∷ ys) (one n xs)
+
+-- what is blind to what SACKs change is the same of both
+pub blind-same : {B : Type 0} (g : Option ChunkPayloadData → B) → ((c : ChunkPayloadData) → g (Some (plain c)) ≡ g (Some c)) → (o q : Option ChunkPayloadData)
+    → option_map plain o ≡ option_map plain q → g o ≡ g q
+blind-same g h o q e = sym (one o) ∙ ap g e ∙ one q
+  where
+    one : (o : Option ChunkPayloadData) → g (option_map plain o) ≡ g o
+    one None = refl
+    one (Some c) = h c
+
+-- ## A chunk with the next TSN goes to the end
+
+pub put-end : (x : ChunkPayloadData) (cs : List ChunkPayloadData) (first : ℕ) → first < 2 ^ 32 → length cs < 2 ^ 31 → IsRunFrom first cs
+    → x.tsn ≡ (first + length cs) % 2 ^ 32 → insert_before chunk_before x cs ≡ cs ++ x ∷ []
+put-end x [] first small few run is = refl
+put-end x (c ∷ cs) first small few run is =
+    let head : c.tsn ≡ first = cc in
+    let tail : IsRunFrom (following_tsn first) cs = cc in
+    let late : comes_before x.tsn c.tsn ≡ false = ap (λ t. comes_before t c.tsn) is ∙ ap (comes_before ((first + suc (length cs)) % 2 ^ 32)) head
+    ∙ behind first (suc (length cs)) small (omega arith) (omega (arith, few)) in
+    let same : x.tsn ≡ (following_tsn first + length cs) % 2 ^ 32 = omega (arith, is) in
+    ap (λ b. if b then x ∷ c ∷ cs else c ∷ insert_before chunk_before x cs) late
+    ∙ ap (λ xs. c ∷ xs) (put-end x cs (following_tsn first) (omega arith) (omega (arith, few)) tail same)
+
+-- ## A SACK
+
+-- the same SACK, without its gap ack blocks and duplicates
+pub record IsBareSack (s k : Sack) : Type 0 where
+  pub same : k.cumulative_tsn_ack ≡ s.cumulative_tsn_ack
+  pub none : k.gap_ack_blocks ≡ []
+
+module _ (s k : Sack) (bare : IsBareSack s k) where
+  -- alike, where the TSN is past the cumulative one
+  abbrev pub IsLikeBehind : Relation
+  IsLikeBehind j c d = at_or_before d.tsn s.cumulative_tsn_ack ≡ false → IsLike j c d
+
+  silent : (d : ChunkPayloadData) → at_or_before d.tsn s.cumulative_tsn_ack ≡ false → reports_anew k d ≡ false
+  silent d e = ap (λ b. not d.acked && b)
+      (ap (λ t. at_or_before d.tsn t || is_in_blocks k.gap_ack_blocks (distance k.cumulative_tsn_ack d.tsn)) bare.same
+      ∙ ap (λ b. b || is_in_blocks k.gap_ack_blocks (distance k.cumulative_tsn_ack d.tsn)) e
+      ∙ ap (λ bs. is_in_blocks bs (distance k.cumulative_tsn_ack d.tsn)) bare.none) ∙ none (not d.acked)
+    where
+      none : (b : Bool) → (b && false) ≡ false
+      none true = refl
+      none false = refl
+
+  reported : (j : Option (List ℕ)) (c d : ChunkPayloadData) → IsLike j c d
+      → IsLikeBehind (keep s c j) (if reports_anew s c then as_acknowledged c else c) (if reports_anew k d then as_acknowledged d else d)
+  reported j c d i = at-test (λ b. IsLikeBehind (keep s c j) (if reports_anew s c then as_acknowledged c else c) (if b then as_acknowledged d else d))
+      (reports_anew k d)
+      (λ e past. absurd (not_both (sym (silent d past) ∙ e)))
+      (λ _ past. at-test (λ b. IsLike (if b then Some c.user_data else j) (if b then as_acknowledged c else c) d) (reports_anew s c)
+      (λ e. record {
+        same = i.same;
+        open' = i.open';
+        whole = λ a. absurd (not_both (sym a));
+        kept = λ _ _ bytes is. sym (some-same is) ∙ i.whole (negated c.acked (both (not c.acked) (reports s c) e).0);
+        settled = λ _. refl;
+      })
+      (λ _. i))
+
+  pub are-reported : (ks : List (Option (List ℕ))) (cs ds : List ChunkPayloadData) → AreLike ks cs ds
+      → Are IsLikeBehind (keep_each s cs ks) (change_where (reports_anew s) as_acknowledged cs) (change_where (reports_anew k) as_acknowledged ds)
+  are-reported ks [] [] a = tt
+  are-reported ks [] (d ∷ ds) a = absurd a
+  are-reported ks (c ∷ cs) [] a = absurd a
+  are-reported [] (c ∷ cs) (d ∷ ds) a = (reported None c d a.0, are-reported [] cs ds a.1)
+  are-reported (j ∷ ks) (c ∷ cs) (d ∷ ds) a = (reported j c d a.0, are-reported ks cs ds a.1)
+
+-- ## What comes back
+
+module _ (s : Sack) where
+  back : (k : Option (List ℕ)) (c d : ChunkPayloadData) → IsLike k c d → IsLike k (restored_with (back_of s c k) c) d
+  back k c d i = at-test (λ b. IsLike k (restored_with (if b then k else None) c) d) (takes_back s c) (λ e. some k i (back-is e)) (λ _. i)
+    where
+      back-is : takes_back s c ≡ true → (c.acked ≡ true) × (c.abandoned ≡ false)
+      back-is e =
+          let a = both ((c.acked && not c.abandoned) && not (reports s c)) (tells_of s.gap_ack_blocks (distance s.cumulative_tsn_ack c.tsn)) e in
+          let b = both (c.acked && not c.abandoned) (not (reports s c)) a.0 in
+          let h = both c.acked (not c.abandoned) b.0 in
+          (h.0, negated c.abandoned h.1)
+
+      some : (k : Option (List ℕ)) → IsLike k c d → (c.acked ≡ true) × (c.abandoned ≡ false) → IsLike k (restored_with k c) d
+      some None i h = i
+      some (Some bytes) i h = record {
+        same = i.same;
+        open' = i.open';
+        whole = λ _. i.kept h.0 h.1 bytes refl;
+        kept = λ a. absurd (not_both a);
+        settled = λ a. absurd (not_both a);
+      }
+
+  pub are-back : (ks : List (Option (List ℕ))) (cs ds : List ChunkPayloadData) → AreLike ks cs ds → AreLike ks (restored (back_each s cs ks) cs) ds
+  are-back [] cs ds a = a
+  are-back (k ∷ ks) [] [] a = tt
+  are-back (k ∷ ks) [] (d ∷ ds) a = absurd a
+  are-back (k ∷ ks) (c ∷ cs) [] a = absurd a
+  are-back (k ∷ ks) (c ∷ cs) (d ∷ ds) a = (back k c d a.0, are-back ks cs ds a.1)

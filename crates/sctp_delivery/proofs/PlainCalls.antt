@@ -1,0 +1,740 @@
+-- Each call of a sender that keeps what is reported, beside what it would do if no gap ack block were taken.
+use Rattle.sctp_delivery.proofs.Names.{◌≡◌, ℕ, ◌<◌, ◌≤◌, ◌+◌, ◌-◌, ◌^◌, Bool, true, false, not, List, [], ◌∷◌, ◌++◌, length, map, refl, ap, ap₂, sym, subst}
+use Rattle.sctp_delivery.proofs.Names.{◌∙◌, arith, append-nil, append_assoc, Option, Some, None, option_map, option_to_list, is_some, IfSome, find}
+use Rattle.sctp_delivery.proofs.Names.{change_where}
+use Rattle.sctp_delivery.proofs.Names.{sum_by-cons, sum_by-inserted, sum_by, both, negated, none-some, some-same, nat_tests, if◌then◌else◌}
+use Rattle.sctp_delivery.proofs.Names.{nat_lt, ◌||◌, ◌&&◌, ChunkPayloadData, Sack, Limits, OutboundStream, ExpiredMessage, AbandonedMessage, Released, as_sent}
+use Rattle.sctp_delivery.proofs.Names.{all_started, bytes_of, chunk_before, data_of, expiring_tail, has_tsn, is_outstanding, message_of, next_pending}
+use Rattle.sctp_delivery.proofs.Names.{sent_next, sent_of, total_bytes, with_inflight, with_message, with_retransmit, Outbound, Flight, after_abandonment}
+use Rattle.sctp_delivery.proofs.Names.{after_sack, is_outstanding_in, message_to_abandon, next_after_send, released_by, tsn}
+use Rattle.sctp_delivery.proofs.Names.{with_room, count_again, sent_again, missed, can_miss, has_number, less_by, with_low, with_mode, with_size, wrote}
+use Rattle.sctp_delivery.proofs.Names.{with_lows}
+use Rattle.sctp_delivery.proofs.Names.{after_releases, after_expiry, fragments_with_mode, Transmission, after_abandon, after_acked, after_expire, write_refusal}
+use Rattle.sctp_delivery.proofs.Names.{written_to, with_flight, held_by_sender, started-inflight, SenderFollows, Session, IsReported, bytes_written}
+use Rattle.sctp_delivery.proofs.Names.{abandoned_by, Modes, modes_after, SenderCall, SenderMakes, made_after, with_chunk, written_after, Made}
+use Rattle.sctp_delivery.proofs.Names.{Write}
+use Rattle.sctp_delivery.proofs.Names.{PayloadProtocolIdentifier, SenderRefusal, all_marked, after_misses, resent_at, following_tsn}
+use Rattle.sctp_delivery.proofs.Names.{abandoned_at, abandoned_each, abandoned_with, after_abandoning, after_leaving, is_late, is_worn, late_order, late_tsns}
+use Rattle.sctp_delivery.proofs.Names.{leaving_at, leaving_each, map-append, to_abandon, waits, worn_order, worn_tsns, ◌%◌}
+use Rattle.sctp_outbound.specs.outbound_queue.OutboundQueue.{has_tail}
+use Rattle.sctp_sender.specs.Late.{with_tail}
+use Rattle.sctp_sender.specs.Sender.{with_mode_on}
+use Rattle.sctp_sender.specs.declared.sender.refusal.SenderRefusal.TheVariants.{MessageTooLarge, NotInFlight, QueueFull, StreamUnknown, TsnsUsedUp}
+use Rattle.sctp_serial.specs.Window.{is_held}
+use Rattle.sctp_util.specs.Serial.{distance}
+use Rattle.sctp_outbound.specs.outbound_queue.OutboundQueue.{sent_peeked}
+use Rattle.sctp_outbound.specs.payload_queue.PayloadQueue as payload
+use Rattle.sctp_sender.specs.Abandonment.{abandon_refusal}
+use Rattle.sctp_sender.specs.Flight.{has_tail_at, may_send, with_queue}
+use Rattle.sctp_sender.specs.Keeping.{kept_after}
+use Rattle.sctp_sender.specs.Sender.{is_open, open_stream, stream_of}
+use Rattle.sctp_sender.specs.Settings.{with_fragment_size, with_low_on}
+use Rattle.sctp_sender.specs.Totals.{bytes_in}
+use Rattle.sctp_sender.proofs.Lows.{released-same}
+use Rattle.sctp_sender.proofs.Settled.{sack-bytes}
+use Rattle.sctp_stream.specs.Stream.{new_stream}
+use Rattle.sctp_delivery.specs.SenderCalls as outgoing
+use Rattle.sctp_delivery.specs.SenderCalls.{Tells}
+use Rattle.sctp_delivery.proofs.Cases.{at-test}
+use Rattle.sctp_delivery.proofs.Changes.{expired-one, order-short}
+use Rattle.sctp_delivery.proofs.Delivered.{next_tsn}
+use Rattle.sctp_delivery.proofs.Every.{Every, every-contained}
+use Rattle.sctp_delivery.proofs.GivenTsns.{IsNumbered}
+use Rattle.sctp_delivery.proofs.OneRead.{no-way}
+use Rattle.sctp_delivery.proofs.Plain.{AreLike, IsLike, are-changed, are-long, are-marked, are-part-marked, are-plain, blind-same, first_of}
+use Rattle.sctp_delivery.proofs.Plain.{found-plain}
+use Rattle.sctp_delivery.proofs.Plain.{plain, rest_of}
+use Rattle.sctp_delivery.proofs.PlainFlights.{IsFresh, abandon-same, are-gone, are-sacked, are-sent, can-same, chunks_of, end-same, fewer-bytes, flight_with}
+use Rattle.sctp_delivery.proofs.PlainFlights.{gone-same, named-same, refusal-same, sack-same, send-same, next-same, settled-others, skip-same, started-same}
+use Rattle.sctp_delivery.proofs.PlainSessions.{Goes, IsThere, as_plain, calls-too, kept_of, small-next, stays-so, step-of}
+use Rattle.sctp_delivery.proofs.PlainStreams.{AreAlike, bare, both-expired, both-lower, both-moded, both-opened, both-sized, both-wrote, found-alike, one-less}
+use Rattle.sctp_delivery.proofs.PlainStreams.{left-alike, open-alike, released-alike}
+use Rattle.sctp_delivery.proofs.QueueChunks.{started}
+use Rattle.sctp_delivery.proofs.SackLaws.{IsInStep}
+use Rattle.sctp_delivery.proofs.SackSteps.{message-inflight}
+use Rattle.sctp_delivery.proofs.Sessions.{accounted}
+use Rattle.sctp_delivery.proofs.TsnPlaces.{base, tsn-small}
+use Rattle.sctp_delivery.proofs.ValidMarks.{IsUnmarked}
+use Rattle.sctp_delivery.proofs.Writing.{accepted-stream}
+
+-- ## What is found
+
+-- the chunk that is found, and the one in its place
+record IsBeside (c : ChunkPayloadData) (t : ℕ) (ds : List ChunkPayloadData) : Type 0 where
+  kept : Option (List ℕ)
+  chunk : ChunkPayloadData
+  found : find (has_tsn t) ds ≡ Some chunk
+  like : IsLike kept c chunk
+
+beside : (t : ℕ) (c : ChunkPayloadData) (ks : List (Option (List ℕ))) (cs ds : List ChunkPayloadData) → AreLike ks cs ds → find (has_tsn t) cs ≡ Some c
+    → IsBeside c t ds
+beside t c ks [] [] a e = absurd (none-some c e)
+beside t c ks [] (y ∷ ys) a e = absurd a
+beside t c ks (x ∷ xs) [] a e = absurd a
+beside t c ks (x ∷ xs) (y ∷ ys) a e = by (has_tsn t x) refl e (beside t c (rest_of ks) xs ys a.1)
+  where
+    same : has_tsn t y ≡ has_tsn t x
+    same = ap (has_tsn t) (sym a.0.same)
+
+    by : (b : Bool) → has_tsn t x ≡ b → (if b then Some x else find (has_tsn t) xs) ≡ Some c → (find (has_tsn t) xs ≡ Some c → IsBeside c t ys)
+        → IsBeside c t (y ∷ ys)
+    by true h i ih = record {
+      kept = first_of ks;
+      chunk = y;
+      found = ap (λ z. if z then Some y else find (has_tsn t) ys) (same ∙ h);
+      like = subst (λ z. IsLike (first_of ks) z y) (some-same i) a.0;
+    }
+    by false h i ih =
+        let r = ih i in
+        record { kept = r.kept; chunk = r.chunk; found = ap (λ z. if z then Some y else find (has_tsn t) ys) (same ∙ h) ∙ r.found; like = r.like }
+
+message-same : (cs : List ChunkPayloadData) (q : Outbound) (ds : List ChunkPayloadData)
+    → with_message cs (with_inflight q ds) ≡ with_inflight (with_message cs q) ds
+message-same [] q ds = refl
+message-same (c ∷ cs) q ds = refl
+
+-- the same bytes leave what waits
+sent-bytes : (o : Option ChunkPayloadData) (q : Outbound) (ds : List ChunkPayloadData) (t now : ℕ)
+    → total_bytes (sent_of o (with_inflight q ds) t now) + bytes_of q.inflight.chunks ≡ total_bytes (sent_of o q t now) + bytes_of ds
+sent-bytes None q ds t now = omega arith
+sent-bytes (Some c) q ds t now =
+    let size : ChunkPayloadData → ℕ = λ x. length x.user_data in
+    let a = sum_by-inserted size chunk_before (as_sent t now c) ds in
+    let b = sum_by-inserted size chunk_before (as_sent t now c) q.inflight.chunks in
+    omega (arith, a, b)
+
+-- the write is accepted there too, where its bytes fit
+abbrev refused_by : Bool → Bool → Bool → Bool → Option SenderRefusal
+refused_by a b c d = if not a then Some StreamUnknown else (if b then Some MessageTooLarge else (if not c || not d then Some QueueFull else None))
+
+fits-too : (a k b c d : Bool) → k ≡ a → refused_by a b c d ≡ None → refused_by k b c true ≡ None
+fits-too a k b c d same none = grind (arith, nat_tests, none-some)
+
+-- ## Messages leave, one after another
+
+tail-same : (o : Option ℕ) (q : Outbound) (ds : List ChunkPayloadData) → has_tail o (with_inflight q ds) ≡ has_tail o q
+tail-same None q ds = refl
+tail-same (Some k) q ds = refl
+
+-- how many terminal chunks get TSNs
+abbrev pub ends : List ℕ → Flight → ℕ
+ends [] f = 0
+ends (x ∷ xs) f = (if has_tail_at f x then 1 else 0) + ends xs (abandoned_at x f)
+
+one-more : (t : ℕ) → t < 2 ^ 32 → distance t (following_tsn t) ≡ 1
+unfolding distance
+one-more t near = omega (arith, near)
+
+end-far : (o : Option ℕ) (f : Flight) → f.next_tsn < 2 ^ 32 → distance f.next_tsn (after_abandonment o f).next_tsn ≡ (if has_tail o f.queue then 1 else 0)
+end-far None f near = no-way f.next_tsn near
+end-far (Some k) f near =
+    at-test (λ b. distance f.next_tsn (if b then following_tsn f.next_tsn else f.next_tsn) ≡ (if b then 1 else 0)) (waits k f.queue.pending)
+    (λ _. one-more f.next_tsn near) (λ _. no-way f.next_tsn near)
+
+end-next : (o : Option ℕ) (f : Flight) → f.next_tsn < 2 ^ 32 → (after_abandonment o f).next_tsn ≡ (f.next_tsn + (if has_tail o f.queue then 1 else 0)) % 2 ^ 32
+end-next None f near = omega (arith, near)
+end-next (Some k) f near =
+    at-test (λ b. (if b then following_tsn f.next_tsn else f.next_tsn) ≡ (f.next_tsn + (if b then 1 else 0)) % 2 ^ 32) (waits k f.queue.pending)
+    (λ _. refl) (λ _. omega (arith, near))
+
+one-end : (b : Bool) → (if b then 1 else 0) ≤ 1
+one-end true = omega arith
+one-end false = omega arith
+
+ends-few : (xs : List ℕ) (f : Flight) → ends xs f ≤ length xs
+ends-few [] f = omega arith
+ends-few (x ∷ xs) f = let a = ends-few xs (abandoned_at x f) in let b = one-end (has_tail_at f x) in omega (arith, a, b)
+
+ends-next : (xs : List ℕ) (f : Flight) → f.next_tsn < 2 ^ 32 → (abandoned_each xs f).next_tsn ≡ (f.next_tsn + ends xs f) % 2 ^ 32
+ends-next [] f near = omega (arith, near)
+ends-next (x ∷ xs) f near =
+    let a = end-next (message_to_abandon x f) f near in
+    let b = ends-next xs (abandoned_at x f) (omega (arith, a)) in
+    omega (arith, a, b)
+
+far-along : (a b e : ℕ) → a < 2 ^ 32 → e < 2 ^ 32 → b ≡ (a + e) % 2 ^ 32 → distance a b ≡ e
+unfolding distance
+far-along a b e near few is = omega (arith, near, few, is)
+
+-- what is told of a message is of the one that leaves
+told-one : (o : Option ChunkPayloadData) (bytes : ℕ) → map (λ (a : AbandonedMessage). a.number) (abandoned_with o bytes) ≡ option_to_list (to_abandon o)
+told-one None bytes = refl
+told-one (Some c) bytes = at-test (λ b. map (λ (a : AbandonedMessage). a.number)
+    (if b then [] else record { stream = c.stream_identifier; number = c.message_id; bytes = bytes; is_low = false } ∷ [])
+    ≡ option_to_list (if b then None else Some c.message_id)) c.abandoned (λ _. refl) (λ _. refl)
+
+module _ (first size max most : ℕ) (limits : Option Limits) (small : first < 2 ^ 32) where
+  module _ (t : Transmission) (s : Session) (n : ℕ) (gone : List ℕ) (m : Modes) (room : n < 2 ^ 31) (g : Goes first size max most limits t s n gone m) where
+    pub step-is : IsInStep (base first) n g.other
+    step-is = step-of first size max most limits t s n gone m small room g
+
+    pub numbered-is : IsNumbered (base first) n (flight_with t.flight g.shadow.chunks)
+    numbered-is = subst (λ (u : Transmission). IsNumbered (base first) n u.flight) g.shadow.sender step-is.numbered
+
+    pub fresh-is : IsFresh t.flight.queue
+    fresh-is = record {
+      ordered = subst (λ (u : Transmission). Every IsUnmarked u.flight.queue.pending.ordered) g.shadow.sender step-is.valid.ordered;
+      unordered = subst (λ (u : Transmission). Every IsUnmarked u.flight.queue.pending.unordered) g.shadow.sender step-is.valid.unordered;
+    }
+
+    -- the message of a TSN leaves, if it has one
+    leave-one : (x : ℕ) → n + (if has_tail_at t.flight x then 1 else 0) < 2 ^ 31
+        → Goes first size max most limits (record t { flight = abandoned_at x t.flight }) s (n + (if has_tail_at t.flight x then 1 else 0))
+        (gone ++ option_to_list (message_to_abandon x t.flight)) m
+    leave-one x few = by (message_to_abandon x t.flight) refl few
+      where
+        w : Transmission
+        w = as_plain t g.shadow.streams g.shadow.chunks
+
+        near : t.flight.next_tsn < 2 ^ 32
+        near = small-next first size max most limits t s n gone m small room g
+
+        same-message : message_to_abandon x w.flight ≡ message_to_abandon x t.flight
+        same-message = abandon-same t.flight (kept_of t.kept) g.shadow.chunks g.shadow.like x
+
+        some : (k : ℕ) (o : Option ChunkPayloadData) → find (has_tsn x) g.shadow.chunks ≡ o → to_abandon o ≡ Some k → message_to_abandon x t.flight ≡ Some k
+            → n + (if has_tail (Some k) t.flight.queue then 1 else 0) < 2 ^ 31
+            → Goes first size max most limits (record t { flight = after_abandonment (Some k) t.flight }) s
+            (n + (if has_tail (Some k) t.flight.queue then 1 else 0)) (gone ++ k ∷ []) m
+        some k None e is at short = absurd (none-some k is)
+        some k (Some d) e is at short =
+            let g' = after_abandonment (Some k) w.flight in
+            let left = total_bytes w.flight.queue - total_bytes g'.queue in
+            let b : AbandonedMessage = record { stream = d.stream_identifier; number = d.message_id; bytes = left; is_low = false } in
+            let less = fewer-bytes (Some k) w.flight in
+            let same = gone-same (Some k) t.flight g.shadow.chunks in
+            let total = ap (λ (z : Flight). total_bytes z.queue) same in
+            let u : Transmission = record t { flight = after_abandonment (Some k) t.flight } in
+            let far = end-far (Some k) t.flight near in
+            let there : is_held g.shadow.chunks x ≡ true = ap is_some e in
+            let message : message_to_abandon x w.flight ≡ Some k = same-message ∙ at in
+            let after = calls-too first size max most limits t u s s n gone m g (outgoing.abandons x b) refl refl refl refl (outgoing.abandons x b)
+            (change_where (has_number d.stream_identifier) (less_by left) g.shadow.streams) (chunks_of g') (
+              omega (arith, less, total),
+              (
+                ap (λ (z : Flight). let y : Transmission =
+                    record w { streams = change_where (has_number d.stream_identifier) (less_by left) g.shadow.streams; flight = z } in y) (sym same)
+                    ∙ ap (λ o. after_abandon o d.stream_identifier left w) (sym message),
+                (
+                  refusal k short there message,
+                  (
+                    ap (λ o. option_map (λ (c : ChunkPayloadData). c.stream_identifier) o) (sym e),
+                    ap (λ o. option_map (λ (c : ChunkPayloadData). c.message_id) o) (sym e),
+                  ),
+                ),
+              ),
+            ) tt
+            (g.shadow.alike ∙ sym (one-less d.stream_identifier left g.shadow.streams))
+            (are-gone (base first) n t.flight (kept_of t.kept) g.shadow.chunks g.shadow.like room numbered-is fresh-is (Some k)) (λ ms. refl) (λ ws. refl) refl
+            (ap option_to_list same-message) in
+            subst (λ (j : ℕ). Goes first size max most limits u s (n + j) (gone ++ k ∷ []) m) far
+            (subst (λ o. Goes first size max most limits u s (n + distance t.flight.next_tsn u.flight.next_tsn) (gone ++ option_to_list o) m) at after)
+          where
+            refusal : (k : ℕ) → n + (if has_tail (Some k) t.flight.queue then 1 else 0) < 2 ^ 31 → is_held g.shadow.chunks x ≡ true
+                → message_to_abandon x (flight_with t.flight g.shadow.chunks) ≡ Some k → abandon_refusal x (flight_with t.flight g.shadow.chunks) ≡ None
+            refusal k short there message =
+                let total = numbered-is.total in
+                let long = length g.shadow.chunks in
+                ap (λ b. if not b then Some NotInFlight else (if has_tail_at (flight_with t.flight g.shadow.chunks) x
+                && not (may_send (flight_with t.flight g.shadow.chunks)) then Some TsnsUsedUp else None)) there
+                ∙ ap (λ h. if h && not (may_send (flight_with t.flight g.shadow.chunks)) then Some TsnsUsedUp else None)
+                (ap (λ o. has_tail o (flight_with t.flight g.shadow.chunks).queue) message)
+                ∙ at-test (λ b. n + (if b then 1 else 0) < 2 ^ 31
+                → (if b && not (may_send (flight_with t.flight g.shadow.chunks)) then Some TsnsUsedUp else None) ≡ None)
+                (has_tail (Some k) t.flight.queue)
+                (λ _ lt. let ok : nat_lt (long + 1) (2 ^ 31) ≡ true = (let le : long + 1 < 2 ^ 31 = omega (arith, total, lt) in grind (arith, nat_tests, le)) in
+                ap (λ b. if not b then Some TsnsUsedUp else None) ok)
+                (λ _ _. refl) short
+
+        by : (o : Option ℕ) → message_to_abandon x t.flight ≡ o → n + (if has_tail (message_to_abandon x t.flight) t.flight.queue then 1 else 0) < 2 ^ 31
+            → Goes first size max most limits (record t { flight = after_abandonment (message_to_abandon x t.flight) t.flight }) s
+            (n + (if has_tail (message_to_abandon x t.flight) t.flight.queue then 1 else 0)) (gone ++ option_to_list (message_to_abandon x t.flight)) m
+        by None e short =
+            subst (λ o. Goes first size max most limits (record t { flight = after_abandonment o t.flight }) s
+            (n + (if has_tail o t.flight.queue then 1 else 0)) (gone ++ option_to_list o) m)
+            (sym e) (subst (λ k. Goes first size max most limits t s k (gone ++ []) m) {x = n} {y = n + 0} (omega arith)
+            (subst (λ xs. Goes first size max most limits t s n xs m) (sym (append-nil gone)) g))
+        by (Some k) e short =
+            subst (λ o. Goes first size max most limits (record t { flight = after_abandonment o t.flight }) s
+            (n + (if has_tail o t.flight.queue then 1 else 0)) (gone ++ option_to_list o) m)
+            (sym e) (some k (find (has_tsn x) g.shadow.chunks) refl (same-message
+            ∙ e) e (subst (λ o. n + (if has_tail o t.flight.queue then 1 else 0) < 2 ^ 31) e short))
+
+  leave-each : (xs : List ℕ) (t : Transmission) (s : Session) (n : ℕ) (gone : List ℕ) (m : Modes) → n + ends xs t.flight < 2 ^ 31
+      → Goes first size max most limits t s n gone m
+      → Goes first size max most limits (record t { flight = abandoned_each xs t.flight }) s (n + ends xs t.flight)
+      (gone ++ map (λ (a : AbandonedMessage). a.number) (leaving_each xs t.flight)) m
+  leave-each [] t s n gone m few g =
+      subst (λ k. Goes first size max most limits t s k (gone ++ []) m) {x = n} {y = n + 0} (omega arith)
+      (subst (λ xs. Goes first size max most limits t s n xs m) (sym (append-nil gone)) g)
+  leave-each (x ∷ xs) t s n gone m few g =
+      let u : Transmission = record t { flight = abandoned_at x t.flight } in
+      let one : ℕ = if has_tail_at t.flight x then 1 else 0 in
+      let left = option_to_list (message_to_abandon x t.flight) in
+      let number : AbandonedMessage → ℕ = λ a. a.number in
+      let rest = map number (leaving_each xs u.flight) in
+      let now' = leave-one t s n gone m (omega (arith, few)) g x (omega (arith, few)) in
+      let then' = leave-each xs u s (n + one) (gone ++ left) m (omega (arith, few)) now' in
+      let sum : (n + one) + ends xs u.flight ≡ n + (one + ends xs u.flight) = omega arith in
+      let all : (gone ++ left) ++ rest ≡ gone ++ map number (leaving_at x t.flight ++ leaving_each xs u.flight) =
+      append_assoc gone left rest ∙ ap (λ ys. gone ++ ys) (ap (λ ys. ys ++ rest) (sym (told-one (find (has_tsn x) t.flight.queue.inflight.chunks) _))
+      ∙ sym (map-append number (leaving_at x t.flight) (leaving_each xs u.flight))) in
+      subst (λ k. Goes first size max most limits (record t { flight = abandoned_each (x ∷ xs) t.flight }) s k
+      (gone ++ map number (leaving_each (x ∷ xs) t.flight)) m) sum
+      (subst (λ ys. Goes first size max most limits (record t { flight = abandoned_each (x ∷ xs) t.flight }) s ((n + one) + ends xs u.flight) ys m) all then')
+
+  -- the streams have other amounts
+  restreamed : (t : Transmission) (ks : List OutboundStream) (s v : Session) (n : ℕ) (gone : List ℕ) (m : Modes) → AreAlike ks t.streams
+      → v.receiving ≡ s.receiving → v.sacks ≡ s.sacks → v.made ≡ s.made → v.written ≡ s.written → Goes first size max most limits t s n gone m
+      → Goes first size max most limits (record t { streams = ks }) v n gone m
+  restreamed t ks s v n gone m alike received reported made written g = record {
+    other = g.other;
+    shadow = record {
+      streams = g.shadow.streams;
+      chunks = g.shadow.chunks;
+      sender = g.shadow.sender;
+      alike = alike ∙ g.shadow.alike;
+      like = g.shadow.like;
+      receiving = g.shadow.receiving ∙ sym received;
+      made = g.shadow.made ∙ sym made;
+      written = g.shadow.written ∙ sym written;
+      sacks = subst (Every (IsThere g.other.sacks)) (sym reported) g.shadow.sacks;
+    };
+    plays = g.plays;
+  }
+
+module _ (first size max most : ℕ) (limits : Option Limits) (small : first < 2 ^ 32) (s v : Session) (n : ℕ) (gone : List ℕ) (m : Modes) (room : n < 2 ^ 31)
+    (g : Goes first size max most limits s.sending.sender s n gone m) where
+  abbrev t : Transmission
+  t = s.sending.sender
+
+  abbrev ls : List OutboundStream
+  ls = g.shadow.streams
+
+  abbrev ds : List ChunkPayloadData
+  ds = g.shadow.chunks
+
+  -- the other sender
+  abbrev w : Transmission
+  w = as_plain s.sending.sender g.shadow.streams g.shadow.chunks
+
+  i : IsInStep (base first) n g.other
+  i = step-is first size max most limits small s.sending.sender s n gone m room g
+
+  numbered : IsNumbered (base first) n (flight_with s.sending.sender.flight g.shadow.chunks)
+  numbered = numbered-is first size max most limits small s.sending.sender s n gone m room g
+
+  fresh : IsFresh s.sending.sender.flight.queue
+  fresh = fresh-is first size max most limits small s.sending.sender s n gone m room g
+
+  near : s.sending.sender.flight.next_tsn < 2 ^ 32
+  near = small-next first size max most limits s.sending.sender s n gone m small room g
+
+  abbrev Result : SenderCall → Type 0
+  Result call = Goes first size max most limits v.sending.sender v (n + distance (next_tsn s) (next_tsn v)) (gone ++ abandoned_by call s.sending.sender)
+      (modes_after call m)
+
+  by-call : (call : SenderCall) → SenderFollows call s v → (u : Transmission) → v.sending.sender ≡ u → (c : SenderCall) (ls' : List OutboundStream)
+      (ds' : List ChunkPayloadData) → SenderMakes c (as_plain s.sending.sender g.shadow.streams g.shadow.chunks) (as_plain u ls' ds') → IsReported c g.other
+      → AreAlike u.streams ls' → AreLike (kept_of u.kept) u.flight.queue.inflight.chunks ds'
+      → ((ms : List Made) → made_after c (as_plain s.sending.sender g.shadow.streams g.shadow.chunks) ms ≡ made_after call s.sending.sender ms)
+      → ((ws : List Write) → written_after c ws ≡ written_after call ws) → modes_after c m ≡ modes_after call m
+      → abandoned_by c (as_plain s.sending.sender g.shadow.streams g.shadow.chunks) ≡ abandoned_by call s.sending.sender → Result call
+  by-call call f u e c ls' ds' makes handed alike like made written modes left =
+      subst
+      (λ (y : Transmission). Goes first size max most limits y v (n + distance (next_tsn s) y.flight.next_tsn) (gone ++ abandoned_by call s.sending.sender)
+      (modes_after call m)) (sym e)
+      (calls-too first size max most limits s.sending.sender u s v n gone m g call (ap (λ (x : Session). x.receiving) f.after)
+      (ap (λ (x : Session). x.sacks) f.after)
+      (ap (λ (x : Session). x.made) f.after) (ap (λ (x : Session). x.written) f.after) c ls' ds' makes handed alike like made written modes left)
+
+  by-none : (call : SenderCall) → SenderFollows call s v → (u : Transmission) → v.sending.sender ≡ u → AreAlike u.streams s.sending.sender.streams
+      → AreLike (kept_of u.kept) u.flight.queue.inflight.chunks g.shadow.chunks
+      → as_plain u g.shadow.streams g.shadow.chunks ≡ as_plain s.sending.sender g.shadow.streams g.shadow.chunks
+      → ((ms : List Made) → made_after call s.sending.sender ms ≡ ms) → ((ws : List Write) → written_after call ws ≡ ws) → modes_after call m ≡ m
+      → abandoned_by call s.sending.sender ≡ [] → Result call
+  by-none call f u e alike like same made written modes left =
+      subst
+      (λ (y : Transmission). Goes first size max most limits y v (n + distance (next_tsn s) y.flight.next_tsn) (gone ++ abandoned_by call s.sending.sender)
+      (modes_after call m)) (sym e)
+      (stays-so first size max most limits s.sending.sender u s v n gone m g call (ap (λ (x : Session). x.receiving) f.after)
+      (ap (λ (x : Session). x.sacks) f.after)
+      (ap (λ (x : Session). x.made) f.after) (ap (λ (x : Session). x.written) f.after) alike like same near made written modes left)
+
+  -- ## A write
+
+  writes-goes : (stream : ℕ) (ppi : PayloadProtocolIdentifier) (b : ℕ) (bs : List ℕ) → bytes_written v < 2 ^ 64
+      → SenderFollows (outgoing.writes stream ppi (b ∷ bs)) s v → Result (outgoing.writes stream ppi (b ∷ bs))
+  writes-goes stream ppi b bs short f =
+      let l = accepted-stream stream (length (b ∷ bs)) t f.accepted in
+      let u = written_to l.0 stream ppi (b ∷ bs) t in
+      let e = f.exact.1 (omega arith) l.0 l.1 in
+      let cs = fragments_with_mode l.0 ppi (b ∷ bs) in
+      let calm = ap (λ (p : payload.Payload). bytes_of p.chunks) (message-inflight cs t.flight.queue) in
+      let more = f.step.sender in
+      let same = ap held_by_sender e in
+      by-call (outgoing.writes stream ppi (b ∷ bs)) f u e (outgoing.writes stream ppi (b ∷ bs))
+      (change_where (has_number stream) (wrote ppi (b ∷ bs)) ls) ds
+      (omega (arith, calm, more, same), (((λ z. absurd (omega (arith, z))), exact l.0 l.1), (accepted f, tt))) tt
+      (both-wrote stream ppi (b ∷ bs) t.streams ls g.shadow.alike)
+      (subst (λ (p : payload.Payload). AreLike (kept_of t.kept) p.chunks ds) (sym (message-inflight cs t.flight.queue)) g.shadow.like)
+      (λ ms. refl) (λ ws. refl) refl refl
+    where
+      exact : (l : OutboundStream) → stream_of stream t ≡ Some l → 0 < length (b ∷ bs) → (k : OutboundStream) → stream_of stream w ≡ Some k
+          → as_plain (written_to l stream ppi (b ∷ bs) t) (change_where (has_number stream) (wrote ppi (b ∷ bs)) ls) ds ≡ written_to k stream ppi (b ∷ bs) w
+      exact l is _ k at =
+          let same : bare l ≡ bare k =
+          some-same (ap (option_map bare) (sym is) ∙ found-alike stream t.streams ls g.shadow.alike ∙ ap (option_map bare) at) in
+          let cs : fragments_with_mode l ppi (b ∷ bs) ≡ fragments_with_mode k ppi (b ∷ bs) = ap (λ x. fragments_with_mode x ppi (b ∷ bs)) same in
+          ap (λ q. let y : Transmission = record w { streams = change_where (has_number stream) (wrote ppi (b ∷ bs)) ls; flight = with_queue t.flight q } in y)
+          (sym (message-same (fragments_with_mode l ppi (b ∷ bs)) t.flight.queue ds) ∙ ap (λ xs. with_message xs (with_inflight t.flight.queue ds)) cs)
+
+      fits : SenderFollows (outgoing.writes stream ppi (b ∷ bs)) s v → nat_lt (total_bytes (with_inflight t.flight.queue ds) + length (b ∷ bs)) (2 ^ 64) ≡ true
+      fits f =
+          let p = g.plays in
+          let all = accounted first size max most limits p.calls g.other p.run in
+          let held : held_by_sender g.other.sending.sender ≡ total_bytes (with_inflight t.flight.queue ds) = ap held_by_sender g.shadow.sender in
+          let before : bytes_written g.other ≡ bytes_written s = ap (λ ws. sum_by (λ (x : Write). length x.bytes) ws) g.shadow.written in
+          let after : bytes_written v ≡ bytes_written s + length (b ∷ bs) =
+          ap bytes_written f.after ∙ (let c =
+          sum_by-cons (λ (x : Write). length x.bytes) (record { stream = stream; payload_type = ppi; bytes = b ∷ bs }) s.written in omega (arith, c)) in
+          let lt : total_bytes (with_inflight t.flight.queue ds) + length (b ∷ bs) < 2 ^ 64 = omega (arith, all, held, before, after, short) in
+          grind (arith, nat_tests, lt)
+
+      accepted : SenderFollows (outgoing.writes stream ppi (b ∷ bs)) s v → write_refusal stream (length (b ∷ bs)) w ≡ None
+      accepted f =
+          ap (refused_by (is_open stream w) (nat_lt t.max_message_size (length (b ∷ bs))) (nat_lt (t.flight.queue.next_message_id + 1) (2 ^ 64))) (fits f)
+          ∙ fits-too (is_open stream t) (is_open stream w) (nat_lt t.max_message_size (length (b ∷ bs))) (nat_lt (t.flight.queue.next_message_id + 1) (2 ^ 64))
+          (nat_lt (total_bytes t.flight.queue + length (b ∷ bs)) (2 ^ 64)) (sym (open-alike stream t.streams ls g.shadow.alike)) f.accepted
+
+  -- ## Sending
+
+  sends-goes : (now : ℕ) → SenderFollows (outgoing.sends now) s v → Result (outgoing.sends now)
+  sends-goes now f =
+      let q = t.flight.queue in
+      let next = t.flight.next_tsn in
+      let u : Transmission = with_flight (record t.flight { queue = sent_next q next now; next_tsn = next_after_send t.flight }) t in
+      let es = (sent_next (with_inflight q ds) next now).inflight.chunks in
+      let same = next-same q ds next now in
+      let begun : IsFresh (all_started now q) = fresh-started now in
+      by-call (outgoing.sends now) f u f.exact (outgoing.sends now) ls es (
+        bytes f.step.sender (ap held_by_sender f.exact),
+        (
+          ap (λ r. let y : Transmission = record w { flight = record t.flight { queue = r; next_tsn = next_after_send t.flight } } in y) (sym same),
+          (send-same t.flight (kept_of t.kept) ds g.shadow.like ∙ f.accepted, tt),
+        ),
+      ) tt g.shadow.alike
+      (are-sent (base first) n t.flight (kept_of t.kept) ds g.shadow.like room numbered now begun)
+      (λ ms. ap (λ (r : Outbound). with_chunk (option_map (as_sent next now) (next_pending r.pending)) ms) (started-same now q ds)) (λ ws. refl) refl refl
+    where
+      fresh-started : (now : ℕ) → IsFresh (all_started now t.flight.queue)
+      fresh-started now =
+          let e = started IsUnmarked (λ c. Unit {0}) now (λ c k. k) t.flight.queue
+          (record { ordered = fresh.ordered; unordered = fresh.unordered; inflight = every-none t.flight.queue.inflight.chunks }) in
+          record { ordered = e.ordered; unordered = e.unordered }
+        where
+          every-none : (cs : List ChunkPayloadData) → Every (λ (c : ChunkPayloadData). Unit {0}) cs
+          every-none [] = tt
+          every-none (c ∷ cs) = (tt, every-none cs)
+
+      bytes : held_by_sender v.sending.sender ≡ held_by_sender t
+          → held_by_sender v.sending.sender ≡ total_bytes (sent_next t.flight.queue t.flight.next_tsn now)
+          → total_bytes (with_inflight (sent_next t.flight.queue t.flight.next_tsn now)
+          (sent_next (with_inflight t.flight.queue ds) t.flight.next_tsn now).inflight.chunks) ≡ total_bytes (with_inflight t.flight.queue ds)
+      bytes calm same =
+          let q = t.flight.queue in
+          let r = all_started now q in
+          let a = sent-bytes (next_pending r.pending) r ds t.flight.next_tsn now in
+          let b = ap (λ (p : payload.Payload). bytes_of p.chunks) (started-inflight now q) in
+          let c = ap total_bytes (next-same q ds t.flight.next_tsn now) in
+          let d = ap (λ x. total_bytes (sent_peeked x t.flight.next_tsn now)) (started-same now q ds) in
+          omega (arith, a, b, c, d, calm, same)
+
+  -- ## A message leaves
+
+  abandons-goes : (tsn : ℕ) (a : AbandonedMessage) → SenderFollows (outgoing.abandons tsn a) s v → Result (outgoing.abandons tsn a)
+  abandons-goes tsn a f =
+      let o = message_to_abandon tsn t.flight in
+      let u = after_abandon o a.stream a.bytes t in
+      let g' = after_abandonment o (flight_with t.flight ds) in
+      let es = chunks_of g' in
+      let less = fewer-bytes o (flight_with t.flight ds) in
+      let left = total_bytes (with_inflight t.flight.queue ds) - total_bytes g'.queue in
+      let b : AbandonedMessage = record a { bytes = left } in
+      let same = gone-same o t.flight ds in
+      let total = ap (λ (x : Flight). total_bytes x.queue) same in
+      let message = abandon-same t.flight (kept_of t.kept) ds g.shadow.like tsn in
+      by-call (outgoing.abandons tsn a) f u f.exact (outgoing.abandons tsn b) (change_where (has_number a.stream) (less_by left) ls) es (
+        omega (arith, less, total),
+        (
+          ap (λ (x : Flight). let y : Transmission = record w { streams = change_where (has_number a.stream) (less_by left) ls; flight = x } in y) (sym same)
+              ∙ ap (λ o. after_abandon o a.stream left w) (sym message),
+          (refusal f.accepted, told f.answered),
+        ),
+      ) tt
+      (one-less a.stream a.bytes t.streams ∙ g.shadow.alike ∙ sym (one-less a.stream left ls))
+      (are-gone (base first) n t.flight (kept_of t.kept) ds g.shadow.like room numbered fresh o) (λ ms. refl) (λ ws. refl) refl (ap option_to_list message)
+    where
+      found : option_map plain (find (has_tsn tsn) t.flight.queue.inflight.chunks) ≡ option_map plain (find (has_tsn tsn) ds)
+      found =
+          found-plain (has_tsn tsn) (λ c. refl) t.flight.queue.inflight.chunks ds (are-plain (kept_of t.kept) t.flight.queue.inflight.chunks ds g.shadow.like)
+
+      told : Tells (Some a) (find (has_tsn tsn) t.flight.queue.inflight.chunks) → Tells (Some a) (find (has_tsn tsn) ds)
+      told k = (
+        k.0 ∙ blind-same (option_map (λ (c : ChunkPayloadData). c.stream_identifier)) (λ c. refl) (find (has_tsn tsn) t.flight.queue.inflight.chunks)
+            (find (has_tsn tsn) ds) found,
+        k.1 ∙ blind-same (option_map (λ (c : ChunkPayloadData). c.message_id)) (λ c. refl) (find (has_tsn tsn) t.flight.queue.inflight.chunks)
+            (find (has_tsn tsn) ds) found,
+      )
+
+      refusal : abandon_refusal tsn t.flight ≡ None → abandon_refusal tsn (flight_with t.flight ds) ≡ None
+      refusal none =
+          let cs = t.flight.queue.inflight.chunks in
+          let fl = flight_with t.flight ds in
+          let test : Bool → Bool → ℕ → Option SenderRefusal =
+          λ b h k. if not b then Some NotInFlight else (if h && not (nat_lt (k + 1) (2 ^ 31)) then Some TsnsUsedUp else None) in
+          ap (λ b. test b (has_tail_at fl tsn) (length ds)) (sym (blind-same is_some (λ c. refl) (find (has_tsn tsn) cs) (find (has_tsn tsn) ds) found))
+          ∙ ap (λ h. test (is_held cs tsn) h (length ds))
+          (ap (λ o. has_tail o fl.queue) (abandon-same t.flight (kept_of t.kept) ds g.shadow.like tsn)
+          ∙ tail-same (message_to_abandon tsn t.flight) t.flight.queue ds)
+          ∙ ap (test (is_held cs tsn) (has_tail_at t.flight tsn)) (sym (are-long (kept_of t.kept) cs ds g.shadow.like)) ∙ none
+
+  -- with nothing told, and the rest of a message
+  tail-goes : (now : ℕ) (a : AbandonedMessage) → SenderFollows (outgoing.expires_tail now (Some a)) s v → Result (outgoing.expires_tail now (Some a))
+  tail-goes now a f =
+      let o = message_of (expiring_tail now t.flight.queue) in
+      let u = after_abandon o a.stream a.bytes t in
+      let g' = after_abandonment o (flight_with t.flight ds) in
+      let less = fewer-bytes o (flight_with t.flight ds) in
+      let left = total_bytes (with_inflight t.flight.queue ds) - total_bytes g'.queue in
+      let b : AbandonedMessage = record a { bytes = left } in
+      let same = gone-same o t.flight ds in
+      let total = ap (λ (x : Flight). total_bytes x.queue) same in
+      let one = sum_by-cons (λ (x : AbandonedMessage). x.bytes) b [] in
+      by-call (outgoing.expires_tail now (Some a)) f u f.exact.0 (outgoing.expires_tail now (Some b)) (change_where (has_number a.stream) (less_by left) ls)
+      (chunks_of g') (
+        omega (arith, less, total, one),
+        (
+          (
+            ap (λ (x : Flight). let y : Transmission = record w { streams = change_where (has_number a.stream) (less_by left) ls; flight = x } in y) (sym same),
+            (λ e. absurd (none-some b (sym e))),
+          ),
+          (tt, f.answered),
+        ),
+      ) tt
+      (one-less a.stream a.bytes t.streams ∙ g.shadow.alike ∙ sym (one-less a.stream left ls))
+      (are-gone (base first) n t.flight (kept_of t.kept) ds g.shadow.like room numbered fresh o) (λ ms. refl) (λ ws. refl) refl refl
+
+  tail-idle : (now : ℕ) → SenderFollows (outgoing.expires_tail now None) s v → Result (outgoing.expires_tail now None)
+  tail-idle now f =
+      by-call (outgoing.expires_tail now None) f t (f.exact.1 refl) (outgoing.expires_tail now None) ls ds
+      (omega arith, ((tt, λ _. refl), (tt, f.answered))) tt g.shadow.alike g.shadow.like (λ ms. refl) (λ ws. refl) refl refl
+
+  expires-goes : (now : ℕ) (x : ExpiredMessage) → SenderFollows (outgoing.expires now (Some x)) s v → Result (outgoing.expires now (Some x))
+  expires-goes now x f =
+      let k = expired-one now x t v.sending.sender f.exact in
+      let c = k.0 in
+      let u = after_expire c x.bytes now t in
+      let bytes = f.step.sender in
+      let same = ap held_by_sender k.2 in
+      let ls' = change_where (has_number c.stream_identifier) (after_expiry c.unordered x.bytes) ls in
+      let u' : Transmission = as_plain u ls' ds in
+      by-call (outgoing.expires now (Some x)) f u k.2 (outgoing.expires now (Some x)) ls' ds (
+        omega (arith, bytes, same),
+        (
+          (f.exact.0, (subst (λ o. IfSome o (λ d. u' ≡ after_expire d x.bytes now w)) (sym k.1) refl, (λ e. absurd (none-some x (sym e))))),
+          (tt, f.answered),
+        ),
+      ) tt (both-expired c.stream_identifier c.unordered x.bytes t.streams ls g.shadow.alike) g.shadow.like (λ ms. refl) (λ ws. refl) refl refl
+
+  expires-idle : (now : ℕ) → SenderFollows (outgoing.expires now None) s v → Result (outgoing.expires now None)
+  expires-idle now f =
+      by-call (outgoing.expires now None) f t (f.exact.1.1 refl) (outgoing.expires now None) ls ds
+      (omega arith, ((f.exact.0, (tt, λ _. refl)), (tt, f.answered))) tt g.shadow.alike g.shadow.like (λ ms. refl) (λ ws. refl) refl refl
+
+  -- ## A chunk is sent again
+
+  resends-goes : (tsn now : ℕ) (c : ChunkPayloadData) → SenderFollows (outgoing.resends tsn now c) s v → Result (outgoing.resends tsn now c)
+  resends-goes tsn now c f =
+      let cs = t.flight.queue.inflight.chunks in
+      let b = beside tsn c (kept_of t.kept) cs ds g.shadow.like f.accepted.1 in
+      let d = b.chunk in
+      let open' : is_outstanding c ≡ true = ap is_outstanding_in (sym f.accepted.1) ∙ f.accepted.0 in
+      let k = both (not c.acked) (not c.abandoned) open' in
+      let n' : count_again c ≡ count_again d = ap count_again b.like.same in
+      let same-data : data_of c ≡ data_of d =
+      ap₂ (λ (x : ChunkPayloadData) bytes. data_of (record x { user_data = bytes })) b.like.same (b.like.whole (negated c.acked k.0)) in
+      let gone' : c.abandoned ≡ d.abandoned = ap (λ (x : ChunkPayloadData). x.abandoned) b.like.same in
+      let out : is_outstanding d ≡ true = ap₂ (λ x y. not x && not y) b.like.open' (sym gone' ∙ negated c.abandoned k.1) in
+      by-call (outgoing.resends tsn now c) f (with_flight (resent_at tsn now c t.flight) t) f.step.sender (outgoing.resends tsn now d) ls
+      (change_where (has_tsn tsn) (sent_again (count_again d) now) ds)
+      (refl, (tt, ((ap is_outstanding_in b.found ∙ out, b.found), tt))) tt g.shadow.alike
+      (are-changed IsLike (has_tsn tsn) (has_tsn tsn) (sent_again (count_again c) now) (sent_again (count_again d) now)
+      (λ _ x y j. ap (has_tsn tsn) (sym j.same))
+      (λ _ x y j. record {
+        same = ap₂ (λ k (z : ChunkPayloadData). let r : ChunkPayloadData = record z { nsent = k; since = Some now } in r) n' j.same;
+        open' = j.open';
+        whole = j.whole;
+        kept = j.kept;
+        settled = j.settled;
+      })
+      (kept_of t.kept) cs ds g.shadow.like)
+      (λ ms. ap (λ y. outgoing.data_chunk y ∷ ms) (sym same-data)) (λ ws. refl) refl refl
+
+  -- ## A SACK
+
+  sack-goes : (sack : Sack) (left : List Released) → SenderFollows (outgoing.takes_sack sack left) s v → Result (outgoing.takes_sack sack left)
+  sack-goes sack left f =
+      let x = every-contained (IsThere g.other.sacks) s.sacks sack f.handed g.shadow.sacks in
+      let k = x.bare in
+      let fl = flight_with t.flight ds in
+      let truth = every-contained _ g.other.sacks sack x.itself i.sacks in
+      let fits : sack.cumulative_tsn_ack < 2 ^ 32 = let z = tsn-small (base first) truth.place in let is = truth.is in omega (arith, z, is) in
+      let told = with_lows (released_by k fl) ls in
+      by-call (outgoing.takes_sack sack left) f (after_acked sack t) f.exact (outgoing.takes_sack k told) (after_releases (released_by k fl) ls)
+      (chunks_of (after_sack k fl)) (
+        subst (λ (y : Flight). total_bytes y.queue + bytes_in told ≡ total_bytes fl.queue) (sack-same sack k t.flight ds x.is-bare)
+            (released-same (total_bytes fl.queue) (total_bytes (after_sack k fl).queue) ls (released_by k fl) told refl
+            (sack-bytes k fl (settled-others (kept_of t.kept) t.flight.queue.inflight.chunks ds g.shadow.like))),
+        (
+          ap (λ (y : Flight). let z : Transmission = record w { streams = after_releases (released_by k fl) ls; flight = y } in z)
+              (sym (sack-same sack k t.flight ds x.is-bare)),
+          (refusal-same sack k t.flight ds x.is-bare (sym (are-long (kept_of t.kept) t.flight.queue.inflight.chunks ds g.shadow.like)) f.accepted, refl),
+        ),
+      )
+      x.other (released-alike (released_by sack t.flight) t.streams ∙ g.shadow.alike ∙ sym (released-alike (released_by k fl) ls))
+      (by (chunks_of (after_sack k fl)) t.kept (are-sacked sack k x.is-bare (base first) n t.flight
+      (kept_of t.kept) ds g.shadow.like room numbered fits f.accepted)) (λ ms. refl) (λ ws. refl) refl refl
+    where
+      forgotten : (ks : List (Option (List ℕ))) (cs es : List ChunkPayloadData) → AreLike ks cs es → AreLike [] cs es
+      forgotten ks [] [] a = tt
+      forgotten ks [] (e ∷ es) a = absurd a
+      forgotten ks (c ∷ cs) [] a = absurd a
+      forgotten ks (c ∷ cs) (e ∷ es) a = (
+        record { same = a.0.same; open' = a.0.open'; whole = a.0.whole; kept = λ _ _ bytes is. absurd (none-some bytes is); settled = a.0.settled },
+        forgotten (rest_of ks) cs es a.1,
+      )
+
+      by : (es : List ChunkPayloadData) (o : Option (List (Option (List ℕ)))) → AreLike (kept_after sack t.flight (kept_of o))
+          (chunks_of (after_sack sack t.flight)) es → AreLike (kept_of (option_map (kept_after sack t.flight) o)) (chunks_of (after_sack sack t.flight)) es
+      by es None a = forgotten (kept_after sack t.flight []) (chunks_of (after_sack sack t.flight)) es a
+      by es (Some ks) a = a
+
+  -- ## Several messages leave
+
+  each-goes : (call : SenderCall) (xs : List ℕ) → SenderFollows call s v → v.sending.sender ≡ after_abandoning xs t
+      → length xs ≤ 1 + length t.flight.queue.inflight.chunks → n + distance (next_tsn s) (next_tsn v) < 2 ^ 31
+      → made_after call t s.made ≡ s.made → written_after call s.written ≡ s.written → modes_after call m ≡ m
+      → abandoned_by call t ≡ map (λ (a : AbandonedMessage). a.number) (leaving_each xs t.flight) → Result call
+  each-goes call xs f e short few made written modes left =
+      let u = after_abandoning xs t in
+      let total = numbered.total in
+      let long = are-long (kept_of t.kept) t.flight.queue.inflight.chunks ds g.shadow.like in
+      let few-ends = ends-few xs t.flight in
+      let far : distance t.flight.next_tsn u.flight.next_tsn ≡ ends xs t.flight =
+      far-along t.flight.next_tsn u.flight.next_tsn (ends xs t.flight) near (omega (arith, few-ends, short, long, total, room)) (ends-next xs t.flight near) in
+      let all : distance (next_tsn s) (next_tsn v) ≡ ends xs t.flight = ap (λ (y : Transmission). distance (next_tsn s) y.flight.next_tsn) e ∙ far in
+      let after = leave-each first size max most limits small xs t s n gone m (omega (arith, few, all)) g in
+      let there = restreamed first size max most limits small (record t { flight = abandoned_each xs t.flight })
+      (after_leaving (leaving_each xs t.flight) t.streams) s v
+      (n + ends xs t.flight) (gone ++ map (λ (a : AbandonedMessage). a.number) (leaving_each xs t.flight)) m (left-alike (leaving_each xs t.flight) t.streams)
+      (ap (λ (x : Session). x.receiving) f.after) (ap (λ (x : Session). x.sacks) f.after) (ap (λ (x : Session). x.made) f.after ∙ made)
+      (ap (λ (x : Session). x.written) f.after ∙ written) after in
+      subst (λ (y : Transmission).
+      Goes first size max most limits y v (n + distance (next_tsn s) (next_tsn v)) (gone ++ abandoned_by call t) (modes_after call m)) (sym e)
+      (subst (λ k. Goes first size max most limits u v (n + k) (gone ++ abandoned_by call t) (modes_after call m)) (sym all)
+      (subst (λ ys. Goes first size max most limits u v (n + ends xs t.flight) (gone ++ ys) (modes_after call m)) (sym left)
+      (subst (λ o. Goes first size max most limits u v (n + ends xs t.flight) (gone ++ map (λ (a : AbandonedMessage). a.number) (leaving_each xs t.flight)) o)
+      (sym modes) there)))
+
+  -- ## Every call
+
+  pub sender-goes : (call : SenderCall) → bytes_written v < 2 ^ 64 → n + distance (next_tsn s) (next_tsn v) < 2 ^ 31 → SenderFollows call s v → Result call
+  sender-goes (outgoing.writes stream ppi []) bytes few f =
+      by-none (outgoing.writes stream ppi []) f t (f.exact.0 refl) refl g.shadow.like refl (λ ms. refl) (λ ws. refl) refl refl
+  sender-goes (outgoing.writes stream ppi (b ∷ bs)) bytes few f = writes-goes stream ppi b bs bytes f
+  sender-goes (outgoing.sends now) bytes few f = sends-goes now f
+  sender-goes (outgoing.abandons tsn a) bytes few f = abandons-goes tsn a f
+  sender-goes (outgoing.expires now None) bytes few f = expires-idle now f
+  sender-goes (outgoing.expires now (Some x)) bytes few f = expires-goes now x f
+  sender-goes (outgoing.expires_tail now None) bytes few f = tail-idle now f
+  sender-goes (outgoing.expires_tail now (Some a)) bytes few f = tail-goes now a f
+  sender-goes (outgoing.expires_late now left) bytes few f =
+      each-goes (outgoing.expires_late now left) (late_order now t.flight) f f.exact
+      (order-short (is_late now t.flight.queue.pending) t.flight (with_tail (late_tsns now t.flight.queue) t.flight)) few refl refl refl refl
+  sender-goes (outgoing.expires_rexmit left) bytes few f =
+      each-goes (outgoing.expires_rexmit left)
+      (worn_order t.flight) f f.exact (order-short is_worn t.flight (with_tail (worn_tsns t.flight) t.flight)) few refl refl refl refl
+  sender-goes (outgoing.resends tsn now c) bytes few f = resends-goes tsn now c f
+  sender-goes (outgoing.takes_sack sack left) bytes few f = sack-goes sack left f
+  sender-goes (outgoing.opens stream) bytes few f =
+      by-call (outgoing.opens stream) f (open_stream stream t) f.step.sender (outgoing.opens stream) (ls ++ new_stream stream t.fragment_size ∷ []) ds
+      (refl, (tt, (sym (open-alike stream t.streams ls g.shadow.alike) ∙ f.accepted, tt))) tt
+      (both-opened (new_stream stream t.fragment_size) t.streams ls g.shadow.alike)
+      g.shadow.like (λ ms. refl) (λ ws. refl) refl refl
+  sender-goes (outgoing.sets_mode stream unordered reliability value) bytes few f =
+      by-call (outgoing.sets_mode stream unordered reliability value) f (with_mode_on stream unordered reliability value t) f.step.sender
+      (outgoing.sets_mode stream unordered reliability value) (change_where (has_number stream) (with_mode unordered reliability value) ls) ds
+      (refl, (tt, (sym (open-alike stream t.streams ls g.shadow.alike) ∙ f.accepted, tt))) tt
+      (both-moded stream unordered reliability value t.streams ls g.shadow.alike)
+      g.shadow.like (λ ms. refl) (λ ws. refl) refl refl
+  sender-goes (outgoing.sets_low stream low) bytes few f =
+      by-call (outgoing.sets_low stream low) f (with_low_on stream low t) f.step.sender (outgoing.sets_low stream low)
+      (change_where (has_number stream) (with_low low) ls) ds
+      (refl, (tt, (sym (open-alike stream t.streams ls g.shadow.alike) ∙ f.accepted, tt))) tt (both-lower stream low t.streams ls g.shadow.alike)
+      g.shadow.like (λ ms. refl) (λ ws. refl) refl refl
+  sender-goes (outgoing.sets_size size') bytes few f =
+      by-call (outgoing.sets_size size') f (with_fragment_size size' t) f.step.sender (outgoing.sets_size size') (map (with_size size') ls) ds
+      (refl, (tt, (f.accepted, tt))) tt (both-sized size' t.streams ls g.shadow.alike) g.shadow.like (λ ms. refl) (λ ws. refl) refl refl
+  sender-goes (outgoing.reserves more) bytes few f =
+      by-call (outgoing.reserves more) f (with_flight (with_queue t.flight (with_room more t.flight.queue)) t) f.step.sender (outgoing.reserves more) ls ds
+      (refl, (tt, (tt, tt))) tt g.shadow.alike g.shadow.like (λ ms. refl) (λ ws. refl) refl refl
+  sender-goes (outgoing.starts now) bytes few f =
+      let q = all_started now t.flight.queue in
+      by-call (outgoing.starts now) f (with_flight (with_queue t.flight q) t) f.step.sender (outgoing.starts now) ls ds
+      (ap (λ r. with_flight (with_queue t.flight r) w) (sym (started-same now t.flight.queue ds)), (tt, (tt, tt))) tt g.shadow.alike
+      (subst (λ (p : payload.Payload). AreLike (kept_of t.kept) p.chunks ds) (sym (started-inflight now t.flight.queue)) g.shadow.like) (λ ms. refl)
+      (λ ws. refl) refl refl
+  sender-goes outgoing.marks bytes few f =
+      by-none outgoing.marks f (with_flight (all_marked t.flight) t) f.step.sender refl
+      (are-marked IsLike is_outstanding (with_retransmit true)
+      (λ k c d i. record { same = i.same; open' = i.open'; whole = i.whole; kept = i.kept; settled = i.settled })
+      (kept_of t.kept) t.flight.queue.inflight.chunks ds g.shadow.like)
+      refl (λ ms. refl) (λ ws. refl) refl refl
+  sender-goes (outgoing.misses count) bytes few f =
+      by-none (outgoing.misses count) f (with_flight (after_misses count t.flight) t) f.step.sender refl
+      (are-part-marked IsLike can_miss missed
+      (λ k c d i. record { same = i.same; open' = i.open'; whole = i.whole; kept = i.kept; settled = i.settled }) count
+      (kept_of t.kept) t.flight.queue.inflight.chunks ds g.shadow.like)
+      refl (λ ms. refl) (λ ws. refl) refl refl
+  sender-goes (outgoing.forwards tsn c) bytes few f =
+      let like = g.shadow.like in
+      by-call (outgoing.forwards tsn c) f t f.exact (outgoing.forwards tsn c) ls ds (
+        omega arith,
+        (
+          refl,
+          (
+            (
+              f.accepted.0 ∙ sym (skip-same t.flight (kept_of t.kept) ds like tsn),
+              named-same t.flight (kept_of t.kept) ds like c.streams c.new_cumulative_tsn f.accepted.1,
+            ),
+            tt,
+          ),
+        ),
+      ) tt g.shadow.alike like (λ ms. refl) (λ ws. refl) refl refl
+  sender-goes (outgoing.forwards_within room' c) bytes few f =
+      let like = g.shadow.like in
+      by-call (outgoing.forwards_within room' c) f t f.exact (outgoing.forwards_within room' c) ls ds (
+        omega arith,
+        (
+          refl,
+          (
+            (
+              can-same t.flight (kept_of t.kept) ds like c.new_cumulative_tsn ∙ f.accepted.0,
+              end-same t.flight (kept_of t.kept) ds like c.new_cumulative_tsn ∙ f.accepted.1,
+              named-same t.flight (kept_of t.kept) ds like c.streams c.new_cumulative_tsn f.accepted.2,
+            ),
+            tt,
+          ),
+        ),
+      ) tt g.shadow.alike like (λ ms. refl) (λ ws. refl) refl refl

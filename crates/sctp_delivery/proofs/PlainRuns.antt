@@ -1,0 +1,475 @@
+-- Sessions of a sender that keeps what is reported: beside each there is one in which no gap ack block is taken, with the same chunks.
+use Rattle.sctp_delivery.proofs.Names.{◌≡◌, AllPairs, ℕ, ◌<◌, ◌≤◌, ◌+◌, ◌^◌, Bool, true, List, [], ◌∷◌, ◌++◌, length, refl, ap, ap₂, sym, subst}
+use Rattle.sctp_delivery.proofs.Names.{◌∙◌, arith, append-nil, append_assoc, Option, Some, None, if◌then◌else◌, ◌==◌, ◌&&◌, nat_lt, list_all, list_any}
+use Rattle.sctp_delivery.proofs.Names.{list_any_at}
+use Rattle.sctp_delivery.proofs.Names.{All, Contains, sum_by, sum_by-cons, nat_tests, ChunkPayloadData, Sack, Limits, Transmission, Drop, bytes_of}
+use Rattle.sctp_delivery.proofs.Names.{total_bytes, with_inflight, SenderRefusal, is_outdated, sack_refusal, Session, RunsTo}
+use Rattle.sctp_delivery.proofs.Names.{at_start, bytes_written}
+use Rattle.sctp_delivery.proofs.Names.{of_receiver, of_sender, abandoned_by, abandoned_in, tsns_given, Modes, at_first, modes_after, modes_from}
+use Rattle.sctp_delivery.proofs.Names.{Write}
+use Rattle.sctp_delivery.proofs.Names.{Flight, chunk_count, is_exhausted, reads_nothing, reports_tsn, held_by_sender, StandAt, AreMade, AreMessages}
+use Rattle.sctp_delivery.proofs.Names.{Stand, Call, Data, data_chunk}
+use Rattle.sctp_delivery.proofs.Names.{EachOtherIsReadOnce, slice_index_or, ◌-◌}
+use Rattle.sctp_delivery.proofs.Names.{AreWrites, AreWritesOfTheirOwn, NoneIsReadTwice, AreReadInOrder, NoneIsRefused, NoneIsTakenTwice, EachSackTells}
+use Rattle.sctp_delivery.proofs.Names.{at_or_before}
+use Rattle.std.specs.Prelude.{◌≢◌, is_some, not}
+use Rattle.sctp_util.specs.Serial.{distance}
+use Rattle.sctp_sender.specs.declared.sender.Reported.{Reported}
+use Rattle.sctp_sender.specs.declared.sender.Reported.TheVariants.{Keep}
+use Rattle.sctp_sender.specs.declared.sender.flight.kept.TakenBack.{TakenBack}
+use Rattle.sctp_sender.specs.declared.sender.refusal.SenderRefusal.TheVariants.{InflightQueueTsnPop, TsnRequestNotExist}
+use Rattle.sctp_sender.specs.Flight.{count_acked, is_within}
+use Rattle.sctp_sender.specs.Keeping.{answered_back, back_each, bytes_back, restored, with_restored}
+use Rattle.sctp_sender.specs.Totals.{AreSettled, bytes_in}
+use Rattle.sctp_sender.specs.Sender.{after_take_back, back_by, or_full, take_back_refusal, taken_back_by}
+use Rattle.sctp_sender.specs.SenderRuns as sender_runs
+use Rattle.sctp_sender.proofs.Accounts as accounts
+use Rattle.sctp_sender.proofs.Keepings.{answered-weight, back-bytes}
+use Rattle.sctp_sender.proofs.Placed.{back-length}
+use Rattle.sctp_delivery.specs.Abandoned.{IsEachOtherReadInTheEnd}
+use Rattle.sctp_delivery.specs.Messages.{AreParts, AreSame, IsPart}
+use Rattle.sctp_delivery.specs.Modes.{AreReadAsWritten, AreSentAsWritten, IsUnorderedAt, was_written_ordered}
+use Rattle.sctp_delivery.specs.Order.{places_where}
+use Rattle.sctp_delivery.specs.Returns.{AfterEachWithReturns, AfterEachWithReturnsOfFewTsns, CallOrReturn, EachAckedIsTwoCalls, IsAccountedSo, NoneIsRefusedSo}
+use Rattle.sctp_delivery.specs.Returns.{RunsWithReturns, TakesBack, abandoned_so, after_return, at_start_with, makes, other_calls, takes_back, tsns_given_so}
+use Rattle.sctp_delivery.specs.Sacks.{LeftCame, ReportWhatCame}
+use Rattle.sctp_delivery.specs.SenderCalls as outgoing
+use Rattle.sctp_delivery.proofs.Cases.{at-if, by-test}
+use Rattle.sctp_delivery.proofs.Delivered as delivered
+use Rattle.sctp_delivery.proofs.Delivered.{next_tsn}
+use Rattle.sctp_delivery.proofs.Every.{Every, all-of-every, every-of, one-of}
+use Rattle.sctp_delivery.proofs.ModeSessions as modes
+use Rattle.sctp_delivery.proofs.OnceWritten as once_written
+use Rattle.sctp_delivery.proofs.OneRead.{no-way}
+use Rattle.sctp_delivery.proofs.OthersOnce as others
+use Rattle.sctp_delivery.proofs.Plain.{AreLike, are-back, are-long, rest_of}
+use Rattle.sctp_delivery.proofs.PlainCalls.{sender-goes}
+use Rattle.sctp_delivery.proofs.PlainFlights.{settled-kept}
+use Rattle.sctp_delivery.proofs.PlainSessions.{Goes, IsThere, Shadows, kept_of, receives-too, small-next, step-of}
+use Rattle.sctp_delivery.proofs.PlainStreams.{returned-alike}
+use Rattle.sctp_delivery.proofs.ReadOnce as read_once
+use Rattle.sctp_delivery.proofs.SackLaws as sacks
+use Rattle.sctp_delivery.proofs.Sessions as sessions
+use Rattle.sctp_delivery.proofs.SackSteps.{known_or, none_dropped}
+use Rattle.sctp_delivery.proofs.TakenCalls.{AreTaken, IsInOrder, each-sack-tells}
+use Rattle.sctp_delivery.proofs.ArrivedTsns.{IsArrived}
+use Rattle.sctp_delivery.proofs.TsnPlaces.{base}
+use Rattle.sctp_delivery.proofs.UnwrappedLaw as unwrapped
+use Rattle.sctp_delivery.proofs.Sessions.{written-more}
+
+-- ## Bytes
+
+abbrev sender_calls : List CallOrReturn → List sender_runs.Call
+sender_calls [] = []
+sender_calls (makes (of_sender call) ∷ cs) = outgoing.as_run call ∷ sender_calls cs
+sender_calls (makes (of_receiver call) ∷ cs) = sender_calls cs
+sender_calls (takes_back sack back ∷ cs) = sender_runs.takes_back back ∷ sender_calls cs
+
+sender-runs : (cs : List CallOrReturn) (old new : Session) → RunsWithReturns old cs new → sender_runs.RunsTo old.sending (sender_calls cs) new.sending
+sender-runs [] old new r = ap (λ (s : Session). s.sending) r
+sender-runs (makes (of_sender call) ∷ cs) old new r = (r.0.sending, (r.1.0.step, sender-runs cs r.0 new r.1.1))
+sender-runs (makes (of_receiver call) ∷ cs) old new r =
+    subst (λ l. sender_runs.RunsTo l (sender_calls cs) new.sending) (ap (λ (s : Session). s.sending) r.1.0.after) (sender-runs cs r.0 new r.1.1)
+sender-runs (takes_back sack back ∷ cs) old new r = (r.0.sending, (r.1.0.step, sender-runs cs r.0 new r.1.1))
+
+abbrev IsWritten : Session → Type 0
+IsWritten s = bytes_written s ≡ s.sending.written
+
+counted : (cs : List CallOrReturn) (old new : Session) → RunsWithReturns old cs new → IsWritten old → IsWritten new
+counted [] old new r h = subst IsWritten (sym r) h
+counted (makes (of_sender call) ∷ cs) old new r h =
+    let f = r.1.0 in
+    counted cs r.0 new r.1.1 (let e = ap bytes_written f.after in let m = written-more call old.written in let w = f.step.written in omega (arith, e, m, w, h))
+counted (makes (of_receiver call) ∷ cs) old new r h =
+    let f = r.1.0 in
+    counted cs r.0 new r.1.1 (ap bytes_written f.after ∙ h ∙ sym (ap (λ (s : Session). s.sending.written) f.after))
+counted (takes_back sack back ∷ cs) old new r h =
+    let f = r.1.0 in
+    counted cs r.0 new r.1.1 (let e = ap bytes_written f.after in let w = f.step.written in omega (arith, e, w, h))
+
+pub accounted : AfterEachWithReturns (λ calls s. IsAccountedSo s)
+accounted reported tsn size max most limits cs s r =
+    let start = at_start_with reported tsn size max most limits in
+    let law = accounts.accounted tsn size max reported (sender_calls cs) s.sending (sender-runs cs start s r) in
+    let c = counted cs start s r refl in
+    omega (arith, law, c)
+
+-- ## Every call
+
+grows : (cs : List CallOrReturn) (old new : Session) → RunsWithReturns old cs new → bytes_written old ≤ bytes_written new
+grows [] old new r = let e = ap bytes_written r in omega (arith, e)
+grows (makes (of_sender call) ∷ cs) old new r =
+    let e = ap bytes_written r.1.0.after in
+    let m = written-more call old.written in
+    let rest = grows cs r.0 new r.1.1 in
+    omega (arith, e, m, rest)
+grows (makes (of_receiver call) ∷ cs) old new r = let e = ap bytes_written r.1.0.after in let rest = grows cs r.0 new r.1.1 in omega (arith, e, rest)
+grows (takes_back sack back ∷ cs) old new r = let e = ap bytes_written r.1.0.after in let rest = grows cs r.0 new r.1.1 in omega (arith, e, rest)
+
+-- what comes back is as it would be
+back-like : (sack : Sack) (f : Flight) (o : Option (List (Option (List ℕ)))) (ds : List ChunkPayloadData) → AreLike (kept_of o) f.queue.inflight.chunks ds
+    → AreLike (kept_of o) (restored (back_by sack f o) f.queue.inflight.chunks) ds
+back-like sack f None ds a = a
+back-like sack f (Some ks) ds a =
+    at-if (λ bs. AreLike ks (restored bs f.queue.inflight.chunks) ds) (is_outdated sack f) (λ _. a) (λ _. are-back sack ks f.queue.inflight.chunks ds a)
+
+module _ (first size max most : ℕ) (limits : Option Limits) (small : first < 2 ^ 32) where
+  returns-goes : (sack : Sack) (back : List TakenBack) (s v : Session) (n : ℕ) (gone : List ℕ) (m : Modes) → TakesBack sack back s v
+      → Goes first size max most limits s.sending.sender s n gone m → Goes first size max most limits v.sending.sender v n gone m
+  returns-goes sack back s v n gone m f g =
+      let t = s.sending.sender in
+      let x = g.shadow in
+      subst (λ (y : Transmission). Goes first size max most limits y v n gone m) (sym f.exact) (record {
+        other = g.other;
+        shadow = record {
+          streams = x.streams;
+          chunks = x.chunks;
+          sender = x.sender;
+          alike = returned-alike (taken_back_by sack t) t.streams ∙ x.alike;
+          like = back-like sack t.flight t.kept x.chunks x.like;
+          receiving = x.receiving ∙ sym (ap (λ (y : Session). y.receiving) f.after);
+          made = x.made ∙ sym (ap (λ (y : Session). y.made) f.after);
+          written = x.written ∙ sym (ap (λ (y : Session). y.written) f.after);
+          sacks = subst (Every (IsThere g.other.sacks)) (sym (ap (λ (y : Session). y.sacks) f.after)) x.sacks;
+        };
+        plays = g.plays;
+      })
+
+  all-go : (cs : List CallOrReturn) (s new : Session) (r : RunsWithReturns s cs new) (n : ℕ) (gone : List ℕ) (m : Modes) → n + tsns_given_so s cs new r < 2 ^ 31
+      → bytes_written new < 2 ^ 64 → Goes first size max most limits s.sending.sender s n gone m
+      → Goes first size max most limits new.sending.sender new (n + tsns_given_so s cs new r) (gone ++ abandoned_so s cs new r) (modes_from m (other_calls cs))
+  all-go [] s new r n gone m few short g =
+      subst (λ k. Goes first size max most limits new.sending.sender new k (gone ++ []) m) {x = n} {y = n + 0} (omega arith)
+      (subst (λ xs. Goes first size max most limits new.sending.sender new n xs m) (sym (append-nil gone))
+      (subst (λ (y : Session). Goes first size max most limits y.sending.sender y n gone m) (sym r) g))
+  all-go (makes (of_sender call) ∷ cs) s new r n gone m few short g =
+      let d = distance (next_tsn s) (next_tsn r.0) in
+      let rest = tsns_given_so r.0 cs new r.1.1 in
+      let bytes = grows cs r.0 new r.1.1 in
+      let one = sender-goes first size max most limits small s r.0 n gone m (omega (arith, few)) g call (omega (arith, bytes, short))
+      (omega (arith, few)) r.1.0 in
+      let then' = all-go cs r.0 new r.1.1 (n + d) (gone ++ abandoned_by call s.sending.sender) (modes_after call m) (omega (arith, few)) short one in
+      let sum : (n + d) + rest ≡ n + (d + rest) = omega arith in
+      subst (λ k. Goes first size max most limits new.sending.sender new k (gone ++ (abandoned_by call s.sending.sender ++ abandoned_so r.0 cs new r.1.1))
+      (modes_from (modes_after call m) (other_calls cs))) sum
+      (subst (λ xs. Goes first size max most limits new.sending.sender new ((n + d) + rest) xs (modes_from (modes_after call m) (other_calls cs)))
+      (append_assoc gone (abandoned_by call s.sending.sender) (abandoned_so r.0 cs new r.1.1)) then')
+  all-go (makes (of_receiver call) ∷ cs) s new r n gone m few short g =
+      let d = distance (next_tsn s) (next_tsn r.0) in
+      let rest = tsns_given_so r.0 cs new r.1.1 in
+      let near = small-next first size max most limits s.sending.sender s n gone m small (omega (arith, few)) g in
+      let none : d ≡ 0 = ap (λ (y : Session). distance (next_tsn s) (next_tsn y)) r.1.0.after ∙ no-way (next_tsn s) near in
+      let sum : n + rest ≡ n + (d + rest) = omega (arith, none) in
+      subst (λ k. Goes first size max most limits new.sending.sender new k (gone ++ abandoned_so r.0 cs new r.1.1) (modes_from m (other_calls cs))) sum
+      (all-go cs r.0 new r.1.1 n gone m (omega (arith, few)) short
+      (receives-too first size max most limits call s r.0 n gone m small (omega (arith, few)) g r.1.0))
+  all-go (takes_back sack back ∷ cs) s new r n gone m few short g =
+      let d = distance (next_tsn s) (next_tsn r.0) in
+      let rest = tsns_given_so r.0 cs new r.1.1 in
+      let near = small-next first size max most limits s.sending.sender s n gone m small (omega (arith, few)) g in
+      let none : d ≡ 0 = ap (λ (y : Transmission). distance (next_tsn s) y.flight.next_tsn) r.1.0.exact ∙ no-way (next_tsn s) near in
+      let sum : n + rest ≡ n + (d + rest) = omega (arith, none) in
+      subst (λ k. Goes first size max most limits new.sending.sender new k (gone ++ abandoned_so r.0 cs new r.1.1) (modes_from m (other_calls cs))) sum
+      (all-go cs r.0 new r.1.1 n gone m (omega (arith, few)) short (returns-goes sack back s r.0 n gone m r.1.0 g))
+
+at-start : (reported : Reported) (first size max most : ℕ) (limits : Option Limits)
+    → Goes first size max most limits (at_start_with reported first size max most limits).sending.sender
+    (at_start_with reported first size max most limits) 0 [] at_first
+at-start reported first size max most limits = by reported
+  where
+    by : (k : Reported)
+        → Goes first size max most limits (at_start_with k first size max most limits).sending.sender (at_start_with k first size max most limits) 0 [] at_first
+    by Drop = record {
+      other = at_start first size max most limits;
+      shadow =
+          record { streams = []; chunks = []; sender = refl; alike = refl; like = tt; receiving = refl; made = refl; written = refl; sacks = tt };
+      plays = record { calls = []; run = refl; given = refl; left = refl; said = refl };
+    }
+    by Keep = record {
+      other = at_start first size max most limits;
+      shadow =
+          record { streams = []; chunks = []; sender = refl; alike = refl; like = tt; receiving = refl; made = refl; written = refl; sacks = tt };
+      plays = record { calls = []; run = refl; given = refl; left = refl; said = refl };
+    }
+
+-- what all sessions have
+module _ (reported : Reported) (first size max most : ℕ) (limits : Option Limits) (calls : List CallOrReturn) (s : Session)
+    (run : RunsWithReturns (at_start_with reported first size max most limits) calls s) (small : first < 2 ^ 32)
+    (few : tsns_given_so (at_start_with reported first size max most limits) calls s run < 2 ^ 31) (short : bytes_written s < 2 ^ 64) where
+  pub goes : Goes first size max most limits s.sending.sender s (tsns_given_so (at_start_with reported first size max most limits) calls s run)
+      (abandoned_so (at_start_with reported first size max most limits) calls s run) (modes_from at_first (other_calls calls))
+  goes =
+      subst (λ k. Goes first size max most limits s.sending.sender s k (abandoned_so (at_start_with reported first size max most limits) calls s run)
+      (modes_from at_first (other_calls calls))) {x = 0 + tsns_given_so (at_start_with reported first size max most limits) calls s run} (omega arith)
+      (all-go first size max most limits small calls (at_start_with reported first size max most limits) s run 0 [] at_first (omega (arith, few)) short
+      (at-start reported first size max most limits))
+
+  abbrev pub other : Session
+  other = goes.other
+
+  pub shadow : Shadows s.sending.sender s goes.other
+  shadow = goes.shadow
+
+  pub calls-there : List Call
+  calls-there = goes.plays.calls
+
+  -- the other one, with what is the same
+  abbrev seen : Session
+  seen = record { sending = goes.other.sending; receiving = s.receiving; made = s.made; sacks = goes.other.sacks; written = s.written }
+
+  as-seen : goes.other ≡ record { sending = goes.other.sending; receiving = s.receiving; made = s.made; sacks = goes.other.sacks; written = s.written }
+  as-seen =
+      let d = goes.other in
+      ap (λ r. let y : Session = record d { receiving = r } in y) goes.shadow.receiving
+      ∙ ap (λ ms. let y : Session = record d { receiving = s.receiving; made = ms } in y) goes.shadow.made
+      ∙ ap (λ ws. let y : Session = record d { receiving = s.receiving; made = s.made; written = ws } in y) goes.shadow.written
+
+  -- what is so of each session that gives out few TSNs
+  pub so : (P : Session → Type 0) → ((cs : List Call) (r : RunsTo (at_start first size max most limits) cs goes.other)
+      → tsns_given (at_start first size max most limits) cs goes.other r < 2 ^ 31
+      → P goes.other) → P (record { sending = goes.other.sending; receiving = s.receiving; made = s.made; sacks = goes.other.sacks; written = s.written })
+  so P law = let p = goes.plays in subst P as-seen (law p.calls p.run (let e = p.given in omega (arith, e, few)))
+
+  -- and with the modes of its calls, and what is abandoned
+  pub so-called : (P : Modes → List ℕ → Session → Type 0) → ((cs : List Call) (r : RunsTo (at_start first size max most limits) cs goes.other)
+      → tsns_given (at_start first size max most limits) cs goes.other r < 2 ^ 31
+      → P (modes_from at_first cs) (abandoned_in (at_start first size max most limits) cs goes.other r) goes.other)
+      → P (modes_from at_first (other_calls calls)) (abandoned_so (at_start_with reported first size max most limits) calls s run)
+      (record { sending = goes.other.sending; receiving = s.receiving; made = s.made; sacks = goes.other.sacks; written = s.written })
+  so-called P law =
+      let p = goes.plays in
+      subst (λ m. P m (abandoned_so (at_start_with reported first size max most limits) calls s run)
+      (record { sending = goes.other.sending; receiving = s.receiving; made = s.made; sacks = goes.other.sacks; written = s.written })) p.said
+      (subst (λ xs. P (modes_from at_first p.calls) xs
+      (record { sending = goes.other.sending; receiving = s.receiving; made = s.made; sacks = goes.other.sacks; written = s.written })) p.left
+      (subst (P (modes_from at_first p.calls) (abandoned_in (at_start first size max most limits) p.calls goes.other p.run)) as-seen
+      (law p.calls p.run (let e = p.given in omega (arith, e, few)))))
+
+  pub so-given : (P : ℕ → Session → Type 0) → ((cs : List Call) (r : RunsTo (at_start first size max most limits) cs goes.other)
+      → tsns_given (at_start first size max most limits) cs goes.other r < 2 ^ 31
+      → P (tsns_given (at_start first size max most limits) cs goes.other r) goes.other)
+      → P (tsns_given_so (at_start_with reported first size max most limits) calls s run)
+      (record { sending = goes.other.sending; receiving = s.receiving; made = s.made; sacks = goes.other.sacks; written = s.written })
+  so-given P law =
+      let p = goes.plays in
+      subst (λ k. P k (record { sending = goes.other.sending; receiving = s.receiving; made = s.made; sacks = goes.other.sacks; written = s.written })) p.given
+      (subst (P (tsns_given (at_start first size max most limits) p.calls goes.other p.run)) as-seen
+      (law p.calls p.run (let e = p.given in omega (arith, e, few))))
+
+  pub tells-so : EachSackTells s
+  tells-so =
+      let n = tsns_given_so (at_start_with reported first size max most limits) calls s run in
+      let i = step-of first size max most limits s.sending.sender s n (abandoned_so (at_start_with reported first size max most limits) calls s run)
+      (modes_from at_first (other_calls calls)) small few goes in
+      let kn = known_or none_dropped goes.other in
+      let same = goes.shadow.receiving in
+      each-sack-tells (base first) n s kn few (subst (λ (q : Stand). IsArrived (base first) n kn q.receiver.cumulative_tsn q.receiver.beyond) same i.arrived)
+      (subst (λ (q : Stand). IsInOrder q.receiver) same i.order) (subst (λ (q : Stand). AreTaken (base first) n q.receiver q.accepted) same i.taken)
+
+-- ## Messages
+
+pub made : AfterEachWithReturnsOfFewTsns (λ first n gone cs s. AreMade s)
+made reported first size max most limits cs s run small some few short =
+    so reported first size max most limits cs s run small few short AreMade (λ ks r lt. sessions.made first size max most limits ks _ r)
+
+pub messages : AfterEachWithReturnsOfFewTsns (λ first n gone cs s. AreMessages s)
+messages reported first size max most limits cs s run small some few short =
+    so reported first size max most limits cs s run small few short AreMessages (λ ks r lt. sessions.messages first size max most limits ks _ r)
+
+pub written : AfterEachWithReturnsOfFewTsns (λ first n gone cs s. AreWrites s)
+written reported first size max most limits cs s run small some few short =
+    so reported first size max most limits cs s run small few short AreWrites
+    (λ ks r lt. delivered.law first size max most limits ks _ small some r (omega (arith, lt)))
+
+pub none-read-twice : AfterEachWithReturnsOfFewTsns (λ first n gone cs s. NoneIsReadTwice s)
+none-read-twice reported first size max most limits cs s run small some few short =
+    so reported first size max most limits cs s run small few short NoneIsReadTwice (λ ks r lt. read_once.none-twice first size max most limits ks _ r small lt)
+
+pub of-their-own : AfterEachWithReturnsOfFewTsns (λ first n gone cs s. AreWritesOfTheirOwn s)
+of-their-own reported first size max most limits cs s run small some few short =
+    so reported first size max most limits cs s run small few short AreWritesOfTheirOwn
+    (λ ks r lt. once_written.of-their-own first size max most limits ks _ small some r lt)
+
+pub in-order : AfterEachWithReturnsOfFewTsns (λ first n gone cs s. AreReadInOrder s)
+in-order reported first size max most limits cs s run small some few short =
+    so reported first size max most limits cs s run small few short AreReadInOrder
+    (λ ks r lt. unwrapped.in-order first size max most limits ks _ small some r lt)
+
+-- `AreReadAsWritten`, of the modes
+abbrev AreReadSo : Modes → Session → Type 0
+AreReadSo m s =
+    (places : List ℕ) × StandAt s.written s.receiving.read places × AllPairs (λ p q. p ≢ q) places
+    × ((stream : ℕ) → AllPairs (λ p q. p < q) (places_where (was_written_ordered m.of_writes stream) s.receiving.read places))
+
+pub as-written : AfterEachWithReturnsOfFewTsns (λ first n gone cs s. AreReadAsWritten (other_calls cs) s)
+as-written reported first size max most limits cs s run small some few short =
+    so-called reported first size max most limits cs s run small few short (λ m gone s. AreReadSo m s)
+    (λ ks r lt. modes.read-as-written first size max most limits ks _ small some r lt)
+
+-- ## Chunks
+
+pub parts : AfterEachWithReturnsOfFewTsns (λ first n gone cs s. AreParts s)
+parts reported first size max most limits cs s run small some few short =
+    so reported first size max most limits cs s run small few short AreParts (λ ks r lt. delivered.parts first size max most limits ks _ small some r)
+
+pub same : AfterEachWithReturnsOfFewTsns (λ first n gone cs s. AreSame s)
+same reported first size max most limits cs s run small some few short =
+    so reported first size max most limits cs s run small few short AreSame
+    (λ ks r lt. delivered.same first size max most limits ks _ small some r (omega (arith, lt)))
+
+-- `AreSentAsWritten`, of the modes
+abbrev AreSentSo : Modes → Session → Type 0
+AreSentSo m s =
+    (length m.of_writes ≡ length s.written)
+    × ((d : Data) → Contains s.made (data_chunk d)
+    → (p : ℕ) × (p < length s.written) × ((w : Write) → IsPart d (slice_index_or s.written p w)) × IsUnorderedAt m.of_writes p d.unordered)
+
+pub sent-as-written : AfterEachWithReturnsOfFewTsns (λ first n gone cs s. AreSentAsWritten (other_calls cs) s)
+sent-as-written reported first size max most limits cs s run small some few short =
+    so-called reported first size max most limits cs s run small few short (λ m gone s. AreSentSo m s)
+    (λ ks r lt. modes.sent-as-written first size max most limits ks _ small some r)
+
+-- ## In the end
+
+pub others-read : AfterEachWithReturnsOfFewTsns (λ first n gone cs s. IsEachOtherReadInTheEnd gone s)
+others-read reported first size max most limits cs s run small some few short exhausted =
+    let x = shadow reported first size max most limits cs s run small few short in
+    let t = s.sending.sender in
+    let long = are-long (kept_of t.kept) t.flight.queue.inflight.chunks x.chunks x.like in
+    so-called reported first size max most limits cs s run small few short (λ m gone s. EachOtherIsReadOnce gone s)
+    (λ ks r lt. others.others-read first size max most limits ks _ r small lt some
+    (ap₂ (λ (u : Transmission) (q : Stand). is_exhausted u q.receiver) x.sender x.receiving
+    ∙ ap (λ k. ((chunk_count t.flight.queue.pending == 0) && (k == 0)) && reads_nothing s.receiving.receiver) (sym long) ∙ exhausted))
+
+-- ## SACKs
+
+pub none-refused : AfterEachWithReturnsOfFewTsns (λ first n gone cs s. NoneIsRefused s)
+none-refused reported first size max most limits cs s run small some few short =
+    let x = shadow reported first size max most limits cs s run small few short in
+    let d = other reported first size max most limits cs s run small few short in
+    let f = s.sending.sender.flight in
+    let long = are-long (kept_of s.sending.sender.kept) f.queue.inflight.chunks x.chunks x.like in
+    let all = so reported first size max most limits cs s run small few short NoneIsRefused
+    (λ ks r lt. sacks.none-refused first size max most limits ks _ r small lt) in
+    all-of-every (λ k. sack_refusal k f ≡ None) s.sacks (every-of (IsThere d.sacks) (λ k. sack_refusal k f ≡ None)
+    (λ k i. ap (λ j. if is_outdated k f then None else (if nat_lt j (count_acked k f) then Some InflightQueueTsnPop
+    else (if list_all (is_within (j - count_acked k f)) k.gap_ack_blocks then None else Some TsnRequestNotExist))) long
+    ∙ sym (ap (λ (u : Transmission). sack_refusal k u.flight) x.sender) ∙ contained-all (λ j. sack_refusal j
+    (other reported first size max most limits cs s run small few short).sending.sender.flight ≡ None) d.sacks k i.itself all) s.sacks x.sacks)
+  where
+    contained-all : (P : Sack → Type 0) (ks : List Sack) (k : Sack) → Contains ks k → All P ks → P k
+    contained-all P ks k c a = subst P c.2 (a c.0 k c.1)
+
+pub report-came : AfterEachWithReturnsOfFewTsns (λ first n gone cs s. ReportWhatCame first n s)
+report-came reported first size max most limits cs s run small some few short t fits from told =
+    let x = shadow reported first size max most limits cs s run small few short in
+    let d = other reported first size max most limits cs s run small few short in
+    let i = one-of (IsThere d.sacks) (reports_tsn t) s.sacks told x.sacks in
+    let there : list_any (reports_tsn t) d.sacks ≡ true =
+    list_any_at (reports_tsn t) d.sacks i.2.itself.0 i.0 i.2.itself.1 (ap (reports_tsn t) i.2.itself.2 ∙ i.1) in
+    so-given reported first size max most limits cs s run small few short (ReportWhatCame first)
+    (λ ks r lt. sacks.report-given first size max most limits ks _ r small lt)
+    t fits from there
+
+pub each-tells : AfterEachWithReturnsOfFewTsns (λ first n gone cs s. EachSackTells s)
+each-tells reported first size max most limits cs s run small some few short =
+    tells-so reported first size max most limits cs s run small few short
+
+pub left-came : AfterEachWithReturnsOfFewTsns (λ first n gone cs s. LeftCame first s)
+left-came reported first size max most limits cs s run small some few short =
+    let x = shadow reported first size max most limits cs s run small few short in
+    let law = so reported first size max most limits cs s run small few short (LeftCame first)
+    (λ ks r lt. sacks.all-left-came first size max most limits ks _ r small lt) in
+    λ t fits from upto. law t fits from (ap (λ (u : Transmission). at_or_before t u.flight.acked_tsn) x.sender ∙ upto)
+
+pub none-taken-twice : AfterEachWithReturnsOfFewTsns (λ first n gone cs s. NoneIsTakenTwice s)
+none-taken-twice reported first size max most limits cs s run small some few short =
+    so reported first size max most limits cs s run small few short NoneIsTakenTwice (λ ks r lt. sacks.none-twice first size max most limits ks _ r small lt)
+
+-- ## A SACK that takes back
+
+-- what is in flight has no more bytes than it would have
+lighter : (ks : List (Option (List ℕ))) (cs ds : List ChunkPayloadData) → AreLike ks cs ds → bytes_of cs ≤ bytes_of ds
+lighter ks [] [] a = omega arith
+lighter ks [] (d ∷ ds) a = absurd a
+lighter ks (c ∷ cs) [] a = absurd a
+lighter ks (c ∷ cs) (d ∷ ds) a =
+    let size : ChunkPayloadData → ℕ = λ x. length x.user_data in
+    let x = sum_by-cons size c cs in
+    let y = sum_by-cons size d ds in
+    let rest = lighter (rest_of ks) cs ds a.1 in
+    let one : length c.user_data ≤ length d.user_data =
+    by-test c.acked (λ e. let z = a.0.settled e in omega (arith, z)) (λ e. let z = ap (λ (bs : List ℕ). length bs) (a.0.whole e) in omega (arith, z)) in
+    omega (arith, x, y, rest, one)
+
+-- what comes back is what is in flight more
+back-more : (sack : Sack) (t : Transmission) (ds : List ChunkPayloadData) → AreLike (kept_of t.kept) t.flight.queue.inflight.chunks ds
+    → total_bytes (after_take_back sack t).flight.queue ≡ total_bytes t.flight.queue + bytes_back (taken_back_by sack t)
+back-more sack t ds a = by t.kept (settled-kept (kept_of t.kept) t.flight.queue.inflight.chunks ds a)
+  where
+    cs : List ChunkPayloadData
+    cs = t.flight.queue.inflight.chunks
+
+    by : (o : Option (List (Option (List ℕ)))) → AreSettled t.flight.queue.inflight.chunks
+        → total_bytes (with_restored (back_by sack t.flight o) t.flight).queue
+        ≡ total_bytes t.flight.queue + bytes_back (answered_back (back_by sack t.flight o) t.flight.queue.inflight.chunks)
+    by None k = omega arith
+    by (Some ks) k =
+        at-if (λ bs. total_bytes (with_restored bs t.flight).queue ≡ total_bytes t.flight.queue + bytes_back (answered_back bs t.flight.queue.inflight.chunks))
+        (is_outdated sack t.flight)
+        (λ _. omega arith)
+        (λ _. let a = back-bytes sack t.flight.queue.inflight.chunks ks k in
+        let b = answered-weight (back_each sack t.flight.queue.inflight.chunks ks) t.flight.queue.inflight.chunks
+        (back-length sack t.flight.queue.inflight.chunks ks) in
+        omega (arith, a, b))
+
+fits-back : (a : Bool) (o : Option SenderRefusal) (b : Bool) → o ≡ None → b ≡ true → (if a then or_full o b else None) ≡ None
+fits-back a o b none fits = grind (arith, nat_tests)
+
+pub none-refused-back : AfterEachWithReturnsOfFewTsns (λ first n gone cs s. NoneIsRefusedSo s)
+none-refused-back reported first size max most limits cs s run small some few short =
+    let x = shadow reported first size max most limits cs s run small few short in
+    let g = goes reported first size max most limits cs s run small few short in
+    let t = s.sending.sender in
+    let all = sessions.accounted first size max most limits g.plays.calls g.other g.plays.run in
+    let held : held_by_sender g.other.sending.sender ≡ total_bytes (with_inflight t.flight.queue x.chunks) = ap held_by_sender x.sender in
+    let before : bytes_written g.other ≡ bytes_written s = ap (λ ws. sum_by (λ (y : Write). length y.bytes) ws) x.written in
+    let refused = none-refused reported first size max most limits cs s run small some few short in
+    λ i k lt.
+    let sack = slice_index_or s.sacks i k in
+    let more = back-more sack t x.chunks x.like in
+    let less = lighter (kept_of t.kept) (restored (back_by sack t.flight t.kept) t.flight.queue.inflight.chunks) x.chunks
+    (back-like sack t.flight t.kept x.chunks x.like) in
+    let lt' : total_bytes t.flight.queue + bytes_back (taken_back_by sack t) < 2 ^ 64 = omega (arith, all, held, before, more, less, short) in
+    fits-back (is_some t.kept && not (is_outdated sack t.flight)) (sack_refusal sack t.flight)
+    (nat_lt (total_bytes t.flight.queue + bytes_back (taken_back_by sack t)) (2 ^ 64)) (refused i k lt) (grind (arith, nat_tests, lt'))
+
+pub two-calls : AfterEachWithReturnsOfFewTsns (λ first n gone cs s. EachAckedIsTwoCalls s)
+two-calls reported first size max most limits cs s run small some few short sack back gone new handed x =
+    let h = shadow reported first size max most limits cs s run small few short in
+    let t = s.sending.sender in
+    let more = back-more sack t h.chunks h.like in
+    let same = ap bytes_back x.returned in
+    let all = x.bytes in
+    let refused = none-refused-back reported first size max most limits cs s run small some few short in (
+      record {
+        handed = handed;
+        step = record { sender = omega (arith, more, same); written = omega arith; released = omega arith; taken_back = refl };
+        exact = refl;
+        accepted = subst (λ k. take_back_refusal k t ≡ None) handed.2 (refused handed.0 sack handed.1);
+        answered = x.returned;
+        after = refl;
+      },
+      record (after_return sack back s) {
+        sending = record (after_return sack back s).sending { sender = new; released = s.sending.released + bytes_in gone };
+      },
+      record {
+        handed = handed;
+        step = record { sender = omega (arith, more, same, all); written = omega arith; released = refl; taken_back = omega arith };
+        exact = x.exact;
+        accepted = x.accepted;
+        answered = x.answered;
+        after = refl;
+      },
+      refl,
+    )

@@ -1,0 +1,302 @@
+-- A session of a sender that keeps what is reported, beside one in which no gap ack block is taken: both make the same chunks.
+use Rattle.sctp_delivery.proofs.Names.{◌≡◌, ℕ, ◌<◌, ◌+◌, ◌^◌, List, [], ◌∷◌, ◌++◌, map, refl, ap, sym}
+use Rattle.sctp_delivery.proofs.Names.{subst}
+use Rattle.sctp_delivery.proofs.Names.{◌∙◌, arith, append-nil, append_assoc, Option, Some, None}
+use Rattle.sctp_delivery.proofs.Names.{Contains}
+use Rattle.sctp_delivery.proofs.Names.{ChunkPayloadData, Sack, Limits, OutboundStream}
+use Rattle.sctp_delivery.proofs.Names.{data_of}
+use Rattle.sctp_delivery.proofs.Names.{distance}
+use Rattle.sctp_delivery.proofs.Names.{Transmission}
+use Rattle.sctp_delivery.proofs.Names.{Call, Follows, ReceiverFollows, RunsTo}
+use Rattle.sctp_delivery.proofs.Names.{Session}
+use Rattle.sctp_delivery.proofs.Names.{IsReported, at_start, of_receiver, of_sender, abandoned_by, abandoned_in, tsns_given, Modes, at_first}
+use Rattle.sctp_delivery.proofs.Names.{modes_after, modes_from, SenderCall, SenderMakes, ReceiverCall, made_after, written_after}
+use Rattle.sctp_delivery.proofs.Names.{reports_after}
+use Rattle.sctp_delivery.proofs.Names.{Made, Write}
+use Rattle.sctp_delivery.specs.Session.{IsSent}
+use Rattle.sctp_delivery.specs.SenderCalls as outgoing
+use Rattle.sctp_delivery.specs.ReceiverCalls as incoming
+use Rattle.sctp_receiver.specs.ReceiverRuns as receiver_runs
+use Rattle.sctp_receiver.specs.Receiver.{sack_within}
+use Rattle.sctp_delivery.proofs.Delivered.{next_tsn}
+use Rattle.sctp_delivery.proofs.Every.{Every, every-of}
+use Rattle.sctp_delivery.proofs.OneRead.{given-then, no-way, run-then}
+use Rattle.sctp_delivery.proofs.Plain.{AreLike, IsBareSack}
+use Rattle.sctp_delivery.proofs.PlainFlights.{flight_with}
+use Rattle.sctp_delivery.proofs.PlainStreams.{AreAlike, bare}
+use Rattle.sctp_delivery.proofs.SackLaws.{IsInStep, in-step}
+use Rattle.sctp_delivery.proofs.Stands.{contains-more, sender-follows, sender_after}
+use Rattle.sctp_delivery.proofs.TsnPlaces.{base, tsn-small}
+
+-- ## Calls one after another, with what laws ask of them
+
+-- what a call abandons, and what it makes of the modes
+abbrev pub gone_by : Call → Session → List ℕ
+gone_by (of_sender call) s = abandoned_by call s.sending.sender
+gone_by (of_receiver call) s = []
+
+abbrev pub modes_by : Call → Modes → Modes
+modes_by (of_sender call) m = modes_after call m
+modes_by (of_receiver call) m = m
+
+gone-then : (cs : List Call) (c : Call) (old mid new : Session) (r : RunsTo old cs mid) (f : Follows c mid new)
+    → abandoned_in old (cs ++ c ∷ []) new (run-then cs c old mid new r f) ≡ abandoned_in old cs mid r ++ gone_by c mid
+unfolding run-then
+gone-then [] (of_sender call) old mid new r f = append-nil (abandoned_by call old.sending.sender)
+    ∙ ap (λ (s : Session). abandoned_by call s.sending.sender) (sym r)
+gone-then [] (of_receiver call) old mid new r f = refl
+gone-then (of_sender call ∷ cs) c old mid new r f =
+    ap (λ xs. abandoned_by call old.sending.sender ++ xs) (gone-then cs c r.0 mid new r.1.1 f)
+    ∙ sym (append_assoc (abandoned_by call old.sending.sender) (abandoned_in r.0 cs mid r.1.1) (gone_by c mid))
+gone-then (of_receiver call ∷ cs) c old mid new r f = gone-then cs c r.0 mid new r.1.1 f
+
+modes-then : (cs : List Call) (c : Call) (m : Modes) → modes_from m (cs ++ c ∷ []) ≡ modes_by c (modes_from m cs)
+modes-then [] (of_sender call) m = refl
+modes-then [] (of_receiver call) m = refl
+modes-then (of_sender call ∷ cs) c m = modes-then cs c (modes_after call m)
+modes-then (of_receiver call ∷ cs) c m = modes-then cs c m
+
+-- the sender as it would be, with these streams and chunks in flight
+abbrev pub as_plain : Transmission → List OutboundStream → List ChunkPayloadData → Transmission
+as_plain t ls ds = record {
+  streams = ls;
+  flight = flight_with t.flight ds;
+  fragment_size = t.fragment_size;
+  max_message_size = t.max_message_size;
+  kept = None;
+}
+
+abbrev pub kept_of : Option (List (Option (List ℕ))) → List (Option (List ℕ))
+kept_of None = []
+kept_of (Some ks) = ks
+
+-- the SACK was made there too, and one that is the same without its gap ack blocks
+pub record IsThere (ks : List Sack) (s : Sack) : Type 0 where
+  pub itself : Contains ks s
+  pub bare : Sack
+  pub other : Contains ks bare
+  pub is-bare : IsBareSack s bare
+
+-- the second session is as the first one, with this sender, would be
+pub record Shadows (t : Transmission) (s d : Session) : Type 0 where
+  pub streams : List OutboundStream
+  pub chunks : List ChunkPayloadData
+  pub sender : d.sending.sender ≡ as_plain t streams chunks
+  pub alike : AreAlike t.streams streams
+  pub like : AreLike (kept_of t.kept) t.flight.queue.inflight.chunks chunks
+  pub receiving : d.receiving ≡ s.receiving
+  pub made : d.made ≡ s.made
+  pub written : d.written ≡ s.written
+  pub sacks : Every (IsThere d.sacks) s.sacks
+
+module _ (first size max most : ℕ) (limits : Option Limits) where
+  -- it is one that gives out so many TSNs, abandons these messages and has these modes
+  pub record Plays (d : Session) (n : ℕ) (gone : List ℕ) (m : Modes) : Type 0 where
+    pub calls : List Call
+    pub run : RunsTo (at_start first size max most limits) calls d
+    pub given : tsns_given (at_start first size max most limits) calls d run ≡ n
+    pub left : abandoned_in (at_start first size max most limits) calls d run ≡ gone
+    pub said : modes_from at_first calls ≡ m
+
+  plays-then : (d e : Session) (n : ℕ) (gone : List ℕ) (m : Modes) → Plays d n gone m → (c : Call) → Follows c d e
+      → Plays e (n + distance (next_tsn d) (next_tsn e)) (gone ++ gone_by c d) (modes_by c m)
+  plays-then d e n gone m p c f =
+      let start = at_start first size max most limits in
+      record {
+        calls = p.calls ++ c ∷ [];
+        run = run-then p.calls c start d e p.run f;
+        given = given-then p.calls c start d e p.run f ∙ ap (λ k. k + distance (next_tsn d) (next_tsn e)) p.given;
+        left = gone-then p.calls c start d e p.run f ∙ ap (λ xs. xs ++ gone_by c d) p.left;
+        said = modes-then p.calls c at_first ∙ ap (modes_by c) p.said;
+      }
+
+  -- such a session, where the first one has come to this
+  pub record Goes (t : Transmission) (s : Session) (n : ℕ) (gone : List ℕ) (m : Modes) : Type 0 where
+    pub other : Session
+    pub shadow : Shadows t s other
+    pub plays : Plays other n gone m
+
+  abbrev pub step-of : (t : Transmission) (s : Session) (n : ℕ) (gone : List ℕ) (m : Modes) → first < 2 ^ 32 → n < 2 ^ 31 → (g : Goes t s n gone m)
+      → IsInStep (base first) n g.other
+  step-of t s n gone m small few g =
+      let p = g.plays in
+      subst (λ k. IsInStep (base first) k g.other) p.given
+      (in-step first size max most limits p.calls g.other p.run small (let e = p.given in omega (arith, e, few)))
+
+  pub small-next : (t : Transmission) (s : Session) (n : ℕ) (gone : List ℕ) (m : Modes) → first < 2 ^ 32 → n < 2 ^ 31 → (g : Goes t s n gone m)
+      → t.flight.next_tsn < 2 ^ 32
+  small-next t s n gone m small few g =
+      let i = step-of t s n gone m small few g in
+      let is = i.numbered.next_is in
+      let near = tsn-small (base first) (n + 1) in
+      let same : next_tsn g.other ≡ t.flight.next_tsn = ap (λ (u : Transmission). u.flight.next_tsn) g.shadow.sender in
+      omega (arith, is, near, same)
+
+  -- ## What the other session makes of a call
+
+  module _ (t u : Transmission) (s v : Session) (n : ℕ) (gone : List ℕ) (m : Modes) (g : Goes t s n gone m) (call : SenderCall)
+      (received : v.receiving ≡ s.receiving) (reported : v.sacks ≡ s.sacks) (made : v.made ≡ made_after call t s.made)
+      (wrote : v.written ≡ written_after call s.written) where
+    abbrev pub After : Type 0
+    After = Goes u v (n + distance t.flight.next_tsn u.flight.next_tsn) (gone ++ abandoned_by call t) (modes_after call m)
+
+    -- a call like it
+    pub calls-too : (c : SenderCall) (ls : List OutboundStream) (ds : List ChunkPayloadData)
+        → SenderMakes c (as_plain t g.shadow.streams g.shadow.chunks) (as_plain u ls ds) → IsReported c g.other → AreAlike u.streams ls
+        → AreLike (kept_of u.kept) u.flight.queue.inflight.chunks ds
+        → ((ms : List Made) → made_after c (as_plain t g.shadow.streams g.shadow.chunks) ms ≡ made_after call t ms)
+        → ((ws : List Write) → written_after c ws ≡ written_after call ws) → modes_after c m ≡ modes_after call m
+        → abandoned_by c (as_plain t g.shadow.streams g.shadow.chunks) ≡ abandoned_by call t → After
+    calls-too c ls ds makes handed alike like same-made same-written same-modes same-gone =
+        let x = g.shadow in
+        let d = g.other in
+        let e = sender_after c d (as_plain u ls ds) in
+        let f = sender-follows c d (as_plain u ls ds) (subst (λ y. SenderMakes c y (as_plain u ls ds)) (sym x.sender) makes) handed in
+        let p = plays-then d e n gone m g.plays (of_sender c) f in
+        let far : distance (next_tsn d) (next_tsn e) ≡ distance t.flight.next_tsn u.flight.next_tsn =
+        ap (λ (y : Transmission). distance y.flight.next_tsn u.flight.next_tsn) x.sender in
+        let lost : gone_by (of_sender c) d ≡ abandoned_by call t = ap (abandoned_by c) x.sender ∙ same-gone in
+        record {
+          other = e;
+          shadow = record {
+            streams = ls;
+            chunks = ds;
+            sender = refl;
+            alike = alike;
+            like = like;
+            receiving = x.receiving ∙ sym received;
+            made = ap (λ y. made_after c y d.made) x.sender ∙ same-made d.made ∙ ap (made_after call t) x.made ∙ sym made;
+            written = same-written d.written ∙ ap (written_after call) x.written ∙ sym wrote;
+            sacks = subst (Every (IsThere d.sacks)) (sym reported) x.sacks;
+          };
+          plays = record {
+            calls = p.calls;
+            run = p.run;
+            given = p.given ∙ ap (λ k. n + k) far;
+            left = p.left ∙ ap (λ xs. gone ++ xs) lost;
+            said = p.said ∙ same-modes;
+          };
+        }
+
+    -- none
+    pub stays-so : AreAlike u.streams t.streams → AreLike (kept_of u.kept) u.flight.queue.inflight.chunks g.shadow.chunks
+        → as_plain u g.shadow.streams g.shadow.chunks ≡ as_plain t g.shadow.streams g.shadow.chunks → t.flight.next_tsn < 2 ^ 32
+        → ((ms : List Made) → made_after call t ms ≡ ms) → ((ws : List Write) → written_after call ws ≡ ws) → modes_after call m ≡ m
+        → abandoned_by call t ≡ [] → After
+    stays-so alike like same near same-made same-written same-modes same-gone =
+        let x = g.shadow in
+        let d = g.other in
+        let p = g.plays in
+        let next : u.flight.next_tsn ≡ t.flight.next_tsn = ap (λ (y : Transmission). y.flight.next_tsn) same in
+        let none : distance t.flight.next_tsn u.flight.next_tsn ≡ 0 = ap (distance t.flight.next_tsn) next ∙ no-way t.flight.next_tsn near in
+        record {
+          other = d;
+          shadow = record {
+            streams = x.streams;
+            chunks = x.chunks;
+            sender = x.sender ∙ sym same;
+            alike = alike ∙ x.alike;
+            like = like;
+            receiving = x.receiving ∙ sym received;
+            made = x.made ∙ sym (same-made s.made) ∙ sym made;
+            written = x.written ∙ sym (same-written s.written) ∙ sym wrote;
+            sacks = subst (Every (IsThere d.sacks)) (sym reported) x.sacks;
+          };
+          plays = record {
+            calls = p.calls;
+            run = p.run;
+            given = p.given ∙ (let z : n ≡ n + distance t.flight.next_tsn u.flight.next_tsn = omega (arith, none) in z);
+            left = p.left ∙ sym (ap (λ xs. gone ++ xs) same-gone ∙ append-nil gone);
+            said = p.said ∙ sym same-modes;
+          };
+        }
+
+  -- ## A call of the receiver
+
+  sent-too : (call : ReceiverCall) (s d : Session) → d.made ≡ s.made → IsSent call s → IsSent call d
+  sent-too (incoming.takes c arrival) s d e h = subst (λ ms. Contains ms (outgoing.data_chunk (data_of c))) (sym e) h
+  sent-too (incoming.follows f) s d e h = subst (λ ms. Contains ms (outgoing.forward_tsn f)) (sym e) h
+  sent-too (incoming.opens stream) s d e h = tt
+  sent-too (incoming.reports credit) s d e h = tt
+  sent-too (incoming.reports_within credit bytes) s d e h = tt
+  sent-too (incoming.makes_sack credit bytes) s d e h = tt
+  sent-too incoming.forgets s d e h = tt
+  sent-too (incoming.reads stream) s d e h = tt
+
+  -- a SACK more, which is no other one's
+  there-more : (k : Sack) (ks ss : List Sack) → Every (IsThere ks) ss → Every (IsThere (k ∷ ks)) ss
+  there-more k ks ss h = every-of (IsThere ks) (IsThere (k ∷ ks))
+      (λ s i. record { itself = contains-more s k ks i.itself; bare = i.bare; other = contains-more i.bare k ks i.other; is-bare = i.is-bare }) ss h
+
+  -- the SACK that it makes, behind the same without blocks
+  there-new : (k b : Sack) (ks ss : List Sack) → IsBareSack k b → Every (IsThere ks) ss → Every (IsThere (k ∷ b ∷ ks)) (k ∷ ss)
+  there-new k b ks ss bare h = (
+    record { itself = (0, omega arith, refl); bare = b; other = (1, omega arith, refl); is-bare = bare },
+    there-more k (b ∷ ks) ss (there-more b ks ss h),
+  )
+
+  there-after : (call : ReceiverCall) (r : _) (ks ss : List Sack) → Every (IsThere ks) ss
+      → Every (IsThere (reports_after call r (sack_within 0 0 r ∷ ks))) (reports_after call r ss)
+  there-after (incoming.reports credit) r ks ss h = there-new _ (sack_within 0 0 r) ks ss (record { same = refl; none = refl }) h
+  there-after (incoming.reports_within credit bytes) r ks ss h = there-new _ (sack_within 0 0 r) ks ss (record { same = refl; none = refl }) h
+  there-after (incoming.makes_sack credit bytes) r ks ss h = there-new _ (sack_within 0 0 r) ks ss (record { same = refl; none = refl }) h
+  there-after (incoming.takes c arrival) r ks ss h = there-more (sack_within 0 0 r) ks ss h
+  there-after (incoming.follows f) r ks ss h = there-more (sack_within 0 0 r) ks ss h
+  there-after (incoming.opens stream) r ks ss h = there-more (sack_within 0 0 r) ks ss h
+  there-after incoming.forgets r ks ss h = there-more (sack_within 0 0 r) ks ss h
+  there-after (incoming.reads stream) r ks ss h = there-more (sack_within 0 0 r) ks ss h
+
+  -- the receiver makes the same, and before it a SACK without blocks
+  pub receives-too : (call : ReceiverCall) (s v : Session) (n : ℕ) (gone : List ℕ) (m : Modes) → first < 2 ^ 32 → n < 2 ^ 31
+      → Goes s.sending.sender s n gone m → ReceiverFollows call s v → Goes v.sending.sender v n gone m
+  receives-too call s v n gone m small few g f =
+      let x = g.shadow in
+      let d = g.other in
+      let r = d.receiving.receiver in
+      let e : Session = record d { sacks = sack_within 0 0 r ∷ d.sacks } in
+      let w : Session = record {
+        sending = d.sending;
+        receiving = v.receiving;
+        made = d.made;
+        sacks = reports_after call r (sack_within 0 0 r ∷ d.sacks);
+        written = d.written;
+      } in
+      let one : ReceiverFollows (incoming.makes_sack 0 0) d e =
+      record { handed = tt; step = record { receiver = refl; accepted = refl; read = refl }; accepted = tt; after = refl } in
+      let two : ReceiverFollows call e w = record {
+        handed = sent-too call s e x.made f.handed;
+        step = subst (λ y. receiver_runs.Follows (incoming.as_run call) y v.receiving) (sym x.receiving) f.step;
+        accepted = subst (λ (y : receiver_runs.Stand). incoming.IsAccepted call y.receiver) (sym x.receiving) f.accepted;
+        after = refl;
+      } in
+      let near : next_tsn d < 2 ^ 32 =
+      let same : next_tsn d ≡ s.sending.sender.flight.next_tsn = ap (λ (u : Transmission). u.flight.next_tsn) x.sender in
+      let a = small-next s.sending.sender s n gone m small few g in omega (arith, same, a) in
+      let zero = no-way (next_tsn d) near in
+      let p = plays-then e w (n + distance (next_tsn d) (next_tsn e))
+      (gone ++ []) m (plays-then d e n gone m g.plays (of_receiver (incoming.makes_sack 0 0)) one)
+      (of_receiver call) two in
+      let still : v.sending ≡ s.sending = ap (λ (y : Session). y.sending) f.after in
+      record {
+        other = w;
+        shadow = record {
+          streams = x.streams;
+          chunks = x.chunks;
+          sender = x.sender ∙ ap (λ (l : _). as_plain l.sender x.streams x.chunks) (sym still);
+          alike = ap (λ (l : _). map bare l.sender.streams) still ∙ x.alike;
+          like = subst (λ (l : _). AreLike (kept_of l.sender.kept) l.sender.flight.queue.inflight.chunks x.chunks) (sym still) x.like;
+          receiving = refl;
+          made = x.made ∙ sym (ap (λ (y : Session). y.made) f.after);
+          written = x.written ∙ sym (ap (λ (y : Session). y.written) f.after);
+          sacks = subst (Every (IsThere (reports_after call r (sack_within 0 0 r ∷ d.sacks))))
+              (ap (λ (y : receiver_runs.Stand). reports_after call y.receiver s.sacks) x.receiving ∙ sym (ap (λ (y : Session). y.sacks) f.after))
+              (there-after call r d.sacks s.sacks x.sacks);
+        };
+        plays = record {
+          calls = p.calls;
+          run = p.run;
+          given = p.given ∙ (let z : n + distance (next_tsn d) (next_tsn e) + distance (next_tsn e) (next_tsn w) ≡ n = omega (arith, zero) in z);
+          left = p.left ∙ append-nil (gone ++ []) ∙ append-nil gone;
+          said = p.said;
+        };
+      }

@@ -1,0 +1,80 @@
+//! What holds of sessions of a sender that keeps what gap ack blocks report (`Reported::Keep`): a SACK that no longer reports a chunk takes
+//! that back, and the chunk is outstanding again (RFC 9260 6.2.1 D iv).
+//!
+//! `acked` of such a sender is two calls of these sessions: `take_back`, and then `acked` alone. In most laws fewer than 2^31 TSNs are
+//! given out, and fewer than 2^64 bytes written.
+//!
+//! Not said here: buffered amounts, counters, what is noted of chunks in flight, and rounds.
+
+ghost use Rattle.sctp_delivery.specs.Abandoned.{IsEachOtherReadInTheEnd};
+ghost use Rattle.sctp_delivery.specs.Expiries.{EachDueExpires, OnlyTheDueExpire};
+ghost use Rattle.sctp_delivery.specs.Messages.{AreParts, AreSame, AreWrites, AreWritesOfTheirOwn, NoneIsReadTwice};
+ghost use Rattle.sctp_delivery.specs.Modes.{AreReadAsWritten, AreSentAsWritten};
+ghost use Rattle.sctp_delivery.specs.Order.{AreReadInOrder};
+ghost use Rattle.sctp_delivery.specs.Returns.{AfterEachWithReturns, AfterEachWithReturnsOfFewTsns, EachAckedIsTwoCalls, IsAccountedSo, NoneIsRefusedSo, other_calls};
+ghost use Rattle.sctp_delivery.specs.Sacks.{AcknowledgedCame, EachSackTells, LeftCame, NoneIsRefused, NoneIsTakenTwice, ReportWhatCame};
+ghost use Rattle.sctp_delivery.specs.Session.{AreMade, AreMessages};
+
+/// Each byte that was written, or came back, waits, is in flight, or was answered as gone.
+pub fn whatever_comes_back_bytes_are_accounted_for()
+    ensures { AfterEachWithReturns (λ calls s. IsAccountedSo s) }
+{}
+
+/// Each message that is read is one that was written, on the stream that it is read on, with its payload type and byte for byte. No TSN and
+/// no write is read twice. What was written while a stream was ordered, and each DCEP message, is read in the order of the writes.
+pub fn whatever_comes_back_messages_are_writes()
+    ensures made { AfterEachWithReturnsOfFewTsns (λ first given gone calls s. AreMade s) }
+    ensures whole { AfterEachWithReturnsOfFewTsns (λ first given gone calls s. AreMessages s) }
+    ensures written { AfterEachWithReturnsOfFewTsns (λ first given gone calls s. AreWrites s) }
+    ensures tsns { AfterEachWithReturnsOfFewTsns (λ first given gone calls s. NoneIsReadTwice s) }
+    ensures own { AfterEachWithReturnsOfFewTsns
+        (λ first given gone calls s. AreWritesOfTheirOwn s) }
+    ensures order { AfterEachWithReturnsOfFewTsns (λ first given gone calls s. AreReadInOrder s) }
+    ensures modes { AfterEachWithReturnsOfFewTsns
+        (λ first given gone calls s. AreReadAsWritten (other_calls calls) s) }
+{}
+
+/// Each DATA chunk that the sender makes, for the first time or again, is a part of a write, also where its bytes came back. Two of one TSN
+/// are the same; and a chunk is unordered exactly where its write is.
+pub fn whatever_comes_back_chunks_are_parts()
+    ensures part { AfterEachWithReturnsOfFewTsns (λ first given gone calls s. AreParts s) }
+    ensures same { AfterEachWithReturnsOfFewTsns (λ first given gone calls s. AreSame s) }
+    ensures modes { AfterEachWithReturnsOfFewTsns
+        (λ first given gone calls s. AreSentAsWritten (other_calls calls) s) }
+{}
+
+/// Where nothing waits, is in flight or is readable, each write was read exactly once, unless a call abandoned its message or let it expire.
+pub fn whatever_comes_back_each_other_write_is_read_in_the_end()
+    ensures { AfterEachWithReturnsOfFewTsns
+        (λ first given gone calls s. IsEachOtherReadInTheEnd gone s) }
+{}
+
+/// The sender refuses no SACK that the receiver made, but for memory: neither what it takes back, nor what it acknowledges then. A SACK
+/// reports only what the receiver took, or a FORWARD-TSN passed, and leaves out nothing that was taken. A chunk in flight is acknowledged only
+/// where the receiver took it, or its message was abandoned.
+pub fn whatever_comes_back_sacks_tell_what_came()
+    ensures back { AfterEachWithReturnsOfFewTsns (λ first given gone calls s. NoneIsRefusedSo s) }
+    ensures refused { AfterEachWithReturnsOfFewTsns (λ first given gone calls s. NoneIsRefused s) }
+    ensures reported { AfterEachWithReturnsOfFewTsns
+        (λ first given gone calls s. ReportWhatCame first given s) }
+    ensures told { AfterEachWithReturnsOfFewTsns (λ first given gone calls s. EachSackTells s) }
+    ensures came { AfterEachWithReturnsOfFewTsns
+        (λ first given gone calls s. AcknowledgedCame s) }
+    ensures left { AfterEachWithReturnsOfFewTsns (λ first given gone calls s. LeftCame first s) }
+    ensures once { AfterEachWithReturnsOfFewTsns (λ first given gone calls s. NoneIsTakenTwice s) }
+{}
+
+/// A message expires only where its lifetime is over, or its limit of retransmissions is passed, as it was written: none but `abandon` gives
+/// up a reliable one, or one of DCEP. And what is due expires.
+pub fn whatever_comes_back_only_what_may_expire_expires()
+    ensures only { AfterEachWithReturnsOfFewTsns
+        (λ first given gone calls s. OnlyTheDueExpire (other_calls calls) s) }
+    ensures due { AfterEachWithReturnsOfFewTsns
+        (λ first given gone calls s. EachDueExpires (other_calls calls) s) }
+{}
+
+/// What `acked` makes of the sender of such a session is these two calls of it.
+pub fn each_acked_is_two_calls()
+    ensures { AfterEachWithReturnsOfFewTsns
+        (λ first given gone calls s. EachAckedIsTwoCalls s) }
+{}
