@@ -4,6 +4,7 @@ use Rattle.sctp_delivery.proofs.Names.{arith}
 use Rattle.sctp_delivery.proofs.Names.{inl, inr, Option, Some, None, Contains, list_any, list_any_at, or-right, or-split, both, not_both, ◌||◌}
 use Rattle.sctp_delivery.proofs.Names.{ChunkPayloadData, Sack, Transmission, Session, SenderFollows, of_receiver, of_sender, is_reported}
 use Rattle.sctp_delivery.proofs.Names.{reports}
+use Rattle.sctp_delivery.proofs.Names.{All, OutboundStream, map, min, sum_by, ◌-◌}
 use Rattle.sctp_delivery.proofs.Names.{⊤, Limits, Modes, abandoned_by, at_start, bytes_written, tsn, tsns_from, tsns_given}
 use Rattle.sctp_delivery.proofs.Names.{takes_sack, was_taken, AcknowledgedCame, Flight, SenderCall}
 use Rattle.sctp_delivery.proofs.Names.{next_pending, all_started, at_or_before, is_in_blocks, distance, fragments_with_mode, modes_from, at_first}
@@ -20,7 +21,7 @@ use Rattle.sctp_delivery.specs.Returns.{tsns_given_so}
 use Rattle.sctp_delivery.specs.SenderCalls as outgoing
 use Rattle.sctp_delivery.proofs.Changes.{Change, acknowledges, all_start, changes, each_leaves, flight_after, front_expires, more_room, nothing, one_leaves}
 use Rattle.sctp_delivery.proofs.Changes.{some_marked, some_missed}
-use Rattle.sctp_delivery.proofs.Every.{Every, all-of-every, every-all, every-of-all}
+use Rattle.sctp_delivery.proofs.Every.{Every, all-of-every, every-all, every-of, every-of-all}
 use Rattle.sctp_delivery.proofs.Plain.{AreLike, IsLike, are-long, are-tsns, first_of, rest_of}
 use Rattle.sctp_delivery.proofs.PlainRuns.{goes, shadow, so}
 use Rattle.sctp_delivery.proofs.PlainSessions.{IsThere, kept_of}
@@ -29,6 +30,9 @@ use Rattle.sctp_delivery.proofs.QueueChunks.{started}
 use Rattle.sctp_delivery.proofs.SackLaws as sacks
 use Rattle.sctp_delivery.proofs.Stands.{more-reported}
 use Rattle.sctp_delivery.proofs.Writing.{accepted-stream}
+use Rattle.sctp_delivery.specs.Counters.{AreSums, HasSums, bytes_on, messages_on}
+use Rattle.sctp_delivery.proofs.CounterLaws as counters
+use Rattle.sctp_delivery.proofs.PlainStreams.{bare}
 use Rattle.sctp_delivery.proofs.ExpiryLaws.{each-reason, front-goes, late-are, tail-goes, worn-are}
 use Rattle.sctp_delivery.proofs.FilledQueues.{IsFilled}
 use Rattle.sctp_delivery.proofs.GivenTsns.{IsNumbered}
@@ -253,3 +257,33 @@ only-due reported first size max most limits cs s run small some few short = onl
 
 pub due-expires : AfterEachWithReturnsOfFewTsns (λ first n gone cs s. EachDueExpires (other_calls cs) s)
 due-expires reported first size max most limits cs s run small some few short = due-expires-so reported first size max most limits cs s run small some few short
+
+-- ## Counters
+
+-- of a stream that is the same but for its amount
+sums-alike : (s : Session) (l k : OutboundStream) → bare k ≡ bare l → HasSums s l → HasSums s k
+sums-alike s l k e h = record {
+  messages = ap (λ (x : OutboundStream). x.stats.messages_sent) e ∙ h.messages
+      ∙ ap (λ (x : OutboundStream). min (sum_by (messages_on x.stream_identifier) s.written) (2 ^ 64 - 1)) (sym e);
+  bytes = ap (λ (x : OutboundStream). x.stats.bytes_sent) e ∙ h.bytes
+      ∙ ap (λ (x : OutboundStream). min (sum_by (bytes_on x.stream_identifier) s.written) (2 ^ 64 - 1)) (sym e);
+}
+
+each-sum : (s : Session) (ks ls : List OutboundStream) → map bare ks ≡ map bare ls → Every (HasSums s) ls → Every (HasSums s) ks
+each-sum s [] ls e h = tt
+each-sum s (k ∷ ks) [] e h = cc
+each-sum s (k ∷ ks) (l ∷ ls) e h =
+    let one : bare k ≡ bare l = cc in
+    let rest : map bare ks ≡ map bare ls = cc in
+    (sums-alike s l k one h.0, each-sum s ks ls rest h.1)
+
+pub sums : AfterEachWithReturnsOfFewTsns (λ first n gone cs s. AreSums s)
+sums reported first size max most limits cs s run small some few short =
+    let x = shadow reported first size max most limits cs s run small few short in
+    let g = goes reported first size max most limits cs s run small few short in
+    let law =
+    so reported first size max most limits cs s run small few short AreSums (λ ks r lt. counters.are-sums first size max most limits ks _ small some r) in
+    all-of-every (HasSums s) s.sending.sender.streams (each-sum s s.sending.sender.streams x.streams x.alike
+    (subst (λ (u : Transmission). Every (HasSums s) u.streams) x.sender
+    (every-of (HasSums _) (HasSums s) (λ l h. record { messages = h.messages; bytes = h.bytes }) g.other.sending.sender.streams
+    (every-of-all (HasSums _) g.other.sending.sender.streams law))))

@@ -124,11 +124,16 @@ after_return sack back s = record s {
   };
 }
 
--- what `acked` makes of the sender is two calls: what is taken back, and the SACK
+-- what is taken back, and the SACK: they lead to where the sender is this one
+abbrev pub AreTwoCalls : Sack → List TakenBack → List Released → Session → Transmission → Type 0
+AreTwoCalls sack back gone s new =
+    TakesBack sack back s (after_return sack back s)
+    × (t : Session) × Follows (of_sender (takes_sack sack gone)) (after_return sack back s) t
+    × (t.sending.sender ≡ new)
+
+-- what `acked` makes of the sender is two calls
 abbrev pub EachAckedIsTwoCalls : Session → Type 0
 EachAckedIsTwoCalls s =
     (sack : Sack) (back : List TakenBack) (gone : List Released) (new : Transmission)
     → Contains s.sacks sack → TakesBackAndSack sack back gone s.sending.sender new
-    → TakesBack sack back s (after_return sack back s)
-    × (t : Session) × Follows (of_sender (takes_sack sack gone)) (after_return sack back s) t
-    × (t.sending.sender ≡ new)
+    → AreTwoCalls sack back gone s new

@@ -13,6 +13,7 @@ pub mod laws;
 pub mod receiver_steps;
 pub mod refusals;
 pub mod resending;
+pub mod returned;
 pub mod room;
 pub mod sacks;
 pub mod sender_steps;

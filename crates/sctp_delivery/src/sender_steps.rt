@@ -1,6 +1,7 @@
 //! Each call of a sender makes the step that sessions have of it (RFC 4960 6.1, 6.2.1; RFC 3758 3.5): here it is called and nothing else.
 //!
-//! Left out are `close`, `reset`, `replay::take_back` and `replay::count_resend`, which are no calls of a session.
+//! Left out are `close`, `reset` and `replay::count_resend`, which are no calls of a session, and `replay::take_back`, which is one of sessions
+//! of their own (`laws::returns`).
 
 ghost use Rattle.std.specs.Prelude.{◌≡◌, ◌<◌, ◌≤◌, Some, None, OnErr, OnOk, IfOk, IfSome, find};
 ghost use Rattle.sctp_data.specs.declared.chunk.chunk_payload_data.ChunkPayloadData.{ChunkPayloadData};
@@ -178,8 +179,7 @@ pub fn forward_tsn_to(sender: &Sender, tsn: u32) -> Result<Option<ChunkForwardTs
     replay::forward_tsn_to(sender, tsn)
 }
 
-/// Takes a SACK: by itself where the sender keeps nothing of what is reported, as in each session; else what it no longer reports comes back
-/// first.
+/// Takes a SACK: by itself where the sender keeps nothing of what is reported; else what it no longer reports comes back first.
 pub fn acked(sender: &mut Sender, sack: &ChunkSelectiveAck) -> Result<Acked, SenderRefusal>
     ensures step { IfOk result (λ r. TakesBackAndSack (sack_of sack.now) r.taken_back.items
         r.released.items sender.old sender.new) }

@@ -4,9 +4,10 @@
 //! `acked` of such a sender is two calls of these sessions: `take_back`, and then `acked` alone. In most laws fewer than 2^31 TSNs are
 //! given out, and fewer than 2^64 bytes written.
 //!
-//! Not said here: buffered amounts, counters, what is noted of chunks in flight, and rounds.
+//! Not said here: buffered amounts, what is noted of chunks in flight, that no chunk and no FORWARD-TSN is refused, and rounds.
 
 ghost use Rattle.sctp_delivery.specs.Abandoned.{IsEachOtherReadInTheEnd};
+ghost use Rattle.sctp_delivery.specs.Counters.{AreSums};
 ghost use Rattle.sctp_delivery.specs.Expiries.{EachDueExpires, OnlyTheDueExpire};
 ghost use Rattle.sctp_delivery.specs.Messages.{AreParts, AreSame, AreWrites, AreWritesOfTheirOwn, NoneIsReadTwice};
 ghost use Rattle.sctp_delivery.specs.Modes.{AreReadAsWritten, AreSentAsWritten};
@@ -43,15 +44,16 @@ pub fn whatever_comes_back_chunks_are_parts()
         (λ first given gone calls s. AreSentAsWritten (other_calls calls) s) }
 {}
 
-/// Where nothing waits, is in flight or is readable, each write was read exactly once, unless a call abandoned its message or let it expire.
+/// Where nothing waits, is in flight or is readable, each write was read exactly once, unless a call abandoned its message, or let it
+/// expire.
 pub fn whatever_comes_back_each_other_write_is_read_in_the_end()
     ensures { AfterEachWithReturnsOfFewTsns
         (λ first given gone calls s. IsEachOtherReadInTheEnd gone s) }
 {}
 
 /// The sender refuses no SACK that the receiver made, but for memory: neither what it takes back, nor what it acknowledges then. A SACK
-/// reports only what the receiver took, or a FORWARD-TSN passed, and leaves out nothing that was taken. A chunk in flight is acknowledged only
-/// where the receiver took it, or its message was abandoned.
+/// reports only what the receiver took, or a FORWARD-TSN passed, and leaves out nothing that was taken. A chunk in flight is acknowledged
+/// only where the receiver took it, or its message was abandoned.
 pub fn whatever_comes_back_sacks_tell_what_came()
     ensures back { AfterEachWithReturnsOfFewTsns (λ first given gone calls s. NoneIsRefusedSo s) }
     ensures refused { AfterEachWithReturnsOfFewTsns (λ first given gone calls s. NoneIsRefused s) }
@@ -64,13 +66,18 @@ pub fn whatever_comes_back_sacks_tell_what_came()
     ensures once { AfterEachWithReturnsOfFewTsns (λ first given gone calls s. NoneIsTakenTwice s) }
 {}
 
-/// A message expires only where its lifetime is over, or its limit of retransmissions is passed, as it was written: none but `abandon` gives
-/// up a reliable one, or one of DCEP. And what is due expires.
+/// A message expires only where its lifetime is over, or its limit of retransmissions is passed, as it was written: none but `abandon`
+/// gives up a reliable one, or one of DCEP. And what is due expires.
 pub fn whatever_comes_back_only_what_may_expire_expires()
     ensures only { AfterEachWithReturnsOfFewTsns
         (λ first given gone calls s. OnlyTheDueExpire (other_calls calls) s) }
     ensures due { AfterEachWithReturnsOfFewTsns
         (λ first given gone calls s. EachDueExpires (other_calls calls) s) }
+{}
+
+/// The counters of each open stream of the sender are sums over what was written to it.
+pub fn whatever_comes_back_counters_are_sums_over_writes()
+    ensures { AfterEachWithReturnsOfFewTsns (λ first given gone calls s. AreSums s) }
 {}
 
 /// What `acked` makes of the sender of such a session is these two calls of it.
