@@ -160,6 +160,8 @@ void goes_over() {
         size[i] = (*sent)->size;
     }
     CHECK(s.outstanding().bytes == 28 && s.outstanding().chunks == 3 && s.outstanding().marked == 0);
+    const sctpr::sender &look = s;
+    CHECK(look.pending() == 0 && look.is_drained(4) && *look.buffered_amount(3) == 28 && look.in_flight_at(0)->tsn == 1000);
     CHECK(s.chunks_in_flight() == 3 && s.bytes_in_flight() == 28 && s.next_tsn() == 1003 && s.acked_tsn() == 999 && s.advanced_ack_point() == 999);
     auto bytes = [&](std::size_t i) { return sctpr::bytes(out[i]).first(size[i]); };
     CHECK(*r.take_data(bytes(0)) == sctpr::arrival::added && *r.take_data(bytes(0)) == sctpr::arrival::repeat);
@@ -179,6 +181,8 @@ void goes_over() {
     CHECK(*s.resend(1001, 50, out[1]) == 28 && is_refused(s.resend(1002, 50, out[1]), sctpr::code::not_in_flight));
     CHECK(*r.take_data(bytes(1)) == sctpr::arrival::completed);
     CHECK(is_refused(r.readable_streams({}), sctpr::code::short_buffer, 1) && (*r.readable_streams(streams))[0] == 3);
+    const sctpr::receiver &told = r;
+    CHECK((*told.next(3))->size == 28 && told.cumulative_tsn() == 1002 && told.window() == r.window());
     CHECK((*r.next(3))->size == 28 && is_refused(r.read(3, sctpr::buffer(out[0]).first(27)), sctpr::code::short_buffer, 28));
     auto m = r.read(3);
     CHECK(m && *m && std::memcmp((*m)->bytes.data(), "three fragments of a message", 28) == 0 && (*m)->payload_type == SCTPR_PPID_STRING);
@@ -231,11 +235,20 @@ void moved() {
     auto u = *sctpr::sender::make(2, 10, 100);
     u = std::move(t);
     CHECK(u.next_tsn() == 1 && s.handle()->at == nullptr);
+    CHECK(is_refused(s.open(3), sctpr::code::invalid) && is_refused(s.write(3, 51, bytes_of("a", 1)), sctpr::code::invalid));
+    CHECK(is_refused(s.take_sack({}, {}), sctpr::code::invalid) && is_refused(s.abandon(1), sctpr::code::invalid) && !s.expire(1));
+    CHECK(!s.is_drained(3) && s.outstanding().chunks == 0 && s.next_tsn() == 0 && !s.next_timeout() && s.add_miss_indications(1) == 0);
+    s.start(1);
+    s.close(3);
+    s.retransmit_all();
     auto r = *sctpr::receiver::make(1, 100, 1000, 10);
     auto q = std::move(r);
     auto p = *sctpr::receiver::make(9, 100, 1000, 10);
     p = std::move(q);
     CHECK(p.cumulative_tsn() == 0 && r.handle()->at == nullptr);
+    CHECK(is_refused(r.take_data({}), sctpr::code::invalid) && is_refused(r.read(3), sctpr::code::invalid) && r.window() == 0);
+    CHECK(is_refused(r.write_sack({}), sctpr::code::invalid) && is_refused(r.readable_streams({}), sctpr::code::invalid));
+    r.close(3);
     CHECK(is_refused(sctpr::sender::make(1, 0, 100), sctpr::code::invalid));
 }
 
