@@ -563,14 +563,14 @@ static sctpr_code sender_abandon(struct host *h) {
 }
 
 static sctpr_code sender_expire(struct host *h) {
-    size_t chunks = sctpr_sender_chunks_in_flight(&h->sender), room = chunks + any(3), count = 7;
+    size_t chunks = sctpr_sender_chunks_in_flight(&h->sender), room = chunks + any(3) - (chunks > 0), count = 7;
     struct sctpr_abandoned *rows = lend(room * sizeof *rows);
     sctpr_code code;
     if (any(2)) code = sctpr_sender_expire_late(&h->sender, now, rows, room, &count);
     else code = sctpr_sender_expire_rexmit(&h->sender, rows, room, &count);
     ONE_OF(code, 0, SCTPR_OK, SCTPR_SHORT_BUFFER, SCTPR_TSNS_USED_UP, SCTPR_NO_MEMORY);
     HOLDS(code == SCTPR_OK ? count <= chunks : code == SCTPR_SHORT_BUFFER ? count == chunks : count == 7);
-    HOLDS(code == SCTPR_OK ? room == 0 || count <= room : code != SCTPR_SHORT_BUFFER || room > 0);
+    HOLDS(code == SCTPR_OK ? room == 0 || count <= room : code != SCTPR_SHORT_BUFFER || (room > 0 && room < chunks));
     take_back(rows, code == SCTPR_OK && room > 0 ? count * sizeof *rows : 0, room * sizeof *rows);
     return code;
 }

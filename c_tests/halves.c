@@ -236,8 +236,7 @@ static void abandoned(void) {
     CHECK(sctpr_sender_set_mode(&sender, 3, 0, SCTPR_REXMIT, 0) == SCTPR_OK);
     CHECK(sctpr_sender_write(&sender, 3, SCTPR_PPID_BINARY, (const uint8_t *)"gone", 4, &number, &fragments) == SCTPR_OK);
     CHECK(sctpr_sender_send_next(&sender, 1, chunk, 64, &n, &tsn) == SCTPR_OK && n == 20);
-    CHECK(sctpr_sender_expire_rexmit(&sender, rows, 1, &count) == SCTPR_SHORT_BUFFER && count == 1);
-    CHECK(sctpr_sender_expire_rexmit(&sender, rows, 2, &count) == SCTPR_OK && count == 0);
+    CHECK(sctpr_sender_expire_rexmit(&sender, rows, 1, &count) == SCTPR_OK && count == 0);
     CHECK(sctpr_sender_forward_tsn(&sender, forward, 64, &length) == SCTPR_NOTHING);
     sctpr_sender_retransmit_all(&sender);
     TRY(sctpr_sender_expire_rexmit(&sender, rows, 2, &count), SCTPR_OK, sctpr_sender_bytes_in_flight(&sender) == 4);
@@ -281,10 +280,11 @@ static void expired(void) {
     CHECK(row.stream == 3 && row.bytes == 15);
     CHECK(sctpr_sender_expire(&sender, 2000000, &gone) == SCTPR_OK && gone.bytes == 15 && gone.stream == 3);
     CHECK(sctpr_sender_expire(&sender, 2000000, &gone) == SCTPR_NOTHING && sctpr_sender_pending(&sender) == 0);
-    TRY(sctpr_sender_expire_late(&sender, 2000000, rows, 4, &count), SCTPR_SHORT_BUFFER, 1);
-    CHECK(count == 4);
-    CHECK(ends_next(1000000));
-    CHECK(sctpr_sender_expire_late(&sender, 2000000, NULL, 0, &count) == SCTPR_OK && count == 1 && ends_next(0));
+    TRY(sctpr_sender_expire_late(&sender, 2000000, rows, 3, &count), SCTPR_SHORT_BUFFER, 1);
+    /* as many rows as it tells are enough */
+    CHECK(count == 4 && ends_next(1000000));
+    CHECK(sctpr_sender_expire_late(&sender, 2000000, rows, count, &count) == SCTPR_OK && count == 1 && ends_next(0));
+    CHECK(sctpr_sender_expire_late(&sender, 2000000, NULL, 0, &count) == SCTPR_OK && count == 0);
     CHECK(sctpr_sender_write(&sender, 3, SCTPR_PPID_DCEP, (const uint8_t *)"open", 4, &number, &fragments) == SCTPR_OK);
     sctpr_sender_start(&sender, 5000000);
     CHECK(ends_next(0));

@@ -207,8 +207,7 @@ void abandoned() {
     CHECK(s.open(3) && r.open(3) && s.set_mode(3, true, sctpr::reliability::rexmit, 0));
     CHECK(is_refused(s.set_mode(4, true), sctpr::code::stream_unknown));
     CHECK(s.write(3, SCTPR_PPID_BINARY, bytes_of("gone", 4)) && s.send_next(1, out));
-    CHECK(is_refused(s.expire_rexmit(std::span(rows).first(1)), sctpr::code::short_buffer, 2));
-    CHECK(is_refused(s.expire_late(1, std::span(rows).first(1)), sctpr::code::short_buffer, 2) && s.expire_late(1, rows)->empty());
+    CHECK(s.expire_rexmit(std::span(rows).first(1))->empty() && s.expire_late(1, {})->empty());
     s.retransmit_all();
     auto gone = s.expire_rexmit(rows);
     CHECK(gone && gone->size() == 1 && (*gone)[0].bytes == 4 && s.abandon(1000)->bytes == 0);
@@ -226,7 +225,20 @@ void abandoned() {
     s.start(0);
     CHECK(s.next_timeout() == std::optional<std::uint64_t>(1000000));
     CHECK(s.send_next(0, out) && !s.expire(2000000) && !*s.expire_tail(0));
+    CHECK(is_refused(s.expire_late(0, std::span(rows).first(1)), sctpr::code::short_buffer, 2) && s.expire_late(0, std::span(rows).first(2)));
+    CHECK(is_refused(s.expire_rexmit(std::span(rows).first(1)), sctpr::code::short_buffer, 2));
     CHECK((*s.expire_tail(2000000))->bytes == 15 && s.expire(2000000)->bytes == 4 && !s.expire(2000000));
+}
+
+/** A SACK counts for a caller that wants no rows; of too few it is told how many are wanted. */
+void without_rows() {
+    auto s = *sctpr::sender::make(1000, 10, 100, true);
+    std::array<std::uint8_t, 32> out{};
+    std::array<sctpr::acked, 1> rows{};
+    CHECK(s.open(3) && s.write(3, SCTPR_PPID_BINARY, bytes_of("two fragments", 13)) && s.send_next(1, out) && s.send_next(1, out));
+    auto sack = bytes_of("\3\0\0\20\0\0\3\350\0\0\1\0\0\0\0\0", 16);
+    CHECK(is_refused(s.take_sack(sack, rows), sctpr::code::short_buffer, 2));
+    CHECK((*s.take_back(sack, {}))->empty() && (*s.take_sack(sack, {}))->empty() && s.acked_tsn() == 1000 && s.chunks_in_flight() == 1);
 }
 
 void moved() {
@@ -261,6 +273,7 @@ int main() {
     reconfig();
     goes_over();
     abandoned();
+    without_rows();
     moved();
     std::printf("wrapper: %u passed, %u failed\n", passed, failed);
     return failed != 0;

@@ -765,8 +765,8 @@ sctpr_code sctpr_sender_expire(sctpr_sender *sender, uint64_t now, struct sctpr_
 sctpr_code sctpr_sender_expire_tail(sctpr_sender *sender, uint64_t now, struct sctpr_abandoned *row);
 
 /* Abandons each message in flight that is past its deadline (RFC 3758 3.5, 4.1): `count` becomes how many, and the first so many `rows`
- * tell of them; with a `room` of 0 no row is told. SCTPR_SHORT_BUFFER, where 0 < `room` <= sctpr_sender_chunks_in_flight, so that no row is
- * lost: `count` becomes how many are in flight. Only where a message is past its deadline SCTPR_NO_MEMORY, and, where some of it waits and
+ * tell of them; with a `room` of 0 no row is told. SCTPR_SHORT_BUFFER, where 0 < `room` < sctpr_sender_chunks_in_flight, so that no row is
+ * lost: `count` becomes how many are wanted. Only where a message is past its deadline SCTPR_NO_MEMORY, and, where some of it waits and
  * 2^31 - 1 chunks are in flight, SCTPR_TSNS_USED_UP or that. `rows` stay then, and `count` too but for the first. */
 sctpr_code sctpr_sender_expire_late(sctpr_sender *sender, uint64_t now, struct sctpr_abandoned *rows, size_t room, size_t *count);
 

@@ -715,7 +715,7 @@ public:
         return detail::on(sctpr_sender_next_to_retransmit, handle_, &row) == SCTPR_OK ? std::optional(row) : std::nullopt;
     }
     /** Takes a SACK: a row for each chunk that it reports anew; no span where it is out of date. There are to be as many rows as chunks in
-     * flight. */
+     * flight, or none. */
     result<std::optional<std::span<acked>>> take_sack(bytes chunk, std::span<acked> rows) {
         std::size_t n = 0;
         sctpr_code c = detail::on(sctpr_sender_acked, handle_, chunk.data(), chunk.size(), rows.data(), rows.size(), &n);
@@ -745,17 +745,15 @@ public:
         abandoned row{};
         return detail::option_of(detail::on(sctpr_sender_expire_tail, handle_, now, &row), row);
     }
-    /** There are to be more rows than chunks in flight. */
+    /** There are to be as many rows as chunks in flight, or none. */
     result<std::span<abandoned>> expire_late(std::uint64_t now, std::span<abandoned> rows) {
         std::size_t n = 0;
-        sctpr_code c = sctpr_sender_expire_late(&handle_, now, rows.data(), rows.size(), &n);
-        if (c == SCTPR_SHORT_BUFFER) n++;
+        sctpr_code c = detail::on(sctpr_sender_expire_late, handle_, now, rows.data(), rows.size(), &n);
         return detail::rows_of(c, rows, n);
     }
     result<std::span<abandoned>> expire_rexmit(std::span<abandoned> rows) {
         std::size_t n = 0;
-        sctpr_code c = sctpr_sender_expire_rexmit(&handle_, rows.data(), rows.size(), &n);
-        if (c == SCTPR_SHORT_BUFFER) n++;
+        sctpr_code c = detail::on(sctpr_sender_expire_rexmit, handle_, rows.data(), rows.size(), &n);
         return detail::rows_of(c, rows, n);
     }
     /** Writes the FORWARD-TSN that is to be sent; none where there is nothing to tell. */

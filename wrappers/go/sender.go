@@ -358,7 +358,7 @@ func (s *Sender) abandonAll(expire func(*C.struct_sctpr_abandoned, C.size_t, *C.
 	}
 	rows := make([]C.struct_sctpr_abandoned, C.sctpr_sender_chunks_in_flight(&s.handle)+1)
 	var count C.size_t
-	if err := errorOf(expire(&rows[0], C.size_t(len(rows)), &count), count+1); err != nil {
+	if err := errorOf(expire(&rows[0], C.size_t(len(rows)), &count), count); err != nil {
 		return nil, err
 	}
 	abandoned := make([]Abandoned, least(count, len(rows)))

@@ -146,7 +146,7 @@ pub extern "C" fn sctpr_sender_expire_tail(
 }
 
 /// Abandons each message in flight that is past its deadline (RFC 3758 3.5, 4.1): `count` becomes how many, and the first so many `rows`
-/// tell of them. `SCTPR_SHORT_BUFFER`, where there are rows, but not more than chunks in flight: `count` becomes how many these are.
+/// tell of them. `SCTPR_SHORT_BUFFER`, where there are rows, but fewer than chunks in flight: `count` becomes how many are wanted.
 /// `SCTPR_TSNS_USED_UP`, only where 2^31 - 1 are in flight and some of such a message waits; `SCTPR_NO_MEMORY`, only where one is late.
 #[unsafe(no_mangle)]
 pub extern "C" fn sctpr_sender_expire_late(
@@ -160,10 +160,10 @@ pub extern "C" fn sctpr_sender_expire_late(
         × AbandonsEach (late_order now sender.old.value.own.flight) rows.old rows.new count.new
         sender.old.value.own }
     ensures whole { result ≡ 0 → (length rows.old ≡ 0) ⊎ (count.new ≤ length rows.old) }
-    ensures short { result ≡ 17 → (0 < length rows.old) × ((length rows.old ≤ count.new)
+    ensures short { result ≡ 17 → (0 < length rows.old) × ((length rows.old < count.new)
         × (count.new ≡ length sender.old.value.own.flight.queue.inflight.chunks)) }
     ensures must { 0 < length rows.old
-        → length rows.old ≤ length sender.old.value.own.flight.queue.inflight.chunks
+        → length rows.old < length sender.old.value.own.flight.queue.inflight.chunks
         → result ≡ 17 }
     ensures accepted { result ≡ 0
         → leaving_refusal (late_tsns now sender.old.value.own.flight.queue) sender.old.value.own.flight ≡ None }
@@ -177,7 +177,7 @@ pub extern "C" fn sctpr_sender_expire_late(
 {
     let own = &mut sender.get_mut().own;
     let in_flight = own.outbound().inflight_len();
-    if !rows.is_empty() && rows.len() <= in_flight {
+    if !rows.is_empty() && rows.len() < in_flight {
         *count = in_flight;
         return SCTPR_SHORT_BUFFER;
     }
@@ -205,10 +205,10 @@ pub extern "C" fn sctpr_sender_expire_rexmit(
         × AbandonsEach (worn_order sender.old.value.own.flight) rows.old rows.new count.new
         sender.old.value.own }
     ensures whole { result ≡ 0 → (length rows.old ≡ 0) ⊎ (count.new ≤ length rows.old) }
-    ensures short { result ≡ 17 → (0 < length rows.old) × ((length rows.old ≤ count.new)
+    ensures short { result ≡ 17 → (0 < length rows.old) × ((length rows.old < count.new)
         × (count.new ≡ length sender.old.value.own.flight.queue.inflight.chunks)) }
     ensures must { 0 < length rows.old
-        → length rows.old ≤ length sender.old.value.own.flight.queue.inflight.chunks
+        → length rows.old < length sender.old.value.own.flight.queue.inflight.chunks
         → result ≡ 17 }
     ensures accepted { result ≡ 0
         → leaving_refusal (worn_tsns sender.old.value.own.flight) sender.old.value.own.flight ≡ None }
@@ -222,7 +222,7 @@ pub extern "C" fn sctpr_sender_expire_rexmit(
 {
     let own = &mut sender.get_mut().own;
     let in_flight = own.outbound().inflight_len();
-    if !rows.is_empty() && rows.len() <= in_flight {
+    if !rows.is_empty() && rows.len() < in_flight {
         *count = in_flight;
         return SCTPR_SHORT_BUFFER;
     }

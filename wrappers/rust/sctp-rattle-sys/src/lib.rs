@@ -735,8 +735,8 @@ extern "C" {
     pub fn sctpr_sender_expire_tail(sender: *mut sctpr_sender, now: u64, row: *mut sctpr_abandoned) -> sctpr_code;
 
     /// Abandons each message in flight that is past its deadline (RFC 3758 3.5, 4.1): `count` becomes how many, and the first so many `rows`
-    /// tell of them; with a `room` of 0 no row is told. SCTPR_SHORT_BUFFER, where 0 < `room` <= sctpr_sender_chunks_in_flight, so that no row is
-    /// lost: `count` becomes how many are in flight. Only where a message is past its deadline SCTPR_NO_MEMORY, and, where some of it waits and
+    /// tell of them; with a `room` of 0 no row is told. SCTPR_SHORT_BUFFER, where 0 < `room` < sctpr_sender_chunks_in_flight, so that no row is
+    /// lost: `count` becomes how many are wanted. Only where a message is past its deadline SCTPR_NO_MEMORY, and, where some of it waits and
     /// 2^31 - 1 chunks are in flight, SCTPR_TSNS_USED_UP or that. `rows` stay then, and `count` too but for the first.
     pub fn sctpr_sender_expire_late(sender: *mut sctpr_sender, now: u64, rows: *mut sctpr_abandoned, room: usize, count: *mut usize) -> sctpr_code;
 

@@ -194,11 +194,11 @@ impl From<&AbandonedRow> for Abandoned {
 }
 
 /// The first so many rows, each as its type.
-fn rows<'r, R, T: From<&'r R>>(code: sys::sctpr_code, rows: &'r [R], count: usize, wanted: usize) -> Result<impl Iterator<Item = T> + 'r>
+fn rows<'r, R, T: From<&'r R>>(code: sys::sctpr_code, rows: &'r [R], count: usize) -> Result<impl Iterator<Item = T> + 'r>
 where
     T: 'r,
 {
-    done(code, (), wanted)?;
+    done(code, (), count)?;
     Ok(rows[..rows.len().min(count)].iter().map(T::from))
 }
 
@@ -207,7 +207,7 @@ fn new_rows<'r, R, T>(code: sys::sctpr_code, room: &'r [R], count: usize) -> Res
 where
     T: From<&'r R> + 'r,
 {
-    let told = rows(code, room, count, count)?;
+    let told = rows(code, room, count)?;
     Ok(if code == sys::SCTPR_OK { Some(told) } else { None })
 }
 
@@ -398,20 +398,20 @@ impl Sender {
         option(code, Abandoned::from(&row), 0)
     }
 
-    /// Abandons each message in flight that is past its deadline. There are to be more rows than chunks in flight.
+    /// Abandons each message in flight that is past its deadline. There are to be as many rows as chunks in flight, or none.
     pub fn expire_late<'r>(&mut self, now: u64, room: &'r mut [AbandonedRow]) -> Result<impl Iterator<Item = Abandoned> + 'r> {
         let mut n = 0;
         // SAFETY: as in `acked`.
         let code = unsafe { sys::sctpr_sender_expire_late(self.handle.get_mut(), now, room.as_mut_ptr(), room.len(), &mut n) };
-        rows(code, room, n, n.saturating_add(1))
+        rows(code, room, n)
     }
 
-    /// Abandons each message in flight that was sent again as often as it may be. There are to be more rows than chunks in flight.
+    /// Abandons each message in flight that was sent again as often as it may be. There are to be as many rows as chunks in flight, or none.
     pub fn expire_rexmit<'r>(&mut self, room: &'r mut [AbandonedRow]) -> Result<impl Iterator<Item = Abandoned> + 'r> {
         let mut n = 0;
         // SAFETY: as in `acked`.
         let code = unsafe { sys::sctpr_sender_expire_rexmit(self.handle.get_mut(), room.as_mut_ptr(), room.len(), &mut n) };
-        rows(code, room, n, n.saturating_add(1))
+        rows(code, room, n)
     }
 
     /// Writes the FORWARD-TSN that is to be sent, and answers how many bytes it has. None where there is nothing to tell.

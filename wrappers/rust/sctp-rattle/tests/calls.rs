@@ -194,8 +194,7 @@ fn messages_are_abandoned() {
     assert_eq!(s.set_mode(4, false, Mode::Reliable), Err(Error::StreamUnknown));
     s.write(3, ppid::BINARY, b"gone").unwrap();
     s.send_next(1, &mut out).unwrap();
-    assert_eq!(s.expire_rexmit(&mut rows[..1]).err(), Some(Error::ShortBuffer { wanted: 2 }));
-    assert_eq!(s.expire_late(1, &mut rows).unwrap().count(), 0);
+    assert_eq!((s.expire_rexmit(&mut rows[..1]).unwrap().count(), s.expire_late(1, &mut []).unwrap().count()), (0, 0));
     s.retransmit_all();
     let gone: Vec<Abandoned> = s.expire_rexmit(&mut rows).unwrap().collect();
     assert!(gone.len() == 1 && gone[0].bytes == 4 && gone[0].stream == 3 && s.abandon(1000).unwrap().bytes == 0);
@@ -214,9 +213,28 @@ fn messages_are_abandoned() {
     assert_eq!(s.next_timeout(), Some(1_000_000));
     s.send_next(0, &mut out).unwrap();
     assert_eq!((s.expire(2_000_000), s.expire_tail(0)), (None, Ok(None)));
+    assert_eq!(s.expire_late(0, &mut rows[..1]).err(), Some(Error::ShortBuffer { wanted: 2 }));
+    assert_eq!(s.expire_late(0, &mut rows[..2]).unwrap().count(), 0);
+    assert_eq!(s.expire_rexmit(&mut rows[..1]).err(), Some(Error::ShortBuffer { wanted: 2 }));
     assert_eq!(s.expire_tail(2_000_000).unwrap().unwrap().bytes, 15);
     assert_eq!(s.expire(2_000_000), Some(Expired { bytes: 4, stream: 3, is_low: true }));
     assert_eq!(s.expire(2_000_000), None);
+}
+
+/// A SACK counts for a caller that wants no rows; of too few it is told how many are wanted.
+#[test]
+fn a_sack_needs_no_rows() {
+    let mut s = Sender::new(1000, 10, 100, true).unwrap();
+    s.open(3).unwrap();
+    s.write(3, ppid::BINARY, b"two fragments").unwrap();
+    for _ in 0..2 {
+        s.send_next(1, &mut [0; 32]).unwrap();
+    }
+    let sack = b"\x03\0\0\x10\0\0\x03\xe8\0\0\x01\0\0\0\0\0";
+    assert_eq!(s.acked(sack, &mut [AckedRow::default()]).err(), Some(Error::ShortBuffer { wanted: 2 }));
+    assert_eq!(s.take_back(sack, &mut []).unwrap().unwrap().count(), 0);
+    assert_eq!(s.acked(sack, &mut []).unwrap().unwrap().count(), 0);
+    assert_eq!((s.acked_tsn(), s.chunks_in_flight()), (1000, 1));
 }
 
 #[test]
