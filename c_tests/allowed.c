@@ -93,12 +93,14 @@ static void reset(void) {
     CHECK(read.request == 1 && count == 9);
 }
 
-/* A cause of five bytes with its padding, and one behind it (RFC 9260 3.3.10). */
-static void padded_cause(void) {
+/* A cause of five bytes with its padding, and one behind it, in an ERROR and in an ABORT (RFC 9260 3.3.7, 3.3.10). */
+static void padded_cause(uint8_t type) {
     struct sctpr_cause cause = { 9, 9, 9 };
     size_t length = SEAL("\x09\0\0\x14\0\6\0\x09\x40\7\0\5v\0\0\0\0\x0c\0\4" "\3\0\0\x10\0\0\0\x09\0\1\0\0\0\0\0\0");
+    packet[12] = type;
+    CHECK(sctpr_seal_packet(&head, packet, length) == SCTPR_OK);
     reads(length, SCTPR_ERR_ERROR_CAUSE_TOO_SMALL, 2);
-    CHECK(rows[0].type == SCTPR_ERROR && rows[0].length == 20 && rows[1].type == SCTPR_SACK);
+    CHECK(rows[0].type == type && rows[0].length == 20 && rows[1].type == SCTPR_SACK);
     CHECK(sctpr_read_cause(value_of(0, 4), 16, &cause) == SCTPR_OK && cause.code == SCTPR_CAUSE_UNRECOGNIZED_CHUNK_TYPE && cause.next == 12);
     CHECK(sctpr_read_cause(value_of(0, 16), 4, &cause) == SCTPR_OK && cause.code == SCTPR_CAUSE_USER_INITIATED_ABORT && cause.next == 4);
 }
@@ -165,7 +167,8 @@ int main(void) {
     requests();
     responses();
     reset();
-    padded_cause();
+    padded_cause(SCTPR_ERROR);
+    padded_cause(SCTPR_ABORT);
     init();
     payload_types();
     as_given();

@@ -46,6 +46,71 @@ static void freed(void) {
     CHECK(sender.at == NULL && receiver.at == NULL);
 }
 
+/* Begins with five messages of one chunk each in flight, from TSN 1000 on. */
+static void five_in_flight(void) {
+    uint8_t chunk[64];
+    size_t n, fragments;
+    uint64_t number;
+    uint32_t tsn;
+    open_both(1000, 100);
+    for (int i = 0; i < 5; i++) {
+        CHECK(sctpr_sender_write(&sender, 3, SCTPR_PPID_BINARY, (const uint8_t *)"gap", 3, &number, &fragments) == SCTPR_OK);
+        CHECK(sctpr_sender_send_next(&sender, 1, chunk, sizeof chunk, &n, &tsn) == SCTPR_OK);
+    }
+}
+
+/* Of misses it is told what the third one newly marks (RFC 9260 7.2.4), once; and none of what T3-rtx marked: no fast recovery begins. */
+static void newly_marked(void) {
+    five_in_flight();
+    for (int i = 0; i < 5; i++) CHECK(sctpr_sender_add_miss_indications(&sender, 1004) == (i == 2 ? 4 : 0));
+    CHECK(tells(3, 1, 4));
+    free_both();
+    five_in_flight();
+    sctpr_sender_retransmit_all(&sender);
+    CHECK(tells(0, 0, 5));
+    for (int i = 0; i < 5; i++) CHECK(sctpr_sender_add_miss_indications(&sender, 1004) == 0);
+    CHECK(tells(0, 0, 5));
+    free_both();
+}
+
+enum { SHORT = 60, WINDOW = 100000 };
+
+/* Sends what the credit allows at once, of so many messages of 60 bytes that wait: how many are refused for the window. */
+static size_t refused_within(size_t credit) {
+    uint8_t chunk[SHORT + 16], complete;
+    size_t n, sent = 0, refusals = 0;
+    uint32_t tsn;
+    for (; sent + SHORT <= credit && sctpr_sender_send_next(&sender, 1, chunk, sizeof chunk, &n, &tsn) == SCTPR_OK; sent += SHORT) {
+        sctpr_code code = sctpr_receiver_data(&receiver, chunk, n, &complete);
+        CHECK(code == SCTPR_OK || code == SCTPR_WINDOW_FULL);
+        refusals += code == SCTPR_WINDOW_FULL;
+    }
+    return refusals;
+}
+
+/* Of 2,000 messages of 60 bytes within the credit none is refused, whether they are read in between or not, where it is that of SCTPR_CREDIT;
+ * within the whole window many are, since a chunk counts 400 bytes more. */
+static void credit(void) {
+    static const uint8_t message[SHORT];
+    uint8_t bytes[SHORT];
+    for (int is_whole = 0; is_whole < 2; is_whole++) {
+        size_t fragments, size, refusals = 0, rounds = 0;
+        uint64_t number;
+        uint32_t type;
+        CHECK(sctpr_sender_new(1, SHORT, SHORT, 0, &sender) == SCTPR_OK && sctpr_receiver_new(1, SHORT, WINDOW, 4096, &receiver) == SCTPR_OK);
+        CHECK(sctpr_sender_open(&sender, 3) == SCTPR_OK && sctpr_receiver_open(&receiver, 3) == SCTPR_OK);
+        for (int i = 0; i < 2000; i++) CHECK(sctpr_sender_write(&sender, 3, SCTPR_PPID_BINARY, message, SHORT, &number, &fragments) == SCTPR_OK);
+        for (; rounds < 100 && sctpr_sender_pending(&sender) > 0; rounds++) {
+            size_t window = sctpr_receiver_window(&receiver);
+            refusals += refused_within(is_whole ? window : SCTPR_CREDIT(window, SHORT));
+            for (size_t i = 0; i < 50 * (rounds % 3); i++) CHECK(sctpr_receiver_read(&receiver, 3, bytes, SHORT, &size, &type) <= SCTPR_NOTHING);
+        }
+        CHECK(is_whole ? refusals > 1000 : refusals == 0 && rounds < 100 && sctpr_receiver_cumulative_tsn(&receiver) == 2000);
+        free_both();
+    }
+    CHECK(SCTPR_CREDIT(100000, 60) == 13020 && SCTPR_CREDIT(459, 60) == 0 && SCTPR_CREDIT(1600, 1200) == 1200);
+}
+
 /* What would be a trap is refused: a window in which a message of 65,536 bytes, two chunks, never fits; and a write to a stream that is not
  * open, before memory is asked for. */
 static void traps(void) {
@@ -293,6 +358,8 @@ static void expired(void) {
 
 int main(void) {
     freed();
+    newly_marked();
+    credit();
     traps();
     refused();
     goes_over();

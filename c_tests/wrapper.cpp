@@ -177,6 +177,7 @@ void goes_over() {
     std::copy_n(sack.begin(), 24, old_sack.begin());
     CHECK(s.add_miss_indications(1002) == 0 && !s.next_to_retransmit() && s.earliest_outstanding() == 1001u);
     s.retransmit_all();
+    CHECK(s.add_miss_indications(1002) + s.add_miss_indications(1002) + s.add_miss_indications(1002) == 0);
     CHECK(s.next_to_retransmit() && s.in_flight(1001)->is_marked && s.in_flight_at(0)->tsn == 1001 && !s.in_flight_at(9) && !s.in_flight(7));
     CHECK(*s.resend(1001, 50, out[1]) == 28 && is_refused(s.resend(1002, 50, out[1]), sctpr::code::not_in_flight));
     CHECK(*r.take_data(bytes(1)) == sctpr::arrival::completed);

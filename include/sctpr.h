@@ -292,9 +292,10 @@ struct sctpr_chunk {
 
 /* Reads a packet under CRC-32C (RFC 4960 3, 6.8): header, checksum, and each of its chunks whole. `head` becomes its header, `count` how
  * many chunks it has, and the first `room` of them stand in `rows`; the rows behind them stay. Each chunk can then be read by the calls
- * below as `packet + row.at, row.length`. It is read where it lies: only of chunks that are neither DATA nor SACKs a copy is made, one at a
- * time, and given back. Refuses with SCTPR_ERR_PACKET_RAW_TOO_SMALL, SCTPR_BAD_CHECKSUM, SCTPR_UNKNOWN_CHUNK, another error of a chunk, or,
- * but for a packet of DATA and SACKs alone, SCTPR_NO_MEMORY; then nothing was written. */
+ * below as `packet + row.at, row.length`. It reads what the Rust crate sctp-proto 0.10.8 reads, and so refuses packets that RFC 9260 allows,
+ * with all their chunks: to talk to a peer take sctpr_read_any_packet below. It is read where it lies: only of chunks that are neither DATA
+ * nor SACKs a copy is made, one at a time, and given back. Refuses with SCTPR_ERR_PACKET_RAW_TOO_SMALL, SCTPR_BAD_CHECKSUM,
+ * SCTPR_UNKNOWN_CHUNK, another error of a chunk, or, but for a packet of DATA and SACKs alone, SCTPR_NO_MEMORY; then nothing was written. */
 sctpr_code sctpr_read_packet(const uint8_t *packet, size_t length, struct sctpr_head *head, struct sctpr_chunk *rows, size_t room,
                              size_t *count);
 
@@ -521,6 +522,12 @@ typedef struct sctpr_receiver {
 #define SCTPR_LEAST_WINDOW(size, fragment) ((size_t)(size) + 400 * (((size_t)(size) + (size_t)(fragment) - 1) / (size_t)(fragment)))
 sctpr_code sctpr_receiver_new(uint32_t first_tsn, uint32_t max_message_size, size_t window, uint32_t reach, sctpr_receiver *out);
 
+/* Of a window of which so much is left, the credit within which none of a peer's chunks is refused as it is full, where each has `fragment`
+ * bytes of user data or more. A SACK tells all that is left: of shorter chunks within that, whose cost is more, some are refused, and come
+ * again once T3-rtx of the peer expires. A caller whose peer sends short messages tells this in its INIT and in the bytes 8 to 11 of each
+ * SACK (RFC 9260 3.3.4). */
+#define SCTPR_CREDIT(left, fragment) ((size_t)(left) / ((size_t)(fragment) + 400) * (size_t)(fragment))
+
 /* The same, with no limit to what is held: for a peer that is trusted, or a replay. */
 sctpr_code sctpr_receiver_new_unlimited(uint32_t first_tsn, uint32_t max_message_size, sctpr_receiver *out);
 
@@ -666,7 +673,8 @@ sctpr_code sctpr_sender_resend(sctpr_sender *sender, uint32_t tsn, uint64_t now,
 void sctpr_sender_retransmit_all(sctpr_sender *sender);
 
 /* Counts each chunk in flight whose TSN is before this one, and that is neither acknowledged nor abandoned, as missing once more, and
- * marks for retransmission what is missing for the third time (RFC 4960 7.2.4). Answers how many are marked now. */
+ * marks for retransmission what is missing for the third time (RFC 4960 7.2.4). Answers how many it newly marks: of a chunk that was marked
+ * before, as by sctpr_sender_retransmit_all, it answers nothing. */
 size_t sctpr_sender_add_miss_indications(sctpr_sender *sender, uint32_t before);
 
 /* A chunk in flight. `size` is 0 where it is acknowledged or abandoned; `sent_at` is when it was sent last, 0 of a chunk that stands for

@@ -80,7 +80,7 @@ struct endpoint {
     /* `timer` is when T1-init, T1-cookie, T2-shutdown or T3-rtx runs out, of which one runs at a time; 0: none does. */
     uint64_t now, timer, rto, smoothed_rtt, rtt_variation, heartbeat_due, heartbeat_sent_at;
     uint8_t awaits_heartbeat_ack;
-    /* Timeouts since the peer was last heard of (RFC 4960 8.1); the credit of the peer's last SACK, and of ours. */
+    /* Timeouts since the peer answered last (RFC 4960 8.1); the credit of the peer's last SACK, and of ours. */
     uint32_t errors, credit, advertised;
     /* Packets with DATA since our last SACK, and when it is due. */
     uint32_t unacknowledged;

@@ -233,6 +233,7 @@ func TestGoesOver(t *testing.T) {
 	tsn, isOut := s.EarliestOutstanding()
 	check(t, "outstanding", s.AddMissIndications(1002) == 0 && !isMarked && isOut && tsn == 1001)
 	must(t, s.RetransmitAll())
+	check(t, "none newly marked", s.AddMissIndications(1002)+s.AddMissIndications(1002)+s.AddMissIndications(1002) == 0)
 	marked, _ := s.NextToRetransmit()
 	row, ok := s.InFlight(1001)
 	first, _ := s.InFlightAt(0)

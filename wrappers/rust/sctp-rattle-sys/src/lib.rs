@@ -460,9 +460,10 @@ extern "C" {
 
     /// Reads a packet under CRC-32C (RFC 4960 3, 6.8): header, checksum, and each of its chunks whole. `head` becomes its header, `count` how
     /// many chunks it has, and the first `room` of them stand in `rows`; the rows behind them stay. Each chunk can then be read by the calls
-    /// below as `packet + row.at, row.length`. It is read where it lies: only of chunks that are neither DATA nor SACKs a copy is made, one at a
-    /// time, and given back. Refuses with SCTPR_ERR_PACKET_RAW_TOO_SMALL, SCTPR_BAD_CHECKSUM, SCTPR_UNKNOWN_CHUNK, another error of a chunk, or,
-    /// but for a packet of DATA and SACKs alone, SCTPR_NO_MEMORY; then nothing was written.
+    /// below as `packet + row.at, row.length`. It reads what the Rust crate sctp-proto 0.10.8 reads, and so refuses packets that RFC 9260 allows,
+    /// with all their chunks: to talk to a peer take sctpr_read_any_packet below. It is read where it lies: only of chunks that are neither DATA
+    /// nor SACKs a copy is made, one at a time, and given back. Refuses with SCTPR_ERR_PACKET_RAW_TOO_SMALL, SCTPR_BAD_CHECKSUM,
+    /// SCTPR_UNKNOWN_CHUNK, another error of a chunk, or, but for a packet of DATA and SACKs alone, SCTPR_NO_MEMORY; then nothing was written.
     pub fn sctpr_read_packet(packet: *const u8, length: usize, head: *mut sctpr_head, rows: *mut sctpr_chunk, room: usize, count: *mut usize) -> sctpr_code;
 
     /// The same under a sum that the caller took: of the first eight bytes, four zeros, and the bytes from the twelfth on.
@@ -691,7 +692,8 @@ extern "C" {
     pub fn sctpr_sender_retransmit_all(sender: *mut sctpr_sender);
 
     /// Counts each chunk in flight whose TSN is before this one, and that is neither acknowledged nor abandoned, as missing once more, and
-    /// marks for retransmission what is missing for the third time (RFC 4960 7.2.4). Answers how many are marked now.
+    /// marks for retransmission what is missing for the third time (RFC 4960 7.2.4). Answers how many it newly marks: of a chunk that was marked
+    /// before, as by sctpr_sender_retransmit_all, it answers nothing.
     pub fn sctpr_sender_add_miss_indications(sender: *mut sctpr_sender, before: u32) -> usize;
 
     /// The chunk in flight with a TSN. SCTPR_NOT_IN_FLIGHT, and `row` stays.

@@ -157,6 +157,7 @@ fn a_message_goes_over() {
     );
     assert_eq!((s.add_miss_indications(1002), s.next_to_retransmit(), s.earliest_outstanding()), (0, None, Some(1001)));
     s.retransmit_all();
+    assert_eq!([0; 3].map(|_: usize| s.add_miss_indications(1002)), [0; 3]);
     assert_eq!(
         s.in_flight_chunks().map(|c| (c.tsn, c.is_marked, c.is_acked)).collect::<Vec<_>>(),
         [(1001, true, false), (1002, false, true)]
