@@ -7,7 +7,7 @@
 #
 # LIBDIR=DIR is where the library goes (PREFIX/lib). SHARED=yes installs the shared library too; its memory calls are those over malloc.
 # ARCHIVE=FILE takes another archive of the crate, and asks for no rt. What rt ci has proved and built in this checkout is taken as it is.
-# There is no build without a proof (docs/DECISIONS.md).
+# There is no build without a proof (docs/DECISIONS.md), so PROVE=no is refused.
 PREFIX = /usr/local
 LIBDIR = $(PREFIX)/lib
 DESTDIR =
@@ -21,6 +21,9 @@ SHARED = no
 VERSION := $(shell sed -n 's/^.define SCTPR_VERSION_[A-Z]* \([0-9]*\)$$/\1/p' include/sctpr.h | paste -sd .)
 SONAME := libsctp-rattle.so.$(shell sed -n 's/^.define SCTPR_VERSION_MAJOR \([0-9]*\)$$/\1/p' include/sctpr.h)
 ROOT = $(DESTDIR)$(PREFIX)
+ifeq ($(PROVE),no)
+$(error there is no build without a proof (docs/DECISIONS.md): ARCHIVE=FILE takes an archive that was built elsewhere)
+endif
 LIBRARIES = $(DESTDIR)$(LIBDIR)
 SOURCES := $(shell find crates -name '*.rt' -path '*/src/*')
 
@@ -28,7 +31,9 @@ all: $(OUT)/libsctp-rattle.a $(OUT)/sctp-rattle.pc
 shared: $(OUT)/$(SONAME)
 
 crates/sctp_c/out/libsctp_c.a: $(SOURCES)
-	if command -v python3 >/dev/null; then python3 c_tests/built_libraries.py; fi
+	@if ! command -v rt >/dev/null; then echo 'make: no rt on the PATH; ARCHIVE=FILE takes an archive that was built elsewhere'; exit 1; fi
+	@if command -v python3 >/dev/null; then python3 c_tests/built_libraries.py; fi
+	@echo 'make: rt proves the libraries that rt ci has not built here, half an hour or more where none is, and sctp_c: 9 processor minutes'
 	cd crates/sctp_c && rt lib
 
 $(OUT)/memory.o: packaging/memory.c

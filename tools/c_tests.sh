@@ -170,7 +170,7 @@ tells_version() {
 
 # Whether nothing is left of the install.
 is_gone() {
-    [ -z "$(find "$PREFIX" -type f)" ]
+    [ -z "$(find "$PREFIX" ! -type d)" ]
 }
 
 try_cpp() {
@@ -205,20 +205,53 @@ try_go() {
     try prints_echo "$BUILD/echo_go"
 }
 
-# The shared library, in a folder of another name: the echo on it, and its names.
+# The shared library, in a folder of another name: what pkg-config tells of it, the echo on it, its name and its names.
 try_shared() {
     shared=$PREFIX/shared
     try quietly make install PREFIX="$shared" LIBDIR="$shared/lib64" SHARED=yes OUT="$BUILD/shared_out" CC="$CC"
-    try $CC -std=c99 -O2 -I"$shared/include/sctp-rattle" examples/echo/echo.c -L"$shared/lib64" -lsctp-rattle -o "$BUILD/echo_shared"
+    told=$(PKG_CONFIG_PATH="$shared/lib64/pkgconfig" pkg-config --cflags --libs sctp-rattle | sed 's/ *$//')
+    try [ "$told" = "-I$shared/include/sctp-rattle -L$shared/lib64 -lsctp-rattle" ]
+    # shellcheck disable=SC2086
+    try $CC -std=c99 -O2 examples/echo/echo.c $told -o "$BUILD/echo_shared"
     try prints_echo env LD_LIBRARY_PATH="$shared/lib64" "$BUILD/echo_shared"
+    try [ "$(dynamic SONAME "$shared/lib64/libsctp-rattle.so")" = libsctp-rattle.so.0 ]
+    try [ "$(dynamic NEEDED "$BUILD/echo_shared" | head -1)" = libsctp-rattle.so.0 ]
     try exports_its_own "$shared/lib64/libsctp-rattle.so"
     try quietly make uninstall PREFIX="$shared" LIBDIR="$shared/lib64" OUT="$BUILD/shared_out"
 }
 
-# Whether a shared library exports the calls of the header, and no other name.
+# What an object says of itself under a word: one a line.
+dynamic() {
+    objdump -p "$2" | awk -v word="$1" '$1 == word { print $2 }'
+}
+
+# The names that the header declares.
+declared() {
+    sed -n 's/^\(sctpr_code\|uint8_t\|uint32_t\|size_t\|void\) \(sctpr_[a-z0-9_]*\)(.*/\2/p' include/sctpr.h
+}
+
+# Whether a shared library exports the calls of the header, and no other name but that of its version.
 exports_its_own() {
-    nm -D --defined-only "$1" | sed -n 's/.* T \([a-z0-9_]*\)@.*/\1/p' | sort >"$BUILD/exported"
-    sed -n 's/^\(sctpr_code\|uint8_t\|uint32_t\|size_t\|void\) \(sctpr_[a-z0-9_]*\)(.*/\2/p' include/sctpr.h | sort | cmp - "$BUILD/exported"
+    nm -D --defined-only "$1" | awk '$2 != "A" { sub("@.*", "", $3); print $3 }' | sort >"$BUILD/exported"
+    declared | sort | diff - "$BUILD/exported"
+}
+
+# Whether the installed archive defines the calls of the header, the three memory calls, and no other name.
+defines_its_own() {
+    nm -g --defined-only "$1" 2>/dev/null | awk 'NF == 3 { print $3 }' | sort >"$BUILD/defined"
+    { declared && printf 'rattle_alloc\nrattle_dealloc\nrattle_realloc\n'; } | sort | diff - "$BUILD/defined"
+}
+
+# Whether a program of one call takes of the archive what it calls: fewer bytes than docs/C.md says.
+is_small() {
+    # shellcheck disable=SC2086
+    $CC -std=c99 -Wl,--gc-sections "$BUILD/one.c" $flags -o "$BUILD/one_small"
+    [ "$(size "$BUILD/one_small" | awk 'NR == 2 { print $4 }')" -lt 65536 ]
+}
+
+# Whether a word for a build without a proof is refused, with the reason.
+refuses_no_proof() {
+    ! make PROVE=no OUT="$BUILD/no_out" >"$BUILD/no.log" 2>&1 && grep -q 'no build without a proof' "$BUILD/no.log"
 }
 
 try_installed() {
@@ -232,6 +265,9 @@ try_installed() {
     # shellcheck disable=SC2086
     try $CC -std=c99 c_tests/halves.c c_tests/memory.c $flags -o "$BUILD/own_memory"
     try quietly "$BUILD/own_memory"
+    try defines_its_own "$PREFIX/lib/libsctp-rattle.a"
+    try is_small
+    try refuses_no_proof
     try_shared
     try_cpp
     if command -v cargo >/dev/null; then try_rust; else leave_out "the wrapper for Rust" "there is no cargo"; fi
