@@ -1,7 +1,16 @@
 //! The channels of an association: they are opened, written to, read and listed.
 
-use crate::channel::{Channel, Stage};
-use crate::event::ChannelEvent;
+ghost use Rattle.std.specs.Prelude.{◌≡◌, ◌<◌, ◌++◌, ◌∷◌, ◌⊎◌, [], true, false, None, Some, Err, IfErr, IfOk, IfSome, OnErr, OnOk, length, option_copied, position, vec_capacity, vec_len};
+ghost use Rattle.sctp_channels.specs.Channels.{Gains, IsFull, IsNextFree, asked, asked_for, channel_on, has_channel, is_on, is_once, note_on, takes_messages};
+ghost use Rattle.sctp_channels.specs.Events.{TellsMaybe};
+ghost use Rattle.sctp_channels.specs.Messages.{IsHanded, kind_of, sent_of};
+ghost use Rattle.sctp_channels.specs.Refusals.{AgreedRefused, OpenRefused, WriteRefused, refusal_of, refusal_of_name};
+ghost use Rattle.sctp_channels.specs.declared.channel.Stage.TheVariants as stage;
+ghost use Rattle.sctp_channels.specs.declared.channels.Refusal.TheVariants.{InUse, NoChannel, NoStream, OutOfMemory};
+ghost use Rattle.sctp_association.specs.Calls.{use_fault, write_fault};
+
+use crate::channel::{Channel, News, Stage};
+use crate::event::{ChannelEvent, is_end};
 use crate::received::Received;
 use bytes::Bytes;
 use sctp_association::{Association, Event, Fault, PayloadProtocolIdentifier};
@@ -26,18 +35,24 @@ pub enum Refusal {
 }
 
 impl From<AllocError> for Refusal {
+    ghost from_gives = { λ _ r. r ≡ OutOfMemory };
+
     fn from(_e: AllocError) -> Refusal {
         Refusal::OutOfMemory
     }
 }
 
 impl<T: Drop> From<AllocFailed<T>> for Refusal {
+    ghost from_gives = { λ _ r. r ≡ OutOfMemory };
+
     fn from(_e: AllocFailed<T>) -> Refusal {
         Refusal::OutOfMemory
     }
 }
 
 impl From<Fault> for Refusal {
+    ghost from_gives = { λ f r. r ≡ refusal_of f };
+
     fn from(e: Fault) -> Refusal {
         match e {
             Fault::OutOfMemory => Refusal::OutOfMemory,
@@ -47,6 +62,8 @@ impl From<Fault> for Refusal {
 }
 
 impl From<sctp_dcep::Fault> for Refusal {
+    ghost from_gives = { λ f r. r ≡ refusal_of_name f };
+
     fn from(e: sctp_dcep::Fault) -> Refusal {
         match e {
             sctp_dcep::Fault::OutOfMemory => Refusal::OutOfMemory,
@@ -62,7 +79,7 @@ pub(crate) struct Held {
     pub(crate) raw: Vec<u8>,
 }
 
-/// The channels of one association, which each call is given. A call reads each channel at most a few times.
+/// The channels of one association, which each call is given. No two have one stream.
 #[derive(Drop)]
 pub struct Channels {
     pub(crate) alloc: Global,
@@ -72,15 +89,23 @@ pub struct Channels {
     pub(crate) held: Option<Held>,
     // A stream whose arrivals are still to be looked at.
     pub(crate) arrived: Option<u16>,
+    // A stream that the peer has reset and this side is still to reset.
+    pub(crate) owed: Option<u16>,
+    ghost once: { is_once channels.items ≡ true },
 }
 
 // More events than an association has at once, and more messages than a stream has.
 pub(crate) const MOST: u32 = 1 << 20;
 
 impl Channels {
+    ghost use Rattle.sctp_channels.specs.Rest.{Keeps};
+
     /// No channels. `side` is the role in the DTLS connection. `most_name` is how many bytes a label and a protocol of the peer may have
     /// together; a channel with longer ones is closed. It takes no memory.
-    pub fn new(alloc: Global, side: Side, most_name: usize) -> Channels {
+    pub fn new(alloc: Global, side: Side, most_name: usize) -> Channels
+        ensures none { result.channels.items ≡ [] }
+        ensures side { result.side ≡ side }
+    {
         Channels {
             alloc,
             side,
@@ -88,86 +113,161 @@ impl Channels {
             channels: Vec::new(alloc),
             held: None,
             arrived: None,
+            owed: None,
         }
     }
 
     /// The channels, in the order in which they were opened.
-    pub fn channels(&self) -> &[Channel] {
+    pub fn channels(&self) -> &[Channel]
+        ensures all { result.now ≡ self.now.channels.items }
+        ensures once { is_once result.now ≡ true }
+    {
         &self.channels
     }
 
     /// The channel of a stream.
-    pub fn find(&self, stream: u16) -> Option<&Channel> {
+    #[tactic(auto, using(crate::proofs::Lists::found_at, crate::proofs::Lists::find_at_none))]
+    pub fn find(&self, stream: u16) -> Option<&Channel>
+        ensures { option_copied result ≡ channel_on stream self.now.channels.items }
+    {
         self.channels.get(self.place_of(stream)?)
     }
 
     // Where the channel of a stream stands.
-    pub(crate) fn place_of(&self, stream: u16) -> Option<usize> {
+    pub(crate) fn place_of(&self, stream: u16) -> Option<usize>
+        ensures place { result ≡ position (is_on stream) self.now.channels.items }
+        ensures within { IfSome result (λ i. i < vec_len self.now.channels) }
+    {
         self.channels
             .iter()
             .position(|channel| channel.stream == stream)
     }
 
+    // Whether a stream has a channel.
+    pub(crate) fn has(&self, stream: u16) -> bool
+        ensures { result ≡ has_channel stream self.now.channels.items }
+    {
+        self.channels.iter().any(|channel| channel.stream == stream)
+    }
+
     // The least number that this side may choose and that has no channel (RFC 8832 6).
-    fn free_stream(&self) -> Option<u16> {
-        let mut stream = self.side.first();
-        for _ in 0..=u16::MAX {
-            if self.place_of(stream).is_none() {
+    #[tactic(auto, using(crate::proofs::Freeing::searched_first, crate::proofs::Freeing::searched_next, crate::proofs::Freeing::searched_found, crate::proofs::Freeing::searched_none))]
+    fn free_stream(&self) -> Option<u16>
+        ensures found { IfSome result (IsNextFree self.now.side self.now.channels.items) }
+        ensures none { result ≡ None → IsFull self.now.side self.now.channels.items }
+    {
+        let mut next = Some(self.side.first());
+        'number: while let Some(stream) = next {
+            if !self.has(stream) {
                 return Some(stream);
             }
-            stream = Side::next(stream)?;
+            next = Side::next(stream);
         }
         None
     }
 
     /// Opens a channel on the next free stream of this side, and answers the number: DATA_CHANNEL_OPEN is written (RFC 8832 6). Messages may be
-    /// written at once. Where the association refuses the message, the stream's mode may be the one asked for.
-    pub fn open(&mut self, association: &mut Association, open: Open) -> Result<u16, Refusal> {
+    /// written at once. Refuses with `NoStream`, `NameTooLong`, for memory, or where the association refuses, and no channel is opened then. Where it
+    /// refuses the message, the stream's mode may be the one asked for.
+    #[tactic(auto, using(crate::proofs::Refusing::open_refused, crate::proofs::Refusing::name_refused, crate::proofs::Refusing::not_full))]
+    pub fn open(&mut self, association: &mut Association, request: Open) -> Result<u16, Refusal>
+        ensures number { IfOk result (IsNextFree self.old.side self.old.channels.items) }
+        ensures ok { IfOk result (λ s. self.new.channels.items
+            ≡ self.old.channels.items ++ asked_for s stage.Opening request ∷ []) }
+        ensures full { IsFull self.old.side self.old.channels.items → result ≡ Err NoStream }
+        ensures refused { IfErr result
+            (OpenRefused self.old.side self.old.channels.items request) }
+        ensures err { OnErr result (self.new.channels.items ≡ self.old.channels.items) }
+        ensures rest { Keeps self.old self.new }
+    {
         let Some(stream) = self.free_stream() else {
             return Err(Refusal::NoStream);
         };
-        let message = Message::Open(open);
+        let message = Message::Open(request);
         let bytes = message.write(self.alloc)?;
-        let Message::Open(open) = message else {
+        let Message::Open(request) = message else {
             return Err(Refusal::NameTooLong);
         };
         self.channels.reserve(1)?;
         // In order until the peer knows the channel.
-        association.set_mode(stream, false, open.reliability, open.value)?;
+        association.set_mode(stream, false, request.reliability, request.value)?;
         association.write(stream, PayloadProtocolIdentifier::Dcep, &bytes)?;
-        self.put(Channel::new(stream, Stage::Opening, open));
+        self.put(Channel::new(stream, Stage::Opening, request));
         Ok(stream)
     }
 
-    /// Opens a channel that both sides agreed on by other means, on a stream that has none (RFC 8832 6). Nothing is sent.
+    /// Opens a channel that both sides agreed on by other means, on a stream that has none (RFC 8832 6). Nothing is sent. A message that came before is
+    /// told as readable. Refuses with `InUse`, for memory, or where the association refuses the mode, and no channel is opened then.
+    #[tactic(auto, using(crate::proofs::Refusing::agreed_refused))]
     pub fn open_agreed(
         &mut self,
         association: &mut Association,
         stream: u16,
-        open: Open,
-    ) -> Result<(), Refusal> {
-        if self.place_of(stream).is_some() {
+        request: Open,
+    ) -> Result<(), Refusal>
+        ensures ok { OnOk result (asked self.new.channels.items
+            ≡ asked (self.old.channels.items ++ asked_for stream stage.Open request ∷ [])) }
+        ensures in_use { has_channel stream self.old.channels.items ≡ true
+            → result ≡ Err InUse }
+        ensures refused { IfErr result (AgreedRefused stream self.old.channels.items
+            (use_fault stream association.old)) }
+        ensures err { OnErr result ((self.new.channels.items ≡ self.old.channels.items)
+            × (association.new ≡ association.old)) }
+        ensures rest { Keeps self.old self.new }
+    {
+        if self.has(stream) {
             return Err(Refusal::InUse);
         }
         self.channels.reserve(1)?;
-        association.set_mode(stream, open.unordered, open.reliability, open.value)?;
-        self.put(Channel::new(stream, Stage::Open, open));
+        association.set_mode(stream, request.unordered, request.reliability, request.value)?;
+        self.put(Channel::new(stream, Stage::Open, request));
+        if association.next_len(stream).is_some() {
+            self.note(stream, News::Readable);
+        }
         Ok(())
     }
 
-    // Adds a channel, for which there is room.
-    pub(crate) fn put(&mut self, channel: Channel) {
+    // Adds a channel on a stream that has none, for which there is room.
+    #[tactic(auto, using(crate::proofs::Lists::once_push))]
+    pub(crate) fn put(&mut self, channel: Channel)
+        requires free { has_channel channel.stream self.old.channels.items ≡ false }
+        requires room { vec_len self.old.channels < vec_capacity self.old.channels }
+        ensures rest { Keeps self.old self.new }
+        ensures items { self.new.channels.items ≡ self.old.channels.items ++ channel ∷ [] }
+    {
         let _ = self.channels.push(channel);
     }
 
-    /// Writes a message to a channel: text in UTF-8, or bytes. An empty one is sent as a byte with a payload type of its own (RFC 8831 6.6).
+    // Notes what becomes of the channel of a stream, if it has one.
+    #[tactic(auto, using(crate::proofs::Lists::set_noted, crate::proofs::Lists::noted_at_none, crate::proofs::Lists::asked_set_noted, crate::proofs::Lists::once_set_noted))]
+    pub(crate) fn note(&mut self, stream: u16, news: News)
+        ensures items { self.new.channels.items ≡ note_on stream news self.old.channels.items }
+        ensures same { asked self.new.channels.items ≡ asked self.old.channels.items }
+        ensures rest { Keeps self.old self.new }
+    {
+        if let Some(place) = self.place_of(stream) {
+            self.channels[place].note(news);
+        }
+    }
+
+    /// Writes a message to a channel: text in UTF-8, or bytes. An empty one is sent as a byte with a payload type of its own (RFC 8831 6.6). Refuses with
+    /// `NoChannel`, for memory, or as `Association::write`, and the association is as it was then.
+    #[tactic(auto, using(crate::proofs::Refusing::write_refused, crate::proofs::Handing::kind_is, crate::proofs::Handing::sent_is))]
     pub fn write(
-        &mut self,
+        &self,
         association: &mut Association,
         stream: u16,
         is_text: bool,
         bytes: &Bytes,
-    ) -> Result<(), Refusal> {
+    ) -> Result<(), Refusal>
+        ensures none { takes_messages (channel_on stream self.now.channels.items) ≡ false
+            → result ≡ Err NoChannel }
+        ensures refused { IfErr result (WriteRefused stream self.now.channels.items
+            (write_fault stream (length (sent_of bytes.now)) association.old)) }
+        ensures handed { OnOk result (IsHanded stream (kind_of is_text bytes.now)
+            (sent_of bytes.now) association.old association.new) }
+        ensures err { OnErr result (association.new ≡ association.old) }
+    {
         match self.find(stream) {
             Some(channel) if channel.stage != Stage::Closing => {}
             _ => return Err(Refusal::NoChannel),
@@ -189,13 +289,18 @@ impl Channels {
         Ok(association.write(stream, kind, &byte)?)
     }
 
-    /// Reads the next message of a channel, None where there is none. Messages of RFC 8832 that stand before it are followed.
+    /// Reads the next message of a channel, None where there is none. Messages of RFC 8832 that stand before it are followed: also where it refuses,
+    /// some may be, and each channel stays, but those that the peer opened are new.
+    #[tactic(auto, using(crate::proofs::Gaining::gains_same))]
     pub fn read(
         &mut self,
         association: &mut Association,
         stream: u16,
         now: u64,
-    ) -> Result<Option<Received>, Refusal> {
+    ) -> Result<Option<Received>, Refusal>
+        ensures gains { Gains self.old.side self.old.channels.items self.new.channels.items }
+        ensures side { self.new.side ≡ self.old.side }
+    {
         self.follow_control(association, stream, now)?;
         match association.read(stream, now)? {
             Some(chunks) => Ok(Some(Received::new(chunks))),
@@ -205,40 +310,71 @@ impl Channels {
 
     /// What happened next, None where nothing did. Call it after `handle_datagram`, `handle_timeout`, `read` and `close`, until it answers None.
     /// Where memory is wanting nothing is lost: call it again.
+    #[tactic(auto, using(crate::proofs::Gaining::gains_then, crate::proofs::Telling::tells_then))]
     pub fn poll(
         &mut self,
         association: &mut Association,
         now: u64,
-    ) -> Result<Option<ChannelEvent>, Refusal> {
+    ) -> Result<Option<ChannelEvent>, Refusal>
+        ensures told { IfOk result
+            (TellsMaybe self.old.side self.old.channels.items self.new.channels.items) }
+        ensures err { OnErr result
+            (Gains self.old.side self.old.channels.items self.new.channels.items) }
+        ensures side { self.new.side ≡ self.old.side }
+    {
         for _ in 0..MOST {
             self.settle(association, now)?;
-            if let Some(event) = self.next_event() {
-                return Ok(Some(event));
+            match self.next_event() {
+                Some(event) => return Ok(Some(event)),
+                None => {}
             }
-            match association.poll() {
-                None => return Ok(None),
-                Some(Event::Readable(stream)) => self.arrived = Some(stream),
-                Some(Event::ResetByUs(stream) | Event::ResetRefused(stream)) => {
-                    self.our_reset_ended(stream);
-                }
-                Some(Event::ResetByPeer(stream)) => self.peers_reset_came(stream),
-                Some(event) => {
-                    if matches!(event, Event::Closed(_) | Event::Restarted) {
-                        self.channels.clear();
-                    }
-                    return Ok(Some(ChannelEvent::Association(event)));
-                }
+            let Some(event) = association.poll() else {
+                return Ok(None);
+            };
+            match self.take(event) {
+                Some(told) => return Ok(Some(told)),
+                None => {}
             }
         }
         Ok(None)
     }
 
+    // Takes an event of the association, and answers what is to be told of it at once.
+    #[tactic(auto, using(crate::proofs::Gaining::gains_same))]
+    fn take(&mut self, event: Event) -> Option<ChannelEvent>
+        ensures told { TellsMaybe self.old.side self.old.channels.items
+            self.new.channels.items result }
+        ensures side { self.new.side ≡ self.old.side }
+    {
+        if is_end(event) {
+            self.channels.clear();
+            return Some(ChannelEvent::Association(event));
+        }
+        match event {
+            Event::Readable(stream) => {
+                self.arrived = Some(stream);
+                None
+            }
+            Event::ResetByUs(stream) | Event::ResetRefused(stream) => {
+                self.note(stream, News::OursReset);
+                None
+            }
+            Event::ResetByPeer(stream) => {
+                self.peers_reset_came(stream);
+                None
+            }
+            _ => Some(ChannelEvent::Association(event)),
+        }
+    }
+
     // What is to be told, if anything is.
-    fn next_event(&mut self) -> Option<ChannelEvent> {
-        let place = self.channels.iter().position(|c| c.is_new
-            || c.is_acknowledged
-            || c.is_readable
-            || c.is_closed())?;
+    #[tactic(auto, using(crate::proofs::Lists::once_remove, crate::proofs::Lists::once_set, crate::proofs::Telling::tells_at, crate::proofs::Telling::closed_at, crate::proofs::Gaining::gains_same))]
+    fn next_event(&mut self) -> Option<ChannelEvent>
+        ensures told { TellsMaybe self.old.side self.old.channels.items
+            self.new.channels.items result }
+        ensures side { self.new.side ≡ self.old.side }
+    {
+        let place = self.channels.iter().position(|c| c.has_news())?;
         if place >= self.channels.len() {
             return None;
         }
@@ -246,7 +382,6 @@ impl Channels {
             let channel = self.channels.remove(place);
             return Some(ChannelEvent::Closed(channel.stream));
         }
-        let channel = &mut self.channels[place];
-        Some(channel.take_event())
+        Some(self.channels[place].take_event())
     }
 }

@@ -1,6 +1,9 @@
 //! The messages of RFC 8832 that come on channels' streams.
 
-use crate::channel::{Channel, Stage};
+ghost use Rattle.std.specs.Prelude.{◌≡◌};
+ghost use Rattle.sctp_channels.specs.Channels.{Gains, asked};
+
+use crate::channel::{Channel, News, Stage};
 use crate::channels::{Channels, Held, MOST, Refusal};
 use bytes::Bytes;
 use sctp_association::{Association, Fault, PayloadProtocolIdentifier};
@@ -11,39 +14,38 @@ const OPEN_HEADER: usize = 12;
 
 impl Channels {
     // Does what is left to do: resets, a message that is held, and arrivals on a stream.
+    #[tactic(auto, using(crate::proofs::Gaining::gains_same, crate::proofs::Gaining::gains_more))]
     pub(crate) fn settle(
         &mut self,
         association: &mut Association,
         now: u64,
-    ) -> Result<(), Refusal> {
-        self.ask_resets(association)?;
+    ) -> Result<(), Refusal>
+        ensures gains { Gains self.old.side self.old.channels.items self.new.channels.items }
+        ensures side { self.new.side ≡ self.old.side }
+    {
+        self.ask_reset(association)?;
         self.follow_held(association)?;
         if let Some(stream) = self.arrived {
             self.follow_control(association, stream, now)?;
             if association.next_len(stream).is_some() {
-                self.note_readable(stream);
+                self.note(stream, News::Readable);
             }
             self.arrived = None;
         }
         Ok(())
     }
 
-    // A message of the application can be read.
-    fn note_readable(&mut self, stream: u16) {
-        if let Some(place) = self.place_of(stream) {
-            if let Some(channel) = self.channels.get_mut(place) {
-                channel.is_readable = true;
-            }
-        }
-    }
-
     // Follows the messages of RFC 8832 that are next on a stream.
+    #[tactic(auto, using(crate::proofs::Gaining::gains_same, crate::proofs::Gaining::gains_more))]
     pub(crate) fn follow_control(
         &mut self,
         association: &mut Association,
         stream: u16,
         now: u64,
-    ) -> Result<(), Refusal> {
+    ) -> Result<(), Refusal>
+        ensures gains { Gains self.old.side self.old.channels.items self.new.channels.items }
+        ensures side { self.new.side ≡ self.old.side }
+    {
         self.follow_held(association)?;
         for _ in 0..MOST {
             match association.next_len(stream) {
@@ -65,7 +67,10 @@ impl Channels {
         stream: u16,
         length: usize,
         now: u64,
-    ) -> Result<(), Refusal> {
+    ) -> Result<(), Refusal>
+        ensures same { self.new.channels ≡ self.old.channels }
+        ensures side { self.new.side ≡ self.old.side }
+    {
         let most = self.most_name.saturating_add(OPEN_HEADER);
         let mut raw = Vec::new(self.alloc);
         raw.resize(if length > most { 1 } else { length }, 0u8)?;
@@ -77,7 +82,11 @@ impl Channels {
     }
 
     // Follows the message that is held, if one is.
-    fn follow_held(&mut self, association: &mut Association) -> Result<(), Refusal> {
+    #[tactic(auto, using(crate::proofs::Gaining::gains_same, crate::proofs::Gaining::gains_more))]
+    fn follow_held(&mut self, association: &mut Association) -> Result<(), Refusal>
+        ensures gains { Gains self.old.side self.old.channels.items self.new.channels.items }
+        ensures side { self.new.side ≡ self.old.side }
+    {
         let Some(held) = &self.held else {
             return Ok(());
         };
@@ -94,11 +103,11 @@ impl Channels {
     }
 
     // The peer knows a channel: its messages may go out of order, if they are to.
-    fn knows(&mut self, association: &mut Association, stream: u16) -> Result<(), Refusal> {
-        let Some(place) = self.place_of(stream) else {
-            return Ok(());
-        };
-        let Some(channel) = self.channels.get_mut(place) else {
+    fn knows(&mut self, association: &mut Association, stream: u16) -> Result<(), Refusal>
+        ensures same { asked self.new.channels.items ≡ asked self.old.channels.items }
+        ensures side { self.new.side ≡ self.old.side }
+    {
+        let Some(channel) = self.find(stream) else {
             return Ok(());
         };
         if channel.stage != Stage::Opening {
@@ -109,25 +118,29 @@ impl Channels {
         if moded == Err(Fault::OutOfMemory) {
             return Err(Refusal::OutOfMemory);
         }
-        channel.stage = Stage::Open;
-        channel.is_acknowledged = true;
+        self.note(stream, News::Known);
         Ok(())
     }
 
     // The peer opens a channel: DATA_CHANNEL_ACK answers (RFC 8832 6). On a stream that it may not choose, or that has a channel, it is
     // closed.
+    #[tactic(auto, using(crate::proofs::Gaining::gains_same, crate::proofs::Gaining::gains_push))]
     fn accept(
         &mut self,
         association: &mut Association,
         stream: u16,
-        open: Open,
-    ) -> Result<(), Refusal> {
-        if self.side.is_ours(stream) || self.place_of(stream).is_some() {
+        request: Open,
+    ) -> Result<(), Refusal>
+        ensures gains { Gains self.old.side self.old.channels.items self.new.channels.items }
+        ensures side { self.new.side ≡ self.old.side }
+    {
+        if self.side.is_ours(stream) || self.has(stream) {
             return self.refuse(association, stream);
         }
         self.channels.reserve(1)?;
         let ack = Message::Ack.write(self.alloc)?;
-        let moded = association.set_mode(stream, open.unordered, open.reliability, open.value);
+        let (unordered, reliability) = (request.unordered, request.reliability);
+        let moded = association.set_mode(stream, unordered, reliability, request.value);
         let taken = match moded {
             Ok(()) => association.write(stream, PayloadProtocolIdentifier::Dcep, &ack),
             Err(fault) => Err(fault),
@@ -139,21 +152,21 @@ impl Channels {
             // It is about to end, or the stream is being reset.
             Err(_) => return Ok(()),
         }
-        let mut channel = Channel::new(stream, Stage::Open, open);
+        let mut channel = Channel::new(stream, Stage::Open, request);
         channel.is_new = true;
         self.put(channel);
         Ok(())
     }
 
-    // A stream on which the protocol is violated is reset (RFC 8832 6).
-    fn refuse(&mut self, association: &mut Association, stream: u16) -> Result<(), Refusal> {
-        if association.reset_stream(stream) == Err(Fault::OutOfMemory) {
-            return Err(Refusal::OutOfMemory);
-        }
-        if let Some(place) = self.place_of(stream) {
-            if let Some(channel) = self.channels.get_mut(place) {
-                channel.stage = Stage::Closing;
-            }
+    // A stream on which the protocol is violated is reset (RFC 8832 6). Where the association resets none, nothing can be closed.
+    fn refuse(&mut self, association: &mut Association, stream: u16) -> Result<(), Refusal>
+        ensures same { asked self.new.channels.items ≡ asked self.old.channels.items }
+        ensures side { self.new.side ≡ self.old.side }
+    {
+        match association.reset_stream(stream) {
+            Ok(()) => self.note(stream, News::Closing),
+            Err(Fault::OutOfMemory) => return Err(Refusal::OutOfMemory),
+            Err(_) => {}
         }
         Ok(())
     }

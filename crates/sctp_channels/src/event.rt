@@ -1,5 +1,8 @@
 //! What is told of channels.
 
+ghost use Rattle.std.specs.Prelude.{◌≡◌};
+ghost use Rattle.sctp_channels.specs.Events.{is_end};
+
 use sctp_association::Event;
 
 /// What happened.
@@ -13,6 +16,13 @@ pub enum ChannelEvent {
     Readable(u16),
     /// The channel is closed, and its stream may have a new one.
     Closed(u16),
-    /// Of the association, or of a stream that is no channel's.
+    /// Any other event of the association. Its events of messages that can be read and of resets are not told.
     Association(Event),
+}
+
+/// Whether no channel is left by an event of the association.
+pub(crate) fn is_end(event: Event) -> bool
+    ensures { result ≡ is_end event }
+{
+    matches!(event, Event::Closed(_) | Event::Restarted)
 }

@@ -1,0 +1,14 @@
+-- A message that has bytes is sent as it is.
+use Rattle.std.proofs.Common.{◌≡◌, ℕ, ◌<◌, Bool, true, false, List, [], ◌∷◌, if◌then◌else◌, length, refl, arith}
+use Rattle.sctp_channels.specs.Messages.{kind_of, sent_of}
+use Rattle.sctp_data.specs.declared.chunk.chunk_payload_data.PayloadProtocolIdentifier.TheVariants.{String, Binary, StringEmpty, BinaryEmpty}
+
+pub kind_is : (b : Bool) (bytes : List ℕ) → 0 < length bytes → kind_of b bytes ≡ (if b then String else Binary)
+kind_is true [] h = absurd (omega (arith, h))
+kind_is false [] h = absurd (omega (arith, h))
+kind_is true (x ∷ bytes) h = refl
+kind_is false (x ∷ bytes) h = refl
+
+pub sent_is : (bytes : List ℕ) → 0 < length bytes → sent_of bytes ≡ bytes
+sent_is [] h = absurd (omega (arith, h))
+sent_is (x ∷ bytes) h = refl

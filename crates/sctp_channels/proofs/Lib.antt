@@ -1,0 +1,6 @@
+pub mod Freeing
+pub mod Gaining
+pub mod Handing
+pub mod Lists
+pub mod Refusing
+pub mod Telling

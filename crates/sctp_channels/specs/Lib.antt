@@ -1,0 +1,5 @@
+pub mod Channels
+pub mod Events
+pub mod Messages
+pub mod Refusals
+pub mod Rest
