@@ -1,4 +1,4 @@
-use Rattle.std.proofs.Common.{rules}
+use Rattle.std.proofs.Common.{refl, rules}
 use Rattle.sctp_association.proofs.First.{begins, first_is}
 use Rattle.sctp_association.proofs.association.Association.handle_datagram.Goals as goal
 use Rattle.sctp_datagram.specs.Places.{TellsAll, place_at}
@@ -12,3 +12,13 @@ pub returns-clause-begun : goal.returns-clause-begun
 returns-clause-begun c closed stands =
     let all : TellsAll place_at c.args.datagram.now c.in-Ok.chunks.left = search rules in
     begins c.args.datagram.now c.in-Ok.chunks.left _ _ _ all (c.take_chunks.ensures.begun closed stands)
+
+-- where memory is wanting nothing changed
+pub returns-in-Err : goal.returns-in-Err
+returns-in-Err c = record {
+  dropped = λ r e. refl;
+  accepted = λ e. cc;
+  foreign = λ other. refl;
+  init = λ begun. refl;
+  begun = λ closed stands. absurd (stands closed);
+}
