@@ -1,5 +1,5 @@
 -- How long the packet is that is being written.
-use Rattle.std.proofs.Common.{◌≡◌, ℕ, ◌+◌, ◌<◌, ◌≤◌, List, [], ◌++◌, length, take, drop, arith, ap, ◌∙◌, length-append, inl, inr, Option, Some, subst}
+use Rattle.std.proofs.Common.{◌≡◌, ℕ, ◌<◌, ◌≤◌, List, [], ◌++◌, length, take, drop, arith, ap, ◌∙◌, length-append, inl, inr, Option, Some, subst}
 use Rattle.sctp_association.specs.Drafts.{bytes_in, limit_in}
 use Rattle.sctp_packets.proofs.Drafts.{length_stored}
 use Rattle.sctp_packets.proofs.Sealed.{length_head_encoding}

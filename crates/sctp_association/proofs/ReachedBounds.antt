@@ -1,7 +1,7 @@
 -- What calls lead to is within bounds.
 use Rattle.std.proofs.Common.{◌≡◌, ℕ, zero, suc, ◌+◌, ◌*◌, ◌<◌, ◌≤◌, Bool, true, false, List, [], ◌∷◌, ◌++◌, length, All, refl, ap, sym, ◌∙◌, subst, arith}
 use Rattle.std.proofs.lemmas.List.{length-map}
-use Rattle.std.specs.Prelude.{not, if◌then◌else◌, map, Some, None}
+use Rattle.std.specs.Prelude.{not, if◌then◌else◌, Some}
 use Rattle.std.specs.List.{filter, sum_by}
 use Rattle.sctp_association.proofs.Few.{AreBelow, no-more}
 use Rattle.sctp_association.specs.Reached.{AreUsual, IsReached, IsUsual, most_user_data}

@@ -4,7 +4,6 @@ use Rattle.std.specs.Coded.{le_prop}
 use Rattle.std.specs.Prelude.{IfSome}
 use Rattle.sctp_association.proofs.laws.what_is_held_is_bounded.Goals as goal
 use Rattle.sctp_association.proofs.ReachedBounds.{bytes-held, chunks-held, duplicates-noted, streams-open, tsns-beyond}
-use Rattle.sctp_association.specs.declared.association.Association.{Association}
 use Rattle.sctp_association.specs.declared.config.Config.{Config}
 use Rattle.sctp_association.specs.declared.inbound.Inbound.{Inbound}
 use Rattle.sctp_association.specs.Held.{CostsLittle, HoldsFewChunks, KeepsFewTsns, NotesFewDuplicates, OfEach, OpensFewStreams}

@@ -1,4 +1,4 @@
-use Rattle.std.proofs.Common.{◌≡◌, ap, sym, ◌∙◌}
+use Rattle.std.proofs.Common.{ap, sym, ◌∙◌}
 use Rattle.sctp_association.proofs.Opened.{apart, opened_is}
 use Rattle.sctp_sender.specs.Sender.{is_open}
 use Rattle.sctp_association.proofs.outbound.Outbound.set_mode.Goals as goal
