@@ -36,6 +36,7 @@ searched_next side list s (own, within, below) has = by (nat_le (s + 2) 65534) r
   where
     more : AllBelow side list (s + 2)
     more m lt is = below_two side list s m own (λ l. below m l is) has lt is
+
     by : (b : Bool) → nat_le (s + 2) 65534 ≡ b → IsSearched side list (if b then Some (s + 2) else None)
     by true e = (grind (arith, nat_tests), grind (arith, nat_tests), more)
     by false e = λ m lt is. more m (grind (arith, nat_tests)) is

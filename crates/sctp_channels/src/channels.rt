@@ -219,7 +219,12 @@ impl Channels {
             return Err(Refusal::InUse);
         }
         self.channels.reserve(1)?;
-        association.set_mode(stream, request.unordered, request.reliability, request.value)?;
+        association.set_mode(
+            stream,
+            request.unordered,
+            request.reliability,
+            request.value,
+        )?;
         self.put(Channel::new(stream, Stage::Open, request));
         if association.next_len(stream).is_some() {
             self.note(stream, News::Readable);

@@ -15,11 +15,7 @@ const OPEN_HEADER: usize = 12;
 impl Channels {
     // Does what is left to do: resets, a message that is held, and arrivals on a stream.
     #[tactic(auto, using(crate::proofs::Gaining::gains_same, crate::proofs::Gaining::gains_more))]
-    pub(crate) fn settle(
-        &mut self,
-        association: &mut Association,
-        now: u64,
-    ) -> Result<(), Refusal>
+    pub(crate) fn settle(&mut self, association: &mut Association, now: u64) -> Result<(), Refusal>
         ensures gains { Gains self.old.side self.old.channels.items self.new.channels.items }
         ensures side { self.new.side ≡ self.old.side }
     {

@@ -1,6 +1,6 @@
 //! Ladders: the packets of each association between its two ends, as text of at most 100 columns where addresses are not longer.
 
-ghost use Rattle.std.specs.Prelude.{◌≡◌, ◌++◌, OnOk};
+ghost use Rattle.std.specs.Prelude.{◌≡◌, ◌≤◌, ◌++◌, OnOk};
 ghost use Rattle.std.specs.String.{string_bytes};
 ghost use Rattle.sctp_follow.specs.Ladder.{rung_text};
 
@@ -116,7 +116,9 @@ fn put_words(
 }
 
 /// How many columns a time has.
-fn room_of(clock: Clock) -> usize {
+fn room_of(clock: Clock) -> usize
+    ensures { result ≤ 30 }
+{
     match clock {
         Clock::Elapsed | Clock::Seconds => 17,
         Clock::Dates => 30,

@@ -17,7 +17,7 @@ returns-in-Some-take-clause-told c =
     let settled = gains_then _ _ _ _ _ c.loop.invariant.1 c.loop.invariant.0 c.settle.ensures.gains in
     let same = c.settle.ensures.side ∙ c.loop.invariant.0 in
     let still = gains_then c.args.self.now.side c.settle.new.self.side c.args.self.now.channels.items c.settle.new.self.channels.items
-        c.next_event.new.self.channels.items settled same c.in-None.ensures.told in
+    c.next_event.new.self.channels.items settled same c.in-None.ensures.told in
     tells_then c.args.self.now.side c.next_event.new.self.side c.args.self.now.channels.items c.next_event.new.self.channels.items c.take.new.self.channels.items
     c.in-Some-take.told still (c.next_event.ensures.side ∙ same) c.in-Some-take.ensures.told
 
@@ -26,7 +26,9 @@ loop-preserved c =
     let settled = gains_then _ _ _ _ _ c.loop.invariant.1 c.loop.invariant.0 c.settle.ensures.gains in
     let same = c.settle.ensures.side ∙ c.loop.invariant.0 in
     let still = gains_then c.args.self.now.side c.settle.new.self.side c.args.self.now.channels.items c.settle.new.self.channels.items
-        c.next_event.new.self.channels.items settled same c.in-None.ensures.told in
-    let side = c.next_event.ensures.side ∙ same in
-    (c.take.ensures.side ∙ side, gains_then c.args.self.now.side c.next_event.new.self.side c.args.self.now.channels.items c.next_event.new.self.channels.items
-    c.take.new.self.channels.items still side c.in-None-take.ensures.told)
+    c.next_event.new.self.channels.items settled same c.in-None.ensures.told in
+    let side = c.next_event.ensures.side ∙ same in (
+      c.take.ensures.side ∙ side,
+      gains_then c.args.self.now.side c.next_event.new.self.side c.args.self.now.channels.items c.next_event.new.self.channels.items
+          c.take.new.self.channels.items still side c.in-None-take.ensures.told,
+    )

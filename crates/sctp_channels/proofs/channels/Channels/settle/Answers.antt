@@ -13,5 +13,6 @@ returns-after-is_some-clause-gains c =
     let held = gains_then _ _ _ _ _ (gains_same _ _ _ c.ask_reset.ensures.same) c.ask_reset.ensures.side c.follow_held.ensures.gains in
     let followed = gains_then _ _ _ _ _ held (c.follow_held.ensures.side ∙ c.ask_reset.ensures.side) c.follow_control.ensures.gains in
     elim c.if-is_some.branch [
-      then-is_some w ↦ rw w.self-is (gains_more _ _ _ _ followed (gains_same _ _ _ w.note.ensures.same))
-    | else-is_some w ↦ rw w.self-is followed ]
+      | then-is_some w ↦ rw w.self-is (gains_more _ _ _ _ followed (gains_same _ _ _ w.note.ensures.same))
+      | else-is_some w ↦ rw w.self-is followed
+    ]
