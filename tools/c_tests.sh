@@ -71,7 +71,7 @@ has libsctp-dev test -e /usr/include/netinet/sctp.h || leave_out "netinet/sctp.h
 
 # ---- The library -------------------------------------------------------------------------------------------------------------
 
-# Of what rt ci has just proved here nothing is proved again.
+# Of the libraries that rt ci has just proved here none is proved again; sctp_c is, for its archive, unless rt has kept one.
 if command -v python3 >/dev/null; then python3 c_tests/built_libraries.py; fi
 (cd crates/sctp_c && rt lib) >"$BUILD/lib.log" 2>&1 || { tail -20 "$BUILD/lib.log"; echo "0 passed, 1 failed"; exit 1; }
 ARCHIVE=crates/sctp_c/out/libsctp_c.a
