@@ -1,7 +1,7 @@
 #!/usr/bin/env python3
-"""Tests an association through the program assocrun: exchanges of the RFCs by hand, recorded peers, any bytes, refused memory.
+"""Tests an association through the program assocrun: exchanges of the RFCs by hand, recorded peers, any bytes, refused memory, sessions of two hosts.
 
-    python3 c_tests/assoc_tests.py [--tshark] [--datagrams N] [--every N] [--only WORD] [PROGRAM]
+    python3 c_tests/assoc_tests.py [--tshark] [--datagrams N] [--every N] [--sessions N] [--only WORD] [PROGRAM]
 
 PROGRAM is crates/assocrun/out/assocrun unless told otherwise: `rt ci` leaves it there. A file c_tests/assoc/NAME.script has commands of assocrun
 (docs/ASSOCRUN.md), and below each, further in, what it must answer. The expected values are written from the sections of the RFCs that stand beside them.
@@ -9,9 +9,11 @@ PROGRAM is crates/assocrun/out/assocrun unless told otherwise: `rt ci` leaves it
 are named are compared. `$name` is what stood there first, `A..B` a number between, `!=N` another one, `~` the same bytes in any order, and a last `*`
 anything. `next` is compared where it is named. Each datagram that is sent is decoded by wire.py, with --tshark by tshark too.
 N datagrams of any bytes, and of chunks with random fields, are given to an association (50,000 unless told otherwise). Each 7th
-allocation of an exchange, or each Nth, is refused.
+allocation of an exchange, or each Nth, is refused. N sessions of two hosts over a bad network follow (40), half as many with a restart, and half as many
+with usrsctp, where Debian's package libusrsctp-dev is there.
 The last line is 'N passed, M failed'; the status is 0 where nothing failed.
 """
+import argparse
 import os
 import re
 import subprocess
@@ -24,6 +26,7 @@ sys.path.insert(0, FOLDER)
 import hostile  # noqa: E402
 import recorded  # noqa: E402
 import refused  # noqa: E402
+import sessions  # noqa: E402
 import wire  # noqa: E402
 
 
@@ -220,39 +223,51 @@ def check_by_tshark(sent):
             raise Wrong(f"tshark: {line!r} of {datagram.hex()}")
 
 
+def usrsctp_host(folder):
+    """Builds the host that drives usrsctp; returns its path, or None where there is no usrsctp."""
+    if not os.path.exists("/usr/include/usrsctp.h"):
+        print("left out: sessions with usrsctp, since there is no libusrsctp-dev")
+        return None
+    sys.path.insert(0, os.path.join(ROOT, "evidence"))
+    import simulate
+    return simulate.build_usrsctp(folder)
+
+
 def main():
-    words = sys.argv[1:]
-    has_tshark, count, every, only = "--tshark" in words, 50_000, 7, ""
-    words = [it for it in words if it != "--tshark"]
-    while words and words[0] in ("--datagrams", "--every", "--only"):
-        if words[0] == "--only":
-            only = words[1]
-        elif words[0] == "--every":
-            every = int(words[1])
-        else:
-            count = int(words[1])
-        words = words[2:]
-    program = os.path.abspath(words[0] if words else os.path.join(ROOT, "crates", "assocrun", "out", "assocrun"))
+    parser = argparse.ArgumentParser()
+    parser.add_argument("--tshark", action="store_true")
+    parser.add_argument("--datagrams", type=int, default=50_000)
+    parser.add_argument("--every", type=int, default=7)
+    parser.add_argument("--sessions", type=int, default=40)
+    parser.add_argument("--only", default="")
+    parser.add_argument("program", nargs="?", default=os.path.join(ROOT, "crates", "assocrun", "out", "assocrun"))
+    args = parser.parse_args()
+    with tempfile.TemporaryDirectory() as folder:
+        return run_all(args, os.path.abspath(args.program), usrsctp_host(folder))
+
+
+def run_all(args, program, usrsctp):
     passed = failed = 0
     sent = []
 
     def try_it(name, call):
         nonlocal passed, failed
-        if only not in name:
+        if args.only not in name:
             return
         try:
             sent.extend(call() or [])
             passed += 1
-        except (Wrong, wire.Malformed, recorded.Wrong, hostile.Wrong, refused.Wrong) as fault:
+        except (Wrong, wire.Malformed, recorded.Wrong, hostile.Wrong, refused.Wrong, sessions.Wrong) as fault:
             failed += 1
             print(f"{name}: {fault}", flush=True)
 
     for name in sorted(os.listdir(FOLDER)):
         if name.endswith(".script"):
             try_it(name, lambda: play(program, os.path.join(FOLDER, name)))
-    for name, call in [*recorded.cases(program, ROOT), *hostile.cases(program, count), *refused.cases(program, every)]:
+    for name, call in [*recorded.cases(program, ROOT), *hostile.cases(program, args.datagrams), *refused.cases(program, args.every),
+                       *sessions.cases(program, usrsctp, args.sessions)]:
         try_it(name, call)
-    if has_tshark:
+    if args.tshark:
         try_it("tshark", lambda: check_by_tshark(sent))
     print(f"{passed} passed, {failed} failed")
     return 1 if failed else 0

@@ -1,6 +1,7 @@
 pub mod First
 pub mod Stale
 pub mod Opened
+pub mod Unopened
 pub mod Drafting
 pub mod Few
 pub mod Reaching

@@ -8,7 +8,7 @@ use Rattle.sctp_stream.proofs.StreamPlaces.{taken-back}
 use Rattle.sctp_stream.specs.Stream.{new_stream}
 use Rattle.sctp_util.proofs.Cases.{same-yes}
 
-none-of : {X : Type 0} (o : Option X) → is_some o ≡ false → o ≡ None
+pub none-of : {X : Type 0} (o : Option X) → is_some o ≡ false → o ≡ None
 none-of None e = refl
 none-of (Some x) e = absurd (cc)
 

@@ -1,5 +1,5 @@
 -- Why calls of an application are refused, want of memory apart.
-use Rattle.std.specs.Prelude.{ℕ, Bool, not, ◌&&◌, ◌||◌, nat_le, if◌then◌else◌, Option, Some, None}
+use Rattle.std.specs.Prelude.{ℕ, Bool, false, not, ◌&&◌, ◌||◌, nat_le, nat_lt, if◌then◌else◌, Option, Some, None}
 use Rattle.sctp_association.specs.declared.association.Association.{Association}
 use Rattle.sctp_association.specs.declared.fault.Fault.{Fault}
 use Rattle.sctp_association.specs.declared.fault.Fault.TheVariants.{WrongState, NoSuchStream, Resetting}
@@ -31,6 +31,14 @@ or_else (Some e) f = Some e
 
 abbrev pub reset_fault : ℕ → Association → Option Fault
 reset_fault stream a = if is_asked stream a.requests then Some Resetting else None
+
+-- both sides take resets, and the stream is one of those that they agreed on (RFC 6525 5.1.1)
+abbrev pub takes_reset : ℕ → Option Agreed → Bool
+takes_reset stream None = false
+takes_reset stream (Some g) = g.reconfig && nat_lt stream g.outbound_streams
+
+abbrev pub is_resettable : ℕ → Association → Bool
+is_resettable stream a = takes_reset stream (agreed a.machine)
 
 -- a message of so many bytes, in the order in which it is looked for
 abbrev pub write_fault : ℕ → ℕ → Association → Option Fault

@@ -1,9 +1,10 @@
 -- What an association and its streams count.
-use Rattle.std.specs.Prelude.{ℕ, Option, Some, None}
+use Rattle.std.specs.Prelude.{◌≡◌, ◌≤◌, ℕ, Option, Some, None}
 use Rattle.std.specs.Option.{option_map}
 use Rattle.sctp_association.specs.declared.association.Association.{Association}
 use Rattle.sctp_association.specs.declared.association.stats.Stats.{Stats}
 use Rattle.sctp_association.specs.declared.inbound.Inbound.{Inbound}
+use Rattle.sctp_association.specs.declared.outbound.Outbound.{Outbound}
 use Rattle.sctp_association.specs.Held.{held_by}
 use Rattle.sctp_outbound.specs.Outstanding.{outstanding_of}
 use Rattle.sctp_outbound.specs.pending_queue.PendingQueue.{total_bytes}
@@ -19,6 +20,16 @@ stats_of a = record {
   timeouts = a.outbound.timeouts;
   held = held_by a.inbound;
 }
+
+-- nothing more is counted
+pub record IsCountedAlike (old new : Outbound) : Type 0 where
+  pub resent : new.resent ≡ old.resent
+  pub timeouts : new.timeouts ≡ old.timeouts
+
+-- chunks may be sent again, and nothing else is counted
+pub record IsCountedOn (old new : Outbound) : Type 0 where
+  pub resent : old.resent ≤ new.resent
+  pub timeouts : new.timeouts ≡ old.timeouts
 
 -- ## A stream
 

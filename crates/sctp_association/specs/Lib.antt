@@ -1,3 +1,4 @@
+pub mod Acks
 pub mod Calls
 pub mod Cookies
 pub mod Counts
@@ -7,6 +8,8 @@ pub mod Failing
 pub mod Held
 pub mod Once
 pub mod Reached
+pub mod Reads
+pub mod Reports
 pub mod Rooms
 pub mod Sending
 pub mod Steps

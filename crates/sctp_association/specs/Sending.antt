@@ -27,6 +27,11 @@ may_send_next bytes most peer_window burst c chunks =
     nat_lt (length chunks) most
     && may_send_data bytes flight peer_window (base_of flight burst) c
 
+-- a time to send begins: the moment is later than that at which nothing more left
+abbrev pub is_later : ℕ → Option ℕ → Bool
+is_later now None = false
+is_later now (Some paused) = nat_lt paused now
+
 -- DATA may be sent again: one packet of it whatever is outstanding, where fast retransmission begins (7.2.4); else a packet, while less than
 -- cwnd was outstanding when it began (6.3.3 E3)
 abbrev pub may_send_again : Bool → ℕ → Control → Bool

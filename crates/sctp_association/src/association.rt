@@ -10,7 +10,7 @@ mod stats;
 mod timeouts;
 mod unknown;
 
-ghost use Rattle.std.specs.Prelude.{◌≡◌, IfSome, None, Some, ◌≢◌, ◌≤◌, ◌+◌, ◌*◌, true, false, IfErr, IfOk, IsOk, OnErr};
+ghost use Rattle.std.specs.Prelude.{◌≡◌, IfSome, None, Some, ◌≢◌, ◌≤◌, ◌+◌, ◌*◌, option_map, true, false, IfErr, IfOk, IsOk, OnErr};
 ghost use Rattle.std.proofs.Props.{props};
 ghost use Rattle.sctp_association.specs.Events.{IsTold};
 ghost use Rattle.sctp_association.specs.declared.fault.Fault.TheVariants.{BadConfig, WrongState};
@@ -18,6 +18,7 @@ ghost use Rattle.sctp_association.specs.Reached.{limits_of, most_user_data};
 ghost use Rattle.sctp_association.specs.Waiting.{amount_on};
 ghost use Rattle.sctp_handshake.specs.declared.state.State.TheVariants.{Closed};
 ghost use Rattle.sctp_path.specs.Rto.{smoothed_of};
+ghost use Rattle.sctp_reassembly.specs.reassembly_queue.ReassemblyQueue.{at_start};
 ghost use Rattle.sctp_receiver.specs.Limits.{chunk_cost};
 ghost use Rattle.sctp_sender.specs.Sender.{stream_of};
 
@@ -122,6 +123,7 @@ fn outbound_config(config: &Config, first_tsn: u32) -> OutboundConfig {
 
 impl Association {
     ghost use Rattle.sctp_association.specs.Held.{HoldsFewChunks, OfReceiver, OpensFewStreams, held_by};
+    ghost use Rattle.sctp_association.specs.Reads.{AreReadOff, IsSameBeside, length_of, message_in};
 
     /// No association yet: it waits for a peer's INIT, or for `connect`. Refuses with `BadConfig`. It takes no memory.
     pub fn new(alloc: Global, config: Config, secrets: Secrets) -> Result<Association, Fault>
@@ -206,8 +208,15 @@ impl Association {
         }
     }
 
-    /// The next message of a stream, if one is there: the first complete unordered one, else the ordered one that is due.
-    pub fn read(&mut self, stream: u16, now: u64) -> Result<Option<Chunks>, Fault> {
+    /// The next message of a stream, if one is there: the first complete unordered one, else the ordered one that is due. It is taken out, and
+    /// where that opens the window, a SACK is due. It is never refused.
+    pub fn read(&mut self, stream: u16, now: u64) -> Result<Option<Chunks>, Fault>
+        ensures message { IfOk result (λ message. message
+            ≡ option_map at_start (message_in stream self.old.inbound)) }
+        ensures taken { AreReadOff now stream self.old.inbound self.new.inbound }
+        ensures rest { IsSameBeside self.old self.new }
+        ensures accepted { IsOk result }
+    {
         match &mut self.inbound {
             Some(inbound) => inbound.read(stream, now),
             None => Ok(None),
@@ -215,7 +224,9 @@ impl Association {
     }
 
     /// The length and the payload type of the message that `read` would give.
-    pub fn next_len(&self, stream: u16) -> Option<(usize, PayloadProtocolIdentifier)> {
+    pub fn next_len(&self, stream: u16) -> Option<(usize, PayloadProtocolIdentifier)>
+        ensures { result ≡ length_of (message_in stream self.now.inbound) }
+    {
         match &self.inbound {
             Some(inbound) => inbound.receiver.next_len(stream),
             None => None,
@@ -298,8 +309,13 @@ impl Association {
     // The association ended.
     fn end(&mut self, ending: Ending)
         ensures over { self.new.is_over ≡ true }
-        ensures rest { (self.new.outbound ≡ self.old.outbound)
-            × (self.new.machine ≡ self.old.machine) }
+        ensures told { self.new.events ≡ record self.old.events { closed = Some ending } }
+        ensures rest { self.new ≡ record self.old {
+          is_over = self.new.is_over;
+          control = self.new.control;
+          guard = self.new.guard;
+          events = self.new.events;
+        } }
     {
         self.is_over = true;
         self.control.stop();

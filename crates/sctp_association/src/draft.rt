@@ -1,6 +1,6 @@
 //! The packet that is being written.
 
-ghost use Rattle.std.specs.Prelude.{◌≡◌, ◌≤◌, max, false, OnErr, [], length};
+ghost use Rattle.std.specs.Prelude.{◌≡◌, ◌≤◌, nat_le, max, false, OnErr, [], length};
 
 use sctp_chunks::chunk::Chunk;
 use sctp_packets::PacketWriter;
@@ -93,7 +93,9 @@ impl Draft {
     }
 
     /// Whether it has no chunk.
-    pub(crate) fn is_empty(&self) -> bool {
+    pub(crate) fn is_empty(&self) -> bool
+        ensures { result ≡ nat_le (length self.now.bytes) 12 }
+    {
         self.bytes().len() <= PACKET_HEADER_SIZE
     }
 

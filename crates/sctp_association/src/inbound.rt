@@ -1,10 +1,12 @@
 //! What comes of the peer's messages, and when it is acknowledged (RFC 9260 6.2, 6.5; RFC 3758 3.6).
 
-ghost use Rattle.std.specs.Prelude.{◌≡◌, ◌==◌, ◌<◌, ◌≤◌, ℕ, Ok, OnOk, Some, length, true, false};
+ghost use Rattle.std.specs.Prelude.{◌≡◌, ◌==◌, ◌<◌, ◌≤◌, ℕ, Ok, IfOk, IsOk, OnOk, Some, length, option_map, true, false};
 ghost use Rattle.sctp_association.specs.Reached.{IsLimited, most_user_data};
 ghost use Rattle.sctp_association.specs.StreamSet.{is_in};
 ghost use Rattle.sctp_params.specs.declared.param.param_reconfig_response.ReconfigResult.TheVariants.{SuccessPerformed};
+ghost use Rattle.sctp_reassembly.specs.reassembly_queue.ReassemblyQueue.{at_start};
 ghost use Rattle.sctp_receiver.specs.declared.receiver.refusal.ReceiverRefusal.TheVariants.{MessageTooLarge};
+ghost use Rattle.sctp_receiver.specs.Receiver.{message_on};
 ghost use Rattle.sctp_util.specs.Serial.{comes_before};
 
 use crate::draft::Draft;
@@ -62,6 +64,8 @@ pub(crate) struct Inbound {
 }
 
 impl Inbound {
+    ghost use Rattle.sctp_association.specs.Reads.{IsReadOff};
+
     /// Nothing came. It takes no memory.
     #[tactic(auto, using(crate::proofs::Reaching::begun))]
     pub(crate) fn new(alloc: Global, config: &InboundConfig) -> Inbound
@@ -99,15 +103,19 @@ impl Inbound {
         if chunk.user_data.is_empty() {
             return Ok(Followed::NoUserData(chunk.tsn));
         }
-        self.open(chunk.stream_identifier, events)?;
+        let stream = chunk.stream_identifier;
+        self.open(stream, events)?;
         let had_gap = self.receiver.has_gaps();
         let _tsn = chunk.tsn;
         match self.receiver.data(chunk) {
             Ok(Arrival::New { complete }) => {
                 let at_once = chunk.immediate_sack || had_gap || self.receiver.has_gaps();
                 self.note_data(at_once);
-                if complete && self.receiver.is_readable(chunk.stream_identifier) {
-                    events.readable.insert(chunk.stream_identifier);
+                if complete
+                    && !events.readable.contains(stream)
+                    && self.receiver.is_readable(stream)
+                {
+                    events.readable.insert(stream);
                 }
                 Ok(Followed::Done)
             }
@@ -158,6 +166,7 @@ impl Inbound {
 
     // Does what is advised at a refusal. The SACK of what is dropped says that there is no room for it (RFC 9260 6.2).
     #[tactic(auto, using(crate::proofs::Reaching::dropped, crate::proofs::Reaching::dropped_limits, crate::proofs::Reaching::closed))]
+    #[inline(never)]
     fn follow(
         &mut self,
         refusal: ReceiverRefusal,
@@ -235,17 +244,21 @@ impl Inbound {
         }
     }
 
-    /// Reads the next message of a stream, if one is there. Where the window was used up, the peer is told that it is not.
-    #[tactic(auto, using(crate::proofs::Reaching::was_read))]
+    /// Reads the next message of a stream, if one is there: never refused. Where the window was used up, the peer is told that it is not.
+    #[tactic(auto, using(crate::proofs::Reaching::was_read, crate::proofs::Unopened::nothing))]
     pub(crate) fn read(&mut self, stream: u16, now: u64) -> Result<Option<Chunks>, Fault>
         ensures limits { (self.new.receiver.limits ≡ self.old.receiver.limits)
             × (self.new.streams ≡ self.old.streams) }
+        ensures message { IfOk result (λ message. message
+            ≡ option_map at_start (message_on stream self.old.receiver)) }
+        ensures taken { IsReadOff now stream self.old self.new }
+        ensures accepted { IsOk result }
     {
-        if self.receiver.stats(stream).is_none() {
-            return Ok(None);
-        }
         let was_full = self.receiver.window() == 0;
-        let message = self.receiver.read(stream)?;
+        let Ok(message) = self.receiver.read(stream) else {
+            // It is not open.
+            return Ok(None);
+        };
         if was_full && self.receiver.window() != 0 {
             self.delay.packet_came(now, true);
         }

@@ -2,6 +2,7 @@
 
 ghost use Rattle.std.specs.Prelude.{◌≡◌, ◌<◌, ◌≤◌, ◌==◌, not, true, false, None, Some, OnOk, OnErr, IfOk, IfErr, IsOk, length};
 ghost use Rattle.sctp_association.specs.declared.fault.Fault.TheVariants.{OutOfMemory};
+ghost use Rattle.sctp_association.specs.Counts.{IsCountedAlike};
 ghost use Rattle.sctp_association.specs.Waiting.{IsRefusal, closed_where, fault_of, opened, waiting_fault};
 ghost use Rattle.sctp_sender.specs.Settings.{with_low_on};
 ghost use Rattle.sctp_stream.specs.Stats.{count_up};
@@ -62,12 +63,14 @@ pub(crate) struct Outbound {
     // When a round trip was measured last, and when T3-rtx ran out last.
     measured: u64,
     timed_out: u64,
-    // How many chunks SACKs took back, less those that the cumulative TSN passed since.
+    // How many chunks SACKs took back, less those that the cumulative TSN of a SACK passed since.
     came_back: usize,
     // The credit of the last SACK, or of the handshake.
     pub(crate) peer_window: usize,
     // How many bytes were outstanding when the burst began that is under way.
     burst: Option<usize>,
+    // When nothing more left in it: it is over at a later moment.
+    paused: Option<u64>,
     // How often a DATA chunk was sent again, and T3-rtx ran out.
     pub(crate) resent: u64,
     pub(crate) timeouts: u64,
@@ -125,6 +128,7 @@ impl Outbound {
             came_back: 0,
             peer_window: 0,
             burst: None,
+            paused: None,
             resent: 0,
             timeouts: 0,
             is_partial: false,
@@ -135,7 +139,13 @@ impl Outbound {
     }
 
     /// The peer told its window, and whether it takes FORWARD-TSN.
-    pub(crate) fn connected(&mut self, peer_window: usize, is_partial: bool) {
+    pub(crate) fn connected(&mut self, peer_window: usize, is_partial: bool)
+        ensures rest { self.new ≡ record self.old {
+          congestion = self.new.congestion;
+          peer_window = peer_window;
+          is_partial = is_partial;
+        } }
+    {
         self.congestion = Congestion::new(self.mtu, peer_window);
         self.peer_window = peer_window;
         self.is_partial = is_partial;
@@ -246,7 +256,9 @@ impl Outbound {
 
     /// Packets have at most so many bytes from now on, and what is written is cut to that (RFC 9260 7.3). Call it where nothing waits or is in
     /// flight, or with more bytes than before.
-    pub(crate) fn set_mtu(&mut self, mtu: usize) {
+    pub(crate) fn set_mtu(&mut self, mtu: usize)
+        ensures counts { IsCountedAlike self.old self.new }
+    {
         self.mtu = mtu;
         self.congestion.set_mtu(mtu);
         self.sender
@@ -293,7 +305,12 @@ impl Outbound {
     }
 
     /// A HEARTBEAT was answered after this time (RFC 9260 8.3).
-    pub(crate) fn trip_measured(&mut self, trip: u64) {
+    pub(crate) fn trip_measured(&mut self, trip: u64)
+        ensures rest { self.new ≡ record self.old {
+          rto = self.new.rto;
+          failures = self.new.failures;
+        } }
+    {
         self.rto.measured(trip);
         self.failures.clear();
     }
@@ -332,6 +349,7 @@ impl Outbound {
             ≡ with_flight (all_marked self.old.sender.flight) self.old.sender }
         ensures told { is_due now self.old.timer.at ≡ true
             → self.new.timeouts ≡ count_up self.old.timeouts 1 }
+        ensures resent { self.new.resent ≡ self.old.resent }
         ensures timed { IsTimed self.new.sender.flight.queue.inflight.chunks self.new.timer.at }
         ensures soon { EndsWithin now self.new.rto.limits.most self.old.timer.at
             self.new.timer.at }
@@ -370,7 +388,12 @@ impl Outbound {
     }
 
     /// Abandons what is past its lifetime (RFC 3758 4.1), and what was sent as often as it may be (RFC 7496 3.1).
-    pub(crate) fn abandon(&mut self, now: u64) -> Result<(), Fault> {
+    pub(crate) fn abandon(&mut self, now: u64) -> Result<(), Fault>
+        ensures rest { self.new ≡ record self.old {
+          sender = self.new.sender;
+          is_skip_due = self.new.is_skip_due;
+        } }
+    {
         if !self.is_partial {
             return Ok(());
         }

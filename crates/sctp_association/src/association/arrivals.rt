@@ -109,6 +109,7 @@ impl Association {
     }
 
     // Takes a datagram after the end: one of the peer is answered as the association ended, where this side ended it (RFC 9260 8.4).
+    #[inline(never)]
     fn take_after_end(&mut self, chunks: Datagram) -> Taken
         ensures dropped { (r : Reason) → result ≡ Dropped r → self.new ≡ self.old }
         ensures accepted { result ≡ Accepted → AdmitsFirst
@@ -133,7 +134,7 @@ impl Association {
         }
     }
 
-    // Takes the chunks of a datagram in their order, up to one that is refused.
+    // Takes the chunks of a datagram in their order, up to one that ends it or cannot be read.
     fn take_chunks(&mut self, datagram: &Bytes, chunks: Datagram, now: u64) -> Result<Taken, Fault>
         requires whole { chunks.bytes ≡ datagram.now }
         ensures dropped { (r : Reason) → result ≡ Ok (Dropped r) → self.new ≡ self.old }
@@ -153,7 +154,7 @@ impl Association {
         let Some(first) = chunks.next() else {
             return Ok(Taken::Dropped(Reason::NoPacket));
         };
-        match self.take_chunk(datagram, first, tag, count, now)? {
+        match self.take_first(datagram, first, tag, count, now)? {
             Step::Refused(reason) => return Ok(Taken::Dropped(reason)),
             Step::Stop => return Ok(Taken::Accepted),
             Step::Next => {}
@@ -167,7 +168,42 @@ impl Association {
         Ok(Taken::Accepted)
     }
 
-    // Takes the chunks behind the first one, up to one that is refused. No INIT is among them, which stands alone.
+    // Takes the first chunk. One that is not expected is passed over, where others stand behind it (RFC 9260 5.2.5): so a COOKIE ACK that comes
+    // again with DATA. An INIT and a COOKIE ECHO never are, and nothing in Closed.
+    fn take_first(
+        &mut self,
+        datagram: &Bytes,
+        chunk: ChunkPlace,
+        tag: u32,
+        count: usize,
+        now: u64,
+    ) -> Result<Step, Fault>
+        requires place { IsPlace datagram.now chunk }
+        ensures refused { (r : Reason) → result ≡ Ok (step.Refused r) → self.new ≡ self.old }
+        ensures foreign { is_admitted chunk tag count self.old.machine ≡ false
+            → result ≡ Ok (step.Refused Tag) }
+        ensures init { chunk.typ ≡ 1 → self.new ≡ record self.old { due = self.new.due } }
+        ensures init_stops { chunk.typ ≡ 1 → result ≡ Ok step.Next → ⊥ }
+        ensures cookie { chunk.typ ≡ 10 → IfOk result (λ s. is_taken s ≡ true
+            → IsSealed self.old.key tag (cookie_in datagram.now chunk)) }
+        ensures cookie_err { chunk.typ ≡ 10 → OnErr result (self.new ≡ self.old) }
+        ensures closed_next { self.old.machine.state ≡ Closed → result ≡ Ok step.Next
+            → (chunk.typ ≡ 10) × IsAlive now self.old.config.cookie_life
+            self.old.key tag (cookie_in datagram.now chunk) }
+        ensures closed_else { self.old.machine.state ≡ Closed → (result ≡ Ok step.Next → ⊥)
+            → self.new.machine ≡ self.old.machine }
+    {
+        let is_alone = chunk.typ == 1 || chunk.typ == 10 || count < 2;
+        if is_alone || self.machine.state() == State::Closed {
+            return self.take_chunk(datagram, chunk, tag, count, now);
+        }
+        match self.take_chunk(datagram, chunk, tag, count, now)? {
+            Step::Refused(Reason::Unexpected) => Ok(Step::Next),
+            step => Ok(step),
+        }
+    }
+
+    // Takes the chunks behind the first one, up to one that ends the packet or cannot be read. No INIT is among them, which stands alone.
     fn take_others(
         &mut self,
         datagram: &Bytes,
@@ -188,7 +224,8 @@ impl Association {
                 continue;
             }
             match self.take_chunk(datagram, chunk, tag, 2, now)? {
-                Step::Next => {}
+                // What is not expected is passed over, and not what stands behind it.
+                Step::Next | Step::Refused(Reason::Unexpected) => {}
                 Step::Stop | Step::Refused(_) => break,
             }
         }
@@ -283,6 +320,7 @@ impl Association {
     }
 
     // Takes a FORWARD-TSN.
+    #[inline(never)]
     fn take_skip(&mut self, datagram: &Bytes, chunk: ChunkPlace, now: u64) -> Result<Step, Fault>
         ensures refused { (r : Reason) → result ≡ Ok (step.Refused r) → self.new ≡ self.old }
     {
@@ -300,6 +338,7 @@ impl Association {
     }
 
     // Ends the association, where what came asks for that.
+    #[inline(always)]
     fn end_by(&mut self, followed: Followed) -> Step
         ensures never { (r : Reason) → result ≡ step.Refused r → ⊥ }
     {
@@ -356,6 +395,7 @@ impl Association {
     }
 
     // Takes a chunk of a peer that is no user data.
+    #[inline(never)]
     fn take_control(&mut self, datagram: &Bytes, chunk: ChunkPlace, now: u64) -> Result<Step, Fault>
         ensures refused { (r : Reason) → result ≡ Ok (step.Refused r) → self.new ≡ self.old }
     {
@@ -431,7 +471,9 @@ impl Association {
         };
         let before = self.machine.state();
         let answer = self.machine.shutdown();
-        if answer.reply.is_none() && answer.told.is_none() {
+        // Once shutdown is received, the peer's further SHUTDOWNs say nothing but what came (RFC 9260 9.2).
+        let is_again = before == State::ShutdownReceived;
+        if answer.reply.is_none() && answer.told.is_none() && !is_again {
             return Ok(Step::Refused(Reason::Unexpected));
         }
         self.follow(before, answer, 0, now);

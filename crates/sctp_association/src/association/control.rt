@@ -1,6 +1,6 @@
 //! What the state machine is answered and tells.
 
-ghost use Rattle.std.specs.Prelude.{◌≡◌, ◌+◌, ◌≤◌, true};
+ghost use Rattle.std.specs.Prelude.{◌≡◌, ◌+◌, ◌≤◌, true, Some};
 ghost use Rattle.sctp_association.specs.Failing.{IsGuarded};
 
 use super::{Association, outbound_config};
@@ -31,7 +31,19 @@ fn number_at(code: &[u8; 32], at: usize) -> u32
 
 impl Association {
     /// What follows from an input to the machine, which was in the state `before`: its timer, a reply to `tag`, and what is told.
+    #[inline(always)]
     pub(super) fn follow(&mut self, before: State, answer: Answer, tag: u32, now: u64)
+        ensures { self.new.machine ≡ self.old.machine }
+    {
+        let is_silent = answer.reply.is_none() && answer.told.is_none();
+        if !is_silent || self.machine.state() != before {
+            self.follow_answer(before, answer, tag, now);
+        }
+    }
+
+    // The same, where something follows: seldom, and so apart.
+    #[inline(never)]
+    fn follow_answer(&mut self, before: State, answer: Answer, tag: u32, now: u64)
         ensures { self.new.machine ≡ self.old.machine }
     {
         let state = self.machine.state();
@@ -69,14 +81,21 @@ impl Association {
 
     /// A packet of one reply is due.
     pub(super) fn owe_alone(&mut self, tag: u32, kind: AloneKind)
-        ensures { self.new ≡ record self.old { due = self.new.due } }
+        ensures due { self.new.due ≡ record self.old.due {
+          alone = Some (record { tag = tag; kind = kind });
+        } }
+        ensures rest { self.new ≡ record self.old { due = self.new.due } }
     {
         self.due.alone = Some(Alone { tag, kind });
     }
 
     /// The packet of one reply is due by which the association ends, and again where it is lost.
     pub(super) fn owe_farewell(&mut self, tag: u32, kind: AloneKind)
-        ensures { self.new ≡ record self.old { due = self.new.due } }
+        ensures due { self.new.due ≡ record self.old.due {
+          alone = Some (record { tag = tag; kind = kind });
+          farewell = Some (record { tag = tag; kind = kind });
+        } }
+        ensures rest { self.new ≡ record self.old { due = self.new.due } }
     {
         self.owe_alone(tag, kind);
         self.due.farewell = self.due.alone;
@@ -179,6 +198,7 @@ impl Association {
     /// The association ends with this ABORT.
     pub(super) fn end_with(&mut self, kind: AloneKind)
         ensures over { self.new.is_over ≡ true }
+        ensures outbound { self.new.outbound ≡ self.old.outbound }
     {
         if let Some(peer) = self.machine.peer() {
             self.owe_farewell(peer.tag, kind);

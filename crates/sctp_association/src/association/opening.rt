@@ -1,11 +1,13 @@
 //! INIT, INIT ACK and the cookie (RFC 9260 5).
 
-ghost use Rattle.std.specs.Prelude.{◌≡◌, Ok, IfOk, OnErr, true};
+ghost use Rattle.std.specs.Prelude.{◌≡◌, ◌≢◌, Ok, IfOk, OnErr, true};
 ghost use Rattle.sctp_association.specs.Cookies.{IsAlive, IsSealed, cookie_in};
+ghost use Rattle.sctp_association.specs.Reports.{EndsWithoutCookie};
 ghost use Rattle.sctp_association.specs.Steps.{is_taken};
 ghost use Rattle.sctp_association.specs.declared.association.Reason.{Reason};
 ghost use Rattle.sctp_association.specs.declared.association.arrivals.Step.TheVariants as step;
-ghost use Rattle.sctp_handshake.specs.declared.state.State.TheVariants.{Closed};
+ghost use Rattle.sctp_handshake.specs.declared.state.State.TheVariants.{Closed, CookieWait};
+ghost use Rattle.sctp_handshake.specs.InitValues.{init_in};
 
 use super::arrivals::{Step, bytes_of};
 use super::{Association, Reason};
@@ -20,6 +22,7 @@ use sctp_handshake::{InitFault, Reply, Said, State, Ticket};
 
 impl Association {
     /// Takes an INIT (RFC 9260 5.1 B, 5.2.1, 5.2.2): nothing changes but the one reply that is due.
+    #[inline(never)]
     pub(super) fn take_init(
         &mut self,
         datagram: &Bytes,
@@ -49,6 +52,7 @@ impl Association {
     }
 
     /// Takes an INIT ACK (RFC 9260 5.1 C, 5.2.3): its cookie is kept, to be echoed.
+    #[inline(never)]
     pub(super) fn take_init_ack(
         &mut self,
         datagram: &Bytes,
@@ -88,6 +92,12 @@ impl Association {
 
     // An INIT ACK has no State Cookie: what was begun ends by an ABORT with its tag (RFC 9260 5.1, 3.3.10.2).
     fn end_without_cookie(&mut self, value: &[u8]) -> Step
+        ensures ends { result ≡ step.Stop → IfOk (init_in value.now)
+            (λ said. EndsWithoutCookie said.offer.tag self.old self.new) }
+        ensures begun { result ≡ step.Stop → self.old.machine.state ≡ CookieWait }
+        ensures taken { self.old.machine.state ≡ CookieWait → IfOk (init_in value.now)
+            (λ said. said.offer.tag ≢ 0 → result ≡ step.Stop) }
+        ensures never { result ≡ step.Next → ⊥ }
         ensures refused { (r : Reason) → result ≡ step.Refused r → self.new ≡ self.old }
     {
         let Ok(said) = Said::read_init(value) else {
@@ -107,6 +117,7 @@ impl Association {
 
     /// Takes a COOKIE ECHO (RFC 9260 5.1 D, 5.1.5, 5.2.4): only one that this side sealed, in a packet with the tag that it holds. Behind one
     /// that is too old nothing of the packet is looked at (5.1.5).
+    #[inline(never)]
     pub(super) fn take_cookie(
         &mut self,
         datagram: &Bytes,

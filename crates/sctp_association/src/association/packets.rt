@@ -53,6 +53,7 @@ impl Association {
         let filled = self.fill(now);
         if self.draft.is_empty() {
             filled?;
+            self.outbound.pause(now);
             return Ok(false);
         }
         self.draft.seal(is_zero);
@@ -77,6 +78,7 @@ impl Association {
     }
 
     // Writes a packet of one reply.
+    #[inline(never)]
     fn put_alone(&mut self, alone: Alone, now: u64) -> Result<(), Fault> {
         let header = self.header(alone.tag);
         self.draft.begin(header)?;
@@ -149,6 +151,7 @@ impl Association {
     }
 
     // Puts an ERROR with one cause.
+    #[inline(never)]
     fn put_error(&mut self, code: u16, info: &[u8]) -> Result<(), Fault> {
         let error = ChunkError {
             error_causes: self.causes(code, info)?,
@@ -179,7 +182,9 @@ impl Association {
 
     // Puts what is due into a packet: control chunks first (RFC 9260 6.10).
     fn fill(&mut self, now: u64) -> Result<(), Fault> {
-        self.put_cookies();
+        if self.due.cookie_echo || self.due.cookie_ack {
+            self.put_cookies();
+        }
         if self.machine.state() == State::CookieEchoed {
             // With the cookie goes what is told of its INIT ACK (RFC 9260 3.2.2), and nothing else does (5.1 C).
             return if self.draft.is_empty() {
@@ -189,10 +194,14 @@ impl Association {
             };
         }
         self.put_sack(now)?;
-        self.put_shutdown();
+        if self.due.shutdown || self.due.shutdown_ack {
+            self.put_shutdown();
+        }
         self.put_heartbeats(now)?;
         self.put_unknown_stream()?;
-        self.put_report()?;
+        if self.due.report.is_some() {
+            self.put_report()?;
+        }
         self.put_resets(now)?;
         if self.machine.state().sends_data() {
             self.outbound.put(&mut self.draft, now)?;
@@ -211,6 +220,7 @@ impl Association {
     }
 
     // Puts COOKIE-ECHO or COOKIE-ACK.
+    #[inline(never)]
     fn put_cookies(&mut self) {
         if self.due.cookie_echo {
             if let Some(cookie) = self.cookie.take() {
@@ -236,6 +246,7 @@ impl Association {
     }
 
     // Puts SHUTDOWN or SHUTDOWN-ACK (RFC 9260 9.2).
+    #[inline(never)]
     fn put_shutdown(&mut self) {
         if self.due.shutdown {
             if let Some(inbound) = &self.inbound {
@@ -254,20 +265,35 @@ impl Association {
 
     // Puts the answer to a HEARTBEAT, and a HEARTBEAT of an idle path (RFC 9260 8.3).
     fn put_heartbeats(&mut self, now: u64) -> Result<(), Fault> {
-        if let Some(info) = self.due.heartbeat.take() {
-            let mut params = Vec::new(self.alloc);
-            params.push(ParamKind::HeartbeatInfo(ParamHeartbeatInfo {
-                heartbeat_information: info,
-            }))?;
-            self.draft.put(&ChunkHeartbeatAck { params });
+        if self.due.heartbeat.is_some() {
+            self.put_heartbeat_ack()?;
         }
-        let rto = self.outbound.rto.get();
+        match self.next_heartbeat() {
+            Some(at) if at <= now => self.put_heartbeat(now),
+            _ => Ok(()),
+        }
+    }
+
+    // Puts the answer to a HEARTBEAT.
+    #[inline(never)]
+    fn put_heartbeat_ack(&mut self) -> Result<(), Fault> {
+        let Some(info) = self.due.heartbeat.take() else {
+            return Ok(());
+        };
+        let mut params = Vec::new(self.alloc);
+        params.push(ParamKind::HeartbeatInfo(ParamHeartbeatInfo {
+            heartbeat_information: info,
+        }))?;
+        self.draft.put(&ChunkHeartbeatAck { params });
+        Ok(())
+    }
+
+    // Puts a HEARTBEAT with this time.
+    #[inline(never)]
+    fn put_heartbeat(&mut self, now: u64) -> Result<(), Fault> {
         let Some(heartbeat) = &mut self.heartbeat else {
             return Ok(());
         };
-        if self.machine.state() != State::Established || heartbeat.at(rto) > now {
-            return Ok(());
-        }
         let info = Bytes::copy_from_slice(self.alloc, &now.to_be_bytes())?;
         let mut params = Vec::new(self.alloc);
         params.push(ParamKind::HeartbeatInfo(ParamHeartbeatInfo {

@@ -1,8 +1,11 @@
 //! Streams that are reset (RFC 6525; RFC 8831 6.7).
 
-ghost use Rattle.std.specs.Prelude.{◌≡◌, Ok};
+ghost use Rattle.std.specs.Prelude.{◌≡◌, true, false, Ok, Err, IfErr, IsOk, OnOk, OnErr};
+ghost use Rattle.sctp_association.specs.Calls.{is_resettable};
+ghost use Rattle.sctp_association.specs.declared.fault.Fault.TheVariants.{NoSuchStream, OutOfMemory};
 ghost use Rattle.sctp_association.specs.declared.association.Reason.{Reason};
 ghost use Rattle.sctp_association.specs.declared.association.arrivals.Step.TheVariants as step;
+ghost use Rattle.sctp_reset.specs.Own.{after_ask};
 
 use super::arrivals::Step;
 use super::{Association, Reason};
@@ -48,9 +51,21 @@ fn reconfig(
 }
 
 impl Association {
-    /// Resets a stream in our direction, once the peer has acknowledged all that was written to it (RFC 8831 6.7): an event tells when. Refuses
-    /// with `NoSuchStream`, where the peer takes no resets too, or for memory.
-    pub fn reset_stream(&mut self, stream: u16) -> Result<(), Fault> {
+    /// Resets a stream in our direction, once the peer has acknowledged all that was written to it (RFC 8831 6.7): an event tells when. One
+    /// that is asked for already changes nothing. Refuses with `NoSuchStream`, where the peer takes no resets too, or for memory, and nothing
+    /// has changed then.
+    pub fn reset_stream(&mut self, stream: u16) -> Result<(), Fault>
+        ensures ok { OnOk result (self.new.requests ≡ after_ask stream self.old.requests) }
+        ensures accepted { IsOk result → is_resettable stream self.old ≡ true }
+        ensures named { is_resettable stream self.old ≡ false → result ≡ Err NoSuchStream }
+        ensures memory { is_resettable stream self.old ≡ true
+            → IfErr result (λ e. e ≡ OutOfMemory) }
+        ensures rest { self.new ≡ record self.old {
+          requests = self.new.requests;
+          events = self.new.events;
+        } }
+        ensures err { OnErr result (self.new ≡ self.old) }
+    {
         let is_known = match self.machine.agreed() {
             Some(agreed) => agreed.reconfig && stream < agreed.outbound_streams,
             None => false,
@@ -71,20 +86,43 @@ impl Association {
         if self.draft.room() < MOST_BYTES {
             return Ok(());
         }
-        self.begin_request(now)?;
-        let request = self.request_due(now)?;
-        let is_asking = request.is_some();
+        let request = if self.requests.is_idle() {
+            None
+        } else {
+            self.next_request(now)?
+        };
         let response = match &mut self.peer_requests {
             Some(peer) => peer.take_response(),
             None => None,
         };
+        if response.is_some() || request.is_some() {
+            self.put_reconfig(response, request, now);
+        }
+        Ok(())
+    }
+
+    // Puts a RE-CONFIG chunk with a response, a request, or both.
+    #[inline(never)]
+    fn put_reconfig(
+        &mut self,
+        response: Option<ParamReconfigResponse>,
+        request: Option<ParamOutgoingResetRequest>,
+        now: u64,
+    ) {
+        let is_asking = request.is_some();
         let Some(chunk) = reconfig(response, request) else {
-            return Ok(());
+            return;
         };
         if self.draft.put(&chunk) && is_asking {
             self.requests.sent(now, self.outbound.rto.get());
         }
-        Ok(())
+    }
+
+    // Begins the next request, where none is under way, and answers the one that is due.
+    #[inline(never)]
+    fn next_request(&mut self, now: u64) -> Result<Option<ParamOutgoingResetRequest>, Fault> {
+        self.begin_request(now)?;
+        self.request_due(now)
     }
 
     // Begins the next request, where none is under way.
@@ -125,6 +163,7 @@ impl Association {
 
     /// Takes a RE-CONFIG chunk: of its parameters those that are requests or responses, and of requests to reset streams the first (RFC 6525
     /// 3.1). So a chunk resets each of the agreed streams at most once, or those that it lists.
+    #[inline(never)]
     pub(super) fn take_reconfig(
         &mut self,
         datagram: &Bytes,

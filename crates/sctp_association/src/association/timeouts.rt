@@ -4,6 +4,7 @@ ghost use Rattle.std.specs.Prelude.{◌≡◌, ◌⊎◌, None, true, false, opt
 ghost use Rattle.sctp_association.specs.Sending.{IsTimed, t3_time};
 ghost use Rattle.sctp_path.specs.Timers.{is_due, is_passed, one_more};
 ghost use Rattle.sctp_reset.specs.Own.{time_of};
+ghost use Rattle.sctp_stream.specs.Stats.{count_up};
 
 use super::Association;
 use crate::due::{Alone, AloneKind, Due};
@@ -74,7 +75,7 @@ impl Association {
     }
 
     // When the next HEARTBEAT is due.
-    fn next_heartbeat(&self) -> Option<u64> {
+    pub(super) fn next_heartbeat(&self) -> Option<u64> {
         if self.machine.state() != State::Established {
             return None;
         }
@@ -96,6 +97,13 @@ impl Association {
         ensures timed { (self.new.is_over ≡ true)
             ⊎ IsTimed self.new.outbound.sender.flight.queue.inflight.chunks
             self.new.outbound.timer.at }
+        // T3-rtx alone is counted, where it expired.
+        ensures told { self.old.is_over ≡ false → is_due now self.old.guard.at ≡ false
+            → is_due now self.old.outbound.timer.at ≡ true
+            → self.new.outbound.timeouts ≡ count_up self.old.outbound.timeouts 1 }
+        ensures untold { is_due now self.old.outbound.timer.at ≡ false
+            → self.new.outbound.timeouts ≡ self.old.outbound.timeouts }
+        ensures resent { self.new.outbound.resent ≡ self.old.outbound.resent }
         // A shutdown ends: it lasts until T5-shutdown-guard expires at most.
         ensures guard { is_due now self.old.guard.at ≡ true → self.new.is_over ≡ true }
         ensures guarded { (self.new.is_over ≡ true) ⊎ IsGuarded self.new }
@@ -176,7 +184,8 @@ impl Association {
 
     // The peer answers nothing any more (RFC 9260 8.1).
     fn fail(&mut self)
-        ensures { self.new.is_over ≡ true }
+        ensures over { self.new.is_over ≡ true }
+        ensures outbound { self.new.outbound ≡ self.old.outbound }
     {
         let _answer = self.machine.abort();
         self.end(Ending::Unanswered);

@@ -1,6 +1,7 @@
 //! What the peer sent and this side does not know (RFC 9260 3.2, 3.2.1, 3.2.2).
 
-ghost use Rattle.std.specs.Prelude.{◌≡◌, ◌≤◌, Ok, IfOk, IfSome, OnErr, length};
+ghost use Rattle.std.specs.Prelude.{◌≡◌, ◌⊎◌, ◌<◌, ◌≤◌, None, Ok, IfOk, IfSome, OnOk, OnErr, length};
+ghost use Rattle.sctp_association.specs.Reports.{most_reported, reported_after};
 ghost use Rattle.sctp_association.specs.declared.association.Reason.{Reason};
 ghost use Rattle.sctp_association.specs.declared.association.arrivals.Step.TheVariants as step;
 
@@ -32,19 +33,25 @@ const MOST_INIT_ACK: usize = 4 + 16 + 92 + 4 + 8 + 8;
 impl Association {
     // How many bytes an ERROR with one cause tells at most, so that it fits into a packet.
     fn most_reported(&self) -> usize
-        ensures { result ≤ self.now.config.mtu }
+        ensures value { result ≡ most_reported self.now.config.mtu }
+        ensures within { result ≤ self.now.config.mtu }
     {
-        self.config.mtu.saturating_sub(BEFORE_CAUSE) & !3
+        self.config.mtu.saturating_sub(BEFORE_CAUSE) / 4 * 4
     }
 
     /// Notes a chunk of a type that this side does not know, where its sender is to be told of it (RFC 9260 3.2, 3.3.10.6): as much as fits
     /// into a packet. While one waits no other is noted, so a datagram has one answer at most.
+    #[inline(never)]
     pub(super) fn note_unknown(
         &mut self,
         datagram: &Bytes,
         chunk: ChunkPlace,
     ) -> Result<Step, Fault>
+        ensures noted { OnOk result (self.new.due ≡ record self.old.due {
+          report = reported_after datagram.now chunk self.old;
+        }) }
         ensures refused { (r : Reason) → result ≡ Ok (step.Refused r) → self.new ≡ self.old }
+        ensures goes_on { IfOk result (λ s. s ≡ step.Next) }
         ensures rest { self.new ≡ record self.old { due = self.new.due } }
         ensures err { OnErr result (self.new ≡ self.old) }
     {
@@ -115,8 +122,22 @@ impl Association {
         Ok(())
     }
 
-    /// Puts the ERROR about what this side does not know, if it fits; it always fits into an empty packet.
-    pub(super) fn put_report(&mut self) -> Result<(), Fault> {
+    /// Puts the ERROR about what this side does not know, if it fits: it waits for a packet that is empty, into which it always fits. Refuses
+    /// only for memory, and nothing has changed then.
+    #[inline(never)]
+    pub(super) fn put_report(&mut self) -> Result<(), Fault>
+        ensures once { OnOk result (self.new.due.report ≡ None
+            ⊎ ((self.new.draft ≡ self.old.draft) × (12 < length self.old.draft.bytes))) }
+        ensures due { self.new.due ≡ record self.old.due { report = self.new.due.report } }
+        ensures kept { self.new.due.report ≡ None ⊎ (self.new.due.report ≡ self.old.due.report) }
+        ensures none { self.old.due.report ≡ None → self.new ≡ self.old }
+        ensures limit { self.new.draft.limit ≡ self.old.draft.limit }
+        ensures rest { self.new ≡ record self.old {
+          due = self.new.due;
+          draft = self.new.draft;
+        } }
+        ensures err { OnErr result (self.new ≡ self.old) }
+    {
         let Some(report) = &self.due.report else {
             return Ok(());
         };

@@ -1,12 +1,19 @@
 //! What a SACK acknowledges (RFC 9260 6.2.1, 6.3, 7.2).
 
-ghost use Rattle.std.specs.Prelude.{◌≡◌};
+ghost use Rattle.std.specs.Prelude.{◌≡◌, ◌-◌, Ok, OnErr};
+ghost use Rattle.sctp_association.specs.Acks.{without_blocks};
+ghost use Rattle.sctp_association.specs.Counts.{IsCountedAlike};
+ghost use Rattle.sctp_association.specs.declared.outbound.acks.SackTaken.TheVariants.{Taken, Forged};
+ghost use Rattle.sctp_sender.specs.Sender.{after_acked};
+ghost use Rattle.sctp_stream.specs.Stats.{count_up};
+ghost use Rattle.sctp_util.specs.Serial.{distance};
 
 use super::Outbound;
 use crate::fault::Fault;
 use crate::stream_set::StreamSet;
 use sctp_data::chunk::chunk_selective_ack::ChunkSelectiveAck;
 use sctp_path::Acknowledged;
+use sctp_sender::replay;
 use sctp_sender::sender::flight::Released;
 use sctp_sender::sender::refusal::SenderRefusal;
 use sctp_util::util::sna32lt;
@@ -54,22 +61,41 @@ fn note_low(low: &mut StreamSet, released: &[Released]) {
 }
 
 impl Outbound {
-    /// Takes the cumulative TSN of a SHUTDOWN as a SACK without blocks, which leaves the window as it is (RFC 9260 9.2).
+    /// Takes the cumulative TSN of a SHUTDOWN, which leaves the window as it is (RFC 9260 9.2). It tells of no gaps, so what SACKs reported past
+    /// its TSN stays acknowledged (3.3.8). Refuses only for memory, and nothing has changed then, nor where it claims what can't be.
     pub(crate) fn take_shutdown(
         &mut self,
         alloc: Global,
         tsn: u32,
         low: &mut StreamSet,
         now: u64,
-    ) -> Result<SackTaken, Fault> {
-        let window = u32::try_from(self.peer_window).unwrap_or(u32::MAX);
-        let mut sack = ChunkSelectiveAck {
+    ) -> Result<SackTaken, Fault>
+        ensures acked { result ≡ Ok Taken
+            → self.new.sender ≡ after_acked (without_blocks tsn) self.old.sender }
+        ensures back { self.new.came_back ≡ self.old.came_back }
+        ensures counts { IsCountedAlike self.old self.new }
+        ensures forged { result ≡ Ok Forged → self.new ≡ self.old }
+        ensures err { OnErr result (self.new ≡ self.old) }
+    {
+        let sack = ChunkSelectiveAck {
             cumulative_tsn_ack: tsn,
-            advertised_receiver_window_credit: window,
+            advertised_receiver_window_credit: 0,
             gap_ack_blocks: Vec::new(alloc),
             duplicate_tsn: Vec::new(alloc),
         };
-        self.take_sack(&mut sack, low, now)
+        let before = self.sender.acked_tsn();
+        let flight = self.flight();
+        let released = match replay::acked(&mut self.sender, &sack) {
+            Ok(released) => released,
+            Err(SenderRefusal::OutOfMemory) => return Err(Fault::OutOfMemory),
+            Err(_) => return Ok(SackTaken::Forged),
+        };
+        if !sna32lt(tsn, before) {
+            note_low(low, &released);
+            self.follow(&released, before, flight, now);
+            self.run_timer(now);
+        }
+        Ok(SackTaken::Taken)
     }
 
     /// Takes a SACK, unless it is out of date. Refuses only for memory, and nothing has changed then. A peer that takes back again and again
@@ -79,7 +105,11 @@ impl Outbound {
         sack: &mut ChunkSelectiveAck,
         low: &mut StreamSet,
         now: u64,
-    ) -> Result<SackTaken, Fault> {
+    ) -> Result<SackTaken, Fault>
+        ensures counts { IsCountedAlike self.old self.new }
+        ensures forged { result ≡ Ok Forged → self.new ≡ self.old }
+        ensures err { OnErr result (self.new ≡ self.old) }
+    {
         let before = self.sender.acked_tsn();
         if sna32lt(sack.cumulative_tsn_ack, before) {
             return Ok(SackTaken::Taken);
@@ -98,29 +128,39 @@ impl Outbound {
         };
         note_low(low, &released);
         self.peer_window = sack.advertised_receiver_window_credit as usize;
-        self.is_skip_due = true;
-        self.burst = None;
-        self.follow(sack, &released, before, flight, now);
+        self.follow(&released, before, flight, now);
+        let has_advanced = self.sender.acked_tsn() != before;
+        self.count_missing(sack, &released, has_advanced);
+        self.run_timer(now);
         Ok(SackTaken::Taken)
     }
 
     // Counts what a SACK took back, against what the cumulative TSN passed.
+    #[tactic(auto, unfolding(sctp_util::specs::Serial::distance))]
     fn note_back(&mut self, before: u32, back: usize)
-        ensures { self.new ≡ record self.old { came_back = self.new.came_back } }
+        ensures { self.new ≡ record self.old {
+          came_back = count_up (self.old.came_back
+              - distance before self.old.sender.flight.acked_tsn) back;
+        } }
     {
         let passed = self.sender.acked_tsn().wrapping_sub(before) as usize;
         self.came_back = self.came_back.saturating_sub(passed).saturating_add(back);
     }
 
-    // Follows what a SACK acknowledged: timer, round trip, congestion window, what is missing.
-    fn follow(
-        &mut self,
-        sack: &ChunkSelectiveAck,
-        released: &[Released],
-        before: u32,
-        flight: usize,
-        now: u64,
-    ) {
+    // Follows what was acknowledged: round trip, congestion window, and T3-rtx, which begins again where the cumulative TSN moved.
+    fn follow(&mut self, released: &[Released], before: u32, flight: usize, now: u64)
+        ensures rest { self.new ≡ record self.old {
+          congestion = self.new.congestion;
+          rto = self.new.rto;
+          timer = self.new.timer;
+          failures = self.new.failures;
+          measured = self.new.measured;
+          burst = self.new.burst;
+          is_skip_due = self.new.is_skip_due;
+        } }
+    {
+        self.is_skip_due = true;
+        self.burst = None;
         // A probe of a window of 0 that is answered is no failure (RFC 9260 6.1 A).
         if !released.is_empty() || self.peer_window == 0 {
             self.failures.clear();
@@ -139,12 +179,15 @@ impl Outbound {
                 all: self.sender.outbound().inflight_len() == 0,
             });
         }
-        self.count_missing(sack, released, has_advanced);
-        self.run_timer(now);
     }
 
     // Measures a round trip, once in each (RFC 9260 6.3.1 C4).
-    fn measure(&mut self, released: &[Released], now: u64) {
+    fn measure(&mut self, released: &[Released], now: u64)
+        ensures rest { self.new ≡ record self.old {
+          rto = self.new.rto;
+          measured = self.new.measured;
+        } }
+    {
         let Some(since) = sent_once(released) else {
             return;
         };
@@ -156,12 +199,14 @@ impl Outbound {
 
     // Counts what is missing before the highest TSN that is acknowledged now; in fast recovery, where the cumulative TSN moved,
     // before the highest that the SACK reports (RFC 9260 7.2.4).
-    fn count_missing(
-        &mut self,
-        sack: &ChunkSelectiveAck,
-        released: &[Released],
-        has_advanced: bool,
-    ) {
+    fn count_missing(&mut self, sack: &ChunkSelectiveAck, released: &[Released], has_advanced: bool)
+        ensures rest { self.new ≡ record self.old {
+          sender = self.new.sender;
+          congestion = self.new.congestion;
+          is_fast = self.new.is_fast;
+          has_lost = self.new.has_lost;
+        } }
+    {
         let (Some(block), Some(one)) = (sack.gap_ack_blocks.last(), released.last()) else {
             return;
         };

@@ -1,7 +1,8 @@
 //! What goes into a packet (RFC 9260 6.1, 6.10).
 
-ghost use Rattle.std.specs.Prelude.{◌≡◌, ◌<◌, ◌≤◌, true, false, IfOk, IfSome, OnErr, length};
-ghost use Rattle.sctp_association.specs.Sending.{IsTimed, idle_times, lowered_times, lowered, may_send_again, may_send_next};
+ghost use Rattle.std.specs.Prelude.{◌≡◌, ◌<◌, ◌≤◌, true, false, None, Some, IfOk, IfSome, OnErr, length};
+ghost use Rattle.sctp_association.specs.Counts.{IsCountedAlike, IsCountedOn};
+ghost use Rattle.sctp_association.specs.Sending.{IsTimed, idle_times, is_later, lowered_times, lowered, may_send_again, may_send_next};
 ghost use Rattle.sctp_outbound.specs.pending_queue.PendingQueue.{next_pending};
 ghost use Rattle.sctp_stream.specs.Stats.{count_up};
 
@@ -26,6 +27,7 @@ impl Outbound {
     /// a refusal too, while something is in flight.
     pub(crate) fn put(&mut self, packet: &mut Draft, now: u64) -> Result<(), Fault>
         ensures timed { IsTimed self.new.sender.flight.queue.inflight.chunks self.new.timer.at }
+        ensures counts { IsCountedOn self.old self.new }
         ensures limit { packet.new.limit ≡ packet.old.limit }
     {
         let filled = self.put_all(packet, now);
@@ -35,6 +37,7 @@ impl Outbound {
 
     // The same, but the timer stays as it is.
     fn put_all(&mut self, packet: &mut Draft, now: u64) -> Result<(), Fault>
+        ensures counts { IsCountedOn self.old self.new }
         ensures limit { packet.new.limit ≡ packet.old.limit }
     {
         self.put_skip(packet)?;
@@ -45,6 +48,7 @@ impl Outbound {
     // Puts the FORWARD-TSN that is due (RFC 3758 3.5 C3, F2), before any DATA.
     fn put_skip(&mut self, packet: &mut Draft) -> Result<(), Fault>
         ensures limit { packet.new.limit ≡ packet.old.limit }
+        ensures rest { self.new ≡ record self.old { is_skip_due = self.new.is_skip_due } }
         ensures err { OnErr result (self.new ≡ self.old) }
     {
         if !self.is_skip_due {
@@ -59,6 +63,7 @@ impl Outbound {
 
     // Puts what is to be sent again, from the first on (RFC 9260 6.1 C, 6.3.3 E3, 7.2.4).
     fn put_lost(&mut self, packet: &mut Draft, now: u64) -> Result<(), Fault>
+        ensures counts { IsCountedOn self.old self.new }
         ensures limit { packet.new.limit ≡ packet.old.limit }
     {
         let flight = self.flight();
@@ -73,6 +78,7 @@ impl Outbound {
         flight: usize,
         now: u64,
     ) -> Result<(), Fault>
+        ensures counts { IsCountedOn self.old self.new }
         ensures limit { packet.new.limit ≡ packet.old.limit }
     {
         for _ in 0..MOST_CHUNKS {
@@ -96,6 +102,9 @@ impl Outbound {
             → may_send_again is_fast flight self.old.congestion ≡ true) }
         ensures counted { IfOk result (λ sent. sent ≡ true
             → self.new.resent ≡ count_up self.old.resent 1) }
+        ensures uncounted { IfOk result (λ sent. sent ≡ false
+            → self.new.resent ≡ self.old.resent) }
+        ensures counts { IsCountedOn self.old self.new }
         ensures held { IfOk result (λ sent. sent ≡ false
             → (self.new.sender ≡ self.old.sender) × (packet.new ≡ packet.old)) }
         ensures err { OnErr result ((self.new ≡ self.old) × (packet.new ≡ packet.old)) }
@@ -121,10 +130,33 @@ impl Outbound {
         Ok(true)
     }
 
+    /// Nothing more leaves at this moment: the time to send is over.
+    pub(crate) fn pause(&mut self, now: u64)
+        ensures { self.new ≡ record self.old { paused = Some now } }
+    {
+        self.paused = Some(now);
+    }
+
+    // A later moment than that at which nothing more left is a new time to send: a new burst begins (RFC 9260 6.1 D).
+    fn begin_burst(&mut self, now: u64)
+        ensures anew { is_later now self.old.paused ≡ true
+            → self.new ≡ record self.old { burst = None; paused = None } }
+        ensures same { is_later now self.old.paused ≡ false → self.new ≡ self.old }
+    {
+        if let Some(paused) = self.paused {
+            if now > paused {
+                self.burst = None;
+                self.paused = None;
+            }
+        }
+    }
+
     // Puts what waits, where nothing is left to be sent again (RFC 9260 6.1 C). While nothing is in flight the congestion window falls.
     fn put_new(&mut self, packet: &mut Draft, now: u64) -> Result<(), Fault>
+        ensures counts { IsCountedAlike self.old self.new }
         ensures limit { packet.new.limit ≡ packet.old.limit }
     {
+        self.begin_burst(now);
         if self.has_lost || self.sender.outbound().pending_len() == 0 {
             return Ok(());
         }
@@ -198,6 +230,7 @@ impl Outbound {
             → IfSome (next_pending self.old.sender.flight.queue.pending) (λ c. may_send_next
             (length c.user_data) self.old.most_in_flight self.old.peer_window self.old.burst
             self.old.congestion self.old.sender.flight.queue.inflight.chunks ≡ true)) }
+        ensures counts { IsCountedAlike self.old self.new }
         ensures held { IfOk result (λ sent. sent ≡ false
             → (self.new ≡ self.old) × (packet.new ≡ packet.old)) }
         ensures err { OnErr result ((self.new ≡ self.old) × (packet.new ≡ packet.old)) }

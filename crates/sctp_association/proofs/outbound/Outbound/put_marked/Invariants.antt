@@ -1,6 +1,7 @@
 use Rattle.std.proofs.Common.{◌≡◌}
+use Rattle.sctp_association.specs.Counts.{IsCountedOn}
 use Rattle.sctp_association.proofs.outbound.Outbound.put_marked.Given as goal
 
--- a packet keeps its limit
+-- a packet keeps its limit, and what goes again is counted
 abbrev pub invariant-loop : goal.invariant-loop
-invariant-loop l = l.packet.limit ≡ l.initial.packet.limit
+invariant-loop l = (l.packet.limit ≡ l.initial.packet.limit) × IsCountedOn l.initial.self l.self
