@@ -51,15 +51,32 @@ struct Exchange {
     now: u64,
 }
 
-impl Exchange {
-    fn new(alloc: Global, loss: u32) -> Result<Exchange, Fault> {
-        Ok(Exchange {
+// The exchange of a host and of a second one, if that could be made.
+fn exchange_of(
+    alloc: Global,
+    first: Host,
+    second: Result<Host, Fault>,
+    loss: u32,
+) -> Result<Exchange, Fault> {
+    match second {
+        Ok(second) => Ok(Exchange {
             alloc,
-            first: Host::new(alloc, 0x1234_5678, u32::MAX - 50)?,
-            second: Host::new(alloc, 0x9abc_def0, 77)?,
+            first,
+            second,
             network: Network::new(alloc, loss),
             now: 0,
-        })
+        }),
+        Err(fault) => {
+            drop(first);
+            Err(fault)
+        }
+    }
+}
+
+impl Exchange {
+    fn new(alloc: Global, loss: u32) -> Result<Exchange, Fault> {
+        let first = Host::new(alloc, 0x1234_5678, u32::MAX - 50)?;
+        exchange_of(alloc, first, Host::new(alloc, 0x9abc_def0, 77), loss)
     }
 
     // Lets both connect.
@@ -160,6 +177,17 @@ impl Exchange {
         let ended = self.shut_down()?;
         Ok(came && are_reset && more && ended && self.first.is_served() && self.second.is_served())
     }
+
+    // What it shows.
+    fn figures(&self, is_well: bool) -> Figures {
+        Figures {
+            is_well,
+            datagrams: self.network.sent,
+            lost: self.network.lost,
+            messages: self.first.messages.saturating_add(self.second.messages),
+            milliseconds: self.now / MS,
+        }
+    }
 }
 
 /// Runs both over a network that loses so many of 100 datagrams. All is well where reliable messages all come, each once, ordered ones in
@@ -168,14 +196,7 @@ impl Exchange {
 pub(crate) fn run(alloc: Global, loss: u32) -> Result<Figures, Fault> {
     let mut exchange = Exchange::new(alloc, loss)?;
     let is_well = matches!(exchange.goes_well(), Ok(true));
-    Ok(Figures {
-        is_well,
-        datagrams: exchange.network.sent,
-        lost: exchange.network.lost,
-        messages: exchange
-            .first
-            .messages
-            .saturating_add(exchange.second.messages),
-        milliseconds: exchange.now / MS,
-    })
+    let figures = exchange.figures(is_well);
+    drop(exchange);
+    Ok(figures)
 }

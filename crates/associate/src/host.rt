@@ -115,9 +115,12 @@ impl Host {
                 break;
             };
             self.messages = self.messages.saturating_add(1);
-            if let Some(inbox) = self.inboxes.get_mut(stream as usize) {
-                inbox.take(alloc, stream, &message)?;
-            }
+            let taken = match self.inboxes.get_mut(stream as usize) {
+                Some(inbox) => inbox.take(alloc, stream, &message),
+                None => Ok(()),
+            };
+            drop(message);
+            taken?;
         }
         Ok(())
     }

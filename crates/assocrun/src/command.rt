@@ -106,6 +106,7 @@ pub(crate) fn read_command(alloc: Global, line: &str) -> Result<Option<Command>,
         _ => read_timed(alloc, word, &mut words)?,
     };
     if !words.is_empty() {
+        drop(command);
         return Err(Refusal::BadField);
     }
     Ok(Some(command))

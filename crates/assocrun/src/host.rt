@@ -53,6 +53,7 @@ fn take(association: &mut Association, stream: u16, now: u64) -> Result<Answer, 
             Ok(Some(message)) => {
                 messages = messages.saturating_add(1);
                 bytes = bytes.saturating_add(message.len() as u64);
+                drop(message);
             }
             Ok(None) => break,
             Err(fault) if messages == 0 => return Err(Refusal::Refused(fault)),
@@ -154,7 +155,11 @@ impl Host {
     /// Takes a line, and prints what it answers; a line without words answers nothing.
     pub fn take<W: Write>(&mut self, line: &str, output: &mut W) -> io::Result<()> {
         match read_command(self.alloc, line) {
-            Ok(Some(command)) => self.follow(&command, output)?,
+            Ok(Some(command)) => {
+                let followed = self.follow(&command, output);
+                drop(command);
+                followed?;
+            }
             Ok(None) => return Ok(()),
             Err(refusal) => self.refuse(refusal, output)?,
         }
@@ -204,7 +209,11 @@ impl Host {
             return Ok(());
         };
         match answer(association, command) {
-            Ok(answer) => print_answer(&answer, output)?,
+            Ok(answer) => {
+                let printed = print_answer(&answer, output);
+                drop(answer);
+                printed?;
+            }
             Err(refusal) => print_refusal(refusal, output)?,
         }
         match command {
@@ -217,7 +226,7 @@ impl Host {
     fn renew<W: Write>(&mut self, setup: &Setup, output: &mut W) -> io::Result<()> {
         match fresh(self.alloc, setup) {
             Ok(association) => {
-                self.association = Some(association);
+                drop(self.association.replace(association));
                 Ok(())
             }
             Err(fault) => print_refusal(Refusal::Refused(fault), output),

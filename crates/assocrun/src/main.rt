@@ -46,14 +46,27 @@ fn run<R: BufRead, W: Write>(
     Ok(())
 }
 
+// Takes each line with a host of its own, and answers whether each was a command.
+fn run_host<R: BufRead, W: Write>(
+    alloc: Global,
+    line: &mut Vec<u8>,
+    input: &mut R,
+    output: &mut W,
+) -> io::Result<bool> {
+    let mut host = Host::new(alloc);
+    let ran = run(&mut host, line, input, output);
+    let has_failed = host.has_failed();
+    drop(host);
+    ran?;
+    Ok(!has_failed)
+}
+
 // Reads standard input to its end, and answers whether each line was a command.
 fn run_all(rt: &HostRuntime, alloc: Global) -> io::Result<bool> {
     let mut input = BufReader::new(alloc, rt.reader())?;
     let mut output = BufWriter::new(alloc, io::writer(rt))?;
     let mut line = Vec::with_capacity(alloc, LONGEST)?;
-    let mut host = Host::new(alloc);
-    run(&mut host, &mut line, &mut input, &mut output)?;
-    Ok(!host.has_failed())
+    run_host(alloc, &mut line, &mut input, &mut output)
 }
 
 fn main(rt: HostRuntime) -> ExitCode {

@@ -83,6 +83,7 @@ fn collect(client: &mut Host, stream: u16, line: &mut String, now: u64) -> Resul
         };
         let mut text = [0u8; 64];
         let length = message.read(&mut text).unwrap_or(0);
+        drop(message);
         line.push_str(str::from_utf8(text.get(..length).unwrap_or(&[])).unwrap_or("?"))?;
         line.push('.')?;
     }
@@ -114,10 +115,13 @@ fn earlier(a: Option<u64>, b: Option<u64>) -> Option<u64> {
 }
 
 // Has the words echoed, and adds them to the line.
-fn run(alloc: Global, line: &mut String) -> Result<(), Refusal> {
-    let mut client = host(alloc, 1, Side::Client)?;
-    let mut server = host(alloc, 2, Side::Server)?;
-    begin(alloc, &mut client)?;
+fn exchange(
+    alloc: Global,
+    client: &mut Host,
+    server: &mut Host,
+    line: &mut String,
+) -> Result<(), Refusal> {
+    begin(alloc, client)?;
     let mut sent = 0u32;
     let mut now = 0u64;
     for _ in 0..MOST {
@@ -126,7 +130,7 @@ fn run(alloc: Global, line: &mut String) -> Result<(), Refusal> {
         server.echo_all(alloc, now)?;
         let (one, two) = (&mut client.association, &mut server.association);
         carry(alloc, two, one, &mut sent, now)?;
-        follow(&mut client, line, now)?;
+        follow(client, line, now)?;
         let (one, two) = (&mut client.association, &mut server.association);
         let Some(next) = earlier(one.poll_timeout(), two.poll_timeout()) else {
             break;
@@ -136,6 +140,33 @@ fn run(alloc: Global, line: &mut String) -> Result<(), Refusal> {
         two.handle_timeout(now);
     }
     Ok(())
+}
+
+// Lets a client and a server exchange the words, where there is a server, and drops both.
+fn run_with(
+    alloc: Global,
+    mut client: Host,
+    server: Result<Host, Refusal>,
+    line: &mut String,
+) -> Result<(), Refusal> {
+    match server {
+        Ok(mut server) => {
+            let ran = exchange(alloc, &mut client, &mut server, line);
+            drop(client);
+            drop(server);
+            ran
+        }
+        Err(refusal) => {
+            drop(client);
+            Err(refusal)
+        }
+    }
+}
+
+// Makes a client and a server, and has the words echoed.
+fn run(alloc: Global, line: &mut String) -> Result<(), Refusal> {
+    let client = host(alloc, 1, Side::Client)?;
+    run_with(alloc, client, host(alloc, 2, Side::Server), line)
 }
 
 fn main(rt: HostRuntime) -> anyhow::Result<ExitCode> {

@@ -36,9 +36,11 @@ impl Host {
             };
             let mut text = [0u8; 64];
             let length = message.read(&mut text).unwrap_or(0);
+            let is_text = message.is_text();
+            drop(message);
             let bytes = Bytes::copy_from_slice(alloc, text.get(..length).unwrap_or(&[]))?;
             self.channels
-                .write(&mut self.association, stream, message.is_text(), &bytes)?;
+                .write(&mut self.association, stream, is_text, &bytes)?;
         }
         Ok(())
     }
